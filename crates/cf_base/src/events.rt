@@ -1,0 +1,207 @@
+//! The events of a script.
+
+ghost use Rattle.std.specs.Prelude.{◌≡◌, IfOk};
+
+use crate::bytes::{Blob, Text};
+use crate::calls::Call;
+use crate::ids::Usn;
+use crate::memory::Memory;
+use crate::names::Identity;
+use crate::operations::Operation;
+use crate::policies::Choice;
+
+/// One event of a script.
+#[derive(Clone, Debug, Drop)]
+pub enum Event {
+    Call(Call),
+    Device(DeviceEvent),
+    Peer(PeerEvent),
+    Engine(EngineEvent),
+    Provider(ProviderEvent),
+}
+
+/// What the device does, in both commands and also while the power is off.
+#[derive(Clone, Copy, Debug, PartialEq, Eq)]
+pub enum DeviceEvent {
+    /// After `calls` more calls the device fails.
+    Stop { calls: u32 },
+    /// The power is cut.
+    Crash { choice: Choice },
+    Restart,
+}
+
+/// What another device does to the remote, in `replay` and also while the power is off. Paths begin at the remote's
+/// root.
+#[derive(Clone, Debug, Drop)]
+pub enum PeerEvent {
+    /// A new file, or the next version of one.
+    Put { path: Text, bytes: Blob },
+    MakeDir { path: Text },
+    Move { from: Text, to: Text },
+    Remove { path: Text },
+    Stat { path: Text },
+    /// The remote holds the last `count` versions of each file only.
+    Keep { count: u32 },
+}
+
+/// What the engine and its messages do, in `replay`.
+#[derive(Clone, Copy, Debug, PartialEq, Eq)]
+pub enum EngineEvent {
+    /// Whether requests arrive and replies are delivered at once. Also while the power is off.
+    Link { inline: bool },
+    /// A request is handed to the remote. Also while the power is off.
+    Arrive { message: u32 },
+    /// A reply is handed to the engine.
+    Deliver { message: u32 },
+    /// One pass of the engine.
+    Work,
+    /// Passes of the engine until nothing is left to do.
+    Sync,
+    /// Files are dehydrated until at most so many blocks are used.
+    Space { blocks: u32 },
+}
+
+/// What a provider does of its own accord, in `filter`. Sizes are in bytes.
+#[derive(Clone, Debug, Drop)]
+pub enum ProviderEvent {
+    Place {
+        path: Text,
+        size: u32,
+        identity: Identity,
+        in_sync: bool,
+    },
+    PlaceDir {
+        path: Text,
+        identity: Identity,
+        in_sync: bool,
+    },
+    Convert {
+        path: Text,
+        identity: Identity,
+    },
+    Revert {
+        path: Text,
+    },
+    Update {
+        path: Text,
+        identity: Identity,
+        size: Option<u32>,
+    },
+    Mark {
+        path: Text,
+        number: Usn,
+    },
+    Unmark {
+        path: Text,
+    },
+    /// An operation now.
+    Do {
+        operation: Operation,
+    },
+    /// An operation inside the next callback. Where `own` is set the key of the operation is 0.0 and stands for the
+    /// key of that callback.
+    Plan {
+        own: bool,
+        operation: Operation,
+    },
+}
+
+impl Event {
+    /// An equal value on its own.
+    pub fn copy(&self) -> Result<Event, Memory>
+        ensures { IfOk result (λ e. e ≡ self.now) }
+    {
+        match self {
+            Event::Call(call) => Ok(Event::Call(call.copy()?)),
+            Event::Device(event) => Ok(Event::Device(*event)),
+            Event::Peer(event) => Ok(Event::Peer(event.copy()?)),
+            Event::Engine(event) => Ok(Event::Engine(*event)),
+            Event::Provider(event) => Ok(Event::Provider(event.copy()?)),
+        }
+    }
+}
+
+impl PeerEvent {
+    /// An equal value on its own.
+    pub fn copy(&self) -> Result<PeerEvent, Memory>
+        ensures { IfOk result (λ e. e ≡ self.now) }
+    {
+        Ok(self.clone()?)
+    }
+}
+
+impl ProviderEvent {
+    /// An equal value on its own.
+    pub fn copy(&self) -> Result<ProviderEvent, Memory>
+        ensures { IfOk result (λ e. e ≡ self.now) }
+    {
+        match self {
+            ProviderEvent::Place {
+                path,
+                size,
+                identity,
+                in_sync,
+            } => {
+                let path = path.copy()?;
+                let identity = identity.copy()?;
+                Ok(ProviderEvent::Place {
+                    path,
+                    size: *size,
+                    identity,
+                    in_sync: *in_sync,
+                })
+            }
+            ProviderEvent::PlaceDir {
+                path,
+                identity,
+                in_sync,
+            } => {
+                let path = path.copy()?;
+                let identity = identity.copy()?;
+                Ok(ProviderEvent::PlaceDir {
+                    path,
+                    identity,
+                    in_sync: *in_sync,
+                })
+            }
+            ProviderEvent::Convert { path, identity } => {
+                let path = path.copy()?;
+                let identity = identity.copy()?;
+                Ok(ProviderEvent::Convert { path, identity })
+            }
+            ProviderEvent::Revert { path } => Ok(ProviderEvent::Revert { path: path.copy()? }),
+            ProviderEvent::Update {
+                path,
+                identity,
+                size,
+            } => {
+                let path = path.copy()?;
+                let identity = identity.copy()?;
+                Ok(ProviderEvent::Update {
+                    path,
+                    identity,
+                    size: *size,
+                })
+            }
+            ProviderEvent::Mark { path, number } => {
+                let path = path.copy()?;
+                Ok(ProviderEvent::Mark {
+                    path,
+                    number: *number,
+                })
+            }
+            ProviderEvent::Unmark { path } => Ok(ProviderEvent::Unmark { path: path.copy()? }),
+            ProviderEvent::Do { operation } => {
+                let operation = operation.copy()?;
+                Ok(ProviderEvent::Do { operation })
+            }
+            ProviderEvent::Plan { own, operation } => {
+                let operation = operation.copy()?;
+                Ok(ProviderEvent::Plan {
+                    own: *own,
+                    operation,
+                })
+            }
+        }
+    }
+}

@@ -1,0 +1,51 @@
+//! What is said of an item.
+
+use crate::ids::{ItemId, Rid};
+use crate::names::Name;
+
+/// What an item is.
+#[derive(Clone, Copy, Debug, PartialEq, Eq)]
+pub enum Kind {
+    File,
+    Dir,
+    PlaceholderFile,
+    PlaceholderDir,
+    /// A placeholder directory whose entries have not come yet.
+    UnpopulatedDir,
+}
+
+/// The pin state of an item (CF_PIN_STATE). `Inherit` can be asked for and is never stored.
+#[derive(Clone, Copy, Debug, PartialEq, Eq)]
+pub enum Pin {
+    Unspecified,
+    Pinned,
+    Unpinned,
+    Excluded,
+    Inherit,
+}
+
+/// Which items a pin state is set on.
+#[derive(Clone, Copy, Debug, PartialEq, Eq)]
+pub enum Reach {
+    /// The item alone.
+    One,
+    /// The item and all below it.
+    Recurse,
+    /// All below the item.
+    RecurseOnly,
+}
+
+/// One entry of a directory.
+#[derive(Clone, Debug, Drop)]
+pub struct ListedItem {
+    pub name: Name,
+    pub dir: bool,
+}
+
+/// Where an item stood in the remote when that was last seen.
+#[derive(Clone, Debug, Drop)]
+pub struct SeenPath {
+    pub item: ItemId,
+    pub parent: Rid,
+    pub name: Name,
+}

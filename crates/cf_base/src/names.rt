@@ -1,0 +1,134 @@
+//! Names and identities.
+
+ghost use Rattle.std.specs.Prelude.{◌≡◌, ◌≤◌, ◌<◌, ℕ, List, IfOk, IfErr, length, true, false, ◌⊎◌};
+ghost use Rattle.std.specs.List.{list_all};
+ghost use Rattle.std.specs.Str.{is_utf8};
+ghost use Rattle.cf_base.specs.Names.{is_name, is_name_byte};
+
+use crate::codes::{Code, Fail};
+use crate::memory::Memory;
+use std::alloc::Global;
+use std::marker::Model;
+
+const MOST_NAME_BYTES: usize = 255;
+
+const MOST_IDENTITY_BYTES: usize = 4096;
+
+/// The name of an item in its directory. The root's alone is empty.
+#[derive(Clone, Debug, Drop)]
+pub struct Name {
+    bytes: Vec<u8>,
+}
+
+impl Model for Name {
+    ghost Value = { List ℕ };
+
+    ghost view = { λ n. n.bytes.items };
+}
+
+fn is_name_byte(byte: u8) -> bool
+    ensures { result ≡ is_name_byte byte }
+{
+    byte >= 32 && byte != 127 && !b"/\\:*?\"<>|".contains(&byte)
+}
+
+fn all_name_bytes(name: &[u8]) -> bool
+    ensures { result ≡ list_all is_name_byte name.now }
+{
+    name.iter().all(|byte| is_name_byte(*byte))
+}
+
+#[tactic(auto, using(crate::proofs::Utf8::test_holds, crate::proofs::Utf8::test_fails))]
+fn is_utf8(bytes: &[u8]) -> bool
+    ensures { result ≡ is_utf8 bytes.now }
+{
+    match str::from_utf8(bytes) {
+        Ok(_) => true,
+        Err(_) => false,
+    }
+}
+
+fn is_name(bytes: &[u8]) -> bool
+    ensures { result ≡ is_name bytes.now }
+{
+    !bytes.is_empty()
+        && bytes.len() <= MOST_NAME_BYTES
+        && all_name_bytes(bytes)
+        && is_utf8(bytes)
+        && bytes != b".".as_slice()
+        && bytes != b"..".as_slice()
+}
+
+impl Name {
+    /// The name that the bytes are. Refused as BadPath where they are none: 1 to 255 bytes of UTF-8, none below 32,
+    /// none 127, none of `/ \ : * ? " < > |`, and neither `.` nor `..`.
+    pub fn read(alloc: Global, bytes: &[u8]) -> Result<Name, Fail>
+        ensures ok { IfOk result (λ n. (n ≡ bytes.now) × (is_name bytes.now ≡ true)) }
+        ensures bad { IfErr result (λ e. (e ≡ Fail.Memory) ⊎ ((e ≡ Fail.No Code.BadPath) × (is_name bytes.now ≡ false))) }
+    {
+        if !is_name(bytes) {
+            return Err(Fail::No(Code::BadPath));
+        }
+        let bytes = Vec::from_slice(alloc, bytes)?;
+        Ok(Name { bytes })
+    }
+
+    pub fn as_slice(&self) -> &[u8]
+        ensures { result.now ≡ self.now }
+    {
+        self.bytes.as_slice()
+    }
+
+    /// An equal value on its own.
+    pub fn copy(&self) -> Result<Name, Memory>
+        ensures { IfOk result (λ n. n ≡ self.now) }
+    {
+        Ok(self.clone()?)
+    }
+}
+
+/// The bytes by which a provider knows its file again. They are handed back in callbacks and never read here.
+#[derive(Clone, Debug, Drop)]
+pub struct Identity {
+    bytes: Vec<u8>,
+}
+
+impl Model for Identity {
+    ghost Value = { List ℕ };
+
+    ghost view = { λ i. i.bytes.items };
+}
+
+impl Identity {
+    /// The identity of these bytes. Refused as IdentityTooLong where there are more than 4,096.
+    pub fn read(alloc: Global, bytes: &[u8]) -> Result<Identity, Fail>
+        ensures ok { IfOk result (λ i. (i ≡ bytes.now) × (length bytes.now ≤ 4096)) }
+        ensures bad { IfErr result (λ e. (e ≡ Fail.Memory) ⊎ ((e ≡ Fail.No Code.IdentityTooLong) × (4096 < length bytes.now))) }
+    {
+        if bytes.len() > MOST_IDENTITY_BYTES {
+            return Err(Fail::No(Code::IdentityTooLong));
+        }
+        Ok(Identity::new(alloc, bytes)?)
+    }
+
+    /// Holds any bytes, so that a later call can refuse an identity that is too long.
+    pub fn new(alloc: Global, bytes: &[u8]) -> Result<Identity, Memory>
+        ensures { IfOk result (λ i. i ≡ bytes.now) }
+    {
+        let bytes = Vec::from_slice(alloc, bytes)?;
+        Ok(Identity { bytes })
+    }
+
+    pub fn as_slice(&self) -> &[u8]
+        ensures { result.now ≡ self.now }
+    {
+        self.bytes.as_slice()
+    }
+
+    /// An equal value on its own.
+    pub fn copy(&self) -> Result<Identity, Memory>
+        ensures { IfOk result (λ i. i ≡ self.now) }
+    {
+        Ok(self.clone()?)
+    }
+}

@@ -1,0 +1,41 @@
+//! How a run ends.
+
+/// How a run ends.
+#[derive(Clone, Copy, Debug, PartialEq, Eq)]
+pub enum Status {
+    /// Each event was answered, and all was written.
+    Done,
+    /// The words are no command.
+    Usage,
+    /// A line of the script is bad, which is written.
+    BadScript,
+    /// The source failed.
+    SourceFault,
+    /// The sink failed.
+    SinkFault,
+    /// The device has no fit size.
+    BadDevice,
+    /// There was no memory.
+    Memory,
+    /// The source, or the report, has too many bytes.
+    TooLong,
+    /// The device failed before the first event.
+    DeviceFault,
+}
+
+impl Status {
+    /// The number with which the program ends.
+    pub fn number(self) -> u8 {
+        match self {
+            Status::Done => 0,
+            Status::Usage => 2,
+            Status::BadScript => 3,
+            Status::SourceFault => 4,
+            Status::SinkFault => 5,
+            Status::BadDevice => 6,
+            Status::Memory => 7,
+            Status::TooLong => 8,
+            Status::DeviceFault => 9,
+        }
+    }
+}
