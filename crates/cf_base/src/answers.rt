@@ -1,9 +1,12 @@
 //! What an event is answered.
 
+ghost use Rattle.std.specs.Prelude.{◌≡◌, IfOk};
+
 use crate::bytes::Blob;
 use crate::codes::Code;
 use crate::ids::{Handle, ItemId, Rid, Usn, Version, WaitId};
 use crate::items::{Kind, Pin};
+use crate::memory::Memory;
 use crate::messages::Reply;
 use crate::names::Identity;
 use crate::notices::Notes;
@@ -95,4 +98,22 @@ pub struct Answer {
     pub notes: Notes,
     pub shown: Shown,
     pub stray: Option<Reply>,
+}
+
+impl OpenedBook {
+    /// An equal value on its own.
+    pub fn copy(&self) -> Result<OpenedBook, Memory>
+        ensures { IfOk result (λ o. o ≡ self.now) }
+    {
+        Ok(self.clone()?)
+    }
+}
+
+impl Shown {
+    /// An equal value on its own.
+    pub fn copy(&self) -> Result<Shown, Memory>
+        ensures { IfOk result (λ s. s ≡ self.now) }
+    {
+        Ok(self.clone()?)
+    }
 }

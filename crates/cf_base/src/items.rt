@@ -1,6 +1,9 @@
 //! What is said of an item.
 
+ghost use Rattle.std.specs.Prelude.{◌≡◌, IfOk};
+
 use crate::ids::{ItemId, Rid};
+use crate::memory::Memory;
 use crate::names::Name;
 
 /// What an item is.
@@ -48,4 +51,22 @@ pub struct SeenPath {
     pub item: ItemId,
     pub parent: Rid,
     pub name: Name,
+}
+
+impl ListedItem {
+    /// An equal value on its own.
+    pub fn copy(&self) -> Result<ListedItem, Memory>
+        ensures { IfOk result (λ l. l ≡ self.now) }
+    {
+        Ok(self.clone()?)
+    }
+}
+
+impl SeenPath {
+    /// An equal value on its own.
+    pub fn copy(&self) -> Result<SeenPath, Memory>
+        ensures { IfOk result (λ s. s ≡ self.now) }
+    {
+        Ok(self.clone()?)
+    }
 }

@@ -72,3 +72,12 @@ impl Operation {
         Ok(self.clone()?)
     }
 }
+
+impl NewItem {
+    /// An equal value on its own.
+    pub fn copy(&self) -> Result<NewItem, Memory>
+        ensures { IfOk result (λ n. n ≡ self.now) }
+    {
+        Ok(self.clone()?)
+    }
+}

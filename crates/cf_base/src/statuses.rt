@@ -1,5 +1,8 @@
 //! How a run ends.
 
+ghost use Rattle.std.specs.Prelude.{◌≡◌};
+ghost use Rattle.cf_base.specs.Statuses.{exit_number};
+
 /// How a run ends.
 #[derive(Clone, Copy, Debug, PartialEq, Eq)]
 pub enum Status {
@@ -25,7 +28,9 @@ pub enum Status {
 
 impl Status {
     /// The number with which the program ends.
-    pub fn number(self) -> u8 {
+    pub fn number(self) -> u8
+        ensures { result ≡ exit_number self }
+    {
         match self {
             Status::Done => 0,
             Status::Usage => 2,
