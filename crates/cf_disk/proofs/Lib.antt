@@ -1,0 +1,7 @@
+mod Mixing
+mod ImageLaws
+mod MediumLaws
+mod CutLaws
+mod TrailLaws
+mod PowerLaws
+mod TraceLaws

@@ -1,0 +1,29 @@
+use Rattle.std.proofs.Common.{[], false, refl, ap}
+use Rattle.cf_disk.specs.Images.{durable}
+use Rattle.cf_disk.specs.Trails.{Trail}
+use Rattle.cf_disk.specs.declared.trails.Kind.TheVariants as kind
+use Rattle.cf_disk.proofs.TraceLaws.{traced_push, moment_push, since_push, kept_push}
+use Rattle.cf_disk.proofs.trace_disks.TraceDiskDisk.read.Goals as goal
+
+pub invariant_of-self-then-is_spent-clause-traced : goal.invariant_of-self-then-is_spent-clause-traced
+invariant_of-self-then-is_spent-clause-traced c =
+    traced_push (durable c.args.self.now.start.items) c.args.self.now.medium c.args.self.now.medium c.args.self.now.calls.calls c.push.new.self.calls
+    (record { kind = kind.Read; at = c.args.at; len = 0; done = false }, []) c.args.self.now.traced (ap (λ (t : Trail). t.calls) c.push.ensures) refl
+
+pub invariant_of-self-2-clause-traced : goal.invariant_of-self-2-clause-traced
+invariant_of-self-2-clause-traced c =
+    traced_push (durable c.args.self.now.start.items) c.args.self.now.medium c.args.self.now.medium c.args.self.now.calls.calls c.push-2.new.self.calls
+    _ c.args.self.now.traced (ap (λ (t : Trail). t.calls) c.push-2.ensures) refl
+
+pub returns-clause-goes : goal.returns-clause-goes
+returns-clause-goes c =
+    let pushed = ap (λ (t : Trail). t.calls) c.push-2.ensures in
+    let start = durable c.args.self.now.start.items in
+    let calls = c.args.self.now.calls.calls in
+    let traced = traced_push start c.args.self.now.medium c.args.self.now.medium calls c.push-2.new.self.calls _ c.args.self.now.traced pushed refl in
+    record {
+      later = moment_push c.args.self.now.before calls c.push-2.new.self.calls _ pushed;
+      since = λ t image le left. since_push start c.args.self.now.medium calls c.push-2.new.self.calls _ pushed traced c.args.self.now.before t image left;
+      told = λ t le tells. (tells, λ image left. kept_push start c.args.self.now.medium calls c.push-2.new.self.calls _ pushed traced c.args.self.now.before t image left);
+      powers = refl;
+    }

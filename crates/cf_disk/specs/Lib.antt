@@ -1,0 +1,11 @@
+pub mod Disk
+pub mod Images
+pub mod MemState
+pub mod Splice
+pub mod Parts
+pub mod Leaving
+pub mod TraceState
+pub mod Cuts
+pub mod Trails
+pub mod TrailParts
+pub mod PowerBooks
