@@ -1,0 +1,11 @@
+use Rattle.std.proofs.Common.{◌≤◌, length}
+use Rattle.cf_io.proofs.Adding.{HasPut}
+use Rattle.cf_io.proofs.sinks.write_all.Given as goal
+
+abbrev pub invariant-loop-rest : goal.invariant-loop-rest
+invariant-loop-rest g l =
+    HasPut (g.K.Sink.held l.fn.sink) (g.K.Sink.held l.sink) l.bytes l.rest
+    × (g.K.Sink.faults l.fn.sink ≤ g.K.Sink.faults l.sink)
+
+abbrev pub decreases-loop-rest : goal.decreases-loop-rest
+decreases-loop-rest g l = length l.rest

@@ -1,0 +1,23 @@
+//! Where bytes come from and where they go.
+//!
+//! A `Source` and a `Sink` tell contracts, where they can, the bytes that they have left or hold, and always how often
+//! they failed. They answer a fault only where that count rose in the call. `read_all` gives a whole source within a
+//! limit, and `write_all` adds all bytes or, at a fault, some front of them.
+#![tactic(auto)]
+
+mod faults;
+mod memory;
+mod readings;
+mod sinks;
+mod sources;
+mod system;
+
+pub use faults::{IoFault, ReadFail};
+pub use memory::{MemSink, MemSource};
+pub use readings::read_all;
+pub use sinks::{Sink, write_all};
+pub use sources::Source;
+pub use system::{StdSink, StdSource};
+
+#[cfg(test)]
+mod tests;
