@@ -1,0 +1,4 @@
+pub mod Owned
+pub mod Pairs
+pub mod Positions
+pub mod Steps

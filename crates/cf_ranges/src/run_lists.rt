@@ -1,0 +1,153 @@
+//! Lists of maximal runs in order.
+ghost use Rattle.std.specs.Prelude.{◌≡◌, ℕ, ◌+◌, ◌^◌, ◌≤◌, ◌<◌, ◌++◌, ◌↔◌, [], OnOk, IfOk, IsTrue};
+ghost use Rattle.cf_ranges.specs.Positions.{contains, IsRuns, touches};
+ghost use Rattle.cf_ranges.specs.Steps.{added, piece, cut_of, missing_of, blocks_from};
+
+use cf_base::{Memory, Span};
+use std::alloc::Global;
+
+const BLOCK: u64 = 4096;
+
+const LIMIT: u64 = 1 << 40;
+
+pub(crate) fn are_runs(runs: &[Span]) -> bool
+    ensures { IsTrue result ↔ IsRuns runs.now }
+{
+    let mut low = 0;
+    for run in runs {
+        if run.start < low || run.len == 0 || run.start > LIMIT || run.len > LIMIT - run.start {
+            return false;
+        }
+        low = run.start + run.len + 1;
+    }
+    true
+}
+
+// Only the last run that begins by then may have it.
+pub(crate) fn has(runs: &[Span], at: u64) -> bool
+    requires { IsRuns runs.now }
+    ensures { result ≡ contains runs.now at }
+{
+    let next = runs.partition_point(|run| run.start <= at);
+    if next == 0 {
+        return false;
+    }
+    let run = runs[next - 1];
+    at - run.start < run.len
+}
+
+#[tactic(auto, using(crate::proofs::Sets::small_runs))]
+pub(crate) fn touches(runs: &[Span], block: u64) -> bool
+    requires runs { IsRuns runs.now }
+    requires block { block < 2 ^ 40 }
+    ensures { result ≡ touches runs.now block }
+{
+    for run in runs {
+        if run.start < BLOCK * block + BLOCK && BLOCK * block < run.start + run.len {
+            return true;
+        }
+    }
+    false
+}
+
+pub(crate) fn blocks(runs: &[Span]) -> u64
+    requires { IsRuns runs.now }
+    ensures { result ≡ blocks_from 0 runs.now }
+{
+    let mut count = 0;
+    let mut next = 0;
+    for run in runs {
+        let end = (run.start + run.len + (BLOCK - 1)) / BLOCK;
+        count += end - (run.start / BLOCK).max(next);
+        next = end;
+    }
+    count
+}
+
+// One pass: the runs that the span meets are joined with it.
+#[tactic(auto, using(crate::proofs::Sets::small_runs))]
+pub(crate) fn with_span(alloc: Global, runs: &[Span], span: Span) -> Result<Vec<Span>, Memory>
+    requires runs { IsRuns runs.now }
+    requires some { 0 < span.len }
+    requires small { span.start + span.len ≤ 2 ^ 40 }
+    ensures { IfOk result (λ v. v.items ≡ added span.start (span.start + span.len) runs.now) }
+{
+    let mut out = Vec::new(alloc);
+    let mut start = span.start;
+    let mut end = span.start + span.len;
+    for (i, run) in runs.iter().enumerate() {
+        if run.start + run.len < start {
+            out.push(*run)?;
+        } else if end < run.start {
+            out.push(Span {
+                start,
+                len: end - start,
+            })?;
+            out.extend_from_slice(&runs[i..])?;
+            return Ok(out);
+        } else {
+            start = start.min(run.start);
+            end = end.max(run.start + run.len);
+        }
+    }
+    out.push(Span {
+        start,
+        len: end - start,
+    })?;
+    Ok(out)
+}
+
+// One pass: of each run, what lies before the span and what lies behind it.
+#[tactic(auto, using(crate::proofs::Sets::small_runs))]
+pub(crate) fn without_span(alloc: Global, runs: &[Span], span: Span) -> Result<Vec<Span>, Memory>
+    requires runs { IsRuns runs.now }
+    requires some { 0 < span.len }
+    requires small { span.start + span.len ≤ 2 ^ 40 }
+    ensures { IfOk result (λ v. v.items ≡ cut_of span.start (span.start + span.len) runs.now) }
+{
+    let mut out = Vec::new(alloc);
+    let end = span.start + span.len;
+    for run in runs {
+        push_piece(&mut out, run.start, span.start.min(run.start + run.len))?;
+        push_piece(&mut out, end.max(run.start), run.start + run.len)?;
+    }
+    Ok(out)
+}
+
+#[tactic(auto, using(crate::proofs::Sets::small_runs))]
+pub(crate) fn missing_in(alloc: Global, runs: &[Span], span: Span) -> Result<Vec<Span>, Memory>
+    requires runs { IsRuns runs.now }
+    requires small { span.start + span.len ≤ 2 ^ 40 }
+    ensures { IfOk result (λ v. v.items ≡ missing_of span.start (span.start + span.len) runs.now) }
+{
+    let mut out = Vec::new(alloc);
+    let end = span.start + span.len;
+    let mut at = span.start;
+    for run in runs {
+        push_piece(&mut out, at, end.min(run.start))?;
+        at = at.max(run.start + run.len);
+    }
+    push_piece(&mut out, at, end)?;
+    Ok(out)
+}
+
+fn push_piece(out: &mut Vec<Span>, from: u64, to: u64) -> Result<(), Memory>
+    ensures { OnOk result (out.new.items ≡ out.old.items ++ piece from to []) }
+{
+    if from < to {
+        out.push(Span {
+            start: from,
+            len: to - from,
+        })?;
+    }
+    Ok(())
+}
+
+// A short name for the tests.
+#[cfg(test)]
+pub(crate) fn span(start: u64, len: u64) -> Span
+    ensures start { result.start ≡ start }
+    ensures len { result.len ≡ len }
+{
+    Span { start, len }
+}
