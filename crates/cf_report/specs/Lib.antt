@@ -1,0 +1,4 @@
+pub mod Changes
+pub mod CodeNames
+pub mod Texts
+pub mod Words
