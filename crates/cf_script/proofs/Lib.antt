@@ -1,0 +1,16 @@
+pub mod Cuts
+pub mod NumberMeans
+pub mod DataMeans
+pub mod PathMeans
+pub mod LineMeans
+pub mod WordLists
+pub mod CommandMeans
+pub mod LinesRead
+pub mod KeyOnce
+pub mod EventOnce
+pub mod OneReading
+pub mod Bytes
+pub mod WordTexts
+pub mod LineTexts
+pub mod SpelledBack
+pub mod FitsBack

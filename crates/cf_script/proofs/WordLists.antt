@@ -1,0 +1,28 @@
+-- The words of a line behind their references.
+use Rattle.std.proofs.Common.{◌≡◌, ℕ, suc, ◌+◌, ◌-◌, ◌<◌, ◌≤◌, List, [], ◌∷◌, length, take, drop, get_or, map, Bor, refl, sym, ap, arith}
+use Rattle.std.proofs.Math.Seq.{take-length}
+
+abbrev pub no_word : Bor (List ℕ)
+no_word = record { ref_ptr = (0, 0); now = [] }
+
+abbrev pub texts : List (Bor (List ℕ)) → List (List ℕ)
+texts ws = map (λ w. w.now) ws
+
+abbrev pub after : ℕ → List (Bor (List ℕ)) → List (Bor (List ℕ))
+after n ws = take (length ws - n) (drop n ws)
+
+pub one_word : (ws : List (Bor (List ℕ))) → 1 ≤ length ws → length ws < 2 → texts ws ≡ (get_or ws 0 no_word).now ∷ []
+one_word [] low high = absurd (omega arith)
+one_word (w ∷ []) low high = refl
+one_word (w ∷ v ∷ ws) low high = absurd (omega arith)
+
+pub first_word : (ws : List (Bor (List ℕ))) → 1 ≤ length ws → texts ws ≡ (get_or ws 0 no_word).now ∷ texts (after 1 ws)
+first_word [] low = absurd (omega arith)
+first_word (w ∷ ws) low =
+    let e : suc (length ws) - 1 ≡ length ws = omega arith in rw (e, take-length ws) refl
+
+pub two_words : (ws : List (Bor (List ℕ))) → 2 ≤ length ws → texts ws ≡ (get_or ws 0 no_word).now ∷ (get_or ws 1 no_word).now ∷ texts (after 2 ws)
+two_words [] low = absurd (omega arith)
+two_words (w ∷ []) low = absurd (omega arith)
+two_words (w ∷ v ∷ ws) low =
+    let e : suc (suc (length ws)) - 2 ≡ length ws = omega arith in rw (e, take-length ws) refl

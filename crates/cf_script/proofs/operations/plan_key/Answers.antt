@@ -1,0 +1,7 @@
+use Rattle.std.proofs.Common.{sym, ◌∙◌}
+use Rattle.cf_script.proofs.LineMeans.{own_reads}
+use Rattle.cf_script.proofs.DataMeans.{same_text}
+use Rattle.cf_script.proofs.operations.plan_key.Goals as goal
+
+pub returns-then-eq : goal.returns-then-eq
+returns-then-eq c = own_reads c.args.word.now (same_text _ _ (sym c.eq.ensures ∙ c.if-eq.true))

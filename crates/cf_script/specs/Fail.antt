@@ -1,0 +1,27 @@
+-- Why a script is not read.
+use Rattle.std.specs.Prelude.{◌≡◌, ℕ, ◌+◌, ◌<◌, ◌≤◌, List, ◌∷◌, ◌++◌, length, true, false, IsTrue}
+use Rattle.std.specs.List.{list_all}
+use Rattle.cf_base.specs.declared.events.Event.{Event}
+use Rattle.cf_base.specs.declared.policies.Mode.{Mode}
+use Rattle.cf_script.specs.declared.fails.ScriptFail.{ScriptFail}
+use Rattle.cf_script.specs.declared.fails.ScriptFail.TheVariants as fails
+use Rattle.cf_script.specs.Script.{Spells, AreEvents, is_event_line, event_lines}
+use Rattle.cf_script.specs.Built.{is_built}
+
+-- line n, counted from 1, is no empty line and no comment; the lines before it spell the events, which are built
+pub record IsLine (mode : Mode) (lines : List (List ℕ)) (n : ℕ) (events : List Event) (line : List ℕ) : Type 0 where
+  pub before : List (List ℕ)
+  pub after : List (List ℕ)
+  pub parts : lines ≡ before ++ line ∷ after
+  pub place : n ≡ length before + 1
+  pub good : AreEvents mode (event_lines before) events
+  pub built : IsTrue (list_all (is_built mode) events)
+  pub few : length events ≤ 100000
+  pub here : is_event_line line ≡ true
+
+-- memory is free; else the line is the first that stops the reading
+abbrev pub IsCause : Mode → List (List ℕ) → ScriptFail → Type 0
+IsCause mode lines (fails.Syntax n) = (events : List Event) × (line : List ℕ) × IsLine mode lines n events line × ((event : Event) → Spells mode line event → ⊥)
+IsCause mode lines (fails.TooManyEvents n) = (events : List Event) × (line : List ℕ) × IsLine mode lines n events line × (length events ≡ 100000) × ((event : Event) × Spells mode line event)
+IsCause mode lines (fails.NotBuilt n) = (events : List Event) × (line : List ℕ) × IsLine mode lines n events line × (length events < 100000) × ((event : Event) × Spells mode line event × (is_built mode event ≡ false))
+IsCause mode lines fails.Memory = Unit {0}

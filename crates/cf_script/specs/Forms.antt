@@ -1,0 +1,301 @@
+-- The lines of a script: what follows the first word, and the event that the line then spells.
+use Rattle.std.specs.Prelude.{◌≡◌, ℕ, ◌<◌, ◌^◌, ◌==◌, Bool, true, false, List, [], ◌∷◌, ◌++◌, codes, if◌then◌else◌, Option, Some, None}
+use Rattle.std.specs.List.{slice_split}
+use Rattle.std.specs.Str.{IsUtf8}
+use Rattle.cf_base.specs.declared.ids.Key.{Key}
+use Rattle.cf_base.specs.declared.ids.Handle.{Handle}
+use Rattle.cf_base.specs.declared.ids.WaitId.{WaitId}
+use Rattle.cf_base.specs.declared.ids.Usn.{Usn}
+use Rattle.cf_base.specs.declared.items.Pin.{Pin}
+use Rattle.cf_base.specs.declared.items.Reach.{Reach}
+use Rattle.cf_base.specs.declared.policies.Class.{Class}
+use Rattle.cf_base.specs.declared.policies.Hydration.{Hydration}
+use Rattle.cf_base.specs.declared.policies.Population.{Population}
+use Rattle.cf_base.specs.declared.policies.Mode.{Mode}
+use Rattle.cf_base.specs.declared.policies.Choice.{Choice}
+use Rattle.cf_base.specs.declared.policies.Choice.TheVariants as choice
+use Rattle.cf_base.specs.declared.operations.NewItem.{NewItem}
+use Rattle.cf_base.specs.declared.operations.Operation.{Operation}
+use Rattle.cf_base.specs.declared.operations.Operation.TheVariants as operation
+use Rattle.cf_base.specs.declared.calls.Call.TheVariants as call
+use Rattle.cf_base.specs.declared.events.DeviceEvent.TheVariants as device
+use Rattle.cf_base.specs.declared.events.PeerEvent.TheVariants as peer
+use Rattle.cf_base.specs.declared.events.EngineEvent.TheVariants as engine
+use Rattle.cf_base.specs.declared.events.ProviderEvent.TheVariants as provider
+use Rattle.cf_base.specs.declared.events.Event.{Event}
+use Rattle.cf_base.specs.declared.events.Event.TheVariants.{Call, Device, Peer, Engine, Provider}
+use Rattle.cf_script.specs.declared.commands.Command.{Command}
+use Rattle.cf_script.specs.declared.commands.Command.TheVariants as command
+use Rattle.cf_script.specs.declared.commands.BareCommand.{BareCommand}
+use Rattle.cf_script.specs.declared.commands.BareCommand.TheVariants as bare
+use Rattle.cf_script.specs.declared.commands.PathCommand.{PathCommand}
+use Rattle.cf_script.specs.declared.commands.PathCommand.TheVariants as on_path
+use Rattle.cf_script.specs.declared.commands.NumberCommand.{NumberCommand}
+use Rattle.cf_script.specs.declared.commands.NumberCommand.TheVariants as on_number
+use Rattle.cf_script.specs.declared.commands.PeerCommand.{PeerCommand}
+use Rattle.cf_script.specs.declared.commands.PeerCommand.TheVariants as peer_word
+use Rattle.cf_script.specs.declared.commands.OperationCommand.{OperationCommand}
+use Rattle.cf_script.specs.declared.commands.OperationCommand.TheVariants as operation_word
+use Rattle.cf_script.specs.Words.{IsNumber, IsPositive, IsKey, IsUsn, IsPlain, IsData, IsPath, escape_byte, written}
+use Rattle.cf_script.specs.Names.{command_name, peer_name, operation_name, pin_name, reach_words, class_name, hydration_name, population_name, modifier_words, flag_words, yes_name, good_name, link_name, kept_name, entry_kind, is_foreign}
+
+-- words that stand alone
+abbrev pub bare_event : BareCommand → Event
+bare_event bare.Flush = Call call.Flush
+bare_event bare.Df = Call call.Df
+bare_event bare.Connect = Call (call.Connect true)
+bare_event bare.Disconnect = Call (call.Connect false)
+bare_event bare.Restart = Device device.Restart
+bare_event bare.Work = Engine engine.Work
+bare_event bare.Sync = Engine engine.Sync
+
+-- one path
+abbrev pub path_event : PathCommand → List ℕ → Event
+path_event on_path.Open path = Call (call.Open path)
+path_event on_path.Create path = Call (call.Create path)
+path_event on_path.Mkdir path = Call (call.Mkdir path)
+path_event on_path.Delete path = Call (call.Delete path)
+path_event on_path.List path = Call (call.List path)
+path_event on_path.Hydrate path = Call (call.Hydrate path)
+path_event on_path.Info path = Call (call.Info path)
+path_event on_path.Used path = Call (call.Used path)
+path_event on_path.Revert path = Provider (provider.Revert path)
+path_event on_path.Unmark path = Provider (provider.Unmark path)
+
+-- one number
+abbrev pub number_event : NumberCommand → ℕ → Event
+number_event on_number.Stop n = Device (device.Stop n)
+number_event on_number.Deliver n = Engine (engine.Deliver n)
+number_event on_number.Arrive n = Engine (engine.Arrive n)
+number_event on_number.Space n = Engine (engine.Space n)
+
+abbrev pub IsBareLine : BareCommand → List (List ℕ) → Event → Type 0
+IsBareLine c [] e = e ≡ bare_event c
+IsBareLine c (w ∷ ws) e = ⊥
+
+abbrev pub IsPathLine : PathCommand → List (List ℕ) → Event → Type 0
+IsPathLine c (p ∷ []) e = (path : List ℕ) × IsPath p path × (e ≡ path_event c path)
+IsPathLine c ws e = ⊥
+
+abbrev pub IsNumberLine : NumberCommand → List (List ℕ) → Event → Type 0
+IsNumberLine c (w ∷ []) e = (n : ℕ) × IsNumber w n × (e ≡ number_event c n)
+IsNumberLine c ws e = ⊥
+
+abbrev pub IsClose : List (List ℕ) → Event → Type 0
+IsClose (h ∷ []) e = (key : Key) × IsKey h key × (e ≡ Call (call.Close (record { 0 = key })))
+IsClose ws e = ⊥
+
+abbrev pub IsCancel : List (List ℕ) → Event → Type 0
+IsCancel (w ∷ []) e = (key : Key) × IsKey w key × (e ≡ Call (call.Cancel (record { 0 = key })))
+IsCancel ws e = ⊥
+
+abbrev pub IsTick : List (List ℕ) → Event → Type 0
+IsTick (w ∷ []) e = (n : ℕ) × IsPositive w n × (e ≡ Call (call.Tick n))
+IsTick ws e = ⊥
+
+-- `read H OFF LEN`
+abbrev pub IsReadLine : List (List ℕ) → Event → Type 0
+IsReadLine (h ∷ o ∷ l ∷ []) e = (key : Key) × (offset len : ℕ) × IsKey h key × IsNumber o offset × IsNumber l len × (e ≡ Call (call.Read (record { 0 = key }) offset len))
+IsReadLine ws e = ⊥
+
+-- `get P OFF LEN`
+abbrev pub IsGet : List (List ℕ) → Event → Type 0
+IsGet (p ∷ o ∷ l ∷ []) e = (path : List ℕ) × (offset len : ℕ) × IsPath p path × IsNumber o offset × IsNumber l len × (e ≡ Call (call.Get path offset len))
+IsGet ws e = ⊥
+
+-- `write H OFF DATA`
+abbrev pub IsWrite : List (List ℕ) → Event → Type 0
+IsWrite (h ∷ o ∷ d ∷ []) e = (key : Key) × (offset : ℕ) × (bytes : List ℕ) × IsKey h key × IsNumber o offset × IsData d bytes × (e ≡ Call (call.Write (record { 0 = key }) offset bytes))
+IsWrite ws e = ⊥
+
+-- `size H NUM`
+abbrev pub IsSize : List (List ℕ) → Event → Type 0
+IsSize (h ∷ n ∷ []) e = (key : Key) × (size : ℕ) × IsKey h key × IsNumber n size × (e ≡ Call (call.Size (record { 0 = key }) size))
+IsSize ws e = ⊥
+
+abbrev pub IsRename : List (List ℕ) → Event → Type 0
+IsRename (p ∷ q ∷ []) e = (from to : List ℕ) × IsPath p from × IsPath q to × (e ≡ Call (call.Rename from to))
+IsRename ws e = ⊥
+
+-- `pin P STATE`, with a reach after it or none
+abbrev pub IsPinLine : List (List ℕ) → Event → Type 0
+IsPinLine (p ∷ s ∷ r) e = (path : List ℕ) × (pin : Pin) × (reach : Reach) × IsPath p path × (s ≡ pin_name pin) × (r ≡ reach_words reach) × (e ≡ Call (call.Pin path pin reach))
+IsPinLine ws e = ⊥
+
+-- `dehydrate P`, or with `OFF LEN`
+abbrev pub IsDehydrate : List (List ℕ) → Event → Type 0
+IsDehydrate (p ∷ []) e = (path : List ℕ) × IsPath p path × (e ≡ Call (call.Dehydrate path None))
+IsDehydrate (p ∷ o ∷ l ∷ []) e = (path : List ℕ) × (offset len : ℕ) × IsPath p path × IsNumber o offset × IsNumber l len × (e ≡ Call (call.Dehydrate path (Some (offset, len))))
+IsDehydrate ws e = ⊥
+
+abbrev pub IsRanges : List (List ℕ) → Event → Type 0
+IsRanges (p ∷ c ∷ []) e = (path : List ℕ) × (class : Class) × IsPath p path × (c ≡ class_name class) × (e ≡ Call (call.Ranges path class))
+IsRanges ws e = ⊥
+
+-- `policy HYD POP`, and the modifiers that are set
+abbrev pub IsPolicyLine : List (List ℕ) → Event → Type 0
+IsPolicyLine (h ∷ p ∷ ms) e = (hydration : Hydration) × (population : Population) × (m : Bool × Bool × Bool) × (h ≡ hydration_name hydration) × (p ≡ population_name population) × (ms ≡ modifier_words m.0 m.1 m.2)
+    × (e ≡ Call (call.Policy (record { hydration = hydration; population = population; validate = m.0; restart = m.1; auto = m.2 })))
+IsPolicyLine ws e = ⊥
+
+-- `keep P yes` or `keep P no`
+abbrev pub IsKeep : List (List ℕ) → Event → Type 0
+IsKeep (p ∷ y ∷ []) e = (path : List ℕ) × (on : Bool) × IsPath p path × (y ≡ yes_name on) × (e ≡ Call (call.Keep path on))
+IsKeep ws e = ⊥
+
+-- a power cut that leaves all, or nothing
+abbrev pub kept : Bool → Choice
+kept true = choice.Keep
+kept false = choice.Drop
+
+-- `crash keep`, `crash drop` or `crash mix NUM`
+abbrev pub IsCrash : List (List ℕ) → Event → Type 0
+IsCrash (c ∷ []) e = (all : Bool) × (c ≡ kept_name all) × (e ≡ Device (device.Crash (kept all)))
+IsCrash (c ∷ n ∷ []) e = (seed : ℕ) × (c ≡ codes "mix") × IsNumber n seed × (e ≡ Device (device.Crash (choice.Mix seed)))
+IsCrash ws e = ⊥
+
+abbrev pub IsLink : List (List ℕ) → Event → Type 0
+IsLink (l ∷ []) e = (inline : Bool) × (l ≡ link_name inline) × (e ≡ Engine (engine.Link inline))
+IsLink ws e = ⊥
+
+-- what follows the word after `peer`
+abbrev pub IsPeerEvent : PeerCommand → List (List ℕ) → Event → Type 0
+IsPeerEvent peer_word.Put (p ∷ d ∷ []) e = (path bytes : List ℕ) × IsPath p path × IsData d bytes × (e ≡ Peer (peer.Put path bytes))
+IsPeerEvent peer_word.Mkdir (p ∷ []) e = (path : List ℕ) × IsPath p path × (e ≡ Peer (peer.MakeDir path))
+IsPeerEvent peer_word.Move (p ∷ q ∷ []) e = (from to : List ℕ) × IsPath p from × IsPath q to × (e ≡ Peer (peer.Move from to))
+IsPeerEvent peer_word.Remove (p ∷ []) e = (path : List ℕ) × IsPath p path × (e ≡ Peer (peer.Remove path))
+IsPeerEvent peer_word.Stat (p ∷ []) e = (path : List ℕ) × IsPath p path × (e ≡ Peer (peer.Stat path))
+IsPeerEvent peer_word.Keep (n ∷ []) e = (count : ℕ) × IsPositive n count × (e ≡ Peer (peer.Keep count))
+IsPeerEvent c ws e = ⊥
+
+abbrev pub IsPeer : List (List ℕ) → Event → Type 0
+IsPeer [] e = ⊥
+IsPeer (w ∷ ws) e = (c : PeerCommand) × (w ≡ peer_name c) × IsPeerEvent c ws e
+
+-- `place P NUM IDENT`, with `insync` after it or not
+abbrev pub IsPlace : List (List ℕ) → Event → Type 0
+IsPlace (p ∷ n ∷ i ∷ f) e = (path : List ℕ) × (size : ℕ) × (identity : List ℕ) × (in_sync : Bool) × IsPath p path × IsNumber n size × IsPlain i identity × (f ≡ flag_words (codes "insync") in_sync) × (e ≡ Provider (provider.Place path size identity in_sync))
+IsPlace ws e = ⊥
+
+-- `placedir P IDENT`, with `insync` after it or not
+abbrev pub IsPlaceDir : List (List ℕ) → Event → Type 0
+IsPlaceDir (p ∷ i ∷ f) e = (path identity : List ℕ) × (in_sync : Bool) × IsPath p path × IsPlain i identity × (f ≡ flag_words (codes "insync") in_sync) × (e ≡ Provider (provider.PlaceDir path identity in_sync))
+IsPlaceDir ws e = ⊥
+
+abbrev pub IsConvert : List (List ℕ) → Event → Type 0
+IsConvert (p ∷ i ∷ []) e = (path identity : List ℕ) × IsPath p path × IsPlain i identity × (e ≡ Provider (provider.Convert path identity))
+IsConvert ws e = ⊥
+
+-- `update P IDENT`, or with a size
+abbrev pub IsUpdate : List (List ℕ) → Event → Type 0
+IsUpdate (p ∷ i ∷ []) e = (path identity : List ℕ) × IsPath p path × IsPlain i identity × (e ≡ Provider (provider.Update path identity None))
+IsUpdate (p ∷ i ∷ n ∷ []) e = (path identity : List ℕ) × (size : ℕ) × IsPath p path × IsPlain i identity × IsNumber n size × (e ≡ Provider (provider.Update path identity (Some size)))
+IsUpdate ws e = ⊥
+
+-- `mark P PAIR`
+abbrev pub IsMark : List (List ℕ) → Event → Type 0
+IsMark (p ∷ u ∷ []) e = (path : List ℕ) × (number : Usn) × IsPath p path × IsUsn u number × (e ≡ Provider (provider.Mark path number))
+IsMark ws e = ⊥
+
+-- a name of an entry: a space, a percent sign and a comma are written as their codes
+abbrev pub escape_name_byte : ℕ → List ℕ
+escape_name_byte b = if b == 44 then codes "%2c" else escape_byte b
+
+abbrev pub escaped_name : List ℕ → List ℕ
+escaped_name name = written escape_name_byte name
+
+abbrev pub IsEntryName : List ℕ → List ℕ → Type 0
+IsEntryName word name = IsUtf8 name × (word ≡ escaped_name name)
+
+-- the fields of an entry after its name and its kind: `NUM,IDENT` of a file, `IDENT` of a directory, with `insync`
+-- after it or not
+abbrev pub IsEntryRest : Bool → List ℕ → List (List ℕ) → NewItem → Type 0
+IsEntryRest false name (n ∷ i ∷ f) item = (size : ℕ) × (identity : List ℕ) × (mark : Bool) × IsNumber n size × IsPlain i identity × (f ≡ flag_words (codes "insync") mark) × (item ≡ record { name = name; dir = false; size = size; identity = identity; mark = mark })
+IsEntryRest true name (i ∷ f) item = (identity : List ℕ) × (mark : Bool) × IsPlain i identity × (f ≡ flag_words (codes "insync") mark) × (item ≡ record { name = name; dir = true; size = 0; identity = identity; mark = mark })
+IsEntryRest dir name ws item = ⊥
+
+abbrev pub AreFields : List (List ℕ) → NewItem → Type 0
+AreFields (w ∷ k ∷ ws) item = (name : List ℕ) × (dir : Bool) × IsEntryName w name × (k ≡ entry_kind dir) × IsEntryRest dir name ws item
+AreFields ws item = ⊥
+
+-- commas part the fields
+abbrev pub fields_of : List ℕ → List (List ℕ)
+fields_of word = slice_split (λ b. b == 44) word
+
+abbrev pub IsEntry : List ℕ → NewItem → Type 0
+IsEntry word item = AreFields (fields_of word) item
+
+abbrev pub AreEntries : List (List ℕ) → List NewItem → Type 0
+AreEntries [] [] = Unit {0}
+AreEntries (w ∷ ws) (item ∷ items) = IsEntry w item × AreEntries ws items
+AreEntries [] (item ∷ items) = ⊥
+AreEntries (w ∷ ws) [] = ⊥
+
+-- an operation: what follows its key
+abbrev pub IsOperation : OperationCommand → Key → List (List ℕ) → Operation → Type 0
+IsOperation operation_word.Transfer key (o ∷ d ∷ []) op = (at : ℕ) × (bytes : List ℕ) × IsNumber o at × IsData d bytes × (op ≡ operation.Transfer key at bytes)
+IsOperation operation_word.Fail key (o ∷ l ∷ s ∷ []) op = (start len status : ℕ) × IsNumber o start × IsNumber l len × IsNumber s status × (op ≡ operation.Refuse key (record { start = start; len = len }) status)
+IsOperation operation_word.Retrieve key (o ∷ l ∷ []) op = (start len : ℕ) × IsNumber o start × IsNumber l len × (op ≡ operation.Retrieve key (record { start = start; len = len }))
+IsOperation operation_word.Ack key (o ∷ l ∷ g ∷ []) op = (start len : ℕ) × (good : Bool) × IsNumber o start × IsNumber l len × (g ≡ good_name good) × (op ≡ operation.Ack key (record { start = start; len = len }) good)
+IsOperation operation_word.Rehydrate key [] op = op ≡ operation.Restart key
+IsOperation operation_word.Entries key (g ∷ ws) op = (good : Bool) × (list : List NewItem) × (g ≡ good_name good) × (good ≡ false → ws ≡ []) × AreEntries ws list × (op ≡ operation.Entries key list good)
+IsOperation operation_word.AckDehydrate key (g ∷ []) op = (good : Bool) × (g ≡ good_name good) × (op ≡ operation.AckDehydrate key good)
+IsOperation c key ws op = ⊥
+
+-- `do OP`
+abbrev pub IsDone : OperationCommand → Key → List (List ℕ) → Event → Type 0
+IsDone c key ws e = (op : Operation) × IsOperation c key ws op × (e ≡ Provider (provider.Do op))
+
+abbrev pub IsDo : List (List ℕ) → Event → Type 0
+IsDo (w ∷ k ∷ ws) e = (c : OperationCommand) × (key : Key) × (w ≡ operation_name c) × IsKey k key × IsDone c key ws e
+IsDo ws e = ⊥
+
+-- in a plan `self` stands for the key of the callback, and is 0.0 in the event
+abbrev pub IsKeyOf : Bool → List ℕ → Key → Type 0
+IsKeyOf true word key = (word ≡ codes "self") × (key ≡ record { epoch = 0; number = 0 })
+IsKeyOf false word key = IsKey word key
+
+abbrev pub IsPlanKey : List ℕ → Bool × Key → Type 0
+IsPlanKey word p = IsKeyOf p.0 word p.1
+
+-- `plan OP`
+abbrev pub IsPlanned : OperationCommand → Bool × Key → List (List ℕ) → Event → Type 0
+IsPlanned c p ws e = (op : Operation) × IsOperation c p.1 ws op × (e ≡ Provider (provider.Plan p.0 op))
+
+abbrev pub IsPlan : List (List ℕ) → Event → Type 0
+IsPlan (w ∷ k ∷ ws) e = (c : OperationCommand) × (p : Bool × Key) × (w ≡ operation_name c) × IsPlanKey k p × IsPlanned c p ws e
+IsPlan ws e = ⊥
+
+-- the words after the first one, and the event
+abbrev pub Follows : Command → List (List ℕ) → Event → Type 0
+Follows (command.Bare c) ws e = IsBareLine c ws e
+Follows (command.OnPath c) ws e = IsPathLine c ws e
+Follows (command.OnNumber c) ws e = IsNumberLine c ws e
+Follows command.Close ws e = IsClose ws e
+Follows command.Cancel ws e = IsCancel ws e
+Follows command.Tick ws e = IsTick ws e
+Follows command.Read ws e = IsReadLine ws e
+Follows command.Get ws e = IsGet ws e
+Follows command.Write ws e = IsWrite ws e
+Follows command.Size ws e = IsSize ws e
+Follows command.Rename ws e = IsRename ws e
+Follows command.Pin ws e = IsPinLine ws e
+Follows command.Dehydrate ws e = IsDehydrate ws e
+Follows command.Ranges ws e = IsRanges ws e
+Follows command.Policy ws e = IsPolicyLine ws e
+Follows command.Keep ws e = IsKeep ws e
+Follows command.Crash ws e = IsCrash ws e
+Follows command.Peer ws e = IsPeer ws e
+Follows command.Link ws e = IsLink ws e
+Follows command.Place ws e = IsPlace ws e
+Follows command.PlaceDir ws e = IsPlaceDir ws e
+Follows command.Convert ws e = IsConvert ws e
+Follows command.Update ws e = IsUpdate ws e
+Follows command.Mark ws e = IsMark ws e
+Follows command.Do ws e = IsDo ws e
+Follows command.Plan ws e = IsPlan ws e
+
+-- the words spell an event that the mode has
+abbrev pub AreWords : Mode → List (List ℕ) → Event → Type 0
+AreWords mode [] e = ⊥
+AreWords mode (w ∷ ws) e = (c : Command) × (w ≡ command_name c) × (is_foreign mode c ≡ false) × Follows c ws e

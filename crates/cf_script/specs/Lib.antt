@@ -1,0 +1,9 @@
+pub mod Words
+pub mod Names
+pub mod Forms
+pub mod Script
+pub mod Built
+pub mod Fail
+pub mod Printed
+pub mod Fits
+pub mod Cut

@@ -1,0 +1,190 @@
+-- The fixed words of a script.
+use Rattle.std.specs.Prelude.{ℕ, Bool, true, false, List, [], ◌∷◌, ◌++◌, codes}
+use Rattle.cf_base.specs.declared.items.Pin.{Pin}
+use Rattle.cf_base.specs.declared.items.Pin.TheVariants as pin
+use Rattle.cf_base.specs.declared.items.Reach.{Reach}
+use Rattle.cf_base.specs.declared.items.Reach.TheVariants as reach
+use Rattle.cf_base.specs.declared.policies.Class.{Class}
+use Rattle.cf_base.specs.declared.policies.Class.TheVariants as class
+use Rattle.cf_base.specs.declared.policies.Hydration.{Hydration}
+use Rattle.cf_base.specs.declared.policies.Hydration.TheVariants as hydration
+use Rattle.cf_base.specs.declared.policies.Population.{Population}
+use Rattle.cf_base.specs.declared.policies.Population.TheVariants as population
+use Rattle.cf_base.specs.declared.policies.Mode.{Mode}
+use Rattle.cf_base.specs.declared.policies.Mode.TheVariants as mode
+use Rattle.cf_script.specs.declared.commands.Command.{Command}
+use Rattle.cf_script.specs.declared.commands.Command.TheVariants as command
+use Rattle.cf_script.specs.declared.commands.BareCommand.{BareCommand}
+use Rattle.cf_script.specs.declared.commands.BareCommand.TheVariants as bare
+use Rattle.cf_script.specs.declared.commands.PathCommand.{PathCommand}
+use Rattle.cf_script.specs.declared.commands.PathCommand.TheVariants as on_path
+use Rattle.cf_script.specs.declared.commands.NumberCommand.{NumberCommand}
+use Rattle.cf_script.specs.declared.commands.NumberCommand.TheVariants as on_number
+use Rattle.cf_script.specs.declared.commands.PeerCommand.{PeerCommand}
+use Rattle.cf_script.specs.declared.commands.PeerCommand.TheVariants as peer
+use Rattle.cf_script.specs.declared.commands.OperationCommand.{OperationCommand}
+use Rattle.cf_script.specs.declared.commands.OperationCommand.TheVariants as operation
+
+abbrev pub bare_name : BareCommand → List ℕ
+bare_name bare.Flush = codes "flush"
+bare_name bare.Df = codes "df"
+bare_name bare.Connect = codes "connect"
+bare_name bare.Disconnect = codes "disconnect"
+bare_name bare.Restart = codes "restart"
+bare_name bare.Work = codes "work"
+bare_name bare.Sync = codes "sync"
+
+abbrev pub path_name : PathCommand → List ℕ
+path_name on_path.Open = codes "open"
+path_name on_path.Create = codes "create"
+path_name on_path.Mkdir = codes "mkdir"
+path_name on_path.Delete = codes "delete"
+path_name on_path.List = codes "list"
+path_name on_path.Hydrate = codes "hydrate"
+path_name on_path.Info = codes "info"
+path_name on_path.Used = codes "used"
+path_name on_path.Revert = codes "revert"
+path_name on_path.Unmark = codes "unmark"
+
+abbrev pub number_name : NumberCommand → List ℕ
+number_name on_number.Stop = codes "stop"
+number_name on_number.Deliver = codes "deliver"
+number_name on_number.Arrive = codes "arrive"
+number_name on_number.Space = codes "space"
+
+-- the first word of a line
+abbrev pub command_name : Command → List ℕ
+command_name (command.Bare c) = bare_name c
+command_name (command.OnPath c) = path_name c
+command_name (command.OnNumber c) = number_name c
+command_name command.Close = codes "close"
+command_name command.Cancel = codes "cancel"
+command_name command.Tick = codes "tick"
+command_name command.Read = codes "read"
+command_name command.Get = codes "get"
+command_name command.Write = codes "write"
+command_name command.Size = codes "size"
+command_name command.Rename = codes "rename"
+command_name command.Pin = codes "pin"
+command_name command.Dehydrate = codes "dehydrate"
+command_name command.Ranges = codes "ranges"
+command_name command.Policy = codes "policy"
+command_name command.Keep = codes "keep"
+command_name command.Crash = codes "crash"
+command_name command.Peer = codes "peer"
+command_name command.Link = codes "link"
+command_name command.Place = codes "place"
+command_name command.PlaceDir = codes "placedir"
+command_name command.Convert = codes "convert"
+command_name command.Update = codes "update"
+command_name command.Mark = codes "mark"
+command_name command.Do = codes "do"
+command_name command.Plan = codes "plan"
+
+-- the word after `peer`
+abbrev pub peer_name : PeerCommand → List ℕ
+peer_name peer.Put = codes "put"
+peer_name peer.Mkdir = codes "mkdir"
+peer_name peer.Move = codes "move"
+peer_name peer.Remove = codes "remove"
+peer_name peer.Stat = codes "stat"
+peer_name peer.Keep = codes "keep"
+
+-- the word after `do` or `plan`
+abbrev pub operation_name : OperationCommand → List ℕ
+operation_name operation.Transfer = codes "transfer"
+operation_name operation.Fail = codes "fail"
+operation_name operation.Retrieve = codes "retrieve"
+operation_name operation.Ack = codes "ack"
+operation_name operation.Rehydrate = codes "rehydrate"
+operation_name operation.Entries = codes "entries"
+operation_name operation.AckDehydrate = codes "ackdehydrate"
+
+abbrev pub pin_name : Pin → List ℕ
+pin_name pin.Unspecified = codes "unspecified"
+pin_name pin.Pinned = codes "pinned"
+pin_name pin.Unpinned = codes "unpinned"
+pin_name pin.Excluded = codes "excluded"
+pin_name pin.Inherit = codes "inherit"
+
+-- one word, or none for the item alone
+abbrev pub reach_words : Reach → List (List ℕ)
+reach_words reach.One = []
+reach_words reach.Recurse = codes "recurse" ∷ []
+reach_words reach.RecurseOnly = codes "recurse-only" ∷ []
+
+abbrev pub class_name : Class → List ℕ
+class_name class.OnDisk = codes "ondisk"
+class_name class.Validated = codes "validated"
+class_name class.Modified = codes "modified"
+
+abbrev pub hydration_name : Hydration → List ℕ
+hydration_name hydration.Partial = codes "partial"
+hydration_name hydration.Progressive = codes "progressive"
+hydration_name hydration.Full = codes "full"
+hydration_name hydration.AlwaysFull = codes "always-full"
+
+abbrev pub population_name : Population → List ℕ
+population_name population.Partial = codes "partial"
+population_name population.Full = codes "full"
+population_name population.AlwaysFull = codes "always-full"
+
+-- the word where the flag is set
+abbrev pub flag_words : List ℕ → Bool → List (List ℕ)
+flag_words word true = word ∷ []
+flag_words word false = []
+
+-- the modifiers that are set, in this order
+abbrev pub modifier_words : Bool → Bool → Bool → List (List ℕ)
+modifier_words validate restart auto = flag_words (codes "validate") validate ++ (flag_words (codes "restart") restart ++ flag_words (codes "auto") auto)
+
+abbrev pub yes_name : Bool → List ℕ
+yes_name true = codes "yes"
+yes_name false = codes "no"
+
+abbrev pub good_name : Bool → List ℕ
+good_name true = codes "ok"
+good_name false = codes "no"
+
+abbrev pub link_name : Bool → List ℕ
+link_name true = codes "inline"
+link_name false = codes "queued"
+
+-- a power cut that leaves all, or nothing
+abbrev pub kept_name : Bool → List ℕ
+kept_name true = codes "keep"
+kept_name false = codes "drop"
+
+-- a directory, or a file
+abbrev pub entry_kind : Bool → List ℕ
+entry_kind true = codes "dir"
+entry_kind false = codes "file"
+
+-- the words of the engine and of another device
+abbrev pub is_for_engine : Command → Bool
+is_for_engine (command.Bare bare.Work) = true
+is_for_engine (command.Bare bare.Sync) = true
+is_for_engine (command.OnNumber on_number.Deliver) = true
+is_for_engine (command.OnNumber on_number.Arrive) = true
+is_for_engine (command.OnNumber on_number.Space) = true
+is_for_engine command.Peer = true
+is_for_engine command.Link = true
+is_for_engine c = false
+
+-- the words of a scripted provider
+abbrev pub is_for_provider : Command → Bool
+is_for_provider (command.OnPath on_path.Revert) = true
+is_for_provider (command.OnPath on_path.Unmark) = true
+is_for_provider command.Place = true
+is_for_provider command.PlaceDir = true
+is_for_provider command.Convert = true
+is_for_provider command.Update = true
+is_for_provider command.Mark = true
+is_for_provider command.Do = true
+is_for_provider command.Plan = true
+is_for_provider c = false
+
+-- the words that the other mode alone has
+abbrev pub is_foreign : Mode → Command → Bool
+is_foreign mode.Replay c = is_for_provider c
+is_foreign mode.Filter c = is_for_engine c

@@ -1,0 +1,91 @@
+//! The words that say what a line is.
+
+/// The first word of a line.
+#[derive(Clone, Copy, Debug)]
+pub enum Command {
+    Bare(BareCommand),
+    OnPath(PathCommand),
+    OnNumber(NumberCommand),
+    Close,
+    Cancel,
+    Tick,
+    Read,
+    Get,
+    Write,
+    Size,
+    Rename,
+    Pin,
+    Dehydrate,
+    Ranges,
+    Policy,
+    Keep,
+    Crash,
+    Peer,
+    Link,
+    Place,
+    PlaceDir,
+    Convert,
+    Update,
+    Mark,
+    Do,
+    Plan,
+}
+
+/// A word that stands alone.
+#[derive(Clone, Copy, Debug)]
+pub enum BareCommand {
+    Flush,
+    Df,
+    Connect,
+    Disconnect,
+    Restart,
+    Work,
+    Sync,
+}
+
+/// A word with one path after it.
+#[derive(Clone, Copy, Debug)]
+pub enum PathCommand {
+    Open,
+    Create,
+    Mkdir,
+    Delete,
+    List,
+    Hydrate,
+    Info,
+    Used,
+    Revert,
+    Unmark,
+}
+
+/// A word with one number after it.
+#[derive(Clone, Copy, Debug)]
+pub enum NumberCommand {
+    Stop,
+    Deliver,
+    Arrive,
+    Space,
+}
+
+/// The word after `peer`.
+#[derive(Clone, Copy, Debug)]
+pub enum PeerCommand {
+    Put,
+    Mkdir,
+    Move,
+    Remove,
+    Stat,
+    Keep,
+}
+
+/// The word after `do` or `plan`.
+#[derive(Clone, Copy, Debug)]
+pub enum OperationCommand {
+    Transfer,
+    Fail,
+    Retrieve,
+    Ack,
+    Rehydrate,
+    Entries,
+    AckDehydrate,
+}

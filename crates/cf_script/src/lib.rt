@@ -1,0 +1,33 @@
+//! Scripts: the events that a text spells, and the text that spells events.
+#![tactic(auto)]
+
+mod built;
+mod calls;
+mod commands;
+mod data;
+mod entries;
+mod fails;
+mod laws;
+mod lines;
+mod names;
+mod numbers;
+mod operations;
+mod paths;
+mod peers;
+mod prints;
+mod providers;
+mod put_calls;
+mod put_events;
+mod put_lines;
+mod put_operations;
+mod scripts;
+mod short_lines;
+mod texts;
+
+pub use fails::ScriptFail;
+pub use laws::{can_spell, one_event, one_reading, reads_back};
+pub use prints::print;
+pub use scripts::read;
+
+#[cfg(test)]
+mod tests;

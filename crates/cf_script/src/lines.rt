@@ -1,0 +1,135 @@
+//! One line of a script.
+
+ghost use Rattle.std.specs.Prelude.{◌≡◌, map, IfOk, IsTrue};
+ghost use Rattle.cf_script.specs.Words.{Reads};
+ghost use Rattle.cf_script.specs.Names.{is_for_engine, is_for_provider, is_foreign};
+ghost use Rattle.cf_script.specs.Forms.{Follows, AreWords};
+ghost use Rattle.cf_script.specs.Script.{words_of, is_plain, Spells};
+
+use crate::calls::{
+    cancel, close, dehydrate, get, keep, pin_line, policy, ranges, read, rename, size, tick, write,
+};
+use crate::commands::{BareCommand, Command, NumberCommand, PathCommand};
+use crate::names::command;
+use crate::operations::{do_line, plan};
+use crate::peers::{link, peer};
+use crate::providers::{convert, mark, place, place_dir, update};
+use crate::short_lines::{bare, crash, on_number, on_path};
+use cf_base::{Event, Memory, Mode};
+use std::alloc::{AllocError, Global};
+
+fn is_for_engine(command: Command) -> bool
+    ensures { result ≡ is_for_engine command }
+{
+    match command {
+        Command::Bare(BareCommand::Work | BareCommand::Sync) => true,
+        Command::OnNumber(NumberCommand::Deliver | NumberCommand::Arrive | NumberCommand::Space) =>
+            { true }
+        Command::Peer | Command::Link => true,
+        _ => false,
+    }
+}
+
+fn is_for_provider(command: Command) -> bool
+    ensures { result ≡ is_for_provider command }
+{
+    match command {
+        Command::OnPath(PathCommand::Revert | PathCommand::Unmark) => true,
+        Command::Place | Command::PlaceDir | Command::Convert => true,
+        Command::Update | Command::Mark | Command::Do | Command::Plan => true,
+        _ => false,
+    }
+}
+
+/// Whether the other mode alone has the word.
+fn is_foreign(mode: Mode, command: Command) -> bool
+    ensures { result ≡ is_foreign mode command }
+{
+    match mode {
+        Mode::Replay => is_for_provider(command),
+        Mode::Filter => is_for_engine(command),
+    }
+}
+
+/// The event of a line that begins with this word, by the words after it.
+fn event_after(alloc: Global, command: Command, words: &[&str]) -> Result<Option<Event>, Memory>
+    ensures { IfOk result (Reads (Follows command (map (λ w. w.now) words.now))) }
+{
+    match command {
+        Command::Bare(command) => Ok(bare(command, words)),
+        Command::OnPath(command) => on_path(alloc, command, words),
+        Command::OnNumber(command) => on_number(alloc, command, words),
+        Command::Close => close(alloc, words),
+        Command::Cancel => cancel(alloc, words),
+        Command::Tick => tick(alloc, words),
+        Command::Read => read(alloc, words),
+        Command::Get => get(alloc, words),
+        Command::Write => write(alloc, words),
+        Command::Size => size(alloc, words),
+        Command::Rename => rename(alloc, words),
+        Command::Pin => pin_line(alloc, words),
+        Command::Dehydrate => dehydrate(alloc, words),
+        Command::Ranges => ranges(alloc, words),
+        Command::Policy => Ok(policy(words)),
+        Command::Keep => keep(alloc, words),
+        Command::Crash => crash(alloc, words),
+        Command::Peer => peer(alloc, words),
+        Command::Link => Ok(link(words)),
+        Command::Place => place(alloc, words),
+        Command::PlaceDir => place_dir(alloc, words),
+        Command::Convert => convert(alloc, words),
+        Command::Update => update(alloc, words),
+        Command::Mark => mark(alloc, words),
+        Command::Do => do_line(alloc, words),
+        Command::Plan => plan(alloc, words),
+    }
+}
+
+fn event_of(alloc: Global, mode: Mode, words: &[&str]) -> Result<Option<Event>, Memory>
+    ensures { IfOk result (Reads (AreWords mode (map (λ w. w.now) words.now))) }
+{
+    let [word, rest @ ..] = words else {
+        return Ok(None);
+    };
+    let Some(command) = command(word) else {
+        return Ok(None);
+    };
+    if is_foreign(mode, command) {
+        return Ok(None);
+    }
+    event_after(alloc, command, rest)
+}
+
+/// The words between single spaces.
+fn words_of(alloc: Global, line: &str) -> Result<Vec<&str>, AllocError>
+    ensures { IfOk result (λ v. map (λ w. w.now) v.items ≡ words_of line.now) }
+{
+    line.split(' ').collect(alloc)
+}
+
+fn event_of_text(alloc: Global, mode: Mode, line: &str) -> Result<Option<Event>, Memory>
+    ensures { IfOk result (Reads (AreWords mode (words_of line.now))) }
+{
+    let words = words_of(alloc, line)?;
+    event_of(alloc, mode, words.as_slice())
+}
+
+/// Whether there are no control bytes.
+fn is_plain(line: &[u8]) -> bool
+    ensures { result ≡ is_plain line.now }
+{
+    line.iter().all(|b| *b >= 32 && *b != 127)
+}
+
+/// The event that the line spells, or none.
+pub fn event_of_line(alloc: Global, mode: Mode, line: &[u8]) -> Result<Option<Event>, Memory>
+    ensures { IfOk result (Reads (Spells mode line.now)) }
+{
+    if !is_plain(line) {
+        return Ok(None);
+    }
+    match str::from_utf8(line) {
+        Ok(line) => event_of_text(alloc, mode, line),
+        Err(_) => Ok(None),
+    }
+}

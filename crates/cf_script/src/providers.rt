@@ -1,0 +1,145 @@
+//! The lines of a scripted provider that name a path.
+
+ghost use Rattle.std.specs.Prelude.{◌≡◌, [], ◌∷◌, map, IfOk};
+ghost use Rattle.cf_script.specs.Words.{Reads};
+ghost use Rattle.cf_script.specs.Forms.{IsPlace, IsPlaceDir, IsConvert, IsUpdate, IsMark};
+
+use crate::data::identity;
+use crate::names::in_sync;
+use crate::numbers::{number, usn};
+use crate::paths::path;
+use cf_base::{Event, Memory, ProviderEvent};
+use std::alloc::Global;
+
+/// `place P NUM IDENT`, with `insync` after it or not.
+pub fn place(alloc: Global, words: &[&str]) -> Result<Option<Event>, Memory>
+    ensures { IfOk result (Reads (IsPlace (map (λ w. w.now) words.now))) }
+{
+    let [target, size, identity_word, flag @ ..] = words else {
+        return Ok(None);
+    };
+    let Some(path) = path(alloc, target)? else {
+        return Ok(None);
+    };
+    let Some(size) = number(alloc, size)? else {
+        return Ok(None);
+    };
+    let Some(identity) = identity(alloc, identity_word)? else {
+        return Ok(None);
+    };
+    let Some(in_sync) = in_sync(flag) else {
+        return Ok(None);
+    };
+    Ok(Some(Event::Provider(ProviderEvent::Place {
+        path,
+        size,
+        identity,
+        in_sync,
+    })))
+}
+
+/// `placedir P IDENT`, with `insync` after it or not.
+pub fn place_dir(alloc: Global, words: &[&str]) -> Result<Option<Event>, Memory>
+    ensures { IfOk result (Reads (IsPlaceDir (map (λ w. w.now) words.now))) }
+{
+    let [target, identity_word, flag @ ..] = words else {
+        return Ok(None);
+    };
+    let Some(path) = path(alloc, target)? else {
+        return Ok(None);
+    };
+    let Some(identity) = identity(alloc, identity_word)? else {
+        return Ok(None);
+    };
+    let Some(in_sync) = in_sync(flag) else {
+        return Ok(None);
+    };
+    Ok(Some(Event::Provider(ProviderEvent::PlaceDir {
+        path,
+        identity,
+        in_sync,
+    })))
+}
+
+/// `convert P IDENT`.
+pub fn convert(alloc: Global, words: &[&str]) -> Result<Option<Event>, Memory>
+    ensures { IfOk result (Reads (IsConvert (map (λ w. w.now) words.now))) }
+{
+    let [target, word] = words else {
+        return Ok(None);
+    };
+    let Some(path) = path(alloc, target)? else {
+        return Ok(None);
+    };
+    let Some(identity) = identity(alloc, word)? else {
+        return Ok(None);
+    };
+    Ok(Some(Event::Provider(ProviderEvent::Convert { path, identity })))
+}
+
+fn update_in_place(alloc: Global, target: &str, word: &str) -> Result<Option<Event>, Memory>
+    ensures { IfOk result (Reads (IsUpdate (target.now ∷ word.now ∷ []))) }
+{
+    let Some(path) = path(alloc, target)? else {
+        return Ok(None);
+    };
+    let Some(identity) = identity(alloc, word)? else {
+        return Ok(None);
+    };
+    Ok(Some(Event::Provider(ProviderEvent::Update {
+        path,
+        identity,
+        size: None,
+    })))
+}
+
+fn update_sized(
+    alloc: Global,
+    target: &str,
+    word: &str,
+    size: &str,
+) -> Result<Option<Event>, Memory>
+    ensures { IfOk result (Reads (IsUpdate (target.now ∷ word.now ∷ size.now ∷ []))) }
+{
+    let Some(path) = path(alloc, target)? else {
+        return Ok(None);
+    };
+    let Some(identity) = identity(alloc, word)? else {
+        return Ok(None);
+    };
+    let Some(size) = number(alloc, size)? else {
+        return Ok(None);
+    };
+    Ok(Some(Event::Provider(ProviderEvent::Update {
+        path,
+        identity,
+        size: Some(size),
+    })))
+}
+
+/// `update P IDENT`, or with a size.
+pub fn update(alloc: Global, words: &[&str]) -> Result<Option<Event>, Memory>
+    ensures { IfOk result (Reads (IsUpdate (map (λ w. w.now) words.now))) }
+{
+    match words {
+        [target, word] => update_in_place(alloc, target, word),
+        [target, word, size] => update_sized(alloc, target, word, size),
+        _ => Ok(None),
+    }
+}
+
+/// `mark P PAIR`.
+pub fn mark(alloc: Global, words: &[&str]) -> Result<Option<Event>, Memory>
+    ensures { IfOk result (Reads (IsMark (map (λ w. w.now) words.now))) }
+{
+    let [target, word] = words else {
+        return Ok(None);
+    };
+    let Some(path) = path(alloc, target)? else {
+        return Ok(None);
+    };
+    let Some(number) = usn(alloc, word)? else {
+        return Ok(None);
+    };
+    Ok(Some(Event::Provider(ProviderEvent::Mark { path, number })))
+}

@@ -1,0 +1,88 @@
+//! Scripts.
+
+ghost use Rattle.std.specs.Prelude.{◌≡◌, ◌+◌, ◌<◌, ◌^◌, ◌==◌, ℕ, List, ◌∷◌, length, position, IfOk, IfErr, MatchResult, IsTrue};
+ghost use Rattle.std.specs.List.{list_all};
+ghost use Rattle.cf_base.specs.declared.events.Event.{Event};
+ghost use Rattle.cf_script.specs.Script.{IsScript, lines_of, is_event_line};
+ghost use Rattle.cf_script.specs.Built.{is_built};
+ghost use Rattle.cf_script.specs.Fail.{IsCause};
+
+use crate::built::is_built;
+use crate::fails::ScriptFail;
+use crate::lines::event_of_line;
+use cf_base::{Event, Mode, Sequence};
+use std::alloc::Global;
+
+/// The most events that a script has.
+const MOST_EVENTS: usize = 100_000;
+
+fn line_end(text: &[u8]) -> Option<usize>
+    ensures { result ≡ position (λ b. b == 10) text.now }
+{
+    text.iter().position(|b| *b == b'\n')
+}
+
+/// The first line, and what stands after it.
+fn next_line(text: &[u8]) -> (&[u8], &[u8])
+    requires { 0 < length text.now }
+    ensures line { lines_of text.now ≡ result.0.now ∷ lines_of result.1.now }
+    ensures shorter { length result.1.now < length text.now }
+{
+    match line_end(text) {
+        Some(end) => (&text[..end], &text[end + 1..]),
+        None => (text, &[]),
+    }
+}
+
+fn is_event_line(line: &[u8]) -> bool
+    ensures { result ≡ is_event_line line.now }
+{
+    match line {
+        [] => false,
+        [first, ..] => *first != b'#',
+    }
+}
+
+fn read_lines(alloc: Global, text: &[u8], mode: Mode) -> Result<Vec<Event>, ScriptFail>
+    requires { length text.now < 2 ^ 32 }
+    ensures ok { IfOk result (λ events. IsScript mode text.now events.items) }
+    ensures built { IfOk result (λ events. IsTrue (list_all (is_built mode) events.items)) }
+    ensures cause { IfErr result (IsCause mode (lines_of text.now)) }
+{
+    let mut events = Vec::new(alloc);
+    let mut rest = text;
+    let mut number: u32 = 0;
+    while !rest.is_empty() {
+        let (line, after) = next_line(rest);
+        number += 1;
+        rest = after;
+        if is_event_line(line) {
+            let Some(event) = event_of_line(alloc, mode, line)? else {
+                return Err(ScriptFail::Syntax(number));
+            };
+            if events.len() == MOST_EVENTS {
+                return Err(ScriptFail::TooManyEvents(number));
+            }
+            if !is_built(mode, &event) {
+                return Err(ScriptFail::NotBuilt(number));
+            }
+            events.push(event)?;
+        }
+    }
+    Ok(events)
+}
+
+/// The events of a script, in order. The text has less than 4 GiB.
+///
+/// Refused as Syntax, TooManyEvents or NotBuilt with the number of the first line that is bad, has one event too many
+/// or is not built, and as Memory.
+pub fn read(alloc: Global, text: &[u8], mode: Mode) -> Result<Sequence<Event>, ScriptFail>
+    requires { length text.now < 2 ^ 32 }
+    ensures ok { IfOk result (λ events. IsScript mode text.now events) }
+    ensures built { IfOk result (λ events. IsTrue (list_all (is_built mode) events)) }
+    ensures cause { IfErr result (IsCause mode (lines_of text.now)) }
+    ensures complete { (events : List Event) → IsScript mode text.now events → IsTrue (list_all (is_built mode) events) → MatchResult result (λ read. read ≡ events) (λ fail. fail ≡ ScriptFail.Memory) }
+{
+    let events = read_lines(alloc, text, mode)?;
+    Ok(Sequence::from_vec(events))
+}
