@@ -1,0 +1,17 @@
+//! The clusters of a volume, which hold the bytes of its blocks.
+//!
+//! A block is staged into a cluster that neither the last commit nor the state now holds, so that a crash leaves the
+//! last commit's clusters as they were. A cluster that the state drops is free again once no commit holds it. Contracts
+//! see `Data` as the list of its clusters' uses, by number.
+#![tactic(auto)]
+
+mod clusters;
+mod laws;
+mod orders;
+#[cfg(test)]
+mod tests;
+mod uses;
+
+pub use clusters::{Data, DataFail};
+pub use laws::{commit_frees_all_else, one_more_or_less, stages_find_room, uses_add_up};
+pub use uses::Use;
