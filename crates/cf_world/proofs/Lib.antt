@@ -1,0 +1,5 @@
+pub mod Paths
+pub mod Places
+pub mod Traces
+pub mod Ends
+pub mod Words
