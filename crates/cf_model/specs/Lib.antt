@@ -8,6 +8,7 @@ pub mod Calls
 pub mod Changes
 pub mod ConflictNames
 pub mod Contents
+pub mod Costs
 pub mod Dehydration
 pub mod Effects
 pub mod EngineEvents
@@ -15,6 +16,7 @@ pub mod Events
 pub mod Feeds
 pub mod Fetching
 pub mod Fits
+pub mod Flushed
 pub mod Formats
 pub mod Frames
 pub mod Given
@@ -36,6 +38,7 @@ pub mod Peers
 pub mod Placements
 pub mod Plans
 pub mod Points
+pub mod Ports
 pub mod Powers
 pub mod PushReplies
 pub mod Pushes
@@ -55,5 +58,3 @@ pub mod Trees
 pub mod Verdicts
 pub mod Waits
 pub mod Words
-pub mod Flushed
-pub mod Ports
