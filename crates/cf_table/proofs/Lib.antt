@@ -1,0 +1,14 @@
+pub mod Above
+pub mod ByteMeans
+pub mod Fields
+pub mod Finds
+pub mod Lengths
+pub mod MarkMeans
+pub mod Meaning
+pub mod NewMeans
+pub mod Places
+pub mod Searched
+pub mod Stays
+pub mod TableLens
+pub mod TableMeans
+pub mod Told

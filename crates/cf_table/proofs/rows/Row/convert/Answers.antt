@@ -1,0 +1,20 @@
+use Rattle.std.proofs.Common.{◌≡◌, ◌&&◌, ◌||◌, ◌∙◌, Bool, ℕ, List, [], Some, None, ap, cond, false, refl, subst, sym, true}
+use Rattle.cf_table.proofs.Told.{Told, means, told, told_by_row}
+use Rattle.cf_table.proofs.Above.{numbers_later}
+use Rattle.cf_model.specs.Numbers.{above}
+use Rattle.cf_table.proofs.rows.Row.convert.Goals as goal
+
+pub returns-clause-means : goal.returns-clause-means
+returns-clause-means c = λ i m.
+    means _ _ (ap (λ (x : Told). record x { placeholder = true; identity = c.args.identity; in_sync = false; number = c.args.number }) (told c.args.self.now i m)) (
+    record {
+      size = m.bytes.size;
+      even = m.bytes.even;
+      numbers = numbers_later i.number c.args.number i.writes (ap (λ a. above c.args.number a) (sym m.number) ∙ c.requires.number) m.bytes.numbers;
+      dirty = m.bytes.dirty;
+      dirty_since = m.bytes.dirty_since;
+      here = m.bytes.here;
+      valid = m.bytes.valid;
+      modified = m.bytes.modified;
+      modified_since = m.bytes.modified_since;
+    })

@@ -1,0 +1,5 @@
+pub mod Applied
+pub mod Changing
+pub mod Means
+pub mod Spelling
+pub mod Tables

@@ -1,0 +1,233 @@
+//! Changes applied to the rows of a volume.
+
+ghost use Rattle.std.specs.Prelude.{◌≡◌, ◌≤◌, ◌<◌, ◌+◌, ◌∷◌, ◌++◌, [], ℕ, List, All, MatchOption, get_or, length, max, true, false, OnOk, OnErr, IfOk};
+ghost use Rattle.cf_model.specs.Effects.{copied, copies, effect, made};
+ghost use Rattle.cf_model.specs.Items.{Item, item_of, pin_of};
+ghost use Rattle.cf_model.specs.Numbers.{above, no_usn};
+ghost use Rattle.cf_table.specs.Applied.{IsSpellable};
+ghost use Rattle.cf_table.specs.Changing.{AddsRow, Fits, FitsRows, IsNewItem, IsNext, item_of_change, Leaves, next_after, pin_for, stays};
+ghost use Rattle.cf_table.specs.Means.{IsFresh, Means};
+ghost use Rattle.cf_table.specs.Tables.{MeansAll, RisesFrom, row_of};
+ghost use Rattle.cf_table.specs.declared.rows.Row.{Row};
+
+use crate::new_rows::Place;
+use crate::row_lists::{change_at, find_row, pin_of, push_row};
+use crate::rows::Row;
+use crate::tables::Rows;
+use cf_base::{Blob, Change, Identity, ItemId, Kind, Memory, Name, Pin, Usn};
+use std::alloc::Global;
+
+fn item_of(change: &Change) -> ItemId
+    ensures { result ≡ item_of_change change.now }
+{
+    match change {
+        Change::Make { item, .. } => *item,
+        Change::Remove { item, .. } => *item,
+        Change::Move { item, .. } => *item,
+        Change::Write { item, .. } => *item,
+        Change::Size { item, .. } => *item,
+        Change::Filled { item, .. } => *item,
+        Change::Validated { item, .. } => *item,
+        Change::Emptied { item, .. } => *item,
+        Change::SetPin { item, .. } => *item,
+        Change::Mark { item, .. } => *item,
+        Change::Clear { item, .. } => *item,
+        Change::Convert { item, .. } => *item,
+        Change::Revert { item, .. } => *item,
+        Change::Rebase { item, .. } => *item,
+        Change::Take { item, .. } => *item,
+        Change::Copy { item, .. } => *item,
+        Change::Populated { item, .. } => *item,
+        Change::Keep { item, .. } => *item,
+    }
+}
+
+fn stays(change: &Change) -> bool
+    ensures { result ≡ stays change.now }
+{
+    !matches!(
+        change,
+        Change::Make { .. } | Change::Remove { .. } | Change::Copy { .. }
+    )
+}
+
+fn pin_for(rows: &[Row], change: &Change) -> Pin
+    requires { RisesFrom 0 rows.now }
+    ensures { result ≡ pin_for change.now rows.now }
+{
+    match change {
+        Change::Move { parent, .. } => pin_of(rows, *parent),
+        _ => Pin::Unspecified,
+    }
+}
+
+fn copied_row(alloc: Global, rows: &[Row], source: usize, place: Place) -> Result<Row, Memory>
+    requires source { source < length rows.now }
+    requires later { (d : Row) → above place.number (get_or rows.now source d).number ≡ true }
+    requires identity { (d : Row) → 8 ≤ length (get_or rows.now source d).identity }
+    requires name { length place.name ≤ 255 }
+    requires spellable { (d : Row) → length (get_or rows.now source d).identity ≤ 65535 }
+    ensures means { IfOk result (λ r. (i : Item) → Means (get_or rows.now source r) i → Means r (copied place.id place.parent place.name place.pin place.number i)) }
+    ensures fresh { IfOk result IsFresh }
+    ensures id { IfOk result (λ r. r.id ≡ place.id) }
+    ensures spellable { IfOk result IsSpellable }
+{
+    rows[source].copied(alloc, place)
+}
+
+impl Rows {
+    /// Applies a change under its number. Without memory, or where a new item finds 65,536 rows already, the rows are as
+    /// before.
+    pub fn apply(&mut self, change: &Change, number: Usn) -> Result<(), Memory>
+        requires fits { Fits change.now self.old.rows }
+        requires after { above number no_usn ≡ true }
+        requires later { IsNext number self.old.rows }
+        ensures ok { OnOk result ((items : List Item) → MeansAll self.old.rows items → MeansAll self.new.rows (effect items change.now number)) }
+        ensures leaves { OnOk result (Leaves change.now self.old.rows self.new.rows) }
+        ensures next { OnOk result (self.new.next ≡ next_after change.now self.old.next) }
+        ensures err { OnErr result (self.new ≡ self.old) }
+    {
+        if stays(change) {
+            self.change(item_of(change), change, number)
+        } else {
+            self.come_or_go(change, number)
+        }
+    }
+
+    fn come_or_go(&mut self, change: &Change, number: Usn) -> Result<(), Memory>
+        requires kind { stays change.now ≡ false }
+        requires fits { Fits change.now self.old.rows }
+        requires after { above number no_usn ≡ true }
+        requires later { IsNext number self.old.rows }
+        ensures ok { OnOk result ((items : List Item) → MeansAll self.old.rows items → MeansAll self.new.rows (effect items change.now number)) }
+        ensures leaves { OnOk result (Leaves change.now self.old.rows self.new.rows) }
+        ensures next { OnOk result (self.new.next ≡ next_after change.now self.old.next) }
+        ensures err { OnErr result (self.new ≡ self.old) }
+    {
+        match change {
+            Change::Make {
+                item,
+                parent,
+                name,
+                kind,
+                size,
+                identity,
+            } => self.make(*item, *parent, name, *kind, *size as u32, identity, number),
+            Change::Copy {
+                item,
+                from,
+                parent,
+                name,
+            } => self.add_copy(*item, *from, *parent, name, number),
+            Change::Remove { item } => {
+                self.remove_row(*item);
+                Ok(())
+            }
+            _ => unreachable!(),
+        }
+    }
+
+    fn make(
+        &mut self,
+        item: ItemId,
+        parent: ItemId,
+        name: &Name,
+        kind: Kind,
+        size: u32,
+        identity: &Identity,
+        number: Usn,
+    ) -> Result<(), Memory>
+        requires new { IsNewItem item self.old.rows }
+        requires name { length name.now ≤ 255 }
+        requires identity { length identity.now ≤ 65535 }
+        requires after { above number no_usn ≡ true }
+        ensures ok { OnOk result ((items : List Item) → MeansAll self.old.rows items → MeansAll self.new.rows (items ++ made item parent name.now kind size identity.now (pin_of items parent) number ∷ [])) }
+        ensures adds { OnOk result (AddsRow item self.old.rows self.new.rows) }
+        ensures next { OnOk result (self.new.next ≡ record { 0 = max self.old.next.0 (item.0 + 1) }) }
+        ensures err { OnErr result (self.new ≡ self.old) }
+    {
+        let place = Place {
+            id: item,
+            parent,
+            name: Blob::from_slice(self.alloc, name.as_slice())?,
+            pin: pin_of(&self.rows, parent),
+            number,
+        };
+        let row = Row::made(self.alloc, place, kind, size, identity.copy()?);
+        self.add(row)
+    }
+
+    fn add_copy(
+        &mut self,
+        item: ItemId,
+        from: ItemId,
+        parent: ItemId,
+        name: &Name,
+        number: Usn,
+    ) -> Result<(), Memory>
+        requires new { IsNewItem item self.old.rows }
+        requires name { length name.now ≤ 255 }
+        requires source { MatchOption (row_of self.old.rows from) ⊥ (λ r. 8 ≤ length r.identity) }
+        requires later { IsNext number self.old.rows }
+        ensures ok { OnOk result ((items : List Item) → MeansAll self.old.rows items → MeansAll self.new.rows (items ++ copies item parent name.now (pin_of items parent) number (item_of items from))) }
+        ensures adds { OnOk result (AddsRow item self.old.rows self.new.rows) }
+        ensures next { OnOk result (self.new.next ≡ record { 0 = max self.old.next.0 (item.0 + 1) }) }
+        ensures err { OnErr result (self.new ≡ self.old) }
+    {
+        match find_row(&self.rows, from.0) {
+            Ok(source) => {
+                let place = Place {
+                    id: item,
+                    parent,
+                    name: Blob::from_slice(self.alloc, name.as_slice())?,
+                    pin: pin_of(&self.rows, parent),
+                    number,
+                };
+                let row = copied_row(self.alloc, &self.rows, source, place)?;
+                self.add(row)
+            }
+            Err(_) => unreachable!(),
+        }
+    }
+
+    fn add(&mut self, row: Row) -> Result<(), Memory>
+        requires new { IsNewItem row.id self.old.rows }
+        requires spellable { IsSpellable row }
+        ensures ok { OnOk result (self.new ≡ record { rows = self.old.rows ++ row ∷ []; next = record { 0 = max self.old.next.0 (row.id.0 + 1) } }) }
+        ensures err { OnErr result (self.new ≡ self.old) }
+    {
+        let next = self.next.0.max(row.id.0 + 1);
+        self.len = push_row(&mut self.rows, row, self.len)?;
+        self.next = ItemId(next);
+        Ok(())
+    }
+
+    // A change of an item that stays.
+    fn change(&mut self, id: ItemId, change: &Change, number: Usn) -> Result<(), Memory>
+        requires kind { stays change.now ≡ true }
+        requires id { id ≡ item_of_change change.now }
+        requires fits { FitsRows change.now self.old.rows }
+        requires later { IsNext number self.old.rows }
+        ensures ok { OnOk result ((items : List Item) → MeansAll self.old.rows items → MeansAll self.new.rows (effect items change.now number)) }
+        ensures rest { OnOk result (Leaves change.now self.old.rows self.new.rows) }
+        ensures next { self.new.next ≡ next_after change.now self.old.next }
+        ensures err { OnErr result (self.new ≡ self.old) }
+    {
+        let pin = pin_for(&self.rows, change);
+        match find_row(&self.rows, id.0) {
+            Ok(place) => {
+                self.len = change_at(
+                    self.alloc,
+                    &mut self.rows,
+                    place,
+                    self.len,
+                    change,
+                    pin,
+                    number,
+                )?;
+                Ok(())
+            }
+            Err(_) => Ok(()),
+        }
+    }
+}

@@ -1,0 +1,151 @@
+//! The rows of a volume.
+
+ghost use Rattle.std.specs.Prelude.{◌≡◌, ◌≤◌, ◌<◌, ◌+◌, ◌∷◌, [], ℕ, List, All, length, max, true, OnOk, OnErr, IfOk, MatchOption, None, option_copied};
+ghost use Rattle.cf_base.specs.declared.changes.Change.{Change};
+ghost use Rattle.cf_model.specs.Effects.{changed, copies, made};
+ghost use Rattle.cf_model.specs.Items.{Item, item_of, pin_of, root};
+ghost use Rattle.cf_model.specs.Numbers.{above, no_usn};
+ghost use Rattle.cf_ranges.specs.Pairs.{cluster_at};
+ghost use Rattle.cf_table.specs.Applied.{item_effect, SetsAnchor, SetsExtent, Steps, Touches, IsSpellable};
+ghost use Rattle.cf_table.specs.Changing.{FitsRows, IsNewItem, IsNext, item_of_change};
+ghost use Rattle.cf_table.specs.Means.{KeepsRest};
+ghost use Rattle.cf_table.specs.Tables.{MeansAll, row_of, rows_len, SetsRow, with_row, without_row};
+
+use crate::new_rows::Place;
+use crate::row_lists::{
+    anchor_at, change_at, extent_at, find_row, pin_of, push_row, put_row, remove_at, touch_at,
+};
+use crate::rows::Row;
+use cf_base::{Blob, Change, Identity, ItemId, Kind, Memory, Name, Pin, Usn};
+use std::alloc::Global;
+use std::marker::Model;
+
+/// The rows of a volume, by id. Contracts see them in order of id, with the id that the next item gets.
+#[derive(Debug, Drop)]
+pub struct Rows {
+    pub(crate) rows: Vec<Row>,
+    pub(crate) next: ItemId,
+    pub(crate) len: u64,
+    pub(crate) alloc: Global,
+}
+
+impl Model for Rows {
+    ghost use Rattle.cf_table.specs.Tables.{IsTable, Table};
+
+    ghost Value = { Table };
+
+    ghost view = { λ t. record { rows = t.rows.items; next = t.next } };
+
+    ghost invariant = { λ t. IsTable t.rows.items t.len };
+}
+
+impl Rows {
+    /// The rows of a new volume: the root alone. They keep their allocator.
+    pub fn new(alloc: Global) -> Result<Rows, Memory>
+        ensures means { IfOk result (λ t. MeansAll t.rows (root ∷ [])) }
+        ensures next { IfOk result (λ t. t.next.0 ≡ 2) }
+    {
+        let row = Row::root(alloc)?;
+        let mut rows = Vec::new(alloc);
+        let len = push_row(&mut rows, row, 0)?;
+        Ok(Rows {
+            rows,
+            next: ItemId(2),
+            len,
+            alloc,
+        })
+    }
+
+    /// The row of an item. By a binary search.
+    pub fn get(&self, id: ItemId) -> Option<&Row>
+        ensures { option_copied result ≡ row_of self.now.rows id }
+    {
+        match find_row(&self.rows, id.0) {
+            Ok(place) => Some(&self.rows[place]),
+            Err(_) => None,
+        }
+    }
+
+    /// The id that the next item gets.
+    pub fn next(&self) -> ItemId
+        ensures { result ≡ self.now.next }
+    {
+        self.next
+    }
+
+    /// How many bytes spell the rows, after the four of their count. It is kept and not computed.
+    pub fn image_len(&self) -> u64
+        ensures { result ≡ rows_len self.now.rows }
+    {
+        self.len
+    }
+
+    /// Puts the row in place of the one with its id, or adds it. Without memory, or where there are 65,536 rows already,
+    /// the rows are as before.
+    pub fn put_row(&mut self, row: Row) -> Result<(), Memory>
+        requires { IsSpellable row }
+        ensures ok { OnOk result (self.new ≡ record self.old { rows = with_row row self.old.rows }) }
+        ensures err { OnErr result (self.new ≡ self.old) }
+    {
+        self.len = put_row(&mut self.rows, row, self.len)?;
+        Ok(())
+    }
+
+    /// Takes the row with the id out, if there is one.
+    pub fn remove_row(&mut self, id: ItemId)
+        ensures { self.new ≡ record self.old { rows = without_row id self.old.rows } }
+    {
+        match find_row(&self.rows, id.0) {
+            Ok(place) => self.len = remove_at(&mut self.rows, place, self.len),
+            Err(_) => {}
+        }
+    }
+
+    /// Sets the id that the next item gets.
+    pub fn set_next(&mut self, next: ItemId)
+        ensures { self.new ≡ record self.old { next = next } }
+    {
+        self.next = next;
+    }
+
+    /// Makes the cluster that of a block of the item, or takes the block out where there is none. Gives the one before,
+    /// and None where there is no such item, where nothing changes. Without memory the rows are as before.
+    pub fn set_extent(
+        &mut self,
+        id: ItemId,
+        block: u32,
+        cluster: Option<u32>,
+    ) -> Result<Option<u32>, Memory>
+        ensures before { IfOk result (λ before. MatchOption (row_of self.old.rows id) (before ≡ None) (λ r. before ≡ cluster_at r.extents block)) }
+        ensures ok { OnOk result (SetsRow (SetsExtent block cluster) id self.old.rows self.new.rows) }
+        ensures next { self.new.next ≡ self.old.next }
+        ensures err { OnErr result (self.new ≡ self.old) }
+    {
+        match find_row(&self.rows, id.0) {
+            Ok(place) => extent_at(&mut self.rows, place, &mut self.len, block, cluster),
+            Err(_) => Ok(None),
+        }
+    }
+
+    /// Makes the anchor of the item its number.
+    pub fn set_anchor(&mut self, id: ItemId)
+        ensures sets { SetsRow SetsAnchor id self.old.rows self.new.rows }
+        ensures next { self.new.next ≡ self.old.next }
+    {
+        match find_row(&self.rows, id.0) {
+            Ok(place) => self.len = anchor_at(self.alloc, &mut self.rows, place, self.len),
+            Err(_) => {}
+        }
+    }
+
+    /// Sets the clock of the item's last access.
+    pub fn touch(&mut self, id: ItemId, clock: u64)
+        ensures sets { SetsRow (Touches clock) id self.old.rows self.new.rows }
+        ensures next { self.new.next ≡ self.old.next }
+    {
+        match find_row(&self.rows, id.0) {
+            Ok(place) => touch_at(&mut self.rows, place, clock),
+            Err(_) => {}
+        }
+    }
+}
