@@ -1,0 +1,4 @@
+pub mod Covers
+pub mod Flags
+pub mod Runs
+pub mod Slices
