@@ -1,0 +1,316 @@
+-- What the entries of a feed keep in `replay`.
+use Rattle.std.proofs.Common.{◌≡◌, ◌⊎◌, ◌<◌, ◌+◌, ℕ, Bool, true, false, List, [], ◌∷◌, refl, sym, ◌∙◌, ap, subst, inl, inr, max, arith, length}
+use Rattle.std.specs.Prelude.{Option, Some, None, not, filter, nat_lt, take, ◌&&◌}
+use Rattle.std.proofs.lemmas.Bool.Decides.{nat_tests}
+use Rattle.cf_base.specs.declared.changes.Change.{Change}
+use Rattle.cf_base.specs.declared.changes.Change.TheVariants as change
+use Rattle.cf_base.specs.declared.codes.Code.{Code}
+use Rattle.cf_base.specs.declared.ids.ItemId.{ItemId}
+use Rattle.cf_base.specs.declared.ids.Usn.{Usn}
+use Rattle.cf_base.specs.declared.messages.Entry.{Entry}
+use Rattle.cf_base.specs.declared.notices.Notice.TheVariants as notice
+use Rattle.cf_model.specs.Arrows.{Arrow, Preserves, and_then, choose, only_if}
+use Rattle.cf_model.specs.Books.{QueueEntry, book_after}
+use Rattle.cf_model.specs.Changes.{change as put, next_number, put_with_book, same_book}
+use Rattle.cf_model.specs.Contents.{base_named}
+use Rattle.cf_model.specs.Effects.{effect, untargeted}
+use Rattle.cf_model.specs.ConflictNames.{conflict_name}
+use Rattle.cf_model.specs.Feeds.{adopt, copy_off, free_parent, gone, gone_unless, is_adoptable, is_newer, is_removable, is_under, make_after, make_entry, make_of, move_entry, move_in, name_in_root, new_entry, new_over, remove_or_untarget, seen_entry, stands_in, take_over, taken, turn, untarget}
+use Rattle.cf_model.specs.Identities.{base_version, entry_identity, identity_of, is_untargeted, no_identity}
+use Rattle.cf_model.specs.Items.{Item, base_of, is_dirty, item_of}
+use Rattle.cf_model.specs.Logs.{next_by}
+use Rattle.cf_model.specs.LookUp.{child_of, is_child_named}
+use Rattle.cf_model.specs.Numbers.{no_item, no_rid, no_usn, no_version, root_id}
+use Rattle.cf_model.specs.Requests.{Waiting}
+use Rattle.cf_model.specs.Skips.{do_change, in_use, skip_line, try_change, try_clear_name, try_mark_now, try_seen}
+use Rattle.cf_model.specs.Soundness.{Each}
+use Rattle.cf_model.specs.State.{Link, State, Volume, book_now, items_now, with_filter, with_notes, with_volume}
+use Rattle.cf_model.specs.Points.{with_point_begun, with_room_point}
+use Rattle.cf_model.specs.Store.{Held}
+use Rattle.cf_model.specs.Trees.{Keeps}
+use Rattle.cf_model.specs.Words.{number_of, same, says}
+use Rattle.cf_model.proofs.TreeLaws.{keeps_bind, keeps_mapped}
+use Rattle.cf_laws.specs.Fitting.{Fits, NamesWell, NoEntry}
+use Rattle.cf_laws.specs.Invariant.{HasEntry, IsRight, SameBase, version_in, waits_on}
+use Rattle.cf_laws.specs.Premises.{IsFair}
+use Rattle.cf_laws.proofs.EntryLaws.{dir_identity, dir_none, dir_well, file_wants, make_fits, none_none}
+use Rattle.cf_laws.proofs.FitEntries.{kind_stays}
+use Rattle.cf_laws.proofs.FitItems.{each_changed}
+use Rattle.cf_laws.proofs.FoundItems.{found_again}
+use Rattle.cf_laws.proofs.Gathered.{each_all, each_any, each_both, each_weaker}
+use Rattle.cf_laws.proofs.Leading.{kept_leads}
+use Rattle.cf_laws.proofs.RightItems.{both_none, same_based, same_none, untargeted_same}
+use Rattle.cf_laws.proofs.SkipsGuarded.{Framing, Skipping, Whichever, and_then_at, and_then_keeps, framed, item_frame, keeps_first, move_keeps, only_if_at, try_change_at, try_clear_name_keeps, try_mark_now_keeps, try_seen_keeps}
+use Rattle.cf_laws.proofs.SoundChanges.{same_entries}
+use Rattle.cf_laws.proofs.SoundFilters.{change_leads}
+use Rattle.cf_laws.proofs.SoundSettles.{each_found, found_below, left_true, not_true, right_true}
+
+-- What a feed leaves as it is: the link, the waits and asks, and the uploads on their way.
+pub record Feeding (l : Link) (w : Waiting) (es : List QueueEntry) (s : State) : Type 0 where
+  pub link : s.link ≡ l
+  pub waiting : s.filter.waiting ≡ w
+  pub entries : (book_now s).entries ≡ es
+
+fed_by : (l : Link) (w : Waiting) (es : List QueueEntry) (s : State) (v : Volume) → v.book.entries ≡ (book_now s).entries → Feeding l w es s → Feeding l w es (with_filter (with_volume v s.filter) s)
+fed_by l w es s v e h = record { link = h.link; waiting = h.waiting; entries = e ∙ h.entries }
+
+fed_change : (l : Link) (w : Waiting) (es : List QueueEntry) (c : Change) (s : State) → Feeding l w es s → Keeps (Feeding l w es) (do_change c s)
+fed_change l w es c s h =
+    keeps_mapped (λ x. Feeding l w es (with_filter x s)) (Feeding l w es) (λ x. with_filter x s) (put c s.filter) (λ x j. j)
+    (kept_leads (λ x. Feeding l w es (with_filter x s)) (put c s.filter)
+    (change_leads (λ x. Feeding l w es (with_filter x s)) (λ x. Feeding l w es (with_filter x s)) same_book c s.filter h (fed_by l w es s (with_point_begun s.filter.volume) refl h) (fed_by l w es s (with_room_point s.filter.volume) refl h)
+    (λ v is. by v is))) where
+      by : (v : Volume) → (v ≡ s.filter.volume) ⊎ (v ≡ with_room_point s.filter.volume) → Feeding l w es (with_filter (with_notes (notice.Change (next_number v) c ∷ []) (with_volume (put_with_book same_book c v) s.filter)) s)
+      by v (inl e) = record { link = h.link; waiting = h.waiting; entries = ap (λ (u : Volume). (book_after c u.book).entries) e ∙ same_entries c s.filter.volume.book ∙ h.entries }
+      by v (inr e) = record { link = h.link; waiting = h.waiting; entries = ap (λ (u : Volume). (book_after c u.book).entries) e ∙ same_entries c s.filter.volume.book ∙ h.entries }
+
+fed_line : (l : Link) (w : Waiting) (es : List QueueEntry) (b : Bool) (c : Code) (s : State) → Feeding l w es s → Feeding l w es (skip_line b c s)
+fed_line l w es true c s h = record { link = h.link; waiting = h.waiting; entries = h.entries }
+fed_line l w es false c s h = h
+
+pub feeding : (l : Link) (w : Waiting) (es : List QueueEntry) → Framing Whichever (Feeding l w es)
+feeding l w es = record {
+  change = λ c s ok fit h. fed_change l w es c s h;
+  books = λ f s keeps h. record { link = h.link; waiting = h.waiting; entries = keeps (book_now s) ∙ h.entries };
+  skips = λ c s h. fed_line l w es s.running.shows_skips c (record s { running = record s.running { skips = s.running.skips + 1 } }) (record { link = h.link; waiting = h.waiting; entries = h.entries });
+}
+
+-- what a feed needs: no upload is on its way
+pub record Feeds (l : Link) (w : Waiting) (es : List QueueEntry) (P : State → Type 0) : Type 0 where
+  pub steps : Skipping Whichever P
+  pub fed : (s : State) → P s → Feeding l w es s
+  pub none : IsFair l → es ≡ []
+
+-- an entry that was told
+pub record IsTold (l : Link) (e : Entry) : Type 0 where
+  pub has : IsFair l → HasEntry l.remote e
+  pub dir : e.dir ≡ true → e.version.0 ≡ 0
+
+pub fair_now : (l : Link) (w : Waiting) (es : List QueueEntry) (s : State) → Feeding l w es s → IsFair s.link → IsFair l
+fair_now l w es s h fair = subst IsFair h.link fair
+
+pub mark_ok : (item : ItemId) (n : Usn) → Whichever (change.Mark item n)
+mark_ok item n = tt
+
+move_ok : (item parent : ItemId) (name : List ℕ) → Whichever (change.Move item parent name)
+move_ok item parent name = tt
+
+right_now : (P : State → Type 0) → Skipping Whichever P → (s : State) → P s → IsFair s.link → (id : ItemId) → Each id (IsRight s.link.remote (next_number s.filter.volume)) (items_now s)
+right_now P steps s h fair id = each_all id (IsRight s.link.remote (next_number s.filter.volume)) (IsRight s.link.remote (next_number s.filter.volume)) (λ i k. k) (items_now s) (steps.sound s h fair).now.right
+
+pub turn_at : (P : State → Type 0) (f : Arrow State Bool) (s : State) → Keeps P (f s) → Keeps P (turn f s)
+turn_at P f s h = keeps_bind P (f s) taken h (λ a t j. j)
+
+-- Gone
+
+no_target : (identity : List ℕ) → number_of (take 8 (untargeted identity)) ≡ 0
+no_target identity = refl
+
+untargeted_well : (r : Held) (d p : Bool) (identity : List ℕ) → NamesWell r d p identity → NamesWell r d p (untargeted identity)
+untargeted_well r d p identity h = record {
+  based = same_based r (untargeted identity) identity (untargeted_same identity) h.based;
+  bare = λ e. same_none (untargeted identity) identity (untargeted_same identity) (h.bare e);
+  plain = λ e f. (same_none (untargeted identity) identity (untargeted_same identity) (h.plain e f).0, no_target identity);
+}
+
+untarget_fits : (l : Link) (w : Waiting) (es : List QueueEntry) (P : State → Type 0) → Feeds l w es P → (i : Item) (s : State) → P s → (IsFair s.link → Each i.id (λ j. j.identity ≡ i.identity) (items_now s)) → IsFair s.link
+    → Fits s.link.remote s.filter (change.Rebase i.id (untargeted i.identity) (base_of i) no_usn)
+untarget_fits l w es P feeds i s h same fair = (
+  each_both i.id (λ j. j.identity ≡ i.identity) (IsRight s.link.remote (next_number s.filter.volume)) (λ j. NamesWell s.link.remote j.directory j.placeholder (untargeted i.identity))
+      (λ j e k. subst (λ (x : List ℕ). NamesWell s.link.remote j.directory j.placeholder (untargeted x)) e (untargeted_well s.link.remote j.directory j.placeholder j.identity (record { based = k.based; bare = k.bare; plain = k.plain })))
+      (items_now s) (same fair) (right_now P feeds.steps s h fair i.id),
+  inl (refl, each_weaker i.id (λ j. j.identity ≡ i.identity) (λ j. SameBase (untargeted i.identity) j.identity) (λ j e. subst (λ (x : List ℕ). SameBase (untargeted i.identity) x) (sym e) (untargeted_same i.identity)) (items_now s) (same fair)),
+)
+
+untarget_at : (l : Link) (w : Waiting) (es : List QueueEntry) (P : State → Type 0) → Feeds l w es P → (i : Item) (s : State) → P s → (IsFair s.link → item_of (items_now s) i.id ≡ Some i) → Keeps P (untarget i s)
+untarget_at l w es P feeds i s h there = by i.in_sync where
+  now : (IsFair s.link → Each i.id (λ j. j.identity ≡ i.identity) (items_now s))
+  now fair = each_found i.id (λ j. j.identity ≡ i.identity) 0 s.filter.volume.next_item.0 (items_now s) i (feeds.steps.sound s h fair).now.order (there fair) refl
+
+  by : (b : Bool) → Keeps P (and_then (only_if b (try_change (change.Clear i.id))) (try_change (change.Rebase i.id (untargeted i.identity) (base_of i) no_usn)) s)
+  by true =
+      and_then_at Whichever P feeds.steps (change.Clear i.id) (try_change (change.Rebase i.id (untargeted i.identity) (base_of i) no_usn)) s tt (λ id k. k) (λ fair. tt) h
+      (λ t j led. try_change_at Whichever P feeds.steps (change.Rebase i.id (untargeted i.identity) (base_of i) no_usn) t tt (λ id k. k)
+      (untarget_fits l w es P feeds i t j (λ fair. subst (λ (is : List Item). Each i.id (λ k. k.identity ≡ i.identity) is) (sym led.after.items)
+      (each_changed i.id i.id _ (λ k. Unit {0}) (λ k. k.identity ≡ i.identity) (λ k. k.identity ≡ i.identity) (λ k. refl) (λ k _ e. e) (λ k e. e) (items_now s) (each_any i.id (λ k. Unit {0}) (λ k. tt) (items_now s)) (now (subst IsFair led.link fair))))) j)
+  by false = try_change_at Whichever P feeds.steps (change.Rebase i.id (untargeted i.identity) (base_of i) no_usn) s tt (λ id k. k) (untarget_fits l w es P feeds i s h now) h
+
+pub gone_at : (l : Link) (w : Waiting) (es : List QueueEntry) (P : State → Type 0) → Feeds l w es P → (i : Item) (s : State) → P s → (IsFair s.link → item_of (items_now s) i.id ≡ Some i) → Keeps P (gone i s)
+gone_at l w es P feeds i s h there = by (in_use s i.id) where
+  steps : (b : Bool) → Keeps P (remove_or_untarget i b s)
+  steps true = try_change_at Whichever P feeds.steps (change.Remove i.id) s tt (λ id k. k) (λ fair. tt) h
+  steps false = untarget_at l w es P feeds i s h there
+
+  by : (b : Bool) → Keeps P (gone_unless i b s)
+  by true = h
+  by false = turn_at P (λ t. remove_or_untarget i (is_removable t i) t) s (steps (is_removable s i))
+
+-- New
+
+-- that the items of an id are of a kind stays so
+kinds_frame : (id : ItemId) (R : Bool → Bool → Type 0) → ((d p : Bool) → R d p → R d true) → Framing Whichever (λ s. IsFair s.link → (id.0 < s.filter.volume.next_item.0) × Each id (λ i. R i.directory i.placeholder) (items_now s))
+kinds_frame id R k = item_frame Whichever (λ is next. (id.0 < next) × Each id (λ i. R i.directory i.placeholder) is)
+    (λ s c n ok fit g. (more id.0 s.filter.volume.next_item.0 (next_by c) g.0, kind_stays s.link.remote s.filter c n id s.filter.volume.next_item.0 refl g.0 R k fit g.1)) where
+      more : (a b c : ℕ) → a < b → a < max b c
+      more a b c h = omega (arith, h)
+
+feeds_framed : (l : Link) (w : Waiting) (es : List QueueEntry) (P F : State → Type 0) → Feeds l w es P → Framing Whichever F → Feeds l w es (λ s. P s × F s)
+feeds_framed l w es P F feeds frame = record { steps = framed Whichever P F feeds.steps frame; fed = λ s h. feeds.fed s h.0; none = feeds.none }
+
+abbrev DirsAt : ItemId → State → Type 0
+DirsAt id t = IsFair t.link → (id.0 < t.filter.volume.next_item.0) × Each id (λ j. j.directory ≡ true) (items_now t)
+
+-- a local directory that becomes the one of an entry
+adopt_in : (l : Link) (w : Waiting) (es : List QueueEntry) (P : State → Type 0) → Feeds l w es P → (e : Entry) (i : Item) → e.dir ≡ true → ((s : State) → P s → DirsAt i.id s) → Preserves P (adopt e i)
+adopt_in l w es P feeds e i dir dirs = record {
+  keeps = λ s h.
+      and_then_keeps P (only_if (not i.placeholder) (try_change (change.Convert i.id no_identity))) (and_then (try_change (change.Rebase i.id (entry_identity e) 0 no_usn)) (and_then (try_seen (seen_entry i.id e)) (try_mark_now i.id))) s
+      (only_if_at P (not i.placeholder) (try_change (change.Convert i.id no_identity)) s h (λ _. try_change_at Whichever P feeds.steps (change.Convert i.id no_identity) s tt (λ id k. k) (convert_fits s h) h))
+      (λ t j. and_then_keeps P (try_change (change.Rebase i.id (entry_identity e) 0 no_usn)) (and_then (try_seen (seen_entry i.id e)) (try_mark_now i.id)) t
+      (try_change_at Whichever P feeds.steps (change.Rebase i.id (entry_identity e) 0 no_usn) t tt (λ id k. k) (rebase_fits t j) j)
+      (λ u k. and_then_keeps P (try_seen (seen_entry i.id e)) (try_mark_now i.id) u ((try_seen_keeps Whichever P feeds.steps (seen_entry i.id e)).keeps u k) (λ v m. (try_mark_now_keeps Whichever P feeds.steps mark_ok i.id).keeps v m)));
+}
+  where
+    convert_fits : (t : State) → P t → IsFair t.link → Fits t.link.remote t.filter (change.Convert i.id no_identity)
+    convert_fits t j fair =
+        each_both i.id (λ k. k.directory ≡ true) (IsRight t.link.remote (next_number t.filter.volume)) (λ k. SameBase no_identity k.identity) (λ k d r. both_none no_identity k.identity none_none (r.bare d)) (items_now t) (dirs t j fair).1 (right_now P feeds.steps t j fair i.id)
+
+    rebase_fits : (t : State) → P t → IsFair t.link → Fits t.link.remote t.filter (change.Rebase i.id (entry_identity e) 0 no_usn)
+    rebase_fits t j fair =
+        subst (λ (x : List ℕ). Fits t.link.remote t.filter (change.Rebase i.id x 0 no_usn)) (sym (dir_identity e dir)) (
+          each_weaker i.id (λ k. k.directory ≡ true) (λ k. NamesWell t.link.remote k.directory k.placeholder (identity_of e.rid no_rid no_version)) (λ k d. subst (λ (b : Bool). NamesWell t.link.remote b k.placeholder (identity_of e.rid no_rid no_version)) (sym d) (dir_well t.link.remote e.rid k.placeholder)) (items_now t) (dirs t j fair).1,
+          inl (
+            refl,
+            each_both i.id (λ k. k.directory ≡ true) (IsRight t.link.remote (next_number t.filter.volume)) (λ k. SameBase (identity_of e.rid no_rid no_version) k.identity)
+                (λ k d r. both_none (identity_of e.rid no_rid no_version) k.identity (dir_none e.rid) (r.bare d)) (items_now t) (dirs t j fair).1 (right_now P feeds.steps t j fair i.id),
+          ),
+        )
+
+adopt_at : (l : Link) (w : Waiting) (es : List QueueEntry) (P : State → Type 0) → Feeds l w es P → (e : Entry) (i : Item) (s : State) → e.dir ≡ true → i.directory ≡ true → P s → (IsFair s.link → item_of (items_now s) i.id ≡ Some i) → Keeps P (adopt e i s)
+adopt_at l w es P feeds e i s dir local h there =
+    keeps_first P (DirsAt i.id) (adopt e i s)
+    ((adopt_in l w es (λ t. P t × DirsAt i.id t) (feeds_framed l w es P (DirsAt i.id) feeds (kinds_frame i.id (λ d p. d ≡ true) (λ d p k. k))) e i dir (λ t k. k.1)).keeps s
+    (h, λ fair. (found_below i.id 0 s.filter.volume.next_item.0 (items_now s) i (feeds.steps.sound s h fair).now.order (there fair), each_found i.id (λ j. j.directory ≡ true) 0 s.filter.volume.next_item.0 (items_now s) i (feeds.steps.sound s h fair).now.order (there fair) local)))
+
+make_after_keeps : (l : Link) (w : Waiting) (es : List QueueEntry) (P : State → Type 0) → Feeds l w es P → (e : Entry) (p : Item) → IsTold l e → Preserves P (make_after e p)
+make_after_keeps l w es P feeds e p told = record {
+  keeps = λ s h.
+      and_then_keeps P (try_change (make_of s e p)) (and_then (try_seen (seen_entry s.filter.volume.next_item e)) (try_mark_now s.filter.volume.next_item)) s
+      (try_change_at Whichever P feeds.steps (make_of s e p) s tt (λ id k. k)
+      (λ fair. let m = make_fits s.link.remote s.filter.policy e fair.1 (subst (λ (k : Link). HasEntry k.remote e) (sym (feeds.fed s h).link) (told.has (fair_now l w es s (feeds.fed s h) fair))) in (refl, m.0, m.1)) h)
+      (λ t j. and_then_keeps P (try_seen (seen_entry s.filter.volume.next_item e)) (try_mark_now s.filter.volume.next_item) t ((try_seen_keeps Whichever P feeds.steps (seen_entry s.filter.volume.next_item e)).keeps t j)
+      (λ u k. (try_mark_now_keeps Whichever P feeds.steps mark_ok s.filter.volume.next_item).keeps u k));
+}
+
+make_entry_keeps : (l : Link) (w : Waiting) (es : List QueueEntry) (P : State → Type 0) → Feeds l w es P → (e : Entry) (p : Item) → IsTold l e → Preserves P (make_entry e p)
+make_entry_keeps l w es P feeds e p told = record {
+  keeps = λ s h.
+      and_then_keeps P (try_clear_name p.id e.name no_item) (make_after e p) s ((try_clear_name_keeps Whichever P feeds.steps move_ok p.id e.name no_item).keeps s h) (λ t j. (make_after_keeps l w es P feeds e p told).keeps t j);
+}
+
+pub new_at : (l : Link) (w : Waiting) (es : List QueueEntry) (P : State → Type 0) → Feeds l w es P → (e : Entry) (p : Item) (s : State) → IsTold l e → P s → Keeps P (new_entry e p s)
+new_at l w es P feeds e p s told h = turn_at P (λ t. new_over e p (child_of (items_now t) p.id e.name) t) s (by (child_of (items_now s) p.id e.name) refl) where
+  choice : (i : Item) → child_of (items_now s) p.id e.name ≡ Some i → (b : Bool) → is_adoptable e i ≡ b → Keeps P (choose b (adopt e i) (make_entry e p) s)
+  choice i f true q =
+      let a : (e.dir && i.directory) ≡ true = left_true (e.dir && i.directory) (is_untargeted i) q in
+      adopt_at l w es P feeds e i s (left_true e.dir i.directory a) (right_true e.dir i.directory a) h (λ fair. found_again (is_child_named p.id e.name) 0 s.filter.volume.next_item.0 (items_now s) i (feeds.steps.sound s h fair).now.order f)
+  choice i f false q = (make_entry_keeps l w es P feeds e p told).keeps s h
+
+  by : (o : Option Item) → child_of (items_now s) p.id e.name ≡ o → Keeps P (new_over e p o s)
+  by None f = (make_entry_keeps l w es P feeds e p told).keeps s h
+  by (Some i) f = choice i f (is_adoptable e i) refl
+
+-- Changed
+
+abbrev pub IsMove : Change → Type 0
+IsMove (change.Move item parent name) = Unit {0}
+IsMove _ = ⊥
+
+pub move_entry_keeps : (Ok : Change → Type 0) (P : State → Type 0) → Skipping Ok P → ((item parent : ItemId) (name : List ℕ) → Ok (change.Move item parent name)) → (e : Entry) (i p : Item) → Preserves P (move_entry e i p)
+move_entry_keeps Ok P steps ok e i p = record {
+  keeps = λ s h.
+      and_then_keeps P (try_clear_name p.id e.name i.id) (and_then (free_parent i p) (and_then (move_in e i p) (try_seen (seen_entry i.id e)))) s ((try_clear_name_keeps Ok P steps ok p.id e.name i.id).keeps s h)
+      (λ t j. and_then_keeps P (free_parent i p) (and_then (move_in e i p) (try_seen (seen_entry i.id e))) t
+      (only_if_at P (is_under (items_now t) p.id i.id) (try_change (change.Move p.id root_id (name_in_root (items_now t) p))) t j (λ _. (move_keeps Ok P steps ok p.id root_id (name_in_root (items_now t) p)).keeps t j))
+      (λ u k. and_then_keeps P (move_in e i p) (try_seen (seen_entry i.id e)) u
+      (only_if_at P (not (says (stands_in p e.name) (item_of (items_now u) i.id))) (try_change (change.Move i.id p.id e.name)) u k (λ _. (move_keeps Ok P steps ok i.id p.id e.name).keeps u k))
+      (λ v m. (try_seen_keeps Ok P steps (seen_entry i.id e)).keeps v m)));
+}
+
+-- what a move leaves of an item
+abbrev pub Alike : Item → Item → Type 0
+Alike i j = ((version_in j.identity).0 ≡ (version_in i.identity).0) × (j.directory ≡ i.directory) × (j.placeholder ≡ i.placeholder)
+
+alike_moved : (i : Item) (id : ItemId) (c : Change) (n : Usn) (items : List Item) → IsMove c → Each id (Alike i) items → Each id (Alike i) (effect items c n)
+alike_moved i id (change.Make item parent name kind size identity) n items ok h = elim ok as (λ _. Each id (Alike i) (effect items (change.Make item parent name kind size identity) n)) [ ]
+alike_moved i id (change.Remove item) n items ok h = elim ok as (λ _. Each id (Alike i) (effect items (change.Remove item) n)) [ ]
+alike_moved i id (change.Move item parent name) n items ok h = each_changed id item _ (λ j. Unit {0}) (Alike i) (Alike i) (λ j. refl) (λ j _ a. a) (λ j a. a) items (each_any item (λ j. Unit {0}) (λ j. tt) items) h
+alike_moved i id (change.Write item off bytes) n items ok h = elim ok as (λ _. Each id (Alike i) (effect items (change.Write item off bytes) n)) [ ]
+alike_moved i id (change.Size item size) n items ok h = elim ok as (λ _. Each id (Alike i) (effect items (change.Size item size) n)) [ ]
+alike_moved i id (change.Filled item start bytes) n items ok h = elim ok as (λ _. Each id (Alike i) (effect items (change.Filled item start bytes) n)) [ ]
+alike_moved i id (change.Validated item start len) n items ok h = elim ok as (λ _. Each id (Alike i) (effect items (change.Validated item start len) n)) [ ]
+alike_moved i id (change.Emptied item start len) n items ok h = elim ok as (λ _. Each id (Alike i) (effect items (change.Emptied item start len) n)) [ ]
+alike_moved i id (change.SetPin item pin) n items ok h = elim ok as (λ _. Each id (Alike i) (effect items (change.SetPin item pin) n)) [ ]
+alike_moved i id (change.Mark item number) n items ok h = elim ok as (λ _. Each id (Alike i) (effect items (change.Mark item number) n)) [ ]
+alike_moved i id (change.Clear item) n items ok h = elim ok as (λ _. Each id (Alike i) (effect items (change.Clear item) n)) [ ]
+alike_moved i id (change.Convert item identity) n items ok h = elim ok as (λ _. Each id (Alike i) (effect items (change.Convert item identity) n)) [ ]
+alike_moved i id (change.Revert item) n items ok h = elim ok as (λ _. Each id (Alike i) (effect items (change.Revert item) n)) [ ]
+alike_moved i id (change.Rebase item identity len number) n items ok h = elim ok as (λ _. Each id (Alike i) (effect items (change.Rebase item identity len number) n)) [ ]
+alike_moved i id (change.Take item identity size) n items ok h = elim ok as (λ _. Each id (Alike i) (effect items (change.Take item identity size) n)) [ ]
+alike_moved i id (change.Copy item from parent name) n items ok h = elim ok as (λ _. Each id (Alike i) (effect items (change.Copy item from parent name) n)) [ ]
+alike_moved i id (change.Populated item) n items ok h = elim ok as (λ _. Each id (Alike i) (effect items (change.Populated item) n)) [ ]
+alike_moved i id (change.Keep item on) n items ok h = elim ok as (λ _. Each id (Alike i) (effect items (change.Keep item on) n)) [ ]
+
+abbrev pub AlikeAt : Item → ItemId → State → Type 0
+AlikeAt i id t = IsFair t.link → Each id (Alike i) (items_now t)
+
+pub alike_frame : (i : Item) (id : ItemId) → Framing IsMove (AlikeAt i id)
+alike_frame i id = item_frame IsMove (λ is next. Each id (Alike i) is) (λ s c n ok fit g. alike_moved i id c n (items_now s) ok g)
+
+abbrev FilesAt : ItemId → State → Type 0
+FilesAt id t = IsFair t.link → (id.0 < t.filter.volume.next_item.0) × Each id (λ j. (j.directory ≡ false) × (j.placeholder ≡ true)) (items_now t)
+
+pub newer_file : (e : Entry) (i : Item) → is_newer i e ≡ true → i.directory ≡ false
+newer_file e i q = not_true i.directory (left_true (not i.directory) (nat_lt (base_version i).0 e.version.0) q)
+
+newer_told : (l : Link) (e : Entry) (i : Item) → IsTold l e → is_newer i e ≡ true → e.dir ≡ false
+newer_told l e i told q = by e.dir refl where
+  below : (n : ℕ) → nat_lt n 0 ≡ true → ⊥
+  below n z = grind (arith, nat_tests, z)
+
+  by : (b : Bool) → e.dir ≡ b → b ≡ false
+  by true f = absurd (below (base_version i).0 (subst (λ (n : ℕ). nat_lt (base_version i).0 n ≡ true) (told.dir f) (right_true (not i.directory) (nat_lt (base_version i).0 e.version.0) q)))
+  by false f = refl
+
+-- the newer version takes the place of the file's bytes
+take_in : (l : Link) (w : Waiting) (es : List QueueEntry) (P : State → Type 0) → Feeds l w es P → (e : Entry) (i : Item) → IsTold l e → e.dir ≡ false → (IsFair l → waits_on i.id w.waits ≡ false) → ((s : State) → P s → FilesAt i.id s)
+    → Preserves P (and_then (only_if (is_dirty i) (copy_off i)) (try_change (change.Take i.id (entry_identity e) e.len)))
+take_in l w es P feeds e i told file free files = record {
+  keeps = λ s h.
+      and_then_keeps P (only_if (is_dirty i) (copy_off i)) (try_change (change.Take i.id (entry_identity e) e.len)) s
+      (only_if_at P (is_dirty i) (copy_off i) s h (λ _. try_change_at Whichever P feeds.steps (change.Copy s.filter.volume.next_item i.id i.parent (conflict_name (items_now s) i.parent i.name)) s tt (λ id k. k) (λ fair. refl) h))
+      (λ t j. try_change_at Whichever P feeds.steps (change.Take i.id (entry_identity e) e.len) t tt (λ id k. k) (fits t j) j);
+}
+  where
+    fits : (t : State) → P t → IsFair t.link → Fits t.link.remote t.filter (change.Take i.id (entry_identity e) e.len)
+    fits t j fair =
+        let fair0 : IsFair l = fair_now l w es t (feeds.fed t j) fair in
+        let wants = file_wants t.link.remote e fair.1 (subst (λ (k : Link). HasEntry k.remote e) (sym (feeds.fed t j).link) (told.has fair0)) file in (
+          each_weaker i.id (λ k. (k.directory ≡ false) × (k.placeholder ≡ true)) (λ k. (length (base_named t.link.remote (entry_identity e)) ≡ e.len) × NamesWell t.link.remote k.directory k.placeholder (entry_identity e))
+              (λ k d. (wants.0, subst (λ (b : Bool). NamesWell t.link.remote b k.placeholder (entry_identity e)) (sym d.0) (subst (λ (b : Bool). NamesWell t.link.remote false b (entry_identity e)) (sym d.1) wants.1))) (items_now t) (files t j fair).1,
+          subst (λ (qs : List QueueEntry). NoEntry qs i.id) (sym ((feeds.fed t j).entries ∙ feeds.none fair0)) tt,
+          subst (λ (v : Waiting). waits_on i.id v.waits ≡ false) (sym (feeds.fed t j).waiting) (free fair0),
+        )
+
+pub take_at : (l : Link) (w : Waiting) (es : List QueueEntry) (P : State → Type 0) → Feeds l w es P → (e : Entry) (i : Item) (s : State) → IsTold l e → (is_newer i e ≡ true → IsFair l → waits_on i.id w.waits ≡ false) → (IsFair s.link → is_newer i e ≡ true → i.placeholder ≡ true)
+    → (IsFair s.link → item_of (items_now s) i.id ≡ Some i) → P s → Keeps P (take_over e (Some i) s)
+take_at l w es P feeds e i s told free placed there h =
+    only_if_at P (is_newer i e) (and_then (only_if (is_dirty i) (copy_off i)) (try_change (change.Take i.id (entry_identity e) e.len))) s h
+    (λ q. keeps_first P (FilesAt i.id) (and_then (only_if (is_dirty i) (copy_off i)) (try_change (change.Take i.id (entry_identity e) e.len)) s)
+    ((take_in l w es (λ t. P t × FilesAt i.id t) (feeds_framed l w es P (FilesAt i.id) feeds (kinds_frame i.id (λ d p. (d ≡ false) × (p ≡ true)) (λ d p k. (k.0, refl)))) e i told (newer_told l e i told q) (free q) (λ t k. k.1)).keeps s (
+      h,
+      λ fair. (
+        found_below i.id 0 s.filter.volume.next_item.0 (items_now s) i (feeds.steps.sound s h fair).now.order (there fair),
+        each_found i.id (λ j. (j.directory ≡ false) × (j.placeholder ≡ true)) 0 s.filter.volume.next_item.0 (items_now s) i (feeds.steps.sound s h fair).now.order (there fair) (newer_file e i q, placed fair q),
+      ),
+    )))

@@ -1,0 +1,60 @@
+-- Which changes the machine makes in `replay`.
+use Rattle.std.specs.Prelude.{ℕ, Bool, true, false, List, [], length, take, drop, is_some, ◌≡◌, ◌⊎◌, ◌∷◌, ◌==◌}
+use Rattle.std.specs.List.{list_all}
+use Rattle.cf_base.specs.declared.changes.Change.{Change}
+use Rattle.cf_base.specs.declared.changes.Change.TheVariants as change
+use Rattle.cf_base.specs.declared.ids.ItemId.{ItemId}
+use Rattle.cf_base.specs.declared.ids.Usn.{Usn}
+use Rattle.cf_model.specs.Books.{Book, QueueEntry}
+use Rattle.cf_model.specs.Contents.{base_named, up_to}
+use Rattle.cf_model.specs.Effects.{is_directory, is_placeholder, size_made}
+use Rattle.cf_model.specs.Identities.{base_bytes}
+use Rattle.cf_model.specs.Items.{Item}
+use Rattle.cf_model.specs.Numbers.{no_usn}
+use Rattle.cf_model.specs.Soundness.{Each}
+use Rattle.cf_model.specs.State.{Filter}
+use Rattle.cf_model.specs.Store.{Held}
+use Rattle.cf_model.specs.Words.{number_of}
+use Rattle.cf_laws.specs.Invariant.{All, HasBase, HasNone, SameBase, put_bytes, waits_on}
+
+-- The identity of an item names a version that the remote has made, or none. A directory has none, and a file that is no
+-- placeholder has neither a base nor a target.
+pub record NamesWell (r : Held) (directory placeholder : Bool) (identity : List ℕ) : Type 0 where
+  pub based : HasBase r identity
+  pub bare : directory ≡ true → HasNone identity
+  pub plain : directory ≡ false → placeholder ≡ false → HasNone identity × (number_of (take 8 identity) ≡ 0)
+
+-- no upload of the item is on its way
+abbrev pub NoEntry : List QueueEntry → ItemId → Type 0
+NoEntry es item = All (λ e. e.item.0 ≡ item.0 → ⊥) es
+
+-- The identity takes the place of another with the same base; or, where no upload is on its way, of one that has the bytes of
+-- a file's base with the writes up to the number: all bytes are here, or there are no such writes.
+abbrev pub RebasesWell : Held → List QueueEntry → List Item → ItemId → List ℕ → Usn → Type 0
+RebasesWell r es items item identity at =
+    ((at ≡ no_usn) × Each item (λ i. SameBase identity i.identity) items)
+    ⊎ (NoEntry es item × Each item (λ i. i.directory ≡ false → ((list_all is_some i.held ≡ true) ⊎ (up_to at i.writes ≡ [])) × (base_named r identity ≡ put_bytes (base_bytes r i) at i.writes)) items)
+
+-- What a change meets in the state before it, with this remote.
+abbrev pub Fits : Held → Filter → Change → Type 0
+Fits r x (change.Make item parent name kind size identity) =
+    (item.0 ≡ x.volume.next_item.0) × (length (base_named r identity) ≡ size_made kind size) × NamesWell r (is_directory kind) (is_placeholder kind) identity
+Fits r x (change.Filled item start bytes) = Each item (λ i. take (length bytes) (drop start (base_bytes r i)) ≡ bytes) x.volume.items
+Fits r x (change.Emptied item start len) = Each item (λ i. i.in_sync ≡ true) x.volume.items
+Fits r x (change.Mark item number) = Each item (λ i. (i.writes ≡ []) × (number ≡ i.number)) x.volume.items
+Fits r x (change.Convert item identity) = Each item (λ i. SameBase identity i.identity) x.volume.items
+Fits r x (change.Revert item) = ⊥
+Fits r x (change.Rebase item identity len at) =
+    Each item (λ i. NamesWell r i.directory i.placeholder identity) x.volume.items × RebasesWell r x.volume.book.entries x.volume.items item identity at
+Fits r x (change.Take item identity size) =
+    Each item (λ i. (length (base_named r identity) ≡ size) × NamesWell r i.directory i.placeholder identity) x.volume.items
+    × NoEntry x.volume.book.entries item × (waits_on item x.waiting.waits ≡ false)
+Fits r x (change.Copy item from parent name) = item.0 ≡ x.volume.next_item.0
+Fits r x _ = Unit {0}
+
+-- a change that may bring the bytes that a file lacks
+abbrev pub Touches : Change → ItemId → Type 0
+Touches (change.Write item at bytes) id = id.0 ≡ item.0
+Touches (change.Size item size) id = id.0 ≡ item.0
+Touches (change.Filled item start bytes) id = id.0 ≡ item.0
+Touches _ id = ⊥

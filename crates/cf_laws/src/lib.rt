@@ -1,0 +1,8 @@
+//! The headline's sentences as laws over the definitions, for every lawful trace.
+#![tactic(auto)]
+
+pub mod changes;
+pub mod contents;
+pub mod dehydration;
+pub mod once;
+pub mod openings;
