@@ -1,0 +1,16 @@
+pub mod Bytes
+pub mod FieldSteps
+pub mod Counting
+pub mod Exact
+pub mod Parts
+pub mod Marks
+pub mod RequestParts
+pub mod EntryParts
+pub mod ReplyParts
+pub mod RequestsExact
+pub mod RepliesExact
+pub mod Answered
+pub mod FrameLaws
+pub mod Posting
+pub mod Apart
+pub mod NamesApart

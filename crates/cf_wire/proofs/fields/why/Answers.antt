@@ -1,0 +1,10 @@
+use Rattle.std.proofs.Common.{ap, ◌∙◌}
+use Rattle.std.specs.Option.{ok_or}
+use Rattle.cf_wire.specs.declared.failures.WireFail.TheVariants as fail
+use Rattle.cf_wire.specs.Reading.{why_of}
+use Rattle.cf_wire.proofs.FieldSteps.{marked}
+use Rattle.cf_wire.proofs.fields.why.Goals as goal
+
+pub returns : goal.returns
+returns c = marked why_of c.in_ok-mark.mark c.next_place-place.result c.args.r.now c.byte.new.r c.ok_or.result c.in_ok-mark.ensures c.next_place-place.ensures
+    (c.ok_or.ensures.value ∙ ap (λ o. ok_or o (fail.BadField c.next_place-place.result)) c.why_of.ensures)
