@@ -1,4 +1,3 @@
-pub mod Covers
-pub mod Flags
-pub mod Runs
-pub mod Slices
+pub mod Ages
+pub mod Counts
+pub mod Planning

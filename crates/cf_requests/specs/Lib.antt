@@ -1,2 +1,2 @@
-pub mod Deeds
-pub mod Sights
+pub mod Steps
+pub mod Told

@@ -1,14 +1,15 @@
-//! Waits, and what the provider is asked for them.
+//! The calls that wait, what the provider is asked for them, and how both end.
 #![tactic(auto)]
 
-mod asks;
-mod deeds;
-mod laws;
-mod makes;
-mod sights;
-mod views;
-mod waits;
+mod calls;
+mod limits;
+mod moves;
+mod queries;
+mod requests;
+#[cfg(test)]
+mod tests;
+mod times;
 
-pub use laws::each_missing_block_is_owned;
-pub use views::View;
-pub use waits::Wait;
+pub use limits::Limits;
+pub use moves::Moves;
+pub use requests::{Requests, Step};

@@ -1,0 +1,29 @@
+-- What a step of the ask rule would do, before anything is changed.
+use Rattle.std.specs.Prelude.{not, List, ◌++◌, length, map, filter, ◌+◌}
+use Rattle.cf_base.specs.declared.ids.ItemId.{ItemId}
+use Rattle.cf_base.specs.declared.ids.Key.{Key}
+use Rattle.cf_base.specs.declared.waits.Cause.{Cause}
+use Rattle.cf_model.specs.Asks.{ended_of, is_cancelled, left_of, new_asks, why, with_keys}
+use Rattle.cf_model.specs.Missing.{View, Wait}
+use Rattle.cf_model.specs.Requests.{Deed, Live, Told, Waiting}
+use Rattle.cf_asks.specs.Deeds.{after}
+
+-- The waits that end, and those that are left; the keys of the asks that are cancelled, the asks that are kept, and those
+-- that are made, still without keys.
+pub record Planned : Type 0 where
+  pub ended : List (Wait × Cause)
+  pub left : List Wait
+  pub cancelled : List Key
+  pub kept : List Live
+  pub made : List Live
+
+abbrev pub plan_of : ItemId → View → Deed → List Wait → List Live → Planned
+plan_of item v d waits asks =
+    let left : List Wait = left_of (why item v d asks) waits in
+    let kept : List Live = filter (λ a. not (is_cancelled item v d left a)) (after d asks) in record {
+      ended = ended_of (why item v d asks) waits;
+      left = left;
+      cancelled = map (λ a. a.ask.key) (filter (is_cancelled item v d left) (after d asks));
+      kept = kept;
+      made = new_asks item v left kept;
+    }

@@ -1,0 +1,328 @@
+//! Live asks, and the blocks that they own.
+ghost use Rattle.std.specs.Prelude.{◌≡◌, ℕ, not, nat_le, ◌+◌, ◌<◌, filter, IfOk, ◌&&◌, ◌==◌};
+ghost use Rattle.std.specs.List.{list_all, list_any};
+ghost use Rattle.cf_asks.specs.Places.{places};
+ghost use Rattle.cf_model.specs.Asks.{is_idle, is_idle_by, is_owned, is_wanted, misses_in, waits_by};
+ghost use Rattle.cf_model.specs.Numbers.{same_key};
+ghost use Rattle.cf_model.specs.Requests.{aged, has_block, is_data, is_dehydrate, is_list, is_list_wait};
+ghost use Rattle.cf_model.specs.Words.{counting, is_empty};
+ghost use Rattle.cf_ranges.specs.Positions.{IsRuns};
+
+use crate::sights::Sight;
+use crate::waits::{LiveWait, WaitNumber, is_list_wait, misses_block, misses_span};
+use cf_base::{Ask, AskKind, ItemId, Key, Memory, Span};
+use cf_ranges::RangeSet;
+use std::marker::Model;
+
+const LIMIT: u64 = 1 << 40;
+
+/// A live ask: the blocks that it owns, the ticks since it was made or last answered, and the wait of a dehydrate ask.
+#[derive(Debug, Drop)]
+pub struct LiveAsk {
+    ask: Ask,
+    owned: RangeSet,
+    ticks: u64,
+    wait: WaitNumber,
+}
+
+impl Model for LiveAsk {
+    ghost use Rattle.cf_model.specs.Requests.{Live};
+    ghost use Rattle.cf_asks.specs.Places.{places};
+
+    ghost Value = { Live };
+
+    ghost view = { λ a. record { ask = a.ask; owned = places a.owned; ticks = a.ticks; wait = a.wait } };
+}
+
+impl LiveAsk {
+    /// An ask that has just been made.
+    pub fn new(ask: Ask, owned: RangeSet, wait: WaitNumber) -> LiveAsk
+        ensures { result ≡ record { ask = ask; owned = places owned; ticks = 0; wait = wait } }
+    {
+        LiveAsk {
+            ask,
+            owned,
+            ticks: 0,
+            wait,
+        }
+    }
+
+    /// An equal ask on its own.
+    pub fn copy(&self) -> Result<LiveAsk, Memory>
+        ensures { IfOk result (λ a. a ≡ self.now) }
+    {
+        Ok(LiveAsk {
+            ask: self.ask,
+            owned: self.owned.copy()?,
+            ticks: self.ticks,
+            wait: self.wait,
+        })
+    }
+
+    /// The ask under a key.
+    pub fn keyed(&self, key: Key) -> Result<LiveAsk, Memory>
+        ensures { IfOk result (λ a. a ≡ record self.now { ask = record self.now.ask { key = key } }) }
+    {
+        Ok(LiveAsk {
+            ask: Ask { key, ..self.ask },
+            owned: self.owned.copy()?,
+            ticks: self.ticks,
+            wait: self.wait,
+        })
+    }
+
+    /// The ask without blocks, and with its time begun anew.
+    pub fn without(&self, blocks: Span) -> Result<LiveAsk, Memory>
+        ensures { IfOk result (λ a. a ≡ record self.now { owned = filter (λ b. not (has_block (counting blocks.start blocks.len) b)) self.now.owned; ticks = 0 }) }
+    {
+        Ok(LiveAsk {
+            ask: self.ask,
+            owned: others_of(&self.owned, blocks)?,
+            ticks: 0,
+            wait: self.wait,
+        })
+    }
+
+    /// What the provider is asked.
+    pub fn ask(&self) -> Ask
+        ensures { result ≡ self.now.ask }
+    {
+        self.ask
+    }
+
+    /// The wait of a dehydrate ask.
+    pub fn wait(&self) -> WaitNumber
+        ensures { result ≡ self.now.wait }
+    {
+        self.wait
+    }
+
+    /// Whether it owns none.
+    pub fn has_no_block(&self) -> bool
+        ensures { result ≡ is_empty self.now.owned }
+    {
+        is_empty(self.owned.runs())
+    }
+
+    /// Whether it owns the block.
+    #[tactic(auto, using(crate::proofs::Places::has_places))]
+    pub fn has(&self, block: u64) -> bool
+        ensures { result ≡ has_block self.now.owned block }
+    {
+        self.owned.has(block)
+    }
+
+    /// Whether it owns each of the blocks.
+    pub fn has_all(&self, blocks: Span) -> bool
+        ensures { result ≡ list_all (has_block self.now.owned) (counting blocks.start blocks.len) }
+    {
+        has_all(self.owned.runs(), blocks)
+    }
+
+    /// The ticks since it was made or last answered.
+    pub fn ticks(&self) -> u64
+        ensures { result ≡ self.now.ticks }
+    {
+        self.ticks
+    }
+
+    /// So many ticks have passed.
+    pub fn age(&mut self, ticks: u32)
+        requires { self.old.ticks < 60 }
+        ensures { self.new ≡ aged ticks self.old }
+    {
+        self.ticks += ticks as u64;
+    }
+
+    /// Whether the wait misses a byte in its blocks.
+    pub fn is_missed(&self, v: &Sight, w: &LiveWait) -> bool
+        ensures { result ≡ misses_in v.now self.now.owned w.now }
+    {
+        misses_runs(v, self.owned.runs(), w)
+    }
+
+    /// Whether one of the waits on the item misses a byte in its blocks.
+    pub fn is_wanted(&self, item: ItemId, v: &Sight, waits: &[LiveWait]) -> bool
+        ensures { result ≡ list_any (is_wanted item v.now waits.now) self.now.owned }
+    {
+        is_any_wanted(item, v, waits, self.owned.runs())
+    }
+}
+
+// As runs are maximal, one of them has all.
+fn has_all(runs: &[Span], blocks: Span) -> bool
+    requires { IsRuns runs.now }
+    ensures { result ≡ list_all (has_block (places runs.now)) (counting blocks.start blocks.len) }
+{
+    if blocks.len == 0 {
+        return true;
+    }
+    any_covers(runs, blocks)
+}
+
+fn any_covers(runs: &[Span], blocks: Span) -> bool
+    requires { IsRuns runs.now }
+    ensures { result ≡ list_any (λ r. nat_le r.start blocks.start && nat_le (blocks.start + blocks.len) (r.start + r.len)) runs.now }
+{
+    runs.iter().any(|run| covers(*run, blocks))
+}
+
+fn covers(run: Span, blocks: Span) -> bool
+    ensures { result ≡ (nat_le run.start blocks.start && nat_le (blocks.start + blocks.len) (run.start + run.len)) }
+{
+    run.start <= blocks.start
+        && blocks.start - run.start <= run.len
+        && blocks.len <= run.len - (blocks.start - run.start)
+}
+
+fn is_empty(runs: &[Span]) -> bool
+    ensures { result ≡ is_empty runs.now }
+{
+    match runs {
+        [] => true,
+        _ => false,
+    }
+}
+
+// The blocks of the set that are not these.
+fn others_of(owned: &RangeSet, blocks: Span) -> Result<RangeSet, Memory>
+    ensures { IfOk result (λ r. places r ≡ filter (λ b. not (has_block (counting blocks.start blocks.len) b)) (places owned.now)) }
+{
+    let start = blocks.start.min(LIMIT);
+    let others = owned.without(Span {
+        start,
+        len: blocks.len.min(LIMIT - start),
+    })?;
+    let _maximal = others.runs();
+    let _maximal = owned.runs();
+    Ok(others)
+}
+
+pub fn is_data(kind: AskKind) -> bool
+    ensures { result ≡ is_data kind }
+{
+    match kind {
+        AskKind::Fetch => true,
+        AskKind::Validate => true,
+        AskKind::List => false,
+        AskKind::Dehydrate => false,
+    }
+}
+
+pub fn is_list(kind: AskKind) -> bool
+    ensures { result ≡ is_list kind }
+{
+    match kind {
+        AskKind::List => true,
+        _ => false,
+    }
+}
+
+pub fn is_dehydrate(kind: AskKind) -> bool
+    ensures { result ≡ is_dehydrate kind }
+{
+    match kind {
+        AskKind::Dehydrate => true,
+        _ => false,
+    }
+}
+
+fn misses_runs(v: &Sight, runs: &[Span], w: &LiveWait) -> bool
+    ensures { result ≡ misses_in v.now (places runs.now) w.now }
+{
+    any_missed(v, runs, w)
+}
+
+fn any_missed(v: &Sight, runs: &[Span], w: &LiveWait) -> bool
+    ensures { result ≡ list_any (λ r. misses_in v.now (counting r.start r.len) w.now) runs.now }
+{
+    runs.iter().any(|run| misses_span(v, *run, w))
+}
+
+/// Whether the wait waits for an ask.
+pub fn waits_by(v: &Sight, a: &LiveAsk, w: &LiveWait) -> bool
+    ensures { result ≡ waits_by a.now.ask.kind v.now a.now w.now }
+{
+    match a.ask().kind {
+        AskKind::Fetch => a.is_missed(v, w),
+        AskKind::Validate => a.is_missed(v, w),
+        AskKind::List => is_list_wait(w.kind()),
+        AskKind::Dehydrate => w.id().is(a.wait()),
+    }
+}
+
+/// Whether some wait on the item misses a byte of the block.
+pub fn is_wanted(item: ItemId, v: &Sight, waits: &[LiveWait], block: u64) -> bool
+    ensures { result ≡ is_wanted item v.now waits.now block }
+{
+    waits
+        .iter()
+        .any(|w| w.item().0 == item.0 && misses_block(v, w, block))
+}
+
+fn is_any_wanted(item: ItemId, v: &Sight, waits: &[LiveWait], runs: &[Span]) -> bool
+    ensures { result ≡ list_any (is_wanted item v.now waits.now) (places runs.now) }
+{
+    any_run_wanted(item, v, waits, runs)
+}
+
+fn any_run_wanted(item: ItemId, v: &Sight, waits: &[LiveWait], runs: &[Span]) -> bool
+    ensures { result ≡ list_any (λ r. list_any (is_wanted item v.now waits.now) (counting r.start r.len)) runs.now }
+{
+    runs.iter().any(|run| is_run_wanted(item, v, waits, *run))
+}
+
+fn is_run_wanted(item: ItemId, v: &Sight, waits: &[LiveWait], run: Span) -> bool
+    ensures { result ≡ list_any (is_wanted item v.now waits.now) (counting run.start run.len) }
+{
+    any_misses(item, v, waits, run)
+}
+
+fn any_misses(item: ItemId, v: &Sight, waits: &[LiveWait], run: Span) -> bool
+    ensures { result ≡ list_any (λ w. (w.item.0 == item.0) && misses_in v.now (counting run.start run.len) w) waits.now }
+{
+    waits
+        .iter()
+        .any(|w| w.item().0 == item.0 && misses_span(v, run, w))
+}
+
+/// Whether a wait on the item waits for its entries.
+pub fn is_list_awaited(item: ItemId, waits: &[LiveWait]) -> bool
+    ensures { result ≡ list_any (λ w. (w.item.0 == item.0) && is_list_wait w.kind) waits.now }
+{
+    waits
+        .iter()
+        .any(|w| w.item().0 == item.0 && is_list_wait(w.kind()))
+}
+
+fn has_wait(waits: &[LiveWait], id: WaitNumber) -> bool
+    ensures { result ≡ list_any (λ w. same_key w.id.0 id.0) waits.now }
+{
+    waits.iter().any(|w| w.id().is(id))
+}
+
+/// Whether the ask is one of the item that none of the waits waits for.
+pub fn is_idle(item: ItemId, v: &Sight, waits: &[LiveWait], a: &LiveAsk) -> bool
+    ensures { result ≡ is_idle item v.now waits.now a.now }
+{
+    a.ask().item.0 == item.0 && is_idle_by(item, v, waits, a)
+}
+
+fn is_idle_by(item: ItemId, v: &Sight, waits: &[LiveWait], a: &LiveAsk) -> bool
+    ensures { result ≡ is_idle_by a.now.ask.kind item v.now waits.now a.now }
+{
+    match a.ask().kind {
+        AskKind::Fetch => !a.is_wanted(item, v, waits),
+        AskKind::Validate => !a.is_wanted(item, v, waits),
+        AskKind::List => !is_list_awaited(item, waits),
+        AskKind::Dehydrate => !has_wait(waits, a.wait()),
+    }
+}
+
+/// Whether an ask of the item owns the block.
+pub fn is_owned(item: ItemId, asks: &[LiveAsk], block: u64) -> bool
+    ensures { result ≡ is_owned item asks.now block }
+{
+    asks.iter()
+        .any(|a| a.ask().item.0 == item.0 && a.has(block))
+}

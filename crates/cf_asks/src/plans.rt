@@ -1,0 +1,52 @@
+//! What a step would do.
+ghost use Rattle.std.specs.Prelude.{◌≡◌, IfOk};
+ghost use Rattle.cf_asks.specs.Deeds.{deed_of};
+ghost use Rattle.cf_asks.specs.Plans.{plan_of};
+
+use crate::asks::LiveAsk;
+use crate::deeds::{Act, asks_after, cancelled_of, drop_cancelled, ended_by, left_by};
+use crate::makes::new_asks;
+use crate::sights::Sight;
+use crate::waits::LiveWait;
+use cf_base::{Cause, ItemId, Key, Memory};
+use std::alloc::Global;
+
+/// What a step would do to waits and asks. The asks that are made have no keys yet.
+#[derive(Debug, Drop)]
+pub struct Plan {
+    pub ended: Vec<(LiveWait, Cause)>,
+    pub left: Vec<LiveWait>,
+    pub cancelled: Vec<Key>,
+    pub kept: Vec<LiveAsk>,
+    pub made: Vec<LiveAsk>,
+}
+
+/// Looks at the waits and asks, and changes nothing.
+pub fn make_plan(
+    alloc: Global,
+    item: ItemId,
+    v: &Sight,
+    act: Act,
+    waits: &[LiveWait],
+    asks: &[LiveAsk],
+) -> Result<Plan, Memory>
+    ensures ended { IfOk result (λ p. p.ended.items ≡ (plan_of item v.now (deed_of act) waits.now asks.now).ended) }
+    ensures left { IfOk result (λ p. p.left.items ≡ (plan_of item v.now (deed_of act) waits.now asks.now).left) }
+    ensures cancelled { IfOk result (λ p. p.cancelled.items ≡ (plan_of item v.now (deed_of act) waits.now asks.now).cancelled) }
+    ensures kept { IfOk result (λ p. p.kept.items ≡ (plan_of item v.now (deed_of act) waits.now asks.now).kept) }
+    ensures made { IfOk result (λ p. p.made.items ≡ (plan_of item v.now (deed_of act) waits.now asks.now).made) }
+{
+    let ended = ended_by(alloc, item, v, act, asks, waits)?;
+    let left = left_by(alloc, item, v, act, asks, waits)?;
+    let mut kept = asks_after(alloc, act, asks)?;
+    let cancelled = cancelled_of(alloc, item, v, act, &left, &kept)?;
+    drop_cancelled(&mut kept, item, v, act, &left);
+    let made = new_asks(alloc, item, v, &left, &kept)?;
+    Ok(Plan {
+        ended,
+        left,
+        cancelled,
+        kept,
+        made,
+    })
+}
