@@ -1,5 +1,5 @@
 -- What the changes of a file's bytes mean.
-use Rattle.std.proofs.Common.{◌≡◌, ℕ, zero, suc, ◌+◌, ◌-◌, ◌<◌, ◌≤◌, Bool, true, false, ◌&&◌, ◌||◌, not, List, [], ◌∷◌, ◌++◌, length, min, max, refl, sym, ap, ◌∙◌, arith, ltb, leb, inl, inr, Option, Some}
+use Rattle.std.proofs.Common.{◌≡◌, ℕ, zero, suc, ◌+◌, ◌<◌, ◌≤◌, Bool, true, false, ◌&&◌, ◌||◌, not, List, [], ◌∷◌, ◌++◌, length, min, max, refl, sym, ap, ◌∙◌, arith, ltb, leb, inl, inr, Option, Some}
 use Rattle.std.proofs.lemmas.Bool.{cases_lt}
 use Rattle.std.proofs.lemmas.Bool.Decides.{nat_tests}
 use Rattle.std.specs.Option.{is_some}
@@ -7,9 +7,9 @@ use Rattle.std.specs.Prelude.{map}
 use Rattle.cf_base.specs.declared.ids.Usn.{Usn}
 use Rattle.cf_base.specs.declared.spans.Span.{Span}
 use Rattle.cf_model.specs.Effects.{got, later_than, leaves_at, left_out, sized, validated, validated_in, wrote}
-use Rattle.cf_model.specs.Items.{Item, is_held, is_here, is_modified, is_valid}
+use Rattle.cf_model.specs.Items.{Item, is_held, is_modified, is_valid}
 use Rattle.cf_model.specs.Numbers.{above}
-use Rattle.cf_model.specs.Overlay.{Put, Resize, Written, covers, is_covered, patched, resized}
+use Rattle.cf_model.specs.Overlay.{Put, Resize, Written, is_covered, patched, resized}
 use Rattle.cf_model.specs.Words.{is_empty, passes_at, within}
 use Rattle.cf_ranges.specs.Positions.{Adds, AddsAll, Cuts, CutsAll, IsMissing, contains, in_span}
 use Rattle.cf_table.specs.Means.{HasBytes, IsLater, is_modified_since}

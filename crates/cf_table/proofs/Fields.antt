@@ -1,5 +1,5 @@
 -- Numbers of a fixed width, and how many runs have room in one.
-use Rattle.std.proofs.Common.{◌≡◌, ℕ, ◌+◌, ◌*◌, ◌/◌, ◌%◌, ◌^◌, ◌<◌, ◌≤◌, List, [], ◌∷◌, ◌++◌, length, refl, sym, ap, ◌∙◌, append_assoc, arith}
+use Rattle.std.proofs.Common.{◌≡◌, ℕ, ◌+◌, ◌*◌, ◌/◌, ◌%◌, ◌^◌, ◌<◌, ◌≤◌, List, [], ◌∷◌, ◌++◌, length, ap, ◌∙◌, append_assoc, arith}
 use Rattle.std.proofs.lemmas.List.Elements.{All-head, All-tail}
 use Rattle.std.specs.Int.{w16, w32, w64, to_be_bytes}
 use Rattle.cf_base.specs.declared.spans.Span.{Span}
@@ -15,6 +15,12 @@ two_bytes n = ap (λ v. (n / 256) % 256 ∷ v % 256 ∷ []) (by_one n)
 
 pub four_bytes : (n : ℕ) → to_be_bytes w32 n ≡ in_bytes 4 n
 four_bytes n = ap (λ v. (n / 16777216) % 256 ∷ (n / 65536) % 256 ∷ (n / 256) % 256 ∷ v % 256 ∷ []) (by_one n)
+
+-- the last four bytes of a number are those of what is left of it by 2 ^ 32
+pub last_four : (n : ℕ) → in_bytes 4 (n % 4294967296) ≡ in_bytes 4 n
+last_four n = same ((n % 4294967296) / 16777216 % 256) _ ((n % 4294967296) / 65536 % 256) _ ((n % 4294967296) / 256 % 256) _ ((n % 4294967296) / 1 % 256) _ (omega arith) (omega arith) (omega arith) (omega arith) where
+  same : (a b c d e f g h : ℕ) → a ≡ b → c ≡ d → e ≡ f → g ≡ h → a ∷ c ∷ e ∷ g ∷ [] ≡ b ∷ d ∷ f ∷ h ∷ []
+  same a b c d e f g h p q r s = λ j. p j ∷ q j ∷ r j ∷ s j ∷ []
 
 pub eight_bytes : (n : ℕ) → to_be_bytes w64 n ≡ in_bytes 8 n
 eight_bytes n =

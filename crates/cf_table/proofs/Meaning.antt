@@ -1,7 +1,6 @@
 -- What an effect leaves at a position.
 use Rattle.std.proofs.Common.{◌≡◌, ℕ, zero, suc, ◌+◌, ◌-◌, ◌<◌, ◌≤◌, Bool, true, false, ◌&&◌, ◌||◌, not, cond, List, [], ◌∷◌, ◌++◌, length, take, drop, min, max, refl, sym, ap, ◌∙◌, arith, ltb, leb, inl, inr, Option, Some, None, is_some, length-drop, length-take, length-append}
-use Rattle.std.specs.Prelude.{replicate, map}
-use Rattle.std.specs.List.{list_any}
+use Rattle.std.specs.Prelude.{map}
 use Rattle.std.proofs.lemmas.Bool.{cases_lt}
 use Rattle.std.proofs.lemmas.Bool.Decides.{nat_tests}
 use Rattle.std.proofs.lemmas.List.Folds.{list_any-append}
@@ -9,7 +8,7 @@ use Rattle.cf_model.specs.Overlay.{padded, resized, patched, Written, covers, is
 use Rattle.cf_model.specs.Words.{by_place, passes_at, within}
 use Rattle.cf_model.specs.Items.{is_held, is_modified, Item}
 use Rattle.cf_base.specs.declared.ids.Usn.{Usn}
-use Rattle.cf_model.specs.Effects.{filled, filled_front, wrote, sized, emptied, cleared, validated}
+use Rattle.cf_model.specs.Effects.{filled, filled_front, wrote, sized, emptied, cleared}
 use Rattle.cf_table.proofs.Places.{passes_past, passes_front, passes_back, passes_take, passes_drop, passes_padded_new, length_padded, length_resized, passes_resized_old, passes_resized_new, length_patched, passes_patched_before, passes_patched_filler, passes_patched_new, passes_patched_after}
 
 -- b, or within, by where p is

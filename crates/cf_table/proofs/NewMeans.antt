@@ -1,5 +1,5 @@
 -- What the rows of new items mean.
-use Rattle.std.proofs.Common.{◌≡◌, ℕ, ◌+◌, ◌<◌, ◌≤◌, Bool, true, false, ◌&&◌, ◌||◌, not, List, [], ◌∷◌, ◌++◌, length, refl, sym, ap, ◌∙◌, arith, ltb, Option, Some, None}
+use Rattle.std.proofs.Common.{◌≡◌, ℕ, Bool, true, false, ◌&&◌, ◌||◌, not, List, [], ◌∷◌, ◌++◌, length, refl, sym, ap, ◌∙◌, arith, ltb, Option, None}
 use Rattle.std.proofs.lemmas.Bool.Decides.{nat_tests}
 use Rattle.std.specs.Option.{is_some}
 use Rattle.std.specs.Prelude.{replicate}
@@ -14,9 +14,9 @@ use Rattle.cf_model.specs.Numbers.{above, no_usn}
 use Rattle.cf_model.specs.Overlay.{Resize, Written, is_covered}
 use Rattle.cf_model.specs.Words.{is_empty, within}
 use Rattle.cf_ranges.specs.Positions.{contains}
-use Rattle.cf_table.specs.Means.{AreUpTo, HasBytes, is_modified_since, starts_dirty}
+use Rattle.cf_table.specs.Means.{AreUpTo, HasBytes, starts_dirty}
 use Rattle.cf_table.specs.declared.rows.Row.{Row}
-use Rattle.cf_table.proofs.Above.{above_zero, all_above, not_above_self, numbers_push, some_pushed}
+use Rattle.cf_table.proofs.Above.{all_above, not_above_self, numbers_push, some_pushed}
 use Rattle.cf_table.proofs.MarkMeans.{length_replicate, nothing, passes_none}
 use Rattle.cf_table.proofs.Meaning.{covered_push}
 

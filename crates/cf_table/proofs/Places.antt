@@ -1,8 +1,6 @@
 -- What an edit of a list leaves at a place.
-use Rattle.std.proofs.Common.{◌≡◌, ℕ, zero, suc, ◌+◌, ◌-◌, ◌<◌, ◌≤◌, Bool, true, false, ◌&&◌, ◌||◌, cond, List, [], ◌∷◌, ◌++◌, length, take, drop, min, max, refl, sym, ap, ◌∙◌, arith, ltb, leb, inl, inr, Option, Some, is_some, length-append, length-take, length-drop}
-use Rattle.std.specs.Prelude.{replicate, map}
-use Rattle.std.proofs.lemmas.Bool.{cases_lt, cond-true, cond-false, lt-ltb, le-ltb}
-use Rattle.std.proofs.lemmas.Bool.Decides.{nat_tests}
+use Rattle.std.proofs.Common.{◌≡◌, ℕ, zero, suc, ◌+◌, ◌-◌, ◌<◌, ◌≤◌, Bool, false, List, [], ◌∷◌, ◌++◌, length, take, drop, max, refl, ap, ◌∙◌, arith, length-append, length-take, length-drop}
+use Rattle.std.specs.Prelude.{replicate}
 use Rattle.cf_model.specs.Overlay.{padded, resized, patched}
 use Rattle.cf_model.specs.Words.{passes_at}
 

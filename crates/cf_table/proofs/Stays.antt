@@ -1,5 +1,5 @@
 -- A change of an item that stays, as what it makes of that item.
-use Rattle.std.proofs.Common.{◌≡◌, ℕ, zero, suc, ◌+◌, ◌-◌, ◌<◌, ◌≤◌, Bool, true, false, cond, List, [], ◌∷◌, ◌++◌, length, get_or, drop, refl, sym, ap, subst, ◌∙◌, arith, eqb, Some, None, Option, length-append, length-drop}
+use Rattle.std.proofs.Common.{◌≡◌, ℕ, zero, suc, ◌+◌, ◌≤◌, true, false, List, [], ◌∷◌, ◌++◌, length, get_or, drop, refl, sym, ap, subst, ◌∙◌, arith, eqb, Some, Option, length-append, length-drop}
 use Rattle.std.specs.Prelude.{MatchOption, replicate}
 use Rattle.std.proofs.lemmas.Bool.{cond-true, cond-false, eq-eqb, ne_eqb}
 use Rattle.cf_base.specs.declared.changes.Change.{Change}
@@ -10,7 +10,7 @@ use Rattle.cf_base.specs.declared.items.Kind.{Kind}
 use Rattle.cf_base.specs.declared.items.Pin.{Pin}
 use Rattle.cf_model.specs.Effects.{changed, copied, copies, effect, made, moved, untargeted}
 use Rattle.cf_model.specs.Items.{Item, item_of, pin_of}
-use Rattle.cf_table.specs.Applied.{IsSpellable, Steps, item_effect}
+use Rattle.cf_table.specs.Applied.{Steps, item_effect}
 use Rattle.cf_table.specs.Changing.{Leaves, item_of_change, pin_for, stays}
 use Rattle.cf_table.specs.Means.{KeepsRest, Means}
 use Rattle.cf_table.specs.Tables.{IsRowAt, IsRowGap, MeansAll, RisesFrom, SetsAt, SetsRow, pin_at, row_of}

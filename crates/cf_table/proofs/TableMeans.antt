@@ -1,17 +1,15 @@
 -- What is done to one row of a list is done to the item with its id.
 use Rattle.std.proofs.Common.{◌≡◌, ℕ, zero, suc, ◌+◌, ◌<◌, ◌≤◌, Bool, true, false, not, cond, List, [], ◌∷◌, ◌++◌, length, get_or, set, refl, sym, ap, subst, ◌∙◌, arith, eqb, ltb, Some, None, Option, Ok, Err, Result, inl, inr}
-use Rattle.std.specs.Prelude.{All, IfOk, MatchOption, OnOk, ◌≢◌, filter, find, insert, remove}
+use Rattle.std.specs.Prelude.{All, IfOk, MatchOption, OnOk, insert, remove}
 use Rattle.std.proofs.lemmas.Bool.{cond-true, cond-false, eq-eqb, ne_eqb, lt-ltb, le-ltb, cases_lt}
 use Rattle.std.proofs.lemmas.List.Elements.{All-head, All-tail}
 use Rattle.cf_base.specs.declared.ids.ItemId.{ItemId}
-use Rattle.cf_base.specs.declared.items.Pin.{Pin}
 use Rattle.cf_base.specs.declared.items.Pin.TheVariants as pin
 use Rattle.cf_model.specs.Effects.{changed, without}
 use Rattle.cf_model.specs.Items.{Item, pin_of}
 use Rattle.cf_ranges.specs.Pairs.{cluster_at}
 use Rattle.cf_table.specs.Means.{Means}
-use Rattle.cf_table.specs.Tables.{AreSpellable, IsRowAt, IsRowGap, MeansAll, RisesFrom, SetsAt, SetsRow, pin_at, row_len, row_of, rows_len, with_row, without_row}
-use Rattle.cf_table.specs.Applied.{IsSpellable}
+use Rattle.cf_table.specs.Tables.{IsRowAt, IsRowGap, MeansAll, RisesFrom, SetsAt, SetsRow, pin_at, row_of, with_row, without_row}
 use Rattle.cf_table.specs.declared.rows.Row.{Row}
 use Rattle.cf_table.proofs.Searched.{from_low}
 
@@ -88,7 +86,7 @@ absent_means key f (x ∷ xs) (i ∷ is) a m =
 
 -- a row that goes
 
-kept_above : (low : ℕ) (id : ItemId) (rows : List Row) → id.0 < low → RisesFrom low rows → without_row id rows ≡ rows
+pub kept_above : (low : ℕ) (id : ItemId) (rows : List Row) → id.0 < low → RisesFrom low rows → without_row id rows ≡ rows
 kept_above low id [] h r = refl
 kept_above low id (x ∷ xs) h r =
     cond-true (not (eqb x.id.0 id.0)) _ _ (ap not (ne_eqb x.id.0 id.0 (λ e. omega (arith, r.0)))) ∙ ap (λ v. x ∷ v) (kept_above (x.id.0 + 1) id xs (omega (arith, r.0)) r.1)
@@ -204,6 +202,10 @@ sets_none P id k old gap =
 pub on_ok_map : {A E : Type 0} (r : Result A E) (P Q : Type 0) → (P → Q) → OnOk r P → OnOk r Q
 on_ok_map (Ok x) P Q f p = f p
 on_ok_map (Err e) P Q f p = p
+
+pub if_ok_map : {A E : Type 0} (r : Result A E) (P Q : A → Type 0) → ((x : A) → P x → Q x) → IfOk r P → IfOk r Q
+if_ok_map (Ok x) P Q f p = f x p
+if_ok_map (Err e) P Q f p = p
 
 -- the cluster that the row of the item had
 pub extent_before : {E : Type 0} (r : Result (Option ℕ) E) (block : ℕ) (id : ItemId) (k : ℕ) (old : List Row) → RisesFrom 0 old → IsRowAt old id.0 k →

@@ -1,5 +1,5 @@
 -- What a change of one item that stays makes of it, and what it needs of the row.
-use Rattle.std.specs.Prelude.{ℕ, true, false, List, [], length, Option, Some, None, ◌+◌, ◌^◌, ◌≤◌, ◌≡◌, ◌∷◌}
+use Rattle.std.specs.Prelude.{ℕ, Bool, true, false, List, [], length, Option, ◌+◌, ◌^◌, ◌≤◌, ◌≡◌}
 use Rattle.cf_base.specs.declared.changes.Change.{Change}
 use Rattle.cf_base.specs.declared.changes.Change.TheVariants as change
 use Rattle.cf_base.specs.declared.ids.ItemId.{ItemId}
@@ -8,7 +8,7 @@ use Rattle.cf_base.specs.declared.items.Pin.{Pin}
 use Rattle.cf_model.specs.Effects.{converted, got, kept, left_out, marked, moved, pinned, populated, rebased, reverted, sized, took, unmarked, validated_in, wrote}
 use Rattle.cf_model.specs.Items.{Item}
 use Rattle.cf_ranges.specs.Pairs.{Puts}
-use Rattle.cf_table.specs.Means.{is_rebase_point, KeepsRest, Means}
+use Rattle.cf_table.specs.Means.{is_rebase_point, KeepsPlace, KeepsRest, Means, StaysBefore}
 use Rattle.cf_table.specs.declared.rows.Row.{Row}
 
 -- what the change makes of its item, where that was there before and stays; `pin` is that of a Move's parent
@@ -39,7 +39,7 @@ FitsRow (change.Make item parent name kind size identity) row = ⊥
 FitsRow (change.Remove item) row = ⊥
 FitsRow (change.Move item parent name) row = length name ≤ 255
 FitsRow (change.Write item at bytes) row = at + length bytes ≤ 16777216
-FitsRow (change.Size item size) row = (size ≤ 16777216) × (row.size ≤ 16777216)
+FitsRow (change.Size item size) row = size ≤ 16777216
 FitsRow (change.Filled item start bytes) row = start + length bytes ≤ 2 ^ 40
 FitsRow (change.Validated item start len) row = start + len ≤ 2 ^ 40
 FitsRow (change.Emptied item start len) row = start + len ≤ 2 ^ 40
@@ -54,6 +54,11 @@ FitsRow (change.Copy item from parent name) row = ⊥
 FitsRow (change.Populated item) row = Unit {0}
 FitsRow (change.Keep item on) row = Unit {0}
 
+-- the item gets another place
+abbrev pub moves : Change → Bool
+moves (change.Move item parent name) = true
+moves _ = false
+
 -- a name and an identity that can be spelled
 pub record IsSpellable (row : Row) : Type 0 where
   pub name : length row.name ≤ 255
@@ -63,7 +68,17 @@ pub record IsSpellable (row : Row) : Type 0 where
 pub record Steps (c : Change) (pin : Pin) (n : Usn) (old new : Row) : Type 0 where
   pub means : (i : Item) → Means old i → Means new (item_effect c pin n i)
   pub rest : KeepsRest old new
+  pub later : StaysBefore n old new
+  pub place : moves c ≡ false → KeepsPlace old new
   pub spellable : IsSpellable old → IsSpellable new
+
+-- another parent and name
+pub record Moves (parent : ItemId) (name : List ℕ) (pin : Pin) (n : Usn) (old new : Row) : Type 0 where
+  pub means : (i : Item) → Means old i → Means new (moved parent name pin n i)
+  pub rest : KeepsRest old new
+  pub later : StaysBefore n old new
+  pub place : (new.parent ≡ parent) × (new.name ≡ name)
+  pub identity : new.identity ≡ old.identity
 
 -- another cluster for the block, or none
 pub record SetsExtent (block : ℕ) (cluster : Option ℕ) (old new : Row) : Type 0 where

@@ -1,14 +1,17 @@
 -- What a change needs of a table, and what it leaves beside its items.
-use Rattle.std.specs.Prelude.{ℕ, Bool, true, false, List, [], length, All, MatchOption, max, ◌+◌, ◌≤◌, ◌<◌, ◌≡◌, ◌∷◌, ◌++◌}
+use Rattle.std.specs.Prelude.{Bool, true, false, List, [], length, All, MatchOption, max, ◌+◌, ◌^◌, ◌||◌, ◌≤◌, ◌<◌, ◌≡◌, ◌∷◌, ◌++◌}
 use Rattle.cf_base.specs.declared.changes.Change.{Change}
 use Rattle.cf_base.specs.declared.changes.Change.TheVariants as change
 use Rattle.cf_base.specs.declared.ids.ItemId.{ItemId}
 use Rattle.cf_base.specs.declared.ids.Usn.{Usn}
 use Rattle.cf_base.specs.declared.items.Pin.{Pin}
 use Rattle.cf_base.specs.declared.items.Pin.TheVariants as pin
+use Rattle.cf_model.specs.Books.{Book, anchor_of}
+use Rattle.cf_model.specs.Items.{Item, item_of}
+use Rattle.cf_model.specs.Numbers.{no_usn, same_usn}
 use Rattle.cf_table.specs.Applied.{FitsRow}
 use Rattle.cf_table.specs.Means.{IsFresh, IsLater, KeepsRest}
-use Rattle.cf_table.specs.Tables.{SetsRow, pin_at, row_of, without_row}
+use Rattle.cf_table.specs.Tables.{SetsRow, Table, pin_at, row_of, without_row}
 use Rattle.cf_table.specs.declared.rows.Row.{Row}
 
 -- the item that the change is of
@@ -58,6 +61,10 @@ Fits c rows = FitsRows c rows
 abbrev pub IsNext : Usn → List Row → Type 0
 IsNext n rows = All (λ r. IsLater n r) rows
 
+-- the id that the next item gets is above all others
+abbrev pub AreBelow : Table → Type 0
+AreBelow t = All (λ r. r.id.0 < t.next.0) t.rows
+
 -- one more row, of a new item
 abbrev pub AddsRow : ItemId → List Row → List Row → Type 0
 AddsRow item old new = (s : Row) × IsFresh s × (s.id ≡ item) × (new ≡ old ++ s ∷ [])
@@ -79,3 +86,37 @@ next_after _ next = next
 abbrev pub pin_for : Change → List Row → Pin
 pin_for (change.Move item parent name) rows = pin_at rows parent
 pin_for _ rows = pin.Unspecified
+
+-- What is said above of rows, of the items that they mean. The anchors are those of the book.
+
+abbrev pub FitsItem : Change → Book → Item → Type 0
+FitsItem (change.Make item parent name kind size identity) b i = ⊥
+FitsItem (change.Remove item) b i = ⊥
+FitsItem (change.Move item parent name) b i = length name ≤ 255
+FitsItem (change.Write item at bytes) b i = at + length bytes ≤ 16777216
+FitsItem (change.Size item size) b i = size ≤ 16777216
+FitsItem (change.Filled item start bytes) b i = start + length bytes ≤ 2 ^ 40
+FitsItem (change.Validated item start len) b i = start + len ≤ 2 ^ 40
+FitsItem (change.Emptied item start len) b i = start + len ≤ 2 ^ 40
+FitsItem (change.SetPin item state) b i = Unit {0}
+FitsItem (change.Mark item number) b i = Unit {0}
+FitsItem (change.Clear item) b i = Unit {0}
+FitsItem (change.Convert item identity) b i = length identity ≤ 65535
+FitsItem (change.Revert item) b i = Unit {0}
+FitsItem (change.Rebase item identity len at) b i = (length identity ≤ 65535) × (len ≤ 16777216) × ((same_usn at no_usn || same_usn at (anchor_of b i.id) || same_usn at i.number) ≡ true)
+FitsItem (change.Take item identity size) b i = (length identity ≤ 65535) × (size ≤ 16777216)
+FitsItem (change.Copy item from parent name) b i = ⊥
+FitsItem (change.Populated item) b i = Unit {0}
+FitsItem (change.Keep item on) b i = Unit {0}
+
+abbrev pub IsNewAmong : ItemId → List Item → Type 0
+IsNewAmong item items = (item.0 < 18446744073709551615) × All (λ i. i.id.0 < item.0) items
+
+abbrev pub FitsItems : Change → Book → List Item → Type 0
+FitsItems c b items = All (λ i. i.id.0 ≡ (item_of_change c).0 → FitsItem c b i) items
+
+abbrev pub ItemsFit : Change → Book → List Item → Type 0
+ItemsFit (change.Make item parent name kind size identity) b items = IsNewAmong item items × (length name ≤ 255) × (length identity ≤ 65535) × (size ≤ 16777216)
+ItemsFit (change.Copy item from parent name) b items = IsNewAmong item items × (length name ≤ 255) × MatchOption (item_of items from) ⊥ (λ i. 8 ≤ length i.identity)
+ItemsFit (change.Remove item) b items = Unit {0}
+ItemsFit c b items = FitsItems c b items

@@ -1,5 +1,9 @@
 pub mod Applied
+pub mod Booked
 pub mod Changing
+pub mod Faults
+pub mod Index
 pub mod Means
+pub mod Reading
 pub mod Spelling
 pub mod Tables

@@ -1,5 +1,5 @@
 -- What a row tells of an item.
-use Rattle.std.specs.Prelude.{ℕ, Bool, true, false, not, List, [], length, replicate, nat_lt, ◌&&◌, ◌||◌, ◌∷◌, ◌≡◌}
+use Rattle.std.specs.Prelude.{ℕ, Bool, true, false, not, List, [], length, nat_lt, ◌&&◌, ◌||◌, ◌∷◌, ◌≡◌}
 use Rattle.cf_base.specs.declared.ids.Usn.{Usn}
 use Rattle.cf_base.specs.declared.items.Kind.{Kind}
 use Rattle.cf_model.specs.Effects.{later_than, writes_made}
@@ -52,6 +52,10 @@ pub record Means (row : Row) (i : Item) : Type 0 where
 pub record IsLater (n : Usn) (row : Row) : Type 0 where
   pub number : above n row.number ≡ true
   pub anchor : above n row.anchor ≡ true
+
+-- what comes after the old number and after n comes after the new one too
+abbrev pub StaysBefore : Usn → Row → Row → Type 0
+StaysBefore n old new = (m : Usn) → above m old.number ≡ true → above m n ≡ true → above m new.number ≡ true
 
 -- a number up to which a base can take the writes in: none of them, those up to the anchor, or all
 abbrev pub is_rebase_point : Usn → Row → Bool

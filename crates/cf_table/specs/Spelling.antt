@@ -1,5 +1,5 @@
 -- How rows are spelled.
-use Rattle.std.specs.Prelude.{ℕ, Bool, List, [], length, map, All, ◌+◌, ◌^◌, ◌<◌, ◌∷◌}
+use Rattle.std.specs.Prelude.{ℕ, List, length, map, All, ◌+◌, ◌^◌, ◌<◌}
 use Rattle.cf_base.specs.declared.spans.Span.{Span}
 use Rattle.std.specs.List.{flat_map}
 use Rattle.cf_model.specs.Rows.{Extent, spell_extent, spell_row, spell_run}

@@ -1,10 +1,12 @@
 -- The rows of a table, in order of id, and the items that they tell of.
-use Rattle.std.specs.Prelude.{ℕ, Bool, true, false, not, cond, List, [], length, map, Option, Some, None, find, filter, MatchOption, get_or, set, nat_lt, ◌+◌, ◌*◌, ◌^◌, ◌≤◌, ◌<◌, ◌≡◌, ◌&&◌, ◌==◌, ◌∷◌, ◌++◌}
+use Rattle.std.specs.Prelude.{ℕ, Bool, true, not, cond, List, [], length, map, Option, Some, None, find, filter, MatchOption, get_or, set, nat_lt, ◌+◌, ◌*◌, ◌^◌, ◌≤◌, ◌<◌, ◌≡◌, ◌&&◌, ◌==◌, ◌∷◌}
 use Rattle.cf_base.specs.declared.ids.ItemId.{ItemId}
 use Rattle.cf_base.specs.declared.items.Pin.{Pin}
 use Rattle.cf_base.specs.declared.items.Pin.TheVariants as pin
 use Rattle.cf_model.specs.Items.{Item}
-use Rattle.cf_model.specs.Words.{same}
+use Rattle.cf_model.specs.Words.{comes_before, same, sorted}
+use Rattle.cf_ranges.specs.Pairs.{IsRising}
+use Rattle.cf_ranges.specs.Positions.{IsRuns}
 use Rattle.cf_table.specs.Applied.{IsSpellable}
 use Rattle.cf_table.specs.Means.{Means}
 use Rattle.cf_table.specs.declared.rows.Row.{Row}
@@ -25,10 +27,6 @@ MeansAll (r ∷ rs) (i ∷ is) = Means r i × MeansAll rs is
 abbrev pub RisesFrom : ℕ → List Row → Type 0
 RisesFrom low [] = Unit {0}
 RisesFrom low (r ∷ rs) = (low ≤ r.id.0) × RisesFrom (r.id.0 + 1) rs
-
-abbrev pub AreSpellable : List Row → Type 0
-AreSpellable [] = Unit {0}
-AreSpellable (r ∷ rs) = IsSpellable r × AreSpellable rs
 
 abbrev pub row_of : List Row → ItemId → Option Row
 row_of rows id = find (λ r. r.id.0 == id.0) rows
@@ -66,17 +64,29 @@ abbrev pub pin_at : List Row → ItemId → Pin
 pin_at [] id = pin.Unspecified
 pin_at (r ∷ rs) id = cond (r.id.0 == id.0) r.pin (pin_at rs id)
 
--- more runs than that no row can have
-abbrev pub AreShort : List Row → Type 0
-AreShort [] = Unit {0}
-AreShort (r ∷ rs) = (row_len r ≤ 2 ^ 47) × AreShort rs
+-- The form in which a table keeps what a row has: sets as their maximal runs, extents in order of block.
+pub record IsStored (row : Row) : Type 0 where
+  pub size : row.size < 2 ^ 32
+  pub here : IsRuns row.here
+  pub valid : IsRuns row.valid
+  pub modified : IsRuns row.modified
+  pub modified_since : IsRuns row.modified_since
+  pub extents : IsRising row.extents
 
--- Rows as a table keeps them, and how many bytes spell them. The bound of their number keeps that one below 2 ^ 64.
+-- a row as a table keeps it; no row can be longer than that
+pub record IsTableRow (row : Row) : Type 0 where
+  pub spellable : IsSpellable row
+  pub stored : IsStored row
+  pub short : row_len row ≤ 2 ^ 47
+
+abbrev pub AreTableRows : List Row → Type 0
+AreTableRows [] = Unit {0}
+AreTableRows (r ∷ rs) = IsTableRow r × AreTableRows rs
+
+-- rows as a table keeps them, and how many bytes spell them
 pub record IsTable (rows : List Row) (n : ℕ) : Type 0 where
   pub rises : RisesFrom 0 rows
-  pub spellable : AreSpellable rows
-  pub short : AreShort rows
-  pub count : length rows ≤ 65536
+  pub kept : AreTableRows rows
   pub len : n ≡ rows_len rows
 
 -- new is old with another row at place k, one that P allows in place of the old
@@ -94,6 +104,13 @@ comes_after (Some id) r = nat_lt id.0 r.id.0
 
 abbrev pub is_child_row : ItemId → List ℕ → Row → Bool
 is_child_row parent name r = (r.parent.0 == parent.0) && same r.name name
+
+abbrev pub child_rows : List Row → ItemId → List Row
+child_rows rows parent = filter (λ r. r.parent.0 == parent.0) rows
+
+-- by name; those of one name stay in order
+abbrev pub rows_by_name : List Row → List Row
+rows_by_name rows = sorted (λ r s. comes_before r.name s.name) rows
 
 -- the id of a row that may be there
 abbrev pub id_of : Option Row → Option ItemId

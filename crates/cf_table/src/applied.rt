@@ -1,10 +1,10 @@
 //! A change applied to the row of its item.
 
-ghost use Rattle.std.specs.Prelude.{◌≡◌, true, OnOk, OnErr};
+ghost use Rattle.std.specs.Prelude.{◌≡◌, false, true, OnOk, OnErr};
 ghost use Rattle.cf_model.specs.Effects.{converted, moved, rebased, took};
 ghost use Rattle.cf_model.specs.Items.{Item};
-ghost use Rattle.cf_table.specs.Applied.{FitsRow, IsSpellable, item_effect};
-ghost use Rattle.cf_table.specs.Means.{is_rebase_point, IsLater, KeepsPlace, KeepsRest, Means};
+ghost use Rattle.cf_table.specs.Applied.{FitsRow, IsSpellable, item_effect, moves};
+ghost use Rattle.cf_table.specs.Means.{is_rebase_point, IsLater, KeepsPlace, KeepsRest, Means, StaysBefore};
 
 use crate::rows::Row;
 use cf_base::{Blob, Change, Identity, ItemId, Memory, Name, Pin, Span, Usn};
@@ -25,6 +25,8 @@ impl Row {
         ensures ok { OnOk result ((i : Item) → Means self.old i → Means self.new (item_effect change.now pin number i)) }
         ensures err { OnErr result (self.new ≡ self.old) }
         ensures rest { KeepsRest self.old self.new }
+        ensures later { StaysBefore number self.old self.new }
+        ensures place { moves change.now ≡ false → KeepsPlace self.old self.new }
         ensures spellable { IsSpellable self.old → IsSpellable self.new }
     {
         match change {
@@ -106,6 +108,7 @@ impl Row {
         ensures ok { OnOk result ((i : Item) → Means self.old i → Means self.new (converted identity.now number i)) }
         ensures err { OnErr result (self.new ≡ self.old) }
         ensures rest { KeepsRest self.old self.new }
+        ensures later { StaysBefore number self.old self.new }
         ensures place { KeepsPlace self.old self.new }
         ensures identity { OnOk result (self.new.identity ≡ identity.now) }
     {
@@ -125,6 +128,7 @@ impl Row {
         ensures ok { OnOk result ((i : Item) → Means self.old i → Means self.new (rebased identity.now len at i)) }
         ensures err { OnErr result (self.new ≡ self.old) }
         ensures rest { KeepsRest self.old self.new }
+        ensures number { self.new.number ≡ self.old.number }
         ensures place { KeepsPlace self.old self.new }
         ensures identity { OnOk result (self.new.identity ≡ identity.now) }
     {
@@ -143,6 +147,7 @@ impl Row {
         ensures ok { OnOk result ((i : Item) → Means self.old i → Means self.new (took identity.now size number i)) }
         ensures err { OnErr result (self.new ≡ self.old) }
         ensures rest { KeepsRest self.old self.new }
+        ensures later { StaysBefore number self.old self.new }
         ensures place { KeepsPlace self.old self.new }
         ensures identity { OnOk result (self.new.identity ≡ identity.now) }
     {
@@ -163,6 +168,7 @@ impl Row {
         ensures ok { OnOk result ((i : Item) → Means self.old i → Means self.new (moved parent name.now pin number i)) }
         ensures err { OnErr result (self.new ≡ self.old) }
         ensures rest { KeepsRest self.old self.new }
+        ensures later { StaysBefore number self.old self.new }
         ensures name { OnOk result (self.new.name ≡ name.now) }
         ensures identity { self.new.identity ≡ self.old.identity }
     {

@@ -3,7 +3,7 @@
 ghost use Rattle.std.specs.Prelude.{◌≡◌, ◌+◌, ◌^◌, ◌≤◌, ◌<◌, ℕ, List, length, OnOk, OnErr};
 ghost use Rattle.cf_model.specs.Effects.{got, left_out, sized, validated_in, wrote};
 ghost use Rattle.cf_model.specs.Items.{Item};
-ghost use Rattle.cf_table.specs.Means.{IsLater, KeepsRest, KeepsTexts, Means};
+ghost use Rattle.cf_table.specs.Means.{IsLater, KeepsRest, KeepsTexts, Means, StaysBefore};
 
 use crate::rows::Row;
 use cf_base::{Memory, Span, Usn};
@@ -19,6 +19,7 @@ impl Row {
         ensures ok { OnOk result ((i : Item) (bytes : List ℕ) → length bytes ≡ len → Means self.old i → Means self.new (wrote at bytes number i)) }
         ensures err { OnErr result (self.new ≡ self.old) }
         ensures rest { KeepsRest self.old self.new }
+        ensures later { StaysBefore number self.old self.new }
         ensures texts { KeepsTexts self.old self.new }
     {
         let end = at + len;
@@ -44,11 +45,11 @@ impl Row {
     /// A local cut, or growth by zeros, to a size of at most 16,777,216. Without memory the row is as before.
     pub fn set_size(&mut self, size: u32, number: Usn) -> Result<(), Memory>
         requires fits { size ≤ 16777216 }
-        requires fitted { self.old.size ≤ 16777216 }
         requires later { IsLater number self.old }
         ensures ok { OnOk result ((i : Item) → Means self.old i → Means self.new (sized size number i)) }
         ensures err { OnErr result (self.new ≡ self.old) }
         ensures rest { KeepsRest self.old self.new }
+        ensures later { StaysBefore number self.old self.new }
         ensures texts { KeepsTexts self.old self.new }
     {
         if size < self.size {
@@ -64,6 +65,7 @@ impl Row {
         ensures ok { OnOk result ((i : Item) → Means self.old i → Means self.new (sized size number i)) }
         ensures err { OnErr result (self.new ≡ self.old) }
         ensures rest { KeepsRest self.old self.new }
+        ensures later { StaysBefore number self.old self.new }
         ensures texts { KeepsTexts self.old self.new }
     {
         let span = Span {
@@ -92,6 +94,7 @@ impl Row {
         ensures ok { OnOk result ((i : Item) → Means self.old i → Means self.new (sized size number i)) }
         ensures err { OnErr result (self.new ≡ self.old) }
         ensures rest { KeepsRest self.old self.new }
+        ensures later { StaysBefore number self.old self.new }
         ensures texts { KeepsTexts self.old self.new }
     {
         let span = Span {
@@ -119,6 +122,7 @@ impl Row {
         ensures ok { OnOk result ((i : Item) (bytes : List ℕ) → length bytes ≡ span.len → Means self.old i → Means self.new (got span.start bytes i)) }
         ensures err { OnErr result (self.new ≡ self.old) }
         ensures rest { KeepsRest self.old self.new }
+        ensures number { self.new.number ≡ self.old.number }
         ensures texts { KeepsTexts self.old self.new }
     {
         let size = self.size as u64;
@@ -138,6 +142,7 @@ impl Row {
         ensures ok { OnOk result ((i : Item) → Means self.old i → Means self.new (validated_in span.start span.len i)) }
         ensures err { OnErr result (self.new ≡ self.old) }
         ensures rest { KeepsRest self.old self.new }
+        ensures number { self.new.number ≡ self.old.number }
         ensures texts { KeepsTexts self.old self.new }
     {
         let gaps = self.here.missing_in(span)?;
@@ -154,6 +159,7 @@ impl Row {
         ensures ok { OnOk result ((i : Item) → Means self.old i → Means self.new (left_out span.start span.len i)) }
         ensures err { OnErr result (self.new ≡ self.old) }
         ensures rest { KeepsRest self.old self.new }
+        ensures number { self.new.number ≡ self.old.number }
         ensures texts { KeepsTexts self.old self.new }
     {
         let gaps = self.modified.missing_in(span)?;

@@ -1,11 +1,11 @@
 //! Look-ups in the rows of a volume.
 
-ghost use Rattle.std.specs.Prelude.{◌≡◌, ◌≤◌, ◌<◌, ◌&&◌, ◌||◌, ◌==◌, ℕ, List, Option, find, filter, IfOk, length, get_or, true, false};
+ghost use Rattle.std.specs.Prelude.{◌≡◌, ◌≤◌, ◌<◌, ◌&&◌, ◌||◌, ◌==◌, ℕ, Option, find, filter, IfOk, length, get_or, true, false};
 ghost use Rattle.cf_model.specs.Numbers.{above};
-ghost use Rattle.cf_model.specs.Words.{same};
-ghost use Rattle.cf_table.specs.Tables.{comes_after, id_of, ids_of, is_child_row, RisesFrom};
+ghost use Rattle.cf_table.specs.Tables.{child_rows, comes_after, id_of, ids_of, is_child_row, RisesFrom, rows_by_name};
 ghost use Rattle.cf_table.specs.declared.rows.Row.{Row};
 
+use crate::entries::{child_at, children_at};
 use crate::row_lists::find_row;
 use crate::rows::Row;
 use crate::tables::Rows;
@@ -16,12 +16,6 @@ fn is_above(number: Usn, other: Usn) -> bool
     ensures { result ≡ above number other }
 {
     number.epoch > other.epoch || number.epoch == other.epoch && number.place > other.place
-}
-
-fn is_child(row: &Row, parent: ItemId, name: &[u8]) -> bool
-    ensures { result ≡ is_child_row parent name.now row.now }
-{
-    row.parent == parent && row.name.as_slice() == name
 }
 
 // How many rows do not come after the id.
@@ -52,17 +46,6 @@ fn id_after(rows: &[Row], id: Option<ItemId>) -> Option<ItemId>
     }
 }
 
-fn child_in(rows: &[Row], parent: ItemId, name: &[u8]) -> Option<ItemId>
-    ensures { result ≡ id_of (find (is_child_row parent name.now) rows.now) }
-{
-    for row in rows {
-        if is_child(row, parent, name) {
-            return Some(row.id);
-        }
-    }
-    None
-}
-
 fn changed_in(alloc: Global, rows: &[Row], number: Usn) -> Result<Vec<ItemId>, Memory>
     ensures { IfOk result (λ v. v.items ≡ ids_of (filter (λ r. above r.number number) rows.now)) }
 {
@@ -83,11 +66,18 @@ impl Rows {
         id_after(&self.rows, id)
     }
 
-    /// The item with this parent and name. Takes no memory.
+    /// The item with this parent and name. By a binary search. Takes no memory.
     pub fn child(&self, parent: ItemId, name: &[u8]) -> Option<ItemId>
         ensures { result ≡ id_of (find (is_child_row parent name.now) self.now.rows) }
     {
-        child_in(&self.rows, parent, name)
+        child_at(&self.index, parent, name)
+    }
+
+    /// The children of a directory by name. The work grows with them alone.
+    pub fn children(&self, id: ItemId) -> Result<Vec<ItemId>, Memory>
+        ensures { IfOk result (λ v. v.items ≡ ids_of (rows_by_name (child_rows self.now.rows id))) }
+    {
+        children_at(self.alloc, &self.index, id)
     }
 
     /// The items whose number is above this one, in order of id.

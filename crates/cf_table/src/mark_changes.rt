@@ -1,12 +1,12 @@
 //! Changes of a row by what is said of its item, and of what counts as modified.
 
-ghost use Rattle.std.specs.Prelude.{◌≡◌, ◌+◌, ◌≤◌, ◌<◌, ◌&&◌, ◌==◌, ℕ, List, [], true, false, cond, Some, not, nat_lt, OnOk, OnErr, IfOk};
+ghost use Rattle.std.specs.Prelude.{◌≡◌, ◌<◌, ◌&&◌, ◌==◌, ℕ, [], true, false, cond, Some, not, nat_lt, OnOk, OnErr, IfOk};
 ghost use Rattle.cf_base.specs.declared.ids.Usn.{Usn};
 ghost use Rattle.cf_model.specs.Effects.{converted, kept, marked, moved, pinned, populated, rebased, reverted, took, unmarked};
 ghost use Rattle.cf_model.specs.Items.{Item};
 ghost use Rattle.cf_ranges.specs.Positions.{contains};
 ghost use Rattle.cf_model.specs.Numbers.{is_no_usn};
-ghost use Rattle.cf_table.specs.Means.{is_rebase_point, IsLater, KeepsPlace, KeepsRest, KeepsTexts, Means};
+ghost use Rattle.cf_table.specs.Means.{is_rebase_point, IsLater, KeepsPlace, KeepsRest, KeepsTexts, Means, StaysBefore};
 
 use crate::rows::{NO_USN, Row};
 use cf_base::{Blob, Identity, ItemId, Memory, Pin, Span, Usn};
@@ -18,6 +18,7 @@ impl Row {
     pub fn set_pin(&mut self, pin: Pin)
         ensures means { (i : Item) → Means self.old i → Means self.new (pinned pin i) }
         ensures rest { KeepsRest self.old self.new }
+        ensures number { self.new.number ≡ self.old.number }
         ensures texts { KeepsTexts self.old self.new }
     {
         self.pin = pin;
@@ -27,6 +28,7 @@ impl Row {
     pub fn mark(&mut self, alloc: Global)
         ensures means { (i : Item) → Means self.old i → Means self.new (marked i) }
         ensures rest { KeepsRest self.old self.new }
+        ensures number { self.new.number ≡ self.old.number }
         ensures texts { KeepsTexts self.old self.new }
     {
         self.in_sync = true;
@@ -48,6 +50,7 @@ impl Row {
     pub fn clear(&mut self)
         ensures means { (i : Item) → Means self.old i → Means self.new (unmarked i) }
         ensures rest { KeepsRest self.old self.new }
+        ensures number { self.new.number ≡ self.old.number }
         ensures texts { KeepsTexts self.old self.new }
     {
         self.in_sync = false;
@@ -58,6 +61,7 @@ impl Row {
         requires { IsLater number self.old }
         ensures means { (i : Item) → Means self.old i → Means self.new (converted identity number i) }
         ensures rest { KeepsRest self.old self.new }
+        ensures later { StaysBefore number self.old self.new }
         ensures place { KeepsPlace self.old self.new }
         ensures identity { self.new.identity ≡ identity }
     {
@@ -74,6 +78,7 @@ impl Row {
         ensures ok { OnOk result ((i : Item) → Means self.old i → Means self.new (reverted number i)) }
         ensures err { OnErr result (self.new ≡ self.old) }
         ensures rest { KeepsRest self.old self.new }
+        ensures later { StaysBefore number self.old self.new }
         ensures place { KeepsPlace self.old self.new }
         ensures identity { OnOk result (self.new.identity ≡ []) }
     {
@@ -115,6 +120,7 @@ impl Row {
         ensures ok { OnOk result ((i : Item) → Means self.old i → Means self.new (rebased identity len at i)) }
         ensures err { OnErr result (self.new ≡ self.old) }
         ensures rest { KeepsRest self.old self.new }
+        ensures number { self.new.number ≡ self.old.number }
         ensures place { KeepsPlace self.old self.new }
         ensures identity { OnOk result (self.new.identity ≡ identity) }
     {
@@ -139,6 +145,7 @@ impl Row {
         requires { is_no_usn self.old.number ≡ false }
         ensures means { (i : Item) → Means self.old i → Means self.new (rebased identity len self.old.number i) }
         ensures rest { KeepsRest self.old self.new }
+        ensures number { self.new.number ≡ self.old.number }
         ensures place { KeepsPlace self.old self.new }
         ensures identity { self.new.identity ≡ identity }
     {
@@ -152,6 +159,7 @@ impl Row {
         ensures ok { OnOk result ((i : Item) → Means self.old i → Means self.new (rebased identity len self.old.anchor i)) }
         ensures err { OnErr result (self.new ≡ self.old) }
         ensures rest { KeepsRest self.old self.new }
+        ensures number { self.new.number ≡ self.old.number }
         ensures place { KeepsPlace self.old self.new }
         ensures identity { OnOk result (self.new.identity ≡ identity) }
     {
@@ -168,6 +176,7 @@ impl Row {
         requires { IsLater number self.old }
         ensures means { (i : Item) → Means self.old i → Means self.new (took identity size number i) }
         ensures rest { KeepsRest self.old self.new }
+        ensures later { StaysBefore number self.old self.new }
         ensures place { KeepsPlace self.old self.new }
         ensures identity { self.new.identity ≡ identity }
     {
@@ -185,6 +194,7 @@ impl Row {
     pub fn populate(&mut self)
         ensures means { (i : Item) → Means self.old i → Means self.new (populated i) }
         ensures rest { KeepsRest self.old self.new }
+        ensures number { self.new.number ≡ self.old.number }
         ensures texts { KeepsTexts self.old self.new }
     {
         self.populated = true;
@@ -194,6 +204,7 @@ impl Row {
     pub fn set_keep(&mut self, on: bool)
         ensures means { (i : Item) → Means self.old i → Means self.new (kept on i) }
         ensures rest { KeepsRest self.old self.new }
+        ensures number { self.new.number ≡ self.old.number }
         ensures texts { KeepsTexts self.old self.new }
     {
         self.keep = on;
@@ -204,6 +215,7 @@ impl Row {
         requires { IsLater number self.old }
         ensures means { (i : Item) → Means self.old i → Means self.new (moved parent name pin number i) }
         ensures rest { KeepsRest self.old self.new }
+        ensures later { StaysBefore number self.old self.new }
         ensures place { (self.new.parent ≡ parent) × (self.new.name ≡ name) }
         ensures identity { self.new.identity ≡ self.old.identity }
     {

@@ -1,6 +1,6 @@
 //! Rows of new items.
 
-ghost use Rattle.std.specs.Prelude.{◌≡◌, ◌≤◌, ◌<◌, ◌++◌, ℕ, List, [], length, true, false, replicate, drop, Option, IfOk, Ok, Err};
+ghost use Rattle.std.specs.Prelude.{◌≡◌, ◌≤◌, ◌<◌, [], length, true, false, Option, IfOk, Ok};
 ghost use Rattle.cf_model.specs.Effects.{base_made, copied, is_directory, is_placeholder, is_populated, made, size_made, untargeted};
 ghost use Rattle.cf_model.specs.Items.{Item, root};
 ghost use Rattle.cf_model.specs.Numbers.{above, no_usn};
@@ -167,7 +167,7 @@ impl Row {
         requires identity { 8 ≤ length self.now.identity }
         ensures means { IfOk result (λ r. (i : Item) → Means self.now i → Means r (copied place.id place.parent place.name place.pin place.number i)) }
         ensures fresh { IfOk result IsFresh }
-        ensures texts { IfOk result (λ r. (r.id ≡ place.id) × (r.name ≡ place.name) × (r.identity ≡ untargeted self.now.identity)) }
+        ensures texts { IfOk result (λ r. (r.id ≡ place.id) × (r.name ≡ place.name) × (r.identity ≡ untargeted self.now.identity) × (r.number ≡ place.number)) }
     {
         let identity = without_target(alloc, self.identity.as_slice())?;
         Ok(Row {

@@ -1,22 +1,21 @@
 //! Lists of rows in order of id.
 
-ghost use Rattle.std.specs.Prelude.{◌≡◌, ◌≤◌, ◌<◌, ◌^◌, ◌+◌, ◌++◌, ◌∷◌, [], ℕ, List, Option, IfOk, IfErr, OnOk, OnErr, All, length, get_or, remove};
+ghost use Rattle.std.specs.Prelude.{◌≡◌, ◌≤◌, ◌<◌, ◌^◌, ◌+◌, ◌++◌, ◌∷◌, [], ℕ, Option, IfOk, IfErr, OnOk, OnErr, All, length, get_or, remove};
 ghost use Rattle.cf_ranges.specs.Pairs.{cluster_at, IsRising};
-ghost use Rattle.cf_table.specs.Applied.{FitsRow, IsSpellable, SetsAnchor, SetsExtent, Steps, Touches};
+ghost use Rattle.cf_ranges.specs.Positions.{IsRuns};
+ghost use Rattle.cf_table.specs.Applied.{FitsRow, IsSpellable, Moves, SetsAnchor, SetsExtent, Steps, Touches};
 ghost use Rattle.cf_table.specs.Means.{IsLater};
-ghost use Rattle.cf_table.specs.Tables.{IsRowAt, IsRowGap, IsTable, pin_at, RisesFrom, row_len, SetsAt, with_row, without_row};
+ghost use Rattle.cf_table.specs.Tables.{IsRowAt, IsRowGap, IsTable, IsTableRow, pin_at, RisesFrom, row_len, SetsAt, with_row};
 ghost use Rattle.cf_table.specs.declared.rows.Row.{Row};
 
 use crate::rows::Row;
-use cf_base::{Change, ItemId, Memory, Pin, Usn};
+use cf_base::{Blob, Change, ItemId, Memory, Pin, Usn};
 use cf_ranges::RangeSet;
 use std::alloc::Global;
 
-// So many rows are spelled by fewer than 2 ^ 64 bytes.
-const MOST_ROWS: usize = 65_536;
-
 fn run_count(set: &RangeSet) -> u64
     ensures value { result ≡ length set.now }
+    ensures maximal { IsRuns set.now }
     ensures small { result ≤ 2 ^ 41 }
 {
     set.runs().len() as u64
@@ -40,6 +39,7 @@ impl Row {
     pub fn len(&self) -> u64
         requires { IsSpellable self.now }
         ensures value { result ≡ row_len self.now }
+        ensures kept { IsTableRow self.now }
         ensures small { result ≤ 2 ^ 47 }
     {
         let runs = run_count(&self.here)
@@ -76,11 +76,11 @@ pub(crate) fn change_at(
     alloc: Global,
     rows: &mut Vec<Row>,
     place: usize,
-    len: u64,
+    len: u128,
     change: &Change,
     pin: Pin,
     number: Usn,
-) -> Result<u64, Memory>
+) -> Result<u128, Memory>
     requires place { place < length rows.old.items }
     requires table { IsTable rows.old.items len }
     requires fits { (d : Row) → FitsRow change.now (get_or rows.old.items place d) }
@@ -90,13 +90,36 @@ pub(crate) fn change_at(
     ensures err { OnErr result (rows.new.items ≡ rows.old.items) }
 {
     let row = &mut rows[place];
-    let before = row.len();
+    let before = row.len() as u128;
     row.apply(alloc, change, pin, number)?;
-    Ok(len - before + row.len())
+    Ok(len - before + row.len() as u128)
+}
+
+/// Gives the item of the row at a place another parent and name.
+pub(crate) fn move_at(
+    rows: &mut Vec<Row>,
+    place: usize,
+    len: u128,
+    parent: ItemId,
+    name: Blob,
+    pin: Pin,
+    number: Usn,
+) -> u128
+    requires place { place < length rows.old.items }
+    requires table { IsTable rows.old.items len }
+    requires name { length name ≤ 255 }
+    requires later { (d : Row) → IsLater number (get_or rows.old.items place d) }
+    ensures table { IsTable rows.new.items result }
+    ensures moves { SetsAt (Moves parent name pin number) place rows.old.items rows.new.items }
+{
+    let row = &mut rows[place];
+    let before = row.len() as u128;
+    row.move_to(parent, name, pin, number);
+    len - before + row.len() as u128
 }
 
 /// Adds a row at the end.
-pub(crate) fn push_row(rows: &mut Vec<Row>, row: Row, len: u64) -> Result<u64, Memory>
+pub(crate) fn push_row(rows: &mut Vec<Row>, row: Row, len: u128) -> Result<u128, Memory>
     requires table { IsTable rows.old.items len }
     requires above { All (λ r. r.id.0 < row.id.0) rows.old.items }
     requires spellable { IsSpellable row }
@@ -104,23 +127,20 @@ pub(crate) fn push_row(rows: &mut Vec<Row>, row: Row, len: u64) -> Result<u64, M
     ensures adds { OnOk result (rows.new.items ≡ rows.old.items ++ row ∷ []) }
     ensures err { OnErr result (rows.new.items ≡ rows.old.items) }
 {
-    if rows.len() >= MOST_ROWS {
-        return Err(Memory);
-    }
-    let more = row.len();
+    let more = row.len() as u128;
     rows.push(row)?;
     Ok(len + more)
 }
 
 /// Takes the row at a place out.
-pub(crate) fn remove_at(rows: &mut Vec<Row>, place: usize, len: u64) -> u64
+pub(crate) fn remove_at(rows: &mut Vec<Row>, place: usize, len: u128) -> u128
     requires place { place < length rows.old.items }
     requires table { IsTable rows.old.items len }
     ensures table { IsTable rows.new.items result }
     ensures removes { rows.new.items ≡ remove rows.old.items place }
 {
     let row = rows.remove(place);
-    len - row.len()
+    len - row.len() as u128
 }
 
 /// Makes the cluster that of a block in the row at a place, or takes the block out where there is none, and gives the
@@ -128,7 +148,7 @@ pub(crate) fn remove_at(rows: &mut Vec<Row>, place: usize, len: u64) -> u64
 pub(crate) fn extent_at(
     rows: &mut Vec<Row>,
     place: usize,
-    len: &mut u64,
+    len: &mut u128,
     block: u32,
     cluster: Option<u32>,
 ) -> Result<Option<u32>, Memory>
@@ -140,23 +160,23 @@ pub(crate) fn extent_at(
     ensures err { OnErr result ((rows.new.items ≡ rows.old.items) × (len.new ≡ len.old)) }
 {
     let row = &mut rows[place];
-    let old_len = row.len();
+    let old_len = row.len() as u128;
     let before = row.set_extent(block, cluster)?;
-    *len = *len - old_len + row.len();
+    *len = *len - old_len + row.len() as u128;
     Ok(before)
 }
 
 /// Makes the anchor of the row at a place its number.
-pub(crate) fn anchor_at(alloc: Global, rows: &mut Vec<Row>, place: usize, len: u64) -> u64
+pub(crate) fn anchor_at(alloc: Global, rows: &mut Vec<Row>, place: usize, len: u128) -> u128
     requires place { place < length rows.old.items }
     requires table { IsTable rows.old.items len }
     ensures table { IsTable rows.new.items result }
     ensures sets { SetsAt SetsAnchor place rows.old.items rows.new.items }
 {
     let row = &mut rows[place];
-    let before = row.len();
+    let before = row.len() as u128;
     row.set_anchor(alloc);
-    len - before + row.len()
+    len - before + row.len() as u128
 }
 
 /// Sets the last access of the row at a place.
@@ -169,34 +189,27 @@ pub(crate) fn touch_at(rows: &mut Vec<Row>, place: usize, clock: u64)
     row.touch(clock);
 }
 
-/// Puts a row in place of the one with its id, or between those with ids below and above.
-pub(crate) fn put_row(rows: &mut Vec<Row>, row: Row, len: u64) -> Result<u64, Memory>
-    requires table { IsTable rows.old.items len }
-    requires spellable { IsSpellable row }
-    ensures table { IfOk result (IsTable rows.new.items) }
-    ensures puts { OnOk result (rows.new.items ≡ with_row row rows.old.items) }
-    ensures err { OnErr result (rows.new.items ≡ rows.old.items) }
-{
-    match find_row(rows, row.id.0) {
-        Ok(place) => Ok(replace_at(rows, place, row, len)),
-        Err(place) => insert_at(rows, place, row, len),
-    }
-}
-
-fn replace_at(rows: &mut Vec<Row>, place: usize, row: Row, len: u64) -> u64
+/// Puts a row in place of the one at a place, which has its id.
+pub(crate) fn replace_at(rows: &mut Vec<Row>, place: usize, row: Row, len: u128) -> u128
     requires place { IsRowAt rows.old.items row.id.0 place }
     requires table { IsTable rows.old.items len }
     requires spellable { IsSpellable row }
     ensures table { IsTable rows.new.items result }
     ensures puts { rows.new.items ≡ with_row row rows.old.items }
 {
-    let before = rows[place].len();
-    let after = row.len();
+    let before = rows[place].len() as u128;
+    let after = row.len() as u128;
     rows[place] = row;
     len - before + after
 }
 
-fn insert_at(rows: &mut Vec<Row>, place: usize, row: Row, len: u64) -> Result<u64, Memory>
+/// Puts a row at a place between those with ids below and above.
+pub(crate) fn insert_at(
+    rows: &mut Vec<Row>,
+    place: usize,
+    row: Row,
+    len: u128,
+) -> Result<u128, Memory>
     requires place { IsRowGap rows.old.items row.id.0 place }
     requires table { IsTable rows.old.items len }
     requires spellable { IsSpellable row }
@@ -204,10 +217,7 @@ fn insert_at(rows: &mut Vec<Row>, place: usize, row: Row, len: u64) -> Result<u6
     ensures puts { OnOk result (rows.new.items ≡ with_row row rows.old.items) }
     ensures err { OnErr result (rows.new.items ≡ rows.old.items) }
 {
-    if rows.len() >= MOST_ROWS {
-        return Err(Memory);
-    }
-    let more = row.len();
+    let more = row.len() as u128;
     rows.insert(place, row)?;
     Ok(len + more)
 }

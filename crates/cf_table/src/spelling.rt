@@ -1,52 +1,21 @@
 //! The spelling of a row.
 
-ghost use Rattle.std.specs.Prelude.{◌≡◌, ◌≤◌, ◌<◌, ◌+◌, ◌^◌, ◌++◌, ◌∷◌, [], ℕ, List, IfOk, OnOk, Option, cond, is_some, unwrap_or, length, map, All};
-ghost use Rattle.std.specs.List.{flat_map};
+ghost use Rattle.std.specs.Prelude.{◌≡◌, ◌≤◌, ◌<◌, ◌+◌, ◌^◌, ◌++◌, ◌∷◌, IfOk, OnOk, is_some, unwrap_or, length, map, All};
 ghost use Rattle.cf_base.specs.declared.ids.Usn.{Usn};
 ghost use Rattle.cf_base.specs.declared.spans.Span.{Span};
 ghost use Rattle.cf_model.specs.Books.{usn_bytes};
 ghost use Rattle.cf_model.specs.Rows.{flag_of, flags_of, pin_byte, spell_extent, spell_extents, spell_head, spell_row, spell_run, spell_runs, spell_sets, spell_texts};
 ghost use Rattle.cf_model.specs.Formats.{spell_rows};
 ghost use Rattle.cf_model.specs.Words.{in_bytes};
-ghost use Rattle.cf_ranges.specs.Pairs.{IsRising};
-ghost use Rattle.cf_ranges.specs.Positions.{IsRuns};
 ghost use Rattle.cf_table.specs.Applied.{IsSpellable};
 ghost use Rattle.cf_table.specs.Spelling.{EndBelow, extent_of, HasRoom, row_value, spell_each, spell_pairs, spell_spans};
 
+use crate::plain_fields::{put_2, put_4, put_8, put_usn};
 use crate::rows::Row;
 use crate::tables::Rows;
 use cf_base::{Blob, Memory, Pin, Span, Usn};
 use cf_codec::Writer;
 use cf_ranges::RangeSet;
-
-#[tactic(auto, using(crate::proofs::Fields::two_bytes))]
-fn put_2(out: &mut Writer, v: u16) -> Result<(), Memory>
-    ensures { OnOk result (out.new ≡ out.old ++ in_bytes 2 v) }
-{
-    out.put_u16(v)
-}
-
-#[tactic(auto, using(crate::proofs::Fields::four_bytes))]
-fn put_4(out: &mut Writer, v: u32) -> Result<(), Memory>
-    ensures { OnOk result (out.new ≡ out.old ++ in_bytes 4 v) }
-{
-    out.put_u32(v)
-}
-
-#[tactic(auto, using(crate::proofs::Fields::eight_bytes))]
-fn put_8(out: &mut Writer, v: u64) -> Result<(), Memory>
-    ensures { OnOk result (out.new ≡ out.old ++ in_bytes 8 v) }
-{
-    out.put_u64(v)
-}
-
-#[tactic(auto, using(crate::proofs::Fields::joined))]
-fn put_usn(out: &mut Writer, n: Usn) -> Result<(), Memory>
-    ensures { OnOk result (out.new ≡ out.old ++ usn_bytes n) }
-{
-    put_4(out, n.epoch)?;
-    put_4(out, n.place)
-}
 
 fn flag(set: bool, weight: u16) -> u16
     ensures value { result ≡ flag_of set weight }
@@ -204,7 +173,8 @@ pub(crate) fn put_rows(out: &mut Writer, rows: &[Row]) -> Result<(), Memory>
 }
 
 impl Rows {
-    /// Spells how many rows there are, and the rows in order of id.
+    /// Spells how many rows there are, and the rows in order of id. Of 4,294,967,296 rows and more only the last four bytes
+    /// of the count are spelled.
     pub fn spell(&self) -> Result<Blob, Memory>
         requires { All HasRoom self.now.rows }
         ensures { IfOk result (λ b. b ≡ spell_rows (map row_value self.now.rows)) }
@@ -216,10 +186,9 @@ impl Rows {
     }
 }
 
-#[tactic(auto, using(crate::proofs::Lengths::same_count))]
+#[tactic(auto, using(crate::proofs::Lengths::same_count, crate::proofs::Fields::last_four))]
 fn put_count(out: &mut Writer, rows: &[Row]) -> Result<(), Memory>
-    requires { length rows.now ≤ 65536 }
     ensures { OnOk result (out.new ≡ out.old ++ in_bytes 4 (length (map row_value rows.now))) }
 {
-    put_4(out, rows.len() as u32)
+    put_4(out, (rows.len() as u64 % 4_294_967_296) as u32)
 }

@@ -1,17 +1,19 @@
 //! Changes applied to the rows of a volume.
 
-ghost use Rattle.std.specs.Prelude.{◌≡◌, ◌≤◌, ◌<◌, ◌+◌, ◌∷◌, ◌++◌, [], ℕ, List, All, MatchOption, get_or, length, max, true, false, OnOk, OnErr, IfOk};
+ghost use Rattle.std.specs.Prelude.{◌≡◌, ◌≤◌, ◌<◌, ◌+◌, ◌∷◌, ◌++◌, [], List, MatchOption, get_or, length, max, true, false, OnOk, OnErr, IfOk};
+ghost use Rattle.cf_base.specs.declared.ids.Usn.{Usn};
 ghost use Rattle.cf_model.specs.Effects.{copied, copies, effect, made};
 ghost use Rattle.cf_model.specs.Items.{Item, item_of, pin_of};
 ghost use Rattle.cf_model.specs.Numbers.{above, no_usn};
 ghost use Rattle.cf_table.specs.Applied.{IsSpellable};
-ghost use Rattle.cf_table.specs.Changing.{AddsRow, Fits, FitsRows, IsNewItem, IsNext, item_of_change, Leaves, next_after, pin_for, stays};
+ghost use Rattle.cf_table.specs.Changing.{AddsRow, AreBelow, Fits, FitsRows, IsNewItem, IsNext, item_of_change, Leaves, next_after, pin_for, stays};
 ghost use Rattle.cf_table.specs.Means.{IsFresh, Means};
 ghost use Rattle.cf_table.specs.Tables.{MeansAll, RisesFrom, row_of};
 ghost use Rattle.cf_table.specs.declared.rows.Row.{Row};
 
+use crate::indexed_rows::{change_indexed, push_indexed};
 use crate::new_rows::Place;
-use crate::row_lists::{change_at, find_row, pin_of, push_row};
+use crate::row_lists::{find_row, pin_of};
 use crate::rows::Row;
 use crate::tables::Rows;
 use cf_base::{Blob, Change, Identity, ItemId, Kind, Memory, Name, Pin, Usn};
@@ -70,20 +72,22 @@ fn copied_row(alloc: Global, rows: &[Row], source: usize, place: Place) -> Resul
     ensures means { IfOk result (λ r. (i : Item) → Means (get_or rows.now source r) i → Means r (copied place.id place.parent place.name place.pin place.number i)) }
     ensures fresh { IfOk result IsFresh }
     ensures id { IfOk result (λ r. r.id ≡ place.id) }
+    ensures number { IfOk result (λ r. r.number ≡ place.number) }
     ensures spellable { IfOk result IsSpellable }
 {
     rows[source].copied(alloc, place)
 }
 
 impl Rows {
-    /// Applies a change under its number. Without memory, or where a new item finds 65,536 rows already, the rows are as
-    /// before.
+    /// Applies a change under its number. Without memory the rows are as before.
     pub fn apply(&mut self, change: &Change, number: Usn) -> Result<(), Memory>
         requires fits { Fits change.now self.old.rows }
         requires after { above number no_usn ≡ true }
         requires later { IsNext number self.old.rows }
         ensures ok { OnOk result ((items : List Item) → MeansAll self.old.rows items → MeansAll self.new.rows (effect items change.now number)) }
         ensures leaves { OnOk result (Leaves change.now self.old.rows self.new.rows) }
+        ensures later { OnOk result ((m : Usn) → above m number ≡ true → IsNext m self.new.rows) }
+        ensures below { OnOk result (AreBelow self.old → AreBelow self.new) }
         ensures next { OnOk result (self.new.next ≡ next_after change.now self.old.next) }
         ensures err { OnErr result (self.new ≡ self.old) }
     {
@@ -101,6 +105,8 @@ impl Rows {
         requires later { IsNext number self.old.rows }
         ensures ok { OnOk result ((items : List Item) → MeansAll self.old.rows items → MeansAll self.new.rows (effect items change.now number)) }
         ensures leaves { OnOk result (Leaves change.now self.old.rows self.new.rows) }
+        ensures later { OnOk result ((m : Usn) → above m number ≡ true → IsNext m self.new.rows) }
+        ensures below { OnOk result (AreBelow self.old → AreBelow self.new) }
         ensures next { OnOk result (self.new.next ≡ next_after change.now self.old.next) }
         ensures err { OnErr result (self.new ≡ self.old) }
     {
@@ -141,8 +147,11 @@ impl Rows {
         requires name { length name.now ≤ 255 }
         requires identity { length identity.now ≤ 65535 }
         requires after { above number no_usn ≡ true }
+        requires later { IsNext number self.old.rows }
         ensures ok { OnOk result ((items : List Item) → MeansAll self.old.rows items → MeansAll self.new.rows (items ++ made item parent name.now kind size identity.now (pin_of items parent) number ∷ [])) }
         ensures adds { OnOk result (AddsRow item self.old.rows self.new.rows) }
+        ensures later { OnOk result ((m : Usn) → above m number ≡ true → IsNext m self.new.rows) }
+        ensures below { OnOk result (AreBelow self.old → AreBelow self.new) }
         ensures next { OnOk result (self.new.next ≡ record { 0 = max self.old.next.0 (item.0 + 1) }) }
         ensures err { OnErr result (self.new ≡ self.old) }
     {
@@ -168,9 +177,12 @@ impl Rows {
         requires new { IsNewItem item self.old.rows }
         requires name { length name.now ≤ 255 }
         requires source { MatchOption (row_of self.old.rows from) ⊥ (λ r. 8 ≤ length r.identity) }
+        requires after { above number no_usn ≡ true }
         requires later { IsNext number self.old.rows }
         ensures ok { OnOk result ((items : List Item) → MeansAll self.old.rows items → MeansAll self.new.rows (items ++ copies item parent name.now (pin_of items parent) number (item_of items from))) }
         ensures adds { OnOk result (AddsRow item self.old.rows self.new.rows) }
+        ensures later { OnOk result ((m : Usn) → above m number ≡ true → IsNext m self.new.rows) }
+        ensures below { OnOk result (AreBelow self.old → AreBelow self.new) }
         ensures next { OnOk result (self.new.next ≡ record { 0 = max self.old.next.0 (item.0 + 1) }) }
         ensures err { OnErr result (self.new ≡ self.old) }
     {
@@ -197,7 +209,7 @@ impl Rows {
         ensures err { OnErr result (self.new ≡ self.old) }
     {
         let next = self.next.0.max(row.id.0 + 1);
-        self.len = push_row(&mut self.rows, row, self.len)?;
+        self.len = push_indexed(self.alloc, &mut self.rows, &mut self.index, row, self.len)?;
         self.next = ItemId(next);
         Ok(())
     }
@@ -210,15 +222,18 @@ impl Rows {
         requires later { IsNext number self.old.rows }
         ensures ok { OnOk result ((items : List Item) → MeansAll self.old.rows items → MeansAll self.new.rows (effect items change.now number)) }
         ensures rest { OnOk result (Leaves change.now self.old.rows self.new.rows) }
+        ensures later { OnOk result ((m : Usn) → above m number ≡ true → IsNext m self.new.rows) }
+        ensures below { OnOk result (AreBelow self.old → AreBelow self.new) }
         ensures next { self.new.next ≡ next_after change.now self.old.next }
         ensures err { OnErr result (self.new ≡ self.old) }
     {
         let pin = pin_for(&self.rows, change);
         match find_row(&self.rows, id.0) {
             Ok(place) => {
-                self.len = change_at(
+                self.len = change_indexed(
                     self.alloc,
                     &mut self.rows,
+                    &mut self.index,
                     place,
                     self.len,
                     change,

@@ -1,22 +1,20 @@
 //! The rows of a volume.
 
-ghost use Rattle.std.specs.Prelude.{◌≡◌, ◌≤◌, ◌<◌, ◌+◌, ◌∷◌, [], ℕ, List, All, length, max, true, OnOk, OnErr, IfOk, MatchOption, None, option_copied};
-ghost use Rattle.cf_base.specs.declared.changes.Change.{Change};
-ghost use Rattle.cf_model.specs.Effects.{changed, copies, made};
-ghost use Rattle.cf_model.specs.Items.{Item, item_of, pin_of, root};
+ghost use Rattle.std.specs.Prelude.{◌≡◌, ◌<◌, ◌∷◌, [], All, min, true, OnOk, OnErr, IfOk, MatchOption, None, option_copied};
+ghost use Rattle.cf_base.specs.declared.ids.Usn.{Usn};
+ghost use Rattle.cf_model.specs.Items.{root};
 ghost use Rattle.cf_model.specs.Numbers.{above, no_usn};
 ghost use Rattle.cf_ranges.specs.Pairs.{cluster_at};
-ghost use Rattle.cf_table.specs.Applied.{item_effect, SetsAnchor, SetsExtent, Steps, Touches, IsSpellable};
-ghost use Rattle.cf_table.specs.Changing.{FitsRows, IsNewItem, IsNext, item_of_change};
-ghost use Rattle.cf_table.specs.Means.{KeepsRest};
-ghost use Rattle.cf_table.specs.Tables.{MeansAll, row_of, rows_len, SetsRow, with_row, without_row};
+ghost use Rattle.cf_table.specs.Applied.{SetsAnchor, SetsExtent, Touches, IsSpellable};
+ghost use Rattle.cf_table.specs.Changing.{AreBelow, IsNext};
+ghost use Rattle.cf_table.specs.Means.{IsFresh};
+ghost use Rattle.cf_table.specs.Tables.{AreTableRows, MeansAll, RisesFrom, row_of, rows_len, SetsRow, with_row, without_row};
 
-use crate::new_rows::Place;
-use crate::row_lists::{
-    anchor_at, change_at, extent_at, find_row, pin_of, push_row, put_row, remove_at, touch_at,
-};
+use crate::entries::Entry;
+use crate::indexed_rows::{push_indexed, put_indexed, remove_indexed};
+use crate::row_lists::{anchor_at, extent_at, find_row, touch_at};
 use crate::rows::Row;
-use cf_base::{Blob, Change, Identity, ItemId, Kind, Memory, Name, Pin, Usn};
+use cf_base::{ItemId, Memory};
 use std::alloc::Global;
 use std::marker::Model;
 
@@ -24,19 +22,21 @@ use std::marker::Model;
 #[derive(Debug, Drop)]
 pub struct Rows {
     pub(crate) rows: Vec<Row>,
+    pub(crate) index: Vec<Entry>,
     pub(crate) next: ItemId,
-    pub(crate) len: u64,
+    pub(crate) len: u128,
     pub(crate) alloc: Global,
 }
 
 impl Model for Rows {
-    ghost use Rattle.cf_table.specs.Tables.{IsTable, Table};
+    ghost use Rattle.cf_table.specs.Index.{IsIndexed};
+    ghost use Rattle.cf_table.specs.Tables.{Table};
 
     ghost Value = { Table };
 
     ghost view = { λ t. record { rows = t.rows.items; next = t.next } };
 
-    ghost invariant = { λ t. IsTable t.rows.items t.len };
+    ghost invariant = { λ t. IsIndexed t.rows.items t.index.items t.len };
 }
 
 impl Rows {
@@ -44,12 +44,17 @@ impl Rows {
     pub fn new(alloc: Global) -> Result<Rows, Memory>
         ensures means { IfOk result (λ t. MeansAll t.rows (root ∷ [])) }
         ensures next { IfOk result (λ t. t.next.0 ≡ 2) }
+        ensures fresh { IfOk result (λ t. All IsFresh t.rows) }
+        ensures later { IfOk result (λ t. (n : Usn) → above n no_usn ≡ true → IsNext n t.rows) }
+        ensures below { IfOk result AreBelow }
     {
         let row = Row::root(alloc)?;
         let mut rows = Vec::new(alloc);
-        let len = push_row(&mut rows, row, 0)?;
+        let mut index = Vec::new(alloc);
+        let len = push_indexed(alloc, &mut rows, &mut index, row, 0)?;
         Ok(Rows {
             rows,
+            index,
             next: ItemId(2),
             len,
             alloc,
@@ -73,21 +78,23 @@ impl Rows {
         self.next
     }
 
-    /// How many bytes spell the rows, after the four of their count. It is kept and not computed.
+    /// How many bytes spell the rows, after the four of their count; the greatest u64 where that is less. It is kept and
+    /// not computed.
     pub fn image_len(&self) -> u64
-        ensures { result ≡ rows_len self.now.rows }
+        ensures value { result ≡ min (rows_len self.now.rows) 18446744073709551615 }
+        ensures kept { AreTableRows self.now.rows }
+        ensures rises { RisesFrom 0 self.now.rows }
     {
-        self.len
+        self.len.min(u64::MAX as u128) as u64
     }
 
-    /// Puts the row in place of the one with its id, or adds it. Without memory, or where there are 65,536 rows already,
-    /// the rows are as before.
+    /// Puts the row in place of the one with its id, or adds it. Without memory the rows are as before.
     pub fn put_row(&mut self, row: Row) -> Result<(), Memory>
         requires { IsSpellable row }
         ensures ok { OnOk result (self.new ≡ record self.old { rows = with_row row self.old.rows }) }
         ensures err { OnErr result (self.new ≡ self.old) }
     {
-        self.len = put_row(&mut self.rows, row, self.len)?;
+        self.len = put_indexed(self.alloc, &mut self.rows, &mut self.index, row, self.len)?;
         Ok(())
     }
 
@@ -96,7 +103,9 @@ impl Rows {
         ensures { self.new ≡ record self.old { rows = without_row id self.old.rows } }
     {
         match find_row(&self.rows, id.0) {
-            Ok(place) => self.len = remove_at(&mut self.rows, place, self.len),
+            Ok(place) => {
+                self.len = remove_indexed(&mut self.rows, &mut self.index, place, self.len);
+            }
             Err(_) => {}
         }
     }

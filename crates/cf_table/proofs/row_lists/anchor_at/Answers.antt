@@ -1,13 +1,11 @@
-use Rattle.std.proofs.Common.{◌+◌, ◌-◌, ℕ, List, ap, arith, get_or, refl, set, subst, sym, ◌∙◌}
-use Rattle.std.specs.Prelude.{insert}
+use Rattle.std.proofs.Common.{◌∙◌, ℕ, ap, arith, set, subst}
 use Rattle.cf_table.specs.Tables.{IsTable, row_len}
 use Rattle.cf_table.specs.declared.rows.Row.{Row}
-use Rattle.cf_table.proofs.TableLens.{in_sum, spellable_here, spellable_same, sum_fits, table_insert, table_set}
-use Rattle.cf_table.proofs.TableMeans.{insert_is_with, set_is_with}
+use Rattle.cf_table.proofs.TableLens.{in_sum, kept_here, spellable_same, table_set}
 use Rattle.cf_table.proofs.row_lists.anchor_at.Goals as goal
 
 pub len-before-requires : goal.len-before-requires
-len-before-requires c = (spellable_here c.args.rows.now.items c.args.place c.index_mut-row.result.now c.requires.place c.index_mut-row.ensures.value c.requires.table.spellable)
+len-before-requires c = (kept_here c.args.rows.now.items c.args.place c.index_mut-row.result.now c.requires.place c.index_mut-row.ensures.value c.requires.table.kept).spellable
 
 pub overflow_sub-result : goal.overflow_sub-result
 overflow_sub-result c =
@@ -15,14 +13,12 @@ overflow_sub-result c =
 
 pub len-requires : goal.len-requires
 len-requires c =
-    spellable_same c.index_mut-row.result.now c.set_anchor.new.self (ap (λ (r : Row). r.name) (c.set_anchor.ensures.rest)) (ap (λ (r : Row). r.identity) (c.set_anchor.ensures.rest))
-    (spellable_here c.args.rows.now.items c.args.place c.index_mut-row.result.now c.requires.place c.index_mut-row.ensures.value c.requires.table.spellable)
+    spellable_same c.index_mut-row.result.now c.set_anchor.new.self (ap (λ (r : Row). r.name) c.set_anchor.ensures.rest) (ap (λ (r : Row). r.identity) c.set_anchor.ensures.rest)
+    (kept_here c.args.rows.now.items c.args.place c.index_mut-row.result.now c.requires.place c.index_mut-row.ensures.value c.requires.table.kept).spellable
 
 pub returns-clause-table : goal.returns-clause-table
 returns-clause-table c =
     subst (λ (n : ℕ). IsTable (set c.args.rows.now.items c.args.place c.set_anchor.new.self) n)
     (omega (arith, c.len-before.ensures.value, ap row_len c.index_mut-row.ensures.value, c.len.ensures.value))
     (table_set c.args.rows.now.items c.args.len c.args.place c.set_anchor.new.self c.index_mut-row.result.now c.requires.place
-    (ap (λ (r : Row). r.id.0) (c.set_anchor.ensures.rest) ∙ ap (λ (r : Row). r.id.0) c.index_mut-row.ensures.value)
-    (spellable_same c.index_mut-row.result.now c.set_anchor.new.self (ap (λ (r : Row). r.name) (c.set_anchor.ensures.rest)) (ap (λ (r : Row). r.identity) (c.set_anchor.ensures.rest)) (spellable_here c.args.rows.now.items c.args.place c.index_mut-row.result.now c.requires.place c.index_mut-row.ensures.value c.requires.table.spellable))
-    (omega (arith, c.len.ensures.value, c.len.ensures.small)) c.requires.table)
+    (ap (λ (r : Row). r.id.0) c.set_anchor.ensures.rest ∙ ap (λ (r : Row). r.id.0) c.index_mut-row.ensures.value) c.len.ensures.kept c.requires.table)

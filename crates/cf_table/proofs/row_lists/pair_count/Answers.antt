@@ -1,4 +1,4 @@
-use Rattle.std.proofs.Common.{◌<◌, ◌-◌, ℕ, arith, length}
+use Rattle.std.proofs.Common.{◌<◌, ◌-◌, arith, length}
 use Rattle.std.proofs.lemmas.Bool.Decides.{nat_tests}
 use Rattle.cf_table.proofs.Searched.{pairs_short}
 use Rattle.cf_table.proofs.row_lists.pair_count.Goals as goal

@@ -1,12 +1,12 @@
-use Rattle.std.proofs.Common.{◌+◌, ◌-◌, ℕ, List, ap, arith, subst, sym}
+use Rattle.std.proofs.Common.{◌-◌, ℕ, List, ap, arith, subst, sym}
 use Rattle.std.specs.Prelude.{remove}
 use Rattle.cf_table.specs.Tables.{IsTable, row_len}
 use Rattle.cf_table.specs.declared.rows.Row.{Row}
-use Rattle.cf_table.proofs.TableLens.{in_sum, spellable_here, table_remove}
+use Rattle.cf_table.proofs.TableLens.{in_sum, kept_here, table_remove}
 use Rattle.cf_table.proofs.row_lists.remove_at.Goals as goal
 
 pub len-requires : goal.len-requires
-len-requires c = spellable_here c.args.rows.now.items c.args.place c.remove-row.result c.requires.place c.remove-row.ensures.value c.requires.table.spellable
+len-requires c = (kept_here c.args.rows.now.items c.args.place c.remove-row.result c.requires.place c.remove-row.ensures.value c.requires.table.kept).spellable
 
 pub overflow_sub-result : goal.overflow_sub-result
 overflow_sub-result c =

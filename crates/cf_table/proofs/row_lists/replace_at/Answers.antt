@@ -1,27 +1,24 @@
-use Rattle.std.proofs.Common.{◌+◌, ◌-◌, ℕ, List, ap, arith, get_or, refl, set, subst, sym, ◌∙◌}
-use Rattle.std.specs.Prelude.{insert}
+use Rattle.std.proofs.Common.{ℕ, ap, arith, set, subst, sym}
 use Rattle.cf_table.specs.Tables.{IsTable, row_len}
-use Rattle.cf_table.specs.declared.rows.Row.{Row}
-use Rattle.cf_table.proofs.TableLens.{in_sum, spellable_here, spellable_same, sum_fits, table_insert, table_set}
-use Rattle.cf_table.proofs.TableMeans.{insert_is_with, set_is_with}
+use Rattle.cf_table.proofs.TableLens.{in_sum, kept_here, sum_fits, table_set}
+use Rattle.cf_table.proofs.TableMeans.{set_is_with}
 use Rattle.cf_table.proofs.row_lists.replace_at.Goals as goal
 
 pub len-before-requires : goal.len-before-requires
-len-before-requires c = spellable_here c.args.rows.now.items c.args.place c.index.result.now c.requires.place.in_range c.index.ensures c.requires.table.spellable
+len-before-requires c = (kept_here c.args.rows.now.items c.args.place c.index.result.now c.requires.place.in_range c.index.ensures c.requires.table.kept).spellable
 
 pub overflow_sub-result : goal.overflow_sub-result
 overflow_sub-result c =
     omega (arith, c.len-before.ensures.value, ap row_len c.index.ensures, in_sum c.args.rows.now.items c.args.len c.args.place c.index.result.now c.requires.place.in_range c.requires.table)
 
 pub overflow_add-result : goal.overflow_add-result
-overflow_add-result c = omega (arith, sum_fits c.args.rows.now.items c.args.len c.requires.table, c.len-after.ensures.small)
+overflow_add-result c = omega (arith, sum_fits c.args.rows.now.items c.args.len (omega (arith, c.args.rows.now.ok)) c.requires.table, c.len-after.ensures.small)
 
 pub returns-clause-table : goal.returns-clause-table
 returns-clause-table c =
     subst (λ (n : ℕ). IsTable (set c.args.rows.now.items c.args.place c.args.row) n)
     (omega (arith, c.len-before.ensures.value, ap row_len c.index.ensures, c.len-after.ensures.value))
-    (table_set c.args.rows.now.items c.args.len c.args.place c.args.row c.index.result.now c.requires.place.in_range (sym (c.requires.place.has_id c.index.result.now)) c.requires.spellable
-    (omega (arith, c.len-after.ensures.value, c.len-after.ensures.small)) c.requires.table)
+    (table_set c.args.rows.now.items c.args.len c.args.place c.args.row c.index.result.now c.requires.place.in_range (sym (c.requires.place.has_id c.index.result.now)) c.len-after.ensures.kept c.requires.table)
 
 pub returns-clause-puts : goal.returns-clause-puts
 returns-clause-puts c = set_is_with 0 c.args.rows.now.items c.args.place c.args.row c.requires.table.rises c.requires.place

@@ -1,5 +1,5 @@
-use Rattle.std.proofs.Common.{◌≡◌, ◌&&◌, ◌||◌, ◌∙◌, Bool, ℕ, List, [], Some, None, ap, cond, false, refl, subst, sym, true}
-use Rattle.cf_table.proofs.Told.{Told, means, told, told_by_row}
+use Rattle.std.proofs.Common.{◌∙◌, ap, false, sym, true}
+use Rattle.cf_table.proofs.Told.{Told, means, told}
 use Rattle.cf_table.proofs.Above.{numbers_later}
 use Rattle.cf_model.specs.Numbers.{above}
 use Rattle.cf_table.proofs.rows.Row.convert.Goals as goal

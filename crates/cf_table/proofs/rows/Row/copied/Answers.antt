@@ -1,4 +1,4 @@
-use Rattle.std.proofs.Common.{◌≡◌, ◌&&◌, ◌||◌, ◌∙◌, Bool, ℕ, List, [], Some, None, ap, cond, false, refl, subst, sym, true}
+use Rattle.std.proofs.Common.{◌∙◌, ℕ, List, ap, false, refl, true}
 use Rattle.cf_table.proofs.Told.{Told, means, told, told_by_row}
 use Rattle.cf_model.specs.Effects.{untargeted}
 use Rattle.cf_table.proofs.NewMeans.{copied_bytes}

@@ -1,4 +1,4 @@
-use Rattle.std.proofs.Common.{◌+◌, ◌-◌, ap, false, min, refl, arith}
+use Rattle.std.proofs.Common.{◌-◌, ap, false, refl, arith}
 use Rattle.cf_base.specs.declared.spans.Span.{Span}
 use Rattle.cf_table.proofs.ByteMeans.{cut_bytes}
 use Rattle.cf_table.proofs.Told.{Told, means, told}

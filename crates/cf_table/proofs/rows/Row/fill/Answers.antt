@@ -1,7 +1,7 @@
-use Rattle.std.proofs.Common.{◌+◌, ◌-◌, ap, min, refl, arith}
+use Rattle.std.proofs.Common.{◌-◌, refl, arith}
 use Rattle.cf_base.specs.declared.spans.Span.{Span}
 use Rattle.cf_table.proofs.ByteMeans.{fill_bytes}
-use Rattle.cf_table.proofs.Told.{Told, means, told}
+use Rattle.cf_table.proofs.Told.{means, told}
 use Rattle.cf_table.proofs.rows.Row.fill.Goals as goal
 
 pub returns-clause-ok : goal.returns-clause-ok

@@ -1,6 +1,6 @@
 use Rattle.std.specs.Prelude.{◌==◌}
 use Rattle.cf_base.specs.declared.items.Pin.{Pin}
-use Rattle.std.proofs.Common.{◌≡◌, ◌&&◌, ◌||◌, ◌∙◌, Bool, ℕ, List, [], Some, None, ap, cond, false, refl, subst, sym, true}
+use Rattle.std.proofs.Common.{◌∙◌, ap, cond, false, sym}
 use Rattle.cf_table.proofs.Told.{Told, means, told, told_by_row}
 use Rattle.cf_table.proofs.Above.{numbers_later}
 use Rattle.cf_model.specs.Numbers.{above}

@@ -1,11 +1,11 @@
-use Rattle.std.proofs.Common.{◌≡◌, ◌&&◌, ◌||◌, ◌∙◌, Bool, ℕ, List, [], Option, Some, None, ap, cond, false, refl, subst, sym, true}
+use Rattle.std.proofs.Common.{◌≡◌, ◌||◌, ◌∙◌, ℕ, Option, Some, ap, cond, refl, subst, sym, true}
 use Rattle.cf_table.proofs.Told.{Told, means, told, told_by_row}
 use Rattle.cf_table.proofs.MarkMeans.{length_stays, rebased_none}
 use Rattle.std.specs.Prelude.{OnOk}
 use Rattle.cf_base.specs.declared.ids.Usn.{Usn}
 use Rattle.cf_model.specs.Effects.{rebased}
 use Rattle.cf_model.specs.Items.{Item}
-use Rattle.cf_model.specs.Numbers.{is_no_usn, no_usn, same_usn}
+use Rattle.cf_model.specs.Numbers.{no_usn, same_usn}
 use Rattle.cf_table.specs.Means.{Means}
 use Rattle.cf_table.proofs.Above.{one_left, same_is}
 use Rattle.cf_table.proofs.rows.Row.rebase.Goals as goal

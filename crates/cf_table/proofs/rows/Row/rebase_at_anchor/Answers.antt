@@ -1,5 +1,5 @@
 use Rattle.cf_model.specs.Numbers.{is_no_usn}
-use Rattle.std.proofs.Common.{◌≡◌, ◌&&◌, ◌||◌, ◌∙◌, Bool, ℕ, List, [], Option, Some, ap, cond, false, refl, subst, sym, true}
+use Rattle.std.proofs.Common.{◌||◌, ◌∙◌, ℕ, Option, Some, ap, cond, refl}
 use Rattle.cf_table.proofs.Told.{Told, means, told, told_by_row}
 use Rattle.cf_table.proofs.MarkMeans.{length_taken, rebased_anchor}
 use Rattle.cf_table.proofs.rows.Row.rebase_at_anchor.Goals as goal

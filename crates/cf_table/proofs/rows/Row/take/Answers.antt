@@ -1,5 +1,5 @@
-use Rattle.std.proofs.Common.{◌≡◌, ◌&&◌, ◌||◌, ◌∙◌, Bool, ℕ, List, [], Some, None, ap, cond, false, refl, subst, sym, true}
-use Rattle.cf_table.proofs.Told.{Told, means, told, told_by_row}
+use Rattle.std.proofs.Common.{Some, ap, false, refl, subst, sym}
+use Rattle.cf_table.proofs.Told.{Told, means, told}
 use Rattle.cf_table.proofs.MarkMeans.{took_bytes}
 use Rattle.cf_table.specs.Means.{Means}
 use Rattle.cf_table.specs.declared.rows.Row.{Row}

@@ -1,6 +1,6 @@
-use Rattle.std.proofs.Common.{◌≡◌, List, [], refl, subst, sym}
+use Rattle.std.proofs.Common.{List, refl, subst, sym}
 use Rattle.cf_base.specs.declared.spans.Span.{Span}
-use Rattle.cf_ranges.specs.Positions.{Adds, AddsAll, CutsAll, IsMissing}
+use Rattle.cf_ranges.specs.Positions.{Adds, CutsAll, IsMissing}
 use Rattle.cf_table.proofs.ByteMeans.{validate_bytes}
 use Rattle.cf_table.proofs.Told.{means, told}
 use Rattle.cf_table.proofs.rows.Row.validate.Goals as goal

@@ -1,19 +1,13 @@
-use Rattle.std.proofs.Common.{◌≡◌, ◌∙◌, ℕ, List, Option, Some, ap, get_or, refl, subst, sym}
-use Rattle.std.specs.Prelude.{MatchOption, remove}
-use Rattle.cf_model.specs.Effects.{changed}
-use Rattle.cf_model.specs.Items.{Item}
-use Rattle.cf_ranges.specs.Pairs.{cluster_at}
-use Rattle.cf_table.specs.Applied.{SetsAnchor, SetsExtent, Steps, Touches, item_effect}
-use Rattle.cf_table.specs.Means.{KeepsRest, Means}
-use Rattle.cf_table.specs.Tables.{IsRowAt, IsRowGap, IsTable, MeansAll, RisesFrom, SetsAt, SetsRow, Table, row_of, with_row, without_row}
+use Rattle.std.proofs.Common.{◌∙◌, List, ap, subst, sym}
+use Rattle.cf_table.specs.Tables.{IsRowAt, IsRowGap, Table, without_row}
 use Rattle.cf_table.specs.declared.rows.Row.{Row}
-use Rattle.cf_table.proofs.TableMeans.{absent_means, extent_before, extent_none, on_ok_map, changed_means, found_row, gap_is_without, no_row, not_there, remove_is_without, sets_none, sets_row}
+use Rattle.cf_table.proofs.TableMeans.{gap_is_without, not_there, remove_is_without}
 use Rattle.cf_table.proofs.tables.Rows.remove_row.Goals as goal
 
 pub returns-in-Ok : goal.returns-in-Ok
 returns-in-Ok c =
     ap (λ (l : List Row). record { rows = l; next = c.self.inside.next })
-    (c.remove_at-self-inside.ensures.removes ∙ remove_is_without 0 c.args.id c.self.inside.rows.items c.in-Ok.place c.self.invariant.rises (subst (λ (l : List Row). IsRowAt l c.args.id.0 c.in-Ok.place) c.deref.ensures.value c.in-Ok.ensures.found))
+    (c.remove_indexed-self-inside.ensures.removes ∙ remove_is_without 0 c.args.id c.self.inside.rows.items c.in-Ok.place c.self.invariant.table.rises (subst (λ (l : List Row). IsRowAt l c.args.id.0 c.in-Ok.place) c.deref.ensures.value c.in-Ok.ensures.found))
     ∙ ap (λ (t : Table). record t { rows = without_row c.args.id t.rows }) c.self.view_is
 
 pub returns-in-Err : goal.returns-in-Err

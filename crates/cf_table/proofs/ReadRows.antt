@@ -1,0 +1,81 @@
+-- Rows as they are read, one after the other.
+use Rattle.std.proofs.Common.{◌≡◌, ℕ, zero, suc, ◌+◌, ◌-◌, ◌<◌, ◌≤◌, List, [], ◌∷◌, ◌++◌, length, length-append, refl, sym, ap, subst, ◌∙◌, append_assoc, append-nil, arith, inl, inr, Option, Some, None}
+use Rattle.std.proofs.lemmas.Bool.{eq-eqb, lt-ltb}
+use Rattle.std.specs.Prelude.{map}
+use Rattle.cf_codec.specs.Left.{Left, Takes}
+use Rattle.cf_base.specs.declared.ids.ItemId.{ItemId}
+use Rattle.cf_model.specs.Items.{root}
+use Rattle.cf_model.specs.Rows.{spell_row}
+use Rattle.cf_model.specs.Rows as model
+use Rattle.cf_table.specs.Faults.{AtRow, AtRows}
+use Rattle.cf_table.specs.Reading.{AreRows, IsAbove, IsRow}
+use Rattle.cf_table.specs.Spelling.{row_value, spell_each}
+use Rattle.cf_table.specs.Tables.{MeansAll, with_row, without_row}
+use Rattle.cf_table.specs.declared.failures.RowFail.{RowFail}
+use Rattle.cf_table.specs.declared.failures.RowFail.TheVariants.{Memory}
+use Rattle.cf_table.specs.declared.rows.Row.{Row}
+use Rattle.cf_table.proofs.TableMeans.{same_id}
+use Rattle.cf_table.proofs.Taken.{takes_both}
+
+pub row_fault : (before : Option ℕ) (n m : ℕ) (left : Left) (e : RowFail) → n ≡ suc m → AtRow before left e → AtRows before n left e
+row_fault before n m left e is h = rw is (inl h)
+
+pub behind_row : (before : Option ℕ) (n m : ℕ) (left mid : Left) (e : RowFail) (r : model.Row) → n ≡ suc m → IsRow before r → Takes (spell_row r) left mid → AtRows (Some r.id.0) m mid e → AtRows before n left e
+behind_row before n m left mid e r is fits takes h = rw is (inr (record { part = r; is_part = fits; mid = mid; takes = takes; fault = h }))
+
+pub no_memory_for_rows : (before : Option ℕ) (n : ℕ) (left : Left) → AtRows before n left Memory
+no_memory_for_rows before zero left = tt
+no_memory_for_rows before (suc n) left = inl (inl (inl (inl tt)))
+
+each_more : (xs : List Row) (r : Row) → spell_each (xs ++ r ∷ []) ≡ spell_each xs ++ spell_row (row_value r)
+each_more [] r = append-nil (spell_row (row_value r))
+each_more (x ∷ xs) r = ap (λ t. spell_row (row_value x) ++ t) (each_more xs r) ∙ sym (append_assoc (spell_row (row_value x)) (spell_each xs) (spell_row (row_value r)))
+
+pub each_taken : (all xs : List Row) (r : Row) (old mid new : Left) → all ≡ xs ++ r ∷ [] → Takes (spell_each xs) old mid → Takes (spell_row (row_value r)) mid new → Takes (spell_each all) old new
+each_taken all xs r old mid new is h k = subst (λ (t : List ℕ). Takes t old new) (sym (ap spell_each is ∙ each_more xs r)) (takes_both h k)
+
+pub count_more : (all xs : List Row) (r : Row) (n : ℕ) → all ≡ xs ++ r ∷ [] → length xs ≡ n → length all ≡ n + 1
+count_more all xs r n is h = ap length is ∙ omega (arith, h, length-append xs (r ∷ []))
+
+rows_more : (xs : List Row) (r : Row) (more : List model.Row) → map row_value (xs ++ r ∷ []) ++ more ≡ map row_value xs ++ (row_value r ∷ more)
+rows_more [] r more = refl
+rows_more (x ∷ xs) r more = ap (λ t. row_value x ∷ t) (rows_more xs r more)
+
+pub rows_then : (before : Option ℕ) (all xs : List Row) (r : Row) → all ≡ xs ++ r ∷ [] → ((more : List model.Row) → AreRows before more → AreRows None (map row_value xs ++ more)) → IsRow before (row_value r) →
+    (more : List model.Row) → AreRows (Some r.id.0) more → AreRows None (map row_value all ++ more)
+rows_then before all xs r is so fits more h = subst (λ (t : List model.Row). AreRows None t) (sym (ap (λ v. map row_value v ++ more) is ∙ rows_more xs r more)) (so (row_value r ∷ more) (fits, h))
+
+pub rows_end : (before : Option ℕ) (xs : List Row) → ((more : List model.Row) → AreRows before more → AreRows None (map row_value xs ++ more)) → AreRows None (map row_value xs)
+rows_end before xs so = subst (λ (v : List model.Row). AreRows None v) (append-nil (map row_value xs)) (so [] tt)
+
+-- the ids of the rows are below this one
+abbrev pub AreBelow : ℕ → List Row → Type 0
+AreBelow id [] = Unit {0}
+AreBelow id (r ∷ rs) = (r.id.0 < id) × AreBelow id rs
+
+below_more : (xs : List Row) (m n : ℕ) → m < n → AreBelow m xs → AreBelow n xs
+below_more [] m n h all = tt
+below_more (x ∷ xs) m n h all = (omega (arith, h, all.0), below_more xs m n h all.1)
+
+below_append : (xs : List Row) (r : Row) (n : ℕ) → AreBelow n xs → r.id.0 < n → AreBelow n (xs ++ r ∷ [])
+below_append [] r n all h = (h, tt)
+below_append (x ∷ xs) r n all h = (all.0, below_append xs r n all.1 h)
+
+pub above_then : (before : Option ℕ) (all xs : List Row) (r : Row) → all ≡ xs ++ r ∷ [] → ((id : ℕ) → IsAbove before id → AreBelow id xs) → IsAbove before r.id.0 →
+    (id : ℕ) → r.id.0 < id → AreBelow id all
+above_then before all xs r is so above id h =
+    subst (λ (v : List Row). AreBelow id v) (sym is) (below_append xs r id (below_more xs r.id.0 id h (so r.id.0 above)) h)
+
+-- a row above all others goes to the end
+put_last : (xs : List Row) (r : Row) → AreBelow r.id.0 xs → with_row r xs ≡ xs ++ r ∷ []
+put_last [] r all = refl
+put_last (x ∷ xs) r all = rw (lt-ltb x.id.0 r.id.0 all.0) (ap (λ v. x ∷ v) (put_last xs r all.1))
+
+pub put_behind : (before : Option ℕ) (all xs : List Row) (r : Row) → all ≡ with_row r xs → ((id : ℕ) → IsAbove before id → AreBelow id xs) → IsAbove before r.id.0 → all ≡ xs ++ r ∷ []
+put_behind before all xs r is so above = is ∙ put_last xs r (so r.id.0 above)
+
+-- a table that is made has its root alone
+pub no_rows_left : (rows : List Row) (id : ItemId) → MeansAll rows (root ∷ []) → id.0 ≡ 1 → without_row id rows ≡ []
+no_rows_left [] id m is = absurd m
+no_rows_left (r ∷ []) id m is = rw (eq-eqb r.id.0 id.0 (same_id r root m.0 ∙ sym is)) refl
+no_rows_left (r ∷ s ∷ rs) id m is = absurd m.1

@@ -1,0 +1,8 @@
+use Rattle.std.proofs.Common.{◌≡◌}
+use Rattle.cf_table.proofs.ReadRuns.{flags_value}
+use Rattle.cf_table.proofs.heads.flags_of.Goals as goal
+
+pub returns : goal.returns
+returns c =
+    rw (c.has.ensures, c.has-2.ensures, c.has-3.ensures, c.has-4.ensures, c.has-5.ensures, c.has-6.ensures, c.has-7.ensures, c.has-8.ensures)
+    (flags_value c.args.flags c.requires)

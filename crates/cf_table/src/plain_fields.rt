@@ -1,0 +1,116 @@
+//! Plain numbers and bytes: the fields of rows, and of what stands beside rows.
+
+ghost use Rattle.std.specs.Prelude.{◌≡◌, ◌<◌, ◌^◌, ◌++◌, ◌∷◌, [], IfOk, IfErr, OnOk, length};
+ghost use Rattle.cf_base.specs.declared.ids.Usn.{Usn};
+ghost use Rattle.cf_codec.specs.Left.{Takes};
+ghost use Rattle.cf_model.specs.Books.{usn_bytes};
+ghost use Rattle.cf_model.specs.Words.{in_bytes};
+ghost use Rattle.cf_table.specs.Faults.{Any, AtBytes, AtNumber, AtUsn};
+ghost use Rattle.cf_table.specs.Reading.{IsUsn};
+
+use crate::failures::RowFail;
+use cf_base::{Memory, Usn};
+use cf_codec::{CodecFail, Reader, Writer};
+
+/// The place of the next byte, where there is one.
+pub fn place_of(r: &Reader) -> usize
+    ensures { 0 < length r.now.rest → result ≡ r.now.place }
+{
+    match r.end() {
+        Ok(()) => 0,
+        Err(CodecFail::BadField(place)) => place,
+        Err(CodecFail::Short(place)) => place,
+    }
+}
+
+/// So many bytes.
+pub fn read_bytes<'a>(r: &mut Reader<'a>, n: usize) -> Result<&'a [u8], RowFail>
+    ensures took { IfOk result (λ b. Takes b.now r.old r.new) }
+    ensures size { IfOk result (λ b. length b.now ≡ n) }
+    ensures fault { IfErr result (AtBytes n r.old) }
+{
+    Ok(r.bytes(n)?)
+}
+
+/// A number of one byte.
+pub fn read_1(r: &mut Reader) -> Result<u8, RowFail>
+    ensures took { IfOk result (λ v. Takes (v ∷ []) r.old r.new) }
+    ensures fits { IfOk result (λ v. v < 2 ^ 8) }
+    ensures fault { IfErr result (AtBytes 1 r.old) }
+{
+    Ok(r.u8()?)
+}
+
+/// A number of two bytes.
+#[tactic(auto, using(crate::proofs::Fields::two_bytes))]
+pub fn read_2(r: &mut Reader) -> Result<u16, RowFail>
+    ensures took { IfOk result (λ v. Takes (in_bytes 2 v) r.old r.new) }
+    ensures fits { IfOk result (λ v. v < 2 ^ 16) }
+    ensures fault { IfErr result (AtNumber 2 Any r.old) }
+{
+    Ok(r.u16()?)
+}
+
+/// A number of four bytes.
+#[tactic(auto, using(crate::proofs::Fields::four_bytes))]
+pub fn read_4(r: &mut Reader) -> Result<u32, RowFail>
+    ensures took { IfOk result (λ v. Takes (in_bytes 4 v) r.old r.new) }
+    ensures fits { IfOk result (λ v. v < 2 ^ 32) }
+    ensures fault { IfErr result (AtNumber 4 Any r.old) }
+{
+    Ok(r.u32()?)
+}
+
+/// A number of eight bytes.
+#[tactic(auto, using(crate::proofs::Fields::eight_bytes))]
+pub fn read_8(r: &mut Reader) -> Result<u64, RowFail>
+    ensures took { IfOk result (λ v. Takes (in_bytes 8 v) r.old r.new) }
+    ensures fits { IfOk result (λ v. v < 2 ^ 64) }
+    ensures fault { IfErr result (AtNumber 8 Any r.old) }
+{
+    Ok(r.u64()?)
+}
+
+/// A number of a change: epoch and place.
+pub fn read_usn(r: &mut Reader) -> Result<Usn, RowFail>
+    ensures took { IfOk result (λ n. Takes (usn_bytes n) r.old r.new) }
+    ensures fits { IfOk result IsUsn }
+    ensures fault { IfErr result (AtUsn r.old) }
+{
+    let epoch = read_4(r)?;
+    let place = read_4(r)?;
+    Ok(Usn { epoch, place })
+}
+
+/// Puts a number of two bytes.
+#[tactic(auto, using(crate::proofs::Fields::two_bytes))]
+pub fn put_2(out: &mut Writer, v: u16) -> Result<(), Memory>
+    ensures { OnOk result (out.new ≡ out.old ++ in_bytes 2 v) }
+{
+    out.put_u16(v)
+}
+
+/// Puts a number of four bytes.
+#[tactic(auto, using(crate::proofs::Fields::four_bytes))]
+pub fn put_4(out: &mut Writer, v: u32) -> Result<(), Memory>
+    ensures { OnOk result (out.new ≡ out.old ++ in_bytes 4 v) }
+{
+    out.put_u32(v)
+}
+
+/// Puts a number of eight bytes.
+#[tactic(auto, using(crate::proofs::Fields::eight_bytes))]
+pub fn put_8(out: &mut Writer, v: u64) -> Result<(), Memory>
+    ensures { OnOk result (out.new ≡ out.old ++ in_bytes 8 v) }
+{
+    out.put_u64(v)
+}
+
+/// Puts a number of a change: epoch and place.
+#[tactic(auto, using(crate::proofs::Fields::joined))]
+pub fn put_usn(out: &mut Writer, n: Usn) -> Result<(), Memory>
+    ensures { OnOk result (out.new ≡ out.old ++ usn_bytes n) }
+{
+    put_4(out, n.epoch)?;
+    put_4(out, n.place)
+}

@@ -1,0 +1,238 @@
+//! Rows read from bytes.
+
+ghost use Rattle.std.specs.Prelude.{◌≡◌, ◌<◌, ◌^◌, ◌++◌, [], ℕ, List, Option, None, Some, All, IfOk, IfErr, length, map};
+ghost use Rattle.cf_codec.specs.Left.{Takes};
+ghost use Rattle.cf_model.specs.Formats.{spell_rows};
+ghost use Rattle.cf_model.specs.Rows as model;
+ghost use Rattle.cf_model.specs.Rows.{spell_row};
+ghost use Rattle.cf_table.specs.Faults.{AreTable, AtIdentity, AtName, AtRow, AtRows, AtTable, AtWhole, IsTold};
+ghost use Rattle.cf_table.specs.Reading.{AreRows, IsIdentity, IsName, IsRow, identity_bytes, name_bytes, row_of};
+ghost use Rattle.cf_table.specs.Spelling.{HasRoom, row_value, spell_each};
+ghost use Rattle.cf_table.specs.Tables.{RisesFrom};
+
+use crate::failures::RowFail;
+use crate::heads::{Head, read_head};
+use crate::plain_fields::{read_1, read_2, read_4, read_bytes};
+use crate::rows::Row;
+use crate::set_reads::{Sets, read_sets};
+use crate::tables::Rows;
+use cf_base::{Blob, Identity, ItemId, Memory};
+use cf_codec::Reader;
+use std::alloc::Global;
+
+fn read_name(alloc: Global, r: &mut Reader) -> Result<Blob, RowFail>
+    ensures took { IfOk result (λ name. Takes (name_bytes name) r.old r.new) }
+    ensures fits { IfOk result IsName }
+    ensures fault { IfErr result (AtName r.old) }
+{
+    let count = read_1(r)?;
+    let bytes = read_bytes(r, count as usize)?;
+    Ok(Blob::from_slice(alloc, bytes)?)
+}
+
+fn read_identity(alloc: Global, r: &mut Reader) -> Result<Identity, RowFail>
+    ensures took { IfOk result (λ identity. Takes (identity_bytes identity) r.old r.new) }
+    ensures fits { IfOk result IsIdentity }
+    ensures fault { IfErr result (AtIdentity r.old) }
+{
+    let count = read_2(r)?;
+    let bytes = read_bytes(r, count as usize)?;
+    Ok(Identity::new(alloc, bytes)?)
+}
+
+fn row_of(head: Head, name: Blob, identity: Identity, sets: Sets) -> Row
+    ensures { result ≡ row_of head name identity sets }
+{
+    let basics = head.basics;
+    let flags = basics.flags;
+    Row {
+        id: head.who.id,
+        parent: head.who.parent,
+        dir: flags.dir,
+        placeholder: flags.placeholder,
+        populated: flags.populated,
+        in_sync: flags.in_sync,
+        dirty: flags.dirty,
+        dirty_since: flags.dirty_since,
+        keep: flags.keep,
+        pin: basics.pin,
+        size: basics.lengths.size,
+        base: basics.lengths.base,
+        number: head.numbers.number,
+        anchor: head.numbers.anchor,
+        last: head.numbers.last,
+        name,
+        identity,
+        here: sets.here,
+        valid: sets.valid,
+        modified: sets.modified,
+        modified_since: sets.modified_since,
+        extents: sets.extents,
+    }
+}
+
+// A row whose id is above this one, if there is one.
+fn read_row(alloc: Global, r: &mut Reader, before: Option<u64>) -> Result<Row, RowFail>
+    ensures took { IfOk result (λ row. Takes (spell_row (row_value row)) r.old r.new) }
+    ensures fits { IfOk result (λ row. IsRow before (row_value row)) }
+    ensures fault { IfErr result (AtRow before r.old) }
+{
+    let head = read_head(r, before)?;
+    let name = read_name(alloc, r)?;
+    let identity = read_identity(alloc, r)?;
+    let sets = read_sets(alloc, r)?;
+    Ok(row_of(head, name, identity, sets))
+}
+
+// A table is made with its root, which is not one of the rows that are read.
+#[tactic(auto, using(crate::proofs::ReadRows::no_rows_left))]
+fn no_rows(alloc: Global, next: ItemId) -> Result<Rows, Memory>
+    ensures rows { IfOk result (λ t. t.rows ≡ []) }
+    ensures next { IfOk result (λ t. t.next ≡ next) }
+{
+    let mut rows = Rows::new(alloc)?;
+    rows.remove_row(ItemId(1));
+    rows.set_next(next);
+    Ok(rows)
+}
+
+// So many rows, whose ids rise.
+fn read_rows(alloc: Global, r: &mut Reader, count: u32, next: ItemId) -> Result<Rows, RowFail>
+    ensures took { IfOk result (λ t. Takes (spell_each t.rows) r.old r.new) }
+    ensures count { IfOk result (λ t. length t.rows ≡ count) }
+    ensures rows { IfOk result (λ t. AreRows None (map row_value t.rows)) }
+    ensures room { IfOk result (λ t. All HasRoom t.rows) }
+    ensures next { IfOk result (λ t. t.next ≡ next) }
+    ensures fault { IfErr result (AtRows None count r.old) }
+{
+    let mut rows = no_rows(alloc, next)?;
+    let mut before = None;
+    for _ in 0..count {
+        let row = read_row(alloc, r, before)?;
+        before = Some(row.id.0);
+        rows.put_row(row)?;
+    }
+    Ok(rows)
+}
+
+impl Row {
+    /// Reads what `spell` writes, and leaves what stands behind it. Short or BadField at the first field that lacks bytes
+    /// or is not spelled, and then no row is spelled at the front of what is left.
+    pub fn read(alloc: Global, r: &mut Reader) -> Result<Row, RowFail>
+        ensures took { IfOk result (λ row. Takes (spell_row (row_value row)) r.old r.new) }
+        ensures fits { IfOk result (λ row. IsRow None (row_value row)) }
+        ensures room { IfOk result HasRoom }
+        ensures fault { IfErr result (AtRow None r.old) }
+        ensures none { IfErr result (λ e. IsTold e → (row : model.Row) (more : List ℕ) → IsRow None row → r.old.rest ≡ spell_row row ++ more → ⊥) }
+    {
+        read_row(alloc, r, None)
+    }
+}
+
+impl Rows {
+    /// The rows in order of id.
+    pub fn as_slice(&self) -> &[Row]
+        ensures value { result.now ≡ self.now.rows }
+        ensures rises { RisesFrom 0 self.now.rows }
+    {
+        &self.rows
+    }
+
+    /// Reads how many rows there are, and the rows, whose ids rise; leaves what stands behind them. Short or BadField at
+    /// the first field that lacks bytes or is not spelled, and then no rows are spelled at the front of what is left.
+    pub fn read_front(alloc: Global, r: &mut Reader, next: ItemId) -> Result<Rows, RowFail>
+        ensures took { IfOk result (λ t. Takes (spell_rows (map row_value t.rows)) r.old r.new) }
+        ensures fits { IfOk result (λ t. AreTable (map row_value t.rows)) }
+        ensures room { IfOk result (λ t. All HasRoom t.rows) }
+        ensures next { IfOk result (λ t. t.next ≡ next) }
+        ensures fault { IfErr result (AtTable r.old) }
+        ensures none { IfErr result (λ e. IsTold e → (rows : List model.Row) (more : List ℕ) → AreTable rows → r.old.rest ≡ spell_rows rows ++ more → ⊥) }
+    {
+        let count = read_4(r)?;
+        read_rows(alloc, r, count, next)
+    }
+
+    /// Reads what `spell` writes. Short or BadField at the first field that lacks bytes or is not spelled, or at the first
+    /// byte behind the rows, and then the bytes spell no rows.
+    pub fn read(alloc: Global, b: &[u8], next: ItemId) -> Result<Rows, RowFail>
+        ensures spelled { IfOk result (λ t. b.now ≡ spell_rows (map row_value t.rows)) }
+        ensures fits { IfOk result (λ t. AreTable (map row_value t.rows)) }
+        ensures room { IfOk result (λ t. All HasRoom t.rows) }
+        ensures next { IfOk result (λ t. t.next ≡ next) }
+        ensures fault { IfErr result (AtWhole (record { place = 0; rest = b.now })) }
+        ensures none { IfErr result (λ e. IsTold e → (rows : List model.Row) → AreTable rows → b.now ≡ spell_rows rows → ⊥) }
+    {
+        let mut r = Reader::new(b);
+        let rows = Rows::read_front(alloc, &mut r, next)?;
+        r.end()?;
+        Ok(rows)
+    }
+}
+
+#[cfg(test)]
+mod tests {
+    use super::*;
+    use std::test::Fail;
+
+    // The root of a new table, behind the count of rows.
+    const ROOT_ALONE: [u8; 78] = [
+        0, 0, 0, 1, 0, 0, 0, 0, 0, 0, 0, 1, 0, 0, 0, 0, 0, 0, 0, 0, 0, 5, 0, 0, 0, 0, 0, 0, 0, 0,
+        0, 0, 0, 0, 0, 0, 0, 0, 0, 0, 0, 0, 0, 0, 0, 0, 0, 0, 0, 0, 0, 0, 0, 0, 0, 0, 0, 0, 0, 0,
+        0, 0, 0, 0, 0, 0, 0, 0, 0, 0, 0, 0, 0, 0, 0, 0, 0, 0,
+    ];
+
+    fn why(alloc: Global, bytes: &[u8]) -> Option<RowFail> {
+        Rows::read(alloc, bytes, ItemId(2)).err()
+    }
+
+    #[test]
+    fn what_is_read_is_spelled_again(rt: HostRuntime) -> Result<(), Fail> {
+        let rows = Rows::read(rt.alloc(), &ROOT_ALONE, ItemId(7))?;
+        assert_eq!(rt; rows.image_len(), 74);
+        assert!(rt; rows.next() == ItemId(7));
+        assert!(rt; rows.get(ItemId(1)).is_some());
+        let again = rows.spell()?;
+        assert_eq!(rt; again.as_slice(), ROOT_ALONE.as_slice());
+        let none = Rows::read(rt.alloc(), &[0, 0, 0, 0], ItemId(2))?;
+        assert_eq!(rt; none.as_slice().len(), 0);
+        let mut reader = Reader::new(&ROOT_ALONE[4..]);
+        let row = Row::read(rt.alloc(), &mut reader)?;
+        assert!(rt; row.id == ItemId(1));
+        Ok(())
+    }
+
+    #[test]
+    fn a_text_that_is_cut_names_its_field(rt: HostRuntime) -> Result<(), Fail> {
+        let starts = [
+            0, 4, 12, 20, 22, 23, 27, 31, 35, 39, 43, 47, 55, 56, 58, 62, 66, 70, 74,
+        ];
+        for cut in 0..78 {
+            let mut field = 0;
+            for start in starts {
+                if start <= cut {
+                    field = start;
+                }
+            }
+            assert!(rt; why(rt.alloc(), &ROOT_ALONE[..cut]) == Some(RowFail::Short(field)));
+        }
+        Ok(())
+    }
+
+    #[test]
+    fn a_wrong_field_is_named(rt: HostRuntime) -> Result<(), Fail> {
+        let wrong = [(20, 1, 20), (22, 4, 22), (27, 1, 27)];
+        for (place, byte, field) in wrong {
+            let mut bytes = ROOT_ALONE;
+            if let Some(b) = bytes.get_mut(place) {
+                *b = byte;
+            }
+            assert!(rt; why(rt.alloc(), &bytes) == Some(RowFail::BadField(field)));
+        }
+        let mut twice = Vec::from_slice(rt.alloc(), &[0, 0, 0, 2])?;
+        twice.extend_from_slice(&ROOT_ALONE[4..])?;
+        twice.extend_from_slice(&ROOT_ALONE[4..])?;
+        assert!(rt; why(rt.alloc(), &twice) == Some(RowFail::BadField(78)));
+        assert!(rt; why(rt.alloc(), b"\0\0\0\0 ") == Some(RowFail::BadField(4)));
+        Ok(())
+    }
+}
