@@ -1,0 +1,12 @@
+pub mod Alike
+pub mod Cuts
+pub mod Depths
+pub mod Extensions
+pub mod FreeNames
+pub mod Heights
+pub mod InOrder
+pub mod NumberedNames
+pub mod PathsBack
+pub mod Stable
+pub mod WayUp
+pub mod Walks

@@ -1,0 +1,44 @@
+-- When items form a tree.
+use Rattle.std.specs.Prelude.{ℕ, zero, suc, true, false, List, [], Some, MatchOption, ◌+◌, ◌≤◌, ◌≡◌, ◌∷◌, ◌==◌}
+use Rattle.cf_base.specs.Names.{is_name}
+use Rattle.cf_base.specs.declared.ids.ItemId.{ItemId}
+use Rattle.cf_model.specs.Items.{Item, item_of}
+use Rattle.cf_model.specs.LookUp.{child_of}
+use Rattle.cf_table.specs.Tables.{row_of}
+use Rattle.cf_table.specs.declared.rows.Row.{Row}
+
+-- the ids rise, from low on
+abbrev pub RiseFrom : ℕ → List Item → Type 0
+RiseFrom low [] = Unit {0}
+RiseFrom low (i ∷ is) = (low ≤ i.id.0) × RiseFrom (i.id.0 + 1) is
+
+-- the first item is the root, a directory
+abbrev pub BeginWithRoot : List Item → Type 0
+BeginWithRoot [] = ⊥
+BeginWithRoot (r ∷ is) = (r.id.0 ≡ 1) × (r.directory ≡ true)
+
+-- n names lead from the root to the item, through directories
+abbrev pub IsUnder : ℕ → List Item → Item → Type 0
+IsUnder zero items i = i.id.0 ≡ 1
+IsUnder (suc n) items i = ((i.id.0 == 1) ≡ false) × MatchOption (item_of items i.parent) ⊥ (λ p. (p.directory ≡ true) × IsUnder n items p)
+
+-- at most 32 names lead to the item, and it is the one of its name in its directory
+pub record Stands (items : List Item) (i : Item) : Type 0 where
+  pub depth : ℕ
+  pub few : depth ≤ 32
+  pub under : IsUnder depth items i
+  pub alone : child_of items i.parent i.name ≡ Some i
+
+-- the items form a tree
+pub record IsTree (items : List Item) : Type 0 where
+  pub order : RiseFrom 1 items
+  pub root : BeginWithRoot items
+  pub places : (id : ItemId) (i : Item) → item_of items id ≡ Some i → Stands items i
+
+-- no directory whose entries have not come has a child
+abbrev pub AreOpen : List Item → Type 0
+AreOpen items = (id : ItemId) (i p : Item) → item_of items id ≡ Some i → item_of items i.parent ≡ Some p → p.populated ≡ true
+
+-- each row but that of the root has a name
+abbrev pub HaveNames : List Row → Type 0
+HaveNames rows = (id : ItemId) (r : Row) → row_of rows id ≡ Some r → (r.id.0 == 1) ≡ false → is_name r.name ≡ true

@@ -1,0 +1,19 @@
+//! Items by path, and where they stand in the tree.
+#![tactic(auto)]
+
+mod conflicts;
+mod finds;
+mod lines;
+mod moves;
+mod names;
+mod paths;
+mod trees;
+
+pub use conflicts::conflict_name;
+pub use finds::{find, find_below, find_parent};
+pub use moves::check_move;
+pub use paths::path_of;
+pub use trees::tree_of;
+
+#[cfg(test)]
+mod tests;

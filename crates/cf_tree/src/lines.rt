@@ -1,0 +1,55 @@
+//! The way up from an item.
+
+ghost use Rattle.std.specs.Prelude.{◌≡◌, ◌==◌, ◌≤◌, length};
+ghost use Rattle.std.specs.List.{list_any};
+ghost use Rattle.cf_table.specs.Tables.{row_of};
+ghost use Rattle.cf_tree.specs.Lines.{line_in, parent_in};
+
+use crate::names::MOST_NAMES;
+use cf_base::ItemId;
+use cf_table::Rows;
+
+pub(crate) const ROOT: ItemId = ItemId(1);
+
+/// How a line goes up from an item to the root.
+#[derive(Clone, Copy, Debug)]
+pub(crate) struct Line {
+    /// How many names lead to the item.
+    pub depth: usize,
+    /// Whether it begins at the other item or comes by it. The root is on no line.
+    pub passes: bool,
+}
+
+/// The parent of an item, unless that is the root or not there.
+pub(crate) fn parent_of(rows: &Rows, at: ItemId) -> Option<ItemId>
+    ensures { result ≡ parent_in (row_of rows.now.rows at) }
+{
+    let row = rows.get(at)?;
+    if row.id == ROOT {
+        return None;
+    }
+    Some(row.parent)
+}
+
+/// The line from an item, of which no more than `most` names are gone, and whether it comes by another item.
+pub(crate) fn line_of(rows: &Rows, id: ItemId, other: ItemId, most: usize) -> Line
+    ensures depth { result.depth ≡ length (line_in most rows.now.rows id) }
+    ensures passes { result.passes ≡ list_any (λ k. k == other.0) (line_in most rows.now.rows id) }
+    ensures small { result.depth ≤ most }
+{
+    let mut at = id;
+    let mut passes = false;
+    for depth in 0..most {
+        match parent_of(rows, at) {
+            Some(parent) => {
+                passes = passes || at == other;
+                at = parent;
+            }
+            None => return Line { depth, passes },
+        }
+    }
+    Line {
+        depth: most,
+        passes,
+    }
+}

@@ -1,0 +1,193 @@
+//! What no clause says: that the calls succeed where there is memory, and which paths and names lie at a limit.
+
+ghost use Rattle.std.specs.Prelude.{◌≤◌, length};
+
+use crate::{check_move, conflict_name, find, find_below, find_parent, path_of, tree_of};
+use cf_base::Fail::No;
+use cf_base::{Blob, Code, Identity, ItemId, Name};
+use cf_table::Rows;
+use std::alloc::Global;
+use std::test::Fail;
+
+fn add(
+    alloc: Global,
+    rows: &mut Rows,
+    id: u64,
+    parent: u64,
+    name: &str,
+    kind: (bool, bool),
+) -> Result<(), Fail>
+    requires { length name.now ≤ 255 }
+{
+    let Some(root) = rows.get(ItemId(1)) else {
+        return Ok(());
+    };
+    let mut row = root.copy()?;
+    row.id = ItemId(id);
+    row.parent = ItemId(parent);
+    row.name = Blob::from_slice(alloc, name.as_bytes())?;
+    row.identity = Identity::new(alloc, b"")?;
+    row.dir = kind.0;
+    row.populated = kind.1;
+    rows.put_row(row)?;
+    Ok(())
+}
+
+const DIRECTORY: (bool, bool) = (true, true);
+
+const UNPOPULATED: (bool, bool) = (true, false);
+
+const FILE: (bool, bool) = (false, false);
+
+// `/d/f`, `/d/e/g`, and `/u/x` in a directory whose entries have not come.
+fn table(alloc: Global) -> Result<Rows, Fail> {
+    let mut rows = Rows::new(alloc)?;
+    add(alloc, &mut rows, 2, 1, "d", DIRECTORY)?;
+    add(alloc, &mut rows, 3, 2, "f", FILE)?;
+    add(alloc, &mut rows, 4, 1, "u", UNPOPULATED)?;
+    add(alloc, &mut rows, 5, 4, "x", FILE)?;
+    add(alloc, &mut rows, 6, 2, "e", DIRECTORY)?;
+    add(alloc, &mut rows, 7, 6, "g", FILE)?;
+    Ok(rows)
+}
+
+#[test]
+fn paths_lead_to_items(rt: HostRuntime) -> Result<(), Fail> {
+    let rows = table(rt.alloc())?;
+    for (path, id) in [("/", 1), ("/d", 2), ("/d/f", 3), ("/d/e/g", 7)] {
+        assert!(rt; find(&rows, path) == Ok(ItemId(id)));
+    }
+    for path in ["", "d", "/a//b", "/a/", "/..", "/d/."] {
+        assert!(rt; find(&rows, path) == Err(Code::BadPath));
+    }
+    assert!(rt; find(&rows, "/d/n") == Err(Code::NotFound));
+    assert!(rt; find(&rows, "/d/f/n") == Err(Code::NotDirectory));
+    assert!(rt; find(&rows, "/u/x") == Err(Code::NotPopulated));
+    assert!(rt; find_below(&rows, "/d") == Ok(ItemId(2)));
+    assert!(rt; find_below(&rows, "/") == Err(Code::BadPath));
+    Ok(())
+}
+
+fn path_of_names(alloc: Global, name: &str, count: usize) -> Result<String, Fail> {
+    let mut path = String::new(alloc);
+    for _ in 0..count {
+        path.push('/')?;
+        path.push_str(name)?;
+    }
+    Ok(path)
+}
+
+fn repeated(alloc: Global, text: &str, count: usize) -> Result<String, Fail> {
+    let mut all = String::new(alloc);
+    for _ in 0..count {
+        all.push_str(text)?;
+    }
+    Ok(all)
+}
+
+#[test]
+fn paths_have_32_names_of_255_bytes(rt: HostRuntime) -> Result<(), Fail> {
+    let rows = table(rt.alloc())?;
+    let path = path_of_names(rt.alloc(), "a", 32)?;
+    assert!(rt; find(&rows, path.as_str()) == Err(Code::NotFound));
+    let path = path_of_names(rt.alloc(), "..", 33)?;
+    assert!(rt; find(&rows, path.as_str()) == Err(Code::TooDeep));
+    let name = repeated(rt.alloc(), "n", 255)?;
+    let path = path_of_names(rt.alloc(), name.as_str(), 1)?;
+    assert!(rt; find(&rows, path.as_str()) == Err(Code::NotFound));
+    let name = repeated(rt.alloc(), "n", 256)?;
+    let path = path_of_names(rt.alloc(), name.as_str(), 1)?;
+    assert!(rt; find(&rows, path.as_str()) == Err(Code::BadPath));
+    Ok(())
+}
+
+#[test]
+fn places_are_found(rt: HostRuntime) -> Result<(), Fail> {
+    let rows = table(rt.alloc())?;
+    let (parent, name) = find_parent(rt.alloc(), &rows, "/d/new")?;
+    assert!(rt; parent == ItemId(2));
+    assert_eq!(rt; name.as_slice(), b"new".as_slice());
+    for (path, code) in [
+        ("/", Code::BadPath),
+        ("/u/n", Code::NotPopulated),
+        ("/d/f/n", Code::NotDirectory),
+        ("/n/n", Code::NotFound),
+    ] {
+        assert!(rt; matches!(find_parent(rt.alloc(), &rows, path), Err(No(c)) if c == code));
+    }
+    Ok(())
+}
+
+#[test]
+fn moves_are_judged(rt: HostRuntime) -> Result<(), Fail> {
+    let mut rows = table(rt.alloc())?;
+    let mut above = 1;
+    for id in 10..41 {
+        add(rt.alloc(), &mut rows, id, above, "c", DIRECTORY)?;
+        above = id;
+    }
+    let name = Name::read(rt.alloc(), b"u")?;
+    assert!(rt; check_move(&rows, ItemId(2), ItemId(6), &name) == Err(Code::IntoItself));
+    assert!(rt; check_move(&rows, ItemId(3), ItemId(1), &name) == Err(Code::Exists));
+    assert!(rt; check_move(&rows, ItemId(4), ItemId(1), &name) == Ok(()));
+    assert!(rt; check_move(&rows, ItemId(3), ItemId(40), &name) == Ok(()));
+    assert!(rt; check_move(&rows, ItemId(6), ItemId(39), &name) == Ok(()));
+    assert!(rt; check_move(&rows, ItemId(6), ItemId(40), &name) == Err(Code::TooDeep));
+    Ok(())
+}
+
+#[test]
+fn trees_and_paths_of_items(rt: HostRuntime) -> Result<(), Fail> {
+    let rows = table(rt.alloc())?;
+    let below = tree_of(rt.alloc(), &rows, ItemId(2))?;
+    assert_eq!(rt;
+        below.as_slice(),
+        [ItemId(2), ItemId(3), ItemId(6), ItemId(7)].as_slice()
+    );
+    assert_eq!(rt; tree_of(rt.alloc(), &rows, ItemId(1))?.len(), 7);
+    assert_eq!(rt; path_of(rt.alloc(), &rows, ItemId(7))?.as_str(), "/d/e/g");
+    assert_eq!(rt; path_of(rt.alloc(), &rows, ItemId(1))?.as_str(), "/");
+    Ok(())
+}
+
+fn conflict(alloc: Global, rows: &Rows, name: &str) -> Result<Name, Fail> {
+    let name = Name::read(alloc, name.as_bytes())?;
+    Ok(conflict_name(alloc, rows, ItemId(1), &name)?)
+}
+
+#[test]
+fn copies_are_named(rt: HostRuntime) -> Result<(), Fail> {
+    let mut rows = table(rt.alloc())?;
+    for (name, copy) in [
+        ("plan.txt", "plan (conflict 1).txt"),
+        ("plain", "plain (conflict 1)"),
+        (".profile", ".profile (conflict 1)"),
+        ("a.tar.gz", "a.tar (conflict 1).gz"),
+        (
+            "s.3456789_123456789_123456789_123",
+            "s (conflict 1).3456789_123456789_123456789_123",
+        ),
+        (
+            "s.3456789_123456789_123456789_1234",
+            "s.3456789_123456789_123456789_1234 (conflict 1)",
+        ),
+    ] {
+        assert_eq!(rt;
+            conflict(rt.alloc(), &rows, name)?.as_slice(),
+            copy.as_bytes()
+        );
+    }
+    add(rt.alloc(), &mut rows, 8, 1, "plan (conflict 1).txt", FILE)?;
+    assert_eq!(rt;
+        conflict(rt.alloc(), &rows, "plan.txt")?.as_slice(),
+        b"plan (conflict 2).txt".as_slice()
+    );
+    let long = repeated(rt.alloc(), "€", 85)?;
+    let mut copy = repeated(rt.alloc(), "€", 80)?;
+    copy.push_str(" (conflict 1)")?;
+    assert_eq!(rt;
+        conflict(rt.alloc(), &rows, long.as_str())?.as_slice(),
+        copy.as_bytes()
+    );
+    Ok(())
+}
