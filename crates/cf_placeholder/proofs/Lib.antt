@@ -1,0 +1,3 @@
+pub mod Creating
+pub mod Fitted
+pub mod WholeRows

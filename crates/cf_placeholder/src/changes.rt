@@ -1,0 +1,15 @@
+//! Lists of at most one change.
+
+ghost use Rattle.std.specs.Prelude.{◌≡◌, [], ◌∷◌, IfOk};
+
+use cf_base::{Change, Memory, Sequence};
+use std::alloc::Global;
+
+/// The list of this change alone.
+pub(crate) fn one(alloc: Global, change: Change) -> Result<Sequence<Change>, Memory>
+    ensures { IfOk result (λ list. list ≡ change ∷ []) }
+{
+    let mut list = Sequence::new(alloc);
+    list.push(change)?;
+    Ok(list)
+}
