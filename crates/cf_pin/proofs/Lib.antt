@@ -1,0 +1,5 @@
+pub mod Elements
+pub mod Fitting
+pub mod Inheriting
+pub mod Reaching
+pub mod TreeOrder
