@@ -1,0 +1,51 @@
+-- What an operation and a note of a provider tell of the port.
+use Rattle.std.specs.Prelude.{Bool, true, false, List, [], ◌∷◌, Result, Ok, Err}
+use Rattle.cf_base.specs.declared.answers.Shown.{Shown}
+use Rattle.cf_base.specs.declared.answers.Shown.TheVariants as shown
+use Rattle.cf_base.specs.declared.codes.Code.{Code}
+use Rattle.cf_base.specs.declared.codes.Code.TheVariants as code
+use Rattle.cf_base.specs.declared.codes.Fail.{Fail}
+use Rattle.cf_base.specs.declared.codes.Fail.TheVariants.{No, Memory}
+use Rattle.cf_base.specs.declared.memory.Memory.{Memory as NoMemory}
+use Rattle.cf_base.specs.declared.notices.Notice.{Notice}
+use Rattle.cf_base.specs.declared.notices.Notice.TheVariants as notice
+use Rattle.cf_base.specs.declared.operations.Operation.{Operation}
+use Rattle.cf_execute.specs.declared.outcomes.Outcome.{Outcome}
+use Rattle.cf_execute.specs.declared.outcomes.Outcome.TheVariants as outcome
+use Rattle.cf_model.specs.Ports.{Act, Did, Failed, Noted}
+
+abbrev pub shown_of : Outcome → Shown
+shown_of outcome.Done = shown.Done
+shown_of (outcome.Data bytes) = shown.Retrieved bytes
+
+-- an operation that was refused; one that met the device has no answer
+abbrev pub refused_by : Operation → Code → Act
+refused_by op code.Device = Failed op
+refused_by op c = Did op (shown.Refused c)
+
+-- The operation led from the one state to the other, with this result. After want of memory it is only said that some acts
+-- did.
+abbrev pub Executes : {X : Type 0} → (X → List Act → X → Type 0) → Operation → X → Result Outcome Fail → X → Type 0
+Executes goes op old (Ok o) new = goes old (Did op (shown_of o) ∷ []) new
+Executes goes op old (Err (No c)) new = goes old (refused_by op c ∷ []) new
+Executes goes op old (Err Memory) new = (acts : List Act) × goes old acts new
+
+-- the note was added, and nothing else happened
+abbrev pub Notes : {X : Type 0} → (X → List Act → X → Type 0) → Notice → X → Result (Unit {0}) NoMemory → X → Type 0
+Notes goes n old (Ok u) new = goes old (Noted n ∷ []) new
+Notes goes n old (Err e) new = (acts : List Act) × goes old acts new
+
+-- what a provider may note
+abbrev pub is_note : Notice → Bool
+is_note (notice.Operation answer) = true
+is_note (notice.Message sent) = true
+is_note (notice.Fault message) = true
+is_note (notice.Skipped c) = true
+is_note _ = false
+
+-- the operations among acts
+abbrev pub operations : List Act → List Operation
+operations [] = []
+operations (Did op answer ∷ acts) = op ∷ operations acts
+operations (Failed op ∷ acts) = op ∷ operations acts
+operations (Noted n ∷ acts) = operations acts

@@ -1,0 +1,48 @@
+//! What a provider acts on, and what answers callbacks.
+ghost use Rattle.std.specs.Prelude.{◌≡◌, List, [], ◌∷◌, ◌++◌, is_ok, true};
+ghost use Rattle.cf_execute.specs.Acting.{Executes, Notes, is_note};
+ghost use Rattle.cf_execute.specs.declared.outcomes.Callback.{Callback};
+ghost use Rattle.cf_model.specs.Ports.{Act};
+ghost use Rattle.cf_table.specs.Tables.{Table};
+
+use crate::outcomes::{Callback, Outcome};
+use cf_base::{Fail, Memory, Notice, Operation};
+use cf_table::Rows;
+
+/// What a provider acts on inside a callback. A port says by `goes` what its acts do to it.
+pub trait Port {
+    /// These acts, and nothing else, lead from the one state to the other.
+    ghost goes: { Self → List Act → Self → Type 0 };
+
+    /// The volume's rows.
+    ghost table: { Self → Table };
+
+    /// Does an operation, or refuses it. Refused as `check` and the operation's row say, and as Broken and Device.
+    fn execute(&mut self, op: &Operation) -> Result<Outcome, Fail>
+        ensures { Executes goes op.now self.old result self.new };
+
+    /// Adds a note: an operation's answer, a message, a fault or a step that was left out.
+    fn note(&mut self, n: Notice) -> Result<(), Memory>
+        requires { is_note n ≡ true }
+        ensures { Notes goes n self.old result self.new };
+
+    /// The volume's rows as they are now.
+    fn rows(&self) -> &Rows
+        ensures { result.now ≡ table self.now };
+
+    /// Without an act it stays as it is.
+    ghost stays: { (p : Self) → goes p [] p };
+
+    /// What is reached from a reached state is reached.
+    ghost goes_on: { (p q r : Self) (acts more : List Act) → goes p acts q → goes q more r → goes p (acts ++ more) r };
+}
+
+/// What answers callbacks.
+pub trait Provider {
+    /// It answers a callback by these acts, and is so then.
+    ghost answers: { Self → Callback → List Act → Self → Type 0 };
+
+    /// Answers, by operations and notes of the port. Without memory it has done some of them.
+    fn on_callback<P: Port>(&mut self, call: &Callback, port: &mut P) -> Result<(), Memory>
+        ensures { (acts : List Act) × P.goes port.old acts port.new × (is_ok result ≡ true → answers self.old call.now acts self.new) };
+}

@@ -1,0 +1,113 @@
+//! A provider that answers inside the callback, and the check on real asks.
+ghost use Rattle.std.specs.Prelude.{◌≡◌, [], ◌∷◌, true};
+ghost use Rattle.cf_execute.specs.Acting.{operations};
+ghost use Rattle.cf_execute.specs.declared.outcomes.Callback.{Callback};
+ghost use Rattle.cf_base.specs.declared.operations.Operation.TheVariants as operation;
+ghost use Rattle.cf_model.specs.Ports.{Act};
+
+use super::*;
+use cf_asks::View;
+use cf_base::{
+    Ask, AskKind, Blob, Code, Fail, Identity, ItemId, Key, Memory, Operation, Span, WaitKind,
+};
+use cf_ranges::RangeSet;
+use cf_requests::Requests;
+use cf_table::Rows;
+use std::test;
+
+const KEY: Key = Key {
+    epoch: 1,
+    number: 1,
+};
+
+/// Consents to whatever it is asked.
+#[derive(Debug, Drop)]
+struct Consents {
+    answered: bool,
+}
+
+impl Provider for Consents {
+    ghost answers = { λ p call acts q. operations acts ≡ operation.AckDehydrate call.ask.key true ∷ [] };
+
+    fn on_callback<P: Port>(&mut self, call: &Callback, port: &mut P) -> Result<(), Memory> {
+        let consent = Operation::AckDehydrate {
+            key: call.ask.key,
+            good: true,
+        };
+        self.answered = true;
+        match port.execute(&consent) {
+            Ok(_) => Ok(()),
+            Err(Fail::No(_)) => Ok(()),
+            Err(Fail::Memory) => Err(Memory),
+        }
+    }
+}
+
+fn transfer(alloc: std::alloc::Global, at: u64, bytes: &[u8]) -> Result<Operation, Memory> {
+    Ok(Operation::Transfer {
+        key: KEY,
+        at,
+        bytes: Blob::from_slice(alloc, bytes)?,
+    })
+}
+
+#[test]
+fn a_provider_answers_inside_the_callback(rt: HostRuntime) -> Result<(), test::Fail> {
+    let mut port = Recorder::new(rt.alloc(), Rows::new(rt.alloc())?);
+    let ask = Ask {
+        key: KEY,
+        kind: AskKind::Dehydrate,
+        item: ItemId(2),
+        span: Span { start: 0, len: 5 },
+    };
+    let call = Callback {
+        ask,
+        identity: Identity::new(rt.alloc(), b"aa")?,
+        base: 5,
+    };
+    let mut provider = Consents { answered: false };
+    provider.on_callback(&call, &mut port)?;
+    assert!(rt; provider.answered);
+    assert_eq!(rt; port.acts().len(), 1);
+    assert!(rt; port.rows().get(ItemId(1)).is_some());
+    Ok(())
+}
+
+#[test]
+fn a_span_is_tested_before_the_blocks_are(rt: HostRuntime) -> Result<(), test::Fail> {
+    let none = RangeSet::new(rt.alloc());
+    let v = View {
+        here: &none,
+        valid: &none,
+        modified: &none,
+        size: 4,
+        base: 4,
+        validate: false,
+        full: false,
+        populated: false,
+    };
+    let mut requests = Requests::new(rt.alloc(), 1);
+    let early = transfer(rt.alloc(), 0, b"aaaa")?;
+    assert!(rt; check(&early, &requests, 4) == Err(Code::StaleKey));
+    let all = Span { start: 0, len: 4 };
+    requests.start(WaitKind::Read, ItemId(2), None, all, false, &v)?;
+    assert!(rt; check(&early, &requests, 4).is_ok());
+    let odd = transfer(rt.alloc(), 1, b"aaaa")?;
+    assert!(rt; check(&odd, &requests, 4) == Err(Code::Misaligned));
+    let far = Operation::Refuse {
+        key: KEY,
+        span: Span {
+            start: 4096,
+            len: 4096,
+        },
+        status: 5,
+    };
+    assert!(rt; check(&far, &requests, 4) == Err(Code::OutsideAsk));
+    let wrong = Operation::Ack {
+        key: KEY,
+        span: all,
+        good: true,
+    };
+    assert!(rt; check(&wrong, &requests, 4) == Err(Code::WrongKind));
+    Ok(())
+}
