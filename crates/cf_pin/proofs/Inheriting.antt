@@ -14,7 +14,7 @@ use Rattle.cf_model.specs.Plans.{pin_changes, same_pin, stored_pin}
 use Rattle.cf_model.specs.Words.{when}
 use Rattle.cf_tree.proofs.Stable.{Rises}
 use Rattle.cf_tree.proofs.Walks.{same_item_id}
-use Rattle.cf_pin.proofs.Elements.{Each, each_also}
+use Rattle.cf_tree.proofs.Elements.{Each, each_also}
 
 -- one state for all
 abbrev pub settled : Pin → List Item → List Change

@@ -1,4 +1,3 @@
-pub mod Elements
 pub mod Fitting
 pub mod Inheriting
 pub mod Reaching

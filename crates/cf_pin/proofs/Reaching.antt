@@ -21,7 +21,7 @@ use Rattle.cf_tree.specs.Trees.{IsTree}
 use Rattle.cf_tree.proofs.Alike.{BothMean, rows_by_id}
 use Rattle.cf_tree.proofs.Walks.{own_id, same_item_id}
 use Rattle.cf_pin.specs.States.{differs, inherited, set_each, state_for, stored, stored_above}
-use Rattle.cf_pin.proofs.Elements.{Each, each_also, each_filtered}
+use Rattle.cf_tree.proofs.Elements.{Each, each_also, each_filtered}
 use Rattle.cf_pin.proofs.Inheriting.{given_state, inherits_one, settled}
 use Rattle.cf_pin.proofs.TreeOrder.{There, covered, covered_below, depth_in, each_in_tree, filter_rises, in_tree, is_other, tree_rises}
 

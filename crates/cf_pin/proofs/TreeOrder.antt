@@ -11,7 +11,7 @@ use Rattle.cf_tree.proofs.Depths.{line_step, only, some_of}
 use Rattle.cf_tree.proofs.Heights.{depth_is, line_of_item}
 use Rattle.cf_tree.proofs.Stable.{Rises, sorted_rises}
 use Rattle.cf_tree.proofs.Walks.{own_id, same_item_id}
-use Rattle.cf_pin.proofs.Elements.{Each, any_filtered, any_found, any_sorted, each_also, each_filtered, each_sorted, each_there}
+use Rattle.cf_tree.proofs.Elements.{Each, any_filtered, any_found, any_sorted, each_also, each_filtered, each_sorted, each_there}
 use Rattle.cf_pin.proofs.Inheriting.{IsCovered, lower_parent}
 
 abbrev pub depth_in : List Item → Item → ℕ

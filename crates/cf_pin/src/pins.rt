@@ -125,7 +125,7 @@ fn set_each(
 /// The changes by which a pin state (CfSetPinState) is set on an item that is there, on it and all below it, or on those
 /// below it alone: by depth and then by id, one for each item whose stored state differs. `Inherit` stores the state that
 /// the parent of each has at its turn, so all get what the first of them inherits; the root's parent counts as
-/// unspecified. Beyond the item alone it looks at all rows.
+/// unspecified. The work grows with the items of the reach.
 pub fn plan_pin(
     alloc: Global,
     rows: &Rows,

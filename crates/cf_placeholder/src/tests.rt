@@ -122,6 +122,26 @@ fn placeholders_change(rt: HostRuntime) -> Result<(), Fail> {
 }
 
 #[test]
+fn plain_items_become_placeholders(rt: HostRuntime) -> Result<(), Fail> {
+    let alloc = rt.alloc();
+    let mut row = placeholder(alloc)?;
+    row.placeholder = false;
+    let identity = Identity::new(alloc, b"bb")?;
+    let plan = plan_convert(alloc, &row, &identity)?;
+    assert_eq!(rt; plan.as_slice().len(), 1);
+    assert!(rt;
+        matches!(
+            plan.get(0),
+            Some(Change::Convert {
+                item: ItemId(2),
+                ..
+            })
+        )
+    );
+    Ok(())
+}
+
+#[test]
 fn marks_name_the_number(rt: HostRuntime) -> Result<(), Fail> {
     let alloc = rt.alloc();
     let mut row = placeholder(alloc)?;

@@ -4,7 +4,7 @@ use Rattle.std.specs.Prelude.{find, ◌&&◌}
 use Rattle.cf_base.specs.declared.ids.ItemId.{ItemId}
 use Rattle.cf_model.specs.Items.{Item, item_of}
 use Rattle.cf_model.specs.LookUp.{child_of, is_child_named}
-use Rattle.cf_model.specs.Words.{same, says}
+use Rattle.cf_model.specs.Words.{same}
 use Rattle.cf_table.specs.Means.{Means}
 use Rattle.cf_table.specs.Tables.{MeansAll, is_child_row, row_of}
 use Rattle.cf_table.specs.declared.rows.Row.{Row}
@@ -32,10 +32,3 @@ rows_by_id rows items id m = found_alike (λ r. eqb r.id.0 id.0) (λ i. eqb i.id
 
 pub rows_by_name : (rows : List Row) (items : List Item) (id : ItemId) (name : List ℕ) → MeansAll rows items → BothMean (find (is_child_row id name) rows) (child_of items id name)
 rows_by_name rows items id name m = found_alike (is_child_row id name) (is_child_named id name) (λ r i h. λ k. (eqb (h.parent k).0 id.0) && same (h.name k) name) rows items m
-
-directory_alike : (o : Option Row) (i : Item) → BothMean o (Some i) → says (λ r. r.dir) o ≡ i.directory
-directory_alike None i h = absurd h
-directory_alike (Some r) i h = h.directory
-
-pub directory_is : (rows : List Row) (items : List Item) (id : ItemId) (i : Item) → MeansAll rows items → item_of items id ≡ Some i → says (λ r. r.dir) (row_of rows id) ≡ i.directory
-directory_is rows items id i m e = directory_alike (row_of rows id) i (subst (λ v. BothMean (row_of rows id) v) e (rows_by_id rows items id m))

@@ -53,7 +53,7 @@ first_distinct name (suc n) lt =
 
 -- a name that is taken is that of an item
 
-same_is : (xs ys : List ℕ) → same xs ys ≡ true → xs ≡ ys
+pub same_is : (xs ys : List ℕ) → same xs ys ≡ true → xs ≡ ys
 same_is [] [] h = refl
 same_is [] (y ∷ ys) h = let z : false ≡ true = h in absurd cc
 same_is (x ∷ xs) [] h = let z : false ≡ true = h in absurd cc

@@ -75,7 +75,7 @@ module _ {X : Type 0} (key : X → ℕ) where
         ∙ swapped (has_key k x) (has_key k y) (λ p q. let lt = ltb-true (key y) (key x) e in omega (arith, eqb-true (key x) k p, eqb-true (key y) k q)) (filter (has_key k) ys)
     two false e rest = refl
 
-  sorted_keeps : (k : ℕ) (xs : List X) → filter (has_key k) (sorted before xs) ≡ filter (has_key k) xs
+  pub sorted_keeps : (k : ℕ) (xs : List X) → filter (has_key k) (sorted before xs) ≡ filter (has_key k) xs
   sorted_keeps k [] = refl
   sorted_keeps k (x ∷ xs) = put_keeps k x (sorted before xs) ∙ ap (λ l. cond (has_key k x) (x ∷ l) l) (sorted_keeps k xs)
 

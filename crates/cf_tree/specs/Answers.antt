@@ -1,5 +1,5 @@
 -- What a look-up of the definitions comes to where items are told by their ids.
-use Rattle.std.specs.Prelude.{ℕ, List, Result, Ok, Err, ◌≡◌}
+use Rattle.std.specs.Prelude.{ℕ, List, Option, Some, None, Result, Ok, Err, ◌≡◌}
 use Rattle.cf_base.specs.declared.codes.Code.{Code}
 use Rattle.cf_base.specs.declared.codes.Fail.{Fail}
 use Rattle.cf_base.specs.declared.codes.Fail.TheVariants as fail
@@ -22,3 +22,9 @@ abbrev pub IsAnswer : {X : Type 0} → Result X Fail → Result X Code → Type 
 IsAnswer (Ok x) meant = meant ≡ Ok x
 IsAnswer (Err (fail.No c)) meant = meant ≡ Err c
 IsAnswer (Err fail.Memory) meant = Unit {0}
+
+-- the answer is the refusal that is meant, or none where none is, or there was no memory
+abbrev pub IsChecked : Result (Unit {0}) Fail → Option Code → Type 0
+IsChecked (Ok done) refused = refused ≡ None
+IsChecked (Err (fail.No c)) refused = refused ≡ Some c
+IsChecked (Err fail.Memory) refused = Unit {0}

@@ -1,4 +1,5 @@
 pub mod Answers
+pub mod Levels
 pub mod Lines
 pub mod Parts
 pub mod Steps

@@ -1,7 +1,8 @@
 //! Items by path.
 
-ghost use Rattle.std.specs.Prelude.{◌≡◌, List};
+ghost use Rattle.std.specs.Prelude.{◌≡◌, List, IfOk, true};
 ghost use Rattle.std.specs.Result.{result_err};
+ghost use Rattle.cf_base.specs.Names.{is_name};
 ghost use Rattle.cf_model.specs.Items.{Item};
 ghost use Rattle.cf_model.specs.LookUp.{bad_names, find_below, find_path, find_place, names_of, refused_or};
 ghost use Rattle.cf_table.specs.Tables.{MeansAll, row_of};
@@ -101,7 +102,8 @@ fn place<'a>(rows: &Rows, path: &'a str) -> Result<(ItemId, &'a str), Code>
 /// `find` refuses the path of the directory, as TooDeep or BadPath by the name too, and as BadPath where the path is that
 /// of the root.
 pub fn find_parent(alloc: Global, rows: &Rows, path: &str) -> Result<(ItemId, Name), Fail>
-    ensures { (items : List Item) → MeansAll rows.now.rows items → IsTree items → IsAnswer result (placed (find_place items path.now)) }
+    ensures place { (items : List Item) → MeansAll rows.now.rows items → IsTree items → IsAnswer result (placed (find_place items path.now)) }
+    ensures named { IfOk result (λ p. is_name p.1 ≡ true) }
 {
     match place(rows, path) {
         Ok((parent, name)) => {

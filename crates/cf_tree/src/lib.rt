@@ -3,6 +3,8 @@
 
 mod conflicts;
 mod finds;
+mod laws;
+mod levels;
 mod lines;
 mod moves;
 mod names;
@@ -11,6 +13,7 @@ mod trees;
 
 pub use conflicts::conflict_name;
 pub use finds::{find, find_below, find_parent};
+pub use laws::{changes_keep_trees, places_have_room, plans_keep_trees};
 pub use moves::check_move;
 pub use paths::path_of;
 pub use trees::tree_of;

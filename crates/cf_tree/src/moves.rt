@@ -1,60 +1,42 @@
 //! Whether an item may move.
 
-ghost use Rattle.std.specs.Prelude.{◌≡◌, ◌+◌, ◌≤◌, ◌==◌, List, Some, find, nat_lt, not};
-ghost use Rattle.std.specs.Result.{result_err};
+ghost use Rattle.std.specs.Prelude.{◌≡◌, ◌+◌, ◌≤◌, ◌==◌, ◌∷◌, [], List, Some, IfOk, find, nat_lt, not};
 ghost use Rattle.cf_model.specs.Items.{Item, item_of};
 ghost use Rattle.cf_model.specs.LookUp.{height_at, move_refused};
-ghost use Rattle.cf_model.specs.Words.{says};
-ghost use Rattle.cf_table.specs.Tables.{id_of, is_child_row, MeansAll, RisesFrom, row_of};
-ghost use Rattle.cf_tree.specs.Lines.{deepest_in};
+ghost use Rattle.cf_model.specs.Words.{is_empty, says};
+ghost use Rattle.cf_table.specs.Tables.{id_of, is_child_row, MeansAll};
+ghost use Rattle.cf_tree.specs.Answers.{IsChecked};
+ghost use Rattle.cf_tree.specs.Levels.{level_at};
 ghost use Rattle.cf_tree.specs.Trees.{IsTree};
 
-use crate::lines::line_of;
+use crate::levels::level_at;
+use crate::lines::{ROOT, line_of};
 use crate::names::MOST_NAMES;
-use cf_base::{Code, ItemId, Name};
+use cf_base::{Code, Fail, ItemId, Memory, Name};
 use cf_table::Rows;
+use std::alloc::Global;
 
-// The depth of the deepest item that is this one or below it.
-fn deepest(rows: &Rows, id: ItemId, most: usize) -> usize
-    ensures value { RisesFrom 1 rows.now.rows → result ≡ deepest_in most rows.now.rows id rows.now.rows }
-    ensures small { result ≤ most }
+// Whether items stand so many names below this one.
+fn reaches(alloc: Global, rows: &Rows, id: ItemId, names: usize) -> Result<bool, Memory>
+    ensures { IfOk result (λ b. b ≡ not (is_empty (level_at names rows.now.rows (id ∷ [])))) }
 {
-    let mut deepest = 0;
-    let mut next = rows.after(None);
-    while let Some(at) = next {
-        let line = line_of(rows, at, id, most);
-        if line.passes {
-            deepest = line.depth.max(deepest);
-        }
-        next = rows.after(Some(at));
-    }
-    deepest
+    let level = level_at(alloc, rows, id, names)?;
+    Ok(!level.is_empty())
 }
 
-// Whether more than 32 names would lead to the item or to one below it, where `above` lead to the new directory. Only for a
-// directory that comes deeper than it stands does it look at all rows.
-fn is_too_deep(rows: &Rows, id: ItemId, above: usize) -> bool
+// Whether more than 32 names would lead to the item or to one below it, where `above` lead to the new directory. What is
+// below is looked at only where the item comes deeper than it stands. Nothing counts as below the root, which never moves.
+fn is_too_deep(alloc: Global, rows: &Rows, id: ItemId, above: usize) -> Result<bool, Memory>
     requires { above ≤ 32 }
-    ensures { (items : List Item) (i : Item) → MeansAll rows.now.rows items → IsTree items → item_of items id ≡ Some i → result ≡ nat_lt 32 (above + 1 + height_at items id) }
+    ensures { IfOk result (λ b. (items : List Item) (i : Item) → MeansAll rows.now.rows items → IsTree items → item_of items id ≡ Some i → b ≡ nat_lt 32 (above + 1 + height_at items id)) }
 {
-    let depth = line_of(rows, id, id, MOST_NAMES).depth;
-    if above < depth {
-        return false;
+    if id == ROOT {
+        return Ok(above >= MOST_NAMES);
     }
-    if !is_directory(rows, id) {
-        return above >= MOST_NAMES;
+    if above < line_of(rows, id, id, MOST_NAMES).depth {
+        return Ok(false);
     }
-    let deepest = deepest(rows, id, MOST_NAMES);
-    above + 1 + deepest.saturating_sub(depth) > MOST_NAMES
-}
-
-fn is_directory(rows: &Rows, id: ItemId) -> bool
-    ensures { result ≡ says (λ r. r.dir) (row_of rows.now.rows id) }
-{
-    match rows.get(id) {
-        Some(row) => row.dir,
-        None => false,
-    }
+    reaches(alloc, rows, id, MOST_NAMES - above)
 }
 
 // Whether another item of the directory has the name.
@@ -69,23 +51,29 @@ fn is_taken(rows: &Rows, id: ItemId, parent: ItemId, name: &Name) -> bool
 
 /// Whether the item may move into the directory under the name. Refused as IntoItself where the directory is the item or
 /// below it, then as TooDeep where more than 32 names would lead to the item or to one below it, then as Exists where
-/// another item of the directory has the name. Takes no memory. It takes time by the depths, and by the number of all
-/// rows only where a directory comes deeper than it stands.
-pub fn check_move(rows: &Rows, id: ItemId, parent: ItemId, name: &Name) -> Result<(), Code>
-    ensures { (items : List Item) (i : Item) → MeansAll rows.now.rows items → IsTree items → item_of items id ≡ Some i → result_err result ≡ move_refused items id parent name.now }
+/// another item of the directory has the name. It takes time by the depths, and by what is below the item only where it
+/// comes deeper than it stands; there alone it takes memory.
+pub fn check_move(
+    alloc: Global,
+    rows: &Rows,
+    id: ItemId,
+    parent: ItemId,
+    name: &Name,
+) -> Result<(), Fail>
+    ensures { (items : List Item) (i : Item) → MeansAll rows.now.rows items → IsTree items → item_of items id ≡ Some i → IsChecked result (move_refused items id parent name.now) }
 {
     if parent == id {
-        return Err(Code::IntoItself);
+        return Err(Fail::No(Code::IntoItself));
     }
     let above = line_of(rows, parent, id, MOST_NAMES);
     if above.passes {
-        return Err(Code::IntoItself);
+        return Err(Fail::No(Code::IntoItself));
     }
-    if is_too_deep(rows, id, above.depth) {
-        return Err(Code::TooDeep);
+    if is_too_deep(alloc, rows, id, above.depth)? {
+        return Err(Fail::No(Code::TooDeep));
     }
     if is_taken(rows, id, parent, name) {
-        return Err(Code::Exists);
+        return Err(Fail::No(Code::Exists));
     }
     Ok(())
 }

@@ -118,21 +118,62 @@ fn places_are_found(rt: HostRuntime) -> Result<(), Fail> {
     Ok(())
 }
 
-#[test]
-fn moves_are_judged(rt: HostRuntime) -> Result<(), Fail> {
-    let mut rows = table(rt.alloc())?;
+// Directories `/c`, `/c/c` and so on, of which that many names lead to the last. Their ids begin at 10.
+fn add_chain(alloc: Global, rows: &mut Rows, names: u64) -> Result<(), Fail>
+    requires { names ≤ 32 }
+{
     let mut above = 1;
-    for id in 10..41 {
-        add(rt.alloc(), &mut rows, id, above, "c", DIRECTORY)?;
+    for id in 10..10 + names {
+        add(alloc, rows, id, above, "c", DIRECTORY)?;
         above = id;
     }
-    let name = Name::read(rt.alloc(), b"u")?;
-    assert!(rt; check_move(&rows, ItemId(2), ItemId(6), &name) == Err(Code::IntoItself));
-    assert!(rt; check_move(&rows, ItemId(3), ItemId(1), &name) == Err(Code::Exists));
-    assert!(rt; check_move(&rows, ItemId(4), ItemId(1), &name) == Ok(()));
-    assert!(rt; check_move(&rows, ItemId(3), ItemId(40), &name) == Ok(()));
-    assert!(rt; check_move(&rows, ItemId(6), ItemId(39), &name) == Ok(()));
-    assert!(rt; check_move(&rows, ItemId(6), ItemId(40), &name) == Err(Code::TooDeep));
+    Ok(())
+}
+
+fn judged(alloc: Global, rows: &Rows, id: u64, parent: u64) -> Result<Option<Code>, Fail> {
+    let name = Name::read(alloc, b"u")?;
+    match check_move(alloc, rows, ItemId(id), ItemId(parent), &name) {
+        Ok(()) => Ok(None),
+        Err(No(code)) => Ok(Some(code)),
+        Err(error) => Err(Fail::from(error)),
+    }
+}
+
+#[test]
+fn moves_are_judged(rt: HostRuntime) -> Result<(), Fail> {
+    let rows = table(rt.alloc())?;
+    assert!(rt; judged(rt.alloc(), &rows, 2, 6)? == Some(Code::IntoItself));
+    assert!(rt; judged(rt.alloc(), &rows, 2, 2)? == Some(Code::IntoItself));
+    assert!(rt; judged(rt.alloc(), &rows, 3, 1)? == Some(Code::Exists));
+    assert!(rt; judged(rt.alloc(), &rows, 4, 1)?.is_none());
+    Ok(())
+}
+
+#[test]
+fn moves_end_at_32_names(rt: HostRuntime) -> Result<(), Fail> {
+    let mut rows = table(rt.alloc())?;
+    add_chain(rt.alloc(), &mut rows, 31)?;
+    assert!(rt; judged(rt.alloc(), &rows, 3, 40)?.is_none());
+    assert!(rt; judged(rt.alloc(), &rows, 6, 39)?.is_none());
+    assert!(rt; judged(rt.alloc(), &rows, 6, 40)? == Some(Code::TooDeep));
+    assert!(rt; judged(rt.alloc(), &rows, 10, 2)?.is_none());
+    assert!(rt; judged(rt.alloc(), &rows, 10, 6)? == Some(Code::TooDeep));
+    Ok(())
+}
+
+#[test]
+fn all_33_levels_are_reached(rt: HostRuntime) -> Result<(), Fail> {
+    let mut rows = Rows::new(rt.alloc())?;
+    add_chain(rt.alloc(), &mut rows, 32)?;
+    let path = path_of_names(rt.alloc(), "c", 32)?;
+    assert!(rt; find(&rows, path.as_str()) == Ok(ItemId(41)));
+    assert_eq!(rt;
+        path_of(rt.alloc(), &rows, ItemId(41))?.as_str(),
+        path.as_str()
+    );
+    assert_eq!(rt; tree_of(rt.alloc(), &rows, ItemId(1))?.len(), 33);
+    assert_eq!(rt; tree_of(rt.alloc(), &rows, ItemId(41))?.len(), 1);
+    assert!(rt; tree_of(rt.alloc(), &rows, ItemId(42))?.is_empty());
     Ok(())
 }
 
@@ -182,6 +223,17 @@ fn copies_are_named(rt: HostRuntime) -> Result<(), Fail> {
         conflict(rt.alloc(), &rows, "plan.txt")?.as_slice(),
         b"plan (conflict 2).txt".as_slice()
     );
+    add(rt.alloc(), &mut rows, 9, 1, "plan (conflict 2).txt", FILE)?;
+    assert_eq!(rt;
+        conflict(rt.alloc(), &rows, "plan.txt")?.as_slice(),
+        b"plan (conflict 3).txt".as_slice()
+    );
+    Ok(())
+}
+
+#[test]
+fn long_names_are_cut_at_a_character(rt: HostRuntime) -> Result<(), Fail> {
+    let rows = table(rt.alloc())?;
     let long = repeated(rt.alloc(), "€", 85)?;
     let mut copy = repeated(rt.alloc(), "€", 80)?;
     copy.push_str(" (conflict 1)")?;
