@@ -88,6 +88,7 @@ impl Journal {
         ensures same_size { size_of (D.state disk.new) ≡ size_of (D.state disk.old) }
         ensures powers { (D.state disk.new).powers ≡ (D.state disk.old).powers }
         ensures cause { IfErr result (λ e. IsCause e self.old (D.state disk.old) (D.state disk.new)) }
+        ensures faults { (D.state disk.old).faults ≤ (D.state disk.new).faults }
         ensures usable { OnOk result (self.new.broken ≡ false) }
         ensures broken { self.old.broken ≡ true → (result ≡ Err JournalFail.Broken) × (self.new ≡ self.old) × (disk.new ≡ disk.old) }
         ensures breaks { OnErr result (self.new.broken ≡ true) }
@@ -121,6 +122,7 @@ impl Journal {
         ensures same_size { size_of (D.state disk.new) ≡ size_of (D.state disk.old) }
         ensures powers { (D.state disk.new).powers ≡ (D.state disk.old).powers }
         ensures cause { IfErr result (λ e. IsCause e self.old (D.state disk.old) (D.state disk.new)) }
+        ensures faults { (D.state disk.old).faults ≤ (D.state disk.new).faults }
         ensures usable { OnOk result (self.new.broken ≡ false) }
         ensures broken { self.old.broken ≡ true → (result ≡ Err JournalFail.Broken) × (self.new ≡ self.old) × (disk.new ≡ disk.old) }
         ensures breaks { OnErr result (self.new.broken ≡ true) }
@@ -154,6 +156,7 @@ impl Journal {
         ensures same_size { size_of (D.state disk.new) ≡ size_of (D.state disk.old) }
         ensures powers { (D.state disk.new).powers ≡ (D.state disk.old).powers }
         ensures cause { IfErr result (λ e. (e ≡ JournalFail.Failed) × IsOpenCause e (D.state disk.old) (D.state disk.new)) }
+        ensures faults { (D.state disk.old).faults ≤ (D.state disk.new).faults }
     {
         close_both(disk, base_of(Side::A), base_of(Side::B))?;
         install(disk, Side::B, 1, image)?;
