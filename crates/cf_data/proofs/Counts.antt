@@ -3,6 +3,9 @@ use Rattle.std.proofs.Common.{◌≡◌, ℕ, zero, suc, ◌+◌, ◌<◌, Bool,
 use Rattle.std.proofs.lemmas.Bool.{cases_Bool}
 use Rattle.cf_data.specs.declared.uses.Use.{Use}
 use Rattle.cf_data.specs.declared.uses.Use.TheVariants.{Free, Held, Staged, Dropped}
+use Rattle.std.specs.Prelude.{◌-◌}
+use Rattle.std.proofs.lemmas.List.{length-map}
+use Rattle.cf_data.specs.Layout.{IsLayout, use_at, uses_from}
 use Rattle.cf_data.specs.Roles.{how_many, is_free, is_now, is_dropped, use_of, committed, dropped, dropped_at, staged_at}
 
 pub how_many-set : (test : Use → Bool) (us : List Use) (k : ℕ) (u d : Use) → k < length us → how_many test (set us k u) + cond (test (get_or us k d)) 1 0 ≡ how_many test us + cond (test u) 1 0
@@ -76,3 +79,10 @@ pub free_staged : (us : List Use) (k : ℕ) (old : Option ℕ) → k < length us
 free_staged us k None lt free = let weight : Use → ℕ = λ u. cond (is_free u) 1 0 in omega (arith, how_many-set is_free us k Staged Held lt, ap weight free)
 free_staged us k (Some o) lt free = let weight : Use → ℕ = λ u. cond (is_free u) 1 0 in
     omega (arith, how_many-set is_free us k Staged Held lt, ap weight free, drop_frees (set us k Staged) o)
+
+-- how many the state holds, by the bounds of the order
+pub now_count : (order places : List ℕ) (free staged held : ℕ) → IsLayout order places free staged held → length places - staged ≡ how_many is_now (uses_from free staged held places)
+now_count order places free staged held layout =
+    let all = uses_add_up (uses_from free staged held places) in
+    let long = length-map places (use_at free staged held) in
+    omega (arith, all, long, layout.free_count, layout.dropped_count, layout.first, layout.second, layout.third, layout.inverse.size)

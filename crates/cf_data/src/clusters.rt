@@ -4,7 +4,7 @@ ghost use Rattle.std.specs.Option.{ForSome};
 ghost use Rattle.cf_disk.specs.Disk.{size_of, part, capped, SameBut, Leaves, Keeps, Counts, Rises, Spends};
 ghost use Rattle.cf_data.specs.declared.uses.Use.TheVariants.{Free, Held, Staged, Dropped};
 ghost use Rattle.cf_data.specs.declared.clusters.DataFail.TheVariants.{Failed, Full};
-ghost use Rattle.cf_data.specs.Roles.{committed, dropped_at, how_many, is_free, staged_at, use_of, AreApart, HoldsAll, IsUsed, Opens};
+ghost use Rattle.cf_data.specs.Roles.{committed, dropped_at, how_many, is_free, is_now, staged_at, use_of, AreApart, HoldsAll, IsUsed, Opens};
 ghost use Rattle.cf_data.specs.Layout.{counting};
 ghost use Rattle.cf_data.specs.Area.{place, KeepsWhere, SameWhere, SpendsOne};
 
@@ -194,6 +194,13 @@ impl Data {
         ensures { result ≡ how_many is_free self.now }
     {
         (self.staged - self.free) as u32
+    }
+
+    /// How many clusters the state now holds.
+    pub fn used(&self) -> u32
+        ensures { result ≡ how_many is_now self.now }
+    {
+        (self.places.len() - self.staged) as u32
     }
 
     /// The state drops a cluster: it is free at once where the last commit does not hold it, and else after the next
