@@ -1,0 +1,5 @@
+pub mod Overs
+pub mod Laid
+pub mod Unlaid
+pub mod Puts
+pub mod Elsewhere
