@@ -1,0 +1,11 @@
+pub mod ClusterLists
+pub mod Contents
+pub mod Enough
+pub mod Faults
+pub mod RecordLists
+pub mod RowTests
+pub mod Sets
+pub mod Sound
+pub mod Spelled
+pub mod States
+pub mod Trees

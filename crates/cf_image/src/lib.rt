@@ -1,0 +1,34 @@
+//! Images and payloads of a volume: how its header, its rows and its auxiliary records are spelled, what bytes spell them,
+//! and which of them tell a volume.
+//!
+//! `Contents` is what a volume says of its items. `spell_image` spells all of it, `spell_payload` what changed of it;
+//! `read_contents` reads an image and the payloads behind it, and takes just those that tell a sound volume.
+#![tactic(auto)]
+
+mod blocks;
+mod clusters;
+mod contents;
+mod failures;
+mod images;
+mod laws;
+mod openings;
+mod part_reads;
+mod part_writes;
+mod payloads;
+mod record_lists;
+mod records;
+mod sets;
+mod sound;
+mod sound_rows;
+mod trees;
+
+pub use contents::Contents;
+pub use failures::ImageFail;
+pub use images::{read_image, spell_image};
+pub use laws::{a_payload_is_enough, one_value_of_a_text};
+pub use openings::read_contents;
+pub use payloads::{apply_payload, spell_payload};
+pub use records::AuxRecords;
+
+#[cfg(test)]
+mod tests;
