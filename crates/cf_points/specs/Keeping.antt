@@ -1,0 +1,47 @@
+-- What the calls of a volume ask of a change, and the volume that an opening gives.
+use Rattle.std.specs.Prelude.{◌≡◌, ◌≤◌, ◌<◌, ℕ, true, List, [], ◌∷◌, All, length}
+use Rattle.cf_base.specs.declared.items.SeenPath.{SeenPath}
+use Rattle.cf_base.specs.declared.changes.Change.{Change}
+use Rattle.cf_base.specs.declared.changes.Change.TheVariants as change
+use Rattle.cf_base.specs.declared.ids.ItemId.{ItemId}
+use Rattle.cf_base.specs.declared.ids.Usn.{Usn}
+use Rattle.cf_model.specs.Books.{Book}
+use Rattle.cf_model.specs.Changes.{put_change}
+use Rattle.cf_model.specs.Logs.{items_of, next_of}
+use Rattle.cf_model.specs.State.{Volume}
+use Rattle.cf_table.specs.Changing.{ItemsFit}
+
+-- a new item has the id that the next item gets, or a later one
+abbrev pub IsNextId : Change → ItemId → Type 0
+IsNextId (change.Make item parent name kind size identity) next = next.0 ≤ item.0
+IsNextId (change.Copy item from parent name) next = next.0 ≤ item.0
+IsNextId c next = Unit {0}
+
+-- ids of paths seen have room in the key of their record
+abbrev pub AreShortIds : List SeenPath → Type 0
+AreShortIds ps = All (λ p. p.item.0 < 18446744073709551616) ps
+
+-- what a change asks of the book: the record of a removed item's path is found by its key
+abbrev pub FitsBook : Change → Book → Type 0
+FitsBook (change.Remove item) b = AreShortIds b.seen
+FitsBook c b = Unit {0}
+
+-- each change fits the volume that those before it make
+abbrev pub FitInTurn : List Change → Volume → Type 0
+FitInTurn [] v = Unit {0}
+FitInTurn (c ∷ cs) v = ItemsFit c v.book v.items × FitInTurn cs (put_change c v)
+
+-- the volume of a log and a book, opened again in this epoch
+abbrev pub opened : ℕ → List (Usn × Change) → Book → ℕ → Volume
+opened epoch log b clusters = record {
+  clusters = clusters;
+  epoch = epoch;
+  log = log;
+  items = items_of log;
+  next_item = record { 0 = next_of log };
+  place = 0;
+  points = record { sure = true; count = length log; book = b } ∷ [];
+  items_then = items_of log;
+  put_since = 0;
+  book = b;
+}

@@ -1,0 +1,11 @@
+pub mod Clusters
+pub mod Standing
+pub mod Known
+pub mod Sound
+pub mod Holding
+pub mod At
+pub mod Keeping
+pub mod Lengths
+pub mod Runs
+pub mod Saving
+pub mod Staging
