@@ -1,0 +1,115 @@
+//! The contents of a volume have an image.
+
+ghost use Rattle.std.specs.Prelude.{◌≡◌, ◌<◌, ◌^◌, ℕ, All, None, unwrap_or};
+ghost use Rattle.cf_commit.specs.InRange.{IsInRange};
+ghost use Rattle.cf_commit.specs.Leading.{CanBeWritten, HaveStoredPins};
+ghost use Rattle.cf_image.specs.Contents.{image_of};
+ghost use Rattle.cf_image.specs.Spelled.{AreRecordsFrom, IsImage};
+ghost use Rattle.cf_table.specs.Reading.{IsUsn};
+ghost use Rattle.cf_table.specs.Tables.{RisesFrom};
+
+use crate::earlier::Earlier;
+use cf_base::{ItemId, Usn};
+use cf_image::Contents;
+use cf_table::Row;
+
+fn fits_8(number: u64)
+    ensures { number < 2 ^ 64 }
+{
+    let _ = number;
+}
+
+fn fits_4(number: u32)
+    ensures { number < 2 ^ 32 }
+{
+    let _ = number;
+}
+
+fn is_usn(number: Usn)
+    ensures { IsUsn number }
+{
+    fits_4(number.epoch);
+    fits_4(number.place);
+}
+
+fn base_fits(base: Option<u32>)
+    ensures { unwrap_or base 0 < 2 ^ 32 }
+{
+    if let Some(base) = base {
+        fits_4(base);
+    }
+}
+
+fn pair_fits(pair: (u32, u32))
+    ensures { (pair.0 < 2 ^ 32) × (pair.1 < 2 ^ 32) }
+{
+    fits_4(pair.0);
+    fits_4(pair.1);
+}
+
+fn pairs_fit(pairs: &[(u32, u32)])
+    ensures { All (λ (e : ℕ × ℕ). (e.0 < 2 ^ 32) × (e.1 < 2 ^ 32)) pairs.now }
+{
+    for pair in pairs {
+        pair_fits(*pair);
+    }
+}
+
+// The numbers of a row are those of their types.
+fn is_in_range(row: &Row)
+    ensures { IsInRange row.now }
+{
+    fits_8(row.id.0);
+    fits_8(row.parent.0);
+    fits_4(row.size);
+    base_fits(row.base);
+    is_usn(row.number);
+    is_usn(row.anchor);
+    fits_8(row.last);
+    pairs_fit(row.extents.pairs());
+}
+
+fn are_in_range(rows: &[Row])
+    ensures { All IsInRange rows.now }
+{
+    for row in rows {
+        is_in_range(row);
+    }
+}
+
+fn header_fits(last: Usn, count: u64, next: ItemId, clock: u64)
+    ensures { IsUsn last × (count < 2 ^ 64) × (next.0 < 2 ^ 64) × (clock < 2 ^ 64) }
+{
+    is_usn(last);
+    fits_8(count);
+    fits_8(next.0);
+    fits_8(clock);
+}
+
+/// The contents that can be written have an image, unless a pin is none that is stored.
+pub(crate) fn has_an_image(contents: &Contents)
+    ensures image { CanBeWritten contents.now → HaveStoredPins contents.now.rows.rows → IsImage (image_of contents.now) }
+    ensures rise { RisesFrom 0 contents.now.rows.rows }
+    ensures keys_rise { AreRecordsFrom None contents.now.records }
+{
+    let _ = contents.rows.image_len();
+    let _ = contents.records.as_slice();
+    header_fits(
+        contents.last,
+        contents.count,
+        contents.rows.next(),
+        contents.clock,
+    );
+    are_in_range(contents.rows.as_slice());
+}
+
+/// What is noted stands in order.
+pub(crate) fn stands_in_order(then: &Earlier)
+    ensures next { then.now.next.0 < 2 ^ 64 }
+    ensures rise { RisesFrom 0 then.now.rows.rows }
+    ensures keys_rise { AreRecordsFrom None then.now.records }
+{
+    fits_8(then.next.0);
+    let _ = then.rows.as_slice();
+    let _ = then.records.as_slice();
+}
