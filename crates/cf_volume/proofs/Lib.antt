@@ -1,0 +1,13 @@
+pub mod Staged
+pub mod Stagings
+pub mod Planning
+pub mod Carried
+pub mod Noted
+pub mod FileReads
+pub mod Removed
+pub mod Puts
+pub mod PlannedPut
+pub mod MadePut
+pub mod NotedKeys
+pub mod Rebooks
+pub mod Judged

@@ -1,0 +1,5 @@
+pub mod Laid
+pub mod Notes
+pub mod Reads
+pub mod Steady
+pub mod Calls

@@ -1,0 +1,47 @@
+-- What the parts of a volume know of it, and what holds of them until a call breaks it.
+use Rattle.std.specs.Prelude.{◌≡◌, ◌≤◌, ◌<◌, ◌+◌, ◌-◌, ◌*◌, ◌/◌, ℕ, Bool, All, length, min, nat_lt}
+use Rattle.cf_image.specs.Contents.{image_of}
+use Rattle.cf_image.specs.declared.contents.Contents.{Contents}
+use Rattle.cf_journal.specs.Settled.{IsFitSize}
+use Rattle.cf_model.specs.Formats.{spell_image}
+use Rattle.cf_model.specs.Numbers.{usn_after}
+use Rattle.cf_points.specs.Clusters.{clusters_in_rows}
+use Rattle.cf_points.specs.Known.{Known}
+use Rattle.cf_points.specs.Lengths.{len_with}
+use Rattle.cf_ranges.specs.Positions.{IsBelow, touched}
+use Rattle.cf_table.specs.Changing.{IsNext}
+use Rattle.cf_table.specs.declared.rows.Row.{Row}
+use Rattle.cf_volume.specs.declared.parts.Parts.{Parts}
+
+abbrev pub known_of : Parts → Known
+known_of p = record {
+  journal = p.journal;
+  uses = p.held;
+  table = p.contents.rows;
+  records = p.contents.records;
+  epoch = p.contents.last.epoch;
+  place = p.contents.last.place;
+  count = p.contents.count;
+  clock = p.contents.clock;
+  rows_then = p.rows_then.rows;
+  next_then = p.next_then;
+  records_then = p.records_then;
+  keys_made = p.keys_made;
+  kept = p.kept;
+  broken = p.broken;
+}
+
+-- A disk of this size has room for the clusters, each cluster of a row is one of them, the next number comes after those of
+-- all rows, and the next item after those of the last point.
+pub record Steady (size : ℕ) (k : Known) : Type 0 where
+  pub fit : IsFitSize size
+  pub clusters : length k.uses ≡ (size - 3145728) / 4096
+  pub inside : All (λ j. j < length k.uses) (clusters_in_rows k.table.rows)
+  pub later : IsNext (usn_after k.epoch k.place) k.table.rows
+  pub earlier : k.next_then.0 ≤ k.table.next.0
+
+-- the test whether the image would be too long with a row in place of another, each block with a byte of which has a cluster
+abbrev pub TestsLength : Contents → Row → Row → Bool → Type 0
+TestsLength c old new result =
+    (n m : ℕ) → IsBelow old.here (4096 * n) → IsBelow new.here (4096 * m)
+    → result ≡ nat_lt (1306624 + len_with old (touched old.here 0 n)) (min (length (spell_image (image_of c))) 18446744073709551615 + len_with new (touched new.here 0 m))

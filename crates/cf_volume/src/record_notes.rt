@@ -1,0 +1,62 @@
+//! Auxiliary records as they were at the last point.
+
+ghost use Rattle.std.specs.Prelude.{◌≡◌, ◌≤◌, Some, IfOk, OnOk, is_some, length};
+ghost use Rattle.cf_image.specs.Contents.{record_at};
+ghost use Rattle.cf_image.specs.RecordLists.{IsShort};
+ghost use Rattle.cf_volume.specs.Notes.{NotesKey};
+
+use cf_base::{AuxRecord, Blob, Memory};
+use cf_image::AuxRecords;
+use std::alloc::Global;
+
+fn has(records: &AuxRecords, key: &[u8]) -> bool
+    ensures { result ≡ is_some (record_at records.now key.now) }
+{
+    records.get(key).is_some()
+}
+
+// A record, on its own.
+fn copy_record(records: &AuxRecords, record: &AuxRecord) -> Result<AuxRecord, Memory>
+    requires { record_at records.now record.now.key ≡ Some record.now }
+    ensures same { IfOk result (λ r. r ≡ record.now) }
+    ensures short { IsShort record.now }
+{
+    let _ = records.as_slice();
+    Ok(AuxRecord {
+        key: record.key.copy()?,
+        value: record.value.copy()?,
+    })
+}
+
+// A key without a value.
+fn bare(alloc: Global, key: &[u8]) -> Result<AuxRecord, Memory>
+    ensures { IfOk result (λ r. (r.key ≡ key.now) × (length r.value ≡ 0)) }
+{
+    Ok(AuxRecord {
+        key: Blob::from_slice(alloc, key)?,
+        value: Blob::from_slice(alloc, &[])?,
+    })
+}
+
+/// Notes the record with a key as it is, or that there is none, unless it has changed since the last point already.
+pub(crate) fn note_record(
+    alloc: Global,
+    before: &mut AuxRecords,
+    made: &mut AuxRecords,
+    records: &AuxRecords,
+    key: &[u8],
+) -> Result<(), Memory>
+    requires { length key.now ≤ 255 }
+    ensures { OnOk result (NotesKey key.now records.now before.old before.new made.old made.new) }
+{
+    if has(before, key) {
+        return Ok(());
+    }
+    if has(made, key) {
+        return Ok(());
+    }
+    match records.get(key) {
+        Some(record) => before.put(copy_record(records, record)?),
+        None => made.put(bare(alloc, key)?),
+    }
+}
