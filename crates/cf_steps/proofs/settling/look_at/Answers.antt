@@ -1,0 +1,14 @@
+use Rattle.std.proofs.Common.{ap, ◌∙◌, ℕ}
+use Rattle.std.specs.Prelude.{min}
+use Rattle.cf_asks.specs.Deeds.{deed_of}
+use Rattle.cf_steps.proofs.AskRule.{looked, planned_of}
+use Rattle.cf_steps.proofs.Laws.{ok_map}
+use Rattle.cf_steps.proofs.settling.look_at.Goals as goal
+
+pub returns-clause-planned : goal.returns-clause-planned
+returns-clause-planned g c = ok_map c.look.result _ _ (λ p e. planned_of p _ _ _ _ _ c.requests.ensures.value e) c.look.ensures
+
+pub returns-clause-looks : goal.returns-clause-looks
+returns-clause-looks g c = ok_map c.look.result _ _
+    (λ p e. looked g.S.Steps.sense c.args.s.now c.requests.result.now c.args.item (deed_of c.args.act) p c.args.row.now c.policy-policy.result c.min.result c.min-2.result c.needs_all.result
+    c.requests.ensures.means c.policy-policy.ensures c.min.ensures (c.min-2.ensures ∙ ap (λ (n : ℕ). min n 16777216) c.base_of.ensures) c.needs_all.ensures e) c.look.ensures

@@ -1,0 +1,34 @@
+-- What holds of every filter that a program has: its items form a tree, and each of them is sound and within the limits.
+use Rattle.std.specs.Prelude.{◌≡◌, ◌<◌, ◌≤◌, ◌==◌, false, true, List, [], ◌∷◌, length}
+use Rattle.cf_model.specs.Texts.{is_name}
+use Rattle.cf_model.specs.Items.{Item, base_of}
+use Rattle.cf_model.specs.Soundness.{AllLater, AllSound}
+use Rattle.cf_model.specs.Changes.{next_number}
+use Rattle.cf_model.specs.Numbers.{no_key, same_key}
+use Rattle.cf_model.specs.State.{Filter, Volume}
+use Rattle.cf_tree.specs.Trees.{AreOpen, IsTree}
+
+-- the property holds of each
+abbrev pub Every : {A : Type 0} → (A → Type 0) → List A → Type 0
+Every P [] = Unit {0}
+Every P (x ∷ xs) = P x × Every P xs
+
+-- an item within the limits
+pub record IsSmall (i : Item) : Type 0 where
+  pub size : length i.held ≤ 16777216
+  pub base : base_of i ≤ 16777216
+  pub identity : length i.identity ≤ 65535
+  pub name : (i.id.0 == 1) ≡ false → is_name i.name ≡ true
+
+pub record IsGoodVolume (v : Volume) : Type 0 where
+  pub tree : IsTree v.items
+  pub opened : AreOpen v.items
+  pub sound : AllSound v.items
+  pub small : Every IsSmall v.items
+  pub later : AllLater (next_number v) v.items
+  pub below : Every (λ i. i.id.0 < v.next_item.0) v.items
+
+pub record IsGood (s : Filter) : Type 0 where
+  pub volume : IsGoodVolume s.volume
+  -- each wait has a number
+  pub numbered : Every (λ w. same_key w.id.0 no_key ≡ false) s.waiting.waits

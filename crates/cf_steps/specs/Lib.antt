@@ -1,0 +1,9 @@
+pub mod Answering
+pub mod Finding
+pub mod Good
+pub mod Looking
+pub mod Making
+pub mod Needing
+pub mod Readings
+pub mod Settled
+pub mod Suiting

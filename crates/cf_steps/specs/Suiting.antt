@@ -1,0 +1,66 @@
+-- What a change meets, besides room for it.
+use Rattle.std.specs.Prelude.{◌≡◌, ◌<◌, ◌≤◌, ◌==◌, ℕ, false, true, List, [], ◌∷◌, length, None, MatchOption}
+use Rattle.cf_model.specs.Texts.{is_name}
+use Rattle.cf_base.specs.declared.changes.Change.{Change}
+use Rattle.cf_base.specs.declared.changes.Change.TheVariants as change
+use Rattle.cf_base.specs.declared.ids.ItemId.{ItemId}
+use Rattle.cf_model.specs.Books.{Book}
+use Rattle.cf_model.specs.Changes.{put_change, why_no_room}
+use Rattle.cf_model.specs.Items.{Item, item_of}
+use Rattle.cf_model.specs.LookUp.{child_of, children, depth_at, move_refused}
+use Rattle.cf_model.specs.Soundness.{Needs}
+use Rattle.cf_model.specs.State.{Filter, Volume}
+use Rattle.cf_table.specs.Changing.{ItemsFit}
+
+-- a directory whose entries are known
+abbrev pub IsOpenDirectory : Item → Type 0
+IsOpenDirectory p = (p.directory ≡ true) × (p.populated ≡ true)
+
+-- The change leaves a tree: a new item comes under the next id at a free name of a directory that is open, an item moves
+-- where it may, and one with a child does not go.
+abbrev pub IsFreePlace : List Item → ItemId → List ℕ → Type 0
+IsFreePlace items parent name = (is_name name ≡ true) × MatchOption (item_of items parent) ⊥ IsOpenDirectory × (depth_at items parent < 32) × (child_of items parent name ≡ None)
+
+abbrev pub Plants : Change → List Item → ItemId → Type 0
+Plants (change.Make item parent name kind size identity) items next = (item ≡ next) × IsFreePlace items parent name
+Plants (change.Copy item from parent name) items next = (item ≡ next) × IsFreePlace items parent name
+Plants (change.Move item parent name) items next =
+    ((item.0 == 1) ≡ false) × (is_name name ≡ true) × MatchOption (item_of items parent) ⊥ IsOpenDirectory × (move_refused items item parent name ≡ None)
+Plants (change.Remove item) items next = ((item.0 == 1) ≡ false) × (children items item ≡ [])
+Plants _ items next = Unit {0}
+
+-- The change has the size that a table has room for; whether there is an id for a new item is a matter of room.
+abbrev pub FitsTable : Change → Book → List Item → Type 0
+FitsTable (change.Make item parent name kind size identity) b items = (length name ≤ 255) × (length identity ≤ 65535) × (size ≤ 16777216)
+FitsTable (change.Copy item from parent name) b items = (length name ≤ 255) × MatchOption (item_of items from) ⊥ (λ i. 8 ≤ length i.identity)
+FitsTable c b items = ItemsFit c b items
+
+-- What a change meets in the volume before it.
+pub record Suits (c : Change) (v : Volume) : Type 0 where
+  pub fits : FitsTable c v.book v.items
+  pub needs : Needs c v.items
+  pub plants : Plants c v.items v.next_item
+
+-- each change in turn
+abbrev pub SuitsAll : List Change → Volume → Type 0
+SuitsAll [] v = Unit {0}
+SuitsAll (c ∷ cs) v = Suits c v × SuitsAll cs (put_change c v)
+
+-- and finds room
+pub record IsReady (c : Change) (v : Volume) : Type 0 where
+  pub room : why_no_room (c ∷ []) v ≡ None
+  pub suits : Suits c v
+
+abbrev pub AreReady : List Change → Volume → Type 0
+AreReady [] v = Unit {0}
+AreReady (c ∷ cs) v = IsReady c v × AreReady cs (put_change c v)
+
+-- of the volume of a filter
+abbrev pub Ready : Change → Filter → Type 0
+Ready c s = IsReady c s.volume
+
+abbrev pub ReadyAll : List Change → Filter → Type 0
+ReadyAll cs s = AreReady cs s.volume
+
+abbrev pub Suiting : List Change → Filter → Type 0
+Suiting cs s = SuitsAll cs s.volume
