@@ -1,0 +1,4 @@
+pub mod Asking
+pub mod Handles
+pub mod Planned
+pub mod Told
