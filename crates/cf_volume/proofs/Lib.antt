@@ -11,3 +11,5 @@ pub mod MadePut
 pub mod NotedKeys
 pub mod Rebooks
 pub mod Judged
+pub mod OfVolume
+pub mod Views

@@ -94,3 +94,9 @@ anchored_later n r p set later = record { number = ap (λ (x : Row). above n x.n
 
 pub touched_later : (n : Usn) (clock : ℕ) (r p : Row) → Touches clock r p → IsLater n r → IsLater n p
 touched_later n clock r p set later = record { number = ap (λ (x : Row). above n x.number) set.rest ∙ later.number; anchor = ap (λ (x : Row). above n x.anchor) set.rest ∙ later.anchor }
+
+pub anchored_steady : (size : ℕ) (id : ItemId) (k l : Known) → Steady size k → SetsNoted SetsAnchor id k l → Steady size l
+anchored_steady size id k l steady set = set_steady SetsAnchor size id k l steady set (ap (λ (r : Row). r.extents) set.sets.rest) (anchored_later (usn_after k.epoch k.place) set.row set.after set.sets)
+
+pub touched_steady : (size : ℕ) (id : ItemId) (k l : Known) → Steady size k → SetsNoted (Touches k.clock) id k l → Steady size l
+touched_steady size id k l steady set = set_steady (Touches k.clock) size id k l steady set (ap (λ (r : Row). r.extents) set.sets.rest) (touched_later (usn_after k.epoch k.place) k.clock set.row set.after set.sets)

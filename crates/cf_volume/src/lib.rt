@@ -1,14 +1,17 @@
 //! The volume over a disk: items and a book, of which a crash leaves the last point.
 //!
-//! Contracts see a `Volume` as its disk and what is known of the volume on it (specs/Calls, `OnDisk`). It tells what is
-//! known at once. The steps of its other calls stand beside it, each with what it makes of a disk and of what is known: a
-//! change of an item that stays is planned, judged and put; the row of a new item is planned and put; an item is removed
-//! with its clusters; bytes are read; rows and auxiliary records are noted as they were at the last point. Those calls are
-//! to come.
+//! Contracts see a `Volume` as its disk and what is known of the volume on it (specs/Calls, `OnDisk`). Each clause speaks of
+//! any volume of the definitions that the disk and what is known are at (`At` of cf_points), and of the one that they are
+//! at afterwards. The steps of the calls that are to come stand beside it: a change of an item that stays is planned,
+//! judged and put; the row of a new item is planned and put; an item is removed with its clusters; auxiliary records are
+//! noted as they were at the last point.
 #![tactic(auto)]
 
+mod books;
 mod carrying;
 mod dropping;
+mod fails;
+mod files;
 mod judging;
 mod kinds;
 mod lengths;
@@ -19,6 +22,7 @@ mod putting;
 mod reading;
 mod record_notes;
 mod removing;
+mod rooms;
 mod settling;
 mod staging;
 mod volumes;

@@ -1,0 +1,45 @@
+-- What the calls of a volume ask of its parts, and what they make of it.
+use Rattle.std.proofs.Common.{◌≡◌, ℕ, ◌+◌, ◌<◌, ◌≤◌, true, false, List, length, refl, sym, ◌∙◌, ap, subst, arith, Option, Some, None}
+use Rattle.std.specs.Prelude.{All, Err, IfOk, OnOk, Ok, Result, map, slice_range}
+use Rattle.std.proofs.lemmas.Option.{none-some, same_Some}
+use Rattle.cf_base.specs.declared.ids.ItemId.{ItemId}
+use Rattle.cf_disk.specs.Disk.{State}
+use Rattle.cf_model.specs.Items.{Item, item_of}
+use Rattle.cf_model.specs.State.{Volume}
+use Rattle.cf_points.proofs.Readings.{read_at}
+use Rattle.cf_points.proofs.Points.{Fair}
+use Rattle.cf_points.specs.At.{At}
+use Rattle.cf_points.specs.Clusters.{clusters_in_rows}
+use Rattle.cf_points.specs.Known.{Known}
+use Rattle.cf_ranges.specs.Pairs.{cluster_at}
+use Rattle.cf_ranges.specs.Positions.{contains}
+use Rattle.cf_table.specs.Tables.{row_of}
+use Rattle.cf_table.specs.declared.rows.Row.{Row}
+use Rattle.cf_volume.proofs.FileReads.{item_read}
+use Rattle.cf_volume.proofs.Puts.{found_inside, named_inside}
+use Rattle.cf_volume.specs.Calls.{IsHere}
+use Rattle.cf_volume.specs.Reads.{HasRead}
+use Rattle.cf_volume.specs.Steady.{Steady}
+
+pub here_there : (o : Option Row) (start end : ℕ) → IsHere o start end → o ≡ None → ⊥
+here_there None start end h e = h
+here_there (Some r) start end h e = none-some r (sym e)
+
+pub here_all : (o : Option Row) (r : Row) (start end : ℕ) → IsHere o start end → o ≡ Some r → (p : ℕ) → start ≤ p → p < end → contains r.here p ≡ true
+here_all None r start end h e p low high = absurd h
+here_all (Some x) r start end h e p low high = subst (λ (y : Row). contains y.here p ≡ true) (same_Some x r e) (h p low high)
+
+pub row_inside : (size : ℕ) (k : Known) (id : ItemId) → Steady size k → (r : Row) → row_of k.table.rows id ≡ Some r → (b n : ℕ) → cluster_at r.extents b ≡ Some n → n < length k.uses
+row_inside size k id steady r found b n e = named_inside (λ j. j < length k.uses) r.extents b n (found_inside (λ j. j < length k.uses) k.table.rows id r steady.inside found) e
+
+pub bytes_read : (s t : State) (k : Known) (v : Volume) (id : ItemId) (i : Item) (start end : ℕ) (bytes : List ℕ) → At s k v → item_of v.items id ≡ Some i → IsHere (row_of k.table.rows id) start end
+    → ((r : Row) × (row_of k.table.rows id ≡ Some r) × HasRead r.extents start end end bytes s t) → map Some bytes ≡ slice_range i.held start end
+bytes_read s t k v id i start end bytes at is here read = item_read s t k v id i read.0 start end bytes at is read.1 (here_all (row_of k.table.rows id) read.0 start end here read.1) read.2
+
+-- the time is not part of what holds of the parts
+pub passed_steady : (size clock : ℕ) (k : Known) → Steady size k → Steady size (record k { clock = clock })
+passed_steady size clock k steady = record { fit = steady.fit; clusters = steady.clusters; inside = steady.inside; later = steady.later; earlier = steady.earlier }
+
+-- on another disk of the same size
+pub same_steady : (size after : ℕ) (k : Known) → Steady size k → after ≡ size → Steady after k
+same_steady size after k steady e = subst (λ (n : ℕ). Steady n k) (sym e) steady

@@ -1,0 +1,18 @@
+-- What is said of a volume by its view.
+use Rattle.std.proofs.Common.{◌≡◌, List, subst}
+use Rattle.cf_disk.specs.Disk.{Leaves, State}
+use Rattle.cf_model.specs.State.{Volume}
+use Rattle.cf_base.specs.declared.ids.ItemId.{ItemId}
+use Rattle.cf_points.specs.At.{At}
+use Rattle.cf_table.specs.Tables.{row_of}
+use Rattle.cf_volume.specs.Calls.{IsHere, OnDisk}
+use Rattle.std.specs.Prelude.{ℕ}
+
+pub seen_at : {D : Type 0} {a b : OnDisk D} → (state : D → State) (v : Volume) → a ≡ b → At (state a.disk) a.known v → At (state b.disk) b.known v
+seen_at {D} {a} {b} state v e at = subst (λ (o : OnDisk D). At (state o.disk) o.known v) e at
+
+pub seen_here : {D : Type 0} {a b : OnDisk D} → (id : ItemId) (start end : ℕ) → a ≡ b → IsHere (row_of a.known.table.rows id) start end → IsHere (row_of b.known.table.rows id) start end
+seen_here {D} {a} {b} id start end e here = subst (λ (o : OnDisk D). IsHere (row_of o.known.table.rows id) start end) e here
+
+pub seen_leaves : {D : Type 0} {a b : OnDisk D} → (state : D → State) (t : State) (P : List ℕ → Type 0) → a ≡ b → Leaves (state a.disk) t P → Leaves (state b.disk) t P
+seen_leaves {D} {a} {b} state t P e leaves = subst (λ (o : OnDisk D). Leaves (state o.disk) t P) e leaves

@@ -1,0 +1,76 @@
+//! What a volume keeps beside its items: anchors, accesses, the clock.
+
+ghost use Rattle.std.specs.Prelude.{◌≡◌, false, None, Some, IfErr, OnOk};
+ghost use Rattle.cf_model.specs.Books.{with_access, with_anchor, with_ticks};
+ghost use Rattle.cf_model.specs.Items.{Item, item_of};
+ghost use Rattle.cf_model.specs.State.{Volume as model};
+ghost use Rattle.cf_points.specs.At.{At};
+ghost use Rattle.cf_table.specs.Tables.{row_of};
+ghost use Rattle.cf_volume.specs.Calls.{Breaks, IfBroken, StopsOnly};
+
+use crate::noting::{anchor_row, touch_row};
+use crate::volumes::Volume;
+use cf_base::{Code, Fail, ItemId};
+use cf_disk::Disk;
+
+impl<D: Disk> Volume<D> {
+    /// Makes the anchor of an item its number. It is durable with the next commit.
+    pub fn anchor(&mut self, id: ItemId) -> Result<(), Fail>
+        requires there { row_of self.old.known.table.rows id ≡ None → ⊥ }
+        ensures ok { (v : model) (i : Item) → At (D.state self.old.disk) self.old.known v → item_of v.items id ≡ Some i → OnOk result (At (D.state self.new.disk) self.new.known (record v { book = with_anchor id i.number v.book })) }
+        ensures only { self.old.known.broken ≡ false → IfErr result StopsOnly }
+        ensures disk { self.new.disk ≡ self.old.disk }
+        ensures broken { IfBroken self.old result self.new }
+        ensures breaks { IfErr result (λ e. Breaks e self.new.known) }
+        ensures usable { OnOk result (self.new.known.broken ≡ false) }
+    {
+        if self.parts.broken {
+            return Err(Fail::No(Code::Broken));
+        }
+        match anchor_row(&mut self.parts, id) {
+            Ok(()) => Ok(()),
+            Err(_) => {
+                self.parts.broken = true;
+                Err(Fail::Memory)
+            }
+        }
+    }
+
+    /// Makes the clock that of the last access of a file. It is durable with the next commit.
+    pub fn touch(&mut self, id: ItemId) -> Result<(), Fail>
+        requires there { row_of self.old.known.table.rows id ≡ None → ⊥ }
+        ensures ok { (v : model) → At (D.state self.old.disk) self.old.known v → OnOk result (At (D.state self.new.disk) self.new.known (record v { book = with_access id v.book })) }
+        ensures only { self.old.known.broken ≡ false → IfErr result StopsOnly }
+        ensures disk { self.new.disk ≡ self.old.disk }
+        ensures broken { IfBroken self.old result self.new }
+        ensures breaks { IfErr result (λ e. Breaks e self.new.known) }
+        ensures usable { OnOk result (self.new.known.broken ≡ false) }
+    {
+        if self.parts.broken {
+            return Err(Fail::No(Code::Broken));
+        }
+        match touch_row(&mut self.parts, id) {
+            Ok(()) => Ok(()),
+            Err(_) => {
+                self.parts.broken = true;
+                Err(Fail::Memory)
+            }
+        }
+    }
+
+    /// Lets so many ticks of the clock pass. It is durable with the next commit.
+    pub fn pass(&mut self, ticks: u64) -> Result<(), Fail>
+        ensures ok { (v : model) → At (D.state self.old.disk) self.old.known v → OnOk result (At (D.state self.new.disk) self.new.known (record v { book = with_ticks ticks v.book })) }
+        ensures only { self.old.known.broken ≡ false → IfErr result StopsOnly }
+        ensures disk { self.new.disk ≡ self.old.disk }
+        ensures broken { IfBroken self.old result self.new }
+        ensures breaks { IfErr result (λ e. Breaks e self.new.known) }
+        ensures usable { OnOk result (self.new.known.broken ≡ false) }
+    {
+        if self.parts.broken {
+            return Err(Fail::No(Code::Broken));
+        }
+        self.parts.contents.clock = self.parts.contents.clock.saturating_add(ticks);
+        Ok(())
+    }
+}

@@ -1,0 +1,17 @@
+//! Why calls of a volume stop.
+
+ghost use Rattle.std.specs.Prelude.{◌≡◌};
+ghost use Rattle.cf_volume.specs.Calls.{fail_of};
+
+use cf_base::{Code, Fail};
+use cf_points::Stop;
+
+/// What a call answers that was stopped.
+pub(crate) fn fail_of(stop: Stop) -> Fail
+    ensures { result ≡ fail_of stop }
+{
+    match stop {
+        Stop::Device => Fail::No(Code::Device),
+        Stop::Memory => Fail::Memory,
+    }
+}

@@ -1,0 +1,58 @@
+//! Bytes of files.
+
+ghost use Rattle.std.specs.Prelude.{◌≡◌, ◌≤◌, ◌+◌, ◌^◌, ℕ, false, List, Some, IfErr, IfOk, OnOk, map, slice_range};
+ghost use Rattle.cf_disk.specs.Disk.{Leaves};
+ghost use Rattle.cf_model.specs.Items.{Item, item_of};
+ghost use Rattle.cf_model.specs.State.{Volume as model};
+ghost use Rattle.cf_points.specs.At.{At, StandsLast};
+ghost use Rattle.cf_table.specs.Tables.{row_of};
+ghost use Rattle.cf_volume.specs.Calls.{Breaks, IfBroken, IsCause, IsHere, Runs, StopsOnly};
+
+use crate::fails::fail_of;
+use crate::reading::read_item;
+use crate::volumes::Volume;
+use cf_base::{Blob, Code, Fail, ItemId, Span};
+use cf_disk::Disk;
+
+impl<D: Disk> Volume<D> {
+    /// The bytes of a span of a file, all of which are here.
+    pub fn bytes(&mut self, id: ItemId, span: Span) -> Result<Blob, Fail>
+        requires end { span.start + span.len ≤ 2 ^ 40 }
+        requires here { IsHere (row_of self.old.known.table.rows id) span.start (span.start + span.len) }
+        ensures bytes { (v : model) (i : Item) → At (D.state self.old.disk) self.old.known v → item_of v.items id ≡ Some i → IfOk result (λ b. map Some b ≡ slice_range i.held span.start (span.start + span.len)) }
+        ensures ok { (v : model) → At (D.state self.old.disk) self.old.known v → OnOk result (At (D.state self.new.disk) self.new.known v) }
+        ensures only { self.old.known.broken ≡ false → IfErr result StopsOnly }
+        ensures crash { (v : model) → At (D.state self.old.disk) self.old.known v → Leaves (D.state self.old.disk) (D.state self.new.disk) (StandsLast v) }
+        ensures known { OnOk result (self.new.known ≡ self.old.known) }
+        ensures broken { IfBroken self.old result self.new }
+        ensures breaks { IfErr result (λ e. Breaks e self.new.known) }
+        ensures usable { OnOk result (self.new.known.broken ≡ false) }
+        ensures cause { IfErr result (λ e. IsCause e (D.state self.old.disk) (D.state self.new.disk)) }
+        ensures runs { Runs (D.state self.old.disk) (D.state self.new.disk) }
+    {
+        if self.parts.broken {
+            return Err(Fail::No(Code::Broken));
+        }
+        match read_item(
+            self.parts.alloc,
+            &mut self.disk,
+            &self.parts.held,
+            &self.parts.contents.rows,
+            id,
+            span,
+        ) {
+            Ok(bytes) => Ok(bytes),
+            Err(stop) => {
+                self.parts.broken = true;
+                Err(fail_of(stop))
+            }
+        }
+    }
+
+    /// Each image that a crash may leave now stands for the last point.
+    pub fn last_point(&self)
+        ensures { (v : model) → At (D.state self.now.disk) self.now.known v → (c : List ℕ) → (D.state self.now.disk).may_leave c → StandsLast v c }
+    {
+        let _ = &self.parts;
+    }
+}
