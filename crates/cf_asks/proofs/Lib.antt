@@ -1,8 +1,15 @@
 pub mod Blocks
 pub mod Covering
 pub mod Covers
+pub mod Filters
 pub mod Flags
+pub mod Following
+pub mod Joined
+pub mod Local
+pub mod Missed
+pub mod Opening
+pub mod Owned
+pub mod Places
 pub mod Runs
 pub mod Search
-pub mod Slices
-pub mod Places
+pub mod Wanting

@@ -1,5 +1,5 @@
 -- A binary search for the run that may reach into a span.
-use Rattle.std.proofs.Common.{◌≡◌, ℕ, zero, suc, ◌+◌, ◌-◌, ◌<◌, ◌≤◌, Bool, true, false, ◌||◌, List, [], ◌∷◌, length, get_or, max, min, refl, sym, ap, ◌∙◌, arith, ltb, leb}
+use Rattle.std.proofs.Common.{◌≡◌, ℕ, zero, suc, ◌+◌, ◌-◌, ◌<◌, ◌≤◌, Bool, true, false, ◌||◌, List, [], ◌∷◌, length, get_or, max, min, refl, ap, ◌∙◌, arith, leb}
 use Rattle.std.specs.Prelude.{nat_lt}
 use Rattle.std.specs.List.Sorted.{IsNonDecreasingBy, IsPartitionedBy, IsPartitionPoint}
 use Rattle.std.proofs.lemmas.Bool.{leb-true, leb-false}
@@ -9,7 +9,7 @@ use Rattle.cf_base.specs.declared.spans.Span.{Span}
 use Rattle.cf_asks.specs.Sights.{meets}
 use Rattle.cf_ranges.specs.Positions.{IsRuns, IsRunsFrom}
 
-from_low : (low j : ℕ) (runs : List Span) (d : Span) → IsRunsFrom low runs → j < length runs → low ≤ (get_or runs j d).start
+pub from_low : (low j : ℕ) (runs : List Span) (d : Span) → IsRunsFrom low runs → j < length runs → low ≤ (get_or runs j d).start
 from_low low j [] d h lt = absurd (omega arith)
 from_low low zero (r ∷ rs) d h lt = h.0
 from_low low (suc j) (r ∷ rs) d h lt = omega (arith, h.0, from_low (r.start + r.len + 1) j rs d h.3 (omega arith))

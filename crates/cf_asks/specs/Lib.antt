@@ -1,4 +1,9 @@
 pub mod Deeds
+pub mod Missed
+pub mod Near
+pub mod Nexts
+pub mod Owners
 pub mod Places
 pub mod Plans
 pub mod Sights
+pub mod Unions

@@ -1,17 +1,21 @@
 //! Live asks, and the blocks that they own.
-ghost use Rattle.std.specs.Prelude.{◌≡◌, ℕ, not, nat_le, ◌+◌, ◌<◌, filter, IfOk, ◌&&◌, ◌==◌};
+ghost use Rattle.std.specs.Prelude.{◌≡◌, ℕ, not, nat_le, ◌+◌, ◌<◌, All, filter, IfOk, ◌&&◌, ◌==◌};
 ghost use Rattle.std.specs.List.{list_all, list_any};
 ghost use Rattle.cf_asks.specs.Places.{places};
+ghost use Rattle.cf_asks.specs.Unions.{IsSmall};
 ghost use Rattle.cf_model.specs.Asks.{is_idle, is_idle_by, is_owned, is_wanted, misses_in, waits_by};
 ghost use Rattle.cf_model.specs.Numbers.{same_key};
 ghost use Rattle.cf_model.specs.Requests.{aged, has_block, is_data, is_dehydrate, is_list, is_list_wait};
 ghost use Rattle.cf_model.specs.Words.{counting, is_empty};
-ghost use Rattle.cf_ranges.specs.Positions.{IsRuns};
+ghost use Rattle.cf_ranges.specs.Positions.{contains, IsRuns};
 
+use crate::misses::misses_span;
 use crate::sights::Sight;
-use crate::waits::{LiveWait, WaitNumber, is_list_wait, misses_block, misses_span};
+use crate::unions::union_of;
+use crate::waits::{LiveWait, WaitNumber, is_list_wait};
 use cf_base::{Ask, AskKind, ItemId, Key, Memory, Span};
 use cf_ranges::RangeSet;
+use std::alloc::Global;
 use std::marker::Model;
 
 const LIMIT: u64 = 1 << 40;
@@ -104,12 +108,12 @@ impl LiveAsk {
         is_empty(self.owned.runs())
     }
 
-    /// Whether it owns the block.
-    #[tactic(auto, using(crate::proofs::Places::has_places))]
-    pub fn has(&self, block: u64) -> bool
-        ensures { result ≡ has_block self.now.owned block }
+    /// The runs of its blocks.
+    pub fn runs(&self) -> &[Span]
+        ensures blocks { (b : ℕ) → contains result.now b ≡ has_block self.now.owned b }
+        ensures maximal { IsRuns result.now }
     {
-        self.owned.has(block)
+        self.owned.runs()
     }
 
     /// Whether it owns each of the blocks.
@@ -198,6 +202,7 @@ fn others_of(owned: &RangeSet, blocks: Span) -> Result<RangeSet, Memory>
     Ok(others)
 }
 
+/// Whether an ask is for bytes.
 pub fn is_data(kind: AskKind) -> bool
     ensures { result ≡ is_data kind }
 {
@@ -209,6 +214,7 @@ pub fn is_data(kind: AskKind) -> bool
     }
 }
 
+/// Whether an ask is for the entries of a directory.
 pub fn is_list(kind: AskKind) -> bool
     ensures { result ≡ is_list kind }
 {
@@ -218,6 +224,7 @@ pub fn is_list(kind: AskKind) -> bool
     }
 }
 
+/// Whether an ask is for consent to a dehydration.
 pub fn is_dehydrate(kind: AskKind) -> bool
     ensures { result ≡ is_dehydrate kind }
 {
@@ -249,15 +256,6 @@ pub fn waits_by(v: &Sight, a: &LiveAsk, w: &LiveWait) -> bool
         AskKind::List => is_list_wait(w.kind()),
         AskKind::Dehydrate => w.id().is(a.wait()),
     }
-}
-
-/// Whether some wait on the item misses a byte of the block.
-pub fn is_wanted(item: ItemId, v: &Sight, waits: &[LiveWait], block: u64) -> bool
-    ensures { result ≡ is_wanted item v.now waits.now block }
-{
-    waits
-        .iter()
-        .any(|w| w.item().0 == item.0 && misses_block(v, w, block))
 }
 
 fn is_any_wanted(item: ItemId, v: &Sight, waits: &[LiveWait], runs: &[Span]) -> bool
@@ -319,10 +317,25 @@ fn is_idle_by(item: ItemId, v: &Sight, waits: &[LiveWait], a: &LiveAsk) -> bool
     }
 }
 
-/// Whether an ask of the item owns the block.
-pub fn is_owned(item: ItemId, asks: &[LiveAsk], block: u64) -> bool
-    ensures { result ≡ is_owned item asks.now block }
+/// The runs of the blocks that asks of the item own.
+pub fn owned_of(alloc: Global, item: ItemId, asks: &[LiveAsk]) -> Result<Vec<Span>, Memory>
+    ensures owned { IfOk result (λ r. (b : ℕ) → contains r.items b ≡ is_owned item asks.now b) }
+    ensures maximal { IfOk result (λ r. IsRuns r.items) }
 {
-    asks.iter()
-        .any(|a| a.ask().item.0 == item.0 && a.has(block))
+    let spans = spans_owned(alloc, item, asks)?;
+    let runs = union_of(alloc, spans)?;
+    Ok(runs)
+}
+
+fn spans_owned(alloc: Global, item: ItemId, asks: &[LiveAsk]) -> Result<Vec<Span>, Memory>
+    ensures owned { IfOk result (λ r. (b : ℕ) → contains r.items b ≡ is_owned item asks.now b) }
+    ensures small { IfOk result (λ r. All IsSmall r.items) }
+{
+    let mut spans = Vec::new(alloc);
+    for a in asks {
+        if a.ask().item.0 == item.0 {
+            spans.extend_from_slice(a.runs())?;
+        }
+    }
+    Ok(spans)
 }

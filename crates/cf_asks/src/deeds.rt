@@ -7,8 +7,9 @@ ghost use Rattle.cf_model.specs.Words.{counting, says};
 ghost use Rattle.cf_asks.specs.Deeds.{after, deed_of};
 
 use crate::asks::{LiveAsk, is_data, is_idle, waits_by};
+use crate::misses::{is_met, misses_span};
 use crate::sights::Sight;
-use crate::waits::{LiveWait, WaitNumber, is_background, is_met, is_same_key, misses_span};
+use crate::waits::{LiveWait, WaitNumber, is_background, is_same_key};
 use cf_base::{Cause, Handle, ItemId, Key, Memory, Span, WaitId};
 use std::alloc::Global;
 

@@ -5,14 +5,20 @@ mod asks;
 mod deeds;
 mod laws;
 mod makes;
+mod misses;
+mod nexts;
 mod plans;
 mod sights;
+mod unions;
 mod views;
 mod waits;
 
 pub use asks::{LiveAsk, is_data, is_dehydrate, is_list};
 pub use deeds::{Act, live_of};
-pub use laws::each_missing_block_is_owned;
+pub use laws::{
+    a_step_looks_at_its_item, each_data_ask_has_a_missed_block, each_missing_block_has_one_owner,
+    each_missing_block_is_owned, no_block_gets_two_owners,
+};
 pub use plans::{Plan, make_plan};
 pub use sights::Sight;
 pub use views::View;

@@ -1,14 +1,18 @@
 //! Which asks are made.
-ghost use Rattle.std.specs.Prelude.{◌≡◌, ℕ, ◌+◌, ◌^◌, ◌<◌, ◌≤◌, ◌==◌, ◌&&◌, not, cond, map, IfOk};
+ghost use Rattle.std.specs.Prelude.{◌≡◌, ℕ, Bool, ◌+◌, ◌/◌, ◌^◌, ◌<◌, ◌≤◌, ◌==◌, ◌&&◌, not, cond, filter, length, map, IfOk};
 ghost use Rattle.std.specs.List.{AllByRecursion, list_any};
+ghost use Rattle.cf_asks.specs.Nexts.{Wants};
 ghost use Rattle.cf_asks.specs.Places.{places};
 ghost use Rattle.cf_model.specs.Asks.{ask_of_run, dehydrate_ask, dehydrate_asks, is_fetched, is_owned, is_wanted, list_ask, list_asks, new_asks, open_blocks, runs_of, runs_on};
 ghost use Rattle.cf_model.specs.Numbers.{same_key};
 ghost use Rattle.cf_model.specs.Requests.{is_dehydrate_wait, is_list};
 ghost use Rattle.cf_base.specs.declared.waits.AskKind.{AskKind};
 ghost use Rattle.cf_model.specs.Words.{counting};
+ghost use Rattle.cf_ranges.specs.Positions.{contains, IsRuns};
 
-use crate::asks::{LiveAsk, is_list, is_list_awaited, is_owned, is_wanted};
+use crate::asks::{LiveAsk, is_list, is_list_awaited, owned_of};
+use crate::misses::{needs_of, next_missed};
+use crate::nexts::end_of;
 use crate::sights::Sight;
 use crate::waits::{LiveWait, WaitNumber, is_dehydrate_wait};
 use cf_base::{Ask, AskKind, ItemId, Key, Memory, Span};
@@ -78,13 +82,7 @@ fn is_fetched(v: &Sight, block: u64) -> bool
     v.is_absent_between(BLOCK * block, BLOCK * block + BLOCK)
 }
 
-fn is_open(item: ItemId, v: &Sight, waits: &[LiveWait], asks: &[LiveAsk], block: u64) -> bool
-    ensures { result ≡ (is_wanted item v.now waits.now block && not (is_owned item asks.now block)) }
-{
-    is_wanted(item, v, waits, block) && !is_owned(item, asks, block)
-}
-
-/// The blocks that hold a missing needed byte and that no ask owns.
+/// The blocks that hold a missing needed byte and that no ask owns. It goes from one such block to the next.
 pub fn open_blocks(
     alloc: Global,
     item: ItemId,
@@ -95,11 +93,27 @@ pub fn open_blocks(
     ensures open { IfOk result (λ r. r.items ≡ open_blocks item v.now waits.now asks.now) }
     ensures small { IfOk result (λ r. AllByRecursion (λ b. b < 2 ^ 40) r.items) }
 {
+    let needs = needs_of(alloc, item, v, waits)?;
+    let owned = owned_of(alloc, item, asks)?;
+    let blocks = open_in(alloc, v, &needs, &owned)?;
+    Ok(blocks)
+}
+
+fn open_in(alloc: Global, v: &Sight, needs: &[Span], owned: &[Span]) -> Result<Vec<u64>, Memory>
+    requires needs { IsRuns needs.now }
+    requires owned { IsRuns owned.now }
+    ensures { IfOk result (λ r. (w o : ℕ → Bool) → Wants v.now needs.now w → ((b : ℕ) → contains owned.now b ≡ o b) → r.items ≡ filter (λ b. w b && not (o b)) (counting 0 ((length v.now.lacks + 4095) / 4096))) }
+{
     let mut out = Vec::new(alloc);
-    let size = v.size();
-    for b in 0..(size + (BLOCK - 1)) / BLOCK {
-        if is_open(item, v, waits, asks, b) {
-            out.push(b)?;
+    let mut next = 0;
+    while let Some(at) = next_missed(v, needs, BLOCK * next) {
+        let block = at / BLOCK;
+        let end = end_of(owned, block);
+        if end > block {
+            next = end;
+        } else {
+            out.push(block)?;
+            next = block + 1;
         }
     }
     Ok(out)

@@ -1,9 +1,11 @@
 //! A view, made ready for many questions.
-ghost use Rattle.std.specs.Prelude.{◌≡◌, ℕ, not, ◌+◌, ◌-◌, ◌||◌, ◌^◌, ◌<◌, ◌≤◌, IfOk, length, max, min, nat_lt};
+ghost use Rattle.std.specs.Prelude.{◌≡◌, ℕ, not, ◌+◌, ◌-◌, ◌||◌, ◌^◌, ◌<◌, ◌≤◌, IfOk, IfSome, length, max, min, nat_lt};
 ghost use Rattle.cf_model.specs.Missing.{any_between};
 ghost use Rattle.cf_ranges.specs.Positions.{contains, IsRuns};
+ghost use Rattle.cf_asks.specs.Nexts.{IsNext, lacks_at};
 ghost use Rattle.cf_asks.specs.Sights.{is_lacking, meets, shown};
 
+use crate::nexts::{below, lesser, next_in};
 use crate::views::View;
 use cf_base::{Memory, Span};
 use std::alloc::Global;
@@ -89,6 +91,16 @@ impl Sight {
         ensures { result ≡ any_between self.now.absent start end }
     {
         meets(&self.absent, start, self.size.min(end))
+    }
+
+    /// The first position from a number on that is missing where it is needed.
+    pub fn next_lacking(&self, from: u64) -> Option<u64>
+        ensures next { IsNext (lacks_at self.now) from result }
+        ensures small { IfSome result (λ n. n < 2 ^ 24) }
+    {
+        let absent = next_in(&self.absent, from);
+        let bare = next_in(&self.bare, from);
+        below(lesser(absent, bare), self.size)
     }
 
     /// Whether some byte from start up to end is missing where it is needed.
