@@ -24,6 +24,10 @@ impl Requests {
         if let Some(code) = self.limit_after(&step, limits) {
             return Err(Fail::No(code));
         }
+        // A step that is held to no limit makes no ask where its view is the one of now.
+        if self.has_no_numbers(&step) {
+            return Err(Fail::Memory);
+        }
         let moves = self.take(step)?;
         Ok(moves)
     }

@@ -1,6 +1,7 @@
 //! The calls that wait, what the provider is asked for them, and how both end.
 #![tactic(auto)]
 
+mod begins;
 mod calls;
 mod limits;
 mod moves;

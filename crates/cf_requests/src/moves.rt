@@ -2,7 +2,6 @@
 ghost use Rattle.std.specs.Prelude.{◌≡◌, IfOk, OnOk, map, length, ◌+◌, ◌≤◌};
 ghost use Rattle.cf_model.specs.Asks.{with_keys};
 
-use crate::limits::MOST;
 use cf_asks::{LiveAsk, LiveWait, Wait};
 use cf_base::{Ask, Cause, Key, Memory, Sequence, WaitId};
 use std::alloc::Global;
@@ -42,27 +41,23 @@ pub(crate) fn public_of(alloc: Global, asks: &[LiveAsk]) -> Result<Vec<Ask>, Mem
     Ok(asks.iter().map(|a| a.ask()).collect(alloc)?)
 }
 
-/// The asks under the next keys of the epoch. Where there are too few they are not made, which counts as want of memory.
+/// The asks under the next keys of the epoch.
 pub(crate) fn with_keys(
     alloc: Global,
     epoch: u32,
     key_count: u64,
     made: &[LiveAsk],
 ) -> Result<Vec<LiveAsk>, Memory>
-    requires { key_count ≤ 4294967295 }
-    ensures keyed { IfOk result (λ v. v.items ≡ with_keys epoch key_count made.now) }
-    ensures small { IfOk result (λ v. key_count + length v.items ≤ 4294967295) }
+    requires { key_count + length made.now ≤ 4294967295 }
+    ensures { IfOk result (λ v. v.items ≡ with_keys epoch key_count made.now) }
 {
     let mut out = Vec::new(alloc);
-    let mut count = key_count;
+    let mut number = key_count;
     for a in made {
-        if count >= MOST {
-            return Err(Memory);
-        }
-        count += 1;
+        number += 1;
         let key = Key {
             epoch,
-            number: count as u32,
+            number: number as u32,
         };
         out.push(a.keyed(key)?)?;
     }
