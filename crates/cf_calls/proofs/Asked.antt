@@ -16,7 +16,7 @@ use Rattle.cf_base.specs.declared.codes.Fail.{Fail}
 use Rattle.cf_base.specs.declared.codes.Fail.TheVariants as fail
 use Rattle.cf_base.specs.declared.ids.ItemId.{ItemId}
 use Rattle.cf_base.specs.declared.ids.Usn.{Usn}
-use Rattle.cf_calls.specs.Asking.{AreFlags, Asks, Flagging, IsAsking, IsFlag, LooksWith, MayAsk, MayAskBy, asking_refusal, with_step}
+use Rattle.cf_calls.specs.Asking.{Asks, Flagging, IsAsking, IsFlag, LooksWith, MayAsk, MayAskBy, asking_refusal, with_step}
 use Rattle.cf_calls.specs.Planned.{Plan, by_keep, by_mark, refusal_of}
 use Rattle.cf_model.specs.Arrows.{Arrow, reading, then_do, unit, unless}
 use Rattle.cf_model.specs.Blocks.{is_full, passes_clusters, puts_into}
@@ -26,19 +26,18 @@ use Rattle.cf_model.specs.Items.{Item}
 use Rattle.cf_model.specs.Operations.{waiting_after, with_changes}
 use Rattle.cf_model.specs.Placements.{asking, settle_changed}
 use Rattle.cf_model.specs.Requests.{Nothing, no_numbers, too_many_asks}
-use Rattle.cf_model.specs.Settling.{settle, told_at}
+use Rattle.cf_model.specs.Settling.{settle}
 use Rattle.cf_model.specs.State.{Filter, Volume, with_volume}
 use Rattle.cf_model.specs.Trees.{Asked, Does, Ends, Fork, Ret, Step, Tree, bind, mapped}
 use Rattle.cf_model.specs.Waits.{on_ok}
 use Rattle.cf_model.specs.Words.{first_of, when}
 use Rattle.cf_model.proofs.TreeLaws as trees
-use Rattle.cf_requests.specs.Steps.{carried}
 use Rattle.cf_steps.specs.Answering.{After, Answers, Any, IsAt, Reads, Sense}
 use Rattle.cf_steps.specs.Finding.{Plans}
 use Rattle.cf_steps.specs.Good.{IsGood}
 use Rattle.cf_steps.specs.Looking.{IsSeen}
 use Rattle.cf_steps.specs.Settled.{IsStepAfter, IsStepNow, LooksAfter, LooksNow}
-use Rattle.cf_steps.specs.Suiting.{IsReady, Ready, Suits}
+use Rattle.cf_steps.specs.Suiting.{Ready, Suits}
 use Rattle.cf_steps.proofs.Laws.{no_memory, stops_first, then_on, weaker}
 use Rattle.cf_tree.proofs.Walks.{own_id}
 use Rattle.cf_calls.proofs.Carried.{plan_refused}

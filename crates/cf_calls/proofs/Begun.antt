@@ -22,7 +22,7 @@ use Rattle.cf_model.specs.Requests.{Live, Told, no_numbers, too_many_asks, too_m
 use Rattle.cf_model.specs.Settling.{ask_line, cancel_line, end_wait, with_asks_told}
 use Rattle.cf_model.specs.State.{Filter, Open}
 use Rattle.cf_model.specs.Trees.{Does}
-use Rattle.cf_model.specs.Waits.{Need, accessed_now, answer_now, answer_or_begin, answer_with, begin, begin_now, begin_tests, begun, end_now, is_met_now, is_progressive, need, on_handle, on_open, opened_by, own_id, read_file, read_item, wants_rest}
+use Rattle.cf_model.specs.Waits.{Need, accessed_now, answer_now, answer_or_begin, answer_with, begin, begin_now, begun, end_now, is_met_now, is_progressive, need, on_handle, on_open, opened_by, own_id, read_file, read_item, wants_rest}
 use Rattle.cf_model.specs.Words.{first_of}
 use Rattle.cf_model.proofs.TreeLaws as trees
 use Rattle.cf_requests.specs.Steps.{limit_of, limits_by, moved_of}
@@ -31,7 +31,7 @@ use Rattle.cf_requests.specs.declared.limits.Limits.TheVariants as limits
 use Rattle.cf_requests.specs.declared.moves.Moves.{Moves}
 use Rattle.cf_steps.specs.Answering.{After, Answers, Any, IsAt, Reads, Sense}
 use Rattle.cf_steps.specs.Finding.{HasRows}
-use Rattle.cf_steps.specs.Needing.{IsMet, Starts, begin_limited, begun_moves, end_told, start_refusal, with_begun}
+use Rattle.cf_steps.specs.Needing.{IsMet, Starts, begin_limited, end_told, start_refusal, with_begun}
 use Rattle.cf_steps.specs.Readings.{asked_line, item_opened, opened_item, policy_of}
 use Rattle.cf_steps.specs.Settled.{tell_moves}
 use Rattle.cf_steps.proofs.Laws.{after_err, any_on, no_memory, reads_on, returned, then_on}

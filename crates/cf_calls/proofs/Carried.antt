@@ -6,7 +6,6 @@ use Rattle.cf_base.specs.declared.answers.Shown.{Shown}
 use Rattle.cf_base.specs.declared.answers.Shown.TheVariants as shown
 use Rattle.cf_base.specs.declared.changes.Change.{Change}
 use Rattle.cf_base.specs.declared.codes.Code.{Code}
-use Rattle.cf_base.specs.declared.codes.Code.TheVariants as code
 use Rattle.cf_base.specs.declared.codes.Fail.{Fail}
 use Rattle.cf_base.specs.declared.codes.Fail.TheVariants as fail
 use Rattle.cf_base.specs.declared.ids.ItemId.{ItemId}

@@ -1,7 +1,7 @@
 -- New items: their changes suit, and what is made is what the definitions make.
-use Rattle.std.proofs.Common.{◌≡◌, ◌≤◌, ◌<◌, ◌+◌, ◌++◌, Bool, true, false, cond, not, List, [], ◌∷◌, refl, sym, ◌∙◌, ap, subst, ℕ, suc, length, arith, eqb}
+use Rattle.std.proofs.Common.{◌≡◌, ◌≤◌, ◌<◌, ◌+◌, ◌++◌, Bool, true, false, cond, List, [], ◌∷◌, refl, sym, ◌∙◌, subst, ℕ, suc, length, arith}
 use Rattle.std.proofs.lemmas.Bool.{and_parts, eqb-true, leb-true, lt-ltb, ltb-false, ltb-true}
-use Rattle.std.specs.Prelude.{Result, Ok, Err, Option, Some, None, MatchOption, is_some, nat_le, nat_lt, ◌==◌, ◌&&◌, ◌||◌}
+use Rattle.std.specs.Prelude.{Result, Ok, Err, Option, Some, None, MatchOption, is_some, nat_le, nat_lt, ◌&&◌, ◌||◌}
 use Rattle.std.specs.List.{list_all, list_any}
 use Rattle.cf_base.specs.Names.{is_name_byte}
 use Rattle.cf_base.specs.Policies.{is_always_full}
@@ -24,8 +24,8 @@ use Rattle.cf_model.specs.Calls.{test_of}
 use Rattle.cf_model.specs.Changes.{changes, needs_id, next_number, no_blocks, no_places, no_table, put_change, why_no_room}
 use Rattle.cf_model.specs.Numbers.{most}
 use Rattle.cf_model.specs.Effects.{is_placeholder, made}
-use Rattle.cf_model.specs.Items.{Item, item_of, pin_of}
-use Rattle.cf_model.specs.LookUp.{Place, child_of, depth_at}
+use Rattle.cf_model.specs.Items.{Item, pin_of}
+use Rattle.cf_model.specs.LookUp.{Place, child_of}
 use Rattle.cf_model.specs.Placements.{create_at, make_planned, planned_at, show_item}
 use Rattle.cf_model.specs.Plans.{Creation, NewDir, NewFile, NewPlaceholder, NewPlaceholderDir, is_full_population, make_and_mark, placeholder_dir, plan, plan_create, planned}
 use Rattle.cf_model.specs.Soundness.{Each, MadeNeeds}
@@ -39,7 +39,7 @@ use Rattle.cf_placeholder.specs.Plans.{IsPlan}
 use Rattle.cf_steps.specs.Finding.{FindsPlace, FoundPlace, HasRows, IsPlace}
 use Rattle.cf_steps.specs.Good.{Every, IsGood}
 use Rattle.cf_steps.specs.Readings.{next_place, policy_of}
-use Rattle.cf_steps.specs.Suiting.{IsFreePlace, IsOpenDirectory, Suiting, Suits, SuitsAll}
+use Rattle.cf_steps.specs.Suiting.{IsOpenDirectory, Suiting, SuitsAll}
 use Rattle.cf_table.specs.Tables.{MeansAll, Table}
 use Rattle.cf_tree.proofs.Walks.{own_id}
 use Rattle.cf_steps.proofs.Laws.{no_memory, weaker}

@@ -1,5 +1,5 @@
 -- Handles, and ends from outside.
-use Rattle.std.proofs.Common.{◌≡◌, Bool, true, false, not, List, ◌∷◌, refl, sym, ◌∙◌, ap, subst, Option, Some, None}
+use Rattle.std.proofs.Common.{◌≡◌, Bool, true, false, not, refl, sym, ◌∙◌, ap, subst, Option, Some, None}
 use Rattle.std.specs.Prelude.{Result, Ok, Err, option_map}
 use Rattle.cf_base.specs.declared.answers.Shown.{Shown}
 use Rattle.cf_base.specs.declared.answers.Shown.TheVariants as shown
@@ -10,15 +10,15 @@ use Rattle.cf_base.specs.declared.ids.Handle.{Handle}
 use Rattle.cf_base.specs.declared.ids.ItemId.{ItemId}
 use Rattle.cf_base.specs.declared.ids.WaitId.{WaitId}
 use Rattle.cf_calls.specs.Handles.{cancel_item, open_by, opened_next}
-use Rattle.cf_model.specs.Arrows.{Arrow, noted, reading, ret, then_do, unit, unless}
+use Rattle.cf_model.specs.Arrows.{noted, reading, ret, then_do, unit, unless}
 use Rattle.cf_model.specs.Calls.{next_handle, open_tests, opened_as, with_handle}
 use Rattle.cf_model.specs.Missing.{Wait}
 use Rattle.cf_model.specs.Operations.{done}
 use Rattle.cf_model.specs.Requests.{Waiting}
-use Rattle.cf_model.specs.Settling.{settle, tell}
+use Rattle.cf_model.specs.Settling.{tell}
 use Rattle.cf_model.specs.State.{Filter}
 use Rattle.cf_model.specs.Trees.{Does}
-use Rattle.cf_model.specs.Waits.{all_down, cancel, cancel_wait, close_item, connect, disconnected, end_handle, is_last, waiting_by, without_handle}
+use Rattle.cf_model.specs.Waits.{all_down, cancel, cancel_wait, close_item, connect, end_handle, is_last, waiting_by, without_handle}
 use Rattle.cf_model.specs.Words.{first_of}
 use Rattle.cf_model.proofs.TreeLaws as trees
 use Rattle.cf_requests.specs.Told.{wait_of}

@@ -1,17 +1,16 @@
 -- The policy that stands, and what is told of accesses and blocks.
-use Rattle.std.proofs.Common.{◌≡◌, ℕ, Bool, true, false, not, [], ◌∷◌, refl, sym, ◌∙◌, ap, subst, Option, Some, None}
+use Rattle.std.proofs.Common.{◌≡◌, ℕ, Bool, true, false, not, refl, sym, ◌∙◌, ap, subst, Option, Some, None}
 use Rattle.std.specs.Prelude.{Result, Ok, Err, OnOk, OnErr, is_err, ◌&&◌, ◌||◌}
 use Rattle.cf_base.specs.Policies.{is_allowed}
 use Rattle.cf_base.specs.declared.answers.Shown.{Shown}
 use Rattle.cf_base.specs.declared.answers.Shown.TheVariants as shown
 use Rattle.cf_base.specs.declared.codes.Code.{Code}
-use Rattle.cf_base.specs.declared.codes.Fail.{Fail}
 use Rattle.cf_base.specs.declared.ids.ItemId.{ItemId}
 use Rattle.cf_base.specs.declared.policies.Mode.{Mode}
 use Rattle.cf_base.specs.declared.policies.Policy.{Policy}
 use Rattle.cf_calls.specs.Told.{policy_code, policy_refusal, used_by}
 use Rattle.cf_model.specs.Arrows.{noted, ret, then_do, unit, unless}
-use Rattle.cf_model.specs.Calls.{blocks_now, df, is_always_population, policy_tests, set_policy, used_now, with_policy}
+use Rattle.cf_model.specs.Calls.{blocks_now, df, is_always_population, set_policy, used_now, with_policy}
 use Rattle.cf_model.specs.Operations.{done}
 use Rattle.cf_model.specs.State.{Filter}
 use Rattle.cf_model.specs.Trees.{Does}

@@ -1,13 +1,13 @@
 -- The changes of plans suit the volume that they were made for.
-use Rattle.std.proofs.Common.{◌≡◌, ◌≤◌, ◌<◌, ◌+◌, ◌++◌, Bool, true, false, cond, not, List, [], ◌∷◌, refl, sym, ◌∙◌, ap, subst, ℕ, length, arith, eqb}
+use Rattle.std.proofs.Common.{◌≡◌, ◌≤◌, ◌<◌, ◌+◌, ◌++◌, Bool, true, false, cond, not, List, [], ◌∷◌, refl, sym, ◌∙◌, subst, ℕ, length, arith, eqb}
 use Rattle.std.proofs.lemmas.Bool.{eqb-true, ltb-false}
-use Rattle.std.specs.Prelude.{Result, Ok, Err, Option, Some, None, nat_lt, find, ◌==◌, ◌&&◌, ◌||◌}
+use Rattle.std.specs.Prelude.{Result, Ok, Err, Option, Some, None, nat_lt, ◌==◌, ◌&&◌}
 use Rattle.cf_base.specs.declared.changes.Change.{Change}
 use Rattle.cf_base.specs.declared.changes.Change.TheVariants as change
 use Rattle.cf_base.specs.declared.codes.Code.{Code}
 use Rattle.cf_base.specs.declared.codes.Code.TheVariants as code
 use Rattle.cf_base.specs.declared.ids.ItemId.{ItemId}
-use Rattle.cf_calls.specs.Planned.{Plan, PlansSuit, by_convert, by_unmark}
+use Rattle.cf_calls.specs.Planned.{PlansSuit, by_convert, by_unmark}
 use Rattle.cf_model.specs.Dehydration.{in_use}
 use Rattle.cf_base.specs.declared.answers.Shown.{Shown}
 use Rattle.cf_base.specs.declared.codes.Fail.{Fail}
@@ -20,19 +20,19 @@ use Rattle.cf_model.specs.Items.{Item, base_of, is_all_here, item_of}
 use Rattle.cf_model.specs.Trees.{Does}
 use Rattle.cf_model.specs.Numbers.{no_usn}
 use Rattle.cf_model.specs.Placements.{revert_plan, update_plan}
-use Rattle.cf_model.specs.Plans.{pin_changes, plan, plan_convert, plan_pin, plan_revert, plan_unmark, plan_update, planned, reached, same_pin, stored_pin}
-use Rattle.cf_model.specs.Soundness.{Each, Needs}
+use Rattle.cf_model.specs.Plans.{pin_changes, plan, plan_pin, plan_update, planned, reached, same_pin, stored_pin}
+use Rattle.cf_model.specs.Soundness.{Each}
 use Rattle.cf_model.specs.State.{Filter, Volume}
 use Rattle.cf_model.specs.Verdicts.{is_kept_full}
 use Rattle.cf_model.specs.Words.{first_of, same, when}
 use Rattle.cf_steps.specs.Answering.{After, Answers, IsAt, Sense}
 use Rattle.cf_steps.specs.Finding.{HasRows}
-use Rattle.cf_steps.specs.Good.{Every, IsGood, IsSmall}
+use Rattle.cf_steps.specs.Good.{IsGood, IsSmall}
 use Rattle.cf_steps.specs.Suiting.{Suiting, Suits, SuitsAll}
 use Rattle.cf_table.specs.Tables.{MeansAll, Table}
 use Rattle.cf_steps.proofs.LookUps.{of_found}
 use Rattle.cf_tree.specs.Trees.{IsTree, RiseFrom}
-use Rattle.cf_tree.proofs.Walks.{found_from, own_id}
+use Rattle.cf_tree.proofs.Walks.{own_id}
 
 -- lists of items
 

@@ -2,7 +2,6 @@ use Rattle.cf_calls.specs.Asking.{Flagging}
 use Rattle.cf_calls.specs.Planned.{by_keep}
 use Rattle.cf_model.specs.Operations.{done}
 use Rattle.cf_model.specs.Placements.{asking}
-use Rattle.cf_base.specs.declared.ids.ItemId.{ItemId}
 use Rattle.cf_calls.proofs.Asked.{keep_flags, led_err, led_ok}
 use Rattle.cf_calls.proofs.asking.keep_item.Goals as goal
 

@@ -2,7 +2,6 @@ use Rattle.cf_calls.specs.Asking.{Flagging}
 use Rattle.cf_calls.specs.Planned.{by_mark}
 use Rattle.cf_model.specs.Calls.{number_of}
 use Rattle.cf_model.specs.Placements.{asking}
-use Rattle.cf_base.specs.declared.ids.ItemId.{ItemId}
 use Rattle.cf_calls.proofs.Asked.{mark_flags, led_err, led_ok}
 use Rattle.cf_calls.proofs.asking.mark_item.Goals as goal
 
