@@ -13,3 +13,7 @@ pub mod Rebooks
 pub mod Judged
 pub mod OfVolume
 pub mod Views
+pub mod Stopped
+pub mod SeenGone
+pub mod GoneFits
+pub mod GoneCalls

@@ -3,7 +3,7 @@ use Rattle.std.specs.Prelude.{◌≡◌, ◌≤◌, ◌<◌, ◌+◌, ◌⊎◌,
 use Rattle.cf_base.specs.declared.answers.AuxRecord.{AuxRecord}
 use Rattle.cf_base.specs.declared.changes.Change.{Change}
 use Rattle.cf_base.specs.declared.codes.Code.{Code}
-use Rattle.cf_base.specs.declared.codes.Code.TheVariants.{Broken, Device, TableFull}
+use Rattle.cf_base.specs.declared.codes.Code.TheVariants.{Broken, Device, Full, TableFull}
 use Rattle.cf_base.specs.declared.codes.Fail.{Fail}
 use Rattle.cf_base.specs.declared.codes.Fail.TheVariants.{Memory, No}
 use Rattle.cf_base.specs.declared.ids.Usn.{Usn}
@@ -89,6 +89,12 @@ IsRefused (No code) c = code ≡ c
 abbrev pub fail_of : Stop → Fail
 fail_of stop.Device = No Device
 fail_of stop.Memory = Memory
+
+-- there is no room
+abbrev pub IsFullness : Code → Type 0
+IsFullness TableFull = Unit {0}
+IsFullness Full = Unit {0}
+IsFullness _ = ⊥
 
 -- A change is put where the clusters that it needs are free: it is in the volume then, or is refused in the order of the
 -- volume's refusals, or the device failed. None: a commit has to make room first.

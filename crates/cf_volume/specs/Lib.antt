@@ -3,3 +3,4 @@ pub mod Notes
 pub mod Reads
 pub mod Steady
 pub mod Calls
+pub mod Keys

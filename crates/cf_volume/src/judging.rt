@@ -1,6 +1,6 @@
 //! Changes of items that stay, planned and judged.
 
-ghost use Rattle.std.specs.Prelude.{◌≡◌, ◌≤◌, ◌<◌, ◌+◌, ◌∷◌, [], None, Some, length, nat_lt, true, IfNone, IfOk};
+ghost use Rattle.std.specs.Prelude.{◌≡◌, ◌≤◌, ◌<◌, ◌+◌, ◌∷◌, [], None, Some, length, nat_lt, true, IfNone, IfOk, IfSome};
 ghost use Rattle.cf_data.specs.Roles.{how_many, is_now};
 ghost use Rattle.cf_model.specs.Changes.{put_change, why_no_room};
 ghost use Rattle.cf_model.specs.Numbers.{usn_after};
@@ -10,6 +10,7 @@ ghost use Rattle.cf_points.specs.Holding.{FitsTable};
 ghost use Rattle.cf_table.specs.Changing.{Fits, IsNext, item_of_change, pin_for, stays};
 ghost use Rattle.cf_table.specs.Tables.{row_of};
 ghost use Rattle.cf_table.specs.declared.rows.Row.{Row};
+ghost use Rattle.cf_volume.specs.Calls.{IsFullness};
 ghost use Rattle.cf_volume.specs.Laid.{Plans};
 ghost use Rattle.cf_volume.specs.Steady.{TestsLength, known_of};
 
@@ -77,6 +78,7 @@ pub(crate) fn refusal_of<D: Disk>(
     ensures why { (v : Volume) → At (D.state disk.now) (known_of parts.now) v → why_no_room (change.now ∷ []) v ≡ result }
     ensures fits { IfNone result ((v : Volume) → At (D.state disk.now) (known_of parts.now) v → FitsTable (put_change change.now v).items (put_change change.now v).book) }
     ensures blocks { IfNone result (how_many is_now parts.now.held + length planned.now.blocks.items ≤ length parts.now.held) }
+    ensures only { IfSome result IsFullness }
 {
     let _ = disk;
     let _ = parts.contents.rows.image_len();
