@@ -1,11 +1,10 @@
 -- The engine as a provider, and callbacks, in `replay`.
-use Rattle.std.proofs.Common.{◌≡◌, ◌⊎◌, ◌+◌, ℕ, zero, suc, Bool, true, false, List, [], ◌∷◌, refl, sym, ◌∙◌, ap, subst, inl, inr, take}
+use Rattle.std.proofs.Common.{◌≡◌, ℕ, zero, suc, true, List, [], ◌∷◌, refl, sym, subst, take}
 use Rattle.std.specs.Prelude.{Option, Some, None, unwrap_or, ◌==◌}
 use Rattle.cf_base.specs.declared.answers.Shown.{Shown}
 use Rattle.cf_base.specs.declared.ids.ItemId.{ItemId}
 use Rattle.cf_base.specs.declared.ids.Token.{Token}
 use Rattle.cf_base.specs.declared.messages.Request.{Request}
-use Rattle.cf_base.specs.declared.messages.Request.TheVariants as request
 use Rattle.cf_base.specs.declared.notices.Frame.TheVariants as frame
 use Rattle.cf_base.specs.declared.policies.Mode.{Mode}
 use Rattle.cf_base.specs.declared.policies.Mode.TheVariants as mode
@@ -16,11 +15,11 @@ use Rattle.cf_model.specs.Agents.{agent, agent_on, fetch_of, list_of}
 use Rattle.cf_model.specs.Arrows.{Arrow, Preserves}
 use Rattle.cf_model.specs.Callbacks.{call_back, calling, drain, drained, finish, finish_call, provider, with_outbox}
 use Rattle.cf_model.specs.Changes.{next_number}
-use Rattle.cf_model.specs.Identities.{base_bytes, base_rid, base_version, target_of}
+use Rattle.cf_model.specs.Identities.{base_bytes, base_rid, base_version}
 use Rattle.cf_model.specs.Items.{Item, item_of}
 use Rattle.cf_model.specs.Logs.{items_of}
 use Rattle.cf_model.specs.Numbers.{most, same_key}
-use Rattle.cf_model.specs.Requests.{Live, is_fetch}
+use Rattle.cf_model.specs.Requests.{is_fetch}
 use Rattle.cf_model.specs.Soundness.{Each}
 use Rattle.cf_model.specs.State.{Filter, State, book_now, in_filter, is_replay, items_now, with_filter}
 use Rattle.cf_model.specs.Store.{bytes_of}
@@ -34,7 +33,7 @@ use Rattle.cf_laws.proofs.FitAsks.{LiveAt}
 use Rattle.cf_laws.proofs.Gathered.{all_any, all_found, all_weaker}
 use Rattle.cf_laws.proofs.Guarded.{Guarded, PostedIn}
 use Rattle.cf_laws.proofs.MessagesGuarded.{quiet, send_now_at}
-use Rattle.cf_laws.proofs.RightItems.{no_way, no_way_back}
+use Rattle.cf_laws.proofs.RightItems.{no_way}
 use Rattle.cf_laws.proofs.SoundLinks.{FrameCarries}
 use Rattle.cf_laws.proofs.SoundSettles.{each_found, same_item}
 

@@ -1,5 +1,5 @@
 -- What the parts of `Calls` keep in `replay`, each by what its own parts keep.
-use Rattle.std.specs.Prelude.{ℕ, Bool, true, false, List, [], ◌∷◌, length, ◌+◌, Option, Some, None, cond, not, ◌==◌, ◌&&◌, ◌||◌}
+use Rattle.std.specs.Prelude.{ℕ, Bool, true, false, List, [], ◌∷◌, length, ◌+◌, cond, not, ◌||◌}
 use Rattle.cf_base.specs.declared.answers.Shown.{Shown}
 use Rattle.cf_base.specs.declared.answers.Shown.TheVariants as shown
 use Rattle.cf_base.specs.declared.changes.Change.{Change}
@@ -15,37 +15,36 @@ use Rattle.cf_base.specs.declared.policies.Policy.{Policy}
 use Rattle.cf_model.specs.Arrows.{Arrow, noted, reading, ret, then_do, Preserves}
 use Rattle.cf_model.specs.Requests.{Nothing}
 use Rattle.cf_model.specs.Books.{with_access, Book, with_tombstone}
-use Rattle.cf_model.specs.Changes.{change_with, changes, same_book, change}
+use Rattle.cf_model.specs.Changes.{change_with, changes}
 use Rattle.cf_model.specs.Images.{runs_of}
 use Rattle.cf_model.specs.Items.{Item}
 use Rattle.cf_model.specs.LookUp.{Place}
 use Rattle.cf_model.specs.Operations.{done}
 use Rattle.cf_model.specs.Points.{commit}
-use Rattle.cf_model.specs.Settling.{accessed, settle}
+use Rattle.cf_model.specs.Settling.{accessed}
 use Rattle.cf_model.specs.State.{Filter, in_volume, is_replay, Link}
 use Rattle.cf_model.specs.Waits.{on_ok}
 use Rattle.cf_laws.proofs.OperationsGuarded as operations_keep
 use Rattle.cf_laws.proofs.WaitsGuarded as waits_keep
-use Rattle.cf_model.specs.Calls.{below_at, blocks_now, buried, change_all, changing, class_flags, count_now, delete, delete_item, delete_now, delete_tests, df, flush, has_size, info, info_item, info_of, move_of, next_handle, number_at, number_next, number_of, open_file, open_item, open_tests, opened_as, pin_item, pins_at, place_at, policy_tests, ranges, ranges_item, rename, rename_item, rename_tests, rename_to, room_tests, set_pin, set_policy, set_size, show_count, show_number, size_item, size_now, size_tests, used, used_item, used_now, with_handle, with_policy, write, write_item, write_now, write_tests, tombstone_for, stands_there}
+use Rattle.cf_model.specs.Calls.{below_at, blocks_now, buried, changing, class_flags, count_now, delete, delete_item, delete_now, delete_tests, df, flush, has_size, info, info_item, info_of, move_of, next_handle, number_at, number_next, number_of, open_file, open_item, open_tests, opened_as, pin_item, pins_at, place_at, policy_tests, ranges, ranges_item, rename, rename_item, rename_tests, rename_to, room_tests, set_pin, set_policy, set_size, show_count, show_number, size_item, size_now, size_tests, used, used_item, used_now, with_handle, with_policy, write, write_item, write_now, write_tests, tombstone_for, stands_there}
 use Rattle.cf_laws.proofs.Guarded.{GuardedFilter}
-use Rattle.cf_model.proofs.ArrowLaws.{keeps_each, keeps_noted, keeps_reading, keeps_ret, keeps_then}
-use Rattle.std.proofs.Common.{◌≡◌, ◌+◌, ◌∷◌, ◌++◌, refl, sym, ◌∙◌, ap, subst, List, [], ℕ, Bool, true, false}
-use Rattle.std.specs.List.{list_any}
+use Rattle.cf_model.proofs.ArrowLaws.{keeps_noted, keeps_reading, keeps_ret, keeps_then}
+use Rattle.std.proofs.Common.{◌≡◌, ◌+◌, ◌∷◌, refl, List, [], ℕ, Bool, true, false}
 use Rattle.cf_base.specs.Policies.{is_allowed, is_always_full, is_partial}
-use Rattle.cf_base.specs.declared.codes.Code.TheVariants as code
 use Rattle.cf_base.specs.declared.policies.Mode.TheVariants as mode
+use Rattle.cf_model.specs.Dehydration.{in_use}
 use Rattle.cf_model.specs.Effects.{changed, pinned}
 use Rattle.cf_model.specs.Identities.{is_untargeted}
-use Rattle.cf_model.specs.Plans.{pin_changes, plan_pin, reached, same_pin, stored_pin}
+use Rattle.cf_model.specs.Plans.{pin_changes, reached, same_pin, stored_pin}
 use Rattle.cf_model.specs.Trees.{Keeps}
-use Rattle.cf_model.specs.Words.{is_empty, same, when, first_of}
+use Rattle.cf_model.specs.Words.{when}
 use Rattle.cf_model.proofs.TreeLaws.{keeps_bind}
 use Rattle.cf_laws.specs.Invariant.{All}
 use Rattle.cf_laws.proofs.Gathered.{all_append}
-use Rattle.cf_laws.proofs.Plainly.{IsPlain, checked_at, head_false, plains_keep}
+use Rattle.cf_laws.proofs.Plainly.{IsPlain, checked_at, head_false, plains_keep, tail_none, tail_of}
 use Rattle.cf_laws.proofs.RightItems.{no_way}
 use Rattle.cf_laws.proofs.SoundChanges.{KeepsEntries}
-use Rattle.cf_laws.proofs.SoundSettles.{left_true, not_false, not_true, right_true}
+use Rattle.cf_laws.proofs.SoundSettles.{not_false, not_true, right_true}
 
 pub opened_as_keeps : (l : Link) (tokens : ℕ) (P : Filter → Type 0) → GuardedFilter l tokens P → (x1 : ItemId) → (x2 : Handle) → Preserves P (opened_as x1 x2)
 opened_as_keeps l tokens P closed item h = keeps_then P (noted (with_handle item)) (ret (shown.Opened h)) (keeps_noted P (with_handle item) (closed.keeps_with_handle item)) (keeps_ret P (shown.Opened h))
@@ -101,16 +100,21 @@ buried_same true i n book = by (is_untargeted i) where
   by true = refl
   by false = refl
 
-pub delete_now_keeps : (l : Link) (tokens : ℕ) (P : Filter → Type 0) → GuardedFilter l tokens P → (m : Mode) (i : Item) (number : Usn) → Preserves P (delete_now m i number)
-delete_now_keeps l tokens P closed m i number =
-    keeps_then P (change_with (buried (is_replay m) i number) (change.Remove i.id)) (ret (shown.Done))
-    (record { keeps = λ x h. closed.change (buried (is_replay m) i number) (change.Remove i.id) x (buried_same (is_replay m) i number) (λ id k. k) (λ fair. tt) h }) (keeps_ret P (shown.Done))
+-- the removal that an application asks for
+abbrev pub Removing : (Filter → Type 0) → Type 0
+Removing P = (f : Book → Book) (item : ItemId) (x : Filter) → KeepsEntries f → in_use item x ≡ false → P x → Keeps P (change_with f (change.Remove item) x)
 
-pub delete_item_keeps : (l : Link) (tokens : ℕ) (P : Filter → Type 0) → GuardedFilter l tokens P → (x1 : Mode) → (x2 : Item) → Preserves P (delete_item x1 x2)
-delete_item_keeps l tokens P closed m i = operations_keep.checked_keeps l tokens P closed (delete_tests i) (reading number_next (delete_now m i)) (keeps_reading P number_next (delete_now m i) (delete_now_keeps l tokens P closed m i))
+delete_now_at : (P : Filter → Type 0) → Removing P → (m : Mode) (i : Item) (number : Usn) (x : Filter) → in_use i.id x ≡ false → P x → Keeps P (delete_now m i number x)
+delete_now_at P removes m i number x idle h = keeps_bind P (change_with (buried (is_replay m) i number) (change.Remove i.id) x) (λ _ t. ret (shown.Done) t) (removes (buried (is_replay m) i number) i.id x (buried_same (is_replay m) i number) idle h) (λ a t j. j)
 
-pub delete_keeps : (l : Link) (tokens : ℕ) (P : Filter → Type 0) → GuardedFilter l tokens P → (x1 : Mode) → (x2 : List ℕ) → Preserves P (delete x1 x2)
-delete_keeps l tokens P closed m path = keeps_reading P (below_at path) (on_ok (delete_item m)) (waits_keep.on_ok_keeps l tokens P closed (delete_item m) (delete_item_keeps l tokens P closed m))
+delete_item_keeps : (P : Filter → Type 0) → Removing P → (m : Mode) (i : Item) → Preserves P (delete_item m i)
+delete_item_keeps P removes m i = record {
+  keeps = λ x h. checked_at P (delete_tests i) (reading number_next (delete_now m i)) x h
+      (λ e. delete_now_at P removes m i (number_next x) x (head_false (tail_of (tail_of (delete_tests i x))) (tail_none (tail_of (delete_tests i x)) (tail_none (delete_tests i x) e))) h);
+}
+
+pub delete_keeps : (l : Link) (tokens : ℕ) (P : Filter → Type 0) → GuardedFilter l tokens P → Removing P → (m : Mode) (path : List ℕ) → Preserves P (delete m path)
+delete_keeps l tokens P closed removes m path = keeps_reading P (below_at path) (on_ok (delete_item m)) (waits_keep.on_ok_keeps l tokens P closed (delete_item m) (delete_item_keeps P removes m))
 
 plain_moves : (i : Item) (p : Place) (b : Bool) → All IsPlain (when b (change.Move i.id p.parent.id p.name ∷ []))
 plain_moves i p true = (record { fits = λ r x. tt; free = λ id k. k }, tt)

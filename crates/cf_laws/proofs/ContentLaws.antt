@@ -1,32 +1,30 @@
 -- What every run over a fresh remote has, and the bytes of its files.
-use Rattle.std.proofs.Common.{◌≡◌, ◌⊎◌, ◌<◌, ◌≤◌, ◌+◌, ℕ, Bool, true, false, List, [], ◌∷◌, refl, sym, ◌∙◌, ap, subst, inl, inr, arith, length}
-use Rattle.std.specs.Prelude.{Option, Some, None, ◌==◌}
+use Rattle.std.proofs.Common.{◌≡◌, ◌<◌, ◌≤◌, ◌+◌, ℕ, true, false, List, [], ◌∷◌, refl, sym, subst, inl, arith}
+use Rattle.std.specs.Prelude.{◌==◌}
 use Rattle.cf_base.specs.declared.answers.Answer.{Answer}
 use Rattle.cf_base.specs.declared.events.Event.{Event}
-use Rattle.cf_base.specs.declared.policies.Mode.{Mode}
 use Rattle.cf_base.specs.declared.policies.Mode.TheVariants as mode
 use Rattle.cf_model.specs.Contents.{IsTrueTo}
-use Rattle.cf_model.specs.Events.{begun, broken, is_of, tree_of}
+use Rattle.cf_model.specs.Events.{begun, is_of, tree_of}
 use Rattle.cf_model.specs.Items.{root}
 use Rattle.cf_model.specs.Lawful.{Runs}
 use Rattle.cf_model.specs.Numbers.{usn_after}
-use Rattle.cf_model.specs.Points.{Opens}
-use Rattle.cf_model.specs.Restarts.{crashed, epoch_after, failed_open, with_opened}
-use Rattle.cf_model.specs.State.{Point, State, items_now, start}
+use Rattle.cf_model.specs.Restarts.{crashed, epoch_after}
+use Rattle.cf_model.specs.State.{State, items_now, start}
 use Rattle.cf_model.specs.Store.{Held}
 use Rattle.cf_model.specs.Trees.{Asked, Fork, Keeps, Ret, Step, Tree}
 use Rattle.cf_laws.specs.Contents.{AreFilesRight, AreReadsRight, IsFileRight}
 use Rattle.cf_laws.specs.GivenOnce.{WasGiven}
 use Rattle.cf_laws.specs.Invariant.{All, Invariant, IsDurable, IsRight, IsSound, NoItem}
-use Rattle.cf_laws.specs.Premises.{IsFair, IsFresh}
+use Rattle.cf_laws.specs.Premises.{IsFresh}
 use Rattle.cf_laws.proofs.EventsGuarded.{Whole, event_now_keeps, runs_keep}
 use Rattle.cf_laws.proofs.Gathered.{all_found, all_weaker}
 use Rattle.cf_laws.proofs.ReadLaws.{read_right, true_right}
 use Rattle.cf_laws.proofs.RightItems.{no_way_back}
 use Rattle.cf_laws.proofs.SoundBooks.{opened_sound}
-use Rattle.cf_laws.proofs.SoundStates.{sound_enters, sound_guarded}
+use Rattle.cf_laws.proofs.SoundStates.{sound_deletes, sound_enters, sound_guarded}
 
-next_epoch : (epoch skipped : ℕ) → epoch < epoch + 1 + skipped
+pub next_epoch : (epoch skipped : ℕ) → epoch < epoch + 1 + skipped
 next_epoch epoch skipped = omega arith
 
 crashed_sound : (s : State) → IsSound s.link s.volatile.tokens s.filter → IsSound s.link s.volatile.tokens (crashed s).filter
@@ -50,6 +48,7 @@ pub sound_whole : Whole Invariant
 sound_whole = record {
   closed = sound_guarded;
   entering = sound_enters;
+  deleting = sound_deletes;
   begins = λ s h. h;
   breaks = λ s h. h;
   crashes = λ s h. (h.0, λ fair. crashed_sound s (h.1 fair));
@@ -116,7 +115,7 @@ sound_reads : (s : State) → Invariant s → AreReadsRight s
 sound_reads s h fair w i kind there file met =
     read_right s.link.remote s.filter w i (h.1 fair).unvalidated ((all_found (λ x. x.directory ≡ false → IsTrueTo s.link.remote x) (λ x. x.id.0 == w.item.0) (items_now s) i there (h.1 fair).now.contents).0 file) kind there met
 
-keeps_weaker : {S A : Type 0} (P Q : S → Type 0) → ((s : S) → P s → Q s) → (p : Tree S A) → Keeps P p → Keeps Q p
+pub keeps_weaker : {S A : Type 0} (P Q : S → Type 0) → ((s : S) → P s → Q s) → (p : Tree S A) → Keeps P p → Keeps Q p
 keeps_weaker P Q k (Ret a s) h = k s h
 keeps_weaker P Q k (Step s p) h = (k s h.0, keeps_weaker P Q k p h.1)
 keeps_weaker P Q k (Fork p q) h = (keeps_weaker P Q k p h.0, keeps_weaker P Q k q h.1)

@@ -11,14 +11,11 @@ use Rattle.cf_model.specs.Items.{Item, size_of, item_of}
 use Rattle.cf_model.specs.State.{Filter, Link}
 use Rattle.cf_model.specs.Waits.{Need, begin_now, begun, but_directory, on_ok, refused}
 use Rattle.cf_laws.proofs.OperationsGuarded as operations_keep
-use Rattle.cf_laws.proofs.WaitsGuarded as waits_keep
-use Rattle.cf_model.specs.Dehydration.{after_verdict, ask_consent, ask_tests, consent_need, dehydrate, dehydrate_item, dehydrate_range, emptied, empty_now, empty_range, empty_tests, has_bytes, is_connected, verdict_at, with_provider, in_use}
+use Rattle.cf_model.specs.Dehydration.{after_verdict, ask_consent, ask_tests, consent_need, dehydrate, dehydrate_item, dehydrate_range, emptied, empty_now, empty_tests, has_bytes, is_connected, verdict_at, with_provider, in_use}
 use Rattle.cf_laws.proofs.Guarded.{GuardedFilter}
-use Rattle.cf_model.proofs.ArrowLaws.{keeps_choose, keeps_reading, keeps_ret, keeps_then, keeps_unless}
-use Rattle.std.proofs.Common.{◌≡◌, ◌∷◌, refl, sym, ◌∙◌, ap, subst, List, [], ℕ, Bool, true, false, min, ◌-◌}
-use Rattle.cf_base.specs.declared.ids.ItemId.{ItemId}
+use Rattle.cf_model.proofs.ArrowLaws.{keeps_ret}
+use Rattle.std.proofs.Common.{◌≡◌, refl, List, ℕ, Bool, true, false, min, ◌-◌}
 use Rattle.cf_model.specs.Trees.{Keeps}
-use Rattle.cf_model.specs.Verdicts.{verdict}
 use Rattle.cf_model.proofs.TreeLaws.{keeps_bind}
 use Rattle.cf_model.specs.LookUp.{find_path}
 use Rattle.cf_model.specs.Soundness.{Each}

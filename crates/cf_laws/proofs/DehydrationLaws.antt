@@ -1,6 +1,6 @@
 -- A dehydration is refused exactly where one of three causes holds.
-use Rattle.std.proofs.Common.{◌≡◌, ◌≢◌, ℕ, Bool, true, false, List, [], ◌∷◌, refl, sym, ◌∙◌, ap, subst, ◌⊎◌, inl, inr, min, ◌-◌}
-use Rattle.std.specs.Prelude.{Option, Some, None, Ok, Result, cond, not}
+use Rattle.std.proofs.Common.{◌≡◌, ◌≢◌, ℕ, Bool, true, false, List, [], refl, sym, ◌∙◌, ap, subst, ◌⊎◌, inl, inr, min, ◌-◌}
+use Rattle.std.specs.Prelude.{Option, Some, None, Ok, Result, cond}
 use Rattle.cf_base.specs.declared.answers.Answer.{Answer}
 use Rattle.cf_base.specs.declared.answers.Shown.{Shown}
 use Rattle.cf_base.specs.declared.answers.Shown.TheVariants as shown
@@ -16,18 +16,15 @@ use Rattle.cf_model.specs.Callbacks.{calling, drain, end_or_pending, finish, fin
 use Rattle.cf_model.specs.Changes as volume
 use Rattle.cf_model.specs.Changes.{no_places}
 use Rattle.cf_model.specs.Requests.{no_numbers}
-use Rattle.cf_model.specs.Dehydration.{dehydrate, emptied, with_provider, ask_consent, ask_tests, after_verdict, consent_need, dehydrate_range, empty_now, empty_range, empty_tests, has_bytes, is_connected, verdict_at, in_use}
-use Rattle.cf_model.specs.Events.{answer_in, answered, begun as begun_event, no_power, no_volume, outcome, tree_of}
+use Rattle.cf_model.specs.Dehydration.{dehydrate, emptied, with_provider, ask_consent, after_verdict, consent_need, dehydrate_range, empty_now, has_bytes, is_connected, verdict_at}
+use Rattle.cf_model.specs.Events.{answer_in, answered, begun as begun_event, no_power, outcome, tree_of}
 use Rattle.cf_model.specs.Items.{Item, size_of}
 use Rattle.cf_model.specs.Lawful.{IsStep}
 use Rattle.cf_model.specs.LookUp.{find_path}
-use Rattle.cf_model.specs.Operations.{checked}
 use Rattle.cf_model.specs.State.{Broken, Filter, Off, On, Power, State, in_filter, items_now, with_filter}
 use Rattle.cf_model.specs.Settling.{tell}
-use Rattle.cf_model.specs.Trees.{Choices, Ret, Tree, bind, play}
-use Rattle.cf_model.specs.Verdicts.{is_bad_range, is_kept_full, is_pinned, verdict}
+use Rattle.cf_model.specs.Trees.{Ret, Tree, play}
 use Rattle.cf_model.specs.Waits.{Need, begin_now, begun, but_directory, on_ok, own_id, refused, with_own}
-use Rattle.cf_model.specs.Words.{first_of}
 use Rattle.cf_laws.specs.Dehydrations.{IsAllowed, IsRefusedExactly, dehydrating, is_cause, len_of, start_of, why_kept}
 use Rattle.cf_laws.proofs.Leading.{Ended, Leads, leads_any, leads_bind, leads_mapped, led}
 

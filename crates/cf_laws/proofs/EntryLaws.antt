@@ -1,9 +1,9 @@
 -- What entries of the remote give: identities that name well.
-use Rattle.std.proofs.Common.{◌≡◌, ◌⊎◌, ◌<◌, ◌≤◌, ◌+◌, ◌*◌, ◌/◌, ◌%◌, ℕ, zero, suc, Bool, true, false, List, [], ◌∷◌, ◌++◌, refl, sym, ◌∙◌, ap, subst, inl, inr, arith, length}
-use Rattle.std.specs.Prelude.{Option, Some, None, cond, take, drop, replicate, unwrap_or}
+use Rattle.std.proofs.Common.{◌≡◌, ◌⊎◌, ◌<◌, ◌≤◌, ◌+◌, ◌*◌, ◌/◌, ◌%◌, ℕ, Bool, true, false, List, [], refl, sym, ◌∙◌, ap, subst, inl, inr, arith, length}
+use Rattle.std.proofs.lemmas.Bool.{eqb-true}
+use Rattle.std.specs.Prelude.{Option, Some, cond, ◌==◌, take, unwrap_or}
 use Rattle.cf_base.specs.declared.ids.Rid.{Rid}
 use Rattle.cf_base.specs.declared.ids.Version.{Version}
-use Rattle.cf_base.specs.declared.items.Kind.{Kind}
 use Rattle.cf_base.specs.declared.items.Kind.TheVariants as kind
 use Rattle.cf_base.specs.declared.messages.Entry.{Entry}
 use Rattle.cf_base.specs.declared.policies.Policy.{Policy}
@@ -16,7 +16,7 @@ use Rattle.cf_model.specs.Numbers.{no_rid, no_version}
 use Rattle.cf_model.specs.Operations.{entry_kind}
 use Rattle.cf_model.specs.Plans.{is_full_population, placeholder_dir}
 use Rattle.cf_model.specs.Store.{Held, bytes_of}
-use Rattle.cf_model.specs.Words.{in_bytes, number_from, number_of}
+use Rattle.cf_model.specs.Words.{in_bytes, number_of}
 use Rattle.cf_laws.specs.Fitting.{NamesWell}
 use Rattle.cf_laws.specs.Invariant.{HasBase, HasEntry, HasNone, rid_in, version_in}
 use Rattle.cf_laws.specs.Premises.{IsSmall}
@@ -50,7 +50,7 @@ version_read t b v h = ap version_at (read_back v.0 h)
 -- a version that the remote has made
 pub made_read : (r : Held) (t b : Rid) (v : Version) (bytes : List ℕ) → IsSmall r → bytes_of r b v ≡ Some bytes → bytes_of r (rid_in (identity_of t b v)) (version_in (identity_of t b v)) ≡ Some bytes
 made_read r t b v bytes small e =
-    ap (λ (x : Rid). bytes_of r x (version_in (identity_of t b v))) (rid_read t b v (small b v bytes e).0) ∙ ap (λ (x : Version). bytes_of r b x) (version_read t b v (small b v bytes e).1) ∙ e
+    ap (λ (x : Rid). bytes_of r x (version_in (identity_of t b v))) (rid_read t b v (small.1 b v bytes e).0) ∙ ap (λ (x : Version). bytes_of r b x) (version_read t b v (small.1 b v bytes e).1) ∙ e
 
 pub made_named : (r : Held) (t b : Rid) (v : Version) (bytes : List ℕ) → IsSmall r → bytes_of r b v ≡ Some bytes → base_named r (identity_of t b v) ≡ bytes
 made_named r t b v bytes small e = ap (λ (o : Option (List ℕ)). unwrap_or o []) (made_read r t b v bytes small e)
@@ -77,7 +77,7 @@ abbrev Wants : Held → Bool → Bool → ℕ → List ℕ → Type 0
 Wants r d p size i = (length (base_named r i) ≡ size) × NamesWell r d p i
 
 pub file_wants : (r : Held) (e : Entry) → IsSmall r → HasEntry r e → e.dir ≡ false → Wants r false true e.len (entry_identity e)
-file_wants r e small h file = subst (λ (i : List ℕ). Wants r false true e.len i) (ap (λ (b : Bool). identity_for b e.rid e.version) (sym file)) (by (h file)) where
+file_wants r e small h file = subst (λ (i : List ℕ). Wants r false true e.len i) (ap (λ (b : Bool). identity_for b e.rid e.version) (sym file)) (by (h.2 file)) where
   by : ((e.version.0 ≡ 0) × (e.len ≡ 0)) ⊎ ((bytes : List ℕ) × (bytes_of r e.rid e.version ≡ Some bytes) × (length bytes ≡ e.len)) → Wants r false true e.len (identity_of e.rid e.rid e.version)
   by (inl k) = (ap (λ (bs : List ℕ). length bs) (none_named r (identity_of e.rid e.rid e.version) (zero_read e.rid e.rid e.version k.0)) ∙ sym k.1, file_well r (identity_of e.rid e.rid e.version) (inl (zero_read e.rid e.rid e.version k.0)))
   by (inr k) = (ap (λ (bs : List ℕ). length bs) (made_named r e.rid e.rid e.version k.0 small k.1) ∙ k.2, file_well r (identity_of e.rid e.rid e.version) (inr (k.0, made_read r e.rid e.rid e.version k.0 small k.1)))
@@ -93,8 +93,26 @@ dir_kind : (r : Held) (i : List ℕ) (full : Bool) (size : ℕ) → Wants r true
 dir_kind r i true size h = h
 dir_kind r i false size h = h
 
+-- the first 8 bytes of an entry's identity name its item
+entry_target : (e : Entry) → e.rid.0 < 18446744073709551616 → number_of (take 8 (entry_identity e)) ≡ e.rid.0
+entry_target e h = by e.dir where
+  by : (d : Bool) → number_of (take 8 (identity_for d e.rid e.version)) ≡ e.rid.0
+  by true = read_back e.rid.0 h
+  by false = read_back e.rid.0 h
+
+some_target : (r : Held) (e : Entry) → IsSmall r → HasEntry r e → (number_of (take 8 (entry_identity e)) == 0) ≡ false
+some_target r e small h = subst (λ (n : ℕ). (n == 0) ≡ false) (sym (entry_target e (below e.rid.0 (length r.items) h.1 small.0))) (positive e.rid.0 h.0) where
+  below : (a b : ℕ) → a ≤ b → b < 18446744073709551616 → a < 18446744073709551616
+  below a b h k = omega (arith, h, k)
+
+  positive : (n : ℕ) → 1 ≤ n → (n == 0) ≡ false
+  positive n h = one (n == 0) refl where
+    one : (b : Bool) → (n == 0) ≡ b → b ≡ false
+    one true q = let z : n ≡ 0 = eqb-true n 0 q in absurd (omega (arith, z, h))
+    one false q = refl
+
 pub new_fits : (r : Held) (p : Policy) (e : Entry) → IsSmall r → HasEntry r e → NewFits r p (new_item_of e)
-new_fits r p e small h = by e.dir refl where
+new_fits r p e small h = let k = by e.dir refl in (k.0, k.1, some_target r e small h) where
   by : (d : Bool) → e.dir ≡ d → (length (base_named r (entry_identity e)) ≡ size_made (entry_kind p d) (cond d 0 e.len)) × NamesWell r (is_directory (entry_kind p d)) (is_placeholder (entry_kind p d)) (entry_identity e)
   by true q = dir_kind r (entry_identity e) (is_full_population p.population) 0 (dir_wants r e q)
   by false q = file_wants r e small h q

@@ -1,6 +1,7 @@
 -- What the entries of a feed keep in `replay`.
 use Rattle.std.proofs.Common.{◌≡◌, ◌⊎◌, ◌<◌, ◌+◌, ℕ, Bool, true, false, List, [], ◌∷◌, refl, sym, ◌∙◌, ap, subst, inl, inr, max, arith, length}
-use Rattle.std.specs.Prelude.{Option, Some, None, not, filter, nat_lt, take, ◌&&◌}
+use Rattle.std.specs.Prelude.{Option, Some, None, cond, not, nat_lt, take, ◌&&◌, ◌||◌, ◌==◌}
+use Rattle.std.specs.List.{list_any}
 use Rattle.std.proofs.lemmas.Bool.Decides.{nat_tests}
 use Rattle.cf_base.specs.declared.changes.Change.{Change}
 use Rattle.cf_base.specs.declared.changes.Change.TheVariants as change
@@ -13,24 +14,26 @@ use Rattle.cf_model.specs.Arrows.{Arrow, Preserves, and_then, choose, only_if}
 use Rattle.cf_model.specs.Books.{QueueEntry, book_after}
 use Rattle.cf_model.specs.Changes.{change as put, next_number, put_with_book, same_book}
 use Rattle.cf_model.specs.Contents.{base_named}
+use Rattle.cf_model.specs.Dehydration.{in_use as is_used}
 use Rattle.cf_model.specs.Effects.{effect, untargeted}
 use Rattle.cf_model.specs.ConflictNames.{conflict_name}
-use Rattle.cf_model.specs.Feeds.{adopt, copy_off, free_parent, gone, gone_unless, is_adoptable, is_newer, is_removable, is_under, make_after, make_entry, make_of, move_entry, move_in, name_in_root, new_entry, new_over, remove_or_untarget, seen_entry, stands_in, take_over, taken, turn, untarget}
+use Rattle.cf_model.specs.Feeds.{adopt, copy_off, free_parent, gone, gone_unless, has_child, is_adoptable, is_newer, is_removable, is_under, make_after, make_entry, make_of, move_entry, move_in, name_in_root, new_entry, new_over, remove_or_untarget, seen_entry, stands_in, take_over, taken, turn, untarget}
 use Rattle.cf_model.specs.Identities.{base_version, entry_identity, identity_of, is_untargeted, no_identity}
 use Rattle.cf_model.specs.Items.{Item, base_of, is_dirty, item_of}
 use Rattle.cf_model.specs.Logs.{next_by}
-use Rattle.cf_model.specs.LookUp.{child_of, is_child_named}
-use Rattle.cf_model.specs.Numbers.{no_item, no_rid, no_usn, no_version, root_id}
-use Rattle.cf_model.specs.Requests.{Waiting}
+use Rattle.cf_model.specs.LookUp.{child_of, children, is_child_named}
+use Rattle.cf_model.specs.Numbers.{no_item, no_key, no_rid, no_usn, no_version, root_id}
+use Rattle.cf_model.specs.Overlay.{Written}
+use Rattle.cf_model.specs.Requests.{Waiting, is_busy_beside}
 use Rattle.cf_model.specs.Skips.{do_change, in_use, skip_line, try_change, try_clear_name, try_mark_now, try_seen}
 use Rattle.cf_model.specs.Soundness.{Each}
-use Rattle.cf_model.specs.State.{Link, State, Volume, book_now, items_now, with_filter, with_notes, with_volume}
+use Rattle.cf_model.specs.State.{Filter, Link, Open, State, Volume, book_now, items_now, with_filter, with_notes, with_volume}
 use Rattle.cf_model.specs.Points.{with_point_begun, with_room_point}
 use Rattle.cf_model.specs.Store.{Held}
 use Rattle.cf_model.specs.Trees.{Keeps}
-use Rattle.cf_model.specs.Words.{number_of, same, says}
+use Rattle.cf_model.specs.Words.{is_empty, number_of, same, says}
 use Rattle.cf_model.proofs.TreeLaws.{keeps_bind, keeps_mapped}
-use Rattle.cf_laws.specs.Fitting.{Fits, NamesWell, NoEntry}
+use Rattle.cf_laws.specs.Fitting.{Fits, IsCopied, IsVacant, NamesWell, NoEntry}
 use Rattle.cf_laws.specs.Invariant.{HasEntry, IsRight, SameBase, version_in, waits_on}
 use Rattle.cf_laws.specs.Premises.{IsFair}
 use Rattle.cf_laws.proofs.EntryLaws.{dir_identity, dir_none, dir_well, file_wants, make_fits, none_none}
@@ -39,44 +42,45 @@ use Rattle.cf_laws.proofs.FitItems.{each_changed}
 use Rattle.cf_laws.proofs.FoundItems.{found_again}
 use Rattle.cf_laws.proofs.Gathered.{each_all, each_any, each_both, each_weaker}
 use Rattle.cf_laws.proofs.Leading.{kept_leads}
-use Rattle.cf_laws.proofs.RightItems.{both_none, same_based, same_none, untargeted_same}
+use Rattle.cf_laws.proofs.RightItems.{both_none, fits_meets, no_way, no_way_back, same_based, same_none, untargeted_same}
 use Rattle.cf_laws.proofs.SkipsGuarded.{Framing, Skipping, Whichever, and_then_at, and_then_keeps, framed, item_frame, keeps_first, move_keeps, only_if_at, try_change_at, try_clear_name_keeps, try_mark_now_keeps, try_seen_keeps}
 use Rattle.cf_laws.proofs.SoundChanges.{same_entries}
 use Rattle.cf_laws.proofs.SoundFilters.{change_leads}
 use Rattle.cf_laws.proofs.SoundSettles.{each_found, found_below, left_true, not_true, right_true}
 
--- What a feed leaves as it is: the link, the waits and asks, and the uploads on their way.
-pub record Feeding (l : Link) (w : Waiting) (es : List QueueEntry) (s : State) : Type 0 where
+-- What a feed leaves as it is: the link, the waits and asks, the handles, and the uploads on their way.
+pub record Feeding (l : Link) (w : Filter) (es : List QueueEntry) (s : State) : Type 0 where
   pub link : s.link ≡ l
-  pub waiting : s.filter.waiting ≡ w
+  pub waiting : s.filter.waiting ≡ w.waiting
+  pub handles : s.filter.handles ≡ w.handles
   pub entries : (book_now s).entries ≡ es
 
-fed_by : (l : Link) (w : Waiting) (es : List QueueEntry) (s : State) (v : Volume) → v.book.entries ≡ (book_now s).entries → Feeding l w es s → Feeding l w es (with_filter (with_volume v s.filter) s)
-fed_by l w es s v e h = record { link = h.link; waiting = h.waiting; entries = e ∙ h.entries }
+fed_by : (l : Link) (w : Filter) (es : List QueueEntry) (s : State) (v : Volume) → v.book.entries ≡ (book_now s).entries → Feeding l w es s → Feeding l w es (with_filter (with_volume v s.filter) s)
+fed_by l w es s v e h = record { link = h.link; waiting = h.waiting; handles = h.handles; entries = e ∙ h.entries }
 
-fed_change : (l : Link) (w : Waiting) (es : List QueueEntry) (c : Change) (s : State) → Feeding l w es s → Keeps (Feeding l w es) (do_change c s)
+fed_change : (l : Link) (w : Filter) (es : List QueueEntry) (c : Change) (s : State) → Feeding l w es s → Keeps (Feeding l w es) (do_change c s)
 fed_change l w es c s h =
     keeps_mapped (λ x. Feeding l w es (with_filter x s)) (Feeding l w es) (λ x. with_filter x s) (put c s.filter) (λ x j. j)
     (kept_leads (λ x. Feeding l w es (with_filter x s)) (put c s.filter)
     (change_leads (λ x. Feeding l w es (with_filter x s)) (λ x. Feeding l w es (with_filter x s)) same_book c s.filter h (fed_by l w es s (with_point_begun s.filter.volume) refl h) (fed_by l w es s (with_room_point s.filter.volume) refl h)
     (λ v is. by v is))) where
       by : (v : Volume) → (v ≡ s.filter.volume) ⊎ (v ≡ with_room_point s.filter.volume) → Feeding l w es (with_filter (with_notes (notice.Change (next_number v) c ∷ []) (with_volume (put_with_book same_book c v) s.filter)) s)
-      by v (inl e) = record { link = h.link; waiting = h.waiting; entries = ap (λ (u : Volume). (book_after c u.book).entries) e ∙ same_entries c s.filter.volume.book ∙ h.entries }
-      by v (inr e) = record { link = h.link; waiting = h.waiting; entries = ap (λ (u : Volume). (book_after c u.book).entries) e ∙ same_entries c s.filter.volume.book ∙ h.entries }
+      by v (inl e) = record { link = h.link; waiting = h.waiting; handles = h.handles; entries = ap (λ (u : Volume). (book_after c u.book).entries) e ∙ same_entries c s.filter.volume.book ∙ h.entries }
+      by v (inr e) = record { link = h.link; waiting = h.waiting; handles = h.handles; entries = ap (λ (u : Volume). (book_after c u.book).entries) e ∙ same_entries c s.filter.volume.book ∙ h.entries }
 
-fed_line : (l : Link) (w : Waiting) (es : List QueueEntry) (b : Bool) (c : Code) (s : State) → Feeding l w es s → Feeding l w es (skip_line b c s)
-fed_line l w es true c s h = record { link = h.link; waiting = h.waiting; entries = h.entries }
+fed_line : (l : Link) (w : Filter) (es : List QueueEntry) (b : Bool) (c : Code) (s : State) → Feeding l w es s → Feeding l w es (skip_line b c s)
+fed_line l w es true c s h = record { link = h.link; waiting = h.waiting; handles = h.handles; entries = h.entries }
 fed_line l w es false c s h = h
 
-pub feeding : (l : Link) (w : Waiting) (es : List QueueEntry) → Framing Whichever (Feeding l w es)
+pub feeding : (l : Link) (w : Filter) (es : List QueueEntry) → Framing Whichever (Feeding l w es)
 feeding l w es = record {
   change = λ c s ok fit h. fed_change l w es c s h;
-  books = λ f s keeps h. record { link = h.link; waiting = h.waiting; entries = keeps (book_now s) ∙ h.entries };
-  skips = λ c s h. fed_line l w es s.running.shows_skips c (record s { running = record s.running { skips = s.running.skips + 1 } }) (record { link = h.link; waiting = h.waiting; entries = h.entries });
+  books = λ f s keeps h. record { link = h.link; waiting = h.waiting; handles = h.handles; entries = keeps (book_now s) ∙ h.entries };
+  skips = λ c s h. fed_line l w es s.running.shows_skips c (record s { running = record s.running { skips = s.running.skips + 1 } }) (record { link = h.link; waiting = h.waiting; handles = h.handles; entries = h.entries });
 }
 
 -- what a feed needs: no upload is on its way
-pub record Feeds (l : Link) (w : Waiting) (es : List QueueEntry) (P : State → Type 0) : Type 0 where
+pub record Feeds (l : Link) (w : Filter) (es : List QueueEntry) (P : State → Type 0) : Type 0 where
   pub steps : Skipping Whichever P
   pub fed : (s : State) → P s → Feeding l w es s
   pub none : IsFair l → es ≡ []
@@ -86,7 +90,7 @@ pub record IsTold (l : Link) (e : Entry) : Type 0 where
   pub has : IsFair l → HasEntry l.remote e
   pub dir : e.dir ≡ true → e.version.0 ≡ 0
 
-pub fair_now : (l : Link) (w : Waiting) (es : List QueueEntry) (s : State) → Feeding l w es s → IsFair s.link → IsFair l
+pub fair_now : (l : Link) (w : Filter) (es : List QueueEntry) (s : State) → Feeding l w es s → IsFair s.link → IsFair l
 fair_now l w es s h fair = subst IsFair h.link fair
 
 pub mark_ok : (item : ItemId) (n : Usn) → Whichever (change.Mark item n)
@@ -113,7 +117,7 @@ untargeted_well r d p identity h = record {
   plain = λ e f. (same_none (untargeted identity) identity (untargeted_same identity) (h.plain e f).0, no_target identity);
 }
 
-untarget_fits : (l : Link) (w : Waiting) (es : List QueueEntry) (P : State → Type 0) → Feeds l w es P → (i : Item) (s : State) → P s → (IsFair s.link → Each i.id (λ j. j.identity ≡ i.identity) (items_now s)) → IsFair s.link
+untarget_fits : (l : Link) (w : Filter) (es : List QueueEntry) (P : State → Type 0) → Feeds l w es P → (i : Item) (s : State) → P s → (IsFair s.link → Each i.id (λ j. j.identity ≡ i.identity) (items_now s)) → IsFair s.link
     → Fits s.link.remote s.filter (change.Rebase i.id (untargeted i.identity) (base_of i) no_usn)
 untarget_fits l w es P feeds i s h same fair = (
   each_both i.id (λ j. j.identity ≡ i.identity) (IsRight s.link.remote (next_number s.filter.volume)) (λ j. NamesWell s.link.remote j.directory j.placeholder (untargeted i.identity))
@@ -122,7 +126,7 @@ untarget_fits l w es P feeds i s h same fair = (
   inl (refl, each_weaker i.id (λ j. j.identity ≡ i.identity) (λ j. SameBase (untargeted i.identity) j.identity) (λ j e. subst (λ (x : List ℕ). SameBase (untargeted i.identity) x) (sym e) (untargeted_same i.identity)) (items_now s) (same fair)),
 )
 
-untarget_at : (l : Link) (w : Waiting) (es : List QueueEntry) (P : State → Type 0) → Feeds l w es P → (i : Item) (s : State) → P s → (IsFair s.link → item_of (items_now s) i.id ≡ Some i) → Keeps P (untarget i s)
+untarget_at : (l : Link) (w : Filter) (es : List QueueEntry) (P : State → Type 0) → Feeds l w es P → (i : Item) (s : State) → P s → (IsFair s.link → item_of (items_now s) i.id ≡ Some i) → Keeps P (untarget i s)
 untarget_at l w es P feeds i s h there = by i.in_sync where
   now : (IsFair s.link → Each i.id (λ j. j.identity ≡ i.identity) (items_now s))
   now fair = each_found i.id (λ j. j.identity ≡ i.identity) 0 s.filter.volume.next_item.0 (items_now s) i (feeds.steps.sound s h fair).now.order (there fair) refl
@@ -135,33 +139,43 @@ untarget_at l w es P feeds i s h there = by i.in_sync where
       (each_changed i.id i.id _ (λ k. Unit {0}) (λ k. k.identity ≡ i.identity) (λ k. k.identity ≡ i.identity) (λ k. refl) (λ k _ e. e) (λ k e. e) (items_now s) (each_any i.id (λ k. Unit {0}) (λ k. tt) (items_now s)) (now (subst IsFair led.link fair))))) j)
   by false = try_change_at Whichever P feeds.steps (change.Rebase i.id (untargeted i.identity) (base_of i) no_usn) s tt (λ id k. k) (untarget_fits l w es P feeds i s h now) h
 
-pub gone_at : (l : Link) (w : Waiting) (es : List QueueEntry) (P : State → Type 0) → Feeds l w es P → (i : Item) (s : State) → P s → (IsFair s.link → item_of (items_now s) i.id ≡ Some i) → Keeps P (gone i s)
-gone_at l w es P feeds i s h there = by (in_use s i.id) where
-  steps : (b : Bool) → Keeps P (remove_or_untarget i b s)
-  steps true = try_change_at Whichever P feeds.steps (change.Remove i.id) s tt (λ id k. k) (λ fair. tt) h
-  steps false = untarget_at l w es P feeds i s h there
+none_there : {A : Type 0} (xs : List A) → not (not (is_empty xs)) ≡ true → xs ≡ []
+none_there [] e = refl
+none_there (x ∷ xs) e = no_way e
 
-  by : (b : Bool) → Keeps P (gone_unless i b s)
-  by true = h
-  by false = turn_at P (λ t. remove_or_untarget i (is_removable t i) t) s (steps (is_removable s i))
+vacant_item : (s : State) (i : Item) → is_removable s i ≡ true → IsVacant (items_now s) i
+vacant_item s i e = by i.directory e where
+  by : (b : Bool) → cond b (not (has_child s i.id)) (not (is_dirty i)) ≡ true → (b ≡ false → i.writes ≡ []) × (b ≡ true → children (items_now s) i.id ≡ [])
+  by true e = (λ z. no_way_back z, λ z. none_there (children (items_now s) i.id) e)
+  by false e = (λ z. none_there i.writes e, λ z. no_way z)
+
+pub gone_at : (l : Link) (w : Filter) (es : List QueueEntry) (P : State → Type 0) → Feeds l w es P → (i : Item) (s : State) → P s → (IsFair s.link → item_of (items_now s) i.id ≡ Some i) → Keeps P (gone i s)
+gone_at l w es P feeds i s h there = by (in_use s i.id) refl where
+  steps : (b : Bool) → is_removable s i ≡ b → in_use s i.id ≡ false → Keeps P (remove_or_untarget i b s)
+  steps true q idle = try_change_at Whichever P feeds.steps (change.Remove i.id) s tt (λ id k. k) (λ fair. (idle, each_found i.id (IsVacant (items_now s)) 0 s.filter.volume.next_item.0 (items_now s) i (feeds.steps.sound s h fair).now.order (there fair) (vacant_item s i q))) h
+  steps false q idle = untarget_at l w es P feeds i s h there
+
+  by : (b : Bool) → in_use s i.id ≡ b → Keeps P (gone_unless i b s)
+  by true q = h
+  by false q = turn_at P (λ t. remove_or_untarget i (is_removable t i) t) s (steps (is_removable s i) refl q)
 
 -- New
 
 -- that the items of an id are of a kind stays so
 kinds_frame : (id : ItemId) (R : Bool → Bool → Type 0) → ((d p : Bool) → R d p → R d true) → Framing Whichever (λ s. IsFair s.link → (id.0 < s.filter.volume.next_item.0) × Each id (λ i. R i.directory i.placeholder) (items_now s))
 kinds_frame id R k = item_frame Whichever (λ is next. (id.0 < next) × Each id (λ i. R i.directory i.placeholder) is)
-    (λ s c n ok fit g. (more id.0 s.filter.volume.next_item.0 (next_by c) g.0, kind_stays s.link.remote s.filter c n id s.filter.volume.next_item.0 refl g.0 R k fit g.1)) where
+    (λ s c n ok fit g. (more id.0 s.filter.volume.next_item.0 (next_by c) g.0, kind_stays s.link.remote s.filter c n id s.filter.volume.next_item.0 refl g.0 R k (fits_meets s.link.remote s.filter c fit) g.1)) where
       more : (a b c : ℕ) → a < b → a < max b c
       more a b c h = omega (arith, h)
 
-feeds_framed : (l : Link) (w : Waiting) (es : List QueueEntry) (P F : State → Type 0) → Feeds l w es P → Framing Whichever F → Feeds l w es (λ s. P s × F s)
+feeds_framed : (l : Link) (w : Filter) (es : List QueueEntry) (P F : State → Type 0) → Feeds l w es P → Framing Whichever F → Feeds l w es (λ s. P s × F s)
 feeds_framed l w es P F feeds frame = record { steps = framed Whichever P F feeds.steps frame; fed = λ s h. feeds.fed s h.0; none = feeds.none }
 
 abbrev DirsAt : ItemId → State → Type 0
 DirsAt id t = IsFair t.link → (id.0 < t.filter.volume.next_item.0) × Each id (λ j. j.directory ≡ true) (items_now t)
 
 -- a local directory that becomes the one of an entry
-adopt_in : (l : Link) (w : Waiting) (es : List QueueEntry) (P : State → Type 0) → Feeds l w es P → (e : Entry) (i : Item) → e.dir ≡ true → ((s : State) → P s → DirsAt i.id s) → Preserves P (adopt e i)
+adopt_in : (l : Link) (w : Filter) (es : List QueueEntry) (P : State → Type 0) → Feeds l w es P → (e : Entry) (i : Item) → e.dir ≡ true → ((s : State) → P s → DirsAt i.id s) → Preserves P (adopt e i)
 adopt_in l w es P feeds e i dir dirs = record {
   keeps = λ s h.
       and_then_keeps P (only_if (not i.placeholder) (try_change (change.Convert i.id no_identity))) (and_then (try_change (change.Rebase i.id (entry_identity e) 0 no_usn)) (and_then (try_seen (seen_entry i.id e)) (try_mark_now i.id))) s
@@ -186,13 +200,13 @@ adopt_in l w es P feeds e i dir dirs = record {
           ),
         )
 
-adopt_at : (l : Link) (w : Waiting) (es : List QueueEntry) (P : State → Type 0) → Feeds l w es P → (e : Entry) (i : Item) (s : State) → e.dir ≡ true → i.directory ≡ true → P s → (IsFair s.link → item_of (items_now s) i.id ≡ Some i) → Keeps P (adopt e i s)
+adopt_at : (l : Link) (w : Filter) (es : List QueueEntry) (P : State → Type 0) → Feeds l w es P → (e : Entry) (i : Item) (s : State) → e.dir ≡ true → i.directory ≡ true → P s → (IsFair s.link → item_of (items_now s) i.id ≡ Some i) → Keeps P (adopt e i s)
 adopt_at l w es P feeds e i s dir local h there =
     keeps_first P (DirsAt i.id) (adopt e i s)
     ((adopt_in l w es (λ t. P t × DirsAt i.id t) (feeds_framed l w es P (DirsAt i.id) feeds (kinds_frame i.id (λ d p. d ≡ true) (λ d p k. k))) e i dir (λ t k. k.1)).keeps s
     (h, λ fair. (found_below i.id 0 s.filter.volume.next_item.0 (items_now s) i (feeds.steps.sound s h fair).now.order (there fair), each_found i.id (λ j. j.directory ≡ true) 0 s.filter.volume.next_item.0 (items_now s) i (feeds.steps.sound s h fair).now.order (there fair) local)))
 
-make_after_keeps : (l : Link) (w : Waiting) (es : List QueueEntry) (P : State → Type 0) → Feeds l w es P → (e : Entry) (p : Item) → IsTold l e → Preserves P (make_after e p)
+make_after_keeps : (l : Link) (w : Filter) (es : List QueueEntry) (P : State → Type 0) → Feeds l w es P → (e : Entry) (p : Item) → IsTold l e → Preserves P (make_after e p)
 make_after_keeps l w es P feeds e p told = record {
   keeps = λ s h.
       and_then_keeps P (try_change (make_of s e p)) (and_then (try_seen (seen_entry s.filter.volume.next_item e)) (try_mark_now s.filter.volume.next_item)) s
@@ -202,13 +216,13 @@ make_after_keeps l w es P feeds e p told = record {
       (λ u k. (try_mark_now_keeps Whichever P feeds.steps mark_ok s.filter.volume.next_item).keeps u k));
 }
 
-make_entry_keeps : (l : Link) (w : Waiting) (es : List QueueEntry) (P : State → Type 0) → Feeds l w es P → (e : Entry) (p : Item) → IsTold l e → Preserves P (make_entry e p)
+make_entry_keeps : (l : Link) (w : Filter) (es : List QueueEntry) (P : State → Type 0) → Feeds l w es P → (e : Entry) (p : Item) → IsTold l e → Preserves P (make_entry e p)
 make_entry_keeps l w es P feeds e p told = record {
   keeps = λ s h.
       and_then_keeps P (try_clear_name p.id e.name no_item) (make_after e p) s ((try_clear_name_keeps Whichever P feeds.steps move_ok p.id e.name no_item).keeps s h) (λ t j. (make_after_keeps l w es P feeds e p told).keeps t j);
 }
 
-pub new_at : (l : Link) (w : Waiting) (es : List QueueEntry) (P : State → Type 0) → Feeds l w es P → (e : Entry) (p : Item) (s : State) → IsTold l e → P s → Keeps P (new_entry e p s)
+pub new_at : (l : Link) (w : Filter) (es : List QueueEntry) (P : State → Type 0) → Feeds l w es P → (e : Entry) (p : Item) (s : State) → IsTold l e → P s → Keeps P (new_entry e p s)
 new_at l w es P feeds e p s told h = turn_at P (λ t. new_over e p (child_of (items_now t) p.id e.name) t) s (by (child_of (items_now s) p.id e.name) refl) where
   choice : (i : Item) → child_of (items_now s) p.id e.name ≡ Some i → (b : Bool) → is_adoptable e i ≡ b → Keeps P (choose b (adopt e i) (make_entry e p) s)
   choice i f true q =
@@ -282,35 +296,55 @@ newer_told l e i told q = by e.dir refl where
   by true f = absurd (below (base_version i).0 (subst (λ (n : ℕ). nat_lt (base_version i).0 n ≡ true) (told.dir f) (right_true (not i.directory) (nat_lt (base_version i).0 e.version.0) q)))
   by false f = refl
 
--- the newer version takes the place of the file's bytes
-take_in : (l : Link) (w : Waiting) (es : List QueueEntry) (P : State → Type 0) → Feeds l w es P → (e : Entry) (i : Item) → IsTold l e → e.dir ≡ false → (IsFair l → waits_on i.id w.waits ≡ false) → ((s : State) → P s → FilesAt i.id s)
-    → Preserves P (and_then (only_if (is_dirty i) (copy_off i)) (try_change (change.Take i.id (entry_identity e) e.len)))
-take_in l w es P feeds e i told file free files = record {
-  keeps = λ s h.
-      and_then_keeps P (only_if (is_dirty i) (copy_off i)) (try_change (change.Take i.id (entry_identity e) e.len)) s
-      (only_if_at P (is_dirty i) (copy_off i) s h (λ _. try_change_at Whichever P feeds.steps (change.Copy s.filter.volume.next_item i.id i.parent (conflict_name (items_now s) i.parent i.name)) s tt (λ id k. k) (λ fair. refl) h))
-      (λ t j. try_change_at Whichever P feeds.steps (change.Take i.id (entry_identity e) e.len) t tt (λ id k. k) (fits t j) j);
-}
-  where
-    fits : (t : State) → P t → IsFair t.link → Fits t.link.remote t.filter (change.Take i.id (entry_identity e) e.len)
-    fits t j fair =
-        let fair0 : IsFair l = fair_now l w es t (feeds.fed t j) fair in
-        let wants = file_wants t.link.remote e fair.1 (subst (λ (k : Link). HasEntry k.remote e) (sym (feeds.fed t j).link) (told.has fair0)) file in (
-          each_weaker i.id (λ k. (k.directory ≡ false) × (k.placeholder ≡ true)) (λ k. (length (base_named t.link.remote (entry_identity e)) ≡ e.len) × NamesWell t.link.remote k.directory k.placeholder (entry_identity e))
-              (λ k d. (wants.0, subst (λ (b : Bool). NamesWell t.link.remote b k.placeholder (entry_identity e)) (sym d.0) (subst (λ (b : Bool). NamesWell t.link.remote false b (entry_identity e)) (sym d.1) wants.1))) (items_now t) (files t j fair).1,
-          subst (λ (qs : List QueueEntry). NoEntry qs i.id) (sym ((feeds.fed t j).entries ∙ feeds.none fair0)) tt,
-          subst (λ (v : Waiting). waits_on i.id v.waits ≡ false) (sym (feeds.fed t j).waiting) (free fair0),
-        )
+-- what is not in use where the feed begins is not in use later in it
+idle_later : (l : Link) (w : Filter) (es : List QueueEntry) (id : ItemId) (t : State) → Feeding l w es t → is_used id w ≡ false → is_used id t.filter ≡ false
+idle_later l w es id t fed idle =
+    subst (λ (hs : List Open). (list_any (λ o. o.item.0 == id.0) hs || is_busy_beside id (record { 0 = no_key }) t.filter.waiting) ≡ false) (sym fed.handles)
+    (subst (λ (v : Waiting). (list_any (λ o. o.item.0 == id.0) w.handles || is_busy_beside id (record { 0 = no_key }) v) ≡ false) (sym fed.waiting) idle)
 
-pub take_at : (l : Link) (w : Waiting) (es : List QueueEntry) (P : State → Type 0) → Feeds l w es P → (e : Entry) (i : Item) (s : State) → IsTold l e → (is_newer i e ≡ true → IsFair l → waits_on i.id w.waits ≡ false) → (IsFair s.link → is_newer i e ≡ true → i.placeholder ≡ true)
-    → (IsFair s.link → item_of (items_now s) i.id ≡ Some i) → P s → Keeps P (take_over e (Some i) s)
-take_at l w es P feeds e i s told free placed there h =
+pub idle_first : (l : Link) (w : Filter) (es : List QueueEntry) (id : ItemId) (t : State) → Feeding l w es t → is_used id t.filter ≡ false → is_used id w ≡ false
+idle_first l w es id t fed idle =
+    subst (λ (hs : List Open). (list_any (λ o. o.item.0 == id.0) hs || is_busy_beside id (record { 0 = no_key }) w.waiting) ≡ false) fed.handles
+    (subst (λ (v : Waiting). (list_any (λ o. o.item.0 == id.0) t.filter.handles || is_busy_beside id (record { 0 = no_key }) v) ≡ false) fed.waiting idle)
+
+clean_writes : (ws : List Written) → not (is_empty ws) ≡ false → ws ≡ []
+clean_writes [] e = refl
+clean_writes (w ∷ ws) e = no_way_back e
+
+-- the newer version takes the place of the file's bytes
+take_in : (l : Link) (w : Filter) (es : List QueueEntry) (P : State → Type 0) → Feeds l w es P → (e : Entry) (i : Item) → IsTold l e → e.dir ≡ false → (IsFair l → waits_on i.id w.waiting.waits ≡ false) → (IsFair l → is_used i.id w ≡ false) → ((s : State) → P s → FilesAt i.id s)
+    → (s : State) → P s → (IsFair s.link → item_of (items_now s) i.id ≡ Some i) → Keeps P (and_then (only_if (is_dirty i) (copy_off i)) (try_change (change.Take i.id (entry_identity e) e.len)) s)
+take_in l w es P feeds e i told file free idle files s h there = by (is_dirty i) refl where
+  fits : (t : State) → P t → (IsFair t.link → Each i.id (λ k. k.writes ≡ []) (items_now t) ⊎ IsCopied t.filter.volume.log i.id) → IsFair t.link → Fits t.link.remote t.filter (change.Take i.id (entry_identity e) e.len)
+  fits t j clean fair =
+      let fair0 : IsFair l = fair_now l w es t (feeds.fed t j) fair in
+      let wants = file_wants t.link.remote e fair.1 (subst (λ (k : Link). HasEntry k.remote e) (sym (feeds.fed t j).link) (told.has fair0)) file in (
+        each_weaker i.id (λ k. (k.directory ≡ false) × (k.placeholder ≡ true)) (λ k. (length (base_named t.link.remote (entry_identity e)) ≡ e.len) × NamesWell t.link.remote k.directory k.placeholder (entry_identity e))
+            (λ k d. (wants.0, subst (λ (b : Bool). NamesWell t.link.remote b k.placeholder (entry_identity e)) (sym d.0) (subst (λ (b : Bool). NamesWell t.link.remote false b (entry_identity e)) (sym d.1) wants.1))) (items_now t) (files t j fair).1,
+        subst (λ (qs : List QueueEntry). NoEntry qs i.id) (sym ((feeds.fed t j).entries ∙ feeds.none fair0)) tt,
+        subst (λ (v : Waiting). waits_on i.id v.waits ≡ false) (sym (feeds.fed t j).waiting) (free fair0),
+        clean fair,
+        idle_later l w es i.id t (feeds.fed t j) (idle fair0),
+      )
+
+  by : (b : Bool) → is_dirty i ≡ b → Keeps P (and_then (only_if b (copy_off i)) (try_change (change.Take i.id (entry_identity e) e.len)) s)
+  by true q =
+      and_then_at Whichever P feeds.steps (change.Copy s.filter.volume.next_item i.id i.parent (conflict_name (items_now s) i.parent i.name)) (try_change (change.Take i.id (entry_identity e) e.len)) s tt (λ id k. k) (λ fair. refl) h
+      (λ t j led. try_change_at Whichever P feeds.steps (change.Take i.id (entry_identity e) e.len) t tt (λ id k. k)
+      (fits t j (λ fair. inr (s.filter.volume.log, next_number s.filter.volume, s.filter.volume.next_item, i.parent, conflict_name (items_now s) i.parent i.name, led.after.log))) j)
+  by false q =
+      try_change_at Whichever P feeds.steps (change.Take i.id (entry_identity e) e.len) s tt (λ id k. k)
+      (fits s h (λ fair. inl (each_found i.id (λ k. k.writes ≡ []) 0 s.filter.volume.next_item.0 (items_now s) i (feeds.steps.sound s h fair).now.order (there fair) (clean_writes i.writes q)))) h
+
+pub take_at : (l : Link) (w : Filter) (es : List QueueEntry) (P : State → Type 0) → Feeds l w es P → (e : Entry) (i : Item) (s : State) → IsTold l e → (is_newer i e ≡ true → IsFair l → waits_on i.id w.waiting.waits ≡ false) → (is_newer i e ≡ true → IsFair l → is_used i.id w ≡ false)
+    → (IsFair s.link → is_newer i e ≡ true → i.placeholder ≡ true) → (IsFair s.link → item_of (items_now s) i.id ≡ Some i) → P s → Keeps P (take_over e (Some i) s)
+take_at l w es P feeds e i s told free idle placed there h =
     only_if_at P (is_newer i e) (and_then (only_if (is_dirty i) (copy_off i)) (try_change (change.Take i.id (entry_identity e) e.len))) s h
     (λ q. keeps_first P (FilesAt i.id) (and_then (only_if (is_dirty i) (copy_off i)) (try_change (change.Take i.id (entry_identity e) e.len)) s)
-    ((take_in l w es (λ t. P t × FilesAt i.id t) (feeds_framed l w es P (FilesAt i.id) feeds (kinds_frame i.id (λ d p. (d ≡ false) × (p ≡ true)) (λ d p k. (k.0, refl)))) e i told (newer_told l e i told q) (free q) (λ t k. k.1)).keeps s (
+    (take_in l w es (λ t. P t × FilesAt i.id t) (feeds_framed l w es P (FilesAt i.id) feeds (kinds_frame i.id (λ d p. (d ≡ false) × (p ≡ true)) (λ d p k. (k.0, refl)))) e i told (newer_told l e i told q) (free q) (idle q) (λ t k. k.1) s (
       h,
       λ fair. (
         found_below i.id 0 s.filter.volume.next_item.0 (items_now s) i (feeds.steps.sound s h fair).now.order (there fair),
         each_found i.id (λ j. (j.directory ≡ false) × (j.placeholder ≡ true)) 0 s.filter.volume.next_item.0 (items_now s) i (feeds.steps.sound s h fair).now.order (there fair) (newer_file e i q, placed fair q),
       ),
-    )))
+    ) there))

@@ -1,5 +1,5 @@
 -- What a feed keeps in `replay`.
-use Rattle.std.proofs.Common.{◌≡◌, ℕ, zero, Bool, true, false, List, [], ◌∷◌, refl, sym, ◌∙◌, ap, subst, arith}
+use Rattle.std.proofs.Common.{◌≡◌, ℕ, Bool, true, false, List, [], ◌∷◌, refl, sym, ◌∙◌, ap, subst, arith}
 use Rattle.std.specs.Prelude.{Option, Some, None, cond, not, filter, nat_lt, take, ◌&&◌, ◌||◌, ◌==◌}
 use Rattle.std.specs.List.{list_any}
 use Rattle.std.proofs.lemmas.Bool.{eqb-true}
@@ -10,7 +10,8 @@ use Rattle.cf_base.specs.declared.messages.Entry.{Entry}
 use Rattle.cf_model.specs.Arrows.{Arrow, Preserves, and_then, noted, only_if, reading, seq, then_do, unit, when_ok}
 use Rattle.cf_model.specs.Books.{QueueEntry}
 use Rattle.cf_model.specs.Changes.{next_number}
-use Rattle.cf_model.specs.Feeds.{Fed, depth_of_entry, all_released, all_turns, apply_feed, changed_entry, changed_steps, changed_unless, cursor_if, end_feed, first_turn, first_turn_by, in_turn, is_later, is_newer, is_seen_so, is_whole, known, move_entry, parent_here, second_turn, second_turns, take_entry, take_over, take_turn, taken, turn_by, turns, unknown, with_clock_seen, with_turn}
+use Rattle.cf_model.specs.Dehydration.{in_use as is_used}
+use Rattle.cf_model.specs.Feeds.{Fed, depth_of_entry, all_released, all_turns, apply_feed, changed_entry, changed_steps, changed_unless, cursor_if, end_feed, first_turn, first_turn_by, in_turn, is_later, is_newer, is_seen_so, is_whole, known, move_entry, parent_here, second_turn, second_turns, take_entry, take_over, take_turn, turn_by, turns, unknown, with_clock_seen, with_turn}
 use Rattle.cf_model.specs.Identities.{by_target, has_target, target_of}
 use Rattle.cf_model.specs.Items.{Item, item_of}
 use Rattle.cf_model.specs.Missing.{Wait}
@@ -18,7 +19,7 @@ use Rattle.cf_model.specs.Numbers.{no_key, root_rid, same_key}
 use Rattle.cf_model.specs.PushReplies.{whatever}
 use Rattle.cf_model.specs.Requests.{Waiting, is_busy_beside}
 use Rattle.cf_model.specs.Skips.{in_use, in_volatile, try_cursor, try_mark_now, with_volatile}
-use Rattle.cf_model.specs.State.{Link, State, book_now, items_now}
+use Rattle.cf_model.specs.State.{Filter, Link, State, book_now, items_now}
 use Rattle.cf_model.specs.Store.{Held}
 use Rattle.cf_model.specs.Trees.{Asked, Fork, Keeps, Ret, Step, Tree}
 use Rattle.cf_model.specs.Words.{number_of, sorted}
@@ -34,10 +35,10 @@ use Rattle.cf_laws.proofs.PushRepliesGuarded.{each_at, found_id}
 use Rattle.cf_laws.proofs.RightItems.{no_way, no_way_back}
 use Rattle.cf_laws.proofs.SkipsGuarded.{Whichever, and_then_keeps, fewer_changes, framed, guarded_skipping, keeps_first, only_if_at, try_cursor_keeps, try_mark_now_keeps}
 use Rattle.cf_laws.proofs.SoundSettles.{each_found, left_true, right_true, same_item}
-use Rattle.cf_laws.proofs.FeedEntriesGuarded.{Feeding, feeding, Feeds, IsTold, fair_now, mark_ok, turn_at, gone_at, new_at, IsMove, move_entry_keeps, Alike, AlikeAt, alike_frame, newer_file, take_at}
+use Rattle.cf_laws.proofs.FeedEntriesGuarded.{Feeding, feeding, Feeds, IsTold, fair_now, mark_ok, turn_at, gone_at, new_at, IsMove, move_entry_keeps, Alike, AlikeAt, alike_frame, newer_file, idle_first, take_at}
 
 -- an item that is not in use is not waited for
-not_waited : (item : ItemId) (ws : List Wait) → All (λ v. same_key v.id.0 no_key ≡ false) ws → list_any (λ v. (v.item.0 == item.0) && not (same_key v.id.0 no_key)) ws ≡ false → waits_on item ws ≡ false
+pub not_waited : (item : ItemId) (ws : List Wait) → All (λ v. same_key v.id.0 no_key ≡ false) ws → list_any (λ v. (v.item.0 == item.0) && not (same_key v.id.0 no_key)) ws ≡ false → waits_on item ws ≡ false
 not_waited item [] k h = h
 not_waited item (v ∷ ws) k h = by (v.item.0 == item.0) (same_key v.id.0 no_key) k.0 h (not_waited item ws k.1) where
   by : (a b : Bool) → b ≡ false → ((a && not b) || list_any (λ v. (v.item.0 == item.0) && not (same_key v.id.0 no_key)) ws) ≡ false
@@ -46,7 +47,7 @@ not_waited item (v ∷ ws) k h = by (v.item.0 == item.0) (same_key v.id.0 no_key
   by true false q e g = no_way_back e
   by false b q e g = g e
 
-or_right_false : (a b : Bool) → (a || b) ≡ false → b ≡ false
+pub or_right_false : (a b : Bool) → (a || b) ≡ false → b ≡ false
 or_right_false true b e = no_way_back e
 or_right_false false b e = e
 
@@ -86,19 +87,25 @@ newer_alike : (i k : Item) (e : Entry) → Alike i k → is_newer k e ≡ true �
 newer_alike i k e a q = subst (λ (n : ℕ). (not i.directory && nat_lt n e.version.0) ≡ true) a.0 (subst (λ (d : Bool). (not d && nat_lt (version_in k.identity).0 e.version.0) ≡ true) a.1 q)
 
 -- where the item is found again it is alike, and so may be taken over
-again_at : (l : Link) (w : Waiting) (es : List QueueEntry) (P : State → Type 0) → Feeds l w es P → (e : Entry) (i : Item) (s t : State) → IsTold l e → (is_newer i e && in_use s i.id) ≡ false → has_target i e.rid ≡ true → (IsFair s.link → item_of (items_now s) i.id ≡ Some i)
+again_at : (l : Link) (w : Filter) (es : List QueueEntry) (P : State → Type 0) → Feeds l w es P → (e : Entry) (i : Item) (s t : State) → IsTold l e → (is_newer i e && in_use s i.id) ≡ false → has_target i e.rid ≡ true → (IsFair s.link → item_of (items_now s) i.id ≡ Some i)
     → P s → P t → AlikeAt i i.id t → Keeps P (take_entry e i.id t)
 again_at l w es P feeds e i s t told idle target there h j alike = by (item_of (items_now t) i.id) refl where
   fair_of : (u : State) → P u → IsFair l → IsFair u.link
   fair_of u k fair = subst IsFair (sym (feeds.fed u k).link) fair
 
-  free : (k : Item) → item_of (items_now t) i.id ≡ Some k → is_newer k e ≡ true → IsFair l → waits_on k.id w.waits ≡ false
+  idle_then : (k : Item) → item_of (items_now t) i.id ≡ Some k → is_newer k e ≡ true → IsFair t.link → in_use s i.id ≡ false
+  idle_then k f q fair = and_false_right (is_newer i e) (in_use s i.id) idle (newer_alike i k e (each_at i.id (Alike i) (items_now t) k f (alike fair)) q)
+
+  free : (k : Item) → item_of (items_now t) i.id ≡ Some k → is_newer k e ≡ true → IsFair l → waits_on k.id w.waiting.waits ≡ false
   free k f q fair =
-      let a : Alike i k = each_at i.id (Alike i) (items_now t) k f (alike (fair_of t j fair)) in
-      let idle_now : in_use s i.id ≡ false = and_false_right (is_newer i e) (in_use s i.id) idle (newer_alike i k e a q) in
-      let busy : is_busy_beside i.id (record { 0 = no_key }) s.filter.waiting ≡ false = or_right_false (list_any (λ o. o.item.0 == i.id.0) s.filter.handles) (is_busy_beside i.id (record { 0 = no_key }) s.filter.waiting) idle_now in
-      subst (λ (x : ItemId). waits_on x w.waits ≡ false) (sym (same_item k.id i.id (found_id i.id (items_now t) k f)))
+      let still : in_use s i.id ≡ false = idle_then k f q (fair_of t j fair) in
+      let busy : is_busy_beside i.id (record { 0 = no_key }) s.filter.waiting ≡ false = or_right_false (list_any (λ o. o.item.0 == i.id.0) s.filter.handles) (is_busy_beside i.id (record { 0 = no_key }) s.filter.waiting) still in
+      subst (λ (x : ItemId). waits_on x w.waiting.waits ≡ false) (sym (same_item k.id i.id (found_id i.id (items_now t) k f)))
       (subst (λ (v : Waiting). waits_on i.id v.waits ≡ false) (feeds.fed s h).waiting (not_waited i.id s.filter.waiting.waits (feeds.steps.sound s h (fair_of s h fair)).numbered busy))
+
+  idle_at : (k : Item) → item_of (items_now t) i.id ≡ Some k → is_newer k e ≡ true → IsFair l → is_used k.id w ≡ false
+  idle_at k f q fair =
+      subst (λ (x : ItemId). is_used x w ≡ false) (sym (same_item k.id i.id (found_id i.id (items_now t) k f))) (idle_first l w es i.id s (feeds.fed s h) (idle_then k f q (fair_of t j fair)))
 
   placed : (k : Item) → item_of (items_now t) i.id ≡ Some k → IsFair t.link → is_newer k e ≡ true → k.placeholder ≡ true
   placed k f fair q =
@@ -110,9 +117,9 @@ again_at l w es P feeds e i s t told idle target there h j alike = by (item_of (
   by : (o : Option Item) → item_of (items_now t) i.id ≡ o → Keeps P (take_over e o t)
   by None f = j
   by (Some k) f =
-      take_at l w es P feeds e k t told (free k f) (placed k f) (λ fair. subst (λ (x : ItemId). item_of (items_now t) x ≡ Some k) (sym (same_item k.id i.id (found_id i.id (items_now t) k f))) f) j
+      take_at l w es P feeds e k t told (free k f) (idle_at k f) (placed k f) (λ fair. subst (λ (x : ItemId). item_of (items_now t) x ≡ Some k) (sym (same_item k.id i.id (found_id i.id (items_now t) k f))) f) j
 
-changed_at : (l : Link) (w : Waiting) (es : List QueueEntry) (P : State → Type 0) → Feeds l w es P → (e : Entry) (i p : Item) (s : State) → IsTold l e → (is_newer i e && in_use s i.id) ≡ false → has_target i e.rid ≡ true → (IsFair s.link → item_of (items_now s) i.id ≡ Some i) → P s
+changed_at : (l : Link) (w : Filter) (es : List QueueEntry) (P : State → Type 0) → Feeds l w es P → (e : Entry) (i p : Item) (s : State) → IsTold l e → (is_newer i e && in_use s i.id) ≡ false → has_target i e.rid ≡ true → (IsFair s.link → item_of (items_now s) i.id ≡ Some i) → P s
     → Keeps P (changed_steps e i p s)
 changed_at l w es P feeds e i p s told idle target there h =
     kept_leads P (changed_steps e i p s)
@@ -128,7 +135,7 @@ changed_at l w es P feeds e i p s told idle target there h =
       rest true t j a = and_then_keeps P (take_entry e i.id) (try_mark_now i.id) t (again_at l w es P feeds e i s t told idle target there h j a) (λ u k. (try_mark_now_keeps Whichever P feeds.steps mark_ok i.id).keeps u k)
       rest false t j a = j
 
-changed_turn : (l : Link) (w : Waiting) (es : List QueueEntry) (P : State → Type 0) → Feeds l w es P → (e : Entry) (i p : Item) (s : State) → IsTold l e → has_target i e.rid ≡ true → (IsFair s.link → item_of (items_now s) i.id ≡ Some i) → P s → Keeps P (changed_entry e i p s)
+changed_turn : (l : Link) (w : Filter) (es : List QueueEntry) (P : State → Type 0) → Feeds l w es P → (e : Entry) (i p : Item) (s : State) → IsTold l e → has_target i e.rid ≡ true → (IsFair s.link → item_of (items_now s) i.id ≡ Some i) → P s → Keeps P (changed_entry e i p s)
 changed_turn l w es P feeds e i p s told target there h = by (is_newer i e && in_use s i.id) refl where
   by : (b : Bool) → (is_newer i e && in_use s i.id) ≡ b → Keeps P (changed_unless e i p b s)
   by true q = h
@@ -136,7 +143,7 @@ changed_turn l w es P feeds e i p s told target there h = by (is_newer i e && in
 
 -- all entries
 
-take_turn_keeps : (l : Link) (w : Waiting) (es : List QueueEntry) (P : State → Type 0) → Feeds l w es P → (e : Entry) → IsTold l e → Preserves P (take_turn e)
+take_turn_keeps : (l : Link) (w : Filter) (es : List QueueEntry) (P : State → Type 0) → Feeds l w es P → (e : Entry) → IsTold l e → Preserves P (take_turn e)
 take_turn_keeps l w es P feeds e told = record { keeps = λ s h. by s h (by_target (items_now s) e.rid) (parent_here s e) refl } where
   fresh : (s : State) → P s → (b : Bool) (p : Option Item) → Keeps P (unknown b e p s)
   fresh s h true (Some p) = new_at l w es P feeds e p s told h
@@ -157,11 +164,11 @@ take_turn_keeps l w es P feeds e told = record { keeps = λ s h. by s h (by_targ
 abbrev Turned : Link → (State → Type 0) → Fed → State → Type 0
 Turned l P f s = P s × All (IsTold l) f.later
 
-take_turn_led : (l : Link) (w : Waiting) (es : List QueueEntry) (P : State → Type 0) → Feeds l w es P → (e : Entry) (f : Fed) (s : State) → IsTold l e → All (IsTold l) f.later → P s → Leads P (Turned l P) (seq (take_turn e) (with_turn f) s)
+take_turn_led : (l : Link) (w : Filter) (es : List QueueEntry) (P : State → Type 0) → Feeds l w es P → (e : Entry) (f : Fed) (s : State) → IsTold l e → All (IsTold l) f.later → P s → Leads P (Turned l P) (seq (take_turn e) (with_turn f) s)
 take_turn_led l w es P feeds e f s told all h =
     leads_bind P (λ b t. P t) (Turned l P) (take_turn e s) (with_turn f) (leads_kept P (take_turn e s) ((take_turn_keeps l w es P feeds e told).keeps s h)) (λ b t j. (j, all))
 
-first_turn_led : (l : Link) (w : Waiting) (es : List QueueEntry) (P : State → Type 0) → Feeds l w es P → (e : Entry) (f : Fed) (s : State) → IsTold l e → All (IsTold l) f.later → P s → Leads P (Turned l P) (first_turn e f s)
+first_turn_led : (l : Link) (w : Filter) (es : List QueueEntry) (P : State → Type 0) → Feeds l w es P → (e : Entry) (f : Fed) (s : State) → IsTold l e → All (IsTold l) f.later → P s → Leads P (Turned l P) (first_turn e f s)
 first_turn_led l w es P feeds e f s told all h = by (is_later s e) where
   by : (b : Bool) → Leads P (Turned l P) (first_turn_by b e f s)
   by true = (h, all_append (IsTold l) f.later (e ∷ []) all (told, tt))
@@ -172,7 +179,7 @@ turns_led : (l : Link) (P : State → Type 0) (f : Entry → Fed → Arrow State
 turns_led l P f k [] g s told all h = (h, all)
 turns_led l P f k (e ∷ list) g s told all h = leads_bind P (Turned l P) (Turned l P) (f e g s) (turns f list) (k e g s told.0 all h) (λ g2 t j. turns_led l P f k list g2 t told.1 j.1 j.0)
 
-all_turns_keep : (l : Link) (w : Waiting) (es : List QueueEntry) (P : State → Type 0) → Feeds l w es P → (list : List Entry) → All (IsTold l) list → Preserves P (all_turns list)
+all_turns_keep : (l : Link) (w : Filter) (es : List QueueEntry) (P : State → Type 0) → Feeds l w es P → (list : List Entry) → All (IsTold l) list → Preserves P (all_turns list)
 all_turns_keep l w es P feeds list told = record {
   keeps = λ s h.
       kept_leads P (all_turns list s)
@@ -197,7 +204,7 @@ end_feed_keeps P closed clock skips f = keeps_then P (in_volatile all_released) 
 pub apply_feed_at : (P : State → Type 0) → Guarded P → (clock : ℕ) (list : List Entry) (s : State) → (IsFair s.link → (book_now s).entries ≡ []) → All (IsTold s.link) list → P s → Keeps P (apply_feed clock list s)
 apply_feed_at P closed clock list s none told h =
     keeps_bind P (all_turns list s) (end_feed clock s.running.skips)
-    (keeps_first P (Feeding s.link s.filter.waiting (book_now s).entries) (all_turns list s)
-    ((all_turns_keep s.link s.filter.waiting (book_now s).entries (λ t. P t × Feeding s.link s.filter.waiting (book_now s).entries t)
-    (record { steps = framed Whichever P (Feeding s.link s.filter.waiting (book_now s).entries) (guarded_skipping P closed) (feeding s.link s.filter.waiting (book_now s).entries); fed = λ t k. k.1; none = none }) list told).keeps s (h, record { link = refl; waiting = refl; entries = refl })))
+    (keeps_first P (Feeding s.link s.filter (book_now s).entries) (all_turns list s)
+    ((all_turns_keep s.link s.filter (book_now s).entries (λ t. P t × Feeding s.link s.filter (book_now s).entries t)
+    (record { steps = framed Whichever P (Feeding s.link s.filter (book_now s).entries) (guarded_skipping P closed) (feeding s.link s.filter (book_now s).entries); fed = λ t k. k.1; none = none }) list told).keeps s (h, record { link = refl; waiting = refl; handles = refl; entries = refl })))
     (λ f t j. (end_feed_keeps P closed clock s.running.skips f).keeps t j)

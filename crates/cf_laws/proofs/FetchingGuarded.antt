@@ -19,11 +19,11 @@ use Rattle.cf_model.specs.Skips.{skip}
 use Rattle.cf_model.specs.State.{State, in_filter, items_now, with_filter, Filter}
 use Rattle.cf_laws.proofs.OperationsGuarded as operations_keep
 use Rattle.cf_laws.proofs.StepsGuarded as skips_keep
-use Rattle.cf_model.specs.Fetching.{after_listing, after_transfer, do_op, is_new, list_new, live_ask, new_item_of, no_entries, nothing_more, refuse_by_kind, refuse_for, refuse_live, span_at, take_bytes, take_gone, take_listing, take_missing, with_seen_from}
+use Rattle.cf_model.specs.Fetching.{after_listing, after_transfer, do_op, is_new, live_ask, new_item_of, no_entries, nothing_more, refuse_by_kind, refuse_for, refuse_live, span_at, take_bytes, take_gone, take_listing, take_missing, with_seen_from}
 use Rattle.cf_laws.proofs.Guarded.{Guarded}
-use Rattle.cf_model.proofs.ArrowLaws.{keeps_lifted, keeps_ret, keeps_seq, keeps_then}
-use Rattle.std.proofs.Common.{◌≡◌, ℕ, ◌+◌, List, [], ◌∷◌, refl, sym, ◌∙◌, ap, subst, Bool, true, false}
-use Rattle.cf_model.specs.Books.{Book, with_seen}
+use Rattle.cf_model.proofs.ArrowLaws.{keeps_ret, keeps_then}
+use Rattle.std.proofs.Common.{◌≡◌, ℕ, ◌+◌, List, [], ◌∷◌, refl, true, false}
+use Rattle.cf_model.specs.Books.{with_seen}
 use Rattle.cf_model.specs.Identities.{base_bytes}
 use Rattle.cf_model.specs.Soundness.{Each}
 use Rattle.cf_model.specs.Trees.{Keeps}

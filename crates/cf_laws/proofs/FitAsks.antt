@@ -1,12 +1,11 @@
 -- What a change that fits keeps of live asks.
-use Rattle.std.proofs.Common.{◌≡◌, ◌⊎◌, ◌<◌, ◌≤◌, ◌+◌, ℕ, Bool, true, false, List, [], ◌∷◌, ◌++◌, refl, sym, ◌∙◌, ap, subst, inl, inr, arith, length, eq-eqb}
-use Rattle.std.specs.Prelude.{Option, Some, None, is_some, map, cond, unwrap_or, ◌==◌}
+use Rattle.std.proofs.Common.{◌≡◌, ◌⊎◌, ◌<◌, ◌≤◌, ℕ, Bool, true, false, List, [], ◌∷◌, ◌++◌, refl, sym, ◌∙◌, ap, subst, inl, inr, arith, eq-eqb}
+use Rattle.std.specs.Prelude.{Option, Some, None, is_some, map, unwrap_or, ◌==◌}
 use Rattle.std.specs.List.{list_all, list_any}
 use Rattle.std.proofs.lemmas.Bool.{eqb-true}
 use Rattle.cf_base.specs.declared.changes.Change.{Change}
 use Rattle.cf_base.specs.declared.changes.Change.TheVariants as change
 use Rattle.cf_base.specs.declared.ids.ItemId.{ItemId}
-use Rattle.cf_base.specs.declared.ids.Key.{Key}
 use Rattle.cf_base.specs.declared.ids.Usn.{Usn}
 use Rattle.cf_base.specs.declared.messages.Request.{Request}
 use Rattle.cf_base.specs.declared.messages.Request.TheVariants as request
@@ -18,19 +17,19 @@ use Rattle.cf_model.specs.Identities.{base_bytes}
 use Rattle.cf_model.specs.Contents.{base_named, up_to}
 use Rattle.cf_model.specs.Items.{Item, item_of, pin_of}
 use Rattle.cf_model.specs.Missing.{Wait}
-use Rattle.cf_model.specs.Numbers.{no_usn, same_key}
+use Rattle.cf_model.specs.Numbers.{no_usn}
 use Rattle.cf_model.specs.Requests.{Live, is_fetch}
 use Rattle.cf_model.specs.Soundness.{Each}
 use Rattle.cf_model.specs.State.{Filter}
 use Rattle.cf_model.specs.Overlay.{Written, over}
 use Rattle.cf_model.specs.Store.{Held, bytes_of}
-use Rattle.cf_laws.specs.Fitting.{Fits, NamesWell, NoEntry, Touches}
+use Rattle.cf_laws.specs.Fitting.{Meets, NamesWell, NoEntry, Touches}
 use Rattle.cf_laws.specs.Invariant.{All, AllLack, IsLiveRight, IsRight, Lacks, Names, NoItem, OfRequest, SameBase, put_bytes, waits_on}
 use Rattle.cf_laws.proofs.FitEntries.{apart_each}
 use Rattle.cf_laws.proofs.FitItems.{each_append, each_changed, each_filter}
 use Rattle.cf_laws.proofs.Gathered.{all_both, all_weaker, each_all, each_any, each_both}
 use Rattle.cf_laws.proofs.HeldBytes.{lacks_emptied}
-use Rattle.cf_laws.proofs.RightItems.{both_none, no_way, no_way_back, same_named}
+use Rattle.cf_laws.proofs.RightItems.{both_none, no_way, same_named}
 
 abbrev Any : Item → Type 0
 Any i = Unit {0}
@@ -60,7 +59,7 @@ touched at id f same items h = by (at.0 == id.0) refl where
 
 -- a file that an ask is on lacks a byte still
 
-pub lacks_stays : (r : Held) (x : Filter) (c : Change) (n : Usn) (at : ItemId) → at.0 < x.volume.next_item.0 → waits_on at x.waiting.waits ≡ true → Fits r x c
+pub lacks_stays : (r : Held) (x : Filter) (c : Change) (n : Usn) (at : ItemId) → at.0 < x.volume.next_item.0 → waits_on at x.waiting.waits ≡ true → Meets r x c
     → Lacks at x.volume.items → Lacks at (effect x.volume.items c n) ⊎ Touches c at
 lacks_stays r x (change.Make item parent name k size identity) n at below waited fit h = inl (each_append at Misses x.volume.items _ h (λ z. absurd (new_apart item.0 at.0 x.volume.next_item.0 fit.0 below z)))
 lacks_stays r x (change.Remove item) n at below waited fit h = inl (each_filter at Misses _ x.volume.items h)
@@ -93,7 +92,7 @@ lacks_stays r x (change.Keep item on) n at below waited fit h = inl (plainly at 
 abbrev Has : Held → List ℕ → Item → Type 0
 Has r base i = base_bytes r i ≡ base
 
-base_stays : (r : Held) (x : Filter) (c : Change) (n : Usn) (at : ItemId) (base : List ℕ) → at.0 < x.volume.next_item.0 → waits_on at x.waiting.waits ≡ true → Lacks at x.volume.items → All (IsRight r n) x.volume.items → Fits r x c
+base_stays : (r : Held) (x : Filter) (c : Change) (n : Usn) (at : ItemId) (base : List ℕ) → at.0 < x.volume.next_item.0 → waits_on at x.waiting.waits ≡ true → Lacks at x.volume.items → All (IsRight r n) x.volume.items → Meets r x c
     → Each at (Has r base) x.volume.items → Each at (Has r base) (effect x.volume.items c n)
 base_stays r x (change.Make item parent name k size identity) n at base below waited lacks right fit h = each_append at (Has r base) x.volume.items _ h (λ z. absurd (new_apart item.0 at.0 x.volume.next_item.0 fit.0 below z))
 base_stays r x (change.Remove item) n at base below waited lacks right fit h = each_filter at (Has r base) _ x.volume.items h
@@ -144,7 +143,7 @@ base_stays r x (change.Keep item on) n at base below waited lacks right fit h = 
 
 -- all live asks
 
-names_stay : (r : Held) (x : Filter) (c : Change) (n : Usn) (a : Ask) → a.item.0 < x.volume.next_item.0 → waits_on a.item x.waiting.waits ≡ true → Lacks a.item x.volume.items → All (IsRight r n) x.volume.items → Fits r x c
+names_stay : (r : Held) (x : Filter) (c : Change) (n : Usn) (a : Ask) → a.item.0 < x.volume.next_item.0 → waits_on a.item x.waiting.waits ≡ true → Lacks a.item x.volume.items → All (IsRight r n) x.volume.items → Meets r x c
     → (q : Request) → Names r x.volume.items a q → Names r (effect x.volume.items c n) a q
 names_stay r x c n a below waited lacks right fit (request.Fetch key rid version start len) h = λ e. ((h e).0, base_stays r x c n a.item (unwrap_or (bytes_of r rid version) []) below waited lacks right fit (h e).1)
 names_stay r x c n a below waited lacks right fit (request.Feed round after) h = tt
@@ -161,7 +160,7 @@ of_request P Q k (Some (frame.Request q)) h = k q h
 of_request P Q k (Some (frame.Reply answers r)) h = tt
 of_request P Q k None h = tt
 
-pub effect_live : (r : Held) (x : Filter) (c : Change) (n : Usn) (ms : List (Option Frame)) (keys epoch next : ℕ) (outbox : List Ask) (a : Ask) → x.volume.next_item.0 ≤ next → Lacks a.item x.volume.items → All (IsRight r n) x.volume.items → Fits r x c
+pub effect_live : (r : Held) (x : Filter) (c : Change) (n : Usn) (ms : List (Option Frame)) (keys epoch next : ℕ) (outbox : List Ask) (a : Ask) → x.volume.next_item.0 ≤ next → Lacks a.item x.volume.items → All (IsRight r n) x.volume.items → Meets r x c
     → IsLiveRight r ms keys epoch x.volume.next_item.0 x.volume.items x.waiting.waits outbox a → IsLiveRight r ms keys epoch next (effect x.volume.items c n) x.waiting.waits outbox a
 effect_live r x c n ms keys epoch next outbox a more lacks right fit h = record {
   below = let z : a.item.0 < x.volume.next_item.0 = h.below in omega (arith, more, z);
@@ -177,7 +176,7 @@ LiveAt r ms keys epoch next items ws outbox a = is_fetch a.ask.kind ≡ true →
 abbrev pub LackAt : (ItemId → Type 0) → List Item → Live → Type 0
 LackAt But items a = is_fetch a.ask.kind ≡ true → Lacks a.ask.item items ⊎ But a.ask.item
 
-pub effect_lives : (r : Held) (x : Filter) (c : Change) (n : Usn) (ms : List (Option Frame)) (keys epoch next : ℕ) (outbox : List Ask) (asks : List Live) → x.volume.next_item.0 ≤ next → All (IsRight r n) x.volume.items → Fits r x c
+pub effect_lives : (r : Held) (x : Filter) (c : Change) (n : Usn) (ms : List (Option Frame)) (keys epoch next : ℕ) (outbox : List Ask) (asks : List Live) → x.volume.next_item.0 ≤ next → All (IsRight r n) x.volume.items → Meets r x c
     → AllLack NoItem x.volume.items asks → All (LiveAt r ms keys epoch x.volume.next_item.0 x.volume.items x.waiting.waits outbox) asks
     → All (LiveAt r ms keys epoch next (effect x.volume.items c n) x.waiting.waits outbox) asks
 effect_lives r x c n ms keys epoch next outbox asks more right fit lack h =
@@ -187,7 +186,7 @@ effect_lives r x c n ms keys epoch next outbox asks more right fit lack h =
       only item (inl k) = k
       only item (inr k) = elim k as (λ _. Lacks item x.volume.items) [ ]
 
-pub effect_lack : (r : Held) (x : Filter) (c : Change) (n : Usn) (ms : List (Option Frame)) (keys epoch : ℕ) (outbox : List Ask) (asks : List Live) → Fits r x c
+pub effect_lack : (r : Held) (x : Filter) (c : Change) (n : Usn) (ms : List (Option Frame)) (keys epoch : ℕ) (outbox : List Ask) (asks : List Live) → Meets r x c
     → AllLack NoItem x.volume.items asks → All (LiveAt r ms keys epoch x.volume.next_item.0 x.volume.items x.waiting.waits outbox) asks → AllLack (Touches c) (effect x.volume.items c n) asks
 effect_lack r x c n ms keys epoch outbox asks fit lack h =
     all_both (LackAt NoItem x.volume.items) (LiveAt r ms keys epoch x.volume.next_item.0 x.volume.items x.waiting.waits outbox) (LackAt (Touches c) (effect x.volume.items c n))

@@ -1,6 +1,6 @@
 -- What a change that fits keeps of contents.
-use Rattle.std.proofs.Common.{◌≡◌, ◌⊎◌, ◌+◌, ℕ, Bool, true, false, List, [], ◌∷◌, ◌++◌, refl, sym, ◌∙◌, ap, subst, inl, inr, length}
-use Rattle.std.specs.Prelude.{Option, Some, None, is_some, map, take, drop}
+use Rattle.std.proofs.Common.{◌≡◌, ◌⊎◌, ℕ, true, false, List, [], ◌++◌, refl, sym, ◌∙◌, ap, subst, inl, inr}
+use Rattle.std.specs.Prelude.{Option, Some, None, is_some, map}
 use Rattle.std.specs.List.{list_all}
 use Rattle.cf_base.specs.declared.changes.Change.{Change}
 use Rattle.cf_base.specs.declared.changes.Change.TheVariants as change
@@ -17,8 +17,8 @@ use Rattle.cf_model.specs.Soundness.{Each}
 use Rattle.cf_model.specs.State.{Filter}
 use Rattle.cf_model.specs.Store.{Held}
 use Rattle.cf_model.proofs.ContentItems.{converted-true, copied-true, got-true, left_out-true, made-true, marked-true, rebased-true, sized-true, took-true, wrote-true}
-use Rattle.cf_model.proofs.Rebasing.{rebase_same, rebase_stays, split}
-use Rattle.cf_laws.specs.Fitting.{Fits, NoEntry}
+use Rattle.cf_model.proofs.Rebasing.{later-all, rebase_same, rebase_stays, split}
+use Rattle.cf_laws.specs.Fitting.{Meets, NoEntry}
 use Rattle.cf_laws.specs.Invariant.{All, AreTrueTo, IsRight, SameBase, put_bytes}
 use Rattle.cf_laws.proofs.FitItems.{all_changed}
 use Rattle.cf_laws.proofs.Gathered.{all_append, all_filter, all_found, each_all, each_any, each_both, each_weaker}
@@ -55,7 +55,7 @@ right_of : (r : Held) (n : Usn) (item : ItemId) (items : List Item) → All (IsR
 right_of r n item items h = each_all item (IsRight r n) (IsRight r n) (λ i k. k) items h
 
 -- each Rebase that the machine makes
-pub rebase_leaves : (r : Held) (x : Filter) (item : ItemId) (identity : List ℕ) (len : ℕ) (at n : Usn) → Fits r x (change.Rebase item identity len at) → All (IsRight r n) x.volume.items
+pub rebase_leaves : (r : Held) (x : Filter) (item : ItemId) (identity : List ℕ) (len : ℕ) (at n : Usn) → Meets r x (change.Rebase item identity len at) → All (IsRight r n) x.volume.items
     → Each item (λ i. i.directory ≡ false → StaysBy (base_bytes r i) (base_named r identity) (later_than at i.writes) i) x.volume.items
 rebase_leaves r x item identity len at n fit right = by fit.1 where
   by : (((at ≡ no_usn) × Each item (λ i. SameBase identity i.identity) x.volume.items)
@@ -68,11 +68,26 @@ rebase_leaves r x item identity len at n fit right = by fit.1 where
       each_both item (λ i. i.directory ≡ false → ((list_all is_some i.held ≡ true) ⊎ (up_to at i.writes ≡ [])) × (base_named r identity ≡ put_bytes (base_bytes r i) at i.writes)) (IsRight r n) (λ i. i.directory ≡ false → StaysBy (base_bytes r i) (base_named r identity) (later_than at i.writes) i)
       (λ i c old d. done_stays r (base_named r identity) at i old.rises (c d).0 (c d).1) x.volume.items k.1 (right_of r n item x.volume.items right)
 
+-- and the version has the bytes of the base under the writes that go
+pub rebase_takes_in : (r : Held) (x : Filter) (item : ItemId) (identity : List ℕ) (len : ℕ) (at n : Usn) → Meets r x (change.Rebase item identity len at) → All (IsRight r n) x.volume.items
+    → Each item (λ i. i.directory ≡ false → base_named r identity ≡ put_bytes (base_bytes r i) at i.writes) x.volume.items
+rebase_takes_in r x item identity len at n fit right = by fit.1 where
+  same : (i : Item) → SameBase identity i.identity → (at ≡ no_usn) → IsRight r n i → base_named r identity ≡ put_bytes (base_bytes r i) at i.writes
+  same i k zero old =
+      let none : up_to at i.writes ≡ [] = ap (λ (a : Usn). up_to a i.writes) zero ∙ (later-all no_usn no_usn i.writes refl old.rises).1 in
+      same_named r identity i.identity k ∙ sym (ap (λ (ws : List Written). over (base_bytes r i) (map (λ w. w.write) ws)) none)
+
+  by : (((at ≡ no_usn) × Each item (λ i. SameBase identity i.identity) x.volume.items)
+      ⊎ (NoEntry x.volume.book.entries item × Each item (λ i. i.directory ≡ false → ((list_all is_some i.held ≡ true) ⊎ (up_to at i.writes ≡ [])) × (base_named r identity ≡ put_bytes (base_bytes r i) at i.writes)) x.volume.items))
+      → Each item (λ i. i.directory ≡ false → base_named r identity ≡ put_bytes (base_bytes r i) at i.writes) x.volume.items
+  by (inl k) = each_both item (λ i. SameBase identity i.identity) (IsRight r n) (λ i. i.directory ≡ false → base_named r identity ≡ put_bytes (base_bytes r i) at i.writes) (λ i q old d. same i q k.0 old) x.volume.items k.1 (right_of r n item x.volume.items right)
+  by (inr k) = each_weaker item _ (λ i. i.directory ≡ false → base_named r identity ≡ put_bytes (base_bytes r i) at i.writes) (λ i c d. (c d).1) x.volume.items k.1
+
 copies_true : (r : Held) (id parent : ItemId) (name : List ℕ) (pin : Pin) (n : Usn) (o : Option Item) → ((i : Item) → o ≡ Some i → True r i) → AreTrueTo r (copies id parent name pin n o)
 copies_true r id parent name pin n None h = tt
 copies_true r id parent name pin n (Some i) h = (λ d. copied-true r id parent name pin n i (h i refl d), tt)
 
-pub effect_contents : (r : Held) (x : Filter) (c : Change) (n : Usn) → Fits r x c → All (IsRight r n) x.volume.items → AreTrueTo r x.volume.items → AreTrueTo r (effect x.volume.items c n)
+pub effect_contents : (r : Held) (x : Filter) (c : Change) (n : Usn) → Meets r x c → All (IsRight r n) x.volume.items → AreTrueTo r x.volume.items → AreTrueTo r (effect x.volume.items c n)
 effect_contents r x (change.Make item parent name k size identity) n fit right h = all_append (True r) x.volume.items _ h (λ d. made-true r item parent name k size identity (pin_of x.volume.items parent) n fit.1, tt)
 effect_contents r x (change.Remove item) n fit right h = all_filter (True r) _ x.volume.items h
 effect_contents r x (change.Move item parent name) n fit right h = plainly r item (moved parent name (pin_of x.volume.items parent) n) (λ i k. k) x.volume.items h

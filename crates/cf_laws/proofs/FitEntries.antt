@@ -1,6 +1,6 @@
 -- What a change that fits keeps of uploads on their way.
-use Rattle.std.proofs.Common.{◌≡◌, ◌⊎◌, ◌<◌, ◌≤◌, ◌+◌, ℕ, Bool, true, false, List, [], ◌∷◌, ◌++◌, refl, sym, ◌∙◌, ap, subst, inl, inr, arith, length}
-use Rattle.std.specs.Prelude.{Option, Some, None, is_some, map, cond, unwrap_or, ◌==◌}
+use Rattle.std.proofs.Common.{◌≡◌, ◌⊎◌, ◌<◌, ℕ, Bool, true, false, List, [], ◌∷◌, ◌++◌, refl, sym, ◌∙◌, ap, subst, inl, inr, arith, length}
+use Rattle.std.specs.Prelude.{Option, Some, None, is_some, map, cond, ◌==◌}
 use Rattle.std.specs.List.{list_all}
 use Rattle.std.proofs.lemmas.Bool.{eqb-true}
 use Rattle.cf_base.specs.declared.changes.Change.{Change}
@@ -21,10 +21,10 @@ use Rattle.cf_model.specs.Soundness.{Each}
 use Rattle.cf_model.specs.State.{Filter}
 use Rattle.cf_model.specs.Store.{Held}
 use Rattle.cf_model.proofs.Rebasing.{later-all}
-use Rattle.cf_laws.specs.Fitting.{Fits, NoEntry}
+use Rattle.cf_laws.specs.Fitting.{Meets, NoEntry}
 use Rattle.cf_laws.specs.Invariant.{All, Carries, EntryFits, FitsBy, IsEntryOf, IsRight, OfRequest, PutFits, PutFitsOf, SameBase, is_put, put_bytes}
 use Rattle.cf_laws.proofs.FitItems.{each_append, each_changed, each_filter}
-use Rattle.cf_laws.proofs.Gathered.{all_both, all_weaker, each_all, each_any, each_both}
+use Rattle.cf_laws.proofs.Gathered.{all_weaker, each_all, each_any, each_both}
 use Rattle.cf_laws.proofs.HeldBytes.{here_filled, here_patched, here_resized, up_to_more}
 use Rattle.cf_laws.proofs.RightItems.{same_named}
 
@@ -81,7 +81,7 @@ pub record PutEntry (n : Usn) (next : ℕ) (e : QueueEntry) : Type 0 where
   pub early : true ≡ true → above n e.number ≡ true
   pub item : e.item.0 < next
 
-put_stays : (r : Held) (ms : List (Option Frame)) (x : Filter) (c : Change) (n : Usn) (e : QueueEntry) (next epoch tokens : ℕ) → next ≡ x.volume.next_item.0 → PutEntry n next e → (NoEntry x.volume.book.entries (named_by c) → e.item.0 ≡ (named_by c).0 → ⊥) → Fits r x c
+put_stays : (r : Held) (ms : List (Option Frame)) (x : Filter) (c : Change) (n : Usn) (e : QueueEntry) (next epoch tokens : ℕ) → next ≡ x.volume.next_item.0 → PutEntry n next e → (NoEntry x.volume.book.entries (named_by c) → e.item.0 ≡ (named_by c).0 → ⊥) → Meets r x c
     → All (IsRight r n) x.volume.items → Each e.item (PutFits r ms e) x.volume.items → Each e.item (PutFits r ms e) (effect x.volume.items c n)
 put_stays r ms x (change.Make item parent name k size identity) n e next epoch tokens is g free fit right h =
     each_append e.item (PutFits r ms e) x.volume.items _ h (λ z. absurd (new_apart item.0 e.item.0 next (fit.0 ∙ sym is) g.item z))
@@ -139,7 +139,7 @@ put_stays r ms x (change.Keep item on) n e next epoch tokens is g free fit right
 abbrev Kinds : (Bool → Bool → Type 0) → Item → Type 0
 Kinds R i = R i.directory i.placeholder
 
-pub kind_stays : (r : Held) (x : Filter) (c : Change) (n : Usn) (at : ItemId) (next : ℕ) → next ≡ x.volume.next_item.0 → at.0 < next → (R : Bool → Bool → Type 0) → ((d p : Bool) → R d p → R d true) → Fits r x c
+pub kind_stays : (r : Held) (x : Filter) (c : Change) (n : Usn) (at : ItemId) (next : ℕ) → next ≡ x.volume.next_item.0 → at.0 < next → (R : Bool → Bool → Type 0) → ((d p : Bool) → R d p → R d true) → Meets r x c
     → Each at (Kinds R) x.volume.items → Each at (Kinds R) (effect x.volume.items c n)
 kind_stays r x (change.Make item parent name kind size identity) n at next is below R k fit h = each_append at (Kinds R) x.volume.items _ h (λ z. absurd (new_apart item.0 at.0 next (fit.0 ∙ sym is) below z))
 kind_stays r x (change.Remove item) n at next is below R k fit h = each_filter at (Kinds R) _ x.volume.items h
@@ -168,7 +168,7 @@ kind_stays r x (change.Populated item) n at next is below R k fit h = each_chang
 kind_stays r x (change.Keep item on) n at next is below R k fit h = each_changed at item _ Any (Kinds R) (Kinds R) (λ i. refl) (λ i _ q. q) (λ i q. q) x.volume.items (each_any item Any (λ i. tt) x.volume.items) h
 
 by_action : (r : Held) (ms : List (Option Frame)) (x : Filter) (c : Change) (n : Usn) (a : Action) (e : QueueEntry) (next epoch tokens : ℕ) → next ≡ x.volume.next_item.0 → IsEntryOf n next epoch tokens e → e.action ≡ a
-    → (NoEntry x.volume.book.entries (named_by c) → e.item.0 ≡ (named_by c).0 → ⊥) → Fits r x c → All (IsRight r n) x.volume.items → FitsBy a r ms x.volume.items e → FitsBy a r ms (effect x.volume.items c n) e
+    → (NoEntry x.volume.book.entries (named_by c) → e.item.0 ≡ (named_by c).0 → ⊥) → Meets r x c → All (IsRight r n) x.volume.items → FitsBy a r ms x.volume.items e → FitsBy a r ms (effect x.volume.items c n) e
 by_action r ms x c n PutFile e next epoch tokens is g same free fit right h = put_stays r ms x c n e next epoch tokens is (record { early = λ _. g.early (ap is_put same); item = g.item }) free fit right h
 by_action r ms x c n MakeDir e next epoch tokens is g same free fit right h = kind_stays r x c n e.item next is g.item (λ d p. d ≡ true) (λ d p k. k) fit h
 by_action r ms x c n MoveItem e next epoch tokens is g same free fit right h = tt
@@ -182,7 +182,7 @@ three : (P Q R S : QueueEntry → Type 0) → ((e : QueueEntry) → P e → Q e 
 three P Q R S k [] a b c = tt
 three P Q R S k (e ∷ es) a b c = (k e a.0 b.0 c.0, three P Q R S k es a.1 b.1 c.1)
 
-pub effect_entries : (r : Held) (ms : List (Option Frame)) (x : Filter) (c : Change) (n : Usn) (epoch tokens : ℕ) → Fits r x c → All (IsRight r n) x.volume.items
+pub effect_entries : (r : Held) (ms : List (Option Frame)) (x : Filter) (c : Change) (n : Usn) (epoch tokens : ℕ) → Meets r x c → All (IsRight r n) x.volume.items
     → All (IsEntryOf n x.volume.next_item.0 epoch tokens) x.volume.book.entries → All (EntryFits r ms x.volume.items) x.volume.book.entries → All (EntryFits r ms (effect x.volume.items c n)) x.volume.book.entries
 effect_entries r ms x c n epoch tokens fit right given h =
     three (IsEntryOf n x.volume.next_item.0 epoch tokens) (λ e. NoEntry x.volume.book.entries (named_by c) → e.item.0 ≡ (named_by c).0 → ⊥) (EntryFits r ms x.volume.items) (EntryFits r ms (effect x.volume.items c n))

@@ -1,7 +1,6 @@
 -- What a change that fits keeps of all items.
-use Rattle.std.proofs.Common.{◌≡◌, ◌⊎◌, ◌<◌, ◌≤◌, ◌+◌, ℕ, zero, suc, Bool, true, false, List, [], ◌∷◌, ◌++◌, refl, sym, ◌∙◌, ap, subst, inl, inr, arith, length, max}
-use Rattle.std.specs.Prelude.{Option, Some, None, cond, not, filter, ◌==◌}
-use Rattle.std.proofs.lemmas.Bool.Decides.{nat_tests}
+use Rattle.std.proofs.Common.{◌≡◌, ◌<◌, ◌≤◌, ◌+◌, ℕ, Bool, true, false, List, [], ◌∷◌, ◌++◌, refl, sym, subst, arith, length, max}
+use Rattle.std.specs.Prelude.{Option, Some, None, cond, filter, ◌==◌}
 use Rattle.cf_base.specs.declared.changes.Change.{Change}
 use Rattle.cf_base.specs.declared.changes.Change.TheVariants as change
 use Rattle.cf_base.specs.declared.ids.ItemId.{ItemId}
@@ -10,15 +9,15 @@ use Rattle.cf_base.specs.declared.items.Kind.{Kind}
 use Rattle.cf_base.specs.declared.items.Kind.TheVariants as kind
 use Rattle.cf_base.specs.declared.items.Pin.{Pin}
 use Rattle.cf_model.specs.Contents.{RisesFrom}
-use Rattle.cf_model.specs.Effects.{changed, converted, copied, copies, effect, got, is_directory, is_placeholder, kept, left_out, made, marked, moved, pinned, populated, rebased, sized, took, unmarked, validated_in, without, writes_made, wrote}
+use Rattle.cf_model.specs.Effects.{changed, converted, copies, effect, got, is_directory, is_placeholder, kept, left_out, made, marked, moved, pinned, populated, rebased, sized, took, unmarked, validated_in, writes_made, wrote}
 use Rattle.cf_model.specs.Items.{Item, item_of, pin_of}
 use Rattle.cf_model.specs.Logs.{next_by}
-use Rattle.cf_model.specs.Numbers.{above, no_usn, usn_after}
-use Rattle.cf_model.specs.Overlay.{Resize, Written}
+use Rattle.cf_model.specs.Numbers.{above, no_usn}
+use Rattle.cf_model.specs.Overlay.{Resize}
 use Rattle.cf_model.specs.Soundness.{Each}
 use Rattle.cf_model.specs.State.{Filter}
 use Rattle.cf_model.specs.Store.{Held}
-use Rattle.cf_laws.specs.Fitting.{Fits, NamesWell}
+use Rattle.cf_laws.specs.Fitting.{Meets, NamesWell}
 use Rattle.cf_laws.specs.Invariant.{All, AllUpTo, InOrder, IsRight}
 use Rattle.cf_laws.proofs.Gathered.{all_append, all_filter, all_found, all_weaker, each_any}
 use Rattle.cf_laws.proofs.RightItems.{above_self, cleared_right, converted_right, copied_right, made_right, marked_right, numbered_right, rebased_right, stays_right, took_right, written_right}
@@ -94,7 +93,7 @@ copies_right r n after id parent name pin large e None h = tt
 copies_right r n after id parent name pin large e (Some i) h =
     (copied_right r n after i.id.0 id.0 i.directory i.placeholder i.identity i.in_sync i.number i.writes (record { number = n; before = length i.held; write = Resize (length i.held) }) refl large e (h i refl), tt)
 
-pub effect_right : (r : Held) (x : Filter) (c : Change) (n after : Usn) → above n no_usn ≡ true → above after n ≡ true → 2 ≤ x.volume.next_item.0 → Fits r x c
+pub effect_right : (r : Held) (x : Filter) (c : Change) (n after : Usn) → above n no_usn ≡ true → above after n ≡ true → 2 ≤ x.volume.next_item.0 → Meets r x c
     → All (IsRight r n) x.volume.items → All (IsRight r after) (effect x.volume.items c n)
 effect_right r x (change.Make item parent name k size identity) n after some e large fit h =
     all_append (IsRight r after) x.volume.items _ (all_later r n after e x.volume.items h) (new_right r n after item parent name k size identity (pin_of x.volume.items parent) fit.2 some (subst (λ (m : ℕ). 2 ≤ m) (sym fit.0) large) e, tt)
@@ -166,7 +165,7 @@ max_new n m e = omega (arith, e)
 stays_next : (low next : ℕ) (items : List Item) → 2 ≤ next → InOrder low next items → InOrder low (max next 2) items
 stays_next low next items large h = subst (λ (m : ℕ). InOrder low m items) (sym (max_old next large)) h
 
-pub effect_order : (r : Held) (x : Filter) (c : Change) (n : Usn) → 2 ≤ x.volume.next_item.0 → Fits r x c → InOrder 0 x.volume.next_item.0 x.volume.items → InOrder 0 (max x.volume.next_item.0 (next_by c)) (effect x.volume.items c n)
+pub effect_order : (r : Held) (x : Filter) (c : Change) (n : Usn) → 2 ≤ x.volume.next_item.0 → Meets r x c → InOrder 0 x.volume.next_item.0 x.volume.items → InOrder 0 (max x.volume.next_item.0 (next_by c)) (effect x.volume.items c n)
 effect_order r x (change.Make item parent name k size identity) n large fit h =
     let new : Item = made item parent name k size identity (pin_of x.volume.items parent) n in
     subst (λ (m : ℕ). InOrder 0 m (x.volume.items ++ new ∷ [])) (sym (max_new x.volume.next_item.0 item.0 fit.0)) (order_append 0 x.volume.next_item.0 x.volume.items new fit.0 h)

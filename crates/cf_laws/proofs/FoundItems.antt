@@ -1,14 +1,11 @@
 -- What a look-up finds is found again under its id.
-use Rattle.std.proofs.Common.{◌≡◌, ◌<◌, ◌≤◌, ℕ, Bool, true, false, List, [], ◌∷◌, refl, sym, ◌∙◌, ap, subst, arith, eq-eqb, if◌then◌else◌, inl, inr}
-use Rattle.std.specs.Prelude.{Option, Some, None, Result, Ok, Err, cond, not, find, nat_lt, length, ◌==◌}
-use Rattle.std.specs.List.{list_all}
+use Rattle.std.proofs.Common.{◌≡◌, ◌<◌, ℕ, Bool, true, false, List, [], ◌∷◌, refl, sym, subst, arith, eq-eqb}
+use Rattle.std.specs.Prelude.{Option, Some, None, Result, Ok, Err, cond, not, find, ◌==◌}
 use Rattle.std.proofs.lemmas.Bool.{eqb-true}
 use Rattle.cf_base.specs.declared.codes.Code.{Code}
 use Rattle.cf_base.specs.declared.codes.Code.TheVariants as code
-use Rattle.cf_base.specs.declared.ids.ItemId.{ItemId}
-use Rattle.cf_model.specs.Items.{Item, item_of, root}
-use Rattle.cf_model.specs.LookUp.{bad_names, child_of, find_names, find_path, is_child_named, names_of, refused_or, root_of, walk}
-use Rattle.cf_model.specs.Texts.{is_name}
+use Rattle.cf_model.specs.Items.{Item, item_of}
+use Rattle.cf_model.specs.LookUp.{bad_names, child_of, find_path, is_child_named, names_of, refused_or, root_of, walk}
 use Rattle.cf_laws.specs.Invariant.{InOrder}
 use Rattle.cf_laws.proofs.RightItems.{no_way}
 

@@ -1,33 +1,29 @@
 -- Frames that the machine keeps within an event: what kind an item is while no upload of it is on its way, and that tokens
 -- were given.
-use Rattle.std.proofs.Common.{◌≡◌, ◌⊎◌, ◌<◌, ◌≤◌, ◌+◌, ℕ, Bool, true, false, List, [], ◌∷◌, ◌++◌, refl, sym, ◌∙◌, ap, subst, inl, inr, max, arith, if◌then◌else◌}
-use Rattle.std.specs.Prelude.{Option, Some, None, cond, map, filter, not, ◌==◌}
+use Rattle.std.proofs.Common.{◌≡◌, ◌⊎◌, ◌<◌, ◌≤◌, ◌+◌, ℕ, Bool, true, false, List, ◌∷◌, refl, sym, ◌∙◌, subst, inl, inr, max, arith, if◌then◌else◌}
+use Rattle.std.specs.Prelude.{cond, not}
 use Rattle.cf_base.specs.declared.answers.Shown.TheVariants as shown
 use Rattle.cf_base.specs.declared.changes.Change.{Change}
 use Rattle.cf_base.specs.declared.codes.Code.{Code}
 use Rattle.cf_base.specs.declared.ids.ItemId.{ItemId}
 use Rattle.cf_base.specs.declared.ids.WaitId.{WaitId}
-use Rattle.cf_base.specs.declared.waits.Cause.{Cause}
 use Rattle.cf_base.specs.declared.waits.Cause.TheVariants as cause
 use Rattle.cf_base.specs.declared.waits.End.{End}
-use Rattle.cf_model.specs.Arrows.{Preserves, each, noted, reading, then_do}
+use Rattle.cf_model.specs.Arrows.{each, noted, reading, then_do}
 use Rattle.cf_model.specs.Books.{Book, QueueEntry, book_after}
 use Rattle.cf_model.specs.Changes.{change_with, put_with_book}
-use Rattle.cf_model.specs.Items.{Item}
 use Rattle.cf_model.specs.Logs.{next_by}
-use Rattle.cf_model.specs.Missing.{Wait}
 use Rattle.cf_model.specs.Numbers.{same_key}
 use Rattle.cf_model.specs.Operations.{done}
-use Rattle.cf_model.specs.Points.{commit, with_point_begun, with_room_point, with_sure_point}
-use Rattle.cf_model.specs.PushReplies.{held_and_closed, held_back, is_removal, not_in_row, round_closed, taken_from_row, without_item, without_number}
-use Rattle.cf_model.specs.Requests.{Deed, Told, Waiting}
+use Rattle.cf_model.specs.Points.{commit, with_room_point}
+use Rattle.cf_model.specs.PushReplies.{held_back, is_removal, not_in_row, round_closed, without_item, without_number}
+use Rattle.cf_model.specs.Requests.{Told, Waiting}
 use Rattle.cf_model.specs.Settling.{accessed, end_of, end_wait, is_access, is_own, settle, tell, tell_end, told_at, with_asks_told, with_ended, with_waiting}
-use Rattle.cf_model.specs.Skips.{skip_line, with_volatile}
+use Rattle.cf_model.specs.Skips.{skip_line}
 use Rattle.cf_model.specs.Soundness.{Each}
-use Rattle.cf_model.specs.State.{Filter, Link, State, Volatile, Volume, in_volume, with_filter, with_volume}
-use Rattle.cf_model.specs.Store.{Held, remote_step}
+use Rattle.cf_model.specs.State.{Filter, Link, State, Volatile, Volume, in_volume, with_filter}
 use Rattle.cf_model.specs.Trees.{Keeps, Ret}
-use Rattle.cf_model.specs.Waits.{Need, all_down, begin_now, begun, own_id, with_own}
+use Rattle.cf_model.specs.Waits.{all_down, begin_now, begun, own_id, with_own}
 use Rattle.cf_model.proofs.ArrowLaws.{keeps_each, keeps_one, keeps_then}
 use Rattle.cf_model.proofs.TreeLaws.{keeps_bind}
 use Rattle.cf_laws.specs.Fitting.{Fits, NoEntry}
@@ -39,7 +35,7 @@ use Rattle.cf_laws.proofs.Gathered.{all_filter, all_weaker}
 use Rattle.cf_laws.proofs.Guarded.{Guarded, GuardedFilter}
 use Rattle.cf_laws.proofs.Leading.{kept_leads}
 use Rattle.cf_laws.proofs.OnceLaws.{later}
-use Rattle.cf_laws.proofs.RightItems.{no_way}
+use Rattle.cf_laws.proofs.RightItems.{fits_meets, no_way}
 use Rattle.cf_laws.proofs.SkipsGuarded.{keeps_both}
 use Rattle.cf_laws.proofs.SoundChanges.{KeepsEntries, same_entries}
 use Rattle.cf_laws.proofs.SoundFilters.{change_leads}
@@ -62,7 +58,7 @@ frame_put Used id R k es l tokens f c x v is keeps fit h = by is where
   now = (
     λ u fair. let g = h.0 u fair in (
       more_items id.0 x.volume.next_item.0 (next_by c) g.0,
-      kind_stays l.remote x c _ id x.volume.next_item.0 refl g.0 R k (fit fair) g.1,
+      kind_stays l.remote x c _ id x.volume.next_item.0 refl g.0 R k (fits_meets l.remote x c (fit fair)) g.1,
       subst (λ (qs : List QueueEntry). NoEntry qs id) (sym (keeps (book_after c x.volume.book) ∙ same_entries c x.volume.book)) g.2,
     ),
     h.1,

@@ -1,8 +1,8 @@
 -- What a property must be kept by, to be kept by the whole machine in `replay`: each step that is not made of others, with
 -- what it meets.
-use Rattle.std.specs.Prelude.{ℕ, Bool, true, false, List, Option, Some, None, ◌≡◌, ◌++◌, ◌∷◌, []}
-use Rattle.cf_base.specs.declared.answers.Shown.{Shown}
+use Rattle.std.specs.Prelude.{ℕ, Bool, true, false, List, Option, Some, ◌≡◌, ◌∷◌}
 use Rattle.cf_base.specs.declared.changes.Change.{Change}
+use Rattle.cf_base.specs.declared.changes.Change.TheVariants as change
 use Rattle.cf_base.specs.declared.codes.Code.{Code}
 use Rattle.cf_base.specs.declared.ids.Handle.{Handle}
 use Rattle.cf_base.specs.declared.ids.ItemId.{ItemId}
@@ -18,6 +18,7 @@ use Rattle.cf_model.specs.Books.{Book, QueueEntry, with_entry, without_entry}
 use Rattle.cf_model.specs.Callbacks.{begin_call, with_outbox}
 use Rattle.cf_model.specs.Calls.{with_handle, with_policy}
 use Rattle.cf_model.specs.Changes.{change_with, next_number}
+use Rattle.cf_model.specs.Dehydration.{in_use}
 use Rattle.cf_model.specs.EngineEvents.{with_inline}
 use Rattle.cf_model.specs.Feeds.{all_released, with_clock_seen}
 use Rattle.cf_model.specs.Messages.{counted, distrusted, fault_line, with_lost, with_message, with_remote}
@@ -100,6 +101,10 @@ pub record Guarded (P : State → Type 0) : Type 0 where
   pub keeps_with_stray : (x1 : Reply) → (s : State) → P s → P (with_stray x1 s)
   pub keeps_with_token_used : (s : State) → P s → P (with_token_used s)
   pub keeps_without_done : (s : State) → P s → P (without_done s)
+
+-- and by a removal that an application asks for
+pub record Deleting (P : State → Type 0) : Type 0 where
+  pub deletes : (f : Book → Book) (item : ItemId) (s : State) → KeepsEntries f → in_use item s.filter ≡ false → P s → Keeps (λ x. P (with_filter x s)) (change_with f (change.Remove item) s.filter)
 
 -- and by an upload that is entered
 pub record Entering (P : State → Type 0) : Type 0 where

@@ -1,10 +1,10 @@
 -- Files of which all bytes are here, or one is not.
-use Rattle.std.proofs.Common.{◌≡◌, ◌+◌, ◌-◌, ℕ, zero, suc, Bool, true, false, List, [], ◌∷◌, ◌++◌, refl, sym, ◌∙◌, ap, subst, length}
+use Rattle.std.proofs.Common.{◌≡◌, ◌+◌, ◌-◌, ℕ, zero, suc, Bool, true, false, List, [], ◌∷◌, ◌++◌, refl, ap, length}
 use Rattle.std.specs.Prelude.{Option, Some, None, is_some, take, drop, replicate, map, cond, ◌&&◌}
 use Rattle.std.specs.List.{list_all}
 use Rattle.cf_base.specs.declared.ids.Usn.{Usn}
 use Rattle.cf_model.specs.Contents.{up_to}
-use Rattle.cf_model.specs.Effects.{emptied, filled, filled_front}
+use Rattle.cf_model.specs.Effects.{filled, filled_front}
 use Rattle.cf_model.specs.Numbers.{above}
 use Rattle.cf_model.specs.Overlay.{Written, padded, patched, resized}
 use Rattle.cf_model.specs.Words.{by_place}

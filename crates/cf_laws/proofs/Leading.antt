@@ -1,5 +1,5 @@
 -- What holds of the states and results of a tree.
-use Rattle.std.proofs.Common.{◌≡◌, ℕ, zero, suc, Bool, true, false, List, [], ◌∷◌}
+use Rattle.std.proofs.Common.{ℕ, zero, suc, Bool, true, false, List, [], ◌∷◌}
 use Rattle.std.specs.Prelude.{Option, Some, None}
 use Rattle.cf_model.specs.Trees.{AsItKeeps, Asked, Choices, Fork, Keeps, Ret, Step, Telling, Tree, bind, mapped, play, walk}
 

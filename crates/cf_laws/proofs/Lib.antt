@@ -1,3 +1,4 @@
+pub mod BesideGuarded
 pub mod CallsGuarded
 pub mod DehydrationGuarded
 pub mod DehydrationLaws
@@ -6,6 +7,9 @@ pub mod CallbacksGuarded
 pub mod FeedEntriesGuarded
 pub mod FeedsGuarded
 pub mod FetchingGuarded
+pub mod ListedLocals
+pub mod LocalLaws
+pub mod LocalSteps
 pub mod LoggedGuarded
 pub mod MessagesGuarded
 pub mod FitAsks
@@ -17,6 +21,9 @@ pub mod FramesGuarded
 pub mod Gathered
 pub mod Guarded
 pub mod HeldBytes
+pub mod HeldLocals
+pub mod Heirs
+pub mod KeptLocals
 pub mod Leading
 pub mod OnceLaws
 pub mod OpeningLaws
@@ -36,8 +43,10 @@ pub mod SoundFilters
 pub mod SoundLinks
 pub mod SoundSettles
 pub mod SoundStates
+pub mod SparedBytes
 pub mod StepsGuarded
 pub mod UploadsGuarded
+pub mod UseLaws
 pub mod WaitsGuarded
 pub mod PassesGuarded
 pub mod SpaceGuarded

@@ -1,226 +1,244 @@
 -- The changes of a run are right where they are made, in `replay`.
-use Rattle.std.proofs.Common.{◌≡◌, ◌⊎◌, ◌+◌, ℕ, zero, suc, Bool, true, false, List, [], ◌∷◌, ◌++◌, refl, sym, ◌∙◌, ap, subst, inl, inr, take}
-use Rattle.std.specs.Prelude.{map}
+use Rattle.std.proofs.Common.{◌≡◌, ◌⊎◌, ◌<◌, ℕ, zero, suc, false, List, [], ◌∷◌, ◌++◌, refl, sym, ◌∙◌, ap, subst, inl, inr, take, arith}
+use Rattle.std.specs.Prelude.{map, length, Option, Some, None}
+use Rattle.std.proofs.lemmas.List.{append-nil, append_assoc}
 use Rattle.cf_base.specs.declared.answers.Answer.{Answer}
-use Rattle.cf_base.specs.declared.answers.Shown.TheVariants as shown
 use Rattle.cf_base.specs.declared.changes.Change.{Change}
 use Rattle.cf_base.specs.declared.changes.Change.TheVariants as change
-use Rattle.cf_base.specs.declared.codes.Code.{Code}
 use Rattle.cf_base.specs.declared.events.Event.{Event}
 use Rattle.cf_base.specs.declared.policies.Mode.TheVariants as mode
 use Rattle.cf_base.specs.declared.ids.ItemId.{ItemId}
 use Rattle.cf_base.specs.declared.ids.Usn.{Usn}
-use Rattle.cf_base.specs.declared.waits.Cause.TheVariants as cause
-use Rattle.cf_model.specs.Arrows.{then_do, reading}
-use Rattle.cf_model.specs.Books.{Book}
-use Rattle.cf_model.specs.Changes.{change_with, next_number, put_with_book}
-use Rattle.cf_model.specs.Contents.{StaysBy, base_named}
-use Rattle.cf_model.specs.Effects.{effect, later_than, rebased}
+use Rattle.cf_base.specs.declared.items.Pin.{Pin}
+use Rattle.cf_model.specs.Changes.{next_number}
+use Rattle.cf_model.specs.Contents.{IsTrueTo, RisesFrom, StaysBy, base_named, laid}
+use Rattle.cf_model.specs.Effects.{copied, effect, later_than, untargeted}
+use Rattle.cf_model.specs.Given.{AllBelow}
 use Rattle.cf_model.specs.Growth.{Extends}
-use Rattle.cf_model.specs.Identities.{base_bytes, content}
-use Rattle.cf_model.specs.Items.{Item, root, writes_of}
+use Rattle.cf_model.specs.Identities.{base_bytes, content, is_untargeted}
+use Rattle.cf_model.specs.Items.{Item, item_of, pin_of, writes_of}
 use Rattle.cf_model.specs.Lawful.{Runs}
-use Rattle.cf_model.specs.Logs.{after_changes}
-use Rattle.cf_model.specs.Operations.{done}
+use Rattle.cf_model.specs.Logs.{after_changes, items_of, next_of}
+use Rattle.cf_model.specs.Numbers.{no_usn, usn_after}
 use Rattle.cf_model.specs.Overlay.{Written, over}
-use Rattle.cf_model.specs.Points.{commit, with_room_point}
-use Rattle.cf_model.specs.Settling.{is_access, settle, told_at}
-use Rattle.cf_model.specs.Skips.{skip_line}
 use Rattle.cf_model.specs.Soundness.{Each}
-use Rattle.cf_model.specs.State.{Filter, Link, State, Volume, in_volume, start, with_filter}
-use Rattle.cf_model.specs.Store.{Held, remote_step}
-use Rattle.cf_model.specs.Trees.{Keeps, Ret}
-use Rattle.cf_model.specs.Settling.{tell}
-use Rattle.cf_model.specs.Waits.{all_down, begin_now, begun, own_id, with_own}
-use Rattle.cf_model.proofs.StoreLaws.{step_extends}
-use Rattle.cf_model.proofs.TreeLaws.{keeps_bind}
-use Rattle.cf_laws.specs.Fitting.{Fits, NamesWell}
-use Rattle.cf_laws.specs.Invariant.{All, HasBase, Invariant, IsRight, IsSound}
+use Rattle.cf_model.specs.State.{Filter, Link, State, start}
+use Rattle.cf_model.specs.Store.{Held}
+use Rattle.cf_model.proofs.ContentItems.{copied-true, untargeted-base}
+use Rattle.cf_model.proofs.GivenLaws.{all_below_next, all_below_opened}
+use Rattle.cf_model.proofs.Laying.{laid-length}
+use Rattle.cf_laws.specs.Fitting.{IsCopied, Meets, NamesWell}
+use Rattle.cf_laws.specs.History.{HasMet, IsConvertible, IsCopyable, IsInOrder, IsMarkable, IsMeasured, IsRebasable}
+use Rattle.cf_laws.specs.Invariant.{All, HasBase, InOrder, Invariant, IsRight, IsSound, SameBase, put_bytes}
 use Rattle.cf_laws.specs.Logged.{AreChangesRight, EachMade, IsChangeRight}
 use Rattle.cf_laws.specs.Premises.{IsFair, IsFresh}
+use Rattle.cf_laws.proofs.BesideGuarded.{Beside, BesideRuns, Fact, Holds, HoldsAfter, HoldsIn, whole_beside}
 use Rattle.cf_laws.proofs.ContentLaws.{sound_whole, start_sound}
-use Rattle.cf_laws.proofs.EventsGuarded.{Whole, runs_keep}
-use Rattle.cf_laws.proofs.FitContents.{rebase_leaves}
-use Rattle.cf_laws.proofs.FramesGuarded.{access_frame, tell_frame}
+use Rattle.cf_laws.proofs.EventsGuarded.{runs_keep}
+use Rattle.cf_laws.proofs.FitContents.{rebase_leaves, rebase_takes_in}
 use Rattle.cf_laws.proofs.Gathered.{each_all, each_both, each_weaker}
-use Rattle.cf_laws.proofs.Guarded.{Entering, Guarded, GuardedFilter}
-use Rattle.cf_laws.proofs.Leading.{kept_leads}
-use Rattle.cf_laws.proofs.RightItems.{no_way}
-use Rattle.cf_laws.proofs.SkipsGuarded.{keeps_both}
-use Rattle.cf_laws.proofs.SoundChanges.{KeepsEntries}
-use Rattle.cf_laws.proofs.SoundFilters.{change_leads}
+use Rattle.cf_laws.proofs.RightItems.{all_under, fits_meets, same_based, same_named, untargeted_same}
+use Rattle.cf_laws.proofs.SoundSettles.{found_below}
 use Rattle.cf_laws.proofs.SoundLinks.{base_stays, based_still}
-use Rattle.cf_laws.proofs.SoundStates.{small_before}
 
 -- logs
 
-made_more : (C : List Item → Change → Type 0) (items : List Item) (cs : List (Usn × Change)) (n : Usn) (c : Change) → EachMade C items cs → C (after_changes items cs) c → EachMade C items (cs ++ (n, c) ∷ [])
-made_more C items [] n c h k = (k, tt)
-made_more C items (d ∷ cs) n c h k = (h.0, made_more C (effect items d.1 d.0) cs n c h.1 k)
+-- the items and the next id of a longer log
 
-made_front : (C : List Item → Change → Type 0) (items : List Item) (k : ℕ) (cs : List (Usn × Change)) → EachMade C items cs → EachMade C items (take k cs)
-made_front C items zero cs h = tt
-made_front C items (suc k) [] h = tt
-made_front C items (suc k) (c ∷ cs) h = (h.0, made_front C (effect items c.1 c.0) k cs h.1)
+pub items_more : (items : List Item) (log : List (Usn × Change)) (n : Usn) (c : Change) → after_changes items (log ++ (n, c) ∷ []) ≡ effect (after_changes items log) c n
+items_more items [] n c = refl
+items_more items (d ∷ log) n c = items_more (effect items d.1 d.0) log n c
 
-made_weaker : (C D : List Item → Change → Type 0) → ((items : List Item) (c : Change) → C items c → D items c) → (items : List Item) (cs : List (Usn × Change)) → EachMade C items cs → EachMade D items cs
-made_weaker C D k items [] h = tt
-made_weaker C D k items (c ∷ cs) h = (k items c.1 h.0, made_weaker C D k (effect items c.1 c.0) cs h.1)
+pub made_more : (C : List (Usn × Change) → Usn → Change → Type 0) (front cs : List (Usn × Change)) (n : Usn) (c : Change) → EachMade C front cs → C (front ++ cs) n c → EachMade C front (cs ++ (n, c) ∷ [])
+made_more C front [] n c h k = (subst (λ (l : List (Usn × Change)). C l n c) (append-nil front) k, tt)
+made_more C front (d ∷ cs) n c h k = (h.0, made_more C (front ++ d ∷ []) cs n c h.1 (subst (λ (l : List (Usn × Change)). C l n c) (sym (append_assoc front (d ∷ []) cs)) k))
 
--- a change that fits is right
+made_front : (C : List (Usn × Change) → Usn → Change → Type 0) (front : List (Usn × Change)) (k : ℕ) (cs : List (Usn × Change)) → EachMade C front cs → EachMade C front (take k cs)
+made_front C front zero cs h = tt
+made_front C front (suc k) [] h = tt
+made_front C front (suc k) (c ∷ cs) h = (h.0, made_front C (front ++ c ∷ []) k cs h.1)
 
-abbrev Leaves : Held → List ℕ → ℕ → Usn → Item → Type 0
-Leaves r identity len at i = i.directory ≡ false → HasBase r identity × HasBase r i.identity × (content r (rebased identity len at i) ≡ content r i)
+pub made_weaker : (C D : List (Usn × Change) → Usn → Change → Type 0) → ((front : List (Usn × Change)) (n : Usn) (c : Change) → C front n c → D front n c) → (front cs : List (Usn × Change)) → EachMade C front cs → EachMade D front cs
+made_weaker C D k front [] h = tt
+made_weaker C D k front (c ∷ cs) h = (k front c.0 c.1 h.0, made_weaker C D k (front ++ c ∷ []) cs h.1)
 
-change_right : (r : Held) (x : Filter) (n : Usn) (c : Change) → Fits r x c → ((id : ItemId) → Each id (IsRight r n) x.volume.items) → All (IsRight r n) x.volume.items → IsChangeRight r x.volume.items c
-change_right r x n (change.Mark item number) fit each all =
-    each_both item (λ i. (i.writes ≡ []) × (number ≡ i.number)) (IsRight r n) (λ i. (number ≡ i.number) × (i.writes ≡ []) × HasBase r i.identity) (λ i k right. (k.1, k.0, right.based)) x.volume.items fit (each item)
-change_right r x n (change.Rebase item identity len at) fit each all =
-    each_both item (λ i. i.directory ≡ false → StaysBy (base_bytes r i) (base_named r identity) (later_than at i.writes) i) (λ i. HasBase r identity × HasBase r i.identity) (Leaves r identity len at)
-    (λ i stays based d. (based.0, based.1, (stays d).0)) x.volume.items (rebase_leaves r x item identity len at n fit all)
-    (each_both item (λ i. NamesWell r i.directory i.placeholder identity) (IsRight r n) (λ i. HasBase r identity × HasBase r i.identity) (λ i well right. (well.based, right.based)) x.volume.items fit.0 (each item))
-change_right r x n (change.Make item parent name k size identity) fit each all = tt
-change_right r x n (change.Remove item) fit each all = tt
-change_right r x n (change.Move item parent name) fit each all = tt
-change_right r x n (change.Write item at bytes) fit each all = tt
-change_right r x n (change.Size item size) fit each all = tt
-change_right r x n (change.Filled item start bytes) fit each all = tt
-change_right r x n (change.Validated item start len) fit each all = tt
-change_right r x n (change.Emptied item start len) fit each all = tt
-change_right r x n (change.SetPin item pin) fit each all = tt
-change_right r x n (change.Clear item) fit each all = tt
-change_right r x n (change.Convert item identity) fit each all = tt
-change_right r x n (change.Revert item) fit each all = tt
-change_right r x n (change.Take item identity size) fit each all = tt
-change_right r x n (change.Copy item from parent name) fit each all = tt
-change_right r x n (change.Populated item) fit each all = tt
-change_right r x n (change.Keep item on) fit each all = tt
+-- a change that fits meets this
 
-right_grows : (r s : Held) → Extends r s → (items : List Item) (c : Change) → IsChangeRight r items c → IsChangeRight s items c
-right_grows r s x items (change.Mark item number) h =
-    each_weaker item (λ i. (number ≡ i.number) × (i.writes ≡ []) × HasBase r i.identity) (λ i. (number ≡ i.number) × (i.writes ≡ []) × HasBase s i.identity) (λ i k. (k.0, k.1, based_still r s i.identity x k.2)) items h
-right_grows r s x items (change.Rebase item identity len at) h =
-    each_weaker item (Leaves r identity len at) (Leaves s identity len at)
+new_none : (id : ItemId) (next : ℕ) (items : List Item) → next ≡ id.0 → InOrder 0 next items → item_of items id ≡ None
+new_none id next items same order = by (item_of items id) refl where
+  apart : (a b : ℕ) → a < b → b ≡ a → ⊥
+  apart a b h e = omega (arith, h, e)
+
+  by : (o : Option Item) → item_of items id ≡ o → o ≡ None
+  by None e = refl
+  by (Some i) e = absurd (apart id.0 next (found_below id 0 next items i order e) same)
+
+copy_content : (r : Held) (item parent : ItemId) (name : List ℕ) (n : Usn) (pin : Pin) (i : Item) → IsTrueTo r i → content r (copied item parent name pin n i) ≡ content r i
+copy_content r item parent name n pin i h = copied-true r item parent name pin n i h ∙ ap (λ (b : List ℕ). laid i.held b) (untargeted-base r i.identity) ∙ sym h
+
+ids_below : (low next : ℕ) (items : List Item) → InOrder low next items → (low < next) × All (λ i. i.id.0 < next) items
+ids_below low next [] h = (h, tt)
+ids_below low next (i ∷ is) h = let g = ids_below i.id.0 next is h.1 in (least low i.id.0 next h.0 g.0, (g.0, g.1)) where
+  least : (a b c : ℕ) → a < b → b < c → a < c
+  least a b c h k = omega (arith, h, k)
+
+measured : (r : Held) (next : ℕ) (n : Usn) (i : Item) → i.id.0 < next → IsRight r n i → (i.directory ≡ false → IsTrueTo r i) → IsMeasured r next n i
+measured r next n i low right h = (low, all_under n i.number i.writes right.early right.last, λ d. (right.based, ap (λ (b : List ℕ). length b) (h d) ∙ laid-length i.held (base_bytes r i)))
+
+met : (r : Held) (x : Filter) (n : Usn) (c : Change) (front : List (Usn × Change)) → x.volume.items ≡ items_of front → x.volume.next_item.0 ≡ next_of front → x.volume.log ≡ front → InOrder 0 x.volume.next_item.0 x.volume.items → Meets r x c → ((id : ItemId) → Each id (λ i. i.directory ≡ false → IsTrueTo r i) x.volume.items) → All (IsRight r n) x.volume.items → HasMet r front n c
+met r x n c front is next log order fit truly right = by c fit where
+  at : (id : ItemId) → Each id (IsRight r n) x.volume.items
+  at id = each_all id (IsRight r n) (IsRight r n) (λ i k. k) x.volume.items right
+
+  there : (id : ItemId) (P : Item → Type 0) → Each id P x.volume.items → Each id P (items_of front)
+  there id P h = subst (λ (items : List Item). Each id P items) is h
+
+  measures : (id : ItemId) → Each id (IsMeasured r (next_of front) n) (items_of front)
+  measures id =
+      there id (IsMeasured r (next_of front) n) (each_both id (λ i. i.id.0 < next_of front) (λ i. IsRight r n i × (i.directory ≡ false → IsTrueTo r i)) (IsMeasured r (next_of front) n) (λ i low k. measured r (next_of front) n i low k.0 k.1) x.volume.items
+      (each_all id (λ i. i.id.0 < next_of front) (λ i. i.id.0 < next_of front) (λ i k. k) x.volume.items (ids_below 0 (next_of front) x.volume.items (subst (λ (m : ℕ). InOrder 0 m x.volume.items) next order)).1)
+      (each_both id (IsRight r n) (λ i. i.directory ≡ false → IsTrueTo r i) (λ i. IsRight r n i × (i.directory ≡ false → IsTrueTo r i)) (λ i k h. (k, h)) x.volume.items (at id) (truly id)))
+
+  by : (c : Change) → Meets r x c → HasMet r front n c
+  by (change.Make item parent name k size identity) fit = fit.0 ∙ next
+  by (change.Remove item) fit = tt
+  by (change.Move item parent name) fit = tt
+  by (change.Write item off bytes) fit = measures item
+  by (change.Size item size) fit = measures item
+  by (change.Filled item start bytes) fit = tt
+  by (change.Validated item start len) fit = tt
+  by (change.Emptied item start len) fit = tt
+  by (change.SetPin item pin) fit = tt
+  by (change.Mark item number) fit = there item (IsMarkable r number) (each_both item (λ i. (i.writes ≡ []) × (number ≡ i.number) × (is_untargeted i ≡ false)) (IsRight r n) (IsMarkable r number) (λ i k right. (k.1, k.0, k.2, right.based)) x.volume.items fit (at item))
+  by (change.Clear item) fit = tt
+  by (change.Convert item identity) fit =
+      there item (IsConvertible r identity) (each_both item (λ i. SameBase identity i.identity) (IsRight r n) (IsConvertible r identity) (λ i k right. (right.based, same_based r identity i.identity k right.based, same_named r identity i.identity k)) x.volume.items fit (at item))
+  by (change.Revert item) fit = fit
+  by (change.Rebase item identity len number) fit =
+      there item (IsRebasable r identity len number)
+      (each_both item (λ i. i.directory ≡ false → (base_named r identity ≡ put_bytes (base_bytes r i) number i.writes) × StaysBy (base_bytes r i) (base_named r identity) (later_than number i.writes) i) (λ i. HasBase r identity × HasBase r i.identity × RisesFrom no_usn i.writes) (IsRebasable r identity len number)
+      (λ i stays based d. (based.0, based.1, (stays d).0, (stays d).1.0, based.2)) x.volume.items
+      (each_both item (λ i. i.directory ≡ false → base_named r identity ≡ put_bytes (base_bytes r i) number i.writes) (λ i. i.directory ≡ false → StaysBy (base_bytes r i) (base_named r identity) (later_than number i.writes) i)
+      (λ i. i.directory ≡ false → (base_named r identity ≡ put_bytes (base_bytes r i) number i.writes) × StaysBy (base_bytes r i) (base_named r identity) (later_than number i.writes) i) (λ i a b d. (a d, b d)) x.volume.items
+      (rebase_takes_in r x item identity len number n fit right) (rebase_leaves r x item identity len number n fit right))
+      (each_both item (λ i. NamesWell r i.directory i.placeholder identity) (IsRight r n) (λ i. HasBase r identity × HasBase r i.identity × RisesFrom no_usn i.writes) (λ i well right. (well.based, right.based, right.rises)) x.volume.items fit.0 (at item)))
+  by (change.Take item identity size) fit = elim fit.3 as (λ _. Each item (λ i. i.writes ≡ []) (items_of front) ⊎ IsCopied front item) [ inl k ↦ inl (there item (λ i. i.writes ≡ []) k) | inr k ↦ inr (subst (λ (l : List (Usn × Change)). IsCopied l item) log k) ]
+  by (change.Copy item from parent name) fit =
+      (fit ∙ next, subst (λ (items : List Item). item_of items item ≡ None) is (new_none item x.volume.next_item.0 x.volume.items (sym fit) order), there from (IsCopyable r item parent name n) (each_both from (IsRight r n) (λ i. i.directory ≡ false → IsTrueTo r i) (IsCopyable r item parent name n) (λ i right h d. (right.based, λ pin. copy_content r item parent name n pin i (h d))) x.volume.items (at from) (truly from)))
+  by (change.Populated item) fit = tt
+  by (change.Keep item on) fit = tt
+
+-- what was met stays so where the remote grows
+
+content_grows : (r s : Held) → Extends r s → (i : Item) → HasBase r i.identity → content s i ≡ content r i
+content_grows r s x i h = ap (λ (b : List ℕ). over b (writes_of i)) (base_stays r s i.identity x h)
+
+measured_grows : (r s : Held) → Extends r s → (next : ℕ) (n : Usn) (i : Item) → IsMeasured r next n i → IsMeasured s next n i
+measured_grows r s x next n i h = (h.0, h.1, λ d. let g = h.2 d in (based_still r s i.identity x g.0, ap (λ (b : List ℕ). length b) (content_grows r s x i g.0) ∙ g.1))
+
+met_grows : (r s : Held) → Extends r s → (front : List (Usn × Change)) (n : Usn) (c : Change) → HasMet r front n c → HasMet s front n c
+met_grows r s x front n (change.Make item parent name k size identity) h = h
+met_grows r s x front n (change.Remove item) h = tt
+met_grows r s x front n (change.Move item parent name) h = tt
+met_grows r s x front n (change.Write item at bytes) h = each_weaker item (IsMeasured r (next_of front) n) (IsMeasured s (next_of front) n) (measured_grows r s x (next_of front) n) (items_of front) h
+met_grows r s x front n (change.Size item size) h = each_weaker item (IsMeasured r (next_of front) n) (IsMeasured s (next_of front) n) (measured_grows r s x (next_of front) n) (items_of front) h
+met_grows r s x front n (change.Filled item start bytes) h = tt
+met_grows r s x front n (change.Validated item start len) h = tt
+met_grows r s x front n (change.Emptied item start len) h = tt
+met_grows r s x front n (change.SetPin item pin) h = tt
+met_grows r s x front n (change.Mark item number) h = each_weaker item (IsMarkable r number) (IsMarkable s number) (λ i k. (k.0, k.1, k.2, based_still r s i.identity x k.3)) (items_of front) h
+met_grows r s x front n (change.Clear item) h = tt
+met_grows r s x front n (change.Convert item identity) h =
+    each_weaker item (IsConvertible r identity) (IsConvertible s identity) (λ i k. (based_still r s i.identity x k.0, based_still r s identity x k.1, base_stays r s identity x k.1 ∙ k.2 ∙ sym (base_stays r s i.identity x k.0))) (items_of front) h
+met_grows r s x front n (change.Revert item) h = h
+met_grows r s x front n (change.Rebase item identity len at) h =
+    each_weaker item (IsRebasable r identity len at) (IsRebasable s identity len at)
     (λ i k d. let g = k d in (
       based_still r s identity x g.0,
       based_still r s i.identity x g.1,
-      ap (λ (b : List ℕ). over b (map (λ (w : Written). w.write) (later_than at i.writes))) (base_stays r s identity x g.0) ∙ g.2 ∙ ap (λ (b : List ℕ). over b (writes_of i)) (sym (base_stays r s i.identity x g.1)),
-    )) items h
-right_grows r s x items (change.Make item parent name k size identity) h = tt
-right_grows r s x items (change.Remove item) h = tt
-right_grows r s x items (change.Move item parent name) h = tt
-right_grows r s x items (change.Write item at bytes) h = tt
-right_grows r s x items (change.Size item size) h = tt
-right_grows r s x items (change.Filled item start bytes) h = tt
-right_grows r s x items (change.Validated item start len) h = tt
-right_grows r s x items (change.Emptied item start len) h = tt
-right_grows r s x items (change.SetPin item pin) h = tt
-right_grows r s x items (change.Clear item) h = tt
-right_grows r s x items (change.Convert item identity) h = tt
-right_grows r s x items (change.Revert item) h = tt
-right_grows r s x items (change.Take item identity size) h = tt
-right_grows r s x items (change.Copy item from parent name) h = tt
-right_grows r s x items (change.Populated item) h = tt
-right_grows r s x items (change.Keep item on) h = tt
+      base_stays r s identity x g.0 ∙ g.2 ∙ ap (λ (b : List ℕ). put_bytes b at i.writes) (sym (base_stays r s i.identity x g.1)),
+      ap (λ (b : List ℕ). over b (map (λ (w : Written). w.write) (later_than at i.writes))) (base_stays r s identity x g.0) ∙ g.3 ∙ sym (content_grows r s x i g.1),
+      g.4,
+    )) (items_of front) h
+met_grows r s x front n (change.Take item identity size) h = h
+met_grows r s x front n (change.Copy item from parent name) h = (
+  h.0,
+  h.1,
+  each_weaker from (IsCopyable r item parent name n) (IsCopyable s item parent name n)
+      (λ i k d. let g = k d in (based_still r s i.identity x g.0, λ pin. content_grows r s x (copied item parent name pin n i) (same_based r (untargeted i.identity) i.identity (untargeted_same i.identity) g.0) ∙ g.1 pin ∙ sym (content_grows r s x i g.0))) (items_of front) h.2,
+)
+met_grows r s x front n (change.Populated item) h = tt
+met_grows r s x front n (change.Keep item on) h = tt
+
+order_grows : (r s : Held) → Extends r s → (front : List (Usn × Change)) (n : Usn) (c : Change) → IsInOrder r front n c → IsInOrder s front n c
+order_grows r s x front n c h = (h.0, met_grows r s x front n c h.1)
 
 -- beside a log
 
-abbrev Logged : Link → Volume → Type 0
-Logged l v = IsFair l → EachMade (IsChangeRight l.remote) (root ∷ []) v.log
+abbrev pub Logged : Fact
+Logged l e p log hs hn ws wn = AllBelow (usn_after e p) log × (IsFair l → EachMade (IsInOrder l.remote) [] log)
 
-logged_put : (l : Link) (tokens : ℕ) (f : Book → Book) (c : Change) (x : Filter) (v : Volume) → (v ≡ x.volume) ⊎ (v ≡ with_room_point x.volume) → (IsFair l → IsSound l tokens x) → (IsFair l → Fits l.remote x c) → Logged l x.volume → Logged l (put_with_book f c v)
-logged_put l tokens f c x v is sound fit h = by is where
-  now : Logged l (put_with_book f c x.volume)
-  now fair =
-      made_more (IsChangeRight l.remote) (root ∷ []) x.volume.log (next_number x.volume) c (h fair)
-      (subst (λ (items : List Item). IsChangeRight l.remote items c) (sound fair).of_log.0
-      (change_right l.remote x (next_number x.volume) c (fit fair) (λ id. each_all id (IsRight l.remote (next_number x.volume)) (IsRight l.remote (next_number x.volume)) (λ i k. k) x.volume.items (sound fair).now.right) (sound fair).now.right))
+logged_put : (l : Link) (tokens : ℕ) (c : Change) (x : Filter) → (IsFair l → IsSound l tokens x) → (IsFair l → Meets l.remote x c) → Holds Logged l x → HoldsAfter Logged l c x
+logged_put l tokens c x sound fit h = (
+  all_below_next x.volume c h.0,
+  λ fair. made_more (IsInOrder l.remote) [] x.volume.log (next_number x.volume) c (h.1 fair) (
+    h.0,
+    met l.remote x (next_number x.volume) c x.volume.log (sound fair).of_log.0 (sound fair).of_log.1 refl (sound fair).now.order (fit fair)
+        (λ id. each_all id (λ i. i.directory ≡ false → IsTrueTo l.remote i) (λ i. i.directory ≡ false → IsTrueTo l.remote i) (λ i k. k) x.volume.items (sound fair).now.contents) (sound fair).now.right,
+  ),
+)
 
-  by : (v ≡ x.volume) ⊎ (v ≡ with_room_point x.volume) → Logged l (put_with_book f c v)
-  by (inl e) = subst (λ (w : Volume). Logged l (put_with_book f c w)) (sym e) now
-  by (inr e) = subst (λ (w : Volume). Logged l (put_with_book f c w)) (sym e) now
-
-abbrev InLog : Link → Filter → Type 0
-InLog l x = Logged l x.volume
-
-logged_change : (l : Link) (tokens : ℕ) (f : Book → Book) (c : Change) (x : Filter) → (IsFair l → IsSound l tokens x) → (IsFair l → Fits l.remote x c) → InLog l x → Keeps (InLog l) (change_with f c x)
-logged_change l tokens f c x sound fit h = kept_leads (InLog l) (change_with f c x) (change_leads (InLog l) (InLog l) f c x h h h (λ v is. logged_put l tokens f c x v is sound fit h))
-
-logged_book : (l : Link) (v : Volume) (b : Book) → b.entries ≡ v.book.entries → Logged l v → Logged l (record v { book = b })
-logged_book l v b e h = h
-
-filter_logged : (l : Link) (tokens : ℕ) (P : Filter → Type 0) → GuardedFilter l tokens P → GuardedFilter l tokens (λ x. P x × InLog l x)
-filter_logged l tokens P closed = record {
-  sound = λ x h fair. closed.sound x h.0 fair;
-  change = λ f c x keeps free fit h. keeps_both P (InLog l) (change_with f c x) (closed.change f c x keeps free fit h.0) (logged_change l tokens f c x (closed.sound x h.0) fit h.1);
-  touch = λ f c item d x keeps on fit h. keeps_both P (InLog l) (then_do (change_with f c) (then_do (settle item d) done) x) (closed.touch f c item d x keeps on fit h.0)
-      (keeps_bind (InLog l) (change_with f c x) (λ _ t. then_do (settle item d) done t) (logged_change l tokens f c x (closed.sound x h.0) fit h.1) (λ a t j. keeps_bind (InLog l) (settle item d t) (λ _ y. done y) (tell_frame (Logged l) (logged_book l) (told_at item d t) t j) (λ b y m. m)));
-  commits = record { keeps = λ x h. keeps_both P (InLog l) (in_volume commit x) (closed.commits.keeps x h.0) (h.1, h.1) };
-  settled = λ item d. record { keeps = λ x h. keeps_both P (InLog l) (settle item d x) ((closed.settled item d).keeps x h.0) (tell_frame (Logged l) (logged_book l) (told_at item d x) x h.1) };
-  begins = λ n. record { keeps = λ x h. keeps_both P (InLog l) (reading (begun n) (begin_now n) x) ((closed.begins n).keeps x h.0) (keeps_bind (InLog l) (tell (begun n x) (with_own n x)) (λ _ t. Ret (shown.Pending (own_id n x)) t) (tell_frame (Logged l) (logged_book l) (begun n x) (with_own n x) h.1) (λ a t j. j)) };
-  downs = record { keeps = λ x h. keeps_both P (InLog l) (reading all_down tell x) (closed.downs.keeps x h.0) (tell_frame (Logged l) (logged_book l) (all_down x) x h.1) };
-  keeps_accessed = λ item x h. (closed.keeps_accessed item x h.0, h.1);
-  keeps_accessed_now = λ n x h. (closed.keeps_accessed_now n x h.0, access_frame (Logged l) (logged_book l) n.item (is_access n.kind cause.Met) x h.1);
-  keeps_as_it_is = λ x h. (closed.keeps_as_it_is x h.0, h.1);
-  keeps_begin_call = λ x h. (closed.keeps_begin_call x h.0, h.1);
-  keeps_connected_again = λ x h. (closed.keeps_connected_again x h.0, h.1);
-  keeps_disconnected = λ x h. (closed.keeps_disconnected x h.0, h.1);
-  keeps_with_handle = λ item x h. (closed.keeps_with_handle item x h.0, h.1);
-  keeps_with_policy = λ p v x h. (closed.keeps_with_policy p v x h.0, h.1);
-  keeps_with_time = λ n x h. (closed.keeps_with_time n x h.0, h.1);
-  keeps_without_handle = λ handle x h. (closed.keeps_without_handle handle x h.0, h.1);
+logged_beside : Beside Logged
+logged_beside = record {
+  puts = λ l tokens c x sound fit h. logged_put l tokens c x sound (λ fair. fits_meets l.remote x c (fit fair)) h;
+  ends = λ l e p log hs hn ws wn stays h. h;
+  begins = λ l tokens n x sound h. h;
+  opens = λ l item x h. h;
+  closes = λ l e p log hs hn ws wn stays h. h;
+  stops = λ l e p log hs hn ws wn h. h;
+  grows = λ l k e p log hs hn ws wn fair h. (h.0, λ z. made_weaker (IsInOrder l.remote) (IsInOrder k.remote) (order_grows l.remote k.remote (fair z).1) [] log (h.1 (fair z).0));
 }
 
-logged_line : (b : Bool) (c : Code) (s : State) → AreChangesRight s → AreChangesRight (skip_line b c s)
-logged_line true c s h = h
-logged_line false c s h = h
+abbrev pub IsLogged : State → Type 0
+IsLogged s = HoldsIn Logged s
 
-guarded_logged : (P : State → Type 0) → Guarded P → Guarded (λ s. P s × AreChangesRight s)
-guarded_logged P closed = record {
-  replay = λ s h. closed.replay s h.0;
-  on_filter = λ s h. filter_logged s.link s.volatile.tokens (λ x. P (with_filter x s)) (closed.on_filter s h.0);
-  keeps_counted = λ s h. (closed.keeps_counted s h.0, h.1);
-  asked = λ q s well h. (
-    closed.asked q s well h.0,
-    λ fair. made_weaker (IsChangeRight s.link.remote) (IsChangeRight (remote_step s.link.remote q).1) (right_grows s.link.remote (remote_step s.link.remote q).1 (step_extends s.link.remote q)) (root ∷ []) s.filter.volume.log
-        (h.1 (fair.0, small_before s.link.remote q fair.1)),
+pub logged_runs : BesideRuns Logged
+logged_runs = record {
+  beside = logged_beside;
+  removes = λ l tokens item x sound idle h. (
+    all_below_next x.volume (change.Remove item) h.0,
+    λ fair. made_more (IsInOrder l.remote) [] x.volume.log (next_number x.volume) (change.Remove item) (h.1 fair) (h.0, tt),
   );
-  told = λ held s h. (closed.told held s h.0, λ fair. no_way fair.0);
-  posts = λ f s well h. (closed.posts f s well h.0, h.1);
-  loses = λ f s h. (closed.loses f s h.0, h.1);
-  books = λ f s keeps h. (closed.books f s keeps h.0, h.1);
-  leaves = λ token s h. (closed.leaves token s h.0, h.1);
-  keeps_fault_line = λ m s h. (closed.keeps_fault_line m s h.0, h.1);
-  keeps_showing = λ s h. (closed.keeps_showing s h.0, h.1);
-  keeps_skipped = λ c s h. (closed.keeps_skipped c s h.0, logged_line s.running.shows_skips c (record s { running = record s.running { skips = s.running.skips + 1 } }) h.1);
-  keeps_volatile_all_released = λ s h. (closed.keeps_volatile_all_released s h.0, h.1);
-  keeps_volatile_held_and_closed = λ e s h. (closed.keeps_volatile_held_and_closed e s h.0, h.1);
-  keeps_volatile_not_in_row = λ e s h. (closed.keeps_volatile_not_in_row e s h.0, h.1);
-  keeps_volatile_taken_from_row = λ e s h. (closed.keeps_volatile_taken_from_row e s h.0, h.1);
-  keeps_volatile_with_not_empty = λ n s h. (closed.keeps_volatile_with_not_empty n s h.0, h.1);
-  keeps_volatile_with_round = λ s h. (closed.keeps_volatile_with_round s h.0, h.1);
-  keeps_volatile_with_taken_name = λ item s h. (closed.keeps_volatile_with_taken_name item s h.0, h.1);
-  keeps_volatile_with_token = λ s h. (closed.keeps_volatile_with_token s h.0, h.1);
-  keeps_with_clock_seen = λ clock s h. (closed.keeps_with_clock_seen clock s h.0, h.1);
-  keeps_with_done = λ s h. (closed.keeps_with_done s h.0, h.1);
-  keeps_with_inline = λ inline s h. (closed.keeps_with_inline inline s h.0, h.1);
-  keeps_with_outbox = λ a rest s e h. (closed.keeps_with_outbox a rest s e h.0, h.1);
-  keeps_with_stray = λ r s h. (closed.keeps_with_stray r s h.0, h.1);
-  keeps_with_token_used = λ s h. (closed.keeps_with_token_used s h.0, h.1);
-  keeps_without_done = λ s h. (closed.keeps_without_done s h.0, h.1);
+  crashes = λ l e p log hs hn ws wn h. h;
+  opens = λ l p epoch v hs hn ws wn more h. (all_below_opened v p epoch more h.0, λ fair. made_front (IsInOrder l.remote) [] p.count v.log (h.1 fair));
 }
 
-whole_logged : (P : State → Type 0) → Whole P → Whole (λ s. P s × AreChangesRight s)
-whole_logged P whole = record {
-  closed = guarded_logged P whole.closed;
-  entering = record { enters = λ e s well h. (whole.entering.enters e s well h.0, h.1) };
-  begins = λ s h. (whole.begins s h.0, h.1);
-  breaks = λ s h. (whole.breaks s h.0, h.1);
-  crashes = λ s h. (whole.crashes s h.0, h.1);
-  fails = λ s h. (whole.fails s h.0, h.1);
-  opens = λ p skipped s is h. (whole.opens p skipped s is h.0, λ fair. made_front (IsChangeRight s.link.remote) (root ∷ []) p.count s.filter.volume.log (h.1 fair));
-}
+pub run_logged : (remote : Held) (clusters : ℕ) (trace : List (Event × Answer)) (s : State) → Runs mode.Replay (start mode.Replay remote clusters) trace s → IsFresh remote → IsLogged s
+run_logged remote clusters trace s runs fresh =
+    (runs_keep (λ t. Invariant t × IsLogged t) (whole_beside Logged logged_runs Invariant sound_whole) (start mode.Replay remote clusters) trace s runs (start_sound remote clusters fresh, (tt, λ fair. tt))).1
+
+-- the law
+
+change_right : (r : Held) (front : List (Usn × Change)) (n : Usn) (c : Change) → IsInOrder r front n c → IsChangeRight r front n c
+change_right r front n (change.Mark item number) h = h.1
+change_right r front n (change.Rebase item identity len at) h = each_weaker item (IsRebasable r identity len at) _ (λ i k d. let g = k d in (g.0, g.2, g.3)) (items_of front) h.1
+change_right r front n (change.Take item identity size) h = h.1
+change_right r front n (change.Copy item from parent name) h = each_weaker from (IsCopyable r item parent name n) _ (λ i k d. (k d).1 (pin_of (items_of front) parent)) (items_of front) h.1.2
+change_right r front n (change.Make item parent name k size identity) h = tt
+change_right r front n (change.Remove item) h = tt
+change_right r front n (change.Move item parent name) h = tt
+change_right r front n (change.Write item at bytes) h = tt
+change_right r front n (change.Size item size) h = tt
+change_right r front n (change.Filled item start bytes) h = tt
+change_right r front n (change.Validated item start len) h = tt
+change_right r front n (change.Emptied item start len) h = tt
+change_right r front n (change.SetPin item pin) h = tt
+change_right r front n (change.Clear item) h = tt
+change_right r front n (change.Convert item identity) h = tt
+change_right r front n (change.Revert item) h = tt
+change_right r front n (change.Populated item) h = tt
+change_right r front n (change.Keep item on) h = tt
 
 pub changes_right : (remote : Held) (clusters : ℕ) (trace : List (Event × Answer)) (s : State) → Runs mode.Replay (start mode.Replay remote clusters) trace s → IsFresh remote → AreChangesRight s
-changes_right remote clusters trace s runs fresh =
-    (runs_keep (λ t. Invariant t × AreChangesRight t) (whole_logged Invariant sound_whole) (start mode.Replay remote clusters) trace s runs (start_sound remote clusters fresh, λ fair. tt)).1
+changes_right remote clusters trace s runs fresh fair =
+    made_weaker (IsInOrder s.link.remote) (IsChangeRight s.link.remote) (change_right s.link.remote) [] s.filter.volume.log ((run_logged remote clusters trace s runs fresh).1 fair)

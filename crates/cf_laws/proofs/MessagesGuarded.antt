@@ -1,7 +1,7 @@
 -- Messages, and what their replies do, in `replay`.
-use Rattle.std.proofs.Common.{◌≡◌, ◌⊎◌, ◌<◌, ◌≤◌, ◌+◌, ℕ, zero, suc, Bool, true, false, List, [], ◌∷◌, ◌++◌, refl, sym, ◌∙◌, ap, subst, inl, inr, arith, length}
-use Rattle.std.specs.Prelude.{Option, Some, None, cond, not, is_some, map, take, drop, unwrap_or, slice_get, nat_le, nat_lt, find, ◌&&◌, ◌||◌, ◌==◌}
-use Rattle.std.specs.List.{list_all, list_any}
+use Rattle.std.proofs.Common.{◌≡◌, ◌+◌, ℕ, zero, suc, Bool, true, false, List, [], ◌∷◌, ◌++◌, refl, sym, ◌∙◌, ap, subst, arith, length}
+use Rattle.std.specs.Prelude.{Option, Some, None, cond, not, take, drop, unwrap_or, slice_get, nat_le, nat_lt, ◌&&◌, ◌||◌, ◌==◌}
+use Rattle.std.specs.List.{list_all}
 use Rattle.std.proofs.lemmas.Bool.{eqb-true}
 use Rattle.std.proofs.lemmas.List.{length-append}
 use Rattle.cf_base.specs.declared.ids.ItemId.{ItemId}
@@ -17,14 +17,13 @@ use Rattle.cf_base.specs.declared.messages.Request.{Request}
 use Rattle.cf_base.specs.declared.messages.Request.TheVariants as request
 use Rattle.cf_base.specs.declared.notices.Frame.{Frame}
 use Rattle.cf_base.specs.declared.notices.Frame.TheVariants as frame
-use Rattle.cf_model.specs.Arrows.{Preserves, ret, seq, unit}
+use Rattle.cf_model.specs.Arrows.{Preserves}
 use Rattle.cf_model.specs.Books.{Action, MakeDir, MoveItem, PutFile, QueueEntry, RemoveItem, entry_of}
-use Rattle.cf_model.specs.Fits.{Known, are_distinct, are_entries, fits, is_entry, is_listing, is_of_kind, push_fits}
-use Rattle.cf_model.specs.Growth.{Extends}
+use Rattle.cf_model.specs.Fits.{Known, are_distinct, are_entries, fits, is_entry, is_of_kind}
 use Rattle.cf_model.specs.Identities.{base_bytes}
 use Rattle.cf_model.specs.Items.{Item}
 use Rattle.cf_model.specs.Logs.{items_of}
-use Rattle.cf_model.specs.Messages.{act_on, act_unless, after_ask, after_post, answered, ask, come, come_if, come_now, counted, distrusted, entry_live, failed, fault_line, if_kept, is_inline, is_latest_round, is_old, is_stale, known_now, message_at, no_bytes, no_number, post, post_by, post_unless, send_now, settled_rid, take_if_any, take_reply, was_kept, with_entry, with_lost, with_message, with_remote}
+use Rattle.cf_model.specs.Messages.{act_on, act_unless, after_ask, after_post, answered, ask, come, come_if, come_now, counted, distrusted, entry_live, fault_line, if_kept, is_latest_round, is_old, is_stale, known_now, no_bytes, no_number, post_by, post_unless, send_now, settled_rid, take_if_any, take_reply, with_entry, with_lost, with_message, with_remote}
 use Rattle.cf_model.specs.Numbers.{same_key}
 use Rattle.cf_model.specs.PushReplies.{take_done, take_refused, take_void}
 use Rattle.cf_model.specs.Requests.{Live, is_fetch, live_of}
@@ -32,10 +31,9 @@ use Rattle.cf_model.specs.Soundness.{Each}
 use Rattle.cf_model.specs.State.{Link, State, book_now, items_now}
 use Rattle.cf_model.specs.Store.{Held, RecordedDone, bytes_of, recorded_at, remote_step}
 use Rattle.cf_model.specs.Texts.{is_name}
-use Rattle.cf_model.specs.Trees.{AsItKeeps, Faults, Keeps, Telling, Tells, Tree, Ret, bind}
+use Rattle.cf_model.specs.Trees.{AsItKeeps, Faults, Keeps, Telling, Tells, bind}
 use Rattle.cf_model.specs.Words.{is_empty, part}
 use Rattle.cf_model.proofs.StoreLaws.{step_extends}
-use Rattle.cf_model.proofs.TreeLaws.{keeps_bind}
 use Rattle.cf_laws.specs.GivenOnce.{WasGiven}
 use Rattle.cf_laws.specs.Invariant.{All, Carries, HasEntry, IsGivenIn, IsLiveRight, IsMessageRight, IsSound, Names, OfRequest, TellsBytes, TellsTruth, message_in, put_bytes}
 use Rattle.cf_laws.specs.Premises.{IsFair}
@@ -49,7 +47,7 @@ use Rattle.cf_laws.proofs.Leading.{Leads, kept_leads, leads_bind, leads_kept}
 use Rattle.cf_laws.proofs.PushRepliesGuarded as replies
 use Rattle.cf_laws.proofs.RemoteSteps.{HasToken, same_token, still_bytes, tells_bytes, tells_truth}
 use Rattle.cf_laws.proofs.RightItems.{no_way, no_way_back}
-use Rattle.cf_laws.proofs.SoundLinks.{AskedWell, CarriesBy, FrameCarries, message_longer}
+use Rattle.cf_laws.proofs.SoundLinks.{CarriesBy, FrameCarries, message_longer}
 use Rattle.cf_laws.proofs.SoundSettles.{left_true, not_false, right_true}
 use Rattle.cf_laws.proofs.SoundStates.{small_before}
 

@@ -8,7 +8,6 @@ use Rattle.cf_base.specs.declared.events.Event.{Event}
 use Rattle.cf_base.specs.declared.ids.Key.{Key}
 use Rattle.cf_base.specs.declared.ids.Rid.{Rid}
 use Rattle.cf_base.specs.declared.ids.Token.{Token}
-use Rattle.cf_base.specs.declared.ids.Version.{Version}
 use Rattle.cf_base.specs.declared.messages.Reply.{Reply}
 use Rattle.cf_base.specs.declared.messages.Request.{Request}
 use Rattle.cf_base.specs.declared.messages.Request.TheVariants as request
@@ -21,7 +20,6 @@ use Rattle.cf_model.specs.Numbers.{key_after, no_version, root_rid, same_key}
 use Rattle.cf_model.specs.State.{State}
 use Rattle.cf_model.specs.Store.{Held, Mutation, Recorded, RecordedDone, RecordedVoid, Stored, as_recorded, at_rid, decide, latest, make_dir, move_to, mutate, put_new, put_version, recorded_at, remote_step, remove_at, trimmed, with_dead, with_new, with_place, with_token, with_version}
 use Rattle.cf_model.specs.Store as store
-use Rattle.cf_model.specs.Words.{part}
 use Rattle.cf_model.proofs.CountLaws.{runs_rise}
 use Rattle.cf_model.proofs.RemoteLaws.{runs_extend}
 use Rattle.cf_laws.specs.GivenOnce.{Asks, Changes, Handles, IsGiven, Numbered, Rounds, Uploads, Waits, WasGiven, count_of, messages_of, next_of, token_of, versions_made, versions_of}

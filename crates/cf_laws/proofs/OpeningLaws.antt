@@ -1,5 +1,5 @@
 -- What a restart opens, and what it keeps.
-use Rattle.std.proofs.Common.{◌≡◌, ◌⊎◌, ◌≤◌, ◌<◌, ℕ, zero, suc, Bool, true, false, List, [], ◌∷◌, ◌++◌, reverse, length, take, refl, sym, ◌∙◌, ap, subst, inl, inr, nat_lt, arith}
+use Rattle.std.proofs.Common.{◌≡◌, ◌⊎◌, ◌≤◌, ℕ, zero, suc, Bool, true, false, List, [], ◌∷◌, ◌++◌, reverse, length, take, refl, sym, ◌∙◌, ap, subst, inl, inr, nat_lt, arith}
 use Rattle.std.specs.Prelude.{Option, Some, None}
 use Rattle.std.proofs.lemmas.List.{reverse-append}
 use Rattle.cf_base.specs.declared.answers.Answer.{Answer}
@@ -15,13 +15,13 @@ use Rattle.cf_base.specs.declared.ids.Usn.{Usn}
 use Rattle.cf_base.specs.declared.policies.Mode.{Mode}
 use Rattle.cf_model.specs.Arrows.{Arrow, choose, noted, ret, then_do}
 use Rattle.cf_model.specs.Books.{opened_of}
-use Rattle.cf_model.specs.Events.{answer_in, begun, outcome, tree_of}
+use Rattle.cf_model.specs.Events.{begun, outcome, tree_of}
 use Rattle.cf_model.specs.Flushed.{AtLeast}
 use Rattle.cf_model.specs.Lawful.{IsStep, Runs}
 use Rattle.cf_model.specs.Numbers.{most}
 use Rattle.cf_model.specs.Points.{Opens}
-use Rattle.cf_model.specs.Restarts.{epoch_after, failed_open, more_epochs, one_of, open_point, open_points, open_skipping, open_volume, points_at, restart_by, resumed, with_opened}
-use Rattle.cf_model.specs.State.{Broken, Off, On, Point, Power, State, book_now}
+use Rattle.cf_model.specs.Restarts.{epoch_after, failed_open, more_epochs, one_of, open_point, open_points, open_skipping, points_at, restart_by, resumed, with_opened}
+use Rattle.cf_model.specs.State.{Broken, Off, On, Point, Power, State}
 use Rattle.cf_model.specs.Trees.{Ends, play}
 use Rattle.cf_model.proofs.FlushedLaws.{flushed_stays}
 use Rattle.cf_laws.specs.Openings.{IsKeptIn, IsOpened, restarting}

@@ -1,5 +1,5 @@
 -- What the parts of `Operations` keep in `replay`, each by what its own parts keep.
-use Rattle.std.specs.Prelude.{ℕ, Bool, List, [], ◌∷◌, length, Option, Some, None, cond, not, take, drop, map, ◌==◌, ◌||◌}
+use Rattle.std.specs.Prelude.{ℕ, Bool, List, [], ◌∷◌, length, Option, Some, None, cond, not, take, drop, map, ◌==◌}
 use Rattle.cf_base.specs.declared.changes.Change.{Change}
 use Rattle.cf_base.specs.declared.changes.Change.TheVariants as change
 use Rattle.cf_base.specs.declared.answers.Shown.{Shown}
@@ -11,19 +11,19 @@ use Rattle.cf_base.specs.declared.operations.Operation.{Operation}
 use Rattle.cf_base.specs.declared.operations.Operation.TheVariants as operation
 use Rattle.cf_base.specs.declared.spans.Span.{Span}
 use Rattle.cf_base.specs.declared.waits.Cause.TheVariants as cause
-use Rattle.cf_model.specs.Arrows.{Arrow, one, reading, ret, then_do, Preserves, unit}
-use Rattle.cf_model.specs.Requests.{Fails, Leaves, Live, Restarts, live_of, is_fetch}
+use Rattle.cf_model.specs.Arrows.{Arrow, ret, then_do, Preserves, unit}
+use Rattle.cf_model.specs.Requests.{Fails, Leaves, Live, live_of, is_fetch}
 use Rattle.cf_model.specs.Blocks.{blocks_of}
 use Rattle.cf_model.specs.Books.{Book}
 use Rattle.cf_model.specs.Changes.{change, changes, same_book, next_number}
-use Rattle.cf_model.specs.Items.{bytes_held, Item, item_of, pin_of, size_of}
+use Rattle.cf_model.specs.Items.{Item, item_of, pin_of, size_of}
 use Rattle.cf_model.specs.Settling.{settle}
 use Rattle.cf_model.specs.State.{Filter, Link}
-use Rattle.cf_model.specs.Words.{first_of, when, part}
-use Rattle.cf_model.specs.Operations.{ack, ack_change, ack_deed, ack_dehydrate, ack_tests, as_it_is, changes_listed, changes_with, checked, consent_by, consent_changes, consent_deed, consent_tests, done, entries, entries_by, entries_deed, entries_tests, execute, execute_with, held_in, key_of, live_at, on_ask, on_live, refuse, refuse_tests, restart, restart_by, restart_change, restart_tests, retrieve, retrieve_by, retrieve_tests, second_verdict, transfer, transfer_by, transfer_tests, entry_changes, entry_kind, list_changes, dehydration, in_use_beside}
+use Rattle.cf_model.specs.Words.{first_of, number_of, part}
+use Rattle.cf_model.specs.Operations.{ack_dehydrate, changes_with, checked, consent_by, consent_deed, consent_tests, done, entries, entries_deed, entries_tests, execute, execute_with, key_of, on_ask, on_live, refuse, refuse_tests, second_verdict, transfer, transfer_by, transfer_tests, entry_changes, entry_kind, list_changes, dehydration, in_use_beside}
 use Rattle.cf_laws.proofs.Guarded.{GuardedFilter}
-use Rattle.cf_model.proofs.ArrowLaws.{keeps_each, keeps_one, keeps_reading, keeps_ret, keeps_then, keeps_unless}
-use Rattle.std.proofs.Common.{◌≡◌, ◌⊎◌, ◌<◌, ◌≤◌, ◌+◌, ◌∷◌, ◌++◌, refl, sym, ◌∙◌, ap, subst, inl, inr, max, arith, List, [], ℕ, zero, suc, Bool, true, false}
+use Rattle.cf_model.proofs.ArrowLaws.{keeps_ret, keeps_then, keeps_unless}
+use Rattle.std.proofs.Common.{◌≡◌, ◌<◌, ◌≤◌, ◌+◌, ◌∷◌, ◌++◌, refl, sym, ◌∙◌, ap, subst, max, arith, List, [], ℕ, Bool, true, false}
 use Rattle.cf_base.specs.declared.ids.ItemId.{ItemId}
 use Rattle.cf_base.specs.declared.ids.Usn.{Usn}
 use Rattle.cf_base.specs.declared.ids.Key.{Key}
@@ -31,21 +31,21 @@ use Rattle.cf_base.specs.declared.items.Kind.TheVariants as kind
 use Rattle.cf_base.specs.declared.messages.Entry.{Entry}
 use Rattle.cf_base.specs.declared.policies.Policy.{Policy}
 use Rattle.cf_model.specs.Contents.{base_named}
-use Rattle.cf_model.specs.Effects.{effect, is_directory, is_placeholder, made, marked, size_made, writes_made}
+use Rattle.cf_model.specs.Effects.{is_directory, is_placeholder, made, size_made, writes_made}
 use Rattle.cf_model.specs.Fetching.{new_item_of}
-use Rattle.cf_model.specs.Identities.{base_bytes}
-use Rattle.cf_model.specs.Numbers.{usn_after}
-use Rattle.cf_model.specs.Plans.{is_full_population, placeholder_dir}
+use Rattle.cf_model.specs.Identities.{base_bytes, is_untargeted}
+use Rattle.cf_model.specs.Numbers.{root_rid, usn_after}
+use Rattle.cf_model.specs.Plans.{is_full_population}
 use Rattle.cf_model.specs.Soundness.{Each}
 use Rattle.cf_model.specs.Store.{Held}
 use Rattle.cf_model.specs.Trees.{Keeps}
 use Rattle.cf_model.specs.Verdicts.{is_bad_range, is_kept_full, is_pinned, verdict}
 use Rattle.cf_model.proofs.TreeLaws.{keeps_bind}
-use Rattle.cf_laws.specs.Fitting.{Fits, NamesWell}
+use Rattle.cf_laws.specs.Fitting.{NamesWell}
 use Rattle.cf_laws.specs.Invariant.{All, InOrder}
 use Rattle.cf_laws.specs.Premises.{IsFair}
 use Rattle.cf_laws.proofs.FitItems.{each_append}
-use Rattle.cf_laws.proofs.Plainly.{After, IsPlain, change_after, checked_at, head_false, keeps_led, plain_keeps, tail_none, tail_of}
+use Rattle.cf_laws.proofs.Plainly.{After, change_after, checked_at, head_false, keeps_led, tail_none, tail_of}
 use Rattle.cf_laws.proofs.RightItems.{no_way}
 use Rattle.cf_laws.proofs.SoundChanges.{KeepsEntries}
 use Rattle.cf_laws.proofs.SoundSettles.{each_found, not_false}
@@ -72,7 +72,7 @@ refuse_keeps l tokens P closed a asked status = checked_keeps l tokens P closed 
 
 -- what an entry of a directory needs
 abbrev pub NewFits : Held → Policy → NewItem → Type 0
-NewFits r p e = (length (base_named r e.identity) ≡ size_made (entry_kind p e.dir) (cond e.dir 0 e.size)) × NamesWell r (is_directory (entry_kind p e.dir)) (is_placeholder (entry_kind p e.dir)) e.identity
+NewFits r p e = (length (base_named r e.identity) ≡ size_made (entry_kind p e.dir) (cond e.dir 0 e.size)) × NamesWell r (is_directory (entry_kind p e.dir)) (is_placeholder (entry_kind p e.dir)) e.identity × ((number_of (take 8 e.identity) == 0) ≡ false)
 
 pub each_new : (id : ItemId) (P : Item → Type 0) (low next : ℕ) (items : List Item) → next ≡ id.0 → InOrder low next items → Each id P items
 each_new id P low next [] e h = tt
@@ -118,6 +118,13 @@ more_in : (P : Filter → Type 0) (f : Book → Book) (c d : Change) (cs : List 
 more_in P f c d [] x h = h
 more_in P f c d (e ∷ cs) x h = h
 
+abbrev IsUnmarked : Usn → Item → Type 0
+IsUnmarked n i = (i.writes ≡ []) × (n ≡ i.number) × (is_untargeted i ≡ false)
+
+targeted : (b : Bool) (identity : List ℕ) → (number_of (take 8 identity) == 0) ≡ false → ((cond b root_rid (record { 0 = number_of (take 8 identity) })).0 == 0) ≡ false
+targeted true identity h = refl
+targeted false identity h = h
+
 -- the changes of the entries, each as it comes, and then the last
 listing_in : (l : Link) (tokens : ℕ) (P : Filter → Type 0) → GuardedFilter l tokens P → (f : Book → Book) → KeepsEntries f → (p : Policy) (parent : ItemId) (es : List Entry) (item : ℕ) (n : Usn) (x : Filter)
     → (IsFair l → All (λ e. NewFits l.remote p (new_item_of e)) es) → (IsFair l → x.volume.next_item.0 ≡ item) → next_number x.volume ≡ n → P x
@@ -133,10 +140,10 @@ listing_in l tokens P closed f keeps p parent (e ∷ es) item n x fit next numbe
     more_in P f mark (change.Populated parent) (entry_changes p parent (item + 1) (record n { place = n.place + 2 }) (map new_item_of es)) t
     (keeps_led P (λ u y. After same_book mark t y) (change mark t) (λ _ y. changes_with f (entry_changes p parent (item + 1) (record n { place = n.place + 2 }) (map new_item_of es) ++ change.Populated parent ∷ []) y)
     (closed.change same_book mark t (λ b. refl) (λ id k. k)
-    (λ fair. subst (λ (is : List Item). Each (record { 0 = item }) (λ i. (i.writes ≡ []) × (n ≡ i.number)) is) (sym a.items)
-    (each_append (record { 0 = item }) (λ i. (i.writes ≡ []) × (n ≡ i.number)) x.volume.items (made (record { 0 = item }) parent q.name (entry_kind p q.dir) (cond q.dir 0 q.size) q.identity (pin_of x.volume.items parent) (next_number x.volume))
-    (each_new (record { 0 = item }) (λ i. (i.writes ≡ []) × (n ≡ i.number)) 0 x.volume.next_item.0 x.volume.items (next fair) (closed.sound x h fair).now.order)
-    (λ _. (clean_made p q.dir (next_number x.volume), sym number)))) j)
+    (λ fair. subst (λ (is : List Item). Each (record { 0 = item }) (IsUnmarked n) is) (sym a.items)
+    (each_append (record { 0 = item }) (IsUnmarked n) x.volume.items (made (record { 0 = item }) parent q.name (entry_kind p q.dir) (cond q.dir 0 q.size) q.identity (pin_of x.volume.items parent) (next_number x.volume))
+    (each_new (record { 0 = item }) (IsUnmarked n) 0 x.volume.next_item.0 x.volume.items (next fair) (closed.sound x h fair).now.order)
+    (λ _. (clean_made p q.dir (next_number x.volume), sym number, targeted (item == 1) q.identity (fit fair).0.2)))) j)
     (change_after same_book mark t)
     (λ v y k b. listing_in l tokens P closed f keeps p parent es (item + 1) (record n { place = n.place + 2 }) y (λ fair. (fit fair).1)
     (λ fair. next_kept y.volume.next_item.0 t.volume.next_item.0 (item + 1) b.next (a.next ∙ next_made x.volume.next_item.0 item (next fair)) (closed.sound t j fair).now.more)

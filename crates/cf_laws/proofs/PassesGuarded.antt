@@ -17,15 +17,12 @@ use Rattle.cf_model.specs.Skips.{with_volatile}
 use Rattle.cf_model.specs.State.{State, book_now, items_now}
 use Rattle.cf_model.specs.Trees.{Tree, Ret, Keeps}
 use Rattle.cf_laws.proofs.CallbacksGuarded as callbacks_keep
-use Rattle.cf_laws.proofs.MessagesGuarded as messages_keep
 use Rattle.cf_laws.proofs.PushesGuarded as pushes_keep
-use Rattle.cf_laws.proofs.StepsGuarded as skips_keep
-use Rattle.cf_model.specs.Passes.{arrive, arrive_frame, ask_feed, connected, deliver, deliver_frame, deliver_now, deliver_reply, deliver_unless, feed_if, feed_of, is_down, is_last, no_message, pass, pass_anew, passes, send_feed, settle_all, settle_entry, show_unsettled, showing, sync, sync_now, sync_passes, things, try_round, unless_down, unsettled, was_sent, why_no_round, with_round, without_done, work, work_now}
+use Rattle.cf_model.specs.Passes.{arrive, arrive_frame, ask_feed, connected, deliver, deliver_frame, deliver_now, deliver_reply, deliver_unless, feed_if, feed_of, is_down, is_last, pass, pass_anew, passes, send_feed, settle_all, settle_entry, show_unsettled, showing, sync, sync_now, sync_passes, things, try_round, unless_down, unsettled, was_sent, why_no_round, with_round, without_done, work, work_now}
 use Rattle.cf_laws.proofs.Guarded.{Guarded, Entering, PostedIn}
-use Rattle.cf_model.proofs.ArrowLaws.{keeps_choose, keeps_each, keeps_noted, keeps_one, keeps_reading, keeps_ret, keeps_seq, keeps_then}
+use Rattle.cf_model.proofs.ArrowLaws.{keeps_choose, keeps_noted, keeps_reading, keeps_ret, keeps_seq, keeps_then}
 use Rattle.cf_model.proofs.TreeLaws.{keeps_bind}
-use Rattle.std.proofs.Common.{◌≡◌, ◌⊎◌, ℕ, zero, suc, Bool, true, false, List, [], ◌∷◌, refl, sym, ◌∙◌, ap, subst}
-use Rattle.cf_base.specs.declared.ids.ItemId.{ItemId}
+use Rattle.std.proofs.Common.{◌≡◌, ℕ, zero, suc, Bool, true, false, List, [], ◌∷◌, refl, sym, ◌∙◌, subst}
 use Rattle.cf_base.specs.declared.ids.Round.{Round}
 use Rattle.cf_base.specs.declared.ids.Token.{Token}
 use Rattle.cf_base.specs.declared.messages.Request.{Request}

@@ -1,5 +1,5 @@
 -- What the parts of `Peers` keep in `replay`, each by what its own parts keep.
-use Rattle.std.specs.Prelude.{ℕ, Bool, true, List, [], Option, Some, None, ◌∷◌, ◌==◌, ◌&&◌}
+use Rattle.std.specs.Prelude.{ℕ, Bool, true, List, [], Option, Some, None, ◌∷◌, ◌==◌}
 use Rattle.cf_base.specs.declared.answers.Shown.{Shown}
 use Rattle.cf_base.specs.declared.answers.Shown.TheVariants as shown
 use Rattle.cf_base.specs.declared.codes.Code.{Code}
@@ -13,28 +13,25 @@ use Rattle.cf_base.specs.declared.messages.Reply.{Reply}
 use Rattle.cf_base.specs.declared.messages.Reply.TheVariants as reply
 use Rattle.cf_base.specs.declared.messages.Request.{Request}
 use Rattle.cf_base.specs.declared.messages.Request.TheVariants as request
-use Rattle.cf_model.specs.Arrows.{Arrow, noted, ret, seq, Preserves}
+use Rattle.cf_model.specs.Arrows.{Arrow, noted, ret, Preserves}
 use Rattle.cf_model.specs.LookUp.{bad_names, names_of}
 use Rattle.cf_model.specs.Messages.{ask}
-use Rattle.cf_model.specs.Numbers.{no_rid, no_version, key_after, no_key, same_key}
+use Rattle.cf_model.specs.Numbers.{no_rid, no_version, no_key, same_key}
 use Rattle.cf_model.specs.State.{State}
 use Rattle.cf_model.specs.Words.{but_last, last_of}
 use Rattle.cf_laws.proofs.MessagesGuarded as messages_keep
-use Rattle.cf_model.specs.Peers.{at_parent, at_path, at_place, below_root, code_of, failed, if_found, in_dir, is_fit, list_of, listing, look, make_at, move_at, named, on_answer, on_done, on_listing, peer_event, peer_token, put_at, put_over, refused, refused_by, remove_at, request_with, root_entry, send_request, stale, stat_at, unless_bad, with_entries, with_stray, with_token_used}
-use Rattle.cf_laws.proofs.Guarded.{Guarded, AskedIn}
+use Rattle.cf_model.specs.Peers.{at_parent, at_path, at_place, below_root, code_of, failed, if_found, in_dir, is_fit, list_of, listing, look, make_at, move_at, named, on_answer, on_done, on_listing, peer_event, peer_token, put_at, put_over, refused, refused_by, remove_at, request_with, root_entry, stale, stat_at, unless_bad, with_entries, with_stray, with_token_used}
+use Rattle.cf_laws.proofs.Guarded.{Guarded}
 use Rattle.cf_model.proofs.ArrowLaws.{keeps_choose, keeps_noted, keeps_ret, keeps_seq, keeps_then}
-use Rattle.std.proofs.Common.{◌≡◌, ◌⊎◌, ◌<◌, ◌≤◌, ◌∙◌, refl, sym, subst, inl, inr, arith, Bool, true, false, ℕ, ◌∷◌}
+use Rattle.std.proofs.Common.{◌≡◌, ◌<◌, ◌≤◌, ◌∙◌, refl, sym, inl, arith, Bool, true, false, ℕ, ◌∷◌}
 use Rattle.std.proofs.lemmas.Bool.{eqb-true}
 use Rattle.cf_base.specs.declared.ids.Key.{Key}
 use Rattle.cf_base.specs.declared.ids.Version.{Version}
-use Rattle.cf_model.specs.Trees.{Keeps}
 use Rattle.cf_model.proofs.TreeLaws.{keeps_bind}
 use Rattle.cf_laws.proofs.RightItems.{no_way}
 use Rattle.cf_laws.specs.GivenOnce.{WasGiven}
-use Rattle.cf_laws.specs.Invariant.{Carries, IsSound, OfRequest}
-use Rattle.cf_laws.specs.Premises.{IsFair}
+use Rattle.cf_laws.specs.Invariant.{Carries, IsSound}
 use Rattle.cf_laws.proofs.RemoteSteps.{HasToken}
-use Rattle.cf_laws.proofs.SoundLinks.{AskedWell}
 use Rattle.cf_laws.proofs.SoundSettles.{left_true}
 
 pub failed_keeps : (P : State → Type 0) → Guarded P → (x1 : Code) → Preserves P (failed x1)

@@ -1,40 +1,37 @@
 -- What the parts of `Placements` keep in `replay`, each by what its own parts keep.
-use Rattle.std.specs.Prelude.{ℕ, Bool, List, [], ◌∷◌, Option, Some, None, cond, not, length, is_some, ◌||◌}
+use Rattle.std.specs.Prelude.{ℕ, Bool, List, [], ◌∷◌, Option, Some, None, cond, not, length, is_some}
 use Rattle.cf_base.specs.declared.answers.Shown.{Shown}
 use Rattle.cf_base.specs.declared.answers.Shown.TheVariants as shown
 use Rattle.cf_base.specs.declared.changes.Change.{Change}
 use Rattle.cf_base.specs.declared.ids.ItemId.{ItemId}
-use Rattle.cf_base.specs.declared.ids.Usn.{Usn}
 use Rattle.cf_model.specs.Arrows.{Arrow, ret, then_do, unit, Preserves}
 use Rattle.cf_model.specs.Requests.{Nothing}
 use Rattle.cf_model.specs.Changes.{changes, same_book, change, change as put, next_number}
 use Rattle.cf_model.specs.Items.{Item}
 use Rattle.cf_model.specs.LookUp.{Place, child_of}
-use Rattle.cf_model.specs.Operations.{done, checked}
-use Rattle.cf_model.specs.Plans.{Creation, plan_convert, plan_keep, plan_mark, plan_unmark, NewDir, NewFile, make_and_mark, plan, planned}
+use Rattle.cf_model.specs.Operations.{done}
+use Rattle.cf_model.specs.Plans.{NewDir, NewFile, make_and_mark, plan, planned}
 use Rattle.cf_model.specs.State.{Filter, Link}
 use Rattle.cf_model.specs.Waits.{on_ok}
-use Rattle.cf_model.specs.Calls.{below_at, number_of, place_at, changing, room_tests}
-use Rattle.cf_laws.proofs.CallsGuarded as calls_keep
+use Rattle.cf_model.specs.Calls.{place_at, room_tests}
 use Rattle.cf_laws.proofs.OperationsGuarded as operations_keep
 use Rattle.cf_laws.proofs.WaitsGuarded as waits_keep
-use Rattle.cf_model.specs.Placements.{asking, asking_tests, convert, convert_item, create, create_at, keep_full, keep_item, make_planned, mark, mark_item, next_item, planned_at, planned_on, revert, revert_item, revert_plan, settle_changed, show_item, unmark, unmark_item, update, update_item, update_plan}
+use Rattle.cf_model.specs.Placements.{asking, asking_tests, create, create_at, keep_full, keep_item, make_planned, settle_changed}
 use Rattle.cf_laws.proofs.Guarded.{GuardedFilter}
-use Rattle.cf_model.proofs.ArrowLaws.{keeps_each, keeps_reading, keeps_ret, keeps_then}
-use Rattle.std.proofs.Common.{◌≡◌, ◌+◌, ◌∷◌, ◌++◌, refl, sym, ◌∙◌, ap, subst, inl, inr, List, [], ℕ, Bool, true, false}
+use Rattle.cf_model.proofs.ArrowLaws.{keeps_reading, keeps_ret, keeps_then}
+use Rattle.std.proofs.Common.{◌≡◌, ◌∷◌, refl, sym, ◌∙◌, ap, inl, List, [], ℕ, Bool, true, false}
 use Rattle.cf_base.specs.declared.changes.Change.TheVariants as change
 use Rattle.cf_base.specs.declared.codes.Code.{Code}
 use Rattle.cf_base.specs.declared.codes.Code.TheVariants as code
 use Rattle.cf_base.specs.declared.items.Kind.{Kind}
 use Rattle.cf_base.specs.declared.items.Kind.TheVariants as kind
-use Rattle.cf_model.specs.Contents.{base_named}
 use Rattle.cf_model.specs.Effects.{size_made}
 use Rattle.cf_model.specs.Store.{Held}
 use Rattle.cf_model.specs.Trees.{Keeps}
 use Rattle.cf_model.specs.Words.{first_of, when}
 use Rattle.cf_model.proofs.ContentItems.{no-identity}
 use Rattle.cf_model.proofs.TreeLaws.{keeps_bind}
-use Rattle.cf_laws.specs.Fitting.{Fits, NamesWell}
+use Rattle.cf_laws.specs.Fitting.{NamesWell}
 use Rattle.cf_laws.specs.Invariant.{All}
 use Rattle.cf_laws.proofs.Plainly.{IsPlain, checked_at, plains_keep}
 

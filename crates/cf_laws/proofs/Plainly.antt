@@ -6,16 +6,13 @@ use Rattle.cf_base.specs.declared.answers.Shown.TheVariants as shown
 use Rattle.cf_base.specs.declared.changes.Change.{Change}
 use Rattle.cf_base.specs.declared.codes.Code.{Code}
 use Rattle.cf_base.specs.declared.ids.ItemId.{ItemId}
-use Rattle.cf_base.specs.declared.ids.Usn.{Usn}
-use Rattle.cf_model.specs.Arrows.{Arrow, Preserves, each, then_do, unless}
-use Rattle.cf_model.specs.Books.{Book, QueueEntry}
+use Rattle.cf_model.specs.Arrows.{Arrow, Preserves, each, unless}
+use Rattle.cf_model.specs.Books.{Book}
 use Rattle.cf_model.specs.Changes.{change, change_with, changes, next_number, put_with_book, same_book}
 use Rattle.cf_model.specs.Effects.{effect}
 use Rattle.cf_model.specs.Logs.{next_by}
-use Rattle.cf_model.specs.Numbers.{usn_after}
 use Rattle.cf_model.specs.Operations.{checked}
 use Rattle.cf_model.specs.Points.{with_room_point}
-use Rattle.cf_model.specs.Requests.{Waiting}
 use Rattle.cf_model.specs.State.{Filter, Link, Volume, with_volume}
 use Rattle.cf_model.specs.Store.{Held}
 use Rattle.cf_model.specs.Trees.{Asked, Fork, Keeps, Ret, Step, Tree, bind}
@@ -78,6 +75,7 @@ tail_none (t ∷ ts) e = by t.0 e where
 -- what a change leaves
 pub record After (f : Book → Book) (c : Change) (x t : Filter) : Type 0 where
   pub items : t.volume.items ≡ effect x.volume.items c (next_number x.volume)
+  pub log : t.volume.log ≡ x.volume.log ++ (next_number x.volume, c) ∷ []
   pub next : t.volume.next_item.0 ≡ max x.volume.next_item.0 (next_by c)
   pub epoch : t.volume.epoch ≡ x.volume.epoch
   pub place : t.volume.place ≡ x.volume.place + 1
@@ -85,12 +83,13 @@ pub record After (f : Book → Book) (c : Change) (x t : Filter) : Type 0 where
   pub waiting : t.waiting ≡ x.waiting
 
 after_changed : (f : Book → Book) (c : Change) (x : Filter) (v : Volume) → (v ≡ x.volume) ⊎ (v ≡ with_room_point x.volume) → After f c x (with_volume (put_with_book f c v) x)
-after_changed f c x v (inl e) = subst (λ (w : Volume). After f c x (with_volume (put_with_book f c w) x)) (sym e) (record { items = refl; next = refl; epoch = refl; place = refl; entries = λ k. k _ ∙ same_entries c x.volume.book; waiting = refl })
-after_changed f c x v (inr e) = subst (λ (w : Volume). After f c x (with_volume (put_with_book f c w) x)) (sym e) (record { items = refl; next = refl; epoch = refl; place = refl; entries = λ k. k _ ∙ same_entries c x.volume.book; waiting = refl })
+after_changed f c x v (inl e) = subst (λ (w : Volume). After f c x (with_volume (put_with_book f c w) x)) (sym e) (record { items = refl; log = refl; next = refl; epoch = refl; place = refl; entries = λ k. k _ ∙ same_entries c x.volume.book; waiting = refl })
+after_changed f c x v (inr e) = subst (λ (w : Volume). After f c x (with_volume (put_with_book f c w) x)) (sym e) (record { items = refl; log = refl; next = refl; epoch = refl; place = refl; entries = λ k. k _ ∙ same_entries c x.volume.book; waiting = refl })
 
 noted_after : (f : Book → Book) (c : Change) (x y t : Filter) → t.volume ≡ y.volume → t.waiting ≡ y.waiting → After f c x y → After f c x t
 noted_after f c x y t e w h = record {
   items = ap (λ (v : Volume). v.items) e ∙ h.items;
+  log = ap (λ (v : Volume). v.log) e ∙ h.log;
   next = ap (λ (v : Volume). v.next_item.0) e ∙ h.next;
   epoch = ap (λ (v : Volume). v.epoch) e ∙ h.epoch;
   place = ap (λ (v : Volume). v.place) e ∙ h.place;

@@ -1,6 +1,5 @@
 -- What the parts of `PushReplies` keep in `replay`, each by what its own parts keep.
-use Rattle.std.specs.Prelude.{Bool, true, false, Option, Some, None, is_some, map, filter, not, cond, find, ◌==◌}
-use Rattle.cf_base.specs.declared.changes.Change.{Change}
+use Rattle.std.specs.Prelude.{Bool, true, false, Option, Some, None, is_some, filter, not, cond, find, ◌==◌}
 use Rattle.cf_base.specs.declared.codes.Code.{Code}
 use Rattle.cf_base.specs.declared.codes.Code.TheVariants as code
 use Rattle.cf_base.specs.declared.ids.Rid.{Rid}
@@ -9,7 +8,7 @@ use Rattle.cf_base.specs.declared.messages.Why.{Why}
 use Rattle.cf_base.specs.declared.messages.Why.TheVariants as why
 use Rattle.cf_model.specs.Arrows.{and_then, only_if, reading, seq, then_do, unit, Preserves}
 use Rattle.cf_model.specs.Books.{Action, MakeDir, MoveItem, PutFile, QueueEntry, RemoveItem, with_cursor, with_tombstone, without_entry, without_tombstone, entry_of}
-use Rattle.cf_model.specs.Items.{Item, item_of, size_of}
+use Rattle.cf_model.specs.Items.{Item, item_of}
 use Rattle.cf_model.specs.Skips.{do_change, in_book, in_volatile, is_cursor, skip, to_conflict, try_book, try_mark, try_seen, with_volatile, with_book}
 use Rattle.cf_model.specs.State.{State, book_now, items_now}
 use Rattle.cf_laws.proofs.StepsGuarded as skips_keep
@@ -20,24 +19,21 @@ use Rattle.std.proofs.Common.{◌≡◌, ◌⊎◌, ◌<◌, ℕ, List, [], ◌�
 use Rattle.std.specs.List.{list_all}
 use Rattle.std.proofs.lemmas.Bool.{eqb-true}
 use Rattle.cf_base.specs.declared.ids.ItemId.{ItemId}
-use Rattle.cf_base.specs.declared.ids.Token.{Token}
-use Rattle.cf_base.specs.declared.ids.Usn.{Usn}
 use Rattle.cf_model.specs.Contents.{base_named, up_to}
-use Rattle.cf_model.specs.Effects.{later_than}
 use Rattle.cf_model.specs.Identities.{base_bytes, identity_for, identity_of}
-use Rattle.cf_model.specs.Numbers.{no_usn, same_key}
+use Rattle.cf_model.specs.Numbers.{same_key}
 use Rattle.cf_model.specs.Soundness.{Each}
-use Rattle.cf_model.specs.Store.{Held, RecordedDone, bytes_of, recorded_at}
+use Rattle.cf_model.specs.Store.{RecordedDone, bytes_of, recorded_at}
 use Rattle.cf_model.specs.Trees.{Keeps}
 use Rattle.cf_model.proofs.TreeLaws.{keeps_bind}
-use Rattle.cf_laws.specs.Fitting.{Fits, NamesWell, NoEntry, RebasesWell}
+use Rattle.cf_laws.specs.Fitting.{Fits, NamesWell}
 use Rattle.cf_laws.specs.Invariant.{All, AreApart, EntryFits, FitsBy, InOrder, IsSound, PutFits, put_bytes}
 use Rattle.cf_laws.specs.Premises.{IsFair}
 use Rattle.cf_laws.proofs.EntryLaws.{dir_well, file_well, made_named, made_read}
 use Rattle.cf_laws.proofs.Gathered.{all_found}
-use Rattle.cf_laws.proofs.RightItems.{no_way, no_way_back}
-use Rattle.cf_laws.proofs.SkipsGuarded.{Whichever, guarded_skipping}
-use Rattle.cf_laws.proofs.SoundSettles.{each_found, found_below, same_item}
+use Rattle.cf_laws.proofs.RightItems.{no_way}
+use Rattle.cf_laws.proofs.SkipsGuarded.{guarded_skipping}
+use Rattle.cf_laws.proofs.SoundSettles.{each_found, same_item}
 
 pub end_entry_keeps : (P : State → Type 0) → Guarded P → (e : QueueEntry) → Preserves P (end_entry e)
 end_entry_keeps P closed e = keeps_one P (with_book (without_entry e.token)) (λ s h. closed.leaves e.token s h)

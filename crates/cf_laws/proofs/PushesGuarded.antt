@@ -1,39 +1,36 @@
 -- What the parts of `Pushes` keep in `replay`, each by what its own parts keep.
-use Rattle.std.specs.Prelude.{Bool, true, false, not, List, [], map, Option, Some, None, cond, is_some, ◌&&◌, ◌||◌, ◌==◌}
+use Rattle.std.specs.Prelude.{Bool, true, false, not, List, [], map, Option, Some, None, cond, is_some, ◌||◌, ◌==◌}
 use Rattle.cf_base.specs.declared.answers.Shown.{Shown}
 use Rattle.cf_base.specs.declared.answers.Shown.TheVariants as shown
 use Rattle.cf_base.specs.declared.changes.Change.TheVariants as change
 use Rattle.cf_base.specs.declared.codes.Code.TheVariants as code
 use Rattle.cf_base.specs.declared.ids.ItemId.{ItemId}
-use Rattle.cf_base.specs.declared.messages.Request.{Request}
-use Rattle.cf_model.specs.Arrows.{and_then, choose, each, one, only_if, reading, unit, Preserves, Arrow, ret}
-use Rattle.cf_model.specs.Books.{Action, MakeDir, MoveItem, PutFile, QueueEntry, Tombstone, with_entry, RemoveItem}
+use Rattle.cf_model.specs.Arrows.{choose, each, only_if, reading, unit, Preserves}
+use Rattle.cf_model.specs.Books.{MakeDir, MoveItem, PutFile, QueueEntry, Tombstone}
 use Rattle.cf_model.specs.Callbacks.{calling}
 use Rattle.cf_model.specs.Identities.{base_version, is_untargeted, no_identity, stands_at_seen, base_bytes, parent_target, target_of}
 use Rattle.cf_model.specs.Items.{Item, bytes_held, is_all_here, is_dirty, item_of}
 use Rattle.cf_model.specs.LookUp.{by_depth, is_excluded}
-use Rattle.cf_model.specs.Messages.{send}
 use Rattle.cf_model.specs.PushReplies.{whatever, has_item}
-use Rattle.cf_model.specs.Skips.{in_book, try_book, try_change, try_mark_now, with_volatile}
+use Rattle.cf_model.specs.Skips.{try_change, try_mark_now}
 use Rattle.cf_model.specs.State.{State, book_now, items_now, with_filter}
 use Rattle.cf_model.specs.Waits.{hydrate_file}
 use Rattle.cf_laws.proofs.CallbacksGuarded as callbacks_keep
-use Rattle.cf_laws.proofs.MessagesGuarded as messages_keep
 use Rattle.cf_laws.proofs.PushRepliesGuarded as push_replies_keep
 use Rattle.cf_laws.proofs.StepsGuarded as skips_keep
 use Rattle.cf_laws.proofs.WaitsGuarded as waits_keep
-use Rattle.cf_model.specs.Pushes.{after_hydrate, anchored, bury_unless, entry_by, hydrate_first, hydrate_if, hydrate_unless, is_hydrating, is_left_out, is_tombstone_left_out, item_now, mark_item, push, push_all, push_by_case, push_here, push_item, push_lists, push_removal, push_tombstone, push_turn, push_unless, put_file, put_if, put_whole, removal_entry, request_of, send_if, try_token, upload, upload_if, upload_new, upload_now, why_no_token, with_token, has_entry, placed, without_place, without_rid}
+use Rattle.cf_model.specs.Pushes.{after_hydrate, bury_unless, hydrate_first, hydrate_if, hydrate_unless, is_hydrating, is_left_out, is_tombstone_left_out, item_now, mark_item, push, push_all, push_by_case, push_here, push_item, push_lists, push_removal, push_tombstone, push_turn, push_unless, put_file, put_if, put_whole, removal_entry, request_of, upload, upload_if, upload_new, upload_now, has_entry, placed, without_place, without_rid}
 use Rattle.cf_laws.proofs.Guarded.{Guarded, Entering}
-use Rattle.cf_model.proofs.ArrowLaws.{keeps_and_then, keeps_choose, keeps_each, keeps_one, keeps_only_if, keeps_reading, keeps_ret, keeps_seq, keeps_then}
-use Rattle.std.proofs.Common.{◌≡◌, ◌⊎◌, ◌<◌, ◌≤◌, ◌+◌, ℕ, Bool, true, false, List, [], ◌∷◌, refl, sym, ◌∙◌, ap, subst, inl, inr, arith, take}
+use Rattle.cf_model.proofs.ArrowLaws.{keeps_each, keeps_reading, keeps_ret, keeps_seq, keeps_then}
+use Rattle.std.proofs.Common.{◌≡◌, ◌<◌, ◌≤◌, ℕ, Bool, true, false, List, [], ◌∷◌, refl, sym, ◌∙◌, ap, subst, arith, take}
 use Rattle.std.specs.List.{list_all, list_any}
 use Rattle.std.proofs.lemmas.Bool.Decides.{nat_tests}
 use Rattle.std.proofs.lemmas.Bool.{eqb-true}
 use Rattle.cf_base.specs.declared.ids.Usn.{Usn}
 use Rattle.cf_model.specs.Changes.{next_number}
-use Rattle.cf_model.specs.Contents.{IsTrueTo, laid, up_to}
+use Rattle.cf_model.specs.Contents.{IsTrueTo, up_to}
 use Rattle.cf_model.specs.Effects.{converted, effect}
-use Rattle.cf_model.specs.Numbers.{above, no_rid, root_rid}
+use Rattle.cf_model.specs.Numbers.{above, root_rid}
 use Rattle.cf_model.specs.Overlay.{Written, over}
 use Rattle.cf_model.specs.Soundness.{Each}
 use Rattle.cf_model.specs.Store.{Held}

@@ -1,8 +1,7 @@
 -- What a request leaves of tokens and versions, and what its reply tells.
 use Rattle.std.proofs.Common.{◌≡◌, ◌⊎◌, ◌<◌, ◌≤◌, ◌+◌, ◌-◌, ℕ, zero, suc, Bool, true, false, List, [], ◌∷◌, ◌++◌, refl, sym, ◌∙◌, ap, subst, inl, inr, arith, length, eq-eqb}
-use Rattle.std.specs.Prelude.{Option, Some, None, cond, map, filter, not, take, drop, unwrap_or, slice_get, slice_range, nat_le, nat_lt, find, ◌&&◌, ◌==◌}
+use Rattle.std.specs.Prelude.{Option, Some, None, cond, map, filter, not, take, drop, slice_get, slice_range, nat_le, nat_lt, ◌&&◌, ◌==◌}
 use Rattle.std.specs.List.{flat_map}
-use Rattle.cf_base.specs.declared.ids.Key.{Key}
 use Rattle.cf_base.specs.declared.ids.Rid.{Rid}
 use Rattle.cf_base.specs.declared.ids.Token.{Token}
 use Rattle.cf_base.specs.declared.ids.Version.{Version}
@@ -14,15 +13,15 @@ use Rattle.cf_base.specs.declared.messages.Request.TheVariants as request
 use Rattle.cf_base.specs.declared.messages.Why.{Why}
 use Rattle.cf_model.specs.Growth.{CountsFrom, Extends, IsCounted, NamesBytes}
 use Rattle.cf_model.specs.Numbers.{no_version, root_rid, same_key}
-use Rattle.cf_model.specs.Store.{Held, Mutation, Recorded, RecordedDone, RecordedVoid, Stored, as_recorded, bytes_of, bytes_told, decide, depth_of, entry_told, feed_of, is_held, is_live_dir, keep_last, latest, len_of, listing_of, make_dir, move_to, mutate, put_new, put_version, recorded_at, remote_step, remove_at, stored_at, trimmed, version_bytes, version_told, with_token}
+use Rattle.cf_model.specs.Store.{Held, Mutation, at_rid, with_dead, with_new, with_place, with_version, Recorded, RecordedDone, RecordedVoid, Stored, as_recorded, bytes_of, bytes_told, decide, depth_of, entry_told, feed_of, is_held, is_live_dir, keep_last, latest, len_of, listing_of, make_dir, move_to, mutate, put_new, put_version, recorded_at, remote_step, remove_at, stored_at, trimmed, version_bytes, version_told, with_token}
 use Rattle.cf_model.specs.Store as store
-use Rattle.cf_model.specs.Words.{comes_before, counting, last_of, part, sorted}
+use Rattle.std.proofs.lemmas.List.{length-append, length-map}
+use Rattle.cf_model.specs.Words.{comes_before, counting, last_of}
 use Rattle.cf_model.proofs.ReplyLaws.{put_names}
-use Rattle.cf_model.proofs.StoreLaws.{recorded-first, same_key-refl}
+use Rattle.cf_model.proofs.StoreLaws.{recorded-first}
 use Rattle.std.proofs.lemmas.Bool.{eqb-true}
-use Rattle.cf_laws.specs.Invariant.{All, AreAt, Carries, HasEntry, TellsBytes, TellsTruth}
-use Rattle.cf_laws.proofs.Gathered.{all_any, all_append, all_filter, all_flat, all_map, all_sorted, all_weaker}
-use Rattle.cf_laws.proofs.RightItems.{no_way, no_way_back}
+use Rattle.cf_laws.specs.Invariant.{All, Carries, HasEntry, TellsBytes, TellsTruth}
+use Rattle.cf_laws.proofs.Gathered.{all_append, all_both, all_filter, all_flat, all_map, all_sorted, all_weaker}
 use Rattle.cf_laws.proofs.SoundSettles.{left_true, right_true}
 
 none_some : {A : Type 0} {B : Type 0} (x : A) → ◌≡◌ {A = Option A} None (Some x) → B
@@ -178,15 +177,27 @@ all_found n (t ∷ ss) c = (
     by true q = let z : a ≡ b = eqb-true a b q in absurd (omega (arith, z, e, h))
     by false q = refl
 
-told_one : (held : Held) (s : Stored) → Found held.items s → HasEntry held (entry_told s)
-told_one held s found file = by (last_told s.versions) where
+all_under : (n : ℕ) (ss : List Stored) → CountsFrom n ss → All (λ s. s.rid.0 + 1 ≤ n + length ss) ss
+all_under n [] c = tt
+all_under n (s ∷ ss) c = (here s.rid.0 n (length ss) c.0, all_weaker (λ t. t.rid.0 + 1 ≤ n + 1 + length ss) (λ t. t.rid.0 + 1 ≤ n + suc (length ss)) (λ t k. there t.rid.0 n (length ss) k) ss (all_under (n + 1) ss c.1)) where
+  here : (a n k : ℕ) → a ≡ n → a + 1 ≤ n + suc k
+  here a n k e = omega (arith, e)
+
+  there : (a n k : ℕ) → a + 1 ≤ n + 1 + k → a + 1 ≤ n + suc k
+  there a n k h = omega (arith, h)
+
+told_one : (held : Held) (s : Stored) → Found held.items s → 1 ≤ s.rid.0 → s.rid.0 ≤ length held.items → HasEntry held (entry_told s)
+told_one held s found some below = (some, below, λ file. by (last_told s.versions)) where
   by : ((length s.versions ≡ 0) × (len_of s.versions ≡ 0)) ⊎ ((bytes : List ℕ) × (k : ℕ) × (length s.versions ≡ suc k) × (slice_get s.versions k ≡ Some bytes) × (length bytes ≡ len_of s.versions))
       → ((length s.versions ≡ 0) × (len_of s.versions ≡ 0)) ⊎ ((bytes : List ℕ) × (bytes_of held s.rid (record { 0 = latest s }) ≡ Some bytes) × (length bytes ≡ len_of s.versions))
   by (inl h) = inl h
   by (inr h) = inr (h.0, ap (λ (o : Option Stored). version_bytes o (length s.versions)) found ∙ ap (λ (n : ℕ). version_bytes (Some s) n) h.2 ∙ h.3, h.4)
 
 told_all : (held : Held) → IsCounted held → All (λ s. HasEntry held (entry_told s)) held.items
-told_all held c = all_weaker (λ s. (Found held.items s) × (1 ≤ s.rid.0)) (λ s. HasEntry held (entry_told s)) (λ s k. told_one held s k.0) held.items (all_found 1 held.items c)
+told_all held c =
+    all_both (λ s. (Found held.items s) × (1 ≤ s.rid.0)) (λ s. s.rid.0 + 1 ≤ 1 + length held.items) (λ s. HasEntry held (entry_told s)) (λ s k b. told_one held s k.0 k.1 (less s.rid.0 (length held.items) b)) held.items (all_found 1 held.items c) (all_under 1 held.items c) where
+      less : (a b : ℕ) → a + 1 ≤ 1 + b → a ≤ b
+      less a b h = omega (arith, h)
 
 feed_told : (held : Held) (after : ℕ) → IsCounted held → All (HasEntry held) (feed_of held after)
 feed_told held after c =
@@ -267,23 +278,81 @@ tells_bytes held (request.Remove t rid expect) = tt
 tells_bytes held (request.Settle t) = tt
 tells_bytes held (request.Keep t count) = tt
 
+-- no item is lost
+
+same_at : (rid : Rid) (f : Stored → Stored) (ss : List Stored) → length (at_rid rid f ss) ≡ length ss
+same_at rid f ss = length-map ss (λ s. cond (s.rid.0 == rid.0) (f s) s)
+
+decided_grow : (held : Held) (t : Token) (m : Mutation) (o : Option Recorded) → length held.items ≤ length m.items → length held.items ≤ length (mutate held t m o).1.items
+decided_grow held t m (Some d) h = same (length held.items) where
+  same : (n : ℕ) → n ≤ n
+  same n = omega arith
+decided_grow held t m None h = by m.refusal where
+  same : (n : ℕ) → n ≤ n
+  same n = omega arith
+
+  by : (w : Option Why) → length held.items ≤ length (decide held t m w).1.items
+  by (Some w) = same (length held.items)
+  by None = h
+
+pub items_grow : (held : Held) (q : Request) → length held.items ≤ length (remote_step held q).1.items
+items_grow held q = by q where
+  same : (n : ℕ) → n ≤ n
+  same n = omega arith
+
+  equal : (n m : ℕ) → m ≡ n → n ≤ m
+  equal n m e = omega (arith, e)
+
+  longer : (a b d : ℕ) → d ≡ a + b → a ≤ d
+  longer a b d e = omega (arith, e)
+
+  new : (parent : Rid) (name : List ℕ) (directory : Bool) (versions : List (List ℕ)) → length held.items ≤ length (with_new held parent name directory versions)
+  new parent name directory versions = longer (length held.items) 1 (length (with_new held parent name directory versions)) (length-append held.items _)
+
+  settled : (t : Token) (o : Option Recorded) → length held.items ≤ length (store.settle held t o).1.items
+  settled t (Some d) = same (length held.items)
+  settled t None = same (length held.items)
+
+  kept : (t : Token) (count : ℕ) (o : Option Recorded) → length held.items ≤ length (keep_last held t count o).1.items
+  kept t count (Some d) = same (length held.items)
+  kept t count None = equal (length held.items) (length (map (trimmed (Some count)) held.items)) (length-map held.items (trimmed (Some count)))
+
+  put : (t : Token) (rid : Rid) (expect : Version) (parent : Rid) (name bytes : List ℕ) (b : Bool)
+      → length held.items ≤ length (mutate held t (elim b as (λ _. Mutation) [ true ↦ put_new held parent name bytes | false ↦ put_version held rid expect bytes ]) (recorded_at held.tokens t)).1.items
+  put t rid expect parent name bytes true = decided_grow held t (put_new held parent name bytes) (recorded_at held.tokens t) (new parent name false (bytes ∷ []))
+  put t rid expect parent name bytes false = decided_grow held t (put_version held rid expect bytes) (recorded_at held.tokens t) (equal (length held.items) (length (with_version held rid bytes)) (same_at rid _ held.items))
+
+  by : (q : Request) → length held.items ≤ length (remote_step held q).1.items
+  by (request.Feed round after) = same (length held.items)
+  by (request.List key rid) = same (length held.items)
+  by (request.Fetch key rid version start len) = same (length held.items)
+  by (request.Put t rid expect parent name bytes) = put t rid expect parent name bytes (rid.0 == 0)
+  by (request.MakeDir t parent name) = decided_grow held t (make_dir held parent name) (recorded_at held.tokens t) (new parent name true [])
+  by (request.Move t rid parent name) = decided_grow held t (move_to held rid parent name) (recorded_at held.tokens t) (equal (length held.items) (length (with_place held rid parent name)) (same_at rid _ held.items))
+  by (request.Remove t rid expect) = decided_grow held t (remove_at held rid expect) (recorded_at held.tokens t) (equal (length held.items) (length (with_dead held rid)) (same_at rid _ held.items))
+  by (request.Settle t) = settled t (recorded_at held.tokens t)
+  by (request.Keep t count) = kept t count (recorded_at held.tokens t)
+
 -- what was told stays true
 
-pub still_there : (old new : Held) (e : Entry) → Extends old new → HasEntry old e → HasEntry new e
-still_there old new e x h file = by (h file) where
+pub still_there : (old new : Held) (e : Entry) → Extends old new → length old.items ≤ length new.items → HasEntry old e → HasEntry new e
+still_there old new e x g h = (h.0, most e.rid.0 (length old.items) (length new.items) h.1 g, λ file. by (h.2 file)) where
+  most : (a b c : ℕ) → a ≤ b → b ≤ c → a ≤ c
+  most a b c h k = omega (arith, h, k)
+
   by : ((e.version.0 ≡ 0) × (e.len ≡ 0)) ⊎ ((bytes : List ℕ) × (bytes_of old e.rid e.version ≡ Some bytes) × (length bytes ≡ e.len)) → ((e.version.0 ≡ 0) × (e.len ≡ 0)) ⊎ ((bytes : List ℕ) × (bytes_of new e.rid e.version ≡ Some bytes) × (length bytes ≡ e.len))
   by (inl k) = inl k
   by (inr k) = inr (k.0, x.versions e.rid e.version k.0 k.1, k.2)
 
-pub still_true : (old new : Held) (a : Reply) → Extends old new → TellsTruth old a → TellsTruth new a
-still_true old new (reply.Done token rid version) x h = x.tokens token (RecordedDone rid version) h
-still_true old new (reply.Feed round clock es) x h = all_weaker (HasEntry old) (HasEntry new) (λ e k. still_there old new e x k) es h
-still_true old new (reply.Listing key es) x h = all_weaker (HasEntry old) (HasEntry new) (λ e k. still_there old new e x k) es h
-still_true old new (reply.Bytes key start bytes) x h = tt
-still_true old new (reply.Missing key) x h = tt
-still_true old new (reply.Void token) x h = tt
-still_true old new (reply.Refused token w version) x h = tt
-still_true old new (reply.Gone key) x h = tt
+pub still_true : (old new : Held) (a : Reply) → Extends old new → length old.items ≤ length new.items → TellsTruth old a → TellsTruth new a
+still_true old new (reply.Done token rid version) x g h = x.tokens token (RecordedDone rid version) h
+still_true old new (reply.Feed round clock es) x g h = all_weaker (HasEntry old) (HasEntry new) (λ e k. still_there old new e x g k) es h
+still_true old new (reply.Listing key es) x g h = all_weaker (HasEntry old) (HasEntry new) (λ e k. still_there old new e x g k) es h
+still_true old new (reply.Bytes key start bytes) x g h = tt
+still_true old new (reply.Missing key) x g h = tt
+still_true old new (reply.Void token) x g h = tt
+still_true old new (reply.Refused token w version) x g h = tt
+still_true old new (reply.Gone key) x g h = tt
 
 still_at : (old new : Held) (rid : Rid) (version : Version) (a : Reply) → Extends old new → TellsBytes old (request.Fetch (record { epoch = 0; number = 0 }) rid version 0 0) a → TellsBytes new (request.Fetch (record { epoch = 0; number = 0 }) rid version 0 0) a
 still_at old new rid version (reply.Bytes key start bytes) x h = (h.0, x.versions rid version h.0 h.1, h.2)

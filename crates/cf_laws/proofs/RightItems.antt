@@ -1,7 +1,9 @@
 -- What each kind of change keeps of an item.
-use Rattle.std.proofs.Common.{◌≡◌, ◌⊎◌, ◌<◌, ◌≤◌, ◌+◌, ℕ, zero, suc, Bool, true, false, List, [], ◌∷◌, ◌++◌, refl, sym, ◌∙◌, ap, subst, inl, inr, arith, length}
-use Rattle.std.specs.Prelude.{cond, Option, Some, None, unwrap_or, take, drop, replicate}
+use Rattle.std.proofs.Common.{◌≡◌, ◌≤◌, ℕ, Bool, true, false, List, [], ◌∷◌, ◌++◌, refl, sym, ◌∙◌, ap, subst, inl, inr, arith}
+use Rattle.std.specs.Prelude.{cond, Option, unwrap_or, drop}
 use Rattle.std.proofs.lemmas.Bool.Decides.{nat_tests}
+use Rattle.cf_base.specs.declared.changes.Change.{Change}
+use Rattle.cf_base.specs.declared.changes.Change.TheVariants as change
 use Rattle.cf_base.specs.declared.ids.Rid.{Rid}
 use Rattle.cf_base.specs.declared.ids.Usn.{Usn}
 use Rattle.cf_base.specs.declared.ids.Version.{Version}
@@ -9,12 +11,35 @@ use Rattle.cf_model.specs.Contents.{RisesFrom, base_named}
 use Rattle.cf_model.specs.Effects.{later_than, untargeted}
 use Rattle.cf_model.specs.Numbers.{above, is_no_usn, no_usn}
 use Rattle.cf_model.specs.Overlay.{Written}
-use Rattle.cf_model.specs.Store.{Held, Stored, bytes_of, stored_at, version_bytes}
+use Rattle.cf_model.specs.State.{Filter}
+use Rattle.cf_model.specs.Store.{Held, bytes_of, stored_at, version_bytes}
 use Rattle.cf_model.specs.Words.{number_of}
 use Rattle.cf_model.proofs.ContentItems.{drop-more, no-version}
 use Rattle.cf_laws.specs.Invariant.{All, AllUpTo, HasBase, HasNone, IsRightOf, SameBase, rid_in, version_in}
-use Rattle.cf_laws.specs.Fitting.{NamesWell}
-use Rattle.cf_laws.proofs.Gathered.{all_append, all_both, all_filter, all_weaker}
+use Rattle.cf_laws.specs.Fitting.{Fits, Meets, NamesWell}
+use Rattle.cf_laws.proofs.Gathered.{all_append, all_filter, all_weaker}
+
+-- what fits meets what keeps the whole sound
+
+pub fits_meets : (r : Held) (x : Filter) (c : Change) → Fits r x c → Meets r x c
+fits_meets r x (change.Make item parent name k size identity) h = h
+fits_meets r x (change.Remove item) h = h.0
+fits_meets r x (change.Move item parent name) h = h
+fits_meets r x (change.Write item at bytes) h = h
+fits_meets r x (change.Size item size) h = h
+fits_meets r x (change.Filled item start bytes) h = h
+fits_meets r x (change.Validated item start len) h = h
+fits_meets r x (change.Emptied item start len) h = h
+fits_meets r x (change.SetPin item pin) h = h
+fits_meets r x (change.Mark item number) h = h
+fits_meets r x (change.Clear item) h = h
+fits_meets r x (change.Convert item identity) h = h
+fits_meets r x (change.Revert item) h = h
+fits_meets r x (change.Rebase item identity len at) h = h
+fits_meets r x (change.Take item identity size) h = h
+fits_meets r x (change.Copy item from parent name) h = h
+fits_meets r x (change.Populated item) h = h
+fits_meets r x (change.Keep item on) h = h
 
 -- numbers
 
@@ -38,7 +63,7 @@ is_some_usn a b h = grind (arith, nat_tests, h)
 
 -- writes
 
-all_under : (next number : Usn) (ws : List Written) → above next number ≡ true → AllUpTo number ws → All (λ w. above next w.number ≡ true) ws
+pub all_under : (next number : Usn) (ws : List Written) → above next number ≡ true → AllUpTo number ws → All (λ w. above next w.number ≡ true) ws
 all_under next number ws e h = all_weaker (λ w. above w.number number ≡ false) (λ w. above next w.number ≡ true) (λ w k. above_last next number w.number e k) ws h
 
 rises_more : (low n : Usn) (ws : List Written) (w : Written) → w.number ≡ n → above n low ≡ true → All (λ v. above n v.number ≡ true) ws → RisesFrom low ws → RisesFrom low (ws ++ w ∷ [])

@@ -12,11 +12,11 @@ use Rattle.cf_base.specs.declared.notices.Frame.TheVariants as frame
 use Rattle.cf_base.specs.declared.waits.Ask.{Ask}
 use Rattle.cf_base.specs.declared.waits.AskKind.{AskKind}
 use Rattle.cf_base.specs.declared.waits.AskKind.TheVariants as ask_kind
-use Rattle.cf_model.specs.Asks.{after_deed, is_cancelled, is_cut, is_idle, is_idle_by, is_over, is_wanted, left_of, new_asks, step_of, why, with_keys}
+use Rattle.cf_model.specs.Asks.{after_deed, is_cancelled, is_cut, is_idle, is_idle_by, is_over, is_wanted, left_of, new_asks, why, with_keys}
 use Rattle.cf_model.specs.Items.{Item}
 use Rattle.cf_model.specs.Missing.{View, Wait}
 use Rattle.cf_model.specs.Numbers.{no_key, same_key}
-use Rattle.cf_model.specs.Requests.{Deed, Live, Nothing, Told, Waiting, is_fetch}
+use Rattle.cf_model.specs.Requests.{Deed, Live, Told, Waiting, is_fetch}
 use Rattle.cf_model.specs.Settling.{told_at, view_at, with_waiting}
 use Rattle.cf_model.specs.State.{Filter, Link}
 use Rattle.cf_model.specs.Store.{Held}

@@ -1,6 +1,6 @@
 -- What the engine's single steps keep in `replay`.
-use Rattle.std.proofs.Common.{◌≡◌, ◌⊎◌, ◌<◌, ◌≤◌, ◌+◌, ℕ, Bool, true, false, List, [], ◌∷◌, refl, sym, ◌∙◌, ap, subst, inl, inr, max, arith}
-use Rattle.std.specs.Prelude.{Option, Some, None, cond, not, find, nat_le, ◌&&◌, ◌==◌}
+use Rattle.std.proofs.Common.{◌≡◌, ◌⊎◌, ◌+◌, ℕ, Bool, true, false, List, [], ◌∷◌, refl, sym, subst, inl, inr, max}
+use Rattle.std.specs.Prelude.{Option, Some, None, not, ◌&&◌, ◌==◌}
 use Rattle.cf_base.specs.declared.changes.Change.{Change}
 use Rattle.cf_base.specs.declared.changes.Change.TheVariants as change
 use Rattle.cf_base.specs.declared.codes.Code.{Code}
@@ -8,7 +8,7 @@ use Rattle.cf_base.specs.declared.ids.ItemId.{ItemId}
 use Rattle.cf_base.specs.declared.ids.Usn.{Usn}
 use Rattle.cf_base.specs.declared.items.SeenPath.{SeenPath}
 use Rattle.std.proofs.lemmas.Bool.{eqb-true}
-use Rattle.cf_model.specs.Arrows.{Arrow, Preserves, and_then, attempt, only_if, seq, unless_done, when_ok}
+use Rattle.cf_model.specs.Arrows.{Arrow, Preserves, and_then, only_if, unless_done, when_ok}
 use Rattle.cf_model.specs.Books.{Book, with_cursor, with_seen}
 use Rattle.cf_model.specs.Changes.{change as put, next_number, same_book}
 use Rattle.cf_model.specs.ConflictNames.{conflict_name}
@@ -18,10 +18,10 @@ use Rattle.cf_model.specs.Items.{Item, is_dirty, item_of}
 use Rattle.cf_model.specs.Logs.{next_by}
 use Rattle.cf_model.specs.Numbers.{same_usn}
 use Rattle.cf_model.specs.Overlay.{Written}
-use Rattle.cf_model.specs.Skips.{conflict_move, cursor_unless, do_change, in_book, is_cursor, is_markable, is_there, left_out, mark_if, may_mark, move_off, not_done, number_of_item, occupant, seen_if, skip, skip_line, skipped, to_conflict, tried, try_book, try_change, try_clear_name, try_cursor, try_mark, try_mark_now, try_seen, why_no_change, why_no_record, with_book}
+use Rattle.cf_model.specs.Skips.{cursor_unless, do_change, in_book, is_cursor, is_markable, is_there, left_out, may_mark, move_off, not_done, number_of_item, occupant, seen_if, skip, skip_line, skipped, to_conflict, tried, try_book, try_change, try_clear_name, try_cursor, try_mark, try_mark_now, try_seen, why_no_change, why_no_record, with_book}
 use Rattle.cf_model.specs.Soundness.{Each}
-use Rattle.cf_model.specs.State.{Filter, Link, State, Volume, book_now, items_now, with_filter, with_volume}
-use Rattle.cf_model.specs.Points.{with_point_begun, with_room_point}
+use Rattle.cf_model.specs.State.{State, Volume, book_now, items_now, with_filter}
+use Rattle.cf_model.specs.Points.{with_room_point}
 use Rattle.cf_model.specs.Trees.{Asked, Fork, Keeps, Ret, Step, Tree, bind}
 use Rattle.cf_model.specs.Words.{is_empty, says}
 use Rattle.cf_model.proofs.ArrowLaws.{keeps_noted, keeps_one, keeps_only_if, keeps_reading, keeps_ret, keeps_seq}
@@ -29,12 +29,11 @@ use Rattle.cf_model.proofs.TreeLaws.{keeps_bind, keeps_mapped}
 use Rattle.cf_laws.specs.Fitting.{Fits, Touches}
 use Rattle.cf_laws.specs.Invariant.{IsSound}
 use Rattle.cf_laws.specs.Premises.{IsFair}
-use Rattle.cf_laws.proofs.Guarded.{Guarded, GuardedFilter}
-use Rattle.cf_laws.proofs.Leading.{Leads, kept_leads, leads_bind, leads_kept, leads_mapped}
-use Rattle.cf_laws.proofs.OperationsGuarded.{each_none}
-use Rattle.cf_laws.proofs.Plainly.{After, change_after, keeps_led, kept_with}
+use Rattle.cf_laws.proofs.Guarded.{Guarded}
+use Rattle.cf_laws.proofs.Leading.{Leads, kept_leads, leads_bind, leads_mapped}
+use Rattle.cf_laws.proofs.Plainly.{After, change_after, keeps_led}
 use Rattle.cf_laws.proofs.RightItems.{no_way}
-use Rattle.cf_laws.proofs.SoundChanges.{KeepsEntries, same_entries}
+use Rattle.cf_laws.proofs.SoundChanges.{KeepsEntries}
 use Rattle.cf_laws.proofs.SoundFilters.{change_leads}
 use Rattle.cf_laws.proofs.SoundSettles.{each_found, left_true, not_true, right_true}
 
@@ -190,16 +189,19 @@ not_dirty (w ∷ ws) e = no_way e
 numbers_agree : (i : Item) (n : Usn) → same_usn i.number n ≡ true → n ≡ i.number
 numbers_agree i n e = λ k. record { epoch = sym (eqb-true i.number.epoch n.epoch (left_true (i.number.epoch == n.epoch) (i.number.place == n.place) e)) k; place = sym (eqb-true i.number.place n.place (right_true (i.number.epoch == n.epoch) (i.number.place == n.place) e)) k }
 
-mark_fits : (Ok : Change → Type 0) (P : State → Type 0) → Skipping Ok P → (item : ItemId) (n : Usn) (s : State) → P s → is_markable item n s ≡ true → IsFair s.link → Each item (λ i. (i.writes ≡ []) × (n ≡ i.number)) (items_now s)
+abbrev IsUnmarked : Usn → Item → Type 0
+IsUnmarked n i = (i.writes ≡ []) × (n ≡ i.number) × (is_untargeted i ≡ false)
+
+mark_fits : (Ok : Change → Type 0) (P : State → Type 0) → Skipping Ok P → (item : ItemId) (n : Usn) (s : State) → P s → is_markable item n s ≡ true → IsFair s.link → Each item (IsUnmarked n) (items_now s)
 mark_fits Ok P closed item n s h e fair = by (item_of (items_now s) item) refl e where
-  by : (o : Option Item) → item_of (items_now s) item ≡ o → says (may_mark (items_now s) (book_now s) n) o ≡ true → Each item (λ i. (i.writes ≡ []) × (n ≡ i.number)) (items_now s)
+  by : (o : Option Item) → item_of (items_now s) item ≡ o → says (may_mark (items_now s) (book_now s) n) o ≡ true → Each item (IsUnmarked n) (items_now s)
   by None q m = no_way m
   by (Some i) q m =
       let a : (same_usn i.number n && not i.in_sync && not (is_dirty i) && not (is_untargeted i)) ≡ true = left_true (same_usn i.number n && not i.in_sync && not (is_dirty i) && not (is_untargeted i)) (stands_at_seen (items_now s) (book_now s) i) m in
       let b : (same_usn i.number n && not i.in_sync && not (is_dirty i)) ≡ true = left_true (same_usn i.number n && not i.in_sync && not (is_dirty i)) (not (is_untargeted i)) a in
       let c : not (is_dirty i) ≡ true = right_true (same_usn i.number n && not i.in_sync) (not (is_dirty i)) b in
       let d : same_usn i.number n ≡ true = left_true (same_usn i.number n) (not i.in_sync) (left_true (same_usn i.number n && not i.in_sync) (not (is_dirty i)) b) in
-      each_found item (λ i. (i.writes ≡ []) × (n ≡ i.number)) 0 s.filter.volume.next_item.0 (items_now s) i (closed.sound s h fair).now.order q (not_dirty i.writes c, numbers_agree i n d)
+      each_found item (IsUnmarked n) 0 s.filter.volume.next_item.0 (items_now s) i (closed.sound s h fair).now.order q (not_dirty i.writes c, numbers_agree i n d, not_true (is_untargeted i) (right_true (same_usn i.number n && not i.in_sync && not (is_dirty i)) (not (is_untargeted i)) a))
 
 pub try_mark_keeps : (Ok : Change → Type 0) (P : State → Type 0) → Skipping Ok P → ((item : ItemId) (n : Usn) → Ok (change.Mark item n)) → (item : ItemId) (n : Usn) → Preserves P (try_mark item n)
 try_mark_keeps Ok P closed ok item n = record { keeps = λ s h. only_if_at P (is_markable item n s) (try_change (change.Mark item n)) s h (λ e. try_change_at Ok P closed (change.Mark item n) s (ok item n) (λ id k. k) (mark_fits Ok P closed item n s h e) h) }

@@ -1,13 +1,11 @@
 -- Records of the book, points and openings keep the whole sound.
-use Rattle.std.proofs.Common.{◌≡◌, ◌⊎◌, ◌<◌, ◌≤◌, ◌+◌, ℕ, zero, suc, Bool, true, false, List, [], ◌∷◌, ◌++◌, refl, sym, ◌∙◌, ap, subst, inl, inr, arith, length, take, min}
-use Rattle.std.specs.Prelude.{Option, Some, None, filter, not, cond, ◌==◌}
+use Rattle.std.proofs.Common.{◌≡◌, ◌⊎◌, ◌<◌, ◌≤◌, ℕ, zero, suc, Bool, true, false, List, [], ◌∷◌, ◌++◌, refl, sym, ap, subst, inl, inr, arith, length, take, min}
+use Rattle.std.specs.Prelude.{Option, Some, None, filter, cond}
 use Rattle.std.proofs.lemmas.Bool.Decides.{nat_tests}
 use Rattle.std.proofs.lemmas.List.{length-take}
 use Rattle.std.proofs.Math.Seq.{take-length}
 use Rattle.cf_base.specs.declared.changes.Change.{Change}
 use Rattle.cf_base.specs.declared.ids.ItemId.{ItemId}
-use Rattle.cf_base.specs.declared.ids.Key.{Key}
-use Rattle.cf_base.specs.declared.ids.Token.{Token}
 use Rattle.cf_base.specs.declared.ids.Usn.{Usn}
 use Rattle.cf_base.specs.declared.messages.Request.{Request}
 use Rattle.cf_base.specs.declared.messages.Request.TheVariants as request
@@ -18,11 +16,11 @@ use Rattle.cf_model.specs.Books.{Book, QueueEntry}
 use Rattle.cf_model.specs.Items.{Item}
 use Rattle.cf_model.specs.Logs.{items_of, next_of}
 use Rattle.cf_model.specs.Missing.{Wait}
-use Rattle.cf_model.specs.Numbers.{above, same_key, usn_after}
+use Rattle.cf_model.specs.Numbers.{above, usn_after}
 use Rattle.cf_model.specs.Points.{Opens}
 use Rattle.cf_model.specs.Requests.{Live}
 use Rattle.cf_model.specs.State.{Point}
-use Rattle.cf_model.specs.Store.{Held, Recorded}
+use Rattle.cf_model.specs.Store.{Held}
 use Rattle.cf_laws.specs.GivenOnce.{WasGiven}
 use Rattle.cf_laws.specs.Invariant.{All, AreApart, EntryFits, IsDurable, IsEntryOf, IsGivenIn, IsMessageRight, IsPointRight, IsSoundOf, NoItem}
 use Rattle.cf_laws.proofs.Gathered.{all_append, all_filter, all_weaker}

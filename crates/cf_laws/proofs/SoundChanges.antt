@@ -1,10 +1,8 @@
 -- A change that fits keeps the whole sound, but for what the file that it touches lacks.
-use Rattle.std.proofs.Common.{◌≡◌, ◌⊎◌, ◌<◌, ◌≤◌, ◌+◌, ℕ, Bool, true, false, List, [], ◌∷◌, ◌++◌, refl, sym, ◌∙◌, ap, subst, inl, inr, arith, length, take, max}
-use Rattle.std.specs.Prelude.{Option, Some, None, is_some, map}
-use Rattle.std.specs.List.{list_all}
+use Rattle.std.proofs.Common.{◌≡◌, ◌⊎◌, ◌<◌, ◌≤◌, ◌+◌, ℕ, true, List, [], ◌∷◌, ◌++◌, refl, sym, ◌∙◌, ap, subst, inl, inr, arith, length, take, max}
+use Rattle.std.specs.Prelude.{Option}
 use Rattle.std.proofs.lemmas.Bool.Decides.{nat_tests}
 use Rattle.std.proofs.lemmas.List.{length-append, take-append-le}
-use Rattle.std.proofs.Math.Seq.{take-length}
 use Rattle.cf_base.specs.declared.changes.Change.{Change}
 use Rattle.cf_base.specs.declared.changes.Change.TheVariants as change
 use Rattle.cf_base.specs.declared.ids.ItemId.{ItemId}
@@ -12,26 +10,21 @@ use Rattle.cf_base.specs.declared.ids.Usn.{Usn}
 use Rattle.cf_base.specs.declared.notices.Frame.{Frame}
 use Rattle.cf_model.specs.Books.{Book, QueueEntry, book_after}
 use Rattle.cf_model.specs.Changes.{next_number, put_with_book}
-use Rattle.cf_model.specs.Contents.{StaysBy, Suits, base_named, up_to}
-use Rattle.cf_model.specs.Effects.{effect, later_than}
-use Rattle.cf_model.specs.Identities.{base_bytes}
+use Rattle.cf_model.specs.Effects.{effect}
 use Rattle.cf_model.specs.Items.{Item, root}
 use Rattle.cf_model.specs.Logs.{after_changes, items_of, next_by, next_of}
 use Rattle.cf_model.specs.Numbers.{above, no_usn, usn_after}
-use Rattle.cf_model.specs.Overlay.{over}
-use Rattle.cf_model.specs.Soundness.{Each}
 use Rattle.cf_model.specs.State.{Filter, Link, Point, Volume, with_volume}
 use Rattle.cf_model.specs.Store.{Held}
-use Rattle.cf_laws.specs.Fitting.{Fits, NoEntry, Touches}
-use Rattle.cf_laws.specs.GivenOnce.{WasGiven}
-use Rattle.cf_laws.specs.Invariant.{All, AllLack, EntryFits, IsDurable, IsEntryOf, IsPointRight, IsRight, IsSound, IsSoundBut, Lacks, NoItem, SameBase, put_bytes}
+use Rattle.cf_laws.specs.Fitting.{Meets, Touches}
+use Rattle.cf_laws.specs.Invariant.{IsDurable, IsEntryOf, IsPointRight, IsRight, IsSound, IsSoundBut, Lacks}
 use Rattle.cf_laws.proofs.FitAsks.{effect_lack, effect_lives}
 use Rattle.cf_laws.proofs.FitContents.{effect_contents}
 use Rattle.cf_laws.proofs.FitEntries.{effect_entries}
 use Rattle.cf_laws.proofs.FitItems.{effect_order, effect_right}
-use Rattle.cf_laws.proofs.Gathered.{all_weaker, each_all, each_both, each_weaker}
+use Rattle.cf_laws.proofs.Gathered.{all_weaker}
 use Rattle.cf_laws.proofs.OnceLaws.{later}
-use Rattle.cf_laws.proofs.RightItems.{above_then, same_named, stays_right}
+use Rattle.cf_laws.proofs.RightItems.{above_then, stays_right}
 
 -- numbers
 
@@ -91,7 +84,7 @@ same_entries (change.Copy item from parent name) b = refl
 same_entries (change.Populated item) b = refl
 same_entries (change.Keep item on) b = refl
 
-durable_effect : (r : Held) (ms : List (Option Frame)) (x : Filter) (c : Change) (n after : Usn) (epoch tokens : ℕ) → above n no_usn ≡ true → above after n ≡ true → Fits r x c
+durable_effect : (r : Held) (ms : List (Option Frame)) (x : Filter) (c : Change) (n after : Usn) (epoch tokens : ℕ) → above n no_usn ≡ true → above after n ≡ true → Meets r x c
     → IsDurable r ms epoch tokens n x.volume.next_item.0 x.volume.items x.volume.book.entries → IsDurable r ms epoch tokens after (max x.volume.next_item.0 (next_by c)) (effect x.volume.items c n) x.volume.book.entries
 durable_effect r ms x c n after epoch tokens some a fit h = record {
   contents = effect_contents r x c n fit h.right h.contents;
@@ -139,7 +132,7 @@ next_one_more (d ∷ log) n c = ap (λ (x : ℕ). max (next_by d.1) x) (next_one
 abbrev pub KeepsEntries : (Book → Book) → Type 0
 KeepsEntries f = (b : Book) → (f b).entries ≡ b.entries
 
-pub change_sound : (l : Link) (tokens : ℕ) (x : Filter) (f : Book → Book) (c : Change) → KeepsEntries f → Fits l.remote x c → IsSound l tokens x → IsSoundBut (Touches c) l tokens (with_volume (put_with_book f c x.volume) x)
+pub change_sound : (l : Link) (tokens : ℕ) (x : Filter) (f : Book → Book) (c : Change) → KeepsEntries f → Meets l.remote x c → IsSound l tokens x → IsSoundBut (Touches c) l tokens (with_volume (put_with_book f c x.volume) x)
 change_sound l tokens x f c keeps fit h =
     let v : Volume = x.volume in
     let a : above (usn_after v.epoch (v.place + 1)) (usn_after v.epoch v.place) ≡ true = next_above v.epoch v.place in

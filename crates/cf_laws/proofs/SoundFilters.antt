@@ -1,40 +1,40 @@
 -- The steps of the filter keep the invariant.
-use Rattle.std.proofs.Common.{◌≡◌, ◌⊎◌, ◌<◌, ◌≤◌, ◌+◌, ℕ, zero, suc, Bool, true, false, List, [], ◌∷◌, ◌++◌, refl, sym, ◌∙◌, ap, subst, inl, inr, arith, length, if◌then◌else◌}
-use Rattle.std.specs.Prelude.{Option, Some, None, map, ◌==◌}
+use Rattle.std.proofs.Common.{◌≡◌, ◌⊎◌, ◌+◌, ℕ, Bool, true, false, [], ◌∷◌, ◌++◌, refl, sym, subst, inl, inr, arith, if◌then◌else◌}
+use Rattle.std.specs.Prelude.{None, map, ◌==◌}
 use Rattle.std.proofs.lemmas.Bool.Decides.{nat_tests}
 use Rattle.cf_base.specs.declared.answers.Shown.TheVariants as shown
 use Rattle.cf_base.specs.declared.changes.Change.{Change}
 use Rattle.cf_base.specs.declared.ids.ItemId.{ItemId}
 use Rattle.cf_base.specs.declared.ids.WaitId.{WaitId}
-use Rattle.cf_base.specs.declared.waits.Ask.{Ask}
 use Rattle.cf_base.specs.declared.waits.Cause.{Cause}
 use Rattle.cf_base.specs.declared.waits.Cause.TheVariants as cause
 use Rattle.cf_base.specs.declared.waits.End.{End}
 use Rattle.cf_base.specs.declared.waits.WaitKind.TheVariants as wait_kind
 use Rattle.cf_model.specs.Arrows.{Preserves, each, noted, reading, then_do}
 use Rattle.cf_model.specs.Books.{Book}
-use Rattle.cf_model.specs.Changes.{apply, change_with, may_need_room, next_number, put_after_room, put_with_book, tell_change}
+use Rattle.cf_model.specs.Changes.{change_with, may_need_room, next_number, put_after_room, put_with_book, tell_change}
 use Rattle.cf_model.specs.Missing.{Wait, no_span}
 use Rattle.cf_model.specs.Numbers.{key_after, no_key, same_key}
 use Rattle.cf_model.specs.Operations.{done}
-use Rattle.cf_model.specs.Points.{commit, with_point_begun, with_room_point, with_sure_point}
-use Rattle.cf_model.specs.Requests.{Deed, Live, also_background, wait_after, Nothing, Told, Waiting, aged, is_fetch}
+use Rattle.cf_model.specs.Points.{with_point_begun, with_room_point, with_sure_point}
+use Rattle.cf_model.specs.Requests.{Deed, also_background, wait_after, Nothing, Told, Waiting, aged, is_fetch}
 use Rattle.cf_model.specs.Settling.{accessed, end_of, end_wait, is_access, is_own, settle, tell, tell_end, told_at, with_asks_told, with_ended, with_waiting}
-use Rattle.cf_model.specs.State.{Filter, Link, Volume, in_volume, with_notes, with_volume}
+use Rattle.cf_model.specs.State.{Filter, Link, Volume, with_notes, with_volume}
 use Rattle.cf_model.specs.Words.{when}
 use Rattle.cf_model.specs.Trees.{Asked, Fork, Keeps, Ret, Step, Tree, bind, mapped}
 use Rattle.cf_model.specs.Waits.{Need, all_down, beside, wait_for, begin_now, begun, own_id, with_new_waits, with_own, with_time}
 use Rattle.cf_base.specs.declared.notices.Notice.TheVariants as notice
 use Rattle.cf_model.proofs.ArrowLaws.{keeps_each, keeps_one}
 use Rattle.cf_model.proofs.TreeLaws.{keeps_bind}
-use Rattle.cf_laws.specs.Fitting.{Fits, Touches}
+use Rattle.cf_laws.specs.Fitting.{Meets, Touches}
 use Rattle.cf_laws.specs.GivenOnce.{WasGiven}
-use Rattle.cf_laws.specs.Invariant.{All, IsSound, IsSoundBut, IsSoundOf, NoItem, waits_on}
+use Rattle.cf_laws.specs.Invariant.{All, IsSound, IsSoundBut, IsSoundOf, NoItem}
 use Rattle.cf_laws.specs.Premises.{IsFair}
 use Rattle.cf_laws.proofs.FitAsks.{LackAt, LiveAt}
 use Rattle.cf_laws.proofs.Gathered.{all_append, all_both, all_map, all_weaker}
 use Rattle.cf_laws.proofs.Guarded.{GuardedFilter}
 use Rattle.cf_laws.proofs.Leading.{Leads, kept_leads, leads_bind, leads_kept}
+use Rattle.cf_laws.proofs.RightItems.{fits_meets}
 use Rattle.cf_laws.proofs.SettledAsks.{Boxes, Settled, settled}
 use Rattle.cf_laws.proofs.SoundBooks.{point_sound, points_sound}
 use Rattle.cf_laws.proofs.SoundChanges.{KeepsEntries, change_sound, sound_but}
@@ -73,16 +73,16 @@ with_sure l tokens x h =
 
 -- a change
 
-changed_at : (l : Link) (tokens : ℕ) (f : Book → Book) (c : Change) (x : Filter) → KeepsEntries f → Fits l.remote x c → IsSound l tokens x → (v : Volume) → (v ≡ x.volume) ⊎ (v ≡ with_room_point x.volume)
+changed_at : (l : Link) (tokens : ℕ) (f : Book → Book) (c : Change) (x : Filter) → KeepsEntries f → Meets l.remote x c → IsSound l tokens x → (v : Volume) → (v ≡ x.volume) ⊎ (v ≡ with_room_point x.volume)
     → IsSoundBut (Touches c) l tokens (with_volume (put_with_book f c v) x)
 changed_at l tokens f c x keeps fit h v (inl e) = subst (λ (w : Volume). IsSoundBut (Touches c) l tokens (with_volume (put_with_book f c w) x)) (sym e) (change_sound l tokens x f c keeps fit h)
 changed_at l tokens f c x keeps fit h v (inr e) =
     subst (λ (w : Volume). IsSoundBut (Touches c) l tokens (with_volume (put_with_book f c w) x)) (sym e)
     (change_sound l tokens (with_volume (with_room_point x.volume) x) f c keeps (same_fits c fit) (with_room l tokens x h)) where
-      same_fits : (c : Change) → Fits l.remote x c → Fits l.remote (with_volume (with_room_point x.volume) x) c
+      same_fits : (c : Change) → Meets l.remote x c → Meets l.remote (with_volume (with_room_point x.volume) x) c
       same_fits c k = k
 
-change_keeps : (M : Type 0) (l : Link) (tokens : ℕ) (f : Book → Book) (c : Change) (x : Filter) → KeepsEntries f → ((id : ItemId) → Touches c id → ⊥) → (IsFair l → Fits l.remote x c) → FilterSound M l tokens x
+pub change_keeps : (M : Type 0) (l : Link) (tokens : ℕ) (f : Book → Book) (c : Change) (x : Filter) → KeepsEntries f → ((id : ItemId) → Touches c id → ⊥) → (IsFair l → Meets l.remote x c) → FilterSound M l tokens x
     → Keeps (FilterSound M l tokens) (change_with f c x)
 change_keeps M l tokens f c x keeps free fit h =
     kept_leads (FilterSound M l tokens) (change_with f c x)
@@ -146,7 +146,7 @@ settle_but M l tokens item d x m h = tell_keeps M l tokens (told_at item d x) x 
 none_on : (item : ItemId) (l : Link) (tokens : ℕ) (x : Filter) → IsSound l tokens x → IsSoundBut (On item) l tokens x
 none_on item l tokens x h = sound_but NoItem (On item) (λ i k. absurd k) l tokens x h
 
-touch_keeps : (M : Type 0) (l : Link) (tokens : ℕ) (f : Book → Book) (c : Change) (item : ItemId) (d : Deed) (x : Filter) → KeepsEntries f → ((id : ItemId) → Touches c id → id.0 ≡ item.0) → (IsFair l → Fits l.remote x c) → FilterSound M l tokens x
+touch_keeps : (M : Type 0) (l : Link) (tokens : ℕ) (f : Book → Book) (c : Change) (item : ItemId) (d : Deed) (x : Filter) → KeepsEntries f → ((id : ItemId) → Touches c id → id.0 ≡ item.0) → (IsFair l → Meets l.remote x c) → FilterSound M l tokens x
     → Keeps (FilterSound M l tokens) (then_do (change_with f c) (then_do (settle item d) done) x)
 touch_keeps M l tokens f c item d x keeps on fit h =
     kept_leads (FilterSound M l tokens) (then_do (change_with f c) (then_do (settle item d) done) x)
@@ -251,8 +251,8 @@ policy_sound l tokens x v e h = record {
 pub filter_guarded : (M : Type 0) (l : Link) (tokens : ℕ) → GuardedFilter l tokens (FilterSound M l tokens)
 filter_guarded M l tokens = record {
   sound = λ x h e. h.1 e;
-  change = change_keeps M l tokens;
-  touch = touch_keeps M l tokens;
+  change = λ f c x keeps free fit h. change_keeps M l tokens f c x keeps free (λ e. fits_meets l.remote x c (fit e)) h;
+  touch = λ f c item d x keeps on fit h. touch_keeps M l tokens f c item d x keeps on (λ e. fits_meets l.remote x c (fit e)) h;
   commits = record { keeps = λ x h. ((h.0, λ e. with_begun l tokens x (h.1 e)), (h.0, λ e. with_sure l tokens x (h.1 e))) };
   settled = λ item d. record { keeps = λ x h. settle_but M l tokens item d x h.0 (λ e. none_on item l tokens x (h.1 e)) };
   begins = begins_keep M l tokens;

@@ -1,27 +1,26 @@
 -- Requests and messages keep the whole sound.
-use Rattle.std.proofs.Common.{◌≡◌, ◌⊎◌, ◌<◌, ◌≤◌, ◌+◌, ℕ, zero, suc, Bool, true, false, List, [], ◌∷◌, ◌++◌, refl, sym, ◌∙◌, ap, subst, inl, inr, arith, length, take}
-use Rattle.std.specs.Prelude.{Option, Some, None, map, slice_get, unwrap_or, ◌==◌}
+use Rattle.std.proofs.Common.{◌≡◌, ◌⊎◌, ◌≤◌, ℕ, zero, suc, Bool, true, List, [], ◌∷◌, ◌++◌, refl, sym, ◌∙◌, ap, subst, inl, inr, length, take}
+use Rattle.std.specs.Prelude.{Option, Some, None, slice_get, unwrap_or}
 use Rattle.cf_base.specs.declared.changes.Change.{Change}
 use Rattle.cf_base.specs.declared.ids.ItemId.{ItemId}
 use Rattle.cf_base.specs.declared.ids.Rid.{Rid}
 use Rattle.cf_base.specs.declared.ids.Token.{Token}
 use Rattle.cf_base.specs.declared.ids.Usn.{Usn}
 use Rattle.cf_base.specs.declared.ids.Version.{Version}
-use Rattle.cf_base.specs.declared.messages.Reply.{Reply}
 use Rattle.cf_base.specs.declared.messages.Request.{Request}
 use Rattle.cf_base.specs.declared.messages.Request.TheVariants as request
 use Rattle.cf_base.specs.declared.notices.Frame.{Frame}
 use Rattle.cf_base.specs.declared.notices.Frame.TheVariants as frame
 use Rattle.cf_base.specs.declared.waits.Ask.{Ask}
 use Rattle.cf_model.specs.Books.{Action, MakeDir, MoveItem, PutFile, QueueEntry, RemoveItem}
-use Rattle.cf_model.specs.Contents.{IsTrueTo, base_named, laid}
+use Rattle.cf_model.specs.Contents.{base_named, laid}
 use Rattle.cf_model.specs.Growth.{Extends, IsCounted}
-use Rattle.cf_model.specs.Identities.{base_bytes, content}
+use Rattle.cf_model.specs.Identities.{base_bytes}
 use Rattle.cf_model.specs.Items.{Item, writes_of}
 use Rattle.cf_model.specs.Logs.{items_of, next_of}
 use Rattle.cf_model.specs.Missing.{Wait}
 use Rattle.cf_model.specs.Numbers.{usn_after}
-use Rattle.cf_model.specs.Overlay.{Written, over}
+use Rattle.cf_model.specs.Overlay.{over}
 use Rattle.cf_model.specs.Requests.{Live, is_fetch}
 use Rattle.cf_model.specs.Soundness.{Each}
 use Rattle.cf_model.specs.State.{Point}
@@ -30,10 +29,10 @@ use Rattle.cf_model.specs.Words.{part}
 use Rattle.cf_model.proofs.ContentItems.{no-version}
 use Rattle.cf_model.proofs.StoreLaws.{step_counts, step_extends}
 use Rattle.cf_laws.specs.GivenOnce.{WasGiven}
-use Rattle.cf_laws.specs.Invariant.{All, AreTrueTo, AreLivesRight, Carries, EntryFits, FitsBy, HasBase, IsDurable, IsEntryOf, IsLiveRight, IsMessageRight, IsPointRight, IsRight, IsSoundOf, Names, OfRequest, PutFits, TellsBytes, TellsTruth, message_in, put_bytes, rid_in, version_in}
+use Rattle.cf_laws.specs.Invariant.{All, AreTrueTo, Carries, EntryFits, FitsBy, HasBase, IsDurable, IsEntryOf, IsLiveRight, IsMessageRight, IsPointRight, IsRight, IsSoundOf, Names, OfRequest, PutFits, message_in, put_bytes, rid_in, version_in}
 use Rattle.cf_laws.proofs.FitAsks.{of_request}
 use Rattle.cf_laws.proofs.Gathered.{all_append, all_both, all_weaker, each_all, each_both}
-use Rattle.cf_laws.proofs.RemoteSteps.{HasToken, recorded_new, still_bytes, still_true, tokens_kept}
+use Rattle.cf_laws.proofs.RemoteSteps.{HasToken, items_grow, recorded_new, still_bytes, still_true, tokens_kept}
 use Rattle.cf_laws.proofs.RightItems.{none_named}
 
 -- a remote that grows
@@ -105,10 +104,10 @@ durable_asked r ms epoch tokens q n next items es counted well h = record {
   apart = h.apart;
 }
 
-message_asked : (r s : Held) (ms : List (Option Frame)) (epoch keys tokens : ℕ) → Extends r s → (m : Option Frame) → IsMessageRight r ms epoch keys tokens m → IsMessageRight s ms epoch keys tokens m
-message_asked r s ms epoch keys tokens x (Some (frame.Request q)) h = h
-message_asked r s ms epoch keys tokens x (Some (frame.Reply answers a)) h = (still_true r s a x h.0, h.1, h.2, still_bytes r s h.1 a x h.3)
-message_asked r s ms epoch keys tokens x None h = h
+message_asked : (r s : Held) (ms : List (Option Frame)) (epoch keys tokens : ℕ) → Extends r s → length r.items ≤ length s.items → (m : Option Frame) → IsMessageRight r ms epoch keys tokens m → IsMessageRight s ms epoch keys tokens m
+message_asked r s ms epoch keys tokens x g (Some (frame.Request q)) h = h
+message_asked r s ms epoch keys tokens x g (Some (frame.Reply answers a)) h = (still_true r s a x g h.0, h.1, h.2, still_bytes r s h.1 a x h.3)
+message_asked r s ms epoch keys tokens x g None h = h
 
 names_asked : (r s : Held) (n : Usn) (items : List Item) (a : Ask) → Extends r s → All (IsRight r n) items → (q : Request) → Names r items a q → Names s items a q
 names_asked r s n items a x right (request.Fetch key rid version start len) h = λ e. by (h e).0 (h e).1 where
@@ -151,7 +150,7 @@ pub ask_sound : (But : ItemId → Type 0) (r : Held) (ms : List (Option Frame)) 
 ask_sound But r ms tokens epoch place log items next_item points entries asks_epoch ws asks keys outbox validate q well h = record {
   counted = step_counts r q h.counted;
   recorded = tokens_kept (λ t. WasGiven epoch tokens t.0) r q well.token h.recorded;
-  messages = all_weaker (IsMessageRight r ms epoch keys tokens) (IsMessageRight (remote_step r q).1 ms epoch keys tokens) (message_asked r (remote_step r q).1 ms epoch keys tokens (step_extends r q)) ms h.messages;
+  messages = all_weaker (IsMessageRight r ms epoch keys tokens) (IsMessageRight (remote_step r q).1 ms epoch keys tokens) (message_asked r (remote_step r q).1 ms epoch keys tokens (step_extends r q) (items_grow r q)) ms h.messages;
   old = h.old;
   of_log = h.of_log;
   now = durable_asked r ms epoch tokens q (usn_after epoch place) next_item items entries h.counted well h.now;

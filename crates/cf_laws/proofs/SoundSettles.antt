@@ -1,32 +1,24 @@
 -- The ask rule keeps live asks right.
-use Rattle.std.proofs.Common.{◌≡◌, ◌⊎◌, ◌<◌, ◌≤◌, ◌+◌, ◌-◌, ◌*◌, ◌/◌, ℕ, zero, suc, Bool, true, false, List, [], ◌∷◌, ◌++◌, refl, sym, ◌∙◌, ap, subst, inl, inr, arith, length, max, min, eq-eqb}
-use Rattle.std.specs.Prelude.{Option, Some, None, is_some, map, filter, cond, not, take, drop, slice_range, find, ◌&&◌, ◌||◌, ◌==◌}
+use Rattle.std.proofs.Common.{◌≡◌, ◌⊎◌, ◌<◌, ◌≤◌, ◌+◌, ◌-◌, ◌*◌, ◌/◌, ℕ, zero, suc, Bool, true, false, List, [], ◌∷◌, ◌++◌, refl, sym, ◌∙◌, ap, subst, inl, inr, arith, length, max, min}
+use Rattle.std.specs.Prelude.{Option, Some, None, is_some, map, filter, cond, not, take, drop, ◌&&◌, ◌||◌, ◌==◌}
 use Rattle.std.specs.List.{list_all, list_any}
 use Rattle.std.proofs.lemmas.Bool.{eqb-true}
 use Rattle.cf_base.specs.declared.ids.ItemId.{ItemId}
 use Rattle.cf_base.specs.declared.ids.Key.{Key}
-use Rattle.cf_base.specs.declared.messages.Request.{Request}
-use Rattle.cf_base.specs.declared.messages.Request.TheVariants as request
-use Rattle.cf_base.specs.declared.notices.Frame.{Frame}
-use Rattle.cf_base.specs.declared.notices.Frame.TheVariants as frame
-use Rattle.cf_base.specs.declared.waits.Ask.{Ask}
-use Rattle.cf_base.specs.declared.waits.AskKind.{AskKind}
-use Rattle.cf_base.specs.declared.waits.AskKind.TheVariants as ask_kind
 use Rattle.cf_base.specs.declared.waits.Cause.{Cause}
-use Rattle.cf_model.specs.Asks.{Run, after_deed, ask_of_run, cause_by, dehydrate_ask, dehydrate_asks, is_cancelled, is_cut, is_idle_by, is_over, is_wanted, left_of, list_ask, list_asks, new_asks, open_blocks, or_met, released, runs_of, step_of, why, with_keys}
+use Rattle.cf_model.specs.Asks.{after_deed, ask_of_run, dehydrate_ask, dehydrate_asks, is_wanted, left_of, list_ask, list_asks, new_asks, open_blocks, released, runs_of, why, with_keys}
 use Rattle.cf_model.specs.Items.{Item, item_of}
-use Rattle.cf_model.specs.Missing.{View, Wait, absent_flags, any_between, is_met, lacking, misses_between, misses_block, needed, view_of}
+use Rattle.cf_model.specs.Missing.{View, Wait, absent_flags, any_between, lacking, misses_block, needed, view_of}
 use Rattle.cf_model.specs.Numbers.{same_key}
-use Rattle.cf_model.specs.Requests.{Cancels, Closes, Deed, Expires, Fails, Finishes, Leaves, Live, Nothing, Restarts, Told, Waiting, has_block, is_dehydrate_wait, is_fetch, is_list, is_list_wait}
-use Rattle.cf_model.specs.Settling.{no_view, told_at, view_at, with_waiting}
+use Rattle.cf_model.specs.Requests.{Cancels, Closes, Deed, Expires, Fails, Finishes, Leaves, Live, Nothing, Restarts, has_block, is_dehydrate_wait, is_fetch}
+use Rattle.cf_model.specs.Settling.{no_view, view_at}
 use Rattle.cf_model.specs.Soundness.{Each}
-use Rattle.cf_model.specs.State.{Filter, Link}
+use Rattle.cf_model.specs.State.{Filter}
 use Rattle.cf_model.specs.Words.{counting, when}
 use Rattle.cf_laws.specs.GivenOnce.{WasGiven}
-use Rattle.cf_laws.specs.Invariant.{All, AllLack, InOrder, IsGivenIn, IsLiveRight, IsMessageRight, IsSound, IsSoundBut, Lacks, Names, NoItem, OfRequest, waits_on}
-use Rattle.cf_laws.proofs.Gathered.{all_any, all_append, all_both, all_filter, all_map, all_passed, all_weaker}
-use Rattle.cf_laws.proofs.OnceLaws.{later}
-use Rattle.cf_laws.proofs.RightItems.{no_way, no_way_back}
+use Rattle.cf_laws.specs.Invariant.{All, InOrder, Lacks, waits_on}
+use Rattle.cf_laws.proofs.Gathered.{all_any, all_append, all_map, all_passed, all_weaker}
+use Rattle.cf_laws.proofs.RightItems.{no_way}
 
 -- Bools
 

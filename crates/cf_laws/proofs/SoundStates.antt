@@ -1,24 +1,22 @@
 -- The steps of the whole keep the invariant.
-use Rattle.std.proofs.Common.{◌≡◌, ◌⊎◌, ◌<◌, ◌≤◌, ◌+◌, ℕ, zero, suc, Bool, true, false, List, [], ◌∷◌, ◌++◌, refl, sym, ◌∙◌, ap, subst, inl, inr, arith, length, take}
-use Rattle.std.specs.Prelude.{Option, Some, None, map, cond, filter, not, ◌==◌}
+use Rattle.std.proofs.Common.{◌≡◌, ◌<◌, ◌≤◌, ◌+◌, ℕ, Bool, true, false, List, [], ◌∷◌, ◌++◌, refl, sym, subst, arith, length, take}
+use Rattle.std.specs.Prelude.{Option, Some, None, cond, filter, not}
+use Rattle.cf_base.specs.declared.changes.Change.TheVariants as change
 use Rattle.cf_base.specs.declared.codes.Code.{Code}
 use Rattle.cf_base.specs.declared.ids.ItemId.{ItemId}
-use Rattle.cf_base.specs.declared.ids.Token.{Token}
-use Rattle.cf_base.specs.declared.ids.Usn.{Usn}
 use Rattle.cf_base.specs.declared.messages.Request.{Request}
 use Rattle.cf_base.specs.declared.notices.Frame.{Frame}
 use Rattle.cf_base.specs.declared.waits.Ask.{Ask}
-use Rattle.cf_model.specs.Books.{Action, Book, MakeDir, MoveItem, PutFile, QueueEntry, RemoveItem, with_entry, without_entry}
+use Rattle.cf_model.specs.Books.{Action, MakeDir, MoveItem, PutFile, QueueEntry, RemoveItem}
 use Rattle.cf_model.specs.Changes.{next_number}
-use Rattle.cf_model.specs.Growth.{Extends}
 use Rattle.cf_model.specs.Items.{Item}
 use Rattle.cf_model.specs.Logs.{items_of}
 use Rattle.cf_model.specs.Numbers.{same_key}
 use Rattle.cf_model.specs.PushReplies.{held_and_closed, held_back, is_removal, not_in_row, round_closed, taken_from_row, without_item, without_number}
-use Rattle.cf_model.specs.Requests.{Live, is_fetch}
-use Rattle.cf_model.specs.Skips.{skip_line, with_book, with_volatile}
+use Rattle.cf_model.specs.Requests.{is_fetch}
+use Rattle.cf_model.specs.Skips.{skip_line}
 use Rattle.cf_model.specs.Soundness.{Each}
-use Rattle.cf_model.specs.State.{State, Volatile}
+use Rattle.cf_model.specs.State.{State, Volatile, is_replay}
 use Rattle.cf_model.specs.Store.{Held, remote_step}
 use Rattle.cf_model.proofs.StoreLaws.{step_extends}
 use Rattle.cf_laws.specs.GivenOnce.{WasGiven}
@@ -26,16 +24,18 @@ use Rattle.cf_laws.specs.Invariant.{All, Invariant, IsDurable, IsSound, IsSoundO
 use Rattle.cf_laws.specs.Premises.{IsFair, IsSmall}
 use Rattle.cf_laws.proofs.FitAsks.{LiveAt}
 use Rattle.cf_laws.proofs.Gathered.{all_any, all_weaker}
-use Rattle.cf_laws.proofs.Guarded.{AskedIn, EnteredIn, Entering, Guarded, PostedIn}
+use Rattle.cf_laws.proofs.Guarded.{AskedIn, Deleting, Entering, Guarded, PostedIn}
+use Rattle.cf_laws.proofs.RemoteSteps.{items_grow}
 use Rattle.cf_laws.proofs.RightItems.{no_way}
 use Rattle.cf_laws.proofs.SoundBooks.{book_sound, durable_entered, durable_fewer, tokens_sound}
-use Rattle.cf_laws.proofs.SoundChanges.{KeepsEntries}
-use Rattle.cf_laws.proofs.SoundFilters.{filter_guarded}
-use Rattle.cf_laws.proofs.SoundLinks.{CarriesBy, FrameCarries, PostedWell, ask_sound, post_sound}
+use Rattle.cf_laws.proofs.SoundFilters.{change_keeps, filter_guarded}
+use Rattle.cf_laws.proofs.SoundLinks.{CarriesBy, FrameCarries, ask_sound, post_sound}
 
 -- a remote that became no larger than it may was no larger before
 pub small_before : (r : Held) (q : Request) → IsSmall (remote_step r q).1 → IsSmall r
-small_before r q h rid version bytes e = h rid version bytes ((step_extends r q).versions rid version bytes e)
+small_before r q h = (less (length r.items) (length (remote_step r q).1.items) (items_grow r q) h.0, λ rid version bytes e. h.1 rid version bytes ((step_extends r q).versions rid version bytes e)) where
+  less : (a b : ℕ) → a ≤ b → b < 18446744073709551616 → a < 18446744073709551616
+  less a b h k = omega (arith, h, k)
 
 asked_state : (q : Request) (s : State) → (IsFair s.link → AskedIn s q) → (IsFair s.link → IsSound s.link s.volatile.tokens s.filter) → (s.link.honest ≡ true) × IsSmall (remote_step s.link.remote q).1
     → IsSoundOf NoItem (remote_step s.link.remote q).1 s.link.messages s.volatile.tokens s.filter.volume.epoch s.filter.volume.place s.filter.volume.log s.filter.volume.items s.filter.volume.next_item.0 s.filter.volume.points s.filter.volume.book.entries
@@ -178,6 +178,9 @@ sound_guarded = record {
   keeps_with_token_used = λ s h. h;
   keeps_without_done = λ s h. h;
 }
+
+pub sound_deletes : Deleting Invariant
+sound_deletes = record { deletes = λ f item s keeps idle h. change_keeps (is_replay s.mode ≡ true) s.link s.volatile.tokens f (change.Remove item) s.filter keeps (λ id k. k) (λ fair. idle) h }
 
 pub sound_enters : Entering Invariant
 sound_enters = record {

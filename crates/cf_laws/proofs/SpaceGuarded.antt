@@ -2,7 +2,7 @@
 use Rattle.std.specs.Prelude.{ℕ, List, Option, Some, None, ◌-◌, ◌≡◌, ◌==◌}
 use Rattle.cf_base.specs.declared.answers.Shown.TheVariants as shown
 use Rattle.cf_base.specs.declared.ids.ItemId.{ItemId}
-use Rattle.cf_model.specs.Arrows.{each, unit, Preserves}
+use Rattle.cf_model.specs.Arrows.{each, Preserves}
 use Rattle.cf_model.specs.Blocks.{blocks_used}
 use Rattle.cf_model.specs.Callbacks.{calling}
 use Rattle.cf_model.specs.Dehydration.{dehydrate_range}
@@ -14,7 +14,7 @@ use Rattle.cf_laws.proofs.DehydrationGuarded as dehydration_keep
 use Rattle.cf_laws.proofs.FetchingGuarded as fetching_keep
 use Rattle.cf_model.specs.Space.{dehydrate_now, dehydrate_whole, free, free_all, plan_now, show_freed, space, why_no_space}
 use Rattle.cf_laws.proofs.Guarded.{Guarded}
-use Rattle.cf_model.proofs.ArrowLaws.{keeps_each, keeps_ret, keeps_seq, keeps_then, keeps_unless}
+use Rattle.cf_model.proofs.ArrowLaws.{keeps_each, keeps_ret, keeps_then, keeps_unless}
 use Rattle.std.proofs.Common.{refl}
 use Rattle.cf_model.specs.Trees.{Keeps}
 use Rattle.cf_model.proofs.TreeLaws.{keeps_bind}

@@ -1,6 +1,4 @@
 -- The engine's single steps, of what keeps all of the machine.
-use Rattle.std.specs.Prelude.{ℕ}
-use Rattle.std.proofs.Common.{refl}
 use Rattle.cf_base.specs.declared.codes.Code.{Code}
 use Rattle.cf_base.specs.declared.ids.ItemId.{ItemId}
 use Rattle.cf_base.specs.declared.ids.Usn.{Usn}

@@ -1,50 +1,41 @@
 -- Uploads, as they are entered and sent, in `replay`.
-use Rattle.std.proofs.Common.{◌≡◌, ◌⊎◌, ◌<◌, ◌≤◌, ◌+◌, ℕ, zero, suc, Bool, true, false, List, [], ◌∷◌, ◌++◌, refl, sym, ◌∙◌, ap, subst, inl, inr, arith, length, take}
-use Rattle.std.specs.Prelude.{Option, Some, None, cond, not, is_some, map, find, ◌&&◌, ◌||◌, ◌==◌}
-use Rattle.std.specs.List.{list_all, list_any}
+use Rattle.std.proofs.Common.{◌≡◌, ◌<◌, ◌≤◌, ◌+◌, ℕ, Bool, true, false, List, [], ◌∷◌, ◌++◌, refl, sym, ◌∙◌, ap, subst, inl, inr, arith, length, take}
+use Rattle.std.specs.Prelude.{Option, Some, None, cond, is_some, find, ◌==◌}
+use Rattle.std.specs.List.{list_all}
 use Rattle.std.proofs.lemmas.Bool.Decides.{nat_tests}
 use Rattle.std.proofs.lemmas.Bool.{eqb-true}
-use Rattle.std.proofs.Math.Seq.{take-length}
-use Rattle.cf_base.specs.declared.changes.Change.{Change}
 use Rattle.cf_base.specs.declared.codes.Code.{Code}
-use Rattle.cf_base.specs.declared.ids.ItemId.{ItemId}
 use Rattle.cf_base.specs.declared.ids.Key.{Key}
 use Rattle.cf_base.specs.declared.ids.Token.{Token}
-use Rattle.cf_base.specs.declared.ids.Usn.{Usn}
 use Rattle.cf_base.specs.declared.ids.Version.{Version}
 use Rattle.cf_base.specs.declared.messages.Request.{Request}
 use Rattle.cf_base.specs.declared.messages.Request.TheVariants as request
 use Rattle.cf_base.specs.declared.notices.Frame.{Frame}
 use Rattle.cf_base.specs.declared.notices.Frame.TheVariants as frame
-use Rattle.cf_model.specs.Arrows.{Arrow, choose, one, ret, then_do, unless_done, unit, when_ok}
+use Rattle.cf_model.specs.Arrows.{choose, one, then_do, unless_done, when_ok}
 use Rattle.cf_model.specs.Books.{Action, Book, MakeDir, MoveItem, PutFile, QueueEntry, RemoveItem, with_anchor, with_entry}
 use Rattle.cf_model.specs.Changes.{next_number}
-use Rattle.cf_model.specs.Contents.{IsTrueTo, laid, up_to}
-use Rattle.cf_model.specs.Identities.{base_bytes, content}
-use Rattle.cf_model.specs.Items.{Item, bytes_held, item_of}
+use Rattle.cf_model.specs.Identities.{base_bytes}
+use Rattle.cf_model.specs.Items.{Item}
 use Rattle.cf_model.specs.Logs.{items_of}
 use Rattle.cf_model.specs.Messages.{is_upload, send, send_now}
-use Rattle.cf_model.specs.Numbers.{above, key_after, same_key, usn_after}
-use Rattle.cf_model.specs.Overlay.{Written, over}
-use Rattle.cf_model.specs.Points.{commit, with_point_begun, with_sure_point}
-use Rattle.cf_model.specs.Pushes.{anchored, next_token, push, request_by, request_of, send_if, try_token, why_no_token, with_token}
-use Rattle.cf_model.specs.Requests.{Live, is_fetch}
-use Rattle.cf_model.specs.Skips.{in_book, left_out, skipped, try_book, why_no_record, with_book, with_volatile}
+use Rattle.cf_model.specs.Numbers.{above, key_after, same_key}
+use Rattle.cf_model.specs.Points.{commit, with_sure_point}
+use Rattle.cf_model.specs.Pushes.{anchored, next_token, push, request_by, request_of, send_if, why_no_token, with_token}
+use Rattle.cf_model.specs.Requests.{is_fetch}
+use Rattle.cf_model.specs.Skips.{in_book, left_out, try_book, why_no_record, with_book, with_volatile}
 use Rattle.cf_model.specs.Soundness.{Each}
-use Rattle.cf_model.specs.State.{Filter, State, book_now, in_filter, in_volume, items_now, with_filter, with_volume}
-use Rattle.cf_model.specs.Store.{Held, Recorded, RecordedDone, bytes_of, recorded_at}
+use Rattle.cf_model.specs.State.{State, book_now, in_filter, in_volume, items_now, with_filter, with_volume}
+use Rattle.cf_model.specs.Store.{Held, Recorded, RecordedDone, recorded_at}
 use Rattle.cf_model.specs.Trees.{Keeps, bind}
-use Rattle.cf_model.proofs.Laying.{laid-full}
 use Rattle.cf_laws.specs.GivenOnce.{WasGiven}
-use Rattle.cf_laws.specs.Invariant.{All, AllUpTo, Carries, EntryFits, FitsBy, IsEntryOf, IsGivenIn, IsMessageRight, IsRight, IsSound, Names, OfRequest, PutFits, is_put, put_bytes}
+use Rattle.cf_laws.specs.Invariant.{All, Carries, FitsBy, IsEntryOf, IsGivenIn, IsMessageRight, IsSound, Names, OfRequest, PutFits, is_put, put_bytes}
 use Rattle.cf_laws.specs.Premises.{IsFair}
-use Rattle.cf_laws.proofs.Gathered.{all_any, all_append, all_found, all_weaker, each_weaker}
+use Rattle.cf_laws.proofs.Gathered.{all_any, all_append, all_weaker, each_weaker}
 use Rattle.cf_laws.proofs.Guarded.{EnteredIn, Entering, Guarded, PostedIn}
 use Rattle.cf_laws.proofs.MessagesGuarded.{anyhow, send_now_at}
-use Rattle.cf_laws.proofs.OnceLaws.{later}
 use Rattle.cf_laws.proofs.RightItems.{no_way, no_way_back}
-use Rattle.cf_laws.proofs.SoundBooks.{EnteredWell}
-use Rattle.cf_laws.proofs.SoundLinks.{CarriesBy, FrameCarries, PostedWell}
+use Rattle.cf_laws.proofs.SoundLinks.{CarriesBy, FrameCarries}
 use Rattle.cf_laws.proofs.SoundSettles.{left_true, right_true}
 
 -- a fresh token

@@ -1,5 +1,5 @@
 -- The right bytes.
-use Rattle.std.specs.Prelude.{ℕ, true, false, List, [], length, Some, slice_get, slice_range, ◌+◌, ◌∷◌, ◌≡◌}
+use Rattle.std.specs.Prelude.{ℕ, true, false, length, Some, slice_get, slice_range, ◌+◌, ◌≡◌}
 use Rattle.cf_base.specs.declared.waits.Cause.TheVariants as cause
 use Rattle.cf_base.specs.declared.waits.End.TheVariants as end
 use Rattle.cf_base.specs.declared.waits.WaitKind.TheVariants as wait_kind

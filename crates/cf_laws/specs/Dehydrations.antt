@@ -10,7 +10,6 @@ use Rattle.cf_base.specs.declared.events.Event.TheVariants as event
 use Rattle.cf_base.specs.declared.policies.Mode.{Mode}
 use Rattle.cf_model.specs.Dehydration.{in_use}
 use Rattle.cf_model.specs.Items.{Item, size_of}
-use Rattle.cf_model.specs.Lawful.{IsStep}
 use Rattle.cf_model.specs.LookUp.{find_path}
 use Rattle.cf_model.specs.State.{On, State, items_now}
 use Rattle.cf_model.specs.Verdicts.{is_bad_range, is_kept_full, is_pinned}

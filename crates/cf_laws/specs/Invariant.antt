@@ -1,9 +1,8 @@
 -- The invariant of the machine in `replay`: what each state of a run has, where the remote kept its rules.
-use Rattle.std.specs.Prelude.{ℕ, Bool, true, false, List, [], length, take, drop, map, Option, Some, None, is_some, ◌+◌, ◌∷◌, ◌≡◌, ◌==◌, ◌<◌, ◌≤◌, ◌⊎◌}
+use Rattle.std.specs.Prelude.{ℕ, Bool, true, false, List, [], length, take, drop, map, Option, Some, None, is_some, ◌∷◌, ◌≡◌, ◌==◌, ◌<◌, ◌≤◌, ◌⊎◌}
 use Rattle.std.specs.List.{list_all, list_any}
 use Rattle.cf_base.specs.declared.changes.Change.{Change}
 use Rattle.cf_base.specs.declared.ids.ItemId.{ItemId}
-use Rattle.cf_base.specs.declared.ids.Key.{Key}
 use Rattle.cf_base.specs.declared.ids.Rid.{Rid}
 use Rattle.cf_base.specs.declared.ids.Token.{Token}
 use Rattle.cf_base.specs.declared.ids.Usn.{Usn}
@@ -16,19 +15,19 @@ use Rattle.cf_base.specs.declared.messages.Request.TheVariants as request
 use Rattle.cf_base.specs.declared.notices.Frame.{Frame}
 use Rattle.cf_base.specs.declared.notices.Frame.TheVariants as frame
 use Rattle.cf_base.specs.declared.waits.Ask.{Ask}
-use Rattle.cf_model.specs.Books.{Action, Book, MakeDir, MoveItem, PutFile, QueueEntry, RemoveItem}
+use Rattle.cf_model.specs.Books.{Action, MakeDir, MoveItem, PutFile, QueueEntry, RemoveItem}
 use Rattle.cf_model.specs.Contents.{IsTrueTo, RisesFrom, up_to}
 use Rattle.cf_model.specs.Growth.{IsCounted}
 use Rattle.cf_model.specs.Identities.{base_bytes}
-use Rattle.cf_model.specs.Items.{Item, is_dirty}
+use Rattle.cf_model.specs.Items.{Item}
 use Rattle.cf_model.specs.Logs.{items_of, next_of}
 use Rattle.cf_model.specs.Missing.{Wait}
 use Rattle.cf_model.specs.Numbers.{above, no_key, no_usn, same_key, usn_after}
 use Rattle.cf_model.specs.Overlay.{Written, over}
-use Rattle.cf_model.specs.Requests.{Live, Waiting, is_fetch}
+use Rattle.cf_model.specs.Requests.{Live, is_fetch}
 use Rattle.cf_model.specs.Soundness.{Each}
 use Rattle.cf_model.specs.State.{Filter, Link, Point, State, is_replay}
-use Rattle.cf_model.specs.Store.{Held, RecordedDone, Recorded, bytes_of, recorded_at}
+use Rattle.cf_model.specs.Store.{Held, RecordedDone, bytes_of, recorded_at}
 use Rattle.cf_model.specs.Words.{number_of, part}
 use Rattle.std.specs.Prelude.{zero, suc, slice_get, unwrap_or}
 use Rattle.cf_laws.specs.GivenOnce.{WasGiven}
@@ -163,9 +162,11 @@ IsPointRight r ms epoch tokens next log p = (p.count ≤ length log) × IsDurabl
 
 -- messages
 
--- the remote made the version of the entry, of its length
+-- the remote made the item of the entry, and the version of a file, of its length
 abbrev pub HasEntry : Held → Entry → Type 0
-HasEntry r e = e.dir ≡ false → ((e.version.0 ≡ 0) × (e.len ≡ 0)) ⊎ ((bytes : List ℕ) × (bytes_of r e.rid e.version ≡ Some bytes) × (length bytes ≡ e.len))
+HasEntry r e =
+    (1 ≤ e.rid.0) × (e.rid.0 ≤ length r.items)
+    × (e.dir ≡ false → ((e.version.0 ≡ 0) × (e.len ≡ 0)) ⊎ ((bytes : List ℕ) × (bytes_of r e.rid e.version ≡ Some bytes) × (length bytes ≡ e.len)))
 
 abbrev pub TellsTruth : Held → Reply → Type 0
 TellsTruth r (reply.Done token rid version) = recorded_at r.tokens token ≡ Some (RecordedDone rid version)

@@ -1,8 +1,11 @@
 pub mod Dehydrations
 pub mod Fitting
 pub mod GivenOnce
+pub mod History
 pub mod Invariant
+pub mod Locals
 pub mod Logged
 pub mod Openings
 pub mod Premises
 pub mod Contents
+pub mod Uses

@@ -1,5 +1,5 @@
 -- What a restart opens.
-use Rattle.std.specs.Prelude.{ℕ, List, length, take, ◌≡◌, ◌≤◌}
+use Rattle.std.specs.Prelude.{ℕ, length, take, ◌≡◌, ◌≤◌}
 use Rattle.cf_base.specs.declared.answers.OpenedBook.{OpenedBook}
 use Rattle.cf_base.specs.declared.events.DeviceEvent.TheVariants as device
 use Rattle.cf_base.specs.declared.events.Event.{Event}

@@ -4,5 +4,7 @@
 pub mod changes;
 pub mod contents;
 pub mod dehydration;
+pub mod locals;
 pub mod once;
 pub mod openings;
+pub mod uses;
