@@ -1,17 +1,17 @@
 -- Clusters that are held once are apart, and stay so as lists change.
-use Rattle.std.proofs.Common.{◌≡◌, ℕ, ◌+◌, ◌<◌, ◌≤◌, Bool, true, false, not, ◌&&◌, ◌||◌, ◌==◌, cond, List, [], ◌∷◌, ◌++◌, length, map, refl, sym, ◌∙◌, ap, subst, arith, eqb, ltb, inl, inr}
-use Rattle.std.specs.List.{flat_map, list_any}
+use Rattle.std.proofs.Common.{◌≡◌, ℕ, ◌+◌, ◌≤◌, Bool, true, false, not, ◌&&◌, ◌||◌, ◌==◌, cond, List, [], ◌∷◌, ◌++◌, length, map, refl, sym, ◌∙◌, ap, subst, arith, eqb, ltb, inl, inr}
+use Rattle.std.specs.List.{list_any}
 use Rattle.std.specs.Prelude.{slice_index_or}
-use Rattle.std.proofs.lemmas.Bool.{cases_Bool, cond-true, cond-false, eqb-true, eq-eqb, lt-ltb, cases_lt}
+use Rattle.std.proofs.lemmas.Bool.{eq-eqb, lt-ltb, cases_lt}
 use Rattle.std.proofs.lemmas.List.Concat.{flat_map-cons}
 use Rattle.std.proofs.Math.ListN.{get_or-eq_default}
-use Rattle.cf_data.specs.Roles.{committed, is_now}
+use Rattle.cf_data.specs.Roles.{is_now}
 use Rattle.cf_data.specs.declared.uses.Use.{Use}
 use Rattle.cf_data.specs.declared.uses.Use.TheVariants.{Free, Held, Staged, Dropped}
 use Rattle.cf_model.specs.Rows.{Extent}
 use Rattle.cf_model.specs.Rows as model
 use Rattle.cf_model.specs.Standing.{are_apart, clusters_of}
-use Rattle.cf_points.specs.Clusters.{Owns, clusters_in_row, clusters_in_rows, once, times}
+use Rattle.cf_points.specs.Clusters.{Owns, clusters_in_rows, once, times}
 use Rattle.cf_points.proofs.Frames.{cluster_names, clusters_more}
 use Rattle.cf_table.specs.Spelling.{row_value}
 use Rattle.cf_table.specs.declared.rows.Row.{Row}

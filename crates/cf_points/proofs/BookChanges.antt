@@ -1,18 +1,16 @@
 -- Another book beside the same items.
-use Rattle.std.proofs.Common.{◌≡◌, ◌⊎◌, inl, inr, ℕ, ◌+◌, ◌*◌, ◌<◌, ◌≤◌, ◌==◌, Bool, true, false, not, cond, eqb, ltb, List, [], ◌∷◌, length, map, min, refl, sym, ◌∙◌, ap, subst, arith, Option, Some, None}
-use Rattle.std.specs.Prelude.{find, filter, option_map, sum_by}
+use Rattle.std.proofs.Common.{◌≡◌, inl, inr, ℕ, ◌+◌, ◌<◌, ◌≤◌, ◌==◌, Bool, true, false, cond, eqb, ltb, List, [], ◌∷◌, map, min, refl, sym, ◌∙◌, ap, subst, arith, Option, Some, None}
+use Rattle.std.specs.Prelude.{find, option_map, sum_by}
 use Rattle.std.proofs.lemmas.Bool.{cases_eq, cond-true, cond-false, eq-eqb, eqb-true, ne_eqb, true≢false}
 use Rattle.std.proofs.lemmas.List.Sums.{sum_by-cons}
-use Rattle.std.proofs.lemmas.Option.{none-some, same_Some}
-use Rattle.cf_base.specs.declared.answers.Access.{Access}
-use Rattle.cf_base.specs.declared.answers.Anchor.{Anchor}
+use Rattle.std.proofs.lemmas.Option.{none-some}
 use Rattle.cf_base.specs.declared.answers.AuxRecord.{AuxRecord}
 use Rattle.cf_base.specs.declared.ids.ItemId.{ItemId}
 use Rattle.cf_base.specs.declared.ids.Usn.{Usn}
 use Rattle.cf_disk.specs.Disk.{State}
-use Rattle.cf_model.specs.Books.{Book, access_of, anchor_of, aux_records, put_access, with_access, with_anchor, with_ticks, without_access, without_anchor}
+use Rattle.cf_model.specs.Books.{Book, access_of, anchor_of, aux_records, with_access, with_anchor, with_ticks, without_access, without_anchor}
 use Rattle.cf_model.specs.Effects.{changed, later_than}
-use Rattle.cf_model.specs.Images.{aux_len, count_runs, image_len, row_len, writes_since}
+use Rattle.cf_model.specs.Images.{count_runs, row_len, writes_since}
 use Rattle.cf_model.specs.Items.{Item, covered_flags, item_of}
 use Rattle.cf_model.specs.Numbers.{no_usn}
 use Rattle.cf_model.specs.Standing.{HoldAll}
@@ -20,13 +18,13 @@ use Rattle.cf_model.specs.State.{Volume}
 use Rattle.cf_model.specs.Words.{part, put_in, same}
 use Rattle.cf_points.proofs.Found.{found_left, found_put}
 use Rattle.cf_points.proofs.ItemChanges.{row_holds}
-use Rattle.cf_points.proofs.RowChanges.{named_by, rest_of, times_split, times_with, with_holds}
+use Rattle.cf_points.proofs.RowChanges.{named_by, times_split, times_with, with_holds}
 use Rattle.cf_points.proofs.RowRoom.{none_covered}
 use Rattle.cf_points.specs.At.{At}
 use Rattle.cf_points.specs.Clusters.{Owns, clusters_in_row, clusters_in_rows, times}
 use Rattle.cf_points.specs.Holding.{FitsTable, HoldRows, HoldsRow}
 use Rattle.cf_points.specs.Known.{Known, record_then, row_then}
-use Rattle.cf_points.specs.Standing.{IsBookOf, cluster_on}
+use Rattle.cf_points.specs.Standing.{cluster_on}
 use Rattle.cf_table.proofs.Above.{none_above}
 use Rattle.cf_table.specs.Means.{AreUpTo, Means}
 use Rattle.cf_table.specs.Spelling.{extent_of, row_value}

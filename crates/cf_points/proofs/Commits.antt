@@ -1,24 +1,23 @@
 -- A commit makes the state now the last point.
-use Rattle.std.proofs.Common.{◌≡◌, ◌⊎◌, inl, inr, ⊎_elim, ℕ, zero, suc, ◌+◌, ◌*◌, ◌<◌, ◌≤◌, ◌==◌, Bool, true, false, ◌&&◌, ◌||◌, cond, eqb, ltb, List, [], ◌∷◌, ◌++◌, length, map, take, Option, Some, None, refl, sym, ◌∙◌, ap, subst, arith}
-use Rattle.std.specs.Prelude.{All, ◌-◌, ◌/◌, find, option_map, slice_index_or, sum_by}
+use Rattle.std.proofs.Common.{◌≡◌, ℕ, zero, suc, ◌+◌, ◌<◌, ◌≤◌, Bool, true, false, ◌&&◌, ◌||◌, cond, eqb, ltb, List, [], ◌∷◌, length, map, take, Some, None, refl, sym, ◌∙◌, ap, subst, arith}
+use Rattle.std.specs.Prelude.{◌-◌, ◌/◌, option_map, sum_by}
 use Rattle.std.specs.List.{flat_map}
-use Rattle.std.proofs.lemmas.Bool.{cond-true, cond-false, eqb-true, lt-ltb, ltb-false, ltb-true, ne_eqb, true≢false}
+use Rattle.std.proofs.lemmas.Bool.{cond-false, eqb-true, lt-ltb, ltb-false, ltb-true, ne_eqb, true≢false}
 use Rattle.std.proofs.lemmas.List.{take_all, length-append, length-map}
 use Rattle.std.proofs.lemmas.List.Concat.{length-flat_map}
-use Rattle.std.proofs.lemmas.List.Elements.{All-head, All-tail, All-nil, All-cons, All-weaker}
+use Rattle.std.proofs.lemmas.List.Elements.{All-nil, All-cons, All-weaker}
 use Rattle.cf_base.specs.declared.changes.Change.{Change}
 use Rattle.cf_base.specs.declared.answers.AuxRecord.{AuxRecord}
 use Rattle.cf_base.specs.declared.ids.ItemId.{ItemId}
 use Rattle.cf_base.specs.declared.ids.Usn.{Usn}
-use Rattle.cf_data.specs.Roles.{IsCommitted, committed, how_many, is_free, is_now, use_of}
+use Rattle.cf_data.specs.Roles.{IsCommitted, committed, is_now, use_of}
 use Rattle.cf_data.specs.declared.uses.Use.{Use}
 use Rattle.cf_data.specs.declared.uses.Use.TheVariants.{Free, Held, Staged, Dropped}
-use Rattle.cf_disk.specs.Disk.{Leaves, Only, State, part, size_of}
+use Rattle.cf_disk.specs.Disk.{Only, State, part, size_of}
 use Rattle.cf_image.specs.Sound.{IsSound}
 use Rattle.cf_image.specs.Spelled.{AreRecordsFrom}
-use Rattle.cf_image.specs.States.{IsContents, Tells}
+use Rattle.cf_image.specs.States.{Tells}
 use Rattle.cf_journal.specs.Content.{Content, clusters}
-use Rattle.cf_journal.specs.Content as journal
 use Rattle.cf_journal.specs.Settled.{Settled}
 use Rattle.cf_journal.specs.declared.journals.Journal.{Journal}
 use Rattle.cf_model.proofs.LengthLaws.{image_length, in_bytes-length, record_length}
@@ -26,7 +25,7 @@ use Rattle.cf_model.specs.Blocks.{blocks_used}
 use Rattle.cf_model.specs.Books.{Book}
 use Rattle.cf_model.specs.Given.{AllBelow}
 use Rattle.cf_model.specs.Numbers.{above}
-use Rattle.cf_model.specs.Formats.{Header, Image, spell_image, spell_record}
+use Rattle.cf_model.specs.Formats.{Header, spell_image, spell_record}
 use Rattle.cf_model.specs.Images.{aux_len}
 use Rattle.cf_model.specs.Items.{Item, item_of}
 use Rattle.cf_model.specs.Logs.{items_of}
@@ -34,21 +33,21 @@ use Rattle.cf_model.specs.Rows.{IsSoundRow, spell_row}
 use Rattle.cf_model.specs.Rows as model
 use Rattle.cf_model.specs.Standing.{AreRowsOf, AreSound, Stands, are_apart, clusters_of}
 use Rattle.cf_model.specs.State.{Point, Volume}
-use Rattle.cf_model.specs.Words.{in_bytes, same}
-use Rattle.cf_points.specs.At.{At, Keeps, Kept, KnowsThen}
+use Rattle.cf_model.specs.Words.{in_bytes}
+use Rattle.cf_points.specs.At.{At}
 use Rattle.cf_points.specs.Clusters.{HoldsCommitted, Owns, clusters_in_rows, once, times}
 use Rattle.cf_points.specs.Holding.{HoldRows, Holds}
-use Rattle.cf_points.specs.Known.{Known, RowsRise, record_then, row_then}
+use Rattle.cf_points.specs.Known.{Known, RowsRise, row_then}
 use Rattle.cf_points.specs.Sound.{IsKeepable, Sound, header_now, image_now, last_number, len_now}
-use Rattle.cf_points.specs.Standing.{AreWhole, IsBookOf, IsLogOf, Standing, cluster_on, clusters_on}
-use Rattle.cf_points.proofs.Apart.{head_once, none_past, owned_apart, row_clusters}
+use Rattle.cf_points.specs.Standing.{AreWhole, IsBookOf, IsLogOf, cluster_on, clusters_on}
+use Rattle.cf_points.proofs.Apart.{head_once, owned_apart, row_clusters}
 use Rattle.cf_points.proofs.Counted.{used_committed, used_now}
 use Rattle.cf_points.proofs.Frames.{holding_frame, same_all, stands_frame}
 use Rattle.cf_points.proofs.KeptSound.{all_placed, all_there, means_all, names_apart, no_top, root_there, rows_bytes, rows_found, rows_sound}
 use Rattle.cf_points.proofs.RowOf.{rows_are_of_items}
 use Rattle.cf_table.proofs.Lengths.{spelled_length}
 use Rattle.cf_table.specs.Spelling.{row_value}
-use Rattle.cf_table.specs.Tables.{MeansAll, RisesFrom, row_of, rows_len}
+use Rattle.cf_table.specs.Tables.{RisesFrom, row_of, rows_len}
 use Rattle.cf_table.specs.declared.rows.Row.{Row}
 
 pub records_length : (rs : List AuxRecord) → length (flat_map spell_record rs) ≡ sum_by aux_len rs
@@ -108,7 +107,7 @@ now_sound s k v sound fit holds =
     record {
       rows = stands.sound;
       top = no_top k.table.rows v.items means fit.tree.order;
-      root = root_there k.table.rows v.items means fit.tree fit.populated fit.top;
+      root = root_there k.table.rows v.items means fit.tree fit.populated;
       placed = all_placed k.table.rows v.items means fit.tree fit.populated;
       named = names_apart k.table.rows v.items means fit.tree fit.populated;
       blocks = rows_bytes (cluster_on s.seen) v.book k.table.rows v.items sound.kept holds.rows;

@@ -1,14 +1,13 @@
 -- The state holds as many clusters as its rows have blocks.
-use Rattle.std.proofs.Common.{◌≡◌, ℕ, zero, suc, ◌+◌, ◌<◌, ◌≤◌, ◌==◌, Bool, true, false, cond, eqb, List, [], ◌∷◌, ◌++◌, length, map, set, refl, sym, ◌∙◌, ap, subst, arith, inl, inr, get_or-set_other}
-use Rattle.std.specs.Prelude.{slice_index_or, sum_by}
-use Rattle.std.specs.List.{flat_map}
+use Rattle.std.proofs.Common.{◌≡◌, ℕ, zero, suc, ◌+◌, ◌<◌, ◌≤◌, Bool, true, false, cond, eqb, List, [], ◌∷◌, length, map, set, refl, sym, ◌∙◌, ap, subst, arith, inl, inr, get_or-set_other}
+use Rattle.std.specs.Prelude.{slice_index_or}
 use Rattle.std.proofs.lemmas.Bool.{cases_lt, eq-eqb, eqb-true}
 use Rattle.std.proofs.lemmas.List.Sums.{sum_by-cons}
-use Rattle.std.proofs.lemmas.List.{get_or-set_same, get_or_default, length-append, length-map}
+use Rattle.std.proofs.lemmas.List.{length-append, length-map}
 use Rattle.cf_data.proofs.Counts.{how_many-set, now_committed, none_dropped, uses_add_up}
-use Rattle.cf_data.specs.Roles.{committed, how_many, is_dropped, is_free, is_now}
+use Rattle.cf_data.specs.Roles.{committed, how_many, is_free, is_now}
 use Rattle.cf_data.specs.declared.uses.Use.{Use}
-use Rattle.cf_data.specs.declared.uses.Use.TheVariants.{Free, Held, Staged, Dropped}
+use Rattle.cf_data.specs.declared.uses.Use.TheVariants.{Free}
 use Rattle.cf_model.specs.Blocks.{blocks_held, blocks_holding, blocks_used}
 use Rattle.cf_model.specs.Books.{Book}
 use Rattle.cf_model.specs.Items.{Item}

@@ -1,8 +1,8 @@
 -- Extents dropped one after the other.
-use Rattle.std.proofs.Common.{◌≡◌, ℕ, zero, suc, ◌+◌, ◌<◌, ◌≤◌, ◌==◌, Bool, true, false, not, ◌&&◌, ◌||◌, cond, eqb, List, [], ◌∷◌, ◌++◌, length, map, set, take, get_or, refl, sym, ◌∙◌, ap, subst, arith, inl, inr, Option, Some, None}
-use Rattle.std.specs.Prelude.{MatchOption, filter, slice_index_or}
-use Rattle.std.proofs.lemmas.Bool.{cases_eq, cond-true, cond-false, eq-eqb, eqb-true, ne_eqb, true≢false}
-use Rattle.std.proofs.lemmas.Option.{none-some, same_Some}
+use Rattle.std.proofs.Common.{◌≡◌, ℕ, ◌+◌, ◌<◌, ◌≤◌, Bool, true, false, not, ◌&&◌, ◌||◌, cond, eqb, List, [], ◌∷◌, ◌++◌, length, refl, sym, ◌∙◌, ap, subst, arith, Option, Some, None}
+use Rattle.std.specs.Prelude.{MatchOption, filter}
+use Rattle.std.proofs.lemmas.Bool.{eq-eqb, eqb-true, true≢false}
+use Rattle.std.proofs.lemmas.Option.{none-some}
 use Rattle.cf_blocks.proofs.Elsewhere.{among_filter}
 use Rattle.cf_blocks.specs.Bytes.{is_among}
 use Rattle.cf_data.proofs.Counts.{how_many-set}
@@ -11,12 +11,12 @@ use Rattle.cf_data.specs.Roles.{IsCommitted, dropped, dropped_at, how_many, is_f
 use Rattle.cf_data.specs.declared.uses.Use.{Use}
 use Rattle.cf_data.specs.declared.uses.Use.TheVariants.{Free, Held, Staged, Dropped}
 use Rattle.cf_points.specs.Clusters.{once, times}
-use Rattle.cf_points.specs.Staging.{Drops, DropsAll, DropsGone, DropsOne, names}
+use Rattle.cf_points.specs.Staging.{Drops, DropsAll, DropsGone, DropsOne}
 use Rattle.cf_points.proofs.Apart.{head_once}
 use Rattle.cf_points.proofs.Extents.{is_one, named_once, put_times}
 use Rattle.cf_points.proofs.FileRows.{blocks_in_extents, none_among}
 use Rattle.cf_points.proofs.Stages.{among_push, length-dropped, once_dropped}
-use Rattle.cf_ranges.specs.Pairs.{IsRising, Puts, cluster_at}
+use Rattle.cf_ranges.specs.Pairs.{IsRising, cluster_at}
 use Rattle.cf_ranges.specs.Positions.{touches}
 use Rattle.cf_base.specs.declared.spans.Span.{Span}
 

@@ -1,20 +1,20 @@
 -- The extents of a file row, before its blocks are staged and after the last one is dropped.
-use Rattle.std.proofs.Common.{◌≡◌, ◌⊎◌, inl, inr, ⊎_elim, ℕ, zero, suc, ◌+◌, ◌*◌, ◌/◌, ◌%◌, ◌<◌, ◌≤◌, ◌==◌, Bool, true, false, not, ◌&&◌, ◌||◌, cond, eqb, ltb, List, [], ◌∷◌, length, map, refl, sym, ◌∙◌, ap, subst, arith, Option, Some, None}
+use Rattle.std.proofs.Common.{◌≡◌, inl, inr, ℕ, zero, suc, ◌+◌, ◌*◌, ◌/◌, ◌%◌, ◌<◌, ◌≤◌, Bool, true, false, ◌||◌, cond, eqb, List, [], ◌∷◌, length, map, refl, sym, ◌∙◌, ap, subst, arith, Option, Some, None}
 use Rattle.std.specs.Prelude.{◌≢◌, slice_get, filter}
-use Rattle.std.proofs.lemmas.Bool.{cases_eq, cases_lt, cases_order, cond-true, cond-false, eq-eqb, eqb-true, ne_eqb, true≢false}
+use Rattle.std.proofs.lemmas.Bool.{cases_eq, cases_order, cond-true, cond-false, eq-eqb, eqb-true, ne_eqb, true≢false}
 use Rattle.std.proofs.lemmas.Option.{none-some, same_Some}
 use Rattle.cf_base.specs.declared.ids.ItemId.{ItemId}
 use Rattle.cf_blocks.proofs.Elsewhere.{among_holding, block_holds, no_block, none_held}
 use Rattle.cf_blocks.proofs.Laid.{is_here}
-use Rattle.cf_blocks.specs.Bytes.{HoldsBlock, byte_is, has_at, holds_at, is_among}
+use Rattle.cf_blocks.specs.Bytes.{HoldsBlock, has_at, holds_at, is_among}
 use Rattle.cf_data.specs.declared.uses.Use.{Use}
 use Rattle.cf_model.specs.Blocks.{block_has_byte, blocks_holding, blocks_in}
 use Rattle.cf_model.specs.Books.{Book}
 use Rattle.cf_model.specs.Items.{Item, is_held}
 use Rattle.cf_model.specs.Rows.{Extent}
 use Rattle.cf_model.specs.Standing.{HoldAll, HoldsByte}
-use Rattle.cf_model.specs.Words.{counting, passes_at}
-use Rattle.cf_points.specs.Clusters.{Owns, clusters_in_rows, once, times}
+use Rattle.cf_model.specs.Words.{counting}
+use Rattle.cf_points.specs.Clusters.{Owns, clusters_in_rows, times}
 use Rattle.cf_points.specs.Holding.{HoldsRow}
 use Rattle.cf_points.specs.Staging.{AreBlocks, names}
 use Rattle.cf_points.proofs.RowChanges.{named_by, rest_of, times_split}

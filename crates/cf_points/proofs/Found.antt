@@ -1,7 +1,6 @@
 -- What is found in a list after something was put in or taken out.
 use Rattle.std.proofs.Common.{◌≡◌, Bool, true, false, not, cond, List, [], ◌∷◌, refl, sym, ◌∙◌, ap, Option, Some, None}
 use Rattle.std.specs.Prelude.{find, filter}
-use Rattle.std.proofs.lemmas.Bool.{cond-true, cond-false, true≢false}
 use Rattle.std.proofs.lemmas.Option.{none-some}
 use Rattle.cf_model.specs.Words.{put_in}
 

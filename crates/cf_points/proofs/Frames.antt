@@ -1,13 +1,11 @@
 -- The same bytes in the clusters that rows name mean the same.
-use Rattle.std.proofs.Common.{◌≡◌, ℕ, ◌+◌, ◌*◌, ◌<◌, ◌≤◌, List, [], ◌∷◌, ◌++◌, length, map, take, drop, Option, refl, sym, ◌∙◌, ap, subst, arith, slice_get}
-use Rattle.std.specs.Prelude.{All, Some, ◌/◌, ◌%◌}
-use Rattle.std.specs.List.{flat_map}
+use Rattle.std.proofs.Common.{◌≡◌, ℕ, ◌+◌, ◌*◌, List, [], ◌∷◌, ◌++◌, map, take, drop, Option, refl, sym, ◌∙◌, ap, subst, slice_get}
+use Rattle.std.specs.Prelude.{All, ◌%◌}
 use Rattle.std.proofs.lemmas.List.{drop-drop}
 use Rattle.std.proofs.lemmas.List.Concat.{flat_map-cons}
-use Rattle.std.proofs.lemmas.List.Elements.{All-head, All-tail, All-nil, All-cons, All-weaker}
+use Rattle.std.proofs.lemmas.List.Elements.{All-head, All-tail, All-nil, All-cons}
 use Rattle.cf_base.specs.declared.changes.Change.{Change}
 use Rattle.cf_base.specs.declared.ids.Usn.{Usn}
-use Rattle.cf_data.specs.Area.{place}
 use Rattle.cf_disk.specs.Disk.{part}
 use Rattle.cf_journal.specs.Content.{clusters}
 use Rattle.cf_model.specs.Books.{Book}

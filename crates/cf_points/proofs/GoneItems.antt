@@ -1,7 +1,7 @@
 -- An item that is removed.
-use Rattle.std.proofs.Common.{◌≡◌, ◌⊎◌, inl, inr, ⊎_elim, ℕ, zero, suc, ◌+◌, ◌*◌, ◌<◌, ◌≤◌, ◌==◌, Bool, true, false, not, cond, eqb, ltb, max, List, [], ◌∷◌, ◌++◌, length, map, take, refl, sym, ◌∙◌, ap, subst, arith, Option, Some, None}
-use Rattle.std.specs.Prelude.{All, find, filter, option_map}
-use Rattle.std.proofs.lemmas.Bool.{cases_eq, cond-true, cond-false, eq-eqb, eqb-true, ne_eqb, true≢false}
+use Rattle.std.proofs.Common.{◌≡◌, inl, inr, ℕ, ◌+◌, ◌==◌, Bool, true, false, not, cond, eqb, max, List, [], ◌∷◌, take, refl, sym, ◌∙◌, ap, subst, arith, Option, Some, None}
+use Rattle.std.specs.Prelude.{find, option_map}
+use Rattle.std.proofs.lemmas.Bool.{cases_eq, cond-true, cond-false, eq-eqb, eqb-true, true≢false}
 use Rattle.std.proofs.lemmas.List.{length-append}
 use Rattle.std.proofs.lemmas.Option.{none-some}
 use Rattle.cf_base.specs.declared.answers.Access.{Access}
@@ -12,28 +12,24 @@ use Rattle.cf_base.specs.declared.ids.ItemId.{ItemId}
 use Rattle.cf_base.specs.declared.ids.Usn.{Usn}
 use Rattle.cf_base.specs.declared.answers.AuxRecord.{AuxRecord}
 use Rattle.cf_data.specs.declared.uses.Use.{Use}
-use Rattle.cf_disk.specs.Disk.{Leaves, State}
-use Rattle.cf_model.specs.Blocks.{blocks_used}
+use Rattle.cf_disk.specs.Disk.{State}
 use Rattle.cf_model.specs.Books.{Book, access_of, anchor_of, aux_records, book_after, without_access, without_anchor}
 use Rattle.cf_model.specs.Changes.{next_number, put_change}
-use Rattle.cf_model.specs.Effects.{effect, without}
+use Rattle.cf_model.specs.Effects.{without}
 use Rattle.cf_model.specs.Items.{Item, item_of}
 use Rattle.cf_model.specs.Numbers.{no_usn}
 use Rattle.cf_model.specs.State.{Volume}
 use Rattle.cf_model.specs.Words.{part}
 use Rattle.cf_points.specs.At.{At, Kept}
-use Rattle.cf_points.specs.Clusters.{Owns, clusters_in_rows, named_in, once, times}
-use Rattle.cf_points.specs.Holding.{FitsTable, HoldRows, Holds, HoldsRow}
+use Rattle.cf_points.specs.Clusters.{Owns, clusters_in_rows, named_in, times}
+use Rattle.cf_points.specs.Holding.{FitsTable, HoldRows}
 use Rattle.cf_points.specs.Known.{Known, record_then, row_then}
 use Rattle.cf_points.specs.Staging.{DropsAll}
-use Rattle.cf_points.specs.Standing.{IsBookOf, cluster_on}
+use Rattle.cf_points.specs.Standing.{cluster_on}
 use Rattle.cf_points.proofs.LogSteps.{next_least, put_of_log, same_front}
 use Rattle.cf_points.proofs.Points.{Fair, kept_staged}
 use Rattle.cf_points.proofs.RowChanges.{named_by, rest_of, times_split, times_without}
-use Rattle.cf_data.specs.Area.{KeepsWhere, SameWhere}
-use Rattle.cf_data.specs.Roles.{IsCommitted}
 use Rattle.cf_model.specs.Words.{same}
-use Rattle.cf_table.specs.Means.{Means}
 use Rattle.cf_table.specs.Spelling.{row_value}
 use Rattle.cf_table.specs.Tables.{RisesFrom, row_of, without_row}
 use Rattle.cf_table.specs.declared.rows.Row.{Row}

@@ -1,44 +1,41 @@
 -- A change of an item that stays, carried out.
-use Rattle.std.proofs.Common.{◌≡◌, ◌⊎◌, inl, inr, ⊎_elim, ℕ, zero, suc, ◌+◌, ◌*◌, ◌/◌, ◌<◌, ◌≤◌, ◌==◌, Bool, true, false, cond, eqb, max, List, [], ◌∷◌, ◌++◌, length, map, take, refl, sym, ◌∙◌, ap, subst, arith, Option, Some, None}
-use Rattle.std.specs.Prelude.{All, find, option_map, MatchOption}
-use Rattle.std.proofs.lemmas.Bool.{cond-true, cond-false, eq-eqb, eqb-true, ne_eqb, true≢false}
+use Rattle.std.proofs.Common.{◌≡◌, ℕ, ◌+◌, ◌/◌, ◌≤◌, ◌==◌, Bool, true, false, cond, eqb, max, List, [], ◌∷◌, length, map, take, refl, sym, ◌∙◌, ap, subst, arith, Option, Some, None}
+use Rattle.std.specs.Prelude.{find, option_map}
+use Rattle.std.proofs.lemmas.Bool.{cond-true, cond-false, eqb-true}
 use Rattle.std.proofs.lemmas.List.{length-append}
 use Rattle.std.proofs.lemmas.List.Elements.{All-cons, All-nil}
 use Rattle.std.proofs.lemmas.Option.{none-some, same_Some}
 use Rattle.cf_base.specs.declared.changes.Change.{Change}
 use Rattle.cf_base.specs.declared.ids.ItemId.{ItemId}
 use Rattle.cf_base.specs.declared.ids.Usn.{Usn}
-use Rattle.cf_base.specs.declared.items.Pin.{Pin}
 use Rattle.cf_blocks.proofs.Elsewhere.{elsewhere, touches_block}
 use Rattle.cf_blocks.specs.Bytes.{holds_at, is_among, puts_in}
 use Rattle.cf_data.specs.Area.{KeepsWhere}
-use Rattle.cf_data.specs.Roles.{IsCommitted, how_many, is_free, use_of}
+use Rattle.cf_data.specs.Roles.{IsCommitted}
 use Rattle.cf_data.specs.declared.uses.Use.{Use}
-use Rattle.cf_disk.specs.Disk.{Leaves, State, size_of}
-use Rattle.cf_model.specs.Blocks.{block_has_byte, blocks_used, held_of, puts_into}
+use Rattle.cf_disk.specs.Disk.{Leaves, State}
+use Rattle.cf_model.specs.Blocks.{puts_into}
 use Rattle.cf_model.specs.Books.{Book, access_of, anchor_of, aux_records, book_after}
 use Rattle.cf_model.specs.Changes.{next_number, put_change}
 use Rattle.cf_model.specs.Effects.{changed, effect}
-use Rattle.cf_model.specs.Formats.{Image}
 use Rattle.cf_model.specs.Items.{Item, item_of}
-use Rattle.cf_model.specs.Logs.{items_of, next_by}
-use Rattle.cf_model.specs.State.{Point, Volume}
+use Rattle.cf_model.specs.Logs.{next_by}
+use Rattle.cf_model.specs.State.{Volume}
 use Rattle.cf_model.specs.Words.{part}
-use Rattle.cf_points.specs.At.{At, Keeps, Kept, KnowsThen}
-use Rattle.cf_points.specs.Clusters.{Owns, clusters_in_row, clusters_in_rows, once, times}
-use Rattle.cf_points.specs.Holding.{FitsTable, HoldRows, Holds, HoldsRow}
+use Rattle.cf_points.specs.At.{At, Kept}
+use Rattle.cf_points.specs.Clusters.{Owns, clusters_in_row, clusters_in_rows, times}
+use Rattle.cf_points.specs.Holding.{FitsTable, HoldRows, HoldsRow}
 use Rattle.cf_points.specs.Known.{Known, row_then}
-use Rattle.cf_points.specs.Staging.{AreBlocks, DropsGone, Moves, names}
-use Rattle.cf_points.specs.Standing.{IsBookOf, Standing, cluster_on}
+use Rattle.cf_points.specs.Staging.{AreBlocks, DropsGone, Moves}
+use Rattle.cf_points.specs.Standing.{IsBookOf, cluster_on}
 use Rattle.cf_points.proofs.Apart.{head_once}
 use Rattle.cf_points.proofs.FileRows.{final_blocks, final_bytes, start_blocks}
 use Rattle.cf_points.proofs.Frames.{SameIn, cluster_names, hold_frame}
 use Rattle.cf_points.proofs.LogSteps.{none_changed, put_of_log, next_least, same_front, same_item, stays_book, stays_next, stays_puts}
 use Rattle.cf_points.proofs.Points.{Fair, kept_staged}
-use Rattle.cf_points.proofs.RowChanges.{found_with, rest_of, times_with, with_holds}
+use Rattle.cf_points.proofs.RowChanges.{rest_of, times_with, with_holds}
 use Rattle.cf_ranges.specs.Pairs.{IsRising}
 use Rattle.cf_ranges.specs.Positions.{IsRuns, touches}
-use Rattle.cf_table.proofs.Lengths.{rows_are_items}
 use Rattle.cf_table.proofs.Stays.{effect_is}
 use Rattle.cf_table.specs.Applied.{item_effect}
 use Rattle.cf_table.specs.Changing.{item_of_change, pin_for, stays}

@@ -1,8 +1,8 @@
 -- The image of a volume that can be kept is sound.
-use Rattle.std.proofs.Common.{◌≡◌, ◌≢◌, ℕ, zero, suc, ◌+◌, ◌*◌, ◌/◌, ◌<◌, ◌≤◌, ◌==◌, Bool, true, false, ◌&&◌, ◌||◌, not, cond, eqb, List, [], ◌∷◌, length, map, Option, Some, None, refl, sym, ◌∙◌, ap, subst, arith}
-use Rattle.std.specs.Prelude.{All, MatchOption, find, option_map}
+use Rattle.std.proofs.Common.{◌≡◌, ◌≢◌, ℕ, zero, suc, ◌+◌, ◌/◌, ◌<◌, ◌≤◌, Bool, true, false, ◌&&◌, ◌||◌, not, cond, eqb, List, [], ◌∷◌, map, Option, Some, None, refl, sym, ◌∙◌, ap, subst, arith}
+use Rattle.std.specs.Prelude.{All, find, option_map}
 use Rattle.std.specs.List.{list_any}
-use Rattle.std.proofs.lemmas.Bool.{cond-true, cond-false, eq-eqb, eqb-true, ne_eqb, true≢false}
+use Rattle.std.proofs.lemmas.Bool.{cond-true, cond-false, eq-eqb, ne_eqb, true≢false}
 use Rattle.std.proofs.lemmas.List.Elements.{All-head, All-tail, All-nil, All-cons, All-weaker}
 use Rattle.cf_base.specs.declared.ids.ItemId.{ItemId}
 use Rattle.cf_base.specs.declared.ids.Usn.{Usn}
@@ -11,8 +11,7 @@ use Rattle.cf_blocks.specs.Bytes.{is_among}
 use Rattle.cf_image.proofs.SoundRows.{has_place_is}
 use Rattle.cf_image.proofs.TreeSteps.{root_reached}
 use Rattle.cf_image.specs.Contents.{row_at}
-use Rattle.cf_image.specs.Sound.{AllHoldBytes, ArePlaced, HasRoot, HoldsBytes, IsSound, are_named, has_block, is_namesake, reaches_root, takes_children}
-use Rattle.cf_model.specs.Blocks.{block_has_byte, blocks_holding}
+use Rattle.cf_image.specs.Sound.{AllHoldBytes, ArePlaced, HasRoot, HoldsBytes, are_named, has_block, is_namesake, reaches_root, takes_children}
 use Rattle.cf_model.specs.Books.{Book}
 use Rattle.cf_model.specs.Formats.{Header}
 use Rattle.cf_model.specs.Items.{Item, item_of}
@@ -259,12 +258,13 @@ module _ (rows : List Row) (items : List Item) (means : MeansAll rows items) (is
   pub all_placed : ArePlaced (map row_value rows) (map row_value rows)
   all_placed = placed_from rows items means all_stand
 
-  pub root_there : ((i : Item) → item_of items root_id ≡ Some i → i.parent.0 ≡ 0) → HasRoot (map row_value rows)
-  root_there top =
+  pub root_there : HasRoot (map row_value rows)
+  root_there =
       let there : item_of items root_id ≡ Some (root_of items) = root_found items root_id refl is_tree.root in
       let found = row_there rows items root_id (root_of items) means there in
-      (row_value found.0, found.1, (found.2.directory ∙ root_dir items is_tree.root, ap (λ (k : ItemId). k.0) found.2.parent ∙ top (root_of items) there))
+      let first = begins items is_tree.root in
+      (row_value found.0, found.1, (found.2.directory ∙ first.0, ap (λ (k : ItemId). k.0) found.2.parent ∙ first.1))
     where
-      root_dir : (is : List Item) → tree.BeginWithRoot is → (root_of is).directory ≡ true
-      root_dir [] h = absurd h
-      root_dir (r ∷ is) h = h.1
+      begins : (is : List Item) → tree.BeginWithRoot is → ((root_of is).directory ≡ true) × ((root_of is).parent.0 ≡ 0)
+      begins [] h = absurd h
+      begins (r ∷ is) h = (h.1, h.2)

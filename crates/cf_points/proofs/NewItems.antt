@@ -12,23 +12,28 @@ use Rattle.cf_base.specs.declared.ids.Usn.{Usn}
 use Rattle.cf_blocks.proofs.Elsewhere.{no_block}
 use Rattle.cf_blocks.proofs.Unlaid.{none_in}
 use Rattle.cf_data.specs.Area.{KeepsWhere}
+use Rattle.cf_data.specs.Roles.{IsCommitted}
 use Rattle.cf_data.specs.declared.uses.Use.{Use}
-use Rattle.cf_disk.specs.Disk.{State}
-use Rattle.cf_model.specs.Blocks.{block_has_byte, blocks_holding, blocks_in, blocks_used}
+use Rattle.cf_disk.specs.Disk.{Leaves, State}
+use Rattle.cf_model.specs.Blocks.{block_has_byte, blocks_holding, blocks_in, puts_into}
 use Rattle.cf_model.specs.Books.{Book, access_of, anchor_of, aux_records, book_after}
 use Rattle.cf_model.specs.Changes.{next_number, put_change}
 use Rattle.cf_model.specs.Effects.{effect}
 use Rattle.cf_model.specs.Items.{Item, is_held, item_of}
+use Rattle.cf_model.specs.Numbers.{no_usn}
 use Rattle.cf_model.specs.State.{Volume}
 use Rattle.cf_model.specs.Words.{counting}
 use Rattle.cf_points.specs.At.{At, Kept}
-use Rattle.cf_points.specs.Clusters.{Owns, clusters_in_row, clusters_in_rows, times}
+use Rattle.cf_points.specs.Clusters.{Owns, clusters_in_row, clusters_in_rows, once, times}
 use Rattle.cf_points.specs.Holding.{FitsTable, HoldRows, Holds, HoldsRow}
 use Rattle.cf_points.specs.Known.{Known, row_then}
+use Rattle.cf_points.specs.Staging.{Moves}
 use Rattle.cf_points.specs.Standing.{IsBookOf, cluster_on}
 use Rattle.cf_points.proofs.Apart.{times-append}
-use Rattle.cf_points.proofs.Frames.{clusters_more}
+use Rattle.cf_points.proofs.Frames.{clusters_more, holding_frame}
+use Rattle.cf_points.proofs.ItemChanges.{same_in}
 use Rattle.cf_points.proofs.LogSteps.{put_of_log, same_front}
+use Rattle.cf_points.proofs.Points.{Fair, kept_staged}
 use Rattle.cf_table.specs.Means.{IsFresh, Means}
 use Rattle.cf_model.specs.Standing.{HoldAll}
 use Rattle.cf_table.specs.Spelling.{extent_of, row_value}
@@ -85,34 +90,43 @@ none_pass f (b ∷ bs) h = cond-false (f b) (b ∷ filter f bs) (filter f bs) (h
 pub no_blocks_held : (n : ℕ) → blocks_holding (replicate n None) ≡ []
 no_blocks_held n = none_pass (block_has_byte (replicate n None)) (counting 0 (blocks_in (length (replicate {A = Option ℕ} n None)))) (λ b. no_block (replicate n None) b (λ p at. not_held n p))
 
--- the volume with one more change that makes an item without a byte
-module _ (s : State) (k : Known) (v : Volume) (c : Change) (p : Row) (i : Item) (n : ℕ) (next : ItemId) (at : At s k v)
-    (above : All (λ r. r.id.0 < p.id.0) k.table.rows) (means : Means p i) (fresh : IsFresh p) (held : i.held ≡ replicate n None) (items_are : effect v.items c (next_number v) ≡ v.items ++ i ∷ []) (book_is : book_after c v.book ≡ v.book)
-    (next_is : next ≡ (put_change c v).next_item) (fits : FitsTable (put_change c v).items (put_change c v).book)
-    (known : (id : ItemId) → row_then id k.rows_then k.next_then (row_of (with_row p k.table.rows) id) ≡ row_then id k.rows_then k.next_then (row_of k.table.rows id)) where
-  abbrev pub made_known : Known
-  made_known = record k { table = record { rows = with_row p k.table.rows; next = next }; place = k.place + 1; count = k.count + 1 }
+-- what the book keeps of the item of a new row
+module _ (s : State) (k : Known) (v : Volume) (p : Row) (i : Item) (at : At s k v) (above : All (λ r. r.id.0 < p.id.0) k.table.rows) (means : Means p i) where
+  pub new_noted : (anchor_of v.book i.id ≡ no_usn) × (access_of v.book i.id ≡ 0)
+  new_noted = subst (λ (id : ItemId). (anchor_of v.book id ≡ no_usn) × (access_of v.book id ≡ 0)) means.id (at.now.book p.id (no_item (cluster_on s.seen) v.book k.table.rows v.items p.id above at.now.rows))
 
-  no_one : item_of v.items p.id ≡ None
-  no_one = no_item (cluster_on s.seen) v.book k.table.rows v.items p.id above at.now.rows
-
-  new_row : HoldsRow (cluster_on s.seen) v.book p i
-  new_row = record {
+  -- a row without a byte
+  pub fresh_row : (n : ℕ) → IsFresh p → i.held ≡ replicate n None → HoldsRow (cluster_on s.seen) v.book p i
+  fresh_row n fresh held = record {
     means = means;
-    anchor = fresh.anchor ∙ sym (ap (anchor_of v.book) (sym means.id) ∙ (at.now.book p.id no_one).0);
-    last = fresh.last ∙ sym (ap (access_of v.book) (sym means.id) ∙ (at.now.book p.id no_one).1);
+    anchor = fresh.anchor ∙ sym new_noted.0;
+    last = fresh.last ∙ sym new_noted.1;
     blocks = ap (map (λ (e : ℕ × ℕ). e.0)) fresh.extents ∙ sym (ap blocks_holding held ∙ no_blocks_held n);
     bytes = subst (λ (es : List (ℕ × ℕ)). HoldAll (cluster_on s.seen) i.held (map extent_of es)) (sym fresh.extents) tt;
   }
 
+-- the volume with one more change, which makes an item whose row has clusters of its own
+module _ (s t : State) (k : Known) (v : Volume) (c : Change) (p : Row) (i : Item) (n : ℕ) (uses : List Use) (next : ItemId) (fair : Fair s) (at : At s k v)
+    (above : All (λ r. r.id.0 < p.id.0) k.table.rows) (row : HoldsRow (cluster_on t.seen) v.book p i) (items_are : effect v.items c (next_number v) ≡ v.items ++ i ∷ []) (book_is : book_after c v.book ≡ v.book)
+    (moves : Moves n s t k.uses uses) (leaves : Leaves s t (KeepsWhere IsCommitted k.uses s)) (puts : n ≤ length (puts_into v.items c))
+    (owned : (j : ℕ) → times j (clusters_in_rows k.table.rows) + times j (clusters_in_row p) ≡ once uses j) (same : (j : ℕ) → 1 ≤ times j (clusters_in_rows k.table.rows) → cluster_on t.seen j ≡ cluster_on s.seen j)
+    (next_is : next ≡ (put_change c v).next_item) (fits : FitsTable (put_change c v).items (put_change c v).book)
+    (known : (id : ItemId) → row_then id k.rows_then k.next_then (row_of (with_row p k.table.rows) id) ≡ row_then id k.rows_then k.next_then (row_of k.table.rows id)) where
+  abbrev pub added_known : Known
+  added_known = record k { uses = uses; table = record { rows = with_row p k.table.rows; next = next }; place = k.place + 1; count = k.count + 1 }
+
   rows_are : with_row p k.table.rows ≡ k.table.rows ++ p ∷ []
   rows_are = with_last p k.table.rows above
 
-  same_owned : (j : ℕ) → times j (clusters_in_row p) ≡ 0
-  same_owned j = ap (λ (es : List (ℕ × ℕ)). times j (map (λ (e : ℕ × ℕ). e.1) es)) fresh.extents
+  all_rows : HoldRows (cluster_on t.seen) v.book (k.table.rows ++ p ∷ []) (v.items ++ i ∷ [])
+  all_rows = holds_last (cluster_on t.seen) v.book k.table.rows v.items p i
+      (holding_frame (cluster_on s.seen) (cluster_on t.seen) v.book k.table.rows v.items (same_in (cluster_on s.seen) (cluster_on t.seen) (clusters_in_rows k.table.rows) same) at.now.rows) row
 
-  pub made_at : At s made_known (put_change c v)
-  made_at = record {
+  no_more : (id : ItemId) → item_of (effect v.items c (next_number v)) id ≡ None → item_of v.items id ≡ None
+  no_more id e = none_before v.items i id (ap (λ (l : List Item). item_of l id) (sym items_are) ∙ e)
+
+  pub added_at : At t added_known (put_change c v)
+  added_at = record {
     last = record {
       point = at.last.point;
       earlier = at.last.earlier;
@@ -120,14 +134,14 @@ module _ (s : State) (k : Known) (v : Volume) (c : Change) (p : Row) (i : Item) 
       early = let e = length-append v.log ((next_number v, c) ∷ []) in omega (arith, e, at.last.early);
       count = at.last.count;
       image = at.last.image;
-      kept = subst (λ (l : List (Usn × Change)). Kept s k.journal k.uses v.epoch l at.last.point.book at.last.image) (sym (same_front at.last.point.count v.log (next_number v, c) at.last.early)) at.last.kept;
+      kept = subst (λ (l : List (Usn × Change)). Kept t k.journal uses v.epoch l at.last.point.book at.last.image) (sym (same_front at.last.point.count v.log (next_number v, c) at.last.early)) still;
       known = record { rows = λ id. at.last.known.rows id ∙ ap (option_map row_value) (sym (known id)); records = at.last.known.records };
     };
     now = record {
-      rows = subst (λ (l : List Row). HoldRows (cluster_on s.seen) (book_after c v.book) l (effect v.items c (next_number v))) (sym rows_are)
-          (subst (λ (l : List Item). HoldRows (cluster_on s.seen) (book_after c v.book) (k.table.rows ++ p ∷ []) l) (sym items_are)
-          (subst (λ (b : Book). HoldRows (cluster_on s.seen) b (k.table.rows ++ p ∷ []) (v.items ++ i ∷ [])) (sym book_is) (holds_last (cluster_on s.seen) v.book k.table.rows v.items p i at.now.rows new_row)));
-      owns = λ j. ap (λ (l : List Row). times j (clusters_in_rows l)) rows_are ∙ (let a = times_last k.table.rows p j in let b = same_owned j in let o = at.now.owns j in omega (arith, a, b, o));
+      rows = subst (λ (l : List Row). HoldRows (cluster_on t.seen) (book_after c v.book) l (effect v.items c (next_number v))) (sym rows_are)
+          (subst (λ (l : List Item). HoldRows (cluster_on t.seen) (book_after c v.book) (k.table.rows ++ p ∷ []) l) (sym items_are)
+          (subst (λ (b : Book). HoldRows (cluster_on t.seen) b (k.table.rows ++ p ∷ []) (v.items ++ i ∷ [])) (sym book_is) all_rows));
+      owns = λ j. ap (λ (l : List Row). times j (clusters_in_rows l)) rows_are ∙ (let a = times_last k.table.rows p j in let o = owned j in omega (arith, a, o));
       of_log = put_of_log c v at.now.of_log;
       next = next_is;
       count = let e = length-append v.log ((next_number v, c) ∷ []) in omega (arith, e, at.now.count);
@@ -135,12 +149,12 @@ module _ (s : State) (k : Known) (v : Volume) (c : Change) (p : Row) (i : Item) 
       place = ap (λ (m : ℕ). m + 1) at.now.place;
       clock = at.now.clock ∙ ap (λ (b : Book). b.clock) (sym book_is);
       records = at.now.records ∙ ap aux_records (sym book_is);
-      book = λ id e. (
-        ap (λ (b : Book). anchor_of b id) book_is ∙ (at.now.book id (none_before v.items i id (ap (λ (l : List Item). item_of l id) (sym items_are) ∙ e))).0,
-        ap (λ (b : Book). access_of b id) book_is ∙ (at.now.book id (none_before v.items i id (ap (λ (l : List Item). item_of l id) (sym items_are) ∙ e))).1,
-      );
-      clusters = at.now.clusters;
+      book = subst (λ (b : Book). IsBookOf (effect v.items c (next_number v)) b) (sym book_is) (λ id e. at.now.book id (no_more id e));
+      clusters = at.now.clusters ∙ sym moves.long;
       fits = fits;
-      used = omega (arith, at.now.used);
+      used = omega (arith, at.now.used, moves.long, moves.free, puts);
     };
   }
+    where
+      still : Kept t k.journal uses v.epoch (take at.last.point.count v.log) at.last.point.book at.last.image
+      still = kept_staged s t k.journal k.uses v.epoch (take at.last.point.count v.log) at.last.point.book fair at.last.kept uses moves.long moves.committed moves.size moves.halves leaves

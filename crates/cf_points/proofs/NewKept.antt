@@ -1,5 +1,5 @@
 -- A new volume can be kept.
-use Rattle.std.proofs.Common.{◌≡◌, ◌≢◌, ℕ, ◌<◌, ◌≤◌, Bool, true, false, cond, eqb, List, [], ◌∷◌, Option, Some, None, refl, sym, ◌∙◌, ap, subst, arith}
+use Rattle.std.proofs.Common.{◌≡◌, ℕ, Bool, true, false, cond, eqb, [], ◌∷◌, Some, None, refl, sym, subst, arith}
 use Rattle.std.proofs.lemmas.Bool.{true≢false}
 use Rattle.std.proofs.lemmas.Option.{none-some, same_Some}
 use Rattle.cf_base.specs.declared.ids.ItemId.{ItemId}
@@ -55,7 +55,6 @@ new_keepable n = record {
     places = λ id i e. subst (λ (x : Item). tree.Stands (root ∷ []) x) (sym (only_root id i e)) (record { depth = 0; few = omega arith; under = refl; alone = refl });
   };
   populated = λ id i p e up. absurd (no_parent p (subst (λ (x : Item). item_of (root ∷ []) x.parent ≡ Some p) (only_root id i e) up));
-  top = λ i e. ap (λ (x : Item). x.parent.0) (only_root (record { 0 = 1 }) i e);
 }
   where
     no_parent : (p : Item) → item_of (root ∷ []) root.parent ≡ Some p → ⊥

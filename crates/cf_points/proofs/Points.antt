@@ -1,14 +1,14 @@
 -- The last point, as calls of the disk go on.
-use Rattle.std.proofs.Common.{◌≡◌, ◌⊎◌, inl, inr, ⊎_elim, ℕ, ◌+◌, ◌*◌, ◌<◌, ◌≤◌, List, [], ◌∷◌, ◌++◌, length, take, refl, sym, ◌∙◌, ap, subst, arith}
-use Rattle.std.specs.Prelude.{All, ◌-◌, ◌/◌}
-use Rattle.std.proofs.lemmas.List.Elements.{All-head, All-tail, All-nil, All-cons, All-weaker}
+use Rattle.std.proofs.Common.{◌≡◌, inl, ℕ, ◌<◌, List, length, take, sym, ◌∙◌, ap, subst, arith}
+use Rattle.std.specs.Prelude.{◌-◌, ◌/◌}
+use Rattle.std.proofs.lemmas.List.Elements.{All-weaker}
 use Rattle.cf_base.specs.declared.changes.Change.{Change}
 use Rattle.cf_base.specs.declared.ids.Usn.{Usn}
-use Rattle.cf_data.specs.Area.{KeepsWhere, SameWhere, place}
+use Rattle.cf_data.specs.Area.{KeepsWhere, SameWhere}
 use Rattle.cf_data.specs.Roles.{IsCommitted, IsUsed, use_of}
 use Rattle.cf_data.specs.declared.uses.Use.{Use}
 use Rattle.cf_data.specs.declared.uses.Use.TheVariants.{Free, Held, Staged, Dropped}
-use Rattle.cf_disk.specs.Disk.{Leaves, State, part, size_of}
+use Rattle.cf_disk.specs.Disk.{Leaves, State, size_of}
 use Rattle.cf_disk.specs.Leaving.{leaves_weaker}
 use Rattle.cf_journal.specs.Halves.{settled_image, still_settled, area_stands}
 use Rattle.cf_journal.specs.declared.journals.Journal.{Journal}

@@ -1,7 +1,5 @@
 -- A read leaves the volume as it is.
-use Rattle.std.proofs.Common.{◌≡◌, ℕ, ◌+◌, ◌*◌, ◌/◌, ◌<◌, ◌≤◌, true, false, List, [], ◌∷◌, length, take, drop, refl, sym, ◌∙◌, ap, subst, arith, Option, Some, None}
-use Rattle.std.proofs.lemmas.Option.{same_Some, none-some}
-use Rattle.cf_base.specs.declared.ids.ItemId.{ItemId}
+use Rattle.std.proofs.Common.{◌≡◌, ℕ, ◌+◌, ◌*◌, ◌/◌, ◌<◌, true, List, length, take, refl, sym, ◌∙◌, ap, subst, arith, Option, Some, None}
 use Rattle.cf_blocks.proofs.Elsewhere.{among_holding, block_holds}
 use Rattle.cf_blocks.proofs.Laid.{is_here}
 use Rattle.cf_blocks.specs.Bytes.{HoldsBlock, holds_at, is_among}
@@ -9,19 +7,17 @@ use Rattle.cf_disk.specs.Disk.{Keeps, Leaves, State}
 use Rattle.cf_disk.specs.Leaving.{leaves_weaker}
 use Rattle.cf_model.specs.Blocks.{block_has_byte}
 use Rattle.cf_model.specs.Books.{Book}
-use Rattle.cf_model.specs.Items.{Item, item_of}
+use Rattle.cf_model.specs.Items.{Item}
 use Rattle.cf_model.specs.State.{Volume}
 use Rattle.cf_points.proofs.FileRows.{among_some, hold_at}
-use Rattle.cf_points.proofs.ItemChanges.{row_holds}
 use Rattle.cf_points.proofs.Points.{Fair, kept_staged}
 use Rattle.cf_points.specs.At.{At}
-use Rattle.cf_points.specs.Holding.{HoldRows, Holds, HoldsRow}
+use Rattle.cf_points.specs.Holding.{HoldRows, HoldsRow}
 use Rattle.cf_points.specs.Known.{Known}
 use Rattle.cf_points.specs.Standing.{cluster_on}
 use Rattle.cf_data.specs.Area.{KeepsWhere}
 use Rattle.cf_data.specs.Roles.{IsCommitted}
 use Rattle.cf_ranges.specs.Pairs.{cluster_at}
-use Rattle.cf_table.specs.Tables.{row_of}
 use Rattle.cf_table.specs.declared.rows.Row.{Row}
 
 module _ (s t : State) (k : Known) (v : Volume) (fair : Fair s) (at : At s k v) (keeps : Keeps s t) (leaves : Leaves s t s.may_leave) where

@@ -4,7 +4,7 @@ use Rattle.cf_model.specs.Books.{Book}
 use Rattle.cf_model.specs.Items.{Item}
 use Rattle.cf_model.specs.Rows.{Extent}
 use Rattle.cf_model.specs.Standing.{AreRowsOf}
-use Rattle.cf_points.specs.Holding.{HoldRows, HoldsRow}
+use Rattle.cf_points.specs.Holding.{HoldRows}
 use Rattle.cf_table.proofs.RowOfItem.{row_is_of_item}
 use Rattle.cf_table.specs.Spelling.{extent_of, row_value}
 use Rattle.cf_table.specs.Tables.{AreTableRows}

@@ -1,7 +1,7 @@
 -- How long a table is, from its rows: what a change adds, and whether it is too long.
-use Rattle.std.proofs.Common.{◌≡◌, ℕ, zero, suc, ◌+◌, ◌*◌, ◌-◌, ◌/◌, ◌^◌, ◌<◌, ◌≤◌, ◌==◌, Bool, true, false, ◌&&◌, ◌||◌, not, cond, eqb, ltb, List, [], ◌∷◌, ◌++◌, length, map, refl, sym, ◌∙◌, ap, subst, arith, inl, inr, Option, Some, None}
-use Rattle.std.specs.Prelude.{filter, is_some, sum_by, find}
-use Rattle.std.proofs.lemmas.Bool.{cond-true, cond-false, eq-eqb, eqb-true, le-ltb, lt-ltb, ltb-false, ltb-true, ne_eqb, true≢false}
+use Rattle.std.proofs.Common.{◌≡◌, ℕ, zero, suc, ◌+◌, ◌*◌, ◌<◌, ◌≤◌, Bool, true, false, ◌&&◌, ◌||◌, cond, eqb, ltb, List, [], ◌∷◌, ◌++◌, length, map, refl, sym, ◌∙◌, ap, subst, arith, Option, Some}
+use Rattle.std.specs.Prelude.{filter, is_some, sum_by}
+use Rattle.std.proofs.lemmas.Bool.{cond-false, eqb-true, le-ltb, lt-ltb, ltb-false, ltb-true, ne_eqb, true≢false}
 use Rattle.std.proofs.lemmas.List.{length-append}
 use Rattle.std.proofs.lemmas.List.Sums.{sum_by-cons}
 use Rattle.std.proofs.lemmas.Option.{none-some, same_Some}
@@ -13,16 +13,14 @@ use Rattle.cf_base.specs.declared.items.Pin.{Pin}
 use Rattle.cf_base.specs.declared.spans.Span.{Span}
 use Rattle.cf_blocks.proofs.Elsewhere.{touches_block}
 use Rattle.cf_model.specs.Blocks.{block_has_byte, blocks_holding, blocks_in}
-use Rattle.cf_model.specs.Books.{Book, access_of, anchor_of, aux_records}
+use Rattle.cf_model.specs.Books.{Book, access_of, anchor_of}
 use Rattle.cf_model.specs.Effects.{changed, marked}
-use Rattle.cf_model.specs.Images.{aux_len, aux_len_of, count_runs, image_len, is_too_long, most_image, most_len, most_row_len, never_longer, row_len, table_full, writes_since}
+use Rattle.cf_model.specs.Images.{count_runs, image_len, is_too_long, most_image, most_len, most_row_len, never_longer, row_len, table_full, writes_since}
 use Rattle.cf_model.specs.Items.{Item, covered_flags, here_flags, item_of, modified_flags}
 use Rattle.cf_model.specs.Overlay.{is_covered}
 use Rattle.cf_model.specs.Words.{by_place, counting, passes_at}
 use Rattle.cf_points.proofs.FileRows.{Rising, holding_rise}
-use Rattle.cf_points.specs.Holding.{FitsTable, HoldRows, HoldsRow}
-use Rattle.cf_points.specs.Known.{Known}
-use Rattle.cf_points.specs.Sound.{len_now}
+use Rattle.cf_points.specs.Holding.{FitsTable, HoldRows}
 use Rattle.cf_ranges.specs.Pairs.{IsRisingFrom}
 use Rattle.cf_ranges.specs.Positions.{IsBelow, IsRuns, contains, touched, touches}
 use Rattle.cf_table.proofs.RowOfItem.{row_len_is, rows_len_is}
@@ -31,7 +29,6 @@ use Rattle.cf_table.specs.Applied.{item_effect}
 use Rattle.cf_table.specs.Booked as booked
 use Rattle.cf_table.specs.Means.{Means}
 use Rattle.cf_table.specs.Tables.{AreTableRows, IsStored, RisesFrom, rows_len}
-use Rattle.cf_table.specs.Tables.{row_len as len_of}
 use Rattle.cf_table.specs.declared.rows.Row.{Row}
 use Rattle.cf_points.specs.Lengths.{len_with}
 

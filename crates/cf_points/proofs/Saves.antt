@@ -1,7 +1,7 @@
 -- What a crash within a commit leaves.
-use Rattle.std.proofs.Common.{◌≡◌, ◌⊎◌, inl, inr, ⊎_elim, ℕ, ◌+◌, List, [], ◌∷◌, length, map, take, drop, refl, sym, ◌∙◌, ap, subst, arith}
+use Rattle.std.proofs.Common.{◌≡◌, inl, inr, ⊎_elim, ℕ, List, [], ◌∷◌, length, map, take, refl, sym, ◌∙◌, ap, subst, arith}
 use Rattle.std.specs.Prelude.{◌-◌, ◌/◌}
-use Rattle.std.proofs.lemmas.List.{length-drop, take_all}
+use Rattle.std.proofs.lemmas.List.{length-drop}
 use Rattle.cf_base.specs.declared.changes.Change.{Change}
 use Rattle.cf_base.specs.declared.ids.Usn.{Usn}
 use Rattle.cf_data.specs.declared.uses.Use.{Use}
@@ -13,12 +13,11 @@ use Rattle.cf_journal.specs.declared.journals.Journal.{Journal}
 use Rattle.cf_model.specs.Books.{Book}
 use Rattle.cf_model.specs.Formats.{Image}
 use Rattle.cf_model.specs.Items.{Item}
-use Rattle.cf_model.specs.Logs.{items_of}
 use Rattle.cf_model.specs.Points.{point_now, with_room_point, with_sure_point}
 use Rattle.cf_model.specs.Standing.{Stands, clusters_of}
 use Rattle.cf_model.specs.State.{Point, Volume}
 use Rattle.std.specs.Prelude.{true, false, None}
-use Rattle.cf_points.specs.At.{At, Keeps, Kept, StandsEither, StandsLast, StandsPoint}
+use Rattle.cf_points.specs.At.{At, Kept, StandsEither, StandsLast, StandsPoint}
 use Rattle.cf_points.specs.Holding.{Holds}
 use Rattle.cf_points.specs.Known.{Known}
 use Rattle.cf_points.specs.Saving.{IsSaving, Saved}

@@ -1,26 +1,26 @@
 -- A block staged, or an extent dropped, in the middle of a change.
-use Rattle.std.proofs.Common.{◌≡◌, ◌⊎◌, inl, inr, ⊎_elim, ℕ, zero, suc, ◌+◌, ◌*◌, ◌<◌, ◌≤◌, ◌==◌, Bool, true, false, not, ◌||◌, cond, eqb, List, [], ◌∷◌, ◌++◌, length, map, set, take, refl, sym, ◌∙◌, ap, subst, arith, Option, Some, None, get_or-set_other}
-use Rattle.std.specs.Prelude.{◌≢◌, slice_index_or}
-use Rattle.std.proofs.lemmas.Bool.{cases_eq, cases_lt, cond-true, cond-false, eq-eqb, eqb-true, ne_eqb, true≢false}
+use Rattle.std.proofs.Common.{◌≡◌, inl, inr, ℕ, ◌+◌, ◌<◌, ◌≤◌, ◌==◌, Bool, true, false, ◌||◌, cond, eqb, List, [], ◌∷◌, ◌++◌, length, set, refl, sym, ◌∙◌, ap, subst, arith, Option, Some, None, get_or-set_other}
+use Rattle.std.specs.Prelude.{slice_index_or}
+use Rattle.std.proofs.lemmas.Bool.{cases_eq, cases_lt, cond-true, cond-false, eq-eqb, ne_eqb, true≢false}
 use Rattle.std.proofs.lemmas.List.{get_or-set_same, get_or_default, length-set}
 use Rattle.std.proofs.lemmas.List.Folds.{list_any-append}
 use Rattle.std.proofs.lemmas.Option.{none-some, same_Some}
-use Rattle.cf_blocks.specs.Bytes.{HoldsBlock, holds_at, is_among}
-use Rattle.cf_data.proofs.Counts.{free_staged, how_many-set}
-use Rattle.cf_data.proofs.Keeping.{committed_drops, committed_stays, keeps_then, same_weaker}
-use Rattle.cf_data.specs.Area.{KeepsWhere, SameWhere, place}
+use Rattle.cf_blocks.specs.Bytes.{HoldsBlock, is_among}
+use Rattle.cf_data.proofs.Counts.{free_staged}
+use Rattle.cf_data.proofs.Keeping.{committed_stays, keeps_then, same_weaker}
+use Rattle.cf_data.specs.Area.{KeepsWhere}
 use Rattle.cf_data.specs.Roles.{IsCommitted, IsUsed, dropped, dropped_at, how_many, is_free, is_now, staged_at, use_of}
 use Rattle.cf_data.specs.declared.uses.Use.{Use}
 use Rattle.cf_data.specs.declared.uses.Use.TheVariants.{Free, Held, Staged, Dropped}
-use Rattle.cf_disk.specs.Disk.{Leaves, State, part, size_of}
+use Rattle.cf_disk.specs.Disk.{Leaves, State}
 use Rattle.cf_disk.specs.Leaving.{leaves_weaker}
-use Rattle.cf_points.specs.Clusters.{once, times}
-use Rattle.cf_points.specs.Staging.{AreBlocks, Moves, StagesBlock, names}
+use Rattle.cf_points.specs.Clusters.{once}
+use Rattle.cf_points.specs.Staging.{AreBlocks, Moves, StagesBlock}
 use Rattle.cf_points.specs.Standing.{cluster_on}
 use Rattle.cf_points.proofs.Apart.{none_past}
 use Rattle.cf_points.proofs.Extents.{is_one, named_once, put_times}
 use Rattle.cf_points.proofs.Points.{committed_used}
-use Rattle.cf_ranges.specs.Pairs.{Puts, cluster_at}
+use Rattle.cf_ranges.specs.Pairs.{cluster_at}
 
 -- counts of a use
 

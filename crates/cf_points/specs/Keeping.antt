@@ -1,13 +1,11 @@
--- What the calls of a volume ask of a change, and the volume that an opening gives.
-use Rattle.std.specs.Prelude.{◌≡◌, ◌≤◌, ◌<◌, ℕ, true, List, [], ◌∷◌, All, length}
+-- What the calls of a volume ask of a change.
+use Rattle.std.specs.Prelude.{◌≤◌, ◌<◌, List, [], ◌∷◌, All}
 use Rattle.cf_base.specs.declared.items.SeenPath.{SeenPath}
 use Rattle.cf_base.specs.declared.changes.Change.{Change}
 use Rattle.cf_base.specs.declared.changes.Change.TheVariants as change
 use Rattle.cf_base.specs.declared.ids.ItemId.{ItemId}
-use Rattle.cf_base.specs.declared.ids.Usn.{Usn}
 use Rattle.cf_model.specs.Books.{Book}
 use Rattle.cf_model.specs.Changes.{put_change}
-use Rattle.cf_model.specs.Logs.{items_of, next_of}
 use Rattle.cf_model.specs.State.{Volume}
 use Rattle.cf_table.specs.Changing.{ItemsFit}
 
@@ -30,18 +28,3 @@ FitsBook c b = Unit {0}
 abbrev pub FitInTurn : List Change → Volume → Type 0
 FitInTurn [] v = Unit {0}
 FitInTurn (c ∷ cs) v = ItemsFit c v.book v.items × FitInTurn cs (put_change c v)
-
--- the volume of a log and a book, opened again in this epoch
-abbrev pub opened : ℕ → List (Usn × Change) → Book → ℕ → Volume
-opened epoch log b clusters = record {
-  clusters = clusters;
-  epoch = epoch;
-  log = log;
-  items = items_of log;
-  next_item = record { 0 = next_of log };
-  place = 0;
-  points = record { sure = true; count = length log; book = b } ∷ [];
-  items_then = items_of log;
-  put_since = 0;
-  book = b;
-}

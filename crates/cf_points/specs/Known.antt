@@ -1,5 +1,5 @@
 -- What a program knows of a volume, as plain values.
-use Rattle.std.specs.Prelude.{◌≡◌, ◌≤◌, ◌+◌, ℕ, Bool, List, [], ◌∷◌, Option, Some, None, cond, find, nat_lt, ◌==◌}
+use Rattle.std.specs.Prelude.{◌≤◌, ◌+◌, ℕ, Bool, List, [], ◌∷◌, Option, Some, None, cond, find, nat_lt}
 use Rattle.std.specs.List.{list_any}
 use Rattle.cf_base.specs.declared.answers.AuxRecord.{AuxRecord}
 use Rattle.cf_base.specs.declared.ids.ItemId.{ItemId}

@@ -1,12 +1,11 @@
 -- What holds of every volume that a program has, whatever its disk was.
-use Rattle.std.specs.Prelude.{◌≡◌, ◌≤◌, ◌<◌, ◌+◌, ◌-◌, ◌/◌, ℕ, List, [], Some, length, map, sum_by, All}
+use Rattle.std.specs.Prelude.{◌≡◌, ◌≤◌, ◌<◌, ◌+◌, ◌-◌, ◌/◌, ℕ, [], Some, length, map, sum_by, All}
 use Rattle.cf_base.specs.declared.ids.ItemId.{ItemId}
 use Rattle.cf_base.specs.declared.ids.Usn.{Usn}
 use Rattle.cf_journal.specs.Settled.{IsFitSize}
 use Rattle.cf_model.specs.Formats.{Header, Image}
 use Rattle.cf_model.specs.Images.{aux_len}
 use Rattle.cf_model.specs.Items.{Item, item_of}
-use Rattle.cf_model.specs.Numbers.{root_id}
 use Rattle.cf_model.specs.Rows.{IsSoundRow, row_of}
 use Rattle.cf_model.specs.State.{Volume}
 use Rattle.cf_points.specs.Clusters.{clusters_in_rows}
@@ -50,4 +49,3 @@ pub record IsKeepable (v : Volume) : Type 0 where
   pub pins : (id : ItemId) (i : Item) → item_of v.items id ≡ Some i → IsStored i.pin
   pub tree : IsTree v.items
   pub populated : AreOpen v.items
-  pub top : (i : Item) → item_of v.items root_id ≡ Some i → i.parent.0 ≡ 0

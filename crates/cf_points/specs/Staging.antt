@@ -1,15 +1,11 @@
 -- Blocks staged into clusters, and others dropped, as a change goes on.
-use Rattle.std.specs.Prelude.{◌≡◌, ◌≢◌, ◌≤◌, ◌<◌, ◌+◌, ◌*◌, ℕ, Bool, true, false, cond, List, [], ◌∷◌, ◌++◌, length, map, take, Option, Some, None, MatchOption}
-use Rattle.cf_base.specs.declared.changes.Change.{Change}
-use Rattle.cf_base.specs.declared.ids.Usn.{Usn}
-use Rattle.cf_base.specs.declared.items.Pin.{Pin}
+use Rattle.std.specs.Prelude.{◌≡◌, ◌≢◌, ◌≤◌, ◌<◌, ◌+◌, ◌*◌, ℕ, true, false, cond, List, length, map, take, Option, Some, None, MatchOption}
 use Rattle.cf_blocks.specs.Bytes.{HoldsBlock, holds_at, is_among}
-use Rattle.cf_data.specs.Area.{KeepsWhere, SameWhere}
+use Rattle.cf_data.specs.Area.{SameWhere}
 use Rattle.cf_data.specs.Roles.{IsCommitted, IsUsed, dropped_at, how_many, is_free, staged_at, use_of}
 use Rattle.cf_data.specs.declared.uses.Use.{Use}
 use Rattle.cf_data.specs.declared.uses.Use.TheVariants.{Free}
-use Rattle.cf_disk.specs.Disk.{Leaves, State, size_of}
-use Rattle.cf_model.specs.Items.{Item}
+use Rattle.cf_disk.specs.Disk.{State, size_of}
 use Rattle.cf_points.specs.Clusters.{once, times}
 use Rattle.cf_points.specs.Standing.{cluster_on}
 use Rattle.cf_base.specs.declared.spans.Span.{Span}
