@@ -1,22 +1,19 @@
 -- What a content tells with one more payload, and with an image in place of all.
-use Rattle.std.proofs.Common.{◌≡◌, ◌⊎◌, inl, inr, ⊎_elim, ℕ, ◌+◌, ◌<◌, ◌≤◌, Bool, true, false, cond, ltb, List, [], ◌∷◌, ◌++◌, length, Option, Some, None, refl, sym, ◌∙◌, ap, subst, arith}
-use Rattle.std.specs.Prelude.{IsTrue, OnOk, Result, Ok, Err, ◌↔◌}
-use Rattle.std.proofs.lemmas.Bool.{cases_lt, le-ltb, lt-ltb, true≢false}
+use Rattle.std.proofs.Common.{◌≡◌, inl, inr, ⊎_elim, ℕ, ◌+◌, Bool, true, false, cond, ltb, List, [], ◌∷◌, ◌++◌, length, Option, Some, None, refl, sym, ◌∙◌, ap, subst, arith}
+use Rattle.std.specs.Prelude.{OnOk, Result, Ok, Err}
 use Rattle.cf_commit.specs.Leading.{Follows, LeadsTo, text_in}
-use Rattle.cf_disk.specs.Disk.{Leaves, State, capped, size_of}
+use Rattle.cf_disk.specs.Disk.{Leaves, State, size_of}
 use Rattle.cf_disk.specs.Leaving.{leaves_weaker}
 use Rattle.cf_image.specs.Contents.{image_of}
 use Rattle.cf_image.specs.Spelled.{AreSpelled, IsImage, IsPayload}
 use Rattle.cf_image.specs.States.{IsAfter, Tells}
 use Rattle.cf_image.specs.declared.contents.Contents.{Contents}
-use Rattle.cf_journal.specs.Content.{Content, IsBeforeOrAfter, Stands, appended, clusters, rewritten}
+use Rattle.cf_journal.specs.Content.{Content, IsBeforeOrAfter, appended}
 use Rattle.cf_journal.specs.Halves.{settled_image}
-use Rattle.cf_journal.specs.Settled.{HasRoom, IsCause, Settled}
-use Rattle.cf_journal.specs.declared.failures.JournalFail.{JournalFail}
-use Rattle.cf_journal.specs.declared.failures.JournalFail.TheVariants.{Failed, NotAVolume, Broken, Memory}
+use Rattle.cf_journal.specs.Settled.{Settled}
 use Rattle.cf_journal.specs.declared.journals.Journal.{Journal}
 use Rattle.cf_model.specs.Formats.{Image, Payload, after_payload, after_payloads, spell_image, spell_payload}
-use Rattle.cf_points.specs.Saving.{IsSaving, Saved}
+use Rattle.cf_points.specs.Saving.{IsSaving}
 
 spelled_more : (texts : List (List ℕ)) (ps : List Payload) (t : List ℕ) (p : Payload) → AreSpelled texts ps → IsPayload p → t ≡ spell_payload p → AreSpelled (texts ++ t ∷ []) (ps ++ p ∷ [])
 spelled_more [] [] t p h is e = (is, e, tt)
@@ -67,17 +64,6 @@ in_text j (Some u) t e = by (ltb 262144 (j.end + (6 + length u))) e
     by : (b : Bool) → Some t ≡ cond b None (Some u) → Some u ≡ Some t
     by true h = let z : None ≡ Some t = sym h in cc
     by false h = sym h
-
-pub has_text : (j : Journal) (t : List ℕ) → HasRoom j (length t) → Some t ≡ text_in j (Some t)
-has_text j t room = ap (λ (b : Bool). cond b None (Some t)) (sym (le-ltb 262144 (j.end + (6 + length t)) room))
-
--- why a journal's call failed
-
-pub device_of : (e : JournalFail) (j : Journal) (old new : State) → j.broken ≡ false → IsCause e j old new → capped (old.faults + 1) ≤ new.faults
-device_of Failed j old new usable h = h.1
-device_of NotAVolume j old new usable h = absurd h
-device_of Broken j old new usable h = absurd (true≢false (sym h ∙ usable))
-device_of Memory j old new usable h = absurd h
 
 pub on_ok_map : {T E P Q : Type 0} (r : Result T E) → (P → Q) → OnOk r P → OnOk r Q
 on_ok_map (Ok t) f h = f h

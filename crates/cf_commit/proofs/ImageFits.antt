@@ -1,28 +1,23 @@
 -- Contents that can be written have a spelling.
-use Rattle.std.proofs.Common.{◌≡◌, ℕ, zero, suc, ◌+◌, ◌*◌, ◌^◌, ◌<◌, ◌≤◌, Bool, true, false, cond, List, [], ◌∷◌, ◌++◌, length, map, Option, Some, None, refl, sym, ◌∙◌, ap, subst, arith}
-use Rattle.std.specs.Prelude.{All, filter, is_some, unwrap_or, sum_by}
-use Rattle.std.specs.List.{flat_map}
+use Rattle.std.proofs.Common.{ℕ, ◌+◌, ◌^◌, ◌<◌, ◌≤◌, List, [], ◌∷◌, length, map, Option, Some, None, refl, sym, subst, arith}
+use Rattle.std.specs.Prelude.{All, sum_by}
 use Rattle.std.proofs.lemmas.List.{length-map}
 use Rattle.std.proofs.lemmas.List.Elements.{All-head, All-tail}
 use Rattle.std.proofs.lemmas.List.Sums.{sum_by-cons}
 use Rattle.cf_base.specs.declared.answers.AuxRecord.{AuxRecord}
-use Rattle.cf_base.specs.declared.ids.ItemId.{ItemId}
 use Rattle.cf_base.specs.declared.spans.Span.{Span}
 use Rattle.cf_commit.specs.InRange.{IsInRange}
 use Rattle.cf_commit.specs.Leading.{CanBeWritten, HaveStoredPins}
 use Rattle.cf_image.specs.Contents.{header_of, image_of}
-use Rattle.cf_image.specs.Spelled.{AreRecords, AreRecordsFrom, IsHeader, IsImage}
+use Rattle.cf_image.specs.Spelled.{AreRecordsFrom, IsHeader, IsImage}
 use Rattle.cf_image.specs.declared.contents.Contents.{Contents}
-use Rattle.cf_model.proofs.LengthLaws.{image_length, in_bytes-length, record_length}
-use Rattle.cf_model.specs.Formats.{spell_image, spell_record}
+use Rattle.cf_model.proofs.LengthLaws.{image_length}
 use Rattle.cf_model.specs.Images.{aux_len}
-use Rattle.cf_model.specs.Rows.{Extent}
 use Rattle.cf_model.specs.Rows as model
 use Rattle.cf_points.proofs.Commits.{records_length}
-use Rattle.cf_ranges.specs.Pairs.{IsRising, IsRisingFrom}
+use Rattle.cf_ranges.specs.Pairs.{IsRisingFrom}
 use Rattle.cf_ranges.specs.Positions.{IsRuns, IsRunsFrom}
-use Rattle.cf_table.specs.Faults.{AreTable}
-use Rattle.cf_table.specs.Reading.{AreExtents, AreExtentsFrom, AreRows, AreRunsFrom, IsAbove, IsExtent, IsRow, IsSet, IsStored}
+use Rattle.cf_table.specs.Reading.{AreExtentsFrom, AreRows, AreRunsFrom, IsAbove, IsRow, IsSet, IsStored}
 use Rattle.cf_table.specs.Spelling.{EndBelow, HasRoom, extent_of, row_value}
 use Rattle.cf_table.specs.Tables.{AreTableRows, IsTableRow, RisesFrom}
 use Rattle.cf_table.specs.declared.rows.Row.{Row}

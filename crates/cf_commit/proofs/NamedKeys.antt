@@ -1,15 +1,15 @@
 -- A payload names each record that differs, and the records that it has are those.
-use Rattle.std.proofs.Common.{◌≡◌, ℕ, ◌+◌, ◌^◌, ◌<◌, ◌≤◌, Bool, true, false, ◌||◌, ◌&&◌, not, cond, List, [], ◌∷◌, length, map, Option, Some, None, refl, sym, ◌∙◌, ap, subst}
-use Rattle.std.specs.Prelude.{All, filter, find, is_some}
+use Rattle.std.proofs.Common.{◌≡◌, ℕ, ◌^◌, ◌<◌, Bool, true, false, ◌||◌, ◌&&◌, not, cond, List, [], ◌∷◌, length, map, Option, Some, None, refl, sym, ◌∙◌, ap}
+use Rattle.std.specs.Prelude.{All, filter, is_some}
 use Rattle.std.specs.List.{list_any}
 use Rattle.std.proofs.lemmas.Bool.{cond-true, cond-false}
 use Rattle.std.proofs.lemmas.List.Elements.{All-head, All-tail, All-nil, All-cons, All-weaker}
 use Rattle.cf_base.specs.declared.answers.AuxRecord.{AuxRecord}
 use Rattle.cf_commit.proofs.NamedRows.{none_and}
-use Rattle.cf_commit.specs.Differing.{IsThen, changed_keys, is_record_changed, is_record_gone, removed_keys}
+use Rattle.cf_commit.specs.Differing.{IsThen, changed_keys, is_record_changed, removed_keys}
 use Rattle.cf_commit.specs.declared.earlier.Earlier.{Earlier}
 use Rattle.cf_image.proofs.Keys.{before_not_same, goes_on_before}
-use Rattle.cf_image.proofs.RecordsLeft.{Rise, records_left, rise_is}
+use Rattle.cf_image.proofs.RecordsLeft.{records_left, rise_is}
 use Rattle.cf_image.specs.Contents.{in_front, record_at, records_at}
 use Rattle.cf_image.specs.Enough.{has_key, record_left}
 use Rattle.cf_image.specs.Spelled.{AreKeysFrom, AreRecordsFrom, IsAfter}
@@ -17,7 +17,7 @@ use Rattle.cf_image.specs.States.{without_records}
 use Rattle.cf_image.specs.declared.contents.Contents.{Contents}
 use Rattle.cf_model.specs.Formats.{Image, with_records}
 use Rattle.cf_model.specs.Words.{same}
-use Rattle.cf_points.specs.Known.{or_now, record_then}
+use Rattle.cf_points.specs.Known.{or_now}
 use Rattle.cf_table.proofs.NamedEntries.{same_is, same_itself}
 
 -- the keys of records that pass a test on keys

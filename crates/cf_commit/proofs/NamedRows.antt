@@ -1,11 +1,10 @@
 -- A payload names each row that differs, and the rows that it has are those.
-use Rattle.std.proofs.Common.{◌≡◌, ℕ, ◌+◌, ◌<◌, ◌≤◌, Bool, true, false, ◌||◌, ◌&&◌, not, cond, eqb, ltb, List, [], ◌∷◌, length, map, Option, Some, None, refl, sym, ◌∙◌, ap, subst, arith}
-use Rattle.std.specs.Prelude.{All, filter, find, is_some, option_map}
-use Rattle.std.specs.List.{list_any}
+use Rattle.std.proofs.Common.{◌≡◌, ℕ, ◌+◌, ◌<◌, ◌≤◌, Bool, true, false, ◌||◌, ◌&&◌, not, cond, eqb, ltb, List, [], ◌∷◌, map, Option, Some, None, refl, sym, ◌∙◌, ap, arith}
+use Rattle.std.specs.Prelude.{All, filter, is_some, option_map}
 use Rattle.std.proofs.lemmas.Bool.{cond-true, cond-false, eq-eqb, eqb-true, ne_eqb}
 use Rattle.std.proofs.lemmas.List.Elements.{All-head, All-tail, All-nil, All-cons, All-weaker}
 use Rattle.cf_base.specs.declared.ids.ItemId.{ItemId}
-use Rattle.cf_commit.specs.Differing.{IsThen, changed_rows, is_row_changed, is_row_gone, removed_rows}
+use Rattle.cf_commit.specs.Differing.{IsThen, changed_rows, is_row_changed, removed_rows}
 use Rattle.cf_commit.specs.declared.earlier.Earlier.{Earlier}
 use Rattle.cf_image.proofs.RowsLeft.{Rises, rises_is, rows_left}
 use Rattle.cf_image.specs.Contents.{in_front, row_at, rows_at}
@@ -15,7 +14,7 @@ use Rattle.cf_image.specs.declared.contents.Contents.{Contents}
 use Rattle.cf_model.specs.Formats.{Image, with_rows}
 use Rattle.cf_model.specs.Rows as model
 use Rattle.cf_points.proofs.KeptSound.{rows_found}
-use Rattle.cf_points.specs.Known.{RowsRise, or_now, row_then}
+use Rattle.cf_points.specs.Known.{RowsRise, or_now}
 use Rattle.cf_table.specs.Spelling.{row_value}
 use Rattle.cf_table.specs.Tables.{RisesFrom, row_of}
 use Rattle.cf_table.specs.declared.rows.Row.{Row}

@@ -1,6 +1,6 @@
 -- The payload of what differs has a spelling, and leads from the image of the last point to that of now.
-use Rattle.std.proofs.Common.{◌≡◌, ℕ, ◌+◌, ◌^◌, ◌<◌, ◌≤◌, Bool, true, false, ◌&&◌, ◌||◌, not, cond, eqb, ltb, List, [], ◌∷◌, length, map, Option, Some, None, refl, sym, ◌∙◌, ap, subst, arith}
-use Rattle.std.specs.Prelude.{All, MatchOption, filter, is_some}
+use Rattle.std.proofs.Common.{◌≡◌, ℕ, ◌+◌, ◌^◌, ◌<◌, ◌≤◌, Bool, true, false, ◌&&◌, cond, ltb, List, [], ◌∷◌, length, map, Option, Some, None, refl, sym, ap, subst, arith}
+use Rattle.std.specs.Prelude.{filter}
 use Rattle.std.proofs.lemmas.Bool.{ltb-true, true≢false}
 use Rattle.std.proofs.lemmas.List.{length-map}
 use Rattle.cf_base.specs.declared.answers.AuxRecord.{AuxRecord}
@@ -10,11 +10,11 @@ use Rattle.cf_commit.proofs.NamedRows.{rows_after, rows_named}
 use Rattle.cf_commit.specs.Differing.{IsThen, changed_keys, changed_rows, is_record_changed, is_record_gone, is_row_changed, is_row_gone, is_short_payload, payload_now, removed_keys, removed_rows, text_of}
 use Rattle.cf_commit.specs.Leading.{LeadsTo}
 use Rattle.cf_commit.specs.declared.earlier.Earlier.{Earlier}
-use Rattle.cf_image.specs.Contents.{header_of, image_of, payload_of, records_at, rows_at}
-use Rattle.cf_image.specs.Spelled.{AreIdsFrom, AreKeysFrom, AreRecordsFrom, IsImage, IsPayload}
+use Rattle.cf_image.specs.Contents.{header_of, image_of}
+use Rattle.cf_image.specs.Spelled.{AreIdsFrom, AreRecordsFrom, IsImage, IsPayload}
 use Rattle.cf_image.specs.States.{IsAfter}
 use Rattle.cf_image.specs.declared.contents.Contents.{Contents}
-use Rattle.cf_model.specs.Formats.{Image, after_payload, spell_payload}
+use Rattle.cf_model.specs.Formats.{Image, spell_payload}
 use Rattle.cf_model.specs.Rows as model
 use Rattle.cf_table.specs.Reading.{AreRows, IsAbove, IsRow}
 use Rattle.cf_table.specs.Spelling.{row_value}
@@ -69,10 +69,6 @@ above_low (Some before) low n h le = omega (arith, h, le)
 and_first : (a b : Bool) → (a && b) ≡ true → a ≡ true
 and_first true b e = refl
 and_first false b e = absurd (true≢false (sym e))
-
-and_second : (a b : Bool) → (a && b) ≡ true → b ≡ true
-and_second true b e = e
-and_second false b e = absurd (true≢false (sym e))
 
 ids_of : (then : Earlier) (now : List Row) (before : Option ℕ) (low : ℕ) (rows : List Row) → then.next.0 < 2 ^ 64 → Reaches before low → RisesFrom low rows → AreIdsFrom before (map (λ (r : Row). r.id) (filter (is_row_gone then now) rows))
 ids_of then now before low [] small b h = tt

@@ -1,7 +1,7 @@
 -- A text put into a journal: a payload behind the others, or an image in place of all.
-use Rattle.std.specs.Prelude.{ℕ, true, List, length, Option, Some, None, MatchOption, All, cond, nat_lt, ◌≡◌, ◌≤◌, ◌+◌}
+use Rattle.std.specs.Prelude.{ℕ, List, length, Option, Some, None, MatchOption, All, cond, nat_lt, ◌≤◌, ◌+◌}
 use Rattle.cf_image.specs.Contents.{image_of}
-use Rattle.cf_image.specs.Spelled.{AreRecordsFrom, IsImage}
+use Rattle.cf_image.specs.Spelled.{IsImage}
 use Rattle.cf_image.specs.States.{IsAfter, Tells}
 use Rattle.cf_image.specs.declared.contents.Contents.{Contents}
 use Rattle.cf_journal.specs.Content.{Content}

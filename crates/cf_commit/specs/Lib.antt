@@ -1,3 +1,4 @@
 pub mod Differing
 pub mod InRange
 pub mod Leading
+pub mod Loaded

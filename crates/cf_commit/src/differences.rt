@@ -1,6 +1,6 @@
 //! What differs from the last point.
 
-ghost use Rattle.std.specs.Prelude.{◌≡◌, ◌≤◌, ◌<◌, ◌^◌, List, None, All, IfOk, is_some, length, not, nat_lt, ◌&&◌};
+ghost use Rattle.std.specs.Prelude.{◌≡◌, None, IfOk, is_some, length, nat_lt, ◌&&◌};
 ghost use Rattle.cf_commit.specs.Differing.{changed_keys, changed_rows, is_record_changed, is_record_gone, is_row_changed, is_row_gone, keys_in, removed_keys, removed_rows};
 ghost use Rattle.cf_image.specs.Contents.{record_at};
 ghost use Rattle.cf_image.specs.Spelled.{AreRecordsFrom};

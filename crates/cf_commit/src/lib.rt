@@ -1,14 +1,24 @@
-//! Commits of a volume, on its parts: its journal, its clusters, and what it says of its items.
+//! Commits and openings of a volume, on its parts: its journal, its clusters, and what it says of its items.
 //!
-//! What differs from the last point is appended to the journal where that fits, and else the whole image is written.
-//! specs/Differing says what differs, specs/Leading what is written.
+//! `save` makes what a volume says of its items durable: it appends what differs from the last point where that fits, and
+//! else writes the whole image. `create` makes an empty volume, `load` opens one; both give its parts with the epoch
+//! raised. specs/Differing says what differs, specs/Loaded what is known of a volume that was just opened.
 #![tactic(auto)]
 
+mod creations;
 mod differences;
 mod earlier;
+mod openings;
+mod parts;
 mod ranges;
 mod saves;
 mod texts;
 
+pub use creations::create;
 pub use earlier::Earlier;
+pub use openings::load;
+pub use parts::Parts;
 pub use saves::save;
+
+#[cfg(test)]
+mod tests;

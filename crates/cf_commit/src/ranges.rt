@@ -1,12 +1,12 @@
 //! The contents of a volume have an image.
 
-ghost use Rattle.std.specs.Prelude.{◌≡◌, ◌<◌, ◌^◌, ℕ, All, None, unwrap_or};
+ghost use Rattle.std.specs.Prelude.{◌<◌, ◌^◌, ℕ, All, None, unwrap_or};
 ghost use Rattle.cf_commit.specs.InRange.{IsInRange};
 ghost use Rattle.cf_commit.specs.Leading.{CanBeWritten, HaveStoredPins};
 ghost use Rattle.cf_image.specs.Contents.{image_of};
 ghost use Rattle.cf_image.specs.Spelled.{AreRecordsFrom, IsImage};
 ghost use Rattle.cf_table.specs.Reading.{IsUsn};
-ghost use Rattle.cf_table.specs.Tables.{RisesFrom};
+ghost use Rattle.cf_table.specs.Tables.{AreTableRows, RisesFrom};
 
 use crate::earlier::Earlier;
 use cf_base::{ItemId, Usn};
@@ -90,6 +90,7 @@ fn header_fits(last: Usn, count: u64, next: ItemId, clock: u64)
 pub(crate) fn has_an_image(contents: &Contents)
     ensures image { CanBeWritten contents.now → HaveStoredPins contents.now.rows.rows → IsImage (image_of contents.now) }
     ensures rise { RisesFrom 0 contents.now.rows.rows }
+    ensures kept { AreTableRows contents.now.rows.rows }
     ensures keys_rise { AreRecordsFrom None contents.now.records }
 {
     let _ = contents.rows.image_len();

@@ -1,6 +1,6 @@
 //! Commits.
 
-ghost use Rattle.std.specs.Prelude.{◌≡◌, ◌≤◌, ◌+◌, ℕ, length, map, All, true, false, None, Err, IfErr, IfOk, OnErr, OnOk};
+ghost use Rattle.std.specs.Prelude.{◌≡◌, ◌≤◌, map, All, false, None, Err, IfErr, IfOk, OnErr, OnOk};
 ghost use Rattle.cf_commit.specs.Differing.{IsThen, text_of};
 ghost use Rattle.cf_commit.specs.Leading.{CanBeWritten, HaveStoredPins, bytes_written};
 ghost use Rattle.cf_data.specs.Roles.{committed};

@@ -1,6 +1,6 @@
 //! A text put into a journal.
 
-ghost use Rattle.std.specs.Prelude.{◌≡◌, ◌≤◌, ◌+◌, ℕ, length, true, false, Err, IfErr, IfOk, IfSome, OnOk, option_copied};
+ghost use Rattle.std.specs.Prelude.{◌≡◌, ◌≤◌, ◌+◌, length, false, Err, IfErr, IfSome, OnOk, option_copied};
 ghost use Rattle.cf_commit.specs.Leading.{CanBeWritten, Follows, bytes_written, text_in};
 ghost use Rattle.cf_disk.specs.Disk.{size_of, Only, Leaves, Counts};
 ghost use Rattle.cf_image.specs.Contents.{image_of};

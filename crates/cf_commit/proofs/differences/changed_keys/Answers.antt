@@ -1,4 +1,4 @@
-use Rattle.std.proofs.Common.{◌≡◌, ◌+◌, ◌++◌, ◌∙◌, sym, ap, subst, drop, List, ℕ, Vec, Global}
+use Rattle.std.proofs.Common.{◌≡◌, ◌+◌, ◌++◌, sym, subst, drop, Vec, Global}
 use Rattle.cf_base.specs.declared.bytes.Blob.{Blob}
 use Rattle.cf_commit.specs.Differing.{is_record_changed}
 use Rattle.cf_commit.proofs.KeySteps.{keep_key, keys, skip_key}

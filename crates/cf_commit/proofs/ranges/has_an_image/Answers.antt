@@ -1,4 +1,4 @@
-use Rattle.std.proofs.Common.{◌≡◌, ◌<◌, ◌^◌, sym, subst, List, All}
+use Rattle.std.proofs.Common.{◌<◌, ◌^◌, subst, List, All}
 use Rattle.cf_base.specs.declared.ids.ItemId.{ItemId}
 use Rattle.cf_commit.specs.InRange.{IsInRange}
 use Rattle.cf_commit.proofs.ImageFits.{image_fits}

@@ -1,4 +1,4 @@
-use Rattle.std.proofs.Common.{ℕ, ◌<◌, ◌^◌, ◌≤◌, length}
+use Rattle.std.proofs.Common.{ℕ, ◌<◌, ◌^◌}
 use Rattle.cf_commit.proofs.EachOf.{none_left, one_got}
 use Rattle.cf_commit.proofs.ranges.pairs_fit.Goals as goal
 

@@ -1,4 +1,4 @@
-use Rattle.std.proofs.Common.{◌≡◌, ◌∙◌}
+use Rattle.std.proofs.Common.{◌∙◌}
 use Rattle.cf_commit.proofs.Appended.{follows_leads, in_text, on_ok_map, saving, tells_rewritten, untouched}
 use Rattle.cf_image.specs.Contents.{image_of}
 use Rattle.cf_journal.specs.Content.{appended, rewritten}
