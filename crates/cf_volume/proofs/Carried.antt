@@ -1,5 +1,5 @@
 -- A planned change of an item that stays, carried out, is one more change of the volume.
-use Rattle.std.proofs.Common.{◌≡◌, ℕ, ◌+◌, ◌<◌, ◌≤◌, Bool, true, false, List, [], ◌∷◌, length, refl, sym, ◌∙◌, ap, subst, arith, Option, Some, None}
+use Rattle.std.proofs.Common.{◌≡◌, ℕ, ◌+◌, true, List, [], sym, ◌∙◌, ap, subst}
 use Rattle.cf_base.specs.declared.changes.Change.{Change}
 use Rattle.cf_base.specs.declared.ids.ItemId.{ItemId}
 use Rattle.cf_blocks.specs.Bytes.{puts_in}
@@ -24,6 +24,24 @@ use Rattle.cf_table.specs.Tables.{RisesFrom, Table, row_of, with_row}
 use Rattle.cf_table.specs.declared.rows.Row.{Row}
 use Rattle.cf_volume.specs.Laid.{AreRising, Carries}
 
+-- extents say nothing of the item
+pub with_extents : (r : Row) (es : List (ℕ × ℕ)) (i : Item) → Means r i → Means (record r { extents = es }) i
+with_extents r es i h = record {
+  id = h.id;
+  parent = h.parent;
+  name = h.name;
+  directory = h.directory;
+  placeholder = h.placeholder;
+  populated = h.populated;
+  in_sync = h.in_sync;
+  keep = h.keep;
+  pin = h.pin;
+  base = h.base;
+  number = h.number;
+  identity = h.identity;
+  bytes = record { size = h.bytes.size; even = h.bytes.even; numbers = h.bytes.numbers; dirty = h.bytes.dirty; dirty_since = h.bytes.dirty_since; here = h.bytes.here; valid = h.bytes.valid; modified = h.bytes.modified; modified_since = h.bytes.modified_since };
+}
+
 module _ (s t : State) (k : Known) (v : Volume) (c : Change) (planned : Row) (uses : List Use) (blocks : List ℕ) (after : Table) (then' : List Row) (fair : Fair s) (at : At s k v) (rises : RisesFrom 0 k.table.rows) (kind : stays c ≡ true)
     (carries : Carries c (item_of_change c) planned blocks s t k.uses uses k.table after)
     (rising : IsRising carries.row.extents)
@@ -37,21 +55,7 @@ module _ (s t : State) (k : Known) (v : Volume) (c : Change) (planned : Row) (us
   same_rows = ap (λ (x : Table). x.rows) carries.table
 
   means_after : (i : Item) → Means carries.row i → Means after_row (item_effect c (pin_for c k.table.rows) (next_number v) i)
-  means_after i m = let h = means i m in record {
-    id = h.id;
-    parent = h.parent;
-    name = h.name;
-    directory = h.directory;
-    placeholder = h.placeholder;
-    populated = h.populated;
-    in_sync = h.in_sync;
-    keep = h.keep;
-    pin = h.pin;
-    base = h.base;
-    number = h.number;
-    identity = h.identity;
-    bytes = record { size = h.bytes.size; even = h.bytes.even; numbers = h.bytes.numbers; dirty = h.bytes.dirty; dirty_since = h.bytes.dirty_since; here = h.bytes.here; valid = h.bytes.valid; modified = h.bytes.modified; modified_since = h.bytes.modified_since };
-  }
+  means_after i m = with_extents planned carries.extents (item_effect c (pin_for c k.table.rows) (next_number v) i) (means i m)
 
   pub carried_at : At t (record k { uses = uses; table = after; place = k.place + 1; count = k.count + 1; rows_then = then' }) (put_change c v)
   carried_at = subst (λ (x : Table). At t (record k { uses = uses; table = x; place = k.place + 1; count = k.count + 1; rows_then = then' }) (put_change c v)) (sym carries.table)

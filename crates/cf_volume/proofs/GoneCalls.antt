@@ -1,5 +1,5 @@
 -- A removal as a call.
-use Rattle.std.proofs.Common.{◌≡◌, ℕ, ◌+◌, ◌^◌, ◌<◌, List, length, refl, sym, ◌∙◌, ap, subst, Option, Some, None}
+use Rattle.std.proofs.Common.{◌≡◌, ℕ, ◌^◌, ◌<◌, List, [], ◌∷◌, refl, ◌∙◌, subst, Option, Some, None}
 use Rattle.std.specs.Prelude.{All, Ok}
 use Rattle.std.proofs.lemmas.List.Elements.{All-nil}
 use Rattle.cf_base.specs.declared.answers.AuxRecord.{AuxRecord}
@@ -9,7 +9,7 @@ use Rattle.cf_base.specs.declared.ids.ItemId.{ItemId}
 use Rattle.cf_base.specs.declared.ids.Usn.{Usn}
 use Rattle.cf_data.specs.declared.uses.Use.{Use}
 use Rattle.cf_disk.specs.Disk.{State}
-use Rattle.cf_model.specs.Changes.{next_number, put_change}
+use Rattle.cf_model.specs.Changes.{put_change, why_no_room}
 use Rattle.cf_model.specs.Formats.{without_record}
 use Rattle.cf_model.specs.Numbers.{most, usn_after}
 use Rattle.cf_model.specs.State.{Volume}
@@ -66,3 +66,24 @@ module _ (s : State) (size : ℕ) (k : Known) (id : ItemId) (uses : List Use) (a
   gone_call (change.Copy item from parent name) is here book = absurd is
   gone_call (change.Populated item) is here book = absurd is
   gone_call (change.Keep item on) is here book = absurd is
+
+-- a removal is refused for want of a number alone
+pub gone_why : (s : State) (k : Known) (v : Volume) (c : Change) → At s k v → k.place < most → IsRemove c → why_no_room (c ∷ []) v ≡ None
+gone_why s k v (change.Make item parent name kind size identity) at left is = absurd is
+gone_why s k v (change.Remove item) at left is = gone_fitting s k v item at left
+gone_why s k v (change.Move item parent name) at left is = absurd is
+gone_why s k v (change.Write item start bytes) at left is = absurd is
+gone_why s k v (change.Size item bytes) at left is = absurd is
+gone_why s k v (change.Filled item start bytes) at left is = absurd is
+gone_why s k v (change.Validated item start len) at left is = absurd is
+gone_why s k v (change.Emptied item start len) at left is = absurd is
+gone_why s k v (change.SetPin item state) at left is = absurd is
+gone_why s k v (change.Mark item number) at left is = absurd is
+gone_why s k v (change.Clear item) at left is = absurd is
+gone_why s k v (change.Convert item identity) at left is = absurd is
+gone_why s k v (change.Revert item) at left is = absurd is
+gone_why s k v (change.Rebase item identity len start) at left is = absurd is
+gone_why s k v (change.Take item identity bytes) at left is = absurd is
+gone_why s k v (change.Copy item from parent name) at left is = absurd is
+gone_why s k v (change.Populated item) at left is = absurd is
+gone_why s k v (change.Keep item on) at left is = absurd is

@@ -1,7 +1,7 @@
 -- A table without an item, and the records without its path seen.
-use Rattle.std.proofs.Common.{◌≡◌, inl, inr, ℕ, suc, ◌+◌, ◌^◌, ◌<◌, ◌≤◌, ◌==◌, Bool, true, false, not, cond, eqb, List, [], ◌∷◌, ◌++◌, length, refl, sym, ◌∙◌, ap, subst, arith, Option, Some, None}
-use Rattle.std.specs.Prelude.{All, filter, find, sum_by}
-use Rattle.std.proofs.lemmas.Bool.{cases_Bool, cond-true, cond-false, eq-eqb, eqb-true, ne_eqb, true≢false}
+use Rattle.std.proofs.Common.{◌≡◌, inl, inr, ℕ, suc, ◌+◌, ◌^◌, ◌<◌, ◌≤◌, ◌==◌, Bool, true, false, not, cond, eqb, List, [], ◌∷◌, ◌++◌, length, refl, sym, ◌∙◌, ap, subst, arith, None}
+use Rattle.std.specs.Prelude.{All, filter, sum_by}
+use Rattle.std.proofs.lemmas.Bool.{cases_Bool, eq-eqb, eqb-true, ne_eqb, true≢false}
 use Rattle.std.proofs.lemmas.List.Elements.{All-append, All-cons, All-head, All-nil, All-tail}
 use Rattle.std.proofs.lemmas.List.Sums.{sum_by-cons}
 use Rattle.cf_base.specs.declared.answers.AuxRecord.{AuxRecord}
@@ -12,7 +12,7 @@ use Rattle.cf_data.specs.declared.uses.Use.{Use}
 use Rattle.cf_disk.specs.Disk.{State}
 use Rattle.cf_image.specs.Contents.{record_at}
 use Rattle.cf_model.specs.Books.{Book, anchor_of, aux_records, book_after}
-use Rattle.cf_model.specs.Changes.{next_number, put_change, why_no_room}
+use Rattle.cf_model.specs.Changes.{put_change, why_no_room}
 use Rattle.cf_model.specs.Effects.{later_than, without}
 use Rattle.cf_model.specs.Formats.{without_record}
 use Rattle.cf_model.specs.Images.{aux_len, count_runs, row_len}
@@ -154,6 +154,7 @@ module _ (s : State) (size : ℕ) (k : Known) (id : ItemId) (uses : List Use) (a
     inside = inside_left (λ j. j < length uses) (λ (r : Row). not (r.id.0 == id.0)) k.table.rows (subst (λ (n : ℕ). All (λ j. j < n) (clusters_in_rows k.table.rows)) (sym drops.long) steady.inside);
     later = all_filtered (λ x. IsLater (usn_after k.epoch (k.place + 1)) x) (λ (r : Row). not (r.id.0 == id.0)) k.table.rows (next_goes_on (usn_after k.epoch k.place) (usn_after k.epoch (k.place + 1)) k.table.rows (later_next k.epoch k.place) steady.later);
     earlier = steady.earlier;
+    usable = steady.usable;
   })
 
 -- a removal is refused for want of a number alone

@@ -5,19 +5,19 @@ use Rattle.std.proofs.lemmas.Bool.{cases_Bool, le-ltb, lt-ltb, true≢false}
 use Rattle.std.proofs.lemmas.Option.{same_Some}
 use Rattle.cf_base.specs.declared.changes.Change.{Change}
 use Rattle.cf_base.specs.declared.changes.Change.TheVariants as change
-use Rattle.cf_base.specs.declared.codes.Code.{Code}
 use Rattle.cf_base.specs.declared.codes.Code.TheVariants as code
 use Rattle.cf_base.specs.declared.ids.ItemId.{ItemId}
 use Rattle.cf_base.specs.declared.ids.Usn.{Usn}
+use Rattle.cf_base.specs.declared.items.Pin.{Pin}
 use Rattle.cf_blocks.specs.Bytes.{puts_in}
 use Rattle.cf_data.proofs.Counts.{uses_add_up}
 use Rattle.cf_data.specs.Roles.{how_many, is_free, is_now}
 use Rattle.cf_disk.specs.Disk.{State}
-use Rattle.cf_model.specs.Blocks.{blocks_holding, blocks_in, blocks_used, is_full, passes_clusters, puts_into}
-use Rattle.cf_model.specs.Books.{Book, anchor_of, book_after}
+use Rattle.cf_model.specs.Blocks.{blocks_in, blocks_used, is_full, passes_clusters, puts_into}
+use Rattle.cf_model.specs.Books.{Book, anchor_of}
 use Rattle.cf_model.specs.Changes.{lacks_numbers, may_need_room, needs_id, next_number, no_blocks, no_table, put_change, why_no_room}
 use Rattle.cf_model.specs.Numbers.{most, usn_after}
-use Rattle.cf_model.specs.Effects.{changed, effect}
+use Rattle.cf_model.specs.Effects.{changed}
 use Rattle.cf_model.specs.Images.{aux_len, image_len, is_table_full, most_image, never_longer, row_len, table_full}
 use Rattle.cf_model.specs.Items.{Item, item_of}
 use Rattle.cf_model.specs.State.{Volume}
@@ -37,14 +37,40 @@ use Rattle.cf_table.proofs.Stays.{effect_is}
 use Rattle.cf_table.specs.Applied.{item_effect}
 use Rattle.cf_table.specs.Changing.{item_of_change, pin_for, stays}
 use Rattle.cf_table.specs.Means.{Means}
-use Rattle.cf_table.specs.Tables.{AreTableRows, IsStored, RisesFrom, row_of}
+use Rattle.cf_table.specs.Tables.{AreTableRows, RisesFrom, row_of}
 use Rattle.cf_table.specs.declared.rows.Row.{Row}
 use Rattle.cf_volume.proofs.Puts.{found_table}
 use Rattle.cf_volume.specs.Laid.{Plans}
 
-passes_is : (clusters : ℕ) (items : List Item) (n : ℕ) → blocks_used items ≤ clusters → passes_clusters clusters items n ≡ ltb clusters (blocks_used items + n)
+pub passes_is : (clusters : ℕ) (items : List Item) (n : ℕ) → blocks_used items ≤ clusters → passes_clusters clusters items n ≡ ltb clusters (blocks_used items + n)
 passes_is clusters items zero le = sym (le-ltb clusters (blocks_used items + 0) (omega (arith, le)))
 passes_is clusters items (suc n) le = refl
+
+-- the clusters that a change needs
+
+passes_more : (clusters : ℕ) (items : List Item) (n : ℕ) → 0 < n → passes_clusters clusters items n ≡ ltb clusters (blocks_used items + n)
+passes_more clusters items zero h = absurd (omega (arith, h))
+passes_more clusters items (suc n) h = refl
+
+both_true : (a b : Bool) → a ≡ true → b ≡ true → (a && b) ≡ true
+both_true true b e f = f
+both_true false b e f = absurd (true≢false (sym e))
+
+module _ (s : State) (k : Known) (v : Volume) (c : Change) (n : ℕ) (at : At s k v) (puts : length (puts_into v.items c) ≡ n) where
+  pub clusters_full : is_full v.clusters v.items c ≡ ltb (length k.uses) (how_many is_now k.uses + n)
+  clusters_full =
+      let used = used_now (cluster_on s.seen) v.book k.table.rows v.items k.uses at.now.rows at.now.owns in
+      let all = uses_add_up k.uses in
+      passes_is v.clusters v.items (length (puts_into v.items c)) (omega (arith, used, all, at.now.clusters))
+      ∙ (λ j. ltb (at.now.clusters j) (used j + puts j))
+
+  -- where too few clusters are free, a commit may be needed before the change
+  pub room_needed : how_many is_free k.uses < n → may_need_room c v ≡ true
+  room_needed few =
+      let some : 0 < length (puts_into v.items c) = omega (arith, few, puts) in
+      both_true (ltb 0 (length (puts_into v.items c))) (passes_clusters v.clusters v.items_then (v.put_since + length (puts_into v.items c))) (lt-ltb 0 (length (puts_into v.items c)) some)
+      (passes_more v.clusters v.items_then (v.put_since + length (puts_into v.items c)) (omega (arith, some))
+      ∙ lt-ltb v.clusters (blocks_used v.items_then + (v.put_since + length (puts_into v.items c))) (omega (arith, few, puts, at.now.used, at.now.clusters)))
 
 or_false : (b : Bool) → (b || false) ≡ b
 or_false true = refl
@@ -53,7 +79,7 @@ or_false false = refl
 never_full : (c : Change) (items : List Item) (b : Book) → never_longer c ≡ true → is_table_full c items b ≡ false
 never_full c items b e = ap (λ (t : Bool). cond t false (table_full items b)) e
 
-may_be_full : (c : Change) (items : List Item) (b : Book) → never_longer c ≡ false → is_table_full c items b ≡ table_full items b
+pub may_be_full : (c : Change) (items : List Item) (b : Book) → never_longer c ≡ false → is_table_full c items b ≡ table_full items b
 may_be_full c items b e = ap (λ (t : Bool). cond t false (table_full items b)) e
 
 module _ (s : State) (k : Known) (v : Volume) (c : Change) (row planned : Row) (blocks : List ℕ) (at : At s k v) (rises : RisesFrom 0 k.table.rows) (table : AreTableRows k.table.rows) (kind : stays c ≡ true)
@@ -119,19 +145,18 @@ module _ (s : State) (k : Known) (v : Volume) (c : Change) (row planned : Row) (
         both true e = stay_full e ∙ sym e
         both false e = fits_of (put_change c v).items (put_change c v).book (stay_fits e) ∙ sym e
 
-  pub stay_blocks : is_full v.clusters v.items c ≡ ltb (length k.uses) (how_many is_now k.uses + length blocks)
-  stay_blocks =
-      let used = used_now (cluster_on s.seen) v.book k.table.rows v.items k.uses at.now.rows at.now.owns in
-      let all = uses_add_up k.uses in
-      let puts : length (puts_into v.items c) ≡ length blocks = ap length (stays_puts c v.items kind ∙ ap (λ (o : Option Item). puts_in c (part (λ i. i.held) [] o)) here.1 ∙ sym (plan.puts here.0 here.2.means)) in
-      passes_is v.clusters v.items (length (puts_into v.items c)) (omega (arith, used, all, at.now.clusters))
-      ∙ (λ j. ltb (at.now.clusters j) (used j + puts j))
+-- how many blocks a planned change puts
+plan_puts : (s : State) (k : Known) (v : Volume) (c : Change) (pin : Pin) (n : Usn) (row planned : Row) (blocks : List ℕ) → At s k v → stays c ≡ true → row_of k.table.rows (item_of_change c) ≡ Some row → Plans c pin n row planned blocks
+    → length (puts_into v.items c) ≡ length blocks
+plan_puts s k v c pin n row planned blocks at kind found plan =
+    let item = row_holds (cluster_on s.seen) v.book k.table.rows v.items (item_of_change c) row at.now.rows found in
+    ap length (stays_puts c v.items kind ∙ ap (λ (o : Option Item). puts_in c (part (λ i. i.held) [] o)) item.1 ∙ sym (plan.puts item.0 item.2.means))
 
 -- the three refusals, in their order
 refused_as : (x t f long full : Bool) → x ≡ false → t ≡ long → f ≡ full → (cond x (Some code.Exhausted) (cond t (Some code.TableFull) (cond f (Some code.Full) None))) ≡ cond long (Some code.TableFull) (cond full (Some code.Full) None)
 refused_as x t f long full a b c = (λ j. cond (a j) (Some code.Exhausted) (cond (b j) (Some code.TableFull) (cond (c j) (Some code.Full) None)))
 
-needs_no_id : (c : Change) → stays c ≡ true → needs_id c ≡ false
+pub needs_no_id : (c : Change) → stays c ≡ true → needs_id c ≡ false
 needs_no_id (change.Make item parent name kind size identity) s = absurd (true≢false (sym s))
 needs_no_id (change.Remove item) s = refl
 needs_no_id (change.Move item parent name) s = refl
@@ -193,29 +218,9 @@ module _ (s : State) (k : Known) (v : Volume) (c : Change) (row planned : Row) (
   refused_is left = refusal_is c v long (ltb (length k.uses) (how_many is_now k.uses + length blocks)) (numbers_left c v (needs_no_id c kind) (omega (arith, left, at.now.place)))
       (stay_table s k v c row planned blocks at rises table kind found numbered long (min size 18446744073709551615) old_len new_len
       (image_is s k v c row planned blocks at rises table kind found numbered size size_is) (old_is s k v c row planned blocks at rises table kind found numbered) (new_is s k v c row planned blocks at rises table kind found numbered) tested)
-      (stay_blocks s k v c row planned blocks at rises table kind found numbered)
+      (clusters_full s k v c (length blocks) at (plan_puts s k v c (pin_for c k.table.rows) (next_number v) row planned blocks at kind found numbered))
 
--- where too few clusters are free for a change, a commit may be needed before it
-
-passes_more : (clusters : ℕ) (items : List Item) (n : ℕ) → 0 < n → passes_clusters clusters items n ≡ ltb clusters (blocks_used items + n)
-passes_more clusters items zero h = absurd (omega (arith, h))
-passes_more clusters items (suc n) h = refl
-
-both_true : (a b : Bool) → a ≡ true → b ≡ true → (a && b) ≡ true
-both_true true b e f = f
-both_true false b e f = absurd (true≢false (sym e))
-
-module _ (s : State) (k : Known) (v : Volume) (c : Change) (row planned : Row) (blocks : List ℕ) (at : At s k v) (rises : RisesFrom 0 k.table.rows) (table : AreTableRows k.table.rows) (kind : stays c ≡ true)
-    (found : row_of k.table.rows (item_of_change c) ≡ Some row) (plan : Plans c (pin_for c k.table.rows) (usn_after k.epoch k.place) row planned blocks) where
-  pub needs_room : how_many is_free k.uses < length blocks → may_need_room c v ≡ true
-  needs_room few =
-      let some : 0 < length (puts_into v.items c) = omega (arith, few, puts) in
-      both_true (ltb 0 (length (puts_into v.items c))) (passes_clusters v.clusters v.items_then (v.put_since + length (puts_into v.items c))) (lt-ltb 0 (length (puts_into v.items c)) some)
-      (passes_more v.clusters v.items_then (v.put_since + length (puts_into v.items c)) (omega (arith, some))
-      ∙ lt-ltb v.clusters (blocks_used v.items_then + (v.put_since + length (puts_into v.items c))) (omega (arith, few, puts, at.now.used, at.now.clusters)))
-    where
-      found_item : (i : Item) × (item_of v.items (item_of_change c) ≡ Some i) × HoldsRow (cluster_on s.seen) v.book row i
-      found_item = row_holds (cluster_on s.seen) v.book k.table.rows v.items (item_of_change c) row at.now.rows found
-
-      puts : length (puts_into v.items c) ≡ length blocks
-      puts = ap length (stays_puts c v.items kind ∙ ap (λ (o : Option Item). puts_in c (part (λ i. i.held) [] o)) found_item.1 ∙ sym (plan.puts found_item.0 found_item.2.means))
+pub needs_room : (s : State) (k : Known) (v : Volume) (c : Change) (row planned : Row) (blocks : List ℕ) → At s k v → stays c ≡ true → row_of k.table.rows (item_of_change c) ≡ Some row → Plans c (pin_for c k.table.rows) (usn_after k.epoch k.place) row planned blocks
+    → how_many is_free k.uses < length blocks → may_need_room c v ≡ true
+needs_room s k v c row planned blocks at kind found plan few =
+    room_needed s k v c (length blocks) at (plan_puts s k v c (pin_for c k.table.rows) (usn_after k.epoch k.place) row planned blocks at kind found plan) few

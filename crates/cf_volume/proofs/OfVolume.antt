@@ -38,7 +38,7 @@ bytes_read s t k v id i start end bytes at is here read = item_read s t k v id i
 
 -- the time is not part of what holds of the parts
 pub passed_steady : (size clock : ℕ) (k : Known) → Steady size k → Steady size (record k { clock = clock })
-passed_steady size clock k steady = record { fit = steady.fit; clusters = steady.clusters; inside = steady.inside; later = steady.later; earlier = steady.earlier }
+passed_steady size clock k steady = record { fit = steady.fit; clusters = steady.clusters; inside = steady.inside; later = steady.later; earlier = steady.earlier; usable = steady.usable }
 
 -- on another disk of the same size
 pub same_steady : (size after : ℕ) (k : Known) → Steady size k → after ≡ size → Steady after k

@@ -1,7 +1,7 @@
 -- A planned change of an item that stays, put.
-use Rattle.std.proofs.Common.{◌≡◌, ℕ, ◌+◌, ◌*◌, ◌-◌, ◌/◌, ◌<◌, ◌≤◌, Bool, true, false, cond, List, [], ◌∷◌, length, refl, sym, ◌∙◌, ap, subst, arith, Option, Some, None}
+use Rattle.std.proofs.Common.{◌≡◌, ℕ, ◌+◌, ◌-◌, ◌/◌, ◌<◌, ◌≤◌, Bool, true, false, cond, List, length, sym, ◌∙◌, ap, subst, arith, Some, None}
 use Rattle.std.specs.Prelude.{All}
-use Rattle.std.proofs.lemmas.Option.{none-some, same_Some}
+use Rattle.std.proofs.lemmas.Option.{none-some}
 use Rattle.cf_base.specs.declared.changes.Change.{Change}
 use Rattle.cf_base.specs.declared.ids.ItemId.{ItemId}
 use Rattle.cf_base.specs.declared.ids.Usn.{Usn}
@@ -19,12 +19,12 @@ use Rattle.cf_points.specs.Clusters.{clusters_in_row, clusters_in_rows}
 use Rattle.cf_points.specs.Standing.{cluster_on}
 use Rattle.cf_points.specs.Known.{Known, row_then}
 use Rattle.cf_journal.specs.Settled.{IsFitSize}
-use Rattle.cf_ranges.specs.Pairs.{IsRising, cluster_at}
+use Rattle.cf_ranges.specs.Pairs.{cluster_at}
 use Rattle.cf_ranges.specs.Positions.{touches}
 use Rattle.cf_table.specs.Applied.{item_effect}
 use Rattle.cf_table.specs.Means.{Means}
 use Rattle.cf_table.specs.Changing.{item_of_change, pin_for, stays}
-use Rattle.cf_table.specs.Tables.{AreTableRows, RisesFrom, Table, row_of, with_row}
+use Rattle.cf_table.specs.Tables.{AreTableRows, RisesFrom, Table, row_of}
 use Rattle.cf_table.specs.declared.rows.Row.{Row}
 use Rattle.cf_volume.proofs.Carried.{carried_at}
 use Rattle.cf_volume.proofs.Noted.{found_id}
@@ -82,6 +82,7 @@ module _ (s t : State) (k : Known) (c : Change) (planned : Row) (blocks : List �
       inside = inside_with (λ j. j < length uses) after_row k.table.rows extents_inside (subst (λ (n : ℕ). All (λ j. j < n) (clusters_in_rows k.table.rows)) (sym long) steady.inside);
       later = next_with k.epoch k.place k.table.rows (item_of_change c) row after_row steady.later carries.found facts.later facts.rest.anchor;
       earlier = steady.earlier;
+      usable = steady.usable;
     })
 
     pub planned_at : (v : Volume) → Fair s → At s k v → stays c ≡ true → FitsTable (put_change c v).items (put_change c v).book

@@ -1,5 +1,5 @@
 -- What a change that fits a row needs of it.
-use Rattle.std.proofs.Common.{◌≡◌, ℕ, ◌+◌, ◌≤◌, ◌^◌, length, arith}
+use Rattle.std.proofs.Common.{arith}
 use Rattle.cf_base.specs.declared.changes.Change.{Change}
 use Rattle.cf_base.specs.declared.changes.Change.TheVariants as change
 use Rattle.cf_blocks.specs.Bytes.{HasEnd}

@@ -1,23 +1,22 @@
 -- Rows whose anchor or last access is set, and what the volume is then.
-use Rattle.std.proofs.Common.{◌≡◌, ℕ, ◌+◌, ◌<◌, ◌≤◌, Bool, true, false, cond, eqb, List, [], ◌∷◌, length, refl, sym, ◌∙◌, ap, subst, arith, Option, Some, None}
-use Rattle.std.specs.Prelude.{All, MatchOption, find}
+use Rattle.std.proofs.Common.{◌≡◌, ℕ, ◌<◌, eqb, List, length, refl, sym, ◌∙◌, ap, subst, Option, Some, None}
+use Rattle.std.specs.Prelude.{All, MatchOption}
 use Rattle.std.proofs.lemmas.Bool.{cond-true, cond-false, eq-eqb, ne_eqb}
 use Rattle.std.proofs.lemmas.Option.{none-some, same_Some}
 use Rattle.cf_base.specs.declared.ids.ItemId.{ItemId}
 use Rattle.cf_base.specs.declared.ids.Usn.{Usn}
 use Rattle.cf_disk.specs.Disk.{State}
-use Rattle.cf_model.specs.Books.{Book, access_of, anchor_of, aux_records, with_access, with_anchor}
+use Rattle.cf_model.specs.Books.{access_of, anchor_of, with_access, with_anchor}
 use Rattle.cf_model.specs.Items.{Item, item_of}
 use Rattle.cf_model.specs.Numbers.{above, usn_after}
 use Rattle.cf_model.specs.State.{Volume}
 use Rattle.cf_points.proofs.BookChanges.{access_put, anchor_put, anchored_fits, noted_at}
 use Rattle.cf_points.proofs.ItemChanges.{row_holds}
 use Rattle.cf_points.specs.At.{At}
-use Rattle.cf_points.specs.Clusters.{clusters_in_row, clusters_in_rows}
-use Rattle.cf_points.specs.Known.{Known, row_then}
+use Rattle.cf_points.specs.Clusters.{clusters_in_row}
+use Rattle.cf_points.specs.Known.{Known}
 use Rattle.cf_points.specs.Standing.{cluster_on}
 use Rattle.cf_table.specs.Applied.{SetsAnchor, Touches}
-use Rattle.cf_table.specs.Changing.{IsNext}
 use Rattle.cf_table.specs.Means.{IsLater}
 use Rattle.cf_table.specs.Tables.{RisesFrom, SetsRow, Table, row_of, with_row}
 use Rattle.cf_table.specs.declared.rows.Row.{Row}
@@ -52,6 +51,7 @@ module _ (P : Row → Row → Type 0) (size : ℕ) (id : ItemId) (k l : Known) (
         (subst (λ (es : List (ℕ × ℕ)). All (λ j. j < length k.uses) (clusters_in_row (record set.after { extents = es }))) (sym extents) (found_inside (λ j. j < length k.uses) k.table.rows id set.row steady.inside set.found)) steady.inside;
     later = all_with (λ x. IsLater (usn_after k.epoch k.place) x) set.after k.table.rows (later (found_of (λ x. IsLater (usn_after k.epoch k.place) x) k.table.rows id set.row steady.later set.found)) steady.later;
     earlier = steady.earlier;
+    usable = steady.usable;
   })
 
 module _ (s : State) (id : ItemId) (k l : Known) (v : Volume) (at : At s k v) where

@@ -1,5 +1,5 @@
 -- One block, staged after a read.
-use Rattle.std.proofs.Common.{◌≡◌, ℕ, ◌+◌, ◌*◌, ◌<◌, ◌≤◌, true, List, length, Option, Some, None, refl, sym, ◌∙◌, ap, subst, arith}
+use Rattle.std.proofs.Common.{◌≡◌, ℕ, ◌<◌, List, length, Option, Some, None, refl, sym, ◌∙◌, ap, subst}
 use Rattle.std.specs.Option.{ForSome}
 use Rattle.cf_blocks.specs.Bytes.{HoldsBlock}
 use Rattle.cf_data.specs.Area.{KeepsWhere, SameWhere}
@@ -27,9 +27,9 @@ pub loaded : (held : List (Option ℕ)) (b : ℕ) (cluster : Option ℕ) (disk b
 loaded held b None disk block got holds = λ q v low h. absurd (holds q v low h)
 loaded held b (Some k) disk block got holds = let same : block ≡ cluster_on disk k = got k refl in subst (λ (l : List ℕ). HoldsBlock held b l) (sym same) holds
 
-pub staged_block : (number : ℕ) (bytes : List ℕ) (s t u : State) (old new : List Use) (es fs : List (ℕ × ℕ)) (k : ℕ) (before : Option ℕ) → Keeps s t → before ≡ cluster_at es number → (k < length old) × (use_of old k ≡ Free) → new ≡ staged_at k before old
-    → Puts es fs number (Some k) → IsRising es → IsRising fs → size_of u ≡ size_of t → SameWhere IsUsed old t.seen u.seen → cluster_on u.seen k ≡ bytes → StagesBlock number bytes s u old new es fs
-staged_block number bytes s t u old new es fs k before keeps is free uses puts was rising size same holds = record {
+pub staged_block : (number : ℕ) (bytes : List ℕ) (t u : State) (old new : List Use) (es fs : List (ℕ × ℕ)) (k : ℕ) (before : Option ℕ) → before ≡ cluster_at es number → (k < length old) × (use_of old k ≡ Free) → new ≡ staged_at k before old
+    → Puts es fs number (Some k) → IsRising es → IsRising fs → size_of u ≡ size_of t → SameWhere IsUsed old t.seen u.seen → cluster_on u.seen k ≡ bytes → StagesBlock number bytes t u old new es fs
+staged_block number bytes t u old new es fs k before is free uses puts was rising size same holds = record {
   cluster = k;
   in_range = free.0;
   was_free = free.1;
@@ -37,7 +37,22 @@ staged_block number bytes s t u old new es fs k before keeps is free uses puts w
   puts = puts;
   before = was;
   rising = rising;
-  size = size ∙ ap length keeps.seen;
-  same = subst (λ (l : List ℕ). SameWhere IsUsed old l u.seen) keeps.seen same;
+  size = size;
+  same = same;
   holds = holds;
+}
+
+-- a block staged after a read
+pub staged_after : (number : ℕ) (bytes : List ℕ) (s t u : State) (old new : List Use) (es fs : List (ℕ × ℕ)) → Keeps s t → StagesBlock number bytes t u old new es fs → StagesBlock number bytes s u old new es fs
+staged_after number bytes s t u old new es fs keeps st = record {
+  cluster = st.cluster;
+  in_range = st.in_range;
+  was_free = st.was_free;
+  uses = st.uses;
+  puts = st.puts;
+  before = st.before;
+  rising = st.rising;
+  size = st.size ∙ ap length keeps.seen;
+  same = subst (λ (l : List ℕ). SameWhere IsUsed old l u.seen) keeps.seen st.same;
+  holds = st.holds;
 }

@@ -1,16 +1,16 @@
 -- Blocks staged one after the other.
-use Rattle.std.proofs.Common.{◌≡◌, ℕ, zero, suc, ◌+◌, ◌*◌, ◌<◌, ◌≤◌, Bool, true, false, ◌||◌, eqb, List, [], ◌∷◌, ◌++◌, length, take, get_or, Option, Some, None, refl, sym, ◌∙◌, ap, subst, arith, inl, inr, length-append, length-take}
-use Rattle.std.proofs.lemmas.Bool.{ne_eqb, cases_eq, eqb-true}
+use Rattle.std.proofs.Common.{◌≡◌, ℕ, zero, suc, ◌+◌, ◌*◌, ◌<◌, ◌≤◌, Bool, false, ◌||◌, eqb, List, [], ◌∷◌, ◌++◌, length, take, get_or, Option, Some, None, refl, sym, ◌∙◌, ap, subst, arith, inl, inr, length-append, length-take}
+use Rattle.std.proofs.lemmas.Bool.{ne_eqb, cases_eq}
 use Rattle.std.proofs.lemmas.Option.{same_Some}
 use Rattle.std.proofs.lemmas.Bool.{cond-true, cond-false, eq-eqb}
 use Rattle.cf_base.specs.declared.changes.Change.{Change}
-use Rattle.cf_blocks.specs.Bytes.{HoldsBlock, is_among}
+use Rattle.cf_blocks.specs.Bytes.{is_among}
 use Rattle.cf_data.specs.Area.{KeepsWhere}
 use Rattle.cf_data.specs.Roles.{IsCommitted, IsUsed, how_many, is_free}
 use Rattle.std.proofs.lemmas.List.{take_all}
 use Rattle.cf_volume.proofs.Staged.{same_here}
 use Rattle.cf_data.specs.declared.uses.Use.{Use}
-use Rattle.cf_disk.specs.Disk.{Leaves, State, size_of}
+use Rattle.cf_disk.specs.Disk.{Leaves, State}
 use Rattle.cf_points.proofs.Stages.{leaves_on, length-staged, moves_none, moves_then, stage_blocks, stage_moves}
 use Rattle.cf_points.specs.Staging.{AreBlocks, Moves, StagesBlock}
 use Rattle.cf_points.specs.Standing.{cluster_on}
@@ -19,7 +19,6 @@ use Rattle.cf_table.specs.declared.rows.Row.{Row}
 use Rattle.cf_volume.specs.Laid.{AreRising, HoldsIn, Lays, StagesAll}
 use Rattle.std.specs.Prelude.{IfErr, Result, Ok, Err}
 use Rattle.std.specs.Result.{IsErrAnd}
-use Rattle.cf_disk.specs.Disk.{capped}
 use Rattle.cf_points.specs.declared.stops.Stop.{Stop}
 use Rattle.cf_points.specs.declared.stops.Stop.TheVariants.{Device, Memory}
 use Rattle.cf_points.specs.Runs.{IsStop, Ran}

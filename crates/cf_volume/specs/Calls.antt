@@ -1,5 +1,5 @@
 -- What the calls of a volume say of their ends.
-use Rattle.std.specs.Prelude.{◌≡◌, ◌≤◌, ◌<◌, ◌+◌, ◌⊎◌, ℕ, true, false, List, [], ◌∷◌, Option, None, Some, Result, Ok, Err}
+use Rattle.std.specs.Prelude.{◌≡◌, ◌≤◌, ◌<◌, ◌+◌, ◌⊎◌, ℕ, Bool, true, false, List, [], ◌∷◌, Option, None, Some, Result, Ok, Err}
 use Rattle.cf_base.specs.declared.answers.AuxRecord.{AuxRecord}
 use Rattle.cf_base.specs.declared.changes.Change.{Change}
 use Rattle.cf_base.specs.declared.codes.Code.{Code}
@@ -33,6 +33,11 @@ IfBroken old result new = old.known.broken ≡ true → (result ≡ Err (No Brok
 abbrev pub Breaks : Fail → Known → Type 0
 Breaks Memory k = k.broken ≡ true
 Breaks (No code) k = code ≡ Device → k.broken ≡ true
+
+-- whether a failure is one of them
+abbrev pub IsStopping : Fail → Bool → Type 0
+IsStopping Memory b = b ≡ true
+IsStopping (No code) b = (code ≡ Device → b ≡ true) × ((code ≡ Device → ⊥) → b ≡ false)
 
 -- the device stops a call only where its count of faults rose
 abbrev pub IsCause : Fail → State → State → Type 0

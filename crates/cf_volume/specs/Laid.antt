@@ -1,5 +1,5 @@
 -- The bytes that a block gets by a change.
-use Rattle.std.specs.Prelude.{ℕ, true, List, [], ◌∷◌, ◌++◌, Option, Some, None, MatchOption, length, replicate, ◌≡◌, ◌<◌, ◌≤◌, ◌+◌, ◌*◌}
+use Rattle.std.specs.Prelude.{ℕ, true, List, [], ◌∷◌, Option, Some, MatchOption, length, ◌≡◌, ◌<◌, ◌≤◌, ◌+◌, ◌*◌}
 use Rattle.cf_base.specs.declared.changes.Change.{Change}
 use Rattle.cf_base.specs.declared.ids.Usn.{Usn}
 use Rattle.cf_base.specs.declared.items.Pin.{Pin}
@@ -8,12 +8,7 @@ use Rattle.cf_data.specs.Area.{KeepsWhere}
 use Rattle.cf_data.specs.Roles.{IsCommitted}
 use Rattle.cf_data.specs.declared.uses.Use.{Use}
 use Rattle.cf_disk.specs.Disk.{Leaves, State}
-use Rattle.cf_model.specs.Books.{book_after}
-use Rattle.cf_model.specs.Changes.{next_number}
-use Rattle.cf_model.specs.Effects.{effect}
 use Rattle.cf_model.specs.Items.{Item}
-use Rattle.cf_model.specs.Logs.{next_by}
-use Rattle.cf_model.specs.State.{Volume}
 use Rattle.cf_base.specs.declared.spans.Span.{Span}
 use Rattle.cf_points.specs.Staging.{AreBlocks, DropsGone, Moves}
 use Rattle.cf_ranges.specs.Pairs.{cluster_at}
@@ -74,11 +69,3 @@ pub record Plans (c : Change) (pin : Pin) (n : Usn) (row planned : Row) (blocks 
   pub stored : IsStored planned
   pub spellable : IsSpellable planned
   pub puts : (i : Item) → Means row i → blocks ≡ puts_in c i.held
-
--- The change makes one more item of n positions, none of which is held, which the row means.
-pub record IsMade (c : Change) (v : Volume) (row : Row) (i : Item) (n : ℕ) : Type 0 where
-  pub means : Means row i
-  pub held : i.held ≡ replicate n None
-  pub items : effect v.items c (next_number v) ≡ v.items ++ i ∷ []
-  pub book : book_after c v.book ≡ v.book
-  pub next : next_by c ≡ row.id.0 + 1

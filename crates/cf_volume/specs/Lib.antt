@@ -4,3 +4,9 @@ pub mod Reads
 pub mod Steady
 pub mod Calls
 pub mod Keys
+pub mod NewRows
+pub mod Copies
+pub mod AuxPuts
+pub mod Writable
+pub mod Accepted
+pub mod Openings

@@ -1,7 +1,8 @@
 -- Rows noted as they were at the last point.
-use Rattle.std.specs.Prelude.{◌≡◌, ℕ, false, List, Option, None, Some}
+use Rattle.std.specs.Prelude.{◌≡◌, ℕ, false, List, [], Option, None, Some}
 use Rattle.cf_base.specs.declared.answers.AuxRecord.{AuxRecord}
 use Rattle.cf_base.specs.declared.ids.ItemId.{ItemId}
+use Rattle.cf_commit.specs.declared.earlier.Earlier.{Earlier}
 use Rattle.cf_image.specs.Contents.{record_at}
 use Rattle.cf_model.specs.Words.{same}
 use Rattle.cf_points.specs.Known.{Known, record_then, row_then}
@@ -28,3 +29,10 @@ pub record SetsNoted (P : Row → Row → Type 0) (id : ItemId) (old new : Known
 pub record NotesKey (key : List ℕ) (records old new made made' : List AuxRecord) : Type 0 where
   pub others : (k : List ℕ) (now : Option AuxRecord) → same key k ≡ false → record_then k new made' now ≡ record_then k old made now
   pub here : (now : Option AuxRecord) → record_then key new made' now ≡ record_then key old made (record_at records key)
+
+-- nothing has changed since the last point
+pub record NotesNothing (next : ItemId) (then : Earlier) : Type 0 where
+  pub rows : then.rows.rows ≡ []
+  pub next_is : then.next ≡ next
+  pub records : then.records ≡ []
+  pub made : then.made ≡ []

@@ -1,5 +1,5 @@
 -- What the parts of a volume know of it, and what holds of them until a call breaks it.
-use Rattle.std.specs.Prelude.{◌≡◌, ◌≤◌, ◌<◌, ◌+◌, ◌-◌, ◌*◌, ◌/◌, ℕ, Bool, All, length, min, nat_lt}
+use Rattle.std.specs.Prelude.{◌≡◌, ◌≤◌, ◌<◌, ◌+◌, ◌-◌, ◌*◌, ◌/◌, ℕ, Bool, false, All, length, min, nat_lt}
 use Rattle.cf_image.specs.Contents.{image_of}
 use Rattle.cf_image.specs.declared.contents.Contents.{Contents}
 use Rattle.cf_journal.specs.Settled.{IsFitSize}
@@ -23,22 +23,23 @@ known_of p = record {
   place = p.contents.last.place;
   count = p.contents.count;
   clock = p.contents.clock;
-  rows_then = p.rows_then.rows;
-  next_then = p.next_then;
-  records_then = p.records_then;
-  keys_made = p.keys_made;
+  rows_then = p.then.rows.rows;
+  next_then = p.then.next;
+  records_then = p.then.records;
+  keys_made = p.then.made;
   kept = p.kept;
   broken = p.broken;
 }
 
 -- A disk of this size has room for the clusters, each cluster of a row is one of them, the next number comes after those of
--- all rows, and the next item after those of the last point.
+-- all rows, the next item after those of the last point, and the journal has not failed.
 pub record Steady (size : ℕ) (k : Known) : Type 0 where
   pub fit : IsFitSize size
   pub clusters : length k.uses ≡ (size - 3145728) / 4096
   pub inside : All (λ j. j < length k.uses) (clusters_in_rows k.table.rows)
   pub later : IsNext (usn_after k.epoch k.place) k.table.rows
   pub earlier : k.next_then.0 ≤ k.table.next.0
+  pub usable : k.journal.broken ≡ false
 
 -- the test whether the image would be too long with a row in place of another, each block with a byte of which has a cluster
 abbrev pub TestsLength : Contents → Row → Row → Bool → Type 0

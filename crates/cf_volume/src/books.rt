@@ -1,13 +1,14 @@
-//! What a volume keeps beside its items: anchors, accesses, the clock.
+//! What a volume keeps beside its items: anchors, accesses, the clock, auxiliary records.
 
-ghost use Rattle.std.specs.Prelude.{◌≡◌, false, None, Some, IfErr, OnOk};
-ghost use Rattle.cf_model.specs.Books.{with_access, with_anchor, with_ticks};
+ghost use Rattle.std.specs.Prelude.{◌≡◌, ◌≤◌, ℕ, List, length, option_copied, false, None, Some, IfErr, OnOk};
+ghost use Rattle.cf_model.specs.Books.{Book, with_access, with_anchor, with_ticks};
 ghost use Rattle.cf_model.specs.Items.{Item, item_of};
 ghost use Rattle.cf_model.specs.State.{Volume as model};
 ghost use Rattle.cf_points.specs.At.{At};
 ghost use Rattle.cf_table.specs.Tables.{row_of};
-ghost use Rattle.cf_volume.specs.Calls.{Breaks, IfBroken, StopsOnly};
+ghost use Rattle.cf_volume.specs.Calls.{Breaks, HasRecords, IfBroken, StopsOnly, WhyAux, put_record};
 
+use crate::aux_puts::put_aux;
 use crate::noting::{anchor_row, touch_row};
 use crate::volumes::Volume;
 use cf_base::{Code, Fail, ItemId};
@@ -72,5 +73,30 @@ impl<D: Disk> Volume<D> {
         }
         self.parts.contents.clock = self.parts.contents.clock.saturating_add(ticks);
         Ok(())
+    }
+
+    /// Puts an auxiliary record in place of the one with its key, or takes the one with the key out where there is no
+    /// value. It is durable with the next commit.
+    pub fn aux_put(&mut self, key: &[u8], value: Option<&[u8]>) -> Result<(), Fail>
+        requires key { length key.now ≤ 255 }
+        requires value { (b : List ℕ) → option_copied value ≡ Some b → length b ≤ 65535 }
+        ensures ok { (v : model) (b : Book) → At (D.state self.old.disk) self.old.known v → HasRecords v.book (put_record key.now (option_copied value.entry) self.old.known.records) b → OnOk result (At (D.state self.new.disk) self.new.known (record v { book = b })) }
+        ensures why { (v : model) (b : Book) → At (D.state self.old.disk) self.old.known v → HasRecords v.book (put_record key.now (option_copied value.entry) self.old.known.records) b → self.old.known.broken ≡ false → WhyAux v b self.old result self.new }
+        ensures disk { self.new.disk ≡ self.old.disk }
+        ensures broken { IfBroken self.old result self.new }
+        ensures breaks { IfErr result (λ e. Breaks e self.new.known) }
+        ensures usable { OnOk result (self.new.known.broken ≡ false) }
+    {
+        if self.parts.broken {
+            return Err(Fail::No(Code::Broken));
+        }
+        match put_aux(&self.disk, &mut self.parts, key, value) {
+            Ok(()) => Ok(()),
+            Err(Fail::Memory) => {
+                self.parts.broken = true;
+                Err(Fail::Memory)
+            }
+            Err(Fail::No(code)) => Err(Fail::No(code)),
+        }
     }
 }

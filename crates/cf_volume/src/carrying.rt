@@ -1,6 +1,6 @@
 //! Planned changes, carried out on the table and the clusters.
 
-ghost use Rattle.std.specs.Prelude.{◌≡◌, ◌≤◌, ◌<◌, ◌+◌, ◌*◌, ℕ, List, None, Some, length, OnOk, IfErr, MatchOption};
+ghost use Rattle.std.specs.Prelude.{◌≡◌, ◌≤◌, ◌<◌, ◌*◌, ℕ, None, Some, length, OnOk, IfErr};
 ghost use Rattle.cf_blocks.specs.Bytes.{HasEnd};
 ghost use Rattle.cf_data.specs.Area.{KeepsWhere, place};
 ghost use Rattle.cf_data.specs.Roles.{IsCommitted, how_many, is_free};

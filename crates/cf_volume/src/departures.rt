@@ -1,7 +1,10 @@
 //! Removals, put.
 
-ghost use Rattle.std.specs.Prelude.{◌≡◌, ◌≤◌, ◌<◌, ◌+◌, ◌^◌, length, IfOk, OnOk};
+ghost use Rattle.std.specs.Prelude.{◌≡◌, ◌≤◌, ◌<◌, ◌+◌, ◌^◌, ◌∷◌, [], None, Some, length, IfErr, IfOk, OnOk};
+ghost use Rattle.cf_base.specs.declared.codes.Fail.TheVariants as fail;
 ghost use Rattle.cf_disk.specs.Disk.{size_of};
+ghost use Rattle.cf_model.specs.Changes.{why_no_room};
+ghost use Rattle.cf_model.specs.Numbers.{usn_after};
 ghost use Rattle.cf_model.specs.State.{Volume};
 ghost use Rattle.cf_points.specs.At.{At};
 ghost use Rattle.cf_points.specs.Keeping.{FitsBook};
@@ -41,6 +44,9 @@ pub(crate) fn put_remove<D: Disk>(
     requires place { parts.old.contents.last.place < 4294967295 }
     requires count { parts.old.contents.count < 18446744073709551615 }
     ensures put { (v : Volume) → At (D.state disk.now) (known_of parts.old) v → FitsBook change.now v.book → IsPut change.now v (D.state disk.now) (D.state disk.now) (known_of parts.new) result }
+    ensures why { (v : Volume) → At (D.state disk.now) (known_of parts.old) v → why_no_room (change.now ∷ []) v ≡ None }
+    ensures number { IfOk result (λ n. n ≡ Some (usn_after parts.old.contents.last.epoch parts.old.contents.last.place)) }
+    ensures only { IfErr result (λ e. e ≡ fail.Memory) }
     ensures kept { IsKept disk.now (known_of parts.old) result disk.now (known_of parts.new) }
     ensures steady { OnOk result (Steady (size_of (D.state disk.now)) (known_of parts.new)) }
     ensures broken { parts.new.broken ≡ parts.old.broken }
@@ -51,15 +57,15 @@ pub(crate) fn put_remove<D: Disk>(
     let id = item_of(change);
     let key = seen_key(parts.alloc, id)?;
     note_row(
-        &mut parts.rows_then,
-        parts.next_then,
+        &mut parts.then.rows,
+        parts.then.next,
         &parts.contents.rows,
         id,
     )?;
     note_record(
         parts.alloc,
-        &mut parts.records_then,
-        &mut parts.keys_made,
+        &mut parts.then.records,
+        &mut parts.then.made,
         &parts.contents.records,
         key.as_slice(),
     )?;

@@ -1,12 +1,11 @@
 //! Extents whose block holds no byte any more, dropped.
 
-ghost use Rattle.std.specs.Prelude.{◌≡◌, ◌<◌, ◌++◌, ℕ, List, Some, not, filter, length, map, take, IfOk, OnOk, MatchOption};
+ghost use Rattle.std.specs.Prelude.{◌≡◌, ◌<◌, ℕ, Some, not, filter, length, map, take, IfOk, OnOk, MatchOption};
 ghost use Rattle.std.specs.Option.{ForSome};
 ghost use Rattle.cf_data.specs.Roles.{dropped_at};
 ghost use Rattle.cf_points.specs.Staging.{Drops, DropsGone, DropsOne};
-ghost use Rattle.cf_ranges.specs.Pairs.{cluster_at, IsRising};
+ghost use Rattle.cf_ranges.specs.Pairs.{cluster_at};
 ghost use Rattle.cf_ranges.specs.Positions.{touches};
-ghost use Rattle.cf_table.specs.declared.rows.Row.{Row};
 
 use cf_base::Memory;
 use cf_data::Data;

@@ -1,7 +1,7 @@
 //! Why calls of a volume stop.
 
 ghost use Rattle.std.specs.Prelude.{◌≡◌};
-ghost use Rattle.cf_volume.specs.Calls.{fail_of};
+ghost use Rattle.cf_volume.specs.Calls.{IsStopping, fail_of};
 
 use cf_base::{Code, Fail};
 use cf_points::Stop;
@@ -14,4 +14,11 @@ pub(crate) fn fail_of(stop: Stop) -> Fail
         Stop::Device => Fail::No(Code::Device),
         Stop::Memory => Fail::Memory,
     }
+}
+
+/// Whether a failure breaks the volume.
+pub(crate) fn stops(fail: Fail) -> bool
+    ensures { IsStopping fail result }
+{
+    matches!(fail, Fail::Memory | Fail::No(Code::Device))
 }

@@ -2,13 +2,20 @@
 //!
 //! Contracts see a `Volume` as its disk and what is known of the volume on it (specs/Calls, `OnDisk`). Each clause speaks of
 //! any volume of the definitions that the disk and what is known are at (`At` of cf_points), and of the one that they are
-//! at afterwards. The steps of the calls that are to come stand beside it: a change of an item that stays is put
-//! or refused; the row of a new item is planned and put; a removal is put, with the item's clusters and the record of
-//! its path seen; auxiliary records are noted as they were at the last point.
+//! at afterwards. A change is judged, planned and put by its kind, with a commit first where it needs room; rows and
+//! records are noted as they were at the last point, so that a commit writes what differs.
 #![tactic(auto)]
 
+mod absent;
+mod accepting;
+mod applying;
+mod arrivals;
+mod aux_puts;
 mod books;
 mod carrying;
+mod commits;
+mod copies;
+mod copying;
 mod departures;
 mod dropping;
 mod fails;
@@ -18,6 +25,7 @@ mod kinds;
 mod lengths;
 mod making;
 mod noting;
+mod opening;
 mod parts;
 mod putting;
 mod reading;
@@ -28,5 +36,6 @@ mod settling;
 mod staging;
 mod staying;
 mod volumes;
+mod writable;
 
 pub use volumes::Volume;

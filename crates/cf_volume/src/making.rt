@@ -1,10 +1,10 @@
-//! Rows of new items without a byte, planned and put.
+//! Rows of new items, planned, and those without a byte put.
 
-ghost use Rattle.std.specs.Prelude.{◌≡◌, ◌≤◌, ◌<◌, ◌+◌, ℕ, All, true, IfOk, OnOk};
+ghost use Rattle.std.specs.Prelude.{◌≡◌, ◌≤◌, ◌<◌, ◌+◌, ℕ, All, true, Some, length, IfOk, MatchOption, OnOk};
 ghost use Rattle.cf_base.specs.declared.changes.Change.{Change};
 ghost use Rattle.cf_disk.specs.Disk.{size_of};
 ghost use Rattle.cf_model.specs.Changes.{put_change};
-ghost use Rattle.cf_model.specs.Effects.{made};
+ghost use Rattle.cf_model.specs.Effects.{copied, made};
 ghost use Rattle.cf_model.specs.Items.{Item};
 ghost use Rattle.cf_model.specs.Numbers.{above, no_usn};
 ghost use Rattle.cf_model.specs.State.{Volume};
@@ -12,8 +12,10 @@ ghost use Rattle.cf_points.specs.At.{At};
 ghost use Rattle.cf_points.specs.Holding.{FitsTable};
 ghost use Rattle.cf_table.specs.Applied.{IsSpellable};
 ghost use Rattle.cf_table.specs.Means.{IsFresh, Means};
-ghost use Rattle.cf_table.specs.Tables.{pin_at};
-ghost use Rattle.cf_volume.specs.Laid.{IsMade};
+ghost use Rattle.cf_table.specs.Changing.{IsNext};
+ghost use Rattle.cf_table.specs.Tables.{pin_at, row_of};
+ghost use Rattle.cf_table.specs.declared.rows.Row.{Row};
+ghost use Rattle.cf_volume.specs.NewRows.{IsMade};
 ghost use Rattle.cf_volume.specs.Steady.{Steady, known_of};
 
 use crate::kinds::pin_of;
@@ -22,6 +24,26 @@ use cf_base::{Blob, Identity, ItemId, Kind, Memory, Name, Usn};
 use cf_disk::Disk;
 use cf_table::{Place, Row, Rows};
 use std::alloc::Global;
+
+// Where a new item stands, and what it takes from there.
+fn place_of(
+    alloc: Global,
+    rows: &Rows,
+    item: ItemId,
+    parent: ItemId,
+    name: &Name,
+    number: Usn,
+) -> Result<Place, Memory>
+    ensures { IfOk result (λ p. p ≡ record { id = item; parent = parent; name = name.now; pin = pin_at rows.now.rows parent; number = number }) }
+{
+    Ok(Place {
+        id: item,
+        parent,
+        name: Blob::from_slice(alloc, name.as_slice())?,
+        pin: pin_of(rows, parent),
+        number,
+    })
+}
 
 /// Plans the row of a new item without a byte.
 pub(crate) fn plan_made(
@@ -40,14 +62,35 @@ pub(crate) fn plan_made(
     ensures means { IfOk result (λ r. Means r (made item parent name.now kind size identity.now (pin_at rows.now.rows parent) number)) }
     ensures fresh { IfOk result IsFresh }
 {
-    let place = Place {
-        id: item,
-        parent,
-        name: Blob::from_slice(alloc, name.as_slice())?,
-        pin: pin_of(rows, parent),
-        number,
-    };
+    let place = place_of(alloc, rows, item, parent, name, number)?;
     Ok(Row::made(alloc, place, kind, size as u32, identity.copy()?))
+}
+
+/// Plans the row of a copy of a file, whose blocks have no clusters yet.
+pub(crate) fn plan_copied(
+    alloc: Global,
+    rows: &Rows,
+    item: ItemId,
+    from: ItemId,
+    parent: ItemId,
+    name: &Name,
+    number: Usn,
+) -> Result<Row, Memory>
+    requires source { MatchOption (row_of rows.now.rows from) ⊥ (λ r. 8 ≤ length r.identity) }
+    requires name { length name.now ≤ 255 }
+    requires later { IsNext number rows.now.rows }
+    ensures means { IfOk result (λ p. (r : Row) → row_of rows.now.rows from ≡ Some r → (i : Item) → Means r i → Means p (copied item parent name.now (pin_at rows.now.rows parent) number i)) }
+    ensures fresh { IfOk result IsFresh }
+    ensures id { IfOk result (λ p. p.id ≡ item) }
+    ensures number { IfOk result (λ p. p.number ≡ number) }
+    ensures spellable { IfOk result IsSpellable }
+{
+    let _ = rows.image_len();
+    let place = place_of(alloc, rows, item, parent, name, number)?;
+    match rows.get(from) {
+        None => unreachable!(),
+        Some(row) => row.copied(alloc, place),
+    }
 }
 
 /// Puts the row of a new item without a byte, whose id is that of the next item or a later one.

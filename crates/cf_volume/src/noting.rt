@@ -20,7 +20,7 @@ fn copy_row(rows: &Rows, row: &Row) -> Result<Row, Memory>
     row.copy()
 }
 
-fn is_there(rows: &Rows, id: ItemId) -> bool
+pub(crate) fn is_there(rows: &Rows, id: ItemId) -> bool
     ensures { result ≡ is_some (row_of rows.now.rows id) }
 {
     rows.get(id).is_some()
@@ -57,8 +57,8 @@ pub(crate) fn anchor_row(parts: &mut Parts, id: ItemId) -> Result<(), Memory>
 {
     let _ = parts.contents.rows.image_len();
     note_row(
-        &mut parts.rows_then,
-        parts.next_then,
+        &mut parts.then.rows,
+        parts.then.next,
         &parts.contents.rows,
         id,
     )?;
@@ -73,8 +73,8 @@ pub(crate) fn touch_row(parts: &mut Parts, id: ItemId) -> Result<(), Memory>
 {
     let _ = parts.contents.rows.image_len();
     note_row(
-        &mut parts.rows_then,
-        parts.next_then,
+        &mut parts.then.rows,
+        parts.then.next,
         &parts.contents.rows,
         id,
     )?;

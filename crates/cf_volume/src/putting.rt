@@ -1,6 +1,6 @@
 //! Changes of items that stay, put.
 
-ghost use Rattle.std.specs.Prelude.{◌≡◌, ◌≤◌, ◌<◌, ◌*◌, false, true, None, Some, length, IfErr, OnOk};
+ghost use Rattle.std.specs.Prelude.{◌≡◌, ◌≤◌, ◌<◌, ◌*◌, true, None, Some, length, IfErr, OnOk};
 ghost use Rattle.cf_blocks.specs.Bytes.{HasEnd};
 ghost use Rattle.cf_data.specs.Area.{KeepsWhere};
 ghost use Rattle.cf_data.specs.Roles.{IsCommitted, how_many, is_free};
@@ -51,8 +51,8 @@ pub(crate) fn put_planned<D: Disk>(
     let id = item_of(change);
     let _ = parts.contents.rows.image_len();
     note_row(
-        &mut parts.rows_then,
-        parts.next_then,
+        &mut parts.then.rows,
+        parts.then.next,
         &parts.contents.rows,
         id,
     )?;

@@ -1,6 +1,6 @@
 //! The clusters of a file, as a change leaves them.
 
-ghost use Rattle.std.specs.Prelude.{◌≡◌, ◌≤◌, ◌<◌, ◌+◌, ◌*◌, ℕ, List, Some, length, OnOk, IfOk, IfErr};
+ghost use Rattle.std.specs.Prelude.{◌≡◌, ◌≤◌, ◌<◌, ◌*◌, ℕ, Some, length, OnOk, IfOk, IfErr};
 ghost use Rattle.cf_base.specs.declared.ids.Usn.{Usn};
 ghost use Rattle.cf_blocks.specs.Bytes.{HasEnd, puts_in};
 ghost use Rattle.cf_data.specs.Area.{KeepsWhere, place};
@@ -59,8 +59,8 @@ pub(crate) struct Planned {
     pub(crate) blocks: Vec<u32>,
 }
 
-// The sets of a row tell that their runs are in order, and the map that its blocks rise.
-fn tell_stored(row: &Row) -> u32
+/// The sets of a row tell that their runs are in order, and the map that its blocks rise.
+pub(crate) fn tell_stored(row: &Row) -> u32
     ensures { IsStored row.now }
 {
     let _ = row.here.runs();

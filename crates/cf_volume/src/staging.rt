@@ -1,6 +1,6 @@
 //! Blocks staged into clusters, as a change goes on.
 
-ghost use Rattle.std.specs.Prelude.{◌≡◌, ◌≤◌, ◌<◌, ◌+◌, ◌*◌, ℕ, List, Some, length, OnOk, IfOk, IfErr, MatchOption};
+ghost use Rattle.std.specs.Prelude.{◌≡◌, ◌≤◌, ◌<◌, ◌*◌, ℕ, List, Some, length, OnOk, IfErr};
 ghost use Rattle.std.specs.Option.{ForSome};
 ghost use Rattle.cf_blocks.specs.Bytes.{HasEnd};
 ghost use Rattle.cf_data.specs.Area.{KeepsWhere, place};
@@ -56,6 +56,34 @@ fn put_extent(extents: &mut ExtentMap, number: u32, cluster: u32) -> Result<(), 
     Ok(())
 }
 
+/// Stages the bytes of a block, in place of those that it has.
+pub(crate) fn put_block<D: Disk>(
+    disk: &mut D,
+    held: &mut Data,
+    extents: &mut ExtentMap,
+    number: u32,
+    block: &[u8; 4096],
+) -> Result<(), Stop>
+    requires room { place (length held.old) ≤ size_of (D.state disk.old) }
+    requires inside { (b k : ℕ) → cluster_at extents.old b ≡ Some k → k < length held.old }
+    requires free { 0 < how_many is_free held.old }
+    ensures staged { OnOk result (StagesBlock number block.now (D.state disk.old) (D.state disk.new) held.old held.new extents.old extents.new) }
+    ensures crash { Leaves (D.state disk.old) (D.state disk.new) (KeepsWhere IsUsed held.old (D.state disk.old)) }
+    ensures ran { Ran 4096 (D.state disk.old) (D.state disk.new) }
+    ensures cause { IfErr result (λ e. IsStop e (D.state disk.old) (D.state disk.new)) }
+    ensures long { length held.new ≡ length held.old }
+{
+    let before = extents.get(number);
+    match held.stage(disk, before, block) {
+        Ok(cluster) => {
+            put_extent(extents, number, cluster)?;
+            Ok(())
+        }
+        Err(DataFail::Full) => unreachable!(),
+        Err(DataFail::Failed) => Err(Stop::Device),
+    }
+}
+
 // Stages one block: the bytes that it has, with those of the change over them. `row` is the row before the change.
 fn stage_block<D: Disk>(
     disk: &mut D,
@@ -79,14 +107,8 @@ fn stage_block<D: Disk>(
     let mut block = [0u8; 4096];
     load(disk, held, before, &mut block)?;
     lay_change(&mut block, number as u64, row, change)?;
-    match held.stage(disk, before, &block) {
-        Ok(cluster) => {
-            put_extent(extents, number, cluster)?;
-            Ok(())
-        }
-        Err(DataFail::Full) => unreachable!(),
-        Err(DataFail::Failed) => Err(Stop::Device),
-    }
+    put_block(disk, held, extents, number, &block)?;
+    Ok(())
 }
 
 /// Stages the blocks of a change in order. `row` is the row before it.

@@ -1,6 +1,6 @@
 //! Changes of items that stay, from a plan to the clusters.
 
-ghost use Rattle.std.specs.Prelude.{◌≡◌, ◌≤◌, ◌<◌, ◌+◌, true, None, Some, Ok, IfErr, OnOk};
+ghost use Rattle.std.specs.Prelude.{◌≡◌, ◌<◌, ◌+◌, true, None, Some, Ok, IfErr, OnOk};
 ghost use Rattle.cf_data.specs.Area.{KeepsWhere};
 ghost use Rattle.cf_data.specs.Roles.{IsCommitted};
 ghost use Rattle.cf_disk.specs.Disk.{Leaves, size_of};

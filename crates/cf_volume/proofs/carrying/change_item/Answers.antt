@@ -1,4 +1,4 @@
-use Rattle.std.proofs.Common.{◌≡◌, ◌*◌, ℕ, List, length, sym, subst, ap, arith}
+use Rattle.std.proofs.Common.{◌*◌, ℕ, List, length, sym, subst, arith}
 use Rattle.cf_volume.proofs.Stagings.{stop_later}
 use Rattle.cf_volume.specs.Laid.{Settles}
 use Rattle.cf_points.specs.Runs.{Ran}

@@ -1,6 +1,5 @@
-use Rattle.std.proofs.Common.{◌≡◌, ◌∙◌, ◌++◌, ℕ, length, ap, arith}
+use Rattle.std.proofs.Common.{◌≡◌, ◌∙◌, ◌++◌, length, ap, arith}
 use Rattle.cf_table.proofs.Fields.{eight_bytes}
-use Rattle.cf_volume.specs.Keys.{seen_key}
 use Rattle.cf_volume.proofs.departures.seen_key.Goals as goal
 
 pub returns-clause-key : goal.returns-clause-key

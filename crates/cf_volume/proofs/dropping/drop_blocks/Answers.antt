@@ -1,4 +1,4 @@
-use Rattle.std.proofs.Common.{◌≡◌, ℕ, ◌+◌, suc, refl, arith, ap, subst, ◌∙◌, sym, List, [], ◌∷◌, ◌++◌, take, get_or}
+use Rattle.std.proofs.Common.{◌≡◌, ℕ, ◌+◌, suc, arith, ap, subst, ◌∙◌, sym, List, [], ◌∷◌, ◌++◌, take, get_or}
 use Rattle.std.proofs.lemmas.List.{take_all}
 use Rattle.cf_points.proofs.Droppings.{drops_inside, drops_more, drops_none}
 use Rattle.cf_points.specs.Staging.{Drops}

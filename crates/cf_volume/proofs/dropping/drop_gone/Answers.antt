@@ -1,4 +1,4 @@
-use Rattle.std.proofs.Common.{◌≡◌, ℕ, List, filter, map, not, ap, subst, ◌∙◌, sym}
+use Rattle.std.proofs.Common.{ℕ, List, filter, map, not, ap, subst, ◌∙◌}
 use Rattle.cf_points.proofs.Droppings.{drops_gone}
 use Rattle.cf_points.specs.Staging.{Drops}
 use Rattle.cf_ranges.specs.Positions.{touches}

@@ -1,4 +1,4 @@
-use Rattle.std.proofs.Common.{◌≡◌, sym, subst, Option, Some}
+use Rattle.std.proofs.Common.{◌≡◌, sym, subst, Some}
 use Rattle.cf_base.specs.declared.ids.ItemId.{ItemId}
 use Rattle.cf_base.specs.declared.items.Pin.{Pin}
 use Rattle.cf_model.specs.Items.{Item}

@@ -1,4 +1,4 @@
-use Rattle.std.proofs.Common.{◌≡◌, ℕ, ◌+◌, Bool, true, false, cond, ltb, List, length, refl, sym, ap, ◌∙◌, arith, Option, Some, None}
+use Rattle.std.proofs.Common.{ℕ, ◌+◌, Bool, cond, ltb, length, sym, ap, ◌∙◌, arith, Some, None}
 use Rattle.cf_base.specs.declared.codes.Code.TheVariants as code
 use Rattle.cf_data.specs.Roles.{how_many, is_now}
 use Rattle.cf_image.specs.Contents.{image_of}

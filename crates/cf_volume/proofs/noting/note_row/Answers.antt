@@ -1,4 +1,4 @@
-use Rattle.std.proofs.Common.{◌≡◌, sym, ap, ◌∙◌}
+use Rattle.std.proofs.Common.{sym, ap, ◌∙◌}
 use Rattle.cf_table.specs.Tables.{Table}
 use Rattle.cf_volume.proofs.Noted.{found_by_its_id, found_id, is_none, noted_now, on_ok_map}
 use Rattle.cf_volume.proofs.noting.note_row.Goals as goal

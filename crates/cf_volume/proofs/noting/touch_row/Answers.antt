@@ -1,4 +1,4 @@
-use Rattle.cf_table.specs.Applied.{SetsAnchor, Touches}
+use Rattle.cf_table.specs.Applied.{Touches}
 use Rattle.cf_volume.proofs.Rebooks.{set_noted}
 use Rattle.cf_volume.specs.Steady.{known_of}
 use Rattle.cf_volume.proofs.noting.touch_row.Goals as goal

@@ -1,4 +1,4 @@
-use Rattle.std.proofs.Common.{◌≡◌, None}
+use Rattle.std.proofs.Common.{None}
 use Rattle.cf_volume.proofs.NotedKeys.{found_short}
 use Rattle.cf_volume.proofs.record_notes.copy_record.Goals as goal
 

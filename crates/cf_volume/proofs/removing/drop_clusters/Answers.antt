@@ -1,4 +1,4 @@
-use Rattle.std.proofs.Common.{◌≡◌, ◌≤◌, ◌<◌, ◌+◌, ℕ, List, length, drop, get_or, ◌∷◌, [], refl, sym, ◌∙◌, ap, subst, arith}
+use Rattle.std.proofs.Common.{◌<◌, ◌+◌, ℕ, List, length, drop, get_or, sym, subst}
 use Rattle.std.proofs.lemmas.List.{drop_more}
 use Rattle.cf_points.proofs.Droppings.{DropsFront, front_all, front_more, front_none}
 use Rattle.cf_points.specs.Staging.{names}

@@ -1,4 +1,4 @@
-use Rattle.std.proofs.Common.{◌≡◌, ◌*◌, ◌≤◌, ℕ, ◌+◌, suc, refl, arith, ap, subst, ◌∙◌, sym, List, take, length, length-take}
+use Rattle.std.proofs.Common.{◌≡◌, ℕ, ◌+◌, suc, refl, arith, subst, ◌∙◌, sym, take, length-take}
 use Rattle.cf_volume.proofs.Stagings.{all_staged, room_left, stage_crash, stage_next, stage_ran, stage_start, stop_later, ran_less}
 use Rattle.cf_volume.specs.Laid.{StagesAll}
 use Rattle.cf_volume.proofs.staging.stage_all.Goals as goal

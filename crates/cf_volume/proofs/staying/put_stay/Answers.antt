@@ -21,7 +21,7 @@ pub returns-then-free-len-clause-put : goal.returns-then-free-len-clause-put
 returns-then-free-len-clause-put g c = λ v at.
     let row = some_row (row_of c.args.parts.now.contents.rows.rows (item_of_change c.args.change.now)) c.requires.there in (
       c.in_default.ensures.why v at,
-      needs_room (g.D.Disk.state c.args.disk.now) (known_of c.args.parts.now) v c.args.change.now row.0 c.in_ok-planned.planned.row c.in_ok-planned.planned.blocks.items at c.image_len.ensures.rises c.image_len.ensures.kept c.requires.kind row.1 (c.in_ok-planned.ensures row.0 row.1)
+      needs_room (g.D.Disk.state c.args.disk.now) (known_of c.args.parts.now) v c.args.change.now row.0 c.in_ok-planned.planned.row c.in_ok-planned.planned.blocks.items at c.requires.kind row.1 (c.in_ok-planned.ensures row.0 row.1)
           (omega (arith, c.if-free-len.true, c.free.ensures, c.len.ensures, c.in_ok-planned.planned.blocks.ok)),
     )
 

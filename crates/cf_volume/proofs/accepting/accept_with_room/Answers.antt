@@ -1,0 +1,22 @@
+use Rattle.std.proofs.Common.{◌≡◌, sym, ◌∙◌, subst}
+use Rattle.cf_disk.specs.Disk.{Leaves}
+use Rattle.cf_points.specs.At.{StandsEither}
+use Rattle.cf_volume.proofs.WithRoom.{judged_none, kept_none, same_at}
+use Rattle.cf_volume.specs.Steady.{known_of}
+use Rattle.cf_volume.proofs.accepting.accept_with_room.Goals as goal
+
+pub returns-in_err-accept_after_commit-clause-crash : goal.returns-in_err-accept_after_commit-clause-crash
+returns-in_err-accept_after_commit-clause-crash g c = λ v at keep.
+    let none = sym c.is_some.ensures ∙ c.if-is_some.false in
+    let same = kept_none c.args.disk.now c.accept.new.disk (known_of c.args.parts.now) (known_of c.accept.new.parts) c.in_ok-accept.field-0 none c.in_ok-accept.ensures.kept in
+    let waits = judged_none c.args.change.now v c.in_ok-accept.field-0 none (c.in_ok-accept.ensures.judged v at) in
+    subst (λ (d : _). Leaves (g.D.Disk.state d) (g.D.Disk.state c.accept_after_commit.new.disk) (StandsEither v)) same.0
+    (c.in_err-accept_after_commit.ensures.crash v (same_at g.D.Disk.state c.args.disk.now c.accept.new.disk (known_of c.args.parts.now) (known_of c.accept.new.parts) v same at) (keep waits.1))
+
+pub returns-clause-crash : goal.returns-clause-crash
+returns-clause-crash g c = λ v at keep.
+    let none = sym c.is_some.ensures ∙ c.if-is_some.false in
+    let same = kept_none c.args.disk.now c.accept.new.disk (known_of c.args.parts.now) (known_of c.accept.new.parts) c.in_ok-accept.field-0 none c.in_ok-accept.ensures.kept in
+    let waits = judged_none c.args.change.now v c.in_ok-accept.field-0 none (c.in_ok-accept.ensures.judged v at) in
+    subst (λ (d : _). Leaves (g.D.Disk.state d) (g.D.Disk.state c.accept_after_commit.new.disk) (StandsEither v)) same.0
+    (c.in_ok-accept_after_commit.ensures.crash v (same_at g.D.Disk.state c.args.disk.now c.accept.new.disk (known_of c.args.parts.now) (known_of c.accept.new.parts) v same at) (keep waits.1))

@@ -1,0 +1,7 @@
+use Rattle.cf_points.proofs.Saves.{untouched_either}
+use Rattle.cf_volume.proofs.volumes.Volume.commit.Goals as goal
+
+pub returns-then-self-clause-crash : goal.returns-then-self-clause-crash
+returns-then-self-clause-crash g c = λ v at keep.
+    untouched_either (g.D.Disk.state c.args.self.now.disk) (g.D.Disk.state c.args.self.now.disk) c.args.self.now.known v
+    (record { reads_one = g.met.D.Disk.reads_one c.args.self.now.disk; same_size = g.met.D.Disk.same_size c.args.self.now.disk }) at

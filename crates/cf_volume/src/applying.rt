@@ -1,0 +1,77 @@
+//! Changes of a volume, and commits.
+
+ghost use Rattle.std.specs.Prelude.{◌≡◌, ◌<◌, ◌+◌, ◌⊎◌, true, false, length, IfErr, IfOk, OnOk, OnErr};
+ghost use Rattle.cf_disk.specs.Disk.{Leaves};
+ghost use Rattle.cf_model.specs.Changes.{may_need_room, next_number, put_change};
+ghost use Rattle.cf_model.specs.Points.{with_room_point, with_sure_point};
+ghost use Rattle.cf_model.specs.State.{Volume as model};
+ghost use Rattle.cf_points.specs.At.{Applied, At, StandsEither};
+ghost use Rattle.cf_points.specs.Keeping.{FitsBook, IsNextId};
+ghost use Rattle.cf_points.specs.Sound.{IsKeepable};
+ghost use Rattle.cf_table.specs.Changing.{Fits};
+ghost use Rattle.cf_volume.specs.Calls.{Answers, Breaks, IfBroken, IsCause, Runs, StopsOnly};
+
+use crate::accepting::{accept_with_room, has_number};
+use crate::commits::commit_parts;
+use crate::fails::stops;
+use crate::volumes::Volume;
+use cf_base::{Change, Code, Fail, Usn};
+use cf_disk::Disk;
+
+impl<D: Disk> Volume<D> {
+    /// Makes all accepted changes durable, and gives their count.
+    pub fn commit(&mut self) -> Result<u64, Fail>
+        ensures ok { (v : model) → At (D.state self.old.disk) self.old.known v → IsKeepable v → OnOk result (At (D.state self.new.disk) self.new.known (with_sure_point v) × At (D.state self.new.disk) self.new.known (with_room_point v)) }
+        ensures count { (v : model) → At (D.state self.old.disk) self.old.known v → IfOk result (λ n. n ≡ length v.log) }
+        ensures why { (v : model) → At (D.state self.old.disk) self.old.known v → IsKeepable v → self.old.known.broken ≡ false → IfErr result StopsOnly }
+        ensures crash { (v : model) → At (D.state self.old.disk) self.old.known v → IsKeepable v → Leaves (D.state self.old.disk) (D.state self.new.disk) (StandsEither v) }
+        ensures broken { IfBroken self.old result self.new }
+        ensures breaks { IfErr result (λ e. Breaks e self.new.known) }
+        ensures usable { OnOk result (self.new.known.broken ≡ false) }
+        ensures cause { IfErr result (λ e. IsCause e (D.state self.old.disk) (D.state self.new.disk)) }
+        ensures runs { Runs (D.state self.old.disk) (D.state self.new.disk) }
+        ensures table { self.new.known.table ≡ self.old.known.table }
+        ensures records { self.new.known.records ≡ self.old.known.records }
+    {
+        if self.parts.broken {
+            return Err(Fail::No(Code::Broken));
+        }
+        match commit_parts(&mut self.disk, &mut self.parts) {
+            Ok(()) => Ok(self.parts.kept),
+            Err(fail) => {
+                self.parts.broken = true;
+                Err(fail)
+            }
+        }
+    }
+
+    /// Adds one change, and gives its number. It is durable with the next commit. Where it needs more clusters than are
+    /// free, but no more than a commit makes free, a commit comes first.
+    pub fn apply(&mut self, change: &Change) -> Result<Usn, Fail>
+        requires fits { Fits change.now self.old.known.table.rows }
+        requires next { IsNextId change.now self.old.known.table.next }
+        ensures ok { (v : model) → At (D.state self.old.disk) self.old.known v → FitsBook change.now v.book → (may_need_room change.now v ≡ true → IsKeepable v) → OnOk result (Applied (D.state self.new.disk) self.new.known change.now v) }
+        ensures number { (v : model) → At (D.state self.old.disk) self.old.known v → IfOk result (λ n. n ≡ next_number v) }
+        ensures why { (v : model) → At (D.state self.old.disk) self.old.known v → (may_need_room change.now v ≡ true → IsKeepable v) → self.old.known.broken ≡ false → self.old.known.count + 1 < 18446744073709551616 → Answers change.now v self.old result self.new }
+        ensures crash { (v : model) → At (D.state self.old.disk) self.old.known v → (may_need_room change.now v ≡ true → IsKeepable v) → Leaves (D.state self.old.disk) (D.state self.new.disk) (StandsEither v) }
+        ensures broken { IfBroken self.old result self.new }
+        ensures breaks { IfErr result (λ e. Breaks e self.new.known) }
+        ensures usable { OnOk result (self.new.known.broken ≡ false) }
+        ensures cause { IfErr result (λ e. IsCause e (D.state self.old.disk) (D.state self.new.disk)) }
+        ensures runs { Runs (D.state self.old.disk) (D.state self.new.disk) }
+    {
+        if self.parts.broken {
+            return Err(Fail::No(Code::Broken));
+        }
+        if !has_number(&self.parts.contents) {
+            return Err(Fail::No(Code::Exhausted));
+        }
+        match accept_with_room(&mut self.disk, &mut self.parts, change) {
+            Ok(number) => Ok(number),
+            Err(fail) => {
+                self.parts.broken = stops(fail);
+                Err(fail)
+            }
+        }
+    }
+}

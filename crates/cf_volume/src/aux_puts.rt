@@ -1,0 +1,121 @@
+//! Auxiliary records, put and taken out.
+
+ghost use Rattle.std.specs.Prelude.{◌≡◌, ◌≤◌, ◌<◌, ◌^◌, ℕ, List, Some, length, option_copied, IfOk, OnOk};
+ghost use Rattle.cf_disk.specs.Disk.{size_of};
+ghost use Rattle.cf_image.specs.Contents.{record_at};
+ghost use Rattle.cf_model.specs.Books.{Book};
+ghost use Rattle.cf_model.specs.Formats.{with_record, without_record};
+ghost use Rattle.cf_model.specs.State.{Volume};
+ghost use Rattle.cf_points.specs.At.{At};
+ghost use Rattle.cf_volume.specs.AuxPuts.{IsAuxKept, IsAuxPut, len_if};
+ghost use Rattle.cf_volume.specs.Calls.{HasRecords, put_record};
+ghost use Rattle.cf_volume.specs.Steady.{Steady, known_of};
+
+use crate::lengths::is_too_long;
+use crate::parts::Parts;
+use crate::record_notes::note_record;
+use cf_base::{AuxRecord, Blob, Code, Fail, Memory};
+use cf_disk::Disk;
+use cf_image::AuxRecords;
+use std::alloc::Global;
+
+// How many bytes spell the record with a key, and 0 where there is none.
+fn len_at(records: &AuxRecords, key: &[u8]) -> u128
+    ensures len { result ≡ len_if (record_at records.now key.now) }
+    ensures small { result < 2 ^ 80 }
+{
+    match records.get(key) {
+        None => 0,
+        Some(aux) => 3 + aux.key.as_slice().len() as u128 + aux.value.as_slice().len() as u128,
+    }
+}
+
+fn record_of(alloc: Global, key: &[u8], value: &[u8]) -> Result<AuxRecord, Memory>
+    ensures { IfOk result (λ r. r ≡ record { key = key.now; value = value.now }) }
+{
+    Ok(AuxRecord {
+        key: Blob::from_slice(alloc, key)?,
+        value: Blob::from_slice(alloc, value)?,
+    })
+}
+
+/// Puts an auxiliary record in place of the one with its key, unless the table would be full.
+pub(crate) fn set_record<D: Disk>(
+    disk: &D,
+    parts: &mut Parts,
+    key: &[u8],
+    value: &[u8],
+) -> Result<(), Fail>
+    requires key { length key.now ≤ 255 }
+    requires value { length value.now ≤ 65535 }
+    requires steady { Steady (size_of (D.state disk.now)) (known_of parts.old) }
+    ensures ok { (v : Volume) (b : Book) → At (D.state disk.now) (known_of parts.old) v → HasRecords v.book (with_record (record { key = key.now; value = value.now }) parts.old.contents.records) b → OnOk result (At (D.state disk.now) (known_of parts.new) (record v { book = b })) }
+    ensures why { (v : Volume) (b : Book) → At (D.state disk.now) (known_of parts.old) v → HasRecords v.book (with_record (record { key = key.now; value = value.now }) parts.old.contents.records) b → IsAuxPut v b result }
+    ensures kept { IsAuxKept (known_of parts.old) result (known_of parts.new) }
+    ensures steady { OnOk result (Steady (size_of (D.state disk.now)) (known_of parts.new)) }
+    ensures broken { parts.new.broken ≡ parts.old.broken }
+{
+    let _ = disk;
+    let _ = parts.contents.rows.image_len();
+    let _ = parts.contents.records.as_slice();
+    let before = len_at(&parts.contents.records, key);
+    let after = 3 + key.len() as u128 + value.len() as u128;
+    if is_too_long(&parts.contents, before, after) {
+        return Err(Fail::No(Code::TableFull));
+    }
+    let aux = record_of(parts.alloc, key, value)?;
+    note_record(
+        parts.alloc,
+        &mut parts.then.records,
+        &mut parts.then.made,
+        &parts.contents.records,
+        key,
+    )?;
+    parts.contents.records.put(aux)?;
+    Ok(())
+}
+
+/// Takes the auxiliary record with a key out, if there is one.
+pub(crate) fn take_record<D: Disk>(disk: &D, parts: &mut Parts, key: &[u8]) -> Result<(), Fail>
+    requires key { length key.now ≤ 255 }
+    requires steady { Steady (size_of (D.state disk.now)) (known_of parts.old) }
+    ensures ok { (v : Volume) (b : Book) → At (D.state disk.now) (known_of parts.old) v → HasRecords v.book (without_record key.now parts.old.contents.records) b → OnOk result (At (D.state disk.now) (known_of parts.new) (record v { book = b })) }
+    ensures why { (v : Volume) (b : Book) → At (D.state disk.now) (known_of parts.old) v → HasRecords v.book (without_record key.now parts.old.contents.records) b → IsAuxPut v b result }
+    ensures kept { IsAuxKept (known_of parts.old) result (known_of parts.new) }
+    ensures steady { OnOk result (Steady (size_of (D.state disk.now)) (known_of parts.new)) }
+    ensures broken { parts.new.broken ≡ parts.old.broken }
+{
+    let _ = disk;
+    note_record(
+        parts.alloc,
+        &mut parts.then.records,
+        &mut parts.then.made,
+        &parts.contents.records,
+        key,
+    )?;
+    parts.contents.records.remove(key);
+    Ok(())
+}
+
+/// Puts an auxiliary record in place of the one with its key, unless the table would be full; where there is no value it
+/// takes the one with the key out.
+pub(crate) fn put_aux<D: Disk>(
+    disk: &D,
+    parts: &mut Parts,
+    key: &[u8],
+    value: Option<&[u8]>,
+) -> Result<(), Fail>
+    requires key { length key.now ≤ 255 }
+    requires value { (b : List ℕ) → option_copied value ≡ Some b → length b ≤ 65535 }
+    requires steady { Steady (size_of (D.state disk.now)) (known_of parts.old) }
+    ensures ok { (v : Volume) (b : Book) → At (D.state disk.now) (known_of parts.old) v → HasRecords v.book (put_record key.now (option_copied value.entry) parts.old.contents.records) b → OnOk result (At (D.state disk.now) (known_of parts.new) (record v { book = b })) }
+    ensures why { (v : Volume) (b : Book) → At (D.state disk.now) (known_of parts.old) v → HasRecords v.book (put_record key.now (option_copied value.entry) parts.old.contents.records) b → IsAuxPut v b result }
+    ensures kept { IsAuxKept (known_of parts.old) result (known_of parts.new) }
+    ensures steady { OnOk result (Steady (size_of (D.state disk.now)) (known_of parts.new)) }
+    ensures broken { parts.new.broken ≡ parts.old.broken }
+{
+    match value {
+        Some(value) => set_record(disk, parts, key, value),
+        None => take_record(disk, parts, key),
+    }
+}

@@ -1,0 +1,82 @@
+//! Commits.
+
+ghost use Rattle.std.specs.Prelude.{◌≡◌, [], IfErr, IfOk, OnOk};
+ghost use Rattle.cf_disk.specs.Disk.{Leaves, size_of};
+ghost use Rattle.cf_model.specs.Points.{with_room_point, with_sure_point};
+ghost use Rattle.cf_model.specs.State.{Volume};
+ghost use Rattle.cf_points.specs.At.{At, StandsEither};
+ghost use Rattle.cf_points.specs.Sound.{IsKeepable};
+ghost use Rattle.cf_volume.specs.Accepted.{StaysSteady};
+ghost use Rattle.cf_volume.specs.Calls.{IsCause, Runs, StopsOnly};
+ghost use Rattle.cf_volume.specs.Notes.{NotesNothing};
+ghost use Rattle.cf_volume.specs.Steady.{Steady, known_of};
+
+use crate::fails::fail_of;
+use crate::parts::Parts;
+use crate::writable::can_be_written;
+use cf_base::{Code, Fail, ItemId, Memory};
+use cf_commit::{Earlier, save};
+use cf_disk::Disk;
+use cf_image::AuxRecords;
+use cf_table::Rows;
+use std::alloc::Global;
+
+/// The item that is always there.
+const ROOT: ItemId = ItemId(1);
+
+// A table without a row.
+fn no_rows(alloc: Global) -> Result<Rows, Memory>
+    ensures { IfOk result (λ t. t.rows ≡ []) }
+{
+    let mut rows = Rows::new(alloc)?;
+    rows.remove_row(ROOT);
+    Ok(rows)
+}
+
+/// What is noted where nothing has changed since the last point. `next` is the id that the next item gets.
+pub(crate) fn nothing_noted(alloc: Global, next: ItemId) -> Result<Earlier, Memory>
+    ensures { IfOk result (NotesNothing next) }
+{
+    Ok(Earlier {
+        rows: no_rows(alloc)?,
+        next,
+        records: AuxRecords::new(alloc),
+        made: AuxRecords::new(alloc),
+    })
+}
+
+/// Makes all that the volume says durable, which is the last point then. NotAVolume where it cannot be written.
+pub(crate) fn commit_parts<D: Disk>(disk: &mut D, parts: &mut Parts) -> Result<(), Fail>
+    requires steady { Steady (size_of (D.state disk.old)) (known_of parts.old) }
+    ensures sure { (v : Volume) → At (D.state disk.old) (known_of parts.old) v → IsKeepable v → OnOk result (At (D.state disk.new) (known_of parts.new) (with_sure_point v)) }
+    ensures room { (v : Volume) → At (D.state disk.old) (known_of parts.old) v → IsKeepable v → OnOk result (At (D.state disk.new) (known_of parts.new) (with_room_point v)) }
+    ensures only { (v : Volume) → At (D.state disk.old) (known_of parts.old) v → IfErr result StopsOnly }
+    ensures crash { (v : Volume) → At (D.state disk.old) (known_of parts.old) v → IsKeepable v → Leaves (D.state disk.old) (D.state disk.new) (StandsEither v) }
+    ensures steady { StaysSteady (size_of (D.state disk.new)) (known_of parts.new) result }
+    ensures kept { OnOk result (parts.new.kept ≡ parts.old.contents.count) }
+    ensures runs { Runs (D.state disk.old) (D.state disk.new) }
+    ensures cause { IfErr result (λ e. IsCause e (D.state disk.old) (D.state disk.new)) }
+    ensures contents { parts.new.contents ≡ parts.old.contents }
+    ensures broken { parts.new.broken ≡ parts.old.broken }
+{
+    let _ = parts.contents.rows.image_len();
+    if !can_be_written(&parts.contents) {
+        return Err(Fail::No(Code::NotAVolume));
+    }
+    let then = nothing_noted(parts.alloc, parts.contents.rows.next())?;
+    match save(
+        parts.alloc,
+        disk,
+        &mut parts.journal,
+        &mut parts.held,
+        &parts.contents,
+        &parts.then,
+    ) {
+        Ok(()) => {
+            parts.then = then;
+            parts.kept = parts.contents.count;
+            Ok(())
+        }
+        Err(stop) => Err(fail_of(stop)),
+    }
+}
