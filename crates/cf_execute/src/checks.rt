@@ -15,7 +15,8 @@ const BLOCK: u64 = 4096;
 
 const NO_SPAN: Span = Span { start: 0, len: 0 };
 
-fn key_of(op: &Operation) -> Key
+/// The key of the ask that an operation answers. Takes no memory.
+pub fn key_of(op: &Operation) -> Key
     ensures { result ≡ key_of op.now }
 {
     match op {
@@ -60,9 +61,9 @@ fn is_ended(base: u64, span: Span) -> bool
     span.len % BLOCK == 0 || (span.start <= base && base - span.start == span.len)
 }
 
-// The blocks that a span touches, wherever it ends.
+/// The blocks of 4,096 bytes that a span of bytes touches, which may end past 2^64; none where it is empty. Takes no memory.
 #[tactic(auto, using(crate::proofs::Touched::touched))]
-fn touched(span: Span) -> Span
+pub fn touched_blocks(span: Span) -> Span
     ensures { counting result.start result.len ≡ blocks_of span.start span.len }
 {
     let start = span.start / BLOCK;
@@ -188,7 +189,7 @@ fn refusal_of(op: &Operation, requests: &Requests, base: u64) -> Option<Code>
     ensures { result ≡ check_of op.now base requests.now }
 {
     let key = key_of(op);
-    let blocks = touched(span_named(op));
+    let blocks = touched_blocks(span_named(op));
     match requests.ask(key) {
         Some(ask) => first_refusal(op, base, ask.kind, !requests.owns(key, blocks)),
         None => Some(Code::StaleKey),

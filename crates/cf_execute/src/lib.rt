@@ -10,7 +10,7 @@ mod outcomes;
 mod ports;
 mod recorders;
 
-pub use checks::check;
+pub use checks::{check, key_of, touched_blocks};
 pub use laws::check_is_first;
 pub use outcomes::{Callback, Outcome};
 pub use ports::{Port, Provider};

@@ -111,3 +111,29 @@ fn a_span_is_tested_before_the_blocks_are(rt: HostRuntime) -> Result<(), test::F
     assert!(rt; check(&wrong, &requests, 4) == Err(Code::WrongKind));
     Ok(())
 }
+
+#[test]
+fn an_operation_names_its_ask(rt: HostRuntime) -> Result<(), test::Fail> {
+    let early = transfer(rt.alloc(), 0, b"aaaa")?;
+    assert_eq!(rt; key_of(&early), KEY);
+    Ok(())
+}
+
+#[test]
+fn a_span_touches_blocks(rt: HostRuntime) {
+    let none = Span {
+        start: 4097,
+        len: 0,
+    };
+    assert_eq!(rt; touched_blocks(none), Span { start: 1, len: 0 });
+    let two = Span {
+        start: 4095,
+        len: 2,
+    };
+    assert_eq!(rt; touched_blocks(two), Span { start: 0, len: 2 });
+    let last = Span {
+        start: u64::MAX,
+        len: u64::MAX,
+    };
+    assert_eq!(rt; touched_blocks(last).len, (1 << 52) + 1);
+}

@@ -1,19 +1,19 @@
 //! What is asked of the waits and asks.
-ghost use Rattle.std.specs.Prelude.{◌≡◌, ℕ, not, None, ◌&&◌, ◌==◌, ◌-◌, ◌≤◌};
+ghost use Rattle.std.specs.Prelude.{◌≡◌, ℕ, not, map, IfOk, None, ◌&&◌, ◌==◌, ◌-◌, ◌≤◌};
 ghost use Rattle.std.specs.List.{list_any};
 ghost use Rattle.std.specs.Option.{option_map};
 ghost use Rattle.cf_model.specs.Numbers.{most};
-ghost use Rattle.cf_model.specs.Requests.{is_background, is_hydrate_wait, is_list, live_of, owns, ticked};
+ghost use Rattle.cf_model.specs.Requests.{expired, is_background, is_hydrate_wait, is_list, live_of, owns, ticked};
 ghost use Rattle.cf_model.specs.Words.{counting};
 ghost use Rattle.cf_requests.specs.Told.{is_busy, is_busy_but, is_hydrating, is_listing, is_wait_by, item_at, next_expired, wait_of};
 
 use crate::limits::MOST;
 use crate::requests::Requests;
-use crate::times::{age_all, first_expired};
+use crate::times::{age_all, expired_keys, first_expired};
 use cf_asks::{
     LiveAsk, LiveWait, WaitNumber, is_background, is_hydrate_wait, is_list, is_list_wait, live_of,
 };
-use cf_base::{Ask, AskKind, ItemId, Key, Span, WaitId};
+use cf_base::{Ask, AskKind, ItemId, Key, Memory, Span, WaitId};
 
 impl Requests {
     /// The item of a live ask.
@@ -55,6 +55,13 @@ impl Requests {
         ensures { result ≡ next_expired ticks self.now }
     {
         first_expired(&self.asks, ticks)
+    }
+
+    /// The keys of the asks on which 60 ticks or more have passed, in order.
+    pub fn expired_keys(&self) -> Result<Vec<Key>, Memory>
+        ensures { IfOk result (λ keys. keys.items ≡ map (λ a. a.ask.key) (expired self.now)) }
+    {
+        expired_keys(self.alloc, &self.asks)
     }
 
     /// So many ticks pass. Takes no memory.

@@ -1,11 +1,12 @@
 //! Ticks that pass.
-ghost use Rattle.std.specs.Prelude.{◌≡◌, ℕ, None, filter, find, map, nat_le, option_copied, ◌-◌};
+ghost use Rattle.std.specs.Prelude.{◌≡◌, ℕ, IfOk, None, filter, find, map, nat_le, option_copied, ◌-◌};
 ghost use Rattle.std.specs.Option.{option_map};
 ghost use Rattle.cf_model.specs.Requests.{aged};
 ghost use Rattle.cf_requests.specs.Told.{first_key};
 
 use cf_asks::LiveAsk;
-use cf_base::Key;
+use cf_base::{Key, Memory};
+use std::alloc::Global;
 
 // The key of the first ask on which so many ticks more make 60 or more.
 #[tactic(auto, using(crate::proofs::Ages::first_is))]
@@ -29,6 +30,17 @@ fn key_of(ask: Option<&LiveAsk>) -> Option<Key>
         Some(a) => Some(a.ask().key),
         None => None,
     }
+}
+
+pub(crate) fn expired_keys(alloc: Global, asks: &[LiveAsk]) -> Result<Vec<Key>, Memory>
+    ensures { IfOk result (λ keys. keys.items ≡ map (λ a. a.ask.key) (filter (λ a. nat_le 60 a.ticks) asks.now)) }
+{
+    Ok(
+        asks.iter()
+            .filter(|a| a.ticks() >= 60)
+            .map(|a| a.ask().key)
+            .collect(alloc)?,
+    )
 }
 
 pub(crate) fn age_all(asks: &mut Vec<LiveAsk>, ticks: u32)
