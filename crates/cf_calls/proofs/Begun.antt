@@ -1,6 +1,6 @@
 -- Calls that may wait.
 use Rattle.std.proofs.Common.{◌≡◌, Bool, true, false, not, List, [], ◌∷◌, ◌++◌, refl, sym, ◌∙◌, ap, subst, map, Option, Some, None}
-use Rattle.std.specs.Prelude.{Result, Ok, Err}
+use Rattle.std.specs.Prelude.{Result, Ok, Err, MatchOption}
 use Rattle.cf_base.specs.declared.answers.Shown.{Shown}
 use Rattle.cf_base.specs.declared.answers.Shown.TheVariants as shown
 use Rattle.cf_base.specs.declared.codes.Code.{Code}
@@ -14,7 +14,7 @@ use Rattle.cf_base.specs.declared.notices.Notice.{Notice}
 use Rattle.cf_base.specs.declared.policies.Policy.{Policy}
 use Rattle.cf_base.specs.declared.spans.Span.{Span}
 use Rattle.cf_base.specs.declared.waits.End.{End}
-use Rattle.cf_calls.specs.Planned.{ReadsAt, refusal_of}
+use Rattle.cf_calls.specs.Planned.{ReadsAt, has_entries, refusal_of}
 use Rattle.cf_model.specs.Arrows.{Arrow, choose, each, noted, one, reading, ret, then_do, unit, unless}
 use Rattle.cf_model.specs.Dehydration.{is_connected}
 use Rattle.cf_model.specs.Items.{Item}
@@ -32,6 +32,7 @@ use Rattle.cf_requests.specs.declared.moves.Moves.{Moves}
 use Rattle.cf_steps.specs.Answering.{After, Answers, Any, IsAt, Reads, Sense}
 use Rattle.cf_steps.specs.Finding.{HasRows}
 use Rattle.cf_steps.specs.Needing.{IsMet, Starts, begin_limited, end_told, start_refusal, with_begun}
+use Rattle.cf_steps.specs.Putting.{IsFile}
 use Rattle.cf_steps.specs.Readings.{asked_line, item_opened, opened_item, policy_of}
 use Rattle.cf_steps.specs.Settled.{tell_moves}
 use Rattle.cf_steps.proofs.Laws.{after_err, any_on, no_memory, reads_on, returned, then_on}
@@ -196,6 +197,17 @@ but_off S id v f g b x new r reads e a i = record {
 pub own_on : {X : Type 0} (S : Sense X) (id : ItemId) (f : ItemId → Arrow Filter Shown) (x new : X) (r : Result Shown Fail) → Answers S Any (f id) x r new → (i : Item) → Answers S (IsAt id i) (f i.id) x r new
 own_on S id f x new r a i = record {
   leads = λ s m at. subst (λ (k : ItemId). (t : Filter) × Does (f k s) r t × S.moved x new s t × After S r new t) (own_item s.volume.items id i at) (a.leads s m (record {}));
+}
+
+-- the rest on what is a file
+pub file_on : {X : Type 0} (S : Sense X) (id : ItemId) (f : ItemId → Arrow Filter Shown) (g : Arrow Filter Shown) (b : Bool) (x new : X) (r : Result Shown Fail)
+    → ReadsAt S id has_entries x b → b ≡ false → Answers S (IsFile id) (f id) x r new → (i : Item) → Answers S (IsAt id i) (choose i.directory g (f i.id)) x r new
+file_on S id f g b x new r reads e a i = record {
+  leads = λ s m at.
+      let q : i.directory ≡ false = sym (reads.is s i m at) ∙ e in
+      subst (λ (c : Bool). (t : Filter) × Does (choose c g (f i.id) s) r t × S.moved x new s t × After S r new t) (sym q)
+      (subst (λ (k : ItemId). (t : Filter) × Does (f k s) r t × S.moved x new s t × After S r new t) (own_item s.volume.items id i at)
+      (a.leads s m (subst (λ (o : Option Item). MatchOption o ⊥ (λ (j : Item). j.directory ≡ false)) (sym at) q)));
 }
 
 -- by its row

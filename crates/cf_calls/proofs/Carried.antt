@@ -13,9 +13,9 @@ use Rattle.cf_base.specs.declared.ids.Usn.{Usn}
 use Rattle.cf_calls.specs.Planned.{Plan, PlansSuit, refusal_of}
 use Rattle.cf_model.specs.Arrows.{Arrow, reading}
 use Rattle.cf_base.specs.declared.policies.Policy.{Policy}
-use Rattle.cf_model.specs.Calls.{changing, number_at, number_of, show_number}
+use Rattle.cf_model.specs.Calls.{changing, number_at, number_of, show_number, size_at}
 use Rattle.cf_model.specs.Dehydration.{in_use}
-use Rattle.cf_model.specs.Items.{Item, item_of}
+use Rattle.cf_model.specs.Items.{Item, item_of, size_of}
 use Rattle.cf_model.specs.Missing.{Wait}
 use Rattle.cf_model.specs.Numbers.{no_key, no_usn, same_key}
 use Rattle.cf_model.specs.Placements.{planned_on, revert_plan, update_plan}
@@ -164,6 +164,19 @@ pub number_none : {X : Type 0} (S : Sense X) (x : X) (t : Table) (id : ItemId) �
 number_none S x t id rows e = record {
   is = λ s h p.
       sym (ap (λ (o : Option Item). part (λ i. i.number) no_usn o) (no_item (item_of s.volume.items id) (subst (λ (o : Option Row). BothMean o (item_of s.volume.items id)) e (rows_by_id t.rows s.volume.items id (rows.rows s h)))));
+}
+
+pub size_some : {X : Type 0} (S : Sense X) (x : X) (t : Table) (id : ItemId) (row : Row) → HasRows S x t → row_of t.rows id ≡ Some row → Reads S Any (size_at id) x row.size
+size_some S x t id row rows e = record {
+  is = λ s h p.
+      let b = both_item row (item_of s.volume.items id) (subst (λ (o : Option Row). BothMean o (item_of s.volume.items id)) e (rows_by_id t.rows s.volume.items id (rows.rows s h))) in
+      b.2.bytes.size ∙ sym (ap (λ (o : Option Item). part size_of 0 o) b.1);
+}
+
+pub size_none : {X : Type 0} (S : Sense X) (x : X) (t : Table) (id : ItemId) → HasRows S x t → row_of t.rows id ≡ None → Reads S Any (size_at id) x 0
+size_none S x t id rows e = record {
+  is = λ s h p.
+      sym (ap (λ (o : Option Item). part size_of 0 o) (no_item (item_of s.volume.items id) (subst (λ (o : Option Row). BothMean o (item_of s.volume.items id)) e (rows_by_id t.rows s.volume.items id (rows.rows s h)))));
 }
 
 -- use

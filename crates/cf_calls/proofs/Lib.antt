@@ -1,7 +1,14 @@
 pub mod Carried
+pub mod Dehydrated
 pub mod NewItems
 pub mod Suited
 pub mod Asked
 pub mod Begun
+pub mod EndEmptied
+pub mod Moved
 pub mod Opened
+pub mod Operated
 pub mod Policed
+pub mod Shown
+pub mod Ticked
+pub mod Wrote

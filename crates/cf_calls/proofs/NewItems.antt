@@ -45,7 +45,7 @@ use Rattle.cf_tree.proofs.Walks.{own_id}
 use Rattle.cf_steps.proofs.Laws.{no_memory, weaker}
 use Rattle.cf_calls.proofs.Suited.{first_none, plan_ok}
 
-name_short : (name : List ℕ) → is_name name ≡ true → length name ≤ 255
+pub name_short : (name : List ℕ) → is_name name ≡ true → length name ≤ 255
 name_short name h = leb-true (length name) 255 (and_parts (nat_lt 0 (length name)) (nat_le (length name) 255) (and_parts _ (list_all is_name_byte name) (and_parts _ _ (and_parts _ _ (and_parts _ _ h).0).0).0).0).1
 
 -- of a new item that stands behind all others

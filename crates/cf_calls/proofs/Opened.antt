@@ -23,37 +23,38 @@ use Rattle.cf_model.specs.Words.{first_of}
 use Rattle.cf_model.proofs.TreeLaws as trees
 use Rattle.cf_requests.specs.Told.{wait_of}
 use Rattle.cf_steps.specs.Answering.{After, Answers, Any, Reads, Sense}
-use Rattle.cf_steps.specs.Needing.{MayOpen, with_link}
+use Rattle.cf_steps.specs.Needing.{MayOpen, MayOpenFile, with_link}
+use Rattle.cf_steps.specs.Putting.{IsFile}
 use Rattle.cf_steps.specs.Readings.{has_handle, open_refusal, waiting_of}
 use Rattle.cf_steps.proofs.Laws.{after_err, any_on, reads_on, returned, stops_first, then_on}
 
 -- the next handle
 
 pub opened : {X : Type 0} (S : Sense X) (id : ItemId) (h : Handle) (x new : X)
-    → Answers S MayOpen (noted (with_handle id)) x (Ok unit) new → Reads S MayOpen next_handle x h → Answers S MayOpen (opened_next id) x (Ok (shown.Opened h)) new
+    → Answers S (MayOpenFile id) (noted (with_handle id)) x (Ok unit) new → Reads S MayOpen next_handle x h → Answers S (MayOpenFile id) (opened_next id) x (Ok (shown.Opened h)) new
 opened S id h x new a reads =
-    reads_on S MayOpen next_handle (opened_as id) x new h (Ok (shown.Opened h)) reads
-    (then_on S MayOpen Any (noted (with_handle id)) (ret (shown.Opened h)) x new new unit (Ok (shown.Opened h)) (λ s t p q. record {}) a (returned S Any (shown.Opened h) new))
+    reads_on S (MayOpenFile id) next_handle (opened_as id) x new h (Ok (shown.Opened h)) (record { is = λ s i p. reads.is s i p.room })
+    (then_on S (MayOpenFile id) Any (noted (with_handle id)) (ret (shown.Opened h)) x new new unit (Ok (shown.Opened h)) (λ s t p q. record {}) a (returned S Any (shown.Opened h) new))
 
-pub opened_not : {X : Type 0} (S : Sense X) (id : ItemId) (e : Fail) (x new : X) → Answers S MayOpen (noted (with_handle id)) x (Err e) new → Answers S MayOpen (opened_next id) x (Err e) new
+pub opened_not : {X : Type 0} (S : Sense X) (id : ItemId) (e : Fail) (x new : X) → Answers S (MayOpenFile id) (noted (with_handle id)) x (Err e) new → Answers S (MayOpenFile id) (opened_next id) x (Err e) new
 opened_not S id e x new a = record {
   leads = λ s i p.
       let z = a.leads s i p in (z.0, trees.fails_first (noted (with_handle id) s) (λ _ t. ret (shown.Opened (next_handle s)) t) e z.0 z.1, z.2, after_err (Unit {0}) Shown S e new z.0 z.3);
 }
 
 pub open_on : {X : Type 0} (S : Sense X) (id : ItemId) (o : Option Code) (x new : X) (r : Result Shown Fail)
-    → Reads S Any open_refusal x o → o ≡ None → Answers S MayOpen (opened_next id) x r new → Answers S Any (open_by id) x r new
+    → Reads S Any open_refusal x o → o ≡ None → Answers S (MayOpenFile id) (opened_next id) x r new → Answers S (IsFile id) (open_by id) x r new
 open_on S id o x new r reads e a = record {
   leads = λ s i p.
-      let free : None ≡ first_of (open_tests s) = sym e ∙ reads.is s i p in
-      subst (λ (c : Option Code). (t : Filter) × Does (unless shown.Refused c (opened_next id) s) r t × S.moved x new s t × After S r new t) free (a.leads s i (sym free));
+      let free : None ≡ first_of (open_tests s) = sym e ∙ reads.is s i (record {}) in
+      subst (λ (c : Option Code). (t : Filter) × Does (unless shown.Refused c (opened_next id) s) r t × S.moved x new s t × After S r new t) free (a.leads s i (record { room = sym free; file = p }));
 }
 
 pub open_off : {X : Type 0} (S : Sense X) (id : ItemId) (o : Option Code) (k : Code) (x : X)
-    → Reads S Any open_refusal x o → o ≡ Some k → Answers S Any (open_by id) x (Ok (shown.Refused k)) x
+    → Reads S Any open_refusal x o → o ≡ Some k → Answers S (IsFile id) (open_by id) x (Ok (shown.Refused k)) x
 open_off S id o k x reads e = record {
   leads = λ s i p.
-      subst (λ (c : Option Code). (t : Filter) × Does {A = Shown} (unless shown.Refused c (opened_next id) s) (Ok (shown.Refused k)) t × S.moved x x s t × After {A = Shown} S (Ok (shown.Refused k)) x t) (sym e ∙ reads.is s i p)
+      subst (λ (c : Option Code). (t : Filter) × Does {A = Shown} (unless shown.Refused c (opened_next id) s) (Ok (shown.Refused k)) t × S.moved x x s t × After {A = Shown} S (Ok (shown.Refused k)) x t) (sym e ∙ reads.is s i (record {}))
       (s, (refl, refl), S.stays x s i, i);
 }
 

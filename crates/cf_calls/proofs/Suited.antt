@@ -89,7 +89,7 @@ when_suits : (b : Bool) (c : Change) (v : Volume) (cs : List Change) → Suits c
 when_suits true c v cs h e = one_change c v cs h e
 when_suits false c v cs h e = subst (λ (ds : List Change). SuitsAll ds v) e (record {})
 
-small_at : (s : Filter) (id : ItemId) (i : Item) → IsGood s → IsAt id i s → IsSmall i
+pub small_at : (s : Filter) (id : ItemId) (i : Item) → IsGood s → IsAt id i s → IsSmall i
 small_at s id i good at = of_found IsSmall (λ j. j.id.0 == id.0) s.volume.items i good.volume.small at
 
 -- what the item has, each of its id has

@@ -7,7 +7,8 @@ ghost use Rattle.cf_model.specs.Calls.{open_file, open_item};
 ghost use Rattle.cf_model.specs.Items.{Item};
 ghost use Rattle.cf_model.specs.Waits.{but_directory, cancel, close, close_item, connect, end_handle, is_last};
 ghost use Rattle.cf_steps.specs.Answering.{Answers, Any, IsAt};
-ghost use Rattle.cf_steps.specs.Needing.{MayOpen};
+ghost use Rattle.cf_steps.specs.Needing.{MayOpenFile};
+ghost use Rattle.cf_steps.specs.Putting.{IsFile};
 
 use crate::items::is_directory;
 use cf_asks::Act;
@@ -15,14 +16,14 @@ use cf_base::{Code, Fail, Handle, ItemId, Shown, WaitId};
 use cf_steps::{Steps, find_at, hang_up, settle};
 
 fn open_next<S: Steps>(s: &mut S, id: ItemId) -> Result<Shown, Fail>
-    ensures { Answers S.sense MayOpen (opened_next id) s.old result s.new }
+    ensures { Answers S.sense (MayOpenFile id) (opened_next id) s.old result s.new }
 {
     let handle = s.open(id)?;
     Ok(Shown::Opened(handle))
 }
 
 fn open_now<S: Steps>(s: &mut S, id: ItemId) -> Result<Shown, Fail>
-    ensures { Answers S.sense Any (open_by id) s.old result s.new }
+    ensures { Answers S.sense (IsFile id) (open_by id) s.old result s.new }
 {
     match s.refuse_open() {
         Some(code) => Ok(Shown::Refused(code)),

@@ -1,8 +1,9 @@
 //! What calls ask of an item.
 
 ghost use Rattle.std.specs.Prelude.{◌≡◌};
+ghost use Rattle.cf_calls.specs.Moved.{lacks_place};
 ghost use Rattle.cf_calls.specs.Planned.{ReadsAt, has_entries, refusal_of, stands_for};
-ghost use Rattle.cf_model.specs.Calls.{number_at};
+ghost use Rattle.cf_model.specs.Calls.{number_at, size_at};
 ghost use Rattle.cf_model.specs.Dehydration.{in_use};
 ghost use Rattle.cf_steps.specs.Answering.{Any, Reads};
 
@@ -17,6 +18,16 @@ pub(crate) fn number_at<S: Steps>(s: &S, id: ItemId) -> Usn
     match s.rows().get(id) {
         Some(row) => row.number,
         None => NO_USN,
+    }
+}
+
+/// The size of an item, 0 of one that is not there.
+pub(crate) fn size_at<S: Steps>(s: &S, id: ItemId) -> u64
+    ensures { Reads S.sense Any (size_at id) s.now result }
+{
+    match s.rows().get(id) {
+        Some(row) => row.size as u64,
+        None => 0,
     }
 }
 
@@ -58,5 +69,15 @@ pub(crate) fn is_placeholder<S: Steps>(s: &S, id: ItemId) -> bool
     match s.rows().get(id) {
         Some(row) => row.placeholder,
         None => false,
+    }
+}
+
+/// Whether no number is left for a change.
+pub(crate) fn lacks_place<S: Steps>(s: &S) -> bool
+    ensures { Reads S.sense Any lacks_place s.now result }
+{
+    match s.next_number() {
+        Some(_) => false,
+        None => true,
     }
 }

@@ -1,6 +1,6 @@
 -- What a look-up of the rows finds is what the definitions find of the items, under its own id.
-use Rattle.std.proofs.Common.{◌≡◌, ◌<◌, ◌≤◌, ◌+◌, ℕ, suc, Bool, true, false, cond, not, List, [], ◌∷◌, refl, sym, ap, subst, arith, eqb, Some, None, Option, Ok, Err, Result, length}
-use Rattle.std.specs.Prelude.{nat_lt, find, MatchOption}
+use Rattle.std.proofs.Common.{◌≡◌, ◌<◌, ◌≤◌, ◌+◌, ℕ, suc, Bool, true, false, cond, not, List, [], ◌∷◌, refl, sym, ap, subst, arith, eqb, Some, None, Option, Ok, Err, Result, length, ◌∙◌}
+use Rattle.std.specs.Prelude.{nat_lt, find, MatchOption, ◌==◌}
 use Rattle.std.specs.List.{list_all}
 use Rattle.std.proofs.lemmas.Bool.{and_parts, eqb-true, ltb-false}
 use Rattle.cf_base.specs.declared.codes.Code.{Code}
@@ -14,21 +14,25 @@ use Rattle.cf_model.specs.LookUp.{Place, bad_names, child_of, depth_at, find_bel
 use Rattle.cf_model.specs.Texts.{is_name}
 use Rattle.cf_model.specs.Waits.{at_path}
 use Rattle.cf_model.specs.Words.{but_last, last_of}
+use Rattle.cf_model.specs.State.{Filter}
 use Rattle.cf_steps.specs.Answering.{Sense}
-use Rattle.cf_steps.specs.Finding.{Finds, FindsPlace, Found, FoundPlace, HasRows}
+use Rattle.cf_steps.specs.Finding.{Finds, FindsBelow, FindsPlace, Found, FoundBelow, FoundPlace, HasRows}
 use Rattle.cf_steps.specs.Good.{Every}
 use Rattle.cf_table.specs.Tables.{MeansAll, Table}
 use Rattle.cf_tree.specs.Answers.{IsAnswer, found, placed}
 use Rattle.cf_tree.specs.Trees.{BeginWithRoot, IsTree, IsUnder, RiseFrom}
 use Rattle.cf_tree.proofs.Heights.{depth_is}
-use Rattle.cf_tree.proofs.Walks.{by_own_id, found_passes, root_found, same_item_id}
+use Rattle.cf_tree.proofs.Walks.{by_own_id, found_from, found_passes, root_found, same_item_id}
+
+same_ok : (a b : Item) → ◌≡◌ {A = Result Item Code} (Ok a) (Ok b) → a ≡ b
+same_ok a b e = cc
 
 no_error : {X : Type 0} (c : Code) (x : X) → ◌≡◌ {A = Result X Code} (Err c) (Ok x) → ⊥
 no_error c x e = cc
 
 -- what holds of each holds of the one that is found
-pub of_found : (P : Item → Type 0) (f : Item → Bool) (items : List Item) (i : Item) → Every P items → find f items ≡ Some i → P i
-of_found P f [] i h e = let z : ◌≡◌ {A = Option Item} None (Some i) = e in absurd cc
+pub of_found : {A : Type 0} (P : A → Type 0) (f : A → Bool) (xs : List A) (x : A) → Every P xs → find f xs ≡ Some x → P x
+of_found {A} P f [] i h e = let z : ◌≡◌ {A = Option A} None (Some i) = e in absurd cc
 of_found P f (x ∷ xs) i h e = two (f x) e (of_found P f xs i h.1) where
   two : (b : Bool) → cond b (Some x) (find f xs) ≡ Some i → (find f xs ≡ Some i → P i) → P i
   two true k rest = let same : x ≡ i = cc in subst P same h.0
@@ -62,17 +66,27 @@ reached_child items k p i n t h d e = two (eqb i.id.0 1) refl where
     under = (q, subst (λ (o : Option Item). MatchOption o ⊥ (λ x. (x.directory ≡ true) × IsUnder h.depth items x)) (sym (parent_there items p i n h.there e)) (d, h.under));
   }
 
+-- a walk by one name
+record Went (items : List Item) (at : Item) (n : List ℕ) (ns : List (List ℕ)) (i : Item) : Type 0 where
+  pub next : Item
+  pub child : child_of items at.id n ≡ Some next
+  pub directory : at.directory ≡ true
+  pub rest : walk items next ns ≡ Ok i
+
+went : (items : List Item) (at : Item) (n : List ℕ) (ns : List (List ℕ)) (i : Item) → walk items at (n ∷ ns) ≡ Ok i → Went items at n ns i
+went items at n ns i e = one (at.directory) (at.populated) (child_of items at.id n) refl refl e where
+  one : (a b : Bool) (o : Option Item) → at.directory ≡ a → child_of items at.id n ≡ o
+      → cond (not a) (Err code.NotDirectory) (cond (not b) (Err code.NotPopulated) (elim o as (λ _. Result Item Code) [ None ↦ Err code.NotFound | Some j ↦ walk items j ns ])) ≡ Ok i → Went items at n ns i
+  one false b o d q e = absurd (no_error code.NotDirectory i e)
+  one true false o d q e = absurd (no_error code.NotPopulated i e)
+  one true true None d q e = absurd (no_error code.NotFound i e)
+  one true true (Some j) d q e = record { next = j; child = q; directory = d; rest = e }
+
 walk_reaches : (items : List Item) (k : ℕ) (at : Item) (ns : List (List ℕ)) (i : Item) → RiseFrom 1 items → Reached items k at → walk items at ns ≡ Ok i → Reached items (k + length ns) i
 walk_reaches items k at [] i t h e = let z : at ≡ i = cc in subst (λ (n : ℕ). Reached items n i) (omega arith) (subst (λ (x : Item). Reached items k x) z h)
 walk_reaches items k at (n ∷ ns) i t h e =
-    one (at.directory) (at.populated) (child_of items at.id n) refl refl e (λ j r. subst (λ (m : ℕ). Reached items m i) (omega arith) (walk_reaches items (k + 1) j ns i t r.0 r.1)) where
-      one : (a b : Bool) (o : Option Item) → at.directory ≡ a → child_of items at.id n ≡ o
-          → cond (not a) (Err code.NotDirectory) (cond (not b) (Err code.NotPopulated) (elim o as (λ _. Result Item Code) [ None ↦ Err code.NotFound | Some j ↦ walk items j ns ])) ≡ Ok i
-          → ((j : Item) → Reached items (k + 1) j × (walk items j ns ≡ Ok i) → Reached items (k + suc (length ns)) i) → Reached items (k + suc (length ns)) i
-      one false b o d q e g = absurd (no_error code.NotDirectory i e)
-      one true false o d q e g = absurd (no_error code.NotPopulated i e)
-      one true true None d q e g = absurd (no_error code.NotFound i e)
-      one true true (Some j) d q e g = g j (reached_child items k at j n t h d q, e)
+    let w = went items at n ns i e in
+    subst (λ (m : ℕ). Reached items m i) (omega arith) (walk_reaches items (k + 1) w.next ns i t (reached_child items k at w.next n t h w.directory w.child) w.rest)
 
 root_reached : (items : List Item) → BeginWithRoot items → RiseFrom 1 items → Reached items 0 (root_of items)
 root_reached [] h t = absurd h
@@ -92,11 +106,51 @@ names_reach items names i t e = one (bad_names names) e where
 path_own : (items : List Item) (path : List ℕ) (i : Item) → IsTree items → find_path items path ≡ Ok i → item_of items i.id ≡ Some i
 path_own items path i t e = (names_reach items (names_of path) i t e).there
 
-below_own : (items : List Item) (path : List ℕ) (i : Item) → IsTree items → find_below items path ≡ Ok i → item_of items i.id ≡ Some i
+-- what has a parent is not the root
+
+root_parent : (items : List Item) → BeginWithRoot items → (root_of items).parent.0 ≡ 0
+root_parent [] h = absurd h
+root_parent (r ∷ is) h = h.2
+
+child_below : (items : List Item) (p i : Item) (n : List ℕ) → IsTree items → item_of items p.id ≡ Some p → child_of items p.id n ≡ Some i → eqb i.id.0 1 ≡ false
+child_below items p i n t there e = one (eqb i.id.0 1) refl where
+  one : (b : Bool) → eqb i.id.0 1 ≡ b → eqb i.id.0 1 ≡ false
+  one false q = q
+  one true q =
+      let own : item_of items i.id ≡ Some i = by_own_id 1 (is_child_named p.id n) items i t.order e in
+      let first : ◌≡◌ {A = Option Item} (Some (root_of items)) (Some i) = sym (root_found items i.id (eqb-true i.id.0 1 q) t.root) ∙ own in
+      let same : root_of items ≡ i = cc in
+      absurd (omega (
+        arith,
+        root_parent items t.root,
+        ap (λ (x : Item). x.parent.0) same,
+        eqb-true i.parent.0 p.id.0 (child_parent items p i n e),
+        found_from 1 (λ (x : Item). x.id.0 == p.id.0) items p t.order there,
+      ))
+
+walk_below : (items : List Item) (k : ℕ) (at : Item) (n : List ℕ) (ns : List (List ℕ)) (i : Item) → IsTree items → Reached items k at → walk items at (n ∷ ns) ≡ Ok i → eqb i.id.0 1 ≡ false
+walk_below items k at n [] i t h e =
+    let w = went items at n [] i e in
+    let z : w.next ≡ i = same_ok w.next i w.rest in
+    subst (λ (x : Item). eqb x.id.0 1 ≡ false) z (child_below items at w.next n t h.there w.child)
+walk_below items k at n (m ∷ ms) i t h e = let w = went items at n (m ∷ ms) i e in walk_below items (k + 1) w.next m ms i t (reached_child items k at w.next n t.order h w.directory w.child) w.rest
+
+-- the item has its own id, and is not the root
+record IsBelow (items : List Item) (i : Item) : Type 0 where
+  pub there : item_of items i.id ≡ Some i
+  pub below : eqb i.id.0 1 ≡ false
+
+names_below : (items : List Item) (n : List ℕ) (ns : List (List ℕ)) (i : Item) → IsTree items → find_names items (n ∷ ns) ≡ Ok i → IsBelow items i
+names_below items n ns i t e = record { there = (names_reach items (n ∷ ns) i t e).there; below = one (bad_names (n ∷ ns)) e } where
+  one : (o : Option Code) → refused_or o (walk items (root_of items) (n ∷ ns)) ≡ Ok i → eqb i.id.0 1 ≡ false
+  one (Some c) e = absurd (no_error c i e)
+  one None e = walk_below items 0 (root_of items) n ns i t (root_reached items t.root t.order) e
+
+below_own : (items : List Item) (path : List ℕ) (i : Item) → IsTree items → find_below items path ≡ Ok i → IsBelow items i
 below_own items path i t e = one (names_of path) e where
-  one : (ns : List (List ℕ)) → elim ns as (λ _. Result Item Code) [ [] ↦ Err code.BadPath | n ∷ ns ↦ find_names items (n ∷ ns) ] ≡ Ok i → item_of items i.id ≡ Some i
+  one : (ns : List (List ℕ)) → elim ns as (λ _. Result Item Code) [ [] ↦ Err code.BadPath | n ∷ ns ↦ find_names items (n ∷ ns) ] ≡ Ok i → IsBelow items i
   one [] e = absurd (no_error code.BadPath i e)
-  one (n ∷ ns) e = (names_reach items (n ∷ ns) i t e).there
+  one (n ∷ ns) e = names_below items n ns i t e
 
 -- look-ups of items
 
@@ -111,12 +165,23 @@ found_at S x t path r rows f = record {
       found_of s.volume.items (find_path s.volume.items path) r (f s.volume.items (rows.rows s h) tree) (λ i e. path_own s.volume.items path i tree e);
 }
 
+below_of : (items : List Item) (q : Result Item Code) (r : Result ItemId Code) → r ≡ found q → ((i : Item) → q ≡ Ok i → IsBelow items i) → FoundBelow items r q
+below_of items (Ok i) r e own = subst (λ (x : Result ItemId Code). FoundBelow items x (Ok i)) (sym e) (i, refl, (own i refl).there, (own i refl).below)
+below_of items (Err c) r e own = subst (λ (x : Result ItemId Code). FoundBelow items x (Err c)) (sym e) refl
+
 pub found_below : {X : Type 0} (S : Sense X) (x : X) (t : Table) (path : List ℕ) (r : Result ItemId Code)
-    → HasRows S x t → ((items : List Item) → MeansAll t.rows items → IsTree items → r ≡ found (find_below items path)) → Finds S (below_at path) x r
+    → HasRows S x t → ((items : List Item) → MeansAll t.rows items → IsTree items → r ≡ found (find_below items path)) → FindsBelow S (below_at path) x r
 found_below S x t path r rows f = record {
   is = λ s h. let tree = (S.good x s h).volume.tree in
-      found_of s.volume.items (find_below s.volume.items path) r (f s.volume.items (rows.rows s h) tree) (λ i e. below_own s.volume.items path i tree e);
+      below_of s.volume.items (find_below s.volume.items path) r (f s.volume.items (rows.rows s h) tree) (λ i e. below_own s.volume.items path i tree e);
 }
+
+-- what is not the root is found too
+pub finds_below : {X : Type 0} (S : Sense X) (v : Filter → Result Item Code) (x : X) (r : Result ItemId Code) → FindsBelow S v x r → Finds S v x r
+finds_below S v x r f = record { is = λ s h. one s.volume.items r (v s) (f.is s h) } where
+  one : (items : List Item) (r : Result ItemId Code) (q : Result Item Code) → FoundBelow items r q → Found items r q
+  one items (Ok id) q h = (h.0, h.1, h.2)
+  one items (Err c) q h = h
 
 -- places
 

@@ -1,5 +1,5 @@
 -- What a look-up finds, and what a plan on it is.
-use Rattle.std.specs.Prelude.{◌≡◌, ◌<◌, ℕ, true, List, Some, Result, Ok, Err}
+use Rattle.std.specs.Prelude.{◌≡◌, ◌<◌, ◌==◌, ℕ, false, true, List, Some, Result, Ok, Err}
 use Rattle.cf_base.specs.declared.changes.Change.{Change}
 use Rattle.cf_base.specs.declared.codes.Code.{Code}
 use Rattle.cf_base.specs.declared.codes.Fail.{Fail}
@@ -26,6 +26,14 @@ Found items (Err c) q = q ≡ Err c
 
 pub record Finds {X : Type 0} (S : Sense X) (v : Filter → Result Item Code) (x : X) (r : Result ItemId Code) : Type 0 where
   pub is : (s : Filter) → S.means x s → Found s.volume.items r (v s)
+
+-- the same of an item that is not the root
+abbrev pub FoundBelow : List Item → Result ItemId Code → Result Item Code → Type 0
+FoundBelow items (Ok id) q = (i : Item) × (q ≡ Ok i) × (item_of items id ≡ Some i) × ((id.0 == 1) ≡ false)
+FoundBelow items (Err c) q = q ≡ Err c
+
+pub record FindsBelow {X : Type 0} (S : Sense X) (v : Filter → Result Item Code) (x : X) (r : Result ItemId Code) : Type 0 where
+  pub is : (s : Filter) → S.means x s → FoundBelow s.volume.items r (v s)
 
 -- a name in an open directory, at most 32 names from the root
 pub record IsPlace (items : List Item) (id : ItemId) (name : List ℕ) (i : Item) : Type 0 where

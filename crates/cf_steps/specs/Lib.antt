@@ -1,9 +1,11 @@
 pub mod Answering
 pub mod Finding
 pub mod Good
+pub mod Listing
 pub mod Looking
 pub mod Making
 pub mod Needing
+pub mod Putting
 pub mod Readings
 pub mod Settled
 pub mod Suiting

@@ -3,6 +3,7 @@ use Rattle.std.specs.Prelude.{◌≡◌, Bool, true, false, Option, Some, None, 
 use Rattle.cf_base.specs.declared.codes.Code.{Code}
 use Rattle.cf_base.specs.declared.codes.Fail.{Fail}
 use Rattle.cf_base.specs.declared.codes.Fail.TheVariants.{No, Memory}
+use Rattle.cf_base.specs.declared.ids.ItemId.{ItemId}
 use Rattle.cf_base.specs.declared.ids.WaitId.{WaitId}
 use Rattle.cf_base.specs.declared.waits.Cause.TheVariants as cause
 use Rattle.cf_base.specs.declared.waits.End.{End}
@@ -17,6 +18,7 @@ use Rattle.cf_model.specs.Words.{first_of}
 use Rattle.cf_requests.specs.Steps.{limit_of, limits_by, moved_of}
 use Rattle.cf_requests.specs.declared.moves.Moves.{Moves}
 use Rattle.cf_steps.specs.Answering.{Answers, Any, Reads, Sense}
+use Rattle.cf_steps.specs.Good.{IsFileIn}
 use Rattle.cf_steps.specs.declared.needs.Need.{Need}
 
 -- in the words of the definitions
@@ -55,6 +57,11 @@ begin_limited n s = unless shown.Refused (start_refusal n s) (reading (waits.beg
 -- one more handle may be open
 abbrev pub MayOpen : Filter → Type 0
 MayOpen s = first_of (open_tests s) ≡ None
+
+-- on this file
+pub record MayOpenFile (item : ItemId) (s : Filter) : Type 0 where
+  pub room : MayOpen s
+  pub file : IsFileIn s.volume.items item
 
 -- whether a provider is there
 abbrev pub with_link : Bool → Filter → Filter

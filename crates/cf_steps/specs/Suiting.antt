@@ -7,7 +7,7 @@ use Rattle.cf_base.specs.declared.ids.ItemId.{ItemId}
 use Rattle.cf_model.specs.Books.{Book}
 use Rattle.cf_model.specs.Changes.{put_change, why_no_room}
 use Rattle.cf_model.specs.Items.{Item, item_of}
-use Rattle.cf_model.specs.LookUp.{child_of, children, depth_at, move_refused}
+use Rattle.cf_model.specs.LookUp.{child_of, depth_at, move_refused}
 use Rattle.cf_model.specs.Soundness.{Needs}
 use Rattle.cf_model.specs.State.{Filter, Volume}
 use Rattle.cf_table.specs.Changing.{ItemsFit}
@@ -16,8 +16,8 @@ use Rattle.cf_table.specs.Changing.{ItemsFit}
 abbrev pub IsOpenDirectory : Item → Type 0
 IsOpenDirectory p = (p.directory ≡ true) × (p.populated ≡ true)
 
--- The change leaves a tree: a new item comes under the next id at a free name of a directory that is open, an item moves
--- where it may, and one with a child does not go.
+-- The change leaves a tree: a new item comes under the next id at a free name of a directory that is open, and an item
+-- moves where it may. An item goes by a step of its own.
 abbrev pub IsFreePlace : List Item → ItemId → List ℕ → Type 0
 IsFreePlace items parent name = (is_name name ≡ true) × MatchOption (item_of items parent) ⊥ IsOpenDirectory × (depth_at items parent < 32) × (child_of items parent name ≡ None)
 
@@ -26,7 +26,7 @@ Plants (change.Make item parent name kind size identity) items next = (item ≡ 
 Plants (change.Copy item from parent name) items next = (item ≡ next) × IsFreePlace items parent name
 Plants (change.Move item parent name) items next =
     ((item.0 == 1) ≡ false) × (is_name name ≡ true) × MatchOption (item_of items parent) ⊥ IsOpenDirectory × (move_refused items item parent name ≡ None)
-Plants (change.Remove item) items next = ((item.0 == 1) ≡ false) × (children items item ≡ [])
+Plants (change.Remove item) items next = ⊥
 Plants _ items next = Unit {0}
 
 -- The change has the size that a table has room for; whether there is an id for a new item is a matter of room.

@@ -3,7 +3,7 @@
 ghost use Rattle.std.specs.Prelude.{◌≡◌};
 ghost use Rattle.cf_model.specs.Calls.{below_at, place_at};
 ghost use Rattle.cf_model.specs.Waits.{at_path};
-ghost use Rattle.cf_steps.specs.Finding.{Finds, FindsPlace};
+ghost use Rattle.cf_steps.specs.Finding.{Finds, FindsBelow, FindsPlace};
 
 use crate::steps::Steps;
 use cf_base::{Code, Fail, ItemId, Name};
@@ -18,7 +18,7 @@ pub fn find_at<S: Steps>(s: &S, path: &str) -> Result<ItemId, Code>
 
 /// The item at a path that is not the root's.
 pub fn find_below_root<S: Steps>(s: &S, path: &str) -> Result<ItemId, Code>
-    ensures { Finds S.sense (below_at path.now) s.now result }
+    ensures { FindsBelow S.sense (below_at path.now) s.now result }
 {
     find_below(s.rows(), path)
 }

@@ -5,17 +5,22 @@ ghost use Rattle.cf_asks.specs.Plans.{Planned};
 ghost use Rattle.cf_model.specs.Arrows.{noted, one, unit};
 ghost use Rattle.cf_model.specs.Asks.{downed};
 ghost use Rattle.cf_model.specs.Calls.{count_now, next_handle, with_handle, with_policy};
-ghost use Rattle.cf_model.specs.Changes.{change as one_change};
+ghost use Rattle.cf_model.specs.Books.{Book, with_access};
+ghost use Rattle.cf_model.specs.Changes.{change as one_change, change_with};
 ghost use Rattle.cf_model.specs.Dehydration.{is_connected};
+ghost use Rattle.cf_model.specs.Items.{Item};
+ghost use Rattle.cf_model.specs.Operations.{as_it_is, changes_with};
 ghost use Rattle.cf_model.specs.Points.{commit};
 ghost use Rattle.cf_model.specs.Requests.{Waiting};
-ghost use Rattle.cf_model.specs.Settling.{end_wait, with_waiting};
+ghost use Rattle.cf_model.specs.Settling.{accessed, end_wait, with_waiting};
 ghost use Rattle.cf_model.specs.State.{Filter, in_volume};
-ghost use Rattle.cf_model.specs.Waits.{accessed_now, is_met_now, without_handle};
+ghost use Rattle.cf_model.specs.Waits.{accessed_now, is_met_now, with_time, without_handle};
 ghost use Rattle.cf_requests.specs.Steps.{IsPlanned, carried, moved_of};
 ghost use Rattle.cf_steps.specs.Answering.{Answers, Any, Reads, Sense};
 ghost use Rattle.cf_steps.specs.Finding.{HasRows};
-ghost use Rattle.cf_steps.specs.Needing.{IsMet, MayOpen, Starts, end_told, meant, with_link};
+ghost use Rattle.cf_steps.specs.Listing.{Listing, ReadyListed, room_listed};
+ghost use Rattle.cf_steps.specs.Needing.{IsMet, MayOpen, MayOpenFile, Starts, end_told, meant, with_link};
+ghost use Rattle.cf_steps.specs.Putting.{IsFile, IsHere, MayGo, ReadyOn, bytes_there, removed};
 ghost use Rattle.cf_steps.specs.Readings.{has_handle, has_unlisted, is_idle, last_access, next_place, open_refusal, opened_item, policy_of, room_of, used_blocks, waiting_of, whether, with_asks};
 ghost use Rattle.cf_steps.specs.Suiting.{Ready, Suiting};
 ghost use Rattle.cf_table.specs.Tables.{Table};
@@ -24,7 +29,8 @@ use crate::needs::Need;
 use crate::rooms::Room;
 use cf_asks::Wait;
 use cf_base::{
-    Ask, Cause, Change, Code, End, Fail, Handle, ItemId, Key, Memory, Policy, Usn, WaitId,
+    Ask, AuxRecord, Blob, Cause, Change, Code, End, Fail, Handle, ItemId, Key, Memory, Policy,
+    Span, Usn, WaitId,
 };
 use cf_requests::{Moves, Requests, Step};
 use cf_table::Rows;
@@ -88,6 +94,45 @@ pub trait Steps {
         ensures does { Answers sense (Ready change.now) (one_change change.now) self.old result self.new }
         ensures same { OnOk result (waiting self.new ≡ waiting self.old) };
 
+    /// Makes a write or a size of a file, which suits and finds room, and tells it. It is an access too.
+    fn put(&mut self, item: ItemId, change: &Change) -> Result<(), Fail>
+        ensures does { Answers sense (ReadyOn item change.now) (change_with (with_access item) change.now) self.old result self.new }
+        ensures same { OnOk result (waiting self.new ≡ waiting self.old) };
+
+    /// A file is accessed now.
+    fn touch(&mut self, item: ItemId) -> Result<(), Fail>
+        ensures { Answers sense (IsFile item) (noted (accessed item)) self.old result self.new };
+
+    /// Removes an item that has no child and that no handle is open on, and tells it. With `bury` it leaves a tombstone in
+    /// the same step, where its identity names a target.
+    fn remove(&mut self, item: ItemId, bury: bool) -> Result<(), Fail>
+        ensures does { (i : Item) → Answers sense (MayGo item i) (removed bury i) self.old result self.new }
+        ensures same { OnOk result (waiting self.new ≡ waiting self.old) };
+
+    /// Reads bytes that are here, as a step. Bytes past the size are none.
+    fn retrieve(&mut self, item: ItemId, span: Span) -> Result<Blob, Fail>
+        ensures does { Answers sense (IsHere item span) (one as_it_is) self.old (whether result) self.new }
+        ensures tells { IfOk result (λ b. Reads sense (IsHere item span) (bytes_there item span) self.old b) }
+        ensures same { OnOk result (waiting self.new ≡ waiting self.old) };
+
+    /// Whether a list of entries of a directory finds no room, with these records beside the last of its changes.
+    fn room_listed(
+        &self,
+        dir: ItemId,
+        changes: &[Change],
+        records: &[AuxRecord],
+    ) -> Result<Room, Memory>
+        ensures { IfOk result (λ room. (f : Book → Book) → Reads sense (Listing f dir changes.now records.now) (room_listed f changes.now) self.now room) };
+
+    /// Makes the changes of a list of entries that finds room, and tells them. The records come with the last of them.
+    fn enter(&mut self, dir: ItemId, changes: &[Change], records: &[AuxRecord]) -> Result<(), Fail>
+        ensures does { (f : Book → Book) → Answers sense (ReadyListed f dir changes.now records.now) (changes_with f changes.now) self.old result self.new }
+        ensures same { OnOk result (waiting self.new ≡ waiting self.old) };
+
+    /// So many ticks pass, for the clock and for each ask.
+    fn pass(&mut self, ticks: u32) -> Result<(), Fail>
+        ensures { Answers sense Any (noted (with_time ticks)) self.old result self.new };
+
     /// Does a step of the ask rule that was worked out for what waits and is asked now, but for what it tells.
     fn take(&mut self, step: Step) -> Result<Moves, Fail>
         requires { IsPlanned step (waiting self.old) }
@@ -111,7 +156,7 @@ pub trait Steps {
 
     /// Opens a file, where one more handle may be open.
     fn open(&mut self, item: ItemId) -> Result<Handle, Fail>
-        ensures does { Answers sense MayOpen (noted (with_handle item)) self.old (whether result) self.new }
+        ensures does { Answers sense (MayOpenFile item) (noted (with_handle item)) self.old (whether result) self.new }
         ensures tells { IfOk result (λ h. Reads sense MayOpen next_handle self.old h) };
 
     /// The handle is open no more.

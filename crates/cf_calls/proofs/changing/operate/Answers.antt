@@ -1,0 +1,9 @@
+use Rattle.cf_asks.specs.Deeds.{deed_of}
+use Rattle.cf_calls.proofs.Operated.{operated_off, operated_on}
+use Rattle.cf_calls.proofs.changing.operate.Goals as goal
+
+pub returns-in-Some : goal.returns-in-Some
+returns-in-Some g c = operated_off g.S.Steps.sense c.args.s.now c.args.item c.args.change.now (deed_of c.args.act) c.in_ok-step.step c.args.counts c.in_ok-code.field-0 c.in-Some.code c.in_ok-step.ensures.looks c.in_ok-code.ensures c.in-Some.is
+
+pub returns-in-None : goal.returns-in-None
+returns-in-None g c = operated_on g.S.Steps.sense c.args.s.now c.change_then.new.s c.args.item c.args.change.now (deed_of c.args.act) c.in_ok-step.step c.args.counts c.in_ok-code.field-0 c.change_then.result c.in_ok-step.ensures.looks c.in_ok-code.ensures c.in-None.is c.change_then.ensures
