@@ -100,8 +100,8 @@ accessed_beside F l item false x h = h
 filter_beside : (F : Fact) → Beside F → (l : Link) (tokens : ℕ) (P : Filter → Type 0) → GuardedFilter l tokens P → GuardedFilter l tokens (λ x. P x × Holds F l x)
 filter_beside F b l tokens P closed = record {
   sound = λ x h fair. closed.sound x h.0 fair;
-  change = λ f c x keeps free fit h. keeps_both P (Holds F l) (change_with f c x) (closed.change f c x keeps free fit h.0) (changed_beside F l f c x h.1 (b.puts l tokens c x (closed.sound x h.0) fit h.1));
-  touch = λ f c item d x keeps on fit h. keeps_both P (Holds F l) (then_do (change_with f c) (then_do (settle item d) done) x) (closed.touch f c item d x keeps on fit h.0)
+  change = λ f c x keeps seen free fit h. keeps_both P (Holds F l) (change_with f c x) (closed.change f c x keeps seen free fit h.0) (changed_beside F l f c x h.1 (b.puts l tokens c x (closed.sound x h.0) fit h.1));
+  touch = λ f c item d x keeps seen on fit h. keeps_both P (Holds F l) (then_do (change_with f c) (then_do (settle item d) done) x) (closed.touch f c item d x keeps seen on fit h.0)
       (keeps_bind (Holds F l) (change_with f c x) (λ _ t. then_do (settle item d) done t) (changed_beside F l f c x h.1 (b.puts l tokens c x (closed.sound x h.0) fit h.1)) (λ a t j. keeps_bind (Holds F l) (settle item d t) (λ _ y. done y) (settle_beside F b l item d t j) (λ a y m. m)));
   commits = record { keeps = λ x h. keeps_both P (Holds F l) (in_volume commit x) (closed.commits.keeps x h.0) (h.1, h.1) };
   settled = λ item d. record { keeps = λ x h. keeps_both P (Holds F l) (settle item d x) ((closed.settled item d).keeps x h.0) (settle_beside F b l item d x h.1) };
@@ -152,7 +152,8 @@ guarded_beside F b P closed = record {
   );
   posts = λ f s well h. (closed.posts f s well h.0, linked F b s.link _ s.filter (λ fair. fair) refl h.1);
   loses = λ f s h. (closed.loses f s h.0, linked F b s.link _ s.filter (λ fair. fair) refl h.1);
-  books = λ f s keeps h. (closed.books f s keeps h.0, h.1);
+  books = λ f s keeps placed h. (closed.books f s keeps placed h.0, h.1);
+  moved = λ e s is live h. (closed.moved e s is live h.0, h.1);
   leaves = λ token s h. (closed.leaves token s h.0, h.1);
   keeps_fault_line = λ m s h. (closed.keeps_fault_line m s h.0, h.1);
   keeps_showing = λ s h. (closed.keeps_showing s h.0, h.1);

@@ -8,21 +8,22 @@ use Rattle.cf_base.specs.declared.changes.Change.TheVariants as change
 use Rattle.cf_base.specs.declared.codes.Code.{Code}
 use Rattle.cf_base.specs.declared.ids.ItemId.{ItemId}
 use Rattle.cf_base.specs.declared.ids.Usn.{Usn}
+use Rattle.cf_base.specs.declared.items.SeenPath.{SeenPath}
 use Rattle.cf_base.specs.declared.messages.Entry.{Entry}
 use Rattle.cf_base.specs.declared.notices.Notice.TheVariants as notice
 use Rattle.cf_model.specs.Arrows.{Arrow, Preserves, and_then, choose, only_if}
-use Rattle.cf_model.specs.Books.{QueueEntry, book_after}
+use Rattle.cf_model.specs.Books.{QueueEntry, book_after, with_seen}
 use Rattle.cf_model.specs.Changes.{change as put, next_number, put_with_book, same_book}
 use Rattle.cf_model.specs.Contents.{base_named}
 use Rattle.cf_model.specs.Dehydration.{in_use as is_used}
 use Rattle.cf_model.specs.Effects.{effect, untargeted}
 use Rattle.cf_model.specs.ConflictNames.{conflict_name}
-use Rattle.cf_model.specs.Feeds.{adopt, copy_off, free_parent, gone, gone_unless, has_child, is_adoptable, is_newer, is_removable, is_under, make_after, make_entry, make_of, move_entry, move_in, name_in_root, new_entry, new_over, remove_or_untarget, seen_entry, stands_in, take_over, taken, turn, untarget}
+use Rattle.cf_model.specs.Feeds.{adopt, copy_off, gone, gone_unless, has_child, is_adoptable, is_newer, is_removable, make_after, make_entry, make_of, new_entry, new_over, remove_or_untarget, seen_entry, take_over, taken, turn, untarget}
 use Rattle.cf_model.specs.Identities.{base_version, entry_identity, identity_of, is_untargeted, no_identity}
 use Rattle.cf_model.specs.Items.{Item, base_of, is_dirty, item_of}
 use Rattle.cf_model.specs.Logs.{next_by}
 use Rattle.cf_model.specs.LookUp.{child_of, children, is_child_named}
-use Rattle.cf_model.specs.Numbers.{no_item, no_key, no_rid, no_usn, no_version, root_id}
+use Rattle.cf_model.specs.Numbers.{no_item, no_key, no_rid, no_usn, no_version}
 use Rattle.cf_model.specs.Overlay.{Written}
 use Rattle.cf_model.specs.Requests.{Waiting, is_busy_beside}
 use Rattle.cf_model.specs.Skips.{do_change, in_use, skip_line, try_change, try_clear_name, try_mark_now, try_seen}
@@ -31,9 +32,9 @@ use Rattle.cf_model.specs.State.{Filter, Link, Open, State, Volume, book_now, it
 use Rattle.cf_model.specs.Points.{with_point_begun, with_room_point}
 use Rattle.cf_model.specs.Store.{Held}
 use Rattle.cf_model.specs.Trees.{Keeps}
-use Rattle.cf_model.specs.Words.{is_empty, number_of, same, says}
+use Rattle.cf_model.specs.Words.{is_empty, number_of, same}
 use Rattle.cf_model.proofs.TreeLaws.{keeps_bind, keeps_mapped}
-use Rattle.cf_laws.specs.Fitting.{Fits, IsCopied, IsVacant, NamesWell, NoEntry}
+use Rattle.cf_laws.specs.Fitting.{Fits, IsCopied, IsVacant, NamesWell, NoEntry, NoMove}
 use Rattle.cf_laws.specs.Invariant.{HasEntry, IsRight, SameBase, version_in, waits_on}
 use Rattle.cf_laws.specs.Premises.{IsFair}
 use Rattle.cf_laws.proofs.EntryLaws.{dir_identity, dir_none, dir_well, file_wants, make_fits, none_none}
@@ -41,9 +42,11 @@ use Rattle.cf_laws.proofs.FitEntries.{kind_stays}
 use Rattle.cf_laws.proofs.FitItems.{each_changed}
 use Rattle.cf_laws.proofs.FoundItems.{found_again}
 use Rattle.cf_laws.proofs.Gathered.{each_all, each_any, each_both, each_weaker}
+use Rattle.cf_laws.proofs.Guarded.{KeepsPlaced}
 use Rattle.cf_laws.proofs.Leading.{kept_leads}
 use Rattle.cf_laws.proofs.RightItems.{both_none, fits_meets, no_way, no_way_back, same_based, same_none, untargeted_same}
-use Rattle.cf_laws.proofs.SkipsGuarded.{Framing, Skipping, Whichever, and_then_at, and_then_keeps, framed, item_frame, keeps_first, move_keeps, only_if_at, try_change_at, try_clear_name_keeps, try_mark_now_keeps, try_seen_keeps}
+use Rattle.cf_laws.proofs.SeenPaths.{led_unmarked}
+use Rattle.cf_laws.proofs.SkipsGuarded.{Framing, IsUnmoved, Skipping, Whichever, and_then_at, and_then_keeps, framed, item_frame, keeps_first, only_if_at, try_change_at, try_clear_name_keeps, try_mark_now_at, try_seen_at}
 use Rattle.cf_laws.proofs.SoundChanges.{same_entries}
 use Rattle.cf_laws.proofs.SoundFilters.{change_leads}
 use Rattle.cf_laws.proofs.SoundSettles.{each_found, found_below, left_true, not_true, right_true}
@@ -93,8 +96,14 @@ pub record IsTold (l : Link) (e : Entry) : Type 0 where
 pub fair_now : (l : Link) (w : Filter) (es : List QueueEntry) (s : State) → Feeding l w es s → IsFair s.link → IsFair l
 fair_now l w es s h fair = subst IsFair h.link fair
 
-pub mark_ok : (item : ItemId) (n : Usn) → Whichever (change.Mark item n)
-mark_ok item n = tt
+-- no upload is on its way
+pub unmoved : (l : Link) (w : Filter) (es : List QueueEntry) (P : State → Type 0) → Feeds l w es P → (item : ItemId) (s : State) → P s → IsFair s.link → IsUnmoved item s
+unmoved l w es P feeds item s h fair i e = subst (λ (qs : List QueueEntry). NoMove qs item) (sym ((feeds.fed s h).entries ∙ feeds.none (fair_now l w es s (feeds.fed s h) fair))) tt
+
+-- a path seen after another change than a Mark, and then a Mark
+seen_and_marked : (l : Link) (w : Filter) (es : List QueueEntry) (P : State → Type 0) → Feeds l w es P → (p : SeenPath) (s : State) → (IsFair s.link → KeepsPlaced (with_seen p) s) → P s → Keeps P (and_then (try_seen p) (try_mark_now p.item) s)
+seen_and_marked l w es P feeds p s placed h =
+    and_then_keeps P (try_seen p) (try_mark_now p.item) s (try_seen_at Whichever P feeds.steps p s placed h) (λ t j. try_mark_now_at Whichever P feeds.steps p.item t (λ n. tt) (unmoved l w es P feeds p.item t j) j)
 
 move_ok : (item parent : ItemId) (name : List ℕ) → Whichever (change.Move item parent name)
 move_ok item parent name = tt
@@ -180,9 +189,8 @@ adopt_in l w es P feeds e i dir dirs = record {
   keeps = λ s h.
       and_then_keeps P (only_if (not i.placeholder) (try_change (change.Convert i.id no_identity))) (and_then (try_change (change.Rebase i.id (entry_identity e) 0 no_usn)) (and_then (try_seen (seen_entry i.id e)) (try_mark_now i.id))) s
       (only_if_at P (not i.placeholder) (try_change (change.Convert i.id no_identity)) s h (λ _. try_change_at Whichever P feeds.steps (change.Convert i.id no_identity) s tt (λ id k. k) (convert_fits s h) h))
-      (λ t j. and_then_keeps P (try_change (change.Rebase i.id (entry_identity e) 0 no_usn)) (and_then (try_seen (seen_entry i.id e)) (try_mark_now i.id)) t
-      (try_change_at Whichever P feeds.steps (change.Rebase i.id (entry_identity e) 0 no_usn) t tt (λ id k. k) (rebase_fits t j) j)
-      (λ u k. and_then_keeps P (try_seen (seen_entry i.id e)) (try_mark_now i.id) u ((try_seen_keeps Whichever P feeds.steps (seen_entry i.id e)).keeps u k) (λ v m. (try_mark_now_keeps Whichever P feeds.steps mark_ok i.id).keeps v m)));
+      (λ t j. and_then_at Whichever P feeds.steps (change.Rebase i.id (entry_identity e) 0 no_usn) (and_then (try_seen (seen_entry i.id e)) (try_mark_now i.id)) t tt (λ id k. k) (rebase_fits t j) j
+      (λ u k led. seen_and_marked l w es P feeds (seen_entry i.id e) u (λ fair front item m. absurd (led_unmarked (change.Rebase i.id (entry_identity e) 0 no_usn) t u (λ z. z) led front item m)) k));
 }
   where
     convert_fits : (t : State) → P t → IsFair t.link → Fits t.link.remote t.filter (change.Convert i.id no_identity)
@@ -209,11 +217,9 @@ adopt_at l w es P feeds e i s dir local h there =
 make_after_keeps : (l : Link) (w : Filter) (es : List QueueEntry) (P : State → Type 0) → Feeds l w es P → (e : Entry) (p : Item) → IsTold l e → Preserves P (make_after e p)
 make_after_keeps l w es P feeds e p told = record {
   keeps = λ s h.
-      and_then_keeps P (try_change (make_of s e p)) (and_then (try_seen (seen_entry s.filter.volume.next_item e)) (try_mark_now s.filter.volume.next_item)) s
-      (try_change_at Whichever P feeds.steps (make_of s e p) s tt (λ id k. k)
-      (λ fair. let m = make_fits s.link.remote s.filter.policy e fair.1 (subst (λ (k : Link). HasEntry k.remote e) (sym (feeds.fed s h).link) (told.has (fair_now l w es s (feeds.fed s h) fair))) in (refl, m.0, m.1)) h)
-      (λ t j. and_then_keeps P (try_seen (seen_entry s.filter.volume.next_item e)) (try_mark_now s.filter.volume.next_item) t ((try_seen_keeps Whichever P feeds.steps (seen_entry s.filter.volume.next_item e)).keeps t j)
-      (λ u k. (try_mark_now_keeps Whichever P feeds.steps mark_ok s.filter.volume.next_item).keeps u k));
+      and_then_at Whichever P feeds.steps (make_of s e p) (and_then (try_seen (seen_entry s.filter.volume.next_item e)) (try_mark_now s.filter.volume.next_item)) s tt (λ id k. k)
+      (λ fair. let m = make_fits s.link.remote s.filter.policy e fair.1 (subst (λ (k : Link). HasEntry k.remote e) (sym (feeds.fed s h).link) (told.has (fair_now l w es s (feeds.fed s h) fair))) in (refl, m.0, m.1)) h
+      (λ t j led. seen_and_marked l w es P feeds (seen_entry s.filter.volume.next_item e) t (λ fair front item m. absurd (led_unmarked (make_of s e p) s t (λ z. z) led front item m)) j);
 }
 
 make_entry_keeps : (l : Link) (w : Filter) (es : List QueueEntry) (P : State → Type 0) → Feeds l w es P → (e : Entry) (p : Item) → IsTold l e → Preserves P (make_entry e p)
@@ -239,17 +245,6 @@ new_at l w es P feeds e p s told h = turn_at P (λ t. new_over e p (child_of (it
 abbrev pub IsMove : Change → Type 0
 IsMove (change.Move item parent name) = Unit {0}
 IsMove _ = ⊥
-
-pub move_entry_keeps : (Ok : Change → Type 0) (P : State → Type 0) → Skipping Ok P → ((item parent : ItemId) (name : List ℕ) → Ok (change.Move item parent name)) → (e : Entry) (i p : Item) → Preserves P (move_entry e i p)
-move_entry_keeps Ok P steps ok e i p = record {
-  keeps = λ s h.
-      and_then_keeps P (try_clear_name p.id e.name i.id) (and_then (free_parent i p) (and_then (move_in e i p) (try_seen (seen_entry i.id e)))) s ((try_clear_name_keeps Ok P steps ok p.id e.name i.id).keeps s h)
-      (λ t j. and_then_keeps P (free_parent i p) (and_then (move_in e i p) (try_seen (seen_entry i.id e))) t
-      (only_if_at P (is_under (items_now t) p.id i.id) (try_change (change.Move p.id root_id (name_in_root (items_now t) p))) t j (λ _. (move_keeps Ok P steps ok p.id root_id (name_in_root (items_now t) p)).keeps t j))
-      (λ u k. and_then_keeps P (move_in e i p) (try_seen (seen_entry i.id e)) u
-      (only_if_at P (not (says (stands_in p e.name) (item_of (items_now u) i.id))) (try_change (change.Move i.id p.id e.name)) u k (λ _. (move_keeps Ok P steps ok i.id p.id e.name).keeps u k))
-      (λ v m. (try_seen_keeps Ok P steps (seen_entry i.id e)).keeps v m)));
-}
 
 -- what a move leaves of an item
 abbrev pub Alike : Item → Item → Type 0

@@ -1,6 +1,6 @@
 -- What a feed keeps in `replay`.
 use Rattle.std.proofs.Common.{◌≡◌, ℕ, Bool, true, false, List, [], ◌∷◌, refl, sym, ◌∙◌, ap, subst, arith}
-use Rattle.std.specs.Prelude.{Option, Some, None, cond, not, filter, nat_lt, take, ◌&&◌, ◌||◌, ◌==◌}
+use Rattle.std.specs.Prelude.{Option, Some, None, cond, not, filter, find, nat_lt, take, ◌&&◌, ◌||◌, ◌==◌}
 use Rattle.std.specs.List.{list_any}
 use Rattle.std.proofs.lemmas.Bool.{eqb-true}
 use Rattle.std.proofs.lemmas.Bool.Decides.{nat_tests}
@@ -11,7 +11,7 @@ use Rattle.cf_model.specs.Arrows.{Arrow, Preserves, and_then, noted, only_if, re
 use Rattle.cf_model.specs.Books.{QueueEntry}
 use Rattle.cf_model.specs.Changes.{next_number}
 use Rattle.cf_model.specs.Dehydration.{in_use as is_used}
-use Rattle.cf_model.specs.Feeds.{Fed, depth_of_entry, all_released, all_turns, apply_feed, changed_entry, changed_steps, changed_unless, cursor_if, end_feed, first_turn, first_turn_by, in_turn, is_later, is_newer, is_seen_so, is_whole, known, move_entry, parent_here, second_turn, second_turns, take_entry, take_over, take_turn, turn_by, turns, unknown, with_clock_seen, with_turn}
+use Rattle.cf_model.specs.Feeds.{Fed, depth_of_entry, all_released, all_turns, apply_feed, changed_entry, changed_steps, changed_unless, cursor_if, end_feed, first_turn, first_turn_by, in_turn, is_later, is_newer, is_parent, is_seen_so, is_whole, known, move_entry, parent_here, second_turn, second_turns, take_entry, take_over, take_turn, turn_by, turns, unknown, with_clock_seen, with_turn}
 use Rattle.cf_model.specs.Identities.{by_target, has_target, target_of}
 use Rattle.cf_model.specs.Items.{Item, item_of}
 use Rattle.cf_model.specs.Missing.{Wait}
@@ -27,15 +27,16 @@ use Rattle.cf_model.proofs.ArrowLaws.{keeps_noted, keeps_reading, keeps_ret, kee
 use Rattle.cf_model.proofs.TreeLaws.{keeps_bind}
 use Rattle.cf_laws.specs.Invariant.{All, IsRight, version_in, waits_on}
 use Rattle.cf_laws.specs.Premises.{IsFair}
-use Rattle.cf_laws.proofs.FoundItems.{found_again}
+use Rattle.cf_laws.proofs.FoundItems.{found_again, found_id}
 use Rattle.cf_laws.proofs.Gathered.{all_any, all_append, all_filter, all_found, all_sorted}
 use Rattle.cf_laws.proofs.Guarded.{Guarded}
 use Rattle.cf_laws.proofs.Leading.{Leads, kept_leads, leads_bind, leads_kept, leads_weaker}
-use Rattle.cf_laws.proofs.PushRepliesGuarded.{each_at, found_id}
+use Rattle.cf_laws.proofs.PushRepliesGuarded.{each_at}
 use Rattle.cf_laws.proofs.RightItems.{no_way, no_way_back}
-use Rattle.cf_laws.proofs.SkipsGuarded.{Whichever, and_then_keeps, fewer_changes, framed, guarded_skipping, keeps_first, only_if_at, try_cursor_keeps, try_mark_now_keeps}
+use Rattle.cf_laws.proofs.SkipsGuarded.{Whichever, and_then_keeps, fewer_changes, framed, guarded_skipping, keeps_first, only_if_at, try_cursor_keeps, try_mark_now_at}
 use Rattle.cf_laws.proofs.SoundSettles.{each_found, left_true, right_true, same_item}
-use Rattle.cf_laws.proofs.FeedEntriesGuarded.{Feeding, feeding, Feeds, IsTold, fair_now, mark_ok, turn_at, gone_at, new_at, IsMove, move_entry_keeps, Alike, AlikeAt, alike_frame, newer_file, idle_first, take_at}
+use Rattle.cf_laws.proofs.FeedMovesGuarded.{here_ready, move_entry_at}
+use Rattle.cf_laws.proofs.FeedEntriesGuarded.{Feeding, feeding, Feeds, IsTold, fair_now, turn_at, gone_at, new_at, IsMove, unmoved, Alike, AlikeAt, alike_frame, newer_file, idle_first, take_at}
 
 -- an item that is not in use is not waited for
 pub not_waited : (item : ItemId) (ws : List Wait) → All (λ v. same_key v.id.0 no_key ≡ false) ws → list_any (λ v. (v.item.0 == item.0) && not (same_key v.id.0 no_key)) ws ≡ false → waits_on item ws ≡ false
@@ -119,45 +120,50 @@ again_at l w es P feeds e i s t told idle target there h j alike = by (item_of (
   by (Some k) f =
       take_at l w es P feeds e k t told (free k f) (idle_at k f) (placed k f) (λ fair. subst (λ (x : ItemId). item_of (items_now t) x ≡ Some k) (sym (same_item k.id i.id (found_id i.id (items_now t) k f))) f) j
 
-changed_at : (l : Link) (w : Filter) (es : List QueueEntry) (P : State → Type 0) → Feeds l w es P → (e : Entry) (i p : Item) (s : State) → IsTold l e → (is_newer i e && in_use s i.id) ≡ false → has_target i e.rid ≡ true → (IsFair s.link → item_of (items_now s) i.id ≡ Some i) → P s
+parent_target_of : (e : Entry) (p : Item) (items : List Item) → find (is_parent e) items ≡ Some p → has_target p e.parent ≡ true
+parent_target_of e p items up =
+    left_true (has_target p e.parent) p.directory (left_true (has_target p e.parent && p.directory) p.populated (all_found (λ x. Unit {0}) (is_parent e) items p up (all_any (λ x. Unit {0}) (λ x. tt) items)).1)
+
+changed_at : (l : Link) (w : Filter) (es : List QueueEntry) (P : State → Type 0) → Feeds l w es P → (e : Entry) (i p : Item) (s : State) → IsTold l e → (is_newer i e && in_use s i.id) ≡ false → has_target i e.rid ≡ true → (IsFair s.link → item_of (items_now s) i.id ≡ Some i) → parent_here s e ≡ Some p → P s
     → Keeps P (changed_steps e i p s)
-changed_at l w es P feeds e i p s told idle target there h =
+changed_at l w es P feeds e i p s told idle target there up h =
     kept_leads P (changed_steps e i p s)
     (leads_bind P (λ a t. P t × AlikeAt i i.id t) (λ b t. P t) (only_if (not (is_seen_so s i e)) (move_entry e i p) s) (when_ok false (and_then (take_entry e i.id) (try_mark_now i.id)))
     (first_led P (AlikeAt i i.id) (only_if (not (is_seen_so s i e)) (move_entry e i p) s)
     (only_if_at (λ t. P t × AlikeAt i i.id t) (not (is_seen_so s i e)) (move_entry e i p) s first
-    (λ _. (move_entry_keeps IsMove (λ t. P t × AlikeAt i i.id t) (framed IsMove P (AlikeAt i i.id) (fewer_changes P IsMove feeds.steps) (alike_frame i i.id)) (λ a b c. tt) e i p).keeps s first)))
+    (λ _. move_entry_at IsMove (λ t. P t × AlikeAt i i.id t) (framed IsMove P (AlikeAt i i.id) (fewer_changes P IsMove feeds.steps) (alike_frame i i.id)) (λ a b c. tt) e i p s
+    (here_ready e i p s (λ fair. found_again (is_parent e) 0 s.filter.volume.next_item.0 (items_now s) p (feeds.steps.sound s h fair).now.order up) (parent_target_of e p (items_now s) up)) first)))
     (λ done t j. leads_kept P (when_ok false (and_then (take_entry e i.id) (try_mark_now i.id)) done t) (rest done t j.0 j.1))) where
       first : P s × AlikeAt i i.id s
       first = (h, λ fair. each_found i.id (Alike i) 0 s.filter.volume.next_item.0 (items_now s) i (feeds.steps.sound s h fair).now.order (there fair) (refl, refl, refl))
 
       rest : (done : Bool) (t : State) → P t → AlikeAt i i.id t → Keeps P (when_ok false (and_then (take_entry e i.id) (try_mark_now i.id)) done t)
-      rest true t j a = and_then_keeps P (take_entry e i.id) (try_mark_now i.id) t (again_at l w es P feeds e i s t told idle target there h j a) (λ u k. (try_mark_now_keeps Whichever P feeds.steps mark_ok i.id).keeps u k)
+      rest true t j a = and_then_keeps P (take_entry e i.id) (try_mark_now i.id) t (again_at l w es P feeds e i s t told idle target there h j a) (λ u k. try_mark_now_at Whichever P feeds.steps i.id u (λ n. tt) (unmoved l w es P feeds i.id u k) k)
       rest false t j a = j
 
-changed_turn : (l : Link) (w : Filter) (es : List QueueEntry) (P : State → Type 0) → Feeds l w es P → (e : Entry) (i p : Item) (s : State) → IsTold l e → has_target i e.rid ≡ true → (IsFair s.link → item_of (items_now s) i.id ≡ Some i) → P s → Keeps P (changed_entry e i p s)
-changed_turn l w es P feeds e i p s told target there h = by (is_newer i e && in_use s i.id) refl where
+changed_turn : (l : Link) (w : Filter) (es : List QueueEntry) (P : State → Type 0) → Feeds l w es P → (e : Entry) (i p : Item) (s : State) → IsTold l e → has_target i e.rid ≡ true → (IsFair s.link → item_of (items_now s) i.id ≡ Some i) → parent_here s e ≡ Some p → P s → Keeps P (changed_entry e i p s)
+changed_turn l w es P feeds e i p s told target there up h = by (is_newer i e && in_use s i.id) refl where
   by : (b : Bool) → (is_newer i e && in_use s i.id) ≡ b → Keeps P (changed_unless e i p b s)
   by true q = h
-  by false q = turn_at P (changed_steps e i p) s (changed_at l w es P feeds e i p s told q target there h)
+  by false q = turn_at P (changed_steps e i p) s (changed_at l w es P feeds e i p s told q target there up h)
 
 -- all entries
 
 take_turn_keeps : (l : Link) (w : Filter) (es : List QueueEntry) (P : State → Type 0) → Feeds l w es P → (e : Entry) → IsTold l e → Preserves P (take_turn e)
-take_turn_keeps l w es P feeds e told = record { keeps = λ s h. by s h (by_target (items_now s) e.rid) (parent_here s e) refl } where
+take_turn_keeps l w es P feeds e told = record { keeps = λ s h. by s h (by_target (items_now s) e.rid) (parent_here s e) refl refl } where
   fresh : (s : State) → P s → (b : Bool) (p : Option Item) → Keeps P (unknown b e p s)
   fresh s h true (Some p) = new_at l w es P feeds e p s told h
   fresh s h true None = h
   fresh s h false p = h
 
-  old : (s : State) → P s → (i : Item) → by_target (items_now s) e.rid ≡ Some i → (b : Bool) (p : Option Item) → Keeps P (known b e i p s)
-  old s h i f true (Some p) = changed_turn l w es P feeds e i p s told (all_found (λ x. Unit {0}) (λ x. has_target x e.rid) (items_now s) i f (all_any (λ x. Unit {0}) (λ x. tt) (items_now s))).1 (λ fair. found_again (λ x. has_target x e.rid) 0 s.filter.volume.next_item.0 (items_now s) i (feeds.steps.sound s h fair).now.order f) h
-  old s h i f true None = gone_at l w es P feeds i s h (λ fair. found_again (λ x. has_target x e.rid) 0 s.filter.volume.next_item.0 (items_now s) i (feeds.steps.sound s h fair).now.order f)
-  old s h i f false p = gone_at l w es P feeds i s h (λ fair. found_again (λ x. has_target x e.rid) 0 s.filter.volume.next_item.0 (items_now s) i (feeds.steps.sound s h fair).now.order f)
+  old : (s : State) → P s → (i : Item) → by_target (items_now s) e.rid ≡ Some i → (b : Bool) (p : Option Item) → parent_here s e ≡ p → Keeps P (known b e i p s)
+  old s h i f true (Some p) up = changed_turn l w es P feeds e i p s told (all_found (λ x. Unit {0}) (λ x. has_target x e.rid) (items_now s) i f (all_any (λ x. Unit {0}) (λ x. tt) (items_now s))).1 (λ fair. found_again (λ x. has_target x e.rid) 0 s.filter.volume.next_item.0 (items_now s) i (feeds.steps.sound s h fair).now.order f) up h
+  old s h i f true None up = gone_at l w es P feeds i s h (λ fair. found_again (λ x. has_target x e.rid) 0 s.filter.volume.next_item.0 (items_now s) i (feeds.steps.sound s h fair).now.order f)
+  old s h i f false p up = gone_at l w es P feeds i s h (λ fair. found_again (λ x. has_target x e.rid) 0 s.filter.volume.next_item.0 (items_now s) i (feeds.steps.sound s h fair).now.order f)
 
-  by : (s : State) → P s → (o p : Option Item) → by_target (items_now s) e.rid ≡ o → Keeps P (turn_by e o p s)
-  by s h None p f = fresh s h e.live p
-  by s h (Some i) p f = old s h i f e.live p
+  by : (s : State) → P s → (o p : Option Item) → by_target (items_now s) e.rid ≡ o → parent_here s e ≡ p → Keeps P (turn_by e o p s)
+  by s h None p f up = fresh s h e.live p
+  by s h (Some i) p f up = old s h i f e.live p up
 
 -- the turns, and the entries that come again
 

@@ -4,6 +4,7 @@ use Rattle.std.specs.Prelude.{Option, Some, None, Result, Ok, Err, cond, not, fi
 use Rattle.std.proofs.lemmas.Bool.{eqb-true}
 use Rattle.cf_base.specs.declared.codes.Code.{Code}
 use Rattle.cf_base.specs.declared.codes.Code.TheVariants as code
+use Rattle.cf_base.specs.declared.ids.ItemId.{ItemId}
 use Rattle.cf_model.specs.Items.{Item, item_of}
 use Rattle.cf_model.specs.LookUp.{bad_names, child_of, find_path, is_child_named, names_of, refused_or, root_of, walk}
 use Rattle.cf_laws.specs.Invariant.{InOrder}
@@ -29,6 +30,13 @@ found_again f low next (j ∷ js) i h e = by (f j) refl e (found_again f j.id.0 
   by : (b : Bool) → f j ≡ b → cond b (Some j) (find f js) ≡ Some i → (find f js ≡ Some i → item_of js i.id ≡ Some i) → item_of (j ∷ js) i.id ≡ Some i
   by true q e g = let z : j ≡ i = cc in subst (λ (x : Item). item_of (j ∷ js) x.id ≡ Some x) z (rw (eq-eqb j.id.0 j.id.0 refl) refl)
   by false q e g = rw (differ j.id.0 i.id.0 (found_above f j.id.0 next js i h.1 e)) (g e)
+
+pub found_id : (id : ItemId) (items : List Item) (i : Item) → item_of items id ≡ Some i → i.id.0 ≡ id.0
+found_id id [] i e = cc
+found_id id (j ∷ js) i e = by (j.id.0 == id.0) refl e (found_id id js i) where
+  by : (b : Bool) → (j.id.0 == id.0) ≡ b → cond b (Some j) (item_of js id) ≡ Some i → (item_of js id ≡ Some i → i.id.0 ≡ id.0) → i.id.0 ≡ id.0
+  by true q e g = let z : j ≡ i = cc in subst (λ (x : Item). x.id.0 ≡ id.0) z (eqb-true j.id.0 id.0 q)
+  by false q e g = g e
 
 abbrev There : List Item → Item → Type 0
 There items i = i.directory ≡ false → item_of items i.id ≡ Some i

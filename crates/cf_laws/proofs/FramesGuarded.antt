@@ -6,11 +6,12 @@ use Rattle.cf_base.specs.declared.answers.Shown.TheVariants as shown
 use Rattle.cf_base.specs.declared.changes.Change.{Change}
 use Rattle.cf_base.specs.declared.codes.Code.{Code}
 use Rattle.cf_base.specs.declared.ids.ItemId.{ItemId}
+use Rattle.cf_base.specs.declared.ids.Token.{Token}
 use Rattle.cf_base.specs.declared.ids.WaitId.{WaitId}
 use Rattle.cf_base.specs.declared.waits.Cause.TheVariants as cause
 use Rattle.cf_base.specs.declared.waits.End.{End}
 use Rattle.cf_model.specs.Arrows.{each, noted, reading, then_do}
-use Rattle.cf_model.specs.Books.{Book, QueueEntry, book_after}
+use Rattle.cf_model.specs.Books.{Book, QueueEntry, book_after, without_entry}
 use Rattle.cf_model.specs.Changes.{change_with, put_with_book}
 use Rattle.cf_model.specs.Logs.{next_by}
 use Rattle.cf_model.specs.Numbers.{same_key}
@@ -19,7 +20,7 @@ use Rattle.cf_model.specs.Points.{commit, with_room_point}
 use Rattle.cf_model.specs.PushReplies.{held_back, is_removal, not_in_row, round_closed, without_item, without_number}
 use Rattle.cf_model.specs.Requests.{Told, Waiting}
 use Rattle.cf_model.specs.Settling.{accessed, end_of, end_wait, is_access, is_own, settle, tell, tell_end, told_at, with_asks_told, with_ended, with_waiting}
-use Rattle.cf_model.specs.Skips.{skip_line}
+use Rattle.cf_model.specs.Skips.{skip_line, with_book}
 use Rattle.cf_model.specs.Soundness.{Each}
 use Rattle.cf_model.specs.State.{Filter, Link, State, Volatile, Volume, in_volume, with_filter}
 use Rattle.cf_model.specs.Trees.{Keeps, Ret}
@@ -81,11 +82,11 @@ tell_end_frame : (F : Volume → Type 0) (i : WaitId) (e : End) (own : Bool) (x 
 tell_end_frame F i e true x h = h
 tell_end_frame F i e false x h = h
 
-pub access_frame : (F : Volume → Type 0) → ((v : Volume) (b : Book) → b.entries ≡ v.book.entries → F v → F (record v { book = b })) → (item : ItemId) (is : Bool) (x : Filter) → F x.volume → F (if is then accessed item x else x).volume
-access_frame F k item true x h = k x.volume _ refl h
+pub access_frame : (F : Volume → Type 0) → ((v : Volume) (b : Book) → b.entries ≡ v.book.entries → b.seen ≡ v.book.seen → F v → F (record v { book = b })) → (item : ItemId) (is : Bool) (x : Filter) → F x.volume → F (if is then accessed item x else x).volume
+access_frame F k item true x h = k x.volume _ refl refl h
 access_frame F k item false x h = h
 
-pub tell_frame : (F : Volume → Type 0) → ((v : Volume) (b : Book) → b.entries ≡ v.book.entries → F v → F (record v { book = b })) → (r : Told × Waiting) (x : Filter) → F x.volume → Keeps (λ y. F y.volume) (tell r x)
+pub tell_frame : (F : Volume → Type 0) → ((v : Volume) (b : Book) → b.entries ≡ v.book.entries → b.seen ≡ v.book.seen → F v → F (record v { book = b })) → (r : Told × Waiting) (x : Filter) → F x.volume → Keeps (λ y. F y.volume) (tell r x)
 tell_frame F k r x h =
     (keeps_then (λ y. F y.volume) (each end_wait r.0.ended) (noted (with_asks_told r.0))
     (keeps_each (λ y. F y.volume) end_wait r.0.ended (λ e. keeps_one (λ y. F y.volume) (with_ended e) (λ y j. access_frame F k e.0.item (is_access e.0.kind e.1) (tell_end e.0.id (end_of y.volume.items e.0 e.1) (is_own e.0.id y) y) (tell_end_frame F e.0.id (end_of y.volume.items e.0 e.1) (is_own e.0.id y) y j))))
@@ -94,18 +95,21 @@ tell_frame F k r x h =
 frame_book : (Used : Type 0) (id : ItemId) (R : Bool → Bool → Type 0) (es : List QueueEntry) (l : Link) (tokens : ℕ) (v : Volume) (b : Book) → b.entries ≡ v.book.entries → Frame Used id R es l tokens v → Frame Used id R es l tokens (record v { book = b })
 frame_book Used id R es l tokens v b e h = (λ u fair. let g = h.0 u fair in (g.0, g.1, subst (λ (qs : List QueueEntry). NoEntry qs id) (sym e) g.2), h.1)
 
+told_frame : (Used : Type 0) (id : ItemId) (R : Bool → Bool → Type 0) (es : List QueueEntry) (l : Link) (tokens : ℕ) (v : Volume) (b : Book) → b.entries ≡ v.book.entries → b.seen ≡ v.book.seen → Frame Used id R es l tokens v → Frame Used id R es l tokens (record v { book = b })
+told_frame Used id R es l tokens v b e seen h = frame_book Used id R es l tokens v b e h
+
 filter_framed : (Used : Type 0) (id : ItemId) (R : Bool → Bool → Type 0) → ((d p : Bool) → R d p → R d true) → (es : List QueueEntry) (l : Link) (tokens : ℕ) (P : Filter → Type 0) → GuardedFilter l tokens P → GuardedFilter l tokens (λ x. P x × InFilter Used id R es l tokens x)
 filter_framed Used id R k es l tokens P closed = record {
   sound = λ x h fair. closed.sound x h.0 fair;
-  change = λ f c x keeps free fit h. keeps_both P (InFilter Used id R es l tokens) (change_with f c x) (closed.change f c x keeps free fit h.0) (frame_change Used id R k es l tokens f c x keeps fit h.1);
-  touch = λ f c item d x keeps on fit h. keeps_both P (InFilter Used id R es l tokens) (then_do (change_with f c) (then_do (settle item d) done) x) (closed.touch f c item d x keeps on fit h.0)
-      (keeps_bind (InFilter Used id R es l tokens) (change_with f c x) (λ _ t. then_do (settle item d) done t) (frame_change Used id R k es l tokens f c x keeps fit h.1) (λ a t j. keeps_bind (InFilter Used id R es l tokens) (settle item d t) (λ _ y. done y) (tell_frame (Frame Used id R es l tokens) (frame_book Used id R es l tokens) (told_at item d t) t j) (λ b y m. m)));
+  change = λ f c x keeps seen free fit h. keeps_both P (InFilter Used id R es l tokens) (change_with f c x) (closed.change f c x keeps seen free fit h.0) (frame_change Used id R k es l tokens f c x keeps fit h.1);
+  touch = λ f c item d x keeps seen on fit h. keeps_both P (InFilter Used id R es l tokens) (then_do (change_with f c) (then_do (settle item d) done) x) (closed.touch f c item d x keeps seen on fit h.0)
+      (keeps_bind (InFilter Used id R es l tokens) (change_with f c x) (λ _ t. then_do (settle item d) done t) (frame_change Used id R k es l tokens f c x keeps fit h.1) (λ a t j. keeps_bind (InFilter Used id R es l tokens) (settle item d t) (λ _ y. done y) (tell_frame (Frame Used id R es l tokens) (told_frame Used id R es l tokens) (told_at item d t) t j) (λ b y m. m)));
   commits = record { keeps = λ x h. keeps_both P (InFilter Used id R es l tokens) (in_volume commit x) (closed.commits.keeps x h.0) (h.1, h.1) };
-  settled = λ item d. record { keeps = λ x h. keeps_both P (InFilter Used id R es l tokens) (settle item d x) ((closed.settled item d).keeps x h.0) (tell_frame (Frame Used id R es l tokens) (frame_book Used id R es l tokens) (told_at item d x) x h.1) };
-  begins = λ n. record { keeps = λ x h. keeps_both P (InFilter Used id R es l tokens) (reading (begun n) (begin_now n) x) ((closed.begins n).keeps x h.0) (keeps_bind (InFilter Used id R es l tokens) (tell (begun n x) (with_own n x)) (λ _ t. Ret (shown.Pending (own_id n x)) t) (tell_frame (Frame Used id R es l tokens) (frame_book Used id R es l tokens) (begun n x) (with_own n x) h.1) (λ a t j. j)) };
-  downs = record { keeps = λ x h. keeps_both P (InFilter Used id R es l tokens) (reading all_down tell x) (closed.downs.keeps x h.0) (tell_frame (Frame Used id R es l tokens) (frame_book Used id R es l tokens) (all_down x) x h.1) };
+  settled = λ item d. record { keeps = λ x h. keeps_both P (InFilter Used id R es l tokens) (settle item d x) ((closed.settled item d).keeps x h.0) (tell_frame (Frame Used id R es l tokens) (told_frame Used id R es l tokens) (told_at item d x) x h.1) };
+  begins = λ n. record { keeps = λ x h. keeps_both P (InFilter Used id R es l tokens) (reading (begun n) (begin_now n) x) ((closed.begins n).keeps x h.0) (keeps_bind (InFilter Used id R es l tokens) (tell (begun n x) (with_own n x)) (λ _ t. Ret (shown.Pending (own_id n x)) t) (tell_frame (Frame Used id R es l tokens) (told_frame Used id R es l tokens) (begun n x) (with_own n x) h.1) (λ a t j. j)) };
+  downs = record { keeps = λ x h. keeps_both P (InFilter Used id R es l tokens) (reading all_down tell x) (closed.downs.keeps x h.0) (tell_frame (Frame Used id R es l tokens) (told_frame Used id R es l tokens) (all_down x) x h.1) };
   keeps_accessed = λ item x h. (closed.keeps_accessed item x h.0, h.1);
-  keeps_accessed_now = λ n x h. (closed.keeps_accessed_now n x h.0, access_frame (Frame Used id R es l tokens) (frame_book Used id R es l tokens) n.item (is_access n.kind cause.Met) x h.1);
+  keeps_accessed_now = λ n x h. (closed.keeps_accessed_now n x h.0, access_frame (Frame Used id R es l tokens) (told_frame Used id R es l tokens) n.item (is_access n.kind cause.Met) x h.1);
   keeps_as_it_is = λ x h. (closed.keeps_as_it_is x h.0, h.1);
   keeps_begin_call = λ x h. (closed.keeps_begin_call x h.0, h.1);
   keeps_connected_again = λ x h. (closed.keeps_connected_again x h.0, h.1);
@@ -141,6 +145,9 @@ line_framed : (Used : Type 0) (id : ItemId) (R : Bool → Bool → Type 0) (es :
 line_framed Used id R es true c s h = h
 line_framed Used id R es false c s h = h
 
+left_framed : (Used : Type 0) (id : ItemId) (R : Bool → Bool → Type 0) (es : List QueueEntry) (token : Token) (s : State) → FrameIn Used id R es s → FrameIn Used id R es (with_book (without_entry token) s)
+left_framed Used id R es token s h = (λ u fair. let g = h.0 u fair in (g.0, g.1, all_filter (λ e. e.item.0 ≡ id.0 → ⊥) (λ e. not (same_key e.token.0 token.0)) s.filter.volume.book.entries g.2), h.1)
+
 more : (n : ℕ) → n ≤ n + 1
 more n = omega arith
 
@@ -153,8 +160,9 @@ guarded_framed Used id R k es P closed = record {
   told = λ held s h. (closed.told held s h.0, (λ u fair. no_way fair.0, λ fair. no_way fair.0));
   posts = λ f s well h. (closed.posts f s well h.0, h.1);
   loses = λ f s h. (closed.loses f s h.0, h.1);
-  books = λ f s keeps h. (closed.books f s keeps h.0, frame_book Used id R es s.link s.volatile.tokens s.filter.volume (f s.filter.volume.book) (keeps s.filter.volume.book) h.1);
-  leaves = λ token s h. (closed.leaves token s h.0, (λ u fair. let g = h.1.0 u fair in (g.0, g.1, all_filter (λ e. e.item.0 ≡ id.0 → ⊥) (λ e. not (same_key e.token.0 token.0)) s.filter.volume.book.entries g.2), h.1.1));
+  books = λ f s keeps placed h. (closed.books f s keeps placed h.0, frame_book Used id R es s.link s.volatile.tokens s.filter.volume (f s.filter.volume.book) (keeps s.filter.volume.book) h.1);
+  moved = λ e s is live h. (closed.moved e s is live h.0, same_framed Used id R es s.link s.volatile.tokens _ (with_book (without_entry e.token) s).filter.volume (row_tokens e (round_closed s.volatile)) (left_framed Used id R es e.token s h.1));
+  leaves = λ token s h. (closed.leaves token s h.0, left_framed Used id R es token s h.1);
   keeps_fault_line = λ m s h. (closed.keeps_fault_line m s h.0, h.1);
   keeps_showing = λ s h. (closed.keeps_showing s h.0, h.1);
   keeps_skipped = λ c s h. (closed.keeps_skipped c s h.0, line_framed Used id R es s.running.shows_skips c (record s { running = record s.running { skips = s.running.skips + 1 } }) h.1);

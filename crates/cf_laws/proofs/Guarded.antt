@@ -14,19 +14,21 @@ use Rattle.cf_base.specs.declared.notices.Frame.{Frame}
 use Rattle.cf_base.specs.declared.policies.Policy.{Policy}
 use Rattle.cf_base.specs.declared.waits.Ask.{Ask}
 use Rattle.cf_model.specs.Arrows.{Preserves, reading, then_do}
-use Rattle.cf_model.specs.Books.{Book, QueueEntry, with_entry, without_entry}
+use Rattle.cf_model.specs.Books.{Book, MoveItem, QueueEntry, entry_of, with_entry, with_seen, without_entry}
 use Rattle.cf_model.specs.Callbacks.{begin_call, with_outbox}
 use Rattle.cf_model.specs.Calls.{with_handle, with_policy}
 use Rattle.cf_model.specs.Changes.{change_with, next_number}
 use Rattle.cf_model.specs.Dehydration.{in_use}
 use Rattle.cf_model.specs.EngineEvents.{with_inline}
 use Rattle.cf_model.specs.Feeds.{all_released, with_clock_seen}
+use Rattle.cf_model.specs.Identities.{stands_at_seen}
+use Rattle.cf_model.specs.Items.{Item, item_of}
 use Rattle.cf_model.specs.Messages.{counted, distrusted, fault_line, with_lost, with_message, with_remote}
 use Rattle.cf_model.specs.Operations.{as_it_is, done}
 use Rattle.cf_model.specs.Passes.{showing, with_round, without_done}
 use Rattle.cf_model.specs.Peers.{with_stray, with_token_used}
 use Rattle.cf_model.specs.Points.{commit}
-use Rattle.cf_model.specs.PushReplies.{held_and_closed, not_in_row, taken_from_row, with_done, with_not_empty, with_taken_name}
+use Rattle.cf_model.specs.PushReplies.{entry_seen, held_and_closed, not_in_row, taken_from_row, with_done, with_not_empty, with_taken_name}
 use Rattle.cf_model.specs.Pushes.{with_token}
 use Rattle.cf_model.specs.Requests.{Deed}
 use Rattle.cf_model.specs.Settling.{accessed, settle, tell}
@@ -35,18 +37,35 @@ use Rattle.cf_model.specs.State.{Filter, Link, State, book_now, in_volume, is_re
 use Rattle.cf_model.specs.Store.{Held, remote_step}
 use Rattle.cf_model.specs.Trees.{Keeps}
 use Rattle.cf_model.specs.Waits.{Need, accessed_now, all_down, begin_now, begun, connected_again, disconnected, with_time, without_handle}
-use Rattle.cf_laws.specs.Fitting.{Fits, Touches}
+use Rattle.cf_laws.specs.Fitting.{Fits, IsMark, Touches}
 use Rattle.cf_laws.specs.Invariant.{IsSound}
+use Rattle.cf_laws.specs.Marks.{IsMarkedLast, StandsAtSeen}
 use Rattle.cf_laws.specs.Premises.{IsFair}
 use Rattle.cf_laws.proofs.SoundBooks.{EnteredWell}
 use Rattle.cf_laws.proofs.SoundChanges.{KeepsEntries}
 use Rattle.cf_laws.proofs.SoundLinks.{AskedWell, PostedWell}
 
+-- a Mark leaves the paths seen
+abbrev pub KeepsSeenBy : (Book → Book) → Change → Type 0
+KeepsSeenBy f c = IsMark c → (b : Book) → (f b).seen ≡ b.seen
+
+-- where the last change is a Mark, its item still stands at the path seen
+abbrev pub KeepsPlaced : (Book → Book) → State → Type 0
+KeepsPlaced f s = (front : List (Usn × Change)) (item : ItemId) → IsMarkedLast s.filter.volume.log front item → StandsAtSeen (items_now s) (book_now s) item → StandsAtSeen (items_now s) (f (book_now s)) item
+
+-- what is uploaded of an item's place is not at the path seen
+abbrev pub IsMovedOff : State → QueueEntry → Type 0
+IsMovedOff s e = e.action ≡ MoveItem → (i : Item) × (item_of (items_now s) e.item ≡ Some i) × (stands_at_seen (items_now s) (book_now s) i ≡ false)
+
+-- a Done of a Move is taken, and its path is seen
+abbrev pub after_move : QueueEntry → State → State
+after_move e s = with_book (with_seen (entry_seen e)) (with_volatile (taken_from_row e) (with_book (without_entry e.token) s))
+
 -- of the filter, beside this link and so many tokens
 pub record GuardedFilter (l : Link) (tokens : ℕ) (P : Filter → Type 0) : Type 0 where
   pub sound : (x : Filter) → P x → IsFair l → IsSound l tokens x
-  pub change : (f : Book → Book) (c : Change) (x : Filter) → KeepsEntries f → ((id : ItemId) → Touches c id → ⊥) → (IsFair l → Fits l.remote x c) → P x → Keeps P (change_with f c x)
-  pub touch : (f : Book → Book) (c : Change) (item : ItemId) (d : Deed) (x : Filter) → KeepsEntries f → ((id : ItemId) → Touches c id → id.0 ≡ item.0) → (IsFair l → Fits l.remote x c) → P x
+  pub change : (f : Book → Book) (c : Change) (x : Filter) → KeepsEntries f → KeepsSeenBy f c → ((id : ItemId) → Touches c id → ⊥) → (IsFair l → Fits l.remote x c) → P x → Keeps P (change_with f c x)
+  pub touch : (f : Book → Book) (c : Change) (item : ItemId) (d : Deed) (x : Filter) → KeepsEntries f → KeepsSeenBy f c → ((id : ItemId) → Touches c id → id.0 ≡ item.0) → (IsFair l → Fits l.remote x c) → P x
       → Keeps P (then_do (change_with f c) (then_do (settle item d) done) x)
   pub commits : Preserves P (in_volume commit)
   pub settled : (item : ItemId) (d : Deed) → Preserves P (settle item d)
@@ -81,7 +100,8 @@ pub record Guarded (P : State → Type 0) : Type 0 where
   pub told : (held : Held) (s : State) → P s → P (distrusted (with_remote held (counted s)))
   pub posts : (f : Frame) (s : State) → (IsFair s.link → PostedIn s (Some f)) → P s → P (with_message f s)
   pub loses : (f : Frame) (s : State) → P s → P (with_lost f s)
-  pub books : (f : Book → Book) (s : State) → KeepsEntries f → P s → P (with_book f s)
+  pub books : (f : Book → Book) (s : State) → KeepsEntries f → (IsFair s.link → KeepsPlaced f s) → P s → P (with_book f s)
+  pub moved : (e : QueueEntry) (s : State) → e.action ≡ MoveItem → (IsFair s.link → entry_of (book_now s) e.token ≡ Some e) → P s → P (after_move e s)
   pub leaves : (token : Token) (s : State) → P s → P (with_book (without_entry token) s)
   pub keeps_fault_line : (x1 : ℕ) → (s : State) → P s → P (fault_line x1 s)
   pub keeps_showing : (s : State) → P s → P (showing s)
@@ -108,4 +128,4 @@ pub record Deleting (P : State → Type 0) : Type 0 where
 
 -- and by an upload that is entered
 pub record Entering (P : State → Type 0) : Type 0 where
-  pub enters : (e : QueueEntry) (s : State) → (IsFair s.link → EnteredIn s e) → P s → P (with_book (with_entry e) s)
+  pub enters : (e : QueueEntry) (s : State) → (IsFair s.link → EnteredIn s e × IsMovedOff s e) → P s → P (with_book (with_entry e) s)

@@ -5,12 +5,14 @@ pub mod DehydrationLaws
 pub mod EntryLaws
 pub mod CallbacksGuarded
 pub mod FeedEntriesGuarded
+pub mod FeedMovesGuarded
 pub mod FeedsGuarded
 pub mod FetchingGuarded
 pub mod ListedLocals
 pub mod LocalLaws
 pub mod LocalSteps
 pub mod LoggedGuarded
+pub mod MarksGuarded
 pub mod MessagesGuarded
 pub mod FitAsks
 pub mod FitContents
@@ -35,6 +37,7 @@ pub mod PushRepliesGuarded
 pub mod PushesGuarded
 pub mod RemoteSteps
 pub mod RightItems
+pub mod SeenPaths
 pub mod SettledAsks
 pub mod SkipsGuarded
 pub mod SoundBooks

@@ -47,7 +47,8 @@ use Rattle.cf_laws.proofs.KeptLocals.{all_at, any_after, any_at, held_step}
 use Rattle.cf_laws.proofs.ListedLocals.{copied_step, lister_step}
 use Rattle.cf_laws.proofs.LocalSteps.{HasLister, HoldsAt, HoldsIn, at_other, found_same}
 use Rattle.cf_laws.proofs.LoggedGuarded.{IsLogged, Logged, items_more, logged_runs, run_logged}
-use Rattle.cf_laws.proofs.PushRepliesGuarded.{each_at, found_id}
+use Rattle.cf_laws.proofs.PushRepliesGuarded.{each_at}
+use Rattle.cf_laws.proofs.FoundItems.{found_id}
 use Rattle.cf_laws.proofs.RightItems.{no_way}
 use Rattle.cf_laws.proofs.SoundSettles.{any_longer}
 use Rattle.cf_laws.proofs.SparedBytes.{held_given, held_grown, held_here, held_is}

@@ -23,7 +23,7 @@ use Rattle.cf_model.specs.Words.{first_of, number_of, part}
 use Rattle.cf_model.specs.Operations.{ack_dehydrate, changes_with, checked, consent_by, consent_deed, consent_tests, done, entries, entries_deed, entries_tests, execute, execute_with, key_of, on_ask, on_live, refuse, refuse_tests, second_verdict, transfer, transfer_by, transfer_tests, entry_changes, entry_kind, list_changes, dehydration, in_use_beside}
 use Rattle.cf_laws.proofs.Guarded.{GuardedFilter}
 use Rattle.cf_model.proofs.ArrowLaws.{keeps_ret, keeps_then, keeps_unless}
-use Rattle.std.proofs.Common.{◌≡◌, ◌<◌, ◌≤◌, ◌+◌, ◌∷◌, ◌++◌, refl, sym, ◌∙◌, ap, subst, max, arith, List, [], ℕ, Bool, true, false}
+use Rattle.std.proofs.Common.{◌≡◌, ◌<◌, ◌≤◌, ◌+◌, ◌∷◌, ◌++◌, refl, sym, ◌∙◌, ap, subst, inr, max, arith, List, [], ℕ, Bool, true, false}
 use Rattle.cf_base.specs.declared.ids.ItemId.{ItemId}
 use Rattle.cf_base.specs.declared.ids.Usn.{Usn}
 use Rattle.cf_base.specs.declared.ids.Key.{Key}
@@ -63,7 +63,7 @@ pub transfer_at : (l : Link) (tokens : ℕ) (P : Filter → Type 0) → GuardedF
 transfer_at l tokens P closed a at bytes x fit h =
     let c : Change = change.Filled a.ask.item at bytes in
     checked_at P (transfer_tests a c at (length bytes)) (transfer_by a c (blocks_of at (length bytes))) x h
-    (λ e. closed.touch same_book c a.ask.item (Leaves a.ask.key (blocks_of at (length bytes))) x (λ b. refl) (λ id k. k) (λ fair. fit fair (not_false (is_fetch a.ask.kind) (head_false (transfer_tests a c at (length bytes) x) e))) h)
+    (λ e. closed.touch same_book c a.ask.item (Leaves a.ask.key (blocks_of at (length bytes))) x (λ b. refl) (λ z b. refl) (λ id k. k) (λ fair. fit fair (not_false (is_fetch a.ask.kind) (head_false (transfer_tests a c at (length bytes) x) e))) h)
 
 pub refuse_keeps : (l : Link) (tokens : ℕ) (P : Filter → Type 0) → GuardedFilter l tokens P → (x1 : Live) → (x2 : Span) → (x3 : ℕ) → Preserves P (refuse x1 x2 x3)
 refuse_keeps l tokens P closed a asked status = checked_keeps l tokens P closed (refuse_tests a asked) (then_do (settle a.ask.item (Fails a.ask.key (blocks_of asked.start asked.len) (cause.Failed status))) done) (keeps_then P (settle a.ask.item (Fails a.ask.key (blocks_of asked.start asked.len) (cause.Failed status))) done (closed.settled a.ask.item (Fails a.ask.key (blocks_of asked.start asked.len) (cause.Failed status))) (done_keeps l tokens P closed))
@@ -129,21 +129,24 @@ targeted false identity h = h
 listing_in : (l : Link) (tokens : ℕ) (P : Filter → Type 0) → GuardedFilter l tokens P → (f : Book → Book) → KeepsEntries f → (p : Policy) (parent : ItemId) (es : List Entry) (item : ℕ) (n : Usn) (x : Filter)
     → (IsFair l → All (λ e. NewFits l.remote p (new_item_of e)) es) → (IsFair l → x.volume.next_item.0 ≡ item) → next_number x.volume ≡ n → P x
     → Keeps P (changes_with f (entry_changes p parent item n (map new_item_of es) ++ change.Populated parent ∷ []) x)
-listing_in l tokens P closed f keeps p parent [] item n x fit next number h = closed.change f (change.Populated parent) x keeps (λ id k. k) (λ fair. tt) h
+listing_in l tokens P closed f keeps p parent [] item n x fit next number h = closed.change f (change.Populated parent) x keeps (λ z. absurd z) (λ id k. k) (λ fair. tt) h
 listing_in l tokens P closed f keeps p parent (e ∷ es) item n x fit next number h =
     let q : NewItem = new_item_of e in
     let make : Change = change.Make (record { 0 = item }) parent q.name (entry_kind p q.dir) (cond q.dir 0 q.size) q.identity in
     let mark : Change = change.Mark (record { 0 = item }) n in
     keeps_led P (λ u t. After same_book make x t) (change make x) (λ _ t. changes_with f (mark ∷ (entry_changes p parent (item + 1) (record n { place = n.place + 2 }) (map new_item_of es) ++ change.Populated parent ∷ [])) t)
-    (closed.change same_book make x (λ b. refl) (λ id k. k) (λ fair. (sym (next fair), (fit fair).0.0, (fit fair).0.1)) h) (change_after same_book make x)
+    (closed.change same_book make x (λ b. refl) (λ z b. refl) (λ id k. k) (λ fair. (sym (next fair), (fit fair).0.0, (fit fair).0.1)) h) (change_after same_book make x)
     (λ u t j a.
     more_in P f mark (change.Populated parent) (entry_changes p parent (item + 1) (record n { place = n.place + 2 }) (map new_item_of es)) t
     (keeps_led P (λ u y. After same_book mark t y) (change mark t) (λ _ y. changes_with f (entry_changes p parent (item + 1) (record n { place = n.place + 2 }) (map new_item_of es) ++ change.Populated parent ∷ []) y)
-    (closed.change same_book mark t (λ b. refl) (λ id k. k)
-    (λ fair. subst (λ (is : List Item). Each (record { 0 = item }) (IsUnmarked n) is) (sym a.items)
-    (each_append (record { 0 = item }) (IsUnmarked n) x.volume.items (made (record { 0 = item }) parent q.name (entry_kind p q.dir) (cond q.dir 0 q.size) q.identity (pin_of x.volume.items parent) (next_number x.volume))
-    (each_new (record { 0 = item }) (IsUnmarked n) 0 x.volume.next_item.0 x.volume.items (next fair) (closed.sound x h fair).now.order)
-    (λ _. (clean_made p q.dir (next_number x.volume), sym number, targeted (item == 1) q.identity (fit fair).0.2)))) j)
+    (closed.change same_book mark t (λ b. refl) (λ z b. refl) (λ id k. k)
+    (λ fair. (
+      subst (λ (is : List Item). Each (record { 0 = item }) (IsUnmarked n) is) (sym a.items)
+          (each_append (record { 0 = item }) (IsUnmarked n) x.volume.items (made (record { 0 = item }) parent q.name (entry_kind p q.dir) (cond q.dir 0 q.size) q.identity (pin_of x.volume.items parent) (next_number x.volume))
+          (each_new (record { 0 = item }) (IsUnmarked n) 0 x.volume.next_item.0 x.volume.items (next fair) (closed.sound x h fair).now.order)
+          (λ _. (clean_made p q.dir (next_number x.volume), sym number, targeted (item == 1) q.identity (fit fair).0.2))),
+      inr (x.volume.log, next_number x.volume, parent, q.name, entry_kind p q.dir, cond q.dir 0 q.size, q.identity, a.log),
+    )) j)
     (change_after same_book mark t)
     (λ v y k b. listing_in l tokens P closed f keeps p parent es (item + 1) (record n { place = n.place + 2 }) y (λ fair. (fit fair).1)
     (λ fair. next_kept y.volume.next_item.0 t.volume.next_item.0 (item + 1) b.next (a.next ∙ next_made x.volume.next_item.0 item (next fair)) (closed.sound t j fair).now.more)
@@ -186,7 +189,7 @@ consent_at : (l : Link) (tokens : ℕ) (P : Filter → Type 0) → GuardedFilter
 consent_at l tokens P closed a None x e h =
     checked_at P (consent_tests a (dehydration a ∷ [])) (then_do (changes (dehydration a ∷ [])) (then_do (settle a.ask.item (consent_deed a true None)) done)) x h
     (λ q. keeps_bind P (changes (dehydration a ∷ []) x) (λ _ t. then_do (settle a.ask.item (consent_deed a true None)) done t)
-    (keeps_bind P (change (dehydration a) x) (λ _ t. ret unit t) (closed.change same_book (dehydration a) x (λ b. refl) (λ id k. k) (λ fair. consent_fits l tokens P closed a x h e fair) h) (λ u t j. j))
+    (keeps_bind P (change (dehydration a) x) (λ _ t. ret unit t) (closed.change same_book (dehydration a) x (λ b. refl) (λ z b. refl) (λ id k. k) (λ fair. consent_fits l tokens P closed a x h e fair) h) (λ u t j. j))
     (λ u t j. keeps_bind P (settle a.ask.item (consent_deed a true None) t) (λ _ y. done y) ((closed.settled a.ask.item (consent_deed a true None)).keeps t j) (λ v y k. k)))
 consent_at l tokens P closed a (Some c) x e h =
     checked_at P (consent_tests a []) (then_do (changes []) (then_do (settle a.ask.item (consent_deed a true (Some c))) done)) x h

@@ -6,18 +6,17 @@ use Rattle.cf_base.specs.declared.ids.Rid.{Rid}
 use Rattle.cf_base.specs.declared.ids.Version.{Version}
 use Rattle.cf_base.specs.declared.messages.Why.{Why}
 use Rattle.cf_base.specs.declared.messages.Why.TheVariants as why
-use Rattle.cf_model.specs.Arrows.{and_then, only_if, reading, seq, then_do, unit, Preserves}
-use Rattle.cf_model.specs.Books.{Action, MakeDir, MoveItem, PutFile, QueueEntry, RemoveItem, with_cursor, with_tombstone, without_entry, without_tombstone, entry_of}
+use Rattle.cf_model.specs.Arrows.{Arrow, and_then, only_if, reading, seq, then_do, unit, Preserves}
+use Rattle.cf_model.specs.Books.{Action, MakeDir, MoveItem, PutFile, QueueEntry, RemoveItem, with_cursor, with_seen, with_tombstone, without_entry, without_tombstone, entry_of}
 use Rattle.cf_model.specs.Items.{Item, item_of}
-use Rattle.cf_model.specs.Skips.{do_change, in_book, in_volatile, is_cursor, skip, to_conflict, try_book, try_mark, try_seen, with_volatile, with_book}
+use Rattle.cf_model.specs.Skips.{do_change, in_book, in_volatile, is_cursor, is_there, skip, to_conflict, try_book, try_mark, try_seen, why_no_record, with_volatile, with_book}
 use Rattle.cf_model.specs.State.{State, book_now, items_now}
 use Rattle.cf_laws.proofs.StepsGuarded as skips_keep
 use Rattle.cf_model.specs.PushReplies.{bury_new, by_why, cursor_reset_if, done_by, done_move, done_removal, done_upload, done_upload_on, drop_if, end_and_close, end_entry, end_tombstone, entry_seen, held_and_closed, is_new_entry, is_removal, item_of_entry, lost_place, move_away, name_taken, name_taken_again, name_taken_by, not_empty, not_empty_by, not_in_row, nothing_further, rebase, rebase_of, rebase_unless, reset_cursor, reset_if, see_and_mark, take, take_done, take_refused, take_void, taken_from_row, tombstone_left, was_directory, was_name_taken, was_not_empty, whatever, why_no_rebase, with_done, with_not_empty, with_taken_name}
-use Rattle.cf_laws.proofs.Guarded.{Guarded}
-use Rattle.cf_model.proofs.ArrowLaws.{keeps_and_then, keeps_noted, keeps_only_if, keeps_reading, keeps_ret, keeps_seq, keeps_then, keeps_one}
+use Rattle.cf_laws.proofs.Guarded.{Guarded, KeepsPlaced}
+use Rattle.cf_model.proofs.ArrowLaws.{keeps_noted, keeps_only_if, keeps_reading, keeps_ret, keeps_seq, keeps_then, keeps_one}
 use Rattle.std.proofs.Common.{◌≡◌, ◌⊎◌, ◌<◌, ℕ, List, [], ◌∷◌, refl, sym, ◌∙◌, ap, subst, inl, inr, arith, Bool, true, false}
 use Rattle.std.specs.List.{list_all}
-use Rattle.std.proofs.lemmas.Bool.{eqb-true}
 use Rattle.cf_base.specs.declared.ids.ItemId.{ItemId}
 use Rattle.cf_model.specs.Contents.{base_named, up_to}
 use Rattle.cf_model.specs.Identities.{base_bytes, identity_for, identity_of}
@@ -26,13 +25,17 @@ use Rattle.cf_model.specs.Soundness.{Each}
 use Rattle.cf_model.specs.Store.{RecordedDone, bytes_of, recorded_at}
 use Rattle.cf_model.specs.Trees.{Keeps}
 use Rattle.cf_model.proofs.TreeLaws.{keeps_bind}
-use Rattle.cf_laws.specs.Fitting.{Fits, NamesWell}
+use Rattle.cf_laws.specs.Fitting.{Fits, NamesWell, NoEntry, NoMove}
 use Rattle.cf_laws.specs.Invariant.{All, AreApart, EntryFits, FitsBy, InOrder, IsSound, PutFits, put_bytes}
 use Rattle.cf_laws.specs.Premises.{IsFair}
 use Rattle.cf_laws.proofs.EntryLaws.{dir_well, file_well, made_named, made_read}
+use Rattle.cf_laws.proofs.FeedEntriesGuarded.{Feeding, feeding}
+use Rattle.cf_laws.proofs.FoundItems.{found_id}
 use Rattle.cf_laws.proofs.Gathered.{all_found}
+use Rattle.cf_laws.proofs.Plainly.{keeps_led}
 use Rattle.cf_laws.proofs.RightItems.{no_way}
-use Rattle.cf_laws.proofs.SkipsGuarded.{guarded_skipping}
+use Rattle.cf_laws.proofs.SeenPaths.{led_unmarked}
+use Rattle.cf_laws.proofs.SkipsGuarded.{Led, Skipping, Whichever, and_then_keeps, do_led, framed, guarded_skipping, keeps_first, no_move, only_if_at, tried_at, try_mark_at, try_seen_at}
 use Rattle.cf_laws.proofs.SoundSettles.{each_found, same_item}
 
 pub end_entry_keeps : (P : State → Type 0) → Guarded P → (e : QueueEntry) → Preserves P (end_entry e)
@@ -47,9 +50,6 @@ take_keeps P closed e = record { keeps = λ s i_. ((end_and_close_keeps P closed
 pub whatever_keeps : (P : State → Type 0) → Guarded P → (x1 : Bool) → Preserves P (whatever x1)
 whatever_keeps P closed done = keeps_ret P unit
 
-pub see_and_mark_keeps : (P : State → Type 0) → Guarded P → (x1 : QueueEntry) → Preserves P (see_and_mark x1)
-see_and_mark_keeps P closed e = keeps_seq P (and_then (only_if (is_new_entry e) (try_seen (entry_seen e))) (try_mark e.item e.number)) whatever (keeps_and_then P (only_if (is_new_entry e) (try_seen (entry_seen e))) (try_mark e.item e.number) (keeps_only_if P (is_new_entry e) (try_seen (entry_seen e)) (skips_keep.try_seen_keeps P closed (entry_seen e))) (skips_keep.try_mark_keeps P closed e.item e.number)) (whatever_keeps P closed)
-
 -- What a Done tells: its entry is live, and the remote has recorded the version.
 abbrev pub DoneIn : State → QueueEntry → Rid → Version → Type 0
 DoneIn s e rid version = (entry_of (book_now s) e.token ≡ Some e) × (recorded_at s.link.remote.tokens e.token ≡ Some (RecordedDone rid version))
@@ -60,13 +60,6 @@ each_at id P (j ∷ js) i e h = by (j.id.0 == id.0) refl e (each_at id P js i) w
   by : (b : Bool) → (j.id.0 == id.0) ≡ b → cond b (Some j) (item_of js id) ≡ Some i → (item_of js id ≡ Some i → Each id P js → P i) → P i
   by true q e g = let z : j ≡ i = cc in subst P z (h.0 q)
   by false q e g = g e h.1
-
-pub found_id : (id : ItemId) (items : List Item) (i : Item) → item_of items id ≡ Some i → i.id.0 ≡ id.0
-found_id id [] i e = cc
-found_id id (j ∷ js) i e = by (j.id.0 == id.0) refl e (found_id id js i) where
-  by : (b : Bool) → (j.id.0 == id.0) ≡ b → cond b (Some j) (item_of js id) ≡ Some i → (item_of js id ≡ Some i → i.id.0 ≡ id.0) → i.id.0 ≡ id.0
-  by true q e g = let z : j ≡ i = cc in subst (λ (x : Item). x.id.0 ≡ id.0) z (eqb-true j.id.0 id.0 q)
-  by false q e g = g e
 
 pub found_positive : (id : ItemId) (low next : ℕ) (items : List Item) (i : Item) → InOrder low next items → item_of items id ≡ Some i → low < i.id.0
 found_positive id low next [] i h e = cc
@@ -95,6 +88,41 @@ apart_rest p id (q ∷ es) e is some f h = by (p q) f (apart_rest p id es e is s
       → All (λ g. g.item.0 ≡ id → ⊥) (cond (not b) (q ∷ filter (λ g. not (p g)) es) (filter (λ g. not (p g)) es))
   by true f g = let z : q ≡ e = cc in others es h.0 (ap (λ (x : QueueEntry). x.item.0) z ∙ is)
   by false f g = (member es f h.0, g f h.1)
+
+-- once an upload is taken, its item may be marked
+
+abbrev Marking : (State → Type 0) → State → State → Type 0
+Marking P s t = P t × Feeding s.link s.filter (book_now s).entries t
+
+marking : (P : State → Type 0) → Guarded P → (s : State) → Skipping Whichever (Marking P s)
+marking P closed s = framed Whichever P (Feeding s.link s.filter (book_now s).entries) (guarded_skipping P closed) (feeding s.link s.filter (book_now s).entries)
+
+mark_after : (P : State → Type 0) → Guarded P → (e : QueueEntry) (f : Arrow State Bool) (s : State) → (IsFair s.link → (e.item.0 ≡ 0 → ⊥) → NoEntry (book_now s).entries e.item) → (Marking P s s → Keeps (Marking P s) (f s)) → P s
+    → Keeps P (seq (and_then f (try_mark e.item e.number)) whatever s)
+mark_after P closed e f s alone k h =
+    keeps_first P (Feeding s.link s.filter (book_now s).entries) (seq (and_then f (try_mark e.item e.number)) whatever s)
+    (keeps_bind (Marking P s) (and_then f (try_mark e.item e.number) s) whatever
+    (and_then_keeps (Marking P s) f (try_mark e.item e.number) s (k (h, record { link = refl; waiting = refl; handles = refl; entries = refl }))
+    (λ t j. try_mark_at Whichever (Marking P s) (marking P closed s) e.item e.number t tt (λ fair i found. unmoved t j fair i found) j))
+    (λ b t j. j)) where
+      zero_not : (n m : ℕ) → 0 < n → n ≡ m → m ≡ 0 → ⊥
+      zero_not n m a b c = omega (arith, a, b, c)
+
+      unmoved : (t : State) → Marking P s t → IsFair t.link → (i : Item) → item_of (items_now t) e.item ≡ Some i → NoMove (book_now t).entries e.item
+      unmoved t j fair i found =
+          subst (λ (es : List QueueEntry). NoMove es e.item) (sym j.1.entries)
+          (no_move (book_now s).entries e.item (alone (subst IsFair j.1.link fair)
+          (λ z. zero_not i.id.0 e.item.0 (found_positive e.item 0 t.filter.volume.next_item.0 (items_now t) i ((closed.on_filter t j.0).sound t.filter j.0 fair).now.order found) (found_id e.item (items_now t) i found) z)))
+
+-- a new item's path comes to be seen after another change than a Mark
+see_and_mark_at : (P : State → Type 0) → Guarded P → (e : QueueEntry) (s : State) → (IsFair s.link → (e.item.0 ≡ 0 → ⊥) → NoEntry (book_now s).entries e.item) → KeepsPlaced (with_seen (entry_seen e)) s → P s → Keeps P (see_and_mark e s)
+see_and_mark_at P closed e s alone placed h =
+    mark_after P closed e (only_if (is_new_entry e) (try_seen (entry_seen e))) s alone
+    (λ q. only_if_at (Marking P s) (is_new_entry e) (try_seen (entry_seen e)) s q (λ _. try_seen_at Whichever (Marking P s) (marking P closed s) (entry_seen e) s (λ fair. placed) q)) h
+
+-- once its entry is gone, none is about its item
+alone_after : (s : State) (e : QueueEntry) → entry_of (book_now s) e.token ≡ Some e → IsSound s.link s.volatile.tokens s.filter → (e.item.0 ≡ 0 → ⊥) → NoEntry (without_entry e.token (book_now s)).entries e.item
+alone_after s e live sound some = apart_rest (λ f. same_key f.token.0 e.token.0) e.item.0 (book_now s).entries e refl some live sound.now.apart
 
 -- the identity that a Done gives names well
 put_well : (s : State) (e : QueueEntry) (rid : Rid) (version : Version) (i : Item) → IsFair s.link → bytes_of s.link.remote rid version ≡ Some (put_bytes (base_bytes s.link.remote i) e.number i.writes) → i.directory ≡ false → i.placeholder ≡ true
@@ -147,13 +175,17 @@ rebase_at P closed e rid version i s fits h = by (why_no_rebase e (rebase_of e r
       let one : P (with_done s) = closed.keeps_with_done s h in
       let two : P (with_volatile (taken_from_row e) (with_book (without_entry e.token) (with_done s))) = closed.keeps_volatile_taken_from_row e (with_book (without_entry e.token) (with_done s)) (closed.leaves e.token (with_done s) one) in (
         one,
-        keeps_bind P (do_change (rebase_of e rid version i) (with_volatile (taken_from_row e) (with_book (without_entry e.token) (with_done s)))) (λ _ t. see_and_mark e t)
+        keeps_led P (λ u t. Led (rebase_of e rid version i) (with_volatile (taken_from_row e) (with_book (without_entry e.token) (with_done s))) t) (do_change (rebase_of e rid version i) (with_volatile (taken_from_row e) (with_book (without_entry e.token) (with_done s)))) (λ _ t. see_and_mark e t)
             ((guarded_skipping P closed).change (rebase_of e rid version i) (with_volatile (taken_from_row e) (with_book (without_entry e.token) (with_done s))) tt (λ id k. k) fit two)
-            (λ u t j. (see_and_mark_keeps P closed e).keeps t j),
+            (do_led (rebase_of e rid version i) (with_volatile (taken_from_row e) (with_book (without_entry e.token) (with_done s))))
+            (λ u t j led. see_and_mark_at P closed e t
+            (λ fair some. let fair_s : IsFair s.link = subst IsFair led.link fair in
+            subst (λ (es : List QueueEntry). NoEntry es e.item) (sym (led.after.entries (λ b. refl))) (alone_after s e (fits fair_s).1.0 ((closed.on_filter s h).sound s.filter h fair_s) some))
+            (λ front item m. absurd (led_unmarked (rebase_of e rid version i) (with_volatile (taken_from_row e) (with_book (without_entry e.token) (with_done s))) t (λ z. z) led front item m)) j),
       )
 
 pub bury_new_keeps : (P : State → Type 0) → Guarded P → (x1 : QueueEntry) → (x2 : Rid) → (x3 : Version) → Preserves P (bury_new x1 x2 x3)
-bury_new_keeps P closed e rid version = keeps_then P (take e) (seq (only_if (is_new_entry e) (try_book (with_tombstone (tombstone_left e rid version)))) whatever) (take_keeps P closed e) (keeps_seq P (only_if (is_new_entry e) (try_book (with_tombstone (tombstone_left e rid version)))) whatever (keeps_only_if P (is_new_entry e) (try_book (with_tombstone (tombstone_left e rid version))) (skips_keep.try_book_keeps P closed (with_tombstone (tombstone_left e rid version)) (λ b. refl))) (whatever_keeps P closed))
+bury_new_keeps P closed e rid version = keeps_then P (take e) (seq (only_if (is_new_entry e) (try_book (with_tombstone (tombstone_left e rid version)))) whatever) (take_keeps P closed e) (keeps_seq P (only_if (is_new_entry e) (try_book (with_tombstone (tombstone_left e rid version)))) whatever (keeps_only_if P (is_new_entry e) (try_book (with_tombstone (tombstone_left e rid version))) (skips_keep.try_book_keeps P closed (with_tombstone (tombstone_left e rid version)) (λ b. refl) (λ s front item m k. k))) (whatever_keeps P closed))
 
 upload_done_at : (P : State → Type 0) → Guarded P → (e : QueueEntry) (rid : Rid) (version : Version) (s : State) → (e.action ≡ PutFile) ⊎ (e.action ≡ MakeDir) → (IsFair s.link → DoneIn s e rid version) → P s → Keeps P (done_upload e rid version s)
 upload_done_at P closed e rid version s is done h = by (item_of (items_now s) e.item) refl where
@@ -164,12 +196,27 @@ upload_done_at P closed e rid version s is done h = by (item_of (items_now s) e.
       (λ fair. let sound : IsSound s.link s.volatile.tokens s.filter = (closed.on_filter s h).sound s.filter h fair in
       (done_one e.action s e rid version i is fair sound (done fair) f (all_found (EntryFits s.link.remote s.link.messages (items_now s)) (λ q. same_key q.token.0 e.token.0) (book_now s).entries e (done fair).0 sound.now.fit).0, done fair, f)) h
 
-pub done_move_keeps : (P : State → Type 0) → Guarded P → (x1 : QueueEntry) → Preserves P (done_move x1)
-done_move_keeps P closed e = keeps_then P (take e) (seq (and_then (try_seen (entry_seen e)) (try_mark e.item e.number)) whatever) (take_keeps P closed e) (keeps_seq P (and_then (try_seen (entry_seen e)) (try_mark e.item e.number)) whatever (keeps_and_then P (try_seen (entry_seen e)) (try_mark e.item e.number) (skips_keep.try_seen_keeps P closed (entry_seen e)) (skips_keep.try_mark_keeps P closed e.item e.number)) (whatever_keeps P closed))
+-- the path of a Move that was done comes to be seen
+done_move_at : (P : State → Type 0) → Guarded P → (e : QueueEntry) (s : State) → e.action ≡ MoveItem → (IsFair s.link → entry_of (book_now s) e.token ≡ Some e) → P s → Keeps P (done_move e s)
+done_move_at P closed e s is live h = (one, mark_after P closed e (try_seen (entry_seen e)) taken (λ fair some. alone_after s e (live fair) ((closed.on_filter s h).sound s.filter h fair) some) (λ q. sees (is_there e.item taken) q) two) where
+  taken : State
+  taken = with_volatile (taken_from_row e) (with_book (without_entry e.token) (with_done s))
+
+  one : P (with_done s)
+  one = closed.keeps_with_done s h
+
+  two : P taken
+  two = closed.keeps_volatile_taken_from_row e (with_book (without_entry e.token) (with_done s)) (closed.leaves e.token (with_done s) one)
+
+  sees : (b : Bool) → Marking P taken taken → Keeps (Marking P taken) (only_if b (try_book (with_seen (entry_seen e))) taken)
+  sees b q =
+      only_if_at (Marking P taken) b (try_book (with_seen (entry_seen e))) taken q
+      (λ _. tried_at Whichever (Marking P taken) (marking P closed taken) (why_no_record (with_seen (entry_seen e))) (in_book (with_seen (entry_seen e))) taken q
+      (q, (closed.moved e (with_done s) is live one, record { link = refl; waiting = refl; handles = refl; entries = refl })))
 
 pub cursor_reset_if_keeps : (P : State → Type 0) → Guarded P → (x1 : Bool) → Preserves P (cursor_reset_if x1)
 cursor_reset_if_keeps P closed true = keeps_ret P unit
-cursor_reset_if_keeps P closed false = skips_keep.in_book_keeps P closed (with_cursor 0) (λ b. refl)
+cursor_reset_if_keeps P closed false = skips_keep.in_book_keeps P closed (with_cursor 0) (λ b. refl) (λ s front item m k. k)
 
 pub reset_cursor_keeps : (P : State → Type 0) → Guarded P → Preserves P (reset_cursor)
 reset_cursor_keeps P closed = keeps_reading P (is_cursor 0) cursor_reset_if (cursor_reset_if_keeps P closed)
@@ -179,7 +226,7 @@ reset_if_keeps P closed true = reset_cursor_keeps P closed
 reset_if_keeps P closed false = keeps_ret P unit
 
 pub end_tombstone_keeps : (P : State → Type 0) → Guarded P → (x1 : QueueEntry) → (x2 : Bool) → Preserves P (end_tombstone x1 x2)
-end_tombstone_keeps P closed e directory = keeps_then P (in_book (without_tombstone e.number)) (reset_if directory) (skips_keep.in_book_keeps P closed (without_tombstone e.number) (λ b. refl)) (reset_if_keeps P closed directory)
+end_tombstone_keeps P closed e directory = keeps_then P (in_book (without_tombstone e.number)) (reset_if directory) (skips_keep.in_book_keeps P closed (without_tombstone e.number) (λ b. refl) (λ s front item m k. k)) (reset_if_keeps P closed directory)
 
 pub done_removal_keeps : (P : State → Type 0) → Guarded P → (x1 : QueueEntry) → Preserves P (done_removal x1)
 done_removal_keeps P closed e = keeps_then P (take e) (reading (was_directory e) (end_tombstone e)) (take_keeps P closed e) (keeps_reading P (was_directory e) (end_tombstone e) (end_tombstone_keeps P closed e))
@@ -188,7 +235,7 @@ pub take_void_keeps : (P : State → Type 0) → Guarded P → (x1 : QueueEntry)
 take_void_keeps P closed e = end_and_close_keeps P closed e
 
 pub drop_if_keeps : (P : State → Type 0) → Guarded P → (x1 : Bool) → (x2 : QueueEntry) → Preserves P (drop_if x1 x2)
-drop_if_keeps P closed true e = skips_keep.in_book_keeps P closed (without_tombstone e.number) (λ b. refl)
+drop_if_keeps P closed true e = skips_keep.in_book_keeps P closed (without_tombstone e.number) (λ b. refl) (λ s front item m k. k)
 drop_if_keeps P closed false e = keeps_ret P unit
 
 pub lost_place_keeps : (P : State → Type 0) → Guarded P → (x1 : QueueEntry) → Preserves P (lost_place x1)
@@ -239,5 +286,5 @@ take_done_at P closed e rid version s done h = by e.action refl where
   by : (a : Action) → e.action ≡ a → Keeps P (done_by a e rid version s)
   by PutFile q = upload_done_at P closed e rid version s (inl q) done h
   by MakeDir q = upload_done_at P closed e rid version s (inr q) done h
-  by MoveItem q = (done_move_keeps P closed e).keeps s h
+  by MoveItem q = done_move_at P closed e s q (λ fair. (done fair).0) h
   by RemoveItem q = (done_removal_keeps P closed e).keeps s h

@@ -16,11 +16,10 @@ use Rattle.cf_model.specs.Skips.{try_change, try_mark_now}
 use Rattle.cf_model.specs.State.{State, book_now, items_now, with_filter}
 use Rattle.cf_model.specs.Waits.{hydrate_file}
 use Rattle.cf_laws.proofs.CallbacksGuarded as callbacks_keep
-use Rattle.cf_laws.proofs.PushRepliesGuarded as push_replies_keep
 use Rattle.cf_laws.proofs.StepsGuarded as skips_keep
 use Rattle.cf_laws.proofs.WaitsGuarded as waits_keep
 use Rattle.cf_model.specs.Pushes.{after_hydrate, bury_unless, hydrate_first, hydrate_if, hydrate_unless, is_hydrating, is_left_out, is_tombstone_left_out, item_now, mark_item, push, push_all, push_by_case, push_here, push_item, push_lists, push_removal, push_tombstone, push_turn, push_unless, put_file, put_if, put_whole, removal_entry, request_of, upload, upload_if, upload_new, upload_now, has_entry, placed, without_place, without_rid}
-use Rattle.cf_laws.proofs.Guarded.{Guarded, Entering}
+use Rattle.cf_laws.proofs.Guarded.{Guarded, Entering, IsMovedOff}
 use Rattle.cf_model.proofs.ArrowLaws.{keeps_each, keeps_reading, keeps_ret, keeps_seq, keeps_then}
 use Rattle.std.proofs.Common.{◌≡◌, ◌<◌, ◌≤◌, ℕ, Bool, true, false, List, [], ◌∷◌, refl, sym, ◌∙◌, ap, subst, arith, take}
 use Rattle.std.specs.List.{list_all, list_any}
@@ -37,6 +36,7 @@ use Rattle.cf_model.specs.Store.{Held}
 use Rattle.cf_model.specs.Trees.{Keeps, bind}
 use Rattle.cf_model.specs.Words.{number_of}
 use Rattle.cf_model.proofs.Laying.{laid-full}
+use Rattle.cf_model.proofs.TreeLaws.{keeps_bind}
 use Rattle.cf_laws.specs.Fitting.{Fits, NoEntry}
 use Rattle.cf_laws.specs.Invariant.{AllUpTo, HasNone, IsRight, IsSound, SameBase, put_bytes}
 use Rattle.cf_laws.specs.Premises.{IsFair}
@@ -46,10 +46,11 @@ use Rattle.cf_laws.proofs.FramesGuarded.{FrameIn, guarded_framed}
 use Rattle.cf_laws.proofs.Gathered.{all_any, all_found, all_weaker}
 use Rattle.cf_laws.proofs.Leading.{kept_leads, leads_bind, leads_kept}
 use Rattle.cf_laws.proofs.Plainly.{keeps_led}
-use Rattle.cf_laws.proofs.PushRepliesGuarded.{each_at, found_id}
+use Rattle.cf_laws.proofs.PushRepliesGuarded.{each_at}
+use Rattle.cf_laws.proofs.FoundItems.{found_id}
 use Rattle.cf_laws.proofs.RightItems.{both_none, no_way, no_way_back}
-use Rattle.cf_laws.proofs.SkipsGuarded.{Led, Whichever, guarded_skipping, try_change_at, try_led}
-use Rattle.cf_laws.proofs.SoundSettles.{each_found, found_below, neither, same_item}
+use Rattle.cf_laws.proofs.SkipsGuarded.{Led, Whichever, guarded_skipping, no_move, try_change_at, try_led, try_mark_now_at}
+use Rattle.cf_laws.proofs.SoundSettles.{each_found, found_below, neither, not_true, same_item}
 use Rattle.cf_laws.proofs.UploadsGuarded.{IsNewEntry, NewBy, push_at}
 
 abbrev Files : Bool → Bool → Type 0
@@ -120,12 +121,13 @@ put_facts s i sound there file placed here = (
 )
 
 new_entry : (s : State) (i : Item) (e : QueueEntry) (bytes : List ℕ) → e.item ≡ i.id → e.number ≡ i.number → item_of (items_now s) i.id ≡ Some i → IsSound s.link s.volatile.tokens s.filter → NoEntry (book_now s).entries i.id
-    → NewBy e.action s.link.remote (items_now s) e bytes → IsNewEntry s e bytes
-new_entry s i e bytes item number there sound alone facts = record {
+    → NewBy e.action s.link.remote (items_now s) e bytes → IsMovedOff s e → IsNewEntry s e bytes
+new_entry s i e bytes item number there sound alone facts off = record {
   early = λ z. subst (λ (n : Usn). above (next_number s.filter.volume) n ≡ true) (sym number) (right_of s i sound there).early;
   item = subst (λ (x : ItemId). x.0 < s.filter.volume.next_item.0) (sym item) (found_below i.id 0 s.filter.volume.next_item.0 (items_now s) i sound.now.order there);
   apart = all_weaker (λ f. f.item.0 ≡ i.id.0 → ⊥) (λ f. f.item.0 ≡ e.item.0 → f.item.0 ≡ 0) (λ f g q. absurd (g (q ∙ ap (λ (x : ItemId). x.0) item))) (book_now s).entries alone;
   facts = facts;
+  off = off;
 }
 
 push_put_at : (P : State → Type 0) → Guarded P → Entering P → (i : Item) (s : State) → item_of (items_now s) i.id ≡ Some i → (IsFair s.link → NoEntry (book_now s).entries i.id) → (IsFair s.link → (i.directory ≡ false) × (i.placeholder ≡ true)) → list_all is_some i.held ≡ true → P s
@@ -137,17 +139,17 @@ push_put_at P closed entering i s there alone kind here h = by (is_untargeted i)
       each_found i.id (PutFacts s.link.remote i) 0 s.filter.volume.next_item.0 (items_now s) i sound.now.order there (put_facts s i sound there (kind fair).0 (kind fair).1 here)
 
   by : (b : Bool) → Keeps P (push (cond b (placed PutFile i s) (without_place (placed PutFile i s))) (request_of (cond b (placed PutFile i s) (without_place (placed PutFile i s))) (base_version i) (bytes_held i.held)) s)
-  by true = push_at P closed entering (placed PutFile i s) (base_version i) (bytes_held i.held) s refl (λ fair. new_entry s i (placed PutFile i s) (bytes_held i.held) refl refl there (sound_of P closed s h fair) (alone fair) (facts fair)) h
-  by false = push_at P closed entering (without_place (placed PutFile i s)) (base_version i) (bytes_held i.held) s refl (λ fair. new_entry s i (without_place (placed PutFile i s)) (bytes_held i.held) refl refl there (sound_of P closed s h fair) (alone fair) (facts fair)) h
+  by true = push_at P closed entering (placed PutFile i s) (base_version i) (bytes_held i.held) s refl (λ fair. new_entry s i (placed PutFile i s) (bytes_held i.held) refl refl there (sound_of P closed s h fair) (alone fair) (facts fair) (λ z. cc)) h
+  by false = push_at P closed entering (without_place (placed PutFile i s)) (base_version i) (bytes_held i.held) s refl (λ fair. new_entry s i (without_place (placed PutFile i s)) (bytes_held i.held) refl refl there (sound_of P closed s h fair) (alone fair) (facts fair) (λ z. cc)) h
 
 push_dir_at : (P : State → Type 0) → Guarded P → Entering P → (i : Item) (s : State) → item_of (items_now s) i.id ≡ Some i → (IsFair s.link → NoEntry (book_now s).entries i.id) → i.directory ≡ true → P s → Keeps P (push_item MakeDir i s)
 push_dir_at P closed entering i s there alone dir h =
     push_at P closed entering (without_rid (placed MakeDir i s)) (base_version i) (bytes_held i.held) s refl
-    (λ fair. new_entry s i (without_rid (placed MakeDir i s)) (bytes_held i.held) refl refl there (sound_of P closed s h fair) (alone fair) (each_found i.id (λ j. j.directory ≡ true) 0 s.filter.volume.next_item.0 (items_now s) i (sound_of P closed s h fair).now.order there dir)) h
+    (λ fair. new_entry s i (without_rid (placed MakeDir i s)) (bytes_held i.held) refl refl there (sound_of P closed s h fair) (alone fair) (each_found i.id (λ j. j.directory ≡ true) 0 s.filter.volume.next_item.0 (items_now s) i (sound_of P closed s h fair).now.order there dir) (λ z. cc)) h
 
-push_move_at : (P : State → Type 0) → Guarded P → Entering P → (i : Item) (s : State) → item_of (items_now s) i.id ≡ Some i → (IsFair s.link → NoEntry (book_now s).entries i.id) → P s → Keeps P (push_item MoveItem i s)
-push_move_at P closed entering i s there alone h =
-    push_at P closed entering (placed MoveItem i s) (base_version i) (bytes_held i.held) s refl (λ fair. new_entry s i (placed MoveItem i s) (bytes_held i.held) refl refl there (sound_of P closed s h fair) (alone fair) tt) h
+push_move_at : (P : State → Type 0) → Guarded P → Entering P → (i : Item) (s : State) → item_of (items_now s) i.id ≡ Some i → (IsFair s.link → NoEntry (book_now s).entries i.id) → stands_at_seen (items_now s) (book_now s) i ≡ false → P s → Keeps P (push_item MoveItem i s)
+push_move_at P closed entering i s there alone away h =
+    push_at P closed entering (placed MoveItem i s) (base_version i) (bytes_held i.held) s refl (λ fair. new_entry s i (placed MoveItem i s) (bytes_held i.held) refl refl there (sound_of P closed s h fair) (alone fair) tt (λ z. (i, there, away))) h
 
 pub after_hydrate_keeps : (P : State → Type 0) → Guarded P → (x1 : Shown) → Preserves P (after_hydrate x1)
 after_hydrate_keeps P closed (shown.Refused code.TooManyWaits) = skips_keep.skip_keeps P closed code.TooManyWaits
@@ -238,22 +240,22 @@ upload_new_at P closed entering i s there alone h = by i.placeholder refl where
       keeps_led P (λ done t. done ≡ true → Led (change.Convert i.id no_identity) s t) (try_change (change.Convert i.id no_identity) s) (λ done t. upload_if i.id done t)
       (try_change_at Whichever P (guarded_skipping P closed) (change.Convert i.id no_identity) s tt (λ id k. k) (fits e) h) (try_led (change.Convert i.id no_identity) s) then_upload
 
-pub mark_item_keeps : (P : State → Type 0) → Guarded P → (x1 : ItemId) → Preserves P (mark_item x1)
-mark_item_keeps P closed item = keeps_seq P (try_mark_now item) whatever (skips_keep.try_mark_now_keeps P closed item) (push_replies_keep.whatever_keeps P closed)
+mark_item_at : (P : State → Type 0) → Guarded P → (item : ItemId) (s : State) → (IsFair s.link → NoEntry (book_now s).entries item) → P s → Keeps P (mark_item item s)
+mark_item_at P closed item s alone h = keeps_bind P (try_mark_now item s) whatever (try_mark_now_at Whichever P (guarded_skipping P closed) item s (λ n. tt) (λ fair i e. no_move (book_now s).entries item (alone fair)) h) (λ b t j. j)
 
 push_by_case_at : (P : State → Type 0) → Guarded P → Entering P → (i : Item) (s : State) → item_of (items_now s) i.id ≡ Some i → (IsFair s.link → NoEntry (book_now s).entries i.id) → P s → Keeps P (push_by_case i s)
 push_by_case_at P closed entering i s there alone h = by (is_untargeted i) refl where
   three : (b : Bool) → is_untargeted i ≡ false → Keeps P (choose b (upload i) (mark_item i.id) s)
   three true e = upload_at P closed entering i s there alone (λ fair d. targeted s.link.remote (next_number s.filter.volume) i (right_of s i (sound_of P closed s h fair) there) e d) h
-  three false e = (mark_item_keeps P closed i.id).keeps s h
+  three false e = mark_item_at P closed i.id s alone h
 
-  two : (b : Bool) → is_untargeted i ≡ false → Keeps P (choose b (push_item MoveItem i) (choose (is_dirty i) (upload i) (mark_item i.id)) s)
-  two true e = push_move_at P closed entering i s there alone h
-  two false e = three (is_dirty i) e
+  two : (b : Bool) → not (stands_at_seen (items_now s) (book_now s) i) ≡ b → is_untargeted i ≡ false → Keeps P (choose b (push_item MoveItem i) (choose (is_dirty i) (upload i) (mark_item i.id)) s)
+  two true q e = push_move_at P closed entering i s there alone (not_true (stands_at_seen (items_now s) (book_now s) i) q) h
+  two false q e = three (is_dirty i) e
 
   by : (b : Bool) → is_untargeted i ≡ b → Keeps P (choose b (upload_new i) (choose (not (stands_at_seen (items_now s) (book_now s) i)) (push_item MoveItem i) (choose (is_dirty i) (upload i) (mark_item i.id))) s)
   by true e = upload_new_at P closed entering i s there alone h
-  by false e = two (not (stands_at_seen (items_now s) (book_now s) i)) e
+  by false e = two (not (stands_at_seen (items_now s) (book_now s) i)) refl e
 
 push_turn_keeps : (P : State → Type 0) → Guarded P → Entering P → (item : ItemId) → Preserves P (push_turn item)
 push_turn_keeps P closed entering item = record { keeps = λ s h. by (item_of (items_now s) item) s refl h } where
@@ -270,7 +272,7 @@ push_turn_keeps P closed entering item = record { keeps = λ s h. by (item_of (i
 push_removal_keeps : (P : State → Type 0) → Guarded P → Entering P → (t : Tombstone) → Preserves P (push_removal t)
 push_removal_keeps P closed entering t = record {
   keeps = λ s h. push_at P closed entering (removal_entry s t) t.version [] s refl
-      (λ fair. record { early = λ e. no_way e; item = low s.filter.volume.next_item.0 (sound_of P closed s h fair).now.more; apart = all_any (λ f. f.item.0 ≡ 0 → f.item.0 ≡ 0) (λ f e. e) (book_now s).entries; facts = tt }) h;
+      (λ fair. record { early = λ e. no_way e; item = low s.filter.volume.next_item.0 (sound_of P closed s h fair).now.more; apart = all_any (λ f. f.item.0 ≡ 0 → f.item.0 ≡ 0) (λ f e. e) (book_now s).entries; facts = tt; off = λ z. cc }) h;
 }
   where
     low : (n : ℕ) → 2 ≤ n → 0 < n

@@ -9,7 +9,7 @@ use Rattle.cf_base.specs.declared.ids.Usn.{Usn}
 use Rattle.cf_base.specs.declared.items.SeenPath.{SeenPath}
 use Rattle.std.proofs.lemmas.Bool.{eqb-true}
 use Rattle.cf_model.specs.Arrows.{Arrow, Preserves, and_then, only_if, unless_done, when_ok}
-use Rattle.cf_model.specs.Books.{Book, with_cursor, with_seen}
+use Rattle.cf_model.specs.Books.{Book, MoveItem, QueueEntry, with_cursor, with_seen}
 use Rattle.cf_model.specs.Changes.{change as put, next_number, same_book}
 use Rattle.cf_model.specs.ConflictNames.{conflict_name}
 use Rattle.cf_model.specs.Effects.{effect}
@@ -18,18 +18,18 @@ use Rattle.cf_model.specs.Items.{Item, is_dirty, item_of}
 use Rattle.cf_model.specs.Logs.{next_by}
 use Rattle.cf_model.specs.Numbers.{same_usn}
 use Rattle.cf_model.specs.Overlay.{Written}
-use Rattle.cf_model.specs.Skips.{cursor_unless, do_change, in_book, is_cursor, is_markable, is_there, left_out, may_mark, move_off, not_done, number_of_item, occupant, seen_if, skip, skip_line, skipped, to_conflict, tried, try_book, try_change, try_clear_name, try_cursor, try_mark, try_mark_now, try_seen, why_no_change, why_no_record, with_book}
-use Rattle.cf_model.specs.Soundness.{Each}
+use Rattle.cf_model.specs.Skips.{cursor_unless, do_change, in_book, is_cursor, is_markable, is_there, left_out, may_mark, move_off, not_done, number_of_item, occupant, skip, skip_line, skipped, to_conflict, tried, try_book, try_change, try_clear_name, try_cursor, try_mark, try_mark_now, try_seen, why_no_change, why_no_record, with_book}
 use Rattle.cf_model.specs.State.{State, Volume, book_now, items_now, with_filter}
 use Rattle.cf_model.specs.Points.{with_room_point}
 use Rattle.cf_model.specs.Trees.{Asked, Fork, Keeps, Ret, Step, Tree, bind}
 use Rattle.cf_model.specs.Words.{is_empty, says}
-use Rattle.cf_model.proofs.ArrowLaws.{keeps_noted, keeps_one, keeps_only_if, keeps_reading, keeps_ret, keeps_seq}
+use Rattle.cf_model.proofs.ArrowLaws.{keeps_noted, keeps_only_if, keeps_reading, keeps_ret, keeps_seq}
 use Rattle.cf_model.proofs.TreeLaws.{keeps_bind, keeps_mapped}
-use Rattle.cf_laws.specs.Fitting.{Fits, Touches}
+use Rattle.cf_laws.specs.Fitting.{Fits, NoEntry, NoMove, Touches}
 use Rattle.cf_laws.specs.Invariant.{IsSound}
 use Rattle.cf_laws.specs.Premises.{IsFair}
-use Rattle.cf_laws.proofs.Guarded.{Guarded}
+use Rattle.cf_laws.proofs.Gathered.{all_weaker}
+use Rattle.cf_laws.proofs.Guarded.{Guarded, KeepsPlaced}
 use Rattle.cf_laws.proofs.Leading.{Leads, kept_leads, leads_bind, leads_mapped}
 use Rattle.cf_laws.proofs.Plainly.{After, change_after, keeps_led}
 use Rattle.cf_laws.proofs.RightItems.{no_way}
@@ -41,7 +41,7 @@ use Rattle.cf_laws.proofs.SoundSettles.{each_found, left_true, not_true, right_t
 pub record Skipping (Ok : Change → Type 0) (P : State → Type 0) : Type 0 where
   pub sound : (s : State) → P s → IsFair s.link → IsSound s.link s.volatile.tokens s.filter
   pub change : (c : Change) (s : State) → Ok c → ((id : ItemId) → Touches c id → ⊥) → (IsFair s.link → Fits s.link.remote s.filter c) → P s → Keeps P (do_change c s)
-  pub books : (f : Book → Book) (s : State) → KeepsEntries f → P s → P (with_book f s)
+  pub books : (f : Book → Book) (s : State) → KeepsEntries f → (IsFair s.link → KeepsPlaced f s) → P s → P (with_book f s)
   pub skips : (c : Code) (s : State) → P s → P (skipped c s)
 
 abbrev pub Whichever : Change → Type 0
@@ -50,8 +50,8 @@ Whichever c = Unit {0}
 pub guarded_skipping : (P : State → Type 0) → Guarded P → Skipping Whichever P
 guarded_skipping P closed = record {
   sound = λ s h. (closed.on_filter s h).sound s.filter h;
-  change = λ c s ok free fit h. keeps_mapped (λ x. P (with_filter x s)) P (λ x. with_filter x s) (put c s.filter) (λ x j. j) ((closed.on_filter s h).change same_book c s.filter (λ b. refl) free fit h);
-  books = λ f s keeps h. closed.books f s keeps h;
+  change = λ c s ok free fit h. keeps_mapped (λ x. P (with_filter x s)) P (λ x. with_filter x s) (put c s.filter) (λ x j. j) ((closed.on_filter s h).change same_book c s.filter (λ b. refl) (λ z b. refl) free fit h);
+  books = λ f s keeps placed h. closed.books f s keeps placed h;
   skips = λ c s h. closed.keeps_skipped c s h;
 }
 
@@ -77,7 +77,7 @@ pub framed : (Ok : Change → Type 0) (P F : State → Type 0) → Skipping Ok P
 framed Ok P F closed frame = record {
   sound = λ s h fair. closed.sound s h.0 fair;
   change = λ c s ok free fit h. keeps_both P F (do_change c s) (closed.change c s ok free fit h.0) (frame.change c s ok fit h.1);
-  books = λ f s keeps h. (closed.books f s keeps h.0, frame.books f s keeps h.1);
+  books = λ f s keeps placed h. (closed.books f s keeps placed h.0, frame.books f s keeps h.1);
   skips = λ c s h. (closed.skips c s h.0, frame.skips c s h.1);
 }
 
@@ -128,18 +128,21 @@ tried_at Ok P closed why f s h k = by (why s) where
 pub try_change_at : (Ok : Change → Type 0) (P : State → Type 0) → Skipping Ok P → (c : Change) (s : State) → Ok c → ((id : ItemId) → Touches c id → ⊥) → (IsFair s.link → Fits s.link.remote s.filter c) → P s → Keeps P (try_change c s)
 try_change_at Ok P closed c s ok free fit h = tried_at Ok P closed (why_no_change c) (do_change c) s h (closed.change c s ok free fit h)
 
-pub try_book_keeps : (Ok : Change → Type 0) (P : State → Type 0) → Skipping Ok P → (f : Book → Book) → KeepsEntries f → Preserves P (try_book f)
-try_book_keeps Ok P closed f keeps = record { keeps = λ s h. tried_at Ok P closed (why_no_record f) (in_book f) s h ((keeps_one P (with_book f) (λ t j. closed.books f t keeps j)).keeps s h) }
+try_book_at : (Ok : Change → Type 0) (P : State → Type 0) → Skipping Ok P → (f : Book → Book) (s : State) → KeepsEntries f → (IsFair s.link → KeepsPlaced f s) → P s → Keeps P (try_book f s)
+try_book_at Ok P closed f s keeps placed h = tried_at Ok P closed (why_no_record f) (in_book f) s h (h, closed.books f s keeps placed h)
+
+pub try_book_keeps : (Ok : Change → Type 0) (P : State → Type 0) → Skipping Ok P → (f : Book → Book) → KeepsEntries f → ((s : State) → KeepsPlaced f s) → Preserves P (try_book f)
+try_book_keeps Ok P closed f keeps placed = record { keeps = λ s h. try_book_at Ok P closed f s keeps (λ fair. placed s) h }
 
 -- what a change that was done leaves
 pub record Led (c : Change) (s t : State) : Type 0 where
   pub after : After same_book c s.filter t.filter
   pub link : t.link ≡ s.link
 
-abbrev Any : {S : Type 0} → S → Type 0
+abbrev pub Any : {S : Type 0} → S → Type 0
 Any s = Unit {0}
 
-do_led : (c : Change) (s : State) → Leads Any (λ u t. Led c s t) (do_change c s)
+pub do_led : (c : Change) (s : State) → Leads Any (λ u t. Led c s t) (do_change c s)
 do_led c s = leads_mapped Any (λ u x. After same_book c s.filter x) Any (λ u t. Led c s t) (λ x. with_filter x s) (put c s.filter) (λ x k. tt) (λ u x k. record { after = k; link = refl }) (change_after same_book c s.filter)
 
 pub try_led : (c : Change) (s : State) → Leads Any (λ done t. done ≡ true → Led c s t) (try_change c s)
@@ -153,14 +156,17 @@ try_led c s = by (why_no_change c s) where
       (λ o t k. subst (λ (q : Option Code). Leads Any (λ done u. done ≡ true → Led c s u) (left_out q t)) (sym k.0) (λ _. k.1))
   by (Some d) = never
 
+-- what is kept, and what is known where it was done
+pub and_then_led : (P Q : State → Type 0) (f g : Arrow State Bool) (s : State) → Keeps P (f s) → Leads Any (λ done t. done ≡ true → Q t) (f s) → ((t : State) → P t → Q t → Keeps P (g t)) → Keeps P (and_then f g s)
+and_then_led P Q f g s h l k = keeps_led P (λ done t. done ≡ true → Q t) (f s) (λ done t. when_ok false g done t) h l (λ done t j q. by done t j q) where
+  by : (done : Bool) (t : State) → P t → (done ≡ true → Q t) → Keeps P (when_ok false g done t)
+  by true t j q = k t j (q refl)
+  by false t j q = j
+
 -- a change, and then what follows where it was done
 pub and_then_at : (Ok : Change → Type 0) (P : State → Type 0) → Skipping Ok P → (c : Change) (g : Arrow State Bool) (s : State) → Ok c → ((id : ItemId) → Touches c id → ⊥) → (IsFair s.link → Fits s.link.remote s.filter c) → P s
     → ((t : State) → P t → Led c s t → Keeps P (g t)) → Keeps P (and_then (try_change c) g s)
-and_then_at Ok P closed c g s ok free fit h k =
-    keeps_led P (λ done t. done ≡ true → Led c s t) (try_change c s) (λ done t. when_ok false g done t) (try_change_at Ok P closed c s ok free fit h) (try_led c s) (λ done t j l. by done t j l) where
-      by : (done : Bool) (t : State) → P t → (done ≡ true → Led c s t) → Keeps P (when_ok false g done t)
-      by true t j l = k t j (l refl)
-      by false t j l = j
+and_then_at Ok P closed c g s ok free fit h k = and_then_led P (Led c s) (try_change c) g s (try_change_at Ok P closed c s ok free fit h) (try_led c s) k
 
 pub and_then_keeps : (P : State → Type 0) (f g : Arrow State Bool) (s : State) → Keeps P (f s) → ((t : State) → P t → Keeps P (g t)) → Keeps P (and_then f g s)
 and_then_keeps P f g s h k = keeps_bind P (f s) (when_ok false g) h (λ done t j. by done t j) where
@@ -174,11 +180,11 @@ only_if_at P false f s h k = h
 
 -- records
 
-pub try_seen_keeps : (Ok : Change → Type 0) (P : State → Type 0) → Skipping Ok P → (p : SeenPath) → Preserves P (try_seen p)
-try_seen_keeps Ok P closed p = keeps_reading P (is_there p.item) (seen_if p) (λ here. keeps_only_if P here (try_book (with_seen p)) (try_book_keeps Ok P closed (with_seen p) (λ b. refl)))
+pub try_seen_at : (Ok : Change → Type 0) (P : State → Type 0) → Skipping Ok P → (p : SeenPath) (s : State) → (IsFair s.link → KeepsPlaced (with_seen p) s) → P s → Keeps P (try_seen p s)
+try_seen_at Ok P closed p s placed h = only_if_at P (is_there p.item s) (try_book (with_seen p)) s h (λ _. try_book_at Ok P closed (with_seen p) s (λ b. refl) placed h)
 
 pub try_cursor_keeps : (Ok : Change → Type 0) (P : State → Type 0) → Skipping Ok P → (clock : ℕ) → Preserves P (try_cursor clock)
-try_cursor_keeps Ok P closed clock = keeps_reading P (is_cursor clock) (cursor_unless clock) (λ is_so. keeps_only_if P (not is_so) (try_book (with_cursor clock)) (try_book_keeps Ok P closed (with_cursor clock) (λ b. refl)))
+try_cursor_keeps Ok P closed clock = keeps_reading P (is_cursor clock) (cursor_unless clock) (λ is_so. keeps_only_if P (not is_so) (try_book (with_cursor clock)) (try_book_keeps Ok P closed (with_cursor clock) (λ b. refl) (λ s front item m k. k)))
 
 -- marks
 
@@ -192,22 +198,33 @@ numbers_agree i n e = λ k. record { epoch = sym (eqb-true i.number.epoch n.epoc
 abbrev IsUnmarked : Usn → Item → Type 0
 IsUnmarked n i = (i.writes ≡ []) × (n ≡ i.number) × (is_untargeted i ≡ false)
 
-mark_fits : (Ok : Change → Type 0) (P : State → Type 0) → Skipping Ok P → (item : ItemId) (n : Usn) (s : State) → P s → is_markable item n s ≡ true → IsFair s.link → Each item (IsUnmarked n) (items_now s)
-mark_fits Ok P closed item n s h e fair = by (item_of (items_now s) item) refl e where
-  by : (o : Option Item) → item_of (items_now s) item ≡ o → says (may_mark (items_now s) (book_now s) n) o ≡ true → Each item (IsUnmarked n) (items_now s)
+-- no Move of an item that is there is on its way
+abbrev pub IsUnmoved : ItemId → State → Type 0
+IsUnmoved item s = (i : Item) → item_of (items_now s) item ≡ Some i → NoMove (book_now s).entries item
+
+pub no_move : (es : List QueueEntry) (item : ItemId) → NoEntry es item → NoMove es item
+no_move es item h = all_weaker (λ e. e.item.0 ≡ item.0 → ⊥) (λ e. e.action ≡ MoveItem → e.item.0 ≡ item.0 → ⊥) (λ e k _. k) es h
+
+mark_fits : (Ok : Change → Type 0) (P : State → Type 0) → Skipping Ok P → (item : ItemId) (n : Usn) (s : State) → P s → (IsFair s.link → IsUnmoved item s) → is_markable item n s ≡ true → IsFair s.link → Fits s.link.remote s.filter (change.Mark item n)
+mark_fits Ok P closed item n s h unmoved e fair = by (item_of (items_now s) item) refl e where
+  by : (o : Option Item) → item_of (items_now s) item ≡ o → says (may_mark (items_now s) (book_now s) n) o ≡ true → Fits s.link.remote s.filter (change.Mark item n)
   by None q m = no_way m
   by (Some i) q m =
       let a : (same_usn i.number n && not i.in_sync && not (is_dirty i) && not (is_untargeted i)) ≡ true = left_true (same_usn i.number n && not i.in_sync && not (is_dirty i) && not (is_untargeted i)) (stands_at_seen (items_now s) (book_now s) i) m in
       let b : (same_usn i.number n && not i.in_sync && not (is_dirty i)) ≡ true = left_true (same_usn i.number n && not i.in_sync && not (is_dirty i)) (not (is_untargeted i)) a in
       let c : not (is_dirty i) ≡ true = right_true (same_usn i.number n && not i.in_sync) (not (is_dirty i)) b in
       let d : same_usn i.number n ≡ true = left_true (same_usn i.number n) (not i.in_sync) (left_true (same_usn i.number n && not i.in_sync) (not (is_dirty i)) b) in
-      each_found item (IsUnmarked n) 0 s.filter.volume.next_item.0 (items_now s) i (closed.sound s h fair).now.order q (not_dirty i.writes c, numbers_agree i n d, not_true (is_untargeted i) (right_true (same_usn i.number n && not i.in_sync && not (is_dirty i)) (not (is_untargeted i)) a))
+      let f : stands_at_seen (items_now s) (book_now s) i ≡ true = right_true (same_usn i.number n && not i.in_sync && not (is_dirty i) && not (is_untargeted i)) (stands_at_seen (items_now s) (book_now s) i) m in (
+        each_found item (IsUnmarked n) 0 s.filter.volume.next_item.0 (items_now s) i (closed.sound s h fair).now.order q (not_dirty i.writes c, numbers_agree i n d, not_true (is_untargeted i) (right_true (same_usn i.number n && not i.in_sync && not (is_dirty i)) (not (is_untargeted i)) a)),
+        inl ((i, q, f), unmoved fair i q),
+      )
 
-pub try_mark_keeps : (Ok : Change → Type 0) (P : State → Type 0) → Skipping Ok P → ((item : ItemId) (n : Usn) → Ok (change.Mark item n)) → (item : ItemId) (n : Usn) → Preserves P (try_mark item n)
-try_mark_keeps Ok P closed ok item n = record { keeps = λ s h. only_if_at P (is_markable item n s) (try_change (change.Mark item n)) s h (λ e. try_change_at Ok P closed (change.Mark item n) s (ok item n) (λ id k. k) (mark_fits Ok P closed item n s h e) h) }
+pub try_mark_at : (Ok : Change → Type 0) (P : State → Type 0) → Skipping Ok P → (item : ItemId) (n : Usn) (s : State) → Ok (change.Mark item n) → (IsFair s.link → IsUnmoved item s) → P s → Keeps P (try_mark item n s)
+try_mark_at Ok P closed item n s ok unmoved h =
+    only_if_at P (is_markable item n s) (try_change (change.Mark item n)) s h (λ e. try_change_at Ok P closed (change.Mark item n) s ok (λ id k. k) (mark_fits Ok P closed item n s h unmoved e) h)
 
-pub try_mark_now_keeps : (Ok : Change → Type 0) (P : State → Type 0) → Skipping Ok P → ((item : ItemId) (n : Usn) → Ok (change.Mark item n)) → (item : ItemId) → Preserves P (try_mark_now item)
-try_mark_now_keeps Ok P closed ok item = keeps_reading P (number_of_item item) (try_mark item) (try_mark_keeps Ok P closed ok item)
+pub try_mark_now_at : (Ok : Change → Type 0) (P : State → Type 0) → Skipping Ok P → (item : ItemId) (s : State) → ((n : Usn) → Ok (change.Mark item n)) → (IsFair s.link → IsUnmoved item s) → P s → Keeps P (try_mark_now item s)
+try_mark_now_at Ok P closed item s ok unmoved h = try_mark_at Ok P closed item (number_of_item item s) s (ok (number_of_item item s)) unmoved h
 
 -- moves
 

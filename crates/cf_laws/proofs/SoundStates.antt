@@ -4,17 +4,18 @@ use Rattle.std.specs.Prelude.{Option, Some, None, cond, filter, not}
 use Rattle.cf_base.specs.declared.changes.Change.TheVariants as change
 use Rattle.cf_base.specs.declared.codes.Code.{Code}
 use Rattle.cf_base.specs.declared.ids.ItemId.{ItemId}
+use Rattle.cf_base.specs.declared.ids.Token.{Token}
 use Rattle.cf_base.specs.declared.messages.Request.{Request}
 use Rattle.cf_base.specs.declared.notices.Frame.{Frame}
 use Rattle.cf_base.specs.declared.waits.Ask.{Ask}
-use Rattle.cf_model.specs.Books.{Action, MakeDir, MoveItem, PutFile, QueueEntry, RemoveItem}
+use Rattle.cf_model.specs.Books.{Action, MakeDir, MoveItem, PutFile, QueueEntry, RemoveItem, without_entry}
 use Rattle.cf_model.specs.Changes.{next_number}
 use Rattle.cf_model.specs.Items.{Item}
 use Rattle.cf_model.specs.Logs.{items_of}
 use Rattle.cf_model.specs.Numbers.{same_key}
 use Rattle.cf_model.specs.PushReplies.{held_and_closed, held_back, is_removal, not_in_row, round_closed, taken_from_row, without_item, without_number}
 use Rattle.cf_model.specs.Requests.{is_fetch}
-use Rattle.cf_model.specs.Skips.{skip_line}
+use Rattle.cf_model.specs.Skips.{skip_line, with_book}
 use Rattle.cf_model.specs.Soundness.{Each}
 use Rattle.cf_model.specs.State.{State, Volatile, is_replay}
 use Rattle.cf_model.specs.Store.{Held, remote_step}
@@ -132,6 +133,13 @@ outbox_state s a rest e h = record {
     tail : (P : Ask → Type 0) → All P (a ∷ rest) → All P rest
     tail P k = k.1
 
+left_state : (token : Token) (s : State) → Invariant s → Invariant (with_book (without_entry token) s)
+left_state token s h = (
+  h.0,
+  λ fair. entries_state s (filter (λ e. not (same_key e.token.0 token.0)) s.filter.volume.book.entries)
+      (durable_fewer s.link.remote s.link.messages s.filter.volume.epoch s.volatile.tokens (next_number s.filter.volume) s.filter.volume.next_item.0 s.filter.volume.items (λ e. not (same_key e.token.0 token.0)) s.filter.volume.book.entries) (h.1 fair),
+)
+
 more_tokens : (n : ℕ) → n ≤ n + 1
 more_tokens n = omega arith
 
@@ -144,16 +152,13 @@ sound_guarded = record {
   told = λ held s h. (h.0, λ fair. no_way fair.0);
   posts = λ f s well h. (h.0, λ fair. post_state (Some f) s (well fair) (h.1 fair));
   loses = λ f s h. (h.0, λ fair. post_state None s (lost_well s) (h.1 fair));
-  books = λ f s keeps h. (
+  books = λ f s keeps placed h. (
     h.0,
     λ fair. entries_state s (f s.filter.volume.book).entries
         (λ d. subst (λ (es : List QueueEntry). IsDurable s.link.remote s.link.messages s.filter.volume.epoch s.volatile.tokens (next_number s.filter.volume) s.filter.volume.next_item.0 s.filter.volume.items es) (sym (keeps s.filter.volume.book)) d) (h.1 fair),
   );
-  leaves = λ token s h. (
-    h.0,
-    λ fair. entries_state s (filter (λ e. not (same_key e.token.0 token.0)) s.filter.volume.book.entries)
-        (durable_fewer s.link.remote s.link.messages s.filter.volume.epoch s.volatile.tokens (next_number s.filter.volume) s.filter.volume.next_item.0 s.filter.volume.items (λ e. not (same_key e.token.0 token.0)) s.filter.volume.book.entries) (h.1 fair),
-  );
+  moved = λ e s is live h. volatile_state (with_book (without_entry e.token) s) (taken_from_row e s.volatile) (row_tokens e (round_closed s.volatile)) (left_state e.token s h);
+  leaves = left_state;
   keeps_fault_line = λ m s h. h;
   keeps_showing = λ s h. h;
   keeps_skipped = λ c s h. line_state s.running.shows_skips c (record s { running = record s.running { skips = s.running.skips + 1 } }) h;
@@ -187,6 +192,6 @@ sound_enters = record {
   enters = λ e s well h. (
     h.0,
     λ fair. entries_state s (s.filter.volume.book.entries ++ e ∷ [])
-        (durable_entered s.link.remote s.link.messages s.filter.volume.epoch s.volatile.tokens (next_number s.filter.volume) s.filter.volume.next_item.0 s.filter.volume.items s.filter.volume.book.entries e (well fair)) (h.1 fair),
+        (durable_entered s.link.remote s.link.messages s.filter.volume.epoch s.volatile.tokens (next_number s.filter.volume) s.filter.volume.next_item.0 s.filter.volume.items s.filter.volume.book.entries e (well fair).0) (h.1 fair),
   );
 }

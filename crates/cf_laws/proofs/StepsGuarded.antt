@@ -1,15 +1,12 @@
 -- The engine's single steps, of what keeps all of the machine.
 use Rattle.cf_base.specs.declared.codes.Code.{Code}
-use Rattle.cf_base.specs.declared.ids.ItemId.{ItemId}
-use Rattle.cf_base.specs.declared.ids.Usn.{Usn}
-use Rattle.cf_base.specs.declared.items.SeenPath.{SeenPath}
 use Rattle.cf_model.specs.Arrows.{Preserves}
 use Rattle.cf_model.specs.Books.{Book}
 use Rattle.cf_model.specs.Items.{Item}
-use Rattle.cf_model.specs.Skips.{in_book, skip, to_conflict, try_book, try_mark, try_mark_now, try_seen, with_book}
+use Rattle.cf_model.specs.Skips.{in_book, skip, to_conflict, try_book, with_book}
 use Rattle.cf_model.specs.State.{State}
 use Rattle.cf_model.proofs.ArrowLaws.{keeps_one}
-use Rattle.cf_laws.proofs.Guarded.{Guarded}
+use Rattle.cf_laws.proofs.Guarded.{Guarded, KeepsPlaced}
 use Rattle.cf_laws.proofs.SkipsGuarded as steps
 use Rattle.cf_laws.proofs.SkipsGuarded.{Whichever, guarded_skipping}
 use Rattle.cf_laws.proofs.SoundChanges.{KeepsEntries}
@@ -17,20 +14,11 @@ use Rattle.cf_laws.proofs.SoundChanges.{KeepsEntries}
 pub skip_keeps : (P : State → Type 0) → Guarded P → (c : Code) → Preserves P (skip c)
 skip_keeps P closed c = steps.skip_keeps Whichever P (guarded_skipping P closed) c
 
-pub in_book_keeps : (P : State → Type 0) → Guarded P → (f : Book → Book) → KeepsEntries f → Preserves P (in_book f)
-in_book_keeps P closed f keeps = keeps_one P (with_book f) (λ s h. closed.books f s keeps h)
+pub in_book_keeps : (P : State → Type 0) → Guarded P → (f : Book → Book) → KeepsEntries f → ((s : State) → KeepsPlaced f s) → Preserves P (in_book f)
+in_book_keeps P closed f keeps placed = keeps_one P (with_book f) (λ s h. closed.books f s keeps (λ fair. placed s) h)
 
-pub try_book_keeps : (P : State → Type 0) → Guarded P → (f : Book → Book) → KeepsEntries f → Preserves P (try_book f)
-try_book_keeps P closed f keeps = steps.try_book_keeps Whichever P (guarded_skipping P closed) f keeps
-
-pub try_seen_keeps : (P : State → Type 0) → Guarded P → (p : SeenPath) → Preserves P (try_seen p)
-try_seen_keeps P closed p = steps.try_seen_keeps Whichever P (guarded_skipping P closed) p
-
-pub try_mark_keeps : (P : State → Type 0) → Guarded P → (item : ItemId) (n : Usn) → Preserves P (try_mark item n)
-try_mark_keeps P closed item n = steps.try_mark_keeps Whichever P (guarded_skipping P closed) (λ i m. tt) item n
-
-pub try_mark_now_keeps : (P : State → Type 0) → Guarded P → (item : ItemId) → Preserves P (try_mark_now item)
-try_mark_now_keeps P closed item = steps.try_mark_now_keeps Whichever P (guarded_skipping P closed) (λ i m. tt) item
+pub try_book_keeps : (P : State → Type 0) → Guarded P → (f : Book → Book) → KeepsEntries f → ((s : State) → KeepsPlaced f s) → Preserves P (try_book f)
+try_book_keeps P closed f keeps placed = steps.try_book_keeps Whichever P (guarded_skipping P closed) f keeps placed
 
 pub to_conflict_keeps : (P : State → Type 0) → Guarded P → (i : Item) → Preserves P (to_conflict i)
 to_conflict_keeps P closed i = steps.to_conflict_keeps Whichever P (guarded_skipping P closed) (λ a b c. tt) i

@@ -5,7 +5,7 @@ use Rattle.cf_base.specs.declared.changes.Change.{Change}
 use Rattle.cf_base.specs.declared.changes.Change.TheVariants as change
 use Rattle.cf_base.specs.declared.ids.ItemId.{ItemId}
 use Rattle.cf_base.specs.declared.ids.Usn.{Usn}
-use Rattle.cf_model.specs.Books.{QueueEntry}
+use Rattle.cf_model.specs.Books.{MoveItem, QueueEntry}
 use Rattle.cf_model.specs.Contents.{base_named, up_to}
 use Rattle.cf_model.specs.Dehydration.{in_use}
 use Rattle.cf_model.specs.Effects.{is_directory, is_placeholder, size_made}
@@ -18,6 +18,7 @@ use Rattle.cf_model.specs.State.{Filter}
 use Rattle.cf_model.specs.Store.{Held}
 use Rattle.cf_model.specs.Words.{number_of}
 use Rattle.cf_laws.specs.Invariant.{All, HasBase, HasNone, SameBase, put_bytes, waits_on}
+use Rattle.cf_laws.specs.Marks.{IsMadeLast, StandsAtSeen}
 
 -- The identity of an item names a version that the remote has made, or none. A directory has none, and a file that is no
 -- placeholder has neither a base nor a target.
@@ -64,9 +65,20 @@ Meets r x _ = Unit {0}
 abbrev pub IsVacant : List Item → Item → Type 0
 IsVacant items i = (i.directory ≡ false → i.writes ≡ []) × (i.directory ≡ true → children items i.id ≡ [])
 
+-- no upload of the item's place is on its way
+abbrev pub NoMove : List QueueEntry → ItemId → Type 0
+NoMove es item = All (λ e. e.action ≡ MoveItem → e.item.0 ≡ item.0 → ⊥) es
+
+-- Of a Mark, besides: its item stands at the path seen and no Move of it is on its way, or the last change made the item.
 abbrev pub Fits : Held → Filter → Change → Type 0
 Fits r x (change.Remove item) = Meets r x (change.Remove item) × Each item (IsVacant x.volume.items) x.volume.items
+Fits r x (change.Mark item number) =
+    Meets r x (change.Mark item number) × ((StandsAtSeen x.volume.items x.volume.book item × NoMove x.volume.book.entries item) ⊎ IsMadeLast x.volume.log item)
 Fits r x c = Meets r x c
+
+abbrev pub IsMark : Change → Type 0
+IsMark (change.Mark item number) = Unit {0}
+IsMark _ = ⊥
 
 -- a change that may bring the bytes that a file lacks
 abbrev pub Touches : Change → ItemId → Type 0

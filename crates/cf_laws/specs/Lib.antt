@@ -5,6 +5,7 @@ pub mod History
 pub mod Invariant
 pub mod Locals
 pub mod Logged
+pub mod Marks
 pub mod Openings
 pub mod Premises
 pub mod Contents

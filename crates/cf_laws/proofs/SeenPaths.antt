@@ -1,0 +1,111 @@
+-- What a path that comes to be seen leaves, and what the last change is.
+use Rattle.std.proofs.Common.{◌≡◌, ℕ, Bool, true, false, List, [], ◌∷◌, ◌++◌, refl, sym, ◌∙◌, ap, subst, eq-eqb}
+use Rattle.std.specs.Prelude.{Option, Some, cond, filter, find, nat_lt, not, ◌==◌}
+use Rattle.std.proofs.lemmas.Bool.{eqb-true}
+use Rattle.cf_base.specs.declared.changes.Change.{Change}
+use Rattle.cf_base.specs.declared.changes.Change.TheVariants as change
+use Rattle.cf_base.specs.declared.ids.ItemId.{ItemId}
+use Rattle.cf_base.specs.declared.ids.Usn.{Usn}
+use Rattle.cf_base.specs.declared.items.SeenPath.{SeenPath}
+use Rattle.cf_model.specs.Books.{Book, seen_of, with_seen, without_seen}
+use Rattle.cf_model.specs.Identities.{stands_at_path}
+use Rattle.cf_model.specs.Items.{Item, item_of}
+use Rattle.cf_model.specs.State.{State}
+use Rattle.cf_model.specs.Words.{put_in, says}
+use Rattle.cf_laws.specs.Fitting.{IsMark}
+use Rattle.cf_laws.specs.Marks.{IsMarkedLast, StandsAtSeen}
+use Rattle.cf_laws.proofs.FoundItems.{found_id}
+use Rattle.cf_laws.proofs.SkipsGuarded.{Led}
+
+-- what is found
+
+find_past : {A : Type 0} (test : A → Bool) (before : A → A → Bool) (x : A) (xs : List A) → test x ≡ false → find test (put_in before x xs) ≡ find test xs
+find_past test before x [] e = rw e refl
+find_past test before x (y ∷ ys) e = by (before y x) (find_past test before x ys e) where
+  by : (b : Bool) → find test (put_in before x ys) ≡ find test ys → find test (cond b (y ∷ put_in before x ys) (x ∷ y ∷ ys)) ≡ find test (y ∷ ys)
+  by true h = ap (λ (o : Option _). cond (test y) (Some y) o) h
+  by false h = rw e refl
+
+abbrev NoneOf : {A : Type 0} → (A → Bool) → List A → Type 0
+NoneOf test [] = Unit {0}
+NoneOf test (x ∷ xs) = (test x ≡ false) × NoneOf test xs
+
+find_put : {A : Type 0} (test : A → Bool) (before : A → A → Bool) (x : A) (xs : List A) → test x ≡ true → NoneOf test xs → find test (put_in before x xs) ≡ Some x
+find_put test before x [] e h = rw e refl
+find_put test before x (y ∷ ys) e h = by (before y x) (find_put test before x ys e h.1) where
+  by : (b : Bool) → find test (put_in before x ys) ≡ Some x → find test (cond b (y ∷ put_in before x ys) (x ∷ y ∷ ys)) ≡ Some x
+  by true g = rw h.0 g
+  by false g = rw e refl
+
+none_left : {A : Type 0} (out : A → Bool) (xs : List A) → NoneOf out (filter (λ x. not (out x)) xs)
+none_left out [] = tt
+none_left out (x ∷ xs) = by (out x) refl (none_left out xs) where
+  by : (b : Bool) → out x ≡ b → NoneOf out (filter (λ x. not (out x)) xs) → NoneOf out (cond (not b) (x ∷ filter (λ x. not (out x)) xs) (filter (λ x. not (out x)) xs))
+  by true q h = h
+  by false q h = (q, h)
+
+find_left : {A : Type 0} (test out : A → Bool) (xs : List A) → ((x : A) → out x ≡ true → test x ≡ false) → find test (filter (λ x. not (out x)) xs) ≡ find test xs
+find_left test out [] k = refl
+find_left test out (x ∷ xs) k = by (out x) refl (find_left test out xs k) where
+  by : (b : Bool) → out x ≡ b → find test (filter (λ x. not (out x)) xs) ≡ find test xs → find test (cond (not b) (x ∷ filter (λ x. not (out x)) xs) (filter (λ x. not (out x)) xs)) ≡ find test (x ∷ xs)
+  by true q h = rw (k x q) h
+  by false q h = ap (λ (o : Option _). cond (test x) (Some x) o) h
+
+-- paths
+
+abbrev first_seen : SeenPath → SeenPath → Bool
+first_seen x y = nat_lt x.item.0 y.item.0
+
+seen_past : (p : SeenPath) (b : Book) (id : ItemId) → (p.item.0 == id.0) ≡ false → seen_of (with_seen p b) id ≡ seen_of b id
+seen_past p b id e =
+    find_past (λ q. q.item.0 == id.0) first_seen p (without_seen p.item b.seen) e
+    ∙ find_left (λ q. q.item.0 == id.0) (λ q. q.item.0 == p.item.0) b.seen (λ q z. subst (λ (n : ℕ). (n == id.0) ≡ false) (sym (eqb-true q.item.0 p.item.0 z)) e)
+
+seen_put : (p : SeenPath) (b : Book) → seen_of (with_seen p b) p.item ≡ Some p
+seen_put p b = find_put (λ q. q.item.0 == p.item.0) first_seen p (without_seen p.item b.seen) (eq-eqb p.item.0 p.item.0 refl) (none_left (λ q. q.item.0 == p.item.0) b.seen)
+
+-- an item stays at the path seen, where the path that comes to be seen is its own or of another item
+pub sees_path : (p : SeenPath) (items : List Item) (b : Book) (item : ItemId) → ((p.item.0 == item.0) ≡ true → (i : Item) → item_of items item ≡ Some i → stands_at_path items i p ≡ true) → StandsAtSeen items b item → StandsAtSeen items (with_seen p b) item
+sees_path p items b item own h = (h.0, h.1, by (p.item.0 == item.0) refl) where
+  same : h.0.id.0 ≡ item.0
+  same = found_id item items h.0 h.1
+
+  by : (c : Bool) → (p.item.0 == item.0) ≡ c → says (stands_at_path items h.0) (seen_of (with_seen p b) h.0.id) ≡ true
+  by true e =
+      subst (λ (n : ℕ). says (stands_at_path items h.0) (find (λ q. q.item.0 == n) (with_seen p b).seen) ≡ true) (eqb-true p.item.0 item.0 e ∙ sym same)
+      (subst (λ (o : Option SeenPath). says (stands_at_path items h.0) o ≡ true) (sym (seen_put p b)) (own e h.0 h.1))
+  by false e = subst (λ (o : Option SeenPath). says (stands_at_path items h.0) o ≡ true) (sym (seen_past p b h.0.id (subst (λ (n : ℕ). (p.item.0 == n) ≡ false) (sym same) e))) h.2
+
+-- the last change
+
+abbrev pub last_or : (Usn × Change) → List (Usn × Change) → Usn × Change
+last_or d [] = d
+last_or d (c ∷ cs) = last_or c cs
+
+last_added : (d : Usn × Change) (log : List (Usn × Change)) (c : Usn × Change) → last_or d (log ++ c ∷ []) ≡ c
+last_added d [] c = refl
+last_added d (e ∷ log) c = last_added e log c
+
+abbrev all_but_last : List (Usn × Change) → List (Usn × Change)
+all_but_last [] = []
+all_but_last (c ∷ []) = []
+all_but_last (c ∷ d ∷ cs) = c ∷ all_but_last (d ∷ cs)
+
+but_added : (log : List (Usn × Change)) (c : Usn × Change) → all_but_last (log ++ c ∷ []) ≡ log
+but_added [] c = refl
+but_added (d ∷ []) c = refl
+but_added (d ∷ e ∷ log) c = ap (λ (cs : List (Usn × Change)). d ∷ cs) (but_added (e ∷ log) c)
+
+-- where one more change makes a Mark the last, it is that change
+pub marked_by : (log front : List (Usn × Change)) (n : Usn) (c : Change) (item : ItemId) → IsMarkedLast (log ++ (n, c) ∷ []) front item → (number : Usn) × (c ≡ change.Mark item number) × (log ≡ front)
+marked_by log front n c item m = (
+  m.1,
+  ap (λ (d : Usn × Change). d.1) (sym (last_added (n, c) log (n, c)) ∙ ap (last_or (n, c)) m.2 ∙ last_added (n, c) front (m.0, change.Mark item m.1)),
+  sym (but_added log (n, c)) ∙ ap all_but_last m.2 ∙ but_added front (m.0, change.Mark item m.1),
+)
+
+-- after another change no Mark is the last
+pub led_unmarked : (c : Change) (s t : State) → (IsMark c → ⊥) → Led c s t → (front : List (Usn × Change)) (item : ItemId) → IsMarkedLast t.filter.volume.log front item → ⊥
+led_unmarked c s t other led front item m =
+    let k = marked_by s.filter.volume.log front _ c item (m.0, m.1, sym led.after.log ∙ m.2) in
+    other (subst IsMark (sym k.1) tt)
