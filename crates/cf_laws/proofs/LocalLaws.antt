@@ -40,6 +40,7 @@ use Rattle.cf_laws.specs.Uses.{since}
 use Rattle.cf_laws.proofs.BesideGuarded.{whole_beside}
 use Rattle.cf_laws.proofs.ContentLaws.{run_sound, sound_whole}
 use Rattle.cf_laws.proofs.EventsGuarded.{event_now_keeps, runs_keep}
+use Rattle.cf_laws.proofs.FoundItems.{found_id}
 use Rattle.cf_laws.proofs.Gathered.{all_weaker}
 use Rattle.cf_laws.proofs.Heirs.{Sub, all_dropped_sub, copies_both, copies_more, copies_sub, copy_more, dropped_both}
 use Rattle.cf_laws.proofs.HeldLocals.{holds_first, lists_last}
@@ -48,7 +49,6 @@ use Rattle.cf_laws.proofs.ListedLocals.{copied_step, lister_step}
 use Rattle.cf_laws.proofs.LocalSteps.{HasLister, HoldsAt, HoldsIn, at_other, found_same}
 use Rattle.cf_laws.proofs.LoggedGuarded.{IsLogged, Logged, items_more, logged_runs, run_logged}
 use Rattle.cf_laws.proofs.PushRepliesGuarded.{each_at}
-use Rattle.cf_laws.proofs.FoundItems.{found_id}
 use Rattle.cf_laws.proofs.RightItems.{no_way}
 use Rattle.cf_laws.proofs.SoundSettles.{any_longer}
 use Rattle.cf_laws.proofs.SparedBytes.{held_given, held_grown, held_here, held_is}

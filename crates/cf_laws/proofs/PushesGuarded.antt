@@ -42,12 +42,12 @@ use Rattle.cf_laws.specs.Invariant.{AllUpTo, HasNone, IsRight, IsSound, SameBase
 use Rattle.cf_laws.specs.Premises.{IsFair}
 use Rattle.cf_laws.proofs.EntryLaws.{none_none}
 use Rattle.cf_laws.proofs.FeedsGuarded.{first_led}
+use Rattle.cf_laws.proofs.FoundItems.{found_id}
 use Rattle.cf_laws.proofs.FramesGuarded.{FrameIn, guarded_framed}
 use Rattle.cf_laws.proofs.Gathered.{all_any, all_found, all_weaker}
 use Rattle.cf_laws.proofs.Leading.{kept_leads, leads_bind, leads_kept}
 use Rattle.cf_laws.proofs.Plainly.{keeps_led}
 use Rattle.cf_laws.proofs.PushRepliesGuarded.{each_at}
-use Rattle.cf_laws.proofs.FoundItems.{found_id}
 use Rattle.cf_laws.proofs.RightItems.{both_none, no_way, no_way_back}
 use Rattle.cf_laws.proofs.SkipsGuarded.{Led, Whichever, guarded_skipping, no_move, try_change_at, try_led, try_mark_now_at}
 use Rattle.cf_laws.proofs.SoundSettles.{each_found, found_below, neither, not_true, same_item}
