@@ -1,6 +1,7 @@
 //! Look-ups in the rows of a volume.
 
-ghost use Rattle.std.specs.Prelude.{◌≡◌, ◌≤◌, ◌<◌, ◌&&◌, ◌||◌, ◌==◌, ℕ, Option, find, filter, IfOk, length, get_or, true, false};
+ghost use Rattle.std.specs.List.{list_any};
+ghost use Rattle.std.specs.Prelude.{◌≡◌, ◌≤◌, ◌<◌, ◌&&◌, ◌||◌, ◌==◌, ℕ, Option, not, find, filter, IfOk, length, get_or, true, false};
 ghost use Rattle.cf_model.specs.Numbers.{above};
 ghost use Rattle.cf_table.specs.Tables.{child_rows, comes_after, id_of, ids_of, is_child_row, RisesFrom, rows_by_name};
 ghost use Rattle.cf_table.specs.declared.rows.Row.{Row};
@@ -58,6 +59,12 @@ fn changed_in(alloc: Global, rows: &[Row], number: Usn) -> Result<Vec<ItemId>, M
     Ok(ids)
 }
 
+fn has_unlisted(rows: &[Row]) -> bool
+    ensures { result ≡ list_any (λ r. r.dir && not r.populated) rows.now }
+{
+    rows.iter().any(|r| r.dir && !r.populated)
+}
+
 impl Rows {
     /// The id of the row after this one in order of id, of the first one after None. Takes no memory.
     pub fn after(&self, id: Option<ItemId>) -> Option<ItemId>
@@ -85,5 +92,12 @@ impl Rows {
         ensures { IfOk result (λ v. v.items ≡ ids_of (filter (λ r. above r.number number) self.now.rows)) }
     {
         changed_in(self.alloc, &self.rows, number)
+    }
+
+    /// Whether the entries of a directory are not known. Takes no memory.
+    pub fn has_unlisted(&self) -> bool
+        ensures { result ≡ list_any (λ r. r.dir && not r.populated) self.now.rows }
+    {
+        has_unlisted(&self.rows)
     }
 }
