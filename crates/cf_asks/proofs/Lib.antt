@@ -12,4 +12,5 @@ pub mod Owned
 pub mod Places
 pub mod Runs
 pub mod Search
+pub mod Wanted
 pub mod Wanting

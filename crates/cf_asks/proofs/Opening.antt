@@ -25,7 +25,7 @@ and_right : (a b : Bool) → b ≡ false → (a && b) ≡ false
 and_right true b e = e
 and_right false b e = refl
 
-unwanted : (v : View) (needs : List Span) (w : ℕ → Bool) (next at : ℕ) → Wants v needs w → ((p : ℕ) → 4096 * next ≤ p → p < at → (lacks_at v p && contains needs p) ≡ false) → (k : ℕ) → next ≤ k → k < at / 4096 → w k ≡ false
+pub unwanted : (v : View) (needs : List Span) (w : ℕ → Bool) (next at : ℕ) → Wants v needs w → ((p : ℕ) → 4096 * next ≤ p → p < at → (lacks_at v p && contains needs p) ≡ false) → (k : ℕ) → next ≤ k → k < at / 4096 → w k ≡ false
 unwanted v needs w next at h f k l m = h.miss k (λ p a b. f p (omega arith) (omega arith))
 
 -- the block of the next position is pushed

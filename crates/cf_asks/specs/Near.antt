@@ -1,7 +1,7 @@
 -- What a step of an item looks at, and changes: the waits on the item, and the asks on it or of the key that the deed names.
 use Rattle.std.specs.Prelude.{◌≡◌, Bool, true, false, not, List, Option, Some, None, filter, ◌&&◌, ◌||◌, ◌==◌}
 use Rattle.std.specs.List.{AllByRecursion}
-use Rattle.cf_asks.specs.Plans.{Planned}
+use Rattle.cf_asks.specs.Plans.{Outlook}
 use Rattle.cf_base.specs.declared.ids.ItemId.{ItemId}
 use Rattle.cf_base.specs.declared.ids.Key.{Key}
 use Rattle.cf_model.specs.Missing.{Wait}
@@ -35,7 +35,7 @@ abbrev pub Agrees : List Wait → Live → Type 0
 Agrees waits a = AllByRecursion (λ w. same_key w.id.0 a.wait.0 ≡ true → (w.item.0 == a.ask.item.0) ≡ true) waits
 
 -- The one plan, for all waits and asks, is the other, for those that are near; what is not near stays.
-pub record IsLocal (item : ItemId) (key : Option Key) (waits : List Wait) (asks : List Live) (all part : Planned) : Type 0 where
+pub record IsLocal (item : ItemId) (key : Option Key) (waits : List Wait) (asks : List Live) (all part : Outlook) : Type 0 where
   pub ended : all.ended ≡ part.ended
   pub left : filter (is_on item) all.left ≡ part.left
   pub other_waits : filter (λ w. not (is_on item w)) all.left ≡ filter (λ w. not (is_on item w)) waits

@@ -1,5 +1,5 @@
 -- What a step of the ask rule would do, before anything is changed.
-use Rattle.std.specs.Prelude.{not, List, ◌++◌, length, map, filter, ◌+◌}
+use Rattle.std.specs.Prelude.{not, List, Option, map, filter}
 use Rattle.cf_base.specs.declared.ids.ItemId.{ItemId}
 use Rattle.cf_base.specs.declared.ids.Key.{Key}
 use Rattle.cf_base.specs.declared.waits.Cause.{Cause}
@@ -10,14 +10,23 @@ use Rattle.cf_asks.specs.Deeds.{after}
 
 -- The waits that end, and those that are left; the keys of the asks that are cancelled, the asks that are kept, and those
 -- that are made, still without keys.
-pub record Planned : Type 0 where
+pub record Outlook : Type 0 where
   pub ended : List (Wait × Cause)
   pub left : List Wait
   pub cancelled : List Key
   pub kept : List Live
   pub made : List Live
 
-abbrev pub plan_of : ItemId → View → Deed → List Wait → List Live → Planned
+-- What changes by a step: the waits that end, the keys of the asks that are cancelled, the key of the ask that is over
+-- without a line, the ask that blocks have left, and the asks that are made, still without keys.
+pub record Planned : Type 0 where
+  pub ended : List (Wait × Cause)
+  pub cancelled : List Key
+  pub dropped : Option Key
+  pub changed : Option Live
+  pub made : List Live
+
+abbrev pub plan_of : ItemId → View → Deed → List Wait → List Live → Outlook
 plan_of item v d waits asks =
     let left : List Wait = left_of (why item v d asks) waits in
     let kept : List Live = filter (λ a. not (is_cancelled item v d left a)) (after d asks) in record {

@@ -1,15 +1,16 @@
 //! Live asks, and the blocks that they own.
-ghost use Rattle.std.specs.Prelude.{◌≡◌, ℕ, not, nat_le, ◌+◌, ◌<◌, All, filter, IfOk, ◌&&◌, ◌==◌};
+ghost use Rattle.std.specs.Prelude.{◌≡◌, ℕ, Bool, not, nat_le, ◌+◌, ◌<◌, All, filter, IfOk, ◌&&◌, ◌==◌};
 ghost use Rattle.std.specs.List.{list_all, list_any};
+ghost use Rattle.cf_asks.specs.Nexts.{Wants};
 ghost use Rattle.cf_asks.specs.Places.{places};
 ghost use Rattle.cf_asks.specs.Unions.{IsSmall};
 ghost use Rattle.cf_model.specs.Asks.{is_idle, is_idle_by, is_owned, is_wanted, misses_in, waits_by};
 ghost use Rattle.cf_model.specs.Numbers.{same_key};
-ghost use Rattle.cf_model.specs.Requests.{aged, has_block, is_data, is_dehydrate, is_list, is_list_wait};
+ghost use Rattle.cf_model.specs.Requests.{has_block, is_data, is_dehydrate, is_list, is_list_wait};
 ghost use Rattle.cf_model.specs.Words.{counting, is_empty};
 ghost use Rattle.cf_ranges.specs.Positions.{contains, IsRuns};
 
-use crate::misses::misses_span;
+use crate::misses::{misses_span, next_missed};
 use crate::sights::Sight;
 use crate::unions::union_of;
 use crate::waits::{LiveWait, WaitNumber, is_list_wait};
@@ -19,6 +20,8 @@ use std::alloc::Global;
 use std::marker::Model;
 
 const LIMIT: u64 = 1 << 40;
+
+const BLOCK: u64 = 4096;
 
 /// A live ask: the blocks that it owns, the ticks since it was made or last answered, and the wait of a dehydrate ask.
 #[derive(Debug, Drop)]
@@ -130,12 +133,30 @@ impl LiveAsk {
         self.ticks
     }
 
-    /// So many ticks have passed.
-    pub fn age(&mut self, ticks: u32)
-        requires { self.old.ticks < 60 }
-        ensures { self.new ≡ aged ticks self.old }
+    /// An equal ask on its own, but for its ticks.
+    pub fn copy_at(&self, ticks: u64) -> Result<LiveAsk, Memory>
+        ensures { IfOk result (λ a. a ≡ record self.now { ticks = ticks }) }
     {
-        self.ticks += ticks as u64;
+        Ok(LiveAsk {
+            ask: self.ask,
+            owned: self.owned.copy()?,
+            ticks,
+            wait: self.wait,
+        })
+    }
+
+    /// Sets its ticks.
+    pub fn set_ticks(&mut self, ticks: u64)
+        ensures { self.new ≡ record self.old { ticks = ticks } }
+    {
+        self.ticks = ticks;
+    }
+
+    /// It owns the blocks of another from now on.
+    pub fn take_blocks(&mut self, from: LiveAsk)
+        ensures { self.new ≡ record self.old { owned = from.owned } }
+    {
+        self.owned = from.owned;
     }
 
     /// Whether the wait misses a byte in its blocks.
@@ -145,11 +166,12 @@ impl LiveAsk {
         misses_runs(v, self.owned.runs(), w)
     }
 
-    /// Whether one of the waits on the item misses a byte in its blocks.
-    pub fn is_wanted(&self, item: ItemId, v: &Sight, waits: &[LiveWait]) -> bool
-        ensures { result ≡ list_any (is_wanted item v.now waits.now) self.now.owned }
+    /// Whether a byte that is among those that are needed is missing in its blocks.
+    pub fn is_wanted(&self, v: &Sight, needs: &[Span]) -> bool
+        requires { IsRuns needs.now }
+        ensures { (w : ℕ → Bool) → Wants v.now needs.now w → result ≡ list_any w self.now.owned }
     {
-        is_any_wanted(item, v, waits, self.owned.runs())
+        is_any_wanted(v, needs, self.owned.runs())
     }
 }
 
@@ -258,30 +280,28 @@ pub fn waits_by(v: &Sight, a: &LiveAsk, w: &LiveWait) -> bool
     }
 }
 
-fn is_any_wanted(item: ItemId, v: &Sight, waits: &[LiveWait], runs: &[Span]) -> bool
-    ensures { result ≡ list_any (is_wanted item v.now waits.now) (places runs.now) }
+fn is_any_wanted(v: &Sight, needs: &[Span], runs: &[Span]) -> bool
+    requires { IsRuns needs.now }
+    ensures { (w : ℕ → Bool) → Wants v.now needs.now w → result ≡ list_any w (places runs.now) }
 {
-    any_run_wanted(item, v, waits, runs)
+    for run in runs {
+        if is_run_wanted(v, needs, *run) {
+            return true;
+        }
+    }
+    false
 }
 
-fn any_run_wanted(item: ItemId, v: &Sight, waits: &[LiveWait], runs: &[Span]) -> bool
-    ensures { result ≡ list_any (λ r. list_any (is_wanted item v.now waits.now) (counting r.start r.len)) runs.now }
+// Beyond the size nothing is missing.
+fn is_run_wanted(v: &Sight, needs: &[Span], run: Span) -> bool
+    requires { IsRuns needs.now }
+    ensures { (w : ℕ → Bool) → Wants v.now needs.now w → result ≡ list_any w (counting run.start run.len) }
 {
-    runs.iter().any(|run| is_run_wanted(item, v, waits, *run))
-}
-
-fn is_run_wanted(item: ItemId, v: &Sight, waits: &[LiveWait], run: Span) -> bool
-    ensures { result ≡ list_any (is_wanted item v.now waits.now) (counting run.start run.len) }
-{
-    any_misses(item, v, waits, run)
-}
-
-fn any_misses(item: ItemId, v: &Sight, waits: &[LiveWait], run: Span) -> bool
-    ensures { result ≡ list_any (λ w. (w.item.0 == item.0) && misses_in v.now (counting run.start run.len) w) waits.now }
-{
-    waits
-        .iter()
-        .any(|w| w.item().0 == item.0 && misses_span(v, run, w))
+    let start = run.start.min(v.size());
+    match next_missed(v, needs, BLOCK * start) {
+        Some(at) => at / BLOCK - start < run.len,
+        None => false,
+    }
 }
 
 /// Whether a wait on the item waits for its entries.
@@ -299,22 +319,34 @@ fn has_wait(waits: &[LiveWait], id: WaitNumber) -> bool
     waits.iter().any(|w| w.id().is(id))
 }
 
-/// Whether the ask is one of the item that none of the waits waits for.
-pub fn is_idle(item: ItemId, v: &Sight, waits: &[LiveWait], a: &LiveAsk) -> bool
+/// Whether the ask is one of the item that none of the waits waits for. These need the positions that are given.
+pub fn is_idle(item: ItemId, v: &Sight, waits: &[LiveWait], needs: &[Span], a: &LiveAsk) -> bool
+    requires runs { IsRuns needs.now }
+    requires wants { Wants v.now needs.now (is_wanted item v.now waits.now) }
     ensures { result ≡ is_idle item v.now waits.now a.now }
 {
-    a.ask().item.0 == item.0 && is_idle_by(item, v, waits, a)
+    a.ask().item.0 == item.0 && is_idle_by(item, v, waits, needs, a)
 }
 
-fn is_idle_by(item: ItemId, v: &Sight, waits: &[LiveWait], a: &LiveAsk) -> bool
+fn is_idle_by(item: ItemId, v: &Sight, waits: &[LiveWait], needs: &[Span], a: &LiveAsk) -> bool
+    requires runs { IsRuns needs.now }
+    requires wants { Wants v.now needs.now (is_wanted item v.now waits.now) }
     ensures { result ≡ is_idle_by a.now.ask.kind item v.now waits.now a.now }
 {
     match a.ask().kind {
-        AskKind::Fetch => !a.is_wanted(item, v, waits),
-        AskKind::Validate => !a.is_wanted(item, v, waits),
+        AskKind::Fetch => !is_wanted_by(item, v, waits, needs, a),
+        AskKind::Validate => !is_wanted_by(item, v, waits, needs, a),
         AskKind::List => !is_list_awaited(item, waits),
         AskKind::Dehydrate => !has_wait(waits, a.wait()),
     }
+}
+
+fn is_wanted_by(item: ItemId, v: &Sight, waits: &[LiveWait], needs: &[Span], a: &LiveAsk) -> bool
+    requires runs { IsRuns needs.now }
+    requires wants { Wants v.now needs.now (is_wanted item v.now waits.now) }
+    ensures { result ≡ list_any (is_wanted item v.now waits.now) a.now.owned }
+{
+    a.is_wanted(v, needs)
 }
 
 /// The runs of the blocks that asks of the item own.

@@ -1,10 +1,12 @@
 //! What a step does of its own to the waits and asks of an item.
 ghost use Rattle.std.specs.Prelude.{◌≡◌, ◌&&◌, map, filter, not, IfOk, option_copied};
-ghost use Rattle.cf_model.specs.Asks.{after_deed, cause_by, cause_if, closed_by, ended_of, is_cancelled, is_cut, is_finished, is_over, left_of, or_met, released, waits_for, why};
+ghost use Rattle.cf_model.specs.Asks.{after_deed, cause_by, cause_if, closed_by, ended_of, is_cancelled, is_cut, is_finished, is_over, is_wanted, left_of, or_met, released, waits_for, why};
 ghost use Rattle.cf_model.specs.Requests.{is_background, live_of};
 ghost use Rattle.cf_model.specs.Numbers.{same_key};
 ghost use Rattle.cf_model.specs.Words.{counting, says};
 ghost use Rattle.cf_asks.specs.Deeds.{after, deed_of};
+ghost use Rattle.cf_asks.specs.Nexts.{Wants};
+ghost use Rattle.cf_ranges.specs.Positions.{IsRuns};
 
 use crate::asks::{LiveAsk, is_data, is_idle, waits_by};
 use crate::misses::{is_met, misses_span};
@@ -255,10 +257,19 @@ fn is_cut(item: ItemId, act: Act, a: &LiveAsk) -> bool
 }
 
 /// Whether the ask is cancelled after the step.
-pub fn is_cancelled(item: ItemId, v: &Sight, act: Act, waits: &[LiveWait], a: &LiveAsk) -> bool
+pub fn is_cancelled(
+    item: ItemId,
+    v: &Sight,
+    act: Act,
+    waits: &[LiveWait],
+    needs: &[Span],
+    a: &LiveAsk,
+) -> bool
+    requires runs { IsRuns needs.now }
+    requires wants { Wants v.now needs.now (is_wanted item v.now waits.now) }
     ensures { result ≡ is_cancelled item v.now (deed_of act) waits.now a.now }
 {
-    is_cut(item, act, a) || is_idle(item, v, waits, a)
+    is_cut(item, act, a) || is_idle(item, v, waits, needs, a)
 }
 
 /// The keys of the asks that are cancelled.
@@ -268,13 +279,16 @@ pub fn cancelled_of(
     v: &Sight,
     act: Act,
     waits: &[LiveWait],
+    needs: &[Span],
     asks: &[LiveAsk],
 ) -> Result<Vec<Key>, Memory>
+    requires runs { IsRuns needs.now }
+    requires wants { Wants v.now needs.now (is_wanted item v.now waits.now) }
     ensures { IfOk result (λ r. r.items ≡ map (λ a. a.ask.key) (filter (is_cancelled item v.now (deed_of act) waits.now) asks.now)) }
 {
     Ok(
         asks.iter()
-            .filter(|a| is_cancelled(item, v, act, waits, a))
+            .filter(|a| is_cancelled(item, v, act, waits, needs, a))
             .map(|a| a.ask().key)
             .collect(alloc)?,
     )
@@ -287,8 +301,11 @@ pub fn drop_cancelled(
     v: &Sight,
     act: Act,
     waits: &[LiveWait],
+    needs: &[Span],
 )
+    requires runs { IsRuns needs.now }
+    requires wants { Wants v.now needs.now (is_wanted item v.now waits.now) }
     ensures { asks.new.items ≡ filter (λ a. not (is_cancelled item v.now (deed_of act) waits.now a)) asks.old.items }
 {
-    asks.retain(|a| !is_cancelled(item, v, act, waits, a));
+    asks.retain(|a| !is_cancelled(item, v, act, waits, needs, a));
 }

@@ -19,9 +19,11 @@ pub use laws::{
     a_step_looks_at_its_item, each_data_ask_has_a_missed_block, each_missing_block_has_one_owner,
     each_missing_block_is_owned, no_block_gets_two_owners,
 };
+pub use misses::is_met;
 pub use plans::{Plan, make_plan};
 pub use sights::Sight;
 pub use views::View;
 pub use waits::{
     LiveWait, Wait, WaitNumber, is_background, is_dehydrate_wait, is_hydrate_wait, is_list_wait,
+    is_same_key,
 };

@@ -6,6 +6,7 @@ ghost use Rattle.cf_asks.specs.Plans.{plan_of};
 use crate::asks::LiveAsk;
 use crate::deeds::{Act, asks_after, cancelled_of, drop_cancelled, ended_by, left_by};
 use crate::makes::new_asks;
+use crate::misses::needs_of;
 use crate::sights::Sight;
 use crate::waits::LiveWait;
 use cf_base::{Cause, ItemId, Key, Memory};
@@ -38,10 +39,13 @@ pub fn make_plan(
 {
     let ended = ended_by(alloc, item, v, act, asks, waits)?;
     let left = left_by(alloc, item, v, act, asks, waits)?;
+    let live = left.as_slice();
+    let spans = needs_of(alloc, item, v, live)?;
+    let needs = spans.as_slice();
     let mut kept = asks_after(alloc, act, asks)?;
-    let cancelled = cancelled_of(alloc, item, v, act, &left, &kept)?;
-    drop_cancelled(&mut kept, item, v, act, &left);
-    let made = new_asks(alloc, item, v, &left, &kept)?;
+    let cancelled = cancelled_of(alloc, item, v, act, live, needs, &kept)?;
+    drop_cancelled(&mut kept, item, v, act, live, needs);
+    let made = new_asks(alloc, item, v, live, &kept)?;
     Ok(Plan {
         ended,
         left,

@@ -41,6 +41,13 @@ impl WaitNumber {
         }
     }
 
+    /// Where it stands in its epoch.
+    pub fn number(&self) -> u64
+        ensures { result ≡ self.now.0.number }
+    {
+        self.number
+    }
+
     /// Whether they are the same.
     pub fn is(&self, other: WaitNumber) -> bool
         ensures { result ≡ same_key self.now.0 other.0 }

@@ -52,15 +52,3 @@ map_front f i ys xs x y l a b e g = let n : i + 1 ≡ suc i = omega arith in ap 
 
 pub map_rest : {X : Type 0} (i : ℕ) (ys xs : List X) (y : X) → i < length ys → drop i ys ≡ drop i xs → drop (i + 1) (set ys i y) ≡ drop (i + 1) xs
 map_rest i ys xs y l b = let n : i + 1 ≡ suc i = omega arith in ap (λ v. drop v (set ys i y)) n ∙ step_rest i ys xs y l b ∙ ap (λ v. drop v xs) (sym n)
-
-rest_young : (i : ℕ) (xs : List Live) → AllByRecursion (λ a. a.ticks < 60) (drop i xs) → AllByRecursion (λ a. a.ticks < 60) (drop (suc i) xs)
-rest_young zero [] h = tt
-rest_young zero (x ∷ xs) h = h.1
-rest_young (suc i) [] h = tt
-rest_young (suc i) (x ∷ xs) h = rest_young i xs h
-
-pub young_rest : (i : ℕ) (ys xs : List Live) (y : Live) → i < length ys → drop i ys ≡ drop i xs → AllByRecursion (λ a. a.ticks < 60) (drop i ys) → AllByRecursion (λ a. a.ticks < 60) (drop (i + 1) (set ys i y))
-young_rest i ys xs y l b h =
-    let P : List Live → Type 0 = λ v. AllByRecursion (λ a. a.ticks < 60) v in
-    let n : suc i ≡ i + 1 = omega arith in
-    subst P (sym (map_rest i ys xs y l b)) (subst P (ap (λ v. drop v xs) n) (rest_young i xs (subst P b h)))

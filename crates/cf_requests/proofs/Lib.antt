@@ -1,3 +1,17 @@
+pub mod AgedAsks
 pub mod Ages
+pub mod AskChanges
+pub mod Booked
+pub mod ByNumber
+pub mod Changes
 pub mod Counts
+pub mod InIndex
+pub mod Indexed
+pub mod Numbered
+pub mod Ordered
 pub mod Planning
+pub mod Rises
+pub mod Soundness
+pub mod Told
+pub mod Turned
+pub mod Turning

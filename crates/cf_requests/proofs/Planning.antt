@@ -1,68 +1,85 @@
--- A plan, part by part, is one of the step.
-use Rattle.std.proofs.Common.{◌≡◌, ◌+◌, Bool, true, false, Option, Some, None, Result, ℕ, List, [], ◌∷◌, ◌++◌, length, refl, sym, ap, subst, ◌∙◌, arith}
-use Rattle.cf_base.specs.declared.ids.ItemId.{ItemId}
-use Rattle.cf_base.specs.declared.ids.Key.{Key}
-use Rattle.cf_base.specs.declared.waits.Cause.{Cause}
+-- A plan for what is near, as changes, is one of the step.
+use Rattle.std.proofs.Common.{◌≡◌, ◌+◌, Bool, true, false, Option, Some, None, Result, ℕ, List, [], ◌∷◌, ◌++◌, cond, length, refl, sym, ap, subst, append-nil, ◌∙◌, arith, eqb}
+use Rattle.std.specs.Prelude.{filter}
+use Rattle.std.specs.List.{AllByRecursion}
 use Rattle.std.specs.Option.{option_map}
-use Rattle.cf_asks.specs.Plans.{Planned, plan_of}
-use Rattle.cf_model.specs.Asks.{step_of, with_keys}
-use Rattle.cf_model.specs.Missing.{View, Wait, no_span}
-use Rattle.cf_model.specs.Requests.{Cancels, Deed, Nothing, Live, Told, Waiting}
-use Rattle.cf_base.specs.declared.ids.Handle.{Handle}
-use Rattle.cf_base.specs.declared.ids.WaitId.{WaitId}
+use Rattle.std.proofs.lemmas.Bool.Decides.{nat_tests}
+use Rattle.std.proofs.lemmas.List.Elements.{filter-append}
+use Rattle.cf_asks.specs.Near.{is_near, is_on, named}
+use Rattle.cf_asks.specs.Plans.{Outlook, Planned, plan_of}
 use Rattle.cf_base.specs.declared.codes.Fail.{Fail}
+use Rattle.cf_base.specs.declared.ids.Handle.{Handle}
+use Rattle.cf_base.specs.declared.ids.ItemId.{ItemId}
+use Rattle.cf_base.specs.declared.ids.WaitId.{WaitId}
 use Rattle.cf_base.specs.declared.spans.Span.{Span}
 use Rattle.cf_base.specs.declared.waits.WaitKind.{WaitKind}
-use Rattle.cf_base.specs.declared.waits.WaitKind.TheVariants as wait_kind
-use Rattle.cf_model.specs.Words.{when}
-use Rattle.cf_requests.specs.Steps.{CancelsAt, Steps, carried, counted, tried}
+use Rattle.cf_model.specs.Asks.{new_asks, step_of}
+use Rattle.cf_model.specs.Missing.{View, Wait}
+use Rattle.cf_model.specs.Requests.{Cancels, Deed, Live, Waiting, with_waits}
+use Rattle.cf_requests.proofs.Changes.{near_is}
+use Rattle.cf_requests.proofs.Soundness.{begun_sound, new_fresh}
+use Rattle.cf_requests.specs.Deltas.{delta_of}
+use Rattle.cf_requests.specs.Rising.{AreNext}
+use Rattle.cf_requests.specs.Sound.{IsSound}
+use Rattle.cf_requests.specs.Steps.{CancelsAt, Steps, carried, first_waits}
 use Rattle.cf_requests.specs.declared.limits.Limits.TheVariants as limits
 use Rattle.cf_requests.specs.declared.moves.Moves.{Moves}
 
-pub record IsPlan (p q : Planned) : Type 0 where
-  pub ended : p.ended ≡ q.ended
-  pub left : p.left ≡ q.left
-  pub cancelled : p.cancelled ≡ q.cancelled
-  pub kept : p.kept ≡ q.kept
-  pub made : p.made ≡ q.made
+pub record IsOutlook (o q : Outlook) : Type 0 where
+  pub ended : o.ended ≡ q.ended
+  pub left : o.left ≡ q.left
+  pub cancelled : o.cancelled ≡ q.cancelled
+  pub kept : o.kept ≡ q.kept
+  pub made : o.made ≡ q.made
 
-carried_same : (p q : Planned) (s : Waiting) → IsPlan p q → carried p s ≡ carried q s
-carried_same p q s h =
-    let f : List (Wait × Cause) → List Wait → List Key → List Live → List Live → Told × Waiting = λ e l c k m. (
-      record { ended = e; cancelled = c; made = with_keys s.epoch s.key_count m },
-      record s { waits = l; asks = k ++ with_keys s.epoch s.key_count m; key_count = s.key_count + length (with_keys s.epoch s.key_count m) },
-    ) in
-    ap (λ e. f e p.left p.cancelled p.kept p.made) h.ended ∙ ap (λ l. f q.ended l p.cancelled p.kept p.made) h.left ∙ ap (λ c. f q.ended q.left c p.kept p.made) h.cancelled
-    ∙ ap (λ k. f q.ended q.left q.cancelled k p.made) h.kept ∙ ap (λ m. f q.ended q.left q.cancelled q.kept m) h.made
+same_outlook : (o q : Outlook) → IsOutlook o q → o ≡ q
+same_outlook o q h = λ j. record { ended = h.ended j; left = h.left j; cancelled = h.cancelled j; kept = h.kept j; made = h.made j }
 
-pub planned : (item : ItemId) (u v : View) (d : Deed) (p : Planned) (s t : Waiting) (ws : List Wait) (asks : List Live) → u ≡ v → t ≡ s → ws ≡ t.waits → asks ≡ t.asks → IsPlan p (plan_of item u d ws asks) → carried p s ≡ step_of item v d s
-planned item u v d p s t ws asks same e w a h =
-    ap (carried p) (sym e) ∙ carried_same p (plan_of item u d ws asks) t h ∙ ap (λ (x : View). carried (plan_of item x d ws asks) t) same
-    ∙ ap (λ (x : List Wait). carried (plan_of item v d x asks) t) w ∙ ap (λ (x : List Live). carried (plan_of item v d t.waits x) t) a ∙ ap (step_of item v d) e
+all_on : (item : ItemId) (ws : List Wait) → AllByRecursion (λ w. is_on item w ≡ true) ws → filter (is_on item) ws ≡ ws
+all_on item [] h = refl
+all_on item (w ∷ ws) h = ap (λ b. cond b (w ∷ filter (is_on item) ws) (filter (is_on item) ws)) h.0 ∙ ap (λ l. w ∷ l) (all_on item ws h.1)
 
-counted_tried : (kind : WaitKind) (item : ItemId) (handle : Option Handle) (asked : Span) (beside : Bool) (p : Planned) (s : Waiting) → carried p (counted beside s) ≡ carried p (tried kind item handle asked beside s)
-counted_tried kind item handle asked true p s = refl
-counted_tried kind item handle asked false p s = refl
+pub looked : (item : ItemId) (u v : View) (d : Deed) (p : Planned) (s t : Waiting) (begun near : List Wait) (asks : List Live) (o : Outlook) → u ≡ v → t ≡ s → IsSound t → AreNext begun s → AllByRecursion (λ w. is_on item w ≡ true) begun
+    → near ≡ filter (is_on item) t.waits ++ begun → asks ≡ filter (is_near item (named d)) t.asks → IsOutlook o (plan_of item u d near asks) → p ≡ delta_of d o
+    → carried p (with_waits begun s) ≡ step_of item v d (with_waits begun s)
+looked item u v d p s t begun near asks o view same sound next on waits live is delta =
+    let all : near ≡ filter (is_on item) (s.waits ++ begun) =
+    waits ∙ ap (λ (x : Waiting). filter (is_on item) x.waits ++ begun) same ∙ ap (λ (l : List Wait). filter (is_on item) s.waits ++ l) (sym (all_on item begun on)) ∙ sym (filter-append (is_on item) s.waits begun) in
+    ap (λ (x : Planned). carried x (with_waits begun s)) (delta ∙ ap (delta_of d) (same_outlook o (plan_of item u d near asks) is))
+    ∙ ap (λ (x : View). carried (delta_of d (plan_of item x d near asks)) (with_waits begun s)) view
+    ∙ ap (λ (l : List Wait). carried (delta_of d (plan_of item v d l asks)) (with_waits begun s)) all
+    ∙ ap (λ (l : List Live). carried (delta_of d (plan_of item v d (filter (is_on item) (s.waits ++ begun)) l)) (with_waits begun s)) (live ∙ ap (λ (x : Waiting). filter (is_near item (named d)) x.asks) same)
+    ∙ near_is item v d (with_waits begun s) (begun_sound begun s (subst (λ (x : Waiting). IsSound x) same sound) next)
 
-pub begun_planned : (kind : WaitKind) (item : ItemId) (handle : Option Handle) (asked : Span) (beside : Bool) (u v : View) (p : Planned) (s t : Waiting) (ws : List Wait) (asks : List Live)
-    → u ≡ v → t ≡ s → ws ≡ (tried kind item handle asked beside t).waits → asks ≡ t.asks → IsPlan p (plan_of item u Nothing ws asks)
-    → carried p (counted beside s) ≡ step_of item v Nothing (tried kind item handle asked beside s)
-begun_planned kind item handle asked beside u v p s t ws asks same e w a h =
-    counted_tried kind item handle asked beside p s
-    ∙ planned item u v Nothing p (tried kind item handle asked beside s) (tried kind item handle asked beside t) ws asks same (ap (tried kind item handle asked beside) e) w a h
+pub made_fresh : (item : ItemId) (v : View) (d : Deed) (ws : List Wait) (asks made : List Live) → made ≡ (plan_of item v d ws asks).made → AllByRecursion (λ a. a.ticks ≡ 0) made
+made_fresh item v d ws asks made e = subst (λ (l : List Live). AllByRecursion (λ a. a.ticks ≡ 0) l) (sym e) (new_fresh item v (plan_of item v d ws asks).left (plan_of item v d ws asks).kept)
+
+-- no wait begins
+
+pub with_none : (s : Waiting) → with_waits [] s ≡ s
+with_none s = λ j. record { epoch = s.epoch; waits = append-nil s.waits j; asks = s.asks; wait_count = none s.wait_count j; key_count = s.key_count } where
+  none : (n : ℕ) → n + 0 ≡ n
+  none n = omega arith
+
+-- the waits that begin are next
+
+pub first_next : (kind : WaitKind) (item : ItemId) (handle : Option Handle) (asked : Span) (beside : Bool) (s : Waiting) (ws : List Wait) → ws ≡ first_waits kind item handle asked beside s → AreNext ws s
+first_next kind item handle asked true s ws e = subst (λ (l : List Wait). AreNext l s) (sym e) (refl, omega arith, (refl, omega arith, omega arith))
+first_next kind item handle asked false s ws e = subst (λ (l : List Wait). AreNext l s) (sym e) (refl, omega arith, omega arith)
+
+pub first_on : (kind : WaitKind) (item : ItemId) (handle : Option Handle) (asked : Span) (beside : Bool) (s : Waiting) (ws : List Wait) → ws ≡ first_waits kind item handle asked beside s → AllByRecursion (λ w. is_on item w ≡ true) ws
+first_on kind item handle asked true s ws e = subst (λ (l : List Wait). AllByRecursion (λ w. is_on item w ≡ true) l) (sym e) (itself item.0, (itself item.0, tt)) where
+  itself : (n : ℕ) → eqb n n ≡ true
+  itself n = grind (arith, nat_tests)
+first_on kind item handle asked false s ws e = subst (λ (l : List Wait). AllByRecursion (λ w. is_on item w ≡ true) l) (sym e) (itself item.0, tt) where
+  itself : (n : ℕ) → eqb n n ≡ true
+  itself n = grind (arith, nat_tests)
+
+pub first_count : (kind : WaitKind) (item : ItemId) (handle : Option Handle) (asked : Span) (beside : Bool) (s : Waiting) (ws : List Wait) → ws ≡ first_waits kind item handle asked beside s → length ws ≡ 1 + cond beside 1 0
+first_count kind item handle asked true s ws e = ap length e
+first_count kind item handle asked false s ws e = ap length e
 
 -- the item of the wait that is cancelled
 pub cancels : (o : Option Wait) (item : ItemId) (id : WaitId) (v : View) (old : Waiting) (r : Result Moves Fail) (new : Waiting) → Some item ≡ option_map (λ w. w.item) o → Steps limits.Free (step_of item v (Cancels id) old) old r new → CancelsAt o id v old r new
 cancels None item id v old r new e h = cc
 cancels (Some w) item id v old r new e h = let f : item ≡ w.item = cc in subst (λ (i : ItemId). Steps limits.Free (step_of i v (Cancels id) old) old r new) f h
-
-pub begun_waits : (kind : WaitKind) (item : ItemId) (handle : Option Handle) (asked : Span) (beside : Bool) (s : Waiting) (id next : WaitId) (own : Wait) (ws out : List Wait)
-    → out ≡ ws ++ own ∷ when beside (record { id = next; kind = wait_kind.Background; item = own.item; handle = None; span = no_span } ∷ []) → ws ≡ s.waits → own ≡ record { id = id; kind = kind; item = item; handle = handle; span = asked }
-    → id ≡ record { 0 = record { epoch = s.epoch; number = s.wait_count + 1 } } → next ≡ record { 0 = record { epoch = s.epoch; number = s.wait_count + 2 } } → out ≡ (tried kind item handle asked beside s).waits
-begun_waits kind item handle asked beside s id next own ws out e w o i n =
-    let f : List Wait → Wait → WaitId → List Wait = λ l x j. l ++ x ∷ when beside (record { id = j; kind = wait_kind.Background; item = x.item; handle = None; span = no_span } ∷ []) in
-    let at : ℕ → WaitId = λ k. record { 0 = record { epoch = s.epoch; number = k } } in
-    let own_at : WaitId → Wait = λ j. record { id = j; kind = kind; item = item; handle = handle; span = asked } in
-    let a : s.wait_count + 1 ≡ s.wait_count + 0 + 1 = omega arith in
-    let b : s.wait_count + 2 ≡ s.wait_count + 1 + 1 = omega arith in
-    e ∙ ap (λ l. f l own next) w ∙ ap (λ x. f s.waits x next) (o ∙ ap own_at (i ∙ ap at a)) ∙ ap (λ j. f s.waits (own_at (at (s.wait_count + 0 + 1))) j) (n ∙ ap at b)

@@ -1,73 +1,58 @@
 //! Waits that begin.
-ghost use Rattle.std.specs.Prelude.{◌≡◌, ℕ, cond, [], ◌∷◌, ◌++◌, false, Some, None, IfOk, OnErr, OnOk, ◌+◌, ◌≤◌, ◌^◌};
-ghost use Rattle.cf_asks.specs.Sights.{shown};
+ghost use Rattle.std.specs.Prelude.{◌≡◌, ℕ, cond, false, None, Some, IfOk, OnErr, OnOk, ◌+◌, ◌++◌, ◌≤◌};
 ghost use Rattle.cf_base.specs.declared.waits.WaitKind.TheVariants as wait_kind;
-ghost use Rattle.cf_model.specs.Asks.{step_of};
 ghost use Rattle.cf_model.specs.Missing.{no_span};
-ghost use Rattle.cf_model.specs.Requests.{Nothing, also_background, no_numbers};
-ghost use Rattle.cf_model.specs.Words.{when};
-ghost use Rattle.cf_requests.specs.Steps.{begun_id, carried, counted, limit_of, moved_of, tried};
+ghost use Rattle.cf_model.specs.Requests.{also_background, no_numbers, with_waits};
+ghost use Rattle.cf_requests.specs.Rising.{AreNext};
+ghost use Rattle.cf_requests.specs.Steps.{IsPlanned, begun_id, carried, first_waits, moved_of};
 
-use crate::limits::{Limits, limit_of};
 use crate::moves::Moves;
-use crate::queries::has_background;
 use crate::requests::{Requests, Step};
-use cf_asks::{Act, LiveWait, Sight, View, WaitNumber, make_plan};
-use cf_base::{Code, Handle, ItemId, Key, Memory, Span, WaitId, WaitKind};
-use std::alloc::Global;
+use cf_asks::{LiveWait, WaitNumber};
+use cf_base::{Handle, ItemId, Key, Memory, Span, WaitId, WaitKind};
 
 impl Requests {
-    /// A step that begins a wait, and one beside it where `beside` says so.
-    pub(crate) fn look_begun(
+    /// A wait under the next number, and one for the rest of the file beside it where `beside` says so.
+    pub(crate) fn first_waits(
         &self,
         kind: WaitKind,
         item: ItemId,
         handle: Option<Handle>,
         span: Span,
         beside: bool,
-        v: &View,
-    ) -> Result<Step, Memory>
-        requires size { v.now.size ≤ 2 ^ 24 }
-        requires base { v.now.base ≤ 2 ^ 24 }
-        ensures { IfOk result (λ s. carried s (counted beside self.now) ≡ step_of item (shown v.now) Nothing (tried kind item handle span beside self.now)) }
+    ) -> Result<Vec<LiveWait>, Memory>
+        ensures { IfOk result (λ v. v.items ≡ first_waits kind item handle span beside self.now) }
     {
-        let sight = Sight::new(self.alloc, v)?;
         let id = WaitNumber::new(self.epoch, self.wait_count + 1);
-        let next = WaitNumber::new(self.epoch, self.wait_count + 2);
-        let own = LiveWait::new(id, kind, item, handle, span);
-        let waits = with_begun(self.alloc, &self.waits, own, beside, next)?;
-        let plan = make_plan(self.alloc, item, &sight, Act::Nothing, &waits, &self.asks)?;
-        Ok(Step { plan })
+        let mut waits = Vec::new(self.alloc);
+        waits.push(LiveWait::new(id, kind, item, handle, span))?;
+        if beside {
+            let next = WaitNumber::new(self.epoch, self.wait_count + 2);
+            waits.push(background(next, item))?;
+        }
+        Ok(waits)
     }
 
-    /// The first limit that a step would pass that begins a wait.
-    pub(crate) fn limit_begun(&self, step: &Step, limits: Limits, beside: bool) -> Option<Code>
-        ensures { result ≡ limit_of limits (carried step.now (counted beside self.now)).1 }
-    {
-        limit_of(
-            limits,
-            self.epoch,
-            self.wait_count + count_of(beside),
-            self.key_count,
-            &step.plan.left,
-            &step.plan.kept,
-            &step.plan.made,
-        )
-    }
-
-    /// Does a step that begins a wait, and for which the numbers of the epoch suffice.
-    pub(crate) fn take_begun(&mut self, step: Step, beside: bool) -> Result<(WaitId, Moves), Memory>
-        requires { no_numbers (carried step (counted beside self.old)).1 ≡ false }
+    /// Does a step with which these waits begin, the call's own and one beside it where `beside` says so.
+    pub(crate) fn take_begun(
+        &mut self,
+        step: Step,
+        begun: &[LiveWait],
+        beside: bool,
+    ) -> Result<(WaitId, Moves), Memory>
+        requires planned { IsPlanned step (with_waits begun.now self.old) }
+        requires next { AreNext begun.now self.old }
+        requires numbers { no_numbers (carried step (with_waits begun.now self.old)).1 ≡ false }
+        requires count { self.old.wait_count + 1 + cond beside 1 0 ≤ 4294967295 }
         ensures id { IfOk result (λ m. m.0 ≡ begun_id 0 self.old) }
-        ensures moves { IfOk result (λ m. m.1 ≡ moved_of (cond beside (Some (begun_id 1 self.old)) None) (carried step (counted beside self.old)).0) }
-        ensures ok { OnOk result (self.new ≡ (carried step (counted beside self.old)).1) }
+        ensures moves { IfOk result (λ m. m.1 ≡ moved_of (cond beside (Some (begun_id 1 self.old)) None) (carried step (with_waits begun.now self.old)).0) }
+        ensures ok { OnOk result (self.new ≡ (carried step (with_waits begun.now self.old)).1) }
         ensures err { OnErr result (self.new ≡ self.old) }
     {
-        let count = self.wait_count + count_of(beside);
         let first = self.wait_count + 1;
         let id = wait_id(self.epoch, first);
         let background = background_id(beside, self.epoch, first);
-        let moves = self.carry(step, background, count)?;
+        let moves = self.take_with(step, begun, background)?;
         Ok((id, moves))
     }
 
@@ -75,14 +60,8 @@ impl Requests {
     pub(crate) fn is_beside(&self, background: bool, item: ItemId) -> bool
         ensures { result ≡ also_background background item self.now }
     {
-        background && !has_background(&self.waits, item)
+        background && !self.waits.has_background(item)
     }
-}
-
-fn count_of(beside: bool) -> u64
-    ensures { result ≡ 1 + cond beside 1 0 }
-{
-    if beside { 2 } else { 1 }
 }
 
 fn wait_id(epoch: u32, number: u64) -> WaitId
@@ -107,22 +86,13 @@ fn background_id(beside: bool, epoch: u32, first: u64) -> Option<WaitId>
     }
 }
 
-// The waits with one more, and with a background wait on its item.
-fn with_begun(
-    alloc: Global,
-    waits: &[LiveWait],
-    own: LiveWait,
-    beside: bool,
-    next: WaitNumber,
-) -> Result<Vec<LiveWait>, Memory>
-    ensures { IfOk result (λ v. v.items ≡ waits.now ++ own ∷ when beside (record { id = next; kind = wait_kind.Background; item = own.item; handle = None; span = no_span } ∷ [])) }
+/// The waits, and behind them those that begin.
+pub(crate) fn with_begun(waits: Vec<LiveWait>, begun: &[LiveWait]) -> Result<Vec<LiveWait>, Memory>
+    ensures { IfOk result (λ v. v.items ≡ waits.items ++ begun.now) }
 {
-    let mut out = waits.to_vec(alloc)?;
-    out.push(own)?;
-    if beside {
-        out.push(background(next, own.item()))?;
-    }
-    Ok(out)
+    let mut all = waits;
+    all.extend_from_slice(begun)?;
+    Ok(all)
 }
 
 fn background(id: WaitNumber, item: ItemId) -> LiveWait

@@ -65,12 +65,14 @@ impl Requests {
         requires base { v.now.base ≤ 2 ^ 24 }
         ensures { Begins (limits_by kind) (cond beside (Some (begun_id 1 self.old)) None) (step_of item (shown v.now) Nothing (tried kind item handle span beside self.old)) self.old result self.new }
     {
-        let step = self.look_begun(kind, item, handle, span, beside, v)?;
-        if let Some(code) = self.limit_begun(&step, limits_of(kind), beside) {
+        let begun = self.first_waits(kind, item, handle, span, beside)?;
+        let waits = begun.as_slice();
+        let step = self.look_with(item, Act::Nothing, v, waits)?;
+        if let Some(code) = self.limit_with(&step, waits, limits_of(kind)) {
             return Err(Fail::No(code));
         }
-        let begun = self.take_begun(step, beside)?;
-        Ok(begun)
+        let began = self.take_begun(step, waits, beside)?;
+        Ok(began)
     }
 
     fn step_at(&mut self, key: Key, act: Act, limits: Limits, v: &View) -> Result<Moves, Fail>

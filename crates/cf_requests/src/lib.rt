@@ -1,15 +1,21 @@
 //! The calls that wait, what the provider is asked for them, and how both end.
 #![tactic(auto)]
 
+mod ask_books;
+mod ask_lists;
 mod begins;
 mod calls;
+mod entries;
 mod limits;
 mod moves;
+mod plans;
 mod queries;
 mod requests;
 #[cfg(test)]
 mod tests;
-mod times;
+mod turns;
+mod wait_books;
+mod wait_lists;
 
 pub use limits::Limits;
 pub use moves::Moves;

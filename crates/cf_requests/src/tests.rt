@@ -117,23 +117,72 @@ fn blocks_leave_their_ask_until_it_is_over(rt: HostRuntime) -> Result<(), Fail> 
     Ok(())
 }
 
+// So many ticks pass, where no ask is due before.
+fn pass(requests: &mut Requests, ticks: u32) -> bool {
+    match requests.next_expired(0) {
+        None => {
+            requests.advance(ticks);
+            true
+        }
+        Some(_) => false,
+    }
+}
+
+// A read of a file of two blocks waits.
+fn two_blocks(alloc: Global) -> Result<Requests, cf_base::Fail> {
+    let none = RangeSet::new(alloc);
+    let mut requests = Requests::new(alloc, 1);
+    read(&mut requests, span(0, 8192), &view(&none, &none, 8192))?;
+    Ok(requests)
+}
+
 #[test]
-fn an_ask_ends_by_time(rt: HostRuntime) -> Result<(), Fail> {
+fn an_ask_ends_60_ticks_after_its_last_answer(rt: HostRuntime) -> Result<(), Fail> {
     let none = RangeSet::new(rt.alloc());
     let half = set(rt.alloc(), span(0, 4096))?;
-    let mut requests = Requests::new(rt.alloc(), 1);
-    read(&mut requests, span(0, 8192), &view(&none, &none, 8192))?;
-    assert!(rt; requests.next_expired(59).is_none());
-    assert!(rt; requests.next_expired(60) == Some(key(1)));
-    requests.release(key(1), span(0, 1), &view(&half, &none, 8192))?;
-    let moves = requests.expire(key(1), &view(&half, &none, 8192))?;
+    let v = view(&half, &none, 8192);
+    let mut requests = two_blocks(rt.alloc())?;
+    assert!(rt; pass(&mut requests, 59));
+    assert!(rt; is_quiet(&requests.release(key(1), span(0, 1), &v)?));
+    assert!(rt; pass(&mut requests, 59));
+    assert!(rt; pass(&mut requests, 1));
+    assert!(rt; requests.next_expired(0) == Some(key(1)));
+    let moves = requests.expire(key(1), &v)?;
     assert!(rt; ends(&moves, 0, 1, Cause::TimedOut));
     assert!(rt; cancels(&moves, 0, 1));
+    Ok(())
+}
+
+#[test]
+fn an_ask_without_an_answer_ends_60_ticks_after_it_was_made(rt: HostRuntime) -> Result<(), Fail> {
+    let none = RangeSet::new(rt.alloc());
+    let v = view(&none, &none, 8192);
+    let mut requests = two_blocks(rt.alloc())?;
+    assert!(rt; requests.next_expired(59).is_none());
+    assert!(rt; requests.next_expired(60) == Some(key(1)));
+    assert!(rt; pass(&mut requests, 59));
+    assert!(rt; pass(&mut requests, 59));
+    let moves = requests.expire(key(1), &v)?;
+    assert!(rt; ends(&moves, 0, 1, Cause::TimedOut));
+    assert!(rt; cancels(&moves, 0, 1));
+    assert!(rt; requests.is_idle());
+    Ok(())
+}
+
+#[test]
+fn asks_that_are_due_have_their_keys_told(rt: HostRuntime) -> Result<(), Fail> {
+    let none = RangeSet::new(rt.alloc());
+    let mut requests = Requests::new(rt.alloc(), 1);
+    read(&mut requests, span(0, 8192), &view(&none, &none, 8192))?;
+    let early = requests.expired_keys()?;
+    assert!(rt; early.is_empty());
     match requests.next_expired(0) {
         None => requests.advance(60),
         Some(_) => assert!(rt; false),
     }
-    assert!(rt; requests.next_expired(60).is_none());
+    let keys = requests.expired_keys()?;
+    assert_eq!(rt; keys.len(), 1);
+    assert!(rt; requests.next_expired(0) == Some(key(1)));
     Ok(())
 }
 

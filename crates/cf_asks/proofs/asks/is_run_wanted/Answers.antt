@@ -1,7 +1,9 @@
-use Rattle.std.proofs.Common.{◌≡◌, ◌∙◌, sym}
-use Rattle.cf_model.specs.Words.{counting}
-use Rattle.cf_asks.proofs.Places.{any_wanted}
+use Rattle.std.proofs.Common.{◌≡◌, ◌≤◌, ◌∙◌, ◌*◌, ◌/◌, arith}
+use Rattle.cf_asks.proofs.Wanted.{next_wanted, none_wanted}
 use Rattle.cf_asks.proofs.asks.is_run_wanted.Goals as goal
 
-pub returns : goal.returns
-returns c = c.any_misses.ensures ∙ sym (any_wanted c.args.item c.args.v.now c.args.waits.now (counting c.args.run.start c.args.run.len))
+pub returns-in-Some : goal.returns-in-Some
+returns-in-Some c = λ w h. next_wanted c.args.v.now c.args.needs.now w c.args.run.start c.args.run.len c.min-start.result c.in-Some.at h (omega (arith, c.min-start.ensures, c.size.ensures.value)) c.in-Some.ensures.next
+
+pub returns-in-None : goal.returns-in-None
+returns-in-None c = λ w h. none_wanted c.args.v.now c.args.needs.now w c.args.run.start c.args.run.len c.min-start.result h (omega (arith, c.min-start.ensures, c.size.ensures.value)) c.in-None.ensures.next
