@@ -1,16 +1,14 @@
 -- A new item.
-use Rattle.std.proofs.Common.{◌≡◌, ◌⊎◌, inl, inr, ⊎_elim, ℕ, zero, suc, ◌+◌, ◌*◌, ◌/◌, ◌<◌, ◌≤◌, ◌==◌, Bool, true, false, not, cond, eqb, ltb, max, List, [], ◌∷◌, ◌++◌, length, map, take, replicate, refl, sym, ◌∙◌, ap, subst, arith, Option, Some, None}
-use Rattle.std.specs.Prelude.{All, find, filter, option_map}
-use Rattle.std.specs.Option.{is_some}
-use Rattle.std.proofs.lemmas.Bool.{cases_lt, cond-true, cond-false, eq-eqb, eqb-true, lt-ltb, ne_eqb, true≢false}
+use Rattle.std.proofs.Common.{◌≡◌, ℕ, zero, suc, ◌+◌, ◌<◌, ◌≤◌, Bool, true, false, cond, eqb, ltb, List, [], ◌∷◌, ◌++◌, length, map, take, replicate, refl, sym, ◌∙◌, ap, subst, arith, Option, Some, None}
+use Rattle.std.specs.Prelude.{All, filter, option_map}
+use Rattle.std.proofs.lemmas.Bool.{cond-true, cond-false, lt-ltb, ne_eqb}
 use Rattle.std.proofs.lemmas.List.{length-append}
 use Rattle.std.proofs.lemmas.List.Elements.{All-head, All-tail}
-use Rattle.std.proofs.lemmas.Option.{none-some, same_Some}
+use Rattle.std.proofs.lemmas.Option.{none-some}
 use Rattle.cf_base.specs.declared.changes.Change.{Change}
 use Rattle.cf_base.specs.declared.ids.ItemId.{ItemId}
 use Rattle.cf_base.specs.declared.ids.Usn.{Usn}
 use Rattle.cf_blocks.proofs.Elsewhere.{no_block}
-use Rattle.cf_blocks.proofs.Unlaid.{none_in}
 use Rattle.cf_data.specs.Area.{KeepsWhere}
 use Rattle.cf_data.specs.Roles.{IsCommitted}
 use Rattle.cf_data.specs.declared.uses.Use.{Use}
@@ -24,8 +22,8 @@ use Rattle.cf_model.specs.Numbers.{no_usn}
 use Rattle.cf_model.specs.State.{Volume}
 use Rattle.cf_model.specs.Words.{counting}
 use Rattle.cf_points.specs.At.{At, Kept}
-use Rattle.cf_points.specs.Clusters.{Owns, clusters_in_row, clusters_in_rows, once, times}
-use Rattle.cf_points.specs.Holding.{FitsTable, HoldRows, Holds, HoldsRow}
+use Rattle.cf_points.specs.Clusters.{clusters_in_row, clusters_in_rows, once, times}
+use Rattle.cf_points.specs.Holding.{FitsTable, HoldRows, HoldsRow}
 use Rattle.cf_points.specs.Known.{Known, row_then}
 use Rattle.cf_points.specs.Staging.{Moves}
 use Rattle.cf_points.specs.Standing.{IsBookOf, cluster_on}

@@ -27,4 +27,4 @@ FitsBook c b = Unit {0}
 -- each change fits the volume that those before it make
 abbrev pub FitInTurn : List Change → Volume → Type 0
 FitInTurn [] v = Unit {0}
-FitInTurn (c ∷ cs) v = ItemsFit c v.book v.items × FitInTurn cs (put_change c v)
+FitInTurn (c ∷ cs) v = ItemsFit c v.book v.items × FitsBook c v.book × FitInTurn cs (put_change c v)
