@@ -1,5 +1,5 @@
 -- A commit of the parts of a volume.
-use Rattle.std.proofs.Common.{◌≡◌, ℕ, ◌+◌, ◌<◌, ◌≤◌, ◌==◌, Bool, true, false, not, eqb, List, [], ◌∷◌, length, map, Option, Some, None, refl, sym, ◌∙◌, ap, subst, arith}
+use Rattle.std.proofs.Common.{◌≡◌, ℕ, ◌<◌, Bool, true, false, not, eqb, List, [], ◌∷◌, map, Some, None, sym, ◌∙◌, ap, subst, arith}
 use Rattle.std.specs.Prelude.{All, ◌-◌, ◌/◌, sum_by}
 use Rattle.std.proofs.lemmas.Bool.{cond-false, eq-eqb, true≢false}
 use Rattle.std.proofs.lemmas.List.{length-map}

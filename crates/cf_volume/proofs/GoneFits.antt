@@ -81,11 +81,11 @@ inside_left P f (r ∷ rs) all =
 
 -- the image gets no longer
 
-anchor_left : (id key : ItemId) (b : Book) → (key.0 ≡ id.0 → ⊥) → anchor_of (book_after (change.Remove id) b) key ≡ anchor_of b key
+pub anchor_left : (id key : ItemId) (b : Book) → (key.0 ≡ id.0 → ⊥) → anchor_of (book_after (change.Remove id) b) key ≡ anchor_of b key
 anchor_left id key b apart = ap (part (λ a. a.number) no_usn)
     (found_left (λ a. a.item.0 == key.0) (λ a. a.item.0 == id.0) false b.anchors (λ x h. ne_eqb x.item.0 id.0 (λ q. apart (sym (eqb-true x.item.0 key.0 h) ∙ q))))
 
-row_left : (id : ItemId) (b : Book) (i : Item) → (i.id.0 ≡ id.0 → ⊥) → row_len (book_after (change.Remove id) b) i ≡ row_len b i
+pub row_left : (id : ItemId) (b : Book) (i : Item) → (i.id.0 ≡ id.0 → ⊥) → row_len (book_after (change.Remove id) b) i ≡ row_len b i
 row_left id b i apart =
     let since = ap (λ (m : Usn). count_runs false (covered_flags (later_than m i.writes) i)) (anchor_left id i.id b apart) in
     omega (arith, since)

@@ -28,3 +28,11 @@ pub mod Committed
 pub mod NotThere
 pub mod WithRoom
 pub mod OpenedFrom
+pub mod Shifted
+pub mod DraftItems
+pub mod DraftRows
+pub mod DraftStays
+pub mod DraftGone
+pub mod DraftNews
+pub mod DraftFlags
+pub mod FirstDraft

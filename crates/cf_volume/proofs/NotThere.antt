@@ -1,8 +1,8 @@
 -- A change of an item that is not there.
-use Rattle.std.proofs.Common.{◌≡◌, ℕ, zero, suc, ◌+◌, ◌-◌, ◌*◌, ◌/◌, ◌<◌, ◌≤◌, ◌==◌, Bool, true, false, cond, eqb, ltb, max, min, List, [], ◌∷◌, ◌++◌, length, take, drop, refl, sym, ◌∙◌, ap, subst, arith, Option, Some, None}
+use Rattle.std.proofs.Common.{◌≡◌, ℕ, zero, suc, ◌+◌, ◌-◌, ◌*◌, ◌/◌, ◌<◌, Bool, true, false, cond, eqb, ltb, max, min, List, [], ◌∷◌, length, take, drop, refl, sym, ◌∙◌, ap, subst, arith, Option, Some, None}
 use Rattle.std.specs.Prelude.{MatchOption, filter, is_some, not}
 use Rattle.std.specs.List.{list_all}
-use Rattle.std.proofs.lemmas.Bool.{cond-false, true≢false}
+use Rattle.std.proofs.lemmas.Bool.{cond-false}
 use Rattle.std.proofs.lemmas.List.{length-append}
 use Rattle.std.proofs.lemmas.Option.{none-some}
 use Rattle.cf_base.specs.declared.changes.Change.{Change}
@@ -14,10 +14,10 @@ use Rattle.cf_blocks.specs.Bytes.{puts_in}
 use Rattle.cf_data.proofs.Counts.{uses_add_up}
 use Rattle.cf_data.specs.Roles.{how_many, is_now}
 use Rattle.cf_disk.specs.Disk.{State}
-use Rattle.cf_model.specs.Blocks.{blocks_of, is_full, lacks_in, puts_into}
-use Rattle.cf_model.specs.Books.{Book, access_of, anchor_of, aux_records}
+use Rattle.cf_model.specs.Blocks.{blocks_of, lacks_in, puts_into}
+use Rattle.cf_model.specs.Books.{Book, aux_records}
 use Rattle.cf_model.specs.Changes.{next_number, put_change, why_no_room}
-use Rattle.cf_model.specs.Effects.{changed, effect}
+use Rattle.cf_model.specs.Effects.{changed}
 use Rattle.cf_model.specs.Images.{is_table_full, never_longer, table_full}
 use Rattle.cf_model.specs.Items.{Item, item_of}
 use Rattle.cf_model.specs.Logs.{next_by}
@@ -95,9 +95,9 @@ others_none (change.Copy item from parent name) w s = refl
 others_none (change.Populated item) w s = refl
 others_none (change.Keep item on) w s = refl
 
-none_changed : (key : ItemId) (f : Item → Item) (items : List Item) → item_of items key ≡ None → changed key f items ≡ items
-none_changed key f [] e = refl
-none_changed key f (i ∷ is) e = by (eqb i.id.0 key.0) e (none_changed key f is)
+pub unchanged : (key : ItemId) (f : Item → Item) (items : List Item) → item_of items key ≡ None → changed key f items ≡ items
+unchanged key f [] e = refl
+unchanged key f (i ∷ is) e = by (eqb i.id.0 key.0) e (unchanged key f is)
   where
     by : (t : Bool) → cond t (Some i) (item_of is key) ≡ None → (item_of is key ≡ None → changed key f is ≡ is) → cond t (f i) i ∷ changed key f is ≡ i ∷ is
     by true h rest = absurd (none-some i (sym h))
@@ -110,7 +110,7 @@ module _ (s : State) (k : Known) (v : Volume) (c : Change) (at : At s k v) (kind
 
   items_are : (put_change c v).items ≡ v.items
   items_are = sym (effect_is c (next_number v) k.table.rows v.items kind (rows_mean (cluster_on s.seen) v.book k.table.rows v.items at.now.rows))
-      ∙ none_changed (item_of_change c) (item_effect c (pin_for c k.table.rows) (next_number v)) v.items no_item
+      ∙ unchanged (item_of_change c) (item_effect c (pin_for c k.table.rows) (next_number v)) v.items no_item
 
   book_is : (put_change c v).book ≡ v.book
   book_is = stays_book c v.book kind
@@ -163,13 +163,3 @@ module _ (s : State) (k : Known) (v : Volume) (c : Change) (at : At s k v) (kind
       used = omega (arith, at.now.used);
     };
   }
-
-pub absent_steady : (size : ℕ) (k : Known) → Steady size k → Steady size (record k { place = k.place + 1; count = k.count + 1 })
-absent_steady size k steady = record {
-  fit = steady.fit;
-  clusters = steady.clusters;
-  inside = steady.inside;
-  later = next_goes_on (usn_after k.epoch k.place) (usn_after k.epoch (k.place + 1)) k.table.rows (later_next k.epoch k.place) steady.later;
-  earlier = steady.earlier;
-  usable = steady.usable;
-}

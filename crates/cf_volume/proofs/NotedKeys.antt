@@ -66,10 +66,6 @@ by_some : (o : Option AuxRecord) → is_some o ≡ true → (a b : Option AuxRec
 by_some None e a b = absurd (true≢false (sym e))
 by_some (Some r) e a b = refl
 
--- it is noted already
-pub key_noted : (key : List ℕ) (records old made : List AuxRecord) → is_some (record_at old key) ≡ true → NotesKey key records old old made made
-key_noted key records old made some = record { others = λ k now apart. refl; here = λ now. ap (λ (o : Option AuxRecord). cond (list_any (λ r. same r.key key) made) None o) (by_some (record_at old key) some now (record_at records key)) }
-
 -- it was made since
 pub key_made : (key : List ℕ) (records old made : List AuxRecord) → is_some (record_at made key) ≡ true → NotesKey key records old old made made
 key_made key records old made some = record {

@@ -21,10 +21,6 @@ use Rattle.cf_volume.specs.Calls.{IsHere}
 use Rattle.cf_volume.specs.Reads.{HasRead}
 use Rattle.cf_volume.specs.Steady.{Steady}
 
-pub here_there : (o : Option Row) (start end : ℕ) → IsHere o start end → o ≡ None → ⊥
-here_there None start end h e = h
-here_there (Some r) start end h e = none-some r (sym e)
-
 pub here_all : (o : Option Row) (r : Row) (start end : ℕ) → IsHere o start end → o ≡ Some r → (p : ℕ) → start ≤ p → p < end → contains r.here p ≡ true
 here_all None r start end h e p low high = absurd h
 here_all (Some x) r start end h e p low high = subst (λ (y : Row). contains y.here p ≡ true) (same_Some x r e) (h p low high)
@@ -35,11 +31,3 @@ row_inside size k id steady r found b n e = named_inside (λ j. j < length k.use
 pub bytes_read : (s t : State) (k : Known) (v : Volume) (id : ItemId) (i : Item) (start end : ℕ) (bytes : List ℕ) → At s k v → item_of v.items id ≡ Some i → IsHere (row_of k.table.rows id) start end
     → ((r : Row) × (row_of k.table.rows id ≡ Some r) × HasRead r.extents start end end bytes s t) → map Some bytes ≡ slice_range i.held start end
 bytes_read s t k v id i start end bytes at is here read = item_read s t k v id i read.0 start end bytes at is read.1 (here_all (row_of k.table.rows id) read.0 start end here read.1) read.2
-
--- the time is not part of what holds of the parts
-pub passed_steady : (size clock : ℕ) (k : Known) → Steady size k → Steady size (record k { clock = clock })
-passed_steady size clock k steady = record { fit = steady.fit; clusters = steady.clusters; inside = steady.inside; later = steady.later; earlier = steady.earlier; usable = steady.usable }
-
--- on another disk of the same size
-pub same_steady : (size after : ℕ) (k : Known) → Steady size k → after ≡ size → Steady after k
-same_steady size after k steady e = subst (λ (n : ℕ). Steady n k) (sym e) steady

@@ -215,9 +215,6 @@ rows_fit (change.Keep item on) rows s f = f
 pub found_fits : (c : Change) (rows : List Row) (r : Row) → stays c ≡ true → Fits c rows → row_of rows (item_of_change c) ≡ Some r → FitsRow c r
 found_fits c rows r s f e = found_of (λ x. x.id.0 ≡ (item_of_change c).0 → FitsRow c x) rows (item_of_change c) r (rows_fit c rows s f) e (found_id rows (item_of_change c) r e)
 
-pub found_end : (c : Change) (rows : List Row) (r : Row) → stays c ≡ true → Fits c rows → row_of rows (item_of_change c) ≡ Some r → HasEnd c
-found_end c rows r s f e = fits_end c r (found_fits c rows r s f e)
-
 -- the pin of a row that is there
 
 pub pin_found : (rows : List Row) (id : ItemId) (r : Row) → row_of rows id ≡ Some r → r.pin ≡ pin_at rows id

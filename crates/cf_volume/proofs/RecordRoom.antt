@@ -129,9 +129,6 @@ without_others key xs other miss = at_without key other false xs miss
 pub without_less : (key : List ℕ) (xs : List AuxRecord) → sum_by aux_len (without_record key xs) ≤ sum_by aux_len xs
 without_less key xs = lighter_left aux_len (λ r. not (same r.key key)) xs
 
-pub aux_steady : (size : ℕ) (k : Known) (records records_then' keys_made' : List AuxRecord) → Steady size k → Steady size (record k { records = records; records_then = records_then'; keys_made = keys_made' })
-aux_steady size k records records_then' keys_made' steady = record { fit = steady.fit; clusters = steady.clusters; inside = steady.inside; later = steady.later; earlier = steady.earlier; usable = steady.usable }
-
 -- a record taken out
 module _ (s : State) (k : Known) (v : Volume) (b : Book) (key : List ℕ) (at : At s k v) (has : HasRecords v.book (without_record key k.records) b) where
   taken_fits : FitsTable v.items b

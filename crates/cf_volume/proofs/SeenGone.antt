@@ -40,7 +40,7 @@ cursor_left id cursor = by (ltb 0 cursor)
     by true = refl
     by false = refl
 
-key_same : (n m : ItemId) → n.0 < 2 ^ 64 → m.0 < 2 ^ 64 → same (seen_key n) (seen_key m) ≡ eqb n.0 m.0
+pub key_same : (n m : ItemId) → n.0 < 2 ^ 64 → m.0 < 2 ^ 64 → same (seen_key n) (seen_key m) ≡ eqb n.0 m.0
 key_same n m low less = by (eqb n.0 m.0) refl
   where
     no : eqb n.0 m.0 ≡ false → same (seen_key n) (seen_key m) ≡ true → same (seen_key n) (seen_key m) ≡ false

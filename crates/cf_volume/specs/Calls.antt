@@ -62,6 +62,11 @@ abbrev pub StopsOnly : Fail → Type 0
 StopsOnly Memory = Unit {0}
 StopsOnly (No code) = code ≡ Device
 
+-- a call that memory alone can stop
+abbrev pub IsMemory : Fail → Type 0
+IsMemory Memory = Unit {0}
+IsMemory (No code) = ⊥
+
 -- another book, whose auxiliary records are these
 pub record HasRecords (b : Book) (records : List AuxRecord) (new : Book) : Type 0 where
   pub told : aux_records new ≡ records

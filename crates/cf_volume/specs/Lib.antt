@@ -7,6 +7,10 @@ pub mod Keys
 pub mod NewRows
 pub mod Copies
 pub mod AuxPuts
+pub mod RoomLeft
 pub mod Writable
 pub mod Accepted
 pub mod Openings
+pub mod Drafts
+pub mod Drafting
+pub mod Tallies

@@ -26,8 +26,8 @@ fn block_count(bytes: u128) -> u128
     bytes.div_ceil(4096)
 }
 
-// How many clusters the change would need in an empty file.
-fn clusters_asked(change: &Change) -> u128
+/// How many clusters the change would need in an empty file.
+pub(crate) fn clusters_asked(change: &Change) -> u128
     requires { stays change.now ≡ true }
     ensures asked { result ≡ length (puts_in change.now []) }
     ensures small { result < 2 ^ 80 }

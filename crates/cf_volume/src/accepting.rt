@@ -1,6 +1,6 @@
 //! Changes put by their kind, with a commit before one that needs room.
 
-ghost use Rattle.std.specs.Prelude.{◌≡◌, ◌≤◌, ◌<◌, ◌+◌, ◌∷◌, [], None, true, IfErr, IfOk, IsFalse, IsTrue, OnOk};
+ghost use Rattle.std.specs.Prelude.{◌≡◌, ◌≤◌, ◌<◌, ◌+◌, ◌∷◌, [], None, false, true, IfErr, IfOk, IsFalse, IsTrue, OnOk};
 ghost use Rattle.cf_disk.specs.Disk.{Leaves, size_of};
 ghost use Rattle.cf_model.specs.Changes.{may_need_room, put_change, why_no_room};
 ghost use Rattle.cf_model.specs.Numbers.{usn_after};
@@ -30,12 +30,12 @@ use cf_image::Contents;
 /// The greatest place of an epoch.
 const MOST: u32 = 4_294_967_295;
 
-/// Whether there is a number for one more change, and the changes can be counted.
-pub(crate) fn has_number(contents: &Contents) -> bool
-    ensures yes { IsTrue result → (contents.now.last.place < 4294967295) × (contents.now.count < 18446744073709551615) }
-    ensures no { IsFalse result → contents.now.count + 1 < 18446744073709551616 → 4294967295 ≤ contents.now.last.place }
+/// Whether a place is left for one more change.
+pub(crate) fn has_place(contents: &Contents) -> bool
+    ensures yes { IsTrue result → contents.now.last.place < 4294967295 }
+    ensures no { IsFalse result → 4294967295 ≤ contents.now.last.place }
 {
-    contents.last.place < MOST && contents.count < u64::MAX
+    contents.last.place < MOST
 }
 
 // Puts a change of an item that is no new one, and stays.
@@ -116,8 +116,8 @@ fn accept_after_commit<D: Disk>(
     Err(Fail::No(Code::Full))
 }
 
-/// Puts a change, for which there is a number, and gives it. A commit comes first where the change needs more clusters than
-/// are free.
+/// Puts a change, for which a place is left, and gives its number. A commit comes first where the change needs more clusters
+/// than are free. There is no memory for a change that cannot be counted.
 pub(crate) fn accept_with_room<D: Disk>(
     disk: &mut D,
     parts: &mut Parts,
@@ -127,16 +127,19 @@ pub(crate) fn accept_with_room<D: Disk>(
     requires fits { Fits change.now parts.old.contents.rows.rows }
     requires next { IsNextId change.now parts.old.contents.rows.next }
     requires place { parts.old.contents.last.place < 4294967295 }
-    requires count { parts.old.contents.count < 18446744073709551615 }
     ensures why { (v : Volume) → At (D.state disk.old) (known_of parts.old) v → (may_need_room change.now v ≡ true → IsKeepable v) → Answers change.now v (record { disk = disk.old; known = known_of parts.old }) result (record { disk = disk.new; known = known_of parts.new }) }
     ensures number { IfOk result (λ n. n ≡ usn_after parts.old.contents.last.epoch parts.old.contents.last.place) }
     ensures done { (v : Volume) → At (D.state disk.old) (known_of parts.old) v → FitsBook change.now v.book → (may_need_room change.now v ≡ true → IsKeepable v) → OnOk result (Applied (D.state disk.new) (known_of parts.new) change.now v) }
     ensures steady { StaysSteady (size_of (D.state disk.new)) (known_of parts.new) result }
     ensures crash { (v : Volume) → At (D.state disk.old) (known_of parts.old) v → (may_need_room change.now v ≡ true → IsKeepable v) → Leaves (D.state disk.old) (D.state disk.new) (StandsEither v) }
+    ensures kept_crash { (v : Volume) → At (D.state disk.old) (known_of parts.old) v → may_need_room change.now v ≡ false → Leaves (D.state disk.old) (D.state disk.new) (StandsLast v) }
     ensures runs { Runs (D.state disk.old) (D.state disk.new) }
     ensures cause { IfErr result (λ e. IsCause e (D.state disk.old) (D.state disk.new)) }
     ensures broken { parts.new.broken ≡ parts.old.broken }
 {
+    if parts.contents.count == u64::MAX {
+        return Err(Fail::Memory);
+    }
     let last = parts.contents.last;
     let number = Usn {
         epoch: last.epoch,

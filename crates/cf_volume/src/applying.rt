@@ -5,13 +5,13 @@ ghost use Rattle.cf_disk.specs.Disk.{Leaves};
 ghost use Rattle.cf_model.specs.Changes.{may_need_room, next_number, put_change};
 ghost use Rattle.cf_model.specs.Points.{with_room_point, with_sure_point};
 ghost use Rattle.cf_model.specs.State.{Volume as model};
-ghost use Rattle.cf_points.specs.At.{Applied, At, StandsEither};
+ghost use Rattle.cf_points.specs.At.{Applied, At, StandsEither, StandsLast};
 ghost use Rattle.cf_points.specs.Keeping.{FitsBook, IsNextId};
 ghost use Rattle.cf_points.specs.Sound.{IsKeepable};
 ghost use Rattle.cf_table.specs.Changing.{Fits};
 ghost use Rattle.cf_volume.specs.Calls.{Answers, Breaks, IfBroken, IsCause, Runs, StopsOnly};
 
-use crate::accepting::{accept_with_room, has_number};
+use crate::accepting::{accept_with_room, has_place};
 use crate::commits::commit_parts;
 use crate::fails::stops;
 use crate::volumes::Volume;
@@ -52,8 +52,9 @@ impl<D: Disk> Volume<D> {
         requires next { IsNextId change.now self.old.known.table.next }
         ensures ok { (v : model) → At (D.state self.old.disk) self.old.known v → FitsBook change.now v.book → (may_need_room change.now v ≡ true → IsKeepable v) → OnOk result (Applied (D.state self.new.disk) self.new.known change.now v) }
         ensures number { (v : model) → At (D.state self.old.disk) self.old.known v → IfOk result (λ n. n ≡ next_number v) }
-        ensures why { (v : model) → At (D.state self.old.disk) self.old.known v → (may_need_room change.now v ≡ true → IsKeepable v) → self.old.known.broken ≡ false → self.old.known.count + 1 < 18446744073709551616 → Answers change.now v self.old result self.new }
+        ensures why { (v : model) → At (D.state self.old.disk) self.old.known v → (may_need_room change.now v ≡ true → IsKeepable v) → self.old.known.broken ≡ false → Answers change.now v self.old result self.new }
         ensures crash { (v : model) → At (D.state self.old.disk) self.old.known v → (may_need_room change.now v ≡ true → IsKeepable v) → Leaves (D.state self.old.disk) (D.state self.new.disk) (StandsEither v) }
+        ensures kept_crash { (v : model) → At (D.state self.old.disk) self.old.known v → may_need_room change.now v ≡ false → Leaves (D.state self.old.disk) (D.state self.new.disk) (StandsLast v) }
         ensures broken { IfBroken self.old result self.new }
         ensures breaks { IfErr result (λ e. Breaks e self.new.known) }
         ensures usable { OnOk result (self.new.known.broken ≡ false) }
@@ -63,7 +64,7 @@ impl<D: Disk> Volume<D> {
         if self.parts.broken {
             return Err(Fail::No(Code::Broken));
         }
-        if !has_number(&self.parts.contents) {
+        if !has_place(&self.parts.contents) {
             return Err(Fail::No(Code::Exhausted));
         }
         match accept_with_room(&mut self.disk, &mut self.parts, change) {

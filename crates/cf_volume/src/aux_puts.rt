@@ -19,8 +19,8 @@ use cf_disk::Disk;
 use cf_image::AuxRecords;
 use std::alloc::Global;
 
-// How many bytes spell the record with a key, and 0 where there is none.
-fn len_at(records: &AuxRecords, key: &[u8]) -> u128
+/// How many bytes spell the record with a key, and 0 where there is none.
+pub(crate) fn len_at(records: &AuxRecords, key: &[u8]) -> u128
     ensures len { result ≡ len_if (record_at records.now key.now) }
     ensures small { result < 2 ^ 80 }
 {

@@ -6,7 +6,7 @@ ghost use Rattle.cf_model.specs.Items.{Item, item_of};
 ghost use Rattle.cf_model.specs.State.{Volume as model};
 ghost use Rattle.cf_points.specs.At.{At};
 ghost use Rattle.cf_table.specs.Tables.{row_of};
-ghost use Rattle.cf_volume.specs.Calls.{Breaks, HasRecords, IfBroken, StopsOnly, WhyAux, put_record};
+ghost use Rattle.cf_volume.specs.Calls.{Breaks, HasRecords, IfBroken, IsMemory, WhyAux, put_record};
 
 use crate::aux_puts::put_aux;
 use crate::noting::{anchor_row, touch_row};
@@ -15,11 +15,12 @@ use cf_base::{Code, Fail, ItemId};
 use cf_disk::Disk;
 
 impl<D: Disk> Volume<D> {
-    /// Makes the anchor of an item its number. It is durable with the next commit.
+    /// Makes the anchor of an item its number. It is durable with the next commit. Memory where there is none; the disk is
+    /// not called.
     pub fn anchor(&mut self, id: ItemId) -> Result<(), Fail>
         requires there { row_of self.old.known.table.rows id ≡ None → ⊥ }
         ensures ok { (v : model) (i : Item) → At (D.state self.old.disk) self.old.known v → item_of v.items id ≡ Some i → OnOk result (At (D.state self.new.disk) self.new.known (record v { book = with_anchor id i.number v.book })) }
-        ensures only { self.old.known.broken ≡ false → IfErr result StopsOnly }
+        ensures only { self.old.known.broken ≡ false → IfErr result IsMemory }
         ensures disk { self.new.disk ≡ self.old.disk }
         ensures broken { IfBroken self.old result self.new }
         ensures breaks { IfErr result (λ e. Breaks e self.new.known) }
@@ -37,11 +38,12 @@ impl<D: Disk> Volume<D> {
         }
     }
 
-    /// Makes the clock that of the last access of a file. It is durable with the next commit.
+    /// Makes the clock that of the last access of a file. It is durable with the next commit. Memory where there is none; the
+    /// disk is not called.
     pub fn touch(&mut self, id: ItemId) -> Result<(), Fail>
         requires there { row_of self.old.known.table.rows id ≡ None → ⊥ }
         ensures ok { (v : model) → At (D.state self.old.disk) self.old.known v → OnOk result (At (D.state self.new.disk) self.new.known (record v { book = with_access id v.book })) }
-        ensures only { self.old.known.broken ≡ false → IfErr result StopsOnly }
+        ensures only { self.old.known.broken ≡ false → IfErr result IsMemory }
         ensures disk { self.new.disk ≡ self.old.disk }
         ensures broken { IfBroken self.old result self.new }
         ensures breaks { IfErr result (λ e. Breaks e self.new.known) }
@@ -59,10 +61,10 @@ impl<D: Disk> Volume<D> {
         }
     }
 
-    /// Lets so many ticks of the clock pass. It is durable with the next commit.
+    /// Lets so many ticks of the clock pass, up to 2 ^ 64 - 1. It is durable with the next commit. Only Broken is answered.
     pub fn pass(&mut self, ticks: u64) -> Result<(), Fail>
         ensures ok { (v : model) → At (D.state self.old.disk) self.old.known v → OnOk result (At (D.state self.new.disk) self.new.known (record v { book = with_ticks ticks v.book })) }
-        ensures only { self.old.known.broken ≡ false → IfErr result StopsOnly }
+        ensures only { self.old.known.broken ≡ false → IfErr result (λ e. ⊥) }
         ensures disk { self.new.disk ≡ self.old.disk }
         ensures broken { IfBroken self.old result self.new }
         ensures breaks { IfErr result (λ e. Breaks e self.new.known) }

@@ -24,8 +24,8 @@ use std::alloc::Global;
 /// The item that is always there.
 const ROOT: ItemId = ItemId(1);
 
-// A table without a row.
-fn no_rows(alloc: Global) -> Result<Rows, Memory>
+/// A table without a row.
+pub(crate) fn no_rows(alloc: Global) -> Result<Rows, Memory>
     ensures { IfOk result (λ t. t.rows ≡ []) }
 {
     let mut rows = Rows::new(alloc)?;

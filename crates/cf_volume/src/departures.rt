@@ -21,8 +21,8 @@ use cf_base::{Blob, Change, Fail, ItemId, Memory, Usn};
 use cf_disk::Disk;
 use std::alloc::Global;
 
-// The key of the record of an item's path seen.
-fn seen_key(alloc: Global, id: ItemId) -> Result<Blob, Memory>
+/// The key of the record of an item's path seen.
+pub(crate) fn seen_key(alloc: Global, id: ItemId) -> Result<Blob, Memory>
     ensures key { IfOk result (λ key. key ≡ seen_key id) }
     ensures short { IfOk result (λ key. length key ≤ 255) }
     ensures low { id.0 < 2 ^ 64 }

@@ -20,27 +20,27 @@ ghost use Rattle.cf_volume.specs.Steady.{Steady, known_of};
 
 use crate::kinds::pin_of;
 use crate::parts::Parts;
-use cf_base::{Blob, Identity, ItemId, Kind, Memory, Name, Usn};
+use cf_base::{Blob, Identity, ItemId, Kind, Memory, Name, Pin, Usn};
 use cf_disk::Disk;
 use cf_table::{Place, Row, Rows};
 use std::alloc::Global;
 
-// Where a new item stands, and what it takes from there.
-fn place_of(
+/// Where a new item stands. `pin` is that of its parent.
+pub(crate) fn place_of(
     alloc: Global,
-    rows: &Rows,
     item: ItemId,
     parent: ItemId,
     name: &Name,
+    pin: Pin,
     number: Usn,
 ) -> Result<Place, Memory>
-    ensures { IfOk result (λ p. p ≡ record { id = item; parent = parent; name = name.now; pin = pin_at rows.now.rows parent; number = number }) }
+    ensures { IfOk result (λ p. p ≡ record { id = item; parent = parent; name = name.now; pin = pin; number = number }) }
 {
     Ok(Place {
         id: item,
         parent,
         name: Blob::from_slice(alloc, name.as_slice())?,
-        pin: pin_of(rows, parent),
+        pin,
         number,
     })
 }
@@ -62,7 +62,7 @@ pub(crate) fn plan_made(
     ensures means { IfOk result (λ r. Means r (made item parent name.now kind size identity.now (pin_at rows.now.rows parent) number)) }
     ensures fresh { IfOk result IsFresh }
 {
-    let place = place_of(alloc, rows, item, parent, name, number)?;
+    let place = place_of(alloc, item, parent, name, pin_of(rows, parent), number)?;
     Ok(Row::made(alloc, place, kind, size as u32, identity.copy()?))
 }
 
@@ -86,7 +86,7 @@ pub(crate) fn plan_copied(
     ensures spellable { IfOk result IsSpellable }
 {
     let _ = rows.image_len();
-    let place = place_of(alloc, rows, item, parent, name, number)?;
+    let place = place_of(alloc, item, parent, name, pin_of(rows, parent), number)?;
     match rows.get(from) {
         None => unreachable!(),
         Some(row) => row.copied(alloc, place),

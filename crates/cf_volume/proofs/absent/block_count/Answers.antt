@@ -1,4 +1,4 @@
-use Rattle.std.proofs.Common.{◌≡◌, sym, ◌∙◌, arith}
+use Rattle.std.proofs.Common.{arith}
 use Rattle.cf_volume.proofs.NotThere.{blocks_counted}
 use Rattle.cf_volume.proofs.absent.block_count.Goals as goal
 

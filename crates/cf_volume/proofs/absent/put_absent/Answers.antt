@@ -1,6 +1,5 @@
-use Rattle.std.proofs.Common.{◌≡◌, ◌+◌, ◌∙◌, ℕ, Bool, cond, ltb, length, inr, sym, ap, Some, None}
+use Rattle.std.proofs.Common.{◌+◌, ◌∙◌, ℕ, Bool, cond, ltb, length, inr, ap, Some, None}
 use Rattle.cf_base.specs.declared.codes.Code.TheVariants as code
-use Rattle.cf_blocks.specs.Bytes.{puts_in}
 use Rattle.cf_data.specs.Roles.{how_many, is_now}
 use Rattle.cf_model.specs.Numbers.{usn_after}
 use Rattle.cf_volume.proofs.NotThere.{absent_at, absent_why}

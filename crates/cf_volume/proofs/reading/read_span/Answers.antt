@@ -1,6 +1,5 @@
-use Rattle.std.proofs.Common.{◌≡◌, ◌+◌, ◌*◌, ◌-◌, ◌/◌, ◌%◌, ◌≤◌, ◌<◌, refl, sym, ◌∙◌, ap, subst, arith, length, ℕ, take, drop, ◌++◌}
+use Rattle.std.proofs.Common.{◌≡◌, ◌+◌, ◌/◌, ◌%◌, ◌≤◌, refl, sym, ◌∙◌, ap, subst, arith, length, ℕ, take, drop, ◌++◌}
 use Rattle.cf_data.specs.Area.{place}
-use Rattle.cf_disk.specs.Disk.{size_of}
 use Rattle.cf_volume.proofs.FileReads.{read_none, read_more, reads_keep, reads_leave}
 use Rattle.cf_volume.proofs.Stagings.{ran_then, stop_later}
 use Rattle.cf_points.specs.Standing.{cluster_on}

@@ -1,4 +1,4 @@
-use Rattle.std.proofs.Common.{◌+◌, ◌-◌}
+use Rattle.std.proofs.Common.{◌-◌}
 use Rattle.cf_volume.specs.Reads.{HasRead}
 use Rattle.cf_volume.proofs.reading.read_span.Given as goal
 

@@ -1,6 +1,6 @@
 use Rattle.std.proofs.Common.{sym}
-use Rattle.cf_points.proofs.Saves.{untouched_either}
-use Rattle.cf_points.specs.At.{StandsEither}
+use Rattle.cf_points.proofs.Saves.{untouched, untouched_either}
+use Rattle.cf_points.specs.At.{StandsEither, StandsLast}
 use Rattle.cf_volume.proofs.Views.{seen_at, seen_leaves}
 use Rattle.cf_volume.proofs.WithRoom.{whole_answer}
 use Rattle.cf_volume.specs.Steady.{known_of}
@@ -11,8 +11,8 @@ returns-then-self-clause-crash g c = λ v at keep.
     untouched_either (g.D.Disk.state c.args.self.now.disk) (g.D.Disk.state c.args.self.now.disk) c.args.self.now.known v
     (record { reads_one = g.met.D.Disk.reads_one c.args.self.now.disk; same_size = g.met.D.Disk.same_size c.args.self.now.disk }) at
 
-pub returns-then-not-has_number-clause-crash : goal.returns-then-not-has_number-clause-crash
-returns-then-not-has_number-clause-crash g c = λ v at keep.
+pub returns-then-not-has_place-clause-crash : goal.returns-then-not-has_place-clause-crash
+returns-then-not-has_place-clause-crash g c = λ v at keep.
     untouched_either (g.D.Disk.state c.args.self.now.disk) (g.D.Disk.state c.args.self.now.disk) c.args.self.now.known v
     (record { reads_one = g.met.D.Disk.reads_one c.args.self.now.disk; same_size = g.met.D.Disk.same_size c.args.self.now.disk }) at
 
@@ -21,10 +21,28 @@ returns-in-Ok-clause-crash g c = λ v at keep.
     seen_leaves g.D.Disk.state (g.D.Disk.state c.accept_with_room.new.disk) (StandsEither v) c.self.view_is (c.in-Ok.ensures.crash v (seen_at g.D.Disk.state v (sym c.self.view_is) at) keep)
 
 pub returns-in-Err-clause-why : goal.returns-in-Err-clause-why
-returns-in-Err-clause-why g c = λ v at keep whole count.
+returns-in-Err-clause-why g c = λ v at keep whole.
     whole_answer c.args.change.now v c.self.inside.disk c.accept_with_room.new.disk (known_of c.self.inside.parts) (known_of c.accept_with_room.new.parts) c.in-Err.fail c.stops-self-inside.result c.self.view_is c.if-self.false
     c.stops-self-inside.ensures (c.in-Err.ensures.why v (seen_at g.D.Disk.state v (sym c.self.view_is) at) keep)
 
 pub returns-in-Err-clause-crash : goal.returns-in-Err-clause-crash
 returns-in-Err-clause-crash g c = λ v at keep.
     seen_leaves g.D.Disk.state (g.D.Disk.state c.accept_with_room.new.disk) (StandsEither v) c.self.view_is (c.in-Err.ensures.crash v (seen_at g.D.Disk.state v (sym c.self.view_is) at) keep)
+
+pub returns-then-self-clause-kept_crash : goal.returns-then-self-clause-kept_crash
+returns-then-self-clause-kept_crash g c = λ v at none.
+    untouched (g.D.Disk.state c.args.self.now.disk) (g.D.Disk.state c.args.self.now.disk) c.args.self.now.known v
+    (record { reads_one = g.met.D.Disk.reads_one c.args.self.now.disk; same_size = g.met.D.Disk.same_size c.args.self.now.disk }) at
+
+pub returns-then-not-has_place-clause-kept_crash : goal.returns-then-not-has_place-clause-kept_crash
+returns-then-not-has_place-clause-kept_crash g c = λ v at none.
+    untouched (g.D.Disk.state c.args.self.now.disk) (g.D.Disk.state c.args.self.now.disk) c.args.self.now.known v
+    (record { reads_one = g.met.D.Disk.reads_one c.args.self.now.disk; same_size = g.met.D.Disk.same_size c.args.self.now.disk }) at
+
+pub returns-in-Ok-clause-kept_crash : goal.returns-in-Ok-clause-kept_crash
+returns-in-Ok-clause-kept_crash g c = λ v at none.
+    seen_leaves g.D.Disk.state (g.D.Disk.state c.accept_with_room.new.disk) (StandsLast v) c.self.view_is (c.in-Ok.ensures.kept_crash v (seen_at g.D.Disk.state v (sym c.self.view_is) at) none)
+
+pub returns-in-Err-clause-kept_crash : goal.returns-in-Err-clause-kept_crash
+returns-in-Err-clause-kept_crash g c = λ v at none.
+    seen_leaves g.D.Disk.state (g.D.Disk.state c.accept_with_room.new.disk) (StandsLast v) c.self.view_is (c.in-Err.ensures.kept_crash v (seen_at g.D.Disk.state v (sym c.self.view_is) at) none)

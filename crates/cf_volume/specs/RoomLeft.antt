@@ -1,0 +1,30 @@
+-- Whether changes have room.
+use Rattle.std.specs.Prelude.{◌≡◌, ◌≤◌, ◌<◌, All, MatchOption, length, not, List, [], ◌∷◌}
+use Rattle.cf_base.specs.declared.changes.Change.{Change}
+use Rattle.cf_base.specs.declared.changes.Change.TheVariants as change
+use Rattle.cf_model.specs.Books.{Book}
+use Rattle.cf_model.specs.Changes.{lacks_numbers, no_blocks, no_table, put_change}
+use Rattle.cf_model.specs.Items.{Item, item_of}
+use Rattle.cf_model.specs.State.{Volume}
+use Rattle.cf_points.specs.Keeping.{FitsBook}
+use Rattle.cf_table.specs.Changing.{FitsItems}
+use Rattle.cf_volume.specs.declared.rooms.Room.{Room}
+
+-- What a change of a list meets in the items before it: it fits the table, whose book names a removed item by its key. A new
+-- item has an id above all others; whether that is one of an item is a matter of room.
+abbrev pub FitsAmong : Change → Book → List Item → Type 0
+FitsAmong (change.Make item parent name kind size identity) b items = All (λ i. i.id.0 < item.0) items × (length name ≤ 255) × (length identity ≤ 65535) × (size ≤ 16777216)
+FitsAmong (change.Copy item from parent name) b items = All (λ i. i.id.0 < item.0) items × (length name ≤ 255) × MatchOption (item_of items from) ⊥ (λ i. 8 ≤ length i.identity)
+FitsAmong (change.Remove item) b items = Unit {0}
+FitsAmong c b items = FitsItems c b items
+
+-- each change meets it in the volume that those before it make
+abbrev pub FitInTurn : List Change → Volume → Type 0
+FitInTurn [] v = Unit {0}
+FitInTurn (c ∷ cs) v = FitsAmong c v.book v.items × FitsBook c v.book × FitInTurn cs (put_change c v)
+
+-- no change of the list is refused for want of numbers, of the table's room, and of clusters
+pub record HasRoomFor (cs : List Change) (v : Volume) (r : Room) : Type 0 where
+  pub places : r.places ≡ not (lacks_numbers v cs)
+  pub table : r.table ≡ not (no_table v cs)
+  pub blocks : r.blocks ≡ not (no_blocks v cs)
