@@ -29,7 +29,7 @@ change_ends c s a t h = one (may_need_room c s.volume) h where
 pub ready_still : (cs : List Change) (v : Volume) (ps : List Point) (items : List Item) (n : ℕ) → AreReady cs v → AreReady cs (record v { points = ps; items_then = items; put_since = n })
 ready_still [] v ps items n h = record {}
 ready_still (c ∷ cs) v ps items n h =
-    (record { room = h.0.room; suits = record { fits = h.0.suits.fits; needs = h.0.suits.needs; plants = h.0.suits.plants } }, ready_still cs (put_change c v) ps items (n + length (puts_into v.items c)) h.1)
+    (record { room = h.0.room; suits = record { fits = h.0.suits.fits; needs = h.0.suits.needs; plants = h.0.suits.plants; lasts = h.0.suits.lasts } }, ready_still cs (put_change c v) ps items (n + length (puts_into v.items c)) h.1)
 
 pub ready_next : (c : Change) (cs : List Change) (s t : Filter) (a : Unit {0}) → ReadyAll (c ∷ cs) s → Ends (change c s) a t → ReadyAll cs t
 ready_next c cs s t a h e = one (change_ends c s a t e) where

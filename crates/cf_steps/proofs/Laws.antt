@@ -1,5 +1,5 @@
 -- Parts one after the other.
-use Rattle.std.proofs.Common.{◌≡◌, List, ◌∷◌, refl, sym, ◌∙◌, ap, subst, ℕ, ◌+◌, ◌<◌, ◌≤◌, length, drop, get_or}
+use Rattle.std.proofs.Common.{◌≡◌, List, [], ◌∷◌, refl, sym, ◌∙◌, ap, subst, ℕ, ◌+◌, ◌<◌, ◌≤◌, length, drop, get_or}
 use Rattle.std.proofs.lemmas.List.{drop_more}
 use Rattle.std.proofs.Math.ListN.{drop_of_length-le}
 use Rattle.std.proofs.lemmas.Result.{err_from_is_err_and}
@@ -12,6 +12,7 @@ use Rattle.cf_model.specs.State.{Filter}
 use Rattle.cf_model.specs.Trees.{Does, Ends, Ret}
 use Rattle.cf_model.proofs.TreeLaws as trees
 use Rattle.cf_steps.specs.Answering.{After, Answers, Any, Reads, Sense}
+use Rattle.cf_steps.specs.Good.{Every}
 
 pub returned : {X A : Type 0} (S : Sense X) (P : Filter → Type 0) (a : A) (x : X) → Answers S P (ret a) x (Ok a) x
 returned S P a x = record { leads = λ s h p. (s, (refl, refl), S.stays x s h, h) }
@@ -69,6 +70,10 @@ noted_as S P f g old new r same h = record {
       subst (λ (y : Filter). (t : Filter) × Does (Ret unit y) r t × S.moved old new s t × After S r new t) (same s i p) (h.leads s i p);
 }
 
+-- at an exit by `?`
+pub with_err : {X A : Type 0} (S : Sense X) (P : Filter → Type 0) (f : Arrow Filter A) (old new : X) (e : Fail) (r : Result A Fail) → IsErrAnd r (λ y. y ≡ e) → Answers S P f old (Err e) new → Answers S P f old r new
+with_err {X} {A} S P f old new e r is h = let p = err_from_is_err_and r is in subst (λ (q : Result A Fail). Answers S P f old q new) (sym (p.1 ∙ ap (λ (z : Fail). Err z) p.2)) h
+
 -- loops
 
 -- the rest of a list from an element on
@@ -79,6 +84,32 @@ pub each_more : {X V : Type 0} (S : Sense X) (f : V → Arrow Filter (Unit {0}))
     → i < length xs → x ≡ get_or xs i x → Answers S Any (f x) old (Ok v) mid → Answers S Any (each f (drop (i + 1) xs)) mid r new → Answers S Any (each f (drop i xs)) old r new
 each_more S f xs i x old mid v r new small is a rest =
     subst (λ (ys : List _). Answers S Any (each f ys) old r new) (sym (drop_at xs i x small is)) (any_on S (f x) (each f (drop (i + 1) xs)) old mid new v r a rest)
+
+-- the same where each needs a property of its own, which what was done before it leaves
+abbrev pub All : {V : Type 0} → (V → Filter → Type 0) → List V → Filter → Type 0
+All P xs s = Every (λ x. P x s) xs
+
+pub all_more : {X V : Type 0} (S : Sense X) (P : V → Filter → Type 0) (f : V → Arrow Filter (Unit {0})) (xs : List V) (i : ℕ) (x : V) (old mid : X) (v : Unit {0}) (r : Result (Unit {0}) Fail) (new : X)
+    → ((y : V) (ys : List V) (s t : Filter) → All P ys s → Ends (f y s) v t → All P ys t)
+    → i < length xs → x ≡ get_or xs i x → Answers S (P x) (f x) old (Ok v) mid → Answers S (All P (drop (i + 1) xs)) (each f (drop (i + 1) xs)) mid r new → Answers S (All P (drop i xs)) (each f (drop i xs)) old r new
+all_more S P f xs i x old mid v r new stays small is a rest =
+    subst (λ (ys : List _). Answers S (All P ys) (each f ys) old r new) (sym (drop_at xs i x small is))
+    (then_on S (All P (x ∷ drop (i + 1) xs)) (All P (drop (i + 1) xs)) (f x) (each f (drop (i + 1) xs)) old mid new v r (λ s t p e. stays x (drop (i + 1) xs) s t p.1 e)
+    (weaker S (P x) (All P (x ∷ drop (i + 1) xs)) (f x) old mid (Ok v) (λ s p. p.0) a) rest)
+
+pub all_exits : {X V : Type 0} (S : Sense X) (P : V → Filter → Type 0) (f : V → Arrow Filter (Unit {0})) (all xs : List V) (i : ℕ) (x : V) (first old : X) (e : Fail) (r : Result (Unit {0}) Fail) (new : X)
+    → ((q : Result (Unit {0}) Fail) (v : X) → Answers S (All P (drop i xs)) (each f (drop i xs)) old q v → Answers S (All P all) (each f all) first q v)
+    → i < length xs → x ≡ get_or xs i x → Answers S (P x) (f x) old (Err e) new → IsErrAnd r (λ y. y ≡ e) → Answers S (All P all) (each f all) first r new
+all_exits S P f all xs i x first old e r new inv small at a is =
+    let fail : Answers S (All P (drop i xs)) (each f (drop i xs)) old (Err e) new = subst (λ (ys : List _). Answers S (All P ys) (each f ys) old (Err e) new) (sym (drop_at xs i x small at))
+    (stops_first S (All P (x ∷ drop (i + 1) xs)) (f x) (each f (drop (i + 1) xs)) old new e (weaker S (P x) (All P (x ∷ drop (i + 1) xs)) (f x) old new (Err e) (λ s p. p.0) a)) in
+    with_err S (All P all) (each f all) first new e r is (inv (Err e) new fail)
+
+pub all_ends : {X V : Type 0} (S : Sense X) (P : V → Filter → Type 0) (f : V → Arrow Filter (Unit {0})) (all xs : List V) (i : ℕ) (first last : X)
+    → ((q : Result (Unit {0}) Fail) (v : X) → Answers S (All P (drop i xs)) (each f (drop i xs)) last q v → Answers S (All P all) (each f all) first q v)
+    → length xs ≤ i → Answers S (All P all) (each f all) first (Ok unit) last
+all_ends S P f all xs i first last inv h =
+    inv (Ok unit) last (subst (λ (ys : List _). Answers S (All P ys) (each f ys) last (Ok unit) last) (sym (drop_of_length-le xs h)) (returned S (All P []) unit last))
 
 pub each_exits : {X V : Type 0} (S : Sense X) (f : V → Arrow Filter (Unit {0})) (all xs : List V) (i : ℕ) (x : V) (first old : X) (e : Fail) (r : Result (Unit {0}) Fail) (new : X)
     → ((q : Result (Unit {0}) Fail) (v : X) → Answers S Any (each f (drop i xs)) old q v → Answers S Any (each f all) first q v)
@@ -96,10 +127,6 @@ each_ends S f all xs i first last inv h = inv (Ok unit) last (subst (λ (ys : Li
 -- what is known of each state that it stands for
 pub known : {X A : Type 0} (S : Sense X) (P : Filter → Type 0) (f : Arrow Filter A) (old new : X) (r : Result A Fail) → ((s : Filter) → S.means old s → P s) → Answers S P f old r new → Answers S Any f old r new
 known S P f old new r w h = record { leads = λ s i p. h.leads s i (w s i) }
-
--- at an exit by `?`
-pub with_err : {X A : Type 0} (S : Sense X) (P : Filter → Type 0) (f : Arrow Filter A) (old new : X) (e : Fail) (r : Result A Fail) → IsErrAnd r (λ y. y ≡ e) → Answers S P f old (Err e) new → Answers S P f old r new
-with_err {X} {A} S P f old new e r is h = let p = err_from_is_err_and r is in subst (λ (q : Result A Fail). Answers S P f old q new) (sym (p.1 ∙ ap (λ (z : Fail). Err z) p.2)) h
 
 -- of what a call gives where it gives something
 pub ok_map : {A E : Type 0} (r : Result A E) (P Q : A → Type 0) → ((x : A) → P x → Q x) → IfOk r P → IfOk r Q

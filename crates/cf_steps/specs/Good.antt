@@ -1,6 +1,8 @@
 -- What holds of every filter that a program has: its items form a tree, and each of them is sound and within the limits.
 use Rattle.std.specs.Prelude.{◌≡◌, ◌<◌, ◌≤◌, ◌==◌, false, true, List, [], ◌∷◌, MatchOption, length}
 use Rattle.cf_base.specs.declared.ids.ItemId.{ItemId}
+use Rattle.cf_base.specs.declared.waits.WaitKind.{WaitKind}
+use Rattle.cf_base.specs.declared.waits.WaitKind.TheVariants as wait_kind
 use Rattle.cf_model.specs.Texts.{is_name}
 use Rattle.cf_model.specs.Images.{image_len, most_image}
 use Rattle.cf_model.specs.Items.{Item, base_of, item_of}
@@ -8,6 +10,7 @@ use Rattle.cf_model.specs.Soundness.{AllLater, AllSound}
 use Rattle.cf_model.specs.Changes.{next_number}
 use Rattle.cf_model.specs.Numbers.{no_key, same_key}
 use Rattle.cf_model.specs.State.{Filter, Volume}
+use Rattle.cf_table.specs.Reading.{IsStored}
 use Rattle.cf_tree.specs.Trees.{AreOpen, IsTree}
 
 -- the property holds of each
@@ -29,6 +32,7 @@ pub record IsGoodVolume (v : Volume) : Type 0 where
   pub small : Every IsSmall v.items
   pub later : AllLater (next_number v) v.items
   pub below : Every (λ i. i.id.0 < v.next_item.0) v.items
+  pub pins : Every (λ i. IsStored i.pin) v.items
   -- there are not too many items, and their table is not too long
   pub few : length v.items ≤ 10000
   pub short : image_len v.items v.book ≤ most_image
@@ -37,9 +41,16 @@ pub record IsGoodVolume (v : Volume) : Type 0 where
 abbrev pub IsFileIn : List Item → ItemId → Type 0
 IsFileIn items id = MatchOption (item_of items id) ⊥ (λ i. i.directory ≡ false)
 
+-- what reads is on a file
+abbrev pub IsOnFile : WaitKind → List Item → ItemId → Type 0
+IsOnFile wait_kind.Read items item = IsFileIn items item
+IsOnFile _ items item = Unit {0}
+
 pub record IsGood (s : Filter) : Type 0 where
   pub volume : IsGoodVolume s.volume
   -- each handle leads to a file
   pub files : Every (λ o. IsFileIn s.volume.items o.item) s.handles
   -- each wait has a number
   pub numbered : Every (λ w. same_key w.id.0 no_key ≡ false) s.waiting.waits
+  -- and each that reads is on a file
+  pub reads : Every (λ w. IsOnFile w.kind s.volume.items w.item) s.waiting.waits

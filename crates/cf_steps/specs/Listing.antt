@@ -13,7 +13,7 @@ use Rattle.cf_model.specs.Operations.{no_table_listed}
 use Rattle.cf_model.specs.Soundness.{Needs}
 use Rattle.cf_model.specs.State.{Filter, Volume}
 use Rattle.cf_model.specs.Texts.{is_name}
-use Rattle.cf_steps.specs.Suiting.{FitsTable}
+use Rattle.cf_steps.specs.Suiting.{FitsTable, LastsAs}
 use Rattle.cf_steps.specs.declared.rooms.Room.{Room}
 
 -- the new book has these records besides, and all else as before
@@ -40,6 +40,7 @@ pub record IsEntry (dir : ItemId) (c : Change) (v : Volume) : Type 0 where
   pub fits : FitsTable c v.book v.items
   pub needs : Needs c v.items
   pub lists : Lists dir c v.items v.next_item
+  pub lasts : LastsAs c v.items
 
 -- each change in turn
 abbrev pub AreEntries : ItemId → List Change → Volume → Type 0

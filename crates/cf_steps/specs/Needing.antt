@@ -18,7 +18,7 @@ use Rattle.cf_model.specs.Words.{first_of}
 use Rattle.cf_requests.specs.Steps.{limit_of, limits_by, moved_of}
 use Rattle.cf_requests.specs.declared.moves.Moves.{Moves}
 use Rattle.cf_steps.specs.Answering.{Answers, Any, Reads, Sense}
-use Rattle.cf_steps.specs.Good.{IsFileIn}
+use Rattle.cf_steps.specs.Good.{IsFileIn, IsOnFile}
 use Rattle.cf_steps.specs.declared.needs.Need.{Need}
 
 -- in the words of the definitions
@@ -28,6 +28,14 @@ meant n = record { kind = n.kind; item = n.item; handle = n.handle; span = n.spa
 -- nothing is missing that it needs
 abbrev pub IsMet : waits.Need → Filter → Type 0
 IsMet n s = waits.is_met_now n s ≡ true
+
+-- what it reads is a file
+abbrev pub ReadsFile : waits.Need → Filter → Type 0
+ReadsFile n s = IsOnFile n.kind s.volume.items n.item
+
+pub record MayAnswer (n : waits.Need) (s : Filter) : Type 0 where
+  pub met : IsMet n s
+  pub file : ReadsFile n s
 
 abbrev pub end_told : waits.Need → Filter → End
 end_told n s = end_of s.volume.items (waits.wait_for n s) cause.Met
@@ -43,16 +51,16 @@ begun_moves beside n s = moved_of beside (waits.begun n s).0
 abbrev pub with_begun : waits.Need → Filter → Filter
 with_begun n s = with_waiting (waits.begun n s).1 (waits.with_own n s)
 
--- The wait began; or it would pass a limit, or there was no memory, and nothing changed.
-abbrev pub Starts : {X : Type 0} → Sense X → waits.Need → X → Result (WaitId × Moves) Fail → X → Type 0
-Starts S n old (Ok m) new =
-    Reads S Any (start_refusal n) old None × Reads S Any (waits.own_id n) old m.0 × Reads S Any (begun_moves m.1.background n) old m.1 × Answers S Any (noted (with_begun n)) old (Ok unit) new
-Starts S n old (Err (No c)) new = Reads S Any (start_refusal n) old (Some c) × (new ≡ old)
-Starts S n old (Err Memory) new = new ≡ old
-
 -- a wait as far as the limits of its kind allow
 abbrev pub begin_limited : waits.Need → Arrow Filter Shown
 begin_limited n s = unless shown.Refused (start_refusal n s) (reading (waits.begun n) (waits.begin_now n)) s
+
+-- The wait began; or it would pass a limit, and nothing changed; or there was no memory.
+abbrev pub Starts : {X : Type 0} → Sense X → waits.Need → X → Result (WaitId × Moves) Fail → X → Type 0
+Starts S n old (Ok m) new =
+    Reads S Any (start_refusal n) old None × Reads S Any (waits.own_id n) old m.0 × Reads S Any (begun_moves m.1.background n) old m.1 × Answers S (ReadsFile n) (noted (with_begun n)) old (Ok unit) new
+Starts S n old (Err (No c)) new = Reads S Any (start_refusal n) old (Some c) × (new ≡ old)
+Starts S n old (Err Memory) new = Answers S (ReadsFile n) (begin_limited n) old (Err Memory) new
 
 -- one more handle may be open
 abbrev pub MayOpen : Filter → Type 0

@@ -14,7 +14,7 @@ use Rattle.cf_model.specs.Items.{Item, bytes_held, item_of}
 use Rattle.cf_model.specs.LookUp.{children}
 use Rattle.cf_model.specs.State.{Filter}
 use Rattle.cf_steps.specs.Good.{IsFileIn}
-use Rattle.cf_steps.specs.Readings.{has_handle}
+use Rattle.cf_steps.specs.Readings.{has_handle, has_wait}
 use Rattle.cf_steps.specs.Suiting.{Ready}
 
 abbrev pub IsFile : ItemId → Filter → Type 0
@@ -25,12 +25,14 @@ pub record ReadyOn (item : ItemId) (c : Change) (s : Filter) : Type 0 where
   pub ready : Ready c s
   pub file : IsFile item s
 
--- An item that may go: not the root, without a child, and no handle is open on it. A number is left for the change.
+-- An item that may go: not the root, without a child, and no handle is open on it, nor does a wait name it. A number is left
+-- for the change.
 pub record MayGo (id : ItemId) (i : Item) (s : Filter) : Type 0 where
   pub there : item_of s.volume.items id ≡ Some i
   pub below : (id.0 == 1) ≡ false
   pub empty : children s.volume.items id ≡ []
   pub closed : has_handle id s ≡ false
+  pub idle : has_wait id s ≡ false
   pub left : no_places s.volume 1 ≡ false
 
 -- it goes, and where that is said its tombstone comes in the same step

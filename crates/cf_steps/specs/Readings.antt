@@ -41,6 +41,10 @@ opened_item h s = item_opened (opened_by h s)
 abbrev pub has_handle : ItemId → Filter → Bool
 has_handle item s = list_any (λ h. h.item.0 == item.0) s.handles
 
+-- a live wait is on the item
+abbrev pub has_wait : ItemId → Filter → Bool
+has_wait item s = list_any (λ w. w.item.0 == item.0) s.waiting.waits
+
 abbrev pub open_refusal : Filter → Option Code
 open_refusal s = first_of (open_tests s)
 

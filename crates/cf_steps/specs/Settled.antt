@@ -16,7 +16,7 @@ use Rattle.cf_model.specs.Settling.{end_wait, no_view, told_at}
 use Rattle.cf_model.specs.State.{Filter}
 use Rattle.cf_requests.specs.Steps.{carried}
 use Rattle.cf_steps.specs.Answering.{Sense}
-use Rattle.cf_steps.specs.Good.{IsSmall}
+use Rattle.cf_steps.specs.Good.{Every, IsOnFile, IsSmall}
 use Rattle.cf_steps.specs.Looking.{IsSeen}
 use Rattle.cf_steps.specs.Readings.{with_asks}
 use Rattle.cf_table.specs.Means.{Means}
@@ -37,6 +37,13 @@ pub record LooksNow {X : Type 0} (S : Sense X) (item : ItemId) (d : Deed) (p : P
 -- The plan is that of a step on an item that is gone.
 pub record LooksGone {X : Type 0} (S : Sense X) (item : ItemId) (d : Deed) (p : Planned) (x : X) : Type 0 where
   pub is : (s : Filter) → S.means x s → carried p s.waiting ≡ step_of item no_view d s.waiting
+
+-- the wait that ended, where it reads, is on a file
+abbrev pub IsEndOnFile : Wait × Cause → Filter → Type 0
+IsEndOnFile e s = IsOnFile e.0.kind s.volume.items e.0.item
+
+abbrev pub AreOnFiles : List (Wait × Cause) → Filter → Type 0
+AreOnFiles es s = Every (λ e. IsEndOnFile e s) es
 
 -- what a step tells, in its order
 abbrev pub tell_moves : List (Wait × Cause) → List Key → List Ask → Arrow Filter (Unit {0})

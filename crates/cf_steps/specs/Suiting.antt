@@ -1,5 +1,6 @@
 -- What a change meets, besides room for it.
-use Rattle.std.specs.Prelude.{◌≡◌, ◌<◌, ◌≤◌, ◌==◌, ℕ, false, true, List, [], ◌∷◌, length, None, MatchOption}
+use Rattle.std.specs.Prelude.{◌≡◌, ◌<◌, ◌≤◌, ◌==◌, ℕ, false, true, List, [], ◌∷◌, length, None, MatchOption, is_some}
+use Rattle.std.specs.List.{list_all}
 use Rattle.cf_model.specs.Texts.{is_name}
 use Rattle.cf_base.specs.declared.changes.Change.{Change}
 use Rattle.cf_base.specs.declared.changes.Change.TheVariants as change
@@ -8,9 +9,10 @@ use Rattle.cf_model.specs.Books.{Book}
 use Rattle.cf_model.specs.Changes.{put_change, why_no_room}
 use Rattle.cf_model.specs.Items.{Item, item_of}
 use Rattle.cf_model.specs.LookUp.{child_of, depth_at, move_refused}
-use Rattle.cf_model.specs.Soundness.{Needs}
+use Rattle.cf_model.specs.Soundness.{Each, Needs}
 use Rattle.cf_model.specs.State.{Filter, Volume}
 use Rattle.cf_table.specs.Changing.{ItemsFit}
+use Rattle.cf_table.specs.Reading.{IsStored}
 
 -- a directory whose entries are known
 abbrev pub IsOpenDirectory : Item → Type 0
@@ -35,11 +37,23 @@ FitsTable (change.Make item parent name kind size identity) b items = (length na
 FitsTable (change.Copy item from parent name) b items = (length name ≤ 255) × MatchOption (item_of items from) ⊥ (λ i. 8 ≤ length i.identity)
 FitsTable c b items = ItemsFit c b items
 
+-- The change can be kept: identities have up to 4,096 bytes, and pins are stored ones; a file becomes its own where all its
+-- bytes are here, a directory where its entries are known.
+abbrev pub LastsAs : Change → List Item → Type 0
+LastsAs (change.Make item parent name kind size identity) items = length identity ≤ 4096
+LastsAs (change.SetPin item pin) items = IsStored pin
+LastsAs (change.Convert item identity) items = length identity ≤ 4096
+LastsAs (change.Revert item) items = Each item (λ i. (list_all is_some i.held ≡ true) × (i.directory ≡ true → i.populated ≡ true)) items
+LastsAs (change.Rebase item identity len at) items = length identity ≤ 4096
+LastsAs (change.Take item identity size) items = length identity ≤ 4096
+LastsAs _ items = Unit {0}
+
 -- What a change meets in the volume before it.
 pub record Suits (c : Change) (v : Volume) : Type 0 where
   pub fits : FitsTable c v.book v.items
   pub needs : Needs c v.items
   pub plants : Plants c v.items v.next_item
+  pub lasts : LastsAs c v.items
 
 -- each change in turn
 abbrev pub SuitsAll : List Change → Volume → Type 0

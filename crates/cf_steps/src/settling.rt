@@ -1,73 +1,30 @@
 //! What follows a step: the ask rule on one item, and its lines.
 
-ghost use Rattle.std.specs.Prelude.{◌≡◌, ◌||◌, IfOk, unwrap_or};
+ghost use Rattle.std.specs.Prelude.{◌≡◌, IfOk};
 ghost use Rattle.cf_asks.specs.Deeds.{deed_of};
 ghost use Rattle.cf_base.specs.declared.ids.ItemId.{ItemId};
 ghost use Rattle.cf_model.specs.Arrows.{each, reading};
-ghost use Rattle.cf_model.specs.Missing.{is_whole};
 ghost use Rattle.cf_model.specs.Requests.{Deed};
 ghost use Rattle.cf_model.specs.Settling.{end_wait, settle, tell as tell_all};
 ghost use Rattle.cf_model.specs.Waits.{all_down};
 ghost use Rattle.cf_requests.specs.Steps.{IsPlanned};
 ghost use Rattle.cf_steps.specs.Answering.{Answers, Any};
-ghost use Rattle.cf_steps.specs.Settled.{IsStepNow, Looks, LooksGone, LooksNow, tell_moves};
+ghost use Rattle.cf_steps.specs.Settled.{AreOnFiles, IsStepNow, Looks, LooksGone, LooksNow, tell_moves};
 
 use crate::steps::Steps;
+use crate::views::view_of;
 use cf_asks::{Act, View, Wait};
-use cf_base::{Cause, Fail, Hydration, ItemId, Memory};
+use cf_base::{Cause, Fail, ItemId, Memory};
 use cf_ranges::RangeSet;
 use cf_requests::{Moves, Step};
 use cf_table::Row;
-
-/// The greatest file, in bytes.
-const MOST_BYTES: u64 = 16_777_216;
-
-// A base of none counts as length 0.
-fn base_of(row: &Row) -> u64
-    ensures { result ≡ unwrap_or row.now.base 0 }
-{
-    match row.base {
-        Some(len) => len as u64,
-        None => 0,
-    }
-}
-
-// Whether a read needs the whole file by this policy.
-fn is_whole(hydration: Hydration) -> bool
-    ensures { result ≡ is_whole hydration }
-{
-    match hydration {
-        Hydration::Partial => false,
-        Hydration::Progressive => false,
-        Hydration::Full => true,
-        Hydration::AlwaysFull => true,
-    }
-}
-
-// Whether each read of the file needs all of it.
-fn needs_all(hydration: Hydration, row: &Row) -> bool
-    ensures { result ≡ (is_whole hydration || row.now.keep) }
-{
-    is_whole(hydration) || row.keep
-}
 
 /// Works out a step on an item as this row tells it, and changes nothing.
 pub fn look_at<S: Steps>(s: &S, item: ItemId, row: &Row, act: Act) -> Result<Step, Memory>
     ensures planned { IfOk result (λ p. IsPlanned p (S.waiting s.now)) }
     ensures looks { IfOk result (λ p. Looks S.sense item row.now (deed_of act) p s.now) }
 {
-    let policy = s.policy();
-    let v = View {
-        here: &row.here,
-        valid: &row.valid,
-        modified: &row.modified,
-        // No file is larger, nor was one.
-        size: (row.size as u64).min(MOST_BYTES),
-        base: base_of(row).min(MOST_BYTES),
-        validate: policy.validate,
-        full: needs_all(policy.hydration, row),
-        populated: row.populated,
-    };
+    let v = view_of(row, s.policy());
     s.requests().look(item, act, &v)
 }
 
@@ -102,7 +59,7 @@ pub fn look<S: Steps>(s: &S, item: ItemId, act: Act) -> Result<Step, Memory>
 }
 
 fn end_all<S: Steps>(s: &mut S, ended: &[(Wait, Cause)]) -> Result<(), Fail>
-    ensures { Answers S.sense Any (each end_wait ended.now) s.old result s.new }
+    ensures { Answers S.sense (AreOnFiles ended.now) (each end_wait ended.now) s.old result s.new }
 {
     for e in ended {
         s.end_wait(e)?;
@@ -110,9 +67,9 @@ fn end_all<S: Steps>(s: &mut S, ended: &[(Wait, Cause)]) -> Result<(), Fail>
     Ok(())
 }
 
-/// Tells the ends of waits, and then which asks go and come.
+/// Tells the ends of waits, each of which is on a file where it reads, and then which asks go and come.
 pub fn tell<S: Steps>(s: &mut S, moves: &Moves) -> Result<(), Fail>
-    ensures { Answers S.sense Any (tell_moves moves.now.ended moves.now.cancelled moves.now.asks) s.old result s.new }
+    ensures { Answers S.sense (AreOnFiles moves.now.ended) (tell_moves moves.now.ended moves.now.cancelled moves.now.asks) s.old result s.new }
 {
     end_all(s, moves.ended.as_slice())?;
     s.tell_asks(moves.cancelled.as_slice(), moves.asks.as_slice())

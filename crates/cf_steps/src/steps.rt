@@ -19,9 +19,10 @@ ghost use Rattle.cf_requests.specs.Steps.{IsPlanned, carried, moved_of};
 ghost use Rattle.cf_steps.specs.Answering.{Answers, Any, Reads, Sense};
 ghost use Rattle.cf_steps.specs.Finding.{HasRows};
 ghost use Rattle.cf_steps.specs.Listing.{Listing, ReadyListed, room_listed};
-ghost use Rattle.cf_steps.specs.Needing.{IsMet, MayOpen, MayOpenFile, Starts, end_told, meant, with_link};
+ghost use Rattle.cf_steps.specs.Needing.{IsMet, MayOpen, MayOpenFile, MayAnswer, Starts, end_told, meant, with_link};
 ghost use Rattle.cf_steps.specs.Putting.{IsFile, IsHere, MayGo, ReadyOn, bytes_there, removed};
 ghost use Rattle.cf_steps.specs.Readings.{has_handle, has_unlisted, is_idle, last_access, next_place, open_refusal, opened_item, policy_of, room_of, used_blocks, waiting_of, whether, with_asks};
+ghost use Rattle.cf_steps.specs.Settled.{IsEndOnFile};
 ghost use Rattle.cf_steps.specs.Suiting.{Ready, Suiting};
 ghost use Rattle.cf_table.specs.Tables.{Table};
 
@@ -103,7 +104,7 @@ pub trait Steps {
     fn touch(&mut self, item: ItemId) -> Result<(), Fail>
         ensures { Answers sense (IsFile item) (noted (accessed item)) self.old result self.new };
 
-    /// Removes an item that has no child and that no handle is open on, and tells it. With `bury` it leaves a tombstone in
+    /// Removes an item that has no child, that no handle is open on and no wait names, and tells it. With `bury` it leaves a tombstone in
     /// the same step, where its identity names a target.
     fn remove(&mut self, item: ItemId, bury: bool) -> Result<(), Fail>
         ensures does { (i : Item) → Answers sense (MayGo item i) (removed bury i) self.old result self.new }
@@ -143,13 +144,13 @@ pub trait Steps {
     fn is_met(&self, need: &Need) -> Result<bool, Memory>
         ensures { IfOk result (λ met. Reads sense Any (is_met_now (meant need.now)) self.now met) };
 
-    /// Answers a call that misses nothing. A read reads the device, and is an access.
+    /// Answers a call that misses nothing. A read is of a file; it reads the device, and is an access.
     fn answer(&mut self, need: &Need) -> Result<End, Fail>
-        ensures does { Answers sense (IsMet (meant need.now)) (one (accessed_now (meant need.now))) self.old (whether result) self.new }
+        ensures does { Answers sense (MayAnswer (meant need.now)) (one (accessed_now (meant need.now))) self.old (whether result) self.new }
         ensures tells { IfOk result (λ end. Reads sense (IsMet (meant need.now)) (end_told (meant need.now)) self.old end) };
 
-    /// Begins a wait, and one for the rest of the file beside it where that is wanted and none is live. Gives its number,
-    /// and what the step on the item tells. Refused by the limits of its kind: TooManyWaits, TooManyAsks, Exhausted; a wait
+    /// Begins a wait, of a read on a file, and one for the rest of the file beside it where that is wanted and none is live.
+    /// Gives its number, and what the step on the item tells. Refused by the limits of its kind: TooManyWaits, TooManyAsks, Exhausted; a wait
     /// for consent to a dehydration as Exhausted alone.
     fn start(&mut self, need: &Need) -> Result<(WaitId, Moves), Fail>
         ensures { Starts sense (meant need.now) self.old result self.new };
@@ -200,9 +201,9 @@ pub trait Steps {
     fn count(&self) -> u64
         ensures { Reads sense Any count_now self.now result };
 
-    /// Tells how a wait ended.
+    /// Tells how a wait ended, which is on a file where it reads.
     fn end_wait(&mut self, ended: &(Wait, Cause)) -> Result<(), Fail>
-        ensures { Answers sense Any (end_wait ended.now) self.old result self.new };
+        ensures { Answers sense (IsEndOnFile ended.now) (end_wait ended.now) self.old result self.new };
 
     /// Tells which asks were cancelled, and which were made. Their callbacks are still to be called.
     fn tell_asks(&mut self, cancelled: &[Key], asks: &[Ask]) -> Result<(), Fail>

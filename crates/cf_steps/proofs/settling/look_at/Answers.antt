@@ -1,6 +1,5 @@
-use Rattle.std.proofs.Common.{ap, ◌∙◌, ℕ}
-use Rattle.std.specs.Prelude.{min}
 use Rattle.cf_asks.specs.Deeds.{deed_of}
+use Rattle.cf_asks.specs.Sights.{shown}
 use Rattle.cf_steps.proofs.AskRule.{looked, planned_of}
 use Rattle.cf_steps.proofs.Laws.{ok_map}
 use Rattle.cf_steps.proofs.settling.look_at.Goals as goal
@@ -10,5 +9,5 @@ returns-clause-planned g c = ok_map c.look.result _ _ (λ p e. planned_of p _ _ 
 
 pub returns-clause-looks : goal.returns-clause-looks
 returns-clause-looks g c = ok_map c.look.result _ _
-    (λ p e. looked g.S.Steps.sense c.args.s.now c.requests.result.now c.args.item (deed_of c.args.act) p c.args.row.now c.policy-policy.result c.min.result c.min-2.result c.needs_all.result
-    c.requests.ensures.means c.policy-policy.ensures c.min.ensures (c.min-2.ensures ∙ ap (λ (n : ℕ). min n 16777216) c.base_of.ensures) c.needs_all.ensures e) c.look.ensures
+    (λ p e. looked g.S.Steps.sense c.args.s.now c.requests.result.now c.args.item (deed_of c.args.act) p c.args.row.now c.policy.result (shown c.view_of-v.result)
+    c.requests.ensures.means c.policy.ensures c.view_of-v.ensures.shows e) c.look.ensures

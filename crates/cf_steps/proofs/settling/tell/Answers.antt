@@ -1,11 +1,10 @@
-use Rattle.cf_steps.specs.Answering.{Any}
-use Rattle.cf_steps.specs.Settled.{tell_moves}
+use Rattle.cf_steps.specs.Settled.{AreOnFiles, tell_moves}
 use Rattle.cf_steps.proofs.AskRule.{told_moves, told_not}
 use Rattle.cf_steps.proofs.Laws.{with_err}
 use Rattle.cf_steps.proofs.settling.tell.Goals as goal
 
 pub returns-in_err-end_all : goal.returns-in_err-end_all
-returns-in_err-end_all g c = with_err g.S.Steps.sense Any (tell_moves c.args.moves.now.ended c.args.moves.now.cancelled c.args.moves.now.asks) c.args.s.now c.end_all.new.s c.in_err-end_all.field-0.0 c.from_residual.result c.from_residual.ensures.1
+returns-in_err-end_all g c = with_err g.S.Steps.sense (AreOnFiles c.args.moves.now.ended) (tell_moves c.args.moves.now.ended c.args.moves.now.cancelled c.args.moves.now.asks) c.args.s.now c.end_all.new.s c.in_err-end_all.field-0.0 c.from_residual.result c.from_residual.ensures.1
     (told_not g.S.Steps.sense c.args.moves.now c.as_slice.result.now c.args.s.now c.end_all.new.s c.in_err-end_all.field-0.0 c.as_slice.ensures c.in_err-end_all.ensures)
 
 pub returns : goal.returns
