@@ -263,7 +263,7 @@ mark_flags id n s i cs good at e =
     let p = plan_ok ((not i.placeholder, code.NotPlaceholder) ∷ (_, code.UsnMismatch i.number) ∷ []) (when (not i.in_sync) (change.Mark i.id i.number ∷ [])) cs e in
     let a = first_none (not i.placeholder) code.NotPlaceholder ((_, code.UsnMismatch i.number) ∷ []) p.0 in
     flags_when id (not i.in_sync) (change.Mark i.id i.number) s cs (sym (own_id s.volume.items id i at))
-    (record { fits = λ k d h q. record {}; needs = needs_at s id i (λ j. j.placeholder ≡ true) good at (not_false i.placeholder a.0); plants = record {} }) p.1
+    (record { fits = λ k d h q. record {}; needs = needs_at s id i (λ j. j.placeholder ≡ true) good at (not_false i.placeholder a.0); plants = record {}; lasts = record {} }) p.1
 
 pub keep_flags : (id : ItemId) (on : Bool) (s : Filter) (i : Item) (cs : List Change) → IsGood s → IsAt id i s → by_keep on i s ≡ Ok cs → Flagging id cs s
 keep_flags id on s i cs good at e =
@@ -271,4 +271,4 @@ keep_flags id on s i cs good at e =
     let a = first_none i.directory code.IsDirectory ((not i.placeholder, code.NotPlaceholder) ∷ []) p.0 in
     let b = first_none (not i.placeholder) code.NotPlaceholder [] a.1 in
     flags_when id (not (cond on i.keep (not i.keep))) (change.Keep i.id on) s cs (sym (own_id s.volume.items id i at))
-    (record { fits = λ k d h q. record {}; needs = needs_at s id i (λ j. (j.placeholder ≡ true) × (j.directory ≡ false)) good at (not_false i.placeholder b.0, a.0); plants = record {} }) p.1
+    (record { fits = λ k d h q. record {}; needs = needs_at s id i (λ j. (j.placeholder ≡ true) × (j.directory ≡ false)) good at (not_false i.placeholder b.0, a.0); plants = record {}; lasts = record {} }) p.1

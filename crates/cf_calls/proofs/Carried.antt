@@ -1,6 +1,6 @@
 -- Plans that are carried out, and look-ups that lead to them.
 use Rattle.std.proofs.Common.{◌≡◌, Bool, true, false, List, [], ◌∷◌, refl, sym, ◌∙◌, ap, subst, ℕ}
-use Rattle.std.specs.Prelude.{Result, Ok, Err, Option, Some, None, not, ◌&&◌, ◌||◌, ◌==◌}
+use Rattle.std.specs.Prelude.{Result, Ok, Err, Option, Some, None, not, unwrap_or, ◌&&◌, ◌||◌, ◌==◌}
 use Rattle.std.specs.List.{list_any}
 use Rattle.cf_base.specs.declared.answers.Shown.{Shown}
 use Rattle.cf_base.specs.declared.answers.Shown.TheVariants as shown
@@ -10,12 +10,14 @@ use Rattle.cf_base.specs.declared.codes.Fail.{Fail}
 use Rattle.cf_base.specs.declared.codes.Fail.TheVariants as fail
 use Rattle.cf_base.specs.declared.ids.ItemId.{ItemId}
 use Rattle.cf_base.specs.declared.ids.Usn.{Usn}
+use Rattle.cf_calls.specs.Executing.{base_at}
+use Rattle.cf_calls.specs.Moved.{is_unlisted, is_unlisted_at}
 use Rattle.cf_calls.specs.Planned.{Plan, PlansSuit, refusal_of}
 use Rattle.cf_model.specs.Arrows.{Arrow, reading}
 use Rattle.cf_base.specs.declared.policies.Policy.{Policy}
 use Rattle.cf_model.specs.Calls.{changing, number_at, number_of, show_number, size_at}
 use Rattle.cf_model.specs.Dehydration.{in_use}
-use Rattle.cf_model.specs.Items.{Item, item_of, size_of}
+use Rattle.cf_model.specs.Items.{Item, base_of, item_of, size_of}
 use Rattle.cf_model.specs.Missing.{Wait}
 use Rattle.cf_model.specs.Numbers.{no_key, no_usn, same_key}
 use Rattle.cf_model.specs.Placements.{planned_on, revert_plan, update_plan}
@@ -145,11 +147,11 @@ updates_by S x id used policy identity size r reads pol s i h at p =
 
 -- what an item's row tells
 
-both_item : (r : Row) (o : Option Item) → BothMean (Some r) o → (i : Item) × (o ≡ Some i) × Means r i
+pub both_item : (r : Row) (o : Option Item) → BothMean (Some r) o → (i : Item) × (o ≡ Some i) × Means r i
 both_item r None h = absurd h
 both_item r (Some i) h = (i, refl, h)
 
-no_item : (o : Option Item) → BothMean None o → o ≡ None
+pub no_item : (o : Option Item) → BothMean None o → o ≡ None
 no_item None h = refl
 no_item (Some i) h = absurd h
 
@@ -179,6 +181,32 @@ size_none S x t id rows e = record {
       sym (ap (λ (o : Option Item). part size_of 0 o) (no_item (item_of s.volume.items id) (subst (λ (o : Option Row). BothMean o (item_of s.volume.items id)) e (rows_by_id t.rows s.volume.items id (rows.rows s h)))));
 }
 
+pub base_some : {X : Type 0} (S : Sense X) (x : X) (t : Table) (id : ItemId) (row : Row) (n : ℕ) → HasRows S x t → row_of t.rows id ≡ Some row → n ≡ unwrap_or row.base 0 → Reads S Any (base_at id) x n
+base_some S x t id row n rows e q = record {
+  is = λ s h p.
+      let m = both_item row (item_of s.volume.items id) (subst (λ (o : Option Row). BothMean o (item_of s.volume.items id)) e (rows_by_id t.rows s.volume.items id (rows.rows s h))) in
+      q ∙ ap (λ (b : Option ℕ). unwrap_or b 0) m.2.base ∙ sym (ap (λ (o : Option Item). part base_of 0 o) m.1);
+}
+
+pub base_none : {X : Type 0} (S : Sense X) (x : X) (t : Table) (id : ItemId) → HasRows S x t → row_of t.rows id ≡ None → Reads S Any (base_at id) x 0
+base_none S x t id rows e = record {
+  is = λ s h p.
+      sym (ap (λ (o : Option Item). part base_of 0 o) (no_item (item_of s.volume.items id) (subst (λ (o : Option Row). BothMean o (item_of s.volume.items id)) e (rows_by_id t.rows s.volume.items id (rows.rows s h)))));
+}
+
+pub unlisted_some : {X : Type 0} (S : Sense X) (x : X) (t : Table) (id : ItemId) (row : Row) (b : Bool) → HasRows S x t → row_of t.rows id ≡ Some row → b ≡ (row.dir && not row.populated) → Reads S Any (is_unlisted_at id) x b
+unlisted_some S x t id row b rows e q = record {
+  is = λ s h p.
+      let m = both_item row (item_of s.volume.items id) (subst (λ (o : Option Row). BothMean o (item_of s.volume.items id)) e (rows_by_id t.rows s.volume.items id (rows.rows s h))) in
+      q ∙ (λ j. m.2.directory j && not (m.2.populated j)) ∙ sym (ap (λ (o : Option Item). part is_unlisted false o) m.1);
+}
+
+pub unlisted_none : {X : Type 0} (S : Sense X) (x : X) (t : Table) (id : ItemId) → HasRows S x t → row_of t.rows id ≡ None → Reads S Any (is_unlisted_at id) x false
+unlisted_none S x t id rows e = record {
+  is = λ s h p.
+      sym (ap (λ (o : Option Item). part is_unlisted false o) (no_item (item_of s.volume.items id) (subst (λ (o : Option Row). BothMean o (item_of s.volume.items id)) e (rows_by_id t.rows s.volume.items id (rows.rows s h)))));
+}
+
 -- use
 
 pub used_open : {X : Type 0} (S : Sense X) (x : X) (id : ItemId) (b : Bool) → Reads S Any (has_handle id) x b → b ≡ true → Reads S Any (in_use id) x true
@@ -187,7 +215,8 @@ used_open S x id b reads e = record { is = λ s h p. one (has_handle id s) (is_b
   one true c q = refl
   one false c q = let z : false ≡ true = q in cc
 
-waited : (id : ItemId) (ws : List Wait) → Every (λ w. same_key w.id.0 no_key ≡ false) ws → list_any (λ w. w.item.0 == id.0) ws ≡ list_any (λ w. (w.item.0 == id.0) && not (same_key w.id.0 no_key)) ws
+-- each wait has a number
+pub waited : (id : ItemId) (ws : List Wait) → Every (λ w. same_key w.id.0 no_key ≡ false) ws → list_any (λ w. w.item.0 == id.0) ws ≡ list_any (λ w. (w.item.0 == id.0) && not (same_key w.id.0 no_key)) ws
 waited id [] h = refl
 waited id (w ∷ ws) h = one (w.item.0 == id.0) (same_key w.id.0 no_key) h.0 (waited id ws h.1) where
   one : (a b : Bool) {c d : Bool} → b ≡ false → c ≡ d → (a || c) ≡ ((a && not b) || d)

@@ -19,7 +19,7 @@ use Rattle.cf_base.specs.declared.policies.Policy.{Policy}
 use Rattle.cf_base.specs.declared.spans.Span.{Span}
 use Rattle.cf_base.specs.declared.waits.End.TheVariants as end
 use Rattle.cf_base.specs.declared.waits.WaitKind.TheVariants as wait_kind
-use Rattle.cf_calls.specs.Emptying.{MayEmpty, held_emptied, holds_from, verdict_used}
+use Rattle.cf_calls.specs.Emptying.{MayEmpty, held_emptied, holds_from, verdict_there, verdict_used}
 use Rattle.cf_calls.specs.Moved.{lacks_place}
 use Rattle.cf_calls.specs.Planned.{ReadsAt}
 use Rattle.cf_dehydrate.specs.Told.{Tells}
@@ -48,8 +48,9 @@ use Rattle.cf_steps.proofs.Laws.{returned, stops_first, then_on}
 use Rattle.cf_table.specs.Means.{Means}
 use Rattle.cf_table.specs.Tables.{Table, row_of}
 use Rattle.cf_table.specs.declared.rows.Row.{Row}
+use Rattle.cf_tree.proofs.Alike.{BothMean, rows_by_id}
 use Rattle.cf_tree.proofs.Walks.{own_id}
-use Rattle.cf_calls.proofs.Carried.{no_row, row_means}
+use Rattle.cf_calls.proofs.Carried.{both_item, no_item}
 use Rattle.cf_calls.proofs.EndEmptied.{EndsSynced, empty_room}
 use Rattle.cf_calls.proofs.Suited.{first_none, needs_at, not_false, small_at}
 
@@ -132,14 +133,23 @@ is_clear p i start len used e =
 
 pub judged : {X : Type 0} (S : Sense X) (x : X) (t : Table) (id : ItemId) (row : Row) (f : Facts) (p : Policy) (start len : ℕ) (used : Bool) (o : Option Code)
     → HasRows S x t → row_of t.rows id ≡ Some row → Reads S Any policy_of x p → ((q : Policy) (i : Item) → Tells f q i → o ≡ verdict q i f.start f.len f.in_use) → ((i : Item) → Means row i → Tells f p i)
-    → f.start ≡ start → f.len ≡ len → f.in_use ≡ used → (i : Item) → Reads S (IsAt id i) (verdict_used start len used i) x o
-judged S x t id row f p start len used o rows e policy model tells a b d i = record {
-  is = λ s h at. model p i (tells i (row_means t.rows s.volume.items id row i (rows.rows s h) e at)) ∙ (λ j. verdict (policy.is s h (record {}) j) i (a j) (b j) (d j));
+    → f.start ≡ start → f.len ≡ len → f.in_use ≡ used → Reads S Any (verdict_there id start len used) x o
+judged S x t id row f p start len used o rows e policy model tells a b d = record {
+  is = λ s h u.
+      let m = both_item row (item_of s.volume.items id) (subst (λ (q : Option Row). BothMean q (item_of s.volume.items id)) e (rows_by_id t.rows s.volume.items id (rows.rows s h))) in
+      model p m.0 (tells m.0 m.2) ∙ (λ j. verdict (policy.is s h u j) m.0 (a j) (b j) (d j)) ∙ sym (ap (λ (q : Option Item). part (λ (i : Item). verdict s.policy i start len used) None q) m.1);
 }
 
-pub judged_none : {X : Type 0} (S : Sense X) (x : X) (t : Table) (id : ItemId) (start len : ℕ) (used : Bool) (o : Option Code) → HasRows S x t → row_of t.rows id ≡ None
-    → (i : Item) → Reads S (IsAt id i) (verdict_used start len used i) x o
-judged_none S x t id start len used o rows e i = record { is = λ s h at. absurd (no_row t.rows s.volume.items id i (rows.rows s h) e at) }
+pub judged_none : {X : Type 0} (S : Sense X) (x : X) (t : Table) (id : ItemId) (start len : ℕ) (used : Bool) → HasRows S x t → row_of t.rows id ≡ None → Reads S Any (verdict_there id start len used) x None
+judged_none S x t id start len used rows e = record {
+  is = λ s h u.
+      sym (ap (λ (q : Option Item). part (λ (i : Item). verdict s.policy i start len used) None q)
+      (no_item (item_of s.volume.items id) (subst (λ (q : Option Row). BothMean q (item_of s.volume.items id)) e (rows_by_id t.rows s.volume.items id (rows.rows s h)))));
+}
+
+-- of an item that is there
+judged_at : {X : Type 0} (S : Sense X) (x : X) (id : ItemId) (start len : ℕ) (used : Bool) (o : Option Code) → Reads S Any (verdict_there id start len used) x o → (i : Item) → Reads S (IsAt id i) (verdict_used start len used i) x o
+judged_at S x id start len used o reads i = record { is = λ s h at. reads.is s h (record {}) ∙ ap (λ (q : Option Item). part (λ (j : Item). verdict s.policy j start len used) None q) at }
 
 -- the change
 
@@ -150,7 +160,7 @@ sound_at items id i h e = of_found IsSound (λ (j : Item). j.id.0 == id.0) items
   each (j ∷ js) a = (a.0, each js a.1)
 
 -- a span of a file in sync that reaches its end
-ends_synced : (s : Filter) (id : ItemId) (start len : ℕ) (i : Item) → IsGood s → IsAt id i s → i.in_sync ≡ true → size_of i ≤ start + len → Each id (EndsSynced start len) s.volume.items
+pub ends_synced : (s : Filter) (id : ItemId) (start len : ℕ) (i : Item) → IsGood s → IsAt id i s → i.in_sync ≡ true → size_of i ≤ start + len → Each id (EndsSynced start len) s.volume.items
 ends_synced s id start len i good at synced end =
     let sound : IsSound i = sound_at s.volume.items id i good.volume.sound at in
     subst (λ (k : ItemId). Each k (EndsSynced start len) s.volume.items) (sym (own_id s.volume.items id i at))
@@ -159,7 +169,7 @@ ends_synced s id start len i good at synced end =
 pub emptied_ready : (s : Filter) (id : ItemId) (start len : ℕ) (i : Item) → IsGood s → IsAt id i s → i.in_sync ≡ true → size_of i ≤ start + len → start + len ≤ 2 ^ 40 → lacks_place s ≡ false → Ready (change.Emptied id start len) s
 emptied_ready s id start len i good at synced end near left = record {
   room = empty_room id start len s.volume (ends_synced s id start len i good at synced end) good.volume.few good.volume.short left;
-  suits = record { fits = λ k d j q. near; needs = record {}; plants = record {} };
+  suits = record { fits = λ k d j q. near; needs = record {}; plants = record {}; lasts = record {} };
 }
 
 pub empty_ready : (s : Filter) (id : ItemId) (start len : ℕ) (i : Item) → IsGood s → MayEmpty id start len i s → lacks_place s ≡ false → Ready (change.Emptied id start len) s
@@ -236,20 +246,20 @@ used_at : (i : Item) (start len : ℕ) (used : Bool) (id : ItemId) (s : Filter) 
 used_at i start len used id s at e = ap (λ (b : Bool). verdict s.policy i start len b) (e ∙ ap (λ (k : ItemId). in_use k s) (own_id s.volume.items id i at))
 
 pub item_off : {X : Type 0} (S : Sense X) (id : ItemId) (start len : ℕ) (used : Bool) (o : Option Code) (c : Code) (x : X) → Reads S Any (in_use id) x used
-    → ((i : Item) → Reads S (IsAt id i) (verdict_used start len used i) x o) → o ≡ Some c → (i : Item) → Answers S (IsAt id i) (dehydrate_item i start len) x (Ok (shown.Refused c)) x
+    → Reads S Any (verdict_there id start len used) x o → o ≡ Some c → (i : Item) → Answers S (IsAt id i) (dehydrate_item i start len) x (Ok (shown.Refused c)) x
 item_off S id start len used o c x uses reads e i = record {
   leads = λ s h at.
-      let q : Some c ≡ verdict_at i start len s = sym e ∙ (reads i).is s h at ∙ used_at i start len used id s at (uses.is s h (record {})) in
+      let q : Some c ≡ verdict_at i start len s = sym e ∙ (judged_at S x id start len used o reads i).is s h at ∙ used_at i start len used id s at (uses.is s h (record {})) in
       subst (λ (d : Option Code). (t : Filter) × Does {A = Shown} (unless shown.Refused d (empty_range i start (min len (size_of i - start))) s) (Ok (shown.Refused c)) t × S.moved x x s t × After {A = Shown} S (Ok (shown.Refused c)) x t) q
       (s, (refl, refl), S.stays x s h, h);
 }
 
 pub item_on : {X : Type 0} (S : Sense X) (id : ItemId) (start len size less : ℕ) (used : Bool) (o : Option Code) (x new : X) (r : Result Shown Fail) → Reads S Any (in_use id) x used → Reads S Any (size_at id) x size
-    → ((i : Item) → Reads S (IsAt id i) (verdict_used start len used i) x o) → o ≡ None → less ≡ min len (size - start)
+    → Reads S Any (verdict_there id start len used) x o → o ≡ None → less ≡ min len (size - start)
     → ((i : Item) → Answers S (MayEmpty id start less i) (empty_range i start less) x r new) → (i : Item) → Answers S (IsAt id i) (dehydrate_item i start len) x r new
 item_on S id start len size less used o x new r uses sizes reads e q a i = record {
   leads = λ s h at.
-      let free : None ≡ verdict_used start len used i s = sym e ∙ (reads i).is s h at in
+      let free : None ≡ verdict_used start len used i s = sym e ∙ (judged_at S x id start len used o reads i).is s h at in
       let clear = is_clear s.policy i start len used (sym free) in
       let whole : size ≡ size_of i = sizes.is s h (record {}) ∙ ap (λ (p : Option Item). part size_of 0 p) at in
       let same : less ≡ min len (size_of i - start) = q ∙ ap (λ (n : ℕ). min len (n - start)) whole in

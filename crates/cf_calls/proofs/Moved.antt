@@ -13,7 +13,7 @@ use Rattle.cf_base.specs.declared.codes.Fail.TheVariants as fail
 use Rattle.cf_base.specs.declared.ids.ItemId.{ItemId}
 use Rattle.cf_base.specs.declared.ids.Usn.{Usn}
 use Rattle.cf_base.specs.declared.policies.Mode.{Mode}
-use Rattle.cf_calls.specs.Moved.{IsBelowAt, IsMoveAt, MayMoveAt, delete_code, delete_refusal, has_children, is_unlisted, lacks_place, removed_next, stands_in}
+use Rattle.cf_calls.specs.Moved.{IsBelowAt, IsMoveAt, MayMoveAt, delete_code, delete_refusal, has_children, is_unlisted, is_unlisted_at, lacks_place, removed_next, stands_in}
 use Rattle.cf_calls.specs.Planned.{ReadsAt, refusal_of}
 use Rattle.cf_model.specs.Arrows.{Arrow, reading, ret, unless}
 use Rattle.cf_model.specs.Calls.{changing, delete_item, move_of, place_at, rename_item, rename_to, test_of}
@@ -27,11 +27,12 @@ use Rattle.cf_model.specs.Requests.{is_busy_beside}
 use Rattle.cf_model.specs.State.{Filter, is_replay}
 use Rattle.cf_model.specs.Trees.{Does}
 use Rattle.cf_model.specs.Waits.{on_ok}
-use Rattle.cf_model.specs.Words.{first_of, is_empty, put_in, same, sorted, when}
+use Rattle.cf_model.specs.Words.{first_of, is_empty, part, put_in, same, sorted, when}
 use Rattle.cf_steps.specs.Answering.{After, Answers, Any, IsAt, Reads, Sense}
 use Rattle.cf_steps.specs.Finding.{FindsBelow, FindsPlace, FoundBelow, FoundPlace, HasRows}
 use Rattle.cf_steps.specs.Putting.{MayGo, removed}
-use Rattle.cf_steps.specs.Readings.{has_handle, next_place}
+use Rattle.cf_steps.specs.Good.{IsGood}
+use Rattle.cf_steps.specs.Readings.{has_handle, has_wait, next_place}
 use Rattle.cf_steps.specs.Suiting.{IsOpenDirectory, Suiting, Suits}
 use Rattle.cf_steps.proofs.Laws.{no_memory, returned, stops_first, then_on}
 use Rattle.cf_table.specs.Tables.{MeansAll, Table, child_rows, ids_of, rows_by_name}
@@ -39,6 +40,7 @@ use Rattle.cf_table.proofs.ChildrenOf.{children_mean}
 use Rattle.cf_tree.specs.Answers.{IsChecked}
 use Rattle.cf_tree.specs.Trees.{IsTree}
 use Rattle.cf_tree.proofs.Walks.{own_id}
+use Rattle.cf_calls.proofs.Carried.{waited}
 use Rattle.cf_calls.proofs.NewItems.{name_short}
 use Rattle.cf_calls.proofs.Suited.{first_none, not_false}
 
@@ -86,11 +88,11 @@ place_none S x o reads e = record { is = λ s h p. one (no_places s.volume 1) (n
   one false m q = let z : ◌≡◌ {A = Option Usn} None (Some m) = q in absurd cc
 
 pub delete_reads : {X : Type 0} (S : Sense X) (x : X) (id : ItemId) (unlisted full used none : Bool) (why : Option Code)
-    → ReadsAt S id is_unlisted x unlisted → Reads S Any (has_children id) x full → Reads S Any (in_use id) x used → Reads S Any lacks_place x none → why ≡ delete_code unlisted full used none
+    → Reads S Any (is_unlisted_at id) x unlisted → Reads S Any (has_children id) x full → Reads S Any (in_use id) x used → Reads S Any lacks_place x none → why ≡ delete_code unlisted full used none
     → (i : Item) → Reads S (IsAt id i) (delete_refusal i) x why
 delete_reads S x id unlisted full used none why a b d f e i = record {
   is = λ s h at.
-      let p = a.is s i h at in let q = b.is s h (record {}) in let r = d.is s h (record {}) in let t = f.is s h (record {}) in
+      let p = a.is s h (record {}) ∙ ap (λ (o : Option Item). part is_unlisted false o) at in let q = b.is s h (record {}) in let r = d.is s h (record {}) in let t = f.is s h (record {}) in
       e ∙ (λ j. delete_code (p j) (q j) (r j) (t j)) ∙ ap (λ (k : ItemId). delete_code (is_unlisted i) (has_children k s) (in_use k s) (lacks_place s)) (own_id s.volume.items id i at);
 }
 
@@ -98,8 +100,8 @@ empty_is : (xs : List Item) → is_empty xs ≡ true → xs ≡ []
 empty_is [] e = refl
 empty_is (x ∷ xs) e = let z : false ≡ true = e in absurd cc
 
-may_go : (id : ItemId) (i : Item) (s : Filter) → IsBelowAt id i s → delete_refusal i s ≡ None → MayGo id i s
-may_go id i s at e =
+may_go : (id : ItemId) (i : Item) (s : Filter) → IsGood s → IsBelowAt id i s → delete_refusal i s ≡ None → MayGo id i s
+may_go id i s good at e =
     let own = own_id s.volume.items id i at.there in
     let last : List (Bool × Code) = (no_places s.volume 1, code.Exhausted) ∷ [] in
     let a = first_none (is_unlisted i) code.NotPopulated ((has_children i.id s, code.NotEmpty) ∷ (in_use i.id s, code.InUse) ∷ last) e in
@@ -110,6 +112,8 @@ may_go id i s at e =
       below = at.below;
       empty = subst (λ (k : ItemId). children s.volume.items k ≡ []) (sym own) (empty_is (children s.volume.items i.id) (not_false (is_empty (children s.volume.items i.id)) b.0));
       closed = subst (λ (k : ItemId). has_handle k s ≡ false) (sym own) (or_parts (has_handle i.id s) (is_busy_beside i.id (record { 0 = no_key }) s.waiting) d.0).0;
+      idle = subst (λ (k : ItemId). has_wait k s ≡ false) (sym own)
+          (waited i.id s.waiting.waits good.numbered ∙ (or_parts (has_handle i.id s) (is_busy_beside i.id (record { 0 = no_key }) s.waiting) d.0).1);
       left = f.0;
     }
 
@@ -118,7 +122,7 @@ pub delete_on : {X : Type 0} (S : Sense X) (id : ItemId) (m : Mode) (why : Optio
 delete_on S id m why x new r reads e a i = record {
   leads = λ s h p.
       let free : None ≡ delete_refusal i s = sym e ∙ (reads i).is s h p.there in
-      subst (λ (o : Option Code). (t : Filter) × Does (unless shown.Refused o (removed_next m i) s) r t × S.moved x new s t × After S r new t) free ((a i).leads s h (may_go id i s p (sym free)));
+      subst (λ (o : Option Code). (t : Filter) × Does (unless shown.Refused o (removed_next m i) s) r t × S.moved x new s t × After S r new t) free ((a i).leads s h (may_go id i s (S.good x s h) p (sym free)));
 }
 
 pub delete_off : {X : Type 0} (S : Sense X) (id : ItemId) (m : Mode) (why : Option Code) (c : Code) (x : X)
@@ -211,6 +215,7 @@ move_suits id parent name i p s h = record {
   fits = λ k d j q. name_short name h.move.place.named;
   needs = record {};
   plants = (h.move.item.below, h.move.place.named, open_at (item_of s.volume.items parent) h.move.place.there, h.free);
+  lasts = record {};
 } where
   open_at : (o : Option Item) → o ≡ Some p.parent → MatchOption o ⊥ IsOpenDirectory
   open_at o e = subst (λ (q : Option Item). MatchOption q ⊥ IsOpenDirectory) (sym e) h.move.place.opened

@@ -49,7 +49,7 @@ pub name_short : (name : List ℕ) → is_name name ≡ true → length name ≤
 name_short name h = leb-true (length name) 255 (and_parts (nat_lt 0 (length name)) (nat_le (length name) 255) (and_parts _ (list_all is_name_byte name) (and_parts _ _ (and_parts _ _ (and_parts _ _ h).0).0).0).0).1
 
 -- of a new item that stands behind all others
-each_new : (P : Item → Type 0) (id : ItemId) (items : List Item) (i : Item) → Every (λ j. j.id.0 < id.0) items → P i → Each id P (items ++ i ∷ [])
+pub each_new : (P : Item → Type 0) (id : ItemId) (items : List Item) (i : Item) → Every (λ j. j.id.0 < id.0) items → P i → Each id P (items ++ i ∷ [])
 each_new P id [] i h p = ((λ e. p), record {})
 each_new P id (x ∷ xs) i h p = ((λ e. let z : x.id.0 ≡ id.0 = eqb-true x.id.0 id.0 e in absurd (omega (arith, z, h.0))), each_new P id xs i h.1 p)
 
@@ -60,7 +60,7 @@ free_child items parent name h = one (child_of items parent name) h where
   one (Some i) e = let z : true ≡ false = e in cc
 
 record IsFit (k : Kind) (size : ℕ) (identity : List ℕ) (mark : Bool) : Type 0 where
-  pub short : length identity ≤ 65535
+  pub short : length identity ≤ 4096
   pub small : size ≤ 16777216
   pub needs : MadeNeeds k identity
   pub marks : mark ≡ true → is_placeholder k ≡ true
@@ -73,6 +73,7 @@ mark_suits s parent name k size identity true good h = (
     fits = λ n d small q. record {};
     needs = each_new (λ i. i.placeholder ≡ true) s.volume.next_item s.volume.items (made s.volume.next_item parent name k size identity (pin_of s.volume.items parent) (next_number s.volume)) good.volume.below (h refl);
     plants = record {};
+    lasts = record {};
   },
   record {},
 )
@@ -82,25 +83,23 @@ make_suits : (s : Filter) (parent : ItemId) (name : List ℕ) (i : Item) (k : Ki
     → SuitsAll (make_and_mark s.volume.next_item (next_number s.volume) parent name k size identity mark) s.volume
 make_suits s parent name i k size identity mark good place free fit = (
   record {
-    fits = (name_short name place.named, fit.short, fit.small);
+    fits = (name_short name place.named, omega (arith, fit.short), fit.small);
     needs = fit.needs;
     plants = (refl, (place.named, subst (λ (o : Option Item). MatchOption o ⊥ IsOpenDirectory) (sym place.there) place.opened, place.high, free_child s.volume.items parent name free));
+    lasts = fit.short;
   },
   mark_suits s parent name k size identity mark good fit.marks,
 )
 
 -- the changes of each kind of creation
 
-short_enough : (identity : List ℕ) → nat_lt 4096 (length identity) ≡ false → length identity ≤ 65535
-short_enough identity e = let h : length identity ≤ 4096 = ltb-false 4096 (length identity) e in omega (arith, h)
-
-dir_needs : (p : Policy) (identity : List ℕ) → MadeNeeds (placeholder_dir p) identity
+pub dir_needs : (p : Policy) (identity : List ℕ) → MadeNeeds (placeholder_dir p) identity
 dir_needs p identity = one (is_full_population p.population) where
   one : (b : Bool) → MadeNeeds (cond b kind.UnpopulatedDir kind.PlaceholderDir) identity
   one true = record {}
   one false = record {}
 
-dir_placeholder : (p : Policy) → is_placeholder (placeholder_dir p) ≡ true
+pub dir_placeholder : (p : Policy) → is_placeholder (placeholder_dir p) ≡ true
 dir_placeholder p = one (is_full_population p.population) where
   one : (b : Bool) → is_placeholder (cond b kind.UnpopulatedDir kind.PlaceholderDir) ≡ true
   one true = refl
@@ -130,14 +129,14 @@ create_suits s parent name i (NewPlaceholder size identity mark) cs good place e
     let b = first_none (nat_lt 4096 (length identity)) code.IdentityTooLong t2 a.1 in
     let d = first_none (nat_lt 16777216 size) code.TooLarge t3 b.1 in
     subst (λ (ds : List Change). SuitsAll ds s.volume) p.1
-    (make_suits s parent name i kind.PlaceholderFile size identity mark good place a.0 (record { short = short_enough identity b.0; small = ltb-false 16777216 size d.0; needs = record {}; marks = λ z. refl }))
+    (make_suits s parent name i kind.PlaceholderFile size identity mark good place a.0 (record { short = ltb-false 4096 (length identity) b.0; small = ltb-false 16777216 size d.0; needs = record {}; marks = λ z. refl }))
 create_suits s parent name i (NewPlaceholderDir identity mark) cs good place e =
     let t1 : List (Bool × Code) = (nat_lt 4096 (length identity), code.IdentityTooLong) ∷ [] in
     let p = plan_ok ((is_some (child_of s.volume.items parent name), code.Exists) ∷ t1) (make_and_mark s.volume.next_item (next_number s.volume) parent name (placeholder_dir s.policy) 0 identity mark) cs e in
     let a = first_none (is_some (child_of s.volume.items parent name)) code.Exists t1 p.0 in
     let b = first_none (nat_lt 4096 (length identity)) code.IdentityTooLong [] a.1 in
     subst (λ (ds : List Change). SuitsAll ds s.volume) p.1
-    (make_suits s parent name i (placeholder_dir s.policy) 0 identity mark good place a.0 (record { short = short_enough identity b.0; small = omega arith; needs = dir_needs s.policy identity; marks = λ z. dir_placeholder s.policy }))
+    (make_suits s parent name i (placeholder_dir s.policy) 0 identity mark good place a.0 (record { short = ltb-false 4096 (length identity) b.0; small = omega arith; needs = dir_needs s.policy identity; marks = λ z. dir_placeholder s.policy }))
 
 -- what is planned at a place
 

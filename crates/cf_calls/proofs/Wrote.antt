@@ -120,6 +120,7 @@ write_suits S x item at bytes e s h f = record {
   fits = λ k d i q. ltb-false 16777216 (at + length bytes) e;
   needs = file_each S x item s h f (λ i. i.directory ≡ false) (λ i q. q);
   plants = record {};
+  lasts = record {};
 }
 
 size_suits : {X : Type 0} (S : Sense X) (x : X) (item : ItemId) (n : ℕ) → n ≤ 16777216 → (s : Filter) → S.means x s → IsFile item s → Suits (change.Size item n) s.volume
@@ -127,6 +128,7 @@ size_suits S x item n e s h f = record {
   fits = λ k d i q. e;
   needs = file_each S x item s h f (λ i. i.directory ≡ false) (λ i q. q);
   plants = record {};
+  lasts = record {};
 }
 
 -- sizes
@@ -138,7 +140,7 @@ size_is S item n now x reads = record { is = λ s i p. ap (λ (k : ℕ). k == n)
 abbrev sizes_at : ItemId → ℕ → Bool → Filter → List (Bool × Code)
 sizes_at item n b s = write_tests n (when (not b) (change.Size item n ∷ [])) s
 
-same_rest : (o : Option Code) (f g : Arrow Filter Shown) (s : Filter) → f s ≡ g s → unless shown.Refused o f s ≡ unless shown.Refused o g s
+pub same_rest : (o : Option Code) (f g : Arrow Filter Shown) (s : Filter) → f s ≡ g s → unless shown.Refused o f s ≡ unless shown.Refused o g s
 same_rest None f g s e = e
 same_rest (Some c) f g s e = refl
 

@@ -1,5 +1,8 @@
 pub mod Asking
+pub mod Consenting
 pub mod Emptying
+pub mod Entering
+pub mod Executing
 pub mod Handles
 pub mod Moved
 pub mod Operating

@@ -8,10 +8,10 @@ use Rattle.cf_base.specs.declared.answers.Shown.{Shown}
 use Rattle.cf_model.specs.Arrows.{Arrow, reading}
 use Rattle.cf_model.specs.Calls.{delete_now, delete_tests, number_next}
 use Rattle.cf_model.specs.Changes.{no_places}
-use Rattle.cf_model.specs.Items.{Item}
+use Rattle.cf_model.specs.Items.{Item, item_of}
 use Rattle.cf_model.specs.LookUp.{Place, children, move_refused}
 use Rattle.cf_model.specs.State.{Filter}
-use Rattle.cf_model.specs.Words.{first_of, is_empty, same}
+use Rattle.cf_model.specs.Words.{first_of, is_empty, part, same}
 use Rattle.cf_steps.specs.Answering.{IsAt}
 use Rattle.cf_steps.specs.Finding.{IsPlace}
 
@@ -24,6 +24,9 @@ pub record IsBelowAt (id : ItemId) (i : Item) (s : Filter) : Type 0 where
 
 abbrev pub is_unlisted : Item → Bool
 is_unlisted i = i.directory && not i.populated
+
+abbrev pub is_unlisted_at : ItemId → Filter → Bool
+is_unlisted_at id s = part is_unlisted false (item_of s.volume.items id)
 
 abbrev pub has_children : ItemId → Filter → Bool
 has_children id s = not (is_empty (children s.volume.items id))

@@ -3,7 +3,7 @@
 ghost use Rattle.std.specs.Prelude.{◌≡◌, ◌+◌, ◌-◌, min, nat_lt};
 ghost use Rattle.std.specs.List.{list_any};
 ghost use Rattle.cf_base.specs.Policies.{is_always_full};
-ghost use Rattle.cf_calls.specs.Emptying.{MayEmpty, held_emptied, holds_from, verdict_used};
+ghost use Rattle.cf_calls.specs.Emptying.{MayEmpty, held_emptied, holds_from, verdict_there};
 ghost use Rattle.cf_calls.specs.Planned.{ReadsAt};
 ghost use Rattle.cf_dehydrate.specs.Told.{Tells, code_of};
 ghost use Rattle.cf_model.specs.Dehydration.{ask_consent, consent_need, dehydrate, dehydrate_item, dehydrate_range, empty_now, empty_range};
@@ -20,7 +20,8 @@ use cf_dehydrate::{Facts, Verdict, verdict};
 use cf_steps::{Need, Steps, find_at};
 use cf_table::Row;
 
-fn is_always_full(hydration: Hydration) -> bool
+/// Whether files are to be full at any time.
+pub(crate) fn is_always_full(hydration: Hydration) -> bool
     ensures { result ≡ is_always_full hydration }
 {
     match hydration {
@@ -78,9 +79,9 @@ fn code_of(verdict: Verdict) -> Option<Code>
     }
 }
 
-/// The verdict on a range of a file that is there, where that is what uses it. None where it is allowed.
+/// The verdict on a range of a file, where that is what uses it. None where it is allowed, and of an item that is gone.
 pub(crate) fn judge<S: Steps>(s: &S, id: ItemId, start: u64, len: u64, used: bool) -> Option<Code>
-    ensures { (i : Item) → Reads S.sense (IsAt id i) (verdict_used start len used i) s.now result }
+    ensures { Reads S.sense Any (verdict_there id start len used) s.now result }
 {
     let policy = s.policy();
     match s.rows().get(id) {

@@ -1,15 +1,16 @@
 //! What calls ask of an item.
 
-ghost use Rattle.std.specs.Prelude.{◌≡◌};
-ghost use Rattle.cf_calls.specs.Moved.{lacks_place};
+ghost use Rattle.std.specs.Prelude.{◌≡◌, ◌&&◌, not};
+ghost use Rattle.cf_calls.specs.Executing.{base_at};
+ghost use Rattle.cf_calls.specs.Moved.{is_unlisted_at, lacks_place};
 ghost use Rattle.cf_calls.specs.Planned.{ReadsAt, has_entries, refusal_of, stands_for};
 ghost use Rattle.cf_model.specs.Calls.{number_at, size_at};
 ghost use Rattle.cf_model.specs.Dehydration.{in_use};
 ghost use Rattle.cf_steps.specs.Answering.{Any, Reads};
 
 use cf_base::{Fail, ItemId, Shown, Usn};
-use cf_steps::Steps;
-use cf_table::NO_USN;
+use cf_steps::{Steps, base_of};
+use cf_table::{NO_USN, Row};
 
 /// The number of an item, 0.0 of one that is not there.
 pub(crate) fn number_at<S: Steps>(s: &S, id: ItemId) -> Usn
@@ -58,6 +59,32 @@ pub(crate) fn is_directory<S: Steps>(s: &S, id: ItemId) -> bool
 {
     match s.rows().get(id) {
         Some(row) => row.dir,
+        None => false,
+    }
+}
+
+/// The base length of an item, 0 of one that is not there.
+pub(crate) fn base_at<S: Steps>(s: &S, id: ItemId) -> u64
+    ensures { Reads S.sense Any (base_at id) s.now result }
+{
+    match s.rows().get(id) {
+        Some(row) => base_of(row),
+        None => 0,
+    }
+}
+
+fn is_waiting(row: &Row) -> bool
+    ensures { result ≡ (row.now.dir && not row.now.populated) }
+{
+    row.dir && !row.populated
+}
+
+/// Whether the item is a directory whose entries are not known.
+pub(crate) fn is_unlisted<S: Steps>(s: &S, id: ItemId) -> bool
+    ensures { Reads S.sense Any (is_unlisted_at id) s.now result }
+{
+    match s.rows().get(id) {
+        Some(row) => is_waiting(row),
         None => false,
     }
 }

@@ -1,8 +1,7 @@
 //! Removals by an application.
 
-ghost use Rattle.std.specs.Prelude.{◌≡◌, ◌&&◌, IfOk, not};
-ghost use Rattle.cf_calls.specs.Moved.{IsBelowAt, delete_code, delete_refusal, has_children, is_unlisted, removed_next};
-ghost use Rattle.cf_calls.specs.Planned.{ReadsAt};
+ghost use Rattle.std.specs.Prelude.{◌≡◌, IfOk, not};
+ghost use Rattle.cf_calls.specs.Moved.{IsBelowAt, delete_code, delete_refusal, has_children, removed_next};
 ghost use Rattle.cf_model.specs.Calls.{delete, delete_item};
 ghost use Rattle.cf_model.specs.Items.{Item};
 ghost use Rattle.cf_model.specs.State.{is_replay};
@@ -10,10 +9,9 @@ ghost use Rattle.cf_model.specs.Words.{is_empty};
 ghost use Rattle.cf_steps.specs.Answering.{Answers, Any, IsAt, Reads};
 ghost use Rattle.cf_steps.specs.Putting.{MayGo};
 
-use crate::items::{is_used, lacks_place};
+use crate::items::{is_unlisted, is_used, lacks_place};
 use cf_base::{Code, Fail, ItemId, Memory, Mode, Shown};
 use cf_steps::{Steps, find_below_root};
-use cf_table::Row;
 
 fn is_replay(mode: Mode) -> bool
     ensures { result ≡ is_replay mode }
@@ -22,22 +20,6 @@ fn is_replay(mode: Mode) -> bool
         Mode::Replay => true,
         Mode::Filter => false,
     }
-}
-
-// Whether an item that is there is a directory whose entries are not known.
-fn is_unlisted<S: Steps>(s: &S, id: ItemId) -> bool
-    ensures { ReadsAt S.sense id is_unlisted s.now result }
-{
-    match s.rows().get(id) {
-        Some(row) => is_waiting(row),
-        None => false,
-    }
-}
-
-fn is_waiting(row: &Row) -> bool
-    ensures { result ≡ (row.now.dir && not row.now.populated) }
-{
-    row.dir && !row.populated
 }
 
 fn is_any(ids: &[ItemId]) -> bool

@@ -8,8 +8,9 @@ ghost use Rattle.cf_model.specs.Waits.{answer_now, begin, but_directory, get, ge
 ghost use Rattle.cf_requests.specs.Steps.{limits_by};
 ghost use Rattle.cf_requests.specs.declared.limits.Limits.TheVariants as limits;
 ghost use Rattle.cf_steps.specs.Answering.{Answers, Any, IsAt};
-ghost use Rattle.cf_steps.specs.Needing.{IsMet, begin_limited, meant};
-ghost use Rattle.cf_steps.specs.Settled.{tell_moves};
+ghost use Rattle.cf_steps.specs.Needing.{MayAnswer, ReadsFile, begin_limited, meant};
+ghost use Rattle.cf_steps.specs.Putting.{IsFile};
+ghost use Rattle.cf_steps.specs.Settled.{AreOnFiles, tell_moves};
 
 use crate::items::{is_directory, is_placeholder, refused_by};
 use cf_base::{Code, Fail, Handle, Hydration, ItemId, Shown, Span, WaitId, WaitKind};
@@ -21,7 +22,7 @@ const NO_SPAN: Span = Span { start: 0, len: 0 };
 
 // Tells what came with a wait that began.
 fn tell_begun<S: Steps>(s: &mut S, id: WaitId, moves: &Moves) -> Result<Shown, Fail>
-    ensures { Answers S.sense Any (then_do (tell_moves moves.now.ended moves.now.cancelled moves.now.asks) (ret (shown.Pending id))) s.old result s.new }
+    ensures { Answers S.sense (AreOnFiles moves.now.ended) (then_do (tell_moves moves.now.ended moves.now.cancelled moves.now.asks) (ret (shown.Pending id))) s.old result s.new }
 {
     tell(s, moves)?;
     Ok(Shown::Pending(id))
@@ -29,7 +30,7 @@ fn tell_begun<S: Steps>(s: &mut S, id: WaitId, moves: &Moves) -> Result<Shown, F
 
 // The wait begins as far as the limits of its kind allow.
 pub(crate) fn begin_limited<S: Steps>(s: &mut S, need: &Need) -> Result<Shown, Fail>
-    ensures { Answers S.sense Any (begin_limited (meant need.now)) s.old result s.new }
+    ensures { Answers S.sense (ReadsFile (meant need.now)) (begin_limited (meant need.now)) s.old result s.new }
 {
     match s.start(need) {
         Ok(begun) => tell_begun(s, begun.0, &begun.1),
@@ -39,7 +40,7 @@ pub(crate) fn begin_limited<S: Steps>(s: &mut S, need: &Need) -> Result<Shown, F
 
 fn begin<S: Steps>(s: &mut S, need: &Need) -> Result<Shown, Fail>
     requires { limits_by need.now.kind ≡ limits.Begins }
-    ensures { Answers S.sense Any (begin (meant need.now)) s.old result s.new }
+    ensures { Answers S.sense (ReadsFile (meant need.now)) (begin (meant need.now)) s.old result s.new }
 {
     if s.is_connected() {
         begin_limited(s, need)
@@ -49,7 +50,7 @@ fn begin<S: Steps>(s: &mut S, need: &Need) -> Result<Shown, Fail>
 }
 
 fn answer_now<S: Steps>(s: &mut S, need: &Need) -> Result<Shown, Fail>
-    ensures { Answers S.sense (IsMet (meant need.now)) (answer_now (meant need.now)) s.old result s.new }
+    ensures { Answers S.sense (MayAnswer (meant need.now)) (answer_now (meant need.now)) s.old result s.new }
 {
     let end = s.answer(need)?;
     Ok(Shown::Ended(end))
@@ -58,7 +59,7 @@ fn answer_now<S: Steps>(s: &mut S, need: &Need) -> Result<Shown, Fail>
 // What a call needs of an item; consent to a dehydration is none of these.
 fn meet<S: Steps>(s: &mut S, need: &Need) -> Result<Shown, Fail>
     requires { limits_by need.now.kind ≡ limits.Begins }
-    ensures { Answers S.sense Any (missing (meant need.now)) s.old result s.new }
+    ensures { Answers S.sense (ReadsFile (meant need.now)) (missing (meant need.now)) s.old result s.new }
 {
     let met = s.is_met(need)?;
     if met {
@@ -81,7 +82,7 @@ fn is_progressive(hydration: Hydration) -> bool
 }
 
 fn read_item<S: Steps>(s: &mut S, handle: Handle, span: Span, item: ItemId) -> Result<Shown, Fail>
-    ensures { Answers S.sense Any (read_item handle span item) s.old result s.new }
+    ensures { Answers S.sense (IsFile item) (read_item handle span item) s.old result s.new }
 {
     let policy = s.policy();
     let background = is_progressive(policy.hydration);
@@ -108,7 +109,7 @@ pub fn read<S: Steps>(s: &mut S, handle: Handle, span: Span) -> Result<Shown, Fa
 
 fn meet_plain<S: Steps>(s: &mut S, kind: WaitKind, item: ItemId, span: Span) -> Result<Shown, Fail>
     requires { limits_by kind ≡ limits.Begins }
-    ensures { Answers S.sense Any (missing (plain_need kind item span)) s.old result s.new }
+    ensures { Answers S.sense (ReadsFile (plain_need kind item span)) (missing (plain_need kind item span)) s.old result s.new }
 {
     let need = Need {
         kind,

@@ -8,4 +8,4 @@ returns-in-Some g c = judged g.S.Steps.sense c.args.s.now c.rows.result.now c.ar
     c.policy-policy.ensures (λ q i t. c.code_of.ensures ∙ c.verdict.ensures.model q i t) c.facts_of.ensures.tells c.facts_of.ensures.start c.facts_of.ensures.len c.facts_of.ensures.used
 
 pub returns-in-None : goal.returns-in-None
-returns-in-None g c = judged_none g.S.Steps.sense c.args.s.now c.rows.result.now c.args.id c.args.start c.args.len c.args.used _ c.rows.ensures.means (sym c.get.ensures ∙ ap option_copied c.in-None.is)
+returns-in-None g c = judged_none g.S.Steps.sense c.args.s.now c.rows.result.now c.args.id c.args.start c.args.len c.args.used c.rows.ensures.means (sym c.get.ensures ∙ ap option_copied c.in-None.is)

@@ -1,13 +1,14 @@
 use Rattle.cf_base.specs.declared.answers.Shown.TheVariants as shown
 use Rattle.cf_model.specs.Arrows.{ret, then_do}
 use Rattle.cf_steps.specs.Answering.{Any}
-use Rattle.cf_steps.specs.Settled.{tell_moves}
-use Rattle.cf_steps.proofs.Laws.{any_on, returned, stops_first, with_err}
+use Rattle.cf_steps.specs.Settled.{AreOnFiles, tell_moves}
+use Rattle.cf_steps.proofs.Laws.{returned, stops_first, then_on, with_err}
 use Rattle.cf_calls.proofs.waiting.tell_begun.Goals as goal
 
 pub returns-in_err-tell : goal.returns-in_err-tell
-returns-in_err-tell g c = with_err g.S.Steps.sense Any (then_do (tell_moves c.args.moves.now.ended c.args.moves.now.cancelled c.args.moves.now.asks) (ret (shown.Pending c.args.id))) c.args.s.now c.tell.new.s c.in_err-tell.field-0.0 c.from_residual.result c.from_residual.ensures.1
-    (stops_first g.S.Steps.sense Any (tell_moves c.args.moves.now.ended c.args.moves.now.cancelled c.args.moves.now.asks) (ret (shown.Pending c.args.id)) c.args.s.now c.tell.new.s c.in_err-tell.field-0.0 c.in_err-tell.ensures)
+returns-in_err-tell g c = with_err g.S.Steps.sense (AreOnFiles c.args.moves.now.ended) (then_do (tell_moves c.args.moves.now.ended c.args.moves.now.cancelled c.args.moves.now.asks) (ret (shown.Pending c.args.id))) c.args.s.now c.tell.new.s c.in_err-tell.field-0.0 c.from_residual.result c.from_residual.ensures.1
+    (stops_first g.S.Steps.sense (AreOnFiles c.args.moves.now.ended) (tell_moves c.args.moves.now.ended c.args.moves.now.cancelled c.args.moves.now.asks) (ret (shown.Pending c.args.id)) c.args.s.now c.tell.new.s c.in_err-tell.field-0.0 c.in_err-tell.ensures)
 
 pub returns : goal.returns
-returns g c = any_on g.S.Steps.sense (tell_moves c.args.moves.now.ended c.args.moves.now.cancelled c.args.moves.now.asks) (ret (shown.Pending c.args.id)) c.args.s.now c.tell.new.s c.tell.new.s c.in_ok-tell.field-0 _ c.in_ok-tell.ensures (returned g.S.Steps.sense Any (shown.Pending c.args.id) c.tell.new.s)
+returns g c = then_on g.S.Steps.sense (AreOnFiles c.args.moves.now.ended) Any (tell_moves c.args.moves.now.ended c.args.moves.now.cancelled c.args.moves.now.asks) (ret (shown.Pending c.args.id)) c.args.s.now c.tell.new.s c.tell.new.s c.in_ok-tell.field-0 _
+    (λ s t p e. record {}) c.in_ok-tell.ensures (returned g.S.Steps.sense Any (shown.Pending c.args.id) c.tell.new.s)
