@@ -72,14 +72,14 @@ pub write_item_keeps : (l : Link) (tokens : ℕ) (P : Filter → Type 0) → Gua
 write_item_keeps l tokens P closed at [] item = operations_keep.done_keeps l tokens P closed
 write_item_keeps l tokens P closed at (b ∷ bs) item =
     operations_keep.checked_keeps l tokens P closed (write_tests (at + length (b ∷ bs)) (change.Write item at (b ∷ bs) ∷ [])) (write_now item (change.Write item at (b ∷ bs)))
-    (record { keeps = λ x h. closed.touch (with_access item) (change.Write item at (b ∷ bs)) item Nothing x (access_same item) (λ z. absurd z) (λ id k. k) (λ fair. tt) h })
+    (record { keeps = λ x h. closed.touch (with_access item) (change.Write item at (b ∷ bs)) item Nothing x (access_same item) (λ fair. ((λ z. absurd z), λ k. k)) (λ id k. k) (λ fair. tt) h })
 
 pub write_keeps : (l : Link) (tokens : ℕ) (P : Filter → Type 0) → GuardedFilter l tokens P → (x1 : Handle) → (x2 : ℕ) → (x3 : List ℕ) → Preserves P (write x1 x2 x3)
 write_keeps l tokens P closed h at bytes = waits_keep.on_handle_keeps l tokens P closed h (write_item at bytes) (write_item_keeps l tokens P closed at bytes)
 
 pub size_now_keeps : (l : Link) (tokens : ℕ) (P : Filter → Type 0) → GuardedFilter l tokens P → (item : ItemId) (n : ℕ) (b : Bool) → Preserves P (size_now item n b)
 size_now_keeps l tokens P closed item n true = keeps_then P (noted (accessed item)) done (keeps_noted P (accessed item) (closed.keeps_accessed item)) (operations_keep.done_keeps l tokens P closed)
-size_now_keeps l tokens P closed item n false = record { keeps = λ x h. closed.touch (with_access item) (change.Size item n) item Nothing x (access_same item) (λ z. absurd z) (λ id k. k) (λ fair. tt) h }
+size_now_keeps l tokens P closed item n false = record { keeps = λ x h. closed.touch (with_access item) (change.Size item n) item Nothing x (access_same item) (λ fair. ((λ z. absurd z), λ k. k)) (λ id k. k) (λ fair. tt) h }
 
 pub size_item_keeps : (l : Link) (tokens : ℕ) (P : Filter → Type 0) → GuardedFilter l tokens P → (x1 : ℕ) → (x2 : ItemId) → Preserves P (size_item x1 x2)
 size_item_keeps l tokens P closed n item = operations_keep.checked_keeps l tokens P closed (size_tests item n) (reading (has_size item n) (size_now item n)) (keeps_reading P (has_size item n) (size_now item n) (size_now_keeps l tokens P closed item n))
@@ -100,12 +100,19 @@ buried_same true i n book = by (is_untargeted i) where
   by true = refl
   by false = refl
 
+buried_seen : (b : Bool) (i : Item) (n : Usn) (book : Book) → (buried b i n book).seen ≡ book.seen
+buried_seen false i n book = refl
+buried_seen true i n book = by (is_untargeted i) where
+  by : (b : Bool) → (cond b book (with_tombstone (tombstone_for i n) book)).seen ≡ book.seen
+  by true = refl
+  by false = refl
+
 -- the removal that an application asks for
 abbrev pub Removing : (Filter → Type 0) → Type 0
-Removing P = (f : Book → Book) (item : ItemId) (x : Filter) → KeepsEntries f → in_use item x ≡ false → P x → Keeps P (change_with f (change.Remove item) x)
+Removing P = (f : Book → Book) (item : ItemId) (x : Filter) → KeepsEntries f → ((b : Book) → (f b).seen ≡ b.seen) → in_use item x ≡ false → P x → Keeps P (change_with f (change.Remove item) x)
 
 delete_now_at : (P : Filter → Type 0) → Removing P → (m : Mode) (i : Item) (number : Usn) (x : Filter) → in_use i.id x ≡ false → P x → Keeps P (delete_now m i number x)
-delete_now_at P removes m i number x idle h = keeps_bind P (change_with (buried (is_replay m) i number) (change.Remove i.id) x) (λ _ t. ret (shown.Done) t) (removes (buried (is_replay m) i number) i.id x (buried_same (is_replay m) i number) idle h) (λ a t j. j)
+delete_now_at P removes m i number x idle h = keeps_bind P (change_with (buried (is_replay m) i number) (change.Remove i.id) x) (λ _ t. ret (shown.Done) t) (removes (buried (is_replay m) i number) i.id x (buried_same (is_replay m) i number) (buried_seen (is_replay m) i number) idle h) (λ a t j. j)
 
 delete_item_keeps : (P : Filter → Type 0) → Removing P → (m : Mode) (i : Item) → Preserves P (delete_item m i)
 delete_item_keeps P removes m i = record {

@@ -1,26 +1,28 @@
 -- What the entries of a feed keep in `replay`.
-use Rattle.std.proofs.Common.{◌≡◌, ◌⊎◌, ◌<◌, ◌+◌, ℕ, Bool, true, false, List, [], ◌∷◌, refl, sym, ◌∙◌, ap, subst, inl, inr, max, arith, length}
+use Rattle.std.proofs.Common.{◌≡◌, ◌⊎◌, ◌<◌, ◌+◌, ℕ, Bool, true, false, List, [], ◌∷◌, ◌++◌, refl, sym, ◌∙◌, ap, subst, inl, inr, max, arith, eq-eqb, length}
 use Rattle.std.specs.Prelude.{Option, Some, None, cond, not, nat_lt, take, ◌&&◌, ◌||◌, ◌==◌}
 use Rattle.std.specs.List.{list_any}
+use Rattle.std.proofs.lemmas.Bool.{eqb-true}
 use Rattle.std.proofs.lemmas.Bool.Decides.{nat_tests}
 use Rattle.cf_base.specs.declared.changes.Change.{Change}
 use Rattle.cf_base.specs.declared.changes.Change.TheVariants as change
 use Rattle.cf_base.specs.declared.codes.Code.{Code}
 use Rattle.cf_base.specs.declared.ids.ItemId.{ItemId}
+use Rattle.cf_base.specs.declared.ids.Rid.{Rid}
 use Rattle.cf_base.specs.declared.ids.Usn.{Usn}
 use Rattle.cf_base.specs.declared.items.SeenPath.{SeenPath}
 use Rattle.cf_base.specs.declared.messages.Entry.{Entry}
 use Rattle.cf_base.specs.declared.notices.Notice.TheVariants as notice
-use Rattle.cf_model.specs.Arrows.{Arrow, Preserves, and_then, choose, only_if}
+use Rattle.cf_model.specs.Arrows.{Arrow, Preserves, and_then, choose, only_if, when_ok}
 use Rattle.cf_model.specs.Books.{QueueEntry, book_after, with_seen}
 use Rattle.cf_model.specs.Changes.{change as put, next_number, put_with_book, same_book}
 use Rattle.cf_model.specs.Contents.{base_named}
 use Rattle.cf_model.specs.Dehydration.{in_use as is_used}
-use Rattle.cf_model.specs.Effects.{effect, untargeted}
+use Rattle.cf_model.specs.Effects.{effect, made, untargeted}
 use Rattle.cf_model.specs.ConflictNames.{conflict_name}
-use Rattle.cf_model.specs.Feeds.{adopt, copy_off, gone, gone_unless, has_child, is_adoptable, is_newer, is_removable, make_after, make_entry, make_of, new_entry, new_over, remove_or_untarget, seen_entry, take_over, taken, turn, untarget}
+use Rattle.cf_model.specs.Feeds.{adopt, copy_off, gone, gone_unless, has_child, is_adoptable, is_newer, is_removable, kind_of_entry, make_after, make_entry, make_of, new_entry, new_over, remove_or_untarget, seen_entry, take_over, taken, turn, untarget}
 use Rattle.cf_model.specs.Identities.{base_version, entry_identity, identity_of, is_untargeted, no_identity}
-use Rattle.cf_model.specs.Items.{Item, base_of, is_dirty, item_of}
+use Rattle.cf_model.specs.Items.{Item, base_of, is_dirty, item_of, pin_of}
 use Rattle.cf_model.specs.Logs.{next_by}
 use Rattle.cf_model.specs.LookUp.{child_of, children, is_child_named}
 use Rattle.cf_model.specs.Numbers.{no_item, no_key, no_rid, no_usn, no_version}
@@ -35,21 +37,21 @@ use Rattle.cf_model.specs.Trees.{Keeps}
 use Rattle.cf_model.specs.Words.{is_empty, number_of, same}
 use Rattle.cf_model.proofs.TreeLaws.{keeps_bind, keeps_mapped}
 use Rattle.cf_laws.specs.Fitting.{Fits, IsCopied, IsVacant, NamesWell, NoEntry, NoMove}
-use Rattle.cf_laws.specs.Invariant.{HasEntry, IsRight, SameBase, version_in, waits_on}
+use Rattle.cf_laws.specs.Invariant.{HasEntry, InOrder, IsRight, SameBase, version_in, waits_on}
 use Rattle.cf_laws.specs.Premises.{IsFair}
 use Rattle.cf_laws.proofs.EntryLaws.{dir_identity, dir_none, dir_well, file_wants, make_fits, none_none}
 use Rattle.cf_laws.proofs.FitEntries.{kind_stays}
 use Rattle.cf_laws.proofs.FitItems.{each_changed}
-use Rattle.cf_laws.proofs.FoundItems.{found_again}
+use Rattle.cf_laws.proofs.FoundItems.{both, found_again, found_new, same_self, target_at, target_more, target_stays}
 use Rattle.cf_laws.proofs.Gathered.{each_all, each_any, each_both, each_weaker}
-use Rattle.cf_laws.proofs.Guarded.{KeepsPlaced}
+use Rattle.cf_laws.proofs.Guarded.{KeepsPlaced, StandsAtPath}
 use Rattle.cf_laws.proofs.Leading.{kept_leads}
 use Rattle.cf_laws.proofs.RightItems.{both_none, fits_meets, no_way, no_way_back, same_based, same_none, untargeted_same}
-use Rattle.cf_laws.proofs.SeenPaths.{led_unmarked}
-use Rattle.cf_laws.proofs.SkipsGuarded.{Framing, IsUnmoved, Skipping, Whichever, and_then_at, and_then_keeps, framed, item_frame, keeps_first, only_if_at, try_change_at, try_clear_name_keeps, try_mark_now_at, try_seen_at}
+use Rattle.cf_laws.proofs.SeenPaths.{led_unnamed, sees_still}
+use Rattle.cf_laws.proofs.SkipsGuarded.{Framing, IsUnmoved, Led, Skipping, Whichever, and_then_at, and_then_keeps, fewer_changes, framed, item_frame, keeps_first, keeps_into, only_if_at, try_change_at, try_clear_name_keeps, try_mark_now_at, try_seen_at}
 use Rattle.cf_laws.proofs.SoundChanges.{same_entries}
 use Rattle.cf_laws.proofs.SoundFilters.{change_leads}
-use Rattle.cf_laws.proofs.SoundSettles.{each_found, found_below, left_true, not_true, right_true}
+use Rattle.cf_laws.proofs.SoundSettles.{each_found, found_below, left_true, not_true, right_true, same_item}
 
 -- What a feed leaves as it is: the link, the waits and asks, the handles, and the uploads on their way.
 pub record Feeding (l : Link) (w : Filter) (es : List QueueEntry) (s : State) : Type 0 where
@@ -168,6 +170,32 @@ gone_at l w es P feeds i s h there = by (in_use s i.id) refl where
   by true q = h
   by false q = turn_at P (λ t. remove_or_untarget i (is_removable t i) t) s (steps (is_removable s i) refl q)
 
+-- moves
+
+abbrev pub IsMove : Change → Type 0
+IsMove (change.Move item parent name) = Unit {0}
+IsMove _ = ⊥
+
+is_move : (c : Change) → IsMove c → (item : ItemId) × (parent : ItemId) × (name : List ℕ) × (c ≡ change.Move item parent name)
+is_move (change.Make item parent name kind size identity) ok = absurd ok
+is_move (change.Remove item) ok = absurd ok
+is_move (change.Move item parent name) ok = (item, parent, name, refl)
+is_move (change.Write item at bytes) ok = absurd ok
+is_move (change.Size item size) ok = absurd ok
+is_move (change.Filled item start bytes) ok = absurd ok
+is_move (change.Validated item start len) ok = absurd ok
+is_move (change.Emptied item start len) ok = absurd ok
+is_move (change.SetPin item pin) ok = absurd ok
+is_move (change.Mark item number) ok = absurd ok
+is_move (change.Clear item) ok = absurd ok
+is_move (change.Convert item identity) ok = absurd ok
+is_move (change.Revert item) ok = absurd ok
+is_move (change.Rebase item identity len number) ok = absurd ok
+is_move (change.Take item identity size) ok = absurd ok
+is_move (change.Copy item from parent name) ok = absurd ok
+is_move (change.Populated item) ok = absurd ok
+is_move (change.Keep item on) ok = absurd ok
+
 -- New
 
 -- that the items of an id are of a kind stays so
@@ -190,7 +218,7 @@ adopt_in l w es P feeds e i dir dirs = record {
       and_then_keeps P (only_if (not i.placeholder) (try_change (change.Convert i.id no_identity))) (and_then (try_change (change.Rebase i.id (entry_identity e) 0 no_usn)) (and_then (try_seen (seen_entry i.id e)) (try_mark_now i.id))) s
       (only_if_at P (not i.placeholder) (try_change (change.Convert i.id no_identity)) s h (λ _. try_change_at Whichever P feeds.steps (change.Convert i.id no_identity) s tt (λ id k. k) (convert_fits s h) h))
       (λ t j. and_then_at Whichever P feeds.steps (change.Rebase i.id (entry_identity e) 0 no_usn) (and_then (try_seen (seen_entry i.id e)) (try_mark_now i.id)) t tt (λ id k. k) (rebase_fits t j) j
-      (λ u k led. seen_and_marked l w es P feeds (seen_entry i.id e) u (λ fair front item m. absurd (led_unmarked (change.Rebase i.id (entry_identity e) 0 no_usn) t u (λ z. z) led front item m)) k));
+      (λ u k led. seen_and_marked l w es P feeds (seen_entry i.id e) u (λ fair item m. absurd (led_unnamed (change.Rebase i.id (entry_identity e) 0 no_usn) t u (λ z. z) led item m)) k));
 }
   where
     convert_fits : (t : State) → P t → IsFair t.link → Fits t.link.remote t.filter (change.Convert i.id no_identity)
@@ -214,61 +242,67 @@ adopt_at l w es P feeds e i s dir local h there =
     ((adopt_in l w es (λ t. P t × DirsAt i.id t) (feeds_framed l w es P (DirsAt i.id) feeds (kinds_frame i.id (λ d p. d ≡ true) (λ d p k. k))) e i dir (λ t k. k.1)).keeps s
     (h, λ fair. (found_below i.id 0 s.filter.volume.next_item.0 (items_now s) i (feeds.steps.sound s h fair).now.order (there fair), each_found i.id (λ j. j.directory ≡ true) 0 s.filter.volume.next_item.0 (items_now s) i (feeds.steps.sound s h fair).now.order (there fair) local)))
 
-make_after_keeps : (l : Link) (w : Filter) (es : List QueueEntry) (P : State → Type 0) → Feeds l w es P → (e : Entry) (p : Item) → IsTold l e → Preserves P (make_after e p)
-make_after_keeps l w es P feeds e p told = record {
-  keeps = λ s h.
-      and_then_at Whichever P feeds.steps (make_of s e p) (and_then (try_seen (seen_entry s.filter.volume.next_item e)) (try_mark_now s.filter.volume.next_item)) s tt (λ id k. k)
-      (λ fair. let m = make_fits s.link.remote s.filter.policy e fair.1 (subst (λ (k : Link). HasEntry k.remote e) (sym (feeds.fed s h).link) (told.has (fair_now l w es s (feeds.fed s h) fair))) in (refl, m.0, m.1)) h
-      (λ t j led. seen_and_marked l w es P feeds (seen_entry s.filter.volume.next_item e) t (λ fair front item m. absurd (led_unmarked (make_of s e p) s t (λ z. z) led front item m)) j);
-}
+-- the parent of an entry's item
+abbrev pub ParentAt : ItemId → Rid → State → Type 0
+ParentAt id rid t = IsFair t.link → (target_at (items_now t) id).0 ≡ rid.0
 
-make_entry_keeps : (l : Link) (w : Filter) (es : List QueueEntry) (P : State → Type 0) → Feeds l w es P → (e : Entry) (p : Item) → IsTold l e → Preserves P (make_entry e p)
-make_entry_keeps l w es P feeds e p told = record {
-  keeps = λ s h.
-      and_then_keeps P (try_clear_name p.id e.name no_item) (make_after e p) s ((try_clear_name_keeps Whichever P feeds.steps move_ok p.id e.name no_item).keeps s h) (λ t j. (make_after_keeps l w es P feeds e p told).keeps t j);
-}
+parent_frame : (id : ItemId) (rid : Rid) → Framing IsMove (ParentAt id rid)
+parent_frame id rid = item_frame IsMove (λ is next. (target_at is id).0 ≡ rid.0)
+    (λ s c n ok fit g. let m = is_move c ok in
+    subst (λ (d : Change). (target_at (effect (items_now s) d n) id).0 ≡ rid.0) (sym m.3) (ap (λ (r : Rid). r.0) (target_stays _ (λ i. refl) (λ i. refl) m.0 id (items_now s)) ∙ g))
 
-pub new_at : (l : Link) (w : Filter) (es : List QueueEntry) (P : State → Type 0) → Feeds l w es P → (e : Entry) (p : Item) (s : State) → IsTold l e → P s → Keeps P (new_entry e p s)
-new_at l w es P feeds e p s told h = turn_at P (λ t. new_over e p (child_of (items_now t) p.id e.name) t) s (by (child_of (items_now s) p.id e.name) refl) where
+-- the new item stands at the path that comes to be seen
+made_stands : (e : Entry) (p : Item) (s t : State) → Led (make_of s e p) s t → InOrder 0 s.filter.volume.next_item.0 (items_now s) → nat_lt 0 e.parent.0 ≡ true → (target_at (items_now s) p.id).0 ≡ e.parent.0
+    → StandsAtPath (items_now t) s.filter.volume.next_item (seen_entry s.filter.volume.next_item e)
+made_stands e p s t led order some parent =
+    let new : Item = made s.filter.volume.next_item p.id e.name (kind_of_entry s.filter.policy e) (cond e.dir 0 e.len) (entry_identity e) (pin_of (items_now s) p.id) (next_number s.filter.volume) in
+    subst (λ (is : List Item). StandsAtPath is s.filter.volume.next_item (seen_entry s.filter.volume.next_item e)) (sym led.after.items) (
+      new,
+      found_new 0 s.filter.volume.next_item.0 (items_now s) new refl order,
+      both ((target_at (items_now s ++ new ∷ []) p.id).0 == e.parent.0) (same e.name e.name) (eq-eqb (target_at (items_now s ++ new ∷ []) p.id).0 e.parent.0 (target_more (items_now s) new p.id e.parent some parent)) (same_self e.name),
+    )
+
+make_after_at : (l : Link) (w : Filter) (es : List QueueEntry) (P : State → Type 0) → Feeds l w es P → (e : Entry) (p : Item) (s : State) → IsTold l e → nat_lt 0 e.parent.0 ≡ true → ParentAt p.id e.parent s → P s → Keeps P (make_after e p s)
+make_after_at l w es P feeds e p s told some parent h =
+    and_then_at Whichever P feeds.steps (make_of s e p) (and_then (try_seen (seen_entry s.filter.volume.next_item e)) (try_mark_now s.filter.volume.next_item)) s tt (λ id k. k)
+    (λ fair. let m = make_fits s.link.remote s.filter.policy e fair.1 (subst (λ (k : Link). HasEntry k.remote e) (sym (feeds.fed s h).link) (told.has (fair_now l w es s (feeds.fed s h) fair))) in (refl, m.0, m.1)) h
+    (λ t j led. seen_and_marked l w es P feeds (seen_entry s.filter.volume.next_item e) t
+    (λ fair item m. sees_still (seen_entry s.filter.volume.next_item e) (items_now t) (book_now t) item
+    (λ own. subst (λ (x : ItemId). StandsAtPath (items_now t) x (seen_entry s.filter.volume.next_item e)) (same_item s.filter.volume.next_item item (eqb-true s.filter.volume.next_item.0 item.0 own)) (stands t led (subst IsFair led.link fair)))) j) where
+      stands : (t : State) → Led (make_of s e p) s t → IsFair s.link → StandsAtPath (items_now t) s.filter.volume.next_item (seen_entry s.filter.volume.next_item e)
+      stands t led fair = made_stands e p s t led (feeds.steps.sound s h fair).now.order some (parent fair)
+
+make_entry_at : (l : Link) (w : Filter) (es : List QueueEntry) (P : State → Type 0) → Feeds l w es P → (e : Entry) (p : Item) (s : State) → IsTold l e → nat_lt 0 e.parent.0 ≡ true → ParentAt p.id e.parent s → P s → Keeps P (make_entry e p s)
+make_entry_at l w es P feeds e p s told some parent h =
+    keeps_into P (λ t. P t × ParentAt p.id e.parent t) (λ t j. j.0) (try_clear_name p.id e.name no_item s) (when_ok false (make_after e p))
+    ((try_clear_name_keeps IsMove (λ t. P t × ParentAt p.id e.parent t) (framed IsMove P (ParentAt p.id e.parent) (fewer_changes P IsMove feeds.steps) (parent_frame p.id e.parent)) (λ a b c. tt) p.id e.name no_item).keeps s (h, parent))
+    (λ done t j. by done t j) where
+      by : (done : Bool) (t : State) → P t × ParentAt p.id e.parent t → Keeps P (when_ok false (make_after e p) done t)
+      by true t j = make_after_at l w es P feeds e p t told some j.1 j.0
+      by false t j = j.0
+
+pub new_at : (l : Link) (w : Filter) (es : List QueueEntry) (P : State → Type 0) → Feeds l w es P → (e : Entry) (p : Item) (s : State) → IsTold l e → nat_lt 0 e.parent.0 ≡ true → ParentAt p.id e.parent s → P s → Keeps P (new_entry e p s)
+new_at l w es P feeds e p s told some parent h = turn_at P (λ t. new_over e p (child_of (items_now t) p.id e.name) t) s (by (child_of (items_now s) p.id e.name) refl) where
   choice : (i : Item) → child_of (items_now s) p.id e.name ≡ Some i → (b : Bool) → is_adoptable e i ≡ b → Keeps P (choose b (adopt e i) (make_entry e p) s)
   choice i f true q =
       let a : (e.dir && i.directory) ≡ true = left_true (e.dir && i.directory) (is_untargeted i) q in
       adopt_at l w es P feeds e i s (left_true e.dir i.directory a) (right_true e.dir i.directory a) h (λ fair. found_again (is_child_named p.id e.name) 0 s.filter.volume.next_item.0 (items_now s) i (feeds.steps.sound s h fair).now.order f)
-  choice i f false q = (make_entry_keeps l w es P feeds e p told).keeps s h
+  choice i f false q = make_entry_at l w es P feeds e p s told some parent h
 
   by : (o : Option Item) → child_of (items_now s) p.id e.name ≡ o → Keeps P (new_over e p o s)
-  by None f = (make_entry_keeps l w es P feeds e p told).keeps s h
+  by None f = make_entry_at l w es P feeds e p s told some parent h
   by (Some i) f = choice i f (is_adoptable e i) refl
 
 -- Changed
-
-abbrev pub IsMove : Change → Type 0
-IsMove (change.Move item parent name) = Unit {0}
-IsMove _ = ⊥
 
 -- what a move leaves of an item
 abbrev pub Alike : Item → Item → Type 0
 Alike i j = ((version_in j.identity).0 ≡ (version_in i.identity).0) × (j.directory ≡ i.directory) × (j.placeholder ≡ i.placeholder)
 
-alike_moved : (i : Item) (id : ItemId) (c : Change) (n : Usn) (items : List Item) → IsMove c → Each id (Alike i) items → Each id (Alike i) (effect items c n)
-alike_moved i id (change.Make item parent name kind size identity) n items ok h = elim ok as (λ _. Each id (Alike i) (effect items (change.Make item parent name kind size identity) n)) [ ]
-alike_moved i id (change.Remove item) n items ok h = elim ok as (λ _. Each id (Alike i) (effect items (change.Remove item) n)) [ ]
-alike_moved i id (change.Move item parent name) n items ok h = each_changed id item _ (λ j. Unit {0}) (Alike i) (Alike i) (λ j. refl) (λ j _ a. a) (λ j a. a) items (each_any item (λ j. Unit {0}) (λ j. tt) items) h
-alike_moved i id (change.Write item off bytes) n items ok h = elim ok as (λ _. Each id (Alike i) (effect items (change.Write item off bytes) n)) [ ]
-alike_moved i id (change.Size item size) n items ok h = elim ok as (λ _. Each id (Alike i) (effect items (change.Size item size) n)) [ ]
-alike_moved i id (change.Filled item start bytes) n items ok h = elim ok as (λ _. Each id (Alike i) (effect items (change.Filled item start bytes) n)) [ ]
-alike_moved i id (change.Validated item start len) n items ok h = elim ok as (λ _. Each id (Alike i) (effect items (change.Validated item start len) n)) [ ]
-alike_moved i id (change.Emptied item start len) n items ok h = elim ok as (λ _. Each id (Alike i) (effect items (change.Emptied item start len) n)) [ ]
-alike_moved i id (change.SetPin item pin) n items ok h = elim ok as (λ _. Each id (Alike i) (effect items (change.SetPin item pin) n)) [ ]
-alike_moved i id (change.Mark item number) n items ok h = elim ok as (λ _. Each id (Alike i) (effect items (change.Mark item number) n)) [ ]
-alike_moved i id (change.Clear item) n items ok h = elim ok as (λ _. Each id (Alike i) (effect items (change.Clear item) n)) [ ]
-alike_moved i id (change.Convert item identity) n items ok h = elim ok as (λ _. Each id (Alike i) (effect items (change.Convert item identity) n)) [ ]
-alike_moved i id (change.Revert item) n items ok h = elim ok as (λ _. Each id (Alike i) (effect items (change.Revert item) n)) [ ]
-alike_moved i id (change.Rebase item identity len number) n items ok h = elim ok as (λ _. Each id (Alike i) (effect items (change.Rebase item identity len number) n)) [ ]
-alike_moved i id (change.Take item identity size) n items ok h = elim ok as (λ _. Each id (Alike i) (effect items (change.Take item identity size) n)) [ ]
-alike_moved i id (change.Copy item from parent name) n items ok h = elim ok as (λ _. Each id (Alike i) (effect items (change.Copy item from parent name) n)) [ ]
-alike_moved i id (change.Populated item) n items ok h = elim ok as (λ _. Each id (Alike i) (effect items (change.Populated item) n)) [ ]
-alike_moved i id (change.Keep item on) n items ok h = elim ok as (λ _. Each id (Alike i) (effect items (change.Keep item on) n)) [ ]
+pub alike_moved : (i : Item) (id : ItemId) (c : Change) (n : Usn) (items : List Item) → IsMove c → Each id (Alike i) items → Each id (Alike i) (effect items c n)
+alike_moved i id c n items ok h =
+    let m = is_move c ok in
+    subst (λ (d : Change). Each id (Alike i) (effect items d n)) (sym m.3) (each_changed id m.0 _ (λ j. Unit {0}) (Alike i) (Alike i) (λ j. refl) (λ j _ a. a) (λ j a. a) items (each_any m.0 (λ j. Unit {0}) (λ j. tt) items) h)
 
 abbrev pub AlikeAt : Item → ItemId → State → Type 0
 AlikeAt i id t = IsFair t.link → Each id (Alike i) (items_now t)

@@ -1,6 +1,6 @@
 -- What keeps and what knows the move of an item to where an entry of a feed has it.
 use Rattle.std.proofs.Common.{◌≡◌, ℕ, Bool, true, false, List, refl, sym, ◌∙◌, ap, subst, eq-eqb}
-use Rattle.std.specs.Prelude.{Option, Some, None, find, not, nat_lt, ◌&&◌, ◌==◌}
+use Rattle.std.specs.Prelude.{Option, Some, None, find, not, nat_lt, ◌==◌}
 use Rattle.std.proofs.lemmas.Bool.{eqb-true}
 use Rattle.cf_base.specs.declared.changes.Change.{Change}
 use Rattle.cf_base.specs.declared.changes.Change.TheVariants as change
@@ -18,10 +18,11 @@ use Rattle.cf_model.specs.State.{State, book_now, items_now}
 use Rattle.cf_model.specs.Trees.{Keeps}
 use Rattle.cf_model.specs.Words.{part, same, says}
 use Rattle.cf_laws.specs.Premises.{IsFair}
-use Rattle.cf_laws.proofs.Guarded.{KeepsPlaced}
+use Rattle.cf_laws.proofs.FoundItems.{both}
+use Rattle.cf_laws.proofs.Guarded.{KeepsPlaced, StandsAtPath}
 use Rattle.cf_laws.proofs.Leading.{Leads, leads_weaker}
 use Rattle.cf_laws.proofs.RightItems.{no_way}
-use Rattle.cf_laws.proofs.SeenPaths.{led_unmarked, sees_path}
+use Rattle.cf_laws.proofs.SeenPaths.{led_unnamed, sees_still}
 use Rattle.cf_laws.proofs.SkipsGuarded.{Any, Led, Skipping, and_then_led, move_keeps, only_if_at, try_clear_name_keeps, try_led, try_seen_at}
 use Rattle.cf_laws.proofs.SoundSettles.{left_true, not_false, right_true, same_item}
 
@@ -30,7 +31,7 @@ abbrev IsReady : Entry → Item → Item → State → Type 0
 IsReady e i p s = IsFair s.link → says (stands_in p e.name) (item_of (items_now s) i.id) ≡ true → KeepsPlaced (with_seen (seen_entry i.id e)) s
 
 moved_ready : (e : Entry) (i p : Item) (item parent : ItemId) (name : List ℕ) (s t : State) → Led (change.Move item parent name) s t → KeepsPlaced (with_seen (seen_entry i.id e)) t
-moved_ready e i p item parent name s t led front other m = absurd (led_unmarked (change.Move item parent name) s t (λ z. z) led front other m)
+moved_ready e i p item parent name s t led other m = absurd (led_unnamed (change.Move item parent name) s t (λ z. z) led other m)
 
 move_ready : (e : Entry) (i p : Item) (item parent : ItemId) (name : List ℕ) (s : State) → Leads Any (λ done t. done ≡ true → IsReady e i p t) (try_change (change.Move item parent name) s)
 move_ready e i p item parent name s =
@@ -56,21 +57,18 @@ in_ready e i p false s q ready = λ d fair. ready fair (not_false (says (stands_
 
 -- the item stands there already
 pub here_ready : (e : Entry) (i p : Item) (s : State) → (IsFair s.link → item_of (items_now s) p.id ≡ Some p) → has_target p e.parent ≡ true → IsReady e i p s
-here_ready e i p s there target fair stands front item m =
-    sees_path (seen_entry i.id e) (items_now s) (book_now s) item (λ own j found. path j (stands_found j (subst (λ (x : ItemId). item_of (items_now s) x ≡ Some j) (sym (same_item i.id item (eqb-true i.id.0 item.0 own))) found))) where
-      stands_found : (j : Item) → item_of (items_now s) i.id ≡ Some j → stands_in p e.name j ≡ true
-      stands_found j found = subst (λ (o : Option Item). says (stands_in p e.name) o ≡ true) found stands
-
-      both : (a b : Bool) → a ≡ true → b ≡ true → (a && b) ≡ true
-      both true b e f = f
-      both false b e f = no_way e
-
+here_ready e i p s there target fair stands item m =
+    sees_still (seen_entry i.id e) (items_now s) (book_now s) item (λ own. by (item_of (items_now s) item) refl (subst (λ (x : ItemId). says (stands_in p e.name) (item_of (items_now s) x) ≡ true) (same_item i.id item (eqb-true i.id.0 item.0 own)) stands)) where
       path : (j : Item) → stands_in p e.name j ≡ true → stands_at_path (items_now s) j (seen_entry i.id e) ≡ true
       path j q =
           let up : j.parent.0 ≡ p.id.0 = eqb-true j.parent.0 p.id.0 (left_true (j.parent.0 == p.id.0) (same j.name e.name) q) in
           let at : (parent_target (items_now s) j).0 ≡ e.parent.0 =
           subst (λ (n : ℕ). (part target_of no_rid (find (λ k. k.id.0 == n) (items_now s))).0 ≡ e.parent.0) (sym up) (ap (λ (o : Option Item). (part target_of no_rid o).0) (there fair) ∙ eqb-true (target_of p).0 e.parent.0 (right_true (nat_lt 0 e.parent.0) ((target_of p).0 == e.parent.0) target)) in
           both ((parent_target (items_now s) j).0 == e.parent.0) (same j.name e.name) (eq-eqb (parent_target (items_now s) j).0 e.parent.0 at) (right_true (j.parent.0 == p.id.0) (same j.name e.name) q)
+
+      by : (o : Option Item) → item_of (items_now s) item ≡ o → says (stands_in p e.name) o ≡ true → StandsAtPath (items_now s) item (seen_entry i.id e)
+      by None f q = no_way q
+      by (Some j) f q = (j, f, path j q)
 
 pub move_entry_at : (Ok : Change → Type 0) (P : State → Type 0) → Skipping Ok P → ((item parent : ItemId) (name : List ℕ) → Ok (change.Move item parent name)) → (e : Entry) (i p : Item) (s : State) → IsReady e i p s → P s → Keeps P (move_entry e i p s)
 move_entry_at Ok P steps ok e i p s ready h =

@@ -15,14 +15,14 @@ use Rattle.cf_model.specs.Feeds.{Fed, depth_of_entry, all_released, all_turns, a
 use Rattle.cf_model.specs.Identities.{by_target, has_target, target_of}
 use Rattle.cf_model.specs.Items.{Item, item_of}
 use Rattle.cf_model.specs.Missing.{Wait}
-use Rattle.cf_model.specs.Numbers.{no_key, root_rid, same_key}
+use Rattle.cf_model.specs.Numbers.{no_key, no_rid, root_rid, same_key}
 use Rattle.cf_model.specs.PushReplies.{whatever}
 use Rattle.cf_model.specs.Requests.{Waiting, is_busy_beside}
 use Rattle.cf_model.specs.Skips.{in_use, in_volatile, try_cursor, try_mark_now, with_volatile}
 use Rattle.cf_model.specs.State.{Filter, Link, State, book_now, items_now}
 use Rattle.cf_model.specs.Store.{Held}
 use Rattle.cf_model.specs.Trees.{Asked, Fork, Keeps, Ret, Step, Tree}
-use Rattle.cf_model.specs.Words.{number_of, sorted}
+use Rattle.cf_model.specs.Words.{number_of, part, sorted}
 use Rattle.cf_model.proofs.ArrowLaws.{keeps_noted, keeps_reading, keeps_ret, keeps_seq, keeps_then}
 use Rattle.cf_model.proofs.TreeLaws.{keeps_bind}
 use Rattle.cf_laws.specs.Invariant.{All, IsRight, version_in, waits_on}
@@ -52,7 +52,7 @@ pub or_right_false : (a b : Bool) → (a || b) ≡ false → b ≡ false
 or_right_false true b e = no_way_back e
 or_right_false false b e = e
 
-and_false_right : (a b : Bool) → (a && b) ≡ false → a ≡ true → b ≡ false
+pub and_false_right : (a b : Bool) → (a && b) ≡ false → a ≡ true → b ≡ false
 and_false_right true b e q = e
 and_false_right false b e q = no_way q
 
@@ -84,7 +84,7 @@ first_led P F (Step s p) h = (h.0.0, first_led P F p h.1)
 first_led P F (Fork p q) h = (first_led P F p h.0, first_led P F q h.1)
 first_led P F (Asked g) h = λ x. first_led P F (g x) (h x)
 
-newer_alike : (i k : Item) (e : Entry) → Alike i k → is_newer k e ≡ true → is_newer i e ≡ true
+pub newer_alike : (i k : Item) (e : Entry) → Alike i k → is_newer k e ≡ true → is_newer i e ≡ true
 newer_alike i k e a q = subst (λ (n : ℕ). (not i.directory && nat_lt n e.version.0) ≡ true) a.0 (subst (λ (d : Bool). (not d && nat_lt (version_in k.identity).0 e.version.0) ≡ true) a.1 q)
 
 -- where the item is found again it is alike, and so may be taken over
@@ -151,10 +151,14 @@ changed_turn l w es P feeds e i p s told target there up h = by (is_newer i e &&
 
 take_turn_keeps : (l : Link) (w : Filter) (es : List QueueEntry) (P : State → Type 0) → Feeds l w es P → (e : Entry) → IsTold l e → Preserves P (take_turn e)
 take_turn_keeps l w es P feeds e told = record { keeps = λ s h. by s h (by_target (items_now s) e.rid) (parent_here s e) refl refl } where
-  fresh : (s : State) → P s → (b : Bool) (p : Option Item) → Keeps P (unknown b e p s)
-  fresh s h true (Some p) = new_at l w es P feeds e p s told h
-  fresh s h true None = h
-  fresh s h false p = h
+  fresh : (s : State) → P s → (b : Bool) (p : Option Item) → parent_here s e ≡ p → Keeps P (unknown b e p s)
+  fresh s h true (Some p) up =
+      let target : has_target p e.parent ≡ true = parent_target_of e p (items_now s) up in
+      new_at l w es P feeds e p s told (left_true (nat_lt 0 e.parent.0) ((target_of p).0 == e.parent.0) target)
+      (λ fair. ap (λ (o : Option Item). (part target_of no_rid o).0) (found_again (is_parent e) 0 s.filter.volume.next_item.0 (items_now s) p (feeds.steps.sound s h fair).now.order up)
+      ∙ eqb-true (target_of p).0 e.parent.0 (right_true (nat_lt 0 e.parent.0) ((target_of p).0 == e.parent.0) target)) h
+  fresh s h true None up = h
+  fresh s h false p up = h
 
   old : (s : State) → P s → (i : Item) → by_target (items_now s) e.rid ≡ Some i → (b : Bool) (p : Option Item) → parent_here s e ≡ p → Keeps P (known b e i p s)
   old s h i f true (Some p) up = changed_turn l w es P feeds e i p s told (all_found (λ x. Unit {0}) (λ x. has_target x e.rid) (items_now s) i f (all_any (λ x. Unit {0}) (λ x. tt) (items_now s))).1 (λ fair. found_again (λ x. has_target x e.rid) 0 s.filter.volume.next_item.0 (items_now s) i (feeds.steps.sound s h fair).now.order f) up h
@@ -162,7 +166,7 @@ take_turn_keeps l w es P feeds e told = record { keeps = λ s h. by s h (by_targ
   old s h i f false p up = gone_at l w es P feeds i s h (λ fair. found_again (λ x. has_target x e.rid) 0 s.filter.volume.next_item.0 (items_now s) i (feeds.steps.sound s h fair).now.order f)
 
   by : (s : State) → P s → (o p : Option Item) → by_target (items_now s) e.rid ≡ o → parent_here s e ≡ p → Keeps P (turn_by e o p s)
-  by s h None p f up = fresh s h e.live p
+  by s h None p f up = fresh s h e.live p up
   by s h (Some i) p f up = old s h i f e.live p up
 
 -- the turns, and the entries that come again

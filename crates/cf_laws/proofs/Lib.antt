@@ -7,6 +7,7 @@ pub mod CallbacksGuarded
 pub mod FeedEntriesGuarded
 pub mod FeedMovesGuarded
 pub mod FeedsGuarded
+pub mod FeedsIdle
 pub mod FetchingGuarded
 pub mod ListedLocals
 pub mod LocalLaws
@@ -14,6 +15,7 @@ pub mod LocalSteps
 pub mod LoggedGuarded
 pub mod MarksGuarded
 pub mod MessagesGuarded
+pub mod NamedItems
 pub mod FitAsks
 pub mod FitContents
 pub mod FitEntries

@@ -34,7 +34,7 @@ use Rattle.cf_laws.proofs.FoundItems.{found_id}
 use Rattle.cf_laws.proofs.Gathered.{all_found}
 use Rattle.cf_laws.proofs.Plainly.{keeps_led}
 use Rattle.cf_laws.proofs.RightItems.{no_way}
-use Rattle.cf_laws.proofs.SeenPaths.{led_unmarked}
+use Rattle.cf_laws.proofs.SeenPaths.{led_unnamed}
 use Rattle.cf_laws.proofs.SkipsGuarded.{Led, Skipping, Whichever, and_then_keeps, do_led, framed, guarded_skipping, keeps_first, no_move, only_if_at, tried_at, try_mark_at, try_seen_at}
 use Rattle.cf_laws.proofs.SoundSettles.{each_found, same_item}
 
@@ -181,11 +181,11 @@ rebase_at P closed e rid version i s fits h = by (why_no_rebase e (rebase_of e r
             (λ u t j led. see_and_mark_at P closed e t
             (λ fair some. let fair_s : IsFair s.link = subst IsFair led.link fair in
             subst (λ (es : List QueueEntry). NoEntry es e.item) (sym (led.after.entries (λ b. refl))) (alone_after s e (fits fair_s).1.0 ((closed.on_filter s h).sound s.filter h fair_s) some))
-            (λ front item m. absurd (led_unmarked (rebase_of e rid version i) (with_volatile (taken_from_row e) (with_book (without_entry e.token) (with_done s))) t (λ z. z) led front item m)) j),
+            (λ item m. absurd (led_unnamed (rebase_of e rid version i) (with_volatile (taken_from_row e) (with_book (without_entry e.token) (with_done s))) t (λ z. z) led item m)) j),
       )
 
 pub bury_new_keeps : (P : State → Type 0) → Guarded P → (x1 : QueueEntry) → (x2 : Rid) → (x3 : Version) → Preserves P (bury_new x1 x2 x3)
-bury_new_keeps P closed e rid version = keeps_then P (take e) (seq (only_if (is_new_entry e) (try_book (with_tombstone (tombstone_left e rid version)))) whatever) (take_keeps P closed e) (keeps_seq P (only_if (is_new_entry e) (try_book (with_tombstone (tombstone_left e rid version)))) whatever (keeps_only_if P (is_new_entry e) (try_book (with_tombstone (tombstone_left e rid version))) (skips_keep.try_book_keeps P closed (with_tombstone (tombstone_left e rid version)) (λ b. refl) (λ s front item m k. k))) (whatever_keeps P closed))
+bury_new_keeps P closed e rid version = keeps_then P (take e) (seq (only_if (is_new_entry e) (try_book (with_tombstone (tombstone_left e rid version)))) whatever) (take_keeps P closed e) (keeps_seq P (only_if (is_new_entry e) (try_book (with_tombstone (tombstone_left e rid version)))) whatever (keeps_only_if P (is_new_entry e) (try_book (with_tombstone (tombstone_left e rid version))) (skips_keep.try_book_keeps P closed (with_tombstone (tombstone_left e rid version)) (λ b. refl) (λ b. refl))) (whatever_keeps P closed))
 
 upload_done_at : (P : State → Type 0) → Guarded P → (e : QueueEntry) (rid : Rid) (version : Version) (s : State) → (e.action ≡ PutFile) ⊎ (e.action ≡ MakeDir) → (IsFair s.link → DoneIn s e rid version) → P s → Keeps P (done_upload e rid version s)
 upload_done_at P closed e rid version s is done h = by (item_of (items_now s) e.item) refl where
@@ -216,7 +216,7 @@ done_move_at P closed e s is live h = (one, mark_after P closed e (try_seen (ent
 
 pub cursor_reset_if_keeps : (P : State → Type 0) → Guarded P → (x1 : Bool) → Preserves P (cursor_reset_if x1)
 cursor_reset_if_keeps P closed true = keeps_ret P unit
-cursor_reset_if_keeps P closed false = skips_keep.in_book_keeps P closed (with_cursor 0) (λ b. refl) (λ s front item m k. k)
+cursor_reset_if_keeps P closed false = skips_keep.in_book_keeps P closed (with_cursor 0) (λ b. refl) (λ b. refl)
 
 pub reset_cursor_keeps : (P : State → Type 0) → Guarded P → Preserves P (reset_cursor)
 reset_cursor_keeps P closed = keeps_reading P (is_cursor 0) cursor_reset_if (cursor_reset_if_keeps P closed)
@@ -226,7 +226,7 @@ reset_if_keeps P closed true = reset_cursor_keeps P closed
 reset_if_keeps P closed false = keeps_ret P unit
 
 pub end_tombstone_keeps : (P : State → Type 0) → Guarded P → (x1 : QueueEntry) → (x2 : Bool) → Preserves P (end_tombstone x1 x2)
-end_tombstone_keeps P closed e directory = keeps_then P (in_book (without_tombstone e.number)) (reset_if directory) (skips_keep.in_book_keeps P closed (without_tombstone e.number) (λ b. refl) (λ s front item m k. k)) (reset_if_keeps P closed directory)
+end_tombstone_keeps P closed e directory = keeps_then P (in_book (without_tombstone e.number)) (reset_if directory) (skips_keep.in_book_keeps P closed (without_tombstone e.number) (λ b. refl) (λ b. refl)) (reset_if_keeps P closed directory)
 
 pub done_removal_keeps : (P : State → Type 0) → Guarded P → (x1 : QueueEntry) → Preserves P (done_removal x1)
 done_removal_keeps P closed e = keeps_then P (take e) (reading (was_directory e) (end_tombstone e)) (take_keeps P closed e) (keeps_reading P (was_directory e) (end_tombstone e) (end_tombstone_keeps P closed e))
@@ -235,7 +235,7 @@ pub take_void_keeps : (P : State → Type 0) → Guarded P → (x1 : QueueEntry)
 take_void_keeps P closed e = end_and_close_keeps P closed e
 
 pub drop_if_keeps : (P : State → Type 0) → Guarded P → (x1 : Bool) → (x2 : QueueEntry) → Preserves P (drop_if x1 x2)
-drop_if_keeps P closed true e = skips_keep.in_book_keeps P closed (without_tombstone e.number) (λ b. refl) (λ s front item m k. k)
+drop_if_keeps P closed true e = skips_keep.in_book_keeps P closed (without_tombstone e.number) (λ b. refl) (λ b. refl)
 drop_if_keeps P closed false e = keeps_ret P unit
 
 pub lost_place_keeps : (P : State → Type 0) → Guarded P → (x1 : QueueEntry) → Preserves P (lost_place x1)

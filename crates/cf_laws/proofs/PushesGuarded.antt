@@ -19,9 +19,9 @@ use Rattle.cf_laws.proofs.CallbacksGuarded as callbacks_keep
 use Rattle.cf_laws.proofs.StepsGuarded as skips_keep
 use Rattle.cf_laws.proofs.WaitsGuarded as waits_keep
 use Rattle.cf_model.specs.Pushes.{after_hydrate, bury_unless, hydrate_first, hydrate_if, hydrate_unless, is_hydrating, is_left_out, is_tombstone_left_out, item_now, mark_item, push, push_all, push_by_case, push_here, push_item, push_lists, push_removal, push_tombstone, push_turn, push_unless, put_file, put_if, put_whole, removal_entry, request_of, upload, upload_if, upload_new, upload_now, has_entry, placed, without_place, without_rid}
-use Rattle.cf_laws.proofs.Guarded.{Guarded, Entering, IsMovedOff}
+use Rattle.cf_laws.proofs.Guarded.{Guarded, Entering, MovesThere}
 use Rattle.cf_model.proofs.ArrowLaws.{keeps_each, keeps_reading, keeps_ret, keeps_seq, keeps_then}
-use Rattle.std.proofs.Common.{◌≡◌, ◌<◌, ◌≤◌, ℕ, Bool, true, false, List, [], ◌∷◌, refl, sym, ◌∙◌, ap, subst, arith, take}
+use Rattle.std.proofs.Common.{◌≡◌, ◌<◌, ◌≤◌, ℕ, Bool, true, false, List, [], ◌∷◌, refl, sym, ◌∙◌, ap, subst, arith, take, eq-eqb}
 use Rattle.std.specs.List.{list_all, list_any}
 use Rattle.std.proofs.lemmas.Bool.Decides.{nat_tests}
 use Rattle.std.proofs.lemmas.Bool.{eqb-true}
@@ -34,7 +34,7 @@ use Rattle.cf_model.specs.Overlay.{Written, over}
 use Rattle.cf_model.specs.Soundness.{Each}
 use Rattle.cf_model.specs.Store.{Held}
 use Rattle.cf_model.specs.Trees.{Keeps, bind}
-use Rattle.cf_model.specs.Words.{number_of}
+use Rattle.cf_model.specs.Words.{number_of, same}
 use Rattle.cf_model.proofs.Laying.{laid-full}
 use Rattle.cf_model.proofs.TreeLaws.{keeps_bind}
 use Rattle.cf_laws.specs.Fitting.{Fits, NoEntry}
@@ -42,7 +42,7 @@ use Rattle.cf_laws.specs.Invariant.{AllUpTo, HasNone, IsRight, IsSound, SameBase
 use Rattle.cf_laws.specs.Premises.{IsFair}
 use Rattle.cf_laws.proofs.EntryLaws.{none_none}
 use Rattle.cf_laws.proofs.FeedsGuarded.{first_led}
-use Rattle.cf_laws.proofs.FoundItems.{found_id}
+use Rattle.cf_laws.proofs.FoundItems.{both, found_id, same_self}
 use Rattle.cf_laws.proofs.FramesGuarded.{FrameIn, guarded_framed}
 use Rattle.cf_laws.proofs.Gathered.{all_any, all_found, all_weaker}
 use Rattle.cf_laws.proofs.Leading.{kept_leads, leads_bind, leads_kept}
@@ -121,7 +121,7 @@ put_facts s i sound there file placed here = (
 )
 
 new_entry : (s : State) (i : Item) (e : QueueEntry) (bytes : List ℕ) → e.item ≡ i.id → e.number ≡ i.number → item_of (items_now s) i.id ≡ Some i → IsSound s.link s.volatile.tokens s.filter → NoEntry (book_now s).entries i.id
-    → NewBy e.action s.link.remote (items_now s) e bytes → IsMovedOff s e → IsNewEntry s e bytes
+    → NewBy e.action s.link.remote (items_now s) e bytes → MovesThere s e → IsNewEntry s e bytes
 new_entry s i e bytes item number there sound alone facts off = record {
   early = λ z. subst (λ (n : Usn). above (next_number s.filter.volume) n ≡ true) (sym number) (right_of s i sound there).early;
   item = subst (λ (x : ItemId). x.0 < s.filter.volume.next_item.0) (sym item) (found_below i.id 0 s.filter.volume.next_item.0 (items_now s) i sound.now.order there);
@@ -149,7 +149,7 @@ push_dir_at P closed entering i s there alone dir h =
 
 push_move_at : (P : State → Type 0) → Guarded P → Entering P → (i : Item) (s : State) → item_of (items_now s) i.id ≡ Some i → (IsFair s.link → NoEntry (book_now s).entries i.id) → stands_at_seen (items_now s) (book_now s) i ≡ false → P s → Keeps P (push_item MoveItem i s)
 push_move_at P closed entering i s there alone away h =
-    push_at P closed entering (placed MoveItem i s) (base_version i) (bytes_held i.held) s refl (λ fair. new_entry s i (placed MoveItem i s) (bytes_held i.held) refl refl there (sound_of P closed s h fair) (alone fair) tt (λ z. (i, there, away))) h
+    push_at P closed entering (placed MoveItem i s) (base_version i) (bytes_held i.held) s refl (λ fair. new_entry s i (placed MoveItem i s) (bytes_held i.held) refl refl there (sound_of P closed s h fair) (alone fair) tt (λ z. (i, there, both ((parent_target (items_now s) i).0 == (parent_target (items_now s) i).0) (same i.name i.name) (eq-eqb (parent_target (items_now s) i).0 (parent_target (items_now s) i).0 refl) (same_self i.name)))) h
 
 pub after_hydrate_keeps : (P : State → Type 0) → Guarded P → (x1 : Shown) → Preserves P (after_hydrate x1)
 after_hydrate_keeps P closed (shown.Refused code.TooManyWaits) = skips_keep.skip_keeps P closed code.TooManyWaits

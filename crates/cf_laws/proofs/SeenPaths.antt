@@ -1,5 +1,5 @@
 -- What a path that comes to be seen leaves, and what the last change is.
-use Rattle.std.proofs.Common.{◌≡◌, ℕ, Bool, true, false, List, [], ◌∷◌, ◌++◌, refl, sym, ◌∙◌, ap, subst, eq-eqb}
+use Rattle.std.proofs.Common.{◌≡◌, ℕ, Bool, true, false, List, [], ◌∷◌, ◌++◌, refl, sym, ◌∙◌, ap, subst, inl, inr, eq-eqb}
 use Rattle.std.specs.Prelude.{Option, Some, cond, filter, find, nat_lt, not, ◌==◌}
 use Rattle.std.proofs.lemmas.Bool.{eqb-true}
 use Rattle.cf_base.specs.declared.changes.Change.{Change}
@@ -9,13 +9,15 @@ use Rattle.cf_base.specs.declared.ids.Usn.{Usn}
 use Rattle.cf_base.specs.declared.items.SeenPath.{SeenPath}
 use Rattle.cf_model.specs.Books.{Book, seen_of, with_seen, without_seen}
 use Rattle.cf_model.specs.Identities.{stands_at_path}
-use Rattle.cf_model.specs.Items.{Item, item_of}
+use Rattle.cf_model.specs.Items.{Item}
 use Rattle.cf_model.specs.State.{State}
 use Rattle.cf_model.specs.Words.{put_in, says}
-use Rattle.cf_laws.specs.Fitting.{IsMark}
-use Rattle.cf_laws.specs.Marks.{IsMarkedLast, StandsAtSeen}
+use Rattle.cf_laws.specs.Fitting.{IsNaming}
+use Rattle.cf_laws.specs.Marks.{IsMadeLast, IsMarkedLast, StandsAtSeen}
 use Rattle.cf_laws.proofs.FoundItems.{found_id}
+use Rattle.cf_laws.proofs.Guarded.{IsNamedLast, StandsAtPath, StandsStill}
 use Rattle.cf_laws.proofs.SkipsGuarded.{Led}
+use Rattle.cf_laws.proofs.SoundSettles.{same_item}
 
 -- what is found
 
@@ -64,17 +66,22 @@ seen_past p b id e =
 seen_put : (p : SeenPath) (b : Book) → seen_of (with_seen p b) p.item ≡ Some p
 seen_put p b = find_put (λ q. q.item.0 == p.item.0) first_seen p (without_seen p.item b.seen) (eq-eqb p.item.0 p.item.0 refl) (none_left (λ q. q.item.0 == p.item.0) b.seen)
 
--- an item stays at the path seen, where the path that comes to be seen is its own or of another item
-pub sees_path : (p : SeenPath) (items : List Item) (b : Book) (item : ItemId) → ((p.item.0 == item.0) ≡ true → (i : Item) → item_of items item ≡ Some i → stands_at_path items i p ≡ true) → StandsAtSeen items b item → StandsAtSeen items (with_seen p b) item
-sees_path p items b item own h = (h.0, h.1, by (p.item.0 == item.0) refl) where
-  same : h.0.id.0 ≡ item.0
-  same = found_id item items h.0 h.1
+-- a path that is seen is seen
+pub sees_own : (p : SeenPath) (items : List Item) (b : Book) → StandsAtPath items p.item p → StandsAtSeen items (with_seen p b) p.item
+sees_own p items b h =
+    (h.0, h.1, subst (λ (n : ℕ). says (stands_at_path items h.0) (find (λ q. q.item.0 == n) (with_seen p b).seen) ≡ true) (sym (found_id p.item items h.0 h.1)) (subst (λ (o : Option SeenPath). says (stands_at_path items h.0) o ≡ true) (sym (seen_put p b)) h.2))
 
-  by : (c : Bool) → (p.item.0 == item.0) ≡ c → says (stands_at_path items h.0) (seen_of (with_seen p b) h.0.id) ≡ true
+-- an item stays where it stands, where the path that comes to be seen is its own or of another item
+pub sees_still : (p : SeenPath) (items : List Item) (b : Book) (item : ItemId) → ((p.item.0 == item.0) ≡ true → StandsAtPath items item p) → StandsStill items b (with_seen p b) item
+sees_still p items b item own = by (p.item.0 == item.0) refl where
+  by : (c : Bool) → (p.item.0 == item.0) ≡ c → StandsStill items b (with_seen p b) item
   by true e =
-      subst (λ (n : ℕ). says (stands_at_path items h.0) (find (λ q. q.item.0 == n) (with_seen p b).seen) ≡ true) (eqb-true p.item.0 item.0 e ∙ sym same)
-      (subst (λ (o : Option SeenPath). says (stands_at_path items h.0) o ≡ true) (sym (seen_put p b)) (own e h.0 h.1))
-  by false e = subst (λ (o : Option SeenPath). says (stands_at_path items h.0) o ≡ true) (sym (seen_past p b h.0.id (subst (λ (n : ℕ). (p.item.0 == n) ≡ false) (sym same) e))) h.2
+      let same : p.item ≡ item = same_item p.item item (eqb-true p.item.0 item.0 e) in
+      let stands : StandsAtSeen items (with_seen p b) item = subst (λ (x : ItemId). StandsAtSeen items (with_seen p b) x) same (sees_own p items b (subst (λ (x : ItemId). StandsAtPath items x p) (sym same) (own e))) in (λ h. stands, λ h. inl stands)
+  by false e = (
+    λ h. (h.0, h.1, subst (λ (o : Option SeenPath). says (stands_at_path items h.0) o ≡ true) (sym (seen_past p b h.0.id (subst (λ (n : ℕ). (p.item.0 == n) ≡ false) (sym (found_id item items h.0 h.1)) e))) h.2),
+    λ h. inr (seen_past p b item e ∙ h),
+  )
 
 -- the last change
 
@@ -104,8 +111,12 @@ marked_by log front n c item m = (
   sym (but_added log (n, c)) ∙ ap all_but_last m.2 ∙ but_added front (m.0, change.Mark item m.1),
 )
 
--- after another change no Mark is the last
-pub led_unmarked : (c : Change) (s t : State) → (IsMark c → ⊥) → Led c s t → (front : List (Usn × Change)) (item : ItemId) → IsMarkedLast t.filter.volume.log front item → ⊥
-led_unmarked c s t other led front item m =
-    let k = marked_by s.filter.volume.log front _ c item (m.0, m.1, sym led.after.log ∙ m.2) in
-    other (subst IsMark (sym k.1) tt)
+pub made_by : (log : List (Usn × Change)) (n : Usn) (c : Change) (item : ItemId) (m : IsMadeLast (log ++ (n, c) ∷ []) item) → c ≡ change.Make item m.2 m.3 m.4 m.5 m.6
+made_by log n c item m = ap (λ (d : Usn × Change). d.1) (sym (last_added (n, c) log (n, c)) ∙ ap (last_or (n, c)) m.7 ∙ last_added (n, c) m.0 (m.1, change.Make item m.2 m.3 m.4 m.5 m.6))
+
+-- after another change neither a Mark nor a Make is the last
+pub led_unnamed : (c : Change) (s t : State) → (IsNaming c → ⊥) → Led c s t → (item : ItemId) → IsNamedLast t.filter.volume.log item → ⊥
+led_unnamed c s t other led item (inl m) =
+    let k = marked_by s.filter.volume.log m.0 _ c item (m.1.0, m.1.1, sym led.after.log ∙ m.1.2) in
+    other (subst IsNaming (sym k.1) tt)
+led_unnamed c s t other led item (inr m) = other (subst IsNaming (sym (made_by s.filter.volume.log _ c item (m.0, m.1, m.2, m.3, m.4, m.5, m.6, sym led.after.log ∙ m.7))) tt)

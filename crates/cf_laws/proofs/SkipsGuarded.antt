@@ -1,6 +1,6 @@
 -- What the engine's single steps keep in `replay`.
 use Rattle.std.proofs.Common.{◌≡◌, ◌⊎◌, ◌+◌, ℕ, Bool, true, false, List, [], ◌∷◌, refl, sym, subst, inl, inr, max}
-use Rattle.std.specs.Prelude.{Option, Some, None, not, ◌&&◌, ◌==◌}
+use Rattle.std.specs.Prelude.{Option, Some, None, is_some, nat_lt, not, ◌<◌, ◌&&◌, ◌==◌}
 use Rattle.cf_base.specs.declared.changes.Change.{Change}
 use Rattle.cf_base.specs.declared.changes.Change.TheVariants as change
 use Rattle.cf_base.specs.declared.codes.Code.{Code}
@@ -9,11 +9,11 @@ use Rattle.cf_base.specs.declared.ids.Usn.{Usn}
 use Rattle.cf_base.specs.declared.items.SeenPath.{SeenPath}
 use Rattle.std.proofs.lemmas.Bool.{eqb-true}
 use Rattle.cf_model.specs.Arrows.{Arrow, Preserves, and_then, only_if, unless_done, when_ok}
-use Rattle.cf_model.specs.Books.{Book, MoveItem, QueueEntry, with_cursor, with_seen}
+use Rattle.cf_model.specs.Books.{Book, MoveItem, QueueEntry, seen_of, with_cursor, with_seen, without_seen}
 use Rattle.cf_model.specs.Changes.{change as put, next_number, same_book}
 use Rattle.cf_model.specs.ConflictNames.{conflict_name}
 use Rattle.cf_model.specs.Effects.{effect}
-use Rattle.cf_model.specs.Identities.{is_untargeted, stands_at_seen}
+use Rattle.cf_model.specs.Identities.{is_untargeted, stands_at_path, stands_at_seen}
 use Rattle.cf_model.specs.Items.{Item, is_dirty, item_of}
 use Rattle.cf_model.specs.Logs.{next_by}
 use Rattle.cf_model.specs.Numbers.{same_usn}
@@ -26,22 +26,22 @@ use Rattle.cf_model.specs.Words.{is_empty, says}
 use Rattle.cf_model.proofs.ArrowLaws.{keeps_noted, keeps_only_if, keeps_reading, keeps_ret, keeps_seq}
 use Rattle.cf_model.proofs.TreeLaws.{keeps_bind, keeps_mapped}
 use Rattle.cf_laws.specs.Fitting.{Fits, NoEntry, NoMove, Touches}
-use Rattle.cf_laws.specs.Invariant.{IsSound}
+use Rattle.cf_laws.specs.Invariant.{All, InOrder, IsSound}
 use Rattle.cf_laws.specs.Premises.{IsFair}
-use Rattle.cf_laws.proofs.Gathered.{all_weaker}
-use Rattle.cf_laws.proofs.Guarded.{Guarded, KeepsPlaced}
+use Rattle.cf_laws.proofs.Gathered.{all_filter, all_put_in, all_weaker}
+use Rattle.cf_laws.proofs.Guarded.{AreSeenBelow, Guarded, KeepsBelow, KeepsPlaced, StandsStill}
 use Rattle.cf_laws.proofs.Leading.{Leads, kept_leads, leads_bind, leads_mapped}
 use Rattle.cf_laws.proofs.Plainly.{After, change_after, keeps_led}
 use Rattle.cf_laws.proofs.RightItems.{no_way}
 use Rattle.cf_laws.proofs.SoundChanges.{KeepsEntries}
 use Rattle.cf_laws.proofs.SoundFilters.{change_leads}
-use Rattle.cf_laws.proofs.SoundSettles.{each_found, left_true, not_true, right_true}
+use Rattle.cf_laws.proofs.SoundSettles.{each_found, found_below, left_true, not_true, right_true}
 
 -- What these steps need: some changes, records that leave the uploads, and lines of what is left out.
 pub record Skipping (Ok : Change → Type 0) (P : State → Type 0) : Type 0 where
   pub sound : (s : State) → P s → IsFair s.link → IsSound s.link s.volatile.tokens s.filter
   pub change : (c : Change) (s : State) → Ok c → ((id : ItemId) → Touches c id → ⊥) → (IsFair s.link → Fits s.link.remote s.filter c) → P s → Keeps P (do_change c s)
-  pub books : (f : Book → Book) (s : State) → KeepsEntries f → (IsFair s.link → KeepsPlaced f s) → P s → P (with_book f s)
+  pub books : (f : Book → Book) (s : State) → KeepsEntries f → (IsFair s.link → KeepsPlaced f s × KeepsBelow f s) → P s → P (with_book f s)
   pub skips : (c : Code) (s : State) → P s → P (skipped c s)
 
 abbrev pub Whichever : Change → Type 0
@@ -50,7 +50,7 @@ Whichever c = Unit {0}
 pub guarded_skipping : (P : State → Type 0) → Guarded P → Skipping Whichever P
 guarded_skipping P closed = record {
   sound = λ s h. (closed.on_filter s h).sound s.filter h;
-  change = λ c s ok free fit h. keeps_mapped (λ x. P (with_filter x s)) P (λ x. with_filter x s) (put c s.filter) (λ x j. j) ((closed.on_filter s h).change same_book c s.filter (λ b. refl) (λ z b. refl) free fit h);
+  change = λ c s ok free fit h. keeps_mapped (λ x. P (with_filter x s)) P (λ x. with_filter x s) (put c s.filter) (λ x j. j) ((closed.on_filter s h).change same_book c s.filter (λ b. refl) (λ fair. ((λ z b. refl), λ k. k)) free fit h);
   books = λ f s keeps placed h. closed.books f s keeps placed h;
   skips = λ c s h. closed.keeps_skipped c s h;
 }
@@ -72,6 +72,13 @@ keeps_first P Q (Ret a s) h = h.0
 keeps_first P Q (Step s p) h = (h.0.0, keeps_first P Q p h.1)
 keeps_first P Q (Fork p q) h = (keeps_first P Q p h.0, keeps_first P Q q h.1)
 keeps_first P Q (Asked g) h = λ x. keeps_first P Q (g x) (h x)
+
+-- what is kept of the first part is more
+pub keeps_into : {S A B : Type 0} (P Q : S → Type 0) → ((s : S) → Q s → P s) → (p : Tree S A) (g : A → S → Tree S B) → Keeps Q p → ((a : A) (s : S) → Q s → Keeps P (g a s)) → Keeps P (bind p g)
+keeps_into P Q less (Ret a s) g h k = k a s h
+keeps_into P Q less (Step s p) g h k = (less s h.0, keeps_into P Q less p g h.1 k)
+keeps_into P Q less (Fork p q) g h k = (keeps_into P Q less p g h.0 k, keeps_into P Q less q g h.1 k)
+keeps_into P Q less (Asked f) g h k = λ x. keeps_into P Q less (f x) g (h x) k
 
 pub framed : (Ok : Change → Type 0) (P F : State → Type 0) → Skipping Ok P → Framing Ok F → Skipping Ok (λ s. P s × F s)
 framed Ok P F closed frame = record {
@@ -128,11 +135,24 @@ tried_at Ok P closed why f s h k = by (why s) where
 pub try_change_at : (Ok : Change → Type 0) (P : State → Type 0) → Skipping Ok P → (c : Change) (s : State) → Ok c → ((id : ItemId) → Touches c id → ⊥) → (IsFair s.link → Fits s.link.remote s.filter c) → P s → Keeps P (try_change c s)
 try_change_at Ok P closed c s ok free fit h = tried_at Ok P closed (why_no_change c) (do_change c) s h (closed.change c s ok free fit h)
 
-try_book_at : (Ok : Change → Type 0) (P : State → Type 0) → Skipping Ok P → (f : Book → Book) (s : State) → KeepsEntries f → (IsFair s.link → KeepsPlaced f s) → P s → Keeps P (try_book f s)
+try_book_at : (Ok : Change → Type 0) (P : State → Type 0) → Skipping Ok P → (f : Book → Book) (s : State) → KeepsEntries f → (IsFair s.link → KeepsPlaced f s × KeepsBelow f s) → P s → Keeps P (try_book f s)
 try_book_at Ok P closed f s keeps placed h = tried_at Ok P closed (why_no_record f) (in_book f) s h (h, closed.books f s keeps placed h)
 
-pub try_book_keeps : (Ok : Change → Type 0) (P : State → Type 0) → Skipping Ok P → (f : Book → Book) → KeepsEntries f → ((s : State) → KeepsPlaced f s) → Preserves P (try_book f)
-try_book_keeps Ok P closed f keeps placed = record { keeps = λ s h. try_book_at Ok P closed f s keeps (λ fair. placed s) h }
+-- a book with the same paths seen
+pub same_seen : (items : List Item) (b d : Book) (item : ItemId) → d.seen ≡ b.seen → StandsStill items b d item
+same_seen items b d item e = (
+  λ k. (k.0, k.1, subst (λ (ps : List SeenPath). says (stands_at_path items k.0) (seen_of (record d { seen = ps }) k.0.id) ≡ true) (sym e) k.2),
+  λ k. inr (subst (λ (ps : List SeenPath). seen_of (record d { seen = ps }) item ≡ None) (sym e) k),
+)
+
+pub leaves_seen : (f : Book → Book) (s : State) → ((b : Book) → (f b).seen ≡ b.seen) → KeepsPlaced f s × KeepsBelow f s
+leaves_seen f s seen = (
+  λ item m. same_seen (items_now s) (book_now s) (f (book_now s)) item (seen (book_now s)),
+  λ h. subst (All (λ p. p.item.0 < s.filter.volume.next_item.0)) (sym (seen (book_now s))) h,
+)
+
+pub try_book_keeps : (Ok : Change → Type 0) (P : State → Type 0) → Skipping Ok P → (f : Book → Book) → KeepsEntries f → ((b : Book) → (f b).seen ≡ b.seen) → Preserves P (try_book f)
+try_book_keeps Ok P closed f keeps seen = record { keeps = λ s h. try_book_at Ok P closed f s keeps (λ fair. leaves_seen f s seen) h }
 
 -- what a change that was done leaves
 pub record Led (c : Change) (s t : State) : Type 0 where
@@ -180,11 +200,20 @@ only_if_at P false f s h k = h
 
 -- records
 
+pub seen_below : (n : ℕ) (p : SeenPath) (b : Book) → p.item.0 < n → AreSeenBelow n b → AreSeenBelow n (with_seen p b)
+seen_below n p b low h = all_put_in (λ q. q.item.0 < n) (λ x y. nat_lt x.item.0 y.item.0) p (without_seen p.item b.seen) low (all_filter (λ q. q.item.0 < n) (λ q. not (q.item.0 == p.item.0)) b.seen h)
+
 pub try_seen_at : (Ok : Change → Type 0) (P : State → Type 0) → Skipping Ok P → (p : SeenPath) (s : State) → (IsFair s.link → KeepsPlaced (with_seen p) s) → P s → Keeps P (try_seen p s)
-try_seen_at Ok P closed p s placed h = only_if_at P (is_there p.item s) (try_book (with_seen p)) s h (λ _. try_book_at Ok P closed (with_seen p) s (λ b. refl) placed h)
+try_seen_at Ok P closed p s placed h =
+    only_if_at P (is_there p.item s) (try_book (with_seen p)) s h (λ q. try_book_at Ok P closed (with_seen p) s (λ b. refl) (λ fair. (placed fair, λ k. seen_below s.filter.volume.next_item.0 p (book_now s) (low (closed.sound s h fair).now.order q) k)) h) where
+      low : InOrder 0 s.filter.volume.next_item.0 (items_now s) → is_some (item_of (items_now s) p.item) ≡ true → p.item.0 < s.filter.volume.next_item.0
+      low order q = by (item_of (items_now s) p.item) refl q where
+        by : (o : Option Item) → item_of (items_now s) p.item ≡ o → is_some o ≡ true → p.item.0 < s.filter.volume.next_item.0
+        by None f z = no_way z
+        by (Some i) f z = found_below p.item 0 s.filter.volume.next_item.0 (items_now s) i order f
 
 pub try_cursor_keeps : (Ok : Change → Type 0) (P : State → Type 0) → Skipping Ok P → (clock : ℕ) → Preserves P (try_cursor clock)
-try_cursor_keeps Ok P closed clock = keeps_reading P (is_cursor clock) (cursor_unless clock) (λ is_so. keeps_only_if P (not is_so) (try_book (with_cursor clock)) (try_book_keeps Ok P closed (with_cursor clock) (λ b. refl) (λ s front item m k. k)))
+try_cursor_keeps Ok P closed clock = keeps_reading P (is_cursor clock) (cursor_unless clock) (λ is_so. keeps_only_if P (not is_so) (try_book (with_cursor clock)) (try_book_keeps Ok P closed (with_cursor clock) (λ b. refl) (λ b. refl)))
 
 -- marks
 

@@ -5,7 +5,6 @@ use Rattle.std.specs.List.{list_all}
 use Rattle.std.proofs.lemmas.Bool.Decides.{nat_tests}
 use Rattle.std.proofs.lemmas.Bool.{eqb-true}
 use Rattle.cf_base.specs.declared.codes.Code.{Code}
-use Rattle.cf_base.specs.declared.ids.ItemId.{ItemId}
 use Rattle.cf_base.specs.declared.ids.Key.{Key}
 use Rattle.cf_base.specs.declared.ids.Token.{Token}
 use Rattle.cf_base.specs.declared.ids.Version.{Version}
@@ -31,13 +30,13 @@ use Rattle.cf_model.specs.Store.{Held, Recorded, RecordedDone, recorded_at}
 use Rattle.cf_model.specs.Trees.{Keeps, bind}
 use Rattle.cf_laws.specs.GivenOnce.{WasGiven}
 use Rattle.cf_laws.specs.Invariant.{All, Carries, FitsBy, IsEntryOf, IsGivenIn, IsMessageRight, IsSound, Names, OfRequest, PutFits, is_put, put_bytes}
-use Rattle.cf_laws.specs.Marks.{StandsAtSeen}
 use Rattle.cf_laws.specs.Premises.{IsFair}
 use Rattle.cf_laws.proofs.Gathered.{all_any, all_append, all_weaker, each_weaker}
-use Rattle.cf_laws.proofs.Guarded.{EnteredIn, Entering, Guarded, IsMovedOff, PostedIn}
+use Rattle.cf_laws.proofs.Guarded.{EnteredIn, Entering, Guarded, MovesThere, PostedIn}
 use Rattle.cf_laws.proofs.MessagesGuarded.{anyhow, send_now_at}
 use Rattle.cf_laws.proofs.RightItems.{no_way, no_way_back}
 use Rattle.cf_laws.proofs.SoundLinks.{CarriesBy, FrameCarries}
+use Rattle.cf_laws.proofs.SkipsGuarded.{leaves_seen}
 use Rattle.cf_laws.proofs.SoundSettles.{left_true, right_true}
 
 -- a fresh token
@@ -70,7 +69,7 @@ pub record IsNewEntry (s : State) (e : QueueEntry) (bytes : List ℕ) : Type 0 w
   pub item : e.item.0 < s.filter.volume.next_item.0
   pub apart : All (λ f. f.item.0 ≡ e.item.0 → f.item.0 ≡ 0) (book_now s).entries
   pub facts : NewBy e.action s.link.remote (items_now s) e bytes
-  pub off : IsMovedOff s e
+  pub off : MovesThere s e
 
 -- nothing says a word of a fresh token
 
@@ -189,11 +188,11 @@ anchored_entries e b = by (e.item.0 == 0) where
   by true = refl
   by false = refl
 
-anchored_placed : (e : QueueEntry) (items : List Item) (item : ItemId) (b : Book) → StandsAtSeen items b item → StandsAtSeen items (anchored e b) item
-anchored_placed e items item b h = by (e.item.0 == 0) where
-  by : (d : Bool) → StandsAtSeen items (cond d b (with_anchor e.item e.number b)) item
-  by true = h
-  by false = h
+anchored_seen : (e : QueueEntry) (b : Book) → (anchored e b).seen ≡ b.seen
+anchored_seen e b = by (e.item.0 == 0) where
+  by : (d : Bool) → (cond d b (with_anchor e.item e.number b)).seen ≡ b.seen
+  by true = refl
+  by false = refl
 
 -- the state in which its request is sent
 abbrev Sending : QueueEntry → State → State
@@ -223,7 +222,7 @@ push_at P closed entering e expect bytes s token new h = by (why_no_token s) whe
   stored = entering.enters e (with_volatile with_token s) (λ fair. (entered s e bytes token ((closed.on_filter s h).sound s.filter h fair) (new fair), (new fair).off)) drawn
 
   noted : P (with_book (anchored e) (with_book (with_entry e) (with_volatile with_token s)))
-  noted = closed.books (anchored e) (with_book (with_entry e) (with_volatile with_token s)) (anchored_entries e) (λ fair front item m k. anchored_placed e (items_now s) item (with_entry e (book_now s)) k) stored
+  noted = closed.books (anchored e) (with_book (with_entry e) (with_volatile with_token s)) (anchored_entries e) (λ fair. leaves_seen (anchored e) (with_book (with_entry e) (with_volatile with_token s)) (anchored_seen e)) stored
 
   sent : Keeps P (send (request_of e expect bytes) (with_book (anchored e) (with_book (with_entry e) (with_volatile with_token s))))
   sent =

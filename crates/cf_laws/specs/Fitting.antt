@@ -76,9 +76,11 @@ Fits r x (change.Mark item number) =
     Meets r x (change.Mark item number) × ((StandsAtSeen x.volume.items x.volume.book item × NoMove x.volume.book.entries item) ⊎ IsMadeLast x.volume.log item)
 Fits r x c = Meets r x c
 
-abbrev pub IsMark : Change → Type 0
-IsMark (change.Mark item number) = Unit {0}
-IsMark _ = ⊥
+-- a Mark or a Make
+abbrev pub IsNaming : Change → Type 0
+IsNaming (change.Mark item number) = Unit {0}
+IsNaming (change.Make item parent name kind size identity) = Unit {0}
+IsNaming _ = ⊥
 
 -- a change that may bring the bytes that a file lacks
 abbrev pub Touches : Change → ItemId → Type 0

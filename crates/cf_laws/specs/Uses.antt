@@ -1,5 +1,5 @@
 -- What the engine leaves alone.
-use Rattle.std.specs.Prelude.{Bool, true, false, not, List, length, drop, ◌≡◌, ◌≤◌}
+use Rattle.std.specs.Prelude.{Bool, true, false, not, List, length, drop, ◌++◌, ◌≡◌, ◌≤◌}
 use Rattle.cf_base.specs.declared.calls.Call.{Call}
 use Rattle.cf_base.specs.declared.calls.Call.TheVariants as call
 use Rattle.cf_base.specs.declared.changes.Change.{Change}
@@ -8,12 +8,13 @@ use Rattle.cf_base.specs.declared.events.Event.{Event}
 use Rattle.cf_base.specs.declared.events.Event.TheVariants as event
 use Rattle.cf_base.specs.declared.ids.ItemId.{ItemId}
 use Rattle.cf_base.specs.declared.ids.Usn.{Usn}
+use Rattle.cf_model.specs.Dehydration.{in_use}
 use Rattle.cf_model.specs.Logs.{items_of}
 use Rattle.cf_model.specs.Soundness.{Each}
-use Rattle.cf_model.specs.State.{State}
+use Rattle.cf_model.specs.State.{State, items_now}
 use Rattle.cf_laws.specs.Fitting.{IsVacant}
 use Rattle.cf_laws.specs.GivenOnce.{Handles, IsGiven, Waits}
-use Rattle.cf_laws.specs.Invariant.{All}
+use Rattle.cf_laws.specs.Invariant.{All, InOrder}
 use Rattle.cf_laws.specs.Logged.{EachMade}
 use Rattle.cf_laws.specs.Premises.{IsFair}
 
@@ -56,3 +57,14 @@ IsRemovalVacant front n _ = Unit {0}
 -- A removal since the first state met an item that was vacant: a file without local writes, or a directory without a child.
 abbrev pub AreRemovalsVacant : State → State → Type 0
 AreRemovalsVacant s t = IsFair t.link → EachMade IsRemovalVacant s.filter.volume.log (since s t)
+
+-- The ids of the items rise, and each is below the next one.
+abbrev pub AreIdsRising : State → Type 0
+AreIdsRising s = InOrder 0 s.filter.volume.next_item.0 (items_now s)
+
+-- The same items are in use in both states, and the changes since the first one replaced none of them: so a change met an item
+-- that was not in use in the state in which it was made.
+pub record AreReplacedIdle (s t : State) : Type 0 where
+  pub alike : (id : ItemId) → in_use id t.filter ≡ in_use id s.filter
+  pub longer : s.filter.volume.log ++ since s t ≡ t.filter.volume.log
+  pub idle : All (λ c. (id : ItemId) → Replaces c.1 id → in_use id s.filter ≡ false) (since s t)

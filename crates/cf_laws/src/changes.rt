@@ -5,7 +5,7 @@ ghost use Rattle.cf_base.specs.declared.answers.Answer.{Answer};
 ghost use Rattle.cf_base.specs.declared.events.Event.{Event};
 ghost use Rattle.cf_base.specs.declared.policies.Mode.TheVariants as mode;
 ghost use Rattle.cf_laws.specs.Logged.{AreChangesRight};
-ghost use Rattle.cf_laws.specs.Marks.{IsMarkedAtSeen};
+ghost use Rattle.cf_laws.specs.Marks.{IsMadeAtSeen, IsMarkedAtSeen};
 ghost use Rattle.cf_laws.specs.Premises.{IsFresh};
 ghost use Rattle.cf_model.specs.Events.{is_of, tree_of};
 ghost use Rattle.cf_model.specs.Lawful.{Runs};
@@ -24,10 +24,13 @@ pub fn every_change_of_the_engine_is_right()
 {}
 
 /// In `replay`, over a remote that keeps its rules: in each state that a run goes through, wherever the device stops, as long
-/// as a Mark is the last change its item is there and stands at the path seen. Nothing is said where the Mark is directly
-/// behind the Make of that item: in a listing the paths come to be seen only with its last change.
-#[tactic(auto, using(crate::proofs::MarksGuarded::marks_stay))]
+/// as a Mark is the last change its item is there and stands at the path seen; or no path of it is seen, and the Mark is directly
+/// behind its Make, as in a listing, whose paths come to be seen only with its last change. And as long as the Make is the last
+/// change, the new item stands at the path seen, or none is seen yet.
+#[tactic(auto, using(crate::proofs::MarksGuarded::marks_stay, crate::proofs::MarksGuarded::makes_stay))]
 pub fn a_marked_item_stands_where_it_was_seen()
-    ensures { (remote : Held) (clusters : ℕ) (trace : List (Event × Answer)) (s : State) (e : Event)
+    ensures made { (remote : Held) (clusters : ℕ) (trace : List (Event × Answer)) (s : State) (e : Event)
+        → Runs mode.Replay (start mode.Replay remote clusters) trace s → IsFresh remote → is_of mode.Replay e ≡ true → Keeps IsMadeAtSeen (tree_of e s) }
+    ensures marked { (remote : Held) (clusters : ℕ) (trace : List (Event × Answer)) (s : State) (e : Event)
         → Runs mode.Replay (start mode.Replay remote clusters) trace s → IsFresh remote → is_of mode.Replay e ≡ true → Keeps IsMarkedAtSeen (tree_of e s) }
 {}
