@@ -15,6 +15,7 @@ pub use conflicts::conflict_name;
 pub use finds::{find, find_below, find_parent};
 pub use laws::{changes_keep_trees, places_have_room, plans_keep_trees};
 pub use moves::check_move;
+pub use names::{Names, bad_path};
 pub use paths::path_of;
 pub use trees::tree_of;
 

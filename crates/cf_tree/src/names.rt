@@ -21,7 +21,7 @@ pub(crate) const MOST_NAME_BYTES: usize = 255;
 
 /// The names of a path that are left. Contracts see them as a list.
 #[derive(Debug, Drop)]
-pub(crate) struct Names<'a> {
+pub struct Names<'a> {
     left: Option<&'a str>,
 }
 
@@ -36,7 +36,7 @@ impl<'a> Model for Names<'a> {
 
 impl<'a> Names<'a> {
     /// The names of a path.
-    pub(crate) fn of(path: &'a str) -> Names<'a>
+    pub fn of(path: &'a str) -> Names<'a>
         ensures { result ≡ names_of path.now }
     {
         match path.strip_prefix('/') {
@@ -47,14 +47,14 @@ impl<'a> Names<'a> {
     }
 
     /// Whether none is left.
-    pub(crate) fn is_empty(&self) -> bool
+    pub fn is_empty(&self) -> bool
         ensures { result ≡ is_empty self.now }
     {
         self.left.is_none()
     }
 
     /// Takes the first name out.
-    pub(crate) fn next(&mut self) -> Option<&'a str>
+    pub fn next(&mut self) -> Option<&'a str>
         ensures { MatchOption result ((self.old ≡ []) × (self.new ≡ [])) (λ n. self.old ≡ n.now ∷ self.new) }
     {
         let text = self.left?;
@@ -101,7 +101,7 @@ fn is_name(text: &str) -> bool
 }
 
 /// Why the path is none: TooDeep where it has more than 32 names, else BadPath where one of them is no name.
-pub(crate) fn bad_path(path: &str) -> Option<Code>
+pub fn bad_path(path: &str) -> Option<Code>
     ensures { result ≡ bad_names (names_of path.now) }
 {
     let mut left = Names::of(path);
