@@ -4,8 +4,10 @@ pub mod FoundParts
 pub mod ImageFits
 pub mod KeySteps
 pub mod MeantRows
+pub mod MergedKeys
 pub mod NamedKeys
 pub mod NamedRows
+pub mod NotedIds
 pub mod NewVolume
 pub mod OpenedAgain
 pub mod OpenedAt

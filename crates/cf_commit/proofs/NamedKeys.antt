@@ -21,7 +21,7 @@ use Rattle.cf_points.specs.Known.{or_now}
 use Rattle.cf_table.proofs.NamedEntries.{same_is, same_itself}
 
 -- the keys of records that pass a test on keys
-has_filtered : (q : List ℕ → Bool) (rs : List AuxRecord) (key : List ℕ) → has_key (map (λ (r : AuxRecord). r.key) (filter (λ (r : AuxRecord). q r.key) rs)) key ≡ (is_some (record_at rs key) && q key)
+pub has_filtered : (q : List ℕ → Bool) (rs : List AuxRecord) (key : List ℕ) → has_key (map (λ (r : AuxRecord). r.key) (filter (λ (r : AuxRecord). q r.key) rs)) key ≡ (is_some (record_at rs key) && q key)
 has_filtered q [] key = refl
 has_filtered q (x ∷ xs) key = by (same x.key key) refl (q x.key) refl (has_filtered q xs key)
   where
@@ -37,7 +37,7 @@ has_filtered q (x ∷ xs) key = by (same x.key key) refl (q x.key) refl (has_fil
     by false p true w h = ap (λ (b : Bool). b || has_key rest key) p ∙ h
     by false p false w h = h
 
-any_found : (rs : List AuxRecord) (key : List ℕ) → list_any (λ r. same r.key key) rs ≡ is_some (record_at rs key)
+pub any_found : (rs : List AuxRecord) (key : List ℕ) → list_any (λ r. same r.key key) rs ≡ is_some (record_at rs key)
 any_found [] key = refl
 any_found (x ∷ xs) key = by (same x.key key) (any_found xs key)
   where

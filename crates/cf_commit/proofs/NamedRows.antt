@@ -23,7 +23,7 @@ pub rise_so : (low : ℕ) (rows : List model.Row) → RowsRise low rows → Rise
 rise_so low [] h = tt
 rise_so low (r ∷ rs) h = (h.0, rise_so (r.id.0 + 1) rs h.1)
 
-same_id : (a b : ItemId) → a.0 ≡ b.0 → a ≡ b
+pub same_id : (a b : ItemId) → a.0 ≡ b.0 → a ≡ b
 same_id a b h = ap (λ (n : ℕ). record { 0 = n }) h
 
 pub none_and : (a : Bool) → (a && false) ≡ false
@@ -31,7 +31,7 @@ none_and true = refl
 none_and false = refl
 
 -- the ids of rows that pass a test on ids
-has_filtered : (q : ItemId → Bool) (rows : List Row) (id : ItemId) → has_id (map (λ (r : Row). r.id) (filter (λ (r : Row). q r.id) rows)) id ≡ (is_some (row_of rows id) && q id)
+pub has_filtered : (q : ItemId → Bool) (rows : List Row) (id : ItemId) → has_id (map (λ (r : Row). r.id) (filter (λ (r : Row). q r.id) rows)) id ≡ (is_some (row_of rows id) && q id)
 has_filtered q [] id = refl
 has_filtered q (x ∷ xs) id = by (eqb x.id.0 id.0) refl (q x.id) refl (has_filtered q xs id)
   where

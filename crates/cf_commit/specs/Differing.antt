@@ -26,6 +26,21 @@ is_row_changed then r = not (nat_lt r.id.0 then.next.0) || is_some (row_of then.
 abbrev pub changed_rows : Earlier → List Row → List ItemId
 changed_rows then rows = map (λ r. r.id) (filter (is_row_changed then) rows)
 
+-- the same by what is noted: rows that are still there, and new ones behind them
+
+abbrev pub is_new : ItemId → Row → Bool
+is_new next r = not (nat_lt r.id.0 next.0)
+
+abbrev pub is_row_left : Earlier → List Row → Row → Bool
+is_row_left then rows r = nat_lt r.id.0 then.next.0 && is_some (row_of rows r.id)
+
+abbrev pub rows_left : Earlier → List Row → List ItemId
+rows_left then rows = map (λ r. r.id) (filter (is_row_left then rows) then.rows.rows)
+
+-- Those of the keys that pass the test which a record has now stand among the new ones, beside the old.
+pub record AddsKeys (now : List AuxRecord) (test : List ℕ → Bool) (old new : List AuxRecord) : Type 0 where
+  pub each : (key : List ℕ) → is_some (record_at new key) ≡ (is_some (record_at old key) || (is_some (record_at now key) && test key))
+
 -- the noted row is there no more
 abbrev pub is_row_gone : Earlier → List Row → Row → Bool
 is_row_gone then rows r = nat_lt r.id.0 then.next.0 && not (is_some (row_of rows r.id))

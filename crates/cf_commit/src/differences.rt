@@ -1,10 +1,12 @@
 //! What differs from the last point.
 
-ghost use Rattle.std.specs.Prelude.{◌≡◌, None, IfOk, is_some, length, nat_lt, ◌&&◌};
-ghost use Rattle.cf_commit.specs.Differing.{changed_keys, changed_rows, is_record_changed, is_record_gone, is_row_changed, is_row_gone, keys_in, removed_keys, removed_rows};
+ghost use Rattle.std.specs.Prelude.{◌≡◌, ◌≤◌, None, IfOk, OnOk, filter, is_some, length, map, nat_lt, ◌&&◌};
+ghost use Rattle.std.specs.List.{list_any};
+ghost use Rattle.cf_commit.specs.Differing.{AddsKeys, changed_keys, changed_rows, is_new, is_record_gone, is_row_gone, is_row_left, keys_in, removed_keys, removed_rows, rows_left};
 ghost use Rattle.cf_image.specs.Contents.{record_at};
 ghost use Rattle.cf_image.specs.Spelled.{AreRecordsFrom};
-ghost use Rattle.cf_table.specs.Tables.{row_of};
+ghost use Rattle.cf_model.specs.Words.{same};
+ghost use Rattle.cf_table.specs.Tables.{RisesFrom, row_of};
 
 use crate::earlier::Earlier;
 use cf_base::{AuxRecord, Blob, ItemId, Memory};
@@ -24,10 +26,11 @@ fn has_record(records: &AuxRecords, key: &[u8]) -> bool
     records.get(key).is_some()
 }
 
-fn is_row_changed(then: &Earlier, row: &Row) -> bool
-    ensures { result ≡ is_row_changed then.now row.now }
+// The noted row is still there.
+fn is_row_left(then: &Earlier, now: &Rows, row: &Row) -> bool
+    ensures { result ≡ is_row_left then.now now.now.rows row.now }
 {
-    !(row.id.0 < then.next.0) || has_row(&then.rows, row.id)
+    row.id.0 < then.next.0 && has_row(now, row.id)
 }
 
 fn is_row_gone(then: &Earlier, now: &Rows, row: &Row) -> bool
@@ -36,15 +39,49 @@ fn is_row_gone(then: &Earlier, now: &Rows, row: &Row) -> bool
     row.id.0 < then.next.0 && !has_row(now, row.id)
 }
 
-fn changed_rows(alloc: Global, then: &Earlier, now: &[Row]) -> Result<Vec<ItemId>, Memory>
-    ensures { IfOk result (λ v. v.items ≡ changed_rows then.now now.now) }
+fn rows_left(
+    alloc: Global,
+    then: &Earlier,
+    now: &Rows,
+    noted: &[Row],
+) -> Result<Vec<ItemId>, Memory>
+    requires { noted.now ≡ then.now.rows.rows }
+    ensures { IfOk result (λ v. v.items ≡ rows_left then.now now.now.rows) }
 {
     Ok(
-        now.iter()
-            .filter(|row| is_row_changed(then, row))
+        noted
+            .iter()
+            .filter(|row| is_row_left(then, now, row))
             .map(|row| row.id)
             .collect(alloc)?,
     )
+}
+
+// The rows from an id on. By a binary search.
+fn rows_from(rows: &[Row], next: ItemId) -> &[Row]
+    requires { RisesFrom 0 rows.now }
+    ensures { result.now ≡ filter (is_new next) rows.now }
+{
+    let place = rows.partition_point(|row| row.id.0 < next.0);
+    &rows[place..]
+}
+
+fn ids_of(alloc: Global, rows: &[Row]) -> Result<Vec<ItemId>, Memory>
+    ensures { IfOk result (λ v. v.items ≡ map (λ r. r.id) rows.now) }
+{
+    Ok(rows.iter().map(|row| row.id).collect(alloc)?)
+}
+
+// Those noted that are still there, and the new ones behind them. No other row is looked at.
+fn changed_rows(alloc: Global, then: &Earlier, now: &Rows) -> Result<Vec<ItemId>, Memory>
+    ensures { IfOk result (λ v. v.items ≡ changed_rows then.now now.now.rows) }
+{
+    let _ = then.rows.image_len();
+    let _ = now.image_len();
+    let mut ids = rows_left(alloc, then, now, then.rows.as_slice())?;
+    let new = ids_of(alloc, rows_from(now.as_slice(), then.next))?;
+    ids.extend_from_slice(&new)?;
+    Ok(ids)
 }
 
 fn rows_gone(
@@ -65,28 +102,69 @@ fn rows_gone(
     )
 }
 
-fn is_record_changed(then: &Earlier, aux: &AuxRecord) -> bool
-    ensures { result ≡ is_record_changed then.now aux.now }
-{
-    has_record(&then.made, aux.key.as_slice()) || has_record(&then.records, aux.key.as_slice())
-}
-
 fn is_record_gone(then: &Earlier, now: &AuxRecords, aux: &AuxRecord) -> bool
     ensures { result ≡ is_record_gone then.now now.now aux.now }
 {
     !has_record(&then.made, aux.key.as_slice()) && !has_record(now, aux.key.as_slice())
 }
 
-fn changed_keys(alloc: Global, then: &Earlier, now: &[AuxRecord]) -> Result<Vec<Blob>, Memory>
-    ensures { IfOk result (λ v. v.items ≡ changed_keys then.now now.now) }
+// A key without a value.
+fn bare(alloc: Global, key: &[u8]) -> Result<AuxRecord, Memory>
+    ensures { IfOk result (λ r. (r.key ≡ key.now) × (length r.value ≡ 0)) }
+{
+    Ok(AuxRecord {
+        key: Blob::from_slice(alloc, key)?,
+        value: Blob::from_slice(alloc, &[])?,
+    })
+}
+
+// Puts a key among others, if a record has it now.
+fn put_key(alloc: Global, keys: &mut AuxRecords, now: &AuxRecords, key: &[u8]) -> Result<(), Memory>
+    requires { length key.now ≤ 255 }
+    ensures { OnOk result (AddsKeys now.now (λ k. same key.now k) keys.old keys.new) }
+{
+    if !has_record(now, key) {
+        return Ok(());
+    }
+    keys.put(bare(alloc, key)?)?;
+    Ok(())
+}
+
+// Puts the keys of noted records that are still there.
+fn put_keys(
+    alloc: Global,
+    keys: &mut AuxRecords,
+    now: &AuxRecords,
+    noted: &[AuxRecord],
+) -> Result<(), Memory>
+    requires { AreRecordsFrom None noted.now }
+    ensures { OnOk result (AddsKeys now.now (λ k. list_any (λ r. same r.key k) noted.now) keys.old keys.new) }
+{
+    for aux in noted {
+        put_key(alloc, keys, now, aux.key.as_slice())?;
+    }
+    Ok(())
+}
+
+fn keys_of(alloc: Global, records: &[AuxRecord]) -> Result<Vec<Blob>, Memory>
+    ensures { IfOk result (λ v. v.items ≡ map (λ r. r.key) records.now) }
 {
     let mut keys = Vec::new(alloc);
-    for aux in now {
-        if is_record_changed(then, aux) {
-            keys.push(aux.key.copy()?)?;
-        }
+    for aux in records {
+        keys.push(aux.key.copy()?)?;
     }
     Ok(keys)
+}
+
+// The keys of those noted that are still there, and of new ones. No other record is looked at.
+fn changed_keys(alloc: Global, then: &Earlier, now: &AuxRecords) -> Result<Vec<Blob>, Memory>
+    ensures { IfOk result (λ v. v.items ≡ changed_keys then.now now.now) }
+{
+    let _ = now.as_slice();
+    let mut keys = AuxRecords::new(alloc);
+    put_keys(alloc, &mut keys, now, then.made.as_slice())?;
+    put_keys(alloc, &mut keys, now, then.records.as_slice())?;
+    Ok(keys_of(alloc, keys.as_slice())?)
 }
 
 fn keys_gone(
@@ -115,7 +193,7 @@ pub(crate) struct NameLists {
     pub(crate) changed_keys: Vec<Blob>,
 }
 
-/// Looks at each row and each record once.
+/// No row and no record is looked at but those that are noted or new.
 pub(crate) fn what_differs(
     alloc: Global,
     then: &Earlier,
@@ -130,9 +208,9 @@ pub(crate) fn what_differs(
     let noted = then.records.as_slice();
     Ok(NameLists {
         removed: rows_gone(alloc, then, &contents.rows, then.rows.as_slice())?,
-        changed: changed_rows(alloc, then, contents.rows.as_slice())?,
+        changed: changed_rows(alloc, then, &contents.rows)?,
         removed_keys: keys_gone(alloc, then, &contents.records, noted)?,
-        changed_keys: changed_keys(alloc, then, contents.records.as_slice())?,
+        changed_keys: changed_keys(alloc, then, &contents.records)?,
     })
 }
 

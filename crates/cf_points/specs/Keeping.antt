@@ -1,13 +1,10 @@
 -- What the calls of a volume ask of a change.
-use Rattle.std.specs.Prelude.{◌≤◌, ◌<◌, List, [], ◌∷◌, All}
+use Rattle.std.specs.Prelude.{◌≤◌, ◌<◌, List, All}
 use Rattle.cf_base.specs.declared.items.SeenPath.{SeenPath}
 use Rattle.cf_base.specs.declared.changes.Change.{Change}
 use Rattle.cf_base.specs.declared.changes.Change.TheVariants as change
 use Rattle.cf_base.specs.declared.ids.ItemId.{ItemId}
 use Rattle.cf_model.specs.Books.{Book}
-use Rattle.cf_model.specs.Changes.{put_change}
-use Rattle.cf_model.specs.State.{Volume}
-use Rattle.cf_table.specs.Changing.{ItemsFit}
 
 -- a new item has the id that the next item gets, or a later one
 abbrev pub IsNextId : Change → ItemId → Type 0
@@ -23,8 +20,3 @@ AreShortIds ps = All (λ p. p.item.0 < 18446744073709551616) ps
 abbrev pub FitsBook : Change → Book → Type 0
 FitsBook (change.Remove item) b = AreShortIds b.seen
 FitsBook c b = Unit {0}
-
--- each change fits the volume that those before it make
-abbrev pub FitInTurn : List Change → Volume → Type 0
-FitInTurn [] v = Unit {0}
-FitInTurn (c ∷ cs) v = ItemsFit c v.book v.items × FitsBook c v.book × FitInTurn cs (put_change c v)
