@@ -30,6 +30,7 @@ use Rattle.cf_points.specs.Staging.{Moves}
 use Rattle.cf_points.specs.Standing.{cluster_on}
 use Rattle.cf_table.proofs.NextChange.{next_goes_on}
 use Rattle.cf_table.specs.Means.{IsFresh, IsLater}
+use Rattle.cf_table.specs.Spelling.{HasRoom}
 use Rattle.cf_table.specs.Tables.{RisesFrom, Table, row_of, with_row}
 use Rattle.cf_table.specs.declared.rows.Row.{Row}
 use Rattle.cf_volume.proofs.Puts.{all_with, inside_with, later_next}
@@ -62,11 +63,12 @@ module _ (s t : State) (k : Known) (p : Row) (uses : List Use) (after : Table) (
       (added_at s t k v c p i n uses (record { 0 = p.id.0 + 1 }) fair at new row arrives.items arrives.book moves leaves puts owned same (λ j. record { 0 = number j }) fits
       (known_added k.next_then k.table.rows k.rows_then p rises (omega (arith, next, steady.earlier))))
 
-  pub added_steady : size_of t ≡ size_of s → length uses ≡ length k.uses → All (λ j. j < length uses) (clusters_in_row p) → p.number ≡ usn_after k.epoch k.place → p.anchor ≡ no_usn → Steady (size_of t) after_known
-  added_steady size long inside number anchor = subst (λ (x : Table). Steady (size_of t) (record k { uses = uses; table = x; place = k.place + 1; count = k.count + 1 })) (sym after_is) (record {
+  pub added_steady : size_of t ≡ size_of s → length uses ≡ length k.uses → All (λ j. j < length uses) (clusters_in_row p) → HasRoom p → p.number ≡ usn_after k.epoch k.place → p.anchor ≡ no_usn → Steady (size_of t) after_known
+  added_steady size long inside room number anchor = subst (λ (x : Table). Steady (size_of t) (record k { uses = uses; table = x; place = k.place + 1; count = k.count + 1 })) (sym after_is) (record {
     fit = subst IsFitSize (sym size) steady.fit;
     clusters = long ∙ steady.clusters ∙ ap (λ (n : ℕ). (n - 3145728) / 4096) (sym size);
     inside = inside_with (λ j. j < length uses) p k.table.rows inside (subst (λ (n : ℕ). All (λ j. j < n) (clusters_in_rows k.table.rows)) (sym long) steady.inside);
+    room = all_with HasRoom p k.table.rows room steady.room;
     later = all_with (λ x. IsLater (usn_after k.epoch (k.place + 1)) x) p k.table.rows
         (record { number = ap (λ (u : Usn). above (usn_after k.epoch (k.place + 1)) u) number ∙ later_next k.epoch k.place; anchor = ap (λ (u : Usn). above (usn_after k.epoch (k.place + 1)) u) anchor ∙ none_above_all k.epoch k.place })
         (next_goes_on (usn_after k.epoch k.place) (usn_after k.epoch (k.place + 1)) k.table.rows (later_next k.epoch k.place) steady.later);
@@ -84,6 +86,6 @@ module _ (s : State) (k : Known) (p : Row) (after : Table) (steady : Steady (siz
       (moves_none s k.uses) (record { later = omega arith; now = λ d left. (d, left, same_here IsCommitted k.uses d); since = λ t d le left. inl left }) (omega arith)
       (λ j. let none : times j (clusters_in_row p) ≡ 0 = ap (λ (es : List (ℕ × ℕ)). times j (map (λ (e : ℕ × ℕ). e.1) es)) fresh.extents in let owns = at.now.owns j in omega (arith, none, owns)) (λ j some. refl) fits
 
-  pub made_steady : p.number ≡ usn_after k.epoch k.place → Steady (size_of s) (record k { table = after; place = k.place + 1; count = k.count + 1 })
-  made_steady number = added_steady s s k p k.uses after steady rises new next after_is refl refl
-      (subst (λ (es : List (ℕ × ℕ)). All (λ j. j < length k.uses) (clusters_in_row (record p { extents = es }))) (sym fresh.extents) (All-nil (λ j. j < length k.uses))) number fresh.anchor
+  pub made_steady : HasRoom p → p.number ≡ usn_after k.epoch k.place → Steady (size_of s) (record k { table = after; place = k.place + 1; count = k.count + 1 })
+  made_steady room number = added_steady s s k p k.uses after steady rises new next after_is refl refl
+      (subst (λ (es : List (ℕ × ℕ)). All (λ j. j < length k.uses) (clusters_in_row (record p { extents = es }))) (sym fresh.extents) (All-nil (λ j. j < length k.uses))) room number fresh.anchor

@@ -116,6 +116,7 @@ committed_steady old new k journal steady size usable =
       fit = subst IsFitSize (sym size) steady.fit;
       clusters = long ∙ steady.clusters ∙ ap (λ (n : ℕ). (n - 3145728) / 4096) (sym size);
       inside = subst (λ (n : ℕ). All (λ j. j < n) (clusters_in_rows k.table.rows)) (sym long) steady.inside;
+      room = steady.room;
       later = steady.later;
       earlier = omega arith;
       usable = usable;

@@ -64,7 +64,7 @@ module _ (s t : State) (k : Known) (p : Row) (from : ItemId) (uses : List Use) (
   table_is = after_is ∙ ap (λ (x : Table). record x { next = record { 0 = p.id.0 + 1 } }) copied.table
 
   pub copied_steady : p.number ≡ usn_after k.epoch k.place → Steady (size_of t) copied_known
-  copied_steady number = added_steady s t k row uses after steady rises new next table_is copied.all.moves.size copied.all.moves.long (inside_named (λ j. j < length uses) 0 es copied.all.rising copied.all.inside) number fresh.anchor
+  copied_steady number = added_steady s t k row uses after steady rises new next table_is copied.all.moves.size copied.all.moves.long (inside_named (λ j. j < length uses) 0 es copied.all.rising copied.all.inside) copied.room number fresh.anchor
 
   -- how often rows name a cluster
   abbrev rest : ℕ → ℕ

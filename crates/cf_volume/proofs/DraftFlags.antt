@@ -39,13 +39,13 @@ even_all low (i ∷ is) r even = (even i.id i (cond-true (eqb i.id.0 i.id.0) (So
         let past = found_low (i.id.0 + 1) is id j r.1 e in
         even id j (cond-false (eqb i.id.0 id.0) (Some i) (item_of is id) (ne_eqb i.id.0 id.0 (λ s. omega (arith, s, past))) ∙ e)
 
-drafts_even : (c : Contents) (d : Draft) (w : Volume) → Drafts c d w → AreEven w.items
+pub drafts_even : (c : Contents) (d : Draft) (w : Volume) → Drafts c d w → AreEven w.items
 drafts_even c d w drafts = even_all 0 w.items drafts.rise
     (λ id i e. (drawn_item w.epoch (next_number w) w.book (row_in d c.rows.rows id) (item_of w.items id) i (drafts.rows id) e).2.means.bytes.even)
 
 -- the table
 
-table_exact : (items : List Item) (b : Book) → AreEven items → table_full items b ≡ (ltb 10000 (length items) || ltb most_image (image_len items b))
+pub table_exact : (items : List Item) (b : Book) → AreEven items → table_full items b ≡ (ltb 10000 (length items) || ltb most_image (image_len items b))
 table_exact items b even = by (ltb 10000 (length items)) (ltb most_image (image_len items b)) refl refl
   where
     by : (x y : Bool) → ltb 10000 (length items) ≡ x → ltb most_image (image_len items b) ≡ y → table_full items b ≡ (x || y)
@@ -53,7 +53,7 @@ table_exact items b even = by (ltb 10000 (length items)) (ltb most_image (image_
     by false true e f = full_of_long items b even (ltb-true most_image (image_len items b) f)
     by false false e f = fits_of items b (record { few = ltb-false 10000 (length items) e; short = ltb-false most_image (image_len items b) f })
 
-less_same : (a l n m : ℕ) → m ≡ n + l → ltb (a + l) m ≡ ltb a n
+pub less_same : (a l n m : ℕ) → m ≡ n + l → ltb (a + l) m ≡ ltb a n
 less_same a l n m e = by (ltb a n) refl
   where
     by : (t : Bool) → ltb a n ≡ t → ltb (a + l) m ≡ ltb a n
@@ -99,6 +99,7 @@ module _ (c : Contents) (clusters : ℕ) (t : Tally) (ch : Change) (rest all : L
     pub counts_on : Counts c clusters (record { draft = d; steps = steps; table = table; blocks = blocks }) rest all v
     counts_on = record {
       made = put_change ch counts.made;
+      ends = counts.ends;
       drafts = drafts;
       fits = counts.fits.2;
       epoch = counts.epoch;

@@ -49,7 +49,7 @@ records_last : (ids : List ItemId) (id : ItemId) (rs : List AuxRecord) → recor
 records_last [] id rs = refl
 records_last (g ∷ gs) id rs = records_last gs id (without_record (seen_key g) rs)
 
-records_rise : (ids : List ItemId) (rs : List AuxRecord) → AreRecordsFrom None rs → AreRecordsFrom None (records_in ids rs)
+pub records_rise : (ids : List ItemId) (rs : List AuxRecord) → AreRecordsFrom None rs → AreRecordsFrom None (records_in ids rs)
 records_rise [] rs h = h
 records_rise (g ∷ gs) rs h = records_rise gs (without_record (seen_key g) rs) (filter_records (λ (r : AuxRecord). not (same r.key (seen_key g))) None rs h)
 

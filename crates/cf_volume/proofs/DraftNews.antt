@@ -26,11 +26,11 @@ use Rattle.cf_points.specs.Standing.{IsBookOf}
 use Rattle.cf_ranges.specs.Positions.{IsBelow, touched}
 use Rattle.cf_table.proofs.Stays.{untargeted_len}
 use Rattle.cf_table.specs.Applied.{IsSpellable}
-use Rattle.cf_table.specs.Means.{IsLater, Means}
+use Rattle.cf_table.specs.Means.{Means}
 use Rattle.cf_table.specs.Tables.{IsStored, IsTableRow, RisesFrom, with_row}
 use Rattle.cf_table.specs.declared.rows.Row.{Row}
 use Rattle.cf_volume.proofs.DraftItems.{item_last, none_new, order_last}
-use Rattle.cf_volume.proofs.DraftRows.{all_on, drawn, drawn_below, drawn_blocks, drawn_len, drawn_none, drawn_pin, row_put}
+use Rattle.cf_volume.proofs.DraftRows.{all_on, drawn, drawn_below, drawn_blocks, drawn_len, drawn_pin, row_put}
 use Rattle.cf_volume.proofs.Shifted.{past_above, shift_above, shift_rises, shifted_copy, shifted_made}
 use Rattle.cf_volume.specs.Drafts.{AreInOrder, Drafts, Draws, DrawsRow, IsLow, added, pin_in, records_in, row_in, row_sizes, shifted, shifted_item}
 use Rattle.cf_volume.specs.RoomLeft.{FitsAmong}

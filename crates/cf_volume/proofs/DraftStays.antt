@@ -25,7 +25,7 @@ use Rattle.cf_ranges.specs.Positions.{IsBelow, touched}
 use Rattle.cf_table.proofs.NextChange.{above_through}
 use Rattle.cf_table.specs.Applied.{FitsRow, item_effect}
 use Rattle.cf_table.specs.Changing.{FitsItem, item_of_change, stays}
-use Rattle.cf_table.specs.Means.{IsLater, KeepsRest, Means, StaysBefore}
+use Rattle.cf_table.specs.Means.{KeepsRest, Means, StaysBefore}
 use Rattle.cf_table.specs.Tables.{IsStored, RisesFrom, with_row}
 use Rattle.cf_table.specs.declared.rows.Row.{Row}
 use Rattle.cf_volume.proofs.DraftItems.{effect_items, item_changed, item_holds, item_id, items_fit, order_changed, order_rises, pin_moved}

@@ -102,6 +102,7 @@ module _ (s : State) (p : Parts) (v : Volume) (d : Draft) (at : At s (known_of p
   pub first_counts : (list : List Change) → FitInTurn list v → Counts p.contents (length p.held) (record { draft = d; steps = 0; table = true; blocks = true }) list list v
   first_counts list fits = record {
     made = v;
+    ends = refl;
     drafts = first_drafts;
     fits = fits;
     epoch = sym at.now.epoch;

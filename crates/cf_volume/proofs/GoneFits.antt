@@ -32,6 +32,7 @@ use Rattle.cf_points.specs.Known.{Known, record_then}
 use Rattle.cf_points.specs.Staging.{DropsAll}
 use Rattle.cf_table.proofs.NamedEntries.{same_is}
 use Rattle.cf_table.specs.Means.{IsLater}
+use Rattle.cf_table.specs.Spelling.{HasRoom}
 use Rattle.cf_table.specs.Tables.{RisesFrom, Table, row_of, without_row}
 use Rattle.cf_table.specs.declared.rows.Row.{Row}
 use Rattle.cf_table.proofs.NextChange.{next_goes_on}
@@ -152,6 +153,7 @@ module _ (s : State) (size : ℕ) (k : Known) (id : ItemId) (uses : List Use) (a
     fit = steady.fit;
     clusters = drops.long ∙ steady.clusters;
     inside = inside_left (λ j. j < length uses) (λ (r : Row). not (r.id.0 == id.0)) k.table.rows (subst (λ (n : ℕ). All (λ j. j < n) (clusters_in_rows k.table.rows)) (sym drops.long) steady.inside);
+    room = all_filtered HasRoom (λ (r : Row). not (r.id.0 == id.0)) k.table.rows steady.room;
     later = all_filtered (λ x. IsLater (usn_after k.epoch (k.place + 1)) x) (λ (r : Row). not (r.id.0 == id.0)) k.table.rows (next_goes_on (usn_after k.epoch k.place) (usn_after k.epoch (k.place + 1)) k.table.rows (later_next k.epoch k.place) steady.later);
     earlier = steady.earlier;
     usable = steady.usable;

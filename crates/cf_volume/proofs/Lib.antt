@@ -36,3 +36,4 @@ pub mod DraftGone
 pub mod DraftNews
 pub mod DraftFlags
 pub mod FirstDraft
+pub mod BesideRoom

@@ -1,15 +1,13 @@
 -- Tests of the room that rows have in their spelling.
 use Rattle.std.proofs.Common.{◌≡◌, ℕ, zero, suc, ◌+◌, ◌-◌, ◌^◌, ◌<◌, ◌≤◌, Bool, true, false, ◌&&◌, ltb, List, [], ◌∷◌, length, Some, refl, sym, ◌∙◌, ap, arith}
-use Rattle.std.specs.Prelude.{All, slice_get}
-use Rattle.std.specs.List.{list_all}
+use Rattle.std.specs.Prelude.{slice_get}
 use Rattle.std.proofs.lemmas.Bool.{le-ltb, lt-ltb, ltb-false, ltb-true, true≢false}
-use Rattle.std.proofs.lemmas.List.Elements.{All-head, All-tail, All-nil, All-cons}
+use Rattle.std.proofs.lemmas.List.Elements.{All-nil, All-cons}
 use Rattle.std.proofs.lemmas.Option.{none-some, same_Some}
 use Rattle.cf_base.specs.declared.spans.Span.{Span}
 use Rattle.cf_ranges.specs.Positions.{IsRunsFrom}
 use Rattle.cf_table.specs.Applied.{IsSpellable}
 use Rattle.cf_table.specs.Spelling.{EndBelow, HasRoom}
-use Rattle.cf_table.specs.Tables.{AreTableRows}
 use Rattle.cf_table.specs.declared.rows.Row.{Row}
 use Rattle.cf_volume.specs.Writable.{are_low, has_low_ends}
 
@@ -45,15 +43,12 @@ low_sum start len lt = by (ltb start (4294967296 - len)) refl
     by true e = e ∙ sym (lt-ltb (start + len) 4294967296 (let h = ltb-true start (4294967296 - len) e in omega (arith, h, lt)))
     by false e = e ∙ sym (le-ltb (start + len) 4294967296 (let h = ltb-false start (4294967296 - len) e in omega (arith, h, lt)))
 
--- the test of a row, and of all rows
+-- the test of a row
 
 both_true : (a b : Bool) → (a && b) ≡ true → (a ≡ true) × (b ≡ true)
 both_true true true e = (refl, refl)
 both_true true false e = absurd (true≢false (sym e))
 both_true false b e = absurd (true≢false (sym e))
-
-and_true : (a b : Bool) → a ≡ true → b ≡ true → (a && b) ≡ true
-and_true a b e f = (λ i. e i && f i)
 
 low_ends : (runs : List Span) → are_low runs ≡ true → EndBelow runs
 low_ends [] e = All-nil (λ (s : Span). s.start + s.len < 2 ^ 32)
@@ -61,13 +56,7 @@ low_ends (x ∷ xs) e =
     let parts = both_true (is_low x) (are_low xs) e in
     All-cons (λ (s : Span). s.start + s.len < 2 ^ 32) x xs (let h = ltb-true (x.start + x.len) 4294967296 parts.0 in omega (arith, h)) (low_ends xs parts.1)
 
-ends_low : (runs : List Span) → EndBelow runs → are_low runs ≡ true
-ends_low [] h = refl
-ends_low (x ∷ xs) h =
-    let first = All-head (λ (s : Span). s.start + s.len < 2 ^ 32) x xs h in
-    and_true (is_low x) (are_low xs) (lt-ltb (x.start + x.len) 4294967296 (omega (arith, first))) (ends_low xs (All-tail (λ (s : Span). s.start + s.len < 2 ^ 32) x xs h))
-
-row_room : (r : Row) → IsSpellable r → has_low_ends r ≡ true → HasRoom r
+pub row_room : (r : Row) → IsSpellable r → has_low_ends r ≡ true → HasRoom r
 row_room r texts e =
     let last = both_true (are_low r.here && are_low r.valid && are_low r.modified && are_low r.modified_since) (ltb (length r.extents) 4294967296) e in
     let since = both_true (are_low r.here && are_low r.valid && are_low r.modified) (are_low r.modified_since) last.0 in
@@ -81,17 +70,3 @@ row_room r texts e =
       modified_since = low_ends r.modified_since since.1;
       extents = let h = ltb-true (length r.extents) 4294967296 last.1 in omega (arith, h);
     }
-
-room_row : (r : Row) → HasRoom r → has_low_ends r ≡ true
-room_row r h = λ i. ends_low r.here h.here i && ends_low r.valid h.valid i && ends_low r.modified h.modified i && ends_low r.modified_since h.modified_since i
-    && lt-ltb (length r.extents) 4294967296 (omega (arith, h.extents)) i
-
-pub rows_room : (rows : List Row) → AreTableRows rows → list_all has_low_ends rows ≡ true → All HasRoom rows
-rows_room [] table e = All-nil HasRoom
-rows_room (r ∷ rs) table e =
-    let parts = both_true (has_low_ends r) (list_all has_low_ends rs) e in
-    All-cons HasRoom r rs (row_room r table.0.spellable parts.0) (rows_room rs table.1 parts.1)
-
-pub room_rows : (rows : List Row) → All HasRoom rows → list_all has_low_ends rows ≡ true
-room_rows [] h = refl
-room_rows (r ∷ rs) h = and_true (has_low_ends r) (list_all has_low_ends rs) (room_row r (All-head HasRoom r rs h)) (room_rows rs (All-tail HasRoom r rs h))

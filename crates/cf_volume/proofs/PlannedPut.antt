@@ -24,11 +24,12 @@ use Rattle.cf_ranges.specs.Positions.{touches}
 use Rattle.cf_table.specs.Applied.{item_effect}
 use Rattle.cf_table.specs.Means.{Means}
 use Rattle.cf_table.specs.Changing.{item_of_change, pin_for, stays}
+use Rattle.cf_table.specs.Spelling.{HasRoom}
 use Rattle.cf_table.specs.Tables.{AreTableRows, RisesFrom, Table, row_of}
 use Rattle.cf_table.specs.declared.rows.Row.{Row}
 use Rattle.cf_volume.proofs.Carried.{carried_at}
 use Rattle.cf_volume.proofs.Noted.{found_id}
-use Rattle.cf_volume.proofs.Puts.{found_inside, found_table, inside_named, inside_with, known_with, named_inside, next_with, puts_rise, some_row}
+use Rattle.cf_volume.proofs.Puts.{all_with, found_inside, found_table, inside_named, inside_with, known_with, named_inside, next_with, puts_rise, some_row}
 use Rattle.cf_volume.specs.Laid.{AreRising, Carries, Plans}
 use Rattle.cf_volume.specs.Notes.{Notes}
 use Rattle.cf_volume.specs.Steady.{Steady}
@@ -80,6 +81,7 @@ module _ (s t : State) (k : Known) (c : Change) (planned : Row) (blocks : List �
       fit = subst IsFitSize (sym carries.settles.all.moves.size) steady.fit;
       clusters = long ∙ steady.clusters ∙ ap (λ (n : ℕ). (n - 3145728) / 4096) (sym carries.settles.all.moves.size);
       inside = inside_with (λ j. j < length uses) after_row k.table.rows extents_inside (subst (λ (n : ℕ). All (λ j. j < n) (clusters_in_rows k.table.rows)) (sym long) steady.inside);
+      room = all_with HasRoom after_row k.table.rows carries.room steady.room;
       later = next_with k.epoch k.place k.table.rows (item_of_change c) row after_row steady.later carries.found facts.later facts.rest.anchor;
       earlier = steady.earlier;
       usable = steady.usable;

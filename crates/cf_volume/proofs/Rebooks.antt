@@ -1,10 +1,12 @@
 -- Rows whose anchor or last access is set, and what the volume is then.
-use Rattle.std.proofs.Common.{◌≡◌, ℕ, ◌<◌, eqb, List, length, refl, sym, ◌∙◌, ap, subst, Option, Some, None}
+use Rattle.std.proofs.Common.{◌≡◌, ℕ, ◌+◌, ◌<◌, ◌^◌, eqb, List, length, refl, sym, ◌∙◌, ap, subst, Option, Some, None}
 use Rattle.std.specs.Prelude.{All, MatchOption}
 use Rattle.std.proofs.lemmas.Bool.{cond-true, cond-false, eq-eqb, ne_eqb}
+use Rattle.std.proofs.lemmas.List.Elements.{All-nil}
 use Rattle.std.proofs.lemmas.Option.{none-some, same_Some}
 use Rattle.cf_base.specs.declared.ids.ItemId.{ItemId}
 use Rattle.cf_base.specs.declared.ids.Usn.{Usn}
+use Rattle.cf_base.specs.declared.spans.Span.{Span}
 use Rattle.cf_disk.specs.Disk.{State}
 use Rattle.cf_model.specs.Books.{access_of, anchor_of, with_access, with_anchor}
 use Rattle.cf_model.specs.Items.{Item, item_of}
@@ -18,6 +20,7 @@ use Rattle.cf_points.specs.Known.{Known}
 use Rattle.cf_points.specs.Standing.{cluster_on}
 use Rattle.cf_table.specs.Applied.{SetsAnchor, Touches}
 use Rattle.cf_table.specs.Means.{IsLater}
+use Rattle.cf_table.specs.Spelling.{HasRoom}
 use Rattle.cf_table.specs.Tables.{RisesFrom, SetsRow, Table, row_of, with_row}
 use Rattle.cf_table.specs.declared.rows.Row.{Row}
 use Rattle.cf_volume.proofs.Noted.{found_id}
@@ -42,13 +45,14 @@ set_noted P id k after then' rises present sets next notes =
     }
 
 -- the volume's invariant stays
-module _ (P : Row → Row → Type 0) (size : ℕ) (id : ItemId) (k l : Known) (steady : Steady size k) (set : SetsNoted P id k l) (extents : set.after.extents ≡ set.row.extents) (later : IsLater (usn_after k.epoch k.place) set.row → IsLater (usn_after k.epoch k.place) set.after) where
+module _ (P : Row → Row → Type 0) (size : ℕ) (id : ItemId) (k l : Known) (steady : Steady size k) (set : SetsNoted P id k l) (extents : set.after.extents ≡ set.row.extents) (room : HasRoom set.row → HasRoom set.after) (later : IsLater (usn_after k.epoch k.place) set.row → IsLater (usn_after k.epoch k.place) set.after) where
   pub set_steady : Steady size l
   set_steady = subst (λ (x : Known). Steady size x) (sym set.known) (record {
     fit = steady.fit;
     clusters = steady.clusters;
     inside = inside_with (λ j. j < length k.uses) set.after k.table.rows
         (subst (λ (es : List (ℕ × ℕ)). All (λ j. j < length k.uses) (clusters_in_row (record set.after { extents = es }))) (sym extents) (found_inside (λ j. j < length k.uses) k.table.rows id set.row steady.inside set.found)) steady.inside;
+    room = all_with HasRoom set.after k.table.rows (room (found_of HasRoom k.table.rows id set.row steady.room set.found)) steady.room;
     later = all_with (λ x. IsLater (usn_after k.epoch k.place) x) set.after k.table.rows (later (found_of (λ x. IsLater (usn_after k.epoch k.place) x) k.table.rows id set.row steady.later set.found)) steady.later;
     earlier = steady.earlier;
     usable = steady.usable;
@@ -95,8 +99,28 @@ anchored_later n r p set later = record { number = ap (λ (x : Row). above n x.n
 pub touched_later : (n : Usn) (clock : ℕ) (r p : Row) → Touches clock r p → IsLater n r → IsLater n p
 touched_later n clock r p set later = record { number = ap (λ (x : Row). above n x.number) set.rest ∙ later.number; anchor = ap (λ (x : Row). above n x.anchor) set.rest ∙ later.anchor }
 
+anchored_room : (r p : Row) → SetsAnchor r p → HasRoom r → HasRoom p
+anchored_room r p set h = subst HasRoom (sym set.rest) (record {
+  texts = record { name = h.texts.name; identity = h.texts.identity };
+  here = h.here;
+  valid = h.valid;
+  modified = h.modified;
+  modified_since = All-nil (λ (s : Span). s.start + s.len < 2 ^ 32);
+  extents = h.extents;
+})
+
+touched_room : (clock : ℕ) (r p : Row) → Touches clock r p → HasRoom r → HasRoom p
+touched_room clock r p set h = subst HasRoom (sym set.rest) (record {
+  texts = record { name = h.texts.name; identity = h.texts.identity };
+  here = h.here;
+  valid = h.valid;
+  modified = h.modified;
+  modified_since = h.modified_since;
+  extents = h.extents;
+})
+
 pub anchored_steady : (size : ℕ) (id : ItemId) (k l : Known) → Steady size k → SetsNoted SetsAnchor id k l → Steady size l
-anchored_steady size id k l steady set = set_steady SetsAnchor size id k l steady set (ap (λ (r : Row). r.extents) set.sets.rest) (anchored_later (usn_after k.epoch k.place) set.row set.after set.sets)
+anchored_steady size id k l steady set = set_steady SetsAnchor size id k l steady set (ap (λ (r : Row). r.extents) set.sets.rest) (anchored_room set.row set.after set.sets) (anchored_later (usn_after k.epoch k.place) set.row set.after set.sets)
 
 pub touched_steady : (size : ℕ) (id : ItemId) (k l : Known) → Steady size k → SetsNoted (Touches k.clock) id k l → Steady size l
-touched_steady size id k l steady set = set_steady (Touches k.clock) size id k l steady set (ap (λ (r : Row). r.extents) set.sets.rest) (touched_later (usn_after k.epoch k.place) k.clock set.row set.after set.sets)
+touched_steady size id k l steady set = set_steady (Touches k.clock) size id k l steady set (ap (λ (r : Row). r.extents) set.sets.rest) (touched_room k.clock set.row set.after set.sets) (touched_later (usn_after k.epoch k.place) k.clock set.row set.after set.sets)

@@ -1,7 +1,7 @@
 -- How long the records are after one is put or taken out.
-use Rattle.std.proofs.Common.{◌≡◌, ℕ, ◌+◌, ◌≤◌, Bool, true, false, not, cond, ltb, List, [], ◌∷◌, min, refl, sym, ◌∙◌, ap, subst, arith, Option, Some, None}
+use Rattle.std.proofs.Common.{◌≡◌, ℕ, ◌+◌, ◌≤◌, Bool, true, false, not, cond, ltb, List, [], ◌∷◌, length, min, refl, sym, ◌∙◌, ap, subst, arith, Option, Some, None}
 use Rattle.std.specs.Prelude.{find, sum_by, ◌==◌}
-use Rattle.std.proofs.lemmas.Bool.{cond-false, ltb-false, ltb-true}
+use Rattle.std.proofs.lemmas.Bool.{cond-false, ltb-false, ltb-true, true≢false}
 use Rattle.std.proofs.lemmas.List.Sums.{sum_by-cons}
 use Rattle.cf_base.specs.declared.answers.Access.{Access}
 use Rattle.cf_base.specs.declared.answers.Anchor.{Anchor}
@@ -15,14 +15,14 @@ use Rattle.cf_image.specs.Contents.{record_at}
 use Rattle.cf_image.specs.Spelled.{AreRecordsFrom}
 use Rattle.cf_model.specs.Books.{Book, access_of, anchor_of}
 use Rattle.cf_model.specs.Effects.{later_than}
-use Rattle.cf_model.specs.Formats.{with_record, without_record}
+use Rattle.cf_model.specs.Formats.{with_record, with_records, without_record}
 use Rattle.cf_model.specs.Images.{aux_len, count_runs, image_len, most_image, row_len, table_full}
 use Rattle.cf_model.specs.Items.{Item, covered_flags}
 use Rattle.cf_model.specs.Numbers.{no_usn}
 use Rattle.cf_model.specs.State.{Volume}
 use Rattle.cf_model.specs.Words.{comes_before, part, put_in, same}
 use Rattle.cf_points.proofs.BookChanges.{rebooked_at}
-use Rattle.cf_points.proofs.RowRoom.{even_items, fits_of, full_of_long, held_len}
+use Rattle.cf_points.proofs.RowRoom.{AreEven, even_items, fits_of, full_of_long, full_of_many, held_len}
 use Rattle.cf_points.specs.At.{At}
 use Rattle.cf_points.specs.Holding.{FitsTable}
 use Rattle.cf_points.specs.Known.{Known}
@@ -34,7 +34,7 @@ use Rattle.cf_volume.proofs.GoneFits.{key_known, lighter_left}
 use Rattle.cf_volume.proofs.NotedKeys.{at_with, at_without}
 use Rattle.cf_volume.specs.AuxPuts.{len_if}
 use Rattle.cf_volume.specs.Calls.{HasRecords}
-use Rattle.cf_volume.specs.Notes.{NotesKey}
+use Rattle.cf_volume.specs.Notes.{KnowKeys, NotesKey}
 use Rattle.cf_volume.specs.Steady.{Steady}
 
 none_same : (key : List ℕ) (xs : List AuxRecord) → AreRecordsFrom (Some key) xs → record_at xs key ≡ None
@@ -73,7 +73,7 @@ row_same b c i e =
     let since = ap (λ (m : Usn). count_runs false (covered_flags (later_than m i.writes) i)) e in
     omega (arith, since)
 
-rows_same : (b c : Book) (items : List Item) → ((id : ItemId) → anchor_of c id ≡ anchor_of b id) → sum_by (row_len c) items ≡ sum_by (row_len b) items
+pub rows_same : (b c : Book) (items : List Item) → ((id : ItemId) → anchor_of c id ≡ anchor_of b id) → sum_by (row_len c) items ≡ sum_by (row_len b) items
 rows_same b c [] e = refl
 rows_same b c (i ∷ is) e = omega (arith, row_same b c i (e i.id), rows_same b c is e, sum_by-cons (row_len b) i is, sum_by-cons (row_len c) i is)
 
@@ -161,3 +161,32 @@ module _ (s : State) (k : Known) (v : Volume) (b : Book) (r : AuxRecord) (at : A
       → At s (record k { records = records; records_then = records_then'; keys_made = keys_made' }) (record v { book = b })
   record_put e records records_then' keys_made' is notes = subst (λ (l : List AuxRecord). At s (record k { records = l; records_then = records_then'; keys_made = keys_made' }) (record v { book = b })) (sym is)
       (aux_at s k v b (with_record r k.records) at has r.key records_then' keys_made' notes (with_others r k.records) (fits_then e))
+
+-- records put one after the other
+
+pub keys_kept : (records then' made : List AuxRecord) → KnowKeys records then' made records then' made
+keys_kept records then' made = record { same_then = λ key. refl }
+
+pub keys_on : (old then1 made1 mid then2 made2 new then3 made3 : List AuxRecord) (r : AuxRecord) → KnowKeys old then1 made1 mid then2 made2 → new ≡ with_record r mid → NotesKey r.key mid then2 then3 made2 made3 → KnowKeys old then1 made1 new then3 made3
+keys_on old then1 made1 mid then2 made2 new then3 made3 r known is notes = record {
+  same_then = λ key.
+      key_known r.key mid new then2 then3 made2 made3 notes (λ other miss. ap (λ (l : List AuxRecord). record_at l other) is ∙ with_others r mid other miss) key
+      ∙ known.same_then key;
+}
+
+fits_unless_full : (items : List Item) (b : Book) → AreEven items → table_full items b ≡ false → FitsTable items b
+fits_unless_full items b even none = record { few = by_count (ltb 10000 (length items)) refl; short = by_len (ltb most_image (image_len items b)) refl }
+  where
+    by_count : (t : Bool) → ltb 10000 (length items) ≡ t → length items ≤ 10000
+    by_count true e = absurd (true≢false (sym (full_of_many items b (ltb-true 10000 (length items) e)) ∙ none))
+    by_count false e = ltb-false 10000 (length items) e
+
+    by_len : (t : Bool) → ltb most_image (image_len items b) ≡ t → image_len items b ≤ most_image
+    by_len true e = absurd (true≢false (sym (full_of_long items b even (ltb-true most_image (image_len items b) e)) ∙ none))
+    by_len false e = ltb-false most_image (image_len items b) e
+
+pub all_put : (s : State) (k : Known) (v : Volume) (b : Book) (list : List AuxRecord) (at : At s k v) (has : HasRecords v.book (with_records list k.records) b) → table_full v.items b ≡ false → (records records_then' keys_made' : List AuxRecord)
+    → records ≡ with_records list k.records → KnowKeys k.records k.records_then k.keys_made records records_then' keys_made' → At s (record k { records = records; records_then = records_then'; keys_made = keys_made' }) (record v { book = b })
+all_put s k v b list at has fits records records_then' keys_made' is known =
+    rebooked_at s k v b k.clock records records_then' keys_made' at (anchors s k v b (with_records list k.records) at has) (accesses s k v b (with_records list k.records) at has) (at.now.clock ∙ sym has.clock) (is ∙ sym has.told)
+    (fits_unless_full v.items b (even_items (cluster_on s.seen) v.book k.table.rows v.items at.now.rows) fits) known.same_then

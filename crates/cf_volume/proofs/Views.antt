@@ -1,7 +1,9 @@
 -- What is said of a volume by its view.
 use Rattle.std.proofs.Common.{◌≡◌, List, Option, ◌∙◌, subst}
 use Rattle.cf_disk.specs.Disk.{Leaves, State}
+use Rattle.cf_base.specs.declared.answers.AuxRecord.{AuxRecord}
 use Rattle.cf_model.specs.Books.{Book}
+use Rattle.cf_model.specs.Formats.{with_records}
 use Rattle.cf_model.specs.State.{Volume}
 use Rattle.cf_base.specs.declared.ids.ItemId.{ItemId}
 use Rattle.cf_points.specs.At.{At}
@@ -21,6 +23,9 @@ seen_leaves {D} {a} {b} state t P e leaves = subst (λ (o : OnDisk D). Leaves (s
 
 pub seen_records : {D : Type 0} {a b : OnDisk D} → (old new : Book) (key : List ℕ) (value : Option (List ℕ)) → a ≡ b → HasRecords old (put_record key value a.known.records) new → HasRecords old (put_record key value b.known.records) new
 seen_records {D} {a} {b} old new key value e has = subst (λ (o : OnDisk D). HasRecords old (put_record key value o.known.records) new) e has
+
+pub seen_listed : {D : Type 0} {a b : OnDisk D} → (old new : Book) (list : List AuxRecord) → a ≡ b → HasRecords old (with_records list a.known.records) new → HasRecords old (with_records list b.known.records) new
+seen_listed {D} {a} {b} old new list e has = subst (λ (o : OnDisk D). HasRecords old (with_records list o.known.records) new) e has
 
 pub seen_known : {D : Type 0} {a : OnDisk D} → (disk : D) (old new : Known) → record { disk = disk; known = old } ≡ a → new ≡ old → record { disk = disk; known = new } ≡ a
 seen_known {D} {a} disk old new view same = (λ j. record { disk = disk; known = same j }) ∙ view

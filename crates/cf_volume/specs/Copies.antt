@@ -10,6 +10,7 @@ use Rattle.cf_points.specs.Runs.{Ran}
 use Rattle.cf_points.specs.Staging.{AreBlocks, Moves}
 use Rattle.cf_points.specs.Standing.{cluster_on}
 use Rattle.cf_ranges.specs.Pairs.{IsRising, cluster_at}
+use Rattle.cf_table.specs.Spelling.{HasRoom}
 use Rattle.cf_table.specs.Tables.{Table, row_of, with_row}
 use Rattle.cf_table.specs.declared.rows.Row.{Row}
 
@@ -31,10 +32,11 @@ pub record CopiesAll (source done : List (ℕ × ℕ)) (s t : State) (old new : 
   pub each : (rest : ℕ → ℕ) (held : List (Option ℕ)) → IsRising source → AreSources rest held source s.seen → AreBlocks rest (cluster_on s.seen) [] held [] old [] (cluster_on s.seen)
       → AreBlocks rest (cluster_on s.seen) [] held (blocks_of done) new fs (cluster_on t.seen)
 
--- The planned row of a copy is put, its blocks with clusters of their own.
+-- The planned row of a copy is put, its blocks with clusters of their own, and has room in its spelling.
 pub record Duplicates (from : ItemId) (planned : Row) (s t : State) (old new : List Use) (before after : Table) : Type 0 where
   pub source : Row
   pub found : row_of before.rows from ≡ Some source
   pub extents : List (ℕ × ℕ)
   pub table : after ≡ record { rows = with_row (record planned { extents = extents }) before.rows; next = before.next }
+  pub room : HasRoom (record planned { extents = extents })
   pub all : CopiesAll source.extents source.extents s t old new extents

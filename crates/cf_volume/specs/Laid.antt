@@ -17,6 +17,7 @@ use Rattle.cf_points.specs.Standing.{cluster_on}
 use Rattle.cf_table.specs.Applied.{IsSpellable, item_effect}
 use Rattle.cf_table.specs.Means.{KeepsRest, Means, StaysBefore}
 use Rattle.cf_base.specs.declared.ids.ItemId.{ItemId}
+use Rattle.cf_table.specs.Spelling.{HasRoom}
 use Rattle.cf_table.specs.Tables.{IsStored, Table, row_of, with_row}
 use Rattle.cf_table.specs.declared.rows.Row.{Row}
 
@@ -53,12 +54,13 @@ pub record Settles (c : Change) (row : Row) (blocks : List ℕ) (here : List Spa
   pub all : StagesAll c row blocks blocks s t old mid es between
   pub drops : DropsGone here mid new between fs
 
--- The planned row stands in place of the one with the id, with its blocks settled.
+-- The planned row stands in place of the one with the id, with its blocks settled, and has room in its spelling.
 pub record Carries (c : Change) (id : ItemId) (planned : Row) (blocks : List ℕ) (s t : State) (old new : List Use) (before after : Table) : Type 0 where
   pub row : Row
   pub found : row_of before.rows id ≡ Some row
   pub extents : List (ℕ × ℕ)
   pub table : after ≡ record { rows = with_row (record planned { extents = extents }) before.rows; next = before.next }
+  pub room : HasRoom (record planned { extents = extents })
   pub settles : Settles c row blocks planned.here s t old new planned.extents extents
 
 -- What a planned change makes of the row of its item, and into which blocks it puts bytes. The extents are those before.

@@ -14,3 +14,4 @@ pub mod Openings
 pub mod Drafts
 pub mod Drafting
 pub mod Tallies
+pub mod Besides

@@ -30,6 +30,10 @@ pub record NotesKey (key : List ℕ) (records old new made made' : List AuxRecor
   pub others : (k : List ℕ) (now : Option AuxRecord) → same key k ≡ false → record_then k new made' now ≡ record_then k old made now
   pub here : (now : Option AuxRecord) → record_then key new made' now ≡ record_then key old made (record_at records key)
 
+-- Whatever became of the records since, they are known as they were at the last point.
+pub record KnowKeys (old then made new then' made' : List AuxRecord) : Type 0 where
+  pub same_then : (key : List ℕ) → record_then key then' made' (record_at new key) ≡ record_then key then made (record_at old key)
+
 -- nothing has changed since the last point
 pub record NotesNothing (next : ItemId) (then : Earlier) : Type 0 where
   pub rows : then.rows.rows ≡ []

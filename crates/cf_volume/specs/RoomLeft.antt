@@ -1,13 +1,18 @@
 -- Whether changes have room.
-use Rattle.std.specs.Prelude.{◌≡◌, ◌≤◌, ◌<◌, All, MatchOption, length, not, List, [], ◌∷◌}
+use Rattle.std.specs.Prelude.{◌≡◌, ◌≤◌, ◌<◌, ◌&&◌, ◌||◌, All, MatchOption, length, not, List, [], ◌∷◌}
+use Rattle.cf_base.specs.declared.answers.AuxRecord.{AuxRecord}
 use Rattle.cf_base.specs.declared.changes.Change.{Change}
 use Rattle.cf_base.specs.declared.changes.Change.TheVariants as change
-use Rattle.cf_model.specs.Books.{Book}
-use Rattle.cf_model.specs.Changes.{lacks_numbers, no_blocks, no_table, put_change}
+use Rattle.cf_model.specs.Books.{Book, aux_records}
+use Rattle.cf_model.specs.Changes.{lacks_numbers, no_blocks, no_table, put_change, put_changes}
+use Rattle.cf_model.specs.Formats.{with_records}
+use Rattle.cf_model.specs.Images.{table_full}
 use Rattle.cf_model.specs.Items.{Item, item_of}
 use Rattle.cf_model.specs.State.{Volume}
+use Rattle.cf_model.specs.Words.{is_empty}
 use Rattle.cf_points.specs.Keeping.{FitsBook}
 use Rattle.cf_table.specs.Changing.{FitsItems}
+use Rattle.cf_volume.specs.Calls.{HasRecords}
 use Rattle.cf_volume.specs.declared.rooms.Room.{Room}
 
 -- What a change of a list meets in the items before it: it fits the table, whose book names a removed item by its key. A new
@@ -27,4 +32,14 @@ FitInTurn (c ∷ cs) v = FitsAmong c v.book v.items × FitsBook c v.book × FitI
 pub record HasRoomFor (cs : List Change) (v : Volume) (r : Room) : Type 0 where
   pub places : r.places ≡ not (lacks_numbers v cs)
   pub table : r.table ≡ not (no_table v cs)
+  pub blocks : r.blocks ≡ not (no_blocks v cs)
+
+-- the new book has these records besides, and all else as before
+abbrev pub HasBeside : Book → List AuxRecord → Book → Type 0
+HasBeside b records new = HasRecords b (with_records records (aux_records b)) new
+
+-- the same of a list with the last change of which the book becomes b
+pub record HasRoomWith (cs : List Change) (b : Book) (v : Volume) (r : Room) : Type 0 where
+  pub places : r.places ≡ not (lacks_numbers v cs)
+  pub table : r.table ≡ not (no_table v cs || (not (is_empty cs) && table_full (put_changes cs v).items b))
   pub blocks : r.blocks ≡ not (no_blocks v cs)

@@ -10,6 +10,7 @@ use Rattle.cf_points.specs.Known.{Known}
 use Rattle.cf_points.specs.Lengths.{len_with}
 use Rattle.cf_ranges.specs.Positions.{IsBelow, touched}
 use Rattle.cf_table.specs.Changing.{IsNext}
+use Rattle.cf_table.specs.Spelling.{HasRoom}
 use Rattle.cf_table.specs.declared.rows.Row.{Row}
 use Rattle.cf_volume.specs.declared.parts.Parts.{Parts}
 
@@ -31,12 +32,13 @@ known_of p = record {
   broken = p.broken;
 }
 
--- A disk of this size has room for the clusters, each cluster of a row is one of them, the next number comes after those of
--- all rows, the next item after those of the last point, and the journal has not failed.
+-- A disk of this size has room for the clusters, each cluster of a row is one of them, each row has room in its spelling, the
+-- next number comes after those of all rows, the next item after those of the last point, and the journal has not failed.
 pub record Steady (size : ℕ) (k : Known) : Type 0 where
   pub fit : IsFitSize size
   pub clusters : length k.uses ≡ (size - 3145728) / 4096
   pub inside : All (λ j. j < length k.uses) (clusters_in_rows k.table.rows)
+  pub room : All HasRoom k.table.rows
   pub later : IsNext (usn_after k.epoch k.place) k.table.rows
   pub earlier : k.next_then.0 ≤ k.table.next.0
   pub usable : k.journal.broken ≡ false

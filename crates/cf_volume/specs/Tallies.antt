@@ -2,7 +2,7 @@
 use Rattle.std.specs.Prelude.{◌≡◌, ◌+◌, ◌||◌, ℕ, not, List}
 use Rattle.cf_base.specs.declared.changes.Change.{Change}
 use Rattle.cf_image.specs.declared.contents.Contents.{Contents}
-use Rattle.cf_model.specs.Changes.{no_blocks, no_table}
+use Rattle.cf_model.specs.Changes.{no_blocks, no_table, put_changes}
 use Rattle.cf_model.specs.State.{Volume}
 use Rattle.cf_volume.specs.Drafts.{Drafts}
 use Rattle.cf_volume.specs.RoomLeft.{FitInTurn}
@@ -12,6 +12,7 @@ use Rattle.cf_volume.specs.declared.tallies.Tally.{Tally}
 -- found room.
 pub record Counts (c : Contents) (clusters : ℕ) (t : Tally) (rest all : List Change) (v : Volume) : Type 0 where
   pub made : Volume
+  pub ends : put_changes rest made ≡ put_changes all v
   pub drafts : Drafts c t.draft made
   pub fits : FitInTurn rest made
   pub epoch : made.epoch ≡ c.last.epoch

@@ -1,8 +1,8 @@
 //! Changes of a volume, and commits.
 
-ghost use Rattle.std.specs.Prelude.{◌≡◌, ◌<◌, ◌+◌, ◌⊎◌, true, false, length, IfErr, IfOk, OnOk, OnErr};
+ghost use Rattle.std.specs.Prelude.{◌≡◌, true, false, length, IfErr, IfOk, OnOk};
 ghost use Rattle.cf_disk.specs.Disk.{Leaves};
-ghost use Rattle.cf_model.specs.Changes.{may_need_room, next_number, put_change};
+ghost use Rattle.cf_model.specs.Changes.{may_need_room, next_number};
 ghost use Rattle.cf_model.specs.Points.{with_room_point, with_sure_point};
 ghost use Rattle.cf_model.specs.State.{Volume as model};
 ghost use Rattle.cf_points.specs.At.{Applied, At, StandsEither, StandsLast};
@@ -19,7 +19,12 @@ use cf_base::{Change, Code, Fail, Usn};
 use cf_disk::Disk;
 
 impl<D: Disk> Volume<D> {
-    /// Makes all accepted changes durable, and gives their count.
+    /// Makes all accepted changes durable, and gives their count. Broken where an earlier call broke the volume. Device
+    /// where a call of the disk failed, whose count of faults rose; Memory where there is none; both break the volume.
+    /// NotAVolume, which breaks it too, where the table is too long for an image, as that of no volume is.
+    ///
+    /// `apply` takes changes that leave items as no volume has them, such as a Take of a file that is no placeholder. What a
+    /// commit writes of those is no volume either: it is done, and `open` answers NotAVolume.
     pub fn commit(&mut self) -> Result<u64, Fail>
         ensures ok { (v : model) → At (D.state self.old.disk) self.old.known v → IsKeepable v → OnOk result (At (D.state self.new.disk) self.new.known (with_sure_point v) × At (D.state self.new.disk) self.new.known (with_room_point v)) }
         ensures count { (v : model) → At (D.state self.old.disk) self.old.known v → IfOk result (λ n. n ≡ length v.log) }

@@ -1,19 +1,22 @@
 //! Auxiliary records, put and taken out.
 
-ghost use Rattle.std.specs.Prelude.{◌≡◌, ◌≤◌, ◌<◌, ◌^◌, ℕ, List, Some, length, option_copied, IfOk, OnOk};
+ghost use Rattle.std.specs.Prelude.{◌≡◌, ◌≤◌, ◌<◌, ◌^◌, ℕ, All, List, Some, length, option_copied, IfOk, OnOk};
 ghost use Rattle.cf_disk.specs.Disk.{size_of};
 ghost use Rattle.cf_image.specs.Contents.{record_at};
+ghost use Rattle.cf_image.specs.RecordLists.{IsShort};
 ghost use Rattle.cf_model.specs.Books.{Book};
-ghost use Rattle.cf_model.specs.Formats.{with_record, without_record};
+ghost use Rattle.cf_model.specs.Formats.{with_record, with_records, without_record};
 ghost use Rattle.cf_model.specs.State.{Volume};
 ghost use Rattle.cf_points.specs.At.{At};
 ghost use Rattle.cf_volume.specs.AuxPuts.{IsAuxKept, IsAuxPut, len_if};
 ghost use Rattle.cf_volume.specs.Calls.{HasRecords, put_record};
+ghost use Rattle.cf_volume.specs.Notes.{KnowKeys};
 ghost use Rattle.cf_volume.specs.Steady.{Steady, known_of};
 
 use crate::lengths::is_too_long;
 use crate::parts::Parts;
-use crate::record_notes::note_record;
+use crate::record_notes::{copied, note_record};
+use crate::rooms::is_full_now;
 use cf_base::{AuxRecord, Blob, Code, Fail, Memory};
 use cf_disk::Disk;
 use cf_image::AuxRecords;
@@ -118,4 +121,46 @@ pub(crate) fn put_aux<D: Disk>(
         Some(value) => set_record(disk, parts, key, value),
         None => take_record(disk, parts, key),
     }
+}
+
+// Puts records in order, each noted as it was at the last point.
+fn put_each(
+    alloc: Global,
+    then: &mut AuxRecords,
+    made: &mut AuxRecords,
+    records: &mut AuxRecords,
+    list: &[AuxRecord],
+) -> Result<(), Memory>
+    requires { All IsShort list.now }
+    ensures records { OnOk result (records.new ≡ with_records list.now records.old) }
+    ensures known { OnOk result (KnowKeys records.old then.old made.old records.new then.new made.new) }
+{
+    for aux in list {
+        note_record(alloc, then, made, records, aux.key.as_slice())?;
+        records.put(copied(aux)?)?;
+    }
+    Ok(())
+}
+
+/// Puts auxiliary records in order, each in place of the one with its key, unless the table would be full with all of them.
+pub(crate) fn put_all<D: Disk>(disk: &D, parts: &mut Parts, list: &[AuxRecord]) -> Result<(), Fail>
+    requires short { All IsShort list.now }
+    requires steady { Steady (size_of (D.state disk.now)) (known_of parts.old) }
+    ensures ok { (v : Volume) (b : Book) → At (D.state disk.now) (known_of parts.old) v → HasRecords v.book (with_records list.now parts.old.contents.records) b → OnOk result (At (D.state disk.now) (known_of parts.new) (record v { book = b })) }
+    ensures why { (v : Volume) (b : Book) → At (D.state disk.now) (known_of parts.old) v → HasRecords v.book (with_records list.now parts.old.contents.records) b → IsAuxPut v b result }
+    ensures kept { IsAuxKept (known_of parts.old) result (known_of parts.new) }
+    ensures steady { OnOk result (Steady (size_of (D.state disk.now)) (known_of parts.new)) }
+    ensures broken { parts.new.broken ≡ parts.old.broken }
+{
+    if is_full_now(disk, parts, list)? {
+        return Err(Fail::No(Code::TableFull));
+    }
+    put_each(
+        parts.alloc,
+        &mut parts.then.records,
+        &mut parts.then.made,
+        &mut parts.contents.records,
+        list,
+    )?;
+    Ok(())
 }

@@ -1,17 +1,19 @@
 //! What a volume keeps beside its items: anchors, accesses, the clock, auxiliary records.
 
-ghost use Rattle.std.specs.Prelude.{◌≡◌, ◌≤◌, ℕ, List, length, option_copied, false, None, Some, IfErr, OnOk};
+ghost use Rattle.std.specs.Prelude.{◌≡◌, ◌≤◌, ℕ, All, List, length, option_copied, false, None, Some, IfErr, OnOk};
+ghost use Rattle.cf_image.specs.RecordLists.{IsShort};
 ghost use Rattle.cf_model.specs.Books.{Book, with_access, with_anchor, with_ticks};
+ghost use Rattle.cf_model.specs.Formats.{with_records};
 ghost use Rattle.cf_model.specs.Items.{Item, item_of};
 ghost use Rattle.cf_model.specs.State.{Volume as model};
 ghost use Rattle.cf_points.specs.At.{At};
 ghost use Rattle.cf_table.specs.Tables.{row_of};
 ghost use Rattle.cf_volume.specs.Calls.{Breaks, HasRecords, IfBroken, IsMemory, WhyAux, put_record};
 
-use crate::aux_puts::put_aux;
+use crate::aux_puts::{put_all, put_aux};
 use crate::noting::{anchor_row, touch_row};
 use crate::volumes::Volume;
-use cf_base::{Code, Fail, ItemId};
+use cf_base::{AuxRecord, Code, Fail, ItemId};
 use cf_disk::Disk;
 
 impl<D: Disk> Volume<D> {
@@ -93,6 +95,30 @@ impl<D: Disk> Volume<D> {
             return Err(Fail::No(Code::Broken));
         }
         match put_aux(&self.disk, &mut self.parts, key, value) {
+            Ok(()) => Ok(()),
+            Err(Fail::Memory) => {
+                self.parts.broken = true;
+                Err(Fail::Memory)
+            }
+            Err(Fail::No(code)) => Err(Fail::No(code)),
+        }
+    }
+
+    /// Puts auxiliary records in order, each in place of the one with its key. TableFull where the table would be full with all
+    /// of them; then none is put. Keys have at most 255 bytes and values at most 65,535. They are durable with the next commit.
+    pub fn aux_put_all(&mut self, records: &[AuxRecord]) -> Result<(), Fail>
+        requires short { All IsShort records.now }
+        ensures ok { (v : model) (b : Book) → At (D.state self.old.disk) self.old.known v → HasRecords v.book (with_records records.now self.old.known.records) b → OnOk result (At (D.state self.new.disk) self.new.known (record v { book = b })) }
+        ensures why { (v : model) (b : Book) → At (D.state self.old.disk) self.old.known v → HasRecords v.book (with_records records.now self.old.known.records) b → self.old.known.broken ≡ false → WhyAux v b self.old result self.new }
+        ensures disk { self.new.disk ≡ self.old.disk }
+        ensures broken { IfBroken self.old result self.new }
+        ensures breaks { IfErr result (λ e. Breaks e self.new.known) }
+        ensures usable { OnOk result (self.new.known.broken ≡ false) }
+    {
+        if self.parts.broken {
+            return Err(Fail::No(Code::Broken));
+        }
+        match put_all(&self.disk, &mut self.parts, records) {
             Ok(()) => Ok(()),
             Err(Fail::Memory) => {
                 self.parts.broken = true;

@@ -12,6 +12,7 @@ ghost use Rattle.cf_volume.specs.Laid.{Carries};
 ghost use Rattle.cf_points.specs.Runs.{IsStop, Ran};
 
 use crate::settling::{Planned, settle_blocks};
+use crate::writable::put_row;
 use cf_base::{Change, ItemId};
 use cf_data::Data;
 use cf_disk::Disk;
@@ -54,6 +55,6 @@ pub(crate) fn change_item<D: Disk>(
             change,
         )?,
     }
-    rows.put_row(after)?;
+    put_row(rows, after)?;
     Ok(())
 }

@@ -15,6 +15,7 @@ ghost use Rattle.cf_volume.specs.Calls.{Runs};
 ghost use Rattle.cf_volume.specs.Copies.{CopiesAll, Duplicates};
 
 use crate::staging::{load, put_block};
+use crate::writable::put_row;
 use cf_base::ItemId;
 use cf_data::Data;
 use cf_disk::Disk;
@@ -93,6 +94,6 @@ pub(crate) fn copy_item<D: Disk>(
         None => unreachable!(),
         Some(source) => copy_all(disk, held, source.extents.pairs(), &mut row.extents)?,
     }
-    rows.put_row(row)?;
+    put_row(rows, row)?;
     Ok(())
 }

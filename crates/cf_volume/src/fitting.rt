@@ -6,22 +6,19 @@ ghost use Rattle.cf_table.specs.Applied.{FitsRow, IsSpellable};
 ghost use Rattle.cf_table.specs.Means.{IsLater, is_rebase_point};
 
 use cf_base::{Change, Usn};
-use cf_table::Row;
+use cf_table::{NO_USN, Row};
 
 /// The most bytes of a file.
-pub(crate) const MOST_SIZE: u64 = 16_777_216;
+pub const MOST_SIZE: u64 = 16_777_216;
 
 /// The most bytes of a name.
-const MOST_NAME: usize = 255;
+pub const MOST_NAME: usize = 255;
 
 /// The most bytes of an identity.
-const MOST_IDENTITY: usize = 65_535;
+pub const MOST_IDENTITY: usize = 65_535;
 
 /// What spans end at, or below.
 const MOST_END: u64 = 1_099_511_627_776;
-
-/// The number that stands for none.
-const NO_USN: Usn = Usn { epoch: 0, place: 0 };
 
 fn same_usn(a: Usn, b: Usn) -> bool
     ensures { result ≡ same_usn a b }
@@ -43,7 +40,7 @@ fn ends_by(start: u64, len: u64, end: u64) -> bool
 }
 
 /// Whether a change of an item that stays fits its row.
-pub(crate) fn fits_row(change: &Change, row: &Row) -> bool
+pub fn fits_row(change: &Change, row: &Row) -> bool
     ensures { IsTrue result ↔ FitsRow change.now row.now }
 {
     match change {

@@ -8,7 +8,7 @@ use cf_base::{Change, ItemId, Pin};
 use cf_table::Rows;
 
 /// The item that the change is of.
-pub(crate) fn item_of(change: &Change) -> ItemId
+pub fn item_of(change: &Change) -> ItemId
     ensures { result ≡ item_of_change change.now }
 {
     match change {

@@ -33,6 +33,7 @@ mod parts;
 mod putting;
 mod reading;
 mod record_notes;
+mod record_room;
 mod removing;
 mod rooms;
 mod settling;
@@ -42,5 +43,8 @@ mod tallies;
 mod volumes;
 mod writable;
 
+pub use fitting::{MOST_IDENTITY, MOST_NAME, MOST_SIZE, fits_row};
+pub use kinds::item_of;
+pub use record_room::are_short;
 pub use rooms::Room;
 pub use volumes::Volume;

@@ -20,6 +20,7 @@ ghost use Rattle.cf_volume.specs.Steady.{Steady, known_of};
 
 use crate::kinds::pin_of;
 use crate::parts::Parts;
+use crate::writable::put_row;
 use cf_base::{Blob, Identity, ItemId, Kind, Memory, Name, Pin, Usn};
 use cf_disk::Disk;
 use cf_table::{Place, Row, Rows};
@@ -111,7 +112,7 @@ pub(crate) fn put_made<D: Disk>(disk: &D, parts: &mut Parts, row: Row) -> Result
     let _ = disk;
     let _ = parts.contents.rows.image_len();
     let next = ItemId(row.id.0 + 1);
-    parts.contents.rows.put_row(row)?;
+    put_row(&mut parts.contents.rows, row)?;
     parts.contents.rows.set_next(next);
     parts.contents.last.place += 1;
     parts.contents.count += 1;

@@ -15,21 +15,28 @@ fn has(records: &AuxRecords, key: &[u8]) -> bool
     records.get(key).is_some()
 }
 
-// A record, on its own.
+/// A record, on its own.
+pub(crate) fn copied(aux: &AuxRecord) -> Result<AuxRecord, Memory>
+    ensures { IfOk result (λ r. r ≡ aux.now) }
+{
+    Ok(AuxRecord {
+        key: aux.key.copy()?,
+        value: aux.value.copy()?,
+    })
+}
+
+// One of the records, on its own.
 fn copy_record(records: &AuxRecords, record: &AuxRecord) -> Result<AuxRecord, Memory>
     requires { record_at records.now record.now.key ≡ Some record.now }
     ensures same { IfOk result (λ r. r ≡ record.now) }
     ensures short { IsShort record.now }
 {
     let _ = records.as_slice();
-    Ok(AuxRecord {
-        key: record.key.copy()?,
-        value: record.value.copy()?,
-    })
+    copied(record)
 }
 
-// A key without a value.
-fn bare(alloc: Global, key: &[u8]) -> Result<AuxRecord, Memory>
+/// A key without a value.
+pub(crate) fn bare(alloc: Global, key: &[u8]) -> Result<AuxRecord, Memory>
     ensures { IfOk result (λ r. (r.key ≡ key.now) × (length r.value ≡ 0)) }
 {
     Ok(AuxRecord {

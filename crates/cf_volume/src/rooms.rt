@@ -1,23 +1,31 @@
 //! Whether changes have room.
 
 ghost use Rattle.std.specs.List.{list_any};
-ghost use Rattle.std.specs.Prelude.{◌≡◌, ◌&&◌, List, cond, not, length, Some, None, IfOk};
+ghost use Rattle.std.specs.Prelude.{◌≡◌, ◌&&◌, [], All, List, MatchOption, cond, not, length, Some, None, IfOk};
 ghost use Rattle.cf_base.specs.declared.changes.Change.{Change};
 ghost use Rattle.cf_disk.specs.Disk.{size_of};
-ghost use Rattle.cf_model.specs.Changes.{needs_id, next_number, no_places};
+ghost use Rattle.cf_image.specs.RecordLists.{IsShort};
+ghost use Rattle.cf_model.specs.Books.{Book};
+ghost use Rattle.cf_model.specs.Changes.{needs_id, next_number, no_places, put_changes};
+ghost use Rattle.cf_model.specs.Formats.{with_records};
+ghost use Rattle.cf_model.specs.Images.{table_full};
 ghost use Rattle.cf_model.specs.Numbers.{passes_most};
 ghost use Rattle.cf_model.specs.State.{Volume as model};
+ghost use Rattle.cf_model.specs.Words.{is_empty};
 ghost use Rattle.cf_points.specs.At.{At};
-ghost use Rattle.cf_volume.specs.RoomLeft.{FitInTurn, HasRoomFor};
+ghost use Rattle.cf_volume.specs.Calls.{HasRecords};
+ghost use Rattle.cf_volume.specs.Drafts.{Drafts};
+ghost use Rattle.cf_volume.specs.RoomLeft.{FitInTurn, HasBeside, HasRoomFor, HasRoomWith};
 ghost use Rattle.cf_volume.specs.Steady.{Steady, known_of};
 ghost use Rattle.cf_volume.specs.Tallies.{Counts};
 
 use crate::drafting::tell_place;
-use crate::drafts::draft_of;
+use crate::drafts::{Draft, draft_of};
 use crate::parts::Parts;
-use crate::tallies::{Tally, count_changes};
+use crate::record_room::is_full_with;
+use crate::tallies::{Tally, and_not, count_changes};
 use crate::volumes::Volume;
-use cf_base::{Change, Memory, Usn};
+use cf_base::{AuxRecord, Change, Memory, Usn};
 use cf_disk::Disk;
 
 /// The greatest place of an epoch.
@@ -59,6 +67,20 @@ fn first_tally<D: Disk>(disk: &D, parts: &Parts) -> Result<Tally, Memory>
     })
 }
 
+/// Whether the table would be full with these records put beside those that it has.
+pub(crate) fn is_full_now<D: Disk>(
+    disk: &D,
+    parts: &Parts,
+    list: &[AuxRecord],
+) -> Result<bool, Memory>
+    requires short { All IsShort list.now }
+    requires steady { Steady (size_of (D.state disk.now)) (known_of parts.now) }
+    ensures { (v : model) (b : Book) → At (D.state disk.now) (known_of parts.now) v → HasRecords v.book (with_records list.now parts.now.contents.records) b → IfOk result (λ full. full ≡ table_full v.items b) }
+{
+    let tally = first_tally(disk, parts)?;
+    is_full_with(parts.alloc, &parts.contents, &tally.draft, list)
+}
+
 // Whether a change makes an item whose id is past the greatest.
 fn needs_id(change: &Change) -> bool
     ensures { result ≡ needs_id change.now }
@@ -90,21 +112,82 @@ fn has_numbers(last: Usn, list: &[Change]) -> bool
     has_places(last, list.len()) && !need_ids(list)
 }
 
+// The count of changes that would be made in order. None where they do not fit the volume.
+fn tally_of<D: Disk>(disk: &D, parts: &Parts, list: &[Change]) -> Result<Option<Tally>, Memory>
+    requires steady { Steady (size_of (D.state disk.now)) (known_of parts.now) }
+    ensures { (v : model) → At (D.state disk.now) (known_of parts.now) v → FitInTurn list.now v → IfOk result (λ tally. MatchOption tally ⊥ (λ t. Counts parts.now.contents (length parts.now.held) t [] list.now v)) }
+{
+    let mut so_far = first_tally(disk, parts)?;
+    let clusters = parts.held.clusters();
+    if !count_changes(parts.alloc, &parts.contents, clusters, &mut so_far, list)? {
+        return Ok(None);
+    }
+    Ok(Some(so_far))
+}
+
 // Whether changes have room that would be made in order.
 fn room_for<D: Disk>(disk: &D, parts: &Parts, list: &[Change]) -> Result<Room, Memory>
     requires steady { Steady (size_of (D.state disk.now)) (known_of parts.now) }
     ensures { (v : model) → At (D.state disk.now) (known_of parts.now) v → FitInTurn list.now v → IfOk result (HasRoomFor list.now v) }
 {
-    let mut so_far = first_tally(disk, parts)?;
-    let clusters = parts.held.clusters();
-    if !count_changes(parts.alloc, &parts.contents, clusters, &mut so_far, list)? {
-        return Ok(NO_ROOM);
+    match tally_of(disk, parts, list)? {
+        None => Ok(NO_ROOM),
+        Some(so_far) => Ok(Room {
+            places: has_numbers(parts.contents.last, list),
+            table: so_far.table,
+            blocks: so_far.blocks,
+        }),
     }
-    Ok(Room {
-        places: has_numbers(parts.contents.last, list),
-        table: so_far.table,
-        blocks: so_far.blocks,
-    })
+}
+
+fn is_any(list: &[Change]) -> bool
+    ensures { result ≡ not (is_empty list.now) }
+{
+    match list {
+        [] => false,
+        _ => true,
+    }
+}
+
+// Whether the table of a draft would be full with these records, if they come beside a change.
+fn is_full_after(
+    parts: &Parts,
+    draft: &Draft,
+    list: &[Change],
+    records: &[AuxRecord],
+) -> Result<bool, Memory>
+    requires { All IsShort records.now }
+    ensures { (w : model) (b : Book) → Drafts parts.now.contents draft.now w → HasBeside w.book records.now b → IfOk result (λ full. full ≡ (not (is_empty list.now) && table_full w.items b)) }
+{
+    if is_any(list) {
+        is_full_with(parts.alloc, &parts.contents, draft, records)
+    } else {
+        Ok(false)
+    }
+}
+
+// Whether changes have room that would be made in order, with records beside the last.
+fn room_beside<D: Disk>(
+    disk: &D,
+    parts: &Parts,
+    list: &[Change],
+    records: &[AuxRecord],
+) -> Result<Room, Memory>
+    requires short { All IsShort records.now }
+    requires steady { Steady (size_of (D.state disk.now)) (known_of parts.now) }
+    ensures { (v : model) (b : Book) → At (D.state disk.now) (known_of parts.now) v → FitInTurn list.now v → HasBeside (put_changes list.now v).book records.now b → IfOk result (HasRoomWith list.now b v) }
+{
+    match tally_of(disk, parts, list)? {
+        None => Ok(NO_ROOM),
+        Some(so_far) => {
+            let full = is_full_after(parts, &so_far.draft, list, records)?;
+            Ok(Room {
+                places: has_numbers(parts.contents.last, list),
+                table: and_not(so_far.table, full),
+                blocks: so_far.blocks,
+            })
+        }
+    }
 }
 
 impl<D: Disk> Volume<D> {
@@ -118,6 +201,19 @@ impl<D: Disk> Volume<D> {
             return Err(Memory);
         }
         room_for(&self.disk, &self.parts, list)
+    }
+
+    /// The same, with auxiliary records put beside the last change, in order and in the same step: the table has room where it
+    /// has room after each change, and after the last with the records too. Keys have at most 255 bytes and values at most
+    /// 65,535. Nothing changes. Memory as `room`.
+    pub fn room_with_records(&self, list: &[Change], records: &[AuxRecord]) -> Result<Room, Memory>
+        requires short { All IsShort records.now }
+        ensures { (v : model) (b : Book) → At (D.state self.now.disk) self.now.known v → FitInTurn list.now v → HasBeside (put_changes list.now v).book records.now b → IfOk result (HasRoomWith list.now b v) }
+    {
+        if self.parts.broken {
+            return Err(Memory);
+        }
+        room_beside(&self.disk, &self.parts, list, records)
     }
 
     /// The number that the next change gets. None where no place of the epoch is left.

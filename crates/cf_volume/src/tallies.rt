@@ -70,13 +70,13 @@ fn never_longer(change: &Change) -> bool
     )
 }
 
-// Whether a draft has too many rows or bytes.
-fn is_long(draft: &Draft) -> Result<bool, Memory>
-    ensures { IfOk result (λ b. b ≡ (nat_lt (10000 + draft.now.less.items) draft.now.more.items || nat_lt (1306624 + draft.now.less.bytes) draft.now.more.bytes)) }
+/// Whether a table has too many rows or bytes that has and would get some, of which others would go again.
+pub(crate) fn is_long(more: Sizes, less: Sizes) -> Result<bool, Memory>
+    ensures { IfOk result (λ b. b ≡ (nat_lt (10000 + less.items) more.items || nat_lt (1306624 + less.bytes) more.bytes)) }
 {
-    let rows = sum(MOST_ROWS, draft.less.items)?;
-    let bytes = sum(MOST_IMAGE, draft.less.bytes)?;
-    Ok(draft.more.items > rows || draft.more.bytes > bytes)
+    let rows = sum(MOST_ROWS, less.items)?;
+    let bytes = sum(MOST_IMAGE, less.bytes)?;
+    Ok(more.items > rows || more.bytes > bytes)
 }
 
 // Whether a change that needs so many clusters would pass them.
@@ -106,7 +106,8 @@ fn one_more(steps: u64) -> Result<u64, Memory>
     }
 }
 
-fn and_not(before: bool, refused: bool) -> bool
+/// Whether something was so, and is not refused.
+pub(crate) fn and_not(before: bool, refused: bool) -> bool
     ensures { result ≡ (before && not refused) }
 {
     before && !refused
@@ -129,7 +130,7 @@ fn count_change(
         None => Ok(false),
         Some(asked) => {
             let full = is_full(more, less, clusters, asked)?;
-            let long = is_long(&so_far.draft)?;
+            let long = is_long(so_far.draft.more, so_far.draft.less)?;
             let steps = one_more(so_far.steps)?;
             so_far.steps = steps;
             so_far.blocks = and_not(so_far.blocks, full);

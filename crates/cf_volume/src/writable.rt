@@ -1,14 +1,16 @@
-//! Whether the contents of a volume can be written.
+//! Whether rows, and the contents of a volume, can be written.
 
-ghost use Rattle.std.specs.Prelude.{◌≡◌, ◌↔◌, IsTrue};
-ghost use Rattle.std.specs.List.{list_all};
+ghost use Rattle.std.specs.Prelude.{◌≡◌, ◌↔◌, All, IsTrue, OnErr, OnOk};
 ghost use Rattle.cf_commit.specs.Leading.{CanBeWritten};
 ghost use Rattle.cf_ranges.specs.Positions.{IsRuns};
+ghost use Rattle.cf_table.specs.Applied.{IsSpellable};
+ghost use Rattle.cf_table.specs.Spelling.{HasRoom};
+ghost use Rattle.cf_table.specs.Tables.{with_row};
 ghost use Rattle.cf_volume.specs.Writable.{are_low, has_low_ends};
 
-use cf_base::Span;
+use cf_base::{Memory, Span};
 use cf_image::Contents;
-use cf_table::Row;
+use cf_table::{Row, Rows};
 
 /// The most rows that a table has.
 const MOST_ROWS: usize = 10_000;
@@ -30,6 +32,7 @@ fn are_low(runs: &[Span]) -> bool
     }
 }
 
+// No run but the last of each set is looked at.
 fn has_low_ends(row: &Row) -> bool
     ensures { result ≡ has_low_ends row.now }
 {
@@ -40,14 +43,23 @@ fn has_low_ends(row: &Row) -> bool
         && (row.extents.pairs().len() as u64) < ENDS
 }
 
-fn have_low_ends(rows: &[Row]) -> bool
-    ensures { result ≡ list_all has_low_ends rows.now }
+/// Puts a row in place of the one with its id, or adds it. There is no memory for one that has no room in its spelling,
+/// which is that of no item.
+pub(crate) fn put_row(rows: &mut Rows, row: Row) -> Result<(), Memory>
+    requires { IsSpellable row }
+    ensures ok { OnOk result (rows.new ≡ record rows.old { rows = with_row row rows.old.rows }) }
+    ensures room { OnOk result (HasRoom row) }
+    ensures err { OnErr result (rows.new ≡ rows.old) }
 {
-    rows.iter().all(|row| has_low_ends(row))
+    if !has_low_ends(&row) {
+        return Err(Memory);
+    }
+    rows.put_row(row)
 }
 
-/// Whether the contents can be written as an image. No run but the last of each set is looked at.
+/// Whether the contents, whose rows have room in their spelling, can be written as an image.
 pub(crate) fn can_be_written(contents: &Contents) -> bool
+    requires { All HasRoom contents.now.rows.rows }
     ensures { IsTrue result ↔ CanBeWritten contents.now }
 {
     let _ = contents.rows.image_len();
@@ -55,8 +67,5 @@ pub(crate) fn can_be_written(contents: &Contents) -> bool
     if rows.len() > MOST_ROWS {
         return false;
     }
-    if contents.image_len() > MOST_IMAGE {
-        return false;
-    }
-    have_low_ends(rows)
+    contents.image_len() <= MOST_IMAGE
 }

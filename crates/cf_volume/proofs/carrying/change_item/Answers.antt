@@ -10,6 +10,7 @@ returns-clause-carried g c = record {
   found = sym c.in-Some.ensures;
   extents = c.settle_blocks.new.extents;
   table = c.in_ok-put_row.ensures.ok;
+  room = c.in_ok-put_row.ensures.room;
   settles = subst (λ (l : List ℕ). Settles c.args.change.now c.in-Some.row.now l c.args.planned.row.here (g.D.Disk.state c.args.disk.now) (g.D.Disk.state c.settle_blocks.new.disk) c.args.held.now c.settle_blocks.new.held c.args.planned.row.extents c.settle_blocks.new.extents)
       c.deref.ensures.value c.in_ok-settle_blocks-in-Some.ensures.settled;
 }

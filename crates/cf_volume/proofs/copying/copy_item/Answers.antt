@@ -8,5 +8,6 @@ returns-clause-copied g c = record {
   found = sym c.in-Some.ensures;
   extents = c.copy_all.new.extents;
   table = c.in_ok-put_row.ensures.ok;
+  room = c.in_ok-put_row.ensures.room;
   all = subst (λ (l : List (ℕ × ℕ)). CopiesAll l l (g.D.Disk.state c.args.disk.now) (g.D.Disk.state c.copy_all.new.disk) c.args.held.now c.copy_all.new.held c.copy_all.new.extents) c.pairs.ensures.value c.in_ok-copy_all-in-Some.ensures.copied;
 }

@@ -12,4 +12,4 @@ returns-clause-at g c = λ v change i n at made fits.
 pub returns-clause-steady : goal.returns-clause-steady
 returns-clause-steady g c =
     made_steady (g.D.Disk.state c.args.disk.now) (known_of c.args.parts.now) c.args.row c.set_next.new.self c.requires.steady c.image_len.ensures.rises c.requires.new c.requires.next c.requires.fresh
-    (c.set_next.ensures ∙ ap (λ (t : Table). record t { next = record { 0 = c.args.row.id.0 + 1 } }) c.in_ok-put_row.ensures.ok) c.requires.number
+    (c.set_next.ensures ∙ ap (λ (t : Table). record t { next = record { 0 = c.args.row.id.0 + 1 } }) c.in_ok-put_row.ensures.ok) c.in_ok-put_row.ensures.room c.requires.number

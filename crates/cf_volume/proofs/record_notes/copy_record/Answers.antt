@@ -4,9 +4,3 @@ use Rattle.cf_volume.proofs.record_notes.copy_record.Goals as goal
 
 pub returns-clause-short : goal.returns-clause-short
 returns-clause-short c = found_short None c.args.records.now c.args.record.now.key c.args.record.now c.as_slice.ensures.rise c.requires
-
-pub returns-in_err-copy-clause-short : goal.returns-in_err-copy-clause-short
-returns-in_err-copy-clause-short c = found_short None c.args.records.now c.args.record.now.key c.args.record.now c.as_slice.ensures.rise c.requires
-
-pub returns-in_err-copy-2-clause-short : goal.returns-in_err-copy-2-clause-short
-returns-in_err-copy-2-clause-short c = found_short None c.args.records.now c.args.record.now.key c.args.record.now c.as_slice.ensures.rise c.requires
