@@ -1,0 +1,10 @@
+//! What no clause says: that the calls succeed where disk, memory and room do, and what they then do on a disk.
+
+mod contents;
+mod costs;
+mod cuts;
+mod edits;
+mod limits;
+mod openings;
+mod scripts;
+mod steps;

@@ -1,0 +1,122 @@
+//! The calls as the tests make them. They say nothing of what the calls promise, so that the tests are proved at once.
+
+ghost use Rattle.std.specs.Prelude.{◌≡◌, ◌≤◌, ◌+◌, ◌^◌, Some, IfOk, IsTrue};
+ghost use Rattle.cf_volume.specs.Calls.{IsHere};
+
+use crate::tests::edits::{Edit, change_of, fits};
+use cf_base::{Choice, Code, Fail, ItemId, Memory, Span, Usn};
+use cf_disk::Disk;
+use cf_journal::Journal;
+use cf_table::Row;
+use cf_volume::Volume;
+use std::alloc::Global;
+
+pub(super) fn format<D: Disk + Drop>(alloc: Global, disk: D) -> Result<Volume<D>, Fail> {
+    if !Journal::is_fit_size(disk.size()) {
+        return Err(Fail::No(Code::NotAVolume));
+    }
+    match Volume::format(alloc, disk) {
+        Ok(volume) => Ok(volume),
+        Err((_, fail)) => Err(fail),
+    }
+}
+
+pub(super) fn open<D: Disk + Drop>(alloc: Global, disk: D) -> Result<Volume<D>, Fail> {
+    if !Journal::is_fit_size(disk.size()) {
+        return Err(Fail::No(Code::NotAVolume));
+    }
+    match Volume::open(alloc, disk) {
+        Ok(volume) => Ok(volume),
+        Err((_, fail)) => Err(fail),
+    }
+}
+
+/// The volume that is opened after a power cut.
+pub(super) fn reopened<D: Disk + Drop>(
+    alloc: Global,
+    volume: Volume<D>,
+    choice: Choice,
+) -> Result<Volume<D>, Fail> {
+    let mut disk = volume.into_disk();
+    disk.power(choice);
+    open(alloc, disk)
+}
+
+/// Makes the change. BadRange where the volume may not be asked for it.
+pub(super) fn edit<D: Disk>(
+    alloc: Global,
+    volume: &mut Volume<D>,
+    edit: Edit,
+) -> Result<Usn, Fail> {
+    let change = change_of(alloc, edit, volume.rows().next())?;
+    if !fits(volume.rows(), &change) {
+        return Err(Fail::No(Code::BadRange));
+    }
+    volume.apply(&change)
+}
+
+pub(super) fn commit<D: Disk>(volume: &mut Volume<D>) -> Result<u64, Fail> {
+    volume.commit()
+}
+
+/// Makes the anchor of the item its number, and the clock that of its last access.
+pub(super) fn note<D: Disk>(volume: &mut Volume<D>, item: ItemId) -> Result<(), Fail> {
+    if volume.row(item).is_none() {
+        return Err(Fail::No(Code::NotFound));
+    }
+    volume.anchor(item)?;
+    touch(volume, item)
+}
+
+fn touch<D: Disk>(volume: &mut Volume<D>, item: ItemId) -> Result<(), Fail> {
+    if volume.row(item).is_none() {
+        return Err(Fail::No(Code::NotFound));
+    }
+    volume.touch(item)
+}
+
+/// Puts a record whose key is this byte, and its value another one so often.
+pub(super) fn put<D: Disk>(
+    alloc: Global,
+    volume: &mut Volume<D>,
+    key: u8,
+    len: u16,
+    byte: u8,
+) -> Result<(), Fail> {
+    let value = vec![in alloc; byte; len as usize]?;
+    volume.aux_put(&[key], Some(&value))
+}
+
+pub(super) fn take_out<D: Disk>(volume: &mut Volume<D>, key: u8) -> Result<(), Fail> {
+    volume.aux_put(&[key], None)
+}
+
+// Whether each byte of the span is here.
+#[tactic(auto, using(crate::proofs::Tested::here_all))]
+fn is_here(row: &Row, span: Span) -> Result<bool, Memory>
+    requires { span.start + span.len ≤ 2 ^ 40 }
+    ensures { IfOk result (λ yes. IsTrue yes → IsHere (Some row.now) span.start (span.start + span.len)) }
+{
+    let missing = row.here.missing_in(span)?;
+    Ok(missing.is_empty())
+}
+
+/// Whether the file has the byte so often from a place on.
+pub(super) fn has_bytes<D: Disk>(
+    volume: &mut Volume<D>,
+    item: ItemId,
+    at: u16,
+    len: u16,
+    byte: u8,
+) -> Result<bool, Fail> {
+    let span = Span {
+        start: at as u64,
+        len: len as u64,
+    };
+    match volume.row(item) {
+        Some(row) if is_here(row, span)? => {}
+        _ => return Ok(false),
+    }
+    let bytes = volume.bytes(item, span)?;
+    Ok(bytes.as_slice().len() == len as usize && bytes.as_slice().iter().all(|b| *b == byte))
+}
