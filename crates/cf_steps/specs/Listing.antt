@@ -1,27 +1,33 @@
 -- The entries of a directory, which come as one, with records beside the last of their changes.
-use Rattle.std.specs.Prelude.{◌≡◌, ◌<◌, false, true, ℕ, List, [], ◌∷◌, ◌++◌, None, MatchOption}
+use Rattle.std.specs.Prelude.{◌≡◌, ◌<◌, false, true, ℕ, All, List, [], ◌∷◌, ◌++◌, None, MatchOption}
 use Rattle.cf_base.specs.declared.answers.AuxRecord.{AuxRecord}
 use Rattle.cf_base.specs.declared.changes.Change.{Change}
 use Rattle.cf_base.specs.declared.changes.Change.TheVariants as change
 use Rattle.cf_base.specs.declared.ids.ItemId.{ItemId}
+use Rattle.cf_base.specs.declared.ids.Usn.{Usn}
 use Rattle.cf_model.specs.Books.{Book, aux_records}
 use Rattle.cf_model.specs.Changes.{lacks_numbers, no_blocks, put_change}
 use Rattle.cf_model.specs.Formats.{with_records}
 use Rattle.cf_model.specs.Items.{Item, item_of}
 use Rattle.cf_model.specs.LookUp.{child_of, depth_at}
+use Rattle.cf_model.specs.Numbers.{above}
 use Rattle.cf_model.specs.Operations.{no_table_listed}
 use Rattle.cf_model.specs.Soundness.{Needs}
 use Rattle.cf_model.specs.State.{Filter, Volume}
 use Rattle.cf_model.specs.Texts.{is_name}
+use Rattle.cf_steps.specs.Good.{Every}
 use Rattle.cf_steps.specs.Suiting.{FitsTable, LastsAs}
 use Rattle.cf_steps.specs.declared.rooms.Room.{Room}
 
--- the new book has these records besides, and all else as before
+-- The new book has these records besides, and all else as before. Records tell ids and numbers as far as they have room for
+-- them: so ids of paths seen stay below 2 ^ 64 where they were, and each tombstone has a number that was given.
 pub record HasRecordsBeside (b : Book) (records : List AuxRecord) (new : Book) : Type 0 where
   pub told : aux_records new ≡ with_records records (aux_records b)
   pub anchors : new.anchors ≡ b.anchors
   pub clock : new.clock ≡ b.clock
   pub accesses : new.accesses ≡ b.accesses
+  pub seen : All (λ p. p.item.0 < 18446744073709551616) b.seen → All (λ p. p.item.0 < 18446744073709551616) new.seen
+  pub graves : (n : Usn) → Every (λ t. above n t.number ≡ true) b.tombstones → Every (λ t. above n t.number ≡ true) new.tombstones
 
 -- a free name in a directory, at most 32 names from the root
 abbrev pub IsFreeEntry : List Item → ItemId → List ℕ → Type 0
