@@ -1,0 +1,9 @@
+pub mod Desks
+pub mod Ends
+pub mod Entering
+pub mod Graves
+pub mod Held
+pub mod Keeping
+pub mod Lasting
+pub mod Lasts
+pub mod Sensing
