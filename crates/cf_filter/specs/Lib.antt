@@ -1,0 +1,12 @@
+pub mod Booking
+pub mod CallbackLaws
+pub mod Callbacks
+pub mod Calling
+pub mod Draining
+pub mod Handing
+pub mod Playing
+pub mod PortLaws
+pub mod Porting
+pub mod Showing
+pub mod Starting
+pub mod Turning

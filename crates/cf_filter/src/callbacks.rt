@@ -1,0 +1,128 @@
+//! Callbacks: in the order of their asks, each after the earlier ones have returned.
+
+ghost use Rattle.std.specs.Prelude.{◌≡◌, [], unwrap_or, IfOk};
+
+use crate::filters::Filter;
+use cf_base::{Ask, Code, Fail, Identity, Memory, Shown};
+use cf_disk::Disk;
+use cf_execute::{Callback, Provider};
+use cf_table::Row;
+use std::alloc::Global;
+
+fn base_of(row: &Row) -> u64
+    ensures { result ≡ unwrap_or row.now.base 0 }
+{
+    match row.base {
+        Some(base) => base as u64,
+        None => 0,
+    }
+}
+
+// The question of an ask on the item of this row.
+fn callback_on(ask: Ask, row: &Row) -> Result<Callback, Memory>
+    ensures { IfOk result (λ c. c ≡ record { ask = ask; identity = row.now.identity; base = unwrap_or row.now.base 0 }) }
+{
+    let identity = row.identity.copy()?;
+    let base = base_of(row);
+    Ok(Callback {
+        ask,
+        identity,
+        base,
+    })
+}
+
+// The question of an ask on an item that is gone.
+fn callback_gone(alloc: Global, ask: Ask) -> Result<Callback, Memory>
+    ensures { IfOk result (λ c. c ≡ record { ask = ask; identity = []; base = 0 }) }
+{
+    let identity = Identity::new(alloc, &[])?;
+    Ok(Callback {
+        ask,
+        identity,
+        base: 0,
+    })
+}
+
+impl<D: Disk> Filter<D> {
+    ghost use Rattle.std.specs.Prelude.{◌≡◌, IfOk};
+    ghost use Rattle.cf_base.specs.declared.answers.Shown.{Shown};
+    ghost use Rattle.cf_filter.specs.Callbacks.{callback_of};
+    ghost use Rattle.cf_filter.specs.Draining.{CallsTo, Drains, PartTo, Turns};
+    ghost use Rattle.cf_filter.specs.Turning.{IsTurned, shows_end, with_no_own};
+    ghost use Rattle.cf_machine.specs.Held.{Held};
+    ghost use Rattle.cf_machine.specs.Sensing.{sense};
+    ghost use Rattle.cf_model.specs.Arrows.{Arrow};
+    ghost use Rattle.cf_model.specs.Numbers.{most};
+    ghost use Rattle.cf_model.specs.State.{Filter as model};
+    ghost use Rattle.cf_steps.specs.Answering.{Any, Reads};
+
+    fn callback(&self, ask: Ask) -> Result<Callback, Memory>
+        ensures { IfOk result (Reads (sense D.state) Any (callback_of ask) self.now) }
+    {
+        match self.rows().get(ask.item) {
+            Some(row) => callback_on(ask, row),
+            None => callback_gone(self.machine.desk.alloc(), ask),
+        }
+    }
+
+    // What a callback came to.
+    fn turned(&self, told: Result<(), Memory>) -> Result<(), Fail>
+        ensures { IsTurned told self.now.desk.broken self.now.desk.lost result }
+    {
+        told?;
+        if !self.is_broken() {
+            return Ok(());
+        }
+        if self.is_lost() {
+            return Err(Fail::Memory);
+        }
+        Err(Fail::No(Code::Device))
+    }
+
+    fn call_back<P: Provider>(&mut self, ask: Ask, p: &mut P) -> Result<(), Fail>
+        ensures { Turns D.state P.answers ask p.old self.old result p.new self.new }
+    {
+        let call = self.callback(ask)?;
+        let told = p.on_callback(&call, self);
+        self.turned(told)
+    }
+
+    // Each callback spends a key of the epoch, so that there are no more than keys.
+    fn drain<P: Provider>(&mut self, p: &mut P) -> Result<(), Fail>
+        ensures { Drains most D.state P.answers p.old self.old result p.new self.new }
+    {
+        for called in 0..u32::MAX {
+            let Some(ask) = self.next_ask() else {
+                return Ok(());
+            };
+            self.call_back(ask, p)?;
+        }
+        Err(Fail::Memory)
+    }
+
+    // The answer of a call whose callbacks have all returned.
+    #[tactic(auto, unfolding(crate::specs::Turning::with_no_own))]
+    fn end_call(&mut self, shown: Shown) -> Shown
+        ensures answer { result ≡ shows_end shown self.old.desk.ending }
+        ensures desk { self.new ≡ with_no_own self.old }
+    {
+        let ended = self.machine.desk.end_call();
+        match (shown, ended) {
+            (Shown::Pending(_), Some(end)) => Shown::Ended(end),
+            (shown, _) => shown,
+        }
+    }
+
+    /// Calls the provider after a part of a call, for its asks, and gives the call's answer.
+    pub(crate) fn drained<P: Provider>(
+        &mut self,
+        told: Result<Shown, Fail>,
+        p: &mut P,
+    ) -> Result<Shown, Fail>
+        ensures { (part : Arrow model Shown) (x : Held D) (s : model) → PartTo D.state part x s told self.old → CallsTo D.state P.answers part p.old x s result p.new self.new }
+    {
+        let shown = told?;
+        self.drain(p)?;
+        Ok(self.end_call(shown))
+    }
+}

@@ -1,0 +1,124 @@
+//! What a provider acts on inside a callback: the filter itself.
+
+ghost use Rattle.std.specs.Prelude.{◌≡◌};
+ghost use Rattle.cf_model.specs.Arrows.{is_device};
+
+use crate::filters::Filter;
+use crate::told::outcome;
+use cf_base::{Ask, Code, Fail, Memory, Notice, Operation};
+use cf_calls::execute;
+use cf_disk::Disk;
+use cf_execute::{Outcome, Port};
+use cf_table::Rows;
+
+fn is_device(code: Code) -> bool
+    ensures { result ≡ is_device code }
+{
+    match code {
+        Code::Device => true,
+        _ => false,
+    }
+}
+
+impl<D: Disk> Filter<D> {
+    ghost use Rattle.std.specs.Prelude.{◌∷◌, ◌++◌, [], false, true, List, IfNone, IfSome, OnErr, OnOk};
+    ghost use Rattle.cf_base.specs.declared.waits.Ask.{Ask};
+    ghost use Rattle.cf_filter.specs.Calling.{stopped_by};
+
+    /// Whether a call was stopped. Then every call is refused as Broken.
+    pub fn is_broken(&self) -> bool
+        ensures { result ≡ self.now.desk.broken }
+    {
+        self.machine.desk.is_broken()
+    }
+
+    pub(crate) fn is_lost(&self) -> bool
+        ensures { result ≡ self.now.desk.lost }
+    {
+        self.machine.desk.is_lost()
+    }
+
+    fn add_note(&mut self, n: Notice) -> Result<(), Memory>
+        ensures ok { OnOk result (self.new ≡ record self.old { desk = record self.old.desk { notes = self.old.desk.notes ++ n ∷ [] } }) }
+        ensures err { OnErr result (self.new ≡ self.old) }
+    {
+        self.machine.desk.note(n)
+    }
+
+    /// The ask whose callback is called next, which is left out then.
+    pub(crate) fn next_ask(&mut self) -> Option<Ask>
+        ensures some { IfSome result (λ ask. (rest : List Ask) × (self.old.desk.outbox ≡ ask ∷ rest) × (self.new ≡ record self.old { desk = record self.old.desk { outbox = rest } })) }
+        ensures none { IfNone result ((self.old.desk.outbox ≡ []) × (self.new ≡ self.old)) }
+    {
+        self.machine.desk.next_ask()
+    }
+
+    /// Memory ran out: every call is refused from now on.
+    #[tactic(auto, unfolding(crate::specs::Calling::stopped_by))]
+    pub(crate) fn lose(&mut self)
+        ensures { self.new ≡ stopped_by true self.old }
+    {
+        self.machine.desk.stop(true);
+    }
+
+    /// The device stopped a call: every other is refused from now on.
+    #[tactic(auto, unfolding(crate::specs::Calling::stopped_by))]
+    pub(crate) fn stop(&mut self)
+        ensures { self.new ≡ stopped_by false self.old }
+    {
+        self.machine.desk.stop(false);
+    }
+}
+
+impl<D: Disk> Port for Filter<D> {
+    ghost use Rattle.cf_filter.specs.Porting.{Goes};
+    ghost use Rattle.cf_filter.specs.PortLaws.{goes_further, goes_nowhere};
+
+    ghost goes = { Goes D.state };
+
+    ghost table = { λ f. f.known.table };
+
+    fn execute(&mut self, op: &Operation) -> Result<Outcome, Fail> {
+        if self.is_broken() {
+            return Err(Fail::No(Code::Broken));
+        }
+        let told = execute(&mut self.machine, op);
+        match outcome(told) {
+            Ok(Ok(given)) => Ok(given),
+            Ok(Err(code)) => {
+                if is_device(code) {
+                    // No part of an operation is refused so.
+                    self.lose();
+                    return Err(Fail::Memory);
+                }
+                Err(Fail::No(code))
+            }
+            Err(Fail::No(code)) => {
+                self.stop();
+                Err(Fail::No(code))
+            }
+            Err(Fail::Memory) => {
+                self.lose();
+                Err(Fail::Memory)
+            }
+        }
+    }
+
+    fn note(&mut self, n: Notice) -> Result<(), Memory> {
+        match self.add_note(n) {
+            Ok(()) => Ok(()),
+            Err(memory) => {
+                self.lose();
+                Err(memory)
+            }
+        }
+    }
+
+    fn rows(&self) -> &Rows {
+        self.machine.volume.rows()
+    }
+
+    ghost stays = { goes_nowhere D.state };
+
+    ghost goes_on = { goes_further D.state };
+}
