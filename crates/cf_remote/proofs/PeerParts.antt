@@ -1,0 +1,192 @@
+-- Parts of a peer event, one after the other.
+use Rattle.std.proofs.Common.{◌≡◌, ℕ, ◌+◌, List, Bool, true, false, refl, sym, ap, ◌∙◌, subst}
+use Rattle.std.specs.Prelude.{Some, None, Result, Ok, Err}
+use Rattle.std.specs.Result.{IsErrAnd}
+use Rattle.std.proofs.lemmas.Result.{err_from_is_err_and}
+use Rattle.cf_base.specs.declared.answers.Shown.{Shown}
+use Rattle.cf_base.specs.declared.answers.Shown.TheVariants as shown
+use Rattle.cf_base.specs.declared.codes.Code.{Code}
+use Rattle.cf_base.specs.declared.codes.Code.TheVariants as code
+use Rattle.cf_base.specs.declared.ids.Key.{Key}
+use Rattle.cf_base.specs.declared.ids.Rid.{Rid}
+use Rattle.cf_base.specs.declared.ids.Token.{Token}
+use Rattle.cf_base.specs.declared.messages.Entry.{Entry}
+use Rattle.cf_base.specs.declared.messages.Reply.{Reply}
+use Rattle.cf_base.specs.declared.messages.Reply.TheVariants as reply
+use Rattle.cf_base.specs.declared.messages.Request.{Request}
+use Rattle.cf_model.specs.Arrows.{Arrow, choose}
+use Rattle.cf_model.specs.Peers.{if_found, in_dir, is_fit, list_of, listing, named, on_listing, refused, request_with, peer_token, send_request, stale, with_entries, with_stray, with_token_used}
+use Rattle.cf_model.specs.State.{Running, State}
+use Rattle.cf_remote.specs.LookUps.{Comes, IsListed, finish}
+use Rattle.cf_remote.specs.Peers.{Leads, Stands}
+use Rattle.cf_remote.specs.Told.{Answers, Asks, Told}
+use Rattle.cf_remote.specs.declared.ask_errors.AskError.{AskError}
+use Rattle.cf_remote.specs.declared.ask_errors.AskError.TheVariants.{Fault, Memory}
+use Rattle.cf_remote.specs.Stops.{stop_of}
+use Rattle.cf_remote.specs.declared.stops.Plan.TheVariants as plan
+use Rattle.cf_remote.specs.declared.stops.Stop.{Stop}
+use Rattle.cf_remote.specs.declared.stops.Stop.TheVariants as stop
+use Rattle.cf_remote.proofs.Asking.{after_fault, after_reply, leads_ask}
+
+-- a part that ends the event ends it whatever would follow
+pub comes_ended : {A B : Type 0} (f : Arrow State Shown) (rest : A → Arrow State Shown) (more : B → Arrow State Shown) (next : ℕ) (s : State) (old : Told) (e : Stop) (new : Told)
+    → Comes f rest next s old (Err e) new → Comes f more next s old (Err e) new
+comes_ended f rest more next s old (stop.Refused c) new h = h
+comes_ended f rest more next s old stop.Fault new h = h
+comes_ended f rest more next s old (stop.Stray r) new h = h
+comes_ended f rest more next s old stop.Memory new h = h
+
+-- a part that is done, and then what follows
+pub comes_on : {A B : Type 0} (f : Arrow State Shown) (rest : A → Arrow State Shown) (more : B → Arrow State Shown) (next : ℕ) (s : State) (old : Told) (a : A) (mid : Told) (r : Result B Stop) (new : Told)
+    → Comes f rest next s old (Ok a) mid → ((t : State) → Stands next mid t → Comes (rest a) more next t mid r new) → Comes f more next s old r new
+comes_on f rest more next s old a mid (Ok b) new h then' =
+    let k = then' h.0 h.1 in (k.0, k.1, k.2 ∙ h.2, λ v u last l. h.3 v u last (k.3 v u last l))
+comes_on f rest more next s old a mid (Err (stop.Refused c)) new h then' =
+    let k = then' h.0 h.1 in (k.0, k.1, k.2 ∙ h.2, h.3 (shown.Refused c) k.0 new k.3)
+comes_on f rest more next s old a mid (Err stop.Fault) new h then' =
+    let k = then' h.0 h.1 in (k.0, k.1, k.2 ∙ h.2, h.3 (shown.Refused code.RemoteFault) k.0 new k.3)
+comes_on f rest more next s old a mid (Err (stop.Stray r)) new h then' =
+    let k = then' h.0 h.1 in (k.0, k.1, k.2 ∙ ap (λ (x : Running). record x { stray = Some r }) h.2, h.3 (shown.Refused code.Stale) k.0 new k.3)
+comes_on f rest more next s old a mid (Err stop.Memory) new h then' = tt
+
+-- the same, where what follows is known
+pub comes_then : {B : Type 0} (f g : Arrow State Shown) (more : B → Arrow State Shown) (next : ℕ) (s : State) (old mid : Told) (r : Result B Stop) (new : Told)
+    → Comes {A = Unit {0}} f (λ u. g) next s old (Ok (record {})) mid → ((t : State) → Stands next mid t → Comes g more next t mid r new) → Comes f more next s old r new
+comes_then f g more next s old mid r new h then' = comes_on {A = Unit {0}} f (λ u. g) more next s old (record {}) mid r new h then'
+
+pub comes_refused : {A : Type 0} (f : Arrow State Shown) (rest : A → Arrow State Shown) (next : ℕ) (s : State) (old : Told) (c : Code)
+    → f ≡ refused c → Stands next old s → Comes f rest next s old (Err (stop.Refused c)) old
+comes_refused f rest next s old c e st = (s, st, refl, subst (λ (g : Arrow State Shown). Leads (g s) old (shown.Refused c) s old) (sym e) (refl, refl, refl))
+
+pub comes_done : {A : Type 0} (f : Arrow State Shown) (rest : A → Arrow State Shown) (next : ℕ) (s : State) (old : Told) (a : A)
+    → f ≡ rest a → Stands next old s → Comes f rest next s old (Ok a) old
+comes_done f rest next s old a e st = (s, st, refl, λ b u last l. subst (λ (g : Arrow State Shown). Leads (g s) old b u last) (sym e) l)
+
+pub comes_as : {A : Type 0} (f g : Arrow State Shown) (rest : A → Arrow State Shown) (next : ℕ) (s : State) (old : Told) (r : Result A Stop) (new : Told)
+    → f ≡ g → Comes g rest next s old r new → Comes f rest next s old r new
+comes_as f g rest next s old r new e h = subst (λ (x : Arrow State Shown). Comes x rest next s old r new) (sym e) h
+
+-- the entries of a directory
+
+module _ (f : List Entry → Arrow State Shown) (rid : Rid) (next : ℕ) (s : State) (old new : Told) (st : Stands next old s) where
+  listed : (key : Key) (es : List Entry) → Answers (list_of rid) (reply.Listing key es) old new → is_fit (list_of rid) (reply.Listing key es) ≡ true
+      → Comes (listing rid f) f next s old (Ok es) new
+  listed key es a fit =
+      let r = after_reply (list_of rid) (reply.Listing key es) next s old new st a in (
+        r.state,
+        r.stands,
+        r.running,
+        λ b u last l. leads_ask (list_of rid) (Some (reply.Listing key es)) next s old new (on_listing rid f) r b u last
+            (subst (λ (ok : Bool). Leads (with_entries f (reply.Listing key es) ok r.state) new b u last) (sym fit) l),
+      )
+
+  strays : (r : Reply) → Answers (list_of rid) r old new → with_entries f r (is_fit (list_of rid) r) ≡ stale r → Comes (listing rid f) f next s old (Err (stop.Stray r)) new
+  strays r a e =
+      let after = after_reply (list_of rid) r next s old new st a in (
+        with_token_used (with_stray r after.state),
+        record { token = ap (λ (n : ℕ). n + 1) after.stands.token; held = after.stands.held; asks = after.stands.asks },
+        ap (λ (x : Running). record x { stray = Some r }) after.running,
+        leads_ask (list_of rid) (Some r) next s old new (on_listing rid f) after (shown.Refused code.Stale) (with_token_used (with_stray r after.state)) new
+            (subst (λ (g : Arrow State Shown). Leads (g after.state) new (shown.Refused code.Stale) (with_token_used (with_stray r after.state)) new) (sym e) (refl, refl, refl)),
+      )
+
+  unfit : (r : Reply) → with_entries f r false ≡ stale r
+  unfit (reply.Feed round clock es) = refl
+  unfit (reply.Listing key es) = refl
+  unfit (reply.Bytes key start bytes) = refl
+  unfit (reply.Missing key) = refl
+  unfit (reply.Done token rid version) = refl
+  unfit (reply.Void token) = refl
+  unfit (reply.Refused token w version) = refl
+  unfit (reply.Gone key) = refl
+
+  pub listing_stray : (r : Reply) → Answers (list_of rid) r old new → is_fit (list_of rid) r ≡ false → Comes (listing rid f) f next s old (Err (stop.Stray r)) new
+  listing_stray r a fit = strays r a (ap (with_entries f r) fit ∙ unfit r)
+
+  pub listing_fails : (e : AskError) → Asks (list_of rid) old (Err e) new → Comes (listing rid f) f next s old (Err (stop_of e)) new
+  listing_fails Fault h =
+      let after = after_fault (list_of rid) next s old new st h in (
+        with_token_used after.state,
+        record { token = ap (λ (n : ℕ). n + 1) after.stands.token; held = after.stands.held; asks = after.stands.asks },
+        after.running,
+        leads_ask (list_of rid) None next s old new (on_listing rid f) after (shown.Refused code.RemoteFault) (with_token_used after.state) new (refl, refl, refl),
+      )
+  listing_fails Memory h = tt
+
+  pub listing_ends : (r : Reply) (result : Result (List Entry) Stop) → Answers (list_of rid) r old new → is_fit (list_of rid) r ≡ true → IsListed r result
+      → Comes (listing rid f) f next s old result new
+  listing_ends r (Ok es) a fit h =
+      listed h.0 es (subst (λ (x : Reply). Answers (list_of rid) x old new) h.1 a) (sym (ap (is_fit (list_of rid)) h.1) ∙ fit)
+  listing_ends r (Err e) a fit h = subst (λ (x : Stop). Comes {A = List Entry} (listing rid f) f next s old (Err x) new) (sym h.0) (strays r a (h.1 f (is_fit (list_of rid) r)))
+
+-- a reply that is no listing
+
+abbrev pub is_listing : Reply → Bool
+is_listing (reply.Listing key es) = true
+is_listing r = false
+
+pub none_listed : (r : Reply) → is_listing r ≡ false → (f : List Entry → Arrow State Shown) (fit : Bool) → with_entries f r fit ≡ stale r
+none_listed (reply.Listing key es) h f fit = cc
+none_listed (reply.Feed round clock es) h f true = refl
+none_listed (reply.Feed round clock es) h f false = refl
+none_listed (reply.Bytes key start bytes) h f true = refl
+none_listed (reply.Bytes key start bytes) h f false = refl
+none_listed (reply.Missing key) h f true = refl
+none_listed (reply.Missing key) h f false = refl
+none_listed (reply.Done token rid version) h f true = refl
+none_listed (reply.Done token rid version) h f false = refl
+none_listed (reply.Void token) h f true = refl
+none_listed (reply.Void token) h f false = refl
+none_listed (reply.Refused token w version) h f true = refl
+none_listed (reply.Refused token w version) h f false = refl
+none_listed (reply.Gone key) h f true = refl
+none_listed (reply.Gone key) h f false = refl
+
+-- the request under the next token
+
+token_is : (token : Token) (next : ℕ) (s : State) (told : Told) → token.0 ≡ record { epoch = 0; number = next } → Stands next told s → token ≡ peer_token s
+token_is token next s told e st = ap (λ (k : Key). record { 0 = k }) (e ∙ ap (λ (n : ℕ). record { epoch = 0; number = n }) st.token)
+
+pub plan_sends : (q : Token → Request) (token : Token) (next : ℕ) (s : State) (told : Told) → token.0 ≡ record { epoch = 0; number = next } → Stands next told s
+    → Comes (request_with q) finish next s told (Ok (plan.Send (q token))) told
+plan_sends q token next s told e st =
+    (s, st, refl, λ b u last l. subst (λ (x : Token). Leads (send_request (q x) s) told b u last) (token_is token next s told e st) l)
+
+pub sends_as : (q : Token → Request) (r : Request) (token : Token) (next : ℕ) (s : State) (told : Told) → r ≡ q token → token.0 ≡ record { epoch = 0; number = next } → Stands next told s
+    → Comes (request_with q) finish next s told (Ok (plan.Send r)) told
+sends_as q r token next s told same e st = subst (λ (x : Request). Comes (request_with q) finish next s told (Ok (plan.Send x)) told) (sym same) (plan_sends q token next s told e st)
+
+-- the exit of a `?`
+pub with_stop : {A : Type 0} (P : Result A Stop → Type 0) (r : Result A Stop) (e : Stop) → IsErrAnd r (λ y. y ≡ e) → P (Err e) → P r
+with_stop P r e is h = let p = err_from_is_err_and r is in subst P (sym (p.1 ∙ ap (λ (y : Stop). Err y) p.2)) h
+
+pub ended_by : {A X : Type 0} (f : Arrow State Shown) (rest : A → Arrow State Shown) (more : X → Arrow State Shown) (next : ℕ) (s : State) (old : Told) (r : Result A Stop) (e : Stop) (new : Told)
+    → IsErrAnd r (λ y. y ≡ e) → Comes {A = X} f more next s old (Err e) new → Comes {A = A} f rest next s old r new
+ended_by {A} f rest more next s old r e new is h = with_stop (λ (x : Result A Stop). Comes {A = A} f rest next s old x new) r e is (comes_ended f more rest next s old e new h)
+
+-- one step of the way
+module _ (f : Entry → Arrow State Shown) (at : Entry) (name : List ℕ) where
+  abbrev pub rest_of : List Entry → Arrow State Shown
+  rest_of es = if_found f (named name es)
+
+  in_is : at.dir ≡ true → in_dir at (listing at.rid rest_of) ≡ listing at.rid rest_of
+  in_is e = ap (λ (d : Bool). choose d (listing at.rid rest_of) (refused code.NotDirectory)) e
+
+  pub step_ended : (next : ℕ) (s : State) (old : Told) (e : Stop) (new : Told) → at.dir ≡ true → Comes {A = List Entry} (listing at.rid rest_of) rest_of next s old (Err e) new
+      → Comes {A = Entry} (in_dir at (listing at.rid rest_of)) f next s old (Err e) new
+  step_ended next s old e new d h =
+      comes_as (in_dir at (listing at.rid rest_of)) (listing at.rid rest_of) f next s old (Err e) new (in_is d) (comes_ended (listing at.rid rest_of) rest_of f next s old e new h)
+
+  pub step_missing : (next : ℕ) (s : State) (old : Told) (es : List Entry) (new : Told) → at.dir ≡ true → None ≡ named name es → Comes {A = List Entry} (listing at.rid rest_of) rest_of next s old (Ok es) new
+      → Comes {A = Entry} (in_dir at (listing at.rid rest_of)) f next s old (Err (stop.Refused code.NotFound)) new
+  step_missing next s old es new d n h =
+      comes_as (in_dir at (listing at.rid rest_of)) (listing at.rid rest_of) f next s old (Err (stop.Refused code.NotFound)) new (in_is d)
+      (comes_on (listing at.rid rest_of) rest_of f next s old es new (Err (stop.Refused code.NotFound)) new h
+      (λ t st. comes_refused (rest_of es) f next t new code.NotFound (ap (if_found f) (sym n)) st))
+
+  pub step_found : (next : ℕ) (s : State) (old : Told) (es : List Entry) (e : Entry) (new : Told) → at.dir ≡ true → Some e ≡ named name es → Comes {A = List Entry} (listing at.rid rest_of) rest_of next s old (Ok es) new
+      → Comes {A = Entry} (in_dir at (listing at.rid rest_of)) f next s old (Ok e) new
+  step_found next s old es e new d n h =
+      comes_as (in_dir at (listing at.rid rest_of)) (listing at.rid rest_of) f next s old (Ok e) new (in_is d)
+      (comes_on (listing at.rid rest_of) rest_of f next s old es new (Ok e) new h
+      (λ t st. comes_done (rest_of es) f next t new e (ap (if_found f) (sym n)) st))

@@ -1,0 +1,72 @@
+-- A change of the items leaves them well kept.
+use Rattle.std.proofs.Common.{◌≡◌, ℕ, ◌+◌, ◌-◌, ◌≤◌, Bool, true, false, cond, List, map, refl, sym, ap, ◌∙◌, subst, arith, ◌==◌}
+use Rattle.std.specs.Prelude.{Option, Some, None, count_by, sum_by}
+use Rattle.cf_base.specs.declared.ids.Rid.{Rid}
+use Rattle.cf_model.specs.Growth.{CountsFrom}
+use Rattle.cf_model.specs.Store.{Stored, at_rid, stored_at, trimmed}
+use Rattle.cf_model.specs.Words.{says}
+use Rattle.cf_remote.specs.Held.{grown, held_len}
+use Rattle.cf_remote.specs.Order.{IsIndexed, IsShelf}
+use Rattle.cf_remote.proofs.Orders.{one_keeps}
+use Rattle.cf_remote.proofs.Totals.{grown_keeps, index_kept, live_kept, sum_at, sum_map, trimmed_keeps}
+
+kept_one : (g : Stored → ℕ) (f : Stored → Stored) → ((s : Stored) → g (f s) ≡ g s) → (s : Stored) (b : Bool) → g (cond b (f s) s) ≡ g s
+kept_one g f k s true = k s
+kept_one g f k s false = refl
+
+-- a change of one item that leaves what is summed of it
+sum_kept : (g : Stored → ℕ) (rid : Rid) (f : Stored → Stored) → ((s : Stored) → g (f s) ≡ g s) → (ss : List Stored) → sum_by g (at_rid rid f ss) ≡ sum_by g ss
+sum_kept g rid f k ss = sum_map g (λ s. cond (s.rid.0 == rid.0) (f s) s) (λ s. kept_one g f k s (s.rid.0 == rid.0)) ss
+
+abbrev one_live : Stored → ℕ
+one_live s = cond s.live 1 0
+
+pub live_there : (o : Option Stored) → says (λ s. s.live) o ≡ true → (s : Stored) × (Some s ≡ o) × (s.live ≡ true)
+live_there None e = cc
+live_there (Some s) e = (s, refl, e)
+
+-- one item less is live
+pub less_live : (items : List Stored) (rid : Rid) (changed : ℕ) → CountsFrom 1 items → says (λ s. s.live) (stored_at items rid) ≡ true
+    → count_by (λ s. s.live) (at_rid rid (λ s. record s { live = false; changed = changed }) items) + 1 ≡ count_by (λ s. s.live) items
+less_live items rid changed counted live =
+    let t = live_there (stored_at items rid) live in
+    omega (arith, sum_at one_live rid (λ s. record s { live = false; changed = changed }) items t.0 counted t.1, ap {B = ℕ} (λ (b : Bool). cond b 1 0) t.2)
+
+module _ (items : List Stored) (index : List Rid) (live held : ℕ) (is : IsShelf items index live held) (rid : Rid) (new : List Stored) where
+  pub shelf_ended : (left : List Rid) (changed : ℕ) → says (λ s. s.live) (stored_at items rid) ≡ true → new ≡ at_rid rid (λ s. record s { live = false; changed = changed }) items
+      → IsIndexed new left → IsShelf new left (live - 1) held
+  shelf_ended left changed there e indexed =
+      let less = less_live items rid changed is.indexed.is.counted there in
+      record {
+        indexed = indexed;
+        lives = omega (arith, is.lives, less, ap (count_by (λ (s : Stored). s.live)) e);
+        holds = is.holds ∙ sym (ap (sum_by held_len) e ∙ sum_kept held_len rid (λ s. record s { live = false; changed = changed }) (λ s. refl) items);
+        within = is.within;
+      }
+
+  pub shelf_placed : (left : List Rid) (parent : Rid) (name : List ℕ) (changed : ℕ) → new ≡ at_rid rid (λ s. record s { parent = parent; name = name; changed = changed }) items
+      → IsIndexed new left → IsShelf new left live held
+  shelf_placed left parent name changed e indexed = record {
+    indexed = indexed;
+    lives = is.lives ∙ sym (ap (count_by (λ (s : Stored). s.live)) e ∙ sum_kept one_live rid (λ s. record s { parent = parent; name = name; changed = changed }) (λ s. refl) items);
+    holds = is.holds ∙ sym (ap (sum_by held_len) e ∙ sum_kept held_len rid (λ s. record s { parent = parent; name = name; changed = changed }) (λ s. refl) items);
+    within = is.within;
+  }
+
+  pub shelf_grown : (keep : Option ℕ) (bytes : List ℕ) (changed after : ℕ) → new ≡ at_rid rid (grown keep bytes changed) items → after ≡ sum_by held_len (at_rid rid (grown keep bytes changed) items)
+      → sum_by held_len (at_rid rid (grown keep bytes changed) items) ≤ 536870912 → IsShelf new index live after
+  shelf_grown keep bytes changed after e total fits = record {
+    indexed = subst (λ (ss : List Stored). IsIndexed ss index) (sym e) (index_kept (λ s. cond (s.rid.0 == rid.0) (grown keep bytes changed s) s) (one_keeps rid (grown keep bytes changed) (grown_keeps keep bytes changed)) items index is.indexed);
+    lives = is.lives ∙ sym (ap (count_by (λ (s : Stored). s.live)) e ∙ live_kept (λ s. cond (s.rid.0 == rid.0) (grown keep bytes changed s) s) (one_keeps rid (grown keep bytes changed) (grown_keeps keep bytes changed)) items);
+    holds = total ∙ sym (ap (sum_by held_len) e);
+    within = omega (arith, total, fits);
+  }
+
+pub shelf_trimmed : (items : List Stored) (index : List Rid) (live held : ℕ) → IsShelf items index live held → (new : List Stored) (count after : ℕ) → new ≡ map (trimmed (Some count)) items
+    → after ≡ sum_by held_len new → after ≤ held → IsShelf new index live after
+shelf_trimmed items index live held is new count after e total le = record {
+  indexed = subst (λ (ss : List Stored). IsIndexed ss index) (sym e) (index_kept (trimmed (Some count)) (trimmed_keeps (Some count)) items index is.indexed);
+  lives = is.lives ∙ sym (ap (count_by (λ (s : Stored). s.live)) e ∙ live_kept (trimmed (Some count)) (trimmed_keeps (Some count)) items);
+  holds = total;
+  within = omega (arith, le, is.within);
+}

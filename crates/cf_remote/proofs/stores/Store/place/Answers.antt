@@ -1,0 +1,16 @@
+use Rattle.std.proofs.Common.{refl, ◌∙◌}
+use Rattle.cf_model.specs.Store.{Stored, at_rid, move_to}
+use Rattle.cf_remote.specs.Stores.{holding}
+use Rattle.cf_remote.proofs.Accepted.{item_free, other_place}
+use Rattle.cf_remote.proofs.Doing.{done_is, version_is}
+use Rattle.cf_remote.proofs.stores.Store.place.Goals as goal
+
+pub place-requires-clause-free : goal.place-requires-clause-free
+place-requires-clause-free c = item_free c.self.inside.shelf c.args.parent c.args.parent c.args.name.now c.in_ok-name.name c.args.rid refl c.in_ok-name.ensures
+    (other_place (holding c.self.inside.shelf c.self.inside.clock c.self.inside.tokens c.self.inside.keep) c.args.rid c.args.parent c.args.name.now (rw (← c.self.view_is) at c.requires.accepted)).free
+
+pub returns : goal.returns
+returns c = rw (← c.self.view_is) (done_is (holding c.self.inside.shelf c.self.inside.clock c.self.inside.tokens c.self.inside.keep) c.args.token (move_to (holding c.self.inside.shelf c.self.inside.clock c.self.inside.tokens c.self.inside.keep) c.args.rid c.args.parent c.args.name.now) c.args.rid c.latest_of-version.result c.place.new.self c.clock_after-clock.result c.record.new.self
+    refl (version_is c.latest_of-version.result _ c.latest_of-version.ensures.latest)
+    (c.place.ensures ∙ (λ i. at_rid c.args.rid (λ (s : Stored). record s { parent = c.args.parent; name = c.in_ok-name.ensures i; changed = c.clock_after-clock.ensures i }) c.self.inside.shelf))
+    c.clock_after-clock.ensures c.in_ok-record.ensures.ok)

@@ -1,0 +1,11 @@
+pub mod Depths
+pub mod Feeds
+pub mod Held
+pub mod LookUps
+pub mod Order
+pub mod Peers
+pub mod Runs
+pub mod Stops
+pub mod Stores
+pub mod Tokens
+pub mod Told

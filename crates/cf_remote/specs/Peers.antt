@@ -1,0 +1,47 @@
+-- What another device does, done with a remote: a way through the tree of the definitions on which each ask is answered as
+-- the remote did.
+use Rattle.std.specs.Prelude.{◌≡◌, ◌⊎◌, ℕ, ◌+◌, ◌≤◌, ◌-◌, ◌^◌, true, false, [], Option, Some, None, Result, Ok, Err, is_some, min}
+use Rattle.cf_base.specs.declared.answers.Answer.{Answer}
+use Rattle.cf_base.specs.declared.answers.Shown.{Shown}
+use Rattle.cf_base.specs.declared.answers.Shown.TheVariants as shown
+use Rattle.cf_base.specs.declared.memory.Memory.{Memory}
+use Rattle.cf_model.specs.Arrows.{Arrow}
+use Rattle.cf_model.specs.State.{State}
+use Rattle.cf_model.specs.Store.{Held}
+use Rattle.cf_model.specs.Trees.{AsItKeeps, Asked, Faults, Fork, Ret, Step, Telling, Tells, Tree}
+use Rattle.cf_remote.specs.Told.{Counts, Told, counted}
+
+-- What the remote did at one ask. It fails exactly at those that are listed, where it tells them, and then what it holds stays
+-- and its count of faults rises. It breaks its rules only where it does not tell what it holds, and goes on telling what it
+-- told before.
+abbrev pub IsTelling : Telling → Told → Told → Type 0
+IsTelling AsItKeeps old new = Counts false old new × (old.faults ≤ new.faults) × (is_some new.held ≡ is_some old.held)
+IsTelling Faults old new = Counts true old new × (counted old.faults ≤ new.faults) × (new.held ≡ old.held)
+IsTelling (Tells r) old new = Counts false old new × (old.faults ≤ new.faults) × (old.held ≡ None) × (new.held ≡ None)
+
+-- the tree may end with this result and this state, its asks being those that lead the remote from old to new
+abbrev pub Leads : {S A : Type 0} → Tree S A → Told → A → S → Told → Type 0
+Leads (Ret a s) old b t new = (b ≡ a) × (t ≡ s) × (new ≡ old)
+Leads (Step s p) old b t new = Leads p old b t new
+Leads (Fork p q) old b t new = Leads p old b t new ⊎ Leads q old b t new
+Leads (Asked k) old b t new = (w : Telling) × (mid : Told) × IsTelling w old mid × Leads (k w) mid b t new
+
+abbrev pub IsHeld : Option Held → Held → Type 0
+IsHeld None held = Unit {0}
+IsHeld (Some told) held = held ≡ told
+
+abbrev pub IsCount : Option ℕ → ℕ → Type 0
+IsCount None asks = Unit {0}
+IsCount (Some told) asks = told ≡ min asks (2 ^ 64 - 1)
+
+-- the state of the definitions has this next token of a peer, and what this remote tells
+pub record Stands (next : ℕ) (told : Told) (s : State) : Type 0 where
+  pub token : next ≡ s.peer_tokens + 1
+  pub held : IsHeld told.held s.link.remote
+  pub asks : IsCount told.asks s.link.remote_asks
+
+-- The answer is one of the event's, and it keeps the reply that made it Stale. Without memory one token at most is used up.
+abbrev pub Does : Arrow State Shown → ℕ → Told → Result Answer Memory → ℕ → Told → Type 0
+Does f next old (Ok a) after new = (s : State) → s.running.stray ≡ None → Stands next old s
+    → (t : State) × Leads (f s) old a.shown t new × Stands after new t × (a ≡ record { notes = []; shown = a.shown; stray = t.running.stray })
+Does f next old (Err e) after new = (next ≤ after) × (after ≤ next + 1)

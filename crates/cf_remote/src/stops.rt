@@ -1,0 +1,45 @@
+//! How the look-up of a peer event ends.
+
+ghost use Rattle.std.specs.Prelude.{◌≡◌};
+ghost use Rattle.cf_remote.specs.Stops.{stop_of};
+ghost use Rattle.cf_remote.specs.declared.stops.Stop.TheVariants as stop;
+
+use crate::ask_errors::AskError;
+use cf_base::{Code, Reply, Request, Rid, Version};
+
+/// Why the look-up of a peer event ends it.
+#[derive(Debug, Drop)]
+pub(crate) enum Stop {
+    Refused(Code),
+    /// The remote failed.
+    Fault,
+    /// The reply cannot be.
+    Stray(Reply),
+    Memory,
+}
+
+/// What a peer event does once its paths are looked up.
+#[derive(Debug, Drop)]
+pub(crate) enum Plan {
+    Send(Request),
+    Tell(Rid, Version),
+}
+
+impl From<cf_base::Memory> for Stop {
+    ghost from_gives = { λ _ e. e ≡ stop.Memory };
+
+    fn from(_e: cf_base::Memory) -> Stop {
+        Stop::Memory
+    }
+}
+
+impl From<AskError> for Stop {
+    ghost from_gives = { λ a e. e ≡ stop_of a };
+
+    fn from(e: AskError) -> Stop {
+        match e {
+            AskError::Fault => Stop::Fault,
+            AskError::Memory => Stop::Memory,
+        }
+    }
+}
