@@ -1,0 +1,5 @@
+pub mod Spelled
+pub mod InOrder
+pub mod Mapped
+pub mod Loading
+pub mod OneMeaning

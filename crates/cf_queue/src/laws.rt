@@ -1,0 +1,16 @@
+//! Laws of auxiliary records.
+
+ghost use Rattle.std.specs.Prelude.{◌≡◌, ℕ};
+ghost use Rattle.cf_base.specs.declared.answers.AuxRecord.{AuxRecord};
+ghost use Rattle.cf_base.specs.declared.items.SeenPath.{SeenPath};
+ghost use Rattle.cf_model.specs.Books as model;
+ghost use Rattle.cf_queue.specs.Records.{IsCursor, IsEntry, IsSeen, IsTombstone};
+
+/// A law: of each kind, a record says one thing at most. So what was spelled is read again as it was.
+#[tactic(auto, using(crate::proofs::OneMeaning::one_cursor, crate::proofs::OneMeaning::one_entry, crate::proofs::OneMeaning::one_seen, crate::proofs::OneMeaning::one_tombstone))]
+pub fn one_value_a_record()
+    ensures cursors { (r : AuxRecord) (m n : ℕ) → IsCursor r m → IsCursor r n → m ≡ n }
+    ensures entries { (r : AuxRecord) (d e : model.QueueEntry) → IsEntry r d → IsEntry r e → d ≡ e }
+    ensures paths { (r : AuxRecord) (p q : SeenPath) → IsSeen r p → IsSeen r q → p ≡ q }
+    ensures tombstones { (r : AuxRecord) (t u : model.Tombstone) → IsTombstone r t → IsTombstone r u → t ≡ u }
+{}

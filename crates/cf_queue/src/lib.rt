@@ -1,0 +1,25 @@
+//! The queue of uploads, and the auxiliary records by which a book is kept.
+//!
+//! `Queue` holds the uploads that wait for a reply, by token, and the removals that are still to upload, by number; its calls
+//! do to them what the definitions do to those of a book. `Queue::load` reads them from the auxiliary records of a volume;
+//! specs/Records says which record says what. The records of the cursor and of paths seen are read and spelled alike.
+#![tactic(auto)]
+
+mod fields;
+mod laws;
+mod ordered;
+mod queues;
+mod reading;
+mod records;
+mod spelling;
+mod uploads;
+
+pub use laws::one_value_a_record;
+pub use queues::Queue;
+pub use reading::{read_cursor, read_record, read_seen};
+pub use records::Record;
+pub use spelling::{spell_cursor, spell_seen};
+pub use uploads::{Action, QueueEntry, Tombstone};
+
+#[cfg(test)]
+mod tests;
