@@ -1,0 +1,12 @@
+pub mod Capped
+pub mod ChangesEnd
+pub mod Children
+pub mod CopiesAre
+pub mod FoundRows
+pub mod ListsAre
+pub mod MovedItems
+pub mod MovesAre
+pub mod NamedRows
+pub mod Ordered
+pub mod TreesSame
+pub mod TurnsAre
