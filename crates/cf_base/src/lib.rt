@@ -21,8 +21,6 @@ mod policies;
 mod sequence;
 mod spans;
 mod statuses;
-#[cfg(test)]
-mod tests;
 mod waits;
 
 pub use answers::{Access, Anchor, Answer, AuxRecord, OpenedBook, Shown};

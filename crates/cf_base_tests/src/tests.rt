@@ -1,6 +1,6 @@
 //! Tests of what no clause says: that each call succeeds where memory is ample.
 
-use crate::{
+use cf_base::{
     Blob, Call, Change, Code, End, Event, Fail, Hydration, Identity, ItemId, Kind, Mode, Name,
     Policy, Population, Sequence, Span, Status, Text, blocks_of,
 };
