@@ -1,5 +1,5 @@
 //! Calls that wait.
-ghost use Rattle.std.specs.Prelude.{◌≡◌, IfSome};
+ghost use Rattle.std.specs.Prelude.{◌≡◌, ◌<◌, IfNone, IfSome};
 ghost use Rattle.cf_model.specs.Numbers.{same_key};
 ghost use Rattle.cf_model.specs.Requests.{is_background, is_dehydrate_wait, is_hydrate_wait, is_list_wait};
 
@@ -57,7 +57,8 @@ impl WaitNumber {
 
     /// The wait of this number, or nothing where it is past the last.
     pub fn id(&self) -> Option<WaitId>
-        ensures { IfSome result (λ id. id ≡ self.now) }
+        ensures some { IfSome result (λ id. id ≡ self.now) }
+        ensures none { IfNone result (4294967295 < self.now.0.number) }
     {
         if self.number > u32::MAX as u64 {
             return None;
@@ -203,7 +204,8 @@ impl LiveWait {
 
     /// The wait that is told, or nothing where its number is past the last.
     pub fn told(&self) -> Option<Wait>
-        ensures { IfSome result (λ w. w ≡ self.now) }
+        ensures some { IfSome result (λ w. w ≡ self.now) }
+        ensures none { IfNone result (4294967295 < self.now.id.0.number) }
     {
         let id = self.id.id()?;
         Some(Wait {

@@ -29,6 +29,3 @@ pub use laws::{a_payload_is_enough, one_value_of_a_text};
 pub use openings::read_contents;
 pub use payloads::{apply_payload, spell_payload};
 pub use records::AuxRecords;
-
-#[cfg(test)]
-mod tests;

@@ -23,6 +23,3 @@ pub use failures::JournalFail;
 pub use journals::{IMAGE_LIMIT, Journal, LARGEST_SIZE, LEAST_SIZE, Opened};
 pub use laws::one_content;
 pub use sides::Side;
-
-#[cfg(test)]
-mod tests;

@@ -20,6 +20,3 @@ pub use reading::{read_cursor, read_record, read_seen};
 pub use records::Record;
 pub use spelling::{spell_cursor, spell_seen};
 pub use uploads::{Action, QueueEntry, Tombstone};
-
-#[cfg(test)]
-mod tests;

@@ -8,8 +8,6 @@ mod changes;
 mod codes;
 mod notices;
 mod results;
-#[cfg(test)]
-mod tests;
 mod words;
 
 ghost use Rattle.std.specs.Prelude.{◌≡◌, IfOk};

@@ -11,8 +11,6 @@ mod moves;
 mod plans;
 mod queries;
 mod requests;
-#[cfg(test)]
-mod tests;
 mod turns;
 mod wait_books;
 mod wait_lists;

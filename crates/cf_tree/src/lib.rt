@@ -18,6 +18,3 @@ pub use moves::check_move;
 pub use names::{Names, bad_path};
 pub use paths::path_of;
 pub use trees::tree_of;
-
-#[cfg(test)]
-mod tests;

@@ -30,6 +30,3 @@ pub use replies::read_reply;
 pub use requests::read_request;
 pub use spelled_replies::spell_reply;
 pub use spelled_requests::spell_request;
-
-#[cfg(test)]
-mod tests;

@@ -2,9 +2,9 @@
 
 ghost use Rattle.std.specs.Prelude.{◌≡◌, [], IfOk};
 
-use super::*;
 use cf_base::{AuxRecord, Blob, ItemId, Memory, Usn};
 use cf_codec::Writer;
+use cf_image::*;
 use std::alloc::Global;
 use std::test::Fail;
 

@@ -5,9 +5,9 @@ ghost use Rattle.std.specs.Prelude.{◌≡◌};
 ghost use Rattle.cf_disk.specs.Disk.{size_of};
 ghost use Rattle.cf_journal.specs.Settled.{HasRoom, IsFitSize};
 
-use super::*;
 use cf_base::Choice;
 use cf_disk::{Disk, MemDisk, TraceDisk};
+use cf_journal::*;
 use std::alloc::Global;
 use std::test::Fail;
 

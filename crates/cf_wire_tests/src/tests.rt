@@ -3,12 +3,12 @@
 ghost use Rattle.std.specs.Prelude.{◌≡◌, ◌≤◌, length, IfOk};
 ghost use Rattle.cf_wire.specs.Spelled.{HasRoom, ReplyHasRoom};
 
-use crate::{
-    Message, Net, NoItems, Sent, WireFail, fits, read_reply, read_request, spell_reply,
-    spell_request,
-};
 use cf_base::{
     Blob, Entry, Key, Memory, Reply, Request, Rid, Round, Sequence, Token, Version, Why,
+};
+use cf_wire::{
+    Message, Net, NoItems, Sent, WireFail, fits, read_reply, read_request, spell_reply,
+    spell_request,
 };
 use std::alloc::Global;
 use std::process::Abort;

@@ -1,11 +1,11 @@
 //! Texts of answers: each kind of notice and of result once, as a report shows them.
 
-use crate::text;
 use cf_base::{
     Answer, Ask, AskKind, Blob, Change, Code, End, Frame, Handle, Identity, ItemId, Key, Kind,
     ListedItem, Name, Notice, OperationAnswer, Pin, Reply, Request, Rid, Round, Sent, Sequence,
     Shown, Span, Usn, Version, WaitId,
 };
+use cf_report::text;
 use std::alloc::Global;
 use std::test::Fail;
 

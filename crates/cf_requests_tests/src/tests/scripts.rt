@@ -2,10 +2,10 @@
 
 ghost use Rattle.std.specs.Prelude.{◌≡◌, ◌+◌, ◌≤◌, ◌^◌, ℕ};
 
-use super::*;
 use cf_asks::View;
 use cf_base::{Cause, ItemId, Key, Memory, Span, WaitId, WaitKind};
 use cf_ranges::RangeSet;
+use cf_requests::*;
 use std::alloc::Global;
 use std::test::Fail;
 

@@ -1,7 +1,7 @@
 //! What no clause says: that the calls succeed where there is memory, and some records from outside.
 
-use crate::{Action, Queue, QueueEntry, Tombstone, read_cursor, spell_cursor};
 use cf_base::{AuxRecord, Blob, ItemId, Key, Memory, Rid, Token, Usn, Version};
+use cf_queue::{Action, Queue, QueueEntry, Tombstone, read_cursor, spell_cursor};
 use std::alloc::Global;
 use std::test::Fail;
 
