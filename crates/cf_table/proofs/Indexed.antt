@@ -253,6 +253,16 @@ replaced_indexed rows new es left put e row r k n m t at is goes same puts with 
       ∙ sym (ap index_of with ∙ index_with 0 row rows t.table.rises);
 }
 
+-- a row that has the entry of the one before it in its place
+pub kept_entry : (rows new : List Row) (es : List Entry) (e : Entry) (row r : Row) (k n m : ℕ) → IsIndexed rows es n → IsRowAt rows row.id.0 k → r ≡ get_or rows k r → entry_of r ≡ e → e ≡ entry_of row →
+    new ≡ with_row row rows → IsTable new m → IsIndexed new es m
+kept_entry rows new es e row r k n m t at is has same with table = record {
+  table = table;
+  index = t.index
+      ∙ sym (ap index_of (with ∙ sym (set_is_with 0 rows k row t.table.rises at))
+      ∙ ap (λ l. sorted stands_before l) (entries_set rows k row r (sym (has ∙ same) ∙ ap entry_of is) at.in_range));
+}
+
 pub inserted_indexed : (rows new : List Row) (es put : List Entry) (e : Entry) (row : Row) (k n m : ℕ) → IsIndexed rows es n → IsRowGap rows row.id.0 k → e ≡ entry_of row → put ≡ put_in stands_before e es → new ≡ with_row row rows → IsTable new m → IsIndexed new put m
 inserted_indexed rows new es put e row k n m t gap same puts with table = record {
   table = table;

@@ -1,6 +1,6 @@
 //! The index of a table: where its items stand, in order of parent, of name there, and of id.
 
-ghost use Rattle.std.specs.Prelude.{◌≡◌, ◌<◌, IfOk, cond, filter, find, Some, None};
+ghost use Rattle.std.specs.Prelude.{◌≡◌, ◌<◌, IfOk, cond, filter, find, Some, None, true};
 ghost use Rattle.std.specs.Vec.{vec_capacity, vec_len};
 ghost use Rattle.cf_model.specs.Words.{put_in};
 ghost use Rattle.cf_table.specs.Index.{compared, entry_at, entry_id, entry_ids, entry_of, InOrder, is_entry_in, is_entry_of, IsPlaceOf, stands_before, without_entry};
@@ -80,6 +80,13 @@ pub(crate) fn remove_entry_of(entries: &mut Vec<Entry>, row: &Row)
     ensures room { vec_len entries.old < vec_capacity entries.old → vec_len entries.new < vec_capacity entries.new }
 {
     remove_entry(entries, row.parent, row.name.as_slice(), row.id);
+}
+
+/// Whether an entry is that of a row.
+pub(crate) fn has_entry(row: &Row, entry: &Entry) -> bool
+    ensures { result ≡ true → entry_of row.now ≡ entry.now }
+{
+    row.id == entry.id && row.parent == entry.parent && row.name.as_slice() == entry.name.as_slice()
 }
 
 fn is_named(entry: &Entry, parent: ItemId, name: &[u8]) -> bool

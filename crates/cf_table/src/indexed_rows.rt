@@ -8,7 +8,7 @@ ghost use Rattle.cf_table.specs.Means.{IsLater};
 ghost use Rattle.cf_table.specs.Tables.{IsRowAt, IsRowGap, SetsAt, with_row};
 ghost use Rattle.cf_table.specs.declared.rows.Row.{Row};
 
-use crate::entries::{Entry, add_entry, remove_entry_of};
+use crate::entries::{Entry, add_entry, has_entry, remove_entry_of};
 use crate::row_lists::{change_at, find_row, insert_at, move_at, push_row, remove_at, replace_at};
 use crate::rows::Row;
 use cf_base::{Blob, Change, ItemId, Memory, Name, Pin, Usn};
@@ -74,6 +74,10 @@ fn replace_indexed(
     ensures indexed { IsIndexed rows.new.items index.new.items result }
     ensures puts { rows.new.items ≡ with_row row rows.old.items }
 {
+    // Most changes leave an item where it stands, and then the index, which is as long as the table, stays as it is.
+    if has_entry(&rows[place], &entry) {
+        return replace_at(rows, place, row, len);
+    }
     remove_entry_of(index, &rows[place]);
     add_entry(index, entry);
     replace_at(rows, place, row, len)

@@ -26,6 +26,7 @@ mod set_reads;
 mod spelling;
 mod table_changes;
 mod tables;
+mod usns;
 mod volume_changes;
 
 pub use failures::RowFail;
@@ -38,6 +39,4 @@ pub use new_rows::Place;
 pub use read_laws::one_row_in_a_text;
 pub use rows::{NO_USN, Row};
 pub use tables::Rows;
-
-#[cfg(test)]
-mod tests;
+pub use usns::{is_above, same_usn};

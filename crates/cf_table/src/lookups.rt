@@ -10,14 +10,9 @@ use crate::entries::{child_at, children_at};
 use crate::row_lists::find_row;
 use crate::rows::Row;
 use crate::tables::Rows;
+use crate::usns::is_above;
 use cf_base::{ItemId, Memory, Usn};
 use std::alloc::Global;
-
-fn is_above(number: Usn, other: Usn) -> bool
-    ensures { result ≡ above number other }
-{
-    number.epoch > other.epoch || number.epoch == other.epoch && number.place > other.place
-}
 
 // How many rows do not come after the id.
 fn place_after(rows: &[Row], id: Option<ItemId>) -> usize

@@ -4,8 +4,10 @@ ghost use Rattle.std.specs.Prelude.{◌≡◌, ◌≤◌, ◌<◌, ◌+◌, IfOk
 ghost use Rattle.cf_table.specs.Applied.{IsSpellable};
 ghost use Rattle.cf_table.specs.Changing.{Fits, IsNext};
 
-use super::*;
+mod texts;
+
 use cf_base::{Blob, Change, Identity, ItemId, Kind, Memory, Name, Pin, Usn};
+use cf_table::*;
 use std::alloc::Global;
 use std::test::Fail;
 

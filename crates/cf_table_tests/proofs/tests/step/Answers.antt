@@ -1,7 +1,7 @@
 use Rattle.std.proofs.Common.{◌≡◌, ◌+◌, ◌&&◌, ◌||◌, ℕ, arith, eqb, ltb, true}
 use Rattle.std.proofs.lemmas.Bool.Decides.{nat_tests}
 use Rattle.cf_table.proofs.TableMeans.{on_ok_map}
-use Rattle.cf_table.proofs.tests.step.Goals as goal
+use Rattle.cf_table_tests.proofs.tests.step.Goals as goal
 
 rises : (place : ℕ) → (ltb 1 1 || (eqb 1 1 && ltb place (place + 1))) ≡ true
 rises place = grind (arith, nat_tests)
