@@ -37,6 +37,3 @@ pub use laws::{a_remote_only_grows, a_removed_item_keeps_its_versions, a_token_m
 pub use peers::peer;
 pub use remotes::Remote;
 pub use store_remotes::StoreRemote;
-
-#[cfg(test)]
-mod tests;

@@ -1,9 +1,9 @@
-//! What no clause says: that the calls succeed where there is memory. The replies are those of a worked script.
+//! Requests of a remote in memory, by their replies.
 
 ghost use Rattle.std.specs.Prelude.{◌<◌, ◌^◌, length};
 
-use super::*;
 use cf_base::{Blob, Key, Reply, Request, Rid, Token, Version, Why};
+use cf_remote::{AskError, FlakyRemote, Remote, StoreRemote};
 use std::alloc::Global;
 use std::test::Fail;
 

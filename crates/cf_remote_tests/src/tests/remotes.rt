@@ -1,0 +1,126 @@
+//! Remotes, and events of another device on them.
+
+ghost use Rattle.std.specs.Prelude.{◌<◌, ◌^◌, IfOk, length};
+ghost use Rattle.cf_remote.specs.LookUps.{EventHasRoom};
+
+use cf_base::{Answer, Blob, Key, Memory, PeerEvent, Reply, Request, Text};
+use cf_remote::{AskError, Remote, StoreRemote, peer};
+use std::alloc::Global;
+
+/// A remote that has no item that it is asked for.
+#[derive(Drop)]
+pub(crate) struct Bare {}
+
+impl Remote for Bare {
+    ghost use Rattle.std.specs.Prelude.{None};
+
+    ghost told = { λ _. record { held = None; asks = None; fails = None; faults = 0 } };
+
+    fn ask(&mut self, _q: &Request) -> Result<Reply, AskError> {
+        let key = Key {
+            epoch: 0,
+            number: 0,
+        };
+        Ok(Reply::Missing { key })
+    }
+}
+
+pub(crate) fn text(alloc: Global, path: &str) -> Result<Text, Memory> {
+    Text::from_str(alloc, path)
+}
+
+pub(crate) fn blob(alloc: Global, bytes: &[u8]) -> Result<Blob, Memory>
+    requires { length bytes.now < 2 ^ 32 }
+    ensures { IfOk result (λ b. length b < 2 ^ 32) }
+{
+    Blob::from_slice(alloc, bytes)
+}
+
+// The answer, and the next token then.
+pub(crate) fn does<R: Remote>(
+    alloc: Global,
+    remote: &mut R,
+    next: u32,
+    e: PeerEvent,
+) -> Result<(Answer, u32), Memory>
+    requires next { next < 1000 }
+    requires room { EventHasRoom e }
+{
+    let mut after = next;
+    let answer = peer(alloc, remote, &mut after, &e)?;
+    Ok((answer, after))
+}
+
+pub(crate) fn put<R: Remote>(
+    alloc: Global,
+    remote: &mut R,
+    next: u32,
+    path: &str,
+    bytes: &[u8],
+) -> Result<(Answer, u32), Memory>
+    requires next { next < 1000 }
+    requires room { length bytes.now < 2 ^ 32 }
+{
+    let path = text(alloc, path)?;
+    let bytes = blob(alloc, bytes)?;
+    does(alloc, remote, next, PeerEvent::Put { path, bytes })
+}
+
+pub(crate) fn make_dir<R: Remote>(
+    alloc: Global,
+    remote: &mut R,
+    next: u32,
+    path: &str,
+) -> Result<(Answer, u32), Memory>
+    requires { next < 1000 }
+{
+    let path = text(alloc, path)?;
+    does(alloc, remote, next, PeerEvent::MakeDir { path })
+}
+
+pub(crate) fn move_to<R: Remote>(
+    alloc: Global,
+    remote: &mut R,
+    next: u32,
+    from: &str,
+    to: &str,
+) -> Result<(Answer, u32), Memory>
+    requires { next < 1000 }
+{
+    let from = text(alloc, from)?;
+    let to = text(alloc, to)?;
+    does(alloc, remote, next, PeerEvent::Move { from, to })
+}
+
+pub(crate) fn remove<R: Remote>(
+    alloc: Global,
+    remote: &mut R,
+    next: u32,
+    path: &str,
+) -> Result<(Answer, u32), Memory>
+    requires { next < 1000 }
+{
+    let path = text(alloc, path)?;
+    does(alloc, remote, next, PeerEvent::Remove { path })
+}
+
+pub(crate) fn stat<R: Remote>(
+    alloc: Global,
+    remote: &mut R,
+    next: u32,
+    path: &str,
+) -> Result<(Answer, u32), Memory>
+    requires { next < 1000 }
+{
+    let path = text(alloc, path)?;
+    does(alloc, remote, next, PeerEvent::Stat { path })
+}
+
+// A file `/a`, and a directory `/d` with a file `f`.
+pub(crate) fn stocked(alloc: Global) -> Result<StoreRemote, Memory> {
+    let mut remote = StoreRemote::new(alloc)?;
+    put(alloc, &mut remote, 1, "/a", b"hello")?;
+    make_dir(alloc, &mut remote, 2, "/d")?;
+    put(alloc, &mut remote, 3, "/d/f", b"a")?;
+    Ok(remote)
+}
