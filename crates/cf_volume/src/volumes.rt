@@ -86,6 +86,13 @@ impl<D: Disk> Volume<D> {
         self.parts.contents.records.after(after)
     }
 
+    /// All auxiliary records, whose keys rise.
+    pub fn records(&self) -> &[AuxRecord]
+        ensures { result.now ≡ self.now.known.records }
+    {
+        self.parts.contents.records.as_slice()
+    }
+
     /// How many changes were accepted.
     pub fn count(&self) -> u64
         ensures { result ≡ self.now.known.count }
