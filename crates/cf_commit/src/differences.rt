@@ -8,7 +8,7 @@ ghost use Rattle.cf_image.specs.Spelled.{AreRecordsFrom};
 ghost use Rattle.cf_model.specs.Words.{same};
 ghost use Rattle.cf_table.specs.Tables.{RisesFrom, row_of};
 
-use crate::earlier::Earlier;
+use crate::earlier::{Earlier, bare};
 use cf_base::{AuxRecord, Blob, ItemId, Memory};
 use cf_image::{AuxRecords, Contents};
 use cf_table::{Row, Rows};
@@ -106,16 +106,6 @@ fn is_record_gone(then: &Earlier, now: &AuxRecords, aux: &AuxRecord) -> bool
     ensures { result ≡ is_record_gone then.now now.now aux.now }
 {
     !has_record(&then.made, aux.key.as_slice()) && !has_record(now, aux.key.as_slice())
-}
-
-// A key without a value.
-fn bare(alloc: Global, key: &[u8]) -> Result<AuxRecord, Memory>
-    ensures { IfOk result (λ r. (r.key ≡ key.now) × (length r.value ≡ 0)) }
-{
-    Ok(AuxRecord {
-        key: Blob::from_slice(alloc, key)?,
-        value: Blob::from_slice(alloc, &[])?,
-    })
 }
 
 // Puts a key among others, if a record has it now.

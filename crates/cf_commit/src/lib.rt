@@ -15,10 +15,7 @@ mod saves;
 mod texts;
 
 pub use creations::create;
-pub use earlier::Earlier;
+pub use earlier::{Earlier, bare};
 pub use openings::load;
 pub use parts::Parts;
 pub use saves::save;
-
-#[cfg(test)]
-mod tests;

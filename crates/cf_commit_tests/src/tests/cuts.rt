@@ -1,7 +1,8 @@
 //! Each call of the disk fails in turn, and each image that the power then leaves is opened again.
 
-use super::*;
+use crate::tests::{SIZE, create_at_7, found, opened_at, puts};
 use cf_base::Choice;
+use cf_commit::{create, load};
 use cf_disk::{Disk, MemDisk, TraceDisk};
 use cf_journal::Journal;
 use std::alloc::Global;

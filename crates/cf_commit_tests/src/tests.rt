@@ -7,8 +7,8 @@ ghost use Rattle.cf_table.specs.Spelling.{HasRoom};
 
 mod cuts;
 
-use super::*;
 use cf_base::{AuxRecord, Blob, Choice, Code, Fail as Refusal, ItemId, Memory, Usn};
+use cf_commit::{Earlier, Parts, create, load, save};
 use cf_disk::{Disk, MemDisk};
 use cf_image::{AuxRecords, Contents, read_contents};
 use cf_journal::Journal;
