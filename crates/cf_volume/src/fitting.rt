@@ -1,12 +1,11 @@
 //! Whether a change fits the row of its item.
 
 ghost use Rattle.std.specs.Prelude.{◌≡◌, ◌≤◌, ◌+◌, ◌^◌, ◌↔◌, IsTrue, length};
-ghost use Rattle.cf_model.specs.Numbers.{above, same_usn};
 ghost use Rattle.cf_table.specs.Applied.{FitsRow, IsSpellable};
 ghost use Rattle.cf_table.specs.Means.{IsLater, is_rebase_point};
 
 use cf_base::{Change, Usn};
-use cf_table::{NO_USN, Row};
+use cf_table::{NO_USN, Row, is_above, same_usn};
 
 /// The most bytes of a file.
 pub const MOST_SIZE: u64 = 16_777_216;
@@ -19,12 +18,6 @@ pub const MOST_IDENTITY: usize = 65_535;
 
 /// What spans end at, or below.
 const MOST_END: u64 = 1_099_511_627_776;
-
-fn same_usn(a: Usn, b: Usn) -> bool
-    ensures { result ≡ same_usn a b }
-{
-    a.epoch == b.epoch && a.place == b.place
-}
 
 fn is_rebase_point(at: Usn, row: &Row) -> bool
     ensures { result ≡ is_rebase_point at row.now }
@@ -74,12 +67,6 @@ pub fn fits_row(change: &Change, row: &Row) -> bool
         | Change::Populated { .. }
         | Change::Keep { .. } => true,
     }
-}
-
-fn is_above(number: Usn, other: Usn) -> bool
-    ensures { result ≡ above number other }
-{
-    number.epoch > other.epoch || (number.epoch == other.epoch && number.place > other.place)
 }
 
 /// Whether a number comes after the number and the anchor of a row.

@@ -5,7 +5,8 @@ ghost use Rattle.cf_image.specs.Contents.{record_at};
 ghost use Rattle.cf_image.specs.RecordLists.{IsShort};
 ghost use Rattle.cf_volume.specs.Notes.{NotesKey};
 
-use cf_base::{AuxRecord, Blob, Memory};
+use cf_base::{AuxRecord, Memory};
+use cf_commit::bare;
 use cf_image::AuxRecords;
 use std::alloc::Global;
 
@@ -33,16 +34,6 @@ fn copy_record(records: &AuxRecords, record: &AuxRecord) -> Result<AuxRecord, Me
 {
     let _ = records.as_slice();
     copied(record)
-}
-
-/// A key without a value.
-pub(crate) fn bare(alloc: Global, key: &[u8]) -> Result<AuxRecord, Memory>
-    ensures { IfOk result (λ r. (r.key ≡ key.now) × (length r.value ≡ 0)) }
-{
-    Ok(AuxRecord {
-        key: Blob::from_slice(alloc, key)?,
-        value: Blob::from_slice(alloc, &[])?,
-    })
 }
 
 /// Notes the record with a key as it is, or that there is none, unless it has changed since the last point already.

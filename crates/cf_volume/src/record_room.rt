@@ -17,9 +17,10 @@ ghost use Rattle.cf_volume.specs.RoomLeft.{HasBeside};
 use crate::aux_puts::len_at;
 use crate::departures::seen_key;
 use crate::drafts::{Draft, Sizes, sum};
-use crate::record_notes::{bare, copied};
+use crate::record_notes::copied;
 use crate::tallies::is_long;
 use cf_base::{AuxRecord, ItemId, Memory};
+use cf_commit::bare;
 use cf_image::{AuxRecords, Contents};
 use std::alloc::Global;
 
