@@ -9,6 +9,7 @@ use Rattle.cf_base.specs.declared.answers.Anchor.{Anchor}
 use Rattle.cf_base.specs.declared.answers.AuxRecord.{AuxRecord}
 use Rattle.cf_base.specs.declared.ids.ItemId.{ItemId}
 use Rattle.cf_base.specs.declared.memory.Memory.{Memory}
+use Rattle.cf_commit.proofs.MergedKeys.{at_with, at_without}
 use Rattle.cf_image.proofs.Keys.{else_before}
 use Rattle.cf_image.specs.Contents.{record_at}
 use Rattle.cf_image.specs.RecordLists.{IsShort}
@@ -26,7 +27,6 @@ use Rattle.cf_points.specs.Known.{or_now}
 use Rattle.cf_table.proofs.NamedEntries.{same_itself}
 use Rattle.cf_volume.proofs.DraftFlags.{drafts_even, less_same, table_exact}
 use Rattle.cf_volume.proofs.DraftGone.{records_rise}
-use Rattle.cf_volume.proofs.NotedKeys.{at_with, at_without}
 use Rattle.cf_volume.proofs.RecordRoom.{rows_same, with_len}
 use Rattle.cf_volume.specs.AuxPuts.{len_if}
 use Rattle.cf_volume.specs.Besides.{AreTaken, Besides}

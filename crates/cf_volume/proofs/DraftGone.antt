@@ -10,6 +10,7 @@ use Rattle.cf_base.specs.declared.changes.Change.{Change}
 use Rattle.cf_base.specs.declared.changes.Change.TheVariants as change
 use Rattle.cf_base.specs.declared.ids.ItemId.{ItemId}
 use Rattle.cf_base.specs.declared.ids.Usn.{Usn}
+use Rattle.cf_commit.proofs.MergedKeys.{at_without}
 use Rattle.cf_commit.proofs.NamedKeys.{filter_records}
 use Rattle.cf_image.specs.Contents.{record_at}
 use Rattle.cf_image.specs.Spelled.{AreRecordsFrom}
@@ -33,7 +34,6 @@ use Rattle.cf_table.specs.declared.rows.Row.{Row}
 use Rattle.cf_volume.proofs.DraftItems.{item_id, item_without, length_sum, order_without, sum_none, sum_out}
 use Rattle.cf_volume.proofs.DraftRows.{all_on, drawn_below, drawn_blocks, drawn_len, row_taken}
 use Rattle.cf_volume.proofs.GoneFits.{row_left}
-use Rattle.cf_volume.proofs.NotedKeys.{at_without}
 use Rattle.cf_volume.proofs.RecordRoom.{without_len}
 use Rattle.cf_volume.proofs.SeenGone.{key_same, seen_gone}
 use Rattle.cf_volume.specs.AuxPuts.{len_if}

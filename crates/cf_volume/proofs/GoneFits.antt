@@ -8,6 +8,7 @@ use Rattle.cf_base.specs.declared.answers.AuxRecord.{AuxRecord}
 use Rattle.cf_base.specs.declared.changes.Change.TheVariants as change
 use Rattle.cf_base.specs.declared.ids.ItemId.{ItemId}
 use Rattle.cf_base.specs.declared.ids.Usn.{Usn}
+use Rattle.cf_commit.proofs.MergedKeys.{at_without}
 use Rattle.cf_data.specs.declared.uses.Use.{Use}
 use Rattle.cf_disk.specs.Disk.{State}
 use Rattle.cf_image.specs.Contents.{record_at}
@@ -37,7 +38,6 @@ use Rattle.cf_table.specs.Tables.{RisesFrom, Table, row_of, without_row}
 use Rattle.cf_table.specs.declared.rows.Row.{Row}
 use Rattle.cf_table.proofs.NextChange.{next_goes_on}
 use Rattle.cf_volume.proofs.Judged.{numbers_left, refusal_is}
-use Rattle.cf_volume.proofs.NotedKeys.{at_without}
 use Rattle.cf_volume.proofs.Puts.{known_without, later_next}
 use Rattle.cf_volume.proofs.SeenGone.{seen_gone}
 use Rattle.cf_volume.specs.Keys.{seen_key}

@@ -5,30 +5,15 @@ use Rattle.std.specs.Option.{is_some}
 use Rattle.std.proofs.lemmas.Bool.{cond-true, true≢false}
 use Rattle.std.proofs.lemmas.Option.{none-some, same_Some}
 use Rattle.cf_base.specs.declared.answers.AuxRecord.{AuxRecord}
-use Rattle.cf_image.proofs.Keys.{same_back}
+use Rattle.cf_commit.proofs.MergedKeys.{at_with}
 use Rattle.cf_image.specs.Contents.{record_at}
 use Rattle.cf_image.specs.RecordLists.{IsShort}
 use Rattle.cf_image.specs.Spelled.{AreRecordsFrom}
-use Rattle.cf_model.specs.Formats.{with_record, without_record}
-use Rattle.cf_model.specs.Words.{comes_before, same}
-use Rattle.cf_points.proofs.Found.{found_left, found_put}
+use Rattle.cf_model.specs.Formats.{with_record}
+use Rattle.cf_model.specs.Words.{same}
 use Rattle.cf_points.specs.Known.{or_now, record_then}
 use Rattle.cf_table.proofs.NamedEntries.{same_is, same_itself}
 use Rattle.cf_volume.specs.Notes.{NotesKey}
-
--- look-ups after a record was put or taken out
-
-pub at_without : (k key : List ℕ) (c : Bool) (xs : List AuxRecord) → same k key ≡ c → record_at (without_record k xs) key ≡ cond c None (record_at xs key)
-at_without k key c xs e = found_left (λ x. same x.key key) (λ x. same x.key k) c xs (λ x h. ap (λ (l : List ℕ). same l k) (same_is x.key key h) ∙ same_back key k ∙ e)
-
-pub at_with : (r : AuxRecord) (key : List ℕ) (c : Bool) (xs : List AuxRecord) → same r.key key ≡ c → record_at (with_record r xs) key ≡ cond c (Some r) (record_at xs key)
-at_with r key c xs e =
-    found_put (λ x. same x.key key) (λ x y. comes_before x.key y.key) r (without_record r.key xs) (λ h. at_without r.key key true xs h)
-    ∙ ap (λ (t : Bool). cond t (Some r) (record_at (without_record r.key xs) key)) e ∙ by c e
-  where
-    by : (t : Bool) → same r.key key ≡ t → cond t (Some r) (record_at (without_record r.key xs) key) ≡ cond t (Some r) (record_at xs key)
-    by true h = refl
-    by false h = at_without r.key key false xs h
 
 pub found_key : (xs : List AuxRecord) (key : List ℕ) (r : AuxRecord) → record_at xs key ≡ Some r → r.key ≡ key
 found_key [] key r e = absurd (none-some r e)

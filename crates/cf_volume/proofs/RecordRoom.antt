@@ -8,6 +8,7 @@ use Rattle.cf_base.specs.declared.answers.Anchor.{Anchor}
 use Rattle.cf_base.specs.declared.answers.AuxRecord.{AuxRecord}
 use Rattle.cf_base.specs.declared.ids.ItemId.{ItemId}
 use Rattle.cf_base.specs.declared.ids.Usn.{Usn}
+use Rattle.cf_commit.proofs.MergedKeys.{at_with, at_without}
 use Rattle.cf_disk.specs.Disk.{State}
 use Rattle.cf_image.proofs.Keys.{after_not_same}
 use Rattle.cf_image.proofs.RecordPlaces.{none_after}
@@ -31,7 +32,6 @@ use Rattle.cf_points.specs.Standing.{cluster_on}
 use Rattle.cf_table.proofs.NamedEntries.{same_is}
 use Rattle.cf_table.specs.Tables.{AreTableRows}
 use Rattle.cf_volume.proofs.GoneFits.{key_known, lighter_left}
-use Rattle.cf_volume.proofs.NotedKeys.{at_with, at_without}
 use Rattle.cf_volume.specs.AuxPuts.{len_if}
 use Rattle.cf_volume.specs.Calls.{HasRecords}
 use Rattle.cf_volume.specs.Notes.{KnowKeys, NotesKey}
