@@ -130,3 +130,34 @@ fn a_full_table_takes_no_bytes(rt: HostRuntime) -> Result<(), Fail> {
     assert_eq!(rt; wrong_step(rt.alloc(), disk, &steps)?, None);
     Ok(())
 }
+
+// The file and its records have to find room together: 4 bytes a record beside its value, and the last of each key counts.
+#[test]
+fn records_find_room_beside_a_change(rt: HostRuntime) -> Result<(), Fail> {
+    let steps = [
+        Step::Fill(LAST - 75),
+        Step::Room(MAKE, ALL),
+        Step::RoomWith(MAKE, &[], ALL),
+        Step::RoomWith(MAKE, &[(201, 0, 0)], NO_TABLE),
+        Step::RoomWith(MAKE, &[(200, LAST - 75, 1)], ALL),
+        Step::RoomWith(MAKE, &[(201, 0, 0), (200, LAST - 79, 0)], ALL),
+        Step::RoomWith(MAKE, &[(201, 1, 0), (200, LAST - 79, 0)], NO_TABLE),
+        Step::RoomWith(
+            MAKE,
+            &[(201, 100, 0), (200, LAST - 79, 0), (201, 0, 0)],
+            ALL,
+        ),
+        Step::Do(MAKE),
+        Step::NotPutAll(&[(200, 0, 0), (201, LAST - 78, 0)]),
+        Step::NoRecord(201),
+        Step::PutAll(&[(201, LAST - 79, 7), (200, 0, 0)]),
+        Step::Next(19, 200, 0, 0),
+        Step::Next(200, 201, LAST - 79, 7),
+        Step::Commit(1),
+        Step::Cut(Choice::Drop),
+        Step::Next(200, 201, LAST - 79, 7),
+    ];
+    let disk = MemDisk::new(rt.alloc(), TWO)?;
+    assert_eq!(rt; wrong_step(rt.alloc(), disk, &steps)?, None);
+    Ok(())
+}

@@ -1,7 +1,9 @@
 //! Tests as lists of what is done with a volume, and of what it then tells.
 
 use crate::tests::edits::{Edit, change_of};
-use crate::tests::steps::{commit, edit, format, has_bytes, note, put, reopened, take_out};
+use crate::tests::steps::{
+    Told, commit, edit, format, has_bytes, note, put, put_all, reopened, room_with, take_out,
+};
 use cf_base::{AuxRecord, Choice, Code, Fail, ItemId, Usn};
 use cf_disk::Disk;
 use cf_table::Row;
@@ -45,6 +47,12 @@ pub(super) enum Step {
     Numbers(Numbers),
     /// What is said of room for the change.
     Room(Edit, Room),
+    /// The same with records beside it.
+    RoomWith(Edit, &'static [Told], Room),
+    /// The records are put, all at once.
+    PutAll(&'static [Told]),
+    /// None of them is put.
+    NotPutAll(&'static [Told]),
 }
 
 /// What is said of an item.
@@ -161,6 +169,13 @@ fn does<D: Disk>(alloc: Global, volume: &mut Volume<D>, step: Step) -> Result<bo
             return has_bytes(volume, ItemId(item), at, len, byte);
         }
         Step::Room(change, want) => return has_room(alloc, volume, change, want),
+        Step::RoomWith(change, list, want) => {
+            return Ok(room_with(alloc, volume, change, list)? == want);
+        }
+        Step::PutAll(list) => put_all(alloc, volume, list)?,
+        Step::NotPutAll(list) => {
+            return Ok(put_all(alloc, volume, list) == Err(Fail::No(Code::TableFull)));
+        }
         _ => return Ok(false),
     }
     Ok(true)

@@ -4,12 +4,15 @@ ghost use Rattle.std.specs.Prelude.{◌≡◌, ◌≤◌, ◌+◌, ◌^◌, Some
 ghost use Rattle.cf_volume.specs.Calls.{IsHere};
 
 use crate::tests::edits::{Edit, change_of, fits};
-use cf_base::{Choice, Code, Fail, ItemId, Memory, Span, Usn};
+use cf_base::{AuxRecord, Blob, Choice, Code, Fail, ItemId, Memory, Span, Usn};
 use cf_disk::Disk;
 use cf_journal::Journal;
 use cf_table::Row;
-use cf_volume::Volume;
+use cf_volume::{Room, Volume, are_short};
 use std::alloc::Global;
+
+/// A record: the byte that is its key, how long its value is, and the byte in that.
+pub(super) type Told = (u8, u16, u8);
 
 pub(super) fn format<D: Disk + Drop>(alloc: Global, disk: D) -> Result<Volume<D>, Fail> {
     if !Journal::is_fit_size(disk.size()) {
@@ -85,6 +88,45 @@ pub(super) fn put<D: Disk>(
 ) -> Result<(), Fail> {
     let value = vec![in alloc; byte; len as usize]?;
     volume.aux_put(&[key], Some(&value))
+}
+
+fn records_of(alloc: Global, list: &[Told]) -> Result<Vec<AuxRecord>, Memory> {
+    let mut records = Vec::new(alloc);
+    for (key, len, byte) in list {
+        records.push(AuxRecord {
+            key: Blob::from_slice(alloc, &[*key])?,
+            value: Blob::from_vec(vec![in alloc; *byte; *len as usize]?),
+        })?;
+    }
+    Ok(records)
+}
+
+/// Puts such records, all at once.
+pub(super) fn put_all<D: Disk>(
+    alloc: Global,
+    volume: &mut Volume<D>,
+    list: &[Told],
+) -> Result<(), Fail> {
+    let records = records_of(alloc, list)?;
+    if !are_short(&records) {
+        return Err(Fail::Memory);
+    }
+    volume.aux_put_all(&records)
+}
+
+/// What is said of room for the change with such records beside it.
+pub(super) fn room_with<D: Disk>(
+    alloc: Global,
+    volume: &Volume<D>,
+    edit: Edit,
+    list: &[Told],
+) -> Result<Room, Fail> {
+    let change = change_of(alloc, edit, volume.rows().next())?;
+    let records = records_of(alloc, list)?;
+    if !are_short(&records) {
+        return Err(Fail::Memory);
+    }
+    Ok(volume.room_with_records(&[change], &records)?)
 }
 
 pub(super) fn take_out<D: Disk>(volume: &mut Volume<D>, key: u8) -> Result<(), Fail> {
