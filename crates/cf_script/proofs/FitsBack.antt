@@ -55,6 +55,7 @@ use Rattle.cf_script.specs.declared.commands.PathCommand.{PathCommand}
 use Rattle.cf_script.specs.declared.commands.NumberCommand.{NumberCommand}
 use Rattle.cf_script.specs.declared.commands.PeerCommand.{PeerCommand}
 use Rattle.cf_script.specs.Forms.{Follows, AreWords, IsBareLine, IsPathLine, IsNumberLine, IsClose, IsCancel, IsTick, IsReadLine, IsGet, IsWrite, IsSize, IsRename, IsPinLine, IsDehydrate, IsRanges, IsPolicyLine, IsKeep, IsCrash, IsLink, IsPeerEvent, IsPeer, IsPlace, IsPlaceDir, IsConvert, IsUpdate, IsMark, IsEntryName, IsEntryRest, AreFields, IsEntry, AreEntries, IsOperation, IsDo, IsKeyOf, IsPlanKey, IsPlan, escape_name_byte, escaped_name, fields_of, kept}
+use Rattle.cf_script.specs.Built.{is_built}
 use Rattle.cf_script.specs.Script.{is_plain, words_of, Spells}
 use Rattle.cf_script.specs.Fits.{is_of, ItemFits, ItemsFit, EventFits, KeyFits, PathFits, RangeFits, SizeFits, CallFits, ChoiceFits, DeviceFits, PeerFits, EngineFits, OperationFits, PlanKeyFits, ProviderFits, CanSpell, CanSpellAll}
 use Rattle.cf_script.specs.Printed.{key_text, key_of, in_sync_words, range_words, size_words, call_words, choice_words, device_words, peer_words, engine_words, entry_words, operation_words, plan_key_text, provider_words, event_words, line_of, printed}
@@ -271,3 +272,14 @@ words_fit m (w ∷ ws) e all x = line_fits m x.0 ws e x.2 all.1 x.3
 
 pub spelled_fits : (m : Mode) (line : List ℕ) (e : Event) → Spells m line e → CanSpell m e
 spelled_fits m line e h = words_fit m (words_of line) e (parts_plain (λ b. b == 32) line h.plain) h.words
+
+of_filter : (e : Event) → IsTrue (is_of mode.Filter e) → is_built mode.Filter e ≡ true
+of_filter (event.Call e) h = refl
+of_filter (event.Device e) h = refl
+of_filter (event.Peer e) h = let z : false ≡ true = h in absurd cc
+of_filter (event.Engine e) h = let z : false ≡ true = h in absurd cc
+of_filter (event.Provider e) h = refl
+
+-- each event of a script in `filter` is built
+pub filter_built : (line : List ℕ) (e : Event) → Spells mode.Filter line e → is_built mode.Filter e ≡ true
+filter_built line e h = of_filter e (spelled_fits mode.Filter line e h).0

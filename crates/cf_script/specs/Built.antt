@@ -21,6 +21,12 @@ is_built_in_replay (Engine engine.Sync) = true
 is_built_in_replay (Call (call.Get path offset len)) = is_one_name path
 is_built_in_replay event = false
 
+-- all that the mode has
+abbrev pub is_built_in_filter : Event → Bool
+is_built_in_filter (Peer e) = false
+is_built_in_filter (Engine e) = false
+is_built_in_filter event = true
+
 abbrev pub is_built : Mode → Event → Bool
 is_built Replay event = is_built_in_replay event
-is_built Filter event = false
+is_built Filter event = is_built_in_filter event

@@ -2,7 +2,7 @@
 
 ghost use Rattle.std.specs.Prelude.{◌≡◌, ◌==◌, not};
 ghost use Rattle.std.specs.List.{list_all};
-ghost use Rattle.cf_script.specs.Built.{is_one_name, is_built_in_replay, is_built};
+ghost use Rattle.cf_script.specs.Built.{is_one_name, is_built_in_replay, is_built_in_filter, is_built};
 
 use cf_base::{Call, EngineEvent, Event, Mode, PeerEvent};
 
@@ -33,12 +33,21 @@ fn is_built_in_replay(event: &Event) -> bool
     }
 }
 
+fn is_built_in_filter(event: &Event) -> bool
+    ensures { result ≡ is_built_in_filter event.now }
+{
+    match event {
+        Event::Peer(_) | Event::Engine(_) => false,
+        _ => true,
+    }
+}
+
 /// Whether the program can do the event.
 pub fn is_built(mode: Mode, event: &Event) -> bool
     ensures { result ≡ is_built mode event.now }
 {
     match mode {
         Mode::Replay => is_built_in_replay(event),
-        Mode::Filter => false,
+        Mode::Filter => is_built_in_filter(event),
     }
 }

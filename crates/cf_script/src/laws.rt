@@ -1,8 +1,10 @@
 //! Laws of the script language.
 
-ghost use Rattle.std.specs.Prelude.{◌≡◌, ◌≤◌, ℕ, List, length};
+ghost use Rattle.std.specs.Prelude.{◌≡◌, ◌≤◌, ℕ, true, List, length};
 ghost use Rattle.cf_base.specs.declared.events.Event.{Event};
 ghost use Rattle.cf_base.specs.declared.policies.Mode.{Mode};
+ghost use Rattle.cf_base.specs.declared.policies.Mode.TheVariants.{Filter};
+ghost use Rattle.cf_script.specs.Built.{is_built};
 ghost use Rattle.cf_script.specs.Fits.{CanSpell, CanSpellAll};
 ghost use Rattle.cf_script.specs.Printed.{printed};
 ghost use Rattle.cf_script.specs.Script.{Spells, IsScript};
@@ -29,4 +31,10 @@ pub fn reads_back()
 #[tactic(auto, using(crate::proofs::FitsBack::spelled_fits))]
 pub fn can_spell()
     ensures { (mode : Mode) (line : List ℕ) (event : Event) → Spells mode line event → CanSpell mode event }
+{}
+
+/// Of a script in `filter` each event is built.
+#[tactic(auto, using(crate::proofs::FitsBack::filter_built))]
+pub fn all_is_built_in_filter()
+    ensures { (line : List ℕ) (event : Event) → Spells Filter line event → is_built Filter event ≡ true }
 {}

@@ -25,7 +25,7 @@ mod short_lines;
 mod texts;
 
 pub use fails::ScriptFail;
-pub use laws::{can_spell, one_event, one_reading, reads_back};
+pub use laws::{all_is_built_in_filter, can_spell, one_event, one_reading, reads_back};
 pub use prints::print;
 pub use scripts::read;
 

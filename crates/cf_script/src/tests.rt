@@ -318,10 +318,7 @@ fn lines_are_counted(rt: HostRuntime) -> Result<(), Fail> {
         failed(alloc, b"get / 0 1", mode)?,
         Some(ScriptFail::NotBuilt(1))
     );
-    assert_eq!(rt;
-        failed(alloc, b"flush", Mode::Filter)?,
-        Some(ScriptFail::NotBuilt(1))
-    );
+    assert_eq!(rt; failed(alloc, b"flush", Mode::Filter)?, None);
     assert_eq!(rt;
         failed(alloc, b"sync", Mode::Filter)?,
         Some(ScriptFail::Syntax(1))

@@ -1,0 +1,15 @@
+//! The words after the program's name, read with `clap`.
+//!
+//! `specs/Accounts.antt` has the command line as `clap` sees it: one required subcommand, no help and no version. What
+//! such a command line takes is `clap`'s own account; its `fault_of` computes.
+#![tactic(auto)]
+
+mod accounts;
+mod commands;
+mod laws;
+
+pub use commands::{Command, WordsFail, command_of};
+pub use laws::{one_word_is_taken, without_a_command};
+
+#[cfg(test)]
+mod tests;
