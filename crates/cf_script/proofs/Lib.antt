@@ -5,6 +5,7 @@ pub mod PathMeans
 pub mod LineMeans
 pub mod WordLists
 pub mod CommandMeans
+pub mod FirstWords
 pub mod LinesRead
 pub mod KeyOnce
 pub mod EventOnce

@@ -81,6 +81,37 @@ command_name command.Mark = codes "mark"
 command_name command.Do = codes "do"
 command_name command.Plan = codes "plan"
 
+-- a word of an application with a form of its own after it
+abbrev pub is_of_application : Command → Bool
+is_of_application command.Close = true
+is_of_application command.Cancel = true
+is_of_application command.Tick = true
+is_of_application command.Read = true
+is_of_application command.Get = true
+is_of_application command.Write = true
+is_of_application command.Size = true
+is_of_application command.Rename = true
+is_of_application command.Pin = true
+is_of_application command.Dehydrate = true
+is_of_application command.Ranges = true
+is_of_application command.Policy = true
+is_of_application command.Keep = true
+is_of_application c = false
+
+-- a word of the device, of another device or of a provider with a form of its own after it
+abbrev pub is_of_others : Command → Bool
+is_of_others command.Crash = true
+is_of_others command.Peer = true
+is_of_others command.Link = true
+is_of_others command.Place = true
+is_of_others command.PlaceDir = true
+is_of_others command.Convert = true
+is_of_others command.Update = true
+is_of_others command.Mark = true
+is_of_others command.Do = true
+is_of_others command.Plan = true
+is_of_others c = false
+
 -- the word after `peer`
 abbrev pub peer_name : PeerCommand → List ℕ
 peer_name peer.Put = codes "put"

@@ -1,7 +1,7 @@
 //! The words that say what a line is.
 
 /// The first word of a line.
-#[derive(Clone, Copy, Debug)]
+#[derive(Clone, Copy)]
 pub enum Command {
     Bare(BareCommand),
     OnPath(PathCommand),
@@ -32,7 +32,7 @@ pub enum Command {
 }
 
 /// A word that stands alone.
-#[derive(Clone, Copy, Debug)]
+#[derive(Clone, Copy)]
 pub enum BareCommand {
     Flush,
     Df,
@@ -44,7 +44,7 @@ pub enum BareCommand {
 }
 
 /// A word with one path after it.
-#[derive(Clone, Copy, Debug)]
+#[derive(Clone, Copy)]
 pub enum PathCommand {
     Open,
     Create,
@@ -59,7 +59,7 @@ pub enum PathCommand {
 }
 
 /// A word with one number after it.
-#[derive(Clone, Copy, Debug)]
+#[derive(Clone, Copy)]
 pub enum NumberCommand {
     Stop,
     Deliver,
@@ -68,7 +68,7 @@ pub enum NumberCommand {
 }
 
 /// The word after `peer`.
-#[derive(Clone, Copy, Debug)]
+#[derive(Clone, Copy)]
 pub enum PeerCommand {
     Put,
     Mkdir,
@@ -79,7 +79,7 @@ pub enum PeerCommand {
 }
 
 /// The word after `do` or `plan`.
-#[derive(Clone, Copy, Debug)]
+#[derive(Clone, Copy)]
 pub enum OperationCommand {
     Transfer,
     Fail,

@@ -7,6 +7,7 @@ mod commands;
 mod data;
 mod entries;
 mod fails;
+mod first_words;
 mod laws;
 mod lines;
 mod names;
@@ -26,8 +27,6 @@ mod texts;
 
 pub use fails::ScriptFail;
 pub use laws::{all_is_built_in_filter, can_spell, one_event, one_reading, reads_back};
+pub use lines::event_of_line;
 pub use prints::print;
 pub use scripts::read;
-
-#[cfg(test)]
-mod tests;

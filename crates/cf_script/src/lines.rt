@@ -10,7 +10,7 @@ use crate::calls::{
     cancel, close, dehydrate, get, keep, pin_line, policy, ranges, read, rename, size, tick, write,
 };
 use crate::commands::{BareCommand, Command, NumberCommand, PathCommand};
-use crate::names::command;
+use crate::first_words::command;
 use crate::operations::{do_line, plan};
 use crate::peers::{link, peer};
 use crate::providers::{convert, mark, place, place_dir, update};
@@ -121,7 +121,9 @@ fn is_plain(line: &[u8]) -> bool
     line.iter().all(|b| *b >= 32 && *b != 127)
 }
 
-/// The event that the line spells, or none.
+/// The event that a line, without its end, spells in the mode, or none where it spells none.
+///
+/// Fails only where memory does not suffice.
 pub fn event_of_line(alloc: Global, mode: Mode, line: &[u8]) -> Result<Option<Event>, Memory>
     ensures { IfOk result (Reads (Spells mode line.now)) }
 {

@@ -1,70 +1,12 @@
 //! The fixed words.
 
-ghost use Rattle.std.specs.Prelude.{◌≡◌, ◌≢◌, [], ◌∷◌, map, codes, MatchOption};
+ghost use Rattle.std.specs.Prelude.{◌≡◌, [], ◌∷◌, map, codes};
 ghost use Rattle.cf_base.specs.declared.policies.Policy.{Policy};
 ghost use Rattle.cf_script.specs.Words.{Reads};
-ghost use Rattle.cf_script.specs.Names.{command_name, peer_name, operation_name, pin_name, reach_words, class_name, hydration_name, population_name, yes_name, good_name, link_name, kept_name, entry_kind, flag_words, modifier_words};
-ghost use Rattle.cf_script.specs.declared.commands.Command.{Command};
-ghost use Rattle.cf_script.specs.declared.commands.PeerCommand.{PeerCommand};
-ghost use Rattle.cf_script.specs.declared.commands.OperationCommand.{OperationCommand};
+ghost use Rattle.cf_script.specs.Names.{peer_name, operation_name, pin_name, reach_words, class_name, hydration_name, population_name, yes_name, good_name, link_name, kept_name, entry_kind, flag_words, modifier_words};
 
-use crate::commands::{
-    BareCommand, Command, NumberCommand, OperationCommand, PathCommand, PeerCommand,
-};
+use crate::commands::{OperationCommand, PeerCommand};
 use cf_base::{Class, Hydration, Pin, Population, Reach};
-
-/// The first word of a line.
-pub fn command(word: &str) -> Option<Command>
-    ensures { MatchOption result ((c : Command) → word.now ≢ command_name c) (λ c. word.now ≡ command_name c) }
-{
-    match word {
-        "flush" => Some(Command::Bare(BareCommand::Flush)),
-        "df" => Some(Command::Bare(BareCommand::Df)),
-        "connect" => Some(Command::Bare(BareCommand::Connect)),
-        "disconnect" => Some(Command::Bare(BareCommand::Disconnect)),
-        "restart" => Some(Command::Bare(BareCommand::Restart)),
-        "work" => Some(Command::Bare(BareCommand::Work)),
-        "sync" => Some(Command::Bare(BareCommand::Sync)),
-        "open" => Some(Command::OnPath(PathCommand::Open)),
-        "create" => Some(Command::OnPath(PathCommand::Create)),
-        "mkdir" => Some(Command::OnPath(PathCommand::Mkdir)),
-        "delete" => Some(Command::OnPath(PathCommand::Delete)),
-        "list" => Some(Command::OnPath(PathCommand::List)),
-        "hydrate" => Some(Command::OnPath(PathCommand::Hydrate)),
-        "info" => Some(Command::OnPath(PathCommand::Info)),
-        "used" => Some(Command::OnPath(PathCommand::Used)),
-        "revert" => Some(Command::OnPath(PathCommand::Revert)),
-        "unmark" => Some(Command::OnPath(PathCommand::Unmark)),
-        "stop" => Some(Command::OnNumber(NumberCommand::Stop)),
-        "deliver" => Some(Command::OnNumber(NumberCommand::Deliver)),
-        "arrive" => Some(Command::OnNumber(NumberCommand::Arrive)),
-        "space" => Some(Command::OnNumber(NumberCommand::Space)),
-        "close" => Some(Command::Close),
-        "cancel" => Some(Command::Cancel),
-        "tick" => Some(Command::Tick),
-        "read" => Some(Command::Read),
-        "get" => Some(Command::Get),
-        "write" => Some(Command::Write),
-        "size" => Some(Command::Size),
-        "rename" => Some(Command::Rename),
-        "pin" => Some(Command::Pin),
-        "dehydrate" => Some(Command::Dehydrate),
-        "ranges" => Some(Command::Ranges),
-        "policy" => Some(Command::Policy),
-        "keep" => Some(Command::Keep),
-        "crash" => Some(Command::Crash),
-        "peer" => Some(Command::Peer),
-        "link" => Some(Command::Link),
-        "place" => Some(Command::Place),
-        "placedir" => Some(Command::PlaceDir),
-        "convert" => Some(Command::Convert),
-        "update" => Some(Command::Update),
-        "mark" => Some(Command::Mark),
-        "do" => Some(Command::Do),
-        "plan" => Some(Command::Plan),
-        _ => None,
-    }
-}
 
 /// The word after `peer`.
 pub fn peer_command(word: &str) -> Option<PeerCommand>

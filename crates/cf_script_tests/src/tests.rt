@@ -1,8 +1,7 @@
 //! What the language takes, refuses and writes.
 
-use crate::lines::event_of_line;
-use crate::{ScriptFail, print, read};
-use cf_base::{Blob, Event, Memory, Mode, Sequence};
+use cf_base::{Blob, Memory, Mode, Sequence};
+use cf_script::{ScriptFail, event_of_line, print, read};
 use std::alloc::Global;
 use std::process::Abort;
 use std::test::Fail;
