@@ -8,6 +8,7 @@ use Rattle.cf_base.specs.declared.codes.Fail.{Fail}
 use Rattle.cf_base.specs.declared.codes.Fail.TheVariants.{Memory}
 use Rattle.cf_base.specs.declared.ids.ItemId.{ItemId}
 use Rattle.cf_disk.specs.Disk.{State}
+use Rattle.cf_machine.proofs.RisingBooks.{accesses_with}
 use Rattle.cf_machine.specs.Held.{Desk, Held, desk_of}
 use Rattle.cf_machine.specs.Keeping.{HasKeptPoints, IsKeptVolume}
 use Rattle.cf_machine.specs.Lasting.{Grows, Lasts, Moved}
@@ -102,7 +103,14 @@ touched_book id v file h = record {
   };
   items = h.items;
   given = h.given;
-  book = record { anchors = h.book.anchors; accesses = λ key i e d. access_put id key v.book ∙ by key i e d (eqb id.0 key.0) refl; seen = h.book.seen; graves = h.book.graves };
+  book = record {
+    anchors = h.book.anchors;
+    accesses = λ key i e d. access_put id key v.book ∙ by key i e d (eqb id.0 key.0) refl;
+    seen = h.book.seen;
+    graves = h.book.graves;
+    anchors_rise = h.book.anchors_rise;
+    accesses_rise = accesses_with id v.book.clock v.book.accesses h.book.accesses_rise;
+  };
 }
   where
     by : (key : ItemId) (i : Item) → item_of v.items key ≡ Some i → i.directory ≡ true → (t : Bool) → eqb id.0 key.0 ≡ t → cond t v.book.clock (access_of v.book key) ≡ 0
@@ -131,7 +139,7 @@ passed_book n v h = record {
   };
   items = h.items;
   given = h.given;
-  book = record { anchors = h.book.anchors; accesses = h.book.accesses; seen = h.book.seen; graves = h.book.graves };
+  book = record { anchors = h.book.anchors; accesses = h.book.accesses; seen = h.book.seen; graves = h.book.graves; anchors_rise = h.book.anchors_rise; accesses_rise = h.book.accesses_rise };
 }
 
 pub passed_good : (n : ℕ) (s : Filter) → IsGood s → IsKeptVolume s.volume → IsRebooked s (with_time n s)

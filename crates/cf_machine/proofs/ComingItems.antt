@@ -64,6 +64,8 @@ kept_by_one v new next more low number tree open_then sound whole fits book h = 
     accesses = accesses;
     seen = h.book.seen;
     graves = graves_stay v h;
+    anchors_rise = h.book.anchors_rise;
+    accesses_rise = h.book.accesses_rise;
   };
 }
   where

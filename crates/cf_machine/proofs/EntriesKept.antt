@@ -18,6 +18,7 @@ use Rattle.cf_machine.proofs.ItemsKept.{IsWhole, populated_whole}
 use Rattle.cf_machine.proofs.OpenTrees.{open_changed}
 use Rattle.cf_machine.proofs.PlacesKept.{all_kept, all_later, all_pins, all_small, all_whole, new_number}
 use Rattle.cf_machine.proofs.PointSteps.{same_parts}
+use Rattle.cf_machine.proofs.RisingBooks.{AccessesRise, AnchorsRise}
 use Rattle.cf_machine.specs.Entering.{AreReadyEntries, EndsBy, ahead}
 use Rattle.cf_machine.specs.Keeping.{IsKeptVolume}
 use Rattle.cf_model.specs.Books.{Book, access_of, anchor_of}
@@ -64,6 +65,8 @@ kept_early dir v directory h = record {
     accesses = λ id j e d. let a = changed_at dir populated v.items id j (λ i. refl) e in h.book.accesses id a.0 a.1 (same_side (eqb a.0.id.0 dir.0) a.0 (ap (λ (x : Item). x.directory) (sym a.2) ∙ d));
     seen = h.book.seen;
     graves = h.book.graves;
+    anchors_rise = h.book.anchors_rise;
+    accesses_rise = h.book.accesses_rise;
   };
 }
   where
@@ -240,5 +243,7 @@ rebooked v records b beside fits h = record {
     accesses = λ id i e d. ap (λ (l : List Access). access_of (record b { accesses = l }) id) beside.accesses ∙ h.book.accesses id i e d;
     seen = beside.seen h.book.seen;
     graves = beside.graves (next_number v) h.book.graves;
+    anchors_rise = subst AnchorsRise (sym beside.anchors) h.book.anchors_rise;
+    accesses_rise = subst AccessesRise (sym beside.accesses) h.book.accesses_rise;
   };
 }

@@ -2,6 +2,7 @@ pub mod Ahead
 pub mod AnswerSteps
 pub mod Beginnings
 pub mod BookSteps
+pub mod BooksTold
 pub mod Buried
 pub mod ChangeSteps
 pub mod ChangedItems
@@ -24,10 +25,12 @@ pub mod PointSteps
 pub mod ReadSteps
 pub mod RemoveSteps
 pub mod RemovedItems
+pub mod RisingBooks
 pub mod RoomReads
 pub mod RowReads
 pub mod Seen
 pub mod StillFiles
+pub mod TellsRows
 pub mod Tombstones
 pub mod WithinLimits
 pub mod WrittenHere

@@ -113,6 +113,8 @@ kept_in_place v key f next own more tree open_then sound whole fits h = record {
     accesses = accesses;
     seen = h.book.seen;
     graves = graves_stay v h;
+    anchors_rise = h.book.anchors_rise;
+    accesses_rise = h.book.accesses_rise;
   };
 }
   where

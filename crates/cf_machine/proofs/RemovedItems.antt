@@ -16,6 +16,7 @@ use Rattle.cf_base.specs.declared.waits.WaitKind.{WaitKind}
 use Rattle.cf_base.specs.declared.waits.WaitKind.TheVariants as wait_kind
 use Rattle.cf_machine.proofs.GoodSteps.{every_kept}
 use Rattle.cf_machine.proofs.PlacesKept.{all_later, every_weaker, new_number, still_above}
+use Rattle.cf_machine.proofs.RisingBooks.{AccessesRise, AnchorsRise, accesses_without, anchors_without}
 use Rattle.cf_machine.specs.Keeping.{IsKept, IsKeptVolume}
 use Rattle.cf_model.specs.Books.{Book, access_of, anchor_of, book_after}
 use Rattle.cf_model.specs.Changes.{next_number, put_change}
@@ -103,6 +104,8 @@ kept_without v id b other bare beside fits h = record {
     accesses = λ key i e d. ap (λ (l : List Access). part (λ a. a.clock) 0 (find (λ a. a.item.0 == key.0) l)) beside.accesses ∙ access_gone id key v.book (h.book.accesses key i (was_there v.items key id i e) d);
     seen = subst AreShortIds (sym beside.seen) (All-filter (λ (p : SeenPath). not (p.item.0 == id.0)) (λ (p : SeenPath). p.item.0 < 18446744073709551616) v.book.seen h.book.seen);
     graves = beside.graves;
+    anchors_rise = subst AnchorsRise (sym beside.anchors) (anchors_without id v.book.anchors h.book.anchors_rise);
+    accesses_rise = subst AccessesRise (sym beside.accesses) (accesses_without id v.book.accesses h.book.accesses_rise);
   };
 }
   where

@@ -7,3 +7,4 @@ pub mod Keeping
 pub mod Lasting
 pub mod Lasts
 pub mod Sensing
+pub mod Telling
