@@ -66,7 +66,7 @@ new_kept clusters fits = record {
   };
   items = (record { written = λ p lt h. absurd (omega (arith, lt)); identity = omega arith; top = λ h. refl; unlisted = λ h k. not_true _ (sym k) }, record {});
   given = (refl, record {});
-  book = record { anchors = λ id. refl; accesses = λ id i h k. refl; seen = All-nil _; graves = record {} };
+  book = record { anchors = λ id. refl; accesses = λ id i h k. refl; seen = All-nil _; graves = record {}; anchors_rise = record {}; accesses_rise = record {} };
 }
 
 -- a volume that is opened
@@ -76,7 +76,7 @@ with_clusters clusters v h = record {
   good = record { tree = h.good.tree; opened = h.good.opened; sound = h.good.sound; small = h.good.small; later = h.good.later; below = h.good.below; pins = h.good.pins; few = h.good.few; short = h.good.short };
   items = h.items;
   given = h.given;
-  book = record { anchors = h.book.anchors; accesses = h.book.accesses; seen = h.book.seen; graves = h.book.graves };
+  book = record { anchors = h.book.anchors; accesses = h.book.accesses; seen = h.book.seen; graves = h.book.graves; anchors_rise = h.book.anchors_rise; accesses_rise = h.book.accesses_rise };
 }
 
 module _ {D : Type 0} (state : D → State) (x : Held D) (d : D) (k : Known) (policy : Policy) (fair : Fair (state d)) (whole : k.broken ≡ false)
