@@ -116,11 +116,37 @@ pub(crate) fn stat<R: Remote>(
     does(alloc, remote, next, PeerEvent::Stat { path })
 }
 
+pub(crate) fn keep<R: Remote>(
+    alloc: Global,
+    remote: &mut R,
+    next: u32,
+    count: u32,
+) -> Result<(Answer, u32), Memory>
+    requires { next < 1000 }
+{
+    does(alloc, remote, next, PeerEvent::Keep { count })
+}
+
+fn put_file(alloc: Global, remote: &mut StoreRemote) -> Result<(), Memory> {
+    put(alloc, remote, 1, "/a", b"hello")?;
+    Ok(())
+}
+
+fn put_directory(alloc: Global, remote: &mut StoreRemote) -> Result<(), Memory> {
+    make_dir(alloc, remote, 2, "/d")?;
+    Ok(())
+}
+
+fn put_file_below(alloc: Global, remote: &mut StoreRemote) -> Result<(), Memory> {
+    put(alloc, remote, 3, "/d/f", b"a")?;
+    Ok(())
+}
+
 // A file `/a`, and a directory `/d` with a file `f`.
 pub(crate) fn stocked(alloc: Global) -> Result<StoreRemote, Memory> {
     let mut remote = StoreRemote::new(alloc)?;
-    put(alloc, &mut remote, 1, "/a", b"hello")?;
-    make_dir(alloc, &mut remote, 2, "/d")?;
-    put(alloc, &mut remote, 3, "/d/f", b"a")?;
+    put_file(alloc, &mut remote)?;
+    put_directory(alloc, &mut remote)?;
+    put_file_below(alloc, &mut remote)?;
     Ok(remote)
 }

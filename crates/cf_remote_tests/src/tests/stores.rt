@@ -74,45 +74,88 @@ fn tells(reply: &Reply, expected: &[u8]) -> bool {
     }
 }
 
-// Two versions of a file, of which the last is held.
-fn kept(alloc: Global) -> Result<StoreRemote, AskError> {
-    let mut remote = StoreRemote::new(alloc)?;
-    put(alloc, &mut remote, 1, 0, 0, b"aa")?;
-    put(alloc, &mut remote, 2, 2, 1, b"bb")?;
-    let keep = Request::Keep {
-        token: token(3),
-        count: 1,
-    };
-    remote.ask(&keep)?;
-    Ok(remote)
+fn makes_a_file(alloc: Global, remote: &mut StoreRemote) -> Result<bool, AskError> {
+    let reply = put(alloc, remote, 1, 0, 0, b"aa")?;
+    Ok(is_done(&reply, 2, 1))
+}
+
+fn makes_a_version(alloc: Global, remote: &mut StoreRemote) -> Result<bool, AskError> {
+    let reply = put(alloc, remote, 2, 2, 1, b"bb")?;
+    Ok(is_done(&reply, 2, 2))
+}
+
+fn makes_none_of_the_first(alloc: Global, remote: &mut StoreRemote) -> Result<bool, AskError> {
+    let reply = put(alloc, remote, 3, 2, 1, b"cc")?;
+    Ok(is_refused(&reply, Why::Conflict))
 }
 
 #[test]
 fn versions_are_made(rt: HostRuntime) -> Result<(), Fail> {
     let alloc = rt.alloc();
     let mut remote = StoreRemote::new(alloc)?;
-    assert!(rt; is_done(&put(alloc, &mut remote, 1, 0, 0, b"aa")?, 2, 1));
-    assert!(rt; is_done(&put(alloc, &mut remote, 2, 2, 1, b"bb")?, 2, 2));
-    assert!(rt; is_refused(&put(alloc, &mut remote, 3, 2, 1, b"cc")?, Why::Conflict));
+    assert!(rt; makes_a_file(alloc, &mut remote)?);
+    assert!(rt; makes_a_version(alloc, &mut remote)?);
+    assert!(rt; makes_none_of_the_first(alloc, &mut remote)?);
     Ok(())
+}
+
+fn keep_the_last(remote: &mut StoreRemote) -> Result<(), AskError> {
+    let keep = Request::Keep {
+        token: token(3),
+        count: 1,
+    };
+    remote.ask(&keep)?;
+    Ok(())
+}
+
+// Two versions of a file, of which the last is held.
+fn kept(alloc: Global) -> Result<StoreRemote, AskError> {
+    let mut remote = StoreRemote::new(alloc)?;
+    makes_a_file(alloc, &mut remote)?;
+    makes_a_version(alloc, &mut remote)?;
+    keep_the_last(&mut remote)?;
+    Ok(remote)
+}
+
+fn lost_the_first(remote: &mut StoreRemote) -> Result<bool, AskError> {
+    let reply = fetch(remote, 1)?;
+    Ok(matches!(reply, Reply::Gone { .. }))
+}
+
+fn holds_the_last<R: Remote>(remote: &mut R) -> Result<bool, AskError> {
+    let reply = fetch(remote, 2)?;
+    Ok(tells(&reply, b"bb"))
+}
+
+fn misses_the_next(remote: &mut StoreRemote) -> Result<bool, AskError> {
+    let reply = fetch(remote, 3)?;
+    Ok(matches!(reply, Reply::Missing { .. }))
 }
 
 #[test]
 fn the_last_version_is_held(rt: HostRuntime) -> Result<(), Fail> {
-    let alloc = rt.alloc();
-    let mut remote = kept(alloc)?;
-    assert!(rt; matches!(fetch(&mut remote, 1)?, Reply::Gone { .. }));
-    assert!(rt; tells(&fetch(&mut remote, 2)?, b"bb"));
-    assert!(rt; matches!(fetch(&mut remote, 3)?, Reply::Missing { .. }));
+    let mut remote = kept(rt.alloc())?;
+    assert!(rt; lost_the_first(&mut remote)?);
+    assert!(rt; holds_the_last(&mut remote)?);
+    assert!(rt; misses_the_next(&mut remote)?);
     Ok(())
+}
+
+// The second ask fails.
+fn flaky(alloc: Global) -> Result<FlakyRemote, AskError> {
+    let remote = kept(alloc)?;
+    Ok(FlakyRemote::new(alloc, remote, &[2])?)
+}
+
+fn fails(remote: &mut FlakyRemote) -> bool {
+    matches!(fetch(remote, 2), Err(AskError::Fault))
 }
 
 #[test]
 fn a_listed_call_fails(rt: HostRuntime) -> Result<(), Fail> {
-    let alloc = rt.alloc();
-    let mut remote = FlakyRemote::new(alloc, kept(alloc)?, &[2])?;
-    assert!(rt; tells(&fetch(&mut remote, 2)?, b"bb"));
-    assert!(rt; matches!(fetch(&mut remote, 2), Err(AskError::Fault)));
-    assert!(rt; tells(&fetch(&mut remote, 2)?, b"bb"));
+    let mut remote = flaky(rt.alloc())?;
+    assert!(rt; holds_the_last(&mut remote)?);
+    assert!(rt; fails(&mut remote));
+    assert!(rt; holds_the_last(&mut remote)?);
     Ok(())
 }

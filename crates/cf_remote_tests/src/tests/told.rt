@@ -1,6 +1,6 @@
 //! What an event is told, compared with what it should be.
 
-use cf_base::{Answer, Code, Shown};
+use cf_base::{Answer, Code, Reply, Shown};
 
 // The item and its version, and the next token then.
 pub(crate) fn tells(told: &(Answer, u32), rid: u64, version: u64, next: u32) -> bool {
@@ -18,4 +18,9 @@ pub(crate) fn refuses(told: &(Answer, u32), cause: Code, next: u32) -> bool {
         Shown::Refused(code) => *code == cause && told.1 == next,
         _ => false,
     }
+}
+
+// Whether the answer keeps a reply that has no item, as one that cannot be.
+pub(crate) fn strays(told: &(Answer, u32)) -> bool {
+    matches!(told.0.stray, Some(Reply::Missing { .. }))
 }
