@@ -1,105 +1,136 @@
 #!/usr/bin/env python3
-"""Times ./cloudfiles on large scripts, at half size and whole, and prints a table.
+"""Times a program on large scripts, at half size and whole, and prints a table.
 
-usage: bench/bench.py [--keep FOLDER] [OTHER]
+A time is the processor seconds that the program spent in user mode, the least of some runs, with output to a file; so
+what else the machine does counts little. Another program with the same command line may stand beside: then the ratio of
+the two on the whole is printed, and the first line in which their reports differ.
 
-OTHER is another program with the same command line, whose times stand beside. Each time is the least of three runs,
-in seconds, with output to a file. The scripts are made anew in a folder for the time of the run, or in FOLDER.
+`--commits` times a write and a flush on volumes of 10, 1,000 and 9,000 files instead: a script with 1,000 rounds of
+both, less the same script without them.
 """
 import argparse
+import os
 import pathlib
 import subprocess
 import sys
 import tempfile
-import time
+
+import scripts
 
 TOP = pathlib.Path(__file__).resolve().parent.parent
-RUNS = 3
+ITEMS = [10, 1000, 9000]
+ROUNDS = 1000
 
 
-def large(count):
-    """One version of `count` equal bytes, and a read of 4,000 bytes for each 4,000 of them."""
-    yield f"peer put /film 61*{count}"
-    yield "sync"
-    for start in range(0, count, 4000):
-        yield f"get /film {start} 4000"
+def run(program, mode, script, report):
+    """The user seconds of one run, which has to end as Done, or None."""
+    with open(script, "rb") as source, open(report, "wb") as sink:
+        child = subprocess.Popen([program, mode], stdin=source, stdout=sink)
+        _, status, used = os.wait4(child.pid, 0)
+        child.returncode = os.waitstatus_to_exitcode(status)
+    return used.ru_utime if child.returncode == 0 else None
 
 
-def spelled(count):
-    """One version of `count` bytes that are spelled one by one, and one read of them all."""
-    yield "peer put /film " + "".join(f"{n * 7 % 256:02x}" for n in range(256)) * (count // 256)
-    yield "sync"
-    yield f"get /film 0 {count}"
+def seconds(program, mode, script, report, runs):
+    """The least of some runs, or None where one did not end as Done."""
+    times = [run(program, mode, script, report) for _ in range(runs)]
+    return None if None in times else min(times)
 
 
-def events(count):
-    """Reads of one small file."""
-    yield "peer put /note 68656c6c6f"
-    yield "sync"
-    for n in range(count - 2):
-        yield f"get /note {n % 5} {n % 7}"
+def difference(first, second):
+    """The number of the first line in which two reports differ, from 1, or None."""
+    with open(first, "rb") as one, open(second, "rb") as other:
+        number = 1
+        while True:
+            line, beside = one.readline(), other.readline()
+            if line != beside:
+                return number
+            if not line:
+                return None
+            number += 1
 
 
-def files(count):
-    """Files, as many as a fifth of the events, then reads of them in turn."""
-    names = count // 5
-    for n in range(names):
-        yield f"peer put /file-{n} {n % 256:02x}"
-    yield "sync"
-    for n in range(count - names - 1):
-        yield f"get /file-{n * 7 % names} 0 1"
+def written(folder, name, events):
+    """The script of these events, as a file, and how many they are."""
+    path, count = folder / f"{name}.script", 0
+    with open(path, "w", encoding="ascii") as script:
+        for count, line in enumerate(events, 1):
+            script.write(line + "\n")
+    return path, count
 
 
-def versions(count):
-    """One file that gets versions, with a sync and a read after each."""
-    for n in range(count // 3):
-        yield f"peer put /note {n % 256:02x}"
-        yield "sync"
-        yield "get /note 0 1"
+def measured(folder, name, mode, events, chosen):
+    """How many events there are, the seconds of each program, and what is to say of the reports."""
+    script, count = written(folder, name, events)
+    reports = [folder / f"report-{n}" for n in range(len(chosen.programs))]
+    times = [seconds(p, mode, script, r, chosen.runs) for p, r in zip(chosen.programs, reports)]
+    line = difference(*reports) if len(reports) == 2 else None
+    if not chosen.keep:
+        script.unlink()
+    return count, times, [f"{name}: the reports differ in line {line}"] if line else []
 
 
-CASES = [(large, 16_000_000), (spelled, 8_000_000), (events, 99_999), (files, 40_000), (versions, 20_001)]
+def shown(time):
+    return f"{'no end' if time is None else f'{time:.3f}':>9}"
 
 
-def seconds(program, script, output):
-    least = None
-    for _ in range(RUNS):
-        with open(script, "rb") as source, open(output, "wb") as sink:
-            begun = time.perf_counter()
-            status = subprocess.run([program, "replay"], stdin=source, stdout=sink).returncode
-            taken = time.perf_counter() - begun
-        if status != 0:
-            sys.exit(f"{program} ended with {status} on {script}")
-        least = taken if least is None else min(least, taken)
-    return least
+def quotient(first, second):
+    """One time over another, or a dash where there is none, or it is too small to say anything."""
+    return f"{first / second:>7.2f}" if first is not None and second and second >= 0.005 else f"{'-':>7}"
 
 
-def table(folder, programs):
-    print(f"{'script':<10}{'size':>12}{'bytes':>12}" + "".join(f"{name:>12}" for name, _ in programs))
-    for make, whole in CASES:
-        for size in (whole // 2, whole):
-            script = folder / f"{make.__name__}-{size}.script"
-            script.write_text("".join(f"{line}\n" for line in make(size)))
-            times = [seconds(program, script, folder / "report") for _, program in programs]
-            row = f"{make.__name__:<10}{size:>12}{script.stat().st_size:>12}"
-            print(row + "".join(f"{taken:>12.3f}" for taken in times), flush=True)
+def speeds(folder, chosen):
+    """The table of the scripts, at half size and whole."""
+    for number, program in enumerate(chosen.programs):
+        print(f"{'program' if number == 0 else 'other':<8} {program}")
+    heads = [f"{'half':>9}{'whole':>9}{'growth':>7}"] + [f"{'half':>9}{'whole':>9}{'growth':>7}{'ratio':>7}"] * (len(chosen.programs) - 1)
+    print(f"{'script':<10}{'mode':<7}{'events':>8} |" + " |".join(heads))
+    for mode, make, size in scripts.CASES:
+        if chosen.only and make.__name__ not in chosen.only:
+            continue
+        size //= chosen.divide
+        _, half, said = measured(folder, f"{make.__name__}-half", mode, make(size // 2), chosen)
+        count, whole, more = measured(folder, make.__name__, mode, make(size), chosen)
+        cells = [shown(h) + shown(w) + quotient(w, h) for h, w in zip(half, whole)]
+        if len(cells) == 2:
+            cells[1] += quotient(whole[0], whole[1])
+        print(f"{make.__name__:<10}{mode:<7}{count:>8} |" + " |".join(cells), *said, *more, sep="\n" if said or more else "", flush=True)
+
+
+def rounds(folder, chosen):
+    """The table of a write and a flush."""
+    print("milliseconds of a write of 8 bytes and a flush")
+    print(f"{'files':>6}" + "".join(f"{name:>10}" for name in ("program", "other")[: len(chosen.programs)]))
+    for items in ITEMS:
+        _, bare, said = measured(folder, f"bare-{items}", "filter", scripts.commits(items, 0), chosen)
+        _, full, more = measured(folder, f"commits-{items}", "filter", scripts.commits(items, ROUNDS), chosen)
+        costs = [f"{'no end':>10}" if None in pair else f"{(pair[0] - pair[1]) * 1000 / ROUNDS:>10.3f}" for pair in zip(full, bare)]
+        print(f"{items:>6}" + "".join(costs), *said, *more, sep="\n" if said or more else "", flush=True)
+
+
+def words():
+    parser = argparse.ArgumentParser(description=__doc__, formatter_class=argparse.RawDescriptionHelpFormatter)
+    parser.add_argument("--program", type=pathlib.Path, help="the program; else the one that ./cloudfiles builds")
+    parser.add_argument("--keep", metavar="FOLDER", type=pathlib.Path, help="keep the scripts and last reports there")
+    parser.add_argument("--runs", type=int, default=3, help="runs of each script, from 1 (3)")
+    parser.add_argument("--divide", type=int, default=1, help="divide the sizes of the scripts by this number (1)")
+    parser.add_argument("--only", action="append", metavar="SCRIPT", help="this script only; may be given several times")
+    parser.add_argument("--commits", action="store_true", help="time a write and a flush instead")
+    parser.add_argument("other", metavar="OTHER", nargs="?", type=pathlib.Path, help="another program")
+    return parser.parse_args()
 
 
 def main():
-    parser = argparse.ArgumentParser(description=__doc__, formatter_class=argparse.RawDescriptionHelpFormatter)
-    parser.add_argument("--keep", metavar="FOLDER", type=pathlib.Path)
-    parser.add_argument("other", metavar="OTHER", nargs="?")
-    chosen = parser.parse_args()
-    built = subprocess.run([TOP / "cloudfiles", "replay"], stdin=subprocess.DEVNULL)
-    if built.returncode != 0:
-        sys.exit("./cloudfiles does not run")
-    programs = [("cloudfiles", TOP / "target" / "cloudfiles")]
-    if chosen.other:
-        programs.append(("other", chosen.other))
+    chosen = words()
+    if not chosen.program:
+        chosen.program = TOP / "target" / "cloudfiles"
+        if subprocess.run([TOP / "cloudfiles", "replay"], stdin=subprocess.DEVNULL, check=False).returncode != 0:
+            sys.exit("./cloudfiles does not run")
+    chosen.programs = [chosen.program] + ([chosen.other] if chosen.other else [])
     with tempfile.TemporaryDirectory() as made:
         folder = chosen.keep or pathlib.Path(made)
         folder.mkdir(parents=True, exist_ok=True)
-        table(folder, programs)
+        (rounds if chosen.commits else speeds)(folder, chosen)
 
 
 main()

@@ -1,0 +1,172 @@
+"""Makers of large scripts. Each yields the events of one script of a given size, a line each, without its end."""
+
+BLOCK = 4096
+FILES = 200
+
+
+# Scripts of `replay`
+
+
+def large(count):
+    """One version of `count` equal bytes, and a read of 4,000 bytes for each 4,000 of them."""
+    yield f"peer put /film 61*{count}"
+    yield "sync"
+    for start in range(0, count, 4000):
+        yield f"get /film {start} 4000"
+
+
+def spelled(count):
+    """One version of `count` bytes that are spelled one by one, and one read of them all."""
+    yield "peer put /film " + "".join(f"{n * 7 % 256:02x}" for n in range(256)) * (count // 256)
+    yield "sync"
+    yield f"get /film 0 {count}"
+
+
+def events(count):
+    """Reads of one small file."""
+    yield "peer put /note 68656c6c6f"
+    yield "sync"
+    for n in range(count - 2):
+        yield f"get /note {n % 5} {n % 7}"
+
+
+def files(count):
+    """Files, as many as a fifth of the events, then reads of them in turn."""
+    names = count // 5
+    for n in range(names):
+        yield f"peer put /file-{n} {n % 256:02x}"
+    yield "sync"
+    for n in range(count - names - 1):
+        yield f"get /file-{n * 7 % names} 0 1"
+
+
+def versions(count):
+    """One file that gets versions, with a sync and a read after each."""
+    for n in range(count // 3):
+        yield f"peer put /note {n % 256:02x}"
+        yield "sync"
+        yield "get /note 0 1"
+
+
+# Scripts of `filter`
+
+
+def users(count):
+    """A user's day over 200 files: those with even numbers are open and written, the others come, go and come again."""
+    yield from (f"place /file-{n} {2 * BLOCK} {n:04x}" for n in range(FILES))
+    yield from (f"open /file-{n}" for n in range(0, FILES, 2))
+    rounds = (count - FILES - FILES // 2) // 8
+    for n in range(rounds):
+        yield from edited(n) if n % 2 == 0 else fetched(n)
+    yield from ("flush" for _ in range(count - FILES - FILES // 2 - 8 * rounds))
+
+
+def edited(n):
+    """Eight events on an open file."""
+    name, handle, at = n % FILES, n % FILES // 2 + 1, n // FILES % 64 * 8
+    yield f"plan transfer self 0 61*{2 * BLOCK}"
+    yield f"read 1.{handle} {at} 16"
+    yield f"write 1.{handle} {at} {n:016x}"
+    yield f"read 1.{handle} {at} 16"
+    yield f"info /file-{name}"
+    yield f"ranges /file-{name} modified"
+    yield f"pin /file-{name} {'pinned' if n // FILES % 2 == 0 else 'unspecified'}"
+    yield "flush" if n % 50 == 0 else "df"
+
+
+def fetched(n):
+    """Eight events on a closed file, which is dehydrated and read again."""
+    name = n % FILES
+    yield f"plan transfer self 0 62*{2 * BLOCK}"
+    yield f"get /file-{name} {n % BLOCK} 16"
+    yield f"mark /file-{name} 0.0"
+    yield f"used /file-{name}"
+    yield "plan ackdehydrate self ok"
+    yield f"dehydrate /file-{name}"
+    yield f"update /file-{name} {n:08x}"
+    yield f"get /nothing-{name} 0 1" if n % 3 == 0 else "tick 1"
+
+
+def transfers(count):
+    """A file of `count` bytes that comes in transfers of 65,536 bytes, and is read back whole."""
+    yield from arrived(count, 16 * BLOCK)
+
+
+def blocks(count):
+    """A file of `count` bytes that comes in transfers of one block, and is read back whole."""
+    yield from arrived(count, BLOCK)
+
+
+def arrived(count, step):
+    yield f"place /film {count} aa"
+    yield "open /film"
+    yield "hydrate /film"
+    for start in range(0, count, step):
+        yield f"do transfer 1.1 {start} {start // step % 256:02x}*{min(step, count - start)}"
+    yield f"read 1.1 0 {count}"
+
+
+def whole(count):
+    """A file of `count` bytes that comes in one transfer, planned before it is read whole."""
+    yield f"place /film {count} aa"
+    yield f"plan transfer self 0 61*{count}"
+    yield f"get /film 0 {count}"
+
+
+def places(count):
+    """Files in one directory, and then the flush, the list and a look at each."""
+    yield from (f"place /file-{n} {n} {n % 256:02x}" for n in range(count))
+    yield "flush"
+    yield "list /"
+    yield from (f"info /file-{n * 7 % count}" for n in range(count))
+
+
+def answered(count):
+    """Reads of one file that are pending at once, each with an ask of its own, then answered one by one."""
+    yield from pending(count)
+    for n in range(count):
+        yield f"do transfer 1.{n + 1} {4 * n * BLOCK} {n % 256:02x}*{BLOCK}"
+
+
+def expired(count):
+    """Reads of one file that are pending at once, each with an ask of its own, then timed out."""
+    yield from pending(count)
+    yield "tick 59"
+    yield "tick 1"
+
+
+def pending(count):
+    """`count` reads of every fourth block."""
+    yield "policy partial always-full"
+    yield f"place /film {4 * count * BLOCK} aa"
+    yield "open /film"
+    yield from (f"read 1.1 {4 * n * BLOCK} {BLOCK}" for n in range(count))
+
+
+def commits(items, rounds):
+    """`items` placed files, and then so many rounds of a write of 8 bytes to one of them and a flush."""
+    yield from (f"place /file-{n} {BLOCK} {n % 256:02x}" for n in range(items))
+    yield "plan transfer self 0 61*4096"
+    yield "open /file-0"
+    yield "read 1.1 0 1"
+    yield "flush"
+    for n in range(rounds):
+        yield f"write 1.1 {n % 64 * 8} {n:016x}"
+        yield "flush"
+
+
+CASES = [
+    ("replay", large, 16_000_000),
+    ("replay", spelled, 8_000_000),
+    ("replay", events, 99_999),
+    ("replay", files, 40_000),
+    ("replay", versions, 20_001),
+    ("filter", users, 90_000),
+    ("filter", transfers, 16_777_216),
+    ("filter", blocks, 16_777_216),
+    ("filter", whole, 16_777_216),
+    ("filter", places, 9_999),
+    ("filter", answered, 1_024),
+    ("filter", expired, 1_024),
+]
+"""The mode of each script, its maker, and the size of the whole."""
