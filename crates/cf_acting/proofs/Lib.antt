@@ -1,0 +1,13 @@
+pub mod Asked
+pub mod Called
+pub mod Finished
+pub mod Hushed
+pub mod Hushing
+pub mod Later
+pub mod Offs
+pub mod Planned
+pub mod Powers
+pub mod Provided
+pub mod Reopening
+pub mod Tellings
+pub mod Wholes

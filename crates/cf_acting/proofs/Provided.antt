@@ -1,0 +1,159 @@
+-- Calls with callbacks of the scripted provider.
+use Rattle.std.proofs.Common.{◌≡◌, Bool, true, false, List, [], ◌∷◌, refl, sym, ap, subst, ◌∙◌, inl, inr}
+use Rattle.std.specs.Prelude.{Result, Ok, Err}
+use Rattle.cf_acting.specs.Answered.{answered_by, showing}
+use Rattle.cf_acting.specs.Meaning.{IsOn, IsSized, OnBy, Sees, hushed}
+use Rattle.cf_acting.specs.declared.places.Running.{Running as Run}
+use Rattle.cf_acting.specs.Stepped.{SteppedTo, Steps}
+use Rattle.cf_acting.proofs.Called.{begun_sees}
+use Rattle.cf_acting.proofs.Finished.{Comes, IsCall, LeftTo, finished, refused_as_broken}
+use Rattle.cf_acting.proofs.Hushed.{left_as_it_was, sized_moved, stands_noted, told_nothing}
+use Rattle.cf_base.specs.declared.answers.Answer.{Answer}
+use Rattle.cf_base.specs.declared.answers.Shown.{Shown}
+use Rattle.cf_base.specs.declared.codes.Fail.{Fail}
+use Rattle.cf_base.specs.declared.codes.Fail.TheVariants.{No, Memory}
+use Rattle.cf_base.specs.declared.events.Event.{Event}
+use Rattle.cf_base.specs.declared.memory.Memory.{Memory as NoMemory}
+use Rattle.cf_base.specs.declared.notices.Notice.{Notice}
+use Rattle.cf_base.specs.declared.operations.Operation.{Operation}
+use Rattle.cf_base.specs.declared.ids.Key.{Key}
+use Rattle.cf_base.specs.declared.policies.Mode.TheVariants.{Filter as InFilter}
+use Rattle.cf_base.specs.declared.waits.Ask.{Ask}
+use Rattle.cf_disk.specs.Disk.{State as Disk}
+use Rattle.cf_execute.specs.declared.outcomes.Callback.{Callback}
+use Rattle.cf_filter.specs.CallbackLaws.{Plays}
+use Rattle.cf_filter.specs.Callbacks.{NoneFailed, callback_of}
+use Rattle.cf_filter.specs.Calling.{Told, answer_of, is_stopped, noted, shown_by}
+use Rattle.cf_filter.specs.Draining.{CallsBack, Provides}
+use Rattle.cf_filter.specs.Playing.{LeftBy, played}
+use Rattle.cf_machine.specs.Held.{Held}
+use Rattle.cf_machine.specs.Lasting.{Moved}
+use Rattle.cf_machine.specs.Sensing.{Stands, Stopped}
+use Rattle.cf_model.proofs.TreeLaws.{ends_mapped, ends_then, stops_first, stops_mapped, stops_then}
+use Rattle.cf_model.specs.Arrows.{Arrow, each, unit}
+use Rattle.cf_model.specs.Callbacks.{call_back, calling, carry_out, planned_on, with_operation_told, without_plan}
+use Rattle.cf_model.specs.Events.{begun, event_now, tree_of}
+use Rattle.cf_model.specs.Operations.{execute}
+use Rattle.cf_model.specs.Ports.{Act, Acts, Did, Failed, HasFailed, Noted}
+use Rattle.cf_model.specs.State.{Filter, On, State, in_filter, nothing_yet, with_filter, with_notes}
+use Rattle.cf_model.specs.Trees.{Does, Ends, Stops, Tree}
+use Rattle.cf_scripted.specs.Lines.{Answers, CarriesOut, line_of}
+use Rattle.cf_steps.specs.Answering.{Any}
+
+sees_still : (plan : List (Bool × Operation)) (z : State) (f : Filter) → Sees plan z → Sees plan (with_filter f z)
+sees_still plan z f h = record { mode = h.mode; power = h.power; planned = h.planned; running = h.running }
+
+no_failure : {A : Type 0} (op : Operation) (acts : List Act) → acts ≡ Failed op ∷ [] → NoneFailed acts → A
+no_failure op acts is none = absurd (subst NoneFailed is none)
+
+-- one planned operation that was answered, with its line
+one_done : (own : Key) (p : Bool × Operation) (z : State) (answer : Shown) (mid : Filter) → Ends (execute (planned_on own p) z.filter) answer mid → Ends (carry_out own p z) unit (with_operation_told answer (with_filter mid z))
+one_done own p z answer mid h = ends_then (in_filter (execute (planned_on own p)) z) _ answer (with_filter mid z) unit _ (ends_mapped (λ f. with_filter f z) (execute (planned_on own p) z.filter) answer mid h) (refl, refl)
+
+one_cut : (own : Key) (p : Bool × Operation) (z : State) (mid : Filter) → Stops (execute (planned_on own p) z.filter) mid → Stops (carry_out own p z) (with_filter mid z)
+one_cut own p z mid h = stops_first (in_filter (execute (planned_on own p)) z) _ (with_filter mid z) (stops_mapped (λ f. with_filter f z) (execute (planned_on own p) z.filter) mid h)
+
+-- all of them
+all_done : (own : Key) (ops : List (Bool × Operation)) (acts : List Act) (z : State) (t : Filter) → CarriesOut own ops acts → Acts z.filter acts t → NoneFailed acts → Ends (each (carry_out own) ops z) unit (with_filter t z)
+unfolding CarriesOut
+all_done own [] acts z t is h none =
+    let same : t ≡ z.filter = subst (λ (l : List Act). Acts z.filter l t) is h in
+    (refl, ap (λ (f : Filter). with_filter f z) same)
+all_done own (p ∷ ps) acts z t (inl is) h none = no_failure (planned_on own p) acts is none
+all_done own (p ∷ ps) acts z t (inr is) h none =
+    let answer = is.0 in
+    let went = subst (λ (l : List Act). Acts z.filter l t) is.2 h in
+    let rest : NoneFailed is.1 = subst NoneFailed is.2 none in
+    let next : State = with_operation_told answer (with_filter went.0 z) in
+    ends_then (carry_out own p z) _ unit next unit (with_filter t z) (one_done own p z answer went.0 went.1) (all_done own ps is.1 next t is.3 went.2 rest)
+
+some_cut : (own : Key) (ops : List (Bool × Operation)) (acts : List Act) (z : State) (t : Filter) → CarriesOut own ops acts → Acts z.filter acts t → HasFailed acts → Stops (each (carry_out own) ops z) (with_filter t z)
+unfolding CarriesOut
+some_cut own [] acts z t is h failed = absurd (subst HasFailed is failed)
+some_cut own (p ∷ ps) acts z t (inl is) h failed =
+    let went = subst (λ (l : List Act). Acts z.filter l t) is h in
+    stops_first (carry_out own p z) _ (with_filter t z) (subst (λ (f : Filter). Stops (carry_out own p z) (with_filter f z)) (sym went.2) (one_cut own p z went.0 went.1))
+some_cut own (p ∷ ps) acts z t (inr is) h failed =
+    let answer = is.0 in
+    let went = subst (λ (l : List Act). Acts z.filter l t) is.2 h in
+    let rest : HasFailed is.1 = subst HasFailed is.2 failed in
+    let next : State = with_operation_told answer (with_filter went.0 z) in
+    stops_then (carry_out own p z) _ unit next (with_filter t z) (one_done own p z answer went.0 went.1) (some_cut own ps is.1 next t is.3 went.2 rest)
+
+-- the scripted provider plays the arrow of the definitions
+scripted_tree : (a : Ask) (z : State) (plan : List (Bool × Operation)) → Sees plan z → call_back a z ≡ each (carry_out a.key) plan (without_plan z)
+scripted_tree a z plan sees = rw (sees.mode, sees.planned) refl
+
+taken : (plan : List (Bool × Operation)) (z : State) (t : Filter) → Sees plan z → Sees [] (with_filter t (without_plan z))
+taken plan z t h = record { mode = h.mode; power = h.power; planned = refl; running = h.running }
+
+pub scripted_plays : Plays Answers Sees
+scripted_plays = record {
+  still = sees_still;
+  ends = λ p q x ask acts t sees answered h none. (
+    with_filter t (without_plan x),
+    refl,
+    subst (λ (l : List (Bool × Operation)). Sees l (with_filter t (without_plan x))) (sym answered.1) (taken p x t sees),
+    subst (λ (w : Tree State (Unit {0})). Ends w unit (with_filter t (without_plan x))) (sym (scripted_tree ask x p sees)) (all_done ask.key p acts (without_plan x) t answered.0 h none),
+  );
+  stops = λ p q x ask acts t sees answered h failed. (
+    with_filter t (without_plan x),
+    refl,
+    subst (λ (l : List (Bool × Operation)). Sees l (with_filter t (without_plan x))) (sym answered.1) (taken p x t sees),
+    subst (λ (w : Tree State (Unit {0})). Stops w (with_filter t (without_plan x))) (sym (scripted_tree ask x p sees)) (some_cut ask.key p acts (without_plan x) t answered.0 h failed),
+  );
+}
+
+module _ {D : Type 0} (state : D → Disk) where
+  left_to : (r : Result Shown Fail) (q : List (Bool × Operation)) (y : Held D) (z : State) → LeftBy state Sees r q y z → LeftTo state r q y z
+  left_to (Ok b) q y z h = h
+  left_to (Err (No c)) q y z h = h
+  left_to (Err Memory) q y z h = record {}
+
+  sized_left : (x y : Held D) (ns : List Notice) (v t : Filter) → IsSized (state x.disk) v.volume → Moved (state (noted [] x).disk) (state (noted ns y).disk) v.volume t.volume → IsSized (state y.disk) t.volume
+  unfolding noted
+  sized_left x y ns v t sized moved = sized_moved (state x.disk) (state y.disk) v.volume t.volume sized moved
+
+  was_broken : (x : Held D) → (noted [] x).desk.broken ≡ x.desk.broken
+  unfolding noted
+  was_broken x = refl
+
+  is_broken : (y : Held D) (ns : List Notice) → (noted ns y).desk.broken ≡ y.desk.broken
+  unfolding noted
+  is_broken y ns = refl
+
+  comes_back : (e : Event) (part : Arrow Filter Shown) (r : Result Shown Fail) (plan left : List (Bool × Operation)) (ns : List Notice) (x y : Held D) (s : State)
+      → ((z : State) → z.mode ≡ InFilter → event_now e z ≡ calling part z) → CallsBack state Answers Any part plan (noted [] x) r left (noted ns y)
+      → s.mode ≡ InFilter → s.power ≡ On → s.plan ≡ plan → x.desk.notes ≡ [] → IsSized (state x.disk) s.filter.volume → Stands state x (hushed s.filter) → Comes state e s r left ns y
+  comes_back e part r plan left ns x y s is back mode power planned quiet sized stands =
+      let z : State = begun s in
+      let d = played state Answers Sees scripted_plays Any part plan left (noted [] x) (noted ns y) z r back (stands_noted state x z.filter quiet stands) (record {}) (begun_sees plan s mode power planned) in
+      record {
+        new = d.new;
+        does = subst (λ (p : Tree State Shown). Does p r d.new) (sym (is z mode)) d.does;
+        sized = sized_left x y ns z.filter d.new.filter sized d.moved;
+        left = left_to r left (noted ns y) d.new d.left;
+      }
+
+  provides_by : {A : Type 0} (e : Event) (part : Arrow Filter Shown) (show : A → Shown) (plan left : List (Bool × Operation)) (ns : List Notice) (x y : Held D) (r : Result A Fail) → IsCall e
+      → ((z : State) → z.mode ≡ InFilter → event_now e z ≡ calling part z) → Provides state Answers Any show part plan (noted [] x) r left (noted ns y) → y.desk.notes ≡ x.desk.notes
+      → Steps (IsOn state) e (record { filter = x; provider = plan }) (answered_by (showing show r) ns) (record { filter = y; provider = left })
+  provides_by {A} e part show plan left ns x y r call is calls kept = record { leads = λ s on. by s on x.desk.broken refl on.is }
+    where
+      by : (s : State) → IsOn state (record { filter = x; provider = plan }) s → (b : Bool) → x.desk.broken ≡ b → OnBy state b (record { filter = x; provider = plan }) s → SteppedTo (IsOn state) e s (answered_by (showing show r) ns) (record { filter = y; provider = left })
+      by s on true e' h =
+          let c = calls.broken (was_broken x ∙ e') in
+          subst (λ (l : List (Bool × Operation)). SteppedTo (IsOn state) e s (answered_by (showing show r) ns) (record { filter = y; provider = l })) (sym c.2)
+          (refused_as_broken state e s r show plan ns x y call h.0 on c.0 (told_nothing state x y ns c.1) (left_as_it_was state x y ns c.1 kept))
+      by s on false e' h =
+          let d = calls.does (was_broken x ∙ e') in
+          subst (λ (w : Result A Fail). SteppedTo (IsOn state) e s (answered_by (showing show w) ns) (record { filter = y; provider = left })) (sym d.1)
+          (finished state e s d.0 show left ns y call h.0 (kept ∙ on.quiet) (sym (is_broken y ns) ∙ d.3) (comes_back e part (shown_by show d.0) plan left ns x y s is d.2 on.mode h.0 h.1 on.quiet on.sized h.2))
+
+  -- the same, as a call is written
+  pub provides_step : {A : Type 0} (e : Event) (part : Arrow Filter Shown) (show : A → Shown) (plan left : List (Bool × Operation)) (none ns : List Notice) (x y : Held D) (r : Result A Fail) (w : Result Shown Fail) (a : Result Answer NoMemory)
+      → IsCall e → ((z : State) → z.mode ≡ InFilter → event_now e z ≡ calling part z) → none ≡ [] → Provides state Answers Any show part plan (noted none x) r left (noted ns y) → y.desk.notes ≡ x.desk.notes → w ≡ showing show r → a ≡ answered_by w ns
+      → Steps (IsOn state) e (record { filter = x; provider = plan }) a (record { filter = y; provider = left })
+  provides_step {A} e part show plan left none ns x y r w a call is begins calls kept shows tells =
+      let h = provides_by e part show plan left ns x y r call is (subst (λ (l : List Notice). Provides state Answers Any show part plan (noted l x) r left (noted ns y)) begins calls) kept in
+      subst (λ (b : Result Answer NoMemory). Steps (IsOn state) e (record { filter = x; provider = plan }) b (record { filter = y; provider = left })) (sym (tells ∙ ap (λ (v : Result Shown Fail). answered_by v ns) shows)) h

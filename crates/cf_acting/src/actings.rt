@@ -1,0 +1,162 @@
+//! The world, on and off.
+#![tactic(auto, using(crate::proofs::Wholes::on_steps, crate::proofs::Wholes::off_steps))]
+
+ghost use Rattle.std.specs.Prelude.{◌≡◌, ℕ, List, true, IfErr, IfOk};
+ghost use Rattle.cf_acting.specs.Meaning.{Is};
+ghost use Rattle.cf_acting.specs.Stepped.{StandsFor, Steps};
+ghost use Rattle.cf_acting.specs.declared.places.Acting.TheVariants as acting;
+ghost use Rattle.cf_base.specs.declared.events.Event.TheVariants as events;
+ghost use Rattle.cf_base.specs.declared.policies.Mode.TheVariants.{Filter as InFilter};
+ghost use Rattle.cf_disk.specs.Disk.{size_of};
+ghost use Rattle.cf_journal.specs.Settled.{IsFitSize};
+ghost use Rattle.cf_model.specs.Events.{is_of};
+ghost use Rattle.cf_model.specs.Powers.{StandsNow};
+ghost use Rattle.cf_model.specs.State.{State, first_policy, start};
+ghost use Rattle.cf_model.specs.Store.{Held};
+ghost use Rattle.cf_points.specs.Standing.{clusters_on};
+ghost use Rattle.cf_volume.specs.Calls.{IsCause, StopsOnly};
+
+use crate::answering::plainly;
+use crate::places::{Acting, Cut, Running};
+use cf_base::{Answer, DeviceEvent, Event, Fail, Hydration, Memory, Policy, Population, Shown};
+use cf_disk::Disk;
+use cf_filter::Filter;
+use cf_scripted::Scripted;
+use std::alloc::Global;
+
+fn first_policy() -> Policy
+    ensures { result ≡ first_policy }
+{
+    Policy {
+        hydration: Hydration::Partial,
+        population: Population::AlwaysFull,
+        validate: false,
+        restart: false,
+        auto: false,
+    }
+}
+
+impl<D: Disk> Acting<D> {
+    /// A volume that was just made on a disk of a fit size, whatever that held. Refused as Device where a call of the disk
+    /// failed, and as Memory; then the disk comes back.
+    pub fn start(alloc: Global, disk: D) -> Result<Acting<D>, (D, Fail)>
+        requires { IsFitSize (size_of (D.state disk)) }
+        ensures ok { (remote : Held) → IfOk result (λ a. Is D.state a (start InFilter remote (clusters_on (D.state disk).seen))) }
+        ensures only { IfErr result (λ e. StopsOnly e.1) }
+        ensures cause { IfErr result (λ e. IsCause e.1 (D.state disk) (D.state e.0)) }
+    {
+        match Filter::format(alloc, disk, first_policy()) {
+            Ok(filter) => {
+                let provider = Scripted::new(alloc);
+                Ok(Acting::On(Running { filter, provider }))
+            }
+            Err(back) => Err(back),
+        }
+    }
+
+    /// Does an event of the mode, and answers it. For want of memory it is not answered, and nothing more is said of the
+    /// world.
+    pub fn step(self, alloc: Global, event: &Event) -> (Acting<D>, Result<Answer, Memory>)
+        requires { is_of InFilter event.now ≡ true }
+        ensures { Steps (Is D.state) event.now self result.1 result.0 }
+    {
+        match self {
+            Acting::On(running) => step_on(alloc, running, event),
+            Acting::Off(cut) => step_off(alloc, cut, event),
+        }
+    }
+
+    /// The disk. Whatever a crash leaves of it stands for a point that a restart may open.
+    pub fn finish(self) -> D
+        ensures { (s : State) → Is D.state self s → (c : List ℕ) → (D.state result).may_leave c → StandsNow StandsFor s c }
+    {
+        match self {
+            Acting::On(running) => running.filter.into_disk(),
+            Acting::Off(cut) => cut.disk,
+        }
+    }
+}
+
+// An event while the volume is open.
+fn step_on<D: Disk>(
+    alloc: Global,
+    mut running: Running<D>,
+    event: &Event,
+) -> (Acting<D>, Result<Answer, Memory>)
+    requires { is_of InFilter event.now ≡ true }
+    ensures { Steps (Is D.state) event.now (acting.On running) result.1 result.0 }
+{
+    match event {
+        Event::Call(call) => {
+            let told = running.call(alloc, call);
+            (Acting::On(running), told)
+        }
+        Event::Provider(provided) => {
+            let told = running.provide(alloc, provided);
+            (Acting::On(running), told)
+        }
+        Event::Device(device) => device_on(alloc, running, *device),
+        _ => unreachable!(),
+    }
+}
+
+fn device_on<D: Disk>(
+    alloc: Global,
+    mut running: Running<D>,
+    event: DeviceEvent,
+) -> (Acting<D>, Result<Answer, Memory>)
+    ensures { Steps (Is D.state) (events.Device event) (acting.On running) result.1 result.0 }
+{
+    match event {
+        DeviceEvent::Stop { calls } => {
+            let told = running.stop(alloc, calls);
+            (Acting::On(running), Ok(told))
+        }
+        DeviceEvent::Crash { choice } => {
+            let cut = running.cut(choice);
+            (Acting::Off(cut), Ok(plainly(alloc, Shown::Done)))
+        }
+        DeviceEvent::Restart => {
+            let told = running.restart(alloc);
+            (Acting::On(running), Ok(told))
+        }
+    }
+}
+
+// An event while the volume is off.
+fn step_off<D: Disk>(
+    alloc: Global,
+    cut: Cut<D>,
+    event: &Event,
+) -> (Acting<D>, Result<Answer, Memory>)
+    requires { is_of InFilter event.now ≡ true }
+    ensures { Steps (Is D.state) event.now (acting.Off cut) result.1 result.0 }
+{
+    match event {
+        Event::Device(device) => device_off(alloc, cut, *device),
+        event => {
+            let told = cut.refuse(alloc, event);
+            (Acting::Off(cut), Ok(told))
+        }
+    }
+}
+
+fn device_off<D: Disk>(
+    alloc: Global,
+    mut cut: Cut<D>,
+    event: DeviceEvent,
+) -> (Acting<D>, Result<Answer, Memory>)
+    ensures { Steps (Is D.state) (events.Device event) (acting.Off cut) result.1 result.0 }
+{
+    match event {
+        DeviceEvent::Stop { calls } => {
+            let told = cut.stop(alloc, calls);
+            (Acting::Off(cut), Ok(told))
+        }
+        DeviceEvent::Crash { choice } => {
+            let told = cut.cut(alloc, choice);
+            (Acting::Off(cut), Ok(told))
+        }
+        DeviceEvent::Restart => cut.restart(alloc),
+    }
+}

@@ -1,0 +1,44 @@
+//! Answers of events.
+
+ghost use Rattle.std.specs.Prelude.{◌≡◌, Ok, []};
+ghost use Rattle.cf_acting.specs.Answered.{answer_with, answered_by};
+ghost use Rattle.cf_base.specs.declared.answers.Shown.TheVariants as shown;
+
+use cf_base::{Answer, Code, Fail, Memory, Notes, Sequence, Shown};
+use std::alloc::Global;
+
+/// The answer with these notes. For want of memory there is none.
+pub(crate) fn answered(told: Result<Shown, Fail>, notes: Notes) -> Result<Answer, Memory>
+    ensures { result ≡ answered_by told notes }
+{
+    match told {
+        Ok(shown) => Ok(Answer {
+            notes,
+            shown,
+            stray: None,
+        }),
+        Err(Fail::No(code)) => Ok(Answer {
+            notes,
+            shown: Shown::Refused(code),
+            stray: None,
+        }),
+        Err(Fail::Memory) => Err(Memory),
+    }
+}
+
+/// A result without notes.
+pub(crate) fn plainly(alloc: Global, shown: Shown) -> Answer
+    ensures { result ≡ answer_with shown [] }
+{
+    Answer {
+        notes: Sequence::new(alloc),
+        shown,
+        stray: None,
+    }
+}
+
+pub(crate) fn refused(alloc: Global, code: Code) -> Answer
+    ensures { result ≡ answer_with (shown.Refused code) [] }
+{
+    plainly(alloc, Shown::Refused(code))
+}

@@ -1,0 +1,44 @@
+//! Events of the device while the volume is open.
+#![tactic(auto, using(crate::proofs::Powers::stop_step, crate::proofs::Powers::running_step, crate::proofs::Powers::cut_step))]
+
+ghost use Rattle.std.specs.Prelude.{Ok, []};
+ghost use Rattle.cf_acting.specs.Meaning.{Is, IsOn};
+ghost use Rattle.cf_acting.specs.Stepped.{Steps};
+ghost use Rattle.cf_acting.specs.Answered.{answer_with};
+ghost use Rattle.cf_acting.specs.declared.places.Acting.TheVariants as acting;
+ghost use Rattle.cf_base.specs.declared.answers.Shown.TheVariants as shown;
+ghost use Rattle.cf_base.specs.declared.events.DeviceEvent.TheVariants as device;
+ghost use Rattle.cf_base.specs.declared.events.Event.TheVariants as event;
+
+use crate::answering::{plainly, refused};
+use crate::places::{Cut, Running};
+use cf_base::{Answer, Choice, Code, Shown};
+use cf_disk::Disk;
+use std::alloc::Global;
+
+impl<D: Disk> Running<D> {
+    /// `stop`: so many more calls of the device pass.
+    pub(crate) fn stop(&mut self, alloc: Global, calls: u32) -> Answer
+        ensures { Steps (IsOn D.state) (event.Device (device.Stop calls)) self.old (Ok result) self.new }
+    {
+        self.filter.arm(calls);
+        plainly(alloc, Shown::Done)
+    }
+
+    /// `restart` of a volume that is open.
+    pub(crate) fn restart(&self, alloc: Global) -> Answer
+        ensures { Steps (IsOn D.state) (event.Device device.Restart) self.now (Ok result) self.now }
+    {
+        refused(alloc, Code::Running)
+    }
+
+    /// `crash`: the power is cut, and what stands in memory alone is gone.
+    pub(crate) fn cut(self, choice: Choice) -> Cut<D>
+        ensures { Steps (Is D.state) (event.Device (device.Crash choice)) (acting.On self) (Ok (answer_with shown.Done [])) (acting.Off result) }
+    {
+        let policy = self.filter.policy();
+        let mut disk = self.filter.into_disk();
+        disk.power(choice);
+        Cut { disk, policy }
+    }
+}
