@@ -1,12 +1,11 @@
 -- Questions, which change nothing, and calls that tell no notes.
-use Rattle.std.proofs.Common.{◌≡◌, Bool, true, false, List, [], ◌∷◌, refl, sym, ap, subst, ◌∙◌}
-use Rattle.std.specs.Prelude.{Option, Some, None, Result, Ok, Err}
+use Rattle.std.proofs.Common.{◌≡◌, Bool, true, false, List, [], refl, sym, ap, subst, ◌∙◌}
+use Rattle.std.specs.Prelude.{Result, Ok, Err}
 use Rattle.cf_acting.specs.Answered.{answered_by, showing}
-use Rattle.cf_acting.specs.Meaning.{IsOn, IsSized, OnBy, Sees, hushed}
-use Rattle.cf_acting.specs.declared.places.Running.{Running as Run}
+use Rattle.cf_acting.specs.Meaning.{IsOn, OnBy, hushed}
 use Rattle.cf_acting.specs.Stepped.{SteppedTo, Steps}
 use Rattle.cf_acting.proofs.Called.{comes_by}
-use Rattle.cf_acting.proofs.Finished.{Comes, IsCall, LeftTo, finished, refused_as_broken}
+use Rattle.cf_acting.proofs.Finished.{Comes, IsCall, finished, refused_as_broken}
 use Rattle.cf_acting.proofs.Hushed.{noted_none}
 use Rattle.cf_base.specs.declared.answers.Answer.{Answer}
 use Rattle.cf_base.specs.declared.answers.Shown.{Shown}
@@ -20,23 +19,20 @@ use Rattle.cf_base.specs.declared.memory.Memory.{Memory as NoMemory}
 use Rattle.cf_base.specs.declared.notices.Notice.{Notice}
 use Rattle.cf_base.specs.declared.operations.Operation.{Operation}
 use Rattle.cf_base.specs.declared.policies.Class.{Class}
-use Rattle.cf_base.specs.declared.policies.Mode.{Mode}
 use Rattle.cf_base.specs.declared.policies.Mode.TheVariants.{Filter as InFilter}
-use Rattle.cf_base.specs.declared.policies.Policy.{Policy}
 use Rattle.cf_disk.specs.Disk.{State as Disk}
 use Rattle.cf_filter.specs.Calling.{Asks, Calls, Told, answer_of, is_stopped, noted, shown_by}
 use Rattle.cf_machine.specs.Held.{Desk, Held}
-use Rattle.cf_machine.specs.Sensing.{Stands, Stopped, sense}
-use Rattle.cf_model.proofs.ArrowLaws.{keeps_reading, keeps_ret, keeps_then}
+use Rattle.cf_machine.specs.Sensing.{Stands, sense}
 use Rattle.cf_model.proofs.TreeLaws.{kept_at_end, kept_at_stop}
-use Rattle.cf_model.specs.Arrows.{Arrow, Preserves, choose, noted as by_noting, ret}
-use Rattle.cf_model.specs.Calls.{class_flags, df, flush, info, info_item, open_file, open_item, ranges, ranges_item, set_policy, used, used_item, with_handle, with_policy}
-use Rattle.cf_model.specs.Events.{begun, event_now}
+use Rattle.cf_model.specs.Arrows.{Arrow, Preserves, choose, ret}
+use Rattle.cf_model.specs.Calls.{df, info, info_item, ranges, ranges_item, used, used_item}
+use Rattle.cf_model.specs.Events.{event_now}
 use Rattle.cf_model.specs.Items.{Item}
 use Rattle.cf_model.specs.State.{Filter, On, State, in_filter}
-use Rattle.cf_model.specs.Trees.{Does, Ends, Keeps, Stops}
+use Rattle.cf_model.specs.Trees.{Stops}
 use Rattle.cf_model.specs.Waits.{but_directory, on_ok}
-use Rattle.cf_steps.specs.Answering.{After, Answers, Any}
+use Rattle.cf_steps.specs.Answering.{Answers, Any}
 
 -- a question takes no step, so that no device stops it
 

@@ -3,10 +3,9 @@ use Rattle.std.proofs.Common.{◌≡◌, Bool, true, false, List, [], refl, sym,
 use Rattle.std.specs.Prelude.{Result, Ok, Err}
 use Rattle.cf_acting.specs.Answered.{answered_by, showing}
 use Rattle.cf_acting.specs.Meaning.{IsOn, IsSized, OnBy, Sees, hushed}
-use Rattle.cf_acting.specs.declared.places.Running.{Running as Run}
 use Rattle.cf_acting.specs.Stepped.{SteppedTo, Steps}
 use Rattle.cf_acting.proofs.Finished.{Comes, IsCall, LeftTo, finished, refused_as_broken}
-use Rattle.cf_acting.proofs.Hushed.{left_as_it_was, noted_none, sized_moved, stands_noted, told_nothing}
+use Rattle.cf_acting.proofs.Hushed.{left_as_it_was, sized_moved, stands_noted, told_nothing}
 use Rattle.cf_base.specs.declared.answers.Answer.{Answer}
 use Rattle.cf_base.specs.declared.answers.Shown.{Shown}
 use Rattle.cf_base.specs.declared.codes.Fail.{Fail}
@@ -17,14 +16,14 @@ use Rattle.cf_base.specs.declared.notices.Notice.{Notice}
 use Rattle.cf_base.specs.declared.operations.Operation.{Operation}
 use Rattle.cf_base.specs.declared.policies.Mode.TheVariants.{Filter as InFilter}
 use Rattle.cf_disk.specs.Disk.{State as Disk}
-use Rattle.cf_filter.specs.Calling.{Calls, Told, answer_of, is_stopped, noted, shown_by}
+use Rattle.cf_filter.specs.Calling.{Calls, noted, shown_by}
 use Rattle.cf_machine.specs.Held.{Held}
 use Rattle.cf_machine.specs.Lasting.{Moved}
-use Rattle.cf_machine.specs.Sensing.{Stands, Stopped, sense}
+use Rattle.cf_machine.specs.Sensing.{Stands, sense}
 use Rattle.cf_model.proofs.ArrowLaws.{filter_in_whole}
 use Rattle.cf_model.specs.Arrows.{Arrow}
-use Rattle.cf_model.specs.Events.{begun, event_now, tree_of}
-use Rattle.cf_model.specs.State.{Filter, On, State, in_filter, nothing_yet, with_filter}
+use Rattle.cf_model.specs.Events.{begun, event_now}
+use Rattle.cf_model.specs.State.{Filter, On, State, in_filter, with_filter}
 use Rattle.cf_model.specs.Trees.{Does, Tree}
 use Rattle.cf_steps.specs.Answering.{After, Answers, Any}
 

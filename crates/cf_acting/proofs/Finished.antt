@@ -1,9 +1,8 @@
 -- What a call of the filter came to is a step of the definitions.
 use Rattle.std.proofs.Common.{◌≡◌, Bool, true, false, List, [], refl, sym, ap, subst, ◌∙◌}
-use Rattle.std.specs.Prelude.{None, Some, Result, Ok, Err}
+use Rattle.std.specs.Prelude.{None, Result, Ok, Err}
 use Rattle.cf_acting.specs.Answered.{answer_with, answered_by, showing}
 use Rattle.cf_acting.specs.Meaning.{IsOn, IsSized, OnBy, Sees}
-use Rattle.cf_acting.specs.declared.places.Running.{Running as Run}
 use Rattle.cf_acting.specs.Stepped.{SteppedTo}
 use Rattle.cf_acting.proofs.Hushed.{notes_told, stands_hushed, stop_lasts, stop_policy, stop_told}
 use Rattle.cf_base.specs.declared.answers.Answer.{Answer}
@@ -22,9 +21,9 @@ use Rattle.cf_filter.specs.Calling.{Told, answer_of, is_stopped, noted, shown_by
 use Rattle.cf_machine.specs.Held.{Held}
 use Rattle.cf_machine.specs.Sensing.{Stands, Stopped}
 use Rattle.cf_model.proofs.TraceLaws.{ended_step, refused_step, stopped_step}
-use Rattle.cf_model.specs.Events.{answer_in, broken, broken_by, is_of, may_stop, needs_volume, no_power, no_volume, tree_of}
+use Rattle.cf_model.specs.Events.{answer_in, broken, broken_by, is_of, may_stop, needs_volume, no_volume, tree_of}
 use Rattle.cf_model.specs.Lawful.{IsStep}
-use Rattle.cf_model.specs.State.{Broken, Filter, Off, On, Power, Running, State, nothing_yet}
+use Rattle.cf_model.specs.State.{Broken, Off, On, Power, Running, State, nothing_yet}
 use Rattle.cf_model.specs.Trees.{Does}
 
 -- an event of the mode that needs the volume

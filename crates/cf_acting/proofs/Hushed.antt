@@ -6,7 +6,7 @@ use Rattle.cf_base.specs.declared.notices.Notice.{Notice}
 use Rattle.cf_disk.specs.Disk.{State as Disk, size_of}
 use Rattle.cf_filter.specs.Calling.{noted}
 use Rattle.cf_journal.specs.Settled.{IsFitSize}
-use Rattle.cf_machine.specs.Held.{Desk, Held, desk_of}
+use Rattle.cf_machine.specs.Held.{Desk, Held}
 use Rattle.cf_machine.specs.Lasting.{Lasts, Moved}
 use Rattle.cf_machine.specs.Sensing.{Stands, Stopped}
 use Rattle.cf_model.specs.State.{Filter, Volume}

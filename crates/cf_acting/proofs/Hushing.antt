@@ -1,5 +1,5 @@
 -- Calls that add no notes.
-use Rattle.std.proofs.Common.{◌≡◌, Bool, true, false, List, []}
+use Rattle.std.proofs.Common.{Bool, true, false, List}
 use Rattle.std.specs.Prelude.{Option, Some, None, Result, Ok, Err, ℕ}
 use Rattle.cf_acting.proofs.Asked.{Hush}
 use Rattle.cf_base.specs.declared.answers.Shown.{Shown}

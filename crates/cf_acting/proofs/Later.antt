@@ -3,7 +3,7 @@ use Rattle.std.proofs.Common.{◌≡◌, ℕ, zero, suc, ◌+◌, true, false, L
 use Rattle.std.proofs.lemmas.Bool.Decides.{nat_tests}
 use Rattle.cf_base.specs.declared.changes.Change.{Change}
 use Rattle.cf_base.specs.declared.ids.Usn.{Usn}
-use Rattle.cf_machine.specs.Keeping.{IsKeptBook, IsKeptVolume}
+use Rattle.cf_machine.specs.Keeping.{IsKeptVolume}
 use Rattle.cf_model.specs.Books.{Book, Tombstone}
 use Rattle.cf_model.specs.Items.{Item}
 use Rattle.cf_model.specs.Numbers.{above, usn_after}

@@ -1,9 +1,9 @@
 -- Events while the volume is off.
-use Rattle.std.proofs.Common.{◌≡◌, ◌≤◌, ℕ, ◌+◌, Bool, true, false, List, [], length, refl, sym, ap, subst, ◌∙◌, arith}
+use Rattle.std.proofs.Common.{◌≡◌, ℕ, true, List, [], length, refl, sym, ap, subst, ◌∙◌}
 use Rattle.std.specs.Prelude.{Ok, Result}
 use Rattle.cf_acting.specs.Answered.{answer_with}
-use Rattle.cf_acting.specs.Meaning.{Is, IsOff, IsOfEpoch, IsSized}
-use Rattle.cf_acting.specs.Stepped.{SteppedTo, Steps}
+use Rattle.cf_acting.specs.Meaning.{Is, IsOff, IsSized}
+use Rattle.cf_acting.specs.Stepped.{Steps}
 use Rattle.cf_acting.specs.declared.places.Acting.{Acting}
 use Rattle.cf_acting.specs.declared.places.Acting.TheVariants as acting
 use Rattle.cf_acting.specs.declared.places.Cut.{Cut}
@@ -23,7 +23,7 @@ use Rattle.cf_journal.specs.Settled.{IsFitSize}
 use Rattle.cf_model.proofs.TraceLaws.{ended_step}
 use Rattle.cf_model.specs.Events.{begun, is_of, needs_volume}
 use Rattle.cf_model.specs.Restarts.{crashed}
-use Rattle.cf_model.specs.State.{Off, Point, State}
+use Rattle.cf_model.specs.State.{Off, State}
 
 module _ {D : Type 0} (state : D → Disk) where
   -- whatever a crash leaves of the one disk it left of the other

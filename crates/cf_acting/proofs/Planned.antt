@@ -4,8 +4,7 @@ use Rattle.std.specs.Prelude.{Result, Ok, Err}
 use Rattle.std.specs.Result.{IsErrAnd}
 use Rattle.cf_acting.specs.Answered.{answer_with}
 use Rattle.cf_acting.specs.Meaning.{IsOn, OnBy}
-use Rattle.cf_acting.specs.declared.places.Running.{Running as Run}
-use Rattle.cf_acting.specs.Stepped.{SteppedTo, Steps}
+use Rattle.cf_acting.specs.Stepped.{Steps}
 use Rattle.cf_acting.proofs.Finished.{broken_step, while_on}
 use Rattle.cf_base.specs.declared.answers.Answer.{Answer}
 use Rattle.cf_base.specs.declared.answers.Shown.TheVariants as shown

@@ -2,21 +2,19 @@
 use Rattle.std.proofs.Common.{◌≡◌, ℕ, ◌+◌, length, take, Bool, true, false, List, [], refl, sym, ap, subst, ◌∙◌, arith}
 use Rattle.std.specs.Prelude.{Ok}
 use Rattle.cf_acting.specs.Answered.{answer_with}
-use Rattle.cf_acting.specs.Meaning.{Is, IsOff, IsOfEpoch, IsOn, IsSized, OnBy, hushed}
+use Rattle.cf_acting.specs.Meaning.{Is, IsOff, IsOn, IsSized, OnBy, hushed}
 use Rattle.cf_acting.specs.declared.places.Running.{Running as Run}
-use Rattle.cf_acting.specs.Stepped.{SteppedTo, Steps}
+use Rattle.cf_acting.specs.Stepped.{Steps}
 use Rattle.cf_acting.specs.declared.places.Acting.TheVariants as acting
 use Rattle.cf_acting.specs.declared.places.Cut.{Cut}
 use Rattle.cf_acting.proofs.Hushed.{same_clusters}
 use Rattle.cf_base.specs.declared.answers.Shown.TheVariants as shown
 use Rattle.cf_base.specs.declared.codes.Code.TheVariants as code
 use Rattle.cf_base.specs.declared.events.DeviceEvent.TheVariants as device
-use Rattle.cf_base.specs.declared.events.Event.{Event}
 use Rattle.cf_base.specs.declared.events.Event.TheVariants as event
 use Rattle.cf_base.specs.declared.operations.Operation.{Operation}
 use Rattle.cf_base.specs.declared.policies.Choice.{Choice}
 use Rattle.cf_base.specs.declared.policies.Mode.TheVariants.{Filter as InFilter}
-use Rattle.cf_base.specs.declared.policies.Policy.{Policy}
 use Rattle.cf_disk.specs.Disk.{IsUnchanged, Only, Powers, State as Disk, size_of}
 use Rattle.cf_journal.specs.Settled.{IsFitSize}
 use Rattle.cf_machine.specs.Held.{Desk, Held}
@@ -25,7 +23,7 @@ use Rattle.cf_machine.specs.Sensing.{Stands, sense}
 use Rattle.cf_model.proofs.TraceLaws.{ended_step}
 use Rattle.cf_model.specs.Events.{begun, tree_of}
 use Rattle.cf_model.specs.Restarts.{crashed}
-use Rattle.cf_model.specs.State.{Broken, Filter, Off, On, Point, Power, State, Volume}
+use Rattle.cf_model.specs.State.{Broken, Filter, On, Power, State, Volume}
 use Rattle.cf_model.specs.Trees.{Ends}
 use Rattle.cf_points.specs.Standing.{Standing}
 

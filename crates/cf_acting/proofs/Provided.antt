@@ -3,7 +3,6 @@ use Rattle.std.proofs.Common.{◌≡◌, Bool, true, false, List, [], ◌∷◌,
 use Rattle.std.specs.Prelude.{Result, Ok, Err}
 use Rattle.cf_acting.specs.Answered.{answered_by, showing}
 use Rattle.cf_acting.specs.Meaning.{IsOn, IsSized, OnBy, Sees, hushed}
-use Rattle.cf_acting.specs.declared.places.Running.{Running as Run}
 use Rattle.cf_acting.specs.Stepped.{SteppedTo, Steps}
 use Rattle.cf_acting.proofs.Called.{begun_sees}
 use Rattle.cf_acting.proofs.Finished.{Comes, IsCall, LeftTo, finished, refused_as_broken}
@@ -20,24 +19,23 @@ use Rattle.cf_base.specs.declared.ids.Key.{Key}
 use Rattle.cf_base.specs.declared.policies.Mode.TheVariants.{Filter as InFilter}
 use Rattle.cf_base.specs.declared.waits.Ask.{Ask}
 use Rattle.cf_disk.specs.Disk.{State as Disk}
-use Rattle.cf_execute.specs.declared.outcomes.Callback.{Callback}
 use Rattle.cf_filter.specs.CallbackLaws.{Plays}
-use Rattle.cf_filter.specs.Callbacks.{NoneFailed, callback_of}
-use Rattle.cf_filter.specs.Calling.{Told, answer_of, is_stopped, noted, shown_by}
+use Rattle.cf_filter.specs.Callbacks.{NoneFailed}
+use Rattle.cf_filter.specs.Calling.{noted, shown_by}
 use Rattle.cf_filter.specs.Draining.{CallsBack, Provides}
 use Rattle.cf_filter.specs.Playing.{LeftBy, played}
 use Rattle.cf_machine.specs.Held.{Held}
 use Rattle.cf_machine.specs.Lasting.{Moved}
-use Rattle.cf_machine.specs.Sensing.{Stands, Stopped}
+use Rattle.cf_machine.specs.Sensing.{Stands}
 use Rattle.cf_model.proofs.TreeLaws.{ends_mapped, ends_then, stops_first, stops_mapped, stops_then}
 use Rattle.cf_model.specs.Arrows.{Arrow, each, unit}
 use Rattle.cf_model.specs.Callbacks.{call_back, calling, carry_out, planned_on, with_operation_told, without_plan}
-use Rattle.cf_model.specs.Events.{begun, event_now, tree_of}
+use Rattle.cf_model.specs.Events.{begun, event_now}
 use Rattle.cf_model.specs.Operations.{execute}
-use Rattle.cf_model.specs.Ports.{Act, Acts, Did, Failed, HasFailed, Noted}
-use Rattle.cf_model.specs.State.{Filter, On, State, in_filter, nothing_yet, with_filter, with_notes}
+use Rattle.cf_model.specs.Ports.{Act, Acts, Failed, HasFailed}
+use Rattle.cf_model.specs.State.{Filter, On, State, in_filter, with_filter}
 use Rattle.cf_model.specs.Trees.{Does, Ends, Stops, Tree}
-use Rattle.cf_scripted.specs.Lines.{Answers, CarriesOut, line_of}
+use Rattle.cf_scripted.specs.Lines.{Answers, CarriesOut}
 use Rattle.cf_steps.specs.Answering.{Any}
 
 sees_still : (plan : List (Bool × Operation)) (z : State) (f : Filter) → Sees plan z → Sees plan (with_filter f z)

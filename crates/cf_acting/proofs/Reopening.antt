@@ -1,11 +1,10 @@
 -- Openings of a volume that was off.
 use Rattle.std.proofs.Common.{◌≡◌, ◌≤◌, ◌<◌, ℕ, zero, suc, ◌+◌, Bool, true, false, List, [], ◌∷◌, ◌++◌, length, min, take, reverse, nat_lt, refl, sym, ap, subst, ◌∙◌, inl, inr, arith}
 use Rattle.std.specs.Prelude.{Err, IfOk, Ok, Result, ◌⊎◌}
-use Rattle.std.proofs.lemmas.List.{length-take, reverse-append, take_all}
+use Rattle.std.proofs.lemmas.List.{length-take, reverse-append}
 use Rattle.std.proofs.lemmas.Bool.{cases_Bool, ltb-false, ltb-true}
 use Rattle.cf_acting.specs.Answered.{answer_with, answered_by}
-use Rattle.cf_acting.specs.Meaning.{Is, IsOff, IsOfEpoch, IsOn, IsSized, OnBy, hushed}
-use Rattle.cf_acting.specs.declared.places.Running.{Running as Run}
+use Rattle.cf_acting.specs.Meaning.{Is, IsOff, IsOfEpoch, IsOn, OnBy}
 use Rattle.cf_acting.specs.Stepped.{SteppedTo, Steps}
 use Rattle.cf_acting.specs.declared.places.Acting.{Acting}
 use Rattle.cf_acting.specs.declared.places.Acting.TheVariants as acting
@@ -31,19 +30,17 @@ use Rattle.cf_commit.specs.Loaded.{StandsOrWas}
 use Rattle.cf_disk.specs.Disk.{Leaves, State as Disk, size_of}
 use Rattle.cf_journal.specs.Steps.{ReadsOnly}
 use Rattle.cf_machine.specs.Held.{Desk, Held}
-use Rattle.cf_machine.specs.Keeping.{IsKeptBook, IsKeptPoint, IsKeptVolume}
+use Rattle.cf_machine.specs.Keeping.{IsKeptVolume}
 use Rattle.cf_machine.specs.Sensing.{Stands}
 use Rattle.cf_model.proofs.TraceLaws.{ended_step, stopped_step}
-use Rattle.cf_model.specs.Books.{Book, Tombstone, opened_of}
+use Rattle.cf_model.specs.Books.{Book, opened_of}
 use Rattle.cf_model.specs.Events.{begun, broken, tree_of}
-use Rattle.cf_model.specs.Items.{Item}
-use Rattle.cf_model.specs.Numbers.{above, most, usn_after}
+use Rattle.cf_model.specs.Numbers.{most}
 use Rattle.cf_model.specs.Points.{Opens}
-use Rattle.cf_model.specs.Restarts.{failed_open, more_epochs, one_of, open_in, open_point, open_points, open_skipping, open_volume, opened_at, restart_by, resumed, with_opened}
-use Rattle.cf_model.specs.Soundness.{AllLater}
+use Rattle.cf_model.specs.Restarts.{failed_open, one_of, open_point, open_points, open_skipping, opened_at, restart_by, resumed, with_opened}
 use Rattle.cf_model.specs.Lawful.{IsStep}
-use Rattle.cf_model.specs.State.{Filter, Off, On, Point, Power, State, Volume, new_filter}
-use Rattle.cf_model.specs.Trees.{Ends, Stops, Tree}
+use Rattle.cf_model.specs.State.{Filter, Off, Point, Power, State, Volume, new_filter}
+use Rattle.cf_model.specs.Trees.{Ends, Stops}
 use Rattle.cf_model.specs.Arrows.{Arrow}
 use Rattle.cf_model.specs.Words.{counting}
 use Rattle.cf_points.specs.Standing.{Standing, clusters_on, opened}

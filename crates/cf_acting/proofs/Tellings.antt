@@ -1,5 +1,5 @@
 -- What a restart tells of the volume that it opened.
-use Rattle.std.proofs.Common.{◌≡◌, ℕ, List, [], length, sym, ◌∙◌, ap}
+use Rattle.std.proofs.Common.{◌≡◌, ℕ, [], length, sym, ◌∙◌, ap}
 use Rattle.cf_acting.specs.Answered.{answer_with}
 use Rattle.cf_base.specs.declared.answers.Answer.{Answer}
 use Rattle.cf_base.specs.declared.answers.OpenedBook.{OpenedBook}

@@ -3,7 +3,7 @@ use Rattle.std.proofs.Common.{ℕ, ◌+◌, List}
 use Rattle.std.specs.Prelude.{Result, Ok, Err}
 use Rattle.cf_acting.specs.Meaning.{Is, IsOff, IsOn, OnBy}
 use Rattle.cf_acting.specs.declared.places.Running.{Running as Run}
-use Rattle.cf_acting.specs.Stepped.{StandsFor, SteppedTo, Steps}
+use Rattle.cf_acting.specs.Stepped.{StandsFor, Steps}
 use Rattle.cf_acting.specs.declared.places.Acting.TheVariants as acting
 use Rattle.cf_acting.specs.declared.places.Cut.{Cut}
 use Rattle.cf_base.specs.declared.answers.Answer.{Answer}

@@ -1,6 +1,5 @@
 //! Items that come, go, move or are pinned.
 
-ghost use Rattle.std.specs.Prelude.{◌≡◌};
 ghost use Rattle.cf_acting.specs.Meaning.{IsOn};
 ghost use Rattle.cf_acting.specs.Stepped.{Steps};
 ghost use Rattle.cf_base.specs.declared.calls.Call.TheVariants as call;

@@ -1,5 +1,4 @@
 //! Events of the device while the volume is open.
-#![tactic(auto, using(crate::proofs::Powers::stop_step, crate::proofs::Powers::running_step, crate::proofs::Powers::cut_step))]
 
 ghost use Rattle.std.specs.Prelude.{Ok, []};
 ghost use Rattle.cf_acting.specs.Meaning.{Is, IsOn};

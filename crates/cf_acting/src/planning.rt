@@ -1,7 +1,6 @@
 //! Marks and operations of the provider.
-#![tactic(auto, using(crate::proofs::Planned::plan_refused, crate::proofs::Planned::planned_step, crate::proofs::Planned::no_memory))]
+#![tactic(auto, using(crate::proofs::Planned::no_memory))]
 
-ghost use Rattle.std.specs.Prelude.{◌≡◌};
 ghost use Rattle.cf_acting.specs.Meaning.{IsOn};
 ghost use Rattle.cf_acting.specs.Stepped.{Steps};
 ghost use Rattle.cf_base.specs.declared.events.Event.TheVariants as event;

@@ -1,6 +1,5 @@
 //! The policy, the provider's connection, files that are opened, and commits.
 
-ghost use Rattle.std.specs.Prelude.{◌≡◌};
 ghost use Rattle.cf_acting.specs.Meaning.{IsOn};
 ghost use Rattle.cf_acting.specs.Stepped.{Steps};
 ghost use Rattle.cf_base.specs.declared.calls.Call.TheVariants as call;

@@ -1,6 +1,5 @@
 //! What is told of items and of the volume.
 
-ghost use Rattle.std.specs.Prelude.{◌≡◌};
 ghost use Rattle.cf_acting.specs.Meaning.{IsOn};
 ghost use Rattle.cf_acting.specs.Stepped.{Steps};
 ghost use Rattle.cf_base.specs.declared.calls.Call.TheVariants as call;

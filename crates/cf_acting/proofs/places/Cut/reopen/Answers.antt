@@ -1,4 +1,4 @@
-use Rattle.std.proofs.Common.{refl, subst, sym}
+use Rattle.std.proofs.Common.{refl}
 use Rattle.cf_acting.proofs.Reopening.{failed_step, opened_step}
 use Rattle.cf_acting.proofs.places.Cut.reopen.Goals as goal
 

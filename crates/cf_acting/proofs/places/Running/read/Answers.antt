@@ -1,4 +1,4 @@
-use Rattle.std.proofs.Common.{List, ap, refl, sym, ℕ}
+use Rattle.std.proofs.Common.{ap, refl, sym}
 use Rattle.cf_acting.proofs.Provided.{provides_step}
 use Rattle.cf_base.specs.declared.spans.Span.{Span}
 use Rattle.cf_model.specs.Callbacks.{calling}
