@@ -1,37 +1,54 @@
 -- How a run ends.
-use Rattle.std.proofs.Common.{◌≡◌, ℕ, List, Option, inl, inr, refl, arith}
-use Rattle.std.specs.Prelude.{◌⊎◌, ◌≢◌}
-use Rattle.cf_base.specs.declared.policies.Mode.TheVariants.{Replay}
+use Rattle.std.proofs.Common.{◌≡◌, ℕ, ◌≤◌, List, length, Option, inl, inr, refl, Result, Ok, Err}
+use Rattle.std.specs.Prelude.{◌≢◌, IfErr, OnOk}
+use Rattle.cf_base.specs.declared.events.Event.{Event}
+use Rattle.cf_base.specs.declared.policies.Mode.{Mode}
 use Rattle.cf_base.specs.declared.statuses.Status.{Status}
 use Rattle.cf_base.specs.declared.statuses.Status.TheVariants.{Done, Usage, BadScript, SourceFault, SinkFault, BadDevice, Memory, TooLong, DeviceFault}
-use Rattle.cf_io.specs.Moves.{AddsFront, Rose, IsQuiet}
+use Rattle.cf_disk.specs.Disk.{State as Disk}
+use Rattle.cf_io.specs.Moves.{AddsFront}
+use Rattle.cf_points.specs.Standing.{clusters_on}
 use Rattle.cf_script.specs.Fail.{IsCause}
 use Rattle.cf_script.specs.Script.{lines_of}
 use Rattle.cf_script.specs.declared.fails.ScriptFail.{ScriptFail}
 use Rattle.cf_script.specs.declared.fails.ScriptFail.TheVariants as fails
-use Rattle.cf_world.specs.Runs.{Writes, StopsEarly, IsRefusal, IsAfterReading, fail_line}
-use Rattle.cf_world.specs.Steps.{early_status}
+use Rattle.cf_world.specs.Led.{HasRun, Leads}
+use Rattle.cf_world.specs.Runs.{IsBuilt, IsRefusal, RefusesFront, Writes, WritesRefusal, fail_line}
+use Rattle.cf_world.specs.Sides.{Acted}
+use Rattle.cf_world.specs.Steps.{AllPlayed, SomePlayed, early_status, play_status}
 use Rattle.cf_world.specs.declared.fails.PlayFail.{PlayFail}
 use Rattle.cf_world.specs.declared.fails.PlayFail.TheVariants as plays
 
-refused_front : (text : List ℕ) (old new : Option (List ℕ)) (fail : ScriptFail) → IsCause Replay (lines_of text) fail → fail ≢ fails.Memory → AddsFront old new (fail_line fail) → StopsEarly text old new
-refused_front text old new fail why other written =
-    let refusal : IsRefusal text (fail_line fail) = record { fail = fail; why = why; not_memory = other; is = refl } in
-    inr (inl (record { line = fail_line fail; refusal = refusal; written = written }))
+refused_front : (m : Mode) (text : List ℕ) (old new : Option (List ℕ)) (fail : ScriptFail) → IsCause m (lines_of text) fail → fail ≢ fails.Memory → AddsFront old new (fail_line fail) → RefusesFront m text old new
+refused_front m text old new fail why other written =
+    let refusal : IsRefusal m text (fail_line fail) = record { fail = fail; why = why; not_memory = other; is = refl } in
+    record { line = fail_line fail; refusal = refusal; written = written }
 
 -- a front of the line of a refusal was written
-pub refuse_early : (text : List ℕ) (old new : Option (List ℕ)) (fail : ScriptFail) (p : PlayFail) → IsCause Replay (lines_of text) fail → fail ≢ fails.Memory → AddsFront old new (fail_line fail) → Writes text old new (early_status p)
-refuse_early text old new fail plays.SinkFault why other written = refused_front text old new fail why other written
-refuse_early text old new fail plays.Memory why other written = refused_front text old new fail why other written
+pub refuse_early : (m : Mode) (text : List ℕ) (old new : Option (List ℕ)) (fail : ScriptFail) (p : PlayFail) → IsCause m (lines_of text) fail → fail ≢ fails.Memory → p ≢ plays.TooLong → AddsFront old new (fail_line fail) → WritesRefusal m text old new (early_status p)
+refuse_early m text old new fail plays.SinkFault why other short written = refused_front m text old new fail why other written
+refuse_early m text old new fail plays.Memory why other short written = inr (refused_front m text old new fail why other written)
+refuse_early m text old new fail plays.TooLong why other short written = absurd (short refl)
 
--- a script that is read, with no fault, is done
-pub completes : (s : Status) (faults faults' : ℕ) → IsAfterReading s → (s ≡ BadScript → ⊥) → (s ≡ SinkFault → Rose faults faults') → IsQuiet faults faults' → (s ≡ Done) ⊎ (s ≡ Memory)
-completes Done f f' only good sink quiet = inl refl
-completes Memory f f' only good sink quiet = inr refl
-completes BadScript f f' only good sink quiet = absurd (good refl)
-completes SinkFault f f' only good sink quiet = let rose = sink refl quiet.1 in absurd (omega (arith, rose, quiet.0))
-completes Usage f f' only good sink quiet = absurd only
-completes SourceFault f f' only good sink quiet = absurd only
-completes TooLong f f' only good sink quiet = absurd only
-completes BadDevice f f' only good sink quiet = absurd only
-completes DeviceFault f f' only good sink quiet = absurd only
+-- what is written of a script that is not read, among what a run writes
+pub refusal_written : {D : Type 0} (state : D → Disk) (m : Mode) (disk back : D) (text : List ℕ) (old new : Option (List ℕ)) (s : Status) → WritesRefusal m text old new s → Writes state m disk text old new s back
+refusal_written state m disk back text old new BadScript h = h
+refusal_written state m disk back text old new SinkFault h = inr (inl h)
+refusal_written state m disk back text old new Memory (inl h) = inl h
+refusal_written state m disk back text old new Memory (inr h) = inr (inl h)
+refusal_written state m disk back text old new Done h = absurd h
+refusal_written state m disk back text old new Usage h = absurd h
+refusal_written state m disk back text old new SourceFault h = absurd h
+refusal_written state m disk back text old new TooLong h = absurd h
+refusal_written state m disk back text old new BadDevice h = absurd h
+refusal_written state m disk back text old new DeviceFault h = absurd h
+
+module _ {D R : Type 0} (state : D → Disk) where
+  -- what was written of a script that was read, by how its events went
+  pub played_written : (m : Mode) (disk back : D) (text : List ℕ) (events : List Event) (old new : Option (List ℕ)) (w : Acted D R) (r : Result (Unit {0}) PlayFail) → IsBuilt m text events → length text ≤ 16777216 → OnOk r (AllPlayed state m disk events old new w)
+      → IfErr r (SomePlayed m (clusters_on (state disk).seen) events old new) → (HasRun state m disk w → Leads state m disk w.trace back) → Writes state m disk text old new (play_status r) back
+  played_written m disk back text events old new w (Ok u) built short all some leads =
+      record { events = events; spelled = built; played = record { trace = w.trace; each = all.each; leads = leads all.run; written = all.written; short = all.short } }
+  played_written m disk back text events old new w (Err plays.SinkFault) built short all some leads = inr (inr (record { events = events; spelled = built; played = some }))
+  played_written m disk back text events old new w (Err plays.Memory) built short all some leads = inr (inr (record { events = events; spelled = built; played = some }))
+  played_written m disk back text events old new w (Err plays.TooLong) built short all some leads = inr (short, record { events = events; spelled = built; played = some })

@@ -1,5 +1,5 @@
-pub mod Paths
-pub mod Places
+pub mod Errs
+pub mod Drafted
 pub mod Traces
 pub mod Ends
-pub mod Words
+pub mod Sided

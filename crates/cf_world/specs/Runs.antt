@@ -1,20 +1,38 @@
 -- What a run writes, and how it ends.
-use Rattle.std.specs.Prelude.{◌≡◌, ◌≢◌, ◌⊎◌, ℕ, ◌<◌, ◌≤◌, List, [], ◌∷◌, ◌++◌, length, map, codes, Option, IsTrue}
+use Rattle.std.specs.Prelude.{◌≡◌, ◌≢◌, ◌⊎◌, ℕ, ◌+◌, ◌<◌, ◌≤◌, ◌%◌, List, [], ◌∷◌, ◌++◌, length, map, codes, Option, IsTrue}
 use Rattle.std.specs.Fmt.{decimal}
 use Rattle.std.specs.List.{list_all}
 use Rattle.cf_base.specs.declared.answers.Answer.{Answer}
 use Rattle.cf_base.specs.declared.events.Event.{Event}
-use Rattle.cf_base.specs.declared.policies.Mode.TheVariants.{Replay}
+use Rattle.cf_base.specs.declared.policies.Mode.{Mode}
+use Rattle.cf_base.specs.declared.policies.Mode.TheVariants as mode
 use Rattle.cf_base.specs.declared.statuses.Status.{Status}
 use Rattle.cf_base.specs.declared.statuses.Status.TheVariants as status
+use Rattle.cf_disk.specs.Disk.{State as Disk}
 use Rattle.cf_io.specs.Moves.{Adds, AddsFront}
-use Rattle.cf_report.specs.Texts.{texts}
+use Rattle.cf_journal.specs.Settled.{IsFitSize}
+use Rattle.cf_points.specs.Standing.{clusters_on}
+use Rattle.cf_report.specs.Texts.{text as text_of, texts}
 use Rattle.cf_script.specs.Built.{is_built}
 use Rattle.cf_script.specs.Fail.{IsCause}
 use Rattle.cf_script.specs.Script.{lines_of, IsScript}
 use Rattle.cf_script.specs.declared.fails.ScriptFail.{ScriptFail}
 use Rattle.cf_script.specs.declared.fails.ScriptFail.TheVariants as fails
-use Rattle.cf_world.specs.Worlds.{start, Lawful}
+use Rattle.cf_words.specs.declared.commands.Command.{Command}
+use Rattle.cf_words.specs.declared.commands.Command.TheVariants as command
+use Rattle.cf_world.specs.Led.{IsLawful, Leads}
+
+abbrev pub mode_of : Command → Mode
+mode_of command.Replay = mode.Replay
+mode_of command.Filter = mode.Filter
+
+-- a size that a device may have, in bytes
+abbrev pub IsFit : ℕ → Type 0
+IsFit n = IsFitSize n × (n % 4096 ≡ 0)
+
+-- the greatest length of a report, in bytes
+abbrev pub most_report : ℕ
+most_report = 67108864
 
 abbrev pub events_of : List (Event × Answer) → List Event
 events_of trace = map (λ p. p.0) trace
@@ -23,35 +41,57 @@ abbrev pub answers_of : List (Event × Answer) → List Answer
 answers_of trace = map (λ p. p.1) trace
 
 -- The text spells these events, and each of them is built.
-abbrev pub IsBuilt : List ℕ → List Event → Type 0
-IsBuilt text events = IsScript Replay text events × IsTrue (list_all (is_built Replay) events)
+abbrev pub IsBuilt : Mode → List ℕ → List Event → Type 0
+IsBuilt m text events = IsScript m text events × IsTrue (list_all (is_built m) events)
 
--- The texts of lawful answers were written, one for each event.
-pub record Plays (events : List Event) (old new : Option (List ℕ)) : Type 0 where
+-- the text spells events that are built
+abbrev pub IsGood : Mode → List ℕ → Type 0
+IsGood m text = (events : List Event) × IsBuilt m text events
+
+-- The texts of lawful answers were written, one for each event, and the disk is as they leave it.
+pub record Plays {D : Type 0} (state : D → Disk) (m : Mode) (disk : D) (events : List Event) (old new : Option (List ℕ)) (back : D) : Type 0 where
   pub trace : List (Event × Answer)
   pub each : events_of trace ≡ events
-  pub lawful : Lawful start trace
+  pub leads : Leads state m disk trace back
   pub written : Adds old new (texts (answers_of trace))
+  pub short : length (texts (answers_of trace)) ≤ most_report
 
 -- A front of the texts of lawful answers to some first events was written.
-pub record PlaysFront (events : List Event) (old new : Option (List ℕ)) : Type 0 where
+pub record PlaysFront (m : Mode) (clusters : ℕ) (events : List Event) (old new : Option (List ℕ)) : Type 0 where
   pub trace : List (Event × Answer)
   pub more : List Event
   pub first : events_of trace ++ more ≡ events
-  pub lawful : Lawful start trace
+  pub lawful : IsLawful m clusters trace
   pub written : AddsFront old new (texts (answers_of trace))
 
+-- The texts of lawful answers to some first events were written, and the text of the next would pass the limit.
+pub record PlaysLong (m : Mode) (clusters : ℕ) (events : List Event) (old new : Option (List ℕ)) : Type 0 where
+  pub trace : List (Event × Answer)
+  pub event : Event
+  pub answer : Answer
+  pub more : List Event
+  pub first : events_of trace ++ event ∷ more ≡ events
+  pub lawful : IsLawful m clusters (trace ++ (event, answer) ∷ [])
+  pub written : Adds old new (texts (answers_of trace))
+  pub passes : most_report < length (texts (answers_of trace)) + length (text_of answer)
+
 -- The report of a text: lawful answers, one for each event that it spells.
-pub record Reports (text : List ℕ) (old new : Option (List ℕ)) : Type 0 where
+pub record Reports {D : Type 0} (state : D → Disk) (m : Mode) (disk : D) (text : List ℕ) (old new : Option (List ℕ)) (back : D) : Type 0 where
   pub events : List Event
-  pub spelled : IsBuilt text events
-  pub played : Plays events old new
+  pub spelled : IsBuilt m text events
+  pub played : Plays state m disk events old new back
 
 -- A front of a report.
-pub record ReportsFront (text : List ℕ) (old new : Option (List ℕ)) : Type 0 where
+pub record ReportsFront (m : Mode) (clusters : ℕ) (text : List ℕ) (old new : Option (List ℕ)) : Type 0 where
   pub events : List Event
-  pub spelled : IsBuilt text events
-  pub played : PlaysFront events old new
+  pub spelled : IsBuilt m text events
+  pub played : PlaysFront m clusters events old new
+
+-- A report that would pass its limit.
+pub record ReportsLong (m : Mode) (clusters : ℕ) (text : List ℕ) (old new : Option (List ℕ)) : Type 0 where
+  pub events : List Event
+  pub spelled : IsBuilt m text events
+  pub played : PlaysLong m clusters events old new
 
 -- the line that is written of a script that is not read
 abbrev pub fail_line : ScriptFail → List ℕ
@@ -61,51 +101,51 @@ fail_line (fails.NotBuilt n) = codes "not built line " ++ decimal n ++ 10 ∷ []
 fail_line fails.Memory = []
 
 -- This line is written of the text, which is not read for another cause than memory.
-pub record IsRefusal (text line : List ℕ) : Type 0 where
+pub record IsRefusal (m : Mode) (text line : List ℕ) : Type 0 where
   pub fail : ScriptFail
-  pub why : IsCause Replay (lines_of text) fail
+  pub why : IsCause m (lines_of text) fail
   pub not_memory : fail ≢ fails.Memory
   pub is : line ≡ fail_line fail
 
 -- The line of a refusal was written.
-pub record Refuses (text : List ℕ) (old new : Option (List ℕ)) : Type 0 where
+pub record Refuses (m : Mode) (text : List ℕ) (old new : Option (List ℕ)) : Type 0 where
   pub line : List ℕ
-  pub refusal : IsRefusal text line
+  pub refusal : IsRefusal m text line
   pub written : Adds old new line
 
 -- A front of the line of a refusal was written.
-pub record RefusesFront (text : List ℕ) (old new : Option (List ℕ)) : Type 0 where
+pub record RefusesFront (m : Mode) (text : List ℕ) (old new : Option (List ℕ)) : Type 0 where
   pub line : List ℕ
-  pub refusal : IsRefusal text line
+  pub refusal : IsRefusal m text line
   pub written : AddsFront old new line
 
 -- What was written where a run ends early: nothing, or a front of what would have been.
-abbrev pub StopsEarly : List ℕ → Option (List ℕ) → Option (List ℕ) → Type 0
-StopsEarly text old new = Adds old new [] ⊎ (RefusesFront text old new ⊎ ReportsFront text old new)
+abbrev pub StopsEarly : Mode → ℕ → List ℕ → Option (List ℕ) → Option (List ℕ) → Type 0
+StopsEarly m clusters text old new = Adds old new [] ⊎ (RefusesFront m text old new ⊎ ReportsFront m clusters text old new)
 
 -- what was written of a text, by the status
-abbrev pub Writes : List ℕ → Option (List ℕ) → Option (List ℕ) → Status → Type 0
-Writes text old new status.Done = Reports text old new
-Writes text old new status.BadScript = Refuses text old new
-Writes text old new status.SinkFault = StopsEarly text old new
-Writes text old new status.Memory = StopsEarly text old new
-Writes text old new status.Usage = Adds old new []
-Writes text old new status.SourceFault = Adds old new []
-Writes text old new status.TooLong = Adds old new []
-Writes text old new status.BadDevice = ⊥
-Writes text old new status.DeviceFault = ⊥
+abbrev pub Writes : {D : Type 0} → (D → Disk) → Mode → D → List ℕ → Option (List ℕ) → Option (List ℕ) → Status → D → Type 0
+Writes state m disk text old new status.Done back = Reports state m disk text old new back
+Writes state m disk text old new status.BadScript back = Refuses m text old new
+Writes state m disk text old new status.SinkFault back = StopsEarly m (clusters_on (state disk).seen) text old new
+Writes state m disk text old new status.Memory back = StopsEarly m (clusters_on (state disk).seen) text old new
+Writes state m disk text old new status.Usage back = Adds old new []
+Writes state m disk text old new status.SourceFault back = Adds old new []
+Writes state m disk text old new status.TooLong back = (16777216 < length text × Adds old new []) ⊎ (length text ≤ 16777216 × ReportsLong m (clusters_on (state disk).seen) text old new)
+Writes state m disk text old new status.BadDevice back = IsGood m text × Adds old new []
+Writes state m disk text old new status.DeviceFault back = IsGood m text × Adds old new []
 
 -- how long a text is, by the status
 abbrev pub IsLength : Status → List ℕ → Type 0
 IsLength status.Done text = length text ≤ 16777216
 IsLength status.BadScript text = length text ≤ 16777216
 IsLength status.SinkFault text = length text ≤ 16777216
-IsLength status.TooLong text = 16777216 < length text
+IsLength status.BadDevice text = length text ≤ 16777216
+IsLength status.DeviceFault text = length text ≤ 16777216
+IsLength status.TooLong text = Unit {0}
 IsLength status.Memory text = Unit {0}
 IsLength status.Usage text = Unit {0}
 IsLength status.SourceFault text = Unit {0}
-IsLength status.BadDevice text = ⊥
-IsLength status.DeviceFault text = ⊥
 
 -- the statuses of a text that was read
 abbrev pub IsAfterReading : Status → Type 0
@@ -113,8 +153,60 @@ IsAfterReading status.Done = Unit {0}
 IsAfterReading status.BadScript = Unit {0}
 IsAfterReading status.SinkFault = Unit {0}
 IsAfterReading status.Memory = Unit {0}
+IsAfterReading status.TooLong = Unit {0}
+IsAfterReading status.BadDevice = Unit {0}
+IsAfterReading status.DeviceFault = Unit {0}
 IsAfterReading status.Usage = ⊥
 IsAfterReading status.SourceFault = ⊥
-IsAfterReading status.TooLong = ⊥
-IsAfterReading status.BadDevice = ⊥
-IsAfterReading status.DeviceFault = ⊥
+
+-- the statuses of a report
+abbrev pub IsOfReport : Status → Type 0
+IsOfReport status.Done = Unit {0}
+IsOfReport status.SinkFault = Unit {0}
+IsOfReport status.Memory = Unit {0}
+IsOfReport status.TooLong = Unit {0}
+IsOfReport _ = ⊥
+
+-- How a run of a good text ends on a fit device where neither source nor sink failed. DeviceFault has its own cause.
+abbrev pub IsComplete : Status → Type 0
+IsComplete status.Done = Unit {0}
+IsComplete status.TooLong = Unit {0}
+IsComplete status.Memory = Unit {0}
+IsComplete status.DeviceFault = Unit {0}
+IsComplete _ = ⊥
+
+-- how it ends on a device that is not fit
+abbrev pub IsUnfit : Status → Type 0
+IsUnfit status.BadDevice = Unit {0}
+IsUnfit status.SourceFault = Unit {0}
+IsUnfit status.Memory = Unit {0}
+IsUnfit _ = ⊥
+
+-- the statuses of a script that was read
+abbrev pub IsStarted : Status → Type 0
+IsStarted status.BadDevice = Unit {0}
+IsStarted status.DeviceFault = Unit {0}
+IsStarted s = IsOfReport s
+
+-- those at which nothing was written
+abbrev pub IsBeforeWriting : Status → Type 0
+IsBeforeWriting status.Usage = Unit {0}
+IsBeforeWriting status.SourceFault = Unit {0}
+IsBeforeWriting status.BadDevice = Unit {0}
+IsBeforeWriting status.DeviceFault = Unit {0}
+IsBeforeWriting _ = ⊥
+
+-- those at which the device was not used
+abbrev pub IsBeforeDevice : Status → Type 0
+IsBeforeDevice status.Usage = Unit {0}
+IsBeforeDevice status.SourceFault = Unit {0}
+IsBeforeDevice status.BadScript = Unit {0}
+IsBeforeDevice status.BadDevice = Unit {0}
+IsBeforeDevice _ = ⊥
+
+-- what is written of a script that is not read
+abbrev pub WritesRefusal : Mode → List ℕ → Option (List ℕ) → Option (List ℕ) → Status → Type 0
+WritesRefusal m text old new status.BadScript = Refuses m text old new
+WritesRefusal m text old new status.SinkFault = RefusesFront m text old new
+WritesRefusal m text old new status.Memory = Adds old new [] ⊎ RefusesFront m text old new
+WritesRefusal m text old new _ = ⊥

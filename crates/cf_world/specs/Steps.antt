@@ -1,24 +1,82 @@
 -- Parts of a run.
-use Rattle.std.specs.Prelude.{◌≡◌, ℕ, List, ◌++◌, Option}
+use Rattle.std.specs.Prelude.{◌≡◌, ◌≢◌, ◌≤◌, ◌<◌, ◌+◌, ℕ, List, [], ◌∷◌, ◌++◌, length, Option, Result, Ok, Err}
 use Rattle.cf_base.specs.declared.answers.Answer.{Answer}
+use Rattle.cf_base.specs.declared.codes.Fail.{Fail}
+use Rattle.cf_base.specs.declared.codes.Fail.TheVariants as fail
 use Rattle.cf_base.specs.declared.events.Event.{Event}
+use Rattle.cf_base.specs.declared.policies.Mode.{Mode}
 use Rattle.cf_base.specs.declared.statuses.Status.{Status}
 use Rattle.cf_base.specs.declared.statuses.Status.TheVariants as status
-use Rattle.cf_io.specs.Moves.{Adds}
-use Rattle.cf_report.specs.Texts.{text}
-use Rattle.cf_world.specs.Worlds.{State, IsAnswer, left_by}
+use Rattle.cf_disk.specs.Disk.{State as Disk}
+use Rattle.cf_io.specs.Moves.{Adds, AddsFront}
+use Rattle.cf_io.specs.declared.faults.ReadFail.{ReadFail}
+use Rattle.cf_io.specs.declared.faults.ReadFail.TheVariants as reading
+use Rattle.cf_points.specs.Standing.{clusters_on}
+use Rattle.cf_report.specs.Texts.{texts}
+use Rattle.cf_world.specs.Led.{HasRun}
+use Rattle.cf_world.specs.Runs.{PlaysFront, PlaysLong, answers_of, events_of, most_report}
+use Rattle.cf_world.specs.Sides.{Acted}
+use Rattle.cf_words.specs.declared.commands.WordsFail.{WordsFail}
+use Rattle.cf_words.specs.declared.commands.WordsFail.TheVariants as words
 use Rattle.cf_world.specs.declared.fails.PlayFail.{PlayFail}
 use Rattle.cf_world.specs.declared.fails.PlayFail.TheVariants as play
-
--- an event was answered lawfully, and the text of its answer waits behind what waited before
-abbrev pub Answers : Event → State → State → List ℕ → List ℕ → Type 0
-Answers event s t before after = (a : Answer) × IsAnswer s event a × (t ≡ left_by s event a.shown) × (after ≡ before ++ text a)
 
 -- a front of what waited was written, and the rest waits on
 abbrev pub Hands : Option (List ℕ) → Option (List ℕ) → List ℕ → List ℕ → Type 0
 Hands old new before after = (front : List ℕ) × (before ≡ front ++ after) × Adds old new front
 
+-- A front of the text was written, and the rest waits; so many bytes it has.
+pub record IsDrafted (text waiting : List ℕ) (made : ℕ) (old now : Option (List ℕ)) : Type 0 where
+  pub front : List ℕ
+  pub parts : text ≡ front ++ waiting
+  pub long : made ≡ length text
+  pub short : made ≤ most_report
+  pub written : Adds old now front
+
+-- A piece could not be added: the text would be too long, or a front of it all was written.
+abbrev pub AddFails : List ℕ → List ℕ → Option (List ℕ) → Option (List ℕ) → PlayFail → Type 0
+AddFails text piece old new play.TooLong = (most_report < length text + length piece) × Adds old new text
+AddFails text piece old new play.SinkFault = AddsFront old new (text ++ piece)
+AddFails text piece old new play.Memory = AddsFront old new (text ++ piece)
+
 -- the status of a run that ends early
 abbrev pub early_status : PlayFail → Status
 early_status play.SinkFault = status.SinkFault
+early_status play.TooLong = status.TooLong
 early_status play.Memory = status.Memory
+
+-- the status of a run whose events were done, or not
+abbrev pub play_status : Result (Unit {0}) PlayFail → Status
+play_status (Ok u) = status.Done
+play_status (Err e) = early_status e
+
+abbrev pub words_status : WordsFail → Status
+words_status words.Usage = status.Usage
+words_status words.Memory = status.Memory
+
+abbrev pub read_status : ReadFail → Status
+read_status reading.Fault = status.SourceFault
+read_status reading.TooLong = status.TooLong
+read_status reading.Memory = status.Memory
+
+abbrev pub start_status : Fail → Status
+start_status (fail.No c) = status.DeviceFault
+start_status fail.Memory = status.Memory
+
+-- what a sink or want of memory can stop
+abbrev pub IsOfSink : PlayFail → Type 0
+IsOfSink play.TooLong = ⊥
+IsOfSink _ = Unit {0}
+
+-- All events were done, and the texts of their answers written.
+pub record AllPlayed {D R : Type 0} (state : D → Disk) (m : Mode) (disk : D) (events : List Event) (old new : Option (List ℕ)) (w : Acted D R) : Type 0 where
+  pub run : HasRun state m disk w
+  pub each : events_of w.trace ≡ events
+  pub written : Adds old new (texts (answers_of w.trace))
+  pub short : length (texts (answers_of w.trace)) ≤ most_report
+
+-- what was written of them where it ended early
+abbrev pub SomePlayed : Mode → ℕ → List Event → Option (List ℕ) → Option (List ℕ) → PlayFail → Type 0
+SomePlayed m clusters events old new play.TooLong = PlaysLong m clusters events old new
+SomePlayed m clusters events old new play.SinkFault = PlaysFront m clusters events old new
+SomePlayed m clusters events old new play.Memory = PlaysFront m clusters events old new

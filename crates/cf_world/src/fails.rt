@@ -11,6 +11,9 @@ use std::alloc::AllocError;
 pub enum PlayFail {
     #[error("writing failed")]
     SinkFault,
+    /// The next text would bring the report past its limit.
+    #[error("the report is too long")]
+    TooLong,
     #[error("out of memory")]
     Memory,
 }

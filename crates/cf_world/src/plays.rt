@@ -1,75 +1,75 @@
 //! The events of a script, one after the other, and what is written of them.
 
-ghost use Rattle.std.specs.Prelude.{◌≡◌, ◌≤◌, ◌++◌, OnOk, OnErr, IsErrOf, IsTrue};
+ghost use Rattle.std.specs.Prelude.{◌≡◌, ◌≤◌, ◌<◌, ◌++◌, ◌∷◌, [], length, List, IfErr, IfOk, OnOk, IsErrOf, IsTrue, true};
 ghost use Rattle.std.specs.List.{list_all};
-ghost use Rattle.cf_io.specs.Moves.{Rose, Adds, AddsFront};
+ghost use Rattle.cf_base.specs.declared.answers.Answer.{Answer as Answered};
+ghost use Rattle.cf_base.specs.declared.events.Event.{Event as Done};
+ghost use Rattle.cf_base.specs.declared.policies.Mode.{Mode as Commanded};
+ghost use Rattle.cf_io.specs.Moves.{Rose};
+ghost use Rattle.cf_points.specs.Standing.{clusters_on};
 ghost use Rattle.cf_report.specs.Texts.{text as text_of};
-ghost use Rattle.cf_script.specs.Built.{is_built};
-ghost use Rattle.cf_world.specs.Runs.{Plays, PlaysFront};
-ghost use Rattle.cf_world.specs.Steps.{Answers, Hands};
+ghost use Rattle.cf_world.specs.Led.{HasRun, IsSame, IsWhole, can_do};
+ghost use Rattle.cf_world.specs.Steps.{AllPlayed, SomePlayed};
 
+use crate::drafts::add;
 use crate::fails::PlayFail;
 use crate::worlds::World;
-use cf_base::{Answer, Event, Memory, Mode};
+use cf_base::{Blob, Event, Memory};
+use cf_disk::Disk;
 use cf_io::{Sink, write_all};
 use cf_report::text;
 use std::alloc::Global;
 
-/// Texts are written as soon as they have so many bytes together.
-const PIECE: usize = 65_536;
-
-/// Does the events from an empty world, and writes the text of each answer.
-pub fn play<K: Sink>(alloc: Global, events: &[Event], sink: &mut K) -> Result<(), PlayFail>
-    requires { IsTrue (list_all (is_built Mode.Replay) events.now) }
-    ensures ok { OnOk result (Plays events.now (K.held sink.old) (K.held sink.new)) }
-    ensures err { OnErr result (PlaysFront events.now (K.held sink.old) (K.held sink.new)) }
-    ensures fault { IsErrOf result PlayFail.SinkFault → Rose (K.faults sink.old) (K.faults sink.new) }
-    ensures never_falls { K.faults sink.old ≤ K.faults sink.new }
-{
-    let mut world = World::start(alloc);
-    let mut waiting = Vec::new(alloc);
-    for event in events {
-        play_event(&mut world, alloc, event, &mut waiting)?;
-        write_piece(&mut waiting, sink)?;
-    }
-    write_all(sink, waiting.as_slice())?;
-    Ok(())
-}
-
-/// Does an event, and adds the text of its answer to what waits.
-fn play_event(
-    world: &mut World,
+/// Does the events in a world in which nothing has happened, and writes the text of each answer.
+pub fn play<K: Sink, D: Disk + Drop, R>(
     alloc: Global,
-    event: &Event,
-    waiting: &mut Vec<u8>,
-) -> Result<(), Memory>
-    requires { IsTrue (is_built Mode.Replay event.now) }
-    ensures { OnOk result (Answers event.now world.old world.new waiting.old.items waiting.new.items) }
-{
-    let answer = world.step(alloc, event)?;
-    add_text(alloc, &answer, waiting)
-}
-
-/// Adds the text of an answer to what waits.
-fn add_text(alloc: Global, answer: &Answer, waiting: &mut Vec<u8>) -> Result<(), Memory>
-    ensures { OnOk result (waiting.new.items ≡ waiting.old.items ++ text_of answer.now) }
-{
-    let text = text(alloc, answer)?;
-    waiting.extend_from_slice(text.as_slice())?;
-    Ok(())
-}
-
-/// Writes what waits where it is enough for a piece.
-fn write_piece<K: Sink>(waiting: &mut Vec<u8>, sink: &mut K) -> Result<(), PlayFail>
-    ensures ok { OnOk result (Hands (K.held sink.old) (K.held sink.new) waiting.old.items waiting.new.items) }
-    ensures err { OnErr result (AddsFront (K.held sink.old) (K.held sink.new) waiting.old.items) }
+    world: &mut World<D, R>,
+    events: &[Event],
+    sink: &mut K,
+) -> Result<(), PlayFail>
+    requires fresh { world.old.trace ≡ [] }
+    requires whole { IsWhole world.old.side }
+    requires can { IsTrue (list_all (can_do world.old.side) events.now) }
+    ensures ok { (m : Commanded) (disk : D) → HasRun D.state m disk world.old → OnOk result (AllPlayed D.state m disk events.now (K.held sink.old) (K.held sink.new) world.new) }
+    ensures err { (m : Commanded) (disk : D) → HasRun D.state m disk world.old → IfErr result (SomePlayed m (clusters_on (D.state disk).seen) events.now (K.held sink.old) (K.held sink.new)) }
+    ensures whole { IsWhole world.new.side }
+    ensures same { (world.new.remote ≡ world.old.remote) × IsSame world.old.side world.new.side }
     ensures fault { IsErrOf result PlayFail.SinkFault → Rose (K.faults sink.old) (K.faults sink.new) }
-    ensures never_falls { K.faults sink.old ≤ K.faults sink.new }
 {
-    if waiting.len() < PIECE {
-        return Ok(());
+    let mut waiting = Vec::new(alloc);
+    let mut made: usize = 0;
+    for event in events {
+        let text = answer(alloc, world, event)?;
+        made = add(&mut waiting, made, text.as_slice(), sink)?;
     }
     write_all(sink, waiting.as_slice())?;
-    waiting.clear();
     Ok(())
+}
+
+/// Does an event, and gives the text of its answer.
+fn answer<D: Disk + Drop, R>(
+    alloc: Global,
+    world: &mut World<D, R>,
+    event: &Event,
+) -> Result<Blob, Memory>
+    requires whole { IsWhole world.old.side }
+    requires can { can_do world.old.side event.now ≡ true }
+    ensures ok { (m : Commanded) (disk : D) → HasRun D.state m disk world.old → OnOk result (HasRun D.state m disk world.new) }
+    ensures adds { IfOk result (λ t. (a : Answered) × (world.new.trace ≡ world.old.trace ++ (event.now, a) ∷ []) × (t ≡ text_of a)) }
+    ensures whole { IsWhole world.new.side }
+    ensures same { (world.new.remote ≡ world.old.remote) × IsSame world.old.side world.new.side }
+{
+    world.step(alloc, event)?;
+    last_text(alloc, world)
+}
+
+/// The text of the last answer.
+fn last_text<D: Disk + Drop, R>(alloc: Global, world: &World<D, R>) -> Result<Blob, Memory>
+    requires { 0 < length world.now.trace }
+    ensures { (before : List (Done × Answered)) (p : Done × Answered) → world.now.trace ≡ before ++ p ∷ [] → IfOk result (λ t. t ≡ text_of p.1) }
+{
+    match world.trace().last() {
+        Some((_event, answer)) => text(alloc, answer),
+        None => unreachable!(),
+    }
 }

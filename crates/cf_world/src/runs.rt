@@ -1,104 +1,298 @@
 //! The top call.
 
-ghost use Rattle.std.specs.Prelude.{◌≡◌, ◌≢◌, ℕ, ◌<◌, ◌≤◌, ◌^◌, ◌⊎◌, length, List, [], ◌∷◌, IfSome, IfOk, OnOk, OnErr, IsErrOf, codes, string_bytes, map, IsTrue, ◌↔◌};
+ghost use Rattle.std.specs.Prelude.{◌≡◌, ◌≢◌, ◌⊎◌, ◌<◌, ◌≤◌, ◌+◌, ◌↔◌, length, List, [], IfErr, IfSome, IfOk, IsTrue, OnOk, OnErr, IsErrOf, string_bytes, map};
 ghost use Rattle.cf_base.specs.declared.events.Event.{Event};
+ghost use Rattle.cf_base.specs.declared.policies.Mode.{Mode as Commanded};
+ghost use Rattle.cf_base.specs.declared.policies.Mode.TheVariants.{Filter};
+ghost use Rattle.cf_disk.specs.Disk.{capped, size_of};
 ghost use Rattle.cf_io.specs.Moves.{Rose, IsQuiet, Adds, AddsFront};
 ghost use Rattle.cf_script.specs.Fail.{IsCause};
 ghost use Rattle.cf_script.specs.Script.{lines_of};
-ghost use Rattle.cf_world.specs.Runs.{Writes, IsAfterReading, IsLength, IsBuilt, fail_line};
-ghost use Rattle.cf_world.specs.Steps.{early_status};
+ghost use Rattle.cf_words.specs.Accounts.{AreTaken, Names};
+ghost use Rattle.cf_words.specs.declared.commands.Command.{Command as Meant};
+ghost use Rattle.cf_world.specs.Led.{HandsBack, HasRun};
+ghost use Rattle.cf_world.specs.Runs.{IsAfterReading, IsBeforeDevice, IsBeforeWriting, IsBuilt, IsComplete, IsFit, IsLength, IsOfReport, IsStarted, IsUnfit, Writes, WritesRefusal, fail_line, mode_of};
+ghost use Rattle.cf_world.specs.Steps.{early_status, play_status, read_status, start_status, words_status};
 
 use crate::fails::PlayFail;
 use crate::plays::play;
-use cf_base::{Event, Mode, Status};
+use crate::worlds::World;
+use cf_base::{Event, Fail, Mode, Status};
+use cf_disk::Disk;
 use cf_io::{ReadFail, Sink, Source, read_all, write_all};
+use cf_remote::Remote;
 use cf_script::{ScriptFail, read};
+use cf_words::{Command, WordsFail, command_of};
 use std::alloc::{AllocError, Global};
 
 /// The most bytes that a script has.
 const MOST_SCRIPT_BYTES: usize = 16_777_216;
 
-/// Reads a script from the source, does its events, and writes the report to the sink. The words are those after the
-/// program's name; accepted is the one word `replay`.
-pub fn run<S: Source, K: Sink>(
+/// The sizes of a device, in bytes.
+const LEAST_DEVICE: u64 = 3_145_728;
+
+const MOST_DEVICE: u64 = 271_581_184;
+
+const CLUSTER: u64 = 4096;
+
+/// How a run ended, and the device and the remote that it leaves.
+#[derive(Drop)]
+pub struct Finish<D, R> {
+    pub status: Status,
+    pub disk: D,
+    pub remote: R,
+}
+
+/// Reads a script from the source, does its events on the disk and the remote, and writes the report to the sink. The words
+/// are those after the program's name; `replay` and `filter` are commands. In `replay` the disk and the remote are not used
+/// yet, in `filter` the remote.
+pub fn run<S: Source, K: Sink, D: Disk + Drop, R: Remote>(
     alloc: Global,
     words: &[String],
     source: &mut S,
     sink: &mut K,
-) -> Status
-    // What was written, by the status: at Done the texts of lawful answers, one for each event of the whole text.
-    ensures writes { IfSome (S.left source.old) (λ text. Writes text (K.held sink.old) (K.held sink.new) result) }
+    disk: D,
+    remote: R,
+) -> Finish<D, R>
+    // What was written, by the status: at Done the texts of lawful answers, one for each event of the whole text; and what
+    // a crash then leaves of the disk stands for a point that a restart may open.
+    ensures writes { (c : Meant) → Names (map string_bytes words.now) c → IfSome (S.left source.old) (λ text. Writes D.state (mode_of c) disk text (K.held sink.old) (K.held sink.new) result.status result.disk) }
+    ensures remote { result.remote ≡ remote }
+    ensures kept { (c : Meant) → Names (map string_bytes words.now) c → HandsBack (mode_of c) disk result.disk }
 
     // The cause of each status.
-    ensures usage { (result ≡ Status.Usage) ↔ (map string_bytes words.now ≢ codes "replay" ∷ []) }
-    ensures source_fault { result ≡ Status.SourceFault → Rose (S.faults source.old) (S.faults source.new) }
-    ensures sink_fault { result ≡ Status.SinkFault → Rose (K.faults sink.old) (K.faults sink.new) }
-    ensures lengths { IfSome (S.left source.old) (IsLength result) }
-    ensures bad { result ≡ Status.BadScript → IfSome (S.left source.old) (λ text. (events : List Event) → IsBuilt text events → ⊥) }
+    ensures usage { result.status ≡ Status.Usage → AreTaken (map string_bytes words.now) → ⊥ }
+    ensures refused { (AreTaken (map string_bytes words.now) → ⊥) → (result.status ≡ Status.Usage) ⊎ (result.status ≡ Status.Memory) }
+    ensures source_fault { result.status ≡ Status.SourceFault → Rose (S.faults source.old) (S.faults source.new) }
+    ensures sink_fault { result.status ≡ Status.SinkFault → Rose (K.faults sink.old) (K.faults sink.new) }
+    ensures lengths { IfSome (S.left source.old) (IsLength result.status) }
+    ensures bad { (c : Meant) → Names (map string_bytes words.now) c → result.status ≡ Status.BadScript → IfSome (S.left source.old) (λ text. (events : List Event) → IsBuilt (mode_of c) text events → ⊥) }
+    ensures device { result.status ≡ Status.BadDevice → IsFit (size_of (D.state disk)) → ⊥ }
+    ensures unfit { (c : Meant) → Names (map string_bytes words.now) c → (IsFit (size_of (D.state disk)) → ⊥)
+        → IfSome (S.left source.old) (λ text. length text ≤ 16777216 → (events : List Event) → IsBuilt (mode_of c) text events → IsUnfit result.status) }
+    ensures device_fault { result.status ≡ Status.DeviceFault → capped ((D.state disk).faults + 1) ≤ (D.state result.disk).faults }
+    ensures begun { (c : Meant) → Names (map string_bytes words.now) c → result.status ≡ Status.DeviceFault → mode_of c ≡ Filter }
 
     // What is not touched.
-    ensures unread { result ≡ Status.Usage → source.new ≡ source.old }
-    ensures unwritten { (result ≡ Status.Usage) ⊎ ((result ≡ Status.SourceFault) ⊎ (result ≡ Status.TooLong)) → sink.new ≡ sink.old }
+    ensures unread { result.status ≡ Status.Usage → source.new ≡ source.old }
+    ensures unwritten { IsBeforeWriting result.status → sink.new ≡ sink.old }
+    ensures long { result.status ≡ Status.TooLong → IfSome (S.left source.old) (λ text. 16777216 < length text → sink.new ≡ sink.old) }
+    ensures unused { IsBeforeDevice result.status → result.disk ≡ disk }
 
-    // The source and the sink do not fail, and the text spells events that are built: the run is done, or memory ran out.
-    ensures complete { map string_bytes words.now ≡ codes "replay" ∷ [] → IsQuiet (S.faults source.old) (S.faults source.new)
-        → IsQuiet (K.faults sink.old) (K.faults sink.new) → IfSome (S.left source.old) (λ text. length text ≤ 16777216
-        → (events : List Event) → IsBuilt text events → (result ≡ Status.Done) ⊎ (result ≡ Status.Memory)) }
+    // Source and sink do not fail, the device is fit, and the text spells events that are built: the run is done, the report
+    // is too long, memory ran out, or the device failed before the first event.
+    ensures complete { (c : Meant) → Names (map string_bytes words.now) c → IsQuiet (S.faults source.old) (S.faults source.new)
+        → IsQuiet (K.faults sink.old) (K.faults sink.new) → IsFit (size_of (D.state disk))
+        → IfSome (S.left source.old) (λ text. length text ≤ 16777216 → (events : List Event) → IsBuilt (mode_of c) text events → IsComplete result.status) }
 {
-    if !is_replay(words) {
-        return Status::Usage;
+    match command_of(alloc, words) {
+        Ok(command) => sourced(alloc, mode_of(command), source, sink, disk, remote),
+        Err(fail) => Finish {
+            status: unread(fail),
+            disk,
+            remote,
+        },
     }
+}
+
+fn mode_of(command: Command) -> Mode
+    ensures { result ≡ mode_of command }
+{
+    match command {
+        Command::Replay => Mode::Replay,
+        Command::Filter => Mode::Filter,
+    }
+}
+
+fn unread(fail: WordsFail) -> Status
+    ensures { result ≡ words_status fail }
+{
+    match fail {
+        WordsFail::Usage => Status::Usage,
+        WordsFail::Memory => Status::Memory,
+    }
+}
+
+/// Reads the source, and does its script.
+fn sourced<S: Source, K: Sink, D: Disk + Drop, R: Remote>(
+    alloc: Global,
+    mode: Mode,
+    source: &mut S,
+    sink: &mut K,
+    disk: D,
+    remote: R,
+) -> Finish<D, R>
+    ensures writes { IfSome (S.left source.old) (λ text. Writes D.state mode disk text (K.held sink.old) (K.held sink.new) result.status result.disk) }
+    ensures remote { result.remote ≡ remote }
+    ensures kept { HandsBack mode disk result.disk }
+    ensures only { result.status ≢ Status.Usage }
+    ensures source_fault { result.status ≡ Status.SourceFault → Rose (S.faults source.old) (S.faults source.new) }
+    ensures sink_fault { result.status ≡ Status.SinkFault → Rose (K.faults sink.old) (K.faults sink.new) }
+    ensures lengths { IfSome (S.left source.old) (IsLength result.status) }
+    ensures bad { result.status ≡ Status.BadScript → IfSome (S.left source.old) (λ text. (events : List Event) → IsBuilt mode text events → ⊥) }
+    ensures device { result.status ≡ Status.BadDevice → IsFit (size_of (D.state disk)) → ⊥ }
+    ensures unfit { (IsFit (size_of (D.state disk)) → ⊥) → IfSome (S.left source.old) (λ text. length text ≤ 16777216 → (events : List Event) → IsBuilt mode text events → IsUnfit result.status) }
+    ensures device_fault { result.status ≡ Status.DeviceFault → capped ((D.state disk).faults + 1) ≤ (D.state result.disk).faults }
+    ensures begun { result.status ≡ Status.DeviceFault → mode ≡ Filter }
+    ensures unwritten { IsBeforeWriting result.status → sink.new ≡ sink.old }
+    ensures long { result.status ≡ Status.TooLong → IfSome (S.left source.old) (λ text. 16777216 < length text → sink.new ≡ sink.old) }
+    ensures unused { IsBeforeDevice result.status → result.disk ≡ disk }
+    ensures complete { IsQuiet (S.faults source.old) (S.faults source.new) → IsQuiet (K.faults sink.old) (K.faults sink.new) → IsFit (size_of (D.state disk))
+        → IfSome (S.left source.old) (λ text. length text ≤ 16777216 → (events : List Event) → IsBuilt mode text events → IsComplete result.status) }
+{
     match read_all(alloc, source, MOST_SCRIPT_BYTES) {
-        Ok(text) => replay(alloc, &text, sink),
-        Err(ReadFail::Fault) => Status::SourceFault,
-        Err(ReadFail::TooLong) => Status::TooLong,
-        Err(ReadFail::Memory) => Status::Memory,
+        Ok(text) => scripted(alloc, mode, &text, sink, disk, remote),
+        Err(fail) => Finish {
+            status: unscripted(fail),
+            disk,
+            remote,
+        },
     }
 }
 
-fn is_replay(words: &[String]) -> bool
-    ensures { IsTrue result ↔ (map string_bytes words.now ≡ codes "replay" ∷ []) }
+fn unscripted(fail: ReadFail) -> Status
+    ensures { result ≡ read_status fail }
 {
-    match words {
-        [word] => word.as_str() == "replay",
-        _ => false,
+    match fail {
+        ReadFail::Fault => Status::SourceFault,
+        ReadFail::TooLong => Status::TooLong,
+        ReadFail::Memory => Status::Memory,
     }
 }
 
-fn replay<K: Sink>(alloc: Global, text: &[u8], sink: &mut K) -> Status
-    requires { length text.now < 2 ^ 32 }
-    ensures writes { Writes text.now (K.held sink.old) (K.held sink.new) result }
-    ensures only { IsAfterReading result }
-    ensures sink_fault { result ≡ Status.SinkFault → Rose (K.faults sink.old) (K.faults sink.new) }
-    ensures bad { result ≡ Status.BadScript → (events : List Event) → IsBuilt text.now events → ⊥ }
-    ensures complete { IsQuiet (K.faults sink.old) (K.faults sink.new) → (events : List Event) → IsBuilt text.now events → (result ≡ Status.Done) ⊎ (result ≡ Status.Memory) }
+/// Reads the script, and does its events.
+fn scripted<K: Sink, D: Disk + Drop, R: Remote>(
+    alloc: Global,
+    mode: Mode,
+    text: &[u8],
+    sink: &mut K,
+    disk: D,
+    remote: R,
+) -> Finish<D, R>
+    requires { length text.now ≤ 16777216 }
+    ensures writes { Writes D.state mode disk text.now (K.held sink.old) (K.held sink.new) result.status result.disk }
+    ensures remote { result.remote ≡ remote }
+    ensures kept { HandsBack mode disk result.disk }
+    ensures only { IsAfterReading result.status }
+    ensures sink_fault { result.status ≡ Status.SinkFault → Rose (K.faults sink.old) (K.faults sink.new) }
+    ensures bad { result.status ≡ Status.BadScript → (events : List Event) → IsBuilt mode text.now events → ⊥ }
+    ensures device { result.status ≡ Status.BadDevice → IsFit (size_of (D.state disk)) → ⊥ }
+    ensures unfit { (IsFit (size_of (D.state disk)) → ⊥) → (events : List Event) → IsBuilt mode text.now events → IsUnfit result.status }
+    ensures device_fault { result.status ≡ Status.DeviceFault → capped ((D.state disk).faults + 1) ≤ (D.state result.disk).faults }
+    ensures begun { result.status ≡ Status.DeviceFault → mode ≡ Filter }
+    ensures unwritten { IsBeforeWriting result.status → sink.new ≡ sink.old }
+    ensures unused { IsBeforeDevice result.status → result.disk ≡ disk }
+    ensures complete { IsQuiet (K.faults sink.old) (K.faults sink.new) → IsFit (size_of (D.state disk)) → (events : List Event) → IsBuilt mode text.now events → IsComplete result.status }
 {
-    match read(alloc, text, Mode::Replay) {
-        Ok(events) => report(alloc, text, events.as_slice(), sink),
-        Err(fail) => refuse(alloc, text, fail, sink),
+    match read(alloc, text, mode) {
+        Ok(events) => started(alloc, mode, text, events.as_slice(), sink, disk, remote),
+        Err(fail) => Finish {
+            status: refuse(alloc, mode, text, fail, sink),
+            disk,
+            remote,
+        },
+    }
+}
+
+fn is_fit(size: u64) -> bool
+    ensures { IsTrue result ↔ IsFit size }
+{
+    LEAST_DEVICE <= size && size <= MOST_DEVICE && size % CLUSTER == 0
+}
+
+/// Begins with the events, where the device is fit.
+fn started<K: Sink, D: Disk + Drop, R: Remote>(
+    alloc: Global,
+    mode: Mode,
+    text: &[u8],
+    events: &[Event],
+    sink: &mut K,
+    disk: D,
+    remote: R,
+) -> Finish<D, R>
+    requires short { length text.now ≤ 16777216 }
+    requires built { IsBuilt mode text.now events.now }
+    ensures writes { Writes D.state mode disk text.now (K.held sink.old) (K.held sink.new) result.status result.disk }
+    ensures remote { result.remote ≡ remote }
+    ensures kept { HandsBack mode disk result.disk }
+    ensures only { IsStarted result.status }
+    ensures sink_fault { result.status ≡ Status.SinkFault → Rose (K.faults sink.old) (K.faults sink.new) }
+    ensures device { result.status ≡ Status.BadDevice → IsFit (size_of (D.state disk)) → ⊥ }
+    ensures unfit { (IsFit (size_of (D.state disk)) → ⊥) → result.status ≡ Status.BadDevice }
+    ensures device_fault { result.status ≡ Status.DeviceFault → capped ((D.state disk).faults + 1) ≤ (D.state result.disk).faults }
+    ensures begun { result.status ≡ Status.DeviceFault → mode ≡ Filter }
+    ensures unwritten { IsBeforeWriting result.status → sink.new ≡ sink.old }
+    ensures unused { IsBeforeDevice result.status → result.disk ≡ disk }
+{
+    if !is_fit(disk.size()) {
+        return Finish {
+            status: Status::BadDevice,
+            disk,
+            remote,
+        };
+    }
+    match World::start(alloc, disk, remote, mode) {
+        Ok(world) => report(alloc, mode, text, events, sink, world),
+        Err((disk, remote, fail)) => Finish {
+            status: unstarted(fail),
+            disk,
+            remote,
+        },
+    }
+}
+
+// A start is stopped by the device or by want of memory alone.
+fn unstarted(fail: Fail) -> Status
+    ensures { result ≡ start_status fail }
+{
+    match fail {
+        Fail::No(_code) => Status::DeviceFault,
+        Fail::Memory => Status::Memory,
     }
 }
 
 /// Does the events, and writes the report.
-fn report<K: Sink>(alloc: Global, text: &[u8], events: &[Event], sink: &mut K) -> Status
-    requires { IsBuilt text.now events.now }
-    ensures writes { Writes text.now (K.held sink.old) (K.held sink.new) result }
-    ensures only { IsAfterReading result }
-    ensures good { result ≢ Status.BadScript }
-    ensures sink_fault { result ≡ Status.SinkFault → Rose (K.faults sink.old) (K.faults sink.new) }
+fn report<K: Sink, D: Disk + Drop, R: Remote>(
+    alloc: Global,
+    mode: Mode,
+    text: &[u8],
+    events: &[Event],
+    sink: &mut K,
+    mut world: World<D, R>,
+) -> Finish<D, R>
+    requires short { length text.now ≤ 16777216 }
+    requires built { IsBuilt mode text.now events.now }
+    requires fresh { world.trace ≡ [] }
+    requires began { (disk : D) × HasRun D.state mode disk world }
+    ensures writes { (disk : D) → HasRun D.state mode disk world → Writes D.state mode disk text.now (K.held sink.old) (K.held sink.new) result.status result.disk }
+    ensures remote { result.remote ≡ world.remote }
+    ensures kept { (disk : D) → HasRun D.state mode disk world → HandsBack mode disk result.disk }
+    ensures only { IsOfReport result.status }
+    ensures sink_fault { result.status ≡ Status.SinkFault → Rose (K.faults sink.old) (K.faults sink.new) }
 {
-    match play(alloc, events, sink) {
+    let played = play(alloc, &mut world, events, sink);
+    let (disk, remote) = world.finish();
+    Finish {
+        status: status_of(played),
+        disk,
+        remote,
+    }
+}
+
+fn status_of(played: Result<(), PlayFail>) -> Status
+    ensures { result ≡ play_status played }
+{
+    match played {
         Ok(()) => Status::Done,
         Err(fail) => early(fail),
     }
 }
 
 /// Writes why the script is not read.
-fn refuse<K: Sink>(alloc: Global, text: &[u8], fail: ScriptFail, sink: &mut K) -> Status
-    requires { IsCause Mode.Replay (lines_of text.now) fail }
-    ensures writes { Writes text.now (K.held sink.old) (K.held sink.new) result }
-    ensures only { IsAfterReading result }
-    ensures bad { result ≡ Status.BadScript → fail ≢ ScriptFail.Memory }
+fn refuse<K: Sink>(alloc: Global, mode: Mode, text: &[u8], fail: ScriptFail, sink: &mut K) -> Status
+    requires { IsCause mode (lines_of text.now) fail }
+    ensures writes { WritesRefusal mode text.now (K.held sink.old) (K.held sink.new) result }
+    ensures memory { fail ≡ ScriptFail.Memory → result ≡ Status.Memory }
     ensures sink_fault { result ≡ Status.SinkFault → Rose (K.faults sink.old) (K.faults sink.new) }
 {
     if fail == ScriptFail::Memory {
@@ -113,6 +307,7 @@ fn refuse<K: Sink>(alloc: Global, text: &[u8], fail: ScriptFail, sink: &mut K) -
 fn write_fail<K: Sink>(alloc: Global, fail: ScriptFail, sink: &mut K) -> Result<(), PlayFail>
     ensures ok { OnOk result (Adds (K.held sink.old) (K.held sink.new) (fail_line fail)) }
     ensures err { OnErr result (AddsFront (K.held sink.old) (K.held sink.new) (fail_line fail)) }
+    ensures only { IfErr result (λ e. e ≢ PlayFail.TooLong) }
     ensures fault { IsErrOf result PlayFail.SinkFault → Rose (K.faults sink.old) (K.faults sink.new) }
 {
     let text = fail_text(alloc, fail)?;
@@ -137,6 +332,7 @@ fn early(fail: PlayFail) -> Status
 {
     match fail {
         PlayFail::SinkFault => Status::SinkFault,
+        PlayFail::TooLong => Status::TooLong,
         PlayFail::Memory => Status::Memory,
     }
 }

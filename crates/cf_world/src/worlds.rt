@@ -1,158 +1,152 @@
-//! The world that a script acts on.
+//! The world that a script acts on, and its trace.
 
-ghost use Rattle.std.specs.Prelude.{◌≡◌, ◌≢◌, ℕ, List, [], ◌∷◌, take, drop, Option, Some, None, unwrap_or, option_map, if◌then◌else◌, not, true, false, IfOk, OnOk, OnErr, MatchOption, IsTrue};
-ghost use Rattle.cf_base.specs.Names.{is_name};
-ghost use Rattle.cf_base.specs.declared.answers.Shown.TheVariants.{Refused};
-ghost use Rattle.cf_base.specs.declared.calls.Call.TheVariants as call;
-ghost use Rattle.cf_base.specs.declared.codes.Code.TheVariants.{NotFound};
-ghost use Rattle.cf_base.specs.declared.events.EngineEvent.TheVariants as engine;
-ghost use Rattle.cf_base.specs.declared.events.Event.TheVariants as events;
-ghost use Rattle.cf_base.specs.declared.events.PeerEvent.TheVariants as peer;
-ghost use Rattle.cf_script.specs.Built.{is_built, is_one_name};
-ghost use Rattle.cf_world.specs.Worlds.{State, start, name_of, known, span_of, shown_of, IsAnswer, left_by};
+ghost use Rattle.std.specs.Prelude.{◌≡◌, ◌++◌, ◌∷◌, [], is_some, IfErr, IfOk, OnErr, OnOk, List, Some, true};
+ghost use Rattle.cf_acting.specs.Meaning.{Is};
+ghost use Rattle.cf_acting.specs.Stepped.{Steps};
+ghost use Rattle.cf_acting.specs.declared.places.Acting.{Acting as Hands};
+ghost use Rattle.cf_base.specs.declared.answers.Answer.{Answer as Answered};
+ghost use Rattle.cf_base.specs.declared.events.Event.{Event as Done};
+ghost use Rattle.cf_base.specs.declared.policies.Mode.{Mode as Commanded};
+ghost use Rattle.cf_disk.specs.Disk.{size_of};
+ghost use Rattle.cf_base.specs.declared.policies.Mode.TheVariants.{Filter};
+ghost use Rattle.cf_journal.specs.Settled.{IsFitSize};
+ghost use Rattle.cf_model.specs.Events.{is_of};
+ghost use Rattle.cf_volume.specs.Calls.{IsCause, StopsOnly};
+ghost use Rattle.cf_world.specs.Led.{HasRun, HasRunOn, IsSame, IsWhole, Keeps, Leads, can_do};
 
-use crate::files::Files;
-use cf_base::{
-    Answer, Blob, Call, Code, End, EngineEvent, Event, Fail, Memory, Mode, Name, PeerEvent,
-    Sequence, Shown, Text,
-};
+use crate::sides::Side;
+use cf_acting::Acting;
+use cf_base::{Answer, Event, Fail, Memory, Mode};
+use cf_disk::Disk;
+use cf_plain::PlainWorld;
 use std::alloc::Global;
 use std::marker::Model;
 
-/// The most bytes that a file has.
-const MOST_FILE_BYTES: usize = 16_777_216;
-
-/// The remote, and what the device knows of it.
+/// A world with the events so far and their answers.
 #[derive(Drop)]
-pub struct World {
-    remote: Files,
-    local: Vec<u64>,
+pub struct World<D: Disk + Drop, R> {
+    side: Side<D>,
+    remote: R,
+    trace: Vec<(Event, Answer)>,
 }
 
-impl Model for World {
-    ghost use Rattle.cf_world.specs.Worlds.{State};
+impl<D: Disk + Drop, R> Model for World<D, R> {
+    ghost use Rattle.cf_world.specs.Sides.{Acted};
 
-    ghost Value = { State };
+    ghost Value = { Acted D R };
 
-    ghost view = { λ w. record { remote = w.remote; local = w.local.items } };
+    ghost view = { λ w. record { side = w.side; remote = w.remote; trace = w.trace.items } };
 }
 
-impl World {
-    /// An empty remote, of which the device knows nothing.
-    pub fn start(alloc: Global) -> World
-        ensures { result ≡ start }
+impl<D: Disk + Drop, R> World<D, R> {
+    /// A world in which nothing has happened. In `filter` a volume is made on the disk, which has a fit size. Refused as
+    /// Device where a call of the disk failed, and as Memory; then disk and remote come back.
+    pub fn start(alloc: Global, disk: D, remote: R, mode: Mode) -> Result<World<D, R>, (D, R, Fail)>
+        requires { IsFitSize (size_of (D.state disk)) }
+        ensures ok { IfOk result (HasRun D.state mode disk) }
+        ensures begins { IfOk result (λ w. (w.trace ≡ []) × (w.remote ≡ remote)) }
+        ensures back { IfErr result (λ e. e.1 ≡ remote) }
+        ensures made { IfErr result (λ e. mode ≡ Filter) }
+        ensures only { IfErr result (λ e. StopsOnly e.2) }
+        ensures cause { IfErr result (λ e. IsCause e.2 (D.state disk) (D.state e.0)) }
     {
-        World {
-            remote: Files::new(alloc),
-            local: Vec::new(alloc),
+        let trace = Vec::new(alloc);
+        match mode {
+            Mode::Replay => Ok(World {
+                side: Side::Replay(PlainWorld::start(alloc), disk),
+                remote,
+                trace,
+            }),
+            Mode::Filter => match Acting::start(alloc, disk) {
+                Ok(acting) => Ok(World {
+                    side: Side::Filter(Some(acting)),
+                    remote,
+                    trace,
+                }),
+                Err((disk, fail)) => Err((disk, remote, fail)),
+            },
         }
     }
 
-    /// Does an event, and answers it. For want of memory all is as before.
-    pub fn step(&mut self, alloc: Global, event: &Event) -> Result<Answer, Memory>
-        requires { IsTrue (is_built Mode.Replay event.now) }
-        ensures lawful { IfOk result (IsAnswer self.old event.now) }
-        ensures left { IfOk result (λ a. self.new ≡ left_by self.old event.now a.shown) }
-        ensures err { OnErr result (self.new ≡ self.old) }
+    /// Does an event of the mode, and adds it to the trace with its answer. At Memory nothing is added, and nothing more is
+    /// said of the world.
+    pub fn step(&mut self, alloc: Global, event: &Event) -> Result<(), Memory>
+        requires whole { IsWhole self.old.side }
+        requires can { can_do self.old.side event.now ≡ true }
+        ensures ok { (m : Commanded) (disk : D) → HasRun D.state m disk self.old → OnOk result (HasRun D.state m disk self.new) }
+        ensures adds { OnOk result ((a : Answered) × (self.new.trace ≡ self.old.trace ++ (event.now, a) ∷ [])) }
+        ensures err { OnErr result (self.new.trace ≡ self.old.trace) }
+        ensures whole { IsWhole self.new.side }
+        ensures same { (self.new.remote ≡ self.old.remote) × IsSame self.old.side self.new.side }
     {
-        let shown = self.show(alloc, event)?;
-        Ok(Answer {
-            notes: Sequence::new(alloc),
-            shown,
-            stray: None,
-        })
+        self.trace.reserve(1)?;
+        let kept = event.copy()?;
+        let answer = act(alloc, &mut self.side, event)?;
+        self.trace.push((kept, answer)).unwrap();
+        Ok(())
     }
 
-    fn show(&mut self, alloc: Global, event: &Event) -> Result<Shown, Memory>
-        requires { IsTrue (is_built Mode.Replay event.now) }
-        ensures shown { IfOk result (λ s. shown_of self.old event.now ≡ Some s) }
-        ensures left { IfOk result (λ s. self.new ≡ left_by self.old event.now s) }
-        ensures err { OnErr result (self.new ≡ self.old) }
+    /// The events so far with their answers.
+    pub fn trace(&self) -> &[(Event, Answer)]
+        ensures { result.now ≡ self.now.trace }
     {
-        match event {
-            Event::Peer(PeerEvent::Put { path, bytes }) => self.put(alloc, path, bytes),
-            Event::Engine(EngineEvent::Sync) => self.sync(alloc),
-            Event::Call(Call::Get { path, offset, len }) => self.get(alloc, path, *offset, *len),
-            _ => unreachable!(),
-        }
+        &self.trace
     }
 
-    fn put(&mut self, alloc: Global, path: &Text, bytes: &Blob) -> Result<Shown, Memory>
-        requires { IsTrue (is_one_name path.now) }
-        ensures shown { IfOk result (λ s. shown_of self.old (events.Peer (peer.Put path.now bytes.now)) ≡ Some s) }
-        ensures left { IfOk result (λ s. self.new ≡ left_by self.old (events.Peer (peer.Put path.now bytes.now)) s) }
-        ensures err { OnErr result (self.new ≡ self.old) }
+    /// The disk and the remote.
+    pub fn finish(self) -> (D, R)
+        requires { IsWhole self.side }
+        ensures disk { (m : Commanded) (disk : D) → HasRun D.state m disk self → Leads D.state m disk self.trace result.0 }
+        ensures kept { Keeps self.side result.0 }
+        ensures remote { result.1 ≡ self.remote }
     {
-        let name = name_of(path.as_str());
-        if !is_name(alloc, name)? {
-            return Ok(Shown::Refused(Code::BadPath));
-        }
-        if bytes.as_slice().len() > MOST_FILE_BYTES {
-            return Ok(Shown::Refused(Code::TooLarge));
-        }
-        self.remote.put(alloc, name, bytes.copy()?)
-    }
-
-    fn sync(&mut self, alloc: Global) -> Result<Shown, Memory>
-        ensures shown { IfOk result (λ s. shown_of self.old (events.Engine engine.Sync) ≡ Some s) }
-        ensures left { IfOk result (λ s. self.new ≡ left_by self.old (events.Engine engine.Sync) s) }
-        ensures err { OnErr result (self.new ≡ self.old) }
-    {
-        self.local = self.remote.latest(alloc)?;
-        Ok(Shown::Count(0))
-    }
-
-    fn get(&self, alloc: Global, path: &Text, offset: u32, len: u32) -> Result<Shown, Memory>
-        requires { IsTrue (is_one_name path.now) }
-        ensures shown { IfOk result (λ s. shown_of self.now (events.Call (call.Get path.now offset len)) ≡ Some s) }
-    {
-        let name = name_of(path.as_str());
-        if !is_name(alloc, name)? {
-            return Ok(Shown::Refused(Code::BadPath));
-        }
-        let Some(bytes) = self.known(name) else {
-            return Ok(Shown::Refused(Code::NotFound));
-        };
-        let span = Blob::from_slice(alloc, clip(bytes, offset, len))?;
-        Ok(Shown::Ended(End::Data(span)))
-    }
-
-    /// The bytes of the file of this name in the version that the device knows.
-    fn known(&self, name: &str) -> Option<&[u8]>
-        ensures { option_map (λ b. b.now) result ≡ known self.now name.now }
-    {
-        let place = self.remote.place_of(name)?;
-        let version = self.local.get(place)?;
-        self.remote.version(place, *version)
+        let World { side, remote, .. } = self;
+        (disk_of(side), remote)
     }
 }
 
-/// The one name of a path.
-fn name_of(path: &str) -> &str
-    requires { IsTrue (is_one_name path.now) }
-    ensures { result.now ≡ name_of path.now }
+// The disk of a world.
+fn disk_of<D: Disk + Drop>(side: Side<D>) -> D
+    requires { IsWhole side }
+    ensures kept { Keeps side result }
+    ensures disk { (m : Commanded) (disk : D) (trace : List (Done × Answered)) → HasRunOn D.state m disk trace side → Leads D.state m disk trace result }
 {
-    match path.strip_prefix('/') {
-        Some(name) => name,
-        None => unreachable!(),
+    match side {
+        Side::Replay(_, disk) => disk,
+        Side::Filter(Some(acting)) => acting.finish(),
+        Side::Filter(None) => unreachable!(),
     }
 }
 
-fn is_name(alloc: Global, name: &str) -> Result<bool, Memory>
-    ensures { IfOk result (λ b. b ≡ is_name name.now) }
+// Does an event, and answers it.
+fn act<D: Disk + Drop>(alloc: Global, side: &mut Side<D>, event: &Event) -> Result<Answer, Memory>
+    requires whole { IsWhole side.old }
+    requires can { can_do side.old event.now ≡ true }
+    ensures ok { IfOk result (λ a. (m : Commanded) (disk : D) (trace : List (Done × Answered)) → HasRunOn D.state m disk trace side.old → HasRunOn D.state m disk (trace ++ (event.now, a) ∷ []) side.new) }
+    ensures whole { IsWhole side.new }
+    ensures same { IsSame side.old side.new }
 {
-    match Name::read(alloc, name.as_bytes()) {
-        Ok(_name) => Ok(true),
-        Err(Fail::No(_code)) => Ok(false),
-        Err(Fail::Memory) => Err(Memory),
+    match side {
+        Side::Replay(world, _) => world.step(alloc, event),
+        Side::Filter(acting) => act_on(alloc, acting, event),
     }
 }
 
-/// A span of the bytes, cut at their end.
-fn clip(bytes: &[u8], offset: u32, len: u32) -> &[u8]
-    ensures { result.now ≡ take len (drop offset bytes.now) }
+// The same in `filter`.
+fn act_on<D: Disk + Drop>(
+    alloc: Global,
+    acting: &mut Option<Acting<D>>,
+    event: &Event,
+) -> Result<Answer, Memory>
+    requires whole { is_some acting.old ≡ true }
+    requires can { is_of Filter event.now ≡ true }
+    ensures ok { (a b : Hands D) → acting.old ≡ Some a → acting.new ≡ Some b → Steps (Is D.state) event.now a result b }
+    ensures whole { is_some acting.new ≡ true }
 {
-    let start = bytes.len().min(offset as usize);
-    let rest = &bytes[start..];
-    &rest[..rest.len().min(len as usize)]
+    let Some(begun) = acting.take() else {
+        unreachable!();
+    };
+    let (left, told) = begun.step(alloc, event);
+    *acting = Some(left);
+    told
 }

@@ -2,8 +2,11 @@
 #![tactic(auto)]
 
 use cf_base::Status;
+use cf_disk::MemDisk;
 use cf_io::{StdSink, StdSource};
+use cf_remote::StoreRemote;
 use cf_world::run;
+use std::alloc::Global;
 use std::process::ExitCode;
 use std::{env, io};
 
@@ -21,13 +24,26 @@ fn words(rt: &HostRuntime) -> Result<Vec<String>, Status> {
     }
 }
 
+/// The size of the device, in bytes: 15,616 clusters.
+const DEVICE: u64 = 67_108_864;
+
+/// A device and a remote in memory.
+fn outside(alloc: Global) -> Result<(MemDisk, StoreRemote), cf_base::Memory> {
+    let disk = MemDisk::new(alloc, DEVICE)?;
+    let remote = StoreRemote::new(alloc)?;
+    Ok((disk, remote))
+}
+
 fn main(rt: HostRuntime) -> ExitCode {
     let words = match words(&rt) {
         Ok(words) => words,
         Err(status) => return ExitCode::from(status.number()),
     };
+    let Ok((disk, remote)) = outside(rt.alloc()) else {
+        return ExitCode::from(Status::Memory.number());
+    };
     let mut source = StdSource::new(rt.reader());
     let mut sink = StdSink::new(io::writer(&rt));
-    let status = run(rt.alloc(), &words, &mut source, &mut sink);
-    ExitCode::from(status.number())
+    let finish = run(rt.alloc(), &words, &mut source, &mut sink, disk, remote);
+    ExitCode::from(finish.status.number())
 }

@@ -1,32 +1,92 @@
-use Rattle.std.proofs.Common.{◌+◌, drop, arith}
-use Rattle.cf_world.proofs.Traces.{on_err, played_none, played_more, played_hands, played_front, played_stops}
+use Rattle.std.proofs.Common.{◌≡◌, ◌+◌, ◌++◌, ◌∷◌, [], List, drop, sym, ◌∙◌, subst, arith}
+use Rattle.std.proofs.lemmas.List.{drop_all}
+use Rattle.cf_base.specs.declared.answers.Answer.{Answer}
+use Rattle.cf_base.specs.declared.events.Event.{Event}
+use Rattle.cf_points.specs.Standing.{clusters_on}
+use Rattle.cf_report.specs.Texts.{text, texts}
+use Rattle.cf_world.proofs.Drafted.{drafted_all}
+use Rattle.cf_world.proofs.Errs.{err_if}
+use Rattle.cf_world.proofs.Sided.{run_lawful, same_can, same_then}
+use Rattle.cf_world.proofs.Traces.{drafted_next, next_event, played_all, played_early, played_front, played_stops}
+use Rattle.cf_world.specs.Led.{IsLawful}
+use Rattle.cf_world.specs.Runs.{answers_of, events_of}
+use Rattle.cf_world.specs.Steps.{AddFails, SomePlayed}
+use Rattle.cf_world.specs.declared.fails.PlayFail.TheVariants.{Memory, SinkFault}
 use Rattle.cf_world.proofs.plays.play.Goals as goal
 
-pub loop-event-init : goal.loop-event-init
-loop-event-init g c = (rw (c.start-world.ensures, c.new-waiting.ensures.items) (played_none c.args.events.now (g.K.Sink.held c.args.sink.now)), omega arith)
+pub returns-in_err-text-clause-err : goal.returns-in_err-text-clause-err
+returns-in_err-text-clause-err g c = λ m disk h.
+    let inv = c.loop-event.invariant in
+    let w = c.loop-event.world in
+    let clusters = clusters_on (g.D.Disk.state disk).seen in
+    let old = g.K.Sink.held c.args.sink.now in
+    let now = g.K.Sink.held c.loop-event.sink in
+    let lawful = run_lawful g.D.Disk.state m disk w.trace w.side (inv.2 m disk h) in
+    err_if (SomePlayed m clusters c.args.events.now old now) c.from_residual.result Memory c.from_residual.ensures.1
+    (played_front m clusters c.args.events.now (drop c.loop-event.event-index c.args.events.now) w.trace c.loop-event.made c.loop-event.waiting.items old now inv.0 lawful inv.1)
 
-pub returns-in_err-play_event-clause-err : goal.returns-in_err-play_event-clause-err
-returns-in_err-play_event-clause-err g c = on_err c.from_residual.result (
-    played_front c.args.events.now (drop c.loop-event.event-index c.args.events.now) c.loop-event.world c.loop-event.waiting.items (g.K.Sink.held c.args.sink.now) (g.K.Sink.held c.loop-event.sink) c.loop-event.invariant.0)
-
-pub returns-in_err-write_piece-clause-err : goal.returns-in_err-write_piece-clause-err
-returns-in_err-write_piece-clause-err g c =
-    let more = played_more c.args.events.now c.loop-event.event-index c.loop-event.world c.play_event.new.world c.loop-event.waiting.items c.play_event.new.waiting.items (g.K.Sink.held c.args.sink.now) (g.K.Sink.held c.loop-event.sink)
-    c.event-item.result c.event-item.is c.loop-event-test.true c.loop-event.invariant.0 c.in_ok-play_event.ensures in
-    on_err c.from_residual-in_err-write_piece.result (
-    played_stops c.args.events.now (drop (c.loop-event.event-index + 1) c.args.events.now) c.play_event.new.world c.play_event.new.waiting.items (g.K.Sink.held c.args.sink.now) (g.K.Sink.held c.loop-event.sink) (g.K.Sink.held c.write_piece.new.sink) more c.in_err-write_piece.ensures.err)
+pub returns-in_err-made-clause-err : goal.returns-in_err-made-clause-err
+returns-in_err-made-clause-err g c = λ m disk h.
+    let inv = c.loop-event.invariant in
+    let w = c.loop-event.world in
+    let next = c.answer.new.world in
+    let added = c.in_ok-text.ensures.adds in
+    let clusters = clusters_on (g.D.Disk.state disk).seen in
+    let old = g.K.Sink.held c.args.sink.now in
+    let new = g.K.Sink.held c.add.new.sink in
+    let run = c.in_ok-text.ensures.ok m disk (inv.2 m disk h) in
+    let lawful = subst (λ (ps : List (Event × Answer)). IsLawful m clusters ps) added.1 (run_lawful g.D.Disk.state m disk next.trace next.side run) in
+    let fails = c.in_err-made.ensures.err (texts (answers_of w.trace)) old inv.1 in
+    let piece : c.as_slice.result.now ≡ text added.0 = c.as_slice.ensures ∙ added.2 in
+    let e = c.in_err-made.field-0.0 in
+    err_if (SomePlayed m clusters c.args.events.now old new) c.from_residual-in_err-made.result e c.from_residual-in_err-made.ensures.1
+    (played_early m clusters c.args.events.now c.loop-event.event-index w.trace c.event-item.result added.0 old new e c.event-item.is c.loop-event-test.true inv.0 lawful
+    (subst (λ x. AddFails (texts (answers_of w.trace)) x old new e) piece fails))
 
 pub loop-event-preserved : goal.loop-event-preserved
 loop-event-preserved g c =
-    let more = played_more c.args.events.now c.loop-event.event-index c.loop-event.world c.play_event.new.world c.loop-event.waiting.items c.play_event.new.waiting.items (g.K.Sink.held c.args.sink.now) (g.K.Sink.held c.loop-event.sink)
-    c.event-item.result c.event-item.is c.loop-event-test.true c.loop-event.invariant.0 c.in_ok-play_event.ensures in (
-      played_hands c.args.events.now (drop (c.loop-event.event-index + 1) c.args.events.now) c.play_event.new.world c.play_event.new.waiting.items c.write_piece.new.waiting.items (g.K.Sink.held c.args.sink.now) (g.K.Sink.held c.loop-event.sink)
-          (g.K.Sink.held c.write_piece.new.sink) more c.in_ok-write_piece.ensures.ok,
-      omega (arith, c.loop-event.invariant.1, c.in_ok-write_piece.ensures.never_falls),
+    let inv = c.loop-event.invariant in
+    let w = c.loop-event.world in
+    let next = c.answer.new.world in
+    let added = c.in_ok-text.ensures.adds in
+    let same = c.in_ok-text.ensures.same in
+    let old = g.K.Sink.held c.args.sink.now in
+    let new = g.K.Sink.held c.add.new.sink in
+    let piece : c.as_slice.result.now ≡ text added.0 = c.as_slice.ensures ∙ added.2 in
+    let drafted = c.in_ok-made.ensures.ok (texts (answers_of w.trace)) old inv.1 in
+    let rest = next_event c.args.events.now c.loop-event.event-index w.trace c.event-item.result added.0 c.event-item.is c.loop-event-test.true inv.0 in (
+      subst (λ (ps : List (Event × Answer)). events_of ps ++ drop (c.loop-event.event-index + 1) c.args.events.now ≡ c.args.events.now) (sym added.1) rest,
+      drafted_next w.trace next.trace c.event-item.result added.0 c.as_slice.result.now c.add.new.waiting.items c.in_ok-made.made old new added.1 piece drafted,
+      λ m disk h. c.in_ok-text.ensures.ok m disk (inv.2 m disk h),
+      c.in_ok-text.ensures.whole,
+      same_can w.side next.side c.args.events.now same.1 inv.4,
+      same.0 ∙ inv.5,
+      same_then c.args.world.now.side w.side next.side inv.6 same.1,
+      omega (arith, inv.7, c.in_ok-made.ensures.never_falls),
     )
 
 pub returns-in_err-write_all-clause-err : goal.returns-in_err-write_all-clause-err
-returns-in_err-write_all-clause-err g c =
-    let written = rw c.as_slice.ensures.value at c.in_err-write_all.ensures.err in
-    on_err c.from_residual-in_err-write_all.result (
-    played_stops c.args.events.now (drop c.loop-event.event-index c.args.events.now) c.loop-event.world c.loop-event.waiting.items (g.K.Sink.held c.args.sink.now) (g.K.Sink.held c.loop-event.sink) (g.K.Sink.held c.write_all.new.sink) c.loop-event.invariant.0 written)
+returns-in_err-write_all-clause-err g c = λ m disk h.
+    let inv = c.loop-event.invariant in
+    let w = c.loop-event.world in
+    let clusters = clusters_on (g.D.Disk.state disk).seen in
+    let old = g.K.Sink.held c.args.sink.now in
+    let new = g.K.Sink.held c.write_all.new.sink in
+    let lawful = run_lawful g.D.Disk.state m disk w.trace w.side (inv.2 m disk h) in
+    let written = rw c.as_slice-2.ensures.value at c.in_err-write_all.ensures.err in
+    err_if (SomePlayed m clusters c.args.events.now old new) c.from_residual-in_err-write_all.result SinkFault c.from_residual-in_err-write_all.ensures.1
+    (played_stops m clusters c.args.events.now (drop c.loop-event.event-index c.args.events.now) w.trace c.loop-event.made c.loop-event.waiting.items old (g.K.Sink.held c.loop-event.sink) new inv.0 lawful inv.1 written)
+
+pub returns-clause-ok : goal.returns-clause-ok
+returns-clause-ok g c = λ m disk h.
+    let inv = c.loop-event.invariant in
+    let w = c.loop-event.world in
+    let all = c.args.events.now in
+    let i = c.loop-event.event-index in
+    let written = rw c.as_slice-2.ensures.value at c.in_ok-write_all.ensures.ok in
+    record {
+      run = inv.2 m disk h;
+      each = played_all all (drop i all) w.trace inv.0 (drop_all i all c.loop-event-test.false);
+      written = drafted_all (texts (answers_of w.trace)) c.loop-event.waiting.items c.loop-event.made (g.K.Sink.held c.args.sink.now) (g.K.Sink.held c.loop-event.sink) (g.K.Sink.held c.write_all.new.sink) inv.1 written;
+      short = let l = inv.1.long in let s = inv.1.short in omega (arith, l, s);
+    }

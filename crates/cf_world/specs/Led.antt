@@ -1,0 +1,67 @@
+-- The worlds of both commands: what a trace is, and what it leaves of the disk.
+use Rattle.std.specs.Prelude.{◌≡◌, ℕ, Bool, List, Option, Some, None}
+use Rattle.cf_acting.specs.Meaning.{Is}
+use Rattle.cf_acting.specs.Stepped.{StandsFor}
+use Rattle.cf_base.specs.declared.answers.Answer.{Answer}
+use Rattle.cf_base.specs.declared.events.Event.{Event}
+use Rattle.cf_base.specs.declared.policies.Mode.{Mode}
+use Rattle.cf_base.specs.declared.policies.Mode.TheVariants.{Filter, Replay}
+use Rattle.cf_disk.specs.Disk.{State as Disk}
+use Rattle.cf_model.specs.Lawful.{Lawful, Runs}
+use Rattle.cf_model.specs.Powers.{StandsNow}
+use Rattle.cf_model.specs.State.{State, start}
+use Rattle.cf_model.specs.Store.{Held}
+use Rattle.cf_plain.specs.Worlds as plain
+use Rattle.cf_points.specs.Standing.{clusters_on}
+use Rattle.cf_world.specs.Sides.{Acted}
+use Rattle.cf_script.specs.Built.{is_built}
+use Rattle.cf_world.specs.declared.sides.Side.{Side}
+use Rattle.cf_world.specs.declared.sides.Side.TheVariants as side
+
+-- The answers are lawful. In `filter` no event touches the remote, so it may be any.
+abbrev pub IsLawful : Mode → ℕ → List (Event × Answer) → Type 0
+IsLawful Replay clusters trace = plain.Lawful plain.start trace
+IsLawful Filter clusters trace = (remote : Held) → Lawful Filter remote clusters trace
+
+-- In `filter` whatever a crash leaves of the disk stands for a point that a restart may open in the state that the trace
+-- leaves. In `replay` the disk is not used yet.
+abbrev pub Leads : {D : Type 0} → (D → Disk) → Mode → D → List (Event × Answer) → D → Type 0
+Leads state Replay disk trace back = plain.Lawful plain.start trace × (back ≡ disk)
+Leads state Filter disk trace back = (remote : Held) → (t : State) × Runs Filter (start Filter remote (clusters_on (state disk).seen)) trace t × ((c : List ℕ) → (state back).may_leave c → StandsNow StandsFor t c)
+
+abbrev pub HasRunOn : {D : Type 0} → (D → Disk) → Mode → D → List (Event × Answer) → Side D → Type 0
+HasRunOn state m disk trace (side.Replay w back) = (m ≡ Replay) × plain.Lawful plain.start trace × (w ≡ plain.after plain.start trace) × (back ≡ disk)
+HasRunOn state m disk trace (side.Filter None) = ⊥
+HasRunOn state m disk trace (side.Filter (Some a)) = (m ≡ Filter) × ((remote : Held) → (t : State) × Runs Filter (start Filter remote (clusters_on (state disk).seen)) trace t × Is state a t)
+
+-- a world that began on this disk is where its trace leads to
+abbrev pub HasRun : {D R : Type 0} → (D → Disk) → Mode → D → Acted D R → Type 0
+HasRun state m disk w = HasRunOn state m disk w.trace w.side
+
+-- an event may be under way in no world
+abbrev pub IsWhole : {D : Type 0} → Side D → Type 0
+IsWhole (side.Replay w back) = Unit {0}
+IsWhole (side.Filter None) = ⊥
+IsWhole (side.Filter (Some a)) = Unit {0}
+
+-- the events that the world can do
+abbrev pub can_do : {D : Type 0} → Side D → Event → Bool
+can_do (side.Replay w back) e = is_built Replay e
+can_do (side.Filter a) e = is_built Filter e
+
+-- the side of the same command, in `replay` with the same disk
+abbrev pub IsSame : {D : Type 0} → Side D → Side D → Type 0
+IsSame (side.Replay w back) (side.Replay u again) = again ≡ back
+IsSame (side.Replay w back) (side.Filter a) = ⊥
+IsSame (side.Filter a) (side.Replay w back) = ⊥
+IsSame (side.Filter a) (side.Filter b) = Unit {0}
+
+-- In `replay` the disk is handed back as it came.
+abbrev pub HandsBack : {D : Type 0} → Mode → D → D → Type 0
+HandsBack Replay disk back = back ≡ disk
+HandsBack Filter disk back = Unit {0}
+
+-- the disk of a world in `replay`
+abbrev pub Keeps : {D : Type 0} → Side D → D → Type 0
+Keeps (side.Replay w back) disk = disk ≡ back
+Keeps (side.Filter a) disk = Unit {0}
