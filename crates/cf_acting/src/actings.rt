@@ -3,7 +3,7 @@
 
 ghost use Rattle.std.specs.Prelude.{◌≡◌, ℕ, List, true, IfErr, IfOk};
 ghost use Rattle.cf_acting.specs.Meaning.{Is};
-ghost use Rattle.cf_acting.specs.Stepped.{StandsFor, Steps};
+ghost use Rattle.cf_acting.specs.Stepped.{Bears, BearsOn, StandsFor, Steps, disk_of};
 ghost use Rattle.cf_acting.specs.declared.places.Acting.TheVariants as acting;
 ghost use Rattle.cf_base.specs.declared.events.Event.TheVariants as events;
 ghost use Rattle.cf_base.specs.declared.policies.Mode.TheVariants.{Filter as InFilter};
@@ -54,11 +54,12 @@ impl<D: Disk> Acting<D> {
         }
     }
 
-    /// Does an event of the mode, and answers it. For want of memory it is not answered, and nothing more is said of the
-    /// world.
+    /// Does an event of the mode, and answers it. A stop arms the disk with its number, a crash is one power of the disk with
+    /// its choice. For want of memory an event is not answered, and nothing more is said of the world.
     pub fn step(self, alloc: Global, event: &Event) -> (Acting<D>, Result<Answer, Memory>)
         requires { is_of InFilter event.now ≡ true }
-        ensures { Steps (Is D.state) event.now self result.1 result.0 }
+        ensures steps { Steps (Is D.state) event.now self result.1 result.0 }
+        ensures device { Bears event.now (D.state (disk_of self)) (D.state (disk_of result.0)) }
     {
         match self {
             Acting::On(running) => step_on(alloc, running, event),
@@ -84,7 +85,8 @@ fn step_on<D: Disk>(
     event: &Event,
 ) -> (Acting<D>, Result<Answer, Memory>)
     requires { is_of InFilter event.now ≡ true }
-    ensures { Steps (Is D.state) event.now (acting.On running) result.1 result.0 }
+    ensures steps { Steps (Is D.state) event.now (acting.On running) result.1 result.0 }
+    ensures device { Bears event.now (D.state running.filter.disk) (D.state (disk_of result.0)) }
 {
     match event {
         Event::Call(call) => {
@@ -105,7 +107,8 @@ fn device_on<D: Disk>(
     mut running: Running<D>,
     event: DeviceEvent,
 ) -> (Acting<D>, Result<Answer, Memory>)
-    ensures { Steps (Is D.state) (events.Device event) (acting.On running) result.1 result.0 }
+    ensures steps { Steps (Is D.state) (events.Device event) (acting.On running) result.1 result.0 }
+    ensures device { BearsOn event (D.state running.filter.disk) (D.state (disk_of result.0)) }
 {
     match event {
         DeviceEvent::Stop { calls } => {
@@ -130,7 +133,8 @@ fn step_off<D: Disk>(
     event: &Event,
 ) -> (Acting<D>, Result<Answer, Memory>)
     requires { is_of InFilter event.now ≡ true }
-    ensures { Steps (Is D.state) event.now (acting.Off cut) result.1 result.0 }
+    ensures steps { Steps (Is D.state) event.now (acting.Off cut) result.1 result.0 }
+    ensures device { Bears event.now (D.state cut.disk) (D.state (disk_of result.0)) }
 {
     match event {
         Event::Device(device) => device_off(alloc, cut, *device),
@@ -146,7 +150,8 @@ fn device_off<D: Disk>(
     mut cut: Cut<D>,
     event: DeviceEvent,
 ) -> (Acting<D>, Result<Answer, Memory>)
-    ensures { Steps (Is D.state) (events.Device event) (acting.Off cut) result.1 result.0 }
+    ensures steps { Steps (Is D.state) (events.Device event) (acting.Off cut) result.1 result.0 }
+    ensures device { BearsOn event (D.state cut.disk) (D.state (disk_of result.0)) }
 {
     match event {
         DeviceEvent::Stop { calls } => {

@@ -4,7 +4,7 @@
 ghost use Rattle.std.specs.Prelude.{◌≡◌, Err, IfOk, Ok, [], false, length, true};
 ghost use Rattle.cf_acting.specs.Answered.{answer_with, answered_by};
 ghost use Rattle.cf_acting.specs.Meaning.{Is, IsOff};
-ghost use Rattle.cf_acting.specs.Stepped.{Steps};
+ghost use Rattle.cf_acting.specs.Stepped.{BearsOn, Steps};
 ghost use Rattle.cf_acting.specs.declared.places.Acting.TheVariants as acting;
 ghost use Rattle.cf_base.specs.declared.answers.Shown.TheVariants as shown;
 ghost use Rattle.cf_base.specs.declared.events.DeviceEvent.TheVariants as device;
@@ -30,7 +30,8 @@ use std::alloc::Global;
 impl<D: Disk> Cut<D> {
     /// `stop`
     pub(crate) fn stop(&mut self, alloc: Global, calls: u32) -> Answer
-        ensures { Steps (IsOff D.state) (event.Device (device.Stop calls)) self.old (Ok result) self.new }
+        ensures steps { Steps (IsOff D.state) (event.Device (device.Stop calls)) self.old (Ok result) self.new }
+        ensures armed { BearsOn (device.Stop calls) (D.state self.old.disk) (D.state self.new.disk) }
     {
         self.disk.arm(calls);
         plainly(alloc, Shown::Done)
@@ -38,7 +39,8 @@ impl<D: Disk> Cut<D> {
 
     /// `crash`: one more power.
     pub(crate) fn cut(&mut self, alloc: Global, choice: Choice) -> Answer
-        ensures { Steps (IsOff D.state) (event.Device (device.Crash choice)) self.old (Ok result) self.new }
+        ensures steps { Steps (IsOff D.state) (event.Device (device.Crash choice)) self.old (Ok result) self.new }
+        ensures powers { BearsOn (device.Crash choice) (D.state self.old.disk) (D.state self.new.disk) }
     {
         self.disk.power(choice);
         plainly(alloc, Shown::Done)

@@ -2,7 +2,7 @@
 
 ghost use Rattle.std.specs.Prelude.{Ok, []};
 ghost use Rattle.cf_acting.specs.Meaning.{Is, IsOn};
-ghost use Rattle.cf_acting.specs.Stepped.{Steps};
+ghost use Rattle.cf_acting.specs.Stepped.{BearsOn, Steps};
 ghost use Rattle.cf_acting.specs.Answered.{answer_with};
 ghost use Rattle.cf_acting.specs.declared.places.Acting.TheVariants as acting;
 ghost use Rattle.cf_base.specs.declared.answers.Shown.TheVariants as shown;
@@ -18,7 +18,8 @@ use std::alloc::Global;
 impl<D: Disk> Running<D> {
     /// `stop`: so many more calls of the device pass.
     pub(crate) fn stop(&mut self, alloc: Global, calls: u32) -> Answer
-        ensures { Steps (IsOn D.state) (event.Device (device.Stop calls)) self.old (Ok result) self.new }
+        ensures steps { Steps (IsOn D.state) (event.Device (device.Stop calls)) self.old (Ok result) self.new }
+        ensures armed { BearsOn (device.Stop calls) (D.state self.old.filter.disk) (D.state self.new.filter.disk) }
     {
         self.filter.arm(calls);
         plainly(alloc, Shown::Done)
@@ -33,7 +34,8 @@ impl<D: Disk> Running<D> {
 
     /// `crash`: the power is cut, and what stands in memory alone is gone.
     pub(crate) fn cut(self, choice: Choice) -> Cut<D>
-        ensures { Steps (Is D.state) (event.Device (device.Crash choice)) (acting.On self) (Ok (answer_with shown.Done [])) (acting.Off result) }
+        ensures steps { Steps (Is D.state) (event.Device (device.Crash choice)) (acting.On self) (Ok (answer_with shown.Done [])) (acting.Off result) }
+        ensures powers { BearsOn (device.Crash choice) (D.state self.filter.disk) (D.state result.disk) }
     {
         let policy = self.filter.policy();
         let mut disk = self.filter.into_disk();

@@ -1,11 +1,20 @@
 use Rattle.cf_acting.proofs.Wholes.{on_steps}
 use Rattle.cf_acting.proofs.actings.device_on.Goals as goal
 
-pub returns-in-Stop : goal.returns-in-Stop
-returns-in-Stop g c = rw c.in-Stop.is (on_steps g.D.Disk.state _ _ _ _ c.stop-told.ensures)
+pub returns-in-Stop-clause-steps : goal.returns-in-Stop-clause-steps
+returns-in-Stop-clause-steps g c = rw c.in-Stop.is (on_steps g.D.Disk.state _ _ _ _ c.stop-told.ensures.steps)
 
-pub returns-in-Crash : goal.returns-in-Crash
-returns-in-Crash g c = rw (c.in-Crash.is, c.plainly.ensures) c.cut-cut.ensures
+pub returns-in-Stop-clause-device : goal.returns-in-Stop-clause-device
+returns-in-Stop-clause-device g c = rw c.in-Stop.is c.stop-told.ensures.armed
 
-pub returns-in-Restart : goal.returns-in-Restart
-returns-in-Restart g c = rw c.in-Restart.is (on_steps g.D.Disk.state _ _ _ _ c.restart-told.ensures)
+pub returns-in-Crash-clause-steps : goal.returns-in-Crash-clause-steps
+returns-in-Crash-clause-steps g c = rw (c.in-Crash.is, c.plainly.ensures) c.cut-cut.ensures.steps
+
+pub returns-in-Crash-clause-device : goal.returns-in-Crash-clause-device
+returns-in-Crash-clause-device g c = rw c.in-Crash.is c.cut-cut.ensures.powers
+
+pub returns-in-Restart-clause-steps : goal.returns-in-Restart-clause-steps
+returns-in-Restart-clause-steps g c = rw c.in-Restart.is (on_steps g.D.Disk.state _ _ _ _ c.restart-told.ensures)
+
+pub returns-in-Restart-clause-device : goal.returns-in-Restart-clause-device
+returns-in-Restart-clause-device g c = rw c.in-Restart.is (record {})

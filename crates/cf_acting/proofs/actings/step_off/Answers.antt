@@ -1,4 +1,7 @@
 use Rattle.cf_acting.proofs.actings.step_off.Goals as goal
 
-pub returns-in-Device : goal.returns-in-Device
-returns-in-Device g c = rw c.in-Device.is c.device_off.ensures
+pub returns-in-Device-clause-steps : goal.returns-in-Device-clause-steps
+returns-in-Device-clause-steps g c = rw c.in-Device.is c.device_off.ensures.steps
+
+pub returns-in-Device-clause-device : goal.returns-in-Device-clause-device
+returns-in-Device-clause-device g c = rw c.in-Device.is c.device_off.ensures.device

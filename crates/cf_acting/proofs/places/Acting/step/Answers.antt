@@ -1,4 +1,10 @@
 use Rattle.cf_acting.proofs.places.Acting.step.Goals as goal
 
-pub returns-in-On : goal.returns-in-On
-returns-in-On g c = rw c.in-On.is c.step_on.ensures
+pub returns-in-On-clause-steps : goal.returns-in-On-clause-steps
+returns-in-On-clause-steps g c = rw c.in-On.is c.step_on.ensures.steps
+
+pub returns-in-On-clause-device : goal.returns-in-On-clause-device
+returns-in-On-clause-device g c = rw c.in-On.is c.step_on.ensures.device
+
+pub returns-in-Off-clause-device : goal.returns-in-Off-clause-device
+returns-in-Off-clause-device g c = rw c.in-Off.is c.step_off.ensures.device

@@ -1,5 +1,6 @@
 use Rattle.cf_acting.proofs.Powers.{stop_step}
 use Rattle.cf_acting.proofs.places.Running.stop.Goals as goal
 
-pub returns : goal.returns
-returns g c = rw c.plainly.ensures (stop_step g.D.Disk.state c.args.calls c.args.self.now.filter c.arm.new.self c.args.self.now.provider c.arm.ensures.same c.arm.ensures.stands c.arm.ensures.desk)
+pub returns-clause-steps : goal.returns-clause-steps
+returns-clause-steps g c =
+    rw c.plainly.ensures (stop_step g.D.Disk.state c.args.calls c.args.self.now.filter c.arm.new.self c.args.self.now.provider c.arm.ensures.same c.arm.ensures.stands c.arm.ensures.desk)
