@@ -1,6 +1,7 @@
 pub mod Above
 pub mod ByteMeans
 pub mod ChildrenOf
+pub mod EachOf
 pub mod Fields
 pub mod Finds
 pub mod HeldBlocks

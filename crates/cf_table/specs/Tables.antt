@@ -1,5 +1,5 @@
 -- The rows of a table, in order of id, and the items that they tell of.
-use Rattle.std.specs.Prelude.{ℕ, Bool, true, not, cond, List, [], length, map, Option, Some, None, find, filter, MatchOption, get_or, set, nat_lt, ◌+◌, ◌*◌, ◌^◌, ◌≤◌, ◌<◌, ◌≡◌, ◌&&◌, ◌==◌, ◌∷◌}
+use Rattle.std.specs.Prelude.{ℕ, Bool, true, not, cond, List, [], length, map, Option, Some, None, find, filter, MatchOption, All, get_or, set, nat_lt, unwrap_or, ◌+◌, ◌*◌, ◌^◌, ◌≤◌, ◌<◌, ◌≡◌, ◌&&◌, ◌==◌, ◌∷◌}
 use Rattle.cf_base.specs.declared.ids.ItemId.{ItemId}
 use Rattle.cf_base.specs.declared.items.Pin.{Pin}
 use Rattle.cf_base.specs.declared.items.Pin.TheVariants as pin
@@ -9,6 +9,7 @@ use Rattle.cf_ranges.specs.Pairs.{IsRising}
 use Rattle.cf_ranges.specs.Positions.{IsRuns}
 use Rattle.cf_table.specs.Applied.{IsSpellable}
 use Rattle.cf_table.specs.Means.{Means}
+use Rattle.cf_table.specs.Reading.{IsUsn}
 use Rattle.cf_table.specs.declared.rows.Row.{Row}
 
 -- the rows by id, and the id that the next item gets
@@ -73,10 +74,22 @@ pub record IsStored (row : Row) : Type 0 where
   pub modified_since : IsRuns row.modified_since
   pub extents : IsRising row.extents
 
+-- the numbers of a row have room in their fields
+pub record IsInRange (row : Row) : Type 0 where
+  pub id : row.id.0 < 2 ^ 64
+  pub parent : row.parent.0 < 2 ^ 64
+  pub size : row.size < 2 ^ 32
+  pub base : unwrap_or row.base 0 < 2 ^ 32
+  pub number : IsUsn row.number
+  pub anchor : IsUsn row.anchor
+  pub last : row.last < 2 ^ 64
+  pub extents : All (λ (e : ℕ × ℕ). (e.0 < 2 ^ 32) × (e.1 < 2 ^ 32)) row.extents
+
 -- a row as a table keeps it; no row can be longer than that
 pub record IsTableRow (row : Row) : Type 0 where
   pub spellable : IsSpellable row
   pub stored : IsStored row
+  pub range : IsInRange row
   pub short : row_len row ≤ 2 ^ 47
 
 abbrev pub AreTableRows : List Row → Type 0

@@ -18,6 +18,7 @@ mod lookups;
 mod mark_changes;
 mod new_rows;
 pub mod plain_fields;
+mod ranges;
 mod read_laws;
 mod reads;
 mod row_lists;

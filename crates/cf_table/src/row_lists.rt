@@ -8,6 +8,7 @@ ghost use Rattle.cf_table.specs.Means.{IsLater};
 ghost use Rattle.cf_table.specs.Tables.{IsRowAt, IsRowGap, IsTable, IsTableRow, pin_at, RisesFrom, row_len, SetsAt, with_row};
 ghost use Rattle.cf_table.specs.declared.rows.Row.{Row};
 
+use crate::ranges::is_in_range;
 use crate::rows::Row;
 use cf_base::{Blob, Change, ItemId, Memory, Pin, Usn};
 use cf_ranges::RangeSet;
@@ -42,6 +43,7 @@ impl Row {
         ensures kept { IsTableRow self.now }
         ensures small { result ≤ 2 ^ 47 }
     {
+        is_in_range(self);
         let runs = run_count(&self.here)
             + run_count(&self.valid)
             + run_count(&self.modified)

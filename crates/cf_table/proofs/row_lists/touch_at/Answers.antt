@@ -1,4 +1,4 @@
-use Rattle.std.proofs.Common.{◌∙◌, ◌≡◌, ℕ, ap, arith, get_or, set, subst, sym}
+use Rattle.std.proofs.Common.{◌∙◌, ◌≡◌, ◌<◌, ◌^◌, ℕ, ap, arith, get_or, set, subst, sym}
 use Rattle.cf_table.specs.Tables.{IsTable, IsTableRow, row_len}
 use Rattle.cf_table.specs.declared.rows.Row.{Row}
 use Rattle.cf_table.proofs.TableLens.{in_sum, kept_here, table_set}
@@ -12,10 +12,11 @@ returns-clause-table c = λ n t.
     (table_set c.args.rows.now.items n c.args.place c.touch.new.self c.index_mut-row.result.now c.requires.place
     (ap (λ (r : Row). r.id.0) c.touch.ensures.rest ∙ ap (λ (r : Row). r.id.0) c.index_mut-row.ensures.value)
     (subst (λ (r : Row). IsTableRow r) (sym c.touch.ensures.rest)
-    (touched c.args.clock c.index_mut-row.result.now (kept_here c.args.rows.now.items c.args.place c.index_mut-row.result.now c.requires.place c.index_mut-row.ensures.value t.kept))) t) where
-      touched : (clock : ℕ) (r : Row) → IsTableRow r → IsTableRow (record r { last = clock })
-      touched clock r k = record {
+    (touched c.args.clock c.ranges.clock.fits c.index_mut-row.result.now (kept_here c.args.rows.now.items c.args.place c.index_mut-row.result.now c.requires.place c.index_mut-row.ensures.value t.kept))) t) where
+      touched : (clock : ℕ) → clock < 2 ^ 64 → (r : Row) → IsTableRow r → IsTableRow (record r { last = clock })
+      touched clock small r k = record {
         spellable = record { name = k.spellable.name; identity = k.spellable.identity };
         stored = record { size = k.stored.size; here = k.stored.here; valid = k.stored.valid; modified = k.stored.modified; modified_since = k.stored.modified_since; extents = k.stored.extents };
+        range = record { id = k.range.id; parent = k.range.parent; size = k.range.size; base = k.range.base; number = k.range.number; anchor = k.range.anchor; last = small; extents = k.range.extents };
         short = k.short;
       }
