@@ -6,7 +6,6 @@ use Rattle.std.proofs.lemmas.List.Elements.{All-head, All-tail}
 use Rattle.std.proofs.lemmas.List.Sums.{sum_by-cons}
 use Rattle.cf_base.specs.declared.answers.AuxRecord.{AuxRecord}
 use Rattle.cf_base.specs.declared.spans.Span.{Span}
-use Rattle.cf_commit.specs.InRange.{IsInRange}
 use Rattle.cf_commit.specs.Leading.{CanBeWritten, HaveStoredPins}
 use Rattle.cf_image.specs.Contents.{header_of, image_of}
 use Rattle.cf_image.specs.Spelled.{AreRecordsFrom, IsHeader, IsImage}
@@ -59,12 +58,12 @@ extents_fit low (e ∷ es) h s =
 
 -- rows
 
-row_fits : (r : Row) → IsTableRow r → HasRoom r → IsInRange r → IsStored r.pin → IsRow None (row_value r)
-row_fits r t room range pin = record {
+row_fits : (r : Row) → IsTableRow r → HasRoom r → IsStored r.pin → IsRow None (row_value r)
+row_fits r t room pin = record {
   head = record {
-    who = (range.id, tt, range.parent);
-    basics = (pin, (refl, range.size, range.base));
-    numbers = (range.number, range.anchor, range.last);
+    who = (t.range.id, tt, t.range.parent);
+    basics = (pin, (refl, t.range.size, t.range.base));
+    numbers = (t.range.number, t.range.anchor, t.range.last);
   };
   name = let h = room.texts.name in omega (arith, h);
   identity = let h = room.texts.identity in omega (arith, h);
@@ -72,7 +71,7 @@ row_fits r t room range pin = record {
   valid = set_fits r.valid t.stored.valid room.valid;
   modified = set_fits r.modified t.stored.modified room.modified;
   modified_since = set_fits r.modified_since t.stored.modified_since room.modified_since;
-  extents = (subst (λ (n : ℕ). n < 2 ^ 32) (sym (length-map r.extents extent_of)) room.extents, extents_fit 0 r.extents t.stored.extents range.extents);
+  extents = (subst (λ (n : ℕ). n < 2 ^ 32) (sym (length-map r.extents extent_of)) room.extents, extents_fit 0 r.extents t.stored.extents t.range.extents);
 }
 
 row_above : (before : Option ℕ) (r : model.Row) → IsAbove before r.id.0 → IsRow None r → IsRow before r
@@ -96,11 +95,11 @@ above_low : (before : Option ℕ) (low n : ℕ) → Reaches before low → low �
 above_low None low n h le = tt
 above_low (Some before) low n h le = omega (arith, h, le)
 
-rows_fit : (before : Option ℕ) (low : ℕ) (rows : List Row) → Reaches before low → RisesFrom low rows → AreTableRows rows → All HasRoom rows → All IsInRange rows → HaveStoredPins rows → AreRows before (map row_value rows)
-rows_fit before low [] b rise kept room range pins = tt
-rows_fit before low (r ∷ rs) b rise kept room range pins = (
-  row_above before (row_value r) (above_low before low r.id.0 b rise.0) (row_fits r kept.0 (All-head HasRoom r rs room) (All-head IsInRange r rs range) (All-head (λ (x : Row). IsStored x.pin) r rs pins)),
-  rows_fit (Some r.id.0) (r.id.0 + 1) rs (omega arith) rise.1 kept.1 (All-tail HasRoom r rs room) (All-tail IsInRange r rs range) (All-tail (λ (x : Row). IsStored x.pin) r rs pins),
+rows_fit : (before : Option ℕ) (low : ℕ) (rows : List Row) → Reaches before low → RisesFrom low rows → AreTableRows rows → All HasRoom rows → HaveStoredPins rows → AreRows before (map row_value rows)
+rows_fit before low [] b rise kept room pins = tt
+rows_fit before low (r ∷ rs) b rise kept room pins = (
+  row_above before (row_value r) (above_low before low r.id.0 b rise.0) (row_fits r kept.0 (All-head HasRoom r rs room) (All-head (λ (x : Row). IsStored x.pin) r rs pins)),
+  rows_fit (Some r.id.0) (r.id.0 + 1) rs (omega arith) rise.1 kept.1 (All-tail HasRoom r rs room) (All-tail (λ (x : Row). IsStored x.pin) r rs pins),
 )
 
 -- records
@@ -109,10 +108,10 @@ few_records : (rs : List AuxRecord) → length rs ≤ sum_by aux_len rs
 few_records [] = omega arith
 few_records (r ∷ rs) = let rest = few_records rs in let total = sum_by-cons aux_len r rs in omega (arith, rest, total)
 
-pub image_fits : (c : Contents) → IsHeader (header_of c) → CanBeWritten c → RisesFrom 0 c.rows.rows → AreTableRows c.rows.rows → All IsInRange c.rows.rows → AreRecordsFrom None c.records → HaveStoredPins c.rows.rows → IsImage (image_of c)
-image_fits c header can rise kept range keys pins = record {
+pub image_fits : (c : Contents) → IsHeader (header_of c) → CanBeWritten c → RisesFrom 0 c.rows.rows → AreTableRows c.rows.rows → AreRecordsFrom None c.records → HaveStoredPins c.rows.rows → IsImage (image_of c)
+image_fits c header can rise kept keys pins = record {
   header = header;
-  rows = (let few = can.few in let same = length-map c.rows.rows row_value in omega (arith, few, same), rows_fit None 0 c.rows.rows tt rise kept can.room range pins);
+  rows = (let few = can.few in let same = length-map c.rows.rows row_value in omega (arith, few, same), rows_fit None 0 c.rows.rows tt rise kept can.room pins);
   records = (
     let whole = image_length (image_of c) in
         let records = records_length c.records in

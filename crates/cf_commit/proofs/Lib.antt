@@ -1,5 +1,4 @@
 pub mod Appended
-pub mod EachOf
 pub mod FoundParts
 pub mod ImageFits
 pub mod KeySteps

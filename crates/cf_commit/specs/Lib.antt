@@ -1,4 +1,3 @@
 pub mod Differing
-pub mod InRange
 pub mod Leading
 pub mod Loaded

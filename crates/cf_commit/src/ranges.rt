@@ -1,7 +1,6 @@
 //! The contents of a volume have an image.
 
-ghost use Rattle.std.specs.Prelude.{◌<◌, ◌^◌, ℕ, All, None, unwrap_or};
-ghost use Rattle.cf_commit.specs.InRange.{IsInRange};
+ghost use Rattle.std.specs.Prelude.{◌<◌, ◌^◌, None};
 ghost use Rattle.cf_commit.specs.Leading.{CanBeWritten, HaveStoredPins};
 ghost use Rattle.cf_image.specs.Contents.{image_of};
 ghost use Rattle.cf_image.specs.Spelled.{AreRecordsFrom, IsImage};
@@ -11,7 +10,6 @@ ghost use Rattle.cf_table.specs.Tables.{AreTableRows, RisesFrom};
 use crate::earlier::Earlier;
 use cf_base::{ItemId, Usn};
 use cf_image::Contents;
-use cf_table::Row;
 
 fn fits_8(number: u64)
     ensures { number < 2 ^ 64 }
@@ -30,51 +28,6 @@ fn is_usn(number: Usn)
 {
     fits_4(number.epoch);
     fits_4(number.place);
-}
-
-fn base_fits(base: Option<u32>)
-    ensures { unwrap_or base 0 < 2 ^ 32 }
-{
-    if let Some(base) = base {
-        fits_4(base);
-    }
-}
-
-fn pair_fits(pair: (u32, u32))
-    ensures { (pair.0 < 2 ^ 32) × (pair.1 < 2 ^ 32) }
-{
-    fits_4(pair.0);
-    fits_4(pair.1);
-}
-
-fn pairs_fit(pairs: &[(u32, u32)])
-    ensures { All (λ (e : ℕ × ℕ). (e.0 < 2 ^ 32) × (e.1 < 2 ^ 32)) pairs.now }
-{
-    for pair in pairs {
-        pair_fits(*pair);
-    }
-}
-
-// The numbers of a row are those of their types.
-fn is_in_range(row: &Row)
-    ensures { IsInRange row.now }
-{
-    fits_8(row.id.0);
-    fits_8(row.parent.0);
-    fits_4(row.size);
-    base_fits(row.base);
-    is_usn(row.number);
-    is_usn(row.anchor);
-    fits_8(row.last);
-    pairs_fit(row.extents.pairs());
-}
-
-fn are_in_range(rows: &[Row])
-    ensures { All IsInRange rows.now }
-{
-    for row in rows {
-        is_in_range(row);
-    }
 }
 
 fn header_fits(last: Usn, count: u64, next: ItemId, clock: u64)
@@ -101,7 +54,6 @@ pub(crate) fn has_an_image(contents: &Contents)
         contents.rows.next(),
         contents.clock,
     );
-    are_in_range(contents.rows.as_slice());
 }
 
 /// What is noted stands in order.
