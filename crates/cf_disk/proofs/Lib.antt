@@ -1,6 +1,8 @@
 mod Mixing
 mod ImageLaws
+mod FrontLaws
 mod MediumLaws
+mod FrontSteps
 mod CutLaws
 mod TrailLaws
 mod PowerLaws

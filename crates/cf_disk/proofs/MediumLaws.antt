@@ -1,10 +1,12 @@
 -- How a medium in memory goes on, by its parts.
-use Rattle.std.proofs.Common.{◌≡◌, ℕ, zero, suc, ◌+◌, ◌-◌, ◌<◌, ◌≤◌, min, max, set, Bool, true, false, List, ◌∷◌, [], ◌++◌, length, drop, replicate, refl, sym, ap, arith}
-use Rattle.std.proofs.lemmas.List.{length-replicate, drop_all, append-nil}
+use Rattle.std.proofs.Common.{◌≡◌, inl, inr, ℕ, zero, suc, ◌+◌, ◌-◌, ◌<◌, ◌≤◌, min, max, set, Bool, true, false, List, ◌∷◌, [], ◌++◌, length, drop, replicate, refl, ◌∙◌, ap, arith}
+use Rattle.std.proofs.lemmas.Bool.{cases_lt}
 use Rattle.cf_base.specs.declared.policies.Choice.{Choice}
 use Rattle.cf_disk.specs.Disk.{part}
+use Rattle.cf_disk.specs.Fronts.{padded}
 use Rattle.cf_disk.specs.Images.{Held, IsMedium, durable, left_by}
 use Rattle.cf_disk.specs.Splice.{over, length-over}
+use Rattle.cf_disk.proofs.FrontLaws.{length-filled, filled_front, filled_behind, padded_whole}
 use Rattle.cf_disk.proofs.ImageLaws.{written_whole, written_quiet, durable_whole, clear_quiet, range_synced, range_clear, left_image}
 
 -- one more flag is set
@@ -36,24 +38,22 @@ module _ (bytes synced : List ℕ) (pending : List Bool) (low high : ℕ) (is : 
       → record { bytes = bytes; synced = copy; pending = flags } ≡ durable bytes
   synced_is copy flags copy_is flags_are = rw (copy_is, flags_are, range_synced low high held is.whole is.order is.room is.quiet, range_clear low high held is.whole is.order is.room is.quiet) refl
 
-  pub left_size : (choice : Choice) → length (left_by choice held) ≡ length synced
-  left_size choice = (left_image choice held is.whole).size
+  -- as if the bytes that a power cut leaves had been written
+  pub medium_cut : (choice : Choice) (new : List ℕ) → new ≡ left_by choice held → IsMedium low high (record { bytes = new; synced = synced; pending = pending })
+  medium_cut choice new new_is = rw new_is (let image = left_image choice held is.whole in record {
+    whole = record { flags = is.whole.flags; reads_one = record { size = image.size; stays = image.stays } };
+    order = is.order;
+    room = omega (arith, image.size, is.whole.reads_one.size, is.room);
+    quiet = is.quiet;
+  })
 
-  all_clear : (n : ℕ) → n ≡ length pending → over 0 (replicate n false) pending ≡ replicate (length synced) false
-  all_clear n n_is = rw (n_is, is.whole.flags) cleared
-    where
-      none : drop (0 + length (replicate (length synced) false)) pending ≡ []
-      none = drop_all (0 + length (replicate (length synced) false)) pending (omega (arith, length-replicate (length synced) false, is.whole.flags))
-
-      cleared : over 0 (replicate (length synced) false) pending ≡ replicate (length synced) false
-      cleared = rw none (append-nil (replicate (length synced) false))
-
-  -- a power cut that leaves these bytes
-  pub cut_is : (choice : Choice) (new copy : List ℕ) (n : ℕ) (flags : List Bool) → new ≡ left_by choice held → copy ≡ new → n ≡ length pending → flags ≡ over 0 (replicate n false) pending
-      → record { bytes = new; synced = copy; pending = flags } ≡ durable (left_by choice held)
-  cut_is choice new copy n flags new_is copy_is n_is flags_are = rw (copy_is, flags_are, all_clear n n_is, new_is, sym (left_size choice)) refl
-
-  pub medium_cut : (choice : Choice) (new copy : List ℕ) (n : ℕ) (flags : List Bool) → new ≡ left_by choice held → copy ≡ new → n ≡ length pending → flags ≡ over 0 (replicate n false) pending
-      → IsMedium 0 0 (record { bytes = new; synced = copy; pending = flags })
-  medium_cut choice new copy n flags new_is copy_is n_is flags_are = rw (cut_is choice new copy n flags new_is copy_is n_is flags_are)
-      (record { whole = durable_whole (left_by choice held); order = omega arith; room = omega arith; quiet = clear_quiet (length (left_by choice held)) 0 0 })
+  pub medium_padded : (n : ℕ) → IsMedium low high (padded n held)
+  medium_padded n = record {
+    whole = padded_whole n held is.whole;
+    order = is.order;
+    room = omega (arith, length-filled 0 n bytes, is.room);
+    quiet = λ i out. elim (cases_lt i (length pending)) [
+      | inl front ↦ filled_front false n i pending front ∙ is.quiet i out
+      | inr behind ↦ filled_behind false n i pending behind
+    ];
+  }

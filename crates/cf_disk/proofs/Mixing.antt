@@ -1,5 +1,5 @@
 -- One step of the loop over pending bytes.
-use Rattle.std.proofs.Common.{◌≡◌, ℕ, zero, suc, ◌+◌, ◌<◌, List, [], ◌∷◌, ◌++◌, Bool, true, false, length, get_or, set, take, drop, refl, sym, ◌∙◌, ap, arith, append_assoc}
+use Rattle.std.proofs.Common.{◌≡◌, ℕ, zero, suc, ◌+◌, ◌<◌, ◌≤◌, List, [], ◌∷◌, ◌++◌, Bool, true, false, length, get_or, set, take, drop, refl, sym, ◌∙◌, ap, arith, append_assoc}
 use Rattle.std.proofs.lemmas.List.{drop_more, take_more, take_more_set, drop-set-lt}
 use Rattle.cf_disk.specs.Images.{mixed, mixed_byte, stirred}
 
@@ -39,3 +39,34 @@ length-mixed s (w ∷ b) [] p = refl
 length-mixed s (w ∷ b) (x ∷ y) [] = refl
 length-mixed s (w ∷ b) (x ∷ y) (false ∷ p) = ap suc (length-mixed s b y p)
 length-mixed s (w ∷ b) (x ∷ y) (true ∷ p) = ap suc (length-mixed (stirred s) b y p)
+
+-- where nothing is pending, all stays
+pub mixed_quiet : (s : ℕ) (b y : List ℕ) (p : List Bool) → ((i : ℕ) → get_or p i false ≡ false) → mixed s b y p ≡ b
+mixed_quiet s [] y p quiet = refl
+mixed_quiet s (w ∷ b) [] p quiet = refl
+mixed_quiet s (w ∷ b) (x ∷ y) [] quiet = refl
+mixed_quiet s (w ∷ b) (x ∷ y) (false ∷ p) quiet = ap (λ (l : List ℕ). w ∷ l) (mixed_quiet s b y p (λ i. quiet (suc i)))
+mixed_quiet s (w ∷ b) (x ∷ y) (true ∷ p) quiet = let no : true ≡ false = quiet zero in absurd cc
+
+-- where nothing is pending before a place, the generator starts there
+pub mixed_from : (low s : ℕ) (b y : List ℕ) (p : List Bool) → ((i : ℕ) → i < low → get_or p i false ≡ false) → low ≤ length b → length y ≡ length b → length p ≡ length b
+    → mixed s b y p ≡ take low b ++ mixed s (drop low b) (drop low y) (drop low p)
+mixed_from zero s b y p quiet fits ly lp = refl
+mixed_from (suc low) s [] y p quiet fits ly lp = absurd (omega arith)
+mixed_from (suc low) s (w ∷ b) [] p quiet fits ly lp = absurd (omega arith)
+mixed_from (suc low) s (w ∷ b) (x ∷ y) [] quiet fits ly lp = absurd (omega arith)
+mixed_from (suc low) s (w ∷ b) (x ∷ y) (false ∷ p) quiet fits ly lp =
+    ap (λ (l : List ℕ). w ∷ l) (mixed_from low s b y p (λ i lt. quiet (suc i) (omega (arith, lt))) (omega arith) (omega arith) (omega arith))
+mixed_from (suc low) s (w ∷ b) (x ∷ y) (true ∷ p) quiet fits ly lp = let no : true ≡ false = quiet zero (omega arith) in absurd cc
+
+-- where nothing is pending from a place on, the generator ends there
+pub mixed_to : (n s : ℕ) (b y : List ℕ) (p : List Bool) → ((i : ℕ) → n ≤ i → get_or p i false ≡ false) → n ≤ length b → length y ≡ length b → length p ≡ length b
+    → mixed s b y p ≡ mixed s (take n b) (take n y) (take n p) ++ drop n b
+mixed_to zero s b y p quiet fits ly lp = mixed_quiet s b y p (λ i. quiet i (omega arith))
+mixed_to (suc n) s [] y p quiet fits ly lp = absurd (omega arith)
+mixed_to (suc n) s (w ∷ b) [] p quiet fits ly lp = absurd (omega arith)
+mixed_to (suc n) s (w ∷ b) (x ∷ y) [] quiet fits ly lp = absurd (omega arith)
+mixed_to (suc n) s (w ∷ b) (x ∷ y) (false ∷ p) quiet fits ly lp =
+    ap (λ (l : List ℕ). w ∷ l) (mixed_to n s b y p (λ i le. quiet (suc i) (omega (arith, le))) (omega arith) (omega arith) (omega arith))
+mixed_to (suc n) s (w ∷ b) (x ∷ y) (true ∷ p) quiet fits ly lp =
+    ap (λ (l : List ℕ). mixed_byte (stirred s) x w ∷ l) (mixed_to n (stirred s) b y p (λ i le. quiet (suc i) (omega (arith, le))) (omega arith) (omega arith) (omega arith))

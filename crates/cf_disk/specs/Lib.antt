@@ -9,3 +9,4 @@ pub mod Cuts
 pub mod Trails
 pub mod TrailParts
 pub mod PowerBooks
+pub mod Fronts

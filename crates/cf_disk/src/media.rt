@@ -4,30 +4,37 @@ ghost use Rattle.std.specs.Prelude.{◌≡◌, ◌≤◌, ◌+◌, length, repli
 ghost use Rattle.cf_disk.specs.Disk.{part};
 ghost use Rattle.cf_disk.specs.Images.{Held, IsWhole, written, durable, left_by};
 
-use crate::patches::{copy_range, copy_vec, cut, mark_vec, put_vec, zeros};
+use crate::patches::{
+    copy_filled, copy_range, cut_vec, fill_up, fill_up_flags, mark_vec, put_vec, read_filled,
+};
 use cf_base::{Choice, Memory};
 use std::alloc::Global;
 use std::marker::Model;
 
-/// The bytes of a disk, those of the last sync, and a flag for each byte that was written since. The flags that are
-/// set lie from `low` to `high`, so that a sync goes over these places alone.
+/// The bytes of a disk, those of the last sync, and a flag for each byte that was written since. They lie in memory up to
+/// the last place that was ever written; all behind it is zero and durable. Room for the whole is taken at the start, so
+/// that a write takes none, and what was never touched costs nothing. The flags that are set lie from `low` to `high`, so
+/// that a sync and a power go over these places alone.
 #[derive(Drop)]
 pub(crate) struct Medium {
     bytes: Vec<u8>,
     synced: Vec<u8>,
     pending: Vec<bool>,
+    size: usize,
     low: usize,
     high: usize,
 }
 
 impl Model for Medium {
-    ghost use Rattle.cf_disk.specs.Images.{Held, IsMedium};
+    ghost use Rattle.std.specs.Prelude.{vec_capacity};
+    ghost use Rattle.cf_disk.specs.Images.{Held};
+    ghost use Rattle.cf_disk.specs.Fronts.{IsFront, padded};
 
     ghost Value = { Held };
 
-    ghost view = { λ m. record { bytes = m.bytes.items; synced = m.synced.items; pending = m.pending.items } };
+    ghost view = { λ m. padded m.size (record { bytes = m.bytes.items; synced = m.synced.items; pending = m.pending.items }) };
 
-    ghost invariant = { λ m. IsMedium m.low m.high (record { bytes = m.bytes.items; synced = m.synced.items; pending = m.pending.items }) };
+    ghost invariant = { λ m. IsFront m.size m.low m.high (vec_capacity m.bytes) (vec_capacity m.synced) (vec_capacity m.pending) (record { bytes = m.bytes.items; synced = m.synced.items; pending = m.pending.items }) };
 }
 
 impl Medium {
@@ -36,9 +43,10 @@ impl Medium {
         ensures { IfOk result (λ m. m ≡ durable (replicate size 0)) }
     {
         Ok(Medium {
-            bytes: zeros(alloc, size)?,
-            synced: zeros(alloc, size)?,
-            pending: vec![in alloc; false; size]?,
+            bytes: Vec::with_capacity(alloc, size)?,
+            synced: Vec::with_capacity(alloc, size)?,
+            pending: Vec::with_capacity(alloc, size)?,
+            size,
             low: 0,
             high: 0,
         })
@@ -48,20 +56,22 @@ impl Medium {
         ensures size { result ≡ length self.now.bytes }
         ensures whole { IsWhole self.now }
     {
-        self.bytes.len()
-    }
-
-    pub(crate) fn as_slice(&self) -> &[u8]
-        ensures { result.now ≡ self.now.bytes }
-    {
-        self.bytes.as_slice()
+        self.size
     }
 
     pub(crate) fn read(&self, at: usize, out: &mut [u8])
         requires { at + length out.old ≤ length self.now.bytes }
         ensures { out.new ≡ part at (length out.old) self.now.bytes }
     {
-        out.copy_from_slice(&self.bytes[at..at + out.len()]);
+        read_filled(&self.bytes, self.size, at, out);
+    }
+
+    /// Copies the whole.
+    pub(crate) fn copy_to(&self, out: &mut Vec<u8>)
+        requires { length out.old.items ≡ length self.now.bytes }
+        ensures { out.new.items ≡ self.now.bytes }
+    {
+        copy_filled(&self.bytes, self.size, out);
     }
 
     pub(crate) fn write(&mut self, at: usize, bytes: &[u8])
@@ -69,10 +79,15 @@ impl Medium {
         ensures is { self.new ≡ written at bytes.now self.old }
         ensures whole { IsWhole self.old × IsWhole self.new }
     {
+        let _ = &self.size;
+        let end = at + bytes.len();
+        fill_up(&mut self.bytes, end);
+        fill_up(&mut self.synced, end);
+        fill_up_flags(&mut self.pending, end);
         put_vec(&mut self.bytes, at, bytes);
         mark_vec(&mut self.pending, at, bytes.len(), true);
         self.low = self.low.min(at);
-        self.high = self.high.max(at + bytes.len());
+        self.high = self.high.max(end);
     }
 
     pub(crate) fn sync(&mut self)
@@ -85,15 +100,26 @@ impl Medium {
         self.high = self.bytes.len();
     }
 
+    // What a power leaves of the pending bytes, as if it had been written.
+    fn cut(&mut self, choice: Choice)
+        ensures is { self.new ≡ record { bytes = left_by choice self.old; synced = self.old.synced; pending = self.old.pending } }
+        ensures whole { IsWhole self.old }
+    {
+        cut_vec(
+            &mut self.bytes,
+            &self.synced,
+            &self.pending,
+            self.low,
+            self.high,
+            choice,
+        );
+    }
+
     pub(crate) fn power(&mut self, choice: Choice)
         ensures is { self.new ≡ durable (left_by choice self.old) }
         ensures whole { IsWhole self.old }
     {
-        cut(&mut self.bytes, &self.synced, &self.pending, choice);
-        copy_vec(&mut self.synced, &self.bytes);
-        let len = self.pending.len();
-        mark_vec(&mut self.pending, 0, len, false);
-        self.low = 0;
-        self.high = 0;
+        self.cut(choice);
+        self.sync();
     }
 }

@@ -1,7 +1,8 @@
 //! Parts of vectors: bytes put over others, flags set, and the bytes that a power cut mixes.
 
-ghost use Rattle.std.specs.Prelude.{◌≡◌, ◌≤◌, ◌+◌, ◌-◌, List, length, replicate, IfOk};
+ghost use Rattle.std.specs.Prelude.{◌≡◌, ◌≤◌, ◌<◌, ◌+◌, ◌-◌, ◌^◌, List, length, replicate, false, IfOk, vec_capacity};
 ghost use Rattle.cf_disk.specs.Disk.{part};
+ghost use Rattle.cf_disk.specs.Fronts.{filled, window};
 ghost use Rattle.cf_disk.specs.Images.{left_by, mixed, mixed_byte, stirred};
 ghost use Rattle.cf_disk.specs.Splice.{over};
 
@@ -43,31 +44,18 @@ fn mark(flags: &mut [bool], at: usize, n: usize, value: bool)
 // The same of vectors.
 pub(crate) fn put_vec(bytes: &mut Vec<u8>, at: usize, src: &[u8])
     requires { at + length src.now ≤ length bytes.old.items }
-    ensures { bytes.new.items ≡ over at src.now bytes.old.items }
+    ensures items { bytes.new.items ≡ over at src.now bytes.old.items }
+    ensures capacity { vec_capacity bytes.new ≡ vec_capacity bytes.old }
 {
     put(bytes, at, src);
 }
 
 pub(crate) fn mark_vec(flags: &mut Vec<bool>, at: usize, n: usize, value: bool)
     requires { at + n ≤ length flags.old.items }
-    ensures { flags.new.items ≡ over at (replicate n value) flags.old.items }
+    ensures items { flags.new.items ≡ over at (replicate n value) flags.old.items }
+    ensures capacity { vec_capacity flags.new ≡ vec_capacity flags.old }
 {
     mark(flags, at, n, value);
-}
-
-// Copies all bytes.
-pub(crate) fn copy_vec(bytes: &mut Vec<u8>, src: &Vec<u8>)
-    requires { length bytes.old.items ≡ length src.now.items }
-    ensures { bytes.new.items ≡ src.now.items }
-{
-    bytes.copy_from_slice(src);
-}
-
-pub(crate) fn copy_all(bytes: &mut Vec<u8>, src: &[u8])
-    requires { length bytes.old.items ≡ length src.now }
-    ensures { bytes.new.items ≡ src.now }
-{
-    bytes.copy_from_slice(src);
 }
 
 // Copies the bytes of a range.
@@ -75,9 +63,65 @@ pub(crate) fn copy_range(bytes: &mut Vec<u8>, src: &Vec<u8>, low: usize, high: u
     requires order { low ≤ high }
     requires room { high ≤ length bytes.old.items }
     requires source { high ≤ length src.now.items }
-    ensures { bytes.new.items ≡ over low (part low (high - low) src.now.items) bytes.old.items }
+    ensures items { bytes.new.items ≡ over low (part low (high - low) src.now.items) bytes.old.items }
+    ensures capacity { vec_capacity bytes.new ≡ vec_capacity bytes.old }
 {
     put(bytes, low, &src[low..high]);
+}
+
+// Zeros behind the bytes, where they are fewer.
+pub(crate) fn fill_up(bytes: &mut Vec<u8>, n: usize)
+    requires { n ≤ vec_capacity bytes.old }
+    ensures items { bytes.new.items ≡ filled n 0 bytes.old.items }
+    ensures capacity { vec_capacity bytes.old ≤ vec_capacity bytes.new }
+{
+    if n > bytes.len() {
+        bytes.resize(n, 0).unwrap();
+    }
+}
+
+// The same of flags, which are not set.
+pub(crate) fn fill_up_flags(flags: &mut Vec<bool>, n: usize)
+    requires { n ≤ vec_capacity flags.old }
+    ensures items { flags.new.items ≡ filled n false flags.old.items }
+    ensures capacity { vec_capacity flags.old ≤ vec_capacity flags.new }
+{
+    if n > flags.len() {
+        flags.resize(n, false).unwrap();
+    }
+}
+
+// The bytes of a place that may lie behind the last, where zeros follow.
+fn read_past(bytes: &[u8], at: usize, out: &mut [u8])
+    requires { at + length out.old < 2 ^ 64 }
+    ensures { out.new ≡ over 0 (part at (length out.old) bytes.now) (replicate (length out.old) 0) }
+{
+    out.fill(0);
+    let start = at.min(bytes.len());
+    let end = (at + out.len()).min(bytes.len());
+    put(out, 0, &bytes[start..end]);
+}
+
+// The bytes of a place, where zeros follow them up to a size.
+pub(crate) fn read_filled(bytes: &[u8], size: usize, at: usize, out: &mut [u8])
+    requires front { length bytes.now ≤ size }
+    requires range { at + length out.old ≤ size }
+    ensures { out.new ≡ part at (length out.old) (filled size 0 bytes.now) }
+{
+    if at + out.len() <= bytes.len() {
+        out.copy_from_slice(&bytes[at..at + out.len()]);
+    } else {
+        read_past(bytes, at, out);
+    }
+}
+
+// All of them.
+pub(crate) fn copy_filled(bytes: &[u8], size: usize, out: &mut Vec<u8>)
+    requires front { length bytes.now ≤ size }
+    requires range { length out.old.items ≡ size }
+    ensures { out.new.items ≡ filled size 0 bytes.now }
+{
+    read_filled(bytes, size, 0, out);
 }
 
 // The next number of the generator.
@@ -122,14 +166,56 @@ fn mix(bytes: &mut [u8], synced: &[u8], pending: &[bool], seed: u64)
 }
 
 // What a power cut leaves of the bytes.
-pub(crate) fn cut(bytes: &mut Vec<u8>, synced: &Vec<u8>, pending: &Vec<bool>, choice: Choice)
-    requires synced { length synced.now.items ≡ length bytes.old.items }
-    requires pending { length pending.now.items ≡ length bytes.old.items }
-    ensures { bytes.new.items ≡ left_by choice (record { bytes = bytes.old.items; synced = synced.now.items; pending = pending.now.items }) }
+fn cut(bytes: &mut [u8], synced: &[u8], pending: &[bool], choice: Choice)
+    requires synced { length synced.now ≡ length bytes.old }
+    requires pending { length pending.now ≡ length bytes.old }
+    ensures { bytes.new ≡ left_by choice (record { bytes = bytes.old; synced = synced.now; pending = pending.now }) }
 {
     match choice {
         Choice::Keep => {}
-        Choice::Drop => copy_vec(bytes, synced),
+        Choice::Drop => bytes.copy_from_slice(synced),
         Choice::Mix(seed) => mix(bytes, synced, pending, seed),
     }
+}
+
+// The same of a range, outside of which nothing changes.
+fn cut_range(
+    bytes: &mut [u8],
+    synced: &[u8],
+    pending: &[bool],
+    low: usize,
+    high: usize,
+    choice: Choice,
+)
+    requires order { low ≤ high }
+    requires room { high ≤ length bytes.old }
+    requires synced { length synced.now ≡ length bytes.old }
+    requires pending { length pending.now ≡ length bytes.old }
+    ensures { bytes.new ≡ over low (left_by choice (window low (high - low) (record { bytes = bytes.old; synced = synced.now; pending = pending.now }))) bytes.old }
+{
+    cut(
+        &mut bytes[low..high],
+        &synced[low..high],
+        &pending[low..high],
+        choice,
+    );
+}
+
+// The same of vectors.
+pub(crate) fn cut_vec(
+    bytes: &mut Vec<u8>,
+    synced: &Vec<u8>,
+    pending: &Vec<bool>,
+    low: usize,
+    high: usize,
+    choice: Choice,
+)
+    requires order { low ≤ high }
+    requires room { high ≤ length bytes.old.items }
+    requires synced { length synced.now.items ≡ length bytes.old.items }
+    requires pending { length pending.now.items ≡ length bytes.old.items }
+    ensures items { bytes.new.items ≡ over low (left_by choice (window low (high - low) (record { bytes = bytes.old.items; synced = synced.now.items; pending = pending.now.items }))) bytes.old.items }
+    ensures capacity { vec_capacity bytes.new ≡ vec_capacity bytes.old }
+{
+    cut_range(bytes, synced, pending, low, high, choice);
 }

@@ -7,7 +7,7 @@ ghost use Rattle.cf_disk.specs.Trails.{run_calls, MovesOn};
 use crate::counters::is_spent;
 use crate::disks::{Disk, DiskFault};
 use crate::media::Medium;
-use crate::patches::{copy_all, zeros};
+use crate::patches::zeros;
 use crate::powers::KeptPowers;
 use crate::trails::{Calls, Head, Kind};
 use cf_base::{Choice, Memory};
@@ -188,7 +188,7 @@ impl Disk for TraceDisk {
     {
         self.before = moments_after(self.before, self.calls.len());
         self.medium.power(choice);
-        copy_all(&mut self.start, self.medium.as_slice());
+        self.medium.copy_to(&mut self.start);
         self.powers.add(choice, &self.start);
         self.calls.clear();
         self.armed = None;

@@ -1,14 +1,18 @@
-use Rattle.std.proofs.Common.{◌∙◌, ap, arith}
-use Rattle.cf_disk.specs.Images.{Held, durable}
-use Rattle.cf_disk.proofs.MediumLaws.{medium_synced, synced_is}
+use Rattle.std.proofs.Common.{arith}
+use Rattle.std.specs.Prelude.{vec_capacity}
+use Rattle.cf_disk.proofs.FrontSteps.{front_synced, synced_now}
 use Rattle.cf_disk.proofs.media.Medium.sync.Goals as goal
 
 pub invariant_of-self : goal.invariant_of-self
-invariant_of-self c = medium_synced c.self.inside.bytes.items c.self.inside.synced.items c.self.inside.pending.items c.self.inside.low c.self.inside.high c.self.invariant
-    c.len-self-inside.result c.len-self-inside-2.result c.copy_range.new.bytes.items c.mark_vec.new.flags.items c.copy_range.ensures c.mark_vec.ensures (omega (arith, c.len-self-inside.ensures, c.self.inside.bytes.ok)) (omega (arith, c.len-self-inside-2.ensures, c.self.inside.bytes.ok))
+invariant_of-self c =
+    let i = c.self.inside in
+    front_synced i.size i.low i.high (vec_capacity i.bytes) (vec_capacity i.synced) (vec_capacity i.pending) i.bytes.items i.synced.items i.pending.items c.self.invariant c.args.self.now c.self.view_is
+    c.copy_range.new.bytes.items c.mark_vec.new.flags.items c.copy_range.ensures.items c.mark_vec.ensures.items
+    c.len-self-inside.result c.len-self-inside-2.result (vec_capacity c.copy_range.new.bytes) (vec_capacity c.mark_vec.new.flags)
+    (omega (arith, c.len-self-inside.ensures, i.bytes.ok)) (omega (arith, c.len-self-inside-2.ensures, i.bytes.ok)) (omega (arith, c.copy_range.ensures.capacity)) (omega (arith, c.mark_vec.ensures.capacity))
 
 pub returns-clause-is : goal.returns-clause-is
 returns-clause-is c =
-    synced_is c.self.inside.bytes.items c.self.inside.synced.items c.self.inside.pending.items c.self.inside.low c.self.inside.high c.self.invariant
-    c.copy_range.new.bytes.items c.mark_vec.new.flags.items c.copy_range.ensures c.mark_vec.ensures
-    ∙ ap (λ (h : Held). durable h.bytes) c.self.view_is
+    let i = c.self.inside in
+    synced_now i.size i.low i.high (vec_capacity i.bytes) (vec_capacity i.synced) (vec_capacity i.pending) i.bytes.items i.synced.items i.pending.items c.self.invariant c.args.self.now c.self.view_is
+    c.copy_range.new.bytes.items c.mark_vec.new.flags.items c.copy_range.ensures.items c.mark_vec.ensures.items

@@ -1,0 +1,32 @@
+-- A medium of which the front alone lies in memory: all behind it is zero, synced and not pending.
+use Rattle.std.specs.Prelude.{◌<◌, ◌≤◌, ◌-◌, ◌^◌, ℕ, false, List, ◌++◌, length, take, drop, replicate}
+use Rattle.cf_disk.specs.Images.{Held, IsMedium}
+
+-- filled up to n with x
+abbrev pub filled : {X : Type 0} → ℕ → X → List X → List X
+filled n x xs = xs ++ replicate (n - length xs) x
+
+-- the whole, of so many bytes, of its front
+abbrev pub padded : ℕ → Held → Held
+padded size h = record {
+  bytes = filled size 0 h.bytes;
+  synced = filled size 0 h.synced;
+  pending = filled size false h.pending;
+}
+
+-- n bytes of each from a place on
+abbrev pub window : ℕ → ℕ → Held → Held
+window at n h = record {
+  bytes = take n (drop at h.bytes);
+  synced = take n (drop at h.synced);
+  pending = take n (drop at h.pending);
+}
+
+-- so a medium in memory keeps its front, with room for the whole of each list
+pub record IsFront (size low high room synced_room pending_room : ℕ) (h : Held) : Type 0 where
+  pub medium : IsMedium low high h
+  pub fits : length h.bytes ≤ size
+  pub small : size < 2 ^ 64
+  pub room_is : size ≤ room
+  pub synced_room_is : size ≤ synced_room
+  pub pending_room_is : size ≤ pending_room
