@@ -23,17 +23,16 @@ abbrev pub refused_by : Operation → Code → Act
 refused_by op code.Device = Failed op
 refused_by op c = Did op (shown.Refused c)
 
--- The operation led from the one state to the other, with this result. After want of memory it is only said that some acts
--- did.
+-- The operation led from the one state to the other, with this result. Without memory no act did.
 abbrev pub Executes : {X : Type 0} → (X → List Act → X → Type 0) → Operation → X → Result Outcome Fail → X → Type 0
 Executes goes op old (Ok o) new = goes old (Did op (shown_of o) ∷ []) new
 Executes goes op old (Err (No c)) new = goes old (refused_by op c ∷ []) new
-Executes goes op old (Err Memory) new = (acts : List Act) × goes old acts new
+Executes goes op old (Err Memory) new = goes old [] new
 
--- the note was added, and nothing else happened
+-- The note was added, and nothing else happened. Without memory no act did.
 abbrev pub Notes : {X : Type 0} → (X → List Act → X → Type 0) → Notice → X → Result (Unit {0}) NoMemory → X → Type 0
 Notes goes n old (Ok u) new = goes old (Noted n ∷ []) new
-Notes goes n old (Err e) new = (acts : List Act) × goes old acts new
+Notes goes n old (Err e) new = goes old [] new
 
 -- what a provider may note
 abbrev pub is_note : Notice → Bool

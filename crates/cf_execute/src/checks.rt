@@ -61,10 +61,12 @@ fn is_ended(base: u64, span: Span) -> bool
     span.len % BLOCK == 0 || (span.start <= base && base - span.start == span.len)
 }
 
-/// The blocks of 4,096 bytes that a span of bytes touches, which may end past 2^64; none where it is empty. Takes no memory.
+/// The blocks of 4,096 bytes that a span of bytes touches, which may end past 2^64: none from the block of its start where
+/// it is empty. Takes no memory.
 #[tactic(auto, using(crate::proofs::Touched::touched))]
 pub fn touched_blocks(span: Span) -> Span
-    ensures { counting result.start result.len ≡ blocks_of span.start span.len }
+    ensures blocks { counting result.start result.len ≡ blocks_of span.start span.len }
+    ensures first { result.start ≡ span.start / 4096 }
 {
     let start = span.start / BLOCK;
     if span.len == 0 {

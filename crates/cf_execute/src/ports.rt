@@ -17,11 +17,13 @@ pub trait Port {
     /// The volume's rows.
     ghost table: { Self → Table };
 
-    /// Does an operation, or refuses it. Refused as `check` and the operation's row say, and as Broken and Device.
+    /// Does an operation, or refuses it. Refused as `check` and the operation's row say, and as Broken and Device. Without
+    /// memory `goes` tells of no act.
     fn execute(&mut self, op: &Operation) -> Result<Outcome, Fail>
         ensures { Executes goes op.now self.old result self.new };
 
-    /// Adds a note: an operation's answer, a message, a fault or a step that was left out.
+    /// Adds a note: an operation's answer, a message, a fault or a step that was left out. Without memory `goes` tells of
+    /// no act.
     fn note(&mut self, n: Notice) -> Result<(), Memory>
         requires { is_note n ≡ true }
         ensures { Notes goes n self.old result self.new };

@@ -75,8 +75,8 @@ module _ {D : Type 0} (state : D → State) where
     still = λ broken. false_true (sym whole ∙ broken);
   }
 
-  pub lost_by : (x mid y : Held D) (op : Operation) (p : Result Shown Fail) → x.desk.broken ≡ false → Answers (sense state) Any (execute op) x p mid → y ≡ stopped_by true mid → (acts : List Act) × Goes state x acts y
-  lost_by x mid y op p whole e is = ([], subst (λ (z : Held D). Goes state x [] z) (sym is) (lost_goes x mid op p whole e))
+  pub lost_by : (x mid y : Held D) (op : Operation) (p : Result Shown Fail) → x.desk.broken ≡ false → Answers (sense state) Any (execute op) x p mid → y ≡ stopped_by true mid → Goes state x [] y
+  lost_by x mid y op p whole e is = subst (λ (z : Held D). Goes state x [] z) (sym is) (lost_goes x mid op p whole e)
 
   loses : (x : Held D) → Goes state x [] (stopped_by true x)
   unfolding stopped_by
@@ -85,8 +85,8 @@ module _ {D : Type 0} (state : D → State) where
     still = λ broken. record { broken = refl; disk = refl; lost = λ lost. refl; desk = λ kept. false_true (sym kept) };
   }
 
-  pub lost_note : (x mid y : Held D) → mid ≡ x → y ≡ stopped_by true mid → (acts : List Act) × Goes state x acts y
-  lost_note x mid y same is = ([], subst (λ (z : Held D). Goes state x [] z) (sym (is ∙ ap (stopped_by true) same)) (loses x))
+  pub lost_note : (x mid y : Held D) → mid ≡ x → y ≡ stopped_by true mid → Goes state x [] y
+  lost_note x mid y same is = subst (λ (z : Held D). Goes state x [] z) (sym (is ∙ ap (stopped_by true) same)) (loses x)
 
   pub refused_as : (x y : Held D) (op : Operation) → x.desk.broken ≡ true → y ≡ x → Goes state x (refused_by op code.Broken ∷ []) y
   refused_as x y op is same = subst (λ (z : Held D). Goes state x (Did op (shown.Refused code.Broken) ∷ []) z) (sym same) (refused_goes x op is)

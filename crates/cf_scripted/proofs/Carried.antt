@@ -40,10 +40,11 @@ refused_is op c = refl
 module _ {X : Type 0} (goes : X → List Act → X → Type 0) where
   -- an operation
 
-  pub acts_done : (op : Operation) (old new : X) (told : Result Outcome Fail) → Executes goes op old told new → (acts : List Act) × goes old acts new
-  acts_done op old new (Ok o) h = (Did op (shown_of o) ∷ [], h)
-  acts_done op old new (Err (No c)) h = (refused_by op c ∷ [], h)
-  acts_done op old new (Err Memory) h = h
+  -- memory ran out
+  pub not_done : (op : Operation) (old new : X) (told : Result Outcome Fail) (e : NoMemory) (r : Result Bool NoMemory) → Executes goes op old told new → Lines told (Err e) → IsErrAnd r (λ y. y ≡ e) → Carries goes op old r new
+  not_done op old new (Ok o) e r h lines is = absurd lines
+  not_done op old new (Err (No c)) e r h lines is = absurd lines
+  not_done op old new (Err Memory) e r h lines is = let p = err_from_is_err_and r is in subst (λ (o : Result Bool NoMemory). Carries goes op old o new) (sym p.1) ([], record {}, h)
 
   pub met_device : (op : Operation) (old new : X) (told : Result Outcome Fail) (line : Option OperationAnswer) → Executes goes op old told new → Lines told (Ok line) → line ≡ None → goes old (Failed op ∷ []) new
   met_device op old new (Ok o) line h is none = some_none (sym is ∙ none)
@@ -65,10 +66,6 @@ module _ {X : Type 0} (goes : X → List Act → X → Type 0) where
       by false g e = (shown.Refused c, same_some (operation_answer.Refused c) a e, g)
   was_told op old new (Err Memory) line a h is some = absurd is
 
-  note_acts : (n : Notice) (old new : X) (r : Result (Unit {0}) NoMemory) → Notes goes n old r new → (acts : List Act) × goes old acts new
-  note_acts n old new (Ok u) h = (Noted n ∷ [], h)
-  note_acts n old new (Err e) h = h
-
   carries_as : (op other : Operation) (b w : Bool) (old new : X) → op ≡ other → b ≡ w → Carries goes op old (Ok b) new → Carries goes other old (Ok w) new
   carries_as op other b w old new same is h = subst (λ (o : Operation). Carries goes o old (Ok w) new) same (subst (λ (x : Bool). Carries goes op old (Ok x) new) is h)
 
@@ -79,10 +76,11 @@ module _ {X : Type 0} (goes : X → List Act → X → Type 0) where
         let t = was_told op old mid told line a h is some in
         (t.0, on old mid new (Did op t.0 ∷ []) (Noted (line_of t.0) ∷ []) t.2 (subst (λ (z : OperationAnswer). goes mid (Noted (notice.Operation z) ∷ []) new) (sym t.1) noted))
 
-    pub no_line : (op : Operation) (old mid new : X) (told : Result Outcome Fail) (n : Notice) (e : NoMemory) (r : Result Bool NoMemory) → Executes goes op old told mid → Notes goes n mid (Err e) new → IsErrAnd r (λ y. y ≡ e) → Carries goes op old r new
-    no_line op old mid new told n e r h noted is =
-        let p = err_from_is_err_and r is in let a = acts_done op old mid told h in let b = note_acts n mid new (Err e) noted in
-        subst (λ (o : Result Bool NoMemory). Carries goes op old o new) (sym p.1) (a.0 ++ b.0, on old mid new a.0 b.0 a.1 b.1)
+    pub no_line : (op : Operation) (old mid new : X) (told : Result Outcome Fail) (line : Option OperationAnswer) (a : OperationAnswer) (n : Notice) (e : NoMemory) (r : Result Bool NoMemory) → Executes goes op old told mid → Lines told (Ok line)
+        → line ≡ Some a → Notes goes n mid (Err e) new → IsErrAnd r (λ y. y ≡ e) → Carries goes op old r new
+    no_line op old mid new told line a n e r h is some noted err =
+        let p = err_from_is_err_and r err in let t = was_told op old mid told line a h is some in
+        subst (λ (o : Result Bool NoMemory). Carries goes op old o new) (sym p.1) (Did op t.0 ∷ [], refl, on old mid new (Did op t.0 ∷ []) [] t.2 noted)
 
     -- a plan
 
@@ -120,7 +118,7 @@ module _ {X : Type 0} (goes : X → List Act → X → Type 0) where
           → (acts : List Act) × goes first acts new × (is_ok r ≡ true → Answers plan call acts left)
       carried_out_of op call before left mid new e r h c is =
           let p = err_from_is_err_and r is in
-          (h.acts ++ c.0, on first mid new h.acts c.0 h.did c.1, λ ok. let no : false ≡ true = ap is_ok (sym p.1) ∙ ok in let bad : ⊥ = cc in absurd bad)
+          (h.acts ++ c.0, on first mid new h.acts c.0 h.did c.2, λ ok. let no : false ≡ true = ap is_ok (sym p.1) ∙ ok in let bad : ⊥ = cc in absurd bad)
 
       pub carried_none : (stays : (p : X) → goes p [] p) → HasCarried goes own plan first plan first
       carried_none stays = record { acts = []; did = stays first; leads = λ more k. k }

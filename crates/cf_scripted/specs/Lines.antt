@@ -37,18 +37,25 @@ Answers plan call acts left = CarriesOut call.ask.key plan acts × (left ≡ [])
 abbrev pub refused_line : Code → Option OperationAnswer
 refused_line c = cond (is_device c) None (Some (operation_answer.Refused c))
 
--- the line of an operation that ended so, if it has one
+-- the line of an operation that ended so, if it has one; memory runs out only with the operation
 abbrev pub Lines : Result Outcome Fail → Result (Option OperationAnswer) NoMemory → Type 0
 Lines (Ok o) (Ok line) = line ≡ Some (operation_line (shown_of o))
 Lines (Err (No c)) (Ok line) = line ≡ refused_line c
 Lines (Err Memory) (Ok line) = ⊥
-Lines told (Err e) = Unit {0}
+Lines (Err Memory) (Err e) = Unit {0}
+Lines told (Err e) = ⊥
 
--- It was done, and its line noted, or it met the device. After want of memory it is only said that some acts did.
+-- What is done of an operation and its line when memory runs out: nothing, or the operation without its line.
+abbrev pub IsBegun : Operation → List Act → Type 0
+IsBegun op [] = Unit {0}
+IsBegun op (Did done answer ∷ []) = done ≡ op
+IsBegun op acts = ⊥
+
+-- It was done, and its line noted, or it met the device.
 abbrev pub Carries : {X : Type 0} → (X → List Act → X → Type 0) → Operation → X → Result Bool NoMemory → X → Type 0
 Carries goes op old (Ok true) new = (answer : Shown) × goes old (Did op answer ∷ Noted (line_of answer) ∷ []) new
 Carries goes op old (Ok false) new = goes old (Failed op ∷ []) new
-Carries goes op old (Err e) new = (acts : List Act) × goes old acts new
+Carries goes op old (Err e) new = (acts : List Act) × IsBegun op acts × goes old acts new
 
 -- So far a plan was carried out but for its rest.
 pub record HasCarried {X : Type 0} (goes : X → List Act → X → Type 0) (own : Key) (plan : List (Bool × Operation)) (first : X) (rest : List (Bool × Operation)) (now : X) : Type 0 where
