@@ -12,8 +12,8 @@ use Rattle.cf_model.specs.Messages.{after_ask, ask, distrusted, with_remote}
 use Rattle.cf_model.specs.State.{State}
 use Rattle.cf_model.specs.Store.{Held, remote_step}
 use Rattle.cf_model.specs.Trees as trees
-use Rattle.cf_model.specs.Trees.{AsItKeeps, Ret, Telling, Tells, Tree, bind}
-use Rattle.cf_remote.specs.Peers.{IsCount, IsHeld, IsTelling, Leads, Stands}
+use Rattle.cf_model.specs.Trees.{AsItKeeps, Asked, Fork, Ret, Step, Telling, Tells, Tree, bind}
+use Rattle.cf_remote.specs.Peers.{Begins, IsCount, IsHeld, IsTelling, Leads, Stands}
 use Rattle.cf_remote.specs.Told.{Answers, Faults, Replies, Told, counted}
 
 -- counts
@@ -90,3 +90,15 @@ after_fault q next s old new st f = record {
 pub leads_ask : (q : Request) (r : Option Reply) (next : ℕ) (s : State) (old mid : Told) (g : Option Reply → Arrow State Shown) (a : After q r next s old mid)
     (b : Shown) (u : State) (last : Told) → Leads (g r a.state) mid b u last → Leads (seq (ask q) g s) old b u last
 leads_ask q r next s old mid g a b u last l = (a.does, mid, a.is, subst (λ (p : Tree State (Option Reply)). Leads (bind p g) mid b u last) (sym a.there) l)
+
+-- what follows the ask is begun
+pub begins_ask : (q : Request) (r : Option Reply) (next : ℕ) (s : State) (old mid : Told) (g : Option Reply → Arrow State Shown) (a : After q r next s old mid)
+    (last : Told) → Begins (g r a.state) mid last → Begins (seq (ask q) g s) old last
+begins_ask q r next s old mid g a last l = inr (a.does, mid, a.is, subst (λ (p : Tree State (Option Reply)). Begins (bind p g) mid last) (sym a.there) l)
+
+-- nothing of it is done yet
+pub begins_here : {S A : Type 0} (p : Tree S A) (told : Told) → Begins p told told
+begins_here (Ret a s) told = refl
+begins_here (Step s p) told = begins_here p told
+begins_here (Fork p q) told = inl (begins_here p told)
+begins_here (Asked k) told = inl refl

@@ -1,6 +1,8 @@
 -- What a peer event is answered.
-use Rattle.std.proofs.Common.{◌≡◌, ℕ, ◌+◌, Bool, true, false, refl, sym, ap, ◌∙◌, subst, arith}
+use Rattle.std.proofs.Common.{◌≡◌, inl, ℕ, ◌+◌, Bool, true, false, refl, sym, ap, ◌∙◌, subst, arith}
 use Rattle.std.specs.Prelude.{Option, Some, None, Result, Ok, Err, option_map}
+use Rattle.std.specs.Result.{IsErrAnd}
+use Rattle.std.proofs.lemmas.Result.{err_from_is_err_and}
 use Rattle.cf_base.specs.declared.answers.Answer.{Answer}
 use Rattle.cf_base.specs.declared.answers.Shown.{Shown}
 use Rattle.cf_base.specs.declared.answers.Shown.TheVariants as shown
@@ -25,7 +27,7 @@ use Rattle.cf_remote.specs.declared.stops.Plan.{Plan}
 use Rattle.cf_remote.specs.declared.stops.Plan.TheVariants as plan
 use Rattle.cf_remote.specs.declared.stops.Stop.{Stop}
 use Rattle.cf_remote.specs.declared.stops.Stop.TheVariants as stop
-use Rattle.cf_remote.proofs.Asking.{after_fault, after_reply, leads_ask}
+use Rattle.cf_remote.proofs.Asking.{after_fault, after_reply, begins_ask, begins_here, leads_ask}
 
 -- an answer as it was made
 
@@ -43,10 +45,10 @@ ends f s old a b r t next after new e n leads stands stray =
 -- an event that ended in a look-up
 pub ended_does : {A : Type 0} (f : Arrow State Shown) (rest : A → Arrow State Shown) (next : ℕ) (old : Told) (e : Stop) (result : Result Answer Memory) (after : ℕ) (new : Told)
     → ((s : State) → Stands next old s → Comes f rest next s old (Err e) new) → EndsBy e next result after → Does f next old result after new
-ended_does f rest next old (stop.Refused c) (Err m) after new h k = (omega (arith, k), omega (arith, k))
-ended_does f rest next old stop.Fault (Err m) after new h k = (omega (arith, k), omega (arith, k))
-ended_does f rest next old (stop.Stray r) (Err m) after new h k = (omega (arith, k), omega (arith, k))
-ended_does f rest next old stop.Memory (Err m) after new h k = (omega (arith, k), omega (arith, k))
+ended_does f rest next old (stop.Refused c) (Err m) after new h k = absurd k
+ended_does f rest next old stop.Fault (Err m) after new h k = absurd k
+ended_does f rest next old (stop.Stray r) (Err m) after new h k = absurd k
+ended_does f rest next old stop.Memory (Err m) after new h k = (omega (arith, k), omega (arith, k), h)
 ended_does f rest next old (stop.Refused c) (Ok a) after new h k = λ s none st.
     let t = h s st in ends f s old a (shown.Refused c) None t.0 next after new k.0 k.1 t.3 t.1 (ap (λ (x : Running). x.stray) t.2 ∙ none)
 ended_does f rest next old stop.Fault (Ok a) after new h k = λ s none st.
@@ -58,7 +60,7 @@ ended_does f rest next old stop.Memory (Ok a) after new h k = absurd k
 -- an event whose rest is done
 pub planned_does : (f : Arrow State Shown) (next : ℕ) (old : Told) (p : Plan) (mid : Told) (result : Result Answer Memory) (after : ℕ) (new : Told)
     → ((s : State) → Stands next old s → Comes f finish next s old (Ok p) mid) → Does (finish p) next mid result after new → Does f next old result after new
-planned_does f next old p mid (Err m) after new h k = k
+planned_does f next old p mid (Err m) after new h k = (k.0, k.1, λ s st. let t = h s st in t.4 new (k.2 t.0 t.1))
 planned_does f next old p mid (Ok a) after new h k = λ s none st.
     let t = h s st in
     let u = k t.0 (ap (λ (x : Running). x.stray) t.2 ∙ none) t.1 in
@@ -126,9 +128,19 @@ module _ (q : Request) (next : ℕ) (old new : Told) where
         after.stands,
         whole a (shown.Refused code.RemoteFault) None after.state.running.stray k (ap (λ (x : Running). x.stray) after.running ∙ none),
       )
-  failed_does ask.Fault (Err m) h k = (omega arith, omega arith)
+  failed_does ask.Fault (Err m) h k = absurd k
   failed_does ask.Memory (Ok a) h k = absurd k
-  failed_does ask.Memory (Err m) h k = (omega arith, omega arith)
+  failed_does ask.Memory (Err m) h k = (omega arith, omega arith, λ s st. inl h)
+
+  -- memory runs out after the reply
+  pub unseen_does : (r : Reply) (m : Memory) (result : Result Answer Memory) → Answers q r old new → IsErrAnd result (λ y. y ≡ m) → Does (send_request q) next old result (next + 1) new
+  unseen_does r m result h is = subst (λ (o : Result Answer Memory). Does (send_request q) next old o (next + 1) new) (sym (err_from_is_err_and result is).1) (
+    omega arith,
+    omega arith,
+    λ s st.
+        let after = after_reply q r (next + 1) (with_token_used s) old new (used s st) h in
+        begins_ask q (Some r) (next + 1) (with_token_used s) old new (on_answer q) after new (begins_here (on_answer q (Some r) after.state) new),
+  )
 
   pub answered_does : (r : Reply) (fit : Bool) (a : Answer) → Answers q r old new → fit ≡ is_fit q r → Shows r fit a → Does (send_request q) next old (Ok a) (next + 1) new
   answered_does r fit a h e k s none st =

@@ -1,5 +1,5 @@
 -- Parts of a peer event, one after the other.
-use Rattle.std.proofs.Common.{◌≡◌, ℕ, ◌+◌, List, Bool, true, false, refl, sym, ap, ◌∙◌, subst}
+use Rattle.std.proofs.Common.{◌≡◌, inl, ℕ, ◌+◌, List, Bool, true, false, refl, sym, ap, ◌∙◌, subst}
 use Rattle.std.specs.Prelude.{Some, None, Result, Ok, Err}
 use Rattle.std.specs.Result.{IsErrAnd}
 use Rattle.std.proofs.lemmas.Result.{err_from_is_err_and}
@@ -18,7 +18,7 @@ use Rattle.cf_model.specs.Arrows.{Arrow, choose}
 use Rattle.cf_model.specs.Peers.{if_found, in_dir, is_fit, list_of, listing, named, on_listing, refused, request_with, peer_token, send_request, stale, with_entries, with_stray, with_token_used}
 use Rattle.cf_model.specs.State.{Running, State}
 use Rattle.cf_remote.specs.LookUps.{Comes, IsListed, finish}
-use Rattle.cf_remote.specs.Peers.{Leads, Stands}
+use Rattle.cf_remote.specs.Peers.{Begins, Leads, Stands}
 use Rattle.cf_remote.specs.Told.{Answers, Asks, Told}
 use Rattle.cf_remote.specs.declared.ask_errors.AskError.{AskError}
 use Rattle.cf_remote.specs.declared.ask_errors.AskError.TheVariants.{Fault, Memory}
@@ -26,7 +26,7 @@ use Rattle.cf_remote.specs.Stops.{stop_of}
 use Rattle.cf_remote.specs.declared.stops.Plan.TheVariants as plan
 use Rattle.cf_remote.specs.declared.stops.Stop.{Stop}
 use Rattle.cf_remote.specs.declared.stops.Stop.TheVariants as stop
-use Rattle.cf_remote.proofs.Asking.{after_fault, after_reply, leads_ask}
+use Rattle.cf_remote.proofs.Asking.{after_fault, after_reply, begins_ask, begins_here, leads_ask}
 
 -- a part that ends the event ends it whatever would follow
 pub comes_ended : {A B : Type 0} (f : Arrow State Shown) (rest : A → Arrow State Shown) (more : B → Arrow State Shown) (next : ℕ) (s : State) (old : Told) (e : Stop) (new : Told)
@@ -40,14 +40,14 @@ comes_ended f rest more next s old stop.Memory new h = h
 pub comes_on : {A B : Type 0} (f : Arrow State Shown) (rest : A → Arrow State Shown) (more : B → Arrow State Shown) (next : ℕ) (s : State) (old : Told) (a : A) (mid : Told) (r : Result B Stop) (new : Told)
     → Comes f rest next s old (Ok a) mid → ((t : State) → Stands next mid t → Comes (rest a) more next t mid r new) → Comes f more next s old r new
 comes_on f rest more next s old a mid (Ok b) new h then' =
-    let k = then' h.0 h.1 in (k.0, k.1, k.2 ∙ h.2, λ v u last l. h.3 v u last (k.3 v u last l))
+    let k = then' h.0 h.1 in (k.0, k.1, k.2 ∙ h.2, λ v u last l. h.3 v u last (k.3 v u last l), λ last l. h.4 last (k.4 last l))
 comes_on f rest more next s old a mid (Err (stop.Refused c)) new h then' =
     let k = then' h.0 h.1 in (k.0, k.1, k.2 ∙ h.2, h.3 (shown.Refused c) k.0 new k.3)
 comes_on f rest more next s old a mid (Err stop.Fault) new h then' =
     let k = then' h.0 h.1 in (k.0, k.1, k.2 ∙ h.2, h.3 (shown.Refused code.RemoteFault) k.0 new k.3)
 comes_on f rest more next s old a mid (Err (stop.Stray r)) new h then' =
     let k = then' h.0 h.1 in (k.0, k.1, k.2 ∙ ap (λ (x : Running). record x { stray = Some r }) h.2, h.3 (shown.Refused code.Stale) k.0 new k.3)
-comes_on f rest more next s old a mid (Err stop.Memory) new h then' = tt
+comes_on f rest more next s old a mid (Err stop.Memory) new h then' = h.4 new (then' h.0 h.1)
 
 -- the same, where what follows is known
 pub comes_then : {B : Type 0} (f g : Arrow State Shown) (more : B → Arrow State Shown) (next : ℕ) (s : State) (old mid : Told) (r : Result B Stop) (new : Told)
@@ -60,7 +60,12 @@ comes_refused f rest next s old c e st = (s, st, refl, subst (λ (g : Arrow Stat
 
 pub comes_done : {A : Type 0} (f : Arrow State Shown) (rest : A → Arrow State Shown) (next : ℕ) (s : State) (old : Told) (a : A)
     → f ≡ rest a → Stands next old s → Comes f rest next s old (Ok a) old
-comes_done f rest next s old a e st = (s, st, refl, λ b u last l. subst (λ (g : Arrow State Shown). Leads (g s) old b u last) (sym e) l)
+comes_done f rest next s old a e st =
+    (s, st, refl, λ b u last l. subst (λ (g : Arrow State Shown). Leads (g s) old b u last) (sym e) l, λ last l. subst (λ (g : Arrow State Shown). Begins (g s) old last) (sym e) l)
+
+-- memory runs out before any ask
+pub comes_lost : {A : Type 0} (f : Arrow State Shown) (rest : A → Arrow State Shown) (next : ℕ) (s : State) (old : Told) → Comes f rest next s old (Err stop.Memory) old
+comes_lost f rest next s old = begins_here (f s) old
 
 pub comes_as : {A : Type 0} (f g : Arrow State Shown) (rest : A → Arrow State Shown) (next : ℕ) (s : State) (old : Told) (r : Result A Stop) (new : Told)
     → f ≡ g → Comes g rest next s old r new → Comes f rest next s old r new
@@ -78,6 +83,8 @@ module _ (f : List Entry → Arrow State Shown) (rid : Rid) (next : ℕ) (s : St
         r.running,
         λ b u last l. leads_ask (list_of rid) (Some (reply.Listing key es)) next s old new (on_listing rid f) r b u last
             (subst (λ (ok : Bool). Leads (with_entries f (reply.Listing key es) ok r.state) new b u last) (sym fit) l),
+        λ last l. begins_ask (list_of rid) (Some (reply.Listing key es)) next s old new (on_listing rid f) r last
+            (subst (λ (ok : Bool). Begins (with_entries f (reply.Listing key es) ok r.state) new last) (sym fit) l),
       )
 
   strays : (r : Reply) → Answers (list_of rid) r old new → with_entries f r (is_fit (list_of rid) r) ≡ stale r → Comes (listing rid f) f next s old (Err (stop.Stray r)) new
@@ -111,7 +118,13 @@ module _ (f : List Entry → Arrow State Shown) (rid : Rid) (next : ℕ) (s : St
         after.running,
         leads_ask (list_of rid) None next s old new (on_listing rid f) after (shown.Refused code.RemoteFault) (with_token_used after.state) new (refl, refl, refl),
       )
-  listing_fails Memory h = tt
+  listing_fails Memory h = inl h
+
+  -- memory runs out after the reply
+  pub listing_lost : (r : Reply) → Answers (list_of rid) r old new → Comes (listing rid f) f next s old (Err stop.Memory) new
+  listing_lost r a =
+      let after = after_reply (list_of rid) r next s old new st a in
+      begins_ask (list_of rid) (Some r) next s old new (on_listing rid f) after new (begins_here (on_listing rid f (Some r) after.state) new)
 
   pub listing_ends : (r : Reply) (result : Result (List Entry) Stop) → Answers (list_of rid) r old new → is_fit (list_of rid) r ≡ true → IsListed r result
       → Comes (listing rid f) f next s old result new
@@ -150,7 +163,8 @@ token_is token next s told e st = ap (λ (k : Key). record { 0 = k }) (e ∙ ap 
 pub plan_sends : (q : Token → Request) (token : Token) (next : ℕ) (s : State) (told : Told) → token.0 ≡ record { epoch = 0; number = next } → Stands next told s
     → Comes (request_with q) finish next s told (Ok (plan.Send (q token))) told
 plan_sends q token next s told e st =
-    (s, st, refl, λ b u last l. subst (λ (x : Token). Leads (send_request (q x) s) told b u last) (token_is token next s told e st) l)
+    let same = token_is token next s told e st in
+    (s, st, refl, λ b u last l. subst (λ (x : Token). Leads (send_request (q x) s) told b u last) same l, λ last l. subst (λ (x : Token). Begins (send_request (q x) s) told last) same l)
 
 pub sends_as : (q : Token → Request) (r : Request) (token : Token) (next : ℕ) (s : State) (told : Told) → r ≡ q token → token.0 ≡ record { epoch = 0; number = next } → Stands next told s
     → Comes (request_with q) finish next s told (Ok (plan.Send r)) told
@@ -183,6 +197,13 @@ module _ (f : Entry → Arrow State Shown) (at : Entry) (name : List ℕ) where
       comes_as (in_dir at (listing at.rid rest_of)) (listing at.rid rest_of) f next s old (Err (stop.Refused code.NotFound)) new (in_is d)
       (comes_on (listing at.rid rest_of) rest_of f next s old es new (Err (stop.Refused code.NotFound)) new h
       (λ t st. comes_refused (rest_of es) f next t new code.NotFound (ap (if_found f) (sym n)) st))
+
+  pub step_lost : (next : ℕ) (s : State) (old : Told) (es : List Entry) (new : Told) → at.dir ≡ true → Comes {A = List Entry} (listing at.rid rest_of) rest_of next s old (Ok es) new
+      → Comes {A = Entry} (in_dir at (listing at.rid rest_of)) f next s old (Err stop.Memory) new
+  step_lost next s old es new d h =
+      comes_as (in_dir at (listing at.rid rest_of)) (listing at.rid rest_of) f next s old (Err stop.Memory) new (in_is d)
+      (comes_on (listing at.rid rest_of) rest_of f next s old es new (Err stop.Memory) new h
+      (λ t st. comes_lost (rest_of es) f next t new))
 
   pub step_found : (next : ℕ) (s : State) (old : Told) (es : List Entry) (e : Entry) (new : Told) → at.dir ≡ true → Some e ≡ named name es → Comes {A = List Entry} (listing at.rid rest_of) rest_of next s old (Ok es) new
       → Comes {A = Entry} (in_dir at (listing at.rid rest_of)) f next s old (Ok e) new

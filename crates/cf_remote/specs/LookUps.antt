@@ -17,7 +17,7 @@ use Rattle.cf_model.specs.Peers.{code_of, in_dir, look, on_done, peer_event, ref
 use Rattle.cf_model.specs.State.{State}
 use Rattle.cf_model.specs.Trees.{Ret}
 use Rattle.cf_model.specs.Words.{but_last, last_of}
-use Rattle.cf_remote.specs.Peers.{Leads, Stands}
+use Rattle.cf_remote.specs.Peers.{Begins, Leads, Stands}
 use Rattle.cf_remote.specs.Told.{Told}
 use Rattle.cf_remote.specs.declared.ask_errors.AskError.{AskError}
 use Rattle.cf_remote.specs.declared.ask_errors.AskError.TheVariants as ask
@@ -31,17 +31,22 @@ use Rattle.cf_wire.specs.Spelled.{HasRoom}
 abbrev pub Goes : Arrow State Shown → Arrow State Shown → State → Told → State → Told → Type 0
 Goes f g s old t new = (b : Shown) (u : State) (last : Told) → Leads (g t) new b u last → Leads (f s) old b u last
 
+-- where the rest is begun from here on the event is begun
+abbrev pub GoesOn : Arrow State Shown → Arrow State Shown → State → Told → State → Told → Type 0
+GoesOn f g s old t new = (last : Told) → Begins (g t) new last → Begins (f s) old last
+
 -- the event ends here
 abbrev pub Ends : Arrow State Shown → State → Told → Shown → State → Told → Type 0
 Ends f s old b t new = Leads (f s) old b t new
 
--- The part was done and the rest follows, or the event ended in it. A fault and a stray reply use a token up.
+-- The part was done and the rest follows, or the event ended in it. A fault and a stray reply use a token up. Without memory it
+-- is begun.
 abbrev pub Comes : {A : Type 0} → Arrow State Shown → (A → Arrow State Shown) → ℕ → State → Told → Result A Stop → Told → Type 0
-Comes f rest next s old (Ok a) new = (t : State) × Stands next new t × (t.running ≡ s.running) × Goes f (rest a) s old t new
+Comes f rest next s old (Ok a) new = (t : State) × Stands next new t × (t.running ≡ s.running) × Goes f (rest a) s old t new × GoesOn f (rest a) s old t new
 Comes f rest next s old (Err (stop.Refused c)) new = (t : State) × Stands next new t × (t.running ≡ s.running) × Ends f s old (shown.Refused c) t new
 Comes f rest next s old (Err stop.Fault) new = (t : State) × Stands (next + 1) new t × (t.running ≡ s.running) × Ends f s old (shown.Refused code.RemoteFault) t new
 Comes f rest next s old (Err (stop.Stray r)) new = (t : State) × Stands (next + 1) new t × (t.running ≡ record s.running { stray = Some r }) × Ends f s old (shown.Refused code.Stale) t new
-Comes f rest next s old (Err stop.Memory) new = Unit {0}
+Comes f rest next s old (Err stop.Memory) new = Begins (f s) old new
 
 -- what a function does to the remote that has this contract is the part of the event, whatever comes before and after
 abbrev pub DoesPart : {A B : Type 0} → ((B → Arrow State Shown) → Arrow State Shown) → (A → B) → Told → Result A Stop → Told → Type 0
@@ -112,4 +117,5 @@ EndsBy (stop.Refused c) next (Ok a) after = (a ≡ answered (shown.Refused c) No
 EndsBy stop.Fault next (Ok a) after = (a ≡ answered (shown.Refused code.RemoteFault) None) × (after ≡ next + 1)
 EndsBy (stop.Stray r) next (Ok a) after = (a ≡ answered (shown.Refused code.Stale) (Some r)) × (after ≡ next + 1)
 EndsBy stop.Memory next (Ok a) after = ⊥
-EndsBy s next (Err e) after = after ≡ next
+EndsBy stop.Memory next (Err e) after = after ≡ next
+EndsBy s next (Err e) after = ⊥

@@ -26,6 +26,13 @@ Leads (Step s p) old b t new = Leads p old b t new
 Leads (Fork p q) old b t new = Leads p old b t new ⊎ Leads q old b t new
 Leads (Asked k) old b t new = (w : Telling) × (mid : Told) × IsTelling w old mid × Leads (k w) mid b t new
 
+-- the tree was gone so far, to an ask or to its end, its asks being those that lead the remote from old to new
+abbrev pub Begins : {S A : Type 0} → Tree S A → Told → Told → Type 0
+Begins (Ret a s) old new = new ≡ old
+Begins (Step s p) old new = Begins p old new
+Begins (Fork p q) old new = Begins p old new ⊎ Begins q old new
+Begins (Asked k) old new = (new ≡ old) ⊎ ((w : Telling) × (mid : Told) × IsTelling w old mid × Begins (k w) mid new)
+
 abbrev pub IsHeld : Option Held → Held → Type 0
 IsHeld None held = Unit {0}
 IsHeld (Some told) held = held ≡ told
@@ -40,8 +47,9 @@ pub record Stands (next : ℕ) (told : Told) (s : State) : Type 0 where
   pub held : IsHeld told.held s.link.remote
   pub asks : IsCount told.asks s.link.remote_asks
 
--- The answer is one of the event's, and it keeps the reply that made it Stale. Without memory one token at most is used up.
+-- The answer is one of the event's, and it keeps the reply that made it Stale. Without memory one token at most is used up, and
+-- the event was begun: the first of its asks were made, or none.
 abbrev pub Does : Arrow State Shown → ℕ → Told → Result Answer Memory → ℕ → Told → Type 0
 Does f next old (Ok a) after new = (s : State) → s.running.stray ≡ None → Stands next old s
     → (t : State) × Leads (f s) old a.shown t new × Stands after new t × (a ≡ record { notes = []; shown = a.shown; stray = t.running.stray })
-Does f next old (Err e) after new = (next ≤ after) × (after ≤ next + 1)
+Does f next old (Err e) after new = (next ≤ after) × (after ≤ next + 1) × ((s : State) → Stands next old s → Begins (f s) old new)

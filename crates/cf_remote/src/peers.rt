@@ -57,13 +57,14 @@ fn end(alloc: Global, next: &mut u32, stop: Stop) -> Result<Answer, Memory>
 /// that fails. A `peer put` on a directory is IsDirectory; else the answer is by the reply. RemoteFault comes where the
 /// remote's count of faults rose, and Stale where a reply does not fit or is none that such a request has, which the answer
 /// keeps. A request and each of these two uses the token up, and `next` is one more. Without memory `next` is as before or
-/// one more, and some of the requests may have been sent.
+/// one more, and the first of the event's requests were sent, or none.
 pub fn peer<R: Remote>(
     alloc: Global,
     remote: &mut R,
     next: &mut u32,
     e: &PeerEvent,
 ) -> Result<Answer, Memory>
+    requires first { 0 < next.old }
     requires next { next.old < 2 ^ 32 - 1 }
     requires room { EventHasRoom e.now }
     ensures { Does (peer_event e.now) next.old (R.told remote.old) result next.new (R.told remote.new) }

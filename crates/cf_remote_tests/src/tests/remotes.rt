@@ -43,6 +43,7 @@ pub(crate) fn does<R: Remote>(
     next: u32,
     e: PeerEvent,
 ) -> Result<(Answer, u32), Memory>
+    requires first { 0 < next }
     requires next { next < 1000 }
     requires room { EventHasRoom e }
 {
@@ -58,6 +59,7 @@ pub(crate) fn put<R: Remote>(
     path: &str,
     bytes: &[u8],
 ) -> Result<(Answer, u32), Memory>
+    requires first { 0 < next }
     requires next { next < 1000 }
     requires room { length bytes.now < 2 ^ 32 }
 {
@@ -72,7 +74,8 @@ pub(crate) fn make_dir<R: Remote>(
     next: u32,
     path: &str,
 ) -> Result<(Answer, u32), Memory>
-    requires { next < 1000 }
+    requires first { 0 < next }
+    requires next { next < 1000 }
 {
     let path = text(alloc, path)?;
     does(alloc, remote, next, PeerEvent::MakeDir { path })
@@ -85,7 +88,8 @@ pub(crate) fn move_to<R: Remote>(
     from: &str,
     to: &str,
 ) -> Result<(Answer, u32), Memory>
-    requires { next < 1000 }
+    requires first { 0 < next }
+    requires next { next < 1000 }
 {
     let from = text(alloc, from)?;
     let to = text(alloc, to)?;
@@ -98,7 +102,8 @@ pub(crate) fn remove<R: Remote>(
     next: u32,
     path: &str,
 ) -> Result<(Answer, u32), Memory>
-    requires { next < 1000 }
+    requires first { 0 < next }
+    requires next { next < 1000 }
 {
     let path = text(alloc, path)?;
     does(alloc, remote, next, PeerEvent::Remove { path })
@@ -110,7 +115,8 @@ pub(crate) fn stat<R: Remote>(
     next: u32,
     path: &str,
 ) -> Result<(Answer, u32), Memory>
-    requires { next < 1000 }
+    requires first { 0 < next }
+    requires next { next < 1000 }
 {
     let path = text(alloc, path)?;
     does(alloc, remote, next, PeerEvent::Stat { path })
@@ -122,7 +128,8 @@ pub(crate) fn keep<R: Remote>(
     next: u32,
     count: u32,
 ) -> Result<(Answer, u32), Memory>
-    requires { next < 1000 }
+    requires first { 0 < next }
+    requires next { next < 1000 }
 {
     does(alloc, remote, next, PeerEvent::Keep { count })
 }

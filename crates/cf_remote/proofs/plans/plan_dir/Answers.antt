@@ -5,12 +5,13 @@ use Rattle.cf_base.specs.declared.messages.Entry.{Entry}
 use Rattle.cf_base.specs.declared.ids.Token.{Token}
 use Rattle.cf_base.specs.declared.messages.Request.TheVariants as request
 use Rattle.cf_model.specs.LookUp.{names_of}
-use Rattle.cf_model.specs.Peers.{at_place, make_at}
+use Rattle.cf_model.specs.Peers.{at_place, make_at, named}
 use Rattle.cf_remote.specs.LookUps.{Comes, finish}
 use Rattle.cf_remote.specs.declared.stops.Plan.{Plan}
 use Rattle.cf_remote.specs.declared.stops.Plan.TheVariants as plan
 use Rattle.cf_remote.specs.declared.stops.Stop.{Stop}
-use Rattle.cf_remote.proofs.PeerParts.{comes_as, comes_ended, sends_as, with_stop}
+use Rattle.cf_remote.specs.declared.stops.Stop.TheVariants as stop
+use Rattle.cf_remote.proofs.PeerParts.{comes_as, comes_ended, comes_lost, sends_as, with_stop}
 use Rattle.cf_remote.proofs.PeerPlans.{at_name, entries_ended, entries_found}
 use Rattle.cf_remote.proofs.plans.plan_dir.Goals as goal
 
@@ -26,6 +27,14 @@ returns-in_err-listing-clause-plans g c next s e st =
     (comes_as (at_place (names_of c.args.path.now) make_at) (at_place (names_of c.as_str.result.now) make_at) finish next s (g.R.Remote.told c.args.remote.now) (Err c.in_err-listing.field-0.0) (g.R.Remote.told c.listing.new.remote) (ap (λ (p : List ℕ). at_place (names_of p) make_at) (sym c.as_str.ensures))
     (entries_ended make_at c.in_ok-place.place.0 c.in_ok-place.place.1.now (names_of c.as_str.result.now) next s (g.R.Remote.told c.args.remote.now) (g.R.Remote.told c.parent.new.remote) (c.in_ok-place.ensures.part (at_name make_at) next s st)
     c.in_err-listing.field-0.0 (g.R.Remote.told c.listing.new.remote) c.in_err-listing.ensures))
+
+pub returns-in_err-name-clause-plans : goal.returns-in_err-name-clause-plans
+returns-in_err-name-clause-plans g c next s e st =
+    with_stop (λ (r : Result Plan Stop). Comes {A = Plan} (at_place (names_of c.args.path.now) make_at) finish next s (g.R.Remote.told c.args.remote.now) r (g.R.Remote.told c.listing.new.remote)) c.from_residual-in_err-name.result stop.Memory c.from_residual-in_err-name.ensures.1
+    (comes_as (at_place (names_of c.args.path.now) make_at) (at_place (names_of c.as_str.result.now) make_at) finish next s (g.R.Remote.told c.args.remote.now) (Err stop.Memory) (g.R.Remote.told c.listing.new.remote) (ap (λ (p : List ℕ). at_place (names_of p) make_at) (sym c.as_str.ensures))
+    (entries_found make_at c.in_ok-place.place.0 c.in_ok-place.place.1.now (names_of c.as_str.result.now) next s (g.R.Remote.told c.args.remote.now) (g.R.Remote.told c.parent.new.remote) (c.in_ok-place.ensures.part (at_name make_at) next s st)
+    c.in_ok-listing.field-0 (g.R.Remote.told c.listing.new.remote) (Err stop.Memory) c.in_ok-listing.ensures
+    (λ t u. comes_lost (make_at c.in_ok-place.place.0 c.in_ok-place.place.1.now (named c.in_ok-place.place.1.now c.in_ok-listing.field-0)) finish next t (g.R.Remote.told c.listing.new.remote))))
 
 pub returns-clause-plans : goal.returns-clause-plans
 returns-clause-plans g c next s e st =

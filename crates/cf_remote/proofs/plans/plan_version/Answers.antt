@@ -1,15 +1,23 @@
 use Rattle.std.proofs.Common.{Bool, [], ap, ◌∙◌}
-use Rattle.std.specs.Prelude.{Ok}
+use Rattle.std.specs.Prelude.{Ok, Result}
 use Rattle.cf_base.specs.declared.codes.Code.TheVariants as code
 use Rattle.cf_base.specs.declared.ids.Token.{Token}
 use Rattle.cf_base.specs.declared.messages.Request.TheVariants as request
 use Rattle.cf_model.specs.Arrows.{choose}
 use Rattle.cf_model.specs.Numbers.{no_rid}
 use Rattle.cf_model.specs.Peers.{put_over, refused, request_with}
-use Rattle.cf_remote.specs.LookUps.{finish}
+use Rattle.cf_remote.specs.LookUps.{Comes, finish}
+use Rattle.cf_remote.specs.declared.stops.Plan.{Plan}
 use Rattle.cf_remote.specs.declared.stops.Plan.TheVariants as plan
-use Rattle.cf_remote.proofs.PeerParts.{comes_as, sends_as}
+use Rattle.cf_remote.specs.declared.stops.Stop.{Stop}
+use Rattle.cf_remote.specs.declared.stops.Stop.TheVariants as stop
+use Rattle.cf_remote.proofs.PeerParts.{comes_as, comes_lost, sends_as, with_stop}
 use Rattle.cf_remote.proofs.plans.plan_version.Goals as goal
+
+pub returns-in_err-bytes-clause-plans : goal.returns-in_err-bytes-clause-plans
+returns-in_err-bytes-clause-plans c next s told e st =
+    with_stop (λ (r : Result Plan Stop). Comes {A = Plan} (put_over c.args.bytes.now c.args.entry.now) finish next s told r told) c.from_residual.result stop.Memory c.from_residual.ensures.1
+    (comes_lost (put_over c.args.bytes.now c.args.entry.now) finish next s told)
 
 pub returns-clause-plans : goal.returns-clause-plans
 returns-clause-plans c next s told e st =

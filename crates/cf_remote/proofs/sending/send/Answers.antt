@@ -1,8 +1,11 @@
-use Rattle.cf_remote.proofs.PeerAnswers.{answered_does, failed_does}
+use Rattle.cf_remote.proofs.PeerAnswers.{answered_does, failed_does, unseen_does}
 use Rattle.cf_remote.proofs.sending.send.Goals as goal
 
 pub returns-in-Err : goal.returns-in-Err
 returns-in-Err g c next = failed_does c.args.q.now next (g.R.Remote.told c.args.remote.now) (g.R.Remote.told c.ask.new.self) c.in-Err.e c.failed.result c.in-Err.ensures c.failed.ensures
+
+pub returns-in_err-fit-in-Ok : goal.returns-in_err-fit-in-Ok
+returns-in_err-fit-in-Ok g c next = unseen_does c.args.q.now next (g.R.Remote.told c.args.remote.now) (g.R.Remote.told c.ask.new.self) c.in-Ok.reply c.in_err-fit-in-Ok.field-0.0 c.from_residual.result c.in-Ok.ensures c.from_residual.ensures.1
 
 pub returns-in_ok-fit-in-Ok : goal.returns-in_ok-fit-in-Ok
 returns-in_ok-fit-in-Ok g c next = answered_does c.args.q.now next (g.R.Remote.told c.args.remote.now) (g.R.Remote.told c.ask.new.self) c.in-Ok.reply c.in_ok-fit-in-Ok.fit c.answer_by.result c.in-Ok.ensures c.in_ok-fit-in-Ok.ensures c.answer_by.ensures
