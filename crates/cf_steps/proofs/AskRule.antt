@@ -64,7 +64,7 @@ same_part S item d p w old new r waits h = record {
   leads = λ s i q.
       let e : carried p w ≡ told_at item d s = ap (λ (v : Waiting). carried p v) (waits s i) ∙ q in
       let files : AreOnFiles (told_at item d s).0.ended s = ended_have (λ x. IsOnFile x.kind s.volume.items x.item) _ s.waiting.waits (S.good old s i).reads in
-      subst (λ (y : Told × Waiting). (t : Filter) × Does (tell y s) r t × S.moved old new s t × After S r new t) e
+      subst (λ (y : Told × Waiting). (t : Filter) × Does (tell y s) r t × S.moved old new s t × After S old r new t) e
       (h.leads s i (subst (λ (y : Told × Waiting). AreOnFiles y.0.ended s) (sym e) files));
 }
 
@@ -173,7 +173,7 @@ hung_up S w m old mid new u r waits h e k =
     let a = told_next S (downed w) m old mid new r h e k in record {
       leads = λ s i p.
           let files = downs_have (λ x. IsOnFile x.kind s.volume.items x.item) s.waiting.waits (S.good old s i).reads in
-          subst (λ (y : Waiting). (t : Filter) × Does (tell (downed y) s) r t × S.moved old new s t × After S r new t) (waits s i)
+          subst (λ (y : Waiting). (t : Filter) × Does (tell (downed y) s) r t × S.moved old new s t × After S old r new t) (waits s i)
           (a.leads s i (subst (λ (y : Waiting). AreOnFiles (downed y).0.ended s) (sym (waits s i)) files));
     }
 
@@ -181,5 +181,5 @@ pub hung_not : {X : Type 0} (S : Sense X) (w : Waiting) (old new : X) (e : Fail)
     → ((s : Filter) → S.means old s → w ≡ s.waiting) → Answers S Any (noted (with_waiting (downed w).1)) old (Err e) new → Answers S Any (reading all_down tell) old (Err e) new
 hung_not S w old new e waits h =
     let a = stops_first S Any (noted (with_waiting (downed w).1)) (then_do (each end_wait (downed w).0.ended) (noted (with_asks_told (downed w).0))) old new e h in record {
-      leads = λ s i p. subst (λ (y : Waiting). (t : Filter) × Does {A = Unit {0}} (tell (downed y) s) (Err e) t × S.moved old new s t × After {A = Unit {0}} S (Err e) new t) (waits s i) (a.leads s i (record {}));
+      leads = λ s i p. subst (λ (y : Waiting). (t : Filter) × Does {A = Unit {0}} (tell (downed y) s) (Err e) t × S.moved old new s t × After {A = Unit {0}} S old (Err e) new t) (waits s i) (a.leads s i (record {}));
     }

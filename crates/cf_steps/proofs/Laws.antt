@@ -21,27 +21,33 @@ returned S P a x = record { leads = λ s h p. (s, (refl, refl), S.stays x s h, h
 pub no_memory : {X A : Type 0} (S : Sense X) (P : Filter → Type 0) (f : Arrow Filter A) (x : X) → Answers S P f x (Err Memory) x
 no_memory S P f x = record { leads = λ s h p. (s, record {}, S.stays x s h, S.endures x s h) }
 
-pub after_err : {X : Type 0} (A B : Type 0) (S : Sense X) (e : Fail) (x : X) (t : Filter) → After {A = A} S (Err e) x t → After {A = B} S (Err e) x t
-after_err A B S (No c) x t h = h
-after_err A B S Memory x t h = h
+pub after_err : {X : Type 0} (A B : Type 0) (S : Sense X) (e : Fail) (x y : X) (t : Filter) → After {A = A} S x (Err e) y t → After {A = B} S x (Err e) y t
+after_err A B S (No c) x y t h = h
+after_err A B S Memory x y t h = h
+
+-- seen from further back
+pub after_on : {X A : Type 0} (S : Sense X) (x y z : X) (s t u : Filter) (r : Result A Fail) → S.moved x y s t → After S y r z u → After S x r z u
+after_on S x y z s t u (Ok a) m h = h
+after_on S x y z s t u (Err (No c)) m h = S.stops_on x y z s t u m h
+after_on S x y z s t u (Err Memory) m h = h
 
 pub fails_first : {X A B : Type 0} (S : Sense X) (P : Filter → Type 0) (f : Arrow Filter A) (g : A → Arrow Filter B) (old new : X) (e : Fail)
     → Answers S P f old (Err e) new → Answers S P (seq f g) old (Err e) new
-fails_first {X} {A} {B} S P f g old new e h = record { leads = λ s i p. let x = h.leads s i p in (x.0, trees.fails_first (f s) g e x.0 x.1, x.2, after_err A B S e new x.0 x.3) }
+fails_first {X} {A} {B} S P f g old new e h = record { leads = λ s i p. let x = h.leads s i p in (x.0, trees.fails_first (f s) g e x.0 x.1, x.2, after_err A B S e old new x.0 x.3) }
 
 pub goes_on : {X A B : Type 0} (S : Sense X) (P Q : Filter → Type 0) (f : Arrow Filter A) (g : A → Arrow Filter B) (old mid new : X) (a : A) (r : Result B Fail)
     → ((s t : Filter) → P s → Ends (f s) a t → Q t) → Answers S P f old (Ok a) mid → Answers S Q (g a) mid r new → Answers S P (seq f g) old r new
 goes_on S P Q f g old mid new a r q h k = record {
   leads = λ s i p.
       let x = h.leads s i p in let y = k.leads x.0 x.3 (q s x.0 p x.1) in
-      (y.0, trees.goes_on (f s) g a x.0 r y.0 x.1 y.1, S.goes_on old mid new s x.0 y.0 x.2 y.2, y.3);
+      (y.0, trees.goes_on (f s) g a x.0 r y.0 x.1 y.1, S.goes_on old mid new s x.0 y.0 x.2 y.2, after_on S old mid new s x.0 y.0 r x.2 y.3);
 }
 
 pub reads_on : {X A V : Type 0} (S : Sense X) (P : Filter → Type 0) (v : Filter → V) (h : V → Arrow Filter A) (old new : X) (x : V) (r : Result A Fail)
     → Reads S P v old x → Answers S P (h x) old r new → Answers S P (reading v h) old r new
 reads_on S P v h old new x r e k = record {
   leads = λ s i p.
-      subst (λ (y : _). (t : Filter) × Does (h y s) r t × S.moved old new s t × After S r new t) (e.is s i p) (k.leads s i p);
+      subst (λ (y : _). (t : Filter) × Does (h y s) r t × S.moved old new s t × After S old r new t) (e.is s i p) (k.leads s i p);
 }
 
 -- under a weaker property
@@ -67,7 +73,7 @@ pub noted_as : {X : Type 0} (S : Sense X) (P : Filter → Type 0) (f g : Filter 
     → ((s : Filter) → S.means old s → P s → f s ≡ g s) → Answers S P (noted f) old r new → Answers S P (noted g) old r new
 noted_as S P f g old new r same h = record {
   leads = λ s i p.
-      subst (λ (y : Filter). (t : Filter) × Does (Ret unit y) r t × S.moved old new s t × After S r new t) (same s i p) (h.leads s i p);
+      subst (λ (y : Filter). (t : Filter) × Does (Ret unit y) r t × S.moved old new s t × After S old r new t) (same s i p) (h.leads s i p);
 }
 
 -- at an exit by `?`

@@ -83,7 +83,7 @@ pub room_on : {X : Type 0} (S : Sense X) (cs : List Change) (answer : Arrow Filt
 room_on S cs answer x mid new u r reads h k = record {
   leads = λ s i p.
       let e : None ≡ why_no_room cs s.volume = reads.is s i p in
-      subst (λ (o : Option Code). (t : Filter) × Does (unless shown.Refused (first_of (test_of o)) (then_do (changes cs) answer) s) r t × S.moved x new s t × After S r new t) e
+      subst (λ (o : Option Code). (t : Filter) × Does (unless shown.Refused (first_of (test_of o)) (then_do (changes cs) answer) s) r t × S.moved x new s t × After S x r new t) e
       ((then_on S (ReadyAll cs) Any (changes cs) answer x mid new u r (λ a b q z. record {}) h k).leads s i (ready_all cs s.volume (has_room cs s.volume (sym e)) p));
 }
 
@@ -92,7 +92,7 @@ pub room_stops : {X : Type 0} (S : Sense X) (cs : List Change) (answer : Arrow F
 room_stops S cs answer x new f reads h = record {
   leads = λ s i p.
       let e : None ≡ why_no_room cs s.volume = reads.is s i p in
-      subst (λ (o : Option Code). (t : Filter) × Does {A = Shown} (unless shown.Refused (first_of (test_of o)) (then_do (changes cs) answer) s) (Err f) t × S.moved x new s t × After {A = Shown} S (Err f) new t) e
+      subst (λ (o : Option Code). (t : Filter) × Does {A = Shown} (unless shown.Refused (first_of (test_of o)) (then_do (changes cs) answer) s) (Err f) t × S.moved x new s t × After {A = Shown} S x (Err f) new t) e
       ((stops_first S (ReadyAll cs) (changes cs) answer x new f h).leads s i (ready_all cs s.volume (has_room cs s.volume (sym e)) p));
 }
 
@@ -100,7 +100,7 @@ pub room_off : {X : Type 0} (S : Sense X) (cs : List Change) (answer : Arrow Fil
     → Reads S (Suiting cs) (room_refusal cs) x (Some c) → Answers S (Suiting cs) (changing cs answer) x (Ok (shown.Refused c)) x
 room_off S cs answer x c reads = record {
   leads = λ s i p.
-      subst (λ (o : Option Code). (t : Filter) × Does {A = Shown} (unless shown.Refused (first_of (test_of o)) (then_do (changes cs) answer) s) (Ok (shown.Refused c)) t × S.moved x x s t × After {A = Shown} S (Ok (shown.Refused c)) x t) (reads.is s i p)
+      subst (λ (o : Option Code). (t : Filter) × Does {A = Shown} (unless shown.Refused (first_of (test_of o)) (then_do (changes cs) answer) s) (Ok (shown.Refused c)) t × S.moved x x s t × After {A = Shown} S x (Ok (shown.Refused c)) x t) (reads.is s i p)
       (s, (refl, refl), S.stays x s i, i);
 }
 

@@ -13,24 +13,25 @@ use Rattle.cf_steps.specs.Good.{IsGood}
 -- state may be opened at; `moved` that at each moment from the one to the other it stood for one of a state between them.
 pub record Sense (X : Type 0) : Type 1 where
   pub means : X → Filter → Type 0
-  -- after a device call that failed: nothing more is answered, and what was told before stands
-  pub stopped : X → Filter → Type 0
+  -- from the one to the other a device call failed, and nothing more is answered; what was told before stands
+  pub stopped : X → X → Filter → Type 0
   pub durable : X → Filter → Type 0
   pub moved : X → X → Filter → Filter → Type 0
   pub good : (x : X) (s : Filter) → means x s → IsGood s
   pub endures : (x : X) (s : Filter) → means x s → durable x s
   pub stays : (x : X) (s : Filter) → means x s → moved x x s s
   pub goes_on : (x y z : X) (s t u : Filter) → moved x y s t → moved y z t u → moved x z s u
+  pub stops_on : (x y z : X) (s t u : Filter) → moved x y s t → stopped y z u → stopped x z u
 
--- what is left, by the result
-abbrev pub After : {X A : Type 0} → Sense X → Result A Fail → X → Filter → Type 0
-After S (Ok a) x t = S.means x t
-After S (Err (No c)) x t = S.stopped x t
-After S (Err Memory) x t = S.durable x t
+-- what is left, by the result; where the device stopped it, one of its calls failed since the first
+abbrev pub After : {X A : Type 0} → Sense X → X → Result A Fail → X → Filter → Type 0
+After S old (Ok a) new t = S.means new t
+After S old (Err (No c)) new t = S.stopped old new t
+After S old (Err Memory) new t = S.durable new t
 
 -- What stands for a state before stands for one after that the part leads to, where the state has the property.
 pub record Answers {X A : Type 0} (S : Sense X) (P : Filter → Type 0) (f : Arrow Filter A) (old : X) (r : Result A Fail) (new : X) : Type 0 where
-  pub leads : (s : Filter) → S.means old s → P s → (t : Filter) × Does (f s) r t × S.moved old new s t × After S r new t
+  pub leads : (s : Filter) → S.means old s → P s → (t : Filter) × Does (f s) r t × S.moved old new s t × After S old r new t
 
 -- what a call reads of the state, where it has the property
 pub record Reads {X V : Type 0} (S : Sense X) (P : Filter → Type 0) (v : Filter → V) (x : X) (r : V) : Type 0 where

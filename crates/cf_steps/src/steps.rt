@@ -37,8 +37,8 @@ use cf_requests::{Moves, Requests, Step};
 use cf_table::Rows;
 use std::alloc::Global;
 
-/// What the calls of a filter act on: one step of it a method. After a step that met Device or found no memory no other is
-/// made.
+/// What the calls of a filter act on: one step of it a method. A step meets Device only where a call of the device failed since
+/// it began. After a step that met Device or found no memory no other is made.
 pub trait Steps {
     /// How it stands for the states of a filter.
     ghost sense: { Sense Self };
