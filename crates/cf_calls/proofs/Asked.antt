@@ -38,7 +38,7 @@ use Rattle.cf_steps.specs.Good.{IsGood}
 use Rattle.cf_steps.specs.Looking.{IsSeen}
 use Rattle.cf_steps.specs.Settled.{IsStepAfter, IsStepNow, LooksAfter, LooksNow}
 use Rattle.cf_steps.specs.Suiting.{Ready, Suits}
-use Rattle.cf_steps.proofs.Laws.{no_memory, stops_first, then_on, weaker}
+use Rattle.cf_steps.proofs.Laws.{after_on, no_memory, stops_first, then_on, weaker}
 use Rattle.cf_tree.proofs.Walks.{own_id}
 use Rattle.cf_calls.proofs.Carried.{plan_refused}
 use Rattle.cf_calls.proofs.Suited.{first_none, needs_at, not_false, plan_ok}
@@ -130,7 +130,7 @@ flag_made S x mid new id c p v r h k = record {
         b.0,
         trees.goes_on (changes (c ∷ []) s) (λ _. settle id Nothing) unit a.0 r b.0 (trees.ends_then (one_change c s) (λ _. changes []) v a.0 unit a.0 a.1 (refl, refl)) b.1,
         S.goes_on x mid new s a.0 b.0 a.2 b.2,
-        b.3,
+        after_on S x mid new s a.0 b.0 r a.2 b.3,
       );
 }
 
@@ -208,7 +208,7 @@ asking_on S id cs answer x new r reads h =
     let a = associated S (MayAsk id cs) (changes cs) (settle_changed id cs) answer x new r h in record {
       leads = λ s i f.
           let e : None ≡ asking_refusal id cs s = reads.is s i f in
-          subst (λ (o : Option Code). (t : Filter) × Does (unless shown.Refused o (then_do (changes cs) (then_do (settle_changed id cs) answer)) s) r t × S.moved x new s t × After S r new t) e
+          subst (λ (o : Option Code). (t : Filter) × Does (unless shown.Refused o (then_do (changes cs) (then_do (settle_changed id cs) answer)) s) r t × S.moved x new s t × After S x r new t) e
           (a.leads s i (record { flagging = f; free = sym e }));
     }
 
@@ -233,8 +233,8 @@ led : {X : Type 0} (S : Sense X) (id : ItemId) (f : Plan) (Q : List Change → F
 led S id f Q h cs x new r plans suit a i = record {
   leads = λ s m at.
       let e : f i s ≡ Ok cs = plans.is s i m at in
-      subst (λ (q : Result (List Change) Code). (t : Filter) × Does (on_ok (h i.id) q s) r t × S.moved x new s t × After S r new t) (sym e)
-      (subst (λ (k : ItemId). (t : Filter) × Does (h k cs s) r t × S.moved x new s t × After S r new t) (own_id s.volume.items id i at)
+      subst (λ (q : Result (List Change) Code). (t : Filter) × Does (on_ok (h i.id) q s) r t × S.moved x new s t × After S x r new t) (sym e)
+      (subst (λ (k : ItemId). (t : Filter) × Does (h k cs s) r t × S.moved x new s t × After S x r new t) (own_id s.volume.items id i at)
       (a.leads s m (suit s i cs (S.good x s m) at e)));
 }
 

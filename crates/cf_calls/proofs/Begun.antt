@@ -96,7 +96,7 @@ started S n m x mid new r st k = record {
       let k2 = moves_by S (begun n s).0 m.1.background m.1 (ret (shown.Pending (own_id n s))) mid new r (st.2.is s i (record {})) k1 in
       let a = then_on S (Begins n es) (AreOnFiles es) (noted (with_begun n)) (then_do (then_do (each end_wait es) (noted (with_asks_told (begun n s).0))) (ret (shown.Pending (own_id n s)))) x mid new unit r
       (λ u v q z. subst (λ (w : Filter). AreOnFiles es w) (sym z.1) q.ended) (weaker S (ReadsFile n) (Begins n es) (noted (with_begun n)) x mid (Ok unit) (λ u q. q.file) st.3) k2 in
-      subst (λ (o : Option Code). (t : Filter) × Does (unless shown.Refused o (reading (begun n) (begin_now n)) s) r t × S.moved x new s t × After S r new t) e
+      subst (λ (o : Option Code). (t : Filter) × Does (unless shown.Refused o (reading (begun n) (begin_now n)) s) r t × S.moved x new s t × After S x r new t) e
       (a.leads s i (record { file = p; ended = begun_on_files n s (S.good x s i) p }));
 }
 
@@ -107,7 +107,7 @@ start_by S n q m x mid new r st e k = started S n m x mid new r (subst (λ (y : 
 start_off : {X : Type 0} (S : Sense X) (n : Need) (c : Code) (x new : X) → Starts S n x (Err (fail.No c)) new → Answers S (ReadsFile n) (begin_limited n) x (Ok (shown.Refused c)) new
 start_off {X} S n c x new st = subst (λ (y : X). Answers S (ReadsFile n) (begin_limited n) x (Ok (shown.Refused c)) y) (sym st.1) (record {
   leads = λ s i p.
-      subst (λ (o : Option Code). (t : Filter) × Does {A = Shown} (unless shown.Refused o (reading (begun n) (begin_now n)) s) (Ok (shown.Refused c)) t × S.moved x x s t × After {A = Shown} S (Ok (shown.Refused c)) x t) (st.0.is s i (record {}))
+      subst (λ (o : Option Code). (t : Filter) × Does {A = Shown} (unless shown.Refused o (reading (begun n) (begin_now n)) s) (Ok (shown.Refused c)) t × S.moved x x s t × After {A = Shown} S x (Ok (shown.Refused c)) x t) (st.0.is s i (record {}))
       (s, (refl, refl), S.stays x s i, i);
 })
 
@@ -128,7 +128,7 @@ pub begin_up : {X : Type 0} (S : Sense X) (n : Need) (b : Bool) (x new : X) (r :
 begin_up S n b x new r reads e kind h = record {
   leads = λ s i p.
       let up : true ≡ s.connected = sym e ∙ reads.is s i (record {}) in
-      subst (λ (o : Option Code). (t : Filter) × Does (unless shown.Refused o (reading (begun n) (begin_now n)) s) r t × S.moved x new s t × After S r new t)
+      subst (λ (o : Option Code). (t : Filter) × Does (unless shown.Refused o (reading (begun n) (begin_now n)) s) r t × S.moved x new s t × After S x r new t)
       (ap (λ (l : Limits). limit_of l (begun n s).1) kind ∙ ap (λ (c : Bool). first_of ((not c, code.ProviderDown) ∷ limit_tests n s)) up) (h.leads s i p);
 }
 
@@ -136,7 +136,7 @@ pub begin_down : {X : Type 0} (S : Sense X) (n : Need) (b : Bool) (x : X) → Re
 begin_down S n b x reads e = record {
   leads = λ s i p.
       let down : false ≡ s.connected = sym e ∙ reads.is s i (record {}) in
-      subst (λ (c : Bool). (t : Filter) × Does {A = Shown} (unless shown.Refused (first_of ((not c, code.ProviderDown) ∷ limit_tests n s)) (reading (begun n) (begin_now n)) s) (Ok (shown.Refused code.ProviderDown)) t × S.moved x x s t × After {A = Shown} S (Ok (shown.Refused code.ProviderDown)) x t) down
+      subst (λ (c : Bool). (t : Filter) × Does {A = Shown} (unless shown.Refused (first_of ((not c, code.ProviderDown) ∷ limit_tests n s)) (reading (begun n) (begin_now n)) s) (Ok (shown.Refused code.ProviderDown)) t × S.moved x x s t × After {A = Shown} S x (Ok (shown.Refused code.ProviderDown)) x t) down
       (s, (refl, refl), S.stays x s i, i);
 }
 
@@ -151,7 +151,7 @@ answered S n e x new h reads =
 pub answered_not : {X : Type 0} (S : Sense X) (n : Need) (e : Fail) (x new : X) → Answers S (MayAnswer n) (one (accessed_now n)) x (Err e) new → Answers S (MayAnswer n) (answer_now n) x (Err e) new
 answered_not S n e x new h = record {
   leads = λ s i p.
-      let z = h.leads s i p in (z.0, trees.fails_first (one (accessed_now n) s) (λ _ t. ret (end_now n s) t) e z.0 z.1, z.2, after_err (Unit {0}) Shown S e new z.0 z.3);
+      let z = h.leads s i p in (z.0, trees.fails_first (one (accessed_now n) s) (λ _ t. ret (end_now n s) t) e z.0 z.1, z.2, after_err (Unit {0}) Shown S e x new z.0 z.3);
 }
 
 pub met_now : {X : Type 0} (S : Sense X) (n : Need) (b : Bool) (x new : X) (r : Result Shown Fail)
@@ -159,13 +159,13 @@ pub met_now : {X : Type 0} (S : Sense X) (n : Need) (b : Bool) (x new : X) (r : 
 met_now S n b x new r reads e h = record {
   leads = λ s i p.
       let met : true ≡ is_met_now n s = sym e ∙ reads.is s i (record {}) in
-      subst (λ (c : Bool). (t : Filter) × Does (answer_or_begin n c s) r t × S.moved x new s t × After S r new t) met (h.leads s i (record { met = sym met; file = p }));
+      subst (λ (c : Bool). (t : Filter) × Does (answer_or_begin n c s) r t × S.moved x new s t × After S x r new t) met (h.leads s i (record { met = sym met; file = p }));
 }
 
 pub met_not : {X : Type 0} (S : Sense X) (n : Need) (b : Bool) (x new : X) (r : Result Shown Fail)
     → Reads S Any (is_met_now n) x b → b ≡ false → Answers S (ReadsFile n) (begin n) x r new → Answers S (ReadsFile n) (need n) x r new
 met_not S n b x new r reads e h = record {
-  leads = λ s i p. subst (λ (c : Bool). (t : Filter) × Does (answer_or_begin n c s) r t × S.moved x new s t × After S r new t) (sym e ∙ reads.is s i (record {})) (h.leads s i p);
+  leads = λ s i p. subst (λ (c : Bool). (t : Filter) × Does (answer_or_begin n c s) r t × S.moved x new s t × After S x r new t) (sym e ∙ reads.is s i (record {})) (h.leads s i p);
 }
 
 -- handles
@@ -173,17 +173,17 @@ met_not S n b x new r reads e h = record {
 pub handle_on : {X : Type 0} (S : Sense X) (h : Handle) (f : ItemId → Arrow Filter Shown) (o : Option ItemId) (item : ItemId) (x new : X) (r : Result Shown Fail)
     → Reads S Any (opened_item h) x o → o ≡ Some item → Answers S Any (f item) x r new → Answers S Any (on_handle h f) x r new
 handle_on {X} S h f o item x new r reads e a = record { leads = λ s i p. one (opened_by h s) (sym e ∙ reads.is s i p) s i } where
-  one : (q : Option Open) → Some item ≡ item_opened q → (s : Filter) → S.means x s → (t : Filter) × Does (on_open f q s) r t × S.moved x new s t × After S r new t
+  one : (q : Option Open) → Some item ≡ item_opened q → (s : Filter) → S.means x s → (t : Filter) × Does (on_open f q s) r t × S.moved x new s t × After S x r new t
   one None z s i = let y : ◌≡◌ {A = Option ItemId} (Some item) None = z in absurd cc
   one (Some p) z s i =
       let same : item ≡ p.item = cc in
-      subst (λ (k : ItemId). (t : Filter) × Does (f k s) r t × S.moved x new s t × After S r new t) same (a.leads s i (record {}))
+      subst (λ (k : ItemId). (t : Filter) × Does (f k s) r t × S.moved x new s t × After S x r new t) same (a.leads s i (record {}))
 
 pub handle_off : {X : Type 0} (S : Sense X) (h : Handle) (f : ItemId → Arrow Filter Shown) (o : Option ItemId) (x : X)
     → Reads S Any (opened_item h) x o → o ≡ None → Answers S Any (on_handle h f) x (Ok (shown.Refused code.NoHandle)) x
 handle_off {X} S h f o x reads e = record { leads = λ s i p. one (opened_by h s) (sym e ∙ reads.is s i p) s i } where
   one : (q : Option Open) → None ≡ item_opened q → (s : Filter) → S.means x s
-      → (t : Filter) × Does {A = Shown} (on_open f q s) (Ok (shown.Refused code.NoHandle)) t × S.moved x x s t × After {A = Shown} S (Ok (shown.Refused code.NoHandle)) x t
+      → (t : Filter) × Does {A = Shown} (on_open f q s) (Ok (shown.Refused code.NoHandle)) t × S.moved x x s t × After {A = Shown} S x (Ok (shown.Refused code.NoHandle)) x t
   one None z s i = (s, (refl, refl), S.stays x s i, i)
   one (Some p) z s i = let y : ◌≡◌ {A = Option ItemId} None (Some p.item) = z in absurd cc
 
@@ -198,32 +198,32 @@ pub chosen_on : {X : Type 0} (S : Sense X) (id : ItemId) (v : Item → Bool) (f 
     → ReadsAt S id v x b → b ≡ true → Answers S Any (f id) x r new → (i : Item) → Answers S (IsAt id i) (choose (v i) (f i.id) g) x r new
 chosen_on S id v f g b x new r reads e a i = record {
   leads = λ s m at.
-      subst (λ (c : Bool). (t : Filter) × Does (choose c (f i.id) g s) r t × S.moved x new s t × After S r new t) (sym e ∙ reads.is s i m at)
-      (subst (λ (k : ItemId). (t : Filter) × Does (f k s) r t × S.moved x new s t × After S r new t) (own_item s.volume.items id i at) (a.leads s m (record {})));
+      subst (λ (c : Bool). (t : Filter) × Does (choose c (f i.id) g s) r t × S.moved x new s t × After S x r new t) (sym e ∙ reads.is s i m at)
+      (subst (λ (k : ItemId). (t : Filter) × Does (f k s) r t × S.moved x new s t × After S x r new t) (own_item s.volume.items id i at) (a.leads s m (record {})));
 }
 
 pub chosen_off : {X : Type 0} (S : Sense X) (id : ItemId) (v : Item → Bool) (f : Item → Arrow Filter Shown) (g : Arrow Filter Shown) (b : Bool) (x new : X) (r : Result Shown Fail)
     → ReadsAt S id v x b → b ≡ false → Answers S Any g x r new → (i : Item) → Answers S (IsAt id i) (choose (v i) (f i) g) x r new
 chosen_off S id v f g b x new r reads e a i = record {
-  leads = λ s m at. subst (λ (c : Bool). (t : Filter) × Does (choose c (f i) g s) r t × S.moved x new s t × After S r new t) (sym e ∙ reads.is s i m at) (a.leads s m (record {}));
+  leads = λ s m at. subst (λ (c : Bool). (t : Filter) × Does (choose c (f i) g s) r t × S.moved x new s t × After S x r new t) (sym e ∙ reads.is s i m at) (a.leads s m (record {}));
 }
 
 -- refused of a directory, else the rest on the item
 pub but_on : {X : Type 0} (S : Sense X) (id : ItemId) (v : Item → Bool) (f : Arrow Filter Shown) (g : Item → Arrow Filter Shown) (b : Bool) (x new : X) (r : Result Shown Fail)
     → ReadsAt S id v x b → b ≡ true → Answers S Any f x r new → (i : Item) → Answers S (IsAt id i) (choose (v i) f (g i)) x r new
 but_on S id v f g b x new r reads e a i = record {
-  leads = λ s m at. subst (λ (c : Bool). (t : Filter) × Does (choose c f (g i) s) r t × S.moved x new s t × After S r new t) (sym e ∙ reads.is s i m at) (a.leads s m (record {}));
+  leads = λ s m at. subst (λ (c : Bool). (t : Filter) × Does (choose c f (g i) s) r t × S.moved x new s t × After S x r new t) (sym e ∙ reads.is s i m at) (a.leads s m (record {}));
 }
 
 pub but_off : {X : Type 0} (S : Sense X) (id : ItemId) (v : Item → Bool) (f : Arrow Filter Shown) (g : Item → Arrow Filter Shown) (b : Bool) (x new : X) (r : Result Shown Fail)
     → ReadsAt S id v x b → b ≡ false → ((i : Item) → Answers S (IsAt id i) (g i) x r new) → (i : Item) → Answers S (IsAt id i) (choose (v i) f (g i)) x r new
 but_off S id v f g b x new r reads e a i = record {
-  leads = λ s m at. subst (λ (c : Bool). (t : Filter) × Does (choose c f (g i) s) r t × S.moved x new s t × After S r new t) (sym e ∙ reads.is s i m at) ((a i).leads s m at);
+  leads = λ s m at. subst (λ (c : Bool). (t : Filter) × Does (choose c f (g i) s) r t × S.moved x new s t × After S x r new t) (sym e ∙ reads.is s i m at) ((a i).leads s m at);
 }
 
 pub own_on : {X : Type 0} (S : Sense X) (id : ItemId) (f : ItemId → Arrow Filter Shown) (x new : X) (r : Result Shown Fail) → Answers S Any (f id) x r new → (i : Item) → Answers S (IsAt id i) (f i.id) x r new
 own_on S id f x new r a i = record {
-  leads = λ s m at. subst (λ (k : ItemId). (t : Filter) × Does (f k s) r t × S.moved x new s t × After S r new t) (own_item s.volume.items id i at) (a.leads s m (record {}));
+  leads = λ s m at. subst (λ (k : ItemId). (t : Filter) × Does (f k s) r t × S.moved x new s t × After S x r new t) (own_item s.volume.items id i at) (a.leads s m (record {}));
 }
 
 -- the rest on what is a file
@@ -232,8 +232,8 @@ pub file_on : {X : Type 0} (S : Sense X) (id : ItemId) (f : ItemId → Arrow Fil
 file_on S id f g b x new r reads e a i = record {
   leads = λ s m at.
       let q : i.directory ≡ false = sym (reads.is s i m at) ∙ e in
-      subst (λ (c : Bool). (t : Filter) × Does (choose c g (f i.id) s) r t × S.moved x new s t × After S r new t) (sym q)
-      (subst (λ (k : ItemId). (t : Filter) × Does (f k s) r t × S.moved x new s t × After S r new t) (own_item s.volume.items id i at)
+      subst (λ (c : Bool). (t : Filter) × Does (choose c g (f i.id) s) r t × S.moved x new s t × After S x r new t) (sym q)
+      (subst (λ (k : ItemId). (t : Filter) × Does (f k s) r t × S.moved x new s t × After S x r new t) (own_item s.volume.items id i at)
       (a.leads s m (subst (λ (o : Option Item). MatchOption o ⊥ (λ (j : Item). j.directory ≡ false)) (sym at) q)));
 }
 

@@ -67,8 +67,8 @@ pub plan_made : {X : Type 0} (S : Sense X) (id : ItemId) (f : Plan) (cs : List C
 plan_made S id f cs x new r plans suit a i = record {
   leads = λ s h at.
       let e : f i s ≡ Ok cs = plans.is s i h at in
-      subst (λ (q : Result (List Change) Code). (t : Filter) × Does (on_ok (planned_on i.id) q s) r t × S.moved x new s t × After S r new t) (sym e)
-      (subst (λ (k : ItemId). (t : Filter) × Does (planned_on k cs s) r t × S.moved x new s t × After S r new t) (own_id s.volume.items id i at)
+      subst (λ (q : Result (List Change) Code). (t : Filter) × Does (on_ok (planned_on i.id) q s) r t × S.moved x new s t × After S x r new t) (sym e)
+      (subst (λ (k : ItemId). (t : Filter) × Does (planned_on k cs s) r t × S.moved x new s t × After S x r new t) (own_id s.volume.items id i at)
       (a.leads s h (suit.suits s i cs (S.good x s h) at e)));
 }
 
@@ -76,7 +76,7 @@ pub plan_refused : {X : Type 0} (S : Sense X) (id : ItemId) (f : Plan) (g : List
     → Plans S id f x (Err (fail.No c)) → Answers S (IsAt id i) (reading (f i) (on_ok g)) x (Ok (shown.Refused c)) x
 plan_refused S id f g c x i plans = record {
   leads = λ s h at.
-      subst (λ (q : Result (List Change) Code). (t : Filter) × Does {A = Shown} (on_ok g q s) (Ok (shown.Refused c)) t × S.moved x x s t × After {A = Shown} S (Ok (shown.Refused c)) x t) (sym (plans.is s i h at))
+      subst (λ (q : Result (List Change) Code). (t : Filter) × Does {A = Shown} (on_ok g q s) (Ok (shown.Refused c)) t × S.moved x x s t × After {A = Shown} S x (Ok (shown.Refused c)) x t) (sym (plans.is s i h at))
       (s, (refl, refl), S.stays x s h, h);
 }
 
@@ -87,14 +87,14 @@ pub on_found : {X : Type 0} (S : Sense X) (v : Filter → Result Item Code) (f :
 on_found S v f id x new r finds a = record {
   leads = λ s h p.
       let z = finds.is s h in
-      subst (λ (q : Result Item Code). (t : Filter) × Does (on_ok f q s) r t × S.moved x new s t × After S r new t) (sym z.1) ((a z.0).leads s h z.2);
+      subst (λ (q : Result Item Code). (t : Filter) × Does (on_ok f q s) r t × S.moved x new s t × After S x r new t) (sym z.1) ((a z.0).leads s h z.2);
 }
 
 pub on_lost : {X : Type 0} (S : Sense X) (v : Filter → Result Item Code) (f : Item → Arrow Filter Shown) (c : Code) (x : X)
     → Finds S v x (Err c) → Answers S Any (reading v (on_ok f)) x (Ok (shown.Refused c)) x
 on_lost S v f c x finds = record {
   leads = λ s h p.
-      subst (λ (q : Result Item Code). (t : Filter) × Does {A = Shown} (on_ok f q s) (Ok (shown.Refused c)) t × S.moved x x s t × After {A = Shown} S (Ok (shown.Refused c)) x t) (sym (finds.is s h))
+      subst (λ (q : Result Item Code). (t : Filter) × Does {A = Shown} (on_ok f q s) (Ok (shown.Refused c)) t × S.moved x x s t × After {A = Shown} S x (Ok (shown.Refused c)) x t) (sym (finds.is s h))
       (s, (refl, refl), S.stays x s h, h);
 }
 

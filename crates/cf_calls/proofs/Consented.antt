@@ -120,7 +120,7 @@ places_read S x cs room e reads = record {
 
 -- with so many numbers, or without
 room_by : {X : Type 0} (S : Sense X) (P Q : Filter → Type 0) (n : ℕ) (b c : Bool) (f : Arrow Filter Shown) (x new : X) (r : Result Shown Fail) → Reads S Any (λ s. no_places s.volume n) x b → b ≡ c
-    → ((s : Filter) → S.means x s → P s → no_places s.volume n ≡ c → (t : Filter) × Does (unless shown.Refused (first_of ((c, code.Exhausted) ∷ [])) f s) r t × S.moved x new s t × After S r new t)
+    → ((s : Filter) → S.means x s → P s → no_places s.volume n ≡ c → (t : Filter) × Does (unless shown.Refused (first_of ((c, code.Exhausted) ∷ [])) f s) r t × S.moved x new s t × After S x r new t)
     → Answers S P (checked (consent_room n) f) x r new
 room_by S P Q n b c f x new r reads e go = record {
   leads = λ s h p.

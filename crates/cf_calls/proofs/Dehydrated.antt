@@ -178,7 +178,7 @@ empty_ready s id start len i good at left = emptied_ready s id start len i good 
 pub none_left : {X : Type 0} (S : Sense X) (id : ItemId) (start len : ℕ) (b : Bool) (x : X) → Reads S Any lacks_place x b → b ≡ true → (i : Item) → Answers S (MayEmpty id start len i) (empty_now i start len) x (Ok (shown.Refused code.Exhausted)) x
 none_left S id start len b x reads e i = record {
   leads = λ s h at.
-      subst (λ (c : Bool). (t : Filter) × Does {A = Shown} (unless shown.Refused (first_of ((c, code.Exhausted) ∷ [])) (then_do (one_change (change.Emptied i.id start len)) emptied) s) (Ok (shown.Refused code.Exhausted)) t × S.moved x x s t × After {A = Shown} S (Ok (shown.Refused code.Exhausted)) x t)
+      subst (λ (c : Bool). (t : Filter) × Does {A = Shown} (unless shown.Refused (first_of ((c, code.Exhausted) ∷ [])) (then_do (one_change (change.Emptied i.id start len)) emptied) s) (Ok (shown.Refused code.Exhausted)) t × S.moved x x s t × After {A = Shown} S x (Ok (shown.Refused code.Exhausted)) x t)
       (sym e ∙ reads.is s h (record {})) (s, (refl, refl), S.stays x s h, h);
 }
 
@@ -191,8 +191,8 @@ left_on : {X : Type 0} (S : Sense X) (id : ItemId) (start len : ℕ) (b : Bool) 
 left_on S id start len b x new r reads e a i = record {
   leads = λ s h at.
       let left : lacks_place s ≡ false = sym (reads.is s h (record {})) ∙ e in
-      subst (λ (k : ItemId). (t : Filter) × Does (empty_at start len k (lacks_place s) s) r t × S.moved x new s t × After S r new t) (own_id s.volume.items id i at.there)
-      (subst (λ (c : Bool). (t : Filter) × Does (empty_at start len id c s) r t × S.moved x new s t × After S r new t) (sym left) (a.leads s h (empty_ready s id start len i (S.good x s h) at left)));
+      subst (λ (k : ItemId). (t : Filter) × Does (empty_at start len k (lacks_place s) s) r t × S.moved x new s t × After S x r new t) (own_id s.volume.items id i at.there)
+      (subst (λ (c : Bool). (t : Filter) × Does (empty_at start len id c s) r t × S.moved x new s t × After S x r new t) (sym left) (a.leads s h (empty_ready s id start len i (S.good x s h) at left)));
 }
 
 pub emptied_on : {X : Type 0} (S : Sense X) (id : ItemId) (start len : ℕ) (b : Bool) (u : Unit {0}) (c : Change) (x new : X) → Reads S Any lacks_place x b → b ≡ false → c ≡ change.Emptied id start len
@@ -212,14 +212,14 @@ pub asked_for : {X : Type 0} (S : Sense X) (id : ItemId) (start len : ℕ) (x ne
     → (i : Item) → Answers S (MayEmpty id start len i) (ask_consent (consent_need i start len)) x r new
 asked_for S id start len x new r a i = record {
   leads = λ s h at.
-      subst (λ (k : ItemId). (t : Filter) × Does (ask_consent (plain_need wait_kind.Dehydrate k (span_of start len)) s) r t × S.moved x new s t × After S r new t) (own_id s.volume.items id i at.there)
+      subst (λ (k : ItemId). (t : Filter) × Does (ask_consent (plain_need wait_kind.Dehydrate k (span_of start len)) s) r t × S.moved x new s t × After S x r new t) (own_id s.volume.items id i at.there)
       (a.leads s h (record {}));
 }
 
 pub linked_on : {X : Type 0} (S : Sense X) (id : ItemId) (start len : ℕ) (b c : Bool) (x new : X) (r : Result Shown Fail) → Reads S Any is_connected x b → b ≡ c
     → ((i : Item) → Answers S (MayEmpty id start len i) (with_provider i start len c) x r new) → (i : Item) → Answers S (MayEmpty id start len i) (held_emptied i start len) x r new
 linked_on S id start len b c x new r reads e a i = record {
-  leads = λ s h at. subst (λ (d : Bool). (t : Filter) × Does (with_provider i start len d s) r t × S.moved x new s t × After S r new t) (sym e ∙ reads.is s h (record {})) ((a i).leads s h at);
+  leads = λ s h at. subst (λ (d : Bool). (t : Filter) × Does (with_provider i start len d s) r t × S.moved x new s t × After S x r new t) (sym e ∙ reads.is s h (record {})) ((a i).leads s h at);
 }
 
 -- a range
@@ -229,7 +229,7 @@ range_by : {X : Type 0} (S : Sense X) (id : ItemId) (start len : ℕ) (i : Item)
 range_by S id start len i b c x new r reads e a = record {
   leads = λ s h at.
       let q : c ≡ has_bytes i start len = sym e ∙ reads.is s i h at.there ∙ ap (λ (n : ℕ). list_any is_some (slice_range i.held start n)) (sym at.end) in
-      subst (λ (d : Bool). (t : Filter) × Does (choose d (held_emptied i start len) emptied s) r t × S.moved x new s t × After S r new t) q (a.leads s h at);
+      subst (λ (d : Bool). (t : Filter) × Does (choose d (held_emptied i start len) emptied s) r t × S.moved x new s t × After S x r new t) q (a.leads s h at);
 }
 
 pub range_on : {X : Type 0} (S : Sense X) (id : ItemId) (start len : ℕ) (b : Bool) (x new : X) (r : Result Shown Fail) → ReadsAt S id (holds_from start) x b → b ≡ true
@@ -250,7 +250,7 @@ pub item_off : {X : Type 0} (S : Sense X) (id : ItemId) (start len : ℕ) (used 
 item_off S id start len used o c x uses reads e i = record {
   leads = λ s h at.
       let q : Some c ≡ verdict_at i start len s = sym e ∙ (judged_at S x id start len used o reads i).is s h at ∙ used_at i start len used id s at (uses.is s h (record {})) in
-      subst (λ (d : Option Code). (t : Filter) × Does {A = Shown} (unless shown.Refused d (empty_range i start (min len (size_of i - start))) s) (Ok (shown.Refused c)) t × S.moved x x s t × After {A = Shown} S (Ok (shown.Refused c)) x t) q
+      subst (λ (d : Option Code). (t : Filter) × Does {A = Shown} (unless shown.Refused d (empty_range i start (min len (size_of i - start))) s) (Ok (shown.Refused c)) t × S.moved x x s t × After {A = Shown} S x (Ok (shown.Refused c)) x t) q
       (s, (refl, refl), S.stays x s h, h);
 }
 
@@ -263,9 +263,9 @@ item_on S id start len size less used o x new r uses sizes reads e q a i = recor
       let clear = is_clear s.policy i start len used (sym free) in
       let whole : size ≡ size_of i = sizes.is s h (record {}) ∙ ap (λ (p : Option Item). part size_of 0 p) at in
       let same : less ≡ min len (size_of i - start) = q ∙ ap (λ (n : ℕ). min len (n - start)) whole in
-      subst (λ (d : Option Code). (t : Filter) × Does (unless shown.Refused d (empty_range i start (min len (size_of i - start))) s) r t × S.moved x new s t × After S r new t)
+      subst (λ (d : Option Code). (t : Filter) × Does (unless shown.Refused d (empty_range i start (min len (size_of i - start))) s) r t × S.moved x new s t × After S x r new t)
       (free ∙ used_at i start len used id s at (uses.is s h (record {})))
-      (subst (λ (n : ℕ). (t : Filter) × Does (empty_range i start n s) r t × S.moved x new s t × After S r new t) same
+      (subst (λ (n : ℕ). (t : Filter) × Does (empty_range i start n s) r t × S.moved x new s t × After S x r new t) same
       ((a i).leads s h (record { there = at; synced = clear.synced; end = omega (arith, same, clear.inside, clear.end) })));
 }
 
@@ -274,5 +274,5 @@ pub whole_on : {X : Type 0} (S : Sense X) (id : ItemId) (size : ℕ) (x new : X)
 whole_on S id size x new r sizes a i = record {
   leads = λ s h at.
       let whole : size ≡ size_of i = sizes.is s h (record {}) ∙ ap (λ (p : Option Item). part size_of 0 p) at in
-      subst (λ (n : ℕ). (t : Filter) × Does (dehydrate_item i 0 n s) r t × S.moved x new s t × After S r new t) whole ((a i).leads s h at);
+      subst (λ (n : ℕ). (t : Filter) × Does (dehydrate_item i 0 n s) r t × S.moved x new s t × After S x r new t) whole ((a i).leads s h at);
 }

@@ -51,7 +51,7 @@ pub below_on : {X : Type 0} (S : Sense X) (v : Filter → Result Item Code) (f :
 below_on S v f q id x new r finds e a = record {
   leads = λ s h p.
       let z = subst (λ (y : Result ItemId Code). FoundBelow s.volume.items y (v s)) e (finds.is s h) in
-      subst (λ (y : Result Item Code). (t : Filter) × Does (on_ok f y s) r t × S.moved x new s t × After S r new t) (sym z.1) ((a z.0).leads s h (record { there = z.2; below = z.3 }));
+      subst (λ (y : Result Item Code). (t : Filter) × Does (on_ok f y s) r t × S.moved x new s t × After S x r new t) (sym z.1) ((a z.0).leads s h (record { there = z.2; below = z.3 }));
 }
 
 -- whether it has children
@@ -122,14 +122,14 @@ pub delete_on : {X : Type 0} (S : Sense X) (id : ItemId) (m : Mode) (why : Optio
 delete_on S id m why x new r reads e a i = record {
   leads = λ s h p.
       let free : None ≡ delete_refusal i s = sym e ∙ (reads i).is s h p.there in
-      subst (λ (o : Option Code). (t : Filter) × Does (unless shown.Refused o (removed_next m i) s) r t × S.moved x new s t × After S r new t) free ((a i).leads s h (may_go id i s (S.good x s h) p (sym free)));
+      subst (λ (o : Option Code). (t : Filter) × Does (unless shown.Refused o (removed_next m i) s) r t × S.moved x new s t × After S x r new t) free ((a i).leads s h (may_go id i s (S.good x s h) p (sym free)));
 }
 
 pub delete_off : {X : Type 0} (S : Sense X) (id : ItemId) (m : Mode) (why : Option Code) (c : Code) (x : X)
     → ((i : Item) → Reads S (IsAt id i) (delete_refusal i) x why) → why ≡ Some c → (i : Item) → Answers S (IsBelowAt id i) (delete_item m i) x (Ok (shown.Refused c)) x
 delete_off S id m why c x reads e i = record {
   leads = λ s h p.
-      subst (λ (o : Option Code). (t : Filter) × Does {A = Shown} (unless shown.Refused o (removed_next m i) s) (Ok (shown.Refused c)) t × S.moved x x s t × After {A = Shown} S (Ok (shown.Refused c)) x t) (sym e ∙ (reads i).is s h p.there)
+      subst (λ (o : Option Code). (t : Filter) × Does {A = Shown} (unless shown.Refused o (removed_next m i) s) (Ok (shown.Refused c)) t × S.moved x x s t × After {A = Shown} S x (Ok (shown.Refused c)) x t) (sym e ∙ (reads i).is s h p.there)
       (s, (refl, refl), S.stays x s h, h);
 }
 
@@ -154,7 +154,7 @@ pub place_on : {X : Type 0} (S : Sense X) (id : ItemId) (to : List ℕ) (q : Res
 place_on S id to q pl x new r finds e a i = record {
   leads = λ s h at.
       let z = subst (λ (y : Result (ItemId × List ℕ) Fail). FoundPlace s.volume.items y (place_at to s)) e (finds.is s h) in
-      subst (λ (y : Result Place Code). (t : Filter) × Does (on_ok (rename_to i) y s) r t × S.moved x new s t × After S r new t) (sym z.1)
+      subst (λ (y : Result Place Code). (t : Filter) × Does (on_ok (rename_to i) y s) r t × S.moved x new s t × After S x r new t) (sym z.1)
       ((a i (record { parent = z.0; name = pl.1 })).leads s h (record { item = at; named = refl; place = z.2 }));
 }
 
@@ -162,7 +162,7 @@ pub place_off : {X : Type 0} (S : Sense X) (id : ItemId) (to : List ℕ) (q : Re
     → FindsPlace S (place_at to) x q → q ≡ Err e → r ≡ refusal_of e → (i : Item) → Answers S (IsBelowAt id i) (rename_item to i) x r x
 place_off S id to q (fail.No c) x r finds e d i = subst (λ (y : Result Shown Fail). Answers S (IsBelowAt id i) (rename_item to i) x y x) (sym d) (record {
   leads = λ s h at.
-      subst (λ (y : Result Place Code). (t : Filter) × Does {A = Shown} (on_ok (rename_to i) y s) (Ok (shown.Refused c)) t × S.moved x x s t × After {A = Shown} S (Ok (shown.Refused c)) x t)
+      subst (λ (y : Result Place Code). (t : Filter) × Does {A = Shown} (on_ok (rename_to i) y s) (Ok (shown.Refused c)) t × S.moved x x s t × After {A = Shown} S x (Ok (shown.Refused c)) x t)
       (sym (subst (λ (y : Result (ItemId × List ℕ) Fail). FoundPlace s.volume.items y (place_at to s)) e (finds.is s h))) (s, (refl, refl), S.stays x s h, h);
 })
 place_off S id to q fail.Memory x r finds e d i = subst (λ (y : Result Shown Fail). Answers S (IsBelowAt id i) (rename_item to i) x y x) (sym d) (no_memory S (IsBelowAt id i) (rename_item to i) x)
@@ -186,7 +186,7 @@ move_on S id parent name t q u x new r rows check e a i p = record {
   leads = λ s h at.
       let free : move_refused s.volume.items id parent name ≡ None =
       subst (λ (y : Result (Unit {0}) Fail). Checks s.volume.items id parent name y) e (check s.volume.items i (rows.rows s h) (S.good x s h).volume.tree at.item.there) in
-      subst (λ (o : Option Code). (t : Filter) × Does (unless shown.Refused (first_of (test_of o)) (changing (move_of i p) done) s) r t × S.moved x new s t × After S r new t) (sym free ∙ refused_is id parent name i p s at)
+      subst (λ (o : Option Code). (t : Filter) × Does (unless shown.Refused (first_of (test_of o)) (changing (move_of i p) done) s) r t × S.moved x new s t × After S x r new t) (sym free ∙ refused_is id parent name i p s at)
       ((a i p).leads s h (record { move = at; free = free }));
 }
 
@@ -197,7 +197,7 @@ move_off S id parent name t q (fail.No c) x r rows check e d i p = subst (λ (y 
   leads = λ s h at.
       let bad : move_refused s.volume.items id parent name ≡ Some c =
       subst (λ (y : Result (Unit {0}) Fail). Checks s.volume.items id parent name y) e (check s.volume.items i (rows.rows s h) (S.good x s h).volume.tree at.item.there) in
-      subst (λ (o : Option Code). (t : Filter) × Does {A = Shown} (unless shown.Refused (first_of (test_of o)) (changing (move_of i p) done) s) (Ok (shown.Refused c)) t × S.moved x x s t × After {A = Shown} S (Ok (shown.Refused c)) x t)
+      subst (λ (o : Option Code). (t : Filter) × Does {A = Shown} (unless shown.Refused (first_of (test_of o)) (changing (move_of i p) done) s) (Ok (shown.Refused c)) t × S.moved x x s t × After {A = Shown} S x (Ok (shown.Refused c)) x t)
       (sym bad ∙ refused_is id parent name i p s at) (s, (refl, refl), S.stays x s h, h);
 })
 move_off S id parent name t q fail.Memory x r rows check e d i p = subst (λ (y : Result Shown Fail). Answers S (IsMoveAt id parent name i p) (rename_to i p) x y x) (sym d) (no_memory S (IsMoveAt id parent name i p) (rename_to i p) x)
@@ -226,7 +226,7 @@ pub moved_by : {X : Type 0} (S : Sense X) (id parent : ItemId) (name : List ℕ)
 moved_by S id parent name b cs x new r reads e a i p = record {
   leads = λ s h at.
       let k : cs ≡ move_of i p = e ∙ moves_are id parent name i p s b at.move (reads.is s i h at.move.item.there) in
-      subst (λ (l : List Change). (t : Filter) × Does (changing l done s) r t × S.moved x new s t × After S r new t) k
+      subst (λ (l : List Change). (t : Filter) × Does (changing l done s) r t × S.moved x new s t × After S x r new t) k
       (a.leads s h (subst (λ (l : List Change). Suiting l s) (sym e) (suits b s at)));
 } where
   suits : (b : Bool) (s : Filter) → MayMoveAt id parent name i p s → Suiting (when (not b) (change.Move id parent name ∷ [])) s

@@ -170,8 +170,8 @@ created S x new t pol next parent name w cs ds item r rows reads is_next found o
       let same : Same4 pol t.next next parent name s p = same_at S x t pol next parent name p s rows reads h at.next_is at.place in
       let e : planned_at w p s ≡ Ok cs = sym (planned_same pol t.next next parent name w s p same) ∙ found s.volume.items (rows.rows s h) in
       let suits : SuitsAll cs s.volume = create_suits s p.parent.id p.name p.parent w cs (S.good x s h) (place_of s p at.place) e in
-      subst (λ (q : Result (List Change) Code). (t : Filter) × Does (on_ok make_planned q s) r t × S.moved x new s t × After S r new t) (sym e)
-      (subst (λ (k : ItemId). (t : Filter) × Does (show_item cs k s) r t × S.moved x new s t × After S r new t) (is_next ∙ rows.next s h) (a.leads s h suits));
+      subst (λ (q : Result (List Change) Code). (t : Filter) × Does (on_ok make_planned q s) r t × S.moved x new s t × After S x r new t) (sym e)
+      (subst (λ (k : ItemId). (t : Filter) × Does (show_item cs k s) r t × S.moved x new s t × After S x r new t) (is_next ∙ rows.next s h) (a.leads s h suits));
 } where
   place_of : (s : Filter) (p : Place) → IsPlaceAt parent name p s → IsPlace s.volume.items p.parent.id p.name p.parent
   place_of s p at = subst (λ (n : List ℕ). IsPlace s.volume.items p.parent.id n p.parent) (sym at.named)
@@ -195,7 +195,7 @@ created_not S x t pol next parent name w c rows reads found p = record {
   leads = λ s h at.
       let same : Same4 pol t.next (next_number s.volume) parent name s p = same_at S x t pol (next_number s.volume) parent name p s rows reads h refl at in
       let e : planned_at w p s ≡ Err c = sym (planned_same pol t.next (next_number s.volume) parent name w s p same) ∙ any_number s.volume.items pol t.next next (next_number s.volume) parent name w c (found s.volume.items (rows.rows s h)) in
-      subst (λ (q : Result (List Change) Code). (t : Filter) × Does {A = Shown} (on_ok make_planned q s) (Ok (shown.Refused c)) t × S.moved x x s t × After {A = Shown} S (Ok (shown.Refused c)) x t) (sym e)
+      subst (λ (q : Result (List Change) Code). (t : Filter) × Does {A = Shown} (on_ok make_planned q s) (Ok (shown.Refused c)) t × S.moved x x s t × After {A = Shown} S x (Ok (shown.Refused c)) x t) (sym e)
       (s, (refl, refl), S.stays x s h, h);
 } where
   no_plan : (tests : List (Bool × Code)) (cs ds : List Change) (c : Code) → plan tests cs ≡ Err c → plan tests ds ≡ Err c
@@ -251,9 +251,9 @@ created_none S x t pol next parent name w cs rows reads plan p = record {
       let same : Same4 pol t.next (next_number s.volume) parent name s p = same_at S x t pol (next_number s.volume) parent name p s rows reads h refl at.place in
       let k = any_number_ok s.volume.items pol t.next next (next_number s.volume) parent name w cs (plan s.volume.items (rows.rows s h)) in
       let e : planned_at w p s ≡ Ok (k.0 ∷ k.1) = sym (planned_same pol t.next (next_number s.volume) parent name w s p same) ∙ k.2 in
-      subst (λ (q : Result (List Change) Code). (t : Filter) × Does {A = Shown} (on_ok make_planned q s) (Ok (shown.Refused code.Exhausted)) t × S.moved x x s t × After {A = Shown} S (Ok (shown.Refused code.Exhausted)) x t) (sym e)
+      subst (λ (q : Result (List Change) Code). (t : Filter) × Does {A = Shown} (on_ok make_planned q s) (Ok (shown.Refused code.Exhausted)) t × S.moved x x s t × After {A = Shown} S x (Ok (shown.Refused code.Exhausted)) x t) (sym e)
       (subst (λ (o : Option Code). (t : Filter) × Does {A = Shown} (unless shown.Refused (first_of (test_of o)) (then_do (changes (k.0 ∷ k.1)) (ret (shown.Item s.volume.next_item))) s) (Ok (shown.Refused code.Exhausted)) t
-      × S.moved x x s t × After {A = Shown} S (Ok (shown.Refused code.Exhausted)) x t) (sym (no_place s.volume k.0 k.1 at.none))
+      × S.moved x x s t × After {A = Shown} S x (Ok (shown.Refused code.Exhausted)) x t) (sym (no_place s.volume k.0 k.1 at.none))
       (s, (refl, refl), S.stays x s h, h));
 }
 
@@ -282,7 +282,7 @@ pub placed_on : {X : Type 0} (S : Sense X) (v : Filter → Result Place Code) (f
 placed_on S v f q k x new r finds e a = record {
   leads = λ s h z.
       let found : FoundPlace s.volume.items (Ok k) (v s) = subst (λ (y : Result (ItemId × List ℕ) Fail). FoundPlace s.volume.items y (v s)) e (finds.is s h) in
-      subst (λ (y : Result Place Code). (t : Filter) × Does (on_ok f y s) r t × S.moved x new s t × After S r new t) (sym found.1)
+      subst (λ (y : Result Place Code). (t : Filter) × Does (on_ok f y s) r t × S.moved x new s t × After S x r new t) (sym found.1)
       ((a (record { parent = found.0; name = k.1 })).leads s h (record { named = refl; place = found.2 }));
 }
 
@@ -291,7 +291,7 @@ pub placed_off : {X : Type 0} (S : Sense X) (v : Filter → Result Place Code) (
 placed_off S v f q (fail.No c) x r finds e d = subst (λ (y : Result Shown Fail). Answers S Any (reading v (on_ok f)) x y x) (sym d) (record {
   leads = λ s i z.
       let found : FoundPlace s.volume.items (Err (fail.No c)) (v s) = subst (λ (y : Result (ItemId × List ℕ) Fail). FoundPlace s.volume.items y (v s)) e (finds.is s i) in
-      subst (λ (y : Result Place Code). (t : Filter) × Does {A = Shown} (on_ok f y s) (Ok (shown.Refused c)) t × S.moved x x s t × After {A = Shown} S (Ok (shown.Refused c)) x t) (sym found) (s, (refl, refl), S.stays x s i, i);
+      subst (λ (y : Result Place Code). (t : Filter) × Does {A = Shown} (on_ok f y s) (Ok (shown.Refused c)) t × S.moved x x s t × After {A = Shown} S x (Ok (shown.Refused c)) x t) (sym found) (s, (refl, refl), S.stays x s i, i);
 })
 placed_off S v f q fail.Memory x r finds e d = subst (λ (y : Result Shown Fail). Answers S Any (reading v (on_ok f)) x y x) (sym d) (no_memory S Any (reading v (on_ok f)) x)
 

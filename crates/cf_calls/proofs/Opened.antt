@@ -39,7 +39,7 @@ opened S id h x new a reads =
 pub opened_not : {X : Type 0} (S : Sense X) (id : ItemId) (e : Fail) (x new : X) → Answers S (MayOpenFile id) (noted (with_handle id)) x (Err e) new → Answers S (MayOpenFile id) (opened_next id) x (Err e) new
 opened_not S id e x new a = record {
   leads = λ s i p.
-      let z = a.leads s i p in (z.0, trees.fails_first (noted (with_handle id) s) (λ _ t. ret (shown.Opened (next_handle s)) t) e z.0 z.1, z.2, after_err (Unit {0}) Shown S e new z.0 z.3);
+      let z = a.leads s i p in (z.0, trees.fails_first (noted (with_handle id) s) (λ _ t. ret (shown.Opened (next_handle s)) t) e z.0 z.1, z.2, after_err (Unit {0}) Shown S e x new z.0 z.3);
 }
 
 pub open_on : {X : Type 0} (S : Sense X) (id : ItemId) (o : Option Code) (x new : X) (r : Result Shown Fail)
@@ -47,14 +47,14 @@ pub open_on : {X : Type 0} (S : Sense X) (id : ItemId) (o : Option Code) (x new 
 open_on S id o x new r reads e a = record {
   leads = λ s i p.
       let free : None ≡ first_of (open_tests s) = sym e ∙ reads.is s i (record {}) in
-      subst (λ (c : Option Code). (t : Filter) × Does (unless shown.Refused c (opened_next id) s) r t × S.moved x new s t × After S r new t) free (a.leads s i (record { room = sym free; file = p }));
+      subst (λ (c : Option Code). (t : Filter) × Does (unless shown.Refused c (opened_next id) s) r t × S.moved x new s t × After S x r new t) free (a.leads s i (record { room = sym free; file = p }));
 }
 
 pub open_off : {X : Type 0} (S : Sense X) (id : ItemId) (o : Option Code) (k : Code) (x : X)
     → Reads S Any open_refusal x o → o ≡ Some k → Answers S (IsFile id) (open_by id) x (Ok (shown.Refused k)) x
 open_off S id o k x reads e = record {
   leads = λ s i p.
-      subst (λ (c : Option Code). (t : Filter) × Does {A = Shown} (unless shown.Refused c (opened_next id) s) (Ok (shown.Refused k)) t × S.moved x x s t × After {A = Shown} S (Ok (shown.Refused k)) x t) (sym e ∙ reads.is s i (record {}))
+      subst (λ (c : Option Code). (t : Filter) × Does {A = Shown} (unless shown.Refused c (opened_next id) s) (Ok (shown.Refused k)) t × S.moved x x s t × After {A = Shown} S x (Ok (shown.Refused k)) x t) (sym e ∙ reads.is s i (record {}))
       (s, (refl, refl), S.stays x s i, i);
 }
 
@@ -83,11 +83,11 @@ pub cancel_at : {X : Type 0} (S : Sense X) (id : WaitId) (w : Waiting) (o : Opti
 cancel_at {X} S id w o item x new r reads q e a = record {
   leads = λ s i p. one (waiting_by id s) (sym e ∙ q ∙ ap (λ (v : Waiting). option_map (λ (u : Wait). u.item) (wait_of v.waits id)) (reads.is s i p)) s i;
 } where
-  one : (k : Option Wait) → Some item ≡ option_map (λ (u : Wait). u.item) k → (s : Filter) → S.means x s → (t : Filter) × Does (cancel_wait id k s) r t × S.moved x new s t × After S r new t
+  one : (k : Option Wait) → Some item ≡ option_map (λ (u : Wait). u.item) k → (s : Filter) → S.means x s → (t : Filter) × Does (cancel_wait id k s) r t × S.moved x new s t × After S x r new t
   one None z s i = let y : ◌≡◌ {A = Option ItemId} (Some item) None = z in absurd cc
   one (Some v) z s i =
       let same : item ≡ v.item = cc in
-      subst (λ (k : ItemId). (t : Filter) × Does (cancel_item id k s) r t × S.moved x new s t × After S r new t) same (a.leads s i (record {}))
+      subst (λ (k : ItemId). (t : Filter) × Does (cancel_item id k s) r t × S.moved x new s t × After S x r new t) same (a.leads s i (record {}))
 
 pub cancel_none : {X : Type 0} (S : Sense X) (id : WaitId) (w : Waiting) (o : Option ItemId) (x : X)
     → Reads S Any waiting_of x w → o ≡ option_map (λ (v : Wait). v.item) (wait_of w.waits id) → o ≡ None → Answers S Any (cancel id) x (Ok (shown.Refused code.NoWait)) x
@@ -95,7 +95,7 @@ cancel_none {X} S id w o x reads q e = record {
   leads = λ s i p. one (waiting_by id s) (sym e ∙ q ∙ ap (λ (v : Waiting). option_map (λ (u : Wait). u.item) (wait_of v.waits id)) (reads.is s i p)) s i;
 } where
   one : (k : Option Wait) → None ≡ option_map (λ (u : Wait). u.item) k → (s : Filter) → S.means x s
-      → (t : Filter) × Does {A = Shown} (cancel_wait id k s) (Ok (shown.Refused code.NoWait)) t × S.moved x x s t × After {A = Shown} S (Ok (shown.Refused code.NoWait)) x t
+      → (t : Filter) × Does {A = Shown} (cancel_wait id k s) (Ok (shown.Refused code.NoWait)) t × S.moved x x s t × After {A = Shown} S x (Ok (shown.Refused code.NoWait)) x t
   one None z s i = (s, (refl, refl), S.stays x s i, i)
   one (Some v) z s i = let y : ◌≡◌ {A = Option ItemId} None (Some v.item) = z in absurd cc
 

@@ -133,7 +133,7 @@ pub operated_off : {X : Type 0} (S : Sense X) (x : X) (item : ItemId) (c : Chang
     → LooksAfter S item c d p x → ((i : ItemId) (e : Deed) → Reads S (IsOperableBy i c e p) (change_refusal counts i c e) x why) → why ≡ Some k → Answers S (IsOperable item c) (operated counts item c d) x (Ok (shown.Refused k)) x
 operated_off S x item c d p counts why k looks reads e = record {
   leads = λ s h q.
-      subst (λ (o : Option Code). (t : Filter) × Does {A = Shown} (unless shown.Refused o (changed_then item c d) s) (Ok (shown.Refused k)) t × S.moved x x s t × After {A = Shown} S (Ok (shown.Refused k)) x t)
+      subst (λ (o : Option Code). (t : Filter) × Does {A = Shown} (unless shown.Refused o (changed_then item c d) s) (Ok (shown.Refused k)) t × S.moved x x s t × After {A = Shown} S x (Ok (shown.Refused k)) x t)
       (sym e ∙ (reads item d).is s h (record { operable = q; step = looks.is s h q.seen })) (s, (refl, refl), S.stays x s h, h);
 }
 
@@ -144,6 +144,6 @@ operated_on S x new item c d p counts why r looks reads e a = record {
   leads = λ s h q.
       let step : IsStepAfter item (c ∷ []) d p s = looks.is s h q.seen in
       let free : None ≡ change_refusal counts item c d s = sym e ∙ (reads item d).is s h (record { operable = q; step = step }) in
-      subst (λ (o : Option Code). (t : Filter) × Does (unless shown.Refused o (changed_then item c d) s) r t × S.moved x new s t × After S r new t) free
+      subst (λ (o : Option Code). (t : Filter) × Does (unless shown.Refused o (changed_then item c d) s) r t × S.moved x new s t × After S x r new t) free
       ((a item d).leads s h (record { ready = change_ready counts item c d s q (sym free); step = step }));
 }

@@ -44,7 +44,7 @@ pub policy_off : {X : Type 0} (S : Sense X) (m : Mode) (p : Policy) (o : Option 
     → Reads S Any (policy_refusal m p) x o → o ≡ Some k → Answers S Any (set_policy m p) x (Ok (shown.Refused k)) x
 policy_off S m p o k x reads e = record {
   leads = λ s i q.
-      subst (λ (c : Option Code). (t : Filter) × Does {A = Shown} (unless shown.Refused c (then_do (noted (with_policy p)) done) s) (Ok (shown.Refused k)) t × S.moved x x s t × After {A = Shown} S (Ok (shown.Refused k)) x t) (sym e ∙ reads.is s i q)
+      subst (λ (c : Option Code). (t : Filter) × Does {A = Shown} (unless shown.Refused c (then_do (noted (with_policy p)) done) s) (Ok (shown.Refused k)) t × S.moved x x s t × After {A = Shown} S x (Ok (shown.Refused k)) x t) (sym e ∙ reads.is s i q)
       (s, (refl, refl), S.stays x s i, i);
 }
 
@@ -53,7 +53,7 @@ pub policy_on : {X : Type 0} (S : Sense X) (m : Mode) (p : Policy) (o : Option C
 policy_on S m p o x new reads e h =
     let a = any_on S (noted (with_policy p)) done x new new unit (Ok shown.Done) h (returned S Any shown.Done new) in record {
       leads = λ s i q.
-          subst (λ (c : Option Code). (t : Filter) × Does {A = Shown} (unless shown.Refused c (then_do (noted (with_policy p)) done) s) (Ok shown.Done) t × S.moved x new s t × After {A = Shown} S (Ok shown.Done) new t) (sym e ∙ reads.is s i q)
+          subst (λ (c : Option Code). (t : Filter) × Does {A = Shown} (unless shown.Refused c (then_do (noted (with_policy p)) done) s) (Ok shown.Done) t × S.moved x new s t × After {A = Shown} S x (Ok shown.Done) new t) (sym e ∙ reads.is s i q)
           (a.leads s i q);
     }
 

@@ -162,15 +162,15 @@ last_test true a b e = let z : true ≡ false = e in absurd cc
 
 retrieve_at : {X : Type 0} (S : Sense X) (ask : Ask) (span : Span) (b c : Bool) (x new : X) (r : Result Shown Fail) (s : Filter) (key : Key) (f : Book → Book) (records : List AuxRecord) (a : Live)
     → Reads S Any (holds_all ask.item span) x b → b ≡ c → S.means x s → IsLiveFor f (operation.Retrieve key span) ask records a s
-    → (t : Filter) × Does (unless shown.Refused (first_of ((not c, code.OutsideAsk) ∷ [])) (reading (held_in a span) (retrieve_by a)) s) r t × S.moved x new s t × After S r new t
-    → (t : Filter) × Does (retrieve a span s) r t × S.moved x new s t × After S r new t
+    → (t : Filter) × Does (unless shown.Refused (first_of ((not c, code.OutsideAsk) ∷ [])) (reading (held_in a span) (retrieve_by a)) s) r t × S.moved x new s t × After S x r new t
+    → (t : Filter) × Does (retrieve a span s) r t × S.moved x new s t × After S x r new t
 retrieve_at S ask span b c x new r s key f records a reads e h p g =
     let w = first_none (not (is_validate a.ask.kind)) code.WrongKind ((is_outside a span.start span.len, code.OutsideAsk) ∷ []) p.passes in
     let o = first_none (is_outside a span.start span.len) code.OutsideAsk [] w.1 in
     let there : c ≡ holds_all a.ask.item span s = sym e ∙ reads.is s h (record {}) ∙ ap (λ (q : Ask). holds_all q.item span s) (sym p.same) in
     let last = last_test (is_outside a span.start span.len) (length (held_at a.ask.item span s) == span.len) (list_all is_some (held_at a.ask.item span s)) o.0 in
-    subst (λ (d : Bool). (t : Filter) × Does (unless shown.Refused (first_of ((d, code.WrongKind) ∷ (tests_last a s, code.OutsideAsk) ∷ [])) (reading (held_in a span) (retrieve_by a)) s) r t × S.moved x new s t × After S r new t) (sym w.0)
-    (subst (λ (d : Bool). (t : Filter) × Does (unless shown.Refused (first_of ((d, code.OutsideAsk) ∷ [])) (reading (held_in a span) (retrieve_by a)) s) r t × S.moved x new s t × After S r new t) (ap not there ∙ sym last) g)
+    subst (λ (d : Bool). (t : Filter) × Does (unless shown.Refused (first_of ((d, code.WrongKind) ∷ (tests_last a s, code.OutsideAsk) ∷ [])) (reading (held_in a span) (retrieve_by a)) s) r t × S.moved x new s t × After S x r new t) (sym w.0)
+    (subst (λ (d : Bool). (t : Filter) × Does (unless shown.Refused (first_of ((d, code.OutsideAsk) ∷ [])) (reading (held_in a span) (retrieve_by a)) s) r t × S.moved x new s t × After S x r new t) (ap not there ∙ sym last) g)
   where
     tests_last : Live → Filter → Bool
     tests_last a s = (is_outside a span.start span.len || not (length (held_in a span s) == span.len)) || not (list_all is_some (held_in a span s))
@@ -188,5 +188,5 @@ retrieve_on S ask span b x new r reads e ans key f records a = record {
   leads = λ s h p.
       let z = ans.leads s h (there_is ask.item span s (sym (reads.is s h (record {})) ∙ e)) in
       retrieve_at S ask span b true x new r s key f records a reads e h p
-      (subst (λ (q : Ask). (t : Filter) × Does (retrieved q span s) r t × S.moved x new s t × After S r new t) (sym p.same) z);
+      (subst (λ (q : Ask). (t : Filter) × Does (retrieved q span s) r t × S.moved x new s t × After S x r new t) (sym p.same) z);
 }

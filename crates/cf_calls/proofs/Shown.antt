@@ -31,7 +31,7 @@ use Rattle.cf_table.proofs.RunsOf.{covered_at, held_flags, length_flags, length_
 use Rattle.cf_calls.proofs.Carried.{no_row, row_means}
 use Rattle.cf_calls.proofs.Suited.{small_at}
 
-shown_by : {X : Type 0} (S : Sense X) (v : Shown) (r : Result Shown Fail) (x : X) (s : Filter) → S.means x s → IsShown v r → (t : Filter) × Does {A = Shown} (ret v s) r t × S.moved x x s t × After {A = Shown} S r x t
+shown_by : {X : Type 0} (S : Sense X) (v : Shown) (r : Result Shown Fail) (x : X) (s : Filter) → S.means x s → IsShown v r → (t : Filter) × Does {A = Shown} (ret v s) r t × S.moved x x s t × After {A = Shown} S x r x t
 shown_by S v (Ok a) x s h e = (s, (e, refl), S.stays x s h, h)
 shown_by S v (Err (No c)) x s h e = absurd e
 shown_by S v (Err Memory) x s h e = (s, record {}, S.stays x s h, S.endures x s h)

@@ -212,6 +212,6 @@ pub pins_made : {X : Type 0} (S : Sense X) (x new : X) (t : Table) (id : ItemId)
 pins_made S x new t id asked reach cs ds r rows plan same a i = record {
   leads = λ s h at.
       let e : ds ≡ pins_at i asked reach s = same ∙ plan s.volume.items i (rows.rows s h) (S.good x s h).volume.tree at in
-      subst (λ (l : List Change). (t : Filter) × Does (change_all l s) r t × S.moved x new s t × After S r new t) e
+      subst (λ (l : List Change). (t : Filter) × Does (change_all l s) r t × S.moved x new s t × After S x r new t) e
       (a.leads s h (subst (λ (l : List Change). SuitsAll l s.volume) (sym e) (plan_pin_suits s.volume.items i asked reach s.volume (S.good x s h).volume.pins)));
 }

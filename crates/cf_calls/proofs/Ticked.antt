@@ -26,11 +26,11 @@ pub expire_on : {X : Type 0} (S : Sense X) (key : Key) (w : Waiting) (o : Option
 expire_on {X} S key w o a x new r reads q e h = record {
   leads = λ s i p. one (still_live key s) (sym e ∙ q ∙ ap (λ (v : Waiting). option_map (λ (b : Live). b.ask) (live_of v.asks key)) (reads.is s i p)) s i;
 } where
-  one : (k : Option Live) → Some a ≡ option_map (λ (b : Live). b.ask) k → (s : Filter) → S.means x s → (t : Filter) × Does (expire_live key k s) r t × S.moved x new s t × After S r new t
+  one : (k : Option Live) → Some a ≡ option_map (λ (b : Live). b.ask) k → (s : Filter) → S.means x s → (t : Filter) × Does (expire_live key k s) r t × S.moved x new s t × After S x r new t
   one None z s i = let y : ◌≡◌ {A = Option Ask} (Some a) None = z in absurd cc
   one (Some b) z s i =
       let same : a ≡ b.ask = cc in
-      subst (λ (c : Ask). (t : Filter) × Does (settle c.item (Expires key) s) r t × S.moved x new s t × After S r new t) same (h.leads s i (record {}))
+      subst (λ (c : Ask). (t : Filter) × Does (settle c.item (Expires key) s) r t × S.moved x new s t × After S x r new t) same (h.leads s i (record {}))
 
 pub expire_none : {X : Type 0} (S : Sense X) (key : Key) (w : Waiting) (o : Option Ask) (x : X)
     → Reads S Any waiting_of x w → o ≡ option_map (λ (b : Live). b.ask) (live_of w.asks key) → o ≡ None → Answers S Any (expire key) x (Ok unit) x
@@ -38,7 +38,7 @@ expire_none {X} S key w o x reads q e = record {
   leads = λ s i p. one (still_live key s) (sym e ∙ q ∙ ap (λ (v : Waiting). option_map (λ (b : Live). b.ask) (live_of v.asks key)) (reads.is s i p)) s i;
 } where
   one : (k : Option Live) → None ≡ option_map (λ (b : Live). b.ask) k → (s : Filter) → S.means x s
-      → (t : Filter) × Does {A = Unit {0}} (expire_live key k s) (Ok unit) t × S.moved x x s t × After {A = Unit {0}} S (Ok unit) x t
+      → (t : Filter) × Does {A = Unit {0}} (expire_live key k s) (Ok unit) t × S.moved x x s t × After {A = Unit {0}} S x (Ok unit) x t
   one None z s i = (s, (refl, refl), S.stays x s i, i)
   one (Some b) z s i = let y : ◌≡◌ {A = Option Ask} None (Some b.ask) = z in absurd cc
 

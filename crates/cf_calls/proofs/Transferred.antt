@@ -44,7 +44,7 @@ first_past (t ∷ ts) rest e =
 
 -- what the state does by a part, with these tests before it
 abbrev pub Goes : {X : Type 0} → Sense X → X → Result Shown Fail → X → Filter → Tree Filter Shown → Type 0
-Goes S x r new s p = (t : Filter) × Does p r t × S.moved x new s t × After S r new t
+Goes S x r new s p = (t : Filter) × Does p r t × S.moved x new s t × After S x r new t
 
 -- the same under tests that do not hold
 pub past : {X : Type 0} (S : Sense X) (x new : X) (r : Result Shown Fail) (s : Filter) (front rest : List (Bool × Code)) (f : Arrow Filter Shown) → first_of front ≡ None

@@ -40,12 +40,12 @@ use Rattle.cf_calls.proofs.Suited.{each_at}
 pub handle_file : {X : Type 0} (S : Sense X) (h : Handle) (f : ItemId → Arrow Filter Shown) (o : Option ItemId) (item : ItemId) (x new : X) (r : Result Shown Fail)
     → Reads S Any (opened_item h) x o → o ≡ Some item → Answers S (IsFile item) (f item) x r new → Answers S Any (on_handle h f) x r new
 handle_file {X} S h f o item x new r reads e a = record { leads = λ s i p. one (opened_by h s) (sym e ∙ reads.is s i p) s i refl } where
-  one : (q : Option Open) → Some item ≡ item_opened q → (s : Filter) → S.means x s → opened_by h s ≡ q → (t : Filter) × Does (on_open f q s) r t × S.moved x new s t × After S r new t
+  one : (q : Option Open) → Some item ≡ item_opened q → (s : Filter) → S.means x s → opened_by h s ≡ q → (t : Filter) × Does (on_open f q s) r t × S.moved x new s t × After S x r new t
   one None z s i w = let y : ◌≡◌ {A = Option ItemId} (Some item) None = z in absurd cc
   one (Some p) z s i w =
       let same : item ≡ p.item = cc in
       let there : IsFileIn s.volume.items p.item = of_found (λ (k : Open). IsFileIn s.volume.items k.item) (λ (k : Open). same_key k.handle.0 h.0) s.handles p (S.good x s i).files w in
-      subst (λ (k : ItemId). (t : Filter) × Does (f k s) r t × S.moved x new s t × After S r new t) same
+      subst (λ (k : ItemId). (t : Filter) × Does (f k s) r t × S.moved x new s t × After S x r new t) same
       (a.leads s i (subst (λ (k : ItemId). IsFileIn s.volume.items k) (sym same) there))
 
 -- room for changes
@@ -56,14 +56,14 @@ pub room_on : {X : Type 0} (S : Sense X) (P Q : Filter → Type 0) (cs : List Ch
 room_on S P Q cs f why x new r reads e suit ready a = record {
   leads = λ s i p.
       let free : None ≡ why_no_room cs s.volume = sym e ∙ reads.is s i (suit s p) in
-      subst (λ (o : Option Code). (t : Filter) × Does (unless shown.Refused (first_of (test_of o)) f s) r t × S.moved x new s t × After S r new t) free (a.leads s i (ready s p (sym free)));
+      subst (λ (o : Option Code). (t : Filter) × Does (unless shown.Refused (first_of (test_of o)) f s) r t × S.moved x new s t × After S x r new t) free (a.leads s i (ready s p (sym free)));
 }
 
 pub room_off : {X : Type 0} (S : Sense X) (P : Filter → Type 0) (cs : List Change) (f : Arrow Filter Shown) (why : Option Code) (k : Code) (x : X)
     → Reads S (Suiting cs) (room_refusal cs) x why → why ≡ Some k → ((s : Filter) → P s → Suiting cs s) → Answers S P (checked (room_tests cs) f) x (Ok (shown.Refused k)) x
 room_off S P cs f why k x reads e suit = record {
   leads = λ s i p.
-      subst (λ (o : Option Code). (t : Filter) × Does {A = Shown} (unless shown.Refused (first_of (test_of o)) f s) (Ok (shown.Refused k)) t × S.moved x x s t × After {A = Shown} S (Ok (shown.Refused k)) x t)
+      subst (λ (o : Option Code). (t : Filter) × Does {A = Shown} (unless shown.Refused (first_of (test_of o)) f s) (Ok (shown.Refused k)) t × S.moved x x s t × After {A = Shown} S x (Ok (shown.Refused k)) x t)
       (sym e ∙ reads.is s i (suit s p)) (s, (refl, refl), S.stays x s i, i);
 }
 
@@ -101,7 +101,7 @@ put_fails S item c x mid new u e a b =
 far_off : {X : Type 0} (S : Sense X) (P : Filter → Type 0) (end : ℕ) (cs : List Change) (f : Arrow Filter Shown) (x new : X) (r : Result Shown Fail)
     → nat_lt 16777216 end ≡ false → Answers S P (checked (room_tests cs) f) x r new → Answers S P (checked (write_tests end cs) f) x r new
 far_off S P end cs f x new r e a = record {
-  leads = λ s i p. subst (λ (b : Bool). (t : Filter) × Does (unless shown.Refused (first_of ((b, code.TooLarge) ∷ room_tests cs s)) f s) r t × S.moved x new s t × After S r new t) (sym e) (a.leads s i p);
+  leads = λ s i p. subst (λ (b : Bool). (t : Filter) × Does (unless shown.Refused (first_of ((b, code.TooLarge) ∷ room_tests cs s)) f s) r t × S.moved x new s t × After S x r new t) (sym e) (a.leads s i p);
 }
 
 -- a file has what its item has
@@ -145,12 +145,12 @@ same_rest None f g s e = e
 same_rest (Some c) f g s e = refl
 
 size_by : {X : Type 0} (S : Sense X) (item : ItemId) (n : ℕ) (b : Bool) (x new : X) (r : Result Shown Fail)
-    → Reads S Any (has_size item n) x b → ((s : Filter) → S.means x s → IsFile item s → (t : Filter) × Does (unless shown.Refused (first_of (sizes_at item n b s)) (size_now item n b) s) r t × S.moved x new s t × After S r new t)
+    → Reads S Any (has_size item n) x b → ((s : Filter) → S.means x s → IsFile item s → (t : Filter) × Does (unless shown.Refused (first_of (sizes_at item n b s)) (size_now item n b) s) r t × S.moved x new s t × After S x r new t)
     → Answers S (IsFile item) (size_item n item) x r new
 size_by S item n b x new r reads a = record {
   leads = λ s i p.
-      subst (λ (q : Tree Filter Shown). (t : Filter) × Does q r t × S.moved x new s t × After S r new t) (same_rest (first_of (size_tests item n s)) (size_now item n (has_size item n s)) (reading (has_size item n) (size_now item n)) s refl)
-      (subst (λ (c : Bool). (t : Filter) × Does (unless shown.Refused (first_of (sizes_at item n c s)) (size_now item n c) s) r t × S.moved x new s t × After S r new t) (reads.is s i (record {})) (a s i p));
+      subst (λ (q : Tree Filter Shown). (t : Filter) × Does q r t × S.moved x new s t × After S x r new t) (same_rest (first_of (size_tests item n s)) (size_now item n (has_size item n s)) (reading (has_size item n) (size_now item n)) s refl)
+      (subst (λ (c : Bool). (t : Filter) × Does (unless shown.Refused (first_of (sizes_at item n c s)) (size_now item n c) s) r t × S.moved x new s t × After S x r new t) (reads.is s i (record {})) (a s i p));
 }
 
 pub size_same : {X : Type 0} (S : Sense X) (item : ItemId) (n : ℕ) (b : Bool) (x new : X) (r : Result Shown Fail)

@@ -1,4 +1,5 @@
-//! The calls of a filter, on anything that does its steps.
+//! The calls of a filter, on anything that does its steps. A call meets Device only where a call of the device failed since it
+//! began.
 #![tactic(auto)]
 
 mod asking;
