@@ -169,18 +169,18 @@ pub fn left_by(
     )
 }
 
-fn released(key: Key, blocks: Span, a: &LiveAsk) -> Result<LiveAsk, Memory>
-    ensures { IfOk result (λ r. r ≡ released key (counting blocks.start blocks.len) a.now) }
+fn released(key: Key, blocks: Span, a: LiveAsk) -> Result<LiveAsk, Memory>
+    ensures { IfOk result (λ r. r ≡ released key (counting blocks.start blocks.len) a) }
 {
     if is_same_key(a.ask().key, key) {
         a.without(blocks)
     } else {
-        a.copy()
+        Ok(a)
     }
 }
 
-fn after_act(act: Act, a: &LiveAsk) -> Result<LiveAsk, Memory>
-    ensures { IfOk result (λ r. r ≡ after_deed (deed_of act) a.now) }
+fn after_act(act: Act, a: LiveAsk) -> Result<LiveAsk, Memory>
+    ensures { IfOk result (λ r. r ≡ after_deed (deed_of act) a) }
 {
     match act {
         Act::Leaves { key, blocks } => released(key, blocks, a),
@@ -189,12 +189,12 @@ fn after_act(act: Act, a: &LiveAsk) -> Result<LiveAsk, Memory>
             blocks,
             cause: _,
         } => released(key, blocks, a),
-        Act::Nothing => a.copy(),
-        Act::Cancels(_) => a.copy(),
-        Act::Closes { handle: _, last: _ } => a.copy(),
-        Act::Restarts => a.copy(),
-        Act::Expires(_) => a.copy(),
-        Act::Finishes { key: _, cause: _ } => a.copy(),
+        Act::Nothing => Ok(a),
+        Act::Cancels(_) => Ok(a),
+        Act::Closes { handle: _, last: _ } => Ok(a),
+        Act::Restarts => Ok(a),
+        Act::Expires(_) => Ok(a),
+        Act::Finishes { key: _, cause: _ } => Ok(a),
     }
 }
 
@@ -224,8 +224,8 @@ fn is_over(act: Act, a: &LiveAsk) -> bool
 }
 
 /// The asks that are left once the act is done.
-pub fn asks_after(alloc: Global, act: Act, asks: &[LiveAsk]) -> Result<Vec<LiveAsk>, Memory>
-    ensures { IfOk result (λ r. r.items ≡ after (deed_of act) asks.now) }
+pub fn asks_after(alloc: Global, act: Act, asks: Vec<LiveAsk>) -> Result<Vec<LiveAsk>, Memory>
+    ensures { IfOk result (λ r. r.items ≡ after (deed_of act) asks.items) }
 {
     let mut out = Vec::new(alloc);
     for a in asks {

@@ -29,16 +29,17 @@ pub fn make_plan(
     v: &Sight,
     act: Act,
     waits: &[LiveWait],
-    asks: &[LiveAsk],
+    asks: Vec<LiveAsk>,
 ) -> Result<Plan, Memory>
-    ensures ended { IfOk result (λ p. p.ended.items ≡ (plan_of item v.now (deed_of act) waits.now asks.now).ended) }
-    ensures left { IfOk result (λ p. p.left.items ≡ (plan_of item v.now (deed_of act) waits.now asks.now).left) }
-    ensures cancelled { IfOk result (λ p. p.cancelled.items ≡ (plan_of item v.now (deed_of act) waits.now asks.now).cancelled) }
-    ensures kept { IfOk result (λ p. p.kept.items ≡ (plan_of item v.now (deed_of act) waits.now asks.now).kept) }
-    ensures made { IfOk result (λ p. p.made.items ≡ (plan_of item v.now (deed_of act) waits.now asks.now).made) }
+    ensures ended { IfOk result (λ p. p.ended.items ≡ (plan_of item v.now (deed_of act) waits.now asks.items).ended) }
+    ensures left { IfOk result (λ p. p.left.items ≡ (plan_of item v.now (deed_of act) waits.now asks.items).left) }
+    ensures cancelled { IfOk result (λ p. p.cancelled.items ≡ (plan_of item v.now (deed_of act) waits.now asks.items).cancelled) }
+    ensures kept { IfOk result (λ p. p.kept.items ≡ (plan_of item v.now (deed_of act) waits.now asks.items).kept) }
+    ensures made { IfOk result (λ p. p.made.items ≡ (plan_of item v.now (deed_of act) waits.now asks.items).made) }
 {
-    let ended = ended_by(alloc, item, v, act, asks, waits)?;
-    let left = left_by(alloc, item, v, act, asks, waits)?;
+    let before = asks.as_slice();
+    let ended = ended_by(alloc, item, v, act, before, waits)?;
+    let left = left_by(alloc, item, v, act, before, waits)?;
     let live = left.as_slice();
     let spans = needs_of(alloc, item, v, live)?;
     let needs = spans.as_slice();

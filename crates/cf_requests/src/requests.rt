@@ -113,7 +113,7 @@ impl Requests {
         let live = self.waits.on(self.alloc, item)?;
         let waits = with_begun(live, begun)?;
         let asks = self.asks.near(self.alloc, item, named_by(act))?;
-        let plan = make_plan(self.alloc, item, &sight, act, &waits, &asks)?;
+        let plan = make_plan(self.alloc, item, &sight, act, &waits, asks)?;
         let step = step_of(act, plan)?;
         Ok(step)
     }

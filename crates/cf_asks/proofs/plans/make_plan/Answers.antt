@@ -26,15 +26,17 @@ returns-clause-kept c =
     let d : Deed = deed_of c.args.act in
     c.drop_cancelled.ensures
     ∙ ap (filter (λ a. not (is_cancelled c.args.item c.args.v.now d c.as_slice-live.result.now a))) c.in_ok-kept.ensures
-    ∙ ap (λ (ws : List Wait). filter (λ a. not (is_cancelled c.args.item c.args.v.now d ws a)) (after d c.args.asks.now)) (c.as_slice-live.ensures.value ∙ c.in_ok-left.ensures)
+    ∙ ap (λ (ws : List Wait). filter (λ a. not (is_cancelled c.args.item c.args.v.now d ws a)) (after d c.args.asks.items))
+    (c.as_slice-live.ensures.value ∙ c.in_ok-left.ensures ∙ ap (λ (l : List Live). left_of (why c.args.item c.args.v.now d l) c.args.waits.now) c.as_slice-before.ensures.value)
 
 pub returns-clause-made : goal.returns-clause-made
 returns-clause-made c =
     let d : Deed = deed_of c.args.act in
-    let left : List Wait = left_of (why c.args.item c.args.v.now d c.args.asks.now) c.args.waits.now in
+    let left : List Wait = left_of (why c.args.item c.args.v.now d c.args.asks.items) c.args.waits.now in
+    let same = c.as_slice-live.ensures.value ∙ c.in_ok-left.ensures ∙ ap (λ (l : List Live). left_of (why c.args.item c.args.v.now d l) c.args.waits.now) c.as_slice-before.ensures.value in
     c.in_ok-made.ensures
-    ∙ ap (λ (ws : List Wait). new_asks c.args.item c.args.v.now ws c.deref-2.result.now) (c.as_slice-live.ensures.value ∙ c.in_ok-left.ensures)
+    ∙ ap (λ (ws : List Wait). new_asks c.args.item c.args.v.now ws c.deref-2.result.now) same
     ∙ ap (λ (asks : List Live). new_asks c.args.item c.args.v.now left asks)
     (c.deref-2.ensures.value ∙ c.drop_cancelled.ensures
     ∙ ap (filter (λ a. not (is_cancelled c.args.item c.args.v.now d c.as_slice-live.result.now a))) c.in_ok-kept.ensures
-    ∙ ap (λ (ws : List Wait). filter (λ a. not (is_cancelled c.args.item c.args.v.now d ws a)) (after d c.args.asks.now)) (c.as_slice-live.ensures.value ∙ c.in_ok-left.ensures))
+    ∙ ap (λ (ws : List Wait). filter (λ a. not (is_cancelled c.args.item c.args.v.now d ws a)) (after d c.args.asks.items)) same)
