@@ -10,13 +10,13 @@ use Rattle.cf_requests.proofs.Planning.{looked, made_fresh}
 use Rattle.cf_requests.proofs.requests.Requests.look_with.Goals as goal
 
 pub step_of-requires : goal.step_of-requires
-step_of-requires c = made_fresh c.args.item c.in_ok-sight.sight (deed_of c.args.act) c.deref.result.now c.deref-2.result.now c.in_ok-plan.plan.made.items c.in_ok-plan.ensures.made
+step_of-requires c = made_fresh c.args.item c.in_ok-sight.sight (deed_of c.args.act) c.deref.result.now c.in_ok-asks.asks.items c.in_ok-plan.plan.made.items c.in_ok-plan.ensures.made
 
 pub returns : goal.returns
-returns c = looked c.args.item c.in_ok-sight.sight (shown c.args.v.now) (deed_of c.args.act) c.in_ok-step.step c.args.self.now _ c.args.begun.now c.deref.result.now c.deref-2.result.now _
+returns c = looked c.args.item c.in_ok-sight.sight (shown c.args.v.now) (deed_of c.args.act) c.in_ok-step.step c.args.self.now _ c.args.begun.now c.deref.result.now c.in_ok-asks.asks.items _
     c.in_ok-sight.ensures c.self.view_is c.self.invariant.2 c.requires.next c.requires.on
     (c.deref.ensures.value ∙ c.in_ok-waits.ensures ∙ ap (λ (l : List Wait). l ++ c.args.begun.now) c.in_ok-live.ensures)
-    (c.deref-2.ensures.value ∙ c.in_ok-asks.ensures ∙ ap (λ (k : Option Key). filter (is_near c.args.item k) c.self.inside.asks.asks) c.named_by.ensures)
+    (c.in_ok-asks.ensures ∙ ap (λ (k : Option Key). filter (is_near c.args.item k) c.self.inside.asks.asks) c.named_by.ensures)
     (record {
       ended = c.in_ok-plan.ensures.ended;
       left = c.in_ok-plan.ensures.left;
