@@ -40,7 +40,7 @@ use Rattle.cf_steps.specs.Answering.{Answers}
 use Rattle.cf_steps.specs.Good.{IsFileIn, IsGood}
 use Rattle.cf_steps.specs.Suiting.{Suits}
 use Rattle.cf_volume.specs.Calls as volume
-use Rattle.cf_volume.specs.Calls.{OnDisk, Runs, StopsOnly}
+use Rattle.cf_volume.specs.Calls.{IsCause, OnDisk, Runs, StopsOnly}
 
 -- points of a longer log
 
@@ -191,21 +191,24 @@ module _ {D : Type 0} (state : D → State) (P : Filter → Type 0) (x : Held D)
   stop_lasts s false e h i left = last_point s.volume h.points i ((calm s.volume h.volume e).now i left)
   stop_lasts s true e h i left = either_begun s.volume h.volume.now.of_log h.kept h.points i ((leaves s h).now i left)
 
-  put_stopped : (k : Known) (e : Desk) (q : Fail) → e ≡ x.desk → ((s : Filter) → Stands state x s → P s → StopsOnly q) → Answers (sense state) P (change_with f c) x (Err q) (record { disk = d; known = k; desk = e })
-  put_stopped k e (No code) same only = record {
+  put_stopped : (k : Known) (e : Desk) (q : Fail) → e ≡ x.desk → ((s : Filter) → Stands state x s → P s → StopsOnly q) → IsCause q (state x.disk) (state d) → Answers (sense state) P (change_with f c) x (Err q) (record { disk = d; known = k; desk = e })
+  put_stopped k e (No code) same only cause = record {
     leads = λ s h p. (
       with_volume (stopped_at (may_need_room c s.volume) s.volume) s,
       (only s h p, put_stops f c s (may_need_room c s.volume)),
       stop_moved s (may_need_room c s.volume) refl h,
-      record {
-        notes = ap (λ (z : Desk). z.notes) (same ∙ h.desk);
-        policy = ap (λ (z : Desk). z.policy) (same ∙ h.desk);
-        connected = ap (λ (z : Desk). z.connected) (same ∙ h.desk);
-        lasts = stop_lasts s (may_need_room c s.volume) refl h;
-      },
+      (
+        record {
+          notes = ap (λ (z : Desk). z.notes) (same ∙ h.desk);
+          policy = ap (λ (z : Desk). z.policy) (same ∙ h.desk);
+          connected = ap (λ (z : Desk). z.connected) (same ∙ h.desk);
+          lasts = stop_lasts s (may_need_room c s.volume) refl h;
+        },
+        cause (only s h p),
+      ),
     );
   }
-  put_stopped k e Memory same only = record {
+  put_stopped k e Memory same only cause = record {
     leads = λ s h p. (
       with_volume (stopped_at (may_need_room c s.volume) s.volume) s,
       record {},
@@ -215,11 +218,11 @@ module _ {D : Type 0} (state : D → State) (P : Filter → Type 0) (x : Held D)
   }
 
   -- the device or memory stopped it, at an exit by `?`
-  pub put_stops_by : (k : Known) (e : Desk) (q : Fail) (r : Result (Unit {0}) Fail) → IsErrAnd r (λ z. z ≡ q) → e ≡ x.desk → ((s : Filter) → Stands state x s → P s → StopsOnly q)
+  pub put_stops_by : (k : Known) (e : Desk) (q : Fail) (r : Result (Unit {0}) Fail) → IsErrAnd r (λ z. z ≡ q) → e ≡ x.desk → ((s : Filter) → Stands state x s → P s → StopsOnly q) → IsCause q (state x.disk) (state d)
       → Answers (sense state) P (change_with f c) x r (record { disk = d; known = k; desk = e })
-  put_stops_by k e q r is same only =
+  put_stops_by k e q r is same only cause =
       let p = err_from_is_err_and r is in
-      subst (λ (z : Result (Unit {0}) Fail). Answers (sense state) P (change_with f c) x z (record { disk = d; known = k; desk = e })) (sym (p.1 ∙ ap (λ (z : Fail). Err z) p.2)) (put_stopped k e q same only)
+      subst (λ (z : Result (Unit {0}) Fail). Answers (sense state) P (change_with f c) x z (record { disk = d; known = k; desk = e })) (sym (p.1 ∙ ap (λ (z : Fail). Err z) p.2)) (put_stopped k e q same only cause)
 
 -- a change that suits and finds room
 

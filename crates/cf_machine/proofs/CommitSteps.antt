@@ -21,7 +21,7 @@ use Rattle.cf_points.specs.At.{At, StandsEither}
 use Rattle.cf_points.specs.Known.{Known}
 use Rattle.cf_points.specs.Sound.{IsKeepable}
 use Rattle.cf_steps.specs.Answering.{Answers, Any}
-use Rattle.cf_volume.specs.Calls.{Runs, StopsOnly}
+use Rattle.cf_volume.specs.Calls.{IsCause, Runs, StopsOnly}
 
 module _ {D : Type 0} (state : D → State) (x : Held D) (d : D) (k : Known) (e : Desk) (same : e ≡ x.desk) (fair : Fair (state d))
     (crash : (v : Volume) → At (state x.disk) x.known v → IsKeepable v → Leaves (state x.disk) (state d) (StandsEither v)) (runs : Runs (state x.disk) (state d)) where
@@ -56,24 +56,27 @@ module _ {D : Type 0} (state : D → State) (x : Held D) (d : D) (k : Known) (e 
   begun s h = leaves_weaker (state x.disk) (state d) (StandsEither s.volume) (IsBetween s.volume (with_point_begun s.volume)) (leaves s h)
       (λ c l. record { mid = with_point_begun s.volume; after = grows_begun s.volume; before = grows_not (with_point_begun s.volume); stands = either_begun s.volume h.volume.now.of_log h.kept h.points c l })
 
-  not_committed : (f : Fail) → ((v : Volume) → At (state x.disk) x.known v → IsKeepable v → x.known.broken ≡ false → StopsOnly f) → Answers (sense state) Any (in_volume commit) x (Err f) (record { disk = d; known = k; desk = e })
-  not_committed (No c) only = record {
+  not_committed : (f : Fail) → ((v : Volume) → At (state x.disk) x.known v → IsKeepable v → x.known.broken ≡ false → StopsOnly f) → IsCause f (state x.disk) (state d) → Answers (sense state) Any (in_volume commit) x (Err f) (record { disk = d; known = k; desk = e })
+  not_committed (No c) only cause = record {
     leads = λ s h p. (
       with_volume (with_point_begun s.volume) s,
       (only s.volume h.volume (keepable s.volume h.kept) h.whole, inl refl),
       record { runs = runs; grows = grows_begun s.volume; leaves = begun s h },
-      record {
-        notes = ap (λ (z : Desk). z.notes) (same ∙ h.desk);
-        policy = ap (λ (z : Desk). z.policy) (same ∙ h.desk);
-        connected = ap (λ (z : Desk). z.connected) (same ∙ h.desk);
-        lasts = lasts s h;
-      },
+      (
+        record {
+          notes = ap (λ (z : Desk). z.notes) (same ∙ h.desk);
+          policy = ap (λ (z : Desk). z.policy) (same ∙ h.desk);
+          connected = ap (λ (z : Desk). z.connected) (same ∙ h.desk);
+          lasts = lasts s h;
+        },
+        cause (only s.volume h.volume (keepable s.volume h.kept) h.whole),
+      ),
     );
   }
-  not_committed Memory only = record { leads = λ s h p. (with_volume (with_point_begun s.volume) s, record {}, record { runs = runs; grows = grows_begun s.volume; leaves = begun s h }, lasts s h) }
+  not_committed Memory only cause = record { leads = λ s h p. (with_volume (with_point_begun s.volume) s, record {}, record { runs = runs; grows = grows_begun s.volume; leaves = begun s h }, lasts s h) }
 
-  pub commit_stops : (f : Fail) (r : Result (Unit {0}) Fail) → IsErrAnd r (λ z. z ≡ f) → ((v : Volume) → At (state x.disk) x.known v → IsKeepable v → x.known.broken ≡ false → StopsOnly f)
+  pub commit_stops : (f : Fail) (r : Result (Unit {0}) Fail) → IsErrAnd r (λ z. z ≡ f) → ((v : Volume) → At (state x.disk) x.known v → IsKeepable v → x.known.broken ≡ false → StopsOnly f) → IsCause f (state x.disk) (state d)
       → Answers (sense state) Any (in_volume commit) x r (record { disk = d; known = k; desk = e })
-  commit_stops f r is only =
+  commit_stops f r is only cause =
       let p = err_from_is_err_and r is in
-      subst (λ (q : Result (Unit {0}) Fail). Answers (sense state) Any (in_volume commit) x q (record { disk = d; known = k; desk = e })) (sym (p.1 ∙ ap (λ (z : Fail). Err z) p.2)) (not_committed f only)
+      subst (λ (q : Result (Unit {0}) Fail). Answers (sense state) Any (in_volume commit) x q (record { disk = d; known = k; desk = e })) (sym (p.1 ∙ ap (λ (z : Fail). Err z) p.2)) (not_committed f only cause)

@@ -18,7 +18,7 @@ use Rattle.cf_points.specs.Known.{Known}
 use Rattle.cf_steps.specs.Answering.{Answers, Reads}
 use Rattle.cf_steps.specs.Good.{IsGood}
 use Rattle.cf_steps.specs.Readings.{whether}
-use Rattle.cf_volume.specs.Calls.{Runs}
+use Rattle.cf_volume.specs.Calls.{IsCause, Runs}
 
 -- what is known of a value, as its fields
 pub seen_at : {D : Type 0} (state : D → State) (v : Volume) {x y : Held D} → x ≡ y → At (state y.disk) y.known v → At (state x.disk) x.known v
@@ -98,3 +98,6 @@ seen_whole {D} e h = ap (λ (x : Held D). x.known.broken) e ∙ h
 
 pub seen_runs : {D : Type 0} (state : D → State) (t : State) {x y : Held D} → x ≡ y → Runs (state x.disk) t → Runs (state y.disk) t
 seen_runs {D} state t e h = subst (λ (x : Held D). Runs (state x.disk) t) e h
+
+pub seen_cause : {D : Type 0} (state : D → State) (t : State) (q : Fail) {x y : Held D} → x ≡ y → IsCause q (state x.disk) t → IsCause q (state y.disk) t
+seen_cause {D} state t q e h = subst (λ (x : Held D). IsCause q (state x.disk) t) e h

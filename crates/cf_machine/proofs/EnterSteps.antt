@@ -1,5 +1,5 @@
 -- Lists of entries as steps of a filter.
-use Rattle.std.proofs.Common.{◌≡◌, inl, inr, Bool, true, false, List, [], ◌∷◌, ◌++◌, refl, sym, ◌∙◌, ap, subst}
+use Rattle.std.proofs.Common.{◌≡◌, ◌≤◌, inl, inr, Bool, true, false, List, [], ◌∷◌, ◌++◌, refl, sym, ◌∙◌, ap, subst}
 use Rattle.std.proofs.lemmas.Bool.{true≢false}
 use Rattle.std.proofs.lemmas.Result.{err_from_is_err_and}
 use Rattle.std.specs.Prelude.{Err, IfErr, IfOk, None, Ok, Result}
@@ -23,7 +23,7 @@ use Rattle.cf_machine.specs.Held.{Desk, Held, desk_of}
 use Rattle.cf_machine.specs.Keeping.{HasKeptPoints, IsKeptVolume}
 use Rattle.cf_machine.specs.Lasting.{IsBetween, Lasts, Moved}
 use Rattle.cf_machine.specs.Lasts.{grows_not, lasts_at, moved_on, no_move}
-use Rattle.cf_machine.specs.Sensing.{Stands}
+use Rattle.cf_machine.specs.Sensing.{Stands, rose_on}
 use Rattle.cf_model.specs.Arrows.{Arrow, then_do, unit}
 use Rattle.cf_model.specs.Blocks.{is_full}
 use Rattle.cf_model.specs.Books.{Book, book_after}
@@ -43,7 +43,7 @@ use Rattle.cf_points.specs.Known.{Known}
 use Rattle.cf_steps.specs.Good.{IsFileIn}
 use Rattle.cf_steps.specs.Listing.{HasRecordsBeside, IsEntry}
 use Rattle.cf_volume.specs.Calls as volume
-use Rattle.cf_volume.specs.Calls.{HasRecords, OnDisk, Runs, StopsOnly}
+use Rattle.cf_volume.specs.Calls.{HasRecords, IsCause, OnDisk, Runs, StopsOnly}
 
 -- What holds of each change of such a list: it needs no cluster, and leaves the book.
 pub record IsPlain (c : Change) : Type 0 where
@@ -219,22 +219,25 @@ module _ {D : Type 0} (state : D → State) (dir : ItemId) (x : Held D) (c : Cha
     stay_lasts s h i left = last_point s.volume h.points i ((crash s.volume h.volume).now i left)
 
     -- it was not put in
-    pub entry_stopped : (k : Known) (e : Desk) (q : Fail) → e ≡ x.desk → ((s : Filter) → Coming state dir x s → P s → StopsOnly q × (may_need_room c s.volume ≡ false))
+    pub entry_stopped : (k : Known) (e : Desk) (q : Fail) → e ≡ x.desk → ((s : Filter) → Coming state dir x s → P s → StopsOnly q × (may_need_room c s.volume ≡ false)) → IsCause q (state x.disk) (state d)
         → Enters state dir Q P (change_with f c) x (Err q) (record { disk = d; known = k; desk = e })
-    entry_stopped k e (No code) same only = record {
+    entry_stopped k e (No code) same only cause = record {
       leads = λ s h p. (
         s,
         ((only s h p).0, stops_plain f c s (may_need_room c s.volume) (only s h p).1),
         stay_moved s h,
-        record {
-          notes = ap (λ (z : Desk). z.notes) (same ∙ h.desk);
-          policy = ap (λ (z : Desk). z.policy) (same ∙ h.desk);
-          connected = ap (λ (z : Desk). z.connected) (same ∙ h.desk);
-          lasts = stay_lasts s h;
-        },
+        (
+          record {
+            notes = ap (λ (z : Desk). z.notes) (same ∙ h.desk);
+            policy = ap (λ (z : Desk). z.policy) (same ∙ h.desk);
+            connected = ap (λ (z : Desk). z.connected) (same ∙ h.desk);
+            lasts = stay_lasts s h;
+          },
+          cause ((only s h p).0),
+        ),
       );
     }
-    entry_stopped k e Memory same only = record { leads = λ s h p. (s, record {}, stay_moved s h, stay_lasts s h) }
+    entry_stopped k e Memory same only cause = record { leads = λ s h p. (s, record {}, stay_moved s h, stay_lasts s h) }
 
 -- nothing was done, for want of memory
 pub enters_lost : {D : Type 0} (state : D → State) (dir : ItemId) (Q : Held D → Filter → Type 0) (P : Filter → Type 0) (f : Arrow Filter (Unit {0})) (x : Held D) → Enters state dir Q P f x (Err Memory) x
@@ -270,6 +273,12 @@ module _ {D : Type 0} (state : D → State) (dir : ItemId) (Q : Held D → Filte
         beside = subst (λ (b : Book). HasRecordsBeside b records (f b)) (sym (is.book s.volume.book)) p.beside;
       })
 
+  -- seen from further back
+  entry_on : (x m y : Held D) (r : Result (Unit {0}) Fail) (t : Filter) → (state x.disk).faults ≤ (state m.disk).faults → AfterEntry state Q m r y t → AfterEntry state Q x r y t
+  entry_on x m y (Ok a) t least h = h
+  entry_on x m y (Err (No code)) t least h = (h.0, rose_on (state x.disk) (state m.disk) (state y.disk) least h.1)
+  entry_on x m y (Err Memory) t least h = h
+
   pub enters_more : (x m y : Held D) (r : Result (Unit {0}) Fail) → Enters state dir (Coming state dir) (λ s. IsReadyEntry dir c s.volume) (one_change c) x (Ok unit) m
       → Enters state dir Q (MayEnter f dir (rest ++ last ∷ []) records) (changes_with f (rest ++ last ∷ [])) m r y
       → Enters state dir Q (MayEnter f dir (c ∷ rest ++ last ∷ []) records) (changes_with f (c ∷ rest ++ last ∷ [])) x r y
@@ -280,13 +289,13 @@ module _ {D : Type 0} (state : D → State) (dir : ItemId) (Q : Held D → Filte
           b.0,
           subst (λ (g : Arrow Filter (Unit {0})). Does (g s) r b.0) (sym (with_more_of f c last rest)) (trees.goes_on (one_change c s) (λ _ t. changes_with f (rest ++ last ∷ []) t) unit a.0 r b.0 a.1 b.1),
           moved_on (state x.disk) (state m.disk) (state y.disk) s.volume a.0.volume b.0.volume a.2 b.2,
-          b.3,
+          entry_on x m y r b.0 a.2.runs.faults b.3,
         );
   }
 
-  after_any : (R : Held D → Filter → Type 0) (e : Fail) (y : Held D) (t : Filter) → AfterEntry {A = Unit {0}} state R (Err e) y t → AfterEntry {A = Unit {0}} state Q (Err e) y t
-  after_any R (No code) y t h = h
-  after_any R Memory y t h = h
+  after_any : (R : Held D → Filter → Type 0) (e : Fail) (x y : Held D) (t : Filter) → AfterEntry {A = Unit {0}} state R x (Err e) y t → AfterEntry {A = Unit {0}} state Q x (Err e) y t
+  after_any R (No code) x y t h = h
+  after_any R Memory x y t h = h
 
   pub enters_stops : (x y : Held D) (e : Fail) → Enters state dir (Coming state dir) (λ s. IsReadyEntry dir c s.volume) (one_change c) x (Err e) y
       → Enters state dir Q (MayEnter f dir (c ∷ rest ++ last ∷ []) records) (changes_with f (c ∷ rest ++ last ∷ [])) x (Err e) y
@@ -296,7 +305,7 @@ module _ {D : Type 0} (state : D → State) (dir : ItemId) (Q : Held D → Filte
           a.0,
           subst (λ (g : Arrow Filter (Unit {0})). Does (g s) (Err e) a.0) (sym (with_more_of f c last rest)) (trees.fails_first (one_change c s) (λ _ t. changes_with f (rest ++ last ∷ []) t) e a.0 a.1),
           a.2,
-          after_any (Coming state dir) e y a.0 a.3,
+          after_any (Coming state dir) e x y a.0 a.3,
         );
   }
 

@@ -96,17 +96,17 @@ comes_in state f dir cs records x s h p = record {
   reads = h.good.reads;
 }
 
-left_as : {D : Type 0} (state : D → State) (r : Result (Unit {0}) Fail) (y : Held D) (t : Filter) → AfterEntry state (Stands state) r y t → After (sense state) r y t
-left_as state (Ok a) y t h = h
-left_as state (Err (No code)) y t h = h
-left_as state (Err Memory) y t h = h
+left_as : {D : Type 0} (state : D → State) (r : Result (Unit {0}) Fail) (x y : Held D) (t : Filter) → AfterEntry state (Stands state) x r y t → After (sense state) x r y t
+left_as state (Ok a) x y t h = h
+left_as state (Err (No code)) x y t h = h
+left_as state (Err Memory) x y t h = h
 
 pub entered : {D : Type 0} (state : D → State) (f : Book → Book) (dir : ItemId) (cs : List Change) (records : List AuxRecord) (x y : Held D) (r : Result (Unit {0}) Fail)
     → Enters state dir (Stands state) (MayEnter f dir cs records) (changes_with f cs) x r y → Answers (sense state) (ReadyListed f dir cs records) (changes_with f cs) x r y
 entered state f dir cs records x y r enters = record {
   leads = λ s h p.
       let may = may_enter f dir cs records s p in
-      let a = enters.leads s (comes_in state f dir cs records x s h may) may in (a.0, a.1, a.2, left_as state r y a.0 a.3);
+      let a = enters.leads s (comes_in state f dir cs records x s h may) may in (a.0, a.1, a.2, left_as state r x y a.0 a.3);
 }
 
 -- whether it finds room

@@ -23,7 +23,7 @@ use Rattle.cf_points.specs.Known.{Known}
 use Rattle.cf_steps.specs.Answering.{Answers}
 use Rattle.cf_steps.specs.Good.{IsGood}
 use Rattle.cf_steps.specs.Readings.{whether}
-use Rattle.cf_volume.specs.Calls.{IsMemory, Runs, StopsOnly}
+use Rattle.cf_volume.specs.Calls.{IsCause, IsMemory, Runs, StopsOnly}
 
 module _ {D : Type 0} (state : D → State) (P : Filter → Type 0) (x : Held D) (d : D) (fair : Fair (state d)) (crash : (v : Volume) → At (state x.disk) x.known v → Leaves (state x.disk) (state d) (StandsLast v)) (runs : Runs (state x.disk) (state d)) where
   one_moved : (s : Filter) (b : Book) → Stands state x s → Moved (state x.disk) (state d) s.volume (record s.volume { book = b })
@@ -60,40 +60,43 @@ module _ {D : Type 0} (state : D → State) (P : Filter → Type 0) (x : Held D)
         );
   }
 
-  pub one_stopped : (f : Filter → Filter) (k : Known) (e : Desk) (q : Fail) → e ≡ x.desk → ((s : Filter) → Stands state x s → StopsOnly q) → Answers (sense state) P (one f) x (Err q) (record { disk = d; known = k; desk = e })
-  one_stopped f k e (No code) same only = record {
+  pub one_stopped : (f : Filter → Filter) (k : Known) (e : Desk) (q : Fail) → e ≡ x.desk → ((s : Filter) → Stands state x s → StopsOnly q) → IsCause q (state x.disk) (state d) → Answers (sense state) P (one f) x (Err q) (record { disk = d; known = k; desk = e })
+  one_stopped f k e (No code) same only cause = record {
     leads = λ s h p. (
       s,
       (only s h, inl refl),
       one_moved s s.volume.book h,
-      record {
-        notes = ap (λ (z : Desk). z.notes) (same ∙ h.desk);
-        policy = ap (λ (z : Desk). z.policy) (same ∙ h.desk);
-        connected = ap (λ (z : Desk). z.connected) (same ∙ h.desk);
-        lasts = one_lasts s h;
-      },
+      (
+        record {
+          notes = ap (λ (z : Desk). z.notes) (same ∙ h.desk);
+          policy = ap (λ (z : Desk). z.policy) (same ∙ h.desk);
+          connected = ap (λ (z : Desk). z.connected) (same ∙ h.desk);
+          lasts = one_lasts s h;
+        },
+        cause (only s h),
+      ),
     );
   }
-  one_stopped f k e Memory same only = record { leads = λ s h p. (s, record {}, one_moved s s.volume.book h, one_lasts s h) }
+  one_stopped f k e Memory same only cause = record { leads = λ s h p. (s, record {}, one_moved s s.volume.book h, one_lasts s h) }
 
   -- want of memory, whatever became of the desk
   pub one_lost : (f : Filter → Filter) (k : Known) (e : Desk) → Answers (sense state) P (one f) x (Err Memory) (record { disk = d; known = k; desk = e })
   one_lost f k e = record { leads = λ s h p. (s, record {}, one_moved s s.volume.book h, one_lasts s h) }
 
   -- at an exit by `?`
-  pub one_stops_by : {A : Type 0} (f : Filter → Filter) (k : Known) (e : Desk) (q : Fail) (r : Result A Fail) → IsErrAnd r (λ z. z ≡ q) → e ≡ x.desk → ((s : Filter) → Stands state x s → StopsOnly q)
+  pub one_stops_by : {A : Type 0} (f : Filter → Filter) (k : Known) (e : Desk) (q : Fail) (r : Result A Fail) → IsErrAnd r (λ z. z ≡ q) → e ≡ x.desk → ((s : Filter) → Stands state x s → StopsOnly q) → IsCause q (state x.disk) (state d)
       → Answers (sense state) P (one f) x (whether r) (record { disk = d; known = k; desk = e })
-  one_stops_by {A} f k e q r is same only =
+  one_stops_by {A} f k e q r is same only cause =
       let p = err_from_is_err_and r is in
-      subst (λ (z : Result A Fail). Answers (sense state) P (one f) x (whether z) (record { disk = d; known = k; desk = e })) (sym (p.1 ∙ ap (λ (z : Fail). Err z) p.2)) (one_stopped f k e q same only)
+      subst (λ (z : Result A Fail). Answers (sense state) P (one f) x (whether z) (record { disk = d; known = k; desk = e })) (sym (p.1 ∙ ap (λ (z : Fail). Err z) p.2)) (one_stopped f k e q same only cause)
 
 -- of a call that reads, whatever it gives
 pub one_read : {D A : Type 0} (state : D → State) (P : Filter → Type 0) (x : Held D) (d : D) (k : Known) (e : Desk) (f : Filter → Filter) (r : Result A Fail) → Fair (state d)
     → ((v : Volume) → At (state x.disk) x.known v → Leaves (state x.disk) (state d) (StandsLast v)) → Runs (state x.disk) (state d) → e ≡ x.desk → OnOk r (k.broken ≡ false) → ((s : Filter) → Stands state x s → P s → OnOk r (At (state d) k (f s).volume))
-    → ((s : Filter) → Stands state x s → desk_of s ≡ desk_of (f s)) → ((s : Filter) → Stands state x s → IfErr r StopsOnly) → ((s : Filter) → Stands state x s → P s → IsRebooked s (f s))
+    → ((s : Filter) → Stands state x s → desk_of s ≡ desk_of (f s)) → ((s : Filter) → Stands state x s → IfErr r StopsOnly) → IfErr r (λ q. IsCause q (state x.disk) (state d)) → ((s : Filter) → Stands state x s → P s → IsRebooked s (f s))
     → Answers (sense state) P (one f) x (whether r) (record { disk = d; known = k; desk = e })
-one_read state P x d k e f (Ok a) fair crash runs same usable at stays only fits = one_done state P x d fair crash runs f k e usable at (λ s h. same ∙ h.desk ∙ stays s h) fits
-one_read state P x d k e f (Err q) fair crash runs same usable at stays only fits = one_stopped state P x d fair crash runs f k e q same only
+one_read state P x d k e f (Ok a) fair crash runs same usable at stays only cause fits = one_done state P x d fair crash runs f k e usable at (λ s h. same ∙ h.desk ∙ stays s h) fits
+one_read state P x d k e f (Err q) fair crash runs same usable at stays only cause fits = one_stopped state P x d fair crash runs f k e q same only cause
 
 -- a step that leaves the state
 pub one_stays : {D : Type 0} (state : D → State) (P : Filter → Type 0) (f : Filter → Filter) (x y : Held D) → y ≡ x → ((s : Filter) → Stands state x s → P s → s ≡ f s) → Answers (sense state) P (one f) x (Ok unit) y
@@ -112,6 +115,11 @@ pub memory_stops : {A : Type 0} (r : Result A Fail) (q : Fail) → IsErrAnd r (�
 memory_stops {A} r q is h =
     let p = err_from_is_err_and r is in
     subst (λ (z : Result A Fail). IfErr z StopsOnly) (sym (p.1 ∙ ap (λ (z : Fail). Err z) (p.2 ∙ memory_is q h))) (record {})
+
+pub memory_causes : {A : Type 0} (s t : State) (r : Result A Fail) (q : Fail) → IsErrAnd r (λ z. z ≡ q) → IsMemory q → IfErr r (λ e. IsCause e s t)
+memory_causes {A} s t r q is h =
+    let p = err_from_is_err_and r is in
+    subst (λ (z : Result A Fail). IfErr z (λ e. IsCause e s t)) (sym (p.1 ∙ ap (λ (z : Fail). Err z) (p.2 ∙ memory_is q h))) (record {})
 
 pub with_memory : {D A : Type 0} (state : D → State) (P : Filter → Type 0) (f : Arrow Filter A) (x y : Held D) (q : Fail) (r : Result A Fail) → IsErrAnd r (λ z. z ≡ q) → IsMemory q → Answers (sense state) P f x (Err Memory) y → Answers (sense state) P f x r y
 with_memory {D} {A} state P f x y q r is only h =

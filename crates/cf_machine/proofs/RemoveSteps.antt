@@ -42,7 +42,7 @@ use Rattle.cf_table.specs.Tables.{row_of}
 use Rattle.cf_table.specs.declared.rows.Row.{Row}
 use Rattle.cf_tree.proofs.Alike.{BothMean, rows_by_id}
 use Rattle.cf_tree.proofs.Walks.{own_id}
-use Rattle.cf_volume.specs.Calls.{Runs, StopsOnly}
+use Rattle.cf_volume.specs.Calls.{IsCause, Runs, StopsOnly}
 
 -- with a tombstone beside
 
@@ -121,21 +121,24 @@ module _ {D : Type 0} (state : D → State) (x : Held D) (id : ItemId) (bury : B
     );
   }
 
-  pub removed_stopped : (k : Known) (e : Desk) (q : Fail) → e ≡ x.desk → ((s : Filter) → Stands state x s → MayGo id i s → StopsOnly q) → Answers (sense state) (MayGo id i) (removed bury i) x (Err q) (record { disk = d; known = k; desk = e })
-  removed_stopped k e (No code) same only = record {
+  pub removed_stopped : (k : Known) (e : Desk) (q : Fail) → e ≡ x.desk → ((s : Filter) → Stands state x s → MayGo id i s → StopsOnly q) → IsCause q (state x.disk) (state d) → Answers (sense state) (MayGo id i) (removed bury i) x (Err q) (record { disk = d; known = k; desk = e })
+  removed_stopped k e (No code) same only cause = record {
     leads = λ s h p. (
       s,
       (only s h p, inl refl),
       remove_moved s s.volume (grows_not s.volume) h,
-      record {
-        notes = ap (λ (z : Desk). z.notes) (same ∙ h.desk);
-        policy = ap (λ (z : Desk). z.policy) (same ∙ h.desk);
-        connected = ap (λ (z : Desk). z.connected) (same ∙ h.desk);
-        lasts = λ m left. last_point s.volume h.points m ((crash s.volume h.volume).now m left);
-      },
+      (
+        record {
+          notes = ap (λ (z : Desk). z.notes) (same ∙ h.desk);
+          policy = ap (λ (z : Desk). z.policy) (same ∙ h.desk);
+          connected = ap (λ (z : Desk). z.connected) (same ∙ h.desk);
+          lasts = λ m left. last_point s.volume h.points m ((crash s.volume h.volume).now m left);
+        },
+        cause (only s h p),
+      ),
     );
   }
-  removed_stopped k e Memory same only = record { leads = λ s h p. (s, record {}, remove_moved s s.volume (grows_not s.volume) h, λ m left. last_point s.volume h.points m ((crash s.volume h.volume).now m left)) }
+  removed_stopped k e Memory same only cause = record { leads = λ s h p. (s, record {}, remove_moved s s.volume (grows_not s.volume) h, λ m left. last_point s.volume h.points m ((crash s.volume h.volume).now m left)) }
 
   pub removed_lost : (k : Known) (e : Desk) → Answers (sense state) (MayGo id i) (removed bury i) x (Err Memory) (record { disk = d; known = k; desk = e })
   removed_lost k e = record { leads = λ s h p. (s, record {}, remove_moved s s.volume (grows_not s.volume) h, λ m left. last_point s.volume h.points m ((crash s.volume h.volume).now m left)) }

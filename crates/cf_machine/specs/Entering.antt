@@ -10,7 +10,7 @@ use Rattle.cf_disk.specs.Disk.{State}
 use Rattle.cf_machine.specs.Held.{Desk, Held, desk_of}
 use Rattle.cf_machine.specs.Keeping.{HasKeptPoints, IsKeptVolume}
 use Rattle.cf_machine.specs.Lasting.{Lasts, Moved}
-use Rattle.cf_machine.specs.Sensing.{Stands, Stopped}
+use Rattle.cf_machine.specs.Sensing.{Rose, Stands, Stopped}
 use Rattle.cf_model.specs.Arrows.{Arrow}
 use Rattle.cf_model.specs.Books.{Book}
 use Rattle.cf_model.specs.Changes.{put_change, why_no_room}
@@ -71,14 +71,14 @@ pub record Coming {D : Type 0} (state : D → State) (dir : ItemId) (x : Held D)
   pub reads : Every (λ w. IsOnFile w.kind s.volume.items w.item) s.waiting.waits
 
 -- what is left, by the result
-abbrev pub AfterEntry : {D A : Type 0} → (D → State) → (Held D → Filter → Type 0) → Result A Fail → Held D → Filter → Type 0
-AfterEntry state Q (Ok a) y t = Q y t
-AfterEntry state Q (Err (No c)) y t = Stopped state y t
-AfterEntry state Q (Err Memory) y t = Lasts (state y.disk) t.volume
+abbrev pub AfterEntry : {D A : Type 0} → (D → State) → (Held D → Filter → Type 0) → Held D → Result A Fail → Held D → Filter → Type 0
+AfterEntry state Q x (Ok a) y t = Q y t
+AfterEntry state Q x (Err (No c)) y t = Stopped state y t × Rose (state x.disk) (state y.disk)
+AfterEntry state Q x (Err Memory) y t = Lasts (state y.disk) t.volume
 
 -- A part of a list from a state between its changes on, where that has the property.
 pub record Enters {D : Type 0} (state : D → State) (dir : ItemId) (Q : Held D → Filter → Type 0) (P : Filter → Type 0) (f : Arrow Filter (Unit {0})) (x : Held D) (r : Result (Unit {0}) Fail) (y : Held D) : Type 0 where
-  pub leads : (s : Filter) → Coming state dir x s → P s → (t : Filter) × Does (f s) r t × Moved (state x.disk) (state y.disk) s.volume t.volume × AfterEntry state Q r y t
+  pub leads : (s : Filter) → Coming state dir x s → P s → (t : Filter) × Does (f s) r t × Moved (state x.disk) (state y.disk) s.volume t.volume × AfterEntry state Q x r y t
 
 -- a volume, and what stands in memory beside it
 abbrev pub held : {D : Type 0} → OnDisk D → Desk → Held D

@@ -14,7 +14,7 @@ ghost use Rattle.cf_model.specs.State.{Volume as model};
 ghost use Rattle.cf_points.specs.At.{At, StandsLast};
 ghost use Rattle.cf_table.specs.Tables.{MeansAll, row_of};
 ghost use Rattle.cf_tree.specs.Trees.{RiseFrom};
-ghost use Rattle.cf_volume.specs.Calls.{IsHere, Runs, StopsOnly};
+ghost use Rattle.cf_volume.specs.Calls.{IsCause, IsHere, Runs, StopsOnly};
 
 use crate::desks::Desk;
 use crate::entries::entries_of;
@@ -72,6 +72,7 @@ pub(crate) fn read_here<D: Disk>(
     ensures bytes { (v : model) (i : Item) → At (D.state volume.old.disk) volume.old.known v → item_of v.items item ≡ Some i → IfOk result (λ b. map Some b ≡ slice_range i.held span.start (span.start + span.len)) }
     ensures ok { (v : model) → At (D.state volume.old.disk) volume.old.known v → OnOk result (At (D.state volume.new.disk) volume.new.known (with_access_to item v)) }
     ensures only { volume.old.known.broken ≡ false → IfErr result StopsOnly }
+    ensures cause { IfErr result (λ e. IsCause e (D.state volume.old.disk) (D.state volume.new.disk)) }
     ensures crash { (v : model) → At (D.state volume.old.disk) volume.old.known v → Leaves (D.state volume.old.disk) (D.state volume.new.disk) (StandsLast v) }
     ensures runs { Runs (D.state volume.old.disk) (D.state volume.new.disk) }
     ensures usable { OnOk result (volume.new.known.broken ≡ false) }

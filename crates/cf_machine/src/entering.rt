@@ -14,7 +14,7 @@ ghost use Rattle.cf_model.specs.Formats.{with_records};
 ghost use Rattle.cf_model.specs.Operations.{changes_with};
 ghost use Rattle.cf_model.specs.State.{Volume as model};
 ghost use Rattle.cf_points.specs.At.{At, StandsLast};
-ghost use Rattle.cf_volume.specs.Calls.{HasRecords, Runs, StopsOnly};
+ghost use Rattle.cf_volume.specs.Calls.{HasRecords, IsCause, Runs, StopsOnly};
 
 use crate::desks::Desk;
 use crate::limits::fits;
@@ -38,6 +38,7 @@ fn put_entry<D: Disk>(volume: &mut Volume<D>, change: &Change) -> Result<Usn, Fa
     ensures ok { (v : model) → At (D.state volume.old.disk) volume.old.known v → OnOk result (At (D.state volume.new.disk) volume.new.known (put_change change.now v)) }
     ensures number { (v : model) → At (D.state volume.old.disk) volume.old.known v → IfOk result (λ n. n ≡ next_number v) }
     ensures only { (v : model) → At (D.state volume.old.disk) volume.old.known v → why_no_room (change.now ∷ []) v ≡ None → volume.old.known.broken ≡ false → IfErr result StopsOnly }
+    ensures cause { IfErr result (λ e. IsCause e (D.state volume.old.disk) (D.state volume.new.disk)) }
     ensures crash { (v : model) → At (D.state volume.old.disk) volume.old.known v → Leaves (D.state volume.old.disk) (D.state volume.new.disk) (StandsLast v) }
     ensures runs { Runs (D.state volume.old.disk) (D.state volume.new.disk) }
     ensures usable { OnOk result (volume.new.known.broken ≡ false) }

@@ -13,7 +13,7 @@ ghost use Rattle.cf_points.specs.At.{At, StandsLast};
 ghost use Rattle.cf_points.specs.Keeping.{AreShortIds};
 ghost use Rattle.cf_steps.specs.Good.{Every};
 ghost use Rattle.cf_table.specs.Means.{Means};
-ghost use Rattle.cf_volume.specs.Calls.{Runs, StopsOnly};
+ghost use Rattle.cf_volume.specs.Calls.{IsCause, Runs, StopsOnly};
 
 use crate::graves::{grave_key, grave_value, is_untargeted};
 use cf_base::{Blob, Change, Fail, ItemId, Memory, Usn};
@@ -73,6 +73,7 @@ pub(crate) fn remove_item<D: Disk>(
     ensures done { (v : model) (i : Item) → At (D.state volume.old.disk) volume.old.known v → item_of v.items item ≡ Some i → (item.0 == 1) ≡ false → AreShortIds v.book.seen → Every (λ t. above (next_number v) t.number ≡ true) v.book.tombstones → OnOk result (At (D.state volume.new.disk) volume.new.known (gone bury item i v)) }
     ensures number { (v : model) → At (D.state volume.old.disk) volume.old.known v → IfOk result (λ n. n ≡ next_number v) }
     ensures only { (v : model) → At (D.state volume.old.disk) volume.old.known v → no_places v 1 ≡ false → volume.old.known.broken ≡ false → IfErr result StopsOnly }
+    ensures cause { IfErr result (λ e. IsCause e (D.state volume.old.disk) (D.state volume.new.disk)) }
     ensures crash { (v : model) → At (D.state volume.old.disk) volume.old.known v → Leaves (D.state volume.old.disk) (D.state volume.new.disk) (StandsLast v) }
     ensures runs { Runs (D.state volume.old.disk) (D.state volume.new.disk) }
     ensures usable { OnOk result (volume.new.known.broken ≡ false) }

@@ -23,7 +23,8 @@ returns-in_err-number-clause-does g c = λ dir f.
     (record { reads_one = g.met.D.Disk.reads_one c.put_entry.new.volume.disk; same_size = g.met.D.Disk.same_size c.put_entry.new.volume.disk })
     c.in_err-number.ensures.crash c.in_err-number.ensures.runs
     (Stands g.D.Disk.state) (MayEnter f dir (c.args.change.now ∷ []) c.args.records.now) c.put_entry.new.volume.known c.args.desk.now c.in_err-number.field-0.0 refl
-    (λ s h p. (c.in_err-number.ensures.only s.volume h.volume p.entries.0.room h.whole, (plain c.args.change.now (listed dir c.args.change.now s.volume p.entries.0.entry)).room s.volume)))
+    (λ s h p. (c.in_err-number.ensures.only s.volume h.volume p.entries.0.room h.whole, (plain c.args.change.now (listed dir c.args.change.now s.volume p.entries.0.entry)).room s.volume))
+    c.in_err-number.ensures.cause)
 
 pub returns-in_err-put_records-clause-does : goal.returns-in_err-put_records-clause-does
 returns-in_err-put_records-clause-does g c = λ dir f.

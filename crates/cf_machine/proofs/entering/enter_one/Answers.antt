@@ -19,7 +19,8 @@ returns-in_err-number-clause-does g c = λ dir.
     (record { reads_one = g.met.D.Disk.reads_one c.put_entry.new.volume.disk; same_size = g.met.D.Disk.same_size c.put_entry.new.volume.disk })
     c.in_err-number.ensures.crash c.in_err-number.ensures.runs
     (Coming g.D.Disk.state dir) (λ s. IsReadyEntry dir c.args.change.now s.volume) c.put_entry.new.volume.known c.args.desk.now c.in_err-number.field-0.0 refl
-    (λ s h p. (c.in_err-number.ensures.only s.volume h.volume p.room h.whole, (plain c.args.change.now (listed dir c.args.change.now s.volume p.entry)).room s.volume)))
+    (λ s h p. (c.in_err-number.ensures.only s.volume h.volume p.room h.whole, (plain c.args.change.now (listed dir c.args.change.now s.volume p.entry)).room s.volume))
+    c.in_err-number.ensures.cause)
 
 pub returns-in_err-note-clause-does : goal.returns-in_err-note-clause-does
 returns-in_err-note-clause-does g c = λ dir.

@@ -2,7 +2,7 @@ use Rattle.std.proofs.Common.{Option, ◌+◌, ◌∙◌, ap, refl, subst, sym}
 use Rattle.cf_base.specs.declared.waits.Cause.TheVariants as cause
 use Rattle.cf_machine.proofs.AnswerSteps.{bytes_found, is_accessed, not_accessed, on_file, read_end}
 use Rattle.cf_machine.proofs.BookSteps.{IsRebooked, accessed_good}
-use Rattle.cf_machine.proofs.DeskSteps.{desk_left, seen_at, seen_desk, seen_leaves, seen_runs, seen_whole}
+use Rattle.cf_machine.proofs.DeskSteps.{desk_left, seen_at, seen_cause, seen_desk, seen_leaves, seen_runs, seen_whole}
 use Rattle.cf_machine.proofs.ReadSteps.{one_done, one_stays, one_stops_by}
 use Rattle.cf_machine.specs.Ends.{IsCutHere}
 use Rattle.cf_machine.specs.Held.{Held, desk_of}
@@ -54,6 +54,7 @@ returns-in_err-bytes-clause-does g c =
     (seen_runs g.D.Disk.state (g.D.Disk.state c.read_here.new.volume.disk) c.self.view_is c.in_err-bytes.ensures.runs)
     (accessed_now (meant c.args.need.now)) c.read_here.new.volume.known c.self.inside.desk c.in_err-bytes.field-0.0 c.from_residual-in_err-bytes.result c.from_residual-in_err-bytes.ensures.1 (seen_desk c.self.view_is)
     (λ s h. c.in_err-bytes.ensures.only (seen_whole c.self.view_is h.whole))
+    (seen_cause g.D.Disk.state (g.D.Disk.state c.read_here.new.volume.disk) c.in_err-bytes.field-0.0 c.self.view_is c.in_err-bytes.ensures.cause)
 
 pub returns-clause-does : goal.returns-clause-does
 returns-clause-does g c =

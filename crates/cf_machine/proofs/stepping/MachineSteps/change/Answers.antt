@@ -2,7 +2,7 @@ use Rattle.std.proofs.Common.{◌++◌, ◌∷◌, [], ◌∙◌, ap, refl}
 use Rattle.cf_base.specs.declared.codes.Fail.TheVariants.{Memory}
 use Rattle.cf_base.specs.declared.notices.Notice.TheVariants as notice
 use Rattle.cf_machine.proofs.ChangeSteps.{not_refused, put_lost, put_stops_by, put_told, suited}
-use Rattle.cf_machine.proofs.DeskSteps.{desk_exit, desk_lost, seen_at, seen_desk, seen_leaves, seen_runs, seen_whole}
+use Rattle.cf_machine.proofs.DeskSteps.{desk_exit, desk_lost, seen_at, seen_cause, seen_desk, seen_leaves, seen_runs, seen_whole}
 use Rattle.cf_machine.proofs.Keepable.{keepable}
 use Rattle.cf_machine.proofs.RoomReads.{fits_book}
 use Rattle.cf_machine.specs.Held.{Desk}
@@ -37,6 +37,7 @@ returns-in_err-number-clause-does g c =
     c.apply.new.self.known c.self.inside.desk c.in_err-number.field-0.0 c.from_residual-in_err-number.result c.from_residual-in_err-number.ensures.1 (seen_desk c.self.view_is)
     (λ s h p. not_refused c.args.change.now s.volume c.self.inside.volume c.apply.new.self c.in_err-number.field-0.0 p.room
     (c.in_err-number.ensures.why s.volume (seen_at g.D.Disk.state s.volume c.self.view_is h.volume) (λ _. keepable s.volume h.kept) (seen_whole c.self.view_is h.whole)))
+    (seen_cause g.D.Disk.state (g.D.Disk.state c.apply.new.self.disk) c.in_err-number.field-0.0 c.self.view_is c.in_err-number.ensures.cause)
 
 pub returns-in_err-note-clause-does : goal.returns-in_err-note-clause-does
 returns-in_err-note-clause-does g c =

@@ -5,7 +5,7 @@ use Rattle.cf_base.specs.declared.ids.WaitId.{WaitId}
 use Rattle.cf_base.specs.declared.waits.End.TheVariants as end
 use Rattle.cf_base.specs.declared.waits.WaitKind.{WaitKind}
 use Rattle.cf_machine.proofs.AnswerSteps.{bytes_found, end_desk, end_unread, ended_desk, ended_rebooked, ended_volume, read_end}
-use Rattle.cf_machine.proofs.DeskSteps.{desk_exit, seen_at, seen_desk, seen_leaves, seen_runs, seen_whole, with_desk}
+use Rattle.cf_machine.proofs.DeskSteps.{desk_exit, seen_at, seen_cause, seen_desk, seen_leaves, seen_runs, seen_whole, with_desk}
 use Rattle.cf_machine.proofs.ReadSteps.{one_done, one_lost, one_stopped}
 use Rattle.cf_machine.specs.Desks.{ended}
 use Rattle.cf_machine.specs.Ends.{IsCutHere}
@@ -58,7 +58,8 @@ returns-in_err-bytes g c =
     (record { reads_one = g.met.D.Disk.reads_one c.read_here.new.volume.disk; same_size = g.met.D.Disk.same_size c.read_here.new.volume.disk })
     (λ v at. seen_leaves g.D.Disk.state (g.D.Disk.state c.read_here.new.volume.disk) (StandsLast v) c.self.view_is (c.in_err-bytes.ensures.crash v (seen_at g.D.Disk.state v c.self.view_is at)))
     (seen_runs g.D.Disk.state (g.D.Disk.state c.read_here.new.volume.disk) c.self.view_is c.in_err-bytes.ensures.runs)
-    (with_ended c.args.ended.now) c.read_here.new.volume.known c.self.inside.desk c.in_err-bytes.field-0.0 (seen_desk c.self.view_is) (λ s h. c.in_err-bytes.ensures.only (seen_whole c.self.view_is h.whole)))
+    (with_ended c.args.ended.now) c.read_here.new.volume.known c.self.inside.desk c.in_err-bytes.field-0.0 (seen_desk c.self.view_is) (λ s h. c.in_err-bytes.ensures.only (seen_whole c.self.view_is h.whole))
+    (seen_cause g.D.Disk.state (g.D.Disk.state c.read_here.new.volume.disk) c.in_err-bytes.field-0.0 c.self.view_is c.in_err-bytes.ensures.cause))
 
 pub returns-in_err-end : goal.returns-in_err-end
 returns-in_err-end g c =

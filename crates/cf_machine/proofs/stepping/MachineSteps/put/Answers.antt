@@ -3,7 +3,7 @@ use Rattle.cf_base.specs.declared.codes.Fail.TheVariants.{Memory}
 use Rattle.std.specs.Prelude.{Ok}
 use Rattle.cf_base.specs.declared.notices.Notice.TheVariants as notice
 use Rattle.cf_machine.proofs.ChangeSteps.{accessed_put, later, not_refused, put_lost, put_stops_by, put_told, suited}
-use Rattle.cf_machine.proofs.DeskSteps.{desk_exit, desk_lost, on_disk, seen_at, seen_desk, seen_leaves, seen_runs, seen_whole}
+use Rattle.cf_machine.proofs.DeskSteps.{desk_exit, desk_lost, on_disk, seen_at, seen_cause, seen_desk, seen_leaves, seen_runs, seen_whole}
 use Rattle.cf_machine.proofs.Keepable.{keepable}
 use Rattle.cf_machine.proofs.ReadSteps.{with_memory}
 use Rattle.cf_machine.proofs.RoomReads.{fits_book}
@@ -42,6 +42,7 @@ returns-in_err-number-clause-does g c =
     c.apply.new.self.known c.self.inside.desk c.in_err-number.field-0.0 c.from_residual-in_err-number.result c.from_residual-in_err-number.ensures.1 (seen_desk c.self.view_is)
     (λ s h p. not_refused c.args.change.now s.volume c.self.inside.volume c.apply.new.self c.in_err-number.field-0.0 p.ready.room
     (c.in_err-number.ensures.why s.volume (seen_at g.D.Disk.state s.volume c.self.view_is h.volume) (λ _. keepable s.volume h.kept) (seen_whole c.self.view_is h.whole)))
+    (seen_cause g.D.Disk.state (g.D.Disk.state c.apply.new.self.disk) c.in_err-number.field-0.0 c.self.view_is c.in_err-number.ensures.cause)
 
 pub returns-then-is_none-clause-does : goal.returns-then-is_none-clause-does
 returns-then-is_none-clause-does g c =
