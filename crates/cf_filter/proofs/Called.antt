@@ -30,28 +30,28 @@ true_false e = cc
 
 module _ {D : Type 0} (state : D → State) where
   -- however a part ended, a restart opens a point of the state
-  pub lasts_after : {A : Type 0} (q : Result A Fail) (x : Held D) (t : Filter) → After (sense state) q x t → Lasts (state x.disk) t.volume
-  lasts_after (Ok a) x t h = (sense state).endures x t h
-  lasts_after (Err (No c)) x t h = h.lasts
-  lasts_after (Err Memory) x t h = h
+  pub lasts_after : {A : Type 0} (q : Result A Fail) (x y : Held D) (t : Filter) → After (sense state) x q y t → Lasts (state y.disk) t.volume
+  lasts_after (Ok a) x y t h = (sense state).endures y t h
+  lasts_after (Err (No c)) x y t h = h.0.lasts
+  lasts_after (Err Memory) x y t h = h
 
   told_as : {A : Type 0} (show : A → Shown) (part : Arrow Filter Shown) (old mid : Held D) (p : Result Shown Fail) (q : Told A)
       → Takes show p q → Answers (sense state) Any part old p mid → Answers (sense state) Any part old (shown_by show q) mid
   told_as show part old mid p (Ok (Ok a)) is h = subst (λ (r : Result Shown Fail). Answers (sense state) Any part old r mid) is h
   told_as show part old mid p (Ok (Err c)) is h = subst (λ (r : Result Shown Fail). Answers (sense state) Any part old r mid) is h
   told_as show part old mid p (Err (No c)) is h = subst (λ (r : Result Shown Fail). Answers (sense state) Any part old r mid) is h
-  told_as show part old mid p (Err Memory) is h = record { leads = λ s i u. let x = h.leads s i u in (x.0, record {}, x.2, lasts_after p mid x.0 x.3) }
+  told_as show part old mid p (Err Memory) is h = record { leads = λ s i u. let x = h.leads s i u in (x.0, record {}, x.2, lasts_after p old mid x.0 x.3) }
 
   pub whole_again : (x : Held D) (t : Filter) → (sense state).means x t → (sense state).means (record x { desk = record x.desk { broken = false } }) t
   whole_again x t h = record { fair = h.fair; volume = h.volume; desk = ap (λ (d : Desk). record d { broken = false }) h.desk; whole = h.whole; good = h.good; kept = h.kept; points = h.points }
 
   -- what stands says nothing of whether the filter is broken, but where the part went through
-  broken_after : {A : Type 0} (show : A → Shown) (q : Told A) (x : Held D) (t : Filter) → After (sense state) (shown_by show q) x t → After (sense state) (shown_by show q) (broken_by (is_stopped q) x) t
+  broken_after : {A : Type 0} (show : A → Shown) (q : Told A) (x y : Held D) (t : Filter) → After (sense state) x (shown_by show q) y t → After (sense state) x (shown_by show q) (broken_by (is_stopped q) y) t
   unfolding broken_by
-  broken_after {A} show (Ok (Ok a)) x t h = whole_again x t h
-  broken_after {A} show (Ok (Err c)) x t h = whole_again x t h
-  broken_after show (Err (No c)) x t h = record { notes = h.notes; policy = h.policy; connected = h.connected; lasts = h.lasts }
-  broken_after show (Err Memory) x t h = h
+  broken_after {A} show (Ok (Ok a)) x y t h = whole_again y t h
+  broken_after {A} show (Ok (Err c)) x y t h = whole_again y t h
+  broken_after show (Err (No c)) x y t h = (record { notes = h.0.notes; policy = h.0.policy; connected = h.0.connected; lasts = h.0.lasts }, h.1)
+  broken_after show (Err Memory) x y t h = h
 
   pub is_broken : (b : Bool) (x y : Held D) → y ≡ broken_by b x → y.desk.broken ≡ b
   unfolding broken_by
@@ -75,7 +75,7 @@ module _ {D : Type 0} (state : D → State) where
   called show part old mid new p q r whole h takes is after =
       let told = told_as show part old mid p q takes h in record {
         broken = λ broken. absurd (true_false (sym broken ∙ whole));
-        does = λ whole. (q, is, subst (λ (y : Held D). Answers (sense state) Any part old (shown_by show q) y) (sym after) (record { leads = λ s i u. let x = told.leads s i u in (x.0, x.1, same_move (is_stopped q) old mid s x.0 x.2, broken_after show q mid x.0 x.3) }), is_broken (is_stopped q) mid new after);
+        does = λ whole. (q, is, subst (λ (y : Held D). Answers (sense state) Any part old (shown_by show q) y) (sym after) (record { leads = λ s i u. let x = told.leads s i u in (x.0, x.1, same_move (is_stopped q) old mid s x.0 x.2, broken_after show q old mid x.0 x.3) }), is_broken (is_stopped q) mid new after);
       }
 
   pub called_with : {A : Type 0} (show : A → Shown) (part : Arrow Filter Shown) (old begun mid new : Held D) (before after stash : List Notice) (p : Result Shown Fail) (q : Told A) (r : Result A Fail)

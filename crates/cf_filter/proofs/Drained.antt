@@ -20,7 +20,7 @@ use Rattle.cf_machine.specs.Held.{Desk, Held}
 use Rattle.cf_machine.specs.Lasting.{Moved}
 use Rattle.cf_filter.specs.PortLaws.{false_true, gone_lasts}
 use Rattle.cf_filter.specs.Porting.{Goes, GoneTo}
-use Rattle.cf_machine.specs.Sensing.{Stands, sense}
+use Rattle.cf_machine.specs.Sensing.{Rose, Stands, rose_on, sense}
 use Rattle.cf_filter.specs.Turning.{IsTurned, shows_end, with_no_own}
 use Rattle.cf_model.specs.Arrows.{Arrow}
 use Rattle.cf_model.specs.Callbacks.{begin_call, result_of}
@@ -56,21 +56,21 @@ callback_none state x ask call gone is = record {
 module _ {D P : Type 0} (state : D → State) (answers : Answering P) where
   -- one callback
 
-  turn_to : (ask : Ask) (p q : P) (y : Held D) (call : Callback) (told : Result (Unit {0}) NoMemory) (r : Result (Unit {0}) Fail) (acts : List Act) (s t : Filter) (broken lost : Bool)
-      → call ≡ callback_of ask s → (is_ok told ≡ true → answers p call acts q) → IsTurned told broken lost r → GoneTo state broken lost acts s y t → TurnTo state answers ask p s r q y t
-  turn_to ask p q y call told (Ok u) acts s t false lost same gives turned gone =
+  turn_to : (ask : Ask) (p q : P) (x y : Held D) (call : Callback) (told : Result (Unit {0}) NoMemory) (r : Result (Unit {0}) Fail) (acts : List Act) (s t : Filter) (broken lost : Bool)
+      → call ≡ callback_of ask s → (is_ok told ≡ true → answers p call acts q) → IsTurned told broken lost r → GoneTo state broken lost acts x s y t → TurnTo state answers ask p x s r q y t
+  turn_to ask p q x y call told (Ok u) acts s t false lost same gives turned gone =
       (acts, gone.0, gone.1, subst (λ (k : Callback). answers p k acts q) same (gives (ap is_ok turned.0)), gone.2)
-  turn_to ask p q y call told (Ok u) acts s t true lost same gives turned gone = false_true (sym turned.1)
-  turn_to ask p q y call told (Err (No c)) acts s t false lost same gives turned gone = false_true turned.1
-  turn_to ask p q y call told (Err (No c)) acts s t true false same gives turned gone =
-      (turned.3, acts, gone.0, gone.1, subst (λ (k : Callback). answers p k acts q) same (gives (ap is_ok turned.0)), gone.2)
-  turn_to ask p q y call told (Err (No c)) acts s t true true same gives turned gone = false_true (sym turned.2)
-  turn_to ask p q y call told (Err Memory) acts s t broken lost same gives turned gone = gone_lasts state broken lost acts s y t gone
+  turn_to ask p q x y call told (Ok u) acts s t true lost same gives turned gone = false_true (sym turned.1)
+  turn_to ask p q x y call told (Err (No c)) acts s t false lost same gives turned gone = false_true turned.1
+  turn_to ask p q x y call told (Err (No c)) acts s t true false same gives turned gone =
+      (turned.3, acts, gone.0, gone.1, subst (λ (k : Callback). answers p k acts q) same (gives (ap is_ok turned.0)), gone.2, gone.3)
+  turn_to ask p q x y call told (Err (No c)) acts s t true true same gives turned gone = false_true (sym turned.2)
+  turn_to ask p q x y call told (Err Memory) acts s t broken lost same gives turned gone = gone_lasts state broken lost acts x s y t gone
 
   pub turned_by : (ask : Ask) (p q : P) (x y : Held D) (call : Callback) (told : Result (Unit {0}) NoMemory) (r : Result (Unit {0}) Fail)
       → Reads (sense state) Any (callback_of ask) x call → ((acts : List Act) × Goes state x acts y × (is_ok told ≡ true → answers p call acts q)) → IsTurned told y.desk.broken y.desk.lost r → Turns state answers ask p x r q y
   turned_by ask p q x y call told r reads does turned = record {
-    leads = λ s h. let g = does.1.leads s h in (g.0, g.1, turn_to ask p q y call told r does.0 s g.0 y.desk.broken y.desk.lost (reads.is s h (record {})) does.2 turned g.2);
+    leads = λ s h. let g = does.1.leads s h in (g.0, g.1, turn_to ask p q x y call told r does.0 s g.0 y.desk.broken y.desk.lost (reads.is s h (record {})) does.2 turned g.2);
   }
 
   pub turn_lost : (ask : Ask) (p : P) (x : Held D) (r : Result (Unit {0}) Fail) → IsErrAnd r (λ y. y ≡ Memory) → Turns state answers ask p x r p x
@@ -88,13 +88,13 @@ module _ {D P : Type 0} (state : D → State) (answers : Answering P) where
   pub drains_out : (n : ℕ) (p : P) (x : Held D) → Drains n state answers p x (Err Memory) p x
   drains_out n p x = record { leads = λ s h. (s, (sense state).stays x s h, (sense state).endures x s h) }
 
-  wider_to : (m n : ℕ) (p q : P) (y : Held D) (s t : Filter) (r : Result (Unit {0}) Fail) → m ≤ n → DrainsTo m state answers p s r q y t → DrainsTo n state answers p s r q y t
-  wider_to m n p q y s t (Ok u) le h = (record { runs = h.0.runs; few = omega (arith, le, h.0.few); drained = h.0.drained }, h.1)
-  wider_to m n p q y s t (Err (No c)) le h = (h.0, record { runs = h.1.runs; few = omega (arith, le, h.1.few); cut = h.1.cut }, h.2)
-  wider_to m n p q y s t (Err Memory) le h = h
+  wider_to : (m n : ℕ) (p q : P) (x y : Held D) (s t : Filter) (r : Result (Unit {0}) Fail) → m ≤ n → DrainsTo m state answers p x s r q y t → DrainsTo n state answers p x s r q y t
+  wider_to m n p q x y s t (Ok u) le h = (record { runs = h.0.runs; few = omega (arith, le, h.0.few); drained = h.0.drained }, h.1)
+  wider_to m n p q x y s t (Err (No c)) le h = (h.0, record { runs = h.1.runs; few = omega (arith, le, h.1.few); cut = h.1.cut }, h.2, h.3)
+  wider_to m n p q x y s t (Err Memory) le h = h
 
   pub drains_wider : (m n : ℕ) (p q : P) (x y : Held D) (r : Result (Unit {0}) Fail) → m ≤ n → Drains m state answers p x r q y → Drains n state answers p x r q y
-  drains_wider m n p q x y r le h = record { leads = λ s i. let d = h.leads s i in (d.0, d.1, wider_to m n p q y s d.0 r le d.2) }
+  drains_wider m n p q x y r le h = record { leads = λ s i. let d = h.leads s i in (d.0, d.1, wider_to m n p q x y s d.0 r le d.2) }
 
   popped : (x y : Held D) (rest : List Ask) (s : Filter) → y ≡ record x { desk = record x.desk { outbox = rest } } → Stands state x s → Stands state y (with_rest rest s)
   popped x y rest s is h =
@@ -108,21 +108,22 @@ module _ {D P : Type 0} (state : D → State) (answers : Answering P) where
   cut_more p s mid ask rest acts after q t [] out does none gives cut = absurd cut
   cut_more p s mid ask rest acts after q t (next ∷ more) out does none gives cut = (ask, rest, out, mid, does, none, after, gives, cut)
 
-  drains_on : (n : ℕ) (p after q : P) (y z : Held D) (ask : Ask) (rest : List Ask) (s mid t : Filter) (r : Result (Unit {0}) Fail) → s.outbox ≡ ask ∷ rest
-      → TurnTo state answers ask p (with_rest rest s) (Ok (record {})) after y mid → DrainsTo n state answers after mid r q z t → DrainsTo (n + 1) state answers p s r q z t
-  drains_on n p after q y z ask rest s mid t (Ok u) out turn more = (
+  drains_on : (n : ℕ) (p after q : P) (x next y z : Held D) (ask : Ask) (rest : List Ask) (s mid t : Filter) (r : Result (Unit {0}) Fail) → s.outbox ≡ ask ∷ rest
+      → (state x.disk).faults ≤ (state y.disk).faults → TurnTo state answers ask p next (with_rest rest s) (Ok (record {})) after y mid → DrainsTo n state answers after y mid r q z t → DrainsTo (n + 1) state answers p x s r q z t
+  drains_on n p after q x next y z ask rest s mid t (Ok u) out least turn more = (
     record { runs = turn.0 ∷ more.0.runs; few = omega (arith, more.0.few); drained = (ask, rest, out, mid, turn.1, turn.2, after, turn.3, more.0.drained) },
     more.1,
   )
-  drains_on n p after q y z ask rest s mid t (Err (No c)) out turn more = (
+  drains_on n p after q x next y z ask rest s mid t (Err (No c)) out least turn more = (
     more.0,
     record { runs = turn.0 ∷ more.1.runs; few = omega (arith, more.1.few); cut = cut_more p s mid ask rest turn.0 after q t more.1.runs out turn.1 turn.2 turn.3 more.1.cut },
     more.2,
+    rose_on (state x.disk) (state y.disk) (state z.disk) least more.3,
   )
-  drains_on n p after q y z ask rest s mid t (Err Memory) out turn more = more
+  drains_on n p after q x next y z ask rest s mid t (Err Memory) out least turn more = more
 
-  turn_stands : (ask : Ask) (p q : P) (y : Held D) (s t : Filter) → TurnTo state answers ask p s (Ok (record {})) q y t → Stands state y t
-  turn_stands ask p q y s t turn = turn.4
+  turn_stands : (ask : Ask) (p q : P) (x y : Held D) (s t : Filter) → TurnTo state answers ask p x s (Ok (record {})) q y t → Stands state y t
+  turn_stands ask p q x y s t turn = turn.4
 
   -- the first, then the others
   pub drains_more : (n : ℕ) (p after q : P) (x next y z : Held D) (ask : Ask) (r : Result (Unit {0}) Fail) → ((rest : List Ask) × (x.desk.outbox ≡ ask ∷ rest) × (next ≡ record x { desk = record x.desk { outbox = rest } }))
@@ -131,13 +132,20 @@ module _ {D P : Type 0} (state : D → State) (answers : Answering P) where
     leads = λ s h.
         let out = sym (ap (λ (d : Desk). d.outbox) h.desk) ∙ some.1 in
         let a = turn.leads (with_rest some.0 s) (popped x next some.0 s some.2 h) in
-        let b = more.leads a.0 (turn_stands ask p after y (with_rest some.0 s) a.0 a.2) in
-        (b.0, (sense state).goes_on x y z s a.0 b.0 (popped_moved x next y some.0 s a.0 some.2 a.1) b.1, drains_on n p after q y z ask some.0 s a.0 b.0 r out a.2 b.2);
+        let b = more.leads a.0 (turn_stands ask p after next y (with_rest some.0 s) a.0 a.2) in
+        let m = popped_moved x next y some.0 s a.0 some.2 a.1 in
+        (b.0, (sense state).goes_on x y z s a.0 b.0 m b.1, drains_on n p after q x next y z ask some.0 s a.0 b.0 r out m.runs.faults a.2 b.2);
   }
 
-  stops_to : (p q : P) (y : Held D) (ask : Ask) (rest : List Ask) (s t : Filter) (e : Fail) → s.outbox ≡ ask ∷ rest → TurnTo state answers ask p (with_rest rest s) (Err e) q y t → DrainsTo 1 state answers p s (Err e) q y t
-  stops_to p q y ask rest s t (No c) out turn = (turn.0, record { runs = turn.1 ∷ []; few = omega arith; cut = (ask, rest, out, turn.2, turn.3, turn.4) }, turn.5)
-  stops_to p q y ask rest s t Memory out turn = turn
+  stops_to : (p q : P) (x next y : Held D) (ask : Ask) (rest : List Ask) (s t : Filter) (e : Fail) → s.outbox ≡ ask ∷ rest → next ≡ record x { desk = record x.desk { outbox = rest } } → TurnTo state answers ask p next (with_rest rest s) (Err e) q y t
+      → DrainsTo 1 state answers p x s (Err e) q y t
+  stops_to p q x next y ask rest s t (No c) out is turn = (
+    turn.0,
+    record { runs = turn.1 ∷ []; few = omega arith; cut = (ask, rest, out, turn.2, turn.3, turn.4) },
+    turn.5,
+    subst (λ (w : Held D). Rose (state w.disk) (state y.disk)) is turn.6,
+  )
+  stops_to p q x next y ask rest s t Memory out is turn = turn
 
   -- the first stops
   drains_stops : (p q : P) (x next y : Held D) (ask : Ask) (e : Fail) → ((rest : List Ask) × (x.desk.outbox ≡ ask ∷ rest) × (next ≡ record x { desk = record x.desk { outbox = rest } }))
@@ -146,7 +154,7 @@ module _ {D P : Type 0} (state : D → State) (answers : Answering P) where
     leads = λ s h.
         let out = sym (ap (λ (d : Desk). d.outbox) h.desk) ∙ some.1 in
         let a = turn.leads (with_rest some.0 s) (popped x next some.0 s some.2 h) in
-        (a.0, popped_moved x next y some.0 s a.0 some.2 a.1, stops_to p q y ask some.0 s a.0 e out a.2);
+        (a.0, popped_moved x next y some.0 s a.0 some.2 a.1, stops_to p q x next y ask some.0 s a.0 e out some.2 a.2);
   }
 
   pub drains_exit : (p q : P) (x next y : Held D) (ask : Ask) (e : Fail) (r : Result (Unit {0}) Fail) → ((rest : List Ask) × (x.desk.outbox ≡ ask ∷ rest) × (next ≡ record x { desk = record x.desk { outbox = rest } }))
@@ -162,7 +170,7 @@ module _ {D P : Type 0} (state : D → State) (answers : Answering P) where
       subst (λ (o : Result Shown Fail). CallsTo state answers part p x s o p y) (sym (q.1 ∙ ap (λ (z : Fail). Err z) q.2)) (by e (subst (λ (o : Result Shown Fail). PartTo state part x s o y) was h))
     where
       by : (f : Fail) → PartTo state part x s (Err f) y → CallsTo state answers part p x s (Err f) p y
-      by (No c) a = (a.1.0, a.0, a.2, a.3, inl (a.1.1, refl))
+      by (No c) a = (a.1.0, a.0, a.2, a.3.0, a.3.1, inl (a.1.1, refl))
       by Memory a = (a.0, a.2, a.3)
 
   pub calls_cut : (part : Arrow Filter Shown) (p q : P) (x mid y : Held D) (s : Filter) (told r : Result Shown Fail) (a : Shown) (e : Fail) → PartTo state part x s told mid → told ≡ Ok a → Drains most state answers p mid (Err e) q y → IsErrAnd r (λ z. z ≡ e)
@@ -171,7 +179,7 @@ module _ {D P : Type 0} (state : D → State) (answers : Answering P) where
       let o = err_from_is_err_and r is in subst (λ (u : Result Shown Fail). CallsTo state answers part p x s u q y) (sym (o.1 ∙ ap (λ (z : Fail). Err z) o.2)) (by e (subst (λ (u : Result Shown Fail). PartTo state part x s u mid) was first) drains)
     where
       by : (f : Fail) → PartTo state part x s (Ok a) mid → Drains most state answers p mid (Err f) q y → CallsTo state answers part p x s (Err f) q y
-      by (No c) b d = let u = d.leads b.0 b.3 in (u.2.0, u.0, (sense state).goes_on x mid y s b.0 u.0 b.2 u.1, u.2.2, inr (a, b.0, b.1, u.2.1))
+      by (No c) b d = let u = d.leads b.0 b.3 in (u.2.0, u.0, (sense state).goes_on x mid y s b.0 u.0 b.2 u.1, u.2.2, rose_on (state x.disk) (state mid.disk) (state y.disk) b.2.runs.faults u.2.3, inr (a, b.0, b.1, u.2.1))
       by Memory b d = let u = d.leads b.0 b.3 in (u.0, (sense state).goes_on x mid y s b.0 u.0 b.2 u.1, u.2)
 
   pub result_shown : (a : Shown) (t : Filter) → shows_end a t.ending ≡ result_of a t

@@ -29,11 +29,11 @@ unfolding broken_by
 same_move state b x y s t m = m
 
 module _ {D A : Type 0} (state : D → State) (P : Filter → Type 0) (step : Arrow Filter (Unit {0})) where
-  after_broken : (r : Result A Fail) (x : Held D) (t : Filter) → After (sense state) (whether r) x t → After (sense state) (whether r) (broken_by (is_err r) x) t
+  after_broken : (r : Result A Fail) (x y : Held D) (t : Filter) → After (sense state) x (whether r) y t → After (sense state) x (whether r) (broken_by (is_err r) y) t
   unfolding broken_by
-  after_broken (Ok a) x t h = whole_again state x t h
-  after_broken (Err (No c)) x t h = record { notes = h.notes; policy = h.policy; connected = h.connected; lasts = h.lasts }
-  after_broken (Err Memory) x t h = h
+  after_broken (Ok a) x y t h = whole_again state y t h
+  after_broken (Err (No c)) x y t h = (record { notes = h.0.notes; policy = h.0.policy; connected = h.0.connected; lasts = h.0.lasts }, h.1)
+  after_broken (Err Memory) x y t h = h
 
   answer_given : (r : Result A Fail) → answer_of (given_as r) ≡ r
   answer_given (Ok a) = refl
@@ -50,7 +50,7 @@ module _ {D A : Type 0} (state : D → State) (P : Filter → Type 0) (step : Ar
       subst (λ (o : Result A Fail). Hands (sense state) P step x o new) (sym same) (record {
         broken = λ broken. false_true (sym whole ∙ broken);
         does = λ whole. (
-          subst (λ (y : Held D). Answers (sense state) P step x (whether first) y) (sym now) (record { leads = λ s i p. let a = h.leads s i p in (a.0, a.1, same_move state (is_err first) x mid s a.0 a.2, after_broken first mid a.0 a.3) }),
+          subst (λ (y : Held D). Answers (sense state) P step x (whether first) y) (sym now) (record { leads = λ s i p. let a = h.leads s i p in (a.0, a.1, same_move state (is_err first) x mid s a.0 a.2, after_broken first x mid a.0 a.3) }),
           is_broken state (is_err first) mid new now,
         );
       })

@@ -32,7 +32,7 @@ module _ {D : Type 0} (state : D → State) where
     leads = λ s h. (
       with_notes (n ∷ []) s,
       (sense state).stays x s h,
-      subst (λ (b : Bool). GoneTo state b x.desk.lost (Noted n ∷ []) s (record x { desk = record x.desk { notes = x.desk.notes ++ n ∷ [] } }) (with_notes (n ∷ []) s)) (sym (ap (λ (d : Desk). d.broken) h.desk))
+      subst (λ (b : Bool). GoneTo state b x.desk.lost (Noted n ∷ []) x s (record x { desk = record x.desk { notes = x.desk.notes ++ n ∷ [] } }) (with_notes (n ∷ []) s)) (sym (ap (λ (d : Desk). d.broken) h.desk))
           (refl, record {}, stands_with state x (record x.desk { notes = x.desk.notes ++ n ∷ [] }) s (with_notes (n ∷ []) s) h refl (ap (λ (d : Desk). record d { notes = d.notes ++ n ∷ [] }) h.desk) (same_good s (with_notes (n ∷ []) s) refl refl refl h.good)),
     );
     still = λ broken. record { broken = broken; disk = refl; lost = λ lost. lost; desk = λ lost. refl };
@@ -46,7 +46,7 @@ module _ {D : Type 0} (state : D → State) where
 
   pub did_goes : (x y : Held D) (op : Operation) (answer : Shown) → x.desk.broken ≡ false → Answers (sense state) Any (execute op) x (Ok answer) y → Goes state x (Did op answer ∷ []) y
   did_goes x y op answer whole e = record {
-    leads = λ s h. let a = e.leads s h (record {}) in (a.0, a.2, subst (λ (b : Bool). GoneTo state b y.desk.lost (Did op answer ∷ []) s y a.0) (sym (ap (λ (d : Desk). d.broken) a.3.desk)) ((a.0, a.1, refl), record {}, a.3));
+    leads = λ s h. let a = e.leads s h (record {}) in (a.0, a.2, subst (λ (b : Bool). GoneTo state b y.desk.lost (Did op answer ∷ []) x s y a.0) (sym (ap (λ (d : Desk). d.broken) a.3.desk)) ((a.0, a.1, refl), record {}, a.3));
     still = λ broken. false_true (sym whole ∙ broken);
   }
 
@@ -58,7 +58,7 @@ module _ {D : Type 0} (state : D → State) where
   stopped_goes : (x mid : Held D) (op : Operation) → x.desk.broken ≡ false → Answers (sense state) Any (execute op) x (Err (No code.Device)) mid → Goes state x (Failed op ∷ []) (stopped_by false mid)
   unfolding stopped_by
   stopped_goes x mid op whole e = record {
-    leads = λ s h. let a = e.leads s h (record {}) in (a.0, a.2, ((a.0, a.1.1, refl), record {}, record { notes = a.3.notes; policy = a.3.policy; connected = a.3.connected; lasts = a.3.lasts }));
+    leads = λ s h. let a = e.leads s h (record {}) in (a.0, a.2, ((a.0, a.1.1, refl), record {}, record { notes = a.3.0.notes; policy = a.3.0.policy; connected = a.3.0.connected; lasts = a.3.0.lasts }, a.3.1));
     still = λ broken. false_true (sym whole ∙ broken);
   }
 
@@ -71,7 +71,7 @@ module _ {D : Type 0} (state : D → State) where
   lost_goes : (x mid : Held D) (op : Operation) (p : Result Shown Fail) → x.desk.broken ≡ false → Answers (sense state) Any (execute op) x p mid → Goes state x [] (stopped_by true mid)
   unfolding stopped_by
   lost_goes x mid op p whole e = record {
-    leads = λ s h. let a = e.leads s h (record {}) in (a.0, a.2, lasts_after state p mid a.0 a.3);
+    leads = λ s h. let a = e.leads s h (record {}) in (a.0, a.2, lasts_after state p x mid a.0 a.3);
     still = λ broken. false_true (sym whole ∙ broken);
   }
 

@@ -10,7 +10,7 @@ use Rattle.cf_filter.specs.Callbacks.{Answering, CalledBack, CutBack, NoneFailed
 use Rattle.cf_filter.specs.Calling.{Told, answer_of, is_stopped, shown_by}
 use Rattle.cf_machine.specs.Held.{Held}
 use Rattle.cf_machine.specs.Lasting.{Lasts, Moved}
-use Rattle.cf_machine.specs.Sensing.{Stands, Stopped, sense}
+use Rattle.cf_machine.specs.Sensing.{Rose, Stands, Stopped, sense}
 use Rattle.cf_model.specs.Arrows.{Arrow}
 use Rattle.cf_model.specs.Callbacks.{begin_call, result_of}
 use Rattle.cf_model.specs.Numbers.{most}
@@ -21,37 +21,39 @@ use Rattle.cf_steps.specs.Answering.{After}
 
 -- one callback
 
-abbrev pub TurnTo : {D P : Type 0} → (D → State) → Answering P → Ask → P → Filter → Result (Unit {0}) Fail → P → Held D → Filter → Type 0
-TurnTo state answers ask p s (Ok u) q y t = (acts : List Act) × Acts s acts t × NoneFailed acts × answers p (callback_of ask s) acts q × Stands state y t
-TurnTo state answers ask p s (Err (No c)) q y t = (c ≡ code.Device) × (acts : List Act) × Acts s acts t × HasFailed acts × answers p (callback_of ask s) acts q × Stopped state y t
-TurnTo state answers ask p s (Err Memory) q y t = Lasts (state y.disk) t.volume
+abbrev pub TurnTo : {D P : Type 0} → (D → State) → Answering P → Ask → P → Held D → Filter → Result (Unit {0}) Fail → P → Held D → Filter → Type 0
+TurnTo state answers ask p x s (Ok u) q y t = (acts : List Act) × Acts s acts t × NoneFailed acts × answers p (callback_of ask s) acts q × Stands state y t
+TurnTo state answers ask p x s (Err (No c)) q y t =
+    (c ≡ code.Device) × (acts : List Act) × Acts s acts t × HasFailed acts × answers p (callback_of ask s) acts q × Stopped state y t × Rose (state x.disk) (state y.disk)
+TurnTo state answers ask p x s (Err Memory) q y t = Lasts (state y.disk) t.volume
 
 pub record Turns {D P : Type 0} (state : D → State) (answers : Answering P) (ask : Ask) (p : P) (x : Held D) (r : Result (Unit {0}) Fail) (q : P) (y : Held D) : Type 0 where
-  pub leads : (s : Filter) → Stands state x s → (t : Filter) × Moved (state x.disk) (state y.disk) s.volume t.volume × TurnTo state answers ask p s r q y t
+  pub leads : (s : Filter) → Stands state x s → (t : Filter) × Moved (state x.disk) (state y.disk) s.volume t.volume × TurnTo state answers ask p x s r q y t
 
 -- all callbacks, at most n
 
-abbrev pub DrainsTo : {D P : Type 0} → ℕ → (D → State) → Answering P → P → Filter → Result (Unit {0}) Fail → P → Held D → Filter → Type 0
-DrainsTo n state answers p s (Ok u) q y t = CalledBack n answers p s q t × Stands state y t
-DrainsTo n state answers p s (Err (No c)) q y t = (c ≡ code.Device) × CutBack n answers p s q t × Stopped state y t
-DrainsTo n state answers p s (Err Memory) q y t = Lasts (state y.disk) t.volume
+abbrev pub DrainsTo : {D P : Type 0} → ℕ → (D → State) → Answering P → P → Held D → Filter → Result (Unit {0}) Fail → P → Held D → Filter → Type 0
+DrainsTo n state answers p x s (Ok u) q y t = CalledBack n answers p s q t × Stands state y t
+DrainsTo n state answers p x s (Err (No c)) q y t = (c ≡ code.Device) × CutBack n answers p s q t × Stopped state y t × Rose (state x.disk) (state y.disk)
+DrainsTo n state answers p x s (Err Memory) q y t = Lasts (state y.disk) t.volume
 
 pub record Drains {D P : Type 0} (n : ℕ) (state : D → State) (answers : Answering P) (p : P) (x : Held D) (r : Result (Unit {0}) Fail) (q : P) (y : Held D) : Type 0 where
-  pub leads : (s : Filter) → Stands state x s → (t : Filter) × Moved (state x.disk) (state y.disk) s.volume t.volume × DrainsTo n state answers p s r q y t
+  pub leads : (s : Filter) → Stands state x s → (t : Filter) × Moved (state x.disk) (state y.disk) s.volume t.volume × DrainsTo n state answers p x s r q y t
 
 -- a call's part and then its callbacks
 
 -- the part leads from a state to one that is left of it
 abbrev pub PartTo : {D : Type 0} → (D → State) → Arrow Filter Shown → Held D → Filter → Result Shown Fail → Held D → Type 0
-PartTo state part x s r y = (t : Filter) × Does (part s) r t × Moved (state x.disk) (state y.disk) s.volume t.volume × After (sense state) r y t
+PartTo state part x s r y = (t : Filter) × Does (part s) r t × Moved (state x.disk) (state y.disk) s.volume t.volume × After (sense state) x r y t
 
--- Of a wait that ended meanwhile the result is its end. Where the part itself is stopped no callback is called.
+-- Of a wait that ended meanwhile the result is its end. Where the part itself is stopped no callback is called. Whatever
+-- stopped the call, a device call failed since it began.
 abbrev pub CallsTo : {D P : Type 0} → (D → State) → Answering P → Arrow Filter Shown → P → Held D → Filter → Result Shown Fail → P → Held D → Type 0
 CallsTo state answers part p x s (Ok b) q y =
     (a : Shown) × (m t : Filter) × Ends (part s) a m × CalledBack most answers p m q t × (b ≡ result_of a t)
     × Moved (state x.disk) (state y.disk) s.volume t.volume × Stands state y (begin_call t)
 CallsTo state answers part p x s (Err (No c)) q y =
-    (c ≡ code.Device) × (t : Filter) × Moved (state x.disk) (state y.disk) s.volume t.volume × Stopped state y t
+    (c ≡ code.Device) × (t : Filter) × Moved (state x.disk) (state y.disk) s.volume t.volume × Stopped state y t × Rose (state x.disk) (state y.disk)
     × ((Stops (part s) t × (q ≡ p)) ⊎ ((a : Shown) × (m : Filter) × Ends (part s) a m × CutBack most answers p m q t))
 CallsTo state answers part p x s (Err Memory) q y = (t : Filter) × Moved (state x.disk) (state y.disk) s.volume t.volume × Lasts (state y.disk) t.volume
 

@@ -10,24 +10,24 @@ use Rattle.cf_filter.specs.Callbacks.{Answering}
 use Rattle.cf_filter.specs.Draining.{CallsBack, CallsTo}
 use Rattle.cf_machine.specs.Held.{Held}
 use Rattle.cf_machine.specs.Lasting.{Lasts, Moved}
-use Rattle.cf_machine.specs.Sensing.{Stands, Stopped}
+use Rattle.cf_machine.specs.Sensing.{Rose, Stands, Stopped}
 use Rattle.cf_model.specs.Arrows.{Arrow}
 use Rattle.cf_model.specs.Callbacks.{calling}
 use Rattle.cf_model.specs.State.{Filter, State}
 use Rattle.cf_model.specs.Trees.{Does, Stops}
 
 -- what is left of a state, by the answer
-abbrev pub LeftBy : {D P : Type 0} → (D → Disk) → (P → State → Type 0) → Result Shown Fail → P → Held D → State → Type 0
-LeftBy state Sees (Ok b) q y z = Stands state y z.filter × Sees q z
-LeftBy state Sees (Err (No c)) q y z = Stopped state y z.filter × Sees q z
-LeftBy state Sees (Err Memory) q y z = Lasts (state y.disk) z.filter.volume
+abbrev pub LeftBy : {D P : Type 0} → (D → Disk) → (P → State → Type 0) → Held D → Result Shown Fail → P → Held D → State → Type 0
+LeftBy state Sees x (Ok b) q y z = Stands state y z.filter × Sees q z
+LeftBy state Sees x (Err (No c)) q y z = Stopped state y z.filter × Sees q z × Rose (state x.disk) (state y.disk)
+LeftBy state Sees x (Err Memory) q y z = Lasts (state y.disk) z.filter.volume
 
 -- The call is one of the definitions, on the whole state.
 pub record IsCalling {D P : Type 0} (state : D → Disk) (Sees : P → State → Type 0) (part : Arrow Filter Shown) (x : Held D) (z : State) (r : Result Shown Fail) (q : P) (y : Held D) : Type 0 where
   pub new : State
   pub does : Does (calling part z) r new
   pub moved : Moved (state x.disk) (state y.disk) z.filter.volume new.filter.volume
-  pub left : LeftBy state Sees r q y new
+  pub left : LeftBy state Sees x r q y new
 
 module _ {D P : Type 0} (state : D → Disk) (answers : Answering P) (Sees : P → State → Type 0) (plays : Plays answers Sees) where
   played_to : (part : Arrow Filter Shown) (p q : P) (x y : Held D) (z : State) (r : Result Shown Fail) → Sees p z → CallsTo state answers part p x z.filter r q y → IsCalling state Sees part x z r q y
@@ -39,15 +39,15 @@ module _ {D P : Type 0} (state : D → Disk) (answers : Answering P) (Sees : P �
         left = (subst (λ (f : Filter). Stands state y f) (sym e.1) h.7, e.2);
       }
   played_to part p q x y z (Err (No c)) sees h =
-      ⊎_elim (λ first. record { new = record z { filter = h.1 }; does = (h.0, stops_calling part z h.1 first.0); moved = h.2; left = (h.3, subst (λ (o : P). Sees o (record z { filter = h.1 })) (sym first.1) (plays.still p z h.1 sees)) })
-      (λ later. by (cut_calling answers Sees plays part p q z later.0 later.1 h.1 sees later.2 later.3)) h.4
+      ⊎_elim (λ first. record { new = record z { filter = h.1 }; does = (h.0, stops_calling part z h.1 first.0); moved = h.2; left = (h.3, subst (λ (o : P). Sees o (record z { filter = h.1 })) (sym first.1) (plays.still p z h.1 sees), h.4) })
+      (λ later. by (cut_calling answers Sees plays part p q z later.0 later.1 h.1 sees later.2 later.3)) h.5
     where
       by : (d : (w : State) × (w.filter ≡ h.1) × Sees q w × Stops (calling part z) w) → IsCalling state Sees part x z (Err (No c)) q y
       by d = record {
         new = d.0;
         does = (h.0, d.3);
         moved = subst (λ (f : Filter). Moved (state x.disk) (state y.disk) z.filter.volume f.volume) (sym d.1) h.2;
-        left = (subst (λ (f : Filter). Stopped state y f) (sym d.1) h.3, d.2);
+        left = (subst (λ (f : Filter). Stopped state y f) (sym d.1) h.3, d.2, h.4);
       }
   played_to part p q x y z (Err Memory) sees h = record { new = record z { filter = h.0 }; does = record {}; moved = h.1; left = h.2 }
 

@@ -1,12 +1,12 @@
 -- Acts of a provider one after the other.
-use Rattle.std.proofs.Common.{◌≡◌, Bool, true, false, List, [], ◌∷◌, ◌++◌, refl, sym, ◌∙◌, ap, subst, append-nil, append_assoc}
+use Rattle.std.proofs.Common.{◌≡◌, ◌≤◌, Bool, true, false, List, [], ◌∷◌, ◌++◌, refl, sym, ◌∙◌, ap, subst, append-nil, append_assoc}
 use Rattle.cf_base.specs.declared.notices.Notice.{Notice}
 use Rattle.cf_disk.specs.Disk.{State}
 use Rattle.cf_machine.specs.Held.{Desk, Held}
 use Rattle.cf_machine.specs.Lasting.{Lasts, Moved}
 use Rattle.cf_filter.specs.Callbacks.{NoneFailed}
 use Rattle.cf_filter.specs.Porting.{Goes, GoneTo, StaysBroken, notes_of}
-use Rattle.cf_machine.specs.Sensing.{Stands, Stopped, sense}
+use Rattle.cf_machine.specs.Sensing.{Rose, Stands, Stopped, rose_on, sense}
 use Rattle.cf_model.specs.Ports.{Act, Acts, Did, Failed, HasFailed, Noted, noted_by}
 use Rattle.cf_model.specs.State.{Filter, Volume, with_notes}
 
@@ -71,14 +71,14 @@ module _ {D : Type 0} (state : D → State) where
   still_lasts e f w u same vol h = subst (λ (z : D). Lasts (state z) u) (sym same) (subst (λ (z : Volume). Lasts (state e) z) (sym vol) h)
 
   -- whatever is left, a restart opens a point of the state
-  pub gone_lasts : (broken lost : Bool) (acts : List Act) (s : Filter) (y : Held D) (t : Filter) → GoneTo state broken lost acts s y t → Lasts (state y.disk) t.volume
-  gone_lasts false lost acts s y t h = (sense state).endures y t h.2
-  gone_lasts true false acts s y t h = h.2.lasts
-  gone_lasts true true acts s y t h = h
+  pub gone_lasts : (broken lost : Bool) (acts : List Act) (x : Held D) (s : Filter) (y : Held D) (t : Filter) → GoneTo state broken lost acts x s y t → Lasts (state y.disk) t.volume
+  gone_lasts false lost acts x s y t h = (sense state).endures y t h.2
+  gone_lasts true false acts x s y t h = h.2.lasts
+  gone_lasts true true acts x s y t h = h
 
   pub goes_nowhere : (x : Held D) → Goes state x [] x
   goes_nowhere x = record {
-    leads = λ s h. (s, (sense state).stays x s h, subst (λ (b : Bool). GoneTo state b x.desk.lost [] s x s) (sym (ap (λ (d : Desk). d.broken) h.desk)) (refl, record {}, h));
+    leads = λ s h. (s, (sense state).stays x s h, subst (λ (b : Bool). GoneTo state b x.desk.lost [] x s x s) (sym (ap (λ (d : Desk). d.broken) h.desk)) (refl, record {}, h));
     still = λ broken. record { broken = broken; disk = refl; lost = λ lost. lost; desk = λ lost. ap (λ (l : List Notice). record x.desk { notes = l }) (sym (append-nil x.desk.notes)) };
   }
 
@@ -97,15 +97,17 @@ module _ {D : Type 0} (state : D → State) where
           ∙ ap (λ (l : List Notice). record x.desk { notes = l }) (append_assoc x.desk.notes (notes_of acts) (notes_of more) ∙ ap (λ (l : List Notice). x.desk.notes ++ l) (sym (notes_both acts more)))
 
   -- after acts of which none failed
-  gone_on : (broken lost : Bool) (acts more : List Act) (s t : Filter) (z : Held D) (u : Filter) → Acts s acts t → NoneFailed acts → GoneTo state broken lost more t z u → GoneTo state broken lost (acts ++ more) s z u
-  gone_on false lost acts more s t z u h none k = (acts_on s acts t more u h none k.0, none_both acts more none k.1, k.2)
-  gone_on true false acts more s t z u h none k = (acts_on s acts t more u h none k.0, failed_later acts more k.1, k.2)
-  gone_on true true acts more s t z u h none k = k
+  gone_on : (broken lost : Bool) (acts more : List Act) (x : Held D) (s : Filter) (y : Held D) (t : Filter) (z : Held D) (u : Filter) → (state x.disk).faults ≤ (state y.disk).faults → Acts s acts t → NoneFailed acts → GoneTo state broken lost more y t z u
+      → GoneTo state broken lost (acts ++ more) x s z u
+  gone_on false lost acts more x s y t z u least h none k = (acts_on s acts t more u h none k.0, none_both acts more none k.1, k.2)
+  gone_on true false acts more x s y t z u least h none k =
+      (acts_on s acts t more u h none k.0, failed_later acts more k.1, k.2, rose_on (state x.disk) (state y.disk) (state z.disk) least k.3)
+  gone_on true true acts more x s y t z u least h none k = k
 
   -- after acts that met Device
-  gone_noted : (lost : Bool) (acts more : List Act) (s t : Filter) (y z : Held D) → z.desk.lost ≡ lost → Acts s acts t → HasFailed acts → Stopped state y t → StaysBroken y more z → GoneTo state true lost (acts ++ more) s z (noted_by more t)
-  gone_noted true acts more s t y z e h failed stopped stays = still_lasts y.disk z.disk t.volume (noted_by more t).volume stays.disk (ap (λ (x : Filter). x.volume) (noted_is more t)) stopped.lasts
-  gone_noted false acts more s t y z e h failed stopped stays =
+  gone_noted : (lost : Bool) (acts more : List Act) (s t : Filter) (x y z : Held D) → z.desk.lost ≡ lost → Acts s acts t → HasFailed acts → Stopped state y t → Rose (state x.disk) (state y.disk) → StaysBroken y more z → GoneTo state true lost (acts ++ more) x s z (noted_by more t)
+  gone_noted true acts more s t x y z e h failed stopped rose stays = still_lasts y.disk z.disk t.volume (noted_by more t).volume stays.disk (ap (λ (x : Filter). x.volume) (noted_is more t)) stopped.lasts
+  gone_noted false acts more s t x y z e h failed stopped rose stays =
       let desk = stays.desk e in let is = noted_is more t in (
         acts_noted s acts t more h failed,
         failed_first acts more failed,
@@ -115,13 +117,14 @@ module _ {D : Type 0} (state : D → State) where
           connected = ap (λ (d : Desk). d.connected) desk ∙ stopped.connected ∙ sym (ap (λ (x : Filter). x.connected) is);
           lasts = still_lasts y.disk z.disk t.volume (noted_by more t).volume stays.disk (ap (λ (x : Filter). x.volume) is) stopped.lasts;
         },
+        subst (λ (d : D). Rose (state x.disk) (state d)) (sym stays.disk) rose,
       )
 
   -- after want of memory
-  gone_lost : (acts : List Act) (s t : Filter) (y z : Held D) (broken lost : Bool) → broken ≡ true → lost ≡ true → z.disk ≡ y.disk → Lasts (state y.disk) t.volume → GoneTo state broken lost acts s z t
-  gone_lost acts s t y z true true b l disk h = still_lasts y.disk z.disk t.volume t.volume disk refl h
-  gone_lost acts s t y z true false b l disk h = false_true l
-  gone_lost acts s t y z false lost b l disk h = false_true b
+  gone_lost : (acts : List Act) (s t : Filter) (x y z : Held D) (broken lost : Bool) → broken ≡ true → lost ≡ true → z.disk ≡ y.disk → Lasts (state y.disk) t.volume → GoneTo state broken lost acts x s z t
+  gone_lost acts s t x y z true true b l disk h = still_lasts y.disk z.disk t.volume t.volume disk refl h
+  gone_lost acts s t x y z true false b l disk h = false_true l
+  gone_lost acts s t x y z false lost b l disk h = false_true b
 
   pub goes_further : (x y z : Held D) (acts more : List Act) → Goes state x acts y → Goes state y more z → Goes state x (acts ++ more) z
   goes_further x y z acts more g h = record {
@@ -129,17 +132,17 @@ module _ {D : Type 0} (state : D → State) where
     still = λ broken. let a = g.still broken in stays_on x y z acts more a (h.still a.broken);
   }
     where
-      by : (s : Filter) → Stands state x s → (t : Filter) → Moved (state x.disk) (state y.disk) s.volume t.volume → (b l : Bool) → y.desk.broken ≡ b → y.desk.lost ≡ l → GoneTo state b l acts s y t
-          → (u : Filter) × Moved (state x.disk) (state z.disk) s.volume u.volume × GoneTo state z.desk.broken z.desk.lost (acts ++ more) s z u
+      by : (s : Filter) → Stands state x s → (t : Filter) → Moved (state x.disk) (state y.disk) s.volume t.volume → (b l : Bool) → y.desk.broken ≡ b → y.desk.lost ≡ l → GoneTo state b l acts x s y t
+          → (u : Filter) × Moved (state x.disk) (state z.disk) s.volume u.volume × GoneTo state z.desk.broken z.desk.lost (acts ++ more) x s z u
       by s i t m false l e f gone =
           let b = h.leads t gone.2 in
-          (b.0, (sense state).goes_on x y z s t b.0 m b.1, gone_on z.desk.broken z.desk.lost acts more s t z b.0 gone.0 gone.1 b.2)
+          (b.0, (sense state).goes_on x y z s t b.0 m b.1, gone_on z.desk.broken z.desk.lost acts more x s y t z b.0 m.runs.faults gone.0 gone.1 b.2)
       by s i t m true false e f gone =
           let stays = h.still e in (
             noted_by more t,
             still_moved x.disk y.disk z.disk s.volume t.volume (noted_by more t).volume stays.disk (ap (λ (w : Filter). w.volume) (noted_is more t)) m,
-            subst (λ (b : Bool). GoneTo state b z.desk.lost (acts ++ more) s z (noted_by more t)) (sym stays.broken) (gone_noted z.desk.lost acts more s t y z refl gone.0 gone.1 gone.2 stays),
+            subst (λ (b : Bool). GoneTo state b z.desk.lost (acts ++ more) x s z (noted_by more t)) (sym stays.broken) (gone_noted z.desk.lost acts more s t x y z refl gone.0 gone.1 gone.2 gone.3 stays),
           )
       by s i t m true true e f gone =
           let stays = h.still e in
-          (t, still_moved x.disk y.disk z.disk s.volume t.volume t.volume stays.disk refl m, gone_lost (acts ++ more) s t y z z.desk.broken z.desk.lost stays.broken (stays.lost f) stays.disk gone)
+          (t, still_moved x.disk y.disk z.disk s.volume t.volume t.volume stays.disk refl m, gone_lost (acts ++ more) s t x y z z.desk.broken z.desk.lost stays.broken (stays.lost f) stays.disk gone)

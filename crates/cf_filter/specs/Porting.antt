@@ -5,7 +5,7 @@ use Rattle.cf_disk.specs.Disk.{State}
 use Rattle.cf_filter.specs.Callbacks.{NoneFailed}
 use Rattle.cf_machine.specs.Held.{Held}
 use Rattle.cf_machine.specs.Lasting.{Lasts, Moved}
-use Rattle.cf_machine.specs.Sensing.{Stands, Stopped}
+use Rattle.cf_machine.specs.Sensing.{Rose, Stands, Stopped}
 use Rattle.cf_model.specs.Ports.{Act, Acts, Did, Failed, HasFailed, Noted}
 use Rattle.cf_model.specs.State.{Filter}
 
@@ -16,11 +16,12 @@ notes_of (Did op answer ∷ acts) = notes_of acts
 notes_of (Failed op ∷ acts) = notes_of acts
 notes_of (Noted n ∷ acts) = n ∷ notes_of acts
 
--- What is left of a state after the acts, by whether the filter is broken and whether memory ran out.
-abbrev pub GoneTo : {D : Type 0} → (D → State) → Bool → Bool → List Act → Filter → Held D → Filter → Type 0
-GoneTo state false lost acts s y t = Acts s acts t × NoneFailed acts × Stands state y t
-GoneTo state true false acts s y t = Acts s acts t × HasFailed acts × Stopped state y t
-GoneTo state true true acts s y t = Lasts (state y.disk) t.volume
+-- What is left of a state after the acts, by whether the filter is broken and whether memory ran out. Where it did not, a
+-- broken filter met a device call that failed.
+abbrev pub GoneTo : {D : Type 0} → (D → State) → Bool → Bool → List Act → Held D → Filter → Held D → Filter → Type 0
+GoneTo state false lost acts x s y t = Acts s acts t × NoneFailed acts × Stands state y t
+GoneTo state true false acts x s y t = Acts s acts t × HasFailed acts × Stopped state y t × Rose (state x.disk) (state y.disk)
+GoneTo state true true acts x s y t = Lasts (state y.disk) t.volume
 
 -- of a broken filter notes alone change
 pub record StaysBroken {D : Type 0} (x : Held D) (acts : List Act) (y : Held D) : Type 0 where
@@ -31,5 +32,5 @@ pub record StaysBroken {D : Type 0} (x : Held D) (acts : List Act) (y : Held D) 
 
 -- These acts lead from the one filter to the other, in each state that it stands for.
 pub record Goes {D : Type 0} (state : D → State) (x : Held D) (acts : List Act) (y : Held D) : Type 0 where
-  pub leads : (s : Filter) → Stands state x s → (t : Filter) × Moved (state x.disk) (state y.disk) s.volume t.volume × GoneTo state y.desk.broken y.desk.lost acts s y t
+  pub leads : (s : Filter) → Stands state x s → (t : Filter) × Moved (state x.disk) (state y.disk) s.volume t.volume × GoneTo state y.desk.broken y.desk.lost acts x s y t
   pub still : x.desk.broken ≡ true → StaysBroken x acts y
