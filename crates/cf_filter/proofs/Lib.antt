@@ -5,4 +5,5 @@ pub mod Drained
 pub mod Handed
 pub mod Ported
 pub mod Provided
+pub mod Recorded
 pub mod Started

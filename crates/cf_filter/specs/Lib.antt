@@ -7,6 +7,7 @@ pub mod Handing
 pub mod Playing
 pub mod PortLaws
 pub mod Porting
+pub mod Recording
 pub mod Showing
 pub mod Starting
 pub mod Turning

@@ -17,6 +17,7 @@ mod placements;
 mod ports;
 mod providing;
 mod reads;
+mod recording;
 mod settings;
 mod standing;
 mod tellings;

@@ -1,0 +1,179 @@
+-- Auxiliary records that are put.
+use Rattle.std.proofs.Common.{◌≡◌, ℕ, Bool, true, false, List, [], ◌∷◌, Option, Some, None, refl, sym, ◌∙◌, ap, subst}
+use Rattle.std.proofs.lemmas.Result.{err_from_is_err_and}
+use Rattle.std.specs.Prelude.{Err, IfOk, Ok, OnOk, Result, is_err}
+use Rattle.std.specs.Result.{IsErrAnd}
+use Rattle.cf_base.specs.declared.answers.AuxRecord.{AuxRecord}
+use Rattle.cf_base.specs.declared.codes.Code.{Code}
+use Rattle.cf_base.specs.declared.codes.Code.TheVariants as code
+use Rattle.cf_base.specs.declared.codes.Fail.{Fail}
+use Rattle.cf_base.specs.declared.codes.Fail.TheVariants.{No}
+use Rattle.cf_base.specs.declared.codes.Fail.TheVariants as fail
+use Rattle.cf_base.specs.declared.memory.Memory.{Memory}
+use Rattle.cf_disk.specs.Disk.{State}
+use Rattle.cf_filter.proofs.Called.{is_broken, whole_again}
+use Rattle.cf_filter.specs.Booking.{with_book_of}
+use Rattle.cf_filter.specs.Calling.{Told, answer_of, broken_by, is_stopped}
+use Rattle.cf_filter.specs.PortLaws.{false_true}
+use Rattle.cf_filter.specs.Recording.{Attempts, HasRoom, PutsRecord, put_outcome, put_told, why_full}
+use Rattle.cf_machine.proofs.BookSteps.{book_lost, book_moved}
+use Rattle.cf_machine.proofs.DeskSteps.{on_disk}
+use Rattle.cf_machine.specs.Entering.{held}
+use Rattle.cf_machine.specs.Held.{Desk, Held}
+use Rattle.cf_machine.specs.Keeping.{IsKeptBook, IsKeptVolume}
+use Rattle.cf_machine.specs.Lasting.{Moved}
+use Rattle.cf_machine.specs.Lasts.{lasts_at}
+use Rattle.cf_machine.specs.Sensing.{Stands, sense}
+use Rattle.cf_model.specs.Arrows.{Arrow, attempt, one, outcome, unless_done}
+use Rattle.cf_model.specs.Books.{Book}
+use Rattle.cf_model.specs.Changes.{next_number}
+use Rattle.cf_model.specs.Images.{table_full}
+use Rattle.cf_model.specs.State.{Filter, Volume}
+use Rattle.cf_model.specs.Trees.{Ends}
+use Rattle.cf_model.specs.Words.{first_of}
+use Rattle.cf_points.specs.At.{At}
+use Rattle.cf_points.specs.Holding.{FitsTable}
+use Rattle.cf_steps.specs.Answering.{Answers}
+use Rattle.cf_volume.specs.Calls.{HasRecords, OnDisk, WhyAux, put_record}
+
+kept_with : (v : Volume) (b : Book) → FitsTable v.items b → IsKeptBook (next_number v) v.items b → IsKeptVolume v → IsKeptVolume (record v { book = b })
+kept_with v b fits book h = record {
+  good = record { tree = h.good.tree; opened = h.good.opened; sound = h.good.sound; small = h.good.small; later = h.good.later; below = h.good.below; pins = h.good.pins; few = fits.few; short = fits.short };
+  items = h.items;
+  given = h.given;
+  book = book;
+}
+
+-- why a record was not put
+full_of : {D : Type 0} (v : Volume) (b : Book) (old new : OnDisk D) (r : Result (Unit {0}) Fail) → r ≡ Err (No code.TableFull) → WhyAux v b old r new → (table_full v.items b ≡ true) × (new ≡ old)
+full_of {D} v b old new r is h =
+    let w : (code.TableFull ≡ code.TableFull) × (table_full v.items b ≡ true) × (new ≡ old) = subst (λ (q : Result (Unit {0}) Fail). WhyAux v b old q new) is h in
+    (w.1, w.2)
+
+module _ {D : Type 0} (state : D → State) (key : List ℕ) (value : Option (List ℕ)) (f : Book → Book) (old new : OnDisk D) (e : Desk) where
+  -- by the records that are known
+  as_known : (s : Filter) → Stands state (held old e) s → PutsRecord key value f s → HasRecords s.volume.book (put_record key value old.known.records) (f s.volume.book)
+  as_known s h p = subst (λ (rs : List AuxRecord). HasRecords s.volume.book (put_record key value rs) (f s.volume.book)) (sym h.volume.now.records) p.has
+
+  done_by : (o : Option Code) (s : Filter) → o ≡ None → Ends (unless_done (one (with_book_of f)) o s) None (with_book_of f s)
+  done_by o s none = subst (λ (c : Option Code). Ends (unless_done (one (with_book_of f)) c s) None (with_book_of f s)) (sym none) (refl, refl)
+
+  full_by : (o : Option Code) (s : Filter) → o ≡ Some code.TableFull → Ends (unless_done (one (with_book_of f)) o s) (Some code.TableFull) s
+  full_by o s full = subst (λ (c : Option Code). Ends (unless_done (one (with_book_of f)) c s) (Some code.TableFull) s) (sym full) (refl, refl)
+
+  record_put : new.disk ≡ old.disk → new.known.broken ≡ false
+      → ((v : Volume) (b : Book) → At (state old.disk) old.known v → HasRecords v.book (put_record key value old.known.records) b → At (state new.disk) new.known (record v { book = b }))
+      → ((v : Volume) (b : Book) → At (state old.disk) old.known v → HasRecords v.book (put_record key value old.known.records) b → old.known.broken ≡ false → table_full v.items b ≡ false)
+      → Answers (sense state) (PutsRecord key value f) (attempt (why_full f) (one (with_book_of f))) (held old e) (Ok None) (held new e)
+  record_put same usable ok why = subst (λ (d : D). Answers (sense state) (PutsRecord key value f) (attempt (why_full f) (one (with_book_of f))) (held old e) (Ok None) (record { disk = d; known = new.known; desk = e })) (sym same) (record {
+    leads = λ s h p.
+        let has = as_known s h p in
+        let now = on_disk state new.known (with_book_of f s).volume same (ok s.volume (f s.volume.book) h.volume has) in
+        let after : IsKeptVolume (with_book_of f s).volume = kept_with s.volume (f s.volume.book) now.now.fits (p.kept h.kept.book) h.kept in (
+          with_book_of f s,
+          done_by (why_full f s) s (ap (λ (t : Bool). first_of ((t, code.TableFull) ∷ [])) (why s.volume (f s.volume.book) h.volume has h.whole)),
+          book_moved (state old.disk) s.volume (f s.volume.book) (lasts_at (state old.disk) old.known s.volume h.fair h.volume h.points),
+          record {
+            fair = h.fair;
+            volume = now;
+            desk = h.desk;
+            whole = usable;
+            good = record { volume = after.good; files = h.good.files; numbered = h.good.numbered; reads = h.good.reads };
+            kept = after;
+            points = h.points;
+          },
+        );
+  })
+
+  module _ (full : (v : Volume) (b : Book) → At (state old.disk) old.known v → HasRecords v.book (put_record key value old.known.records) b → old.known.broken ≡ false → (table_full v.items b ≡ true) × (new ≡ old)) where
+    record_full : Answers (sense state) (PutsRecord key value f) (attempt (why_full f) (one (with_book_of f))) (held old e) (Ok (Some code.TableFull)) (held new e)
+    record_full = record {
+      leads = λ s h p.
+          let w = full s.volume (f s.volume.book) h.volume (as_known s h p) h.whole in (
+            s,
+            full_by (why_full f s) s (ap (λ (t : Bool). first_of ((t, code.TableFull) ∷ [])) w.0),
+            subst (λ (o : OnDisk D). Moved (state old.disk) (state o.disk) s.volume s.volume) (sym w.1) ((sense state).stays (held old e) s h),
+            subst (λ (o : OnDisk D). Stands state (held o e) s) (sym w.1) h,
+          );
+    }
+
+    record_same : (s : Filter) → Stands state (held old e) s → PutsRecord key value f s → held new e ≡ held old e
+    record_same s h p = let w = full s.volume (f s.volume.book) h.volume (as_known s h p) h.whole in ap (λ (o : OnDisk D). held o e) w.1
+
+  record_lost : new.disk ≡ old.disk → Answers (sense state) (PutsRecord key value f) (attempt (why_full f) (one (with_book_of f))) (held old e) (Err fail.Memory) (held new e)
+  record_lost same = book_lost state (PutsRecord key value f) (held old e) (held new e) new.known e (λ j. record { disk = same j; known = new.known; desk = e }) (attempt (why_full f) (one (with_book_of f)))
+
+  module _ (r : Result (Unit {0}) Fail) (why : (v : Volume) (b : Book) → At (state old.disk) old.known v → HasRecords v.book (put_record key value old.known.records) b → old.known.broken ≡ false → WhyAux v b old r new) where
+    pub record_told : (q : Result Bool Memory) → HasRoom r q → new.disk ≡ old.disk → OnOk r (new.known.broken ≡ false)
+        → ((v : Volume) (b : Book) → At (state old.disk) old.known v → HasRecords v.book (put_record key value old.known.records) b → OnOk r (At (state new.disk) new.known (record v { book = b })))
+        → Answers (sense state) (PutsRecord key value f) (attempt (why_full f) (one (with_book_of f))) (held old e) (put_outcome q) (held new e)
+    record_told (Ok true) is same usable ok =
+        record_put same (subst (λ (x : Result (Unit {0}) Fail). OnOk x (new.known.broken ≡ false)) is usable)
+        (λ v b at has. subst (λ (x : Result (Unit {0}) Fail). OnOk x (At (state new.disk) new.known (record v { book = b }))) is (ok v b at has))
+        (λ v b at has whole. subst (λ (x : Result (Unit {0}) Fail). WhyAux v b old x new) is (why v b at has whole))
+    record_told (Ok false) is same usable ok = record_full (λ v b at has whole. full_of v b old new r is (why v b at has whole))
+    record_told (Err m) is same usable ok = record_lost same
+
+    pub record_stays : (q : Result Bool Memory) → HasRoom r q → (s : Filter) → Stands state (held old e) s → PutsRecord key value f s → IfOk q (λ put. put ≡ false → held new e ≡ held old e)
+    record_stays (Ok true) is s h p = λ bad. false_true (sym bad)
+    record_stays (Ok false) is s h p = λ none. record_same (λ v b at has whole. full_of v b old new r is (why v b at has whole)) s h p
+    record_stays (Err m) is s h p = record {}
+
+-- a call, from its parts
+
+-- as another sees the machine inside
+pub seen_same : {D : Type 0} (state : D → State) (P : Filter → Type 0) {x y : Held D} (first : Result Bool Memory) (mid : Held D) → x ≡ y → ((s : Filter) → Stands state x s → P s → IfOk first (λ put. put ≡ false → mid ≡ x)) → (s : Filter) → Stands state y s → P s → IfOk first (λ put. put ≡ false → mid ≡ y)
+seen_same {D} state P {x} {y} first mid same h = subst (λ (z : Held D). (s : Filter) → Stands state z s → P s → IfOk first (λ put. put ≡ false → mid ≡ z)) same h
+
+abbrev is_refused : Result (Option Code) Fail → Bool
+is_refused (Ok (Some c)) = true
+is_refused (Ok None) = false
+is_refused (Err e) = false
+
+module _ {D : Type 0} (state : D → State) (P : Filter → Type 0) (why : Filter → Option Code) (step : Arrow Filter (Unit {0})) where
+  ended : (first : Result Bool Memory) (x mid : Held D) → Answers (sense state) P (attempt why step) x (put_outcome first) mid → Answers (sense state) P (attempt why step) x (put_outcome first) (broken_by (is_stopped (put_told first)) mid)
+  unfolding broken_by
+  ended (Ok true) x mid h = record { leads = λ s i p. let a = h.leads s i p in (a.0, a.1, a.2, whole_again state mid a.0 a.3) }
+  ended (Ok false) x mid h = record { leads = λ s i p. let a = h.leads s i p in (a.0, a.1, a.2, whole_again state mid a.0 a.3) }
+  ended (Err e) x mid h = record { leads = λ s i p. let a = h.leads s i p in (a.0, a.1, a.2, a.3) }
+
+  outcome_put : (first : Result Bool Memory) → outcome (answer_of (put_told first)) ≡ put_outcome first
+  outcome_put (Ok true) = refl
+  outcome_put (Ok false) = refl
+  outcome_put (Err e) = refl
+
+  stopped_put : (first : Result Bool Memory) → is_stopped (put_told first) ≡ is_err (put_outcome first)
+  stopped_put (Ok true) = refl
+  stopped_put (Ok false) = refl
+  stopped_put (Err e) = refl
+
+  still : (first : Result Bool Memory) (x mid : Held D) (c : Code) → x.desk.broken ≡ false → IfOk first (λ put. put ≡ false → mid ≡ x) → put_outcome first ≡ Ok (Some c) → broken_by (is_stopped (put_told first)) mid ≡ x
+  unfolding broken_by
+  still (Ok true) x mid c whole same refused = false_true (ap is_refused refused)
+  still (Ok false) x mid c whole same refused =
+      ap (λ (y : Held D). record y { desk = record y.desk { broken = false } }) (same refl)
+      ∙ ap (λ (b : Bool). record x { desk = record x.desk { broken = b } }) (sym whole)
+  still (Err e) x mid c whole same refused = false_true (ap is_refused refused)
+
+  pub attempted : (x mid new : Held D) (first : Result Bool Memory) (r : Result (Unit {0}) Fail) (q : Told (Unit {0})) → x.desk.broken ≡ false → Answers (sense state) P (attempt why step) x (put_outcome first) mid
+      → ((s : Filter) → Stands state x s → P s → IfOk first (λ put. put ≡ false → mid ≡ x)) → q ≡ put_told first → r ≡ answer_of q → new ≡ broken_by (is_stopped q) mid → Attempts (sense state) P why step x r new
+  attempted x mid new first r q whole h stays gives is after =
+      let same : outcome r ≡ put_outcome first = ap (λ (o : Result (Unit {0}) Fail). outcome o) (is ∙ ap (λ (o : Told (Unit {0})). answer_of o) gives) ∙ outcome_put first in
+      let now : new ≡ broken_by (is_stopped (put_told first)) mid = after ∙ ap (λ (o : Told (Unit {0})). broken_by (is_stopped o) mid) gives in record {
+        broken = λ broken. false_true (sym whole ∙ broken);
+        does = λ usable. (
+          subst (λ (o : Result (Option Code) Fail). Answers (sense state) P (attempt why step) x o new) (sym same)
+              (subst (λ (y : Held D). Answers (sense state) P (attempt why step) x (put_outcome first) y) (sym now) (ended first x mid h)),
+          is_broken state (is_stopped (put_told first)) mid new now ∙ stopped_put first ∙ ap (λ (o : Result (Option Code) Fail). is_err o) (sym same),
+        );
+        stays = λ usable s i p c refused. now ∙ still first x mid c whole (stays s i p) (sym same ∙ refused);
+      }
+
+  -- a call of a broken filter
+  pub attempted_not : (old new : Held D) (e : Fail) (r : Result (Unit {0}) Fail) → e ≡ No code.Broken → old.desk.broken ≡ true → IsErrAnd r (λ y. y ≡ e) → new ≡ old → Attempts (sense state) P why step old r new
+  attempted_not old new e r is broken err same =
+      let o = err_from_is_err_and r err in record {
+        broken = λ h. (o.1 ∙ ap (λ (y : Fail). Err y) (o.2 ∙ is), same);
+        does = λ whole. false_true (sym whole ∙ broken);
+        stays = λ whole. false_true (sym whole ∙ broken);
+      }

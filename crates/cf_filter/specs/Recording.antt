@@ -1,0 +1,53 @@
+-- Auxiliary records that an engine puts.
+use Rattle.std.specs.Prelude.{◌≡◌, ℕ, Bool, true, false, List, [], ◌∷◌, Option, Some, None, Result, Ok, Err, is_err}
+use Rattle.cf_base.specs.declared.codes.Code.{Code}
+use Rattle.cf_base.specs.declared.codes.Code.TheVariants as code
+use Rattle.cf_base.specs.declared.codes.Fail.{Fail}
+use Rattle.cf_base.specs.declared.codes.Fail.TheVariants as fail
+use Rattle.cf_base.specs.declared.memory.Memory.{Memory}
+use Rattle.cf_filter.specs.Calling.{Told}
+use Rattle.cf_machine.specs.Held.{Held}
+use Rattle.cf_machine.specs.Keeping.{IsKeptBook}
+use Rattle.cf_model.specs.Arrows.{Arrow, attempt, outcome, unit}
+use Rattle.cf_model.specs.Books.{Book, aux_records}
+use Rattle.cf_model.specs.Changes.{next_number}
+use Rattle.cf_model.specs.Images.{table_full}
+use Rattle.cf_model.specs.State.{Filter}
+use Rattle.cf_model.specs.Words.{first_of}
+use Rattle.cf_steps.specs.Answering.{Answers, Sense}
+use Rattle.cf_volume.specs.Calls.{HasRecords, put_record}
+
+-- The new book has this record in place of the one with its key, or none with the key, and all else as before. It is one that
+-- a kept volume may have where the old one is.
+pub record PutsRecord (key : List ℕ) (value : Option (List ℕ)) (f : Book → Book) (s : Filter) : Type 0 where
+  pub has : HasRecords s.volume.book (put_record key value (aux_records s.volume.book)) (f s.volume.book)
+  pub kept : IsKeptBook (next_number s.volume) s.volume.items s.volume.book → IsKeptBook (next_number s.volume) s.volume.items (f s.volume.book)
+
+-- there is no room for the new book
+abbrev pub why_full : (Book → Book) → Filter → Option Code
+why_full f s = first_of ((table_full s.volume.items (f s.volume.book), code.TableFull) ∷ [])
+
+-- whether there was room, by what the volume answered; all that is no full table counts as want of memory
+abbrev pub HasRoom : Result (Unit {0}) Fail → Result Bool Memory → Type 0
+HasRoom r (Ok true) = r ≡ Ok unit
+HasRoom r (Ok false) = r ≡ Err (fail.No code.TableFull)
+HasRoom r (Err e) = Unit {0}
+
+-- as a call tells it
+abbrev pub put_told : Result Bool Memory → Told (Unit {0})
+put_told (Ok true) = Ok (Ok unit)
+put_told (Ok false) = Ok (Err code.TableFull)
+put_told (Err e) = Err fail.Memory
+
+-- and as a step does
+abbrev pub put_outcome : Result Bool Memory → Result (Option Code) Fail
+put_outcome (Ok true) = Ok None
+put_outcome (Ok false) = Ok (Some code.TableFull)
+put_outcome (Err e) = Err fail.Memory
+
+-- After a call that was stopped it is refused as Broken, and changes nothing. Else, where the state has the property, it is one
+-- step, or is refused exactly for that reason and changes nothing. It breaks the filter exactly where it is stopped.
+pub record Attempts {D : Type 0} (S : Sense (Held D)) (P : Filter → Type 0) (why : Filter → Option Code) (step : Arrow Filter (Unit {0})) (old : Held D) (r : Result (Unit {0}) Fail) (new : Held D) : Type 0 where
+  pub broken : old.desk.broken ≡ true → (r ≡ Err (fail.No code.Broken)) × (new ≡ old)
+  pub does : old.desk.broken ≡ false → Answers S P (attempt why step) old (outcome r) new × (new.desk.broken ≡ is_err (outcome r))
+  pub stays : old.desk.broken ≡ false → (s : Filter) → S.means old s → P s → (c : Code) → outcome r ≡ Ok (Some c) → new ≡ old
