@@ -35,10 +35,10 @@ sees_still : (plan : List (Bool × Operation)) (z : State) (f : Filter) → Sees
 sees_still plan z f h = record { mode = h.mode; power = h.power; planned = h.planned; running = h.running }
 
 module _ {D : Type 0} (state : D → Disk) where
-  left_to : (r : Result Shown Fail) (plan : List (Bool × Operation)) (y : Held D) (z : State) (t : Filter) → Sees plan z → After (sense state) r y t → LeftTo state r plan y (with_filter t z)
-  left_to (Ok b) plan y z t sees h = (h, sees_still plan z t sees)
-  left_to (Err (No c)) plan y z t sees h = (h, sees_still plan z t sees)
-  left_to (Err Memory) plan y z t sees h = record {}
+  left_to : (r : Result Shown Fail) (plan : List (Bool × Operation)) (x y : Held D) (z : State) (t : Filter) → Sees plan z → After (sense state) x r y t → LeftTo state r plan y (with_filter t z)
+  left_to (Ok b) plan x y z t sees h = (h, sees_still plan z t sees)
+  left_to (Err (No c)) plan x y z t sees h = (h.0, sees_still plan z t sees)
+  left_to (Err Memory) plan x y z t sees h = record {}
 
   sized_left : (x y : Held D) (ns : List Notice) (v : Filter) (t : Filter) → IsSized (state x.disk) v.volume → Moved (state (noted [] x).disk) (state (noted ns y).disk) v.volume t.volume → IsSized (state y.disk) t.volume
   unfolding noted
@@ -55,7 +55,7 @@ module _ {D : Type 0} (state : D → Disk) where
         new = with_filter d.0 z;
         does = subst (λ (p : Tree State Shown). Does p r (with_filter d.0 z)) (sym (is z mode)) (filter_in_whole part z r d.0 d.1);
         sized = sized_left x y ns z.filter d.0 sized d.2;
-        left = left_to r plan (noted ns y) z d.0 (begun_sees plan s mode power planned) d.3;
+        left = left_to r plan (noted [] x) (noted ns y) z d.0 (begun_sees plan s mode power planned) d.3;
       }
 
   was_broken : (x : Held D) → (noted [] x).desk.broken ≡ x.desk.broken

@@ -103,10 +103,10 @@ scripted_plays = record {
 }
 
 module _ {D : Type 0} (state : D → Disk) where
-  left_to : (r : Result Shown Fail) (q : List (Bool × Operation)) (y : Held D) (z : State) → LeftBy state Sees r q y z → LeftTo state r q y z
-  left_to (Ok b) q y z h = h
-  left_to (Err (No c)) q y z h = h
-  left_to (Err Memory) q y z h = record {}
+  left_to : (r : Result Shown Fail) (q : List (Bool × Operation)) (x y : Held D) (z : State) → LeftBy state Sees x r q y z → LeftTo state r q y z
+  left_to (Ok b) q x y z h = h
+  left_to (Err (No c)) q x y z h = (h.0, h.1)
+  left_to (Err Memory) q x y z h = record {}
 
   sized_left : (x y : Held D) (ns : List Notice) (v t : Filter) → IsSized (state x.disk) v.volume → Moved (state (noted [] x).disk) (state (noted ns y).disk) v.volume t.volume → IsSized (state y.disk) t.volume
   unfolding noted
@@ -130,7 +130,7 @@ module _ {D : Type 0} (state : D → Disk) where
         new = d.new;
         does = subst (λ (p : Tree State Shown). Does p r d.new) (sym (is z mode)) d.does;
         sized = sized_left x y ns z.filter d.new.filter sized d.moved;
-        left = left_to r left (noted ns y) d.new d.left;
+        left = left_to r left (noted [] x) (noted ns y) d.new d.left;
       }
 
   provides_by : {A : Type 0} (e : Event) (part : Arrow Filter Shown) (show : A → Shown) (plan left : List (Bool × Operation)) (ns : List Notice) (x y : Held D) (r : Result A Fail) → IsCall e
