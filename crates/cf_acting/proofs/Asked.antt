@@ -3,6 +3,7 @@ use Rattle.std.proofs.Common.{◌≡◌, Bool, true, false, List, [], refl, sym,
 use Rattle.std.specs.Prelude.{Result, Ok, Err}
 use Rattle.cf_acting.specs.Answered.{answered_by, showing}
 use Rattle.cf_acting.specs.Meaning.{IsOn, OnBy, hushed}
+use Rattle.cf_acting.specs.Pasts.{Past}
 use Rattle.cf_acting.specs.Stepped.{SteppedTo, Steps}
 use Rattle.cf_acting.proofs.Called.{comes_by}
 use Rattle.cf_acting.proofs.Finished.{Comes, IsCall, finished, refused_as_broken}
@@ -66,31 +67,31 @@ Hush f = f.notes ≡ []
 module _ {D : Type 0} (state : D → Disk) where
   asks_by : {A : Type 0} (e : Event) (part : Arrow Filter Shown) (show : A → Shown) (plan : List (Bool × Operation)) (x : Held D) (r : Result A Fail) → IsCall e → NeverStops part
       → ((z : State) → z.mode ≡ InFilter → event_now e z ≡ in_filter part z) → Asks (sense state) show part x r → Steps (IsOn state) e (record { filter = x; provider = plan }) (answered_by (showing show r) []) (record { filter = x; provider = plan })
-  asks_by {A} e part show plan x r call never is asks = record { leads = λ s on. by s on x.desk.broken refl on.is }
+  asks_by {A} e part show plan x r call never is asks = record { leads = λ past s on. by past s on x.desk.broken refl on.is }
     where
-      comes : (s : State) → IsOn state (record { filter = x; provider = plan }) s → s.power ≡ On → s.plan ≡ plan → Stands state x (hushed s.filter) → (w : Result Shown Fail) → Answers (sense state) Any part x w x → Comes state e s w plan [] x
-      comes s on power planned stands w answers =
-          comes_by state e part w plan [] x x s is (subst (λ (y : Held D). Answers (sense state) Any part y w y) (sym (noted_none state x on.quiet)) answers) on.mode power planned on.quiet on.sized stands
+      comes : (past : Past) (s : State) → IsOn state past (record { filter = x; provider = plan }) s → s.power ≡ On → s.plan ≡ plan → Stands state x (hushed s.filter) → (w : Result Shown Fail) → Answers (sense state) Any part x w x → Comes state past e s w plan [] x
+      comes past s on power planned stands w answers =
+          comes_by state past e part w plan [] x x s is (subst (λ (y : Held D). Answers (sense state) Any part y w y) (sym (noted_none state x on.quiet)) answers) on.mode power planned on.quiet on.disk stands
 
-      after : (s : State) → IsOn state (record { filter = x; provider = plan }) s → x.desk.broken ≡ false → s.power ≡ On → s.plan ≡ plan → Stands state x (hushed s.filter) → (q : Told A) → Answers (sense state) Any part x (shown_by show q) x
-          → SteppedTo (IsOn state) e s (answered_by (showing show (answer_of q)) []) (record { filter = x; provider = plan })
-      after s on whole power planned stands (Ok (Ok a)) answers = finished state e s (Ok (Ok a)) show plan [] x call power on.quiet whole (comes s on power planned stands (Ok (show a)) answers)
-      after s on whole power planned stands (Ok (Err c)) answers = (let q : Told A = Ok (Err c) in finished state e s q show plan [] x call power on.quiet whole (comes s on power planned stands (Ok (shown.Refused c)) answers))
-      after s on whole power planned stands (Err (No c)) answers =
+      after : (past : Past) (s : State) → IsOn state past (record { filter = x; provider = plan }) s → x.desk.broken ≡ false → s.power ≡ On → s.plan ≡ plan → Stands state x (hushed s.filter) → (q : Told A) → Answers (sense state) Any part x (shown_by show q) x
+          → SteppedTo (IsOn state past) e s (answered_by (showing show (answer_of q)) []) (record { filter = x; provider = plan })
+      after past s on whole power planned stands (Ok (Ok a)) answers = finished state past e s (Ok (Ok a)) show plan [] x call power on.quiet whole (comes past s on power planned stands (Ok (show a)) answers)
+      after past s on whole power planned stands (Ok (Err c)) answers = (let q : Told A = Ok (Err c) in finished state past e s q show plan [] x call power on.quiet whole (comes past s on power planned stands (Ok (shown.Refused c)) answers))
+      after past s on whole power planned stands (Err (No c)) answers =
           let d = answers.leads (hushed s.filter) stands (record {}) in absurd (never (hushed s.filter) d.0 d.1.1)
-      after s on whole power planned stands (Err Memory) answers = record {}
+      after past s on whole power planned stands (Err Memory) answers = record {}
 
-      by : (s : State) → IsOn state (record { filter = x; provider = plan }) s → (b : Bool) → x.desk.broken ≡ b → OnBy state b (record { filter = x; provider = plan }) s → SteppedTo (IsOn state) e s (answered_by (showing show r) []) (record { filter = x; provider = plan })
-      by s on true e' h = refused_as_broken state e s r show plan [] x x call h.0 on (asks.broken e') refl refl
-      by s on false e' h =
+      by : (past : Past) (s : State) → IsOn state past (record { filter = x; provider = plan }) s → (b : Bool) → x.desk.broken ≡ b → OnBy state b (record { filter = x; provider = plan }) s → SteppedTo (IsOn state past) e s (answered_by (showing show r) []) (record { filter = x; provider = plan })
+      by past s on true e' h = refused_as_broken state past e s r show plan [] x x call h.0 on (asks.broken e') refl refl
+      by past s on false e' h =
           let d = asks.does e' in
-          subst (λ (w : Result A Fail). SteppedTo (IsOn state) e s (answered_by (showing show w) []) (record { filter = x; provider = plan })) (sym d.1) (after s on e' h.0 h.1 h.2 d.0 d.2)
+          subst (λ (w : Result A Fail). SteppedTo (IsOn state past) e s (answered_by (showing show w) []) (record { filter = x; provider = plan })) (sym d.1) (after past s on e' h.0 h.1 h.2 d.0 d.2)
 
   -- calls that add no notes
 
   plainly_by : {A : Type 0} (e : Event) (part : Arrow Filter Shown) (show : A → Shown) (plan : List (Bool × Operation)) (x y : Held D) (r : Result A Fail) → IsCall e → Preserves Hush part
       → ((z : State) → z.mode ≡ InFilter → event_now e z ≡ in_filter part z) → Calls (sense state) show part x r y → Steps (IsOn state) e (record { filter = x; provider = plan }) (answered_by (showing show r) []) (record { filter = y; provider = plan })
-  plainly_by {A} e part show plan x y r call hush is calls = record { leads = λ s on. by s on x.desk.broken refl on.is }
+  plainly_by {A} e part show plan x y r call hush is calls = record { leads = λ past s on. by past s on x.desk.broken refl on.is }
     where
       quiet_ok : (s : State) (b : Shown) → Stands state x (hushed s.filter) → Answers (sense state) Any part x (Ok b) y → y.desk.notes ≡ []
       quiet_ok s b stands answers =
@@ -102,27 +103,27 @@ module _ {D : Type 0} (state : D → Disk) where
           let d = answers.leads (hushed s.filter) stands (record {}) in
           d.3.notes ∙ kept_at_stop Hush (part (hushed s.filter)) d.0 (hush.keeps (hushed s.filter) refl) d.1.1
 
-      comes : (s : State) → IsOn state (record { filter = x; provider = plan }) s → s.power ≡ On → s.plan ≡ plan → Stands state x (hushed s.filter) → (w : Result Shown Fail) → y.desk.notes ≡ [] → Answers (sense state) Any part x w y → Comes state e s w plan [] y
-      comes s on power planned stands w quiet answers =
-          comes_by state e part w plan [] x y s is
+      comes : (past : Past) (s : State) → IsOn state past (record { filter = x; provider = plan }) s → s.power ≡ On → s.plan ≡ plan → Stands state x (hushed s.filter) → (w : Result Shown Fail) → y.desk.notes ≡ [] → Answers (sense state) Any part x w y → Comes state past e s w plan [] y
+      comes past s on power planned stands w quiet answers =
+          comes_by state past e part w plan [] x y s is
           (subst (λ (p : Held D). Answers (sense state) Any part p w (noted [] y)) (sym (noted_none state x on.quiet)) (subst (λ (p : Held D). Answers (sense state) Any part x w p) (sym (noted_none state y quiet)) answers))
-          on.mode power planned on.quiet on.sized stands
+          on.mode power planned on.quiet on.disk stands
 
-      after : (s : State) → IsOn state (record { filter = x; provider = plan }) s → s.power ≡ On → s.plan ≡ plan → Stands state x (hushed s.filter) → (q : Told A) → Answers (sense state) Any part x (shown_by show q) y → y.desk.broken ≡ is_stopped q
-          → SteppedTo (IsOn state) e s (answered_by (showing show (answer_of q)) []) (record { filter = y; provider = plan })
-      after s on power planned stands (Ok (Ok a)) answers whole =
-          let quiet = quiet_ok s (show a) stands answers in finished state e s (Ok (Ok a)) show plan [] y call power quiet whole (comes s on power planned stands (Ok (show a)) quiet answers)
-      after s on power planned stands (Ok (Err c)) answers whole =
-          let quiet = quiet_ok s (shown.Refused c) stands answers in let q : Told A = Ok (Err c) in finished state e s q show plan [] y call power quiet whole (comes s on power planned stands (Ok (shown.Refused c)) quiet answers)
-      after s on power planned stands (Err (No c)) answers whole =
-          let quiet = quiet_stop s c stands answers in finished state e s (Err (No c)) show plan [] y call power quiet whole (comes s on power planned stands (Err (No c)) quiet answers)
-      after s on power planned stands (Err Memory) answers whole = record {}
+      after : (past : Past) (s : State) → IsOn state past (record { filter = x; provider = plan }) s → s.power ≡ On → s.plan ≡ plan → Stands state x (hushed s.filter) → (q : Told A) → Answers (sense state) Any part x (shown_by show q) y → y.desk.broken ≡ is_stopped q
+          → SteppedTo (IsOn state past) e s (answered_by (showing show (answer_of q)) []) (record { filter = y; provider = plan })
+      after past s on power planned stands (Ok (Ok a)) answers whole =
+          let quiet = quiet_ok s (show a) stands answers in finished state past e s (Ok (Ok a)) show plan [] y call power quiet whole (comes past s on power planned stands (Ok (show a)) quiet answers)
+      after past s on power planned stands (Ok (Err c)) answers whole =
+          let quiet = quiet_ok s (shown.Refused c) stands answers in let q : Told A = Ok (Err c) in finished state past e s q show plan [] y call power quiet whole (comes past s on power planned stands (Ok (shown.Refused c)) quiet answers)
+      after past s on power planned stands (Err (No c)) answers whole =
+          let quiet = quiet_stop s c stands answers in finished state past e s (Err (No c)) show plan [] y call power quiet whole (comes past s on power planned stands (Err (No c)) quiet answers)
+      after past s on power planned stands (Err Memory) answers whole = record {}
 
-      by : (s : State) → IsOn state (record { filter = x; provider = plan }) s → (b : Bool) → x.desk.broken ≡ b → OnBy state b (record { filter = x; provider = plan }) s → SteppedTo (IsOn state) e s (answered_by (showing show r) []) (record { filter = y; provider = plan })
-      by s on true e' h = let c = calls.broken e' in refused_as_broken state e s r show plan [] x y call h.0 on c.0 refl c.1
-      by s on false e' h =
+      by : (past : Past) (s : State) → IsOn state past (record { filter = x; provider = plan }) s → (b : Bool) → x.desk.broken ≡ b → OnBy state b (record { filter = x; provider = plan }) s → SteppedTo (IsOn state past) e s (answered_by (showing show r) []) (record { filter = y; provider = plan })
+      by past s on true e' h = let c = calls.broken e' in refused_as_broken state past e s r show plan [] x y call h.0 on c.0 refl c.1
+      by past s on false e' h =
           let d = calls.does e' in
-          subst (λ (w : Result A Fail). SteppedTo (IsOn state) e s (answered_by (showing show w) []) (record { filter = y; provider = plan })) (sym d.1) (after s on h.0 h.1 h.2 d.0 d.2 d.3)
+          subst (λ (w : Result A Fail). SteppedTo (IsOn state past) e s (answered_by (showing show w) []) (record { filter = y; provider = plan })) (sym d.1) (after past s on h.0 h.1 h.2 d.0 d.2 d.3)
 
   -- the same, as they are written
   pub asks_step : {A : Type 0} (e : Event) (part : Arrow Filter Shown) (show : A → Shown) (plan : List (Bool × Operation)) (ns : List Notice) (x : Held D) (r : Result A Fail) (w : Result Shown Fail) (a : Result Answer NoMemory) → IsCall e → NeverStops part

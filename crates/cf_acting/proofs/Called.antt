@@ -2,10 +2,11 @@
 use Rattle.std.proofs.Common.{◌≡◌, Bool, true, false, List, [], refl, sym, ap, subst, ◌∙◌}
 use Rattle.std.specs.Prelude.{Result, Ok, Err}
 use Rattle.cf_acting.specs.Answered.{answered_by, showing}
-use Rattle.cf_acting.specs.Meaning.{IsOn, IsSized, OnBy, Sees, hushed}
+use Rattle.cf_acting.specs.Meaning.{IsOn, IsDiskOf, OnBy, Sees, hushed}
+use Rattle.cf_acting.specs.Pasts.{Past}
 use Rattle.cf_acting.specs.Stepped.{SteppedTo, Steps}
 use Rattle.cf_acting.proofs.Finished.{Comes, IsCall, LeftTo, finished, refused_as_broken}
-use Rattle.cf_acting.proofs.Hushed.{left_as_it_was, sized_moved, stands_noted, told_nothing}
+use Rattle.cf_acting.proofs.Hushed.{left_as_it_was, disk_moved, stands_noted, told_nothing}
 use Rattle.cf_base.specs.declared.answers.Answer.{Answer}
 use Rattle.cf_base.specs.declared.answers.Shown.{Shown}
 use Rattle.cf_base.specs.declared.codes.Fail.{Fail}
@@ -40,21 +41,21 @@ module _ {D : Type 0} (state : D → Disk) where
   left_to (Err (No c)) plan x y z t sees h = (h.0, sees_still plan z t sees)
   left_to (Err Memory) plan x y z t sees h = record {}
 
-  sized_left : (x y : Held D) (ns : List Notice) (v : Filter) (t : Filter) → IsSized (state x.disk) v.volume → Moved (state (noted [] x).disk) (state (noted ns y).disk) v.volume t.volume → IsSized (state y.disk) t.volume
+  disk_left : (past : Past) (x y : Held D) (ns : List Notice) (v : Filter) (t : Filter) → IsDiskOf past (state x.disk) v.volume → Moved (state (noted [] x).disk) (state (noted ns y).disk) v.volume t.volume → IsDiskOf past (state y.disk) t.volume
   unfolding noted
-  sized_left x y ns v t sized moved = sized_moved (state x.disk) (state y.disk) v.volume t.volume sized moved
+  disk_left past x y ns v t disk moved = disk_moved past (state x.disk) (state y.disk) v.volume t.volume disk moved
 
   -- A part of a call on the filter alone is the event.
-  pub comes_by : (e : Event) (part : Arrow Filter Shown) (r : Result Shown Fail) (plan : List (Bool × Operation)) (ns : List Notice) (x y : Held D) (s : State)
+  pub comes_by : (past : Past) (e : Event) (part : Arrow Filter Shown) (r : Result Shown Fail) (plan : List (Bool × Operation)) (ns : List Notice) (x y : Held D) (s : State)
       → ((z : State) → z.mode ≡ InFilter → event_now e z ≡ in_filter part z) → Answers (sense state) Any part (noted [] x) r (noted ns y)
-      → s.mode ≡ InFilter → s.power ≡ On → s.plan ≡ plan → x.desk.notes ≡ [] → IsSized (state x.disk) s.filter.volume → Stands state x (hushed s.filter) → Comes state e s r plan ns y
-  comes_by e part r plan ns x y s is answers mode power planned quiet sized stands =
+      → s.mode ≡ InFilter → s.power ≡ On → s.plan ≡ plan → x.desk.notes ≡ [] → IsDiskOf past (state x.disk) s.filter.volume → Stands state x (hushed s.filter) → Comes state past e s r plan ns y
+  comes_by past e part r plan ns x y s is answers mode power planned quiet disk stands =
       let z : State = begun s in
       let d = answers.leads z.filter (stands_noted state x z.filter quiet stands) (record {}) in
       record {
         new = with_filter d.0 z;
         does = subst (λ (p : Tree State Shown). Does p r (with_filter d.0 z)) (sym (is z mode)) (filter_in_whole part z r d.0 d.1);
-        sized = sized_left x y ns z.filter d.0 sized d.2;
+        disk = disk_left past x y ns z.filter d.0 disk d.2;
         left = left_to r plan (noted [] x) (noted ns y) z d.0 (begun_sees plan s mode power planned) d.3;
       }
 
@@ -69,19 +70,19 @@ module _ {D : Type 0} (state : D → Disk) where
   calls_by : {A : Type 0} (e : Event) (part : Arrow Filter Shown) (show : A → Shown) (plan : List (Bool × Operation)) (ns : List Notice) (x y : Held D) (r : Result A Fail) → IsCall e
       → ((z : State) → z.mode ≡ InFilter → event_now e z ≡ in_filter part z) → Calls (sense state) show part (noted [] x) r (noted ns y) → y.desk.notes ≡ x.desk.notes
       → Steps (IsOn state) e (record { filter = x; provider = plan }) (answered_by (showing show r) ns) (record { filter = y; provider = plan })
-  calls_by {A} e part show plan ns x y r call is calls kept = record { leads = λ s on. by s on x.desk.broken refl on.is }
+  calls_by {A} e part show plan ns x y r call is calls kept = record { leads = λ past s on. by past s on x.desk.broken refl on.is }
     where
-      Goal : State → Type 0
-      Goal s = SteppedTo (IsOn state) e s (answered_by (showing show r) ns) (record { filter = y; provider = plan })
+      Goal : Past → State → Type 0
+      Goal past s = SteppedTo (IsOn state past) e s (answered_by (showing show r) ns) (record { filter = y; provider = plan })
 
-      by : (s : State) → IsOn state (record { filter = x; provider = plan }) s → (b : Bool) → x.desk.broken ≡ b → OnBy state b (record { filter = x; provider = plan }) s → Goal s
-      by s on true e' h =
+      by : (past : Past) (s : State) → IsOn state past (record { filter = x; provider = plan }) s → (b : Bool) → x.desk.broken ≡ b → OnBy state b (record { filter = x; provider = plan }) s → Goal past s
+      by past s on true e' h =
           let c = calls.broken (was_broken x ∙ e') in
-          refused_as_broken state e s r show plan ns x y call h.0 on c.0 (told_nothing state x y ns c.1) (left_as_it_was state x y ns c.1 kept)
-      by s on false e' h =
+          refused_as_broken state past e s r show plan ns x y call h.0 on c.0 (told_nothing state x y ns c.1) (left_as_it_was state x y ns c.1 kept)
+      by past s on false e' h =
           let d = calls.does (was_broken x ∙ e') in
-          subst (λ (w : Result A Fail). SteppedTo (IsOn state) e s (answered_by (showing show w) ns) (record { filter = y; provider = plan })) (sym d.1)
-          (finished state e s d.0 show plan ns y call h.0 (kept ∙ on.quiet) (sym (is_broken y ns) ∙ d.3) (comes_by e part (shown_by show d.0) plan ns x y s is d.2 on.mode h.0 h.1 on.quiet on.sized h.2))
+          subst (λ (w : Result A Fail). SteppedTo (IsOn state past) e s (answered_by (showing show w) ns) (record { filter = y; provider = plan })) (sym d.1)
+          (finished state past e s d.0 show plan ns y call h.0 (kept ∙ on.quiet) (sym (is_broken y ns) ∙ d.3) (comes_by past e part (shown_by show d.0) plan ns x y s is d.2 on.mode h.0 h.1 on.quiet on.disk h.2))
 
   -- the same, as a call is written
   pub calls_step : {A : Type 0} (e : Event) (part : Arrow Filter Shown) (show : A → Shown) (plan : List (Bool × Operation)) (none ns : List Notice) (x y : Held D) (r : Result A Fail) (w : Result Shown Fail) (a : Result Answer NoMemory)

@@ -2,7 +2,8 @@
 use Rattle.std.proofs.Common.{◌≡◌, Bool, true, false, List, [], refl, sym, ap, subst, ◌∙◌}
 use Rattle.std.specs.Prelude.{None, Result, Ok, Err}
 use Rattle.cf_acting.specs.Answered.{answer_with, answered_by, showing}
-use Rattle.cf_acting.specs.Meaning.{IsOn, IsSized, OnBy, Sees}
+use Rattle.cf_acting.specs.Meaning.{IsOn, IsDiskOf, OnBy, Sees}
+use Rattle.cf_acting.specs.Pasts.{Past}
 use Rattle.cf_acting.specs.Stepped.{SteppedTo}
 use Rattle.cf_acting.proofs.Hushed.{notes_told, stands_hushed, stop_lasts, stop_policy, stop_told}
 use Rattle.cf_base.specs.declared.answers.Answer.{Answer}
@@ -56,27 +57,27 @@ module _ {D : Type 0} (state : D → Disk) where
   LeftTo (Err Memory) plan y z = Unit {0}
 
   -- the event was done, or cut off
-  pub record Comes (e : Event) (s : State) (r : Result Shown Fail) (plan : List (Bool × Operation)) (ns : List Notice) (y : Held D) : Type 0 where
+  pub record Comes (past : Past) (e : Event) (s : State) (r : Result Shown Fail) (plan : List (Bool × Operation)) (ns : List Notice) (y : Held D) : Type 0 where
     pub new : State
     pub does : Does (tree_of e s) r new
-    pub sized : IsSized (state y.disk) new.filter.volume
+    pub disk : IsDiskOf past (state y.disk) new.filter.volume
     pub left : LeftTo r plan (noted ns y) new
 
-  ended : (e : Event) (s : State) (b : Shown) (plan : List (Bool × Operation)) (ns : List Notice) (y : Held D) → IsCall e → s.power ≡ On → y.desk.notes ≡ [] → y.desk.broken ≡ false
-      → Comes e s (Ok b) plan ns y → SteppedTo (IsOn state) e s (Ok (answer_with b ns)) (record { filter = y; provider = plan })
-  ended e s b plan ns y call power quiet whole c =
+  ended : (past : Past) (e : Event) (s : State) (b : Shown) (plan : List (Bool × Operation)) (ns : List Notice) (y : Held D) → IsCall e → s.power ≡ On → y.desk.notes ≡ [] → y.desk.broken ≡ false
+      → Comes past e s (Ok b) plan ns y → SteppedTo (IsOn state past) e s (Ok (answer_with b ns)) (record { filter = y; provider = plan })
+  ended past e s b plan ns y call power quiet whole c =
       let t = c.new in
       let sees = c.left.1 in
       let on : OnBy state false (record { filter = y; provider = plan }) t = (sees.power, sees.planned, stands_hushed state y ns t.filter quiet c.left.0) in (
         t,
         subst (λ (a : Answer). IsStep InFilter s e a t) (answer_is b t ns (notes_told state y ns t.filter c.left.0) sees.running)
             (ended_step InFilter s e b t call.of (while_on (needs_volume e) s.power power) c.does),
-        record { mode = sees.mode; quiet = quiet; sized = c.sized; is = subst (λ (o : Bool). OnBy state o (record { filter = y; provider = plan }) t) (sym whole) on },
+        record { mode = sees.mode; quiet = quiet; disk = c.disk; is = subst (λ (o : Bool). OnBy state o (record { filter = y; provider = plan }) t) (sym whole) on },
       )
 
-  stopped : (e : Event) (s : State) (c : Code) (plan : List (Bool × Operation)) (ns : List Notice) (y : Held D) → IsCall e → s.power ≡ On → y.desk.notes ≡ [] → y.desk.broken ≡ true
-      → Comes e s (Err (No c)) plan ns y → SteppedTo (IsOn state) e s (Ok (answer_with (shown.Refused c) ns)) (record { filter = y; provider = plan })
-  stopped e s c plan ns y call power quiet cut d =
+  stopped : (past : Past) (e : Event) (s : State) (c : Code) (plan : List (Bool × Operation)) (ns : List Notice) (y : Held D) → IsCall e → s.power ≡ On → y.desk.notes ≡ [] → y.desk.broken ≡ true
+      → Comes past e s (Err (No c)) plan ns y → SteppedTo (IsOn state past) e s (Ok (answer_with (shown.Refused c) ns)) (record { filter = y; provider = plan })
+  stopped past e s c plan ns y call power quiet cut d =
       let t = d.new in
       let sees = d.left.1 in
       let after : (broken t).power ≡ Broken = ap broken_by sees.power in
@@ -84,22 +85,22 @@ module _ {D : Type 0} (state : D → Disk) where
       let told : answer_in (shown.Refused code.Device) t ≡ answer_with (shown.Refused c) ns = answer_is (shown.Refused code.Device) t ns (stop_told state y ns t.filter d.left.0) sees.running ∙ ap (λ (k : Code). answer_with (shown.Refused k) ns) (sym d.does.0) in (
         broken t,
         subst (λ (a : Answer). IsStep InFilter s e a (broken t)) told (stopped_step InFilter s e t call.of call.stops (while_on (needs_volume e) s.power power) d.does.1),
-        record { mode = sees.mode; quiet = quiet; sized = d.sized; is = subst (λ (o : Bool). OnBy state o (record { filter = y; provider = plan }) (broken t)) (sym cut) on },
+        record { mode = sees.mode; quiet = quiet; disk = d.disk; is = subst (λ (o : Bool). OnBy state o (record { filter = y; provider = plan }) (broken t)) (sym cut) on },
       )
 
   -- what a call told is the answer
-  pub finished : {A : Type 0} (e : Event) (s : State) (q : Told A) (show : A → Shown) (plan : List (Bool × Operation)) (ns : List Notice) (y : Held D) → IsCall e → s.power ≡ On → y.desk.notes ≡ [] → y.desk.broken ≡ is_stopped q
-      → Comes e s (shown_by show q) plan ns y → SteppedTo (IsOn state) e s (answered_by (showing show (answer_of q)) ns) (record { filter = y; provider = plan })
-  finished e s (Ok (Ok a)) show plan ns y call power quiet whole c = ended e s (show a) plan ns y call power quiet whole c
-  finished e s (Ok (Err k)) show plan ns y call power quiet whole c = ended e s (shown.Refused k) plan ns y call power quiet whole c
-  finished e s (Err (No k)) show plan ns y call power quiet whole c = stopped e s k plan ns y call power quiet whole c
-  finished e s (Err Memory) show plan ns y call power quiet whole c = record {}
+  pub finished : {A : Type 0} (past : Past) (e : Event) (s : State) (q : Told A) (show : A → Shown) (plan : List (Bool × Operation)) (ns : List Notice) (y : Held D) → IsCall e → s.power ≡ On → y.desk.notes ≡ [] → y.desk.broken ≡ is_stopped q
+      → Comes past e s (shown_by show q) plan ns y → SteppedTo (IsOn state past) e s (answered_by (showing show (answer_of q)) ns) (record { filter = y; provider = plan })
+  finished past e s (Ok (Ok a)) show plan ns y call power quiet whole c = ended past e s (show a) plan ns y call power quiet whole c
+  finished past e s (Ok (Err k)) show plan ns y call power quiet whole c = ended past e s (shown.Refused k) plan ns y call power quiet whole c
+  finished past e s (Err (No k)) show plan ns y call power quiet whole c = stopped past e s k plan ns y call power quiet whole c
+  finished past e s (Err Memory) show plan ns y call power quiet whole c = record {}
 
   -- one that came after a stop
-  pub refused_as_broken : {A : Type 0} (e : Event) (s : State) (r : Result A Fail) (show : A → Shown) (plan : List (Bool × Operation)) (ns : List Notice) (x y : Held D) → IsCall e → s.power ≡ Broken → IsOn state (record { filter = x; provider = plan }) s
-      → r ≡ Err (No code.Broken) → ns ≡ [] → y ≡ x → SteppedTo (IsOn state) e s (answered_by (showing show r) ns) (record { filter = y; provider = plan })
-  refused_as_broken e s r show plan ns x y call power on is none same =
-      let here : SteppedTo (IsOn state) e s (answered_by (showing show (Err (No code.Broken))) []) (record { filter = x; provider = plan }) = (s, broken_step e s call power, on) in
-      let there = subst (λ (z : Held D). SteppedTo (IsOn state) e s (answered_by (showing show (Err (No code.Broken))) []) (record { filter = z; provider = plan })) (sym same) here in
-      let told = subst (λ (l : List Notice). SteppedTo (IsOn state) e s (answered_by (showing show (Err (No code.Broken))) l) (record { filter = y; provider = plan })) (sym none) there in
-      subst (λ (w : Result _ Fail). SteppedTo (IsOn state) e s (answered_by (showing show w) ns) (record { filter = y; provider = plan })) (sym is) told
+  pub refused_as_broken : {A : Type 0} (past : Past) (e : Event) (s : State) (r : Result A Fail) (show : A → Shown) (plan : List (Bool × Operation)) (ns : List Notice) (x y : Held D) → IsCall e → s.power ≡ Broken → IsOn state past (record { filter = x; provider = plan }) s
+      → r ≡ Err (No code.Broken) → ns ≡ [] → y ≡ x → SteppedTo (IsOn state past) e s (answered_by (showing show r) ns) (record { filter = y; provider = plan })
+  refused_as_broken past e s r show plan ns x y call power on is none same =
+      let here : SteppedTo (IsOn state past) e s (answered_by (showing show (Err (No code.Broken))) []) (record { filter = x; provider = plan }) = (s, broken_step e s call power, on) in
+      let there = subst (λ (z : Held D). SteppedTo (IsOn state past) e s (answered_by (showing show (Err (No code.Broken))) []) (record { filter = z; provider = plan })) (sym same) here in
+      let told = subst (λ (l : List Notice). SteppedTo (IsOn state past) e s (answered_by (showing show (Err (No code.Broken))) l) (record { filter = y; provider = plan })) (sym none) there in
+      subst (λ (w : Result _ Fail). SteppedTo (IsOn state past) e s (answered_by (showing show w) ns) (record { filter = y; provider = plan })) (sym is) told

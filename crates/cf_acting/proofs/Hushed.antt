@@ -1,7 +1,8 @@
 -- The filter between two events, whose notes are told.
 use Rattle.std.proofs.Common.{◌≡◌, ℕ, List, [], sym, ap, subst, ◌∙◌}
 use Rattle.std.specs.Prelude.{◌-◌, ◌/◌}
-use Rattle.cf_acting.specs.Meaning.{IsSized, hushed}
+use Rattle.cf_acting.specs.Meaning.{IsDiskOf, hushed}
+use Rattle.cf_acting.specs.Pasts.{Past}
 use Rattle.cf_base.specs.declared.notices.Notice.{Notice}
 use Rattle.cf_disk.specs.Disk.{State as Disk, size_of}
 use Rattle.cf_filter.specs.Calling.{noted}
@@ -67,9 +68,10 @@ module _ {D : Type 0} (state : D → Disk) where
 pub same_clusters : (d e : Disk) → size_of e ≡ size_of d → clusters_on e.seen ≡ clusters_on d.seen
 same_clusters d e same = ap (λ (n : ℕ). (n - 3145728) / 4096) same
 
--- a call leaves the size of the disk and the clusters of the volume
-pub sized_moved : (d e : Disk) (v w : Volume) → IsSized d v → Moved d e v w → IsSized e w
-sized_moved d e v w h m = record {
+-- a call leaves the size and the powers of the disk, and the clusters of the volume
+pub disk_moved : (past : Past) (d e : Disk) (v w : Volume) → IsDiskOf past d v → Moved d e v w → IsDiskOf past e w
+disk_moved past d e v w h m = record {
   fit = subst IsFitSize (sym m.runs.size) h.fit;
   clusters = m.grows.clusters ∙ h.clusters ∙ sym (same_clusters d e m.runs.size);
+  powers = m.runs.powers ∙ h.powers;
 }

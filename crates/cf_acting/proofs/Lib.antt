@@ -1,6 +1,7 @@
 pub mod Asked
 pub mod Called
 pub mod Finished
+pub mod Gained
 pub mod Hushed
 pub mod Hushing
 pub mod Later

@@ -4,6 +4,7 @@ use Rattle.std.specs.Prelude.{Result, Ok, Err}
 use Rattle.std.specs.Result.{IsErrAnd}
 use Rattle.cf_acting.specs.Answered.{answer_with}
 use Rattle.cf_acting.specs.Meaning.{IsOn, OnBy}
+use Rattle.cf_acting.specs.Pasts.{Past}
 use Rattle.cf_acting.specs.Stepped.{Steps}
 use Rattle.cf_acting.proofs.Finished.{broken_step, while_on}
 use Rattle.cf_base.specs.declared.answers.Answer.{Answer}
@@ -25,7 +26,7 @@ module _ {D : Type 0} (state : D → Disk) where
   pub plan_refused : (own : Bool) (op : Operation) (x : Held D) (plan : List (Bool × Operation)) → x.desk.broken ≡ true
       → Steps (IsOn state) (event.Provider (provider.Plan own op)) (record { filter = x; provider = plan }) (Ok (answer_with (shown.Refused code.Broken) [])) (record { filter = x; provider = plan })
   plan_refused own op x plan cut = record {
-    leads = λ s on.
+    leads = λ past s on.
         let h : OnBy state true (record { filter = x; provider = plan }) s = subst (λ (b : Bool). OnBy state b (record { filter = x; provider = plan }) s) cut on.is in
         (s, broken_step (event.Provider (provider.Plan own op)) s (record { of = refl; stops = refl; needs = refl }) h.0, on);
   }
@@ -33,13 +34,13 @@ module _ {D : Type 0} (state : D → Disk) where
   pub planned_step : (own : Bool) (op : Operation) (x : Held D) (plan : List (Bool × Operation)) → x.desk.broken ≡ false
       → Steps (IsOn state) (event.Provider (provider.Plan own op)) (record { filter = x; provider = plan }) (Ok (answer_with shown.Done [])) (record { filter = x; provider = plan ++ (own, op) ∷ [] })
   planned_step own op x plan whole = record {
-    leads = λ s on.
+    leads = λ past s on.
         let h : OnBy state false (record { filter = x; provider = plan }) s = subst (λ (b : Bool). OnBy state b (record { filter = x; provider = plan }) s) whole on.is in
         let t : State = with_planned own op (begun s) in
         let after : OnBy state false (record { filter = x; provider = plan ++ (own, op) ∷ [] }) t = (h.0, ap (λ (l : List (Bool × Operation)). l ++ (own, op) ∷ []) h.1, h.2) in (
           t,
           ended_step InFilter s (event.Provider (provider.Plan own op)) shown.Done t refl (while_on true s.power h.0) (refl, refl),
-          record { mode = on.mode; quiet = on.quiet; sized = record { fit = on.sized.fit; clusters = on.sized.clusters }; is = subst (λ (b : Bool). OnBy state b (record { filter = x; provider = plan ++ (own, op) ∷ [] }) t) (sym whole) after },
+          record { mode = on.mode; quiet = on.quiet; disk = record { fit = on.disk.fit; clusters = on.disk.clusters; powers = on.disk.powers }; is = subst (λ (b : Bool). OnBy state b (record { filter = x; provider = plan ++ (own, op) ∷ [] }) t) (sym whole) after },
         );
   }
 
@@ -53,6 +54,6 @@ module _ {D : Type 0} (state : D → Disk) where
       subst (λ (b : Answer). Steps (IsOn state) (event.Provider (provider.Plan own op)) (record { filter = x; provider = plan }) (Ok b) (record { filter = x; provider = left })) (sym told) to
 
 -- of want of memory nothing is said
-pub no_memory : {X : Type 0} (Is : X → State → Type 0) (e : Event) (x y : X) (r : Result Answer NoMemory) (m : NoMemory) → IsErrAnd r (λ z. z ≡ m) → Steps Is e x r y
+pub no_memory : {X : Type 0} (Is : Past → X → State → Type 0) (e : Event) (x y : X) (r : Result Answer NoMemory) (m : NoMemory) → IsErrAnd r (λ z. z ≡ m) → Steps Is e x r y
 no_memory Is e x y (Ok a) m h = absurd h
-no_memory Is e x y (Err k) m h = record { leads = λ s is. record {} }
+no_memory Is e x y (Err k) m h = record { leads = λ past s is. record {} }

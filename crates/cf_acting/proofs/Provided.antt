@@ -2,11 +2,12 @@
 use Rattle.std.proofs.Common.{◌≡◌, Bool, true, false, List, [], ◌∷◌, refl, sym, ap, subst, ◌∙◌, inl, inr}
 use Rattle.std.specs.Prelude.{Result, Ok, Err}
 use Rattle.cf_acting.specs.Answered.{answered_by, showing}
-use Rattle.cf_acting.specs.Meaning.{IsOn, IsSized, OnBy, Sees, hushed}
+use Rattle.cf_acting.specs.Meaning.{IsOn, IsDiskOf, OnBy, Sees, hushed}
+use Rattle.cf_acting.specs.Pasts.{Past}
 use Rattle.cf_acting.specs.Stepped.{SteppedTo, Steps}
 use Rattle.cf_acting.proofs.Called.{begun_sees}
 use Rattle.cf_acting.proofs.Finished.{Comes, IsCall, LeftTo, finished, refused_as_broken}
-use Rattle.cf_acting.proofs.Hushed.{left_as_it_was, sized_moved, stands_noted, told_nothing}
+use Rattle.cf_acting.proofs.Hushed.{left_as_it_was, disk_moved, stands_noted, told_nothing}
 use Rattle.cf_base.specs.declared.answers.Answer.{Answer}
 use Rattle.cf_base.specs.declared.answers.Shown.{Shown}
 use Rattle.cf_base.specs.declared.codes.Fail.{Fail}
@@ -108,9 +109,9 @@ module _ {D : Type 0} (state : D → Disk) where
   left_to (Err (No c)) q x y z h = (h.0, h.1)
   left_to (Err Memory) q x y z h = record {}
 
-  sized_left : (x y : Held D) (ns : List Notice) (v t : Filter) → IsSized (state x.disk) v.volume → Moved (state (noted [] x).disk) (state (noted ns y).disk) v.volume t.volume → IsSized (state y.disk) t.volume
+  disk_left : (past : Past) (x y : Held D) (ns : List Notice) (v t : Filter) → IsDiskOf past (state x.disk) v.volume → Moved (state (noted [] x).disk) (state (noted ns y).disk) v.volume t.volume → IsDiskOf past (state y.disk) t.volume
   unfolding noted
-  sized_left x y ns v t sized moved = sized_moved (state x.disk) (state y.disk) v.volume t.volume sized moved
+  disk_left past x y ns v t disk moved = disk_moved past (state x.disk) (state y.disk) v.volume t.volume disk moved
 
   was_broken : (x : Held D) → (noted [] x).desk.broken ≡ x.desk.broken
   unfolding noted
@@ -120,33 +121,33 @@ module _ {D : Type 0} (state : D → Disk) where
   unfolding noted
   is_broken y ns = refl
 
-  comes_back : (e : Event) (part : Arrow Filter Shown) (r : Result Shown Fail) (plan left : List (Bool × Operation)) (ns : List Notice) (x y : Held D) (s : State)
+  comes_back : (past : Past) (e : Event) (part : Arrow Filter Shown) (r : Result Shown Fail) (plan left : List (Bool × Operation)) (ns : List Notice) (x y : Held D) (s : State)
       → ((z : State) → z.mode ≡ InFilter → event_now e z ≡ calling part z) → CallsBack state Answers Any part plan (noted [] x) r left (noted ns y)
-      → s.mode ≡ InFilter → s.power ≡ On → s.plan ≡ plan → x.desk.notes ≡ [] → IsSized (state x.disk) s.filter.volume → Stands state x (hushed s.filter) → Comes state e s r left ns y
-  comes_back e part r plan left ns x y s is back mode power planned quiet sized stands =
+      → s.mode ≡ InFilter → s.power ≡ On → s.plan ≡ plan → x.desk.notes ≡ [] → IsDiskOf past (state x.disk) s.filter.volume → Stands state x (hushed s.filter) → Comes state past e s r left ns y
+  comes_back past e part r plan left ns x y s is back mode power planned quiet disk stands =
       let z : State = begun s in
       let d = played state Answers Sees scripted_plays Any part plan left (noted [] x) (noted ns y) z r back (stands_noted state x z.filter quiet stands) (record {}) (begun_sees plan s mode power planned) in
       record {
         new = d.new;
         does = subst (λ (p : Tree State Shown). Does p r d.new) (sym (is z mode)) d.does;
-        sized = sized_left x y ns z.filter d.new.filter sized d.moved;
+        disk = disk_left past x y ns z.filter d.new.filter disk d.moved;
         left = left_to r left (noted [] x) (noted ns y) d.new d.left;
       }
 
   provides_by : {A : Type 0} (e : Event) (part : Arrow Filter Shown) (show : A → Shown) (plan left : List (Bool × Operation)) (ns : List Notice) (x y : Held D) (r : Result A Fail) → IsCall e
       → ((z : State) → z.mode ≡ InFilter → event_now e z ≡ calling part z) → Provides state Answers Any show part plan (noted [] x) r left (noted ns y) → y.desk.notes ≡ x.desk.notes
       → Steps (IsOn state) e (record { filter = x; provider = plan }) (answered_by (showing show r) ns) (record { filter = y; provider = left })
-  provides_by {A} e part show plan left ns x y r call is calls kept = record { leads = λ s on. by s on x.desk.broken refl on.is }
+  provides_by {A} e part show plan left ns x y r call is calls kept = record { leads = λ past s on. by past s on x.desk.broken refl on.is }
     where
-      by : (s : State) → IsOn state (record { filter = x; provider = plan }) s → (b : Bool) → x.desk.broken ≡ b → OnBy state b (record { filter = x; provider = plan }) s → SteppedTo (IsOn state) e s (answered_by (showing show r) ns) (record { filter = y; provider = left })
-      by s on true e' h =
+      by : (past : Past) (s : State) → IsOn state past (record { filter = x; provider = plan }) s → (b : Bool) → x.desk.broken ≡ b → OnBy state b (record { filter = x; provider = plan }) s → SteppedTo (IsOn state past) e s (answered_by (showing show r) ns) (record { filter = y; provider = left })
+      by past s on true e' h =
           let c = calls.broken (was_broken x ∙ e') in
-          subst (λ (l : List (Bool × Operation)). SteppedTo (IsOn state) e s (answered_by (showing show r) ns) (record { filter = y; provider = l })) (sym c.2)
-          (refused_as_broken state e s r show plan ns x y call h.0 on c.0 (told_nothing state x y ns c.1) (left_as_it_was state x y ns c.1 kept))
-      by s on false e' h =
+          subst (λ (l : List (Bool × Operation)). SteppedTo (IsOn state past) e s (answered_by (showing show r) ns) (record { filter = y; provider = l })) (sym c.2)
+          (refused_as_broken state past e s r show plan ns x y call h.0 on c.0 (told_nothing state x y ns c.1) (left_as_it_was state x y ns c.1 kept))
+      by past s on false e' h =
           let d = calls.does (was_broken x ∙ e') in
-          subst (λ (w : Result A Fail). SteppedTo (IsOn state) e s (answered_by (showing show w) ns) (record { filter = y; provider = left })) (sym d.1)
-          (finished state e s d.0 show left ns y call h.0 (kept ∙ on.quiet) (sym (is_broken y ns) ∙ d.3) (comes_back e part (shown_by show d.0) plan left ns x y s is d.2 on.mode h.0 h.1 on.quiet on.sized h.2))
+          subst (λ (w : Result A Fail). SteppedTo (IsOn state past) e s (answered_by (showing show w) ns) (record { filter = y; provider = left })) (sym d.1)
+          (finished state past e s d.0 show left ns y call h.0 (kept ∙ on.quiet) (sym (is_broken y ns) ∙ d.3) (comes_back past e part (shown_by show d.0) plan left ns x y s is d.2 on.mode h.0 h.1 on.quiet on.disk h.2))
 
   -- the same, as a call is written
   pub provides_step : {A : Type 0} (e : Event) (part : Arrow Filter Shown) (show : A → Shown) (plan left : List (Bool × Operation)) (none ns : List Notice) (x y : Held D) (r : Result A Fail) (w : Result Shown Fail) (a : Result Answer NoMemory)

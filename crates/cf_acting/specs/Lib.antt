@@ -1,3 +1,4 @@
 pub mod Answered
 pub mod Meaning
+pub mod Pasts
 pub mod Stepped

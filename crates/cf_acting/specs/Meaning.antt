@@ -1,5 +1,6 @@
 -- How the world stands for states of the definitions.
-use Rattle.std.specs.Prelude.{◌≡◌, ◌≤◌, ◌+◌, ℕ, Bool, true, false, List, [], take}
+use Rattle.std.specs.Prelude.{◌≡◌, ◌≤◌, ◌+◌, ℕ, Bool, true, false, List, [], Some, take}
+use Rattle.cf_acting.specs.Pasts.{Past, StandsFor}
 use Rattle.cf_acting.specs.declared.places.Running.{Running as Run}
 use Rattle.cf_acting.specs.declared.places.Acting.{Acting}
 use Rattle.cf_acting.specs.declared.places.Acting.TheVariants as acting
@@ -19,10 +20,11 @@ use Rattle.cf_points.specs.Standing.{Standing, clusters_on}
 abbrev pub hushed : Filter → Filter
 hushed f = record f { notes = [] }
 
--- the disk has a fit size and as many clusters as the volume
-pub record IsSized (d : Disk) (v : Volume) : Type 0 where
+-- the disk has a fit size and as many clusters as the volume, and tells these powers
+pub record IsDiskOf (past : Past) (d : Disk) (v : Volume) : Type 0 where
   pub fit : IsFitSize (size_of d)
   pub clusters : v.clusters ≡ clusters_on d.seen
+  pub powers : d.powers ≡ past.told
 
 -- what ties the plan to the state while an event goes on
 pub record Sees (plan : List (Bool × Operation)) (z : State) : Type 0 where
@@ -37,10 +39,10 @@ OnBy state false x s = (s.power ≡ On) × (s.plan ≡ x.provider) × Stands sta
 OnBy state true x s = (s.power ≡ Broken) × (x.filter.desk.policy ≡ s.filter.policy) × Lasts (state x.filter.disk) s.filter.volume
 
 -- the volume is open
-pub record IsOn {D : Type 0} (state : D → Disk) (x : Run D) (s : State) : Type 0 where
+pub record IsOn {D : Type 0} (state : D → Disk) (past : Past) (x : Run D) (s : State) : Type 0 where
   pub mode : s.mode ≡ InFilter
   pub quiet : x.filter.desk.notes ≡ []
-  pub sized : IsSized (state x.filter.disk) s.filter.volume
+  pub disk : IsDiskOf past (state x.filter.disk) s.filter.volume
   pub is : OnBy state x.filter.desk.broken x s
 
 -- The image stands for the point, in the epoch of the volume or in one that a failed opening took.
@@ -49,19 +51,23 @@ pub record IsOfEpoch (s : State) (p : Point) (image : List ℕ) : Type 0 where
   pub few : taken ≤ s.failed_opens
   pub stands : Standing (s.filter.volume.epoch + taken) image (take p.count s.filter.volume.log) p.book
 
--- The power was cut: whatever a crash leaves now stands for one point, which a restart may open.
-pub record IsOff {D : Type 0} (state : D → Disk) (x : Cut D) (s : State) : Type 0 where
+-- The power was cut: whatever a crash leaves now stands for one point, which a restart may open, and so does the image that
+-- the last power left.
+pub record IsOff {D : Type 0} (state : D → Disk) (past : Past) (x : Cut D) (s : State) : Type 0 where
   pub mode : s.mode ≡ InFilter
   pub power : s.power ≡ Off
   pub plan : s.plan ≡ []
   pub policy : x.policy ≡ s.filter.policy
-  pub sized : IsSized (state x.disk) s.filter.volume
+  pub disk : IsDiskOf past (state x.disk) s.filter.volume
   pub point : Point
   pub opens : Opens s.filter.volume.points point
   pub kept : IsKeptPoint s.filter.volume.epoch s.filter.volume.log point
   pub lasts : (c : List ℕ) → (state x.disk).may_leave c → IsOfEpoch s point c
+  pub image : List ℕ
+  pub last : past.last ≡ Some image
+  pub left : StandsFor image (take point.count s.filter.volume.log) point.book
 
--- the world stands for the state
-abbrev pub Is : {D : Type 0} → (D → Disk) → Acting D → State → Type 0
-Is state (acting.On x) s = IsOn state x s
-Is state (acting.Off x) s = IsOff state x s
+-- the world stands for the state, after these powers
+abbrev pub Is : {D : Type 0} → (D → Disk) → Past → Acting D → State → Type 0
+Is state past (acting.On x) s = IsOn state past x s
+Is state past (acting.Off x) s = IsOff state past x s

@@ -1,34 +1,41 @@
 -- What an event of the world is answered, and what it leaves.
-use Rattle.std.specs.Prelude.{◌≡◌, ℕ, List, Some, Result, Ok, Err, option_map}
+use Rattle.std.specs.Prelude.{◌≡◌, ℕ, List, [], Some, Result, Ok, Err, option_map}
+use Rattle.cf_acting.specs.Pasts.{Gains, Past, StandsFor}
 use Rattle.cf_acting.specs.declared.places.Acting.{Acting}
 use Rattle.cf_acting.specs.declared.places.Acting.TheVariants as acting
 use Rattle.cf_base.specs.declared.answers.Answer.{Answer}
-use Rattle.cf_base.specs.declared.changes.Change.{Change}
 use Rattle.cf_base.specs.declared.events.DeviceEvent.{DeviceEvent}
 use Rattle.cf_base.specs.declared.events.DeviceEvent.TheVariants as device
 use Rattle.cf_base.specs.declared.events.Event.{Event}
 use Rattle.cf_base.specs.declared.events.Event.TheVariants as event
-use Rattle.cf_base.specs.declared.ids.Usn.{Usn}
 use Rattle.cf_base.specs.declared.memory.Memory.{Memory as NoMemory}
+use Rattle.cf_base.specs.declared.policies.Choice.{Choice}
 use Rattle.cf_base.specs.declared.policies.Mode.TheVariants.{Filter}
 use Rattle.cf_disk.specs.Disk.{Powers, State as Disk}
-use Rattle.cf_model.specs.Books.{Book}
 use Rattle.cf_model.specs.Lawful.{IsStep}
+use Rattle.cf_model.specs.Powers.{IsPower}
 use Rattle.cf_model.specs.State.{State}
-use Rattle.cf_points.specs.Standing.{Standing}
 
 -- a step of the definitions, with this answer
 abbrev pub SteppedTo : {X : Type 0} → (X → State → Type 0) → Event → State → Result Answer NoMemory → X → Type 0
 SteppedTo Is e s (Ok a) new = (t : State) × IsStep Filter s e a t × Is new t
 SteppedTo Is e s (Err m) new = Unit {0}
 
--- in each state that it stands for
-pub record Steps {X : Type 0} (Is : X → State → Type 0) (e : Event) (old : X) (r : Result Answer NoMemory) (new : X) : Type 0 where
-  pub leads : (s : State) → Is old s → SteppedTo Is e s r new
+-- in each state that it stands for, and without a power
+pub record Steps {X : Type 0} (Is : Past → X → State → Type 0) (e : Event) (old : X) (r : Result Answer NoMemory) (new : X) : Type 0 where
+  pub leads : (past : Past) (s : State) → Is past old s → SteppedTo (Is past) e s r new
 
--- the image of a device stands for a log and a book, in some epoch
-abbrev pub StandsFor : List ℕ → List (Usn × Change) → Book → Type 0
-StandsFor image log b = (epoch : ℕ) × Standing epoch image log b
+-- A step of the definitions, with this answer, and with the powers that the event does: one with its choice for a crash, and
+-- else none. A restart that resumes opens what the image that the last of them left stands for.
+abbrev pub PoweredTo : {X : Type 0} → (Past → X → State → Type 0) → Past → Event → State → Result Answer NoMemory → X → Type 0
+PoweredTo Is past e s (Ok a) new =
+    (t : State) × (powers : List (Choice × List ℕ)) × (after : Past)
+    × IsStep Filter s e a t × IsPower StandsFor past.last e a t powers after.last [] × Gains powers past.told after.told × Is after new t
+PoweredTo Is past e s (Err m) new = Unit {0}
+
+-- in each state that it stands for
+pub record StepsOver {X : Type 0} (Is : Past → X → State → Type 0) (e : Event) (old : X) (r : Result Answer NoMemory) (new : X) : Type 0 where
+  pub leads : (past : Past) (s : State) → Is past old s → PoweredTo Is past e s r new
 
 -- the disk of the world
 abbrev pub disk_of : {D : Type 0} → Acting D → D

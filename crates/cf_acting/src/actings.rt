@@ -1,9 +1,10 @@
 //! The world, on and off.
-#![tactic(auto, using(crate::proofs::Wholes::on_steps, crate::proofs::Wholes::off_steps))]
+#![tactic(auto, using(crate::proofs::Wholes::begins, crate::proofs::Wholes::none_needed, crate::proofs::Wholes::on_steps, crate::proofs::Wholes::off_steps))]
 
 ghost use Rattle.std.specs.Prelude.{◌≡◌, ℕ, List, true, IfErr, IfOk};
 ghost use Rattle.cf_acting.specs.Meaning.{Is};
-ghost use Rattle.cf_acting.specs.Stepped.{Bears, BearsOn, StandsFor, Steps, disk_of};
+ghost use Rattle.cf_acting.specs.Pasts.{Past, StandsFor};
+ghost use Rattle.cf_acting.specs.Stepped.{Bears, BearsOn, StepsOver, disk_of};
 ghost use Rattle.cf_acting.specs.declared.places.Acting.TheVariants as acting;
 ghost use Rattle.cf_base.specs.declared.events.Event.TheVariants as events;
 ghost use Rattle.cf_base.specs.declared.policies.Mode.TheVariants.{Filter as InFilter};
@@ -37,11 +38,11 @@ fn first_policy() -> Policy
 }
 
 impl<D: Disk> Acting<D> {
-    /// A volume that was just made on a disk of a fit size, whatever that held. Refused as Device where a call of the disk
-    /// failed, and as Memory; then the disk comes back.
+    /// A volume that was just made on a disk of a fit size, whatever that held; the disk had no power in this. Refused as
+    /// Device where a call of the disk failed, and as Memory; then the disk comes back.
     pub fn start(alloc: Global, disk: D) -> Result<Acting<D>, (D, Fail)>
         requires { IsFitSize (size_of (D.state disk)) }
-        ensures ok { (remote : Held) → IfOk result (λ a. Is D.state a (start InFilter remote (clusters_on (D.state disk).seen))) }
+        ensures ok { (remote : Held) → IfOk result (λ a. (past : Past) → past.told ≡ (D.state disk).powers → Is D.state past a (start InFilter remote (clusters_on (D.state disk).seen))) }
         ensures only { IfErr result (λ e. StopsOnly e.1) }
         ensures cause { IfErr result (λ e. IsCause e.1 (D.state disk) (D.state e.0)) }
     {
@@ -55,10 +56,11 @@ impl<D: Disk> Acting<D> {
     }
 
     /// Does an event of the mode, and answers it. A stop arms the disk with its number, a crash is one power of the disk with
-    /// its choice. For want of memory an event is not answered, and nothing more is said of the world.
+    /// its choice, and no other event changes the powers that the disk tells. A restart that resumes opens what the image of
+    /// the last power stands for. For want of memory an event is not answered, and nothing more is said of the world.
     pub fn step(self, alloc: Global, event: &Event) -> (Acting<D>, Result<Answer, Memory>)
         requires { is_of InFilter event.now ≡ true }
-        ensures steps { Steps (Is D.state) event.now self result.1 result.0 }
+        ensures steps { StepsOver (Is D.state) event.now self result.1 result.0 }
         ensures device { Bears event.now (D.state (disk_of self)) (D.state (disk_of result.0)) }
     {
         match self {
@@ -67,9 +69,11 @@ impl<D: Disk> Acting<D> {
         }
     }
 
-    /// The disk. Whatever a crash leaves of it stands for a point that a restart may open.
+    /// The disk, which tells the powers that the world knows of. Whatever a crash leaves of it stands for a point that a
+    /// restart may open.
     pub fn finish(self) -> D
-        ensures { (s : State) → Is D.state self s → (c : List ℕ) → (D.state result).may_leave c → StandsNow StandsFor s c }
+        ensures lasts { (past : Past) (s : State) → Is D.state past self s → (c : List ℕ) → (D.state result).may_leave c → StandsNow StandsFor s c }
+        ensures powers { (past : Past) (s : State) → Is D.state past self s → (D.state result).powers ≡ past.told }
     {
         match self {
             Acting::On(running) => running.filter.into_disk(),
@@ -85,7 +89,7 @@ fn step_on<D: Disk>(
     event: &Event,
 ) -> (Acting<D>, Result<Answer, Memory>)
     requires { is_of InFilter event.now ≡ true }
-    ensures steps { Steps (Is D.state) event.now (acting.On running) result.1 result.0 }
+    ensures steps { StepsOver (Is D.state) event.now (acting.On running) result.1 result.0 }
     ensures device { Bears event.now (D.state running.filter.disk) (D.state (disk_of result.0)) }
 {
     match event {
@@ -107,7 +111,7 @@ fn device_on<D: Disk>(
     mut running: Running<D>,
     event: DeviceEvent,
 ) -> (Acting<D>, Result<Answer, Memory>)
-    ensures steps { Steps (Is D.state) (events.Device event) (acting.On running) result.1 result.0 }
+    ensures steps { StepsOver (Is D.state) (events.Device event) (acting.On running) result.1 result.0 }
     ensures device { BearsOn event (D.state running.filter.disk) (D.state (disk_of result.0)) }
 {
     match event {
@@ -133,7 +137,7 @@ fn step_off<D: Disk>(
     event: &Event,
 ) -> (Acting<D>, Result<Answer, Memory>)
     requires { is_of InFilter event.now ≡ true }
-    ensures steps { Steps (Is D.state) event.now (acting.Off cut) result.1 result.0 }
+    ensures steps { StepsOver (Is D.state) event.now (acting.Off cut) result.1 result.0 }
     ensures device { Bears event.now (D.state cut.disk) (D.state (disk_of result.0)) }
 {
     match event {
@@ -150,7 +154,7 @@ fn device_off<D: Disk>(
     mut cut: Cut<D>,
     event: DeviceEvent,
 ) -> (Acting<D>, Result<Answer, Memory>)
-    ensures steps { Steps (Is D.state) (events.Device event) (acting.Off cut) result.1 result.0 }
+    ensures steps { StepsOver (Is D.state) (events.Device event) (acting.Off cut) result.1 result.0 }
     ensures device { BearsOn event (D.state cut.disk) (D.state (disk_of result.0)) }
 {
     match event {

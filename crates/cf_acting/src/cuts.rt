@@ -4,7 +4,7 @@
 ghost use Rattle.std.specs.Prelude.{◌≡◌, Err, IfOk, Ok, [], false, length, true};
 ghost use Rattle.cf_acting.specs.Answered.{answer_with, answered_by};
 ghost use Rattle.cf_acting.specs.Meaning.{Is, IsOff};
-ghost use Rattle.cf_acting.specs.Stepped.{BearsOn, Steps};
+ghost use Rattle.cf_acting.specs.Stepped.{BearsOn, Steps, StepsOver};
 ghost use Rattle.cf_acting.specs.declared.places.Acting.TheVariants as acting;
 ghost use Rattle.cf_base.specs.declared.answers.Shown.TheVariants as shown;
 ghost use Rattle.cf_base.specs.declared.events.DeviceEvent.TheVariants as device;
@@ -39,7 +39,7 @@ impl<D: Disk> Cut<D> {
 
     /// `crash`: one more power.
     pub(crate) fn cut(&mut self, alloc: Global, choice: Choice) -> Answer
-        ensures steps { Steps (IsOff D.state) (event.Device (device.Crash choice)) self.old (Ok result) self.new }
+        ensures steps { StepsOver (IsOff D.state) (event.Device (device.Crash choice)) self.old (Ok result) self.new }
         ensures powers { BearsOn (device.Crash choice) (D.state self.old.disk) (D.state self.new.disk) }
     {
         self.disk.power(choice);
@@ -58,7 +58,7 @@ impl<D: Disk> Cut<D> {
     /// `restart`: opens the volume again. Where the device fails it stays off. A disk of a size that no volume has holds
     /// none.
     pub(crate) fn restart(self, alloc: Global) -> (Acting<D>, Result<Answer, Memory>)
-        ensures { Steps (Is D.state) (event.Device device.Restart) (acting.Off self) result.1 result.0 }
+        ensures { StepsOver (Is D.state) (event.Device device.Restart) (acting.Off self) result.1 result.0 }
     {
         if !is_fit(self.disk.size()) {
             return (Acting::Off(self), Ok(refused(alloc, Code::NotAVolume)));
@@ -68,7 +68,7 @@ impl<D: Disk> Cut<D> {
 
     fn reopen(self, alloc: Global) -> (Acting<D>, Result<Answer, Memory>)
         requires { IsFitSize (size_of (D.state self.disk)) }
-        ensures { Steps (Is D.state) (event.Device device.Restart) (acting.Off self) result.1 result.0 }
+        ensures { StepsOver (Is D.state) (event.Device device.Restart) (acting.Off self) result.1 result.0 }
     {
         let policy = self.policy;
         match Filter::open(alloc, self.disk, policy) {

@@ -2,7 +2,7 @@
 
 ghost use Rattle.std.specs.Prelude.{Ok, []};
 ghost use Rattle.cf_acting.specs.Meaning.{Is, IsOn};
-ghost use Rattle.cf_acting.specs.Stepped.{BearsOn, Steps};
+ghost use Rattle.cf_acting.specs.Stepped.{BearsOn, Steps, StepsOver};
 ghost use Rattle.cf_acting.specs.Answered.{answer_with};
 ghost use Rattle.cf_acting.specs.declared.places.Acting.TheVariants as acting;
 ghost use Rattle.cf_base.specs.declared.answers.Shown.TheVariants as shown;
@@ -27,14 +27,14 @@ impl<D: Disk> Running<D> {
 
     /// `restart` of a volume that is open.
     pub(crate) fn restart(&self, alloc: Global) -> Answer
-        ensures { Steps (IsOn D.state) (event.Device device.Restart) self.now (Ok result) self.now }
+        ensures { StepsOver (IsOn D.state) (event.Device device.Restart) self.now (Ok result) self.now }
     {
         refused(alloc, Code::Running)
     }
 
     /// `crash`: the power is cut, and what stands in memory alone is gone.
     pub(crate) fn cut(self, choice: Choice) -> Cut<D>
-        ensures steps { Steps (Is D.state) (event.Device (device.Crash choice)) (acting.On self) (Ok (answer_with shown.Done [])) (acting.Off result) }
+        ensures steps { StepsOver (Is D.state) (event.Device (device.Crash choice)) (acting.On self) (Ok (answer_with shown.Done [])) (acting.Off result) }
         ensures powers { BearsOn (device.Crash choice) (D.state self.filter.disk) (D.state result.disk) }
     {
         let policy = self.filter.policy();

@@ -14,6 +14,7 @@ mod cuts;
 mod devices;
 mod fetching;
 mod files;
+pub mod laws;
 mod places;
 mod placing;
 mod planning;

@@ -3,3 +3,4 @@ pub mod Drafted
 pub mod Traces
 pub mod Ends
 pub mod Sided
+pub mod OverPowers

@@ -3,23 +3,24 @@ use Rattle.std.proofs.Common.{◌≡◌, ℕ, Bool, true, false, List, [], ◌�
 use Rattle.std.specs.Prelude.{Option, Some, None, IsTrue, IfOk, is_some}
 use Rattle.std.specs.List.{list_all}
 use Rattle.cf_acting.specs.Meaning.{Is}
-use Rattle.cf_acting.specs.Stepped.{StandsFor, Steps}
+use Rattle.cf_acting.specs.Pasts.{Gains, Past, StandsFor, last_image}
+use Rattle.cf_acting.specs.Stepped.{StepsOver}
 use Rattle.cf_acting.specs.declared.places.Acting.{Acting}
 use Rattle.cf_base.specs.declared.answers.Answer.{Answer}
 use Rattle.cf_base.specs.declared.events.Event.{Event}
 use Rattle.cf_base.specs.declared.memory.Memory.{Memory as NoMemory}
+use Rattle.cf_base.specs.declared.policies.Choice.{Choice}
 use Rattle.cf_base.specs.declared.policies.Mode.{Mode}
 use Rattle.cf_base.specs.declared.policies.Mode.TheVariants.{Filter, Replay}
 use Rattle.cf_disk.specs.Disk.{State as Disk}
-use Rattle.cf_model.proofs.TraceLaws.{runs_push}
-use Rattle.cf_model.specs.Lawful.{Runs}
 use Rattle.cf_model.specs.Powers.{StandsNow}
 use Rattle.cf_model.specs.State.{State, start}
 use Rattle.cf_model.specs.Store.{Held}
 use Rattle.cf_plain.specs.Worlds as plain
 use Rattle.cf_points.specs.Standing.{clusters_on}
 use Rattle.cf_script.specs.Built.{is_built}
-use Rattle.cf_world.specs.Led.{HandsBack, HasRunOn, IsLawful, IsSame, IsWhole, Keeps, Leads, can_do}
+use Rattle.cf_world.proofs.OverPowers.{after_all, gains_then, last_then, over_push, over_runs}
+use Rattle.cf_world.specs.Led.{HandsBack, HasRunOn, IsLawful, IsSame, IsWhole, Keeps, Leads, LeadsWorld, can_do}
 use Rattle.cf_world.specs.declared.sides.Side.{Side}
 use Rattle.cf_world.specs.declared.sides.Side.TheVariants as side
 
@@ -55,7 +56,7 @@ module _ {D : Type 0} (state : D → Disk) where
   pub run_lawful : (m : Mode) (disk : D) (trace : List (Event × Answer)) (w : Side D) → HasRunOn state m disk trace w → IsLawful m (clusters_on (state disk).seen) trace
   run_lawful m disk trace (side.Replay w back) h = subst (λ (k : Mode). IsLawful k (clusters_on (state disk).seen) trace) (sym h.0) h.1
   run_lawful m disk trace (side.Filter None) h = absurd h
-  run_lawful m disk trace (side.Filter (Some a)) h = subst (λ (k : Mode). IsLawful k (clusters_on (state disk).seen) trace) (sym h.0) (λ remote. let r = h.1 remote in (r.0, r.1))
+  run_lawful m disk trace (side.Filter (Some a)) h = subst (λ (k : Mode). IsLawful k (clusters_on (state disk).seen) trace) (sym h.0) (λ remote. let r = h.1 remote in (r.left, over_runs StandsFor Filter None (start Filter remote (clusters_on (state disk).seen)) r.left trace r.powers r.runs))
 
   -- one more event
   pub replay_more : (m : Mode) (disk back : D) (trace : List (Event × Answer)) (old new : plain.State) (e : Event) (a : Answer) → plain.IsAnswer old e a → new ≡ plain.left_by old e a.shown
@@ -67,15 +68,24 @@ module _ {D : Type 0} (state : D → Disk) where
     h.3,
   )
 
-  pub filter_more : (m : Mode) (disk : D) (trace : List (Event × Answer)) (old new : Acting D) (e : Event) (a : Answer) → Steps (Is state) e old (Ok a) new
+  world_more : (remote : Held) (disk : D) (trace : List (Event × Answer)) (old new : Acting D) (e : Event) (a : Answer) → StepsOver (Is state) e old (Ok a) new → LeadsWorld state remote disk trace old
+      → LeadsWorld state remote disk (trace ++ (e, a) ∷ []) new
+  world_more remote disk trace old new e a steps r =
+      let last : Option (List ℕ) = last_image None r.powers in
+      let t = steps.leads (record { told = r.told; last = last }) r.left r.is in
+      let all : t.2.last ≡ last_image None (r.powers ++ t.1) = after_all StandsFor last e a t.0 t.1 t.2.last t.4 ∙ last_then None r.powers t.1 in
+      record {
+        left = t.0;
+        powers = r.powers ++ t.1;
+        told = t.2.told;
+        runs = over_push StandsFor Filter None (start Filter remote (clusters_on (state disk).seen)) r.left t.0 trace r.powers t.1 e a t.2.last r.runs t.3 t.4;
+        gains = gains_then r.powers t.1 (state disk).powers r.told t.2.told r.gains t.5;
+        is = subst (λ (o : Option (List ℕ)). Is state (record { told = t.2.told; last = o }) new t.0) all t.6;
+      }
+
+  pub filter_more : (m : Mode) (disk : D) (trace : List (Event × Answer)) (old new : Acting D) (e : Event) (a : Answer) → StepsOver (Is state) e old (Ok a) new
       → HasRunOn state m disk trace (side.Filter (Some old)) → HasRunOn state m disk (trace ++ (e, a) ∷ []) (side.Filter (Some new))
-  filter_more m disk trace old new e a steps h = (
-    h.0,
-    λ remote.
-        let r = h.1 remote in
-        let t = steps.leads r.0 r.2 in
-        (t.0, runs_push Filter (start Filter remote (clusters_on (state disk).seen)) r.0 t.0 trace e a r.1 t.1, t.2),
-  )
+  filter_more m disk trace old new e a steps h = (h.0, λ remote. world_more remote disk trace old new e a steps (h.1 remote))
 
   -- the event of either command, with its answer, if there is one
   pub replay_acts : (r : Result Answer NoMemory) (old : Side D) (w new : plain.State) (back : D) (e : Event) → old ≡ side.Replay w back → IfOk r (plain.IsAnswer w e) → IfOk r (λ a. new ≡ plain.left_by w e a.shown)
@@ -83,13 +93,13 @@ module _ {D : Type 0} (state : D → Disk) where
   replay_acts (Ok a) old w new back e at is left = λ m disk trace h. replay_more m disk back trace w new e a is left (subst (HasRunOn state m disk trace) at h)
   replay_acts (Err x) old w new back e at is left = tt
 
-  filter_goes : (m : Mode) (disk : D) (trace : List (Event × Answer)) (old new : Option (Acting D)) (e : Event) (a : Answer) → ((x y : Acting D) → old ≡ Some x → new ≡ Some y → Steps (Is state) e x (Ok a) y) → is_some new ≡ true
+  filter_goes : (m : Mode) (disk : D) (trace : List (Event × Answer)) (old new : Option (Acting D)) (e : Event) (a : Answer) → ((x y : Acting D) → old ≡ Some x → new ≡ Some y → StepsOver (Is state) e x (Ok a) y) → is_some new ≡ true
       → HasRunOn state m disk trace (side.Filter old) → HasRunOn state m disk (trace ++ (e, a) ∷ []) (side.Filter new)
   filter_goes m disk trace None new e a steps there h = absurd h
   filter_goes m disk trace (Some x) None e a steps there h = let z : false ≡ true = there in absurd cc
   filter_goes m disk trace (Some x) (Some y) e a steps there h = filter_more m disk trace x y e a (steps x y refl refl) h
 
-  pub filter_acts : (r : Result Answer NoMemory) (was : Side D) (old new : Option (Acting D)) (e : Event) → was ≡ side.Filter old → ((x y : Acting D) → old ≡ Some x → new ≡ Some y → Steps (Is state) e x r y) → is_some new ≡ true
+  pub filter_acts : (r : Result Answer NoMemory) (was : Side D) (old new : Option (Acting D)) (e : Event) → was ≡ side.Filter old → ((x y : Acting D) → old ≡ Some x → new ≡ Some y → StepsOver (Is state) e x r y) → is_some new ≡ true
       → IfOk r (λ a. (m : Mode) (disk : D) (trace : List (Event × Answer)) → HasRunOn state m disk trace was → HasRunOn state m disk (trace ++ (e, a) ∷ []) (side.Filter new))
   filter_acts (Ok a) was old new e at steps there = λ m disk trace h. filter_goes m disk trace old new e a steps there (subst (HasRunOn state m disk trace) at h)
   filter_acts (Err x) was old new e at steps there = tt
@@ -98,9 +108,18 @@ module _ {D : Type 0} (state : D → Disk) where
   pub replay_hands : (m : Mode) (disk back : D) (trace : List (Event × Answer)) (w : plain.State) → HasRunOn state m disk trace (side.Replay w back) → Leads state m disk trace back
   replay_hands m disk back trace w h = subst (λ (k : Mode). Leads state k disk trace back) (sym h.0) (h.1, h.3)
 
-  pub filter_hands : (m : Mode) (disk back : D) (trace : List (Event × Answer)) (a : Acting D) → ((s : State) → Is state a s → (c : List ℕ) → (state back).may_leave c → StandsNow StandsFor s c)
-      → HasRunOn state m disk trace (side.Filter (Some a)) → Leads state m disk trace back
-  filter_hands m disk back trace a hands h = subst (λ (k : Mode). Leads state k disk trace back) (sym h.0) (λ remote. let r = h.1 remote in (r.0, r.1, hands r.0 r.2))
+  pub filter_hands : (m : Mode) (disk back : D) (trace : List (Event × Answer)) (a : Acting D) → ((past : Past) (s : State) → Is state past a s → (c : List ℕ) → (state back).may_leave c → StandsNow StandsFor s c)
+      → ((past : Past) (s : State) → Is state past a s → (state back).powers ≡ past.told) → HasRunOn state m disk trace (side.Filter (Some a)) → Leads state m disk trace back
+  filter_hands m disk back trace a hands tells h = subst (λ (k : Mode). Leads state k disk trace back) (sym h.0) (λ remote.
+      let r = h.1 remote in
+      let past : Past = record { told = r.told; last = last_image None r.powers } in
+      record {
+        left = r.left;
+        powers = r.powers;
+        runs = r.runs;
+        gains = subst (λ (o : Option (List (Choice × List ℕ))). Gains r.powers (state disk).powers o) (sym (tells past r.left r.is)) r.gains;
+        lasts = hands past r.left r.is;
+      })
 
   -- a world that has begun is whole
   pub run_whole : (m : Mode) (disk : D) (trace : List (Event × Answer)) (w : Side D) → HasRunOn state m disk trace w → IsWhole w
@@ -122,17 +141,25 @@ module _ {D : Type 0} (state : D → Disk) where
   run_back m disk back trace (side.Filter (Some a)) new h same keeps = subst (λ (k : Mode). HandsBack k disk back) (sym h.0) tt
 
   -- a world in `filter` in which nothing has happened
-  pub filter_begins : (m : Mode) (disk : D) (trace : List (Event × Answer)) (a : Acting D) → m ≡ Filter → trace ≡ [] → ((remote : Held) → Is state a (start Filter remote (clusters_on (state disk).seen))) → HasRunOn state m disk trace (side.Filter (Some a))
+  pub filter_begins : (m : Mode) (disk : D) (trace : List (Event × Answer)) (a : Acting D) → m ≡ Filter → trace ≡ [] → ((remote : Held) (past : Past) → past.told ≡ (state disk).powers → Is state past a (start Filter remote (clusters_on (state disk).seen))) → HasRunOn state m disk trace (side.Filter (Some a))
   filter_begins m disk trace a is none begins = (
     is,
     λ remote.
         let s = start Filter remote (clusters_on (state disk).seen) in
-        subst (λ (ps : List (Event × Answer)). (t : State) × Runs Filter s ps t × Is state a t) (sym none) (s, refl, begins remote),
+        let here : LeadsWorld state remote disk [] a = record {
+          left = s;
+          powers = [];
+          told = (state disk).powers;
+          runs = (refl, refl);
+          gains = refl;
+          is = begins remote (record { told = (state disk).powers; last = None }) refl;
+        } in
+        subst (λ (ps : List (Event × Answer)). LeadsWorld state remote disk ps a) (sym none) here,
   )
 
   -- the disk of a world in `filter`
-  pub filter_gives : (was : Side D) (o : Option (Acting D)) (a : Acting D) (back : D) → was ≡ side.Filter o → o ≡ Some a → ((s : State) → Is state a s → (c : List ℕ) → (state back).may_leave c → StandsNow StandsFor s c)
-      → (m : Mode) (disk : D) (trace : List (Event × Answer)) → HasRunOn state m disk trace was → Leads state m disk trace back
-  filter_gives was o a back at some hands m disk trace h =
+  pub filter_gives : (was : Side D) (o : Option (Acting D)) (a : Acting D) (back : D) → was ≡ side.Filter o → o ≡ Some a → ((past : Past) (s : State) → Is state past a s → (c : List ℕ) → (state back).may_leave c → StandsNow StandsFor s c)
+      → ((past : Past) (s : State) → Is state past a s → (state back).powers ≡ past.told) → (m : Mode) (disk : D) (trace : List (Event × Answer)) → HasRunOn state m disk trace was → Leads state m disk trace back
+  filter_gives was o a back at some hands tells m disk trace h =
       let run = subst (λ (x : Option (Acting D)). HasRunOn state m disk trace (side.Filter x)) some (subst (HasRunOn state m disk trace) at h) in
-      filter_hands m disk back trace a hands run
+      filter_hands m disk back trace a hands tells run

@@ -1,14 +1,16 @@
 -- The worlds of both commands: what a trace is, and what it leaves of the disk.
 use Rattle.std.specs.Prelude.{◌≡◌, ℕ, Bool, List, Option, Some, None}
 use Rattle.cf_acting.specs.Meaning.{Is}
-use Rattle.cf_acting.specs.Stepped.{StandsFor}
+use Rattle.cf_acting.specs.Pasts.{Gains, StandsFor, last_image}
+use Rattle.cf_acting.specs.declared.places.Acting.{Acting}
 use Rattle.cf_base.specs.declared.answers.Answer.{Answer}
 use Rattle.cf_base.specs.declared.events.Event.{Event}
+use Rattle.cf_base.specs.declared.policies.Choice.{Choice}
 use Rattle.cf_base.specs.declared.policies.Mode.{Mode}
 use Rattle.cf_base.specs.declared.policies.Mode.TheVariants.{Filter, Replay}
 use Rattle.cf_disk.specs.Disk.{State as Disk}
-use Rattle.cf_model.specs.Lawful.{Lawful, Runs}
-use Rattle.cf_model.specs.Powers.{StandsNow}
+use Rattle.cf_model.specs.Lawful.{Lawful}
+use Rattle.cf_model.specs.Powers.{RunsOver, StandsNow}
 use Rattle.cf_model.specs.State.{State, start}
 use Rattle.cf_model.specs.Store.{Held}
 use Rattle.cf_plain.specs.Worlds as plain
@@ -23,16 +25,34 @@ abbrev pub IsLawful : Mode → ℕ → List (Event × Answer) → Type 0
 IsLawful Replay clusters trace = plain.Lawful plain.start trace
 IsLawful Filter clusters trace = (remote : Held) → Lawful Filter remote clusters trace
 
--- In `filter` whatever a crash leaves of the disk stands for a point that a restart may open in the state that the trace
--- leaves. In `replay` the disk is not used yet.
+-- What a trace of `filter` leaves of a disk on which it began with a new volume. There is one power of the disk for each crash,
+-- with its choice and in order, and each `resumed` opens what the image that the last of them left stands for. These are all
+-- the powers that the disk had, where it tells them. Whatever a crash leaves then stands for a point that a restart may open.
+pub record LeadsDisk {D : Type 0} (state : D → Disk) (remote : Held) (disk : D) (trace : List (Event × Answer)) (back : D) : Type 0 where
+  pub left : State
+  pub powers : List (Choice × List ℕ)
+  pub runs : RunsOver StandsFor Filter None (start Filter remote (clusters_on (state disk).seen)) trace powers left
+  pub gains : Gains powers (state disk).powers (state back).powers
+  pub lasts : (c : List ℕ) → (state back).may_leave c → StandsNow StandsFor left c
+
+-- In `filter` no event touches the remote. In `replay` the disk is not used yet.
 abbrev pub Leads : {D : Type 0} → (D → Disk) → Mode → D → List (Event × Answer) → D → Type 0
 Leads state Replay disk trace back = plain.Lawful plain.start trace × (back ≡ disk)
-Leads state Filter disk trace back = (remote : Held) → (t : State) × Runs Filter (start Filter remote (clusters_on (state disk).seen)) trace t × ((c : List ℕ) → (state back).may_leave c → StandsNow StandsFor t c)
+Leads state Filter disk trace back = (remote : Held) → LeadsDisk state remote disk trace back
+
+-- The same of a world, which stands for the state after these powers.
+pub record LeadsWorld {D : Type 0} (state : D → Disk) (remote : Held) (disk : D) (trace : List (Event × Answer)) (a : Acting D) : Type 0 where
+  pub left : State
+  pub powers : List (Choice × List ℕ)
+  pub told : Option (List (Choice × List ℕ))
+  pub runs : RunsOver StandsFor Filter None (start Filter remote (clusters_on (state disk).seen)) trace powers left
+  pub gains : Gains powers (state disk).powers told
+  pub is : Is state (record { told = told; last = last_image None powers }) a left
 
 abbrev pub HasRunOn : {D : Type 0} → (D → Disk) → Mode → D → List (Event × Answer) → Side D → Type 0
 HasRunOn state m disk trace (side.Replay w back) = (m ≡ Replay) × plain.Lawful plain.start trace × (w ≡ plain.after plain.start trace) × (back ≡ disk)
 HasRunOn state m disk trace (side.Filter None) = ⊥
-HasRunOn state m disk trace (side.Filter (Some a)) = (m ≡ Filter) × ((remote : Held) → (t : State) × Runs Filter (start Filter remote (clusters_on (state disk).seen)) trace t × Is state a t)
+HasRunOn state m disk trace (side.Filter (Some a)) = (m ≡ Filter) × ((remote : Held) → LeadsWorld state remote disk trace a)
 
 -- a world that began on this disk is where its trace leads to
 abbrev pub HasRun : {D R : Type 0} → (D → Disk) → Mode → D → Acted D R → Type 0

@@ -2,7 +2,7 @@
 
 ghost use Rattle.std.specs.Prelude.{◌≡◌, ◌++◌, ◌∷◌, [], is_some, IfErr, IfOk, OnErr, OnOk, List, Some, true};
 ghost use Rattle.cf_acting.specs.Meaning.{Is};
-ghost use Rattle.cf_acting.specs.Stepped.{Steps};
+ghost use Rattle.cf_acting.specs.Stepped.{StepsOver};
 ghost use Rattle.cf_acting.specs.declared.places.Acting.{Acting as Hands};
 ghost use Rattle.cf_base.specs.declared.answers.Answer.{Answer as Answered};
 ghost use Rattle.cf_base.specs.declared.events.Event.{Event as Done};
@@ -140,7 +140,7 @@ fn act_on<D: Disk + Drop>(
 ) -> Result<Answer, Memory>
     requires whole { is_some acting.old ≡ true }
     requires can { is_of Filter event.now ≡ true }
-    ensures ok { (a b : Hands D) → acting.old ≡ Some a → acting.new ≡ Some b → Steps (Is D.state) event.now a result b }
+    ensures ok { (a b : Hands D) → acting.old ≡ Some a → acting.new ≡ Some b → StepsOver (Is D.state) event.now a result b }
     ensures whole { is_some acting.new ≡ true }
 {
     let Some(begun) = acting.take() else {

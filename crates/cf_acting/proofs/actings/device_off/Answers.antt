@@ -1,14 +1,15 @@
-use Rattle.cf_acting.proofs.Wholes.{off_steps}
+use Rattle.std.proofs.Common.{refl}
+use Rattle.cf_acting.proofs.Wholes.{off_over, off_steps}
 use Rattle.cf_acting.proofs.actings.device_off.Goals as goal
 
 pub returns-in-Stop-clause-steps : goal.returns-in-Stop-clause-steps
-returns-in-Stop-clause-steps g c = rw c.in-Stop.is (off_steps g.D.Disk.state _ _ _ _ c.stop-told.ensures.steps)
+returns-in-Stop-clause-steps g c = rw c.in-Stop.is (off_steps g.D.Disk.state _ _ _ _ (λ last a t. (refl, refl)) c.stop-told.ensures.steps)
 
 pub returns-in-Stop-clause-device : goal.returns-in-Stop-clause-device
 returns-in-Stop-clause-device g c = rw c.in-Stop.is c.stop-told.ensures.armed
 
 pub returns-in-Crash-clause-steps : goal.returns-in-Crash-clause-steps
-returns-in-Crash-clause-steps g c = rw c.in-Crash.is (off_steps g.D.Disk.state _ _ _ _ c.cut-told.ensures.steps)
+returns-in-Crash-clause-steps g c = rw c.in-Crash.is (off_over g.D.Disk.state _ _ _ _ c.cut-told.ensures.steps)
 
 pub returns-in-Crash-clause-device : goal.returns-in-Crash-clause-device
 returns-in-Crash-clause-device g c = rw c.in-Crash.is c.cut-told.ensures.powers

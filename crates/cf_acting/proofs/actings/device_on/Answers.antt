@@ -1,8 +1,9 @@
-use Rattle.cf_acting.proofs.Wholes.{on_steps}
+use Rattle.std.proofs.Common.{refl}
+use Rattle.cf_acting.proofs.Wholes.{on_over, on_steps}
 use Rattle.cf_acting.proofs.actings.device_on.Goals as goal
 
 pub returns-in-Stop-clause-steps : goal.returns-in-Stop-clause-steps
-returns-in-Stop-clause-steps g c = rw c.in-Stop.is (on_steps g.D.Disk.state _ _ _ _ c.stop-told.ensures.steps)
+returns-in-Stop-clause-steps g c = rw c.in-Stop.is (on_steps g.D.Disk.state _ _ _ _ (λ last a t. (refl, refl)) c.stop-told.ensures.steps)
 
 pub returns-in-Stop-clause-device : goal.returns-in-Stop-clause-device
 returns-in-Stop-clause-device g c = rw c.in-Stop.is c.stop-told.ensures.armed
@@ -14,7 +15,7 @@ pub returns-in-Crash-clause-device : goal.returns-in-Crash-clause-device
 returns-in-Crash-clause-device g c = rw c.in-Crash.is c.cut-cut.ensures.powers
 
 pub returns-in-Restart-clause-steps : goal.returns-in-Restart-clause-steps
-returns-in-Restart-clause-steps g c = rw c.in-Restart.is (on_steps g.D.Disk.state _ _ _ _ c.restart-told.ensures)
+returns-in-Restart-clause-steps g c = rw c.in-Restart.is (on_over g.D.Disk.state _ _ _ _ c.restart-told.ensures)
 
 pub returns-in-Restart-clause-device : goal.returns-in-Restart-clause-device
 returns-in-Restart-clause-device g c = rw c.in-Restart.is (record {})

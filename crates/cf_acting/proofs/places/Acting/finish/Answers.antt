@@ -1,9 +1,13 @@
 use Rattle.std.proofs.Common.{subst}
-use Rattle.cf_acting.proofs.Wholes.{on_hands}
+use Rattle.cf_acting.proofs.Wholes.{off_hands, on_hands}
 use Rattle.cf_acting.specs.Meaning.{Is}
 use Rattle.cf_acting.specs.declared.places.Acting.{Acting}
 use Rattle.cf_acting.proofs.places.Acting.finish.Goals as goal
 
-pub returns-in-On : goal.returns-in-On
-returns-in-On g c = λ s is image may.
-    on_hands g.D.Disk.state c.in-On.running s (subst (λ (x : Acting _). Is g.D.Disk.state x s) c.in-On.is is) image (subst (λ (d : _). (g.D.Disk.state d).may_leave image) c.into_disk.ensures may)
+pub returns-in-On-clause-lasts : goal.returns-in-On-clause-lasts
+returns-in-On-clause-lasts g c = λ past s is image may.
+    on_hands g.D.Disk.state past c.in-On.running s (subst (λ (x : Acting _). Is g.D.Disk.state past x s) c.in-On.is is) image (subst (λ (d : _). (g.D.Disk.state d).may_leave image) c.into_disk.ensures may)
+
+pub returns-in-Off-clause-lasts : goal.returns-in-Off-clause-lasts
+returns-in-Off-clause-lasts g c = λ past s is image may.
+    off_hands g.D.Disk.state past c.in-Off.cut s (subst (λ (x : Acting _). Is g.D.Disk.state past x s) c.in-Off.is is) image may
