@@ -56,8 +56,7 @@ over_push stands m last s mid t [] powers more e a after h is power =
       [],
       subst (λ (x : State). IsStep m x e a t) h.0 is,
       subst (λ (l : List (Choice × List ℕ)). IsPower stands last e a t (l ++ more) after []) (sym h.1) alone,
-      refl,
-      refl,
+      (refl, refl),
     )
 over_push stands m last s mid t (p ∷ ps) powers more e a after h is power = (
   h.0,
