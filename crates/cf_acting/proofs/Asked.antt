@@ -101,7 +101,7 @@ module _ {D : Type 0} (state : D → Disk) where
       quiet_stop : (s : State) (c : Code) → Stands state x (hushed s.filter) → Answers (sense state) Any part x (Err (No c)) y → y.desk.notes ≡ []
       quiet_stop s c stands answers =
           let d = answers.leads (hushed s.filter) stands (record {}) in
-          d.3.notes ∙ kept_at_stop Hush (part (hushed s.filter)) d.0 (hush.keeps (hushed s.filter) refl) d.1.1
+          d.3.0.notes ∙ kept_at_stop Hush (part (hushed s.filter)) d.0 (hush.keeps (hushed s.filter) refl) d.1.1
 
       comes : (past : Past) (s : State) → IsOn state past (record { filter = x; provider = plan }) s → s.power ≡ On → s.plan ≡ plan → Stands state x (hushed s.filter) → (w : Result Shown Fail) → y.desk.notes ≡ [] → Answers (sense state) Any part x w y → Comes state past e s w plan [] y
       comes past s on power planned stands w quiet answers =
