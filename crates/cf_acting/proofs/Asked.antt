@@ -2,10 +2,12 @@
 use Rattle.std.proofs.Common.{◌≡◌, Bool, true, false, List, [], refl, sym, ap, subst, ◌∙◌}
 use Rattle.std.specs.Prelude.{Result, Ok, Err}
 use Rattle.cf_acting.specs.Answered.{answered_by, showing}
+use Rattle.cf_acting.specs.Counted.{StepsOn}
 use Rattle.cf_acting.specs.Meaning.{IsOn, OnBy, hushed}
 use Rattle.cf_acting.specs.Pasts.{Past}
 use Rattle.cf_acting.specs.Stepped.{SteppedTo, Steps}
 use Rattle.cf_acting.proofs.Called.{comes_by}
+use Rattle.cf_acting.proofs.Counted.{asks_count, plainly_count}
 use Rattle.cf_acting.proofs.Finished.{Comes, IsCall, finished, refused_as_broken}
 use Rattle.cf_acting.proofs.Hushed.{noted_none}
 use Rattle.cf_base.specs.declared.answers.Answer.{Answer}
@@ -127,13 +129,13 @@ module _ {D : Type 0} (state : D → Disk) where
 
   -- the same, as they are written
   pub asks_step : {A : Type 0} (e : Event) (part : Arrow Filter Shown) (show : A → Shown) (plan : List (Bool × Operation)) (ns : List Notice) (x : Held D) (r : Result A Fail) (w : Result Shown Fail) (a : Result Answer NoMemory) → IsCall e → NeverStops part
-      → ((z : State) → z.mode ≡ InFilter → event_now e z ≡ in_filter part z) → ns ≡ [] → Asks (sense state) show part x r → w ≡ showing show r → a ≡ answered_by w ns → Steps (IsOn state) e (record { filter = x; provider = plan }) a (record { filter = x; provider = plan })
+      → ((z : State) → z.mode ≡ InFilter → event_now e z ≡ in_filter part z) → ns ≡ [] → Asks (sense state) show part x r → w ≡ showing show r → a ≡ answered_by w ns → StepsOn state e (record { filter = x; provider = plan }) a (record { filter = x; provider = plan })
   asks_step e part show plan ns x r w a call never is none asks shows tells =
-      subst (λ (b : Result Answer NoMemory). Steps (IsOn state) e (record { filter = x; provider = plan }) b (record { filter = x; provider = plan })) (sym (tells ∙ ap (λ (v : Result Shown Fail). answered_by v ns) shows ∙ ap (λ (l : List Notice). answered_by (showing show r) l) none))
-      (asks_by e part show plan x r call never is asks)
+      subst (λ (b : Result Answer NoMemory). StepsOn state e (record { filter = x; provider = plan }) b (record { filter = x; provider = plan })) (sym (tells ∙ ap (λ (v : Result Shown Fail). answered_by v ns) shows ∙ ap (λ (l : List Notice). answered_by (showing show r) l) none))
+      (record { steps = asks_by e part show plan x r call never is asks; counts = λ past s on. asks_count state part show x r asks })
 
   pub calls_plainly : {A : Type 0} (e : Event) (part : Arrow Filter Shown) (show : A → Shown) (plan : List (Bool × Operation)) (ns : List Notice) (x y : Held D) (r : Result A Fail) (w : Result Shown Fail) (a : Result Answer NoMemory) → IsCall e → Preserves Hush part
-      → ((z : State) → z.mode ≡ InFilter → event_now e z ≡ in_filter part z) → ns ≡ [] → Calls (sense state) show part x r y → w ≡ showing show r → a ≡ answered_by w ns → Steps (IsOn state) e (record { filter = x; provider = plan }) a (record { filter = y; provider = plan })
+      → ((z : State) → z.mode ≡ InFilter → event_now e z ≡ in_filter part z) → ns ≡ [] → Calls (sense state) show part x r y → w ≡ showing show r → a ≡ answered_by w ns → StepsOn state e (record { filter = x; provider = plan }) a (record { filter = y; provider = plan })
   calls_plainly e part show plan ns x y r w a call hush is none calls shows tells =
-      subst (λ (b : Result Answer NoMemory). Steps (IsOn state) e (record { filter = x; provider = plan }) b (record { filter = y; provider = plan })) (sym (tells ∙ ap (λ (v : Result Shown Fail). answered_by v ns) shows ∙ ap (λ (l : List Notice). answered_by (showing show r) l) none))
-      (plainly_by e part show plan x y r call hush is calls)
+      subst (λ (b : Result Answer NoMemory). StepsOn state e (record { filter = x; provider = plan }) b (record { filter = y; provider = plan })) (sym (tells ∙ ap (λ (v : Result Shown Fail). answered_by v ns) shows ∙ ap (λ (l : List Notice). answered_by (showing show r) l) none))
+      (record { steps = plainly_by e part show plan x y r call hush is calls; counts = plainly_count state part show plan x y r calls })

@@ -2,9 +2,11 @@
 use Rattle.std.proofs.Common.{◌≡◌, Bool, true, false, List, [], refl, sym, ap, subst, ◌∙◌}
 use Rattle.std.specs.Prelude.{Result, Ok, Err}
 use Rattle.cf_acting.specs.Answered.{answered_by, showing}
+use Rattle.cf_acting.specs.Counted.{StepsOn}
 use Rattle.cf_acting.specs.Meaning.{IsOn, IsDiskOf, OnBy, Sees, hushed}
 use Rattle.cf_acting.specs.Pasts.{Past}
 use Rattle.cf_acting.specs.Stepped.{SteppedTo, Steps}
+use Rattle.cf_acting.proofs.Counted.{calls_count}
 use Rattle.cf_acting.proofs.Finished.{Comes, IsCall, LeftTo, finished, refused_as_broken}
 use Rattle.cf_acting.proofs.Hushed.{left_as_it_was, disk_moved, stands_noted, told_nothing}
 use Rattle.cf_base.specs.declared.answers.Answer.{Answer}
@@ -87,7 +89,11 @@ module _ {D : Type 0} (state : D → Disk) where
   -- the same, as a call is written
   pub calls_step : {A : Type 0} (e : Event) (part : Arrow Filter Shown) (show : A → Shown) (plan : List (Bool × Operation)) (none ns : List Notice) (x y : Held D) (r : Result A Fail) (w : Result Shown Fail) (a : Result Answer NoMemory)
       → IsCall e → ((z : State) → z.mode ≡ InFilter → event_now e z ≡ in_filter part z) → none ≡ [] → Calls (sense state) show part (noted none x) r (noted ns y) → y.desk.notes ≡ x.desk.notes → w ≡ showing show r → a ≡ answered_by w ns
-      → Steps (IsOn state) e (record { filter = x; provider = plan }) a (record { filter = y; provider = plan })
+      → StepsOn state e (record { filter = x; provider = plan }) a (record { filter = y; provider = plan })
   calls_step {A} e part show plan none ns x y r w a call is begins calls kept shows tells =
-      let h = calls_by e part show plan ns x y r call is (subst (λ (l : List Notice). Calls (sense state) show part (noted l x) r (noted ns y)) begins calls) kept in
-      subst (λ (b : Result Answer NoMemory). Steps (IsOn state) e (record { filter = x; provider = plan }) b (record { filter = y; provider = plan })) (sym (tells ∙ ap (λ (v : Result Shown Fail). answered_by v ns) shows)) h
+      let c = subst (λ (l : List Notice). Calls (sense state) show part (noted l x) r (noted ns y)) begins calls in
+      let h : StepsOn state e (record { filter = x; provider = plan }) (answered_by (showing show r) ns) (record { filter = y; provider = plan }) = record {
+        steps = calls_by e part show plan ns x y r call is c kept;
+        counts = calls_count state part show plan ns x y r c;
+      } in
+      subst (λ (b : Result Answer NoMemory). StepsOn state e (record { filter = x; provider = plan }) b (record { filter = y; provider = plan })) (sym (tells ∙ ap (λ (v : Result Shown Fail). answered_by v ns) shows)) h

@@ -1,5 +1,6 @@
 pub mod Asked
 pub mod Called
+pub mod Counted
 pub mod Finished
 pub mod Gained
 pub mod Hushed

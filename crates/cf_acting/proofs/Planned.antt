@@ -3,9 +3,11 @@ use Rattle.std.proofs.Common.{◌≡◌, Bool, true, false, List, [], ◌∷◌,
 use Rattle.std.specs.Prelude.{Result, Ok, Err}
 use Rattle.std.specs.Result.{IsErrAnd}
 use Rattle.cf_acting.specs.Answered.{answer_with}
+use Rattle.cf_acting.specs.Counted.{StepsOn}
 use Rattle.cf_acting.specs.Meaning.{IsOn, OnBy}
-use Rattle.cf_acting.specs.Pasts.{Past}
 use Rattle.cf_acting.specs.Stepped.{Steps}
+use Rattle.cf_acting.specs.declared.places.Running.{Running as Run}
+use Rattle.cf_acting.proofs.Counted.{plain_if}
 use Rattle.cf_acting.proofs.Finished.{broken_step, while_on}
 use Rattle.cf_base.specs.declared.answers.Answer.{Answer}
 use Rattle.cf_base.specs.declared.answers.Shown.TheVariants as shown
@@ -24,11 +26,14 @@ use Rattle.cf_model.specs.State.{State}
 
 module _ {D : Type 0} (state : D → Disk) where
   pub plan_refused : (own : Bool) (op : Operation) (x : Held D) (plan : List (Bool × Operation)) → x.desk.broken ≡ true
-      → Steps (IsOn state) (event.Provider (provider.Plan own op)) (record { filter = x; provider = plan }) (Ok (answer_with (shown.Refused code.Broken) [])) (record { filter = x; provider = plan })
+      → StepsOn state (event.Provider (provider.Plan own op)) (record { filter = x; provider = plan }) (Ok (answer_with (shown.Refused code.Broken) [])) (record { filter = x; provider = plan })
   plan_refused own op x plan cut = record {
-    leads = λ past s on.
-        let h : OnBy state true (record { filter = x; provider = plan }) s = subst (λ (b : Bool). OnBy state b (record { filter = x; provider = plan }) s) cut on.is in
-        (s, broken_step (event.Provider (provider.Plan own op)) s (record { of = refl; stops = refl; needs = refl }) h.0, on);
+    steps = record {
+      leads = λ past s on.
+          let h : OnBy state true (record { filter = x; provider = plan }) s = subst (λ (b : Bool). OnBy state b (record { filter = x; provider = plan }) s) cut on.is in
+          (s, broken_step (event.Provider (provider.Plan own op)) s (record { of = refl; stops = refl; needs = refl }) h.0, on);
+    };
+    counts = λ past s on. plain_if (answer_with (shown.Refused code.Broken) []) x.desk.broken (state x.disk) refl;
   }
 
   pub planned_step : (own : Bool) (op : Operation) (x : Held D) (plan : List (Bool × Operation)) → x.desk.broken ≡ false
@@ -46,14 +51,17 @@ module _ {D : Type 0} (state : D → Disk) where
 
   -- the same, as the code has it
   pub plans_step : (own : Bool) (op again : Operation) (x : Held D) (plan left : List (Bool × Operation)) (a : Answer) → x.desk.broken ≡ false → again ≡ op → left ≡ plan ++ (own, again) ∷ [] → a ≡ answer_with shown.Done []
-      → Steps (IsOn state) (event.Provider (provider.Plan own op)) (record { filter = x; provider = plan }) (Ok a) (record { filter = x; provider = left })
+      → StepsOn state (event.Provider (provider.Plan own op)) (record { filter = x; provider = plan }) (Ok a) (record { filter = x; provider = left })
   plans_step own op again x plan left a whole same adds told =
-      let h = planned_step own op x plan whole in
-      let to = subst (λ (l : List (Bool × Operation)). Steps (IsOn state) (event.Provider (provider.Plan own op)) (record { filter = x; provider = plan }) (Ok (answer_with shown.Done [])) (record { filter = x; provider = l }))
+      let h : StepsOn state (event.Provider (provider.Plan own op)) (record { filter = x; provider = plan }) (Ok (answer_with shown.Done [])) (record { filter = x; provider = plan ++ (own, op) ∷ [] }) = record {
+        steps = planned_step own op x plan whole;
+        counts = λ past s on. plain_if (answer_with shown.Done []) x.desk.broken (state x.disk) refl;
+      } in
+      let to = subst (λ (l : List (Bool × Operation)). StepsOn state (event.Provider (provider.Plan own op)) (record { filter = x; provider = plan }) (Ok (answer_with shown.Done [])) (record { filter = x; provider = l }))
       (sym (adds ∙ ap (λ (o : Operation). plan ++ (own, o) ∷ []) same)) h in
-      subst (λ (b : Answer). Steps (IsOn state) (event.Provider (provider.Plan own op)) (record { filter = x; provider = plan }) (Ok b) (record { filter = x; provider = left })) (sym told) to
+      subst (λ (b : Answer). StepsOn state (event.Provider (provider.Plan own op)) (record { filter = x; provider = plan }) (Ok b) (record { filter = x; provider = left })) (sym told) to
 
 -- of want of memory nothing is said
-pub no_memory : {X : Type 0} (Is : Past → X → State → Type 0) (e : Event) (x y : X) (r : Result Answer NoMemory) (m : NoMemory) → IsErrAnd r (λ z. z ≡ m) → Steps Is e x r y
-no_memory Is e x y (Ok a) m h = absurd h
-no_memory Is e x y (Err k) m h = record { leads = λ past s is. record {} }
+pub no_memory : {D : Type 0} (state : D → Disk) (e : Event) (x y : Run D) (r : Result Answer NoMemory) (m : NoMemory) → IsErrAnd r (λ z. z ≡ m) → StepsOn state e x r y
+no_memory state e x y (Ok a) m h = absurd h
+no_memory state e x y (Err k) m h = record { steps = record { leads = λ past s is. record {} }; counts = λ past s is. record {} }

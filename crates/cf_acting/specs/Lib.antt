@@ -1,4 +1,5 @@
 pub mod Answered
+pub mod Counted
 pub mod Meaning
 pub mod Pasts
 pub mod Stepped

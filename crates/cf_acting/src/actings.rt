@@ -1,7 +1,8 @@
 //! The world, on and off.
 #![tactic(auto, using(crate::proofs::Wholes::begins, crate::proofs::Wholes::none_needed, crate::proofs::Wholes::on_steps, crate::proofs::Wholes::off_steps))]
 
-ghost use Rattle.std.specs.Prelude.{◌≡◌, ℕ, List, true, IfErr, IfOk};
+ghost use Rattle.std.specs.Prelude.{◌≡◌, ◌≤◌, ℕ, List, true, IfErr, IfOk};
+ghost use Rattle.cf_acting.specs.Counted.{Counts, CountsTo};
 ghost use Rattle.cf_acting.specs.Meaning.{Is};
 ghost use Rattle.cf_acting.specs.Pasts.{Past, StandsFor};
 ghost use Rattle.cf_acting.specs.Stepped.{Bears, BearsOn, StepsOver, disk_of};
@@ -17,7 +18,7 @@ ghost use Rattle.cf_model.specs.Store.{Held};
 ghost use Rattle.cf_points.specs.Standing.{clusters_on};
 ghost use Rattle.cf_volume.specs.Calls.{IsCause, StopsOnly};
 
-use crate::answering::plainly;
+use crate::answering::{known, plainly};
 use crate::places::{Acting, Cut, Running};
 use cf_base::{Answer, DeviceEvent, Event, Fail, Hydration, Memory, Policy, Population, Shown};
 use cf_disk::Disk;
@@ -43,6 +44,7 @@ impl<D: Disk> Acting<D> {
     pub fn start(alloc: Global, disk: D) -> Result<Acting<D>, (D, Fail)>
         requires { IsFitSize (size_of (D.state disk)) }
         ensures ok { (remote : Held) → IfOk result (λ a. (past : Past) → past.told ≡ (D.state disk).powers → Is D.state past a (start InFilter remote (clusters_on (D.state disk).seen))) }
+        ensures faults { IfOk result (λ a. (D.state disk).faults ≤ (D.state (disk_of a)).faults) }
         ensures only { IfErr result (λ e. StopsOnly e.1) }
         ensures cause { IfErr result (λ e. IsCause e.1 (D.state disk) (D.state e.0)) }
     {
@@ -57,11 +59,13 @@ impl<D: Disk> Acting<D> {
 
     /// Does an event of the mode, and answers it. A stop arms the disk with its number, a crash is one power of the disk with
     /// its choice, and no other event changes the powers that the disk tells. A restart that resumes opens what the image of
-    /// the last power stands for. For want of memory an event is not answered, and nothing more is said of the world.
+    /// the last power stands for. The disk's count of faults does not fall, and rises in an event that is answered as Device.
+    /// For want of memory an event is not answered, and nothing more is said of the world.
     pub fn step(self, alloc: Global, event: &Event) -> (Acting<D>, Result<Answer, Memory>)
         requires { is_of InFilter event.now ≡ true }
         ensures steps { StepsOver (Is D.state) event.now self result.1 result.0 }
         ensures device { Bears event.now (D.state (disk_of self)) (D.state (disk_of result.0)) }
+        ensures counts { Counts (Is D.state) self result.1 (D.state (disk_of self)) (D.state (disk_of result.0)) }
     {
         match self {
             Acting::On(running) => step_on(alloc, running, event),
@@ -74,6 +78,7 @@ impl<D: Disk> Acting<D> {
     pub fn finish(self) -> D
         ensures lasts { (past : Past) (s : State) → Is D.state past self s → (c : List ℕ) → (D.state result).may_leave c → StandsNow StandsFor s c }
         ensures powers { (past : Past) (s : State) → Is D.state past self s → (D.state result).powers ≡ past.told }
+        ensures disk { result ≡ disk_of self }
     {
         match self {
             Acting::On(running) => running.filter.into_disk(),
@@ -91,14 +96,17 @@ fn step_on<D: Disk>(
     requires { is_of InFilter event.now ≡ true }
     ensures steps { StepsOver (Is D.state) event.now (acting.On running) result.1 result.0 }
     ensures device { Bears event.now (D.state running.filter.disk) (D.state (disk_of result.0)) }
+    ensures counts { Counts (Is D.state) (acting.On running) result.1 (D.state running.filter.disk) (D.state (disk_of result.0)) }
 {
     match event {
         Event::Call(call) => {
             let told = running.call(alloc, call);
+            let told = known(told, running.filter.is_broken());
             (Acting::On(running), told)
         }
         Event::Provider(provided) => {
             let told = running.provide(alloc, provided);
+            let told = known(told, running.filter.is_broken());
             (Acting::On(running), told)
         }
         Event::Device(device) => device_on(alloc, running, *device),
@@ -113,6 +121,7 @@ fn device_on<D: Disk>(
 ) -> (Acting<D>, Result<Answer, Memory>)
     ensures steps { StepsOver (Is D.state) (events.Device event) (acting.On running) result.1 result.0 }
     ensures device { BearsOn event (D.state running.filter.disk) (D.state (disk_of result.0)) }
+    ensures counts { CountsTo result.1 (D.state running.filter.disk) (D.state (disk_of result.0)) }
 {
     match event {
         DeviceEvent::Stop { calls } => {
@@ -139,6 +148,7 @@ fn step_off<D: Disk>(
     requires { is_of InFilter event.now ≡ true }
     ensures steps { StepsOver (Is D.state) event.now (acting.Off cut) result.1 result.0 }
     ensures device { Bears event.now (D.state cut.disk) (D.state (disk_of result.0)) }
+    ensures counts { CountsTo result.1 (D.state cut.disk) (D.state (disk_of result.0)) }
 {
     match event {
         Event::Device(device) => device_off(alloc, cut, *device),
@@ -156,6 +166,7 @@ fn device_off<D: Disk>(
 ) -> (Acting<D>, Result<Answer, Memory>)
     ensures steps { StepsOver (Is D.state) (events.Device event) (acting.Off cut) result.1 result.0 }
     ensures device { BearsOn event (D.state cut.disk) (D.state (disk_of result.0)) }
+    ensures counts { CountsTo result.1 (D.state cut.disk) (D.state (disk_of result.0)) }
 {
     match event {
         DeviceEvent::Stop { calls } => {

@@ -2,6 +2,7 @@
 
 ghost use Rattle.std.specs.Prelude.{◌≡◌, Ok, []};
 ghost use Rattle.cf_acting.specs.Answered.{answer_with, answered_by};
+ghost use Rattle.cf_acting.specs.Counted.{known_by, meets_device};
 ghost use Rattle.cf_base.specs.declared.answers.Shown.TheVariants as shown;
 
 use cf_base::{Answer, Code, Fail, Memory, Notes, Sequence, Shown};
@@ -24,6 +25,25 @@ pub(crate) fn answered(told: Result<Shown, Fail>, notes: Notes) -> Result<Answer
         }),
         Err(Fail::Memory) => Err(Memory),
     }
+}
+
+// Whether an answer tells of a device call that failed.
+fn meets_device(shown: &Shown) -> bool
+    ensures { result ≡ meets_device shown.now }
+{
+    matches!(shown, Shown::Refused(Code::Device))
+}
+
+/// The answer of a call, after which the filter is broken or not. A call that nothing stopped is not answered as Device: no
+/// part of one is refused so. That is no law of the parts, so such an answer would be want of memory.
+pub(crate) fn known(told: Result<Answer, Memory>, broken: bool) -> Result<Answer, Memory>
+    ensures { result ≡ known_by broken told }
+{
+    let answer = told?;
+    if !broken && meets_device(&answer.shown) {
+        return Err(Memory);
+    }
+    Ok(answer)
 }
 
 /// A result without notes.

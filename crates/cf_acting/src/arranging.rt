@@ -1,7 +1,6 @@
 //! Items that come, go, move or are pinned.
 
-ghost use Rattle.cf_acting.specs.Meaning.{IsOn};
-ghost use Rattle.cf_acting.specs.Stepped.{Steps};
+ghost use Rattle.cf_acting.specs.Counted.{StepsOn};
 ghost use Rattle.cf_base.specs.declared.calls.Call.TheVariants as call;
 ghost use Rattle.cf_base.specs.declared.events.Event.TheVariants as event;
 
@@ -16,7 +15,7 @@ use std::alloc::Global;
 impl<D: Disk> Running<D> {
     /// `create`
     pub(crate) fn create(&mut self, alloc: Global, path: &Text) -> Result<Answer, Memory>
-        ensures { Steps (IsOn D.state) (event.Call (call.Create path.now)) self.old result self.new }
+        ensures { StepsOn D.state (event.Call (call.Create path.now)) self.old result self.new }
     {
         let mut notes = Notes::new(alloc);
         let told = self
@@ -27,7 +26,7 @@ impl<D: Disk> Running<D> {
 
     /// `mkdir`
     pub(crate) fn mkdir(&mut self, alloc: Global, path: &Text) -> Result<Answer, Memory>
-        ensures { Steps (IsOn D.state) (event.Call (call.Mkdir path.now)) self.old result self.new }
+        ensures { StepsOn D.state (event.Call (call.Mkdir path.now)) self.old result self.new }
     {
         let mut notes = Notes::new(alloc);
         let told = self
@@ -38,7 +37,7 @@ impl<D: Disk> Running<D> {
 
     /// `delete`
     pub(crate) fn delete(&mut self, alloc: Global, path: &Text) -> Result<Answer, Memory>
-        ensures { Steps (IsOn D.state) (event.Call (call.Delete path.now)) self.old result self.new }
+        ensures { StepsOn D.state (event.Call (call.Delete path.now)) self.old result self.new }
     {
         let mut notes = Notes::new(alloc);
         let told = self.filter.delete(Mode::Filter, path.as_str(), &mut notes);
@@ -47,7 +46,7 @@ impl<D: Disk> Running<D> {
 
     /// `rename`
     pub(crate) fn rename(&mut self, alloc: Global, from: &Text, to: &Text) -> Result<Answer, Memory>
-        ensures { Steps (IsOn D.state) (event.Call (call.Rename from.now to.now)) self.old result self.new }
+        ensures { StepsOn D.state (event.Call (call.Rename from.now to.now)) self.old result self.new }
     {
         let mut notes = Notes::new(alloc);
         let told = self.filter.rename(from.as_str(), to.as_str(), &mut notes);
@@ -62,7 +61,7 @@ impl<D: Disk> Running<D> {
         pin: Pin,
         reach: Reach,
     ) -> Result<Answer, Memory>
-        ensures { Steps (IsOn D.state) (event.Call (call.Pin path.now pin reach)) self.old result self.new }
+        ensures { StepsOn D.state (event.Call (call.Pin path.now pin reach)) self.old result self.new }
     {
         let mut notes = Notes::new(alloc);
         let told = self.filter.pin(path.as_str(), pin, reach, &mut notes);

@@ -1,7 +1,6 @@
 //! Calls of an application.
 
-ghost use Rattle.cf_acting.specs.Meaning.{IsOn};
-ghost use Rattle.cf_acting.specs.Stepped.{Steps};
+ghost use Rattle.cf_acting.specs.Counted.{StepsOn};
 ghost use Rattle.cf_base.specs.declared.events.Event.TheVariants as event;
 
 use crate::places::Running;
@@ -12,7 +11,7 @@ use std::alloc::Global;
 impl<D: Disk> Running<D> {
     /// Does a call while the volume is open, and answers it.
     pub(crate) fn call(&mut self, alloc: Global, call: &Call) -> Result<Answer, Memory>
-        ensures { Steps (IsOn D.state) (event.Call call.now) self.old result self.new }
+        ensures { StepsOn D.state (event.Call call.now) self.old result self.new }
     {
         match call {
             Call::Open { path } => self.open(alloc, path),

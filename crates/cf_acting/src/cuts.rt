@@ -3,10 +3,12 @@
 
 ghost use Rattle.std.specs.Prelude.{◌≡◌, Err, IfOk, Ok, [], false, length, true};
 ghost use Rattle.cf_acting.specs.Answered.{answer_with, answered_by};
+ghost use Rattle.cf_acting.specs.Counted.{CountsTo, meets_device};
 ghost use Rattle.cf_acting.specs.Meaning.{Is, IsOff};
-ghost use Rattle.cf_acting.specs.Stepped.{BearsOn, Steps, StepsOver};
+ghost use Rattle.cf_acting.specs.Stepped.{BearsOn, Steps, StepsOver, disk_of};
 ghost use Rattle.cf_acting.specs.declared.places.Acting.TheVariants as acting;
 ghost use Rattle.cf_base.specs.declared.answers.Shown.TheVariants as shown;
+ghost use Rattle.cf_base.specs.declared.codes.Code.TheVariants as code;
 ghost use Rattle.cf_base.specs.declared.events.DeviceEvent.TheVariants as device;
 ghost use Rattle.cf_base.specs.declared.events.Event.TheVariants as event;
 ghost use Rattle.cf_disk.specs.Disk.{size_of};
@@ -32,6 +34,7 @@ impl<D: Disk> Cut<D> {
     pub(crate) fn stop(&mut self, alloc: Global, calls: u32) -> Answer
         ensures steps { Steps (IsOff D.state) (event.Device (device.Stop calls)) self.old (Ok result) self.new }
         ensures armed { BearsOn (device.Stop calls) (D.state self.old.disk) (D.state self.new.disk) }
+        ensures counts { CountsTo (Ok result) (D.state self.old.disk) (D.state self.new.disk) }
     {
         self.disk.arm(calls);
         plainly(alloc, Shown::Done)
@@ -41,6 +44,7 @@ impl<D: Disk> Cut<D> {
     pub(crate) fn cut(&mut self, alloc: Global, choice: Choice) -> Answer
         ensures steps { StepsOver (IsOff D.state) (event.Device (device.Crash choice)) self.old (Ok result) self.new }
         ensures powers { BearsOn (device.Crash choice) (D.state self.old.disk) (D.state self.new.disk) }
+        ensures counts { CountsTo (Ok result) (D.state self.old.disk) (D.state self.new.disk) }
     {
         self.disk.power(choice);
         plainly(alloc, Shown::Done)
@@ -50,7 +54,8 @@ impl<D: Disk> Cut<D> {
     pub(crate) fn refuse(&self, alloc: Global, event: &Event) -> Answer
         requires of { is_of InFilter event.now ≡ true }
         requires needs { needs_volume event.now ≡ true }
-        ensures { Steps (IsOff D.state) event.now self.now (Ok result) self.now }
+        ensures steps { Steps (IsOff D.state) event.now self.now (Ok result) self.now }
+        ensures told { result ≡ answer_with (shown.Refused code.Off) [] }
     {
         refused(alloc, Code::Off)
     }
@@ -58,7 +63,8 @@ impl<D: Disk> Cut<D> {
     /// `restart`: opens the volume again. Where the device fails it stays off. A disk of a size that no volume has holds
     /// none.
     pub(crate) fn restart(self, alloc: Global) -> (Acting<D>, Result<Answer, Memory>)
-        ensures { StepsOver (Is D.state) (event.Device device.Restart) (acting.Off self) result.1 result.0 }
+        ensures steps { StepsOver (Is D.state) (event.Device device.Restart) (acting.Off self) result.1 result.0 }
+        ensures counts { CountsTo result.1 (D.state self.disk) (D.state (disk_of result.0)) }
     {
         if !is_fit(self.disk.size()) {
             return (Acting::Off(self), Ok(refused(alloc, Code::NotAVolume)));
@@ -68,7 +74,8 @@ impl<D: Disk> Cut<D> {
 
     fn reopen(self, alloc: Global) -> (Acting<D>, Result<Answer, Memory>)
         requires { IsFitSize (size_of (D.state self.disk)) }
-        ensures { StepsOver (Is D.state) (event.Device device.Restart) (acting.Off self) result.1 result.0 }
+        ensures steps { StepsOver (Is D.state) (event.Device device.Restart) (acting.Off self) result.1 result.0 }
+        ensures counts { CountsTo result.1 (D.state self.disk) (D.state (disk_of result.0)) }
     {
         let policy = self.policy;
         match Filter::open(alloc, self.disk, policy) {
@@ -99,6 +106,7 @@ fn refused_by(alloc: Global, fail: Fail) -> Result<Answer, Memory>
 // The world on a volume that was just opened.
 fn reopened<D: Disk>(alloc: Global, filter: Filter<D>) -> (Acting<D>, Result<Answer, Memory>)
     ensures on { result.0 ≡ acting.On (record { filter = filter; provider = [] }) }
+    ensures plain { IfOk result.1 (λ a. meets_device a.shown ≡ false) }
     ensures told { IfOk result.1 (λ a. (f : model) → Stands D.state filter f → a ≡ answer_with (shown.Resumed (length f.volume.log) (opened_of f.volume.book)) []) }
 {
     let told = resumed(alloc, &filter);
@@ -108,7 +116,8 @@ fn reopened<D: Disk>(alloc: Global, filter: Filter<D>) -> (Acting<D>, Result<Ans
 
 // How many changes were kept, and the book.
 fn resumed<D: Disk>(alloc: Global, filter: &Filter<D>) -> Result<Answer, Memory>
-    ensures { IfOk result (λ a. (f : model) → Stands D.state filter.now f → a ≡ answer_with (shown.Resumed (length f.volume.log) (opened_of f.volume.book)) []) }
+    ensures plain { IfOk result (λ a. meets_device a.shown ≡ false) }
+    ensures told { IfOk result (λ a. (f : model) → Stands D.state filter.now f → a ≡ answer_with (shown.Resumed (length f.volume.log) (opened_of f.volume.book)) []) }
 {
     let volume = filter.volume();
     let opened = opened_book(alloc, volume)?;

@@ -1,11 +1,13 @@
 //! Events of the device while the volume is open.
 
-ghost use Rattle.std.specs.Prelude.{Ok, []};
+ghost use Rattle.std.specs.Prelude.{◌≡◌, Ok, []};
+ghost use Rattle.cf_acting.specs.Counted.{CountsTo};
 ghost use Rattle.cf_acting.specs.Meaning.{Is, IsOn};
 ghost use Rattle.cf_acting.specs.Stepped.{BearsOn, Steps, StepsOver};
 ghost use Rattle.cf_acting.specs.Answered.{answer_with};
 ghost use Rattle.cf_acting.specs.declared.places.Acting.TheVariants as acting;
 ghost use Rattle.cf_base.specs.declared.answers.Shown.TheVariants as shown;
+ghost use Rattle.cf_base.specs.declared.codes.Code.TheVariants as code;
 ghost use Rattle.cf_base.specs.declared.events.DeviceEvent.TheVariants as device;
 ghost use Rattle.cf_base.specs.declared.events.Event.TheVariants as event;
 
@@ -20,6 +22,7 @@ impl<D: Disk> Running<D> {
     pub(crate) fn stop(&mut self, alloc: Global, calls: u32) -> Answer
         ensures steps { Steps (IsOn D.state) (event.Device (device.Stop calls)) self.old (Ok result) self.new }
         ensures armed { BearsOn (device.Stop calls) (D.state self.old.filter.disk) (D.state self.new.filter.disk) }
+        ensures counts { CountsTo (Ok result) (D.state self.old.filter.disk) (D.state self.new.filter.disk) }
     {
         self.filter.arm(calls);
         plainly(alloc, Shown::Done)
@@ -27,7 +30,8 @@ impl<D: Disk> Running<D> {
 
     /// `restart` of a volume that is open.
     pub(crate) fn restart(&self, alloc: Global) -> Answer
-        ensures { StepsOver (IsOn D.state) (event.Device device.Restart) self.now (Ok result) self.now }
+        ensures steps { StepsOver (IsOn D.state) (event.Device device.Restart) self.now (Ok result) self.now }
+        ensures told { result ≡ answer_with (shown.Refused code.Running) [] }
     {
         refused(alloc, Code::Running)
     }

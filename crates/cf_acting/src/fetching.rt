@@ -1,8 +1,7 @@
 //! What waits for bytes, entries or consent.
 
 ghost use Rattle.std.specs.Prelude.{◌≡◌};
-ghost use Rattle.cf_acting.specs.Meaning.{IsOn};
-ghost use Rattle.cf_acting.specs.Stepped.{Steps};
+ghost use Rattle.cf_acting.specs.Counted.{StepsOn};
 ghost use Rattle.cf_base.specs.declared.calls.Call.TheVariants as call;
 ghost use Rattle.cf_base.specs.declared.events.Event.TheVariants as event;
 
@@ -25,7 +24,7 @@ fn wide(range: Option<(u32, u32)>) -> Option<(u64, u64)>
 impl<D: Disk> Running<D> {
     /// `cancel`
     pub(crate) fn cancel(&mut self, alloc: Global, wait: WaitId) -> Result<Answer, Memory>
-        ensures { Steps (IsOn D.state) (event.Call (call.Cancel wait)) self.old result self.new }
+        ensures { StepsOn D.state (event.Call (call.Cancel wait)) self.old result self.new }
     {
         let mut notes = Notes::new(alloc);
         let told = self.filter.cancel(wait, &mut self.provider, &mut notes);
@@ -34,7 +33,7 @@ impl<D: Disk> Running<D> {
 
     /// `tick`
     pub(crate) fn tick(&mut self, alloc: Global, ticks: u32) -> Result<Answer, Memory>
-        ensures { Steps (IsOn D.state) (event.Call (call.Tick ticks)) self.old result self.new }
+        ensures { StepsOn D.state (event.Call (call.Tick ticks)) self.old result self.new }
     {
         let mut notes = Notes::new(alloc);
         let told = self.filter.tick(ticks, &mut self.provider, &mut notes);
@@ -43,7 +42,7 @@ impl<D: Disk> Running<D> {
 
     /// `list`
     pub(crate) fn list(&mut self, alloc: Global, path: &Text) -> Result<Answer, Memory>
-        ensures { Steps (IsOn D.state) (event.Call (call.List path.now)) self.old result self.new }
+        ensures { StepsOn D.state (event.Call (call.List path.now)) self.old result self.new }
     {
         let mut notes = Notes::new(alloc);
         let told = self
@@ -54,7 +53,7 @@ impl<D: Disk> Running<D> {
 
     /// `hydrate`
     pub(crate) fn hydrate(&mut self, alloc: Global, path: &Text) -> Result<Answer, Memory>
-        ensures { Steps (IsOn D.state) (event.Call (call.Hydrate path.now)) self.old result self.new }
+        ensures { StepsOn D.state (event.Call (call.Hydrate path.now)) self.old result self.new }
     {
         let mut notes = Notes::new(alloc);
         let told = self
@@ -70,7 +69,7 @@ impl<D: Disk> Running<D> {
         path: &Text,
         range: Option<(u32, u32)>,
     ) -> Result<Answer, Memory>
-        ensures { Steps (IsOn D.state) (event.Call (call.Dehydrate path.now range)) self.old result self.new }
+        ensures { StepsOn D.state (event.Call (call.Dehydrate path.now range)) self.old result self.new }
     {
         let mut notes = Notes::new(alloc);
         let told = self
@@ -86,7 +85,7 @@ impl<D: Disk> Running<D> {
         path: &Text,
         on: bool,
     ) -> Result<Answer, Memory>
-        ensures { Steps (IsOn D.state) (event.Call (call.Keep path.now on)) self.old result self.new }
+        ensures { StepsOn D.state (event.Call (call.Keep path.now on)) self.old result self.new }
     {
         let mut notes = Notes::new(alloc);
         let told = self

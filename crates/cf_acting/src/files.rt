@@ -1,8 +1,7 @@
 //! Files that are open.
 
 ghost use Rattle.std.specs.Prelude.{◌≡◌};
-ghost use Rattle.cf_acting.specs.Meaning.{IsOn};
-ghost use Rattle.cf_acting.specs.Stepped.{Steps};
+ghost use Rattle.cf_acting.specs.Counted.{StepsOn};
 ghost use Rattle.cf_base.specs.declared.calls.Call.TheVariants as call;
 ghost use Rattle.cf_base.specs.declared.events.Event.TheVariants as event;
 ghost use Rattle.cf_model.specs.Missing.{span_of};
@@ -26,7 +25,7 @@ fn span_of(offset: u32, len: u32) -> Span
 impl<D: Disk> Running<D> {
     /// `close`
     pub(crate) fn close(&mut self, alloc: Global, handle: Handle) -> Result<Answer, Memory>
-        ensures { Steps (IsOn D.state) (event.Call (call.Close handle)) self.old result self.new }
+        ensures { StepsOn D.state (event.Call (call.Close handle)) self.old result self.new }
     {
         let mut notes = Notes::new(alloc);
         let told = self.filter.close(handle, &mut self.provider, &mut notes);
@@ -41,7 +40,7 @@ impl<D: Disk> Running<D> {
         offset: u32,
         len: u32,
     ) -> Result<Answer, Memory>
-        ensures { Steps (IsOn D.state) (event.Call (call.Read handle offset len)) self.old result self.new }
+        ensures { StepsOn D.state (event.Call (call.Read handle offset len)) self.old result self.new }
     {
         let mut notes = Notes::new(alloc);
         let told = self.filter.read(handle, span_of(offset, len), &mut self.provider, &mut notes);
@@ -56,7 +55,7 @@ impl<D: Disk> Running<D> {
         offset: u32,
         len: u32,
     ) -> Result<Answer, Memory>
-        ensures { Steps (IsOn D.state) (event.Call (call.Get path.now offset len)) self.old result self.new }
+        ensures { StepsOn D.state (event.Call (call.Get path.now offset len)) self.old result self.new }
     {
         let mut notes = Notes::new(alloc);
         let told = self.filter.get(
@@ -76,7 +75,7 @@ impl<D: Disk> Running<D> {
         offset: u32,
         bytes: &Blob,
     ) -> Result<Answer, Memory>
-        ensures { Steps (IsOn D.state) (event.Call (call.Write handle offset bytes.now)) self.old result self.new }
+        ensures { StepsOn D.state (event.Call (call.Write handle offset bytes.now)) self.old result self.new }
     {
         let mut notes = Notes::new(alloc);
         let told = self.filter.write(
@@ -96,7 +95,7 @@ impl<D: Disk> Running<D> {
         handle: Handle,
         size: u32,
     ) -> Result<Answer, Memory>
-        ensures { Steps (IsOn D.state) (event.Call (call.Size handle size)) self.old result self.new }
+        ensures { StepsOn D.state (event.Call (call.Size handle size)) self.old result self.new }
     {
         let mut notes = Notes::new(alloc);
         let told = self

@@ -1,8 +1,7 @@
 //! Placeholders.
 
 ghost use Rattle.std.specs.Prelude.{◌≡◌};
-ghost use Rattle.cf_acting.specs.Meaning.{IsOn};
-ghost use Rattle.cf_acting.specs.Stepped.{Steps};
+ghost use Rattle.cf_acting.specs.Counted.{StepsOn};
 ghost use Rattle.cf_base.specs.declared.events.Event.TheVariants as event;
 ghost use Rattle.cf_base.specs.declared.events.ProviderEvent.TheVariants as provider;
 
@@ -33,7 +32,7 @@ impl<D: Disk> Running<D> {
         identity: &Identity,
         in_sync: bool,
     ) -> Result<Answer, Memory>
-        ensures { Steps (IsOn D.state) (event.Provider (provider.Place path.now size identity.now in_sync)) self.old result self.new }
+        ensures { StepsOn D.state (event.Provider (provider.Place path.now size identity.now in_sync)) self.old result self.new }
     {
         let identity = identity.copy()?;
         let what = Creation::Placeholder {
@@ -54,7 +53,7 @@ impl<D: Disk> Running<D> {
         identity: &Identity,
         in_sync: bool,
     ) -> Result<Answer, Memory>
-        ensures { Steps (IsOn D.state) (event.Provider (provider.PlaceDir path.now identity.now in_sync)) self.old result self.new }
+        ensures { StepsOn D.state (event.Provider (provider.PlaceDir path.now identity.now in_sync)) self.old result self.new }
     {
         let identity = identity.copy()?;
         let what = Creation::PlaceholderDir {
@@ -73,7 +72,7 @@ impl<D: Disk> Running<D> {
         path: &Text,
         identity: &Identity,
     ) -> Result<Answer, Memory>
-        ensures { Steps (IsOn D.state) (event.Provider (provider.Convert path.now identity.now)) self.old result self.new }
+        ensures { StepsOn D.state (event.Provider (provider.Convert path.now identity.now)) self.old result self.new }
     {
         let mut notes = Notes::new(alloc);
         let told = self.filter.convert(path.as_str(), identity, &mut notes);
@@ -82,7 +81,7 @@ impl<D: Disk> Running<D> {
 
     /// `revert`
     pub(crate) fn revert(&mut self, alloc: Global, path: &Text) -> Result<Answer, Memory>
-        ensures { Steps (IsOn D.state) (event.Provider (provider.Revert path.now)) self.old result self.new }
+        ensures { StepsOn D.state (event.Provider (provider.Revert path.now)) self.old result self.new }
     {
         let mut notes = Notes::new(alloc);
         let told = self.filter.revert(path.as_str(), &mut notes);
@@ -97,7 +96,7 @@ impl<D: Disk> Running<D> {
         identity: &Identity,
         size: Option<u32>,
     ) -> Result<Answer, Memory>
-        ensures { Steps (IsOn D.state) (event.Provider (provider.Update path.now identity.now size)) self.old result self.new }
+        ensures { StepsOn D.state (event.Provider (provider.Update path.now identity.now size)) self.old result self.new }
     {
         let mut notes = Notes::new(alloc);
         let told = self
@@ -108,7 +107,7 @@ impl<D: Disk> Running<D> {
 
     /// `unmark`
     pub(crate) fn unmark(&mut self, alloc: Global, path: &Text) -> Result<Answer, Memory>
-        ensures { Steps (IsOn D.state) (event.Provider (provider.Unmark path.now)) self.old result self.new }
+        ensures { StepsOn D.state (event.Provider (provider.Unmark path.now)) self.old result self.new }
     {
         let mut notes = Notes::new(alloc);
         let told = self.filter.clear_in_sync(path.as_str(), &mut notes);

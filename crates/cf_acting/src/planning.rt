@@ -1,8 +1,7 @@
 //! Marks and operations of the provider.
 #![tactic(auto, using(crate::proofs::Planned::no_memory))]
 
-ghost use Rattle.cf_acting.specs.Meaning.{IsOn};
-ghost use Rattle.cf_acting.specs.Stepped.{Steps};
+ghost use Rattle.cf_acting.specs.Counted.{StepsOn};
 ghost use Rattle.cf_base.specs.declared.events.Event.TheVariants as event;
 ghost use Rattle.cf_base.specs.declared.events.ProviderEvent.TheVariants as provider;
 
@@ -17,7 +16,7 @@ use std::alloc::Global;
 impl<D: Disk> Running<D> {
     /// `mark`
     pub(crate) fn mark(&mut self, alloc: Global, path: &Text, given: Usn) -> Result<Answer, Memory>
-        ensures { Steps (IsOn D.state) (event.Provider (provider.Mark path.now given)) self.old result self.new }
+        ensures { StepsOn D.state (event.Provider (provider.Mark path.now given)) self.old result self.new }
     {
         let mut notes = Notes::new(alloc);
         let told = self
@@ -32,7 +31,7 @@ impl<D: Disk> Running<D> {
         alloc: Global,
         operation: &Operation,
     ) -> Result<Answer, Memory>
-        ensures { Steps (IsOn D.state) (event.Provider (provider.Do operation.now)) self.old result self.new }
+        ensures { StepsOn D.state (event.Provider (provider.Do operation.now)) self.old result self.new }
     {
         let mut notes = Notes::new(alloc);
         let told = self
@@ -48,7 +47,7 @@ impl<D: Disk> Running<D> {
         own: bool,
         operation: &Operation,
     ) -> Result<Answer, Memory>
-        ensures { Steps (IsOn D.state) (event.Provider (provider.Plan own operation.now)) self.old result self.new }
+        ensures { StepsOn D.state (event.Provider (provider.Plan own operation.now)) self.old result self.new }
     {
         if self.filter.is_broken() {
             return Ok(refused(alloc, Code::Broken));

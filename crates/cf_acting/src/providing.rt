@@ -1,7 +1,6 @@
 //! Events of the provider.
 
-ghost use Rattle.cf_acting.specs.Meaning.{IsOn};
-ghost use Rattle.cf_acting.specs.Stepped.{Steps};
+ghost use Rattle.cf_acting.specs.Counted.{StepsOn};
 ghost use Rattle.cf_base.specs.declared.events.Event.TheVariants as event;
 
 use crate::places::Running;
@@ -16,7 +15,7 @@ impl<D: Disk> Running<D> {
         alloc: Global,
         provided: &ProviderEvent,
     ) -> Result<Answer, Memory>
-        ensures { Steps (IsOn D.state) (event.Provider provided.now) self.old result self.new }
+        ensures { StepsOn D.state (event.Provider provided.now) self.old result self.new }
     {
         match provided {
             ProviderEvent::Place {

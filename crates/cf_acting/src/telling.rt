@@ -1,7 +1,6 @@
 //! What is told of items and of the volume.
 
-ghost use Rattle.cf_acting.specs.Meaning.{IsOn};
-ghost use Rattle.cf_acting.specs.Stepped.{Steps};
+ghost use Rattle.cf_acting.specs.Counted.{StepsOn};
 ghost use Rattle.cf_base.specs.declared.calls.Call.TheVariants as call;
 ghost use Rattle.cf_base.specs.declared.events.Event.TheVariants as event;
 
@@ -15,7 +14,7 @@ use std::alloc::Global;
 impl<D: Disk> Running<D> {
     /// `info`
     pub(crate) fn info(&mut self, alloc: Global, path: &Text) -> Result<Answer, Memory>
-        ensures { Steps (IsOn D.state) (event.Call (call.Info path.now)) self.old result self.new }
+        ensures { StepsOn D.state (event.Call (call.Info path.now)) self.old result self.new }
     {
         let told = self.filter.info(path.as_str());
         answered(info(told), Notes::new(alloc))
@@ -28,7 +27,7 @@ impl<D: Disk> Running<D> {
         path: &Text,
         class: Class,
     ) -> Result<Answer, Memory>
-        ensures { Steps (IsOn D.state) (event.Call (call.Ranges path.now class)) self.old result self.new }
+        ensures { StepsOn D.state (event.Call (call.Ranges path.now class)) self.old result self.new }
     {
         let told = self.filter.ranges(path.as_str(), class);
         answered(runs(told), Notes::new(alloc))
@@ -36,7 +35,7 @@ impl<D: Disk> Running<D> {
 
     /// `used`
     pub(crate) fn used(&mut self, alloc: Global, path: &Text) -> Result<Answer, Memory>
-        ensures { Steps (IsOn D.state) (event.Call (call.Used path.now)) self.old result self.new }
+        ensures { StepsOn D.state (event.Call (call.Used path.now)) self.old result self.new }
     {
         let told = self.filter.used(path.as_str());
         answered(used(told), Notes::new(alloc))
@@ -44,7 +43,7 @@ impl<D: Disk> Running<D> {
 
     /// `df`
     pub(crate) fn df(&mut self, alloc: Global) -> Result<Answer, Memory>
-        ensures { Steps (IsOn D.state) (event.Call call.Df) self.old result self.new }
+        ensures { StepsOn D.state (event.Call call.Df) self.old result self.new }
     {
         let told = self.filter.df();
         answered(blocks(told), Notes::new(alloc))

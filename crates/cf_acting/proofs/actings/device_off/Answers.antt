@@ -15,7 +15,16 @@ pub returns-in-Crash-clause-device : goal.returns-in-Crash-clause-device
 returns-in-Crash-clause-device g c = rw c.in-Crash.is c.cut-told.ensures.powers
 
 pub returns-in-Restart-clause-steps : goal.returns-in-Restart-clause-steps
-returns-in-Restart-clause-steps g c = rw c.in-Restart.is c.restart.ensures
+returns-in-Restart-clause-steps g c = rw c.in-Restart.is c.restart.ensures.steps
 
 pub returns-in-Restart-clause-device : goal.returns-in-Restart-clause-device
 returns-in-Restart-clause-device g c = rw c.in-Restart.is (record {})
+
+pub returns-in-Stop-clause-counts : goal.returns-in-Stop-clause-counts
+returns-in-Stop-clause-counts g c = c.stop-told.ensures.counts
+
+pub returns-in-Crash-clause-counts : goal.returns-in-Crash-clause-counts
+returns-in-Crash-clause-counts g c = c.cut-told.ensures.counts
+
+pub returns-in-Restart-clause-counts : goal.returns-in-Restart-clause-counts
+returns-in-Restart-clause-counts g c = c.restart.ensures.counts

@@ -5,3 +5,6 @@ returns-in-Device-clause-steps g c = rw c.in-Device.is c.device_off.ensures.step
 
 pub returns-in-Device-clause-device : goal.returns-in-Device-clause-device
 returns-in-Device-clause-device g c = rw c.in-Device.is c.device_off.ensures.device
+
+pub returns-in-Device-clause-counts : goal.returns-in-Device-clause-counts
+returns-in-Device-clause-counts g c = c.device_off.ensures.counts
