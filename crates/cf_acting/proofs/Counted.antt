@@ -1,5 +1,5 @@
 -- The disk's count of failed calls over calls of the filter.
-use Rattle.std.proofs.Common.{◌≡◌, ◌≤◌, ◌+◌, Bool, true, false, List, [], refl, sym, ap, subst, ◌∙◌, inl, inr, arith}
+use Rattle.std.proofs.Common.{◌≡◌, ◌≤◌, Bool, true, false, List, [], refl, sym, ap, subst, ◌∙◌, inl, inr, arith}
 use Rattle.std.specs.Prelude.{◌⊎◌, IfOk, Result, Ok, Err}
 use Rattle.cf_acting.specs.Answered.{answer_with, answered_by, showing}
 use Rattle.cf_acting.specs.Counted.{CountsIf, CountsTo, Counts, StepsOn, known_as, known_by, meets_device}
@@ -12,8 +12,6 @@ use Rattle.cf_acting.specs.declared.places.Running.{Running as Run}
 use Rattle.cf_acting.proofs.Hushed.{stands_noted}
 use Rattle.cf_base.specs.declared.answers.Answer.{Answer}
 use Rattle.cf_base.specs.declared.answers.Shown.{Shown}
-use Rattle.cf_base.specs.declared.answers.Shown.TheVariants as shown
-use Rattle.cf_base.specs.declared.codes.Code.{Code}
 use Rattle.cf_base.specs.declared.codes.Code.TheVariants as code
 use Rattle.cf_base.specs.declared.codes.Fail.{Fail}
 use Rattle.cf_base.specs.declared.codes.Fail.TheVariants.{No, Memory}

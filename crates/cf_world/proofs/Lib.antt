@@ -2,5 +2,6 @@ pub mod Errs
 pub mod Drafted
 pub mod Traces
 pub mod Ends
+pub mod Counted
 pub mod Sided
 pub mod OverPowers

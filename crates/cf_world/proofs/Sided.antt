@@ -1,10 +1,11 @@
 -- What the trace of a world says.
-use Rattle.std.proofs.Common.{◌≡◌, ℕ, Bool, true, false, List, [], ◌∷◌, ◌++◌, refl, sym, ap, subst, ◌∙◌, Result, Ok, Err}
+use Rattle.std.proofs.Common.{◌≡◌, ◌≤◌, ◌+◌, ℕ, Bool, true, false, List, [], ◌∷◌, ◌++◌, refl, sym, ap, subst, ◌∙◌, Result, Ok, Err}
 use Rattle.std.specs.Prelude.{Option, Some, None, IsTrue, IfOk, is_some}
 use Rattle.std.specs.List.{list_all}
+use Rattle.cf_acting.specs.Counted.{Counts}
 use Rattle.cf_acting.specs.Meaning.{Is}
 use Rattle.cf_acting.specs.Pasts.{Gains, Past, StandsFor, last_image}
-use Rattle.cf_acting.specs.Stepped.{StepsOver}
+use Rattle.cf_acting.specs.Stepped.{StepsOver, disk_of}
 use Rattle.cf_acting.specs.declared.places.Acting.{Acting}
 use Rattle.cf_base.specs.declared.answers.Answer.{Answer}
 use Rattle.cf_base.specs.declared.events.Event.{Event}
@@ -12,15 +13,16 @@ use Rattle.cf_base.specs.declared.memory.Memory.{Memory as NoMemory}
 use Rattle.cf_base.specs.declared.policies.Choice.{Choice}
 use Rattle.cf_base.specs.declared.policies.Mode.{Mode}
 use Rattle.cf_base.specs.declared.policies.Mode.TheVariants.{Filter, Replay}
-use Rattle.cf_disk.specs.Disk.{State as Disk}
+use Rattle.cf_disk.specs.Disk.{State as Disk, capped}
 use Rattle.cf_model.specs.Powers.{StandsNow}
 use Rattle.cf_model.specs.State.{State, start}
 use Rattle.cf_model.specs.Store.{Held}
 use Rattle.cf_plain.specs.Worlds as plain
 use Rattle.cf_points.specs.Standing.{clusters_on}
 use Rattle.cf_script.specs.Built.{is_built}
+use Rattle.cf_world.proofs.Counted.{met_more, met_none}
 use Rattle.cf_world.proofs.OverPowers.{after_all, gains_then, last_then, over_push, over_runs}
-use Rattle.cf_world.specs.Led.{HandsBack, HasRunOn, IsLawful, IsSame, IsWhole, Keeps, Leads, LeadsWorld, can_do}
+use Rattle.cf_world.specs.Led.{HandsBack, HasRunOn, IsLawful, IsSame, IsWhole, Keeps, Leads, LeadsWorld, can_do, met_by}
 use Rattle.cf_world.specs.declared.sides.Side.{Side}
 use Rattle.cf_world.specs.declared.sides.Side.TheVariants as side
 
@@ -68,9 +70,9 @@ module _ {D : Type 0} (state : D → Disk) where
     h.3,
   )
 
-  world_more : (remote : Held) (disk : D) (trace : List (Event × Answer)) (old new : Acting D) (e : Event) (a : Answer) → StepsOver (Is state) e old (Ok a) new → LeadsWorld state remote disk trace old
+  world_more : (remote : Held) (disk : D) (trace : List (Event × Answer)) (old new : Acting D) (e : Event) (a : Answer) → StepsOver (Is state) e old (Ok a) new → Counts (Is state) old (Ok a) (state (disk_of old)) (state (disk_of new)) → LeadsWorld state remote disk trace old
       → LeadsWorld state remote disk (trace ++ (e, a) ∷ []) new
-  world_more remote disk trace old new e a steps r =
+  world_more remote disk trace old new e a steps counts r =
       let last : Option (List ℕ) = last_image None r.powers in
       let t = steps.leads (record { told = r.told; last = last }) r.left r.is in
       let all : t.2.last ≡ last_image None (r.powers ++ t.1) = after_all StandsFor last e a t.0 t.1 t.2.last t.4 ∙ last_then None r.powers t.1 in
@@ -80,12 +82,13 @@ module _ {D : Type 0} (state : D → Disk) where
         told = t.2.told;
         runs = over_push StandsFor Filter None (start Filter remote (clusters_on (state disk).seen)) r.left t.0 trace r.powers t.1 e a t.2.last r.runs t.3 t.4;
         gains = gains_then r.powers t.1 (state disk).powers r.told t.2.told r.gains t.5;
+        met = met_more trace e a (state disk).faults (state (disk_of old)) (state (disk_of new)) r.met (counts.counts (record { told = r.told; last = last }) r.left r.is);
         is = subst (λ (o : Option (List ℕ)). Is state (record { told = t.2.told; last = o }) new t.0) all t.6;
       }
 
-  pub filter_more : (m : Mode) (disk : D) (trace : List (Event × Answer)) (old new : Acting D) (e : Event) (a : Answer) → StepsOver (Is state) e old (Ok a) new
+  pub filter_more : (m : Mode) (disk : D) (trace : List (Event × Answer)) (old new : Acting D) (e : Event) (a : Answer) → StepsOver (Is state) e old (Ok a) new → Counts (Is state) old (Ok a) (state (disk_of old)) (state (disk_of new))
       → HasRunOn state m disk trace (side.Filter (Some old)) → HasRunOn state m disk (trace ++ (e, a) ∷ []) (side.Filter (Some new))
-  filter_more m disk trace old new e a steps h = (h.0, λ remote. world_more remote disk trace old new e a steps (h.1 remote))
+  filter_more m disk trace old new e a steps counts h = (h.0, λ remote. world_more remote disk trace old new e a steps counts (h.1 remote))
 
   -- the event of either command, with its answer, if there is one
   pub replay_acts : (r : Result Answer NoMemory) (old : Side D) (w new : plain.State) (back : D) (e : Event) → old ≡ side.Replay w back → IfOk r (plain.IsAnswer w e) → IfOk r (λ a. new ≡ plain.left_by w e a.shown)
@@ -93,24 +96,24 @@ module _ {D : Type 0} (state : D → Disk) where
   replay_acts (Ok a) old w new back e at is left = λ m disk trace h. replay_more m disk back trace w new e a is left (subst (HasRunOn state m disk trace) at h)
   replay_acts (Err x) old w new back e at is left = tt
 
-  filter_goes : (m : Mode) (disk : D) (trace : List (Event × Answer)) (old new : Option (Acting D)) (e : Event) (a : Answer) → ((x y : Acting D) → old ≡ Some x → new ≡ Some y → StepsOver (Is state) e x (Ok a) y) → is_some new ≡ true
+  filter_goes : (m : Mode) (disk : D) (trace : List (Event × Answer)) (old new : Option (Acting D)) (e : Event) (a : Answer) → ((x y : Acting D) → old ≡ Some x → new ≡ Some y → StepsOver (Is state) e x (Ok a) y) → ((x y : Acting D) → old ≡ Some x → new ≡ Some y → Counts (Is state) x (Ok a) (state (disk_of x)) (state (disk_of y))) → is_some new ≡ true
       → HasRunOn state m disk trace (side.Filter old) → HasRunOn state m disk (trace ++ (e, a) ∷ []) (side.Filter new)
-  filter_goes m disk trace None new e a steps there h = absurd h
-  filter_goes m disk trace (Some x) None e a steps there h = let z : false ≡ true = there in absurd cc
-  filter_goes m disk trace (Some x) (Some y) e a steps there h = filter_more m disk trace x y e a (steps x y refl refl) h
+  filter_goes m disk trace None new e a steps counts there h = absurd h
+  filter_goes m disk trace (Some x) None e a steps counts there h = let z : false ≡ true = there in absurd cc
+  filter_goes m disk trace (Some x) (Some y) e a steps counts there h = filter_more m disk trace x y e a (steps x y refl refl) (counts x y refl refl) h
 
-  pub filter_acts : (r : Result Answer NoMemory) (was : Side D) (old new : Option (Acting D)) (e : Event) → was ≡ side.Filter old → ((x y : Acting D) → old ≡ Some x → new ≡ Some y → StepsOver (Is state) e x r y) → is_some new ≡ true
+  pub filter_acts : (r : Result Answer NoMemory) (was : Side D) (old new : Option (Acting D)) (e : Event) → was ≡ side.Filter old → ((x y : Acting D) → old ≡ Some x → new ≡ Some y → StepsOver (Is state) e x r y) → ((x y : Acting D) → old ≡ Some x → new ≡ Some y → Counts (Is state) x r (state (disk_of x)) (state (disk_of y))) → is_some new ≡ true
       → IfOk r (λ a. (m : Mode) (disk : D) (trace : List (Event × Answer)) → HasRunOn state m disk trace was → HasRunOn state m disk (trace ++ (e, a) ∷ []) (side.Filter new))
-  filter_acts (Ok a) was old new e at steps there = λ m disk trace h. filter_goes m disk trace old new e a steps there (subst (HasRunOn state m disk trace) at h)
-  filter_acts (Err x) was old new e at steps there = tt
+  filter_acts (Ok a) was old new e at steps counts there = λ m disk trace h. filter_goes m disk trace old new e a steps counts there (subst (HasRunOn state m disk trace) at h)
+  filter_acts (Err x) was old new e at steps counts there = tt
 
   -- what is handed back
   pub replay_hands : (m : Mode) (disk back : D) (trace : List (Event × Answer)) (w : plain.State) → HasRunOn state m disk trace (side.Replay w back) → Leads state m disk trace back
   replay_hands m disk back trace w h = subst (λ (k : Mode). Leads state k disk trace back) (sym h.0) (h.1, h.3)
 
   pub filter_hands : (m : Mode) (disk back : D) (trace : List (Event × Answer)) (a : Acting D) → ((past : Past) (s : State) → Is state past a s → (c : List ℕ) → (state back).may_leave c → StandsNow StandsFor s c)
-      → ((past : Past) (s : State) → Is state past a s → (state back).powers ≡ past.told) → HasRunOn state m disk trace (side.Filter (Some a)) → Leads state m disk trace back
-  filter_hands m disk back trace a hands tells h = subst (λ (k : Mode). Leads state k disk trace back) (sym h.0) (λ remote.
+      → ((past : Past) (s : State) → Is state past a s → (state back).powers ≡ past.told) → back ≡ disk_of a → HasRunOn state m disk trace (side.Filter (Some a)) → Leads state m disk trace back
+  filter_hands m disk back trace a hands tells same h = subst (λ (k : Mode). Leads state k disk trace back) (sym h.0) (λ remote.
       let r = h.1 remote in
       let past : Past = record { told = r.told; last = last_image None r.powers } in
       record {
@@ -118,6 +121,7 @@ module _ {D : Type 0} (state : D → Disk) where
         powers = r.powers;
         runs = r.runs;
         gains = subst (λ (o : Option (List (Choice × List ℕ))). Gains r.powers (state disk).powers o) (sym (tells past r.left r.is)) r.gains;
+        met = subst (λ (d : D). capped ((state disk).faults + met_by trace) ≤ (state d).faults) (sym same) r.met;
         lasts = hands past r.left r.is;
       })
 
@@ -141,8 +145,8 @@ module _ {D : Type 0} (state : D → Disk) where
   run_back m disk back trace (side.Filter (Some a)) new h same keeps = subst (λ (k : Mode). HandsBack k disk back) (sym h.0) tt
 
   -- a world in `filter` in which nothing has happened
-  pub filter_begins : (m : Mode) (disk : D) (trace : List (Event × Answer)) (a : Acting D) → m ≡ Filter → trace ≡ [] → ((remote : Held) (past : Past) → past.told ≡ (state disk).powers → Is state past a (start Filter remote (clusters_on (state disk).seen))) → HasRunOn state m disk trace (side.Filter (Some a))
-  filter_begins m disk trace a is none begins = (
+  pub filter_begins : (m : Mode) (disk : D) (trace : List (Event × Answer)) (a : Acting D) → m ≡ Filter → trace ≡ [] → ((remote : Held) (past : Past) → past.told ≡ (state disk).powers → Is state past a (start Filter remote (clusters_on (state disk).seen))) → (state disk).faults ≤ (state (disk_of a)).faults → HasRunOn state m disk trace (side.Filter (Some a))
+  filter_begins m disk trace a is none begins least = (
     is,
     λ remote.
         let s = start Filter remote (clusters_on (state disk).seen) in
@@ -152,6 +156,7 @@ module _ {D : Type 0} (state : D → Disk) where
           told = (state disk).powers;
           runs = (refl, refl);
           gains = refl;
+          met = met_none (state disk).faults (state (disk_of a)).faults least;
           is = begins remote (record { told = (state disk).powers; last = None }) refl;
         } in
         subst (λ (ps : List (Event × Answer)). LeadsWorld state remote disk ps a) (sym none) here,
@@ -159,7 +164,7 @@ module _ {D : Type 0} (state : D → Disk) where
 
   -- the disk of a world in `filter`
   pub filter_gives : (was : Side D) (o : Option (Acting D)) (a : Acting D) (back : D) → was ≡ side.Filter o → o ≡ Some a → ((past : Past) (s : State) → Is state past a s → (c : List ℕ) → (state back).may_leave c → StandsNow StandsFor s c)
-      → ((past : Past) (s : State) → Is state past a s → (state back).powers ≡ past.told) → (m : Mode) (disk : D) (trace : List (Event × Answer)) → HasRunOn state m disk trace was → Leads state m disk trace back
-  filter_gives was o a back at some hands tells m disk trace h =
+      → ((past : Past) (s : State) → Is state past a s → (state back).powers ≡ past.told) → back ≡ disk_of a → (m : Mode) (disk : D) (trace : List (Event × Answer)) → HasRunOn state m disk trace was → Leads state m disk trace back
+  filter_gives was o a back at some hands tells same m disk trace h =
       let run = subst (λ (x : Option (Acting D)). HasRunOn state m disk trace (side.Filter x)) some (subst (HasRunOn state m disk trace) at h) in
-      filter_hands m disk back trace a hands tells run
+      filter_hands m disk back trace a hands tells same run

@@ -1,14 +1,16 @@
 -- The worlds of both commands: what a trace is, and what it leaves of the disk.
-use Rattle.std.specs.Prelude.{◌≡◌, ℕ, Bool, List, Option, Some, None}
+use Rattle.std.specs.Prelude.{◌≡◌, ◌≤◌, ◌+◌, ℕ, Bool, List, [], ◌∷◌, Option, Some, None, cond}
+use Rattle.cf_acting.specs.Counted.{meets_device}
 use Rattle.cf_acting.specs.Meaning.{Is}
 use Rattle.cf_acting.specs.Pasts.{Gains, StandsFor, last_image}
+use Rattle.cf_acting.specs.Stepped.{disk_of}
 use Rattle.cf_acting.specs.declared.places.Acting.{Acting}
 use Rattle.cf_base.specs.declared.answers.Answer.{Answer}
 use Rattle.cf_base.specs.declared.events.Event.{Event}
 use Rattle.cf_base.specs.declared.policies.Choice.{Choice}
 use Rattle.cf_base.specs.declared.policies.Mode.{Mode}
 use Rattle.cf_base.specs.declared.policies.Mode.TheVariants.{Filter, Replay}
-use Rattle.cf_disk.specs.Disk.{State as Disk}
+use Rattle.cf_disk.specs.Disk.{State as Disk, capped}
 use Rattle.cf_model.specs.Lawful.{Lawful}
 use Rattle.cf_model.specs.Powers.{RunsOver, StandsNow}
 use Rattle.cf_model.specs.State.{State, start}
@@ -25,14 +27,21 @@ abbrev pub IsLawful : Mode → ℕ → List (Event × Answer) → Type 0
 IsLawful Replay clusters trace = plain.Lawful plain.start trace
 IsLawful Filter clusters trace = (remote : Held) → Lawful Filter remote clusters trace
 
+-- how many answers of a trace tell of a device call that failed
+abbrev pub met_by : List (Event × Answer) → ℕ
+met_by [] = 0
+met_by (p ∷ ps) = cond (meets_device p.1.shown) 1 0 + met_by ps
+
 -- What a trace of `filter` leaves of a disk on which it began with a new volume. There is one power of the disk for each crash,
 -- with its choice and in order, and each `resumed` opens what the image that the last of them left stands for. These are all
--- the powers that the disk had, where it tells them. Whatever a crash leaves then stands for a point that a restart may open.
+-- the powers that the disk had, where it tells them. Of each answer Device a device call failed in its event: the count of
+-- faults rose by as many at least. Whatever a crash leaves then stands for a point that a restart may open.
 pub record LeadsDisk {D : Type 0} (state : D → Disk) (remote : Held) (disk : D) (trace : List (Event × Answer)) (back : D) : Type 0 where
   pub left : State
   pub powers : List (Choice × List ℕ)
   pub runs : RunsOver StandsFor Filter None (start Filter remote (clusters_on (state disk).seen)) trace powers left
   pub gains : Gains powers (state disk).powers (state back).powers
+  pub met : capped ((state disk).faults + met_by trace) ≤ (state back).faults
   pub lasts : (c : List ℕ) → (state back).may_leave c → StandsNow StandsFor left c
 
 -- In `filter` no event touches the remote. In `replay` the disk is not used yet.
@@ -47,6 +56,7 @@ pub record LeadsWorld {D : Type 0} (state : D → Disk) (remote : Held) (disk : 
   pub told : Option (List (Choice × List ℕ))
   pub runs : RunsOver StandsFor Filter None (start Filter remote (clusters_on (state disk).seen)) trace powers left
   pub gains : Gains powers (state disk).powers told
+  pub met : capped ((state disk).faults + met_by trace) ≤ (state (disk_of a)).faults
   pub is : Is state (record { told = told; last = last_image None powers }) a left
 
 abbrev pub HasRunOn : {D : Type 0} → (D → Disk) → Mode → D → List (Event × Answer) → Side D → Type 0

@@ -1,8 +1,9 @@
 //! The world that a script acts on, and its trace.
 
 ghost use Rattle.std.specs.Prelude.{◌≡◌, ◌++◌, ◌∷◌, [], is_some, IfErr, IfOk, OnErr, OnOk, List, Some, true};
+ghost use Rattle.cf_acting.specs.Counted.{Counts};
 ghost use Rattle.cf_acting.specs.Meaning.{Is};
-ghost use Rattle.cf_acting.specs.Stepped.{StepsOver};
+ghost use Rattle.cf_acting.specs.Stepped.{StepsOver, disk_of};
 ghost use Rattle.cf_acting.specs.declared.places.Acting.{Acting as Hands};
 ghost use Rattle.cf_base.specs.declared.answers.Answer.{Answer as Answered};
 ghost use Rattle.cf_base.specs.declared.events.Event.{Event as Done};
@@ -141,6 +142,7 @@ fn act_on<D: Disk + Drop>(
     requires whole { is_some acting.old ≡ true }
     requires can { is_of Filter event.now ≡ true }
     ensures ok { (a b : Hands D) → acting.old ≡ Some a → acting.new ≡ Some b → StepsOver (Is D.state) event.now a result b }
+    ensures counts { (a b : Hands D) → acting.old ≡ Some a → acting.new ≡ Some b → Counts (Is D.state) a result (D.state (disk_of a)) (D.state (disk_of b)) }
     ensures whole { is_some acting.new ≡ true }
 {
     let Some(begun) = acting.take() else {

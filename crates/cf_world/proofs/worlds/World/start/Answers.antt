@@ -2,4 +2,4 @@ use Rattle.cf_world.proofs.Sided.{filter_begins}
 use Rattle.cf_world.proofs.worlds.World.start.Goals as goal
 
 pub returns-in-Ok-clause-ok : goal.returns-in-Ok-clause-ok
-returns-in-Ok-clause-ok g c = filter_begins g.D.Disk.state c.args.mode c.args.disk c.new-trace.result.items c.in-Ok.acting c.in-Filter.is c.new-trace.ensures.items c.in-Ok.ensures.ok
+returns-in-Ok-clause-ok g c = filter_begins g.D.Disk.state c.args.mode c.args.disk c.new-trace.result.items c.in-Ok.acting c.in-Filter.is c.new-trace.ensures.items c.in-Ok.ensures.ok c.in-Ok.ensures.faults
