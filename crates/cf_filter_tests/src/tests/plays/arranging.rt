@@ -1,0 +1,58 @@
+//! Items moved, pinned and removed, and what is said of all of them.
+
+use super::Play;
+use super::shows::{done, refused};
+use cf_base::{Fail, Mode, Pin, Policy, Reach, Sequence, Shown};
+use cf_disk::Disk;
+
+impl<D: Disk + Drop> Play<D> {
+    pub(crate) fn delete(&mut self, path: &str) -> Result<(), Fail> {
+        let mut notes = Sequence::new(self.alloc);
+        let told = self.filter.delete(Mode::Filter, path, &mut notes);
+        let shown = done(told)?;
+        self.tell(notes, shown)
+    }
+
+    pub(crate) fn rename(&mut self, from: &str, to: &str) -> Result<(), Fail> {
+        let mut notes = Sequence::new(self.alloc);
+        let told = self.filter.rename(from, to, &mut notes);
+        let shown = done(told)?;
+        self.tell(notes, shown)
+    }
+
+    pub(crate) fn pin(&mut self, path: &str, pin: Pin, reach: Reach) -> Result<(), Fail> {
+        let mut notes = Sequence::new(self.alloc);
+        let told = self.filter.pin(path, pin, reach, &mut notes);
+        let shown = done(told)?;
+        self.tell(notes, shown)
+    }
+
+    pub(crate) fn set_policy(&mut self, policy: &Policy) -> Result<(), Fail> {
+        let told = self.filter.set_policy(Mode::Filter, policy);
+        let shown = done(told)?;
+        self.quiet(shown)
+    }
+
+    pub(crate) fn connect(&mut self, on: bool) -> Result<(), Fail> {
+        let mut notes = Sequence::new(self.alloc);
+        let told = self.filter.connect(on, &mut notes);
+        let shown = done(told)?;
+        self.tell(notes, shown)
+    }
+
+    pub(crate) fn open(&mut self, path: &str) -> Result<(), Fail> {
+        let shown = match self.filter.open_file(path) {
+            Ok(handle) => Shown::Opened(handle),
+            Err(fail) => refused(fail)?,
+        };
+        self.quiet(shown)
+    }
+
+    pub(crate) fn flush(&mut self) -> Result<(), Fail> {
+        let shown = match self.filter.flush() {
+            Ok(count) => Shown::Count(count),
+            Err(fail) => refused(fail)?,
+        };
+        self.quiet(shown)
+    }
+}
