@@ -1,16 +1,17 @@
 -- How a medium goes on of which the front alone lies in memory.
-use Rattle.std.proofs.Common.{◌≡◌, ℕ, ◌+◌, ◌-◌, ◌≤◌, min, max, Bool, true, false, List, length, replicate, sym, ◌∙◌, ap, subst, arith}
+use Rattle.std.proofs.Common.{◌≡◌, ℕ, ◌+◌, ◌-◌, ◌≤◌, Bool, true, false, List, [], length, replicate, sym, ◌∙◌, ap, subst, arith}
 use Rattle.std.proofs.lemmas.List.{length-replicate}
 use Rattle.cf_base.specs.declared.policies.Choice.{Choice}
-use Rattle.cf_disk.specs.Disk.{part}
+use Rattle.cf_disk.specs.Covering.{Adds, IsOuter}
 use Rattle.cf_disk.specs.Fronts.{IsFront, filled, padded, window}
-use Rattle.cf_disk.specs.Images.{Held, IsWhole, durable, written, left_by}
+use Rattle.cf_disk.specs.Images.{Held, IsWhole, IsQuietOutside, durable, written, left_by}
 use Rattle.cf_disk.specs.Splice.{over, length-over}
+use Rattle.cf_disk.specs.declared.ranges.Range.{Range}
 use Rattle.cf_disk.proofs.FrontLaws.{length-filled, filled_again, filled_over, padded_durable, padded_whole, left_padded}
 use Rattle.cf_disk.proofs.ImageLaws.{left_over, left_image}
-use Rattle.cf_disk.proofs.MediumLaws.{medium_written, medium_synced, synced_is, medium_cut, medium_padded}
+use Rattle.cf_disk.proofs.MediumLaws.{medium_written, medium_durable, medium_cut, medium_padded}
 
-module _ (size low high r y p : ℕ) (bytes synced : List ℕ) (pending : List Bool) (is : IsFront size low high r y p (record { bytes = bytes; synced = synced; pending = pending }))
+module _ (size : ℕ) (ranges : List Range) (r y p : ℕ) (bytes synced : List ℕ) (pending : List Bool) (is : IsFront size ranges r y p (record { bytes = bytes; synced = synced; pending = pending }))
     (now : Held) (view : padded size (record { bytes = bytes; synced = synced; pending = pending }) ≡ now) where
   abbrev front : Held
   front = record { bytes = bytes; synced = synced; pending = pending }
@@ -22,7 +23,7 @@ module _ (size low high r y p : ℕ) (bytes synced : List ℕ) (pending : List B
   now_whole = subst (λ (h : Held). IsWhole h) view (padded_whole size front is.medium.whole)
 
   -- a write over bytes that were filled up to its end
-  module _ (at e l k r2 y2 p2 : ℕ) (src b1 y1 b2 : List ℕ) (f1 f2 : List Bool) (inside : at + length src ≤ length now.bytes) (e_is : e ≡ at + length src)
+  module _ (at e r2 y2 p2 : ℕ) (src b1 y1 b2 : List ℕ) (f1 f2 : List Bool) (inside : at + length src ≤ length now.bytes) (e_is : e ≡ at + length src)
       (b1_is : b1 ≡ filled e 0 bytes) (y1_is : y1 ≡ filled e 0 synced) (f1_is : f1 ≡ filled e false pending)
       (b2_is : b2 ≡ over at src b1) (f2_is : f2 ≡ over at (replicate (length src) true) f1) where
     end : e ≤ size
@@ -37,9 +38,10 @@ module _ (size low high r y p : ℕ) (bytes synced : List ℕ) (pending : List B
     flags_are : f2 ≡ over at (replicate (length src) true) (filled e false pending)
     flags_are = f2_is ∙ ap (λ (l : List Bool). over at (replicate (length src) true) l) f1_is
 
-    pub front_written : l ≡ min low at → k ≡ max high e → r ≤ r2 → y ≤ y2 → p ≤ p2 → IsFront size l k r2 y2 p2 (record { bytes = b2; synced = y1; pending = f2 })
-    front_written l_is k_is rs ys ps = rw (l_is, k_is ∙ ap (λ (n : ℕ). max high n) e_is, y1_is) (record {
-      medium = medium_written (filled e 0 bytes) (filled e 0 synced) (filled e false pending) low high (medium_padded bytes synced pending low high is.medium e) at src b2 f2 room bytes_are flags_are;
+    pub front_written : (more : List Range) → Adds (record { low = at; high = e }) ranges more → r ≤ r2 → y ≤ y2 → p ≤ p2 → IsFront size more r2 y2 p2 (record { bytes = b2; synced = y1; pending = f2 })
+    front_written more adds rs ys ps = rw y1_is (record {
+      medium = medium_written (filled e 0 bytes) (filled e 0 synced) (filled e false pending) ranges (medium_padded bytes synced pending ranges is.medium e) at src b2 f2 more room bytes_are flags_are
+          (subst (λ (n : ℕ). Adds (record { low = at; high = n }) ranges more) e_is adds);
       fits = omega (arith, ap length bytes_are, length-over 0 at src (filled e 0 bytes) room, length-filled 0 e bytes, end, is.fits);
       small = is.small;
       room_is = omega (arith, is.room_is, rs);
@@ -64,30 +66,36 @@ module _ (size low high r y p : ℕ) (bytes synced : List ℕ) (pending : List B
     pub written_is : padded size (record { bytes = b2; synced = y1; pending = f2 }) ≡ written at src now
     written_is = written_front ∙ ap (λ (h : Held). written at src h) view
 
-  module _ (copy : List ℕ) (flags : List Bool) (copy_is : copy ≡ over low (part low (high - low) bytes) synced) (flags_are : flags ≡ over low (replicate (high - low) false) pending) where
-    pub front_synced : (l k y2 p2 : ℕ) → l ≡ length bytes → k ≡ length bytes → y ≤ y2 → p ≤ p2 → IsFront size l k r y2 p2 (record { bytes = bytes; synced = copy; pending = flags })
-    front_synced l k y2 p2 l_is k_is ys ps = record {
-      medium = medium_synced bytes synced pending low high is.medium l k copy flags copy_is flags_are l_is k_is;
+  module _ (copy : List ℕ) (flags : List Bool) (durable_is : ◌≡◌ {A = Held} (record { bytes = bytes; synced = copy; pending = flags }) (durable bytes)) where
+    pub front_synced : (none : List Range) (y2 p2 : ℕ) → none ≡ [] → y ≤ y2 → p ≤ p2 → IsFront size none r y2 p2 (record { bytes = bytes; synced = copy; pending = flags })
+    front_synced none y2 p2 none_is ys ps = rw none_is (record {
+      medium = medium_durable (record { bytes = bytes; synced = copy; pending = flags }) bytes durable_is;
       fits = is.fits;
       small = is.small;
       room_is = is.room_is;
       synced_room_is = omega (arith, is.synced_room_is, ys);
       pending_room_is = omega (arith, is.pending_room_is, ps);
-    }
+    })
 
     pub synced_now : padded size (record { bytes = bytes; synced = copy; pending = flags }) ≡ durable now.bytes
     synced_now =
-        ap (λ (h : Held). padded size h) (synced_is bytes synced pending low high is.medium copy flags copy_is flags_are)
+        ap (λ (h : Held). padded size h) durable_is
         ∙ padded_durable size bytes is.fits
         ∙ ap (λ (h : Held). durable h.bytes) view
 
-  module _ (choice : Choice) (new : List ℕ) (new_is : new ≡ over low (left_by choice (window low (high - low) front)) bytes) where
-    left : new ≡ left_by choice front
-    left = new_is ∙ left_over low high front is.medium.whole is.medium.order is.medium.room is.medium.quiet choice
+  module _ (choice : Choice) (new : List ℕ) (outer : Range) (covers : IsOuter ranges outer) (new_is : new ≡ over outer.low (left_by choice (window outer.low (outer.high - outer.low) front)) bytes) where
+    inside : (outer.low ≤ outer.high) × (outer.high ≤ length bytes)
+    inside = covers.within (length bytes) is.medium.within
 
-    pub front_cut : (r2 : ℕ) → r ≤ r2 → IsFront size low high r2 y p (record { bytes = new; synced = synced; pending = pending })
+    quiet : IsQuietOutside outer.low outer.high pending
+    quiet i out = is.medium.covered i (covers.outside i out)
+
+    left : new ≡ left_by choice front
+    left = new_is ∙ left_over outer.low outer.high front is.medium.whole inside.0 inside.1 quiet choice
+
+    pub front_cut : (r2 : ℕ) → r ≤ r2 → IsFront size ranges r2 y p (record { bytes = new; synced = synced; pending = pending })
     front_cut r2 rs = record {
-      medium = medium_cut bytes synced pending low high is.medium choice new left;
+      medium = medium_cut bytes synced pending ranges is.medium choice new left;
       fits = omega (arith, ap length left, (left_image choice front is.medium.whole).size, is.medium.whole.reads_one.size, is.fits);
       small = is.small;
       room_is = omega (arith, is.room_is, rs);

@@ -93,7 +93,7 @@ image_near at src c h room whole image = (
       ]
     ]
 
-clear_at : (n i : ℕ) → get_or (replicate n false) i false ≡ false
+pub clear_at : (n i : ℕ) → get_or (replicate n false) i false ≡ false
 clear_at zero i = refl
 clear_at (suc n) zero = refl
 clear_at (suc n) (suc i) = clear_at n i
@@ -139,25 +139,8 @@ range_over low high xs ys order room same outside = ext_get_or 0 (over low (part
     fits : low + length (part low (high - low) xs) ≤ length ys
     fits = omega (arith, size)
 
--- where nothing is pending outside of a range, the bytes of that range are all that a sync or a power has to look at
+-- where nothing is pending outside of a range, the bytes of that range are all that a power has to look at
 module _ (low high : ℕ) (h : Held) (whole : IsWhole h) (order : low ≤ high) (room : high ≤ length h.bytes) (quiet : IsQuietOutside low high h.pending) where
-  pub range_synced : over low (part low (high - low) h.bytes) h.synced ≡ h.bytes
-  range_synced = range_over low high h.bytes h.synced order room (sym whole.reads_one.size) (λ i out. sym (whole.reads_one.stays i (quiet i out)))
-
-  flags_fit : low + (high - low) ≤ length h.pending
-  flags_fit = omega (arith, whole.flags, whole.reads_one.size)
-
-  pub range_clear : over low (replicate (high - low) false) h.pending ≡ replicate (length h.bytes) false
-  range_clear = ext_get_or false (over low (replicate (high - low) false) h.pending) (replicate (length h.bytes) false)
-      (flags_size false low (high - low) h.pending flags_fit ∙ whole.flags ∙ sym whole.reads_one.size ∙ sym (length-replicate (length h.bytes) false))
-      (λ i _. elim (cases_lt i low) [
-        | inl under ↦ flag_before false low (high - low) h.pending flags_fit i under ∙ quiet i (inl under) ∙ sym (clear_at (length h.bytes) i)
-        | inr from ↦ elim (cases_lt i high) [
-          | inl below ↦ flag_in false low (high - low) h.pending flags_fit i from (omega arith) ∙ sym (clear_at (length h.bytes) i)
-          | inr above ↦ flag_after false low (high - low) h.pending flags_fit i (omega arith) ∙ quiet i (inr above) ∙ sym (clear_at (length h.bytes) i)
-        ]
-      ])
-
   abbrev cut_bytes : ℕ → List ℕ
   cut_bytes s = mixed s (part low (high - low) h.bytes) (part low (high - low) h.synced) (take (high - low) (drop low h.pending))
 
@@ -184,11 +167,15 @@ module _ (low high : ℕ) (h : Held) (whole : IsWhole h) (order : low ≤ high) 
   left_over Drop = range_over low high h.synced h.bytes order (omega (arith, whole.reads_one.size)) whole.reads_one.size (λ i out. whole.reads_one.stays i (quiet i out))
   left_over (Mix s) = mixed_over s
 
--- a write widens the range
-pub written_quiet : (low high at n l k : ℕ) (flags : List Bool) → at + n ≤ length flags → IsQuietOutside low high flags
-    → l ≤ low → l ≤ at → high ≤ k → at + n ≤ k → IsQuietOutside l k (over at (replicate n true) flags)
-written_quiet low high at n l k flags room quiet a b c d i (inl under) = flag_before true at n flags room i (omega arith) ∙ quiet i (inl (omega arith))
-written_quiet low high at n l k flags room quiet a b c d i (inr above) = flag_after true at n flags room i (omega arith) ∙ quiet i (inr (omega arith))
+-- where nothing is pending, all is durable
+pub quiet_durable : (bytes synced : List ℕ) (pending : List Bool) → IsWhole (record { bytes = bytes; synced = synced; pending = pending }) → ((i : ℕ) → get_or pending i false ≡ false)
+    → ◌≡◌ {A = Held} (record { bytes = bytes; synced = synced; pending = pending }) (durable bytes)
+quiet_durable bytes synced pending whole quiet = λ i. record { bytes = bytes; synced = copied i; pending = clear i }
+  where
+    copied : synced ≡ bytes
+    copied = ext_get_or 0 synced bytes (sym whole.reads_one.size) (λ i _. sym (whole.reads_one.stays i (quiet i)))
 
-pub clear_quiet : (n low high : ℕ) → IsQuietOutside low high (replicate n false)
-clear_quiet n low high i _ = clear_at n i
+    clear : pending ≡ replicate (length bytes) false
+    clear = ext_get_or false pending (replicate (length bytes) false)
+        (whole.flags ∙ sym whole.reads_one.size ∙ sym (length-replicate (length bytes) false))
+        (λ i _. quiet i ∙ sym (clear_at (length bytes) i))

@@ -1,4 +1,5 @@
 mod Mixing
+mod CoverLaws
 mod ImageLaws
 mod FrontLaws
 mod MediumLaws

@@ -1,6 +1,7 @@
 -- A medium of which the front alone lies in memory: all behind it is zero, synced and not pending.
 use Rattle.std.specs.Prelude.{◌<◌, ◌≤◌, ◌-◌, ◌^◌, ℕ, false, List, ◌++◌, length, take, drop, replicate}
 use Rattle.cf_disk.specs.Images.{Held, IsMedium}
+use Rattle.cf_disk.specs.declared.ranges.Range.{Range}
 
 -- filled up to n with x
 abbrev pub filled : {X : Type 0} → ℕ → X → List X → List X
@@ -23,8 +24,8 @@ window at n h = record {
 }
 
 -- so a medium in memory keeps its front, with room for the whole of each list
-pub record IsFront (size low high room synced_room pending_room : ℕ) (h : Held) : Type 0 where
-  pub medium : IsMedium low high h
+pub record IsFront (size : ℕ) (ranges : List Range) (room synced_room pending_room : ℕ) (h : Held) : Type 0 where
+  pub medium : IsMedium ranges h
   pub fits : length h.bytes ≤ size
   pub small : size < 2 ^ 64
   pub room_is : size ≤ room

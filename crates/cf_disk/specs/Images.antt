@@ -2,6 +2,8 @@
 use Rattle.std.specs.Prelude.{◌<◌, ◌≤◌, ◌+◌, ◌≡◌, ◌⊎◌, ℕ, Bool, true, false, List, length, get_or, replicate, ◌*◌, ◌/◌, ◌%◌, ◌^◌, ◌==◌, if◌then◌else◌, ◌∷◌}
 use Rattle.cf_base.specs.declared.policies.Choice.{Choice}
 use Rattle.cf_base.specs.declared.policies.Choice.TheVariants.{Keep, Drop, Mix}
+use Rattle.cf_disk.specs.Covering.{AreCovered, AreWithin}
+use Rattle.cf_disk.specs.declared.ranges.Range.{Range}
 use Rattle.cf_disk.specs.Splice.{over}
 
 -- what a read gives, what the last sync left, and which places were written since
@@ -35,12 +37,11 @@ pub record IsWhole (h : Held) : Type 0 where
 abbrev pub IsQuietOutside : ℕ → ℕ → List Bool → Type 0
 IsQuietOutside low high pending = (i : ℕ) → (i < low) ⊎ (high ≤ i) → get_or pending i false ≡ false
 
--- so a medium in memory keeps it: the range lies inside, and nothing is pending outside of it
-pub record IsMedium (low high : ℕ) (h : Held) : Type 0 where
+-- so a medium in memory keeps it: the ranges lie inside, and nothing is pending outside of them
+pub record IsMedium (ranges : List Range) (h : Held) : Type 0 where
   pub whole : IsWhole h
-  pub order : low ≤ high
-  pub room : high ≤ length h.bytes
-  pub quiet : IsQuietOutside low high h.pending
+  pub within : AreWithin (length h.bytes) ranges
+  pub covered : AreCovered ranges h.pending
 
 -- the next number of the generator
 unfoldable pub stirred : ℕ → ℕ

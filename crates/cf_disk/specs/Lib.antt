@@ -1,4 +1,5 @@
 pub mod Disk
+pub mod Covering
 pub mod Images
 pub mod MemState
 pub mod Splice

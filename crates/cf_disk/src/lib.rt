@@ -10,6 +10,7 @@ mod media;
 mod mem_disks;
 mod patches;
 mod powers;
+mod ranges;
 mod trace_disks;
 mod trails;
 

@@ -5,24 +5,24 @@ ghost use Rattle.cf_disk.specs.Disk.{part};
 ghost use Rattle.cf_disk.specs.Images.{Held, IsWhole, written, durable, left_by};
 
 use crate::patches::{
-    copy_filled, copy_range, cut_vec, fill_up, fill_up_flags, mark_vec, put_vec, read_filled,
+    copy_filled, cut_vec, fill_up, fill_up_flags, mark_vec, put_vec, read_filled, sync_ranges,
 };
+use crate::ranges::{FewRanges, Range};
 use cf_base::{Choice, Memory};
 use std::alloc::Global;
 use std::marker::Model;
 
 /// The bytes of a disk, those of the last sync, and a flag for each byte that was written since. They lie in memory up to
 /// the last place that was ever written; all behind it is zero and durable. Room for the whole is taken at the start, so
-/// that a write takes none, and what was never touched costs nothing. The flags that are set lie from `low` to `high`, so
-/// that a sync and a power go over these places alone.
+/// that a write takes none, and what was never touched costs nothing. The flags that are set lie in the ranges, so that a
+/// sync goes over these places alone, however far apart they lie, and a power from the first to the last of them.
 #[derive(Drop)]
 pub(crate) struct Medium {
     bytes: Vec<u8>,
     synced: Vec<u8>,
     pending: Vec<bool>,
     size: usize,
-    low: usize,
-    high: usize,
+    ranges: FewRanges,
 }
 
 impl Model for Medium {
@@ -34,7 +34,7 @@ impl Model for Medium {
 
     ghost view = { λ m. padded m.size (record { bytes = m.bytes.items; synced = m.synced.items; pending = m.pending.items }) };
 
-    ghost invariant = { λ m. IsFront m.size m.low m.high (vec_capacity m.bytes) (vec_capacity m.synced) (vec_capacity m.pending) (record { bytes = m.bytes.items; synced = m.synced.items; pending = m.pending.items }) };
+    ghost invariant = { λ m. IsFront m.size m.ranges (vec_capacity m.bytes) (vec_capacity m.synced) (vec_capacity m.pending) (record { bytes = m.bytes.items; synced = m.synced.items; pending = m.pending.items }) };
 }
 
 impl Medium {
@@ -47,8 +47,7 @@ impl Medium {
             synced: Vec::with_capacity(alloc, size)?,
             pending: Vec::with_capacity(alloc, size)?,
             size,
-            low: 0,
-            high: 0,
+            ranges: FewRanges::new(alloc)?,
         })
     }
 
@@ -86,18 +85,20 @@ impl Medium {
         fill_up_flags(&mut self.pending, end);
         put_vec(&mut self.bytes, at, bytes);
         mark_vec(&mut self.pending, at, bytes.len(), true);
-        self.low = self.low.min(at);
-        self.high = self.high.max(end);
+        self.ranges.add(Range { low: at, high: end });
     }
 
     pub(crate) fn sync(&mut self)
         ensures is { self.new ≡ durable self.old.bytes }
         ensures whole { IsWhole self.old }
     {
-        copy_range(&mut self.synced, &self.bytes, self.low, self.high);
-        mark_vec(&mut self.pending, self.low, self.high - self.low, false);
-        self.low = self.bytes.len();
-        self.high = self.bytes.len();
+        sync_ranges(
+            &self.bytes,
+            &mut self.synced,
+            &mut self.pending,
+            self.ranges.as_slice(),
+        );
+        self.ranges.clear();
     }
 
     // What a power leaves of the pending bytes, as if it had been written.
@@ -105,12 +106,13 @@ impl Medium {
         ensures is { self.new ≡ record { bytes = left_by choice self.old; synced = self.old.synced; pending = self.old.pending } }
         ensures whole { IsWhole self.old }
     {
+        let outer = self.ranges.outer();
         cut_vec(
             &mut self.bytes,
             &self.synced,
             &self.pending,
-            self.low,
-            self.high,
+            outer.low,
+            outer.high,
             choice,
         );
     }

@@ -3,9 +3,10 @@
 ghost use Rattle.std.specs.Prelude.{◌≡◌, ◌≤◌, ◌<◌, ◌+◌, ◌-◌, ◌^◌, List, length, replicate, false, IfOk, vec_capacity};
 ghost use Rattle.cf_disk.specs.Disk.{part};
 ghost use Rattle.cf_disk.specs.Fronts.{filled, window};
-ghost use Rattle.cf_disk.specs.Images.{left_by, mixed, mixed_byte, stirred};
+ghost use Rattle.cf_disk.specs.Images.{durable, left_by, mixed, mixed_byte, stirred, Held, IsMedium};
 ghost use Rattle.cf_disk.specs.Splice.{over};
 
+use crate::ranges::Range;
 use cf_base::{Choice, Memory};
 use std::alloc::Global;
 
@@ -67,6 +68,24 @@ pub(crate) fn copy_range(bytes: &mut Vec<u8>, src: &Vec<u8>, low: usize, high: u
     ensures capacity { vec_capacity bytes.new ≡ vec_capacity bytes.old }
 {
     put(bytes, low, &src[low..high]);
+}
+
+// Copies the bytes of each range to the synced ones and clears its flags. Ranges may overlap. Then all is durable.
+pub(crate) fn sync_ranges(
+    bytes: &Vec<u8>,
+    synced: &mut Vec<u8>,
+    pending: &mut Vec<bool>,
+    ranges: &[Range],
+)
+    requires { IsMedium ranges.now (record { bytes = bytes.now.items; synced = synced.old.items; pending = pending.old.items }) }
+    ensures items { ◌≡◌ {A = Held} (record { bytes = bytes.now.items; synced = synced.new.items; pending = pending.new.items }) (durable bytes.now.items) }
+    ensures synced { vec_capacity synced.new ≡ vec_capacity synced.old }
+    ensures pending { vec_capacity pending.new ≡ vec_capacity pending.old }
+{
+    for range in ranges {
+        copy_range(synced, bytes, range.low, range.high);
+        mark_vec(pending, range.low, range.high - range.low, false);
+    }
 }
 
 // Zeros behind the bytes, where they are fewer.
