@@ -8,58 +8,62 @@ use Rattle.std.proofs.lemmas.List.{get_or-map, length-map}
 use Rattle.cf_data.specs.declared.uses.Use.{Use}
 use Rattle.cf_data.specs.declared.uses.Use.TheVariants.{Free, Held, Staged}
 use Rattle.cf_data.specs.Roles.{how_many, is_free, is_dropped, use_of, committed, AreApart, HoldsAll, Opens}
-use Rattle.cf_data.specs.Layout.{IsLayout, counting, use_at, uses_from}
+use Rattle.cf_data.specs.Layout.{IsLayout, descending, use_at, uses_from}
 use Rattle.cf_data.proofs.Moves.{inside}
 
-length-counting : (i n : ℕ) → length (counting i n) ≡ n
-length-counting i zero = refl
-length-counting i (suc n) = omega (arith, length-counting (i + 1) n)
+length-descending : (n : ℕ) → length (descending n) ≡ n
+length-descending zero = refl
+length-descending (suc n) = omega (arith, length-descending n)
 
-get_or-counting : (i n k : ℕ) → k < n → get_or (counting i n) k 0 ≡ i + k
-get_or-counting i zero k lt = absurd (omega arith)
-get_or-counting i (suc n) zero lt = omega arith
-get_or-counting i (suc n) (suc k) lt = get_or-counting (i + 1) n k (omega arith) ∙ omega arith
+pub descending_next : (x rest n : ℕ) → x ≡ rest → n ≡ rest + 1 → x ∷ descending rest ≡ descending n
+descending_next x rest zero e h = absurd (omega arith)
+descending_next x rest (suc n) e h = ap (λ k. k ∷ descending rest) (omega arith) ∙ ap (λ k. n ∷ descending k) (omega arith)
+
+get_or-descending : (n k : ℕ) → k < n → get_or (descending n) k 0 + k + 1 ≡ n
+get_or-descending zero k lt = absurd (omega arith)
+get_or-descending (suc n) zero lt = omega arith
+get_or-descending (suc n) (suc k) lt = omega (arith, get_or-descending n k (omega arith))
 
 free_below : (n p : ℕ) → p < n → use_at 0 n n p ≡ Free
 free_below n p lt = grind (arith, nat_tests)
 
-all_free : (n i m : ℕ) → i + m ≤ n → how_many is_free (uses_from 0 n n (counting i m)) ≡ m
-all_free n i zero le = refl
-all_free n i (suc m) le = ap (λ (u : Use). cond (is_free u) 1 0 + how_many is_free (uses_from 0 n n (counting (i + 1) m))) (free_below n i (omega arith)) ∙ omega (arith, all_free n (i + 1) m (omega arith))
+all_free : (n m : ℕ) → m ≤ n → how_many is_free (uses_from 0 n n (descending m)) ≡ m
+all_free n zero le = refl
+all_free n (suc m) le = ap (λ (u : Use). cond (is_free u) 1 0 + how_many is_free (uses_from 0 n n (descending m))) (free_below n m (omega arith)) ∙ omega (arith, all_free n m (omega arith))
 
-no_dropped : (n i m : ℕ) → i + m ≤ n → how_many is_dropped (uses_from 0 n n (counting i m)) ≡ 0
-no_dropped n i zero le = refl
-no_dropped n i (suc m) le = ap (λ (u : Use). cond (is_dropped u) 1 0 + how_many is_dropped (uses_from 0 n n (counting (i + 1) m))) (free_below n i (omega arith)) ∙ omega (arith, no_dropped n (i + 1) m (omega arith))
+no_dropped : (n m : ℕ) → m ≤ n → how_many is_dropped (uses_from 0 n n (descending m)) ≡ 0
+no_dropped n zero le = refl
+no_dropped n (suc m) le = ap (λ (u : Use). cond (is_dropped u) 1 0 + how_many is_dropped (uses_from 0 n n (descending m))) (free_below n m (omega arith)) ∙ omega (arith, no_dropped n m (omega arith))
 
-pub fresh_layout : (n : ℕ) → n < 2 ^ 32 → IsLayout (counting 0 n) (counting 0 n) 0 n n
+pub fresh_layout : (n : ℕ) → n < 2 ^ 32 → IsLayout (descending n) (descending n) 0 n n
 fresh_layout n small = record {
   inverse = record {
     size = refl;
-    numbers = λ i lt. omega (arith, length-counting 0 n, get_or-counting 0 n i (below i lt), lt);
+    numbers = λ i lt. inside_of i (below i lt);
     back = λ i lt. twice i (below i lt);
-    places_in = λ i lt. omega (arith, length-counting 0 n, get_or-counting 0 n i (below i lt), lt);
+    places_in = λ i lt. inside_of i (below i lt);
     there = λ i lt. twice i (below i lt);
   };
-  small = omega (arith, length-counting 0 n);
+  small = omega (arith, length-descending n);
   first = omega arith;
   second = omega arith;
-  third = omega (arith, length-counting 0 n);
-  free_count = all_free n 0 n (omega arith) ∙ omega arith;
-  dropped_count = no_dropped n 0 n (omega arith);
+  third = omega (arith, length-descending n);
+  free_count = all_free n n (omega arith) ∙ omega arith;
+  dropped_count = no_dropped n n (omega arith);
 } where
-  below : (i : ℕ) → i < length (counting 0 n) → i < n
-  below i lt = omega (arith, length-counting 0 n)
+  below : (i : ℕ) → i < length (descending n) → i < n
+  below i lt = omega (arith, length-descending n)
 
-  same : (i : ℕ) → i < n → get_or (counting 0 n) i 0 ≡ i
-  same i lt = omega (arith, get_or-counting 0 n i lt)
+  inside_of : (i : ℕ) → i < n → get_or (descending n) i 0 < length (descending n)
+  inside_of i lt = omega (arith, length-descending n, get_or-descending n i lt)
 
-  twice : (i : ℕ) → i < n → get_or (counting 0 n) (get_or (counting 0 n) i 0) 0 ≡ i
-  twice i lt = ap (λ (k : ℕ). get_or (counting 0 n) k 0) (same i lt) ∙ same i lt
+  twice : (i : ℕ) → i < n → get_or (descending n) (get_or (descending n) i 0) 0 ≡ i
+  twice i lt = omega (arith, get_or-descending n i lt, get_or-descending n (get_or (descending n) i 0) (omega (arith, get_or-descending n i lt)))
 
-pub fresh_opens : (n : ℕ) → Opens n [] (uses_from 0 n n (counting 0 n))
+pub fresh_opens : (n : ℕ) → Opens n [] (uses_from 0 n n (descending n))
 fresh_opens n = record {
-  size = length-map (counting 0 n) (use_at 0 n n) ∙ length-counting 0 n;
-  each = λ k lt. get_or-map (use_at 0 n n) (counting 0 n) k 0 Held (omega (arith, length-counting 0 n)) ∙ free_below n (get_or (counting 0 n) k 0) (omega (arith, get_or-counting 0 n k lt));
+  size = length-map (descending n) (use_at 0 n n) ∙ length-descending n;
+  each = λ k lt. get_or-map (use_at 0 n n) (descending n) k 0 Held (omega (arith, length-descending n)) ∙ free_below n (get_or (descending n) k 0) (omega (arith, get_or-descending n k lt));
 }
 
 -- what holds of each element holds of each number that is there

@@ -1,14 +1,9 @@
 -- What a swap in the order does to the places.
-use Rattle.std.proofs.Common.{◌≡◌, ◌≢◌, ℕ, zero, suc, ◌+◌, ◌<◌, true, false, List, [], ◌∷◌, ◌++◌, length, get_or, set, map, sym, ap, ◌∙◌, arith, eqb, inl, inr, length-set, get_or-set_same, get_or-set_other}
+use Rattle.std.proofs.Common.{◌≡◌, ◌≢◌, ℕ, ◌<◌, true, false, List, length, get_or, set, map, sym, ap, ◌∙◌, arith, eqb, inl, inr, length-set, get_or-set_same, get_or-set_other}
 use Rattle.std.proofs.lemmas.Bool.{cases_Bool, eqb-true, eq-eqb}
 use Rattle.std.proofs.lemmas.Bool.Decides.{nat_tests}
 use Rattle.std.proofs.lemmas.List.{ext_get_or, get_or-map, length-map}
-use Rattle.cf_data.specs.Layout.{AreInverse, counting, moved}
-
-pub counting_push : (i n m j : ℕ) → m ≡ n + 1 → j ≡ i + n → counting i m ≡ counting i n ++ j ∷ []
-counting_push i n zero j e h = absurd (omega arith)
-counting_push i zero (suc m) j e h = let z : m ≡ 0 = omega arith in ap (λ k. i ∷ counting (i + 1) k) z ∙ ap (λ v. v ∷ []) (omega arith)
-counting_push i (suc n) (suc m) j e h = ap (λ v. i ∷ v) (counting_push (i + 1) n m j (omega arith) (omega arith))
+use Rattle.cf_data.specs.Layout.{AreInverse, moved}
 
 module _ (order places : List ℕ) (inverse : AreInverse order places) (i j : ℕ) (in_i : i < length order) (in_j : j < length order) where
   at_first : (k : ℕ) → k ≡ get_or order i 0 → get_or places k 0 ≡ i

@@ -1,5 +1,5 @@
 -- How the uses of the clusters are kept: the numbers stand in an order, by use.
-use Rattle.std.specs.Prelude.{◌≡◌, ℕ, zero, suc, ◌+◌, [], ◌∷◌, ◌-◌, ◌<◌, ◌≤◌, ◌^◌, ◌==◌, cond, nat_lt, List, length, map, slice_index_or}
+use Rattle.std.specs.Prelude.{◌≡◌, ℕ, zero, suc, [], ◌∷◌, ◌-◌, ◌<◌, ◌≤◌, ◌^◌, ◌==◌, cond, nat_lt, List, length, map, slice_index_or}
 use Rattle.cf_data.specs.declared.uses.Use.{Use}
 use Rattle.cf_data.specs.declared.uses.Use.TheVariants.{Free, Held, Staged, Dropped}
 use Rattle.cf_data.specs.Roles.{how_many, is_free, is_dropped}
@@ -12,10 +12,10 @@ use_at free staged held p = cond (nat_lt p free) Dropped (cond (nat_lt p staged)
 abbrev pub uses_from : ℕ → ℕ → ℕ → List ℕ → List Use
 uses_from free staged held places = map (use_at free staged held) places
 
--- n numbers from i on
-abbrev pub counting : ℕ → ℕ → List ℕ
-counting i zero = []
-counting i (suc n) = i ∷ counting (i + 1) n
+-- the numbers below n, from the greatest down
+abbrev pub descending : ℕ → List ℕ
+descending zero = []
+descending (suc n) = n ∷ descending n
 
 -- the two lists are each other's inverse
 pub record AreInverse (order places : List ℕ) : Type 0 where

@@ -5,7 +5,7 @@ ghost use Rattle.cf_disk.specs.Disk.{size_of, part, capped, SameBut, Leaves, Kee
 ghost use Rattle.cf_data.specs.declared.uses.Use.TheVariants.{Free, Held, Staged, Dropped};
 ghost use Rattle.cf_data.specs.declared.clusters.DataFail.TheVariants.{Failed, Full};
 ghost use Rattle.cf_data.specs.Roles.{committed, dropped_at, how_many, is_free, is_now, staged_at, use_of, AreApart, HoldsAll, IsUsed, Opens};
-ghost use Rattle.cf_data.specs.Layout.{counting};
+ghost use Rattle.cf_data.specs.Layout.{descending};
 ghost use Rattle.cf_data.specs.Area.{place, KeepsWhere, SameWhere, SpendsOne};
 
 use crate::orders::{numbers, swap};
@@ -87,10 +87,10 @@ impl Data {
         Ok(Data::fresh(order, places, clusters))
     }
 
-    // All clusters are free.
+    // All clusters are free, and the first of them are taken first: a disk in memory then grows with what it holds.
     fn fresh(order: Vec<u32>, places: Vec<u32>, clusters: u32) -> Data
-        requires order { order.items ≡ counting 0 clusters }
-        requires places { places.items ≡ counting 0 clusters }
+        requires order { order.items ≡ descending clusters }
+        requires places { places.items ≡ descending clusters }
         ensures { Opens clusters [] result }
     {
         Data {

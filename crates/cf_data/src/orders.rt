@@ -1,17 +1,17 @@
 //! An order of numbers, with the place of each.
 ghost use Rattle.std.specs.Prelude.{◌≡◌, ◌<◌, ◌^◌, IfOk, length, map};
-ghost use Rattle.cf_data.specs.Layout.{counting, moved, AreInverse};
+ghost use Rattle.cf_data.specs.Layout.{descending, moved, AreInverse};
 
 use cf_base::Memory;
 use std::alloc::Global;
 
-// The numbers below a count, in order.
+// The numbers below a count, from the greatest down.
 pub(crate) fn numbers(alloc: Global, count: u32) -> Result<Vec<u32>, Memory>
-    ensures { IfOk result (λ v. v.items ≡ counting 0 count) }
+    ensures { IfOk result (λ v. v.items ≡ descending count) }
 {
     let mut out = Vec::with_capacity(alloc, count as usize)?;
     for number in 0..count {
-        out.push(number)?;
+        out.push(count - 1 - number)?;
     }
     Ok(out)
 }

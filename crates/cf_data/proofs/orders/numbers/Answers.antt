@@ -1,8 +1,16 @@
-use Rattle.std.proofs.Common.{ℕ, List, [], ◌∷◌, ◌++◌, ◌+◌, ◌∙◌, ap, sym, arith}
-use Rattle.cf_data.proofs.Swaps.{counting_push}
+use Rattle.std.proofs.Common.{ℕ, List, [], ◌∷◌, ◌++◌, ◌+◌, ◌-◌, ◌∙◌, ap, arith}
+use Rattle.std.proofs.lemmas.List.{append_assoc}
+use Rattle.cf_data.specs.Layout.{descending}
+use Rattle.cf_data.proofs.Opening.{descending_next}
 use Rattle.cf_data.proofs.orders.numbers.Goals as goal
 
 pub loop-number-preserved : goal.loop-number-preserved
 loop-number-preserved c =
-    c.in_ok-push.ensures.items ∙ ap (λ (l : List ℕ). l ++ c.loop-number.number ∷ []) c.loop-number.invariant
-    ∙ sym (counting_push 0 c.loop-number.number (c.loop-number.number + 1) c.loop-number.number (omega arith) (omega arith))
+    let out = c.loop-number.out.items in
+    let n = c.args.count in
+    let number = c.loop-number.number in
+    let rest = n - (number + 1) in
+    ap (λ (l : List ℕ). l ++ descending rest) c.in_ok-push.ensures.items
+    ∙ append_assoc out ((n - 1 - number) ∷ []) (descending rest)
+    ∙ ap (λ (l : List ℕ). out ++ l) (descending_next (n - 1 - number) rest (n - number) (omega arith) (omega arith))
+    ∙ c.loop-number.invariant

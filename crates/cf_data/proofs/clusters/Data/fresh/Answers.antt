@@ -1,6 +1,6 @@
 use Rattle.std.proofs.Common.{ℕ, List, [], sym, subst, arith}
 use Rattle.cf_data.specs.Roles.{Opens}
-use Rattle.cf_data.specs.Layout.{IsLayout, counting, uses_from}
+use Rattle.cf_data.specs.Layout.{IsLayout, descending, uses_from}
 use Rattle.cf_data.proofs.Opening.{fresh_layout, fresh_opens}
 use Rattle.cf_data.proofs.clusters.Data.fresh.Goals as goal
 
@@ -8,7 +8,7 @@ pub invariant_of-result : goal.invariant_of-result
 invariant_of-result c =
     let n = c.args.clusters in
     subst (λ (l : List ℕ). IsLayout l c.args.places.items 0 n n) (sym c.requires.order)
-    (subst (λ (l : List ℕ). IsLayout (counting 0 n) l 0 n n) (sym c.requires.places) (fresh_layout n (omega (arith, c.ranges.clusters.fits))))
+    (subst (λ (l : List ℕ). IsLayout (descending n) l 0 n n) (sym c.requires.places) (fresh_layout n (omega (arith, c.ranges.clusters.fits))))
 
 pub returns : goal.returns
 returns c = subst (λ (l : List ℕ). Opens c.args.clusters [] (uses_from 0 c.args.clusters c.args.clusters l)) (sym c.requires.places) (fresh_opens c.args.clusters)
