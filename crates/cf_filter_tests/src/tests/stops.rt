@@ -5,6 +5,7 @@ use crate::tests::plays::{SIZE, open};
 use crate::tests::steps::{PARTIAL, Step, is_told, played};
 use cf_base::{Choice, Fail as Refusal, ItemId, Span};
 use cf_disk::{Disk, MemDisk};
+use cf_filter::Filter;
 use std::alloc::Global;
 use std::test::Fail;
 
@@ -86,18 +87,31 @@ const STOPPED: &[u8] = b"\
 = refused Broken
 ";
 
-// Whether a restart after a power cut opens a file that holds one byte, `a`.
-fn holds_one<D: Disk + Drop>(alloc: Global, mut disk: D) -> Result<bool, Refusal> {
-    disk.power(Choice::Drop);
-    let mut filter = open(alloc, disk, PARTIAL)?;
-    let again = filter.info("/n")?;
+// Whether the file holds one byte, `a`.
+fn holds_one<D: Disk>(filter: &mut Filter<D>) -> Result<bool, Refusal> {
     let bytes = filter.bytes(ItemId(2), Span { start: 0, len: 1 })?;
-    Ok(again.size == 1 && bytes.as_slice() == b"a".as_slice())
+    Ok(bytes.as_slice() == b"a".as_slice())
+}
+
+fn is_of_one<D: Disk>(filter: &Filter<D>) -> Result<bool, Refusal> {
+    let again = filter.info("/n")?;
+    Ok(again.size == 1)
+}
+
+fn reopened<D: Disk + Drop>(alloc: Global, mut disk: D) -> Result<Filter<D>, Refusal> {
+    disk.power(Choice::Drop);
+    open(alloc, disk, PARTIAL)
+}
+
+// Whether a restart after a power cut opens the file with its one byte.
+fn is_kept<D: Disk + Drop>(alloc: Global, disk: D) -> Result<bool, Refusal> {
+    let mut filter = reopened(alloc, disk)?;
+    Ok(is_of_one(&filter)? && holds_one(&mut filter)?)
 }
 
 fn stops<D: Disk + Drop>(alloc: Global, disk: D, steps: &[Step]) -> Result<bool, Refusal> {
     let (play, good) = played(alloc, disk, PARTIAL, steps, STOPPED)?;
-    let kept = holds_one(alloc, play.into_disk())?;
+    let kept = is_kept(alloc, play.into_disk())?;
     Ok(good && kept)
 }
 
