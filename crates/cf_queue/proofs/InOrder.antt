@@ -96,7 +96,7 @@ all_at P [] j d h lt = absurd (omega arith)
 all_at P (x ∷ xs) zero d h lt = h.0
 all_at P (x ∷ xs) (suc j) d h lt = all_at P xs j d h.1 (omega arith)
 
-all_weaker : {X : Type 0} (P Q : X → Type 0) (xs : List X) → ((x : X) → P x → Q x) → AllByRecursion P xs → AllByRecursion Q xs
+pub all_weaker : {X : Type 0} (P Q : X → Type 0) (xs : List X) → ((x : X) → P x → Q x) → AllByRecursion P xs → AllByRecursion Q xs
 all_weaker P Q [] f h = tt
 all_weaker P Q (x ∷ xs) f h = (f x h.0, all_weaker P Q xs f h.1)
 
@@ -107,7 +107,7 @@ all_put P before x (y ∷ ys) p h = elim (cases_Bool (before y x)) [
   | inr e ↦ rw e (p, (h.0, h.1))
 ]
 
-all_kept : {X : Type 0} (P : X → Type 0) (p : X → Bool) (xs : List X) → AllByRecursion P xs → AllByRecursion P (filter p xs)
+pub all_kept : {X : Type 0} (P : X → Type 0) (p : X → Bool) (xs : List X) → AllByRecursion P xs → AllByRecursion P (filter p xs)
 all_kept P p [] h = tt
 all_kept P p (x ∷ xs) h = elim (cases_Bool (p x)) [
   | inl e ↦ rw e (h.0, all_kept P p xs h.1)

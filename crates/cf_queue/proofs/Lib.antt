@@ -1,5 +1,7 @@
 pub mod Spelled
+pub mod Steps
 pub mod InOrder
+pub mod KeyOrder
 pub mod Mapped
 pub mod Loading
 pub mod OneMeaning

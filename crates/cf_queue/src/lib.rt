@@ -14,7 +14,7 @@ mod records;
 mod spelling;
 mod uploads;
 
-pub use laws::one_value_a_record;
+pub use laws::{one_record_a_step, one_value_a_record};
 pub use queues::Queue;
 pub use reading::{read_cursor, read_record, read_seen};
 pub use records::Record;
