@@ -6,6 +6,7 @@ use Rattle.cf_base.specs.declared.codes.Code.{Code}
 use Rattle.cf_base.specs.declared.codes.Code.TheVariants as code
 use Rattle.cf_base.specs.declared.codes.Fail.{Fail}
 use Rattle.cf_base.specs.declared.codes.Fail.TheVariants.{No, Memory}
+use Rattle.cf_base.specs.declared.items.SeenPath.{SeenPath}
 use Rattle.cf_base.specs.declared.memory.Memory.{Memory as NoMemory}
 use Rattle.cf_base.specs.declared.notices.Notice.{Notice}
 use Rattle.cf_base.specs.declared.notices.Notice.TheVariants as notice
@@ -19,15 +20,15 @@ shown_of outcome.Done = shown.Done
 shown_of (outcome.Data bytes) = shown.Retrieved bytes
 
 -- an operation that was refused; one that met the device has no answer
-abbrev pub refused_by : Operation → Code → Act
-refused_by op code.Device = Failed op
-refused_by op c = Did op (shown.Refused c)
+abbrev pub refused_by : List SeenPath → Operation → Code → Act
+refused_by seen op code.Device = Failed seen op
+refused_by seen op c = Did seen op (shown.Refused c)
 
--- The operation led from the one state to the other, with this result. Without memory no act did.
-abbrev pub Executes : {X : Type 0} → (X → List Act → X → Type 0) → Operation → X → Result Outcome Fail → X → Type 0
-Executes goes op old (Ok o) new = goes old (Did op (shown_of o) ∷ []) new
-Executes goes op old (Err (No c)) new = goes old (refused_by op c ∷ []) new
-Executes goes op old (Err Memory) new = goes old [] new
+-- The operation, with these paths seen, led from the one state to the other, with this result. Without memory no act did.
+abbrev pub Executes : {X : Type 0} → (X → List Act → X → Type 0) → List SeenPath → Operation → X → Result Outcome Fail → X → Type 0
+Executes goes seen op old (Ok o) new = goes old (Did seen op (shown_of o) ∷ []) new
+Executes goes seen op old (Err (No c)) new = goes old (refused_by seen op c ∷ []) new
+Executes goes seen op old (Err Memory) new = goes old [] new
 
 -- The note was added, and nothing else happened. Without memory no act did.
 abbrev pub Notes : {X : Type 0} → (X → List Act → X → Type 0) → Notice → X → Result (Unit {0}) NoMemory → X → Type 0
@@ -45,6 +46,6 @@ is_note _ = false
 -- the operations among acts
 abbrev pub operations : List Act → List Operation
 operations [] = []
-operations (Did op answer ∷ acts) = op ∷ operations acts
-operations (Failed op ∷ acts) = op ∷ operations acts
+operations (Did seen op answer ∷ acts) = op ∷ operations acts
+operations (Failed seen op ∷ acts) = op ∷ operations acts
 operations (Noted n ∷ acts) = operations acts

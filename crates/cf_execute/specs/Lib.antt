@@ -1,3 +1,4 @@
 pub mod Acting
 pub mod Checks
 pub mod Recording
+pub mod Sights

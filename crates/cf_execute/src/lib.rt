@@ -1,7 +1,7 @@
 //! What a provider may do inside a callback.
 //!
 //! A provider acts on a `Port`, by operations and notes and nothing else. Contracts see the acts that lead from one state
-//! of a port to another, and of a provider the acts by which it answers a callback: it is proved for any port.
+//! of a port to another, and of a provider the acts by which it answers a callback, by what it sees: it is proved for any port.
 #![tactic(auto)]
 
 mod checks;

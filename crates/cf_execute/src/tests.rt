@@ -8,7 +8,8 @@ ghost use Rattle.cf_model.specs.Ports.{Act};
 use super::*;
 use cf_asks::View;
 use cf_base::{
-    Ask, AskKind, Blob, Code, Fail, Identity, ItemId, Key, Memory, Operation, Span, WaitKind,
+    Ask, AskKind, Blob, Code, Fail, Identity, ItemId, Key, Memory, Name, Operation, Rid, SeenPath,
+    Sequence, Span, WaitKind,
 };
 use cf_ranges::RangeSet;
 use cf_requests::Requests;
@@ -27,7 +28,7 @@ struct Consents {
 }
 
 impl Provider for Consents {
-    ghost answers = { λ p call acts q. operations acts ≡ operation.AckDehydrate call.ask.key true ∷ [] };
+    ghost answers = { λ p sight call acts q. operations acts ≡ operation.AckDehydrate call.ask.key true ∷ [] };
 
     fn on_callback<P: Port>(&mut self, call: &Callback, port: &mut P) -> Result<(), Memory> {
         let consent = Operation::AckDehydrate {
@@ -40,6 +41,21 @@ impl Provider for Consents {
             Err(Fail::No(_)) => Ok(()),
             Err(Fail::Memory) => Err(Memory),
         }
+    }
+}
+
+fn paths_seen(kept: &Kept) -> Option<usize> {
+    match kept {
+        Kept::Done(_, seen) => Some(seen.as_slice().len()),
+        Kept::Note(_) => None,
+    }
+}
+
+fn entries(alloc: std::alloc::Global) -> Operation {
+    Operation::Entries {
+        key: KEY,
+        list: Sequence::new(alloc),
+        good: true,
     }
 }
 
@@ -70,6 +86,24 @@ fn a_provider_answers_inside_the_callback(rt: HostRuntime) -> Result<(), test::F
     assert!(rt; provider.answered);
     assert_eq!(rt; port.acts().len(), 1);
     assert!(rt; port.rows().get(ItemId(1)).is_some());
+    assert!(rt; port.ask(KEY).is_none());
+    assert!(rt; port.records().is_empty());
+    Ok(())
+}
+
+#[test]
+fn paths_are_seen_with_the_operation(rt: HostRuntime) -> Result<(), test::Fail> {
+    let mut port = Recorder::new(rt.alloc(), Rows::new(rt.alloc())?);
+    let seen = SeenPath {
+        item: ItemId(2),
+        parent: Rid(1),
+        name: Name::read(rt.alloc(), b"aa")?,
+    };
+    let op = entries(rt.alloc());
+    port.execute_seeing(&op, &[seen])?;
+    port.execute(&op)?;
+    assert_eq!(rt; paths_seen(&port.acts()[0]), Some(1));
+    assert_eq!(rt; paths_seen(&port.acts()[1]), Some(0));
     Ok(())
 }
 
