@@ -69,7 +69,7 @@ is_same_as : (a b : ℕ × ℕ) → a.0 ≡ b.0 → a.1 ≡ b.1 → is_same a b 
 is_same_as a b e f = rw (eq-eqb a.0 b.0 e, eq-eqb a.1 b.1 f) refl
 
 -- what is below t is not t
-below_differs : (t a : ℕ × ℕ) → is_above t a ≡ true → is_same a t ≡ false
+pub below_differs : (t a : ℕ × ℕ) → is_above t a ≡ true → is_same a t ≡ false
 below_differs t a h = elim (cases_Bool (is_same a t)) [
   | inl y ↦ (let s = same_is a t y in absurd (elim (yes_above t a h) [ inl lt ↦ omega (arith, s.0) | inr p ↦ omega (arith, s.1, p.1) ]))
   | inr n ↦ n
@@ -100,7 +100,7 @@ pub all_weaker : {X : Type 0} (P Q : X → Type 0) (xs : List X) → ((x : X) �
 all_weaker P Q [] f h = tt
 all_weaker P Q (x ∷ xs) f h = (f x h.0, all_weaker P Q xs f h.1)
 
-all_put : {X : Type 0} (P : X → Type 0) (before : X → X → Bool) (x : X) (xs : List X) → P x → AllByRecursion P xs → AllByRecursion P (put_in before x xs)
+pub all_put : {X : Type 0} (P : X → Type 0) (before : X → X → Bool) (x : X) (xs : List X) → P x → AllByRecursion P xs → AllByRecursion P (put_in before x xs)
 all_put P before x [] p h = (p, tt)
 all_put P before x (y ∷ ys) p h = elim (cases_Bool (before y x)) [
   | inl e ↦ rw e (h.0, all_put P before x ys p h.1)

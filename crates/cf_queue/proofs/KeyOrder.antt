@@ -2,7 +2,13 @@
 use Rattle.std.proofs.Common.{◌≡◌, ℕ, zero, suc, ◌+◌, ◌*◌, ◌/◌, ◌%◌, ◌<◌, ◌^◌, Bool, true, false, nat_lt, ◌==◌, ◌&&◌, ◌||◌, List, [], ◌∷◌, ◌++◌, length, refl, ap, ◌∙◌, arith}
 use Rattle.std.proofs.lemmas.Bool.Decides.{nat_tests}
 use Rattle.std.specs.List.{AllByRecursion}
+use Rattle.cf_base.specs.declared.ids.Key.{Key}
+use Rattle.cf_base.specs.declared.ids.Usn.{Usn}
+use Rattle.cf_model.specs.Books.{key_bytes, usn_bytes}
+use Rattle.cf_model.specs.Numbers.{above, same_key, same_usn}
 use Rattle.cf_model.specs.Words.{comes_before, in_bytes, number_from, same}
+use Rattle.cf_queue.specs.Order.{is_above}
+use Rattle.cf_queue.specs.Records.{FitsKey, FitsUsn}
 
 -- texts of bytes, by the numbers that they spell
 
@@ -73,3 +79,34 @@ pub same_ids : (x y : ℕ) → x < 2 ^ 64 → y < 2 ^ 64 → same (in_bytes 8 x)
 same_ids x y h k =
     same_by_numbers [] [] (in_bytes 8 x) (in_bytes 8 y) 0 0 refl (are_bytes 8 x) (are_bytes 8 y)
     ∙ (λ i. (number_8 x h i == number_8 y k i) && true) ∙ no_more_same x y
+
+-- keys and numbers, as pairs
+
+turned : (a c : ℕ) → (a == c) ≡ (c == a)
+turned a c = grind (arith, nat_tests)
+
+pair_order : (a b c d : ℕ) → a < 2 ^ 32 → b < 2 ^ 32 → c < 2 ^ 32 → d < 2 ^ 32 → comes_before (in_bytes 4 a ++ in_bytes 4 b) (in_bytes 4 c ++ in_bytes 4 d) ≡ (nat_lt a c || ((c == a) && nat_lt b d))
+pair_order a b c d h k l m =
+    order_by_numbers (in_bytes 4 b) (in_bytes 4 d) (in_bytes 4 a) (in_bytes 4 c) 0 0 refl (are_bytes 4 a) (are_bytes 4 c)
+    ∙ (λ i. nat_lt (number_4 a h i) (number_4 c l i) || ((number_4 a h i == number_4 c l i) && order_by_numbers [] [] (in_bytes 4 b) (in_bytes 4 d) 0 0 refl (are_bytes 4 b) (are_bytes 4 d) i))
+    ∙ (λ i. nat_lt a c || (turned a c i && (nat_lt (number_4 b k i) (number_4 d m i) || ((number_4 b k i == number_4 d m i) && false))))
+    ∙ (λ i. nat_lt a c || ((c == a) && no_more_lt b d i))
+
+same_pairs : (a b c d : ℕ) → a < 2 ^ 32 → b < 2 ^ 32 → c < 2 ^ 32 → d < 2 ^ 32 → same (in_bytes 4 a ++ in_bytes 4 b) (in_bytes 4 c ++ in_bytes 4 d) ≡ ((a == c) && (b == d))
+same_pairs a b c d h k l m =
+    same_by_numbers (in_bytes 4 b) (in_bytes 4 d) (in_bytes 4 a) (in_bytes 4 c) 0 0 refl (are_bytes 4 a) (are_bytes 4 c)
+    ∙ (λ i. (number_4 a h i == number_4 c l i) && same_by_numbers [] [] (in_bytes 4 b) (in_bytes 4 d) 0 0 refl (are_bytes 4 b) (are_bytes 4 d) i)
+    ∙ (λ i. (a == c) && ((number_4 b k i == number_4 d m i) && true))
+    ∙ (λ i. (a == c) && no_more_same b d i)
+
+pub key_order : (x y : Key) → FitsKey x → FitsKey y → comes_before (key_bytes x) (key_bytes y) ≡ is_above (y.epoch, y.number) (x.epoch, x.number)
+key_order x y h k = pair_order x.epoch x.number y.epoch y.number h.0 h.1 k.0 k.1
+
+pub same_keys : (x y : Key) → FitsKey x → FitsKey y → same (key_bytes x) (key_bytes y) ≡ same_key x y
+same_keys x y h k = same_pairs x.epoch x.number y.epoch y.number h.0 h.1 k.0 k.1
+
+pub usn_order : (x y : Usn) → FitsUsn x → FitsUsn y → comes_before (usn_bytes x) (usn_bytes y) ≡ above y x
+usn_order x y h k = pair_order x.epoch x.place y.epoch y.place h.0 h.1 k.0 k.1
+
+pub same_usns : (x y : Usn) → FitsUsn x → FitsUsn y → same (usn_bytes x) (usn_bytes y) ≡ same_usn x y
+same_usns x y h k = same_pairs x.epoch x.place y.epoch y.place h.0 h.1 k.0 k.1

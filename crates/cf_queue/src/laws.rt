@@ -1,12 +1,17 @@
 //! Laws of auxiliary records.
 
-ghost use Rattle.std.specs.Prelude.{◌≡◌, ◌<◌, ◌^◌, ℕ};
+ghost use Rattle.std.specs.Prelude.{◌≡◌, ◌<◌, ◌^◌, ◌++◌, ℕ, None, codes};
 ghost use Rattle.cf_base.specs.declared.answers.AuxRecord.{AuxRecord};
+ghost use Rattle.cf_base.specs.declared.ids.ItemId.{ItemId};
+ghost use Rattle.cf_base.specs.declared.ids.Token.{Token};
+ghost use Rattle.cf_base.specs.declared.ids.Usn.{Usn};
 ghost use Rattle.cf_base.specs.declared.items.SeenPath.{SeenPath};
 ghost use Rattle.cf_model.specs.Books as model;
-ghost use Rattle.cf_model.specs.Formats.{with_record};
-ghost use Rattle.cf_queue.specs.Steps.{AreShortIds};
-ghost use Rattle.cf_queue.specs.Records.{IsCursor, IsEntry, IsSeen, IsTombstone};
+ghost use Rattle.cf_model.specs.Books.{Book, aux_records, entry_record, key_bytes, seen_record, tombstone_of, tombstone_record, usn_bytes, with_access, with_anchor, with_cursor, with_entry, with_seen, with_ticks, with_tombstone, without_entry, without_seen, without_tombstone};
+ghost use Rattle.cf_model.specs.Formats.{with_record, without_record};
+ghost use Rattle.cf_model.specs.Words.{in_bytes};
+ghost use Rattle.cf_queue.specs.Records.{FitsKey, FitsUsn, IsCursor, IsEntry, IsSeen, IsTombstone, cursor_record};
+ghost use Rattle.cf_queue.specs.Steps.{AreShortIds, AreShortNumbers, AreShortTokens, IsNewest};
 
 /// A law: of each kind, a record says one thing at most. So what was spelled is read again as it was.
 #[tactic(auto, using(crate::proofs::OneMeaning::one_cursor, crate::proofs::OneMeaning::one_entry, crate::proofs::OneMeaning::one_seen, crate::proofs::OneMeaning::one_tombstone))]
@@ -17,8 +22,17 @@ pub fn one_value_a_record()
     ensures tombstones { (r : AuxRecord) (t u : model.Tombstone) → IsTombstone r t → IsTombstone r u → t ≡ u }
 {}
 
-/// A law: each step of a book is one auxiliary record that is put or taken away.
-#[tactic(auto, using(crate::proofs::Steps::seen_step))]
+/// A law: each step of a book is one auxiliary record that is put, or taken away by its key; steps of anchors and accesses
+/// change none. A cursor of 0 has no record. A tombstone has a number that none has yet.
+#[tactic(auto, using(crate::proofs::Steps::cursor_step, crate::proofs::Steps::no_cursor_step, crate::proofs::Steps::entry_step, crate::proofs::Steps::no_entry_step, crate::proofs::Steps::seen_step, crate::proofs::Steps::no_seen_step, crate::proofs::Steps::tombstone_step, crate::proofs::Steps::no_tombstone_step))]
 pub fn one_record_a_step()
-    ensures seen { (b : model.Book) (p : SeenPath) → AreShortIds b.seen → p.item.0 < 2 ^ 64 → model.aux_records (model.with_seen p b) ≡ with_record (model.seen_record p) (model.aux_records b) }
+    ensures cursor { (b : Book) (clock : ℕ) → 0 < clock → aux_records (with_cursor clock b) ≡ with_record (cursor_record clock) (aux_records b) }
+    ensures no_cursor { (b : Book) → aux_records (with_cursor 0 b) ≡ without_record (codes "c") (aux_records b) }
+    ensures entry { (b : Book) (e : model.QueueEntry) → AreShortTokens b.entries → FitsKey e.token.0 → IsNewest e b → aux_records (with_entry e b) ≡ with_record (entry_record e) (aux_records b) }
+    ensures no_entry { (b : Book) (token : Token) → AreShortTokens b.entries → FitsKey token.0 → aux_records (without_entry token b) ≡ without_record (codes "q" ++ key_bytes token.0) (aux_records b) }
+    ensures seen { (b : Book) (p : SeenPath) → AreShortIds b.seen → p.item.0 < 2 ^ 64 → aux_records (with_seen p b) ≡ with_record (seen_record p) (aux_records b) }
+    ensures no_seen { (b : Book) (item : ItemId) → AreShortIds b.seen → item.0 < 2 ^ 64 → aux_records (record b { seen = without_seen item b.seen }) ≡ without_record (codes "s" ++ in_bytes 8 item.0) (aux_records b) }
+    ensures tombstone { (b : Book) (t : model.Tombstone) → AreShortNumbers b.tombstones → FitsUsn t.number → tombstone_of b t.number ≡ None → aux_records (with_tombstone t b) ≡ with_record (tombstone_record t) (aux_records b) }
+    ensures no_tombstone { (b : Book) (number : Usn) → AreShortNumbers b.tombstones → FitsUsn number → aux_records (without_tombstone number b) ≡ without_record (codes "t" ++ usn_bytes number) (aux_records b) }
+    ensures others { (b : Book) (item : ItemId) (number : Usn) (ticks : ℕ) → (aux_records (with_anchor item number b) ≡ aux_records b) × (aux_records (with_ticks ticks b) ≡ aux_records b) × (aux_records (with_access item b) ≡ aux_records b) }
 {}
