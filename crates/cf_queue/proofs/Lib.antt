@@ -1,4 +1,5 @@
 pub mod Spelled
+pub mod StaysKeepable
 pub mod Steps
 pub mod InOrder
 pub mod KeyOrder

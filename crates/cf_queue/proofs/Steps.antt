@@ -4,7 +4,7 @@ use Rattle.std.specs.Prelude.{codes, find}
 use Rattle.std.specs.List.{AllByRecursion}
 use Rattle.std.proofs.lemmas.Bool.{cases_Bool, lt-ltb, true≢false}
 use Rattle.std.proofs.lemmas.List.{append-nil, map-append}
-use Rattle.std.proofs.lemmas.List.Elements.{All-head, All-tail}
+use Rattle.std.proofs.lemmas.List.Elements.{recursion_from_All}
 use Rattle.cf_base.specs.declared.answers.AuxRecord.{AuxRecord}
 use Rattle.cf_base.specs.declared.ids.ItemId.{ItemId}
 use Rattle.cf_base.specs.declared.ids.Token.{Token}
@@ -35,7 +35,7 @@ all_mapped : {A : Type 0} (P : AuxRecord → Type 0) (f : A → AuxRecord) (xs :
 all_mapped P f [] h = tt
 all_mapped P f (x ∷ xs) h = (h x, all_mapped P f xs h)
 
-all_both : {X : Type 0} (P : X → Type 0) (xs ys : List X) → AllByRecursion P xs → AllByRecursion P ys → AllByRecursion P (xs ++ ys)
+pub all_both : {X : Type 0} (P : X → Type 0) (xs ys : List X) → AllByRecursion P xs → AllByRecursion P ys → AllByRecursion P (xs ++ ys)
 all_both P [] ys h k = k
 all_both P (x ∷ xs) ys h k = (h.0, all_both P xs ys h.1 k)
 
@@ -183,10 +183,6 @@ no_entry_step b token short fits = sym (
 
 -- paths seen
 
-short_ids : (ps : List SeenPath) → AreShortIds ps → AllByRecursion (λ p. p.item.0 < 18446744073709551616) ps
-short_ids [] h = tt
-short_ids (p ∷ ps) h = (All-head (λ (x : SeenPath). x.item.0 < 18446744073709551616) p ps h, short_ids ps (All-tail (λ (x : SeenPath). x.item.0 < 18446744073709551616) p ps h))
-
 seen_put : (p : SeenPath) (ps : List SeenPath) → AllByRecursion (λ q. q.item.0 < 18446744073709551616) ps → p.item.0 < 2 ^ 64
     → with_record (seen_record p) (map seen_record ps) ≡ map seen_record (put_in (λ x y. nat_lt x.item.0 y.item.0) p (without_seen p.item ps))
 seen_put p ps short low =
@@ -202,19 +198,19 @@ seen_step b p short low = sym (
     with_past (seen_record p) (cursor_records b.cursor ++ map entry_record b.entries) (map seen_record b.seen)
     (all_both (IsBefore (seen_record p).key) (cursor_records b.cursor) (map entry_record b.entries) (cursor_is (IsBefore (seen_record p).key) b.cursor (record { before = refl; other = refl }))
     (all_mapped (IsBefore (seen_record p).key) entry_record b.entries (λ e. record { before = refl; other = refl })))
-    ∙ ap (λ (l : List AuxRecord). cursor_records b.cursor ++ map entry_record b.entries ++ l) (seen_put p b.seen (short_ids b.seen short) low)))
+    ∙ ap (λ (l : List AuxRecord). cursor_records b.cursor ++ map entry_record b.entries ++ l) (seen_put p b.seen (recursion_from_All (λ (q : SeenPath). q.item.0 < 18446744073709551616) b.seen short) low)))
 
 pub no_seen_step : (b : Book) (item : ItemId) → AreShortIds b.seen → item.0 < 2 ^ 64 → aux_records (record b { seen = without_seen item b.seen }) ≡ without_record (codes "s" ++ in_bytes 8 item.0) (aux_records b)
 no_seen_step b item short low = sym (
     left_parts (codes "s" ++ in_bytes 8 item.0) (cursor_records b.cursor) (map entry_record b.entries) (map seen_record b.seen) (map tombstone_record b.tombstones)
     ∙ (λ i. cursor_apart (codes "s" ++ in_bytes 8 item.0) b.cursor refl i ++ all_apart entry_record (codes "s" ++ in_bytes 8 item.0) b.entries (λ e. refl) i
     ++ left_mapped seen_record (λ x. x.item.0 == item.0) (codes "s" ++ in_bytes 8 item.0) b.seen
-    (all_weaker (λ (q : SeenPath). q.item.0 < 18446744073709551616) (λ (q : SeenPath). same (seen_record q).key (codes "s" ++ in_bytes 8 item.0) ≡ (q.item.0 == item.0)) b.seen (λ q h. same_ids q.item.0 item.0 h low) (short_ids b.seen short)) i
+    (all_weaker (λ (q : SeenPath). q.item.0 < 18446744073709551616) (λ (q : SeenPath). same (seen_record q).key (codes "s" ++ in_bytes 8 item.0) ≡ (q.item.0 == item.0)) b.seen (λ q h. same_ids q.item.0 item.0 h low) (recursion_from_All (λ (q : SeenPath). q.item.0 < 18446744073709551616) b.seen short)) i
     ++ all_apart tombstone_record (codes "s" ++ in_bytes 8 item.0) b.tombstones (λ t. refl) i))
 
 -- tombstones
 
-none_found : {A : Type 0} (is : A → Bool) (xs : List A) → find is xs ≡ None → AllByRecursion (λ x. is x ≡ false) xs
+pub none_found : {A : Type 0} (is : A → Bool) (xs : List A) → find is xs ≡ None → AllByRecursion (λ x. is x ≡ false) xs
 none_found is [] e = tt
 none_found {A} is (x ∷ xs) e = by (is x) refl e (λ n. none_found is xs n)
   where

@@ -3,6 +3,8 @@
 //! `Queue` holds the uploads that wait for a reply, by token, and the removals that are still to upload, by number; its calls
 //! do to them what the definitions do to those of a book. `Queue::load` reads them from the auxiliary records of a volume;
 //! specs/Records says which record says what. The records of the cursor and of paths seen are read and spelled alike.
+//! `one_record_a_step` tells by which record each step of a book is kept, and `keepable_after_each_step` that the book stays
+//! one that its records keep; specs/Steps says what a step asks.
 #![tactic(auto)]
 
 mod fields;
@@ -14,7 +16,7 @@ mod records;
 mod spelling;
 mod uploads;
 
-pub use laws::{one_record_a_step, one_value_a_record};
+pub use laws::{keepable_after_each_step, one_record_a_step, one_value_a_record};
 pub use queues::Queue;
 pub use reading::{read_cursor, read_record, read_seen};
 pub use records::Record;
