@@ -12,6 +12,7 @@ use Rattle.cf_base.specs.declared.notices.OperationAnswer.{OperationAnswer}
 use Rattle.cf_base.specs.declared.notices.OperationAnswer.TheVariants as operation_answer
 use Rattle.cf_base.specs.declared.operations.Operation.{Operation}
 use Rattle.cf_execute.specs.Acting.{shown_of}
+use Rattle.cf_execute.specs.Sights.{Sight}
 use Rattle.cf_execute.specs.declared.outcomes.Callback.{Callback}
 use Rattle.cf_execute.specs.declared.outcomes.Outcome.{Outcome}
 use Rattle.cf_model.specs.Arrows.{is_device}
@@ -25,12 +26,12 @@ line_of answer = notice.Operation (operation_line answer)
 unfoldable pub CarriesOut : Key → List (Bool × Operation) → List Act → Type 0
 CarriesOut own [] acts = acts ≡ []
 CarriesOut own (p ∷ ps) acts =
-    (acts ≡ Failed (planned_on own p) ∷ [])
-    ⊎ ((answer : Shown) × (rest : List Act) × (acts ≡ Did (planned_on own p) answer ∷ Noted (line_of answer) ∷ rest) × CarriesOut own ps rest)
+    (acts ≡ Failed [] (planned_on own p) ∷ [])
+    ⊎ ((answer : Shown) × (rest : List Act) × (acts ≡ Did [] (planned_on own p) answer ∷ Noted (line_of answer) ∷ rest) × CarriesOut own ps rest)
 
--- A callback takes the whole plan, on its ask's key, and leaves none.
-abbrev pub Answers : List (Bool × Operation) → Callback → List Act → List (Bool × Operation) → Type 0
-Answers plan call acts left = CarriesOut call.ask.key plan acts × (left ≡ [])
+-- A callback takes the whole plan, on its ask's key, whatever is seen, and leaves none.
+abbrev pub Answers : List (Bool × Operation) → Sight → Callback → List Act → List (Bool × Operation) → Type 0
+Answers plan sight call acts left = CarriesOut call.ask.key plan acts × (left ≡ [])
 
 -- one operation
 
@@ -48,13 +49,13 @@ Lines told (Err e) = ⊥
 -- What is done of an operation and its line when memory runs out: nothing, or the operation without its line.
 abbrev pub IsBegun : Operation → List Act → Type 0
 IsBegun op [] = Unit {0}
-IsBegun op (Did done answer ∷ []) = done ≡ op
+IsBegun op (Did seen done answer ∷ []) = (seen ≡ []) × (done ≡ op)
 IsBegun op acts = ⊥
 
 -- It was done, and its line noted, or it met the device.
 abbrev pub Carries : {X : Type 0} → (X → List Act → X → Type 0) → Operation → X → Result Bool NoMemory → X → Type 0
-Carries goes op old (Ok true) new = (answer : Shown) × goes old (Did op answer ∷ Noted (line_of answer) ∷ []) new
-Carries goes op old (Ok false) new = goes old (Failed op ∷ []) new
+Carries goes op old (Ok true) new = (answer : Shown) × goes old (Did [] op answer ∷ Noted (line_of answer) ∷ []) new
+Carries goes op old (Ok false) new = goes old (Failed [] op ∷ []) new
 Carries goes op old (Err e) new = (acts : List Act) × IsBegun op acts × goes old acts new
 
 -- So far a plan was carried out but for its rest.

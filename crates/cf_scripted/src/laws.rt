@@ -3,6 +3,7 @@
 ghost use Rattle.std.specs.Prelude.{◌≡◌, Bool, List};
 ghost use Rattle.cf_base.specs.declared.operations.Operation.{Operation};
 ghost use Rattle.cf_base.specs.declared.policies.Mode.TheVariants as mode;
+ghost use Rattle.cf_execute.specs.Sights.{Sight};
 ghost use Rattle.cf_execute.specs.declared.outcomes.Callback.{Callback};
 ghost use Rattle.cf_model.specs.Arrows.{unit};
 ghost use Rattle.cf_model.specs.Callbacks.{call_back};
@@ -16,6 +17,6 @@ ghost use Rattle.cf_scripted.specs.Turns.{turned};
 /// definitions' callback does, and what is left of the plan is what they leave. Where an operation met the device the
 /// callback stops there.
 pub fn a_callback_takes_the_plan()
-    ensures ends { (call : Callback) (s : State) (acts : List Act) (t : Filter) (left : List (Bool × Operation)) → s.mode ≡ mode.Filter → Answers s.plan call acts left → Acts s.filter acts t → (HasFailed acts → ⊥) → Ends (call_back call.ask s) unit (turned left t s) }
-    ensures stops { (call : Callback) (s : State) (acts : List Act) (t : Filter) (left : List (Bool × Operation)) → s.mode ≡ mode.Filter → Answers s.plan call acts left → Acts s.filter acts t → HasFailed acts → Stops (call_back call.ask s) (turned left t s) }
+    ensures ends { (sight : Sight) (call : Callback) (s : State) (acts : List Act) (t : Filter) (left : List (Bool × Operation)) → s.mode ≡ mode.Filter → Answers s.plan sight call acts left → Acts s.filter acts t → (HasFailed acts → ⊥) → Ends (call_back call.ask s) unit (turned left t s) }
+    ensures stops { (sight : Sight) (call : Callback) (s : State) (acts : List Act) (t : Filter) (left : List (Bool × Operation)) → s.mode ≡ mode.Filter → Answers s.plan sight call acts left → Acts s.filter acts t → HasFailed acts → Stops (call_back call.ask s) (turned left t s) }
 {}

@@ -2,10 +2,11 @@
 
 use super::*;
 use cf_base::{
-    Ask, AskKind, Blob, Code, Fail, Identity, ItemId, Key, Memory, Notice, Operation,
-    OperationAnswer, Sequence, Span,
+    Ask, AskKind, AuxRecord, Blob, Code, Fail, Identity, ItemId, Key, Memory, Notice, Operation,
+    OperationAnswer, SeenPath, Sequence, Span,
 };
 use cf_execute::{Callback, Kept, Outcome, Port, Provider, Recorder, key_of};
+use cf_requests::Requests;
 use cf_table::Rows;
 use std::alloc::Global;
 use std::test;
@@ -24,6 +25,8 @@ const EARLIER: Key = Key {
 #[derive(Drop)]
 struct Refuses {
     rows: Rows,
+    requests: Requests,
+    records: Vec<AuxRecord>,
     codes: Vec<Code>,
     done: usize,
     lines: Vec<OperationAnswer>,
@@ -32,10 +35,15 @@ struct Refuses {
 impl Port for Refuses {
     ghost goes = { λ p acts q. Unit {0} };
 
-    ghost table = { λ p. p.rows };
+    ghost sight = { λ p. record { table = p.rows; waiting = p.requests; records = p.records.items } };
 
     fn execute(&mut self, op: &Operation) -> Result<Outcome, Fail> {
+        self.execute_seeing(op, &[])
+    }
+
+    fn execute_seeing(&mut self, op: &Operation, seen: &[SeenPath]) -> Result<Outcome, Fail> {
         let _ = op;
+        let _ = seen;
         if self.done >= self.codes.len() {
             return Ok(Outcome::Done);
         }
@@ -54,6 +62,14 @@ impl Port for Refuses {
 
     fn rows(&self) -> &Rows {
         &self.rows
+    }
+
+    fn ask(&self, key: Key) -> Option<Ask> {
+        self.requests.ask(key)
+    }
+
+    fn records(&self) -> &[AuxRecord] {
+        self.records.as_slice()
     }
 
     ghost stays = { λ p. record {} };
@@ -120,7 +136,7 @@ fn own(operation: Operation) -> Planned {
 
 fn key_done(kept: &Kept) -> Option<Key> {
     match kept {
-        Kept::Done(op) => Some(key_of(op)),
+        Kept::Done(op, _) => Some(key_of(op)),
         Kept::Note(_) => None,
     }
 }
@@ -169,6 +185,8 @@ fn a_plan_goes_on_after_a_refusal_and_ends_at_the_device(
     let mut provider = all_kinds(rt.alloc())?;
     let mut port = Refuses {
         rows: Rows::new(rt.alloc())?,
+        requests: Requests::new(rt.alloc(), 1),
+        records: Vec::new(rt.alloc()),
         codes: vec![in rt.alloc(); Code::StaleKey, Code::Misaligned, Code::Device]?,
         done: 0,
         lines: Vec::new(rt.alloc()),
