@@ -10,16 +10,17 @@ use Rattle.cf_base.specs.declared.codes.Fail.TheVariants.{No, Memory}
 use Rattle.cf_base.specs.declared.memory.Memory.{Memory as NoMemory}
 use Rattle.cf_base.specs.declared.waits.Ask.{Ask}
 use Rattle.cf_disk.specs.Disk.{State}
+use Rattle.cf_execute.specs.Sights.{Shows, callback_of, identity_of}
 use Rattle.cf_execute.specs.declared.outcomes.Callback.{Callback}
 use Rattle.cf_machine.proofs.DeskSteps.{stands_with}
 use Rattle.cf_machine.proofs.GoodSteps.{same_good}
 use Rattle.cf_machine.proofs.Seen.{seen_gone, seen_there}
-use Rattle.cf_filter.specs.Callbacks.{Answering, CutOff, NoneFailed, callback_of, identity_of}
+use Rattle.cf_filter.specs.Callbacks.{Answering, AnswersOn, CutOff, NoneFailed}
 use Rattle.cf_filter.specs.Draining.{CallsTo, Drains, DrainsTo, PartTo, TurnTo, Turns}
 use Rattle.cf_machine.specs.Held.{Desk, Held}
 use Rattle.cf_machine.specs.Lasting.{Moved}
 use Rattle.cf_filter.specs.PortLaws.{false_true, gone_lasts}
-use Rattle.cf_filter.specs.Porting.{Goes, GoneTo}
+use Rattle.cf_filter.specs.Porting.{Goes, GoneTo, sight_of}
 use Rattle.cf_machine.specs.Sensing.{Rose, Stands, rose_on, sense}
 use Rattle.cf_filter.specs.Turning.{IsTurned, shows_end, with_no_own}
 use Rattle.cf_model.specs.Arrows.{Arrow}
@@ -29,6 +30,8 @@ use Rattle.cf_model.specs.Numbers.{most}
 use Rattle.cf_model.specs.Ports.{Act, Acts, with_rest}
 use Rattle.cf_model.specs.State.{Filter}
 use Rattle.cf_model.specs.Words.{part}
+use Rattle.cf_points.proofs.KeptSound.{means_all}
+use Rattle.cf_points.specs.Standing.{cluster_on}
 use Rattle.cf_steps.specs.Answering.{Any, Reads}
 use Rattle.cf_table.specs.Tables.{row_of}
 use Rattle.cf_table.specs.declared.rows.Row.{Row}
@@ -53,24 +56,36 @@ callback_none state x ask call gone is = record {
       is ∙ (λ j. record { ask = ask; identity = i j; base = n j });
 }
 
+-- what a provider sees shows each state that the filter stands for
+sight_shows : {D : Type 0} (state : D → State) (x : Held D) (s : Filter) → Stands state x s → Shows (sight_of x) s
+sight_shows state x s h = record {
+  rows = means_all (cluster_on (state x.disk).seen) s.volume.book x.known.table.rows s.volume.items h.volume.now.rows;
+  next = h.volume.now.next;
+  waiting = ap (λ (d : Desk). d.waiting) h.desk;
+  records = h.volume.now.records;
+}
+
 module _ {D P : Type 0} (state : D → State) (answers : Answering P) where
   -- one callback
 
+  answers_on : (ask : Ask) (p q : P) (x : Held D) (call : Callback) (acts : List Act) (s : Filter) → Stands state x s → call ≡ callback_of ask s → answers p (sight_of x) call acts q → AnswersOn answers ask p s acts q
+  answers_on ask p q x call acts s stands same gives = record { seen = sight_of x; shows = sight_shows state x s stands; good = stands.good; gives = subst (λ (k : Callback). answers p (sight_of x) k acts q) same gives }
+
   turn_to : (ask : Ask) (p q : P) (x y : Held D) (call : Callback) (told : Result (Unit {0}) NoMemory) (r : Result (Unit {0}) Fail) (acts : List Act) (s t : Filter) (broken lost : Bool)
-      → call ≡ callback_of ask s → (is_ok told ≡ true → answers p call acts q) → IsTurned told broken lost r → GoneTo state broken lost acts x s y t → TurnTo state answers ask p x s r q y t
-  turn_to ask p q x y call told (Ok u) acts s t false lost same gives turned gone =
-      (acts, gone.0, gone.1, subst (λ (k : Callback). answers p k acts q) same (gives (ap is_ok turned.0)), gone.2)
-  turn_to ask p q x y call told (Ok u) acts s t true lost same gives turned gone = false_true (sym turned.1)
-  turn_to ask p q x y call told (Err (No c)) acts s t false lost same gives turned gone = false_true turned.1
-  turn_to ask p q x y call told (Err (No c)) acts s t true false same gives turned gone =
-      (turned.3, acts, gone.0, gone.1, subst (λ (k : Callback). answers p k acts q) same (gives (ap is_ok turned.0)), gone.2, gone.3)
-  turn_to ask p q x y call told (Err (No c)) acts s t true true same gives turned gone = false_true (sym turned.2)
-  turn_to ask p q x y call told (Err Memory) acts s t broken lost same gives turned gone = gone_lasts state broken lost acts x s y t gone
+      → Stands state x s → call ≡ callback_of ask s → (is_ok told ≡ true → answers p (sight_of x) call acts q) → IsTurned told broken lost r → GoneTo state broken lost acts x s y t → TurnTo state answers ask p x s r q y t
+  turn_to ask p q x y call told (Ok u) acts s t false lost stands same gives turned gone =
+      (acts, gone.0, gone.1, answers_on ask p q x call acts s stands same (gives (ap is_ok turned.0)), gone.2)
+  turn_to ask p q x y call told (Ok u) acts s t true lost stands same gives turned gone = false_true (sym turned.1)
+  turn_to ask p q x y call told (Err (No c)) acts s t false lost stands same gives turned gone = false_true turned.1
+  turn_to ask p q x y call told (Err (No c)) acts s t true false stands same gives turned gone =
+      (turned.3, acts, gone.0, gone.1, answers_on ask p q x call acts s stands same (gives (ap is_ok turned.0)), gone.2, gone.3)
+  turn_to ask p q x y call told (Err (No c)) acts s t true true stands same gives turned gone = false_true (sym turned.2)
+  turn_to ask p q x y call told (Err Memory) acts s t broken lost stands same gives turned gone = gone_lasts state broken lost acts x s y t gone
 
   pub turned_by : (ask : Ask) (p q : P) (x y : Held D) (call : Callback) (told : Result (Unit {0}) NoMemory) (r : Result (Unit {0}) Fail)
-      → Reads (sense state) Any (callback_of ask) x call → ((acts : List Act) × Goes state x acts y × (is_ok told ≡ true → answers p call acts q)) → IsTurned told y.desk.broken y.desk.lost r → Turns state answers ask p x r q y
+      → Reads (sense state) Any (callback_of ask) x call → ((acts : List Act) × Goes state x acts y × (is_ok told ≡ true → answers p (sight_of x) call acts q)) → IsTurned told y.desk.broken y.desk.lost r → Turns state answers ask p x r q y
   turned_by ask p q x y call told r reads does turned = record {
-    leads = λ s h. let g = does.1.leads s h in (g.0, g.1, turn_to ask p q x y call told r does.0 s g.0 y.desk.broken y.desk.lost (reads.is s h (record {})) does.2 turned g.2);
+    leads = λ s h. let g = does.1.leads s h in (g.0, g.1, turn_to ask p q x y call told r does.0 s g.0 y.desk.broken y.desk.lost h (reads.is s h (record {})) does.2 turned g.2);
   }
 
   pub turn_lost : (ask : Ask) (p : P) (x : Held D) (r : Result (Unit {0}) Fail) → IsErrAnd r (λ y. y ≡ Memory) → Turns state answers ask p x r p x
@@ -104,7 +119,7 @@ module _ {D P : Type 0} (state : D → State) (answers : Answering P) where
   popped_moved x y z rest s t is m = subst (λ (d : D). Moved (state d) (state z.disk) s.volume t.volume) (ap (λ (w : Held D). w.disk) is) m
 
   cut_more : (p : P) (s mid : Filter) (ask : Ask) (rest : List Ask) (acts : List Act) (after q : P) (t : Filter) (runs : List (List Act)) → s.outbox ≡ ask ∷ rest → Acts (with_rest rest s) acts mid → NoneFailed acts
-      → answers p (callback_of ask s) acts after → CutOff answers after mid runs q t → CutOff answers p s (acts ∷ runs) q t
+      → AnswersOn answers ask p (with_rest rest s) acts after → CutOff answers after mid runs q t → CutOff answers p s (acts ∷ runs) q t
   cut_more p s mid ask rest acts after q t [] out does none gives cut = absurd cut
   cut_more p s mid ask rest acts after q t (next ∷ more) out does none gives cut = (ask, rest, out, mid, does, none, after, gives, cut)
 

@@ -6,7 +6,7 @@ use Rattle.cf_base.specs.declared.codes.Fail.{Fail}
 use Rattle.cf_base.specs.declared.codes.Fail.TheVariants.{No, Memory}
 use Rattle.cf_base.specs.declared.waits.Ask.{Ask}
 use Rattle.cf_disk.specs.Disk.{State}
-use Rattle.cf_filter.specs.Callbacks.{Answering, CalledBack, CutBack, NoneFailed, callback_of}
+use Rattle.cf_filter.specs.Callbacks.{Answering, AnswersOn, CalledBack, CutBack, NoneFailed}
 use Rattle.cf_filter.specs.Calling.{Told, answer_of, is_stopped, shown_by}
 use Rattle.cf_machine.specs.Held.{Held}
 use Rattle.cf_machine.specs.Lasting.{Lasts, Moved}
@@ -22,9 +22,9 @@ use Rattle.cf_steps.specs.Answering.{After}
 -- one callback
 
 abbrev pub TurnTo : {D P : Type 0} → (D → State) → Answering P → Ask → P → Held D → Filter → Result (Unit {0}) Fail → P → Held D → Filter → Type 0
-TurnTo state answers ask p x s (Ok u) q y t = (acts : List Act) × Acts s acts t × NoneFailed acts × answers p (callback_of ask s) acts q × Stands state y t
+TurnTo state answers ask p x s (Ok u) q y t = (acts : List Act) × Acts s acts t × NoneFailed acts × AnswersOn answers ask p s acts q × Stands state y t
 TurnTo state answers ask p x s (Err (No c)) q y t =
-    (c ≡ code.Device) × (acts : List Act) × Acts s acts t × HasFailed acts × answers p (callback_of ask s) acts q × Stopped state y t × Rose (state x.disk) (state y.disk)
+    (c ≡ code.Device) × (acts : List Act) × Acts s acts t × HasFailed acts × AnswersOn answers ask p s acts q × Stopped state y t × Rose (state x.disk) (state y.disk)
 TurnTo state answers ask p x s (Err Memory) q y t = Lasts (state y.disk) t.volume
 
 pub record Turns {D P : Type 0} (state : D → State) (answers : Answering P) (ask : Ask) (p : P) (x : Held D) (r : Result (Unit {0}) Fail) (q : P) (y : Held D) : Type 0 where

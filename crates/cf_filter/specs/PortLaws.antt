@@ -17,50 +17,50 @@ false_true e = let bad : ⊥ = cc in absurd bad
 
 none_both : (acts more : List Act) → NoneFailed acts → NoneFailed more → NoneFailed (acts ++ more)
 none_both [] more h k = k
-none_both (Did op answer ∷ acts) more h k = none_both acts more h k
-none_both (Failed op ∷ acts) more h k = absurd h
+none_both (Did seen op answer ∷ acts) more h k = none_both acts more h k
+none_both (Failed seen op ∷ acts) more h k = absurd h
 none_both (Noted n ∷ acts) more h k = none_both acts more h k
 
 failed_first : (acts more : List Act) → HasFailed acts → HasFailed (acts ++ more)
 failed_first [] more h = absurd h
-failed_first (Did op answer ∷ acts) more h = failed_first acts more h
-failed_first (Failed op ∷ acts) more h = record {}
+failed_first (Did seen op answer ∷ acts) more h = failed_first acts more h
+failed_first (Failed seen op ∷ acts) more h = record {}
 failed_first (Noted n ∷ acts) more h = failed_first acts more h
 
 failed_later : (acts more : List Act) → HasFailed more → HasFailed (acts ++ more)
 failed_later [] more h = h
-failed_later (Did op answer ∷ acts) more h = failed_later acts more h
-failed_later (Failed op ∷ acts) more h = record {}
+failed_later (Did seen op answer ∷ acts) more h = failed_later acts more h
+failed_later (Failed seen op ∷ acts) more h = record {}
 failed_later (Noted n ∷ acts) more h = failed_later acts more h
 
 notes_both : (acts more : List Act) → notes_of (acts ++ more) ≡ notes_of acts ++ notes_of more
 notes_both [] more = refl
-notes_both (Did op answer ∷ acts) more = notes_both acts more
-notes_both (Failed op ∷ acts) more = notes_both acts more
+notes_both (Did seen op answer ∷ acts) more = notes_both acts more
+notes_both (Failed seen op ∷ acts) more = notes_both acts more
 notes_both (Noted n ∷ acts) more = ap (λ (l : List Notice). n ∷ l) (notes_both acts more)
 
 noted_both : (acts more : List Act) (s : Filter) → noted_by (acts ++ more) s ≡ noted_by more (noted_by acts s)
 noted_both [] more s = refl
-noted_both (Did op answer ∷ acts) more s = noted_both acts more s
-noted_both (Failed op ∷ acts) more s = noted_both acts more s
+noted_both (Did seen op answer ∷ acts) more s = noted_both acts more s
+noted_both (Failed seen op ∷ acts) more s = noted_both acts more s
 noted_both (Noted n ∷ acts) more s = noted_both acts more (with_notes (n ∷ []) s)
 
 pub noted_is : (acts : List Act) (s : Filter) → noted_by acts s ≡ record s { notes = s.notes ++ notes_of acts }
 noted_is [] s = ap (λ (l : List Notice). record s { notes = l }) (sym (append-nil s.notes))
-noted_is (Did op answer ∷ acts) s = noted_is acts s
-noted_is (Failed op ∷ acts) s = noted_is acts s
+noted_is (Did seen op answer ∷ acts) s = noted_is acts s
+noted_is (Failed seen op ∷ acts) s = noted_is acts s
 noted_is (Noted n ∷ acts) s = noted_is acts (with_notes (n ∷ []) s) ∙ ap (λ (l : List Notice). record s { notes = l }) (append_assoc s.notes (n ∷ []) (notes_of acts))
 
 acts_on : (s : Filter) (acts : List Act) (t : Filter) (more : List Act) (u : Filter) → Acts s acts t → NoneFailed acts → Acts t more u → Acts s (acts ++ more) u
 acts_on s [] t more u h none k = subst (λ (x : Filter). Acts x more u) h k
-acts_on s (Did op answer ∷ acts) t more u h none k = (h.0, h.1, acts_on h.0 acts t more u h.2 none k)
-acts_on s (Failed op ∷ acts) t more u h none k = absurd none
+acts_on s (Did seen op answer ∷ acts) t more u h none k = (h.0, h.1, acts_on h.0 acts t more u h.2 none k)
+acts_on s (Failed seen op ∷ acts) t more u h none k = absurd none
 acts_on s (Noted n ∷ acts) t more u h none k = acts_on (with_notes (n ∷ []) s) acts t more u h none k
 
 acts_noted : (s : Filter) (acts : List Act) (t : Filter) (more : List Act) → Acts s acts t → HasFailed acts → Acts s (acts ++ more) (noted_by more t)
 acts_noted s [] t more h failed = absurd failed
-acts_noted s (Did op answer ∷ acts) t more h failed = (h.0, h.1, acts_noted h.0 acts t more h.2 failed)
-acts_noted s (Failed op ∷ acts) t more h failed = (h.0, h.1, ap (noted_by more) h.2 ∙ sym (noted_both acts more h.0))
+acts_noted s (Did seen op answer ∷ acts) t more h failed = (h.0, h.1, acts_noted h.0 acts t more h.2 failed)
+acts_noted s (Failed seen op ∷ acts) t more h failed = (h.0, h.1, ap (noted_by more) h.2 ∙ sym (noted_both acts more h.0))
 acts_noted s (Noted n ∷ acts) t more h failed = acts_noted (with_notes (n ∷ []) s) acts t more h failed
 
 module _ {D : Type 0} (state : D → State) where

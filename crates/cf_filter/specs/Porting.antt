@@ -1,19 +1,38 @@
 -- What a provider does to a filter from inside a callback.
-use Rattle.std.specs.Prelude.{◌≡◌, Bool, true, false, List, [], ◌∷◌, ◌++◌}
+use Rattle.std.specs.Prelude.{◌≡◌, Bool, true, false, List, [], ◌∷◌, ◌++◌, map}
+use Rattle.cf_base.specs.declared.answers.AuxRecord.{AuxRecord}
+use Rattle.cf_base.specs.declared.items.SeenPath.{SeenPath}
 use Rattle.cf_base.specs.declared.notices.Notice.{Notice}
 use Rattle.cf_disk.specs.Disk.{State}
+use Rattle.cf_execute.specs.Sights.{Sight}
 use Rattle.cf_filter.specs.Callbacks.{NoneFailed}
 use Rattle.cf_machine.specs.Held.{Held}
 use Rattle.cf_machine.specs.Lasting.{Lasts, Moved}
 use Rattle.cf_machine.specs.Sensing.{Rose, Stands, Stopped}
+use Rattle.cf_model.specs.Books.{seen_record}
 use Rattle.cf_model.specs.Ports.{Act, Acts, Did, Failed, HasFailed, Noted}
 use Rattle.cf_model.specs.State.{Filter}
+use Rattle.cf_points.specs.Keeping.{AreShortIds}
+
+-- what a provider sees of a filter
+abbrev pub sight_of : {D : Type 0} → Held D → Sight
+sight_of x = record { table = x.known.table; waiting = x.desk.waiting; records = x.known.records }
+
+-- the records of paths seen, whose ids have room in the keys
+pub record Spells (seen : List SeenPath) (records : List AuxRecord) : Type 0 where
+  pub are : records ≡ map seen_record seen
+  pub short : AreShortIds seen
+
+-- With the records of the paths that are left they are all, and ids that have no room are left.
+pub record HasSpelled (records : List AuxRecord) (left all : List SeenPath) : Type 0 where
+  pub are : records ++ map seen_record left ≡ map seen_record all
+  pub short : AreShortIds left → AreShortIds all
 
 -- the notes among them
 abbrev pub notes_of : List Act → List Notice
 notes_of [] = []
-notes_of (Did op answer ∷ acts) = notes_of acts
-notes_of (Failed op ∷ acts) = notes_of acts
+notes_of (Did seen op answer ∷ acts) = notes_of acts
+notes_of (Failed seen op ∷ acts) = notes_of acts
 notes_of (Noted n ∷ acts) = n ∷ notes_of acts
 
 -- What is left of a state after the acts, by whether the filter is broken and whether memory ran out. Where it did not, a

@@ -46,7 +46,7 @@ fn callback_gone(alloc: Global, ask: Ask) -> Result<Callback, Memory>
 impl<D: Disk> Filter<D> {
     ghost use Rattle.std.specs.Prelude.{◌≡◌, IfOk};
     ghost use Rattle.cf_base.specs.declared.answers.Shown.{Shown};
-    ghost use Rattle.cf_filter.specs.Callbacks.{callback_of};
+    ghost use Rattle.cf_execute.specs.Sights.{callback_of};
     ghost use Rattle.cf_filter.specs.Draining.{CallsTo, Drains, PartTo, Turns};
     ghost use Rattle.cf_filter.specs.Turning.{IsTurned, shows_end, with_no_own};
     ghost use Rattle.cf_machine.specs.Held.{Held};

@@ -13,6 +13,7 @@ mod callers;
 mod filters;
 mod handing;
 mod openings;
+mod paths;
 mod placements;
 mod ports;
 mod providing;

@@ -4,9 +4,10 @@ ghost use Rattle.std.specs.Prelude.{◌≡◌};
 ghost use Rattle.cf_model.specs.Arrows.{is_device};
 
 use crate::filters::Filter;
+use crate::paths::spell_paths;
 use crate::told::outcome;
-use cf_base::{Ask, Code, Fail, Memory, Notice, Operation};
-use cf_calls::execute;
+use cf_base::{Ask, AuxRecord, Code, Fail, Key, Memory, Notice, Operation, SeenPath};
+use cf_calls::execute_with;
 use cf_disk::Disk;
 use cf_execute::{Outcome, Port};
 use cf_table::Rows;
@@ -22,8 +23,11 @@ fn is_device(code: Code) -> bool
 
 impl<D: Disk> Filter<D> {
     ghost use Rattle.std.specs.Prelude.{◌∷◌, ◌++◌, [], false, true, List, IfNone, IfSome, OnErr, OnOk};
+    ghost use Rattle.cf_base.specs.declared.items.SeenPath.{SeenPath};
     ghost use Rattle.cf_base.specs.declared.waits.Ask.{Ask};
+    ghost use Rattle.cf_execute.specs.Acting.{Executes};
     ghost use Rattle.cf_filter.specs.Calling.{stopped_by};
+    ghost use Rattle.cf_filter.specs.Porting.{Goes, Spells};
 
     /// Whether a call was stopped. Then every call is refused as Broken.
     pub fn is_broken(&self) -> bool
@@ -68,21 +72,15 @@ impl<D: Disk> Filter<D> {
     {
         self.machine.desk.stop(false);
     }
-}
 
-impl<D: Disk> Port for Filter<D> {
-    ghost use Rattle.cf_filter.specs.Porting.{Goes};
-    ghost use Rattle.cf_filter.specs.PortLaws.{goes_further, goes_nowhere};
-
-    ghost goes = { Goes D.state };
-
-    ghost table = { λ f. f.known.table };
-
-    fn execute(&mut self, op: &Operation) -> Result<Outcome, Fail> {
+    // An operation; where it gives entries, these records of paths seen come in the same step as the last of them.
+    fn execute_beside(&mut self, op: &Operation, records: &[AuxRecord]) -> Result<Outcome, Fail>
+        ensures { (seen : List SeenPath) → Spells seen records.now → Executes (Goes D.state) seen op.now self.old result self.new }
+    {
         if self.is_broken() {
             return Err(Fail::No(Code::Broken));
         }
-        let told = execute(&mut self.machine, op);
+        let told = execute_with(&mut self.machine, op, records);
         match outcome(told) {
             Ok(Ok(given)) => Ok(given),
             Ok(Err(code)) => {
@@ -103,6 +101,24 @@ impl<D: Disk> Port for Filter<D> {
             }
         }
     }
+}
+
+impl<D: Disk> Port for Filter<D> {
+    ghost use Rattle.cf_filter.specs.Porting.{Goes, sight_of};
+    ghost use Rattle.cf_filter.specs.PortLaws.{goes_further, goes_nowhere};
+
+    ghost goes = { Goes D.state };
+
+    ghost sight = { sight_of };
+
+    fn execute(&mut self, op: &Operation) -> Result<Outcome, Fail> {
+        self.execute_beside(op, &[])
+    }
+
+    fn execute_seeing(&mut self, op: &Operation, seen: &[SeenPath]) -> Result<Outcome, Fail> {
+        let records = spell_paths(self.machine.desk.alloc(), seen)?;
+        self.execute_beside(op, records.as_slice())
+    }
 
     fn note(&mut self, n: Notice) -> Result<(), Memory> {
         match self.add_note(n) {
@@ -116,6 +132,14 @@ impl<D: Disk> Port for Filter<D> {
 
     fn rows(&self) -> &Rows {
         self.machine.volume.rows()
+    }
+
+    fn ask(&self, key: Key) -> Option<Ask> {
+        self.machine.desk.requests().ask(key)
+    }
+
+    fn records(&self) -> &[AuxRecord] {
+        self.machine.volume.records()
     }
 
     ghost stays = { goes_nowhere D.state };

@@ -1,25 +1,7 @@
-use Rattle.std.proofs.Common.{refl, sym, ◌∙◌}
-use Rattle.cf_filter.proofs.Called.{seen_from}
-use Rattle.cf_filter.proofs.Ported.{did_as, failed_on, lost_by, refused_as, refused_on}
+use Rattle.std.proofs.Common.{[], ◌<◌, refl}
+use Rattle.std.proofs.lemmas.List.Elements.{All-nil}
+use Rattle.cf_base.specs.declared.items.SeenPath.{SeenPath}
 use Rattle.cf_filter.proofs.ports.FilterPort.execute.Goals as goal
 
-pub returns-then-is_broken : goal.returns-then-is_broken
-returns-then-is_broken g c = refused_as g.D.Disk.state c.args.self.now c.args.self.now c.args.op.now (sym c.is_broken.ensures ∙ c.if-is_broken.true) refl
-
-pub returns-then-is_device : goal.returns-then-is_device
-returns-then-is_device g c = lost_by g.D.Disk.state c.args.self.now _ _ c.args.op.now _ (sym c.is_broken.ensures ∙ c.if-is_broken.false) (seen_from c.self.view_is c.execute-told.ensures) c.lose.ensures
-
-pub returns-in-Ok-Ok : goal.returns-in-Ok-Ok
-returns-in-Ok-Ok g c =
-    did_as g.D.Disk.state c.args.self.now _ c.args.op.now _ _ _ _ (sym c.is_broken.ensures ∙ c.if-is_broken.false) (seen_from c.self.view_is c.execute-told.ensures) c.outcome.ensures c.in-Ok-Ok.is c.in-Ok-Ok.field-0-is
-
-pub returns-else-is_device : goal.returns-else-is_device
-returns-else-is_device g c =
-    refused_on g.D.Disk.state c.args.self.now _ c.args.op.now _ _ _ _ (sym c.is_device.ensures ∙ c.if-is_device.false) (sym c.is_broken.ensures ∙ c.if-is_broken.false) (seen_from c.self.view_is c.execute-told.ensures) c.outcome.ensures c.in-Ok-Err.is c.in-Ok-Err.field-0-is
-
-pub returns-in-Err-No : goal.returns-in-Err-No
-returns-in-Err-No g c =
-    failed_on g.D.Disk.state c.args.self.now _ _ c.args.op.now _ _ _ _ (sym c.is_broken.ensures ∙ c.if-is_broken.false) (seen_from c.self.view_is c.execute-told.ensures) c.outcome.ensures c.in-Err-No.is c.in-Err-No.field-0-is c.stop.ensures
-
-pub returns-in-Err-Memory : goal.returns-in-Err-Memory
-returns-in-Err-Memory g c = lost_by g.D.Disk.state c.args.self.now _ _ c.args.op.now _ (sym c.is_broken.ensures ∙ c.if-is_broken.false) (seen_from c.self.view_is c.execute-told.ensures) c.lose-in-Err-Memory.ensures
+pub returns : goal.returns
+returns g c = c.execute_beside.ensures [] (record { are = refl; short = All-nil (λ (p : SeenPath). p.item.0 < 18446744073709551616) })
