@@ -49,6 +49,11 @@ pub mod SoundLinks
 pub mod SoundSettles
 pub mod SoundStates
 pub mod SparedBytes
+pub mod SpentActs
+pub mod SpentCallbacks
+pub mod SpentEvents
+pub mod SpentKeys
+pub mod SpentRuns
 pub mod StepsGuarded
 pub mod UploadsGuarded
 pub mod UseLaws

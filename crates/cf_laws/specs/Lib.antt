@@ -3,6 +3,7 @@ pub mod Fitting
 pub mod GivenOnce
 pub mod History
 pub mod Invariant
+pub mod Keys
 pub mod Locals
 pub mod Logged
 pub mod Marks

@@ -1,6 +1,7 @@
 //! The headline's sentences as laws over the definitions, for every lawful trace.
 #![tactic(auto)]
 
+pub mod callbacks;
 pub mod changes;
 pub mod contents;
 pub mod dehydration;

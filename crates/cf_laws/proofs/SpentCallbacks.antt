@@ -1,0 +1,272 @@
+-- Each callback that comes while callbacks are called spends a key.
+use Rattle.std.proofs.Common.{◌≡◌, ◌≤◌, ◌+◌, ◌⊎◌, inl, inr, ℕ, zero, suc, Bool, true, false, List, [], ◌∷◌, refl, sym, subst, arith, length}
+use Rattle.std.specs.Prelude.{Option, Some, None, filter, map}
+use Rattle.cf_base.specs.Codes.{number_of}
+use Rattle.cf_base.specs.declared.answers.Shown.{Shown}
+use Rattle.cf_base.specs.declared.answers.Shown.TheVariants as shown
+use Rattle.cf_base.specs.declared.codes.Code.{Code}
+use Rattle.cf_base.specs.declared.codes.Code.TheVariants as code
+use Rattle.cf_base.specs.declared.ids.Key.{Key}
+use Rattle.cf_base.specs.declared.messages.Entry.{Entry}
+use Rattle.cf_base.specs.declared.messages.Reply.{Reply}
+use Rattle.cf_base.specs.declared.messages.Reply.TheVariants as reply
+use Rattle.cf_base.specs.declared.messages.Request.{Request}
+use Rattle.cf_base.specs.declared.messages.Request.TheVariants as request
+use Rattle.cf_base.specs.declared.notices.Frame.{Frame}
+use Rattle.cf_base.specs.declared.notices.Frame.TheVariants as frame
+use Rattle.cf_base.specs.declared.operations.Operation.{Operation}
+use Rattle.cf_base.specs.declared.operations.Operation.TheVariants as operation
+use Rattle.cf_base.specs.declared.policies.Mode.{Mode}
+use Rattle.cf_base.specs.declared.policies.Mode.TheVariants as mode
+use Rattle.cf_base.specs.declared.spans.Span.{Span}
+use Rattle.cf_base.specs.declared.waits.Ask.{Ask}
+use Rattle.cf_base.specs.declared.waits.AskKind.{AskKind}
+use Rattle.cf_base.specs.declared.waits.AskKind.TheVariants as ask_kind
+use Rattle.cf_model.specs.Agents.{agent, agent_on, fetch_of, list_of}
+use Rattle.cf_model.specs.Arrows.{Arrow, Preserves, each, noted, then_do, unit}
+use Rattle.cf_model.specs.Books.{Book}
+use Rattle.cf_model.specs.Callbacks.{call_back, calling, carry_out, carry_out_all, drain, drained, finish, finish_call, mode_of, note_operation, plan_of, planned_on, provider, provider_on, scripted, with_operation_told, with_outbox, without_plan}
+use Rattle.cf_model.specs.Fetching.{after_listing, after_transfer, do_op, list_new, live_ask, is_new, new_item_of, no_entries, nothing_more, refuse_by_kind, refuse_for, refuse_live, span_at, take_bytes, take_gone, take_listing, take_missing, with_seen_from}
+use Rattle.cf_model.specs.Items.{Item, item_of}
+use Rattle.cf_model.specs.Messages.{act_on, act_unless, after_post, answered, ask, come, come_if, come_now, failed, fault_line, if_kept, is_inline, is_stale, no_bytes, no_number, post, post_by, post_unless, send_now, take_if_any, take_reply, was_kept, with_lost, with_message}
+use Rattle.cf_model.specs.Numbers.{most}
+use Rattle.cf_model.specs.Operations.{execute, execute_with}
+use Rattle.cf_model.specs.Requests.{Live}
+use Rattle.cf_model.specs.Skips.{skip, skip_line, skipped}
+use Rattle.cf_model.specs.State.{Filter, State, in_filter, items_now, with_filter}
+use Rattle.cf_model.specs.Trees.{Asked, Ends, Fork, Keeps, Ret, Step, Tree, bind}
+use Rattle.cf_model.proofs.ArrowLaws.{keeps_each, keeps_lifted, keeps_noted, keeps_one, keeps_reading, keeps_ret, keeps_seq, keeps_then}
+use Rattle.cf_model.proofs.MessagesKeep.{asked_keeps}
+use Rattle.cf_model.proofs.OperationsKeep.{execute_keeps, execute_with_keeps}
+use Rattle.cf_model.proofs.TreeLaws.{keeps_bind, kept_at_end}
+use Rattle.cf_laws.specs.Keys.{AreBoxedGiven, AreKeysWithin, AreSpent}
+use Rattle.cf_laws.proofs.SpentKeys.{spent_closed}
+
+module _ (boxed given : ℕ) where
+  abbrev In : State → Type 0
+  In s = AreSpent boxed given s.filter
+
+  pub part_keeps : {A : Type 0} (f : Arrow Filter A) → Preserves (AreSpent boxed given) f → Preserves In (in_filter f)
+  part_keeps f k = keeps_lifted In (λ s. s.filter) with_filter f (λ t i. i) (λ t i. k)
+
+  -- operations
+
+  line_keeps : (shows : Bool) (c : Code) (s : State) → In s → In (skip_line shows c s)
+  line_keeps true c s h = h
+  line_keeps false c s h = h
+
+  skip_keeps : (c : Code) → Preserves In (skip c)
+  skip_keeps c = keeps_noted In (skipped c) (λ s h. line_keeps s.running.shows_skips c (record s { running = record s.running { skips = s.running.skips + 1 } }) h)
+
+  execute_in : (op : Operation) → Preserves In (in_filter (execute op))
+  execute_in op = part_keeps (execute op) (execute_keeps (AreSpent boxed given) (spent_closed boxed given) op)
+
+  do_op_keeps : (op : Operation) → Preserves In (do_op op)
+  do_op_keeps op = keeps_seq In (in_filter (execute op)) nothing_more (execute_in op) (λ answer. keeps_ret In unit)
+
+  refuse_for_keeps : (key : Key) (span : Span) (c : Code) → Preserves In (refuse_for key span c)
+  refuse_for_keeps key span c = keeps_then In (skip c) (do_op (operation.Refuse key span (number_of c))) (skip_keeps c) (do_op_keeps (operation.Refuse key span (number_of c)))
+
+  after_transfer_keeps : (key : Key) (span : Span) (answer : Shown) → Preserves In (after_transfer key span answer)
+  after_transfer_keeps key span (shown.Refused code.Full) = refuse_for_keeps key span code.Full
+  after_transfer_keeps key span (shown.Refused code.TableFull) = refuse_for_keeps key span code.TableFull
+  after_transfer_keeps key span (shown.Refused code.TooManyAsks) = skip_keeps code.TooManyAsks
+  after_transfer_keeps key span (shown.Refused code.Exhausted) = skip_keeps code.Exhausted
+  after_transfer_keeps key span _ = keeps_ret In unit
+
+  take_bytes_keeps : (key : Key) (start : ℕ) (bytes : List ℕ) → Preserves In (take_bytes key start bytes)
+  take_bytes_keeps key start bytes =
+      keeps_seq In (in_filter (execute (operation.Transfer key start bytes))) (after_transfer key (span_at start (length bytes))) (execute_in (operation.Transfer key start bytes)) (after_transfer_keeps key (span_at start (length bytes)))
+
+  refuse_by_kind_keeps : (k : AskKind) (a : Live) (status : ℕ) → Preserves In (refuse_by_kind k a status)
+  refuse_by_kind_keeps ask_kind.Fetch a status = do_op_keeps (operation.Refuse a.ask.key a.ask.span status)
+  refuse_by_kind_keeps ask_kind.Validate a status = keeps_ret In unit
+  refuse_by_kind_keeps ask_kind.List a status = do_op_keeps (operation.Entries a.ask.key [] false)
+  refuse_by_kind_keeps ask_kind.Dehydrate a status = keeps_ret In unit
+
+  refuse_live_keeps : (status : ℕ) (a : Option Live) → Preserves In (refuse_live status a)
+  refuse_live_keeps status None = keeps_ret In unit
+  refuse_live_keeps status (Some a) = refuse_by_kind_keeps a.ask.kind a status
+
+  after_listing_keeps : (key : Key) (answer : Shown) → Preserves In (after_listing key answer)
+  after_listing_keeps key (shown.Refused code.TableFull) = skip_keeps code.TableFull
+  after_listing_keeps key (shown.Refused code.TooManyAsks) = skip_keeps code.TooManyAsks
+  after_listing_keeps key (shown.Refused code.Exhausted) = skip_keeps code.Exhausted
+  after_listing_keeps key (shown.Refused code.TooDeep) = keeps_then In (skip code.TooDeep) (no_entries key) (skip_keeps code.TooDeep) (do_op_keeps (operation.Entries key [] false))
+  after_listing_keeps key (shown.Refused c) = do_op_keeps (operation.Entries key [] false)
+  after_listing_keeps key _ = keeps_ret In unit
+
+  listed_at : (key : Key) (es : List Entry) (s : State) → In s → Keeps In (list_new key es s)
+  listed_at key es s h =
+      let f : Book → Book = with_seen_from s.filter.volume.next_item.0 es in
+      let op : Operation = operation.Entries key (map new_item_of es) true in
+      (keeps_seq In (in_filter (execute_with f op)) (after_listing key) (part_keeps (execute_with f op) (execute_with_keeps (AreSpent boxed given) (spent_closed boxed given) f op)) (after_listing_keeps key)).keeps s h
+
+  -- requests for an ask, and what their replies do
+
+  post_by_keeps : (f : Frame) (full : Bool) → Preserves In (post_by f full)
+  post_by_keeps f true = keeps_seq In _ (was_kept false) (keeps_one In (with_lost f) (λ s h. h)) (λ u. keeps_ret In false)
+  post_by_keeps f false = keeps_seq In _ (was_kept true) (keeps_one In (with_message f) (λ s h. h)) (λ u. keeps_ret In true)
+
+  post_unless_keeps : (f : Frame) (none : Bool) → Preserves In (post_unless f none)
+  post_unless_keeps f true = keeps_ret In false
+  post_unless_keeps f false = keeps_reading In (no_bytes f) (post_by f) (post_by_keeps f)
+
+  post_keeps : (f : Frame) → Preserves In (post f)
+  post_keeps f = keeps_reading In no_number (post_unless f) (post_unless_keeps f)
+
+  if_kept_keeps : (r : Reply) (kept : Bool) → Preserves In (if_kept r kept)
+  if_kept_keeps r true = keeps_ret In (Some r)
+  if_kept_keeps r false = keeps_ret In None
+
+  answered_keeps : (m : ℕ) (r : Option Reply) → Preserves In (answered m r)
+  answered_keeps m None = keeps_seq In _ failed (keeps_one In (fault_line m) (λ s h. h)) (λ u. keeps_ret In None)
+  answered_keeps m (Some r) = keeps_seq In (post (frame.Reply m r)) (if_kept r) (post_keeps (frame.Reply m r)) (if_kept_keeps r)
+
+  come_keeps : (m : ℕ) (q : Request) → Preserves In (come m q)
+  come_keeps m q = keeps_seq In (ask q) (answered m) (asked_keeps In (λ s h. h) (λ held s h. h) (λ s h. h) q) (answered_keeps m)
+
+  -- a reply that does not fit its request does nothing
+  abbrev Fitting : Request → Type 0
+  Fitting q = (r : Reply) (s : State) → is_stale q r s ≡ false → In s → Keeps In (act_on r s)
+
+  reply_keeps : (q : Request) → Fitting q → (r : Reply) → Preserves In (take_reply q r)
+  reply_keeps q k r = record { keeps = λ s h. by s h (is_stale q r s) refl } where
+    by : (s : State) → In s → (old : Bool) → is_stale q r s ≡ old → Keeps In (act_unless r old s)
+    by s h true e = h
+    by s h false e = k r s e h
+
+  if_any_keeps : (q : Request) → Fitting q → (r : Option Reply) → Preserves In (take_if_any q r)
+  if_any_keeps q k None = keeps_ret In unit
+  if_any_keeps q k (Some r) = reply_keeps q k r
+
+  come_if_keeps : (q : Request) → Fitting q → (inline : Bool) → Preserves In (come_if q inline)
+  come_if_keeps q k true = record { keeps = λ s h. (keeps_seq In (come (length s.link.messages) q) (take_if_any q) (come_keeps (length s.link.messages) q) (if_any_keeps q k)).keeps s h }
+  come_if_keeps q k false = keeps_ret In unit
+
+  after_post_keeps : (q : Request) → Fitting q → (kept : Bool) → Preserves In (after_post q kept)
+  after_post_keeps q k true = keeps_reading In is_inline (come_if q) (come_if_keeps q k)
+  after_post_keeps q k false = keeps_ret In unit
+
+  send_keeps : (q : Request) → Fitting q → Preserves In (send_now q)
+  send_keeps q k = keeps_seq In (post (frame.Request q)) (after_post q) (post_keeps (frame.Request q)) (after_post_keeps q k)
+
+  fetched : (a : Ask) (i : Item) → Fitting (fetch_of a i)
+  fetched a i (reply.Feed round clock es) s e h = let z : true ≡ false = e in cc
+  fetched a i (reply.Listing key es) s e h = let z : true ≡ false = e in cc
+  fetched a i (reply.Bytes key start bytes) s e h = (take_bytes_keeps key start bytes).keeps s h
+  fetched a i (reply.Missing key) s e h = (refuse_live_keeps 2 (live_ask s key)).keeps s h
+  fetched a i (reply.Done token rid version) s e h = let z : true ≡ false = e in cc
+  fetched a i (reply.Void token) s e h = let z : true ≡ false = e in cc
+  fetched a i (reply.Refused token w version) s e h = let z : true ≡ false = e in cc
+  fetched a i (reply.Gone key) s e h = (refuse_live_keeps (number_of code.VersionGone) (live_ask s key)).keeps s h
+
+  listed : (a : Ask) (i : Item) → Fitting (list_of a i)
+  listed a i (reply.Feed round clock es) s e h = let z : true ≡ false = e in cc
+  listed a i (reply.Listing key es) s e h = listed_at key (filter (is_new (items_now s)) es) s h
+  listed a i (reply.Bytes key start bytes) s e h = let z : true ≡ false = e in cc
+  listed a i (reply.Missing key) s e h = (refuse_live_keeps 2 (live_ask s key)).keeps s h
+  listed a i (reply.Done token rid version) s e h = let z : true ≡ false = e in cc
+  listed a i (reply.Void token) s e h = let z : true ≡ false = e in cc
+  listed a i (reply.Refused token w version) s e h = let z : true ≡ false = e in cc
+  listed a i (reply.Gone key) s e h = let z : true ≡ false = e in cc
+
+  -- a callback
+
+  agent_on_keeps : (k : AskKind) (a : Ask) (i : Option Item) → Preserves In (agent_on k a i)
+  agent_on_keeps ask_kind.Fetch a (Some i) = send_keeps (fetch_of a i) (fetched a i)
+  agent_on_keeps ask_kind.Fetch a None = keeps_ret In unit
+  agent_on_keeps ask_kind.Validate a i = keeps_ret In unit
+  agent_on_keeps ask_kind.List a (Some i) = send_keeps (list_of a i) (listed a i)
+  agent_on_keeps ask_kind.List a None = keeps_ret In unit
+  agent_on_keeps ask_kind.Dehydrate a i = do_op_keeps (operation.AckDehydrate a.key true)
+
+  carry_out_keeps : (own : Key) (p : Bool × Operation) → Preserves In (carry_out own p)
+  carry_out_keeps own p = keeps_seq In (in_filter (execute (planned_on own p))) note_operation (execute_in (planned_on own p)) (λ answer. keeps_noted In (with_operation_told answer) (λ s h. h))
+
+  planned_keeps : (own : Key) (ops : List (Bool × Operation)) → Preserves In (carry_out_all own ops)
+  planned_keeps own ops = keeps_then In (noted without_plan) (each (carry_out own) ops) (keeps_noted In without_plan (λ s h. h)) (keeps_each In (carry_out own) ops (carry_out_keeps own))
+
+  provider_keeps : (a : Ask) (m : Mode) → Preserves In (provider_on a m)
+  provider_keeps a mode.Replay = record { keeps = λ s h. (agent_on_keeps a.kind a (item_of (items_now s) a.item)).keeps s h }
+  provider_keeps a mode.Filter = keeps_reading In plan_of (carry_out_all a.key) (planned_keeps a.key)
+
+  pub call_back_keeps : (a : Ask) → Preserves In (call_back a)
+  call_back_keeps a = keeps_reading In mode_of (provider_on a) (provider_keeps a)
+
+  -- the callbacks of a call, and the call
+
+  pub pop : (a : Ask) (rest : List Ask) (s : State) → s.filter.outbox ≡ a ∷ rest → In s → In (with_outbox rest s)
+  pop a rest s e h = fewer (length rest) (boxed + s.filter.waiting.key_count) (subst (λ (os : List Ask). length os + given ≤ boxed + s.filter.waiting.key_count) e h) where
+    fewer : (l k : ℕ) → suc l + given ≤ k → l + given ≤ k
+    fewer l k h = omega (arith, h)
+
+  pub drained_keeps : (n : ℕ) → Preserves In (drained n)
+  drained_keeps zero = record { keeps = λ s h. h }
+  drained_keeps (suc n) = record { keeps = λ s h. popped s h (drained_keeps n) s.filter.outbox refl } where
+    popped : (s : State) → In s → Preserves In (drained n) → (asks : List Ask) → s.filter.outbox ≡ asks
+        → Keeps In (elim asks as (λ _. Tree State (Unit {0})) [ [] ↦ Ret (record {}) s | a ∷ rest ↦ bind (call_back a (with_outbox rest s)) (λ _ t. drained n t) ])
+    popped s h k [] e = h
+    popped s h k (a ∷ rest) e = keeps_bind In (call_back a (with_outbox rest s)) (λ _ t. drained n t) ((call_back_keeps a).keeps (with_outbox rest s) (pop a rest s e h)) (λ u t j. k.keeps t j)
+
+  pub calling_keeps : (part : Arrow Filter Shown) → Preserves (AreSpent boxed given) part → Preserves In (calling part)
+  calling_keeps part k =
+      keeps_seq In (in_filter part) finish_call (part_keeps part k)
+      (λ answer. keeps_then In drain (in_filter (finish answer)) (drained_keeps most) (part_keeps (finish answer) (record { keeps = λ x h. h })))
+
+-- all callbacks
+
+-- what ends a tree that goes on
+pub ends_parts : {S A B : Type 0} (p : Tree S A) (g : A → S → Tree S B) (b : B) (t : S) → Ends (bind p g) b t → (a : A) × (m : S) × Ends p a m × Ends (g a m) b t
+ends_parts (Ret a s) g b t h = (a, s, (refl, refl), h)
+ends_parts (Step s p) g b t h = ends_parts p g b t h
+ends_parts (Fork p q) g b t (inl h) = let x = ends_parts p g b t h in (x.0, x.1, inl x.2, x.3)
+ends_parts (Fork p q) g b t (inr h) = let x = ends_parts q g b t h in (x.0, x.1, inr x.2, x.3)
+ends_parts (Asked k) g b t h = let x = ends_parts (k h.0) g b t h.1 in (x.0, x.1, (h.0, x.2), x.3)
+
+-- none is left, or each of n calls has spent a key
+abbrev Called : ℕ → ℕ → ℕ → Filter → Type 0
+Called boxed given n x = (x.outbox ≡ []) ⊎ (length x.outbox + (given + n) ≤ boxed + x.waiting.key_count)
+
+one_called : (l given boxed k : ℕ) → suc l + given ≤ boxed + k → l + (given + 1) ≤ boxed + k
+one_called l given boxed k h = omega (arith, h)
+
+none_called : (l given boxed k : ℕ) → l + given ≤ boxed + k → l + (given + 0) ≤ boxed + k
+none_called l given boxed k h = omega (arith, h)
+
+called_more : (l given n r : ℕ) → l + (given + 1 + n) ≤ r → l + (given + suc n) ≤ r
+called_more l given n r h = omega (arith, h)
+
+pub drained_spends : (n boxed given : ℕ) (s t : State) (u : Unit {0}) → AreSpent boxed given s.filter → Ends (drained n s) u t → Called boxed given n t.filter
+drained_spends zero boxed given s t u h e = subst (λ (x : State). Called boxed given 0 x.filter) (sym e.1) (inr (none_called (length s.filter.outbox) given boxed s.filter.waiting.key_count h))
+drained_spends (suc n) boxed given s t u h e = by (λ x k i. drained_spends n boxed (given + 1) x t u k i) s.filter.outbox refl e where
+  more : Called boxed (given + 1) n t.filter → Called boxed given (suc n) t.filter
+  more (inl k) = inl k
+  more (inr k) = inr (called_more (length t.filter.outbox) given n (boxed + t.filter.waiting.key_count) k)
+
+  Rest : Type 0
+  Rest = (x : State) → AreSpent boxed (given + 1) x.filter → Ends (drained n x) u t → Called boxed (given + 1) n t.filter
+
+  by : Rest → (asks : List Ask) → s.filter.outbox ≡ asks → Ends (elim asks as (λ _. Tree State (Unit {0})) [ [] ↦ Ret (record {}) s | a ∷ rest ↦ bind (call_back a (with_outbox rest s)) (λ _ x. drained n x) ]) u t → Called boxed given (suc n) t.filter
+  by rest_of [] k i = subst (λ (x : State). Called boxed given (suc n) x.filter) (sym i.1) (inl k)
+  by rest_of (a ∷ rest) k i =
+      let called : AreSpent boxed (given + 1) (with_outbox rest s).filter = one_called (length rest) given boxed s.filter.waiting.key_count (subst (λ (os : List Ask). length os + given ≤ boxed + s.filter.waiting.key_count) k h) in
+      let x = ends_parts (call_back a (with_outbox rest s)) (λ _ y. drained n y) u t i in
+      more (rest_of x.1 (kept_at_end (λ (y : State). AreSpent boxed (given + 1) y.filter) (call_back a (with_outbox rest s)) x.0 x.1 ((call_back_keeps boxed (given + 1) a).keeps (with_outbox rest s) called) x.2) x.3)
+
+none_boxed : (asks : List Ask) → length asks ≤ 0 → asks ≡ []
+none_boxed [] h = refl
+none_boxed (a ∷ as') h = absurd (omega (arith, h))
+
+few : (l k n : ℕ) → k ≤ n → l + (0 + n) ≤ 0 + k → l ≤ 0
+few l k n within h = omega (arith, within, h)
+
+spent_first : (l k : ℕ) → l ≤ k → l + 0 ≤ 0 + k
+spent_first l k h = omega (arith, h)
+
+-- where the epoch had keys for all
+pub none_left : (s t : State) (u : Unit {0}) → AreBoxedGiven s.filter → AreKeysWithin t.filter → Ends (drain s) u t → t.filter.outbox ≡ []
+none_left s t u boxed within e = by (drained_spends most 0 0 s t u (spent_first (length s.filter.outbox) s.filter.waiting.key_count boxed) e) where
+  by : Called 0 0 most t.filter → t.filter.outbox ≡ []
+  by (inl k) = k
+  by (inr k) = none_boxed t.filter.outbox (few (length t.filter.outbox) t.filter.waiting.key_count most within k)

@@ -1,0 +1,7 @@
+-- They are the laws of runs and of callbacks.
+use Rattle.cf_laws.proofs.SpentCallbacks.{none_left}
+use Rattle.cf_laws.proofs.SpentRuns.{event_boxed, run_boxed}
+use Rattle.cf_laws.proofs.callbacks.no_callback_is_left.Goals as goal
+
+pub returns : goal.returns
+returns c = record { boxed = run_boxed; during = event_boxed; over = none_left }
