@@ -49,11 +49,6 @@ pub mod SoundLinks
 pub mod SoundSettles
 pub mod SoundStates
 pub mod SparedBytes
-pub mod SpentActs
-pub mod SpentCallbacks
-pub mod SpentEvents
-pub mod SpentKeys
-pub mod SpentRuns
 pub mod StepsGuarded
 pub mod UploadsGuarded
 pub mod UseLaws
@@ -64,3 +59,10 @@ pub mod EngineEventsGuarded
 pub mod EventsGuarded
 pub mod ContentLaws
 pub mod ReadLaws
+pub mod OutboxActs
+pub mod OutboxCallbacks
+pub mod OutboxEvents
+pub mod OutboxFacts
+pub mod OutboxRuns
+pub mod SpentKeys
+pub mod OwnAsks

@@ -1,120 +1,146 @@
--- Each callback that a part of the filter adds spends a key.
-use Rattle.std.proofs.Common.{◌≡◌, ◌≤◌, ◌+◌, ℕ, Bool, true, false, List, [], ◌∷◌, ◌++◌, refl, sym, ◌∙◌, ap, subst, arith, length, if◌then◌else◌}
-use Rattle.std.specs.Prelude.{map, min}
+-- Each callback that comes spends a key.
+use Rattle.std.proofs.Common.{◌≡◌, ◌≤◌, ◌+◌, ◌⊎◌, inl, inr, ℕ, zero, suc, List, [], ◌∷◌, ◌++◌, refl, sym, ◌∙◌, ap, subst, arith, length}
+use Rattle.std.specs.Prelude.{true, map, ◌-◌}
 use Rattle.std.proofs.lemmas.List.{length-append, length-map}
-use Rattle.cf_base.specs.declared.changes.Change.{Change}
-use Rattle.cf_base.specs.declared.ids.ItemId.{ItemId}
-use Rattle.cf_base.specs.declared.ids.WaitId.{WaitId}
-use Rattle.cf_base.specs.declared.answers.Shown.TheVariants as shown
+use Rattle.cf_base.specs.declared.answers.Answer.{Answer}
+use Rattle.cf_base.specs.declared.events.Event.{Event}
+use Rattle.cf_base.specs.declared.policies.Mode.{Mode}
 use Rattle.cf_base.specs.declared.waits.Ask.{Ask}
-use Rattle.cf_base.specs.declared.waits.Cause.{Cause}
-use Rattle.cf_base.specs.declared.waits.Cause.TheVariants as cause
-use Rattle.cf_base.specs.declared.waits.End.{End}
-use Rattle.cf_model.specs.Arrows.{Preserves, each, then_do}
-use Rattle.cf_model.specs.Books.{Book}
-use Rattle.cf_model.specs.Changes.{apply, change_with, may_need_room, put_after_room, put_now, tell_change}
-use Rattle.cf_model.specs.Missing.{Wait}
-use Rattle.cf_model.specs.Points.{commit_for_room}
-use Rattle.cf_model.specs.Requests.{Live, Told, Waiting}
-use Rattle.cf_model.specs.Settling.{accessed, end_of, end_wait, is_access, is_own, tell, tell_end, told_at, with_asks_told, with_ended, with_waiting}
-use Rattle.cf_model.specs.State.{Filter, Volume, in_volume, with_volume}
-use Rattle.cf_model.specs.Trees.{Asked, Fork, Keeps, Ret, Step, Tree, bind}
-use Rattle.cf_model.specs.Waits.{Need, all_down, begun, own_id, with_own}
-use Rattle.cf_model.proofs.ArrowLaws.{keeps_each, keeps_either, keeps_lifted, keeps_one, keeps_reading, keeps_seq, keeps_then}
-use Rattle.cf_model.proofs.Closed.{ClosedFilter}
-use Rattle.cf_model.proofs.TreeLaws.{keeps_bind}
-use Rattle.cf_laws.specs.Keys.{AreSpent}
+use Rattle.cf_model.specs.Asks.{step_of}
+use Rattle.cf_model.specs.Callbacks.{call_back, drain, drained, with_outbox}
+use Rattle.cf_model.specs.Events.{is_of, tree_of}
+use Rattle.cf_model.specs.Lawful.{Runs}
+use Rattle.cf_model.specs.Numbers.{most}
+use Rattle.cf_model.specs.Ports.{Act, Acts}
+use Rattle.cf_model.specs.Requests.{Live, Waiting}
+use Rattle.cf_model.specs.State.{Filter, State, start}
+use Rattle.cf_model.specs.Store.{Held}
+use Rattle.cf_model.specs.Trees.{Asked, Ends, Fork, Keeps, Ret, Step, Tree, bind}
+use Rattle.cf_model.proofs.TreeLaws.{kept_at_end}
+use Rattle.cf_laws.specs.Keys.{AreBoxedGiven, AreKeysWithin, keys_left}
+use Rattle.cf_laws.specs.Premises.{IsFresh}
+use Rattle.cf_laws.proofs.ContentLaws.{keeps_weaker}
+use Rattle.cf_laws.proofs.OutboxActs.{acts_keep}
+use Rattle.cf_laws.proofs.OutboxCallbacks.{call_back_keeps}
+use Rattle.cf_laws.proofs.OutboxFacts.{Boxing, BoxingRuns, Fact, Holds}
+use Rattle.cf_laws.proofs.OutboxRuns.{event_holds, run_holds}
 
--- what the first part keeps is more than what is to be kept
-pub keeps_from : {S A B : Type 0} (P M : S → Type 0) (p : Tree S A) (g : A → S → Tree S B) → ((s : S) → M s → P s) → Keeps M p → ((a : A) (s : S) → M s → Keeps P (g a s)) → Keeps P (bind p g)
-keeps_from P M (Ret a s) g w h k = k a s h
-keeps_from P M (Step s p) g w h k = (w s h.0, keeps_from P M p g w h.1 k)
-keeps_from P M (Fork p q) g w h k = (keeps_from P M p g w h.0 k, keeps_from P M q g w h.1 k)
-keeps_from P M (Asked f) g w h k = λ x. keeps_from P M (f x) g w (h x) k
+boxed_more : (o : List Ask) (made : List Live) → length (o ++ map (λ a. a.ask) made) ≡ length o + length made
+boxed_more o made = length-append o (map (λ a. a.ask) made) ∙ ap (λ n. length o + n) (length-map made (λ a. a.ask))
 
--- the lines of a step: the callbacks are as before until they come to those that have keys already
-abbrev Between : List Ask → Waiting → Filter → Type 0
-Between outbox waiting x = (x.outbox ≡ outbox) × (x.waiting ≡ waiting)
+abbrev pub Spent : ℕ → ℕ → Fact
+Spent boxed given o w = length o + given ≤ boxed + w.key_count
 
-tell_end_keeps : (o : List Ask) (w : Waiting) (id : WaitId) (e : End) (own : Bool) (x : Filter) → Between o w x → Between o w (tell_end id e own x)
-tell_end_keeps o w id e true x h = h
-tell_end_keeps o w id e false x h = h
+before_boxed : (boxed given n k m : ℕ) → n + given ≤ boxed + k → n + given ≤ boxed + (k + m)
+before_boxed boxed given n k m h = omega (arith, h)
 
-access_keeps : (o : List Ask) (w : Waiting) (item : ItemId) (is : Bool) (x : Filter) → Between o w x → Between o w (if is then accessed item x else x)
-access_keeps o w item true x h = h
-access_keeps o w item false x h = h
+after_boxed : (boxed given n k m l : ℕ) → l ≡ n + m → n + given ≤ boxed + k → l + given ≤ boxed + (k + m)
+after_boxed boxed given n k m l f h = omega (arith, f, h)
 
-ended_keeps : (o : List Ask) (w : Waiting) (e : Wait × Cause) (x : Filter) → Between o w x → Between o w (with_ended e x)
-ended_keeps o w e x h =
-    access_keeps o w e.0.item (is_access e.0.kind e.1) (tell_end e.0.id (end_of x.volume.items e.0 e.1) (is_own e.0.id x) x)
-    (tell_end_keeps o w e.0.id (end_of x.volume.items e.0 e.1) (is_own e.0.id x) x h)
+fewer : (l given k : ℕ) → suc l + given ≤ k → l + given ≤ k
+fewer l given k h = omega (arith, h)
 
-ends_keep : (o : List Ask) (w : Waiting) (es : List (Wait × Cause)) → Preserves (Between o w) (each end_wait es)
-ends_keep o w es = keeps_each (Between o w) end_wait es (λ e. keeps_one (Between o w) (with_ended e) (ended_keeps o w e))
+pub spent_boxing : (boxed given : ℕ) → Boxing (Spent boxed given)
+spent_boxing boxed given = record {
+  steps = λ o w item v d h. (
+    before_boxed boxed given (length o) w.key_count (length (step_of item v d w).0.made) h,
+    after_boxed boxed given (length o) w.key_count (length (step_of item v d w).0.made) (length (o ++ map (λ a. a.ask) (step_of item v d w).0.made)) (boxed_more o (step_of item v d w).0.made) h,
+  );
+  begins = λ o w ws h. h;
+  downs = λ o w h. h;
+  ticks = λ o w n h. h;
+  pops = λ a o w h. fewer (length o) given (boxed + w.key_count) h;
+}
 
-boxed_more : (outbox : List Ask) (made : List Live) → length (outbox ++ map (λ a. a.ask) made) ≡ length outbox + length made
-boxed_more outbox made = length-append outbox (map (λ a. a.ask) made) ∙ ap (λ n. length outbox + n) (length-map made (λ a. a.ask))
+none_boxed_yet : (k : ℕ) → 0 + 0 ≤ 0 + k
+none_boxed_yet k = omega arith
 
-module _ (boxed given : ℕ) where
-  abbrev Spent : Filter → Type 0
-  Spent x = AreSpent boxed given x
+pub spent_runs : BoxingRuns (Spent 0 0)
+spent_runs = record { boxing = spent_boxing 0 0; crashes = λ o w h. none_boxed_yet w.key_count; opens = λ epoch. none_boxed_yet 0 }
 
-  before_boxed : (n k m z : ℕ) → z ≡ k + m → n + given ≤ boxed + k → n + given ≤ boxed + z
-  before_boxed n k m z e h = omega (arith, e, h)
+-- all callbacks
 
-  after_boxed : (n k m z l : ℕ) → z ≡ k + m → l ≡ n + m → n + given ≤ boxed + k → l + given ≤ boxed + z
-  after_boxed n k m z l e f h = omega (arith, e, f, h)
+-- what ends a tree that goes on
+pub ends_parts : {S A B : Type 0} (p : Tree S A) (g : A → S → Tree S B) (b : B) (t : S) → Ends (bind p g) b t → (a : A) × (m : S) × Ends p a m × Ends (g a m) b t
+ends_parts (Ret a s) g b t h = (a, s, (refl, refl), h)
+ends_parts (Step s p) g b t h = ends_parts p g b t h
+ends_parts (Fork p q) g b t (inl h) = let x = ends_parts p g b t h in (x.0, x.1, inl x.2, x.3)
+ends_parts (Fork p q) g b t (inr h) = let x = ends_parts q g b t h in (x.0, x.1, inr x.2, x.3)
+ends_parts (Asked k) g b t h = let x = ends_parts (k h.0) g b t h.1 in (x.0, x.1, (h.0, x.2), x.3)
 
-  pub told_keeps : (x : Filter) (r : Told × Waiting) → r.1.key_count ≡ x.waiting.key_count + length r.0.made → Spent x → Keeps Spent (tell r x)
-  told_keeps x r e h =
-      keeps_from Spent (Between x.outbox r.1) (each end_wait r.0.ended (with_waiting r.1 x)) (λ _ u. Ret (record {}) (with_asks_told r.0 u))
-      (λ u b. before_boxed (length u.outbox) x.waiting.key_count (length r.0.made) u.waiting.key_count (ap (λ (w : Waiting). w.key_count) b.1 ∙ e) (subst (λ (o : List Ask). length o + given ≤ boxed + x.waiting.key_count) (sym b.0) h))
-      ((ends_keep x.outbox r.1 r.0.ended).keeps (with_waiting r.1 x) (refl, refl))
-      (λ a u b. after_boxed (length u.outbox) x.waiting.key_count (length r.0.made) u.waiting.key_count (length (u.outbox ++ map (λ a. a.ask) r.0.made))
-      (ap (λ (w : Waiting). w.key_count) b.1 ∙ e) (boxed_more u.outbox r.0.made) (subst (λ (o : List Ask). length o + given ≤ boxed + x.waiting.key_count) (sym b.0) h))
+-- none is left, or each of n calls has spent a key
+abbrev Called : ℕ → ℕ → ℕ → Filter → Type 0
+Called boxed given n x = (x.outbox ≡ []) ⊎ (length x.outbox + (given + n) ≤ boxed + x.waiting.key_count)
 
-  abbrev InVolume : Filter → Volume → Type 0
-  InVolume x v = Spent (with_volume v x)
+one_called : (l given boxed k : ℕ) → suc l + given ≤ boxed + k → l + (given + 1) ≤ boxed + k
+one_called l given boxed k h = omega (arith, h)
 
-  after_room_keeps : (x : Filter) (f : Book → Book) (c : Change) (room : Bool) → Preserves (InVolume x) (put_after_room f c room)
-  after_room_keeps x f c false = record { keeps = λ v h. (h, h) }
-  after_room_keeps x f c true =
-      keeps_either (InVolume x) (put_now f c) (then_do commit_for_room (put_now f c)) (record { keeps = λ v h. (h, h) })
-      (keeps_then (InVolume x) commit_for_room (put_now f c) (record { keeps = λ v h. (h, h) }) (record { keeps = λ v h. (h, h) }))
+none_called : (l given boxed k : ℕ) → l + given ≤ boxed + k → l + (given + 0) ≤ boxed + k
+none_called l given boxed k h = omega (arith, h)
 
-  change_keeps : (f : Book → Book) (c : Change) → Preserves Spent (change_with f c)
-  change_keeps f c =
-      keeps_seq Spent (in_volume (apply f c)) (tell_change c)
-      (keeps_lifted Spent (λ x. x.volume) with_volume (apply f c) (λ x h. h)
-      (λ x h. keeps_reading (InVolume x) (may_need_room c) (put_after_room f c) (after_room_keeps x f c)))
-      (λ n. record { keeps = λ x h. h })
+called_more : (l given n r : ℕ) → l + (given + 1 + n) ≤ r → l + (given + suc n) ≤ r
+called_more l given n r h = omega (arith, h)
 
-  none_made : (k : ℕ) → k ≡ k + 0
-  none_made k = omega arith
+pub drained_spends : (n boxed given : ℕ) (s t : State) (u : Unit {0}) → Holds (Spent boxed given) s.filter → Ends (drained n s) u t → Called boxed given n t.filter
+drained_spends zero boxed given s t u h e = subst (λ (x : State). Called boxed given 0 x.filter) (sym e.1) (inr (none_called (length s.filter.outbox) given boxed s.filter.waiting.key_count h))
+drained_spends (suc n) boxed given s t u h e = by (λ x k i. drained_spends n boxed (given + 1) x t u k i) s.filter.outbox refl e where
+  more : Called boxed (given + 1) n t.filter → Called boxed given (suc n) t.filter
+  more (inl k) = inl k
+  more (inr k) = inr (called_more (length t.filter.outbox) given n (boxed + t.filter.waiting.key_count) k)
 
-  accessed_spent : (item : ItemId) (is : Bool) (x : Filter) → Spent x → Spent (if is then accessed item x else x)
-  accessed_spent item true x h = h
-  accessed_spent item false x h = h
+  Rest : Type 0
+  Rest = (x : State) → Holds (Spent boxed (given + 1)) x.filter → Ends (drained n x) u t → Called boxed (given + 1) n t.filter
 
-  pub spent_closed : ClosedFilter Spent
-  spent_closed = record {
-    change = change_keeps;
-    commits = record { keeps = λ x h. (h, h) };
-    settled = λ item d. record { keeps = λ x h. told_keeps x (told_at item d x) refl h };
-    begins = λ n. record {
-      keeps = λ x h.
-          keeps_bind Spent (tell (begun n x) (with_own n x)) (λ _ t. Ret (shown.Pending (own_id n x)) t)
-          (told_keeps (with_own n x) (begun n x) refl h) (λ a t j. j);
-    };
-    downs = record { keeps = λ x h. told_keeps x (all_down x) (none_made x.waiting.key_count) h };
-    keeps_begin_call = λ x h. h;
-    keeps_with_handle = λ item x h. h;
-    keeps_with_policy = λ p x h. h;
-    keeps_as_it_is = λ x h. h;
-    keeps_accessed = λ item x h. h;
-    keeps_accessed_now = λ n x h. accessed_spent n.item (is_access n.kind cause.Met) x h;
-    keeps_connected_again = λ x h. h;
-    keeps_disconnected = λ x h. h;
-    keeps_with_time = λ n x h. h;
-    keeps_without_handle = λ handle x h. h;
-  }
+  by : Rest → (asks : List Ask) → s.filter.outbox ≡ asks → Ends (elim asks as (λ _. Tree State (Unit {0})) [ [] ↦ Ret (record {}) s | a ∷ rest ↦ bind (call_back a (with_outbox rest s)) (λ _ x. drained n x) ]) u t → Called boxed given (suc n) t.filter
+  by rest_of [] k i = subst (λ (x : State). Called boxed given (suc n) x.filter) (sym i.1) (inl k)
+  by rest_of (a ∷ rest) k i =
+      let called : Holds (Spent boxed (given + 1)) (with_outbox rest s).filter = one_called (length rest) given boxed s.filter.waiting.key_count (subst (λ (os : List Ask). length os + given ≤ boxed + s.filter.waiting.key_count) k h) in
+      let x = ends_parts (call_back a (with_outbox rest s)) (λ _ y. drained n y) u t i in
+      more (rest_of x.1 (kept_at_end (λ (y : State). Holds (Spent boxed (given + 1)) y.filter) (call_back a (with_outbox rest s)) x.0 x.1 ((call_back_keeps (Spent boxed (given + 1)) (spent_boxing boxed (given + 1)) a).keeps (with_outbox rest s) called) x.2) x.3)
+
+none_boxed : (asks : List Ask) → length asks ≤ 0 → asks ≡ []
+none_boxed [] h = refl
+none_boxed (a ∷ as') h = absurd (omega (arith, h))
+
+few : (l k n : ℕ) → k ≤ n → l + (0 + n) ≤ 0 + k → l ≤ 0
+few l k n within h = omega (arith, within, h)
+
+spent_first : (l k : ℕ) → l ≤ k → l + 0 ≤ 0 + k
+spent_first l k h = omega (arith, h)
+
+-- where the epoch had keys for all
+pub none_left : (s t : State) (u : Unit {0}) → AreBoxedGiven s.filter → AreKeysWithin t.filter → Ends (drain s) u t → t.filter.outbox ≡ []
+none_left s t u boxed within e = by (drained_spends most 0 0 s t u (spent_first (length s.filter.outbox) s.filter.waiting.key_count boxed) e) where
+  by : Called 0 0 most t.filter → t.filter.outbox ≡ []
+  by (inl k) = k
+  by (inr k) = none_boxed t.filter.outbox (few (length t.filter.outbox) t.filter.waiting.key_count most within k)
+
+-- a provider
+
+same : (m n : ℕ) → m + n ≤ m + n
+same m n = omega arith
+
+pub acts_spend : (acts : List Act) (s t : Filter) → Acts s acts t → length t.outbox + s.waiting.key_count ≤ length s.outbox + t.waiting.key_count
+acts_spend acts s t a = acts_keep (Spent (length s.outbox) s.waiting.key_count) (spent_boxing (length s.outbox) s.waiting.key_count) acts s t (same (length s.outbox) s.waiting.key_count) a
+
+left : (m k l o n : ℕ) → n ≤ m → l + k ≤ o + n → l + (m - n) ≤ o + (m - k)
+left m k l o n within h = omega (arith, within, h)
+
+pub acts_leave : (acts : List Act) (s t : Filter) → Acts s acts t → AreKeysWithin t → length t.outbox + keys_left t ≤ length s.outbox + keys_left s
+acts_leave acts s t a within = left most s.waiting.key_count (length t.outbox) (length s.outbox) t.waiting.key_count within (acts_spend acts s t a)
+
+-- runs
+
+first_given : (n k : ℕ) → n + 0 ≤ 0 + k → n ≤ k
+first_given n k h = omega (arith, h)
+
+of_spent : (s : State) → Holds (Spent 0 0) s.filter → AreBoxedGiven s.filter
+of_spent s h = first_given (length s.filter.outbox) s.filter.waiting.key_count h
+
+pub run_boxed : (m : Mode) (remote : Held) (clusters : ℕ) (trace : List (Event × Answer)) (s : State) → Runs m (start m remote clusters) trace s → IsFresh remote → AreBoxedGiven s.filter
+run_boxed m remote clusters trace s runs fresh = of_spent s (run_holds (Spent 0 0) spent_runs m remote clusters trace s runs fresh)
+
+pub event_boxed : (m : Mode) (remote : Held) (clusters : ℕ) (trace : List (Event × Answer)) (s : State) (e : Event) → Runs m (start m remote clusters) trace s → IsFresh remote → is_of m e ≡ true
+    → Keeps (λ t. AreBoxedGiven t.filter) (tree_of e s)
+event_boxed m remote clusters trace s e runs fresh is =
+    keeps_weaker (λ t. Holds (Spent 0 0) t.filter) (λ t. AreBoxedGiven t.filter) of_spent (tree_of e s) (event_holds (Spent 0 0) spent_runs m remote clusters trace s e runs fresh is)

@@ -1,6 +1,5 @@
 -- They are the laws of runs and of callbacks.
-use Rattle.cf_laws.proofs.SpentCallbacks.{none_left}
-use Rattle.cf_laws.proofs.SpentRuns.{event_boxed, run_boxed}
+use Rattle.cf_laws.proofs.SpentKeys.{event_boxed, none_left, run_boxed}
 use Rattle.cf_laws.proofs.callbacks.no_callback_is_left.Goals as goal
 
 pub returns : goal.returns

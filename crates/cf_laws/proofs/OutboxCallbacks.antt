@@ -1,4 +1,4 @@
--- Each callback that comes while callbacks are called spends a key.
+-- What each part of a callback keeps of the callbacks that are still to be called and of what waits and is asked.
 use Rattle.std.proofs.Common.{◌≡◌, ◌≤◌, ◌+◌, ◌⊎◌, inl, inr, ℕ, zero, suc, Bool, true, false, List, [], ◌∷◌, refl, sym, subst, arith, length}
 use Rattle.std.specs.Prelude.{Option, Some, None, filter, map}
 use Rattle.cf_base.specs.Codes.{number_of}
@@ -39,14 +39,13 @@ use Rattle.cf_model.proofs.ArrowLaws.{keeps_each, keeps_lifted, keeps_noted, kee
 use Rattle.cf_model.proofs.MessagesKeep.{asked_keeps}
 use Rattle.cf_model.proofs.OperationsKeep.{execute_keeps, execute_with_keeps}
 use Rattle.cf_model.proofs.TreeLaws.{keeps_bind, kept_at_end}
-use Rattle.cf_laws.specs.Keys.{AreBoxedGiven, AreKeysWithin, AreSpent}
-use Rattle.cf_laws.proofs.SpentKeys.{spent_closed}
+use Rattle.cf_laws.proofs.OutboxFacts.{Boxing, Fact, Holds, filter_closed}
 
-module _ (boxed given : ℕ) where
+module _ (F : Fact) (b : Boxing F) where
   abbrev In : State → Type 0
-  In s = AreSpent boxed given s.filter
+  In s = Holds F s.filter
 
-  pub part_keeps : {A : Type 0} (f : Arrow Filter A) → Preserves (AreSpent boxed given) f → Preserves In (in_filter f)
+  pub part_keeps : {A : Type 0} (f : Arrow Filter A) → Preserves (Holds F) f → Preserves In (in_filter f)
   part_keeps f k = keeps_lifted In (λ s. s.filter) with_filter f (λ t i. i) (λ t i. k)
 
   -- operations
@@ -59,7 +58,7 @@ module _ (boxed given : ℕ) where
   skip_keeps c = keeps_noted In (skipped c) (λ s h. line_keeps s.running.shows_skips c (record s { running = record s.running { skips = s.running.skips + 1 } }) h)
 
   execute_in : (op : Operation) → Preserves In (in_filter (execute op))
-  execute_in op = part_keeps (execute op) (execute_keeps (AreSpent boxed given) (spent_closed boxed given) op)
+  execute_in op = part_keeps (execute op) (execute_keeps (Holds F) (filter_closed F b) op)
 
   do_op_keeps : (op : Operation) → Preserves In (do_op op)
   do_op_keeps op = keeps_seq In (in_filter (execute op)) nothing_more (execute_in op) (λ answer. keeps_ret In unit)
@@ -100,7 +99,7 @@ module _ (boxed given : ℕ) where
   listed_at key es s h =
       let f : Book → Book = with_seen_from s.filter.volume.next_item.0 es in
       let op : Operation = operation.Entries key (map new_item_of es) true in
-      (keeps_seq In (in_filter (execute_with f op)) (after_listing key) (part_keeps (execute_with f op) (execute_with_keeps (AreSpent boxed given) (spent_closed boxed given) f op)) (after_listing_keeps key)).keeps s h
+      (keeps_seq In (in_filter (execute_with f op)) (after_listing key) (part_keeps (execute_with f op) (execute_with_keeps (Holds F) (filter_closed F b) f op)) (after_listing_keeps key)).keeps s h
 
   -- requests for an ask, and what their replies do
 
@@ -196,10 +195,8 @@ module _ (boxed given : ℕ) where
 
   -- the callbacks of a call, and the call
 
-  pub pop : (a : Ask) (rest : List Ask) (s : State) → s.filter.outbox ≡ a ∷ rest → In s → In (with_outbox rest s)
-  pop a rest s e h = fewer (length rest) (boxed + s.filter.waiting.key_count) (subst (λ (os : List Ask). length os + given ≤ boxed + s.filter.waiting.key_count) e h) where
-    fewer : (l k : ℕ) → suc l + given ≤ k → l + given ≤ k
-    fewer l k h = omega (arith, h)
+  pop : (a : Ask) (rest : List Ask) (s : State) → s.filter.outbox ≡ a ∷ rest → In s → In (with_outbox rest s)
+  pop a rest s e h = b.pops a rest s.filter.waiting (subst (λ (o : List Ask). F o s.filter.waiting) e h)
 
   pub drained_keeps : (n : ℕ) → Preserves In (drained n)
   drained_keeps zero = record { keeps = λ s h. h }
@@ -209,64 +206,7 @@ module _ (boxed given : ℕ) where
     popped s h k [] e = h
     popped s h k (a ∷ rest) e = keeps_bind In (call_back a (with_outbox rest s)) (λ _ t. drained n t) ((call_back_keeps a).keeps (with_outbox rest s) (pop a rest s e h)) (λ u t j. k.keeps t j)
 
-  pub calling_keeps : (part : Arrow Filter Shown) → Preserves (AreSpent boxed given) part → Preserves In (calling part)
+  pub calling_keeps : (part : Arrow Filter Shown) → Preserves (Holds F) part → Preserves In (calling part)
   calling_keeps part k =
       keeps_seq In (in_filter part) finish_call (part_keeps part k)
       (λ answer. keeps_then In drain (in_filter (finish answer)) (drained_keeps most) (part_keeps (finish answer) (record { keeps = λ x h. h })))
-
--- all callbacks
-
--- what ends a tree that goes on
-pub ends_parts : {S A B : Type 0} (p : Tree S A) (g : A → S → Tree S B) (b : B) (t : S) → Ends (bind p g) b t → (a : A) × (m : S) × Ends p a m × Ends (g a m) b t
-ends_parts (Ret a s) g b t h = (a, s, (refl, refl), h)
-ends_parts (Step s p) g b t h = ends_parts p g b t h
-ends_parts (Fork p q) g b t (inl h) = let x = ends_parts p g b t h in (x.0, x.1, inl x.2, x.3)
-ends_parts (Fork p q) g b t (inr h) = let x = ends_parts q g b t h in (x.0, x.1, inr x.2, x.3)
-ends_parts (Asked k) g b t h = let x = ends_parts (k h.0) g b t h.1 in (x.0, x.1, (h.0, x.2), x.3)
-
--- none is left, or each of n calls has spent a key
-abbrev Called : ℕ → ℕ → ℕ → Filter → Type 0
-Called boxed given n x = (x.outbox ≡ []) ⊎ (length x.outbox + (given + n) ≤ boxed + x.waiting.key_count)
-
-one_called : (l given boxed k : ℕ) → suc l + given ≤ boxed + k → l + (given + 1) ≤ boxed + k
-one_called l given boxed k h = omega (arith, h)
-
-none_called : (l given boxed k : ℕ) → l + given ≤ boxed + k → l + (given + 0) ≤ boxed + k
-none_called l given boxed k h = omega (arith, h)
-
-called_more : (l given n r : ℕ) → l + (given + 1 + n) ≤ r → l + (given + suc n) ≤ r
-called_more l given n r h = omega (arith, h)
-
-pub drained_spends : (n boxed given : ℕ) (s t : State) (u : Unit {0}) → AreSpent boxed given s.filter → Ends (drained n s) u t → Called boxed given n t.filter
-drained_spends zero boxed given s t u h e = subst (λ (x : State). Called boxed given 0 x.filter) (sym e.1) (inr (none_called (length s.filter.outbox) given boxed s.filter.waiting.key_count h))
-drained_spends (suc n) boxed given s t u h e = by (λ x k i. drained_spends n boxed (given + 1) x t u k i) s.filter.outbox refl e where
-  more : Called boxed (given + 1) n t.filter → Called boxed given (suc n) t.filter
-  more (inl k) = inl k
-  more (inr k) = inr (called_more (length t.filter.outbox) given n (boxed + t.filter.waiting.key_count) k)
-
-  Rest : Type 0
-  Rest = (x : State) → AreSpent boxed (given + 1) x.filter → Ends (drained n x) u t → Called boxed (given + 1) n t.filter
-
-  by : Rest → (asks : List Ask) → s.filter.outbox ≡ asks → Ends (elim asks as (λ _. Tree State (Unit {0})) [ [] ↦ Ret (record {}) s | a ∷ rest ↦ bind (call_back a (with_outbox rest s)) (λ _ x. drained n x) ]) u t → Called boxed given (suc n) t.filter
-  by rest_of [] k i = subst (λ (x : State). Called boxed given (suc n) x.filter) (sym i.1) (inl k)
-  by rest_of (a ∷ rest) k i =
-      let called : AreSpent boxed (given + 1) (with_outbox rest s).filter = one_called (length rest) given boxed s.filter.waiting.key_count (subst (λ (os : List Ask). length os + given ≤ boxed + s.filter.waiting.key_count) k h) in
-      let x = ends_parts (call_back a (with_outbox rest s)) (λ _ y. drained n y) u t i in
-      more (rest_of x.1 (kept_at_end (λ (y : State). AreSpent boxed (given + 1) y.filter) (call_back a (with_outbox rest s)) x.0 x.1 ((call_back_keeps boxed (given + 1) a).keeps (with_outbox rest s) called) x.2) x.3)
-
-none_boxed : (asks : List Ask) → length asks ≤ 0 → asks ≡ []
-none_boxed [] h = refl
-none_boxed (a ∷ as') h = absurd (omega (arith, h))
-
-few : (l k n : ℕ) → k ≤ n → l + (0 + n) ≤ 0 + k → l ≤ 0
-few l k n within h = omega (arith, within, h)
-
-spent_first : (l k : ℕ) → l ≤ k → l + 0 ≤ 0 + k
-spent_first l k h = omega (arith, h)
-
--- where the epoch had keys for all
-pub none_left : (s t : State) (u : Unit {0}) → AreBoxedGiven s.filter → AreKeysWithin t.filter → Ends (drain s) u t → t.filter.outbox ≡ []
-none_left s t u boxed within e = by (drained_spends most 0 0 s t u (spent_first (length s.filter.outbox) s.filter.waiting.key_count boxed) e) where
-  by : Called 0 0 most t.filter → t.filter.outbox ≡ []
-  by (inl k) = k
-  by (inr k) = none_boxed t.filter.outbox (few (length t.filter.outbox) t.filter.waiting.key_count most within k)
