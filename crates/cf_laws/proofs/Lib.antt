@@ -66,3 +66,8 @@ pub mod OutboxFacts
 pub mod OutboxRuns
 pub mod SpentKeys
 pub mod OwnAsks
+pub mod OutboxMessages
+pub mod OutboxPeers
+pub mod OutboxStill
+pub mod CallbacksOver
+pub mod CallbacksBetween

@@ -1,5 +1,5 @@
 -- What a provider's acts keep of the callbacks that are still to be called and of what waits and is asked.
-use Rattle.std.proofs.Common.{◌≡◌, List, [], ◌∷◌, sym, subst}
+use Rattle.std.proofs.Common.{List, [], ◌∷◌, sym, subst}
 use Rattle.cf_model.specs.Arrows.{Preserves}
 use Rattle.cf_model.specs.Books.{Book}
 use Rattle.cf_model.specs.Operations.{execute_with}

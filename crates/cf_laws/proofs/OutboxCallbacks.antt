@@ -1,5 +1,5 @@
 -- What each part of a callback keeps of the callbacks that are still to be called and of what waits and is asked.
-use Rattle.std.proofs.Common.{◌≡◌, ◌≤◌, ◌+◌, ◌⊎◌, inl, inr, ℕ, zero, suc, Bool, true, false, List, [], ◌∷◌, refl, sym, subst, arith, length}
+use Rattle.std.proofs.Common.{◌≡◌, ℕ, zero, suc, Bool, true, false, List, [], ◌∷◌, refl, subst, length}
 use Rattle.std.specs.Prelude.{Option, Some, None, filter, map}
 use Rattle.cf_base.specs.Codes.{number_of}
 use Rattle.cf_base.specs.declared.answers.Shown.{Shown}
@@ -11,8 +11,6 @@ use Rattle.cf_base.specs.declared.messages.Entry.{Entry}
 use Rattle.cf_base.specs.declared.messages.Reply.{Reply}
 use Rattle.cf_base.specs.declared.messages.Reply.TheVariants as reply
 use Rattle.cf_base.specs.declared.messages.Request.{Request}
-use Rattle.cf_base.specs.declared.messages.Request.TheVariants as request
-use Rattle.cf_base.specs.declared.notices.Frame.{Frame}
 use Rattle.cf_base.specs.declared.notices.Frame.TheVariants as frame
 use Rattle.cf_base.specs.declared.operations.Operation.{Operation}
 use Rattle.cf_base.specs.declared.operations.Operation.TheVariants as operation
@@ -22,23 +20,23 @@ use Rattle.cf_base.specs.declared.spans.Span.{Span}
 use Rattle.cf_base.specs.declared.waits.Ask.{Ask}
 use Rattle.cf_base.specs.declared.waits.AskKind.{AskKind}
 use Rattle.cf_base.specs.declared.waits.AskKind.TheVariants as ask_kind
-use Rattle.cf_model.specs.Agents.{agent, agent_on, fetch_of, list_of}
-use Rattle.cf_model.specs.Arrows.{Arrow, Preserves, each, noted, then_do, unit}
+use Rattle.cf_model.specs.Agents.{agent_on, fetch_of, list_of}
+use Rattle.cf_model.specs.Arrows.{Arrow, Preserves, each, noted, unit}
 use Rattle.cf_model.specs.Books.{Book}
-use Rattle.cf_model.specs.Callbacks.{call_back, calling, carry_out, carry_out_all, drain, drained, finish, finish_call, mode_of, note_operation, plan_of, planned_on, provider, provider_on, scripted, with_operation_told, with_outbox, without_plan}
-use Rattle.cf_model.specs.Fetching.{after_listing, after_transfer, do_op, list_new, live_ask, is_new, new_item_of, no_entries, nothing_more, refuse_by_kind, refuse_for, refuse_live, span_at, take_bytes, take_gone, take_listing, take_missing, with_seen_from}
+use Rattle.cf_model.specs.Callbacks.{call_back, calling, carry_out, carry_out_all, drain, drained, finish, finish_call, mode_of, note_operation, plan_of, planned_on, provider_on, with_operation_told, with_outbox, without_plan}
+use Rattle.cf_model.specs.Fetching.{after_listing, after_transfer, do_op, list_new, live_ask, is_new, new_item_of, no_entries, nothing_more, refuse_by_kind, refuse_for, refuse_live, span_at, take_bytes, with_seen_from}
 use Rattle.cf_model.specs.Items.{Item, item_of}
-use Rattle.cf_model.specs.Messages.{act_on, act_unless, after_post, answered, ask, come, come_if, come_now, failed, fault_line, if_kept, is_inline, is_stale, no_bytes, no_number, post, post_by, post_unless, send_now, take_if_any, take_reply, was_kept, with_lost, with_message}
+use Rattle.cf_model.specs.Messages.{act_on, act_unless, after_post, come, come_if, is_inline, is_stale, post, send_now, take_if_any, take_reply}
 use Rattle.cf_model.specs.Numbers.{most}
 use Rattle.cf_model.specs.Operations.{execute, execute_with}
 use Rattle.cf_model.specs.Requests.{Live}
-use Rattle.cf_model.specs.Skips.{skip, skip_line, skipped}
+use Rattle.cf_model.specs.Skips.{skip}
 use Rattle.cf_model.specs.State.{Filter, State, in_filter, items_now, with_filter}
-use Rattle.cf_model.specs.Trees.{Asked, Ends, Fork, Keeps, Ret, Step, Tree, bind}
-use Rattle.cf_model.proofs.ArrowLaws.{keeps_each, keeps_lifted, keeps_noted, keeps_one, keeps_reading, keeps_ret, keeps_seq, keeps_then}
-use Rattle.cf_model.proofs.MessagesKeep.{asked_keeps}
+use Rattle.cf_model.specs.Trees.{Keeps, Ret, Tree, bind}
+use Rattle.cf_model.proofs.ArrowLaws.{keeps_each, keeps_lifted, keeps_noted, keeps_reading, keeps_ret, keeps_seq, keeps_then}
 use Rattle.cf_model.proofs.OperationsKeep.{execute_keeps, execute_with_keeps}
-use Rattle.cf_model.proofs.TreeLaws.{keeps_bind, kept_at_end}
+use Rattle.cf_model.proofs.TreeLaws.{keeps_bind}
+use Rattle.cf_laws.proofs.OutboxMessages.{come_keeps, post_keeps, skip_keeps}
 use Rattle.cf_laws.proofs.OutboxFacts.{Boxing, Fact, Holds, filter_closed}
 
 module _ (F : Fact) (b : Boxing F) where
@@ -50,13 +48,6 @@ module _ (F : Fact) (b : Boxing F) where
 
   -- operations
 
-  line_keeps : (shows : Bool) (c : Code) (s : State) → In s → In (skip_line shows c s)
-  line_keeps true c s h = h
-  line_keeps false c s h = h
-
-  skip_keeps : (c : Code) → Preserves In (skip c)
-  skip_keeps c = keeps_noted In (skipped c) (λ s h. line_keeps s.running.shows_skips c (record s { running = record s.running { skips = s.running.skips + 1 } }) h)
-
   execute_in : (op : Operation) → Preserves In (in_filter (execute op))
   execute_in op = part_keeps (execute op) (execute_keeps (Holds F) (filter_closed F b) op)
 
@@ -64,13 +55,13 @@ module _ (F : Fact) (b : Boxing F) where
   do_op_keeps op = keeps_seq In (in_filter (execute op)) nothing_more (execute_in op) (λ answer. keeps_ret In unit)
 
   refuse_for_keeps : (key : Key) (span : Span) (c : Code) → Preserves In (refuse_for key span c)
-  refuse_for_keeps key span c = keeps_then In (skip c) (do_op (operation.Refuse key span (number_of c))) (skip_keeps c) (do_op_keeps (operation.Refuse key span (number_of c)))
+  refuse_for_keeps key span c = keeps_then In (skip c) (do_op (operation.Refuse key span (number_of c))) (skip_keeps (λ p. F) c) (do_op_keeps (operation.Refuse key span (number_of c)))
 
   after_transfer_keeps : (key : Key) (span : Span) (answer : Shown) → Preserves In (after_transfer key span answer)
   after_transfer_keeps key span (shown.Refused code.Full) = refuse_for_keeps key span code.Full
   after_transfer_keeps key span (shown.Refused code.TableFull) = refuse_for_keeps key span code.TableFull
-  after_transfer_keeps key span (shown.Refused code.TooManyAsks) = skip_keeps code.TooManyAsks
-  after_transfer_keeps key span (shown.Refused code.Exhausted) = skip_keeps code.Exhausted
+  after_transfer_keeps key span (shown.Refused code.TooManyAsks) = skip_keeps (λ p. F) code.TooManyAsks
+  after_transfer_keeps key span (shown.Refused code.Exhausted) = skip_keeps (λ p. F) code.Exhausted
   after_transfer_keeps key span _ = keeps_ret In unit
 
   take_bytes_keeps : (key : Key) (start : ℕ) (bytes : List ℕ) → Preserves In (take_bytes key start bytes)
@@ -88,10 +79,10 @@ module _ (F : Fact) (b : Boxing F) where
   refuse_live_keeps status (Some a) = refuse_by_kind_keeps a.ask.kind a status
 
   after_listing_keeps : (key : Key) (answer : Shown) → Preserves In (after_listing key answer)
-  after_listing_keeps key (shown.Refused code.TableFull) = skip_keeps code.TableFull
-  after_listing_keeps key (shown.Refused code.TooManyAsks) = skip_keeps code.TooManyAsks
-  after_listing_keeps key (shown.Refused code.Exhausted) = skip_keeps code.Exhausted
-  after_listing_keeps key (shown.Refused code.TooDeep) = keeps_then In (skip code.TooDeep) (no_entries key) (skip_keeps code.TooDeep) (do_op_keeps (operation.Entries key [] false))
+  after_listing_keeps key (shown.Refused code.TableFull) = skip_keeps (λ p. F) code.TableFull
+  after_listing_keeps key (shown.Refused code.TooManyAsks) = skip_keeps (λ p. F) code.TooManyAsks
+  after_listing_keeps key (shown.Refused code.Exhausted) = skip_keeps (λ p. F) code.Exhausted
+  after_listing_keeps key (shown.Refused code.TooDeep) = keeps_then In (skip code.TooDeep) (no_entries key) (skip_keeps (λ p. F) code.TooDeep) (do_op_keeps (operation.Entries key [] false))
   after_listing_keeps key (shown.Refused c) = do_op_keeps (operation.Entries key [] false)
   after_listing_keeps key _ = keeps_ret In unit
 
@@ -102,28 +93,6 @@ module _ (F : Fact) (b : Boxing F) where
       (keeps_seq In (in_filter (execute_with f op)) (after_listing key) (part_keeps (execute_with f op) (execute_with_keeps (Holds F) (filter_closed F b) f op)) (after_listing_keeps key)).keeps s h
 
   -- requests for an ask, and what their replies do
-
-  post_by_keeps : (f : Frame) (full : Bool) → Preserves In (post_by f full)
-  post_by_keeps f true = keeps_seq In _ (was_kept false) (keeps_one In (with_lost f) (λ s h. h)) (λ u. keeps_ret In false)
-  post_by_keeps f false = keeps_seq In _ (was_kept true) (keeps_one In (with_message f) (λ s h. h)) (λ u. keeps_ret In true)
-
-  post_unless_keeps : (f : Frame) (none : Bool) → Preserves In (post_unless f none)
-  post_unless_keeps f true = keeps_ret In false
-  post_unless_keeps f false = keeps_reading In (no_bytes f) (post_by f) (post_by_keeps f)
-
-  post_keeps : (f : Frame) → Preserves In (post f)
-  post_keeps f = keeps_reading In no_number (post_unless f) (post_unless_keeps f)
-
-  if_kept_keeps : (r : Reply) (kept : Bool) → Preserves In (if_kept r kept)
-  if_kept_keeps r true = keeps_ret In (Some r)
-  if_kept_keeps r false = keeps_ret In None
-
-  answered_keeps : (m : ℕ) (r : Option Reply) → Preserves In (answered m r)
-  answered_keeps m None = keeps_seq In _ failed (keeps_one In (fault_line m) (λ s h. h)) (λ u. keeps_ret In None)
-  answered_keeps m (Some r) = keeps_seq In (post (frame.Reply m r)) (if_kept r) (post_keeps (frame.Reply m r)) (if_kept_keeps r)
-
-  come_keeps : (m : ℕ) (q : Request) → Preserves In (come m q)
-  come_keeps m q = keeps_seq In (ask q) (answered m) (asked_keeps In (λ s h. h) (λ held s h. h) (λ s h. h) q) (answered_keeps m)
 
   -- a reply that does not fit its request does nothing
   abbrev Fitting : Request → Type 0
@@ -140,7 +109,7 @@ module _ (F : Fact) (b : Boxing F) where
   if_any_keeps q k (Some r) = reply_keeps q k r
 
   come_if_keeps : (q : Request) → Fitting q → (inline : Bool) → Preserves In (come_if q inline)
-  come_if_keeps q k true = record { keeps = λ s h. (keeps_seq In (come (length s.link.messages) q) (take_if_any q) (come_keeps (length s.link.messages) q) (if_any_keeps q k)).keeps s h }
+  come_if_keeps q k true = record { keeps = λ s h. (keeps_seq In (come (length s.link.messages) q) (take_if_any q) (come_keeps (λ p. F) (length s.link.messages) q) (if_any_keeps q k)).keeps s h }
   come_if_keeps q k false = keeps_ret In unit
 
   after_post_keeps : (q : Request) → Fitting q → (kept : Bool) → Preserves In (after_post q kept)
@@ -148,7 +117,7 @@ module _ (F : Fact) (b : Boxing F) where
   after_post_keeps q k false = keeps_ret In unit
 
   send_keeps : (q : Request) → Fitting q → Preserves In (send_now q)
-  send_keeps q k = keeps_seq In (post (frame.Request q)) (after_post q) (post_keeps (frame.Request q)) (after_post_keeps q k)
+  send_keeps q k = keeps_seq In (post (frame.Request q)) (after_post q) (post_keeps (λ p. F) (frame.Request q)) (after_post_keeps q k)
 
   fetched : (a : Ask) (i : Item) → Fitting (fetch_of a i)
   fetched a i (reply.Feed round clock es) s e h = let z : true ≡ false = e in cc

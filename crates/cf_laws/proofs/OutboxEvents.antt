@@ -11,14 +11,13 @@ use Rattle.cf_base.specs.declared.events.ProviderEvent.TheVariants as provider
 use Rattle.cf_base.specs.declared.policies.Mode.{Mode}
 use Rattle.cf_base.specs.declared.policies.Mode.TheVariants as mode
 use Rattle.cf_model.specs.Arrows.{noted, ret}
-use Rattle.cf_model.specs.Callbacks.{mode_of}
 use Rattle.cf_model.specs.Calls.{delete, df, flush, info, open_file, ranges, rename, set_pin, set_policy, set_size, used, write}
 use Rattle.cf_model.specs.Placements.{convert, create, keep_full, mark, revert, unmark, update}
 use Rattle.cf_model.specs.Dehydration.{dehydrate}
 use Rattle.cf_model.specs.Missing.{span_of}
 use Rattle.cf_model.specs.Operations.{execute}
 use Rattle.cf_model.specs.Plans.{NewDir, NewFile, NewPlaceholder, NewPlaceholderDir}
-use Rattle.cf_model.specs.State.{Filter, State, with_filter}
+use Rattle.cf_model.specs.State.{State}
 use Rattle.cf_model.specs.Waits.{cancel, close, connect, get, hydrate, list, read, tick}
 use Rattle.cf_model.proofs.CallsKeep as calls_keep
 use Rattle.cf_model.proofs.DehydrationKeep as dehydration_keep
@@ -26,12 +25,12 @@ use Rattle.cf_model.proofs.OperationsKeep as operations_keep
 use Rattle.cf_model.proofs.PlacementsKeep as placements_keep
 use Rattle.cf_model.proofs.WaitsKeep as waits_keep
 use Rattle.cf_model.specs.Arrows.{Preserves}
-use Rattle.std.proofs.Common.{◌≡◌, ◌≤◌, ◌+◌, ℕ, Bool, true, false, List, [], ◌∷◌, refl, sym, subst, arith, length}
+use Rattle.std.proofs.Common.{◌≡◌, true, List, [], ◌∷◌, sym, subst}
 use Rattle.std.specs.Prelude.{Option, Some, None}
 use Rattle.cf_base.specs.declared.answers.Answer.{Answer}
 use Rattle.cf_base.specs.declared.answers.Shown.{Shown}
 use Rattle.cf_base.specs.declared.codes.Code.{Code}
-use Rattle.cf_model.specs.Events.{answered, begun, broken, call_in, choices_in, device_event, event_now, is_of, may_stop, needs_volume, no_volume, outcome, provider_event, tree_of, with_planned}
+use Rattle.cf_model.specs.Events.{answered, begun, call_in, choices_in, device_event, event_now, is_of, may_stop, needs_volume, no_volume, outcome, provider_event, tree_of, with_planned}
 use Rattle.cf_model.specs.Lawful.{Runs}
 use Rattle.cf_model.specs.Restarts.{epoch_after, restart_by}
 use Rattle.cf_model.specs.Trees.{Choices, play}

@@ -9,7 +9,7 @@ use Rattle.cf_base.specs.declared.waits.Ask.{Ask}
 use Rattle.cf_base.specs.declared.waits.Cause.{Cause}
 use Rattle.cf_base.specs.declared.waits.Cause.TheVariants as cause
 use Rattle.cf_base.specs.declared.waits.End.{End}
-use Rattle.cf_model.specs.Arrows.{Preserves, each, then_do}
+use Rattle.cf_model.specs.Arrows.{Preserves, each, reading, then_do}
 use Rattle.cf_model.specs.Asks.{downed, step_of}
 use Rattle.cf_model.specs.Books.{Book}
 use Rattle.cf_model.specs.Changes.{apply, change_with, may_need_room, put_after_room, put_now, tell_change}
@@ -95,7 +95,7 @@ module _ (F : Fact) where
       keeps_either (InVolume x) (put_now f c) (then_do commit_for_room (put_now f c)) (record { keeps = λ v h. (h, h) })
       (keeps_then (InVolume x) commit_for_room (put_now f c) (record { keeps = λ v h. (h, h) }) (record { keeps = λ v h. (h, h) }))
 
-  change_keeps : (f : Book → Book) (c : Change) → Preserves (Holds F) (change_with f c)
+  pub change_keeps : (f : Book → Book) (c : Change) → Preserves (Holds F) (change_with f c)
   change_keeps f c =
       keeps_seq (Holds F) (in_volume (apply f c)) (tell_change c)
       (keeps_lifted (Holds F) (λ x. x.volume) with_volume (apply f c) (λ x h. h)
@@ -106,6 +106,13 @@ module _ (F : Fact) where
   accessed_keeps item true x h = h
   accessed_keeps item false x h = h
 
+  pub downs_keep : ((o : List Ask) (w : Waiting) → F o w → F o (downed w).1) → Preserves (Holds F) (reading all_down tell)
+  downs_keep downs = record {
+    keeps = λ x h.
+        let k : F x.outbox (downed x.waiting).1 = downs x.outbox x.waiting h in
+        told_keeps x (all_down x) k (subst (λ (o : List Ask). F o (downed x.waiting).1) (sym (append-nil x.outbox)) k);
+  }
+
   module _ (b : Boxing F) where
     settled_keeps : (item : ItemId) (d : Deed) (x : Filter) → Holds F x → Keeps (Holds F) (tell (told_at item d x) x)
     settled_keeps item d x h = let k = b.steps x.outbox x.waiting item (view_at x item) d h in told_keeps x (told_at item d x) k.0 k.1
@@ -115,18 +122,13 @@ module _ (F : Fact) where
         let k = b.steps x.outbox (with_new_waits n x) n.item (view_at x n.item) Nothing (b.begins x.outbox x.waiting (wait_for n x ∷ beside n x) h) in
         told_keeps (with_own n x) (begun n x) k.0 k.1
 
-    downed_keeps : (x : Filter) → Holds F x → Keeps (Holds F) (tell (all_down x) x)
-    downed_keeps x h =
-        let k : F x.outbox (downed x.waiting).1 = b.downs x.outbox x.waiting h in
-        told_keeps x (all_down x) k (subst (λ (o : List Ask). F o (downed x.waiting).1) (sym (append-nil x.outbox)) k)
-
     pub filter_closed : ClosedFilter (Holds F)
     filter_closed = record {
       change = change_keeps;
       commits = record { keeps = λ x h. (h, h) };
       settled = λ item d. record { keeps = λ x h. settled_keeps item d x h };
       begins = λ n. record { keeps = λ x h. keeps_bind (Holds F) (tell (begun n x) (with_own n x)) (λ _ t. Ret (shown.Pending (own_id n x)) t) (begun_keeps n x h) (λ a t j. j) };
-      downs = record { keeps = λ x h. downed_keeps x h };
+      downs = downs_keep b.downs;
       keeps_begin_call = λ x h. h;
       keeps_with_handle = λ item x h. h;
       keeps_with_policy = λ p x h. h;

@@ -1,6 +1,6 @@
 -- What each state of a run keeps of the callbacks that are still to be called and of what waits and is asked: in `replay` beside a
 -- property of the machine.
-use Rattle.std.proofs.Common.{◌≡◌, ◌≤◌, ◌+◌, ℕ, Bool, true, false, List, [], ◌∷◌, refl, subst, arith, length}
+use Rattle.std.proofs.Common.{◌≡◌, ◌+◌, ℕ, Bool, true, false, List, [], refl, subst}
 use Rattle.cf_base.specs.declared.answers.Answer.{Answer}
 use Rattle.cf_base.specs.declared.changes.Change.TheVariants as change
 use Rattle.cf_base.specs.declared.codes.Code.{Code}
@@ -10,7 +10,7 @@ use Rattle.cf_base.specs.declared.policies.Mode.TheVariants as mode
 use Rattle.cf_base.specs.declared.waits.Ask.{Ask}
 use Rattle.cf_model.specs.Arrows.{reading, then_do}
 use Rattle.cf_model.specs.Changes.{change_with}
-use Rattle.cf_model.specs.Events.{begun, event_now, is_of, tree_of}
+use Rattle.cf_model.specs.Events.{begun, is_of, tree_of}
 use Rattle.cf_model.specs.Lawful.{Runs}
 use Rattle.cf_model.specs.Operations.{done}
 use Rattle.cf_model.specs.Points.{commit}
@@ -21,12 +21,12 @@ use Rattle.cf_model.specs.State.{Filter, Link, State, in_volume, start, with_fil
 use Rattle.cf_model.specs.Store.{Held}
 use Rattle.cf_model.specs.Trees.{Keeps}
 use Rattle.cf_model.specs.Waits.{all_down, begin_now, begun as wait_begun}
-use Rattle.cf_model.proofs.ArrowLaws.{keeps_ret, keeps_then}
+use Rattle.cf_model.proofs.ArrowLaws.{keeps_then}
 use Rattle.cf_laws.specs.Invariant.{Invariant}
 use Rattle.cf_laws.specs.Premises.{IsFresh}
 use Rattle.cf_laws.proofs.ContentLaws.{keeps_weaker, run_sound, sound_whole}
 use Rattle.cf_laws.proofs.EventsGuarded.{Whole, event_now_keeps, runs_keep}
-use Rattle.cf_laws.proofs.Guarded.{Entering, Guarded, GuardedFilter}
+use Rattle.cf_laws.proofs.Guarded.{Guarded, GuardedFilter}
 use Rattle.cf_laws.proofs.SkipsGuarded.{keeps_both}
 use Rattle.cf_laws.proofs.OutboxEvents.{filter_event_keeps, filter_runs_keep}
 use Rattle.cf_laws.proofs.OutboxFacts.{BoxingRuns, Fact, Holds, filter_closed}
@@ -109,14 +109,14 @@ module _ (F : Fact) (b : BoxingRuns F) where
 
   -- in both modes
 
-  abbrev Kept : State → Type 0
+  abbrev pub Kept : State → Type 0
   Kept s = Invariant s × In s
 
-  kept_whole : Whole Kept
+  pub kept_whole : Whole Kept
   kept_whole = whole_beside Invariant sound_whole
 
   -- `replay`, with the invariant
-  run_kept : (remote : Held) (clusters : ℕ) (trace : List (Event × Answer)) (s : State) → Runs mode.Replay (start mode.Replay remote clusters) trace s → IsFresh remote → Kept s
+  pub run_kept : (remote : Held) (clusters : ℕ) (trace : List (Event × Answer)) (s : State) → Runs mode.Replay (start mode.Replay remote clusters) trace s → IsFresh remote → Kept s
   run_kept remote clusters trace s runs fresh =
       runs_keep Kept kept_whole (start mode.Replay remote clusters) trace s runs (run_sound remote clusters [] (start mode.Replay remote clusters) refl fresh, b.opens 1)
 

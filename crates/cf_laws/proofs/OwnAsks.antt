@@ -1,6 +1,6 @@
 -- A callback is of a live ask that has its key, if one has.
-use Rattle.std.proofs.Common.{◌≡◌, ◌≤◌, ◌<◌, ◌+◌, ℕ, suc, Bool, true, false, not, List, [], ◌∷◌, ◌++◌, refl, sym, ◌∙◌, ap, subst, arith, length}
-use Rattle.std.specs.Prelude.{Option, Some, filter, map, ◌&&◌, ◌==◌}
+use Rattle.std.proofs.Common.{◌≡◌, ◌≤◌, ◌<◌, ◌+◌, ℕ, suc, Bool, true, false, not, List, [], ◌∷◌, ◌++◌, refl, sym, subst, arith, length}
+use Rattle.std.specs.Prelude.{Some, filter, map, ◌&&◌, ◌==◌}
 use Rattle.std.proofs.lemmas.Bool.{eqb-true}
 use Rattle.cf_base.specs.declared.answers.Answer.{Answer}
 use Rattle.cf_base.specs.declared.events.Event.{Event}
@@ -8,10 +8,7 @@ use Rattle.cf_base.specs.declared.ids.ItemId.{ItemId}
 use Rattle.cf_base.specs.declared.ids.Key.{Key}
 use Rattle.cf_base.specs.declared.policies.Mode.{Mode}
 use Rattle.cf_base.specs.declared.waits.Ask.{Ask}
-use Rattle.cf_base.specs.declared.waits.Cause.{Cause}
-use Rattle.cf_model.specs.Arrows.{Preserves}
 use Rattle.cf_model.specs.Asks.{after_deed, is_cancelled, is_over, left_of, new_asks, step_of, why, with_keys}
-use Rattle.cf_model.specs.Books.{Book}
 use Rattle.cf_model.specs.Events.{is_of, tree_of}
 use Rattle.cf_model.specs.Lawful.{Runs}
 use Rattle.cf_model.specs.Missing.{View, Wait}
@@ -24,10 +21,9 @@ use Rattle.cf_model.specs.Trees.{Keeps}
 use Rattle.cf_laws.specs.Invariant.{All}
 use Rattle.cf_laws.specs.Keys.{AreBoxedOwn, AreKeysOwn, AreLiveOwn}
 use Rattle.cf_laws.specs.Premises.{IsFresh}
-use Rattle.cf_laws.proofs.ContentLaws.{keeps_weaker}
 use Rattle.cf_laws.proofs.Gathered.{all_append, all_both, all_filter, all_found, all_map, all_weaker}
 use Rattle.cf_laws.proofs.OutboxActs.{acts_keep}
-use Rattle.cf_laws.proofs.OutboxFacts.{Boxing, BoxingRuns, Fact, Holds}
+use Rattle.cf_laws.proofs.OutboxFacts.{Boxing, BoxingRuns, Fact}
 use Rattle.cf_laws.proofs.OutboxRuns.{event_holds, run_holds}
 use Rattle.cf_laws.proofs.SoundSettles.{deed_ask}
 

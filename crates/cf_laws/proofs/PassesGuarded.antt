@@ -40,7 +40,7 @@ use Rattle.cf_laws.proofs.Leading.{kept_leads, leads_bind, leads_kept}
 use Rattle.cf_laws.proofs.MessagesGuarded.{Come, ToldAt, acts_at, come_led, send_now_at}
 use Rattle.cf_laws.proofs.SkipsGuarded.{Whichever, guarded_skipping, tried_at}
 
-sound_of : (P : State → Type 0) → Guarded P → (s : State) → P s → IsFair s.link → IsSound s.link s.volatile.tokens s.filter
+pub sound_of : (P : State → Type 0) → Guarded P → (s : State) → P s → IsFair s.link → IsSound s.link s.volatile.tokens s.filter
 sound_of P closed s h fair = (closed.on_filter s h).sound s.filter h fair
 
 -- requests that say nothing of uploads
@@ -131,7 +131,7 @@ arrive_frame_at P closed m (Some (frame.Request q)) s at h = kept_leads P (seq (
 arrive_frame_at P closed m (Some (frame.Reply answers r)) s at h = h
 arrive_frame_at P closed m None s at h = h
 
-is_message : (s : State) (m : ℕ) → message_in s.link.messages m ≡ message_at s m
+pub is_message : (s : State) (m : ℕ) → message_in s.link.messages m ≡ message_at s m
 is_message s zero = refl
 is_message s (suc n) = refl
 
@@ -151,7 +151,7 @@ same_request : (a b : Request) → ◌≡◌ {A = Option Frame} (Some (frame.Req
 same_request a b e = cc
 
 -- a reply among the messages tells the truth on its request
-told_by : (s : State) (m answers : ℕ) (q : Request) (r : Reply) → IsSound s.link s.volatile.tokens s.filter → message_in s.link.messages m ≡ Some (frame.Reply answers r) → message_in s.link.messages answers ≡ Some (frame.Request q) → ToldAt s answers q r
+pub told_by : (s : State) (m answers : ℕ) (q : Request) (r : Reply) → IsSound s.link s.volatile.tokens s.filter → message_in s.link.messages m ≡ Some (frame.Reply answers r) → message_in s.link.messages answers ≡ Some (frame.Request q) → ToldAt s answers q r
 told_by s m answers q r sound at asked =
     let k : IsMessageRight s.link.remote s.link.messages s.filter.volume.epoch s.filter.waiting.key_count s.volatile.tokens (Some (frame.Reply answers r)) =
     one_message (IsMessageRight s.link.remote s.link.messages s.filter.volume.epoch s.filter.waiting.key_count s.volatile.tokens) s.link.messages m (frame.Reply answers r) sound.messages at in

@@ -12,7 +12,7 @@ use Rattle.cf_model.specs.Events.{is_of, tree_of}
 use Rattle.cf_model.specs.Lawful.{Runs}
 use Rattle.cf_model.specs.Numbers.{most}
 use Rattle.cf_model.specs.Ports.{Act, Acts}
-use Rattle.cf_model.specs.Requests.{Live, Waiting}
+use Rattle.cf_model.specs.Requests.{Live}
 use Rattle.cf_model.specs.State.{Filter, State, start}
 use Rattle.cf_model.specs.Store.{Held}
 use Rattle.cf_model.specs.Trees.{Asked, Ends, Fork, Keeps, Ret, Step, Tree, bind}
@@ -134,7 +134,7 @@ acts_leave acts s t a within = left most s.waiting.key_count (length t.outbox) (
 first_given : (n k : ℕ) → n + 0 ≤ 0 + k → n ≤ k
 first_given n k h = omega (arith, h)
 
-of_spent : (s : State) → Holds (Spent 0 0) s.filter → AreBoxedGiven s.filter
+pub of_spent : (s : State) → Holds (Spent 0 0) s.filter → AreBoxedGiven s.filter
 of_spent s h = first_given (length s.filter.outbox) s.filter.waiting.key_count h
 
 pub run_boxed : (m : Mode) (remote : Held) (clusters : ℕ) (trace : List (Event × Answer)) (s : State) → Runs m (start m remote clusters) trace s → IsFresh remote → AreBoxedGiven s.filter

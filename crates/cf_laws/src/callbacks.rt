@@ -12,7 +12,7 @@ ghost use Rattle.cf_model.specs.Events.{is_of, tree_of};
 ghost use Rattle.cf_model.specs.Lawful.{Runs};
 ghost use Rattle.cf_model.specs.Ports.{Act, Acts};
 ghost use Rattle.cf_model.specs.Requests.{Waiting};
-ghost use Rattle.cf_model.specs.State.{Filter, State, start};
+ghost use Rattle.cf_model.specs.State.{Filter, On, State, start};
 ghost use Rattle.cf_model.specs.Store.{Held};
 ghost use Rattle.cf_model.specs.Trees.{Ends, Keeps};
 
@@ -24,19 +24,19 @@ pub fn each_callback_spends_a_key()
 {}
 
 /// In each state of a run, and in each that an event of it goes through, no more callbacks are still to be called than the
-/// epoch has given keys. So once callbacks are over none is left, where the epoch gave no key past the greatest: there are
-/// no more of them than keys.
-#[tactic(auto, using(crate::proofs::SpentKeys::run_boxed, crate::proofs::SpentKeys::event_boxed, crate::proofs::SpentKeys::none_left))]
+/// epoch has given keys. So none is left once they are over, from any such state, nor between events while the volume is on:
+/// where the epoch gave no key past the greatest.
 pub fn no_callback_is_left()
     ensures boxed { (m : Mode) (remote : Held) (clusters : ℕ) (trace : List (Event × Answer)) (s : State) → Runs m (start m remote clusters) trace s → IsFresh remote → AreBoxedGiven s.filter }
     ensures during { (m : Mode) (remote : Held) (clusters : ℕ) (trace : List (Event × Answer)) (s : State) (e : Event)
         → Runs m (start m remote clusters) trace s → IsFresh remote → is_of m e ≡ true → Keeps (λ t. AreBoxedGiven t.filter) (tree_of e s) }
     ensures over { (s t : State) (u : Unit {0}) → AreBoxedGiven s.filter → AreKeysWithin t.filter → Ends (drain s) u t → t.filter.outbox ≡ [] }
+    ensures between { (m : Mode) (remote : Held) (clusters : ℕ) (trace : List (Event × Answer)) (s : State)
+        → Runs m (start m remote clusters) trace s → IsFresh remote → s.power ≡ On → AreKeysWithin s.filter → s.filter.outbox ≡ [] }
 {}
 
 /// A callback is of the live ask that has its key, if one has: so it is in each state of a run and in each that an event of it
 /// goes through, and stays so, of the callback that is called too, whatever its provider does.
-#[tactic(auto, using(crate::proofs::OwnAsks::run_own, crate::proofs::OwnAsks::event_own, crate::proofs::OwnAsks::acts_own, crate::proofs::OwnAsks::own_live))]
 pub fn a_callback_is_of_its_live_ask()
     ensures own { (m : Mode) (remote : Held) (clusters : ℕ) (trace : List (Event × Answer)) (s : State) → Runs m (start m remote clusters) trace s → IsFresh remote → AreBoxedOwn s.filter }
     ensures during { (m : Mode) (remote : Held) (clusters : ℕ) (trace : List (Event × Answer)) (s : State) (e : Event)
