@@ -1,0 +1,88 @@
+-- What a program has of the link, how that stands for the link of the definitions, and what its calls do.
+use Rattle.std.specs.Prelude.{◌≡◌, ◌⊎◌, ℕ, ◌≤◌, Bool, true, List, [], ◌∷◌, ◌++◌, length, Option, Some, None, Result, Ok, Err}
+use Rattle.cf_base.specs.declared.answers.Shown.TheVariants as shown
+use Rattle.cf_base.specs.declared.codes.Code.TheVariants as code
+use Rattle.cf_base.specs.declared.codes.Fail.{Fail}
+use Rattle.cf_base.specs.declared.codes.Fail.TheVariants.{No, Memory}
+use Rattle.cf_base.specs.declared.notices.Frame.{Frame}
+use Rattle.cf_base.specs.declared.notices.Notice.{Notice}
+use Rattle.cf_base.specs.declared.notices.Notice.TheVariants as notice
+use Rattle.cf_link.specs.declared.delivering.Replied.{Replied}
+use Rattle.cf_link.specs.declared.posting.Posted.{Posted}
+use Rattle.cf_model.specs.Arrows.{Arrow}
+use Rattle.cf_model.specs.Messages.{is_stale, post}
+use Rattle.cf_model.specs.Passes.{arrive, deliver_now, deliver_unless}
+use Rattle.cf_model.specs.State.{Link, State, note, with_link}
+use Rattle.cf_model.specs.Trees.{Ret}
+use Rattle.cf_remote.specs.Peers.{Begins, IsCount, IsHeld, Leads}
+use Rattle.cf_remote.specs.Told.{Told, counted}
+use Rattle.cf_wire.specs.Sending.{IsNet, Kept, sending}
+use Rattle.cf_wire.specs.declared.messages.Message.{Message}
+
+-- the messages by number, the remote, and whether requests come to it and replies are delivered at once
+pub record Linked (R : Type 0) : Type 0 where
+  pub net : Kept
+  pub remote : R
+  pub inline : Bool
+
+-- the link of the definitions has the same messages, and what this remote tells
+pub record IsLink {R : Type 0} (told : R → Told) (l : Linked R) (link : Link) : Type 0 where
+  pub net : IsNet l.net link
+  pub held : IsHeld (told l.remote).held link.remote
+  pub asks : IsCount (told l.remote).asks link.remote_asks
+  pub inline : l.inline ≡ link.inline
+
+-- lines
+
+-- the state with this line at the end of its notes, where there is one
+abbrev pub with_line : Option Notice → State → State
+with_line None s = s
+with_line (Some n) s = note n s
+
+abbrev pub lines_of : Option Notice → List Notice
+lines_of None = []
+lines_of (Some n) = n ∷ []
+
+-- the remote's count of faults never falls, and rose where the line tells of one
+abbrev pub Rises : Option Notice → ℕ → ℕ → Type 0
+Rises (Some (notice.Fault m)) old new = counted old ≤ new
+Rises _ old new = old ≤ new
+
+-- parts of an event
+
+-- From this state on the part may end with this result, in a state that differs by this line, and by a link for which that of the
+-- program stands. Its asks are those that led the remote from old to new.
+pub record Ended {R A : Type 0} (told : R → Told) (f : Arrow State A) (s : State) (old : Linked R) (a : A) (line : Option Notice) (new : Linked R) : Type 0 where
+  pub link : Link
+  pub leads : Leads (f s) (told old.remote) a (with_line line (with_link link s)) (told new.remote)
+  pub stands : IsLink told new link
+
+-- so it is from each state for whose link that of the program stands
+pub record Does {R A : Type 0} (told : R → Told) (f : Arrow State A) (old : Linked R) (a : A) (line : Option Notice) (new : Linked R) : Type 0 where
+  pub ends : (s : State) → IsLink told old s.link → Ended told f s old a line new
+
+-- The message is posted. One that is kept has the number of the last message.
+pub record Posts {R : Type 0} (told : R → Told) (f : Frame) (old : Linked R) (p : Posted) (new : Linked R) : Type 0 where
+  pub ends : (s : State) → IsLink told old s.link → (e : Ended told (post f) s old p.kept p.line new) × (p.kept ≡ true → p.number ≡ length e.link.messages)
+
+-- memory ran out in the part: it was begun, and the first of its asks were made, or none
+pub record Stopped {R A : Type 0} (told : R → Told) (f : Arrow State A) (old new : Linked R) : Type 0 where
+  pub begins : (s : State) → IsLink told old s.link → Begins (f s) (told old.remote) (told new.remote)
+
+-- one message more was sent, at most
+abbrev pub Grows : Kept → Kept → Type 0
+Grows old new = (new ≡ old) ⊎ ((m : Message) × (new ≡ (sending m old).1))
+
+-- messages by hand
+
+abbrev pub Arrives : {R : Type 0} → (R → Told) → ℕ → Linked R → List Notice → Result (Unit {0}) Fail → Linked R → List Notice → Type 0
+Arrives told m old notes (Ok u) new after =
+    (line : Option Notice) × (after ≡ notes ++ lines_of line) × Does told (arrive m) old shown.Done line new × Rises line (told old.remote).faults (told new.remote).faults
+Arrives told m old notes (Err (No c)) new after = (c ≡ code.NoMessage) × (after ≡ notes) × (new ≡ old) × Does told (arrive m) old (shown.Refused c) None new
+Arrives told m old notes (Err Memory) new after = (after ≡ notes) × Stopped told (arrive m) old new × Grows old.net new.net
+
+-- a reply that is kept, and the request that it answers, with which `deliver` goes on, or why it is refused
+abbrev pub Delivers : ℕ → State → Result Replied Fail → Type 0
+Delivers m s (Ok r) = deliver_now m s ≡ deliver_unless r.reply (is_stale r.request r.reply s) s
+Delivers m s (Err (No c)) = deliver_now m s ≡ Ret (shown.Refused c) s
+Delivers m s (Err Memory) = Unit {0}
