@@ -32,7 +32,7 @@ use Rattle.cf_machine.specs.Lasting.{Moved}
 use Rattle.cf_machine.specs.Sensing.{Stands}
 use Rattle.cf_model.proofs.TreeLaws.{ends_mapped, ends_then, stops_first, stops_mapped, stops_then}
 use Rattle.cf_model.specs.Arrows.{Arrow, each, unit}
-use Rattle.cf_model.specs.Callbacks.{call_back, calling, carry_out, planned_on, with_operation_told, without_plan}
+use Rattle.cf_model.specs.Callbacks.{begin_call, call_back, calling, carry_out, planned_on, with_operation_told, without_plan}
 use Rattle.cf_model.specs.Events.{begun, event_now}
 use Rattle.cf_model.specs.Operations.{execute}
 use Rattle.cf_model.specs.Ports.{Act, Acts, Failed, HasFailed}
@@ -44,7 +44,7 @@ use Rattle.cf_steps.specs.Answering.{Any}
 sees_still : (plan : List (Bool × Operation)) (z : State) (f : Filter) → Sees plan z → Sees plan (with_filter f z)
 sees_still plan z f h = record { mode = h.mode; power = h.power; planned = h.planned; running = h.running }
 
-no_failure : {A : Type 0} (op : Operation) (acts : List Act) → acts ≡ Failed op ∷ [] → NoneFailed acts → A
+no_failure : {A : Type 0} (op : Operation) (acts : List Act) → acts ≡ Failed [] op ∷ [] → NoneFailed acts → A
 no_failure op acts is none = absurd (subst NoneFailed is none)
 
 -- one planned operation that was answered, with its line
@@ -90,14 +90,15 @@ taken plan z t h = record { mode = h.mode; power = h.power; planned = refl; runn
 
 pub scripted_plays : Plays Answers Sees
 scripted_plays = record {
-  still = sees_still;
-  ends = λ p q x ask acts t sees answered h none. (
+  called = λ p x asks h. sees_still p x (record x.filter { outbox = asks }) h;
+  over = λ p x h. sees_still p x (begin_call x.filter) h;
+  ends = λ p q x ask acts t seen sees shows good answered h none. (
     with_filter t (without_plan x),
     refl,
     subst (λ (l : List (Bool × Operation)). Sees l (with_filter t (without_plan x))) (sym answered.1) (taken p x t sees),
     subst (λ (w : Tree State (Unit {0})). Ends w unit (with_filter t (without_plan x))) (sym (scripted_tree ask x p sees)) (all_done ask.key p acts (without_plan x) t answered.0 h none),
   );
-  stops = λ p q x ask acts t sees answered h failed. (
+  stops = λ p q x ask acts t seen sees shows good answered h failed. (
     with_filter t (without_plan x),
     refl,
     subst (λ (l : List (Bool × Operation)). Sees l (with_filter t (without_plan x))) (sym answered.1) (taken p x t sees),
@@ -128,7 +129,8 @@ module _ {D : Type 0} (state : D → Disk) where
       → s.mode ≡ InFilter → s.power ≡ On → s.plan ≡ plan → x.desk.notes ≡ [] → IsDiskOf past (state x.disk) s.filter.volume → Stands state x (hushed s.filter) → Comes state past e s r left ns y
   comes_back past e part r plan left ns x y s is back mode power planned quiet disk stands =
       let z : State = begun s in
-      let d = played state Answers Sees scripted_plays Any part plan left (noted [] x) (noted ns y) z r back (stands_noted state x z.filter quiet stands) (record {}) (begun_sees plan s mode power planned) in
+      let sees = begun_sees plan s mode power planned in
+      let d = played state Answers Sees scripted_plays Any part plan left (noted [] x) (noted ns y) z r back (stands_noted state x z.filter quiet stands) (record {}) (λ a m e. sees_still plan z m sees) (λ t e. sees_still plan z t sees) in
       record {
         new = d.new;
         does = subst (λ (p : Tree State Shown). Does p r d.new) (sym (is z mode)) d.does;
