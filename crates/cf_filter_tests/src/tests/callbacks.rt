@@ -2,7 +2,7 @@
 
 use crate::tests::facts::Fact;
 use crate::tests::operations::Given;
-use crate::tests::steps::{PARTIAL, Step, VALIDATING, is_told};
+use crate::tests::steps::{LISTING, PARTIAL, Step, VALIDATING, is_told};
 use cf_base::Class;
 use std::test::Fail;
 
@@ -119,5 +119,28 @@ fn a_callback_can_answer_another_ask(rt: HostRuntime) -> Result<(), Fail> {
         Step::Is(Fact::Asks(2)),
     ];
     assert!(rt; is_told(rt.alloc(), PARTIAL, &steps, OTHERS)?);
+    Ok(())
+}
+
+const SEEN: &[u8] = b"\
+- change 1.1 make 2 1 d udir 0 aa
+= ok 2
+- ask 1.1 list 2
+- change 1.2 make 3 2 f pfile 5 bb
+- change 1.3 populate 2
+- op ok
+= list f:f
+";
+
+// The record of the path is there with the entries.
+#[test]
+fn paths_are_seen_with_the_entries(rt: HostRuntime) -> Result<(), Fail> {
+    let steps = [
+        Step::PlaceDir("/d", 0xaa),
+        Step::Plan(Given::EntriesSeen),
+        Step::List("/d"),
+        Step::Is(Fact::Seen(3)),
+    ];
+    assert!(rt; is_told(rt.alloc(), LISTING, &steps, SEEN)?);
     Ok(())
 }

@@ -28,6 +28,8 @@ pub(super) enum Fact {
     /// The first byte of the record `x`.
     Record(u8),
     NoRecord,
+    /// The path of the item is seen, `f` in the remote's root.
+    Seen(u8),
     /// This policy stands, a provider is connected, and no call was stopped.
     Stands(Policy),
     Broken,
@@ -56,6 +58,13 @@ fn has_anchor<D: Disk>(filter: &Filter<D>, item: u64, place: u32) -> bool {
 fn has_record<D: Disk>(filter: &Filter<D>, byte: u8) -> bool {
     match filter.volume().aux_get(b"x") {
         Some(record) => record.value.as_slice() == [byte].as_slice(),
+        None => false,
+    }
+}
+
+fn has_seen<D: Disk>(filter: &Filter<D>, item: u8) -> bool {
+    match filter.volume().aux_get(&[b's', 0, 0, 0, 0, 0, 0, 0, item]) {
+        Some(record) => record.value.as_slice() == [0, 0, 0, 0, 0, 0, 0, 1, b'f'].as_slice(),
         None => false,
     }
 }
@@ -90,6 +99,7 @@ pub(super) fn is_so<D: Disk>(play: &Play<D>, fact: Fact) -> bool {
         Fact::Anchor(item, place) => has_anchor(filter, item, place),
         Fact::Record(byte) => has_record(filter, byte),
         Fact::NoRecord => filter.volume().aux_get(b"x").is_none(),
+        Fact::Seen(item) => has_seen(filter, item),
         Fact::Stands(policy) => stands(filter, policy),
         Fact::Broken => filter.is_broken(),
         Fact::Left(keys, waits) => has_left(filter, keys, waits),

@@ -1,6 +1,8 @@
 //! Operations of a provider in few words.
 
-use cf_base::{Blob, Identity, Key, Memory, NewItem, Operation, Sequence, Span};
+use cf_base::{
+    Blob, Identity, ItemId, Key, Memory, Name, NewItem, Operation, Rid, SeenPath, Sequence, Span,
+};
 use std::alloc::Global;
 
 /// An operation without its key.
@@ -16,6 +18,8 @@ pub(super) enum Given {
     Restart,
     /// One entry, a file `f` of five bytes.
     Entries(bool),
+    /// The same; inside a callback the path of item 3 is seen then.
+    EntriesSeen,
     AckDehydrate(bool),
 }
 
@@ -48,6 +52,7 @@ pub(super) fn operation(alloc: Global, given: Given, key: Key) -> Result<Operati
     let op = match given {
         Given::Transfer(at, len) => return transfer(alloc, key, at, len),
         Given::Entries(good) => return entries(alloc, key, good),
+        Given::EntriesSeen => return entries(alloc, key, true),
         Given::Refuse(start, len) => Operation::Refuse {
             key,
             span: Span { start, len },
@@ -66,4 +71,25 @@ pub(super) fn operation(alloc: Global, given: Given, key: Key) -> Result<Operati
         Given::AckDehydrate(good) => Operation::AckDehydrate { key, good },
     };
     Ok(op)
+}
+
+fn path(alloc: Global) -> Result<SeenPath, Memory> {
+    let Ok(name) = Name::read(alloc, b"f") else {
+        return Err(Memory);
+    };
+    Ok(SeenPath {
+        item: ItemId(3),
+        parent: Rid(1),
+        name,
+    })
+}
+
+/// The paths that are seen with the operation.
+pub(super) fn paths_seen(alloc: Global, given: Given) -> Result<Sequence<SeenPath>, Memory> {
+    let mut seen = Sequence::new(alloc);
+    match given {
+        Given::EntriesSeen => seen.push(path(alloc)?)?,
+        _ => {}
+    }
+    Ok(seen)
 }

@@ -3,8 +3,8 @@
 ghost use Rattle.std.specs.Prelude.{List};
 ghost use Rattle.cf_model.specs.Ports.{Act};
 
-use crate::tests::operations::{Given, operation};
-use cf_base::{Fail, Key, Memory, Notice, Operation, OperationAnswer};
+use crate::tests::operations::{Given, operation, paths_seen};
+use cf_base::{Fail, Key, Memory, Notice, Operation, OperationAnswer, SeenPath};
 use cf_execute::{Callback, Outcome, Port, Provider};
 use std::alloc::Global;
 
@@ -22,10 +22,10 @@ fn meant(alloc: Global, step: (Option<Key>, Given), own: Key) -> Result<Operatio
     operation(alloc, step.1, step.0.unwrap_or(own))
 }
 
-fn run<P: Port>(op: &Operation, port: &mut P) -> Result<OperationAnswer, Memory>
+fn run<P: Port>(op: &Operation, seen: &[SeenPath], port: &mut P) -> Result<OperationAnswer, Memory>
     ensures { (acts : List Act) × P.goes port.old acts port.new }
 {
-    match port.execute(op) {
+    match port.execute_seeing(op, seen) {
         Ok(Outcome::Done) => Ok(OperationAnswer::Done),
         Ok(Outcome::Data(bytes)) => Ok(OperationAnswer::Data(bytes)),
         Err(Fail::No(code)) => Ok(OperationAnswer::Refused(code)),
@@ -48,7 +48,8 @@ fn act<P: Port>(
     ensures { (acts : List Act) × P.goes port.old acts port.new }
 {
     let op = meant(alloc, step, own)?;
-    let answer = run(&op, port)?;
+    let seen = paths_seen(alloc, step.1)?;
+    let answer = run(&op, seen.as_slice(), port)?;
     tell(answer, port)
 }
 
@@ -76,7 +77,7 @@ fn copied(call: &Callback) -> Result<Callback, Memory> {
 }
 
 impl Provider for Plans {
-    ghost answers = { λ p call acts q. Unit {0} };
+    ghost answers = { λ p sight call acts q. Unit {0} };
 
     fn on_callback<P: Port>(&mut self, call: &Callback, port: &mut P) -> Result<(), Memory> {
         let first = self.calls == 0;

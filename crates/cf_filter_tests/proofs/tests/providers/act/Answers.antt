@@ -4,6 +4,9 @@ use Rattle.cf_filter_tests.proofs.tests.providers.act.Goals as goal
 pub returns-in_err-op : goal.returns-in_err-op
 returns-in_err-op g c = ([], g.met.P.Port.stays c.args.port.now)
 
+pub returns-in_err-seen : goal.returns-in_err-seen
+returns-in_err-seen g c = ([], g.met.P.Port.stays c.args.port.now)
+
 pub returns-in_err-answer : goal.returns-in_err-answer
 returns-in_err-answer g c = c.in_err-answer.ensures
 
