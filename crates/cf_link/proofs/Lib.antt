@@ -1,3 +1,5 @@
 pub mod Asked
+pub mod PeerLinks
+pub mod PeerWalk
 pub mod Sending
 pub mod Ways

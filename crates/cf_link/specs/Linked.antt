@@ -1,9 +1,12 @@
 -- What a program has of the link, how that stands for the link of the definitions, and what its calls do.
-use Rattle.std.specs.Prelude.{◌≡◌, ◌⊎◌, ℕ, ◌≤◌, Bool, true, List, [], ◌∷◌, ◌++◌, length, Option, Some, None, Result, Ok, Err}
+use Rattle.std.specs.Prelude.{◌≡◌, ◌⊎◌, ℕ, ◌+◌, ◌≤◌, Bool, true, List, [], ◌∷◌, ◌++◌, length, Option, Some, None, Result, Ok, Err}
+use Rattle.cf_base.specs.declared.answers.Answer.{Answer}
+use Rattle.cf_base.specs.declared.answers.Shown.{Shown}
 use Rattle.cf_base.specs.declared.answers.Shown.TheVariants as shown
 use Rattle.cf_base.specs.declared.codes.Code.TheVariants as code
 use Rattle.cf_base.specs.declared.codes.Fail.{Fail}
 use Rattle.cf_base.specs.declared.codes.Fail.TheVariants.{No, Memory}
+use Rattle.cf_base.specs.declared.messages.Reply.{Reply}
 use Rattle.cf_base.specs.declared.notices.Frame.{Frame}
 use Rattle.cf_base.specs.declared.notices.Notice.{Notice}
 use Rattle.cf_base.specs.declared.notices.Notice.TheVariants as notice
@@ -72,6 +75,32 @@ pub record Stopped {R A : Type 0} (told : R → Told) (f : Arrow State A) (old n
 -- one message more was sent, at most
 abbrev pub Grows : Kept → Kept → Type 0
 Grows old new = (new ≡ old) ⊎ ((m : Message) × (new ≡ (sending m old).1))
+
+-- what another device does
+
+-- the state with another link, so many tokens of a peer used up, and this reply that the answer keeps
+abbrev pub after_peer : Link → ℕ → Option Reply → State → State
+after_peer link tokens stray s = record s { link = link; peer_tokens = tokens; running = record s.running { stray = stray } }
+
+-- From this state on the event may end with this answer, in a state that differs by a link for which that of the program stands, by
+-- the token that is next then, and by the reply that the answer keeps. The answer has no lines.
+pub record PeerEnded {R : Type 0} (told : R → Told) (f : Arrow State Shown) (s : State) (old : Linked R) (a : Answer) (after : ℕ) (new : Linked R) : Type 0 where
+  pub link : Link
+  pub tokens : ℕ
+  pub leads : Leads (f s) (told old.remote) a.shown (after_peer link tokens a.stray s) (told new.remote)
+  pub stands : IsLink told new link
+  pub next : after ≡ tokens + 1
+  pub notes : a.notes ≡ []
+
+-- so it is from each state that keeps no reply yet and has this next token, and for whose link that of the program stands
+pub record DoesPeer {R : Type 0} (told : R → Told) (f : Arrow State Shown) (next : ℕ) (old : Linked R) (a : Answer) (after : ℕ) (new : Linked R) : Type 0 where
+  pub ends : (s : State) → s.running.stray ≡ None → next ≡ s.peer_tokens + 1 → IsLink told old s.link → PeerEnded told f s old a after new
+
+-- memory ran out in the event: one token at most is used up, and the first of its asks were made, or none
+pub record StopsPeer {R : Type 0} (told : R → Told) (f : Arrow State Shown) (next : ℕ) (old : Linked R) (after : ℕ) (new : Linked R) : Type 0 where
+  pub least : next ≤ after
+  pub most : after ≤ next + 1
+  pub begins : (s : State) → next ≡ s.peer_tokens + 1 → IsLink told old s.link → Begins (f s) (told old.remote) (told new.remote)
 
 -- messages by hand
 

@@ -1,13 +1,13 @@
 //! The link itself.
 
-ghost use Rattle.std.specs.Prelude.{◌≡◌, ◌<◌, ◌-◌, ◌^◌, true};
-ghost use Rattle.cf_link.specs.Linked.{IsLink};
+ghost use Rattle.std.specs.Prelude.{◌≡◌, ◌<◌, ◌-◌, ◌^◌, IfErr, IfOk, true};
+ghost use Rattle.cf_link.specs.Linked.{DoesPeer, IsLink, StopsPeer};
 ghost use Rattle.cf_model.specs.Peers.{peer_event};
 ghost use Rattle.cf_model.specs.State as state;
 ghost use Rattle.cf_model.specs.State.{new_link};
 ghost use Rattle.cf_model.specs.Store.{Held};
 ghost use Rattle.cf_remote.specs.LookUps.{EventHasRoom};
-ghost use Rattle.cf_remote.specs.Peers.{Does, IsCount, IsHeld};
+ghost use Rattle.cf_remote.specs.Peers.{IsCount, IsHeld};
 ghost use Rattle.cf_wire.specs.Sending.{no_messages};
 
 use cf_base::{Answer, Memory, PeerEvent};
@@ -64,12 +64,13 @@ impl<R: Remote> Link<R> {
     }
 
     /// Does an event of another device on the remote: `cf_remote::peer` says what it needs and what it answers. The messages
-    /// stay, and so does whether the link is inline.
+    /// stay, and so does whether the link is inline, also without memory.
     pub fn peer(&mut self, next: &mut u32, e: &PeerEvent) -> Result<Answer, Memory>
         requires first { 0 < next.old }
         requires next { next.old < 2 ^ 32 - 1 }
         requires room { EventHasRoom e.now }
-        ensures does { Does (peer_event e.now) next.old (R.told self.old.remote) result next.new (R.told self.new.remote) }
+        ensures does { IfOk result (λ a. DoesPeer R.told (peer_event e.now) next.old self.old a next.new self.new) }
+        ensures err { IfErr result (λ _. StopsPeer R.told (peer_event e.now) next.old self.old next.new self.new) }
         ensures net { self.new.net ≡ self.old.net }
         ensures inline { self.new.inline ≡ self.old.inline }
     {

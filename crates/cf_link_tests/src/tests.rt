@@ -1,8 +1,13 @@
-//! Links with remotes in memory: the feed of an empty remote, asked for inline and by hand.
+//! Links with remotes in memory: a feed, asked for inline and by hand, also after an event of another device.
 
+ghost use Rattle.std.specs.Prelude.{◌<◌, ◌^◌, IfOk, length};
+ghost use Rattle.cf_remote.specs.LookUps.{EventHasRoom};
 ghost use Rattle.cf_wire.specs.Spelled.{HasRoom};
 
-use cf_base::{Code, Fail, Key, Memory, Notes, Notice, Reply, Request, Round, Sequence};
+use cf_base::{
+    Blob, Code, Fail, Key, Memory, Notes, Notice, PeerEvent, Reply, Request, Round, Sequence,
+    Shown, Text,
+};
 use cf_link::Link;
 use cf_remote::{FlakyRemote, Remote, StoreRemote};
 use std::alloc::Global;
@@ -20,6 +25,15 @@ fn feed() -> Request
         round: ROUND,
         after: 0,
     }
+}
+
+fn put(alloc: Global, bytes: &[u8]) -> Result<PeerEvent, Memory>
+    requires { length bytes.now < 2 ^ 32 }
+    ensures { IfOk result EventHasRoom }
+{
+    let path = Text::from_str(alloc, "/a")?;
+    let bytes = Blob::from_slice(alloc, bytes)?;
+    Ok(PeerEvent::Put { path, bytes })
 }
 
 fn is_message(line: Option<&Notice>, number: u32) -> bool {
@@ -41,6 +55,25 @@ fn is_feed(reply: Option<&Reply>) -> bool {
         Some(Reply::Feed { round, .. }) => *round == ROUND,
         _ => false,
     }
+}
+
+// Whether the feed tells one entry, of this name.
+fn tells_one(reply: Option<&Reply>, name: &[u8]) -> bool {
+    match reply {
+        Some(Reply::Feed { entries, .. }) => match entries.get(0) {
+            Some(entry) => entries.as_slice().len() == 1 && entry.name.as_slice() == name,
+            None => false,
+        },
+        _ => false,
+    }
+}
+
+// Whether another device puts the file `a` on the remote, under token 1.
+fn is_put<R: Remote>(alloc: Global, link: &mut Link<R>) -> Result<bool, Memory> {
+    let e = put(alloc, b"hello")?;
+    let mut next: u32 = 1;
+    let answer = link.peer(&mut next, &e)?;
+    Ok(next == 2 && matches!(answer.shown, Shown::Remote { .. }))
 }
 
 // Whether the next request that is posted gets this number, and is kept.
@@ -109,6 +142,18 @@ fn a_remote_that_failed_is_asked_again(rt: HostRuntime) -> Result<(), TestFail> 
     assert!(rt; posts(&mut link, 1)?);
     assert!(rt; fails(&mut link)?);
     assert!(rt; comes(&mut link)?);
+    Ok(())
+}
+
+#[test]
+fn a_feed_tells_what_another_device_put(rt: HostRuntime) -> Result<(), TestFail> {
+    let alloc = rt.alloc();
+    let remote = StoreRemote::new(alloc)?;
+    let mut link = Link::new(alloc, remote);
+    assert!(rt; is_put(alloc, &mut link)?);
+    assert!(rt; posts(&mut link, 1)?);
+    let came = link.come(1, &feed())?;
+    assert!(rt; tells_one(came.reply.as_ref(), b"a"));
     Ok(())
 }
 
