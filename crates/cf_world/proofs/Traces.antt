@@ -8,14 +8,18 @@ use Rattle.std.proofs.lemmas.List.Folds.{list_all_at}
 use Rattle.cf_base.specs.declared.answers.Answer.{Answer}
 use Rattle.cf_base.specs.declared.events.Event.{Event}
 use Rattle.cf_base.specs.declared.policies.Mode.{Mode}
+use Rattle.cf_disk.specs.Disk.{State as Disk}
 use Rattle.cf_io.specs.Moves.{AddsFront}
+use Rattle.cf_points.specs.Standing.{clusters_on}
 use Rattle.cf_report.specs.Texts.{texts, text}
 use Rattle.cf_world.proofs.Drafted.{drafted_front, drafted_stops_here}
-use Rattle.cf_world.specs.Led.{IsLawful}
+use Rattle.cf_world.proofs.Sided.{run_lawful}
+use Rattle.cf_world.specs.Led.{HasRunOn, IsLawful}
 use Rattle.cf_world.specs.Runs.{PlaysFront, answers_of, events_of}
 use Rattle.cf_world.specs.Steps.{AddFails, IsDrafted, SomePlayed}
 use Rattle.cf_world.specs.declared.fails.PlayFail.{PlayFail}
 use Rattle.cf_world.specs.declared.fails.PlayFail.TheVariants.{Memory, SinkFault, TooLong}
+use Rattle.cf_world.specs.declared.sides.Side.{Side}
 
 texts-push : (answers : List Answer) (a : Answer) → texts (answers ++ a ∷ []) ≡ texts answers ++ text a
 texts-push [] a = append-nil (text a)
@@ -43,35 +47,35 @@ next_texts trace event a =
     let answers : answers_of (trace ++ (event, a) ∷ []) ≡ answers_of trace ++ a ∷ [] = map-append _ trace ((event, a) ∷ []) in
     ap texts answers ∙ texts-push (answers_of trace) a
 
-front_at : (m : Mode) (clusters : ℕ) (all rest : List Event) (trace : List (Event × Answer)) (old new : Option (List ℕ)) → events_of trace ++ rest ≡ all → IsLawful m clusters trace → AddsFront old new (texts (answers_of trace))
-    → PlaysFront m clusters all old new
-front_at m clusters all rest trace old new parts lawful written = record { trace = trace; more = rest; first = parts; lawful = lawful; written = written }
+front_at : (Said : List (Event × Answer) → Type 0) (all rest : List Event) (trace : List (Event × Answer)) (old new : Option (List ℕ)) → events_of trace ++ rest ≡ all → Said trace → AddsFront old new (texts (answers_of trace))
+    → PlaysFront Said all old new
+front_at Said all rest trace old new parts said written = record { trace = trace; more = rest; first = parts; said = said; written = written }
 
 -- the run ends before an event
-pub played_front : (m : Mode) (clusters : ℕ) (all rest : List Event) (trace : List (Event × Answer)) (made : ℕ) (waiting : List ℕ) (old now : Option (List ℕ)) → events_of trace ++ rest ≡ all → IsLawful m clusters trace
-    → IsDrafted (texts (answers_of trace)) waiting made old now → PlaysFront m clusters all old now
-played_front m clusters all rest trace made waiting old now parts lawful h = front_at m clusters all rest trace old now parts lawful (drafted_front (texts (answers_of trace)) waiting made old now h)
+pub played_front : (Said : List (Event × Answer) → Type 0) (all rest : List Event) (trace : List (Event × Answer)) (made : ℕ) (waiting : List ℕ) (old now : Option (List ℕ)) → events_of trace ++ rest ≡ all → Said trace
+    → IsDrafted (texts (answers_of trace)) waiting made old now → PlaysFront Said all old now
+played_front Said all rest trace made waiting old now parts said h = front_at Said all rest trace old now parts said (drafted_front (texts (answers_of trace)) waiting made old now h)
 
 -- the run ends where what waited is not all written
-pub played_stops : (m : Mode) (clusters : ℕ) (all rest : List Event) (trace : List (Event × Answer)) (made : ℕ) (waiting : List ℕ) (old now new : Option (List ℕ)) → events_of trace ++ rest ≡ all → IsLawful m clusters trace
-    → IsDrafted (texts (answers_of trace)) waiting made old now → AddsFront now new waiting → PlaysFront m clusters all old new
-played_stops m clusters all rest trace made waiting old now new parts lawful h k =
-    front_at m clusters all rest trace old new parts lawful (drafted_stops_here (texts (answers_of trace)) waiting made old now new h k)
+pub played_stops : (Said : List (Event × Answer) → Type 0) (all rest : List Event) (trace : List (Event × Answer)) (made : ℕ) (waiting : List ℕ) (old now new : Option (List ℕ)) → events_of trace ++ rest ≡ all → Said trace
+    → IsDrafted (texts (answers_of trace)) waiting made old now → AddsFront now new waiting → PlaysFront Said all old new
+played_stops Said all rest trace made waiting old now new parts said h k =
+    front_at Said all rest trace old new parts said (drafted_stops_here (texts (answers_of trace)) waiting made old now new h k)
 
--- the text of an event is not added
-pub played_early : (m : Mode) (clusters : ℕ) (all : List Event) (i : ℕ) (trace : List (Event × Answer)) (event : Event) (a : Answer) (old new : Option (List ℕ)) (e : PlayFail) → event ≡ get_or all i event → i < length all
-    → events_of trace ++ drop i all ≡ all → IsLawful m clusters (trace ++ (event, a) ∷ []) → AddFails (texts (answers_of trace)) (text a) old new e → SomePlayed m clusters all old new e
-played_early m clusters all i trace event a old new SinkFault item lt parts lawful h =
-    front_at m clusters all (drop (i + 1) all) (trace ++ (event, a) ∷ []) old new (next_event all i trace event a item lt parts) lawful (subst (λ x. AddsFront old new x) (sym (next_texts trace event a)) h)
-played_early m clusters all i trace event a old new Memory item lt parts lawful h =
-    front_at m clusters all (drop (i + 1) all) (trace ++ (event, a) ∷ []) old new (next_event all i trace event a item lt parts) lawful (subst (λ x. AddsFront old new x) (sym (next_texts trace event a)) h)
-played_early m clusters all i trace event a old new TooLong item lt parts lawful h = record {
+-- the text of an event that was done is not added
+pub played_early : {D : Type 0} (state : D → Disk) (m : Mode) (disk : D) (all : List Event) (i : ℕ) (trace : List (Event × Answer)) (w : Side D) (event : Event) (a : Answer) (old new : Option (List ℕ)) (e : PlayFail) → event ≡ get_or all i event → i < length all
+    → events_of trace ++ drop i all ≡ all → HasRunOn state m disk (trace ++ (event, a) ∷ []) w → AddFails (texts (answers_of trace)) (text a) old new e → SomePlayed state m disk all old new w e
+played_early state m disk all i trace w event a old new SinkFault item lt parts run h =
+    front_at (λ ps. HasRunOn state m disk ps w) all (drop (i + 1) all) (trace ++ (event, a) ∷ []) old new (next_event all i trace event a item lt parts) run (subst (λ x. AddsFront old new x) (sym (next_texts trace event a)) h)
+played_early state m disk all i trace w event a old new Memory item lt parts run h =
+    front_at (IsLawful m (clusters_on (state disk).seen)) all (drop (i + 1) all) (trace ++ (event, a) ∷ []) old new (next_event all i trace event a item lt parts) (run_lawful state m disk (trace ++ (event, a) ∷ []) w run) (subst (λ x. AddsFront old new x) (sym (next_texts trace event a)) h)
+played_early state m disk all i trace w event a old new TooLong item lt parts run h = record {
   trace = trace;
   event = event;
   answer = a;
   more = drop (suc i) all;
   first = rw (next_rest all i event item lt) at parts;
-  lawful = lawful;
+  said = run;
   written = h.1;
   passes = h.0;
 }

@@ -56,22 +56,23 @@ pub record Plays {D : Type 0} (state : D → Disk) (m : Mode) (disk : D) (events
   pub written : Adds old new (texts (answers_of trace))
   pub short : length (texts (answers_of trace)) ≤ most_report
 
--- A front of the texts of lawful answers to some first events was written.
-pub record PlaysFront (m : Mode) (clusters : ℕ) (events : List Event) (old new : Option (List ℕ)) : Type 0 where
+-- A front of the texts of answers to some first events was written; these events were done, and of their trace this is said.
+pub record PlaysFront (Said : List (Event × Answer) → Type 0) (events : List Event) (old new : Option (List ℕ)) : Type 0 where
   pub trace : List (Event × Answer)
   pub more : List Event
   pub first : events_of trace ++ more ≡ events
-  pub lawful : IsLawful m clusters trace
+  pub said : Said trace
   pub written : AddsFront old new (texts (answers_of trace))
 
--- The texts of lawful answers to some first events were written, and the text of the next would pass the limit.
-pub record PlaysLong (m : Mode) (clusters : ℕ) (events : List Event) (old new : Option (List ℕ)) : Type 0 where
+-- The texts of answers to some first events were written, and that of the next would pass the limit. It was done too, and this
+-- is said of the trace that ends with it.
+pub record PlaysLong (Said : List (Event × Answer) → Type 0) (events : List Event) (old new : Option (List ℕ)) : Type 0 where
   pub trace : List (Event × Answer)
   pub event : Event
   pub answer : Answer
   pub more : List Event
   pub first : events_of trace ++ event ∷ more ≡ events
-  pub lawful : IsLawful m clusters (trace ++ (event, answer) ∷ [])
+  pub said : Said (trace ++ (event, answer) ∷ [])
   pub written : Adds old new (texts (answers_of trace))
   pub passes : most_report < length (texts (answers_of trace)) + length (text_of answer)
 
@@ -82,16 +83,16 @@ pub record Reports {D : Type 0} (state : D → Disk) (m : Mode) (disk : D) (text
   pub played : Plays state m disk events old new back
 
 -- A front of a report.
-pub record ReportsFront (m : Mode) (clusters : ℕ) (text : List ℕ) (old new : Option (List ℕ)) : Type 0 where
+pub record ReportsFront (Said : List (Event × Answer) → Type 0) (m : Mode) (text : List ℕ) (old new : Option (List ℕ)) : Type 0 where
   pub events : List Event
   pub spelled : IsBuilt m text events
-  pub played : PlaysFront m clusters events old new
+  pub played : PlaysFront Said events old new
 
 -- A report that would pass its limit.
-pub record ReportsLong (m : Mode) (clusters : ℕ) (text : List ℕ) (old new : Option (List ℕ)) : Type 0 where
+pub record ReportsLong (Said : List (Event × Answer) → Type 0) (m : Mode) (text : List ℕ) (old new : Option (List ℕ)) : Type 0 where
   pub events : List Event
   pub spelled : IsBuilt m text events
-  pub played : PlaysLong m clusters events old new
+  pub played : PlaysLong Said events old new
 
 -- the line that is written of a script that is not read
 abbrev pub fail_line : ScriptFail → List ℕ
@@ -119,19 +120,22 @@ pub record RefusesFront (m : Mode) (text : List ℕ) (old new : Option (List ℕ
   pub refusal : IsRefusal m text line
   pub written : AddsFront old new line
 
--- What was written where a run ends early: nothing, or a front of what would have been.
-abbrev pub StopsEarly : Mode → ℕ → List ℕ → Option (List ℕ) → Option (List ℕ) → Type 0
-StopsEarly m clusters text old new = Adds old new [] ⊎ (RefusesFront m text old new ⊎ ReportsFront m clusters text old new)
+-- What was written where the script was read: a front of the line of a refusal, and the disk is as it came, or a front of a
+-- report, of whose trace this is said.
+abbrev pub StopsEarly : {D : Type 0} → (List (Event × Answer) → Type 0) → Mode → D → List ℕ → Option (List ℕ) → Option (List ℕ) → D → Type 0
+StopsEarly Said m disk text old new back = (RefusesFront m text old new × (back ≡ disk)) ⊎ ReportsFront Said m text old new
 
--- what was written of a text, by the status
+-- What was written of a text, by the status. At Done, at SinkFault and where the report is too long the disk is as the trace
+-- leaves it. At Memory that is not said, for memory may have run out within an event.
 abbrev pub Writes : {D : Type 0} → (D → Disk) → Mode → D → List ℕ → Option (List ℕ) → Option (List ℕ) → Status → D → Type 0
 Writes state m disk text old new status.Done back = Reports state m disk text old new back
 Writes state m disk text old new status.BadScript back = Refuses m text old new
-Writes state m disk text old new status.SinkFault back = StopsEarly m (clusters_on (state disk).seen) text old new
-Writes state m disk text old new status.Memory back = StopsEarly m (clusters_on (state disk).seen) text old new
+Writes state m disk text old new status.SinkFault back = StopsEarly (λ trace. Leads state m disk trace back) m disk text old new back
+Writes state m disk text old new status.Memory back = Adds old new [] ⊎ StopsEarly (IsLawful m (clusters_on (state disk).seen)) m disk text old new back
 Writes state m disk text old new status.Usage back = Adds old new []
 Writes state m disk text old new status.SourceFault back = Adds old new []
-Writes state m disk text old new status.TooLong back = (16777216 < length text × Adds old new []) ⊎ (length text ≤ 16777216 × ReportsLong m (clusters_on (state disk).seen) text old new)
+Writes state m disk text old new status.TooLong back =
+    (16777216 < length text × Adds old new [] × (back ≡ disk)) ⊎ (length text ≤ 16777216 × ReportsLong (λ trace. Leads state m disk trace back) m text old new)
 Writes state m disk text old new status.BadDevice back = IsGood m text × Adds old new []
 Writes state m disk text old new status.DeviceFault back = IsGood m text × Adds old new []
 

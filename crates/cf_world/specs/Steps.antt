@@ -13,13 +13,14 @@ use Rattle.cf_io.specs.declared.faults.ReadFail.{ReadFail}
 use Rattle.cf_io.specs.declared.faults.ReadFail.TheVariants as reading
 use Rattle.cf_points.specs.Standing.{clusters_on}
 use Rattle.cf_report.specs.Texts.{texts}
-use Rattle.cf_world.specs.Led.{HasRun}
+use Rattle.cf_world.specs.Led.{HasRun, HasRunOn, IsLawful}
 use Rattle.cf_world.specs.Runs.{PlaysFront, PlaysLong, answers_of, events_of, most_report}
 use Rattle.cf_world.specs.Sides.{Acted}
 use Rattle.cf_words.specs.declared.commands.WordsFail.{WordsFail}
 use Rattle.cf_words.specs.declared.commands.WordsFail.TheVariants as words
 use Rattle.cf_world.specs.declared.fails.PlayFail.{PlayFail}
 use Rattle.cf_world.specs.declared.fails.PlayFail.TheVariants as play
+use Rattle.cf_world.specs.declared.sides.Side.{Side}
 
 -- a front of what waited was written, and the rest waits on
 abbrev pub Hands : Option (List ℕ) → Option (List ℕ) → List ℕ → List ℕ → Type 0
@@ -75,8 +76,8 @@ pub record AllPlayed {D R : Type 0} (state : D → Disk) (m : Mode) (disk : D) (
   pub written : Adds old new (texts (answers_of w.trace))
   pub short : length (texts (answers_of w.trace)) ≤ most_report
 
--- what was written of them where it ended early
-abbrev pub SomePlayed : Mode → ℕ → List Event → Option (List ℕ) → Option (List ℕ) → PlayFail → Type 0
-SomePlayed m clusters events old new play.TooLong = PlaysLong m clusters events old new
-SomePlayed m clusters events old new play.SinkFault = PlaysFront m clusters events old new
-SomePlayed m clusters events old new play.Memory = PlaysFront m clusters events old new
+-- What was written of them where it ended early. But where memory ran out, the world is where the trace leads to.
+abbrev pub SomePlayed : {D : Type 0} → (D → Disk) → Mode → D → List Event → Option (List ℕ) → Option (List ℕ) → Side D → PlayFail → Type 0
+SomePlayed state m disk events old new w play.TooLong = PlaysLong (λ trace. HasRunOn state m disk trace w) events old new
+SomePlayed state m disk events old new w play.SinkFault = PlaysFront (λ trace. HasRunOn state m disk trace w) events old new
+SomePlayed state m disk events old new w play.Memory = PlaysFront (IsLawful m (clusters_on (state disk).seen)) events old new

@@ -6,7 +6,6 @@ ghost use Rattle.cf_base.specs.declared.answers.Answer.{Answer as Answered};
 ghost use Rattle.cf_base.specs.declared.events.Event.{Event as Done};
 ghost use Rattle.cf_base.specs.declared.policies.Mode.{Mode as Commanded};
 ghost use Rattle.cf_io.specs.Moves.{Rose};
-ghost use Rattle.cf_points.specs.Standing.{clusters_on};
 ghost use Rattle.cf_report.specs.Texts.{text as text_of};
 ghost use Rattle.cf_world.specs.Led.{HasRun, IsSame, IsWhole, can_do};
 ghost use Rattle.cf_world.specs.Steps.{AllPlayed, SomePlayed};
@@ -31,7 +30,7 @@ pub fn play<K: Sink, D: Disk + Drop, R>(
     requires whole { IsWhole world.old.side }
     requires can { IsTrue (list_all (can_do world.old.side) events.now) }
     ensures ok { (m : Commanded) (disk : D) → HasRun D.state m disk world.old → OnOk result (AllPlayed D.state m disk events.now (K.held sink.old) (K.held sink.new) world.new) }
-    ensures err { (m : Commanded) (disk : D) → HasRun D.state m disk world.old → IfErr result (SomePlayed m (clusters_on (D.state disk).seen) events.now (K.held sink.old) (K.held sink.new)) }
+    ensures err { (m : Commanded) (disk : D) → HasRun D.state m disk world.old → IfErr result (SomePlayed D.state m disk events.now (K.held sink.old) (K.held sink.new) world.new.side) }
     ensures whole { IsWhole world.new.side }
     ensures same { (world.new.remote ≡ world.old.remote) × IsSame world.old.side world.new.side }
     ensures fault { IsErrOf result PlayFail.SinkFault → Rose (K.faults sink.old) (K.faults sink.new) }

@@ -97,7 +97,7 @@ impl<D: Disk + Drop, R> World<D, R> {
     /// The disk and the remote.
     pub fn finish(self) -> (D, R)
         requires { IsWhole self.side }
-        ensures disk { (m : Commanded) (disk : D) → HasRun D.state m disk self → Leads D.state m disk self.trace result.0 }
+        ensures disk { (m : Commanded) (disk : D) (trace : List (Done × Answered)) → HasRunOn D.state m disk trace self.side → Leads D.state m disk trace result.0 }
         ensures kept { Keeps self.side result.0 }
         ensures remote { result.1 ≡ self.remote }
     {

@@ -5,6 +5,7 @@ mod faults;
 mod filters;
 mod lengths;
 mod replays;
+mod sinks;
 mod stops;
 
 use cf_base::Status;

@@ -8,7 +8,7 @@ use Rattle.cf_world.proofs.Drafted.{drafted_all}
 use Rattle.cf_world.proofs.Errs.{err_if}
 use Rattle.cf_world.proofs.Sided.{run_lawful, same_can, same_then}
 use Rattle.cf_world.proofs.Traces.{drafted_next, next_event, played_all, played_early, played_front, played_stops}
-use Rattle.cf_world.specs.Led.{IsLawful}
+use Rattle.cf_world.specs.Led.{HasRunOn, IsLawful}
 use Rattle.cf_world.specs.Runs.{answers_of, events_of}
 use Rattle.cf_world.specs.Steps.{AddFails, SomePlayed}
 use Rattle.cf_world.specs.declared.fails.PlayFail.TheVariants.{Memory, SinkFault}
@@ -18,12 +18,12 @@ pub returns-in_err-text-clause-err : goal.returns-in_err-text-clause-err
 returns-in_err-text-clause-err g c = λ m disk h.
     let inv = c.loop-event.invariant in
     let w = c.loop-event.world in
-    let clusters = clusters_on (g.D.Disk.state disk).seen in
+    let all = c.args.events.now in
     let old = g.K.Sink.held c.args.sink.now in
     let now = g.K.Sink.held c.loop-event.sink in
     let lawful = run_lawful g.D.Disk.state m disk w.trace w.side (inv.2 m disk h) in
-    err_if (SomePlayed m clusters c.args.events.now old now) c.from_residual.result Memory c.from_residual.ensures.1
-    (played_front m clusters c.args.events.now (drop c.loop-event.event-index c.args.events.now) w.trace c.loop-event.made c.loop-event.waiting.items old now inv.0 lawful inv.1)
+    err_if (SomePlayed g.D.Disk.state m disk all old now c.answer.new.world.side) c.from_residual.result Memory c.from_residual.ensures.1
+    (played_front (IsLawful m (clusters_on (g.D.Disk.state disk).seen)) all (drop c.loop-event.event-index all) w.trace c.loop-event.made c.loop-event.waiting.items old now inv.0 lawful inv.1)
 
 pub returns-in_err-made-clause-err : goal.returns-in_err-made-clause-err
 returns-in_err-made-clause-err g c = λ m disk h.
@@ -31,16 +31,15 @@ returns-in_err-made-clause-err g c = λ m disk h.
     let w = c.loop-event.world in
     let next = c.answer.new.world in
     let added = c.in_ok-text.ensures.adds in
-    let clusters = clusters_on (g.D.Disk.state disk).seen in
+    let all = c.args.events.now in
     let old = g.K.Sink.held c.args.sink.now in
     let new = g.K.Sink.held c.add.new.sink in
-    let run = c.in_ok-text.ensures.ok m disk (inv.2 m disk h) in
-    let lawful = subst (λ (ps : List (Event × Answer)). IsLawful m clusters ps) added.1 (run_lawful g.D.Disk.state m disk next.trace next.side run) in
+    let run = subst (λ (ps : List (Event × Answer)). HasRunOn g.D.Disk.state m disk ps next.side) added.1 (c.in_ok-text.ensures.ok m disk (inv.2 m disk h)) in
     let fails = c.in_err-made.ensures.err (texts (answers_of w.trace)) old inv.1 in
     let piece : c.as_slice.result.now ≡ text added.0 = c.as_slice.ensures ∙ added.2 in
     let e = c.in_err-made.field-0.0 in
-    err_if (SomePlayed m clusters c.args.events.now old new) c.from_residual-in_err-made.result e c.from_residual-in_err-made.ensures.1
-    (played_early m clusters c.args.events.now c.loop-event.event-index w.trace c.event-item.result added.0 old new e c.event-item.is c.loop-event-test.true inv.0 lawful
+    err_if (SomePlayed g.D.Disk.state m disk all old new next.side) c.from_residual-in_err-made.result e c.from_residual-in_err-made.ensures.1
+    (played_early g.D.Disk.state m disk all c.loop-event.event-index w.trace next.side c.event-item.result added.0 old new e c.event-item.is c.loop-event-test.true inv.0 run
     (subst (λ x. AddFails (texts (answers_of w.trace)) x old new e) piece fails))
 
 pub loop-event-preserved : goal.loop-event-preserved
@@ -69,13 +68,12 @@ pub returns-in_err-write_all-clause-err : goal.returns-in_err-write_all-clause-e
 returns-in_err-write_all-clause-err g c = λ m disk h.
     let inv = c.loop-event.invariant in
     let w = c.loop-event.world in
-    let clusters = clusters_on (g.D.Disk.state disk).seen in
+    let all = c.args.events.now in
     let old = g.K.Sink.held c.args.sink.now in
     let new = g.K.Sink.held c.write_all.new.sink in
-    let lawful = run_lawful g.D.Disk.state m disk w.trace w.side (inv.2 m disk h) in
     let written = rw c.as_slice-2.ensures.value at c.in_err-write_all.ensures.err in
-    err_if (SomePlayed m clusters c.args.events.now old new) c.from_residual-in_err-write_all.result SinkFault c.from_residual-in_err-write_all.ensures.1
-    (played_stops m clusters c.args.events.now (drop c.loop-event.event-index c.args.events.now) w.trace c.loop-event.made c.loop-event.waiting.items old (g.K.Sink.held c.loop-event.sink) new inv.0 lawful inv.1 written)
+    err_if (SomePlayed g.D.Disk.state m disk all old new w.side) c.from_residual-in_err-write_all.result SinkFault c.from_residual-in_err-write_all.ensures.1
+    (played_stops (λ trace. HasRunOn g.D.Disk.state m disk trace w.side) all (drop c.loop-event.event-index all) w.trace c.loop-event.made c.loop-event.waiting.items old (g.K.Sink.held c.loop-event.sink) new inv.0 (inv.2 m disk h) inv.1 written)
 
 pub returns-clause-ok : goal.returns-clause-ok
 returns-clause-ok g c = λ m disk h.
