@@ -1,0 +1,12 @@
+pub mod Called
+pub mod Carried
+pub mod Fetched
+pub mod Heard
+pub mod Listed
+pub mod Numbered
+pub mod Performed
+pub mod Played
+pub mod Sent
+pub mod Spoken
+pub mod Targeted
+pub mod Uploaded

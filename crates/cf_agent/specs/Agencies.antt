@@ -1,0 +1,47 @@
+-- What a program has of the engine as a provider, the states for which that stands, and parts of an event that it plays.
+use Rattle.std.specs.Prelude.{◌≡◌, ◌⊎◌, ℕ, ◌≤◌, Bool, true, List, [], ◌∷◌, ◌++◌, Option, Some, None, Result, Ok, Err, is_ok, nat_lt}
+use Rattle.cf_base.specs.declared.codes.Code.{Code}
+use Rattle.cf_base.specs.declared.memory.Memory.{Memory as NoMemory}
+use Rattle.cf_base.specs.declared.notices.Notice.{Notice}
+use Rattle.cf_base.specs.declared.policies.Mode.TheVariants as mode
+use Rattle.cf_link.specs.Linked.{IsLink, Linked}
+use Rattle.cf_model.specs.Arrows.{Arrow, unit}
+use Rattle.cf_model.specs.Ports.{Act, Acts, HasFailed}
+use Rattle.cf_model.specs.State.{Filter, State}
+use Rattle.cf_model.specs.Trees.{Ends, Stops}
+use Rattle.cf_remote.specs.Told.{Told}
+
+-- the link to the remote, whether lines of steps that are left out stand in the running event, and whether a step was left out
+pub record Agency (R : Type 0) : Type 0 where
+  pub link : Linked R
+  pub shows_skips : Bool
+  pub left_out : Bool
+
+-- It stands for a state in the command replay, of which so many steps had been left out before.
+pub record Sees {R : Type 0} (told : R → Told) (start : ℕ) (p : Agency R) (z : State) : Type 0 where
+  pub replays : z.mode ≡ mode.Replay
+  pub link : IsLink told p.link z.link
+  pub shows_skips : p.shows_skips ≡ z.running.shows_skips
+  pub from : start ≤ z.running.skips
+  pub left_out : p.left_out ≡ nat_lt start z.running.skips
+
+-- a state of this kind has this filter, and the provider stands for it
+pub record Leaves {R : Type 0} (told : R → Told) (start : ℕ) (Is : State → Type 0) (f : Filter) (q : Agency R) : Type 0 where
+  pub state : State
+  pub is : Is state
+  pub filter : state.filter ≡ f
+  pub sees : Sees told start q state
+
+-- These acts are this part of an event: from each state with a filter of this kind for which the provider stands the part ends in
+-- one that they lead to, and for which the provider then stands. Where one of them met the device the part stops there.
+pub record Plays {R : Type 0} (told : R → Told) (Holds : Filter → Type 0) (f : Arrow State (Unit {0})) (p : Agency R) (acts : List Act) (q : Agency R) : Type 0 where
+  pub ends : (start : ℕ) (z : State) (g : Filter) → Sees told start p z → Holds z.filter → Acts z.filter acts g → (HasFailed acts → ⊥) → Leaves told start (Ends (f z) unit) g q
+  pub stops : (start : ℕ) (z : State) (g : Filter) → Sees told start p z → Holds z.filter → Acts z.filter acts g → HasFailed acts → Leaves told start (Stops (f z)) g q
+
+-- a filter of any kind
+abbrev pub Any : Filter → Type 0
+Any f = Unit {0}
+
+-- Acts led the port from the one state to the other, and are of this kind where memory did not run out.
+abbrev pub Performs : {X A : Type 0} → (X → List Act → X → Type 0) → (List Act → Type 0) → X → Result A NoMemory → X → Type 0
+Performs goes Is old r new = (acts : List Act) × goes old acts new × (is_ok r ≡ true → Is acts)

@@ -1,0 +1,24 @@
+//! The engine as a provider: what it does in a callback.
+//!
+//! To a fetch ask it sends Fetch, to a list ask List, and it consents to a dehydration. Under an inline link the request comes to
+//! the remote at once, and its reply becomes one operation on the ask. What a reply is looked at with is read from the port
+//! before the first act. specs/Answering says by which acts a callback is answered, and a law that this is the definitions' own.
+#![tactic(auto)]
+
+mod agents;
+mod attempts;
+mod callbacks;
+mod entries;
+mod exchanges;
+mod fetching;
+mod finding;
+mod identities;
+mod laws;
+mod lines;
+mod listing;
+mod locals;
+mod speaking;
+mod taking;
+mod uploads;
+
+pub use agents::Agent;
