@@ -1,13 +1,13 @@
 -- A filter whose disk is armed stands for what it stood for.
 use Rattle.std.proofs.Common.{◌≡◌, inl, sym, ◌∙◌, ap, subst, arith, length}
 use Rattle.cf_disk.specs.Disk.{IsUnchanged, Keeps, Leaves, State}
-use Rattle.cf_machine.specs.Held.{Desk, Held}
-use Rattle.cf_machine.specs.Sensing.{Stands, Stopped}
+use Rattle.cf_filter_machine.specs.Held.{Desk, Held}
+use Rattle.cf_filter_machine.specs.Sensing.{Stands, Stopped}
 use Rattle.cf_model.specs.State.{Filter}
-use Rattle.cf_points.proofs.Points.{Fair}
-use Rattle.cf_points.proofs.Readings.{read_at}
-use Rattle.cf_points.specs.At.{At}
-use Rattle.cf_points.specs.Known.{Known}
+use Rattle.cf_volume_points.proofs.Points.{Fair}
+use Rattle.cf_volume_points.proofs.Readings.{read_at}
+use Rattle.cf_volume_points.specs.At.{At}
+use Rattle.cf_volume_points.specs.Known.{Known}
 use Rattle.cf_volume.specs.Calls.{Runs}
 
 still_keeps : (d e : State) → IsUnchanged d e → Keeps d e

@@ -5,13 +5,13 @@ use Rattle.cf_base.specs.declared.ids.ItemId.{ItemId}
 use Rattle.cf_base.specs.declared.ids.Usn.{Usn}
 use Rattle.cf_disk.specs.Disk.{State}
 use Rattle.cf_filter.specs.Booking.{anchored_at, with_book_of}
-use Rattle.cf_machine.proofs.BookSteps.{book_moved}
-use Rattle.cf_machine.proofs.RemoveSteps.{row_there}
-use Rattle.cf_machine.proofs.RisingBooks.{anchors_with}
-use Rattle.cf_machine.specs.Held.{Desk, Held}
-use Rattle.cf_machine.specs.Keeping.{IsKeptVolume}
-use Rattle.cf_machine.specs.Lasts.{lasts_at}
-use Rattle.cf_machine.specs.Sensing.{Stands, sense}
+use Rattle.cf_filter_machine.proofs.BookSteps.{book_moved}
+use Rattle.cf_filter_machine.proofs.RemoveSteps.{row_there}
+use Rattle.cf_filter_machine.proofs.RisingBooks.{anchors_with}
+use Rattle.cf_filter_machine.specs.Held.{Desk, Held}
+use Rattle.cf_filter_machine.specs.Keeping.{IsKeptVolume}
+use Rattle.cf_filter_machine.specs.Lasts.{lasts_at}
+use Rattle.cf_filter_machine.specs.Sensing.{Stands, sense}
 use Rattle.cf_model.specs.Arrows.{one, unit}
 use Rattle.cf_model.specs.Books.{Book, anchor_of, with_anchor}
 use Rattle.cf_model.specs.Changes.{next_number}
@@ -19,12 +19,12 @@ use Rattle.cf_model.specs.Items.{Item, item_of}
 use Rattle.cf_model.specs.Numbers.{above, is_no_usn}
 use Rattle.cf_model.specs.State.{Filter, Volume}
 use Rattle.cf_model.specs.Words.{part}
-use Rattle.cf_points.proofs.BookChanges.{anchor_put}
-use Rattle.cf_points.specs.At.{At}
-use Rattle.cf_points.specs.Holding.{FitsTable}
-use Rattle.cf_points.specs.Known.{Known}
-use Rattle.cf_steps.proofs.LookUps.{of_found}
-use Rattle.cf_steps.specs.Answering.{Answers, IsAt}
+use Rattle.cf_volume_points.proofs.BookChanges.{anchor_put}
+use Rattle.cf_volume_points.specs.At.{At}
+use Rattle.cf_volume_points.specs.Holding.{FitsTable}
+use Rattle.cf_volume_points.specs.Known.{Known}
+use Rattle.cf_filter_steps.proofs.LookUps.{of_found}
+use Rattle.cf_filter_steps.specs.Answering.{Answers, IsAt}
 use Rattle.cf_table.specs.Means.{Means}
 use Rattle.cf_table.specs.Tables.{row_of}
 use Rattle.cf_table.specs.declared.rows.Row.{Row}

@@ -10,12 +10,12 @@ use Rattle.cf_base.specs.declared.codes.Fail.TheVariants.{No, Memory}
 use Rattle.cf_base.specs.declared.notices.Notice.{Notice}
 use Rattle.cf_disk.specs.Disk.{State}
 use Rattle.cf_filter.specs.Calling.{Asks, Calls, Takes, Told, answer_of, broken_by, is_stopped, noted, shown_by}
-use Rattle.cf_machine.specs.Held.{Desk, Held}
-use Rattle.cf_machine.specs.Lasting.{Lasts}
-use Rattle.cf_machine.specs.Sensing.{sense}
+use Rattle.cf_filter_machine.specs.Held.{Desk, Held}
+use Rattle.cf_filter_machine.specs.Lasting.{Lasts}
+use Rattle.cf_filter_machine.specs.Sensing.{sense}
 use Rattle.cf_model.specs.Arrows.{Arrow}
 use Rattle.cf_model.specs.State.{Filter}
-use Rattle.cf_steps.specs.Answering.{After, Answers, Any, Sense}
+use Rattle.cf_filter_steps.specs.Answering.{After, Answers, Any, Sense}
 
 -- a part that a call does on the machine inside
 pub seen_from : {X A : Type 0} {S : Sense X} {P : Filter → Type 0} {f : Arrow Filter A} {r : Result A Fail} {x y z : X} → x ≡ y → Answers S P f x r z → Answers S P f y r z

@@ -10,18 +10,18 @@ use Rattle.cf_base.specs.declared.codes.Fail.TheVariants.{No, Memory}
 use Rattle.cf_base.specs.declared.memory.Memory.{Memory as NoMemory}
 use Rattle.cf_base.specs.declared.waits.Ask.{Ask}
 use Rattle.cf_disk.specs.Disk.{State}
-use Rattle.cf_execute.specs.Sights.{Shows, callback_of, identity_of}
-use Rattle.cf_execute.specs.declared.outcomes.Callback.{Callback}
-use Rattle.cf_machine.proofs.DeskSteps.{stands_with}
-use Rattle.cf_machine.proofs.GoodSteps.{same_good}
-use Rattle.cf_machine.proofs.Seen.{seen_gone, seen_there}
+use Rattle.cf_provider.specs.Sights.{Shows, callback_of, identity_of}
+use Rattle.cf_provider.specs.declared.outcomes.Callback.{Callback}
+use Rattle.cf_filter_machine.proofs.DeskSteps.{stands_with}
+use Rattle.cf_filter_machine.proofs.GoodSteps.{same_good}
+use Rattle.cf_filter_machine.proofs.Seen.{seen_gone, seen_there}
 use Rattle.cf_filter.specs.Callbacks.{Answering, AnswersOn, CutOff, NoneFailed}
 use Rattle.cf_filter.specs.Draining.{CallsTo, Drains, DrainsTo, PartTo, TurnTo, Turns}
-use Rattle.cf_machine.specs.Held.{Desk, Held}
-use Rattle.cf_machine.specs.Lasting.{Moved}
+use Rattle.cf_filter_machine.specs.Held.{Desk, Held}
+use Rattle.cf_filter_machine.specs.Lasting.{Moved}
 use Rattle.cf_filter.specs.PortLaws.{false_true, gone_lasts}
 use Rattle.cf_filter.specs.Porting.{Goes, GoneTo, sight_of}
-use Rattle.cf_machine.specs.Sensing.{Rose, Stands, rose_on, sense}
+use Rattle.cf_filter_machine.specs.Sensing.{Rose, Stands, rose_on, sense}
 use Rattle.cf_filter.specs.Turning.{IsTurned, shows_end, with_no_own}
 use Rattle.cf_model.specs.Arrows.{Arrow}
 use Rattle.cf_model.specs.Callbacks.{begin_call, result_of}
@@ -30,9 +30,9 @@ use Rattle.cf_model.specs.Numbers.{most}
 use Rattle.cf_model.specs.Ports.{Act, Acts, with_rest}
 use Rattle.cf_model.specs.State.{Filter}
 use Rattle.cf_model.specs.Words.{part}
-use Rattle.cf_points.proofs.KeptSound.{means_all}
-use Rattle.cf_points.specs.Standing.{cluster_on}
-use Rattle.cf_steps.specs.Answering.{Any, Reads}
+use Rattle.cf_volume_points.proofs.KeptSound.{means_all}
+use Rattle.cf_volume_points.specs.Standing.{cluster_on}
+use Rattle.cf_filter_steps.specs.Answering.{Any, Reads}
 use Rattle.cf_table.specs.Tables.{row_of}
 use Rattle.cf_table.specs.declared.rows.Row.{Row}
 

@@ -11,13 +11,13 @@ use Rattle.cf_disk.specs.Disk.{State}
 use Rattle.cf_filter.proofs.Called.{is_broken, noted_back, still_noted, whole_again}
 use Rattle.cf_filter.specs.Calling.{Told, answer_of, broken_by, is_stopped, noted}
 use Rattle.cf_filter.specs.Handing.{Hands, given_as}
-use Rattle.cf_machine.specs.Held.{Held}
+use Rattle.cf_filter_machine.specs.Held.{Held}
 use Rattle.cf_filter.specs.PortLaws.{false_true}
-use Rattle.cf_machine.specs.Sensing.{sense}
+use Rattle.cf_filter_machine.specs.Sensing.{sense}
 use Rattle.cf_model.specs.Arrows.{Arrow}
 use Rattle.cf_model.specs.State.{Filter}
-use Rattle.cf_steps.specs.Answering.{After, Answers, Sense}
-use Rattle.cf_steps.specs.Readings.{whether}
+use Rattle.cf_filter_steps.specs.Answering.{After, Answers, Sense}
+use Rattle.cf_filter_steps.specs.Readings.{whether}
 
 -- whether it was done is all that it gives
 pub as_whether : {X : Type 0} {S : Sense X} {P : Filter → Type 0} {f : Arrow Filter (Unit {0})} {x y : X} (r : Result (Unit {0}) Fail) → Answers S P f x r y → Answers S P f x (whether r) y

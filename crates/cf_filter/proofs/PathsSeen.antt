@@ -8,22 +8,22 @@ use Rattle.cf_base.specs.declared.answers.Shown.{Shown}
 use Rattle.cf_base.specs.declared.codes.Fail.{Fail}
 use Rattle.cf_base.specs.declared.items.SeenPath.{SeenPath}
 use Rattle.cf_base.specs.declared.operations.Operation.{Operation}
-use Rattle.cf_calls.specs.Operating.{Keeps}
+use Rattle.cf_filter_calls.specs.Operating.{Keeps}
 use Rattle.cf_disk.specs.Disk.{State}
 use Rattle.cf_filter.specs.Porting.{HasSpelled, Spells}
-use Rattle.cf_machine.specs.Held.{Held}
-use Rattle.cf_machine.specs.Sensing.{sense}
+use Rattle.cf_filter_machine.specs.Held.{Held}
+use Rattle.cf_filter_machine.specs.Sensing.{sense}
 use Rattle.cf_model.specs.Books.{Book, Tombstone, aux_records, seen_record, with_seen, without_seen}
 use Rattle.cf_model.specs.Formats.{with_records}
 use Rattle.cf_model.specs.Numbers.{above}
 use Rattle.cf_model.specs.Operations.{execute_with}
 use Rattle.cf_model.specs.Ports.{seeing}
 use Rattle.cf_model.specs.Words.{put_in}
-use Rattle.cf_points.specs.Keeping.{AreShortIds}
-use Rattle.cf_queue.proofs.Steps.{seen_step}
-use Rattle.cf_steps.specs.Answering.{Answers, Any}
-use Rattle.cf_steps.specs.Good.{Every}
-use Rattle.cf_steps.specs.Listing.{HasRecordsBeside}
+use Rattle.cf_volume_points.specs.Keeping.{AreShortIds}
+use Rattle.cf_engine_queue.proofs.Steps.{seen_step}
+use Rattle.cf_filter_steps.specs.Answering.{Answers, Any}
+use Rattle.cf_filter_steps.specs.Good.{Every}
+use Rattle.cf_filter_steps.specs.Listing.{HasRecordsBeside}
 
 abbrev IsShort : SeenPath → Type 0
 IsShort p = p.item.0 < 18446744073709551616

@@ -13,21 +13,21 @@ use Rattle.cf_base.specs.declared.items.SeenPath.{SeenPath}
 use Rattle.cf_base.specs.declared.notices.Notice.{Notice}
 use Rattle.cf_base.specs.declared.operations.Operation.{Operation}
 use Rattle.cf_disk.specs.Disk.{State}
-use Rattle.cf_execute.specs.Acting.{Executes, refused_by, shown_of}
-use Rattle.cf_execute.specs.declared.outcomes.Outcome.{Outcome}
+use Rattle.cf_provider.specs.Acting.{Executes, refused_by, shown_of}
+use Rattle.cf_provider.specs.declared.outcomes.Outcome.{Outcome}
 use Rattle.cf_filter.proofs.Called.{lasts_after}
-use Rattle.cf_machine.proofs.DeskSteps.{stands_with}
-use Rattle.cf_machine.proofs.GoodSteps.{same_good}
+use Rattle.cf_filter_machine.proofs.DeskSteps.{stands_with}
+use Rattle.cf_filter_machine.proofs.GoodSteps.{same_good}
 use Rattle.cf_filter.specs.Calling.{Takes, Told, stopped_by}
-use Rattle.cf_machine.specs.Held.{Desk, Held}
+use Rattle.cf_filter_machine.specs.Held.{Desk, Held}
 use Rattle.cf_filter.specs.PortLaws.{false_true, goes_nowhere}
 use Rattle.cf_filter.specs.Porting.{Goes, GoneTo}
-use Rattle.cf_machine.specs.Sensing.{sense}
+use Rattle.cf_filter_machine.specs.Sensing.{sense}
 use Rattle.cf_model.specs.Arrows.{is_device}
 use Rattle.cf_model.specs.Operations.{execute_with}
 use Rattle.cf_model.specs.Ports.{Act, Did, Failed, Noted, seeing}
 use Rattle.cf_model.specs.State.{with_notes}
-use Rattle.cf_steps.specs.Answering.{Answers, Any}
+use Rattle.cf_filter_steps.specs.Answering.{Answers, Any}
 
 module _ {D : Type 0} (state : D → State) where
   pub noted_goes : (x y : Held D) (n : Notice) → y ≡ record x { desk = record x.desk { notes = x.desk.notes ++ n ∷ [] } } → Goes state x (Noted n ∷ []) y

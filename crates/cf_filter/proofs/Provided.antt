@@ -13,13 +13,13 @@ use Rattle.cf_filter.proofs.Called.{is_broken, noted_back, still_noted, whole_ag
 use Rattle.cf_filter.specs.Calling.{Takes, Told, answer_of, broken_by, is_stopped, noted, shown_by}
 use Rattle.cf_filter.specs.Callbacks.{Answering}
 use Rattle.cf_filter.specs.Draining.{CallsBack, CallsTo, PartTo, Provides}
-use Rattle.cf_machine.specs.Held.{Held}
+use Rattle.cf_filter_machine.specs.Held.{Held}
 use Rattle.cf_filter.specs.PortLaws.{false_true}
-use Rattle.cf_machine.specs.Sensing.{sense}
+use Rattle.cf_filter_machine.specs.Sensing.{sense}
 use Rattle.cf_model.specs.Arrows.{Arrow}
 use Rattle.cf_model.specs.Callbacks.{begin_call}
 use Rattle.cf_model.specs.State.{Filter}
-use Rattle.cf_steps.specs.Answering.{Answers}
+use Rattle.cf_filter_steps.specs.Answering.{Answers}
 
 module _ {D P : Type 0} (state : D → State) (answers : Answering P) (H : Filter → Type 0) (part : Arrow Filter Shown) where
   -- a call that counts as one for which memory ran out

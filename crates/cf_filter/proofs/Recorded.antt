@@ -16,14 +16,14 @@ use Rattle.cf_filter.specs.Booking.{with_book_of}
 use Rattle.cf_filter.specs.Calling.{Told, answer_of, broken_by, is_stopped}
 use Rattle.cf_filter.specs.PortLaws.{false_true}
 use Rattle.cf_filter.specs.Recording.{Attempts, HasRoom, PutsRecord, put_outcome, put_told, why_full}
-use Rattle.cf_machine.proofs.BookSteps.{book_lost, book_moved}
-use Rattle.cf_machine.proofs.DeskSteps.{on_disk}
-use Rattle.cf_machine.specs.Entering.{held}
-use Rattle.cf_machine.specs.Held.{Desk, Held}
-use Rattle.cf_machine.specs.Keeping.{IsKeptBook, IsKeptVolume}
-use Rattle.cf_machine.specs.Lasting.{Moved}
-use Rattle.cf_machine.specs.Lasts.{lasts_at}
-use Rattle.cf_machine.specs.Sensing.{Stands, sense}
+use Rattle.cf_filter_machine.proofs.BookSteps.{book_lost, book_moved}
+use Rattle.cf_filter_machine.proofs.DeskSteps.{on_disk}
+use Rattle.cf_filter_machine.specs.Entering.{held}
+use Rattle.cf_filter_machine.specs.Held.{Desk, Held}
+use Rattle.cf_filter_machine.specs.Keeping.{IsKeptBook, IsKeptVolume}
+use Rattle.cf_filter_machine.specs.Lasting.{Moved}
+use Rattle.cf_filter_machine.specs.Lasts.{lasts_at}
+use Rattle.cf_filter_machine.specs.Sensing.{Stands, sense}
 use Rattle.cf_model.specs.Arrows.{Arrow, attempt, one, outcome, unless_done}
 use Rattle.cf_model.specs.Books.{Book}
 use Rattle.cf_model.specs.Changes.{next_number}
@@ -31,9 +31,9 @@ use Rattle.cf_model.specs.Images.{table_full}
 use Rattle.cf_model.specs.State.{Filter, Volume}
 use Rattle.cf_model.specs.Trees.{Ends}
 use Rattle.cf_model.specs.Words.{first_of}
-use Rattle.cf_points.specs.At.{At}
-use Rattle.cf_points.specs.Holding.{FitsTable}
-use Rattle.cf_steps.specs.Answering.{Answers}
+use Rattle.cf_volume_points.specs.At.{At}
+use Rattle.cf_volume_points.specs.Holding.{FitsTable}
+use Rattle.cf_filter_steps.specs.Answering.{Answers}
 use Rattle.cf_volume.specs.Calls.{HasRecords, OnDisk, WhyAux, put_record}
 
 kept_with : (v : Volume) (b : Book) → FitsTable v.items b → IsKeptBook (next_number v) v.items b → IsKeptVolume v → IsKeptVolume (record v { book = b })

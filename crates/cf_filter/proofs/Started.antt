@@ -7,19 +7,19 @@ use Rattle.cf_base.specs.declared.ids.ItemId.{ItemId}
 use Rattle.cf_base.specs.declared.ids.Usn.{Usn}
 use Rattle.cf_base.specs.declared.policies.Policy.{Policy}
 use Rattle.cf_disk.specs.Disk.{State}
-use Rattle.cf_machine.proofs.PointSteps.{sure_points}
-use Rattle.cf_machine.specs.Held.{Held}
-use Rattle.cf_machine.specs.Keeping.{HasKeptPoints, IsKeptVolume}
-use Rattle.cf_machine.specs.Sensing.{Stands}
+use Rattle.cf_filter_machine.proofs.PointSteps.{sure_points}
+use Rattle.cf_filter_machine.specs.Held.{Held}
+use Rattle.cf_filter_machine.specs.Keeping.{HasKeptPoints, IsKeptVolume}
+use Rattle.cf_filter_machine.specs.Sensing.{Stands}
 use Rattle.cf_filter.specs.Starting.{desk_at}
 use Rattle.cf_model.specs.Books.{Book}
 use Rattle.cf_model.specs.Items.{Item, item_of, root}
 use Rattle.cf_model.specs.State.{Volume, new_filter, new_volume}
-use Rattle.cf_points.proofs.Points.{Fair}
-use Rattle.cf_points.specs.At.{At}
-use Rattle.cf_points.specs.Holding.{FitsTable}
-use Rattle.cf_points.specs.Known.{Known}
-use Rattle.cf_points.specs.Standing.{opened}
+use Rattle.cf_volume_points.proofs.Points.{Fair}
+use Rattle.cf_volume_points.specs.At.{At}
+use Rattle.cf_volume_points.specs.Holding.{FitsTable}
+use Rattle.cf_volume_points.specs.Known.{Known}
+use Rattle.cf_volume_points.specs.Standing.{opened}
 use Rattle.cf_tree.specs.Trees as trees
 
 -- a volume that was just made

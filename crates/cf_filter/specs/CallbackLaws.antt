@@ -2,7 +2,7 @@
 use Rattle.std.proofs.Common.{◌≡◌, ◌≤◌, ℕ, zero, suc, List, [], ◌∷◌, length, refl, sym, ◌∙◌, ap, subst, arith}
 use Rattle.cf_base.specs.declared.answers.Shown.{Shown}
 use Rattle.cf_base.specs.declared.waits.Ask.{Ask}
-use Rattle.cf_execute.specs.Sights.{Shows, Sight, callback_of}
+use Rattle.cf_provider.specs.Sights.{Shows, Sight, callback_of}
 use Rattle.cf_filter.specs.Callbacks.{Answering, CalledBack, CutBack, CutOff, Drained, NoneFailed}
 use Rattle.cf_model.proofs.TreeLaws.{ends_mapped, ends_then, stops_first, stops_mapped, stops_then}
 use Rattle.cf_model.specs.Arrows.{Arrow, unit}
@@ -11,7 +11,7 @@ use Rattle.cf_model.specs.Numbers.{most}
 use Rattle.cf_model.specs.Ports.{Act, Acts, HasFailed}
 use Rattle.cf_model.specs.State.{Filter, State, in_filter, with_filter}
 use Rattle.cf_model.specs.Trees.{Ends, Ret, Stops, Tree, bind}
-use Rattle.cf_steps.specs.Good.{IsGood}
+use Rattle.cf_filter_steps.specs.Good.{IsGood}
 
 -- The provider plays the arrow of the mode on a state that it sees, where what it is shown is that state's. It sees the state still
 -- where a callback leaves the outbox, and where the call is over.

@@ -1,11 +1,11 @@
 -- Callbacks of a provider, one after the other.
 use Rattle.std.specs.Prelude.{◌≡◌, ◌≤◌, ℕ, List, [], ◌∷◌, length}
 use Rattle.cf_base.specs.declared.waits.Ask.{Ask}
-use Rattle.cf_execute.specs.Sights.{Shows, Sight, callback_of}
-use Rattle.cf_execute.specs.declared.outcomes.Callback.{Callback}
+use Rattle.cf_provider.specs.Sights.{Shows, Sight, callback_of}
+use Rattle.cf_provider.specs.declared.outcomes.Callback.{Callback}
 use Rattle.cf_model.specs.Ports.{Act, Acts, Did, Failed, HasFailed, Noted, with_rest}
 use Rattle.cf_model.specs.State.{Filter}
-use Rattle.cf_steps.specs.Good.{IsGood}
+use Rattle.cf_filter_steps.specs.Good.{IsGood}
 
 -- none of them met Device
 abbrev pub NoneFailed : List Act → Type 0

@@ -7,10 +7,10 @@ use Rattle.cf_base.specs.declared.codes.Code.TheVariants as code
 use Rattle.cf_base.specs.declared.codes.Fail.{Fail}
 use Rattle.cf_base.specs.declared.codes.Fail.TheVariants.{No, Memory}
 use Rattle.cf_base.specs.declared.notices.Notice.{Notice}
-use Rattle.cf_machine.specs.Held.{Held}
+use Rattle.cf_filter_machine.specs.Held.{Held}
 use Rattle.cf_model.specs.Arrows.{Arrow}
 use Rattle.cf_model.specs.State.{Filter}
-use Rattle.cf_steps.specs.Answering.{Answers, Any, Sense}
+use Rattle.cf_filter_steps.specs.Answering.{Answers, Any, Sense}
 
 -- What a part of a call gave, or why it was refused; or that the device or memory stopped it.
 abbrev pub Told : Type 0 → Type 0

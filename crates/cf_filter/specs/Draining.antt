@@ -8,16 +8,16 @@ use Rattle.cf_base.specs.declared.waits.Ask.{Ask}
 use Rattle.cf_disk.specs.Disk.{State}
 use Rattle.cf_filter.specs.Callbacks.{Answering, AnswersOn, CalledBack, CutBack, NoneFailed}
 use Rattle.cf_filter.specs.Calling.{Told, answer_of, is_stopped, shown_by}
-use Rattle.cf_machine.specs.Held.{Held}
-use Rattle.cf_machine.specs.Lasting.{Lasts, Moved}
-use Rattle.cf_machine.specs.Sensing.{Rose, Stands, Stopped, sense}
+use Rattle.cf_filter_machine.specs.Held.{Held}
+use Rattle.cf_filter_machine.specs.Lasting.{Lasts, Moved}
+use Rattle.cf_filter_machine.specs.Sensing.{Rose, Stands, Stopped, sense}
 use Rattle.cf_model.specs.Arrows.{Arrow}
 use Rattle.cf_model.specs.Callbacks.{begin_call, result_of}
 use Rattle.cf_model.specs.Numbers.{most}
 use Rattle.cf_model.specs.Ports.{Act, Acts, HasFailed}
 use Rattle.cf_model.specs.State.{Filter}
 use Rattle.cf_model.specs.Trees.{Does, Ends, Stops}
-use Rattle.cf_steps.specs.Answering.{After}
+use Rattle.cf_filter_steps.specs.Answering.{After}
 
 -- one callback
 

@@ -4,11 +4,11 @@ use Rattle.cf_base.specs.declared.codes.Code.TheVariants as code
 use Rattle.cf_base.specs.declared.codes.Fail.{Fail}
 use Rattle.cf_base.specs.declared.codes.Fail.TheVariants.{No}
 use Rattle.cf_filter.specs.Calling.{Told}
-use Rattle.cf_machine.specs.Held.{Held}
+use Rattle.cf_filter_machine.specs.Held.{Held}
 use Rattle.cf_model.specs.Arrows.{Arrow}
 use Rattle.cf_model.specs.State.{Filter}
-use Rattle.cf_steps.specs.Answering.{Answers, Sense}
-use Rattle.cf_steps.specs.Readings.{whether}
+use Rattle.cf_filter_steps.specs.Answering.{Answers, Sense}
+use Rattle.cf_filter_steps.specs.Readings.{whether}
 
 -- nothing refuses it
 abbrev pub given_as : {A : Type 0} → Result A Fail → Told A

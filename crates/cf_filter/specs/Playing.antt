@@ -8,9 +8,9 @@ use Rattle.cf_disk.specs.Disk.{State as Disk}
 use Rattle.cf_filter.specs.CallbackLaws.{Plays, cut_calling, ends_calling, stops_calling}
 use Rattle.cf_filter.specs.Callbacks.{Answering}
 use Rattle.cf_filter.specs.Draining.{CallsBack, CallsTo}
-use Rattle.cf_machine.specs.Held.{Held}
-use Rattle.cf_machine.specs.Lasting.{Lasts, Moved}
-use Rattle.cf_machine.specs.Sensing.{Rose, Stands, Stopped}
+use Rattle.cf_filter_machine.specs.Held.{Held}
+use Rattle.cf_filter_machine.specs.Lasting.{Lasts, Moved}
+use Rattle.cf_filter_machine.specs.Sensing.{Rose, Stands, Stopped}
 use Rattle.cf_model.specs.Arrows.{Arrow}
 use Rattle.cf_model.specs.Callbacks.{calling}
 use Rattle.cf_model.specs.State.{Filter, State, with_filter}

@@ -4,15 +4,15 @@ use Rattle.cf_base.specs.declared.answers.AuxRecord.{AuxRecord}
 use Rattle.cf_base.specs.declared.items.SeenPath.{SeenPath}
 use Rattle.cf_base.specs.declared.notices.Notice.{Notice}
 use Rattle.cf_disk.specs.Disk.{State}
-use Rattle.cf_execute.specs.Sights.{Sight}
+use Rattle.cf_provider.specs.Sights.{Sight}
 use Rattle.cf_filter.specs.Callbacks.{NoneFailed}
-use Rattle.cf_machine.specs.Held.{Held}
-use Rattle.cf_machine.specs.Lasting.{Lasts, Moved}
-use Rattle.cf_machine.specs.Sensing.{Rose, Stands, Stopped}
+use Rattle.cf_filter_machine.specs.Held.{Held}
+use Rattle.cf_filter_machine.specs.Lasting.{Lasts, Moved}
+use Rattle.cf_filter_machine.specs.Sensing.{Rose, Stands, Stopped}
 use Rattle.cf_model.specs.Books.{seen_record}
 use Rattle.cf_model.specs.Ports.{Act, Acts, Did, Failed, HasFailed, Noted}
 use Rattle.cf_model.specs.State.{Filter}
-use Rattle.cf_points.specs.Keeping.{AreShortIds}
+use Rattle.cf_volume_points.specs.Keeping.{AreShortIds}
 
 -- what a provider sees of a filter
 abbrev pub sight_of : {D : Type 0} → Held D → Sight

@@ -6,15 +6,15 @@ use Rattle.cf_base.specs.declared.codes.Fail.{Fail}
 use Rattle.cf_base.specs.declared.codes.Fail.TheVariants as fail
 use Rattle.cf_base.specs.declared.memory.Memory.{Memory}
 use Rattle.cf_filter.specs.Calling.{Told}
-use Rattle.cf_machine.specs.Held.{Held}
-use Rattle.cf_machine.specs.Keeping.{IsKeptBook}
+use Rattle.cf_filter_machine.specs.Held.{Held}
+use Rattle.cf_filter_machine.specs.Keeping.{IsKeptBook}
 use Rattle.cf_model.specs.Arrows.{Arrow, attempt, outcome, unit}
 use Rattle.cf_model.specs.Books.{Book, aux_records}
 use Rattle.cf_model.specs.Changes.{next_number}
 use Rattle.cf_model.specs.Images.{table_full}
 use Rattle.cf_model.specs.State.{Filter}
 use Rattle.cf_model.specs.Words.{first_of}
-use Rattle.cf_steps.specs.Answering.{Answers, Sense}
+use Rattle.cf_filter_steps.specs.Answering.{Answers, Sense}
 use Rattle.cf_volume.specs.Calls.{HasRecords, put_record}
 
 -- The new book has this record in place of the one with its key, or none with the key, and all else as before. It is one that

@@ -7,7 +7,7 @@ use Rattle.cf_base.specs.declared.codes.Fail.TheVariants.{No, Memory}
 use Rattle.cf_base.specs.declared.memory.Memory.{Memory as NoMemory}
 use Rattle.cf_base.specs.declared.waits.End.{End}
 use Rattle.cf_base.specs.declared.answers.Shown.TheVariants as shown
-use Rattle.cf_machine.specs.Held.{Held}
+use Rattle.cf_filter_machine.specs.Held.{Held}
 use Rattle.cf_model.specs.Callbacks.{end_or_pending}
 
 -- A provider returned, and the filter is so. Without memory nothing is said.

@@ -4,13 +4,13 @@
 use crate::filters::Filter;
 use crate::told::done;
 use cf_base::{Fail, Mode, Notes, Pin, Reach};
-use cf_calls::{delete, rename, set_pin};
+use cf_filter_calls::{delete, rename, set_pin};
 use cf_disk::Disk;
 
 impl<D: Disk> Filter<D> {
     ghost use Rattle.std.specs.Prelude.{◌≡◌};
     ghost use Rattle.cf_filter.specs.Calling.{Calls, noted, shows_done};
-    ghost use Rattle.cf_machine.specs.Sensing.{sense};
+    ghost use Rattle.cf_filter_machine.specs.Sensing.{sense};
     ghost use Rattle.cf_model.specs.Calls.{delete, rename, set_pin};
 
     /// Removes an item. In mode Replay its tombstone is left in the same step, where its identity names a target. Refused as

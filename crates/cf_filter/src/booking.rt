@@ -2,18 +2,18 @@
 
 ghost use Rattle.std.specs.Prelude.{◌≡◌, true, option_copied};
 ghost use Rattle.cf_filter.specs.Booking.{anchored_at, with_book_of};
-ghost use Rattle.cf_machine.specs.Sensing.{sense};
+ghost use Rattle.cf_filter_machine.specs.Sensing.{sense};
 ghost use Rattle.cf_model.specs.Arrows.{one};
 ghost use Rattle.cf_model.specs.Items.{Item};
 ghost use Rattle.cf_model.specs.Numbers.{is_no_usn};
 ghost use Rattle.cf_model.specs.Words.{part};
-ghost use Rattle.cf_steps.specs.Answering.{Answers, IsAt};
+ghost use Rattle.cf_filter_steps.specs.Answering.{Answers, IsAt};
 
 use crate::filters::Filter;
 use crate::handing::given;
 use cf_base::{Fail, ItemId};
 use cf_disk::Disk;
-use cf_machine::Machine;
+use cf_filter_machine::Machine;
 use cf_table::Row;
 
 // Whether the item of a row never changed, or there is no row.

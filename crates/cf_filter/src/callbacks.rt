@@ -5,7 +5,7 @@ ghost use Rattle.std.specs.Prelude.{◌≡◌, [], unwrap_or, IfOk};
 use crate::filters::Filter;
 use cf_base::{Ask, Code, Fail, Identity, Memory, Shown};
 use cf_disk::Disk;
-use cf_execute::{Callback, Provider};
+use cf_provider::{Callback, Provider};
 use cf_table::Row;
 use std::alloc::Global;
 
@@ -46,15 +46,15 @@ fn callback_gone(alloc: Global, ask: Ask) -> Result<Callback, Memory>
 impl<D: Disk> Filter<D> {
     ghost use Rattle.std.specs.Prelude.{◌≡◌, IfOk};
     ghost use Rattle.cf_base.specs.declared.answers.Shown.{Shown};
-    ghost use Rattle.cf_execute.specs.Sights.{callback_of};
+    ghost use Rattle.cf_provider.specs.Sights.{callback_of};
     ghost use Rattle.cf_filter.specs.Draining.{CallsTo, Drains, PartTo, Turns};
     ghost use Rattle.cf_filter.specs.Turning.{IsTurned, shows_end, with_no_own};
-    ghost use Rattle.cf_machine.specs.Held.{Held};
-    ghost use Rattle.cf_machine.specs.Sensing.{sense};
+    ghost use Rattle.cf_filter_machine.specs.Held.{Held};
+    ghost use Rattle.cf_filter_machine.specs.Sensing.{sense};
     ghost use Rattle.cf_model.specs.Arrows.{Arrow};
     ghost use Rattle.cf_model.specs.Numbers.{most};
     ghost use Rattle.cf_model.specs.State.{Filter as model};
-    ghost use Rattle.cf_steps.specs.Answering.{Any, Reads};
+    ghost use Rattle.cf_filter_steps.specs.Answering.{Any, Reads};
 
     fn callback(&self, ask: Ask) -> Result<Callback, Memory>
         ensures { IfOk result (Reads (sense D.state) Any (callback_of ask) self.now) }

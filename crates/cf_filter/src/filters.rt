@@ -1,7 +1,7 @@
 //! A filter on a disk.
 
 use cf_disk::Disk;
-use cf_machine::Machine;
+use cf_filter_machine::Machine;
 use std::marker::Model;
 
 /// A filter on a disk: a volume, and what stands in memory beside it until a restart.
@@ -11,7 +11,7 @@ pub struct Filter<D: Disk> {
 }
 
 impl<D: Disk> Model for Filter<D> {
-    ghost use Rattle.cf_machine.specs.Held.{Held};
+    ghost use Rattle.cf_filter_machine.specs.Held.{Held};
 
     ghost Value = { Held D };
 

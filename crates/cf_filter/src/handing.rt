@@ -8,7 +8,7 @@ use crate::filters::Filter;
 use crate::told::Told;
 use cf_base::{Blob, Change, Fail, ItemId, Notes, Span};
 use cf_disk::Disk;
-use cf_steps::Steps;
+use cf_filter_steps::Steps;
 
 pub(crate) fn given<A>(told: Result<A, Fail>) -> Told<A>
     ensures { result ≡ given_as told }
@@ -23,14 +23,14 @@ impl<D: Disk> Filter<D> {
     ghost use Rattle.std.specs.Prelude.{false, IfOk};
     ghost use Rattle.cf_filter.specs.Calling.{noted};
     ghost use Rattle.cf_filter.specs.Handing.{Hands};
-    ghost use Rattle.cf_machine.specs.Sensing.{sense};
+    ghost use Rattle.cf_filter_machine.specs.Sensing.{sense};
     ghost use Rattle.cf_model.specs.Arrows.{one};
     ghost use Rattle.cf_model.specs.Changes.{change as one_change};
     ghost use Rattle.cf_model.specs.Items.{Item};
     ghost use Rattle.cf_model.specs.Operations.{as_it_is};
-    ghost use Rattle.cf_steps.specs.Answering.{Reads};
-    ghost use Rattle.cf_steps.specs.Putting.{IsHere, MayGo, bytes_there, removed};
-    ghost use Rattle.cf_steps.specs.Suiting.{Ready};
+    ghost use Rattle.cf_filter_steps.specs.Answering.{Reads};
+    ghost use Rattle.cf_filter_steps.specs.Putting.{IsHere, MayGo, bytes_there, removed};
+    ghost use Rattle.cf_filter_steps.specs.Suiting.{Ready};
 
     /// Makes a change that suits and finds room; its line tells the number. Refused as Broken, Device.
     pub fn engine_apply(&mut self, change: &Change, notes: &mut Notes) -> Result<(), Fail>

@@ -1,6 +1,6 @@
 //! The filter: a volume on a disk, and what stands in memory beside it until a restart.
 //!
-//! Contracts see a `Filter` as its disk, what is known of the volume on it, and its desk (specs/Held of `cf_machine`). How these stand for
+//! Contracts see a `Filter` as its disk, what is known of the volume on it, and its desk (specs/Held of `cf_filter_machine`). How these stand for
 //! states of the definitions says `sense` (specs/Sensing there). Where the device stops a call, the disk's count of faults rose
 //! since that call began (`Rose`, there).
 #![tactic(auto)]

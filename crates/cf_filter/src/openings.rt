@@ -7,7 +7,7 @@ ghost use Rattle.cf_filter.specs.Starting.{desk_at};
 use crate::filters::Filter;
 use cf_base::{Fail, Policy};
 use cf_disk::Disk;
-use cf_machine::{Desk, Machine};
+use cf_filter_machine::{Desk, Machine};
 use cf_volume::Volume;
 use std::alloc::Global;
 
@@ -25,17 +25,17 @@ impl<D: Disk> Filter<D> {
     ghost use Rattle.cf_base.specs.declared.changes.Change.{Change};
     ghost use Rattle.cf_base.specs.declared.codes.Code.TheVariants.{Exhausted, NotAVolume};
     ghost use Rattle.cf_base.specs.declared.ids.Usn.{Usn};
-    ghost use Rattle.cf_commit.specs.Loaded.{HoldsImage, StandsOrWas};
+    ghost use Rattle.cf_volume_commit.specs.Loaded.{HoldsImage, StandsOrWas};
     ghost use Rattle.cf_disk.specs.Disk.{Leaves, size_of};
-    ghost use Rattle.cf_machine.specs.Keeping.{IsKeptVolume};
-    ghost use Rattle.cf_machine.specs.Sensing.{Stands, Stopped};
+    ghost use Rattle.cf_filter_machine.specs.Keeping.{IsKeptVolume};
+    ghost use Rattle.cf_filter_machine.specs.Sensing.{Stands, Stopped};
     ghost use Rattle.cf_journal.specs.Settled.{IsFitSize};
     ghost use Rattle.cf_journal.specs.Steps.{ReadsOnly};
     ghost use Rattle.cf_model.specs.Books.{Book};
     ghost use Rattle.cf_model.specs.Formats.{Image};
     ghost use Rattle.cf_model.specs.Numbers.{most};
     ghost use Rattle.cf_model.specs.State.{Filter as model, new_filter, new_volume};
-    ghost use Rattle.cf_points.specs.Standing.{Standing, clusters_on, opened};
+    ghost use Rattle.cf_volume_points.specs.Standing.{Standing, clusters_on, opened};
     ghost use Rattle.cf_volume.specs.Calls.{IsCause, IsRefused, Runs, StopsOnly};
     ghost use Rattle.cf_volume.specs.Openings.{IsOpenedFrom};
 

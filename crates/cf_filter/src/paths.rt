@@ -5,7 +5,7 @@ ghost use Rattle.cf_filter.specs.Porting.{Spells};
 ghost use Rattle.cf_model.specs.Books.{seen_record};
 
 use cf_base::{AuxRecord, Memory, SeenPath, Sequence};
-use cf_queue::spell_seen;
+use cf_engine_queue::spell_seen;
 use std::alloc::Global;
 
 // Ids have room in the keys of records.

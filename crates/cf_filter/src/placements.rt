@@ -7,14 +7,14 @@ ghost use Rattle.cf_placeholder.specs.Plans.{meant};
 use crate::filters::Filter;
 use crate::told::{item, number};
 use cf_base::{Fail, Identity, ItemId, Notes, Usn};
-use cf_calls::{convert, create, revert, unmark, update};
+use cf_filter_calls::{convert, create, revert, unmark, update};
 use cf_disk::Disk;
 use cf_placeholder::Creation;
 
 impl<D: Disk> Filter<D> {
     ghost use Rattle.std.specs.Prelude.{◌≡◌};
     ghost use Rattle.cf_filter.specs.Calling.{Calls, noted};
-    ghost use Rattle.cf_machine.specs.Sensing.{sense};
+    ghost use Rattle.cf_filter_machine.specs.Sensing.{sense};
     ghost use Rattle.cf_model.specs.Placements.{convert, create, revert, unmark, update};
 
     /// A new file, directory or placeholder at a path (CfCreatePlaceholders, and an application's own). Gives its id.

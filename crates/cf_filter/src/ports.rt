@@ -7,9 +7,9 @@ use crate::filters::Filter;
 use crate::paths::spell_paths;
 use crate::told::outcome;
 use cf_base::{Ask, AuxRecord, Code, Fail, Key, Memory, Notice, Operation, SeenPath};
-use cf_calls::execute_with;
+use cf_filter_calls::execute_with;
 use cf_disk::Disk;
-use cf_execute::{Outcome, Port};
+use cf_provider::{Outcome, Port};
 use cf_table::Rows;
 
 fn is_device(code: Code) -> bool
@@ -25,7 +25,7 @@ impl<D: Disk> Filter<D> {
     ghost use Rattle.std.specs.Prelude.{◌∷◌, ◌++◌, [], false, true, List, IfNone, IfSome, OnErr, OnOk};
     ghost use Rattle.cf_base.specs.declared.items.SeenPath.{SeenPath};
     ghost use Rattle.cf_base.specs.declared.waits.Ask.{Ask};
-    ghost use Rattle.cf_execute.specs.Acting.{Executes};
+    ghost use Rattle.cf_provider.specs.Acting.{Executes};
     ghost use Rattle.cf_filter.specs.Calling.{stopped_by};
     ghost use Rattle.cf_filter.specs.Porting.{Goes, Spells};
 

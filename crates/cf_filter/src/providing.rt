@@ -4,17 +4,17 @@
 use crate::filters::Filter;
 use crate::told::{done, outcome};
 use cf_base::{AuxRecord, Fail, Notes, Operation, WaitId};
-use cf_calls::{cancel, execute, execute_with, tick};
+use cf_filter_calls::{cancel, execute, execute_with, tick};
 use cf_disk::Disk;
-use cf_execute::{Outcome, Provider};
+use cf_provider::{Outcome, Provider};
 
 impl<D: Disk> Filter<D> {
     ghost use Rattle.std.specs.Prelude.{◌≡◌};
-    ghost use Rattle.cf_execute.specs.Acting.{shown_of};
+    ghost use Rattle.cf_provider.specs.Acting.{shown_of};
     ghost use Rattle.cf_filter.specs.Calling.{noted, shows_done};
     ghost use Rattle.cf_filter.specs.Draining.{Provides};
-    ghost use Rattle.cf_steps.specs.Answering.{Any};
-    ghost use Rattle.cf_calls.specs.Operating.{Keeps};
+    ghost use Rattle.cf_filter_steps.specs.Answering.{Any};
+    ghost use Rattle.cf_filter_calls.specs.Operating.{Keeps};
     ghost use Rattle.cf_model.specs.Books.{Book};
     ghost use Rattle.cf_model.specs.Operations.{execute, execute_with};
     ghost use Rattle.cf_model.specs.Waits.{cancel, tick};

@@ -5,16 +5,16 @@ use crate::answers::Waited;
 use crate::filters::Filter;
 use crate::told::waited;
 use cf_base::{Fail, Handle, Notes, Span};
-use cf_calls::{dehydrate, get, hydrate, list, read};
+use cf_filter_calls::{dehydrate, get, hydrate, list, read};
 use cf_disk::Disk;
-use cf_execute::Provider;
+use cf_provider::Provider;
 
 impl<D: Disk> Filter<D> {
     ghost use Rattle.std.specs.Prelude.{◌≡◌};
     ghost use Rattle.cf_filter.specs.Calling.{noted};
     ghost use Rattle.cf_filter.specs.Draining.{Provides};
     ghost use Rattle.cf_filter.specs.Showing.{shows_waited};
-    ghost use Rattle.cf_steps.specs.Answering.{Any};
+    ghost use Rattle.cf_filter_steps.specs.Answering.{Any};
     ghost use Rattle.cf_model.specs.Dehydration.{dehydrate};
     ghost use Rattle.cf_model.specs.Waits.{get, hydrate, list, read};
 

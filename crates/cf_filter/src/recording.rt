@@ -3,17 +3,17 @@
 ghost use Rattle.std.specs.Prelude.{◌≡◌, ◌≤◌, ℕ, List, Some, false, length, option_copied, IfOk};
 ghost use Rattle.cf_filter.specs.Booking.{with_book_of};
 ghost use Rattle.cf_filter.specs.Recording.{HasRoom, PutsRecord, put_outcome, put_told, why_full};
-ghost use Rattle.cf_machine.specs.Sensing.{Stands, sense};
+ghost use Rattle.cf_filter_machine.specs.Sensing.{Stands, sense};
 ghost use Rattle.cf_model.specs.Arrows.{attempt, one};
 ghost use Rattle.cf_model.specs.Books.{Book};
 ghost use Rattle.cf_model.specs.State.{Filter as state};
-ghost use Rattle.cf_steps.specs.Answering.{Answers};
+ghost use Rattle.cf_filter_steps.specs.Answering.{Answers};
 
 use crate::filters::Filter;
 use crate::told::Told;
 use cf_base::{Code, Fail, Memory};
 use cf_disk::Disk;
-use cf_machine::Machine;
+use cf_filter_machine::Machine;
 
 // Whether there was room, by what the volume answered.
 fn has_room(put: Result<(), Fail>) -> Result<bool, Memory>

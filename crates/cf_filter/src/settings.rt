@@ -6,13 +6,13 @@ ghost use Rattle.cf_base.specs.declared.answers.Shown.TheVariants as shown;
 use crate::filters::Filter;
 use crate::told::{count, done, handle};
 use cf_base::{Fail, Handle, Mode, Notes, Policy};
-use cf_calls::{connect, flush, open_file, set_policy};
+use cf_filter_calls::{connect, flush, open_file, set_policy};
 use cf_disk::Disk;
 
 impl<D: Disk> Filter<D> {
     ghost use Rattle.std.specs.Prelude.{◌≡◌};
     ghost use Rattle.cf_filter.specs.Calling.{Calls, noted, shows_done};
-    ghost use Rattle.cf_machine.specs.Sensing.{sense};
+    ghost use Rattle.cf_filter_machine.specs.Sensing.{sense};
     ghost use Rattle.cf_model.specs.Calls.{flush, open_file, set_policy};
     ghost use Rattle.cf_model.specs.Waits.{connect};
 

@@ -12,7 +12,7 @@ impl<D: Disk> Filter<D> {
     ghost use Rattle.cf_model.specs.Numbers.{most};
     ghost use Rattle.std.specs.Option.{option_map};
     ghost use Rattle.cf_model.specs.Requests.{live_of};
-    ghost use Rattle.cf_requests.specs.Told.{is_busy, is_hydrating, is_listing};
+    ghost use Rattle.cf_waits.specs.Told.{is_busy, is_hydrating, is_listing};
 
     /// The volume.
     pub fn volume(&self) -> &Volume<D>

@@ -7,12 +7,12 @@ use crate::answers::Info;
 use crate::filters::Filter;
 use crate::told::{answer, blocks, clock, info, runs};
 use cf_base::{Class, Fail, Sequence, Span};
-use cf_calls as calls;
+use cf_filter_calls as calls;
 use cf_disk::Disk;
 
 impl<D: Disk> Filter<D> {
     ghost use Rattle.cf_filter.specs.Calling.{Asks};
-    ghost use Rattle.cf_machine.specs.Sensing.{sense};
+    ghost use Rattle.cf_filter_machine.specs.Sensing.{sense};
     ghost use Rattle.cf_filter.specs.Showing.{shows_blocks, shows_info};
     ghost use Rattle.cf_model.specs.Calls.{df, info, ranges, used};
 

@@ -2,13 +2,13 @@
 
 ghost use Rattle.std.specs.Prelude.{◌≡◌};
 ghost use Rattle.cf_base.specs.declared.answers.Shown.TheVariants as shown;
-ghost use Rattle.cf_execute.specs.Acting.{shown_of};
+ghost use Rattle.cf_provider.specs.Acting.{shown_of};
 ghost use Rattle.cf_filter.specs.Calling.{Takes, answer_of, shows_done};
 ghost use Rattle.cf_filter.specs.Showing.{shows_blocks, shows_info, shows_waited};
 
 use crate::answers::{Info, Waited};
 use cf_base::{Code, Fail, Handle, ItemId, Sequence, Shown, Span, Usn};
-use cf_execute::Outcome;
+use cf_provider::Outcome;
 
 /// What a part of a call gave, or why it was refused; or that the device or memory stopped it. A part that shows what its
 /// call can not give counts as stopped for want of memory.

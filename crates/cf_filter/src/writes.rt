@@ -6,15 +6,15 @@ ghost use Rattle.cf_base.specs.declared.answers.Shown.TheVariants as shown;
 use crate::filters::Filter;
 use crate::told::{done, number};
 use cf_base::{Fail, Handle, Notes, Usn};
-use cf_calls::{close, keep_full, set_in_sync, set_size, write};
+use cf_filter_calls::{close, keep_full, set_in_sync, set_size, write};
 use cf_disk::Disk;
-use cf_execute::Provider;
+use cf_provider::Provider;
 
 impl<D: Disk> Filter<D> {
     ghost use Rattle.std.specs.Prelude.{◌≡◌};
     ghost use Rattle.cf_filter.specs.Calling.{noted, shows_done};
     ghost use Rattle.cf_filter.specs.Draining.{Provides};
-    ghost use Rattle.cf_steps.specs.Answering.{Any};
+    ghost use Rattle.cf_filter_steps.specs.Answering.{Any};
     ghost use Rattle.cf_model.specs.Calls.{set_size, write};
     ghost use Rattle.cf_model.specs.Placements.{keep_full, mark};
     ghost use Rattle.cf_model.specs.Waits.{close};

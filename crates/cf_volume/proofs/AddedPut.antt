@@ -7,9 +7,9 @@ use Rattle.std.proofs.lemmas.List.Elements.{All-nil}
 use Rattle.cf_base.specs.declared.changes.Change.{Change}
 use Rattle.cf_base.specs.declared.ids.ItemId.{ItemId}
 use Rattle.cf_base.specs.declared.ids.Usn.{Usn}
-use Rattle.cf_data.specs.Area.{KeepsWhere}
-use Rattle.cf_data.specs.Roles.{IsCommitted}
-use Rattle.cf_data.specs.declared.uses.Use.{Use}
+use Rattle.cf_clusters.specs.Area.{KeepsWhere}
+use Rattle.cf_clusters.specs.Roles.{IsCommitted}
+use Rattle.cf_clusters.specs.declared.uses.Use.{Use}
 use Rattle.cf_disk.specs.Disk.{Leaves, State, size_of}
 use Rattle.cf_journal.specs.Settled.{IsFitSize}
 use Rattle.cf_model.specs.Blocks.{puts_into}
@@ -18,16 +18,16 @@ use Rattle.cf_model.specs.Items.{Item}
 use Rattle.cf_model.specs.Logs.{next_by}
 use Rattle.cf_model.specs.Numbers.{above, no_usn, usn_after}
 use Rattle.cf_model.specs.State.{Volume}
-use Rattle.cf_points.proofs.NewItems.{added_at, fresh_row}
-use Rattle.cf_points.proofs.Points.{Fair}
-use Rattle.cf_points.proofs.RowChanges.{found_with}
-use Rattle.cf_points.proofs.Stages.{moves_none}
-use Rattle.cf_points.specs.At.{At}
-use Rattle.cf_points.specs.Clusters.{clusters_in_row, clusters_in_rows, once, times}
-use Rattle.cf_points.specs.Holding.{FitsTable, HoldsRow}
-use Rattle.cf_points.specs.Known.{Known, row_then}
-use Rattle.cf_points.specs.Staging.{Moves}
-use Rattle.cf_points.specs.Standing.{cluster_on}
+use Rattle.cf_volume_points.proofs.NewItems.{added_at, fresh_row}
+use Rattle.cf_volume_points.proofs.Points.{Fair}
+use Rattle.cf_volume_points.proofs.RowChanges.{found_with}
+use Rattle.cf_volume_points.proofs.Stages.{moves_none}
+use Rattle.cf_volume_points.specs.At.{At}
+use Rattle.cf_volume_points.specs.Clusters.{clusters_in_row, clusters_in_rows, once, times}
+use Rattle.cf_volume_points.specs.Holding.{FitsTable, HoldsRow}
+use Rattle.cf_volume_points.specs.Known.{Known, row_then}
+use Rattle.cf_volume_points.specs.Staging.{Moves}
+use Rattle.cf_volume_points.specs.Standing.{cluster_on}
 use Rattle.cf_table.proofs.NextChange.{next_goes_on}
 use Rattle.cf_table.specs.Means.{IsFresh, IsLater}
 use Rattle.cf_table.specs.Spelling.{HasRoom}

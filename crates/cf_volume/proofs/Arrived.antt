@@ -9,7 +9,7 @@ use Rattle.cf_base.specs.declared.ids.ItemId.{ItemId}
 use Rattle.cf_base.specs.declared.ids.Usn.{Usn}
 use Rattle.cf_base.specs.declared.items.Kind.{Kind}
 use Rattle.cf_base.specs.declared.changes.Change.TheVariants as change
-use Rattle.cf_data.specs.Roles.{how_many, is_now}
+use Rattle.cf_clusters.specs.Roles.{how_many, is_now}
 use Rattle.cf_disk.specs.Disk.{State}
 use Rattle.cf_model.specs.Blocks.{blocks_in, puts_into}
 use Rattle.cf_model.specs.Books.{Book, anchor_of}
@@ -20,15 +20,15 @@ use Rattle.cf_model.specs.Items.{Item, item_of, pin_of}
 use Rattle.cf_model.specs.Numbers.{most, most_items, no_usn, usn_after}
 use Rattle.cf_model.specs.State.{Volume}
 use Rattle.cf_model.specs.Words.{part}
-use Rattle.cf_points.proofs.ItemChanges.{row_holds, rows_mean}
-use Rattle.cf_points.proofs.NewItems.{no_item}
-use Rattle.cf_points.proofs.RowRoom.{AreEven, below_blocks, blocks_counted, even_items, fits_of, full_of_many, held_count, held_len, last_fits, last_full, planned_len}
-use Rattle.cf_points.specs.At.{At}
-use Rattle.cf_points.specs.Holding.{FitsTable}
-use Rattle.cf_points.specs.Known.{Known}
-use Rattle.cf_points.specs.Lengths.{len_with}
-use Rattle.cf_points.specs.Sound.{len_now}
-use Rattle.cf_points.specs.Standing.{cluster_on}
+use Rattle.cf_volume_points.proofs.ItemChanges.{row_holds, rows_mean}
+use Rattle.cf_volume_points.proofs.NewItems.{no_item}
+use Rattle.cf_volume_points.proofs.RowRoom.{AreEven, below_blocks, blocks_counted, even_items, fits_of, full_of_many, held_count, held_len, last_fits, last_full, planned_len}
+use Rattle.cf_volume_points.specs.At.{At}
+use Rattle.cf_volume_points.specs.Holding.{FitsTable}
+use Rattle.cf_volume_points.specs.Known.{Known}
+use Rattle.cf_volume_points.specs.Lengths.{len_with}
+use Rattle.cf_volume_points.specs.Sound.{len_now}
+use Rattle.cf_volume_points.specs.Standing.{cluster_on}
 use Rattle.cf_ranges.specs.Positions.{IsBelow, touched}
 use Rattle.cf_table.proofs.TableMeans.{same_pin}
 use Rattle.cf_table.specs.Means.{Means}

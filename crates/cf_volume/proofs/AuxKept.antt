@@ -8,7 +8,7 @@ use Rattle.cf_base.specs.declared.codes.Fail.TheVariants.{No}
 use Rattle.cf_model.specs.Books.{Book}
 use Rattle.cf_model.specs.Images.{table_full}
 use Rattle.cf_model.specs.State.{Volume}
-use Rattle.cf_points.specs.Known.{Known}
+use Rattle.cf_volume_points.specs.Known.{Known}
 use Rattle.cf_volume.specs.AuxPuts.{IsAuxKept, IsAuxPut}
 
 pub aux_refused : (v : Volume) (b : Book) (result : Result (Unit {0}) Fail) (e : Fail) (c : Code) → result ≡ Err e → e ≡ No c → IsAuxPut v b result → table_full v.items b ≡ true

@@ -9,12 +9,12 @@ use Rattle.cf_base.specs.declared.answers.Anchor.{Anchor}
 use Rattle.cf_base.specs.declared.answers.AuxRecord.{AuxRecord}
 use Rattle.cf_base.specs.declared.ids.ItemId.{ItemId}
 use Rattle.cf_base.specs.declared.memory.Memory.{Memory}
-use Rattle.cf_commit.proofs.MergedKeys.{at_with, at_without}
-use Rattle.cf_image.proofs.Keys.{else_before}
-use Rattle.cf_image.specs.Contents.{record_at}
-use Rattle.cf_image.specs.RecordLists.{IsShort}
-use Rattle.cf_image.specs.Spelled.{AreRecordsFrom, IsAfter}
-use Rattle.cf_image.specs.declared.contents.Contents.{Contents}
+use Rattle.cf_volume_commit.proofs.MergedKeys.{at_with, at_without}
+use Rattle.cf_volume_image.proofs.Keys.{else_before}
+use Rattle.cf_volume_image.specs.Contents.{record_at}
+use Rattle.cf_volume_image.specs.RecordLists.{IsShort}
+use Rattle.cf_volume_image.specs.Spelled.{AreRecordsFrom, IsAfter}
+use Rattle.cf_volume_image.specs.declared.contents.Contents.{Contents}
 use Rattle.cf_model.specs.Books.{Book, anchor_of, aux_records}
 use Rattle.cf_model.specs.Formats.{with_record, with_records, without_record}
 use Rattle.cf_model.specs.Images.{aux_len, image_len, table_full}
@@ -22,8 +22,8 @@ use Rattle.cf_model.specs.Items.{Item}
 use Rattle.cf_model.specs.Numbers.{no_usn}
 use Rattle.cf_model.specs.State.{Volume}
 use Rattle.cf_model.specs.Words.{comes_before, part, put_in, same}
-use Rattle.cf_commit.proofs.NamedKeys.{filter_records}
-use Rattle.cf_points.specs.Known.{or_now}
+use Rattle.cf_volume_commit.proofs.NamedKeys.{filter_records}
+use Rattle.cf_volume_points.specs.Known.{or_now}
 use Rattle.cf_table.proofs.NamedEntries.{same_itself}
 use Rattle.cf_volume.proofs.DraftFlags.{drafts_even, less_same, table_exact}
 use Rattle.cf_volume.proofs.DraftGone.{records_rise}

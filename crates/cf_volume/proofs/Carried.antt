@@ -2,19 +2,19 @@
 use Rattle.std.proofs.Common.{◌≡◌, ℕ, ◌+◌, true, List, [], sym, ◌∙◌, ap, subst}
 use Rattle.cf_base.specs.declared.changes.Change.{Change}
 use Rattle.cf_base.specs.declared.ids.ItemId.{ItemId}
-use Rattle.cf_blocks.specs.Bytes.{puts_in}
-use Rattle.cf_data.specs.declared.uses.Use.{Use}
+use Rattle.cf_volume_blocks.specs.Bytes.{puts_in}
+use Rattle.cf_clusters.specs.declared.uses.Use.{Use}
 use Rattle.cf_disk.specs.Disk.{State}
 use Rattle.cf_model.specs.Changes.{next_number, put_change}
 use Rattle.cf_model.specs.Items.{Item}
 use Rattle.cf_model.specs.State.{Volume}
-use Rattle.cf_points.proofs.ItemChanges.{changed_at}
-use Rattle.cf_points.proofs.Points.{Fair}
-use Rattle.cf_points.specs.At.{At}
-use Rattle.cf_points.specs.Holding.{FitsTable}
-use Rattle.cf_points.specs.Staging.{AreBlocks}
-use Rattle.cf_points.specs.Standing.{cluster_on}
-use Rattle.cf_points.specs.Known.{Known, row_then}
+use Rattle.cf_volume_points.proofs.ItemChanges.{changed_at}
+use Rattle.cf_volume_points.proofs.Points.{Fair}
+use Rattle.cf_volume_points.specs.At.{At}
+use Rattle.cf_volume_points.specs.Holding.{FitsTable}
+use Rattle.cf_volume_points.specs.Staging.{AreBlocks}
+use Rattle.cf_volume_points.specs.Standing.{cluster_on}
+use Rattle.cf_volume_points.specs.Known.{Known, row_then}
 use Rattle.cf_ranges.specs.Pairs.{IsRising}
 use Rattle.cf_ranges.specs.Positions.{IsRuns}
 use Rattle.cf_table.specs.Applied.{item_effect}

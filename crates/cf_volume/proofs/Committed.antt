@@ -5,15 +5,15 @@ use Rattle.std.proofs.lemmas.Bool.{cond-false, eq-eqb, true≢false}
 use Rattle.std.proofs.lemmas.List.{length-map}
 use Rattle.std.proofs.lemmas.List.Elements.{All-head, All-tail, All-nil, All-cons, All-weaker}
 use Rattle.cf_base.specs.declared.ids.ItemId.{ItemId}
-use Rattle.cf_commit.specs.Differing.{IsThen}
-use Rattle.cf_commit.specs.Leading.{CanBeWritten, HaveStoredPins}
-use Rattle.cf_commit.specs.declared.earlier.Earlier.{Earlier}
-use Rattle.cf_data.specs.Roles.{committed}
-use Rattle.cf_data.specs.declared.uses.Use.{Use}
+use Rattle.cf_volume_commit.specs.Differing.{IsThen}
+use Rattle.cf_volume_commit.specs.Leading.{CanBeWritten, HaveStoredPins}
+use Rattle.cf_volume_commit.specs.declared.earlier.Earlier.{Earlier}
+use Rattle.cf_clusters.specs.Roles.{committed}
+use Rattle.cf_clusters.specs.declared.uses.Use.{Use}
 use Rattle.cf_disk.specs.Disk.{Leaves, Only, State, size_of}
-use Rattle.cf_image.specs.Contents.{image_of}
-use Rattle.cf_image.specs.Spelled.{AreRecordsFrom}
-use Rattle.cf_image.specs.States.{Tells}
+use Rattle.cf_volume_image.specs.Contents.{image_of}
+use Rattle.cf_volume_image.specs.Spelled.{AreRecordsFrom}
+use Rattle.cf_volume_image.specs.States.{Tells}
 use Rattle.cf_journal.specs.Content.{Content, clusters}
 use Rattle.cf_journal.specs.Settled.{IsFitSize, Settled}
 use Rattle.cf_journal.specs.declared.journals.Journal.{Journal}
@@ -24,18 +24,18 @@ use Rattle.cf_model.specs.Items.{Item, item_of, root}
 use Rattle.cf_model.specs.Numbers.{root_id}
 use Rattle.cf_model.specs.Points.{with_room_point, with_sure_point}
 use Rattle.cf_model.specs.State.{Volume}
-use Rattle.cf_points.proofs.Commits.{committed_known, image_len_is}
-use Rattle.cf_points.proofs.KeptSound.{all_there}
-use Rattle.cf_points.proofs.Points.{Fair}
-use Rattle.cf_points.proofs.RowRoom.{held_count, held_len}
-use Rattle.cf_points.proofs.Saves.{room_at, saving_leaves, sure_at}
-use Rattle.cf_points.specs.At.{At, StandsEither}
-use Rattle.cf_points.specs.Clusters.{clusters_in_rows}
-use Rattle.cf_points.specs.Holding.{HoldRows}
-use Rattle.cf_points.specs.Known.{Known}
-use Rattle.cf_points.specs.Saving.{IsSaving, Saved}
-use Rattle.cf_points.specs.Sound.{IsKeepable, Sound}
-use Rattle.cf_points.specs.Standing.{cluster_on}
+use Rattle.cf_volume_points.proofs.Commits.{committed_known, image_len_is}
+use Rattle.cf_volume_points.proofs.KeptSound.{all_there}
+use Rattle.cf_volume_points.proofs.Points.{Fair}
+use Rattle.cf_volume_points.proofs.RowRoom.{held_count, held_len}
+use Rattle.cf_volume_points.proofs.Saves.{room_at, saving_leaves, sure_at}
+use Rattle.cf_volume_points.specs.At.{At, StandsEither}
+use Rattle.cf_volume_points.specs.Clusters.{clusters_in_rows}
+use Rattle.cf_volume_points.specs.Holding.{HoldRows}
+use Rattle.cf_volume_points.specs.Known.{Known}
+use Rattle.cf_volume_points.specs.Saving.{IsSaving, Saved}
+use Rattle.cf_volume_points.specs.Sound.{IsKeepable, Sound}
+use Rattle.cf_volume_points.specs.Standing.{cluster_on}
 use Rattle.cf_table.proofs.RowOfItem.{rows_have_room}
 use Rattle.cf_table.specs.Booked.{AreRowsOf}
 use Rattle.cf_table.specs.Reading.{IsStored}

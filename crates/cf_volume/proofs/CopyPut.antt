@@ -5,10 +5,10 @@ use Rattle.std.proofs.lemmas.Bool.{true≢false}
 use Rattle.std.proofs.lemmas.List.{length-map}
 use Rattle.cf_base.specs.declared.changes.Change.{Change}
 use Rattle.cf_base.specs.declared.ids.ItemId.{ItemId}
-use Rattle.cf_blocks.proofs.Elsewhere.{among_holding, block_holds}
-use Rattle.cf_blocks.proofs.Laid.{is_here}
-use Rattle.cf_blocks.specs.Bytes.{HoldsBlock, holds_at, is_among}
-use Rattle.cf_data.specs.declared.uses.Use.{Use}
+use Rattle.cf_volume_blocks.proofs.Elsewhere.{among_holding, block_holds}
+use Rattle.cf_volume_blocks.proofs.Laid.{is_here}
+use Rattle.cf_volume_blocks.specs.Bytes.{HoldsBlock, holds_at, is_among}
+use Rattle.cf_clusters.specs.declared.uses.Use.{Use}
 use Rattle.cf_disk.specs.Disk.{State, size_of}
 use Rattle.cf_model.specs.Blocks.{block_has_byte, blocks_holding, puts_into}
 use Rattle.cf_model.specs.Books.{access_of, anchor_of}
@@ -17,18 +17,18 @@ use Rattle.cf_model.specs.Items.{Item, item_of}
 use Rattle.cf_model.specs.Numbers.{no_usn, usn_after}
 use Rattle.cf_model.specs.State.{Volume}
 use Rattle.cf_model.specs.Words.{part}
-use Rattle.cf_points.proofs.Extents.{named_once}
-use Rattle.cf_points.proofs.FileRows.{final_blocks, final_bytes, hold_at}
-use Rattle.cf_points.proofs.ItemChanges.{row_holds}
-use Rattle.cf_points.proofs.NewItems.{new_noted}
-use Rattle.cf_points.proofs.Points.{Fair}
-use Rattle.cf_points.proofs.RowChanges.{named_by, times_split}
-use Rattle.cf_points.specs.At.{At}
-use Rattle.cf_points.specs.Clusters.{clusters_in_row, clusters_in_rows, times}
-use Rattle.cf_points.specs.Holding.{FitsTable, HoldsRow}
-use Rattle.cf_points.specs.Known.{Known}
-use Rattle.cf_points.specs.Staging.{AreBlocks}
-use Rattle.cf_points.specs.Standing.{cluster_on}
+use Rattle.cf_volume_points.proofs.Extents.{named_once}
+use Rattle.cf_volume_points.proofs.FileRows.{final_blocks, final_bytes, hold_at}
+use Rattle.cf_volume_points.proofs.ItemChanges.{row_holds}
+use Rattle.cf_volume_points.proofs.NewItems.{new_noted}
+use Rattle.cf_volume_points.proofs.Points.{Fair}
+use Rattle.cf_volume_points.proofs.RowChanges.{named_by, times_split}
+use Rattle.cf_volume_points.specs.At.{At}
+use Rattle.cf_volume_points.specs.Clusters.{clusters_in_row, clusters_in_rows, times}
+use Rattle.cf_volume_points.specs.Holding.{FitsTable, HoldsRow}
+use Rattle.cf_volume_points.specs.Known.{Known}
+use Rattle.cf_volume_points.specs.Staging.{AreBlocks}
+use Rattle.cf_volume_points.specs.Standing.{cluster_on}
 use Rattle.cf_ranges.specs.Pairs.{cluster_at}
 use Rattle.cf_table.specs.Means.{IsFresh}
 use Rattle.cf_table.specs.Tables.{AreTableRows, RisesFrom, Table, row_of, with_row}

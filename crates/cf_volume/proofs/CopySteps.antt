@@ -5,15 +5,15 @@ use Rattle.std.proofs.lemmas.Bool.{cases_eq, cond-true, cond-false, eq-eqb, ne_e
 use Rattle.std.proofs.lemmas.List.{map-append, take_all}
 use Rattle.std.proofs.lemmas.List.Elements.{All-head, All-tail}
 use Rattle.std.proofs.lemmas.Option.{none-some, same_Some}
-use Rattle.cf_blocks.specs.Bytes.{HoldsBlock, is_among}
-use Rattle.cf_data.specs.Area.{KeepsWhere}
-use Rattle.cf_data.specs.Roles.{IsCommitted, IsUsed, how_many, is_free}
-use Rattle.cf_data.specs.declared.uses.Use.{Use}
+use Rattle.cf_volume_blocks.specs.Bytes.{HoldsBlock, is_among}
+use Rattle.cf_clusters.specs.Area.{KeepsWhere}
+use Rattle.cf_clusters.specs.Roles.{IsCommitted, IsUsed, how_many, is_free}
+use Rattle.cf_clusters.specs.declared.uses.Use.{Use}
 use Rattle.cf_disk.specs.Disk.{Leaves, State}
-use Rattle.cf_points.proofs.Stages.{among_push, leaves_on, length-staged, moves_none, moves_then, stage_blocks, stage_moves}
-use Rattle.cf_points.specs.Runs.{Ran}
-use Rattle.cf_points.specs.Staging.{AreBlocks, Moves, StagesBlock, names}
-use Rattle.cf_points.specs.Standing.{cluster_on}
+use Rattle.cf_volume_points.proofs.Stages.{among_push, leaves_on, length-staged, moves_none, moves_then, stage_blocks, stage_moves}
+use Rattle.cf_volume_points.specs.Runs.{Ran}
+use Rattle.cf_volume_points.specs.Staging.{AreBlocks, Moves, StagesBlock, names}
+use Rattle.cf_volume_points.specs.Standing.{cluster_on}
 use Rattle.cf_ranges.specs.Pairs.{IsRisingFrom, cluster_at}
 use Rattle.cf_volume.proofs.Staged.{same_here}
 use Rattle.cf_volume.proofs.Stagings.{ran_less, ran_none, ran_then}

@@ -5,7 +5,7 @@ use Rattle.std.proofs.lemmas.Option.{none-some}
 use Rattle.cf_base.specs.declared.changes.Change.{Change}
 use Rattle.cf_base.specs.declared.ids.ItemId.{ItemId}
 use Rattle.cf_base.specs.declared.ids.Usn.{Usn}
-use Rattle.cf_image.specs.declared.contents.Contents.{Contents}
+use Rattle.cf_volume_image.specs.declared.contents.Contents.{Contents}
 use Rattle.cf_model.specs.Blocks.{blocks_used, is_full, passes_clusters, puts_into}
 use Rattle.cf_model.specs.Books.{Book}
 use Rattle.cf_model.specs.Changes.{next_number, no_blocks, no_table, put_change}
@@ -13,7 +13,7 @@ use Rattle.cf_model.specs.Images.{image_len, is_table_full, most_image, never_lo
 use Rattle.cf_model.specs.Items.{Item, item_of}
 use Rattle.cf_model.specs.Numbers.{usn_after}
 use Rattle.cf_model.specs.State.{Volume}
-use Rattle.cf_points.proofs.RowRoom.{AreEven, fits_of, full_of_long, full_of_many}
+use Rattle.cf_volume_points.proofs.RowRoom.{AreEven, fits_of, full_of_long, full_of_many}
 use Rattle.cf_volume.proofs.DraftRows.{drawn_item}
 use Rattle.cf_volume.specs.Drafts.{AreInOrder, Drafts, row_in, shifted}
 use Rattle.cf_volume.specs.Tallies.{Counts}

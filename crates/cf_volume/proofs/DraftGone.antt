@@ -10,11 +10,11 @@ use Rattle.cf_base.specs.declared.changes.Change.{Change}
 use Rattle.cf_base.specs.declared.changes.Change.TheVariants as change
 use Rattle.cf_base.specs.declared.ids.ItemId.{ItemId}
 use Rattle.cf_base.specs.declared.ids.Usn.{Usn}
-use Rattle.cf_commit.proofs.MergedKeys.{at_without}
-use Rattle.cf_commit.proofs.NamedKeys.{filter_records}
-use Rattle.cf_image.specs.Contents.{record_at}
-use Rattle.cf_image.specs.Spelled.{AreRecordsFrom}
-use Rattle.cf_image.specs.declared.contents.Contents.{Contents}
+use Rattle.cf_volume_commit.proofs.MergedKeys.{at_without}
+use Rattle.cf_volume_commit.proofs.NamedKeys.{filter_records}
+use Rattle.cf_volume_image.specs.Contents.{record_at}
+use Rattle.cf_volume_image.specs.Spelled.{AreRecordsFrom}
+use Rattle.cf_volume_image.specs.declared.contents.Contents.{Contents}
 use Rattle.cf_model.specs.Blocks.{blocks_held, blocks_used}
 use Rattle.cf_model.specs.Books.{Book, access_of, anchor_of, aux_records, book_after}
 use Rattle.cf_model.specs.Changes.{next_number, put_change}
@@ -25,9 +25,9 @@ use Rattle.cf_model.specs.Items.{Item, item_of}
 use Rattle.cf_model.specs.Numbers.{no_usn, usn_after}
 use Rattle.cf_model.specs.State.{Volume}
 use Rattle.cf_model.specs.Words.{part, same}
-use Rattle.cf_points.proofs.Found.{found_left}
-use Rattle.cf_points.specs.Keeping.{AreShortIds}
-use Rattle.cf_points.specs.Standing.{IsBookOf}
+use Rattle.cf_volume_points.proofs.Found.{found_left}
+use Rattle.cf_volume_points.specs.Keeping.{AreShortIds}
+use Rattle.cf_volume_points.specs.Standing.{IsBookOf}
 use Rattle.cf_table.specs.Changing.{item_of_change}
 use Rattle.cf_table.specs.Tables.{without_row}
 use Rattle.cf_table.specs.declared.rows.Row.{Row}

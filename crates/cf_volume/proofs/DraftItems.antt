@@ -14,9 +14,9 @@ use Rattle.cf_base.specs.declared.items.Pin.TheVariants as pin
 use Rattle.cf_model.specs.Books.{Book}
 use Rattle.cf_model.specs.Effects.{changed, effect, without}
 use Rattle.cf_model.specs.Items.{Item, item_of, pin_of}
-use Rattle.cf_points.proofs.Found.{found_left}
-use Rattle.cf_points.proofs.RowRoom.{ItemsRise}
-use Rattle.cf_points.specs.Known.{or_now}
+use Rattle.cf_volume_points.proofs.Found.{found_left}
+use Rattle.cf_volume_points.proofs.RowRoom.{ItemsRise}
+use Rattle.cf_volume_points.specs.Known.{or_now}
 use Rattle.cf_table.specs.Applied.{item_effect}
 use Rattle.cf_table.specs.Changing.{FitsItems, item_of_change, stays}
 use Rattle.cf_volume.specs.Drafts.{AreInOrder}

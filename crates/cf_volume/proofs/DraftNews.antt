@@ -10,7 +10,7 @@ use Rattle.cf_base.specs.declared.ids.ItemId.{ItemId}
 use Rattle.cf_base.specs.declared.ids.Usn.{Usn}
 use Rattle.cf_base.specs.declared.items.Kind.{Kind}
 use Rattle.cf_base.specs.declared.items.Pin.{Pin}
-use Rattle.cf_image.specs.declared.contents.Contents.{Contents}
+use Rattle.cf_volume_image.specs.declared.contents.Contents.{Contents}
 use Rattle.cf_model.specs.Blocks.{blocks_held, blocks_holding, blocks_in, blocks_used, puts_into}
 use Rattle.cf_model.specs.Books.{Book, aux_records}
 use Rattle.cf_model.specs.Changes.{next_number, put_change}
@@ -20,9 +20,9 @@ use Rattle.cf_model.specs.Items.{Item, item_of, pin_of}
 use Rattle.cf_model.specs.Numbers.{above, no_usn, usn_after}
 use Rattle.cf_model.specs.State.{Volume}
 use Rattle.cf_model.specs.Words.{part}
-use Rattle.cf_points.proofs.NewItems.{none_before}
-use Rattle.cf_points.specs.Known.{or_now}
-use Rattle.cf_points.specs.Standing.{IsBookOf}
+use Rattle.cf_volume_points.proofs.NewItems.{none_before}
+use Rattle.cf_volume_points.specs.Known.{or_now}
+use Rattle.cf_volume_points.specs.Standing.{IsBookOf}
 use Rattle.cf_ranges.specs.Positions.{IsBelow, touched}
 use Rattle.cf_table.proofs.Stays.{untargeted_len}
 use Rattle.cf_table.specs.Applied.{IsSpellable}

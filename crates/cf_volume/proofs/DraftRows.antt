@@ -7,7 +7,7 @@ use Rattle.cf_base.specs.declared.changes.Change.{Change}
 use Rattle.cf_base.specs.declared.changes.Change.TheVariants as change
 use Rattle.cf_base.specs.declared.ids.ItemId.{ItemId}
 use Rattle.cf_base.specs.declared.ids.Usn.{Usn}
-use Rattle.cf_image.specs.declared.contents.Contents.{Contents}
+use Rattle.cf_volume_image.specs.declared.contents.Contents.{Contents}
 use Rattle.cf_model.specs.Blocks.{blocks_holding, blocks_in}
 use Rattle.cf_model.specs.Books.{Book, anchor_of}
 use Rattle.cf_model.specs.Changes.{next_number}
@@ -15,10 +15,10 @@ use Rattle.cf_model.specs.Images.{row_len}
 use Rattle.cf_model.specs.Items.{Item, item_of, pin_of}
 use Rattle.cf_model.specs.Numbers.{most, no_usn, same_usn, usn_after}
 use Rattle.cf_model.specs.State.{Volume}
-use Rattle.cf_points.proofs.RowChanges.{found_with, found_without}
-use Rattle.cf_points.proofs.RowRoom.{below_blocks, blocks_counted, planned_len}
-use Rattle.cf_points.specs.Known.{or_now}
-use Rattle.cf_points.specs.Lengths.{len_with}
+use Rattle.cf_volume_points.proofs.RowChanges.{found_with, found_without}
+use Rattle.cf_volume_points.proofs.RowRoom.{below_blocks, blocks_counted, planned_len}
+use Rattle.cf_volume_points.specs.Known.{or_now}
+use Rattle.cf_volume_points.specs.Lengths.{len_with}
 use Rattle.cf_ranges.specs.Positions.{IsBelow, touched}
 use Rattle.cf_table.proofs.NextChange.{above_through}
 use Rattle.cf_table.specs.Applied.{FitsRow}

@@ -7,8 +7,8 @@ use Rattle.cf_base.specs.declared.changes.Change.TheVariants as change
 use Rattle.cf_base.specs.declared.ids.ItemId.{ItemId}
 use Rattle.cf_base.specs.declared.ids.Usn.{Usn}
 use Rattle.cf_base.specs.declared.items.Pin.{Pin}
-use Rattle.cf_blocks.specs.Bytes.{puts_in}
-use Rattle.cf_image.specs.declared.contents.Contents.{Contents}
+use Rattle.cf_volume_blocks.specs.Bytes.{puts_in}
+use Rattle.cf_volume_image.specs.declared.contents.Contents.{Contents}
 use Rattle.cf_model.specs.Blocks.{blocks_held, blocks_in, blocks_used, puts_into}
 use Rattle.cf_model.specs.Books.{Book, anchor_of, aux_records}
 use Rattle.cf_model.specs.Changes.{next_number, put_change}
@@ -18,9 +18,9 @@ use Rattle.cf_model.specs.Items.{Item, item_of}
 use Rattle.cf_model.specs.Numbers.{above, usn_after}
 use Rattle.cf_model.specs.State.{Volume}
 use Rattle.cf_model.specs.Words.{part}
-use Rattle.cf_points.proofs.LogSteps.{none_changed, same_item, stays_book, stays_puts}
-use Rattle.cf_points.proofs.RowRoom.{length_changed, sum_changed}
-use Rattle.cf_points.specs.Standing.{IsBookOf}
+use Rattle.cf_volume_points.proofs.LogSteps.{none_changed, same_item, stays_book, stays_puts}
+use Rattle.cf_volume_points.proofs.RowRoom.{length_changed, sum_changed}
+use Rattle.cf_volume_points.specs.Standing.{IsBookOf}
 use Rattle.cf_ranges.specs.Positions.{IsBelow, touched}
 use Rattle.cf_table.proofs.NextChange.{above_through}
 use Rattle.cf_table.specs.Applied.{FitsRow, item_effect}

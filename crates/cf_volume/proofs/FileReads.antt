@@ -5,7 +5,7 @@ use Rattle.std.specs.Option.{is_some}
 use Rattle.std.proofs.lemmas.Bool.{cases_lt, eq-eqb, eqb-true, true≢false}
 use Rattle.std.proofs.lemmas.List.{map-append, drop-drop}
 use Rattle.std.proofs.Math.Seq.{take-add}
-use Rattle.cf_blocks.specs.Bytes.{HoldsBlock, byte_is, has_at, holds_at}
+use Rattle.cf_volume_blocks.specs.Bytes.{HoldsBlock, byte_is, has_at, holds_at}
 use Rattle.cf_disk.specs.Disk.{Keeps, Leaves, State, part}
 use Rattle.cf_disk.specs.Leaving.{leaves_then, leaves_weaker}
 use Rattle.cf_disk.specs.Parts.{part-append}
@@ -14,12 +14,12 @@ use Rattle.cf_model.specs.Books.{Book}
 use Rattle.cf_model.specs.Items.{Item, is_held, item_of}
 use Rattle.cf_model.specs.State.{Volume}
 use Rattle.cf_model.specs.Words.{passes_at}
-use Rattle.cf_points.proofs.ItemChanges.{row_holds}
-use Rattle.cf_points.proofs.Readings.{row_blocks}
-use Rattle.cf_points.specs.At.{At}
-use Rattle.cf_points.specs.Holding.{HoldsRow}
-use Rattle.cf_points.specs.Known.{Known}
-use Rattle.cf_points.specs.Standing.{cluster_on}
+use Rattle.cf_volume_points.proofs.ItemChanges.{row_holds}
+use Rattle.cf_volume_points.proofs.Readings.{row_blocks}
+use Rattle.cf_volume_points.specs.At.{At}
+use Rattle.cf_volume_points.specs.Holding.{HoldsRow}
+use Rattle.cf_volume_points.specs.Known.{Known}
+use Rattle.cf_volume_points.specs.Standing.{cluster_on}
 use Rattle.cf_ranges.specs.Pairs.{cluster_at}
 use Rattle.cf_ranges.specs.Positions.{contains}
 use Rattle.cf_base.specs.declared.ids.ItemId.{ItemId}
@@ -30,7 +30,7 @@ use Rattle.cf_volume.proofs.Staged.{loaded}
 use Rattle.cf_volume.proofs.Stagings.{ran_none, ran_then}
 use Rattle.cf_volume.specs.Laid.{HoldsIn}
 use Rattle.cf_volume.specs.Reads.{HasRead, HoldsFile}
-use Rattle.cf_points.specs.Runs.{Ran}
+use Rattle.cf_volume_points.specs.Runs.{Ran}
 use Rattle.std.specs.Option.{ForSome}
 
 -- bytes that stand where each of the positions holds one

@@ -6,23 +6,23 @@ use Rattle.std.proofs.lemmas.List.Elements.{All-nil}
 use Rattle.cf_base.specs.declared.changes.Change.{Change}
 use Rattle.cf_base.specs.declared.ids.ItemId.{ItemId}
 use Rattle.cf_base.specs.declared.ids.Usn.{Usn}
-use Rattle.cf_data.specs.Roles.{how_many, is_now}
+use Rattle.cf_clusters.specs.Roles.{how_many, is_now}
 use Rattle.cf_disk.specs.Disk.{State}
-use Rattle.cf_image.specs.Contents.{image_of}
+use Rattle.cf_volume_image.specs.Contents.{image_of}
 use Rattle.cf_model.specs.Changes.{next_number}
 use Rattle.cf_model.specs.Formats.{spell_image}
 use Rattle.cf_model.specs.Images.{aux_len}
 use Rattle.cf_model.specs.Items.{Item, item_of}
 use Rattle.cf_model.specs.Numbers.{above, most, usn_after}
 use Rattle.cf_model.specs.State.{Volume}
-use Rattle.cf_points.proofs.Commits.{image_len_is}
-use Rattle.cf_points.proofs.Counted.{used_now}
-use Rattle.cf_points.proofs.ItemChanges.{row_holds, rows_mean}
-use Rattle.cf_points.proofs.RowRoom.{held_count, held_len, items_rise}
-use Rattle.cf_points.specs.At.{At}
-use Rattle.cf_points.specs.Holding.{HoldsRow}
-use Rattle.cf_points.specs.Known.{or_now}
-use Rattle.cf_points.specs.Standing.{cluster_on}
+use Rattle.cf_volume_points.proofs.Commits.{image_len_is}
+use Rattle.cf_volume_points.proofs.Counted.{used_now}
+use Rattle.cf_volume_points.proofs.ItemChanges.{row_holds, rows_mean}
+use Rattle.cf_volume_points.proofs.RowRoom.{held_count, held_len, items_rise}
+use Rattle.cf_volume_points.specs.At.{At}
+use Rattle.cf_volume_points.specs.Holding.{HoldsRow}
+use Rattle.cf_volume_points.specs.Known.{or_now}
+use Rattle.cf_volume_points.specs.Standing.{cluster_on}
 use Rattle.cf_table.proofs.Lengths.{rows_are_items}
 use Rattle.cf_table.specs.Changing.{IsNext}
 use Rattle.cf_table.specs.Means.{IsLater, Means}

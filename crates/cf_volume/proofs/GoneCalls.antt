@@ -7,18 +7,18 @@ use Rattle.cf_base.specs.declared.changes.Change.{Change}
 use Rattle.cf_base.specs.declared.changes.Change.TheVariants as change
 use Rattle.cf_base.specs.declared.ids.ItemId.{ItemId}
 use Rattle.cf_base.specs.declared.ids.Usn.{Usn}
-use Rattle.cf_data.specs.declared.uses.Use.{Use}
+use Rattle.cf_clusters.specs.declared.uses.Use.{Use}
 use Rattle.cf_disk.specs.Disk.{State}
 use Rattle.cf_model.specs.Changes.{put_change, why_no_room}
 use Rattle.cf_model.specs.Formats.{without_record}
 use Rattle.cf_model.specs.Numbers.{most, usn_after}
 use Rattle.cf_model.specs.State.{Volume}
-use Rattle.cf_points.proofs.Points.{Fair}
-use Rattle.cf_points.specs.At.{At}
-use Rattle.cf_points.specs.Clusters.{clusters_in_rows, named_in}
-use Rattle.cf_points.specs.Keeping.{FitsBook}
-use Rattle.cf_points.specs.Known.{Known}
-use Rattle.cf_points.specs.Staging.{DropsAll}
+use Rattle.cf_volume_points.proofs.Points.{Fair}
+use Rattle.cf_volume_points.specs.At.{At}
+use Rattle.cf_volume_points.specs.Clusters.{clusters_in_rows, named_in}
+use Rattle.cf_volume_points.specs.Keeping.{FitsBook}
+use Rattle.cf_volume_points.specs.Known.{Known}
+use Rattle.cf_volume_points.specs.Staging.{DropsAll}
 use Rattle.cf_table.specs.Changing.{item_of_change}
 use Rattle.cf_table.specs.Tables.{RisesFrom, Table, row_of, without_row}
 use Rattle.cf_table.specs.declared.rows.Row.{Row}

@@ -8,10 +8,10 @@ use Rattle.cf_base.specs.declared.answers.AuxRecord.{AuxRecord}
 use Rattle.cf_base.specs.declared.changes.Change.TheVariants as change
 use Rattle.cf_base.specs.declared.ids.ItemId.{ItemId}
 use Rattle.cf_base.specs.declared.ids.Usn.{Usn}
-use Rattle.cf_commit.proofs.MergedKeys.{at_without}
-use Rattle.cf_data.specs.declared.uses.Use.{Use}
+use Rattle.cf_volume_commit.proofs.MergedKeys.{at_without}
+use Rattle.cf_clusters.specs.declared.uses.Use.{Use}
 use Rattle.cf_disk.specs.Disk.{State}
-use Rattle.cf_image.specs.Contents.{record_at}
+use Rattle.cf_volume_image.specs.Contents.{record_at}
 use Rattle.cf_model.specs.Books.{Book, anchor_of, aux_records, book_after}
 use Rattle.cf_model.specs.Changes.{put_change, why_no_room}
 use Rattle.cf_model.specs.Effects.{later_than, without}
@@ -21,16 +21,16 @@ use Rattle.cf_model.specs.Items.{Item, covered_flags}
 use Rattle.cf_model.specs.Numbers.{most, no_usn, usn_after}
 use Rattle.cf_model.specs.State.{Volume}
 use Rattle.cf_model.specs.Words.{part, same}
-use Rattle.cf_points.proofs.Found.{found_left}
-use Rattle.cf_points.proofs.Frames.{all_left, all_right, clusters_more}
-use Rattle.cf_points.proofs.GoneItems.{gone_at}
-use Rattle.cf_points.proofs.Points.{Fair}
-use Rattle.cf_points.specs.At.{At}
-use Rattle.cf_points.specs.Clusters.{clusters_in_row, clusters_in_rows, named_in}
-use Rattle.cf_points.specs.Holding.{FitsTable}
-use Rattle.cf_points.specs.Keeping.{AreShortIds}
-use Rattle.cf_points.specs.Known.{Known, record_then}
-use Rattle.cf_points.specs.Staging.{DropsAll}
+use Rattle.cf_volume_points.proofs.Found.{found_left}
+use Rattle.cf_volume_points.proofs.Frames.{all_left, all_right, clusters_more}
+use Rattle.cf_volume_points.proofs.GoneItems.{gone_at}
+use Rattle.cf_volume_points.proofs.Points.{Fair}
+use Rattle.cf_volume_points.specs.At.{At}
+use Rattle.cf_volume_points.specs.Clusters.{clusters_in_row, clusters_in_rows, named_in}
+use Rattle.cf_volume_points.specs.Holding.{FitsTable}
+use Rattle.cf_volume_points.specs.Keeping.{AreShortIds}
+use Rattle.cf_volume_points.specs.Known.{Known, record_then}
+use Rattle.cf_volume_points.specs.Staging.{DropsAll}
 use Rattle.cf_table.proofs.NamedEntries.{same_is}
 use Rattle.cf_table.specs.Means.{IsLater}
 use Rattle.cf_table.specs.Spelling.{HasRoom}

@@ -9,9 +9,9 @@ use Rattle.cf_base.specs.declared.codes.Code.TheVariants as code
 use Rattle.cf_base.specs.declared.ids.ItemId.{ItemId}
 use Rattle.cf_base.specs.declared.ids.Usn.{Usn}
 use Rattle.cf_base.specs.declared.items.Pin.{Pin}
-use Rattle.cf_blocks.specs.Bytes.{puts_in}
-use Rattle.cf_data.proofs.Counts.{uses_add_up}
-use Rattle.cf_data.specs.Roles.{how_many, is_free, is_now}
+use Rattle.cf_volume_blocks.specs.Bytes.{puts_in}
+use Rattle.cf_clusters.proofs.Counts.{uses_add_up}
+use Rattle.cf_clusters.specs.Roles.{how_many, is_free, is_now}
 use Rattle.cf_disk.specs.Disk.{State}
 use Rattle.cf_model.specs.Blocks.{blocks_in, blocks_used, is_full, passes_clusters, puts_into}
 use Rattle.cf_model.specs.Books.{Book, anchor_of}
@@ -22,16 +22,16 @@ use Rattle.cf_model.specs.Images.{aux_len, image_len, is_table_full, most_image,
 use Rattle.cf_model.specs.Items.{Item, item_of}
 use Rattle.cf_model.specs.State.{Volume}
 use Rattle.cf_model.specs.Words.{part}
-use Rattle.cf_points.proofs.Counted.{used_now}
-use Rattle.cf_points.proofs.ItemChanges.{row_holds, rows_mean}
-use Rattle.cf_points.proofs.LogSteps.{same_item, stays_book, stays_puts}
-use Rattle.cf_points.proofs.RowRoom.{ItemsRise, below_blocks, blocks_counted, change_fits, change_full, even_changed, even_items, fits_of, held_len, items_rise, lighter, planned_len}
-use Rattle.cf_points.specs.At.{At}
-use Rattle.cf_points.specs.Holding.{FitsTable, HoldsRow}
-use Rattle.cf_points.specs.Known.{Known}
-use Rattle.cf_points.specs.Lengths.{len_with}
-use Rattle.cf_points.specs.Sound.{len_now}
-use Rattle.cf_points.specs.Standing.{cluster_on}
+use Rattle.cf_volume_points.proofs.Counted.{used_now}
+use Rattle.cf_volume_points.proofs.ItemChanges.{row_holds, rows_mean}
+use Rattle.cf_volume_points.proofs.LogSteps.{same_item, stays_book, stays_puts}
+use Rattle.cf_volume_points.proofs.RowRoom.{ItemsRise, below_blocks, blocks_counted, change_fits, change_full, even_changed, even_items, fits_of, held_len, items_rise, lighter, planned_len}
+use Rattle.cf_volume_points.specs.At.{At}
+use Rattle.cf_volume_points.specs.Holding.{FitsTable, HoldsRow}
+use Rattle.cf_volume_points.specs.Known.{Known}
+use Rattle.cf_volume_points.specs.Lengths.{len_with}
+use Rattle.cf_volume_points.specs.Sound.{len_now}
+use Rattle.cf_volume_points.specs.Standing.{cluster_on}
 use Rattle.cf_ranges.specs.Positions.{IsBelow, touched}
 use Rattle.cf_table.proofs.Stays.{effect_is}
 use Rattle.cf_table.specs.Applied.{item_effect}

@@ -10,9 +10,9 @@ use Rattle.cf_base.specs.declared.changes.Change.TheVariants as change
 use Rattle.cf_base.specs.declared.codes.Code.TheVariants as code
 use Rattle.cf_base.specs.declared.ids.ItemId.{ItemId}
 use Rattle.cf_base.specs.declared.ids.Usn.{Usn}
-use Rattle.cf_blocks.specs.Bytes.{puts_in}
-use Rattle.cf_data.proofs.Counts.{uses_add_up}
-use Rattle.cf_data.specs.Roles.{how_many, is_now}
+use Rattle.cf_volume_blocks.specs.Bytes.{puts_in}
+use Rattle.cf_clusters.proofs.Counts.{uses_add_up}
+use Rattle.cf_clusters.specs.Roles.{how_many, is_now}
 use Rattle.cf_disk.specs.Disk.{State}
 use Rattle.cf_model.specs.Blocks.{blocks_of, lacks_in, puts_into}
 use Rattle.cf_model.specs.Books.{Book, aux_records}
@@ -24,14 +24,14 @@ use Rattle.cf_model.specs.Logs.{next_by}
 use Rattle.cf_model.specs.Numbers.{most, usn_after}
 use Rattle.cf_model.specs.State.{Volume}
 use Rattle.cf_model.specs.Words.{counting, part}
-use Rattle.cf_points.proofs.Counted.{used_now}
-use Rattle.cf_points.proofs.ItemChanges.{rows_mean}
-use Rattle.cf_points.proofs.LogSteps.{next_least, put_of_log, same_front, stays_book, stays_next, stays_puts}
-use Rattle.cf_points.proofs.RowRoom.{fits_of}
-use Rattle.cf_points.specs.At.{At, Kept}
-use Rattle.cf_points.specs.Holding.{FitsTable, HoldRows}
-use Rattle.cf_points.specs.Known.{Known}
-use Rattle.cf_points.specs.Standing.{IsBookOf, cluster_on}
+use Rattle.cf_volume_points.proofs.Counted.{used_now}
+use Rattle.cf_volume_points.proofs.ItemChanges.{rows_mean}
+use Rattle.cf_volume_points.proofs.LogSteps.{next_least, put_of_log, same_front, stays_book, stays_next, stays_puts}
+use Rattle.cf_volume_points.proofs.RowRoom.{fits_of}
+use Rattle.cf_volume_points.specs.At.{At, Kept}
+use Rattle.cf_volume_points.specs.Holding.{FitsTable, HoldRows}
+use Rattle.cf_volume_points.specs.Known.{Known}
+use Rattle.cf_volume_points.specs.Standing.{IsBookOf, cluster_on}
 use Rattle.cf_table.proofs.Lengths.{rows_are_items}
 use Rattle.cf_table.proofs.NextChange.{next_goes_on}
 use Rattle.cf_table.proofs.Stays.{effect_is}

@@ -5,8 +5,8 @@ use Rattle.std.specs.Prelude.{find, OnOk, Result, Ok, Err}
 use Rattle.std.proofs.lemmas.Bool.{cond-true, cond-false, eq-eqb, eqb-true, le-ltb, ne_eqb, true≢false}
 use Rattle.std.proofs.lemmas.Option.{none-some, same_Some}
 use Rattle.cf_base.specs.declared.ids.ItemId.{ItemId}
-use Rattle.cf_points.proofs.RowChanges.{found_with}
-use Rattle.cf_points.specs.Known.{or_now, row_then}
+use Rattle.cf_volume_points.proofs.RowChanges.{found_with}
+use Rattle.cf_volume_points.specs.Known.{or_now, row_then}
 use Rattle.cf_table.specs.Applied.{IsSpellable}
 use Rattle.cf_table.specs.Tables.{AreTableRows, RisesFrom, row_of, with_row}
 use Rattle.cf_table.specs.declared.rows.Row.{Row}

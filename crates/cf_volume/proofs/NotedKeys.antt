@@ -5,13 +5,13 @@ use Rattle.std.specs.Option.{is_some}
 use Rattle.std.proofs.lemmas.Bool.{cond-true, true≢false}
 use Rattle.std.proofs.lemmas.Option.{none-some, same_Some}
 use Rattle.cf_base.specs.declared.answers.AuxRecord.{AuxRecord}
-use Rattle.cf_commit.proofs.MergedKeys.{at_with}
-use Rattle.cf_image.specs.Contents.{record_at}
-use Rattle.cf_image.specs.RecordLists.{IsShort}
-use Rattle.cf_image.specs.Spelled.{AreRecordsFrom}
+use Rattle.cf_volume_commit.proofs.MergedKeys.{at_with}
+use Rattle.cf_volume_image.specs.Contents.{record_at}
+use Rattle.cf_volume_image.specs.RecordLists.{IsShort}
+use Rattle.cf_volume_image.specs.Spelled.{AreRecordsFrom}
 use Rattle.cf_model.specs.Formats.{with_record}
 use Rattle.cf_model.specs.Words.{same}
-use Rattle.cf_points.specs.Known.{or_now, record_then}
+use Rattle.cf_volume_points.specs.Known.{or_now, record_then}
 use Rattle.cf_table.proofs.NamedEntries.{same_is, same_itself}
 use Rattle.cf_volume.specs.Notes.{NotesKey}
 

@@ -6,11 +6,11 @@ use Rattle.cf_base.specs.declared.ids.ItemId.{ItemId}
 use Rattle.cf_disk.specs.Disk.{State}
 use Rattle.cf_model.specs.Items.{Item, item_of}
 use Rattle.cf_model.specs.State.{Volume}
-use Rattle.cf_points.proofs.Readings.{read_at}
-use Rattle.cf_points.proofs.Points.{Fair}
-use Rattle.cf_points.specs.At.{At}
-use Rattle.cf_points.specs.Clusters.{clusters_in_rows}
-use Rattle.cf_points.specs.Known.{Known}
+use Rattle.cf_volume_points.proofs.Readings.{read_at}
+use Rattle.cf_volume_points.proofs.Points.{Fair}
+use Rattle.cf_volume_points.specs.At.{At}
+use Rattle.cf_volume_points.specs.Clusters.{clusters_in_rows}
+use Rattle.cf_volume_points.specs.Known.{Known}
 use Rattle.cf_ranges.specs.Pairs.{cluster_at}
 use Rattle.cf_ranges.specs.Positions.{contains}
 use Rattle.cf_table.specs.Tables.{row_of}

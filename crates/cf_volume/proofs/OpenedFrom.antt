@@ -4,13 +4,13 @@ use Rattle.std.specs.Prelude.{Err, Result}
 use Rattle.cf_base.specs.declared.codes.Code.{Code}
 use Rattle.cf_base.specs.declared.codes.Fail.{Fail}
 use Rattle.cf_base.specs.declared.codes.Fail.TheVariants as fail
-use Rattle.cf_commit.specs.Loaded as loaded
-use Rattle.cf_commit.specs.Loaded.{HoldsImage, raised_image}
-use Rattle.cf_commit.specs.declared.parts.Parts.{Parts}
-use Rattle.cf_image.specs.Contents.{image_of}
+use Rattle.cf_volume_commit.specs.Loaded as loaded
+use Rattle.cf_volume_commit.specs.Loaded.{HoldsImage, raised_image}
+use Rattle.cf_volume_commit.specs.declared.parts.Parts.{Parts}
+use Rattle.cf_volume_image.specs.Contents.{image_of}
 use Rattle.cf_model.specs.Formats.{Image}
 use Rattle.cf_model.specs.Numbers.{most}
-use Rattle.cf_points.specs.Known.{Known}
+use Rattle.cf_volume_points.specs.Known.{Known}
 use Rattle.cf_volume.proofs.Stopped.{refused_as}
 use Rattle.cf_volume.specs.Calls.{IsRefused}
 use Rattle.cf_volume.specs.Openings.{IsOpenedFrom}

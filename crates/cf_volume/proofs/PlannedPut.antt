@@ -5,19 +5,19 @@ use Rattle.std.proofs.lemmas.Option.{none-some}
 use Rattle.cf_base.specs.declared.changes.Change.{Change}
 use Rattle.cf_base.specs.declared.ids.ItemId.{ItemId}
 use Rattle.cf_base.specs.declared.ids.Usn.{Usn}
-use Rattle.cf_data.specs.Area.{place}
-use Rattle.cf_data.specs.declared.uses.Use.{Use}
+use Rattle.cf_clusters.specs.Area.{place}
+use Rattle.cf_clusters.specs.declared.uses.Use.{Use}
 use Rattle.cf_disk.specs.Disk.{State, size_of}
 use Rattle.cf_model.specs.Changes.{next_number, put_change}
 use Rattle.cf_model.specs.Numbers.{usn_after}
 use Rattle.cf_model.specs.State.{Volume}
-use Rattle.cf_points.proofs.Points.{Fair}
-use Rattle.cf_points.specs.At.{At}
-use Rattle.cf_points.specs.Holding.{FitsTable}
-use Rattle.cf_points.proofs.ItemChanges.{row_holds}
-use Rattle.cf_points.specs.Clusters.{clusters_in_row, clusters_in_rows}
-use Rattle.cf_points.specs.Standing.{cluster_on}
-use Rattle.cf_points.specs.Known.{Known, row_then}
+use Rattle.cf_volume_points.proofs.Points.{Fair}
+use Rattle.cf_volume_points.specs.At.{At}
+use Rattle.cf_volume_points.specs.Holding.{FitsTable}
+use Rattle.cf_volume_points.proofs.ItemChanges.{row_holds}
+use Rattle.cf_volume_points.specs.Clusters.{clusters_in_row, clusters_in_rows}
+use Rattle.cf_volume_points.specs.Standing.{cluster_on}
+use Rattle.cf_volume_points.specs.Known.{Known, row_then}
 use Rattle.cf_journal.specs.Settled.{IsFitSize}
 use Rattle.cf_ranges.specs.Pairs.{cluster_at}
 use Rattle.cf_ranges.specs.Positions.{touches}

@@ -2,7 +2,7 @@
 use Rattle.std.proofs.Common.{arith}
 use Rattle.cf_base.specs.declared.changes.Change.{Change}
 use Rattle.cf_base.specs.declared.changes.Change.TheVariants as change
-use Rattle.cf_blocks.specs.Bytes.{HasEnd}
+use Rattle.cf_volume_blocks.specs.Bytes.{HasEnd}
 use Rattle.cf_table.specs.Applied.{FitsRow}
 use Rattle.cf_table.specs.declared.rows.Row.{Row}
 

@@ -12,16 +12,16 @@ use Rattle.cf_base.specs.declared.ids.Usn.{Usn}
 use Rattle.cf_base.specs.declared.items.Pin.{Pin}
 use Rattle.cf_base.specs.declared.items.Pin.TheVariants as pin
 use Rattle.cf_base.specs.declared.memory.Memory.{Memory}
-use Rattle.cf_blocks.specs.Bytes.{HasEnd, puts_in}
+use Rattle.cf_volume_blocks.specs.Bytes.{HasEnd, puts_in}
 use Rattle.cf_model.specs.Blocks.{blocks_of, lacks_in}
 use Rattle.cf_model.specs.Items.{Item}
 use Rattle.cf_model.specs.Numbers.{above, usn_after}
 use Rattle.cf_model.specs.Words.{counting}
-use Rattle.cf_points.proofs.Frames.{all_left, all_right, clusters_more}
-use Rattle.cf_points.proofs.RowChanges.{found_with}
-use Rattle.cf_points.specs.Clusters.{clusters_in_row, clusters_in_rows}
-use Rattle.cf_points.specs.Known.{row_then}
-use Rattle.cf_points.specs.Staging.{names}
+use Rattle.cf_volume_points.proofs.Frames.{all_left, all_right, clusters_more}
+use Rattle.cf_volume_points.proofs.RowChanges.{found_with}
+use Rattle.cf_volume_points.specs.Clusters.{clusters_in_row, clusters_in_rows}
+use Rattle.cf_volume_points.specs.Known.{row_then}
+use Rattle.cf_volume_points.specs.Staging.{names}
 use Rattle.cf_ranges.specs.Pairs.{IsRisingFrom, cluster_at}
 use Rattle.cf_table.proofs.NextChange.{next_goes_on}
 use Rattle.cf_table.specs.Applied.{FitsRow, IsSpellable, item_effect}

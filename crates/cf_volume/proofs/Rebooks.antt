@@ -12,12 +12,12 @@ use Rattle.cf_model.specs.Books.{access_of, anchor_of, with_access, with_anchor}
 use Rattle.cf_model.specs.Items.{Item, item_of}
 use Rattle.cf_model.specs.Numbers.{above, usn_after}
 use Rattle.cf_model.specs.State.{Volume}
-use Rattle.cf_points.proofs.BookChanges.{access_put, anchor_put, anchored_fits, noted_at}
-use Rattle.cf_points.proofs.ItemChanges.{row_holds}
-use Rattle.cf_points.specs.At.{At}
-use Rattle.cf_points.specs.Clusters.{clusters_in_row}
-use Rattle.cf_points.specs.Known.{Known}
-use Rattle.cf_points.specs.Standing.{cluster_on}
+use Rattle.cf_volume_points.proofs.BookChanges.{access_put, anchor_put, anchored_fits, noted_at}
+use Rattle.cf_volume_points.proofs.ItemChanges.{row_holds}
+use Rattle.cf_volume_points.specs.At.{At}
+use Rattle.cf_volume_points.specs.Clusters.{clusters_in_row}
+use Rattle.cf_volume_points.specs.Known.{Known}
+use Rattle.cf_volume_points.specs.Standing.{cluster_on}
 use Rattle.cf_table.specs.Applied.{SetsAnchor, Touches}
 use Rattle.cf_table.specs.Means.{IsLater}
 use Rattle.cf_table.specs.Spelling.{HasRoom}

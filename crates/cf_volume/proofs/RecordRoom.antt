@@ -8,12 +8,12 @@ use Rattle.cf_base.specs.declared.answers.Anchor.{Anchor}
 use Rattle.cf_base.specs.declared.answers.AuxRecord.{AuxRecord}
 use Rattle.cf_base.specs.declared.ids.ItemId.{ItemId}
 use Rattle.cf_base.specs.declared.ids.Usn.{Usn}
-use Rattle.cf_commit.proofs.MergedKeys.{at_with, at_without}
+use Rattle.cf_volume_commit.proofs.MergedKeys.{at_with, at_without}
 use Rattle.cf_disk.specs.Disk.{State}
-use Rattle.cf_image.proofs.Keys.{after_not_same}
-use Rattle.cf_image.proofs.RecordPlaces.{none_after}
-use Rattle.cf_image.specs.Contents.{record_at}
-use Rattle.cf_image.specs.Spelled.{AreRecordsFrom}
+use Rattle.cf_volume_image.proofs.Keys.{after_not_same}
+use Rattle.cf_volume_image.proofs.RecordPlaces.{none_after}
+use Rattle.cf_volume_image.specs.Contents.{record_at}
+use Rattle.cf_volume_image.specs.Spelled.{AreRecordsFrom}
 use Rattle.cf_model.specs.Books.{Book, access_of, anchor_of}
 use Rattle.cf_model.specs.Effects.{later_than}
 use Rattle.cf_model.specs.Formats.{with_record, with_records, without_record}
@@ -22,13 +22,13 @@ use Rattle.cf_model.specs.Items.{Item, covered_flags}
 use Rattle.cf_model.specs.Numbers.{no_usn}
 use Rattle.cf_model.specs.State.{Volume}
 use Rattle.cf_model.specs.Words.{comes_before, part, put_in, same}
-use Rattle.cf_points.proofs.BookChanges.{rebooked_at}
-use Rattle.cf_points.proofs.RowRoom.{AreEven, even_items, fits_of, full_of_long, full_of_many, held_len}
-use Rattle.cf_points.specs.At.{At}
-use Rattle.cf_points.specs.Holding.{FitsTable}
-use Rattle.cf_points.specs.Known.{Known}
-use Rattle.cf_points.specs.Sound.{len_now}
-use Rattle.cf_points.specs.Standing.{cluster_on}
+use Rattle.cf_volume_points.proofs.BookChanges.{rebooked_at}
+use Rattle.cf_volume_points.proofs.RowRoom.{AreEven, even_items, fits_of, full_of_long, full_of_many, held_len}
+use Rattle.cf_volume_points.specs.At.{At}
+use Rattle.cf_volume_points.specs.Holding.{FitsTable}
+use Rattle.cf_volume_points.specs.Known.{Known}
+use Rattle.cf_volume_points.specs.Sound.{len_now}
+use Rattle.cf_volume_points.specs.Standing.{cluster_on}
 use Rattle.cf_table.proofs.NamedEntries.{same_is}
 use Rattle.cf_table.specs.Tables.{AreTableRows}
 use Rattle.cf_volume.proofs.GoneFits.{key_known, lighter_left}

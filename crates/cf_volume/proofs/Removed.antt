@@ -2,7 +2,7 @@
 use Rattle.std.proofs.Common.{◌≡◌, ℕ, zero, suc, ◌<◌, ◌≤◌, List, [], ◌∷◌, length, drop, get_or, refl, sym, subst, arith}
 use Rattle.std.proofs.lemmas.List.{length-map}
 use Rattle.std.specs.Prelude.{All}
-use Rattle.cf_points.specs.Staging.{names}
+use Rattle.cf_volume_points.specs.Staging.{names}
 
 name_at : (es : List (ℕ × ℕ)) (i : ℕ) (d : ℕ × ℕ) → get_or (names es) i d.1 ≡ (get_or es i d).1
 name_at [] i d = refl

@@ -10,7 +10,7 @@ use Rattle.cf_base.specs.declared.ids.ItemId.{ItemId}
 use Rattle.cf_model.specs.Books.{Book, aux_records, book_after, cursor_records, entry_record, seen_record, tombstone_record, without_seen}
 use Rattle.cf_model.specs.Formats.{without_record}
 use Rattle.cf_model.specs.Words.{in_bytes, same, when}
-use Rattle.cf_points.specs.Keeping.{AreShortIds}
+use Rattle.cf_volume_points.specs.Keeping.{AreShortIds}
 use Rattle.cf_table.proofs.NamedEntries.{same_is, same_itself}
 use Rattle.cf_table.proofs.OneText.{one_8}
 use Rattle.cf_volume.specs.Keys.{seen_key}

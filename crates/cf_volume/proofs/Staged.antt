@@ -1,15 +1,15 @@
 -- One block, staged after a read.
 use Rattle.std.proofs.Common.{◌≡◌, ℕ, ◌<◌, List, length, Option, Some, None, refl, sym, ◌∙◌, ap, subst}
 use Rattle.std.specs.Option.{ForSome}
-use Rattle.cf_blocks.specs.Bytes.{HoldsBlock}
-use Rattle.cf_data.specs.Area.{KeepsWhere, SameWhere}
-use Rattle.cf_data.specs.Roles.{IsUsed, staged_at, use_of}
-use Rattle.cf_data.specs.declared.uses.Use.{Use}
-use Rattle.cf_data.specs.declared.uses.Use.TheVariants.{Free}
+use Rattle.cf_volume_blocks.specs.Bytes.{HoldsBlock}
+use Rattle.cf_clusters.specs.Area.{KeepsWhere, SameWhere}
+use Rattle.cf_clusters.specs.Roles.{IsUsed, staged_at, use_of}
+use Rattle.cf_clusters.specs.declared.uses.Use.{Use}
+use Rattle.cf_clusters.specs.declared.uses.Use.TheVariants.{Free}
 use Rattle.cf_disk.specs.Disk.{Keeps, Leaves, State, size_of}
 use Rattle.cf_disk.specs.Leaving.{leaves_then, leaves_weaker}
-use Rattle.cf_points.specs.Staging.{StagesBlock}
-use Rattle.cf_points.specs.Standing.{cluster_on}
+use Rattle.cf_volume_points.specs.Staging.{StagesBlock}
+use Rattle.cf_volume_points.specs.Standing.{cluster_on}
 use Rattle.cf_ranges.specs.Pairs.{IsRising, Puts, cluster_at}
 use Rattle.cf_volume.specs.Laid.{HoldsIn}
 

@@ -4,24 +4,24 @@ use Rattle.std.proofs.lemmas.Bool.{ne_eqb, cases_eq}
 use Rattle.std.proofs.lemmas.Option.{same_Some}
 use Rattle.std.proofs.lemmas.Bool.{cond-true, cond-false, eq-eqb}
 use Rattle.cf_base.specs.declared.changes.Change.{Change}
-use Rattle.cf_blocks.specs.Bytes.{is_among}
-use Rattle.cf_data.specs.Area.{KeepsWhere}
-use Rattle.cf_data.specs.Roles.{IsCommitted, IsUsed, how_many, is_free}
+use Rattle.cf_volume_blocks.specs.Bytes.{is_among}
+use Rattle.cf_clusters.specs.Area.{KeepsWhere}
+use Rattle.cf_clusters.specs.Roles.{IsCommitted, IsUsed, how_many, is_free}
 use Rattle.std.proofs.lemmas.List.{take_all}
 use Rattle.cf_volume.proofs.Staged.{same_here}
-use Rattle.cf_data.specs.declared.uses.Use.{Use}
+use Rattle.cf_clusters.specs.declared.uses.Use.{Use}
 use Rattle.cf_disk.specs.Disk.{Leaves, State}
-use Rattle.cf_points.proofs.Stages.{leaves_on, length-staged, moves_none, moves_then, stage_blocks, stage_moves}
-use Rattle.cf_points.specs.Staging.{AreBlocks, Moves, StagesBlock}
-use Rattle.cf_points.specs.Standing.{cluster_on}
+use Rattle.cf_volume_points.proofs.Stages.{leaves_on, length-staged, moves_none, moves_then, stage_blocks, stage_moves}
+use Rattle.cf_volume_points.specs.Staging.{AreBlocks, Moves, StagesBlock}
+use Rattle.cf_volume_points.specs.Standing.{cluster_on}
 use Rattle.cf_ranges.specs.Pairs.{cluster_at}
 use Rattle.cf_table.specs.declared.rows.Row.{Row}
 use Rattle.cf_volume.specs.Laid.{AreRising, HoldsIn, Lays, StagesAll}
 use Rattle.std.specs.Prelude.{IfErr, Result, Ok, Err}
 use Rattle.std.specs.Result.{IsErrAnd}
-use Rattle.cf_points.specs.declared.stops.Stop.{Stop}
-use Rattle.cf_points.specs.declared.stops.Stop.TheVariants.{Device, Memory}
-use Rattle.cf_points.specs.Runs.{IsStop, Ran}
+use Rattle.cf_volume_points.specs.declared.stops.Stop.{Stop}
+use Rattle.cf_volume_points.specs.declared.stops.Stop.TheVariants.{Device, Memory}
+use Rattle.cf_volume_points.specs.Runs.{IsStop, Ran}
 
 pub ran_none : (s : State) → Ran 0 s s
 ran_none s = record { size = refl; powers = refl; faults = omega arith; written = omega arith }

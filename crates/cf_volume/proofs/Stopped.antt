@@ -8,10 +8,10 @@ use Rattle.cf_base.specs.declared.codes.Fail.{Fail}
 use Rattle.cf_base.specs.declared.codes.Fail.TheVariants as fail
 use Rattle.cf_disk.specs.Disk.{State}
 use Rattle.cf_model.specs.State.{Volume}
-use Rattle.cf_points.specs.Known.{Known}
-use Rattle.cf_points.specs.Runs.{IsStop}
-use Rattle.cf_points.specs.declared.stops.Stop.{Stop}
-use Rattle.cf_points.specs.declared.stops.Stop.TheVariants.{Device, Memory}
+use Rattle.cf_volume_points.specs.Known.{Known}
+use Rattle.cf_volume_points.specs.Runs.{IsStop}
+use Rattle.cf_volume_points.specs.declared.stops.Stop.{Stop}
+use Rattle.cf_volume_points.specs.declared.stops.Stop.TheVariants.{Device, Memory}
 use Rattle.cf_volume.specs.Calls.{IsCause, IsFullness, IsKept, IsPut, IsRefused, StopsOnly, fail_of}
 
 -- a want of room is no failure of the device

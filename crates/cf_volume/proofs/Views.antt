@@ -6,8 +6,8 @@ use Rattle.cf_model.specs.Books.{Book}
 use Rattle.cf_model.specs.Formats.{with_records}
 use Rattle.cf_model.specs.State.{Volume}
 use Rattle.cf_base.specs.declared.ids.ItemId.{ItemId}
-use Rattle.cf_points.specs.At.{At}
-use Rattle.cf_points.specs.Known.{Known}
+use Rattle.cf_volume_points.specs.At.{At}
+use Rattle.cf_volume_points.specs.Known.{Known}
 use Rattle.cf_table.specs.Tables.{row_of}
 use Rattle.cf_volume.specs.Calls.{HasRecords, IsHere, OnDisk, put_record}
 use Rattle.std.specs.Prelude.{ℕ}

@@ -15,9 +15,9 @@ use Rattle.cf_model.specs.Blocks.{is_full, passes_clusters, puts_into}
 use Rattle.cf_model.specs.Changes.{lacks_numbers, may_need_room, no_blocks, no_table, put_change, why_no_room}
 use Rattle.cf_model.specs.Points.{with_room_point}
 use Rattle.cf_model.specs.State.{Volume}
-use Rattle.cf_points.specs.At.{At, StandsLast, StandsNow}
-use Rattle.cf_points.specs.Known.{Known}
-use Rattle.cf_points.specs.Standing.{Standing}
+use Rattle.cf_volume_points.specs.At.{At, StandsLast, StandsNow}
+use Rattle.cf_volume_points.specs.Known.{Known}
+use Rattle.cf_volume_points.specs.Standing.{Standing}
 use Rattle.cf_volume.specs.Accepted.{IsDone, IsJudged}
 use Rattle.cf_volume.specs.Calls.{Answers, IsKept, IsStopping, OnDisk, StopsOnly}
 

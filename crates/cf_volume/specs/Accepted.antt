@@ -8,8 +8,8 @@ use Rattle.cf_base.specs.declared.ids.Usn.{Usn}
 use Rattle.cf_disk.specs.Disk.{State}
 use Rattle.cf_model.specs.Changes.{may_need_room, next_number, put_change, why_no_room}
 use Rattle.cf_model.specs.State.{Volume}
-use Rattle.cf_points.specs.At.{At}
-use Rattle.cf_points.specs.Known.{Known}
+use Rattle.cf_volume_points.specs.At.{At}
+use Rattle.cf_volume_points.specs.Known.{Known}
 use Rattle.cf_volume.specs.Steady.{Steady}
 
 -- why the change is put, refused, or waits for room

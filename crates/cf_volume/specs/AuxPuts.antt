@@ -7,7 +7,7 @@ use Rattle.cf_base.specs.declared.codes.Fail.TheVariants.{Memory, No}
 use Rattle.cf_model.specs.Books.{Book}
 use Rattle.cf_model.specs.Images.{aux_len, table_full}
 use Rattle.cf_model.specs.State.{Volume}
-use Rattle.cf_points.specs.Known.{Known}
+use Rattle.cf_volume_points.specs.Known.{Known}
 
 -- how many bytes spell a record, and 0 where there is none
 abbrev pub len_if : Option AuxRecord → ℕ

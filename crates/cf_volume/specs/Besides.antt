@@ -3,12 +3,12 @@ use Rattle.std.specs.List.{list_any}
 use Rattle.std.specs.Prelude.{◌≡◌, ◌+◌, ℕ, List, is_some, sum_by, None}
 use Rattle.cf_base.specs.declared.answers.AuxRecord.{AuxRecord}
 use Rattle.cf_base.specs.declared.ids.ItemId.{ItemId}
-use Rattle.cf_image.specs.Contents.{record_at}
-use Rattle.cf_image.specs.Spelled.{AreRecordsFrom}
+use Rattle.cf_volume_image.specs.Contents.{record_at}
+use Rattle.cf_volume_image.specs.Spelled.{AreRecordsFrom}
 use Rattle.cf_model.specs.Formats.{with_records}
 use Rattle.cf_model.specs.Images.{aux_len}
 use Rattle.cf_model.specs.Words.{same}
-use Rattle.cf_points.specs.Known.{or_now}
+use Rattle.cf_volume_points.specs.Known.{or_now}
 use Rattle.cf_volume.specs.Drafts.{records_in}
 use Rattle.cf_volume.specs.Keys.{seen_key}
 use Rattle.cf_volume.specs.declared.record_room.Beside.{Beside}

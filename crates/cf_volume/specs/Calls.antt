@@ -13,10 +13,10 @@ use Rattle.cf_model.specs.Changes.{may_need_room, next_number, put_change, why_n
 use Rattle.cf_model.specs.Formats.{with_record, without_record}
 use Rattle.cf_model.specs.Images.{table_full}
 use Rattle.cf_model.specs.State.{Volume}
-use Rattle.cf_points.specs.At.{At}
-use Rattle.cf_points.specs.Known.{Known}
-use Rattle.cf_points.specs.declared.stops.Stop.{Stop}
-use Rattle.cf_points.specs.declared.stops.Stop.TheVariants as stop
+use Rattle.cf_volume_points.specs.At.{At}
+use Rattle.cf_volume_points.specs.Known.{Known}
+use Rattle.cf_volume_points.specs.declared.stops.Stop.{Stop}
+use Rattle.cf_volume_points.specs.declared.stops.Stop.TheVariants as stop
 use Rattle.cf_ranges.specs.Positions.{contains}
 use Rattle.cf_table.specs.declared.rows.Row.{Row}
 

@@ -1,14 +1,14 @@
 -- Copies of files, with clusters of their own.
 use Rattle.std.specs.Prelude.{◌≡◌, ◌<◌, ◌≤◌, ◌*◌, ℕ, false, List, [], None, Option, Some, length, map}
 use Rattle.cf_base.specs.declared.ids.ItemId.{ItemId}
-use Rattle.cf_blocks.specs.Bytes.{HoldsBlock, is_among}
-use Rattle.cf_data.specs.Area.{KeepsWhere}
-use Rattle.cf_data.specs.Roles.{IsCommitted}
-use Rattle.cf_data.specs.declared.uses.Use.{Use}
+use Rattle.cf_volume_blocks.specs.Bytes.{HoldsBlock, is_among}
+use Rattle.cf_clusters.specs.Area.{KeepsWhere}
+use Rattle.cf_clusters.specs.Roles.{IsCommitted}
+use Rattle.cf_clusters.specs.declared.uses.Use.{Use}
 use Rattle.cf_disk.specs.Disk.{Leaves, State}
-use Rattle.cf_points.specs.Runs.{Ran}
-use Rattle.cf_points.specs.Staging.{AreBlocks, Moves}
-use Rattle.cf_points.specs.Standing.{cluster_on}
+use Rattle.cf_volume_points.specs.Runs.{Ran}
+use Rattle.cf_volume_points.specs.Staging.{AreBlocks, Moves}
+use Rattle.cf_volume_points.specs.Standing.{cluster_on}
 use Rattle.cf_ranges.specs.Pairs.{IsRising, cluster_at}
 use Rattle.cf_table.specs.Spelling.{HasRoom}
 use Rattle.cf_table.specs.Tables.{Table, row_of, with_row}

@@ -8,13 +8,13 @@ use Rattle.cf_base.specs.declared.ids.ItemId.{ItemId}
 use Rattle.cf_base.specs.declared.ids.Usn.{Usn}
 use Rattle.cf_base.specs.declared.items.Pin.{Pin}
 use Rattle.cf_base.specs.declared.items.Pin.TheVariants as pin
-use Rattle.cf_image.specs.Contents.{record_at}
-use Rattle.cf_image.specs.declared.contents.Contents.{Contents}
+use Rattle.cf_volume_image.specs.Contents.{record_at}
+use Rattle.cf_volume_image.specs.declared.contents.Contents.{Contents}
 use Rattle.cf_model.specs.Blocks.{puts_into}
 use Rattle.cf_model.specs.Changes.{next_number, put_change}
 use Rattle.cf_model.specs.Numbers.{most}
 use Rattle.cf_model.specs.State.{Volume}
-use Rattle.cf_points.specs.Keeping.{FitsBook}
+use Rattle.cf_volume_points.specs.Keeping.{FitsBook}
 use Rattle.cf_ranges.specs.Positions.{IsBelow, touched}
 use Rattle.cf_table.specs.Tables.{IsStored}
 use Rattle.cf_table.specs.declared.rows.Row.{Row}

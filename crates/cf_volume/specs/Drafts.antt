@@ -6,7 +6,7 @@ use Rattle.cf_base.specs.declared.ids.ItemId.{ItemId}
 use Rattle.cf_base.specs.declared.ids.Usn.{Usn}
 use Rattle.cf_base.specs.declared.items.Pin.{Pin}
 use Rattle.cf_base.specs.declared.items.Pin.TheVariants as pin
-use Rattle.cf_image.specs.declared.contents.Contents.{Contents}
+use Rattle.cf_volume_image.specs.declared.contents.Contents.{Contents}
 use Rattle.cf_model.specs.Blocks.{blocks_used}
 use Rattle.cf_model.specs.Books.{Book, anchor_of, aux_records}
 use Rattle.cf_model.specs.Changes.{next_number}
@@ -16,9 +16,9 @@ use Rattle.cf_model.specs.Items.{Item, item_of}
 use Rattle.cf_model.specs.Numbers.{most}
 use Rattle.cf_model.specs.Overlay.{Written}
 use Rattle.cf_model.specs.State.{Volume}
-use Rattle.cf_points.specs.Known.{or_now}
-use Rattle.cf_points.specs.Lengths.{len_with}
-use Rattle.cf_points.specs.Standing.{IsBookOf}
+use Rattle.cf_volume_points.specs.Known.{or_now}
+use Rattle.cf_volume_points.specs.Lengths.{len_with}
+use Rattle.cf_volume_points.specs.Standing.{IsBookOf}
 use Rattle.cf_table.specs.Means.{IsLater, Means}
 use Rattle.cf_table.specs.Tables.{row_of}
 use Rattle.cf_table.specs.declared.rows.Row.{Row}

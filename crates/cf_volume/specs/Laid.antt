@@ -3,17 +3,17 @@ use Rattle.std.specs.Prelude.{ℕ, true, List, [], ◌∷◌, Option, Some, Matc
 use Rattle.cf_base.specs.declared.changes.Change.{Change}
 use Rattle.cf_base.specs.declared.ids.Usn.{Usn}
 use Rattle.cf_base.specs.declared.items.Pin.{Pin}
-use Rattle.cf_blocks.specs.Bytes.{HoldsBlock, holds_at, puts_in}
-use Rattle.cf_data.specs.Area.{KeepsWhere}
-use Rattle.cf_data.specs.Roles.{IsCommitted}
-use Rattle.cf_data.specs.declared.uses.Use.{Use}
+use Rattle.cf_volume_blocks.specs.Bytes.{HoldsBlock, holds_at, puts_in}
+use Rattle.cf_clusters.specs.Area.{KeepsWhere}
+use Rattle.cf_clusters.specs.Roles.{IsCommitted}
+use Rattle.cf_clusters.specs.declared.uses.Use.{Use}
 use Rattle.cf_disk.specs.Disk.{Leaves, State}
 use Rattle.cf_model.specs.Items.{Item}
 use Rattle.cf_base.specs.declared.spans.Span.{Span}
-use Rattle.cf_points.specs.Staging.{AreBlocks, DropsGone, Moves}
+use Rattle.cf_volume_points.specs.Staging.{AreBlocks, DropsGone, Moves}
 use Rattle.cf_ranges.specs.Pairs.{cluster_at}
-use Rattle.cf_points.specs.Runs.{Ran}
-use Rattle.cf_points.specs.Standing.{cluster_on}
+use Rattle.cf_volume_points.specs.Runs.{Ran}
+use Rattle.cf_volume_points.specs.Standing.{cluster_on}
 use Rattle.cf_table.specs.Applied.{IsSpellable, item_effect}
 use Rattle.cf_table.specs.Means.{KeepsRest, Means, StaysBefore}
 use Rattle.cf_base.specs.declared.ids.ItemId.{ItemId}

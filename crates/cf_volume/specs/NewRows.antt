@@ -3,8 +3,8 @@ use Rattle.std.specs.Prelude.{◌≡◌, ◌+◌, ◌*◌, ◌||◌, ◌++◌, �
 use Rattle.cf_base.specs.declared.changes.Change.{Change}
 use Rattle.cf_base.specs.declared.changes.Change.TheVariants as change
 use Rattle.cf_base.specs.declared.ids.ItemId.{ItemId}
-use Rattle.cf_image.specs.Contents.{image_of}
-use Rattle.cf_image.specs.declared.contents.Contents.{Contents}
+use Rattle.cf_volume_image.specs.Contents.{image_of}
+use Rattle.cf_volume_image.specs.declared.contents.Contents.{Contents}
 use Rattle.cf_model.specs.Blocks.{blocks_holding, held_of, puts_into}
 use Rattle.cf_model.specs.Books.{book_after}
 use Rattle.cf_model.specs.Changes.{needs_id, next_number}
@@ -15,7 +15,7 @@ use Rattle.cf_model.specs.Items.{Item}
 use Rattle.cf_model.specs.Logs.{next_by}
 use Rattle.cf_model.specs.Numbers.{most_items}
 use Rattle.cf_model.specs.State.{Volume}
-use Rattle.cf_points.specs.Lengths.{len_with}
+use Rattle.cf_volume_points.specs.Lengths.{len_with}
 use Rattle.cf_ranges.specs.Positions.{IsBelow, touched}
 use Rattle.cf_table.specs.Means.{Means}
 use Rattle.cf_table.specs.declared.rows.Row.{Row}

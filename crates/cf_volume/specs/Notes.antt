@@ -2,10 +2,10 @@
 use Rattle.std.specs.Prelude.{◌≡◌, ℕ, false, List, [], Option, None, Some}
 use Rattle.cf_base.specs.declared.answers.AuxRecord.{AuxRecord}
 use Rattle.cf_base.specs.declared.ids.ItemId.{ItemId}
-use Rattle.cf_commit.specs.declared.earlier.Earlier.{Earlier}
-use Rattle.cf_image.specs.Contents.{record_at}
+use Rattle.cf_volume_commit.specs.declared.earlier.Earlier.{Earlier}
+use Rattle.cf_volume_image.specs.Contents.{record_at}
 use Rattle.cf_model.specs.Words.{same}
-use Rattle.cf_points.specs.Known.{Known, record_then, row_then}
+use Rattle.cf_volume_points.specs.Known.{Known, record_then, row_then}
 use Rattle.cf_table.specs.Tables.{RisesFrom, row_of, with_row}
 use Rattle.cf_table.specs.declared.rows.Row.{Row}
 

@@ -1,7 +1,7 @@
 -- What is known of a volume that was opened.
 use Rattle.std.specs.Prelude.{◌≡◌, ◌+◌, map}
 use Rattle.cf_model.specs.Formats.{Image}
-use Rattle.cf_points.specs.Known.{Known}
+use Rattle.cf_volume_points.specs.Known.{Known}
 use Rattle.cf_table.specs.Spelling.{row_value}
 
 -- what an image tells, with the epoch raised

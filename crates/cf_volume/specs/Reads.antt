@@ -4,7 +4,7 @@ use Rattle.cf_disk.specs.Disk.{Keeps, Leaves, State}
 use Rattle.cf_model.specs.Items.{is_held}
 use Rattle.cf_ranges.specs.Pairs.{cluster_at}
 use Rattle.cf_volume.specs.Laid.{HoldsIn}
-use Rattle.cf_points.specs.Runs.{Ran}
+use Rattle.cf_volume_points.specs.Runs.{Ran}
 
 -- the clusters of the extents hold these bytes, all of those from a place to another are held
 pub record HoldsFile (disk : List ℕ) (es : List (ℕ × ℕ)) (held : List (Option ℕ)) (start end : ℕ) : Type 0 where

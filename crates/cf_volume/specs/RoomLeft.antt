@@ -10,7 +10,7 @@ use Rattle.cf_model.specs.Images.{table_full}
 use Rattle.cf_model.specs.Items.{Item, item_of}
 use Rattle.cf_model.specs.State.{Volume}
 use Rattle.cf_model.specs.Words.{is_empty}
-use Rattle.cf_points.specs.Keeping.{FitsBook}
+use Rattle.cf_volume_points.specs.Keeping.{FitsBook}
 use Rattle.cf_table.specs.Changing.{FitsItems}
 use Rattle.cf_volume.specs.Calls.{HasRecords}
 use Rattle.cf_volume.specs.declared.rooms.Room.{Room}

@@ -1,13 +1,13 @@
 -- What the parts of a volume know of it, and what holds of them until a call breaks it.
 use Rattle.std.specs.Prelude.{◌≡◌, ◌≤◌, ◌<◌, ◌+◌, ◌-◌, ◌*◌, ◌/◌, ℕ, Bool, false, All, length, min, nat_lt}
-use Rattle.cf_image.specs.Contents.{image_of}
-use Rattle.cf_image.specs.declared.contents.Contents.{Contents}
+use Rattle.cf_volume_image.specs.Contents.{image_of}
+use Rattle.cf_volume_image.specs.declared.contents.Contents.{Contents}
 use Rattle.cf_journal.specs.Settled.{IsFitSize}
 use Rattle.cf_model.specs.Formats.{spell_image}
 use Rattle.cf_model.specs.Numbers.{usn_after}
-use Rattle.cf_points.specs.Clusters.{clusters_in_rows}
-use Rattle.cf_points.specs.Known.{Known}
-use Rattle.cf_points.specs.Lengths.{len_with}
+use Rattle.cf_volume_points.specs.Clusters.{clusters_in_rows}
+use Rattle.cf_volume_points.specs.Known.{Known}
+use Rattle.cf_volume_points.specs.Lengths.{len_with}
 use Rattle.cf_ranges.specs.Positions.{IsBelow, touched}
 use Rattle.cf_table.specs.Changing.{IsNext}
 use Rattle.cf_table.specs.Spelling.{HasRoom}

@@ -1,7 +1,7 @@
 -- Changes counted in order, as a draft tells of them.
 use Rattle.std.specs.Prelude.{◌≡◌, ◌+◌, ◌||◌, ℕ, not, List}
 use Rattle.cf_base.specs.declared.changes.Change.{Change}
-use Rattle.cf_image.specs.declared.contents.Contents.{Contents}
+use Rattle.cf_volume_image.specs.declared.contents.Contents.{Contents}
 use Rattle.cf_model.specs.Changes.{no_blocks, no_table, put_changes}
 use Rattle.cf_model.specs.State.{Volume}
 use Rattle.cf_volume.specs.Drafts.{Drafts}

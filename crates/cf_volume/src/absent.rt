@@ -1,12 +1,12 @@
 //! Changes of items that are not there, put: they are counted, and change no item.
 
 ghost use Rattle.std.specs.Prelude.{◌≡◌, ◌<◌, ◌+◌, ◌^◌, [], None, length, nat_lt, true, IfErr, OnOk};
-ghost use Rattle.cf_blocks.specs.Bytes.{puts_in};
-ghost use Rattle.cf_data.specs.Roles.{how_many, is_now};
+ghost use Rattle.cf_volume_blocks.specs.Bytes.{puts_in};
+ghost use Rattle.cf_clusters.specs.Roles.{how_many, is_now};
 ghost use Rattle.cf_disk.specs.Disk.{size_of};
 ghost use Rattle.cf_model.specs.Blocks.{blocks_of};
 ghost use Rattle.cf_model.specs.State.{Volume};
-ghost use Rattle.cf_points.specs.At.{At};
+ghost use Rattle.cf_volume_points.specs.At.{At};
 ghost use Rattle.cf_table.specs.Changing.{item_of_change, stays};
 ghost use Rattle.cf_table.specs.Tables.{row_of};
 ghost use Rattle.cf_volume.specs.Calls.{IsCause, IsKept, IsPut};
@@ -14,7 +14,7 @@ ghost use Rattle.cf_volume.specs.Steady.{Steady, known_of};
 
 use crate::parts::Parts;
 use cf_base::{Change, Code, Fail, Usn};
-use cf_data::Data;
+use cf_clusters::Data;
 use cf_disk::Disk;
 
 // How many blocks so many bytes touch from the start of a file on.

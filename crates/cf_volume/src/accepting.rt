@@ -6,9 +6,9 @@ ghost use Rattle.cf_model.specs.Changes.{may_need_room, put_change, why_no_room}
 ghost use Rattle.cf_model.specs.Numbers.{usn_after};
 ghost use Rattle.cf_model.specs.Points.{with_room_point};
 ghost use Rattle.cf_model.specs.State.{Volume};
-ghost use Rattle.cf_points.specs.At.{Applied, At, StandsEither, StandsLast};
-ghost use Rattle.cf_points.specs.Keeping.{FitsBook, IsNextId};
-ghost use Rattle.cf_points.specs.Sound.{IsKeepable};
+ghost use Rattle.cf_volume_points.specs.At.{Applied, At, StandsEither, StandsLast};
+ghost use Rattle.cf_volume_points.specs.Keeping.{FitsBook, IsNextId};
+ghost use Rattle.cf_volume_points.specs.Sound.{IsKeepable};
 ghost use Rattle.cf_table.specs.Changing.{Fits, stays};
 ghost use Rattle.cf_volume.specs.Accepted.{IsDone, IsJudged, StaysSteady};
 ghost use Rattle.cf_volume.specs.Calls.{Answers, IsCause, IsKept, Runs, StopsOnly};
@@ -25,7 +25,7 @@ use crate::parts::Parts;
 use crate::staying::put_stay;
 use cf_base::{Change, Code, Fail, Usn};
 use cf_disk::Disk;
-use cf_image::Contents;
+use cf_volume_image::Contents;
 
 /// The greatest place of an epoch.
 const MOST: u32 = 4_294_967_295;

@@ -5,9 +5,9 @@ ghost use Rattle.cf_disk.specs.Disk.{Leaves};
 ghost use Rattle.cf_model.specs.Changes.{may_need_room, next_number};
 ghost use Rattle.cf_model.specs.Points.{with_room_point, with_sure_point};
 ghost use Rattle.cf_model.specs.State.{Volume as model};
-ghost use Rattle.cf_points.specs.At.{Applied, At, StandsEither, StandsLast};
-ghost use Rattle.cf_points.specs.Keeping.{FitsBook, IsNextId};
-ghost use Rattle.cf_points.specs.Sound.{IsKeepable};
+ghost use Rattle.cf_volume_points.specs.At.{Applied, At, StandsEither, StandsLast};
+ghost use Rattle.cf_volume_points.specs.Keeping.{FitsBook, IsNextId};
+ghost use Rattle.cf_volume_points.specs.Sound.{IsKeepable};
 ghost use Rattle.cf_table.specs.Changing.{Fits};
 ghost use Rattle.cf_volume.specs.Calls.{Answers, Breaks, IfBroken, IsCause, Runs, StopsOnly};
 

@@ -8,9 +8,9 @@ ghost use Rattle.cf_model.specs.Changes.{put_change, why_no_room};
 ghost use Rattle.cf_model.specs.Items.{Item};
 ghost use Rattle.cf_model.specs.Numbers.{no_usn};
 ghost use Rattle.cf_model.specs.State.{Volume};
-ghost use Rattle.cf_points.specs.At.{At};
-ghost use Rattle.cf_points.specs.Holding.{FitsTable};
-ghost use Rattle.cf_points.specs.Keeping.{IsNextId};
+ghost use Rattle.cf_volume_points.specs.At.{At};
+ghost use Rattle.cf_volume_points.specs.Holding.{FitsTable};
+ghost use Rattle.cf_volume_points.specs.Keeping.{IsNextId};
 ghost use Rattle.cf_table.specs.Applied.{IsSpellable};
 ghost use Rattle.cf_table.specs.Changing.{Fits};
 ghost use Rattle.cf_table.specs.Means.{IsFresh};
@@ -25,7 +25,7 @@ use crate::parts::Parts;
 use crate::settling::tell_stored;
 use cf_base::{Change, Code, Fail, Usn};
 use cf_disk::Disk;
-use cf_image::Contents;
+use cf_volume_image::Contents;
 use cf_table::Row;
 
 /// The most rows that a table has.

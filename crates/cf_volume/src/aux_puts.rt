@@ -2,12 +2,12 @@
 
 ghost use Rattle.std.specs.Prelude.{◌≡◌, ◌≤◌, ◌<◌, ◌^◌, ℕ, All, List, Some, length, option_copied, IfOk, OnOk};
 ghost use Rattle.cf_disk.specs.Disk.{size_of};
-ghost use Rattle.cf_image.specs.Contents.{record_at};
-ghost use Rattle.cf_image.specs.RecordLists.{IsShort};
+ghost use Rattle.cf_volume_image.specs.Contents.{record_at};
+ghost use Rattle.cf_volume_image.specs.RecordLists.{IsShort};
 ghost use Rattle.cf_model.specs.Books.{Book};
 ghost use Rattle.cf_model.specs.Formats.{with_record, with_records, without_record};
 ghost use Rattle.cf_model.specs.State.{Volume};
-ghost use Rattle.cf_points.specs.At.{At};
+ghost use Rattle.cf_volume_points.specs.At.{At};
 ghost use Rattle.cf_volume.specs.AuxPuts.{IsAuxKept, IsAuxPut, len_if};
 ghost use Rattle.cf_volume.specs.Calls.{HasRecords, put_record};
 ghost use Rattle.cf_volume.specs.Notes.{KnowKeys};
@@ -19,7 +19,7 @@ use crate::record_notes::{copied, note_record};
 use crate::rooms::is_full_now;
 use cf_base::{AuxRecord, Blob, Code, Fail, Memory};
 use cf_disk::Disk;
-use cf_image::AuxRecords;
+use cf_volume_image::AuxRecords;
 use std::alloc::Global;
 
 /// How many bytes spell the record with a key, and 0 where there is none.

@@ -1,12 +1,12 @@
 //! What a volume keeps beside its items: anchors, accesses, the clock, auxiliary records.
 
 ghost use Rattle.std.specs.Prelude.{◌≡◌, ◌≤◌, ℕ, All, List, length, option_copied, false, None, Some, IfErr, OnOk};
-ghost use Rattle.cf_image.specs.RecordLists.{IsShort};
+ghost use Rattle.cf_volume_image.specs.RecordLists.{IsShort};
 ghost use Rattle.cf_model.specs.Books.{Book, with_access, with_anchor, with_ticks};
 ghost use Rattle.cf_model.specs.Formats.{with_records};
 ghost use Rattle.cf_model.specs.Items.{Item, item_of};
 ghost use Rattle.cf_model.specs.State.{Volume as model};
-ghost use Rattle.cf_points.specs.At.{At};
+ghost use Rattle.cf_volume_points.specs.At.{At};
 ghost use Rattle.cf_table.specs.Tables.{row_of};
 ghost use Rattle.cf_volume.specs.Calls.{Breaks, HasRecords, IfBroken, IsMemory, WhyAux, put_record};
 

@@ -1,22 +1,22 @@
 //! Planned changes, carried out on the table and the clusters.
 
 ghost use Rattle.std.specs.Prelude.{◌≡◌, ◌≤◌, ◌<◌, ◌*◌, ℕ, None, Some, length, OnOk, IfErr};
-ghost use Rattle.cf_blocks.specs.Bytes.{HasEnd};
-ghost use Rattle.cf_data.specs.Area.{KeepsWhere, place};
-ghost use Rattle.cf_data.specs.Roles.{IsCommitted, how_many, is_free};
+ghost use Rattle.cf_volume_blocks.specs.Bytes.{HasEnd};
+ghost use Rattle.cf_clusters.specs.Area.{KeepsWhere, place};
+ghost use Rattle.cf_clusters.specs.Roles.{IsCommitted, how_many, is_free};
 ghost use Rattle.cf_disk.specs.Disk.{Leaves, size_of};
 ghost use Rattle.cf_ranges.specs.Pairs.{cluster_at};
 ghost use Rattle.cf_table.specs.Applied.{IsSpellable};
 ghost use Rattle.cf_table.specs.Tables.{row_of};
 ghost use Rattle.cf_volume.specs.Laid.{Carries};
-ghost use Rattle.cf_points.specs.Runs.{IsStop, Ran};
+ghost use Rattle.cf_volume_points.specs.Runs.{IsStop, Ran};
 
 use crate::settling::{Planned, settle_blocks};
 use crate::writable::put_row;
 use cf_base::{Change, ItemId};
-use cf_data::Data;
+use cf_clusters::Data;
 use cf_disk::Disk;
-use cf_points::Stop;
+use cf_volume_points::Stop;
 use cf_table::Rows;
 use std::alloc::Global;
 

@@ -2,17 +2,17 @@
 
 ghost use Rattle.std.specs.Prelude.{◌≡◌, ◌≤◌, ◌<◌, ◌+◌, All, None, Some, length, IfErr, OnOk};
 ghost use Rattle.cf_base.specs.declared.changes.Change.{Change};
-ghost use Rattle.cf_data.specs.Area.{KeepsWhere};
-ghost use Rattle.cf_data.specs.Roles.{IsCommitted, how_many, is_free};
+ghost use Rattle.cf_clusters.specs.Area.{KeepsWhere};
+ghost use Rattle.cf_clusters.specs.Roles.{IsCommitted, how_many, is_free};
 ghost use Rattle.cf_disk.specs.Disk.{Leaves, size_of};
 ghost use Rattle.cf_model.specs.Changes.{put_change};
 ghost use Rattle.cf_model.specs.Items.{Item};
 ghost use Rattle.cf_model.specs.Numbers.{usn_after};
 ghost use Rattle.cf_model.specs.State.{Volume};
-ghost use Rattle.cf_points.specs.At.{At};
-ghost use Rattle.cf_points.specs.Holding.{FitsTable};
-ghost use Rattle.cf_points.specs.Keeping.{IsNextId};
-ghost use Rattle.cf_points.specs.Runs.{IsStop};
+ghost use Rattle.cf_volume_points.specs.At.{At};
+ghost use Rattle.cf_volume_points.specs.Holding.{FitsTable};
+ghost use Rattle.cf_volume_points.specs.Keeping.{IsNextId};
+ghost use Rattle.cf_volume_points.specs.Runs.{IsStop};
 ghost use Rattle.cf_table.specs.Applied.{IsSpellable};
 ghost use Rattle.cf_table.specs.Changing.{Fits};
 ghost use Rattle.cf_table.specs.Means.{IsFresh};
@@ -29,7 +29,7 @@ use crate::making::plan_copied;
 use crate::parts::Parts;
 use cf_base::{Change, Fail, ItemId, Usn};
 use cf_disk::Disk;
-use cf_points::Stop;
+use cf_volume_points::Stop;
 use cf_table::{Row, Rows};
 
 // How many blocks of an item have a cluster.

@@ -1,12 +1,12 @@
 //! The clusters of a file, copied into free ones.
 
 ghost use Rattle.std.specs.Prelude.{◌≡◌, ◌≤◌, ◌<◌, ◌*◌, [], ℕ, All, None, Some, length, IfErr, OnOk};
-ghost use Rattle.cf_data.specs.Area.{KeepsWhere, place};
-ghost use Rattle.cf_data.specs.Roles.{IsCommitted, IsUsed, how_many, is_free};
+ghost use Rattle.cf_clusters.specs.Area.{KeepsWhere, place};
+ghost use Rattle.cf_clusters.specs.Roles.{IsCommitted, IsUsed, how_many, is_free};
 ghost use Rattle.cf_disk.specs.Disk.{Leaves, size_of};
-ghost use Rattle.cf_points.specs.Runs.{IsStop, Ran};
-ghost use Rattle.cf_points.specs.Staging.{StagesBlock, names};
-ghost use Rattle.cf_points.specs.Standing.{cluster_on};
+ghost use Rattle.cf_volume_points.specs.Runs.{IsStop, Ran};
+ghost use Rattle.cf_volume_points.specs.Staging.{StagesBlock, names};
+ghost use Rattle.cf_volume_points.specs.Standing.{cluster_on};
 ghost use Rattle.cf_ranges.specs.Pairs.{cluster_at};
 ghost use Rattle.cf_table.specs.Applied.{IsSpellable};
 ghost use Rattle.cf_table.specs.Tables.{row_of};
@@ -17,9 +17,9 @@ ghost use Rattle.cf_volume.specs.Copies.{CopiesAll, Duplicates};
 use crate::staging::{load, put_block};
 use crate::writable::put_row;
 use cf_base::ItemId;
-use cf_data::Data;
+use cf_clusters::Data;
 use cf_disk::Disk;
-use cf_points::Stop;
+use cf_volume_points::Stop;
 use cf_ranges::ExtentMap;
 use cf_table::{Row, Rows};
 

@@ -21,7 +21,7 @@ use crate::kinds::item_of;
 use crate::making::place_of;
 use crate::settling::plan_item;
 use cf_base::{Change, ItemId, Memory, Pin, Usn};
-use cf_image::Contents;
+use cf_volume_image::Contents;
 use cf_table::Row;
 use std::alloc::Global;
 

@@ -1,8 +1,8 @@
 //! The table as changes would leave it that are not made.
 
 ghost use Rattle.std.specs.Prelude.{◌≡◌, ◌≤◌, ◌+◌, ◌*◌, ◌∷◌, [], ◌++◌, ℕ, length, min, option_copied, IfOk, IfSome, OnOk};
-ghost use Rattle.cf_data.specs.Roles.{how_many, is_now};
-ghost use Rattle.cf_image.specs.Contents.{image_of};
+ghost use Rattle.cf_clusters.specs.Roles.{how_many, is_now};
+ghost use Rattle.cf_volume_image.specs.Contents.{image_of};
 ghost use Rattle.cf_model.specs.Formats.{spell_image};
 ghost use Rattle.cf_ranges.specs.Positions.{IsBelow, touched};
 ghost use Rattle.cf_table.specs.Applied.{IsSpellable};
@@ -13,8 +13,8 @@ use crate::commits::no_rows;
 use crate::lengths::len_of;
 use crate::settling::tell_stored;
 use cf_base::{ItemId, Memory, Pin};
-use cf_data::Data;
-use cf_image::Contents;
+use cf_clusters::Data;
+use cf_volume_image::Contents;
 use cf_table::{Row, Rows};
 use std::alloc::Global;
 

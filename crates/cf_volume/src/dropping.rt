@@ -2,13 +2,13 @@
 
 ghost use Rattle.std.specs.Prelude.{◌≡◌, ◌<◌, ℕ, Some, not, filter, length, map, take, IfOk, OnOk, MatchOption};
 ghost use Rattle.std.specs.Option.{ForSome};
-ghost use Rattle.cf_data.specs.Roles.{dropped_at};
-ghost use Rattle.cf_points.specs.Staging.{Drops, DropsGone, DropsOne};
+ghost use Rattle.cf_clusters.specs.Roles.{dropped_at};
+ghost use Rattle.cf_volume_points.specs.Staging.{Drops, DropsGone, DropsOne};
 ghost use Rattle.cf_ranges.specs.Pairs.{cluster_at};
 ghost use Rattle.cf_ranges.specs.Positions.{touches};
 
 use cf_base::Memory;
-use cf_data::Data;
+use cf_clusters::Data;
 use cf_ranges::{ExtentMap, RangeSet};
 use std::alloc::Global;
 

@@ -4,7 +4,7 @@ ghost use Rattle.std.specs.Prelude.{◌≡◌};
 ghost use Rattle.cf_volume.specs.Calls.{IsStopping, fail_of};
 
 use cf_base::{Code, Fail};
-use cf_points::Stop;
+use cf_volume_points::Stop;
 
 /// What a call answers that was stopped.
 pub(crate) fn fail_of(stop: Stop) -> Fail

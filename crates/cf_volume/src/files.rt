@@ -4,7 +4,7 @@ ghost use Rattle.std.specs.Prelude.{◌≡◌, ◌≤◌, ◌+◌, ◌^◌, ℕ,
 ghost use Rattle.cf_disk.specs.Disk.{Leaves};
 ghost use Rattle.cf_model.specs.Items.{Item, item_of};
 ghost use Rattle.cf_model.specs.State.{Volume as model};
-ghost use Rattle.cf_points.specs.At.{At, StandsLast};
+ghost use Rattle.cf_volume_points.specs.At.{At, StandsLast};
 ghost use Rattle.cf_table.specs.Tables.{row_of};
 ghost use Rattle.cf_volume.specs.Calls.{Breaks, IfBroken, IsCause, IsHere, Runs, StopsOnly};
 

@@ -1,12 +1,12 @@
 //! Changes of items that stay, planned and judged.
 
 ghost use Rattle.std.specs.Prelude.{◌≡◌, ◌≤◌, ◌<◌, ◌+◌, ◌∷◌, [], None, Some, length, nat_lt, true, IfNone, IfOk, IfSome};
-ghost use Rattle.cf_data.specs.Roles.{how_many, is_now};
+ghost use Rattle.cf_clusters.specs.Roles.{how_many, is_now};
 ghost use Rattle.cf_model.specs.Changes.{put_change, why_no_room};
 ghost use Rattle.cf_model.specs.Numbers.{usn_after};
 ghost use Rattle.cf_model.specs.State.{Volume};
-ghost use Rattle.cf_points.specs.At.{At};
-ghost use Rattle.cf_points.specs.Holding.{FitsTable};
+ghost use Rattle.cf_volume_points.specs.At.{At};
+ghost use Rattle.cf_volume_points.specs.Holding.{FitsTable};
 ghost use Rattle.cf_table.specs.Changing.{Fits, IsNext, item_of_change, pin_for, stays};
 ghost use Rattle.cf_table.specs.Tables.{row_of};
 ghost use Rattle.cf_table.specs.declared.rows.Row.{Row};
@@ -19,9 +19,9 @@ use crate::lengths::{is_too_long, len_of};
 use crate::parts::Parts;
 use crate::settling::{Planned, plan_item};
 use cf_base::{Change, Code, Memory, Usn};
-use cf_data::Data;
+use cf_clusters::Data;
 use cf_disk::Disk;
-use cf_image::Contents;
+use cf_volume_image::Contents;
 use cf_table::Rows;
 use std::alloc::Global;
 

@@ -1,12 +1,12 @@
 //! How long the table is after a change.
 
 ghost use Rattle.std.specs.Prelude.{◌≡◌, ◌<◌, ◌+◌, ◌*◌, ◌^◌, ℕ, length, min, nat_lt};
-ghost use Rattle.cf_image.specs.Contents.{image_of};
+ghost use Rattle.cf_volume_image.specs.Contents.{image_of};
 ghost use Rattle.cf_model.specs.Formats.{spell_image};
-ghost use Rattle.cf_points.specs.Lengths.{len_with};
+ghost use Rattle.cf_volume_points.specs.Lengths.{len_with};
 ghost use Rattle.cf_ranges.specs.Positions.{IsBelow, touched};
 
-use cf_image::Contents;
+use cf_volume_image::Contents;
 use cf_table::Row;
 
 /// The most bytes that an image has.

@@ -1,7 +1,7 @@
 //! The volume over a disk: items and a book, of which a crash leaves the last point.
 //!
 //! Contracts see a `Volume` as its disk and what is known of the volume on it (specs/Calls, `OnDisk`). Each clause speaks of
-//! any volume of the definitions that the disk and what is known are at (`At` of cf_points), and of the one that they are
+//! any volume of the definitions that the disk and what is known are at (`At` of cf_volume_points), and of the one that they are
 //! at afterwards. A change is judged, planned and put by its kind, with a commit first where it needs room; rows and
 //! records are noted as they were at the last point, so that a commit writes what differs.
 #![tactic(auto)]

@@ -1,8 +1,8 @@
 //! What a program knows of a volume on a disk.
 
-use cf_commit::Earlier;
-use cf_data::Data;
-use cf_image::Contents;
+use cf_volume_commit::Earlier;
+use cf_clusters::Data;
+use cf_volume_image::Contents;
 use cf_journal::Journal;
 use std::alloc::Global;
 

@@ -1,16 +1,16 @@
 //! Changes of items that stay, put.
 
 ghost use Rattle.std.specs.Prelude.{◌≡◌, ◌≤◌, ◌<◌, ◌*◌, true, None, Some, length, IfErr, OnOk};
-ghost use Rattle.cf_blocks.specs.Bytes.{HasEnd};
-ghost use Rattle.cf_data.specs.Area.{KeepsWhere};
-ghost use Rattle.cf_data.specs.Roles.{IsCommitted, how_many, is_free};
+ghost use Rattle.cf_volume_blocks.specs.Bytes.{HasEnd};
+ghost use Rattle.cf_clusters.specs.Area.{KeepsWhere};
+ghost use Rattle.cf_clusters.specs.Roles.{IsCommitted, how_many, is_free};
 ghost use Rattle.cf_disk.specs.Disk.{Leaves, size_of};
 ghost use Rattle.cf_model.specs.Changes.{put_change};
 ghost use Rattle.cf_model.specs.Numbers.{usn_after};
 ghost use Rattle.cf_model.specs.State.{Volume};
-ghost use Rattle.cf_points.specs.At.{At};
-ghost use Rattle.cf_points.specs.Holding.{FitsTable};
-ghost use Rattle.cf_points.specs.Runs.{IsStop, Ran};
+ghost use Rattle.cf_volume_points.specs.At.{At};
+ghost use Rattle.cf_volume_points.specs.Holding.{FitsTable};
+ghost use Rattle.cf_volume_points.specs.Runs.{IsStop, Ran};
 ghost use Rattle.cf_table.specs.Changing.{item_of_change, pin_for, stays};
 ghost use Rattle.cf_table.specs.Tables.{row_of};
 ghost use Rattle.cf_table.specs.declared.rows.Row.{Row};
@@ -24,7 +24,7 @@ use crate::parts::Parts;
 use crate::settling::Planned;
 use cf_base::Change;
 use cf_disk::Disk;
-use cf_points::Stop;
+use cf_volume_points::Stop;
 
 /// Puts a planned change of an item that stays. The clusters that it needs are free, and there is a number for it.
 pub(crate) fn put_planned<D: Disk>(

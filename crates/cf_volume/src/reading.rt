@@ -1,19 +1,19 @@
 //! Bytes of files, read from their clusters.
 
 ghost use Rattle.std.specs.Prelude.{◌≡◌, ◌≤◌, ◌<◌, ◌+◌, ◌^◌, ℕ, None, Some, length, IfErr, IfOk};
-ghost use Rattle.cf_data.specs.Area.{place};
+ghost use Rattle.cf_clusters.specs.Area.{place};
 ghost use Rattle.cf_disk.specs.Disk.{Keeps, Leaves, size_of};
 ghost use Rattle.cf_ranges.specs.Pairs.{cluster_at};
 ghost use Rattle.cf_table.specs.Tables.{row_of};
 ghost use Rattle.cf_table.specs.declared.rows.Row.{Row};
 ghost use Rattle.cf_volume.specs.Reads.{HasRead};
-ghost use Rattle.cf_points.specs.Runs.{IsStop, Ran};
+ghost use Rattle.cf_volume_points.specs.Runs.{IsStop, Ran};
 
 use crate::staging::load;
 use cf_base::{Blob, ItemId, Span};
-use cf_data::Data;
+use cf_clusters::Data;
 use cf_disk::Disk;
-use cf_points::Stop;
+use cf_volume_points::Stop;
 use cf_ranges::ExtentMap;
 use cf_table::Rows;
 use std::alloc::Global;

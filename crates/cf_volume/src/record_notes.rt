@@ -1,13 +1,13 @@
 //! Auxiliary records as they were at the last point.
 
 ghost use Rattle.std.specs.Prelude.{◌≡◌, ◌≤◌, Some, IfOk, OnOk, is_some, length};
-ghost use Rattle.cf_image.specs.Contents.{record_at};
-ghost use Rattle.cf_image.specs.RecordLists.{IsShort};
+ghost use Rattle.cf_volume_image.specs.Contents.{record_at};
+ghost use Rattle.cf_volume_image.specs.RecordLists.{IsShort};
 ghost use Rattle.cf_volume.specs.Notes.{NotesKey};
 
 use cf_base::{AuxRecord, Memory};
-use cf_commit::bare;
-use cf_image::AuxRecords;
+use cf_volume_commit::bare;
+use cf_volume_image::AuxRecords;
 use std::alloc::Global;
 
 fn has(records: &AuxRecords, key: &[u8]) -> bool

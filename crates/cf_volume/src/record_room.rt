@@ -2,13 +2,13 @@
 
 ghost use Rattle.std.specs.Prelude.{◌≡◌, ◌+◌, ◌∷◌, [], All, List, None, cond, is_some, IfOk, IsTrue, OnOk};
 ghost use Rattle.cf_base.specs.declared.answers.AuxRecord.{AuxRecord};
-ghost use Rattle.cf_image.specs.Contents.{record_at};
-ghost use Rattle.cf_image.specs.RecordLists.{IsShort};
+ghost use Rattle.cf_volume_image.specs.Contents.{record_at};
+ghost use Rattle.cf_volume_image.specs.RecordLists.{IsShort};
 ghost use Rattle.cf_model.specs.Books.{Book};
 ghost use Rattle.cf_model.specs.Images.{aux_len, table_full};
 ghost use Rattle.cf_model.specs.State.{Volume};
 ghost use Rattle.cf_base.specs.declared.ids.ItemId.{ItemId};
-ghost use Rattle.cf_points.specs.Known.{or_now};
+ghost use Rattle.cf_volume_points.specs.Known.{or_now};
 ghost use Rattle.cf_volume.specs.AuxPuts.{len_if};
 ghost use Rattle.cf_volume.specs.Besides.{AreTaken, Besides};
 ghost use Rattle.cf_volume.specs.Drafts.{Drafts};
@@ -20,8 +20,8 @@ use crate::drafts::{Draft, Sizes, sum};
 use crate::record_notes::copied;
 use crate::tallies::is_long;
 use cf_base::{AuxRecord, ItemId, Memory};
-use cf_commit::bare;
-use cf_image::{AuxRecords, Contents};
+use cf_volume_commit::bare;
+use cf_volume_image::{AuxRecords, Contents};
 use std::alloc::Global;
 
 /// The most bytes of a key.

@@ -1,12 +1,12 @@
 //! Rows taken out, with their clusters.
 
 ghost use Rattle.std.specs.Prelude.{◌≡◌, ◌<◌, All, length, option_copied};
-ghost use Rattle.cf_points.specs.Clusters.{named_in};
-ghost use Rattle.cf_points.specs.Staging.{DropsAll, names};
+ghost use Rattle.cf_volume_points.specs.Clusters.{named_in};
+ghost use Rattle.cf_volume_points.specs.Staging.{DropsAll, names};
 ghost use Rattle.cf_table.specs.Tables.{row_of, without_row};
 
 use cf_base::ItemId;
-use cf_data::Data;
+use cf_clusters::Data;
 use cf_table::{Row, Rows};
 
 // Drops the clusters of extents.

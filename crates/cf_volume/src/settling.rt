@@ -2,9 +2,9 @@
 
 ghost use Rattle.std.specs.Prelude.{◌≡◌, ◌≤◌, ◌<◌, ◌*◌, ℕ, Some, length, OnOk, IfOk, IfErr};
 ghost use Rattle.cf_base.specs.declared.ids.Usn.{Usn};
-ghost use Rattle.cf_blocks.specs.Bytes.{HasEnd, puts_in};
-ghost use Rattle.cf_data.specs.Area.{KeepsWhere, place};
-ghost use Rattle.cf_data.specs.Roles.{IsCommitted, how_many, is_free};
+ghost use Rattle.cf_volume_blocks.specs.Bytes.{HasEnd, puts_in};
+ghost use Rattle.cf_clusters.specs.Area.{KeepsWhere, place};
+ghost use Rattle.cf_clusters.specs.Roles.{IsCommitted, how_many, is_free};
 ghost use Rattle.cf_disk.specs.Disk.{Leaves, size_of};
 ghost use Rattle.cf_model.specs.Items.{Item};
 ghost use Rattle.cf_ranges.specs.Pairs.{cluster_at};
@@ -12,15 +12,15 @@ ghost use Rattle.cf_table.specs.Applied.{FitsRow, IsSpellable, item_effect};
 ghost use Rattle.cf_table.specs.Means.{IsLater, KeepsRest, Means, StaysBefore};
 ghost use Rattle.cf_table.specs.Tables.{IsStored};
 ghost use Rattle.cf_volume.specs.Laid.{Settles};
-ghost use Rattle.cf_points.specs.Runs.{IsStop, Ran};
+ghost use Rattle.cf_volume_points.specs.Runs.{IsStop, Ran};
 
 use crate::dropping::drop_gone;
 use crate::staging::stage_all;
 use cf_base::{Change, Memory, Pin, Usn};
-use cf_blocks::blocks_put;
-use cf_data::Data;
+use cf_volume_blocks::blocks_put;
+use cf_clusters::Data;
 use cf_disk::Disk;
-use cf_points::Stop;
+use cf_volume_points::Stop;
 use cf_ranges::{ExtentMap, RangeSet};
 use cf_table::Row;
 use std::alloc::Global;

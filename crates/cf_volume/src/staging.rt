@@ -2,21 +2,21 @@
 
 ghost use Rattle.std.specs.Prelude.{◌≡◌, ◌≤◌, ◌<◌, ◌*◌, ℕ, List, Some, length, OnOk, IfErr};
 ghost use Rattle.std.specs.Option.{ForSome};
-ghost use Rattle.cf_blocks.specs.Bytes.{HasEnd};
-ghost use Rattle.cf_data.specs.Area.{KeepsWhere, place};
-ghost use Rattle.cf_data.specs.Roles.{IsCommitted, IsUsed, how_many, is_free};
+ghost use Rattle.cf_volume_blocks.specs.Bytes.{HasEnd};
+ghost use Rattle.cf_clusters.specs.Area.{KeepsWhere, place};
+ghost use Rattle.cf_clusters.specs.Roles.{IsCommitted, IsUsed, how_many, is_free};
 ghost use Rattle.cf_disk.specs.Disk.{Keeps, Leaves, size_of};
-ghost use Rattle.cf_points.specs.Staging.{StagesBlock};
-ghost use Rattle.cf_points.specs.Standing.{cluster_on};
+ghost use Rattle.cf_volume_points.specs.Staging.{StagesBlock};
+ghost use Rattle.cf_volume_points.specs.Standing.{cluster_on};
 ghost use Rattle.cf_ranges.specs.Pairs.{IsRising, Puts, cluster_at};
 ghost use Rattle.cf_volume.specs.Laid.{Lays, StagesAll};
-ghost use Rattle.cf_points.specs.Runs.{IsStop, Ran};
+ghost use Rattle.cf_volume_points.specs.Runs.{IsStop, Ran};
 
 use cf_base::{Change, Memory};
-use cf_blocks::lay_change;
-use cf_data::{Data, DataFail};
+use cf_volume_blocks::lay_change;
+use cf_clusters::{Data, DataFail};
 use cf_disk::Disk;
-use cf_points::Stop;
+use cf_volume_points::Stop;
 use cf_ranges::ExtentMap;
 use cf_table::Row;
 

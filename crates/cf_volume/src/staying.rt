@@ -1,11 +1,11 @@
 //! Changes of items that stay, from a plan to the clusters.
 
 ghost use Rattle.std.specs.Prelude.{◌≡◌, ◌<◌, ◌+◌, true, None, Some, Ok, IfErr, OnOk};
-ghost use Rattle.cf_data.specs.Area.{KeepsWhere};
-ghost use Rattle.cf_data.specs.Roles.{IsCommitted};
+ghost use Rattle.cf_clusters.specs.Area.{KeepsWhere};
+ghost use Rattle.cf_clusters.specs.Roles.{IsCommitted};
 ghost use Rattle.cf_disk.specs.Disk.{Leaves, size_of};
 ghost use Rattle.cf_model.specs.State.{Volume};
-ghost use Rattle.cf_points.specs.At.{At};
+ghost use Rattle.cf_volume_points.specs.At.{At};
 ghost use Rattle.cf_table.specs.Changing.{Fits, item_of_change, stays};
 ghost use Rattle.cf_table.specs.Tables.{row_of};
 ghost use Rattle.cf_volume.specs.Calls.{IsCause, IsKept, IsPut, Runs};

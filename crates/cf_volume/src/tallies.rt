@@ -11,7 +11,7 @@ ghost use Rattle.cf_volume.specs.Tallies.{Counts};
 use crate::drafting::draft_change;
 use crate::drafts::{Draft, Sizes, sum};
 use cf_base::{Change, Memory, Usn};
-use cf_image::Contents;
+use cf_volume_image::Contents;
 use std::alloc::Global;
 
 /// How many numbers an epoch has.

@@ -1,10 +1,10 @@
 //! A volume on a disk, and what is read of it at once.
 
 ghost use Rattle.std.specs.Prelude.{◌≡◌, Some, option_copied, option_map, find, length, true};
-ghost use Rattle.cf_data.specs.Roles.{how_many, is_now};
+ghost use Rattle.cf_clusters.specs.Roles.{how_many, is_now};
 ghost use Rattle.cf_disk.specs.Disk.{IsUnchanged};
-ghost use Rattle.cf_image.specs.Contents.{record_at};
-ghost use Rattle.cf_image.specs.RecordLists.{comes_after};
+ghost use Rattle.cf_volume_image.specs.Contents.{record_at};
+ghost use Rattle.cf_volume_image.specs.RecordLists.{comes_after};
 ghost use Rattle.cf_table.specs.Tables.{row_of};
 
 use crate::parts::Parts;

@@ -1,7 +1,7 @@
 //! Whether rows, and the contents of a volume, can be written.
 
 ghost use Rattle.std.specs.Prelude.{◌≡◌, ◌↔◌, All, IsTrue, OnErr, OnOk};
-ghost use Rattle.cf_commit.specs.Leading.{CanBeWritten};
+ghost use Rattle.cf_volume_commit.specs.Leading.{CanBeWritten};
 ghost use Rattle.cf_ranges.specs.Positions.{IsRuns};
 ghost use Rattle.cf_table.specs.Applied.{IsSpellable};
 ghost use Rattle.cf_table.specs.Spelling.{HasRoom};
@@ -9,7 +9,7 @@ ghost use Rattle.cf_table.specs.Tables.{with_row};
 ghost use Rattle.cf_volume.specs.Writable.{are_low, has_low_ends};
 
 use cf_base::{Memory, Span};
-use cf_image::Contents;
+use cf_volume_image::Contents;
 use cf_table::{Row, Rows};
 
 /// The most rows that a table has.

@@ -7,7 +7,7 @@ use Rattle.std.specs.Prelude.{All, nat_lt}
 use Rattle.cf_base.specs.declared.changes.Change.{Change}
 use Rattle.cf_base.specs.declared.changes.Change.TheVariants as change
 use Rattle.cf_base.specs.declared.spans.Span.{Span}
-use Rattle.cf_image.proofs.SetTests.{inside}
+use Rattle.cf_volume_image.proofs.SetTests.{inside}
 use Rattle.cf_ranges.specs.Positions.{IsMissing, contains, in_span}
 use Rattle.cf_table.specs.Applied.{FitsRow}
 use Rattle.cf_table.specs.Changing.{Fits, FitsRows, item_of_change, stays}

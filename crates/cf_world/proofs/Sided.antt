@@ -2,11 +2,11 @@
 use Rattle.std.proofs.Common.{◌≡◌, ◌≤◌, ◌+◌, ℕ, Bool, true, false, List, [], ◌∷◌, ◌++◌, refl, sym, ap, subst, ◌∙◌, Result, Ok, Err}
 use Rattle.std.specs.Prelude.{Option, Some, None, IsTrue, IfOk, is_some}
 use Rattle.std.specs.List.{list_all}
-use Rattle.cf_acting.specs.Counted.{Counts}
-use Rattle.cf_acting.specs.Meaning.{Is}
-use Rattle.cf_acting.specs.Pasts.{Gains, Past, StandsFor, last_image}
-use Rattle.cf_acting.specs.Stepped.{StepsOver, disk_of}
-use Rattle.cf_acting.specs.declared.places.Acting.{Acting}
+use Rattle.cf_world_filter.specs.Counted.{Counts}
+use Rattle.cf_world_filter.specs.Meaning.{Is}
+use Rattle.cf_world_filter.specs.Pasts.{Gains, Past, StandsFor, last_image}
+use Rattle.cf_world_filter.specs.Stepped.{StepsOver, disk_of}
+use Rattle.cf_world_filter.specs.declared.places.Acting.{Acting}
 use Rattle.cf_base.specs.declared.answers.Answer.{Answer}
 use Rattle.cf_base.specs.declared.events.Event.{Event}
 use Rattle.cf_base.specs.declared.memory.Memory.{Memory as NoMemory}
@@ -18,7 +18,7 @@ use Rattle.cf_model.specs.Powers.{StandsNow}
 use Rattle.cf_model.specs.State.{State, start}
 use Rattle.cf_model.specs.Store.{Held}
 use Rattle.cf_plain.specs.Worlds as plain
-use Rattle.cf_points.specs.Standing.{clusters_on}
+use Rattle.cf_volume_points.specs.Standing.{clusters_on}
 use Rattle.cf_script.specs.Built.{is_built}
 use Rattle.cf_world.proofs.Counted.{met_more, met_none}
 use Rattle.cf_world.proofs.OverPowers.{after_all, gains_then, last_then, over_push, over_runs}

@@ -10,7 +10,7 @@ use Rattle.cf_base.specs.declared.events.Event.{Event}
 use Rattle.cf_base.specs.declared.policies.Mode.{Mode}
 use Rattle.cf_disk.specs.Disk.{State as Disk}
 use Rattle.cf_io.specs.Moves.{AddsFront}
-use Rattle.cf_points.specs.Standing.{clusters_on}
+use Rattle.cf_volume_points.specs.Standing.{clusters_on}
 use Rattle.cf_report.specs.Texts.{texts, text}
 use Rattle.cf_world.proofs.Drafted.{drafted_front, drafted_stops_here}
 use Rattle.cf_world.proofs.Sided.{run_lawful}

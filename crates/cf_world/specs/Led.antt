@@ -1,10 +1,10 @@
 -- The worlds of both commands: what a trace is, and what it leaves of the disk.
 use Rattle.std.specs.Prelude.{◌≡◌, ◌≤◌, ◌+◌, ℕ, Bool, List, [], ◌∷◌, Option, Some, None, cond}
-use Rattle.cf_acting.specs.Counted.{meets_device}
-use Rattle.cf_acting.specs.Meaning.{Is}
-use Rattle.cf_acting.specs.Pasts.{Gains, StandsFor, last_image}
-use Rattle.cf_acting.specs.Stepped.{disk_of}
-use Rattle.cf_acting.specs.declared.places.Acting.{Acting}
+use Rattle.cf_world_filter.specs.Counted.{meets_device}
+use Rattle.cf_world_filter.specs.Meaning.{Is}
+use Rattle.cf_world_filter.specs.Pasts.{Gains, StandsFor, last_image}
+use Rattle.cf_world_filter.specs.Stepped.{disk_of}
+use Rattle.cf_world_filter.specs.declared.places.Acting.{Acting}
 use Rattle.cf_base.specs.declared.answers.Answer.{Answer}
 use Rattle.cf_base.specs.declared.events.Event.{Event}
 use Rattle.cf_base.specs.declared.policies.Choice.{Choice}
@@ -16,7 +16,7 @@ use Rattle.cf_model.specs.Powers.{RunsOver, StandsNow}
 use Rattle.cf_model.specs.State.{State, start}
 use Rattle.cf_model.specs.Store.{Held}
 use Rattle.cf_plain.specs.Worlds as plain
-use Rattle.cf_points.specs.Standing.{clusters_on}
+use Rattle.cf_volume_points.specs.Standing.{clusters_on}
 use Rattle.cf_world.specs.Sides.{Acted}
 use Rattle.cf_script.specs.Built.{is_built}
 use Rattle.cf_world.specs.declared.sides.Side.{Side}

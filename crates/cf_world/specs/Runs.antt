@@ -11,15 +11,15 @@ use Rattle.cf_base.specs.declared.statuses.Status.TheVariants as status
 use Rattle.cf_disk.specs.Disk.{State as Disk}
 use Rattle.cf_io.specs.Moves.{Adds, AddsFront}
 use Rattle.cf_journal.specs.Settled.{IsFitSize}
-use Rattle.cf_points.specs.Standing.{clusters_on}
+use Rattle.cf_volume_points.specs.Standing.{clusters_on}
 use Rattle.cf_report.specs.Texts.{text as text_of, texts}
 use Rattle.cf_script.specs.Built.{is_built}
 use Rattle.cf_script.specs.Fail.{IsCause}
 use Rattle.cf_script.specs.Script.{lines_of, IsScript}
 use Rattle.cf_script.specs.declared.fails.ScriptFail.{ScriptFail}
 use Rattle.cf_script.specs.declared.fails.ScriptFail.TheVariants as fails
-use Rattle.cf_words.specs.declared.commands.Command.{Command}
-use Rattle.cf_words.specs.declared.commands.Command.TheVariants as command
+use Rattle.cf_cli.specs.declared.commands.Command.{Command}
+use Rattle.cf_cli.specs.declared.commands.Command.TheVariants as command
 use Rattle.cf_world.specs.Led.{IsLawful, Leads}
 
 abbrev pub mode_of : Command → Mode

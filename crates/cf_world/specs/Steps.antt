@@ -11,13 +11,13 @@ use Rattle.cf_disk.specs.Disk.{State as Disk}
 use Rattle.cf_io.specs.Moves.{Adds, AddsFront}
 use Rattle.cf_io.specs.declared.faults.ReadFail.{ReadFail}
 use Rattle.cf_io.specs.declared.faults.ReadFail.TheVariants as reading
-use Rattle.cf_points.specs.Standing.{clusters_on}
+use Rattle.cf_volume_points.specs.Standing.{clusters_on}
 use Rattle.cf_report.specs.Texts.{texts}
 use Rattle.cf_world.specs.Led.{HasRun, HasRunOn, IsLawful}
 use Rattle.cf_world.specs.Runs.{PlaysFront, PlaysLong, answers_of, events_of, most_report}
 use Rattle.cf_world.specs.Sides.{Acted}
-use Rattle.cf_words.specs.declared.commands.WordsFail.{WordsFail}
-use Rattle.cf_words.specs.declared.commands.WordsFail.TheVariants as words
+use Rattle.cf_cli.specs.declared.commands.WordsFail.{WordsFail}
+use Rattle.cf_cli.specs.declared.commands.WordsFail.TheVariants as words
 use Rattle.cf_world.specs.declared.fails.PlayFail.{PlayFail}
 use Rattle.cf_world.specs.declared.fails.PlayFail.TheVariants as play
 use Rattle.cf_world.specs.declared.sides.Side.{Side}

@@ -8,8 +8,8 @@ ghost use Rattle.cf_disk.specs.Disk.{capped, size_of};
 ghost use Rattle.cf_io.specs.Moves.{Rose, IsQuiet, Adds, AddsFront};
 ghost use Rattle.cf_script.specs.Fail.{IsCause};
 ghost use Rattle.cf_script.specs.Script.{lines_of};
-ghost use Rattle.cf_words.specs.Accounts.{AreTaken, Names};
-ghost use Rattle.cf_words.specs.declared.commands.Command.{Command as Meant};
+ghost use Rattle.cf_cli.specs.Accounts.{AreTaken, Names};
+ghost use Rattle.cf_cli.specs.declared.commands.Command.{Command as Meant};
 ghost use Rattle.cf_world.specs.Led.{HandsBack, HasRun};
 ghost use Rattle.cf_world.specs.Runs.{IsAfterReading, IsBeforeDevice, IsBeforeWriting, IsBuilt, IsComplete, IsFit, IsLength, IsOfReport, IsStarted, IsUnfit, Writes, WritesRefusal, fail_line, mode_of};
 ghost use Rattle.cf_world.specs.Steps.{early_status, play_status, read_status, start_status, words_status};
@@ -22,7 +22,7 @@ use cf_disk::Disk;
 use cf_io::{ReadFail, Sink, Source, read_all, write_all};
 use cf_remote::Remote;
 use cf_script::{ScriptFail, read};
-use cf_words::{Command, WordsFail, command_of};
+use cf_cli::{Command, WordsFail, command_of};
 use std::alloc::{AllocError, Global};
 
 /// The most bytes that a script has.

@@ -1,6 +1,6 @@
 //! The world of either command.
 
-use cf_acting::Acting;
+use cf_world_filter::Acting;
 use cf_disk::Disk;
 use cf_plain::PlainWorld;
 

@@ -1,10 +1,10 @@
 //! The world that a script acts on, and its trace.
 
 ghost use Rattle.std.specs.Prelude.{◌≡◌, ◌++◌, ◌∷◌, [], is_some, IfErr, IfOk, OnErr, OnOk, List, Some, true};
-ghost use Rattle.cf_acting.specs.Counted.{Counts};
-ghost use Rattle.cf_acting.specs.Meaning.{Is};
-ghost use Rattle.cf_acting.specs.Stepped.{StepsOver, disk_of};
-ghost use Rattle.cf_acting.specs.declared.places.Acting.{Acting as Hands};
+ghost use Rattle.cf_world_filter.specs.Counted.{Counts};
+ghost use Rattle.cf_world_filter.specs.Meaning.{Is};
+ghost use Rattle.cf_world_filter.specs.Stepped.{StepsOver, disk_of};
+ghost use Rattle.cf_world_filter.specs.declared.places.Acting.{Acting as Hands};
 ghost use Rattle.cf_base.specs.declared.answers.Answer.{Answer as Answered};
 ghost use Rattle.cf_base.specs.declared.events.Event.{Event as Done};
 ghost use Rattle.cf_base.specs.declared.policies.Mode.{Mode as Commanded};
@@ -16,7 +16,7 @@ ghost use Rattle.cf_volume.specs.Calls.{IsCause, StopsOnly};
 ghost use Rattle.cf_world.specs.Led.{HasRun, HasRunOn, IsSame, IsWhole, Keeps, Leads, can_do};
 
 use crate::sides::Side;
-use cf_acting::Acting;
+use cf_world_filter::Acting;
 use cf_base::{Answer, Event, Fail, Memory, Mode};
 use cf_disk::Disk;
 use cf_plain::PlainWorld;

@@ -3,7 +3,7 @@
 use crate::tests::plays::{Play, key};
 use cf_base::{ItemId, Policy};
 use cf_disk::Disk;
-use cf_execute::Callback;
+use cf_provider::Callback;
 use cf_filter::Filter;
 use cf_table::Row;
 

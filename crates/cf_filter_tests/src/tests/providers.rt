@@ -5,7 +5,7 @@ ghost use Rattle.cf_model.specs.Ports.{Act};
 
 use crate::tests::operations::{Given, operation, paths_seen};
 use cf_base::{Fail, Key, Memory, Notice, Operation, OperationAnswer, SeenPath};
-use cf_execute::{Callback, Outcome, Port, Provider};
+use cf_provider::{Callback, Outcome, Port, Provider};
 use std::alloc::Global;
 
 /// Does these operations in the first callback, each under the key beside it or, where there is none, under the callback's

@@ -2,7 +2,7 @@
 
 ghost use Rattle.std.specs.List.{list_all};
 ghost use Rattle.std.specs.Prelude.{◌≡◌, ◌≤◌, IsTrue, MatchOption, length, nat_lt};
-ghost use Rattle.cf_points.specs.Keeping.{IsNextId};
+ghost use Rattle.cf_volume_points.specs.Keeping.{IsNextId};
 ghost use Rattle.cf_table.specs.Applied.{FitsRow};
 ghost use Rattle.cf_table.specs.Changing.{Fits, IsNewItem, stays};
 ghost use Rattle.cf_table.specs.Tables.{row_of};

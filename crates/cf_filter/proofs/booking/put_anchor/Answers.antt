@@ -1,13 +1,13 @@
 use Rattle.std.proofs.Common.{◌∙◌, sym}
 use Rattle.cf_filter.proofs.Booked.{anchored_done, anchored_not, number_read}
 use Rattle.cf_filter.specs.Booking.{anchored_at, with_book_of}
-use Rattle.cf_machine.proofs.BookSteps.{book_lost}
-use Rattle.cf_machine.proofs.DeskSteps.{on_disk, seen_at, seen_desk, seen_disk}
-use Rattle.cf_machine.specs.Sensing.{sense}
+use Rattle.cf_filter_machine.proofs.BookSteps.{book_lost}
+use Rattle.cf_filter_machine.proofs.DeskSteps.{on_disk, seen_at, seen_desk, seen_disk}
+use Rattle.cf_filter_machine.specs.Sensing.{sense}
 use Rattle.cf_model.specs.Arrows.{one}
 use Rattle.cf_model.specs.Books.{with_anchor}
-use Rattle.cf_steps.proofs.Laws.{no_memory}
-use Rattle.cf_steps.specs.Answering.{IsAt}
+use Rattle.cf_filter_steps.proofs.Laws.{no_memory}
+use Rattle.cf_filter_steps.specs.Answering.{IsAt}
 use Rattle.cf_filter.proofs.booking.put_anchor.Goals as goal
 
 pub returns-then-is_none : goal.returns-then-is_none

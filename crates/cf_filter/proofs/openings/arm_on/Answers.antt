@@ -1,8 +1,8 @@
 use Rattle.std.proofs.Common.{◌≡◌, ◌∙◌, ap, subst}
 use Rattle.std.specs.Prelude.{Some, option_map}
 use Rattle.cf_disk.specs.Disk.{IsUnchanged}
-use Rattle.cf_machine.specs.Held.{Held}
-use Rattle.cf_machine.proofs.DeskSteps.{seen_desk}
+use Rattle.cf_filter_machine.specs.Held.{Held}
+use Rattle.cf_filter_machine.proofs.DeskSteps.{seen_desk}
 use Rattle.cf_filter.proofs.openings.arm_on.Goals as goal
 
 pub returns-clause-same : goal.returns-clause-same

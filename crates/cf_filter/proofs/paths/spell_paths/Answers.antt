@@ -1,7 +1,7 @@
 use Rattle.std.proofs.Common.{◌+◌, drop}
 use Rattle.std.proofs.Math.ListN.{drop_of_length-le}
 use Rattle.cf_filter.proofs.PathsSeen.{spelled_all, spelled_more, spelled_none}
-use Rattle.cf_steps.proofs.Laws.{drop_at}
+use Rattle.cf_filter_steps.proofs.Laws.{drop_at}
 use Rattle.cf_filter.proofs.paths.spell_paths.Goals as goal
 
 pub loop-path-init : goal.loop-path-init

@@ -2,7 +2,7 @@ use Rattle.std.proofs.Common.{option_copied}
 use Rattle.cf_filter.proofs.Called.{seen_from}
 use Rattle.cf_filter.proofs.Recorded.{record_stays, record_told, seen_same}
 use Rattle.cf_filter.specs.Recording.{PutsRecord}
-use Rattle.cf_machine.specs.Entering.{held}
+use Rattle.cf_filter_machine.specs.Entering.{held}
 use Rattle.cf_filter.proofs.recording.put_record.Goals as goal
 
 pub returns-clause-does : goal.returns-clause-does

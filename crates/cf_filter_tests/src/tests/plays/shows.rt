@@ -1,7 +1,7 @@
 //! What a call gave, as it is told.
 
 use cf_base::{Fail, Shown, Usn};
-use cf_execute::Outcome;
+use cf_provider::Outcome;
 use cf_filter::Waited;
 
 // A refusal is shown; want of memory is none of the test's.

@@ -1,6 +1,6 @@
 use Rattle.std.proofs.Common.{◌+◌, ◌∙◌, ℕ, Bool, cond, ltb, length, inr, ap, Some, None}
 use Rattle.cf_base.specs.declared.codes.Code.TheVariants as code
-use Rattle.cf_data.specs.Roles.{how_many, is_now}
+use Rattle.cf_clusters.specs.Roles.{how_many, is_now}
 use Rattle.cf_model.specs.Numbers.{usn_after}
 use Rattle.cf_volume.proofs.NotThere.{absent_at, absent_why}
 use Rattle.cf_volume.specs.Steady.{known_of}

@@ -1,4 +1,4 @@
-use Rattle.cf_points.proofs.Saves.{staging_leaves, untouched}
+use Rattle.cf_volume_points.proofs.Saves.{staging_leaves, untouched}
 use Rattle.cf_volume.specs.Steady.{known_of}
 use Rattle.cf_volume.proofs.accepting.accept.Goals as goal
 

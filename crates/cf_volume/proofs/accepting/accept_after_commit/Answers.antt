@@ -1,7 +1,7 @@
 use Rattle.std.proofs.Common.{inr, sym, ◌∙◌}
 use Rattle.cf_disk.specs.Leaving.{leaves_then}
 use Rattle.cf_model.specs.Points.{with_room_point}
-use Rattle.cf_points.specs.At.{StandsEither, StandsLast}
+use Rattle.cf_volume_points.specs.At.{StandsEither, StandsLast}
 use Rattle.cf_volume.proofs.Stopped.{handed_on}
 use Rattle.cf_volume.proofs.WithRoom.{done_some, judged_none, judged_stop, none_waits, room_now}
 use Rattle.cf_volume.specs.Calls.{StopsOnly}

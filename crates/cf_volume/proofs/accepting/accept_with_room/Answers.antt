@@ -1,8 +1,8 @@
 use Rattle.std.proofs.Common.{sym, ◌∙◌, subst}
 use Rattle.std.proofs.lemmas.Bool.{true≢false}
 use Rattle.cf_disk.specs.Disk.{Leaves}
-use Rattle.cf_points.proofs.Saves.{untouched, untouched_either}
-use Rattle.cf_points.specs.At.{StandsEither}
+use Rattle.cf_volume_points.proofs.Saves.{untouched, untouched_either}
+use Rattle.cf_volume_points.specs.At.{StandsEither}
 use Rattle.cf_volume.proofs.WithRoom.{judged_none, kept_none, same_at}
 use Rattle.cf_volume.specs.Steady.{known_of}
 use Rattle.cf_volume.proofs.accepting.accept_with_room.Goals as goal

@@ -1,9 +1,9 @@
 use Rattle.std.proofs.Common.{◌∙◌, ◌+◌, Bool, cond, ltb, length, ap, sym, Some, None}
 use Rattle.cf_base.specs.declared.codes.Code.TheVariants as code
-use Rattle.cf_data.specs.Roles.{how_many, is_now}
-use Rattle.cf_image.specs.Contents.{image_of}
+use Rattle.cf_clusters.specs.Roles.{how_many, is_now}
+use Rattle.cf_volume_image.specs.Contents.{image_of}
 use Rattle.cf_model.specs.Formats.{spell_image}
-use Rattle.cf_points.proofs.Commits.{image_len_is}
+use Rattle.cf_volume_points.proofs.Commits.{image_len_is}
 use Rattle.cf_volume.proofs.Arrived.{arrival_fits, arrival_refused}
 use Rattle.cf_volume.specs.Steady.{known_of}
 use Rattle.cf_volume.proofs.arrivals.refusal_of_new.Goals as goal

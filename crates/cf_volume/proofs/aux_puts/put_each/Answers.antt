@@ -2,7 +2,7 @@ use Rattle.std.proofs.Common.{◌≡◌, ◌≤◌, ◌+◌, ◌∙◌, ℕ, ap,
 use Rattle.std.proofs.lemmas.List.{drop_all}
 use Rattle.std.proofs.lemmas.List.Elements.{All-get_or}
 use Rattle.cf_base.specs.declared.answers.AuxRecord.{AuxRecord}
-use Rattle.cf_image.specs.RecordLists.{IsShort}
+use Rattle.cf_volume_image.specs.RecordLists.{IsShort}
 use Rattle.cf_model.specs.Formats.{with_record, with_records}
 use Rattle.cf_volume.proofs.DraftFlags.{next_of_list}
 use Rattle.cf_volume.proofs.RecordRoom.{keys_kept, keys_on}

@@ -1,7 +1,7 @@
 use Rattle.std.proofs.Common.{◌*◌, ℕ, List, length, sym, subst, arith}
 use Rattle.cf_volume.proofs.Stagings.{stop_later}
 use Rattle.cf_volume.specs.Laid.{Settles}
-use Rattle.cf_points.specs.Runs.{Ran}
+use Rattle.cf_volume_points.specs.Runs.{Ran}
 use Rattle.cf_volume.proofs.carrying.change_item.Goals as goal
 
 pub returns-clause-carried : goal.returns-clause-carried

@@ -1,6 +1,6 @@
 use Rattle.std.proofs.Common.{◌≡◌, ℕ, List, refl, subst}
-use Rattle.cf_points.specs.Staging.{StagesBlock}
-use Rattle.cf_points.specs.Standing.{cluster_on}
+use Rattle.cf_volume_points.specs.Staging.{StagesBlock}
+use Rattle.cf_volume_points.specs.Standing.{cluster_on}
 use Rattle.cf_volume.proofs.Staged.{read_first, staged_after}
 use Rattle.cf_volume.proofs.copying.copy_block.Goals as goal
 

@@ -2,8 +2,8 @@ use Rattle.std.proofs.Common.{◌≡◌, sym, ◌∙◌, ap, refl, subst, cond, 
 use Rattle.cf_base.specs.declared.changes.Change.{Change}
 use Rattle.cf_model.specs.Blocks.{puts_into}
 use Rattle.cf_model.specs.Changes.{put_change}
-use Rattle.cf_points.specs.Keeping.{FitsBook}
-use Rattle.cf_points.specs.Known.{or_now}
+use Rattle.cf_volume_points.specs.Keeping.{FitsBook}
+use Rattle.cf_volume_points.specs.Known.{or_now}
 use Rattle.cf_table.specs.Tables.{row_of, without_row}
 use Rattle.cf_table.specs.declared.rows.Row.{Row}
 use Rattle.cf_volume.proofs.DraftGone.{gone_drafts, is_remove}

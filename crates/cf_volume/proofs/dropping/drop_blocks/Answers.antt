@@ -1,7 +1,7 @@
 use Rattle.std.proofs.Common.{◌≡◌, ℕ, ◌+◌, suc, arith, ap, subst, ◌∙◌, sym, List, [], ◌∷◌, ◌++◌, take, get_or}
 use Rattle.std.proofs.lemmas.List.{take_all}
-use Rattle.cf_points.proofs.Droppings.{drops_inside, drops_more, drops_none}
-use Rattle.cf_points.specs.Staging.{Drops}
+use Rattle.cf_volume_points.proofs.Droppings.{drops_inside, drops_more, drops_none}
+use Rattle.cf_volume_points.specs.Staging.{Drops}
 use Rattle.cf_volume.proofs.Stagings.{take_next}
 use Rattle.cf_volume.proofs.dropping.drop_blocks.Goals as goal
 

@@ -1,5 +1,5 @@
 use Rattle.std.proofs.Common.{take}
-use Rattle.cf_points.specs.Staging.{Drops}
+use Rattle.cf_volume_points.specs.Staging.{Drops}
 use Rattle.cf_volume.proofs.dropping.drop_blocks.Given as goal
 
 abbrev pub invariant-loop-number : goal.invariant-loop-number

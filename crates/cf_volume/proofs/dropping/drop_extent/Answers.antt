@@ -1,6 +1,6 @@
 use Rattle.std.proofs.Common.{◌≡◌, ℕ, Option, subst}
 use Rattle.std.specs.Prelude.{MatchOption}
-use Rattle.cf_data.specs.Roles.{dropped_at}
+use Rattle.cf_clusters.specs.Roles.{dropped_at}
 use Rattle.cf_volume.proofs.dropping.drop_extent.Goals as goal
 
 pub returns : goal.returns

@@ -1,6 +1,6 @@
 use Rattle.std.proofs.Common.{ℕ, List, filter, map, not, ap, subst, ◌∙◌}
-use Rattle.cf_points.proofs.Droppings.{drops_gone}
-use Rattle.cf_points.specs.Staging.{Drops}
+use Rattle.cf_volume_points.proofs.Droppings.{drops_gone}
+use Rattle.cf_volume_points.specs.Staging.{Drops}
 use Rattle.cf_ranges.specs.Positions.{touches}
 use Rattle.cf_volume.proofs.dropping.drop_gone.Goals as goal
 

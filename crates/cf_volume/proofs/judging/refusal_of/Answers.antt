@@ -1,9 +1,9 @@
 use Rattle.std.proofs.Common.{ℕ, ◌+◌, Bool, cond, ltb, length, sym, ap, ◌∙◌, arith, Some, None}
 use Rattle.cf_base.specs.declared.codes.Code.TheVariants as code
-use Rattle.cf_data.specs.Roles.{how_many, is_now}
-use Rattle.cf_image.specs.Contents.{image_of}
+use Rattle.cf_clusters.specs.Roles.{how_many, is_now}
+use Rattle.cf_volume_image.specs.Contents.{image_of}
 use Rattle.cf_model.specs.Formats.{spell_image}
-use Rattle.cf_points.proofs.Commits.{image_len_is}
+use Rattle.cf_volume_points.proofs.Commits.{image_len_is}
 use Rattle.cf_table.specs.Changing.{item_of_change}
 use Rattle.cf_table.specs.Tables.{row_of}
 use Rattle.cf_volume.proofs.Judged.{refused_fits, refused_is}

@@ -2,13 +2,13 @@ use Rattle.std.proofs.Common.{◌≡◌, ◌+◌, ◌⊎◌, refl, sym, ap, subs
 use Rattle.std.specs.Prelude.{Err}
 use Rattle.cf_base.specs.declared.codes.Code.TheVariants.{Exhausted, NotAVolume}
 use Rattle.cf_base.specs.declared.codes.Fail.{Fail}
-use Rattle.cf_commit.specs.Loaded.{HoldsImage}
+use Rattle.cf_volume_commit.specs.Loaded.{HoldsImage}
 use Rattle.cf_journal.specs.Steps.{ReadsOnly}
 use Rattle.cf_model.specs.Formats.{Image}
 use Rattle.cf_model.specs.Numbers.{most}
-use Rattle.cf_points.specs.At.{At}
-use Rattle.cf_points.specs.Known.{Known}
-use Rattle.cf_points.specs.Standing.{clusters_on, opened}
+use Rattle.cf_volume_points.specs.At.{At}
+use Rattle.cf_volume_points.specs.Known.{Known}
+use Rattle.cf_volume_points.specs.Standing.{clusters_on, opened}
 use Rattle.cf_volume.proofs.OpenedFrom.{opened_from, refused_as_one}
 use Rattle.cf_volume.proofs.Stopped.{handed_on, refused_as}
 use Rattle.cf_volume.specs.Calls.{IsRefused}

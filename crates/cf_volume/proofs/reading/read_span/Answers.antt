@@ -1,8 +1,8 @@
 use Rattle.std.proofs.Common.{◌≡◌, ◌+◌, ◌/◌, ◌%◌, ◌≤◌, refl, sym, ◌∙◌, ap, subst, arith, length, ℕ, take, drop, ◌++◌}
-use Rattle.cf_data.specs.Area.{place}
+use Rattle.cf_clusters.specs.Area.{place}
 use Rattle.cf_volume.proofs.FileReads.{read_none, read_more, reads_keep, reads_leave}
 use Rattle.cf_volume.proofs.Stagings.{ran_then, stop_later}
-use Rattle.cf_points.specs.Standing.{cluster_on}
+use Rattle.cf_volume_points.specs.Standing.{cluster_on}
 use Rattle.cf_volume.specs.Reads.{HasRead}
 use Rattle.std.specs.Option.{ForSome}
 use Rattle.cf_volume.proofs.reading.read_span.Goals as goal

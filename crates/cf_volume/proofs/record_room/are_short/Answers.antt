@@ -4,7 +4,7 @@ use Rattle.std.proofs.lemmas.Bool.{true≢false}
 use Rattle.std.proofs.lemmas.List.{take_all, take_more}
 use Rattle.std.proofs.lemmas.List.Elements.{All-get_or, All-nil, All-push}
 use Rattle.cf_base.specs.declared.answers.AuxRecord.{AuxRecord}
-use Rattle.cf_image.specs.RecordLists.{IsShort}
+use Rattle.cf_volume_image.specs.RecordLists.{IsShort}
 use Rattle.cf_volume.proofs.record_room.are_short.Goals as goal
 
 pub loop-aux-init : goal.loop-aux-init

@@ -1,6 +1,6 @@
 use Rattle.std.proofs.Common.{take}
 use Rattle.std.specs.Prelude.{All}
-use Rattle.cf_image.specs.RecordLists.{IsShort}
+use Rattle.cf_volume_image.specs.RecordLists.{IsShort}
 use Rattle.cf_volume.proofs.record_room.are_short.Given as goal
 
 abbrev pub invariant-loop-aux : goal.invariant-loop-aux

@@ -4,7 +4,7 @@ use Rattle.std.specs.List.{list_any}
 use Rattle.std.specs.Option.{is_some}
 use Rattle.cf_base.specs.declared.answers.AuxRecord.{AuxRecord}
 use Rattle.cf_base.specs.declared.ids.ItemId.{ItemId}
-use Rattle.cf_image.specs.Contents.{record_at}
+use Rattle.cf_volume_image.specs.Contents.{record_at}
 use Rattle.cf_model.specs.Words.{same}
 use Rattle.cf_volume.proofs.BesideRoom.{taken_all, taken_first, taken_more}
 use Rattle.cf_volume.specs.Keys.{seen_key}

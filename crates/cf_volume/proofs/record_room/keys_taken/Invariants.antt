@@ -1,7 +1,7 @@
 use Rattle.std.proofs.Common.{◌≡◌, ◌||◌, ℕ, List, drop}
 use Rattle.std.specs.List.{list_any}
 use Rattle.std.specs.Option.{is_some}
-use Rattle.cf_image.specs.Contents.{record_at}
+use Rattle.cf_volume_image.specs.Contents.{record_at}
 use Rattle.cf_model.specs.Words.{same}
 use Rattle.cf_volume.specs.Keys.{seen_key}
 use Rattle.cf_volume.proofs.record_room.keys_taken.Given as goal

@@ -2,7 +2,7 @@ use Rattle.std.proofs.Common.{◌+◌, sym, subst, refl, drop, arith, List}
 use Rattle.std.proofs.lemmas.List.{drop_all}
 use Rattle.std.proofs.lemmas.List.Elements.{All-get_or}
 use Rattle.cf_base.specs.declared.answers.AuxRecord.{AuxRecord}
-use Rattle.cf_image.specs.RecordLists.{IsShort}
+use Rattle.cf_volume_image.specs.RecordLists.{IsShort}
 use Rattle.cf_volume.proofs.BesideRoom.{put_none}
 use Rattle.cf_volume.proofs.DraftFlags.{next_of_list}
 use Rattle.cf_volume.specs.Besides.{Besides}

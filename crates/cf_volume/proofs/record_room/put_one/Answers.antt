@@ -1,10 +1,10 @@
 use Rattle.std.proofs.Common.{◌≡◌, ◌+◌, ◌∙◌, ℕ, List, None, ap, cond, subst, sym}
 use Rattle.std.specs.Option.{is_some}
 use Rattle.cf_base.specs.declared.answers.AuxRecord.{AuxRecord}
-use Rattle.cf_image.specs.Contents.{record_at}
-use Rattle.cf_image.specs.RecordLists.{IsShort}
+use Rattle.cf_volume_image.specs.Contents.{record_at}
+use Rattle.cf_volume_image.specs.RecordLists.{IsShort}
 use Rattle.cf_model.specs.Formats.{with_record}
-use Rattle.cf_points.specs.Known.{or_now}
+use Rattle.cf_volume_points.specs.Known.{or_now}
 use Rattle.cf_volume.proofs.BesideRoom.{put_more}
 use Rattle.cf_volume.specs.AuxPuts.{len_if}
 use Rattle.cf_volume.proofs.record_room.put_one.Goals as goal

@@ -1,7 +1,7 @@
 use Rattle.std.proofs.Common.{◌<◌, ◌+◌, ℕ, List, length, drop, get_or, sym, subst}
 use Rattle.std.proofs.lemmas.List.{drop_more}
-use Rattle.cf_points.proofs.Droppings.{DropsFront, front_all, front_more, front_none}
-use Rattle.cf_points.specs.Staging.{names}
+use Rattle.cf_volume_points.proofs.Droppings.{DropsFront, front_all, front_more, front_none}
+use Rattle.cf_volume_points.specs.Staging.{names}
 use Rattle.cf_volume.proofs.Removed.{drop_all, named_at}
 use Rattle.cf_volume.proofs.removing.drop_clusters.Goals as goal
 

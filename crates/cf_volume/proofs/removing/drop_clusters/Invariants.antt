@@ -1,6 +1,6 @@
 use Rattle.std.proofs.Common.{drop}
-use Rattle.cf_points.proofs.Droppings.{DropsFront}
-use Rattle.cf_points.specs.Staging.{names}
+use Rattle.cf_volume_points.proofs.Droppings.{DropsFront}
+use Rattle.cf_volume_points.specs.Staging.{names}
 use Rattle.cf_volume.proofs.removing.drop_clusters.Given as goal
 
 abbrev pub invariant-loop-pair : goal.invariant-loop-pair

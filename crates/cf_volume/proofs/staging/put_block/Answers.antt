@@ -1,5 +1,5 @@
 use Rattle.std.proofs.Common.{length, ap, ◌∙◌}
-use Rattle.cf_points.proofs.Stages.{length-staged}
+use Rattle.cf_volume_points.proofs.Stages.{length-staged}
 use Rattle.cf_volume.proofs.Staged.{staged_block}
 use Rattle.cf_volume.proofs.staging.put_block.Goals as goal
 

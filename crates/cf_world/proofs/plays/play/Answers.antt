@@ -2,7 +2,7 @@ use Rattle.std.proofs.Common.{◌≡◌, ◌+◌, ◌++◌, ◌∷◌, [], List,
 use Rattle.std.proofs.lemmas.List.{drop_all}
 use Rattle.cf_base.specs.declared.answers.Answer.{Answer}
 use Rattle.cf_base.specs.declared.events.Event.{Event}
-use Rattle.cf_points.specs.Standing.{clusters_on}
+use Rattle.cf_volume_points.specs.Standing.{clusters_on}
 use Rattle.cf_report.specs.Texts.{text, texts}
 use Rattle.cf_world.proofs.Drafted.{drafted_all}
 use Rattle.cf_world.proofs.Errs.{err_if}

@@ -2,8 +2,8 @@ use Rattle.std.proofs.Common.{◌≡◌, ◌∙◌, ap, subst, sym}
 use Rattle.std.specs.Prelude.{Some, option_map}
 use Rattle.cf_disk.specs.Disk.{IsUnchanged}
 use Rattle.cf_filter.proofs.Armed.{armed_runs, armed_stands, armed_stopped}
-use Rattle.cf_machine.specs.Held.{Held}
-use Rattle.cf_machine.specs.Sensing.{Stands, Stopped}
+use Rattle.cf_filter_machine.specs.Held.{Held}
+use Rattle.cf_filter_machine.specs.Sensing.{Stands, Stopped}
 use Rattle.cf_volume.specs.Calls.{Runs}
 use Rattle.cf_filter.proofs.filters.Filter.arm.Goals as goal
 

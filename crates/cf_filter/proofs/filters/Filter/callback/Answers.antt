@@ -1,7 +1,7 @@
 use Rattle.std.proofs.Common.{◌∙◌, ap, sym}
 use Rattle.std.specs.Prelude.{option_copied}
 use Rattle.cf_filter.proofs.Drained.{callback_none, callback_there}
-use Rattle.cf_steps.proofs.Laws.{ok_map}
+use Rattle.cf_filter_steps.proofs.Laws.{ok_map}
 use Rattle.cf_table.specs.Tables.{Table, row_of}
 use Rattle.cf_filter.proofs.filters.Filter.callback.Goals as goal
 

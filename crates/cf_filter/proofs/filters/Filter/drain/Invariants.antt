@@ -1,7 +1,7 @@
 use Rattle.std.specs.Prelude.{◌+◌, ◌≤◌, ℕ, Result}
 use Rattle.cf_base.specs.declared.codes.Fail.{Fail}
 use Rattle.cf_filter.specs.Draining.{Drains}
-use Rattle.cf_machine.specs.Held.{Held}
+use Rattle.cf_filter_machine.specs.Held.{Held}
 use Rattle.cf_model.specs.Numbers.{most}
 use Rattle.cf_filter.proofs.filters.Filter.drain.Given as goal
 

@@ -1,8 +1,8 @@
 use Rattle.std.proofs.Common.{◌+◌, subst, sym}
-use Rattle.cf_commit.specs.Loaded.{StandsOrWas}
+use Rattle.cf_volume_commit.specs.Loaded.{StandsOrWas}
 use Rattle.cf_disk.specs.Disk.{Leaves}
 use Rattle.cf_filter.proofs.Started.{starts_opened}
-use Rattle.cf_machine.specs.Held.{Held}
+use Rattle.cf_filter_machine.specs.Held.{Held}
 use Rattle.cf_filter.proofs.filters.Filter.open.Goals as goal
 
 pub returns-in-Ok-clause-ok : goal.returns-in-Ok-clause-ok

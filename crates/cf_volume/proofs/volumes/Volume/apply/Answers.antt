@@ -1,6 +1,6 @@
 use Rattle.std.proofs.Common.{sym}
-use Rattle.cf_points.proofs.Saves.{untouched, untouched_either}
-use Rattle.cf_points.specs.At.{StandsEither, StandsLast}
+use Rattle.cf_volume_points.proofs.Saves.{untouched, untouched_either}
+use Rattle.cf_volume_points.specs.At.{StandsEither, StandsLast}
 use Rattle.cf_volume.proofs.Views.{seen_at, seen_leaves}
 use Rattle.cf_volume.proofs.WithRoom.{whole_answer}
 use Rattle.cf_volume.specs.Steady.{known_of}

@@ -1,8 +1,8 @@
 use Rattle.std.proofs.Common.{◌+◌, sym}
 use Rattle.cf_disk.specs.Disk.{size_of}
-use Rattle.cf_points.proofs.Readings.{read_at}
-use Rattle.cf_points.proofs.Saves.{reading_leaves, untouched}
-use Rattle.cf_points.specs.At.{StandsLast}
+use Rattle.cf_volume_points.proofs.Readings.{read_at}
+use Rattle.cf_volume_points.proofs.Saves.{reading_leaves, untouched}
+use Rattle.cf_volume_points.specs.At.{StandsLast}
 use Rattle.cf_volume.proofs.OfVolume.{bytes_read, row_inside}
 use Rattle.cf_volume.proofs.Views.{seen_at, seen_here, seen_leaves}
 use Rattle.cf_volume.specs.Steady.{known_of}

@@ -1,4 +1,4 @@
-use Rattle.cf_points.proofs.Saves.{untouched_either}
+use Rattle.cf_volume_points.proofs.Saves.{untouched_either}
 use Rattle.cf_volume.proofs.volumes.Volume.commit.Goals as goal
 
 pub returns-then-self-clause-crash : goal.returns-then-self-clause-crash

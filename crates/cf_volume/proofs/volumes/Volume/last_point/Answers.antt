@@ -1,4 +1,4 @@
-use Rattle.cf_points.proofs.Saves.{last_stands}
+use Rattle.cf_volume_points.proofs.Saves.{last_stands}
 use Rattle.cf_volume.proofs.volumes.Volume.last_point.Goals as goal
 
 pub returns : goal.returns

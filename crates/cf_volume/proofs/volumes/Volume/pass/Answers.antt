@@ -1,7 +1,7 @@
 use Rattle.std.proofs.Common.{◌≡◌, ◌+◌, ℕ, min, sym, subst, arith}
 use Rattle.cf_model.specs.Books.{with_ticks}
-use Rattle.cf_points.proofs.BookChanges.{passed_at}
-use Rattle.cf_points.specs.At.{At}
+use Rattle.cf_volume_points.proofs.BookChanges.{passed_at}
+use Rattle.cf_volume_points.specs.At.{At}
 use Rattle.cf_volume.proofs.Views.{seen_at}
 use Rattle.cf_volume.specs.Steady.{known_of}
 use Rattle.cf_volume.proofs.volumes.Volume.pass.Goals as goal

@@ -1,0 +1,81 @@
+//! The next of something, from a number on.
+ghost use Rattle.std.specs.Prelude.{◌≡◌, ℕ, Bool, cond, ◌||◌, ◌&&◌, ◌+◌, ◌≤◌, ◌^◌, nat_le, nat_lt, IfSome};
+ghost use Rattle.cf_ask_rule.specs.Nexts.{IsEnd, IsFirstRun, IsNext};
+ghost use Rattle.cf_ranges.specs.Positions.{contains, IsRuns};
+
+use cf_base::Span;
+
+// The first run that ends beyond a number. By a binary search.
+fn first_beyond(runs: &[Span], from: u64) -> Option<Span>
+    requires { IsRuns runs.now }
+    ensures { IsFirstRun runs.now from result }
+{
+    let next = runs.partition_point(|run| ends_by(*run, from));
+    if next == runs.len() {
+        return None;
+    }
+    Some(runs[next])
+}
+
+fn ends_by(run: Span, at: u64) -> bool
+    ensures { result ≡ nat_le (run.start + run.len) at }
+{
+    run.start <= at && run.len <= at - run.start
+}
+
+/// The first position from a number on that the runs have.
+pub fn next_in(runs: &[Span], from: u64) -> Option<u64>
+    requires { IsRuns runs.now }
+    ensures next { IsNext (contains runs.now) from result }
+    ensures small { IfSome result (λ n. n ≤ 2 ^ 40) }
+{
+    match first_beyond(runs, from) {
+        Some(run) => Some(run.start.max(from)),
+        None => None,
+    }
+}
+
+/// The end of the run that has the position, and the position where none has it.
+pub fn end_of(runs: &[Span], at: u64) -> u64
+    requires { IsRuns runs.now }
+    ensures { IsEnd runs.now at result }
+{
+    match first_beyond(runs, at) {
+        Some(run) => end_from(run, at),
+        None => at,
+    }
+}
+
+fn end_from(run: Span, at: u64) -> u64
+    requires { run.start + run.len ≤ 2 ^ 40 }
+    ensures { result ≡ cond (nat_le run.start at) (run.start + run.len) at }
+{
+    if run.start <= at {
+        run.start + run.len
+    } else {
+        at
+    }
+}
+
+/// The lesser of two numbers that may be there.
+pub fn lesser(a: Option<u64>, b: Option<u64>) -> Option<u64>
+    ensures { (f g : ℕ → Bool) (from : ℕ) → IsNext f from a → IsNext g from b → IsNext (λ p. f p || g p) from result }
+{
+    match a {
+        None => b,
+        Some(x) => Some(match b {
+            None => x,
+            Some(y) => x.min(y),
+        }),
+    }
+}
+
+/// The number, where it is below an end.
+pub fn below(a: Option<u64>, end: u64) -> Option<u64>
+    ensures { (f : ℕ → Bool) (from : ℕ) → IsNext f from a → IsNext (λ p. nat_lt p end && f p) from result }
+{
+    match a {
+        None => None,
+        Some(x) => { if x < end { Some(x) } else { None } }
+    }
+}

@@ -1,0 +1,57 @@
+//! What a step would do.
+ghost use Rattle.std.specs.Prelude.{◌≡◌, IfOk};
+ghost use Rattle.cf_ask_rule.specs.Deeds.{deed_of};
+ghost use Rattle.cf_ask_rule.specs.Plans.{plan_of};
+
+use crate::asks::LiveAsk;
+use crate::deeds::{Act, asks_after, cancelled_of, drop_cancelled, ended_by, left_by};
+use crate::makes::new_asks;
+use crate::misses::needs_of;
+use crate::sights::Sight;
+use crate::waits::LiveWait;
+use cf_base::{Cause, ItemId, Key, Memory};
+use std::alloc::Global;
+
+/// What a step would do to waits and asks. The asks that are made have no keys yet.
+#[derive(Debug, Drop)]
+pub struct Plan {
+    pub ended: Vec<(LiveWait, Cause)>,
+    pub left: Vec<LiveWait>,
+    pub cancelled: Vec<Key>,
+    pub kept: Vec<LiveAsk>,
+    pub made: Vec<LiveAsk>,
+}
+
+/// Looks at the waits and asks, and changes nothing.
+pub fn make_plan(
+    alloc: Global,
+    item: ItemId,
+    v: &Sight,
+    act: Act,
+    waits: &[LiveWait],
+    asks: Vec<LiveAsk>,
+) -> Result<Plan, Memory>
+    ensures ended { IfOk result (λ p. p.ended.items ≡ (plan_of item v.now (deed_of act) waits.now asks.items).ended) }
+    ensures left { IfOk result (λ p. p.left.items ≡ (plan_of item v.now (deed_of act) waits.now asks.items).left) }
+    ensures cancelled { IfOk result (λ p. p.cancelled.items ≡ (plan_of item v.now (deed_of act) waits.now asks.items).cancelled) }
+    ensures kept { IfOk result (λ p. p.kept.items ≡ (plan_of item v.now (deed_of act) waits.now asks.items).kept) }
+    ensures made { IfOk result (λ p. p.made.items ≡ (plan_of item v.now (deed_of act) waits.now asks.items).made) }
+{
+    let before = asks.as_slice();
+    let ended = ended_by(alloc, item, v, act, before, waits)?;
+    let left = left_by(alloc, item, v, act, before, waits)?;
+    let live = left.as_slice();
+    let spans = needs_of(alloc, item, v, live)?;
+    let needs = spans.as_slice();
+    let mut kept = asks_after(alloc, act, asks)?;
+    let cancelled = cancelled_of(alloc, item, v, act, live, needs, &kept)?;
+    drop_cancelled(&mut kept, item, v, act, live, needs);
+    let made = new_asks(alloc, item, v, live, &kept)?;
+    Ok(Plan {
+        ended,
+        left,
+        cancelled,
+        kept,
+        made,
+    })
+}

@@ -1,0 +1,177 @@
+//! A view, made ready for many questions.
+ghost use Rattle.std.specs.Prelude.{◌≡◌, ℕ, not, ◌+◌, ◌-◌, ◌||◌, ◌^◌, ◌<◌, ◌≤◌, IfOk, IfSome, length, max, min, nat_lt};
+ghost use Rattle.cf_model.specs.Missing.{any_between};
+ghost use Rattle.cf_ranges.specs.Positions.{contains, IsRuns};
+ghost use Rattle.cf_ask_rule.specs.Nexts.{IsNext, lacks_at};
+ghost use Rattle.cf_ask_rule.specs.Sights.{is_lacking, meets, shown};
+
+use crate::nexts::{below, lesser, next_in};
+use crate::views::View;
+use cf_base::{Memory, Span};
+use std::alloc::Global;
+use std::marker::Model;
+
+/// A view, made ready for many questions: the runs that are absent, and those that lack.
+#[derive(Debug, Drop)]
+pub struct Sight {
+    absent: Vec<Span>,
+    // What nobody vouches for, where that is asked for.
+    bare: Vec<Span>,
+    size: u64,
+    base: u64,
+    whole: bool,
+    populated: bool,
+}
+
+impl Model for Sight {
+    ghost use Rattle.std.specs.Prelude.{◌^◌, ◌≤◌, ◌++◌};
+    ghost use Rattle.cf_model.specs.Missing.{View};
+    ghost use Rattle.cf_ranges.specs.Positions.{IsRuns};
+    ghost use Rattle.cf_ask_rule.specs.Sights.{flags_of};
+
+    ghost Value = { View };
+
+    ghost view = { λ s. record { absent = flags_of s.absent.items s.size; lacks = flags_of (s.absent.items ++ s.bare.items) s.size; base = s.base; whole = s.whole; populated = s.populated } };
+
+    ghost invariant = { λ s. (s.size ≤ 2 ^ 24) × (s.base ≤ 2 ^ 24) × IsRuns s.absent.items × IsRuns s.bare.items };
+}
+
+impl Sight {
+    /// What a view shows.
+    pub fn new(alloc: Global, v: &View) -> Result<Sight, Memory>
+        requires size { v.now.size ≤ 2 ^ 24 }
+        requires base { v.now.base ≤ 2 ^ 24 }
+        ensures { IfOk result (λ s. s ≡ shown v.now) }
+    {
+        let absent = absent(v)?;
+        let bare = bare(alloc, v)?;
+        Ok(Sight {
+            absent,
+            bare,
+            size: v.size,
+            base: v.base,
+            whole: v.full,
+            populated: v.populated,
+        })
+    }
+
+    /// The size of the file.
+    pub fn size(&self) -> u64
+        ensures value { result ≡ length self.now.lacks }
+        ensures small { length self.now.lacks ≤ 2 ^ 24 }
+    {
+        self.size
+    }
+
+    /// The base length of the file.
+    pub fn base(&self) -> u64
+        ensures value { result ≡ self.now.base }
+        ensures small { self.now.base ≤ 2 ^ 24 }
+    {
+        self.base
+    }
+
+    /// Whether each read needs the whole file.
+    pub fn is_whole(&self) -> bool
+        ensures { result ≡ self.now.whole }
+    {
+        self.whole
+    }
+
+    /// Whether the entries of the directory are known.
+    pub fn is_populated(&self) -> bool
+        ensures { result ≡ self.now.populated }
+    {
+        self.populated
+    }
+
+    /// Whether some byte from start up to end is not here.
+    #[tactic(auto, using(crate::proofs::Flags::flags_between))]
+    pub fn is_absent_between(&self, start: u64, end: u64) -> bool
+        ensures { result ≡ any_between self.now.absent start end }
+    {
+        meets(&self.absent, start, self.size.min(end))
+    }
+
+    /// The first position from a number on that is missing where it is needed.
+    pub fn next_lacking(&self, from: u64) -> Option<u64>
+        ensures next { IsNext (lacks_at self.now) from result }
+        ensures small { IfSome result (λ n. n < 2 ^ 24) }
+    {
+        let absent = next_in(&self.absent, from);
+        let bare = next_in(&self.bare, from);
+        below(lesser(absent, bare), self.size)
+    }
+
+    /// Whether some byte from start up to end is missing where it is needed.
+    #[tactic(auto, using(crate::proofs::Flags::flags_between, crate::proofs::Flags::meets_append))]
+    pub fn lacks_between(&self, start: u64, end: u64) -> bool
+        ensures { result ≡ any_between self.now.lacks start end }
+    {
+        let end = self.size.min(end);
+        meets(&self.absent, start, end) || meets(&self.bare, start, end)
+    }
+}
+
+// What nobody vouches for, where that is asked for, and nothing else.
+fn bare(alloc: Global, v: &View) -> Result<Vec<Span>, Memory>
+    requires size { v.now.size ≤ 2 ^ 24 }
+    ensures lacks { IfOk result (λ l. (p : ℕ) → p < v.now.size → (not (contains v.now.here.now p) || contains l.items p) ≡ is_lacking v.now.validate v.now.here.now v.now.valid.now v.now.modified.now p) }
+    ensures maximal { IfOk result (λ l. IsRuns l.items) }
+{
+    if v.validate {
+        unvouched(v)
+    } else {
+        Ok(Vec::new(alloc))
+    }
+}
+
+fn unvouched(v: &View) -> Result<Vec<Span>, Memory>
+    requires size { v.now.size ≤ 2 ^ 24 }
+    ensures lacks { IfOk result (λ l. (p : ℕ) → p < v.now.size → contains l.items p ≡ not (contains v.now.valid.now p || contains v.now.modified.now p)) }
+    ensures maximal { IfOk result (λ l. IsRuns l.items) }
+{
+    let vouched = v.valid.with_all(v.modified.runs())?;
+    let bare = vouched.missing_in(whole(v.size))?;
+    Ok(bare)
+}
+
+fn absent(v: &View) -> Result<Vec<Span>, Memory>
+    requires size { v.now.size ≤ 2 ^ 24 }
+    ensures absent { IfOk result (λ l. (p : ℕ) → p < v.now.size → contains l.items p ≡ not (contains v.now.here.now p)) }
+    ensures maximal { IfOk result (λ l. IsRuns l.items) }
+{
+    let gaps = v.here.missing_in(whole(v.size))?;
+    Ok(gaps)
+}
+
+fn whole(size: u64) -> Span
+    ensures { result ≡ record { start = 0; len = size } }
+{
+    Span {
+        start: 0,
+        len: size,
+    }
+}
+
+// By a binary search: only the last run that begins before the end may reach beyond the start.
+fn meets(runs: &[Span], start: u64, end: u64) -> bool
+    requires { IsRuns runs.now }
+    ensures { result ≡ meets runs.now start end }
+{
+    if start >= end {
+        return false;
+    }
+    let last = end - 1;
+    let next = runs.partition_point(|run| run.start <= last);
+    if next == 0 {
+        return false;
+    }
+    reaches(runs[next - 1], start)
+}
+
+fn reaches(run: Span, start: u64) -> bool
+    ensures { result ≡ (nat_lt start run.start || nat_lt (start - run.start) run.len) }
+{
+    start < run.start || start - run.start < run.len
+}

@@ -1,5 +1,0 @@
-use Rattle.cf_calls.proofs.Opened.{up}
-use Rattle.cf_calls.proofs.handles.link_up.Goals as goal
-
-pub returns : goal.returns
-returns g c = up g.S.Steps.sense c.args.s.now c.set_connected.new.self c.set_connected.ensures

@@ -1,6 +1,0 @@
-use Rattle.std.proofs.Common.{drop}
-use Rattle.cf_data.proofs.Opening.{IsHolding}
-use Rattle.cf_data.proofs.clusters.Data.hold_all.Given as goal
-
-abbrev pub invariant-loop-cluster : goal.invariant-loop-cluster
-invariant-loop-cluster l = IsHolding (drop l.cluster-index l.clusters) l.clusters l.fn.self l.self

@@ -1,5 +1,0 @@
-use Rattle.cf_data.proofs.Counts.{uses_add_up}
-use Rattle.cf_data.proofs.laws.uses_add_up.Goals as goal
-
-pub returns : goal.returns
-returns c = uses_add_up

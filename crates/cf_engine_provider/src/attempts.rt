@@ -1,0 +1,42 @@
+//! Operations inside a callback, and what they come to.
+
+ghost use Rattle.std.specs.Prelude.{◌≡◌, []};
+ghost use Rattle.cf_engine_provider.specs.Agencies.{Any, Performs, Plays};
+ghost use Rattle.cf_engine_provider.specs.Parts.{Tries, tried_of};
+ghost use Rattle.cf_model.specs.Fetching.{do_op};
+
+use cf_base::{Code, Fail, Memory, Operation, SeenPath};
+use cf_provider::Port;
+
+/// What an operation came to.
+#[derive(Clone, Copy, Debug, PartialEq, Eq)]
+pub(crate) enum Told {
+    Done,
+    Refused(Code),
+    /// It met the device, after which nothing more is done.
+    Device,
+}
+
+fn told_of(code: Code) -> Told
+    ensures { result ≡ tried_of code }
+{
+    match code {
+        Code::Device => Told::Device,
+        _ => Told::Refused(code),
+    }
+}
+
+/// Does an operation, with these paths seen in the same step.
+pub(crate) fn attempt<P: Port>(
+    op: &Operation,
+    seen: &[SeenPath],
+    port: &mut P,
+) -> Result<Told, Memory>
+    ensures { Tries P.goes seen.now op.now port.old result port.new }
+{
+    match port.execute_seeing(op, seen) {
+        Ok(_) => Ok(Told::Done),
+        Err(Fail::No(code)) => Ok(told_of(code)),
+        Err(Fail::Memory) => Err(Memory),
+    }
+}

@@ -1,0 +1,43 @@
+//! What a port shows as a list ask comes.
+
+ghost use Rattle.std.specs.Prelude.{◌≡◌, IfOk};
+ghost use Rattle.std.specs.List.{AllByRecursion};
+ghost use Rattle.cf_engine_provider.specs.Findings.{Knows};
+ghost use Rattle.cf_engine_provider.specs.Identities.{HasOurs};
+ghost use Rattle.cf_provider.specs.Sights.{Shows};
+ghost use Rattle.cf_model.specs.State.{Filter};
+ghost use Rattle.cf_engine_queue.specs.Records.{IsKeepable};
+
+use crate::locals::{Locals, locals_of};
+use crate::uploads::sends_new;
+use cf_base::{Ask, ItemId, Key, Memory};
+use cf_provider::Port;
+use std::alloc::Global;
+
+/// What a reply to a list ask is looked at with.
+#[derive(Debug, Drop)]
+pub(crate) struct Found {
+    /// The ask, if it is live.
+    pub(crate) live: Option<Ask>,
+    pub(crate) local: Locals,
+    /// The id that the next item gets.
+    pub(crate) next: ItemId,
+    /// Whether a new item is on its way to the remote.
+    pub(crate) sends_new: bool,
+}
+
+/// What the port shows, for the ask with this key.
+pub(crate) fn find<P: Port>(alloc: Global, key: Key, port: &P) -> Result<Found, Memory>
+    ensures { (f : Filter) → Shows (P.sight port.now) f → AllByRecursion HasOurs f.volume.items → IsKeepable f.volume.book → IfOk result (λ x. Knows key x f) }
+{
+    let live = port.ask(key);
+    let local = locals_of(alloc, port.rows().as_slice())?;
+    let sends_new = sends_new(alloc, port.records())?;
+    let next = port.rows().next();
+    Ok(Found {
+        live,
+        local,
+        next,
+        sends_new,
+    })
+}

@@ -1,0 +1,142 @@
+//! Auxiliary records, as they are spelled.
+
+ghost use Rattle.std.specs.Prelude.{◌≡◌, ◌<◌, ◌^◌, ◌++◌, ◌∷◌, true, IfOk, OnOk};
+ghost use Rattle.cf_base.specs.Names.{is_name};
+ghost use Rattle.cf_model.specs.Books.{action_byte, seen_record, usn_bytes};
+ghost use Rattle.cf_model.specs.Words.{in_bytes};
+ghost use Rattle.cf_engine_queue.specs.Books.{action_of, entry_value, tombstone_value};
+ghost use Rattle.cf_engine_queue.specs.Records.{FitsUsn, IsCursor, IsEntry, IsSeen, IsTombstone};
+
+use crate::uploads::{Action, QueueEntry, Tombstone};
+use cf_base::{AuxRecord, Blob, Memory, SeenPath};
+use cf_codec::Writer;
+use std::alloc::Global;
+
+#[tactic(auto, using(crate::proofs::Spelled::four_bytes))]
+fn put_4(out: &mut Writer, v: u32) -> Result<(), Memory>
+    ensures ok { OnOk result (out.new ≡ out.old ++ in_bytes 4 v) }
+    ensures fits { v < 2 ^ 32 }
+{
+    out.put_u32(v)
+}
+
+#[tactic(auto, using(crate::proofs::Spelled::eight_bytes))]
+fn put_8(out: &mut Writer, v: u64) -> Result<(), Memory>
+    ensures ok { OnOk result (out.new ≡ out.old ++ in_bytes 8 v) }
+    ensures fits { v < 2 ^ 64 }
+{
+    out.put_u64(v)
+}
+
+// A key of this kind for a pair of numbers.
+fn pair_key(alloc: Global, kind: u8, first: u32, second: u32) -> Result<Blob, Memory>
+    ensures ok { IfOk result (λ key. key ≡ kind ∷ (in_bytes 4 first ++ in_bytes 4 second)) }
+    ensures fits { (first < 2 ^ 32) × (second < 2 ^ 32) }
+{
+    let mut out = Writer::new(alloc);
+    out.put_u8(kind)?;
+    put_4(&mut out, first)?;
+    put_4(&mut out, second)?;
+    Ok(out.into_blob())
+}
+
+fn action_byte(action: Action) -> u8
+    ensures { result ≡ action_byte (action_of action) }
+{
+    match action {
+        Action::Put => 1,
+        Action::MakeDir => 2,
+        Action::Move => 3,
+        Action::Remove => 4,
+    }
+}
+
+/// The auxiliary record of the cursor. A book has one where its cursor is not 0.
+pub fn spell_cursor(alloc: Global, clock: u64) -> Result<AuxRecord, Memory>
+    ensures { IfOk result (λ r. IsCursor r clock) }
+{
+    let key = Blob::from_slice(alloc, b"c")?;
+    let mut out = Writer::new(alloc);
+    put_8(&mut out, clock)?;
+    let value = out.into_blob();
+    Ok(AuxRecord { key, value })
+}
+
+fn item_key(alloc: Global, item: u64) -> Result<Blob, Memory>
+    ensures ok { IfOk result (λ key. key ≡ 115 ∷ in_bytes 8 item) }
+    ensures fits { item < 2 ^ 64 }
+{
+    let mut out = Writer::new(alloc);
+    out.put_u8(b's')?;
+    put_8(&mut out, item)?;
+    Ok(out.into_blob())
+}
+
+fn seen_value(alloc: Global, seen: &SeenPath) -> Result<Blob, Memory>
+    ensures ok { IfOk result (λ value. value ≡ in_bytes 8 seen.now.parent.0 ++ seen.now.name) }
+    ensures fits { seen.now.parent.0 < 2 ^ 64 }
+{
+    let mut out = Writer::new(alloc);
+    put_8(&mut out, seen.parent.0)?;
+    out.put_bytes(seen.name.as_slice())?;
+    Ok(out.into_blob())
+}
+
+/// The auxiliary record of a path seen, of which `read_seen` gives the path back.
+pub fn spell_seen(alloc: Global, seen: &SeenPath) -> Result<AuxRecord, Memory>
+    ensures spelled { IfOk result (λ r. r ≡ seen_record seen.now) }
+    ensures read_again { is_name seen.now.name ≡ true → IfOk result (λ r. IsSeen r seen.now) }
+{
+    let key = item_key(alloc, seen.item.0)?;
+    let value = seen_value(alloc, seen)?;
+    Ok(AuxRecord { key, value })
+}
+
+fn entry_value(alloc: Global, entry: &QueueEntry) -> Result<Blob, Memory>
+    ensures ok { IfOk result (λ value. value ≡ in_bytes 8 entry.now.item.0 ++ (action_byte (action_of entry.now.action) ∷ (usn_bytes entry.now.number ++ (in_bytes 8 entry.now.rid.0 ++ (in_bytes 8 entry.now.parent.0 ++ entry.now.name))))) }
+    ensures fits { IfOk result (λ _. (entry.now.item.0 < 2 ^ 64) × FitsUsn entry.now.number × (entry.now.rid.0 < 2 ^ 64) × (entry.now.parent.0 < 2 ^ 64)) }
+{
+    let mut out = Writer::new(alloc);
+    put_8(&mut out, entry.item.0)?;
+    out.put_u8(action_byte(entry.action))?;
+    put_4(&mut out, entry.number.epoch)?;
+    put_4(&mut out, entry.number.place)?;
+    put_8(&mut out, entry.rid.0)?;
+    put_8(&mut out, entry.parent.0)?;
+    out.put_bytes(entry.name.as_slice())?;
+    Ok(out.into_blob())
+}
+
+impl QueueEntry {
+    /// The entry's auxiliary record, of which `read_record` gives the entry back.
+    pub fn spell(&self, alloc: Global) -> Result<AuxRecord, Memory>
+        ensures { IfOk result (λ r. IsEntry r (entry_value self.now)) }
+    {
+        let token = self.token.0;
+        let key = pair_key(alloc, b'q', token.epoch, token.number)?;
+        let value = entry_value(alloc, self)?;
+        Ok(AuxRecord { key, value })
+    }
+}
+
+fn tombstone_value(alloc: Global, tombstone: Tombstone) -> Result<Blob, Memory>
+    ensures ok { IfOk result (λ value. value ≡ in_bytes 8 tombstone.rid.0 ++ in_bytes 8 tombstone.version.0) }
+    ensures fits { (tombstone.rid.0 < 2 ^ 64) × (tombstone.version.0 < 2 ^ 64) }
+{
+    let mut out = Writer::new(alloc);
+    put_8(&mut out, tombstone.rid.0)?;
+    put_8(&mut out, tombstone.version.0)?;
+    Ok(out.into_blob())
+}
+
+impl Tombstone {
+    /// The tombstone's auxiliary record, of which `read_record` gives the tombstone back.
+    pub fn spell(&self, alloc: Global) -> Result<AuxRecord, Memory>
+        ensures { IfOk result (λ r. IsTombstone r (tombstone_value self.now)) }
+    {
+        let number = self.number;
+        let key = pair_key(alloc, b't', number.epoch, number.place)?;
+        let value = tombstone_value(alloc, *self)?;
+        Ok(AuxRecord { key, value })
+    }
+}

@@ -1,0 +1,16 @@
+use Rattle.cf_base.specs.declared.answers.Shown.TheVariants as shown
+use Rattle.cf_base.specs.declared.codes.Code.TheVariants as code
+use Rattle.cf_filter_calls.specs.Handles.{open_by}
+use Rattle.cf_filter_calls.specs.Planned.{has_entries}
+use Rattle.cf_model.specs.Calls.{open_item}
+use Rattle.cf_model.specs.Waits.{refused}
+use Rattle.cf_filter_steps.specs.Answering.{Any}
+use Rattle.cf_filter_steps.proofs.Laws.{returned}
+use Rattle.cf_filter_calls.proofs.Begun.{but_on, file_on}
+use Rattle.cf_filter_calls.proofs.handles.open_item.Goals as goal
+
+pub returns-then-is_directory : goal.returns-then-is_directory
+returns-then-is_directory g c = but_on g.S.Steps.sense c.args.id has_entries (refused code.IsDirectory) open_item c.is_directory.result c.args.s.now c.args.s.now _ c.is_directory.ensures c.if-is_directory.true (returned g.S.Steps.sense Any (shown.Refused code.IsDirectory) c.args.s.now)
+
+pub returns-else-is_directory : goal.returns-else-is_directory
+returns-else-is_directory g c = file_on g.S.Steps.sense c.args.id open_by (refused code.IsDirectory) c.is_directory.result c.args.s.now c.open_now.new.s c.open_now.result c.is_directory.ensures c.if-is_directory.false c.open_now.ensures

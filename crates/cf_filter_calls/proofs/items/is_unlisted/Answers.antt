@@ -1,0 +1,10 @@
+use Rattle.std.proofs.Common.{sym, ap, ◌∙◌}
+use Rattle.std.specs.Prelude.{option_copied}
+use Rattle.cf_filter_calls.proofs.Carried.{unlisted_none, unlisted_some}
+use Rattle.cf_filter_calls.proofs.items.is_unlisted.Goals as goal
+
+pub returns-in-Some : goal.returns-in-Some
+returns-in-Some g c = unlisted_some g.S.Steps.sense c.args.s.now c.rows.result.now c.args.id c.in-Some.row.now c.is_waiting.result c.rows.ensures.means (sym c.get.ensures ∙ ap option_copied c.in-Some.is) c.is_waiting.ensures
+
+pub returns-in-None : goal.returns-in-None
+returns-in-None g c = unlisted_none g.S.Steps.sense c.args.s.now c.rows.result.now c.args.id c.rows.ensures.means (sym c.get.ensures ∙ ap option_copied c.in-None.is)

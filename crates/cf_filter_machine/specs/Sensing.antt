@@ -1,0 +1,53 @@
+-- How a filter on a disk stands for states of the definitions.
+use Rattle.std.proofs.Common.{◌≡◌, ◌+◌, ◌≤◌, ap, arith}
+use Rattle.std.specs.Prelude.{false}
+use Rattle.cf_disk.specs.Disk.{State, capped}
+use Rattle.cf_filter_machine.specs.Lasts.{lasts_at, moved_on, stays_put}
+use Rattle.cf_filter_machine.specs.Held.{Desk, Held, desk_of}
+use Rattle.cf_filter_machine.specs.Keeping.{HasKeptPoints, IsKeptVolume}
+use Rattle.cf_filter_machine.specs.Lasting.{Lasts, Moved}
+use Rattle.cf_model.specs.State.{Filter}
+use Rattle.cf_volume_points.proofs.Points.{Fair}
+use Rattle.cf_volume_points.specs.At.{At}
+use Rattle.cf_filter_steps.specs.Answering.{Sense}
+use Rattle.cf_filter_steps.specs.Good.{IsGood}
+
+-- The disk and what is known are at the volume of the state, the desk is its desk, and no call has broken it.
+pub record Stands {D : Type 0} (state : D → State) (x : Held D) (s : Filter) : Type 0 where
+  pub fair : Fair (state x.disk)
+  pub volume : At (state x.disk) x.known s.volume
+  pub desk : x.desk ≡ desk_of s
+  pub whole : x.known.broken ≡ false
+  pub good : IsGood s
+  pub kept : IsKeptVolume s.volume
+  pub points : HasKeptPoints s.volume
+
+-- A device call failed from the one to the other: the count of faults rose, or stays at the most that it counts.
+abbrev pub Rose : State → State → Type 0
+Rose d e = capped (d.faults + 1) ≤ e.faults
+
+pub rose_on : (c d e : State) → c.faults ≤ d.faults → Rose d e → Rose c e
+rose_on c d e h rose = omega (arith, h, rose)
+
+-- after a device call that failed: what was told stands, and a restart opens a point of the state
+pub record Stopped {D : Type 0} (state : D → State) (x : Held D) (s : Filter) : Type 0 where
+  pub notes : x.desk.notes ≡ s.notes
+  pub policy : x.desk.policy ≡ s.policy
+  pub connected : x.desk.connected ≡ s.connected
+  pub lasts : Lasts (state x.disk) s.volume
+
+abbrev pub sense : {D : Type 0} → (D → State) → Sense (Held D)
+sense state = record {
+  means = Stands state;
+  stopped = λ x y t. Stopped state y t × Rose (state x.disk) (state y.disk);
+  durable = λ x s. Lasts (state x.disk) s.volume;
+  moved = λ x y s t. Moved (state x.disk) (state y.disk) s.volume t.volume;
+  good = λ x s h. h.good;
+  endures = λ x s h. lasts_at (state x.disk) x.known s.volume h.fair h.volume h.points;
+  stays = λ x s h. stays_put (state x.disk) x.known s.volume h.fair h.volume h.points;
+  goes_on = λ x y z s t u a b. moved_on (state x.disk) (state y.disk) (state z.disk) s.volume t.volume u.volume a b;
+  stops_on = λ x y z s t u a b. (b.0, rose_on (state x.disk) (state y.disk) (state z.disk) a.runs.faults b.1);
+}
+
+pub waits_known : {D : Type 0} (state : D → State) (x : Held D) (s : Filter) → Stands state x s → x.desk.waiting ≡ s.waiting
+waits_known state x s h = ap (λ (d : Desk). d.waiting) h.desk

@@ -1,7 +1,0 @@
-use Rattle.std.proofs.Common.{sym, subst}
-use Rattle.cf_machine.specs.Held.{Desk}
-use Rattle.cf_requests.specs.Steps.{IsPlanned}
-use Rattle.cf_machine.proofs.desks.Desk.take.Goals as goal
-
-pub take-requires-clause-planned : goal.take-requires-clause-planned
-take-requires-clause-planned c = subst (λ (d : Desk). IsPlanned c.args.step d.waiting) (sym c.self.view_is) c.requires

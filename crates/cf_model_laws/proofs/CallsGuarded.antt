@@ -1,0 +1,192 @@
+-- What the parts of `Calls` keep in `replay`, each by what its own parts keep.
+use Rattle.std.specs.Prelude.{ℕ, Bool, true, false, List, [], ◌∷◌, length, ◌+◌, cond, not, ◌||◌}
+use Rattle.cf_base.specs.declared.answers.Shown.{Shown}
+use Rattle.cf_base.specs.declared.answers.Shown.TheVariants as shown
+use Rattle.cf_base.specs.declared.changes.Change.{Change}
+use Rattle.cf_base.specs.declared.changes.Change.TheVariants as change
+use Rattle.cf_base.specs.declared.ids.Handle.{Handle}
+use Rattle.cf_base.specs.declared.ids.ItemId.{ItemId}
+use Rattle.cf_base.specs.declared.ids.Usn.{Usn}
+use Rattle.cf_base.specs.declared.items.Pin.{Pin}
+use Rattle.cf_base.specs.declared.items.Reach.{Reach}
+use Rattle.cf_base.specs.declared.policies.Class.{Class}
+use Rattle.cf_base.specs.declared.policies.Mode.{Mode}
+use Rattle.cf_base.specs.declared.policies.Policy.{Policy}
+use Rattle.cf_model.specs.Arrows.{Arrow, noted, reading, ret, then_do, Preserves}
+use Rattle.cf_model.specs.Requests.{Nothing}
+use Rattle.cf_model.specs.Books.{with_access, Book, with_tombstone}
+use Rattle.cf_model.specs.Changes.{change_with, changes}
+use Rattle.cf_model.specs.Images.{runs_of}
+use Rattle.cf_model.specs.Items.{Item}
+use Rattle.cf_model.specs.LookUp.{Place}
+use Rattle.cf_model.specs.Operations.{done}
+use Rattle.cf_model.specs.Points.{commit}
+use Rattle.cf_model.specs.Settling.{accessed}
+use Rattle.cf_model.specs.State.{Filter, in_volume, is_replay, Link}
+use Rattle.cf_model.specs.Waits.{on_ok}
+use Rattle.cf_model_laws.proofs.OperationsGuarded as operations_keep
+use Rattle.cf_model_laws.proofs.WaitsGuarded as waits_keep
+use Rattle.cf_model.specs.Calls.{below_at, blocks_now, buried, changing, class_flags, count_now, delete, delete_item, delete_now, delete_tests, df, flush, has_size, info, info_item, info_of, move_of, next_handle, number_at, number_next, number_of, open_file, open_item, open_tests, opened_as, pin_item, pins_at, place_at, policy_tests, ranges, ranges_item, rename, rename_item, rename_tests, rename_to, room_tests, set_pin, set_policy, set_size, show_count, show_number, size_item, size_now, size_tests, used, used_item, used_now, with_handle, with_policy, write, write_item, write_now, write_tests, tombstone_for, stands_there}
+use Rattle.cf_model_laws.proofs.Guarded.{GuardedFilter}
+use Rattle.cf_model.proofs.ArrowLaws.{keeps_noted, keeps_reading, keeps_ret, keeps_then}
+use Rattle.std.proofs.Common.{◌≡◌, ◌+◌, ◌∷◌, refl, List, [], ℕ, Bool, true, false}
+use Rattle.cf_base.specs.Policies.{is_allowed, is_always_full, is_partial}
+use Rattle.cf_base.specs.declared.policies.Mode.TheVariants as mode
+use Rattle.cf_model.specs.Dehydration.{in_use}
+use Rattle.cf_model.specs.Effects.{changed, pinned}
+use Rattle.cf_model.specs.Identities.{is_untargeted}
+use Rattle.cf_model.specs.Plans.{pin_changes, reached, same_pin, stored_pin}
+use Rattle.cf_model.specs.Trees.{Keeps}
+use Rattle.cf_model.specs.Words.{when}
+use Rattle.cf_model.proofs.TreeLaws.{keeps_bind}
+use Rattle.cf_model_laws.specs.Invariant.{All}
+use Rattle.cf_model_laws.proofs.Gathered.{all_append}
+use Rattle.cf_model_laws.proofs.Plainly.{IsPlain, checked_at, head_false, plains_keep, tail_none, tail_of}
+use Rattle.cf_model_laws.proofs.RightItems.{no_way}
+use Rattle.cf_model_laws.proofs.SoundChanges.{KeepsEntries}
+use Rattle.cf_model_laws.proofs.SoundSettles.{not_false, not_true, right_true}
+
+pub opened_as_keeps : (l : Link) (tokens : ℕ) (P : Filter → Type 0) → GuardedFilter l tokens P → (x1 : ItemId) → (x2 : Handle) → Preserves P (opened_as x1 x2)
+opened_as_keeps l tokens P closed item h = keeps_then P (noted (with_handle item)) (ret (shown.Opened h)) (keeps_noted P (with_handle item) (closed.keeps_with_handle item)) (keeps_ret P (shown.Opened h))
+
+pub open_item_keeps : (l : Link) (tokens : ℕ) (P : Filter → Type 0) → GuardedFilter l tokens P → (x1 : Item) → Preserves P (open_item x1)
+open_item_keeps l tokens P closed i = operations_keep.checked_keeps l tokens P closed open_tests (reading next_handle (opened_as i.id)) (keeps_reading P next_handle (opened_as i.id) (opened_as_keeps l tokens P closed i.id))
+
+pub open_file_keeps : (l : Link) (tokens : ℕ) (P : Filter → Type 0) → GuardedFilter l tokens P → (x1 : List ℕ) → Preserves P (open_file x1)
+open_file_keeps l tokens P closed path = waits_keep.on_file_keeps l tokens P closed path open_item (open_item_keeps l tokens P closed)
+
+pub changing_keeps : (l : Link) (tokens : ℕ) (P : Filter → Type 0) → GuardedFilter l tokens P → (cs : List Change) → All IsPlain cs → (answer : Arrow Filter Shown) → Preserves P answer → Preserves P (changing cs answer)
+changing_keeps l tokens P closed cs plain answer answer_keeps = operations_keep.checked_keeps l tokens P closed (room_tests cs) (then_do (changes cs) answer) (keeps_then P (changes cs) answer (plains_keep l tokens P closed cs plain) answer_keeps)
+
+pub show_number_keeps : (l : Link) (tokens : ℕ) (P : Filter → Type 0) → GuardedFilter l tokens P → (x1 : Usn) → Preserves P (show_number x1)
+show_number_keeps l tokens P closed n = keeps_ret P (shown.Number n)
+
+pub number_of_keeps : (l : Link) (tokens : ℕ) (P : Filter → Type 0) → GuardedFilter l tokens P → (x1 : ItemId) → Preserves P (number_of x1)
+number_of_keeps l tokens P closed item = keeps_reading P (number_at item) show_number (show_number_keeps l tokens P closed)
+
+-- a write or a size, and what follows
+access_same : (item : ItemId) → KeepsEntries (with_access item)
+access_same item b = refl
+
+pub write_item_keeps : (l : Link) (tokens : ℕ) (P : Filter → Type 0) → GuardedFilter l tokens P → (at : ℕ) (bytes : List ℕ) (item : ItemId) → Preserves P (write_item at bytes item)
+write_item_keeps l tokens P closed at [] item = operations_keep.done_keeps l tokens P closed
+write_item_keeps l tokens P closed at (b ∷ bs) item =
+    operations_keep.checked_keeps l tokens P closed (write_tests (at + length (b ∷ bs)) (change.Write item at (b ∷ bs) ∷ [])) (write_now item (change.Write item at (b ∷ bs)))
+    (record { keeps = λ x h. closed.touch (with_access item) (change.Write item at (b ∷ bs)) item Nothing x (access_same item) (λ fair. ((λ z. absurd z), λ k. k)) (λ id k. k) (λ fair. tt) h })
+
+pub write_keeps : (l : Link) (tokens : ℕ) (P : Filter → Type 0) → GuardedFilter l tokens P → (x1 : Handle) → (x2 : ℕ) → (x3 : List ℕ) → Preserves P (write x1 x2 x3)
+write_keeps l tokens P closed h at bytes = waits_keep.on_handle_keeps l tokens P closed h (write_item at bytes) (write_item_keeps l tokens P closed at bytes)
+
+pub size_now_keeps : (l : Link) (tokens : ℕ) (P : Filter → Type 0) → GuardedFilter l tokens P → (item : ItemId) (n : ℕ) (b : Bool) → Preserves P (size_now item n b)
+size_now_keeps l tokens P closed item n true = keeps_then P (noted (accessed item)) done (keeps_noted P (accessed item) (closed.keeps_accessed item)) (operations_keep.done_keeps l tokens P closed)
+size_now_keeps l tokens P closed item n false = record { keeps = λ x h. closed.touch (with_access item) (change.Size item n) item Nothing x (access_same item) (λ fair. ((λ z. absurd z), λ k. k)) (λ id k. k) (λ fair. tt) h }
+
+pub size_item_keeps : (l : Link) (tokens : ℕ) (P : Filter → Type 0) → GuardedFilter l tokens P → (x1 : ℕ) → (x2 : ItemId) → Preserves P (size_item x1 x2)
+size_item_keeps l tokens P closed n item = operations_keep.checked_keeps l tokens P closed (size_tests item n) (reading (has_size item n) (size_now item n)) (keeps_reading P (has_size item n) (size_now item n) (size_now_keeps l tokens P closed item n))
+
+pub set_size_keeps : (l : Link) (tokens : ℕ) (P : Filter → Type 0) → GuardedFilter l tokens P → (x1 : Handle) → (x2 : ℕ) → Preserves P (set_size x1 x2)
+set_size_keeps l tokens P closed h n = waits_keep.on_handle_keeps l tokens P closed h (size_item n) (size_item_keeps l tokens P closed n)
+
+pub show_count_keeps : (l : Link) (tokens : ℕ) (P : Filter → Type 0) → GuardedFilter l tokens P → (x1 : ℕ) → Preserves P (show_count x1)
+show_count_keeps l tokens P closed n = keeps_ret P (shown.Count n)
+
+pub flush_keeps : (l : Link) (tokens : ℕ) (P : Filter → Type 0) → GuardedFilter l tokens P → Preserves P (flush)
+flush_keeps l tokens P closed = keeps_then P (in_volume commit) (reading count_now show_count) closed.commits (keeps_reading P count_now show_count (show_count_keeps l tokens P closed))
+
+buried_same : (b : Bool) (i : Item) (n : Usn) → KeepsEntries (buried b i n)
+buried_same false i n book = refl
+buried_same true i n book = by (is_untargeted i) where
+  by : (b : Bool) → (cond b book (with_tombstone (tombstone_for i n) book)).entries ≡ book.entries
+  by true = refl
+  by false = refl
+
+buried_seen : (b : Bool) (i : Item) (n : Usn) (book : Book) → (buried b i n book).seen ≡ book.seen
+buried_seen false i n book = refl
+buried_seen true i n book = by (is_untargeted i) where
+  by : (b : Bool) → (cond b book (with_tombstone (tombstone_for i n) book)).seen ≡ book.seen
+  by true = refl
+  by false = refl
+
+-- the removal that an application asks for
+abbrev pub Removing : (Filter → Type 0) → Type 0
+Removing P = (f : Book → Book) (item : ItemId) (x : Filter) → KeepsEntries f → ((b : Book) → (f b).seen ≡ b.seen) → in_use item x ≡ false → P x → Keeps P (change_with f (change.Remove item) x)
+
+delete_now_at : (P : Filter → Type 0) → Removing P → (m : Mode) (i : Item) (number : Usn) (x : Filter) → in_use i.id x ≡ false → P x → Keeps P (delete_now m i number x)
+delete_now_at P removes m i number x idle h = keeps_bind P (change_with (buried (is_replay m) i number) (change.Remove i.id) x) (λ _ t. ret (shown.Done) t) (removes (buried (is_replay m) i number) i.id x (buried_same (is_replay m) i number) (buried_seen (is_replay m) i number) idle h) (λ a t j. j)
+
+delete_item_keeps : (P : Filter → Type 0) → Removing P → (m : Mode) (i : Item) → Preserves P (delete_item m i)
+delete_item_keeps P removes m i = record {
+  keeps = λ x h. checked_at P (delete_tests i) (reading number_next (delete_now m i)) x h
+      (λ e. delete_now_at P removes m i (number_next x) x (head_false (tail_of (tail_of (delete_tests i x))) (tail_none (tail_of (delete_tests i x)) (tail_none (delete_tests i x) e))) h);
+}
+
+pub delete_keeps : (l : Link) (tokens : ℕ) (P : Filter → Type 0) → GuardedFilter l tokens P → Removing P → (m : Mode) (path : List ℕ) → Preserves P (delete m path)
+delete_keeps l tokens P closed removes m path = keeps_reading P (below_at path) (on_ok (delete_item m)) (waits_keep.on_ok_keeps l tokens P closed (delete_item m) (delete_item_keeps P removes m))
+
+plain_moves : (i : Item) (p : Place) (b : Bool) → All IsPlain (when b (change.Move i.id p.parent.id p.name ∷ []))
+plain_moves i p true = (record { fits = λ r x. tt; free = λ id k. k }, tt)
+plain_moves i p false = tt
+
+pub rename_to_keeps : (l : Link) (tokens : ℕ) (P : Filter → Type 0) → GuardedFilter l tokens P → (i : Item) (p : Place) → Preserves P (rename_to i p)
+rename_to_keeps l tokens P closed i p =
+    operations_keep.checked_keeps l tokens P closed (rename_tests i p) (changing (move_of i p) done)
+    (changing_keeps l tokens P closed (move_of i p) (plain_moves i p (not (stands_there i p))) done (operations_keep.done_keeps l tokens P closed))
+
+pub rename_item_keeps : (l : Link) (tokens : ℕ) (P : Filter → Type 0) → GuardedFilter l tokens P → (x1 : List ℕ) → (x2 : Item) → Preserves P (rename_item x1 x2)
+rename_item_keeps l tokens P closed to i = keeps_reading P (place_at to) (on_ok (rename_to i)) (waits_keep.on_ok_keeps l tokens P closed (rename_to i) (rename_to_keeps l tokens P closed i))
+
+pub rename_keeps : (l : Link) (tokens : ℕ) (P : Filter → Type 0) → GuardedFilter l tokens P → (x1 : List ℕ) → (x2 : List ℕ) → Preserves P (rename x1 x2)
+rename_keeps l tokens P closed from to = keeps_reading P (below_at from) (on_ok (rename_item to)) (waits_keep.on_ok_keeps l tokens P closed (rename_item to) (rename_item_keeps l tokens P closed to))
+
+plain_pin : (id : ItemId) (p : Pin) (b : Bool) → All IsPlain (when b (change.SetPin id p ∷ []))
+plain_pin id p true = (record { fits = λ r x. tt; free = λ id k. k }, tt)
+plain_pin id p false = tt
+
+plain_pins : (asked : Pin) (items is : List Item) → All IsPlain (pin_changes asked items is)
+plain_pins asked items [] = tt
+plain_pins asked items (i ∷ is) =
+    all_append IsPlain (when (not (same_pin (stored_pin asked items i) i.pin)) (change.SetPin i.id (stored_pin asked items i) ∷ [])) (pin_changes asked (changed i.id (pinned (stored_pin asked items i)) items) is)
+    (plain_pin i.id (stored_pin asked items i) (not (same_pin (stored_pin asked items i) i.pin))) (plain_pins asked (changed i.id (pinned (stored_pin asked items i)) items) is)
+
+pub pin_item_keeps : (l : Link) (tokens : ℕ) (P : Filter → Type 0) → GuardedFilter l tokens P → (pin : Pin) (reach : Reach) (i : Item) → Preserves P (pin_item pin reach i)
+pin_item_keeps l tokens P closed pin reach i =
+    record { keeps = λ x h. (changing_keeps l tokens P closed (pins_at i pin reach x) (plain_pins pin x.volume.items (reached x.volume.items i reach)) done (operations_keep.done_keeps l tokens P closed)).keeps x h }
+
+pub set_pin_keeps : (l : Link) (tokens : ℕ) (P : Filter → Type 0) → GuardedFilter l tokens P → (x1 : List ℕ) → (x2 : Pin) → (x3 : Reach) → Preserves P (set_pin x1 x2 x3)
+set_pin_keeps l tokens P closed path pin reach = waits_keep.on_path_keeps l tokens P closed path (pin_item pin reach) (pin_item_keeps l tokens P closed pin reach)
+
+pub info_item_keeps : (l : Link) (tokens : ℕ) (P : Filter → Type 0) → GuardedFilter l tokens P → (x1 : Item) → Preserves P (info_item x1)
+info_item_keeps l tokens P closed i = keeps_ret P (info_of i)
+
+pub info_keeps : (l : Link) (tokens : ℕ) (P : Filter → Type 0) → GuardedFilter l tokens P → (x1 : List ℕ) → Preserves P (info x1)
+info_keeps l tokens P closed path = waits_keep.on_path_keeps l tokens P closed path info_item (info_item_keeps l tokens P closed)
+
+pub ranges_item_keeps : (l : Link) (tokens : ℕ) (P : Filter → Type 0) → GuardedFilter l tokens P → (x1 : Class) → (x2 : Item) → Preserves P (ranges_item x1 x2)
+ranges_item_keeps l tokens P closed c i = keeps_ret P (shown.Ranges (runs_of (class_flags c i)))
+
+pub ranges_keeps : (l : Link) (tokens : ℕ) (P : Filter → Type 0) → GuardedFilter l tokens P → (x1 : List ℕ) → (x2 : Class) → Preserves P (ranges x1 x2)
+ranges_keeps l tokens P closed path c = waits_keep.on_file_keeps l tokens P closed path (ranges_item c) (ranges_item_keeps l tokens P closed c)
+
+pub used_item_keeps : (l : Link) (tokens : ℕ) (P : Filter → Type 0) → GuardedFilter l tokens P → (x1 : Item) → Preserves P (used_item x1)
+used_item_keeps l tokens P closed i = keeps_reading P (used_now i.id) ret (keeps_ret P)
+
+pub used_keeps : (l : Link) (tokens : ℕ) (P : Filter → Type 0) → GuardedFilter l tokens P → (x1 : List ℕ) → Preserves P (used x1)
+used_keeps l tokens P closed path = waits_keep.on_file_keeps l tokens P closed path used_item (used_item_keeps l tokens P closed)
+
+pub df_keeps : (l : Link) (tokens : ℕ) (P : Filter → Type 0) → GuardedFilter l tokens P → Preserves P (df)
+df_keeps l tokens P closed = keeps_reading P blocks_now ret (keeps_ret P)
+
+unvalidated : (m : Mode) (p : Policy) → is_replay m ≡ true → is_allowed m p ≡ true → p.validate ≡ false
+unvalidated mode.Filter p e h = no_way e
+unvalidated mode.Replay p e h =
+    let a : not (is_always_full p.hydration || p.validate || p.restart) ≡ true = right_true (not (is_partial p.population)) (not (is_always_full p.hydration || p.validate || p.restart)) h in
+    by (is_always_full p.hydration) p.validate p.restart (not_true (is_always_full p.hydration || p.validate || p.restart) a) where
+      by : (x y z : Bool) → (x || y || z) ≡ false → y ≡ false
+      by true true z e = cc
+      by true false z e = refl
+      by false true z e = cc
+      by false false z e = refl
+
+pub set_policy_keeps : (l : Link) (tokens : ℕ) (P : Filter → Type 0) → GuardedFilter l tokens P → (m : Mode) (p : Policy) → is_replay m ≡ true → Preserves P (set_policy m p)
+set_policy_keeps l tokens P closed m p replay =
+    record { keeps = λ x h. checked_at P (policy_tests m p) (then_do (noted (with_policy p)) done) x h (λ e. closed.keeps_with_policy p (unvalidated m p replay (not_false (is_allowed m p) (head_false (policy_tests m p x) e))) x h) }

@@ -1,0 +1,124 @@
+-- What entries of the remote give: identities that name well.
+use Rattle.std.proofs.Common.{◌≡◌, ◌⊎◌, ◌<◌, ◌≤◌, ◌+◌, ◌*◌, ◌/◌, ◌%◌, ℕ, Bool, true, false, List, [], refl, sym, ◌∙◌, ap, subst, inl, inr, arith, length}
+use Rattle.std.proofs.lemmas.Bool.{eqb-true}
+use Rattle.std.specs.Prelude.{Option, Some, cond, ◌==◌, take, unwrap_or}
+use Rattle.cf_base.specs.declared.ids.Rid.{Rid}
+use Rattle.cf_base.specs.declared.ids.Version.{Version}
+use Rattle.cf_base.specs.declared.items.Kind.TheVariants as kind
+use Rattle.cf_base.specs.declared.messages.Entry.{Entry}
+use Rattle.cf_base.specs.declared.policies.Policy.{Policy}
+use Rattle.cf_model.specs.Contents.{base_named}
+use Rattle.cf_model.specs.Effects.{is_directory, is_placeholder, size_made}
+use Rattle.cf_model.specs.Identities.{entry_identity, identity_for, identity_of, no_identity}
+use Rattle.cf_model.specs.Feeds.{kind_of_entry}
+use Rattle.cf_model.specs.Fetching.{new_item_of}
+use Rattle.cf_model.specs.Numbers.{no_rid, no_version}
+use Rattle.cf_model.specs.Operations.{entry_kind}
+use Rattle.cf_model.specs.Plans.{is_full_population, placeholder_dir}
+use Rattle.cf_model.specs.Store.{Held, bytes_of}
+use Rattle.cf_model.specs.Words.{in_bytes, number_of}
+use Rattle.cf_model_laws.specs.Fitting.{NamesWell}
+use Rattle.cf_model_laws.specs.Invariant.{HasBase, HasEntry, HasNone, rid_in, version_in}
+use Rattle.cf_model_laws.specs.Premises.{IsSmall}
+use Rattle.cf_model_laws.proofs.OperationsGuarded.{NewFits}
+use Rattle.cf_model_laws.proofs.RightItems.{no_way, no_way_back, none_named}
+
+read_back : (n : ℕ) → n < 18446744073709551616 → number_of (in_bytes 8 n) ≡ n
+read_back n h =
+    let e7 : 0 + n / 72057594037927936 % 256 ≡ n / 72057594037927936 = omega (arith, h) in
+    let e6 : n / 72057594037927936 * 256 + n / 281474976710656 % 256 ≡ n / 281474976710656 = omega arith in
+    let e5 : n / 281474976710656 * 256 + n / 1099511627776 % 256 ≡ n / 1099511627776 = omega arith in
+    let e4 : n / 1099511627776 * 256 + n / 4294967296 % 256 ≡ n / 4294967296 = omega arith in
+    let e3 : n / 4294967296 * 256 + n / 16777216 % 256 ≡ n / 16777216 = omega arith in
+    let e2 : n / 16777216 * 256 + n / 65536 % 256 ≡ n / 65536 = omega arith in
+    let e1 : n / 65536 * 256 + n / 256 % 256 ≡ n / 256 = omega arith in
+    let e0 : n / 256 * 256 + n / 1 % 256 ≡ n = omega arith in
+    rw e7 (rw e6 (rw e5 (rw e4 (rw e3 (rw e2 (rw e1 e0))))))
+
+abbrev rid_at : ℕ → Rid
+rid_at n = record { 0 = n }
+
+abbrev version_at : ℕ → Version
+version_at n = record { 0 = n }
+
+rid_read : (t b : Rid) (v : Version) → b.0 < 18446744073709551616 → ◌≡◌ {A = Rid} (rid_in (identity_of t b v)) b
+rid_read t b v h = ap rid_at (read_back b.0 h)
+
+version_read : (t b : Rid) (v : Version) → v.0 < 18446744073709551616 → ◌≡◌ {A = Version} (version_in (identity_of t b v)) v
+version_read t b v h = ap version_at (read_back v.0 h)
+
+-- a version that the remote has made
+pub made_read : (r : Held) (t b : Rid) (v : Version) (bytes : List ℕ) → IsSmall r → bytes_of r b v ≡ Some bytes → bytes_of r (rid_in (identity_of t b v)) (version_in (identity_of t b v)) ≡ Some bytes
+made_read r t b v bytes small e =
+    ap (λ (x : Rid). bytes_of r x (version_in (identity_of t b v))) (rid_read t b v (small.1 b v bytes e).0) ∙ ap (λ (x : Version). bytes_of r b x) (version_read t b v (small.1 b v bytes e).1) ∙ e
+
+pub made_named : (r : Held) (t b : Rid) (v : Version) (bytes : List ℕ) → IsSmall r → bytes_of r b v ≡ Some bytes → base_named r (identity_of t b v) ≡ bytes
+made_named r t b v bytes small e = ap (λ (o : Option (List ℕ)). unwrap_or o []) (made_read r t b v bytes small e)
+
+-- no version
+zero_read : (t b : Rid) (v : Version) → v.0 ≡ 0 → (version_in (identity_of t b v)).0 ≡ 0
+zero_read t b v e = ap (λ (n : ℕ). number_of (in_bytes 8 n)) e
+
+pub dir_none : (t : Rid) → HasNone (identity_of t no_rid no_version)
+dir_none t = (refl, refl)
+
+pub none_none : HasNone no_identity
+none_none = (refl, refl)
+
+pub dir_well : (r : Held) (t : Rid) (p : Bool) → NamesWell r true p (identity_of t no_rid no_version)
+dir_well r t p = record { based = inl refl; bare = λ e. dir_none t; plain = λ e. no_way_back e }
+
+pub file_well : (r : Held) (identity : List ℕ) → HasBase r identity → NamesWell r false true identity
+file_well r identity h = record { based = h; bare = λ e. no_way e; plain = λ e f. no_way_back f }
+
+-- of an entry
+
+abbrev Wants : Held → Bool → Bool → ℕ → List ℕ → Type 0
+Wants r d p size i = (length (base_named r i) ≡ size) × NamesWell r d p i
+
+pub file_wants : (r : Held) (e : Entry) → IsSmall r → HasEntry r e → e.dir ≡ false → Wants r false true e.len (entry_identity e)
+file_wants r e small h file = subst (λ (i : List ℕ). Wants r false true e.len i) (ap (λ (b : Bool). identity_for b e.rid e.version) (sym file)) (by (h.2 file)) where
+  by : ((e.version.0 ≡ 0) × (e.len ≡ 0)) ⊎ ((bytes : List ℕ) × (bytes_of r e.rid e.version ≡ Some bytes) × (length bytes ≡ e.len)) → Wants r false true e.len (identity_of e.rid e.rid e.version)
+  by (inl k) = (ap (λ (bs : List ℕ). length bs) (none_named r (identity_of e.rid e.rid e.version) (zero_read e.rid e.rid e.version k.0)) ∙ sym k.1, file_well r (identity_of e.rid e.rid e.version) (inl (zero_read e.rid e.rid e.version k.0)))
+  by (inr k) = (ap (λ (bs : List ℕ). length bs) (made_named r e.rid e.rid e.version k.0 small k.1) ∙ k.2, file_well r (identity_of e.rid e.rid e.version) (inr (k.0, made_read r e.rid e.rid e.version k.0 small k.1)))
+
+pub dir_identity : (e : Entry) → e.dir ≡ true → entry_identity e ≡ identity_of e.rid no_rid no_version
+dir_identity e dir = ap (λ (b : Bool). identity_for b e.rid e.version) dir
+
+dir_wants : (r : Held) (e : Entry) → e.dir ≡ true → Wants r true true 0 (entry_identity e)
+dir_wants r e dir = subst (λ (i : List ℕ). Wants r true true 0 i) (sym (dir_identity e dir)) (ap (λ (bs : List ℕ). length bs) (none_named r (identity_of e.rid no_rid no_version) (dir_none e.rid).1), dir_well r e.rid true)
+
+dir_kind : (r : Held) (i : List ℕ) (full : Bool) (size : ℕ) → Wants r true true 0 i
+    → (length (base_named r i) ≡ size_made (cond full kind.UnpopulatedDir kind.PlaceholderDir) size) × NamesWell r (is_directory (cond full kind.UnpopulatedDir kind.PlaceholderDir)) (is_placeholder (cond full kind.UnpopulatedDir kind.PlaceholderDir)) i
+dir_kind r i true size h = h
+dir_kind r i false size h = h
+
+-- the first 8 bytes of an entry's identity name its item
+entry_target : (e : Entry) → e.rid.0 < 18446744073709551616 → number_of (take 8 (entry_identity e)) ≡ e.rid.0
+entry_target e h = by e.dir where
+  by : (d : Bool) → number_of (take 8 (identity_for d e.rid e.version)) ≡ e.rid.0
+  by true = read_back e.rid.0 h
+  by false = read_back e.rid.0 h
+
+some_target : (r : Held) (e : Entry) → IsSmall r → HasEntry r e → (number_of (take 8 (entry_identity e)) == 0) ≡ false
+some_target r e small h = subst (λ (n : ℕ). (n == 0) ≡ false) (sym (entry_target e (below e.rid.0 (length r.items) h.1 small.0))) (positive e.rid.0 h.0) where
+  below : (a b : ℕ) → a ≤ b → b < 18446744073709551616 → a < 18446744073709551616
+  below a b h k = omega (arith, h, k)
+
+  positive : (n : ℕ) → 1 ≤ n → (n == 0) ≡ false
+  positive n h = one (n == 0) refl where
+    one : (b : Bool) → (n == 0) ≡ b → b ≡ false
+    one true q = let z : n ≡ 0 = eqb-true n 0 q in absurd (omega (arith, z, h))
+    one false q = refl
+
+pub new_fits : (r : Held) (p : Policy) (e : Entry) → IsSmall r → HasEntry r e → NewFits r p (new_item_of e)
+new_fits r p e small h = let k = by e.dir refl in (k.0, k.1, some_target r e small h) where
+  by : (d : Bool) → e.dir ≡ d → (length (base_named r (entry_identity e)) ≡ size_made (entry_kind p d) (cond d 0 e.len)) × NamesWell r (is_directory (entry_kind p d)) (is_placeholder (entry_kind p d)) (entry_identity e)
+  by true q = dir_kind r (entry_identity e) (is_full_population p.population) 0 (dir_wants r e q)
+  by false q = file_wants r e small h q
+
+pub make_fits : (r : Held) (p : Policy) (e : Entry) → IsSmall r → HasEntry r e → (length (base_named r (entry_identity e)) ≡ size_made (kind_of_entry p e) (cond e.dir 0 e.len)) × NamesWell r (is_directory (kind_of_entry p e)) (is_placeholder (kind_of_entry p e)) (entry_identity e)
+make_fits r p e small h = by e.dir refl where
+  by : (d : Bool) → e.dir ≡ d → (length (base_named r (entry_identity e)) ≡ size_made (cond d (placeholder_dir p) kind.PlaceholderFile) (cond d 0 e.len)) × NamesWell r (is_directory (cond d (placeholder_dir p) kind.PlaceholderFile)) (is_placeholder (cond d (placeholder_dir p) kind.PlaceholderFile)) (entry_identity e)
+  by true q = dir_kind r (entry_identity e) (is_full_population p.population) 0 (dir_wants r e q)
+  by false q = file_wants r e small h q

@@ -1,0 +1,153 @@
+-- What a property must be kept by, to be kept by the whole machine in `replay`: each step that is not made of others, with
+-- what it meets.
+use Rattle.std.specs.Prelude.{ℕ, Bool, true, false, List, Option, Some, max, ◌≡◌, ◌⊎◌, ◌<◌, ◌∷◌}
+use Rattle.cf_base.specs.declared.changes.Change.{Change}
+use Rattle.cf_base.specs.declared.changes.Change.TheVariants as change
+use Rattle.cf_base.specs.declared.codes.Code.{Code}
+use Rattle.cf_base.specs.declared.ids.Handle.{Handle}
+use Rattle.cf_base.specs.declared.ids.ItemId.{ItemId}
+use Rattle.cf_base.specs.declared.ids.Token.{Token}
+use Rattle.cf_base.specs.declared.ids.Usn.{Usn}
+use Rattle.cf_base.specs.declared.items.SeenPath.{SeenPath}
+use Rattle.cf_base.specs.declared.messages.Reply.{Reply}
+use Rattle.cf_base.specs.declared.messages.Request.{Request}
+use Rattle.cf_base.specs.declared.notices.Frame.{Frame}
+use Rattle.cf_base.specs.declared.policies.Policy.{Policy}
+use Rattle.cf_base.specs.declared.waits.Ask.{Ask}
+use Rattle.cf_model.specs.Arrows.{Preserves, reading, then_do}
+use Rattle.cf_model.specs.Books.{Book, MoveItem, QueueEntry, book_after, entry_of, with_entry, with_seen, without_entry}
+use Rattle.cf_model.specs.Callbacks.{begin_call, with_outbox}
+use Rattle.cf_model.specs.Calls.{with_handle, with_policy}
+use Rattle.cf_model.specs.Changes.{change_with, next_number}
+use Rattle.cf_model.specs.Dehydration.{in_use}
+use Rattle.cf_model.specs.EngineEvents.{with_inline}
+use Rattle.cf_model.specs.Feeds.{all_released, with_clock_seen}
+use Rattle.cf_model.specs.Identities.{stands_at_path}
+use Rattle.cf_model.specs.Items.{Item, item_of}
+use Rattle.cf_model.specs.Logs.{next_by}
+use Rattle.cf_model.specs.Messages.{counted, distrusted, fault_line, with_lost, with_message, with_remote}
+use Rattle.cf_model.specs.Operations.{as_it_is, done}
+use Rattle.cf_model.specs.Passes.{showing, with_round, without_done}
+use Rattle.cf_model.specs.Peers.{with_stray, with_token_used}
+use Rattle.cf_model.specs.Points.{commit}
+use Rattle.cf_model.specs.PushReplies.{entry_seen, held_and_closed, not_in_row, taken_from_row, with_done, with_not_empty, with_taken_name}
+use Rattle.cf_model.specs.Pushes.{with_token}
+use Rattle.cf_model.specs.Requests.{Deed}
+use Rattle.cf_model.specs.Settling.{accessed, settle, tell}
+use Rattle.cf_model.specs.Skips.{skipped, with_book, with_volatile}
+use Rattle.cf_model.specs.State.{Filter, Link, State, book_now, in_volume, is_replay, items_now, with_filter}
+use Rattle.cf_model.specs.Store.{Held, remote_step}
+use Rattle.cf_model.specs.Trees.{Keeps}
+use Rattle.cf_model.specs.Waits.{Need, accessed_now, all_down, begin_now, begun, connected_again, disconnected, with_time, without_handle}
+use Rattle.cf_model_laws.specs.Fitting.{Fits, IsNaming, Touches}
+use Rattle.cf_model_laws.specs.Invariant.{All, IsSound}
+use Rattle.cf_model_laws.specs.Marks.{IsMadeLast, IsMarkedLast, IsUnseen, StandsAtSeen}
+use Rattle.cf_model_laws.specs.Premises.{IsFair}
+use Rattle.cf_model_laws.proofs.SoundBooks.{EnteredWell}
+use Rattle.cf_model_laws.proofs.SoundChanges.{KeepsEntries}
+use Rattle.cf_model_laws.proofs.SoundLinks.{AskedWell, PostedWell}
+
+-- each path seen is of an item below this one
+abbrev pub AreSeenBelow : ℕ → Book → Type 0
+AreSeenBelow next b = All (λ p. p.item.0 < next) b.seen
+
+-- A Mark and a Make leave the paths seen; and with no change a path comes to be seen of an item that is not there yet.
+abbrev pub KeepsSeenBy : (Book → Book) → Change → Filter → Type 0
+KeepsSeenBy f c x =
+    (IsNaming c → (b : Book) → (f b).seen ≡ b.seen)
+    × (AreSeenBelow (max x.volume.next_item.0 (next_by c)) (book_after c x.volume.book) → AreSeenBelow (max x.volume.next_item.0 (next_by c)) (f (book_after c x.volume.book)))
+
+-- the last change is a Mark or the Make of the item
+abbrev pub IsNamedLast : List (Usn × Change) → ItemId → Type 0
+IsNamedLast log item = ((front : List (Usn × Change)) × IsMarkedLast log front item) ⊎ IsMadeLast log item
+
+-- The item still stands at the path seen; and where none was seen, it stands there or none is.
+abbrev pub StandsStill : List Item → Book → Book → ItemId → Type 0
+StandsStill items b d item = (StandsAtSeen items b item → StandsAtSeen items d item) × (IsUnseen b item → StandsAtSeen items d item ⊎ IsUnseen d item)
+
+-- so it is of the item that was marked or made last
+abbrev pub KeepsPlaced : (Book → Book) → State → Type 0
+KeepsPlaced f s = (item : ItemId) → IsNamedLast s.filter.volume.log item → StandsStill (items_now s) (book_now s) (f (book_now s)) item
+
+abbrev pub KeepsBelow : (Book → Book) → State → Type 0
+KeepsBelow f s = AreSeenBelow s.filter.volume.next_item.0 (book_now s) → AreSeenBelow s.filter.volume.next_item.0 (f (book_now s))
+
+abbrev pub StandsAtPath : List Item → ItemId → SeenPath → Type 0
+StandsAtPath items item p = (i : Item) × (item_of items item ≡ Some i) × (stands_at_path items i p ≡ true)
+
+-- what is uploaded of an item's place is where it stands
+abbrev pub MovesThere : State → QueueEntry → Type 0
+MovesThere s e = e.action ≡ MoveItem → StandsAtPath (items_now s) e.item (entry_seen e)
+
+-- a Done of a Move is taken, and its path is seen
+abbrev pub after_move : QueueEntry → State → State
+after_move e s = with_book (with_seen (entry_seen e)) (with_volatile (taken_from_row e) (with_book (without_entry e.token) s))
+
+-- of the filter, beside this link and so many tokens
+pub record GuardedFilter (l : Link) (tokens : ℕ) (P : Filter → Type 0) : Type 0 where
+  pub sound : (x : Filter) → P x → IsFair l → IsSound l tokens x
+  pub change : (f : Book → Book) (c : Change) (x : Filter) → KeepsEntries f → (IsFair l → KeepsSeenBy f c x) → ((id : ItemId) → Touches c id → ⊥) → (IsFair l → Fits l.remote x c) → P x → Keeps P (change_with f c x)
+  pub touch : (f : Book → Book) (c : Change) (item : ItemId) (d : Deed) (x : Filter) → KeepsEntries f → (IsFair l → KeepsSeenBy f c x) → ((id : ItemId) → Touches c id → id.0 ≡ item.0) → (IsFair l → Fits l.remote x c) → P x
+      → Keeps P (then_do (change_with f c) (then_do (settle item d) done) x)
+  pub commits : Preserves P (in_volume commit)
+  pub settled : (item : ItemId) (d : Deed) → Preserves P (settle item d)
+  pub begins : (n : Need) → Preserves P (reading (begun n) (begin_now n))
+  pub downs : Preserves P (reading all_down tell)
+  pub keeps_accessed : (x1 : ItemId) → (s : Filter) → P s → P (accessed x1 s)
+  pub keeps_accessed_now : (x1 : Need) → (s : Filter) → P s → P (accessed_now x1 s)
+  pub keeps_as_it_is : (s : Filter) → P s → P (as_it_is s)
+  pub keeps_begin_call : (s : Filter) → P s → P (begin_call s)
+  pub keeps_connected_again : (s : Filter) → P s → P (connected_again s)
+  pub keeps_disconnected : (s : Filter) → P s → P (disconnected s)
+  pub keeps_with_handle : (x1 : ItemId) → (s : Filter) → P s → P (with_handle x1 s)
+  pub keeps_with_policy : (x1 : Policy) → x1.validate ≡ false → (s : Filter) → P s → P (with_policy x1 s)
+  pub keeps_with_time : (x1 : ℕ) → (s : Filter) → P s → P (with_time x1 s)
+  pub keeps_without_handle : (x1 : Handle) → (s : Filter) → P s → P (without_handle x1 s)
+
+abbrev pub AskedIn : State → Request → Type 0
+AskedIn s q = AskedWell s.link.messages s.filter.volume.epoch s.volatile.tokens q
+
+abbrev pub PostedIn : State → Option Frame → Type 0
+PostedIn s f = PostedWell s.link.remote s.link.messages s.volatile.tokens s.filter.volume.epoch s.filter.volume.log (items_now s) s.filter.volume.points (book_now s).entries s.filter.waiting.asks s.filter.waiting.key_count f
+
+abbrev pub EnteredIn : State → QueueEntry → Type 0
+EnteredIn s e = EnteredWell s.link.remote s.link.messages s.filter.volume.epoch s.volatile.tokens (next_number s.filter.volume) s.filter.volume.next_item.0 (items_now s) (book_now s).entries e
+
+-- of the whole
+pub record Guarded (P : State → Type 0) : Type 0 where
+  pub replay : (s : State) → P s → is_replay s.mode ≡ true
+  pub on_filter : (s : State) → P s → GuardedFilter s.link s.volatile.tokens (λ x. P (with_filter x s))
+  pub keeps_counted : (s : State) → P s → P (counted s)
+  pub asked : (q : Request) (s : State) → (IsFair s.link → AskedIn s q) → P s → P (with_remote (remote_step s.link.remote q).1 (counted s))
+  pub told : (held : Held) (s : State) → P s → P (distrusted (with_remote held (counted s)))
+  pub posts : (f : Frame) (s : State) → (IsFair s.link → PostedIn s (Some f)) → P s → P (with_message f s)
+  pub loses : (f : Frame) (s : State) → P s → P (with_lost f s)
+  pub books : (f : Book → Book) (s : State) → KeepsEntries f → (IsFair s.link → KeepsPlaced f s × KeepsBelow f s) → P s → P (with_book f s)
+  pub moved : (e : QueueEntry) (s : State) → e.action ≡ MoveItem → (IsFair s.link → entry_of (book_now s) e.token ≡ Some e) → P s → P (after_move e s)
+  pub leaves : (token : Token) (s : State) → P s → P (with_book (without_entry token) s)
+  pub keeps_fault_line : (x1 : ℕ) → (s : State) → P s → P (fault_line x1 s)
+  pub keeps_showing : (s : State) → P s → P (showing s)
+  pub keeps_skipped : (x1 : Code) → (s : State) → P s → P (skipped x1 s)
+  pub keeps_volatile_all_released : (s : State) → P s → P (with_volatile all_released s)
+  pub keeps_volatile_held_and_closed : (x1 : QueueEntry) → (s : State) → P s → P (with_volatile (held_and_closed x1) s)
+  pub keeps_volatile_not_in_row : (x1 : QueueEntry) → (s : State) → P s → P (with_volatile (not_in_row x1) s)
+  pub keeps_volatile_taken_from_row : (x1 : QueueEntry) → (s : State) → P s → P (with_volatile (taken_from_row x1) s)
+  pub keeps_volatile_with_not_empty : (x1 : Usn) → (s : State) → P s → P (with_volatile (with_not_empty x1) s)
+  pub keeps_volatile_with_round : (s : State) → P s → P (with_volatile with_round s)
+  pub keeps_volatile_with_taken_name : (x1 : ItemId) → (s : State) → P s → P (with_volatile (with_taken_name x1) s)
+  pub keeps_volatile_with_token : (s : State) → P s → P (with_volatile with_token s)
+  pub keeps_with_clock_seen : (x1 : ℕ) → (s : State) → P s → P (with_clock_seen x1 s)
+  pub keeps_with_done : (s : State) → P s → P (with_done s)
+  pub keeps_with_inline : (x1 : Bool) → (s : State) → P s → P (with_inline x1 s)
+  pub keeps_with_outbox : (x1 : Ask) (x2 : List Ask) → (s : State) → s.filter.outbox ≡ x1 ∷ x2 → P s → P (with_outbox x2 s)
+  pub keeps_with_stray : (x1 : Reply) → (s : State) → P s → P (with_stray x1 s)
+  pub keeps_with_token_used : (s : State) → P s → P (with_token_used s)
+  pub keeps_without_done : (s : State) → P s → P (without_done s)
+
+-- and by a removal that an application asks for
+pub record Deleting (P : State → Type 0) : Type 0 where
+  pub deletes : (f : Book → Book) (item : ItemId) (s : State) → KeepsEntries f → ((b : Book) → (f b).seen ≡ b.seen) → in_use item s.filter ≡ false → P s → Keeps (λ x. P (with_filter x s)) (change_with f (change.Remove item) s.filter)
+
+-- and by an upload that is entered
+pub record Entering (P : State → Type 0) : Type 0 where
+  pub enters : (e : QueueEntry) (s : State) → (IsFair s.link → EnteredIn s e × MovesThere s e) → P s → P (with_book (with_entry e) s)

@@ -1,0 +1,234 @@
+-- What the parts of `Operations` keep in `replay`, each by what its own parts keep.
+use Rattle.std.specs.Prelude.{ℕ, Bool, List, [], ◌∷◌, length, Option, Some, None, cond, not, take, drop, map, ◌==◌}
+use Rattle.cf_base.specs.declared.changes.Change.{Change}
+use Rattle.cf_base.specs.declared.changes.Change.TheVariants as change
+use Rattle.cf_base.specs.declared.answers.Shown.{Shown}
+use Rattle.cf_base.specs.declared.answers.Shown.TheVariants as shown
+use Rattle.cf_base.specs.declared.codes.Code.{Code}
+use Rattle.cf_base.specs.declared.codes.Code.TheVariants as code
+use Rattle.cf_base.specs.declared.operations.NewItem.{NewItem}
+use Rattle.cf_base.specs.declared.operations.Operation.{Operation}
+use Rattle.cf_base.specs.declared.operations.Operation.TheVariants as operation
+use Rattle.cf_base.specs.declared.spans.Span.{Span}
+use Rattle.cf_base.specs.declared.waits.Cause.TheVariants as cause
+use Rattle.cf_model.specs.Arrows.{Arrow, ret, then_do, Preserves, unit}
+use Rattle.cf_model.specs.Requests.{Fails, Leaves, Live, live_of, is_fetch}
+use Rattle.cf_model.specs.Blocks.{blocks_of}
+use Rattle.cf_model.specs.Books.{Book}
+use Rattle.cf_model.specs.Changes.{change, changes, same_book, next_number}
+use Rattle.cf_model.specs.Items.{Item, item_of, pin_of, size_of}
+use Rattle.cf_model.specs.Settling.{settle}
+use Rattle.cf_model.specs.State.{Filter, Link}
+use Rattle.cf_model.specs.Words.{first_of, number_of, part}
+use Rattle.cf_model.specs.Operations.{ack_dehydrate, changes_with, checked, consent_by, consent_deed, consent_tests, done, entries, entries_deed, entries_tests, execute, execute_with, key_of, on_ask, on_live, refuse, refuse_tests, second_verdict, transfer, transfer_by, transfer_tests, entry_changes, entry_kind, list_changes, dehydration, in_use_beside}
+use Rattle.cf_model_laws.proofs.Guarded.{AreSeenBelow, GuardedFilter}
+use Rattle.cf_model.proofs.ArrowLaws.{keeps_ret, keeps_then, keeps_unless}
+use Rattle.std.proofs.Common.{◌≡◌, ◌<◌, ◌≤◌, ◌+◌, ◌∷◌, ◌++◌, refl, sym, ◌∙◌, ap, subst, inr, max, arith, List, [], ℕ, suc, Bool, true, false}
+use Rattle.cf_base.specs.declared.ids.ItemId.{ItemId}
+use Rattle.cf_base.specs.declared.ids.Usn.{Usn}
+use Rattle.cf_base.specs.declared.ids.Key.{Key}
+use Rattle.cf_base.specs.declared.items.Kind.TheVariants as kind
+use Rattle.cf_base.specs.declared.messages.Entry.{Entry}
+use Rattle.cf_base.specs.declared.policies.Policy.{Policy}
+use Rattle.cf_model.specs.Contents.{base_named}
+use Rattle.cf_model.specs.Effects.{is_directory, is_placeholder, made, size_made, writes_made}
+use Rattle.cf_model.specs.Fetching.{new_item_of}
+use Rattle.cf_model.specs.Identities.{base_bytes, is_untargeted}
+use Rattle.cf_model.specs.Numbers.{root_rid, usn_after}
+use Rattle.cf_model.specs.Plans.{is_full_population}
+use Rattle.cf_model.specs.Soundness.{Each}
+use Rattle.cf_model.specs.Store.{Held}
+use Rattle.cf_model.specs.Trees.{Keeps}
+use Rattle.cf_model.specs.Verdicts.{is_bad_range, is_kept_full, is_pinned, verdict}
+use Rattle.cf_model.proofs.TreeLaws.{keeps_bind}
+use Rattle.cf_model_laws.specs.Fitting.{NamesWell}
+use Rattle.cf_model_laws.specs.Invariant.{All, InOrder}
+use Rattle.cf_model_laws.specs.Premises.{IsFair}
+use Rattle.cf_model_laws.proofs.FitItems.{each_append}
+use Rattle.cf_model_laws.proofs.Plainly.{After, change_after, checked_at, head_false, keeps_led, tail_none, tail_of}
+use Rattle.cf_model_laws.proofs.RightItems.{no_way}
+use Rattle.cf_model_laws.proofs.SoundChanges.{KeepsEntries}
+use Rattle.cf_model_laws.proofs.SoundSettles.{each_found, not_false}
+use Rattle.std.proofs.lemmas.Bool.{eqb-true}
+
+pub checked_keeps : (l : Link) (tokens : ℕ) (P : Filter → Type 0) → GuardedFilter l tokens P → (x1 : (Filter → List (Bool × Code))) → (x2 : Arrow Filter Shown) → (Preserves P (x2)) → Preserves P (checked x1 x2)
+checked_keeps l tokens P closed tests f f_keeps = record { keeps = λ s i_. ((keeps_unless P shown.Refused (first_of (tests s)) f f_keeps)).keeps s i_ }
+
+pub done_keeps : (l : Link) (tokens : ℕ) (P : Filter → Type 0) → GuardedFilter l tokens P → Preserves P (done)
+done_keeps l tokens P closed = keeps_ret P shown.Done
+
+-- a fill of the bytes of the base
+pub transfer_at : (l : Link) (tokens : ℕ) (P : Filter → Type 0) → GuardedFilter l tokens P → (a : Live) (at : ℕ) (bytes : List ℕ) (x : Filter)
+    → (IsFair l → is_fetch a.ask.kind ≡ true → Each a.ask.item (λ i. take (length bytes) (drop at (base_bytes l.remote i)) ≡ bytes) x.volume.items) → P x → Keeps P (transfer a at bytes x)
+transfer_at l tokens P closed a at bytes x fit h =
+    let c : Change = change.Filled a.ask.item at bytes in
+    checked_at P (transfer_tests a c at (length bytes)) (transfer_by a c (blocks_of at (length bytes))) x h
+    (λ e. closed.touch same_book c a.ask.item (Leaves a.ask.key (blocks_of at (length bytes))) x (λ b. refl) (λ fair. ((λ z b. refl), λ k. k)) (λ id k. k) (λ fair. fit fair (not_false (is_fetch a.ask.kind) (head_false (transfer_tests a c at (length bytes) x) e))) h)
+
+pub refuse_keeps : (l : Link) (tokens : ℕ) (P : Filter → Type 0) → GuardedFilter l tokens P → (x1 : Live) → (x2 : Span) → (x3 : ℕ) → Preserves P (refuse x1 x2 x3)
+refuse_keeps l tokens P closed a asked status = checked_keeps l tokens P closed (refuse_tests a asked) (then_do (settle a.ask.item (Fails a.ask.key (blocks_of asked.start asked.len) (cause.Failed status))) done) (keeps_then P (settle a.ask.item (Fails a.ask.key (blocks_of asked.start asked.len) (cause.Failed status))) done (closed.settled a.ask.item (Fails a.ask.key (blocks_of asked.start asked.len) (cause.Failed status))) (done_keeps l tokens P closed))
+
+-- entries
+
+-- what an entry of a directory needs
+abbrev pub NewFits : Held → Policy → NewItem → Type 0
+NewFits r p e = (length (base_named r e.identity) ≡ size_made (entry_kind p e.dir) (cond e.dir 0 e.size)) × NamesWell r (is_directory (entry_kind p e.dir)) (is_placeholder (entry_kind p e.dir)) e.identity × ((number_of (take 8 e.identity) == 0) ≡ false)
+
+pub each_new : (id : ItemId) (P : Item → Type 0) (low next : ℕ) (items : List Item) → next ≡ id.0 → InOrder low next items → Each id P items
+each_new id P low next [] e h = tt
+each_new id P low next (i ∷ is) e h = (λ z. absurd (apart i.id.0 id.0 next (under i.id.0 next is h.1) e (eqb-true i.id.0 id.0 z)), each_new id P i.id.0 next is e h.1) where
+  under : (low next : ℕ) (items : List Item) → InOrder low next items → low < next
+  under low next [] h = h
+  under low next (i ∷ is) h = let z : low < i.id.0 = h.0 in let y : i.id.0 < next = under i.id.0 next is h.1 in let w : low < next = omega (arith, z, y) in w
+
+  apart : (a b n : ℕ) → a < n → n ≡ b → a ≡ b → ⊥
+  apart a b n h e z = omega (arith, h, e, z)
+
+pub each_none : (id : ItemId) (P : Item → Type 0) (items : List Item) → item_of items id ≡ None → Each id P items
+each_none id P [] e = tt
+each_none id P (i ∷ is) e = by (i.id.0 == id.0) refl e (each_none id P is) where
+  by : (b : Bool) → (i.id.0 == id.0) ≡ b → cond b (Some i) (item_of is id) ≡ None → (item_of is id ≡ None → Each id P is) → Each id P (i ∷ is)
+  by true q e g = cc
+  by false q e g = (λ k. no_way (sym q ∙ k), g e)
+
+abbrev usn_of : ℕ → ℕ → Usn
+usn_of e p = record { epoch = e; place = p }
+
+clean_made : (p : Policy) (dir : Bool) (n : Usn) → writes_made (entry_kind p dir) n ≡ []
+clean_made p false n = refl
+clean_made p true n = by (is_full_population p.population) where
+  by : (b : Bool) → writes_made (cond b kind.UnpopulatedDir kind.PlaceholderDir) n ≡ []
+  by true = refl
+  by false = refl
+
+next_made : (n m : ℕ) → n ≡ m → max n (m + 1) ≡ m + 1
+next_made n m e = omega (arith, e)
+
+next_kept : (k n m : ℕ) → k ≡ max n 2 → n ≡ m → 2 ≤ n → k ≡ m
+next_kept k n m q e h = omega (arith, q, e, h)
+
+-- the number after two changes
+plus_two : (e p q r : ℕ) → q ≡ p + 1 → r ≡ q + 1 → usn_after e r ≡ record { epoch = e; place = p + 1 + 2 }
+plus_two e p q r a b = let z : r + 1 ≡ p + 1 + 2 = omega (arith, a, b) in ap (λ (m : ℕ). usn_of e m) z
+
+number_after : (n : Usn) (e p q r : ℕ) → usn_after e p ≡ n → q ≡ p + 1 → r ≡ q + 1 → usn_after e r ≡ record n { place = n.place + 2 }
+number_after n e p q r is a b = plus_two e p q r a b ∙ ap (λ (u : Usn). record u { place = u.place + 2 }) is
+
+more_in : (P : Filter → Type 0) (f : Book → Book) (c d : Change) (cs : List Change) (x : Filter) → Keeps P (then_do (change c) (changes_with f (cs ++ d ∷ [])) x) → Keeps P (changes_with f (c ∷ (cs ++ d ∷ [])) x)
+more_in P f c d [] x h = h
+more_in P f c d (e ∷ cs) x h = h
+
+abbrev IsUnmarked : Usn → Item → Type 0
+IsUnmarked n i = (i.writes ≡ []) × (n ≡ i.number) × (is_untargeted i ≡ false)
+
+targeted : (b : Bool) (identity : List ℕ) → (number_of (take 8 identity) == 0) ≡ false → ((cond b root_rid (record { 0 = number_of (take 8 identity) })).0 == 0) ≡ false
+targeted true identity h = refl
+targeted false identity h = h
+
+-- the paths that come to be seen are of items below this one
+abbrev pub SeesFrom : (Book → Book) → ℕ → Type 0
+SeesFrom f n = (m : ℕ) (b : Book) → n ≤ m → AreSeenBelow m b → AreSeenBelow m (f b)
+
+shift : (k n : ℕ) → k + suc n ≡ k + 1 + n
+shift k n = omega arith
+
+-- the changes of the entries, each as it comes, and then the last
+listing_in : (l : Link) (tokens : ℕ) (P : Filter → Type 0) → GuardedFilter l tokens P → (f : Book → Book) → KeepsEntries f → (p : Policy) (parent : ItemId) (es : List Entry) (item : ℕ) (n : Usn) (x : Filter)
+    → SeesFrom f (item + length es) → (IsFair l → All (λ e. NewFits l.remote p (new_item_of e)) es) → (IsFair l → x.volume.next_item.0 ≡ item) → next_number x.volume ≡ n → P x
+    → Keeps P (changes_with f (entry_changes p parent item n (map new_item_of es) ++ change.Populated parent ∷ []) x)
+listing_in l tokens P closed f keeps p parent [] item n x sees fit next number h = closed.change f (change.Populated parent) x keeps (λ fair. ((λ z. absurd z), λ k. sees (max x.volume.next_item.0 2) x.volume.book (room x.volume.next_item.0 item (next fair)) k)) (λ id k. k) (λ fair. tt) h where
+  room : (m k : ℕ) → m ≡ k → k + 0 ≤ max m 2
+  room m k e = omega (arith, e)
+listing_in l tokens P closed f keeps p parent (e ∷ es) item n x sees fit next number h =
+    let q : NewItem = new_item_of e in
+    let make : Change = change.Make (record { 0 = item }) parent q.name (entry_kind p q.dir) (cond q.dir 0 q.size) q.identity in
+    let mark : Change = change.Mark (record { 0 = item }) n in
+    keeps_led P (λ u t. After same_book make x t) (change make x) (λ _ t. changes_with f (mark ∷ (entry_changes p parent (item + 1) (record n { place = n.place + 2 }) (map new_item_of es) ++ change.Populated parent ∷ [])) t)
+    (closed.change same_book make x (λ b. refl) (λ fair. ((λ z b. refl), λ k. k)) (λ id k. k) (λ fair. (sym (next fair), (fit fair).0.0, (fit fair).0.1)) h) (change_after same_book make x)
+    (λ u t j a.
+    more_in P f mark (change.Populated parent) (entry_changes p parent (item + 1) (record n { place = n.place + 2 }) (map new_item_of es)) t
+    (keeps_led P (λ u y. After same_book mark t y) (change mark t) (λ _ y. changes_with f (entry_changes p parent (item + 1) (record n { place = n.place + 2 }) (map new_item_of es) ++ change.Populated parent ∷ []) y)
+    (closed.change same_book mark t (λ b. refl) (λ fair. ((λ z b. refl), λ k. k)) (λ id k. k)
+    (λ fair. (
+      subst (λ (is : List Item). Each (record { 0 = item }) (IsUnmarked n) is) (sym a.items)
+          (each_append (record { 0 = item }) (IsUnmarked n) x.volume.items (made (record { 0 = item }) parent q.name (entry_kind p q.dir) (cond q.dir 0 q.size) q.identity (pin_of x.volume.items parent) (next_number x.volume))
+          (each_new (record { 0 = item }) (IsUnmarked n) 0 x.volume.next_item.0 x.volume.items (next fair) (closed.sound x h fair).now.order)
+          (λ _. (clean_made p q.dir (next_number x.volume), sym number, targeted (item == 1) q.identity (fit fair).0.2))),
+      inr (x.volume.log, next_number x.volume, parent, q.name, entry_kind p q.dir, cond q.dir 0 q.size, q.identity, a.log),
+    )) j)
+    (change_after same_book mark t)
+    (λ v y k b. listing_in l tokens P closed f keeps p parent es (item + 1) (record n { place = n.place + 2 }) y (subst (SeesFrom f) (shift item (length es)) sees) (λ fair. (fit fair).1)
+    (λ fair. next_kept y.volume.next_item.0 t.volume.next_item.0 (item + 1) b.next (a.next ∙ next_made x.volume.next_item.0 item (next fair)) (closed.sound t j fair).now.more)
+    (ap (λ (d : ℕ). usn_after d y.volume.place) (b.epoch ∙ a.epoch) ∙ number_after n x.volume.epoch x.volume.place t.volume.place y.volume.place number a.place b.place) k)))
+
+pub listing_at : (l : Link) (tokens : ℕ) (P : Filter → Type 0) → GuardedFilter l tokens P → (f : Book → Book) → KeepsEntries f → (a : Live) (es : List Entry) (x : Filter)
+    → SeesFrom f (x.volume.next_item.0 + length es) → (IsFair l → All (λ e. NewFits l.remote x.policy (new_item_of e)) es) → P x → Keeps P (entries f a (map new_item_of es) true x)
+listing_at l tokens P closed f keeps a es x sees fit h =
+    checked_at P (entries_tests f a (map new_item_of es) (list_changes a (map new_item_of es) x)) (then_do (changes_with f (list_changes a (map new_item_of es) x)) (then_do (settle a.ask.item (entries_deed a true)) done)) x h
+    (λ e. keeps_bind P (changes_with f (list_changes a (map new_item_of es) x) x) (λ _ t. then_do (settle a.ask.item (entries_deed a true)) done t)
+    (listing_in l tokens P closed f keeps x.policy a.ask.item es x.volume.next_item.0 (next_number x.volume) x sees fit (λ fair. refl) refl h)
+    (λ u t j. keeps_bind P (settle a.ask.item (entries_deed a true) t) (λ _ y. done y) ((closed.settled a.ask.item (entries_deed a true)).keeps t j) (λ v y k. k)))
+
+-- no entries
+pub no_listing_keeps : (l : Link) (tokens : ℕ) (P : Filter → Type 0) → GuardedFilter l tokens P → (f : Book → Book) (a : Live) (list : List NewItem) → Preserves P (entries f a list false)
+no_listing_keeps l tokens P closed f a list =
+    record {
+      keeps = λ x h. checked_at P (entries_tests f a list []) (then_do (changes_with f []) (then_do (settle a.ask.item (entries_deed a false)) done)) x h
+          (λ e. keeps_bind P (settle a.ask.item (entries_deed a false) x) (λ _ y. done y) ((closed.settled a.ask.item (entries_deed a false)).keeps x h) (λ v y k. k));
+    }
+
+-- consent
+
+allowed_in_sync : (p : Policy) (i : Item) (start len : ℕ) (busy : Bool) → verdict p i start len busy ≡ None → i.in_sync ≡ true
+allowed_in_sync p i start len busy e =
+    let ts : List (Bool × Code) = (is_bad_range start len (size_of i), code.BadRange) ∷ (not i.placeholder, code.NotPlaceholder) ∷ (is_kept_full p i, code.PolicyDenied)
+    ∷ (is_pinned i.pin, code.Pinned) ∷ (not i.in_sync, code.NotInSync) ∷ (busy, code.InUse) ∷ [] in
+    not_false i.in_sync (head_false (tail_of (tail_of (tail_of (tail_of ts)))) (tail_none (tail_of (tail_of (tail_of ts))) (tail_none (tail_of (tail_of ts)) (tail_none (tail_of ts) (tail_none ts e)))))
+
+pub verdict_in_sync : (p : Policy) (i : Item) (start len : ℕ) (busy : Bool) → verdict p i start len busy ≡ None → i.in_sync ≡ true
+verdict_in_sync p i start len busy e = allowed_in_sync p i start len busy e
+
+consent_fits : (l : Link) (tokens : ℕ) (P : Filter → Type 0) → GuardedFilter l tokens P → (a : Live) (x : Filter) → P x → second_verdict a x ≡ None → IsFair l → Each a.ask.item (λ i. i.in_sync ≡ true) x.volume.items
+consent_fits l tokens P closed a x h e fair = by (item_of x.volume.items a.ask.item) refl e where
+  by : (o : Option Item) → item_of x.volume.items a.ask.item ≡ o → part (λ i. verdict x.policy i a.ask.span.start a.ask.span.len (in_use_beside a.ask.item a.wait x)) None o ≡ None → Each a.ask.item (λ i. i.in_sync ≡ true) x.volume.items
+  by None q e = each_none a.ask.item (λ i. i.in_sync ≡ true) x.volume.items q
+  by (Some i) q e = each_found a.ask.item (λ i. i.in_sync ≡ true) 0 x.volume.next_item.0 x.volume.items i (closed.sound x h fair).now.order q (allowed_in_sync x.policy i a.ask.span.start a.ask.span.len (in_use_beside a.ask.item a.wait x) e)
+
+consent_at : (l : Link) (tokens : ℕ) (P : Filter → Type 0) → GuardedFilter l tokens P → (a : Live) (refusal : Option Code) (x : Filter) → second_verdict a x ≡ refusal → P x → Keeps P (consent_by a true refusal x)
+consent_at l tokens P closed a None x e h =
+    checked_at P (consent_tests a (dehydration a ∷ [])) (then_do (changes (dehydration a ∷ [])) (then_do (settle a.ask.item (consent_deed a true None)) done)) x h
+    (λ q. keeps_bind P (changes (dehydration a ∷ []) x) (λ _ t. then_do (settle a.ask.item (consent_deed a true None)) done t)
+    (keeps_bind P (change (dehydration a) x) (λ _ t. ret unit t) (closed.change same_book (dehydration a) x (λ b. refl) (λ fair. ((λ z b. refl), λ k. k)) (λ id k. k) (λ fair. consent_fits l tokens P closed a x h e fair) h) (λ u t j. j))
+    (λ u t j. keeps_bind P (settle a.ask.item (consent_deed a true None) t) (λ _ y. done y) ((closed.settled a.ask.item (consent_deed a true None)).keeps t j) (λ v y k. k)))
+consent_at l tokens P closed a (Some c) x e h =
+    checked_at P (consent_tests a []) (then_do (changes []) (then_do (settle a.ask.item (consent_deed a true (Some c))) done)) x h
+    (λ q. keeps_bind P (settle a.ask.item (consent_deed a true (Some c)) x) (λ _ y. done y) ((closed.settled a.ask.item (consent_deed a true (Some c))).keeps x h) (λ v y k. k))
+
+pub consents_keep : (l : Link) (tokens : ℕ) (P : Filter → Type 0) → GuardedFilter l tokens P → (a : Live) → Preserves P (ack_dehydrate a true)
+consents_keep l tokens P closed a = record { keeps = λ x h. consent_at l tokens P closed a (second_verdict a x) x refl h }
+
+-- an operation of the engine
+
+on_key : (l : Link) (tokens : ℕ) (P : Filter → Type 0) (f : Book → Book) (op : Operation) (x : Filter) → P x → ((a : Live) → live_of x.waiting.asks (key_of op) ≡ Some a → Keeps P (on_ask f op a x)) → Keeps P (execute_with f op x)
+on_key l tokens P f op x h k = by (live_of x.waiting.asks (key_of op)) refl where
+  by : (o : Option Live) → live_of x.waiting.asks (key_of op) ≡ o → Keeps P (on_live f op o x)
+  by None e = h
+  by (Some a) e = k a e
+
+pub fetched_at : (l : Link) (tokens : ℕ) (P : Filter → Type 0) → GuardedFilter l tokens P → (key : Key) (at : ℕ) (bytes : List ℕ) (x : Filter)
+    → ((a : Live) → live_of x.waiting.asks key ≡ Some a → IsFair l → is_fetch a.ask.kind ≡ true → Each a.ask.item (λ i. take (length bytes) (drop at (base_bytes l.remote i)) ≡ bytes) x.volume.items) → P x
+    → Keeps P (execute (operation.Transfer key at bytes) x)
+fetched_at l tokens P closed key at bytes x fit h = on_key l tokens P same_book (operation.Transfer key at bytes) x h (λ a e. transfer_at l tokens P closed a at bytes x (fit a e) h)
+
+pub refused_op_keeps : (l : Link) (tokens : ℕ) (P : Filter → Type 0) → GuardedFilter l tokens P → (key : Key) (asked : Span) (status : ℕ) → Preserves P (execute (operation.Refuse key asked status))
+refused_op_keeps l tokens P closed key asked status = record { keeps = λ x h. on_key l tokens P same_book (operation.Refuse key asked status) x h (λ a e. (refuse_keeps l tokens P closed a asked status).keeps x h) }
+
+pub no_entries_op_keeps : (l : Link) (tokens : ℕ) (P : Filter → Type 0) → GuardedFilter l tokens P → (key : Key) → Preserves P (execute (operation.Entries key [] false))
+no_entries_op_keeps l tokens P closed key = record { keeps = λ x h. on_key l tokens P same_book (operation.Entries key [] false) x h (λ a e. (no_listing_keeps l tokens P closed same_book a []).keeps x h) }
+
+pub listed_at : (l : Link) (tokens : ℕ) (P : Filter → Type 0) → GuardedFilter l tokens P → (f : Book → Book) → KeepsEntries f → (key : Key) (es : List Entry) (x : Filter)
+    → SeesFrom f (x.volume.next_item.0 + length es) → (IsFair l → All (λ e. NewFits l.remote x.policy (new_item_of e)) es) → P x → Keeps P (execute_with f (operation.Entries key (map new_item_of es) true) x)
+listed_at l tokens P closed f keeps key es x sees fit h = on_key l tokens P f (operation.Entries key (map new_item_of es) true) x h (λ a e. listing_at l tokens P closed f keeps a es x sees fit h)
+
+pub consented_keeps : (l : Link) (tokens : ℕ) (P : Filter → Type 0) → GuardedFilter l tokens P → (key : Key) → Preserves P (execute (operation.AckDehydrate key true))
+consented_keeps l tokens P closed key = record { keeps = λ x h. on_key l tokens P same_book (operation.AckDehydrate key true) x h (λ a e. (consents_keep l tokens P closed a).keeps x h) }

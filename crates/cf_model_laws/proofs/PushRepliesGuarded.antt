@@ -1,0 +1,290 @@
+-- What the parts of `PushReplies` keep in `replay`, each by what its own parts keep.
+use Rattle.std.specs.Prelude.{Bool, true, false, Option, Some, None, is_some, filter, not, cond, find, ◌==◌}
+use Rattle.cf_base.specs.declared.codes.Code.{Code}
+use Rattle.cf_base.specs.declared.codes.Code.TheVariants as code
+use Rattle.cf_base.specs.declared.ids.Rid.{Rid}
+use Rattle.cf_base.specs.declared.ids.Version.{Version}
+use Rattle.cf_base.specs.declared.messages.Why.{Why}
+use Rattle.cf_base.specs.declared.messages.Why.TheVariants as why
+use Rattle.cf_model.specs.Arrows.{Arrow, and_then, only_if, reading, seq, then_do, unit, Preserves}
+use Rattle.cf_model.specs.Books.{Action, MakeDir, MoveItem, PutFile, QueueEntry, RemoveItem, with_cursor, with_seen, with_tombstone, without_entry, without_tombstone, entry_of}
+use Rattle.cf_model.specs.Items.{Item, item_of}
+use Rattle.cf_model.specs.Skips.{do_change, in_book, in_volatile, is_cursor, is_there, skip, to_conflict, try_book, try_mark, try_seen, why_no_record, with_volatile, with_book}
+use Rattle.cf_model.specs.State.{State, book_now, items_now}
+use Rattle.cf_model_laws.proofs.StepsGuarded as skips_keep
+use Rattle.cf_model.specs.PushReplies.{bury_new, by_why, cursor_reset_if, done_by, done_move, done_removal, done_upload, done_upload_on, drop_if, end_and_close, end_entry, end_tombstone, entry_seen, held_and_closed, is_new_entry, is_removal, item_of_entry, lost_place, move_away, name_taken, name_taken_again, name_taken_by, not_empty, not_empty_by, not_in_row, nothing_further, rebase, rebase_of, rebase_unless, reset_cursor, reset_if, see_and_mark, take, take_done, take_refused, take_void, taken_from_row, tombstone_left, was_directory, was_name_taken, was_not_empty, whatever, why_no_rebase, with_done, with_not_empty, with_taken_name}
+use Rattle.cf_model_laws.proofs.Guarded.{Guarded, KeepsPlaced}
+use Rattle.cf_model.proofs.ArrowLaws.{keeps_noted, keeps_only_if, keeps_reading, keeps_ret, keeps_seq, keeps_then, keeps_one}
+use Rattle.std.proofs.Common.{◌≡◌, ◌⊎◌, ◌<◌, ℕ, List, [], ◌∷◌, refl, sym, ◌∙◌, ap, subst, inl, inr, arith, Bool, true, false}
+use Rattle.std.specs.List.{list_all}
+use Rattle.cf_base.specs.declared.ids.ItemId.{ItemId}
+use Rattle.cf_model.specs.Contents.{base_named, up_to}
+use Rattle.cf_model.specs.Identities.{base_bytes, identity_for, identity_of}
+use Rattle.cf_model.specs.Numbers.{same_key}
+use Rattle.cf_model.specs.Soundness.{Each}
+use Rattle.cf_model.specs.Store.{RecordedDone, bytes_of, recorded_at}
+use Rattle.cf_model.specs.Trees.{Keeps}
+use Rattle.cf_model.proofs.TreeLaws.{keeps_bind}
+use Rattle.cf_model_laws.specs.Fitting.{Fits, NamesWell, NoEntry, NoMove}
+use Rattle.cf_model_laws.specs.Invariant.{All, AreApart, EntryFits, FitsBy, InOrder, IsSound, PutFits, put_bytes}
+use Rattle.cf_model_laws.specs.Premises.{IsFair}
+use Rattle.cf_model_laws.proofs.EntryLaws.{dir_well, file_well, made_named, made_read}
+use Rattle.cf_model_laws.proofs.FeedEntriesGuarded.{Feeding, feeding}
+use Rattle.cf_model_laws.proofs.FoundItems.{found_id}
+use Rattle.cf_model_laws.proofs.Gathered.{all_found}
+use Rattle.cf_model_laws.proofs.Plainly.{keeps_led}
+use Rattle.cf_model_laws.proofs.RightItems.{no_way}
+use Rattle.cf_model_laws.proofs.SeenPaths.{led_unnamed}
+use Rattle.cf_model_laws.proofs.SkipsGuarded.{Led, Skipping, Whichever, and_then_keeps, do_led, framed, guarded_skipping, keeps_first, no_move, only_if_at, tried_at, try_mark_at, try_seen_at}
+use Rattle.cf_model_laws.proofs.SoundSettles.{each_found, same_item}
+
+pub end_entry_keeps : (P : State → Type 0) → Guarded P → (e : QueueEntry) → Preserves P (end_entry e)
+end_entry_keeps P closed e = keeps_one P (with_book (without_entry e.token)) (λ s h. closed.leaves e.token s h)
+
+pub end_and_close_keeps : (P : State → Type 0) → Guarded P → (x1 : QueueEntry) → Preserves P (end_and_close x1)
+end_and_close_keeps P closed e = keeps_then P (end_entry e) (in_volatile (taken_from_row e)) (end_entry_keeps P closed e) (keeps_noted P (with_volatile (taken_from_row e)) (closed.keeps_volatile_taken_from_row e))
+
+pub take_keeps : (P : State → Type 0) → Guarded P → (x1 : QueueEntry) → Preserves P (take x1)
+take_keeps P closed e = record { keeps = λ s i_. ((end_and_close_keeps P closed e)).keeps (with_done s) ((closed.keeps_with_done) s i_) }
+
+pub whatever_keeps : (P : State → Type 0) → Guarded P → (x1 : Bool) → Preserves P (whatever x1)
+whatever_keeps P closed done = keeps_ret P unit
+
+-- What a Done tells: its entry is live, and the remote has recorded the version.
+abbrev pub DoneIn : State → QueueEntry → Rid → Version → Type 0
+DoneIn s e rid version = (entry_of (book_now s) e.token ≡ Some e) × (recorded_at s.link.remote.tokens e.token ≡ Some (RecordedDone rid version))
+
+pub each_at : (id : ItemId) (P : Item → Type 0) (items : List Item) (i : Item) → item_of items id ≡ Some i → Each id P items → P i
+each_at id P [] i e h = cc
+each_at id P (j ∷ js) i e h = by (j.id.0 == id.0) refl e (each_at id P js i) where
+  by : (b : Bool) → (j.id.0 == id.0) ≡ b → cond b (Some j) (item_of js id) ≡ Some i → (item_of js id ≡ Some i → Each id P js → P i) → P i
+  by true q e g = let z : j ≡ i = cc in subst P z (h.0 q)
+  by false q e g = g e h.1
+
+pub found_positive : (id : ItemId) (low next : ℕ) (items : List Item) (i : Item) → InOrder low next items → item_of items id ≡ Some i → low < i.id.0
+found_positive id low next [] i h e = cc
+found_positive id low next (j ∷ js) i h e = by (j.id.0 == id.0) e (found_positive id j.id.0 next js i h.1) where
+  by : (b : Bool) → cond b (Some j) (item_of js id) ≡ Some i → (item_of js id ≡ Some i → j.id.0 < i.id.0) → low < i.id.0
+  by true e g = let z : j ≡ i = cc in subst (λ (x : Item). low < x.id.0) z h.0
+  by false e g = let z : j.id.0 < i.id.0 = g e in let y : low < j.id.0 = h.0 in omega (arith, z, y)
+
+-- once its entry is gone, no other is about the item
+pub apart_rest : (p : QueueEntry → Bool) (id : ℕ) (es : List QueueEntry) (e : QueueEntry) → e.item.0 ≡ id → (id ≡ 0 → ⊥) → find p es ≡ Some e → AreApart es → All (λ f. f.item.0 ≡ id → ⊥) (filter (λ f. not (p f)) es)
+apart_rest p id [] e is some f h = cc
+apart_rest p id (q ∷ es) e is some f h = by (p q) f (apart_rest p id es e is some) where
+  others : (es : List QueueEntry) → All (λ g. g.item.0 ≡ q.item.0 → q.item.0 ≡ 0) es → q.item.0 ≡ id → All (λ g. g.item.0 ≡ id → ⊥) (filter (λ g. not (p g)) es)
+  others [] k z = tt
+  others (g ∷ es) k z = one (p g) (others es k.1 z) where
+    one : (b : Bool) → All (λ g. g.item.0 ≡ id → ⊥) (filter (λ g. not (p g)) es) → All (λ g. g.item.0 ≡ id → ⊥) (cond (not b) (g ∷ filter (λ g. not (p g)) es) (filter (λ g. not (p g)) es))
+    one true r = r
+    one false r = (λ y. some (sym z ∙ k.0 (y ∙ sym z)), r)
+
+  member : (es : List QueueEntry) → find p es ≡ Some e → All (λ g. g.item.0 ≡ q.item.0 → q.item.0 ≡ 0) es → q.item.0 ≡ id → ⊥
+  member es f k z =
+      let g : (e.item.0 ≡ q.item.0 → q.item.0 ≡ 0) × (p e ≡ true) = all_found (λ g. g.item.0 ≡ q.item.0 → q.item.0 ≡ 0) p es e f k in
+      some (sym z ∙ g.0 (is ∙ sym z))
+
+  by : (b : Bool) → cond b (Some q) (find p es) ≡ Some e → (find p es ≡ Some e → AreApart es → All (λ g. g.item.0 ≡ id → ⊥) (filter (λ g. not (p g)) es))
+      → All (λ g. g.item.0 ≡ id → ⊥) (cond (not b) (q ∷ filter (λ g. not (p g)) es) (filter (λ g. not (p g)) es))
+  by true f g = let z : q ≡ e = cc in others es h.0 (ap (λ (x : QueueEntry). x.item.0) z ∙ is)
+  by false f g = (member es f h.0, g f h.1)
+
+-- once an upload is taken, its item may be marked
+
+abbrev Marking : (State → Type 0) → State → State → Type 0
+Marking P s t = P t × Feeding s.link s.filter (book_now s).entries t
+
+marking : (P : State → Type 0) → Guarded P → (s : State) → Skipping Whichever (Marking P s)
+marking P closed s = framed Whichever P (Feeding s.link s.filter (book_now s).entries) (guarded_skipping P closed) (feeding s.link s.filter (book_now s).entries)
+
+mark_after : (P : State → Type 0) → Guarded P → (e : QueueEntry) (f : Arrow State Bool) (s : State) → (IsFair s.link → (e.item.0 ≡ 0 → ⊥) → NoEntry (book_now s).entries e.item) → (Marking P s s → Keeps (Marking P s) (f s)) → P s
+    → Keeps P (seq (and_then f (try_mark e.item e.number)) whatever s)
+mark_after P closed e f s alone k h =
+    keeps_first P (Feeding s.link s.filter (book_now s).entries) (seq (and_then f (try_mark e.item e.number)) whatever s)
+    (keeps_bind (Marking P s) (and_then f (try_mark e.item e.number) s) whatever
+    (and_then_keeps (Marking P s) f (try_mark e.item e.number) s (k (h, record { link = refl; waiting = refl; handles = refl; entries = refl }))
+    (λ t j. try_mark_at Whichever (Marking P s) (marking P closed s) e.item e.number t tt (λ fair i found. unmoved t j fair i found) j))
+    (λ b t j. j)) where
+      zero_not : (n m : ℕ) → 0 < n → n ≡ m → m ≡ 0 → ⊥
+      zero_not n m a b c = omega (arith, a, b, c)
+
+      unmoved : (t : State) → Marking P s t → IsFair t.link → (i : Item) → item_of (items_now t) e.item ≡ Some i → NoMove (book_now t).entries e.item
+      unmoved t j fair i found =
+          subst (λ (es : List QueueEntry). NoMove es e.item) (sym j.1.entries)
+          (no_move (book_now s).entries e.item (alone (subst IsFair j.1.link fair)
+          (λ z. zero_not i.id.0 e.item.0 (found_positive e.item 0 t.filter.volume.next_item.0 (items_now t) i ((closed.on_filter t j.0).sound t.filter j.0 fair).now.order found) (found_id e.item (items_now t) i found) z)))
+
+-- a new item's path comes to be seen after another change than a Mark
+see_and_mark_at : (P : State → Type 0) → Guarded P → (e : QueueEntry) (s : State) → (IsFair s.link → (e.item.0 ≡ 0 → ⊥) → NoEntry (book_now s).entries e.item) → KeepsPlaced (with_seen (entry_seen e)) s → P s → Keeps P (see_and_mark e s)
+see_and_mark_at P closed e s alone placed h =
+    mark_after P closed e (only_if (is_new_entry e) (try_seen (entry_seen e))) s alone
+    (λ q. only_if_at (Marking P s) (is_new_entry e) (try_seen (entry_seen e)) s q (λ _. try_seen_at Whichever (Marking P s) (marking P closed s) (entry_seen e) s (λ fair. placed) q)) h
+
+-- once its entry is gone, none is about its item
+alone_after : (s : State) (e : QueueEntry) → entry_of (book_now s) e.token ≡ Some e → IsSound s.link s.volatile.tokens s.filter → (e.item.0 ≡ 0 → ⊥) → NoEntry (without_entry e.token (book_now s)).entries e.item
+alone_after s e live sound some = apart_rest (λ f. same_key f.token.0 e.token.0) e.item.0 (book_now s).entries e refl some live sound.now.apart
+
+-- the identity that a Done gives names well
+put_well : (s : State) (e : QueueEntry) (rid : Rid) (version : Version) (i : Item) → IsFair s.link → bytes_of s.link.remote rid version ≡ Some (put_bytes (base_bytes s.link.remote i) e.number i.writes) → i.directory ≡ false → i.placeholder ≡ true
+    → NamesWell s.link.remote i.directory i.placeholder (identity_for i.directory rid version) × (base_named s.link.remote (identity_for i.directory rid version) ≡ put_bytes (base_bytes s.link.remote i) e.number i.writes)
+put_well s e rid version i fair made file placed =
+    subst (λ (d : Bool). NamesWell s.link.remote d i.placeholder (identity_for d rid version) × (base_named s.link.remote (identity_for d rid version) ≡ put_bytes (base_bytes s.link.remote i) e.number i.writes)) (sym file) (
+      subst (λ (p : Bool). NamesWell s.link.remote false p (identity_of rid rid version)) (sym placed) (file_well s.link.remote (identity_of rid rid version) (inr (put_bytes (base_bytes s.link.remote i) e.number i.writes, made_read s.link.remote rid rid version (put_bytes (base_bytes s.link.remote i) e.number i.writes) fair.1 made))),
+      made_named s.link.remote rid rid version (put_bytes (base_bytes s.link.remote i) e.number i.writes) fair.1 made,
+    )
+
+abbrev pub DoneFits : State → QueueEntry → Rid → Version → Item → Type 0
+DoneFits s e rid version i =
+    NamesWell s.link.remote i.directory i.placeholder (identity_for i.directory rid version)
+    × (i.directory ≡ false → ((list_all is_some i.held ≡ true) ⊎ (up_to e.number i.writes ≡ [])) × (base_named s.link.remote (identity_for i.directory rid version) ≡ put_bytes (base_bytes s.link.remote i) e.number i.writes))
+
+done_one : (a : Action) (s : State) (e : QueueEntry) (rid : Rid) (version : Version) (i : Item) → (a ≡ PutFile) ⊎ (a ≡ MakeDir) → IsFair s.link → IsSound s.link s.volatile.tokens s.filter → DoneIn s e rid version → item_of (items_now s) e.item ≡ Some i
+    → FitsBy a s.link.remote s.link.messages (items_now s) e → DoneFits s e rid version i
+done_one PutFile s e rid version i is fair sound done found fit =
+    let p : PutFits s.link.remote s.link.messages e i = each_at e.item (PutFits s.link.remote s.link.messages e) (items_now s) i found fit in
+    let w = put_well s e rid version i fair (p.recorded rid version done.1) p.file p.placed in
+    (w.0, λ file. (p.here, w.1))
+done_one MakeDir s e rid version i is fair sound done found fit =
+    let dir : i.directory ≡ true = each_at e.item (λ i. i.directory ≡ true) (items_now s) i found fit in
+    (subst (λ (d : Bool). NamesWell s.link.remote d i.placeholder (identity_for d rid version)) (sym dir) (dir_well s.link.remote rid i.placeholder), λ file. no_way (sym file ∙ dir))
+done_one MoveItem s e rid version i is fair sound done found fit = elim is as (λ _. DoneFits s e rid version i) [ inl z ↦ cc | inr z ↦ cc ]
+done_one RemoveItem s e rid version i is fair sound done found fit = elim is as (λ _. DoneFits s e rid version i) [ inl z ↦ cc | inr z ↦ cc ]
+
+pub rebase_at : (P : State → Type 0) → Guarded P → (e : QueueEntry) (rid : Rid) (version : Version) (i : Item) (s : State) → (IsFair s.link → DoneFits s e rid version i × DoneIn s e rid version × (item_of (items_now s) e.item ≡ Some i)) → P s
+    → Keeps P (rebase e (rebase_of e rid version i) s)
+rebase_at P closed e rid version i s fits h = by (why_no_rebase e (rebase_of e rid version i) s) where
+  fit : IsFair s.link → Fits s.link.remote (with_volatile (taken_from_row e) (with_book (without_entry e.token) (with_done s))).filter (rebase_of e rid version i)
+  fit fair =
+      let sound : IsSound s.link s.volatile.tokens s.filter = (closed.on_filter s h).sound s.filter h fair in
+      let found : item_of (items_now s) e.item ≡ Some i = (fits fair).2 in
+      let same : i.id.0 ≡ e.item.0 = found_id e.item (items_now s) i found in
+      let again : item_of (items_now s) i.id ≡ Some i = subst (λ (x : ItemId). item_of (items_now s) x ≡ Some i) (sym (same_item i.id e.item same)) found in (
+        each_found i.id (λ j. NamesWell s.link.remote j.directory j.placeholder (identity_for i.directory rid version)) 0 s.filter.volume.next_item.0 (items_now s) i sound.now.order again (fits fair).0.0,
+        inr (
+          apart_rest (λ f. same_key f.token.0 e.token.0) i.id.0 (book_now s).entries e (sym same) (λ z. absurd (zero_not i.id.0 (found_positive e.item 0 s.filter.volume.next_item.0 (items_now s) i sound.now.order found) z)) (fits fair).1.0 sound.now.apart,
+          each_found i.id (λ j. j.directory ≡ false → ((list_all is_some j.held ≡ true) ⊎ (up_to e.number j.writes ≡ [])) × (base_named s.link.remote (identity_for i.directory rid version) ≡ put_bytes (base_bytes s.link.remote j) e.number j.writes))
+              0 s.filter.volume.next_item.0 (items_now s) i sound.now.order again (fits fair).0.1,
+        ),
+      ) where
+        zero_not : (n : ℕ) → 0 < n → n ≡ 0 → ⊥
+        zero_not n h e = omega (arith, h, e)
+
+  by : (o : Option Code) → Keeps P (rebase_unless e (rebase_of e rid version i) o s)
+  by (Some c) = (skips_keep.skip_keeps P closed c).keeps s h
+  by None =
+      let one : P (with_done s) = closed.keeps_with_done s h in
+      let two : P (with_volatile (taken_from_row e) (with_book (without_entry e.token) (with_done s))) = closed.keeps_volatile_taken_from_row e (with_book (without_entry e.token) (with_done s)) (closed.leaves e.token (with_done s) one) in (
+        one,
+        keeps_led P (λ u t. Led (rebase_of e rid version i) (with_volatile (taken_from_row e) (with_book (without_entry e.token) (with_done s))) t) (do_change (rebase_of e rid version i) (with_volatile (taken_from_row e) (with_book (without_entry e.token) (with_done s)))) (λ _ t. see_and_mark e t)
+            ((guarded_skipping P closed).change (rebase_of e rid version i) (with_volatile (taken_from_row e) (with_book (without_entry e.token) (with_done s))) tt (λ id k. k) fit two)
+            (do_led (rebase_of e rid version i) (with_volatile (taken_from_row e) (with_book (without_entry e.token) (with_done s))))
+            (λ u t j led. see_and_mark_at P closed e t
+            (λ fair some. let fair_s : IsFair s.link = subst IsFair led.link fair in
+            subst (λ (es : List QueueEntry). NoEntry es e.item) (sym (led.after.entries (λ b. refl))) (alone_after s e (fits fair_s).1.0 ((closed.on_filter s h).sound s.filter h fair_s) some))
+            (λ item m. absurd (led_unnamed (rebase_of e rid version i) (with_volatile (taken_from_row e) (with_book (without_entry e.token) (with_done s))) t (λ z. z) led item m)) j),
+      )
+
+pub bury_new_keeps : (P : State → Type 0) → Guarded P → (x1 : QueueEntry) → (x2 : Rid) → (x3 : Version) → Preserves P (bury_new x1 x2 x3)
+bury_new_keeps P closed e rid version = keeps_then P (take e) (seq (only_if (is_new_entry e) (try_book (with_tombstone (tombstone_left e rid version)))) whatever) (take_keeps P closed e) (keeps_seq P (only_if (is_new_entry e) (try_book (with_tombstone (tombstone_left e rid version)))) whatever (keeps_only_if P (is_new_entry e) (try_book (with_tombstone (tombstone_left e rid version))) (skips_keep.try_book_keeps P closed (with_tombstone (tombstone_left e rid version)) (λ b. refl) (λ b. refl))) (whatever_keeps P closed))
+
+upload_done_at : (P : State → Type 0) → Guarded P → (e : QueueEntry) (rid : Rid) (version : Version) (s : State) → (e.action ≡ PutFile) ⊎ (e.action ≡ MakeDir) → (IsFair s.link → DoneIn s e rid version) → P s → Keeps P (done_upload e rid version s)
+upload_done_at P closed e rid version s is done h = by (item_of (items_now s) e.item) refl where
+  by : (o : Option Item) → item_of (items_now s) e.item ≡ o → Keeps P (done_upload_on e rid version o s)
+  by None f = (bury_new_keeps P closed e rid version).keeps s h
+  by (Some i) f =
+      rebase_at P closed e rid version i s
+      (λ fair. let sound : IsSound s.link s.volatile.tokens s.filter = (closed.on_filter s h).sound s.filter h fair in
+      (done_one e.action s e rid version i is fair sound (done fair) f (all_found (EntryFits s.link.remote s.link.messages (items_now s)) (λ q. same_key q.token.0 e.token.0) (book_now s).entries e (done fair).0 sound.now.fit).0, done fair, f)) h
+
+-- the path of a Move that was done comes to be seen
+done_move_at : (P : State → Type 0) → Guarded P → (e : QueueEntry) (s : State) → e.action ≡ MoveItem → (IsFair s.link → entry_of (book_now s) e.token ≡ Some e) → P s → Keeps P (done_move e s)
+done_move_at P closed e s is live h = (one, mark_after P closed e (try_seen (entry_seen e)) taken (λ fair some. alone_after s e (live fair) ((closed.on_filter s h).sound s.filter h fair) some) (λ q. sees (is_there e.item taken) q) two) where
+  taken : State
+  taken = with_volatile (taken_from_row e) (with_book (without_entry e.token) (with_done s))
+
+  one : P (with_done s)
+  one = closed.keeps_with_done s h
+
+  two : P taken
+  two = closed.keeps_volatile_taken_from_row e (with_book (without_entry e.token) (with_done s)) (closed.leaves e.token (with_done s) one)
+
+  sees : (b : Bool) → Marking P taken taken → Keeps (Marking P taken) (only_if b (try_book (with_seen (entry_seen e))) taken)
+  sees b q =
+      only_if_at (Marking P taken) b (try_book (with_seen (entry_seen e))) taken q
+      (λ _. tried_at Whichever (Marking P taken) (marking P closed taken) (why_no_record (with_seen (entry_seen e))) (in_book (with_seen (entry_seen e))) taken q
+      (q, (closed.moved e (with_done s) is live one, record { link = refl; waiting = refl; handles = refl; entries = refl })))
+
+pub cursor_reset_if_keeps : (P : State → Type 0) → Guarded P → (x1 : Bool) → Preserves P (cursor_reset_if x1)
+cursor_reset_if_keeps P closed true = keeps_ret P unit
+cursor_reset_if_keeps P closed false = skips_keep.in_book_keeps P closed (with_cursor 0) (λ b. refl) (λ b. refl)
+
+pub reset_cursor_keeps : (P : State → Type 0) → Guarded P → Preserves P (reset_cursor)
+reset_cursor_keeps P closed = keeps_reading P (is_cursor 0) cursor_reset_if (cursor_reset_if_keeps P closed)
+
+pub reset_if_keeps : (P : State → Type 0) → Guarded P → (x1 : Bool) → Preserves P (reset_if x1)
+reset_if_keeps P closed true = reset_cursor_keeps P closed
+reset_if_keeps P closed false = keeps_ret P unit
+
+pub end_tombstone_keeps : (P : State → Type 0) → Guarded P → (x1 : QueueEntry) → (x2 : Bool) → Preserves P (end_tombstone x1 x2)
+end_tombstone_keeps P closed e directory = keeps_then P (in_book (without_tombstone e.number)) (reset_if directory) (skips_keep.in_book_keeps P closed (without_tombstone e.number) (λ b. refl) (λ b. refl)) (reset_if_keeps P closed directory)
+
+pub done_removal_keeps : (P : State → Type 0) → Guarded P → (x1 : QueueEntry) → Preserves P (done_removal x1)
+done_removal_keeps P closed e = keeps_then P (take e) (reading (was_directory e) (end_tombstone e)) (take_keeps P closed e) (keeps_reading P (was_directory e) (end_tombstone e) (end_tombstone_keeps P closed e))
+
+pub take_void_keeps : (P : State → Type 0) → Guarded P → (x1 : QueueEntry) → Preserves P (take_void x1)
+take_void_keeps P closed e = end_and_close_keeps P closed e
+
+pub drop_if_keeps : (P : State → Type 0) → Guarded P → (x1 : Bool) → (x2 : QueueEntry) → Preserves P (drop_if x1 x2)
+drop_if_keeps P closed true e = skips_keep.in_book_keeps P closed (without_tombstone e.number) (λ b. refl) (λ b. refl)
+drop_if_keeps P closed false e = keeps_ret P unit
+
+pub lost_place_keeps : (P : State → Type 0) → Guarded P → (x1 : QueueEntry) → Preserves P (lost_place x1)
+lost_place_keeps P closed e = keeps_then P (in_volatile (not_in_row e)) (then_do (drop_if (is_removal e) e) reset_cursor) (keeps_noted P (with_volatile (not_in_row e)) (closed.keeps_volatile_not_in_row e)) (keeps_then P (drop_if (is_removal e) e) reset_cursor (drop_if_keeps P closed (is_removal e) e) (reset_cursor_keeps P closed))
+
+pub move_away_keeps : (P : State → Type 0) → Guarded P → (x1 : Option Item) → Preserves P (move_away x1)
+move_away_keeps P closed None = keeps_ret P unit
+move_away_keeps P closed (Some i) = keeps_seq P (to_conflict i) whatever (skips_keep.to_conflict_keeps P closed i) (whatever_keeps P closed)
+
+pub name_taken_again_keeps : (P : State → Type 0) → Guarded P → (x1 : QueueEntry) → Preserves P (name_taken_again x1)
+name_taken_again_keeps P closed e = keeps_then P (in_volatile (not_in_row e)) (reading (item_of_entry e) move_away) (keeps_noted P (with_volatile (not_in_row e)) (closed.keeps_volatile_not_in_row e)) (keeps_reading P (item_of_entry e) move_away (move_away_keeps P closed))
+
+pub name_taken_by_keeps : (P : State → Type 0) → Guarded P → (x1 : QueueEntry) → (x2 : Bool) → Preserves P (name_taken_by x1 x2)
+name_taken_by_keeps P closed e true = name_taken_again_keeps P closed e
+name_taken_by_keeps P closed e false = keeps_noted P (with_volatile (with_taken_name e.item)) (closed.keeps_volatile_with_taken_name e.item)
+
+pub not_empty_by_keeps : (P : State → Type 0) → Guarded P → (x1 : QueueEntry) → (x2 : Bool) → Preserves P (not_empty_by x1 x2)
+not_empty_by_keeps P closed e true = lost_place_keeps P closed e
+not_empty_by_keeps P closed e false = keeps_noted P (with_volatile (with_not_empty e.number)) (closed.keeps_volatile_with_not_empty e.number)
+
+pub nothing_further_keeps : (P : State → Type 0) → Guarded P → (x1 : QueueEntry) → Preserves P (nothing_further x1)
+nothing_further_keeps P closed e = keeps_noted P (with_volatile (not_in_row e)) (closed.keeps_volatile_not_in_row e)
+
+pub name_taken_keeps : (P : State → Type 0) → Guarded P → (x1 : Bool) → (x2 : QueueEntry) → Preserves P (name_taken x1 x2)
+name_taken_keeps P closed true e = nothing_further_keeps P closed e
+name_taken_keeps P closed false e = keeps_reading P (was_name_taken e.item) (name_taken_by e) (name_taken_by_keeps P closed e)
+
+pub not_empty_keeps : (P : State → Type 0) → Guarded P → (x1 : Bool) → (x2 : QueueEntry) → Preserves P (not_empty x1 x2)
+not_empty_keeps P closed true e = keeps_reading P (was_not_empty e.number) (not_empty_by e) (not_empty_by_keeps P closed e)
+not_empty_keeps P closed false e = nothing_further_keeps P closed e
+
+pub by_why_keeps : (P : State → Type 0) → Guarded P → (x1 : Why) → (x2 : QueueEntry) → Preserves P (by_why x1 x2)
+by_why_keeps P closed why.Conflict e = lost_place_keeps P closed e
+by_why_keeps P closed why.NotThere e = lost_place_keeps P closed e
+by_why_keeps P closed why.NameTaken e = name_taken_keeps P closed (is_removal e) e
+by_why_keeps P closed why.NotEmpty e = not_empty_keeps P closed (is_removal e) e
+by_why_keeps P closed why.Quota e = keeps_then P (nothing_further e) (skip code.Quota) (nothing_further_keeps P closed e) (skips_keep.skip_keeps P closed code.Quota)
+by_why_keeps P closed why.Loop e = nothing_further_keeps P closed e
+by_why_keeps P closed why.BadName e = nothing_further_keeps P closed e
+by_why_keeps P closed why.TooDeep e = nothing_further_keeps P closed e
+by_why_keeps P closed why.TooLarge e = nothing_further_keeps P closed e
+
+pub take_refused_keeps : (P : State → Type 0) → Guarded P → (x1 : QueueEntry) → (x2 : Why) → Preserves P (take_refused x1 x2)
+take_refused_keeps P closed e w = keeps_then P (end_entry e) (then_do (in_volatile (held_and_closed e)) (by_why w e)) (end_entry_keeps P closed e) (keeps_then P (in_volatile (held_and_closed e)) (by_why w e) (keeps_noted P (with_volatile (held_and_closed e)) (closed.keeps_volatile_held_and_closed e)) (by_why_keeps P closed w e))
+
+pub take_done_at : (P : State → Type 0) → Guarded P → (e : QueueEntry) (rid : Rid) (version : Version) (s : State) → (IsFair s.link → DoneIn s e rid version) → P s → Keeps P (take_done e rid version s)
+take_done_at P closed e rid version s done h = by e.action refl where
+  by : (a : Action) → e.action ≡ a → Keeps P (done_by a e rid version s)
+  by PutFile q = upload_done_at P closed e rid version s (inl q) done h
+  by MakeDir q = upload_done_at P closed e rid version s (inr q) done h
+  by MoveItem q = done_move_at P closed e s q (λ fair. (done fair).0) h
+  by RemoveItem q = (done_removal_keeps P closed e).keeps s h

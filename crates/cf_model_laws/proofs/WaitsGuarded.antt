@@ -1,0 +1,122 @@
+-- What the parts of `Waits` keep in `replay`, each by what its own parts keep.
+use Rattle.std.specs.Prelude.{ℕ, Bool, true, false, List, Option, Some, None, Result, Ok, Err}
+use Rattle.cf_base.specs.declared.answers.Shown.{Shown}
+use Rattle.cf_base.specs.declared.answers.Shown.TheVariants as shown
+use Rattle.cf_base.specs.declared.codes.Code.{Code}
+use Rattle.cf_base.specs.declared.codes.Code.TheVariants as code
+use Rattle.cf_base.specs.declared.ids.Handle.{Handle}
+use Rattle.cf_base.specs.declared.ids.ItemId.{ItemId}
+use Rattle.cf_base.specs.declared.ids.Key.{Key}
+use Rattle.cf_base.specs.declared.ids.WaitId.{WaitId}
+use Rattle.cf_base.specs.declared.spans.Span.{Span}
+use Rattle.cf_base.specs.declared.waits.WaitKind.TheVariants as wait_kind
+use Rattle.cf_model.specs.Arrows.{Arrow, each, noted, one, reading, ret, then_do, Preserves}
+use Rattle.cf_model.specs.Requests.{Cancels, Closes, Expires, Live}
+use Rattle.cf_model.specs.Items.{Item}
+use Rattle.cf_model.specs.Missing.{Wait, no_span}
+use Rattle.cf_model.specs.Operations.{done}
+use Rattle.cf_model.specs.Settling.{settle, tell}
+use Rattle.cf_model.specs.State.{Filter, Open, Link}
+use Rattle.cf_model_laws.proofs.OperationsGuarded as operations_keep
+use Rattle.cf_model.specs.Waits.{Need, accessed_now, all_down, answer_now, answer_or_begin, answer_with, at_path, begin, begin_now, begin_tests, begun, but_directory, cancel, cancel_wait, close, close_item, connect, connected_again, disconnected, end_handle, end_now, expire, expire_live, expired_keys, get, get_item, hydrate, hydrate_file, hydrate_item, is_last, is_met_now, list, list_item, need, on_file, on_handle, on_ok, on_open, on_path, opened_by, plain_need, read, read_file, read_item, read_need, refused, still_live, tick, waiting_by, wants_rest, with_time, without_handle}
+use Rattle.cf_model_laws.proofs.Guarded.{GuardedFilter}
+use Rattle.cf_model.proofs.ArrowLaws.{keeps_choose, keeps_each, keeps_noted, keeps_one, keeps_reading, keeps_ret, keeps_then}
+
+pub on_ok_keeps : {X : Type 0} → (l : Link) (tokens : ℕ) (P : Filter → Type 0) → GuardedFilter l tokens P → (x1 : (X → Arrow Filter Shown)) → ((z0_0 : X) → Preserves P (x1 z0_0)) → (x2 : Result X Code) → Preserves P (on_ok x1 x2)
+on_ok_keeps l tokens P closed f f_keeps (Ok x) = f_keeps x
+on_ok_keeps l tokens P closed f f_keeps (Err c) = keeps_ret P (shown.Refused c)
+
+pub on_path_keeps : (l : Link) (tokens : ℕ) (P : Filter → Type 0) → GuardedFilter l tokens P → (x1 : List ℕ) → (x2 : (Item → Arrow Filter Shown)) → ((z1_0 : Item) → Preserves P (x2 z1_0)) → Preserves P (on_path x1 x2)
+on_path_keeps l tokens P closed path f f_keeps = keeps_reading P (at_path path) (on_ok f) (on_ok_keeps l tokens P closed f f_keeps)
+
+pub refused_keeps : (l : Link) (tokens : ℕ) (P : Filter → Type 0) → GuardedFilter l tokens P → (x1 : Code) → Preserves P (refused x1)
+refused_keeps l tokens P closed c = keeps_ret P (shown.Refused c)
+
+pub but_directory_keeps : (l : Link) (tokens : ℕ) (P : Filter → Type 0) → GuardedFilter l tokens P → (x1 : (Item → Arrow Filter Shown)) → ((z0_0 : Item) → Preserves P (x1 z0_0)) → (x2 : Item) → Preserves P (but_directory x1 x2)
+but_directory_keeps l tokens P closed f f_keeps i = keeps_choose P i.directory (refused code.IsDirectory) (f i) (refused_keeps l tokens P closed code.IsDirectory) (f_keeps i)
+
+pub on_file_keeps : (l : Link) (tokens : ℕ) (P : Filter → Type 0) → GuardedFilter l tokens P → (x1 : List ℕ) → (x2 : (Item → Arrow Filter Shown)) → ((z1_0 : Item) → Preserves P (x2 z1_0)) → Preserves P (on_file x1 x2)
+on_file_keeps l tokens P closed path f f_keeps = on_path_keeps l tokens P closed path (but_directory f) (but_directory_keeps l tokens P closed f f_keeps)
+
+pub on_open_keeps : (l : Link) (tokens : ℕ) (P : Filter → Type 0) → GuardedFilter l tokens P → (x1 : (ItemId → Arrow Filter Shown)) → ((z0_0 : ItemId) → Preserves P (x1 z0_0)) → (x2 : Option Open) → Preserves P (on_open x1 x2)
+on_open_keeps l tokens P closed f f_keeps None = refused_keeps l tokens P closed code.NoHandle
+on_open_keeps l tokens P closed f f_keeps (Some o) = f_keeps o.item
+
+pub on_handle_keeps : (l : Link) (tokens : ℕ) (P : Filter → Type 0) → GuardedFilter l tokens P → (x1 : Handle) → (x2 : (ItemId → Arrow Filter Shown)) → ((z1_0 : ItemId) → Preserves P (x2 z1_0)) → Preserves P (on_handle x1 x2)
+on_handle_keeps l tokens P closed h f f_keeps = keeps_reading P (opened_by h) (on_open f) (on_open_keeps l tokens P closed f f_keeps)
+
+pub begin_keeps : (l : Link) (tokens : ℕ) (P : Filter → Type 0) → GuardedFilter l tokens P → (x1 : Need) → Preserves P (begin x1)
+begin_keeps l tokens P closed n = operations_keep.checked_keeps l tokens P closed (begin_tests n) (reading (begun n) (begin_now n)) (closed.begins n)
+
+pub answer_with_keeps : (l : Link) (tokens : ℕ) (P : Filter → Type 0) → GuardedFilter l tokens P → (x1 : Need) → (x2 : Shown) → Preserves P (answer_with x1 x2)
+answer_with_keeps l tokens P closed n answer = keeps_then P (one (accessed_now n)) (ret answer) (keeps_one P (accessed_now n) (closed.keeps_accessed_now n)) (keeps_ret P answer)
+
+pub answer_now_keeps : (l : Link) (tokens : ℕ) (P : Filter → Type 0) → GuardedFilter l tokens P → (x1 : Need) → Preserves P (answer_now x1)
+answer_now_keeps l tokens P closed n = keeps_reading P (end_now n) (answer_with n) (answer_with_keeps l tokens P closed n)
+
+pub answer_or_begin_keeps : (l : Link) (tokens : ℕ) (P : Filter → Type 0) → GuardedFilter l tokens P → (x1 : Need) → (x2 : Bool) → Preserves P (answer_or_begin x1 x2)
+answer_or_begin_keeps l tokens P closed n true = answer_now_keeps l tokens P closed n
+answer_or_begin_keeps l tokens P closed n false = begin_keeps l tokens P closed n
+
+pub need_keeps : (l : Link) (tokens : ℕ) (P : Filter → Type 0) → GuardedFilter l tokens P → (x1 : Need) → Preserves P (need x1)
+need_keeps l tokens P closed n = keeps_reading P (is_met_now n) (answer_or_begin n) (answer_or_begin_keeps l tokens P closed n)
+
+pub read_file_keeps : (l : Link) (tokens : ℕ) (P : Filter → Type 0) → GuardedFilter l tokens P → (x1 : Handle) → (x2 : Span) → (x3 : ItemId) → (x4 : Bool) → Preserves P (read_file x1 x2 x3 x4)
+read_file_keeps l tokens P closed h asked item background = need_keeps l tokens P closed (read_need h asked item background)
+
+pub read_item_keeps : (l : Link) (tokens : ℕ) (P : Filter → Type 0) → GuardedFilter l tokens P → (x1 : Handle) → (x2 : Span) → (x3 : ItemId) → Preserves P (read_item x1 x2 x3)
+read_item_keeps l tokens P closed h asked item = keeps_reading P wants_rest (read_file h asked item) (read_file_keeps l tokens P closed h asked item)
+
+pub read_keeps : (l : Link) (tokens : ℕ) (P : Filter → Type 0) → GuardedFilter l tokens P → (x1 : Handle) → (x2 : Span) → Preserves P (read x1 x2)
+read_keeps l tokens P closed h asked = on_handle_keeps l tokens P closed h (read_item h asked) (read_item_keeps l tokens P closed h asked)
+
+pub get_item_keeps : (l : Link) (tokens : ℕ) (P : Filter → Type 0) → GuardedFilter l tokens P → (x1 : Span) → (x2 : Item) → Preserves P (get_item x1 x2)
+get_item_keeps l tokens P closed asked i = need_keeps l tokens P closed (plain_need wait_kind.Read i.id asked)
+
+pub get_keeps : (l : Link) (tokens : ℕ) (P : Filter → Type 0) → GuardedFilter l tokens P → (x1 : List ℕ) → (x2 : Span) → Preserves P (get x1 x2)
+get_keeps l tokens P closed path asked = on_file_keeps l tokens P closed path (get_item asked) (get_item_keeps l tokens P closed asked)
+
+pub list_item_keeps : (l : Link) (tokens : ℕ) (P : Filter → Type 0) → GuardedFilter l tokens P → (x1 : Item) → Preserves P (list_item x1)
+list_item_keeps l tokens P closed i = keeps_choose P i.directory (need (plain_need wait_kind.List i.id no_span)) (refused code.NotDirectory) (need_keeps l tokens P closed (plain_need wait_kind.List i.id no_span)) (refused_keeps l tokens P closed code.NotDirectory)
+
+pub list_keeps : (l : Link) (tokens : ℕ) (P : Filter → Type 0) → GuardedFilter l tokens P → (x1 : List ℕ) → Preserves P (list x1)
+list_keeps l tokens P closed path = on_path_keeps l tokens P closed path list_item (list_item_keeps l tokens P closed)
+
+pub hydrate_file_keeps : (l : Link) (tokens : ℕ) (P : Filter → Type 0) → GuardedFilter l tokens P → (x1 : ItemId) → Preserves P (hydrate_file x1)
+hydrate_file_keeps l tokens P closed item = need_keeps l tokens P closed (plain_need wait_kind.Hydrate item no_span)
+
+pub hydrate_item_keeps : (l : Link) (tokens : ℕ) (P : Filter → Type 0) → GuardedFilter l tokens P → (x1 : Item) → Preserves P (hydrate_item x1)
+hydrate_item_keeps l tokens P closed i = keeps_choose P i.placeholder (hydrate_file i.id) (refused code.NotPlaceholder) (hydrate_file_keeps l tokens P closed i.id) (refused_keeps l tokens P closed code.NotPlaceholder)
+
+pub hydrate_keeps : (l : Link) (tokens : ℕ) (P : Filter → Type 0) → GuardedFilter l tokens P → (x1 : List ℕ) → Preserves P (hydrate x1)
+hydrate_keeps l tokens P closed path = on_file_keeps l tokens P closed path hydrate_item (hydrate_item_keeps l tokens P closed)
+
+pub cancel_wait_keeps : (l : Link) (tokens : ℕ) (P : Filter → Type 0) → GuardedFilter l tokens P → (x1 : WaitId) → (x2 : Option Wait) → Preserves P (cancel_wait x1 x2)
+cancel_wait_keeps l tokens P closed id None = refused_keeps l tokens P closed code.NoWait
+cancel_wait_keeps l tokens P closed id (Some w) = keeps_then P (settle w.item (Cancels id)) done (closed.settled w.item (Cancels id)) (operations_keep.done_keeps l tokens P closed)
+
+pub cancel_keeps : (l : Link) (tokens : ℕ) (P : Filter → Type 0) → GuardedFilter l tokens P → (x1 : WaitId) → Preserves P (cancel x1)
+cancel_keeps l tokens P closed id = keeps_reading P (waiting_by id) (cancel_wait id) (cancel_wait_keeps l tokens P closed id)
+
+pub end_handle_keeps : (l : Link) (tokens : ℕ) (P : Filter → Type 0) → GuardedFilter l tokens P → (x1 : Handle) → (x2 : ItemId) → (x3 : Bool) → Preserves P (end_handle x1 x2 x3)
+end_handle_keeps l tokens P closed h item last = closed.settled item (Closes h last)
+
+pub close_item_keeps : (l : Link) (tokens : ℕ) (P : Filter → Type 0) → GuardedFilter l tokens P → (x1 : Handle) → (x2 : ItemId) → Preserves P (close_item x1 x2)
+close_item_keeps l tokens P closed h item = keeps_then P (noted (without_handle h)) (then_do (reading (is_last item) (end_handle h item)) done) (keeps_noted P (without_handle h) (closed.keeps_without_handle h)) (keeps_then P (reading (is_last item) (end_handle h item)) done (keeps_reading P (is_last item) (end_handle h item) (end_handle_keeps l tokens P closed h item)) (operations_keep.done_keeps l tokens P closed))
+
+pub close_keeps : (l : Link) (tokens : ℕ) (P : Filter → Type 0) → GuardedFilter l tokens P → (x1 : Handle) → Preserves P (close x1)
+close_keeps l tokens P closed h = on_handle_keeps l tokens P closed h (close_item h) (close_item_keeps l tokens P closed h)
+
+pub expire_live_keeps : (l : Link) (tokens : ℕ) (P : Filter → Type 0) → GuardedFilter l tokens P → (x1 : Key) → (x2 : Option Live) → Preserves P (expire_live x1 x2)
+expire_live_keeps l tokens P closed key None = keeps_ret P (record {})
+expire_live_keeps l tokens P closed key (Some a) = closed.settled a.ask.item (Expires key)
+
+pub expire_keeps : (l : Link) (tokens : ℕ) (P : Filter → Type 0) → GuardedFilter l tokens P → (x1 : Key) → Preserves P (expire x1)
+expire_keeps l tokens P closed key = keeps_reading P (still_live key) (expire_live key) (expire_live_keeps l tokens P closed key)
+
+pub tick_keeps : (l : Link) (tokens : ℕ) (P : Filter → Type 0) → GuardedFilter l tokens P → (x1 : ℕ) → Preserves P (tick x1)
+tick_keeps l tokens P closed n = keeps_then P (noted (with_time n)) (then_do (reading expired_keys (each expire)) done) (keeps_noted P (with_time n) (closed.keeps_with_time n)) (keeps_then P (reading expired_keys (each expire)) done (keeps_reading P expired_keys (each expire) (λ z1. keeps_each P expire z1 (expire_keeps l tokens P closed))) (operations_keep.done_keeps l tokens P closed))
+
+pub connect_keeps : (l : Link) (tokens : ℕ) (P : Filter → Type 0) → GuardedFilter l tokens P → (x1 : Bool) → Preserves P (connect x1)
+connect_keeps l tokens P closed true = keeps_then P (noted connected_again) done (keeps_noted P connected_again (closed.keeps_connected_again)) (operations_keep.done_keeps l tokens P closed)
+connect_keeps l tokens P closed false = keeps_then P (noted disconnected) (then_do (reading all_down tell) done) (keeps_noted P disconnected (closed.keeps_disconnected)) (keeps_then P (reading all_down tell) done closed.downs (operations_keep.done_keeps l tokens P closed))

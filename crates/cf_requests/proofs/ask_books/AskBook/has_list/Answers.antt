@@ -1,7 +1,0 @@
-use Rattle.std.proofs.Common.{ap}
-use Rattle.cf_requests.proofs.AgedAsks.{lists_told}
-use Rattle.cf_requests.specs.Books.{KeptAsks}
-use Rattle.cf_requests.proofs.ask_books.AskBook.has_list.Goals as goal
-
-pub returns : goal.returns
-returns c = lists_told c.self.inside.lists c.self.inside.tick c.self.inside.asks.items c.args.self.now.asks c.self.invariant.list_count (ap (λ (k : KeptAsks). k.asks) c.self.view_is)

@@ -1,8 +1,0 @@
-use Rattle.std.proofs.Common.{◌≡◌, ◌∙◌, sym}
-use Rattle.cf_asks.specs.Sights.{shown}
-use Rattle.cf_requests.proofs.Planning.{cancels}
-use Rattle.cf_requests.proofs.requests.Requests.cancel.Goals as goal
-use Rattle.cf_requests.specs.Told.{wait_of}
-
-pub returns : goal.returns
-returns c = cancels (wait_of c.args.self.now.waits c.args.wait) c.in-Some.item c.args.wait (shown c.args.v.now) c.args.self.now c.step.result c.step.new.self (sym c.in-Some.is ∙ c.wait_item.ensures) c.step.ensures

@@ -1,5 +1,0 @@
-use Rattle.cf_scripted.specs.Turns.{callback_ends, callback_stops}
-use Rattle.cf_scripted.proofs.laws.a_callback_takes_the_plan.Goals as goal
-
-pub returns : goal.returns
-returns c = record { ends = callback_ends; stops = callback_stops }

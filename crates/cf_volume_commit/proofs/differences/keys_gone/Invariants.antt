@@ -1,0 +1,6 @@
+use Rattle.std.proofs.Common.{◌≡◌, ◌++◌, drop}
+use Rattle.cf_volume_commit.specs.Differing.{keys_in}
+use Rattle.cf_volume_commit.proofs.differences.keys_gone.Given as goal
+
+abbrev pub invariant-loop-aux : goal.invariant-loop-aux
+invariant-loop-aux l = l.keys.items ++ keys_in l.then l.now (drop l.aux-index l.noted) ≡ keys_in l.then l.now l.noted

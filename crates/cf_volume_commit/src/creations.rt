@@ -1,0 +1,95 @@
+//! A new volume.
+
+ghost use Rattle.std.specs.Prelude.{◌≡◌, ◌≤◌, ◌+◌, length, All, IfErr, IfOk, OnOk, false, true};
+ghost use Rattle.cf_base.specs.declared.ids.Usn.{Usn};
+ghost use Rattle.cf_volume_commit.specs.Loaded.{first_image, known_of};
+ghost use Rattle.cf_disk.specs.Disk.{size_of, Counts};
+ghost use Rattle.cf_volume_image.specs.Contents.{image_of};
+ghost use Rattle.cf_journal.specs.Content.{clusters, rewritten};
+ghost use Rattle.cf_journal.specs.Settled.{IsFitSize, Settled};
+ghost use Rattle.cf_model.specs.Numbers.{above, no_usn, usn_after};
+ghost use Rattle.cf_model.specs.State.{new_volume};
+ghost use Rattle.cf_volume_points.specs.At.{At};
+ghost use Rattle.cf_volume_points.specs.Runs.{IsStop};
+ghost use Rattle.cf_volume_points.specs.Sound.{Sound};
+ghost use Rattle.cf_volume_points.specs.Standing.{clusters_on};
+ghost use Rattle.cf_table.specs.Changing.{IsNext};
+ghost use Rattle.cf_table.specs.Spelling.{HasRoom};
+
+use crate::openings::{clusters_of_disk, raise};
+use crate::parts::Parts;
+use crate::ranges::has_an_image;
+use cf_base::{Memory, Usn};
+use cf_clusters::Data;
+use cf_disk::Disk;
+use cf_volume_image::{AuxRecords, Contents, spell_image};
+use cf_journal::Journal;
+use cf_volume_points::Stop;
+use cf_table::Rows;
+use std::alloc::Global;
+
+// What a new volume says of its items: there is the root alone.
+fn nothing(alloc: Global) -> Result<Contents, Memory>
+    ensures image { IfOk result (λ c. image_of c ≡ first_image 0) }
+    ensures room { IfOk result (λ c. All HasRoom c.rows.rows) }
+    ensures later { IfOk result (λ c. (n : Usn) → above n no_usn ≡ true → IsNext n c.rows.rows) }
+{
+    let rows = Rows::new(alloc)?;
+    let records = AuxRecords::new(alloc);
+    let contents = Contents {
+        last: Usn { epoch: 0, place: 0 },
+        count: 0,
+        clock: 0,
+        rows,
+        records,
+    };
+    has_an_image(&contents);
+    Ok(contents)
+}
+
+// Formats the disk with an image of these bytes.
+fn format<D: Disk>(disk: &mut D, image: &[u8]) -> Result<Journal, Stop>
+    requires short { length image.now ≤ 1306624 }
+    requires size { IsFitSize (size_of (D.state disk.old)) }
+    ensures ok { IfOk result (λ j. Settled j (D.state disk.new) (rewritten image.now)) }
+    ensures rest { OnOk result (clusters (D.state disk.new).seen ≡ clusters (D.state disk.old).seen) }
+    ensures counts { Counts (32 + length image.now) result (D.state disk.old) (D.state disk.new) }
+    ensures same_size { size_of (D.state disk.new) ≡ size_of (D.state disk.old) }
+    ensures powers { (D.state disk.new).powers ≡ (D.state disk.old).powers }
+    ensures faults { (D.state disk.old).faults ≤ (D.state disk.new).faults }
+    ensures cause { IfErr result (λ e. IsStop e (D.state disk.old) (D.state disk.new)) }
+{
+    match Journal::format(disk, image) {
+        Ok(journal) => Ok(journal),
+        Err(_) => Err(Stop::Device),
+    }
+}
+
+/// Makes an empty volume, whatever the disk held, and opens it: the image is written with epoch 0, and epoch 1 appended.
+/// Device where a call of the disk failed, whose count of faults rose. Memory where there is none.
+pub fn create<D: Disk>(alloc: Global, disk: &mut D) -> Result<Parts, Stop>
+    requires { IsFitSize (size_of (D.state disk.old)) }
+    ensures ok { IfOk result (λ p. At (D.state disk.new) (known_of p) (new_volume (clusters_on (D.state disk.old).seen))) }
+    ensures sound { IfOk result (λ p. Sound (size_of (D.state disk.old)) (known_of p)) }
+    ensures later { IfOk result (λ p. IsNext (usn_after p.contents.last.epoch p.contents.last.place) p.contents.rows.rows) }
+    ensures usable { IfOk result (λ p. p.journal.broken ≡ false) }
+    ensures counts { Counts 201 result (D.state disk.old) (D.state disk.new) }
+    ensures same_size { size_of (D.state disk.new) ≡ size_of (D.state disk.old) }
+    ensures powers { (D.state disk.new).powers ≡ (D.state disk.old).powers }
+    ensures faults { (D.state disk.old).faults ≤ (D.state disk.new).faults }
+    ensures cause { IfErr result (λ e. IsStop e (D.state disk.old) (D.state disk.new)) }
+{
+    let clusters = clusters_of_disk(disk);
+    let contents = nothing(alloc)?;
+    let held = Data::new(alloc, clusters, &[])?;
+    let image = spell_image(alloc, &contents)?;
+    let journal = format(disk, image.as_slice())?;
+    let mut parts = Parts {
+        journal,
+        held,
+        contents,
+    };
+    parts.contents.last = Usn { epoch: 1, place: 0 };
+    raise(alloc, disk, &mut parts)?;
+    Ok(parts)
+}

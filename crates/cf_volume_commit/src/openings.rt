@@ -1,0 +1,246 @@
+//! Openings.
+
+ghost use Rattle.std.specs.Prelude.{◌≡◌, ◌≤◌, ◌<◌, ◌+◌, [], ◌++◌, ◌⊎◌, ℕ, List, Some, None, map, All, false, Err, IfErr, IfOk, IsOk, OnOk};
+ghost use Rattle.cf_base.specs.declared.changes.Change.{Change};
+ghost use Rattle.cf_base.specs.declared.codes.Code.TheVariants as code;
+ghost use Rattle.cf_base.specs.declared.codes.Fail.TheVariants as fail;
+ghost use Rattle.cf_base.specs.declared.ids.Usn.{Usn};
+ghost use Rattle.cf_volume_commit.specs.Leading.{CanBeWritten, bytes_written};
+ghost use Rattle.cf_volume_commit.specs.Loaded.{Finds, HoldsImage, StandsOrWas, StandsThen, fail_of, known_of, number_after, raised_image};
+ghost use Rattle.cf_clusters.specs.Roles.{Opens, committed};
+ghost use Rattle.cf_disk.specs.Disk.{size_of, capped, Counts, Only, Leaves};
+ghost use Rattle.cf_volume_image.specs.ClusterLists.{clusters_in};
+ghost use Rattle.cf_volume_image.specs.Contents.{image_of, payload_of};
+ghost use Rattle.cf_volume_image.specs.Sound.{IsSound};
+ghost use Rattle.cf_volume_image.specs.Spelled.{AreRecordsFrom};
+ghost use Rattle.cf_volume_image.specs.States.{IsContents};
+ghost use Rattle.cf_journal.specs.Content.{Content, Stands, clusters};
+ghost use Rattle.cf_journal.specs.Settled.{IsFitSize, Settled};
+ghost use Rattle.cf_journal.specs.Steps.{ReadsOnly};
+ghost use Rattle.cf_model.specs.Books.{Book};
+ghost use Rattle.cf_model.specs.Formats.{Image, spell_image, spell_payload};
+ghost use Rattle.cf_model.specs.Numbers.{most, usn_after};
+ghost use Rattle.cf_model.specs.Standing.{clusters_of};
+ghost use Rattle.cf_volume_points.specs.At.{At};
+ghost use Rattle.cf_volume_points.specs.Runs.{IsStop};
+ghost use Rattle.cf_volume_points.specs.Saving.{IsSaving, Saved};
+ghost use Rattle.cf_volume_points.specs.Sound.{Sound};
+ghost use Rattle.cf_volume_points.specs.Standing.{Standing, clusters_on, opened};
+ghost use Rattle.cf_volume_points.specs.declared.stops.Stop.TheVariants as stop;
+ghost use Rattle.cf_table.specs.Changing.{IsNext};
+ghost use Rattle.cf_table.specs.Spelling.{HasRoom, row_value};
+ghost use Rattle.cf_table.specs.Tables.{AreTableRows, RisesFrom};
+
+use crate::parts::Parts;
+use crate::ranges::has_an_image;
+use crate::texts::put_text;
+use cf_base::{Code, Fail, Memory, Usn};
+use cf_clusters::Data;
+use cf_disk::Disk;
+use cf_volume_image::{Contents, ImageFail, read_contents, spell_payload};
+use cf_journal::{Journal, JournalFail, Opened, one_content};
+use cf_volume_points::Stop;
+use cf_table::Row;
+use std::alloc::Global;
+
+fn refused(why: JournalFail) -> Fail
+    ensures { result ≡ fail_of why }
+{
+    match why {
+        JournalFail::Failed => Fail::No(Code::Device),
+        JournalFail::NotAVolume => Fail::No(Code::NotAVolume),
+        JournalFail::Broken => Fail::No(Code::Broken),
+        JournalFail::Memory => Fail::Memory,
+    }
+}
+
+// The contents that the opened journal tells.
+fn contents_of(alloc: Global, opened: &Opened, clusters: u32) -> Result<Contents, Fail>
+    ensures ok { IfOk result (λ c. IsContents opened.now.image opened.now.payloads clusters (image_of c)) }
+    ensures room { IfOk result (λ c. All HasRoom c.rows.rows) }
+    ensures none { result ≡ Err (fail.No code.NotAVolume) → (i : Image) → IsContents opened.now.image opened.now.payloads clusters i → ⊥ }
+    ensures only { IfErr result (λ e. (e ≡ fail.No code.NotAVolume) ⊎ (e ≡ fail.Memory)) }
+{
+    match read_contents(
+        alloc,
+        opened.image.as_slice(),
+        opened.payloads.as_slice(),
+        clusters,
+    ) {
+        Ok(contents) => Ok(contents),
+        Err(ImageFail::NotAVolume) => Err(Fail::No(Code::NotAVolume)),
+        Err(ImageFail::Memory) => Err(Fail::Memory),
+    }
+}
+
+fn push_clusters(clusters: &mut Vec<u32>, pairs: &[(u32, u32)]) -> Result<(), Memory>
+    ensures { OnOk result (clusters.new.items ≡ clusters.old.items ++ clusters_in pairs.now) }
+{
+    for pair in pairs {
+        clusters.push(pair.1)?;
+    }
+    Ok(())
+}
+
+fn clusters_held(alloc: Global, rows: &[Row]) -> Result<Vec<u32>, Memory>
+    ensures { IfOk result (λ v. v.items ≡ clusters_of (map row_value rows.now)) }
+{
+    let mut clusters = Vec::new(alloc);
+    for row in rows {
+        push_clusters(&mut clusters, row.extents.pairs())?;
+    }
+    Ok(clusters)
+}
+
+// The clusters, those of the rows held.
+fn data_of(alloc: Global, contents: &Contents, clusters: u32) -> Result<Data, Memory>
+    requires { IsSound clusters (image_of contents.now) }
+    ensures { IfOk result (Opens clusters (clusters_of (map row_value contents.now.rows.rows))) }
+{
+    let held = clusters_held(alloc, contents.rows.as_slice())?;
+    Data::new(alloc, clusters, &held)
+}
+
+// Appends a payload of the header alone, or writes the whole image, and commits the clusters.
+pub(crate) fn raise<D: Disk>(alloc: Global, disk: &mut D, parts: &mut Parts) -> Result<(), Stop>
+    requires size { IsFitSize (size_of (D.state disk.old)) }
+    requires usable { parts.old.journal.broken ≡ false }
+    requires written { CanBeWritten parts.old.contents }
+    ensures contents { parts.new.contents ≡ parts.old.contents }
+    ensures rise { RisesFrom 0 parts.old.contents.rows.rows }
+    ensures kept { AreTableRows parts.old.contents.rows.rows }
+    ensures keys_rise { AreRecordsFrom None parts.old.contents.records }
+    ensures saved { (x : Content) (image : Image) → StandsThen parts.old (D.state disk.old) x image → OnOk result (Saved parts.new.journal (D.state disk.new) (image_of parts.old.contents)) }
+    ensures crash { (x : Content) (image : Image) → StandsThen parts.old (D.state disk.old) x image
+        → Leaves (D.state disk.old) (D.state disk.new) (IsSaving (D.state disk.old) x (image_of parts.old.contents)) }
+    ensures held { OnOk result (parts.new.held ≡ map committed parts.old.held) }
+    ensures durable { OnOk result (Only (D.state disk.new).seen (D.state disk.new)) }
+    ensures rest { OnOk result (clusters (D.state disk.new).seen ≡ clusters (D.state disk.old).seen) }
+    ensures counts { Counts (bytes_written parts.old.journal (Some (spell_payload (payload_of parts.old.contents [] [] [] []))) (spell_image (image_of parts.old.contents))) result (D.state disk.old) (D.state disk.new) }
+    ensures same_size { size_of (D.state disk.new) ≡ size_of (D.state disk.old) }
+    ensures powers { (D.state disk.new).powers ≡ (D.state disk.old).powers }
+    ensures faults { (D.state disk.old).faults ≤ (D.state disk.new).faults }
+    ensures cause { IfErr result (λ e. IsStop e (D.state disk.old) (D.state disk.new)) }
+    ensures memory { result ≡ Err stop.Memory → disk.new ≡ disk.old }
+    ensures usable { OnOk result (parts.new.journal.broken ≡ false) }
+{
+    has_an_image(&parts.contents);
+    let payload = spell_payload(alloc, &parts.contents, &[], &[], &[], &[])?;
+    let text = Some(payload);
+    put_text(alloc, disk, &mut parts.journal, &parts.contents, &text)?;
+    parts.held.committed();
+    Ok(())
+}
+
+// The number before the first one of the next epoch; none after the last epoch.
+fn number_after(epoch: u32) -> Result<Usn, Fail>
+    ensures ok { IfOk result (λ n. n ≡ number_after epoch) }
+    ensures fits { IfOk result (λ n. epoch < most) }
+    ensures last { IfErr result (λ e. (e ≡ fail.No code.Exhausted) × (epoch ≡ most)) }
+{
+    if epoch == u32::MAX {
+        return Err(Fail::No(Code::Exhausted));
+    }
+    Ok(Usn {
+        epoch: epoch + 1,
+        place: 0,
+    })
+}
+
+// How many clusters the disk has behind the journal's halves.
+pub(crate) fn clusters_of_disk<D: Disk>(disk: &D) -> u32
+    requires { IsFitSize (size_of (D.state disk.now)) }
+    ensures { result ≡ clusters_on (D.state disk.now).seen }
+{
+    ((disk.size() - 3_145_728) / 4096) as u32
+}
+
+// The parts of an opened journal, with the epoch raised in the contents and not yet on the disk.
+fn parts_of(alloc: Global, opened: Opened, clusters: u32) -> Result<Parts, Fail>
+    ensures journal { IfOk result (λ p. p.journal ≡ opened.journal) }
+    ensures image { IfOk result (λ p. (i : Image) × IsContents opened.image opened.payloads clusters i × (i.header.last.epoch < most) × (image_of p.contents ≡ raised_image i.header.last.epoch i)) }
+    ensures room { IfOk result (λ p. All HasRoom p.contents.rows.rows) }
+    ensures held { IfOk result (λ p. Opens clusters (clusters_of (map row_value p.contents.rows.rows)) p.held) }
+    ensures none { result ≡ Err (fail.No code.NotAVolume) → (i : Image) → IsContents opened.image opened.payloads clusters i → ⊥ }
+    ensures last { result ≡ Err (fail.No code.Exhausted) → (i : Image) × IsContents opened.image opened.payloads clusters i × (i.header.last.epoch ≡ most) }
+    ensures only { IfErr result (λ e. (e ≡ fail.No code.NotAVolume) ⊎ ((e ≡ fail.No code.Exhausted) ⊎ (e ≡ fail.Memory))) }
+{
+    let mut contents = contents_of(alloc, &opened, clusters)?;
+    let last = number_after(contents.last.epoch)?;
+    let held = data_of(alloc, &contents, clusters)?;
+    contents.last = last;
+    Ok(Parts {
+        journal: opened.journal,
+        held,
+        contents,
+    })
+}
+
+// Opens the journal, which only reads.
+fn open_journal<D: Disk>(alloc: Global, disk: &mut D) -> Result<Opened, Fail>
+    requires { IsFitSize (size_of (D.state disk.old)) }
+    ensures found { IfOk result (λ o. Settled o.journal (D.state disk.new) (record { image = o.image; payloads = o.payloads })) }
+    ensures none { result ≡ Err (fail.No code.NotAVolume) → (x : Content) → Stands (D.state disk.old).seen x → ⊥ }
+    ensures durable { OnOk result (Only (D.state disk.old).seen (D.state disk.new)) }
+    ensures reads { ReadsOnly (D.state disk.old) (D.state disk.new) }
+    ensures cause { result ≡ Err (fail.No code.Device) → capped ((D.state disk.old).faults + 1) ≤ (D.state disk.new).faults }
+    ensures only { IfErr result (λ e. (e ≡ fail.No code.NotAVolume) ⊎ ((e ≡ fail.No code.Device) ⊎ (e ≡ fail.Memory))) }
+{
+    match Journal::open(alloc, disk) {
+        Ok(opened) => Ok(opened),
+        Err(why) => Err(refused(why)),
+    }
+}
+
+// Finds what the disk holds, and only reads: the epoch is raised in the parts and not yet on the disk.
+fn find<D: Disk>(alloc: Global, disk: &mut D) -> Result<Parts, Fail>
+    requires { IsFitSize (size_of (D.state disk.old)) }
+    ensures found { IfOk result (λ p. (x : Content) × Finds (D.state disk.old) (D.state disk.new) x p) }
+    ensures none { result ≡ Err (fail.No code.NotAVolume) → (i : Image) → HoldsImage (D.state disk.old).seen i → ⊥ }
+    ensures last { result ≡ Err (fail.No code.Exhausted) → (i : Image) × HoldsImage (D.state disk.old).seen i × (i.header.last.epoch ≡ most) }
+    ensures reads { ReadsOnly (D.state disk.old) (D.state disk.new) }
+    ensures cause { result ≡ Err (fail.No code.Device) → capped ((D.state disk.old).faults + 1) ≤ (D.state disk.new).faults }
+    ensures only { IfErr result (λ e. (e ≡ fail.No code.NotAVolume) ⊎ ((e ≡ fail.No code.Exhausted) ⊎ ((e ≡ fail.No code.Device) ⊎ (e ≡ fail.Memory)))) }
+{
+    one_content();
+    let clusters = clusters_of_disk(disk);
+    let opened = open_journal(alloc, disk)?;
+    parts_of(alloc, opened, clusters)
+}
+
+/// Opens the volume on the disk and raises its epoch by one, which is appended to the journal, or else a whole image is
+/// written. NotAVolume exactly where the disk holds no image of a volume, and Exhausted exactly where it holds one of the
+/// last epoch; both before anything is written. Device where a call of the disk failed, whose count of faults rose. Memory
+/// where there is none.
+///
+/// A crash at any moment leaves what it might have left before, or the same changes and book, with the epoch as it was or
+/// raised.
+pub fn load<D: Disk>(alloc: Global, disk: &mut D) -> Result<Parts, Fail>
+    requires { IsFitSize (size_of (D.state disk.old)) }
+    ensures ok { (e : ℕ) (log : List (Usn × Change)) (b : Book) → Standing e (D.state disk.old).seen log b
+        → IfOk result (λ p. At (D.state disk.new) (known_of p) (opened (e + 1) log b (clusters_on (D.state disk.old).seen))) }
+    ensures found { IfOk result (λ p. (i : Image) × HoldsImage (D.state disk.old).seen i × (i.header.last.epoch < most) × (image_of p.contents ≡ raised_image i.header.last.epoch i)) }
+    ensures absent { result ≡ Err (fail.No code.NotAVolume) → (i : Image) → HoldsImage (D.state disk.old).seen i → ⊥ }
+    ensures exhausted { result ≡ Err (fail.No code.Exhausted) → (i : Image) × HoldsImage (D.state disk.old).seen i × (i.header.last.epoch ≡ most) }
+    ensures unwritten { (result ≡ Err (fail.No code.NotAVolume)) ⊎ (result ≡ Err (fail.No code.Exhausted)) → ReadsOnly (D.state disk.old) (D.state disk.new) }
+    ensures none { result ≡ Err (fail.No code.NotAVolume) → (e : ℕ) (log : List (Usn × Change)) (b : Book) → Standing e (D.state disk.old).seen log b → ⊥ }
+    ensures last { (e : ℕ) (log : List (Usn × Change)) (b : Book) → Standing e (D.state disk.old).seen log b → (result ≡ Err (fail.No code.Exhausted) → e ≡ most) × (IsOk result → e < most) }
+    ensures crash { (e : ℕ) (log : List (Usn × Change)) (b : Book) → Standing e (D.state disk.old).seen log b
+        → Leaves (D.state disk.old) (D.state disk.new) (StandsOrWas e log b (D.state disk.old)) }
+    ensures sound { IfOk result (λ p. Sound (size_of (D.state disk.old)) (known_of p)) }
+    ensures later { IfOk result (λ p. IsNext (usn_after p.contents.last.epoch p.contents.last.place) p.contents.rows.rows) }
+    ensures usable { IfOk result (λ p. p.journal.broken ≡ false) }
+    ensures same_size { size_of (D.state disk.new) ≡ size_of (D.state disk.old) }
+    ensures powers { (D.state disk.new).powers ≡ (D.state disk.old).powers }
+    ensures faults { (D.state disk.old).faults ≤ (D.state disk.new).faults }
+    ensures cause { result ≡ Err (fail.No code.Device) → capped ((D.state disk.old).faults + 1) ≤ (D.state disk.new).faults }
+    ensures only { IfErr result (λ e. (e ≡ fail.No code.NotAVolume) ⊎ ((e ≡ fail.No code.Exhausted) ⊎ ((e ≡ fail.No code.Device) ⊎ (e ≡ fail.Memory)))) }
+{
+    one_content();
+    let mut parts = find(alloc, disk)?;
+    match raise(alloc, disk, &mut parts) {
+        Ok(()) => Ok(parts),
+        Err(Stop::Device) => Err(Fail::No(Code::Device)),
+        Err(Stop::Memory) => Err(Fail::Memory),
+    }
+}

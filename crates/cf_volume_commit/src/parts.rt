@@ -1,0 +1,13 @@
+//! The parts of a volume.
+
+use cf_clusters::Data;
+use cf_volume_image::Contents;
+use cf_journal::Journal;
+
+/// A volume that was just made or opened, in parts. They go with the disk on which it was.
+#[derive(Debug, Drop)]
+pub struct Parts {
+    pub journal: Journal,
+    pub held: Data,
+    pub contents: Contents,
+}

@@ -1,0 +1,84 @@
+//! Images: all that a volume says.
+
+ghost use Rattle.std.specs.Prelude.{◌≡◌, ◌<◌, ◌^◌, ◌++◌, ◌∷◌, [], List, None, IfOk, IfErr, OnOk, All, length, map};
+ghost use Rattle.cf_codec.specs.Left.{Takes};
+ghost use Rattle.cf_model.specs.Formats.{Image, spell_header, spell_image};
+ghost use Rattle.cf_table.specs.Spelling.{HasRoom};
+ghost use Rattle.cf_volume_image.specs.Contents.{header_of, image_of};
+ghost use Rattle.cf_volume_image.specs.Faults.{AtFormat, AtImage};
+ghost use Rattle.cf_volume_image.specs.Spelled.{IsImage};
+ghost use Rattle.cf_volume_image.specs.declared.failures.ImageFail.TheVariants.{NotAVolume};
+
+use crate::contents::Contents;
+use crate::failures::ImageFail;
+use crate::part_reads::{read_header, read_records};
+use crate::part_writes::{put_header, put_records};
+use cf_base::{Blob, Memory};
+use cf_codec::{Reader, Writer};
+use cf_table::plain_fields::{place_of, read_1};
+use cf_table::{RowFail, Rows};
+use std::alloc::Global;
+
+/// The number of the format.
+const FORMAT: u8 = 2;
+
+/// Spells what the contents say. Of 4,294,967,296 rows or records and more only the last four bytes of the count are
+/// spelled. The rows need names, identities and sets that have room in a spelling, as those that were read do.
+pub fn spell_image(alloc: Global, contents: &Contents) -> Result<Blob, Memory>
+    requires { All HasRoom contents.now.rows.rows }
+    ensures { IfOk result (λ b. b ≡ spell_image (image_of contents.now)) }
+{
+    let rows = contents.rows.spell()?;
+    let mut out = Writer::new(alloc);
+    out.put_u8(FORMAT)?;
+    put_header(&mut out, contents)?;
+    out.put_bytes(rows.as_slice())?;
+    put_records(&mut out, contents.records.as_slice())?;
+    Ok(out.into_blob())
+}
+
+fn read_format(r: &mut Reader) -> Result<(), RowFail>
+    ensures took { OnOk result (Takes (2 ∷ []) r.old r.new) }
+    ensures fault { IfErr result (AtFormat r.old) }
+{
+    let place = place_of(r);
+    let format = read_1(r)?;
+    if format == FORMAT {
+        Ok(())
+    } else {
+        Err(RowFail::BadField(place))
+    }
+}
+
+fn image_in(alloc: Global, r: &mut Reader) -> Result<Contents, RowFail>
+    ensures took { IfOk result (λ c. r.old.rest ≡ spell_image (image_of c)) }
+    ensures fits { IfOk result (λ c. IsImage (image_of c)) }
+    ensures room { IfOk result (λ c. All HasRoom c.rows.rows) }
+    ensures fault { IfErr result (AtImage r.old) }
+{
+    read_format(r)?;
+    let header = read_header(r)?;
+    let rows = Rows::read_front(alloc, r, header.next)?;
+    let records = read_records(alloc, r)?;
+    r.end()?;
+    Ok(Contents {
+        last: header.last,
+        count: header.count,
+        clock: header.clock,
+        rows,
+        records,
+    })
+}
+
+/// Reads what `spell_image` writes. NotAVolume exactly where the bytes spell no image: a field lacks bytes or has a value
+/// that is not spelled, ids or keys do not rise, or bytes are left over. An image that is read need not be that of a volume;
+/// `read_contents` tests that. Memory where there is none.
+pub fn read_image(alloc: Global, b: &[u8]) -> Result<Contents, ImageFail>
+    ensures spelled { IfOk result (λ c. b.now ≡ spell_image (image_of c)) }
+    ensures fits { IfOk result (λ c. IsImage (image_of c)) }
+    ensures room { IfOk result (λ c. All HasRoom c.rows.rows) }
+    ensures none { IfErr result (λ e. e ≡ NotAVolume → (i : Image) → IsImage i → b.now ≡ spell_image i → ⊥) }
+{
+    let mut r = Reader::new(b);
+    Ok(image_in(alloc, &mut r)?)
+}

@@ -1,0 +1,278 @@
+//! Payloads: what changed since the last point.
+
+ghost use Rattle.std.specs.Prelude.{◌≡◌, ◌≤◌, ◌<◌, ◌^◌, ◌++◌, ◌∷◌, [], List, None, IfOk, IfErr, OnOk, OnErr, All, length, map};
+ghost use Rattle.std.specs.List.{flat_map};
+ghost use Rattle.cf_codec.specs.Left.{Takes};
+ghost use Rattle.cf_model.specs.Formats.{Payload, after_payload, with_records, with_rows, spell_header, spell_id, spell_key, spell_payload, spell_record, spell_records, spell_rows};
+ghost use Rattle.cf_model.specs.Rows.{spell_row};
+ghost use Rattle.cf_model.specs.Words.{in_bytes};
+ghost use Rattle.cf_table.specs.Spelling.{HasRoom, row_value};
+ghost use Rattle.cf_table.specs.Tables.{RisesFrom};
+ghost use Rattle.cf_volume_image.specs.Contents.{changes_of, header_of, image_of, one_record, one_row, payload_of, records_at, rows_at};
+ghost use Rattle.cf_volume_image.specs.Faults.{AtPayload};
+ghost use Rattle.cf_volume_image.specs.RecordLists.{IsShort};
+ghost use Rattle.cf_volume_image.specs.Spelled.{IsPayload};
+ghost use Rattle.cf_volume_image.specs.States.{IsAfter, without_records, without_rows};
+ghost use Rattle.cf_volume_image.specs.declared.failures.ImageFail.TheVariants.{NotAVolume};
+
+use crate::contents::Contents;
+use crate::failures::ImageFail;
+use crate::part_reads::{Header, read_header, read_ids, read_keys, read_records};
+use crate::part_writes::{put_count, put_header, put_key, put_record};
+use crate::records::AuxRecords;
+use cf_base::{AuxRecord, Blob, ItemId, Memory};
+use cf_codec::{Reader, Writer};
+use cf_table::plain_fields::{put_4, put_8};
+use cf_table::{Row, RowFail, Rows};
+use std::alloc::Global;
+
+fn put_ids(out: &mut Writer, ids: &[ItemId]) -> Result<(), Memory>
+    ensures { OnOk result (out.new ≡ out.old ++ flat_map spell_id ids.now) }
+{
+    for id in ids {
+        put_8(out, id.0)?;
+    }
+    Ok(())
+}
+
+fn put_keys(out: &mut Writer, keys: &[Blob]) -> Result<(), Memory>
+    requires { All (λ k. length k < 2 ^ 8) keys.now }
+    ensures { OnOk result (out.new ≡ out.old ++ flat_map spell_key keys.now) }
+{
+    for key in keys {
+        put_key(out, key.as_slice())?;
+    }
+    Ok(())
+}
+
+// The row with the id, if it is there. Gives how many that are.
+fn put_row(out: &mut Writer, rows: &Rows, id: ItemId) -> Result<u32, Memory>
+    requires { All HasRoom rows.now.rows }
+    ensures spelled { OnOk result (out.new ≡ out.old ++ flat_map spell_row (one_row (map row_value rows.now.rows) id)) }
+    ensures count { IfOk result (λ n. n ≡ length (one_row (map row_value rows.now.rows) id)) }
+    ensures small { IfOk result (λ n. n ≤ 1) }
+{
+    match rows.get(id) {
+        None => Ok(0),
+        Some(row) => {
+            row.spell(out)?;
+            Ok(1)
+        }
+    }
+}
+
+fn put_each_row(out: &mut Writer, rows: &Rows, ids: &[ItemId]) -> Result<u32, Memory>
+    requires rows { All HasRoom rows.now.rows }
+    requires count { length ids.now < 2 ^ 32 }
+    ensures spelled { OnOk result (out.new ≡ out.old ++ flat_map spell_row (rows_at (map row_value rows.now.rows) ids.now)) }
+    ensures count { IfOk result (λ n. n ≡ length (rows_at (map row_value rows.now.rows) ids.now)) }
+{
+    let mut count = 0;
+    for id in ids {
+        let more = put_row(out, rows, *id)?;
+        count += more;
+    }
+    Ok(count)
+}
+
+// The record with the key, if it is there. Gives how many that are.
+fn put_one(out: &mut Writer, records: &AuxRecords, key: &[u8]) -> Result<u32, Memory>
+    ensures spelled { OnOk result (out.new ≡ out.old ++ flat_map spell_record (one_record records.now key.now)) }
+    ensures count { IfOk result (λ n. n ≡ length (one_record records.now key.now)) }
+    ensures small { IfOk result (λ n. n ≤ 1) }
+{
+    // They stand in order of key.
+    let _ = records.as_slice();
+    match records.get(key) {
+        None => Ok(0),
+        Some(aux) => {
+            put_record(out, aux)?;
+            Ok(1)
+        }
+    }
+}
+
+fn put_each_record(out: &mut Writer, records: &AuxRecords, keys: &[Blob]) -> Result<u32, Memory>
+    requires { length keys.now < 2 ^ 32 }
+    ensures spelled { OnOk result (out.new ≡ out.old ++ flat_map spell_record (records_at records.now keys.now)) }
+    ensures count { IfOk result (λ n. n ≡ length (records_at records.now keys.now)) }
+{
+    let mut count = 0;
+    for key in keys {
+        let more = put_one(out, records, key.as_slice())?;
+        count += more;
+    }
+    Ok(count)
+}
+
+fn put_rows(alloc: Global, out: &mut Writer, rows: &Rows, ids: &[ItemId]) -> Result<(), Memory>
+    requires rows { All HasRoom rows.now.rows }
+    requires count { length ids.now < 2 ^ 32 }
+    ensures { OnOk result (out.new ≡ out.old ++ spell_rows (rows_at (map row_value rows.now.rows) ids.now)) }
+{
+    let mut body = Writer::new(alloc);
+    let count = put_each_row(&mut body, rows, ids)?;
+    put_4(out, count)?;
+    out.put_bytes(body.into_blob().as_slice())
+}
+
+fn put_records(
+    alloc: Global,
+    out: &mut Writer,
+    records: &AuxRecords,
+    keys: &[Blob],
+) -> Result<(), Memory>
+    requires { length keys.now < 2 ^ 32 }
+    ensures { OnOk result (out.new ≡ out.old ++ spell_records (records_at records.now keys.now)) }
+{
+    let mut body = Writer::new(alloc);
+    let count = put_each_record(&mut body, records, keys)?;
+    put_4(out, count)?;
+    out.put_bytes(body.into_blob().as_slice())
+}
+
+/// Spells what changed: the header now, the ids of rows that were removed, the rows with the ids of `changed` that are
+/// there, the keys of records that were removed, and the records with the keys of `changed_keys` that are there. Each list
+/// has fewer than 4,294,967,296, and a removed key has at most 255 bytes. A payload that is to be read again has lists that
+/// rise.
+pub fn spell_payload(
+    alloc: Global,
+    contents: &Contents,
+    removed: &[ItemId],
+    changed: &[ItemId],
+    removed_keys: &[Blob],
+    changed_keys: &[Blob],
+) -> Result<Blob, Memory>
+    requires rows { All HasRoom contents.now.rows.rows }
+    requires changed { length changed.now < 2 ^ 32 }
+    requires changed_keys { length changed_keys.now < 2 ^ 32 }
+    requires keys { All (λ k. length k < 2 ^ 8) removed_keys.now }
+    ensures { IfOk result (λ b. b ≡ spell_payload (payload_of contents.now removed.now changed.now removed_keys.now changed_keys.now)) }
+{
+    let mut out = Writer::new(alloc);
+    put_header(&mut out, contents)?;
+    put_count(&mut out, removed.len())?;
+    put_ids(&mut out, removed)?;
+    put_rows(alloc, &mut out, &contents.rows, changed)?;
+    put_count(&mut out, removed_keys.len())?;
+    put_keys(&mut out, removed_keys)?;
+    put_records(alloc, &mut out, &contents.records, changed_keys)?;
+    Ok(out.into_blob())
+}
+
+/// A payload as it is read.
+#[derive(Drop)]
+pub(crate) struct Changes {
+    header: Header,
+    removed: Vec<ItemId>,
+    rows: Rows,
+    removed_keys: Vec<Blob>,
+    records: AuxRecords,
+}
+
+fn changes_in(alloc: Global, r: &mut Reader) -> Result<Changes, RowFail>
+    ensures took { IfOk result (λ c. r.old.rest ≡ spell_payload (changes_of c)) }
+    ensures fits { IfOk result (λ c. IsPayload (changes_of c)) }
+    ensures fault { IfErr result (AtPayload r.old) }
+{
+    let header = read_header(r)?;
+    let removed = read_ids(alloc, r)?;
+    let rows = Rows::read_front(alloc, r, header.next)?;
+    let removed_keys = read_keys(alloc, r)?;
+    let records = read_records(alloc, r)?;
+    r.end()?;
+    Ok(Changes {
+        header,
+        removed,
+        rows,
+        removed_keys,
+        records,
+    })
+}
+
+fn read_changes(alloc: Global, b: &[u8]) -> Result<Changes, ImageFail>
+    ensures spelled { IfOk result (λ c. b.now ≡ spell_payload (changes_of c)) }
+    ensures fits { IfOk result (λ c. IsPayload (changes_of c)) }
+    ensures none { IfErr result (λ e. e ≡ NotAVolume → (p : Payload) → IsPayload p → b.now ≡ spell_payload p → ⊥) }
+{
+    let mut r = Reader::new(b);
+    Ok(changes_in(alloc, &mut r)?)
+}
+
+fn remove_rows(rows: &mut Rows, ids: &[ItemId])
+    ensures rows { map row_value rows.new.rows ≡ without_rows ids.now (map row_value rows.old.rows) }
+    ensures next { rows.new.next ≡ rows.old.next }
+{
+    for id in ids {
+        rows.remove_row(*id);
+    }
+}
+
+fn add_rows(rows: &mut Rows, more: &[Row]) -> Result<(), Memory>
+    requires { All HasRoom more.now }
+    ensures rows { OnOk result (map row_value rows.new.rows ≡ with_rows (map row_value more.now) (map row_value rows.old.rows)) }
+    ensures next { OnOk result (rows.new.next ≡ rows.old.next) }
+{
+    // They stand in order of id.
+    let _ = rows.as_slice();
+    for row in more {
+        let copy = row.copy()?;
+        rows.put_row(copy)?;
+    }
+    Ok(())
+}
+
+fn remove_records(records: &mut AuxRecords, keys: &[Blob])
+    ensures { records.new ≡ without_records keys.now records.old }
+{
+    for key in keys {
+        records.remove(key.as_slice());
+    }
+}
+
+fn copy_of(aux: &AuxRecord) -> Result<AuxRecord, Memory>
+    ensures { IfOk result (λ r. r ≡ aux.now) }
+{
+    Ok(AuxRecord {
+        key: aux.key.copy()?,
+        value: aux.value.copy()?,
+    })
+}
+
+fn add_records(records: &mut AuxRecords, more: &[AuxRecord]) -> Result<(), Memory>
+    requires { All IsShort more.now }
+    ensures { OnOk result (records.new ≡ with_records more.now records.old) }
+{
+    for aux in more {
+        let copy = copy_of(aux)?;
+        records.put(copy)?;
+    }
+    Ok(())
+}
+
+fn apply(contents: &mut Contents, changes: Changes) -> Result<(), Memory>
+    requires { IsPayload (changes_of changes) }
+    ensures { OnOk result (image_of contents.new ≡ after_payload (image_of contents.old) (changes_of changes)) }
+{
+    let header = changes.header;
+    remove_rows(&mut contents.rows, &changes.removed);
+    add_rows(&mut contents.rows, changes.rows.as_slice())?;
+    remove_records(&mut contents.records, &changes.removed_keys);
+    add_records(&mut contents.records, changes.records.as_slice())?;
+    contents.rows.set_next(header.next);
+    contents.last = header.last;
+    contents.count = header.count;
+    contents.clock = header.clock;
+    Ok(())
+}
+
+/// Applies a payload: removals come first. NotAVolume where the bytes spell none, and then nothing changes. Without memory
+/// the contents are lost.
+pub fn apply_payload(alloc: Global, contents: &mut Contents, b: &[u8]) -> Result<(), ImageFail>
+    ensures ok { OnOk result (IsAfter b.now (image_of contents.old) (image_of contents.new)) }
+    ensures none { IfErr result (λ e. e ≡ NotAVolume → (p : Payload) → IsPayload p → b.now ≡ spell_payload p → ⊥) }
+    ensures unchanged { IfErr result (λ e. e ≡ NotAVolume → contents.new ≡ contents.old) }
+{
+    let changes = read_changes(alloc, b)?;
+    Ok(apply(contents, changes)?)
+}

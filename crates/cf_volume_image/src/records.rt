@@ -1,0 +1,107 @@
+//! The auxiliary records of a volume.
+
+ghost use Rattle.std.specs.Prelude.{◌≡◌, ◌<◌, ◌^◌, [], List, None, MatchOption, OnOk, OnErr, IfOk, find, length, min, option_copied, true};
+ghost use Rattle.cf_model.specs.Formats.{with_record, without_record};
+ghost use Rattle.cf_volume_image.specs.Contents.{record_at};
+ghost use Rattle.cf_volume_image.specs.RecordLists.{IsShort, comes_after, records_len};
+ghost use Rattle.cf_volume_image.specs.Spelled.{AreRecordsFrom};
+
+use crate::record_lists::{find_after, find_record, len_of_all, put_record, remove_record};
+use cf_base::{AuxRecord, Memory};
+use std::alloc::Global;
+use std::marker::Model;
+
+/// The auxiliary records of a volume, each under a key of its own. Contracts see them in order of key.
+#[derive(Debug, Drop)]
+pub struct AuxRecords {
+    records: Vec<AuxRecord>,
+    len: u128,
+}
+
+impl Model for AuxRecords {
+    ghost use Rattle.std.specs.Prelude.{List};
+    ghost use Rattle.cf_base.specs.declared.answers.AuxRecord.{AuxRecord};
+    ghost use Rattle.cf_volume_image.specs.RecordLists.{AreKept};
+
+    ghost Value = { List AuxRecord };
+
+    ghost view = { λ r. r.records.items };
+
+    ghost invariant = { λ r. AreKept r.records.items r.len };
+}
+
+impl AuxRecords {
+    /// No records. They keep their allocator, and take no memory yet.
+    pub fn new(alloc: Global) -> AuxRecords
+        ensures { result ≡ [] }
+    {
+        AuxRecords {
+            records: Vec::new(alloc),
+            len: 0,
+        }
+    }
+
+    /// The records of a list whose keys rise.
+    pub(crate) fn from_vec(records: Vec<AuxRecord>) -> AuxRecords
+        requires { AreRecordsFrom None records.items }
+        ensures { result ≡ records.items }
+    {
+        let len = len_of_all(&records);
+        AuxRecords { records, len }
+    }
+
+    /// The record with the key. By a binary search.
+    pub fn get(&self, key: &[u8]) -> Option<&AuxRecord>
+        ensures { option_copied result ≡ record_at self.now key.now }
+    {
+        find_record(&self.records, key)
+    }
+
+    /// The first record of all.
+    pub fn first(&self) -> Option<&AuxRecord>
+        ensures { option_copied result ≡ find (λ r. true) self.now }
+    {
+        self.records.first()
+    }
+
+    /// The first record whose key comes after this one. By a binary search.
+    pub fn after(&self, key: &[u8]) -> Option<&AuxRecord>
+        ensures { option_copied result ≡ find (comes_after key.now) self.now }
+    {
+        find_after(&self.records, key)
+    }
+
+    /// The records in order of key.
+    pub fn as_slice(&self) -> &[AuxRecord]
+        ensures value { result.now ≡ self.now }
+        ensures rise { AreRecordsFrom None self.now }
+    {
+        &self.records
+    }
+
+    /// How many bytes spell the records, after the four of their count; the greatest u64 where that is less. It is kept
+    /// and not computed.
+    pub fn image_len(&self) -> u64
+        ensures { result ≡ min (records_len self.now) 18446744073709551615 }
+    {
+        self.len.min(u64::MAX as u128) as u64
+    }
+
+    /// Puts the record, whose key has at most 255 bytes and whose value has at most 65,535, in place of the one with its
+    /// key, or adds it. Without memory the records are as before.
+    pub fn put(&mut self, aux: AuxRecord) -> Result<(), Memory>
+        requires { IsShort aux }
+        ensures ok { OnOk result (self.new ≡ with_record aux self.old) }
+        ensures err { OnErr result (self.new ≡ self.old) }
+    {
+        self.len = put_record(&mut self.records, aux, self.len)?;
+        Ok(())
+    }
+
+    /// Takes the record with the key out, if there is one. Takes no memory.
+    pub fn remove(&mut self, key: &[u8])
+        ensures { self.new ≡ without_record key.now self.old }
+    {
+        self.len = remove_record(&mut self.records, key, self.len);
+    }
+}

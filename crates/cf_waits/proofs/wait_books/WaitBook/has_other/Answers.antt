@@ -1,0 +1,14 @@
+use Rattle.std.proofs.Common.{ap, not, refl}
+use Rattle.cf_waits.proofs.Booked.{any_is, in_order}
+use Rattle.cf_waits.specs.Books.{KeptWaits, wait_entry}
+use Rattle.cf_waits.specs.Rising.{wait_key}
+use Rattle.cf_waits.specs.Told.{is_wait_by}
+use Rattle.cf_waits.proofs.wait_books.WaitBook.has_other.Goals as goal
+
+pub entries_on-requires : goal.entries_on-requires
+entries_on-requires c = in_order wait_entry wait_key (λ w. refl) c.self.inside.waits.items c.self.inside.index.items c.deref-2.result.now c.self.invariant.rising c.self.invariant.index c.deref-2.ensures.value
+
+pub returns : goal.returns
+returns c =
+    any_is wait_entry wait_key (λ w. refl) (λ w. not (is_wait_by c.args.kind c.args.wait w)) c.args.item c.self.inside.waits.items c.deref.result.now c.args.self.now.waits c.self.inside.index.items c.deref-2.result.now c.entries_on.result.now c.any_other.result
+    c.self.invariant.rising c.self.invariant.index c.deref.ensures.value c.deref-2.ensures.value c.entries_on.ensures (ap (λ (k : KeptWaits). k.waits) c.self.view_is) c.any_other.ensures

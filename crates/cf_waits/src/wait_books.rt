@@ -1,0 +1,241 @@
+//! The live waits, by number and by item.
+ghost use Rattle.std.specs.Prelude.{◌≡◌, ◌+◌, ◌<◌, ◌≤◌, ◌++◌, ◌∷◌, ◌&&◌, ◌==◌, [], cond, filter, length, not, IfOk, OnOk};
+ghost use Rattle.std.specs.List.{list_any};
+ghost use Rattle.cf_ask_rule.specs.Near.{is_on};
+ghost use Rattle.cf_model.specs.Missing.{Wait};
+ghost use Rattle.cf_model.specs.Numbers.{same_key};
+ghost use Rattle.cf_model.specs.Requests.{is_background, is_hydrate_wait, is_list_wait};
+ghost use Rattle.cf_model.specs.Words.{is_empty, says};
+ghost use Rattle.cf_waits.specs.Books.{HoldsWaits, at_number, found_of, is_plain_wait, wait_entry};
+ghost use Rattle.cf_waits.specs.Rising.{IsRising, wait_key};
+ghost use Rattle.cf_waits.specs.Told.{is_wait_by, wait_of};
+
+use crate::entries::{Entry, add_entry, entries_on, remove_entry};
+use crate::wait_lists::{find_wait, take_wait, wait_at};
+use cf_ask_rule::{
+    LiveWait, WaitNumber, is_background, is_dehydrate_wait, is_hydrate_wait, is_list_wait,
+};
+use cf_base::{AskKind, ItemId, Memory, WaitId};
+use std::alloc::Global;
+use std::marker::Model;
+
+/// The live waits in order of number, their index by item, and how many of them count for the limit.
+#[derive(Debug, Drop)]
+pub(crate) struct WaitBook {
+    waits: Vec<LiveWait>,
+    index: Vec<Entry>,
+    plain: usize,
+}
+
+impl Model for WaitBook {
+    ghost use Rattle.std.specs.Prelude.{min, ◌-◌};
+    ghost use Rattle.std.specs.Vec.{vec_capacity, vec_len};
+    ghost use Rattle.cf_waits.specs.Books.{HoldsWaits, KeptWaits};
+
+    ghost Value = { KeptWaits };
+
+    ghost view = { λ b. record { waits = b.waits.items; room = min (vec_capacity b.waits - vec_len b.waits) (vec_capacity b.index - vec_len b.index) } };
+
+    ghost invariant = { λ b. HoldsWaits b.waits.items b.index.items b.plain };
+}
+
+fn entry_of(w: &LiveWait) -> Entry
+    ensures { result ≡ wait_entry w.now }
+{
+    Entry {
+        item: w.item(),
+        number: w.id().number(),
+    }
+}
+
+fn plain_count(w: &LiveWait) -> usize
+    ensures { result ≡ cond (is_plain_wait w.now) 1 0 }
+{
+    if is_dehydrate_wait(w.kind()) { 0 } else { 1 }
+}
+
+impl WaitBook {
+    pub(crate) fn new(alloc: Global) -> WaitBook
+        ensures { result.waits ≡ [] }
+    {
+        WaitBook {
+            waits: Vec::new(alloc),
+            index: Vec::new(alloc),
+            plain: 0,
+        }
+    }
+
+    /// Makes room for so many more.
+    pub(crate) fn reserve(&mut self, more: usize) -> Result<(), Memory>
+        ensures same { self.new.waits ≡ self.old.waits }
+        ensures room { OnOk result (more ≤ self.new.room) }
+    {
+        self.waits.reserve(more)?;
+        self.index.reserve(more)?;
+        Ok(())
+    }
+
+    /// Adds a wait whose number is above all others, and for which there is room.
+    pub(crate) fn add(&mut self, w: LiveWait)
+        requires rising { IsRising wait_key (self.old.waits ++ w ∷ []) }
+        requires room { 0 < self.old.room }
+        ensures waits { self.new.waits ≡ self.old.waits ++ w ∷ [] }
+        ensures room { self.old.room ≤ self.new.room + 1 }
+    {
+        let entry = entry_of(&w);
+        let more = plain_count(&w);
+        self.waits.push(w).unwrap();
+        add_entry(&mut self.index, entry);
+        self.plain += more;
+    }
+
+    /// Takes the wait of a number out, if there is one.
+    pub(crate) fn remove(&mut self, id: WaitNumber)
+        ensures waits { self.new.waits ≡ filter (λ w. not (same_key id.0 w.id.0)) self.old.waits }
+        ensures room { self.old.room ≤ self.new.room }
+    {
+        let Some(w) = take_wait(&mut self.waits, id) else {
+            return;
+        };
+        remove_entry(&mut self.index, entry_of(&w));
+        self.plain -= plain_count(&w);
+    }
+
+    /// The waits in order of number.
+    pub(crate) fn waits(&self) -> &[LiveWait]
+        ensures { result.now ≡ self.now.waits }
+    {
+        &self.waits
+    }
+
+    /// Whether there is none.
+    pub(crate) fn is_empty(&self) -> bool
+        ensures { result ≡ is_empty self.now.waits }
+    {
+        self.waits.is_empty()
+    }
+
+    /// How many count for the limit.
+    pub(crate) fn plain(&self) -> usize
+        ensures { result ≡ length (filter is_plain_wait self.now.waits) }
+    {
+        self.plain
+    }
+
+    /// The live wait of a number.
+    pub(crate) fn find(&self, wait: WaitId) -> Option<LiveWait>
+        ensures { result ≡ wait_of self.now.waits wait }
+    {
+        find_wait(&self.waits, wait)
+    }
+
+    /// The waits on an item, in order of number.
+    pub(crate) fn on(&self, alloc: Global, item: ItemId) -> Result<Vec<LiveWait>, Memory>
+        ensures { IfOk result (λ v. v.items ≡ filter (is_on item) self.now.waits) }
+    {
+        found_of(alloc, &self.waits, entries_on(&self.index, item))
+    }
+
+    /// Whether a wait on the item is live.
+    pub(crate) fn has_any(&self, item: ItemId) -> bool
+        ensures { result ≡ list_any (λ w. w.item.0 == item.0) self.now.waits }
+    {
+        !entries_on(&self.index, item).is_empty()
+    }
+
+    /// Whether a hydrate wait on the item is live.
+    pub(crate) fn has_hydrate(&self, item: ItemId) -> bool
+        ensures { result ≡ list_any (λ w. (w.item.0 == item.0) && is_hydrate_wait w.kind) self.now.waits }
+    {
+        any_hydrate(&self.waits, entries_on(&self.index, item))
+    }
+
+    /// Whether a background wait on the item is live.
+    pub(crate) fn has_background(&self, item: ItemId) -> bool
+        ensures { result ≡ list_any (λ w. (w.item.0 == item.0) && is_background w.kind) self.now.waits }
+    {
+        any_background(&self.waits, entries_on(&self.index, item))
+    }
+
+    /// Whether a wait on the item is live that is not one of an ask of this kind, for this wait.
+    pub(crate) fn has_other(&self, item: ItemId, kind: AskKind, wait: WaitNumber) -> bool
+        ensures { result ≡ list_any (λ w. (w.item.0 == item.0) && not (is_wait_by kind wait w)) self.now.waits }
+    {
+        any_other(&self.waits, entries_on(&self.index, item), kind, wait)
+    }
+}
+
+fn found_of(alloc: Global, waits: &[LiveWait], entries: &[Entry]) -> Result<Vec<LiveWait>, Memory>
+    requires { IsRising wait_key waits.now }
+    ensures { IfOk result (λ v. v.items ≡ found_of wait_key waits.now entries.now) }
+{
+    let mut out = Vec::new(alloc);
+    for e in entries {
+        if let Some(w) = wait_at(waits, e.number) {
+            out.push(w)?;
+        }
+    }
+    Ok(out)
+}
+
+fn is_hydrate_at(waits: &[LiveWait], e: Entry) -> bool
+    requires { IsRising wait_key waits.now }
+    ensures { result ≡ says (λ w. is_hydrate_wait w.kind) (at_number wait_key e.number waits.now) }
+{
+    match wait_at(waits, e.number) {
+        Some(w) => is_hydrate_wait(w.kind()),
+        None => false,
+    }
+}
+
+fn any_hydrate(waits: &[LiveWait], entries: &[Entry]) -> bool
+    requires { IsRising wait_key waits.now }
+    ensures { result ≡ list_any (λ e. says (λ w. is_hydrate_wait w.kind) (at_number wait_key e.number waits.now)) entries.now }
+{
+    entries.iter().any(|e| is_hydrate_at(waits, *e))
+}
+
+fn is_background_at(waits: &[LiveWait], e: Entry) -> bool
+    requires { IsRising wait_key waits.now }
+    ensures { result ≡ says (λ w. is_background w.kind) (at_number wait_key e.number waits.now) }
+{
+    match wait_at(waits, e.number) {
+        Some(w) => is_background(w.kind()),
+        None => false,
+    }
+}
+
+fn any_background(waits: &[LiveWait], entries: &[Entry]) -> bool
+    requires { IsRising wait_key waits.now }
+    ensures { result ≡ list_any (λ e. says (λ w. is_background w.kind) (at_number wait_key e.number waits.now)) entries.now }
+{
+    entries.iter().any(|e| is_background_at(waits, *e))
+}
+
+fn is_wait_by(kind: AskKind, wait: WaitNumber, w: &LiveWait) -> bool
+    ensures { result ≡ is_wait_by kind wait w.now }
+{
+    match kind {
+        AskKind::List => is_list_wait(w.kind()),
+        AskKind::Dehydrate => w.id().is(wait),
+        AskKind::Fetch => false,
+        AskKind::Validate => false,
+    }
+}
+
+fn is_other_at(waits: &[LiveWait], e: Entry, kind: AskKind, wait: WaitNumber) -> bool
+    requires { IsRising wait_key waits.now }
+    ensures { result ≡ says (λ w. not (is_wait_by kind wait w)) (at_number wait_key e.number waits.now) }
+{
+    match wait_at(waits, e.number) {
+        Some(w) => !is_wait_by(kind, wait, &w),
+        None => false,
+    }
+}
+
+fn any_other(waits: &[LiveWait], entries: &[Entry], kind: AskKind, wait: WaitNumber) -> bool
+    requires { IsRising wait_key waits.now }
+    ensures { result ≡ list_any (λ e. says (λ w. not (is_wait_by kind wait w)) (at_number wait_key e.number waits.now)) entries.now }
+{
+    entries.iter().any(|e| is_other_at(waits, *e, kind, wait))
+}

@@ -1,0 +1,47 @@
+//! The policy, the provider's connection, files that are opened, and commits.
+
+ghost use Rattle.cf_world_filter.specs.Counted.{StepsOn};
+ghost use Rattle.cf_base.specs.declared.calls.Call.TheVariants as call;
+ghost use Rattle.cf_base.specs.declared.events.Event.TheVariants as event;
+
+use crate::answering::answered;
+use crate::places::Running;
+use crate::showing::{count, done, opened};
+use cf_base::{Answer, Memory, Mode, Notes, Policy, Text};
+use cf_disk::Disk;
+use std::alloc::Global;
+
+impl<D: Disk> Running<D> {
+    /// `open`
+    pub(crate) fn open(&mut self, alloc: Global, path: &Text) -> Result<Answer, Memory>
+        ensures { StepsOn D.state (event.Call (call.Open path.now)) self.old result self.new }
+    {
+        let told = self.filter.open_file(path.as_str());
+        answered(opened(told), Notes::new(alloc))
+    }
+
+    /// `flush`
+    pub(crate) fn flush(&mut self, alloc: Global) -> Result<Answer, Memory>
+        ensures { StepsOn D.state (event.Call call.Flush) self.old result self.new }
+    {
+        let told = self.filter.flush();
+        answered(count(told), Notes::new(alloc))
+    }
+
+    /// `policy`
+    pub(crate) fn set_policy(&mut self, alloc: Global, policy: &Policy) -> Result<Answer, Memory>
+        ensures { StepsOn D.state (event.Call (call.Policy policy.now)) self.old result self.new }
+    {
+        let told = self.filter.set_policy(Mode::Filter, policy);
+        answered(done(told), Notes::new(alloc))
+    }
+
+    /// `connect` and `disconnect`
+    pub(crate) fn connect(&mut self, alloc: Global, on: bool) -> Result<Answer, Memory>
+        ensures { StepsOn D.state (event.Call (call.Connect on)) self.old result self.new }
+    {
+        let mut notes = Notes::new(alloc);
+        let told = self.filter.connect(on, &mut notes);
+        answered(done(told), notes)
+    }
+}
