@@ -14,7 +14,7 @@ use crate::misses::{misses_span, next_missed};
 use crate::sights::Sight;
 use crate::unions::union_of;
 use crate::waits::{LiveWait, WaitNumber, is_list_wait};
-use cf_base::{Ask, AskKind, ItemId, Key, Memory, Span};
+use cf_base::{Ask, AskKind, ItemId, Key, OutOfMemory, Span};
 use cf_ranges::RangeSet;
 use std::alloc::Global;
 use std::marker::Model;
@@ -24,7 +24,7 @@ const LIMIT: u64 = 1 << 40;
 const BLOCK: u64 = 4096;
 
 /// A live ask: the blocks that it owns, the ticks since it was made or last answered, and the wait of a dehydrate ask.
-#[derive(Debug, Drop)]
+#[derive(Drop)]
 pub struct LiveAsk {
     ask: Ask,
     owned: RangeSet,
@@ -55,7 +55,7 @@ impl LiveAsk {
     }
 
     /// An equal ask on its own.
-    pub fn copy(&self) -> Result<LiveAsk, Memory>
+    pub fn copy(&self) -> Result<LiveAsk, OutOfMemory>
         ensures { IfOk result (λ a. a ≡ self.now) }
     {
         Ok(LiveAsk {
@@ -67,7 +67,7 @@ impl LiveAsk {
     }
 
     /// The ask under a key.
-    pub fn keyed(&self, key: Key) -> Result<LiveAsk, Memory>
+    pub fn keyed(&self, key: Key) -> Result<LiveAsk, OutOfMemory>
         ensures { IfOk result (λ a. a ≡ record self.now { ask = record self.now.ask { key = key } }) }
     {
         Ok(LiveAsk {
@@ -79,7 +79,7 @@ impl LiveAsk {
     }
 
     /// The ask without blocks, and with its time begun anew.
-    pub fn without(&self, blocks: Span) -> Result<LiveAsk, Memory>
+    pub fn without(&self, blocks: Span) -> Result<LiveAsk, OutOfMemory>
         ensures { IfOk result (λ a. a ≡ record self.now { owned = filter (λ b. not (has_block (counting blocks.start blocks.len) b)) self.now.owned; ticks = 0 }) }
     {
         Ok(LiveAsk {
@@ -134,7 +134,7 @@ impl LiveAsk {
     }
 
     /// An equal ask on its own, but for its ticks.
-    pub fn copy_at(&self, ticks: u64) -> Result<LiveAsk, Memory>
+    pub fn copy_at(&self, ticks: u64) -> Result<LiveAsk, OutOfMemory>
         ensures { IfOk result (λ a. a ≡ record self.now { ticks = ticks }) }
     {
         Ok(LiveAsk {
@@ -211,7 +211,7 @@ fn is_empty(runs: &[Span]) -> bool
 }
 
 // The blocks of the set that are not these.
-fn others_of(owned: &RangeSet, blocks: Span) -> Result<RangeSet, Memory>
+fn others_of(owned: &RangeSet, blocks: Span) -> Result<RangeSet, OutOfMemory>
     ensures { IfOk result (λ r. places r ≡ filter (λ b. not (has_block (counting blocks.start blocks.len) b)) (places owned.now)) }
 {
     let start = blocks.start.min(LIMIT);
@@ -350,7 +350,7 @@ fn is_wanted_by(item: ItemId, v: &Sight, waits: &[LiveWait], needs: &[Span], a: 
 }
 
 /// The runs of the blocks that asks of the item own.
-pub fn owned_of(alloc: Global, item: ItemId, asks: &[LiveAsk]) -> Result<Vec<Span>, Memory>
+pub fn owned_of(alloc: Global, item: ItemId, asks: &[LiveAsk]) -> Result<Vec<Span>, OutOfMemory>
     ensures owned { IfOk result (λ r. (b : ℕ) → contains r.items b ≡ is_owned item asks.now b) }
     ensures maximal { IfOk result (λ r. IsRuns r.items) }
 {
@@ -359,7 +359,7 @@ pub fn owned_of(alloc: Global, item: ItemId, asks: &[LiveAsk]) -> Result<Vec<Spa
     Ok(runs)
 }
 
-fn spans_owned(alloc: Global, item: ItemId, asks: &[LiveAsk]) -> Result<Vec<Span>, Memory>
+fn spans_owned(alloc: Global, item: ItemId, asks: &[LiveAsk]) -> Result<Vec<Span>, OutOfMemory>
     ensures owned { IfOk result (λ r. (b : ℕ) → contains r.items b ≡ is_owned item asks.now b) }
     ensures small { IfOk result (λ r. All IsSmall r.items) }
 {

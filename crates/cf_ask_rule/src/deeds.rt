@@ -12,11 +12,11 @@ use crate::asks::{LiveAsk, is_data, is_idle, waits_by};
 use crate::misses::{is_met, misses_span};
 use crate::sights::Sight;
 use crate::waits::{LiveWait, WaitNumber, is_background, is_same_key};
-use cf_base::{Cause, Handle, ItemId, Key, Memory, Span, WaitId};
+use cf_base::{Cause, Handle, ItemId, Key, OutOfMemory, Span, WaitId};
 use std::alloc::Global;
 
 /// What a step does of its own.
-#[derive(Clone, Copy, Debug)]
+#[derive(Clone, Copy)]
 pub enum Act {
     /// The item was changed, or a wait began.
     Nothing,
@@ -137,7 +137,7 @@ pub fn ended_by(
     act: Act,
     asks: &[LiveAsk],
     waits: &[LiveWait],
-) -> Result<Vec<(LiveWait, Cause)>, Memory>
+) -> Result<Vec<(LiveWait, Cause)>, OutOfMemory>
     ensures { IfOk result (λ r. r.items ≡ ended_of (why item v.now (deed_of act) asks.now) waits.now) }
 {
     let mut out = Vec::new(alloc);
@@ -157,7 +157,7 @@ pub fn left_by(
     act: Act,
     asks: &[LiveAsk],
     waits: &[LiveWait],
-) -> Result<Vec<LiveWait>, Memory>
+) -> Result<Vec<LiveWait>, OutOfMemory>
     ensures { IfOk result (λ r. r.items ≡ left_of (why item v.now (deed_of act) asks.now) waits.now) }
 {
     Ok(
@@ -169,7 +169,7 @@ pub fn left_by(
     )
 }
 
-fn released(key: Key, blocks: Span, a: LiveAsk) -> Result<LiveAsk, Memory>
+fn released(key: Key, blocks: Span, a: LiveAsk) -> Result<LiveAsk, OutOfMemory>
     ensures { IfOk result (λ r. r ≡ released key (counting blocks.start blocks.len) a) }
 {
     if is_same_key(a.ask().key, key) {
@@ -179,7 +179,7 @@ fn released(key: Key, blocks: Span, a: LiveAsk) -> Result<LiveAsk, Memory>
     }
 }
 
-fn after_act(act: Act, a: LiveAsk) -> Result<LiveAsk, Memory>
+fn after_act(act: Act, a: LiveAsk) -> Result<LiveAsk, OutOfMemory>
     ensures { IfOk result (λ r. r ≡ after_deed (deed_of act) a) }
 {
     match act {
@@ -224,7 +224,7 @@ fn is_over(act: Act, a: &LiveAsk) -> bool
 }
 
 /// The asks that are left once the act is done.
-pub fn asks_after(alloc: Global, act: Act, asks: Vec<LiveAsk>) -> Result<Vec<LiveAsk>, Memory>
+pub fn asks_after(alloc: Global, act: Act, asks: Vec<LiveAsk>) -> Result<Vec<LiveAsk>, OutOfMemory>
     ensures { IfOk result (λ r. r.items ≡ after (deed_of act) asks.items) }
 {
     let mut out = Vec::new(alloc);
@@ -281,7 +281,7 @@ pub fn cancelled_of(
     waits: &[LiveWait],
     needs: &[Span],
     asks: &[LiveAsk],
-) -> Result<Vec<Key>, Memory>
+) -> Result<Vec<Key>, OutOfMemory>
     requires runs { IsRuns needs.now }
     requires wants { Wants v.now needs.now (is_wanted item v.now waits.now) }
     ensures { IfOk result (λ r. r.items ≡ map (λ a. a.ask.key) (filter (is_cancelled item v.now (deed_of act) waits.now) asks.now)) }

@@ -15,7 +15,7 @@ use crate::misses::{needs_of, next_missed};
 use crate::nexts::end_of;
 use crate::sights::Sight;
 use crate::waits::{LiveWait, WaitNumber, is_dehydrate_wait};
-use cf_base::{Ask, AskKind, ItemId, Key, Memory, Span};
+use cf_base::{Ask, AskKind, ItemId, Key, OutOfMemory, Span};
 use cf_ranges::RangeSet;
 use std::alloc::Global;
 use std::marker::Model;
@@ -28,7 +28,7 @@ const NO_KEY: Key = Key {
 };
 
 /// Neighbouring blocks of one kind: those that are fetched have a byte that is not here.
-#[derive(Clone, Copy, Debug)]
+#[derive(Clone, Copy)]
 pub struct Run {
     fetch: bool,
     first: u64,
@@ -89,7 +89,7 @@ pub fn open_blocks(
     v: &Sight,
     waits: &[LiveWait],
     asks: &[LiveAsk],
-) -> Result<Vec<u64>, Memory>
+) -> Result<Vec<u64>, OutOfMemory>
     ensures open { IfOk result (λ r. r.items ≡ open_blocks item v.now waits.now asks.now) }
     ensures small { IfOk result (λ r. AllByRecursion (λ b. b < 2 ^ 40) r.items) }
 {
@@ -99,7 +99,7 @@ pub fn open_blocks(
     Ok(blocks)
 }
 
-fn open_in(alloc: Global, v: &Sight, needs: &[Span], owned: &[Span]) -> Result<Vec<u64>, Memory>
+fn open_in(alloc: Global, v: &Sight, needs: &[Span], owned: &[Span]) -> Result<Vec<u64>, OutOfMemory>
     requires needs { IsRuns needs.now }
     requires owned { IsRuns owned.now }
     ensures { IfOk result (λ r. (w o : ℕ → Bool) → Wants v.now needs.now w → ((b : ℕ) → contains owned.now b ≡ o b) → r.items ≡ filter (λ b. w b && not (o b)) (counting 0 ((length v.now.lacks + 4095) / 4096))) }
@@ -120,7 +120,7 @@ fn open_in(alloc: Global, v: &Sight, needs: &[Span], owned: &[Span]) -> Result<V
 }
 
 #[tactic(auto, using(crate::proofs::Runs::small_at))]
-fn runs_on(alloc: Global, v: &Sight, head: u64, rest: &[u64]) -> Result<Vec<Run>, Memory>
+fn runs_on(alloc: Global, v: &Sight, head: u64, rest: &[u64]) -> Result<Vec<Run>, OutOfMemory>
     requires head { head < 2 ^ 40 }
     requires rest { AllByRecursion (λ b. b < 2 ^ 40) rest.now }
     ensures { IfOk result (λ r. r.items ≡ runs_on v.now (record { fetch = is_fetched v.now head; first = head; count = 1 }) rest.now) }
@@ -145,7 +145,7 @@ fn runs_on(alloc: Global, v: &Sight, head: u64, rest: &[u64]) -> Result<Vec<Run>
 }
 
 /// The maximal runs of neighbours of one kind.
-fn runs_of(alloc: Global, v: &Sight, blocks: &[u64]) -> Result<Vec<Run>, Memory>
+fn runs_of(alloc: Global, v: &Sight, blocks: &[u64]) -> Result<Vec<Run>, OutOfMemory>
     requires { AllByRecursion (λ b. b < 2 ^ 40) blocks.now }
     ensures { IfOk result (λ r. r.items ≡ runs_of v.now blocks.now) }
 {
@@ -156,7 +156,7 @@ fn runs_of(alloc: Global, v: &Sight, blocks: &[u64]) -> Result<Vec<Run>, Memory>
 }
 
 /// The ask for a run, still without a key.
-pub fn ask_of_run(alloc: Global, item: ItemId, base: u64, run: Run) -> Result<LiveAsk, Memory>
+pub fn ask_of_run(alloc: Global, item: ItemId, base: u64, run: Run) -> Result<LiveAsk, OutOfMemory>
     requires base { base ≤ 2 ^ 24 }
     requires run { run.first + run.count ≤ 2 ^ 40 }
     ensures { IfOk result (λ a. a ≡ ask_of_run item base run) }
@@ -186,7 +186,7 @@ fn kind_of(fetch: bool) -> AskKind
     }
 }
 
-fn counted(alloc: Global, first: u64, count: u64) -> Result<RangeSet, Memory>
+fn counted(alloc: Global, first: u64, count: u64) -> Result<RangeSet, OutOfMemory>
     requires { first + count ≤ 2 ^ 40 }
     ensures { IfOk result (λ r. places r ≡ counting first count) }
 {
@@ -200,7 +200,7 @@ fn counted(alloc: Global, first: u64, count: u64) -> Result<RangeSet, Memory>
 }
 
 /// The asks for runs, still without keys.
-fn asks_of(alloc: Global, item: ItemId, base: u64, runs: &[Run]) -> Result<Vec<LiveAsk>, Memory>
+fn asks_of(alloc: Global, item: ItemId, base: u64, runs: &[Run]) -> Result<Vec<LiveAsk>, OutOfMemory>
     requires base { base ≤ 2 ^ 24 }
     requires small { AllByRecursion (λ r. r.first + r.count ≤ 2 ^ 40) runs.now }
     ensures { IfOk result (λ v. v.items ≡ map (ask_of_run item base) runs.now) }
@@ -237,7 +237,7 @@ fn list_asks(
     item: ItemId,
     waits: &[LiveWait],
     asks: &[LiveAsk],
-) -> Result<Vec<LiveAsk>, Memory>
+) -> Result<Vec<LiveAsk>, OutOfMemory>
     ensures { IfOk result (λ v. v.items ≡ list_asks item waits.now asks.now) }
 {
     let mut out = Vec::new(alloc);
@@ -277,7 +277,7 @@ fn dehydrate_asks(
     item: ItemId,
     waits: &[LiveWait],
     asks: &[LiveAsk],
-) -> Result<Vec<LiveAsk>, Memory>
+) -> Result<Vec<LiveAsk>, OutOfMemory>
     ensures { IfOk result (λ v. v.items ≡ dehydrate_asks item waits.now asks.now) }
 {
     Ok(
@@ -296,7 +296,7 @@ fn data_asks(
     v: &Sight,
     waits: &[LiveWait],
     asks: &[LiveAsk],
-) -> Result<Vec<LiveAsk>, Memory>
+) -> Result<Vec<LiveAsk>, OutOfMemory>
     ensures { IfOk result (λ r. r.items ≡ map (ask_of_run item v.now.base) (runs_of v.now (open_blocks item v.now waits.now asks.now))) }
 {
     let open = open_blocks(alloc, item, v, waits, asks)?;
@@ -304,7 +304,7 @@ fn data_asks(
     asks_of(alloc, item, v.base(), &runs)
 }
 
-fn open_runs(alloc: Global, v: &Sight, blocks: &[u64]) -> Result<Vec<Run>, Memory>
+fn open_runs(alloc: Global, v: &Sight, blocks: &[u64]) -> Result<Vec<Run>, OutOfMemory>
     requires { AllByRecursion (λ b. b < 2 ^ 40) blocks.now }
     ensures runs { IfOk result (λ r. r.items ≡ runs_of v.now blocks.now) }
     ensures small { IfOk result (λ r. AllByRecursion (λ x. x.first + x.count ≤ 2 ^ 40) r.items) }
@@ -320,7 +320,7 @@ pub fn new_asks(
     v: &Sight,
     waits: &[LiveWait],
     asks: &[LiveAsk],
-) -> Result<Vec<LiveAsk>, Memory>
+) -> Result<Vec<LiveAsk>, OutOfMemory>
     ensures { IfOk result (λ r. r.items ≡ new_asks item v.now waits.now asks.now) }
 {
     let mut all = data_asks(alloc, item, v, waits, asks)?;

@@ -11,7 +11,7 @@ use crate::nexts::next_in;
 use crate::sights::Sight;
 use crate::unions::union_of;
 use crate::waits::LiveWait;
-use cf_base::{ItemId, Memory, Span, WaitKind};
+use cf_base::{ItemId, OutOfMemory, Span, WaitKind};
 use std::alloc::Global;
 
 const BLOCK: u64 = 4096;
@@ -40,7 +40,7 @@ pub fn needs_of(
     item: ItemId,
     v: &Sight,
     waits: &[LiveWait],
-) -> Result<Vec<Span>, Memory>
+) -> Result<Vec<Span>, OutOfMemory>
     ensures needed { IfOk result (λ r. (p : ℕ) → p < length v.now.lacks → contains r.items p ≡ is_needed item v.now waits.now p) }
     ensures maximal { IfOk result (λ r. IsRuns r.items) }
     ensures small { length v.now.lacks ≤ 2 ^ 24 }
@@ -55,7 +55,7 @@ fn spans_needed(
     item: ItemId,
     v: &Sight,
     waits: &[LiveWait],
-) -> Result<Vec<Span>, Memory>
+) -> Result<Vec<Span>, OutOfMemory>
     ensures spans { IfOk result (λ r. r.items ≡ map (λ w. cut (length v.now.lacks) (needed v.now w)) (filter (is_on item) waits.now)) }
     ensures small { length v.now.lacks ≤ 2 ^ 24 }
 {

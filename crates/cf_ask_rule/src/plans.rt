@@ -9,11 +9,11 @@ use crate::makes::new_asks;
 use crate::misses::needs_of;
 use crate::sights::Sight;
 use crate::waits::LiveWait;
-use cf_base::{Cause, ItemId, Key, Memory};
+use cf_base::{Cause, ItemId, Key, OutOfMemory};
 use std::alloc::Global;
 
 /// What a step would do to waits and asks. The asks that are made have no keys yet.
-#[derive(Debug, Drop)]
+#[derive(Drop)]
 pub struct Plan {
     pub ended: Vec<(LiveWait, Cause)>,
     pub left: Vec<LiveWait>,
@@ -30,7 +30,7 @@ pub fn make_plan(
     act: Act,
     waits: &[LiveWait],
     asks: Vec<LiveAsk>,
-) -> Result<Plan, Memory>
+) -> Result<Plan, OutOfMemory>
     ensures ended { IfOk result (λ p. p.ended.items ≡ (plan_of item v.now (deed_of act) waits.now asks.items).ended) }
     ensures left { IfOk result (λ p. p.left.items ≡ (plan_of item v.now (deed_of act) waits.now asks.items).left) }
     ensures cancelled { IfOk result (λ p. p.cancelled.items ≡ (plan_of item v.now (deed_of act) waits.now asks.items).cancelled) }

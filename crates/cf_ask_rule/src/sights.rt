@@ -7,12 +7,12 @@ ghost use Rattle.cf_ask_rule.specs.Sights.{is_lacking, meets, shown};
 
 use crate::nexts::{below, lesser, next_in};
 use crate::views::View;
-use cf_base::{Memory, Span};
+use cf_base::{OutOfMemory, Span};
 use std::alloc::Global;
 use std::marker::Model;
 
 /// A view, made ready for many questions: the runs that are absent, and those that lack.
-#[derive(Debug, Drop)]
+#[derive(Drop)]
 pub struct Sight {
     absent: Vec<Span>,
     // What nobody vouches for, where that is asked for.
@@ -38,7 +38,7 @@ impl Model for Sight {
 
 impl Sight {
     /// What a view shows.
-    pub fn new(alloc: Global, v: &View) -> Result<Sight, Memory>
+    pub fn new(alloc: Global, v: &View) -> Result<Sight, OutOfMemory>
         requires size { v.now.size ≤ 2 ^ 24 }
         requires base { v.now.base ≤ 2 ^ 24 }
         ensures { IfOk result (λ s. s ≡ shown v.now) }
@@ -114,7 +114,7 @@ impl Sight {
 }
 
 // What nobody vouches for, where that is asked for, and nothing else.
-fn bare(alloc: Global, v: &View) -> Result<Vec<Span>, Memory>
+fn bare(alloc: Global, v: &View) -> Result<Vec<Span>, OutOfMemory>
     requires size { v.now.size ≤ 2 ^ 24 }
     ensures lacks { IfOk result (λ l. (p : ℕ) → p < v.now.size → (not (contains v.now.here.now p) || contains l.items p) ≡ is_lacking v.now.validate v.now.here.now v.now.valid.now v.now.modified.now p) }
     ensures maximal { IfOk result (λ l. IsRuns l.items) }
@@ -126,7 +126,7 @@ fn bare(alloc: Global, v: &View) -> Result<Vec<Span>, Memory>
     }
 }
 
-fn unvouched(v: &View) -> Result<Vec<Span>, Memory>
+fn unvouched(v: &View) -> Result<Vec<Span>, OutOfMemory>
     requires size { v.now.size ≤ 2 ^ 24 }
     ensures lacks { IfOk result (λ l. (p : ℕ) → p < v.now.size → contains l.items p ≡ not (contains v.now.valid.now p || contains v.now.modified.now p)) }
     ensures maximal { IfOk result (λ l. IsRuns l.items) }
@@ -136,7 +136,7 @@ fn unvouched(v: &View) -> Result<Vec<Span>, Memory>
     Ok(bare)
 }
 
-fn absent(v: &View) -> Result<Vec<Span>, Memory>
+fn absent(v: &View) -> Result<Vec<Span>, OutOfMemory>
     requires size { v.now.size ≤ 2 ^ 24 }
     ensures absent { IfOk result (λ l. (p : ℕ) → p < v.now.size → contains l.items p ≡ not (contains v.now.here.now p)) }
     ensures maximal { IfOk result (λ l. IsRuns l.items) }

@@ -5,11 +5,11 @@ ghost use Rattle.cf_ask_rule.specs.Unions.{IsSmall, joined_on};
 ghost use Rattle.cf_ranges.specs.Positions.{contains, IsRuns};
 ghost use Rattle.cf_ranges.specs.Steps.{piece};
 
-use cf_base::{Memory, Span};
+use cf_base::{OutOfMemory, Span};
 use std::alloc::Global;
 
 /// The maximal runs of the positions that some of the spans have.
-pub fn union_of(alloc: Global, mut spans: Vec<Span>) -> Result<Vec<Span>, Memory>
+pub fn union_of(alloc: Global, mut spans: Vec<Span>) -> Result<Vec<Span>, OutOfMemory>
     requires { All IsSmall spans.items }
     ensures same { IfOk result (λ r. (p : ℕ) → contains r.items p ≡ contains spans.items p) }
     ensures maximal { IfOk result (λ r. IsRuns r.items) }
@@ -20,7 +20,7 @@ pub fn union_of(alloc: Global, mut spans: Vec<Span>) -> Result<Vec<Span>, Memory
 }
 
 // One pass over spans in order of their starts.
-fn joined(alloc: Global, spans: &[Span]) -> Result<Vec<Span>, Memory>
+fn joined(alloc: Global, spans: &[Span]) -> Result<Vec<Span>, OutOfMemory>
     requires { AllByRecursion IsSmall spans.now }
     ensures { IfOk result (λ r. r.items ≡ joined_on 0 0 spans.now) }
 {
@@ -40,7 +40,7 @@ fn joined(alloc: Global, spans: &[Span]) -> Result<Vec<Span>, Memory>
     Ok(out)
 }
 
-fn push_piece(out: &mut Vec<Span>, from: u64, to: u64) -> Result<(), Memory>
+fn push_piece(out: &mut Vec<Span>, from: u64, to: u64) -> Result<(), OutOfMemory>
     ensures { OnOk result (out.new.items ≡ out.old.items ++ piece from to []) }
 {
     if from < to {

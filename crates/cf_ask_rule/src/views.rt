@@ -2,7 +2,7 @@
 use cf_ranges::RangeSet;
 
 /// What waits and asks look at in an item. The size and the base length are at most 2^24 bytes.
-#[derive(Clone, Copy, Debug)]
+#[derive(Clone, Copy)]
 pub struct View<'a> {
     /// The bytes that are here.
     pub here: &'a RangeSet,

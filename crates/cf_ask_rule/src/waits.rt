@@ -7,7 +7,7 @@ use cf_base::{Handle, ItemId, Key, Span, WaitId, WaitKind};
 use std::marker::Model;
 
 /// The number of a wait. One that is only tried may be past the last that there is.
-#[derive(Clone, Copy, Debug)]
+#[derive(Clone, Copy)]
 pub struct WaitNumber {
     epoch: u32,
     number: u64,
@@ -71,7 +71,7 @@ impl WaitNumber {
 }
 
 /// A call that waits. The span is what a read was asked for, or what is to be dehydrated; of other kinds it is empty.
-#[derive(Clone, Copy, Debug)]
+#[derive(Clone, Copy)]
 pub struct Wait {
     id: WaitId,
     kind: WaitKind,
@@ -128,7 +128,7 @@ impl Wait {
 }
 
 /// A wait as it is kept, or as it is tried under a number past the last.
-#[derive(Clone, Copy, Debug)]
+#[derive(Clone, Copy)]
 pub struct LiveWait {
     id: WaitNumber,
     kind: WaitKind,

@@ -1,12 +1,9 @@
 //! What an event is answered.
 
-ghost use Rattle.std.specs.Prelude.{◌≡◌, IfOk};
-
 use crate::bytes::Blob;
 use crate::codes::Code;
 use crate::ids::{Handle, ItemId, Rid, Usn, Version, WaitId};
 use crate::items::{Kind, Pin};
-use crate::memory::Memory;
 use crate::messages::Reply;
 use crate::names::Identity;
 use crate::notices::Notes;
@@ -15,7 +12,7 @@ use crate::spans::Span;
 use crate::waits::End;
 
 /// An auxiliary record of the volume, by which the engine keeps its book.
-#[derive(Clone, Debug, Drop)]
+#[derive(Drop)]
 pub struct AuxRecord {
     pub key: Blob,
     pub value: Blob,
@@ -36,7 +33,7 @@ pub struct Access {
 }
 
 /// The durable book that a restart opened. Lists are by key or by item.
-#[derive(Clone, Debug, Drop)]
+#[derive(Drop)]
 pub struct OpenedBook {
     pub records: Sequence<AuxRecord>,
     pub anchors: Sequence<Anchor>,
@@ -45,7 +42,7 @@ pub struct OpenedBook {
 }
 
 /// The result of an event.
-#[derive(Clone, Debug, Drop)]
+#[derive(Drop)]
 pub enum Shown {
     Done,
     Opened(Handle),
@@ -93,27 +90,9 @@ pub enum Shown {
 
 /// What an event is answered: what happened, in order, and the result. `stray` is a reply of the remote that made a
 /// peer event Stale.
-#[derive(Clone, Debug, Drop)]
+#[derive(Drop)]
 pub struct Answer {
     pub notes: Notes,
     pub shown: Shown,
     pub stray: Option<Reply>,
-}
-
-impl OpenedBook {
-    /// An equal value on its own.
-    pub fn copy(&self) -> Result<OpenedBook, Memory>
-        ensures { IfOk result (λ o. o ≡ self.now) }
-    {
-        Ok(self.clone()?)
-    }
-}
-
-impl Shown {
-    /// An equal value on its own.
-    pub fn copy(&self) -> Result<Shown, Memory>
-        ensures { IfOk result (λ s. s ≡ self.now) }
-    {
-        Ok(self.clone()?)
-    }
 }

@@ -2,7 +2,7 @@
 
 ghost use Rattle.std.specs.Prelude.{◌≡◌, ℕ, List, IfOk, string_bytes};
 
-use crate::memory::Memory;
+use crate::memory::OutOfMemory;
 use std::alloc::Global;
 use std::marker::Model;
 
@@ -20,7 +20,7 @@ impl Model for Blob {
 
 impl Blob {
     /// The same bytes, on their own.
-    pub fn from_slice(alloc: Global, bytes: &[u8]) -> Result<Blob, Memory>
+    pub fn from_slice(alloc: Global, bytes: &[u8]) -> Result<Blob, OutOfMemory>
         ensures { IfOk result (λ b. b ≡ bytes.now) }
     {
         let bytes = Vec::from_slice(alloc, bytes)?;
@@ -41,7 +41,7 @@ impl Blob {
     }
 
     /// An equal value on its own.
-    pub fn copy(&self) -> Result<Blob, Memory>
+    pub fn copy(&self) -> Result<Blob, OutOfMemory>
         ensures { IfOk result (λ b. b ≡ self.now) }
     {
         Ok(self.clone()?)
@@ -49,7 +49,7 @@ impl Blob {
 }
 
 /// A text of UTF-8.
-#[derive(Clone, Debug, Drop)]
+#[derive(Clone, Drop)]
 pub struct Text {
     text: String,
 }
@@ -62,7 +62,7 @@ impl Model for Text {
 
 impl Text {
     /// The same text, on its own.
-    pub fn from_str(alloc: Global, text: &str) -> Result<Text, Memory>
+    pub fn from_str(alloc: Global, text: &str) -> Result<Text, OutOfMemory>
         ensures { IfOk result (λ t. t ≡ text.now) }
     {
         let text = String::from_str(alloc, text)?;
@@ -76,7 +76,7 @@ impl Text {
     }
 
     /// An equal value on its own.
-    pub fn copy(&self) -> Result<Text, Memory>
+    pub fn copy(&self) -> Result<Text, OutOfMemory>
         ensures { IfOk result (λ t. t ≡ self.now) }
     {
         Ok(self.clone()?)

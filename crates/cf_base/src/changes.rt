@@ -5,11 +5,11 @@ ghost use Rattle.std.specs.Prelude.{◌≡◌, IfOk};
 use crate::bytes::Blob;
 use crate::ids::{ItemId, Usn};
 use crate::items::{Kind, Pin};
-use crate::memory::Memory;
+use crate::memory::OutOfMemory;
 use crate::names::{Identity, Name};
 
 /// A change of the volume. Each accepted one gets the next sequence number. Places and sizes are in bytes.
-#[derive(Clone, Debug, Drop)]
+#[derive(Clone, Drop)]
 pub enum Change {
     /// A new item with its parent's pin. A placeholder file has the size as its base length and no byte here; any
     /// other kind has size 0. A file and a plain directory have no identity.
@@ -116,7 +116,7 @@ pub enum Change {
 
 impl Change {
     /// An equal value on its own.
-    pub fn copy(&self) -> Result<Change, Memory>
+    pub fn copy(&self) -> Result<Change, OutOfMemory>
         ensures { IfOk result (λ c. c ≡ self.now) }
     {
         Ok(self.clone()?)

@@ -2,7 +2,7 @@
 
 ghost use Rattle.std.specs.Prelude.{◌≡◌};
 ghost use Rattle.cf_base.specs.Codes.{number_of};
-ghost use Rattle.cf_base.specs.declared.codes.Fail.TheVariants.{Memory};
+ghost use Rattle.cf_base.specs.declared.codes.CallError.TheVariants.{OutOfMemory};
 
 use crate::ids::Usn;
 use std::alloc::{AllocError, AllocFailed};
@@ -138,33 +138,33 @@ impl Code {
 
 /// Why a call fails: it is refused, or there was no memory.
 #[derive(Clone, Copy, Debug, PartialEq, Eq, thiserror::Error)]
-pub enum Fail {
+pub enum CallError {
     #[error("refused: {0:?}")]
     No(Code),
     #[error("out of memory")]
-    Memory,
+    OutOfMemory,
 }
 
-impl From<AllocError> for Fail {
-    ghost from_gives = { λ _ e. e ≡ Memory };
+impl From<AllocError> for CallError {
+    ghost from_gives = { λ _ e. e ≡ OutOfMemory };
 
-    fn from(_e: AllocError) -> Fail {
-        Fail::Memory
+    fn from(_e: AllocError) -> CallError {
+        CallError::OutOfMemory
     }
 }
 
-impl<T: Drop> From<AllocFailed<T>> for Fail {
-    ghost from_gives = { λ _ e. e ≡ Memory };
+impl<T: Drop> From<AllocFailed<T>> for CallError {
+    ghost from_gives = { λ _ e. e ≡ OutOfMemory };
 
-    fn from(_e: AllocFailed<T>) -> Fail {
-        Fail::Memory
+    fn from(_e: AllocFailed<T>) -> CallError {
+        CallError::OutOfMemory
     }
 }
 
-impl From<crate::memory::Memory> for Fail {
-    ghost from_gives = { λ _ e. e ≡ Memory };
+impl From<crate::memory::OutOfMemory> for CallError {
+    ghost from_gives = { λ _ e. e ≡ OutOfMemory };
 
-    fn from(_e: crate::memory::Memory) -> Fail {
-        Fail::Memory
+    fn from(_e: crate::memory::OutOfMemory) -> CallError {
+        CallError::OutOfMemory
     }
 }

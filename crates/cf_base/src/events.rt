@@ -1,17 +1,14 @@
 //! The events of a script.
 
-ghost use Rattle.std.specs.Prelude.{◌≡◌, IfOk};
-
 use crate::bytes::{Blob, Text};
 use crate::calls::Call;
 use crate::ids::Usn;
-use crate::memory::Memory;
 use crate::names::Identity;
 use crate::operations::Operation;
 use crate::policies::Choice;
 
 /// One event of a script.
-#[derive(Clone, Debug, Drop)]
+#[derive(Drop)]
 pub enum Event {
     Call(Call),
     Device(DeviceEvent),
@@ -32,7 +29,7 @@ pub enum DeviceEvent {
 
 /// What another device does to the remote, in `replay` and also while the power is off. Paths begin at the remote's
 /// root.
-#[derive(Clone, Debug, Drop)]
+#[derive(Drop)]
 pub enum PeerEvent {
     /// A new file, or the next version of one.
     Put { path: Text, bytes: Blob },
@@ -62,7 +59,7 @@ pub enum EngineEvent {
 }
 
 /// What a provider does of its own accord, in `filter`. Sizes are in bytes.
-#[derive(Clone, Debug, Drop)]
+#[derive(Drop)]
 pub enum ProviderEvent {
     Place {
         path: Text,
@@ -104,104 +101,4 @@ pub enum ProviderEvent {
         own: bool,
         operation: Operation,
     },
-}
-
-impl Event {
-    /// An equal value on its own.
-    pub fn copy(&self) -> Result<Event, Memory>
-        ensures { IfOk result (λ e. e ≡ self.now) }
-    {
-        match self {
-            Event::Call(call) => Ok(Event::Call(call.copy()?)),
-            Event::Device(event) => Ok(Event::Device(*event)),
-            Event::Peer(event) => Ok(Event::Peer(event.copy()?)),
-            Event::Engine(event) => Ok(Event::Engine(*event)),
-            Event::Provider(event) => Ok(Event::Provider(event.copy()?)),
-        }
-    }
-}
-
-impl PeerEvent {
-    /// An equal value on its own.
-    pub fn copy(&self) -> Result<PeerEvent, Memory>
-        ensures { IfOk result (λ e. e ≡ self.now) }
-    {
-        Ok(self.clone()?)
-    }
-}
-
-impl ProviderEvent {
-    /// An equal value on its own.
-    pub fn copy(&self) -> Result<ProviderEvent, Memory>
-        ensures { IfOk result (λ e. e ≡ self.now) }
-    {
-        match self {
-            ProviderEvent::Place {
-                path,
-                size,
-                identity,
-                in_sync,
-            } => {
-                let path = path.copy()?;
-                let identity = identity.copy()?;
-                Ok(ProviderEvent::Place {
-                    path,
-                    size: *size,
-                    identity,
-                    in_sync: *in_sync,
-                })
-            }
-            ProviderEvent::PlaceDir {
-                path,
-                identity,
-                in_sync,
-            } => {
-                let path = path.copy()?;
-                let identity = identity.copy()?;
-                Ok(ProviderEvent::PlaceDir {
-                    path,
-                    identity,
-                    in_sync: *in_sync,
-                })
-            }
-            ProviderEvent::Convert { path, identity } => {
-                let path = path.copy()?;
-                let identity = identity.copy()?;
-                Ok(ProviderEvent::Convert { path, identity })
-            }
-            ProviderEvent::Revert { path } => Ok(ProviderEvent::Revert { path: path.copy()? }),
-            ProviderEvent::Update {
-                path,
-                identity,
-                size,
-            } => {
-                let path = path.copy()?;
-                let identity = identity.copy()?;
-                Ok(ProviderEvent::Update {
-                    path,
-                    identity,
-                    size: *size,
-                })
-            }
-            ProviderEvent::Mark { path, number } => {
-                let path = path.copy()?;
-                Ok(ProviderEvent::Mark {
-                    path,
-                    number: *number,
-                })
-            }
-            ProviderEvent::Unmark { path } => Ok(ProviderEvent::Unmark { path: path.copy()? }),
-            ProviderEvent::Do { operation } => {
-                let operation = operation.copy()?;
-                Ok(ProviderEvent::Do { operation })
-            }
-            ProviderEvent::Plan { own, operation } => {
-                let operation = operation.copy()?;
-                Ok(ProviderEvent::Plan {
-                    own: *own,
-                    operation,
-                })
-            }
-        }
-    }
 }

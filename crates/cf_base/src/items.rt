@@ -3,7 +3,7 @@
 ghost use Rattle.std.specs.Prelude.{◌≡◌, IfOk};
 
 use crate::ids::{ItemId, Rid};
-use crate::memory::Memory;
+use crate::memory::OutOfMemory;
 use crate::names::Name;
 
 /// What an item is.
@@ -39,32 +39,23 @@ pub enum Reach {
 }
 
 /// One entry of a directory.
-#[derive(Clone, Debug, Drop)]
+#[derive(Drop)]
 pub struct ListedItem {
     pub name: Name,
     pub dir: bool,
 }
 
 /// Where an item stood in the remote when that was last seen.
-#[derive(Clone, Debug, Drop)]
+#[derive(Clone, Drop)]
 pub struct SeenPath {
     pub item: ItemId,
     pub parent: Rid,
     pub name: Name,
 }
 
-impl ListedItem {
-    /// An equal value on its own.
-    pub fn copy(&self) -> Result<ListedItem, Memory>
-        ensures { IfOk result (λ l. l ≡ self.now) }
-    {
-        Ok(self.clone()?)
-    }
-}
-
 impl SeenPath {
     /// An equal value on its own.
-    pub fn copy(&self) -> Result<SeenPath, Memory>
+    pub fn copy(&self) -> Result<SeenPath, OutOfMemory>
         ensures { IfOk result (λ s. s ≡ self.now) }
     {
         Ok(self.clone()?)

@@ -4,11 +4,11 @@ ghost use Rattle.std.specs.Prelude.{◌≡◌, IfOk};
 
 use crate::bytes::Blob;
 use crate::ids::{Key, Rid, Round, Token, Version};
-use crate::memory::Memory;
+use crate::memory::OutOfMemory;
 use crate::sequence::Sequence;
 
 /// A request to the remote. Names are any bytes, so that a bad one can be refused.
-#[derive(Clone, Debug, Drop)]
+#[derive(Debug, Drop)]
 pub enum Request {
     /// All items that changed above the clock `after`.
     Feed {
@@ -142,16 +142,103 @@ pub enum Reply {
 
 impl Request {
     /// An equal value on its own.
-    pub fn copy(&self) -> Result<Request, Memory>
+    pub fn copy(&self) -> Result<Request, OutOfMemory>
         ensures { IfOk result (λ r. r ≡ self.now) }
     {
-        Ok(self.clone()?)
+        match self {
+            Request::Feed { round, after } => {
+                Ok(Request::Feed {
+                    round: *round,
+                    after: *after,
+                })
+            }
+            Request::List { key, rid } => {
+                Ok(Request::List {
+                    key: *key,
+                    rid: *rid,
+                })
+            }
+            Request::Fetch {
+                key,
+                rid,
+                version,
+                start,
+                len,
+            } => {
+                Ok(Request::Fetch {
+                    key: *key,
+                    rid: *rid,
+                    version: *version,
+                    start: *start,
+                    len: *len,
+                })
+            }
+            Request::Put {
+                token,
+                rid,
+                expect,
+                parent,
+                name,
+                bytes,
+            } => {
+                let name = name.copy()?;
+                let bytes = bytes.copy()?;
+                Ok(Request::Put {
+                    token: *token,
+                    rid: *rid,
+                    expect: *expect,
+                    parent: *parent,
+                    name,
+                    bytes,
+                })
+            }
+            Request::MakeDir {
+                token,
+                parent,
+                name,
+            } => {
+                let name = name.copy()?;
+                Ok(Request::MakeDir {
+                    token: *token,
+                    parent: *parent,
+                    name,
+                })
+            }
+            Request::Move {
+                token,
+                rid,
+                parent,
+                name,
+            } => {
+                let name = name.copy()?;
+                Ok(Request::Move {
+                    token: *token,
+                    rid: *rid,
+                    parent: *parent,
+                    name,
+                })
+            }
+            Request::Remove { token, rid, expect } => {
+                Ok(Request::Remove {
+                    token: *token,
+                    rid: *rid,
+                    expect: *expect,
+                })
+            }
+            Request::Settle { token } => { Ok(Request::Settle { token: *token }) }
+            Request::Keep { token, count } => {
+                Ok(Request::Keep {
+                    token: *token,
+                    count: *count,
+                })
+            }
+        }
     }
 }
 
 impl Entry {
     /// An equal value on its own.
-    pub fn copy(&self) -> Result<Entry, Memory>
+    pub fn copy(&self) -> Result<Entry, OutOfMemory>
         ensures { IfOk result (λ e. e ≡ self.now) }
     {
         Ok(self.clone()?)
@@ -160,7 +247,7 @@ impl Entry {
 
 impl Reply {
     /// An equal value on its own.
-    pub fn copy(&self) -> Result<Reply, Memory>
+    pub fn copy(&self) -> Result<Reply, OutOfMemory>
         ensures { IfOk result (λ r. r ≡ self.now) }
     {
         Ok(self.clone()?)

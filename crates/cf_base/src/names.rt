@@ -4,18 +4,16 @@ ghost use Rattle.std.specs.Prelude.{◌≡◌, ◌≤◌, ◌<◌, ℕ, List, If
 ghost use Rattle.std.specs.List.{list_all};
 ghost use Rattle.std.specs.Str.{is_utf8};
 ghost use Rattle.cf_base.specs.Names.{is_name, is_name_byte};
+ghost use Rattle.cf_base.specs.declared.limits.TheConstants.{MOST_IDENTITY_BYTES};
 
-use crate::codes::{Code, Fail};
-use crate::memory::Memory;
+use crate::codes::{CallError, Code};
+use crate::limits::{MOST_IDENTITY_BYTES, MOST_NAME_BYTES};
+use crate::memory::OutOfMemory;
 use std::alloc::Global;
 use std::marker::Model;
 
-const MOST_NAME_BYTES: usize = 255;
-
-const MOST_IDENTITY_BYTES: usize = 4096;
-
 /// The name of an item in its directory. The root's alone is empty.
-#[derive(Clone, Debug, Drop)]
+#[derive(Clone, Drop)]
 pub struct Name {
     bytes: Vec<u8>,
 }
@@ -48,7 +46,9 @@ fn is_utf8(bytes: &[u8]) -> bool
     }
 }
 
-fn is_name(bytes: &[u8]) -> bool
+/// Whether the bytes are the name of an item: 1 to 255 bytes of UTF-8, none below 32, none 127, none of
+/// `/ \\ : * ? " < > |`, and neither `.` nor `..`. It takes no memory.
+pub fn is_name(bytes: &[u8]) -> bool
     ensures { result ≡ is_name bytes.now }
 {
     !bytes.is_empty()
@@ -62,12 +62,12 @@ fn is_name(bytes: &[u8]) -> bool
 impl Name {
     /// The name that the bytes are. Refused as BadPath where they are none: 1 to 255 bytes of UTF-8, none below 32,
     /// none 127, none of `/ \ : * ? " < > |`, and neither `.` nor `..`.
-    pub fn read(alloc: Global, bytes: &[u8]) -> Result<Name, Fail>
+    pub fn read(alloc: Global, bytes: &[u8]) -> Result<Name, CallError>
         ensures ok { IfOk result (λ n. (n ≡ bytes.now) × (is_name bytes.now ≡ true)) }
-        ensures bad { IfErr result (λ e. (e ≡ Fail.Memory) ⊎ ((e ≡ Fail.No Code.BadPath) × (is_name bytes.now ≡ false))) }
+        ensures bad { IfErr result (λ e. (e ≡ CallError.OutOfMemory) ⊎ ((e ≡ CallError.No Code.BadPath) × (is_name bytes.now ≡ false))) }
     {
         if !is_name(bytes) {
-            return Err(Fail::No(Code::BadPath));
+            return Err(CallError::No(Code::BadPath));
         }
         let bytes = Vec::from_slice(alloc, bytes)?;
         Ok(Name { bytes })
@@ -80,7 +80,7 @@ impl Name {
     }
 
     /// An equal value on its own.
-    pub fn copy(&self) -> Result<Name, Memory>
+    pub fn copy(&self) -> Result<Name, OutOfMemory>
         ensures { IfOk result (λ n. n ≡ self.now) }
     {
         Ok(self.clone()?)
@@ -88,7 +88,7 @@ impl Name {
 }
 
 /// The bytes by which a provider knows its file again. They are handed back in callbacks and never read here.
-#[derive(Clone, Debug, Drop)]
+#[derive(Clone, Drop)]
 pub struct Identity {
     bytes: Vec<u8>,
 }
@@ -101,18 +101,18 @@ impl Model for Identity {
 
 impl Identity {
     /// The identity of these bytes. Refused as IdentityTooLong where there are more than 4,096.
-    pub fn read(alloc: Global, bytes: &[u8]) -> Result<Identity, Fail>
-        ensures ok { IfOk result (λ i. (i ≡ bytes.now) × (length bytes.now ≤ 4096)) }
-        ensures bad { IfErr result (λ e. (e ≡ Fail.Memory) ⊎ ((e ≡ Fail.No Code.IdentityTooLong) × (4096 < length bytes.now))) }
+    pub fn read(alloc: Global, bytes: &[u8]) -> Result<Identity, CallError>
+        ensures ok { IfOk result (λ i. (i ≡ bytes.now) × (length bytes.now ≤ MOST_IDENTITY_BYTES)) }
+        ensures bad { IfErr result (λ e. (e ≡ CallError.OutOfMemory) ⊎ ((e ≡ CallError.No Code.IdentityTooLong) × (MOST_IDENTITY_BYTES < length bytes.now))) }
     {
         if bytes.len() > MOST_IDENTITY_BYTES {
-            return Err(Fail::No(Code::IdentityTooLong));
+            return Err(CallError::No(Code::IdentityTooLong));
         }
         Ok(Identity::new(alloc, bytes)?)
     }
 
     /// Holds any bytes, so that a later call can refuse an identity that is too long.
-    pub fn new(alloc: Global, bytes: &[u8]) -> Result<Identity, Memory>
+    pub fn new(alloc: Global, bytes: &[u8]) -> Result<Identity, OutOfMemory>
         ensures { IfOk result (λ i. i ≡ bytes.now) }
     {
         let bytes = Vec::from_slice(alloc, bytes)?;
@@ -126,7 +126,7 @@ impl Identity {
     }
 
     /// An equal value on its own.
-    pub fn copy(&self) -> Result<Identity, Memory>
+    pub fn copy(&self) -> Result<Identity, OutOfMemory>
         ensures { IfOk result (λ i. i ≡ self.now) }
     {
         Ok(self.clone()?)

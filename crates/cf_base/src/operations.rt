@@ -4,14 +4,14 @@ ghost use Rattle.std.specs.Prelude.{◌≡◌, IfOk};
 
 use crate::bytes::Blob;
 use crate::ids::Key;
-use crate::memory::Memory;
+use crate::memory::OutOfMemory;
 use crate::names::Identity;
 use crate::sequence::Sequence;
 use crate::spans::Span;
 
 /// One entry that a provider gives for a directory. The size of a directory is not read. The name is any bytes, so
 /// that a bad one can be refused.
-#[derive(Clone, Debug, Drop)]
+#[derive(Clone, Drop)]
 pub struct NewItem {
     pub name: Blob,
     pub dir: bool,
@@ -22,7 +22,7 @@ pub struct NewItem {
 }
 
 /// An operation of a provider. `key` names the ask that it answers; places and lengths are in bytes.
-#[derive(Clone, Debug, Drop)]
+#[derive(Drop)]
 pub enum Operation {
     /// Bytes of a fetch ask.
     Transfer {
@@ -66,16 +66,60 @@ pub enum Operation {
 
 impl Operation {
     /// An equal value on its own.
-    pub fn copy(&self) -> Result<Operation, Memory>
+    pub fn copy(&self) -> Result<Operation, OutOfMemory>
         ensures { IfOk result (λ o. o ≡ self.now) }
     {
-        Ok(self.clone()?)
+        match self {
+            Operation::Transfer { key, at, bytes } => {
+                let bytes = bytes.copy()?;
+                Ok(Operation::Transfer {
+                    key: *key,
+                    at: *at,
+                    bytes,
+                })
+            }
+            Operation::Refuse { key, span, status } => {
+                Ok(Operation::Refuse {
+                    key: *key,
+                    span: *span,
+                    status: *status,
+                })
+            }
+            Operation::Retrieve { key, span } => {
+                Ok(Operation::Retrieve {
+                    key: *key,
+                    span: *span,
+                })
+            }
+            Operation::Ack { key, span, good } => {
+                Ok(Operation::Ack {
+                    key: *key,
+                    span: *span,
+                    good: *good,
+                })
+            }
+            Operation::Restart { key } => { Ok(Operation::Restart { key: *key }) }
+            Operation::Entries { key, list, good } => {
+                let list = list.clone()?;
+                Ok(Operation::Entries {
+                    key: *key,
+                    list,
+                    good: *good,
+                })
+            }
+            Operation::AckDehydrate { key, good } => {
+                Ok(Operation::AckDehydrate {
+                    key: *key,
+                    good: *good,
+                })
+            }
+        }
     }
 }
 
 impl NewItem {
     /// An equal value on its own.
-    pub fn copy(&self) -> Result<NewItem, Memory>
+    pub fn copy(&self) -> Result<NewItem, OutOfMemory>
         ensures { IfOk result (λ n. n ≡ self.now) }
     {
         Ok(self.clone()?)

@@ -2,7 +2,7 @@
 
 ghost use Rattle.std.specs.Prelude.{◌≡◌, ℕ, List, [], ◌∷◌, ◌++◌, OnErr, OnOk, option_copied, slice_get};
 
-use crate::memory::Memory;
+use crate::memory::OutOfMemory;
 use std::alloc::Global;
 use std::marker::Model;
 
@@ -52,7 +52,7 @@ impl<T> Sequence<T> {
 
 impl<T: Drop> Sequence<T> {
     /// Adds an item at the end. Without memory the list is as before.
-    pub fn push(&mut self, item: T) -> Result<(), Memory>
+    pub fn push(&mut self, item: T) -> Result<(), OutOfMemory>
         ensures ok { OnOk result (self.new ≡ self.old ++ item ∷ []) }
         ensures err { OnErr result (self.new ≡ self.old) }
     {

@@ -2,8 +2,9 @@
 
 ghost use Rattle.std.specs.Prelude.{◌≡◌, ◌+◌, ◌/◌, ◌<◌, ◌≤◌, ◌^◌, ◌↔◌, ℕ};
 ghost use Rattle.cf_base.specs.Spans.{IsIn, Touches};
+ghost use Rattle.cf_base.specs.declared.limits.TheConstants.{BLOCK_BYTES};
 
-const BLOCK: u64 = 4096;
+use crate::limits::BLOCK_BYTES;
 
 /// `len` places from `start` on.
 #[derive(Clone, Copy, Debug, PartialEq, Eq)]
@@ -12,18 +13,18 @@ pub struct Span {
     pub len: u64,
 }
 
-/// The blocks of 4,096 bytes that the span touches, an empty one none: the first of them and how many.
+/// The blocks of BLOCK_BYTES that the span touches, an empty one none: the first of them and how many.
 pub fn blocks_of(span: Span) -> Span
     requires { span.start + span.len ≤ 2 ^ 40 }
     ensures touched { (k : ℕ) → IsIn k result → Touches span k }
-    ensures all { (p : ℕ) → IsIn p span → IsIn (p / 4096) result }
-    ensures first { result.start ≡ span.start / 4096 }
+    ensures all { (p : ℕ) → IsIn p span → IsIn (p / BLOCK_BYTES) result }
+    ensures first { result.start ≡ span.start / BLOCK_BYTES }
 {
-    let start = span.start / BLOCK;
+    let start = span.start / BLOCK_BYTES;
     if span.len == 0 {
         return Span { start, len: 0 };
     }
-    let last = (span.start + span.len - 1) / BLOCK;
+    let last = (span.start + span.len - 1) / BLOCK_BYTES;
     Span {
         start,
         len: last - start + 1,

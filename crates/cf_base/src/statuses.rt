@@ -19,11 +19,19 @@ pub enum Status {
     /// The device has no fit size.
     BadDevice,
     /// There was no memory.
-    Memory,
+    OutOfMemory,
     /// The source, or the report, has too many bytes.
     TooLong,
     /// The device failed before the first event.
     DeviceFault,
+    /// The bytes that were to be read as a device are none.
+    BadImage,
+    /// A report gives an answer that is not lawful.
+    Unlawful,
+    /// A report is lawful as far as it can be judged.
+    Undecided,
+    /// The bytes of a device are damaged.
+    Damaged,
 }
 
 impl Status {
@@ -38,9 +46,13 @@ impl Status {
             Status::SourceFault => 4,
             Status::SinkFault => 5,
             Status::BadDevice => 6,
-            Status::Memory => 7,
+            Status::OutOfMemory => 7,
             Status::TooLong => 8,
             Status::DeviceFault => 9,
+            Status::BadImage => 10,
+            Status::Unlawful => 11,
+            Status::Undecided => 12,
+            Status::Damaged => 13,
         }
     }
 }

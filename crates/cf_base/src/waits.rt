@@ -6,7 +6,7 @@ use crate::bytes::Blob;
 use crate::codes::Code;
 use crate::ids::{ItemId, Key};
 use crate::items::ListedItem;
-use crate::memory::Memory;
+use crate::memory::OutOfMemory;
 use crate::sequence::Sequence;
 use crate::spans::Span;
 
@@ -59,7 +59,7 @@ pub enum Cause {
 }
 
 /// How a call that may wait ends.
-#[derive(Clone, Debug, Drop)]
+#[derive(Drop)]
 pub enum End {
     /// The bytes that were read.
     Data(Blob),
@@ -76,13 +76,4 @@ pub enum End {
     Cancelled,
     Down,
     Refused(Code),
-}
-
-impl End {
-    /// An equal value on its own.
-    pub fn copy(&self) -> Result<End, Memory>
-        ensures { IfOk result (λ e. e ≡ self.now) }
-    {
-        Ok(self.clone()?)
-    }
 }

@@ -1,7 +1,7 @@
 //! Tests of what no clause says: that each call succeeds where memory is ample.
 
 use cf_base::{
-    Blob, Call, Change, Code, End, Event, Fail, Hydration, Identity, ItemId, Kind, Mode, Name,
+    Blob, CallError, Change, Code, Hydration, Identity, ItemId, Kind, Mode, Name,
     Policy, Population, Sequence, Span, Status, Text, blocks_of,
 };
 use std::test::Fail as TestFail;
@@ -27,7 +27,7 @@ fn names_are_judged(rt: HostRuntime) -> Result<(), TestFail> {
         b"\xff",
         &too_long,
     ] {
-        assert!(rt; matches!(Name::read(alloc, bad), Err(Fail::No(Code::BadPath))));
+        assert!(rt; matches!(Name::read(alloc, bad), Err(CallError::No(Code::BadPath))));
     }
     Ok(())
 }
@@ -43,7 +43,7 @@ fn identities_end_at_4096_bytes(rt: HostRuntime) -> Result<(), TestFail> {
     assert!(rt;
         matches!(
             Identity::read(alloc, &long),
-            Err(Fail::No(Code::IdentityTooLong))
+            Err(CallError::No(Code::IdentityTooLong))
         )
     );
     assert_eq!(rt; Identity::new(alloc, &long)?.copy()?.as_slice().len(), 4097);
@@ -57,8 +57,6 @@ fn copies_are_made(rt: HostRuntime) -> Result<(), TestFail> {
     assert_eq!(rt; blob.copy()?.as_slice(), b"ab".as_slice());
     let path = Text::from_str(alloc, "/a")?;
     assert_eq!(rt; path.copy()?.as_str(), "/a");
-    let event = Event::Call(Call::Open { path });
-    assert!(rt; matches!(event.copy()?, Event::Call(Call::Open { path: _ })));
     let name = Name::read(alloc, b"a")?;
     let change = Change::Move {
         item: ItemId(2),
@@ -75,7 +73,6 @@ fn copies_are_made(rt: HostRuntime) -> Result<(), TestFail> {
             }
         )
     );
-    assert!(rt; matches!(End::Data(blob).copy()?, End::Data(_)));
     let mut kinds = Sequence::new(alloc);
     kinds.push(Kind::File)?;
     kinds.push(Kind::Dir)?;
@@ -99,7 +96,7 @@ fn policies_are_judged(rt: HostRuntime) {
 #[test]
 fn numbers_are_told(rt: HostRuntime) {
     assert_eq!(rt; Code::VersionGone.number(), 45);
-    assert_eq!(rt; Status::DeviceFault.number(), 9);
+    assert_eq!(rt; Status::Damaged.number(), 13);
     let span = Span {
         start: 4095,
         len: 2,

@@ -6,7 +6,7 @@ ghost use Rattle.clap.specs.Values.{kind_of};
 ghost use Rattle.clap.specs.declared.error.kind.ErrorKind.TheVariants as kind;
 ghost use Rattle.cf_cli.specs.Accounts.{AreTaken, Names, name_of};
 ghost use Rattle.cf_cli.specs.declared.commands.Command.{Command as Meant};
-ghost use Rattle.cf_cli.specs.declared.commands.WordsFail.TheVariants as fails;
+ghost use Rattle.cf_cli.specs.declared.commands.WordsError.TheVariants as fails;
 
 use crate::accounts::account;
 use clap::error::ErrorKind;
@@ -24,26 +24,26 @@ pub enum Command {
 
 /// Why words are no command.
 #[derive(Clone, Copy, Debug, PartialEq, Eq, thiserror::Error)]
-pub enum WordsFail {
+pub enum WordsError {
     #[error("no command")]
     Usage,
     #[error("out of memory")]
-    Memory,
+    OutOfMemory,
 }
 
-impl From<AllocError> for WordsFail {
-    ghost from_gives = { λ _ e. e ≡ fails.Memory };
+impl From<AllocError> for WordsError {
+    ghost from_gives = { λ _ e. e ≡ fails.OutOfMemory };
 
-    fn from(_e: AllocError) -> WordsFail {
-        WordsFail::Memory
+    fn from(_e: AllocError) -> WordsError {
+        WordsError::OutOfMemory
     }
 }
 
 /// The command that the words after the program's name are. Refused as Usage exactly where `clap` does not take the words,
-/// but for want of memory, which is answered as Memory.
-pub fn command_of(alloc: Global, words: &[String]) -> Result<Command, WordsFail>
+/// but for want of memory, which is answered as OutOfMemory.
+pub fn command_of(alloc: Global, words: &[String]) -> Result<Command, WordsError>
     ensures ok { IfOk result (Names (map string_bytes words.now)) }
-    ensures usage { IsErrOf result WordsFail.Usage → AreTaken (map string_bytes words.now) → ⊥ }
+    ensures usage { IsErrOf result WordsError.Usage → AreTaken (map string_bytes words.now) → ⊥ }
 {
     let line = account(alloc)?;
     match line.try_get_matches_from(words) {
@@ -64,11 +64,11 @@ fn met(matches: &ArgMatches) -> Command
     }
 }
 
-fn fail_of(error: &Error) -> WordsFail
-    ensures { result ≡ WordsFail.Usage → kind_of error.now ≢ kind.OutOfMemory }
+fn fail_of(error: &Error) -> WordsError
+    ensures { result ≡ WordsError.Usage → kind_of error.now ≢ kind.OutOfMemory }
 {
     if error.kind() == ErrorKind::OutOfMemory {
-        return WordsFail::Memory;
+        return WordsError::OutOfMemory;
     }
-    WordsFail::Usage
+    WordsError::Usage
 }

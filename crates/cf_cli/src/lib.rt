@@ -8,7 +8,7 @@ mod accounts;
 mod commands;
 mod laws;
 
-pub use commands::{Command, WordsFail, command_of};
+pub use commands::{Command, WordsError, command_of};
 pub use laws::{one_word_is_taken, without_a_command};
 
 #[cfg(test)]

@@ -1,10 +1,10 @@
 //! Words that are a command, and words that are none.
 
-use crate::{Command, WordsFail, command_of};
+use crate::{Command, WordsError, command_of};
 use std::alloc::Global;
 use std::test::Fail;
 
-fn read(alloc: Global, words: &[&str]) -> Result<Result<Command, WordsFail>, Fail> {
+fn read(alloc: Global, words: &[&str]) -> Result<Result<Command, WordsError>, Fail> {
     let mut owned = Vec::new(alloc);
     for word in words {
         owned.push(String::from_str(alloc, word)?)?;
@@ -34,7 +34,7 @@ fn one_word_is_a_command(rt: HostRuntime) -> Result<(), Fail> {
 #[test]
 fn other_words_are_none(rt: HostRuntime) -> Result<(), Fail> {
     for words in BAD {
-        assert_eq!(rt; read(rt.alloc(), words)?, Err(WordsFail::Usage));
+        assert_eq!(rt; read(rt.alloc(), words)?, Err(WordsError::Usage));
     }
     Ok(())
 }

@@ -1,8 +1,8 @@
 -- What a call leaves of the clusters.
 use Rattle.std.specs.Prelude.{◌≡◌, ◌<◌, ◌+◌, ◌*◌, ℕ, List, length, take, Result, Ok, Err}
 use Rattle.cf_disk.specs.Disk.{State, Spends, part}
-use Rattle.cf_clusters.specs.declared.clusters.DataFail.{DataFail}
-use Rattle.cf_clusters.specs.declared.clusters.DataFail.TheVariants.{Failed, Full}
+use Rattle.cf_clusters.specs.declared.clusters.ClusterError.{ClusterError}
+use Rattle.cf_clusters.specs.declared.clusters.ClusterError.TheVariants.{Failed, Full}
 use Rattle.cf_clusters.specs.declared.uses.Use.{Use}
 use Rattle.cf_clusters.specs.Roles.{use_of}
 
@@ -21,7 +21,7 @@ abbrev pub KeepsWhere : (Use → Type 0) → List Use → State → List ℕ →
 KeepsWhere P uses old c = (d : List ℕ) × old.may_leave d × SameWhere P uses d c
 
 -- a call that gives up before it begins spends none of the armed number, and any other one
-abbrev pub SpendsOne : Result ℕ DataFail → State → State → Type 0
-SpendsOne (Ok k) old new = Spends {T = ℕ} {E = DataFail} (Ok k) old new
-SpendsOne (Err Failed) old new = Spends {T = ℕ} {E = DataFail} (Err Failed) old new
+abbrev pub SpendsOne : Result ℕ ClusterError → State → State → Type 0
+SpendsOne (Ok k) old new = Spends {T = ℕ} {E = ClusterError} (Ok k) old new
+SpendsOne (Err Failed) old new = Spends {T = ℕ} {E = ClusterError} (Err Failed) old new
 SpendsOne (Err Full) old new = new.armed ≡ old.armed

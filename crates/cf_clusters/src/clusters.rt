@@ -3,15 +3,15 @@ ghost use Rattle.std.specs.Prelude.{◌≡◌, ◌<◌, ◌≤◌, ◌+◌, ◌*
 ghost use Rattle.std.specs.Option.{ForSome};
 ghost use Rattle.cf_disk.specs.Disk.{size_of, part, capped, SameBut, Leaves, Keeps, Counts, Rises, Spends};
 ghost use Rattle.cf_clusters.specs.declared.uses.Use.TheVariants.{Free, Held, Staged, Dropped};
-ghost use Rattle.cf_clusters.specs.declared.clusters.DataFail.TheVariants.{Failed, Full};
+ghost use Rattle.cf_clusters.specs.declared.clusters.ClusterError.TheVariants.{Failed, Full};
 ghost use Rattle.cf_clusters.specs.Roles.{committed, dropped_at, how_many, is_free, is_now, staged_at, use_of, AreApart, HoldsAll, IsUsed, Opens};
 ghost use Rattle.cf_clusters.specs.Layout.{descending};
 ghost use Rattle.cf_clusters.specs.Area.{place, KeepsWhere, SameWhere, SpendsOne};
 
 use crate::orders::{numbers, swap};
 use crate::uses::Use;
-use cf_base::Memory;
-use cf_disk::{Disk, DiskFault};
+use cf_base::OutOfMemory;
+use cf_disk::{Disk, DiskError};
 use std::alloc::Global;
 use std::marker::Model;
 
@@ -22,7 +22,7 @@ const CLUSTER: u64 = 4096;
 
 /// Why a call on the clusters fails.
 #[derive(Clone, Copy, Debug, PartialEq, Eq, thiserror::Error)]
-pub enum DataFail {
+pub enum ClusterError {
     /// A call of the disk failed: its count of faults rose.
     #[error("the disk failed")]
     Failed,
@@ -31,20 +31,20 @@ pub enum DataFail {
     Full,
 }
 
-impl From<DiskFault> for DataFail {
+impl From<DiskError> for ClusterError {
     ghost use Rattle.std.specs.Prelude.{◌≡◌};
-    ghost use Rattle.cf_clusters.specs.declared.clusters.DataFail.TheVariants.{Failed};
+    ghost use Rattle.cf_clusters.specs.declared.clusters.ClusterError.TheVariants.{Failed};
 
     ghost from_gives = { λ _ e. e ≡ Failed };
 
-    fn from(_fault: DiskFault) -> DataFail {
-        DataFail::Failed
+    fn from(_fault: DiskError) -> ClusterError {
+        ClusterError::Failed
     }
 }
 
 /// The clusters of a volume. Their numbers stand in an order, dropped ones first, then free, staged and held ones, so that
 /// a cluster changes its use by swaps at the bounds, and a commit by two bounds alone.
-#[derive(Debug, Drop)]
+#[derive(Drop)]
 pub struct Data {
     order: Vec<u32>,
     places: Vec<u32>,
@@ -68,7 +68,7 @@ impl Model for Data {
 impl Data {
     /// So many clusters, of which the given ones, each named once, are held by the last commit and now. All others are
     /// free. No later call takes memory.
-    pub fn new(alloc: Global, clusters: u32, held: &[u32]) -> Result<Data, Memory>
+    pub fn new(alloc: Global, clusters: u32, held: &[u32]) -> Result<Data, OutOfMemory>
         requires inside { All (λ k. k < clusters) held.now }
         requires apart { AreApart held.now }
         ensures { IfOk result (Opens clusters held.now) }
@@ -79,7 +79,7 @@ impl Data {
         Ok(data)
     }
 
-    fn empty(alloc: Global, clusters: u32) -> Result<Data, Memory>
+    fn empty(alloc: Global, clusters: u32) -> Result<Data, OutOfMemory>
         ensures { IfOk result (Opens clusters []) }
     {
         let order = numbers(alloc, clusters)?;
@@ -257,7 +257,7 @@ impl Data {
         disk: &mut D,
         old: Option<u32>,
         bytes: &[u8; 4096],
-    ) -> Result<u32, DataFail>
+    ) -> Result<u32, ClusterError>
         requires room { place (length self.old) ≤ size_of (D.state disk.old) }
         requires old { ForSome old (λ o. o < length self.old) }
 
@@ -281,7 +281,7 @@ impl Data {
         ensures spends { SpendsOne result (D.state disk.old) (D.state disk.new) }
     {
         let Some(cluster) = self.pick() else {
-            return Err(DataFail::Full);
+            return Err(ClusterError::Full);
         };
         disk.write(CLUSTERS + CLUSTER * cluster as u64, bytes)?;
         self.note(cluster, old);
@@ -294,7 +294,7 @@ impl Data {
         disk: &mut D,
         cluster: u32,
         out: &mut [u8; 4096],
-    ) -> Result<(), DataFail>
+    ) -> Result<(), ClusterError>
         requires room { place (length self.now) ≤ size_of (D.state disk.old) }
         requires inside { cluster < length self.now }
         ensures got { OnOk result (out.new ≡ part (place cluster) 4096 (D.state disk.old).seen) }

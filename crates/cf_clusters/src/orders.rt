@@ -2,11 +2,11 @@
 ghost use Rattle.std.specs.Prelude.{◌≡◌, ◌<◌, ◌^◌, IfOk, length, map};
 ghost use Rattle.cf_clusters.specs.Layout.{descending, moved, AreInverse};
 
-use cf_base::Memory;
+use cf_base::OutOfMemory;
 use std::alloc::Global;
 
 // The numbers below a count, from the greatest down.
-pub(crate) fn numbers(alloc: Global, count: u32) -> Result<Vec<u32>, Memory>
+pub(crate) fn numbers(alloc: Global, count: u32) -> Result<Vec<u32>, OutOfMemory>
     ensures { IfOk result (λ v. v.items ≡ descending count) }
 {
     let mut out = Vec::with_capacity(alloc, count as usize)?;

@@ -1,7 +1,7 @@
 //! A store over a disk in memory, also where the disk fails and the power is cut.
 
-use crate::{Data, DataFail};
-use cf_base::{Choice, Memory};
+use crate::{Data, ClusterError};
+use cf_base::{Choice, OutOfMemory};
 use cf_disk::{Disk, MemDisk};
 use std::alloc::Global;
 use std::process::Abort;
@@ -19,7 +19,7 @@ fn block(byte: u8) -> [u8; 4096] {
     [byte; 4096]
 }
 
-fn blank(alloc: Global, size: u64) -> Result<MemDisk, Memory> {
+fn blank(alloc: Global, size: u64) -> Result<MemDisk, OutOfMemory> {
     MemDisk::new(alloc, size)
 }
 
@@ -34,7 +34,7 @@ fn stages_one_cluster_once(rt: HostRuntime) -> Result<(), Fail> {
     assert!(rt; data.clusters() == 1);
     assert!(rt; disk.size() == ONE);
     let full = data.stage(&mut disk, None, &block(8));
-    assert_eq!(rt; full, Err(DataFail::Full));
+    assert_eq!(rt; full, Err(ClusterError::Full));
     assert!(rt; data.clusters() == 1);
     assert!(rt; disk.size() == ONE);
     let mut out = block(0);

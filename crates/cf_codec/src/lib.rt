@@ -8,7 +8,7 @@ mod failures;
 mod readers;
 mod writers;
 
-pub use failures::CodecFail;
+pub use failures::CodecError;
 pub use readers::{Reader, one_number};
 pub use writers::Writer;
 

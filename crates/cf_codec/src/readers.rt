@@ -4,7 +4,7 @@ ghost use Rattle.std.specs.Prelude.{◌≡◌, ◌+◌, ◌<◌, ◌^◌, ◌++�
 ghost use Rattle.std.specs.Int.{w16, w32, w64, to_be_bytes};
 ghost use Rattle.cf_codec.specs.Left.{Left, Takes, Lacks};
 
-use crate::failures::CodecFail;
+use crate::failures::CodecError;
 use std::marker::Model;
 
 /// Reads fields from the front of some bytes. Contracts see it as the bytes that are left, and the place where they
@@ -61,13 +61,13 @@ impl<'a> Reader<'a> {
     }
 
     /// The next `n` bytes. Short at the place of the first of them where fewer are left.
-    pub fn bytes(&mut self, n: usize) -> Result<&'a [u8], CodecFail>
+    pub fn bytes(&mut self, n: usize) -> Result<&'a [u8], CodecError>
         ensures took { IfOk result (λ b. Takes b.now self.old self.new) }
         ensures size { IfOk result (λ b. length b.now ≡ n) }
         ensures short { IfErr result (λ e. Lacks n e self.old self.new) }
     {
         if self.rest.len() < n {
-            return Err(CodecFail::Short(self.at));
+            return Err(CodecError::Short(self.at));
         }
         let (field, rest) = self.rest.split_at(n);
         self.rest = rest;
@@ -76,7 +76,7 @@ impl<'a> Reader<'a> {
     }
 
     /// The next byte. Short at its place where none is left.
-    pub fn u8(&mut self) -> Result<u8, CodecFail>
+    pub fn u8(&mut self) -> Result<u8, CodecError>
         ensures took { IfOk result (λ v. Takes (v ∷ []) self.old self.new) }
         ensures fits { IfOk result (λ v. v < 2 ^ 8) }
         ensures short { IfErr result (λ e. Lacks 1 e self.old self.new) }
@@ -86,7 +86,7 @@ impl<'a> Reader<'a> {
     }
 
     /// The number of the next two bytes. Short at the place of the first of them where fewer are left.
-    pub fn u16(&mut self) -> Result<u16, CodecFail>
+    pub fn u16(&mut self) -> Result<u16, CodecError>
         ensures took { IfOk result (λ v. Takes (to_be_bytes w16 v) self.old self.new) }
         ensures fits { IfOk result (λ v. v < 2 ^ 16) }
         ensures short { IfErr result (λ e. Lacks 2 e self.old self.new) }
@@ -96,7 +96,7 @@ impl<'a> Reader<'a> {
     }
 
     /// The number of the next four bytes. Short at the place of the first of them where fewer are left.
-    pub fn u32(&mut self) -> Result<u32, CodecFail>
+    pub fn u32(&mut self) -> Result<u32, CodecError>
         ensures took { IfOk result (λ v. Takes (to_be_bytes w32 v) self.old self.new) }
         ensures fits { IfOk result (λ v. v < 2 ^ 32) }
         ensures short { IfErr result (λ e. Lacks 4 e self.old self.new) }
@@ -106,7 +106,7 @@ impl<'a> Reader<'a> {
     }
 
     /// The number of the next eight bytes. Short at the place of the first of them where fewer are left.
-    pub fn u64(&mut self) -> Result<u64, CodecFail>
+    pub fn u64(&mut self) -> Result<u64, CodecError>
         ensures took { IfOk result (λ v. Takes (to_be_bytes w64 v) self.old self.new) }
         ensures fits { IfOk result (λ v. v < 2 ^ 64) }
         ensures short { IfErr result (λ e. Lacks 8 e self.old self.new) }
@@ -116,13 +116,13 @@ impl<'a> Reader<'a> {
     }
 
     /// Whether all bytes are read: BadField at the place of the next one where they are not.
-    pub fn end(&self) -> Result<(), CodecFail>
-        ensures { MatchResult result (λ _. self.now.rest ≡ []) (λ e. (e ≡ CodecFail.BadField self.now.place) × (0 < length self.now.rest)) }
+    pub fn end(&self) -> Result<(), CodecError>
+        ensures { MatchResult result (λ _. self.now.rest ≡ []) (λ e. (e ≡ CodecError.BadField self.now.place) × (0 < length self.now.rest)) }
     {
         if self.rest.is_empty() {
             Ok(())
         } else {
-            Err(CodecFail::BadField(self.at))
+            Err(CodecError::BadField(self.at))
         }
     }
 }

@@ -21,7 +21,7 @@ fn what_is_written_is_read_again(rt: HostRuntime) -> Result<(), Fail> {
     assert!(rt; reader.u16() == Ok(0x0203));
     assert!(rt; reader.u32() == Ok(0x0405_0607));
     assert!(rt; reader.u64() == Ok(8));
-    assert!(rt; reader.end() == Err(CodecFail::BadField(15)));
+    assert!(rt; reader.end() == Err(CodecError::BadField(15)));
     assert!(rt; reader.bytes(2) == Ok(b"hi".as_slice()));
     assert!(rt; reader.end() == Ok(()));
     Ok(())
@@ -30,10 +30,10 @@ fn what_is_written_is_read_again(rt: HostRuntime) -> Result<(), Fail> {
 #[test]
 fn a_field_that_lacks_bytes_names_its_first_place(rt: HostRuntime) -> Result<(), Fail> {
     let mut reader = Reader::new(b"ab");
-    assert!(rt; reader.u32() == Err(CodecFail::Short(0)));
+    assert!(rt; reader.u32() == Err(CodecError::Short(0)));
     assert!(rt; reader.u8() == Ok(97));
-    assert!(rt; reader.u16() == Err(CodecFail::Short(1)));
-    assert!(rt; reader.u64() == Err(CodecFail::Short(1)));
-    assert!(rt; reader.bytes(2) == Err(CodecFail::Short(1)));
+    assert!(rt; reader.u16() == Err(CodecError::Short(1)));
+    assert!(rt; reader.u64() == Err(CodecError::Short(1)));
+    assert!(rt; reader.bytes(2) == Err(CodecError::Short(1)));
     Ok(())
 }

@@ -4,7 +4,7 @@ ghost use Rattle.std.specs.Prelude.{◌≡◌, ◌++◌, ◌∷◌, [], List, �
 ghost use Rattle.std.specs.Int.{w16, w32, w64, to_be_bytes};
 
 use byteorder::{BigEndian, ByteOrder};
-use cf_base::{Blob, Memory};
+use cf_base::{Blob, OutOfMemory};
 use std::alloc::Global;
 use std::marker::Model;
 
@@ -31,8 +31,8 @@ impl Writer {
         }
     }
 
-    /// Puts one byte. Memory where there is none.
-    pub fn put_u8(&mut self, v: u8) -> Result<(), Memory>
+    /// Puts one byte. OutOfMemory where there is none.
+    pub fn put_u8(&mut self, v: u8) -> Result<(), OutOfMemory>
         ensures ok { OnOk result (self.new ≡ self.old ++ v ∷ []) }
         ensures err { OnErr result (self.new ≡ self.old) }
     {
@@ -40,8 +40,8 @@ impl Writer {
         Ok(())
     }
 
-    /// Puts a number as two bytes. Memory where there is none.
-    pub fn put_u16(&mut self, v: u16) -> Result<(), Memory>
+    /// Puts a number as two bytes. OutOfMemory where there is none.
+    pub fn put_u16(&mut self, v: u16) -> Result<(), OutOfMemory>
         ensures ok { OnOk result (self.new ≡ self.old ++ to_be_bytes w16 v) }
         ensures err { OnErr result (self.new ≡ self.old) }
     {
@@ -51,8 +51,8 @@ impl Writer {
         Ok(())
     }
 
-    /// Puts a number as four bytes. Memory where there is none.
-    pub fn put_u32(&mut self, v: u32) -> Result<(), Memory>
+    /// Puts a number as four bytes. OutOfMemory where there is none.
+    pub fn put_u32(&mut self, v: u32) -> Result<(), OutOfMemory>
         ensures ok { OnOk result (self.new ≡ self.old ++ to_be_bytes w32 v) }
         ensures err { OnErr result (self.new ≡ self.old) }
     {
@@ -62,8 +62,8 @@ impl Writer {
         Ok(())
     }
 
-    /// Puts a number as eight bytes. Memory where there is none.
-    pub fn put_u64(&mut self, v: u64) -> Result<(), Memory>
+    /// Puts a number as eight bytes. OutOfMemory where there is none.
+    pub fn put_u64(&mut self, v: u64) -> Result<(), OutOfMemory>
         ensures ok { OnOk result (self.new ≡ self.old ++ to_be_bytes w64 v) }
         ensures err { OnErr result (self.new ≡ self.old) }
     {
@@ -73,8 +73,8 @@ impl Writer {
         Ok(())
     }
 
-    /// Puts the bytes as they are. Memory where there is none.
-    pub fn put_bytes(&mut self, bytes: &[u8]) -> Result<(), Memory>
+    /// Puts the bytes as they are. OutOfMemory where there is none.
+    pub fn put_bytes(&mut self, bytes: &[u8]) -> Result<(), OutOfMemory>
         ensures ok { OnOk result (self.new ≡ self.old ++ bytes.now) }
         ensures err { OnErr result (self.new ≡ self.old) }
     {

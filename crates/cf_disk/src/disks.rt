@@ -8,7 +8,7 @@ use cf_base::Choice;
 /// A call of the disk failed. The disk's count of faults rose in that call.
 #[derive(Clone, Copy, Debug, PartialEq, Eq, thiserror::Error)]
 #[error("the disk failed")]
-pub struct DiskFault;
+pub struct DiskError;
 
 /// A disk of a fixed size, in bytes. Any call of `read`, `write` and `sync` may fail.
 ///
@@ -23,7 +23,7 @@ pub trait Disk {
 
     /// Reads the bytes from `at` on into `out`. A read changes nothing, also where it fails; then `out` may hold
     /// any bytes.
-    fn read(&mut self, at: u64, out: &mut [u8]) -> Result<(), DiskFault>
+    fn read(&mut self, at: u64, out: &mut [u8]) -> Result<(), DiskError>
         requires { at + length out.old ≤ size_of (state self.old) }
         ensures got { OnOk result (out.new ≡ part at (length out.old) (state self.old).seen) }
         ensures keeps { Keeps (state self.old) (state self.new) }
@@ -34,7 +34,7 @@ pub trait Disk {
 
     /// Writes the bytes at `at`. Until a sync succeeds a crash may leave any bytes in their range, also where the
     /// write fails; then a read of the range may give any bytes too. All other bytes stay.
-    fn write(&mut self, at: u64, bytes: &[u8]) -> Result<(), DiskFault>
+    fn write(&mut self, at: u64, bytes: &[u8]) -> Result<(), DiskError>
         requires { at + length bytes.now ≤ size_of (state self.old) }
         ensures written { OnOk result (Holds at bytes.now (state self.old).seen (state self.new).seen) }
         ensures size { size_of (state self.new) ≡ size_of (state self.old) }
@@ -45,7 +45,7 @@ pub trait Disk {
         ensures spends { Spends result (state self.old) (state self.new) };
 
     /// After a sync that succeeds a crash leaves what a read gives. One that fails makes nothing worse.
-    fn sync(&mut self) -> Result<(), DiskFault>
+    fn sync(&mut self) -> Result<(), DiskError>
         ensures durable { OnOk result (Only (state self.old).seen (state self.new)) }
         ensures keeps { Keeps (state self.old) (state self.new) }
         ensures goes { Goes (state self.old) (state self.new) }

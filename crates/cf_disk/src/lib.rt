@@ -14,7 +14,7 @@ mod ranges;
 mod trace_disks;
 mod trails;
 
-pub use disks::{Disk, DiskFault};
+pub use disks::{Disk, DiskError};
 pub use mem_disks::MemDisk;
 pub use trace_disks::TraceDisk;
 

@@ -8,7 +8,7 @@ use crate::patches::{
     copy_filled, cut_vec, fill_up, fill_up_flags, mark_vec, put_vec, read_filled, sync_ranges,
 };
 use crate::ranges::{FewRanges, Range};
-use cf_base::{Choice, Memory};
+use cf_base::{Choice, OutOfMemory};
 use std::alloc::Global;
 use std::marker::Model;
 
@@ -39,7 +39,7 @@ impl Model for Medium {
 
 impl Medium {
     /// Zeros, all of them durable.
-    pub(crate) fn new(alloc: Global, size: usize) -> Result<Medium, Memory>
+    pub(crate) fn new(alloc: Global, size: usize) -> Result<Medium, OutOfMemory>
         ensures { IfOk result (λ m. m ≡ durable (replicate size 0)) }
     {
         Ok(Medium {

@@ -4,9 +4,9 @@ ghost use Rattle.std.specs.Prelude.{◌≡◌, ◌<◌, ◌^◌, None, IfOk, rep
 ghost use Rattle.cf_disk.specs.Images.{IsWhole, durable};
 
 use crate::counters::is_spent;
-use crate::disks::{Disk, DiskFault};
+use crate::disks::{Disk, DiskError};
 use crate::media::Medium;
-use cf_base::{Choice, Memory};
+use cf_base::{Choice, OutOfMemory};
 use std::alloc::Global;
 
 /// A disk in memory. It fails exactly while an armed number is spent. It tells that number, and neither the images since
@@ -27,7 +27,7 @@ impl MemDisk {
     ghost use Rattle.cf_disk.specs.MemState.{mem_state};
 
     /// A disk of so many bytes, all of them zero and durable, with none armed. No later call takes memory.
-    pub fn new(alloc: Global, size: u64) -> Result<MemDisk, Memory>
+    pub fn new(alloc: Global, size: u64) -> Result<MemDisk, OutOfMemory>
         ensures zeros { IfOk result (λ d. (mem_state d).seen ≡ replicate size 0) }
         ensures durable { IfOk result (λ d. Only (mem_state d).seen (mem_state d)) }
         ensures counts { IfOk result (λ d. ((mem_state d).written ≡ 0) × ((mem_state d).faults ≡ 0)) }
@@ -55,26 +55,26 @@ impl Disk for MemDisk {
         self.medium.len() as u64
     }
 
-    fn read(&mut self, at: u64, out: &mut [u8]) -> Result<(), DiskFault> {
+    fn read(&mut self, at: u64, out: &mut [u8]) -> Result<(), DiskError> {
         if is_spent(&mut self.armed, &mut self.faults) {
-            return Err(DiskFault);
+            return Err(DiskError);
         }
         self.medium.read(at as usize, out);
         Ok(())
     }
 
-    fn write(&mut self, at: u64, bytes: &[u8]) -> Result<(), DiskFault> {
+    fn write(&mut self, at: u64, bytes: &[u8]) -> Result<(), DiskError> {
         self.medium.write(at as usize, bytes);
         self.written = self.written.saturating_add(bytes.len() as u64);
         if is_spent(&mut self.armed, &mut self.faults) {
-            return Err(DiskFault);
+            return Err(DiskError);
         }
         Ok(())
     }
 
-    fn sync(&mut self) -> Result<(), DiskFault> {
+    fn sync(&mut self) -> Result<(), DiskError> {
         if is_spent(&mut self.armed, &mut self.faults) {
-            return Err(DiskFault);
+            return Err(DiskError);
         }
         self.medium.sync();
         Ok(())

@@ -7,11 +7,11 @@ ghost use Rattle.cf_disk.specs.Images.{durable, left_by, mixed, mixed_byte, stir
 ghost use Rattle.cf_disk.specs.Splice.{over};
 
 use crate::ranges::Range;
-use cf_base::{Choice, Memory};
+use cf_base::{Choice, OutOfMemory};
 use std::alloc::Global;
 
 // So many zeros.
-pub(crate) fn zeros(alloc: Global, n: usize) -> Result<Vec<u8>, Memory>
+pub(crate) fn zeros(alloc: Global, n: usize) -> Result<Vec<u8>, OutOfMemory>
     ensures { IfOk result (λ v. v.items ≡ replicate n 0) }
 {
     Ok(vec![in alloc; 0; n]?)

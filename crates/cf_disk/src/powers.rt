@@ -3,7 +3,7 @@
 ghost use Rattle.std.specs.Prelude.{◌≡◌, ◌≤◌, ◌<◌, ◌+◌, ◌++◌, ◌∷◌, [], List, ℕ, length, IfOk, true, false};
 ghost use Rattle.cf_disk.specs.PowerBooks.{PowerBook, added};
 
-use cf_base::{Choice, Memory};
+use cf_base::{Choice, OutOfMemory};
 use std::alloc::Global;
 use std::marker::Model;
 
@@ -31,12 +31,12 @@ impl Model for KeptPowers {
 }
 
 impl KeptPowers {
-    /// No power yet. Memory also where the images have no number of bytes that a machine knows.
-    pub(crate) fn new(alloc: Global, size: usize, powers: usize) -> Result<KeptPowers, Memory>
+    /// No power yet. OutOfMemory also where the images have no number of bytes that a machine knows.
+    pub(crate) fn new(alloc: Global, size: usize, powers: usize) -> Result<KeptPowers, OutOfMemory>
         ensures { IfOk result (λ p. p ≡ record { kept = []; size = size; most = powers; told = true }) }
     {
         let Some(room) = powers.checked_mul(size) else {
-            return Err(Memory);
+            return Err(OutOfMemory);
         };
         Ok(KeptPowers {
             choices: Vec::with_capacity(alloc, powers)?,

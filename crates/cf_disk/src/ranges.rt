@@ -3,7 +3,7 @@
 ghost use Rattle.std.specs.Prelude.{◌≡◌, ◌≤◌, ◌<◌, [], length, vec_capacity, IfOk, IfSome, IfNone};
 ghost use Rattle.cf_disk.specs.Covering.{joined, outer_of, Adds, IsOuter};
 
-use cf_base::Memory;
+use cf_base::OutOfMemory;
 use std::alloc::Global;
 use std::marker::Model;
 
@@ -141,7 +141,7 @@ impl Model for FewRanges {
 
 impl FewRanges {
     /// No range yet.
-    pub(crate) fn new(alloc: Global) -> Result<FewRanges, Memory>
+    pub(crate) fn new(alloc: Global) -> Result<FewRanges, OutOfMemory>
         ensures { IfOk result (λ r. r ≡ []) }
     {
         Ok(FewRanges {

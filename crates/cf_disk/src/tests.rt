@@ -44,8 +44,8 @@ fn an_armed_disk_fails_and_keeps_its_bytes_pending(rt: HostRuntime) -> Result<()
     assert!(rt; disk.size() == 8);
     disk.write(2, b"ab")?;
     assert!(rt; disk.size() == 8);
-    assert_eq!(rt; disk.write(2, b"cd"), Err(DiskFault));
-    assert_eq!(rt; disk.sync(), Err(DiskFault));
+    assert_eq!(rt; disk.write(2, b"cd"), Err(DiskError));
+    assert_eq!(rt; disk.sync(), Err(DiskError));
     disk.power(Choice::Keep);
     assert!(rt; disk.size() == 8);
     disk.read(2, &mut out)?;
@@ -61,17 +61,17 @@ fn a_traced_disk_fails_without_room_until_the_next_power(rt: HostRuntime) -> Res
     assert!(rt; disk.size() == 8);
     disk.write(2, b"abc")?;
     assert!(rt; disk.size() == 8);
-    assert_eq!(rt; disk.write(0, b"de"), Err(DiskFault));
+    assert_eq!(rt; disk.write(0, b"de"), Err(DiskError));
     disk.sync()?;
     assert!(rt; disk.size() == 8);
     disk.write(5, b"f")?;
-    assert_eq!(rt; disk.sync(), Err(DiskFault));
+    assert_eq!(rt; disk.sync(), Err(DiskError));
     disk.power(Choice::Drop);
     disk.power(Choice::Keep);
     assert!(rt; disk.size() == 8);
     disk.read(4, &mut out)?;
     assert_eq!(rt; out, [99, 0]);
     disk.arm(0);
-    assert_eq!(rt; disk.sync(), Err(DiskFault));
+    assert_eq!(rt; disk.sync(), Err(DiskError));
     Ok(())
 }

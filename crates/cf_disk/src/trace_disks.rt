@@ -5,12 +5,12 @@ ghost use Rattle.cf_disk.specs.Images.{IsWhole, durable};
 ghost use Rattle.cf_disk.specs.Trails.{run_calls, MovesOn};
 
 use crate::counters::is_spent;
-use crate::disks::{Disk, DiskFault};
+use crate::disks::{Disk, DiskError};
 use crate::media::Medium;
 use crate::patches::zeros;
 use crate::powers::KeptPowers;
 use crate::trails::{Calls, Head, Kind};
-use cf_base::{Choice, Memory};
+use cf_base::{Choice, OutOfMemory};
 use std::alloc::Global;
 
 /// A disk in memory that also keeps each `read`, `write` and `sync` since the last power, with its bytes, and its first
@@ -70,7 +70,7 @@ impl TraceDisk {
         calls: u32,
         bytes: u64,
         powers: u32,
-    ) -> Result<TraceDisk, Memory>
+    ) -> Result<TraceDisk, OutOfMemory>
         ensures zeros { IfOk result (λ d. (trace_state d).seen ≡ replicate size 0) }
         ensures durable { IfOk result (λ d. Only (trace_state d).seen (trace_state d)) }
         ensures counts { IfOk result (λ d. ((trace_state d).written ≡ 0) × ((trace_state d).faults ≡ 0)) }
@@ -104,10 +104,10 @@ impl Disk for TraceDisk {
         self.medium.len() as u64
     }
 
-    fn read(&mut self, at: u64, out: &mut [u8]) -> Result<(), DiskFault> {
+    fn read(&mut self, at: u64, out: &mut [u8]) -> Result<(), DiskError> {
         if !self.calls.has_room(out.len()) {
             self.faults = self.faults.saturating_add(1);
-            return Err(DiskFault);
+            return Err(DiskError);
         }
         if is_spent(&mut self.armed, &mut self.faults) {
             self.calls.push(
@@ -119,7 +119,7 @@ impl Disk for TraceDisk {
                 },
                 &[],
             );
-            return Err(DiskFault);
+            return Err(DiskError);
         }
         self.medium.read(at as usize, out);
         self.calls.push(
@@ -134,10 +134,10 @@ impl Disk for TraceDisk {
         Ok(())
     }
 
-    fn write(&mut self, at: u64, bytes: &[u8]) -> Result<(), DiskFault> {
+    fn write(&mut self, at: u64, bytes: &[u8]) -> Result<(), DiskError> {
         if !self.calls.has_room(bytes.len()) {
             self.faults = self.faults.saturating_add(1);
-            return Err(DiskFault);
+            return Err(DiskError);
         }
         self.medium.write(at as usize, bytes);
         self.written = self.written.saturating_add(bytes.len() as u64);
@@ -152,19 +152,19 @@ impl Disk for TraceDisk {
             bytes,
         );
         if spent {
-            return Err(DiskFault);
+            return Err(DiskError);
         }
         Ok(())
     }
 
-    fn sync(&mut self) -> Result<(), DiskFault> {
+    fn sync(&mut self) -> Result<(), DiskError> {
         if !self.calls.has_room(0) {
             self.faults = self.faults.saturating_add(1);
-            return Err(DiskFault);
+            return Err(DiskError);
         }
         if is_spent(&mut self.armed, &mut self.faults) {
             self.calls.push(sync_head(false), &[]);
-            return Err(DiskFault);
+            return Err(DiskError);
         }
         self.medium.sync();
         self.calls.push(sync_head(true), &[]);

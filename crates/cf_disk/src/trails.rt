@@ -3,7 +3,7 @@
 ghost use Rattle.std.specs.Prelude.{◌≡◌, ◌≤◌, ◌↔◌, ◌++◌, ◌∷◌, [], List, ℕ, length, IfOk, IsTrue};
 ghost use Rattle.cf_disk.specs.Trails.{Trail, HasRoom};
 
-use cf_base::Memory;
+use cf_base::OutOfMemory;
 use std::alloc::Global;
 use std::marker::Model;
 
@@ -47,7 +47,7 @@ impl Model for Calls {
 
 impl Calls {
     /// No call yet.
-    pub(crate) fn new(alloc: Global, calls: usize, bytes: usize) -> Result<Calls, Memory>
+    pub(crate) fn new(alloc: Global, calls: usize, bytes: usize) -> Result<Calls, OutOfMemory>
         ensures { IfOk result (λ c. c ≡ record { calls = []; most = calls; most_bytes = bytes }) }
     {
         Ok(Calls {

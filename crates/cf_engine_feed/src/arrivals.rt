@@ -15,7 +15,7 @@ use crate::entry_steps::Step;
 use crate::identities::{entry_identity, has_no_target, no_identity};
 use crate::lines::ROOT;
 use crate::names::{name_of, off};
-use cf_base::{Change, Entry, ItemId, Kind, Memory, Policy, Population, SeenPath, Sequence};
+use cf_base::{Change, Entry, ItemId, Kind, OutOfMemory, Policy, Population, SeenPath, Sequence};
 use cf_table::{NO_USN, Row, Rows};
 use std::alloc::Global;
 
@@ -37,7 +37,7 @@ fn kind_of_entry(policy: &Policy, entry: &Entry) -> Kind
 }
 
 /// The path of the entry as that of the item.
-pub(crate) fn seen_entry(alloc: Global, item: ItemId, entry: &Entry) -> Result<SeenPath, Memory>
+pub(crate) fn seen_entry(alloc: Global, item: ItemId, entry: &Entry) -> Result<SeenPath, OutOfMemory>
     ensures { IfOk result (λ p. p ≡ seen_entry item entry.now) }
 {
     let name = name_of(alloc, entry.name.as_slice())?;
@@ -54,7 +54,7 @@ fn make_of(
     item: ItemId,
     entry: &Entry,
     parent: ItemId,
-) -> Result<Change, Memory>
+) -> Result<Change, OutOfMemory>
     ensures { IfOk result (λ c. c ≡ make_of policy.now item entry.now parent) }
 {
     Ok(Change::Make {
@@ -74,7 +74,7 @@ fn make(
     policy: &Policy,
     entry: &Entry,
     parent: ItemId,
-) -> Result<Sequence<Step>, Memory>
+) -> Result<Sequence<Step>, OutOfMemory>
     ensures { IfOk result (λ v. (items : List Item) → MeansAll rows.now.rows items → v ≡ make_steps policy.now rows.now.next items entry.now parent) }
 {
     let item = rows.next();
@@ -91,7 +91,7 @@ fn make(
 }
 
 // A local directory becomes the one of the entry.
-fn adopt(alloc: Global, row: &Row, entry: &Entry) -> Result<Sequence<Step>, Memory>
+fn adopt(alloc: Global, row: &Row, entry: &Entry) -> Result<Sequence<Step>, OutOfMemory>
     ensures { IfOk result (λ v. (i : Item) → Means row.now i → v ≡ adopt_steps entry.now i) }
 {
     let item = row.id;
@@ -137,7 +137,7 @@ pub(crate) fn new_entry(
     policy: &Policy,
     entry: &Entry,
     parent: ItemId,
-) -> Result<Sequence<Step>, Memory>
+) -> Result<Sequence<Step>, OutOfMemory>
     ensures { IfOk result (λ v. (items : List Item) → MeansAll rows.now.rows items → IsTree items → v ≡ new_steps policy.now rows.now.next items entry.now parent) }
 {
     let Some(row) = row_at(rows, parent, entry.name.as_slice()) else {

@@ -9,12 +9,12 @@ ghost use Rattle.cf_table.specs.Tables.{child_rows, ids_of, MeansAll, rows_by_na
 
 use crate::entry_steps::Step;
 use crate::identities::untargeted;
-use cf_base::{Change, ItemId, Memory, Sequence};
+use cf_base::{Change, ItemId, OutOfMemory, Sequence};
 use cf_table::{NO_USN, Row, Rows};
 use std::alloc::Global;
 
 /// Adds a change to the steps, where there is one.
-pub(crate) fn push_change(steps: &mut Sequence<Step>, change: Option<Change>) -> Result<(), Memory>
+pub(crate) fn push_change(steps: &mut Sequence<Step>, change: Option<Change>) -> Result<(), OutOfMemory>
     ensures { OnOk result (steps.new ≡ steps.old ++ applied change) }
 {
     match change {
@@ -23,7 +23,7 @@ pub(crate) fn push_change(steps: &mut Sequence<Step>, change: Option<Change>) ->
     }
 }
 
-fn has_child_row(rows: &Rows, id: ItemId) -> Result<bool, Memory>
+fn has_child_row(rows: &Rows, id: ItemId) -> Result<bool, OutOfMemory>
     ensures { IfOk result (λ b. b ≡ not (is_empty (ids_of (rows_by_name (child_rows rows.now.rows id))))) }
 {
     let children = rows.children(id)?;
@@ -31,7 +31,7 @@ fn has_child_row(rows: &Rows, id: ItemId) -> Result<bool, Memory>
 }
 
 /// Whether any item stands in the directory.
-pub(crate) fn has_child(rows: &Rows, id: ItemId) -> Result<bool, Memory>
+pub(crate) fn has_child(rows: &Rows, id: ItemId) -> Result<bool, OutOfMemory>
     ensures { IfOk result (λ b. (items : List Item) → MeansAll rows.now.rows items → b ≡ has_child items id) }
 {
     let child = has_child_row(rows, id)?;
@@ -49,7 +49,7 @@ fn base_len(row: &Row) -> u64
 }
 
 // The item is no item of the remote any more.
-fn untarget(alloc: Global, row: &Row) -> Result<Sequence<Step>, Memory>
+fn untarget(alloc: Global, row: &Row) -> Result<Sequence<Step>, OutOfMemory>
     ensures { IfOk result (λ v. (i : Item) → Means row.now i → v ≡ untarget_steps i) }
 {
     let item = row.id;
@@ -69,7 +69,7 @@ fn untarget(alloc: Global, row: &Row) -> Result<Sequence<Step>, Memory>
 }
 
 // An empty directory, or a clean file.
-fn is_removable(rows: &Rows, row: &Row) -> Result<bool, Memory>
+fn is_removable(rows: &Rows, row: &Row) -> Result<bool, OutOfMemory>
     ensures { IfOk result (λ b. (items : List Item) (i : Item) → MeansAll rows.now.rows items → Means row.now i → b ≡ is_removable items i) }
 {
     if row.dir {
@@ -80,7 +80,7 @@ fn is_removable(rows: &Rows, row: &Row) -> Result<bool, Memory>
 }
 
 /// The item is removed where that loses nothing; else it is no item of the remote any more.
-pub(crate) fn gone(alloc: Global, rows: &Rows, row: &Row) -> Result<Sequence<Step>, Memory>
+pub(crate) fn gone(alloc: Global, rows: &Rows, row: &Row) -> Result<Sequence<Step>, OutOfMemory>
     ensures { IfOk result (λ v. (items : List Item) (i : Item) → MeansAll rows.now.rows items → Means row.now i → v ≡ gone_steps items i) }
 {
     let removable = is_removable(rows, row)?;

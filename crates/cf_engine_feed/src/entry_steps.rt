@@ -3,7 +3,7 @@
 use cf_base::{Change, ItemId, SeenPath, Sequence};
 
 /// A step of an entry.
-#[derive(Debug, Drop)]
+#[derive(Drop)]
 pub enum Step {
     /// This change.
     Apply(Change),
@@ -16,7 +16,7 @@ pub enum Step {
 }
 
 /// What is to be done for an entry at its turn.
-#[derive(Debug, Drop)]
+#[derive(Drop)]
 pub enum Turn {
     /// The entry is of no case.
     Nothing,

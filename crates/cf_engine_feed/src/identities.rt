@@ -5,7 +5,7 @@ ghost use Rattle.cf_model.specs.Effects.{untargeted};
 ghost use Rattle.cf_model.specs.Identities.{entry_identity, no_identity};
 ghost use Rattle.cf_model.specs.Words.{in_bytes, number_from, number_of};
 
-use cf_base::{Entry, Identity, Memory};
+use cf_base::{Entry, Identity, OutOfMemory};
 use std::alloc::Global;
 
 fn with_byte(number: u64, byte: u8) -> u64
@@ -56,7 +56,7 @@ pub(crate) fn is_older(identity: &Identity, version: u64) -> bool
     base < version
 }
 
-fn spelled(alloc: Global, target: u64, base: u64, version: u64) -> Result<Identity, Memory>
+fn spelled(alloc: Global, target: u64, base: u64, version: u64) -> Result<Identity, OutOfMemory>
     ensures { IfOk result (λ i. i ≡ in_bytes 8 target ++ in_bytes 8 base ++ in_bytes 8 version) }
 {
     let mut bytes = Vec::from_slice(alloc, &target.to_be_bytes())?;
@@ -67,14 +67,14 @@ fn spelled(alloc: Global, target: u64, base: u64, version: u64) -> Result<Identi
 }
 
 /// That of an item which is no item of the remote.
-pub(crate) fn no_identity(alloc: Global) -> Result<Identity, Memory>
+pub(crate) fn no_identity(alloc: Global) -> Result<Identity, OutOfMemory>
     ensures { IfOk result (λ i. i ≡ no_identity) }
 {
     spelled(alloc, 0, 0, 0)
 }
 
 /// That of an entry's item: a directory has no base.
-pub(crate) fn entry_identity(alloc: Global, entry: &Entry) -> Result<Identity, Memory>
+pub(crate) fn entry_identity(alloc: Global, entry: &Entry) -> Result<Identity, OutOfMemory>
     ensures { IfOk result (λ i. i ≡ entry_identity entry.now) }
 {
     if entry.dir {
@@ -85,7 +85,7 @@ pub(crate) fn entry_identity(alloc: Global, entry: &Entry) -> Result<Identity, M
 }
 
 /// The identity without its target.
-pub(crate) fn untargeted(alloc: Global, identity: &Identity) -> Result<Identity, Memory>
+pub(crate) fn untargeted(alloc: Global, identity: &Identity) -> Result<Identity, OutOfMemory>
     ensures { IfOk result (λ i. i ≡ untargeted identity.now) }
 {
     let mut bytes = Vec::from_slice(alloc, &[0; 8])?;

@@ -3,7 +3,7 @@
 use cf_base::{ItemId, SeenPath};
 
 /// What the engine knows here of an entry, besides the rows: it keeps the look-ups by the remote's ids, which no table has.
-#[derive(Clone, Copy, Debug)]
+#[derive(Clone, Copy)]
 pub struct Known<'a> {
     /// The first item by id whose target is the entry's item.
     pub item: Option<ItemId>,

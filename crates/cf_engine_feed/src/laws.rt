@@ -2,7 +2,7 @@
 
 ghost use Rattle.std.specs.Prelude.{◌≡◌, Bool, List, Option, Result, Some};
 ghost use Rattle.cf_base.specs.declared.changes.Change.{Change};
-ghost use Rattle.cf_base.specs.declared.codes.Fail.{Fail};
+ghost use Rattle.cf_base.specs.declared.codes.CallError.{CallError};
 ghost use Rattle.cf_base.specs.declared.ids.ItemId.{ItemId};
 ghost use Rattle.cf_base.specs.declared.messages.Entry.{Entry};
 ghost use Rattle.cf_model.specs.Feeds.{take_turn, turn};
@@ -16,7 +16,7 @@ ghost use Rattle.cf_engine_feed.specs.declared.entry_steps.Turn.{Turn};
 
 /// Whoever does the steps of an entry, wherever the device stops, does what the definitions say of the entry's turn.
 pub fn steps_do_the_turn()
-    ensures { (last : Bool) (e : Entry) (s t : State) (steps : List Step) (r : Result Bool Fail) → IsTurn last e s (Turn.Do steps) → Does (turn (do_steps steps) s) r t → Does (take_turn e s) r t }
+    ensures { (last : Bool) (e : Entry) (s t : State) (steps : List Step) (r : Result Bool CallError) → IsTurn last e s (Turn.Do steps) → Does (turn (do_steps steps) s) r t → Does (take_turn e s) r t }
 {}
 
 /// A step `CopyOff` is the change that `copy_off` gives on the rows of the state.

@@ -18,7 +18,7 @@ pub(crate) const ROOT: ItemId = ItemId(1);
 pub(crate) const MOST_NAMES: usize = 32;
 
 /// How a line goes up from an item to the root.
-#[derive(Clone, Copy, Debug)]
+#[derive(Clone, Copy)]
 struct Line {
     /// How many names lead to the item.
     depth: usize,

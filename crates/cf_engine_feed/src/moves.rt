@@ -18,13 +18,13 @@ use crate::entry_steps::Step;
 use crate::identities::{entry_identity, is_older};
 use crate::lines::{ROOT, is_under};
 use crate::names::{name_of, off};
-use cf_base::{Change, Entry, ItemId, Memory, Name, SeenPath, Sequence};
+use cf_base::{Change, Entry, ItemId, OutOfMemory, Name, SeenPath, Sequence};
 use cf_table::{Row, Rows};
 use cf_tree::conflict_name;
 use std::alloc::Global;
 
 // The name that an item gets in the root: its own, or its conflict name where a child of the root has that.
-fn name_in_root(alloc: Global, rows: &Rows, row: &Row) -> Result<Name, Memory>
+fn name_in_root(alloc: Global, rows: &Rows, row: &Row) -> Result<Name, OutOfMemory>
     ensures { IfOk result (λ n. (items : List Item) (p : Item) → MeansAll rows.now.rows items → Means row.now p → n ≡ name_in_root items p) }
 {
     let name = name_of(alloc, row.name.as_slice())?;
@@ -38,7 +38,7 @@ fn name_in_root(alloc: Global, rows: &Rows, row: &Row) -> Result<Name, Memory>
 }
 
 // The move of the parent to the root, where the item would come under itself.
-fn lift(alloc: Global, rows: &Rows, row: &Row, parent: &Row) -> Result<Option<Change>, Memory>
+fn lift(alloc: Global, rows: &Rows, row: &Row, parent: &Row) -> Result<Option<Change>, OutOfMemory>
     ensures { IfOk result (λ o. (items : List Item) (i p : Item) → MeansAll rows.now.rows items → IsTree items → Means row.now i → Means parent.now p → o ≡ lift items i p) }
 {
     if !is_under(rows, parent.id, row.id) {
@@ -58,7 +58,7 @@ fn stands_in(row: &Row, parent: &Row, name: &Name) -> bool
 }
 
 // The move of the item, unless it stands there.
-fn enter(row: &Row, parent: &Row, entry: &Entry, name: &Name) -> Result<Option<Change>, Memory>
+fn enter(row: &Row, parent: &Row, entry: &Entry, name: &Name) -> Result<Option<Change>, OutOfMemory>
     requires { name.now ≡ entry.now.name }
     ensures { IfOk result (λ o. (i p : Item) → Means row.now i → Means parent.now p → o ≡ enter entry.now i p) }
 {
@@ -80,7 +80,7 @@ fn push_moves(
     row: &Row,
     parent: &Row,
     steps: &mut Sequence<Step>,
-) -> Result<(), Memory>
+) -> Result<(), OutOfMemory>
     ensures { OnOk result ((items : List Item) (i p : Item) → MeansAll rows.now.rows items → IsTree items → Means row.now i → Means parent.now p → steps.new ≡ steps.old ++ move_steps items entry.now i p) }
 {
     let name = name_of(alloc, entry.name.as_slice())?;
@@ -106,7 +106,7 @@ fn push_take(
     entry: &Entry,
     row: &Row,
     steps: &mut Sequence<Step>,
-) -> Result<(), Memory>
+) -> Result<(), OutOfMemory>
     ensures { OnOk result ((i : Item) → Means row.now i → steps.new ≡ steps.old ++ take_steps entry.now i) }
 {
     if !is_newer(row, entry) {
@@ -141,7 +141,7 @@ pub(crate) fn changed(
     seen: Option<&SeenPath>,
     row: &Row,
     parent: &Row,
-) -> Result<Sequence<Step>, Memory>
+) -> Result<Sequence<Step>, OutOfMemory>
     ensures { IfOk result (λ v. (items : List Item) (i p : Item) → MeansAll rows.now.rows items → IsTree items → Means row.now i → Means parent.now p → v ≡ changed_steps items (option_copied seen.entry) entry.now i p) }
 {
     let mut steps = Sequence::new(alloc);
@@ -153,7 +153,7 @@ pub(crate) fn changed(
     Ok(steps)
 }
 
-fn copied_off(alloc: Global, rows: &Rows, row: &Row) -> Result<Change, Memory>
+fn copied_off(alloc: Global, rows: &Rows, row: &Row) -> Result<Change, OutOfMemory>
     ensures { IfOk result (λ c. (items : List Item) (i : Item) → MeansAll rows.now.rows items → Means row.now i → c ≡ copied_off rows.now.next items i) }
 {
     let name = name_of(alloc, row.name.as_slice())?;
@@ -169,7 +169,7 @@ fn copied_off(alloc: Global, rows: &Rows, row: &Row) -> Result<Change, Memory>
 /// The change of a step `CopyOff`, on the rows as they are at its turn: a copy of the file under the next id, in the file's
 /// directory, under its conflict name there. None where there is no such item. Bytes that are no name, which no item has, are
 /// answered as want of memory.
-pub fn copy_off(alloc: Global, rows: &Rows, item: ItemId) -> Result<Option<Change>, Memory>
+pub fn copy_off(alloc: Global, rows: &Rows, item: ItemId) -> Result<Option<Change>, OutOfMemory>
     ensures { IfOk result (λ o. (items : List Item) → MeansAll rows.now.rows items → o ≡ copy_of rows.now.next items item) }
 {
     match rows.get(item) {

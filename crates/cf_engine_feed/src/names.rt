@@ -6,18 +6,18 @@ ghost use Rattle.cf_model.specs.Items.{Item};
 ghost use Rattle.cf_engine_feed.specs.Lists.{off};
 ghost use Rattle.cf_table.specs.Tables.{MeansAll};
 
-use cf_base::{Change, ItemId, Memory, Name};
+use cf_base::{Change, ItemId, OutOfMemory, Name};
 use cf_table::Rows;
 use cf_tree::conflict_name;
 use std::alloc::Global;
 
 /// The name that the bytes are. Bytes that are none, which no entry and no item has, are answered as want of memory.
-pub(crate) fn name_of(alloc: Global, bytes: &[u8]) -> Result<Name, Memory>
+pub(crate) fn name_of(alloc: Global, bytes: &[u8]) -> Result<Name, OutOfMemory>
     ensures { IfOk result (λ n. (n ≡ bytes.now) × (is_name bytes.now ≡ true)) }
 {
     match Name::read(alloc, bytes) {
         Ok(name) => Ok(name),
-        Err(_) => Err(Memory),
+        Err(_) => Err(OutOfMemory),
     }
 }
 
@@ -28,7 +28,7 @@ pub(crate) fn off(
     parent: ItemId,
     name: &Name,
     but: ItemId,
-) -> Result<Option<Change>, Memory>
+) -> Result<Option<Change>, OutOfMemory>
     requires { is_name name.now ≡ true }
     ensures { IfOk result (λ o. (items : List Item) → MeansAll rows.now.rows items → o ≡ off items parent name.now but) }
 {

@@ -13,12 +13,12 @@ ghost use Rattle.cf_table.specs.Tables.{MeansAll};
 ghost use Rattle.cf_tree.specs.Trees.{IsTree};
 
 use crate::lines::{MOST_NAMES, depth_of};
-use cf_base::{Entry, ItemId, Memory};
+use cf_base::{Entry, ItemId, OutOfMemory};
 use cf_table::Rows;
 use std::alloc::Global;
 
 /// A dead entry by its place. Its rank is the less, the deeper its local item stands.
-#[derive(Clone, Copy, Debug)]
+#[derive(Clone, Copy)]
 struct Dead {
     rank: usize,
     place: usize,
@@ -49,7 +49,7 @@ fn push_dead(
     entry: &Entry,
     place: usize,
     dead: &mut Vec<Dead>,
-) -> Result<(), Memory>
+) -> Result<(), OutOfMemory>
     ensures { OnOk result ((items : List Item) → MeansAll rows.now.rows items → IsTree items → known ≡ id_of (by_target items entry.now.rid) → dead.new.items ≡ dead.old.items ++ dead_of items place entry.now) }
 {
     if entry.live {
@@ -65,7 +65,7 @@ fn dead_entries(
     rows: &Rows,
     feed: &[Entry],
     known: &[Option<ItemId>],
-) -> Result<Vec<Dead>, Memory>
+) -> Result<Vec<Dead>, OutOfMemory>
     ensures { IfOk result (λ v. (items : List Item) → MeansAll rows.now.rows items → IsTree items → AreKnown items feed.now known.now → v.items ≡ dead_from items 0 feed.now) }
 {
     let mut dead = Vec::new(alloc);
@@ -76,21 +76,21 @@ fn dead_entries(
     Ok(dead)
 }
 
-fn sort(dead: &mut Vec<Dead>) -> Result<(), Memory>
+fn sort(dead: &mut Vec<Dead>) -> Result<(), OutOfMemory>
     ensures { OnOk result (dead.new.items ≡ sorted (λ a b. nat_lt a.rank b.rank) dead.old.items) }
 {
     dead.sort_by_key(|entry| entry.rank)?;
     Ok(())
 }
 
-fn places_of(alloc: Global, dead: &[Dead]) -> Result<Vec<usize>, Memory>
+fn places_of(alloc: Global, dead: &[Dead]) -> Result<Vec<usize>, OutOfMemory>
     ensures { IfOk result (λ v. v.items ≡ map (λ d. d.place) dead.now) }
 {
     Ok(dead.iter().map(|entry| entry.place).collect(alloc)?)
 }
 
 // Adds the place, where the entry is live.
-fn push_if_live(entry: &Entry, place: usize, places: &mut Vec<usize>) -> Result<(), Memory>
+fn push_if_live(entry: &Entry, place: usize, places: &mut Vec<usize>) -> Result<(), OutOfMemory>
     ensures { OnOk result (places.new.items ≡ places.old.items ++ live_of place entry.now) }
 {
     if !entry.live {
@@ -100,7 +100,7 @@ fn push_if_live(entry: &Entry, place: usize, places: &mut Vec<usize>) -> Result<
     Ok(())
 }
 
-fn push_live(feed: &[Entry], places: &mut Vec<usize>) -> Result<(), Memory>
+fn push_live(feed: &[Entry], places: &mut Vec<usize>) -> Result<(), OutOfMemory>
     ensures { OnOk result (places.new.items ≡ places.old.items ++ live_from 0 feed.now) }
 {
     for place in 0..feed.len() {
@@ -116,7 +116,7 @@ pub fn order(
     rows: &Rows,
     feed: &[Entry],
     known: &[Option<ItemId>],
-) -> Result<Vec<usize>, Memory>
+) -> Result<Vec<usize>, OutOfMemory>
     ensures { IfOk result (λ v. (items : List Item) → MeansAll rows.now.rows items → IsTree items → AreKnown items feed.now known.now → v.items ≡ places items feed.now) }
 {
     let mut dead = dead_entries(alloc, rows, feed, known)?;

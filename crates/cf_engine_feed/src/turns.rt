@@ -15,7 +15,7 @@ use crate::departures::{gone, has_child};
 use crate::entry_steps::Turn;
 use crate::knowledge::Known;
 use crate::moves::{changed, is_newer};
-use cf_base::{Entry, ItemId, Memory, Policy};
+use cf_base::{Entry, ItemId, OutOfMemory, Policy};
 use cf_table::{Row, Rows};
 use std::alloc::Global;
 
@@ -26,7 +26,7 @@ fn unknown_turn(
     policy: &Policy,
     entry: &Entry,
     parent: Option<&Row>,
-) -> Result<Turn, Memory>
+) -> Result<Turn, OutOfMemory>
     ensures { IfOk result (λ v. (items : List Item) (p : Option Item) → MeansAll rows.now.rows items → IsTree items → FoundAs (option_copied parent.entry) p → v ≡ unknown_turn policy.now rows.now.next items entry.now p) }
 {
     let Some(parent) = parent else {
@@ -40,7 +40,7 @@ fn unknown_turn(
 }
 
 // Whether the entry comes again after the live ones.
-fn is_later(rows: &Rows, entry: &Entry, row: &Row) -> Result<bool, Memory>
+fn is_later(rows: &Rows, entry: &Entry, row: &Row) -> Result<bool, OutOfMemory>
     ensures { IfOk result (λ b. (items : List Item) (i : Item) → MeansAll rows.now.rows items → Means row.now i → b ≡ (not entry.now.live && (i.directory && has_child items i.id))) }
 {
     if entry.live || !row.dir {
@@ -57,7 +57,7 @@ fn gone_turn(
     last: bool,
     entry: &Entry,
     row: &Row,
-) -> Result<Turn, Memory>
+) -> Result<Turn, OutOfMemory>
     ensures { IfOk result (λ v. (items : List Item) (i : Item) → MeansAll rows.now.rows items → Means row.now i → v ≡ gone_turn last in_use items entry.now i) }
 {
     if in_use {
@@ -79,7 +79,7 @@ fn changed_turn(
     entry: &Entry,
     row: &Row,
     parent: &Row,
-) -> Result<Turn, Memory>
+) -> Result<Turn, OutOfMemory>
     ensures { IfOk result (λ v. (items : List Item) (i p : Item) → MeansAll rows.now.rows items → IsTree items → Means row.now i → Means parent.now p → v ≡ changed_turn known.now.in_use items (option_copied known.now.seen) entry.now i p) }
 {
     if is_newer(row, entry) && known.in_use {
@@ -98,7 +98,7 @@ fn known_turn(
     entry: &Entry,
     row: &Row,
     parent: Option<&Row>,
-) -> Result<Turn, Memory>
+) -> Result<Turn, OutOfMemory>
     ensures { IfOk result (λ v. (items : List Item) (i : Item) (p : Option Item) → MeansAll rows.now.rows items → IsTree items → Means row.now i → FoundAs (option_copied parent.entry) p → v ≡ known_turn last known.now.in_use items (option_copied known.now.seen) entry.now i p) }
 {
     let Some(parent) = parent else {
@@ -127,7 +127,7 @@ fn turn_by_rows(
     known: &Known,
     entry: &Entry,
     last: bool,
-) -> Result<Turn, Memory>
+) -> Result<Turn, OutOfMemory>
     ensures { IfOk result (λ v. (items : List Item) (o p : Option Item) → MeansAll rows.now.rows items → IsTree items → IsHere items known.now.item o → IsHere items known.now.parent p → v ≡ turn_steps policy.now rows.now.next last known.now.in_use items (option_copied known.now.seen) entry.now o p) }
 {
     let parent = row_of(rows, known.parent);
@@ -165,7 +165,7 @@ pub fn steps(
     known: &Known,
     entry: &Entry,
     last: bool,
-) -> Result<Turn, Memory>
+) -> Result<Turn, OutOfMemory>
     ensures { IfOk result (λ v. (s : State) → IsProper entry.now → IsOf rows.now policy.now s → Knows known.now.item known.now.parent (option_copied known.now.seen) known.now.in_use entry.now s → IsTurn last entry.now s v) }
 {
     let turn = turn_by_rows(alloc, rows, policy, known, entry, last)?;

@@ -8,7 +8,7 @@ use Rattle.cf_engine_provider.specs.Answering.{Answers, Suits}
 use Rattle.cf_engine_provider.specs.Parts.{Carries, Exchanges, Speaks, noted}
 use Rattle.cf_engine_provider.specs.declared.exchanges.Exchange.{Exchange}
 use Rattle.cf_engine_provider.proofs.Carried.{carried}
-use Rattle.cf_base.specs.declared.memory.Memory.{Memory as NoMemory}
+use Rattle.cf_base.specs.declared.memory.OutOfMemory.{OutOfMemory as NoMemory}
 use Rattle.cf_base.specs.declared.messages.Reply.{Reply}
 use Rattle.cf_base.specs.declared.messages.Request.{Request}
 use Rattle.cf_base.specs.declared.notices.Notice.{Notice}

@@ -5,7 +5,7 @@ ghost use Rattle.cf_engine_provider.specs.Agencies.{Any, Performs, Plays};
 ghost use Rattle.cf_engine_provider.specs.Parts.{Tries, tried_of};
 ghost use Rattle.cf_model.specs.Fetching.{do_op};
 
-use cf_base::{Code, Fail, Memory, Operation, SeenPath};
+use cf_base::{Code, CallError, OutOfMemory, Operation, SeenPath};
 use cf_provider::Port;
 
 /// What an operation came to.
@@ -31,12 +31,12 @@ pub(crate) fn attempt<P: Port>(
     op: &Operation,
     seen: &[SeenPath],
     port: &mut P,
-) -> Result<Told, Memory>
+) -> Result<Told, OutOfMemory>
     ensures { Tries P.goes seen.now op.now port.old result port.new }
 {
     match port.execute_seeing(op, seen) {
         Ok(_) => Ok(Told::Done),
-        Err(Fail::No(code)) => Ok(told_of(code)),
-        Err(Fail::Memory) => Err(Memory),
+        Err(CallError::No(code)) => Ok(told_of(code)),
+        Err(CallError::OutOfMemory) => Err(OutOfMemory),
     }
 }

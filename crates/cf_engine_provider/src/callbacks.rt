@@ -1,7 +1,7 @@
 //! What the provider does in a callback.
 
 use crate::agents::Agent;
-use cf_base::{AskKind, Memory};
+use cf_base::{AskKind, OutOfMemory};
 use cf_provider::{Callback, Port, Provider};
 use cf_remote::Remote;
 
@@ -10,7 +10,7 @@ impl<R: Remote> Provider for Agent<R> {
 
     ghost answers = { Answers R.told };
 
-    fn on_callback<P: Port>(&mut self, call: &Callback, port: &mut P) -> Result<(), Memory> {
+    fn on_callback<P: Port>(&mut self, call: &Callback, port: &mut P) -> Result<(), OutOfMemory> {
         match call.ask.kind {
             AskKind::Fetch => self.fetch(call, port),
             AskKind::Validate => Ok(()),

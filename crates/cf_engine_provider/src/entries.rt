@@ -9,11 +9,11 @@ ghost use Rattle.cf_model.specs.Identities.{entry_identity};
 ghost use Rattle.cf_model.specs.Words.{in_bytes};
 
 use crate::locals::Locals;
-use cf_base::{Entry, Identity, ItemId, Memory, Name, NewItem, SeenPath, Sequence};
+use cf_base::{Entry, Identity, ItemId, OutOfMemory, Name, NewItem, SeenPath, Sequence};
 use cf_wire::LocalItems;
 use std::alloc::Global;
 
-fn spelled(alloc: Global, target: u64, base: u64, version: u64) -> Result<Identity, Memory>
+fn spelled(alloc: Global, target: u64, base: u64, version: u64) -> Result<Identity, OutOfMemory>
     ensures { IfOk result (λ i. i ≡ in_bytes 8 target ++ in_bytes 8 base ++ in_bytes 8 version) }
 {
     let mut bytes = Vec::from_slice(alloc, &target.to_be_bytes())?;
@@ -24,7 +24,7 @@ fn spelled(alloc: Global, target: u64, base: u64, version: u64) -> Result<Identi
 }
 
 // A directory has no base.
-fn entry_identity(alloc: Global, entry: &Entry) -> Result<Identity, Memory>
+fn entry_identity(alloc: Global, entry: &Entry) -> Result<Identity, OutOfMemory>
     ensures { IfOk result (λ i. i ≡ entry_identity entry.now) }
 {
     if entry.dir {
@@ -34,7 +34,7 @@ fn entry_identity(alloc: Global, entry: &Entry) -> Result<Identity, Memory>
     }
 }
 
-fn new_item(alloc: Global, entry: &Entry) -> Result<NewItem, Memory>
+fn new_item(alloc: Global, entry: &Entry) -> Result<NewItem, OutOfMemory>
     ensures { IfOk result (λ i. i ≡ new_item_of entry.now) }
 {
     let identity = entry_identity(alloc, entry)?;
@@ -48,7 +48,7 @@ fn new_item(alloc: Global, entry: &Entry) -> Result<NewItem, Memory>
 }
 
 /// The new items of entries.
-pub(crate) fn new_items(alloc: Global, entries: &[Entry]) -> Result<Sequence<NewItem>, Memory>
+pub(crate) fn new_items(alloc: Global, entries: &[Entry]) -> Result<Sequence<NewItem>, OutOfMemory>
     ensures { IfOk result (λ v. v ≡ map new_item_of entries.now) }
 {
     let mut list = Sequence::new(alloc);
@@ -59,16 +59,16 @@ pub(crate) fn new_items(alloc: Global, entries: &[Entry]) -> Result<Sequence<New
 }
 
 // The name that the bytes are. Bytes that are none, which no entry that fits has, are answered as want of memory.
-fn name_of(alloc: Global, bytes: &[u8]) -> Result<Name, Memory>
+fn name_of(alloc: Global, bytes: &[u8]) -> Result<Name, OutOfMemory>
     ensures { IfOk result (λ n. (n ≡ bytes.now) × (is_name bytes.now ≡ true)) }
 {
     match Name::read(alloc, bytes) {
         Ok(name) => Ok(name),
-        Err(_) => Err(Memory),
+        Err(_) => Err(OutOfMemory),
     }
 }
 
-fn path_of(alloc: Global, id: u64, entry: &Entry) -> Result<SeenPath, Memory>
+fn path_of(alloc: Global, id: u64, entry: &Entry) -> Result<SeenPath, OutOfMemory>
     ensures { IfOk result (λ p. p ≡ path_of id entry.now) }
 {
     let name = name_of(alloc, entry.name.as_slice())?;
@@ -80,12 +80,12 @@ fn path_of(alloc: Global, id: u64, entry: &Entry) -> Result<SeenPath, Memory>
 }
 
 // After the last id there is none, which is answered as want of memory.
-fn following(id: u64) -> Result<u64, Memory>
+fn following(id: u64) -> Result<u64, OutOfMemory>
     ensures { IfOk result (λ n. n ≡ id + 1) }
 {
     match id.checked_add(1) {
         Some(next) => Ok(next),
-        None => Err(Memory),
+        None => Err(OutOfMemory),
     }
 }
 
@@ -94,7 +94,7 @@ pub(crate) fn paths_from(
     alloc: Global,
     first: u64,
     entries: &[Entry],
-) -> Result<Vec<SeenPath>, Memory>
+) -> Result<Vec<SeenPath>, OutOfMemory>
     ensures { IfOk result (λ v. v.items ≡ paths_from first entries.now) }
 {
     let mut paths = Vec::new(alloc);
@@ -111,7 +111,7 @@ pub(crate) fn unknown(
     alloc: Global,
     local: &Locals,
     entries: &[Entry],
-) -> Result<Vec<Entry>, Memory>
+) -> Result<Vec<Entry>, OutOfMemory>
     ensures { IfOk result (λ v. v.items ≡ filter (λ e. not (is_known local.now e.rid)) entries.now) }
 {
     let mut left = Vec::new(alloc);

@@ -13,7 +13,7 @@ ghost use Rattle.cf_table.specs.Means.{Means};
 
 use crate::agents::Agent;
 use crate::identities::numbers_of;
-use cf_base::{Ask, AskKind, Code, Key, Memory, Operation, Reply, Request, Rid, Sequence, Version};
+use cf_base::{Ask, AskKind, Code, Key, OutOfMemory, Operation, Reply, Request, Rid, Sequence, Version};
 use cf_provider::Port;
 use cf_remote::Remote;
 use cf_table::Row;
@@ -43,7 +43,7 @@ pub(crate) fn fetch_of(ask: &Ask, row: &Row) -> Option<Request>
 }
 
 impl<R: Remote> Agent<R> {
-    pub(crate) fn no_entries<P: Port>(&self, key: Key, port: &mut P) -> Result<(), Memory>
+    pub(crate) fn no_entries<P: Port>(&self, key: Key, port: &mut P) -> Result<(), OutOfMemory>
         ensures { Performs P.goes (λ acts. Plays R.told Any (no_entries key) self.now acts self.now) port.old result port.new }
     {
         let none = Operation::Entries {
@@ -60,7 +60,7 @@ impl<R: Remote> Agent<R> {
         status: u32,
         ask: &Ask,
         port: &mut P,
-    ) -> Result<(), Memory>
+    ) -> Result<(), OutOfMemory>
         ensures { Performs P.goes (λ acts. Plays R.told Any (refuse_ask status ask.now) self.now acts self.now) port.old result port.new }
     {
         match ask.kind {
@@ -78,7 +78,7 @@ impl<R: Remote> Agent<R> {
         }
     }
 
-    fn act_on<P: Port>(&mut self, ask: &Ask, reply: Reply, port: &mut P) -> Result<(), Memory>
+    fn act_on<P: Port>(&mut self, ask: &Ask, reply: Reply, port: &mut P) -> Result<(), OutOfMemory>
         ensures { Performs P.goes (λ acts. Plays R.told Any (fetched (Some ask.now) reply) self.old acts self.new) port.old result port.new }
     {
         match reply {
@@ -102,7 +102,7 @@ impl<R: Remote> Agent<R> {
         request: &Request,
         reply: Reply,
         port: &mut P,
-    ) -> Result<(), Memory>
+    ) -> Result<(), OutOfMemory>
         requires { IsFetch key request.now }
         ensures { Performs P.goes (λ acts. Plays R.told (IsLive key live) (take_reply request.now reply) self.old acts self.new) port.old result port.new }
     {

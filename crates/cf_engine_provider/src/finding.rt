@@ -10,12 +10,12 @@ ghost use Rattle.cf_engine_queue.specs.Records.{IsKeepable};
 
 use crate::locals::{Locals, locals_of};
 use crate::uploads::sends_new;
-use cf_base::{Ask, ItemId, Key, Memory};
+use cf_base::{Ask, ItemId, Key, OutOfMemory};
 use cf_provider::Port;
 use std::alloc::Global;
 
 /// What a reply to a list ask is looked at with.
-#[derive(Debug, Drop)]
+#[derive(Drop)]
 pub(crate) struct Found {
     /// The ask, if it is live.
     pub(crate) live: Option<Ask>,
@@ -27,7 +27,7 @@ pub(crate) struct Found {
 }
 
 /// What the port shows, for the ask with this key.
-pub(crate) fn find<P: Port>(alloc: Global, key: Key, port: &P) -> Result<Found, Memory>
+pub(crate) fn find<P: Port>(alloc: Global, key: Key, port: &P) -> Result<Found, OutOfMemory>
     ensures { (f : Filter) → Shows (P.sight port.now) f → AllByRecursion HasOurs f.volume.items → IsKeepable f.volume.book → IfOk result (λ x. Knows key x f) }
 {
     let live = port.ask(key);

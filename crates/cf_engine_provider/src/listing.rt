@@ -21,7 +21,7 @@ use crate::fetching::NO_FILE;
 use crate::finding::Found;
 use crate::locals::target_of;
 use cf_base::{
-    Ask, Code, Entry, Key, Memory, NewItem, Operation, Reply, Request, Rid, SeenPath, Sequence,
+    Ask, Code, Entry, Key, OutOfMemory, NewItem, Operation, Reply, Request, Rid, SeenPath, Sequence,
 };
 use cf_provider::Port;
 use cf_remote::Remote;
@@ -41,14 +41,14 @@ pub(crate) fn list_of(ask: &Ask, row: &Row) -> Request
 
 impl<R: Remote> Agent<R> {
     // A step is left out, and there are no entries.
-    fn skip_entries<P: Port>(&mut self, key: Key, code: Code, port: &mut P) -> Result<(), Memory>
+    fn skip_entries<P: Port>(&mut self, key: Key, code: Code, port: &mut P) -> Result<(), OutOfMemory>
         ensures { Performs P.goes (λ acts. Plays R.told Any (then_do (skip code) (no_entries key)) self.old acts self.new) port.old result port.new }
     {
         self.skip(code, port)?;
         self.no_entries(key, port)
     }
 
-    fn after_listing<P: Port>(&mut self, key: Key, code: Code, port: &mut P) -> Result<(), Memory>
+    fn after_listing<P: Port>(&mut self, key: Key, code: Code, port: &mut P) -> Result<(), OutOfMemory>
         ensures { Performs P.goes (λ acts. Plays R.told Any (after_listing key (shown.Refused code)) self.old acts self.new) port.old result port.new }
     {
         match code {
@@ -68,7 +68,7 @@ impl<R: Remote> Agent<R> {
         list: Sequence<NewItem>,
         seen: &[SeenPath],
         port: &mut P,
-    ) -> Result<(), Memory>
+    ) -> Result<(), OutOfMemory>
         ensures { Performs P.goes (λ acts. Plays R.told Any (give_entries key list seen.now) self.old acts self.new) port.old result port.new }
     {
         let entries = Operation::Entries {
@@ -90,7 +90,7 @@ impl<R: Remote> Agent<R> {
         entries: &[Entry],
         found: &Found,
         port: &mut P,
-    ) -> Result<(), Memory>
+    ) -> Result<(), OutOfMemory>
         ensures { (own : Key) → Performs P.goes (λ acts. Plays R.told (Knows own found.now) (listing_unless found.now.sends_new key entries.now) self.old acts self.new) port.old result port.new }
     {
         if found.sends_new {
@@ -108,7 +108,7 @@ impl<R: Remote> Agent<R> {
         reply: &Reply,
         found: &Found,
         port: &mut P,
-    ) -> Result<(), Memory>
+    ) -> Result<(), OutOfMemory>
         ensures { (own : Key) → Performs P.goes (λ acts. Plays R.told (Knows own found.now) (listed (Some ask.now) found.now.sends_new reply.now) self.old acts self.new) port.old result port.new }
     {
         match reply {
@@ -136,7 +136,7 @@ impl<R: Remote> Agent<R> {
         request: &Request,
         reply: &Reply,
         port: &mut P,
-    ) -> Result<(), Memory>
+    ) -> Result<(), OutOfMemory>
         requires { IsList key request.now }
         ensures { Performs P.goes (λ acts. Plays R.told (Knows key found.now) (take_reply request.now reply.now) self.old acts self.new) port.old result port.new }
     {

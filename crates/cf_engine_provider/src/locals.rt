@@ -10,14 +10,14 @@ ghost use Rattle.cf_table.specs.Means.{Means};
 ghost use Rattle.cf_table.specs.Tables.{MeansAll};
 
 use crate::identities::numbers_of;
-use cf_base::{Entry, Memory, Rid};
+use cf_base::{Entry, OutOfMemory, Rid};
 use cf_table::Row;
 use cf_wire::LocalItems;
 use std::alloc::Global;
 use std::marker::Model;
 
 /// A local item by its target.
-#[derive(Debug, Drop)]
+#[derive(Drop)]
 pub(crate) struct Local {
     pub(crate) rid: Rid,
     pub(crate) directory: bool,
@@ -32,7 +32,7 @@ impl Model for Local {
 }
 
 /// The local items that have a target, in order of id.
-#[derive(Debug, Drop)]
+#[derive(Drop)]
 pub(crate) struct Locals {
     list: Vec<Local>,
 }
@@ -70,7 +70,7 @@ pub(crate) fn target_of(row: &Row) -> Rid
 }
 
 // Adds the row's item, where it is an item of the remote.
-fn add(list: &mut Vec<Local>, row: &Row) -> Result<(), Memory>
+fn add(list: &mut Vec<Local>, row: &Row) -> Result<(), OutOfMemory>
     ensures { (i : Item) → Means row.now i → HasOurs i → OnOk result (list.new.items ≡ list.old.items ++ known_in (i ∷ [])) }
 {
     let rid = target_of(row);
@@ -85,7 +85,7 @@ fn add(list: &mut Vec<Local>, row: &Row) -> Result<(), Memory>
 }
 
 /// The local items of the rows that are items of the remote.
-pub(crate) fn locals_of(alloc: Global, rows: &[Row]) -> Result<Locals, Memory>
+pub(crate) fn locals_of(alloc: Global, rows: &[Row]) -> Result<Locals, OutOfMemory>
     ensures { (items : List Item) → MeansAll rows.now items → AllByRecursion HasOurs items → IfOk result (λ l. l ≡ known_in items) }
 {
     let mut list = Vec::new(alloc);

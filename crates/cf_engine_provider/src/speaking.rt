@@ -14,13 +14,13 @@ use crate::fetching::fetch_of;
 use crate::finding::find;
 use crate::lines::note_line;
 use crate::listing::list_of;
-use cf_base::{Memory, Operation, Reply, Request};
+use cf_base::{OutOfMemory, Operation, Reply, Request};
 use cf_provider::{Callback, Port};
 use cf_remote::Remote;
 
 impl<R: Remote> Agent<R> {
     // Sends a request, and gives the reply that came at once.
-    fn send<P: Port>(&mut self, request: &Request, port: &mut P) -> Result<Option<Reply>, Memory>
+    fn send<P: Port>(&mut self, request: &Request, port: &mut P) -> Result<Option<Reply>, OutOfMemory>
         requires { HasRoom request.now }
         ensures { Speaks R.told P.goes request.now self.old port.old result self.new port.new }
     {
@@ -31,7 +31,7 @@ impl<R: Remote> Agent<R> {
     }
 
     /// Sends Fetch for a fetch ask, and takes its reply.
-    pub(crate) fn fetch<P: Port>(&mut self, call: &Callback, port: &mut P) -> Result<(), Memory>
+    pub(crate) fn fetch<P: Port>(&mut self, call: &Callback, port: &mut P) -> Result<(), OutOfMemory>
         requires { call.now.ask.kind ≡ ask_kind.Fetch }
         ensures { Performs P.goes (λ acts. Answers R.told self.old (P.sight port.old) call.now acts self.new) port.old result port.new }
     {
@@ -49,7 +49,7 @@ impl<R: Remote> Agent<R> {
     }
 
     /// Sends List for a list ask, and takes its reply.
-    pub(crate) fn list<P: Port>(&mut self, call: &Callback, port: &mut P) -> Result<(), Memory>
+    pub(crate) fn list<P: Port>(&mut self, call: &Callback, port: &mut P) -> Result<(), OutOfMemory>
         requires { call.now.ask.kind ≡ ask_kind.List }
         ensures { Performs P.goes (λ acts. Answers R.told self.old (P.sight port.old) call.now acts self.new) port.old result port.new }
     {
@@ -65,7 +65,7 @@ impl<R: Remote> Agent<R> {
     }
 
     /// Consents to a dehydration.
-    pub(crate) fn consent<P: Port>(&self, call: &Callback, port: &mut P) -> Result<(), Memory>
+    pub(crate) fn consent<P: Port>(&self, call: &Callback, port: &mut P) -> Result<(), OutOfMemory>
         requires { call.now.ask.kind ≡ ask_kind.Dehydrate }
         ensures { Performs P.goes (λ acts. Answers R.told self.now (P.sight port.old) call.now acts self.now) port.old result port.new }
     {

@@ -9,13 +9,13 @@ ghost use Rattle.cf_model.specs.Skips.{skip};
 
 use crate::agents::Agent;
 use crate::attempts::{Told, attempt};
-use cf_base::{Blob, Code, Key, Memory, Notice, Operation, Span};
+use cf_base::{Blob, Code, Key, OutOfMemory, Notice, Operation, Span};
 use cf_provider::Port;
 use cf_remote::Remote;
 
 impl<R: Remote> Agent<R> {
     // A step is left out, with a line where such lines stand.
-    pub(crate) fn skip<P: Port>(&mut self, code: Code, port: &mut P) -> Result<(), Memory>
+    pub(crate) fn skip<P: Port>(&mut self, code: Code, port: &mut P) -> Result<(), OutOfMemory>
         ensures { Performs P.goes (λ acts. Skips code self.old acts self.new) port.old result port.new }
     {
         self.left_out = true;
@@ -26,7 +26,7 @@ impl<R: Remote> Agent<R> {
     }
 
     // An operation, whatever it is answered.
-    pub(crate) fn do_op<P: Port>(&self, op: &Operation, port: &mut P) -> Result<(), Memory>
+    pub(crate) fn do_op<P: Port>(&self, op: &Operation, port: &mut P) -> Result<(), OutOfMemory>
         ensures { Performs P.goes (λ acts. Plays R.told Any (do_op op.now) self.now acts self.now) port.old result port.new }
     {
         attempt(op, &[], port)?;
@@ -39,7 +39,7 @@ impl<R: Remote> Agent<R> {
         span: Span,
         code: Code,
         port: &mut P,
-    ) -> Result<(), Memory>
+    ) -> Result<(), OutOfMemory>
         ensures { Performs P.goes (λ acts. Plays R.told Any (refuse_for key span code) self.old acts self.new) port.old result port.new }
     {
         self.skip(code, port)?;
@@ -57,7 +57,7 @@ impl<R: Remote> Agent<R> {
         span: Span,
         code: Code,
         port: &mut P,
-    ) -> Result<(), Memory>
+    ) -> Result<(), OutOfMemory>
         ensures { Performs P.goes (λ acts. Plays R.told Any (after_transfer key span (shown.Refused code)) self.old acts self.new) port.old result port.new }
     {
         match code {
@@ -76,7 +76,7 @@ impl<R: Remote> Agent<R> {
         start: u32,
         bytes: Blob,
         port: &mut P,
-    ) -> Result<(), Memory>
+    ) -> Result<(), OutOfMemory>
         ensures { Performs P.goes (λ acts. Plays R.told Any (take_bytes key start bytes) self.old acts self.new) port.old result port.new }
     {
         let at = start as u64;

@@ -7,7 +7,7 @@ ghost use Rattle.cf_model.specs.PushReplies.{is_new_entry};
 ghost use Rattle.cf_engine_queue.specs.Books.{entry_value};
 ghost use Rattle.cf_engine_queue.specs.Records.{IsKeepable};
 
-use cf_base::{AuxRecord, Memory};
+use cf_base::{AuxRecord, OutOfMemory};
 use cf_engine_queue::{Action, Queue, QueueEntry};
 use std::alloc::Global;
 
@@ -31,11 +31,11 @@ fn any_new(entries: &[QueueEntry]) -> bool
 /// Whether a new item is on its way to the remote, by the auxiliary records of a volume that is open. Records that are those of no
 /// book, which such a volume does not have, are answered as want of memory.
 #[tactic(auto, using(crate::proofs::Uploaded::any_of_book))]
-pub(crate) fn sends_new(alloc: Global, records: &[AuxRecord]) -> Result<bool, Memory>
+pub(crate) fn sends_new(alloc: Global, records: &[AuxRecord]) -> Result<bool, OutOfMemory>
     ensures { (b : Book) → IsKeepable b → records.now ≡ aux_records b → IfOk result (λ x. x ≡ list_any is_new_entry b.entries) }
 {
     let Ok(queue) = Queue::load(alloc, records) else {
-        return Err(Memory);
+        return Err(OutOfMemory);
     };
     Ok(any_new(queue.entries()))
 }

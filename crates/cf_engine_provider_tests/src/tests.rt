@@ -1,7 +1,7 @@
 //! The engine on a port that keeps what it does, and on which no ask is live.
 
 use cf_engine_provider::Agent;
-use cf_base::{Ask, AskKind, Identity, ItemId, Key, Memory, Notice, Operation, Span};
+use cf_base::{Ask, AskKind, Identity, ItemId, Key, OutOfMemory, Notice, Operation, Span};
 use cf_provider::{Callback, Kept, Provider, Recorder};
 use cf_link::Link;
 use cf_remote::StoreRemote;
@@ -13,7 +13,7 @@ const ROOT: ItemId = ItemId(1);
 
 const NO_ITEM: ItemId = ItemId(9);
 
-fn call(alloc: Global, kind: AskKind, item: ItemId) -> Result<Callback, Memory> {
+fn call(alloc: Global, kind: AskKind, item: ItemId) -> Result<Callback, OutOfMemory> {
     Ok(Callback {
         ask: Ask {
             key: Key {
@@ -30,7 +30,7 @@ fn call(alloc: Global, kind: AskKind, item: ItemId) -> Result<Callback, Memory> 
 }
 
 // What the engine does where it is asked this, with a remote of nothing.
-fn answered(alloc: Global, kind: AskKind, item: ItemId) -> Result<Recorder, Memory> {
+fn answered(alloc: Global, kind: AskKind, item: ItemId) -> Result<Recorder, OutOfMemory> {
     let remote = StoreRemote::new(alloc)?;
     let link = Link::new(alloc, remote);
     let mut agent = Agent::new(alloc, link, true);

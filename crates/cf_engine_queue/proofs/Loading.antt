@@ -3,8 +3,8 @@ use Rattle.std.proofs.Common.{◌≡◌, ℕ, suc, ◌+◌, ◌<◌, ◌≤◌, 
 use Rattle.std.proofs.Math.Seq.{drop-cons}
 use Rattle.std.proofs.lemmas.List.{append-nil, drop_all}
 use Rattle.cf_base.specs.declared.answers.AuxRecord.{AuxRecord}
-use Rattle.cf_base.specs.declared.codes.Fail.{Fail}
-use Rattle.cf_base.specs.declared.codes.Fail.TheVariants as fail
+use Rattle.cf_base.specs.declared.codes.CallError.{CallError}
+use Rattle.cf_base.specs.declared.codes.CallError.TheVariants as fail
 use Rattle.cf_model.specs.Books.{Book, no_book}
 use Rattle.cf_engine_queue.specs.Records.{Loads, Reads, SayAll, Says, heard, heard_all}
 use Rattle.cf_engine_queue.specs.declared.records.Record.{Record}
@@ -56,7 +56,7 @@ heard_more records i r x queue after h parts says step = record {
   queue_is = step ∙ ap (heard x) h.queue_is ∙ sym (heard_append h.front (x ∷ []) no_book);
 }
 
-pub heard_stops : (records : List AuxRecord) (i : ℕ) (r : AuxRecord) (queue : Book) (e : Fail) → HasHeard records i queue → drop i records ≡ r ∷ drop (i + 1) records → Reads {X = Record} (Says r) (Err e) → Loads records (Err e)
+pub heard_stops : (records : List AuxRecord) (i : ℕ) (r : AuxRecord) (queue : Book) (e : CallError) → HasHeard records i queue → drop i records ≡ r ∷ drop (i + 1) records → Reads {X = Record} (Says r) (Err e) → Loads records (Err e)
 heard_stops records i r queue (fail.No c) h parts reads = (
   reads.0,
   λ (xs : List Record) (s : SayAll records xs).
@@ -64,7 +64,7 @@ heard_stops records i r queue (fail.No c) h parts reads = (
       let first = head_said r (drop (i + 1) records) rest.0 (subst (λ (l : List AuxRecord). SayAll l rest.0) parts rest.1) in
       reads.1 first.0 first.1),
 )
-heard_stops records i r queue fail.Memory h parts reads = tt
+heard_stops records i r queue fail.OutOfMemory h parts reads = tt
 
 pub heard_them : (records : List AuxRecord) (i : ℕ) (queue : Book) → HasHeard records i queue → length records ≤ i → Loads records (Ok queue)
 heard_them records i queue h le =

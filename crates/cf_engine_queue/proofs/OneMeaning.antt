@@ -6,8 +6,8 @@ use Rattle.std.specs.Int.{w32, w64, from_be_bytes}
 use Rattle.std.specs.List.{AllByRecursion}
 use Rattle.std.specs.Prelude.{MatchResult}
 use Rattle.cf_base.specs.declared.answers.AuxRecord.{AuxRecord}
-use Rattle.cf_base.specs.declared.codes.Fail.{Fail}
-use Rattle.cf_base.specs.declared.codes.Fail.TheVariants as fail
+use Rattle.cf_base.specs.declared.codes.CallError.{CallError}
+use Rattle.cf_base.specs.declared.codes.CallError.TheVariants as fail
 use Rattle.cf_base.specs.declared.items.SeenPath.{SeenPath}
 use Rattle.cf_model.specs.Books as model
 use Rattle.cf_model.specs.Books.{Book, MakeDir, MoveItem, PutFile, RemoveItem, action_byte, aux_records, cursor_records, entry_record, no_book, seen_record, tombstone_record, with_tombstone}
@@ -278,9 +278,9 @@ book_heard b k =
     ∙ entries_heard [] b.entries [] k.tokens)
     ∙ tombstones_heard b.entries [] b.tombstones k.numbers
 
-pub kept : (b : Book) (records : List AuxRecord) (r : Result Book Fail) → IsKeepable b → records ≡ aux_records b → Loads records r → MatchResult r (λ q. q ≡ queue_of b) (λ e. e ≡ fail.Memory)
+pub kept : (b : Book) (records : List AuxRecord) (r : Result Book CallError) → IsKeepable b → records ≡ aux_records b → Loads records r → MatchResult r (λ q. q ≡ queue_of b) (λ e. e ≡ fail.OutOfMemory)
 kept b records (Ok q) k e l =
     let all : SayAll records (book_said b) = subst (λ (rs : List AuxRecord). SayAll rs (book_said b)) (sym e) (is_said b k) in
     l.2 ∙ all_heard_same records l.0 (book_said b) no_book l.1 all ∙ book_heard b k
 kept b records (Err (fail.No c)) k e l = absurd (l.1 (book_said b) (subst (λ (rs : List AuxRecord). SayAll rs (book_said b)) (sym e) (is_said b k)))
-kept b records (Err fail.Memory) k e l = refl
+kept b records (Err fail.OutOfMemory) k e l = refl

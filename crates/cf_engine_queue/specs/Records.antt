@@ -3,8 +3,8 @@ use Rattle.std.specs.Prelude.{◌≡◌, ◌<◌, ◌^◌, ℕ, true, List, [], 
 use Rattle.std.specs.List.{AllByRecursion}
 use Rattle.cf_base.specs.declared.answers.AuxRecord.{AuxRecord}
 use Rattle.cf_base.specs.declared.codes.Code.TheVariants as code
-use Rattle.cf_base.specs.declared.codes.Fail.{Fail}
-use Rattle.cf_base.specs.declared.codes.Fail.TheVariants as fail
+use Rattle.cf_base.specs.declared.codes.CallError.{CallError}
+use Rattle.cf_base.specs.declared.codes.CallError.TheVariants as fail
 use Rattle.cf_base.specs.declared.ids.Key.{Key}
 use Rattle.cf_base.specs.declared.ids.Usn.{Usn}
 use Rattle.cf_base.specs.declared.items.SeenPath.{SeenPath}
@@ -73,10 +73,10 @@ Says r (said.Seen p) = IsSeen r p
 Says r (said.Buried t) = IsTombstone r (tombstone_value t)
 
 -- what is read of a record: what it says, or that it says nothing of a book
-abbrev pub Reads : {X : Type 0} → (X → Type 0) → Result X Fail → Type 0
+abbrev pub Reads : {X : Type 0} → (X → Type 0) → Result X CallError → Type 0
 Reads Is (Ok x) = Is x
 Reads {X} Is (Err (fail.No c)) = (c ≡ code.NotAVolume) × ((x : X) → Is x → ⊥)
-Reads Is (Err fail.Memory) = Unit {0}
+Reads Is (Err fail.OutOfMemory) = Unit {0}
 
 -- all records
 
@@ -111,7 +111,7 @@ pub record IsKeepable (b : Book) : Type 0 where
   pub numbers : IsRising number_rank b.tombstones
 
 -- what is answered to these records
-abbrev pub Loads : List AuxRecord → Result Book Fail → Type 0
+abbrev pub Loads : List AuxRecord → Result Book CallError → Type 0
 Loads rs (Ok b) = (xs : List Record) × SayAll rs xs × (b ≡ heard_all xs no_book)
 Loads rs (Err (fail.No c)) = (c ≡ code.NotAVolume) × ((xs : List Record) → SayAll rs xs → ⊥)
-Loads rs (Err fail.Memory) = Unit {0}
+Loads rs (Err fail.OutOfMemory) = Unit {0}

@@ -4,7 +4,7 @@ ghost use Rattle.std.specs.Prelude.{◌≡◌, ◌≤◌, ℕ, filter, find, len
 ghost use Rattle.cf_model.specs.Words.{put_in, says};
 ghost use Rattle.cf_engine_queue.specs.Order.{Divides, IsInOrder, is_above, is_same};
 
-use cf_base::Memory;
+use cf_base::OutOfMemory;
 
 /// What stands in such a list: a pair of numbers tells its place.
 pub(crate) trait Ranked {
@@ -68,7 +68,7 @@ pub(crate) fn find_ranked<T: Ranked>(items: &[T], rank: (u32, u32)) -> Option<&T
 }
 
 /// Puts the item before those that it is not above. Without memory the list is as before.
-pub(crate) fn put_before<T: Ranked + Drop>(items: &mut Vec<T>, item: T) -> Result<(), Memory>
+pub(crate) fn put_before<T: Ranked + Drop>(items: &mut Vec<T>, item: T) -> Result<(), OutOfMemory>
     requires { IsInOrder T.rank_of items.old.items }
     ensures ok { OnOk result (items.new.items ≡ put_in (λ x y. is_above (T.rank_of y) (T.rank_of x)) item items.old.items) }
     ensures order { IsInOrder T.rank_of items.new.items }
@@ -80,7 +80,7 @@ pub(crate) fn put_before<T: Ranked + Drop>(items: &mut Vec<T>, item: T) -> Resul
 }
 
 /// Puts the item behind those that are not above it. Without memory the list is as before.
-pub(crate) fn put_behind<T: Ranked + Drop>(items: &mut Vec<T>, item: T) -> Result<(), Memory>
+pub(crate) fn put_behind<T: Ranked + Drop>(items: &mut Vec<T>, item: T) -> Result<(), OutOfMemory>
     requires { IsInOrder T.rank_of items.old.items }
     ensures ok { OnOk result (items.new.items ≡ put_in (λ x y. not (is_above (T.rank_of x) (T.rank_of y))) item items.old.items) }
     ensures order { IsInOrder T.rank_of items.new.items }

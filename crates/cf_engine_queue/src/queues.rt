@@ -1,7 +1,7 @@
 //! The uploads on their way and the removals to upload, in order.
 
 ghost use Rattle.std.specs.Prelude.{◌≡◌, map, OnErr, OnOk, option_copied, option_map, MatchResult};
-ghost use Rattle.cf_base.specs.declared.codes.Fail.{Fail};
+ghost use Rattle.cf_base.specs.declared.codes.CallError.{CallError};
 ghost use Rattle.cf_model.specs.Books.{Book, aux_records, entry_of, no_book, tombstone_of, with_entry, with_tombstone, without_entry, without_tombstone};
 ghost use Rattle.cf_engine_queue.specs.Books.{ComesLast, added, entry_value, tombstone_value};
 ghost use Rattle.cf_engine_queue.specs.Records.{IsKeepable, Loads, heard, queue_of};
@@ -10,7 +10,7 @@ use crate::ordered::{Ranked, find_ranked, put_before, put_behind, take_ranked};
 use crate::reading::read_record;
 use crate::records::Record;
 use crate::uploads::{QueueEntry, Tombstone};
-use cf_base::{AuxRecord, Fail, Memory, Token, Usn};
+use cf_base::{AuxRecord, CallError, OutOfMemory, Token, Usn};
 use std::alloc::Global;
 use std::marker::Model;
 
@@ -68,9 +68,9 @@ impl Queue {
 
     /// The queue that the auxiliary records of a book say. Refused as NotAVolume exactly where one of them says nothing of a
     /// book. Records in order of key take time as their count.
-    pub fn load(alloc: Global, records: &[AuxRecord]) -> Result<Queue, Fail>
+    pub fn load(alloc: Global, records: &[AuxRecord]) -> Result<Queue, CallError>
         ensures loaded { Loads records.now result }
-        ensures kept { (b : Book) → IsKeepable b → records.now ≡ aux_records b → MatchResult result (λ q. q ≡ queue_of b) (λ e. e ≡ Fail.Memory) }
+        ensures kept { (b : Book) → IsKeepable b → records.now ≡ aux_records b → MatchResult result (λ q. q ≡ queue_of b) (λ e. e ≡ CallError.OutOfMemory) }
     {
         let mut queue = Queue::new(alloc);
         for one in records {
@@ -80,7 +80,7 @@ impl Queue {
     }
 
     // Puts in what a record says.
-    fn hear(&mut self, said: Record) -> Result<(), Memory>
+    fn hear(&mut self, said: Record) -> Result<(), OutOfMemory>
         ensures { OnOk result (self.new ≡ heard said self.old) }
     {
         match said {
@@ -116,7 +116,7 @@ impl Queue {
     /// Adds the entry behind those whose tokens are not above its own; at the end where none is. Without memory the queue is
     /// as before.
     #[tactic(auto, using(crate::proofs::Mapped::placed, crate::proofs::Mapped::added_last))]
-    pub fn add(&mut self, entry: QueueEntry) -> Result<(), Memory>
+    pub fn add(&mut self, entry: QueueEntry) -> Result<(), OutOfMemory>
         ensures placed { OnOk result (self.new ≡ added (entry_value entry) self.old) }
         ensures last { ComesLast (entry_value entry) self.old → OnOk result (self.new ≡ with_entry (entry_value entry) self.old) }
         ensures err { OnErr result (self.new ≡ self.old) }
@@ -135,7 +135,7 @@ impl Queue {
 
     /// Adds a tombstone at its place. Without memory the queue is as before.
     #[tactic(auto, using(crate::proofs::Mapped::buried))]
-    pub fn bury(&mut self, tombstone: Tombstone) -> Result<(), Memory>
+    pub fn bury(&mut self, tombstone: Tombstone) -> Result<(), OutOfMemory>
         ensures ok { OnOk result (self.new ≡ with_tombstone (tombstone_value tombstone) self.old) }
         ensures err { OnErr result (self.new ≡ self.old) }
     {

@@ -10,7 +10,7 @@ ghost use Rattle.cf_engine_queue.specs.Records.{FitsUsn, IsCursor, IsEntry, IsSe
 use crate::fields::{number_and_rest, number_of, pair_of};
 use crate::records::Record;
 use crate::uploads::{Action, QueueEntry, Tombstone};
-use cf_base::{AuxRecord, Blob, Code, Fail, ItemId, Key, Name, Rid, SeenPath, Token, Usn, Version};
+use cf_base::{AuxRecord, Blob, Code, CallError, ItemId, Key, Name, Rid, SeenPath, Token, Usn, Version};
 use std::alloc::Global;
 
 /// The clock that the record of the cursor has, 0 too. Refused as NotAVolume where the value has not eight bytes. Takes no
@@ -25,15 +25,15 @@ pub fn read_cursor(value: &[u8]) -> Result<u64, Code>
 }
 
 // The same of a record whose key begins as that of the cursor.
-fn cursor(rest: &[u8], value: &[u8]) -> Result<u64, Fail>
+fn cursor(rest: &[u8], value: &[u8]) -> Result<u64, CallError>
     ensures { Reads (IsCursor (record { key = 99 ∷ rest.now; value = value.now })) result }
 {
     if !rest.is_empty() {
-        return Err(Fail::No(Code::NotAVolume));
+        return Err(CallError::No(Code::NotAVolume));
     }
     match read_cursor(value) {
         Ok(clock) => Ok(clock),
-        Err(code) => Err(Fail::No(code)),
+        Err(code) => Err(CallError::No(code)),
     }
 }
 
@@ -112,20 +112,20 @@ fn read_tail(bytes: &[u8]) -> Option<EntryTail<'_>>
     })
 }
 
-fn entry(alloc: Global, token: &[u8], value: &[u8]) -> Result<QueueEntry, Fail>
+fn entry(alloc: Global, token: &[u8], value: &[u8]) -> Result<QueueEntry, CallError>
     ensures { Reads (λ e. IsEntry (record { key = 113 ∷ token.now; value = value.now }) (entry_value e)) result }
 {
     let Some((epoch, number)) = pair_of(token) else {
-        return Err(Fail::No(Code::NotAVolume));
+        return Err(CallError::No(Code::NotAVolume));
     };
     let Some((item, rest)) = number_and_rest(value) else {
-        return Err(Fail::No(Code::NotAVolume));
+        return Err(CallError::No(Code::NotAVolume));
     };
     let Some((action, rest)) = action_and_rest(rest) else {
-        return Err(Fail::No(Code::NotAVolume));
+        return Err(CallError::No(Code::NotAVolume));
     };
     let Some(tail) = read_tail(rest) else {
-        return Err(Fail::No(Code::NotAVolume));
+        return Err(CallError::No(Code::NotAVolume));
     };
     let name = Blob::from_slice(alloc, tail.name)?;
     Ok(QueueEntry {
@@ -139,14 +139,14 @@ fn entry(alloc: Global, token: &[u8], value: &[u8]) -> Result<QueueEntry, Fail>
     })
 }
 
-fn seen(alloc: Global, item: &[u8], value: &[u8]) -> Result<SeenPath, Fail>
+fn seen(alloc: Global, item: &[u8], value: &[u8]) -> Result<SeenPath, CallError>
     ensures { Reads (IsSeen (record { key = 115 ∷ item.now; value = value.now })) result }
 {
     let Some(item) = number_of(item) else {
-        return Err(Fail::No(Code::NotAVolume));
+        return Err(CallError::No(Code::NotAVolume));
     };
     let Some((parent, name)) = number_and_rest(value) else {
-        return Err(Fail::No(Code::NotAVolume));
+        return Err(CallError::No(Code::NotAVolume));
     };
     match Name::read(alloc, name) {
         Ok(name) => Ok(SeenPath {
@@ -154,22 +154,22 @@ fn seen(alloc: Global, item: &[u8], value: &[u8]) -> Result<SeenPath, Fail>
             parent: Rid(parent),
             name,
         }),
-        Err(Fail::Memory) => Err(Fail::Memory),
-        Err(Fail::No(_)) => Err(Fail::No(Code::NotAVolume)),
+        Err(CallError::OutOfMemory) => Err(CallError::OutOfMemory),
+        Err(CallError::No(_)) => Err(CallError::No(Code::NotAVolume)),
     }
 }
 
-fn tombstone(number: &[u8], value: &[u8]) -> Result<Tombstone, Fail>
+fn tombstone(number: &[u8], value: &[u8]) -> Result<Tombstone, CallError>
     ensures { Reads (λ t. IsTombstone (record { key = 116 ∷ number.now; value = value.now }) (tombstone_value t)) result }
 {
     let Some(number) = usn_of(number) else {
-        return Err(Fail::No(Code::NotAVolume));
+        return Err(CallError::No(Code::NotAVolume));
     };
     let Some((rid, version)) = number_and_rest(value) else {
-        return Err(Fail::No(Code::NotAVolume));
+        return Err(CallError::No(Code::NotAVolume));
     };
     let Some(version) = number_of(version) else {
-        return Err(Fail::No(Code::NotAVolume));
+        return Err(CallError::No(Code::NotAVolume));
     };
     Ok(Tombstone {
         number,
@@ -179,25 +179,25 @@ fn tombstone(number: &[u8], value: &[u8]) -> Result<Tombstone, Fail>
 }
 
 /// The path seen that a record has. Refused as NotAVolume exactly where it is no record of one.
-pub fn read_seen(alloc: Global, key: &[u8], value: &[u8]) -> Result<SeenPath, Fail>
+pub fn read_seen(alloc: Global, key: &[u8], value: &[u8]) -> Result<SeenPath, CallError>
     ensures { Reads (IsSeen (record { key = key.now; value = value.now })) result }
 {
     let [kind, item @ ..] = key else {
-        return Err(Fail::No(Code::NotAVolume));
+        return Err(CallError::No(Code::NotAVolume));
     };
     if *kind != b's' {
-        return Err(Fail::No(Code::NotAVolume));
+        return Err(CallError::No(Code::NotAVolume));
     }
     seen(alloc, item, value)
 }
 
 /// What the record says. Refused as NotAVolume exactly where it says nothing of a book.
-pub fn read_record(alloc: Global, record: &AuxRecord) -> Result<Record, Fail>
+pub fn read_record(alloc: Global, record: &AuxRecord) -> Result<Record, CallError>
     ensures { Reads (Says record.now) result }
 {
     let value = record.value.as_slice();
     let [kind, rest @ ..] = record.key.as_slice() else {
-        return Err(Fail::No(Code::NotAVolume));
+        return Err(CallError::No(Code::NotAVolume));
     };
     if *kind == b'c' {
         return Ok(Record::Cursor(cursor(rest, value)?));
@@ -211,5 +211,5 @@ pub fn read_record(alloc: Global, record: &AuxRecord) -> Result<Record, Fail>
     if *kind == b't' {
         return Ok(Record::Buried(tombstone(rest, value)?));
     }
-    Err(Fail::No(Code::NotAVolume))
+    Err(CallError::No(Code::NotAVolume))
 }

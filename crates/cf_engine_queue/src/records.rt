@@ -4,7 +4,7 @@ use crate::uploads::{QueueEntry, Tombstone};
 use cf_base::SeenPath;
 
 /// What an auxiliary record says.
-#[derive(Debug, Drop)]
+#[derive(Drop)]
 pub enum Record {
     /// The clock of the last feed that was applied whole.
     Cursor(u64),

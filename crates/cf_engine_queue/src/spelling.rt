@@ -8,12 +8,12 @@ ghost use Rattle.cf_engine_queue.specs.Books.{action_of, entry_value, tombstone_
 ghost use Rattle.cf_engine_queue.specs.Records.{FitsUsn, IsCursor, IsEntry, IsSeen, IsTombstone};
 
 use crate::uploads::{Action, QueueEntry, Tombstone};
-use cf_base::{AuxRecord, Blob, Memory, SeenPath};
+use cf_base::{AuxRecord, Blob, OutOfMemory, SeenPath};
 use cf_codec::Writer;
 use std::alloc::Global;
 
 #[tactic(auto, using(crate::proofs::Spelled::four_bytes))]
-fn put_4(out: &mut Writer, v: u32) -> Result<(), Memory>
+fn put_4(out: &mut Writer, v: u32) -> Result<(), OutOfMemory>
     ensures ok { OnOk result (out.new ≡ out.old ++ in_bytes 4 v) }
     ensures fits { v < 2 ^ 32 }
 {
@@ -21,7 +21,7 @@ fn put_4(out: &mut Writer, v: u32) -> Result<(), Memory>
 }
 
 #[tactic(auto, using(crate::proofs::Spelled::eight_bytes))]
-fn put_8(out: &mut Writer, v: u64) -> Result<(), Memory>
+fn put_8(out: &mut Writer, v: u64) -> Result<(), OutOfMemory>
     ensures ok { OnOk result (out.new ≡ out.old ++ in_bytes 8 v) }
     ensures fits { v < 2 ^ 64 }
 {
@@ -29,7 +29,7 @@ fn put_8(out: &mut Writer, v: u64) -> Result<(), Memory>
 }
 
 // A key of this kind for a pair of numbers.
-fn pair_key(alloc: Global, kind: u8, first: u32, second: u32) -> Result<Blob, Memory>
+fn pair_key(alloc: Global, kind: u8, first: u32, second: u32) -> Result<Blob, OutOfMemory>
     ensures ok { IfOk result (λ key. key ≡ kind ∷ (in_bytes 4 first ++ in_bytes 4 second)) }
     ensures fits { (first < 2 ^ 32) × (second < 2 ^ 32) }
 {
@@ -52,7 +52,7 @@ fn action_byte(action: Action) -> u8
 }
 
 /// The auxiliary record of the cursor. A book has one where its cursor is not 0.
-pub fn spell_cursor(alloc: Global, clock: u64) -> Result<AuxRecord, Memory>
+pub fn spell_cursor(alloc: Global, clock: u64) -> Result<AuxRecord, OutOfMemory>
     ensures { IfOk result (λ r. IsCursor r clock) }
 {
     let key = Blob::from_slice(alloc, b"c")?;
@@ -62,7 +62,7 @@ pub fn spell_cursor(alloc: Global, clock: u64) -> Result<AuxRecord, Memory>
     Ok(AuxRecord { key, value })
 }
 
-fn item_key(alloc: Global, item: u64) -> Result<Blob, Memory>
+fn item_key(alloc: Global, item: u64) -> Result<Blob, OutOfMemory>
     ensures ok { IfOk result (λ key. key ≡ 115 ∷ in_bytes 8 item) }
     ensures fits { item < 2 ^ 64 }
 {
@@ -72,7 +72,7 @@ fn item_key(alloc: Global, item: u64) -> Result<Blob, Memory>
     Ok(out.into_blob())
 }
 
-fn seen_value(alloc: Global, seen: &SeenPath) -> Result<Blob, Memory>
+fn seen_value(alloc: Global, seen: &SeenPath) -> Result<Blob, OutOfMemory>
     ensures ok { IfOk result (λ value. value ≡ in_bytes 8 seen.now.parent.0 ++ seen.now.name) }
     ensures fits { seen.now.parent.0 < 2 ^ 64 }
 {
@@ -83,7 +83,7 @@ fn seen_value(alloc: Global, seen: &SeenPath) -> Result<Blob, Memory>
 }
 
 /// The auxiliary record of a path seen, of which `read_seen` gives the path back.
-pub fn spell_seen(alloc: Global, seen: &SeenPath) -> Result<AuxRecord, Memory>
+pub fn spell_seen(alloc: Global, seen: &SeenPath) -> Result<AuxRecord, OutOfMemory>
     ensures spelled { IfOk result (λ r. r ≡ seen_record seen.now) }
     ensures read_again { is_name seen.now.name ≡ true → IfOk result (λ r. IsSeen r seen.now) }
 {
@@ -92,7 +92,7 @@ pub fn spell_seen(alloc: Global, seen: &SeenPath) -> Result<AuxRecord, Memory>
     Ok(AuxRecord { key, value })
 }
 
-fn entry_value(alloc: Global, entry: &QueueEntry) -> Result<Blob, Memory>
+fn entry_value(alloc: Global, entry: &QueueEntry) -> Result<Blob, OutOfMemory>
     ensures ok { IfOk result (λ value. value ≡ in_bytes 8 entry.now.item.0 ++ (action_byte (action_of entry.now.action) ∷ (usn_bytes entry.now.number ++ (in_bytes 8 entry.now.rid.0 ++ (in_bytes 8 entry.now.parent.0 ++ entry.now.name))))) }
     ensures fits { IfOk result (λ _. (entry.now.item.0 < 2 ^ 64) × FitsUsn entry.now.number × (entry.now.rid.0 < 2 ^ 64) × (entry.now.parent.0 < 2 ^ 64)) }
 {
@@ -109,7 +109,7 @@ fn entry_value(alloc: Global, entry: &QueueEntry) -> Result<Blob, Memory>
 
 impl QueueEntry {
     /// The entry's auxiliary record, of which `read_record` gives the entry back.
-    pub fn spell(&self, alloc: Global) -> Result<AuxRecord, Memory>
+    pub fn spell(&self, alloc: Global) -> Result<AuxRecord, OutOfMemory>
         ensures { IfOk result (λ r. IsEntry r (entry_value self.now)) }
     {
         let token = self.token.0;
@@ -119,7 +119,7 @@ impl QueueEntry {
     }
 }
 
-fn tombstone_value(alloc: Global, tombstone: Tombstone) -> Result<Blob, Memory>
+fn tombstone_value(alloc: Global, tombstone: Tombstone) -> Result<Blob, OutOfMemory>
     ensures ok { IfOk result (λ value. value ≡ in_bytes 8 tombstone.rid.0 ++ in_bytes 8 tombstone.version.0) }
     ensures fits { (tombstone.rid.0 < 2 ^ 64) × (tombstone.version.0 < 2 ^ 64) }
 {
@@ -131,7 +131,7 @@ fn tombstone_value(alloc: Global, tombstone: Tombstone) -> Result<Blob, Memory>
 
 impl Tombstone {
     /// The tombstone's auxiliary record, of which `read_record` gives the tombstone back.
-    pub fn spell(&self, alloc: Global) -> Result<AuxRecord, Memory>
+    pub fn spell(&self, alloc: Global) -> Result<AuxRecord, OutOfMemory>
         ensures { IfOk result (λ r. IsTombstone r (tombstone_value self.now)) }
     {
         let number = self.number;

@@ -2,7 +2,7 @@
 
 ghost use Rattle.std.specs.Prelude.{◌≡◌, IfOk};
 
-use cf_base::{Blob, ItemId, Memory, Rid, Token, Usn, Version};
+use cf_base::{Blob, ItemId, OutOfMemory, Rid, Token, Usn, Version};
 
 /// What an upload does to the remote.
 #[derive(Clone, Copy, Debug, PartialEq, Eq)]
@@ -15,7 +15,7 @@ pub enum Action {
 
 /// An upload that was committed and has no reply yet. A removal has item 0, its tombstone's number and parent 0; a put of a
 /// file with a target has parent 0 and no name; a new file and a new directory have rid 0.
-#[derive(Clone, Debug, Drop)]
+#[derive(Clone, Drop)]
 pub struct QueueEntry {
     pub token: Token,
     pub item: ItemId,
@@ -36,7 +36,7 @@ pub struct Tombstone {
 
 impl QueueEntry {
     /// An equal value on its own.
-    pub fn copy(&self) -> Result<QueueEntry, Memory>
+    pub fn copy(&self) -> Result<QueueEntry, OutOfMemory>
         ensures { IfOk result (λ e. e ≡ self.now) }
     {
         Ok(self.clone()?)

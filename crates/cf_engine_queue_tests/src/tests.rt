@@ -1,6 +1,6 @@
 //! What no clause says: that the calls succeed where there is memory, and some records from outside.
 
-use cf_base::{AuxRecord, Blob, ItemId, Key, Memory, Rid, Token, Usn, Version};
+use cf_base::{AuxRecord, Blob, ItemId, Key, OutOfMemory, Rid, Token, Usn, Version};
 use cf_engine_queue::{Action, Queue, QueueEntry, Tombstone, read_cursor, spell_cursor};
 use std::alloc::Global;
 use std::test::Fail;
@@ -18,7 +18,7 @@ fn token(number: u32) -> Token {
     Token(Key { epoch: 1, number })
 }
 
-fn entry(alloc: Global, n: u32) -> Result<QueueEntry, Memory> {
+fn entry(alloc: Global, n: u32) -> Result<QueueEntry, OutOfMemory> {
     let name = Blob::from_slice(alloc, b"n")?;
     Ok(QueueEntry {
         token: token(n),
@@ -39,13 +39,13 @@ fn tombstone(place: u32) -> Tombstone {
     }
 }
 
-fn aux_record(alloc: Global, key: &[u8], value: &[u8]) -> Result<AuxRecord, Memory> {
+fn aux_record(alloc: Global, key: &[u8], value: &[u8]) -> Result<AuxRecord, OutOfMemory> {
     let key = Blob::from_slice(alloc, key)?;
     let value = Blob::from_slice(alloc, value)?;
     Ok(AuxRecord { key, value })
 }
 
-fn is_refused(alloc: Global, key: &[u8], value: &[u8]) -> Result<bool, Memory> {
+fn is_refused(alloc: Global, key: &[u8], value: &[u8]) -> Result<bool, OutOfMemory> {
     let mut records = Vec::new(alloc);
     records.push(aux_record(alloc, key, value)?)?;
     Ok(Queue::load(alloc, records.as_slice()).is_err())

@@ -5,8 +5,8 @@ use Rattle.std.specs.Result.{IsErrAnd}
 use Rattle.std.proofs.lemmas.Result.{err_from_is_err_and}
 use Rattle.cf_base.specs.declared.answers.Shown.{Shown}
 use Rattle.cf_base.specs.declared.codes.Code.TheVariants as code
-use Rattle.cf_base.specs.declared.codes.Fail.{Fail}
-use Rattle.cf_base.specs.declared.codes.Fail.TheVariants.{No, Memory}
+use Rattle.cf_base.specs.declared.codes.CallError.{CallError}
+use Rattle.cf_base.specs.declared.codes.CallError.TheVariants.{No, OutOfMemory}
 use Rattle.cf_base.specs.declared.notices.Notice.{Notice}
 use Rattle.cf_disk.specs.Disk.{State}
 use Rattle.cf_filter.specs.Calling.{Asks, Calls, Takes, Told, answer_of, broken_by, is_stopped, noted, shown_by}
@@ -18,11 +18,11 @@ use Rattle.cf_model.specs.State.{Filter}
 use Rattle.cf_filter_steps.specs.Answering.{After, Answers, Any, Sense}
 
 -- a part that a call does on the machine inside
-pub seen_from : {X A : Type 0} {S : Sense X} {P : Filter → Type 0} {f : Arrow Filter A} {r : Result A Fail} {x y z : X} → x ≡ y → Answers S P f x r z → Answers S P f y r z
+pub seen_from : {X A : Type 0} {S : Sense X} {P : Filter → Type 0} {f : Arrow Filter A} {r : Result A CallError} {x y z : X} → x ≡ y → Answers S P f x r z → Answers S P f y r z
 seen_from {X} {A} {S} {P} {f} {r} {x} {y} {z} e h = subst (λ (w : X). Answers S P f w r z) e h
 
 -- the same of one that changes nothing
-pub seen_both : {X A : Type 0} {S : Sense X} {P : Filter → Type 0} {f : Arrow Filter A} {r : Result A Fail} {x y : X} → x ≡ y → Answers S P f x r x → Answers S P f y r y
+pub seen_both : {X A : Type 0} {S : Sense X} {P : Filter → Type 0} {f : Arrow Filter A} {r : Result A CallError} {x y : X} → x ≡ y → Answers S P f x r x → Answers S P f y r y
 seen_both {X} {A} {S} {P} {f} {r} {x} {y} e h = subst (λ (w : X). Answers S P f w r w) e h
 
 true_false : true ≡ false → ⊥
@@ -30,17 +30,17 @@ true_false e = cc
 
 module _ {D : Type 0} (state : D → State) where
   -- however a part ended, a restart opens a point of the state
-  pub lasts_after : {A : Type 0} (q : Result A Fail) (x y : Held D) (t : Filter) → After (sense state) x q y t → Lasts (state y.disk) t.volume
+  pub lasts_after : {A : Type 0} (q : Result A CallError) (x y : Held D) (t : Filter) → After (sense state) x q y t → Lasts (state y.disk) t.volume
   lasts_after (Ok a) x y t h = (sense state).endures y t h
   lasts_after (Err (No c)) x y t h = h.0.lasts
-  lasts_after (Err Memory) x y t h = h
+  lasts_after (Err OutOfMemory) x y t h = h
 
-  told_as : {A : Type 0} (show : A → Shown) (part : Arrow Filter Shown) (old mid : Held D) (p : Result Shown Fail) (q : Told A)
+  told_as : {A : Type 0} (show : A → Shown) (part : Arrow Filter Shown) (old mid : Held D) (p : Result Shown CallError) (q : Told A)
       → Takes show p q → Answers (sense state) Any part old p mid → Answers (sense state) Any part old (shown_by show q) mid
-  told_as show part old mid p (Ok (Ok a)) is h = subst (λ (r : Result Shown Fail). Answers (sense state) Any part old r mid) is h
-  told_as show part old mid p (Ok (Err c)) is h = subst (λ (r : Result Shown Fail). Answers (sense state) Any part old r mid) is h
-  told_as show part old mid p (Err (No c)) is h = subst (λ (r : Result Shown Fail). Answers (sense state) Any part old r mid) is h
-  told_as show part old mid p (Err Memory) is h = record { leads = λ s i u. let x = h.leads s i u in (x.0, record {}, x.2, lasts_after p old mid x.0 x.3) }
+  told_as show part old mid p (Ok (Ok a)) is h = subst (λ (r : Result Shown CallError). Answers (sense state) Any part old r mid) is h
+  told_as show part old mid p (Ok (Err c)) is h = subst (λ (r : Result Shown CallError). Answers (sense state) Any part old r mid) is h
+  told_as show part old mid p (Err (No c)) is h = subst (λ (r : Result Shown CallError). Answers (sense state) Any part old r mid) is h
+  told_as show part old mid p (Err OutOfMemory) is h = record { leads = λ s i u. let x = h.leads s i u in (x.0, record {}, x.2, lasts_after p old mid x.0 x.3) }
 
   pub whole_again : (x : Held D) (t : Filter) → (sense state).means x t → (sense state).means (record x { desk = record x.desk { broken = false } }) t
   whole_again x t h = record { fair = h.fair; volume = h.volume; desk = ap (λ (d : Desk). record d { broken = false }) h.desk; whole = h.whole; good = h.good; kept = h.kept; points = h.points }
@@ -51,7 +51,7 @@ module _ {D : Type 0} (state : D → State) where
   broken_after {A} show (Ok (Ok a)) x y t h = whole_again y t h
   broken_after {A} show (Ok (Err c)) x y t h = whole_again y t h
   broken_after show (Err (No c)) x y t h = (record { notes = h.0.notes; policy = h.0.policy; connected = h.0.connected; lasts = h.0.lasts }, h.1)
-  broken_after show (Err Memory) x y t h = h
+  broken_after show (Err OutOfMemory) x y t h = h
 
   pub is_broken : (b : Bool) (x y : Held D) → y ≡ broken_by b x → y.desk.broken ≡ b
   unfolding broken_by
@@ -70,7 +70,7 @@ module _ {D : Type 0} (state : D → State) where
   unfolding noted broken_by
   noted_back b stash x = refl
 
-  pub called : {A : Type 0} (show : A → Shown) (part : Arrow Filter Shown) (old mid new : Held D) (p : Result Shown Fail) (q : Told A) (r : Result A Fail)
+  pub called : {A : Type 0} (show : A → Shown) (part : Arrow Filter Shown) (old mid new : Held D) (p : Result Shown CallError) (q : Told A) (r : Result A CallError)
       → old.desk.broken ≡ false → Answers (sense state) Any part old p mid → Takes show p q → r ≡ answer_of q → new ≡ broken_by (is_stopped q) mid → Calls (sense state) show part old r new
   called show part old mid new p q r whole h takes is after =
       let told = told_as show part old mid p q takes h in record {
@@ -78,7 +78,7 @@ module _ {D : Type 0} (state : D → State) where
         does = λ whole. (q, is, subst (λ (y : Held D). Answers (sense state) Any part old (shown_by show q) y) (sym after) (record { leads = λ s i u. let x = told.leads s i u in (x.0, x.1, same_move (is_stopped q) old mid s x.0 x.2, broken_after show q old mid x.0 x.3) }), is_broken (is_stopped q) mid new after);
       }
 
-  pub called_with : {A : Type 0} (show : A → Shown) (part : Arrow Filter Shown) (old begun mid new : Held D) (before after stash : List Notice) (p : Result Shown Fail) (q : Told A) (r : Result A Fail)
+  pub called_with : {A : Type 0} (show : A → Shown) (part : Arrow Filter Shown) (old begun mid new : Held D) (before after stash : List Notice) (p : Result Shown CallError) (q : Told A) (r : Result A CallError)
       → old.desk.broken ≡ false → begun ≡ noted before old → Answers (sense state) Any part begun p mid → Takes show p q → r ≡ answer_of q
       → new ≡ broken_by (is_stopped q) (noted stash mid) → after ≡ mid.desk.notes → Calls (sense state) show part (noted before old) r (noted after new)
   called_with show part old begun mid new before after stash p q r whole b h takes is n a =
@@ -86,15 +86,15 @@ module _ {D : Type 0} (state : D → State) where
       (ap (λ (l : List Notice). noted l new) a ∙ ap (λ (y : Held D). noted mid.desk.notes y) n ∙ noted_back (is_stopped q) stash mid)
 
   -- a call of a broken filter
-  pub called_not : {A : Type 0} (show : A → Shown) (part : Arrow Filter Shown) (old new : Held D) (e : Fail) (r : Result A Fail)
+  pub called_not : {A : Type 0} (show : A → Shown) (part : Arrow Filter Shown) (old new : Held D) (e : CallError) (r : Result A CallError)
       → e ≡ No code.Broken → old.desk.broken ≡ true → IsErrAnd r (λ y. y ≡ e) → new ≡ old → Calls (sense state) show part old r new
   called_not show part old new e r is broken err same =
       let p = err_from_is_err_and r err in record {
-        broken = λ h. (p.1 ∙ ap (λ (y : Fail). Err y) (p.2 ∙ is), same);
+        broken = λ h. (p.1 ∙ ap (λ (y : CallError). Err y) (p.2 ∙ is), same);
         does = λ whole. absurd (true_false (sym broken ∙ whole));
       }
 
-  pub called_not_with : {A : Type 0} (show : A → Shown) (part : Arrow Filter Shown) (old new : Held D) (before after : List Notice) (e : Fail) (r : Result A Fail)
+  pub called_not_with : {A : Type 0} (show : A → Shown) (part : Arrow Filter Shown) (old new : Held D) (before after : List Notice) (e : CallError) (r : Result A CallError)
       → e ≡ No code.Broken → old.desk.broken ≡ true → IsErrAnd r (λ y. y ≡ e) → new ≡ old → after ≡ before → Calls (sense state) show part (noted before old) r (noted after new)
   called_not_with show part old new before after e r is broken err same notes =
       called_not show part (noted before old) (noted after new) e r is (still_noted before true old broken) err (ap (λ (l : List Notice). noted l new) notes ∙ ap (λ (y : Held D). noted before y) same)
@@ -105,17 +105,17 @@ module _ {D : Type 0} (state : D → State) where
 
   -- calls that change nothing
 
-  pub asked : {A : Type 0} (show : A → Shown) (part : Arrow Filter Shown) (x : Held D) (p : Result Shown Fail) (q : Told A) (r : Result A Fail)
+  pub asked : {A : Type 0} (show : A → Shown) (part : Arrow Filter Shown) (x : Held D) (p : Result Shown CallError) (q : Told A) (r : Result A CallError)
       → x.desk.broken ≡ false → Answers (sense state) Any part x p x → Takes show p q → r ≡ answer_of q → Asks (sense state) show part x r
   asked show part x p q r whole h takes is = record {
     broken = λ broken. absurd (true_false (sym broken ∙ whole));
     does = λ whole. (q, is, told_as show part x x p q takes h);
   }
 
-  pub asked_not : {A : Type 0} (show : A → Shown) (part : Arrow Filter Shown) (x : Held D) (e : Fail) (r : Result A Fail)
+  pub asked_not : {A : Type 0} (show : A → Shown) (part : Arrow Filter Shown) (x : Held D) (e : CallError) (r : Result A CallError)
       → e ≡ No code.Broken → x.desk.broken ≡ true → IsErrAnd r (λ y. y ≡ e) → Asks (sense state) show part x r
   asked_not show part x e r is broken err =
       let p = err_from_is_err_and r err in record {
-        broken = λ h. p.1 ∙ ap (λ (y : Fail). Err y) (p.2 ∙ is);
+        broken = λ h. p.1 ∙ ap (λ (y : CallError). Err y) (p.2 ∙ is);
         does = λ whole. absurd (true_false (sym broken ∙ whole));
       }

@@ -5,9 +5,9 @@ use Rattle.std.specs.Result.{IsErrAnd}
 use Rattle.std.proofs.lemmas.Result.{err_from_is_err_and}
 use Rattle.cf_base.specs.declared.answers.Shown.{Shown}
 use Rattle.cf_base.specs.declared.answers.Shown.TheVariants as shown
-use Rattle.cf_base.specs.declared.codes.Fail.{Fail}
-use Rattle.cf_base.specs.declared.codes.Fail.TheVariants.{No, Memory}
-use Rattle.cf_base.specs.declared.memory.Memory.{Memory as NoMemory}
+use Rattle.cf_base.specs.declared.codes.CallError.{CallError}
+use Rattle.cf_base.specs.declared.codes.CallError.TheVariants.{No, OutOfMemory}
+use Rattle.cf_base.specs.declared.memory.OutOfMemory.{OutOfMemory as NoMemory}
 use Rattle.cf_base.specs.declared.waits.Ask.{Ask}
 use Rattle.cf_disk.specs.Disk.{State}
 use Rattle.cf_provider.specs.Sights.{Shows, callback_of, identity_of}
@@ -71,7 +71,7 @@ module _ {D P : Type 0} (state : D → State) (answers : Answering P) where
   answers_on : (ask : Ask) (p q : P) (x : Held D) (call : Callback) (acts : List Act) (s : Filter) → Stands state x s → call ≡ callback_of ask s → answers p (sight_of x) call acts q → AnswersOn answers ask p s acts q
   answers_on ask p q x call acts s stands same gives = record { seen = sight_of x; shows = sight_shows state x s stands; good = stands.good; gives = subst (λ (k : Callback). answers p (sight_of x) k acts q) same gives }
 
-  turn_to : (ask : Ask) (p q : P) (x y : Held D) (call : Callback) (told : Result (Unit {0}) NoMemory) (r : Result (Unit {0}) Fail) (acts : List Act) (s t : Filter) (broken lost : Bool)
+  turn_to : (ask : Ask) (p q : P) (x y : Held D) (call : Callback) (told : Result (Unit {0}) NoMemory) (r : Result (Unit {0}) CallError) (acts : List Act) (s t : Filter) (broken lost : Bool)
       → Stands state x s → call ≡ callback_of ask s → (is_ok told ≡ true → answers p (sight_of x) call acts q) → IsTurned told broken lost r → GoneTo state broken lost acts x s y t → TurnTo state answers ask p x s r q y t
   turn_to ask p q x y call told (Ok u) acts s t false lost stands same gives turned gone =
       (acts, gone.0, gone.1, answers_on ask p q x call acts s stands same (gives (ap is_ok turned.0)), gone.2)
@@ -80,18 +80,18 @@ module _ {D P : Type 0} (state : D → State) (answers : Answering P) where
   turn_to ask p q x y call told (Err (No c)) acts s t true false stands same gives turned gone =
       (turned.3, acts, gone.0, gone.1, answers_on ask p q x call acts s stands same (gives (ap is_ok turned.0)), gone.2, gone.3)
   turn_to ask p q x y call told (Err (No c)) acts s t true true stands same gives turned gone = false_true (sym turned.2)
-  turn_to ask p q x y call told (Err Memory) acts s t broken lost stands same gives turned gone = gone_lasts state broken lost acts x s y t gone
+  turn_to ask p q x y call told (Err OutOfMemory) acts s t broken lost stands same gives turned gone = gone_lasts state broken lost acts x s y t gone
 
-  pub turned_by : (ask : Ask) (p q : P) (x y : Held D) (call : Callback) (told : Result (Unit {0}) NoMemory) (r : Result (Unit {0}) Fail)
+  pub turned_by : (ask : Ask) (p q : P) (x y : Held D) (call : Callback) (told : Result (Unit {0}) NoMemory) (r : Result (Unit {0}) CallError)
       → Reads (sense state) Any (callback_of ask) x call → ((acts : List Act) × Goes state x acts y × (is_ok told ≡ true → answers p (sight_of x) call acts q)) → IsTurned told y.desk.broken y.desk.lost r → Turns state answers ask p x r q y
   turned_by ask p q x y call told r reads does turned = record {
     leads = λ s h. let g = does.1.leads s h in (g.0, g.1, turn_to ask p q x y call told r does.0 s g.0 y.desk.broken y.desk.lost h (reads.is s h (record {})) does.2 turned g.2);
   }
 
-  pub turn_lost : (ask : Ask) (p : P) (x : Held D) (r : Result (Unit {0}) Fail) → IsErrAnd r (λ y. y ≡ Memory) → Turns state answers ask p x r p x
+  pub turn_lost : (ask : Ask) (p : P) (x : Held D) (r : Result (Unit {0}) CallError) → IsErrAnd r (λ y. y ≡ OutOfMemory) → Turns state answers ask p x r p x
   turn_lost ask p x r is =
       let e = err_from_is_err_and r is in
-      subst (λ (o : Result (Unit {0}) Fail). Turns state answers ask p x o p x) (sym (e.1 ∙ ap (λ (z : Fail). Err z) e.2)) (record { leads = λ s h. (s, (sense state).stays x s h, (sense state).endures x s h) })
+      subst (λ (o : Result (Unit {0}) CallError). Turns state answers ask p x o p x) (sym (e.1 ∙ ap (λ (z : CallError). Err z) e.2)) (record { leads = λ s h. (s, (sense state).stays x s h, (sense state).endures x s h) })
 
   -- all of them
 
@@ -100,15 +100,15 @@ module _ {D P : Type 0} (state : D → State) (answers : Answering P) where
     leads = λ s h. (s, (sense state).stays x s h, (record { runs = []; few = omega arith; drained = (sym (ap (λ (d : Desk). d.outbox) h.desk) ∙ none, refl, refl) }, h));
   })
 
-  pub drains_out : (n : ℕ) (p : P) (x : Held D) → Drains n state answers p x (Err Memory) p x
+  pub drains_out : (n : ℕ) (p : P) (x : Held D) → Drains n state answers p x (Err OutOfMemory) p x
   drains_out n p x = record { leads = λ s h. (s, (sense state).stays x s h, (sense state).endures x s h) }
 
-  wider_to : (m n : ℕ) (p q : P) (x y : Held D) (s t : Filter) (r : Result (Unit {0}) Fail) → m ≤ n → DrainsTo m state answers p x s r q y t → DrainsTo n state answers p x s r q y t
+  wider_to : (m n : ℕ) (p q : P) (x y : Held D) (s t : Filter) (r : Result (Unit {0}) CallError) → m ≤ n → DrainsTo m state answers p x s r q y t → DrainsTo n state answers p x s r q y t
   wider_to m n p q x y s t (Ok u) le h = (record { runs = h.0.runs; few = omega (arith, le, h.0.few); drained = h.0.drained }, h.1)
   wider_to m n p q x y s t (Err (No c)) le h = (h.0, record { runs = h.1.runs; few = omega (arith, le, h.1.few); cut = h.1.cut }, h.2, h.3)
-  wider_to m n p q x y s t (Err Memory) le h = h
+  wider_to m n p q x y s t (Err OutOfMemory) le h = h
 
-  pub drains_wider : (m n : ℕ) (p q : P) (x y : Held D) (r : Result (Unit {0}) Fail) → m ≤ n → Drains m state answers p x r q y → Drains n state answers p x r q y
+  pub drains_wider : (m n : ℕ) (p q : P) (x y : Held D) (r : Result (Unit {0}) CallError) → m ≤ n → Drains m state answers p x r q y → Drains n state answers p x r q y
   drains_wider m n p q x y r le h = record { leads = λ s i. let d = h.leads s i in (d.0, d.1, wider_to m n p q x y s d.0 r le d.2) }
 
   popped : (x y : Held D) (rest : List Ask) (s : Filter) → y ≡ record x { desk = record x.desk { outbox = rest } } → Stands state x s → Stands state y (with_rest rest s)
@@ -123,7 +123,7 @@ module _ {D P : Type 0} (state : D → State) (answers : Answering P) where
   cut_more p s mid ask rest acts after q t [] out does none gives cut = absurd cut
   cut_more p s mid ask rest acts after q t (next ∷ more) out does none gives cut = (ask, rest, out, mid, does, none, after, gives, cut)
 
-  drains_on : (n : ℕ) (p after q : P) (x next y z : Held D) (ask : Ask) (rest : List Ask) (s mid t : Filter) (r : Result (Unit {0}) Fail) → s.outbox ≡ ask ∷ rest
+  drains_on : (n : ℕ) (p after q : P) (x next y z : Held D) (ask : Ask) (rest : List Ask) (s mid t : Filter) (r : Result (Unit {0}) CallError) → s.outbox ≡ ask ∷ rest
       → (state x.disk).faults ≤ (state y.disk).faults → TurnTo state answers ask p next (with_rest rest s) (Ok (record {})) after y mid → DrainsTo n state answers after y mid r q z t → DrainsTo (n + 1) state answers p x s r q z t
   drains_on n p after q x next y z ask rest s mid t (Ok u) out least turn more = (
     record { runs = turn.0 ∷ more.0.runs; few = omega (arith, more.0.few); drained = (ask, rest, out, mid, turn.1, turn.2, after, turn.3, more.0.drained) },
@@ -135,13 +135,13 @@ module _ {D P : Type 0} (state : D → State) (answers : Answering P) where
     more.2,
     rose_on (state x.disk) (state y.disk) (state z.disk) least more.3,
   )
-  drains_on n p after q x next y z ask rest s mid t (Err Memory) out least turn more = more
+  drains_on n p after q x next y z ask rest s mid t (Err OutOfMemory) out least turn more = more
 
   turn_stands : (ask : Ask) (p q : P) (x y : Held D) (s t : Filter) → TurnTo state answers ask p x s (Ok (record {})) q y t → Stands state y t
   turn_stands ask p q x y s t turn = turn.4
 
   -- the first, then the others
-  pub drains_more : (n : ℕ) (p after q : P) (x next y z : Held D) (ask : Ask) (r : Result (Unit {0}) Fail) → ((rest : List Ask) × (x.desk.outbox ≡ ask ∷ rest) × (next ≡ record x { desk = record x.desk { outbox = rest } }))
+  pub drains_more : (n : ℕ) (p after q : P) (x next y z : Held D) (ask : Ask) (r : Result (Unit {0}) CallError) → ((rest : List Ask) × (x.desk.outbox ≡ ask ∷ rest) × (next ≡ record x { desk = record x.desk { outbox = rest } }))
       → Turns state answers ask p next (Ok (record {})) after y → Drains n state answers after y r q z → Drains (n + 1) state answers p x r q z
   drains_more n p after q x next y z ask r some turn more = record {
     leads = λ s h.
@@ -152,7 +152,7 @@ module _ {D P : Type 0} (state : D → State) (answers : Answering P) where
         (b.0, (sense state).goes_on x y z s a.0 b.0 m b.1, drains_on n p after q x next y z ask some.0 s a.0 b.0 r out m.runs.faults a.2 b.2);
   }
 
-  stops_to : (p q : P) (x next y : Held D) (ask : Ask) (rest : List Ask) (s t : Filter) (e : Fail) → s.outbox ≡ ask ∷ rest → next ≡ record x { desk = record x.desk { outbox = rest } } → TurnTo state answers ask p next (with_rest rest s) (Err e) q y t
+  stops_to : (p q : P) (x next y : Held D) (ask : Ask) (rest : List Ask) (s t : Filter) (e : CallError) → s.outbox ≡ ask ∷ rest → next ≡ record x { desk = record x.desk { outbox = rest } } → TurnTo state answers ask p next (with_rest rest s) (Err e) q y t
       → DrainsTo 1 state answers p x s (Err e) q y t
   stops_to p q x next y ask rest s t (No c) out is turn = (
     turn.0,
@@ -160,10 +160,10 @@ module _ {D P : Type 0} (state : D → State) (answers : Answering P) where
     turn.5,
     subst (λ (w : Held D). Rose (state w.disk) (state y.disk)) is turn.6,
   )
-  stops_to p q x next y ask rest s t Memory out is turn = turn
+  stops_to p q x next y ask rest s t OutOfMemory out is turn = turn
 
   -- the first stops
-  drains_stops : (p q : P) (x next y : Held D) (ask : Ask) (e : Fail) → ((rest : List Ask) × (x.desk.outbox ≡ ask ∷ rest) × (next ≡ record x { desk = record x.desk { outbox = rest } }))
+  drains_stops : (p q : P) (x next y : Held D) (ask : Ask) (e : CallError) → ((rest : List Ask) × (x.desk.outbox ≡ ask ∷ rest) × (next ≡ record x { desk = record x.desk { outbox = rest } }))
       → Turns state answers ask p next (Err e) q y → Drains 1 state answers p x (Err e) q y
   drains_stops p q x next y ask e some turn = record {
     leads = λ s h.
@@ -172,30 +172,30 @@ module _ {D P : Type 0} (state : D → State) (answers : Answering P) where
         (a.0, popped_moved x next y some.0 s a.0 some.2 a.1, stops_to p q x next y ask some.0 s a.0 e out some.2 a.2);
   }
 
-  pub drains_exit : (p q : P) (x next y : Held D) (ask : Ask) (e : Fail) (r : Result (Unit {0}) Fail) → ((rest : List Ask) × (x.desk.outbox ≡ ask ∷ rest) × (next ≡ record x { desk = record x.desk { outbox = rest } }))
+  pub drains_exit : (p q : P) (x next y : Held D) (ask : Ask) (e : CallError) (r : Result (Unit {0}) CallError) → ((rest : List Ask) × (x.desk.outbox ≡ ask ∷ rest) × (next ≡ record x { desk = record x.desk { outbox = rest } }))
       → Turns state answers ask p next (Err e) q y → IsErrAnd r (λ z. z ≡ e) → Drains 1 state answers p x r q y
   drains_exit p q x next y ask e r some turn is =
-      let o = err_from_is_err_and r is in subst (λ (u : Result (Unit {0}) Fail). Drains 1 state answers p x u q y) (sym (o.1 ∙ ap (λ (z : Fail). Err z) o.2)) (drains_stops p q x next y ask e some turn)
+      let o = err_from_is_err_and r is in subst (λ (u : Result (Unit {0}) CallError). Drains 1 state answers p x u q y) (sym (o.1 ∙ ap (λ (z : CallError). Err z) o.2)) (drains_stops p q x next y ask e some turn)
 
   -- a call
 
-  pub calls_stopped : (part : Arrow Filter Shown) (p : P) (x y : Held D) (s : Filter) (told r : Result Shown Fail) (e : Fail) → PartTo state part x s told y → told ≡ Err e → IsErrAnd r (λ z. z ≡ e) → CallsTo state answers part p x s r p y
+  pub calls_stopped : (part : Arrow Filter Shown) (p : P) (x y : Held D) (s : Filter) (told r : Result Shown CallError) (e : CallError) → PartTo state part x s told y → told ≡ Err e → IsErrAnd r (λ z. z ≡ e) → CallsTo state answers part p x s r p y
   calls_stopped part p x y s told r e h was is =
       let q = err_from_is_err_and r is in
-      subst (λ (o : Result Shown Fail). CallsTo state answers part p x s o p y) (sym (q.1 ∙ ap (λ (z : Fail). Err z) q.2)) (by e (subst (λ (o : Result Shown Fail). PartTo state part x s o y) was h))
+      subst (λ (o : Result Shown CallError). CallsTo state answers part p x s o p y) (sym (q.1 ∙ ap (λ (z : CallError). Err z) q.2)) (by e (subst (λ (o : Result Shown CallError). PartTo state part x s o y) was h))
     where
-      by : (f : Fail) → PartTo state part x s (Err f) y → CallsTo state answers part p x s (Err f) p y
+      by : (f : CallError) → PartTo state part x s (Err f) y → CallsTo state answers part p x s (Err f) p y
       by (No c) a = (a.1.0, a.0, a.2, a.3.0, a.3.1, inl (a.1.1, refl))
-      by Memory a = (a.0, a.2, a.3)
+      by OutOfMemory a = (a.0, a.2, a.3)
 
-  pub calls_cut : (part : Arrow Filter Shown) (p q : P) (x mid y : Held D) (s : Filter) (told r : Result Shown Fail) (a : Shown) (e : Fail) → PartTo state part x s told mid → told ≡ Ok a → Drains most state answers p mid (Err e) q y → IsErrAnd r (λ z. z ≡ e)
+  pub calls_cut : (part : Arrow Filter Shown) (p q : P) (x mid y : Held D) (s : Filter) (told r : Result Shown CallError) (a : Shown) (e : CallError) → PartTo state part x s told mid → told ≡ Ok a → Drains most state answers p mid (Err e) q y → IsErrAnd r (λ z. z ≡ e)
       → CallsTo state answers part p x s r q y
   calls_cut part p q x mid y s told r a e first was drains is =
-      let o = err_from_is_err_and r is in subst (λ (u : Result Shown Fail). CallsTo state answers part p x s u q y) (sym (o.1 ∙ ap (λ (z : Fail). Err z) o.2)) (by e (subst (λ (u : Result Shown Fail). PartTo state part x s u mid) was first) drains)
+      let o = err_from_is_err_and r is in subst (λ (u : Result Shown CallError). CallsTo state answers part p x s u q y) (sym (o.1 ∙ ap (λ (z : CallError). Err z) o.2)) (by e (subst (λ (u : Result Shown CallError). PartTo state part x s u mid) was first) drains)
     where
-      by : (f : Fail) → PartTo state part x s (Ok a) mid → Drains most state answers p mid (Err f) q y → CallsTo state answers part p x s (Err f) q y
+      by : (f : CallError) → PartTo state part x s (Ok a) mid → Drains most state answers p mid (Err f) q y → CallsTo state answers part p x s (Err f) q y
       by (No c) b d = let u = d.leads b.0 b.3 in (u.2.0, u.0, (sense state).goes_on x mid y s b.0 u.0 b.2 u.1, u.2.2, rose_on (state x.disk) (state mid.disk) (state y.disk) b.2.runs.faults u.2.3, inr (a, b.0, b.1, u.2.1))
-      by Memory b d = let u = d.leads b.0 b.3 in (u.0, (sense state).goes_on x mid y s b.0 u.0 b.2 u.1, u.2)
+      by OutOfMemory b d = let u = d.leads b.0 b.3 in (u.0, (sense state).goes_on x mid y s b.0 u.0 b.2 u.1, u.2)
 
   pub result_shown : (a : Shown) (t : Filter) → shows_end a t.ending ≡ result_of a t
   result_shown (shown.Pending id) t = refl
@@ -209,10 +209,10 @@ module _ {D P : Type 0} (state : D → State) (answers : Answering P) where
   unfolding with_no_own
   over_moved x y s t m = m
 
-  pub calls_end : (part : Arrow Filter Shown) (p q : P) (x mid y z : Held D) (s : Filter) (told : Result Shown Fail) (a b : Shown) (u : Unit {0}) → PartTo state part x s told mid → told ≡ Ok a → Drains most state answers p mid (Ok u) q y
+  pub calls_end : (part : Arrow Filter Shown) (p q : P) (x mid y z : Held D) (s : Filter) (told : Result Shown CallError) (a b : Shown) (u : Unit {0}) → PartTo state part x s told mid → told ≡ Ok a → Drains most state answers p mid (Ok u) q y
       → b ≡ shows_end a y.desk.ending → z ≡ with_no_own y → CallsTo state answers part p x s (Ok b) q z
   calls_end part p q x mid y z s told a b u first was drains shows is =
-      subst (λ (w : Held D). CallsTo state answers part p x s (Ok b) q w) (sym is) (by (subst (λ (o : Result Shown Fail). PartTo state part x s o mid) was first))
+      subst (λ (w : Held D). CallsTo state answers part p x s (Ok b) q w) (sym is) (by (subst (λ (o : Result Shown CallError). PartTo state part x s o mid) was first))
     where
       by : PartTo state part x s (Ok a) mid → CallsTo state answers part p x s (Ok b) q (with_no_own y)
       by c =

@@ -5,7 +5,7 @@ use Rattle.std.specs.Prelude.{Result, nat_lt}
 use Rattle.std.proofs.lemmas.List.Elements.{All-cons, All-filter, All-head, All-nil, All-tail}
 use Rattle.cf_base.specs.declared.answers.AuxRecord.{AuxRecord}
 use Rattle.cf_base.specs.declared.answers.Shown.{Shown}
-use Rattle.cf_base.specs.declared.codes.Fail.{Fail}
+use Rattle.cf_base.specs.declared.codes.CallError.{CallError}
 use Rattle.cf_base.specs.declared.items.SeenPath.{SeenPath}
 use Rattle.cf_base.specs.declared.operations.Operation.{Operation}
 use Rattle.cf_filter_calls.specs.Operating.{Keeps}
@@ -85,7 +85,7 @@ spelled_all records left all none h = record {
 }
 
 -- so an operation with the records may be done in each state
-pub seen_beside : {D : Type 0} (state : D → State) (x y : Held D) (seen : List SeenPath) (records : List AuxRecord) (op : Operation) (r : Result Shown Fail) → Spells seen records
+pub seen_beside : {D : Type 0} (state : D → State) (x y : Held D) (seen : List SeenPath) (records : List AuxRecord) (op : Operation) (r : Result Shown CallError) → Spells seen records
     → Answers (sense state) (Keeps (seeing seen) records) (execute_with (seeing seen) op) x r y → Answers (sense state) Any (execute_with (seeing seen) op) x r y
 seen_beside state x y seen records op r spells h = record {
   leads = λ s i any. h.leads s i (subst (λ (l : List AuxRecord). HasRecordsBeside s.volume.book l (seeing seen s.volume.book)) (sym spells.are) (records_beside seen s.volume.book spells.short i.kept.book.seen));

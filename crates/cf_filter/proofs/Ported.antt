@@ -7,8 +7,8 @@ use Rattle.cf_base.specs.declared.answers.Shown.{Shown}
 use Rattle.cf_base.specs.declared.answers.Shown.TheVariants as shown
 use Rattle.cf_base.specs.declared.codes.Code.{Code}
 use Rattle.cf_base.specs.declared.codes.Code.TheVariants as code
-use Rattle.cf_base.specs.declared.codes.Fail.{Fail}
-use Rattle.cf_base.specs.declared.codes.Fail.TheVariants.{No, Memory}
+use Rattle.cf_base.specs.declared.codes.CallError.{CallError}
+use Rattle.cf_base.specs.declared.codes.CallError.TheVariants.{No, OutOfMemory}
 use Rattle.cf_base.specs.declared.items.SeenPath.{SeenPath}
 use Rattle.cf_base.specs.declared.notices.Notice.{Notice}
 use Rattle.cf_base.specs.declared.operations.Operation.{Operation}
@@ -71,14 +71,14 @@ module _ {D : Type 0} (state : D → State) where
     still = λ broken. false_true (sym whole ∙ broken);
   })
 
-  lost_goes : (x mid : Held D) (seen : List SeenPath) (op : Operation) (p : Result Shown Fail) → x.desk.broken ≡ false → Answers (sense state) Any (execute_with (seeing seen) op) x p mid → Goes state x [] (stopped_by true mid)
+  lost_goes : (x mid : Held D) (seen : List SeenPath) (op : Operation) (p : Result Shown CallError) → x.desk.broken ≡ false → Answers (sense state) Any (execute_with (seeing seen) op) x p mid → Goes state x [] (stopped_by true mid)
   unfolding stopped_by
   lost_goes x mid seen op p whole e = record {
     leads = λ s h. let a = e.leads s h (record {}) in (a.0, a.2, lasts_after state p x mid a.0 a.3);
     still = λ broken. false_true (sym whole ∙ broken);
   }
 
-  pub lost_by : (x mid y : Held D) (seen : List SeenPath) (op : Operation) (p : Result Shown Fail) → x.desk.broken ≡ false → Answers (sense state) Any (execute_with (seeing seen) op) x p mid → y ≡ stopped_by true mid → Goes state x [] y
+  pub lost_by : (x mid y : Held D) (seen : List SeenPath) (op : Operation) (p : Result Shown CallError) → x.desk.broken ≡ false → Answers (sense state) Any (execute_with (seeing seen) op) x p mid → y ≡ stopped_by true mid → Goes state x [] y
   lost_by x mid y seen op p whole e is = subst (λ (z : Held D). Goes state x [] z) (sym is) (lost_goes x mid seen op p whole e)
 
   loses : (x : Held D) → Goes state x [] (stopped_by true x)
@@ -96,24 +96,24 @@ module _ {D : Type 0} (state : D → State) where
 
   -- by what the operation gave
 
-  pub did_as : (x y : Held D) (seen : List SeenPath) (op : Operation) (o : Outcome) (p : Result Shown Fail) (q : Told Outcome) (r : Result Outcome Code) → x.desk.broken ≡ false → Answers (sense state) Any (execute_with (seeing seen) op) x p y
+  pub did_as : (x y : Held D) (seen : List SeenPath) (op : Operation) (o : Outcome) (p : Result Shown CallError) (q : Told Outcome) (r : Result Outcome Code) → x.desk.broken ≡ false → Answers (sense state) Any (execute_with (seeing seen) op) x p y
       → Takes shown_of p q → q ≡ Ok r → r ≡ Ok o → Goes state x (Did seen op (shown_of o) ∷ []) y
   did_as x y seen op o p q r whole e takes is gives =
-      did_goes x y seen op (shown_of o) whole (subst (λ (a : Result Shown Fail). Answers (sense state) Any (execute_with (seeing seen) op) x a y) (subst (λ (t : Told Outcome). Takes shown_of p t) (is ∙ ap (λ (t : Result Outcome Code). Ok t) gives) takes) e)
+      did_goes x y seen op (shown_of o) whole (subst (λ (a : Result Shown CallError). Answers (sense state) Any (execute_with (seeing seen) op) x a y) (subst (λ (t : Told Outcome). Takes shown_of p t) (is ∙ ap (λ (t : Result Outcome Code). Ok t) gives) takes) e)
 
-  pub refused_on : (x y : Held D) (seen : List SeenPath) (op : Operation) (c : Code) (p : Result Shown Fail) (q : Told Outcome) (r : Result Outcome Code) → is_device c ≡ false → x.desk.broken ≡ false → Answers (sense state) Any (execute_with (seeing seen) op) x p y
+  pub refused_on : (x y : Held D) (seen : List SeenPath) (op : Operation) (c : Code) (p : Result Shown CallError) (q : Told Outcome) (r : Result Outcome Code) → is_device c ≡ false → x.desk.broken ≡ false → Answers (sense state) Any (execute_with (seeing seen) op) x p y
       → Takes shown_of p q → q ≡ Ok r → r ≡ Err c → Goes state x (refused_by seen op c ∷ []) y
   refused_on x y seen op c p q r other whole e takes is gives =
       subst (λ (a : Act). Goes state x (a ∷ []) y) (sym (not_device seen op c other))
-      (did_goes x y seen op (shown.Refused c) whole (subst (λ (a : Result Shown Fail). Answers (sense state) Any (execute_with (seeing seen) op) x a y) (subst (λ (t : Told Outcome). Takes shown_of p t) (is ∙ ap (λ (t : Result Outcome Code). Ok t) gives) takes) e))
+      (did_goes x y seen op (shown.Refused c) whole (subst (λ (a : Result Shown CallError). Answers (sense state) Any (execute_with (seeing seen) op) x a y) (subst (λ (t : Told Outcome). Takes shown_of p t) (is ∙ ap (λ (t : Result Outcome Code). Ok t) gives) takes) e))
 
-  pub failed_on : (x mid y : Held D) (seen : List SeenPath) (op : Operation) (c : Code) (p : Result Shown Fail) (q : Told Outcome) (f : Fail) → x.desk.broken ≡ false → Answers (sense state) Any (execute_with (seeing seen) op) x p mid
+  pub failed_on : (x mid y : Held D) (seen : List SeenPath) (op : Operation) (c : Code) (p : Result Shown CallError) (q : Told Outcome) (f : CallError) → x.desk.broken ≡ false → Answers (sense state) Any (execute_with (seeing seen) op) x p mid
       → Takes shown_of p q → q ≡ Err f → f ≡ No c → y ≡ stopped_by false mid → Goes state x (refused_by seen op c ∷ []) y
   failed_on x mid y seen op c p q f whole e takes is gives stops =
-      failed_goes x mid y seen op c whole (subst (λ (a : Result Shown Fail). Answers (sense state) Any (execute_with (seeing seen) op) x a mid) (subst (λ (t : Told Outcome). Takes shown_of p t) (is ∙ ap (λ (t : Fail). Err t) gives) takes) e) stops
+      failed_goes x mid y seen op c whole (subst (λ (a : Result Shown CallError). Answers (sense state) Any (execute_with (seeing seen) op) x a mid) (subst (λ (t : Told Outcome). Takes shown_of p t) (is ∙ ap (λ (t : CallError). Err t) gives) takes) e) stops
 
   -- without memory for the records of the paths nothing is done
-  pub not_begun : (x : Held D) (seen : List SeenPath) (op : Operation) (r : Result Outcome Fail) → IsErrAnd r (λ y. y ≡ Memory) → Executes (Goes state) seen op x r x
+  pub not_begun : (x : Held D) (seen : List SeenPath) (op : Operation) (r : Result Outcome CallError) → IsErrAnd r (λ y. y ≡ OutOfMemory) → Executes (Goes state) seen op x r x
   not_begun x seen op r is =
       let e = err_from_is_err_and r is in
-      subst (λ (o : Result Outcome Fail). Executes (Goes state) seen op x o x) (sym (e.1 ∙ ap (λ (z : Fail). Err z) e.2)) (goes_nowhere state x)
+      subst (λ (o : Result Outcome CallError). Executes (Goes state) seen op x o x) (sym (e.1 ∙ ap (λ (z : CallError). Err z) e.2)) (goes_nowhere state x)

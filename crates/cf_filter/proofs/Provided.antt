@@ -5,8 +5,8 @@ use Rattle.std.specs.Result.{IsErrAnd}
 use Rattle.std.proofs.lemmas.Result.{err_from_is_err_and}
 use Rattle.cf_base.specs.declared.answers.Shown.{Shown}
 use Rattle.cf_base.specs.declared.codes.Code.TheVariants as code
-use Rattle.cf_base.specs.declared.codes.Fail.{Fail}
-use Rattle.cf_base.specs.declared.codes.Fail.TheVariants.{No, Memory}
+use Rattle.cf_base.specs.declared.codes.CallError.{CallError}
+use Rattle.cf_base.specs.declared.codes.CallError.TheVariants.{No, OutOfMemory}
 use Rattle.cf_base.specs.declared.notices.Notice.{Notice}
 use Rattle.cf_disk.specs.Disk.{State}
 use Rattle.cf_filter.proofs.Called.{is_broken, noted_back, still_noted, whole_again}
@@ -23,25 +23,25 @@ use Rattle.cf_filter_steps.specs.Answering.{Answers}
 
 module _ {D P : Type 0} (state : D → State) (answers : Answering P) (H : Filter → Type 0) (part : Arrow Filter Shown) where
   -- a call that counts as one for which memory ran out
-  calls_lost : (p q : P) (x y : Held D) (s : Filter) (r : Result Shown Fail) → CallsTo state answers part p x s r q y → CallsTo state answers part p x s (Err Memory) q y
+  calls_lost : (p q : P) (x y : Held D) (s : Filter) (r : Result Shown CallError) → CallsTo state answers part p x s r q y → CallsTo state answers part p x s (Err OutOfMemory) q y
   calls_lost p q x y s (Ok b) h = (h.2, h.6, (sense state).endures y (begin_call h.2) h.7)
   calls_lost p q x y s (Err (No c)) h = (h.1, h.2, h.3.lasts)
-  calls_lost p q x y s (Err Memory) h = h
+  calls_lost p q x y s (Err OutOfMemory) h = h
 
-  back_as : {A : Type 0} (show : A → Shown) (p q : P) (x y : Held D) (r : Result Shown Fail) (told : Told A) → Takes show r told → CallsBack state answers H part p x r q y → CallsBack state answers H part p x (shown_by show told) q y
-  back_as show p q x y r (Ok (Ok a)) is h = subst (λ (o : Result Shown Fail). CallsBack state answers H part p x o q y) is h
-  back_as show p q x y r (Ok (Err c)) is h = subst (λ (o : Result Shown Fail). CallsBack state answers H part p x o q y) is h
-  back_as show p q x y r (Err (No c)) is h = subst (λ (o : Result Shown Fail). CallsBack state answers H part p x o q y) is h
-  back_as show p q x y r (Err Memory) is h = record { leads = λ s i has. calls_lost p q x y s r (h.leads s i has) }
+  back_as : {A : Type 0} (show : A → Shown) (p q : P) (x y : Held D) (r : Result Shown CallError) (told : Told A) → Takes show r told → CallsBack state answers H part p x r q y → CallsBack state answers H part p x (shown_by show told) q y
+  back_as show p q x y r (Ok (Ok a)) is h = subst (λ (o : Result Shown CallError). CallsBack state answers H part p x o q y) is h
+  back_as show p q x y r (Ok (Err c)) is h = subst (λ (o : Result Shown CallError). CallsBack state answers H part p x o q y) is h
+  back_as show p q x y r (Err (No c)) is h = subst (λ (o : Result Shown CallError). CallsBack state answers H part p x o q y) is h
+  back_as show p q x y r (Err OutOfMemory) is h = record { leads = λ s i has. calls_lost p q x y s r (h.leads s i has) }
 
   back_broken : {A : Type 0} (show : A → Shown) (p q : P) (x y : Held D) (s : Filter) (told : Told A) → CallsTo state answers part p x s (shown_by show told) q y → CallsTo state answers part p x s (shown_by show told) q (broken_by (is_stopped told) y)
   unfolding broken_by
   back_broken show p q x y s (Ok (Ok a)) h = (h.0, h.1, h.2, h.3, h.4, h.5, h.6, whole_again state y (begin_call h.2) h.7)
   back_broken show p q x y s (Ok (Err c)) h = (h.0, h.1, h.2, h.3, h.4, h.5, h.6, whole_again state y (begin_call h.2) h.7)
   back_broken show p q x y s (Err (No c)) h = (h.0, h.1, h.2, record { notes = h.3.notes; policy = h.3.policy; connected = h.3.connected; lasts = h.3.lasts }, h.4, h.5)
-  back_broken show p q x y s (Err Memory) h = h
+  back_broken show p q x y s (Err OutOfMemory) h = h
 
-  provided : {A : Type 0} (show : A → Shown) (p q : P) (x y new : Held D) (r : Result Shown Fail) (told : Told A) (answer : Result A Fail)
+  provided : {A : Type 0} (show : A → Shown) (p q : P) (x y new : Held D) (r : Result Shown CallError) (told : Told A) (answer : Result A CallError)
       → x.desk.broken ≡ false → CallsBack state answers H part p x r q y → Takes show r told → answer ≡ answer_of told → new ≡ broken_by (is_stopped told) y → Provides state answers H show part p x answer q new
   provided show p q x y new r told answer whole h takes is after =
       let back = back_as show p q x y r told takes h in record {
@@ -54,7 +54,7 @@ module _ {D P : Type 0} (state : D → State) (answers : Answering P) (H : Filte
         );
       }
 
-  pub provided_with : {A : Type 0} (show : A → Shown) (p q : P) (old begun mid y new : Held D) (before after stash : List Notice) (first r : Result Shown Fail) (told : Told A) (answer : Result A Fail)
+  pub provided_with : {A : Type 0} (show : A → Shown) (p q : P) (old begun mid y new : Held D) (before after stash : List Notice) (first r : Result Shown CallError) (told : Told A) (answer : Result A CallError)
       → old.desk.broken ≡ false → begun ≡ noted before old → Answers (sense state) H part begun first mid
       → ((f : Arrow Filter Shown) (x : Held D) (s : Filter) → PartTo state f x s first mid → CallsTo state answers f p x s r q y) → Takes show r told → answer ≡ answer_of told
       → new ≡ broken_by (is_stopped told) (noted stash y) → after ≡ y.desk.notes → Provides state answers H show part p (noted before old) answer q (noted after new)
@@ -63,10 +63,10 @@ module _ {D P : Type 0} (state : D → State) (answers : Answering P) (H : Filte
       (record { leads = λ s i has. back part (noted before old) s ((subst (λ (z : Held D). Answers (sense state) H part z first mid) b h).leads s i has) }) takes is
       (ap (λ (l : List Notice). noted l new) a ∙ ap (λ (z : Held D). noted y.desk.notes z) n ∙ noted_back state (is_stopped told) stash y)
 
-  pub provided_not : {A : Type 0} (show : A → Shown) (p q : P) (old new : Held D) (before after : List Notice) (e : Fail) (r : Result A Fail)
+  pub provided_not : {A : Type 0} (show : A → Shown) (p q : P) (old new : Held D) (before after : List Notice) (e : CallError) (r : Result A CallError)
       → e ≡ No code.Broken → old.desk.broken ≡ true → IsErrAnd r (λ y. y ≡ e) → new ≡ old → after ≡ before → q ≡ p → Provides state answers H show part p (noted before old) r q (noted after new)
   provided_not show p q old new before after e r is broken err same notes still =
       let o = err_from_is_err_and r err in record {
-        broken = λ h. (o.1 ∙ ap (λ (y : Fail). Err y) (o.2 ∙ is), ap (λ (l : List Notice). noted l new) notes ∙ ap (λ (y : Held D). noted before y) same, still);
+        broken = λ h. (o.1 ∙ ap (λ (y : CallError). Err y) (o.2 ∙ is), ap (λ (l : List Notice). noted l new) notes ∙ ap (λ (y : Held D). noted before y) same, still);
         does = λ whole. false_true (sym whole ∙ still_noted state before true old broken);
       }

@@ -6,10 +6,10 @@ use Rattle.std.specs.Result.{IsErrAnd}
 use Rattle.cf_base.specs.declared.answers.AuxRecord.{AuxRecord}
 use Rattle.cf_base.specs.declared.codes.Code.{Code}
 use Rattle.cf_base.specs.declared.codes.Code.TheVariants as code
-use Rattle.cf_base.specs.declared.codes.Fail.{Fail}
-use Rattle.cf_base.specs.declared.codes.Fail.TheVariants.{No}
-use Rattle.cf_base.specs.declared.codes.Fail.TheVariants as fail
-use Rattle.cf_base.specs.declared.memory.Memory.{Memory}
+use Rattle.cf_base.specs.declared.codes.CallError.{CallError}
+use Rattle.cf_base.specs.declared.codes.CallError.TheVariants.{No}
+use Rattle.cf_base.specs.declared.codes.CallError.TheVariants as fail
+use Rattle.cf_base.specs.declared.memory.OutOfMemory.{OutOfMemory}
 use Rattle.cf_disk.specs.Disk.{State}
 use Rattle.cf_filter.proofs.Called.{is_broken, whole_again}
 use Rattle.cf_filter.specs.Booking.{with_book_of}
@@ -45,9 +45,9 @@ kept_with v b fits book h = record {
 }
 
 -- why a record was not put
-full_of : {D : Type 0} (v : Volume) (b : Book) (old new : OnDisk D) (r : Result (Unit {0}) Fail) → r ≡ Err (No code.TableFull) → WhyAux v b old r new → (table_full v.items b ≡ true) × (new ≡ old)
+full_of : {D : Type 0} (v : Volume) (b : Book) (old new : OnDisk D) (r : Result (Unit {0}) CallError) → r ≡ Err (No code.TableFull) → WhyAux v b old r new → (table_full v.items b ≡ true) × (new ≡ old)
 full_of {D} v b old new r is h =
-    let w : (code.TableFull ≡ code.TableFull) × (table_full v.items b ≡ true) × (new ≡ old) = subst (λ (q : Result (Unit {0}) Fail). WhyAux v b old q new) is h in
+    let w : (code.TableFull ≡ code.TableFull) × (table_full v.items b ≡ true) × (new ≡ old) = subst (λ (q : Result (Unit {0}) CallError). WhyAux v b old q new) is h in
     (w.1, w.2)
 
 module _ {D : Type 0} (state : D → State) (key : List ℕ) (value : Option (List ℕ)) (f : Book → Book) (old new : OnDisk D) (e : Desk) where
@@ -100,21 +100,21 @@ module _ {D : Type 0} (state : D → State) (key : List ℕ) (value : Option (Li
     record_same : (s : Filter) → Stands state (held old e) s → PutsRecord key value f s → held new e ≡ held old e
     record_same s h p = let w = full s.volume (f s.volume.book) h.volume (as_known s h p) h.whole in ap (λ (o : OnDisk D). held o e) w.1
 
-  record_lost : new.disk ≡ old.disk → Answers (sense state) (PutsRecord key value f) (attempt (why_full f) (one (with_book_of f))) (held old e) (Err fail.Memory) (held new e)
+  record_lost : new.disk ≡ old.disk → Answers (sense state) (PutsRecord key value f) (attempt (why_full f) (one (with_book_of f))) (held old e) (Err fail.OutOfMemory) (held new e)
   record_lost same = book_lost state (PutsRecord key value f) (held old e) (held new e) new.known e (λ j. record { disk = same j; known = new.known; desk = e }) (attempt (why_full f) (one (with_book_of f)))
 
-  module _ (r : Result (Unit {0}) Fail) (why : (v : Volume) (b : Book) → At (state old.disk) old.known v → HasRecords v.book (put_record key value old.known.records) b → old.known.broken ≡ false → WhyAux v b old r new) where
-    pub record_told : (q : Result Bool Memory) → HasRoom r q → new.disk ≡ old.disk → OnOk r (new.known.broken ≡ false)
+  module _ (r : Result (Unit {0}) CallError) (why : (v : Volume) (b : Book) → At (state old.disk) old.known v → HasRecords v.book (put_record key value old.known.records) b → old.known.broken ≡ false → WhyAux v b old r new) where
+    pub record_told : (q : Result Bool OutOfMemory) → HasRoom r q → new.disk ≡ old.disk → OnOk r (new.known.broken ≡ false)
         → ((v : Volume) (b : Book) → At (state old.disk) old.known v → HasRecords v.book (put_record key value old.known.records) b → OnOk r (At (state new.disk) new.known (record v { book = b })))
         → Answers (sense state) (PutsRecord key value f) (attempt (why_full f) (one (with_book_of f))) (held old e) (put_outcome q) (held new e)
     record_told (Ok true) is same usable ok =
-        record_put same (subst (λ (x : Result (Unit {0}) Fail). OnOk x (new.known.broken ≡ false)) is usable)
-        (λ v b at has. subst (λ (x : Result (Unit {0}) Fail). OnOk x (At (state new.disk) new.known (record v { book = b }))) is (ok v b at has))
-        (λ v b at has whole. subst (λ (x : Result (Unit {0}) Fail). WhyAux v b old x new) is (why v b at has whole))
+        record_put same (subst (λ (x : Result (Unit {0}) CallError). OnOk x (new.known.broken ≡ false)) is usable)
+        (λ v b at has. subst (λ (x : Result (Unit {0}) CallError). OnOk x (At (state new.disk) new.known (record v { book = b }))) is (ok v b at has))
+        (λ v b at has whole. subst (λ (x : Result (Unit {0}) CallError). WhyAux v b old x new) is (why v b at has whole))
     record_told (Ok false) is same usable ok = record_full (λ v b at has whole. full_of v b old new r is (why v b at has whole))
     record_told (Err m) is same usable ok = record_lost same
 
-    pub record_stays : (q : Result Bool Memory) → HasRoom r q → (s : Filter) → Stands state (held old e) s → PutsRecord key value f s → IfOk q (λ put. put ≡ false → held new e ≡ held old e)
+    pub record_stays : (q : Result Bool OutOfMemory) → HasRoom r q → (s : Filter) → Stands state (held old e) s → PutsRecord key value f s → IfOk q (λ put. put ≡ false → held new e ≡ held old e)
     record_stays (Ok true) is s h p = λ bad. false_true (sym bad)
     record_stays (Ok false) is s h p = λ none. record_same (λ v b at has whole. full_of v b old new r is (why v b at has whole)) s h p
     record_stays (Err m) is s h p = record {}
@@ -122,32 +122,32 @@ module _ {D : Type 0} (state : D → State) (key : List ℕ) (value : Option (Li
 -- a call, from its parts
 
 -- as another sees the machine inside
-pub seen_same : {D : Type 0} (state : D → State) (P : Filter → Type 0) {x y : Held D} (first : Result Bool Memory) (mid : Held D) → x ≡ y → ((s : Filter) → Stands state x s → P s → IfOk first (λ put. put ≡ false → mid ≡ x)) → (s : Filter) → Stands state y s → P s → IfOk first (λ put. put ≡ false → mid ≡ y)
+pub seen_same : {D : Type 0} (state : D → State) (P : Filter → Type 0) {x y : Held D} (first : Result Bool OutOfMemory) (mid : Held D) → x ≡ y → ((s : Filter) → Stands state x s → P s → IfOk first (λ put. put ≡ false → mid ≡ x)) → (s : Filter) → Stands state y s → P s → IfOk first (λ put. put ≡ false → mid ≡ y)
 seen_same {D} state P {x} {y} first mid same h = subst (λ (z : Held D). (s : Filter) → Stands state z s → P s → IfOk first (λ put. put ≡ false → mid ≡ z)) same h
 
-abbrev is_refused : Result (Option Code) Fail → Bool
+abbrev is_refused : Result (Option Code) CallError → Bool
 is_refused (Ok (Some c)) = true
 is_refused (Ok None) = false
 is_refused (Err e) = false
 
 module _ {D : Type 0} (state : D → State) (P : Filter → Type 0) (why : Filter → Option Code) (step : Arrow Filter (Unit {0})) where
-  ended : (first : Result Bool Memory) (x mid : Held D) → Answers (sense state) P (attempt why step) x (put_outcome first) mid → Answers (sense state) P (attempt why step) x (put_outcome first) (broken_by (is_stopped (put_told first)) mid)
+  ended : (first : Result Bool OutOfMemory) (x mid : Held D) → Answers (sense state) P (attempt why step) x (put_outcome first) mid → Answers (sense state) P (attempt why step) x (put_outcome first) (broken_by (is_stopped (put_told first)) mid)
   unfolding broken_by
   ended (Ok true) x mid h = record { leads = λ s i p. let a = h.leads s i p in (a.0, a.1, a.2, whole_again state mid a.0 a.3) }
   ended (Ok false) x mid h = record { leads = λ s i p. let a = h.leads s i p in (a.0, a.1, a.2, whole_again state mid a.0 a.3) }
   ended (Err e) x mid h = record { leads = λ s i p. let a = h.leads s i p in (a.0, a.1, a.2, a.3) }
 
-  outcome_put : (first : Result Bool Memory) → outcome (answer_of (put_told first)) ≡ put_outcome first
+  outcome_put : (first : Result Bool OutOfMemory) → outcome (answer_of (put_told first)) ≡ put_outcome first
   outcome_put (Ok true) = refl
   outcome_put (Ok false) = refl
   outcome_put (Err e) = refl
 
-  stopped_put : (first : Result Bool Memory) → is_stopped (put_told first) ≡ is_err (put_outcome first)
+  stopped_put : (first : Result Bool OutOfMemory) → is_stopped (put_told first) ≡ is_err (put_outcome first)
   stopped_put (Ok true) = refl
   stopped_put (Ok false) = refl
   stopped_put (Err e) = refl
 
-  still : (first : Result Bool Memory) (x mid : Held D) (c : Code) → x.desk.broken ≡ false → IfOk first (λ put. put ≡ false → mid ≡ x) → put_outcome first ≡ Ok (Some c) → broken_by (is_stopped (put_told first)) mid ≡ x
+  still : (first : Result Bool OutOfMemory) (x mid : Held D) (c : Code) → x.desk.broken ≡ false → IfOk first (λ put. put ≡ false → mid ≡ x) → put_outcome first ≡ Ok (Some c) → broken_by (is_stopped (put_told first)) mid ≡ x
   unfolding broken_by
   still (Ok true) x mid c whole same refused = false_true (ap is_refused refused)
   still (Ok false) x mid c whole same refused =
@@ -155,25 +155,25 @@ module _ {D : Type 0} (state : D → State) (P : Filter → Type 0) (why : Filte
       ∙ ap (λ (b : Bool). record x { desk = record x.desk { broken = b } }) (sym whole)
   still (Err e) x mid c whole same refused = false_true (ap is_refused refused)
 
-  pub attempted : (x mid new : Held D) (first : Result Bool Memory) (r : Result (Unit {0}) Fail) (q : Told (Unit {0})) → x.desk.broken ≡ false → Answers (sense state) P (attempt why step) x (put_outcome first) mid
+  pub attempted : (x mid new : Held D) (first : Result Bool OutOfMemory) (r : Result (Unit {0}) CallError) (q : Told (Unit {0})) → x.desk.broken ≡ false → Answers (sense state) P (attempt why step) x (put_outcome first) mid
       → ((s : Filter) → Stands state x s → P s → IfOk first (λ put. put ≡ false → mid ≡ x)) → q ≡ put_told first → r ≡ answer_of q → new ≡ broken_by (is_stopped q) mid → Attempts (sense state) P why step x r new
   attempted x mid new first r q whole h stays gives is after =
-      let same : outcome r ≡ put_outcome first = ap (λ (o : Result (Unit {0}) Fail). outcome o) (is ∙ ap (λ (o : Told (Unit {0})). answer_of o) gives) ∙ outcome_put first in
+      let same : outcome r ≡ put_outcome first = ap (λ (o : Result (Unit {0}) CallError). outcome o) (is ∙ ap (λ (o : Told (Unit {0})). answer_of o) gives) ∙ outcome_put first in
       let now : new ≡ broken_by (is_stopped (put_told first)) mid = after ∙ ap (λ (o : Told (Unit {0})). broken_by (is_stopped o) mid) gives in record {
         broken = λ broken. false_true (sym whole ∙ broken);
         does = λ usable. (
-          subst (λ (o : Result (Option Code) Fail). Answers (sense state) P (attempt why step) x o new) (sym same)
+          subst (λ (o : Result (Option Code) CallError). Answers (sense state) P (attempt why step) x o new) (sym same)
               (subst (λ (y : Held D). Answers (sense state) P (attempt why step) x (put_outcome first) y) (sym now) (ended first x mid h)),
-          is_broken state (is_stopped (put_told first)) mid new now ∙ stopped_put first ∙ ap (λ (o : Result (Option Code) Fail). is_err o) (sym same),
+          is_broken state (is_stopped (put_told first)) mid new now ∙ stopped_put first ∙ ap (λ (o : Result (Option Code) CallError). is_err o) (sym same),
         );
         stays = λ usable s i p c refused. now ∙ still first x mid c whole (stays s i p) (sym same ∙ refused);
       }
 
   -- a call of a broken filter
-  pub attempted_not : (old new : Held D) (e : Fail) (r : Result (Unit {0}) Fail) → e ≡ No code.Broken → old.desk.broken ≡ true → IsErrAnd r (λ y. y ≡ e) → new ≡ old → Attempts (sense state) P why step old r new
+  pub attempted_not : (old new : Held D) (e : CallError) (r : Result (Unit {0}) CallError) → e ≡ No code.Broken → old.desk.broken ≡ true → IsErrAnd r (λ y. y ≡ e) → new ≡ old → Attempts (sense state) P why step old r new
   attempted_not old new e r is broken err same =
       let o = err_from_is_err_and r err in record {
-        broken = λ h. (o.1 ∙ ap (λ (y : Fail). Err y) (o.2 ∙ is), same);
+        broken = λ h. (o.1 ∙ ap (λ (y : CallError). Err y) (o.2 ∙ is), same);
         does = λ whole. false_true (sym whole ∙ broken);
         stays = λ whole. false_true (sym whole ∙ broken);
       }

@@ -2,9 +2,9 @@
 use Rattle.std.specs.Prelude.{◌≡◌, ℕ, Bool, true, false, List, [], ◌∷◌, Option, Some, None, Result, Ok, Err, is_err}
 use Rattle.cf_base.specs.declared.codes.Code.{Code}
 use Rattle.cf_base.specs.declared.codes.Code.TheVariants as code
-use Rattle.cf_base.specs.declared.codes.Fail.{Fail}
-use Rattle.cf_base.specs.declared.codes.Fail.TheVariants as fail
-use Rattle.cf_base.specs.declared.memory.Memory.{Memory}
+use Rattle.cf_base.specs.declared.codes.CallError.{CallError}
+use Rattle.cf_base.specs.declared.codes.CallError.TheVariants as fail
+use Rattle.cf_base.specs.declared.memory.OutOfMemory.{OutOfMemory}
 use Rattle.cf_filter.specs.Calling.{Told}
 use Rattle.cf_filter_machine.specs.Held.{Held}
 use Rattle.cf_filter_machine.specs.Keeping.{IsKeptBook}
@@ -28,26 +28,26 @@ abbrev pub why_full : (Book → Book) → Filter → Option Code
 why_full f s = first_of ((table_full s.volume.items (f s.volume.book), code.TableFull) ∷ [])
 
 -- whether there was room, by what the volume answered; all that is no full table counts as want of memory
-abbrev pub HasRoom : Result (Unit {0}) Fail → Result Bool Memory → Type 0
+abbrev pub HasRoom : Result (Unit {0}) CallError → Result Bool OutOfMemory → Type 0
 HasRoom r (Ok true) = r ≡ Ok unit
 HasRoom r (Ok false) = r ≡ Err (fail.No code.TableFull)
 HasRoom r (Err e) = Unit {0}
 
 -- as a call tells it
-abbrev pub put_told : Result Bool Memory → Told (Unit {0})
+abbrev pub put_told : Result Bool OutOfMemory → Told (Unit {0})
 put_told (Ok true) = Ok (Ok unit)
 put_told (Ok false) = Ok (Err code.TableFull)
-put_told (Err e) = Err fail.Memory
+put_told (Err e) = Err fail.OutOfMemory
 
 -- and as a step does
-abbrev pub put_outcome : Result Bool Memory → Result (Option Code) Fail
+abbrev pub put_outcome : Result Bool OutOfMemory → Result (Option Code) CallError
 put_outcome (Ok true) = Ok None
 put_outcome (Ok false) = Ok (Some code.TableFull)
-put_outcome (Err e) = Err fail.Memory
+put_outcome (Err e) = Err fail.OutOfMemory
 
 -- After a call that was stopped it is refused as Broken, and changes nothing. Else, where the state has the property, it is one
 -- step, or is refused exactly for that reason and changes nothing. It breaks the filter exactly where it is stopped.
-pub record Attempts {D : Type 0} (S : Sense (Held D)) (P : Filter → Type 0) (why : Filter → Option Code) (step : Arrow Filter (Unit {0})) (old : Held D) (r : Result (Unit {0}) Fail) (new : Held D) : Type 0 where
+pub record Attempts {D : Type 0} (S : Sense (Held D)) (P : Filter → Type 0) (why : Filter → Option Code) (step : Arrow Filter (Unit {0})) (old : Held D) (r : Result (Unit {0}) CallError) (new : Held D) : Type 0 where
   pub broken : old.desk.broken ≡ true → (r ≡ Err (fail.No code.Broken)) × (new ≡ old)
   pub does : old.desk.broken ≡ false → Answers S P (attempt why step) old (outcome r) new × (new.desk.broken ≡ is_err (outcome r))
   pub stays : old.desk.broken ≡ false → (s : Filter) → S.means old s → P s → (c : Code) → outcome r ≡ Ok (Some c) → new ≡ old

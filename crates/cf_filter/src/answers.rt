@@ -3,7 +3,7 @@
 use cf_base::{End, Identity, ItemId, Kind, Pin, Usn, WaitId};
 
 /// How a call that may wait ended, or the wait that it left.
-#[derive(Debug, Drop)]
+#[derive(Drop)]
 pub enum Waited {
     /// The wait is live. Its end is told later, by a notice of this number.
     Pending(WaitId),
@@ -11,7 +11,7 @@ pub enum Waited {
 }
 
 /// What is told of an item.
-#[derive(Debug, Drop)]
+#[derive(Drop)]
 pub struct Info {
     pub item: ItemId,
     pub kind: Kind,

@@ -3,7 +3,7 @@
 
 use crate::filters::Filter;
 use crate::told::done;
-use cf_base::{Fail, Mode, Notes, Pin, Reach};
+use cf_base::{CallError, Mode, Notes, Pin, Reach};
 use cf_filter_calls::{delete, rename, set_pin};
 use cf_disk::Disk;
 
@@ -15,7 +15,7 @@ impl<D: Disk> Filter<D> {
 
     /// Removes an item. In mode Replay its tombstone is left in the same step, where its identity names a target. Refused as
     /// Broken, as the look-up, NotPopulated, NotEmpty, InUse, Exhausted, Device.
-    pub fn delete(&mut self, mode: Mode, path: &str, notes: &mut Notes) -> Result<(), Fail>
+    pub fn delete(&mut self, mode: Mode, path: &str, notes: &mut Notes) -> Result<(), CallError>
         ensures does { Calls (sense D.state) shows_done (delete mode path.now) (noted notes.old self.old) result (noted notes.new self.new) }
         ensures keeps { self.new.desk.notes ≡ self.old.desk.notes }
     {
@@ -26,7 +26,7 @@ impl<D: Disk> Filter<D> {
 
     /// Moves an item to another path; to its own place it changes nothing. Refused as Broken, as the look-up of both, first
     /// that of `from`, as IntoItself, TooDeep, Exists, Exhausted, TableFull, Device.
-    pub fn rename(&mut self, from: &str, to: &str, notes: &mut Notes) -> Result<(), Fail>
+    pub fn rename(&mut self, from: &str, to: &str, notes: &mut Notes) -> Result<(), CallError>
         ensures does { Calls (sense D.state) shows_done (rename from.now to.now) (noted notes.old self.old) result (noted notes.new self.new) }
         ensures keeps { self.new.desk.notes ≡ self.old.desk.notes }
     {
@@ -43,7 +43,7 @@ impl<D: Disk> Filter<D> {
         state: Pin,
         reach: Reach,
         notes: &mut Notes,
-    ) -> Result<(), Fail>
+    ) -> Result<(), CallError>
         ensures does { Calls (sense D.state) shows_done (set_pin path.now state reach) (noted notes.old self.old) result (noted notes.new self.new) }
         ensures keeps { self.new.desk.notes ≡ self.old.desk.notes }
     {

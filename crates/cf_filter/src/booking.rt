@@ -11,7 +11,7 @@ ghost use Rattle.cf_filter_steps.specs.Answering.{Answers, IsAt};
 
 use crate::filters::Filter;
 use crate::handing::given;
-use cf_base::{Fail, ItemId};
+use cf_base::{CallError, ItemId};
 use cf_disk::Disk;
 use cf_filter_machine::Machine;
 use cf_table::Row;
@@ -27,18 +27,18 @@ fn is_unnumbered(row: Option<&Row>) -> bool
 }
 
 // The item is there wherever the contract says what follows.
-fn put_anchor<D: Disk>(machine: &mut Machine<D>, id: ItemId) -> Result<(), Fail>
+fn put_anchor<D: Disk>(machine: &mut Machine<D>, id: ItemId) -> Result<(), CallError>
     ensures { (i : Item) → Answers (sense D.state) (IsAt id i) (one (with_book_of (anchored_at id i.number))) machine.old result machine.new }
 {
     let row = machine.volume.row(id);
     if row.is_none() {
-        return Err(Fail::Memory);
+        return Err(CallError::OutOfMemory);
     }
     if is_unnumbered(row) {
         return Ok(());
     }
     let Ok(()) = machine.volume.anchor(id) else {
-        return Err(Fail::Memory);
+        return Err(CallError::OutOfMemory);
     };
     Ok(())
 }
@@ -48,7 +48,7 @@ impl<D: Disk> Filter<D> {
 
     /// Makes the anchor of an item its number, durable with the next commit. An item that never changed keeps what it has.
     /// Refused as Broken.
-    pub fn anchor(&mut self, id: ItemId) -> Result<(), Fail>
+    pub fn anchor(&mut self, id: ItemId) -> Result<(), CallError>
         ensures { (i : Item) → Hands (sense D.state) (IsAt id i) (one (with_book_of (anchored_at id i.number))) self.old result self.new }
     {
         self.check()?;

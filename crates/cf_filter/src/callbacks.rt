@@ -3,7 +3,7 @@
 ghost use Rattle.std.specs.Prelude.{◌≡◌, [], unwrap_or, IfOk};
 
 use crate::filters::Filter;
-use cf_base::{Ask, Code, Fail, Identity, Memory, Shown};
+use cf_base::{Ask, Code, CallError, Identity, OutOfMemory, Shown};
 use cf_disk::Disk;
 use cf_provider::{Callback, Provider};
 use cf_table::Row;
@@ -19,7 +19,7 @@ fn base_of(row: &Row) -> u64
 }
 
 // The question of an ask on the item of this row.
-fn callback_on(ask: Ask, row: &Row) -> Result<Callback, Memory>
+fn callback_on(ask: Ask, row: &Row) -> Result<Callback, OutOfMemory>
     ensures { IfOk result (λ c. c ≡ record { ask = ask; identity = row.now.identity; base = unwrap_or row.now.base 0 }) }
 {
     let identity = row.identity.copy()?;
@@ -32,7 +32,7 @@ fn callback_on(ask: Ask, row: &Row) -> Result<Callback, Memory>
 }
 
 // The question of an ask on an item that is gone.
-fn callback_gone(alloc: Global, ask: Ask) -> Result<Callback, Memory>
+fn callback_gone(alloc: Global, ask: Ask) -> Result<Callback, OutOfMemory>
     ensures { IfOk result (λ c. c ≡ record { ask = ask; identity = []; base = 0 }) }
 {
     let identity = Identity::new(alloc, &[])?;
@@ -56,7 +56,7 @@ impl<D: Disk> Filter<D> {
     ghost use Rattle.cf_model.specs.State.{Filter as model};
     ghost use Rattle.cf_filter_steps.specs.Answering.{Any, Reads};
 
-    fn callback(&self, ask: Ask) -> Result<Callback, Memory>
+    fn callback(&self, ask: Ask) -> Result<Callback, OutOfMemory>
         ensures { IfOk result (Reads (sense D.state) Any (callback_of ask) self.now) }
     {
         match self.rows().get(ask.item) {
@@ -66,7 +66,7 @@ impl<D: Disk> Filter<D> {
     }
 
     // What a callback came to.
-    fn turned(&self, told: Result<(), Memory>) -> Result<(), Fail>
+    fn turned(&self, told: Result<(), OutOfMemory>) -> Result<(), CallError>
         ensures { IsTurned told self.now.desk.broken self.now.desk.lost result }
     {
         told?;
@@ -74,12 +74,12 @@ impl<D: Disk> Filter<D> {
             return Ok(());
         }
         if self.is_lost() {
-            return Err(Fail::Memory);
+            return Err(CallError::OutOfMemory);
         }
-        Err(Fail::No(Code::Device))
+        Err(CallError::No(Code::Device))
     }
 
-    fn call_back<P: Provider>(&mut self, ask: Ask, p: &mut P) -> Result<(), Fail>
+    fn call_back<P: Provider>(&mut self, ask: Ask, p: &mut P) -> Result<(), CallError>
         ensures { Turns D.state P.answers ask p.old self.old result p.new self.new }
     {
         let call = self.callback(ask)?;
@@ -88,7 +88,7 @@ impl<D: Disk> Filter<D> {
     }
 
     // Each callback spends a key of the epoch, so that there are no more than keys.
-    fn drain<P: Provider>(&mut self, p: &mut P) -> Result<(), Fail>
+    fn drain<P: Provider>(&mut self, p: &mut P) -> Result<(), CallError>
         ensures { Drains most D.state P.answers p.old self.old result p.new self.new }
     {
         for called in 0..u32::MAX {
@@ -97,7 +97,7 @@ impl<D: Disk> Filter<D> {
             };
             self.call_back(ask, p)?;
         }
-        Err(Fail::Memory)
+        Err(CallError::OutOfMemory)
     }
 
     // The answer of a call whose callbacks have all returned.
@@ -116,9 +116,9 @@ impl<D: Disk> Filter<D> {
     /// Calls the provider after a part of a call, for its asks, and gives the call's answer.
     pub(crate) fn drained<P: Provider>(
         &mut self,
-        told: Result<Shown, Fail>,
+        told: Result<Shown, CallError>,
         p: &mut P,
-    ) -> Result<Shown, Fail>
+    ) -> Result<Shown, CallError>
         ensures { (part : Arrow model Shown) (x : Held D) (s : model) → PartTo D.state part x s told self.old → CallsTo D.state P.answers part p.old x s result p.new self.new }
     {
         let shown = told?;

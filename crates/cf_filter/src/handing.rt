@@ -6,11 +6,11 @@ ghost use Rattle.cf_filter.specs.Handing.{given_as};
 
 use crate::filters::Filter;
 use crate::told::Told;
-use cf_base::{Blob, Change, Fail, ItemId, Notes, Span};
+use cf_base::{Blob, Change, CallError, ItemId, Notes, Span};
 use cf_disk::Disk;
 use cf_filter_steps::Steps;
 
-pub(crate) fn given<A>(told: Result<A, Fail>) -> Told<A>
+pub(crate) fn given<A>(told: Result<A, CallError>) -> Told<A>
     ensures { result ≡ given_as told }
 {
     match told {
@@ -33,7 +33,7 @@ impl<D: Disk> Filter<D> {
     ghost use Rattle.cf_filter_steps.specs.Suiting.{Ready};
 
     /// Makes a change that suits and finds room; its line tells the number. Refused as Broken, Device.
-    pub fn engine_apply(&mut self, change: &Change, notes: &mut Notes) -> Result<(), Fail>
+    pub fn engine_apply(&mut self, change: &Change, notes: &mut Notes) -> Result<(), CallError>
         ensures does { Hands (sense D.state) (Ready change.now) (one_change change.now) (noted notes.old self.old) result (noted notes.new self.new) }
         ensures keeps { self.new.desk.notes ≡ self.old.desk.notes }
     {
@@ -44,7 +44,7 @@ impl<D: Disk> Filter<D> {
 
     /// Removes an item that has no child and that no handle is open on; its line tells the number. No tombstone is left.
     /// Refused as Broken, Device.
-    pub fn engine_remove(&mut self, item: ItemId, notes: &mut Notes) -> Result<(), Fail>
+    pub fn engine_remove(&mut self, item: ItemId, notes: &mut Notes) -> Result<(), CallError>
         ensures does { (i : Item) → Hands (sense D.state) (MayGo item i) (removed false i) (noted notes.old self.old) result (noted notes.new self.new) }
         ensures keeps { self.new.desk.notes ≡ self.old.desk.notes }
     {
@@ -54,7 +54,7 @@ impl<D: Disk> Filter<D> {
     }
 
     /// Reads bytes of a file that are here, which is no access. Refused as Broken, Device.
-    pub fn bytes(&mut self, item: ItemId, span: Span) -> Result<Blob, Fail>
+    pub fn bytes(&mut self, item: ItemId, span: Span) -> Result<Blob, CallError>
         ensures does { Hands (sense D.state) (IsHere item span) (one as_it_is) self.old result self.new }
         ensures tells { self.old.desk.broken ≡ false → IfOk result (λ b. Reads (sense D.state) (IsHere item span) (bytes_there item span) self.old b) }
     {

@@ -5,7 +5,7 @@ ghost use Rattle.cf_disk.specs.Disk.{IsUnchanged};
 ghost use Rattle.cf_filter.specs.Starting.{desk_at};
 
 use crate::filters::Filter;
-use cf_base::{Fail, Policy};
+use cf_base::{CallError, Policy};
 use cf_disk::Disk;
 use cf_filter_machine::{Desk, Machine};
 use cf_volume::Volume;
@@ -50,8 +50,8 @@ impl<D: Disk> Filter<D> {
     }
 
     /// Makes a volume on a disk of a fit size, whatever that held, and opens it under this policy, with a provider
-    /// connected. Device where a call of the disk failed, Memory where there is none; then the disk comes back.
-    pub fn format(alloc: Global, disk: D, policy: Policy) -> Result<Filter<D>, (D, Fail)>
+    /// connected. Device where a call of the disk failed, OutOfMemory where there is none; then the disk comes back.
+    pub fn format(alloc: Global, disk: D, policy: Policy) -> Result<Filter<D>, (D, CallError)>
         requires { IsFitSize (size_of (D.state disk)) }
         ensures ok { IfOk result (λ f. Stands D.state f (new_filter (new_volume (clusters_on (D.state disk).seen)) policy)) }
         ensures only { IfErr result (λ e. StopsOnly e.1) }
@@ -67,12 +67,12 @@ impl<D: Disk> Filter<D> {
 
     /// Opens the volume on a disk of a fit size under this policy, with a provider connected: nothing is open and nothing
     /// waits. NotAVolume exactly where the disk holds no image of a volume, and Exhausted exactly where it holds one of the
-    /// last epoch; then nothing is written. Device where a call of the disk failed. Memory where there is none. The disk
+    /// last epoch; then nothing is written. Device where a call of the disk failed. OutOfMemory where there is none. The disk
     /// comes back then.
     ///
     /// A crash at any moment leaves what it might have left before, or the same changes and book, with the epoch as it was
     /// or raised.
-    pub fn open(alloc: Global, disk: D, policy: Policy) -> Result<Filter<D>, (D, Fail)>
+    pub fn open(alloc: Global, disk: D, policy: Policy) -> Result<Filter<D>, (D, CallError)>
         requires { IsFitSize (size_of (D.state disk)) }
         ensures ok { (epoch : ℕ) (log : List (Usn × Change)) (b : Book) → Standing epoch (D.state disk).seen log b → IsKeptVolume (opened (epoch + 1) log b 0) → IfOk result (λ f. Stands D.state f (new_filter (opened (epoch + 1) log b (clusters_on (D.state disk).seen)) policy)) }
         ensures found { IfOk result (λ f. (i : Image) × HoldsImage (D.state disk).seen i × (i.header.last.epoch < most) × IsOpenedFrom i f.known) }

@@ -4,7 +4,7 @@ ghost use Rattle.std.specs.Prelude.{◌≡◌, ◌<◌, IfOk};
 ghost use Rattle.cf_filter.specs.Porting.{Spells};
 ghost use Rattle.cf_model.specs.Books.{seen_record};
 
-use cf_base::{AuxRecord, Memory, SeenPath, Sequence};
+use cf_base::{AuxRecord, OutOfMemory, SeenPath, Sequence};
 use cf_engine_queue::spell_seen;
 use std::alloc::Global;
 
@@ -16,7 +16,7 @@ fn id_of(path: &SeenPath) -> u64
     path.item.0
 }
 
-fn spell_path(alloc: Global, path: &SeenPath) -> Result<AuxRecord, Memory>
+fn spell_path(alloc: Global, path: &SeenPath) -> Result<AuxRecord, OutOfMemory>
     ensures spelled { IfOk result (λ r. r ≡ seen_record path.now) }
     ensures short { path.now.item.0 < 18446744073709551616 }
 {
@@ -25,7 +25,7 @@ fn spell_path(alloc: Global, path: &SeenPath) -> Result<AuxRecord, Memory>
 }
 
 /// The records of these paths, in order.
-pub(crate) fn spell_paths(alloc: Global, paths: &[SeenPath]) -> Result<Sequence<AuxRecord>, Memory>
+pub(crate) fn spell_paths(alloc: Global, paths: &[SeenPath]) -> Result<Sequence<AuxRecord>, OutOfMemory>
     ensures { IfOk result (Spells paths.now) }
 {
     let mut records = Sequence::new(alloc);

@@ -6,7 +6,7 @@ ghost use Rattle.cf_placeholder.specs.Plans.{meant};
 
 use crate::filters::Filter;
 use crate::told::{item, number};
-use cf_base::{Fail, Identity, ItemId, Notes, Usn};
+use cf_base::{CallError, Identity, ItemId, Notes, Usn};
 use cf_filter_calls::{convert, create, revert, unmark, update};
 use cf_disk::Disk;
 use cf_placeholder::Creation;
@@ -21,7 +21,7 @@ impl<D: Disk> Filter<D> {
     /// Refused as Broken, as the look-up of a path at which something is made, as Exists, of a placeholder as
     /// IdentityTooLong, of a placeholder file as TooLarge and as PolicyDenied where the policy keeps files full and it has
     /// bytes, then as Exhausted, TableFull, Device.
-    pub fn create(&mut self, path: &str, what: &Creation, notes: &mut Notes) -> Result<ItemId, Fail>
+    pub fn create(&mut self, path: &str, what: &Creation, notes: &mut Notes) -> Result<ItemId, CallError>
         ensures does { Calls (sense D.state) shown.Item (create path.now (meant what.now)) (noted notes.old self.old) result (noted notes.new self.new) }
         ensures keeps { self.new.desk.notes ≡ self.old.desk.notes }
     {
@@ -37,7 +37,7 @@ impl<D: Disk> Filter<D> {
         path: &str,
         identity: &Identity,
         notes: &mut Notes,
-    ) -> Result<Usn, Fail>
+    ) -> Result<Usn, CallError>
         ensures does { Calls (sense D.state) shown.Number (convert path.now identity.now) (noted notes.old self.old) result (noted notes.new self.new) }
         ensures keeps { self.new.desk.notes ≡ self.old.desk.notes }
     {
@@ -48,7 +48,7 @@ impl<D: Disk> Filter<D> {
 
     /// A placeholder becomes an item of its own (CfRevertPlaceholder). Gives the item's number. Refused as Broken, as the
     /// look-up, NotPlaceholder, NotPopulated, NotHydrated where a byte is not here, InUse, Exhausted, TableFull, Device.
-    pub fn revert(&mut self, path: &str, notes: &mut Notes) -> Result<Usn, Fail>
+    pub fn revert(&mut self, path: &str, notes: &mut Notes) -> Result<Usn, CallError>
         ensures does { Calls (sense D.state) shown.Number (revert path.now) (noted notes.old self.old) result (noted notes.new self.new) }
         ensures keeps { self.new.desk.notes ≡ self.old.desk.notes }
     {
@@ -67,7 +67,7 @@ impl<D: Disk> Filter<D> {
         identity: &Identity,
         size: Option<u64>,
         notes: &mut Notes,
-    ) -> Result<Usn, Fail>
+    ) -> Result<Usn, CallError>
         ensures does { Calls (sense D.state) shown.Number (update path.now identity.now size) (noted notes.old self.old) result (noted notes.new self.new) }
         ensures keeps { self.new.desk.notes ≡ self.old.desk.notes }
     {
@@ -78,7 +78,7 @@ impl<D: Disk> Filter<D> {
 
     /// A placeholder is no longer in sync (CfSetInSyncState). Gives the item's number. Refused as Broken, as the look-up,
     /// NotPlaceholder, Exhausted, Device.
-    pub fn clear_in_sync(&mut self, path: &str, notes: &mut Notes) -> Result<Usn, Fail>
+    pub fn clear_in_sync(&mut self, path: &str, notes: &mut Notes) -> Result<Usn, CallError>
         ensures does { Calls (sense D.state) shown.Number (unmark path.now) (noted notes.old self.old) result (noted notes.new self.new) }
         ensures keeps { self.new.desk.notes ≡ self.old.desk.notes }
     {

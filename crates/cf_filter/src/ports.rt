@@ -6,7 +6,7 @@ ghost use Rattle.cf_model.specs.Arrows.{is_device};
 use crate::filters::Filter;
 use crate::paths::spell_paths;
 use crate::told::outcome;
-use cf_base::{Ask, AuxRecord, Code, Fail, Key, Memory, Notice, Operation, SeenPath};
+use cf_base::{Ask, AuxRecord, Code, CallError, Key, OutOfMemory, Notice, Operation, SeenPath};
 use cf_filter_calls::execute_with;
 use cf_disk::Disk;
 use cf_provider::{Outcome, Port};
@@ -42,7 +42,7 @@ impl<D: Disk> Filter<D> {
         self.machine.desk.is_lost()
     }
 
-    fn add_note(&mut self, n: Notice) -> Result<(), Memory>
+    fn add_note(&mut self, n: Notice) -> Result<(), OutOfMemory>
         ensures ok { OnOk result (self.new ≡ record self.old { desk = record self.old.desk { notes = self.old.desk.notes ++ n ∷ [] } }) }
         ensures err { OnErr result (self.new ≡ self.old) }
     {
@@ -57,7 +57,7 @@ impl<D: Disk> Filter<D> {
         self.machine.desk.next_ask()
     }
 
-    /// Memory ran out: every call is refused from now on.
+    /// OutOfMemory ran out: every call is refused from now on.
     #[tactic(auto, unfolding(crate::specs::Calling::stopped_by))]
     pub(crate) fn lose(&mut self)
         ensures { self.new ≡ stopped_by true self.old }
@@ -74,11 +74,11 @@ impl<D: Disk> Filter<D> {
     }
 
     // An operation; where it gives entries, these records of paths seen come in the same step as the last of them.
-    fn execute_beside(&mut self, op: &Operation, records: &[AuxRecord]) -> Result<Outcome, Fail>
+    fn execute_beside(&mut self, op: &Operation, records: &[AuxRecord]) -> Result<Outcome, CallError>
         ensures { (seen : List SeenPath) → Spells seen records.now → Executes (Goes D.state) seen op.now self.old result self.new }
     {
         if self.is_broken() {
-            return Err(Fail::No(Code::Broken));
+            return Err(CallError::No(Code::Broken));
         }
         let told = execute_with(&mut self.machine, op, records);
         match outcome(told) {
@@ -87,17 +87,17 @@ impl<D: Disk> Filter<D> {
                 if is_device(code) {
                     // No part of an operation is refused so.
                     self.lose();
-                    return Err(Fail::Memory);
+                    return Err(CallError::OutOfMemory);
                 }
-                Err(Fail::No(code))
+                Err(CallError::No(code))
             }
-            Err(Fail::No(code)) => {
+            Err(CallError::No(code)) => {
                 self.stop();
-                Err(Fail::No(code))
+                Err(CallError::No(code))
             }
-            Err(Fail::Memory) => {
+            Err(CallError::OutOfMemory) => {
                 self.lose();
-                Err(Fail::Memory)
+                Err(CallError::OutOfMemory)
             }
         }
     }
@@ -111,16 +111,16 @@ impl<D: Disk> Port for Filter<D> {
 
     ghost sight = { sight_of };
 
-    fn execute(&mut self, op: &Operation) -> Result<Outcome, Fail> {
+    fn execute(&mut self, op: &Operation) -> Result<Outcome, CallError> {
         self.execute_beside(op, &[])
     }
 
-    fn execute_seeing(&mut self, op: &Operation, seen: &[SeenPath]) -> Result<Outcome, Fail> {
+    fn execute_seeing(&mut self, op: &Operation, seen: &[SeenPath]) -> Result<Outcome, CallError> {
         let records = spell_paths(self.machine.desk.alloc(), seen)?;
         self.execute_beside(op, records.as_slice())
     }
 
-    fn note(&mut self, n: Notice) -> Result<(), Memory> {
+    fn note(&mut self, n: Notice) -> Result<(), OutOfMemory> {
         match self.add_note(n) {
             Ok(()) => Ok(()),
             Err(memory) => {

@@ -3,7 +3,7 @@
 
 use crate::filters::Filter;
 use crate::told::{done, outcome};
-use cf_base::{AuxRecord, Fail, Notes, Operation, WaitId};
+use cf_base::{AuxRecord, CallError, Notes, Operation, WaitId};
 use cf_filter_calls::{cancel, execute, execute_with, tick};
 use cf_disk::Disk;
 use cf_provider::{Outcome, Provider};
@@ -25,7 +25,7 @@ impl<D: Disk> Filter<D> {
         wait: WaitId,
         p: &mut P,
         notes: &mut Notes,
-    ) -> Result<(), Fail>
+    ) -> Result<(), CallError>
         ensures does { Provides D.state P.answers Any shows_done (cancel wait) p.old (noted notes.old self.old) result p.new (noted notes.new self.new) }
         ensures keeps { self.new.desk.notes ≡ self.old.desk.notes }
     {
@@ -41,7 +41,7 @@ impl<D: Disk> Filter<D> {
         ticks: u32,
         p: &mut P,
         notes: &mut Notes,
-    ) -> Result<(), Fail>
+    ) -> Result<(), CallError>
         ensures does { Provides D.state P.answers Any shows_done (tick ticks) p.old (noted notes.old self.old) result p.new (noted notes.new self.new) }
         ensures keeps { self.new.desk.notes ≡ self.old.desk.notes }
     {
@@ -59,7 +59,7 @@ impl<D: Disk> Filter<D> {
         records: &[AuxRecord],
         p: &mut P,
         notes: &mut Notes,
-    ) -> Result<Outcome, Fail>
+    ) -> Result<Outcome, CallError>
         ensures does { (f : Book → Book) → Provides D.state P.answers (Keeps f records.now) shown_of (execute_with f op.now) p.old (noted notes.old self.old) result p.new (noted notes.new self.new) }
         ensures keeps { self.new.desk.notes ≡ self.old.desk.notes }
     {
@@ -75,7 +75,7 @@ impl<D: Disk> Filter<D> {
         op: &Operation,
         p: &mut P,
         notes: &mut Notes,
-    ) -> Result<Outcome, Fail>
+    ) -> Result<Outcome, CallError>
         ensures does { Provides D.state P.answers Any shown_of (execute op.now) p.old (noted notes.old self.old) result p.new (noted notes.new self.new) }
         ensures keeps { self.new.desk.notes ≡ self.old.desk.notes }
     {

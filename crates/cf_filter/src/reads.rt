@@ -4,7 +4,7 @@
 use crate::answers::Waited;
 use crate::filters::Filter;
 use crate::told::waited;
-use cf_base::{Fail, Handle, Notes, Span};
+use cf_base::{CallError, Handle, Notes, Span};
 use cf_filter_calls::{dehydrate, get, hydrate, list, read};
 use cf_disk::Disk;
 use cf_provider::Provider;
@@ -26,7 +26,7 @@ impl<D: Disk> Filter<D> {
         span: Span,
         p: &mut P,
         notes: &mut Notes,
-    ) -> Result<Waited, Fail>
+    ) -> Result<Waited, CallError>
         ensures does { Provides D.state P.answers Any shows_waited (read handle span) p.old (noted notes.old self.old) result p.new (noted notes.new self.new) }
         ensures keeps { self.new.desk.notes ≡ self.old.desk.notes }
     {
@@ -43,7 +43,7 @@ impl<D: Disk> Filter<D> {
         span: Span,
         p: &mut P,
         notes: &mut Notes,
-    ) -> Result<Waited, Fail>
+    ) -> Result<Waited, CallError>
         ensures does { Provides D.state P.answers Any shows_waited (get path.now span) p.old (noted notes.old self.old) result p.new (noted notes.new self.new) }
         ensures keeps { self.new.desk.notes ≡ self.old.desk.notes }
     {
@@ -59,7 +59,7 @@ impl<D: Disk> Filter<D> {
         path: &str,
         p: &mut P,
         notes: &mut Notes,
-    ) -> Result<Waited, Fail>
+    ) -> Result<Waited, CallError>
         ensures does { Provides D.state P.answers Any shows_waited (list path.now) p.old (noted notes.old self.old) result p.new (noted notes.new self.new) }
         ensures keeps { self.new.desk.notes ≡ self.old.desk.notes }
     {
@@ -76,7 +76,7 @@ impl<D: Disk> Filter<D> {
         path: &str,
         p: &mut P,
         notes: &mut Notes,
-    ) -> Result<Waited, Fail>
+    ) -> Result<Waited, CallError>
         ensures does { Provides D.state P.answers Any shows_waited (hydrate path.now) p.old (noted notes.old self.old) result p.new (noted notes.new self.new) }
         ensures keeps { self.new.desk.notes ≡ self.old.desk.notes }
     {
@@ -94,7 +94,7 @@ impl<D: Disk> Filter<D> {
         range: Option<(u64, u64)>,
         p: &mut P,
         notes: &mut Notes,
-    ) -> Result<Waited, Fail>
+    ) -> Result<Waited, CallError>
         ensures does { Provides D.state P.answers Any shows_waited (dehydrate path.now range) p.old (noted notes.old self.old) result p.new (noted notes.new self.new) }
         ensures keeps { self.new.desk.notes ≡ self.old.desk.notes }
     {

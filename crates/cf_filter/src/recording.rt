@@ -11,18 +11,18 @@ ghost use Rattle.cf_filter_steps.specs.Answering.{Answers};
 
 use crate::filters::Filter;
 use crate::told::Told;
-use cf_base::{Code, Fail, Memory};
+use cf_base::{Code, CallError, OutOfMemory};
 use cf_disk::Disk;
 use cf_filter_machine::Machine;
 
 // Whether there was room, by what the volume answered.
-fn has_room(put: Result<(), Fail>) -> Result<bool, Memory>
+fn has_room(put: Result<(), CallError>) -> Result<bool, OutOfMemory>
     ensures { HasRoom put result }
 {
     match put {
         Ok(()) => Ok(true),
-        Err(Fail::No(Code::TableFull)) => Ok(false),
-        Err(_) => Err(Memory),
+        Err(CallError::No(Code::TableFull)) => Ok(false),
+        Err(_) => Err(OutOfMemory),
     }
 }
 
@@ -31,7 +31,7 @@ fn put_record<D: Disk>(
     machine: &mut Machine<D>,
     key: &[u8],
     value: Option<&[u8]>,
-) -> Result<bool, Memory>
+) -> Result<bool, OutOfMemory>
     requires key { length key.now ≤ 255 }
     requires value { (b : List ℕ) → option_copied value ≡ Some b → length b ≤ 65535 }
     ensures does { (f : Book → Book) → Answers (sense D.state) (PutsRecord key.now (option_copied value.entry) f) (attempt (why_full f) (one (with_book_of f))) machine.old (put_outcome result) machine.new }
@@ -41,13 +41,13 @@ fn put_record<D: Disk>(
     has_room(put)
 }
 
-fn told(put: Result<bool, Memory>) -> Told<()>
+fn told(put: Result<bool, OutOfMemory>) -> Told<()>
     ensures { result ≡ put_told put }
 {
     match put {
         Ok(true) => Ok(Ok(())),
         Ok(false) => Ok(Err(Code::TableFull)),
-        Err(_) => Err(Fail::Memory),
+        Err(_) => Err(CallError::OutOfMemory),
     }
 }
 
@@ -58,7 +58,7 @@ impl<D: Disk> Filter<D> {
     /// is no value. A key has at most 255 bytes, a value at most 65,535. It is durable with the next commit. Refused as
     /// Broken, as TableFull where the table would be full with it; then nothing is changed. Records are read by `volume`.
     #[tactic(auto, using(crate::proofs::Recorded::attempted_not))]
-    pub fn aux_put(&mut self, key: &[u8], value: Option<&[u8]>) -> Result<(), Fail>
+    pub fn aux_put(&mut self, key: &[u8], value: Option<&[u8]>) -> Result<(), CallError>
         requires key { length key.now ≤ 255 }
         requires value { (b : List ℕ) → option_copied value ≡ Some b → length b ≤ 65535 }
         ensures { (f : Book → Book) → Attempts (sense D.state) (PutsRecord key.now (option_copied value.entry) f) (why_full f) (one (with_book_of f)) self.old result self.new }

@@ -5,7 +5,7 @@ ghost use Rattle.cf_base.specs.declared.answers.Shown.TheVariants as shown;
 
 use crate::filters::Filter;
 use crate::told::{count, done, handle};
-use cf_base::{Fail, Handle, Mode, Notes, Policy};
+use cf_base::{CallError, Handle, Mode, Notes, Policy};
 use cf_filter_calls::{connect, flush, open_file, set_policy};
 use cf_disk::Disk;
 
@@ -19,7 +19,7 @@ impl<D: Disk> Filter<D> {
     /// Another policy from now on (CfRegisterSyncRoot). Refused as Broken, as BadPolicy where the mode has none such, as
     /// InUse while a handle is open or a wait is live, as NotPopulated where it lists all directories and the entries of
     /// one are not known.
-    pub fn set_policy(&mut self, mode: Mode, policy: &Policy) -> Result<(), Fail>
+    pub fn set_policy(&mut self, mode: Mode, policy: &Policy) -> Result<(), CallError>
         ensures { Calls (sense D.state) shows_done (set_policy mode policy.now) self.old result self.new }
     {
         self.check()?;
@@ -29,7 +29,7 @@ impl<D: Disk> Filter<D> {
 
     /// A provider is there from now on (CfConnectSyncRoot), or none. Without one all waits end, and all asks. Refused as
     /// Broken.
-    pub fn connect(&mut self, on: bool, notes: &mut Notes) -> Result<(), Fail>
+    pub fn connect(&mut self, on: bool, notes: &mut Notes) -> Result<(), CallError>
         ensures does { Calls (sense D.state) shows_done (connect on) (noted notes.old self.old) result (noted notes.new self.new) }
         ensures keeps { self.new.desk.notes ≡ self.old.desk.notes }
     {
@@ -39,7 +39,7 @@ impl<D: Disk> Filter<D> {
     }
 
     /// Opens the file at a path. Refused as Broken, as the look-up, IsDirectory, TooManyHandles, Exhausted.
-    pub fn open_file(&mut self, path: &str) -> Result<Handle, Fail>
+    pub fn open_file(&mut self, path: &str) -> Result<Handle, CallError>
         ensures { Calls (sense D.state) shown.Opened (open_file path.now) self.old result self.new }
     {
         self.check()?;
@@ -48,7 +48,7 @@ impl<D: Disk> Filter<D> {
     }
 
     /// Makes all changes durable, and gives how many there are. Refused as Broken, Device.
-    pub fn flush(&mut self) -> Result<u64, Fail>
+    pub fn flush(&mut self) -> Result<u64, CallError>
         ensures { Calls (sense D.state) shown.Count flush self.old result self.new }
     {
         self.check()?;

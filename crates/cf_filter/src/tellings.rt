@@ -6,7 +6,7 @@ ghost use Rattle.cf_base.specs.declared.answers.Shown.TheVariants as shown;
 use crate::answers::Info;
 use crate::filters::Filter;
 use crate::told::{answer, blocks, clock, info, runs};
-use cf_base::{Class, Fail, Sequence, Span};
+use cf_base::{Class, CallError, Sequence, Span};
 use cf_filter_calls as calls;
 use cf_disk::Disk;
 
@@ -17,7 +17,7 @@ impl<D: Disk> Filter<D> {
     ghost use Rattle.cf_model.specs.Calls.{df, info, ranges, used};
 
     /// What is told of the item at a path. Refused as Broken, as the look-up.
-    pub fn info(&self, path: &str) -> Result<Info, Fail>
+    pub fn info(&self, path: &str) -> Result<Info, CallError>
         ensures { Asks (sense D.state) shows_info (info path.now) self.now result }
     {
         self.check()?;
@@ -27,7 +27,7 @@ impl<D: Disk> Filter<D> {
 
     /// The runs of bytes of the file at a path that are of a class, in order (CfGetPlaceholderRangeInfo). Refused as
     /// Broken, as the look-up, IsDirectory.
-    pub fn ranges(&self, path: &str, class: Class) -> Result<Sequence<Span>, Fail>
+    pub fn ranges(&self, path: &str, class: Class) -> Result<Sequence<Span>, CallError>
         ensures { Asks (sense D.state) shown.Ranges (ranges path.now class) self.now result }
     {
         self.check()?;
@@ -36,7 +36,7 @@ impl<D: Disk> Filter<D> {
     }
 
     /// The clock of the last access of the file at a path, 0 of none. Refused as Broken, as the look-up, IsDirectory.
-    pub fn used(&self, path: &str) -> Result<u64, Fail>
+    pub fn used(&self, path: &str) -> Result<u64, CallError>
         ensures { Asks (sense D.state) shown.Used (used path.now) self.now result }
     {
         self.check()?;
@@ -45,7 +45,7 @@ impl<D: Disk> Filter<D> {
     }
 
     /// How many blocks hold bytes, and how many clusters there are. Refused as Broken.
-    pub fn df(&self) -> Result<(u32, u32), Fail>
+    pub fn df(&self) -> Result<(u32, u32), CallError>
         ensures { Asks (sense D.state) shows_blocks df self.now result }
     {
         self.check()?;

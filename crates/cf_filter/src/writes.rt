@@ -5,7 +5,7 @@ ghost use Rattle.cf_base.specs.declared.answers.Shown.TheVariants as shown;
 
 use crate::filters::Filter;
 use crate::told::{done, number};
-use cf_base::{Fail, Handle, Notes, Usn};
+use cf_base::{CallError, Handle, Notes, Usn};
 use cf_filter_calls::{close, keep_full, set_in_sync, set_size, write};
 use cf_disk::Disk;
 use cf_provider::Provider;
@@ -27,7 +27,7 @@ impl<D: Disk> Filter<D> {
         bytes: &[u8],
         p: &mut P,
         notes: &mut Notes,
-    ) -> Result<(), Fail>
+    ) -> Result<(), CallError>
         ensures does { Provides D.state P.answers Any shows_done (write handle at bytes.now) p.old (noted notes.old self.old) result p.new (noted notes.new self.new) }
         ensures keeps { self.new.desk.notes ≡ self.old.desk.notes }
     {
@@ -44,7 +44,7 @@ impl<D: Disk> Filter<D> {
         size: u64,
         p: &mut P,
         notes: &mut Notes,
-    ) -> Result<(), Fail>
+    ) -> Result<(), CallError>
         ensures does { Provides D.state P.answers Any shows_done (set_size handle size) p.old (noted notes.old self.old) result p.new (noted notes.new self.new) }
         ensures keeps { self.new.desk.notes ≡ self.old.desk.notes }
     {
@@ -60,7 +60,7 @@ impl<D: Disk> Filter<D> {
         handle: Handle,
         p: &mut P,
         notes: &mut Notes,
-    ) -> Result<(), Fail>
+    ) -> Result<(), CallError>
         ensures does { Provides D.state P.answers Any shows_done (close handle) p.old (noted notes.old self.old) result p.new (noted notes.new self.new) }
         ensures keeps { self.new.desk.notes ≡ self.old.desk.notes }
     {
@@ -78,7 +78,7 @@ impl<D: Disk> Filter<D> {
         given: Usn,
         p: &mut P,
         notes: &mut Notes,
-    ) -> Result<Usn, Fail>
+    ) -> Result<Usn, CallError>
         ensures does { Provides D.state P.answers Any shown.Number (mark path.now given) p.old (noted notes.old self.old) result p.new (noted notes.new self.new) }
         ensures keeps { self.new.desk.notes ≡ self.old.desk.notes }
     {
@@ -96,7 +96,7 @@ impl<D: Disk> Filter<D> {
         on: bool,
         p: &mut P,
         notes: &mut Notes,
-    ) -> Result<(), Fail>
+    ) -> Result<(), CallError>
         ensures does { Provides D.state P.answers Any shows_done (keep_full path.now on) p.old (noted notes.old self.old) result p.new (noted notes.new self.new) }
         ensures keeps { self.new.desk.notes ≡ self.old.desk.notes }
     {

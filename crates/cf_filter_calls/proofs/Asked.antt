@@ -12,8 +12,8 @@ use Rattle.cf_base.specs.declared.changes.Change.{Change}
 use Rattle.cf_base.specs.declared.changes.Change.TheVariants as change
 use Rattle.cf_base.specs.declared.codes.Code.{Code}
 use Rattle.cf_base.specs.declared.codes.Code.TheVariants as code
-use Rattle.cf_base.specs.declared.codes.Fail.{Fail}
-use Rattle.cf_base.specs.declared.codes.Fail.TheVariants as fail
+use Rattle.cf_base.specs.declared.codes.CallError.{CallError}
+use Rattle.cf_base.specs.declared.codes.CallError.TheVariants as fail
 use Rattle.cf_base.specs.declared.ids.ItemId.{ItemId}
 use Rattle.cf_base.specs.declared.ids.Usn.{Usn}
 use Rattle.cf_filter_calls.specs.Asking.{Asks, Flagging, IsAsking, IsFlag, LooksWith, MayAsk, MayAskBy, asking_refusal, with_step}
@@ -121,7 +121,7 @@ step_next c id p s a t e h = one (may_need_room c s.volume) h where
   one true (inl h) = subst (λ (u : Filter). IsStepNow id Nothing p u) (sym h.1) e
   one true (inr h) = subst (λ (u : Filter). IsStepNow id Nothing p u) (sym h.1) e
 
-flag_made : {X : Type 0} (S : Sense X) (x mid new : X) (id : ItemId) (c : Change) (p : Planned) (v : Unit {0}) (r : Result (Unit {0}) Fail)
+flag_made : {X : Type 0} (S : Sense X) (x mid new : X) (id : ItemId) (c : Change) (p : Planned) (v : Unit {0}) (r : Result (Unit {0}) CallError)
     → Answers S (Ready c) (one_change c) x (Ok v) mid → Answers S (IsStepNow id Nothing p) (settle id Nothing) mid r new → Answers S (MayAskBy id (c ∷ []) p) (with_step id (c ∷ [])) x r new
 flag_made S x mid new id c p v r h k = record {
   leads = λ s i q.
@@ -134,7 +134,7 @@ flag_made S x mid new id c p v r h k = record {
       );
 }
 
-pub made_flag : {X : Type 0} (S : Sense X) (x mid new : X) (cs : List Change) (c : Change) (p : Planned) (v : Unit {0}) (r : Result (Unit {0}) Fail) → Some c ≡ slice_get cs 0
+pub made_flag : {X : Type 0} (S : Sense X) (x mid new : X) (cs : List Change) (c : Change) (p : Planned) (v : Unit {0}) (r : Result (Unit {0}) CallError) → Some c ≡ slice_get cs 0
     → Answers S (Ready c) (one_change c) x (Ok v) mid → ((id : ItemId) → Answers S (IsStepNow id Nothing p) (settle id Nothing) mid r new) → (id : ItemId) → Answers S (MayAskBy id cs p) (with_step id cs) x r new
 made_flag S x mid new [] c p v r e h k id = let z : ◌≡◌ {A = Option Change} (Some c) None = e in absurd cc
 made_flag S x mid new (d ∷ []) c p v r e h k id =
@@ -143,13 +143,13 @@ made_flag S x mid new (d ∷ []) c p v r e h k id =
     subst (λ (y : Change). Answers S (MayAskBy id (y ∷ []) p) (with_step id (y ∷ [])) x r new) same (flag_made S x mid new id c p v r h (k id))
 made_flag S x mid new (d ∷ f ∷ cs) c p v r e h k id = record { leads = λ s i q. absurd q.asking.flagging.flags }
 
-flag_fails : {X : Type 0} (S : Sense X) (x new : X) (id : ItemId) (c : Change) (p : Planned) (e : Fail)
+flag_fails : {X : Type 0} (S : Sense X) (x new : X) (id : ItemId) (c : Change) (p : Planned) (e : CallError)
     → Answers S (Ready c) (one_change c) x (Err e) new → Answers S (MayAskBy id (c ∷ []) p) (with_step id (c ∷ [])) x (Err e) new
 flag_fails S x new id c p e h =
     stops_first S (MayAskBy id (c ∷ []) p) (changes (c ∷ [])) (settle id Nothing) x new e
     (stops_first S (MayAskBy id (c ∷ []) p) (one_change c) (changes []) x new e (weaker S (Ready c) (MayAskBy id (c ∷ []) p) (one_change c) x new (Err e) (λ s q. flag_ready id c p s q) h))
 
-pub made_not : {X : Type 0} (S : Sense X) (x new : X) (cs : List Change) (c : Change) (p : Planned) (e : Fail) → Some c ≡ slice_get cs 0
+pub made_not : {X : Type 0} (S : Sense X) (x new : X) (cs : List Change) (c : Change) (p : Planned) (e : CallError) → Some c ≡ slice_get cs 0
     → Answers S (Ready c) (one_change c) x (Err e) new → (id : ItemId) → Answers S (MayAskBy id cs p) (with_step id cs) x (Err e) new
 made_not S x new [] c p e q h id = let z : ◌≡◌ {A = Option Change} (Some c) None = q in absurd cc
 made_not S x new (d ∷ []) c p e q h id =
@@ -160,7 +160,7 @@ made_not S x new (d ∷ f ∷ cs) c p e q h id = record { leads = λ s i r. absu
 
 -- both by what was looked at
 
-ask_by : {X : Type 0} (S : Sense X) (x new : X) (id : ItemId) (cs : List Change) (p : Planned) (r : Result (Unit {0}) Fail)
+ask_by : {X : Type 0} (S : Sense X) (x new : X) (id : ItemId) (cs : List Change) (p : Planned) (r : Result (Unit {0}) CallError)
     → LooksWith S id cs p x → Answers S (MayAskBy id cs p) (with_step id cs) x r new → Answers S (MayAsk id cs) (with_step id cs) x r new
 ask_by S x new id cs p r looks h = record { leads = λ s i q. h.leads s i (record { asking = record { flagging = q.flagging; step = looks.is s i q.flagging.flags }; free = q.free }) }
 
@@ -177,12 +177,12 @@ pub asks_on : {X : Type 0} (S : Sense X) (x new : X) (id : ItemId) (cs : List Ch
     → ((k : ItemId) → Answers S (MayAskBy k cs p) (with_step k cs) x (Ok u) new) → Asks S id cs x (Ok None) new
 asks_on S x new id cs p why u looks reads e h = (asks_why S x id cs p why None looks reads e, ask_by S x new id cs p (Ok unit) looks (h id))
 
-pub asks_err : {X : Type 0} (S : Sense X) (x new : X) (id : ItemId) (cs : List Change) (p : Planned) (why : Option Code) (e : Fail) (r : Result (Option Code) Fail)
+pub asks_err : {X : Type 0} (S : Sense X) (x new : X) (id : ItemId) (cs : List Change) (p : Planned) (why : Option Code) (e : CallError) (r : Result (Option Code) CallError)
     → LooksWith S id cs p x → ((k : ItemId) → Reads S (IsAsking k cs p) (asking_refusal k cs) x why) → why ≡ None
     → ((k : ItemId) → Answers S (MayAskBy k cs p) (with_step k cs) x (Err e) new) → IsErrAnd r (λ y. y ≡ e) → Asks S id cs x r new
 asks_err S x new id cs p why e r looks reads q h is =
     let z = err_from_is_err_and r is in
-    subst (λ (y : Result (Option Code) Fail). Asks S id cs x y new) (sym (z.1 ∙ ap (λ (f : Fail). Err f) z.2))
+    subst (λ (y : Result (Option Code) CallError). Asks S id cs x y new) (sym (z.1 ∙ ap (λ (f : CallError). Err f) z.2))
     (inr (asks_why S x id cs p why None looks reads q, ask_by S x new id cs p (Err e) looks (h id)))
 
 -- three parts one after the other
@@ -193,7 +193,7 @@ assoc (Step s p) f g = ap (λ q. Step s q) (assoc p f g)
 assoc (Fork p q) f g = λ i. Fork (assoc p f g i) (assoc q f g i)
 assoc (Asked k) f g = λ i. Asked (λ x. assoc (k x) f g i)
 
-associated : {X A B C : Type 0} (S : Sense X) (P : Filter → Type 0) (f : Arrow Filter A) (g : Arrow Filter B) (h : Arrow Filter C) (x new : X) (r : Result C Fail)
+associated : {X A B C : Type 0} (S : Sense X) (P : Filter → Type 0) (f : Arrow Filter A) (g : Arrow Filter B) (h : Arrow Filter C) (x new : X) (r : Result C CallError)
     → Answers S P (then_do (then_do f g) h) x r new → Answers S P (then_do f (then_do g h)) x r new
 associated {X} {A} {B} {C} S P f g h x new r a = record {
   leads = λ s i p.
@@ -202,7 +202,7 @@ associated {X} {A} {B} {C} S P f g h x new r a = record {
 
 -- the call
 
-asking_on : {X : Type 0} (S : Sense X) (id : ItemId) (cs : List Change) (answer : Arrow Filter Shown) (x new : X) (r : Result Shown Fail)
+asking_on : {X : Type 0} (S : Sense X) (id : ItemId) (cs : List Change) (answer : Arrow Filter Shown) (x new : X) (r : Result Shown CallError)
     → Reads S (Flagging id cs) (asking_refusal id cs) x None → Answers S (MayAsk id cs) (then_do (with_step id cs) answer) x r new → Answers S (Flagging id cs) (asking id answer cs) x r new
 asking_on S id cs answer x new r reads h =
     let a = associated S (MayAsk id cs) (changes cs) (settle_changed id cs) answer x new r h in record {
@@ -212,22 +212,22 @@ asking_on S id cs answer x new r reads h =
           (a.leads s i (record { flagging = f; free = sym e }));
     }
 
-pub asked_done : {X : Type 0} (S : Sense X) (id : ItemId) (cs : List Change) (answer : Arrow Filter Shown) (o : Option Code) (x mid new : X) (r : Result Shown Fail)
+pub asked_done : {X : Type 0} (S : Sense X) (id : ItemId) (cs : List Change) (answer : Arrow Filter Shown) (o : Option Code) (x mid new : X) (r : Result Shown CallError)
     → Asks S id cs x (Ok o) mid → o ≡ None → Answers S Any answer mid r new → Answers S (Flagging id cs) (asking id answer cs) x r new
 asked_done S id cs answer o x mid new r m e k =
     let a : Asks S id cs x (Ok None) mid = subst (λ (p : Option Code). Asks S id cs x (Ok p) mid) e m in
     asking_on S id cs answer x new r a.0 (then_on S (MayAsk id cs) Any (with_step id cs) answer x mid new unit r (λ s t p q. record {}) a.1 k)
 
-pub asked_fails : {X : Type 0} (S : Sense X) (id : ItemId) (cs : List Change) (answer : Arrow Filter Shown) (x new : X) (e : Fail)
+pub asked_fails : {X : Type 0} (S : Sense X) (id : ItemId) (cs : List Change) (answer : Arrow Filter Shown) (x new : X) (e : CallError)
     → Asks S id cs x (Err e) new → Answers S (Flagging id cs) (asking id answer cs) x (Err e) new
 asked_fails {X} S id cs answer x new e (inl m) =
-    subst (λ (f : Fail). Answers S (Flagging id cs) (asking id answer cs) x (Err f) new) (sym m.0)
-    (subst (λ (y : X). Answers S (Flagging id cs) (asking id answer cs) x (Err fail.Memory) y) (sym m.1) (no_memory S (Flagging id cs) (asking id answer cs) x))
+    subst (λ (f : CallError). Answers S (Flagging id cs) (asking id answer cs) x (Err f) new) (sym m.0)
+    (subst (λ (y : X). Answers S (Flagging id cs) (asking id answer cs) x (Err fail.OutOfMemory) y) (sym m.1) (no_memory S (Flagging id cs) (asking id answer cs) x))
 asked_fails S id cs answer x new e (inr m) = asking_on S id cs answer x new (Err e) m.0 (stops_first S (MayAsk id cs) (with_step id cs) answer x new e m.1)
 
 -- a plan leads to it
 
-led : {X : Type 0} (S : Sense X) (id : ItemId) (f : Plan) (Q : List Change → Filter → Type 0) (h : ItemId → List Change → Arrow Filter Shown) (cs : List Change) (x new : X) (r : Result Shown Fail)
+led : {X : Type 0} (S : Sense X) (id : ItemId) (f : Plan) (Q : List Change → Filter → Type 0) (h : ItemId → List Change → Arrow Filter Shown) (cs : List Change) (x new : X) (r : Result Shown CallError)
     → Plans S id f x (Ok cs) → ((s : Filter) (i : Item) (ds : List Change) → IsGood s → IsAt id i s → f i s ≡ Ok ds → Q ds s) → Answers S (Q cs) (h id cs) x r new
     → (i : Item) → Answers S (IsAt id i) (reading (f i) (on_ok (h i.id))) x r new
 led S id f Q h cs x new r plans suit a i = record {
@@ -238,19 +238,19 @@ led S id f Q h cs x new r plans suit a i = record {
       (a.leads s m (suit s i cs (S.good x s m) at e)));
 }
 
-pub led_ok : {X : Type 0} (S : Sense X) (id : ItemId) (f : Plan) (Q : List Change → Filter → Type 0) (h : ItemId → List Change → Arrow Filter Shown) (plan : Result (List Change) Fail) (cs ds : List Change) (x new : X) (r : Result Shown Fail)
+pub led_ok : {X : Type 0} (S : Sense X) (id : ItemId) (f : Plan) (Q : List Change → Filter → Type 0) (h : ItemId → List Change → Arrow Filter Shown) (plan : Result (List Change) CallError) (cs ds : List Change) (x new : X) (r : Result Shown CallError)
     → Plans S id f x plan → ((s : Filter) (i : Item) (es : List Change) → IsGood s → IsAt id i s → f i s ≡ Ok es → Q es s) → plan ≡ Ok cs → ds ≡ cs → Answers S (Q ds) (h id ds) x r new
     → (i : Item) → Answers S (IsAt id i) (reading (f i) (on_ok (h i.id))) x r new
 led_ok S id f Q h plan cs ds x new r plans suit e same a i =
-    led S id f Q h cs x new r (subst (λ (q : Result (List Change) Fail). Plans S id f x q) e plans) suit (subst (λ (l : List Change). Answers S (Q l) (h id l) x r new) same a) i
+    led S id f Q h cs x new r (subst (λ (q : Result (List Change) CallError). Plans S id f x q) e plans) suit (subst (λ (l : List Change). Answers S (Q l) (h id l) x r new) same a) i
 
-pub led_err : {X : Type 0} (S : Sense X) (id : ItemId) (f : Plan) (h : ItemId → List Change → Arrow Filter Shown) (plan : Result (List Change) Fail) (k : Fail) (x : X) (r : Result Shown Fail)
+pub led_err : {X : Type 0} (S : Sense X) (id : ItemId) (f : Plan) (h : ItemId → List Change → Arrow Filter Shown) (plan : Result (List Change) CallError) (k : CallError) (x : X) (r : Result Shown CallError)
     → Plans S id f x plan → plan ≡ Err k → r ≡ refusal_of k → (i : Item) → Answers S (IsAt id i) (reading (f i) (on_ok (h i.id))) x r x
 led_err S id f h plan (fail.No c) x r plans e q i =
-    subst (λ (y : Result Shown Fail). Answers S (IsAt id i) (reading (f i) (on_ok (h i.id))) x y x) (sym q)
-    (plan_refused S id f (h i.id) c x i (subst (λ (p : Result (List Change) Fail). Plans S id f x p) e plans))
-led_err S id f h plan fail.Memory x r plans e q i =
-    subst (λ (y : Result Shown Fail). Answers S (IsAt id i) (reading (f i) (on_ok (h i.id))) x y x) (sym q) (no_memory S (IsAt id i) (reading (f i) (on_ok (h i.id))) x)
+    subst (λ (y : Result Shown CallError). Answers S (IsAt id i) (reading (f i) (on_ok (h i.id))) x y x) (sym q)
+    (plan_refused S id f (h i.id) c x i (subst (λ (p : Result (List Change) CallError). Plans S id f x p) e plans))
+led_err S id f h plan fail.OutOfMemory x r plans e q i =
+    subst (λ (y : Result Shown CallError). Answers S (IsAt id i) (reading (f i) (on_ok (h i.id))) x y x) (sym q) (no_memory S (IsAt id i) (reading (f i) (on_ok (h i.id))) x)
 
 -- the plans
 

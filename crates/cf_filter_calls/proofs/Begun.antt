@@ -5,8 +5,8 @@ use Rattle.cf_base.specs.declared.answers.Shown.{Shown}
 use Rattle.cf_base.specs.declared.answers.Shown.TheVariants as shown
 use Rattle.cf_base.specs.declared.codes.Code.{Code}
 use Rattle.cf_base.specs.declared.codes.Code.TheVariants as code
-use Rattle.cf_base.specs.declared.codes.Fail.{Fail}
-use Rattle.cf_base.specs.declared.codes.Fail.TheVariants as fail
+use Rattle.cf_base.specs.declared.codes.CallError.{CallError}
+use Rattle.cf_base.specs.declared.codes.CallError.TheVariants as fail
 use Rattle.cf_base.specs.declared.ids.Handle.{Handle}
 use Rattle.cf_base.specs.declared.ids.ItemId.{ItemId}
 use Rattle.cf_base.specs.declared.ids.WaitId.{WaitId}
@@ -53,14 +53,14 @@ lines_are : (made : List Live) → map asked_line (map (λ a. a.ask) made) ≡ m
 lines_are [] = refl
 lines_are (a ∷ as') = ap (λ (ls : List Notice). ask_line a ∷ ls) (lines_are as')
 
-told_by : {X : Type 0} (S : Sense X) (t : Told) (answer : Arrow Filter Shown) (x new : X) (r : Result Shown Fail)
+told_by : {X : Type 0} (S : Sense X) (t : Told) (answer : Arrow Filter Shown) (x new : X) (r : Result Shown CallError)
     → Answers S (AreOnFiles t.ended) (then_do (tell_moves t.ended t.cancelled (map (λ a. a.ask) t.made)) answer) x r new
     → Answers S (AreOnFiles t.ended) (then_do (then_do (each end_wait t.ended) (noted (with_asks_told t))) answer) x r new
 told_by S t answer x new r h =
     subst (λ (ls : List Notice). Answers S (AreOnFiles t.ended) (then_do (then_do (each end_wait t.ended) (noted (λ s. record s { notes = s.notes ++ map cancel_line t.cancelled ++ ls; outbox = s.outbox ++ map (λ a. a.ask) t.made }))) answer) x r new)
     (lines_are t.made) h
 
-moves_by : {X : Type 0} (S : Sense X) (t : Told) (b : Option WaitId) (m : Moves) (answer : Arrow Filter Shown) (x new : X) (r : Result Shown Fail)
+moves_by : {X : Type 0} (S : Sense X) (t : Told) (b : Option WaitId) (m : Moves) (answer : Arrow Filter Shown) (x new : X) (r : Result Shown CallError)
     → m ≡ moved_of b t → Answers S (AreOnFiles m.ended) (then_do (tell_moves m.ended m.cancelled m.asks) answer) x r new
     → Answers S (AreOnFiles t.ended) (then_do (then_do (each end_wait t.ended) (noted (with_asks_told t))) answer) x r new
 moves_by S t b m answer x new r e h = told_by S t answer x new r (subst (λ (n : Moves). Answers S (AreOnFiles n.ended) (then_do (tell_moves n.ended n.cancelled n.asks) answer) x r new) e h)
@@ -85,7 +85,7 @@ record Begins (n : Need) (es : List (Wait × Cause)) (s : Filter) : Type 0 where
   pub file : ReadsFile n s
   pub ended : AreOnFiles es s
 
-pub started : {X : Type 0} (S : Sense X) (n : Need) (m : WaitId × Moves) (x mid new : X) (r : Result Shown Fail)
+pub started : {X : Type 0} (S : Sense X) (n : Need) (m : WaitId × Moves) (x mid new : X) (r : Result Shown CallError)
     → Starts S n x (Ok m) mid → Answers S (AreOnFiles m.1.ended) (then_do (tell_moves m.1.ended m.1.cancelled m.1.asks) (ret (shown.Pending m.0))) mid r new → Answers S (ReadsFile n) (begin_limited n) x r new
 started S n m x mid new r st k = record {
   leads = λ s i p.
@@ -100,9 +100,9 @@ started S n m x mid new r st k = record {
       (a.leads s i (record { file = p; ended = begun_on_files n s (S.good x s i) p }));
 }
 
-pub start_by : {X : Type 0} (S : Sense X) (n : Need) (q : Result (WaitId × Moves) Fail) (m : WaitId × Moves) (x mid new : X) (r : Result Shown Fail)
+pub start_by : {X : Type 0} (S : Sense X) (n : Need) (q : Result (WaitId × Moves) CallError) (m : WaitId × Moves) (x mid new : X) (r : Result Shown CallError)
     → Starts S n x q mid → q ≡ Ok m → Answers S (AreOnFiles m.1.ended) (then_do (tell_moves m.1.ended m.1.cancelled m.1.asks) (ret (shown.Pending m.0))) mid r new → Answers S (ReadsFile n) (begin_limited n) x r new
-start_by S n q m x mid new r st e k = started S n m x mid new r (subst (λ (y : Result (WaitId × Moves) Fail). Starts S n x y mid) e st) k
+start_by S n q m x mid new r st e k = started S n m x mid new r (subst (λ (y : Result (WaitId × Moves) CallError). Starts S n x y mid) e st) k
 
 start_off : {X : Type 0} (S : Sense X) (n : Need) (c : Code) (x new : X) → Starts S n x (Err (fail.No c)) new → Answers S (ReadsFile n) (begin_limited n) x (Ok (shown.Refused c)) new
 start_off {X} S n c x new st = subst (λ (y : X). Answers S (ReadsFile n) (begin_limited n) x (Ok (shown.Refused c)) y) (sym st.1) (record {
@@ -111,19 +111,19 @@ start_off {X} S n c x new st = subst (λ (y : X). Answers S (ReadsFile n) (begin
       (s, (refl, refl), S.stays x s i, i);
 })
 
-pub start_not : {X : Type 0} (S : Sense X) (n : Need) (q : Result (WaitId × Moves) Fail) (h : Fail) (x new : X) (r : Result Shown Fail)
+pub start_not : {X : Type 0} (S : Sense X) (n : Need) (q : Result (WaitId × Moves) CallError) (h : CallError) (x new : X) (r : Result Shown CallError)
     → Starts S n x q new → q ≡ Err h → r ≡ refusal_of h → Answers S (ReadsFile n) (begin_limited n) x r new
 start_not S n q (fail.No c) x new r st e d =
-    subst (λ (y : Result Shown Fail). Answers S (ReadsFile n) (begin_limited n) x y new) (sym d) (start_off S n c x new (subst (λ (y : Result (WaitId × Moves) Fail). Starts S n x y new) e st))
-start_not S n q fail.Memory x new r st e d =
-    subst (λ (y : Result Shown Fail). Answers S (ReadsFile n) (begin_limited n) x y new) (sym d) (subst (λ (y : Result (WaitId × Moves) Fail). Starts S n x y new) e st)
+    subst (λ (y : Result Shown CallError). Answers S (ReadsFile n) (begin_limited n) x y new) (sym d) (start_off S n c x new (subst (λ (y : Result (WaitId × Moves) CallError). Starts S n x y new) e st))
+start_not S n q fail.OutOfMemory x new r st e d =
+    subst (λ (y : Result Shown CallError). Answers S (ReadsFile n) (begin_limited n) x y new) (sym d) (subst (λ (y : Result (WaitId × Moves) CallError). Starts S n x y new) e st)
 
 -- a provider is there, or none
 
 abbrev limit_tests : Need → Filter → List (Bool × Code)
 limit_tests n s = (too_many_waits (begun n s).1, code.TooManyWaits) ∷ (too_many_asks (begun n s).1, code.TooManyAsks) ∷ (no_numbers (begun n s).1, code.Exhausted) ∷ []
 
-pub begin_up : {X : Type 0} (S : Sense X) (n : Need) (b : Bool) (x new : X) (r : Result Shown Fail)
+pub begin_up : {X : Type 0} (S : Sense X) (n : Need) (b : Bool) (x new : X) (r : Result Shown CallError)
     → Reads S Any is_connected x b → b ≡ true → limits_by n.kind ≡ limits.Begins → Answers S (ReadsFile n) (begin_limited n) x r new → Answers S (ReadsFile n) (begin n) x r new
 begin_up S n b x new r reads e kind h = record {
   leads = λ s i p.
@@ -148,13 +148,13 @@ answered S n e x new h reads =
     reads_on S (MayAnswer n) (end_now n) (answer_with n) x new (shown.Ended e) (Ok (shown.Ended e)) (record { is = λ s i p. ap (λ (y : End). shown.Ended y) (reads.is s i p.met) })
     (then_on S (MayAnswer n) Any (one (accessed_now n)) (ret (shown.Ended e)) x new new unit (Ok (shown.Ended e)) (λ s t p q. record {}) h (returned S Any (shown.Ended e) new))
 
-pub answered_not : {X : Type 0} (S : Sense X) (n : Need) (e : Fail) (x new : X) → Answers S (MayAnswer n) (one (accessed_now n)) x (Err e) new → Answers S (MayAnswer n) (answer_now n) x (Err e) new
+pub answered_not : {X : Type 0} (S : Sense X) (n : Need) (e : CallError) (x new : X) → Answers S (MayAnswer n) (one (accessed_now n)) x (Err e) new → Answers S (MayAnswer n) (answer_now n) x (Err e) new
 answered_not S n e x new h = record {
   leads = λ s i p.
       let z = h.leads s i p in (z.0, trees.fails_first (one (accessed_now n) s) (λ _ t. ret (end_now n s) t) e z.0 z.1, z.2, after_err (Unit {0}) Shown S e x new z.0 z.3);
 }
 
-pub met_now : {X : Type 0} (S : Sense X) (n : Need) (b : Bool) (x new : X) (r : Result Shown Fail)
+pub met_now : {X : Type 0} (S : Sense X) (n : Need) (b : Bool) (x new : X) (r : Result Shown CallError)
     → Reads S Any (is_met_now n) x b → b ≡ true → Answers S (MayAnswer n) (answer_now n) x r new → Answers S (ReadsFile n) (need n) x r new
 met_now S n b x new r reads e h = record {
   leads = λ s i p.
@@ -162,7 +162,7 @@ met_now S n b x new r reads e h = record {
       subst (λ (c : Bool). (t : Filter) × Does (answer_or_begin n c s) r t × S.moved x new s t × After S x r new t) met (h.leads s i (record { met = sym met; file = p }));
 }
 
-pub met_not : {X : Type 0} (S : Sense X) (n : Need) (b : Bool) (x new : X) (r : Result Shown Fail)
+pub met_not : {X : Type 0} (S : Sense X) (n : Need) (b : Bool) (x new : X) (r : Result Shown CallError)
     → Reads S Any (is_met_now n) x b → b ≡ false → Answers S (ReadsFile n) (begin n) x r new → Answers S (ReadsFile n) (need n) x r new
 met_not S n b x new r reads e h = record {
   leads = λ s i p. subst (λ (c : Bool). (t : Filter) × Does (answer_or_begin n c s) r t × S.moved x new s t × After S x r new t) (sym e ∙ reads.is s i (record {})) (h.leads s i p);
@@ -170,7 +170,7 @@ met_not S n b x new r reads e h = record {
 
 -- handles
 
-pub handle_on : {X : Type 0} (S : Sense X) (h : Handle) (f : ItemId → Arrow Filter Shown) (o : Option ItemId) (item : ItemId) (x new : X) (r : Result Shown Fail)
+pub handle_on : {X : Type 0} (S : Sense X) (h : Handle) (f : ItemId → Arrow Filter Shown) (o : Option ItemId) (item : ItemId) (x new : X) (r : Result Shown CallError)
     → Reads S Any (opened_item h) x o → o ≡ Some item → Answers S Any (f item) x r new → Answers S Any (on_handle h f) x r new
 handle_on {X} S h f o item x new r reads e a = record { leads = λ s i p. one (opened_by h s) (sym e ∙ reads.is s i p) s i } where
   one : (q : Option Open) → Some item ≡ item_opened q → (s : Filter) → S.means x s → (t : Filter) × Does (on_open f q s) r t × S.moved x new s t × After S x r new t
@@ -187,14 +187,14 @@ handle_off {X} S h f o x reads e = record { leads = λ s i p. one (opened_by h s
   one None z s i = (s, (refl, refl), S.stays x s i, i)
   one (Some p) z s i = let y : ◌≡◌ {A = Option ItemId} None (Some p.item) = z in absurd cc
 
-pub read_by : {X : Type 0} (S : Sense X) (h : Handle) (asked : Span) (item : ItemId) (policy : Policy) (b : Bool) (x new : X) (r : Result Shown Fail)
+pub read_by : {X : Type 0} (S : Sense X) (h : Handle) (asked : Span) (item : ItemId) (policy : Policy) (b : Bool) (x new : X) (r : Result Shown CallError)
     → Reads S Any policy_of x policy → b ≡ is_progressive policy.hydration → Answers S (IsFile item) (read_file h asked item b) x r new → Answers S (IsFile item) (read_item h asked item) x r new
 read_by S h asked item policy b x new r reads e a =
     reads_on S (IsFile item) wants_rest (read_file h asked item) x new b r (record { is = λ s i p. e ∙ ap (λ (q : Policy). is_progressive q.hydration) (reads.is s i (record {})) }) a
 
 -- by what an item is
 
-pub chosen_on : {X : Type 0} (S : Sense X) (id : ItemId) (v : Item → Bool) (f : ItemId → Arrow Filter Shown) (g : Arrow Filter Shown) (b : Bool) (x new : X) (r : Result Shown Fail)
+pub chosen_on : {X : Type 0} (S : Sense X) (id : ItemId) (v : Item → Bool) (f : ItemId → Arrow Filter Shown) (g : Arrow Filter Shown) (b : Bool) (x new : X) (r : Result Shown CallError)
     → ReadsAt S id v x b → b ≡ true → Answers S Any (f id) x r new → (i : Item) → Answers S (IsAt id i) (choose (v i) (f i.id) g) x r new
 chosen_on S id v f g b x new r reads e a i = record {
   leads = λ s m at.
@@ -202,32 +202,32 @@ chosen_on S id v f g b x new r reads e a i = record {
       (subst (λ (k : ItemId). (t : Filter) × Does (f k s) r t × S.moved x new s t × After S x r new t) (own_item s.volume.items id i at) (a.leads s m (record {})));
 }
 
-pub chosen_off : {X : Type 0} (S : Sense X) (id : ItemId) (v : Item → Bool) (f : Item → Arrow Filter Shown) (g : Arrow Filter Shown) (b : Bool) (x new : X) (r : Result Shown Fail)
+pub chosen_off : {X : Type 0} (S : Sense X) (id : ItemId) (v : Item → Bool) (f : Item → Arrow Filter Shown) (g : Arrow Filter Shown) (b : Bool) (x new : X) (r : Result Shown CallError)
     → ReadsAt S id v x b → b ≡ false → Answers S Any g x r new → (i : Item) → Answers S (IsAt id i) (choose (v i) (f i) g) x r new
 chosen_off S id v f g b x new r reads e a i = record {
   leads = λ s m at. subst (λ (c : Bool). (t : Filter) × Does (choose c (f i) g s) r t × S.moved x new s t × After S x r new t) (sym e ∙ reads.is s i m at) (a.leads s m (record {}));
 }
 
 -- refused of a directory, else the rest on the item
-pub but_on : {X : Type 0} (S : Sense X) (id : ItemId) (v : Item → Bool) (f : Arrow Filter Shown) (g : Item → Arrow Filter Shown) (b : Bool) (x new : X) (r : Result Shown Fail)
+pub but_on : {X : Type 0} (S : Sense X) (id : ItemId) (v : Item → Bool) (f : Arrow Filter Shown) (g : Item → Arrow Filter Shown) (b : Bool) (x new : X) (r : Result Shown CallError)
     → ReadsAt S id v x b → b ≡ true → Answers S Any f x r new → (i : Item) → Answers S (IsAt id i) (choose (v i) f (g i)) x r new
 but_on S id v f g b x new r reads e a i = record {
   leads = λ s m at. subst (λ (c : Bool). (t : Filter) × Does (choose c f (g i) s) r t × S.moved x new s t × After S x r new t) (sym e ∙ reads.is s i m at) (a.leads s m (record {}));
 }
 
-pub but_off : {X : Type 0} (S : Sense X) (id : ItemId) (v : Item → Bool) (f : Arrow Filter Shown) (g : Item → Arrow Filter Shown) (b : Bool) (x new : X) (r : Result Shown Fail)
+pub but_off : {X : Type 0} (S : Sense X) (id : ItemId) (v : Item → Bool) (f : Arrow Filter Shown) (g : Item → Arrow Filter Shown) (b : Bool) (x new : X) (r : Result Shown CallError)
     → ReadsAt S id v x b → b ≡ false → ((i : Item) → Answers S (IsAt id i) (g i) x r new) → (i : Item) → Answers S (IsAt id i) (choose (v i) f (g i)) x r new
 but_off S id v f g b x new r reads e a i = record {
   leads = λ s m at. subst (λ (c : Bool). (t : Filter) × Does (choose c f (g i) s) r t × S.moved x new s t × After S x r new t) (sym e ∙ reads.is s i m at) ((a i).leads s m at);
 }
 
-pub own_on : {X : Type 0} (S : Sense X) (id : ItemId) (f : ItemId → Arrow Filter Shown) (x new : X) (r : Result Shown Fail) → Answers S Any (f id) x r new → (i : Item) → Answers S (IsAt id i) (f i.id) x r new
+pub own_on : {X : Type 0} (S : Sense X) (id : ItemId) (f : ItemId → Arrow Filter Shown) (x new : X) (r : Result Shown CallError) → Answers S Any (f id) x r new → (i : Item) → Answers S (IsAt id i) (f i.id) x r new
 own_on S id f x new r a i = record {
   leads = λ s m at. subst (λ (k : ItemId). (t : Filter) × Does (f k s) r t × S.moved x new s t × After S x r new t) (own_item s.volume.items id i at) (a.leads s m (record {}));
 }
 
 -- the rest on what is a file
-pub file_on : {X : Type 0} (S : Sense X) (id : ItemId) (f : ItemId → Arrow Filter Shown) (g : Arrow Filter Shown) (b : Bool) (x new : X) (r : Result Shown Fail)
+pub file_on : {X : Type 0} (S : Sense X) (id : ItemId) (f : ItemId → Arrow Filter Shown) (g : Arrow Filter Shown) (b : Bool) (x new : X) (r : Result Shown CallError)
     → ReadsAt S id has_entries x b → b ≡ false → Answers S (IsFile id) (f id) x r new → (i : Item) → Answers S (IsAt id i) (choose i.directory g (f i.id)) x r new
 file_on S id f g b x new r reads e a i = record {
   leads = λ s m at.

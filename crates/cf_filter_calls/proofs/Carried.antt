@@ -6,8 +6,8 @@ use Rattle.cf_base.specs.declared.answers.Shown.{Shown}
 use Rattle.cf_base.specs.declared.answers.Shown.TheVariants as shown
 use Rattle.cf_base.specs.declared.changes.Change.{Change}
 use Rattle.cf_base.specs.declared.codes.Code.{Code}
-use Rattle.cf_base.specs.declared.codes.Fail.{Fail}
-use Rattle.cf_base.specs.declared.codes.Fail.TheVariants as fail
+use Rattle.cf_base.specs.declared.codes.CallError.{CallError}
+use Rattle.cf_base.specs.declared.codes.CallError.TheVariants as fail
 use Rattle.cf_base.specs.declared.ids.ItemId.{ItemId}
 use Rattle.cf_base.specs.declared.ids.Usn.{Usn}
 use Rattle.cf_filter_calls.specs.Executing.{base_at}
@@ -52,17 +52,17 @@ pub no_row : (rows : List Row) (items : List Item) (id : ItemId) (i : Item) → 
 no_row rows items id i m p q = subst (λ (o : Option Row). BothMean o (Some i)) p (subst (λ (o : Option Item). BothMean (row_of rows id) o) q (rows_by_id rows items id m))
 
 -- a plan by the row is one by the item
-pub plans_by : {X : Type 0} (S : Sense X) (x : X) (t : Table) (id : ItemId) (row : Row) (f : Plan) (r : Result (List Change) Fail)
+pub plans_by : {X : Type 0} (S : Sense X) (x : X) (t : Table) (id : ItemId) (row : Row) (f : Plan) (r : Result (List Change) CallError)
     → HasRows S x t → row_of t.rows id ≡ Some row → ((s : Filter) (i : Item) → S.means x s → IsAt id i s → Means row i → IsPlan r (f i s)) → Plans S id f x r
 plans_by S x t id row f r rows e h = record { is = λ s i m at. h s i m at (row_means t.rows s.volume.items id row i (rows.rows s m) e at) }
 
-pub plans_none : {X : Type 0} (S : Sense X) (x : X) (t : Table) (id : ItemId) (f : Plan) (r : Result (List Change) Fail)
+pub plans_none : {X : Type 0} (S : Sense X) (x : X) (t : Table) (id : ItemId) (f : Plan) (r : Result (List Change) CallError)
     → HasRows S x t → row_of t.rows id ≡ None → Plans S id f x r
 plans_none S x t id f r rows e = record { is = λ s i m at. absurd (no_row t.rows s.volume.items id i (rows.rows s m) e at) }
 
 -- a plan is carried out
 
-pub plan_made : {X : Type 0} (S : Sense X) (id : ItemId) (f : Plan) (cs : List Change) (x new : X) (r : Result Shown Fail)
+pub plan_made : {X : Type 0} (S : Sense X) (id : ItemId) (f : Plan) (cs : List Change) (x new : X) (r : Result Shown CallError)
     → Plans S id f x (Ok cs) → PlansSuit id f → Answers S (Suiting cs) (planned_on id cs) x r new → (i : Item) → Answers S (IsAt id i) (reading (f i) (on_ok (planned_on i.id))) x r new
 plan_made S id f cs x new r plans suit a i = record {
   leads = λ s h at.
@@ -82,7 +82,7 @@ plan_refused S id f g c x i plans = record {
 
 -- look-ups
 
-pub on_found : {X : Type 0} (S : Sense X) (v : Filter → Result Item Code) (f : Item → Arrow Filter Shown) (id : ItemId) (x new : X) (r : Result Shown Fail)
+pub on_found : {X : Type 0} (S : Sense X) (v : Filter → Result Item Code) (f : Item → Arrow Filter Shown) (id : ItemId) (x new : X) (r : Result Shown CallError)
     → Finds S v x (Ok id) → ((i : Item) → Answers S (IsAt id i) (f i) x r new) → Answers S Any (reading v (on_ok f)) x r new
 on_found S v f id x new r finds a = record {
   leads = λ s h p.
@@ -98,7 +98,7 @@ on_lost S v f c x finds = record {
       (s, (refl, refl), S.stays x s h, h);
 }
 
-pub found_on : {X : Type 0} (S : Sense X) (v : Filter → Result Item Code) (f : Item → Arrow Filter Shown) (q : Result ItemId Code) (id : ItemId) (x new : X) (r : Result Shown Fail)
+pub found_on : {X : Type 0} (S : Sense X) (v : Filter → Result Item Code) (f : Item → Arrow Filter Shown) (q : Result ItemId Code) (id : ItemId) (x new : X) (r : Result Shown CallError)
     → Finds S v x q → q ≡ Ok id → ((i : Item) → Answers S (IsAt id i) (f i) x r new) → Answers S Any (reading v (on_ok f)) x r new
 found_on S v f q id x new r finds e a = on_found S v f id x new r (subst (λ (y : Result ItemId Code). Finds S v x y) e finds) a
 
@@ -108,23 +108,23 @@ lost_on S v f q c x finds e = on_lost S v f c x (subst (λ (y : Result ItemId Co
 
 -- a plan by cases
 
-pub planned_ok : {X : Type 0} (S : Sense X) (id : ItemId) (plan : Result (List Change) Fail) (cs ds : List Change) (x new : X) (r : Result Shown Fail)
+pub planned_ok : {X : Type 0} (S : Sense X) (id : ItemId) (plan : Result (List Change) CallError) (cs ds : List Change) (x new : X) (r : Result Shown CallError)
     → plan ≡ Ok cs → ds ≡ cs → Answers S (Suiting ds) (planned_on id ds) x r new
     → (f : Plan) → Plans S id f x plan → PlansSuit id f → (i : Item) → Answers S (IsAt id i) (reading (f i) (on_ok (planned_on i.id))) x r new
 planned_ok S id plan cs ds x new r e same a f plans suit i =
-    plan_made S id f cs x new r (subst (λ (q : Result (List Change) Fail). Plans S id f x q) e plans) suit (subst (λ (l : List Change). Answers S (Suiting l) (planned_on id l) x r new) same a) i
+    plan_made S id f cs x new r (subst (λ (q : Result (List Change) CallError). Plans S id f x q) e plans) suit (subst (λ (l : List Change). Answers S (Suiting l) (planned_on id l) x r new) same a) i
 
-pub planned_err : {X : Type 0} (S : Sense X) (id : ItemId) (plan : Result (List Change) Fail) (h : Fail) (r : Result Shown Fail) (x : X)
+pub planned_err : {X : Type 0} (S : Sense X) (id : ItemId) (plan : Result (List Change) CallError) (h : CallError) (r : Result Shown CallError) (x : X)
     → plan ≡ Err h → r ≡ refusal_of h → (f : Plan) → Plans S id f x plan → PlansSuit id f → (i : Item) → Answers S (IsAt id i) (reading (f i) (on_ok (planned_on i.id))) x r x
 planned_err S id plan (fail.No c) r x e q f plans suit i =
-    subst (λ (y : Result Shown Fail). Answers S (IsAt id i) (reading (f i) (on_ok (planned_on i.id))) x y x) (sym q)
-    (plan_refused S id f (planned_on i.id) c x i (subst (λ (p : Result (List Change) Fail). Plans S id f x p) e plans))
-planned_err S id plan fail.Memory r x e q f plans suit i =
-    subst (λ (y : Result Shown Fail). Answers S (IsAt id i) (reading (f i) (on_ok (planned_on i.id))) x y x) (sym q) (no_memory S (IsAt id i) (reading (f i) (on_ok (planned_on i.id))) x)
+    subst (λ (y : Result Shown CallError). Answers S (IsAt id i) (reading (f i) (on_ok (planned_on i.id))) x y x) (sym q)
+    (plan_refused S id f (planned_on i.id) c x i (subst (λ (p : Result (List Change) CallError). Plans S id f x p) e plans))
+planned_err S id plan fail.OutOfMemory r x e q f plans suit i =
+    subst (λ (y : Result Shown CallError). Answers S (IsAt id i) (reading (f i) (on_ok (planned_on i.id))) x y x) (sym q) (no_memory S (IsAt id i) (reading (f i) (on_ok (planned_on i.id))) x)
 
 -- changes that were made
 
-pub made_done : {X : Type 0} (S : Sense X) (cs : List Change) (answer : Arrow Filter Shown) (o : Option Code) (x mid new : X) (r : Result Shown Fail)
+pub made_done : {X : Type 0} (S : Sense X) (cs : List Change) (answer : Arrow Filter Shown) (o : Option Code) (x mid new : X) (r : Result Shown CallError)
     → Made S cs x (Ok o) mid → o ≡ None → Answers S Any answer mid r new → Answers S (Suiting cs) (changing cs answer) x r new
 made_done S cs answer o x mid new r m e k = made_on S cs answer x mid new r (subst (λ (p : Option Code). Made S cs x (Ok p) mid) e m) k
 
@@ -133,12 +133,12 @@ numbered S id n x reads = reads_on S Any (number_at id) show_number x x n (Ok (s
 
 -- plans that look at more than the row
 
-pub reverts_by : {X : Type 0} (S : Sense X) (x : X) (id : ItemId) (used : Bool) (r : Result (List Change) Fail) → Reads S Any (in_use id) x used
+pub reverts_by : {X : Type 0} (S : Sense X) (x : X) (id : ItemId) (used : Bool) (r : Result (List Change) CallError) → Reads S Any (in_use id) x used
     → (s : Filter) (i : Item) → S.means x s → IsAt id i s → IsPlan r (plan_revert i used) → IsPlan r (revert_plan i s)
 reverts_by S x id used r reads s i h at p =
     subst (λ (k : ItemId). IsPlan r (plan_revert i (in_use k s))) (own_id s.volume.items id i at) (subst (λ (b : Bool). IsPlan r (plan_revert i b)) (reads.is s h (record {})) p)
 
-pub updates_by : {X : Type 0} (S : Sense X) (x : X) (id : ItemId) (used : Bool) (policy : Policy) (identity : List ℕ) (size : Option ℕ) (r : Result (List Change) Fail)
+pub updates_by : {X : Type 0} (S : Sense X) (x : X) (id : ItemId) (used : Bool) (policy : Policy) (identity : List ℕ) (size : Option ℕ) (r : Result (List Change) CallError)
     → Reads S Any (in_use id) x used → Reads S Any policy_of x policy
     → (s : Filter) (i : Item) → S.means x s → IsAt id i s → IsPlan r (plan_update policy i identity size used) → IsPlan r (update_plan identity size i s)
 updates_by S x id used policy identity size r reads pol s i h at p =

@@ -10,7 +10,7 @@ use Rattle.cf_base.specs.declared.changes.Change.{Change}
 use Rattle.cf_base.specs.declared.changes.Change.TheVariants as change
 use Rattle.cf_base.specs.declared.codes.Code.{Code}
 use Rattle.cf_base.specs.declared.codes.Code.TheVariants as code
-use Rattle.cf_base.specs.declared.codes.Fail.{Fail}
+use Rattle.cf_base.specs.declared.codes.CallError.{CallError}
 use Rattle.cf_base.specs.declared.ids.ItemId.{ItemId}
 use Rattle.cf_base.specs.declared.ids.Key.{Key}
 use Rattle.cf_base.specs.declared.operations.Operation.TheVariants as operation
@@ -119,7 +119,7 @@ places_read S x cs room e reads = record {
 }
 
 -- with so many numbers, or without
-room_by : {X : Type 0} (S : Sense X) (P Q : Filter → Type 0) (n : ℕ) (b c : Bool) (f : Arrow Filter Shown) (x new : X) (r : Result Shown Fail) → Reads S Any (λ s. no_places s.volume n) x b → b ≡ c
+room_by : {X : Type 0} (S : Sense X) (P Q : Filter → Type 0) (n : ℕ) (b c : Bool) (f : Arrow Filter Shown) (x new : X) (r : Result Shown CallError) → Reads S Any (λ s. no_places s.volume n) x b → b ≡ c
     → ((s : Filter) → S.means x s → P s → no_places s.volume n ≡ c → (t : Filter) × Does (unless shown.Refused (first_of ((c, code.Exhausted) ∷ [])) f s) r t × S.moved x new s t × After S x r new t)
     → Answers S P (checked (consent_room n) f) x r new
 room_by S P Q n b c f x new r reads e go = record {
@@ -132,7 +132,7 @@ pub full_off : {X : Type 0} (S : Sense X) (P : Filter → Type 0) (n : ℕ) (b :
     → Answers S P (checked (consent_room n) f) x (Ok (shown.Refused code.Exhausted)) x
 full_off S P n b f x reads e = room_by S P P n b true f x x (Ok (shown.Refused code.Exhausted)) reads e (λ s h p q. (s, (refl, refl), S.stays x s h, h))
 
-pub full_on : {X : Type 0} (S : Sense X) (P Q : Filter → Type 0) (n : ℕ) (b : Bool) (f : Arrow Filter Shown) (x new : X) (r : Result Shown Fail) → Reads S Any (λ s. no_places s.volume n) x b → b ≡ false
+pub full_on : {X : Type 0} (S : Sense X) (P Q : Filter → Type 0) (n : ℕ) (b : Bool) (f : Arrow Filter Shown) (x new : X) (r : Result Shown CallError) → Reads S Any (λ s. no_places s.volume n) x b → b ≡ false
     → ((s : Filter) → S.means x s → P s → no_places s.volume n ≡ false → Q s) → Answers S Q f x r new → Answers S P (checked (consent_room n) f) x r new
 full_on S P Q n b f x new r reads e w a = room_by S P Q n b false f x new r reads e (λ s h p q. a.leads s h (w s h p q))
 
@@ -164,25 +164,25 @@ may_leave ask a s good near h left =
 
 -- the change, and then the end of the wait
 
-pub left_then : {X : Type 0} (S : Sense X) (x mid new : X) (ask : Ask) (cs : List Change) (u : Unit {0}) (r : Result Shown Fail) → cs ≡ change.Emptied ask.item ask.span.start ask.span.len ∷ [] → Answers S (λ s. ReadyAll cs s) (changes cs) x (Ok u) mid
+pub left_then : {X : Type 0} (S : Sense X) (x mid new : X) (ask : Ask) (cs : List Change) (u : Unit {0}) (r : Result Shown CallError) → cs ≡ change.Emptied ask.item ask.span.start ask.span.len ∷ [] → Answers S (λ s. ReadyAll cs s) (changes cs) x (Ok u) mid
     → Answers S Any (finished_now ask cause.Emptied) mid r new → Answers S (MayLeave ask) (emptied_then ask) x r new
 left_then S x mid new ask cs u r e a b =
     let c : Change = change.Emptied ask.item ask.span.start ask.span.len in
     then_on S (MayLeave ask) Any (changes (c ∷ [])) (finished_now ask cause.Emptied) x mid new u r (λ s t p q. record {}) (subst (λ (l : List Change). Answers S (λ s. ReadyAll l s) (changes l) x (Ok u) mid) e a) b
 
-pub left_not : {X : Type 0} (S : Sense X) (x new : X) (ask : Ask) (cs : List Change) (f : Fail) → cs ≡ change.Emptied ask.item ask.span.start ask.span.len ∷ [] → Answers S (λ s. ReadyAll cs s) (changes cs) x (Err f) new
+pub left_not : {X : Type 0} (S : Sense X) (x new : X) (ask : Ask) (cs : List Change) (f : CallError) → cs ≡ change.Emptied ask.item ask.span.start ask.span.len ∷ [] → Answers S (λ s. ReadyAll cs s) (changes cs) x (Err f) new
     → Answers S (MayLeave ask) (emptied_then ask) x (Err f) new
 left_not S x new ask cs f e a =
     let c : Change = change.Emptied ask.item ask.span.start ask.span.len in
     stops_first S (MayLeave ask) (changes (c ∷ [])) (finished_now ask cause.Emptied) x new f (subst (λ (l : List Change). Answers S (λ s. ReadyAll l s) (changes l) x (Err f) new) e a)
 
-pub consent_on : {X : Type 0} (S : Sense X) (ask : Ask) (b : Bool) (x new : X) (r : Result Shown Fail) → (ask.span.start ≤ 549755813888) × (ask.span.len ≤ 549755813888) → Reads S Any lacks_place x b → b ≡ false
+pub consent_on : {X : Type 0} (S : Sense X) (ask : Ask) (b : Bool) (x new : X) (r : Result Shown CallError) → (ask.span.start ≤ 549755813888) × (ask.span.len ≤ 549755813888) → Reads S Any lacks_place x b → b ≡ false
     → Answers S (MayLeave ask) (emptied_then ask) x r new → (a : Live) → Answers S (MayConsent ask a) (consented ask) x r new
 consent_on S ask b x new r near reads e ans a = full_on S (MayConsent ask a) (MayLeave ask) 1 b (emptied_then ask) x new r reads e (λ s h p q. may_leave ask a s (S.good x s h) near p q) ans
 
 -- the operation
 
-pub declined : {X : Type 0} (S : Sense X) (ask : Ask) (x new : X) (r : Result Shown Fail) → Answers S Any (finished_by ask (cause.Failed 1)) x r new
+pub declined : {X : Type 0} (S : Sense X) (ask : Ask) (x new : X) (r : Result Shown CallError) → Answers S Any (finished_by ask (cause.Failed 1)) x r new
     → (key : Key) (f : Book → Book) (records : List AuxRecord) (a : Live) → Answers S (IsLiveFor f (operation.AckDehydrate key false) ask records a) (ack_dehydrate a false) x r new
 declined S ask x new r ans key f records a = record {
   leads = λ s m p.
@@ -191,13 +191,13 @@ declined S ask x new r ans key f records a = record {
 }
 
 -- by the verdict
-verdict_by : {X : Type 0} (S : Sense X) (ask : Ask) (o : Option Code) (x new : X) (r : Result Shown Fail) (s : Filter) (key : Key) (f : Book → Book) (records : List AuxRecord) (a : Live)
+verdict_by : {X : Type 0} (S : Sense X) (ask : Ask) (o : Option Code) (x new : X) (r : Result Shown CallError) (s : Filter) (key : Key) (f : Book → Book) (records : List AuxRecord) (a : Live)
     → ((b : Live) → Reads S (IsConsent ask b) (second_verdict b) x o) → S.means x s → IsLiveFor f (operation.AckDehydrate key true) ask records a s → (second_verdict a s ≡ o → Goes S x r new s (consent_by a true o s)) → Goes S x r new s (ack_dehydrate a true s)
 verdict_by S ask o x new r s key f records a reads m p go =
     let e : o ≡ second_verdict a s = (reads a).is s m (consent_of f key true ask records a s p) in
     subst (λ (q : Option Code). Goes S x r new s (consent_by a true q s)) e (go (sym e))
 
-pub verdict_off : {X : Type 0} (S : Sense X) (ask : Ask) (o : Option Code) (c : Code) (x new : X) (r : Result Shown Fail) → ((b : Live) → Reads S (IsConsent ask b) (second_verdict b) x o) → o ≡ Some c → Answers S Any (finished_by ask (cause.Refused c)) x r new
+pub verdict_off : {X : Type 0} (S : Sense X) (ask : Ask) (o : Option Code) (c : Code) (x new : X) (r : Result Shown CallError) → ((b : Live) → Reads S (IsConsent ask b) (second_verdict b) x o) → o ≡ Some c → Answers S Any (finished_by ask (cause.Refused c)) x r new
     → (key : Key) (f : Book → Book) (records : List AuxRecord) (a : Live) → Answers S (IsLiveFor f (operation.AckDehydrate key true) ask records a) (ack_dehydrate a true) x r new
 verdict_off S ask o c x new r reads e ans key f records a = record {
   leads = λ s m p.
@@ -206,7 +206,7 @@ verdict_off S ask o c x new r reads e ans key f records a = record {
       verdict_by S ask (Some c) x new r s key f records a (subst (λ (q : Option Code). (b : Live) → Reads S (IsConsent ask b) (second_verdict b) x q) e reads) m p (λ q. g);
 }
 
-pub verdict_on : {X : Type 0} (S : Sense X) (ask : Ask) (o : Option Code) (x new : X) (r : Result Shown Fail) → ((b : Live) → Reads S (IsConsent ask b) (second_verdict b) x o) → o ≡ None → ((a : Live) → Answers S (MayConsent ask a) (consented ask) x r new)
+pub verdict_on : {X : Type 0} (S : Sense X) (ask : Ask) (o : Option Code) (x new : X) (r : Result Shown CallError) → ((b : Live) → Reads S (IsConsent ask b) (second_verdict b) x o) → o ≡ None → ((a : Live) → Answers S (MayConsent ask a) (consented ask) x r new)
     → (key : Key) (f : Book → Book) (records : List AuxRecord) (a : Live) → Answers S (IsLiveFor f (operation.AckDehydrate key true) ask records a) (ack_dehydrate a true) x r new
 verdict_on S ask o x new r reads e ans key f records a = record {
   leads = λ s m p.
@@ -215,7 +215,7 @@ verdict_on S ask o x new r reads e ans key f records a = record {
       past S x new r s (tests_on (operation.AckDehydrate key true) a s) (consent_room 1 s) (emptied_then a.ask) p.passes (subst (λ (q : Ask). Goes S x r new s (consented q s)) (sym p.same) z));
 }
 
-pub by_answer : {X : Type 0} (S : Sense X) (ask : Ask) (good c : Bool) (x new : X) (r : Result Shown Fail) → good ≡ c
+pub by_answer : {X : Type 0} (S : Sense X) (ask : Ask) (good c : Bool) (x new : X) (r : Result Shown CallError) → good ≡ c
     → ((key : Key) (f : Book → Book) (records : List AuxRecord) (a : Live) → Answers S (IsLiveFor f (operation.AckDehydrate key c) ask records a) (ack_dehydrate a c) x r new)
     → (key : Key) (f : Book → Book) (records : List AuxRecord) (a : Live) → Answers S (IsLiveFor f (operation.AckDehydrate key good) ask records a) (ack_dehydrate a good) x r new
 by_answer S ask good c x new r e ans key f records a = subst (λ (b : Bool). Answers S (IsLiveFor f (operation.AckDehydrate key b) ask records a) (ack_dehydrate a b) x r new) (sym e) (ans key f records a)

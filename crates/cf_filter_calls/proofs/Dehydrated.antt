@@ -13,7 +13,7 @@ use Rattle.cf_base.specs.declared.changes.Change.{Change}
 use Rattle.cf_base.specs.declared.changes.Change.TheVariants as change
 use Rattle.cf_base.specs.declared.codes.Code.{Code}
 use Rattle.cf_base.specs.declared.codes.Code.TheVariants as code
-use Rattle.cf_base.specs.declared.codes.Fail.{Fail}
+use Rattle.cf_base.specs.declared.codes.CallError.{CallError}
 use Rattle.cf_base.specs.declared.ids.ItemId.{ItemId}
 use Rattle.cf_base.specs.declared.policies.Policy.{Policy}
 use Rattle.cf_base.specs.declared.spans.Span.{Span}
@@ -186,7 +186,7 @@ none_left S id start len b x reads e i = record {
 abbrev empty_at : ℕ → ℕ → ItemId → Bool → Arrow Filter Shown
 empty_at start len k c = unless shown.Refused (first_of ((c, code.Exhausted) ∷ [])) (then_do (one_change (change.Emptied k start len)) emptied)
 
-left_on : {X : Type 0} (S : Sense X) (id : ItemId) (start len : ℕ) (b : Bool) (x new : X) (r : Result Shown Fail) → Reads S Any lacks_place x b → b ≡ false
+left_on : {X : Type 0} (S : Sense X) (id : ItemId) (start len : ℕ) (b : Bool) (x new : X) (r : Result Shown CallError) → Reads S Any lacks_place x b → b ≡ false
     → Answers S (Ready (change.Emptied id start len)) (then_do (one_change (change.Emptied id start len)) emptied) x r new → (i : Item) → Answers S (MayEmpty id start len i) (empty_now i start len) x r new
 left_on S id start len b x new r reads e a i = record {
   leads = λ s h at.
@@ -201,14 +201,14 @@ emptied_on S id start len b u c x new reads e q a = left_on S id start len b x n
     (then_on S (Ready (change.Emptied id start len)) Any (one_change (change.Emptied id start len)) emptied x new new u (Ok (shown.Ended end.Emptied)) (λ s t p q. record {})
     (subst (λ (k : Change). Answers S (Ready k) (one_change k) x (Ok u) new) q a) (returned S Any (shown.Ended end.Emptied) new))
 
-pub emptied_not : {X : Type 0} (S : Sense X) (id : ItemId) (start len : ℕ) (b : Bool) (f : Fail) (c : Change) (x new : X) → Reads S Any lacks_place x b → b ≡ false → c ≡ change.Emptied id start len
+pub emptied_not : {X : Type 0} (S : Sense X) (id : ItemId) (start len : ℕ) (b : Bool) (f : CallError) (c : Change) (x new : X) → Reads S Any lacks_place x b → b ≡ false → c ≡ change.Emptied id start len
     → Answers S (Ready c) (one_change c) x (Err f) new → (i : Item) → Answers S (MayEmpty id start len i) (empty_now i start len) x (Err f) new
 emptied_not S id start len b f c x new reads e q a = left_on S id start len b x new (Err f) reads e
     (stops_first S (Ready (change.Emptied id start len)) (one_change (change.Emptied id start len)) emptied x new f (subst (λ (k : Change). Answers S (Ready k) (one_change k) x (Err f) new) q a))
 
 -- consent
 
-pub asked_for : {X : Type 0} (S : Sense X) (id : ItemId) (start len : ℕ) (x new : X) (r : Result Shown Fail) → Answers S Any (begin_limited (plain_need wait_kind.Dehydrate id (span_of start len))) x r new
+pub asked_for : {X : Type 0} (S : Sense X) (id : ItemId) (start len : ℕ) (x new : X) (r : Result Shown CallError) → Answers S Any (begin_limited (plain_need wait_kind.Dehydrate id (span_of start len))) x r new
     → (i : Item) → Answers S (MayEmpty id start len i) (ask_consent (consent_need i start len)) x r new
 asked_for S id start len x new r a i = record {
   leads = λ s h at.
@@ -216,7 +216,7 @@ asked_for S id start len x new r a i = record {
       (a.leads s h (record {}));
 }
 
-pub linked_on : {X : Type 0} (S : Sense X) (id : ItemId) (start len : ℕ) (b c : Bool) (x new : X) (r : Result Shown Fail) → Reads S Any is_connected x b → b ≡ c
+pub linked_on : {X : Type 0} (S : Sense X) (id : ItemId) (start len : ℕ) (b c : Bool) (x new : X) (r : Result Shown CallError) → Reads S Any is_connected x b → b ≡ c
     → ((i : Item) → Answers S (MayEmpty id start len i) (with_provider i start len c) x r new) → (i : Item) → Answers S (MayEmpty id start len i) (held_emptied i start len) x r new
 linked_on S id start len b c x new r reads e a i = record {
   leads = λ s h at. subst (λ (d : Bool). (t : Filter) × Does (with_provider i start len d s) r t × S.moved x new s t × After S x r new t) (sym e ∙ reads.is s h (record {})) ((a i).leads s h at);
@@ -224,7 +224,7 @@ linked_on S id start len b c x new r reads e a i = record {
 
 -- a range
 
-range_by : {X : Type 0} (S : Sense X) (id : ItemId) (start len : ℕ) (i : Item) (b c : Bool) (x new : X) (r : Result Shown Fail) → ReadsAt S id (holds_from start) x b → b ≡ c
+range_by : {X : Type 0} (S : Sense X) (id : ItemId) (start len : ℕ) (i : Item) (b c : Bool) (x new : X) (r : Result Shown CallError) → ReadsAt S id (holds_from start) x b → b ≡ c
     → Answers S (MayEmpty id start len i) (choose c (held_emptied i start len) emptied) x r new → Answers S (MayEmpty id start len i) (empty_range i start len) x r new
 range_by S id start len i b c x new r reads e a = record {
   leads = λ s h at.
@@ -232,7 +232,7 @@ range_by S id start len i b c x new r reads e a = record {
       subst (λ (d : Bool). (t : Filter) × Does (choose d (held_emptied i start len) emptied s) r t × S.moved x new s t × After S x r new t) q (a.leads s h at);
 }
 
-pub range_on : {X : Type 0} (S : Sense X) (id : ItemId) (start len : ℕ) (b : Bool) (x new : X) (r : Result Shown Fail) → ReadsAt S id (holds_from start) x b → b ≡ true
+pub range_on : {X : Type 0} (S : Sense X) (id : ItemId) (start len : ℕ) (b : Bool) (x new : X) (r : Result Shown CallError) → ReadsAt S id (holds_from start) x b → b ≡ true
     → ((i : Item) → Answers S (MayEmpty id start len i) (held_emptied i start len) x r new) → (i : Item) → Answers S (MayEmpty id start len i) (empty_range i start len) x r new
 range_on S id start len b x new r reads e a i = range_by S id start len i b true x new r reads e (a i)
 
@@ -254,7 +254,7 @@ item_off S id start len used o c x uses reads e i = record {
       (s, (refl, refl), S.stays x s h, h);
 }
 
-pub item_on : {X : Type 0} (S : Sense X) (id : ItemId) (start len size less : ℕ) (used : Bool) (o : Option Code) (x new : X) (r : Result Shown Fail) → Reads S Any (in_use id) x used → Reads S Any (size_at id) x size
+pub item_on : {X : Type 0} (S : Sense X) (id : ItemId) (start len size less : ℕ) (used : Bool) (o : Option Code) (x new : X) (r : Result Shown CallError) → Reads S Any (in_use id) x used → Reads S Any (size_at id) x size
     → Reads S Any (verdict_there id start len used) x o → o ≡ None → less ≡ min len (size - start)
     → ((i : Item) → Answers S (MayEmpty id start less i) (empty_range i start less) x r new) → (i : Item) → Answers S (IsAt id i) (dehydrate_item i start len) x r new
 item_on S id start len size less used o x new r uses sizes reads e q a i = record {
@@ -269,7 +269,7 @@ item_on S id start len size less used o x new r uses sizes reads e q a i = recor
       ((a i).leads s h (record { there = at; synced = clear.synced; end = omega (arith, same, clear.inside, clear.end) })));
 }
 
-pub whole_on : {X : Type 0} (S : Sense X) (id : ItemId) (size : ℕ) (x new : X) (r : Result Shown Fail) → Reads S Any (size_at id) x size
+pub whole_on : {X : Type 0} (S : Sense X) (id : ItemId) (size : ℕ) (x new : X) (r : Result Shown CallError) → Reads S Any (size_at id) x size
     → ((i : Item) → Answers S (IsAt id i) (dehydrate_item i 0 size) x r new) → (i : Item) → Answers S (IsAt id i) (dehydrate_range None i) x r new
 whole_on S id size x new r sizes a i = record {
   leads = λ s h at.

@@ -9,7 +9,7 @@ use Rattle.cf_base.specs.declared.answers.Shown.TheVariants as shown
 use Rattle.cf_base.specs.declared.changes.Change.{Change}
 use Rattle.cf_base.specs.declared.codes.Code.{Code}
 use Rattle.cf_base.specs.declared.codes.Code.TheVariants as code
-use Rattle.cf_base.specs.declared.codes.Fail.{Fail}
+use Rattle.cf_base.specs.declared.codes.CallError.{CallError}
 use Rattle.cf_base.specs.declared.ids.ItemId.{ItemId}
 use Rattle.cf_base.specs.declared.ids.Key.{Key}
 use Rattle.cf_base.specs.declared.ids.Usn.{Usn}
@@ -95,7 +95,7 @@ listed_off S x ask cs records room why c reads e q f = record {
       subst (λ (o : Option Code). Goes S x (Ok (shown.Refused c)) x s (unless shown.Refused o (entered_by f ask cs) s)) z (s, (refl, refl), S.stays x s h, h);
 }
 
-pub listed_on : {X : Type 0} (S : Sense X) (x new : X) (ask : Ask) (cs : List Change) (records : List AuxRecord) (room : Room) (why : Option Code) (r : Result Shown Fail) → ((f : Book → Book) → Reads S (Listing f ask.item cs records) (room_listed f cs) x room)
+pub listed_on : {X : Type 0} (S : Sense X) (x new : X) (ask : Ask) (cs : List Change) (records : List AuxRecord) (room : Room) (why : Option Code) (r : Result Shown CallError) → ((f : Book → Book) → Reads S (Listing f ask.item cs records) (room_listed f cs) x room)
     → why ≡ first_of ((room.no_table, code.TableFull) ∷ (room.no_numbers, code.Exhausted) ∷ []) → why ≡ None → ((f : Book → Book) → Answers S (ReadyListed f ask.item cs records) (entered_by f ask cs) x r new)
     → (f : Book → Book) → Answers S (Listing f ask.item cs records) (put_listed f ask cs) x r new
 listed_on S x new ask cs records room why r reads e q ans f = record {
@@ -186,7 +186,7 @@ list_suits f dir list records n s good h =
           beside = h.listable.beside;
         }
 
-pub entered_as : {X : Type 0} (S : Sense X) (x new : X) (ask : Ask) (list : List NewItem) (records : List AuxRecord) (t : Table) (policy : Policy) (first : ItemId) (n : Usn) (cs ds : List Change) (r : Result Shown Fail)
+pub entered_as : {X : Type 0} (S : Sense X) (x new : X) (ask : Ask) (list : List NewItem) (records : List AuxRecord) (t : Table) (policy : Policy) (first : ItemId) (n : Usn) (cs ds : List Change) (r : Result Shown CallError)
     → HasRows S x t → Reads S Any policy_of x policy → first ≡ t.next → Reads S HasPlace number_next x n → cs ≡ listed_changes policy ask.item first.0 n list → ds ≡ cs
     → ((f : Book → Book) → Answers S (Listing f ask.item ds records) (put_listed f ask ds) x r new) → (f : Book → Book) → Answers S (IsOpenList f ask.item list records) (entered f ask list) x r new
 entered_as S x new ask list records t policy first n cs ds r rows pol is_next number is same ans f = record {
@@ -203,11 +203,11 @@ or_no : (b : Bool) → (b || false) ≡ b
 or_no true = refl
 or_no false = refl
 
-pub list_bad : {X : Type 0} (S : Sense X) (x new : X) (ask : Ask) (list : List NewItem) (good : Bool) (records : List AuxRecord) (r : Result Shown Fail) → good ≡ false → Answers S Any (finished_by ask (cause.Failed 1)) x r new
+pub list_bad : {X : Type 0} (S : Sense X) (x new : X) (ask : Ask) (list : List NewItem) (good : Bool) (records : List AuxRecord) (r : Result Shown CallError) → good ≡ false → Answers S Any (finished_by ask (cause.Failed 1)) x r new
     → (f : Book → Book) → Answers S (IsListable f ask.item list records) (listed_by f ask list good) x r new
 list_bad S x new ask list good records r e a f = record { leads = λ s h p. subst (λ (b : Bool). Goes S x r new s (listed_by f ask list b s)) (sym e) (a.leads s h (record {})) }
 
-pub list_good : {X : Type 0} (S : Sense X) (x new : X) (ask : Ask) (list : List NewItem) (good unlisted : Bool) (records : List AuxRecord) (r : Result Shown Fail) → good ≡ true → Reads S Any (is_unlisted_at ask.item) x unlisted → unlisted ≡ true
+pub list_good : {X : Type 0} (S : Sense X) (x new : X) (ask : Ask) (list : List NewItem) (good unlisted : Bool) (records : List AuxRecord) (r : Result Shown CallError) → good ≡ true → Reads S Any (is_unlisted_at ask.item) x unlisted → unlisted ≡ true
     → ((f : Book → Book) → Answers S (IsOpenList f ask.item list records) (entered f ask list) x r new) → (f : Book → Book) → Answers S (IsListable f ask.item list records) (listed_by f ask list good) x r new
 list_good S x new ask list good unlisted records r e reads u a f = record {
   leads = λ s h p. subst (λ (b : Bool). Goes S x r new s (listed_by f ask list b s)) (sym e) ((a f).leads s h (record { listable = p; unlisted = sym (reads.is s h (record {})) ∙ u }));
@@ -225,7 +225,7 @@ first_some (t ∷ ts) rest c e = one t.0 e (first_some ts rest c) where
 abbrev entries_end : (Book → Book) → Live → List NewItem → Bool → Filter → Arrow Filter Shown
 entries_end f a list good s = then_do (changes_with f (changes_listed a list good s)) (then_do (settle a.ask.item (entries_deed a good)) done)
 
-end_by : {X : Type 0} (S : Sense X) (x new : X) (r : Result Shown Fail) (f : Book → Book) (a : Live) (list : List NewItem) (good : Bool) (s : Filter) → Goes S x r new s (listed_by f a.ask list good s)
+end_by : {X : Type 0} (S : Sense X) (x new : X) (r : Result Shown CallError) (f : Book → Book) (a : Live) (list : List NewItem) (good : Bool) (s : Filter) → Goes S x r new s (listed_by f a.ask list good s)
     → Goes S x r new s (unless shown.Refused (first_of (listed_tests f (changes_listed a list good s) s)) (entries_end f a list good s) s)
 end_by S x new r f a list true s g = g
 end_by S x new r f a list false s g =
@@ -241,7 +241,7 @@ listed_first S x ask list good records why c reads e key f a = record {
       (subst (λ (o : Option Code). Goes S x (Ok (shown.Refused c)) x s (unless shown.Refused o (entries_end f a list good s) s)) (sym first) (s, (refl, refl), S.stays x s h, h));
 }
 
-pub listed_then : {X : Type 0} (S : Sense X) (x new : X) (ask : Ask) (list : List NewItem) (good : Bool) (records : List AuxRecord) (why : Option Code) (r : Result Shown Fail) → Reads S Any (list_refusal ask.item list) x why → why ≡ None
+pub listed_then : {X : Type 0} (S : Sense X) (x new : X) (ask : Ask) (list : List NewItem) (good : Bool) (records : List AuxRecord) (why : Option Code) (r : Result Shown CallError) → Reads S Any (list_refusal ask.item list) x why → why ≡ None
     → ((f : Book → Book) → Answers S (IsListable f ask.item list records) (listed_by f ask list good) x r new)
     → (key : Key) (f : Book → Book) (a : Live) → Answers S (IsLiveFor f (operation.Entries key list good) ask records a) (entries f a list good) x r new
 listed_then S x new ask list good records why r reads e ans key f a = record {

@@ -6,7 +6,7 @@ use Rattle.cf_base.specs.declared.answers.Shown.{Shown}
 use Rattle.cf_base.specs.declared.answers.Shown.TheVariants as shown
 use Rattle.cf_base.specs.declared.codes.Code.{Code}
 use Rattle.cf_base.specs.declared.codes.Code.TheVariants as code
-use Rattle.cf_base.specs.declared.codes.Fail.{Fail}
+use Rattle.cf_base.specs.declared.codes.CallError.{CallError}
 use Rattle.cf_base.specs.declared.ids.Key.{Key}
 use Rattle.cf_base.specs.declared.operations.Operation.{Operation}
 use Rattle.cf_base.specs.declared.waits.Ask.{Ask}
@@ -66,13 +66,13 @@ refused_op S x op records o c reads e f = record {
       subst (λ (t : Tree Filter Shown). Goes S x (Ok (shown.Refused c)) x s t) (sym (refused_first f op (live_at (key_of op) s) s c why)) (s, (refl, refl), S.stays x s h, h);
 }
 
-pub free_op : {X : Type 0} (S : Sense X) (x new : X) (op : Operation) (records : List AuxRecord) (o : Option Code) (r : Result Shown Fail) → Reads S Any (op_refusal op) x o → o ≡ None
+pub free_op : {X : Type 0} (S : Sense X) (x new : X) (op : Operation) (records : List AuxRecord) (o : Option Code) (r : Result Shown CallError) → Reads S Any (op_refusal op) x o → o ≡ None
     → ((f : Book → Book) → Answers S (IsFree f op records) (execute_with f op) x r new) → (f : Book → Book) → Answers S (Keeps f records) (execute_with f op) x r new
 free_op S x new op records o r reads e a f = record { leads = λ s h p. (a f).leads s h (record { passes = sym (reads.is s h (record {})) ∙ e; beside = p }) }
 
 -- on its ask
 
-pub live_op : {X : Type 0} (S : Sense X) (x new : X) (op : Operation) (key : Key) (records : List AuxRecord) (o : Option Ask) (ask : Ask) (r : Result Shown Fail) → key ≡ key_of op → Reads S Any (ask_at key) x o → o ≡ Some ask
+pub live_op : {X : Type 0} (S : Sense X) (x new : X) (op : Operation) (key : Key) (records : List AuxRecord) (o : Option Ask) (ask : Ask) (r : Result Shown CallError) → key ≡ key_of op → Reads S Any (ask_at key) x o → o ≡ Some ask
     → ((f : Book → Book) (a : Live) → Answers S (IsLiveFor f op ask records a) (on_ask f op a) x r new) → (f : Book → Book) → Answers S (IsFree f op records) (execute_with f op) x r new
 live_op {X} S x new op key records o ask r same asks e ans f = record { leads = λ s h p. one (live_at (key_of op) s) s refl h p (sym e ∙ asks.is s h (record {}) ∙ ap (λ (k : Key). ask_at k s) same) } where
   one : (q : Option Live) (s : Filter) → live_at (key_of op) s ≡ q → S.means x s → IsFree f op records s → Some ask ≡ option_map (λ (a : Live). a.ask) q → Goes S x r new s (on_live f op q s)
@@ -92,13 +92,13 @@ dead_op S x op key records o same asks e f = record {
 }
 
 -- by its kind
-pub on_kind : {X : Type 0} (S : Sense X) (x new : X) (op kind : Operation) (ask : Ask) (records : List AuxRecord) (r : Result Shown Fail) → op ≡ kind
+pub on_kind : {X : Type 0} (S : Sense X) (x new : X) (op kind : Operation) (ask : Ask) (records : List AuxRecord) (r : Result Shown CallError) → op ≡ kind
     → ((f : Book → Book) (a : Live) → Answers S (IsLiveFor f kind ask records a) (on_ask f kind a) x r new) → (f : Book → Book) (a : Live) → Answers S (IsLiveFor f op ask records a) (on_ask f op a) x r new
 on_kind S x new op kind ask records r e ans f a = subst (λ (o : Operation). Answers S (IsLiveFor f o ask records a) (on_ask f o a) x r new) (sym e) (ans f a)
 
 -- without records
 
-pub plainly : {X : Type 0} (S : Sense X) (x new : X) (op : Operation) (records : List AuxRecord) (r : Result Shown Fail) → records ≡ []
+pub plainly : {X : Type 0} (S : Sense X) (x new : X) (op : Operation) (records : List AuxRecord) (r : Result Shown CallError) → records ≡ []
     → ((f : Book → Book) → Answers S (Keeps f records) (execute_with f op) x r new) → Answers S Any (execute op) x r new
 plainly S x new op records r e a =
     let b = subst (λ (l : List AuxRecord). (f : Book → Book) → Answers S (Keeps f l) (execute_with f op) x r new) e a in

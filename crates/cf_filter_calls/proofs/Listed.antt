@@ -13,8 +13,8 @@ use Rattle.cf_base.specs.declared.changes.Change.{Change}
 use Rattle.cf_base.specs.declared.changes.Change.TheVariants as change
 use Rattle.cf_base.specs.declared.codes.Code.{Code}
 use Rattle.cf_base.specs.declared.codes.Code.TheVariants as code
-use Rattle.cf_base.specs.declared.codes.Fail.{Fail}
-use Rattle.cf_base.specs.declared.codes.Fail.TheVariants as fail
+use Rattle.cf_base.specs.declared.codes.CallError.{CallError}
+use Rattle.cf_base.specs.declared.codes.CallError.TheVariants as fail
 use Rattle.cf_base.specs.declared.ids.ItemId.{ItemId}
 use Rattle.cf_base.specs.declared.ids.Usn.{Usn}
 use Rattle.cf_base.specs.declared.operations.NewItem.{NewItem}
@@ -34,16 +34,16 @@ use Rattle.cf_filter_steps.proofs.Laws.{drop_at}
 
 -- a name, or none
 
-pub failed_as : (r : Result (Unit {0}) Fail) (f : Fail) (P : Fail → Type 0) → IsErrAnd r (λ y. y ≡ f) → P f → IfErr r P
-failed_as r f P is h = let p = err_from_is_err_and r is in subst (λ (q : Result (Unit {0}) Fail). IfErr q P) (sym (p.1 ∙ ap (λ (z : Fail). Err z) p.2)) h
+pub failed_as : (r : Result (Unit {0}) CallError) (f : CallError) (P : CallError → Type 0) → IsErrAnd r (λ y. y ≡ f) → P f → IfErr r P
+failed_as r f P is h = let p = err_from_is_err_and r is in subst (λ (q : Result (Unit {0}) CallError). IfErr q P) (sym (p.1 ∙ ap (λ (z : CallError). Err z) p.2)) h
 
-pub named_ok : (r : Result (Unit {0}) Fail) (u : Unit {0}) (b : Bool) → IfOk r (λ v. b ≡ true) → r ≡ Ok u → true ≡ b
-named_ok r u b h e = sym (subst (λ (q : Result (Unit {0}) Fail). IfOk q (λ v. b ≡ true)) e h)
+pub named_ok : (r : Result (Unit {0}) CallError) (u : Unit {0}) (b : Bool) → IfOk r (λ v. b ≡ true) → r ≡ Ok u → true ≡ b
+named_ok r u b h e = sym (subst (λ (q : Result (Unit {0}) CallError). IfOk q (λ v. b ≡ true)) e h)
 
-pub named_not : (r : Result (Unit {0}) Fail) (f : Fail) (c : Code) (b : Bool) → IfErr r (λ x. (x ≡ fail.Memory) ⊎ ((x ≡ fail.No code.BadPath) × (b ≡ false))) → r ≡ Err f → f ≡ fail.No c → false ≡ b
-named_not r f c b h e q = one (subst (λ (y : Fail). (y ≡ fail.Memory) ⊎ ((y ≡ fail.No code.BadPath) × (b ≡ false))) q (subst (λ (y : Result (Unit {0}) Fail). IfErr y (λ x. (x ≡ fail.Memory) ⊎ ((x ≡ fail.No code.BadPath) × (b ≡ false)))) e h)) where
-  one : (fail.No c ≡ fail.Memory) ⊎ ((fail.No c ≡ fail.No code.BadPath) × (b ≡ false)) → false ≡ b
-  one (inl z) = let w : ◌≡◌ {A = Fail} (fail.No c) fail.Memory = z in absurd cc
+pub named_not : (r : Result (Unit {0}) CallError) (f : CallError) (c : Code) (b : Bool) → IfErr r (λ x. (x ≡ fail.OutOfMemory) ⊎ ((x ≡ fail.No code.BadPath) × (b ≡ false))) → r ≡ Err f → f ≡ fail.No c → false ≡ b
+named_not r f c b h e q = one (subst (λ (y : CallError). (y ≡ fail.OutOfMemory) ⊎ ((y ≡ fail.No code.BadPath) × (b ≡ false))) q (subst (λ (y : Result (Unit {0}) CallError). IfErr y (λ x. (x ≡ fail.OutOfMemory) ⊎ ((x ≡ fail.No code.BadPath) × (b ≡ false)))) e h)) where
+  one : (fail.No c ≡ fail.OutOfMemory) ⊎ ((fail.No c ≡ fail.No code.BadPath) × (b ≡ false)) → false ≡ b
+  one (inl z) = let w : ◌≡◌ {A = CallError} (fail.No c) fail.OutOfMemory = z in absurd cc
   one (inr z) = sym z.1
 
 -- as the definitions number them

@@ -8,8 +8,8 @@ use Rattle.cf_base.specs.declared.changes.Change.{Change}
 use Rattle.cf_base.specs.declared.changes.Change.TheVariants as change
 use Rattle.cf_base.specs.declared.codes.Code.{Code}
 use Rattle.cf_base.specs.declared.codes.Code.TheVariants as code
-use Rattle.cf_base.specs.declared.codes.Fail.{Fail}
-use Rattle.cf_base.specs.declared.codes.Fail.TheVariants as fail
+use Rattle.cf_base.specs.declared.codes.CallError.{CallError}
+use Rattle.cf_base.specs.declared.codes.CallError.TheVariants as fail
 use Rattle.cf_base.specs.declared.ids.ItemId.{ItemId}
 use Rattle.cf_base.specs.declared.ids.Usn.{Usn}
 use Rattle.cf_base.specs.declared.policies.Mode.{Mode}
@@ -46,7 +46,7 @@ use Rattle.cf_filter_calls.proofs.Suited.{first_none, not_false}
 
 -- an item that is not the root
 
-pub below_on : {X : Type 0} (S : Sense X) (v : Filter → Result Item Code) (f : Item → Arrow Filter Shown) (q : Result ItemId Code) (id : ItemId) (x new : X) (r : Result Shown Fail)
+pub below_on : {X : Type 0} (S : Sense X) (v : Filter → Result Item Code) (f : Item → Arrow Filter Shown) (q : Result ItemId Code) (id : ItemId) (x new : X) (r : Result Shown CallError)
     → FindsBelow S v x q → q ≡ Ok id → ((i : Item) → Answers S (IsBelowAt id i) (f i) x r new) → Answers S Any (reading v (on_ok f)) x r new
 below_on S v f q id x new r finds e a = record {
   leads = λ s h p.
@@ -117,7 +117,7 @@ may_go id i s good at e =
       left = f.0;
     }
 
-pub delete_on : {X : Type 0} (S : Sense X) (id : ItemId) (m : Mode) (why : Option Code) (x new : X) (r : Result Shown Fail)
+pub delete_on : {X : Type 0} (S : Sense X) (id : ItemId) (m : Mode) (why : Option Code) (x new : X) (r : Result Shown CallError)
     → ((i : Item) → Reads S (IsAt id i) (delete_refusal i) x why) → why ≡ None → ((i : Item) → Answers S (MayGo id i) (removed_next m i) x r new) → (i : Item) → Answers S (IsBelowAt id i) (delete_item m i) x r new
 delete_on S id m why x new r reads e a i = record {
   leads = λ s h p.
@@ -140,7 +140,7 @@ removed_on S id m b u x new e a i =
     let z = then_on S (MayGo id i) Any (removed (is_replay m) i) (ret shown.Done) x new new u (Ok shown.Done) (λ s t p q. record {}) k (returned S Any shown.Done new) in
     record { leads = λ s h p. z.leads s h p }
 
-pub removed_not : {X : Type 0} (S : Sense X) (id : ItemId) (m : Mode) (b : Bool) (e : Fail) (x new : X)
+pub removed_not : {X : Type 0} (S : Sense X) (id : ItemId) (m : Mode) (b : Bool) (e : CallError) (x new : X)
     → b ≡ is_replay m → ((i : Item) → Answers S (MayGo id i) (removed b i) x (Err e) new) → (i : Item) → Answers S (MayGo id i) (removed_next m i) x (Err e) new
 removed_not S id m b e x new q a i =
     let k = subst (λ (d : Bool). Answers S (MayGo id i) (removed d i) x (Err e) new) q (a i) in
@@ -149,27 +149,27 @@ removed_not S id m b e x new q a i =
 
 -- a place to move to
 
-pub place_on : {X : Type 0} (S : Sense X) (id : ItemId) (to : List ℕ) (q : Result (ItemId × List ℕ) Fail) (pl : ItemId × List ℕ) (x new : X) (r : Result Shown Fail)
+pub place_on : {X : Type 0} (S : Sense X) (id : ItemId) (to : List ℕ) (q : Result (ItemId × List ℕ) CallError) (pl : ItemId × List ℕ) (x new : X) (r : Result Shown CallError)
     → FindsPlace S (place_at to) x q → q ≡ Ok pl → ((i : Item) (p : Place) → Answers S (IsMoveAt id pl.0 pl.1 i p) (rename_to i p) x r new) → (i : Item) → Answers S (IsBelowAt id i) (rename_item to i) x r new
 place_on S id to q pl x new r finds e a i = record {
   leads = λ s h at.
-      let z = subst (λ (y : Result (ItemId × List ℕ) Fail). FoundPlace s.volume.items y (place_at to s)) e (finds.is s h) in
+      let z = subst (λ (y : Result (ItemId × List ℕ) CallError). FoundPlace s.volume.items y (place_at to s)) e (finds.is s h) in
       subst (λ (y : Result Place Code). (t : Filter) × Does (on_ok (rename_to i) y s) r t × S.moved x new s t × After S x r new t) (sym z.1)
       ((a i (record { parent = z.0; name = pl.1 })).leads s h (record { item = at; named = refl; place = z.2 }));
 }
 
-pub place_off : {X : Type 0} (S : Sense X) (id : ItemId) (to : List ℕ) (q : Result (ItemId × List ℕ) Fail) (e : Fail) (x : X) (r : Result Shown Fail)
+pub place_off : {X : Type 0} (S : Sense X) (id : ItemId) (to : List ℕ) (q : Result (ItemId × List ℕ) CallError) (e : CallError) (x : X) (r : Result Shown CallError)
     → FindsPlace S (place_at to) x q → q ≡ Err e → r ≡ refusal_of e → (i : Item) → Answers S (IsBelowAt id i) (rename_item to i) x r x
-place_off S id to q (fail.No c) x r finds e d i = subst (λ (y : Result Shown Fail). Answers S (IsBelowAt id i) (rename_item to i) x y x) (sym d) (record {
+place_off S id to q (fail.No c) x r finds e d i = subst (λ (y : Result Shown CallError). Answers S (IsBelowAt id i) (rename_item to i) x y x) (sym d) (record {
   leads = λ s h at.
       subst (λ (y : Result Place Code). (t : Filter) × Does {A = Shown} (on_ok (rename_to i) y s) (Ok (shown.Refused c)) t × S.moved x x s t × After {A = Shown} S x (Ok (shown.Refused c)) x t)
-      (sym (subst (λ (y : Result (ItemId × List ℕ) Fail). FoundPlace s.volume.items y (place_at to s)) e (finds.is s h))) (s, (refl, refl), S.stays x s h, h);
+      (sym (subst (λ (y : Result (ItemId × List ℕ) CallError). FoundPlace s.volume.items y (place_at to s)) e (finds.is s h))) (s, (refl, refl), S.stays x s h, h);
 })
-place_off S id to q fail.Memory x r finds e d i = subst (λ (y : Result Shown Fail). Answers S (IsBelowAt id i) (rename_item to i) x y x) (sym d) (no_memory S (IsBelowAt id i) (rename_item to i) x)
+place_off S id to q fail.OutOfMemory x r finds e d i = subst (λ (y : Result Shown CallError). Answers S (IsBelowAt id i) (rename_item to i) x y x) (sym d) (no_memory S (IsBelowAt id i) (rename_item to i) x)
 
 -- whether an item may move there
 
-abbrev Checks : List Item → ItemId → ItemId → List ℕ → Result (Unit {0}) Fail → Type 0
+abbrev Checks : List Item → ItemId → ItemId → List ℕ → Result (Unit {0}) CallError → Type 0
 Checks items id parent name r = IsChecked r (move_refused items id parent name)
 
 -- the ids that the definitions cite
@@ -179,28 +179,28 @@ same_move id parent name i p s h = (own_id s.volume.items id i h.item.there, own
 refused_is : (id parent : ItemId) (name : List ℕ) (i : Item) (p : Place) (s : Filter) → IsMoveAt id parent name i p s → move_refused s.volume.items id parent name ≡ move_refused s.volume.items i.id p.parent.id p.name
 refused_is id parent name i p s h = let e = same_move id parent name i p s h in λ j. move_refused s.volume.items (e.0 j) (e.1 j) (e.2 j)
 
-pub move_on : {X : Type 0} (S : Sense X) (id parent : ItemId) (name : List ℕ) (t : Table) (q : Result (Unit {0}) Fail) (u : Unit {0}) (x new : X) (r : Result Shown Fail)
+pub move_on : {X : Type 0} (S : Sense X) (id parent : ItemId) (name : List ℕ) (t : Table) (q : Result (Unit {0}) CallError) (u : Unit {0}) (x new : X) (r : Result Shown CallError)
     → HasRows S x t → ((items : List Item) (i : Item) → MeansAll t.rows items → IsTree items → item_of items id ≡ Some i → Checks items id parent name q) → q ≡ Ok u
     → ((i : Item) (p : Place) → Answers S (MayMoveAt id parent name i p) (changing (move_of i p) done) x r new) → (i : Item) (p : Place) → Answers S (IsMoveAt id parent name i p) (rename_to i p) x r new
 move_on S id parent name t q u x new r rows check e a i p = record {
   leads = λ s h at.
       let free : move_refused s.volume.items id parent name ≡ None =
-      subst (λ (y : Result (Unit {0}) Fail). Checks s.volume.items id parent name y) e (check s.volume.items i (rows.rows s h) (S.good x s h).volume.tree at.item.there) in
+      subst (λ (y : Result (Unit {0}) CallError). Checks s.volume.items id parent name y) e (check s.volume.items i (rows.rows s h) (S.good x s h).volume.tree at.item.there) in
       subst (λ (o : Option Code). (t : Filter) × Does (unless shown.Refused (first_of (test_of o)) (changing (move_of i p) done) s) r t × S.moved x new s t × After S x r new t) (sym free ∙ refused_is id parent name i p s at)
       ((a i p).leads s h (record { move = at; free = free }));
 }
 
-pub move_off : {X : Type 0} (S : Sense X) (id parent : ItemId) (name : List ℕ) (t : Table) (q : Result (Unit {0}) Fail) (e : Fail) (x : X) (r : Result Shown Fail)
+pub move_off : {X : Type 0} (S : Sense X) (id parent : ItemId) (name : List ℕ) (t : Table) (q : Result (Unit {0}) CallError) (e : CallError) (x : X) (r : Result Shown CallError)
     → HasRows S x t → ((items : List Item) (i : Item) → MeansAll t.rows items → IsTree items → item_of items id ≡ Some i → Checks items id parent name q) → q ≡ Err e → r ≡ refusal_of e
     → (i : Item) (p : Place) → Answers S (IsMoveAt id parent name i p) (rename_to i p) x r x
-move_off S id parent name t q (fail.No c) x r rows check e d i p = subst (λ (y : Result Shown Fail). Answers S (IsMoveAt id parent name i p) (rename_to i p) x y x) (sym d) (record {
+move_off S id parent name t q (fail.No c) x r rows check e d i p = subst (λ (y : Result Shown CallError). Answers S (IsMoveAt id parent name i p) (rename_to i p) x y x) (sym d) (record {
   leads = λ s h at.
       let bad : move_refused s.volume.items id parent name ≡ Some c =
-      subst (λ (y : Result (Unit {0}) Fail). Checks s.volume.items id parent name y) e (check s.volume.items i (rows.rows s h) (S.good x s h).volume.tree at.item.there) in
+      subst (λ (y : Result (Unit {0}) CallError). Checks s.volume.items id parent name y) e (check s.volume.items i (rows.rows s h) (S.good x s h).volume.tree at.item.there) in
       subst (λ (o : Option Code). (t : Filter) × Does {A = Shown} (unless shown.Refused (first_of (test_of o)) (changing (move_of i p) done) s) (Ok (shown.Refused c)) t × S.moved x x s t × After {A = Shown} S x (Ok (shown.Refused c)) x t)
       (sym bad ∙ refused_is id parent name i p s at) (s, (refl, refl), S.stays x s h, h);
 })
-move_off S id parent name t q fail.Memory x r rows check e d i p = subst (λ (y : Result Shown Fail). Answers S (IsMoveAt id parent name i p) (rename_to i p) x y x) (sym d) (no_memory S (IsMoveAt id parent name i p) (rename_to i p) x)
+move_off S id parent name t q fail.OutOfMemory x r rows check e d i p = subst (λ (y : Result Shown CallError). Answers S (IsMoveAt id parent name i p) (rename_to i p) x y x) (sym d) (no_memory S (IsMoveAt id parent name i p) (rename_to i p) x)
 
 -- the change
 
@@ -220,7 +220,7 @@ move_suits id parent name i p s h = record {
   open_at : (o : Option Item) → o ≡ Some p.parent → MatchOption o ⊥ IsOpenDirectory
   open_at o e = subst (λ (q : Option Item). MatchOption q ⊥ IsOpenDirectory) (sym e) h.move.place.opened
 
-pub moved_by : {X : Type 0} (S : Sense X) (id parent : ItemId) (name : List ℕ) (b : Bool) (cs : List Change) (x new : X) (r : Result Shown Fail)
+pub moved_by : {X : Type 0} (S : Sense X) (id parent : ItemId) (name : List ℕ) (b : Bool) (cs : List Change) (x new : X) (r : Result Shown CallError)
     → ReadsAt S id (stands_in parent name) x b → cs ≡ when (not b) (change.Move id parent name ∷ []) → Answers S (Suiting cs) (changing cs done) x r new
     → (i : Item) (p : Place) → Answers S (MayMoveAt id parent name i p) (changing (move_of i p) done) x r new
 moved_by S id parent name b cs x new r reads e a i p = record {

@@ -11,8 +11,8 @@ use Rattle.cf_base.specs.declared.changes.Change.{Change}
 use Rattle.cf_base.specs.declared.changes.Change.TheVariants as change
 use Rattle.cf_base.specs.declared.codes.Code.{Code}
 use Rattle.cf_base.specs.declared.codes.Code.TheVariants as code
-use Rattle.cf_base.specs.declared.codes.Fail.{Fail}
-use Rattle.cf_base.specs.declared.codes.Fail.TheVariants as fail
+use Rattle.cf_base.specs.declared.codes.CallError.{CallError}
+use Rattle.cf_base.specs.declared.codes.CallError.TheVariants as fail
 use Rattle.cf_base.specs.declared.ids.ItemId.{ItemId}
 use Rattle.cf_base.specs.declared.ids.Usn.{Usn}
 use Rattle.cf_base.specs.declared.items.Kind.{Kind}
@@ -161,7 +161,7 @@ same_at S x t pol next parent name p s rows reads h e place = record {
   same_name = sym place.named;
 }
 
-pub created : {X : Type 0} (S : Sense X) (x new : X) (t : Table) (pol : Policy) (next : Usn) (parent : ItemId) (name : List ℕ) (w : Creation) (cs ds : List Change) (item : ItemId) (r : Result Shown Fail)
+pub created : {X : Type 0} (S : Sense X) (x new : X) (t : Table) (pol : Policy) (next : Usn) (parent : ItemId) (name : List ℕ) (w : Creation) (cs ds : List Change) (item : ItemId) (r : Result Shown CallError)
     → HasRows S x t → Reads S Any policy_of x pol → item ≡ t.next → ((items : List Item) → MeansAll t.rows items → plan_create items pol t.next next parent name w ≡ Ok cs)
     → ds ≡ cs → Answers S (Suiting ds) (show_item ds item) x r new → (p : Place) → Answers S (IsNumberedPlaceAt next parent name p) (create_at w p) x r new
 created S x new t pol next parent name w cs ds item r rows reads is_next found one_list b p = record {
@@ -213,13 +213,13 @@ created_not S x t pol next parent name w c rows reads found p = record {
   any_number items pol item m n parent name (NewPlaceholderDir identity mark) c e = no_plan ((is_some (child_of items parent name), code.Exists) ∷ (nat_lt 4096 (length identity), code.IdentityTooLong) ∷ [])
       (make_and_mark item m parent name (placeholder_dir pol) 0 identity mark) (make_and_mark item n parent name (placeholder_dir pol) 0 identity mark) c e
 
-pub created_err : {X : Type 0} (S : Sense X) (x : X) (t : Table) (pol : Policy) (next : Usn) (parent : ItemId) (name : List ℕ) (w : Creation) (f : Fail) (r : Result Shown Fail)
+pub created_err : {X : Type 0} (S : Sense X) (x : X) (t : Table) (pol : Policy) (next : Usn) (parent : ItemId) (name : List ℕ) (w : Creation) (f : CallError) (r : Result Shown CallError)
     → HasRows S x t → Reads S Any policy_of x pol → ((items : List Item) → MeansAll t.rows items → IsPlan (Err f) (plan_create items pol t.next next parent name w)) → r ≡ refusal_of f
     → (p : Place) → Answers S (IsPlaceAt parent name p) (create_at w p) x r x
 created_err S x t pol next parent name w (fail.No c) r rows reads plan q p =
-    subst (λ (y : Result Shown Fail). Answers S (IsPlaceAt parent name p) (create_at w p) x y x) (sym q) (created_not S x t pol next parent name w c rows reads plan p)
-created_err S x t pol next parent name w fail.Memory r rows reads plan q p =
-    subst (λ (y : Result Shown Fail). Answers S (IsPlaceAt parent name p) (create_at w p) x y x) (sym q) (no_memory S (IsPlaceAt parent name p) (create_at w p) x)
+    subst (λ (y : Result Shown CallError). Answers S (IsPlaceAt parent name p) (create_at w p) x y x) (sym q) (created_not S x t pol next parent name w c rows reads plan p)
+created_err S x t pol next parent name w fail.OutOfMemory r rows reads plan q p =
+    subst (λ (y : Result Shown CallError). Answers S (IsPlaceAt parent name p) (create_at w p) x y x) (sym q) (no_memory S (IsPlaceAt parent name p) (create_at w p) x)
 
 -- where no number is left
 
@@ -259,7 +259,7 @@ created_none S x t pol next parent name w cs rows reads plan p = record {
 
 -- the place and the number
 
-pub at_number : {X : Type 0} (S : Sense X) (parent : ItemId) (name : List ℕ) (w : Creation) (x new : X) (q : Option Usn) (next : Usn) (r : Result Shown Fail)
+pub at_number : {X : Type 0} (S : Sense X) (parent : ItemId) (name : List ℕ) (w : Creation) (x new : X) (q : Option Usn) (next : Usn) (r : Result Shown CallError)
     → Reads S Any next_place x q → q ≡ Some next → ((p : Place) → Answers S (IsNumberedPlaceAt next parent name p) (create_at w p) x r new) → (p : Place) → Answers S (IsPlaceAt parent name p) (create_at w p) x r new
 at_number S parent name w x new q next r reads e a p = record {
   leads = λ s h at.
@@ -270,40 +270,40 @@ at_number S parent name w x new q next r reads e a p = record {
   one true n q k = absurd (no_some next k)
   one false n q k = let y : next ≡ n = cc in (y, q)
 
-pub at_last : {X : Type 0} (S : Sense X) (parent : ItemId) (name : List ℕ) (w : Creation) (x new : X) (q : Option Usn) (r : Result Shown Fail)
+pub at_last : {X : Type 0} (S : Sense X) (parent : ItemId) (name : List ℕ) (w : Creation) (x new : X) (q : Option Usn) (r : Result Shown CallError)
     → Reads S Any next_place x q → q ≡ None → ((p : Place) → Answers S (IsLastPlaceAt parent name p) (create_at w p) x r new) → (p : Place) → Answers S (IsPlaceAt parent name p) (create_at w p) x r new
 at_last S parent name w x new q r reads e a p = record { leads = λ s h at. (a p).leads s h (record { place = at; none = one (no_places s.volume 1) (next_number s.volume) (sym e ∙ reads.is s h (record {})) }) } where
   one : (b : Bool) (n : Usn) → None ≡ cond b None (Some n) → b ≡ true
   one true n h = refl
   one false n h = absurd (no_some n (sym h))
 
-pub placed_on : {X : Type 0} (S : Sense X) (v : Filter → Result Place Code) (f : Place → Arrow Filter Shown) (q : Result (ItemId × List ℕ) Fail) (k : ItemId × List ℕ) (x new : X) (r : Result Shown Fail)
+pub placed_on : {X : Type 0} (S : Sense X) (v : Filter → Result Place Code) (f : Place → Arrow Filter Shown) (q : Result (ItemId × List ℕ) CallError) (k : ItemId × List ℕ) (x new : X) (r : Result Shown CallError)
     → FindsPlace S v x q → q ≡ Ok k → ((p : Place) → Answers S (IsPlaceAt k.0 k.1 p) (f p) x r new) → Answers S Any (reading v (on_ok f)) x r new
 placed_on S v f q k x new r finds e a = record {
   leads = λ s h z.
-      let found : FoundPlace s.volume.items (Ok k) (v s) = subst (λ (y : Result (ItemId × List ℕ) Fail). FoundPlace s.volume.items y (v s)) e (finds.is s h) in
+      let found : FoundPlace s.volume.items (Ok k) (v s) = subst (λ (y : Result (ItemId × List ℕ) CallError). FoundPlace s.volume.items y (v s)) e (finds.is s h) in
       subst (λ (y : Result Place Code). (t : Filter) × Does (on_ok f y s) r t × S.moved x new s t × After S x r new t) (sym found.1)
       ((a (record { parent = found.0; name = k.1 })).leads s h (record { named = refl; place = found.2 }));
 }
 
-pub placed_off : {X : Type 0} (S : Sense X) (v : Filter → Result Place Code) (f : Place → Arrow Filter Shown) (q : Result (ItemId × List ℕ) Fail) (h : Fail) (x : X) (r : Result Shown Fail)
+pub placed_off : {X : Type 0} (S : Sense X) (v : Filter → Result Place Code) (f : Place → Arrow Filter Shown) (q : Result (ItemId × List ℕ) CallError) (h : CallError) (x : X) (r : Result Shown CallError)
     → FindsPlace S v x q → q ≡ Err h → r ≡ refusal_of h → Answers S Any (reading v (on_ok f)) x r x
-placed_off S v f q (fail.No c) x r finds e d = subst (λ (y : Result Shown Fail). Answers S Any (reading v (on_ok f)) x y x) (sym d) (record {
+placed_off S v f q (fail.No c) x r finds e d = subst (λ (y : Result Shown CallError). Answers S Any (reading v (on_ok f)) x y x) (sym d) (record {
   leads = λ s i z.
-      let found : FoundPlace s.volume.items (Err (fail.No c)) (v s) = subst (λ (y : Result (ItemId × List ℕ) Fail). FoundPlace s.volume.items y (v s)) e (finds.is s i) in
+      let found : FoundPlace s.volume.items (Err (fail.No c)) (v s) = subst (λ (y : Result (ItemId × List ℕ) CallError). FoundPlace s.volume.items y (v s)) e (finds.is s i) in
       subst (λ (y : Result Place Code). (t : Filter) × Does {A = Shown} (on_ok f y s) (Ok (shown.Refused c)) t × S.moved x x s t × After {A = Shown} S x (Ok (shown.Refused c)) x t) (sym found) (s, (refl, refl), S.stays x s i, i);
 })
-placed_off S v f q fail.Memory x r finds e d = subst (λ (y : Result Shown Fail). Answers S Any (reading v (on_ok f)) x y x) (sym d) (no_memory S Any (reading v (on_ok f)) x)
+placed_off S v f q fail.OutOfMemory x r finds e d = subst (λ (y : Result Shown CallError). Answers S Any (reading v (on_ok f)) x y x) (sym d) (no_memory S Any (reading v (on_ok f)) x)
 
-pub created_last : {X : Type 0} (S : Sense X) (x : X) (t : Table) (pol : Policy) (next : Usn) (parent : ItemId) (name : List ℕ) (w : Creation) (q : Result (List Change) Fail) (r : Result Shown Fail)
+pub created_last : {X : Type 0} (S : Sense X) (x : X) (t : Table) (pol : Policy) (next : Usn) (parent : ItemId) (name : List ℕ) (w : Creation) (q : Result (List Change) CallError) (r : Result Shown CallError)
     → HasRows S x t → Reads S Any policy_of x pol → ((items : List Item) → MeansAll t.rows items → IsPlan q (plan_create items pol t.next next parent name w)) → r ≡ unnumbered q
     → (p : Place) → Answers S (IsLastPlaceAt parent name p) (create_at w p) x r x
 created_last S x t pol next parent name w (Ok cs) r rows reads found e p =
-    subst (λ (y : Result Shown Fail). Answers S (IsLastPlaceAt parent name p) (create_at w p) x y x) (sym e) (created_none S x t pol next parent name w cs rows reads found p)
+    subst (λ (y : Result Shown CallError). Answers S (IsLastPlaceAt parent name p) (create_at w p) x y x) (sym e) (created_none S x t pol next parent name w cs rows reads found p)
 created_last S x t pol next parent name w (Err f) r rows reads found e p =
     weaker S (IsPlaceAt parent name p) (IsLastPlaceAt parent name p) (create_at w p) x x r (λ s z. z.place) (created_err S x t pol next parent name w f r rows reads found e p)
 
-pub created_refused : {X : Type 0} (S : Sense X) (x : X) (t : Table) (pol : Policy) (next : Usn) (parent : ItemId) (name : List ℕ) (w : Creation) (f : Fail) (r : Result Shown Fail)
+pub created_refused : {X : Type 0} (S : Sense X) (x : X) (t : Table) (pol : Policy) (next : Usn) (parent : ItemId) (name : List ℕ) (w : Creation) (f : CallError) (r : Result Shown CallError)
     → HasRows S x t → Reads S Any policy_of x pol → ((items : List Item) → MeansAll t.rows items → IsPlan (Err f) (plan_create items pol t.next next parent name w)) → r ≡ refusal_of f
     → (p : Place) → Answers S (IsNumberedPlaceAt next parent name p) (create_at w p) x r x
 created_refused S x t pol next parent name w f r rows reads found e p =

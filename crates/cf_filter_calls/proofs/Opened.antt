@@ -5,7 +5,7 @@ use Rattle.cf_base.specs.declared.answers.Shown.{Shown}
 use Rattle.cf_base.specs.declared.answers.Shown.TheVariants as shown
 use Rattle.cf_base.specs.declared.codes.Code.{Code}
 use Rattle.cf_base.specs.declared.codes.Code.TheVariants as code
-use Rattle.cf_base.specs.declared.codes.Fail.{Fail}
+use Rattle.cf_base.specs.declared.codes.CallError.{CallError}
 use Rattle.cf_base.specs.declared.ids.Handle.{Handle}
 use Rattle.cf_base.specs.declared.ids.ItemId.{ItemId}
 use Rattle.cf_base.specs.declared.ids.WaitId.{WaitId}
@@ -36,13 +36,13 @@ opened S id h x new a reads =
     reads_on S (MayOpenFile id) next_handle (opened_as id) x new h (Ok (shown.Opened h)) (record { is = λ s i p. reads.is s i p.room })
     (then_on S (MayOpenFile id) Any (noted (with_handle id)) (ret (shown.Opened h)) x new new unit (Ok (shown.Opened h)) (λ s t p q. record {}) a (returned S Any (shown.Opened h) new))
 
-pub opened_not : {X : Type 0} (S : Sense X) (id : ItemId) (e : Fail) (x new : X) → Answers S (MayOpenFile id) (noted (with_handle id)) x (Err e) new → Answers S (MayOpenFile id) (opened_next id) x (Err e) new
+pub opened_not : {X : Type 0} (S : Sense X) (id : ItemId) (e : CallError) (x new : X) → Answers S (MayOpenFile id) (noted (with_handle id)) x (Err e) new → Answers S (MayOpenFile id) (opened_next id) x (Err e) new
 opened_not S id e x new a = record {
   leads = λ s i p.
       let z = a.leads s i p in (z.0, trees.fails_first (noted (with_handle id) s) (λ _ t. ret (shown.Opened (next_handle s)) t) e z.0 z.1, z.2, after_err (Unit {0}) Shown S e x new z.0 z.3);
 }
 
-pub open_on : {X : Type 0} (S : Sense X) (id : ItemId) (o : Option Code) (x new : X) (r : Result Shown Fail)
+pub open_on : {X : Type 0} (S : Sense X) (id : ItemId) (o : Option Code) (x new : X) (r : Result Shown CallError)
     → Reads S Any open_refusal x o → o ≡ None → Answers S (MayOpenFile id) (opened_next id) x r new → Answers S (IsFile id) (open_by id) x r new
 open_on S id o x new r reads e a = record {
   leads = λ s i p.
@@ -60,7 +60,7 @@ open_off S id o k x reads e = record {
 
 -- the end of a handle
 
-pub ended : {X : Type 0} (S : Sense X) (h : Handle) (item : ItemId) (b last : Bool) (x new : X) (r : Result (Unit {0}) Fail)
+pub ended : {X : Type 0} (S : Sense X) (h : Handle) (item : ItemId) (b last : Bool) (x new : X) (r : Result (Unit {0}) CallError)
     → Reads S Any (has_handle item) x b → last ≡ not b → Answers S Any (end_handle h item last) x r new → Answers S Any (reading (is_last item) (end_handle h item)) x r new
 ended S h item b last x new r reads e a = reads_on S Any (is_last item) (end_handle h item) x new last r (record { is = λ s i p. e ∙ ap not (reads.is s i p) }) a
 
@@ -70,7 +70,7 @@ closed S h item x mid new u a b =
     any_on S (noted (without_handle h)) (then_do (reading (is_last item) (end_handle h item)) done) x mid new unit (Ok shown.Done) a
     (any_on S (reading (is_last item) (end_handle h item)) done mid new new u (Ok shown.Done) b (returned S Any shown.Done new))
 
-pub closed_not : {X : Type 0} (S : Sense X) (h : Handle) (item : ItemId) (x mid new : X) (e : Fail)
+pub closed_not : {X : Type 0} (S : Sense X) (h : Handle) (item : ItemId) (x mid new : X) (e : CallError)
     → Answers S Any (noted (without_handle h)) x (Ok unit) mid → Answers S Any (reading (is_last item) (end_handle h item)) mid (Err e) new → Answers S Any (close_item h item) x (Err e) new
 closed_not S h item x mid new e a b =
     any_on S (noted (without_handle h)) (then_do (reading (is_last item) (end_handle h item)) done) x mid new unit (Err e) a
@@ -78,7 +78,7 @@ closed_not S h item x mid new e a b =
 
 -- a wait
 
-pub cancel_at : {X : Type 0} (S : Sense X) (id : WaitId) (w : Waiting) (o : Option ItemId) (item : ItemId) (x new : X) (r : Result Shown Fail)
+pub cancel_at : {X : Type 0} (S : Sense X) (id : WaitId) (w : Waiting) (o : Option ItemId) (item : ItemId) (x new : X) (r : Result Shown CallError)
     → Reads S Any waiting_of x w → o ≡ option_map (λ (v : Wait). v.item) (wait_of w.waits id) → o ≡ Some item → Answers S Any (cancel_item id item) x r new → Answers S Any (cancel id) x r new
 cancel_at {X} S id w o item x new r reads q e a = record {
   leads = λ s i p. one (waiting_by id s) (sym e ∙ q ∙ ap (λ (v : Waiting). option_map (λ (u : Wait). u.item) (wait_of v.waits id)) (reads.is s i p)) s i;
@@ -110,10 +110,10 @@ down S x mid new u a b =
     any_on S (noted (with_link false)) (then_do (reading all_down tell) done) x mid new unit (Ok shown.Done) a
     (any_on S (reading all_down tell) done mid new new u (Ok shown.Done) b (returned S Any shown.Done new))
 
-pub down_not : {X : Type 0} (S : Sense X) (x mid new : X) (e : Fail)
+pub down_not : {X : Type 0} (S : Sense X) (x mid new : X) (e : CallError)
     → Answers S Any (noted (with_link false)) x (Ok unit) mid → Answers S Any (reading all_down tell) mid (Err e) new → Answers S Any (connect false) x (Err e) new
 down_not S x mid new e a b =
     any_on S (noted (with_link false)) (then_do (reading all_down tell) done) x mid new unit (Err e) a (stops_first S Any (reading all_down tell) done mid new e b)
 
-pub linked : {X : Type 0} (S : Sense X) (on b : Bool) (x new : X) (r : Result Shown Fail) → on ≡ b → Answers S Any (connect b) x r new → Answers S Any (connect on) x r new
+pub linked : {X : Type 0} (S : Sense X) (on b : Bool) (x new : X) (r : Result Shown CallError) → on ≡ b → Answers S Any (connect b) x r new → Answers S Any (connect on) x r new
 linked S on b x new r e a = subst (λ (c : Bool). Answers S Any (connect c) x r new) (sym e) a

@@ -9,7 +9,7 @@ use Rattle.cf_base.specs.declared.changes.Change.{Change}
 use Rattle.cf_base.specs.declared.changes.Change.TheVariants as change
 use Rattle.cf_base.specs.declared.codes.Code.{Code}
 use Rattle.cf_base.specs.declared.codes.Code.TheVariants as code
-use Rattle.cf_base.specs.declared.codes.Fail.{Fail}
+use Rattle.cf_base.specs.declared.codes.CallError.{CallError}
 use Rattle.cf_base.specs.declared.ids.ItemId.{ItemId}
 use Rattle.cf_filter_calls.specs.Operating.{IsOperable, IsOperableBy, MayChangeBy, change_code, change_refusal, changed_then, operated}
 use Rattle.cf_model.specs.Arrows.{then_do, unless}
@@ -106,7 +106,7 @@ step_next c item d p s a t e h = one (may_need_room c s.volume) h where
   one true (inl h) = subst (λ (u : Filter). IsStepNow item d p u) (sym h.1) e
   one true (inr h) = subst (λ (u : Filter). IsStepNow item d p u) (sym h.1) e
 
-then_settle : {X : Type 0} (S : Sense X) (x mid new : X) (c : Change) (p : Planned) (u : Unit {0}) (item : ItemId) (d : Deed) (r : Result Shown Fail)
+then_settle : {X : Type 0} (S : Sense X) (x mid new : X) (c : Change) (p : Planned) (u : Unit {0}) (item : ItemId) (d : Deed) (r : Result Shown CallError)
     → Answers S (Ready c) (one_change c) x (Ok u) mid → Answers S (IsStepNow item d p) (then_do (settle item d) done) mid r new → Answers S (MayChangeBy item c d p) (changed_then item c d) x r new
 then_settle S x mid new c p u item d r a b =
     then_on S (MayChangeBy item c d p) (IsStepNow item d p) (one_change c) (then_do (settle item d) done) x mid new u r (λ s t q e. step_next c item d p s u t q.step e)
@@ -118,12 +118,12 @@ pub changed_on : {X : Type 0} (S : Sense X) (x mid new : X) (c : Change) (p : Pl
 changed_on S x mid new c p u v a b item d = then_settle S x mid new c p u item d (Ok shown.Done) a
     (then_on S (IsStepNow item d p) Any (settle item d) done mid new new v (Ok shown.Done) (λ s t q e. record {}) (b item d) (returned S Any shown.Done new))
 
-pub changed_not : {X : Type 0} (S : Sense X) (x mid new : X) (c : Change) (p : Planned) (u : Unit {0}) (e : Fail)
+pub changed_not : {X : Type 0} (S : Sense X) (x mid new : X) (c : Change) (p : Planned) (u : Unit {0}) (e : CallError)
     → Answers S (Ready c) (one_change c) x (Ok u) mid → ((item : ItemId) (d : Deed) → Answers S (IsStepNow item d p) (settle item d) mid (Err e) new)
     → (item : ItemId) (d : Deed) → Answers S (MayChangeBy item c d p) (changed_then item c d) x (Err e) new
 changed_not S x mid new c p u e a b item d = then_settle S x mid new c p u item d (Err e) a (stops_first S (IsStepNow item d p) (settle item d) done mid new e (b item d))
 
-pub change_fails : {X : Type 0} (S : Sense X) (x new : X) (c : Change) (p : Planned) (e : Fail)
+pub change_fails : {X : Type 0} (S : Sense X) (x new : X) (c : Change) (p : Planned) (e : CallError)
     → Answers S (Ready c) (one_change c) x (Err e) new → (item : ItemId) (d : Deed) → Answers S (MayChangeBy item c d p) (changed_then item c d) x (Err e) new
 change_fails S x new c p e a item d = stops_first S (MayChangeBy item c d p) (one_change c) (then_do (settle item d) done) x new e (record { leads = λ s h q. a.leads s h q.ready })
 
@@ -137,7 +137,7 @@ operated_off S x item c d p counts why k looks reads e = record {
       (sym e ∙ (reads item d).is s h (record { operable = q; step = looks.is s h q.seen })) (s, (refl, refl), S.stays x s h, h);
 }
 
-pub operated_on : {X : Type 0} (S : Sense X) (x new : X) (item : ItemId) (c : Change) (d : Deed) (p : Planned) (counts : Bool) (why : Option Code) (r : Result Shown Fail)
+pub operated_on : {X : Type 0} (S : Sense X) (x new : X) (item : ItemId) (c : Change) (d : Deed) (p : Planned) (counts : Bool) (why : Option Code) (r : Result Shown CallError)
     → LooksAfter S item c d p x → ((i : ItemId) (e : Deed) → Reads S (IsOperableBy i c e p) (change_refusal counts i c e) x why) → why ≡ None
     → ((i : ItemId) (e : Deed) → Answers S (MayChangeBy i c e p) (changed_then i c e) x r new) → Answers S (IsOperable item c) (operated counts item c d) x r new
 operated_on S x new item c d p counts why r looks reads e a = record {

@@ -11,7 +11,7 @@ use Rattle.cf_base.specs.declared.answers.AuxRecord.{AuxRecord}
 use Rattle.cf_base.specs.declared.answers.Shown.{Shown}
 use Rattle.cf_base.specs.declared.answers.Shown.TheVariants as shown
 use Rattle.cf_base.specs.declared.codes.Code.TheVariants as code
-use Rattle.cf_base.specs.declared.codes.Fail.{Fail}
+use Rattle.cf_base.specs.declared.codes.CallError.{CallError}
 use Rattle.cf_base.specs.declared.ids.ItemId.{ItemId}
 use Rattle.cf_base.specs.declared.ids.Key.{Key}
 use Rattle.cf_base.specs.declared.operations.Operation.TheVariants as operation
@@ -130,12 +130,12 @@ retrieved_on S ask span bytes u x mid new a reads b =
     (then_on S (IsHere ask.item span) Any (one as_it_is) (then_do (settle ask.item (Leaves ask.key [])) (ret (shown.Retrieved bytes))) x mid new u (Ok (shown.Retrieved bytes)) (λ s t p q. record {}) a
     (any_on S (settle ask.item (Leaves ask.key [])) (ret (shown.Retrieved bytes)) mid new new u (Ok (shown.Retrieved bytes)) b (returned S Any (shown.Retrieved bytes) new)))
 
-pub retrieve_fails : {X : Type 0} (S : Sense X) (ask : Ask) (span : Span) (e : Fail) (x new : X) → Answers S (IsHere ask.item span) (one as_it_is) x (Err e) new → Answers S (IsHere ask.item span) (retrieved ask span) x (Err e) new
+pub retrieve_fails : {X : Type 0} (S : Sense X) (ask : Ask) (span : Span) (e : CallError) (x new : X) → Answers S (IsHere ask.item span) (one as_it_is) x (Err e) new → Answers S (IsHere ask.item span) (retrieved ask span) x (Err e) new
 retrieve_fails S ask span e x new a = record {
   leads = λ s h p. (stops_first S (IsHere ask.item span) (one as_it_is) (then_do (settle ask.item (Leaves ask.key [])) (ret (shows_there ask.item span s))) x new e a).leads s h p;
 }
 
-pub settle_fails : {X : Type 0} (S : Sense X) (ask : Ask) (span : Span) (u : Unit {0}) (e : Fail) (x mid new : X) → Answers S (IsHere ask.item span) (one as_it_is) x (Ok u) mid
+pub settle_fails : {X : Type 0} (S : Sense X) (ask : Ask) (span : Span) (u : Unit {0}) (e : CallError) (x mid new : X) → Answers S (IsHere ask.item span) (one as_it_is) x (Ok u) mid
     → Answers S Any (settle ask.item (Leaves ask.key [])) mid (Err e) new → Answers S (IsHere ask.item span) (retrieved ask span) x (Err e) new
 settle_fails S ask span u e x mid new a b = record {
   leads = λ s h p.
@@ -160,7 +160,7 @@ last_test false true b e = refl
 last_test false false b e = refl
 last_test true a b e = let z : true ≡ false = e in absurd cc
 
-retrieve_at : {X : Type 0} (S : Sense X) (ask : Ask) (span : Span) (b c : Bool) (x new : X) (r : Result Shown Fail) (s : Filter) (key : Key) (f : Book → Book) (records : List AuxRecord) (a : Live)
+retrieve_at : {X : Type 0} (S : Sense X) (ask : Ask) (span : Span) (b c : Bool) (x new : X) (r : Result Shown CallError) (s : Filter) (key : Key) (f : Book → Book) (records : List AuxRecord) (a : Live)
     → Reads S Any (holds_all ask.item span) x b → b ≡ c → S.means x s → IsLiveFor f (operation.Retrieve key span) ask records a s
     → (t : Filter) × Does (unless shown.Refused (first_of ((not c, code.OutsideAsk) ∷ [])) (reading (held_in a span) (retrieve_by a)) s) r t × S.moved x new s t × After S x r new t
     → (t : Filter) × Does (retrieve a span s) r t × S.moved x new s t × After S x r new t
@@ -181,7 +181,7 @@ retrieve_off S ask span b x reads e key f records a = record {
   leads = λ s h p. retrieve_at S ask span b false x x (Ok (shown.Refused code.OutsideAsk)) s key f records a reads e h p (s, (refl, refl), S.stays x s h, h);
 }
 
-pub retrieve_on : {X : Type 0} (S : Sense X) (ask : Ask) (span : Span) (b : Bool) (x new : X) (r : Result Shown Fail) → Reads S Any (holds_all ask.item span) x b → b ≡ true
+pub retrieve_on : {X : Type 0} (S : Sense X) (ask : Ask) (span : Span) (b : Bool) (x new : X) (r : Result Shown CallError) → Reads S Any (holds_all ask.item span) x b → b ≡ true
     → Answers S (IsHere ask.item span) (retrieved ask span) x r new
     → (key : Key) (f : Book → Book) (records : List AuxRecord) (a : Live) → Answers S (IsLiveFor f (operation.Retrieve key span) ask records a) (retrieve a span) x r new
 retrieve_on S ask span b x new r reads e ans key f records a = record {

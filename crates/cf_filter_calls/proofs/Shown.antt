@@ -3,8 +3,8 @@ use Rattle.std.proofs.Common.{◌≡◌, refl, sym, ◌∙◌, subst, ℕ, Bool,
 use Rattle.std.specs.Prelude.{Result, Ok, Err}
 use Rattle.cf_base.specs.declared.answers.Shown.{Shown}
 use Rattle.cf_base.specs.declared.answers.Shown.TheVariants as shown
-use Rattle.cf_base.specs.declared.codes.Fail.{Fail}
-use Rattle.cf_base.specs.declared.codes.Fail.TheVariants.{Memory, No}
+use Rattle.cf_base.specs.declared.codes.CallError.{CallError}
+use Rattle.cf_base.specs.declared.codes.CallError.TheVariants.{OutOfMemory, No}
 use Rattle.cf_base.specs.declared.ids.ItemId.{ItemId}
 use Rattle.cf_base.specs.declared.items.Kind.{Kind}
 use Rattle.cf_base.specs.declared.policies.Class.{Class}
@@ -31,18 +31,18 @@ use Rattle.cf_table.proofs.RunsOf.{covered_at, held_flags, length_flags, length_
 use Rattle.cf_filter_calls.proofs.Carried.{no_row, row_means}
 use Rattle.cf_filter_calls.proofs.Suited.{small_at}
 
-shown_by : {X : Type 0} (S : Sense X) (v : Shown) (r : Result Shown Fail) (x : X) (s : Filter) → S.means x s → IsShown v r → (t : Filter) × Does {A = Shown} (ret v s) r t × S.moved x x s t × After {A = Shown} S x r x t
+shown_by : {X : Type 0} (S : Sense X) (v : Shown) (r : Result Shown CallError) (x : X) (s : Filter) → S.means x s → IsShown v r → (t : Filter) × Does {A = Shown} (ret v s) r t × S.moved x x s t × After {A = Shown} S x r x t
 shown_by S v (Ok a) x s h e = (s, (e, refl), S.stays x s h, h)
 shown_by S v (Err (No c)) x s h e = absurd e
-shown_by S v (Err Memory) x s h e = (s, record {}, S.stays x s h, S.endures x s h)
+shown_by S v (Err OutOfMemory) x s h e = (s, record {}, S.stays x s h, S.endures x s h)
 
-pub shown_at : {X : Type 0} (S : Sense X) (x : X) (t : Table) (id : ItemId) (row : Row) (v : Item → Shown) (r : Result Shown Fail)
+pub shown_at : {X : Type 0} (S : Sense X) (x : X) (t : Table) (id : ItemId) (row : Row) (v : Item → Shown) (r : Result Shown CallError)
     → HasRows S x t → row_of t.rows id ≡ Some row → ((i : Item) → Means row i → IsSmall i → IsShown (v i) r) → (i : Item) → Answers S (IsAt id i) (ret (v i)) x r x
 shown_at S x t id row v r rows e h i = record {
   leads = λ s m at. shown_by S (v i) r x s m (h i (row_means t.rows s.volume.items id row i (rows.rows s m) e at) (small_at s id i (S.good x s m) at));
 }
 
-pub shown_none : {X : Type 0} (S : Sense X) (x : X) (t : Table) (id : ItemId) (v : Item → Shown) (r : Result Shown Fail) → HasRows S x t → row_of t.rows id ≡ None → (i : Item) → Answers S (IsAt id i) (ret (v i)) x r x
+pub shown_none : {X : Type 0} (S : Sense X) (x : X) (t : Table) (id : ItemId) (v : Item → Shown) (r : Result Shown CallError) → HasRows S x t → row_of t.rows id ≡ None → (i : Item) → Answers S (IsAt id i) (ret (v i)) x r x
 shown_none S x t id v r rows e i = record { leads = λ s m at. absurd (no_row t.rows s.volume.items id i (rows.rows s m) e at) }
 
 abbrev pub set_of : Class → Row → List Span
@@ -70,7 +70,7 @@ info_is row k identity i e q m =
     let same : identity ≡ i.identity = q ∙ m.identity in
     λ j. shown.Info (m.id j) (kind j) (m.bytes.size j) (m.pin j) (m.in_sync j) (m.number j) (same j)
 
-pub class_shown : (row : Row) (c d : Class) (r : Result Shown Fail) (i : Item) → c ≡ d
+pub class_shown : (row : Row) (c d : Class) (r : Result Shown CallError) (i : Item) → c ≡ d
     → ((flags : List Bool) → length flags ≤ 2 ^ 40 → ((p : ℕ) → contains (set_of d row) p ≡ passes_at (λ b. b) flags p) → IsShown (shown.Ranges (runs_of flags)) r)
     → Means row i → IsSmall i → IsShown (shown.Ranges (runs_of (class_flags c i))) r
 class_shown row c class.OnDisk r i e h m small = let k = here_shown row i m small in subst (λ (x : Class). IsShown (shown.Ranges (runs_of (class_flags x i))) r) (sym e) (h (here_flags i) k.0 k.1)

@@ -11,7 +11,7 @@ use Rattle.cf_base.specs.declared.ids.ItemId.{ItemId}
 use Rattle.cf_filter_calls.specs.Planned.{PlansSuit, by_convert, by_unmark}
 use Rattle.cf_model.specs.Dehydration.{in_use}
 use Rattle.cf_base.specs.declared.answers.Shown.{Shown}
-use Rattle.cf_base.specs.declared.codes.Fail.{Fail}
+use Rattle.cf_base.specs.declared.codes.CallError.{CallError}
 use Rattle.cf_base.specs.declared.items.Pin.{Pin}
 use Rattle.cf_base.specs.declared.items.Pin.TheVariants as pin
 use Rattle.cf_base.specs.declared.items.Reach.{Reach}
@@ -206,7 +206,7 @@ pins_suit asked items (i ∷ is) v h = one (not (same_pin (stored_pin asked item
 pub plan_pin_suits : (items : List Item) (i : Item) (asked : Pin) (reach : Reach) (v : Volume) → Every (λ j. IsStored j.pin) items → SuitsAll (plan_pin items i asked reach) v
 plan_pin_suits items i asked reach v h = pins_suit asked items (reached items i reach) v h
 
-pub pins_made : {X : Type 0} (S : Sense X) (x new : X) (t : Table) (id : ItemId) (asked : Pin) (reach : Reach) (cs ds : List Change) (r : Result Shown Fail)
+pub pins_made : {X : Type 0} (S : Sense X) (x new : X) (t : Table) (id : ItemId) (asked : Pin) (reach : Reach) (cs ds : List Change) (r : Result Shown CallError)
     → HasRows S x t → ((items : List Item) (i : Item) → MeansAll t.rows items → IsTree items → item_of items id ≡ Some i → cs ≡ plan_pin items i asked reach)
     → ds ≡ cs → Answers S (Suiting ds) (change_all ds) x r new → (i : Item) → Answers S (IsAt id i) (pin_item asked reach i) x r new
 pins_made S x new t id asked reach cs ds r rows plan same a i = record {

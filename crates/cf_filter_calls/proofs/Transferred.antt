@@ -7,7 +7,7 @@ use Rattle.cf_base.specs.declared.answers.Shown.TheVariants as shown
 use Rattle.cf_base.specs.declared.changes.Change.TheVariants as change
 use Rattle.cf_base.specs.declared.codes.Code.{Code}
 use Rattle.cf_base.specs.declared.codes.Code.TheVariants as code
-use Rattle.cf_base.specs.declared.codes.Fail.{Fail}
+use Rattle.cf_base.specs.declared.codes.CallError.{CallError}
 use Rattle.cf_base.specs.declared.ids.ItemId.{ItemId}
 use Rattle.cf_base.specs.declared.ids.Key.{Key}
 use Rattle.cf_base.specs.declared.operations.Operation.TheVariants as operation
@@ -43,11 +43,11 @@ first_past (t ∷ ts) rest e =
     ap (λ (b : Bool). cond b (Some t.1) (first_of (ts ++ rest))) a.0 ∙ first_past ts rest a.1
 
 -- what the state does by a part, with these tests before it
-abbrev pub Goes : {X : Type 0} → Sense X → X → Result Shown Fail → X → Filter → Tree Filter Shown → Type 0
+abbrev pub Goes : {X : Type 0} → Sense X → X → Result Shown CallError → X → Filter → Tree Filter Shown → Type 0
 Goes S x r new s p = (t : Filter) × Does p r t × S.moved x new s t × After S x r new t
 
 -- the same under tests that do not hold
-pub past : {X : Type 0} (S : Sense X) (x new : X) (r : Result Shown Fail) (s : Filter) (front rest : List (Bool × Code)) (f : Arrow Filter Shown) → first_of front ≡ None
+pub past : {X : Type 0} (S : Sense X) (x new : X) (r : Result Shown CallError) (s : Filter) (front rest : List (Bool × Code)) (f : Arrow Filter Shown) → first_of front ≡ None
     → Goes S x r new s (unless shown.Refused (first_of rest) f s) → Goes S x r new s (unless shown.Refused (first_of (front ++ rest)) f s)
 past S x new r s front rest f e g = subst (λ (o : Option Code). Goes S x r new s (unless shown.Refused o f s)) (sym (first_past front rest e)) g
 
@@ -56,7 +56,7 @@ past S x new r s front rest f e g = subst (λ (o : Option Code). Goes S x r new 
 fill_operable : (item : ItemId) (at : ℕ) (bytes : List ℕ) (s : Filter) → at ≤ 549755813888 → length bytes ≤ 549755813888 → IsOperable item (change.Filled item at bytes) s
 fill_operable item at bytes s h k = record { seen = (refl, h, k); suits = record { fits = λ i d j q. omega (arith, h, k); needs = record {}; plants = record {}; lasts = record {} } }
 
-pub transferred : {X : Type 0} (S : Sense X) (ask : Ask) (at : ℕ) (bytes : List ℕ) (b : Span) (x new : X) (r : Result Shown Fail) → at ≤ 549755813888 → length bytes ≤ 549755813888
+pub transferred : {X : Type 0} (S : Sense X) (ask : Ask) (at : ℕ) (bytes : List ℕ) (b : Span) (x new : X) (r : Result Shown CallError) → at ≤ 549755813888 → length bytes ≤ 549755813888
     → counting b.start b.len ≡ blocks.blocks_of at (length bytes)
     → Answers S (IsOperable ask.item (change.Filled ask.item at bytes)) (operated true ask.item (change.Filled ask.item at bytes) (Leaves ask.key (counting b.start b.len))) x r new
     → (key : Key) (f : Book → Book) (records : List AuxRecord) (a : Live) → Answers S (IsLiveFor f (operation.Transfer key at bytes) ask records a) (transfer a at bytes) x r new
@@ -71,7 +71,7 @@ transferred S ask at bytes b x new r h k e ans key f records a = record {
 
 -- no bytes
 
-refused_as : {X : Type 0} (S : Sense X) (ask : Ask) (span b : Span) (status : ℕ) (x new : X) (r : Result Shown Fail) → counting b.start b.len ≡ blocks.blocks_of span.start span.len
+refused_as : {X : Type 0} (S : Sense X) (ask : Ask) (span b : Span) (status : ℕ) (x new : X) (r : Result Shown CallError) → counting b.start b.len ≡ blocks.blocks_of span.start span.len
     → Answers S Any (then_do (settle ask.item (Fails ask.key (counting b.start b.len) (cause.Failed status))) done) x r new
     → (key : Key) (f : Book → Book) (records : List AuxRecord) (a : Live) → Answers S (IsLiveFor f (operation.Refuse key span status) ask records a) (refuse a span status) x r new
 refused_as S ask span b status x new r e ans key f records a = record {
@@ -88,14 +88,14 @@ pub refused_on : {X : Type 0} (S : Sense X) (ask : Ask) (span b : Span) (status 
 refused_on S ask span b status u x new e ans = refused_as S ask span b status x new (Ok shown.Done) e
     (any_on S (settle ask.item (Fails ask.key (counting b.start b.len) (cause.Failed status))) done x new new u (Ok shown.Done) ans (returned S Any shown.Done new))
 
-pub refused_not : {X : Type 0} (S : Sense X) (ask : Ask) (span b : Span) (status : ℕ) (h : Fail) (x new : X) → counting b.start b.len ≡ blocks.blocks_of span.start span.len
+pub refused_not : {X : Type 0} (S : Sense X) (ask : Ask) (span b : Span) (status : ℕ) (h : CallError) (x new : X) → counting b.start b.len ≡ blocks.blocks_of span.start span.len
     → Answers S Any (settle ask.item (Fails ask.key (counting b.start b.len) (cause.Failed status))) x (Err h) new
     → (key : Key) (f : Book → Book) (records : List AuxRecord) (a : Live) → Answers S (IsLiveFor f (operation.Refuse key span status) ask records a) (refuse a span status) x (Err h) new
 refused_not S ask span b status h x new e ans = refused_as S ask span b status x new (Err h) e (stops_first S Any (settle ask.item (Fails ask.key (counting b.start b.len) (cause.Failed status))) done x new h ans)
 
 -- good bytes, or not
 
-pub vouched : {X : Type 0} (S : Sense X) (ask : Ask) (span b : Span) (x new : X) (r : Result Shown Fail) → (span.start ≤ 549755813888) × (span.len ≤ 549755813888) → counting b.start b.len ≡ blocks.blocks_of span.start span.len
+pub vouched : {X : Type 0} (S : Sense X) (ask : Ask) (span b : Span) (x new : X) (r : Result Shown CallError) → (span.start ≤ 549755813888) × (span.len ≤ 549755813888) → counting b.start b.len ≡ blocks.blocks_of span.start span.len
     → Answers S (IsOperable ask.item (change.Validated ask.item span.start span.len)) (operated false ask.item (change.Validated ask.item span.start span.len) (Leaves ask.key (counting b.start b.len))) x r new
     → (key : Key) (f : Book → Book) (records : List AuxRecord) (a : Live) → Answers S (IsLiveFor f (operation.Ack key span true) ask records a) (ack a span true) x r new
 vouched S ask span b x new r h e ans key f records a = record {
@@ -107,7 +107,7 @@ vouched S ask span b x new r h e ans key f records a = record {
       (changed_then a.ask.item (change.Validated a.ask.item span.start span.len) (Leaves a.ask.key (blocks.blocks_of span.start span.len))) p.passes z3;
 }
 
-pub disowned : {X : Type 0} (S : Sense X) (ask : Ask) (span b : Span) (x new : X) (r : Result Shown Fail) → (span.start ≤ 549755813888) × (span.len ≤ 549755813888) → counting b.start b.len ≡ blocks.blocks_of span.start span.len
+pub disowned : {X : Type 0} (S : Sense X) (ask : Ask) (span b : Span) (x new : X) (r : Result Shown CallError) → (span.start ≤ 549755813888) × (span.len ≤ 549755813888) → counting b.start b.len ≡ blocks.blocks_of span.start span.len
     → Answers S (IsOperable ask.item (change.Emptied ask.item span.start span.len)) (operated false ask.item (change.Emptied ask.item span.start span.len) (Fails ask.key (counting b.start b.len) (cause.Failed 1))) x r new
     → (key : Key) (f : Book → Book) (records : List AuxRecord) (a : Live) → Answers S (IsLiveFor f (operation.Ack key span false) ask records a) (ack a span false) x r new
 disowned S ask span b x new r h e ans key f records a = record {
@@ -119,7 +119,7 @@ disowned S ask span b x new r h e ans key f records a = record {
       (changed_then a.ask.item (change.Emptied a.ask.item span.start span.len) (Fails a.ask.key (blocks.blocks_of span.start span.len) (cause.Failed 1))) p.passes z3;
 }
 
-pub acked : {X : Type 0} (S : Sense X) (ask : Ask) (span : Span) (good b : Bool) (x new : X) (r : Result Shown Fail) → good ≡ b
+pub acked : {X : Type 0} (S : Sense X) (ask : Ask) (span : Span) (good b : Bool) (x new : X) (r : Result Shown CallError) → good ≡ b
     → ((key : Key) (f : Book → Book) (records : List AuxRecord) (a : Live) → Answers S (IsLiveFor f (operation.Ack key span b) ask records a) (ack a span b) x r new)
     → (key : Key) (f : Book → Book) (records : List AuxRecord) (a : Live) → Answers S (IsLiveFor f (operation.Ack key span good) ask records a) (ack a span good) x r new
 acked S ask span good b x new r e ans key f records a = subst (λ (c : Bool). Answers S (IsLiveFor f (operation.Ack key span c) ask records a) (ack a span c) x r new) (sym e) (ans key f records a)
@@ -132,7 +132,7 @@ size_small S x item s h = one (item_of s.volume.items item) refl where
   one None e = omega arith
   one (Some i) e = (of_found IsSmall _ s.volume.items i (S.good x s h).volume.small e).size
 
-pub restarts_now : {X : Type 0} (S : Sense X) (item : ItemId) (size : ℕ) (x new : X) (r : Result Shown Fail)
+pub restarts_now : {X : Type 0} (S : Sense X) (item : ItemId) (size : ℕ) (x new : X) (r : Result Shown CallError)
     → Answers S (IsOperable item (change.Emptied item 0 size)) (operated true item (change.Emptied item 0 size) Restarts) x r new → Answers S (IsSizeOf item size) (restarted item size) x r new
 restarts_now S item size x new r a = record {
   leads = λ s h e.
@@ -146,7 +146,7 @@ sizes_alike items item = one (item_of items item) where
   one None = refl
   one (Some i) = refl
 
-restart_at : {X : Type 0} (S : Sense X) (ask : Ask) (c : Bool) (policy : Policy) (x new : X) (r : Result Shown Fail) (s : Filter) (key : Key) (f : Book → Book) (records : List AuxRecord) (a : Live)
+restart_at : {X : Type 0} (S : Sense X) (ask : Ask) (c : Bool) (policy : Policy) (x new : X) (r : Result Shown CallError) (s : Filter) (key : Key) (f : Book → Book) (records : List AuxRecord) (a : Live)
     → Reads S Any policy_of x policy → policy.restart ≡ c → S.means x s → IsLiveFor f (operation.Restart key) ask records a s
     → Goes S x r new s (unless shown.Refused (first_of ((not c, code.RestartDenied) ∷ change_tests true a.ask.item (restart_change a s) Restarts s)) (reading (restart_change a) (restart_by a)) s)
     → Goes S x r new s (restart a s)
@@ -161,7 +161,7 @@ restart_off S ask policy x reads e key f records a = record {
   leads = λ s h p. restart_at S ask false policy x x (Ok (shown.Refused code.RestartDenied)) s key f records a reads e h p (s, (refl, refl), S.stays x s h, h);
 }
 
-pub restart_on : {X : Type 0} (S : Sense X) (ask : Ask) (policy : Policy) (size : ℕ) (x new : X) (r : Result Shown Fail) → Reads S Any policy_of x policy → policy.restart ≡ true → Reads S Any (size_at ask.item) x size
+pub restart_on : {X : Type 0} (S : Sense X) (ask : Ask) (policy : Policy) (size : ℕ) (x new : X) (r : Result Shown CallError) → Reads S Any policy_of x policy → policy.restart ≡ true → Reads S Any (size_at ask.item) x size
     → Answers S (IsSizeOf ask.item size) (restarted ask.item size) x r new
     → (key : Key) (f : Book → Book) (records : List AuxRecord) (a : Live) → Answers S (IsLiveFor f (operation.Restart key) ask records a) (restart a) x r new
 restart_on S ask policy size x new r reads e sizes ans key f records a = record {

@@ -8,7 +8,7 @@ use Rattle.cf_base.specs.declared.changes.Change.{Change}
 use Rattle.cf_base.specs.declared.changes.Change.TheVariants as change
 use Rattle.cf_base.specs.declared.codes.Code.{Code}
 use Rattle.cf_base.specs.declared.codes.Code.TheVariants as code
-use Rattle.cf_base.specs.declared.codes.Fail.{Fail}
+use Rattle.cf_base.specs.declared.codes.CallError.{CallError}
 use Rattle.cf_base.specs.declared.ids.Handle.{Handle}
 use Rattle.cf_base.specs.declared.ids.ItemId.{ItemId}
 use Rattle.cf_filter_calls.specs.Handles.{PutsIn, put_in, sized_already}
@@ -37,7 +37,7 @@ use Rattle.cf_filter_calls.proofs.Suited.{each_at}
 
 -- a handle leads to a file
 
-pub handle_file : {X : Type 0} (S : Sense X) (h : Handle) (f : ItemId → Arrow Filter Shown) (o : Option ItemId) (item : ItemId) (x new : X) (r : Result Shown Fail)
+pub handle_file : {X : Type 0} (S : Sense X) (h : Handle) (f : ItemId → Arrow Filter Shown) (o : Option ItemId) (item : ItemId) (x new : X) (r : Result Shown CallError)
     → Reads S Any (opened_item h) x o → o ≡ Some item → Answers S (IsFile item) (f item) x r new → Answers S Any (on_handle h f) x r new
 handle_file {X} S h f o item x new r reads e a = record { leads = λ s i p. one (opened_by h s) (sym e ∙ reads.is s i p) s i refl } where
   one : (q : Option Open) → Some item ≡ item_opened q → (s : Filter) → S.means x s → opened_by h s ≡ q → (t : Filter) × Does (on_open f q s) r t × S.moved x new s t × After S x r new t
@@ -50,7 +50,7 @@ handle_file {X} S h f o item x new r reads e a = record { leads = λ s i p. one 
 
 -- room for changes
 
-pub room_on : {X : Type 0} (S : Sense X) (P Q : Filter → Type 0) (cs : List Change) (f : Arrow Filter Shown) (why : Option Code) (x new : X) (r : Result Shown Fail)
+pub room_on : {X : Type 0} (S : Sense X) (P Q : Filter → Type 0) (cs : List Change) (f : Arrow Filter Shown) (why : Option Code) (x new : X) (r : Result Shown CallError)
     → Reads S (Suiting cs) (room_refusal cs) x why → why ≡ None → ((s : Filter) → P s → Suiting cs s) → ((s : Filter) → P s → why_no_room cs s.volume ≡ None → Q s)
     → Answers S Q f x r new → Answers S P (checked (room_tests cs) f) x r new
 room_on S P Q cs f why x new r reads e suit ready a = record {
@@ -75,7 +75,7 @@ puts_suit item c s p = (p.suits, record {})
 puts_ready : (item : ItemId) (c : Change) (s : Filter) → PutsIn item c s → why_no_room (c ∷ []) s.volume ≡ None → ReadyOn item c s
 puts_ready item c s p e = record { ready = record { room = e; suits = p.suits }; file = p.file }
 
-pub put_on : {X : Type 0} (S : Sense X) (item : ItemId) (c : Change) (cs : List Change) (why : Option Code) (x new : X) (r : Result Shown Fail)
+pub put_on : {X : Type 0} (S : Sense X) (item : ItemId) (c : Change) (cs : List Change) (why : Option Code) (x new : X) (r : Result Shown CallError)
     → cs ≡ c ∷ [] → Reads S (Suiting cs) (room_refusal cs) x why → why ≡ None → Answers S (ReadyOn item c) (write_now item c) x r new → Answers S (PutsIn item c) (put_in item c) x r new
 put_on S item c cs why x new r same reads e a =
     room_on S (PutsIn item c) (ReadyOn item c) (c ∷ []) (write_now item c) why x new r (subst (λ (ds : List Change). Reads S (Suiting ds) (room_refusal ds) x why) same reads) e (puts_suit item c) (puts_ready item c) a
@@ -91,14 +91,14 @@ put_then S item c x mid new u v a b =
     then_on S (ReadyOn item c) Any (change_with (with_access item) c) (then_do (settle item Nothing) done) x mid new u (Ok shown.Done) (λ s t p q. record {}) a
     (any_on S (settle item Nothing) done mid new new v (Ok shown.Done) b (returned S Any shown.Done new))
 
-pub put_fails : {X : Type 0} (S : Sense X) (item : ItemId) (c : Change) (x mid new : X) (u : Unit {0}) (e : Fail)
+pub put_fails : {X : Type 0} (S : Sense X) (item : ItemId) (c : Change) (x mid new : X) (u : Unit {0}) (e : CallError)
     → Answers S (ReadyOn item c) (change_with (with_access item) c) x (Ok u) mid → Answers S Any (settle item Nothing) mid (Err e) new → Answers S (ReadyOn item c) (write_now item c) x (Err e) new
 put_fails S item c x mid new u e a b =
     then_on S (ReadyOn item c) Any (change_with (with_access item) c) (then_do (settle item Nothing) done) x mid new u (Err e) (λ s t p q. record {}) a (stops_first S Any (settle item Nothing) done mid new e b)
 
 -- not too large
 
-far_off : {X : Type 0} (S : Sense X) (P : Filter → Type 0) (end : ℕ) (cs : List Change) (f : Arrow Filter Shown) (x new : X) (r : Result Shown Fail)
+far_off : {X : Type 0} (S : Sense X) (P : Filter → Type 0) (end : ℕ) (cs : List Change) (f : Arrow Filter Shown) (x new : X) (r : Result Shown CallError)
     → nat_lt 16777216 end ≡ false → Answers S P (checked (room_tests cs) f) x r new → Answers S P (checked (write_tests end cs) f) x r new
 far_off S P end cs f x new r e a = record {
   leads = λ s i p. subst (λ (b : Bool). (t : Filter) × Does (unless shown.Refused (first_of ((b, code.TooLarge) ∷ room_tests cs s)) f s) r t × S.moved x new s t × After S x r new t) (sym e) (a.leads s i p);
@@ -111,7 +111,7 @@ file_each S x item s h f P q = one (item_of s.volume.items item) refl f where
   one None e k = absurd k
   one (Some i) e k = each_at 1 P item s.volume.items i (S.good x s h).volume.tree.order e (q i k)
 
-known_file : {X : Type 0} (S : Sense X) (item : ItemId) (c : Change) (x new : X) (r : Result Shown Fail) → ((s : Filter) → S.means x s → IsFile item s → Suits c s.volume)
+known_file : {X : Type 0} (S : Sense X) (item : ItemId) (c : Change) (x new : X) (r : Result Shown CallError) → ((s : Filter) → S.means x s → IsFile item s → Suits c s.volume)
     → Answers S (PutsIn item c) (put_in item c) x r new → Answers S (IsFile item) (put_in item c) x r new
 known_file S item c x new r suit a = record { leads = λ s i p. a.leads s i (record { suits = suit s i p; file = p }) }
 
@@ -144,7 +144,7 @@ pub same_rest : (o : Option Code) (f g : Arrow Filter Shown) (s : Filter) → f 
 same_rest None f g s e = e
 same_rest (Some c) f g s e = refl
 
-size_by : {X : Type 0} (S : Sense X) (item : ItemId) (n : ℕ) (b : Bool) (x new : X) (r : Result Shown Fail)
+size_by : {X : Type 0} (S : Sense X) (item : ItemId) (n : ℕ) (b : Bool) (x new : X) (r : Result Shown CallError)
     → Reads S Any (has_size item n) x b → ((s : Filter) → S.means x s → IsFile item s → (t : Filter) × Does (unless shown.Refused (first_of (sizes_at item n b s)) (size_now item n b) s) r t × S.moved x new s t × After S x r new t)
     → Answers S (IsFile item) (size_item n item) x r new
 size_by S item n b x new r reads a = record {
@@ -153,13 +153,13 @@ size_by S item n b x new r reads a = record {
       (subst (λ (c : Bool). (t : Filter) × Does (unless shown.Refused (first_of (sizes_at item n c s)) (size_now item n c) s) r t × S.moved x new s t × After S x r new t) (reads.is s i (record {})) (a s i p));
 }
 
-pub size_same : {X : Type 0} (S : Sense X) (item : ItemId) (n : ℕ) (b : Bool) (x new : X) (r : Result Shown Fail)
+pub size_same : {X : Type 0} (S : Sense X) (item : ItemId) (n : ℕ) (b : Bool) (x new : X) (r : Result Shown CallError)
     → n ≤ 16777216 → Reads S Any (has_size item n) x b → b ≡ true → Answers S (IsFile item) (sized_already item) x r new → Answers S (IsFile item) (size_item n item) x r new
 size_same S item n b x new r small reads e a =
     size_by S item n true x new r (subst (λ (c : Bool). Reads S Any (has_size item n) x c) e reads)
     (far_off S (IsFile item) n [] (then_do (noted (accessed item)) done) x new r (le-ltb 16777216 n small) a).leads
 
-pub size_new : {X : Type 0} (S : Sense X) (item : ItemId) (n : ℕ) (b : Bool) (x new : X) (r : Result Shown Fail)
+pub size_new : {X : Type 0} (S : Sense X) (item : ItemId) (n : ℕ) (b : Bool) (x new : X) (r : Result Shown CallError)
     → n ≤ 16777216 → Reads S Any (has_size item n) x b → b ≡ false → Answers S (PutsIn item (change.Size item n)) (put_in item (change.Size item n)) x r new → Answers S (IsFile item) (size_item n item) x r new
 size_new S item n b x new r small reads e a =
     size_by S item n false x new r (subst (λ (c : Bool). Reads S Any (has_size item n) x c) e reads)
@@ -167,7 +167,7 @@ size_new S item n b x new r small reads e a =
 
 -- a write
 
-pub write_on : {X : Type 0} (S : Sense X) (at : ℕ) (bytes : List ℕ) (item : ItemId) (x new : X) (r : Result Shown Fail)
+pub write_on : {X : Type 0} (S : Sense X) (at : ℕ) (bytes : List ℕ) (item : ItemId) (x new : X) (r : Result Shown CallError)
     → (length bytes == 0) ≡ false → nat_lt 16777216 (at + length bytes) ≡ false → Answers S (PutsIn item (change.Write item at bytes)) (put_in item (change.Write item at bytes)) x r new → Answers S (IsFile item) (write_item at bytes item) x r new
 write_on S at [] item x new r q e a = let z : true ≡ false = q in absurd cc
 write_on S at (b ∷ bs) item x new r q e a =

@@ -5,8 +5,8 @@ use Rattle.cf_base.specs.declared.changes.Change.{Change}
 use Rattle.cf_base.specs.declared.changes.Change.TheVariants as change
 use Rattle.cf_base.specs.declared.codes.Code.{Code}
 use Rattle.cf_base.specs.declared.codes.Code.TheVariants as code
-use Rattle.cf_base.specs.declared.codes.Fail.{Fail}
-use Rattle.cf_base.specs.declared.codes.Fail.TheVariants.{Memory}
+use Rattle.cf_base.specs.declared.codes.CallError.{CallError}
+use Rattle.cf_base.specs.declared.codes.CallError.TheVariants.{OutOfMemory}
 use Rattle.cf_base.specs.declared.ids.ItemId.{ItemId}
 use Rattle.cf_model.specs.Arrows.{Arrow, then_do, unit}
 use Rattle.cf_model.specs.Changes.{changes}
@@ -65,7 +65,7 @@ abbrev pub with_step : ItemId → List Change → Arrow Filter (Unit {0})
 with_step id cs = then_do (changes cs) (settle_changed id cs)
 
 -- Both were done; or they are refused, and nothing changed; or a step failed, or there was no memory to begin.
-abbrev pub Asks : {X : Type 0} → Sense X → ItemId → List Change → X → Result (Option Code) Fail → X → Type 0
+abbrev pub Asks : {X : Type 0} → Sense X → ItemId → List Change → X → Result (Option Code) CallError → X → Type 0
 Asks S id cs old (Ok None) new = Reads S (Flagging id cs) (asking_refusal id cs) old None × Answers S (MayAsk id cs) (with_step id cs) old (Ok unit) new
 Asks S id cs old (Ok (Some c)) new = Reads S (Flagging id cs) (asking_refusal id cs) old (Some c) × (new ≡ old)
-Asks S id cs old (Err e) new = ((e ≡ Memory) × (new ≡ old)) ⊎ (Reads S (Flagging id cs) (asking_refusal id cs) old None × Answers S (MayAsk id cs) (with_step id cs) old (Err e) new)
+Asks S id cs old (Err e) new = ((e ≡ OutOfMemory) × (new ≡ old)) ⊎ (Reads S (Flagging id cs) (asking_refusal id cs) old None × Answers S (MayAsk id cs) (with_step id cs) old (Err e) new)

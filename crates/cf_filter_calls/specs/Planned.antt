@@ -5,8 +5,8 @@ use Rattle.cf_base.specs.declared.answers.Shown.TheVariants as shown
 use Rattle.cf_base.specs.declared.changes.Change.{Change}
 use Rattle.cf_base.specs.declared.codes.Code.{Code}
 use Rattle.cf_base.specs.declared.codes.Code.TheVariants as code
-use Rattle.cf_base.specs.declared.codes.Fail.{Fail}
-use Rattle.cf_base.specs.declared.codes.Fail.TheVariants as fail
+use Rattle.cf_base.specs.declared.codes.CallError.{CallError}
+use Rattle.cf_base.specs.declared.codes.CallError.TheVariants as fail
 use Rattle.cf_base.specs.declared.ids.ItemId.{ItemId}
 use Rattle.cf_base.specs.declared.ids.Usn.{Usn}
 use Rattle.cf_model.specs.Changes.{next_number, no_places}
@@ -60,12 +60,12 @@ pub record IsLastPlaceAt (parent : ItemId) (name : List ℕ) (p : Place) (s : Fi
   pub none : no_places s.volume 1 ≡ true
 
 -- a refusal as a value
-abbrev pub refusal_of : Fail → Result Shown Fail
+abbrev pub refusal_of : CallError → Result Shown CallError
 refusal_of (fail.No c) = Ok (shown.Refused c)
-refusal_of fail.Memory = Err fail.Memory
+refusal_of fail.OutOfMemory = Err fail.OutOfMemory
 
 -- what a plan for a new item comes to where no number is left
-abbrev pub unnumbered : Result (List Change) Fail → Result Shown Fail
+abbrev pub unnumbered : Result (List Change) CallError → Result Shown CallError
 unnumbered (Ok cs) = Ok (shown.Refused code.Exhausted)
 unnumbered (Err e) = refusal_of e
 

@@ -3,8 +3,8 @@ use Rattle.std.specs.Prelude.{◌≡◌, Bool, [], ◌∷◌, Option, Result, Ok
 use Rattle.cf_base.specs.declared.answers.Shown.{Shown}
 use Rattle.cf_base.specs.declared.codes.Code.{Code}
 use Rattle.cf_base.specs.declared.codes.Code.TheVariants as code
-use Rattle.cf_base.specs.declared.codes.Fail.{Fail}
-use Rattle.cf_base.specs.declared.codes.Fail.TheVariants.{Memory, No}
+use Rattle.cf_base.specs.declared.codes.CallError.{CallError}
+use Rattle.cf_base.specs.declared.codes.CallError.TheVariants.{OutOfMemory, No}
 use Rattle.cf_base.specs.declared.ids.ItemId.{ItemId}
 use Rattle.cf_base.specs.declared.items.Kind.{Kind}
 use Rattle.cf_base.specs.declared.items.Kind.TheVariants as kind
@@ -30,7 +30,7 @@ abbrev pub kind_by : Bool → Bool → Bool → Kind
 kind_by directory populated placeholder = cond directory (cond populated (cond placeholder kind.PlaceholderDir kind.Dir) kind.UnpopulatedDir) (cond placeholder kind.PlaceholderFile kind.File)
 
 -- this is told, or there was no memory
-abbrev pub IsShown : Shown → Result Shown Fail → Type 0
+abbrev pub IsShown : Shown → Result Shown CallError → Type 0
 IsShown v (Ok a) = a ≡ v
 IsShown v (Err (No c)) = ⊥
-IsShown v (Err Memory) = Unit {0}
+IsShown v (Err OutOfMemory) = Unit {0}

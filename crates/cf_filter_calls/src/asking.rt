@@ -14,13 +14,13 @@ ghost use Rattle.cf_filter_steps.specs.Finding.{Plans};
 
 use crate::items::{number_at, refused_by};
 use cf_ask_rule::Act;
-use cf_base::{Change, Code, Fail, ItemId, Memory, Sequence, Shown, Usn};
+use cf_base::{Change, Code, CallError, ItemId, OutOfMemory, Sequence, Shown, Usn};
 use cf_placeholder::{plan_keep, plan_mark};
 use cf_waits::Step;
 use cf_filter_steps::{Steps, find_at, look, look_after, settle_by};
 
 // The step on the item after the change, which is one or none.
-fn look_with<S: Steps>(s: &S, id: ItemId, changes: &[Change]) -> Result<Step, Memory>
+fn look_with<S: Steps>(s: &S, id: ItemId, changes: &[Change]) -> Result<Step, OutOfMemory>
     ensures planned { IfOk result (λ p. IsPlanned p (S.waiting s.now)) }
     ensures looks { IfOk result (λ p. LooksWith S.sense id changes.now p s.now) }
 {
@@ -43,7 +43,7 @@ fn asking_code(many: bool, none: bool) -> Option<Code>
 }
 
 // Why the change is not made: TooManyAsks, Exhausted.
-fn refuse_asking<S: Steps>(s: &S, changes: &[Change], step: &Step) -> Result<Option<Code>, Memory>
+fn refuse_asking<S: Steps>(s: &S, changes: &[Change], step: &Step) -> Result<Option<Code>, OutOfMemory>
     ensures { IfOk result (λ why. (id : ItemId) → Reads S.sense (IsAsking id changes.now step.now) (asking_refusal id changes.now) s.now why) }
 {
     let room = s.room(changes)?;
@@ -53,7 +53,7 @@ fn refuse_asking<S: Steps>(s: &S, changes: &[Change], step: &Step) -> Result<Opt
 }
 
 // Makes the change, and does the step that was worked out for what is after it.
-fn make_with<S: Steps>(s: &mut S, changes: &[Change], step: Step) -> Result<(), Fail>
+fn make_with<S: Steps>(s: &mut S, changes: &[Change], step: Step) -> Result<(), CallError>
     requires { IsPlanned step (S.waiting s.old) }
     ensures { (id : ItemId) → Answers S.sense (MayAskBy id changes.now step) (with_step id changes.now) s.old result s.new }
 {
@@ -67,7 +67,7 @@ fn make_with<S: Steps>(s: &mut S, changes: &[Change], step: Step) -> Result<(), 
 }
 
 // The change and the step after it, or why they are refused.
-fn ask_on<S: Steps>(s: &mut S, id: ItemId, changes: &[Change]) -> Result<Option<Code>, Fail>
+fn ask_on<S: Steps>(s: &mut S, id: ItemId, changes: &[Change]) -> Result<Option<Code>, CallError>
     ensures { Asks S.sense id changes.now s.old result s.new }
 {
     let step = look_with(s, id, changes)?;
@@ -80,7 +80,7 @@ fn ask_on<S: Steps>(s: &mut S, id: ItemId, changes: &[Change]) -> Result<Option<
     }
 }
 
-fn mark_with<S: Steps>(s: &mut S, id: ItemId, changes: &[Change]) -> Result<Shown, Fail>
+fn mark_with<S: Steps>(s: &mut S, id: ItemId, changes: &[Change]) -> Result<Shown, CallError>
     ensures { Answers S.sense (Flagging id changes.now) (asking id (number_of id) changes.now) s.old result s.new }
 {
     match ask_on(s, id, changes)? {
@@ -89,16 +89,16 @@ fn mark_with<S: Steps>(s: &mut S, id: ItemId, changes: &[Change]) -> Result<Show
     }
 }
 
-fn mark_plan<S: Steps>(s: &S, id: ItemId, number: Usn) -> Result<Sequence<Change>, Fail>
+fn mark_plan<S: Steps>(s: &S, id: ItemId, number: Usn) -> Result<Sequence<Change>, CallError>
     ensures { Plans S.sense id (by_mark number) s.now result }
 {
     match s.rows().get(id) {
         Some(row) => plan_mark(s.alloc(), row, number),
-        None => Err(Fail::No(Code::NotFound)),
+        None => Err(CallError::No(Code::NotFound)),
     }
 }
 
-fn mark_item<S: Steps>(s: &mut S, id: ItemId, number: Usn) -> Result<Shown, Fail>
+fn mark_item<S: Steps>(s: &mut S, id: ItemId, number: Usn) -> Result<Shown, CallError>
     ensures { (i : Item) → Answers S.sense (IsAt id i) (mark_item number i) s.old result s.new }
 {
     match mark_plan(s, id, number) {
@@ -109,7 +109,7 @@ fn mark_item<S: Steps>(s: &mut S, id: ItemId, number: Usn) -> Result<Shown, Fail
 
 /// A placeholder is in sync (CfSetInSyncState), where this is its number; 0.0 is any. Gives its number. Refused as the
 /// look-up, NotPlaceholder, UsnMismatch with its number, TooManyAsks, Exhausted.
-pub fn set_in_sync<S: Steps>(s: &mut S, path: &str, number: Usn) -> Result<Shown, Fail>
+pub fn set_in_sync<S: Steps>(s: &mut S, path: &str, number: Usn) -> Result<Shown, CallError>
     ensures { Answers S.sense Any (mark path.now number) s.old result s.new }
 {
     match find_at(s, path) {
@@ -118,7 +118,7 @@ pub fn set_in_sync<S: Steps>(s: &mut S, path: &str, number: Usn) -> Result<Shown
     }
 }
 
-fn keep_with<S: Steps>(s: &mut S, id: ItemId, changes: &[Change]) -> Result<Shown, Fail>
+fn keep_with<S: Steps>(s: &mut S, id: ItemId, changes: &[Change]) -> Result<Shown, CallError>
     ensures { Answers S.sense (Flagging id changes.now) (asking id done changes.now) s.old result s.new }
 {
     match ask_on(s, id, changes)? {
@@ -127,16 +127,16 @@ fn keep_with<S: Steps>(s: &mut S, id: ItemId, changes: &[Change]) -> Result<Show
     }
 }
 
-fn keep_plan<S: Steps>(s: &S, id: ItemId, on: bool) -> Result<Sequence<Change>, Fail>
+fn keep_plan<S: Steps>(s: &S, id: ItemId, on: bool) -> Result<Sequence<Change>, CallError>
     ensures { Plans S.sense id (by_keep on) s.now result }
 {
     match s.rows().get(id) {
         Some(row) => plan_keep(s.alloc(), row, on),
-        None => Err(Fail::No(Code::NotFound)),
+        None => Err(CallError::No(Code::NotFound)),
     }
 }
 
-fn keep_item<S: Steps>(s: &mut S, id: ItemId, on: bool) -> Result<Shown, Fail>
+fn keep_item<S: Steps>(s: &mut S, id: ItemId, on: bool) -> Result<Shown, CallError>
     ensures { (i : Item) → Answers S.sense (IsAt id i) (keep_item on i) s.old result s.new }
 {
     match keep_plan(s, id, on) {
@@ -147,7 +147,7 @@ fn keep_item<S: Steps>(s: &mut S, id: ItemId, on: bool) -> Result<Shown, Fail>
 
 /// Whether a placeholder file is kept full, so that each read of it needs all of it. Refused as the look-up, IsDirectory,
 /// NotPlaceholder, TooManyAsks, Exhausted.
-pub fn keep_full<S: Steps>(s: &mut S, path: &str, on: bool) -> Result<Shown, Fail>
+pub fn keep_full<S: Steps>(s: &mut S, path: &str, on: bool) -> Result<Shown, CallError>
     ensures { Answers S.sense Any (keep_full path.now on) s.old result s.new }
 {
     match find_at(s, path) {

@@ -9,7 +9,7 @@ ghost use Rattle.cf_waits.specs.Steps.{IsPlanned};
 ghost use Rattle.cf_filter_steps.specs.Answering.{Answers, Reads};
 
 use cf_ask_rule::Act;
-use cf_base::{Change, Code, Fail, ItemId, Memory, Shown};
+use cf_base::{Change, Code, CallError, ItemId, OutOfMemory, Shown};
 use cf_waits::Step;
 use cf_filter_steps::{Room, Steps, look_after, settle_by};
 use std::slice;
@@ -38,7 +38,7 @@ fn refuse_change<S: Steps>(
     change: &Change,
     step: &Step,
     counts: bool,
-) -> Result<Option<Code>, Memory>
+) -> Result<Option<Code>, OutOfMemory>
     ensures { IfOk result (λ why. (item : ItemId) (d : Deed) → Reads S.sense (IsOperableBy item change.now d step.now) (change_refusal counts item change.now d) s.now why) }
 {
     let room = s.room(slice::from_ref(change))?;
@@ -48,7 +48,7 @@ fn refuse_change<S: Steps>(
 }
 
 // Makes the change, and does the step that was worked out for what is after it.
-fn change_then<S: Steps>(s: &mut S, change: &Change, step: Step) -> Result<Shown, Fail>
+fn change_then<S: Steps>(s: &mut S, change: &Change, step: Step) -> Result<Shown, CallError>
     requires { IsPlanned step (S.waiting s.old) }
     ensures { (item : ItemId) (d : Deed) → Answers S.sense (MayChangeBy item change.now d step) (changed_then item change.now d) s.old result s.new }
 {
@@ -65,7 +65,7 @@ pub(crate) fn operate<S: Steps>(
     change: &Change,
     act: Act,
     counts: bool,
-) -> Result<Shown, Fail>
+) -> Result<Shown, CallError>
     ensures { Answers S.sense (IsOperable item change.now) (operated counts item change.now (deed_of act)) s.old result s.new }
 {
     let step = look_after(s, item, change, act)?;

@@ -15,7 +15,7 @@ use crate::dehydrating::judge;
 use crate::items::lacks_place;
 use crate::transferring::is_near;
 use cf_ask_rule::Act;
-use cf_base::{Ask, Cause, Change, Code, Fail, Memory, Shown};
+use cf_base::{Ask, Cause, Change, Code, CallError, OutOfMemory, Shown};
 use cf_filter_steps::{Steps, make_changes, settle};
 use std::slice;
 
@@ -38,7 +38,7 @@ fn judge_again<S: Steps>(s: &S, ask: &Ask) -> Option<Code>
 }
 
 // Whether more numbers are given than there are, without a change.
-fn lacks_places<S: Steps>(s: &S) -> Result<bool, Memory>
+fn lacks_places<S: Steps>(s: &S) -> Result<bool, OutOfMemory>
     ensures { IfOk result (λ b. Reads S.sense Any lacks_places s.now b) }
 {
     let room = s.room(&[])?;
@@ -46,7 +46,7 @@ fn lacks_places<S: Steps>(s: &S) -> Result<bool, Memory>
 }
 
 /// The ask is answered, and its waits end so.
-pub(crate) fn finish_now<S: Steps>(s: &mut S, ask: &Ask, cause: Cause) -> Result<Shown, Fail>
+pub(crate) fn finish_now<S: Steps>(s: &mut S, ask: &Ask, cause: Cause) -> Result<Shown, CallError>
     ensures { Answers S.sense Any (finished_now ask.now cause) s.old result s.new }
 {
     let key = ask.key;
@@ -55,7 +55,7 @@ pub(crate) fn finish_now<S: Steps>(s: &mut S, ask: &Ask, cause: Cause) -> Result
 }
 
 /// The same. Refused as Exhausted where more numbers are given than there are.
-pub(crate) fn finish<S: Steps>(s: &mut S, ask: &Ask, cause: Cause) -> Result<Shown, Fail>
+pub(crate) fn finish<S: Steps>(s: &mut S, ask: &Ask, cause: Cause) -> Result<Shown, CallError>
     ensures { Answers S.sense Any (finished_by ask.now cause) s.old result s.new }
 {
     let full = lacks_places(s)?;
@@ -67,7 +67,7 @@ pub(crate) fn finish<S: Steps>(s: &mut S, ask: &Ask, cause: Cause) -> Result<Sho
 }
 
 // The bytes leave, and the wait ends with that.
-fn empty_then<S: Steps>(s: &mut S, ask: &Ask) -> Result<Shown, Fail>
+fn empty_then<S: Steps>(s: &mut S, ask: &Ask) -> Result<Shown, CallError>
     ensures { Answers S.sense (MayLeave ask.now) (emptied_then ask.now) s.old result s.new }
 {
     let change = Change::Emptied {
@@ -80,11 +80,11 @@ fn empty_then<S: Steps>(s: &mut S, ask: &Ask) -> Result<Shown, Fail>
 }
 
 // Consent to what the verdict allows. The span is one of a file, and so it is near.
-fn consent<S: Steps>(s: &mut S, ask: &Ask) -> Result<Shown, Fail>
+fn consent<S: Steps>(s: &mut S, ask: &Ask) -> Result<Shown, CallError>
     ensures { (a : Live) → Answers S.sense (MayConsent ask.now a) (consented ask.now) s.old result s.new }
 {
     if !is_near(ask.span) {
-        return Err(Fail::Memory);
+        return Err(CallError::OutOfMemory);
     }
     if lacks_place(s) {
         return Ok(Shown::Refused(Code::Exhausted));
@@ -92,7 +92,7 @@ fn consent<S: Steps>(s: &mut S, ask: &Ask) -> Result<Shown, Fail>
     empty_then(s, ask)
 }
 
-fn consent_by<S: Steps>(s: &mut S, ask: &Ask) -> Result<Shown, Fail>
+fn consent_by<S: Steps>(s: &mut S, ask: &Ask) -> Result<Shown, CallError>
     ensures { (key : Key) (f : Book → Book) (records : List AuxRecord) (a : Live) → Answers S.sense (IsLiveFor f (operation.AckDehydrate key true) ask.now records a) (ack_dehydrate a true) s.old result s.new }
 {
     match judge_again(s, ask) {
@@ -101,7 +101,7 @@ fn consent_by<S: Steps>(s: &mut S, ask: &Ask) -> Result<Shown, Fail>
     }
 }
 
-fn decline<S: Steps>(s: &mut S, ask: &Ask) -> Result<Shown, Fail>
+fn decline<S: Steps>(s: &mut S, ask: &Ask) -> Result<Shown, CallError>
     ensures { (key : Key) (f : Book → Book) (records : List AuxRecord) (a : Live) → Answers S.sense (IsLiveFor f (operation.AckDehydrate key false) ask.now records a) (ack_dehydrate a false) s.old result s.new }
 {
     finish(s, ask, Cause::Failed(1))
@@ -109,7 +109,7 @@ fn decline<S: Steps>(s: &mut S, ask: &Ask) -> Result<Shown, Fail>
 
 /// The provider consents to a dehydrate ask, or does not. With consent the verdict is taken again, but for the ask's own
 /// wait: where it allows the range its bytes leave, else the wait ends with that refusal. Refused as Exhausted.
-pub(crate) fn ack_dehydrate<S: Steps>(s: &mut S, ask: &Ask, good: bool) -> Result<Shown, Fail>
+pub(crate) fn ack_dehydrate<S: Steps>(s: &mut S, ask: &Ask, good: bool) -> Result<Shown, CallError>
     ensures { (key : Key) (f : Book → Book) (records : List AuxRecord) (a : Live) → Answers S.sense (IsLiveFor f (operation.AckDehydrate key good) ask.now records a) (ack_dehydrate a good) s.old result s.new }
 {
     if good {

@@ -9,13 +9,13 @@ ghost use Rattle.cf_filter_steps.specs.Answering.{Answers, Any};
 ghost use Rattle.cf_filter_steps.specs.Suiting.{Suiting};
 
 use crate::items::refused_by;
-use cf_base::{Change, Code, Fail, ItemId, Name, Sequence, Shown, Usn};
+use cf_base::{Change, Code, CallError, ItemId, Name, Sequence, Shown, Usn};
 use cf_placeholder::{Creation, plan_create};
 use cf_filter_steps::{Steps, change_all, find_place};
 use cf_table::NO_USN;
 
 // Makes the changes, and tells the id of the new item.
-fn make_item<S: Steps>(s: &mut S, item: ItemId, changes: &[Change]) -> Result<Shown, Fail>
+fn make_item<S: Steps>(s: &mut S, item: ItemId, changes: &[Change]) -> Result<Shown, CallError>
     ensures { Answers S.sense (Suiting changes.now) (show_item changes.now item) s.old result s.new }
 {
     match change_all(s, changes)? {
@@ -31,7 +31,7 @@ fn create_with<S: Steps>(
     parent: ItemId,
     name: &Name,
     what: &Creation,
-) -> Result<Shown, Fail>
+) -> Result<Shown, CallError>
     ensures { (p : Place) → Answers S.sense (IsNumberedPlaceAt next parent name.now p) (create_at (meant what.now) p) s.old result s.new }
 {
     let item = s.rows().next();
@@ -48,7 +48,7 @@ fn create_none<S: Steps>(
     parent: ItemId,
     name: &Name,
     what: &Creation,
-) -> Result<Shown, Fail>
+) -> Result<Shown, CallError>
     ensures { (p : Place) → Answers S.sense (IsLastPlaceAt parent name.now p) (create_at (meant what.now) p) s.old result s.new }
 {
     let policy = s.policy();
@@ -56,7 +56,7 @@ fn create_none<S: Steps>(
     unnumbered(plan)
 }
 
-fn unnumbered(plan: Result<Sequence<Change>, Fail>) -> Result<Shown, Fail>
+fn unnumbered(plan: Result<Sequence<Change>, CallError>) -> Result<Shown, CallError>
     ensures { result ≡ unnumbered plan }
 {
     match plan {
@@ -70,7 +70,7 @@ fn create_at<S: Steps>(
     parent: ItemId,
     name: &Name,
     what: &Creation,
-) -> Result<Shown, Fail>
+) -> Result<Shown, CallError>
     ensures { (p : Place) → Answers S.sense (IsPlaceAt parent name.now p) (create_at (meant what.now) p) s.old result s.new }
 {
     match s.next_number() {
@@ -83,7 +83,7 @@ fn create_at<S: Steps>(
 /// the look-up of a path at which something is made, as Exists, of a placeholder as IdentityTooLong, of a placeholder
 /// file as TooLarge beyond 16,777,216 bytes and as PolicyDenied where the policy keeps files full and it has bytes, then
 /// as Exhausted, TableFull.
-pub fn create<S: Steps>(s: &mut S, path: &str, what: &Creation) -> Result<Shown, Fail>
+pub fn create<S: Steps>(s: &mut S, path: &str, what: &Creation) -> Result<Shown, CallError>
     ensures { Answers S.sense Any (create path.now (meant what.now)) s.old result s.new }
 {
     match find_place(s, path) {

@@ -15,7 +15,7 @@ ghost use Rattle.cf_table.specs.Means.{Means};
 
 use crate::items::{is_directory, is_used, lacks_place, size_at};
 use crate::waiting::begin_limited;
-use cf_base::{Change, Code, End, Fail, Hydration, ItemId, Pin, Policy, Shown, Span, WaitKind};
+use cf_base::{Change, Code, End, CallError, Hydration, ItemId, Pin, Policy, Shown, Span, WaitKind};
 use cf_dehydrate::{Facts, Verdict, verdict};
 use cf_filter_steps::{Need, Steps, find_at};
 use cf_table::Row;
@@ -120,7 +120,7 @@ fn holds_from<S: Steps>(s: &S, id: ItemId, start: u64) -> bool
 }
 
 // The provider is asked.
-fn ask_consent<S: Steps>(s: &mut S, id: ItemId, start: u64, len: u64) -> Result<Shown, Fail>
+fn ask_consent<S: Steps>(s: &mut S, id: ItemId, start: u64, len: u64) -> Result<Shown, CallError>
     ensures { (i : Item) → Answers S.sense (MayEmpty id start len i) (ask_consent (consent_need i start len)) s.old result s.new }
 {
     let need = Need {
@@ -134,7 +134,7 @@ fn ask_consent<S: Steps>(s: &mut S, id: ItemId, start: u64, len: u64) -> Result<
 }
 
 // No provider is there to be asked.
-fn empty_now<S: Steps>(s: &mut S, id: ItemId, start: u64, len: u64) -> Result<Shown, Fail>
+fn empty_now<S: Steps>(s: &mut S, id: ItemId, start: u64, len: u64) -> Result<Shown, CallError>
     ensures { (i : Item) → Answers S.sense (MayEmpty id start len i) (empty_now i start len) s.old result s.new }
 {
     if lacks_place(s) {
@@ -149,7 +149,7 @@ fn empty_now<S: Steps>(s: &mut S, id: ItemId, start: u64, len: u64) -> Result<Sh
     Ok(Shown::Ended(End::Emptied))
 }
 
-fn empty_held<S: Steps>(s: &mut S, id: ItemId, start: u64, len: u64) -> Result<Shown, Fail>
+fn empty_held<S: Steps>(s: &mut S, id: ItemId, start: u64, len: u64) -> Result<Shown, CallError>
     ensures { (i : Item) → Answers S.sense (MayEmpty id start len i) (held_emptied i start len) s.old result s.new }
 {
     if s.is_connected() {
@@ -160,7 +160,7 @@ fn empty_held<S: Steps>(s: &mut S, id: ItemId, start: u64, len: u64) -> Result<S
 }
 
 // An allowed call. It is over at once where no byte of the range is here.
-fn empty_range<S: Steps>(s: &mut S, id: ItemId, start: u64, len: u64) -> Result<Shown, Fail>
+fn empty_range<S: Steps>(s: &mut S, id: ItemId, start: u64, len: u64) -> Result<Shown, CallError>
     ensures { (i : Item) → Answers S.sense (MayEmpty id start len i) (empty_range i start len) s.old result s.new }
 {
     if holds_from(s, id, start) {
@@ -176,7 +176,7 @@ fn cut(len: u64, size: u64, start: u64) -> u64
     len.min(size.saturating_sub(start))
 }
 
-fn dehydrate_item<S: Steps>(s: &mut S, id: ItemId, start: u64, len: u64) -> Result<Shown, Fail>
+fn dehydrate_item<S: Steps>(s: &mut S, id: ItemId, start: u64, len: u64) -> Result<Shown, CallError>
     ensures { (i : Item) → Answers S.sense (IsAt id i) (dehydrate_item i start len) s.old result s.new }
 {
     let used = is_used(s, id);
@@ -191,7 +191,7 @@ fn dehydrate_range<S: Steps>(
     s: &mut S,
     id: ItemId,
     range: Option<(u64, u64)>,
-) -> Result<Shown, Fail>
+) -> Result<Shown, CallError>
     ensures { (i : Item) → Answers S.sense (IsAt id i) (dehydrate_range range i) s.old result s.new }
 {
     match range {
@@ -203,7 +203,7 @@ fn dehydrate_range<S: Steps>(
     }
 }
 
-fn dehydrate_file<S: Steps>(s: &mut S, id: ItemId, range: Option<(u64, u64)>) -> Result<Shown, Fail>
+fn dehydrate_file<S: Steps>(s: &mut S, id: ItemId, range: Option<(u64, u64)>) -> Result<Shown, CallError>
     ensures { (i : Item) → Answers S.sense (IsAt id i) (but_directory (dehydrate_range range) i) s.old result s.new }
 {
     if is_directory(s, id) {
@@ -216,7 +216,7 @@ fn dehydrate_file<S: Steps>(s: &mut S, id: ItemId, range: Option<(u64, u64)>) ->
 /// The bytes of a placeholder file leave from a block on (CfDehydratePlaceholder), where the provider consents; without one
 /// at once. The range is a start and a length, in bytes, and the whole file where there is none. Refused as the look-up,
 /// IsDirectory, by the verdict as BadRange, NotPlaceholder, PolicyDenied, Pinned, NotInSync, InUse, then as Exhausted.
-pub fn dehydrate<S: Steps>(s: &mut S, path: &str, range: Option<(u64, u64)>) -> Result<Shown, Fail>
+pub fn dehydrate<S: Steps>(s: &mut S, path: &str, range: Option<(u64, u64)>) -> Result<Shown, CallError>
     ensures { Answers S.sense Any (dehydrate path.now range) s.old result s.new }
 {
     match find_at(s, path) {

@@ -20,7 +20,7 @@ ghost use Rattle.cf_tree.specs.Lines.{line_in, parent_in};
 use crate::consenting::{finish, finish_now};
 use crate::items::is_unlisted;
 use crate::listings::{are_names, list_changes, refuse_entries};
-use cf_base::{Ask, AuxRecord, Cause, Change, Code, Fail, ItemId, Memory, NewItem, Shown, Usn};
+use cf_base::{Ask, AuxRecord, Cause, Change, Code, CallError, ItemId, OutOfMemory, NewItem, Shown, Usn};
 use cf_filter_steps::{Room, Steps};
 use cf_table::{NO_USN, Rows};
 
@@ -90,7 +90,7 @@ fn list_code(named: bool, why: Option<Code>, deep: bool) -> Option<Code>
 }
 
 // Why a list is refused, besides for want of room: BadPath, Exists, IdentityTooLong, TooLarge, PolicyDenied, TooDeep.
-fn refuse_list<S: Steps>(s: &S, dir: ItemId, list: &[NewItem]) -> Result<Option<Code>, Memory>
+fn refuse_list<S: Steps>(s: &S, dir: ItemId, list: &[NewItem]) -> Result<Option<Code>, OutOfMemory>
     ensures { IfOk result (λ why. Reads S.sense Any (list_refusal dir list.now) s.now why) }
 {
     let named = are_names(s.alloc(), list)?;
@@ -118,7 +118,7 @@ fn enter_now<S: Steps>(
     ask: &Ask,
     changes: &[Change],
     records: &[AuxRecord],
-) -> Result<Shown, Fail>
+) -> Result<Shown, CallError>
     ensures { (f : Book → Book) → Answers S.sense (ReadyListed f ask.now.item changes.now records.now) (entered_by f ask.now changes.now) s.old result s.new }
 {
     s.enter(ask.item, changes, records)?;
@@ -131,7 +131,7 @@ fn put_listed<S: Steps>(
     ask: &Ask,
     changes: &[Change],
     records: &[AuxRecord],
-) -> Result<Shown, Fail>
+) -> Result<Shown, CallError>
     ensures { (f : Book → Book) → Answers S.sense (Listing f ask.now.item changes.now records.now) (put_listed f ask.now changes.now) s.old result s.new }
 {
     let room = s.room_listed(ask.item, changes, records)?;
@@ -156,14 +156,14 @@ fn enter_list<S: Steps>(
     ask: &Ask,
     list: &[NewItem],
     records: &[AuxRecord],
-) -> Result<Shown, Fail>
+) -> Result<Shown, CallError>
     ensures { (f : Book → Book) → Answers S.sense (IsOpenList f ask.now.item list.now records.now) (entered f ask.now list.now) s.old result s.new }
 {
     let policy = s.policy();
     let first = s.rows().next();
     // There are never so many items.
     if first.0 > u64::MAX - list.len() as u64 {
-        return Err(Fail::Memory);
+        return Err(CallError::OutOfMemory);
     }
     let number = first_number(s);
     let changes = list_changes(s.alloc(), &policy, ask.item, first, number, list)?;
@@ -177,14 +177,14 @@ fn answer_list<S: Steps>(
     list: &[NewItem],
     good: bool,
     records: &[AuxRecord],
-) -> Result<Shown, Fail>
+) -> Result<Shown, CallError>
     ensures { (f : Book → Book) → Answers S.sense (IsListable f ask.now.item list.now records.now) (listed_by f ask.now list.now good) s.old result s.new }
 {
     if !good {
         return finish(s, ask, Cause::Failed(1));
     }
     if !is_unlisted(s, ask.item) {
-        return Err(Fail::Memory);
+        return Err(CallError::OutOfMemory);
     }
     enter_list(s, ask, list, records)
 }
@@ -197,7 +197,7 @@ pub(crate) fn entries<S: Steps>(
     list: &[NewItem],
     good: bool,
     records: &[AuxRecord],
-) -> Result<Shown, Fail>
+) -> Result<Shown, CallError>
     ensures { (key : Key) (f : Book → Book) (a : Live) → Answers S.sense (IsLiveFor f (operation.Entries key list.now good) ask.now records.now a) (entries f a list.now good) s.old result s.new }
 {
     match refuse_list(s, ask.item, list)? {

@@ -14,7 +14,7 @@ use crate::entering::entries;
 use crate::items::base_at;
 use crate::retrieving::retrieve;
 use crate::transferring::{ack, refuse, restart, transfer};
-use cf_base::{Ask, AuxRecord, Code, Fail, Key, Operation, Shown};
+use cf_base::{Ask, AuxRecord, Code, CallError, Key, Operation, Shown};
 use cf_provider::{check, key_of};
 use cf_filter_steps::Steps;
 
@@ -52,7 +52,7 @@ fn execute_on<S: Steps>(
     op: &Operation,
     ask: &Ask,
     records: &[AuxRecord],
-) -> Result<Shown, Fail>
+) -> Result<Shown, CallError>
     ensures { (f : Book → Book) (a : Live) → Answers S.sense (IsLiveFor f op.now ask.now records.now a) (on_ask f op.now a) s.old result s.new }
 {
     match op {
@@ -72,7 +72,7 @@ fn execute_on<S: Steps>(
     }
 }
 
-fn execute_free<S: Steps>(s: &mut S, op: &Operation, records: &[AuxRecord]) -> Result<Shown, Fail>
+fn execute_free<S: Steps>(s: &mut S, op: &Operation, records: &[AuxRecord]) -> Result<Shown, CallError>
     ensures { (f : Book → Book) → Answers S.sense (IsFree f op.now records.now) (execute_with f op.now) s.old result s.new }
 {
     match ask_at(s, key_of(op)) {
@@ -87,7 +87,7 @@ pub fn execute_with<S: Steps>(
     s: &mut S,
     op: &Operation,
     records: &[AuxRecord],
-) -> Result<Shown, Fail>
+) -> Result<Shown, CallError>
     ensures { (f : Book → Book) → Answers S.sense (Keeps f records.now) (execute_with f op.now) s.old result s.new }
 {
     match refuse_op(s, op) {
@@ -97,7 +97,7 @@ pub fn execute_with<S: Steps>(
 }
 
 /// The same without records.
-pub fn execute<S: Steps>(s: &mut S, op: &Operation) -> Result<Shown, Fail>
+pub fn execute<S: Steps>(s: &mut S, op: &Operation) -> Result<Shown, CallError>
     ensures { Answers S.sense Any (execute op.now) s.old result s.new }
 {
     execute_with(s, op, &[])

@@ -8,7 +8,7 @@ ghost use Rattle.cf_model.specs.Calls.{number_at, size_at};
 ghost use Rattle.cf_model.specs.Dehydration.{in_use};
 ghost use Rattle.cf_filter_steps.specs.Answering.{Any, Reads};
 
-use cf_base::{Fail, ItemId, Shown, Usn};
+use cf_base::{CallError, ItemId, Shown, Usn};
 use cf_filter_steps::{Steps, base_of};
 use cf_table::{NO_USN, Row};
 
@@ -44,12 +44,12 @@ pub(crate) fn is_used<S: Steps>(s: &S, id: ItemId) -> bool
 }
 
 /// A refusal as what the call tells.
-pub(crate) fn refused_by(fail: Fail) -> Result<Shown, Fail>
+pub(crate) fn refused_by(fail: CallError) -> Result<Shown, CallError>
     ensures { result ≡ refusal_of fail }
 {
     match fail {
-        Fail::No(code) => Ok(Shown::Refused(code)),
-        Fail::Memory => Err(Fail::Memory),
+        CallError::No(code) => Ok(Shown::Refused(code)),
+        CallError::OutOfMemory => Err(CallError::OutOfMemory),
     }
 }
 

@@ -12,7 +12,7 @@ ghost use Rattle.cf_model.specs.Words.{same, when};
 
 use crate::dehydrating::is_always_full;
 use cf_base::{
-    Blob, Change, Code, Fail, ItemId, Kind, Memory, Name, NewItem, Policy, Population, Sequence,
+    Blob, Change, Code, CallError, ItemId, Kind, OutOfMemory, Name, NewItem, Policy, Population, Sequence,
     Usn,
 };
 use std::alloc::Global;
@@ -23,26 +23,26 @@ const MOST_IDENTITY: usize = 4096;
 /// The greatest file, in bytes.
 const MOST_BYTES: u64 = 16_777_216;
 
-fn try_name(alloc: Global, bytes: &[u8]) -> Result<(), Fail>
+fn try_name(alloc: Global, bytes: &[u8]) -> Result<(), CallError>
     ensures ok { IfOk result (λ u. is_base_name bytes.now ≡ true) }
-    ensures bad { IfErr result (λ e. (e ≡ Fail.Memory) ⊎ ((e ≡ Fail.No Code.BadPath) × (is_base_name bytes.now ≡ false))) }
+    ensures bad { IfErr result (λ e. (e ≡ CallError.OutOfMemory) ⊎ ((e ≡ CallError.No Code.BadPath) × (is_base_name bytes.now ≡ false))) }
 {
     Name::read(alloc, bytes)?;
     Ok(())
 }
 
-fn is_name(alloc: Global, bytes: &[u8]) -> Result<bool, Memory>
+fn is_name(alloc: Global, bytes: &[u8]) -> Result<bool, OutOfMemory>
     ensures { IfOk result (λ b. b ≡ is_name bytes.now) }
 {
     match try_name(alloc, bytes) {
         Ok(()) => Ok(true),
-        Err(Fail::No(_)) => Ok(false),
-        Err(Fail::Memory) => Err(Memory),
+        Err(CallError::No(_)) => Ok(false),
+        Err(CallError::OutOfMemory) => Err(OutOfMemory),
     }
 }
 
 /// Whether each entry has a name.
-pub(crate) fn are_names(alloc: Global, list: &[NewItem]) -> Result<bool, Memory>
+pub(crate) fn are_names(alloc: Global, list: &[NewItem]) -> Result<bool, OutOfMemory>
     ensures { IfOk result (λ b. b ≡ are_names list.now) }
 {
     for entry in list {
@@ -165,12 +165,12 @@ fn size_of(entry: &NewItem) -> u64
 }
 
 // The name of an entry; a list with one that has none was refused.
-fn name_of(alloc: Global, bytes: &[u8]) -> Result<Name, Memory>
+fn name_of(alloc: Global, bytes: &[u8]) -> Result<Name, OutOfMemory>
     ensures { IfOk result (λ n. n ≡ bytes.now) }
 {
     match Name::read(alloc, bytes) {
         Ok(name) => Ok(name),
-        Err(_) => Err(Memory),
+        Err(_) => Err(OutOfMemory),
     }
 }
 
@@ -180,7 +180,7 @@ fn make_of(
     dir: ItemId,
     item: ItemId,
     entry: &NewItem,
-) -> Result<Change, Memory>
+) -> Result<Change, OutOfMemory>
     ensures { IfOk result (λ c. c ≡ change.Make item dir entry.now.name (entry_kind policy.now entry.now.dir) (cond entry.now.dir 0 entry.now.size) entry.now.identity) }
 {
     Ok(Change::Make {
@@ -199,7 +199,7 @@ fn push_mark(
     item: ItemId,
     number: Usn,
     mark: bool,
-) -> Result<(), Memory>
+) -> Result<(), OutOfMemory>
     ensures { OnOk result (changes.new ≡ changes.old ++ when mark (change.Mark item number ∷ [])) }
 {
     if mark {
@@ -227,7 +227,7 @@ pub(crate) fn list_changes(
     first: ItemId,
     number: Usn,
     list: &[NewItem],
-) -> Result<Sequence<Change>, Memory>
+) -> Result<Sequence<Change>, OutOfMemory>
     requires { first.0 + length list.now < 2 ^ 64 }
     ensures { IfOk result (λ cs. cs ≡ listed_changes policy.now dir first.0 number list.now) }
 {

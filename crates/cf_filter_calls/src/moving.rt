@@ -12,7 +12,7 @@ ghost use Rattle.cf_filter_steps.specs.Answering.{Answers, Any};
 
 use crate::items::refused_by;
 use crate::pinning::make_all;
-use cf_base::{Change, Fail, ItemId, Name, Shown};
+use cf_base::{Change, CallError, ItemId, Name, Shown};
 use cf_filter_steps::{Steps, find_below_root, find_place};
 use cf_table::Row;
 use cf_tree::check_move;
@@ -40,7 +40,7 @@ fn has_name(row: &Row, name: &Name) -> bool
     row.name.as_slice() == name.as_slice()
 }
 
-fn move_now<S: Steps>(s: &mut S, id: ItemId, parent: ItemId, name: &Name) -> Result<Shown, Fail>
+fn move_now<S: Steps>(s: &mut S, id: ItemId, parent: ItemId, name: &Name) -> Result<Shown, CallError>
     ensures { (i : Item) (p : Place) → Answers S.sense (MayMoveAt id parent name.now i p) (changing (move_of i p) done) s.old result s.new }
 {
     if stands_there(s, id, parent, name) {
@@ -54,7 +54,7 @@ fn move_now<S: Steps>(s: &mut S, id: ItemId, parent: ItemId, name: &Name) -> Res
     make_all(s, slice::from_ref(&change))
 }
 
-fn rename_to<S: Steps>(s: &mut S, id: ItemId, parent: ItemId, name: &Name) -> Result<Shown, Fail>
+fn rename_to<S: Steps>(s: &mut S, id: ItemId, parent: ItemId, name: &Name) -> Result<Shown, CallError>
     ensures { (i : Item) (p : Place) → Answers S.sense (IsMoveAt id parent name.now i p) (rename_to i p) s.old result s.new }
 {
     match check_move(s.alloc(), s.rows(), id, parent, name) {
@@ -63,7 +63,7 @@ fn rename_to<S: Steps>(s: &mut S, id: ItemId, parent: ItemId, name: &Name) -> Re
     }
 }
 
-fn rename_item<S: Steps>(s: &mut S, id: ItemId, to: &str) -> Result<Shown, Fail>
+fn rename_item<S: Steps>(s: &mut S, id: ItemId, to: &str) -> Result<Shown, CallError>
     ensures { (i : Item) → Answers S.sense (IsBelowAt id i) (rename_item to.now i) s.old result s.new }
 {
     match find_place(s, to) {
@@ -74,7 +74,7 @@ fn rename_item<S: Steps>(s: &mut S, id: ItemId, to: &str) -> Result<Shown, Fail>
 
 /// Moves an item to a path, whose directory gives its pin where it is another. A move to where it stands changes nothing.
 /// Refused as the look-ups of both, the first not the root's, as IntoItself, TooDeep, Exists, Exhausted, TableFull.
-pub fn rename<S: Steps>(s: &mut S, from: &str, to: &str) -> Result<Shown, Fail>
+pub fn rename<S: Steps>(s: &mut S, from: &str, to: &str) -> Result<Shown, CallError>
     ensures { Answers S.sense Any (rename from.now to.now) s.old result s.new }
 {
     match find_below_root(s, from) {

@@ -6,12 +6,12 @@ ghost use Rattle.cf_model.specs.Items.{Item};
 ghost use Rattle.cf_filter_steps.specs.Answering.{Answers, Any, IsAt};
 ghost use Rattle.cf_filter_steps.specs.Suiting.{Suiting};
 
-use cf_base::{Change, Fail, ItemId, Pin, Reach, Shown};
+use cf_base::{Change, CallError, ItemId, Pin, Reach, Shown};
 use cf_pin::plan_pin;
 use cf_filter_steps::{Steps, change_all, find_at};
 
 // Makes the changes, which is all that the call tells.
-pub(crate) fn make_all<S: Steps>(s: &mut S, changes: &[Change]) -> Result<Shown, Fail>
+pub(crate) fn make_all<S: Steps>(s: &mut S, changes: &[Change]) -> Result<Shown, CallError>
     ensures { Answers S.sense (Suiting changes.now) (all_changed changes.now) s.old result s.new }
 {
     match change_all(s, changes)? {
@@ -20,7 +20,7 @@ pub(crate) fn make_all<S: Steps>(s: &mut S, changes: &[Change]) -> Result<Shown,
     }
 }
 
-fn pin_item<S: Steps>(s: &mut S, id: ItemId, pin: Pin, reach: Reach) -> Result<Shown, Fail>
+fn pin_item<S: Steps>(s: &mut S, id: ItemId, pin: Pin, reach: Reach) -> Result<Shown, CallError>
     ensures { (i : Item) → Answers S.sense (IsAt id i) (pin_item pin reach i) s.old result s.new }
 {
     let changes = plan_pin(s.alloc(), s.rows(), id, pin, reach)?;
@@ -29,7 +29,7 @@ fn pin_item<S: Steps>(s: &mut S, id: ItemId, pin: Pin, reach: Reach) -> Result<S
 
 /// Sets a pin state (CfSetPinState) on an item, on it and all below it, or on those below it. Items that have it get no
 /// change. Refused as the look-up, Exhausted.
-pub fn set_pin<S: Steps>(s: &mut S, path: &str, pin: Pin, reach: Reach) -> Result<Shown, Fail>
+pub fn set_pin<S: Steps>(s: &mut S, path: &str, pin: Pin, reach: Reach) -> Result<Shown, CallError>
     ensures { Answers S.sense Any (set_pin path.now pin reach) s.old result s.new }
 {
     match find_at(s, path) {

@@ -11,12 +11,12 @@ ghost use Rattle.cf_filter_steps.specs.Finding.{Plans};
 ghost use Rattle.cf_filter_steps.specs.Suiting.{Suiting};
 
 use crate::items::{is_used, number_at, refused_by};
-use cf_base::{Change, Code, Fail, Identity, ItemId, Sequence, Shown};
+use cf_base::{Change, Code, CallError, Identity, ItemId, Sequence, Shown};
 use cf_placeholder::{plan_convert, plan_revert, plan_unmark, plan_update};
 use cf_filter_steps::{Steps, change_all, find_at, find_below_root};
 
 // Makes the changes, and gives the item's number.
-fn make_on<S: Steps>(s: &mut S, id: ItemId, changes: &[Change]) -> Result<Shown, Fail>
+fn make_on<S: Steps>(s: &mut S, id: ItemId, changes: &[Change]) -> Result<Shown, CallError>
     ensures { Answers S.sense (Suiting changes.now) (planned_on id changes.now) s.old result s.new }
 {
     match change_all(s, changes)? {
@@ -29,8 +29,8 @@ fn make_on<S: Steps>(s: &mut S, id: ItemId, changes: &[Change]) -> Result<Shown,
 fn make_planned<S: Steps>(
     s: &mut S,
     id: ItemId,
-    plan: Result<Sequence<Change>, Fail>,
-) -> Result<Shown, Fail>
+    plan: Result<Sequence<Change>, CallError>,
+) -> Result<Shown, CallError>
     ensures { (f : Plan) → Plans S.sense id f s.old plan → PlansSuit id f → (i : Item) → Answers S.sense (IsAt id i) (reading (f i) (on_ok (planned_on i.id))) s.old result s.new }
 {
     match plan {
@@ -39,17 +39,17 @@ fn make_planned<S: Steps>(
     }
 }
 
-fn convert_plan<S: Steps>(s: &S, id: ItemId, identity: &Identity) -> Result<Sequence<Change>, Fail>
+fn convert_plan<S: Steps>(s: &S, id: ItemId, identity: &Identity) -> Result<Sequence<Change>, CallError>
     ensures { Plans S.sense id (by_convert identity.now) s.now result }
 {
     // What was found has a row.
     match s.rows().get(id) {
         Some(row) => plan_convert(s.alloc(), row, identity),
-        None => Err(Fail::No(Code::NotFound)),
+        None => Err(CallError::No(Code::NotFound)),
     }
 }
 
-fn convert_item<S: Steps>(s: &mut S, id: ItemId, identity: &Identity) -> Result<Shown, Fail>
+fn convert_item<S: Steps>(s: &mut S, id: ItemId, identity: &Identity) -> Result<Shown, CallError>
     ensures { (i : Item) → Answers S.sense (IsAt id i) (convert_item identity.now i) s.old result s.new }
 {
     let plan = convert_plan(s, id, identity);
@@ -58,7 +58,7 @@ fn convert_item<S: Steps>(s: &mut S, id: ItemId, identity: &Identity) -> Result<
 
 /// An item becomes a placeholder (CfConvertToPlaceholder). Gives its number. Refused as the look-up of a path that is not
 /// the root's, AlreadyPlaceholder, IdentityTooLong, Exhausted, TableFull.
-pub fn convert<S: Steps>(s: &mut S, path: &str, identity: &Identity) -> Result<Shown, Fail>
+pub fn convert<S: Steps>(s: &mut S, path: &str, identity: &Identity) -> Result<Shown, CallError>
     ensures { Answers S.sense Any (convert path.now identity.now) s.old result s.new }
 {
     match find_below_root(s, path) {
@@ -67,16 +67,16 @@ pub fn convert<S: Steps>(s: &mut S, path: &str, identity: &Identity) -> Result<S
     }
 }
 
-fn revert_plan<S: Steps>(s: &S, id: ItemId) -> Result<Sequence<Change>, Fail>
+fn revert_plan<S: Steps>(s: &S, id: ItemId) -> Result<Sequence<Change>, CallError>
     ensures { Plans S.sense id revert_plan s.now result }
 {
     match s.rows().get(id) {
         Some(row) => plan_revert(s.alloc(), row, is_used(s, id)),
-        None => Err(Fail::No(Code::NotFound)),
+        None => Err(CallError::No(Code::NotFound)),
     }
 }
 
-fn revert_item<S: Steps>(s: &mut S, id: ItemId) -> Result<Shown, Fail>
+fn revert_item<S: Steps>(s: &mut S, id: ItemId) -> Result<Shown, CallError>
     ensures { (i : Item) → Answers S.sense (IsAt id i) (revert_item i) s.old result s.new }
 {
     let plan = revert_plan(s, id);
@@ -85,7 +85,7 @@ fn revert_item<S: Steps>(s: &mut S, id: ItemId) -> Result<Shown, Fail>
 
 /// A placeholder becomes a plain file or directory (CfRevertPlaceholder). Gives its number. Refused as the look-up,
 /// NotPlaceholder, NotPopulated, NotHydrated, InUse, Exhausted, TableFull.
-pub fn revert<S: Steps>(s: &mut S, path: &str) -> Result<Shown, Fail>
+pub fn revert<S: Steps>(s: &mut S, path: &str) -> Result<Shown, CallError>
     ensures { Answers S.sense Any (revert path.now) s.old result s.new }
 {
     match find_at(s, path) {
@@ -99,13 +99,13 @@ fn update_plan<S: Steps>(
     id: ItemId,
     identity: &Identity,
     size: Option<u64>,
-) -> Result<Sequence<Change>, Fail>
+) -> Result<Sequence<Change>, CallError>
     ensures { Plans S.sense id (update_plan identity.now size) s.now result }
 {
     let policy = s.policy();
     match s.rows().get(id) {
         Some(row) => plan_update(s.alloc(), &policy, row, identity, size, is_used(s, id)),
-        None => Err(Fail::No(Code::NotFound)),
+        None => Err(CallError::No(Code::NotFound)),
     }
 }
 
@@ -114,7 +114,7 @@ fn update_item<S: Steps>(
     id: ItemId,
     identity: &Identity,
     size: Option<u64>,
-) -> Result<Shown, Fail>
+) -> Result<Shown, CallError>
     ensures { (i : Item) → Answers S.sense (IsAt id i) (update_item identity.now size i) s.old result s.new }
 {
     let plan = update_plan(s, id, identity, size);
@@ -129,7 +129,7 @@ pub fn update<S: Steps>(
     path: &str,
     identity: &Identity,
     size: Option<u64>,
-) -> Result<Shown, Fail>
+) -> Result<Shown, CallError>
     ensures { Answers S.sense Any (update path.now identity.now size) s.old result s.new }
 {
     match find_at(s, path) {
@@ -138,16 +138,16 @@ pub fn update<S: Steps>(
     }
 }
 
-fn unmark_plan<S: Steps>(s: &S, id: ItemId) -> Result<Sequence<Change>, Fail>
+fn unmark_plan<S: Steps>(s: &S, id: ItemId) -> Result<Sequence<Change>, CallError>
     ensures { Plans S.sense id by_unmark s.now result }
 {
     match s.rows().get(id) {
         Some(row) => plan_unmark(s.alloc(), row),
-        None => Err(Fail::No(Code::NotFound)),
+        None => Err(CallError::No(Code::NotFound)),
     }
 }
 
-fn unmark_item<S: Steps>(s: &mut S, id: ItemId) -> Result<Shown, Fail>
+fn unmark_item<S: Steps>(s: &mut S, id: ItemId) -> Result<Shown, CallError>
     ensures { (i : Item) → Answers S.sense (IsAt id i) (unmark_item i) s.old result s.new }
 {
     let plan = unmark_plan(s, id);
@@ -155,7 +155,7 @@ fn unmark_item<S: Steps>(s: &mut S, id: ItemId) -> Result<Shown, Fail>
 }
 
 /// A placeholder is not in sync (CfSetInSyncState). Gives its number. Refused as the look-up, NotPlaceholder, Exhausted.
-pub fn unmark<S: Steps>(s: &mut S, path: &str) -> Result<Shown, Fail>
+pub fn unmark<S: Steps>(s: &mut S, path: &str) -> Result<Shown, CallError>
     ensures { Answers S.sense Any (unmark path.now) s.old result s.new }
 {
     match find_at(s, path) {

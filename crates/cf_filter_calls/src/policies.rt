@@ -8,7 +8,7 @@ ghost use Rattle.cf_model.specs.Waits.{but_directory};
 ghost use Rattle.cf_filter_steps.specs.Answering.{Answers, Any, IsAt, Reads};
 
 use crate::items::is_directory;
-use cf_base::{Code, Fail, ItemId, Mode, Policy, Population, Shown};
+use cf_base::{Code, CallError, ItemId, Mode, Policy, Population, Shown};
 use cf_filter_steps::{Steps, find_at};
 
 fn is_always_population(population: Population) -> bool
@@ -50,7 +50,7 @@ fn refuse_policy<S: Steps>(s: &S, mode: Mode, policy: &Policy) -> Option<Code>
 
 /// Another policy from now on (CfRegisterSyncRoot). Refused as BadPolicy where the mode has none such, as InUse while a
 /// handle is open or a wait is live, as NotPopulated where it lists all directories and the entries of one are not known.
-pub fn set_policy<S: Steps>(s: &mut S, mode: Mode, policy: &Policy) -> Result<Shown, Fail>
+pub fn set_policy<S: Steps>(s: &mut S, mode: Mode, policy: &Policy) -> Result<Shown, CallError>
     ensures { Answers S.sense Any (set_policy mode policy.now) s.old result s.new }
 {
     match refuse_policy(s, mode, policy) {
@@ -62,14 +62,14 @@ pub fn set_policy<S: Steps>(s: &mut S, mode: Mode, policy: &Policy) -> Result<Sh
     }
 }
 
-fn used_by<S: Steps>(s: &S, id: ItemId) -> Result<Shown, Fail>
+fn used_by<S: Steps>(s: &S, id: ItemId) -> Result<Shown, CallError>
     ensures { Answers S.sense Any (used_by id) s.now result s.now }
 {
     let clock = s.last_access(id);
     Ok(Shown::Used(clock))
 }
 
-fn used_item<S: Steps>(s: &S, id: ItemId) -> Result<Shown, Fail>
+fn used_item<S: Steps>(s: &S, id: ItemId) -> Result<Shown, CallError>
     ensures { (i : Item) → Answers S.sense (IsAt id i) (but_directory used_item i) s.now result s.now }
 {
     if is_directory(s, id) {
@@ -80,7 +80,7 @@ fn used_item<S: Steps>(s: &S, id: ItemId) -> Result<Shown, Fail>
 }
 
 /// The clock of a file's last access, 0 of none. Refused as the look-up, IsDirectory.
-pub fn used<S: Steps>(s: &S, path: &str) -> Result<Shown, Fail>
+pub fn used<S: Steps>(s: &S, path: &str) -> Result<Shown, CallError>
     ensures { Answers S.sense Any (used path.now) s.now result s.now }
 {
     match find_at(s, path) {
@@ -90,7 +90,7 @@ pub fn used<S: Steps>(s: &S, path: &str) -> Result<Shown, Fail>
 }
 
 /// How many blocks of 4,096 bytes are used, and how many there are.
-pub fn df<S: Steps>(s: &S) -> Result<Shown, Fail>
+pub fn df<S: Steps>(s: &S) -> Result<Shown, CallError>
     ensures { Answers S.sense Any df s.now result s.now }
 {
     let blocks = s.used_blocks();

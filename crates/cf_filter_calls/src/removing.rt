@@ -10,7 +10,7 @@ ghost use Rattle.cf_filter_steps.specs.Answering.{Answers, Any, IsAt, Reads};
 ghost use Rattle.cf_filter_steps.specs.Putting.{MayGo};
 
 use crate::items::{is_unlisted, is_used, lacks_place};
-use cf_base::{Code, Fail, ItemId, Memory, Mode, Shown};
+use cf_base::{Code, CallError, ItemId, OutOfMemory, Mode, Shown};
 use cf_filter_steps::{Steps, find_below_root};
 
 fn is_replay(mode: Mode) -> bool
@@ -31,7 +31,7 @@ fn is_any(ids: &[ItemId]) -> bool
     }
 }
 
-fn has_children<S: Steps>(s: &S, id: ItemId) -> Result<bool, Memory>
+fn has_children<S: Steps>(s: &S, id: ItemId) -> Result<bool, OutOfMemory>
     ensures { IfOk result (λ b. Reads S.sense Any (has_children id) s.now b) }
 {
     let children = s.rows().children(id)?;
@@ -57,7 +57,7 @@ fn delete_code(unlisted: bool, full: bool, used: bool, none: bool) -> Option<Cod
 }
 
 // Why an item is not removed: NotPopulated, NotEmpty, InUse, Exhausted.
-fn refuse_delete<S: Steps>(s: &S, id: ItemId) -> Result<Option<Code>, Memory>
+fn refuse_delete<S: Steps>(s: &S, id: ItemId) -> Result<Option<Code>, OutOfMemory>
     ensures { IfOk result (λ why. (i : Item) → Reads S.sense (IsAt id i) (delete_refusal i) s.now why) }
 {
     let full = has_children(s, id)?;
@@ -67,7 +67,7 @@ fn refuse_delete<S: Steps>(s: &S, id: ItemId) -> Result<Option<Code>, Memory>
     Ok(delete_code(unlisted, full, used, none))
 }
 
-fn remove_next<S: Steps>(s: &mut S, id: ItemId, mode: Mode) -> Result<Shown, Fail>
+fn remove_next<S: Steps>(s: &mut S, id: ItemId, mode: Mode) -> Result<Shown, CallError>
     ensures { (i : Item) → Answers S.sense (MayGo id i) (removed_next mode i) s.old result s.new }
 {
     let bury = is_replay(mode);
@@ -75,7 +75,7 @@ fn remove_next<S: Steps>(s: &mut S, id: ItemId, mode: Mode) -> Result<Shown, Fai
     Ok(Shown::Done)
 }
 
-fn delete_item<S: Steps>(s: &mut S, id: ItemId, mode: Mode) -> Result<Shown, Fail>
+fn delete_item<S: Steps>(s: &mut S, id: ItemId, mode: Mode) -> Result<Shown, CallError>
     ensures { (i : Item) → Answers S.sense (IsBelowAt id i) (delete_item mode i) s.old result s.new }
 {
     match refuse_delete(s, id)? {
@@ -86,7 +86,7 @@ fn delete_item<S: Steps>(s: &mut S, id: ItemId, mode: Mode) -> Result<Shown, Fai
 
 /// Removes a file or an empty directory. In mode Replay it leaves a tombstone where the item has a target. Refused as the
 /// look-up of a path that is not the root's, NotPopulated, NotEmpty, InUse, Exhausted.
-pub fn delete<S: Steps>(s: &mut S, mode: Mode, path: &str) -> Result<Shown, Fail>
+pub fn delete<S: Steps>(s: &mut S, mode: Mode, path: &str) -> Result<Shown, CallError>
     ensures { Answers S.sense Any (delete mode path.now) s.old result s.new }
 {
     match find_below_root(s, path) {

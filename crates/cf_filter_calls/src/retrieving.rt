@@ -15,7 +15,7 @@ ghost use Rattle.cf_filter_steps.specs.Putting.{IsHere};
 ghost use Rattle.cf_table.specs.Means.{Means};
 
 use cf_ask_rule::Act;
-use cf_base::{Ask, Code, Fail, ItemId, Shown, Span};
+use cf_base::{Ask, Code, CallError, ItemId, Shown, Span};
 use cf_filter_steps::{Steps, settle};
 use cf_table::Row;
 
@@ -55,7 +55,7 @@ fn holds_all<S: Steps>(s: &S, id: ItemId, span: Span) -> bool
     }
 }
 
-fn retrieve_now<S: Steps>(s: &mut S, ask: &Ask, span: Span) -> Result<Shown, Fail>
+fn retrieve_now<S: Steps>(s: &mut S, ask: &Ask, span: Span) -> Result<Shown, CallError>
     ensures { Answers S.sense (IsHere ask.now.item span) (retrieved ask.now span) s.old result s.new }
 {
     let bytes = s.retrieve(ask.item, span)?;
@@ -68,7 +68,7 @@ fn retrieve_now<S: Steps>(s: &mut S, ask: &Ask, span: Span) -> Result<Shown, Fai
 }
 
 /// The bytes of a span of a validate ask. Refused as OutsideAsk where one of them is not here.
-pub(crate) fn retrieve<S: Steps>(s: &mut S, ask: &Ask, span: Span) -> Result<Shown, Fail>
+pub(crate) fn retrieve<S: Steps>(s: &mut S, ask: &Ask, span: Span) -> Result<Shown, CallError>
     ensures { (key : Key) (f : Book → Book) (records : List AuxRecord) (a : Live) → Answers S.sense (IsLiveFor f (operation.Retrieve key span) ask.now records a) (retrieve a span) s.old result s.new }
 {
     if holds_all(s, ask.item, span) {

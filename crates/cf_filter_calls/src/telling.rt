@@ -14,7 +14,7 @@ ghost use Rattle.cf_filter_steps.specs.Good.{IsSmall};
 ghost use Rattle.cf_table.specs.Means.{Means};
 
 use crate::items::is_directory;
-use cf_base::{Class, Code, Fail, ItemId, Kind, Sequence, Shown};
+use cf_base::{Class, Code, CallError, ItemId, Kind, Sequence, Shown};
 use cf_ranges::RangeSet;
 use cf_filter_steps::{Steps, find_at};
 use cf_table::Row;
@@ -34,7 +34,7 @@ fn kind_by(dir: bool, populated: bool, placeholder: bool) -> Kind
     }
 }
 
-fn show_info(row: &Row) -> Result<Shown, Fail>
+fn show_info(row: &Row) -> Result<Shown, CallError>
     ensures { (i : Item) → Means row.now i → IsShown (info_of i) result }
 {
     let identity = row.identity.copy()?;
@@ -49,7 +49,7 @@ fn show_info(row: &Row) -> Result<Shown, Fail>
     })
 }
 
-fn info_item<S: Steps>(s: &S, id: ItemId) -> Result<Shown, Fail>
+fn info_item<S: Steps>(s: &S, id: ItemId) -> Result<Shown, CallError>
     ensures { (i : Item) → Answers S.sense (IsAt id i) (info_item i) s.now result s.now }
 {
     match s.rows().get(id) {
@@ -60,7 +60,7 @@ fn info_item<S: Steps>(s: &S, id: ItemId) -> Result<Shown, Fail>
 
 /// An item's id, kind, size, stored pin state, whether it is in sync, its number and its identity
 /// (CfGetPlaceholderInfo). Refused as the look-up.
-pub fn info<S: Steps>(s: &S, path: &str) -> Result<Shown, Fail>
+pub fn info<S: Steps>(s: &S, path: &str) -> Result<Shown, CallError>
     ensures { Answers S.sense Any (info path.now) s.now result s.now }
 {
     match find_at(s, path) {
@@ -69,14 +69,14 @@ pub fn info<S: Steps>(s: &S, path: &str) -> Result<Shown, Fail>
     }
 }
 
-fn show_runs(alloc: Global, set: &RangeSet) -> Result<Shown, Fail>
+fn show_runs(alloc: Global, set: &RangeSet) -> Result<Shown, CallError>
     ensures { (flags : List Bool) → length flags ≤ 2 ^ 40 → ((p : ℕ) → contains set.now p ≡ passes_at (λ b. b) flags p) → IsShown (shown.Ranges (runs_of flags)) result }
 {
     let runs = Vec::from_slice(alloc, set.runs())?;
     Ok(Shown::Ranges(Sequence::from_vec(runs)))
 }
 
-fn show_ranges(alloc: Global, row: &Row, class: Class) -> Result<Shown, Fail>
+fn show_ranges(alloc: Global, row: &Row, class: Class) -> Result<Shown, CallError>
     ensures { (i : Item) → Means row.now i → IsSmall i → IsShown (shown.Ranges (runs_of (class_flags class i))) result }
 {
     match class {
@@ -86,7 +86,7 @@ fn show_ranges(alloc: Global, row: &Row, class: Class) -> Result<Shown, Fail>
     }
 }
 
-fn ranges_at<S: Steps>(s: &S, id: ItemId, class: Class) -> Result<Shown, Fail>
+fn ranges_at<S: Steps>(s: &S, id: ItemId, class: Class) -> Result<Shown, CallError>
     ensures { (i : Item) → Answers S.sense (IsAt id i) (ranges_item class i) s.now result s.now }
 {
     match s.rows().get(id) {
@@ -95,7 +95,7 @@ fn ranges_at<S: Steps>(s: &S, id: ItemId, class: Class) -> Result<Shown, Fail>
     }
 }
 
-fn ranges_item<S: Steps>(s: &S, id: ItemId, class: Class) -> Result<Shown, Fail>
+fn ranges_item<S: Steps>(s: &S, id: ItemId, class: Class) -> Result<Shown, CallError>
     ensures { (i : Item) → Answers S.sense (IsAt id i) (but_directory (ranges_item class) i) s.now result s.now }
 {
     if is_directory(s, id) {
@@ -107,7 +107,7 @@ fn ranges_item<S: Steps>(s: &S, id: ItemId, class: Class) -> Result<Shown, Fail>
 
 /// The maximal runs of a file's bytes that are here, that the provider vouched for, or that were written and not yet taken
 /// in by the base (CfGetPlaceholderRangeInfo). Refused as the look-up, IsDirectory.
-pub fn ranges<S: Steps>(s: &S, path: &str, class: Class) -> Result<Shown, Fail>
+pub fn ranges<S: Steps>(s: &S, path: &str, class: Class) -> Result<Shown, CallError>
     ensures { Answers S.sense Any (ranges path.now class) s.now result s.now }
 {
     match find_at(s, path) {

@@ -13,7 +13,7 @@ ghost use Rattle.cf_filter_steps.specs.Answering.{Answers};
 use crate::changing::operate;
 use crate::items::size_at;
 use cf_ask_rule::Act;
-use cf_base::{Ask, Blob, Cause, Change, Code, Fail, Shown, Span};
+use cf_base::{Ask, Blob, Cause, Change, Code, CallError, Shown, Span};
 use cf_provider::touched_blocks;
 use cf_filter_steps::{Steps, settle};
 
@@ -28,13 +28,13 @@ pub(crate) fn is_near(span: Span) -> bool
 }
 
 /// Bytes of a fetch ask. Refused as TableFull, Full, TooManyAsks, Exhausted.
-pub(crate) fn transfer<S: Steps>(s: &mut S, ask: &Ask, at: u64, bytes: &Blob) -> Result<Shown, Fail>
+pub(crate) fn transfer<S: Steps>(s: &mut S, ask: &Ask, at: u64, bytes: &Blob) -> Result<Shown, CallError>
     ensures { (key : Key) (f : Book → Book) (records : List AuxRecord) (a : Live) → Answers S.sense (IsLiveFor f (operation.Transfer key at bytes.now) ask.now records a) (transfer a at bytes.now) s.old result s.new }
 {
     let len = bytes.as_slice().len() as u64;
     let span = Span { start: at, len };
     if !is_near(span) {
-        return Err(Fail::Memory);
+        return Err(CallError::OutOfMemory);
     }
     let change = Change::Filled {
         item: ask.item,
@@ -47,7 +47,7 @@ pub(crate) fn transfer<S: Steps>(s: &mut S, ask: &Ask, at: u64, bytes: &Blob) ->
 }
 
 /// No bytes for blocks of a fetch ask: the waits that miss a byte in them end so.
-pub(crate) fn refuse<S: Steps>(s: &mut S, ask: &Ask, span: Span, status: u32) -> Result<Shown, Fail>
+pub(crate) fn refuse<S: Steps>(s: &mut S, ask: &Ask, span: Span, status: u32) -> Result<Shown, CallError>
     ensures { (key : Key) (f : Book → Book) (records : List AuxRecord) (a : Live) → Answers S.sense (IsLiveFor f (operation.Refuse key span status) ask.now records a) (refuse a span status) s.old result s.new }
 {
     let act = Act::Fails {
@@ -60,7 +60,7 @@ pub(crate) fn refuse<S: Steps>(s: &mut S, ask: &Ask, span: Span, status: u32) ->
 }
 
 // The bytes of a span are good.
-fn vouch<S: Steps>(s: &mut S, ask: &Ask, span: Span) -> Result<Shown, Fail>
+fn vouch<S: Steps>(s: &mut S, ask: &Ask, span: Span) -> Result<Shown, CallError>
     requires near { (span.start ≤ 549755813888) × (span.len ≤ 549755813888) }
     ensures { (key : Key) (f : Book → Book) (records : List AuxRecord) (a : Live) → Answers S.sense (IsLiveFor f (operation.Ack key span true) ask.now records a) (ack a span true) s.old result s.new }
 {
@@ -75,7 +75,7 @@ fn vouch<S: Steps>(s: &mut S, ask: &Ask, span: Span) -> Result<Shown, Fail>
 }
 
 // The bytes of a span are not good.
-fn disown<S: Steps>(s: &mut S, ask: &Ask, span: Span) -> Result<Shown, Fail>
+fn disown<S: Steps>(s: &mut S, ask: &Ask, span: Span) -> Result<Shown, CallError>
     requires near { (span.start ≤ 549755813888) × (span.len ≤ 549755813888) }
     ensures { (key : Key) (f : Book → Book) (records : List AuxRecord) (a : Live) → Answers S.sense (IsLiveFor f (operation.Ack key span false) ask.now records a) (ack a span false) s.old result s.new }
 {
@@ -93,11 +93,11 @@ fn disown<S: Steps>(s: &mut S, ask: &Ask, span: Span) -> Result<Shown, Fail>
 }
 
 /// The bytes of blocks of a validate ask are good, or leave. Refused as TableFull, Exhausted.
-pub(crate) fn ack<S: Steps>(s: &mut S, ask: &Ask, span: Span, good: bool) -> Result<Shown, Fail>
+pub(crate) fn ack<S: Steps>(s: &mut S, ask: &Ask, span: Span, good: bool) -> Result<Shown, CallError>
     ensures { (key : Key) (f : Book → Book) (records : List AuxRecord) (a : Live) → Answers S.sense (IsLiveFor f (operation.Ack key span good) ask.now records a) (ack a span good) s.old result s.new }
 {
     if !is_near(span) {
-        return Err(Fail::Memory);
+        return Err(CallError::OutOfMemory);
     }
     if good {
         vouch(s, ask, span)
@@ -107,7 +107,7 @@ pub(crate) fn ack<S: Steps>(s: &mut S, ask: &Ask, span: Span, good: bool) -> Res
 }
 
 // The file's bytes that are not modified leave, and its asks are made anew.
-fn restart_now<S: Steps>(s: &mut S, ask: &Ask, size: u64) -> Result<Shown, Fail>
+fn restart_now<S: Steps>(s: &mut S, ask: &Ask, size: u64) -> Result<Shown, CallError>
     ensures { Answers S.sense (IsSizeOf ask.now.item size) (restarted ask.now.item size) s.old result s.new }
 {
     let emptied = Change::Emptied {
@@ -119,7 +119,7 @@ fn restart_now<S: Steps>(s: &mut S, ask: &Ask, size: u64) -> Result<Shown, Fail>
 }
 
 /// The hydration of the ask's file starts again. Refused as RestartDenied, TableFull, TooManyAsks, Exhausted.
-pub(crate) fn restart<S: Steps>(s: &mut S, ask: &Ask) -> Result<Shown, Fail>
+pub(crate) fn restart<S: Steps>(s: &mut S, ask: &Ask) -> Result<Shown, CallError>
     ensures { (key : Key) (f : Book → Book) (records : List AuxRecord) (a : Live) → Answers S.sense (IsLiveFor f (operation.Restart key) ask.now records a) (restart a) s.old result s.new }
 {
     let policy = s.policy();

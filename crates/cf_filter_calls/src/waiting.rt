@@ -13,7 +13,7 @@ ghost use Rattle.cf_filter_steps.specs.Putting.{IsFile};
 ghost use Rattle.cf_filter_steps.specs.Settled.{AreOnFiles, tell_moves};
 
 use crate::items::{is_directory, is_placeholder, refused_by};
-use cf_base::{Code, Fail, Handle, Hydration, ItemId, Shown, Span, WaitId, WaitKind};
+use cf_base::{Code, CallError, Handle, Hydration, ItemId, Shown, Span, WaitId, WaitKind};
 use cf_waits::Moves;
 use cf_filter_steps::{Need, Steps, find_at, tell};
 
@@ -21,7 +21,7 @@ use cf_filter_steps::{Need, Steps, find_at, tell};
 const NO_SPAN: Span = Span { start: 0, len: 0 };
 
 // Tells what came with a wait that began.
-fn tell_begun<S: Steps>(s: &mut S, id: WaitId, moves: &Moves) -> Result<Shown, Fail>
+fn tell_begun<S: Steps>(s: &mut S, id: WaitId, moves: &Moves) -> Result<Shown, CallError>
     ensures { Answers S.sense (AreOnFiles moves.now.ended) (then_do (tell_moves moves.now.ended moves.now.cancelled moves.now.asks) (ret (shown.Pending id))) s.old result s.new }
 {
     tell(s, moves)?;
@@ -29,7 +29,7 @@ fn tell_begun<S: Steps>(s: &mut S, id: WaitId, moves: &Moves) -> Result<Shown, F
 }
 
 // The wait begins as far as the limits of its kind allow.
-pub(crate) fn begin_limited<S: Steps>(s: &mut S, need: &Need) -> Result<Shown, Fail>
+pub(crate) fn begin_limited<S: Steps>(s: &mut S, need: &Need) -> Result<Shown, CallError>
     ensures { Answers S.sense (ReadsFile (meant need.now)) (begin_limited (meant need.now)) s.old result s.new }
 {
     match s.start(need) {
@@ -38,7 +38,7 @@ pub(crate) fn begin_limited<S: Steps>(s: &mut S, need: &Need) -> Result<Shown, F
     }
 }
 
-fn begin<S: Steps>(s: &mut S, need: &Need) -> Result<Shown, Fail>
+fn begin<S: Steps>(s: &mut S, need: &Need) -> Result<Shown, CallError>
     requires { limits_by need.now.kind ≡ limits.Begins }
     ensures { Answers S.sense (ReadsFile (meant need.now)) (begin (meant need.now)) s.old result s.new }
 {
@@ -49,7 +49,7 @@ fn begin<S: Steps>(s: &mut S, need: &Need) -> Result<Shown, Fail>
     }
 }
 
-fn answer_now<S: Steps>(s: &mut S, need: &Need) -> Result<Shown, Fail>
+fn answer_now<S: Steps>(s: &mut S, need: &Need) -> Result<Shown, CallError>
     ensures { Answers S.sense (MayAnswer (meant need.now)) (answer_now (meant need.now)) s.old result s.new }
 {
     let end = s.answer(need)?;
@@ -57,7 +57,7 @@ fn answer_now<S: Steps>(s: &mut S, need: &Need) -> Result<Shown, Fail>
 }
 
 // What a call needs of an item; consent to a dehydration is none of these.
-fn meet<S: Steps>(s: &mut S, need: &Need) -> Result<Shown, Fail>
+fn meet<S: Steps>(s: &mut S, need: &Need) -> Result<Shown, CallError>
     requires { limits_by need.now.kind ≡ limits.Begins }
     ensures { Answers S.sense (ReadsFile (meant need.now)) (missing (meant need.now)) s.old result s.new }
 {
@@ -81,7 +81,7 @@ fn is_progressive(hydration: Hydration) -> bool
     }
 }
 
-fn read_item<S: Steps>(s: &mut S, handle: Handle, span: Span, item: ItemId) -> Result<Shown, Fail>
+fn read_item<S: Steps>(s: &mut S, handle: Handle, span: Span, item: ItemId) -> Result<Shown, CallError>
     ensures { Answers S.sense (IsFile item) (read_item handle span item) s.old result s.new }
 {
     let policy = s.policy();
@@ -98,7 +98,7 @@ fn read_item<S: Steps>(s: &mut S, handle: Handle, span: Span, item: ItemId) -> R
 
 /// A read of an open file: ends with its bytes, at once or later. Refused as NoHandle, where it has to wait also as
 /// ProviderDown, TooManyWaits, TooManyAsks, Exhausted.
-pub fn read<S: Steps>(s: &mut S, handle: Handle, span: Span) -> Result<Shown, Fail>
+pub fn read<S: Steps>(s: &mut S, handle: Handle, span: Span) -> Result<Shown, CallError>
     ensures { Answers S.sense Any (read handle span) s.old result s.new }
 {
     match s.opened(handle) {
@@ -107,7 +107,7 @@ pub fn read<S: Steps>(s: &mut S, handle: Handle, span: Span) -> Result<Shown, Fa
     }
 }
 
-fn meet_plain<S: Steps>(s: &mut S, kind: WaitKind, item: ItemId, span: Span) -> Result<Shown, Fail>
+fn meet_plain<S: Steps>(s: &mut S, kind: WaitKind, item: ItemId, span: Span) -> Result<Shown, CallError>
     requires { limits_by kind ≡ limits.Begins }
     ensures { Answers S.sense (ReadsFile (plain_need kind item span)) (missing (plain_need kind item span)) s.old result s.new }
 {
@@ -121,7 +121,7 @@ fn meet_plain<S: Steps>(s: &mut S, kind: WaitKind, item: ItemId, span: Span) -> 
     meet(s, &need)
 }
 
-fn get_item<S: Steps>(s: &mut S, id: ItemId, span: Span) -> Result<Shown, Fail>
+fn get_item<S: Steps>(s: &mut S, id: ItemId, span: Span) -> Result<Shown, CallError>
     ensures { (i : Item) → Answers S.sense (IsAt id i) (but_directory (get_item span) i) s.old result s.new }
 {
     if is_directory(s, id) {
@@ -132,7 +132,7 @@ fn get_item<S: Steps>(s: &mut S, id: ItemId, span: Span) -> Result<Shown, Fail>
 }
 
 /// A read of a file by path. Refused as the look-up, IsDirectory, else as `read` but NoHandle.
-pub fn get<S: Steps>(s: &mut S, path: &str, span: Span) -> Result<Shown, Fail>
+pub fn get<S: Steps>(s: &mut S, path: &str, span: Span) -> Result<Shown, CallError>
     ensures { Answers S.sense Any (get path.now span) s.old result s.new }
 {
     match find_at(s, path) {
@@ -141,7 +141,7 @@ pub fn get<S: Steps>(s: &mut S, path: &str, span: Span) -> Result<Shown, Fail>
     }
 }
 
-fn list_item<S: Steps>(s: &mut S, id: ItemId) -> Result<Shown, Fail>
+fn list_item<S: Steps>(s: &mut S, id: ItemId) -> Result<Shown, CallError>
     ensures { (i : Item) → Answers S.sense (IsAt id i) (list_item i) s.old result s.new }
 {
     if is_directory(s, id) {
@@ -152,7 +152,7 @@ fn list_item<S: Steps>(s: &mut S, id: ItemId) -> Result<Shown, Fail>
 }
 
 /// The entries of a directory. Refused as the look-up, NotDirectory, else as `get`.
-pub fn list<S: Steps>(s: &mut S, path: &str) -> Result<Shown, Fail>
+pub fn list<S: Steps>(s: &mut S, path: &str) -> Result<Shown, CallError>
     ensures { Answers S.sense Any (list path.now) s.old result s.new }
 {
     match find_at(s, path) {
@@ -161,7 +161,7 @@ pub fn list<S: Steps>(s: &mut S, path: &str) -> Result<Shown, Fail>
     }
 }
 
-fn hydrate_file<S: Steps>(s: &mut S, id: ItemId) -> Result<Shown, Fail>
+fn hydrate_file<S: Steps>(s: &mut S, id: ItemId) -> Result<Shown, CallError>
     ensures { (i : Item) → Answers S.sense (IsAt id i) (hydrate_item i) s.old result s.new }
 {
     if is_placeholder(s, id) {
@@ -171,7 +171,7 @@ fn hydrate_file<S: Steps>(s: &mut S, id: ItemId) -> Result<Shown, Fail>
     }
 }
 
-fn hydrate_item<S: Steps>(s: &mut S, id: ItemId) -> Result<Shown, Fail>
+fn hydrate_item<S: Steps>(s: &mut S, id: ItemId) -> Result<Shown, CallError>
     ensures { (i : Item) → Answers S.sense (IsAt id i) (but_directory hydrate_item i) s.old result s.new }
 {
     if is_directory(s, id) {
@@ -183,7 +183,7 @@ fn hydrate_item<S: Steps>(s: &mut S, id: ItemId) -> Result<Shown, Fail>
 
 /// The whole of a placeholder file comes here (CfHydratePlaceholder). Refused as the look-up, IsDirectory, NotPlaceholder,
 /// else as `get`.
-pub fn hydrate<S: Steps>(s: &mut S, path: &str) -> Result<Shown, Fail>
+pub fn hydrate<S: Steps>(s: &mut S, path: &str) -> Result<Shown, CallError>
     ensures { Answers S.sense Any (hydrate path.now) s.old result s.new }
 {
     match find_at(s, path) {

@@ -8,7 +8,7 @@ ghost use Rattle.cf_filter_steps.specs.Putting.{IsFile, ReadyOn};
 
 use crate::items::size_at;
 use cf_ask_rule::Act;
-use cf_base::{Blob, Change, Code, Fail, Handle, ItemId, Shown};
+use cf_base::{Blob, Change, Code, CallError, Handle, ItemId, Shown};
 use cf_filter_steps::{Steps, refuse_room, settle};
 use std::slice;
 
@@ -23,7 +23,7 @@ fn is_too_far(at: u64, len: u64) -> bool
 }
 
 // Makes a write or a size, and then what follows of it.
-fn write_now<S: Steps>(s: &mut S, item: ItemId, change: &Change) -> Result<Shown, Fail>
+fn write_now<S: Steps>(s: &mut S, item: ItemId, change: &Change) -> Result<Shown, CallError>
     ensures { Answers S.sense (ReadyOn item change.now) (write_now item change.now) s.old result s.new }
 {
     s.put(item, change)?;
@@ -32,7 +32,7 @@ fn write_now<S: Steps>(s: &mut S, item: ItemId, change: &Change) -> Result<Shown
 }
 
 // A write or a size that suits, where it finds room.
-fn put_in<S: Steps>(s: &mut S, item: ItemId, change: &Change) -> Result<Shown, Fail>
+fn put_in<S: Steps>(s: &mut S, item: ItemId, change: &Change) -> Result<Shown, CallError>
     ensures { Answers S.sense (PutsIn item change.now) (put_in item change.now) s.old result s.new }
 {
     match refuse_room(s, slice::from_ref(change))? {
@@ -41,7 +41,7 @@ fn put_in<S: Steps>(s: &mut S, item: ItemId, change: &Change) -> Result<Shown, F
     }
 }
 
-fn write_bytes<S: Steps>(s: &mut S, at: u64, bytes: &[u8], item: ItemId) -> Result<Shown, Fail>
+fn write_bytes<S: Steps>(s: &mut S, at: u64, bytes: &[u8], item: ItemId) -> Result<Shown, CallError>
     ensures { Answers S.sense (IsFile item) (write_item at bytes.now item) s.old result s.new }
 {
     if bytes.is_empty() {
@@ -57,7 +57,7 @@ fn write_bytes<S: Steps>(s: &mut S, at: u64, bytes: &[u8], item: ItemId) -> Resu
 
 /// Writes bytes into an open file at a place, with zeros from its old end to there. A write of no bytes does nothing.
 /// Refused as NoHandle, as TooLarge where it ends past 16,777,216 bytes, as Exhausted, TableFull, Full.
-pub fn write<S: Steps>(s: &mut S, handle: Handle, at: u64, bytes: &[u8]) -> Result<Shown, Fail>
+pub fn write<S: Steps>(s: &mut S, handle: Handle, at: u64, bytes: &[u8]) -> Result<Shown, CallError>
     ensures { Answers S.sense Any (write handle at bytes.now) s.old result s.new }
 {
     match s.opened(handle) {
@@ -74,7 +74,7 @@ fn has_size<S: Steps>(s: &S, item: ItemId, size: u64) -> bool
 }
 
 // A size that the file has is an access, and no change.
-fn keep_size<S: Steps>(s: &mut S, item: ItemId) -> Result<Shown, Fail>
+fn keep_size<S: Steps>(s: &mut S, item: ItemId) -> Result<Shown, CallError>
     ensures { Answers S.sense (IsFile item) (sized_already item) s.old result s.new }
 {
     match refuse_room(s, &[])? {
@@ -86,7 +86,7 @@ fn keep_size<S: Steps>(s: &mut S, item: ItemId) -> Result<Shown, Fail>
     }
 }
 
-fn size_item<S: Steps>(s: &mut S, size: u64, item: ItemId) -> Result<Shown, Fail>
+fn size_item<S: Steps>(s: &mut S, size: u64, item: ItemId) -> Result<Shown, CallError>
     ensures { Answers S.sense (IsFile item) (size_item size item) s.old result s.new }
 {
     if size > MOST_BYTES {
@@ -101,7 +101,7 @@ fn size_item<S: Steps>(s: &mut S, size: u64, item: ItemId) -> Result<Shown, Fail
 
 /// Cuts an open file, or lets it grow by zeros. A size that it has changes nothing. Refused as NoHandle, as TooLarge beyond
 /// 16,777,216 bytes, as Exhausted, TableFull, Full.
-pub fn set_size<S: Steps>(s: &mut S, handle: Handle, size: u64) -> Result<Shown, Fail>
+pub fn set_size<S: Steps>(s: &mut S, handle: Handle, size: u64) -> Result<Shown, CallError>
     ensures { Answers S.sense Any (set_size handle size) s.old result s.new }
 {
     match s.opened(handle) {

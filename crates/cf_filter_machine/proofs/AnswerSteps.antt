@@ -2,7 +2,7 @@
 use Rattle.std.proofs.Common.{◌≡◌, ◌+◌, Bool, true, false, ℕ, List, [], map, Option, Some, refl, sym, ◌∙◌, ap, subst, if◌then◌else◌}
 use Rattle.std.proofs.lemmas.Bool.{true≢false}
 use Rattle.std.specs.Prelude.{Err, IfOk, Ok, OnOk, Result, slice_range}
-use Rattle.cf_base.specs.declared.codes.Fail.{Fail}
+use Rattle.cf_base.specs.declared.codes.CallError.{CallError}
 use Rattle.cf_base.specs.declared.ids.ItemId.{ItemId}
 use Rattle.cf_base.specs.declared.ids.WaitId.{WaitId}
 use Rattle.cf_base.specs.declared.spans.Span.{Span}
@@ -87,7 +87,7 @@ module _ {D : Type 0} (state : D → State) (x : Held D) (item : ItemId) (asked 
       let i = seen_there state x s h item row.0 row.1 in
       read_at s.volume.items item row.0 i.0 asked cut bytes i.1 i.2 row.2 (read i.0 i.1)
 
-  pub bytes_told : (r : Result (List ℕ) Fail) → ((v : Volume) (i : Item) → At (state x.disk) x.known v → item_of v.items item ≡ Some i → IfOk r (λ b. map Some b ≡ slice_range i.held cut.start (cut.start + cut.len)))
+  pub bytes_told : (r : Result (List ℕ) CallError) → ((v : Volume) (i : Item) → At (state x.disk) x.known v → item_of v.items item ≡ Some i → IfOk r (λ b. map Some b ≡ slice_range i.held cut.start (cut.start + cut.len)))
       → IfOk r (λ b. Reads (sense state) (IsHere item asked) (bytes_there item asked) x b)
   bytes_told (Err e) read = record {}
   bytes_told (Ok b) read = record {

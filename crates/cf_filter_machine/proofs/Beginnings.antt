@@ -3,8 +3,8 @@ use Rattle.std.proofs.Common.{◌≡◌, Bool, true, false, cond, List, [], ◌�
 use Rattle.std.proofs.lemmas.Result.{err_from_is_err_and}
 use Rattle.std.specs.Prelude.{Ok, Err, OnErr, Result}
 use Rattle.std.specs.Result.{IsErrAnd}
-use Rattle.cf_base.specs.declared.codes.Fail.{Fail}
-use Rattle.cf_base.specs.declared.codes.Fail.TheVariants.{No, Memory}
+use Rattle.cf_base.specs.declared.codes.CallError.{CallError}
+use Rattle.cf_base.specs.declared.codes.CallError.TheVariants.{No, OutOfMemory}
 use Rattle.cf_base.specs.declared.ids.WaitId.{WaitId}
 use Rattle.cf_base.specs.declared.notices.Notice.{Notice}
 use Rattle.cf_base.specs.declared.waits.WaitKind.TheVariants as wait_kind
@@ -30,10 +30,10 @@ use Rattle.cf_filter_steps.specs.Needing.{ReadsFile, Starts, begin_limited, with
 
 -- of the requests
 
-pub begins_err : (l : Limits) (b : Option WaitId) (a : Told × Waiting) (old : Waiting) (r : Result (WaitId × Moves) Fail) (new : Waiting) → Begins l b a old r new → OnErr r (new ≡ old)
+pub begins_err : (l : Limits) (b : Option WaitId) (a : Told × Waiting) (old : Waiting) (r : Result (WaitId × Moves) CallError) (new : Waiting) → Begins l b a old r new → OnErr r (new ≡ old)
 begins_err l b a old (Ok m) new h = record {}
 begins_err l b a old (Err (No c)) new h = h.1
-begins_err l b a old (Err Memory) new h = h
+begins_err l b a old (Err OutOfMemory) new h = h
 
 -- of the desk
 
@@ -49,19 +49,19 @@ begun_desk n v d e m w ns same lines h =
     subst (λ (x : Desk). BeginsBy n (v x) x (Ok m) (record d { waiting = w; own = Some m.0; notes = ns })) same
     (h.0, h.1, h.2, same_begun n d d w (after_begun n (v d) d.waiting).1 m.0 (begun_id 0 d.waiting) ns m.1.background (background_id n.background n.item d.waiting) refl h.3 h.1 (ap (λ (x : Moves). x.background) h.2) lines)
 
-pub begun_err : (n : Need) (v : Desk → View) (d e : Desk) (f : Fail) (r : Result (WaitId × Moves) Fail) (w : Waiting) → IsErrAnd r (λ y. y ≡ f) → d ≡ e
+pub begun_err : (n : Need) (v : Desk → View) (d e : Desk) (f : CallError) (r : Result (WaitId × Moves) CallError) (w : Waiting) → IsErrAnd r (λ y. y ≡ f) → d ≡ e
     → Begins (limits_by n.kind) (background_id n.background n.item d.waiting) (after_begun n (v d) d.waiting) d.waiting (Err f) w → BeginsBy n (v e) e r (record d { waiting = w })
 begun_err n v d e f r w is same h =
     let p = err_from_is_err_and r is in
-    subst (λ (q : Result (WaitId × Moves) Fail). BeginsBy n (v e) e q (record d { waiting = w })) (sym (p.1 ∙ ap (λ (z : Fail). Err z) p.2))
+    subst (λ (q : Result (WaitId × Moves) CallError). BeginsBy n (v e) e q (record d { waiting = w })) (sym (p.1 ∙ ap (λ (z : CallError). Err z) p.2))
     (subst (λ (y : Desk). BeginsBy n (v y) y (Err f) (record d { waiting = w })) same (by f h))
   where
-    by : (g : Fail) → Begins (limits_by n.kind) (background_id n.background n.item d.waiting) (after_begun n (v d) d.waiting) d.waiting (Err g) w → BeginsBy n (v d) d (Err g) (record d { waiting = w })
+    by : (g : CallError) → Begins (limits_by n.kind) (background_id n.background n.item d.waiting) (after_begun n (v d) d.waiting) d.waiting (Err g) w → BeginsBy n (v d) d (Err g) (record d { waiting = w })
     by (No c) k = (k.0, ap (λ (y : Waiting). record d { waiting = y }) k.1)
-    by Memory k = record {}
+    by OutOfMemory k = record {}
 
-pub lost_begun : (n : Need) (v : View) (e x : Desk) (r : Result (WaitId × Moves) Fail) → IsErrAnd r (λ y. y ≡ Memory) → BeginsBy n v e r x
-lost_begun n v e x r is = let p = err_from_is_err_and r is in subst (λ (q : Result (WaitId × Moves) Fail). BeginsBy n v e q x) (sym (p.1 ∙ ap (λ (z : Fail). Err z) p.2)) (record {})
+pub lost_begun : (n : Need) (v : View) (e x : Desk) (r : Result (WaitId × Moves) CallError) → IsErrAnd r (λ y. y ≡ OutOfMemory) → BeginsBy n v e r x
+lost_begun n v e x r is = let p = err_from_is_err_and r is in subst (λ (q : Result (WaitId × Moves) CallError). BeginsBy n v e q x) (sym (p.1 ∙ ap (λ (z : CallError). Err z) p.2)) (record {})
 
 -- of the filter
 
@@ -73,7 +73,7 @@ lines_told n s = by (also_background n.background n.item s.waiting)
     by false = refl
 
 module _ {D : Type 0} (state : D → State) (n : Need) (x y : Held D) (e : Desk) (is : y ≡ record x { desk = e }) where
-  abbrev Sees : Result (WaitId × Moves) Fail → Type 0
+  abbrev Sees : Result (WaitId × Moves) CallError → Type 0
   Sees r = (s : Filter) → Stands state x s → BeginsBy n (view_at s n.item) x.desk r e
 
   desk_begun : (m : WaitId × Moves) → Sees (Ok m) → (s : Filter) → Stands state x s → e ≡ desk_of (with_begun n s)
@@ -95,7 +95,7 @@ module _ {D : Type 0} (state : D → State) (n : Need) (x y : Held D) (e : Desk)
   waits_as : (s : Filter) → Stands state x s → x.desk.waiting ≡ s.waiting
   waits_as s h = ap (λ (d : Desk). d.waiting) h.desk
 
-  pub started : (r : Result (WaitId × Moves) Fail) → Sees r → ((f : Fail) → r ≡ Err f → IfRefused f x.desk e) → Starts (sense state) n x r y
+  pub started : (r : Result (WaitId × Moves) CallError) → Sees r → ((f : CallError) → r ≡ Err f → IfRefused f x.desk e) → Starts (sense state) n x r y
   started (Ok m) sees kept = (
     record { is = λ s h p. sym (sees s h).0 ∙ ap (λ (w : Waiting). limit_of (limits_by n.kind) (after_begun n (view_at s n.item) w).1) (waits_as s h) },
     record { is = λ s h p. (sees s h).1 ∙ ap (begun_id 0) (waits_as s h) },
@@ -111,4 +111,4 @@ module _ {D : Type 0} (state : D → State) (n : Need) (x y : Held D) (e : Desk)
     record { is = λ s h p. sym (sees s h).0 ∙ ap (λ (w : Waiting). limit_of (limits_by n.kind) (after_begun n (view_at s n.item) w).1) (waits_as s h) },
     is ∙ ap (λ (d : Desk). record x { desk = d }) (kept (No c) refl),
   )
-  started (Err Memory) sees kept = desk_lost state (ReadsFile n) (begin_limited n) x y e is
+  started (Err OutOfMemory) sees kept = desk_lost state (ReadsFile n) (begin_limited n) x y e is

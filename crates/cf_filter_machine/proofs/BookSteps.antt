@@ -4,8 +4,8 @@ use Rattle.std.proofs.lemmas.Bool.{eqb-true, true≢false}
 use Rattle.std.specs.Prelude.{Err, MatchOption, Ok, Result}
 use Rattle.std.proofs.lemmas.Result.{err_from_is_err_and}
 use Rattle.std.specs.Result.{IsErrAnd}
-use Rattle.cf_base.specs.declared.codes.Fail.{Fail}
-use Rattle.cf_base.specs.declared.codes.Fail.TheVariants.{Memory}
+use Rattle.cf_base.specs.declared.codes.CallError.{CallError}
+use Rattle.cf_base.specs.declared.codes.CallError.TheVariants.{OutOfMemory}
 use Rattle.cf_base.specs.declared.ids.ItemId.{ItemId}
 use Rattle.cf_disk.specs.Disk.{State}
 use Rattle.cf_filter_machine.proofs.RisingBooks.{accesses_with}
@@ -71,14 +71,14 @@ module _ {D : Type 0} (state : D → State) (P : Filter → Type 0) (x y : Held 
         );
   })
 
-  pub book_lost : {A : Type 0} (f : Arrow Filter A) → Answers (sense state) P f x (Err Memory) y
-  book_lost f = subst (λ (z : Held D). Answers (sense state) P f x (Err Memory) z) (sym is) (record {
+  pub book_lost : {A : Type 0} (f : Arrow Filter A) → Answers (sense state) P f x (Err OutOfMemory) y
+  book_lost f = subst (λ (z : Held D). Answers (sense state) P f x (Err OutOfMemory) z) (sym is) (record {
     leads = λ s h p. (s, record {}, stays_put (state x.disk) x.known s.volume h.fair h.volume h.points, lasts_at (state x.disk) x.known s.volume h.fair h.volume h.points);
   })
 
   -- at an exit by `?`
-  pub book_left : {A : Type 0} (f : Arrow Filter A) (r : Result A Fail) → IsErrAnd r (λ z. z ≡ Memory) → Answers (sense state) P f x r y
-  book_left {A} f r by = let p = err_from_is_err_and r by in subst (λ (q : Result A Fail). Answers (sense state) P f x q y) (sym (p.1 ∙ ap (λ (z : Fail). Err z) p.2)) (book_lost f)
+  pub book_left : {A : Type 0} (f : Arrow Filter A) (r : Result A CallError) → IsErrAnd r (λ z. z ≡ OutOfMemory) → Answers (sense state) P f x r y
+  book_left {A} f r by = let p = err_from_is_err_and r by in subst (λ (q : Result A CallError). Answers (sense state) P f x q y) (sym (p.1 ∙ ap (λ (z : CallError). Err z) p.2)) (book_lost f)
 
 -- accesses
 

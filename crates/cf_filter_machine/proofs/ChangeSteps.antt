@@ -7,8 +7,8 @@ use Rattle.std.proofs.lemmas.Result.{err_from_is_err_and}
 use Rattle.std.specs.Prelude.{Err, None, Ok, Result}
 use Rattle.std.specs.Result.{IsErrAnd}
 use Rattle.cf_base.specs.declared.changes.Change.{Change}
-use Rattle.cf_base.specs.declared.codes.Fail.{Fail}
-use Rattle.cf_base.specs.declared.codes.Fail.TheVariants.{Memory, No}
+use Rattle.cf_base.specs.declared.codes.CallError.{CallError}
+use Rattle.cf_base.specs.declared.codes.CallError.TheVariants.{OutOfMemory, No}
 use Rattle.cf_base.specs.declared.ids.ItemId.{ItemId}
 use Rattle.cf_base.specs.declared.ids.Usn.{Usn}
 use Rattle.cf_base.specs.declared.notices.Notice.TheVariants as notice
@@ -161,7 +161,7 @@ module _ {D : Type 0} (state : D → State) (P : Filter → Type 0) (x : Held D)
   }
 
   -- what is known of it once it was put in, there is no memory for the rest
-  pub put_lost : (y : Held D) (k : Known) → y.disk ≡ d → ((s : Filter) → Stands state x s → P s → IsPut (state d) k (λ b. b) c s) → Answers (sense state) P (change_with f c) x (Err Memory) y
+  pub put_lost : (y : Held D) (k : Known) → y.disk ≡ d → ((s : Filter) → Stands state x s → P s → IsPut (state d) k (λ b. b) c s) → Answers (sense state) P (change_with f c) x (Err OutOfMemory) y
   put_lost y k same put = record {
     leads = λ s h p.
         let r = put s h p in (
@@ -191,7 +191,7 @@ module _ {D : Type 0} (state : D → State) (P : Filter → Type 0) (x : Held D)
   stop_lasts s false e h i left = last_point s.volume h.points i ((calm s.volume h.volume e).now i left)
   stop_lasts s true e h i left = either_begun s.volume h.volume.now.of_log h.kept h.points i ((leaves s h).now i left)
 
-  put_stopped : (k : Known) (e : Desk) (q : Fail) → e ≡ x.desk → ((s : Filter) → Stands state x s → P s → StopsOnly q) → IsCause q (state x.disk) (state d) → Answers (sense state) P (change_with f c) x (Err q) (record { disk = d; known = k; desk = e })
+  put_stopped : (k : Known) (e : Desk) (q : CallError) → e ≡ x.desk → ((s : Filter) → Stands state x s → P s → StopsOnly q) → IsCause q (state x.disk) (state d) → Answers (sense state) P (change_with f c) x (Err q) (record { disk = d; known = k; desk = e })
   put_stopped k e (No code) same only cause = record {
     leads = λ s h p. (
       with_volume (stopped_at (may_need_room c s.volume) s.volume) s,
@@ -208,7 +208,7 @@ module _ {D : Type 0} (state : D → State) (P : Filter → Type 0) (x : Held D)
       ),
     );
   }
-  put_stopped k e Memory same only cause = record {
+  put_stopped k e OutOfMemory same only cause = record {
     leads = λ s h p. (
       with_volume (stopped_at (may_need_room c s.volume) s.volume) s,
       record {},
@@ -218,18 +218,18 @@ module _ {D : Type 0} (state : D → State) (P : Filter → Type 0) (x : Held D)
   }
 
   -- the device or memory stopped it, at an exit by `?`
-  pub put_stops_by : (k : Known) (e : Desk) (q : Fail) (r : Result (Unit {0}) Fail) → IsErrAnd r (λ z. z ≡ q) → e ≡ x.desk → ((s : Filter) → Stands state x s → P s → StopsOnly q) → IsCause q (state x.disk) (state d)
+  pub put_stops_by : (k : Known) (e : Desk) (q : CallError) (r : Result (Unit {0}) CallError) → IsErrAnd r (λ z. z ≡ q) → e ≡ x.desk → ((s : Filter) → Stands state x s → P s → StopsOnly q) → IsCause q (state x.disk) (state d)
       → Answers (sense state) P (change_with f c) x r (record { disk = d; known = k; desk = e })
   put_stops_by k e q r is same only cause =
       let p = err_from_is_err_and r is in
-      subst (λ (z : Result (Unit {0}) Fail). Answers (sense state) P (change_with f c) x z (record { disk = d; known = k; desk = e })) (sym (p.1 ∙ ap (λ (z : Fail). Err z) p.2)) (put_stopped k e q same only cause)
+      subst (λ (z : Result (Unit {0}) CallError). Answers (sense state) P (change_with f c) x z (record { disk = d; known = k; desk = e })) (sym (p.1 ∙ ap (λ (z : CallError). Err z) p.2)) (put_stopped k e q same only cause)
 
 -- a change that suits and finds room
 
-pub not_refused : {D : Type 0} (c : Change) (v : Volume) (old new : OnDisk D) (q : Fail) → why_no_room (c ∷ []) v ≡ None → volume.Answers c v old (Err q) new → StopsOnly q
+pub not_refused : {D : Type 0} (c : Change) (v : Volume) (old new : OnDisk D) (q : CallError) → why_no_room (c ∷ []) v ≡ None → volume.Answers c v old (Err q) new → StopsOnly q
 not_refused c v old new (No code) none (inl device) = device
 not_refused c v old new (No code) none (inr why) = absurd (none-some code (sym none ∙ why.0))
-not_refused c v old new Memory none h = record {}
+not_refused c v old new OutOfMemory none h = record {}
 
 pub after_good : (f : Book → Book) (c : Change) (room : Bool) (s : Filter) → IsKeptVolume (later c f s.volume room) → ((id : ItemId) → IsFileIn s.volume.items id → IsFileIn (later c f s.volume room).items id) → IsGood s → IsGood (told f c room s)
 after_good f c room s kept files h = record {

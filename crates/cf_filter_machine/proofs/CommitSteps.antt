@@ -3,8 +3,8 @@ use Rattle.std.proofs.Common.{◌≡◌, inl, false, refl, sym, ◌∙◌, ap, s
 use Rattle.std.proofs.lemmas.Result.{err_from_is_err_and}
 use Rattle.std.specs.Prelude.{Err, Ok, Result}
 use Rattle.std.specs.Result.{IsErrAnd}
-use Rattle.cf_base.specs.declared.codes.Fail.{Fail}
-use Rattle.cf_base.specs.declared.codes.Fail.TheVariants.{Memory, No}
+use Rattle.cf_base.specs.declared.codes.CallError.{CallError}
+use Rattle.cf_base.specs.declared.codes.CallError.TheVariants.{OutOfMemory, No}
 use Rattle.cf_disk.specs.Disk.{Leaves, State}
 use Rattle.cf_disk.specs.Leaving.{leaves_weaker}
 use Rattle.cf_filter_machine.proofs.Keepable.{keepable}
@@ -56,7 +56,7 @@ module _ {D : Type 0} (state : D → State) (x : Held D) (d : D) (k : Known) (e 
   begun s h = leaves_weaker (state x.disk) (state d) (StandsEither s.volume) (IsBetween s.volume (with_point_begun s.volume)) (leaves s h)
       (λ c l. record { mid = with_point_begun s.volume; after = grows_begun s.volume; before = grows_not (with_point_begun s.volume); stands = either_begun s.volume h.volume.now.of_log h.kept h.points c l })
 
-  not_committed : (f : Fail) → ((v : Volume) → At (state x.disk) x.known v → IsKeepable v → x.known.broken ≡ false → StopsOnly f) → IsCause f (state x.disk) (state d) → Answers (sense state) Any (in_volume commit) x (Err f) (record { disk = d; known = k; desk = e })
+  not_committed : (f : CallError) → ((v : Volume) → At (state x.disk) x.known v → IsKeepable v → x.known.broken ≡ false → StopsOnly f) → IsCause f (state x.disk) (state d) → Answers (sense state) Any (in_volume commit) x (Err f) (record { disk = d; known = k; desk = e })
   not_committed (No c) only cause = record {
     leads = λ s h p. (
       with_volume (with_point_begun s.volume) s,
@@ -73,10 +73,10 @@ module _ {D : Type 0} (state : D → State) (x : Held D) (d : D) (k : Known) (e 
       ),
     );
   }
-  not_committed Memory only cause = record { leads = λ s h p. (with_volume (with_point_begun s.volume) s, record {}, record { runs = runs; grows = grows_begun s.volume; leaves = begun s h }, lasts s h) }
+  not_committed OutOfMemory only cause = record { leads = λ s h p. (with_volume (with_point_begun s.volume) s, record {}, record { runs = runs; grows = grows_begun s.volume; leaves = begun s h }, lasts s h) }
 
-  pub commit_stops : (f : Fail) (r : Result (Unit {0}) Fail) → IsErrAnd r (λ z. z ≡ f) → ((v : Volume) → At (state x.disk) x.known v → IsKeepable v → x.known.broken ≡ false → StopsOnly f) → IsCause f (state x.disk) (state d)
+  pub commit_stops : (f : CallError) (r : Result (Unit {0}) CallError) → IsErrAnd r (λ z. z ≡ f) → ((v : Volume) → At (state x.disk) x.known v → IsKeepable v → x.known.broken ≡ false → StopsOnly f) → IsCause f (state x.disk) (state d)
       → Answers (sense state) Any (in_volume commit) x r (record { disk = d; known = k; desk = e })
   commit_stops f r is only cause =
       let p = err_from_is_err_and r is in
-      subst (λ (q : Result (Unit {0}) Fail). Answers (sense state) Any (in_volume commit) x q (record { disk = d; known = k; desk = e })) (sym (p.1 ∙ ap (λ (z : Fail). Err z) p.2)) (not_committed f only cause)
+      subst (λ (q : Result (Unit {0}) CallError). Answers (sense state) Any (in_volume commit) x q (record { disk = d; known = k; desk = e })) (sym (p.1 ∙ ap (λ (z : CallError). Err z) p.2)) (not_committed f only cause)

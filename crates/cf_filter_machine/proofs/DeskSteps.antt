@@ -3,8 +3,8 @@ use Rattle.std.proofs.Common.{◌≡◌, ℕ, List, false, refl, sym, ◌∙◌,
 use Rattle.std.proofs.lemmas.Result.{err_from_is_err_and}
 use Rattle.std.specs.Prelude.{Ok, Err, IfErr, Result}
 use Rattle.std.specs.Result.{IsErrAnd}
-use Rattle.cf_base.specs.declared.codes.Fail.{Fail}
-use Rattle.cf_base.specs.declared.codes.Fail.TheVariants.{Memory}
+use Rattle.cf_base.specs.declared.codes.CallError.{CallError}
+use Rattle.cf_base.specs.declared.codes.CallError.TheVariants.{OutOfMemory}
 use Rattle.cf_disk.specs.Disk.{Leaves, State}
 use Rattle.cf_filter_machine.specs.Held.{Desk, Held, desk_of}
 use Rattle.cf_filter_machine.specs.Keeping.{HasKeptPoints, IsKeptVolume}
@@ -60,24 +60,24 @@ desk_stepped {D} state P f g x y d e is was made same fits good =
     })
 
 -- want of memory, whatever became of the desk
-pub desk_lost : {D A : Type 0} (state : D → State) (P : Filter → Type 0) (f : Arrow Filter A) (x y : Held D) (e : Desk) → y ≡ record x { desk = e } → Answers (sense state) P f x (Err Memory) y
+pub desk_lost : {D A : Type 0} (state : D → State) (P : Filter → Type 0) (f : Arrow Filter A) (x y : Held D) (e : Desk) → y ≡ record x { desk = e } → Answers (sense state) P f x (Err OutOfMemory) y
 desk_lost {D} state P f x y e is =
-    subst (λ (z : Held D). Answers (sense state) P f x (Err Memory) z) (sym is) (record {
+    subst (λ (z : Held D). Answers (sense state) P f x (Err OutOfMemory) z) (sym is) (record {
       leads = λ s h p. (s, record {}, stays_put (state x.disk) x.known s.volume h.fair h.volume h.points, lasts_at (state x.disk) x.known s.volume h.fair h.volume h.points);
     })
 
 -- at an exit by `?`
-pub desk_left : {D A : Type 0} (state : D → State) (P : Filter → Type 0) (f : Arrow Filter (Unit {0})) (x y : Held D) (e : Desk) (r : Result A Fail)
-    → IsErrAnd r (λ z. z ≡ Memory) → y ≡ record x { desk = e } → Answers (sense state) P f x (whether r) y
+pub desk_left : {D A : Type 0} (state : D → State) (P : Filter → Type 0) (f : Arrow Filter (Unit {0})) (x y : Held D) (e : Desk) (r : Result A CallError)
+    → IsErrAnd r (λ z. z ≡ OutOfMemory) → y ≡ record x { desk = e } → Answers (sense state) P f x (whether r) y
 desk_left {D} {A} state P f x y e r is same =
     let p = err_from_is_err_and r is in
-    subst (λ (q : Result A Fail). Answers (sense state) P f x (whether q) y) (sym (p.1 ∙ ap (λ (z : Fail). Err z) p.2)) (desk_lost state P f x y e same)
+    subst (λ (q : Result A CallError). Answers (sense state) P f x (whether q) y) (sym (p.1 ∙ ap (λ (z : CallError). Err z) p.2)) (desk_lost state P f x y e same)
 
-pub desk_exit : {D A : Type 0} (state : D → State) (P : Filter → Type 0) (f : Arrow Filter A) (x y : Held D) (e : Desk) (r : Result A Fail)
-    → IsErrAnd r (λ z. z ≡ Memory) → y ≡ record x { desk = e } → Answers (sense state) P f x r y
+pub desk_exit : {D A : Type 0} (state : D → State) (P : Filter → Type 0) (f : Arrow Filter A) (x y : Held D) (e : Desk) (r : Result A CallError)
+    → IsErrAnd r (λ z. z ≡ OutOfMemory) → y ≡ record x { desk = e } → Answers (sense state) P f x r y
 desk_exit {D} {A} state P f x y e r is same =
     let p = err_from_is_err_and r is in
-    subst (λ (q : Result A Fail). Answers (sense state) P f x q y) (sym (p.1 ∙ ap (λ (z : Fail). Err z) p.2)) (desk_lost state P f x y e same)
+    subst (λ (q : Result A CallError). Answers (sense state) P f x q y) (sym (p.1 ∙ ap (λ (z : CallError). Err z) p.2)) (desk_lost state P f x y e same)
 
 -- what is known of an error
 pub err_is : {A E : Type 0} (r : Result A E) (P : E → Type 0) (e : E) → IfErr r P → r ≡ Err e → P e
@@ -99,5 +99,5 @@ seen_whole {D} e h = ap (λ (x : Held D). x.known.broken) e ∙ h
 pub seen_runs : {D : Type 0} (state : D → State) (t : State) {x y : Held D} → x ≡ y → Runs (state x.disk) t → Runs (state y.disk) t
 seen_runs {D} state t e h = subst (λ (x : Held D). Runs (state x.disk) t) e h
 
-pub seen_cause : {D : Type 0} (state : D → State) (t : State) (q : Fail) {x y : Held D} → x ≡ y → IsCause q (state x.disk) t → IsCause q (state y.disk) t
+pub seen_cause : {D : Type 0} (state : D → State) (t : State) (q : CallError) {x y : Held D} → x ≡ y → IsCause q (state x.disk) t → IsCause q (state y.disk) t
 seen_cause {D} state t q e h = subst (λ (x : Held D). IsCause q (state x.disk) t) e h

@@ -7,8 +7,8 @@ use Rattle.std.specs.Result.{IsErrAnd}
 use Rattle.cf_base.specs.declared.answers.AuxRecord.{AuxRecord}
 use Rattle.cf_base.specs.declared.changes.Change.{Change}
 use Rattle.cf_base.specs.declared.changes.Change.TheVariants as change
-use Rattle.cf_base.specs.declared.codes.Fail.{Fail}
-use Rattle.cf_base.specs.declared.codes.Fail.TheVariants.{Memory, No}
+use Rattle.cf_base.specs.declared.codes.CallError.{CallError}
+use Rattle.cf_base.specs.declared.codes.CallError.TheVariants.{OutOfMemory, No}
 use Rattle.cf_base.specs.declared.ids.ItemId.{ItemId}
 use Rattle.cf_base.specs.declared.ids.Usn.{Usn}
 use Rattle.cf_base.specs.declared.notices.Notice.TheVariants as notice
@@ -197,7 +197,7 @@ module _ {D : Type 0} (state : D → State) (dir : ItemId) (x : Held D) (c : Cha
 
   module _ (Q : Held D → Filter → Type 0) (P : Filter → Type 0) where
     -- it was put in, and there is no memory for the rest
-    pub entry_lost : (k : Known) (y : Held D) → y.disk ≡ d → ((v : Volume) → At (state x.disk) x.known v → At (state d) k (put_change c v)) → Enters state dir Q P (change_with f c) x (Err Memory) y
+    pub entry_lost : (k : Known) (y : Held D) → y.disk ≡ d → ((v : Volume) → At (state x.disk) x.known v → At (state d) k (put_change c v)) → Enters state dir Q P (change_with f c) x (Err OutOfMemory) y
     entry_lost k y same put = record {
       leads = λ s h p. (
         told same_book c false s,
@@ -219,7 +219,7 @@ module _ {D : Type 0} (state : D → State) (dir : ItemId) (x : Held D) (c : Cha
     stay_lasts s h i left = last_point s.volume h.points i ((crash s.volume h.volume).now i left)
 
     -- it was not put in
-    pub entry_stopped : (k : Known) (e : Desk) (q : Fail) → e ≡ x.desk → ((s : Filter) → Coming state dir x s → P s → StopsOnly q × (may_need_room c s.volume ≡ false)) → IsCause q (state x.disk) (state d)
+    pub entry_stopped : (k : Known) (e : Desk) (q : CallError) → e ≡ x.desk → ((s : Filter) → Coming state dir x s → P s → StopsOnly q × (may_need_room c s.volume ≡ false)) → IsCause q (state x.disk) (state d)
         → Enters state dir Q P (change_with f c) x (Err q) (record { disk = d; known = k; desk = e })
     entry_stopped k e (No code) same only cause = record {
       leads = λ s h p. (
@@ -237,10 +237,10 @@ module _ {D : Type 0} (state : D → State) (dir : ItemId) (x : Held D) (c : Cha
         ),
       );
     }
-    entry_stopped k e Memory same only cause = record { leads = λ s h p. (s, record {}, stay_moved s h, stay_lasts s h) }
+    entry_stopped k e OutOfMemory same only cause = record { leads = λ s h p. (s, record {}, stay_moved s h, stay_lasts s h) }
 
 -- nothing was done, for want of memory
-pub enters_lost : {D : Type 0} (state : D → State) (dir : ItemId) (Q : Held D → Filter → Type 0) (P : Filter → Type 0) (f : Arrow Filter (Unit {0})) (x : Held D) → Enters state dir Q P f x (Err Memory) x
+pub enters_lost : {D : Type 0} (state : D → State) (dir : ItemId) (Q : Held D → Filter → Type 0) (P : Filter → Type 0) (f : Arrow Filter (Unit {0})) (x : Held D) → Enters state dir Q P f x (Err OutOfMemory) x
 enters_lost state dir Q P f x = record {
   leads = λ s h p.
       let lasts : Lasts (state x.disk) s.volume = lasts_at (state x.disk) x.known s.volume h.fair h.volume h.points in
@@ -248,10 +248,10 @@ enters_lost state dir Q P f x = record {
 }
 
 -- at an exit by `?`
-pub enters_err : {D : Type 0} (state : D → State) (dir : ItemId) (Q : Held D → Filter → Type 0) (P : Filter → Type 0) (f : Arrow Filter (Unit {0})) (x y : Held D) (e : Fail) (r : Result (Unit {0}) Fail)
+pub enters_err : {D : Type 0} (state : D → State) (dir : ItemId) (Q : Held D → Filter → Type 0) (P : Filter → Type 0) (f : Arrow Filter (Unit {0})) (x y : Held D) (e : CallError) (r : Result (Unit {0}) CallError)
     → IsErrAnd r (λ z. z ≡ e) → Enters state dir Q P f x (Err e) y → Enters state dir Q P f x r y
 enters_err {D} state dir Q P f x y e r is h =
-    let p = err_from_is_err_and r is in subst (λ (q : Result (Unit {0}) Fail). Enters state dir Q P f x q y) (sym (p.1 ∙ ap (λ (z : Fail). Err z) p.2)) h
+    let p = err_from_is_err_and r is in subst (λ (q : Result (Unit {0}) CallError). Enters state dir Q P f x q y) (sym (p.1 ∙ ap (λ (z : CallError). Err z) p.2)) h
 
 -- One after the other.
 
@@ -274,12 +274,12 @@ module _ {D : Type 0} (state : D → State) (dir : ItemId) (Q : Held D → Filte
       })
 
   -- seen from further back
-  entry_on : (x m y : Held D) (r : Result (Unit {0}) Fail) (t : Filter) → (state x.disk).faults ≤ (state m.disk).faults → AfterEntry state Q m r y t → AfterEntry state Q x r y t
+  entry_on : (x m y : Held D) (r : Result (Unit {0}) CallError) (t : Filter) → (state x.disk).faults ≤ (state m.disk).faults → AfterEntry state Q m r y t → AfterEntry state Q x r y t
   entry_on x m y (Ok a) t least h = h
   entry_on x m y (Err (No code)) t least h = (h.0, rose_on (state x.disk) (state m.disk) (state y.disk) least h.1)
-  entry_on x m y (Err Memory) t least h = h
+  entry_on x m y (Err OutOfMemory) t least h = h
 
-  pub enters_more : (x m y : Held D) (r : Result (Unit {0}) Fail) → Enters state dir (Coming state dir) (λ s. IsReadyEntry dir c s.volume) (one_change c) x (Ok unit) m
+  pub enters_more : (x m y : Held D) (r : Result (Unit {0}) CallError) → Enters state dir (Coming state dir) (λ s. IsReadyEntry dir c s.volume) (one_change c) x (Ok unit) m
       → Enters state dir Q (MayEnter f dir (rest ++ last ∷ []) records) (changes_with f (rest ++ last ∷ [])) m r y
       → Enters state dir Q (MayEnter f dir (c ∷ rest ++ last ∷ []) records) (changes_with f (c ∷ rest ++ last ∷ [])) x r y
   enters_more x m y r first then = record {
@@ -293,11 +293,11 @@ module _ {D : Type 0} (state : D → State) (dir : ItemId) (Q : Held D → Filte
         );
   }
 
-  after_any : (R : Held D → Filter → Type 0) (e : Fail) (x y : Held D) (t : Filter) → AfterEntry {A = Unit {0}} state R x (Err e) y t → AfterEntry {A = Unit {0}} state Q x (Err e) y t
+  after_any : (R : Held D → Filter → Type 0) (e : CallError) (x y : Held D) (t : Filter) → AfterEntry {A = Unit {0}} state R x (Err e) y t → AfterEntry {A = Unit {0}} state Q x (Err e) y t
   after_any R (No code) x y t h = h
-  after_any R Memory x y t h = h
+  after_any R OutOfMemory x y t h = h
 
-  pub enters_stops : (x y : Held D) (e : Fail) → Enters state dir (Coming state dir) (λ s. IsReadyEntry dir c s.volume) (one_change c) x (Err e) y
+  pub enters_stops : (x y : Held D) (e : CallError) → Enters state dir (Coming state dir) (λ s. IsReadyEntry dir c s.volume) (one_change c) x (Err e) y
       → Enters state dir Q (MayEnter f dir (c ∷ rest ++ last ∷ []) records) (changes_with f (c ∷ rest ++ last ∷ [])) x (Err e) y
   enters_stops x y e first = record {
     leads = λ s h p.
@@ -323,16 +323,16 @@ pub put_plain : (d : State) (k : Known) (c : Change) (v : Volume) → is_listed 
 put_plain d k c v is (inl at) = at
 put_plain d k c v is (inr h) = absurd (true≢false (sym h.0 ∙ (plain c is).room v))
 
-pub stops_alone : {D : Type 0} (c : Change) (v : Volume) (old new : OnDisk D) (r : Result Usn Fail) → why_no_room (c ∷ []) v ≡ None → volume.Answers c v old r new → IfErr r StopsOnly
+pub stops_alone : {D : Type 0} (c : Change) (v : Volume) (old new : OnDisk D) (r : Result Usn CallError) → why_no_room (c ∷ []) v ≡ None → volume.Answers c v old r new → IfErr r StopsOnly
 stops_alone c v old new (Ok n) none h = record {}
 stops_alone c v old new (Err q) none h = not_refused c v old new q none h
 
 -- the loop
 
-pub goes_err : {D : Type 0} (state : D → State) (dir : ItemId) (f : Book → Book) (last : Change) (records : List AuxRecord) (before : List Change) (x m : Held D) (e : Fail) (r : Result (Unit {0}) Fail)
+pub goes_err : {D : Type 0} (state : D → State) (dir : ItemId) (f : Book → Book) (last : Change) (records : List AuxRecord) (before : List Change) (x m : Held D) (e : CallError) (r : Result (Unit {0}) CallError)
     → IsErrAnd r (λ z. z ≡ e) → GoesOn state dir f last records before x (Err e) m → GoesOn state dir f last records before x r m
 goes_err {D} state dir f last records before x m e r is h =
-    let p = err_from_is_err_and r is in subst (λ (q : Result (Unit {0}) Fail). GoesOn state dir f last records before x q m) (sym (p.1 ∙ ap (λ (z : Fail). Err z) p.2)) h
+    let p = err_from_is_err_and r is in subst (λ (q : Result (Unit {0}) CallError). GoesOn state dir f last records before x q m) (sym (p.1 ∙ ap (λ (z : CallError). Err z) p.2)) h
 
 pub ok_of : {A E : Type 0} {P : Type 0} (r : Result A E) → P → IfOk r (λ a. P)
 ok_of (Ok a) p = p

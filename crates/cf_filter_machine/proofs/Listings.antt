@@ -8,8 +8,8 @@ use Rattle.cf_base.specs.declared.answers.AuxRecord.{AuxRecord}
 use Rattle.cf_base.specs.declared.changes.Change.{Change}
 use Rattle.cf_base.specs.declared.changes.Change.TheVariants as change
 use Rattle.cf_base.specs.declared.codes.Code.TheVariants as code
-use Rattle.cf_base.specs.declared.codes.Fail.{Fail}
-use Rattle.cf_base.specs.declared.codes.Fail.TheVariants.{Memory, No}
+use Rattle.cf_base.specs.declared.codes.CallError.{CallError}
+use Rattle.cf_base.specs.declared.codes.CallError.TheVariants.{OutOfMemory, No}
 use Rattle.cf_base.specs.declared.ids.ItemId.{ItemId}
 use Rattle.cf_disk.specs.Disk.{State}
 use Rattle.cf_filter_machine.proofs.ComingItems.{all_below}
@@ -96,12 +96,12 @@ comes_in state f dir cs records x s h p = record {
   reads = h.good.reads;
 }
 
-left_as : {D : Type 0} (state : D → State) (r : Result (Unit {0}) Fail) (x y : Held D) (t : Filter) → AfterEntry state (Stands state) x r y t → After (sense state) x r y t
+left_as : {D : Type 0} (state : D → State) (r : Result (Unit {0}) CallError) (x y : Held D) (t : Filter) → AfterEntry state (Stands state) x r y t → After (sense state) x r y t
 left_as state (Ok a) x y t h = h
 left_as state (Err (No code)) x y t h = h
-left_as state (Err Memory) x y t h = h
+left_as state (Err OutOfMemory) x y t h = h
 
-pub entered : {D : Type 0} (state : D → State) (f : Book → Book) (dir : ItemId) (cs : List Change) (records : List AuxRecord) (x y : Held D) (r : Result (Unit {0}) Fail)
+pub entered : {D : Type 0} (state : D → State) (f : Book → Book) (dir : ItemId) (cs : List Change) (records : List AuxRecord) (x y : Held D) (r : Result (Unit {0}) CallError)
     → Enters state dir (Stands state) (MayEnter f dir cs records) (changes_with f cs) x r y → Answers (sense state) (ReadyListed f dir cs records) (changes_with f cs) x r y
 entered state f dir cs records x y r enters = record {
   leads = λ s h p.

@@ -3,8 +3,8 @@ use Rattle.std.proofs.Common.{◌≡◌, inl, false, ℕ, List, refl, sym, ◌�
 use Rattle.std.proofs.lemmas.Result.{err_from_is_err_and}
 use Rattle.std.specs.Prelude.{Err, IfErr, Ok, OnOk, Result}
 use Rattle.std.specs.Result.{IsErrAnd}
-use Rattle.cf_base.specs.declared.codes.Fail.{Fail}
-use Rattle.cf_base.specs.declared.codes.Fail.TheVariants.{Memory, No}
+use Rattle.cf_base.specs.declared.codes.CallError.{CallError}
+use Rattle.cf_base.specs.declared.codes.CallError.TheVariants.{OutOfMemory, No}
 use Rattle.cf_disk.specs.Disk.{Leaves, State}
 use Rattle.cf_disk.specs.Leaving.{leaves_weaker}
 use Rattle.cf_filter_machine.proofs.BookSteps.{IsRebooked, grows_book}
@@ -60,7 +60,7 @@ module _ {D : Type 0} (state : D → State) (P : Filter → Type 0) (x : Held D)
         );
   }
 
-  pub one_stopped : (f : Filter → Filter) (k : Known) (e : Desk) (q : Fail) → e ≡ x.desk → ((s : Filter) → Stands state x s → StopsOnly q) → IsCause q (state x.disk) (state d) → Answers (sense state) P (one f) x (Err q) (record { disk = d; known = k; desk = e })
+  pub one_stopped : (f : Filter → Filter) (k : Known) (e : Desk) (q : CallError) → e ≡ x.desk → ((s : Filter) → Stands state x s → StopsOnly q) → IsCause q (state x.disk) (state d) → Answers (sense state) P (one f) x (Err q) (record { disk = d; known = k; desk = e })
   one_stopped f k e (No code) same only cause = record {
     leads = λ s h p. (
       s,
@@ -77,21 +77,21 @@ module _ {D : Type 0} (state : D → State) (P : Filter → Type 0) (x : Held D)
       ),
     );
   }
-  one_stopped f k e Memory same only cause = record { leads = λ s h p. (s, record {}, one_moved s s.volume.book h, one_lasts s h) }
+  one_stopped f k e OutOfMemory same only cause = record { leads = λ s h p. (s, record {}, one_moved s s.volume.book h, one_lasts s h) }
 
   -- want of memory, whatever became of the desk
-  pub one_lost : (f : Filter → Filter) (k : Known) (e : Desk) → Answers (sense state) P (one f) x (Err Memory) (record { disk = d; known = k; desk = e })
+  pub one_lost : (f : Filter → Filter) (k : Known) (e : Desk) → Answers (sense state) P (one f) x (Err OutOfMemory) (record { disk = d; known = k; desk = e })
   one_lost f k e = record { leads = λ s h p. (s, record {}, one_moved s s.volume.book h, one_lasts s h) }
 
   -- at an exit by `?`
-  pub one_stops_by : {A : Type 0} (f : Filter → Filter) (k : Known) (e : Desk) (q : Fail) (r : Result A Fail) → IsErrAnd r (λ z. z ≡ q) → e ≡ x.desk → ((s : Filter) → Stands state x s → StopsOnly q) → IsCause q (state x.disk) (state d)
+  pub one_stops_by : {A : Type 0} (f : Filter → Filter) (k : Known) (e : Desk) (q : CallError) (r : Result A CallError) → IsErrAnd r (λ z. z ≡ q) → e ≡ x.desk → ((s : Filter) → Stands state x s → StopsOnly q) → IsCause q (state x.disk) (state d)
       → Answers (sense state) P (one f) x (whether r) (record { disk = d; known = k; desk = e })
   one_stops_by {A} f k e q r is same only cause =
       let p = err_from_is_err_and r is in
-      subst (λ (z : Result A Fail). Answers (sense state) P (one f) x (whether z) (record { disk = d; known = k; desk = e })) (sym (p.1 ∙ ap (λ (z : Fail). Err z) p.2)) (one_stopped f k e q same only cause)
+      subst (λ (z : Result A CallError). Answers (sense state) P (one f) x (whether z) (record { disk = d; known = k; desk = e })) (sym (p.1 ∙ ap (λ (z : CallError). Err z) p.2)) (one_stopped f k e q same only cause)
 
 -- of a call that reads, whatever it gives
-pub one_read : {D A : Type 0} (state : D → State) (P : Filter → Type 0) (x : Held D) (d : D) (k : Known) (e : Desk) (f : Filter → Filter) (r : Result A Fail) → Fair (state d)
+pub one_read : {D A : Type 0} (state : D → State) (P : Filter → Type 0) (x : Held D) (d : D) (k : Known) (e : Desk) (f : Filter → Filter) (r : Result A CallError) → Fair (state d)
     → ((v : Volume) → At (state x.disk) x.known v → Leaves (state x.disk) (state d) (StandsLast v)) → Runs (state x.disk) (state d) → e ≡ x.desk → OnOk r (k.broken ≡ false) → ((s : Filter) → Stands state x s → P s → OnOk r (At (state d) k (f s).volume))
     → ((s : Filter) → Stands state x s → desk_of s ≡ desk_of (f s)) → ((s : Filter) → Stands state x s → IfErr r StopsOnly) → IfErr r (λ q. IsCause q (state x.disk) (state d)) → ((s : Filter) → Stands state x s → P s → IsRebooked s (f s))
     → Answers (sense state) P (one f) x (whether r) (record { disk = d; known = k; desk = e })
@@ -107,29 +107,29 @@ not_rebooked s good kept = record { book = s.volume.book; same = refl; good = go
 
 -- what only memory stops
 
-pub memory_is : (e : Fail) → IsMemory e → e ≡ Memory
-memory_is Memory h = refl
+pub memory_is : (e : CallError) → IsMemory e → e ≡ OutOfMemory
+memory_is OutOfMemory h = refl
 memory_is (No code) h = absurd h
 
-pub memory_stops : {A : Type 0} (r : Result A Fail) (q : Fail) → IsErrAnd r (λ z. z ≡ q) → IsMemory q → IfErr r StopsOnly
+pub memory_stops : {A : Type 0} (r : Result A CallError) (q : CallError) → IsErrAnd r (λ z. z ≡ q) → IsMemory q → IfErr r StopsOnly
 memory_stops {A} r q is h =
     let p = err_from_is_err_and r is in
-    subst (λ (z : Result A Fail). IfErr z StopsOnly) (sym (p.1 ∙ ap (λ (z : Fail). Err z) (p.2 ∙ memory_is q h))) (record {})
+    subst (λ (z : Result A CallError). IfErr z StopsOnly) (sym (p.1 ∙ ap (λ (z : CallError). Err z) (p.2 ∙ memory_is q h))) (record {})
 
-pub memory_causes : {A : Type 0} (s t : State) (r : Result A Fail) (q : Fail) → IsErrAnd r (λ z. z ≡ q) → IsMemory q → IfErr r (λ e. IsCause e s t)
+pub memory_causes : {A : Type 0} (s t : State) (r : Result A CallError) (q : CallError) → IsErrAnd r (λ z. z ≡ q) → IsMemory q → IfErr r (λ e. IsCause e s t)
 memory_causes {A} s t r q is h =
     let p = err_from_is_err_and r is in
-    subst (λ (z : Result A Fail). IfErr z (λ e. IsCause e s t)) (sym (p.1 ∙ ap (λ (z : Fail). Err z) (p.2 ∙ memory_is q h))) (record {})
+    subst (λ (z : Result A CallError). IfErr z (λ e. IsCause e s t)) (sym (p.1 ∙ ap (λ (z : CallError). Err z) (p.2 ∙ memory_is q h))) (record {})
 
-pub with_memory : {D A : Type 0} (state : D → State) (P : Filter → Type 0) (f : Arrow Filter A) (x y : Held D) (q : Fail) (r : Result A Fail) → IsErrAnd r (λ z. z ≡ q) → IsMemory q → Answers (sense state) P f x (Err Memory) y → Answers (sense state) P f x r y
+pub with_memory : {D A : Type 0} (state : D → State) (P : Filter → Type 0) (f : Arrow Filter A) (x y : Held D) (q : CallError) (r : Result A CallError) → IsErrAnd r (λ z. z ≡ q) → IsMemory q → Answers (sense state) P f x (Err OutOfMemory) y → Answers (sense state) P f x r y
 with_memory {D} {A} state P f x y q r is only h =
-    let p = err_from_is_err_and r is in subst (λ (z : Result A Fail). Answers (sense state) P f x z y) (sym (p.1 ∙ ap (λ (z : Fail). Err z) (p.2 ∙ memory_is q only))) h
+    let p = err_from_is_err_and r is in subst (λ (z : Result A CallError). Answers (sense state) P f x z y) (sym (p.1 ∙ ap (λ (z : CallError). Err z) (p.2 ∙ memory_is q only))) h
 
-pub memory_alone : {A : Type 0} (r : Result A Fail) → IsErrAnd r (λ z. z ≡ Memory) → IfErr r StopsOnly
-memory_alone r is = memory_stops r Memory is (record {})
+pub memory_alone : {A : Type 0} (r : Result A CallError) → IsErrAnd r (λ z. z ≡ OutOfMemory) → IfErr r StopsOnly
+memory_alone r is = memory_stops r OutOfMemory is (record {})
 
-pub stops_by : {A : Type 0} (r : Result A Fail) (q : Fail) → IsErrAnd r (λ z. z ≡ q) → StopsOnly q → IfErr r StopsOnly
-stops_by {A} r q is h = let p = err_from_is_err_and r is in subst (λ (z : Result A Fail). IfErr z StopsOnly) (sym (p.1 ∙ ap (λ (z : Fail). Err z) p.2)) h
+pub stops_by : {A : Type 0} (r : Result A CallError) (q : CallError) → IsErrAnd r (λ z. z ≡ q) → StopsOnly q → IfErr r StopsOnly
+stops_by {A} r q is h = let p = err_from_is_err_and r is in subst (λ (z : Result A CallError). IfErr z StopsOnly) (sym (p.1 ∙ ap (λ (z : CallError). Err z) p.2)) h
 
 pub err_map : {A E : Type 0} (r : Result A E) (P Q : E → Type 0) → ((e : E) → P e → Q e) → IfErr r P → IfErr r Q
 err_map (Ok a) P Q f h = record {}

@@ -3,8 +3,8 @@ use Rattle.std.proofs.Common.{◌≡◌, ◌+◌, inl, inr, ℕ, Bool, true, fal
 use Rattle.std.specs.Prelude.{Err, MatchOption, Ok, Option, Some}
 use Rattle.std.proofs.lemmas.Bool.{true≢false}
 use Rattle.cf_base.specs.declared.changes.Change.TheVariants as change
-use Rattle.cf_base.specs.declared.codes.Fail.{Fail}
-use Rattle.cf_base.specs.declared.codes.Fail.TheVariants.{Memory, No}
+use Rattle.cf_base.specs.declared.codes.CallError.{CallError}
+use Rattle.cf_base.specs.declared.codes.CallError.TheVariants.{OutOfMemory, No}
 use Rattle.cf_base.specs.declared.ids.ItemId.{ItemId}
 use Rattle.cf_base.specs.declared.ids.Usn.{Usn}
 use Rattle.cf_base.specs.declared.notices.Notice.TheVariants as notice
@@ -121,7 +121,7 @@ module _ {D : Type 0} (state : D → State) (x : Held D) (id : ItemId) (bury : B
     );
   }
 
-  pub removed_stopped : (k : Known) (e : Desk) (q : Fail) → e ≡ x.desk → ((s : Filter) → Stands state x s → MayGo id i s → StopsOnly q) → IsCause q (state x.disk) (state d) → Answers (sense state) (MayGo id i) (removed bury i) x (Err q) (record { disk = d; known = k; desk = e })
+  pub removed_stopped : (k : Known) (e : Desk) (q : CallError) → e ≡ x.desk → ((s : Filter) → Stands state x s → MayGo id i s → StopsOnly q) → IsCause q (state x.disk) (state d) → Answers (sense state) (MayGo id i) (removed bury i) x (Err q) (record { disk = d; known = k; desk = e })
   removed_stopped k e (No code) same only cause = record {
     leads = λ s h p. (
       s,
@@ -138,9 +138,9 @@ module _ {D : Type 0} (state : D → State) (x : Held D) (id : ItemId) (bury : B
       ),
     );
   }
-  removed_stopped k e Memory same only cause = record { leads = λ s h p. (s, record {}, remove_moved s s.volume (grows_not s.volume) h, λ m left. last_point s.volume h.points m ((crash s.volume h.volume).now m left)) }
+  removed_stopped k e OutOfMemory same only cause = record { leads = λ s h p. (s, record {}, remove_moved s s.volume (grows_not s.volume) h, λ m left. last_point s.volume h.points m ((crash s.volume h.volume).now m left)) }
 
-  pub removed_lost : (k : Known) (e : Desk) → Answers (sense state) (MayGo id i) (removed bury i) x (Err Memory) (record { disk = d; known = k; desk = e })
+  pub removed_lost : (k : Known) (e : Desk) → Answers (sense state) (MayGo id i) (removed bury i) x (Err OutOfMemory) (record { disk = d; known = k; desk = e })
   removed_lost k e = record { leads = λ s h p. (s, record {}, remove_moved s s.volume (grows_not s.volume) h, λ m left. last_point s.volume h.points m ((crash s.volume h.volume).now m left)) }
 
 -- of the volume alone

@@ -1,7 +1,7 @@
 -- What a step does to the desk.
 use Rattle.std.specs.Prelude.{◌≡◌, Bool, true, false, Option, Some, None, List, Result, Ok, Err, ◌++◌, ◌∷◌, []}
-use Rattle.cf_base.specs.declared.codes.Fail.{Fail}
-use Rattle.cf_base.specs.declared.codes.Fail.TheVariants.{No, Memory}
+use Rattle.cf_base.specs.declared.codes.CallError.{CallError}
+use Rattle.cf_base.specs.declared.codes.CallError.TheVariants.{No, OutOfMemory}
 use Rattle.cf_base.specs.declared.ids.ItemId.{ItemId}
 use Rattle.cf_base.specs.declared.ids.WaitId.{WaitId}
 use Rattle.cf_base.specs.declared.notices.Notice.{Notice}
@@ -33,14 +33,14 @@ abbrev pub after_begun : Need → View → Waiting → Told × Waiting
 after_begun n v w = begun n.kind n.item n.handle n.span n.background v w
 
 -- A wait began; or it would pass a limit, and nothing changed; or there was no memory.
-abbrev pub BeginsBy : Need → View → Desk → Result (WaitId × Moves) Fail → Desk → Type 0
+abbrev pub BeginsBy : Need → View → Desk → Result (WaitId × Moves) CallError → Desk → Type 0
 BeginsBy n v old (Ok m) new =
     (limit_of (limits_by n.kind) (after_begun n v old.waiting).1 ≡ None) × (m.0 ≡ begun_id 0 old.waiting) × (m.1 ≡ moved_of (background_id n.background n.item old.waiting) (after_begun n v old.waiting).0)
     × (new ≡ begun_on n.item (begun_id 0 old.waiting) (background_id n.background n.item old.waiting) (after_begun n v old.waiting).1 old)
 BeginsBy n v old (Err (No c)) new = (limit_of (limits_by n.kind) (after_begun n v old.waiting).1 ≡ Some c) × (new ≡ old)
-BeginsBy n v old (Err Memory) new = Unit {0}
+BeginsBy n v old (Err OutOfMemory) new = Unit {0}
 
 -- a refusal changes nothing
-abbrev pub IfRefused : Fail → Desk → Desk → Type 0
+abbrev pub IfRefused : CallError → Desk → Desk → Type 0
 IfRefused (No c) old new = new ≡ old
-IfRefused Memory old new = Unit {0}
+IfRefused OutOfMemory old new = Unit {0}

@@ -3,8 +3,8 @@ use Rattle.std.specs.Prelude.{◌≡◌, ◌++◌, Bool, true, false, List, [], 
 use Rattle.cf_base.specs.declared.answers.AuxRecord.{AuxRecord}
 use Rattle.cf_base.specs.declared.changes.Change.{Change}
 use Rattle.cf_base.specs.declared.changes.Change.TheVariants as change
-use Rattle.cf_base.specs.declared.codes.Fail.{Fail}
-use Rattle.cf_base.specs.declared.codes.Fail.TheVariants.{Memory, No}
+use Rattle.cf_base.specs.declared.codes.CallError.{CallError}
+use Rattle.cf_base.specs.declared.codes.CallError.TheVariants.{OutOfMemory, No}
 use Rattle.cf_base.specs.declared.ids.ItemId.{ItemId}
 use Rattle.cf_disk.specs.Disk.{State}
 use Rattle.cf_filter_machine.specs.Held.{Desk, Held, desk_of}
@@ -71,13 +71,13 @@ pub record Coming {D : Type 0} (state : D → State) (dir : ItemId) (x : Held D)
   pub reads : Every (λ w. IsOnFile w.kind s.volume.items w.item) s.waiting.waits
 
 -- what is left, by the result
-abbrev pub AfterEntry : {D A : Type 0} → (D → State) → (Held D → Filter → Type 0) → Held D → Result A Fail → Held D → Filter → Type 0
+abbrev pub AfterEntry : {D A : Type 0} → (D → State) → (Held D → Filter → Type 0) → Held D → Result A CallError → Held D → Filter → Type 0
 AfterEntry state Q x (Ok a) y t = Q y t
 AfterEntry state Q x (Err (No c)) y t = Stopped state y t × Rose (state x.disk) (state y.disk)
-AfterEntry state Q x (Err Memory) y t = Lasts (state y.disk) t.volume
+AfterEntry state Q x (Err OutOfMemory) y t = Lasts (state y.disk) t.volume
 
 -- A part of a list from a state between its changes on, where that has the property.
-pub record Enters {D : Type 0} (state : D → State) (dir : ItemId) (Q : Held D → Filter → Type 0) (P : Filter → Type 0) (f : Arrow Filter (Unit {0})) (x : Held D) (r : Result (Unit {0}) Fail) (y : Held D) : Type 0 where
+pub record Enters {D : Type 0} (state : D → State) (dir : ItemId) (Q : Held D → Filter → Type 0) (P : Filter → Type 0) (f : Arrow Filter (Unit {0})) (x : Held D) (r : Result (Unit {0}) CallError) (y : Held D) : Type 0 where
   pub leads : (s : Filter) → Coming state dir x s → P s → (t : Filter) × Does (f s) r t × Moved (state x.disk) (state y.disk) s.volume t.volume × AfterEntry state Q x r y t
 
 -- a volume, and what stands in memory beside it
@@ -85,8 +85,8 @@ abbrev pub held : {D : Type 0} → OnDisk D → Desk → Held D
 held o e = record { disk = o.disk; known = o.known; desk = e }
 
 -- The changes before the last: what enters the last from there on enters all of the list. Where they stop, so does the list.
-abbrev pub GoesOn : {D : Type 0} → (D → State) → ItemId → (Book → Book) → Change → List AuxRecord → List Change → Held D → Result (Unit {0}) Fail → Held D → Type 0
+abbrev pub GoesOn : {D : Type 0} → (D → State) → ItemId → (Book → Book) → Change → List AuxRecord → List Change → Held D → Result (Unit {0}) CallError → Held D → Type 0
 GoesOn {D} state dir f last records before x (Ok a) m =
-    (r : Result (Unit {0}) Fail) (y : Held D) → Enters state dir (Stands state) (MayEnter f dir (last ∷ []) records) (changes_with f (last ∷ [])) m r y
+    (r : Result (Unit {0}) CallError) (y : Held D) → Enters state dir (Stands state) (MayEnter f dir (last ∷ []) records) (changes_with f (last ∷ [])) m r y
     → Enters state dir (Stands state) (MayEnter f dir (before ++ last ∷ []) records) (changes_with f (before ++ last ∷ [])) x r y
 GoesOn {D} state dir f last records before x (Err e) m = Enters state dir (Stands state) (MayEnter f dir (before ++ last ∷ []) records) (changes_with f (before ++ last ∷ [])) x (Err e) m

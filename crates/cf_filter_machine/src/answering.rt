@@ -19,7 +19,7 @@ ghost use Rattle.cf_volume.specs.Calls.{IsCause, IsHere, Runs, StopsOnly};
 use crate::desks::Desk;
 use crate::entries::entries_of;
 use cf_ask_rule::Wait;
-use cf_base::{Blob, Cause, End, Fail, ItemId, Memory, Span, WaitKind};
+use cf_base::{Blob, Cause, End, CallError, ItemId, OutOfMemory, Span, WaitKind};
 use cf_disk::Disk;
 use cf_table::{Row, Rows};
 use cf_volume::Volume;
@@ -46,17 +46,17 @@ fn cut_at(asked: Span, size: u32) -> Span
     }
 }
 
-/// A span as far as a file's size, where each byte of it is here. Memory also where one is not, or there is no such file.
-pub(crate) fn cut_here(row: Option<&Row>, asked: Span) -> Result<Span, Memory>
+/// A span as far as a file's size, where each byte of it is here. OutOfMemory also where one is not, or there is no such file.
+pub(crate) fn cut_here(row: Option<&Row>, asked: Span) -> Result<Span, OutOfMemory>
     ensures { IfOk result (IsCutHere (option_copied row.entry) asked) }
 {
     let Some(row) = row else {
-        return Err(Memory);
+        return Err(OutOfMemory);
     };
     let cut = cut_at(asked, row.size);
     let missing = row.here.missing_in(cut)?;
     if !missing.is_empty() {
-        return Err(Memory);
+        return Err(OutOfMemory);
     }
     Ok(cut)
 }
@@ -66,7 +66,7 @@ pub(crate) fn read_here<D: Disk>(
     volume: &mut Volume<D>,
     item: ItemId,
     span: Span,
-) -> Result<Blob, Fail>
+) -> Result<Blob, CallError>
     requires end { span.start + span.len ≤ 2 ^ 40 }
     requires here { IsHere (row_of volume.old.known.table.rows item) span.start (span.start + span.len) }
     ensures bytes { (v : model) (i : Item) → At (D.state volume.old.disk) volume.old.known v → item_of v.items item ≡ Some i → IfOk result (λ b. map Some b ≡ slice_range i.held span.start (span.start + span.len)) }
@@ -88,7 +88,7 @@ pub(crate) fn end_met(
     rows: &Rows,
     kind: WaitKind,
     item: ItemId,
-) -> Result<End, Memory>
+) -> Result<End, OutOfMemory>
     requires { is_access kind cause.Met ≡ false }
     ensures { IfOk result (λ end. (items : List Item) (w : model_wait) → MeansAll rows.now.rows items → RiseFrom 1 items → w.item ≡ item → end ≡ end_met kind items w) }
 {
@@ -102,7 +102,7 @@ pub(crate) fn end_met(
 }
 
 // How a wait ends, where it does not read.
-fn end_of(alloc: Global, rows: &Rows, wait: &Wait, cause: Cause) -> Result<End, Memory>
+fn end_of(alloc: Global, rows: &Rows, wait: &Wait, cause: Cause) -> Result<End, OutOfMemory>
     requires { is_access wait.now.kind cause ≡ false }
     ensures { IfOk result (λ end. (items : List Item) → MeansAll rows.now.rows items → RiseFrom 1 items → end ≡ end_of items wait.now cause) }
 {
@@ -124,7 +124,7 @@ pub(crate) fn tell_unread(
     rows: &Rows,
     wait: &Wait,
     cause: Cause,
-) -> Result<(), Memory>
+) -> Result<(), OutOfMemory>
     requires { is_access wait.now.kind cause ≡ false }
     ensures { (items : List Item) → MeansAll rows.now.rows items → RiseFrom 1 items → OnOk result (desk.new ≡ ended wait.now.id (end_of items wait.now cause) (says (λ own. same_key own.0 wait.now.id.0) desk.old.own) desk.old) }
 {

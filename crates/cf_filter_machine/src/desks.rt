@@ -22,7 +22,7 @@ mod running;
 use crate::meeting::{start_gone, start_on};
 use crate::opens::Open;
 use cf_base::{
-    Ask, Code, End, Fail, Handle, ItemId, Key, Memory, Notes, Notice, Policy, Sequence, WaitId,
+    Ask, Code, End, CallError, Handle, ItemId, Key, OutOfMemory, Notes, Notice, Policy, Sequence, WaitId,
 };
 use cf_waits::{Moves, Requests, Step};
 use cf_filter_steps::Need;
@@ -149,13 +149,13 @@ impl Desk {
     }
 
     /// Opens a file under the next number of the epoch, of which one is left.
-    pub fn open(&mut self, item: ItemId, epoch: u32) -> Result<Handle, Memory>
+    pub fn open(&mut self, item: ItemId, epoch: u32) -> Result<Handle, OutOfMemory>
         ensures ok { OnOk result (self.new ≡ record self.old { handles = self.old.handles ++ record { handle = record { 0 = key_after epoch self.old.handle_count }; item = item } ∷ []; handle_count = self.old.handle_count + 1 }) }
         ensures handle { IfOk result (λ h. h ≡ record { 0 = key_after epoch self.old.handle_count }) }
         ensures err { OnErr result (self.new ≡ self.old) }
     {
         if self.handle_count == u32::MAX {
-            return Err(Memory);
+            return Err(OutOfMemory);
         }
         let number = self.handle_count + 1;
         let handle = Handle(Key { epoch, number });
@@ -172,7 +172,7 @@ impl Desk {
     }
 
     /// Adds a line.
-    pub fn note(&mut self, n: Notice) -> Result<(), Memory>
+    pub fn note(&mut self, n: Notice) -> Result<(), OutOfMemory>
         ensures ok { OnOk result (self.new ≡ record self.old { notes = self.old.notes ++ n ∷ [] }) }
         ensures err { OnErr result (self.new ≡ self.old) }
     {
@@ -180,7 +180,7 @@ impl Desk {
     }
 
     /// Tells how a wait ended: as the end of the running call where it is the call's own, else by a line.
-    pub fn end(&mut self, wait: WaitId, end: End) -> Result<(), Memory>
+    pub fn end(&mut self, wait: WaitId, end: End) -> Result<(), OutOfMemory>
         ensures { OnOk result (self.new ≡ ended wait end (says (λ own. same_key own.0 wait.0) self.old.own) self.old) }
     {
         if is_own(self.own, wait) {
@@ -191,7 +191,7 @@ impl Desk {
     }
 
     /// Tells which asks were cancelled, and which were made. Their callbacks are still to be called.
-    pub fn tell_asks(&mut self, cancelled: &[Key], asks: &[Ask]) -> Result<(), Memory>
+    pub fn tell_asks(&mut self, cancelled: &[Key], asks: &[Ask]) -> Result<(), OutOfMemory>
         ensures { OnOk result (self.new ≡ record self.old { notes = self.old.notes ++ map cancel_line cancelled.now ++ map asked_line asks.now; outbox = self.old.outbox ++ asks.now }) }
     {
         note_cancels(&mut self.notes, cancelled)?;
@@ -200,21 +200,21 @@ impl Desk {
     }
 
     /// Does a step of the ask rule that was worked out for what waits and is asked now.
-    pub fn take(&mut self, step: Step) -> Result<Moves, Memory>
+    pub fn take(&mut self, step: Step) -> Result<Moves, OutOfMemory>
         requires { IsPlanned step self.old.waiting }
         ensures moves { IfOk result (λ m. m ≡ moved_of None (carried step self.old.waiting).0) }
         ensures ok { OnOk result (self.new ≡ record self.old { waiting = (carried step self.old.waiting).1 }) }
         ensures err { OnErr result (self.new ≡ self.old) }
     {
         if self.requests.has_no_numbers(&step) {
-            return Err(Memory);
+            return Err(OutOfMemory);
         }
         self.requests.take(step)
     }
 
     /// Begins a wait on an item as this row tells it, and one for the rest of the file beside it where that is wanted and
     /// none is live.
-    pub fn start_on(&mut self, row: &Row, need: &Need) -> Result<(WaitId, Moves), Fail>
+    pub fn start_on(&mut self, row: &Row, need: &Need) -> Result<(WaitId, Moves), CallError>
         ensures begins { (i : Item) → Means row.now i → IsSmall i → BeginsBy (meant need.now) (view_of self.old.policy i) self.old result self.new }
         ensures refused { IfErr result (λ e. IfRefused e self.old self.new) }
     {
@@ -225,7 +225,7 @@ impl Desk {
     }
 
     /// The same on an item that is gone.
-    pub fn start_gone(&mut self, need: &Need) -> Result<(WaitId, Moves), Fail>
+    pub fn start_gone(&mut self, need: &Need) -> Result<(WaitId, Moves), CallError>
         ensures begins { BeginsBy (meant need.now) no_view self.old result self.new }
         ensures refused { IfErr result (λ e. IfRefused e self.old self.new) }
     {
@@ -236,20 +236,20 @@ impl Desk {
     }
 
     /// So many ticks pass for each ask, where none is left on which 60 ticks have passed.
-    pub fn pass(&mut self, ticks: u32) -> Result<(), Memory>
+    pub fn pass(&mut self, ticks: u32) -> Result<(), OutOfMemory>
         ensures ok { OnOk result (self.new ≡ record self.old { waiting = ticked ticks self.old.waiting }) }
         ensures err { OnErr result (self.new ≡ self.old) }
     {
         // Whoever lets time pass ends such asks then.
         if self.requests.next_expired(0).is_some() {
-            return Err(Memory);
+            return Err(OutOfMemory);
         }
         self.requests.advance(ticks);
         Ok(())
     }
 
     /// All waits and asks end.
-    pub fn take_down(&mut self) -> Result<Moves, Memory>
+    pub fn take_down(&mut self) -> Result<Moves, OutOfMemory>
         ensures moves { IfOk result (λ m. m ≡ moved_of None (downed self.old.waiting).0) }
         ensures ok { OnOk result (self.new ≡ record self.old { waiting = (downed self.old.waiting).1 }) }
         ensures err { OnErr result (self.new ≡ self.old) }
@@ -300,7 +300,7 @@ fn is_own(own: Option<WaitId>, wait: WaitId) -> bool
     }
 }
 
-fn note_background(notes: &mut Notes, beside: Option<WaitId>, item: ItemId) -> Result<(), Memory>
+fn note_background(notes: &mut Notes, beside: Option<WaitId>, item: ItemId) -> Result<(), OutOfMemory>
     ensures { OnOk result (notes.new ≡ notes.old ++ background_lines item beside) }
 {
     if let Some(wait) = beside {
@@ -309,7 +309,7 @@ fn note_background(notes: &mut Notes, beside: Option<WaitId>, item: ItemId) -> R
     Ok(())
 }
 
-fn note_cancels(notes: &mut Notes, cancelled: &[Key]) -> Result<(), Memory>
+fn note_cancels(notes: &mut Notes, cancelled: &[Key]) -> Result<(), OutOfMemory>
     ensures { OnOk result (notes.new ≡ notes.old ++ map cancel_line cancelled.now) }
 {
     for key in cancelled {
@@ -318,7 +318,7 @@ fn note_cancels(notes: &mut Notes, cancelled: &[Key]) -> Result<(), Memory>
     Ok(())
 }
 
-fn note_asks(notes: &mut Notes, asks: &[Ask]) -> Result<(), Memory>
+fn note_asks(notes: &mut Notes, asks: &[Ask]) -> Result<(), OutOfMemory>
     ensures { OnOk result (notes.new ≡ notes.old ++ map asked_line asks.now) }
 {
     for ask in asks {
@@ -327,7 +327,7 @@ fn note_asks(notes: &mut Notes, asks: &[Ask]) -> Result<(), Memory>
     Ok(())
 }
 
-fn put_out(outbox: &mut VecDeque<Ask>, asks: &[Ask]) -> Result<(), Memory>
+fn put_out(outbox: &mut VecDeque<Ask>, asks: &[Ask]) -> Result<(), OutOfMemory>
     ensures { OnOk result (outbox.new.items ≡ outbox.old.items ++ asks.now) }
 {
     for ask in asks {

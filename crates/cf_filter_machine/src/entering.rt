@@ -18,7 +18,7 @@ ghost use Rattle.cf_volume.specs.Calls.{HasRecords, IsCause, Runs, StopsOnly};
 
 use crate::desks::Desk;
 use crate::limits::fits;
-use cf_base::{AuxRecord, Change, Fail, Memory, Notice, Usn};
+use cf_base::{AuxRecord, Change, CallError, OutOfMemory, Notice, Usn};
 use cf_disk::Disk;
 use cf_volume::{Volume, are_short};
 
@@ -33,7 +33,7 @@ fn is_listed(change: &Change) -> bool
 }
 
 // Puts a change of a list in the volume, and gives its number.
-fn put_entry<D: Disk>(volume: &mut Volume<D>, change: &Change) -> Result<Usn, Fail>
+fn put_entry<D: Disk>(volume: &mut Volume<D>, change: &Change) -> Result<Usn, CallError>
     ensures listed { IfOk result (λ n. is_listed change.now ≡ true) }
     ensures ok { (v : model) → At (D.state volume.old.disk) volume.old.known v → OnOk result (At (D.state volume.new.disk) volume.new.known (put_change change.now v)) }
     ensures number { (v : model) → At (D.state volume.old.disk) volume.old.known v → IfOk result (λ n. n ≡ next_number v) }
@@ -45,16 +45,16 @@ fn put_entry<D: Disk>(volume: &mut Volume<D>, change: &Change) -> Result<Usn, Fa
 {
     volume.last_point();
     if !is_listed(change) {
-        return Err(Fail::Memory);
+        return Err(CallError::OutOfMemory);
     }
     if !fits(volume, change) {
-        return Err(Fail::Memory);
+        return Err(CallError::OutOfMemory);
     }
     volume.apply(change)
 }
 
 // Makes a change of a list that is not its last, and tells it.
-fn enter_one<D: Disk>(volume: &mut Volume<D>, desk: &mut Desk, change: &Change) -> Result<(), Fail>
+fn enter_one<D: Disk>(volume: &mut Volume<D>, desk: &mut Desk, change: &Change) -> Result<(), CallError>
     ensures does { (dir : ItemId) → Enters D.state dir (Coming D.state dir) (λ s. IsReadyEntry dir change.now s.volume) (one_change change.now) (held volume.old desk.old) result (held volume.new desk.new) }
     ensures same { desk.new.waiting ≡ desk.old.waiting }
 {
@@ -72,7 +72,7 @@ fn enter_before<D: Disk>(
     volume: &mut Volume<D>,
     desk: &mut Desk,
     before: &[Change],
-) -> Result<(), Fail>
+) -> Result<(), CallError>
     ensures does { (dir : ItemId) (f : Book → Book) (last : Change) (records : List AuxRecord) → GoesOn D.state dir f last records before.now (held volume.old desk.old) result (held volume.new desk.new) }
     ensures same { desk.new.waiting ≡ desk.old.waiting }
 {
@@ -83,14 +83,14 @@ fn enter_before<D: Disk>(
 }
 
 // Puts records for which there is room.
-fn put_records<D: Disk>(volume: &mut Volume<D>, records: &[AuxRecord]) -> Result<(), Memory>
+fn put_records<D: Disk>(volume: &mut Volume<D>, records: &[AuxRecord]) -> Result<(), OutOfMemory>
     requires { All IsShort records.now }
     ensures ok { (v : model) (b : Book) → At (D.state volume.old.disk) volume.old.known v → HasRecords v.book (with_records records.now volume.old.known.records) b → OnOk result (At (D.state volume.new.disk) volume.new.known (record v { book = b })) }
     ensures disk { volume.new.disk ≡ volume.old.disk }
     ensures usable { OnOk result (volume.new.known.broken ≡ false) }
 {
     let Ok(()) = volume.aux_put_all(records) else {
-        return Err(Memory);
+        return Err(OutOfMemory);
     };
     Ok(())
 }
@@ -101,7 +101,7 @@ fn enter_last<D: Disk>(
     desk: &mut Desk,
     change: &Change,
     records: &[AuxRecord],
-) -> Result<(), Fail>
+) -> Result<(), CallError>
     requires { All IsShort records.now }
     ensures does { (dir : ItemId) (f : Book → Book) → Enters D.state dir (Stands D.state) (MayEnter f dir (change.now ∷ []) records.now) (change_with f change.now) (held volume.old desk.old) result (held volume.new desk.new) }
     ensures same { desk.new.waiting ≡ desk.old.waiting }
@@ -116,22 +116,22 @@ fn enter_last<D: Disk>(
     Ok(())
 }
 
-/// Makes the changes of a list of entries, and tells them. The records come with the last of them. Memory also where the list
+/// Makes the changes of a list of entries, and tells them. The records come with the last of them. OutOfMemory also where the list
 /// has no change, where one of them can be in no such list, or where a record is too long.
 pub(crate) fn enter_all<D: Disk>(
     volume: &mut Volume<D>,
     desk: &mut Desk,
     changes: &[Change],
     records: &[AuxRecord],
-) -> Result<(), Fail>
+) -> Result<(), CallError>
     ensures does { (dir : ItemId) (f : Book → Book) → Enters D.state dir (Stands D.state) (MayEnter f dir changes.now records.now) (changes_with f changes.now) (held volume.old desk.old) result (held volume.new desk.new) }
     ensures same { desk.new.waiting ≡ desk.old.waiting }
 {
     if !are_short(records) {
-        return Err(Fail::Memory);
+        return Err(CallError::OutOfMemory);
     }
     let Some((last, before)) = changes.split_last() else {
-        return Err(Fail::Memory);
+        return Err(CallError::OutOfMemory);
     };
     enter_before(volume, desk, before)?;
     enter_last(volume, desk, last, records)

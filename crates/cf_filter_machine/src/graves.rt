@@ -5,7 +5,7 @@ ghost use Rattle.std.specs.Prelude.{◌≡◌, ◌≤◌, ◌<◌, ◌++◌, ◌
 ghost use Rattle.cf_model.specs.Books.{usn_bytes};
 ghost use Rattle.cf_model.specs.Words.{in_bytes, number_of};
 
-use cf_base::{Blob, Memory, Usn};
+use cf_base::{Blob, OutOfMemory, Usn};
 use cf_table::Row;
 use std::alloc::Global;
 
@@ -71,7 +71,7 @@ fn version_of(row: &Row) -> u64
 }
 
 /// The value of its tombstone's record.
-pub(crate) fn grave_value(alloc: Global, row: &Row) -> Result<Blob, Memory>
+pub(crate) fn grave_value(alloc: Global, row: &Row) -> Result<Blob, OutOfMemory>
     ensures { IfOk result (λ b. b ≡ in_bytes 8 (number_of (take 8 row.now.identity)) ++ in_bytes 8 (cond row.now.dir 0 (number_of (drop 16 row.now.identity)))) }
 {
     let target = low_number(target_of(row.identity.as_slice()));
@@ -82,7 +82,7 @@ pub(crate) fn grave_value(alloc: Global, row: &Row) -> Result<Blob, Memory>
 }
 
 /// The key of the record of a tombstone.
-pub(crate) fn grave_key(alloc: Global, number: Usn) -> Result<Blob, Memory>
+pub(crate) fn grave_key(alloc: Global, number: Usn) -> Result<Blob, OutOfMemory>
     ensures key { IfOk result (λ key. key ≡ codes "t" ++ usn_bytes number) }
     ensures short { IfOk result (λ key. length key ≤ 255) }
     ensures low { (number.epoch < 2 ^ 32) × (number.place < 2 ^ 32) }

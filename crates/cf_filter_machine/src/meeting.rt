@@ -10,7 +10,7 @@ ghost use Rattle.cf_filter_steps.specs.Good.{IsSmall};
 ghost use Rattle.cf_table.specs.Means.{Means};
 
 use cf_ask_rule::View;
-use cf_base::{Fail, Memory, Policy, WaitId};
+use cf_base::{CallError, OutOfMemory, Policy, WaitId};
 use cf_ranges::RangeSet;
 use cf_waits::{Moves, Requests};
 use cf_filter_steps::{Need, view_of};
@@ -23,7 +23,7 @@ pub(crate) fn is_met_on(
     policy: Policy,
     row: &Row,
     need: &Need,
-) -> Result<bool, Memory>
+) -> Result<bool, OutOfMemory>
     ensures { IfOk result (λ met. (i : Item) → Means row.now i → IsSmall i → met ≡ is_met (view_of policy i) (wait_after requests.now 0 need.now.kind need.now.item need.now.handle need.now.span)) }
 {
     let v = view_of(row, policy);
@@ -31,7 +31,7 @@ pub(crate) fn is_met_on(
 }
 
 /// Whether nothing is missing of an item that is gone.
-pub(crate) fn is_met_gone(alloc: Global, requests: &Requests, need: &Need) -> Result<bool, Memory>
+pub(crate) fn is_met_gone(alloc: Global, requests: &Requests, need: &Need) -> Result<bool, OutOfMemory>
     ensures { IfOk result (λ met. met ≡ is_met no_view (wait_after requests.now 0 need.now.kind need.now.item need.now.handle need.now.span)) }
 {
     let none = RangeSet::new(alloc);
@@ -54,7 +54,7 @@ pub(crate) fn start_on(
     policy: Policy,
     row: &Row,
     need: &Need,
-) -> Result<(WaitId, Moves), Fail>
+) -> Result<(WaitId, Moves), CallError>
     ensures err { OnErr result (requests.new ≡ requests.old) }
     ensures begins { (i : Item) → Means row.now i → IsSmall i → Begins (limits_by need.now.kind) (background_id need.now.background need.now.item requests.old) (begun need.now.kind need.now.item need.now.handle need.now.span need.now.background (view_of policy i) requests.old) requests.old result requests.new }
 {
@@ -74,7 +74,7 @@ pub(crate) fn start_gone(
     alloc: Global,
     requests: &mut Requests,
     need: &Need,
-) -> Result<(WaitId, Moves), Fail>
+) -> Result<(WaitId, Moves), CallError>
     ensures err { OnErr result (requests.new ≡ requests.old) }
     ensures begins { Begins (limits_by need.now.kind) (background_id need.now.background need.now.item requests.old) (begun need.now.kind need.now.item need.now.handle need.now.span need.now.background no_view requests.old) requests.old result requests.new }
 {

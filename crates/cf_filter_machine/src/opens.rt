@@ -7,7 +7,7 @@ use cf_base::{Handle, ItemId};
 use std::marker::Model;
 
 /// A handle, and the file that it was opened on.
-#[derive(Clone, Copy, Debug)]
+#[derive(Clone, Copy)]
 pub struct Open {
     handle: Handle,
     item: ItemId,

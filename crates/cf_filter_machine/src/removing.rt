@@ -1,7 +1,7 @@
 //! Removals, with a tombstone in the same step.
 
 ghost use Rattle.std.specs.Prelude.{◌≡◌, ◌≤◌, ◌==◌, false, length, true, MatchOption, IfErr, IfOk, OnOk, option_copied};
-ghost use Rattle.cf_base.specs.declared.codes.Fail.TheVariants as fail;
+ghost use Rattle.cf_base.specs.declared.codes.CallError.TheVariants as fail;
 ghost use Rattle.cf_disk.specs.Disk.{Leaves};
 ghost use Rattle.cf_filter_machine.specs.Graves.{IsGraveOf, gone};
 ghost use Rattle.cf_model.specs.Books.{Tombstone, tombstone_record, with_tombstone};
@@ -16,19 +16,19 @@ ghost use Rattle.cf_table.specs.Means.{Means};
 ghost use Rattle.cf_volume.specs.Calls.{IsCause, Runs, StopsOnly};
 
 use crate::graves::{grave_key, grave_value, is_untargeted};
-use cf_base::{Blob, Change, Fail, ItemId, Memory, Usn};
+use cf_base::{Blob, Change, CallError, ItemId, OutOfMemory, Usn};
 use cf_disk::Disk;
 use cf_table::Row;
 use cf_volume::Volume;
 use std::alloc::Global;
 
 /// The value of the record of an item's tombstone. None where none is wanted, or the identity names no target.
-fn grave_of(alloc: Global, row: Option<&Row>, bury: bool) -> Result<Option<Blob>, Memory>
+fn grave_of(alloc: Global, row: Option<&Row>, bury: bool) -> Result<Option<Blob>, OutOfMemory>
     ensures grave { IfOk result (λ grave. (i : Item) → MatchOption (option_copied row.entry) ⊥ (λ r. Means r i) → (i.id.0 == 1) ≡ false → IsGraveOf bury i grave) }
     ensures short { IfOk result (λ grave. MatchOption grave (Unit {0}) (λ value. length value ≤ 65535)) }
 {
     let Some(row) = row else {
-        return Err(Memory);
+        return Err(OutOfMemory);
     };
     if !bury {
         return Ok(None);
@@ -46,18 +46,18 @@ fn put_grave<D: Disk>(
     volume: &mut Volume<D>,
     number: Usn,
     value: &Blob,
-) -> Result<Usn, Fail>
+) -> Result<Usn, CallError>
     requires { length value.now ≤ 65535 }
     ensures ok { (v : model) (t : Tombstone) → At (D.state volume.old.disk) volume.old.known v → t.number ≡ number → value.now ≡ (tombstone_record t).value → Every (λ y. above t.number y.number ≡ true) v.book.tombstones → OnOk result (At (D.state volume.new.disk) volume.new.known (record v { book = with_tombstone t v.book })) }
     ensures number { IfOk result (λ n. n ≡ number) }
-    ensures memory { IfErr result (λ e. e ≡ fail.Memory) }
+    ensures memory { IfErr result (λ e. e ≡ fail.OutOfMemory) }
     ensures disk { volume.new.disk ≡ volume.old.disk }
     ensures usable { OnOk result (volume.new.known.broken ≡ false) }
 {
     let key = grave_key(alloc, number)?;
     // What the removed item leaves free has room for it.
     let Ok(()) = volume.aux_put(key.as_slice(), Some(value.as_slice())) else {
-        return Err(Fail::Memory);
+        return Err(CallError::OutOfMemory);
     };
     Ok(number)
 }
@@ -69,7 +69,7 @@ pub(crate) fn remove_item<D: Disk>(
     volume: &mut Volume<D>,
     item: ItemId,
     bury: bool,
-) -> Result<Usn, Fail>
+) -> Result<Usn, CallError>
     ensures done { (v : model) (i : Item) → At (D.state volume.old.disk) volume.old.known v → item_of v.items item ≡ Some i → (item.0 == 1) ≡ false → AreShortIds v.book.seen → Every (λ t. above (next_number v) t.number ≡ true) v.book.tombstones → OnOk result (At (D.state volume.new.disk) volume.new.known (gone bury item i v)) }
     ensures number { (v : model) → At (D.state volume.old.disk) volume.old.known v → IfOk result (λ n. n ≡ next_number v) }
     ensures only { (v : model) → At (D.state volume.old.disk) volume.old.known v → no_places v 1 ≡ false → volume.old.known.broken ≡ false → IfErr result StopsOnly }

@@ -11,7 +11,7 @@ use crate::removing::remove_item;
 use crate::rows::last_of;
 use cf_ask_rule::Wait;
 use cf_base::{
-    Ask, AuxRecord, Blob, Cause, Change, Code, End, Fail, Handle, ItemId, Key, Memory, Notice,
+    Ask, AuxRecord, Blob, Cause, Change, Code, End, CallError, Handle, ItemId, Key, OutOfMemory, Notice,
     Policy, Span, Usn, WaitId,
 };
 use cf_disk::Disk;
@@ -77,14 +77,14 @@ impl<D: Disk> Steps for Machine<D> {
         self.volume.next_usn()
     }
 
-    fn room(&self, changes: &[Change]) -> Result<Room, Memory> {
+    fn room(&self, changes: &[Change]) -> Result<Room, OutOfMemory> {
         let room = self.volume.room(changes)?;
         Ok(lacking(room))
     }
 
-    fn change(&mut self, change: &Change) -> Result<(), Fail> {
+    fn change(&mut self, change: &Change) -> Result<(), CallError> {
         if !fits(&self.volume, change) {
-            return Err(Fail::Memory);
+            return Err(CallError::OutOfMemory);
         }
         let line = change.copy()?;
         let number = self.volume.apply(change)?;
@@ -95,14 +95,14 @@ impl<D: Disk> Steps for Machine<D> {
         Ok(())
     }
 
-    fn put(&mut self, item: ItemId, change: &Change) -> Result<(), Fail> {
+    fn put(&mut self, item: ItemId, change: &Change) -> Result<(), CallError> {
         if !fits(&self.volume, change) {
-            return Err(Fail::Memory);
+            return Err(CallError::OutOfMemory);
         }
         let line = change.copy()?;
         let number = self.volume.apply(change)?;
         if self.volume.row(item).is_none() {
-            return Err(Fail::Memory);
+            return Err(CallError::OutOfMemory);
         }
         self.volume.touch(item)?;
         self.desk.note(Notice::Change {
@@ -112,24 +112,24 @@ impl<D: Disk> Steps for Machine<D> {
         Ok(())
     }
 
-    fn touch(&mut self, item: ItemId) -> Result<(), Fail> {
+    fn touch(&mut self, item: ItemId) -> Result<(), CallError> {
         if self.volume.row(item).is_none() {
-            return Err(Fail::Memory);
+            return Err(CallError::OutOfMemory);
         }
         let Ok(()) = self.volume.touch(item) else {
-            return Err(Fail::Memory);
+            return Err(CallError::OutOfMemory);
         };
         Ok(())
     }
 
-    fn remove(&mut self, item: ItemId, bury: bool) -> Result<(), Fail> {
+    fn remove(&mut self, item: ItemId, bury: bool) -> Result<(), CallError> {
         let number = remove_item(self.desk.alloc(), &mut self.volume, item, bury)?;
         let change = Change::Remove { item };
         self.desk.note(Notice::Change { number, change })?;
         Ok(())
     }
 
-    fn retrieve(&mut self, item: ItemId, span: Span) -> Result<Blob, Fail> {
+    fn retrieve(&mut self, item: ItemId, span: Span) -> Result<Blob, CallError> {
         let cut = cut_here(self.volume.row(item), span)?;
         self.volume.bytes(item, cut)
     }
@@ -139,10 +139,10 @@ impl<D: Disk> Steps for Machine<D> {
         dir: ItemId,
         changes: &[Change],
         records: &[AuxRecord],
-    ) -> Result<Room, Memory> {
+    ) -> Result<Room, OutOfMemory> {
         let _ = dir;
         if !are_short(records) {
-            return Err(Memory);
+            return Err(OutOfMemory);
         }
         let room = self.volume.room_with_records(changes, records)?;
         Ok(lacking(room))
@@ -153,32 +153,32 @@ impl<D: Disk> Steps for Machine<D> {
         dir: ItemId,
         changes: &[Change],
         records: &[AuxRecord],
-    ) -> Result<(), Fail> {
+    ) -> Result<(), CallError> {
         let _ = dir;
         enter_all(&mut self.volume, &mut self.desk, changes, records)
     }
 
-    fn pass(&mut self, ticks: u32) -> Result<(), Fail> {
+    fn pass(&mut self, ticks: u32) -> Result<(), CallError> {
         let Ok(()) = self.volume.pass(ticks as u64) else {
-            return Err(Fail::Memory);
+            return Err(CallError::OutOfMemory);
         };
         self.desk.pass(ticks)?;
         Ok(())
     }
 
-    fn take(&mut self, step: Step) -> Result<Moves, Fail> {
+    fn take(&mut self, step: Step) -> Result<Moves, CallError> {
         let moves = self.desk.take(step)?;
         Ok(moves)
     }
 
-    fn is_met(&self, need: &Need) -> Result<bool, Memory> {
+    fn is_met(&self, need: &Need) -> Result<bool, OutOfMemory> {
         match self.volume.row(need.item) {
             Some(row) => is_met_on(self.desk.requests(), self.desk.policy(), row, need),
             None => is_met_gone(self.desk.alloc(), self.desk.requests(), need),
         }
     }
 
-    fn answer(&mut self, need: &Need) -> Result<End, Fail> {
+    fn answer(&mut self, need: &Need) -> Result<End, CallError> {
         if !is_access(need.kind, Cause::Met) {
             let end = end_met(self.desk.alloc(), self.volume.rows(), need.kind, need.item)?;
             return Ok(end);
@@ -188,7 +188,7 @@ impl<D: Disk> Steps for Machine<D> {
         Ok(End::Data(bytes))
     }
 
-    fn start(&mut self, need: &Need) -> Result<(WaitId, Moves), Fail> {
+    fn start(&mut self, need: &Need) -> Result<(WaitId, Moves), CallError> {
         let row = match self.volume.row(need.item) {
             None => return self.desk.start_gone(need),
             Some(row) => row,
@@ -196,7 +196,7 @@ impl<D: Disk> Steps for Machine<D> {
         self.desk.start_on(row, need)
     }
 
-    fn open(&mut self, item: ItemId) -> Result<Handle, Fail> {
+    fn open(&mut self, item: ItemId) -> Result<Handle, CallError> {
         let epoch = self.volume.epoch();
         let handle = self.desk.open(item, epoch)?;
         Ok(handle)
@@ -214,7 +214,7 @@ impl<D: Disk> Steps for Machine<D> {
         self.desk.set_connected(on);
     }
 
-    fn take_down(&mut self) -> Result<Moves, Fail> {
+    fn take_down(&mut self) -> Result<Moves, CallError> {
         let moves = self.desk.take_down()?;
         Ok(moves)
     }
@@ -235,7 +235,7 @@ impl<D: Disk> Steps for Machine<D> {
         (self.volume.used(), self.volume.clusters())
     }
 
-    fn commit(&mut self) -> Result<(), Fail> {
+    fn commit(&mut self) -> Result<(), CallError> {
         self.volume.commit()?;
         Ok(())
     }
@@ -244,7 +244,7 @@ impl<D: Disk> Steps for Machine<D> {
         self.volume.count()
     }
 
-    fn end_wait(&mut self, ended: &(Wait, Cause)) -> Result<(), Fail> {
+    fn end_wait(&mut self, ended: &(Wait, Cause)) -> Result<(), CallError> {
         let wait = &ended.0;
         if !is_access(wait.kind(), ended.1) {
             tell_unread(&mut self.desk, self.volume.rows(), wait, ended.1)?;
@@ -257,7 +257,7 @@ impl<D: Disk> Steps for Machine<D> {
         Ok(())
     }
 
-    fn tell_asks(&mut self, cancelled: &[Key], asks: &[Ask]) -> Result<(), Fail> {
+    fn tell_asks(&mut self, cancelled: &[Key], asks: &[Ask]) -> Result<(), CallError> {
         self.desk.tell_asks(cancelled, asks)?;
         Ok(())
     }

@@ -2,7 +2,7 @@
 use Rattle.std.proofs.Common.{◌≡◌, Bool, true, false, if◌then◌else◌, List, [], ◌∷◌, ◌++◌, refl, sym, ◌∙◌, ap, subst, ℕ, map}
 use Rattle.std.specs.Prelude.{Result, Ok, Err, Option, Some, None, ◌==◌}
 use Rattle.cf_ask_rule.specs.Plans.{Planned}
-use Rattle.cf_base.specs.declared.codes.Fail.{Fail}
+use Rattle.cf_base.specs.declared.codes.CallError.{CallError}
 use Rattle.cf_base.specs.declared.ids.ItemId.{ItemId}
 use Rattle.cf_base.specs.declared.ids.Key.{Key}
 use Rattle.cf_base.specs.declared.notices.Notice.{Notice}
@@ -38,14 +38,14 @@ lines_are : (made : List Live) → map asked_line (map (λ a. a.ask) made) ≡ m
 lines_are [] = refl
 lines_are (a ∷ as') = ap (λ (ls : List Notice). ask_line a ∷ ls) (lines_are as')
 
-told_as : {X : Type 0} (S : Sense X) (t : Told) (old new : X) (r : Result (Unit {0}) Fail)
+told_as : {X : Type 0} (S : Sense X) (t : Told) (old new : X) (r : Result (Unit {0}) CallError)
     → Answers S (AreOnFiles t.ended) (tell_moves t.ended t.cancelled (map (λ a. a.ask) t.made)) old r new → Answers S (AreOnFiles t.ended) (then_do (each end_wait t.ended) (noted (with_asks_told t))) old r new
 told_as S t old new r h =
     subst (λ (ls : List Notice). Answers S (AreOnFiles t.ended) (then_do (each end_wait t.ended) (noted (λ s. record s { notes = s.notes ++ map cancel_line t.cancelled ++ ls; outbox = s.outbox ++ map (λ a. a.ask) t.made }))) old r new)
     (lines_are t.made) h
 
 -- the moves tell it
-moves_tell : {X : Type 0} (S : Sense X) (t : Told) (m : Moves) (old new : X) (r : Result (Unit {0}) Fail)
+moves_tell : {X : Type 0} (S : Sense X) (t : Told) (m : Moves) (old new : X) (r : Result (Unit {0}) CallError)
     → m ≡ moved_of None t → Answers S (AreOnFiles m.ended) (tell_moves m.ended m.cancelled m.asks) old r new → Answers S (AreOnFiles t.ended) (then_do (each end_wait t.ended) (noted (with_asks_told t))) old r new
 moves_tell S t m old new r e h = told_as S t old new r (subst (λ (n : Moves). Answers S (AreOnFiles n.ended) (tell_moves n.ended n.cancelled n.asks) old r new) e h)
 
@@ -58,7 +58,7 @@ ended_have P why (w ∷ ws) h = one (why w) (ended_have P why ws h.1) where
   one (Some c) rest = (h.0, rest)
 
 -- a part that the state itself names
-same_part : {X : Type 0} (S : Sense X) (item : ItemId) (d : Deed) (p : Planned) (w : Waiting) (old new : X) (r : Result (Unit {0}) Fail)
+same_part : {X : Type 0} (S : Sense X) (item : ItemId) (d : Deed) (p : Planned) (w : Waiting) (old new : X) (r : Result (Unit {0}) CallError)
     → ((s : Filter) → S.means old s → w ≡ s.waiting) → Answers S (AreOnFiles (carried p w).0.ended) (tell (carried p w)) old r new → Answers S (IsStepNow item d p) (settle item d) old r new
 same_part S item d p w old new r waits h = record {
   leads = λ s i q.
@@ -69,18 +69,18 @@ same_part S item d p w old new r waits h = record {
 }
 
 -- with what waits then
-told_next : {X : Type 0} (S : Sense X) (y : Told × Waiting) (m : Moves) (old mid new : X) (r : Result (Unit {0}) Fail)
+told_next : {X : Type 0} (S : Sense X) (y : Told × Waiting) (m : Moves) (old mid new : X) (r : Result (Unit {0}) CallError)
     → Answers S Any (noted (with_waiting y.1)) old (Ok unit) mid → m ≡ moved_of None y.0 → Answers S (AreOnFiles m.ended) (tell_moves m.ended m.cancelled m.asks) mid r new → Answers S (AreOnFiles y.0.ended) (tell y) old r new
 told_next S y m old mid new r h e k =
     then_on S (AreOnFiles y.0.ended) (AreOnFiles y.0.ended) (noted (with_waiting y.1)) (then_do (each end_wait y.0.ended) (noted (with_asks_told y.0))) old mid new unit r
     (λ s t p z. subst (λ (u : Filter). AreOnFiles y.0.ended u) (sym z.1) p) (weaker S Any (AreOnFiles y.0.ended) (noted (with_waiting y.1)) old mid (Ok unit) (λ s p. record {}) h) (moves_tell S y.0 m mid new r e k)
 
-pub settled : {X : Type 0} (S : Sense X) (item : ItemId) (d : Deed) (p : Planned) (w : Waiting) (m : Moves) (old mid new : X) (r : Result (Unit {0}) Fail)
+pub settled : {X : Type 0} (S : Sense X) (item : ItemId) (d : Deed) (p : Planned) (w : Waiting) (m : Moves) (old mid new : X) (r : Result (Unit {0}) CallError)
     → ((s : Filter) → S.means old s → w ≡ s.waiting) → Answers S Any (noted (with_waiting (carried p w).1)) old (Ok unit) mid → m ≡ moved_of None (carried p w).0
     → Answers S (AreOnFiles m.ended) (tell_moves m.ended m.cancelled m.asks) mid r new → Answers S (IsStepNow item d p) (settle item d) old r new
 settled S item d p w m old mid new r waits h e k = same_part S item d p w old new r waits (told_next S (carried p w) m old mid new r h e k)
 
-pub settled_not : {X : Type 0} (S : Sense X) (item : ItemId) (d : Deed) (p : Planned) (w : Waiting) (old new : X) (e : Fail)
+pub settled_not : {X : Type 0} (S : Sense X) (item : ItemId) (d : Deed) (p : Planned) (w : Waiting) (old new : X) (e : CallError)
     → ((s : Filter) → S.means old s → w ≡ s.waiting) → Answers S Any (noted (with_waiting (carried p w).1)) old (Err e) new → Answers S (IsStepNow item d p) (settle item d) old (Err e) new
 settled_not S item d p w old new e waits h =
     same_part S item d p w old new (Err e) waits (weaker S Any (AreOnFiles (carried p w).0.ended) (tell (carried p w)) old new (Err e) (λ s q. record {})
@@ -137,13 +137,13 @@ gone_now S x t item d p rows e looks = record {
 
 -- what is told, as lists
 
-pub told_moves : {X : Type 0} (S : Sense X) (m : Moves) (es : List (Wait × Cause)) (ks : List Key) (as' : List Ask) (old mid new : X) (u : Unit {0}) (r : Result (Unit {0}) Fail)
+pub told_moves : {X : Type 0} (S : Sense X) (m : Moves) (es : List (Wait × Cause)) (ks : List Key) (as' : List Ask) (old mid new : X) (u : Unit {0}) (r : Result (Unit {0}) CallError)
     → es ≡ m.ended → ks ≡ m.cancelled → as' ≡ m.asks → Answers S (AreOnFiles es) (each end_wait es) old (Ok u) mid → Answers S Any (noted (with_asks ks as')) mid r new → Answers S (AreOnFiles m.ended) (tell_moves m.ended m.cancelled m.asks) old r new
 told_moves S m es ks as' old mid new u r p q t h k =
     then_on S (AreOnFiles m.ended) Any (each end_wait m.ended) (noted (with_asks m.cancelled m.asks)) old mid new u r (λ s z i j. record {}) (subst (λ (ys : List (Wait × Cause)). Answers S (AreOnFiles ys) (each end_wait ys) old (Ok u) mid) p h)
     (subst (λ (ys : List Key). Answers S Any (noted (with_asks ys m.asks)) mid r new) q (subst (λ (ys : List Ask). Answers S Any (noted (with_asks ks ys)) mid r new) t k))
 
-pub told_not : {X : Type 0} (S : Sense X) (m : Moves) (es : List (Wait × Cause)) (old new : X) (e : Fail)
+pub told_not : {X : Type 0} (S : Sense X) (m : Moves) (es : List (Wait × Cause)) (old new : X) (e : CallError)
     → es ≡ m.ended → Answers S (AreOnFiles es) (each end_wait es) old (Err e) new → Answers S (AreOnFiles m.ended) (tell_moves m.ended m.cancelled m.asks) old (Err e) new
 told_not S m es old new e p h = stops_first S (AreOnFiles m.ended) (each end_wait m.ended) (noted (with_asks m.cancelled m.asks)) old new e (subst (λ (ys : List (Wait × Cause)). Answers S (AreOnFiles ys) (each end_wait ys) old (Err e) new) p h)
 
@@ -166,7 +166,7 @@ downs_have : (P : Wait → Type 0) (ws : List Wait) → Every P ws → Every (λ
 downs_have P [] h = record {}
 downs_have P (w ∷ ws) h = (h.0, downs_have P ws h.1)
 
-pub hung_up : {X : Type 0} (S : Sense X) (w : Waiting) (m : Moves) (old mid new : X) (u : Unit {0}) (r : Result (Unit {0}) Fail)
+pub hung_up : {X : Type 0} (S : Sense X) (w : Waiting) (m : Moves) (old mid new : X) (u : Unit {0}) (r : Result (Unit {0}) CallError)
     → ((s : Filter) → S.means old s → w ≡ s.waiting) → Answers S Any (noted (with_waiting (downed w).1)) old (Ok u) mid → m ≡ moved_of None (downed w).0
     → Answers S (AreOnFiles m.ended) (tell_moves m.ended m.cancelled m.asks) mid r new → Answers S Any (reading all_down tell) old r new
 hung_up S w m old mid new u r waits h e k =
@@ -177,7 +177,7 @@ hung_up S w m old mid new u r waits h e k =
           (a.leads s i (subst (λ (y : Waiting). AreOnFiles (downed y).0.ended s) (sym (waits s i)) files));
     }
 
-pub hung_not : {X : Type 0} (S : Sense X) (w : Waiting) (old new : X) (e : Fail)
+pub hung_not : {X : Type 0} (S : Sense X) (w : Waiting) (old new : X) (e : CallError)
     → ((s : Filter) → S.means old s → w ≡ s.waiting) → Answers S Any (noted (with_waiting (downed w).1)) old (Err e) new → Answers S Any (reading all_down tell) old (Err e) new
 hung_not S w old new e waits h =
     let a = stops_first S Any (noted (with_waiting (downed w).1)) (then_do (each end_wait (downed w).0.ended) (noted (with_asks_told (downed w).0))) old new e h in record {

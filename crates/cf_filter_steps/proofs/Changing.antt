@@ -5,7 +5,7 @@ use Rattle.std.proofs.lemmas.Result.{err_from_is_err_and}
 use Rattle.std.specs.Prelude.{Result, Ok, Err}
 use Rattle.std.specs.Result.{IsErrAnd}
 use Rattle.cf_base.specs.declared.changes.Change.{Change}
-use Rattle.cf_base.specs.declared.codes.Fail.{Fail}
+use Rattle.cf_base.specs.declared.codes.CallError.{CallError}
 use Rattle.cf_model.specs.Arrows.{unit}
 use Rattle.cf_model.specs.Blocks.{puts_into}
 use Rattle.cf_model.specs.Changes.{change, changes, may_need_room, put_after_room, put_change, same_book, tell_change}
@@ -37,21 +37,21 @@ ready_next c cs s t a h e = one (change_ends c s a t e) where
   one (inl q) = subst (λ (v : Volume). AreReady cs v) (sym q) h.1
   one (inr q) = subst (λ (v : Volume). AreReady cs v) (sym q) (ready_still cs (put_change c s.volume) _ s.volume.items _ h.1)
 
-pub change_first : {X : Type 0} (S : Sense X) (c : Change) (cs : List Change) (old mid : X) (v : Unit {0}) (r : Result (Unit {0}) Fail) (new : X)
+pub change_first : {X : Type 0} (S : Sense X) (c : Change) (cs : List Change) (old mid : X) (v : Unit {0}) (r : Result (Unit {0}) CallError) (new : X)
     → Answers S (Ready c) (change c) old (Ok v) mid → Answers S (ReadyAll cs) (changes cs) mid r new → Answers S (ReadyAll (c ∷ cs)) (changes (c ∷ cs)) old r new
 change_first S c cs old mid v r new h k =
     then_on S (ReadyAll (c ∷ cs)) (ReadyAll cs) (change c) (changes cs) old mid new v r (λ s t p e. ready_next c cs s t v p e) (weaker S (Ready c) (ReadyAll (c ∷ cs)) (change c) old mid (Ok v) (λ s p. p.0) h) k
 
 -- a step of the loop
-pub changes_more : {X : Type 0} (S : Sense X) (cs : List Change) (i : ℕ) (x : Change) (old mid : X) (v : Unit {0}) (r : Result (Unit {0}) Fail) (new : X)
+pub changes_more : {X : Type 0} (S : Sense X) (cs : List Change) (i : ℕ) (x : Change) (old mid : X) (v : Unit {0}) (r : Result (Unit {0}) CallError) (new : X)
     → i < length cs → x ≡ get_or cs i x → Answers S (Ready x) (change x) old (Ok v) mid → Answers S (ReadyAll (drop (i + 1) cs)) (changes (drop (i + 1) cs)) mid r new
     → Answers S (ReadyAll (drop i cs)) (changes (drop i cs)) old r new
 changes_more S cs i x old mid v r new small is a rest =
     subst (λ (ys : List Change). Answers S (ReadyAll ys) (changes ys) old r new) (sym (drop_at cs i x small is)) (change_first S x (drop (i + 1) cs) old mid v r new a rest)
 
 -- its exit
-pub changes_exit : {X : Type 0} (S : Sense X) (all cs : List Change) (i : ℕ) (x : Change) (first old : X) (e : Fail) (r : Result (Unit {0}) Fail) (new : X)
-    → ((q : Result (Unit {0}) Fail) (v : X) → Answers S (ReadyAll (drop i cs)) (changes (drop i cs)) old q v → Answers S (ReadyAll all) (changes all) first q v)
+pub changes_exit : {X : Type 0} (S : Sense X) (all cs : List Change) (i : ℕ) (x : Change) (first old : X) (e : CallError) (r : Result (Unit {0}) CallError) (new : X)
+    → ((q : Result (Unit {0}) CallError) (v : X) → Answers S (ReadyAll (drop i cs)) (changes (drop i cs)) old q v → Answers S (ReadyAll all) (changes all) first q v)
     → i < length cs → x ≡ get_or cs i x → Answers S (Ready x) (change x) old (Err e) new → IsErrAnd r (λ y. y ≡ e) → Answers S (ReadyAll all) (changes all) first r new
 changes_exit S all cs i x first old e r new inv small at a is =
     let p = err_from_is_err_and r is in
@@ -59,11 +59,11 @@ changes_exit S all cs i x first old e r new inv small at a is =
     subst (λ (ys : List Change). Answers S (ReadyAll ys) (changes ys) old (Err e) new) (sym (drop_at cs i x small at))
     (stops_first S (ReadyAll (x ∷ drop (i + 1) cs)) (change x) (changes (drop (i + 1) cs)) old new e
     (weaker S (Ready x) (ReadyAll (x ∷ drop (i + 1) cs)) (change x) old new (Err e) (λ s p. p.0) a)) in
-    subst (λ (q : Result (Unit {0}) Fail). Answers S (ReadyAll all) (changes all) first q new) (sym (p.1 ∙ ap (λ (z : Fail). Err z) p.2)) (inv (Err e) new fail)
+    subst (λ (q : Result (Unit {0}) CallError). Answers S (ReadyAll all) (changes all) first q new) (sym (p.1 ∙ ap (λ (z : CallError). Err z) p.2)) (inv (Err e) new fail)
 
 -- its end
 pub changes_end : {X : Type 0} (S : Sense X) (all cs : List Change) (i : ℕ) (first last : X)
-    → ((q : Result (Unit {0}) Fail) (v : X) → Answers S (ReadyAll (drop i cs)) (changes (drop i cs)) last q v → Answers S (ReadyAll all) (changes all) first q v)
+    → ((q : Result (Unit {0}) CallError) (v : X) → Answers S (ReadyAll (drop i cs)) (changes (drop i cs)) last q v → Answers S (ReadyAll all) (changes all) first q v)
     → length cs ≤ i → Answers S (ReadyAll all) (changes all) first (Ok unit) last
 changes_end S all cs i first last inv h =
     inv (Ok unit) last (subst (λ (ys : List Change). Answers S (ReadyAll ys) (changes ys) last (Ok unit) last) (sym (drop_of_length-le cs h)) (returned S (ReadyAll []) unit last))

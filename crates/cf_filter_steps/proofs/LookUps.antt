@@ -5,8 +5,8 @@ use Rattle.std.specs.List.{list_all}
 use Rattle.std.proofs.lemmas.Bool.{and_parts, eqb-true, ltb-false}
 use Rattle.cf_base.specs.declared.codes.Code.{Code}
 use Rattle.cf_base.specs.declared.codes.Code.TheVariants as code
-use Rattle.cf_base.specs.declared.codes.Fail.{Fail}
-use Rattle.cf_base.specs.declared.codes.Fail.TheVariants as fail
+use Rattle.cf_base.specs.declared.codes.CallError.{CallError}
+use Rattle.cf_base.specs.declared.codes.CallError.TheVariants as fail
 use Rattle.cf_base.specs.declared.ids.ItemId.{ItemId}
 use Rattle.cf_model.specs.Calls.{below_at, place_at}
 use Rattle.cf_model.specs.Items.{Item, item_of}
@@ -248,21 +248,21 @@ place_of_path items path pl t e = one (names_of path) e where
   one [] e = absurd (no_error code.BadPath pl e)
   one (n ∷ ns) e = two n ns (bad_names (n ∷ ns)) refl e
 
-place_is_of : (items : List Item) (q : Result Place Code) (r : Result (ItemId × List ℕ) Fail) → IsAnswer r (placed q) → ((pl : Place) → q ≡ Ok pl → PlaceOf items pl) → FoundPlace items r q
+place_is_of : (items : List Item) (q : Result Place Code) (r : Result (ItemId × List ℕ) CallError) → IsAnswer r (placed q) → ((pl : Place) → q ≡ Ok pl → PlaceOf items pl) → FoundPlace items r q
 place_is_of items (Ok pl) (Ok p) e own =
     let z : (pl.parent.id, pl.name) ≡ p = cc in
     let h = own pl refl in
     subst (λ (x : ItemId × List ℕ). FoundPlace items (Ok x) (Ok pl)) z (pl.parent, refl, record { there = h.there; opened = (h.directory, h.populated); named = h.named; high = h.high })
 place_is_of items (Ok pl) (Err (fail.No c)) e own = absurd (no_error c (pl.parent.id, pl.name) (sym e))
-place_is_of items (Ok pl) (Err fail.Memory) e own = record {}
+place_is_of items (Ok pl) (Err fail.OutOfMemory) e own = record {}
 place_is_of items (Err c) (Ok p) e own = absurd (no_error c p e)
 place_is_of items (Err c) (Err (fail.No d)) e own = err_same c d e
   where
     err_same : (a b : Code) → ◌≡◌ {A = Result (ItemId × List ℕ) Code} (Err a) (Err b) → ◌≡◌ {A = Result Place Code} (Err a) (Err b)
     err_same a b e = let z : a ≡ b = cc in ap (λ (x : Code). Err x) z
-place_is_of items (Err c) (Err fail.Memory) e own = record {}
+place_is_of items (Err c) (Err fail.OutOfMemory) e own = record {}
 
-pub found_place : {X : Type 0} (S : Sense X) (x : X) (t : Table) (path : List ℕ) (r : Result (ItemId × List ℕ) Fail)
+pub found_place : {X : Type 0} (S : Sense X) (x : X) (t : Table) (path : List ℕ) (r : Result (ItemId × List ℕ) CallError)
     → HasRows S x t → ((items : List Item) → MeansAll t.rows items → IsTree items → IsAnswer r (placed (find_place items path))) → FindsPlace S (place_at path) x r
 found_place S x t path r rows f = record {
   is = λ s h. let tree = (S.good x s h).volume.tree in

@@ -8,8 +8,8 @@ use Rattle.cf_base.specs.declared.answers.Shown.TheVariants as shown
 use Rattle.cf_base.specs.declared.changes.Change.{Change}
 use Rattle.cf_base.specs.declared.codes.Code.{Code}
 use Rattle.cf_base.specs.declared.codes.Code.TheVariants as code
-use Rattle.cf_base.specs.declared.codes.Fail.{Fail}
-use Rattle.cf_base.specs.declared.codes.Fail.TheVariants.{Memory}
+use Rattle.cf_base.specs.declared.codes.CallError.{CallError}
+use Rattle.cf_base.specs.declared.codes.CallError.TheVariants.{OutOfMemory}
 use Rattle.cf_model.specs.Arrows.{Arrow, then_do, unit, unless}
 use Rattle.cf_model.specs.Blocks.{is_full}
 use Rattle.cf_model.specs.Calls.{changing, test_of}
@@ -78,7 +78,7 @@ ready_all (c ∷ cs) v h k = (record { room = first_room c cs v h; suits = k.0 }
 
 -- a call that makes changes, where they find room
 
-pub room_on : {X : Type 0} (S : Sense X) (cs : List Change) (answer : Arrow Filter Shown) (x mid new : X) (u : Unit {0}) (r : Result Shown Fail)
+pub room_on : {X : Type 0} (S : Sense X) (cs : List Change) (answer : Arrow Filter Shown) (x mid new : X) (u : Unit {0}) (r : Result Shown CallError)
     → Reads S (Suiting cs) (room_refusal cs) x None → Answers S (ReadyAll cs) (changes cs) x (Ok u) mid → Answers S Any answer mid r new → Answers S (Suiting cs) (changing cs answer) x r new
 room_on S cs answer x mid new u r reads h k = record {
   leads = λ s i p.
@@ -87,7 +87,7 @@ room_on S cs answer x mid new u r reads h k = record {
       ((then_on S (ReadyAll cs) Any (changes cs) answer x mid new u r (λ a b q z. record {}) h k).leads s i (ready_all cs s.volume (has_room cs s.volume (sym e)) p));
 }
 
-pub room_stops : {X : Type 0} (S : Sense X) (cs : List Change) (answer : Arrow Filter Shown) (x new : X) (f : Fail)
+pub room_stops : {X : Type 0} (S : Sense X) (cs : List Change) (answer : Arrow Filter Shown) (x new : X) (f : CallError)
     → Reads S (Suiting cs) (room_refusal cs) x None → Answers S (ReadyAll cs) (changes cs) x (Err f) new → Answers S (Suiting cs) (changing cs answer) x (Err f) new
 room_stops S cs answer x new f reads h = record {
   leads = λ s i p.
@@ -106,7 +106,7 @@ room_off S cs answer x c reads = record {
 
 -- the same by what was made
 
-pub made_on : {X : Type 0} (S : Sense X) (cs : List Change) (answer : Arrow Filter Shown) (x mid new : X) (r : Result Shown Fail)
+pub made_on : {X : Type 0} (S : Sense X) (cs : List Change) (answer : Arrow Filter Shown) (x mid new : X) (r : Result Shown CallError)
     → Made S cs x (Ok None) mid → Answers S Any answer mid r new → Answers S (Suiting cs) (changing cs answer) x r new
 made_on S cs answer x mid new r m k = room_on S cs answer x mid new unit r m.0 m.1 k
 
@@ -114,9 +114,9 @@ pub made_off : {X : Type 0} (S : Sense X) (cs : List Change) (answer : Arrow Fil
     → Made S cs x (Ok (Some c)) new → Answers S (Suiting cs) (changing cs answer) x (Ok (shown.Refused c)) new
 made_off S cs answer x new c m = subst (λ (y : _). Answers S (Suiting cs) (changing cs answer) x (Ok (shown.Refused c)) y) (sym m.1) (room_off S cs answer x c m.0)
 
-pub made_fails : {X : Type 0} (S : Sense X) (cs : List Change) (answer : Arrow Filter Shown) (x new : X) (e : Fail)
+pub made_fails : {X : Type 0} (S : Sense X) (cs : List Change) (answer : Arrow Filter Shown) (x new : X) (e : CallError)
     → Made S cs x (Err e) new → Answers S (Suiting cs) (changing cs answer) x (Err e) new
-made_fails {X} S cs answer x new e (inl m) = subst (λ (f : Fail). Answers S (Suiting cs) (changing cs answer) x (Err f) new) (sym m.0) (subst (λ (y : X). Answers S (Suiting cs) (changing cs answer) x (Err Memory) y) (sym m.1) (no_memory S (Suiting cs) (changing cs answer) x))
+made_fails {X} S cs answer x new e (inl m) = subst (λ (f : CallError). Answers S (Suiting cs) (changing cs answer) x (Err f) new) (sym m.0) (subst (λ (y : X). Answers S (Suiting cs) (changing cs answer) x (Err OutOfMemory) y) (sym m.1) (no_memory S (Suiting cs) (changing cs answer) x))
 made_fails S cs answer x new e (inr m) = room_stops S cs answer x new e m.0 m.1
 
 pub refusal_by : {X : Type 0} (S : Sense X) (cs : List Change) (x : X) (room : Room) (why : Option Code)

@@ -1,7 +1,7 @@
 -- What a program that acts on a filter answers, and what it leaves.
 use Rattle.std.specs.Prelude.{◌≡◌, Some, Result, Ok, Err}
-use Rattle.cf_base.specs.declared.codes.Fail.{Fail}
-use Rattle.cf_base.specs.declared.codes.Fail.TheVariants.{No, Memory}
+use Rattle.cf_base.specs.declared.codes.CallError.{CallError}
+use Rattle.cf_base.specs.declared.codes.CallError.TheVariants.{No, OutOfMemory}
 use Rattle.cf_base.specs.declared.ids.ItemId.{ItemId}
 use Rattle.cf_model.specs.Arrows.{Arrow}
 use Rattle.cf_model.specs.Items.{Item, item_of}
@@ -24,13 +24,13 @@ pub record Sense (X : Type 0) : Type 1 where
   pub stops_on : (x y z : X) (s t u : Filter) → moved x y s t → stopped y z u → stopped x z u
 
 -- what is left, by the result; where the device stopped it, one of its calls failed since the first
-abbrev pub After : {X A : Type 0} → Sense X → X → Result A Fail → X → Filter → Type 0
+abbrev pub After : {X A : Type 0} → Sense X → X → Result A CallError → X → Filter → Type 0
 After S old (Ok a) new t = S.means new t
 After S old (Err (No c)) new t = S.stopped old new t
-After S old (Err Memory) new t = S.durable new t
+After S old (Err OutOfMemory) new t = S.durable new t
 
 -- What stands for a state before stands for one after that the part leads to, where the state has the property.
-pub record Answers {X A : Type 0} (S : Sense X) (P : Filter → Type 0) (f : Arrow Filter A) (old : X) (r : Result A Fail) (new : X) : Type 0 where
+pub record Answers {X A : Type 0} (S : Sense X) (P : Filter → Type 0) (f : Arrow Filter A) (old : X) (r : Result A CallError) (new : X) : Type 0 where
   pub leads : (s : Filter) → S.means old s → P s → (t : Filter) × Does (f s) r t × S.moved old new s t × After S old r new t
 
 -- what a call reads of the state, where it has the property

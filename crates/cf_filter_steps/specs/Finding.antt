@@ -2,8 +2,8 @@
 use Rattle.std.specs.Prelude.{◌≡◌, ◌<◌, ◌==◌, ℕ, false, true, List, Some, Result, Ok, Err}
 use Rattle.cf_base.specs.declared.changes.Change.{Change}
 use Rattle.cf_base.specs.declared.codes.Code.{Code}
-use Rattle.cf_base.specs.declared.codes.Fail.{Fail}
-use Rattle.cf_base.specs.declared.codes.Fail.TheVariants as fail
+use Rattle.cf_base.specs.declared.codes.CallError.{CallError}
+use Rattle.cf_base.specs.declared.codes.CallError.TheVariants as fail
 use Rattle.cf_base.specs.declared.ids.ItemId.{ItemId}
 use Rattle.cf_model.specs.Items.{Item, item_of}
 use Rattle.cf_model.specs.LookUp.{Place, depth_at}
@@ -43,14 +43,14 @@ pub record IsPlace (items : List Item) (id : ItemId) (name : List ℕ) (i : Item
   pub high : depth_at items id < 32
 
 -- a place in the directory with this id was found, or there was this refusal, or no memory
-abbrev pub FoundPlace : List Item → Result (ItemId × List ℕ) Fail → Result Place Code → Type 0
+abbrev pub FoundPlace : List Item → Result (ItemId × List ℕ) CallError → Result Place Code → Type 0
 FoundPlace items (Ok p) q = (i : Item) × (q ≡ Ok (record { parent = i; name = p.1 })) × IsPlace items p.0 p.1 i
 FoundPlace items (Err (fail.No c)) q = q ≡ Err c
-FoundPlace items (Err fail.Memory) q = Unit {0}
+FoundPlace items (Err fail.OutOfMemory) q = Unit {0}
 
-pub record FindsPlace {X : Type 0} (S : Sense X) (v : Filter → Result Place Code) (x : X) (r : Result (ItemId × List ℕ) Fail) : Type 0 where
+pub record FindsPlace {X : Type 0} (S : Sense X) (v : Filter → Result Place Code) (x : X) (r : Result (ItemId × List ℕ) CallError) : Type 0 where
   pub is : (s : Filter) → S.means x s → FoundPlace s.volume.items r (v s)
 
 -- the plan of a call on the item with this id
-pub record Plans {X : Type 0} (S : Sense X) (id : ItemId) (plan : Item → Filter → Result (List Change) Code) (x : X) (r : Result (List Change) Fail) : Type 0 where
+pub record Plans {X : Type 0} (S : Sense X) (id : ItemId) (plan : Item → Filter → Result (List Change) Code) (x : X) (r : Result (List Change) CallError) : Type 0 where
   pub is : (s : Filter) (i : Item) → S.means x s → IsAt id i s → IsPlan r (plan i s)

@@ -1,8 +1,8 @@
 -- Calls that may wait.
 use Rattle.std.specs.Prelude.{◌≡◌, Bool, true, false, Option, Some, None, Result, Ok, Err}
 use Rattle.cf_base.specs.declared.codes.Code.{Code}
-use Rattle.cf_base.specs.declared.codes.Fail.{Fail}
-use Rattle.cf_base.specs.declared.codes.Fail.TheVariants.{No, Memory}
+use Rattle.cf_base.specs.declared.codes.CallError.{CallError}
+use Rattle.cf_base.specs.declared.codes.CallError.TheVariants.{No, OutOfMemory}
 use Rattle.cf_base.specs.declared.ids.ItemId.{ItemId}
 use Rattle.cf_base.specs.declared.ids.WaitId.{WaitId}
 use Rattle.cf_base.specs.declared.waits.Cause.TheVariants as cause
@@ -56,11 +56,11 @@ abbrev pub begin_limited : waits.Need → Arrow Filter Shown
 begin_limited n s = unless shown.Refused (start_refusal n s) (reading (waits.begun n) (waits.begin_now n)) s
 
 -- The wait began; or it would pass a limit, and nothing changed; or there was no memory.
-abbrev pub Starts : {X : Type 0} → Sense X → waits.Need → X → Result (WaitId × Moves) Fail → X → Type 0
+abbrev pub Starts : {X : Type 0} → Sense X → waits.Need → X → Result (WaitId × Moves) CallError → X → Type 0
 Starts S n old (Ok m) new =
     Reads S Any (start_refusal n) old None × Reads S Any (waits.own_id n) old m.0 × Reads S Any (begun_moves m.1.background n) old m.1 × Answers S (ReadsFile n) (noted (with_begun n)) old (Ok unit) new
 Starts S n old (Err (No c)) new = Reads S Any (start_refusal n) old (Some c) × (new ≡ old)
-Starts S n old (Err Memory) new = Answers S (ReadsFile n) (begin_limited n) old (Err Memory) new
+Starts S n old (Err OutOfMemory) new = Answers S (ReadsFile n) (begin_limited n) old (Err OutOfMemory) new
 
 -- one more handle may be open
 abbrev pub MayOpen : Filter → Type 0

@@ -3,7 +3,7 @@ use Rattle.std.specs.Prelude.{ℕ, Bool, not, List, ◌++◌, map, cond, Option,
 use Rattle.std.specs.List.{list_any}
 use Rattle.cf_base.specs.declared.changes.Change.{Change}
 use Rattle.cf_base.specs.declared.codes.Code.{Code}
-use Rattle.cf_base.specs.declared.codes.Fail.{Fail}
+use Rattle.cf_base.specs.declared.codes.CallError.{CallError}
 use Rattle.cf_base.specs.declared.ids.Handle.{Handle}
 use Rattle.cf_base.specs.declared.ids.ItemId.{ItemId}
 use Rattle.cf_base.specs.declared.ids.Key.{Key}
@@ -61,7 +61,7 @@ abbrev pub room_refusal : List Change → Filter → Option Code
 room_refusal cs s = why_no_room cs s.volume
 
 -- whether a call was done, whatever it gave
-abbrev pub whether : {A : Type 0} → Result A Fail → Result (Unit {0}) Fail
+abbrev pub whether : {A : Type 0} → Result A CallError → Result (Unit {0}) CallError
 whether (Ok a) = Ok unit
 whether (Err e) = Err e
 

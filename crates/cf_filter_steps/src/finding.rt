@@ -6,7 +6,7 @@ ghost use Rattle.cf_model.specs.Waits.{at_path};
 ghost use Rattle.cf_filter_steps.specs.Finding.{Finds, FindsBelow, FindsPlace};
 
 use crate::steps::Steps;
-use cf_base::{Code, Fail, ItemId, Name};
+use cf_base::{Code, CallError, ItemId, Name};
 use cf_tree::{find, find_below, find_parent};
 
 /// The item at a path.
@@ -24,7 +24,7 @@ pub fn find_below_root<S: Steps>(s: &S, path: &str) -> Result<ItemId, Code>
 }
 
 /// The directory and the name of a path at which something is made, or to which it moves.
-pub fn find_place<S: Steps>(s: &S, path: &str) -> Result<(ItemId, Name), Fail>
+pub fn find_place<S: Steps>(s: &S, path: &str) -> Result<(ItemId, Name), CallError>
     ensures { FindsPlace S.sense (place_at path.now) s.now result }
 {
     find_parent(s.alloc(), s.rows(), path)

@@ -11,7 +11,7 @@ ghost use Rattle.cf_table.specs.Means.{Means};
 use crate::settling::{look_at, look_gone};
 use crate::steps::Steps;
 use cf_ask_rule::Act;
-use cf_base::{Change, ItemId, Memory, Span};
+use cf_base::{Change, ItemId, OutOfMemory, Span};
 use cf_waits::Step;
 use cf_table::Row;
 use std::alloc::Global;
@@ -31,7 +31,7 @@ fn near(start: u64, len: u64) -> Span
 }
 
 // What a change that gives or takes bytes, a mark or a keep makes of the row of its item.
-fn change_row(alloc: Global, row: &mut Row, change: &Change) -> Result<(), Memory>
+fn change_row(alloc: Global, row: &mut Row, change: &Change) -> Result<(), OutOfMemory>
     ensures { OnOk result ((i : Item) → FitsSpans change.now → Means row.old i → Means row.new (effect_on change.now i)) }
 {
     match change {
@@ -63,7 +63,7 @@ fn change_row(alloc: Global, row: &mut Row, change: &Change) -> Result<(), Memor
 }
 
 /// Works out a step on an item as it is once a change was made that gives or takes bytes, a mark or a keep. Changes nothing.
-pub fn look_after<S: Steps>(s: &S, item: ItemId, change: &Change, act: Act) -> Result<Step, Memory>
+pub fn look_after<S: Steps>(s: &S, item: ItemId, change: &Change, act: Act) -> Result<Step, OutOfMemory>
     ensures planned { IfOk result (λ p. IsPlanned p (S.waiting s.now)) }
     ensures looks { IfOk result (λ p. LooksAfter S.sense item change.now (deed_of act) p s.now) }
 {

@@ -11,10 +11,10 @@ ghost use Rattle.cf_filter_steps.specs.Suiting.{ReadyAll, Suiting};
 
 use crate::rooms::Room;
 use crate::steps::Steps;
-use cf_base::{Change, Code, Fail, Memory};
+use cf_base::{Change, Code, CallError, OutOfMemory};
 
 /// Makes changes that suit and find room, each in turn.
-pub fn make_changes<S: Steps>(s: &mut S, changes: &[Change]) -> Result<(), Fail>
+pub fn make_changes<S: Steps>(s: &mut S, changes: &[Change]) -> Result<(), CallError>
     ensures { Answers S.sense (ReadyAll changes.now) (all_changes changes.now) s.old result s.new }
 {
     for change in changes {
@@ -24,7 +24,7 @@ pub fn make_changes<S: Steps>(s: &mut S, changes: &[Change]) -> Result<(), Fail>
 }
 
 /// Why changes that suit find no room, in order: Exhausted, TableFull, Full.
-pub fn refuse_room<S: Steps>(s: &S, changes: &[Change]) -> Result<Option<Code>, Memory>
+pub fn refuse_room<S: Steps>(s: &S, changes: &[Change]) -> Result<Option<Code>, OutOfMemory>
     ensures { IfOk result (λ why. Reads S.sense (Suiting changes.now) (room_refusal changes.now) s.now why) }
 {
     let room = s.room(changes)?;
@@ -47,7 +47,7 @@ fn first_refusal(room: Room) -> Option<Code>
 }
 
 /// Makes changes that suit, or tells why they find no room: Exhausted, TableFull, Full. Then it makes none.
-pub fn change_all<S: Steps>(s: &mut S, changes: &[Change]) -> Result<Option<Code>, Fail>
+pub fn change_all<S: Steps>(s: &mut S, changes: &[Change]) -> Result<Option<Code>, CallError>
     ensures { Made S.sense changes.now s.old result s.new }
 {
     if let Some(code) = refuse_room(s, changes)? {

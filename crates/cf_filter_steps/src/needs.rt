@@ -3,7 +3,7 @@
 use cf_base::{Handle, ItemId, Span, WaitKind};
 
 /// What a call needs of an item, and how it waits where that is missing. Spans are in bytes.
-#[derive(Clone, Copy, Debug)]
+#[derive(Clone, Copy)]
 pub struct Need {
     pub kind: WaitKind,
     pub item: ItemId,

@@ -14,13 +14,13 @@ ghost use Rattle.cf_filter_steps.specs.Settled.{AreOnFiles, IsStepNow, Looks, Lo
 use crate::steps::Steps;
 use crate::views::view_of;
 use cf_ask_rule::{Act, View, Wait};
-use cf_base::{Cause, Fail, ItemId, Memory};
+use cf_base::{Cause, CallError, ItemId, OutOfMemory};
 use cf_ranges::RangeSet;
 use cf_waits::{Moves, Step};
 use cf_table::Row;
 
 /// Works out a step on an item as this row tells it, and changes nothing.
-pub fn look_at<S: Steps>(s: &S, item: ItemId, row: &Row, act: Act) -> Result<Step, Memory>
+pub fn look_at<S: Steps>(s: &S, item: ItemId, row: &Row, act: Act) -> Result<Step, OutOfMemory>
     ensures planned { IfOk result (λ p. IsPlanned p (S.waiting s.now)) }
     ensures looks { IfOk result (λ p. Looks S.sense item row.now (deed_of act) p s.now) }
 {
@@ -29,7 +29,7 @@ pub fn look_at<S: Steps>(s: &S, item: ItemId, row: &Row, act: Act) -> Result<Ste
 }
 
 // Works out a step on an item that is gone.
-pub(crate) fn look_gone<S: Steps>(s: &S, item: ItemId, act: Act) -> Result<Step, Memory>
+pub(crate) fn look_gone<S: Steps>(s: &S, item: ItemId, act: Act) -> Result<Step, OutOfMemory>
     ensures planned { IfOk result (λ p. IsPlanned p (S.waiting s.now)) }
     ensures looks { IfOk result (λ p. LooksGone S.sense item (deed_of act) p s.now) }
 {
@@ -48,7 +48,7 @@ pub(crate) fn look_gone<S: Steps>(s: &S, item: ItemId, act: Act) -> Result<Step,
 }
 
 /// Works out a step on an item as it is, and changes nothing.
-pub fn look<S: Steps>(s: &S, item: ItemId, act: Act) -> Result<Step, Memory>
+pub fn look<S: Steps>(s: &S, item: ItemId, act: Act) -> Result<Step, OutOfMemory>
     ensures planned { IfOk result (λ p. IsPlanned p (S.waiting s.now)) }
     ensures looks { IfOk result (λ p. LooksNow S.sense item (deed_of act) p s.now) }
 {
@@ -58,7 +58,7 @@ pub fn look<S: Steps>(s: &S, item: ItemId, act: Act) -> Result<Step, Memory>
     }
 }
 
-fn end_all<S: Steps>(s: &mut S, ended: &[(Wait, Cause)]) -> Result<(), Fail>
+fn end_all<S: Steps>(s: &mut S, ended: &[(Wait, Cause)]) -> Result<(), CallError>
     ensures { Answers S.sense (AreOnFiles ended.now) (each end_wait ended.now) s.old result s.new }
 {
     for e in ended {
@@ -68,7 +68,7 @@ fn end_all<S: Steps>(s: &mut S, ended: &[(Wait, Cause)]) -> Result<(), Fail>
 }
 
 /// Tells the ends of waits, each of which is on a file where it reads, and then which asks go and come.
-pub fn tell<S: Steps>(s: &mut S, moves: &Moves) -> Result<(), Fail>
+pub fn tell<S: Steps>(s: &mut S, moves: &Moves) -> Result<(), CallError>
     ensures { Answers S.sense (AreOnFiles moves.now.ended) (tell_moves moves.now.ended moves.now.cancelled moves.now.asks) s.old result s.new }
 {
     end_all(s, moves.ended.as_slice())?;
@@ -76,7 +76,7 @@ pub fn tell<S: Steps>(s: &mut S, moves: &Moves) -> Result<(), Fail>
 }
 
 /// Does a step that was worked out for what is now, with its lines.
-pub fn settle_by<S: Steps>(s: &mut S, step: Step) -> Result<(), Fail>
+pub fn settle_by<S: Steps>(s: &mut S, step: Step) -> Result<(), CallError>
     requires { IsPlanned step (S.waiting s.old) }
     ensures { (item : ItemId) (d : Deed) → Answers S.sense (IsStepNow item d step) (settle item d) s.old result s.new }
 {
@@ -85,7 +85,7 @@ pub fn settle_by<S: Steps>(s: &mut S, step: Step) -> Result<(), Fail>
 }
 
 /// What follows a step on the item.
-pub fn settle<S: Steps>(s: &mut S, item: ItemId, act: Act) -> Result<(), Fail>
+pub fn settle<S: Steps>(s: &mut S, item: ItemId, act: Act) -> Result<(), CallError>
     ensures { Answers S.sense Any (settle item (deed_of act)) s.old result s.new }
 {
     let step = look(s, item, act)?;
@@ -93,7 +93,7 @@ pub fn settle<S: Steps>(s: &mut S, item: ItemId, act: Act) -> Result<(), Fail>
 }
 
 /// All waits end, and all asks without a line, with the lines of that.
-pub fn hang_up<S: Steps>(s: &mut S) -> Result<(), Fail>
+pub fn hang_up<S: Steps>(s: &mut S) -> Result<(), CallError>
     ensures { Answers S.sense Any (reading all_down tell_all) s.old result s.new }
 {
     let moves = s.take_down()?;

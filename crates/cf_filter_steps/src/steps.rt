@@ -30,7 +30,7 @@ use crate::needs::Need;
 use crate::rooms::Room;
 use cf_ask_rule::Wait;
 use cf_base::{
-    Ask, AuxRecord, Blob, Cause, Change, Code, End, Fail, Handle, ItemId, Key, Memory, Policy,
+    Ask, AuxRecord, Blob, Cause, Change, Code, End, CallError, Handle, ItemId, Key, OutOfMemory, Policy,
     Span, Usn, WaitId,
 };
 use cf_waits::{Moves, Requests, Step};
@@ -87,31 +87,31 @@ pub trait Steps {
         ensures { Reads sense Any next_place self.now result };
 
     /// Whether changes that suit find no room.
-    fn room(&self, changes: &[Change]) -> Result<Room, Memory>
+    fn room(&self, changes: &[Change]) -> Result<Room, OutOfMemory>
         ensures { IfOk result (λ room. Reads sense (Suiting changes.now) (room_of changes.now) self.now room) };
 
     /// Makes a change that suits and finds room, and tells it.
-    fn change(&mut self, change: &Change) -> Result<(), Fail>
+    fn change(&mut self, change: &Change) -> Result<(), CallError>
         ensures does { Answers sense (Ready change.now) (one_change change.now) self.old result self.new }
         ensures same { OnOk result (waiting self.new ≡ waiting self.old) };
 
     /// Makes a write or a size of a file, which suits and finds room, and tells it. It is an access too.
-    fn put(&mut self, item: ItemId, change: &Change) -> Result<(), Fail>
+    fn put(&mut self, item: ItemId, change: &Change) -> Result<(), CallError>
         ensures does { Answers sense (ReadyOn item change.now) (change_with (with_access item) change.now) self.old result self.new }
         ensures same { OnOk result (waiting self.new ≡ waiting self.old) };
 
     /// A file is accessed now.
-    fn touch(&mut self, item: ItemId) -> Result<(), Fail>
+    fn touch(&mut self, item: ItemId) -> Result<(), CallError>
         ensures { Answers sense (IsFile item) (noted (accessed item)) self.old result self.new };
 
     /// Removes an item that has no child, that no handle is open on and no wait names, and tells it. With `bury` it leaves a tombstone in
     /// the same step, where its identity names a target.
-    fn remove(&mut self, item: ItemId, bury: bool) -> Result<(), Fail>
+    fn remove(&mut self, item: ItemId, bury: bool) -> Result<(), CallError>
         ensures does { (i : Item) → Answers sense (MayGo item i) (removed bury i) self.old result self.new }
         ensures same { OnOk result (waiting self.new ≡ waiting self.old) };
 
     /// Reads bytes that are here, as a step. Bytes past the size are none.
-    fn retrieve(&mut self, item: ItemId, span: Span) -> Result<Blob, Fail>
+    fn retrieve(&mut self, item: ItemId, span: Span) -> Result<Blob, CallError>
         ensures does { Answers sense (IsHere item span) (one as_it_is) self.old (whether result) self.new }
         ensures tells { IfOk result (λ b. Reads sense (IsHere item span) (bytes_there item span) self.old b) }
         ensures same { OnOk result (waiting self.new ≡ waiting self.old) };
@@ -122,41 +122,41 @@ pub trait Steps {
         dir: ItemId,
         changes: &[Change],
         records: &[AuxRecord],
-    ) -> Result<Room, Memory>
+    ) -> Result<Room, OutOfMemory>
         ensures { IfOk result (λ room. (f : Book → Book) → Reads sense (Listing f dir changes.now records.now) (room_listed f changes.now) self.now room) };
 
     /// Makes the changes of a list of entries that finds room, and tells them. The records come with the last of them.
-    fn enter(&mut self, dir: ItemId, changes: &[Change], records: &[AuxRecord]) -> Result<(), Fail>
+    fn enter(&mut self, dir: ItemId, changes: &[Change], records: &[AuxRecord]) -> Result<(), CallError>
         ensures does { (f : Book → Book) → Answers sense (ReadyListed f dir changes.now records.now) (changes_with f changes.now) self.old result self.new }
         ensures same { OnOk result (waiting self.new ≡ waiting self.old) };
 
     /// So many ticks pass, for the clock and for each ask.
-    fn pass(&mut self, ticks: u32) -> Result<(), Fail>
+    fn pass(&mut self, ticks: u32) -> Result<(), CallError>
         ensures { Answers sense Any (noted (with_time ticks)) self.old result self.new };
 
     /// Does a step of the ask rule that was worked out for what waits and is asked now, but for what it tells.
-    fn take(&mut self, step: Step) -> Result<Moves, Fail>
+    fn take(&mut self, step: Step) -> Result<Moves, CallError>
         requires { IsPlanned step (waiting self.old) }
         ensures does { Answers sense Any (noted (with_waiting (carried step (waiting self.old)).1)) self.old (whether result) self.new }
         ensures moves { IfOk result (λ m. m ≡ moved_of None (carried step (waiting self.old)).0) };
 
     /// Whether nothing is missing that the call needs.
-    fn is_met(&self, need: &Need) -> Result<bool, Memory>
+    fn is_met(&self, need: &Need) -> Result<bool, OutOfMemory>
         ensures { IfOk result (λ met. Reads sense Any (is_met_now (meant need.now)) self.now met) };
 
     /// Answers a call that misses nothing. A read is of a file; it reads the device, and is an access.
-    fn answer(&mut self, need: &Need) -> Result<End, Fail>
+    fn answer(&mut self, need: &Need) -> Result<End, CallError>
         ensures does { Answers sense (MayAnswer (meant need.now)) (one (accessed_now (meant need.now))) self.old (whether result) self.new }
         ensures tells { IfOk result (λ end. Reads sense (IsMet (meant need.now)) (end_told (meant need.now)) self.old end) };
 
     /// Begins a wait, of a read on a file, and one for the rest of the file beside it where that is wanted and none is live.
     /// Gives its number, and what the step on the item tells. Refused by the limits of its kind: TooManyWaits, TooManyAsks, Exhausted; a wait
     /// for consent to a dehydration as Exhausted alone.
-    fn start(&mut self, need: &Need) -> Result<(WaitId, Moves), Fail>
+    fn start(&mut self, need: &Need) -> Result<(WaitId, Moves), CallError>
         ensures { Starts sense (meant need.now) self.old result self.new };
 
     /// Opens a file, where one more handle may be open.
-    fn open(&mut self, item: ItemId) -> Result<Handle, Fail>
+    fn open(&mut self, item: ItemId) -> Result<Handle, CallError>
         ensures does { Answers sense (MayOpenFile item) (noted (with_handle item)) self.old (whether result) self.new }
         ensures tells { IfOk result (λ h. Reads sense MayOpen next_handle self.old h) };
 
@@ -173,7 +173,7 @@ pub trait Steps {
         ensures { Answers sense Any (noted (with_link on)) self.old (Ok unit) self.new };
 
     /// All waits end, and all asks without a line, but for what that tells.
-    fn take_down(&mut self) -> Result<Moves, Fail>
+    fn take_down(&mut self) -> Result<Moves, CallError>
         ensures does { Answers sense Any (noted (with_waiting (downed (waiting self.old)).1)) self.old (whether result) self.new }
         ensures moves { IfOk result (λ m. m ≡ moved_of None (downed (waiting self.old)).0) };
 
@@ -194,7 +194,7 @@ pub trait Steps {
         ensures { Reads sense Any used_blocks self.now result };
 
     /// Commits all that was done.
-    fn commit(&mut self) -> Result<(), Fail>
+    fn commit(&mut self) -> Result<(), CallError>
         ensures { Answers sense Any (in_volume commit) self.old result self.new };
 
     /// How many changes there are.
@@ -202,11 +202,11 @@ pub trait Steps {
         ensures { Reads sense Any count_now self.now result };
 
     /// Tells how a wait ended, which is on a file where it reads.
-    fn end_wait(&mut self, ended: &(Wait, Cause)) -> Result<(), Fail>
+    fn end_wait(&mut self, ended: &(Wait, Cause)) -> Result<(), CallError>
         ensures { Answers sense (IsEndOnFile ended.now) (end_wait ended.now) self.old result self.new };
 
     /// Tells which asks were cancelled, and which were made. Their callbacks are still to be called.
-    fn tell_asks(&mut self, cancelled: &[Key], asks: &[Ask]) -> Result<(), Fail>
+    fn tell_asks(&mut self, cancelled: &[Key], asks: &[Ask]) -> Result<(), CallError>
         ensures { Answers sense Any (noted (with_asks cancelled.now asks.now)) self.old result self.new };
 
     /// What waits and is asked is known.

@@ -1,18 +1,18 @@
 //! Why bytes do not move.
 
 ghost use Rattle.std.specs.Prelude.{◌≡◌};
-ghost use Rattle.cf_io.specs.declared.faults.ReadFail.TheVariants.{Fault, Memory};
+ghost use Rattle.cf_io.specs.declared.faults.ReadError.TheVariants.{Fault, OutOfMemory};
 
 use std::alloc::AllocError;
 
 /// A read or a write failed.
 #[derive(Clone, Copy, Debug, PartialEq, Eq, thiserror::Error)]
 #[error("reading or writing failed")]
-pub struct IoFault;
+pub struct IoError;
 
 /// Why a whole source is not read.
 #[derive(Clone, Copy, Debug, PartialEq, Eq, thiserror::Error)]
-pub enum ReadFail {
+pub enum ReadError {
     /// The source failed.
     #[error("reading failed")]
     Fault,
@@ -20,21 +20,21 @@ pub enum ReadFail {
     #[error("too many bytes")]
     TooLong,
     #[error("out of memory")]
-    Memory,
+    OutOfMemory,
 }
 
-impl From<AllocError> for ReadFail {
-    ghost from_gives = { λ _ e. e ≡ Memory };
+impl From<AllocError> for ReadError {
+    ghost from_gives = { λ _ e. e ≡ OutOfMemory };
 
-    fn from(_e: AllocError) -> ReadFail {
-        ReadFail::Memory
+    fn from(_e: AllocError) -> ReadError {
+        ReadError::OutOfMemory
     }
 }
 
-impl From<IoFault> for ReadFail {
+impl From<IoError> for ReadError {
     ghost from_gives = { λ _ e. e ≡ Fault };
 
-    fn from(_e: IoFault) -> ReadFail {
-        ReadFail::Fault
+    fn from(_e: IoError) -> ReadError {
+        ReadError::Fault
     }
 }

@@ -12,7 +12,7 @@ mod sinks;
 mod sources;
 mod system;
 
-pub use faults::{IoFault, ReadFail};
+pub use faults::{IoError, ReadError};
 pub use memory::{MemSink, MemSource};
 pub use readings::read_all;
 pub use sinks::{Sink, write_all};

@@ -3,10 +3,10 @@
 ghost use Rattle.std.specs.Prelude.{◌≡◌, ◌≤◌, ◌⊎◌, [], ◌++◌, take, drop, length, Some, IfOk};
 ghost use Rattle.cf_io.specs.Moves.{Store, Rose};
 
-use crate::faults::IoFault;
+use crate::faults::IoError;
 use crate::sinks::Sink;
 use crate::sources::Source;
-use cf_base::Memory;
+use cf_base::OutOfMemory;
 use std::alloc::Global;
 use std::marker::Model;
 
@@ -27,12 +27,12 @@ impl Faults {
         self.listed.contains(&self.calls)
     }
 
-    fn rise(&mut self) -> IoFault
+    fn rise(&mut self) -> IoError
         ensures rose { Rose self.old.count self.new.count }
         ensures never_falls { self.old.count ≤ self.new.count }
     {
         self.count = self.count.saturating_add(1);
-        IoFault
+        IoError
     }
 }
 
@@ -67,7 +67,7 @@ impl Model for MemSource {
 
 impl MemSource {
     /// A source with these bytes, of which these calls fail.
-    pub fn new(alloc: Global, bytes: &[u8], fails: &[u64]) -> Result<MemSource, Memory>
+    pub fn new(alloc: Global, bytes: &[u8], fails: &[u64]) -> Result<MemSource, OutOfMemory>
         ensures { IfOk result (λ s. s ≡ record { bytes = bytes.now; faults = 0 }) }
     {
         let bytes = Vec::from_slice(alloc, bytes)?;
@@ -90,7 +90,7 @@ impl Source for MemSource {
 
     ghost faults = { λ s. s.faults };
 
-    fn read(&mut self, out: &mut [u8]) -> Result<usize, IoFault> {
+    fn read(&mut self, out: &mut [u8]) -> Result<usize, IoError> {
         if self.faults.is_next_listed() {
             return Err(self.faults.rise());
         }
@@ -116,7 +116,7 @@ impl Model for MemSink {
 
 impl MemSink {
     /// An empty sink with room for `room` bytes, of which these calls fail. It takes its room now.
-    pub fn new(alloc: Global, room: usize, fails: &[u64]) -> Result<MemSink, Memory>
+    pub fn new(alloc: Global, room: usize, fails: &[u64]) -> Result<MemSink, OutOfMemory>
         ensures { IfOk result (λ s. s ≡ record { bytes = []; faults = 0 }) }
     {
         let bytes = Vec::with_capacity(alloc, room)?;
@@ -146,7 +146,7 @@ impl Sink for MemSink {
 
     ghost faults = { λ s. s.faults };
 
-    fn write(&mut self, piece: &[u8]) -> Result<usize, IoFault> {
+    fn write(&mut self, piece: &[u8]) -> Result<usize, IoError> {
         if self.faults.is_next_listed() {
             return Err(self.faults.rise());
         }

@@ -3,7 +3,7 @@
 ghost use Rattle.std.specs.Prelude.{◌≡◌, ◌<◌, ◌≤◌, ◌^◌, length, IfOk, IsErrOf};
 ghost use Rattle.cf_io.specs.Moves.{Rose, IsWhole, IsLonger};
 
-use crate::faults::ReadFail;
+use crate::faults::ReadError;
 use crate::sources::Source;
 use std::alloc::Global;
 
@@ -12,12 +12,12 @@ const PIECE: usize = 65_536;
 
 /// All bytes of a source, where they are no more than the limit. Fails as Fault where the source failed, as TooLong
 /// where it has more bytes, and for want of memory.
-pub fn read_all<S: Source>(alloc: Global, source: &mut S, limit: usize) -> Result<Vec<u8>, ReadFail>
+pub fn read_all<S: Source>(alloc: Global, source: &mut S, limit: usize) -> Result<Vec<u8>, ReadError>
     requires { limit < 2 ^ 32 }
     ensures ok { IfOk result (λ text. IsWhole (S.left source.old) text.items) }
     ensures small { IfOk result (λ text. length text.items ≤ limit) }
-    ensures too_long { IsErrOf result ReadFail.TooLong → IsLonger (S.left source.old) limit }
-    ensures fault { IsErrOf result ReadFail.Fault → Rose (S.faults source.old) (S.faults source.new) }
+    ensures too_long { IsErrOf result ReadError.TooLong → IsLonger (S.left source.old) limit }
+    ensures fault { IsErrOf result ReadError.Fault → Rose (S.faults source.old) (S.faults source.new) }
     ensures never_falls { S.faults source.old ≤ S.faults source.new }
 {
     let mut text = Vec::new(alloc);
@@ -29,5 +29,5 @@ pub fn read_all<S: Source>(alloc: Global, source: &mut S, limit: usize) -> Resul
         }
         text.extend_from_slice(&piece[..count])?;
     }
-    Err(ReadFail::TooLong)
+    Err(ReadError::TooLong)
 }

@@ -3,7 +3,7 @@
 ghost use Rattle.std.specs.Prelude.{◌≡◌, ℕ, ◌<◌, ◌≤◌, List, [], length, take, Option, OnOk, OnErr, IfOk};
 ghost use Rattle.cf_io.specs.Moves.{Rose, Adds, AddsFront};
 
-use crate::faults::IoFault;
+use crate::faults::IoError;
 
 /// Where bytes go.
 pub trait Sink {
@@ -15,7 +15,7 @@ pub trait Sink {
 
     /// Takes at least one byte of the piece, from its front, and tells how many. At a fault it takes none; a fault is
     /// answered only where the count of faults rose.
-    fn write(&mut self, piece: &[u8]) -> Result<usize, IoFault>
+    fn write(&mut self, piece: &[u8]) -> Result<usize, IoError>
         requires { 0 < length piece.now }
         ensures some { IfOk result (λ n. 0 < n) }
         ensures within { IfOk result (λ n. n ≤ length piece.now) }
@@ -26,7 +26,7 @@ pub trait Sink {
 }
 
 /// Writes all bytes. At a fault of the sink some front of them was written.
-pub fn write_all<K: Sink>(sink: &mut K, bytes: &[u8]) -> Result<(), IoFault>
+pub fn write_all<K: Sink>(sink: &mut K, bytes: &[u8]) -> Result<(), IoError>
     ensures ok { OnOk result (Adds (K.held sink.old) (K.held sink.new) bytes.now) }
     ensures err { OnErr result (AddsFront (K.held sink.old) (K.held sink.new) bytes.now) }
     ensures fault { OnErr result (Rose (K.faults sink.old) (K.faults sink.new)) }

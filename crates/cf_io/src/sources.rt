@@ -3,7 +3,7 @@
 ghost use Rattle.std.specs.Prelude.{◌≡◌, ℕ, ◌<◌, ◌≤◌, List, length, take, Option, OnErr, IfOk};
 ghost use Rattle.cf_io.specs.Moves.{Rose, Takes, EndsWell};
 
-use crate::faults::IoFault;
+use crate::faults::IoError;
 
 /// Where bytes come from.
 pub trait Source {
@@ -15,7 +15,7 @@ pub trait Source {
 
     /// Moves the next bytes to the front of `out`, and tells how many: none only at the end. A fault is answered only
     /// where the count of faults rose.
-    fn read(&mut self, out: &mut [u8]) -> Result<usize, IoFault>
+    fn read(&mut self, out: &mut [u8]) -> Result<usize, IoError>
         requires { 0 < length out.old }
         ensures within { IfOk result (λ n. n ≤ length out.old) }
         ensures size { length out.new ≡ length out.old }

@@ -2,7 +2,7 @@
 
 ghost use Rattle.std.specs.Prelude.{None};
 
-use crate::faults::IoFault;
+use crate::faults::IoError;
 use crate::sinks::Sink;
 use crate::sources::Source;
 use std::io::{Read, Write};
@@ -25,12 +25,12 @@ impl<T: Read> Source for StdSource<T> {
 
     ghost faults = { λ s. s.count };
 
-    fn read(&mut self, out: &mut [u8]) -> Result<usize, IoFault> {
+    fn read(&mut self, out: &mut [u8]) -> Result<usize, IoError> {
         match self.reader.read(out) {
             Ok(count) => Ok(count),
             Err(_) => {
                 self.count = self.count.saturating_add(1);
-                Err(IoFault)
+                Err(IoError)
             }
         }
     }
@@ -54,12 +54,12 @@ impl<T: Write> Sink for StdSink<T> {
 
     ghost faults = { λ s. s.count };
 
-    fn write(&mut self, piece: &[u8]) -> Result<usize, IoFault> {
+    fn write(&mut self, piece: &[u8]) -> Result<usize, IoError> {
         match self.writer.write(piece) {
             Ok(count) if count > 0 => Ok(count),
             _ => {
                 self.count = self.count.saturating_add(1);
-                Err(IoFault)
+                Err(IoError)
             }
         }
     }

@@ -1,7 +1,7 @@
 //! That calls succeed with ample memory, that the listed calls fail, and that the system's bytes come through.
 
 use crate::{
-    IoFault, MemSink, MemSource, ReadFail, Sink, Source, StdSink, StdSource, read_all, write_all,
+    IoError, MemSink, MemSource, ReadError, Sink, Source, StdSink, StdSource, read_all, write_all,
 };
 use std::test::Fail;
 
@@ -13,12 +13,12 @@ fn reads_a_whole_source(rt: HostRuntime) -> Result<(), Fail> {
     let mut source = MemSource::new(rt.alloc(), b"sync\n", &[])?;
     assert_eq!(rt;
         read_all(rt.alloc(), &mut source, 4).err(),
-        Some(ReadFail::TooLong)
+        Some(ReadError::TooLong)
     );
     let mut source = MemSource::new(rt.alloc(), b"sync\n", &[2])?;
     assert_eq!(rt;
         read_all(rt.alloc(), &mut source, 5).err(),
-        Some(ReadFail::Fault)
+        Some(ReadError::Fault)
     );
     Ok(())
 }
@@ -27,10 +27,10 @@ fn reads_a_whole_source(rt: HostRuntime) -> Result<(), Fail> {
 fn listed_reads_fail(rt: HostRuntime) -> Result<(), Fail> {
     let mut source = MemSource::new(rt.alloc(), b"abc", &[1, 3])?;
     let mut out = [0u8; 2];
-    assert_eq!(rt; source.read(&mut out), Err(IoFault));
+    assert_eq!(rt; source.read(&mut out), Err(IoError));
     assert_eq!(rt; source.read(&mut out), Ok(2));
     assert_eq!(rt; out, *b"ab");
-    assert_eq!(rt; source.read(&mut out), Err(IoFault));
+    assert_eq!(rt; source.read(&mut out), Err(IoError));
     assert_eq!(rt; source.read(&mut out), Ok(1));
     assert_eq!(rt; source.read(&mut out), Ok(0));
     Ok(())
@@ -40,8 +40,8 @@ fn listed_reads_fail(rt: HostRuntime) -> Result<(), Fail> {
 fn listed_writes_fail(rt: HostRuntime) -> Result<(), Fail> {
     let mut sink = MemSink::new(rt.alloc(), 5, &[2])?;
     assert_eq!(rt; write_all(&mut sink, b"ab"), Ok(()));
-    assert_eq!(rt; sink.write(b"cd"), Err(IoFault));
-    assert_eq!(rt; write_all(&mut sink, b"efgh"), Err(IoFault));
+    assert_eq!(rt; sink.write(b"cd"), Err(IoError));
+    assert_eq!(rt; write_all(&mut sink, b"efgh"), Err(IoError));
     assert_eq!(rt; sink.bytes(), b"abefg".as_slice());
     Ok(())
 }
@@ -53,6 +53,6 @@ fn bytes_of_the_system_come_through(rt: HostRuntime) -> Result<(), Fail> {
     assert_eq!(rt; text.as_slice(), b"some bytes".as_slice());
     let mut room = [0u8; 4];
     let mut sink = StdSink::new(room.as_mut_slice());
-    assert_eq!(rt; write_all(&mut sink, b"bytes"), Err(IoFault));
+    assert_eq!(rt; write_all(&mut sink, b"bytes"), Err(IoError));
     Ok(())
 }

@@ -2,8 +2,8 @@
 use Rattle.std.specs.Prelude.{◌≡◌, ◌≤◌, ◌+◌, ℕ, List, [], length, take, true, false, if◌then◌else◌, ◌==◌}
 use Rattle.cf_disk.specs.Disk.{State, size_of, capped, part, SameBut}
 use Rattle.cf_journal.specs.declared.sides.Side.{Side}
-use Rattle.cf_journal.specs.declared.failures.JournalFail.{JournalFail}
-use Rattle.cf_journal.specs.declared.failures.JournalFail.TheVariants.{Failed, NotAVolume, Broken, Memory}
+use Rattle.cf_journal.specs.declared.failures.JournalError.{JournalError}
+use Rattle.cf_journal.specs.declared.failures.JournalError.TheVariants.{Failed, NotAVolume, Broken, OutOfMemory}
 use Rattle.cf_journal.specs.declared.journals.Journal.{Journal}
 use Rattle.cf_journal.specs.Format.{base, HasSlot, Spells, size_of_records}
 use Rattle.cf_journal.specs.Content.{Content, StandsAt}
@@ -29,11 +29,11 @@ abbrev pub HasRoom : Journal → ℕ → Type 0
 HasRoom j n = j.end + (6 + n) ≤ 262144
 
 -- why a call other than open failed
-abbrev pub IsCause : JournalFail → Journal → State → State → Type 0
+abbrev pub IsCause : JournalError → Journal → State → State → Type 0
 IsCause Failed j old new = (j.broken ≡ false) × (capped (old.faults + 1) ≤ new.faults)
 IsCause Broken j old new = j.broken ≡ true
 IsCause NotAVolume j old new = ⊥
-IsCause Memory j old new = ⊥
+IsCause OutOfMemory j old new = ⊥
 
 -- the slot of this side holds the image, without a record, and nothing outside of this half is changed
 pub record Installs (side : Side) (generation : ℕ) (image old new : List ℕ) : Type 0 where
@@ -47,8 +47,8 @@ abbrev pub next_of : ℕ → ℕ
 next_of g = if g == 18446744073709551615 then 1 else g + 1
 
 -- why open failed
-abbrev pub IsOpenCause : JournalFail → State → State → Type 0
+abbrev pub IsOpenCause : JournalError → State → State → Type 0
 IsOpenCause Failed old new = capped (old.faults + 1) ≤ new.faults
 IsOpenCause Broken old new = ⊥
 IsOpenCause NotAVolume old new = ⊥
-IsOpenCause Memory old new = Unit {0}
+IsOpenCause OutOfMemory old new = Unit {0}

@@ -1,14 +1,14 @@
 //! Why a call of a journal fails.
 
 ghost use Rattle.std.specs.Prelude.{◌≡◌};
-ghost use Rattle.cf_journal.specs.declared.failures.JournalFail.TheVariants.{Failed, Memory};
+ghost use Rattle.cf_journal.specs.declared.failures.JournalError.TheVariants.{Failed, OutOfMemory};
 
-use cf_disk::DiskFault;
+use cf_disk::DiskError;
 use std::alloc::{AllocError, AllocFailed};
 
 /// Why a call of a journal fails.
 #[derive(Clone, Copy, Debug, PartialEq, Eq, thiserror::Error)]
-pub enum JournalFail {
+pub enum JournalError {
     /// A call of the disk failed, whose count of faults rose.
     #[error("the disk failed")]
     Failed,
@@ -20,37 +20,37 @@ pub enum JournalFail {
     Broken,
     /// There was no memory.
     #[error("out of memory")]
-    Memory,
+    OutOfMemory,
 }
 
-impl From<DiskFault> for JournalFail {
+impl From<DiskError> for JournalError {
     ghost from_gives = { λ _ e. e ≡ Failed };
 
-    fn from(_: DiskFault) -> JournalFail {
-        JournalFail::Failed
+    fn from(_: DiskError) -> JournalError {
+        JournalError::Failed
     }
 }
 
-impl From<AllocError> for JournalFail {
-    ghost from_gives = { λ _ e. e ≡ Memory };
+impl From<AllocError> for JournalError {
+    ghost from_gives = { λ _ e. e ≡ OutOfMemory };
 
-    fn from(_: AllocError) -> JournalFail {
-        JournalFail::Memory
+    fn from(_: AllocError) -> JournalError {
+        JournalError::OutOfMemory
     }
 }
 
-impl<T: Drop> From<AllocFailed<T>> for JournalFail {
-    ghost from_gives = { λ _ e. e ≡ Memory };
+impl<T: Drop> From<AllocFailed<T>> for JournalError {
+    ghost from_gives = { λ _ e. e ≡ OutOfMemory };
 
-    fn from(_: AllocFailed<T>) -> JournalFail {
-        JournalFail::Memory
+    fn from(_: AllocFailed<T>) -> JournalError {
+        JournalError::OutOfMemory
     }
 }
 
-impl From<cf_base::Memory> for JournalFail {
-    ghost from_gives = { λ _ e. e ≡ Memory };
+impl From<cf_base::OutOfMemory> for JournalError {
+    ghost from_gives = { λ _ e. e ≡ OutOfMemory };
 
-    fn from(_: cf_base::Memory) -> JournalFail {
-        JournalFail::Memory
+    fn from(_: cf_base::OutOfMemory) -> JournalError {
+        JournalError::OutOfMemory
     }
 }

@@ -9,7 +9,7 @@ ghost use Rattle.cf_journal.specs.Settled.{IsFitSize, Ready, Installs, next_of};
 use crate::headers::header_bytes;
 use crate::sides::{Side, base_of, other_of};
 use crate::writes::{close, put, stage};
-use cf_disk::{Disk, DiskFault};
+use cf_disk::{Disk, DiskError};
 
 // Writes an image into the slot of the other side: the slot is closed, then filled behind its closed gate, then opened,
 // with a sync after each of these.
@@ -18,7 +18,7 @@ pub(crate) fn install<D: Disk>(
     side: Side,
     generation: u64,
     image: &[u8],
-) -> Result<(), DiskFault>
+) -> Result<(), DiskError>
     requires size { IsFitSize (size_of (D.state disk.old)) }
     requires short { length image.now ≤ 1306624 }
     requires positive { 0 < generation }

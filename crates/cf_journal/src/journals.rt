@@ -2,7 +2,7 @@
 
 ghost use Rattle.std.specs.Prelude.{◌<◌};
 
-use crate::failures::JournalFail;
+use crate::failures::JournalError;
 use crate::installs::{generation_after, install};
 use crate::reads::{find, load};
 use crate::sides::{Side, base_of, other_of};
@@ -27,7 +27,7 @@ const JOURNAL: u64 = 262_144;
 
 /// What is known of the content of a disk: the slot that is the volume, its generation, and where its records end. It is
 /// used with the disk on which it was made, and its clauses speak of that disk.
-#[derive(Debug, Drop)]
+#[derive(Drop)]
 pub struct Journal {
     side: Side,
     generation: u64,
@@ -37,7 +37,7 @@ pub struct Journal {
 }
 
 /// What an opened disk stands for.
-#[derive(Debug, Drop)]
+#[derive(Drop)]
 pub struct Opened {
     pub journal: Journal,
     /// The format of the volume's slot. It is 2.
@@ -71,7 +71,7 @@ impl Journal {
 
     /// Adds a record behind the others and makes it durable. Broken where an earlier call failed; then nothing is done.
     /// Failed where a call of the disk failed; then open the disk again.
-    pub fn append<D: Disk>(&mut self, disk: &mut D, payload: &[u8]) -> Result<(), JournalFail>
+    pub fn append<D: Disk>(&mut self, disk: &mut D, payload: &[u8]) -> Result<(), JournalError>
         requires room { HasRoom self.old (length payload.now) }
         requires size { IsFitSize (size_of (D.state disk.old)) }
 
@@ -90,11 +90,11 @@ impl Journal {
         ensures cause { IfErr result (λ e. IsCause e self.old (D.state disk.old) (D.state disk.new)) }
         ensures faults { (D.state disk.old).faults ≤ (D.state disk.new).faults }
         ensures usable { OnOk result (self.new.broken ≡ false) }
-        ensures broken { self.old.broken ≡ true → (result ≡ Err JournalFail.Broken) × (self.new ≡ self.old) × (disk.new ≡ disk.old) }
+        ensures broken { self.old.broken ≡ true → (result ≡ Err JournalError.Broken) × (self.new ≡ self.old) × (disk.new ≡ disk.old) }
         ensures breaks { OnErr result (self.new.broken ≡ true) }
     {
         if self.broken {
-            return Err(JournalFail::Broken);
+            return Err(JournalError::Broken);
         }
         self.broken = true;
         let gate = base_of(self.side) + SLOT + self.end;
@@ -107,7 +107,7 @@ impl Journal {
 
     /// Puts an image in place of the content and makes it durable. Broken where an earlier call failed; then nothing is
     /// done. Failed where a call of the disk failed; then open the disk again.
-    pub fn rewrite<D: Disk>(&mut self, disk: &mut D, image: &[u8]) -> Result<(), JournalFail>
+    pub fn rewrite<D: Disk>(&mut self, disk: &mut D, image: &[u8]) -> Result<(), JournalError>
         requires short { length image.now ≤ 1306624 }
         requires size { IsFitSize (size_of (D.state disk.old)) }
 
@@ -124,11 +124,11 @@ impl Journal {
         ensures cause { IfErr result (λ e. IsCause e self.old (D.state disk.old) (D.state disk.new)) }
         ensures faults { (D.state disk.old).faults ≤ (D.state disk.new).faults }
         ensures usable { OnOk result (self.new.broken ≡ false) }
-        ensures broken { self.old.broken ≡ true → (result ≡ Err JournalFail.Broken) × (self.new ≡ self.old) × (disk.new ≡ disk.old) }
+        ensures broken { self.old.broken ≡ true → (result ≡ Err JournalError.Broken) × (self.new ≡ self.old) × (disk.new ≡ disk.old) }
         ensures breaks { OnErr result (self.new.broken ≡ true) }
     {
         if self.broken {
-            return Err(JournalFail::Broken);
+            return Err(JournalError::Broken);
         }
         self.broken = true;
         let generation = generation_after(self.generation);
@@ -141,7 +141,7 @@ impl Journal {
     }
 
     /// Makes a volume with this image and no record, whatever the disk held. Failed where a call of the disk failed.
-    pub fn format<D: Disk>(disk: &mut D, image: &[u8]) -> Result<Journal, JournalFail>
+    pub fn format<D: Disk>(disk: &mut D, image: &[u8]) -> Result<Journal, JournalError>
         requires short { length image.now ≤ 1306624 }
         requires size { IsFitSize (size_of (D.state disk.old)) }
         ensures ok { IfOk result (λ j. Settled j (D.state disk.new) (rewritten image.now)) }
@@ -155,7 +155,7 @@ impl Journal {
         ensures counts { Counts (32 + length image.now) result (D.state disk.old) (D.state disk.new) }
         ensures same_size { size_of (D.state disk.new) ≡ size_of (D.state disk.old) }
         ensures powers { (D.state disk.new).powers ≡ (D.state disk.old).powers }
-        ensures cause { IfErr result (λ e. (e ≡ JournalFail.Failed) × IsOpenCause e (D.state disk.old) (D.state disk.new)) }
+        ensures cause { IfErr result (λ e. (e ≡ JournalError.Failed) × IsOpenCause e (D.state disk.old) (D.state disk.new)) }
         ensures faults { (D.state disk.old).faults ≤ (D.state disk.new).faults }
     {
         close_both(disk, base_of(Side::A), base_of(Side::B))?;
@@ -170,29 +170,29 @@ impl Journal {
 
     /// Opens the volume. It only syncs and reads, the sync first, so that nothing is pending while it reads. NotAVolume
     /// exactly where the disk stands for no content: no slot has an open gate and a spelled header, or a record with an
-    /// open gate does not fit the chosen slot's journal. Failed where a call of the disk failed. Memory where there
+    /// open gate does not fit the chosen slot's journal. Failed where a call of the disk failed. OutOfMemory where there
     /// is none.
-    pub fn open<D: Disk>(alloc: Global, disk: &mut D) -> Result<Opened, JournalFail>
+    pub fn open<D: Disk>(alloc: Global, disk: &mut D) -> Result<Opened, JournalError>
         requires { IsFitSize (size_of (D.state disk.old)) }
 
         // It gives the content that the disk stands for, and no record whose gate is closed.
         ensures found { IfOk result (λ o. Settled o.journal (D.state disk.new) (record { image = o.image; payloads = o.payloads })) }
-        ensures none { result ≡ Err JournalFail.NotAVolume → (x : Content) → Stands (D.state disk.old).seen x → ⊥ }
+        ensures none { result ≡ Err JournalError.NotAVolume → (x : Content) → Stands (D.state disk.old).seen x → ⊥ }
         ensures format { IfOk result (λ o. o.format ≡ 2) }
 
         ensures durable { OnOk result (Only (D.state disk.old).seen (D.state disk.new)) }
         ensures reads { ReadsOnly (D.state disk.old) (D.state disk.new) }
-        ensures cause { IfErr result (λ e. (e ≡ JournalFail.NotAVolume) ⊎ IsOpenCause e (D.state disk.old) (D.state disk.new)) }
+        ensures cause { IfErr result (λ e. (e ≡ JournalError.NotAVolume) ⊎ IsOpenCause e (D.state disk.old) (D.state disk.new)) }
     {
         let volume = match find(disk)? {
-            None => return Err(JournalFail::NotAVolume),
+            None => return Err(JournalError::NotAVolume),
             Some(volume) => volume,
         };
         let base = base_of(volume.0);
         let image = load(alloc, disk, base + 4096, volume.2 as usize)?;
         let bytes = load(alloc, disk, base + SLOT, JOURNAL as usize)?;
         let walked = match records(alloc, &bytes)? {
-            None => return Err(JournalFail::NotAVolume),
+            None => return Err(JournalError::NotAVolume),
             Some(walked) => walked,
         };
         Ok(Opened {

@@ -19,7 +19,7 @@ mod slots;
 mod walks;
 mod writes;
 
-pub use failures::JournalFail;
+pub use failures::JournalError;
 pub use journals::{IMAGE_LIMIT, Journal, LARGEST_SIZE, LEAST_SIZE, Opened};
 pub use laws::one_content;
 pub use sides::Side;

@@ -7,14 +7,14 @@ ghost use Rattle.cf_journal.specs.Settled.{IsOpenCause};
 ghost use Rattle.cf_journal.specs.declared.sides.Side.{Side};
 ghost use Rattle.cf_journal.specs.Steps.{ReadsOnly};
 
-use crate::failures::JournalFail;
+use crate::failures::JournalError;
 use crate::sides::Side;
 use crate::slots::{choose, slot_of};
-use cf_disk::{Disk, DiskFault};
+use cf_disk::{Disk, DiskError};
 use std::alloc::Global;
 
 // The generation and the length of the image of the slot at a place, where it has an open gate and a spelled header.
-pub(crate) fn read_slot<D: Disk>(disk: &mut D, at: u64) -> Result<Option<(u64, u32)>, DiskFault>
+pub(crate) fn read_slot<D: Disk>(disk: &mut D, at: u64) -> Result<Option<(u64, u32)>, DiskError>
     requires { at + 28 ≤ size_of (D.state disk.old) }
     ensures found { IfOk result (λ o. IfSome o (λ s. HasSlot (D.state disk.old).seen at s.0 s.1)) }
     ensures none { IfOk result (λ o. IfNone o ((g l : ℕ) → HasSlot (D.state disk.old).seen at g l → ⊥)) }
@@ -29,7 +29,7 @@ pub(crate) fn read_slot<D: Disk>(disk: &mut D, at: u64) -> Result<Option<(u64, u
 
 // The slot that is the volume, with its generation and the length of its image. A sync comes first, so nothing is
 // pending while it reads.
-pub(crate) fn find<D: Disk>(disk: &mut D) -> Result<Option<(Side, u64, u32)>, DiskFault>
+pub(crate) fn find<D: Disk>(disk: &mut D) -> Result<Option<(Side, u64, u32)>, DiskError>
     requires { 3145728 ≤ size_of (D.state disk.old) }
     ensures found { IfOk result (λ o. IfSome o (λ v. Chosen (D.state disk.old).seen v.0 v.1 v.2)) }
     ensures none { IfOk result (λ o. IfNone o ((s : Side) (g l : ℕ) → Chosen (D.state disk.old).seen s g l → ⊥)) }
@@ -49,7 +49,7 @@ pub(crate) fn load<D: Disk>(
     disk: &mut D,
     at: u64,
     len: usize,
-) -> Result<Vec<u8>, JournalFail>
+) -> Result<Vec<u8>, JournalError>
     requires { at + len ≤ size_of (D.state disk.old) }
     ensures got { IfOk result (λ v. v.items ≡ part at len (D.state disk.old).seen) }
     ensures reads { ReadsOnly (D.state disk.old) (D.state disk.new) }

@@ -4,7 +4,7 @@ ghost use Rattle.std.specs.Prelude.{◌≡◌, ◌≤◌, List, ℕ, length, IfO
 ghost use Rattle.cf_journal.specs.Format.{Spells, size_of_records};
 ghost use Rattle.cf_journal.specs.Records.{IsStep};
 
-use cf_base::{Blob, Memory};
+use cf_base::{Blob, OutOfMemory};
 use cf_codec::Reader;
 use std::alloc::Global;
 
@@ -35,7 +35,7 @@ pub(crate) fn next_step<'a>(r: &mut Reader<'a>) -> Step<'a>
 }
 
 // The payloads, and the place of the closed gate behind them. None where the bytes are no journal.
-pub(crate) fn records(alloc: Global, bytes: &[u8]) -> Result<Option<(Vec<Blob>, u64)>, Memory>
+pub(crate) fn records(alloc: Global, bytes: &[u8]) -> Result<Option<(Vec<Blob>, u64)>, OutOfMemory>
     requires { length bytes.now ≤ 262144 }
     ensures found { IfOk result (λ o. IfSome o (λ r. Spells r.0.items bytes.now)) }
     ensures end { IfOk result (λ o. IfSome o (λ r. r.1 ≡ size_of_records r.0.items)) }

@@ -6,10 +6,10 @@ ghost use Rattle.cf_disk.specs.Disk.{State, size_of, part, Holds, SameBut, Near,
 ghost use Rattle.cf_journal.specs.Content.{NearTwo, clusters};
 ghost use Rattle.cf_journal.specs.Steps.{IsClosing, Closes, Stages, Records};
 
-use cf_disk::{Disk, DiskFault};
+use cf_disk::{Disk, DiskError};
 
 // Writes bytes, and makes them durable.
-pub(crate) fn put<D: Disk>(disk: &mut D, at: u64, bytes: &[u8]) -> Result<(), DiskFault>
+pub(crate) fn put<D: Disk>(disk: &mut D, at: u64, bytes: &[u8]) -> Result<(), DiskError>
     requires room { at + length bytes.now ≤ size_of (D.state disk.old) }
     ensures written { OnOk result (Holds at bytes.now (D.state disk.old).seen (D.state disk.new).seen) }
     ensures size { size_of (D.state disk.new) ≡ size_of (D.state disk.old) }
@@ -25,7 +25,7 @@ pub(crate) fn put<D: Disk>(disk: &mut D, at: u64, bytes: &[u8]) -> Result<(), Di
 }
 
 // Writes length, payload and a closed gate behind a record's gate.
-pub(crate) fn put_record<D: Disk>(disk: &mut D, at: u64, payload: &[u8]) -> Result<(), DiskFault>
+pub(crate) fn put_record<D: Disk>(disk: &mut D, at: u64, payload: &[u8]) -> Result<(), DiskError>
     requires room { at + (5 + length payload.now) ≤ size_of (D.state disk.old) }
     requires short { length payload.now ≤ 262144 }
     requires size { size_of (D.state disk.old) ≤ 271581184 }
@@ -48,7 +48,7 @@ pub(crate) fn put_record<D: Disk>(disk: &mut D, at: u64, payload: &[u8]) -> Resu
 
 // Takes a slot out of use: closes its gate, or, where that is closed, breaks its letters. A closed gate is not written
 // again, since then a crash might open it.
-pub(crate) fn close<D: Disk>(disk: &mut D, at: u64) -> Result<(), DiskFault>
+pub(crate) fn close<D: Disk>(disk: &mut D, at: u64) -> Result<(), DiskError>
     requires room { at + 2 ≤ size_of (D.state disk.old) }
     requires size { size_of (D.state disk.old) ≤ 271581184 }
     ensures closed { OnOk result (Closes at (D.state disk.old).seen (D.state disk.new).seen) }
@@ -75,7 +75,7 @@ pub(crate) fn stage<D: Disk>(
     at: u64,
     header: &[u8],
     image: &[u8],
-) -> Result<(), DiskFault>
+) -> Result<(), DiskError>
     requires room { at + 1572864 ≤ size_of (D.state disk.old) }
     requires header { length header.now ≡ 27 }
     requires short { length image.now ≤ 1306624 }
@@ -96,7 +96,7 @@ pub(crate) fn stage<D: Disk>(
 }
 
 // Closes two gates, whatever they were.
-pub(crate) fn close_both<D: Disk>(disk: &mut D, first: u64, second: u64) -> Result<(), DiskFault>
+pub(crate) fn close_both<D: Disk>(disk: &mut D, first: u64, second: u64) -> Result<(), DiskError>
     requires order { first < second }
     requires low { second < 3145728 }
     requires room { 3145728 ≤ size_of (D.state disk.old) }

@@ -60,7 +60,7 @@ fn zeros_are_no_volume(rt: HostRuntime) -> Result<(), Fail> {
     let mut disk = MemDisk::new(rt.alloc(), SIZE)?;
     assert!(rt; disk.size() == SIZE);
     let opened = Journal::open(rt.alloc(), &mut disk);
-    assert!(rt; matches!(opened, Err(JournalFail::NotAVolume)));
+    assert!(rt; matches!(opened, Err(JournalError::NotAVolume)));
     Ok(())
 }
 
@@ -73,7 +73,7 @@ fn leaves_before_or_after<D: Disk>(
     choice: Choice,
     appends: bool,
     succeeds: bool,
-) -> Result<bool, JournalFail> {
+) -> Result<bool, JournalError> {
     if !Journal::is_fit_size(disk.size()) {
         return Ok(false);
     }
@@ -114,7 +114,7 @@ fn all_leave_before_or_after<D: Disk>(
     alloc: Global,
     disk: &mut D,
     choice: Choice,
-) -> Result<bool, JournalFail> {
+) -> Result<bool, JournalError> {
     for calls in 0..7 {
         if !leaves_before_or_after(alloc, disk, calls, choice, true, calls == 6)? {
             return Ok(false);
@@ -162,7 +162,7 @@ fn formats_or_not<D: Disk>(
     disk: &mut D,
     calls: u32,
     choice: Choice,
-) -> Result<bool, JournalFail> {
+) -> Result<bool, JournalError> {
     if !Journal::is_fit_size(disk.size()) {
         return Ok(false);
     }
@@ -171,7 +171,7 @@ fn formats_or_not<D: Disk>(
     let done = Journal::format(disk, b"new").is_ok();
     disk.power(choice);
     let opened = match Journal::open(alloc, disk) {
-        Err(JournalFail::NotAVolume) => return Ok(!done),
+        Err(JournalError::NotAVolume) => return Ok(!done),
         Err(e) => return Err(e),
         Ok(opened) => opened,
     };
@@ -187,7 +187,7 @@ fn opens_again<D: Disk>(
     disk: &mut D,
     calls: u32,
     choice: Choice,
-) -> Result<bool, JournalFail> {
+) -> Result<bool, JournalError> {
     if !Journal::is_fit_size(disk.size()) {
         return Ok(false);
     }

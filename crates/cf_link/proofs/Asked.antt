@@ -4,8 +4,8 @@ use Rattle.std.specs.Prelude.{Option, Some, None, Result, Ok, Err, IfErr}
 use Rattle.std.specs.Result.{IsErrAnd}
 use Rattle.std.proofs.lemmas.Result.{err_from_is_err_and}
 use Rattle.cf_base.specs.declared.answers.Shown.TheVariants as shown
-use Rattle.cf_base.specs.declared.codes.Fail.{Fail}
-use Rattle.cf_base.specs.declared.codes.Fail.TheVariants as fail
+use Rattle.cf_base.specs.declared.codes.CallError.{CallError}
+use Rattle.cf_base.specs.declared.codes.CallError.TheVariants as fail
 use Rattle.cf_base.specs.declared.messages.Reply.{Reply}
 use Rattle.cf_base.specs.declared.messages.Request.{Request}
 use Rattle.cf_base.specs.declared.notices.Frame.{Frame}
@@ -183,7 +183,7 @@ module _ {R : Type 0} (told : R → Told) (m : ℕ) (q : Request) (o : Option Re
   arrives line notes after u d k e = (line, e, arrive_does line d, k)
 
   -- memory ran out before the line was noted
-  pub unnoted : (line : Option Notice) (notes after : List Notice) (r : Result (Unit {0}) Fail) → IsErrAnd r (λ e. e ≡ fail.Memory) → Does told (seq (come m q) was_sent) old shown.Done line new
+  pub unnoted : (line : Option Notice) (notes after : List Notice) (r : Result (Unit {0}) CallError) → IsErrAnd r (λ e. e ≡ fail.OutOfMemory) → Does told (seq (come m q) was_sent) old shown.Done line new
       → Grows old.net new.net → after ≡ notes → Arrives told m old notes r new after
   unnoted line notes after r err d k e =
       let stopped : Stopped told (arrive m) old new = record {
@@ -191,4 +191,4 @@ module _ {R : Type 0} (told : R → Told) (m : ℕ) (q : Request) (o : Option Re
             let x = (arrive_does line d).ends s h in leads_begins (arrive m s) (told old.remote) (told new.remote) shown.Done (with_line line (with_link x.link s)) x.leads;
       } in
       let p = err_from_is_err_and r err in
-      subst (λ (y : Result (Unit {0}) Fail). Arrives told m old notes y new after) (sym p.1) (subst (λ (y : Fail). Arrives told m old notes (Err y) new after) (sym p.2) (e, stopped, k))
+      subst (λ (y : Result (Unit {0}) CallError). Arrives told m old notes y new after) (sym p.1) (subst (λ (y : CallError). Arrives told m old notes (Err y) new after) (sym p.2) (e, stopped, k))

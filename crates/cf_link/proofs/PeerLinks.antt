@@ -3,7 +3,7 @@ use Rattle.std.proofs.Common.{◌≡◌, ℕ, ◌+◌, Bool, [], sym, ap, subst}
 use Rattle.std.specs.Prelude.{Option, Result, Ok, Err, IfErr, IfOk}
 use Rattle.cf_base.specs.declared.answers.Answer.{Answer}
 use Rattle.cf_base.specs.declared.events.PeerEvent.{PeerEvent}
-use Rattle.cf_base.specs.declared.memory.Memory.{Memory}
+use Rattle.cf_base.specs.declared.memory.OutOfMemory.{OutOfMemory}
 use Rattle.cf_base.specs.declared.messages.Reply.{Reply}
 use Rattle.cf_link.specs.Linked.{DoesPeer, IsLink, Linked, PeerEnded, StopsPeer, after_peer}
 use Rattle.cf_link.specs.Parts.{linked}
@@ -45,7 +45,7 @@ module _ {R : Type 0} (told : R → Told) (e : PeerEvent) (next : ℕ) (net : Ke
         notes = ap (λ (x : Answer). x.notes) shows;
       }
 
-  pub peer_does : (r : Result Answer Memory) → Does (peer_event e) next (told remote) r after (told mid) → IfOk r (λ a. DoesPeer told (peer_event e) next old a after (linked net mid inline))
+  pub peer_does : (r : Result Answer OutOfMemory) → Does (peer_event e) next (told remote) r after (told mid) → IfOk r (λ a. DoesPeer told (peer_event e) next old a after (linked net mid inline))
   peer_does (Ok a) d = subst (λ (x : Linked R). DoesPeer told (peer_event e) next x a after (linked net mid inline)) same (record {
     ends = λ s none token k.
         let x = d s none (stands_at s token k) in
@@ -53,7 +53,7 @@ module _ {R : Type 0} (told : R → Told) (e : PeerEvent) (next : ℕ) (net : Ke
   })
   peer_does (Err m) d = tt
 
-  pub peer_stops : (r : Result Answer Memory) → Does (peer_event e) next (told remote) r after (told mid) → IfErr r (λ m. StopsPeer told (peer_event e) next old after (linked net mid inline))
+  pub peer_stops : (r : Result Answer OutOfMemory) → Does (peer_event e) next (told remote) r after (told mid) → IfErr r (λ m. StopsPeer told (peer_event e) next old after (linked net mid inline))
   peer_stops (Ok a) d = tt
   peer_stops (Err m) d = subst (λ (x : Linked R). StopsPeer told (peer_event e) next x after (linked net mid inline)) same (record {
     least = d.0;

@@ -4,8 +4,8 @@ use Rattle.cf_base.specs.declared.answers.Answer.{Answer}
 use Rattle.cf_base.specs.declared.answers.Shown.{Shown}
 use Rattle.cf_base.specs.declared.answers.Shown.TheVariants as shown
 use Rattle.cf_base.specs.declared.codes.Code.TheVariants as code
-use Rattle.cf_base.specs.declared.codes.Fail.{Fail}
-use Rattle.cf_base.specs.declared.codes.Fail.TheVariants.{No, Memory}
+use Rattle.cf_base.specs.declared.codes.CallError.{CallError}
+use Rattle.cf_base.specs.declared.codes.CallError.TheVariants.{No, OutOfMemory}
 use Rattle.cf_base.specs.declared.messages.Reply.{Reply}
 use Rattle.cf_base.specs.declared.notices.Frame.{Frame}
 use Rattle.cf_base.specs.declared.notices.Notice.{Notice}
@@ -104,14 +104,14 @@ pub record StopsPeer {R : Type 0} (told : R → Told) (f : Arrow State Shown) (n
 
 -- messages by hand
 
-abbrev pub Arrives : {R : Type 0} → (R → Told) → ℕ → Linked R → List Notice → Result (Unit {0}) Fail → Linked R → List Notice → Type 0
+abbrev pub Arrives : {R : Type 0} → (R → Told) → ℕ → Linked R → List Notice → Result (Unit {0}) CallError → Linked R → List Notice → Type 0
 Arrives told m old notes (Ok u) new after =
     (line : Option Notice) × (after ≡ notes ++ lines_of line) × Does told (arrive m) old shown.Done line new × Rises line (told old.remote).faults (told new.remote).faults
 Arrives told m old notes (Err (No c)) new after = (c ≡ code.NoMessage) × (after ≡ notes) × (new ≡ old) × Does told (arrive m) old (shown.Refused c) None new
-Arrives told m old notes (Err Memory) new after = (after ≡ notes) × Stopped told (arrive m) old new × Grows old.net new.net
+Arrives told m old notes (Err OutOfMemory) new after = (after ≡ notes) × Stopped told (arrive m) old new × Grows old.net new.net
 
 -- a reply that is kept, and the request that it answers, with which `deliver` goes on, or why it is refused
-abbrev pub Delivers : ℕ → State → Result Replied Fail → Type 0
+abbrev pub Delivers : ℕ → State → Result Replied CallError → Type 0
 Delivers m s (Ok r) = deliver_now m s ≡ deliver_unless r.reply (is_stale r.request r.reply s) s
 Delivers m s (Err (No c)) = deliver_now m s ≡ Ret (shown.Refused c) s
-Delivers m s (Err Memory) = Unit {0}
+Delivers m s (Err OutOfMemory) = Unit {0}

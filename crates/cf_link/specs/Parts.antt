@@ -1,6 +1,6 @@
 -- Parts of what the calls of a link do, which mirror the code: no definitions to believe.
 use Rattle.std.specs.Prelude.{◌≡◌, ℕ, Bool, true, not, cond, List, ◌==◌, length, Option, Some, None, Result, Ok, Err}
-use Rattle.cf_base.specs.declared.memory.Memory.{Memory as NoMemory}
+use Rattle.cf_base.specs.declared.memory.OutOfMemory.{OutOfMemory as NoMemory}
 use Rattle.cf_base.specs.declared.messages.Reply.{Reply}
 use Rattle.cf_base.specs.declared.messages.Request.{Request}
 use Rattle.cf_base.specs.declared.notices.Frame.{Frame}
@@ -16,11 +16,11 @@ use Rattle.cf_model.specs.Trees.{Tree}
 use Rattle.cf_remote.specs.Peers.{Leads}
 use Rattle.cf_remote.specs.Told.{Answers, Faults, Told}
 use Rattle.cf_remote.specs.declared.ask_errors.AskError.{AskError}
-use Rattle.cf_remote.specs.declared.ask_errors.AskError.TheVariants.{Fault, Memory}
+use Rattle.cf_remote.specs.declared.ask_errors.AskError.TheVariants.{Fault, OutOfMemory}
 use Rattle.cf_wire.specs.Sending.{IsNet, Kept}
 use Rattle.cf_wire.specs.Spelled.{HasRoom, ReplyHasRoom}
-use Rattle.cf_wire.specs.declared.failures.WireFail.{WireFail}
-use Rattle.cf_wire.specs.declared.failures.WireFail.TheVariants as fail
+use Rattle.cf_wire.specs.declared.failures.WireError.{WireError}
+use Rattle.cf_wire.specs.declared.failures.WireError.TheVariants as fail
 use Rattle.cf_wire.specs.declared.messages.Sent.{Sent}
 
 abbrev pub linked : {R : Type 0} → Kept → R → Bool → Linked R
@@ -74,16 +74,16 @@ IsAsked q old (Err e) new = new ≡ old
 
 abbrev pub IsUnanswered : AskError → Result (Option Reply) NoMemory → Type 0
 IsUnanswered Fault result = result ≡ Ok None
-IsUnanswered Memory (Ok r) = ⊥
-IsUnanswered Memory (Err e) = Unit {0}
+IsUnanswered OutOfMemory (Ok r) = ⊥
+IsUnanswered OutOfMemory (Err e) = Unit {0}
 
 -- looking up
 
 -- what was read of a kept frame
-abbrev pub IsRead : {X : Type 0} → Result X WireFail → Result (Option X) NoMemory → Type 0
+abbrev pub IsRead : {X : Type 0} → Result X WireError → Result (Option X) NoMemory → Type 0
 IsRead (Ok x) result = result ≡ Ok (Some x)
-IsRead (Err fail.Memory) (Ok o) = ⊥
-IsRead (Err fail.Memory) (Err e) = Unit {0}
+IsRead (Err fail.OutOfMemory) (Ok o) = ⊥
+IsRead (Err fail.OutOfMemory) (Err e) = Unit {0}
 IsRead (Err (fail.Short place)) result = result ≡ Ok None
 IsRead (Err (fail.BadField place)) result = result ≡ Ok None
 

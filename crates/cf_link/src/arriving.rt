@@ -12,10 +12,10 @@ use crate::asking::ask;
 use crate::delivering::request_at;
 use crate::links::Link;
 use crate::posting::send;
-use cf_base::{Code, Fail, Frame, Memory, Notes, Notice, Request};
+use cf_base::{Code, CallError, Frame, OutOfMemory, Notes, Notice, Request};
 use cf_remote::Remote;
 
-fn note(notes: &mut Notes, line: Option<Notice>) -> Result<(), Memory>
+fn note(notes: &mut Notes, line: Option<Notice>) -> Result<(), OutOfMemory>
     ensures ok { OnOk result (notes.new ≡ notes.old ++ lines_of line) }
     ensures err { OnErr result (notes.new ≡ notes.old) }
 {
@@ -27,7 +27,7 @@ fn note(notes: &mut Notes, line: Option<Notice>) -> Result<(), Memory>
 
 impl<R: Remote> Link<R> {
     // The line of what became of the request, as `come` does it, without a copy of the reply.
-    fn hand(&mut self, number: u32, request: &Request) -> Result<Option<Notice>, Memory>
+    fn hand(&mut self, number: u32, request: &Request) -> Result<Option<Notice>, OutOfMemory>
         requires { HasRoom request.now }
         ensures does { IfOk result (λ line. Does R.told (seq (come number request.now) was_sent) self.old shown.Done line self.new) }
         ensures rises { IfOk result (λ line. Rises line (R.told self.old.remote).faults (R.told self.new.remote).faults) }
@@ -50,12 +50,12 @@ impl<R: Remote> Link<R> {
     /// Hands request `number` to the remote, which sends its reply, and notes the line of the reply or of a fault. It is
     /// refused as NoMessage, and nothing is changed, where the number names no request that is kept. Without memory the notes
     /// are as before.
-    pub fn arrive(&mut self, number: u32, notes: &mut Notes) -> Result<(), Fail>
+    pub fn arrive(&mut self, number: u32, notes: &mut Notes) -> Result<(), CallError>
         ensures arrives { Arrives R.told number self.old notes.old result self.new notes.new }
         ensures inline { self.new.inline ≡ self.old.inline }
     {
         let Some(request) = request_at(self.alloc, &self.net, number)? else {
-            return Err(Fail::No(Code::NoMessage));
+            return Err(CallError::No(Code::NoMessage));
         };
         let line = self.hand(number, &request)?;
         note(notes, line)?;

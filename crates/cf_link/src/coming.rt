@@ -9,11 +9,11 @@ ghost use Rattle.cf_wire.specs.Spelled.{HasRoom};
 use crate::asking::ask;
 use crate::links::Link;
 use crate::posting::send;
-use cf_base::{Frame, Memory, Notice, Reply, Request};
+use cf_base::{Frame, OutOfMemory, Notice, Reply, Request};
 use cf_remote::Remote;
 
 /// What became of a request that came to the remote.
-#[derive(Debug, Drop)]
+#[derive(Drop)]
 pub struct Came {
     /// The reply, if it is kept.
     pub reply: Option<Reply>,
@@ -31,7 +31,7 @@ impl<R: Remote> Link<R> {
     /// Hands request `number` to the remote, which sends its reply, as a message of its own. The line tells of a fault where
     /// the remote failed, and then its count of faults rose. Without memory the remote was asked or not, and no message was
     /// sent.
-    pub fn come(&mut self, number: u32, request: &Request) -> Result<Came, Memory>
+    pub fn come(&mut self, number: u32, request: &Request) -> Result<Came, OutOfMemory>
         requires { HasRoom request.now }
         ensures does { IfOk result (λ c. Does R.told (come number request.now) self.old c.reply c.line self.new) }
         ensures rises { IfOk result (λ c. Rises c.line (R.told self.old.remote).faults (R.told self.new.remote).faults) }

@@ -10,7 +10,7 @@ ghost use Rattle.cf_remote.specs.LookUps.{EventHasRoom};
 ghost use Rattle.cf_remote.specs.Peers.{IsCount, IsHeld};
 ghost use Rattle.cf_wire.specs.Sending.{no_messages};
 
-use cf_base::{Answer, Memory, PeerEvent};
+use cf_base::{Answer, OutOfMemory, PeerEvent};
 use cf_remote::{Remote, peer};
 use cf_wire::Net;
 use std::alloc::Global;
@@ -65,7 +65,7 @@ impl<R: Remote> Link<R> {
 
     /// Does an event of another device on the remote: `cf_remote::peer` says what it needs and what it answers. The messages
     /// stay, and so does whether the link is inline, also without memory.
-    pub fn peer(&mut self, next: &mut u32, e: &PeerEvent) -> Result<Answer, Memory>
+    pub fn peer(&mut self, next: &mut u32, e: &PeerEvent) -> Result<Answer, OutOfMemory>
         requires first { 0 < next.old }
         requires next { next.old < 2 ^ 32 - 1 }
         requires room { EventHasRoom e.now }

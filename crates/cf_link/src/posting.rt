@@ -8,13 +8,13 @@ ghost use Rattle.cf_wire.specs.Sending.{IsMessage};
 ghost use Rattle.cf_wire.specs.Spelled.{HasRoom};
 
 use crate::links::Link;
-use cf_base::{Frame, Memory, Notice, Request, Sent};
+use cf_base::{Frame, OutOfMemory, Notice, Request, Sent};
 use cf_remote::Remote;
 use cf_wire::{Message, Net, spell_reply, spell_request};
 use std::alloc::Global;
 
 /// What became of a message that was sent.
-#[derive(Debug, Drop)]
+#[derive(Drop)]
 pub struct Posted {
     /// Its number, from 1, or 0 where none was left.
     pub number: u32,
@@ -24,7 +24,7 @@ pub struct Posted {
     pub line: Option<Notice>,
 }
 
-fn spell(alloc: Global, frame: &Frame) -> Result<Message, Memory>
+fn spell(alloc: Global, frame: &Frame) -> Result<Message, OutOfMemory>
     requires { FrameHasRoom frame.now }
     ensures { IfOk result (λ m. IsMessage m frame.now) }
 {
@@ -66,7 +66,7 @@ fn with_line(sent: cf_wire::Sent, frame: Frame) -> Posted
 }
 
 /// Sends a frame as the next message. Without memory nothing is changed.
-pub(crate) fn send(alloc: Global, net: &mut Net, frame: Frame) -> Result<Posted, Memory>
+pub(crate) fn send(alloc: Global, net: &mut Net, frame: Frame) -> Result<Posted, OutOfMemory>
     requires { FrameHasRoom frame }
     ensures sends { IfOk result (λ p. SendsFrame frame net.old p net.new) }
     ensures line { IfOk result (λ p. IsMessageLine p.line) }
@@ -82,7 +82,7 @@ impl<R: Remote> Link<R> {
     /// Sends a request, whose names need at most 255 bytes and whose bytes fewer than 4,294,967,296: it gets the next number,
     /// and is kept, unless the kept bytes would pass their limit. After the last number it gets none, and no line. It does not
     /// come to the remote. Without memory nothing is changed.
-    pub fn post(&mut self, request: Request) -> Result<Posted, Memory>
+    pub fn post(&mut self, request: Request) -> Result<Posted, OutOfMemory>
         requires { HasRoom request }
         ensures posts { IfOk result (λ p. Posts R.told (frame.Request request) self.old p self.new) }
         ensures err { OnErr result (self.new ≡ self.old) }

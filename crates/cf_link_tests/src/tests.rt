@@ -5,12 +5,13 @@ ghost use Rattle.cf_remote.specs.LookUps.{EventHasRoom};
 ghost use Rattle.cf_wire.specs.Spelled.{HasRoom};
 
 use cf_base::{
-    Blob, Code, Fail, Key, Memory, Notes, Notice, PeerEvent, Reply, Request, Round, Sequence,
+    Blob, Code, CallError, Key, OutOfMemory, Notes, Notice, PeerEvent, Reply, Request, Round, Sequence,
     Shown, Text,
 };
 use cf_link::Link;
 use cf_remote::{FlakyRemote, Remote, StoreRemote};
 use std::alloc::Global;
+use std::process::Abort;
 use std::test::Fail as TestFail;
 
 const ROUND: Round = Round(Key {
@@ -27,7 +28,7 @@ fn feed() -> Request
     }
 }
 
-fn put(alloc: Global, bytes: &[u8]) -> Result<PeerEvent, Memory>
+fn put(alloc: Global, bytes: &[u8]) -> Result<PeerEvent, OutOfMemory>
     requires { length bytes.now < 2 ^ 32 }
     ensures { IfOk result EventHasRoom }
 {
@@ -69,52 +70,82 @@ fn tells_one(reply: Option<&Reply>, name: &[u8]) -> bool {
 }
 
 // Whether another device puts the file `a` on the remote, under token 1.
-fn is_put<R: Remote>(alloc: Global, link: &mut Link<R>) -> Result<bool, Memory> {
+fn is_put<R: Remote>(alloc: Global, link: &mut Link<R>) -> Result<bool, OutOfMemory> {
     let e = put(alloc, b"hello")?;
     let mut next: u32 = 1;
-    let answer = link.peer(&mut next, &e)?;
-    Ok(next == 2 && matches!(answer.shown, Shown::Remote { .. }))
+    let answer = link.peer(&mut next, &e);
+    drop(e);
+    let answer = answer?;
+    let is_so = next == 2 && matches!(answer.shown, Shown::Remote { .. });
+    drop(answer);
+    Ok(is_so)
 }
 
 // Whether the next request that is posted gets this number, and is kept.
-fn posts<R: Remote>(link: &mut Link<R>, number: u32) -> Result<bool, Memory> {
+fn posts<R: Remote>(link: &mut Link<R>, number: u32) -> Result<bool, OutOfMemory> {
     let posted = link.post(feed())?;
     let is_told = is_message(posted.line.as_ref(), number);
-    Ok(posted.kept && posted.number == number && is_told)
+    let is_so = posted.kept && posted.number == number && is_told;
+    drop(posted);
+    Ok(is_so)
 }
 
 // Whether request 1 has a feed as its reply, which is message 2.
-fn comes<R: Remote>(link: &mut Link<R>) -> Result<bool, Memory> {
-    let came = link.come(1, &feed())?;
-    Ok(is_feed(came.reply.as_ref()) && is_message(came.line.as_ref(), 2))
+fn comes<R: Remote>(link: &mut Link<R>) -> Result<bool, OutOfMemory> {
+    let request = feed();
+    let came = link.come(1, &request);
+    drop(request);
+    let came = came?;
+    let is_so = is_feed(came.reply.as_ref()) && is_message(came.line.as_ref(), 2);
+    drop(came);
+    Ok(is_so)
 }
 
 // Whether the remote fails on request 1.
-fn fails<R: Remote>(link: &mut Link<R>) -> Result<bool, Memory> {
-    let came = link.come(1, &feed())?;
-    Ok(came.reply.is_none() && is_fault(came.line.as_ref(), 1))
+fn fails<R: Remote>(link: &mut Link<R>) -> Result<bool, OutOfMemory> {
+    let request = feed();
+    let came = link.come(1, &request);
+    drop(request);
+    let came = came?;
+    let is_so = came.reply.is_none() && is_fault(came.line.as_ref(), 1);
+    drop(came);
+    Ok(is_so)
 }
 
-fn flaky(alloc: Global) -> Result<FlakyRemote, Memory> {
+// Whether a feed after a put by another device tells it.
+fn told_of_a_put<R: Remote>(alloc: Global, link: &mut Link<R>) -> Result<bool, OutOfMemory> {
+    if !is_put(alloc, link)? || !posts(link, 1)? {
+        return Ok(false);
+    }
+    let request = feed();
+    let came = link.come(1, &request);
+    drop(request);
+    let came = came?;
+    let is_so = tells_one(came.reply.as_ref(), b"a");
+    drop(came);
+    Ok(is_so)
+}
+
+fn flaky(alloc: Global) -> Result<FlakyRemote, OutOfMemory> {
     let inner = StoreRemote::new(alloc)?;
     FlakyRemote::new(alloc, inner, &[1])
 }
 
 // Whether `arrive` is refused as NoMessage.
 fn is_no_message<R: Remote>(link: &mut Link<R>, notes: &mut Notes, number: u32) -> bool {
-    link.arrive(number, notes) == Err(Fail::No(Code::NoMessage))
+    link.arrive(number, notes) == Err(CallError::No(Code::NoMessage))
 }
 
 // Whether `deliver` would be refused as NoMessage.
 fn is_no_reply<R: Remote>(link: &Link<R>, number: u32) -> bool {
     match link.reply(number) {
-        Err(Fail::No(Code::NoMessage)) => true,
+        Err(CallError::No(Code::NoMessage)) => true,
         _ => false,
     }
 }
 
 // Whether message 2 is a feed, and the reply to a request for one.
-fn is_replied<R: Remote>(link: &Link<R>) -> Result<bool, Fail> {
+fn is_replied<R: Remote>(link: &Link<R>) -> Result<bool, CallError> {
     let replied = link.reply(2)?;
     Ok(
         matches!(replied.request, Request::Feed { .. })
@@ -122,16 +153,47 @@ fn is_replied<R: Remote>(link: &Link<R>) -> Result<bool, Fail> {
     )
 }
 
+fn inline<R: Remote>(rt: &impl Abort, link: &mut Link<R>) -> Result<(), TestFail> {
+    assert!(rt; link.is_inline());
+    assert!(rt; posts(link, 1)?);
+    assert!(rt; comes(link)?);
+    assert!(rt; is_replied(link)?);
+    Ok(())
+}
+
+fn again<R: Remote>(rt: &impl Abort, link: &mut Link<R>) -> Result<(), TestFail> {
+    assert!(rt; posts(link, 1)?);
+    assert!(rt; fails(link)?);
+    assert!(rt; comes(link)?);
+    Ok(())
+}
+
+fn by_hand<R: Remote>(
+    rt: &impl Abort,
+    link: &mut Link<R>,
+    notes: &mut Notes,
+) -> Result<(), TestFail> {
+    link.set_inline(false);
+    assert!(rt; posts(link, 1)?);
+    assert!(rt; is_no_message(link, notes, 0));
+    assert!(rt; is_no_message(link, notes, 2));
+    link.arrive(1, notes)?;
+    assert!(rt; notes.as_slice().len() == 1);
+    assert!(rt; is_message(notes.get(0), 2));
+    assert!(rt; is_no_message(link, notes, 2));
+    assert!(rt; is_no_reply(link, 1));
+    assert!(rt; is_replied(link)?);
+    Ok(())
+}
+
 #[test]
 fn a_request_comes_and_has_a_reply(rt: HostRuntime) -> Result<(), TestFail> {
     let alloc = rt.alloc();
     let remote = StoreRemote::new(alloc)?;
     let mut link = Link::new(alloc, remote);
-    assert!(rt; link.is_inline());
-    assert!(rt; posts(&mut link, 1)?);
-    assert!(rt; comes(&mut link)?);
-    assert!(rt; is_replied(&link)?);
-    Ok(())
+    let done = inline(&rt, &mut link);
+    drop(link);
+    done
 }
 
 #[test]
@@ -139,10 +201,9 @@ fn a_remote_that_failed_is_asked_again(rt: HostRuntime) -> Result<(), TestFail> 
     let alloc = rt.alloc();
     let remote = flaky(alloc)?;
     let mut link = Link::new(alloc, remote);
-    assert!(rt; posts(&mut link, 1)?);
-    assert!(rt; fails(&mut link)?);
-    assert!(rt; comes(&mut link)?);
-    Ok(())
+    let done = again(&rt, &mut link);
+    drop(link);
+    done
 }
 
 #[test]
@@ -150,10 +211,9 @@ fn a_feed_tells_what_another_device_put(rt: HostRuntime) -> Result<(), TestFail>
     let alloc = rt.alloc();
     let remote = StoreRemote::new(alloc)?;
     let mut link = Link::new(alloc, remote);
-    assert!(rt; is_put(alloc, &mut link)?);
-    assert!(rt; posts(&mut link, 1)?);
-    let came = link.come(1, &feed())?;
-    assert!(rt; tells_one(came.reply.as_ref(), b"a"));
+    let told = told_of_a_put(alloc, &mut link);
+    drop(link);
+    assert!(rt; told?);
     Ok(())
 }
 
@@ -163,15 +223,8 @@ fn messages_are_handed_on_by_hand(rt: HostRuntime) -> Result<(), TestFail> {
     let remote = StoreRemote::new(alloc)?;
     let mut link = Link::new(alloc, remote);
     let mut notes = Sequence::new(alloc);
-    link.set_inline(false);
-    assert!(rt; posts(&mut link, 1)?);
-    assert!(rt; is_no_message(&mut link, &mut notes, 0));
-    assert!(rt; is_no_message(&mut link, &mut notes, 2));
-    link.arrive(1, &mut notes)?;
-    assert!(rt; notes.as_slice().len() == 1);
-    assert!(rt; is_message(notes.get(0), 2));
-    assert!(rt; is_no_message(&mut link, &mut notes, 2));
-    assert!(rt; is_no_reply(&link, 1));
-    assert!(rt; is_replied(&link)?);
-    Ok(())
+    let done = by_hand(&rt, &mut link, &mut notes);
+    drop(notes);
+    drop(link);
+    done
 }

@@ -6,7 +6,7 @@ use Rattle.std.proofs.lemmas.Result.{err_from_is_err_and}
 use Rattle.std.specs.Prelude.{Result, Ok, Err, Option, Some, None}
 use Rattle.std.specs.Result.{IsErrAnd}
 use Rattle.cf_base.specs.declared.codes.Code.{Code}
-use Rattle.cf_base.specs.declared.codes.Fail.{Fail}
+use Rattle.cf_base.specs.declared.codes.CallError.{CallError}
 use Rattle.cf_model.specs.Arrows.{Answers, Arrow, Preserves, Tells, and_then, attempt, choose, each, either, lifted, noted, one, one_or, only_if, reading, ret, seq, then_do, unit, unless, unless_done, when_ok}
 use Rattle.cf_base.specs.declared.answers.Shown.{Shown}
 use Rattle.cf_model.specs.State.{Filter, State, in_filter, with_filter}
@@ -18,23 +18,23 @@ use Rattle.cf_model.proofs.TreeLaws as trees
 pub returned : {X S A : Type 0} (R : X → S → Type 0) (a : A) (x : X) → Answers R (ret a) x (Ok a) x
 returned R a x = record { leads = λ s h. (s, (refl, refl), h) }
 
-pub fails_first : {X S A B : Type 0} (R : X → S → Type 0) (f : Arrow S A) (g : A → Arrow S B) (old new : X) (e : Fail) → Answers R f old (Err e) new → Answers R (seq f g) old (Err e) new
+pub fails_first : {X S A B : Type 0} (R : X → S → Type 0) (f : Arrow S A) (g : A → Arrow S B) (old new : X) (e : CallError) → Answers R f old (Err e) new → Answers R (seq f g) old (Err e) new
 fails_first R f g old new e h = record { leads = λ s i. let x = h.leads s i in (x.0, trees.fails_first (f s) g e x.0 x.1, x.2) }
 
-pub goes_on : {X S A B : Type 0} (R : X → S → Type 0) (f : Arrow S A) (g : A → Arrow S B) (old mid new : X) (a : A) (r : Result B Fail) → Answers R f old (Ok a) mid → Answers R (g a) mid r new → Answers R (seq f g) old r new
+pub goes_on : {X S A B : Type 0} (R : X → S → Type 0) (f : Arrow S A) (g : A → Arrow S B) (old mid new : X) (a : A) (r : Result B CallError) → Answers R f old (Ok a) mid → Answers R (g a) mid r new → Answers R (seq f g) old r new
 goes_on R f g old mid new a r h k = record { leads = λ s i. let x = h.leads s i in let y = k.leads x.0 x.2 in (y.0, trees.goes_on (f s) g a x.0 r y.0 x.1 y.1, y.2) }
 
-pub stops_first : {X S A B : Type 0} (R : X → S → Type 0) (f : Arrow S A) (g : Arrow S B) (old new : X) (e : Fail) → Answers R f old (Err e) new → Answers R (then_do f g) old (Err e) new
+pub stops_first : {X S A B : Type 0} (R : X → S → Type 0) (f : Arrow S A) (g : Arrow S B) (old new : X) (e : CallError) → Answers R f old (Err e) new → Answers R (then_do f g) old (Err e) new
 stops_first R f g old new e h = fails_first R f (λ _. g) old new e h
 
-pub then_on : {X S A B : Type 0} (R : X → S → Type 0) (f : Arrow S A) (g : Arrow S B) (old mid new : X) (a : A) (r : Result B Fail) → Answers R f old (Ok a) mid → Answers R g mid r new → Answers R (then_do f g) old r new
+pub then_on : {X S A B : Type 0} (R : X → S → Type 0) (f : Arrow S A) (g : Arrow S B) (old mid new : X) (a : A) (r : Result B CallError) → Answers R f old (Ok a) mid → Answers R g mid r new → Answers R (then_do f g) old r new
 then_on R f g old mid new a r h k = goes_on R f (λ _. g) old mid new a r h k
 
-pub reads_on : {X S A V : Type 0} (R : X → S → Type 0) (v : S → V) (h : V → Arrow S A) (old new : X) (x : V) (r : Result A Fail) → Tells R v old x → Answers R (h x) old r new → Answers R (reading v h) old r new
+pub reads_on : {X S A V : Type 0} (R : X → S → Type 0) (v : S → V) (h : V → Arrow S A) (old new : X) (x : V) (r : Result A CallError) → Tells R v old x → Answers R (h x) old r new → Answers R (reading v h) old r new
 reads_on R v h old new x r e k = record { leads = λ s i. subst (λ (y : _). (t : _) × Does (h y s) r t × R new t) (e.is s i) (k.leads s i) }
 
 -- after a step that was done, and after one that was not
-pub ok_on : {X S A : Type 0} (R : X → S → Type 0) (f : Arrow S Bool) (v : A) (g : Arrow S A) (old mid new : X) (a : Bool) (r : Result A Fail) → Answers R f old (Ok a) mid → a ≡ true → Answers R g mid r new → Answers R (seq f (when_ok v g)) old r new
+pub ok_on : {X S A : Type 0} (R : X → S → Type 0) (f : Arrow S Bool) (v : A) (g : Arrow S A) (old mid new : X) (a : Bool) (r : Result A CallError) → Answers R f old (Ok a) mid → a ≡ true → Answers R g mid r new → Answers R (seq f (when_ok v g)) old r new
 ok_on R f v g old mid new true r h e k = goes_on R f (when_ok v g) old mid new true r h k
 ok_on R f v g old mid new false r h e k = let z : false ≡ true = e in cc
 
@@ -43,28 +43,28 @@ ok_off R f v g old mid false h e = goes_on R f (when_ok v g) old mid mid false (
 ok_off R f v g old mid true h e = let z : true ≡ false = e in cc
 
 -- a loop's step: what answers the rest answers all
-pub each_more : {X S V : Type 0} (R : X → S → Type 0) (f : V → Arrow S (Unit {0})) (xs : List V) (i : ℕ) (d : V) (old mid : X) (v : Unit {0}) (r : Result (Unit {0}) Fail) (new : X)
+pub each_more : {X S V : Type 0} (R : X → S → Type 0) (f : V → Arrow S (Unit {0})) (xs : List V) (i : ℕ) (d : V) (old mid : X) (v : Unit {0}) (r : Result (Unit {0}) CallError) (new : X)
     → i < length xs → Answers R (f (get_or xs i d)) old (Ok v) mid → Answers R (each f (drop (i + 1) xs)) mid r new → Answers R (each f (drop i xs)) old r new
 each_more R f xs i d old mid v r new small a rest =
     subst (λ (ys : List _). Answers R (each f ys) old r new) (sym (drop_more xs i d small)) (then_on R (f (get_or xs i d)) (each f (drop (i + 1) xs)) old mid new v r a rest)
 
 -- an exit of a loop by `?`, under the invariant by continuation
-pub each_exits : {X S V : Type 0} (R : X → S → Type 0) (f : V → Arrow S (Unit {0})) (all xs : List V) (i : ℕ) (d : V) (first old : X) (e : Fail) (r : Result (Unit {0}) Fail) (new : X)
-    → ((q : Result (Unit {0}) Fail) (v : X) → Answers R (each f (drop i xs)) old q v → Answers R (each f all) first q v)
+pub each_exits : {X S V : Type 0} (R : X → S → Type 0) (f : V → Arrow S (Unit {0})) (all xs : List V) (i : ℕ) (d : V) (first old : X) (e : CallError) (r : Result (Unit {0}) CallError) (new : X)
+    → ((q : Result (Unit {0}) CallError) (v : X) → Answers R (each f (drop i xs)) old q v → Answers R (each f all) first q v)
     → i < length xs → Answers R (f (get_or xs i d)) old (Err e) new → IsErrAnd r (λ y. y ≡ e) → Answers R (each f all) first r new
 each_exits R f all xs i d first old e r new inv small a is =
     let p = err_from_is_err_and r is in
     let fail : Answers R (each f (drop i xs)) old (Err e) new = subst (λ (ys : List _). Answers R (each f ys) old (Err e) new) (sym (drop_more xs i d small)) (stops_first R (f (get_or xs i d)) (each f (drop (i + 1) xs)) old new e a) in
-    subst (λ (q : Result (Unit {0}) Fail). Answers R (each f all) first q new) (sym (p.1 ∙ ap (λ (z : Fail). Err z) p.2)) (inv (Err e) new fail)
+    subst (λ (q : Result (Unit {0}) CallError). Answers R (each f all) first q new) (sym (p.1 ∙ ap (λ (z : CallError). Err z) p.2)) (inv (Err e) new fail)
 
 -- a loop's end
 pub each_ends : {X S V : Type 0} (R : X → S → Type 0) (f : V → Arrow S (Unit {0})) (all xs : List V) (i : ℕ) (first last : X)
-    → ((q : Result (Unit {0}) Fail) (v : X) → Answers R (each f (drop i xs)) last q v → Answers R (each f all) first q v)
+    → ((q : Result (Unit {0}) CallError) (v : X) → Answers R (each f (drop i xs)) last q v → Answers R (each f all) first q v)
     → length xs ≤ i → Answers R (each f all) first (Ok unit) last
 each_ends R f all xs i first last inv h = inv (Ok unit) last (subst (λ (ys : List _). Answers R (each f ys) last (Ok unit) last) (sym (drop_of_length-le xs h)) (returned R unit last))
 
 -- in a larger state
-pub does_lifted : {S T A : Type 0} (get : T → S) (put : S → T → T) (f : Arrow S A) (t : T) (r : Result A Fail) (u : S) → Does (f (get t)) r u → Does (lifted get put f t) r (put u t)
+pub does_lifted : {S T A : Type 0} (get : T → S) (put : S → T → T) (f : Arrow S A) (t : T) (r : Result A CallError) (u : S) → Does (f (get t)) r u → Does (lifted get put f t) r (put u t)
 does_lifted get put f t r u h = trees.does_mapped (λ s. put s t) (f (get t)) r u h
 
 -- what each state keeps
@@ -114,7 +114,7 @@ pub keeps_lifted : {S T A : Type 0} (P : T → Type 0) (get : T → S) (put : S 
     → ((t : T) → P t → P (put (get t) t)) → ((t : T) → P t → Preserves (λ s. P (put s t)) f) → Preserves P (lifted get put f)
 keeps_lifted P get put f same h = record { keeps = λ t i. trees.keeps_mapped (λ s. P (put s t)) P (λ s. put s t) (f (get t)) (λ s j. j) ((h t i).keeps (get t) (same t i)) }
 
-pub filter_in_whole : (f : Arrow Filter Shown) (s : State) (r : Result Shown Fail) (t : Filter) → Does (f s.filter) r t → Does (in_filter f s) r (with_filter t s)
+pub filter_in_whole : (f : Arrow Filter Shown) (s : State) (r : Result Shown CallError) (t : Filter) → Does (f s.filter) r t → Does (in_filter f s) r (with_filter t s)
 filter_in_whole f s r t h = trees.does_mapped (λ (x : Filter). with_filter x s) (f s.filter) r t h
 
 pub keeps_only_if : {S : Type 0} (P : S → Type 0) (b : Bool) (f : Arrow S Bool) → Preserves P f → Preserves P (only_if b f)

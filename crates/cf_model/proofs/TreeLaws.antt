@@ -1,8 +1,8 @@
 -- Trees one after the other, in a larger state, by choices, and what each state in them keeps.
 use Rattle.std.proofs.Common.{◌≡◌, ℕ, zero, suc, Bool, true, false, List, [], ◌∷◌, refl, sym, ap, inl, inr}
 use Rattle.std.specs.Prelude.{Result, Ok, Err, Option, Some, None}
-use Rattle.cf_base.specs.declared.codes.Fail.{Fail}
-use Rattle.cf_base.specs.declared.codes.Fail.TheVariants.{No, Memory}
+use Rattle.cf_base.specs.declared.codes.CallError.{CallError}
+use Rattle.cf_base.specs.declared.codes.CallError.TheVariants.{No, OutOfMemory}
 use Rattle.cf_model.specs.Trees.{AsItKeeps, Asked, Does, Ends, Fork, Keeps, Ret, Step, Stops, Telling, Tree, bind, mapped, walk}
 
 -- one after the other
@@ -30,15 +30,15 @@ ends_then (Fork p q) g a m b t (inr e) h = inr (ends_then q g a m b t e h)
 ends_then (Asked k) g a m b t e h = (e.0, ends_then (k e.0) g a m b t e.1 h)
 
 -- the first fails
-pub fails_first : {S A B : Type 0} (p : Tree S A) (g : A → S → Tree S B) (e : Fail) (t : S) → Does p (Err e) t → Does (bind p g) (Err e) t
+pub fails_first : {S A B : Type 0} (p : Tree S A) (g : A → S → Tree S B) (e : CallError) (t : S) → Does p (Err e) t → Does (bind p g) (Err e) t
 fails_first p g (No c) t h = (h.0, stops_first p g t h.1)
-fails_first p g Memory t h = record {}
+fails_first p g OutOfMemory t h = record {}
 
 -- the first is done, and the second answers
-pub goes_on : {S A B : Type 0} (p : Tree S A) (g : A → S → Tree S B) (a : A) (m : S) (r : Result B Fail) (t : S) → Ends p a m → Does (g a m) r t → Does (bind p g) r t
+pub goes_on : {S A B : Type 0} (p : Tree S A) (g : A → S → Tree S B) (a : A) (m : S) (r : Result B CallError) (t : S) → Ends p a m → Does (g a m) r t → Does (bind p g) r t
 goes_on p g a m (Ok b) t e h = ends_then p g a m b t e h
 goes_on p g a m (Err (No c)) t e h = (h.0, stops_then p g a m t e h.1)
-goes_on p g a m (Err Memory) t e h = record {}
+goes_on p g a m (Err OutOfMemory) t e h = record {}
 
 -- in a larger state
 
@@ -57,10 +57,10 @@ stops_mapped f (Fork p q) t (inl h) = inl (stops_mapped f p t h)
 stops_mapped f (Fork p q) t (inr h) = inr (stops_mapped f q t h)
 stops_mapped f (Asked k) t h = (h.0, stops_mapped f (k h.0) t h.1)
 
-pub does_mapped : {S T A : Type 0} (f : S → T) (p : Tree S A) (r : Result A Fail) (t : S) → Does p r t → Does (mapped f p) r (f t)
+pub does_mapped : {S T A : Type 0} (f : S → T) (p : Tree S A) (r : Result A CallError) (t : S) → Does p r t → Does (mapped f p) r (f t)
 does_mapped f p (Ok a) t h = ends_mapped f p a t h
 does_mapped f p (Err (No c)) t h = (h.0, stops_mapped f p t h.1)
-does_mapped f p (Err Memory) t h = record {}
+does_mapped f p (Err OutOfMemory) t h = record {}
 
 -- by choices
 

@@ -2,8 +2,8 @@
 use Rattle.std.specs.Prelude.{Bool, true, false, List, [], ◌∷◌, Option, Some, None, Result, Ok, Err, ◌≡◌}
 use Rattle.cf_base.specs.declared.codes.Code.{Code}
 use Rattle.cf_base.specs.declared.codes.Code.TheVariants as code
-use Rattle.cf_base.specs.declared.codes.Fail.{Fail}
-use Rattle.cf_base.specs.declared.codes.Fail.TheVariants.{No, Memory}
+use Rattle.cf_base.specs.declared.codes.CallError.{CallError}
+use Rattle.cf_base.specs.declared.codes.CallError.TheVariants.{No, OutOfMemory}
 use Rattle.cf_model.specs.Trees.{Tree, Ret, Step, Fork, bind, mapped, Does, Keeps}
 
 abbrev pub Arrow : Type 0 → Type 0 → Type 0
@@ -95,17 +95,17 @@ abbrev pub is_device : Code → Bool
 is_device code.Device = true
 is_device _ = false
 
-abbrev pub outcome_of : Bool → Code → Result (Option Code) Fail
+abbrev pub outcome_of : Bool → Code → Result (Option Code) CallError
 outcome_of true c = Err (No c)
 outcome_of false c = Ok (Some c)
 
-abbrev pub outcome : Result (Unit {0}) Fail → Result (Option Code) Fail
+abbrev pub outcome : Result (Unit {0}) CallError → Result (Option Code) CallError
 outcome (Ok u) = Ok None
-outcome (Err Memory) = Err Memory
+outcome (Err OutOfMemory) = Err OutOfMemory
 outcome (Err (No c)) = outcome_of (is_device c) c
 
 -- What stands for a state before stands for one after that the part leads to. A record, so that a search finds it whole.
-pub record Answers {X S A : Type 0} (R : X → S → Type 0) (f : Arrow S A) (old : X) (r : Result A Fail) (new : X) : Type 0 where
+pub record Answers {X S A : Type 0} (R : X → S → Type 0) (f : Arrow S A) (old : X) (r : Result A CallError) (new : X) : Type 0 where
   pub leads : (s : S) → R old s → (t : S) × Does (f s) r t × R new t
 
 -- what a call reads of the state

@@ -1,8 +1,8 @@
 -- Steps that a device may cut off. What an event or a part of it does is a tree of steps over a state.
 use Rattle.std.specs.Prelude.{ℕ, zero, suc, Bool, true, false, List, [], ◌∷◌, Option, Some, None, Result, Ok, Err, ◌≡◌, ◌⊎◌}
 use Rattle.cf_base.specs.declared.codes.Code.TheVariants as code
-use Rattle.cf_base.specs.declared.codes.Fail.{Fail}
-use Rattle.cf_base.specs.declared.codes.Fail.TheVariants.{No, Memory}
+use Rattle.cf_base.specs.declared.codes.CallError.{CallError}
+use Rattle.cf_base.specs.declared.codes.CallError.TheVariants.{No, OutOfMemory}
 use Rattle.cf_base.specs.declared.messages.Reply.{Reply}
 
 -- what the remote does when it is asked: it replies as its rules say, it fails, or it tells any other reply
@@ -42,10 +42,10 @@ Stops (Fork p q) t = Stops p t ⊎ Stops q t
 Stops (Asked k) t = (x : Telling) × Stops (k x) t
 
 -- What a program that does the tree answers, and the state that it leaves. Of want of memory nothing is said.
-abbrev pub Does : {S A : Type 0} → Tree S A → Result A Fail → S → Type 0
+abbrev pub Does : {S A : Type 0} → Tree S A → Result A CallError → S → Type 0
 Does p (Ok a) t = Ends p a t
 Does p (Err (No c)) t = (c ≡ code.Device) × Stops p t
-Does p (Err Memory) t = Unit {0}
+Does p (Err OutOfMemory) t = Unit {0}
 
 -- the same part in a larger state
 abbrev pub mapped : {S T A : Type 0} → (S → T) → Tree S A → Tree T A

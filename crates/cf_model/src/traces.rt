@@ -6,7 +6,7 @@ ghost use Rattle.cf_base.specs.declared.answers.Shown.{Shown};
 ghost use Rattle.cf_base.specs.declared.answers.Shown.TheVariants as shown;
 ghost use Rattle.cf_base.specs.declared.codes.Code.{Code};
 ghost use Rattle.cf_base.specs.declared.codes.Code.TheVariants as code;
-ghost use Rattle.cf_base.specs.declared.codes.Fail.{Fail};
+ghost use Rattle.cf_base.specs.declared.codes.CallError.{CallError};
 ghost use Rattle.cf_base.specs.declared.events.Event.{Event};
 ghost use Rattle.cf_base.specs.declared.policies.Mode.{Mode};
 ghost use Rattle.cf_model.specs.Events.{answer_in, broken, is_of, may_stop, needs_volume, no_volume, refusal, tree_of};
@@ -19,20 +19,20 @@ ghost use Rattle.cf_model.specs.Trees.{Choices, Does, Ends, Stops, Tree, bind};
 /// Where the first part stops, both do, and leave the same state.
 #[tactic(auto, using(crate::proofs::TreeLaws::fails_first))]
 pub fn a_stop_ends_what_follows()
-    ensures { (p : Tree State Shown) (g : Shown → State → Tree State Shown) (e : Fail) (t : State) → Does p (Err e) t → Does (bind p g) (Err e) t }
+    ensures { (p : Tree State Shown) (g : Shown → State → Tree State Shown) (e : CallError) (t : State) → Does p (Err e) t → Does (bind p g) (Err e) t }
 {}
 
 /// Where the first part ends, the answer of the second is that of both.
 #[tactic(auto, using(crate::proofs::TreeLaws::goes_on))]
 pub fn the_second_answers_for_both()
-    ensures { (p : Tree State Shown) (g : Shown → State → Tree State Shown) (a : Shown) (m : State) (r : Result Shown Fail) (t : State)
+    ensures { (p : Tree State Shown) (g : Shown → State → Tree State Shown) (a : Shown) (m : State) (r : Result Shown CallError) (t : State)
         → Ends p a m → Does (g a m) r t → Does (bind p g) r t }
 {}
 
 /// What the filter does it does in the whole state, which is otherwise as before.
 #[tactic(auto, using(crate::proofs::ArrowLaws::filter_in_whole))]
 pub fn the_rest_is_as_before()
-    ensures { (f : Arrow Filter Shown) (s : State) (r : Result Shown Fail) (t : Filter) → Does (f s.filter) r t → Does (in_filter f s) r (with_filter t s) }
+    ensures { (f : Arrow Filter Shown) (s : State) (r : Result Shown CallError) (t : Filter) → Does (f s.filter) r t → Does (in_filter f s) r (with_filter t s) }
 {}
 
 /// The first events of a lawful trace are one.

@@ -7,7 +7,7 @@ ghost use Rattle.cf_table.specs.Tables.{MeansAll};
 ghost use Rattle.cf_tree.specs.Trees.{IsTree};
 ghost use Rattle.cf_pin.specs.States.{differs, inherited, set_each, state_for, stored, stored_above};
 
-use cf_base::{Change, ItemId, Memory, Pin, Reach, Sequence};
+use cf_base::{Change, ItemId, OutOfMemory, Pin, Reach, Sequence};
 use cf_table::Rows;
 use cf_tree::tree_of;
 use std::alloc::Global;
@@ -59,7 +59,7 @@ fn inherited(rows: &Rows, id: ItemId, reach: Reach) -> Pin
     }
 }
 
-fn others(alloc: Global, ids: &[ItemId], id: ItemId) -> Result<Vec<ItemId>, Memory>
+fn others(alloc: Global, ids: &[ItemId], id: ItemId) -> Result<Vec<ItemId>, OutOfMemory>
     ensures { IfOk result (λ v. v.items ≡ filter (λ x. not (x.0 == id.0)) ids.now) }
 {
     Ok(
@@ -70,7 +70,7 @@ fn others(alloc: Global, ids: &[ItemId], id: ItemId) -> Result<Vec<ItemId>, Memo
     )
 }
 
-fn alone(alloc: Global, id: ItemId) -> Result<Vec<ItemId>, Memory>
+fn alone(alloc: Global, id: ItemId) -> Result<Vec<ItemId>, OutOfMemory>
     ensures { IfOk result (λ v. v.items ≡ id ∷ []) }
 {
     let mut ids = Vec::new(alloc);
@@ -79,7 +79,7 @@ fn alone(alloc: Global, id: ItemId) -> Result<Vec<ItemId>, Memory>
 }
 
 // The items of the reach, by depth and then by id.
-fn reached(alloc: Global, rows: &Rows, id: ItemId, reach: Reach) -> Result<Vec<ItemId>, Memory>
+fn reached(alloc: Global, rows: &Rows, id: ItemId, reach: Reach) -> Result<Vec<ItemId>, OutOfMemory>
     ensures { IfOk result (λ v. (items : List Item) (i : Item) → MeansAll rows.now.rows items → IsTree items → item_of items id ≡ Some i → v.items ≡ map (λ j. j.id) (reached items i reach)) }
 {
     match reach {
@@ -106,7 +106,7 @@ fn set_each(
     rows: &Rows,
     state: Pin,
     ids: &[ItemId],
-) -> Result<Sequence<Change>, Memory>
+) -> Result<Sequence<Change>, OutOfMemory>
     ensures { IfOk result (λ list. list ≡ set_each rows.now.rows state ids.now) }
 {
     let mut changes = Sequence::new(alloc);
@@ -132,7 +132,7 @@ pub fn plan_pin(
     id: ItemId,
     state: Pin,
     reach: Reach,
-) -> Result<Sequence<Change>, Memory>
+) -> Result<Sequence<Change>, OutOfMemory>
     ensures { IfOk result (λ list. (items : List Item) (i : Item) → MeansAll rows.now.rows items → IsTree items → item_of items id ≡ Some i → list ≡ plan_pin items i state reach) }
 {
     let state = state_for(rows, id, reach, state);

@@ -2,8 +2,8 @@
 use Rattle.std.specs.Prelude.{ℕ, Bool, false, List, [], Result, Ok, Err, ◌≡◌}
 use Rattle.cf_base.specs.declared.changes.Change.{Change}
 use Rattle.cf_base.specs.declared.codes.Code.{Code}
-use Rattle.cf_base.specs.declared.codes.Fail.{Fail}
-use Rattle.cf_base.specs.declared.codes.Fail.TheVariants as fail
+use Rattle.cf_base.specs.declared.codes.CallError.{CallError}
+use Rattle.cf_base.specs.declared.codes.CallError.TheVariants as fail
 use Rattle.cf_base.specs.declared.items.Kind.{Kind}
 use Rattle.cf_base.specs.declared.items.Kind.TheVariants as kind
 use Rattle.cf_base.specs.declared.policies.Policy.{Policy}
@@ -13,10 +13,10 @@ use Rattle.cf_placeholder.specs.declared.creations.Creation.{Creation}
 use Rattle.cf_placeholder.specs.declared.creations.Creation.TheVariants.{File, Dir, Placeholder, PlaceholderDir}
 
 -- the changes or the refusal that are meant, or there was no memory
-abbrev pub IsPlan : Result (List Change) Fail → Result (List Change) Code → Type 0
+abbrev pub IsPlan : Result (List Change) CallError → Result (List Change) Code → Type 0
 IsPlan (Ok changes) meant = meant ≡ Ok changes
 IsPlan (Err (fail.No c)) meant = meant ≡ Err c
-IsPlan (Err fail.Memory) meant = Unit {0}
+IsPlan (Err fail.OutOfMemory) meant = Unit {0}
 
 -- what is made, in the words of the definitions
 abbrev pub meant : Creation → model.Creation

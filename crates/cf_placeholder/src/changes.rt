@@ -2,11 +2,11 @@
 
 ghost use Rattle.std.specs.Prelude.{◌≡◌, [], ◌∷◌, IfOk};
 
-use cf_base::{Change, Memory, Sequence};
+use cf_base::{Change, OutOfMemory, Sequence};
 use std::alloc::Global;
 
 /// The list of this change alone.
-pub(crate) fn one(alloc: Global, change: Change) -> Result<Sequence<Change>, Memory>
+pub(crate) fn one(alloc: Global, change: Change) -> Result<Sequence<Change>, OutOfMemory>
     ensures { IfOk result (λ list. list ≡ change ∷ []) }
 {
     let mut list = Sequence::new(alloc);

@@ -9,13 +9,13 @@ ghost use Rattle.cf_placeholder.specs.Plans.{identity_made, IsPlan, kind_made, m
 use crate::changes::one;
 use crate::refusals::refuse_create;
 use cf_base::{
-    Change, Fail, Identity, ItemId, Kind, Memory, Name, Policy, Population, Sequence, Usn,
+    Change, CallError, Identity, ItemId, Kind, OutOfMemory, Name, Policy, Population, Sequence, Usn,
 };
 use cf_table::Rows;
 use std::alloc::Global;
 
 /// What is made at a place. Sizes are in bytes.
-#[derive(Debug, Drop)]
+#[derive(Drop)]
 pub enum Creation {
     /// A plain file of no bytes (`create`).
     File,
@@ -55,7 +55,7 @@ impl Creation {
         }
     }
 
-    fn identity(&self, alloc: Global) -> Result<Identity, Memory>
+    fn identity(&self, alloc: Global) -> Result<Identity, OutOfMemory>
         ensures { IfOk result (λ i. i ≡ identity_made self.now) }
     {
         match self {
@@ -100,11 +100,11 @@ pub fn plan_create(
     parent: ItemId,
     name: &Name,
     what: &Creation,
-) -> Result<Sequence<Change>, Fail>
+) -> Result<Sequence<Change>, CallError>
     ensures { (items : List Item) → MeansAll rows.now.rows items → IsPlan result (plan_create items policy.now rows.now.next next parent name.now (meant what.now)) }
 {
     match refuse_create(rows, policy, parent, name, what) {
-        Err(code) => Err(Fail::No(code)),
+        Err(code) => Err(CallError::No(code)),
         Ok(()) => {
             let changes = made(alloc, rows.next(), policy, next, parent, name, what)?;
             Ok(changes)
@@ -120,7 +120,7 @@ fn made(
     parent: ItemId,
     name: &Name,
     what: &Creation,
-) -> Result<Sequence<Change>, Memory>
+) -> Result<Sequence<Change>, OutOfMemory>
     ensures { IfOk result (λ list. list ≡ make_and_mark item next parent name.now (kind_made policy.now what.now) (size_made what.now) (identity_made what.now) (mark_made what.now)) }
 {
     let make = Change::Make {

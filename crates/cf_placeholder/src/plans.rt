@@ -13,7 +13,7 @@ use crate::refusals::{
     refuse_convert, refuse_keep, refuse_mark, refuse_rebase, refuse_revert, refuse_take,
     refuse_unmark,
 };
-use cf_base::{Change, Fail, Identity, Policy, Sequence, Usn};
+use cf_base::{Change, CallError, Identity, Policy, Sequence, Usn};
 use cf_table::{NO_USN, Row};
 use std::alloc::Global;
 
@@ -36,11 +36,11 @@ fn has_identity(row: &Row, identity: &Identity) -> bool
 
 /// The change by which an item becomes a placeholder (CfConvertToPlaceholder). Refused as AlreadyPlaceholder, then as
 /// IdentityTooLong where the identity has more than 4,096 bytes.
-pub fn plan_convert(alloc: Global, row: &Row, identity: &Identity) -> Result<Sequence<Change>, Fail>
+pub fn plan_convert(alloc: Global, row: &Row, identity: &Identity) -> Result<Sequence<Change>, CallError>
     ensures { (i : Item) → Means row.now i → IsPlan result (plan_convert i identity.now) }
 {
     if let Err(code) = refuse_convert(row, identity) {
-        return Err(Fail::No(code));
+        return Err(CallError::No(code));
     }
     let item = row.id;
     let identity = identity.copy()?;
@@ -49,11 +49,11 @@ pub fn plan_convert(alloc: Global, row: &Row, identity: &Identity) -> Result<Seq
 
 /// The change by which a placeholder becomes a plain file or directory (CfRevertPlaceholder). Refused as NotPlaceholder,
 /// as NotPopulated where a directory's entries have not come, as NotHydrated where a byte is not here, as InUse.
-pub fn plan_revert(alloc: Global, row: &Row, in_use: bool) -> Result<Sequence<Change>, Fail>
+pub fn plan_revert(alloc: Global, row: &Row, in_use: bool) -> Result<Sequence<Change>, CallError>
     ensures { (i : Item) → Means row.now i → IsPlan result (plan_revert i in_use) }
 {
     if let Err(code) = refuse_revert(row, is_all_here(row), in_use) {
-        return Err(Fail::No(code));
+        return Err(CallError::No(code));
     }
     Ok(one(alloc, Change::Revert { item: row.id })?)
 }
@@ -69,7 +69,7 @@ pub fn plan_update(
     identity: &Identity,
     size: Option<u64>,
     in_use: bool,
-) -> Result<Sequence<Change>, Fail>
+) -> Result<Sequence<Change>, CallError>
     ensures { (i : Item) → Means row.now i → IsPlan result (plan_update policy.now i identity.now size in_use) }
 {
     match size {
@@ -78,11 +78,11 @@ pub fn plan_update(
     }
 }
 
-fn rebase(alloc: Global, row: &Row, identity: &Identity) -> Result<Sequence<Change>, Fail>
+fn rebase(alloc: Global, row: &Row, identity: &Identity) -> Result<Sequence<Change>, CallError>
     ensures { (p : Policy) (i : Item) (in_use : Bool) → Means row.now i → IsPlan result (plan_update p i identity.now None in_use) }
 {
     if let Err(code) = refuse_rebase(row, identity) {
-        return Err(Fail::No(code));
+        return Err(CallError::No(code));
     }
     if has_identity(row, identity) {
         return Ok(Sequence::new(alloc));
@@ -113,11 +113,11 @@ fn take(
     identity: &Identity,
     size: u64,
     in_use: bool,
-) -> Result<Sequence<Change>, Fail>
+) -> Result<Sequence<Change>, CallError>
     ensures { (i : Item) → Means row.now i → IsPlan result (plan_update policy.now i identity.now (Some size) in_use) }
 {
     if let Err(code) = refuse_take(policy, row, identity, size, in_use) {
-        return Err(Fail::No(code));
+        return Err(CallError::No(code));
     }
     let item = row.id;
     let identity = identity.copy()?;
@@ -131,11 +131,11 @@ fn take(
 
 /// The change by which a placeholder is in sync (CfSetInSyncState), none where it is so already. Refused as NotPlaceholder,
 /// then as UsnMismatch with the item's number where another number is given; 0.0 marks whatever the item's number is.
-pub fn plan_mark(alloc: Global, row: &Row, number: Usn) -> Result<Sequence<Change>, Fail>
+pub fn plan_mark(alloc: Global, row: &Row, number: Usn) -> Result<Sequence<Change>, CallError>
     ensures { (i : Item) → Means row.now i → IsPlan result (plan_mark i number) }
 {
     if let Err(code) = refuse_mark(row, number) {
-        return Err(Fail::No(code));
+        return Err(CallError::No(code));
     }
     if row.in_sync {
         return Ok(Sequence::new(alloc));
@@ -148,11 +148,11 @@ pub fn plan_mark(alloc: Global, row: &Row, number: Usn) -> Result<Sequence<Chang
 }
 
 /// The change by which a placeholder is no longer in sync, none where it is not. Refused as NotPlaceholder.
-pub fn plan_unmark(alloc: Global, row: &Row) -> Result<Sequence<Change>, Fail>
+pub fn plan_unmark(alloc: Global, row: &Row) -> Result<Sequence<Change>, CallError>
     ensures { (i : Item) → Means row.now i → IsPlan result (plan_unmark i) }
 {
     if let Err(code) = refuse_unmark(row) {
-        return Err(Fail::No(code));
+        return Err(CallError::No(code));
     }
     if !row.in_sync {
         return Ok(Sequence::new(alloc));
@@ -161,11 +161,11 @@ pub fn plan_unmark(alloc: Global, row: &Row) -> Result<Sequence<Change>, Fail>
 }
 
 /// The change by which a file is kept full, or no longer; none where its flag is so. Refused as IsDirectory, NotPlaceholder.
-pub fn plan_keep(alloc: Global, row: &Row, on: bool) -> Result<Sequence<Change>, Fail>
+pub fn plan_keep(alloc: Global, row: &Row, on: bool) -> Result<Sequence<Change>, CallError>
     ensures { (i : Item) → Means row.now i → IsPlan result (plan_keep i on) }
 {
     if let Err(code) = refuse_keep(row) {
-        return Err(Fail::No(code));
+        return Err(CallError::No(code));
     }
     if row.keep == on {
         return Ok(Sequence::new(alloc));

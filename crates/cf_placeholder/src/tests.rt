@@ -1,7 +1,7 @@
 //! That the plans come where there is memory, each refusal in its turn.
 
 use crate::*;
-use cf_base::Fail::No;
+use cf_base::CallError::No;
 use cf_base::{Change, Code, Hydration, Identity, ItemId, Kind, Name, Policy, Population, Usn};
 use cf_table::{NO_USN, Row, Rows};
 use std::alloc::Global;

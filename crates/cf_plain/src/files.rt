@@ -4,7 +4,7 @@ ghost use Rattle.std.specs.Prelude.{◌≡◌, ℕ, ◌<◌, ◌+◌, ◌^◌, L
 ghost use Rattle.cf_base.specs.declared.answers.Shown.TheVariants.{Remote};
 ghost use Rattle.cf_plain.specs.Worlds.{place_of, version_at, with_version, put_at, put_shown};
 
-use cf_base::{Blob, Memory, Rid, Sequence, Shown, Text, Version};
+use cf_base::{Blob, OutOfMemory, Rid, Sequence, Shown, Text, Version};
 use std::alloc::Global;
 use std::collections::BTreeMap;
 use std::marker::Model;
@@ -67,7 +67,7 @@ impl Files {
     }
 
     /// The latest version of each file, in order.
-    pub fn latest(&self, alloc: Global) -> Result<Vec<u64>, Memory>
+    pub fn latest(&self, alloc: Global) -> Result<Vec<u64>, OutOfMemory>
         ensures { IfOk result (λ v. v.items ≡ map (λ f. length f.versions) self.now) }
     {
         latest_of(alloc, self.files.as_slice())
@@ -75,7 +75,7 @@ impl Files {
 
     /// Puts the next version of the file of this name, or the first one of a new file at the end. Shows the file's
     /// number and the version.
-    pub fn put(&mut self, alloc: Global, name: &str, bytes: Blob) -> Result<Shown, Memory>
+    pub fn put(&mut self, alloc: Global, name: &str, bytes: Blob) -> Result<Shown, OutOfMemory>
         ensures shown { IfOk result (λ s. s ≡ put_shown (place_of name.now self.old) self.old) }
         ensures ok { OnOk result (self.new ≡ put_at (place_of name.now self.old) name.now bytes self.old) }
         ensures err { OnErr result (self.new ≡ self.old) }
@@ -86,7 +86,7 @@ impl Files {
         }
     }
 
-    fn add_version(&mut self, place: usize, bytes: Blob) -> Result<Shown, Memory>
+    fn add_version(&mut self, place: usize, bytes: Blob) -> Result<Shown, OutOfMemory>
         requires { place < length self.old }
         ensures shown { IfOk result (λ s. s ≡ put_shown (Some place) self.old) }
         ensures ok { OnOk result (self.new ≡ with_version place bytes self.old) }
@@ -96,7 +96,7 @@ impl Files {
         Ok(shown(place, version))
     }
 
-    fn add_file(&mut self, alloc: Global, name: &str, bytes: Blob) -> Result<Shown, Memory>
+    fn add_file(&mut self, alloc: Global, name: &str, bytes: Blob) -> Result<Shown, OutOfMemory>
         requires { place_of name.now self.old ≡ None }
         ensures shown { IfOk result (λ s. s ≡ put_shown None self.old) }
         ensures ok { OnOk result (self.new ≡ put_at None name.now bytes self.old) }
@@ -112,7 +112,7 @@ impl Files {
     }
 }
 
-fn latest_of(alloc: Global, files: &[RemoteFile]) -> Result<Vec<u64>, Memory>
+fn latest_of(alloc: Global, files: &[RemoteFile]) -> Result<Vec<u64>, OutOfMemory>
     ensures { IfOk result (λ v. v.items ≡ map (λ f. length f.versions) files.now) }
 {
     let mut latest = Vec::new(alloc);
@@ -134,7 +134,7 @@ fn shown(place: usize, version: u64) -> Shown
 }
 
 /// Adds a version, and tells its number.
-fn push_version(file: &mut RemoteFile, bytes: Blob) -> Result<u64, Memory>
+fn push_version(file: &mut RemoteFile, bytes: Blob) -> Result<u64, OutOfMemory>
     ensures ok { OnOk result (file.new ≡ record { name = file.old.name; versions = file.old.versions ++ bytes ∷ [] }) }
     ensures number { IfOk result (λ n. n ≡ length file.old.versions + 1) }
     ensures err { OnErr result (file.new ≡ file.old) }
@@ -144,7 +144,7 @@ fn push_version(file: &mut RemoteFile, bytes: Blob) -> Result<u64, Memory>
     Ok(before + 1)
 }
 
-fn new_file(alloc: Global, name: &str, bytes: Blob) -> Result<RemoteFile, Memory>
+fn new_file(alloc: Global, name: &str, bytes: Blob) -> Result<RemoteFile, OutOfMemory>
     ensures { IfOk result (λ f. f ≡ record { name = name.now; versions = bytes ∷ [] }) }
 {
     let name = Text::from_str(alloc, name)?;

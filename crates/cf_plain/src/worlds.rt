@@ -13,7 +13,7 @@ ghost use Rattle.cf_plain.specs.Worlds.{State, start, name_of, known, span_of, s
 
 use crate::files::Files;
 use cf_base::{
-    Answer, Blob, Call, Code, End, EngineEvent, Event, Fail, Memory, Mode, Name, PeerEvent,
+    Answer, Blob, Call, Code, End, EngineEvent, Event, CallError, OutOfMemory, Mode, Name, PeerEvent,
     Sequence, Shown, Text,
 };
 use std::alloc::Global;
@@ -49,7 +49,7 @@ impl PlainWorld {
     }
 
     /// Does an event, and answers it. For want of memory all is as before.
-    pub fn step(&mut self, alloc: Global, event: &Event) -> Result<Answer, Memory>
+    pub fn step(&mut self, alloc: Global, event: &Event) -> Result<Answer, OutOfMemory>
         requires { IsTrue (is_built Mode.Replay event.now) }
         ensures lawful { IfOk result (IsAnswer self.old event.now) }
         ensures left { IfOk result (λ a. self.new ≡ left_by self.old event.now a.shown) }
@@ -63,7 +63,7 @@ impl PlainWorld {
         })
     }
 
-    fn show(&mut self, alloc: Global, event: &Event) -> Result<Shown, Memory>
+    fn show(&mut self, alloc: Global, event: &Event) -> Result<Shown, OutOfMemory>
         requires { IsTrue (is_built Mode.Replay event.now) }
         ensures shown { IfOk result (λ s. shown_of self.old event.now ≡ Some s) }
         ensures left { IfOk result (λ s. self.new ≡ left_by self.old event.now s) }
@@ -77,7 +77,7 @@ impl PlainWorld {
         }
     }
 
-    fn put(&mut self, alloc: Global, path: &Text, bytes: &Blob) -> Result<Shown, Memory>
+    fn put(&mut self, alloc: Global, path: &Text, bytes: &Blob) -> Result<Shown, OutOfMemory>
         requires { IsTrue (is_one_name path.now) }
         ensures shown { IfOk result (λ s. shown_of self.old (events.Peer (peer.Put path.now bytes.now)) ≡ Some s) }
         ensures left { IfOk result (λ s. self.new ≡ left_by self.old (events.Peer (peer.Put path.now bytes.now)) s) }
@@ -93,7 +93,7 @@ impl PlainWorld {
         self.remote.put(alloc, name, bytes.copy()?)
     }
 
-    fn sync(&mut self, alloc: Global) -> Result<Shown, Memory>
+    fn sync(&mut self, alloc: Global) -> Result<Shown, OutOfMemory>
         ensures shown { IfOk result (λ s. shown_of self.old (events.Engine engine.Sync) ≡ Some s) }
         ensures left { IfOk result (λ s. self.new ≡ left_by self.old (events.Engine engine.Sync) s) }
         ensures err { OnErr result (self.new ≡ self.old) }
@@ -102,7 +102,7 @@ impl PlainWorld {
         Ok(Shown::Count(0))
     }
 
-    fn get(&self, alloc: Global, path: &Text, offset: u32, len: u32) -> Result<Shown, Memory>
+    fn get(&self, alloc: Global, path: &Text, offset: u32, len: u32) -> Result<Shown, OutOfMemory>
         requires { IsTrue (is_one_name path.now) }
         ensures shown { IfOk result (λ s. shown_of self.now (events.Call (call.Get path.now offset len)) ≡ Some s) }
     {
@@ -138,13 +138,13 @@ fn name_of(path: &str) -> &str
     }
 }
 
-fn is_name(alloc: Global, name: &str) -> Result<bool, Memory>
+fn is_name(alloc: Global, name: &str) -> Result<bool, OutOfMemory>
     ensures { IfOk result (λ b. b ≡ is_name name.now) }
 {
     match Name::read(alloc, name.as_bytes()) {
         Ok(_name) => Ok(true),
-        Err(Fail::No(_code)) => Ok(false),
-        Err(Fail::Memory) => Err(Memory),
+        Err(CallError::No(_code)) => Ok(false),
+        Err(CallError::OutOfMemory) => Err(OutOfMemory),
     }
 }
 

@@ -4,10 +4,10 @@ use Rattle.cf_base.specs.declared.answers.Shown.{Shown}
 use Rattle.cf_base.specs.declared.answers.Shown.TheVariants as shown
 use Rattle.cf_base.specs.declared.codes.Code.{Code}
 use Rattle.cf_base.specs.declared.codes.Code.TheVariants as code
-use Rattle.cf_base.specs.declared.codes.Fail.{Fail}
-use Rattle.cf_base.specs.declared.codes.Fail.TheVariants.{No, Memory}
+use Rattle.cf_base.specs.declared.codes.CallError.{CallError}
+use Rattle.cf_base.specs.declared.codes.CallError.TheVariants.{No, OutOfMemory}
 use Rattle.cf_base.specs.declared.items.SeenPath.{SeenPath}
-use Rattle.cf_base.specs.declared.memory.Memory.{Memory as NoMemory}
+use Rattle.cf_base.specs.declared.memory.OutOfMemory.{OutOfMemory as NoMemory}
 use Rattle.cf_base.specs.declared.notices.Notice.{Notice}
 use Rattle.cf_base.specs.declared.notices.Notice.TheVariants as notice
 use Rattle.cf_base.specs.declared.operations.Operation.{Operation}
@@ -25,10 +25,10 @@ refused_by seen op code.Device = Failed seen op
 refused_by seen op c = Did seen op (shown.Refused c)
 
 -- The operation, with these paths seen, led from the one state to the other, with this result. Without memory no act did.
-abbrev pub Executes : {X : Type 0} → (X → List Act → X → Type 0) → List SeenPath → Operation → X → Result Outcome Fail → X → Type 0
+abbrev pub Executes : {X : Type 0} → (X → List Act → X → Type 0) → List SeenPath → Operation → X → Result Outcome CallError → X → Type 0
 Executes goes seen op old (Ok o) new = goes old (Did seen op (shown_of o) ∷ []) new
 Executes goes seen op old (Err (No c)) new = goes old (refused_by seen op c ∷ []) new
-Executes goes seen op old (Err Memory) new = goes old [] new
+Executes goes seen op old (Err OutOfMemory) new = goes old [] new
 
 -- The note was added, and nothing else happened. Without memory no act did.
 abbrev pub Notes : {X : Type 0} → (X → List Act → X → Type 0) → Notice → X → Result (Unit {0}) NoMemory → X → Type 0

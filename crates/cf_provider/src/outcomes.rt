@@ -3,7 +3,7 @@
 use cf_base::{Ask, Blob, Identity};
 
 /// What an accepted operation gives.
-#[derive(Debug, Drop)]
+#[derive(Drop)]
 pub enum Outcome {
     Done,
     /// The bytes that were retrieved.
@@ -11,7 +11,7 @@ pub enum Outcome {
 }
 
 /// A question to the provider, with the identity and the base length that the item has when it is called.
-#[derive(Debug, Drop)]
+#[derive(Drop)]
 pub struct Callback {
     pub ask: Ask,
     pub identity: Identity,

@@ -7,7 +7,7 @@ ghost use Rattle.cf_model.specs.Ports.{Act};
 ghost use Rattle.cf_model.specs.Requests.{live_of};
 
 use crate::outcomes::{Callback, Outcome};
-use cf_base::{Ask, AuxRecord, Fail, Key, Memory, Notice, Operation, SeenPath};
+use cf_base::{Ask, AuxRecord, CallError, Key, OutOfMemory, Notice, Operation, SeenPath};
 use cf_table::Rows;
 
 /// What a provider acts on inside a callback. A port says by `goes` what its acts do to it.
@@ -20,17 +20,17 @@ pub trait Port {
 
     /// Does an operation, or refuses it. Refused as `check` and the operation's row say, and as Broken and Device. Without
     /// memory `goes` tells of no act.
-    fn execute(&mut self, op: &Operation) -> Result<Outcome, Fail>
+    fn execute(&mut self, op: &Operation) -> Result<Outcome, CallError>
         ensures { Executes goes [] op.now self.old result self.new };
 
     /// Does an operation, or refuses it, as `execute` does. Where it is Entries, these paths are seen in the same step as the
     /// last of its changes, and it is refused as TableFull also where the table would be full with their records.
-    fn execute_seeing(&mut self, op: &Operation, seen: &[SeenPath]) -> Result<Outcome, Fail>
+    fn execute_seeing(&mut self, op: &Operation, seen: &[SeenPath]) -> Result<Outcome, CallError>
         ensures { Executes goes seen.now op.now self.old result self.new };
 
     /// Adds a note: an operation's answer, a message, a fault or a step that was left out. Without memory `goes` tells of
     /// no act.
-    fn note(&mut self, n: Notice) -> Result<(), Memory>
+    fn note(&mut self, n: Notice) -> Result<(), OutOfMemory>
         requires { is_note n ≡ true }
         ensures { Notes goes n self.old result self.new };
 
@@ -59,6 +59,6 @@ pub trait Provider {
     ghost answers: { Self → Sight → Callback → List Act → Self → Type 0 };
 
     /// Answers, by operations and notes of the port. Without memory it has done some of them.
-    fn on_callback<P: Port>(&mut self, call: &Callback, port: &mut P) -> Result<(), Memory>
+    fn on_callback<P: Port>(&mut self, call: &Callback, port: &mut P) -> Result<(), OutOfMemory>
         ensures { (acts : List Act) × P.goes port.old acts port.new × (is_ok result ≡ true → answers self.old (P.sight port.old) call.now acts self.new) };
 }

@@ -5,14 +5,14 @@ ghost use Rattle.cf_model.specs.Requests.{none_waiting};
 
 use crate::outcomes::Outcome;
 use crate::ports::Port;
-use cf_base::{Ask, AuxRecord, Fail, Key, Memory, Notice, Operation, SeenPath, Sequence};
+use cf_base::{Ask, AuxRecord, CallError, Key, OutOfMemory, Notice, Operation, SeenPath, Sequence};
 use cf_waits::Requests;
 use cf_table::Rows;
 use std::alloc::Global;
 use std::marker::Model;
 
 /// One thing that a provider did.
-#[derive(Debug, Drop)]
+#[derive(Drop)]
 pub enum Kept {
     /// With the paths that are seen in the same step.
     Done(Operation, Sequence<SeenPath>),
@@ -21,7 +21,7 @@ pub enum Kept {
 
 /// A port that answers each operation as done, and does nothing but keep what a provider did. No ask is live on it, and it has
 /// no auxiliary records.
-#[derive(Debug, Drop)]
+#[derive(Drop)]
 pub struct Recorder {
     acts: Vec<Kept>,
     rows: Rows,
@@ -58,7 +58,7 @@ impl Recorder {
     }
 }
 
-fn copies(alloc: Global, seen: &[SeenPath]) -> Result<Sequence<SeenPath>, Memory>
+fn copies(alloc: Global, seen: &[SeenPath]) -> Result<Sequence<SeenPath>, OutOfMemory>
     ensures { IfOk result (λ s. s ≡ seen.now) }
 {
     let mut copies = Sequence::new(alloc);
@@ -75,18 +75,18 @@ impl Port for Recorder {
 
     ghost sight = { λ p. p.sight };
 
-    fn execute(&mut self, op: &Operation) -> Result<Outcome, Fail> {
+    fn execute(&mut self, op: &Operation) -> Result<Outcome, CallError> {
         self.execute_seeing(op, &[])
     }
 
-    fn execute_seeing(&mut self, op: &Operation, seen: &[SeenPath]) -> Result<Outcome, Fail> {
+    fn execute_seeing(&mut self, op: &Operation, seen: &[SeenPath]) -> Result<Outcome, CallError> {
         let alloc = *self.acts.allocator();
         let kept = Kept::Done(op.copy()?, copies(alloc, seen)?);
         self.acts.push(kept)?;
         Ok(Outcome::Done)
     }
 
-    fn note(&mut self, n: Notice) -> Result<(), Memory> {
+    fn note(&mut self, n: Notice) -> Result<(), OutOfMemory> {
         self.acts.push(Kept::Note(n))?;
         Ok(())
     }

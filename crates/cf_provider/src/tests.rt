@@ -8,7 +8,7 @@ ghost use Rattle.cf_model.specs.Ports.{Act};
 use super::*;
 use cf_ask_rule::View;
 use cf_base::{
-    Ask, AskKind, Blob, Code, Fail, Identity, ItemId, Key, Memory, Name, Operation, Rid, SeenPath,
+    Ask, AskKind, Blob, Code, CallError, Identity, ItemId, Key, OutOfMemory, Name, Operation, Rid, SeenPath,
     Sequence, Span, WaitKind,
 };
 use cf_ranges::RangeSet;
@@ -22,7 +22,7 @@ const KEY: Key = Key {
 };
 
 /// Consents to whatever it is asked.
-#[derive(Debug, Drop)]
+#[derive(Drop)]
 struct Consents {
     answered: bool,
 }
@@ -30,7 +30,7 @@ struct Consents {
 impl Provider for Consents {
     ghost answers = { λ p sight call acts q. operations acts ≡ operation.AckDehydrate call.ask.key true ∷ [] };
 
-    fn on_callback<P: Port>(&mut self, call: &Callback, port: &mut P) -> Result<(), Memory> {
+    fn on_callback<P: Port>(&mut self, call: &Callback, port: &mut P) -> Result<(), OutOfMemory> {
         let consent = Operation::AckDehydrate {
             key: call.ask.key,
             good: true,
@@ -38,8 +38,8 @@ impl Provider for Consents {
         self.answered = true;
         match port.execute(&consent) {
             Ok(_) => Ok(()),
-            Err(Fail::No(_)) => Ok(()),
-            Err(Fail::Memory) => Err(Memory),
+            Err(CallError::No(_)) => Ok(()),
+            Err(CallError::OutOfMemory) => Err(OutOfMemory),
         }
     }
 }
@@ -59,7 +59,7 @@ fn entries(alloc: std::alloc::Global) -> Operation {
     }
 }
 
-fn transfer(alloc: std::alloc::Global, at: u64, bytes: &[u8]) -> Result<Operation, Memory> {
+fn transfer(alloc: std::alloc::Global, at: u64, bytes: &[u8]) -> Result<Operation, OutOfMemory> {
     Ok(Operation::Transfer {
         key: KEY,
         at,
@@ -68,7 +68,7 @@ fn transfer(alloc: std::alloc::Global, at: u64, bytes: &[u8]) -> Result<Operatio
 }
 
 #[test]
-fn a_provider_answers_inside_the_callback(rt: HostRuntime) -> Result<(), test::Fail> {
+fn a_provider_answers_inside_the_callback(rt: HostRuntime) -> Result<(), test::CallError> {
     let mut port = Recorder::new(rt.alloc(), Rows::new(rt.alloc())?);
     let ask = Ask {
         key: KEY,
@@ -92,7 +92,7 @@ fn a_provider_answers_inside_the_callback(rt: HostRuntime) -> Result<(), test::F
 }
 
 #[test]
-fn paths_are_seen_with_the_operation(rt: HostRuntime) -> Result<(), test::Fail> {
+fn paths_are_seen_with_the_operation(rt: HostRuntime) -> Result<(), test::CallError> {
     let mut port = Recorder::new(rt.alloc(), Rows::new(rt.alloc())?);
     let seen = SeenPath {
         item: ItemId(2),
@@ -108,7 +108,7 @@ fn paths_are_seen_with_the_operation(rt: HostRuntime) -> Result<(), test::Fail> 
 }
 
 #[test]
-fn a_span_is_tested_before_the_blocks_are(rt: HostRuntime) -> Result<(), test::Fail> {
+fn a_span_is_tested_before_the_blocks_are(rt: HostRuntime) -> Result<(), test::CallError> {
     let none = RangeSet::new(rt.alloc());
     let v = View {
         here: &none,
@@ -147,7 +147,7 @@ fn a_span_is_tested_before_the_blocks_are(rt: HostRuntime) -> Result<(), test::F
 }
 
 #[test]
-fn an_operation_names_its_ask(rt: HostRuntime) -> Result<(), test::Fail> {
+fn an_operation_names_its_ask(rt: HostRuntime) -> Result<(), test::CallError> {
     let early = transfer(rt.alloc(), 0, b"aaaa")?;
     assert_eq!(rt; key_of(&early), KEY);
     Ok(())

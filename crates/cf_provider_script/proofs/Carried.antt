@@ -7,10 +7,10 @@ use Rattle.cf_base.specs.declared.answers.Shown.{Shown}
 use Rattle.cf_base.specs.declared.answers.Shown.TheVariants as shown
 use Rattle.cf_base.specs.declared.codes.Code.{Code}
 use Rattle.cf_base.specs.declared.codes.Code.TheVariants as code
-use Rattle.cf_base.specs.declared.codes.Fail.{Fail}
-use Rattle.cf_base.specs.declared.codes.Fail.TheVariants.{No, Memory}
+use Rattle.cf_base.specs.declared.codes.CallError.{CallError}
+use Rattle.cf_base.specs.declared.codes.CallError.TheVariants.{No, OutOfMemory}
 use Rattle.cf_base.specs.declared.ids.Key.{Key}
-use Rattle.cf_base.specs.declared.memory.Memory.{Memory as NoMemory}
+use Rattle.cf_base.specs.declared.memory.OutOfMemory.{OutOfMemory as NoMemory}
 use Rattle.cf_base.specs.declared.notices.Notice.{Notice}
 use Rattle.cf_base.specs.declared.notices.Notice.TheVariants as notice
 use Rattle.cf_base.specs.declared.notices.OperationAnswer.{OperationAnswer}
@@ -42,22 +42,22 @@ module _ {X : Type 0} (goes : X → List Act → X → Type 0) where
   -- an operation
 
   -- memory ran out
-  pub not_done : (op : Operation) (old new : X) (told : Result Outcome Fail) (e : NoMemory) (r : Result Bool NoMemory) → Executes goes [] op old told new → Lines told (Err e) → IsErrAnd r (λ y. y ≡ e) → Carries goes op old r new
+  pub not_done : (op : Operation) (old new : X) (told : Result Outcome CallError) (e : NoMemory) (r : Result Bool NoMemory) → Executes goes [] op old told new → Lines told (Err e) → IsErrAnd r (λ y. y ≡ e) → Carries goes op old r new
   not_done op old new (Ok o) e r h lines is = absurd lines
   not_done op old new (Err (No c)) e r h lines is = absurd lines
-  not_done op old new (Err Memory) e r h lines is = let p = err_from_is_err_and r is in subst (λ (o : Result Bool NoMemory). Carries goes op old o new) (sym p.1) ([], record {}, h)
+  not_done op old new (Err OutOfMemory) e r h lines is = let p = err_from_is_err_and r is in subst (λ (o : Result Bool NoMemory). Carries goes op old o new) (sym p.1) ([], record {}, h)
 
-  pub met_device : (op : Operation) (old new : X) (told : Result Outcome Fail) (line : Option OperationAnswer) → Executes goes [] op old told new → Lines told (Ok line) → line ≡ None → goes old (Failed [] op ∷ []) new
+  pub met_device : (op : Operation) (old new : X) (told : Result Outcome CallError) (line : Option OperationAnswer) → Executes goes [] op old told new → Lines told (Ok line) → line ≡ None → goes old (Failed [] op ∷ []) new
   met_device op old new (Ok o) line h is none = some_none (sym is ∙ none)
   met_device op old new (Err (No c)) line h is none = by (is_device c) (subst (λ (a : Act). goes old (a ∷ []) new) (refused_is op c) h) (sym is ∙ none)
     where
       by : (b : Bool) → goes old (cond b (Failed [] op) (Did [] op (shown.Refused c)) ∷ []) new → cond b None (Some (operation_answer.Refused c)) ≡ None → goes old (Failed [] op ∷ []) new
       by true g e = g
       by false g e = some_none e
-  met_device op old new (Err Memory) line h is none = absurd is
+  met_device op old new (Err OutOfMemory) line h is none = absurd is
 
   -- an operation that has a line
-  was_told : (op : Operation) (old new : X) (told : Result Outcome Fail) (line : Option OperationAnswer) (a : OperationAnswer) → Executes goes [] op old told new → Lines told (Ok line) → line ≡ Some a
+  was_told : (op : Operation) (old new : X) (told : Result Outcome CallError) (line : Option OperationAnswer) (a : OperationAnswer) → Executes goes [] op old told new → Lines told (Ok line) → line ≡ Some a
       → (answer : Shown) × (operation_line answer ≡ a) × goes old (Did [] op answer ∷ []) new
   was_told op old new (Ok o) line a h is some = (shown_of o, same_some (operation_line (shown_of o)) a (sym is ∙ some), h)
   was_told op old new (Err (No c)) line a h is some = by (is_device c) (subst (λ (x : Act). goes old (x ∷ []) new) (refused_is op c) h) (sym is ∙ some)
@@ -65,19 +65,19 @@ module _ {X : Type 0} (goes : X → List Act → X → Type 0) where
       by : (b : Bool) → goes old (cond b (Failed [] op) (Did [] op (shown.Refused c)) ∷ []) new → cond b None (Some (operation_answer.Refused c)) ≡ Some a → (answer : Shown) × (operation_line answer ≡ a) × goes old (Did [] op answer ∷ []) new
       by true g e = none_some e
       by false g e = (shown.Refused c, same_some (operation_answer.Refused c) a e, g)
-  was_told op old new (Err Memory) line a h is some = absurd is
+  was_told op old new (Err OutOfMemory) line a h is some = absurd is
 
   carries_as : (op other : Operation) (b w : Bool) (old new : X) → op ≡ other → b ≡ w → Carries goes op old (Ok b) new → Carries goes other old (Ok w) new
   carries_as op other b w old new same is h = subst (λ (o : Operation). Carries goes o old (Ok w) new) same (subst (λ (x : Bool). Carries goes op old (Ok x) new) is h)
 
   module _ (on : (p q r : X) (acts more : List Act) → goes p acts q → goes q more r → goes p (acts ++ more) r) where
-    pub was_done : (op : Operation) (old mid new : X) (told : Result Outcome Fail) (line : Option OperationAnswer) (a : OperationAnswer) → Executes goes [] op old told mid → Lines told (Ok line) → line ≡ Some a
+    pub was_done : (op : Operation) (old mid new : X) (told : Result Outcome CallError) (line : Option OperationAnswer) (a : OperationAnswer) → Executes goes [] op old told mid → Lines told (Ok line) → line ≡ Some a
         → goes mid (Noted (notice.Operation a) ∷ []) new → (answer : Shown) × goes old (Did [] op answer ∷ Noted (line_of answer) ∷ []) new
     was_done op old mid new told line a h is some noted =
         let t = was_told op old mid told line a h is some in
         (t.0, on old mid new (Did [] op t.0 ∷ []) (Noted (line_of t.0) ∷ []) t.2 (subst (λ (z : OperationAnswer). goes mid (Noted (notice.Operation z) ∷ []) new) (sym t.1) noted))
 
-    pub no_line : (op : Operation) (old mid new : X) (told : Result Outcome Fail) (line : Option OperationAnswer) (a : OperationAnswer) (n : Notice) (e : NoMemory) (r : Result Bool NoMemory) → Executes goes [] op old told mid → Lines told (Ok line)
+    pub no_line : (op : Operation) (old mid new : X) (told : Result Outcome CallError) (line : Option OperationAnswer) (a : OperationAnswer) (n : Notice) (e : NoMemory) (r : Result Bool NoMemory) → Executes goes [] op old told mid → Lines told (Ok line)
         → line ≡ Some a → Notes goes n mid (Err e) new → IsErrAnd r (λ y. y ≡ e) → Carries goes op old r new
     no_line op old mid new told line a n e r h is some noted err =
         let p = err_from_is_err_and r err in let t = was_told op old mid told line a h is some in

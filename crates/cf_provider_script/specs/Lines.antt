@@ -2,10 +2,10 @@
 use Rattle.std.specs.Prelude.{Bool, true, false, cond, List, [], ◌∷◌, ◌++◌, ◌≡◌, ◌⊎◌, Option, Some, None, Result, Ok, Err}
 use Rattle.cf_base.specs.declared.answers.Shown.{Shown}
 use Rattle.cf_base.specs.declared.codes.Code.{Code}
-use Rattle.cf_base.specs.declared.codes.Fail.{Fail}
-use Rattle.cf_base.specs.declared.codes.Fail.TheVariants.{No, Memory}
+use Rattle.cf_base.specs.declared.codes.CallError.{CallError}
+use Rattle.cf_base.specs.declared.codes.CallError.TheVariants.{No, OutOfMemory}
 use Rattle.cf_base.specs.declared.ids.Key.{Key}
-use Rattle.cf_base.specs.declared.memory.Memory.{Memory as NoMemory}
+use Rattle.cf_base.specs.declared.memory.OutOfMemory.{OutOfMemory as NoMemory}
 use Rattle.cf_base.specs.declared.notices.Notice.{Notice}
 use Rattle.cf_base.specs.declared.notices.Notice.TheVariants as notice
 use Rattle.cf_base.specs.declared.notices.OperationAnswer.{OperationAnswer}
@@ -39,11 +39,11 @@ abbrev pub refused_line : Code → Option OperationAnswer
 refused_line c = cond (is_device c) None (Some (operation_answer.Refused c))
 
 -- the line of an operation that ended so, if it has one; memory runs out only with the operation
-abbrev pub Lines : Result Outcome Fail → Result (Option OperationAnswer) NoMemory → Type 0
+abbrev pub Lines : Result Outcome CallError → Result (Option OperationAnswer) NoMemory → Type 0
 Lines (Ok o) (Ok line) = line ≡ Some (operation_line (shown_of o))
 Lines (Err (No c)) (Ok line) = line ≡ refused_line c
-Lines (Err Memory) (Ok line) = ⊥
-Lines (Err Memory) (Err e) = Unit {0}
+Lines (Err OutOfMemory) (Ok line) = ⊥
+Lines (Err OutOfMemory) (Err e) = Unit {0}
 Lines told (Err e) = ⊥
 
 -- What is done of an operation and its line when memory runs out: nothing, or the operation without its line.

@@ -3,7 +3,7 @@
 ghost use Rattle.std.specs.Prelude.{◌≡◌};
 ghost use Rattle.cf_provider_script.specs.Lines.{Carries, Lines, refused_line};
 
-use cf_base::{Code, Fail, Memory, Notice, Operation, OperationAnswer};
+use cf_base::{Code, CallError, OutOfMemory, Notice, Operation, OperationAnswer};
 use cf_provider::{Outcome, Port};
 
 // The line of a refused operation. One that met the device has none.
@@ -17,20 +17,20 @@ fn refused_line(code: Code) -> Option<OperationAnswer>
 }
 
 // The line of an operation, if it has one.
-fn line_of(told: Result<Outcome, Fail>) -> Result<Option<OperationAnswer>, Memory>
+fn line_of(told: Result<Outcome, CallError>) -> Result<Option<OperationAnswer>, OutOfMemory>
     ensures { Lines told result }
 {
     match told {
         Ok(Outcome::Done) => Ok(Some(OperationAnswer::Done)),
         Ok(Outcome::Data(bytes)) => Ok(Some(OperationAnswer::Data(bytes))),
-        Err(Fail::No(code)) => Ok(refused_line(code)),
-        Err(Fail::Memory) => Err(Memory),
+        Err(CallError::No(code)) => Ok(refused_line(code)),
+        Err(CallError::OutOfMemory) => Err(OutOfMemory),
     }
 }
 
 /// Does an operation and notes its answer. Gives whether more operations may follow: none does after one that met the
 /// device.
-pub(crate) fn carry_out<P: Port>(op: Operation, port: &mut P) -> Result<bool, Memory>
+pub(crate) fn carry_out<P: Port>(op: Operation, port: &mut P) -> Result<bool, OutOfMemory>
     ensures { Carries P.goes op port.old result port.new }
 {
     let told = port.execute(&op);

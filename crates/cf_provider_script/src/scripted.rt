@@ -4,7 +4,7 @@ ghost use Rattle.std.specs.Prelude.{◌≡◌};
 ghost use Rattle.cf_model.specs.Callbacks.{planned_on, with_key};
 
 use crate::carrying::carry_out;
-use cf_base::{Key, Memory, Operation};
+use cf_base::{Key, OutOfMemory, Operation};
 use cf_provider::{Callback, Port, Provider};
 use std::alloc::Global;
 use std::collections::VecDeque;
@@ -12,7 +12,7 @@ use std::marker::Model;
 
 /// An operation that a script planned. Where `own` is set it answers the callback inside which it is done, whatever key it
 /// names.
-#[derive(Debug, Drop)]
+#[derive(Drop)]
 pub struct Planned {
     pub own: bool,
     pub operation: Operation,
@@ -75,7 +75,7 @@ impl Planned {
 }
 
 /// The provider that does what a script planned.
-#[derive(Debug, Drop)]
+#[derive(Drop)]
 pub struct Scripted {
     planned: VecDeque<Planned>,
 }
@@ -102,7 +102,7 @@ impl Scripted {
     }
 
     /// Plans an operation after those that are planned. Without memory the plan is as before.
-    pub fn plan(&mut self, planned: Planned) -> Result<(), Memory>
+    pub fn plan(&mut self, planned: Planned) -> Result<(), OutOfMemory>
         ensures ok { OnOk result (self.new ≡ self.old ++ planned ∷ []) }
         ensures err { OnErr result (self.new ≡ self.old) }
     {
@@ -131,7 +131,7 @@ impl Provider for Scripted {
 
     ghost answers = { Answers };
 
-    fn on_callback<P: Port>(&mut self, call: &Callback, port: &mut P) -> Result<(), Memory> {
+    fn on_callback<P: Port>(&mut self, call: &Callback, port: &mut P) -> Result<(), OutOfMemory> {
         while let Some(planned) = self.next() {
             let may_go_on = carry_out(planned.on(call.ask.key), port)?;
             if !may_go_on {

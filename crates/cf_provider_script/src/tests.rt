@@ -2,7 +2,7 @@
 
 use super::*;
 use cf_base::{
-    Ask, AskKind, AuxRecord, Blob, Code, Fail, Identity, ItemId, Key, Memory, Notice, Operation,
+    Ask, AskKind, AuxRecord, Blob, Code, CallError, Identity, ItemId, Key, OutOfMemory, Notice, Operation,
     OperationAnswer, SeenPath, Sequence, Span,
 };
 use cf_provider::{Callback, Kept, Outcome, Port, Provider, Recorder, key_of};
@@ -37,11 +37,11 @@ impl Port for Refuses {
 
     ghost sight = { λ p. record { table = p.rows; waiting = p.requests; records = p.records.items } };
 
-    fn execute(&mut self, op: &Operation) -> Result<Outcome, Fail> {
+    fn execute(&mut self, op: &Operation) -> Result<Outcome, CallError> {
         self.execute_seeing(op, &[])
     }
 
-    fn execute_seeing(&mut self, op: &Operation, seen: &[SeenPath]) -> Result<Outcome, Fail> {
+    fn execute_seeing(&mut self, op: &Operation, seen: &[SeenPath]) -> Result<Outcome, CallError> {
         let _ = op;
         let _ = seen;
         if self.done >= self.codes.len() {
@@ -49,10 +49,10 @@ impl Port for Refuses {
         }
         let code = self.codes[self.done];
         self.done += 1;
-        Err(Fail::No(code))
+        Err(CallError::No(code))
     }
 
-    fn note(&mut self, n: Notice) -> Result<(), Memory> {
+    fn note(&mut self, n: Notice) -> Result<(), OutOfMemory> {
         match n {
             Notice::Operation { answer } => self.lines.push(answer)?,
             _ => {}
@@ -77,7 +77,7 @@ impl Port for Refuses {
     ghost goes_on = { λ p q r acts more h k. record {} };
 }
 
-fn callback(alloc: Global) -> Result<Callback, Memory> {
+fn callback(alloc: Global) -> Result<Callback, OutOfMemory> {
     let ask = Ask {
         key: KEY,
         kind: AskKind::Fetch,
@@ -92,7 +92,7 @@ fn callback(alloc: Global) -> Result<Callback, Memory> {
 }
 
 // One of each kind, on a key that stands for the callback's own, and one on an earlier key.
-fn all_kinds(alloc: Global) -> Result<Scripted, Memory> {
+fn all_kinds(alloc: Global) -> Result<Scripted, OutOfMemory> {
     let key = Key {
         epoch: 0,
         number: 0,
@@ -151,7 +151,7 @@ fn is_done_line(kept: &Kept) -> bool {
 }
 
 #[test]
-fn a_callback_does_the_whole_plan_under_its_key(rt: HostRuntime) -> Result<(), test::Fail> {
+fn a_callback_does_the_whole_plan_under_its_key(rt: HostRuntime) -> Result<(), test::CallError> {
     let mut provider = all_kinds(rt.alloc())?;
     let call = callback(rt.alloc())?;
     let mut port = Recorder::new(rt.alloc(), Rows::new(rt.alloc())?);
@@ -169,7 +169,7 @@ fn a_callback_does_the_whole_plan_under_its_key(rt: HostRuntime) -> Result<(), t
 }
 
 #[test]
-fn a_crash_forgets_the_plan(rt: HostRuntime) -> Result<(), test::Fail> {
+fn a_crash_forgets_the_plan(rt: HostRuntime) -> Result<(), test::CallError> {
     let mut provider = all_kinds(rt.alloc())?;
     provider.clear();
     let mut port = Recorder::new(rt.alloc(), Rows::new(rt.alloc())?);
@@ -181,7 +181,7 @@ fn a_crash_forgets_the_plan(rt: HostRuntime) -> Result<(), test::Fail> {
 #[test]
 fn a_plan_goes_on_after_a_refusal_and_ends_at_the_device(
     rt: HostRuntime,
-) -> Result<(), test::Fail> {
+) -> Result<(), test::CallError> {
     let mut provider = all_kinds(rt.alloc())?;
     let mut port = Refuses {
         rows: Rows::new(rt.alloc())?,

@@ -3,7 +3,7 @@ ghost use Rattle.std.specs.Prelude.{◌≡◌, ℕ, ◌+◌, ◌-◌, ◌^◌, �
 ghost use Rattle.cf_ranges.specs.Positions.{in_span};
 ghost use Rattle.cf_ranges.specs.Owned.{counting, is_owned, overlaps, TakesBlocks, GivesBack, OwnsAll};
 
-use cf_base::{Key, Memory, Span};
+use cf_base::{Key, OutOfMemory, Span};
 use std::alloc::Global;
 use std::marker::Model;
 
@@ -38,7 +38,7 @@ pub enum Spent {
 }
 
 /// The book of a file: its blocks that are owned. Contracts see their numbers, each once.
-#[derive(Debug, Drop)]
+#[derive(Drop)]
 pub struct Claims {
     owned: Vec<u64>,
 }
@@ -112,7 +112,7 @@ impl Claims {
     /// Claims blocks for an ask. None where one of them is owned already, and the book is as before then, as it is
     /// without memory.
     #[tactic(auto, using(crate::proofs::OwnedSets::owned_pushed))]
-    pub fn take(&mut self, key: Key, blocks: Span) -> Result<Option<Claim>, Memory>
+    pub fn take(&mut self, key: Key, blocks: Span) -> Result<Option<Claim>, OutOfMemory>
         requires { blocks.start + blocks.len ≤ 2 ^ 40 }
         ensures none { IfOk result (λ r. IsNone r ↔ IsTrue (overlaps self.old blocks)) }
         ensures claim { IfOk result (λ r. IfSome r (λ c. c ≡ (key, blocks))) }
@@ -156,7 +156,7 @@ fn is_any_owned(owned: &[u64], blocks: Span) -> bool
         .any(|b| blocks.start <= *b && *b < blocks.start + blocks.len)
 }
 
-fn push_blocks(owned: &mut Vec<u64>, blocks: Span) -> Result<(), Memory>
+fn push_blocks(owned: &mut Vec<u64>, blocks: Span) -> Result<(), OutOfMemory>
     requires { blocks.start + blocks.len ≤ 2 ^ 40 }
     ensures ok { OnOk result (owned.new.items ≡ owned.old.items ++ counting blocks.start blocks.len) }
     ensures err { OnErr result (owned.new.items ≡ owned.old.items) }
@@ -167,7 +167,7 @@ fn push_blocks(owned: &mut Vec<u64>, blocks: Span) -> Result<(), Memory>
             Ok(()) => {}
             Err(_) => {
                 owned.truncate(len);
-                return Err(Memory);
+                return Err(OutOfMemory);
             }
         }
     }

@@ -3,12 +3,12 @@ ghost use Rattle.std.specs.Prelude.{◌≡◌, ℕ, [], None, Some, OnOk, OnErr,
 ghost use Rattle.cf_ranges.specs.Pairs.{cluster_at, IsRising, Puts};
 
 use crate::pair_lists::{are_rising, lookup, put_pair, take_pair};
-use cf_base::Memory;
+use cf_base::OutOfMemory;
 use std::alloc::Global;
 use std::marker::Model;
 
 /// A finite map from blocks to clusters. Contracts see its pairs of block and cluster, in order of block.
-#[derive(Debug, Drop)]
+#[derive(Drop)]
 pub struct ExtentMap {
     pairs: Vec<(u32, u32)>,
 }
@@ -54,7 +54,7 @@ impl ExtentMap {
     }
 
     /// Makes the cluster that of the block, and gives the one before. Without memory the map is as before.
-    pub fn put(&mut self, block: u32, cluster: u32) -> Result<Option<u32>, Memory>
+    pub fn put(&mut self, block: u32, cluster: u32) -> Result<Option<u32>, OutOfMemory>
         ensures before { IfOk result (λ before. before ≡ cluster_at self.old block) }
         ensures ok { OnOk result (Puts self.old self.new block (Some cluster)) }
         ensures err { OnErr result (self.new ≡ self.old) }
@@ -79,7 +79,7 @@ impl ExtentMap {
     }
 
     /// An equal map on its own.
-    pub fn copy(&self) -> Result<ExtentMap, Memory>
+    pub fn copy(&self) -> Result<ExtentMap, OutOfMemory>
         ensures { IfOk result (λ m. m ≡ self.now) }
     {
         Ok(ExtentMap {

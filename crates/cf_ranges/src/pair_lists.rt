@@ -2,7 +2,7 @@
 ghost use Rattle.std.specs.Prelude.{◌≡◌, ◌↔◌, None, Some, OnOk, OnErr, IfOk, IfErr, IsTrue};
 ghost use Rattle.cf_ranges.specs.Pairs.{cluster_at, IsAt, IsGapFor, IsRising, Puts};
 
-use cf_base::Memory;
+use cf_base::OutOfMemory;
 
 fn find(pairs: &[(u32, u32)], block: u32) -> Result<usize, usize>
     requires { IsRising pairs.now }
@@ -26,7 +26,7 @@ pub(crate) fn put_pair(
     pairs: &mut Vec<(u32, u32)>,
     block: u32,
     cluster: u32,
-) -> Result<Option<u32>, Memory>
+) -> Result<Option<u32>, OutOfMemory>
     requires { IsRising pairs.old.items }
     ensures before { IfOk result (λ before. before ≡ cluster_at pairs.old.items block) }
     ensures ok { OnOk result (Puts pairs.old.items pairs.new.items block (Some cluster)) }

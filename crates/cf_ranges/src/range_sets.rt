@@ -3,13 +3,13 @@ ghost use Rattle.std.specs.Prelude.{◌≡◌, ℕ, true, ◌+◌, ◌*◌, ◌^
 ghost use Rattle.cf_ranges.specs.Positions.{contains, Adds, AddsAll, Cuts, CutsAll, HasBlock, IsBelow, IsMissing, IsRuns, touched, touches};
 
 use crate::run_lists::{are_runs, blocks, has, missing_in, touches, with_span, without_span};
-use cf_base::{Memory, Span};
+use cf_base::{OutOfMemory, Span};
 use std::alloc::Global;
 use std::marker::Model;
 
 /// A set of positions. Contracts see its maximal runs in order, each ending by 2^40. A span that is handed to a call has
 /// `start + len` at most 2^40; an empty one has no position.
-#[derive(Debug, Drop)]
+#[derive(Drop)]
 pub struct RangeSet {
     runs: Vec<Span>,
     alloc: Global,
@@ -52,7 +52,7 @@ impl RangeSet {
 
     /// Adds the positions of a span, in time linear in the number of runs. Without memory the set is as before.
     #[tactic(auto, using(crate::proofs::Sets::contains_added, crate::proofs::Sets::runs_added))]
-    pub fn add(&mut self, span: Span) -> Result<(), Memory>
+    pub fn add(&mut self, span: Span) -> Result<(), OutOfMemory>
         requires { span.start + span.len ≤ 2 ^ 40 }
         ensures ok { OnOk result (Adds self.old self.new span) }
         ensures err { OnErr result (self.new ≡ self.old) }
@@ -65,7 +65,7 @@ impl RangeSet {
 
     /// Takes the positions of a span out, in time linear in the number of runs. Without memory the set is as before.
     #[tactic(auto, using(crate::proofs::Sets::contains_cut, crate::proofs::Sets::runs_cut))]
-    pub fn cut(&mut self, span: Span) -> Result<(), Memory>
+    pub fn cut(&mut self, span: Span) -> Result<(), OutOfMemory>
         requires { span.start + span.len ≤ 2 ^ 40 }
         ensures ok { OnOk result (Cuts self.old self.new span) }
         ensures err { OnErr result (self.new ≡ self.old) }
@@ -77,7 +77,7 @@ impl RangeSet {
     }
 
     /// An equal set on its own.
-    pub fn copy(&self) -> Result<RangeSet, Memory>
+    pub fn copy(&self) -> Result<RangeSet, OutOfMemory>
         ensures { IfOk result (λ r. r ≡ self.now) }
     {
         Ok(RangeSet {
@@ -87,7 +87,7 @@ impl RangeSet {
     }
 
     /// The set with the positions of a span.
-    pub fn with(&self, span: Span) -> Result<RangeSet, Memory>
+    pub fn with(&self, span: Span) -> Result<RangeSet, OutOfMemory>
         requires { span.start + span.len ≤ 2 ^ 40 }
         ensures { IfOk result (λ r. Adds self.now r span) }
     {
@@ -97,7 +97,7 @@ impl RangeSet {
     }
 
     /// The set without the positions of a span.
-    pub fn without(&self, span: Span) -> Result<RangeSet, Memory>
+    pub fn without(&self, span: Span) -> Result<RangeSet, OutOfMemory>
         requires { span.start + span.len ≤ 2 ^ 40 }
         ensures { IfOk result (λ r. Cuts self.now r span) }
     {
@@ -108,7 +108,7 @@ impl RangeSet {
 
     /// The set with the positions of other runs.
     #[tactic(auto, using(crate::proofs::Sets::small_runs))]
-    pub fn with_all(&self, others: &[Span]) -> Result<RangeSet, Memory>
+    pub fn with_all(&self, others: &[Span]) -> Result<RangeSet, OutOfMemory>
         requires { IsRuns others.now }
         ensures { IfOk result (λ r. AddsAll self.now r others.now) }
     {
@@ -121,7 +121,7 @@ impl RangeSet {
 
     /// The set without the positions of other runs.
     #[tactic(auto, using(crate::proofs::Sets::small_runs))]
-    pub fn without_all(&self, others: &[Span]) -> Result<RangeSet, Memory>
+    pub fn without_all(&self, others: &[Span]) -> Result<RangeSet, OutOfMemory>
         requires { IsRuns others.now }
         ensures { IfOk result (λ r. CutsAll self.now r others.now) }
     {
@@ -149,7 +149,7 @@ impl RangeSet {
 
     /// The maximal runs of what a span has and the set has not.
     #[tactic(auto, using(crate::proofs::Sets::contains_missing, crate::proofs::Sets::runs_missing))]
-    pub fn missing_in(&self, span: Span) -> Result<Vec<Span>, Memory>
+    pub fn missing_in(&self, span: Span) -> Result<Vec<Span>, OutOfMemory>
         requires { span.start + span.len ≤ 2 ^ 40 }
         ensures missing { IfOk result (λ gaps. IsMissing self.now span gaps.items) }
         ensures maximal { IfOk result (λ gaps. IsRuns gaps.items) }

@@ -3,7 +3,7 @@ ghost use Rattle.std.specs.Prelude.{◌≡◌, ℕ, ◌+◌, ◌^◌, ◌≤◌,
 ghost use Rattle.cf_ranges.specs.Positions.{contains, IsRuns, touches};
 ghost use Rattle.cf_ranges.specs.Steps.{added, piece, cut_of, missing_of, blocks_from};
 
-use cf_base::{Memory, Span};
+use cf_base::{OutOfMemory, Span};
 use std::alloc::Global;
 
 const BLOCK: u64 = 4096;
@@ -66,7 +66,7 @@ pub(crate) fn blocks(runs: &[Span]) -> u64
 
 // One pass: the runs that the span meets are joined with it.
 #[tactic(auto, using(crate::proofs::Sets::small_runs))]
-pub(crate) fn with_span(alloc: Global, runs: &[Span], span: Span) -> Result<Vec<Span>, Memory>
+pub(crate) fn with_span(alloc: Global, runs: &[Span], span: Span) -> Result<Vec<Span>, OutOfMemory>
     requires runs { IsRuns runs.now }
     requires some { 0 < span.len }
     requires small { span.start + span.len ≤ 2 ^ 40 }
@@ -99,7 +99,7 @@ pub(crate) fn with_span(alloc: Global, runs: &[Span], span: Span) -> Result<Vec<
 
 // One pass: of each run, what lies before the span and what lies behind it.
 #[tactic(auto, using(crate::proofs::Sets::small_runs))]
-pub(crate) fn without_span(alloc: Global, runs: &[Span], span: Span) -> Result<Vec<Span>, Memory>
+pub(crate) fn without_span(alloc: Global, runs: &[Span], span: Span) -> Result<Vec<Span>, OutOfMemory>
     requires runs { IsRuns runs.now }
     requires some { 0 < span.len }
     requires small { span.start + span.len ≤ 2 ^ 40 }
@@ -115,7 +115,7 @@ pub(crate) fn without_span(alloc: Global, runs: &[Span], span: Span) -> Result<V
 }
 
 #[tactic(auto, using(crate::proofs::Sets::small_runs))]
-pub(crate) fn missing_in(alloc: Global, runs: &[Span], span: Span) -> Result<Vec<Span>, Memory>
+pub(crate) fn missing_in(alloc: Global, runs: &[Span], span: Span) -> Result<Vec<Span>, OutOfMemory>
     requires runs { IsRuns runs.now }
     requires small { span.start + span.len ≤ 2 ^ 40 }
     ensures { IfOk result (λ v. v.items ≡ missing_of span.start (span.start + span.len) runs.now) }
@@ -131,7 +131,7 @@ pub(crate) fn missing_in(alloc: Global, runs: &[Span], span: Span) -> Result<Vec
     Ok(out)
 }
 
-fn push_piece(out: &mut Vec<Span>, from: u64, to: u64) -> Result<(), Memory>
+fn push_piece(out: &mut Vec<Span>, from: u64, to: u64) -> Result<(), OutOfMemory>
     ensures { OnOk result (out.new.items ≡ out.old.items ++ piece from to []) }
 {
     if from < to {

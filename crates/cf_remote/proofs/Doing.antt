@@ -2,7 +2,7 @@
 use Rattle.std.proofs.Common.{◌≡◌, ℕ, ◌+◌, Bool, true, false, List, ◌∷◌, refl, sym, ap, ◌∙◌, subst}
 use Rattle.std.specs.Prelude.{Option, Some, None, Result, Ok, Err, IfOk, OnErr, OnOk, option_map}
 use Rattle.std.proofs.lemmas.Bool.{eq-eqb, ne_eqb}
-use Rattle.cf_base.specs.declared.memory.Memory.{Memory}
+use Rattle.cf_base.specs.declared.memory.OutOfMemory.{OutOfMemory}
 use Rattle.cf_base.specs.declared.ids.Rid.{Rid}
 use Rattle.cf_base.specs.declared.ids.Token.{Token}
 use Rattle.cf_base.specs.declared.ids.Version.{Version}
@@ -43,13 +43,13 @@ none_told why.TooLarge = refl
 
 -- a request by its refusal
 
-pub refused_gives : (old : Held) (token : Token) (m : Mutation) (w : Why) (version : Version) (result : Result Reply Memory) (new : Held) → m.refusal ≡ Some w → version ≡ version_told m.conflict w
+pub refused_gives : (old : Held) (token : Token) (m : Mutation) (w : Why) (version : Version) (result : Result Reply OutOfMemory) (new : Held) → m.refusal ≡ Some w → version ≡ version_told m.conflict w
     → IfOk result (λ r. r ≡ reply.Refused token w version) → OnOk result (new ≡ with_token token RecordedVoid old) → OnErr result (new ≡ old) → Decides token m old result new
 refused_gives old token m w version (Ok r) new e v a b c =
     subst (λ (o : Option Why). Gives (decide old token m o) old (Ok r) new) (sym e) ((a ∙ ap (λ (x : Version). reply.Refused token w x) v), b)
 refused_gives old token m w version (Err x) new e v a b c = c
 
-pub accepted_gives : (old : Held) (token : Token) (m : Mutation) (result : Result Reply Memory) (new : Held) → m.refusal ≡ None → Gives (decide old token m None) old result new → Decides token m old result new
+pub accepted_gives : (old : Held) (token : Token) (m : Mutation) (result : Result Reply OutOfMemory) (new : Held) → m.refusal ≡ None → Gives (decide old token m None) old result new → Decides token m old result new
 accepted_gives old token m result new e h = subst (λ (o : Option Why). Gives (decide old token m o) old result new) (sym e) h
 
 -- a request whose token came first now
@@ -58,7 +58,7 @@ pub none_from : (token : Token) (o : Option Recorded) → None ≡ option_map (a
 none_from token None e = refl
 none_from token (Some r) e = cc
 
-pub new_gives : (old : Held) (token : Token) (m : Mutation) (result : Result Reply Memory) (new : Held) → recorded_at old.tokens token ≡ None → Decides token m old result new
+pub new_gives : (old : Held) (token : Token) (m : Mutation) (result : Result Reply OutOfMemory) (new : Held) → recorded_at old.tokens token ≡ None → Decides token m old result new
     → Gives (mutate old token m (recorded_at old.tokens token)) old result new
 new_gives old token m result new e h = subst (λ (o : Option Recorded). Gives (mutate old token m o) old result new) (sym e) h
 
@@ -66,11 +66,11 @@ decided_room : (old : Held) (token : Token) (m : Mutation) (o : Option Why) → 
 decided_room old token m None = tt
 decided_room old token m (Some w) = tt
 
-pub room_of : (old : Held) (token : Token) (m : Mutation) (result : Result Reply Memory) (new : Held) → Decides token m old result new → IfOk result ReplyHasRoom
+pub room_of : (old : Held) (token : Token) (m : Mutation) (result : Result Reply OutOfMemory) (new : Held) → Decides token m old result new → IfOk result ReplyHasRoom
 room_of old token m (Ok r) new h = subst ReplyHasRoom (sym h.0) (decided_room old token m m.refusal)
 room_of old token m (Err e) new h = tt
 
-module _ (old : Held) (token : Token) (rid : Rid) (expect : Version) (parent : Rid) (name bytes : List ℕ) (result : Result Reply Memory) (new : Held) (none : recorded_at old.tokens token ≡ None) where
+module _ (old : Held) (token : Token) (rid : Rid) (expect : Version) (parent : Rid) (name bytes : List ℕ) (result : Result Reply OutOfMemory) (new : Held) (none : recorded_at old.tokens token ≡ None) where
   abbrev put_of : Bool → Mutation
   put_of first = elim first as (λ _. Mutation) [ true ↦ put_new old parent name bytes | false ↦ put_version old rid expect bytes ]
 

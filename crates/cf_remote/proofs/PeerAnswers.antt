@@ -10,7 +10,7 @@ use Rattle.cf_base.specs.declared.codes.Code.{Code}
 use Rattle.cf_base.specs.declared.codes.Code.TheVariants as code
 use Rattle.cf_base.specs.declared.ids.Rid.{Rid}
 use Rattle.cf_base.specs.declared.ids.Version.{Version}
-use Rattle.cf_base.specs.declared.memory.Memory.{Memory}
+use Rattle.cf_base.specs.declared.memory.OutOfMemory.{OutOfMemory}
 use Rattle.cf_base.specs.declared.messages.Reply.{Reply}
 use Rattle.cf_base.specs.declared.messages.Reply.TheVariants as reply
 use Rattle.cf_base.specs.declared.messages.Request.{Request}
@@ -43,22 +43,22 @@ ends f s old a b r t next after new e n leads stands stray =
     (t, subst (λ (x : Shown). Leads (f s) old x t new) (shown_is a b r e) leads, subst (λ (k : ℕ). Stands k new t) (sym n) stands, whole a b r t.running.stray e stray)
 
 -- an event that ended in a look-up
-pub ended_does : {A : Type 0} (f : Arrow State Shown) (rest : A → Arrow State Shown) (next : ℕ) (old : Told) (e : Stop) (result : Result Answer Memory) (after : ℕ) (new : Told)
+pub ended_does : {A : Type 0} (f : Arrow State Shown) (rest : A → Arrow State Shown) (next : ℕ) (old : Told) (e : Stop) (result : Result Answer OutOfMemory) (after : ℕ) (new : Told)
     → ((s : State) → Stands next old s → Comes f rest next s old (Err e) new) → EndsBy e next result after → Does f next old result after new
 ended_does f rest next old (stop.Refused c) (Err m) after new h k = absurd k
 ended_does f rest next old stop.Fault (Err m) after new h k = absurd k
 ended_does f rest next old (stop.Stray r) (Err m) after new h k = absurd k
-ended_does f rest next old stop.Memory (Err m) after new h k = (omega (arith, k), omega (arith, k), h)
+ended_does f rest next old stop.OutOfMemory (Err m) after new h k = (omega (arith, k), omega (arith, k), h)
 ended_does f rest next old (stop.Refused c) (Ok a) after new h k = λ s none st.
     let t = h s st in ends f s old a (shown.Refused c) None t.0 next after new k.0 k.1 t.3 t.1 (ap (λ (x : Running). x.stray) t.2 ∙ none)
 ended_does f rest next old stop.Fault (Ok a) after new h k = λ s none st.
     let t = h s st in ends f s old a (shown.Refused code.RemoteFault) None t.0 (next + 1) after new k.0 k.1 t.3 t.1 (ap (λ (x : Running). x.stray) t.2 ∙ none)
 ended_does f rest next old (stop.Stray r) (Ok a) after new h k = λ s none st.
     let t = h s st in ends f s old a (shown.Refused code.Stale) (Some r) t.0 (next + 1) after new k.0 k.1 t.3 t.1 (ap (λ (x : Running). x.stray) t.2)
-ended_does f rest next old stop.Memory (Ok a) after new h k = absurd k
+ended_does f rest next old stop.OutOfMemory (Ok a) after new h k = absurd k
 
 -- an event whose rest is done
-pub planned_does : (f : Arrow State Shown) (next : ℕ) (old : Told) (p : Plan) (mid : Told) (result : Result Answer Memory) (after : ℕ) (new : Told)
+pub planned_does : (f : Arrow State Shown) (next : ℕ) (old : Told) (p : Plan) (mid : Told) (result : Result Answer OutOfMemory) (after : ℕ) (new : Told)
     → ((s : State) → Stands next old s → Comes f finish next s old (Ok p) mid) → Does (finish p) next mid result after new → Does f next old result after new
 planned_does f next old p mid (Err m) after new h k = (k.0, k.1, λ s st. let t = h s st in t.4 new (k.2 t.0 t.1))
 planned_does f next old p mid (Ok a) after new h k = λ s none st.
@@ -119,7 +119,7 @@ module _ (q : Request) (next : ℕ) (old new : Told) where
   used : (s : State) → Stands next old s → Stands (next + 1) old (with_token_used s)
   used s st = record { token = ap (λ (n : ℕ). n + 1) st.token; held = st.held; asks = st.asks }
 
-  pub failed_does : (e : AskError) (result : Result Answer Memory) → Asks q old (Err e) new → IsFailed e result → Does (send_request q) next old result (next + 1) new
+  pub failed_does : (e : AskError) (result : Result Answer OutOfMemory) → Asks q old (Err e) new → IsFailed e result → Does (send_request q) next old result (next + 1) new
   failed_does ask.Fault (Ok a) h k = λ s none st.
       let after = after_fault q (next + 1) (with_token_used s) old new (used s st) h in (
         after.state,
@@ -129,12 +129,12 @@ module _ (q : Request) (next : ℕ) (old new : Told) where
         whole a (shown.Refused code.RemoteFault) None after.state.running.stray k (ap (λ (x : Running). x.stray) after.running ∙ none),
       )
   failed_does ask.Fault (Err m) h k = absurd k
-  failed_does ask.Memory (Ok a) h k = absurd k
-  failed_does ask.Memory (Err m) h k = (omega arith, omega arith, λ s st. inl h)
+  failed_does ask.OutOfMemory (Ok a) h k = absurd k
+  failed_does ask.OutOfMemory (Err m) h k = (omega arith, omega arith, λ s st. inl h)
 
   -- memory runs out after the reply
-  pub unseen_does : (r : Reply) (m : Memory) (result : Result Answer Memory) → Answers q r old new → IsErrAnd result (λ y. y ≡ m) → Does (send_request q) next old result (next + 1) new
-  unseen_does r m result h is = subst (λ (o : Result Answer Memory). Does (send_request q) next old o (next + 1) new) (sym (err_from_is_err_and result is).1) (
+  pub unseen_does : (r : Reply) (m : OutOfMemory) (result : Result Answer OutOfMemory) → Answers q r old new → IsErrAnd result (λ y. y ≡ m) → Does (send_request q) next old result (next + 1) new
+  unseen_does r m result h is = subst (λ (o : Result Answer OutOfMemory). Does (send_request q) next old o (next + 1) new) (sym (err_from_is_err_and result is).1) (
     omega arith,
     omega arith,
     λ s st.
@@ -164,6 +164,6 @@ pub tell_finishes : (p : Plan) (rid : Rid) (version : Version) (next : ℕ) (old
 tell_finishes p rid version next old a e f = subst (λ (x : Plan). Does (finish x) next old (Ok a) next old) (sym e)
     (λ s none st. (s, (sym (shown_is a (shown.Remote rid version) None f), refl, refl), st, whole a (shown.Remote rid version) None s.running.stray f none))
 
-pub send_finishes : (p : Plan) (q : Request) (next : ℕ) (old : Told) (result : Result Answer Memory) (after : ℕ) (new : Told) → p ≡ plan.Send q → Does (send_request q) next old result after new
+pub send_finishes : (p : Plan) (q : Request) (next : ℕ) (old : Told) (result : Result Answer OutOfMemory) (after : ℕ) (new : Told) → p ≡ plan.Send q → Does (send_request q) next old result after new
     → Does (finish p) next old result after new
 send_finishes p q next old result after new e h = subst (λ (x : Plan). Does (finish x) next old result after new) (sym e) h

@@ -21,7 +21,7 @@ use Rattle.cf_remote.specs.LookUps.{Comes, IsListed, finish}
 use Rattle.cf_remote.specs.Peers.{Begins, Leads, Stands}
 use Rattle.cf_remote.specs.Told.{Answers, Asks, Told}
 use Rattle.cf_remote.specs.declared.ask_errors.AskError.{AskError}
-use Rattle.cf_remote.specs.declared.ask_errors.AskError.TheVariants.{Fault, Memory}
+use Rattle.cf_remote.specs.declared.ask_errors.AskError.TheVariants.{Fault, OutOfMemory}
 use Rattle.cf_remote.specs.Stops.{stop_of}
 use Rattle.cf_remote.specs.declared.stops.Plan.TheVariants as plan
 use Rattle.cf_remote.specs.declared.stops.Stop.{Stop}
@@ -34,7 +34,7 @@ pub comes_ended : {A B : Type 0} (f : Arrow State Shown) (rest : A → Arrow Sta
 comes_ended f rest more next s old (stop.Refused c) new h = h
 comes_ended f rest more next s old stop.Fault new h = h
 comes_ended f rest more next s old (stop.Stray r) new h = h
-comes_ended f rest more next s old stop.Memory new h = h
+comes_ended f rest more next s old stop.OutOfMemory new h = h
 
 -- a part that is done, and then what follows
 pub comes_on : {A B : Type 0} (f : Arrow State Shown) (rest : A → Arrow State Shown) (more : B → Arrow State Shown) (next : ℕ) (s : State) (old : Told) (a : A) (mid : Told) (r : Result B Stop) (new : Told)
@@ -47,7 +47,7 @@ comes_on f rest more next s old a mid (Err stop.Fault) new h then' =
     let k = then' h.0 h.1 in (k.0, k.1, k.2 ∙ h.2, h.3 (shown.Refused code.RemoteFault) k.0 new k.3)
 comes_on f rest more next s old a mid (Err (stop.Stray r)) new h then' =
     let k = then' h.0 h.1 in (k.0, k.1, k.2 ∙ ap (λ (x : Running). record x { stray = Some r }) h.2, h.3 (shown.Refused code.Stale) k.0 new k.3)
-comes_on f rest more next s old a mid (Err stop.Memory) new h then' = h.4 new (then' h.0 h.1)
+comes_on f rest more next s old a mid (Err stop.OutOfMemory) new h then' = h.4 new (then' h.0 h.1)
 
 -- the same, where what follows is known
 pub comes_then : {B : Type 0} (f g : Arrow State Shown) (more : B → Arrow State Shown) (next : ℕ) (s : State) (old mid : Told) (r : Result B Stop) (new : Told)
@@ -64,7 +64,7 @@ comes_done f rest next s old a e st =
     (s, st, refl, λ b u last l. subst (λ (g : Arrow State Shown). Leads (g s) old b u last) (sym e) l, λ last l. subst (λ (g : Arrow State Shown). Begins (g s) old last) (sym e) l)
 
 -- memory runs out before any ask
-pub comes_lost : {A : Type 0} (f : Arrow State Shown) (rest : A → Arrow State Shown) (next : ℕ) (s : State) (old : Told) → Comes f rest next s old (Err stop.Memory) old
+pub comes_lost : {A : Type 0} (f : Arrow State Shown) (rest : A → Arrow State Shown) (next : ℕ) (s : State) (old : Told) → Comes f rest next s old (Err stop.OutOfMemory) old
 comes_lost f rest next s old = begins_here (f s) old
 
 pub comes_as : {A : Type 0} (f g : Arrow State Shown) (rest : A → Arrow State Shown) (next : ℕ) (s : State) (old : Told) (r : Result A Stop) (new : Told)
@@ -118,10 +118,10 @@ module _ (f : List Entry → Arrow State Shown) (rid : Rid) (next : ℕ) (s : St
         after.running,
         leads_ask (list_of rid) None next s old new (on_listing rid f) after (shown.Refused code.RemoteFault) (with_token_used after.state) new (refl, refl, refl),
       )
-  listing_fails Memory h = inl h
+  listing_fails OutOfMemory h = inl h
 
   -- memory runs out after the reply
-  pub listing_lost : (r : Reply) → Answers (list_of rid) r old new → Comes (listing rid f) f next s old (Err stop.Memory) new
+  pub listing_lost : (r : Reply) → Answers (list_of rid) r old new → Comes (listing rid f) f next s old (Err stop.OutOfMemory) new
   listing_lost r a =
       let after = after_reply (list_of rid) r next s old new st a in
       begins_ask (list_of rid) (Some r) next s old new (on_listing rid f) after new (begins_here (on_listing rid f (Some r) after.state) new)
@@ -199,10 +199,10 @@ module _ (f : Entry → Arrow State Shown) (at : Entry) (name : List ℕ) where
       (λ t st. comes_refused (rest_of es) f next t new code.NotFound (ap (if_found f) (sym n)) st))
 
   pub step_lost : (next : ℕ) (s : State) (old : Told) (es : List Entry) (new : Told) → at.dir ≡ true → Comes {A = List Entry} (listing at.rid rest_of) rest_of next s old (Ok es) new
-      → Comes {A = Entry} (in_dir at (listing at.rid rest_of)) f next s old (Err stop.Memory) new
+      → Comes {A = Entry} (in_dir at (listing at.rid rest_of)) f next s old (Err stop.OutOfMemory) new
   step_lost next s old es new d h =
-      comes_as (in_dir at (listing at.rid rest_of)) (listing at.rid rest_of) f next s old (Err stop.Memory) new (in_is d)
-      (comes_on (listing at.rid rest_of) rest_of f next s old es new (Err stop.Memory) new h
+      comes_as (in_dir at (listing at.rid rest_of)) (listing at.rid rest_of) f next s old (Err stop.OutOfMemory) new (in_is d)
+      (comes_on (listing at.rid rest_of) rest_of f next s old es new (Err stop.OutOfMemory) new h
       (λ t st. comes_lost (rest_of es) f next t new))
 
   pub step_found : (next : ℕ) (s : State) (old : Told) (es : List Entry) (e : Entry) (new : Told) → at.dir ≡ true → Some e ≡ named name es → Comes {A = List Entry} (listing at.rid rest_of) rest_of next s old (Ok es) new

@@ -13,14 +13,14 @@ use Rattle.cf_model.proofs.StoreLaws.{extends-self, extends-then, step_extends}
 use Rattle.cf_remote.specs.Runs.{HasToken, HoldsMore, Runs}
 use Rattle.cf_remote.specs.Told.{Asks, Replies, Told}
 use Rattle.cf_remote.specs.declared.ask_errors.AskError.{AskError}
-use Rattle.cf_remote.specs.declared.ask_errors.AskError.TheVariants.{Fault, Memory}
+use Rattle.cf_remote.specs.declared.ask_errors.AskError.TheVariants.{Fault, OutOfMemory}
 
 ask_holds : (q : Request) (old : Told) (result : Result Reply AskError) (new : Told) (held : Held) → Asks q old result new → old.held ≡ Some held → HoldsMore held new.held
 ask_holds q old (Ok r) new held a e =
     let told = subst (λ (h : Option Held). Replies q r h new.held) e a.replies in
     ((remote_step held q).1, told.1, step_extends held q)
 ask_holds q old (Err Fault) new held f e = (held, f.held ∙ e, extends-self held)
-ask_holds q old (Err Memory) new held same e = (held, ap (λ (t : Told). t.held) same ∙ e, extends-self held)
+ask_holds q old (Err OutOfMemory) new held same e = (held, ap (λ (t : Told). t.held) same ∙ e, extends-self held)
 
 pub runs_hold : (old : Told) (asks : List (Request × Result Reply AskError)) (new : Told) (held : Held) → Runs old asks new → old.held ≡ Some held → HoldsMore held new.held
 runs_hold old [] new held same e = (held, ap (λ (t : Told). t.held) same ∙ e, extends-self held)

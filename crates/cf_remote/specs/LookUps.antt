@@ -7,7 +7,7 @@ use Rattle.cf_base.specs.declared.codes.Code.TheVariants as code
 use Rattle.cf_base.specs.declared.events.PeerEvent.{PeerEvent}
 use Rattle.cf_base.specs.declared.events.PeerEvent.TheVariants as event
 use Rattle.cf_base.specs.declared.ids.Key.{Key}
-use Rattle.cf_base.specs.declared.memory.Memory.{Memory}
+use Rattle.cf_base.specs.declared.memory.OutOfMemory.{OutOfMemory}
 use Rattle.cf_base.specs.declared.messages.Entry.{Entry}
 use Rattle.cf_base.specs.declared.messages.Reply.{Reply}
 use Rattle.cf_base.specs.declared.messages.Reply.TheVariants as reply
@@ -46,7 +46,7 @@ Comes f rest next s old (Ok a) new = (t : State) × Stands next new t × (t.runn
 Comes f rest next s old (Err (stop.Refused c)) new = (t : State) × Stands next new t × (t.running ≡ s.running) × Ends f s old (shown.Refused c) t new
 Comes f rest next s old (Err stop.Fault) new = (t : State) × Stands (next + 1) new t × (t.running ≡ s.running) × Ends f s old (shown.Refused code.RemoteFault) t new
 Comes f rest next s old (Err (stop.Stray r)) new = (t : State) × Stands (next + 1) new t × (t.running ≡ record s.running { stray = Some r }) × Ends f s old (shown.Refused code.Stale) t new
-Comes f rest next s old (Err stop.Memory) new = Begins (f s) old new
+Comes f rest next s old (Err stop.OutOfMemory) new = Begins (f s) old new
 
 -- what a function does to the remote that has this contract is the part of the event, whatever comes before and after
 abbrev pub DoesPart : {A B : Type 0} → ((B → Arrow State Shown) → Arrow State Shown) → (A → B) → Told → Result A Stop → Told → Type 0
@@ -105,17 +105,17 @@ abbrev pub answered : Shown → Option Reply → Answer
 answered b stray = record { notes = []; shown = b; stray = stray }
 
 -- the answer to a request that got no reply
-abbrev pub IsFailed : AskError → Result Answer Memory → Type 0
+abbrev pub IsFailed : AskError → Result Answer OutOfMemory → Type 0
 IsFailed ask.Fault (Ok a) = a ≡ answered (shown.Refused code.RemoteFault) None
 IsFailed ask.Fault (Err e) = ⊥
-IsFailed ask.Memory (Ok a) = ⊥
-IsFailed ask.Memory (Err e) = Unit {0}
+IsFailed ask.OutOfMemory (Ok a) = ⊥
+IsFailed ask.OutOfMemory (Err e) = Unit {0}
 
 -- the answer to an event that ended in a look-up, and the next token then, which without memory is as before
-abbrev pub EndsBy : Stop → ℕ → Result Answer Memory → ℕ → Type 0
+abbrev pub EndsBy : Stop → ℕ → Result Answer OutOfMemory → ℕ → Type 0
 EndsBy (stop.Refused c) next (Ok a) after = (a ≡ answered (shown.Refused c) None) × (after ≡ next)
 EndsBy stop.Fault next (Ok a) after = (a ≡ answered (shown.Refused code.RemoteFault) None) × (after ≡ next + 1)
 EndsBy (stop.Stray r) next (Ok a) after = (a ≡ answered (shown.Refused code.Stale) (Some r)) × (after ≡ next + 1)
-EndsBy stop.Memory next (Ok a) after = ⊥
-EndsBy stop.Memory next (Err e) after = after ≡ next
+EndsBy stop.OutOfMemory next (Ok a) after = ⊥
+EndsBy stop.OutOfMemory next (Err e) after = after ≡ next
 EndsBy s next (Err e) after = ⊥

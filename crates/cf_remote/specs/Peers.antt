@@ -4,7 +4,7 @@ use Rattle.std.specs.Prelude.{◌≡◌, ◌⊎◌, ℕ, ◌+◌, ◌≤◌, ◌
 use Rattle.cf_base.specs.declared.answers.Answer.{Answer}
 use Rattle.cf_base.specs.declared.answers.Shown.{Shown}
 use Rattle.cf_base.specs.declared.answers.Shown.TheVariants as shown
-use Rattle.cf_base.specs.declared.memory.Memory.{Memory}
+use Rattle.cf_base.specs.declared.memory.OutOfMemory.{OutOfMemory}
 use Rattle.cf_model.specs.Arrows.{Arrow}
 use Rattle.cf_model.specs.State.{State}
 use Rattle.cf_model.specs.Store.{Held}
@@ -49,7 +49,7 @@ pub record Stands (next : ℕ) (told : Told) (s : State) : Type 0 where
 
 -- The answer is one of the event's, and it keeps the reply that made it Stale. Without memory one token at most is used up, and
 -- the event was begun: the first of its asks were made, or none.
-abbrev pub Does : Arrow State Shown → ℕ → Told → Result Answer Memory → ℕ → Told → Type 0
+abbrev pub Does : Arrow State Shown → ℕ → Told → Result Answer OutOfMemory → ℕ → Told → Type 0
 Does f next old (Ok a) after new = (s : State) → s.running.stray ≡ None → Stands next old s
     → (t : State) × Leads (f s) old a.shown t new × Stands after new t × (a ≡ record { notes = []; shown = a.shown; stray = t.running.stray })
 Does f next old (Err e) after new = (next ≤ after) × (after ≤ next + 1) × ((s : State) → Stands next old s → Begins (f s) old new)

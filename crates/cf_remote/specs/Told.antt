@@ -5,7 +5,7 @@ use Rattle.cf_base.specs.declared.messages.Reply.{Reply}
 use Rattle.cf_base.specs.declared.messages.Request.{Request}
 use Rattle.cf_model.specs.Store.{Held, remote_step}
 use Rattle.cf_remote.specs.declared.ask_errors.AskError.{AskError}
-use Rattle.cf_remote.specs.declared.ask_errors.AskError.TheVariants.{Fault, Memory}
+use Rattle.cf_remote.specs.declared.ask_errors.AskError.TheVariants.{Fault, OutOfMemory}
 use Rattle.cf_wire.specs.Spelled.{ReplyHasRoom}
 
 -- What a remote holds, how often it was asked, and the numbers of the asks that fail, counted from 1, each where the
@@ -57,4 +57,4 @@ pub record Faults (old new : Told) : Type 0 where
 abbrev pub Asks : Request → Told → Result Reply AskError → Told → Type 0
 Asks q old (Ok r) new = Answers q r old new
 Asks q old (Err Fault) new = Faults old new
-Asks q old (Err Memory) new = new ≡ old
+Asks q old (Err OutOfMemory) new = new ≡ old

@@ -1,7 +1,7 @@
 //! Why an ask has no reply.
 
 ghost use Rattle.std.specs.Prelude.{◌≡◌};
-ghost use Rattle.cf_remote.specs.declared.ask_errors.AskError.TheVariants.{Memory};
+ghost use Rattle.cf_remote.specs.declared.ask_errors.AskError.TheVariants.{OutOfMemory};
 
 use std::alloc::{AllocError, AllocFailed};
 
@@ -13,29 +13,29 @@ pub enum AskError {
     Fault,
     /// There was no memory. The remote is as before.
     #[error("out of memory")]
-    Memory,
+    OutOfMemory,
 }
 
 impl From<AllocError> for AskError {
-    ghost from_gives = { λ _ e. e ≡ Memory };
+    ghost from_gives = { λ _ e. e ≡ OutOfMemory };
 
     fn from(_e: AllocError) -> AskError {
-        AskError::Memory
+        AskError::OutOfMemory
     }
 }
 
 impl<T: Drop> From<AllocFailed<T>> for AskError {
-    ghost from_gives = { λ _ e. e ≡ Memory };
+    ghost from_gives = { λ _ e. e ≡ OutOfMemory };
 
     fn from(_e: AllocFailed<T>) -> AskError {
-        AskError::Memory
+        AskError::OutOfMemory
     }
 }
 
-impl From<cf_base::Memory> for AskError {
-    ghost from_gives = { λ _ e. e ≡ Memory };
+impl From<cf_base::OutOfMemory> for AskError {
+    ghost from_gives = { λ _ e. e ≡ OutOfMemory };
 
-    fn from(_e: cf_base::Memory) -> AskError {
-        AskError::Memory
+    fn from(_e: cf_base::OutOfMemory) -> AskError {
+        AskError::OutOfMemory
     }
 }

@@ -9,7 +9,7 @@ ghost use Rattle.cf_remote.specs.Order.{IsIndex, IsIndexed, IsStart, children, r
 
 use crate::lookups::{find, search};
 use crate::stored::StoredItem;
-use cf_base::{Entry, Memory, Rid};
+use cf_base::{Entry, OutOfMemory, Rid};
 use std::alloc::Global;
 
 /// A live child of the parent, but for one item, has the name. By a binary search.
@@ -53,7 +53,7 @@ fn children_of<'a>(items: &[StoredItem], by_name: &'a [Rid], rid: Rid) -> &'a [R
 }
 
 /// What is told of the items with these rids.
-fn entries_of(alloc: Global, items: &[StoredItem], rids: &[Rid]) -> Result<Vec<Entry>, Memory>
+fn entries_of(alloc: Global, items: &[StoredItem], rids: &[Rid]) -> Result<Vec<Entry>, OutOfMemory>
     requires { CountsFrom 1 items.now }
     ensures told { IfOk result (λ es. es.items ≡ filter_map (told_at items.now) rids.now) }
     ensures room { IfOk result (λ es. All (λ e. length e.name ≤ 255) es.items) }
@@ -83,7 +83,7 @@ pub(crate) fn listing(
     items: &[StoredItem],
     by_name: &[Rid],
     rid: Rid,
-) -> Result<Vec<Entry>, Memory>
+) -> Result<Vec<Entry>, OutOfMemory>
     requires index { IsIndexed items.now by_name.now }
     requires fits { rid.0 + 1 < 2 ^ 64 }
     ensures room { IfOk result (λ es. All (λ e. length e.name ≤ 255) es.items) }

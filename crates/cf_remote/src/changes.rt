@@ -12,7 +12,7 @@ use crate::lookups::{find, search};
 use crate::outcomes::Outcome;
 use crate::stored::StoredItem;
 use crate::tokens::Tokens;
-use cf_base::{Blob, Memory, Rid, Token};
+use cf_base::{Blob, OutOfMemory, Rid, Token};
 
 /// Where an item would go in the index that none has.
 fn gap_of(items: &[StoredItem], by_name: &[Rid], parent: Rid, name: &[u8]) -> usize
@@ -51,7 +51,7 @@ pub(crate) fn add_item(
     item: StoredItem,
     tokens: &mut Tokens,
     token: Token,
-) -> Result<(), Memory>
+) -> Result<(), OutOfMemory>
     requires index { IsIndexed items.old.items by_name.old.items }
     requires next { item.rid.0 ≡ 1 + length items.old.items }
     requires live { item.live ≡ true }

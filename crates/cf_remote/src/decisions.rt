@@ -9,7 +9,7 @@ ghost use Rattle.cf_remote.specs.Held.{held_len};
 ghost use Rattle.cf_remote.specs.Stores.{holding};
 
 use crate::shelves::Shelf;
-use cf_base::{Fail, Memory, Name, Rid, Version, Why};
+use cf_base::{CallError, OutOfMemory, Name, Rid, Version, Why};
 use cf_model::laws::one_test_of_names;
 use std::alloc::Global;
 
@@ -25,14 +25,14 @@ const MOST_HELD_BYTES: u64 = 536_870_912;
 /// No more items live, the root among them.
 const MOST_LIVE: u64 = 10_000;
 
-fn is_name(alloc: Global, name: &[u8]) -> Result<bool, Memory>
+fn is_name(alloc: Global, name: &[u8]) -> Result<bool, OutOfMemory>
     ensures { IfOk result (λ b. b ≡ is_name name.now) }
 {
     one_test_of_names();
     match Name::read(alloc, name) {
         Ok(_) => Ok(true),
-        Err(Fail::No(_)) => Ok(false),
-        Err(Fail::Memory) => Err(Memory),
+        Err(CallError::No(_)) => Ok(false),
+        Err(CallError::OutOfMemory) => Err(OutOfMemory),
     }
 }
 
@@ -99,7 +99,7 @@ pub(crate) fn why_new_file(
     parent: Rid,
     name: &[u8],
     bytes: &[u8],
-) -> Result<Option<Why>, Memory>
+) -> Result<Option<Why>, OutOfMemory>
     ensures { IfOk result (λ w. (clock : ℕ) (tokens : List (Token × Recorded)) (keep : Option ℕ) → w ≡ why_new_file (holding shelf.now clock tokens keep) parent name.now bytes.now) }
 {
     if !is_live_dir(shelf, parent) {
@@ -152,7 +152,7 @@ pub(crate) fn why_new_dir(
     shelf: &Shelf,
     parent: Rid,
     name: &[u8],
-) -> Result<Option<Why>, Memory>
+) -> Result<Option<Why>, OutOfMemory>
     ensures { IfOk result (λ w. (clock : ℕ) (tokens : List (Token × Recorded)) (keep : Option ℕ) → w ≡ why_new_dir (holding shelf.now clock tokens keep) parent name.now) }
 {
     if !is_live_dir(shelf, parent) {
@@ -179,7 +179,7 @@ pub(crate) fn why_move(
     rid: Rid,
     parent: Rid,
     name: &[u8],
-) -> Result<Option<Why>, Memory>
+) -> Result<Option<Why>, OutOfMemory>
     ensures { IfOk result (λ w. (clock : ℕ) (tokens : List (Token × Recorded)) (keep : Option ℕ) → w ≡ why_move (holding shelf.now clock tokens keep) rid parent name.now) }
 {
     if rid.0 == 1 || !is_live(shelf, rid) || !is_live_dir(shelf, parent) {

@@ -10,7 +10,7 @@ use crate::depths::depth_of;
 use crate::lookups::find;
 use crate::seen::Seen;
 use crate::stored::StoredItem;
-use cf_base::{Entry, Memory};
+use cf_base::{Entry, OutOfMemory};
 use std::alloc::Global;
 
 const MOST_DEPTH: usize = 32;
@@ -37,7 +37,7 @@ fn seen_as(items: &[StoredItem], item: &StoredItem) -> Seen
 }
 
 /// The items that changed above the clock, but for the root, by rid.
-fn seen_after(alloc: Global, items: &[StoredItem], after: u64) -> Result<Vec<Seen>, Memory>
+fn seen_after(alloc: Global, items: &[StoredItem], after: u64) -> Result<Vec<Seen>, OutOfMemory>
     requires { CountsFrom 1 items.now }
     ensures { IfOk result (λ seen. seen.items ≡ map (seen_as items.now) (filter (is_seen after) items.now)) }
 {
@@ -72,7 +72,7 @@ fn push_level(
     items: &[StoredItem],
     seen: &[Seen],
     level: Option<usize>,
-) -> Result<(), Memory>
+) -> Result<(), OutOfMemory>
     requires { CountsFrom 1 items.now }
     ensures room { All (λ e. length e.name ≤ 255) entries.old.items → OnOk result (All (λ e. length e.name ≤ 255) entries.new.items) }
     ensures told { OnOk result (entries.new.items ≡ entries.old.items ++ filter_map (told_level items.now level) seen.now) }
@@ -95,7 +95,7 @@ fn push_live(
     items: &[StoredItem],
     seen: &[Seen],
     most: usize,
-) -> Result<(), Memory>
+) -> Result<(), OutOfMemory>
     requires counted { CountsFrom 1 items.now }
     requires small { most < 2 ^ 32 }
     ensures room { All (λ e. length e.name ≤ 255) entries.old.items → OnOk result (All (λ e. length e.name ≤ 255) entries.new.items) }
@@ -108,7 +108,7 @@ fn push_live(
 }
 
 /// All that changed above the clock. It passes once over all items, and then some times over those that it tells.
-pub(crate) fn feed(alloc: Global, items: &[StoredItem], after: u64) -> Result<Vec<Entry>, Memory>
+pub(crate) fn feed(alloc: Global, items: &[StoredItem], after: u64) -> Result<Vec<Entry>, OutOfMemory>
     requires { CountsFrom 1 items.now }
     ensures room { IfOk result (λ es. All (λ e. length e.name ≤ 255) es.items) }
     ensures told { IfOk result (λ es. es.items ≡ feed_in items.now after) }

@@ -5,12 +5,12 @@ ghost use Rattle.std.specs.Prelude.{◌≡◌, Some, IfOk};
 use crate::ask_errors::AskError;
 use crate::remotes::Remote;
 use crate::store_remotes::StoreRemote;
-use cf_base::{Memory, Reply, Request};
+use cf_base::{OutOfMemory, Reply, Request};
 use std::alloc::Global;
 use std::marker::Model;
 
 /// A remote in memory of which the listed calls fail, counted from 1. They do nothing.
-#[derive(Debug, Drop)]
+#[derive(Drop)]
 pub struct FlakyRemote {
     inner: StoreRemote,
     fails: Vec<u64>,
@@ -29,7 +29,7 @@ impl Model for FlakyRemote {
 
 impl FlakyRemote {
     /// What the remote holds, where the listed calls fail, counted from 1 on from here.
-    pub fn new(alloc: Global, inner: StoreRemote, fails: &[u64]) -> Result<FlakyRemote, Memory>
+    pub fn new(alloc: Global, inner: StoreRemote, fails: &[u64]) -> Result<FlakyRemote, OutOfMemory>
         ensures { IfOk result (λ r. r ≡ record { held = Some inner.held; asks = Some 0; fails = Some fails.now; faults = 0 }) }
     {
         let fails = Vec::from_slice(alloc, fails)?;

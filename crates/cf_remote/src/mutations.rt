@@ -9,7 +9,7 @@ use crate::outcomes::Outcome;
 use crate::stored::StoredItem;
 use crate::stores::Store;
 use crate::tokens::Tokens;
-use cf_base::{Blob, Memory, Reply, Rid, Token, Version, Why};
+use cf_base::{Blob, OutOfMemory, Reply, Rid, Token, Version, Why};
 
 impl Store {
     pub(crate) fn put_new(
@@ -18,7 +18,7 @@ impl Store {
         parent: Rid,
         name: &Blob,
         bytes: &Blob,
-    ) -> Result<Reply, Memory>
+    ) -> Result<Reply, OutOfMemory>
         requires name { length name.now ≤ 255 }
         requires new { recorded_at self.old.tokens token ≡ None }
         ensures { Decides token (put_new self.old parent name.now bytes.now) self.old result self.new }
@@ -42,7 +42,7 @@ impl Store {
         parent: Rid,
         name: &Blob,
         bytes: &Blob,
-    ) -> Result<Reply, Memory>
+    ) -> Result<Reply, OutOfMemory>
         requires name { length name.now ≤ 255 }
         requires new { recorded_at self.old.tokens token ≡ None }
         requires accepted { why_new_file self.old parent name.now bytes.now ≡ None }
@@ -67,7 +67,7 @@ impl Store {
         token: Token,
         parent: Rid,
         name: &Blob,
-    ) -> Result<Reply, Memory>
+    ) -> Result<Reply, OutOfMemory>
         requires name { length name.now ≤ 255 }
         requires new { recorded_at self.old.tokens token ≡ None }
         ensures { Decides token (make_dir self.old parent name.now) self.old result self.new }
@@ -78,7 +78,7 @@ impl Store {
         }
     }
 
-    fn add_dir(&mut self, token: Token, parent: Rid, name: &Blob) -> Result<Reply, Memory>
+    fn add_dir(&mut self, token: Token, parent: Rid, name: &Blob) -> Result<Reply, OutOfMemory>
         requires name { length name.now ≤ 255 }
         requires new { recorded_at self.old.tokens token ≡ None }
         requires accepted { why_new_dir self.old parent name.now ≡ None }
@@ -103,7 +103,7 @@ impl Store {
         rid: Rid,
         expect: Version,
         bytes: &Blob,
-    ) -> Result<Reply, Memory>
+    ) -> Result<Reply, OutOfMemory>
         requires { recorded_at self.old.tokens token ≡ None }
         ensures { Decides token (put_version self.old rid expect bytes.now) self.old result self.new }
     {
@@ -122,7 +122,7 @@ impl Store {
         rid: Rid,
         expect: Version,
         bytes: &Blob,
-    ) -> Result<Reply, Memory>
+    ) -> Result<Reply, OutOfMemory>
         requires new { recorded_at self.old.tokens token ≡ None }
         requires accepted { why_version self.old rid expect bytes.now ≡ None }
         ensures { Gives (decide self.old token (put_version self.old rid expect bytes.now) None) self.old result self.new }
@@ -146,7 +146,7 @@ impl Store {
         rid: Rid,
         parent: Rid,
         name: &Blob,
-    ) -> Result<Reply, Memory>
+    ) -> Result<Reply, OutOfMemory>
         requires name { length name.now ≤ 255 }
         requires new { recorded_at self.old.tokens token ≡ None }
         ensures { Decides token (move_to self.old rid parent name.now) self.old result self.new }
@@ -157,7 +157,7 @@ impl Store {
         }
     }
 
-    fn place(&mut self, token: Token, rid: Rid, parent: Rid, name: &Blob) -> Result<Reply, Memory>
+    fn place(&mut self, token: Token, rid: Rid, parent: Rid, name: &Blob) -> Result<Reply, OutOfMemory>
         requires name { length name.now ≤ 255 }
         requires new { recorded_at self.old.tokens token ≡ None }
         requires accepted { why_move self.old rid parent name.now ≡ None }
@@ -181,7 +181,7 @@ impl Store {
         token: Token,
         rid: Rid,
         expect: Version,
-    ) -> Result<Reply, Memory>
+    ) -> Result<Reply, OutOfMemory>
         requires { recorded_at self.old.tokens token ≡ None }
         ensures { Decides token (remove_at self.old rid expect) self.old result self.new }
     {
@@ -194,7 +194,7 @@ impl Store {
         }
     }
 
-    fn end(&mut self, token: Token, rid: Rid, expect: Version) -> Result<Reply, Memory>
+    fn end(&mut self, token: Token, rid: Rid, expect: Version) -> Result<Reply, OutOfMemory>
         requires new { recorded_at self.old.tokens token ≡ None }
         requires accepted { why_remove self.old rid expect ≡ None }
         ensures { Gives (decide self.old token (remove_at self.old rid expect) None) self.old result self.new }

@@ -9,7 +9,7 @@ use crate::plans::plan;
 use crate::remotes::Remote;
 use crate::sending::{answer, send};
 use crate::stops::{Plan, Stop};
-use cf_base::{Answer, Code, Key, Memory, PeerEvent, Shown, Token};
+use cf_base::{Answer, Code, Key, OutOfMemory, PeerEvent, Shown, Token};
 use std::alloc::Global;
 
 fn finish<R: Remote>(
@@ -17,7 +17,7 @@ fn finish<R: Remote>(
     remote: &mut R,
     next: &mut u32,
     plan: Plan,
-) -> Result<Answer, Memory>
+) -> Result<Answer, OutOfMemory>
     requires next { next.old < 2 ^ 32 - 1 }
     requires room { PlanHasRoom plan }
     ensures { Does (finish plan) next.old (R.told remote.old) result next.new (R.told remote.new) }
@@ -32,7 +32,7 @@ fn finish<R: Remote>(
 }
 
 // A fault and a reply that cannot be use the token up.
-fn end(alloc: Global, next: &mut u32, stop: Stop) -> Result<Answer, Memory>
+fn end(alloc: Global, next: &mut u32, stop: Stop) -> Result<Answer, OutOfMemory>
     requires { next.old < 2 ^ 32 - 1 }
     ensures { EndsBy stop next.old result next.new }
 {
@@ -46,7 +46,7 @@ fn end(alloc: Global, next: &mut u32, stop: Stop) -> Result<Answer, Memory>
             *next += 1;
             Ok(answer(alloc, Shown::Refused(Code::Stale), Some(reply)))
         }
-        Stop::Memory => Err(Memory),
+        Stop::OutOfMemory => Err(OutOfMemory),
     }
 }
 
@@ -63,7 +63,7 @@ pub fn peer<R: Remote>(
     remote: &mut R,
     next: &mut u32,
     e: &PeerEvent,
-) -> Result<Answer, Memory>
+) -> Result<Answer, OutOfMemory>
     requires first { 0 < next.old }
     requires next { next.old < 2 ^ 32 - 1 }
     requires room { EventHasRoom e.now }

@@ -12,7 +12,7 @@ pub trait Remote {
     ghost told: { Self → Told };
 
     /// Does a request and gives the reply, both with names of at most 255 bytes and fewer than 4,294,967,296 bytes or
-    /// entries. A Fault is answered only where the count of faults rose, and then what it holds is as before. At Memory all
+    /// entries. A Fault is answered only where the count of faults rose, and then what it holds is as before. At OutOfMemory all
     /// is as before.
     fn ask(&mut self, q: &Request) -> Result<Reply, AskError>
         requires { HasRoom q.now }

@@ -15,13 +15,13 @@ use crate::feeds::feed;
 use crate::lookups::find;
 use crate::stored::StoredItem;
 use crate::tokens::Tokens;
-use cf_base::{Blob, Entry, Memory, Rid, Sequence, Token, Version};
+use cf_base::{Blob, Entry, OutOfMemory, Rid, Sequence, Token, Version};
 use std::alloc::Global;
 use std::marker::Model;
 
 /// All items, dead ones too, in order of rid, beside an index of the live ones by parent and name. How many live, and
 /// how many bytes are held, is kept and not computed.
-#[derive(Debug, Drop)]
+#[derive(Drop)]
 pub(crate) struct Shelf {
     items: Vec<StoredItem>,
     by_name: Vec<Rid>,
@@ -92,7 +92,7 @@ impl Shelf {
     }
 
     /// What is told of the live children of a directory, by name.
-    pub(crate) fn listing(&self, rid: Rid) -> Result<Sequence<Entry>, Memory>
+    pub(crate) fn listing(&self, rid: Rid) -> Result<Sequence<Entry>, OutOfMemory>
         requires { rid.0 + 1 < 2 ^ 64 }
         ensures room { IfOk result (λ es. All (λ e. length e.name ≤ 255) es) }
         ensures told { IfOk result (λ es. es ≡ sorted (λ e f. comes_before e.name f.name) (map entry_told (filter (λ s. s.live && (s.parent.0 == rid.0)) self.now))) }
@@ -102,7 +102,7 @@ impl Shelf {
     }
 
     /// What is told of all that changed above the clock.
-    pub(crate) fn feed(&self, after: u64) -> Result<Sequence<Entry>, Memory>
+    pub(crate) fn feed(&self, after: u64) -> Result<Sequence<Entry>, OutOfMemory>
         ensures room { IfOk result (λ es. All (λ e. length e.name ≤ 255) es) }
         ensures told { IfOk result (λ es. es ≡ feed_in self.now after) }
     {
@@ -150,7 +150,7 @@ impl Shelf {
         item: StoredItem,
         tokens: &mut Tokens,
         token: Token,
-    ) -> Result<(), Memory>
+    ) -> Result<(), OutOfMemory>
         requires next { item.rid.0 ≡ length self.old + 1 }
         requires live { item.live ≡ true }
         requires free { list_any (λ s. s.live && (s.parent.0 == item.parent.0) && same s.name item.name && not (s.rid.0 == 0)) self.old ≡ false }
@@ -203,7 +203,7 @@ impl Shelf {
         changed: u64,
         tokens: &mut Tokens,
         token: Token,
-    ) -> Result<Version, Memory>
+    ) -> Result<Version, OutOfMemory>
         requires there { says (λ s. s.live) (stored_at self.old rid) ≡ true }
         requires small { length bytes ≤ 16777216 }
         requires fits { sum_by held_len (at_rid rid (grown keep bytes changed) self.old) ≤ 536870912 }
@@ -231,7 +231,7 @@ impl Shelf {
 }
 
 /// The shelf of a new remote: the root alone.
-pub(crate) fn first_shelf(alloc: Global) -> Result<Shelf, Memory>
+pub(crate) fn first_shelf(alloc: Global) -> Result<Shelf, OutOfMemory>
     ensures { IfOk result (λ s. s ≡ empty_remote.items) }
 {
     let name = Blob::from_vec(Vec::new(alloc));

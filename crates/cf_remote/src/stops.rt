@@ -8,28 +8,28 @@ use crate::ask_errors::AskError;
 use cf_base::{Code, Reply, Request, Rid, Version};
 
 /// Why the look-up of a peer event ends it.
-#[derive(Debug, Drop)]
+#[derive(Drop)]
 pub(crate) enum Stop {
     Refused(Code),
     /// The remote failed.
     Fault,
     /// The reply cannot be.
     Stray(Reply),
-    Memory,
+    OutOfMemory,
 }
 
 /// What a peer event does once its paths are looked up.
-#[derive(Debug, Drop)]
+#[derive(Drop)]
 pub(crate) enum Plan {
     Send(Request),
     Tell(Rid, Version),
 }
 
-impl From<cf_base::Memory> for Stop {
-    ghost from_gives = { λ _ e. e ≡ stop.Memory };
+impl From<cf_base::OutOfMemory> for Stop {
+    ghost from_gives = { λ _ e. e ≡ stop.OutOfMemory };
 
-    fn from(_e: cf_base::Memory) -> Stop {
-        Stop::Memory
+    fn from(_e: cf_base::OutOfMemory) -> Stop {
+        Stop::OutOfMemory
     }
 }
 
@@ -39,7 +39,7 @@ impl From<AskError> for Stop {
     fn from(e: AskError) -> Stop {
         match e {
             AskError::Fault => Stop::Fault,
-            AskError::Memory => Stop::Memory,
+            AskError::OutOfMemory => Stop::OutOfMemory,
         }
     }
 }

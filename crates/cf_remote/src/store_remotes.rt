@@ -6,12 +6,12 @@ ghost use Rattle.cf_model.specs.Store.{empty_remote};
 use crate::ask_errors::AskError;
 use crate::remotes::Remote;
 use crate::stores::Store;
-use cf_base::{Memory, Reply, Request};
+use cf_base::{OutOfMemory, Reply, Request};
 use std::alloc::Global;
 use std::marker::Model;
 
 /// A remote in memory. It never fails. Contracts see what it holds, and how often it was asked.
-#[derive(Debug, Drop)]
+#[derive(Drop)]
 pub struct StoreRemote {
     store: Store,
     asks: u64,
@@ -27,7 +27,7 @@ impl Model for StoreRemote {
 
 impl StoreRemote {
     /// A remote with its root alone, the live directory 1. It keeps its allocator.
-    pub fn new(alloc: Global) -> Result<StoreRemote, Memory>
+    pub fn new(alloc: Global) -> Result<StoreRemote, OutOfMemory>
         ensures { IfOk result (λ r. r ≡ record { held = empty_remote; asks = 0 }) }
     {
         let store = Store::new(alloc)?;

@@ -6,12 +6,12 @@ ghost use Rattle.cf_remote.specs.Held.{grown, held_len, least_kept};
 
 use crate::outcomes::Outcome;
 use crate::tokens::Tokens;
-use cf_base::{Blob, Entry, Key, Memory, Reply, Rid, Token, Version};
+use cf_base::{Blob, Entry, Key, OutOfMemory, Reply, Rid, Token, Version};
 use std::alloc::Global;
 use std::marker::Model;
 
 /// An item, live or dead, with all versions that were ever made of it. Those from `least` on are held.
-#[derive(Debug, Drop)]
+#[derive(Drop)]
 pub(crate) struct StoredItem {
     rid: Rid,
     parent: Rid,
@@ -63,7 +63,7 @@ impl StoredItem {
         name: Blob,
         bytes: Blob,
         changed: u64,
-    ) -> Result<StoredItem, Memory>
+    ) -> Result<StoredItem, OutOfMemory>
         requires name { length name ≤ 255 }
         requires small { length bytes ≤ 16777216 }
         ensures { IfOk result (λ s. s ≡ record { rid = rid; parent = parent; name = name; directory = false; live = true; versions = bytes ∷ []; least = 1; changed = changed }) }
@@ -138,7 +138,7 @@ impl StoredItem {
     }
 
     /// What is told of the item.
-    pub(crate) fn entry(&self) -> Result<Entry, Memory>
+    pub(crate) fn entry(&self) -> Result<Entry, OutOfMemory>
         ensures told { IfOk result (λ e. e ≡ entry_told self.now) }
         ensures room { IfOk result (λ e. length e.name ≤ 255) }
     {
@@ -173,7 +173,7 @@ impl StoredItem {
         version: Version,
         start: u32,
         len: u32,
-    ) -> Result<Reply, Memory>
+    ) -> Result<Reply, OutOfMemory>
         ensures { IfOk result (λ r. r ≡ bytes_told key start len (nat_le self.now.least version.0) (version_bytes (Some self.now) version.0)) }
     {
         let Some(bytes) = self.version(version) else {
@@ -279,7 +279,7 @@ impl StoredItem {
         changed: u64,
         tokens: &mut Tokens,
         token: Token,
-    ) -> Result<Version, Memory>
+    ) -> Result<Version, OutOfMemory>
         requires small { length bytes ≤ 16777216 }
         requires new { recorded_at tokens.old token ≡ None }
         ensures ok { OnOk result (self.new ≡ grown keep bytes changed self.old) }

@@ -11,12 +11,12 @@ use crate::decisions::is_live_dir;
 use crate::outcomes::Outcome;
 use crate::shelves::{Shelf, first_shelf};
 use crate::tokens::Tokens;
-use cf_base::{Entry, Key, Memory, Reply, Request, Rid, Round, Sequence, Token, Version, Why};
+use cf_base::{Entry, Key, OutOfMemory, Reply, Request, Rid, Round, Sequence, Token, Version, Why};
 use std::alloc::Global;
 use std::marker::Model;
 
 /// The items, the clock of the last change, and what became of each token.
-#[derive(Debug, Drop)]
+#[derive(Drop)]
 pub(crate) struct Store {
     pub(crate) shelf: Shelf,
     pub(crate) clock: u64,
@@ -38,7 +38,7 @@ impl Model for Store {
 
 impl Store {
     /// The live root directory alone.
-    pub(crate) fn new(alloc: Global) -> Result<Store, Memory>
+    pub(crate) fn new(alloc: Global) -> Result<Store, OutOfMemory>
         ensures { IfOk result (λ s. s ≡ empty_remote) }
     {
         let shelf = first_shelf(alloc)?;
@@ -67,7 +67,7 @@ impl Store {
     }
 
     /// The token is void from now on.
-    fn make_void(&mut self, token: Token) -> Result<(), Memory>
+    fn make_void(&mut self, token: Token) -> Result<(), OutOfMemory>
         requires { recorded_at self.old.tokens token ≡ None }
         ensures ok { OnOk result (self.new ≡ with_token token RecordedVoid self.old) }
         ensures err { OnErr result (self.new ≡ self.old) }
@@ -82,7 +82,7 @@ impl Store {
         token: Token,
         why: Why,
         version: Version,
-    ) -> Result<Reply, Memory>
+    ) -> Result<Reply, OutOfMemory>
         requires { recorded_at self.old.tokens token ≡ None }
         ensures reply { IfOk result (λ r. r ≡ reply.Refused token why version) }
         ensures ok { OnOk result (self.new ≡ with_token token RecordedVoid self.old) }
@@ -98,7 +98,7 @@ impl Store {
 
     // what the remote tells
 
-    fn feed(&self, round: Round, after: u64) -> Result<Reply, Memory>
+    fn feed(&self, round: Round, after: u64) -> Result<Reply, OutOfMemory>
         ensures told { IfOk result (λ r. r ≡ reply.Feed round self.now.clock (feed_of self.now after)) }
         ensures room { IfOk result ReplyHasRoom }
     {
@@ -110,7 +110,7 @@ impl Store {
         })
     }
 
-    fn list(&self, key: Key, rid: Rid) -> Result<Reply, Memory>
+    fn list(&self, key: Key, rid: Rid) -> Result<Reply, OutOfMemory>
         ensures told { IfOk result (λ r. r ≡ (remote_step self.now (request.List key rid)).0) }
         ensures room { IfOk result ReplyHasRoom }
     {
@@ -128,7 +128,7 @@ impl Store {
         version: Version,
         start: u32,
         len: u32,
-    ) -> Result<Reply, Memory>
+    ) -> Result<Reply, OutOfMemory>
         ensures told { IfOk result (λ r. r ≡ (remote_step self.now (request.Fetch key rid version start len)).0) }
         ensures room { IfOk result ReplyHasRoom }
     {
@@ -140,7 +140,7 @@ impl Store {
 
     // tokens alone
 
-    fn settle(&mut self, token: Token) -> Result<Reply, Memory>
+    fn settle(&mut self, token: Token) -> Result<Reply, OutOfMemory>
         ensures { Gives (settle self.old token (recorded_at self.old.tokens token)) self.old result self.new }
     {
         if let Some(reply) = self.recall(token) {
@@ -150,7 +150,7 @@ impl Store {
         Ok(Reply::Void { token })
     }
 
-    fn keep_last(&mut self, token: Token, count: u32) -> Result<Reply, Memory>
+    fn keep_last(&mut self, token: Token, count: u32) -> Result<Reply, OutOfMemory>
         requires { recorded_at self.old.tokens token ≡ None }
         ensures { Gives (keep_last self.old token count None) self.old result self.new }
     {
@@ -169,7 +169,7 @@ impl Store {
     /// Does a request by the rules of the remote. Without memory nothing changes. It takes time by the logarithm of the
     /// number of items, and by the depth; a Feed and the Move of a directory with children go through all items, a Keep
     /// through all and the versions that it drops.
-    pub(crate) fn step(&mut self, q: &Request) -> Result<Reply, Memory>
+    pub(crate) fn step(&mut self, q: &Request) -> Result<Reply, OutOfMemory>
         requires { HasRoom q.now }
         ensures step { Gives (remote_step self.old q.now) self.old result self.new }
         ensures room { IfOk result ReplyHasRoom }
@@ -227,12 +227,12 @@ impl Store {
 }
 
 /// The entries, where a reply has room for so many.
-fn with_room(entries: Sequence<Entry>) -> Result<Sequence<Entry>, Memory>
+fn with_room(entries: Sequence<Entry>) -> Result<Sequence<Entry>, OutOfMemory>
     ensures same { IfOk result (λ es. es ≡ entries) }
     ensures room { IfOk result (λ es. length es < 2 ^ 32) }
 {
     if entries.as_slice().len() > u32::MAX as usize {
-        return Err(Memory);
+        return Err(OutOfMemory);
     }
     Ok(entries)
 }

@@ -6,13 +6,13 @@ ghost use Rattle.cf_remote.specs.Tokens.{recorded_of};
 ghost use Rattle.cf_remote.specs.declared.outcomes.TokenRecord.{TokenRecord};
 
 use crate::outcomes::{Outcome, TokenRecord};
-use cf_base::{Memory, Token};
+use cf_base::{OutOfMemory, Token};
 use std::alloc::Global;
 use std::collections::BTreeMap;
 use std::marker::Model;
 
 /// What became of each token that came. Contracts see the latest first.
-#[derive(Debug, Drop)]
+#[derive(Drop)]
 pub(crate) struct Tokens {
     records: Vec<TokenRecord>,
     places: BTreeMap<Token, usize>,
@@ -68,7 +68,7 @@ impl Tokens {
     }
 
     /// Records what became of a token that has not come before.
-    pub(crate) fn record(&mut self, token: Token, outcome: Outcome) -> Result<(), Memory>
+    pub(crate) fn record(&mut self, token: Token, outcome: Outcome) -> Result<(), OutOfMemory>
         requires { recorded_at self.old token ≡ None }
         ensures ok { OnOk result (self.new ≡ (token, recorded_of outcome) ∷ self.old) }
         ensures err { OnErr result (self.new ≡ self.old) }

@@ -5,7 +5,7 @@ ghost use Rattle.cf_report.specs.Changes.{change_words, keep_word, kind_word, pi
 ghost use Rattle.cf_report.specs.Words.{bytes_text, decimal, name_text, spaced};
 
 use crate::words::{push_bytes, push_labelled, push_name_word, push_number, push_usn, push_word};
-use cf_base::{Change, Identity, ItemId, Kind, Memory, Name, Pin};
+use cf_base::{Change, Identity, ItemId, Kind, OutOfMemory, Name, Pin};
 
 /// The word of a kind.
 pub fn kind_word(kind: Kind) -> &'static str
@@ -39,14 +39,14 @@ fn keep_word(on: bool) -> &'static str
     if on { "yes" } else { "no" }
 }
 
-fn push_place(out: &mut Vec<u8>, parent: ItemId, name: &Name) -> Result<(), Memory>
+fn push_place(out: &mut Vec<u8>, parent: ItemId, name: &Name) -> Result<(), OutOfMemory>
     ensures { OnOk result (out.new.items ≡ out.old.items ++ (32 ∷ decimal parent.0 ++ (32 ∷ name_text name.now))) }
 {
     push_number(out, parent.0)?;
     push_name_word(out, name.as_slice())
 }
 
-fn push_new(out: &mut Vec<u8>, kind: Kind, size: u64, identity: &Identity) -> Result<(), Memory>
+fn push_new(out: &mut Vec<u8>, kind: Kind, size: u64, identity: &Identity) -> Result<(), OutOfMemory>
     ensures { OnOk result (out.new.items ≡ out.old.items ++ (32 ∷ kind_word kind ++ (32 ∷ decimal size ++ (32 ∷ bytes_text identity.now)))) }
 {
     push_word(out, kind_word(kind))?;
@@ -54,14 +54,14 @@ fn push_new(out: &mut Vec<u8>, kind: Kind, size: u64, identity: &Identity) -> Re
     push_bytes(out, identity.as_slice())
 }
 
-fn push_numbers(out: &mut Vec<u8>, start: u64, len: u64) -> Result<(), Memory>
+fn push_numbers(out: &mut Vec<u8>, start: u64, len: u64) -> Result<(), OutOfMemory>
     ensures { OnOk result (out.new.items ≡ out.old.items ++ (32 ∷ decimal start ++ (32 ∷ decimal len))) }
 {
     push_number(out, start)?;
     push_number(out, len)
 }
 
-fn push_base(out: &mut Vec<u8>, identity: &Identity, len: u64) -> Result<(), Memory>
+fn push_base(out: &mut Vec<u8>, identity: &Identity, len: u64) -> Result<(), OutOfMemory>
     ensures { OnOk result (out.new.items ≡ out.old.items ++ (32 ∷ bytes_text identity.now ++ (32 ∷ decimal len))) }
 {
     push_bytes(out, identity.as_slice())?;
@@ -70,7 +70,7 @@ fn push_base(out: &mut Vec<u8>, identity: &Identity, len: u64) -> Result<(), Mem
 
 /// Adds a change, each word after a space.
 #[tactic(auto, using(crate::proofs::Joins::joins))]
-pub fn push_change(out: &mut Vec<u8>, change: &Change) -> Result<(), Memory>
+pub fn push_change(out: &mut Vec<u8>, change: &Change) -> Result<(), OutOfMemory>
     ensures { OnOk result (out.new.items ≡ out.old.items ++ spaced (change_words change.now)) }
 {
     match change {

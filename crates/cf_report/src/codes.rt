@@ -6,7 +6,7 @@ ghost use Rattle.cf_report.specs.Texts.{code_words};
 ghost use Rattle.cf_report.specs.Words.{spaced};
 
 use crate::words::{push_usn, push_word};
-use cf_base::{Code, Memory};
+use cf_base::{Code, OutOfMemory};
 
 fn name_of(code: Code) -> &'static str
     ensures { result.now ≡ name_of code }
@@ -61,7 +61,7 @@ fn name_of(code: Code) -> &'static str
 }
 
 /// Adds a code, each word after a space.
-pub fn push_code(out: &mut Vec<u8>, code: Code) -> Result<(), Memory>
+pub fn push_code(out: &mut Vec<u8>, code: Code) -> Result<(), OutOfMemory>
     ensures { OnOk result (out.new.items ≡ out.old.items ++ spaced (code_words code)) }
 {
     push_word(out, name_of(code))?;

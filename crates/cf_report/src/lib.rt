@@ -15,11 +15,11 @@ ghost use Rattle.cf_report.specs.Texts.{text};
 
 use crate::notices::push_notices;
 use crate::results::push_result;
-use cf_base::{Answer, Blob, Memory};
+use cf_base::{Answer, Blob, OutOfMemory};
 use std::alloc::Global;
 
 /// The lines of an answer. Fails where there is no memory for them.
-pub fn text(alloc: Global, answer: &Answer) -> Result<Blob, Memory>
+pub fn text(alloc: Global, answer: &Answer) -> Result<Blob, OutOfMemory>
     ensures { IfOk result (λ b. b ≡ text answer.now) }
 {
     let mut out = Vec::new(alloc);

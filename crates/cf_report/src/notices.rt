@@ -11,10 +11,10 @@ use crate::codes::push_code;
 use crate::results::{push_data, push_end, push_refused};
 use crate::words::{push_key, push_labelled, push_number, push_usn, push_word};
 use cf_base::{
-    Ask, AskKind, Change, Frame, Key, Memory, Notice, OperationAnswer, Request, Sent, Usn,
+    Ask, AskKind, Change, Frame, Key, OutOfMemory, Notice, OperationAnswer, Request, Sent, Usn,
 };
 
-fn push_changed(out: &mut Vec<u8>, number: Usn, change: &Change) -> Result<(), Memory>
+fn push_changed(out: &mut Vec<u8>, number: Usn, change: &Change) -> Result<(), OutOfMemory>
     ensures { OnOk result (out.new.items ≡ out.old.items ++ (32 ∷ codes "change" ++ (32 ∷ usn_text number ++ (spaced (change_words change.now))))) }
 {
     push_word(out, "change")?;
@@ -22,14 +22,14 @@ fn push_changed(out: &mut Vec<u8>, number: Usn, change: &Change) -> Result<(), M
     push_change(out, change)
 }
 
-fn push_named(out: &mut Vec<u8>, word: &str, key: Key) -> Result<(), Memory>
+fn push_named(out: &mut Vec<u8>, word: &str, key: Key) -> Result<(), OutOfMemory>
     ensures { OnOk result (out.new.items ≡ out.old.items ++ (32 ∷ word.now ++ (32 ∷ key_text key))) }
 {
     push_word(out, word)?;
     push_key(out, key)
 }
 
-fn push_asked(out: &mut Vec<u8>, word: &str, ask: &Ask) -> Result<(), Memory>
+fn push_asked(out: &mut Vec<u8>, word: &str, ask: &Ask) -> Result<(), OutOfMemory>
     ensures { OnOk result (out.new.items ≡ out.old.items ++ (32 ∷ word.now ++ (32 ∷ decimal ask.now.item.0 ++ (32 ∷ decimal ask.now.span.start ++ (32 ∷ decimal ask.now.span.len))))) }
 {
     push_word(out, word)?;
@@ -38,7 +38,7 @@ fn push_asked(out: &mut Vec<u8>, word: &str, ask: &Ask) -> Result<(), Memory>
     push_number(out, ask.span.len)
 }
 
-fn push_ask(out: &mut Vec<u8>, ask: &Ask) -> Result<(), Memory>
+fn push_ask(out: &mut Vec<u8>, ask: &Ask) -> Result<(), OutOfMemory>
     ensures { OnOk result (out.new.items ≡ out.old.items ++ spaced (ask_words ask.now.kind ask.now.item.0 ask.now.span)) }
 {
     match ask.kind {
@@ -49,7 +49,7 @@ fn push_ask(out: &mut Vec<u8>, ask: &Ask) -> Result<(), Memory>
     }
 }
 
-fn push_operation(out: &mut Vec<u8>, answer: &OperationAnswer) -> Result<(), Memory>
+fn push_operation(out: &mut Vec<u8>, answer: &OperationAnswer) -> Result<(), OutOfMemory>
     ensures { OnOk result (out.new.items ≡ out.old.items ++ spaced (operation_words answer.now)) }
 {
     match answer {
@@ -75,7 +75,7 @@ fn request_word(request: &Request) -> &'static str
     }
 }
 
-fn push_frame(out: &mut Vec<u8>, frame: &Frame) -> Result<(), Memory>
+fn push_frame(out: &mut Vec<u8>, frame: &Frame) -> Result<(), OutOfMemory>
     ensures { OnOk result (out.new.items ≡ out.old.items ++ spaced (frame_words frame.now)) }
 {
     match frame {
@@ -90,7 +90,7 @@ fn sent_word(lost: bool) -> &'static str
     if lost { "lost" } else { "sent" }
 }
 
-fn push_sent(out: &mut Vec<u8>, sent: &Sent) -> Result<(), Memory>
+fn push_sent(out: &mut Vec<u8>, sent: &Sent) -> Result<(), OutOfMemory>
     ensures { OnOk result (out.new.items ≡ out.old.items ++ spaced (sent_word sent.now.lost ∷ decimal sent.now.message ∷ frame_words sent.now.frame)) }
 {
     push_word(out, sent_word(sent.lost))?;
@@ -99,7 +99,7 @@ fn push_sent(out: &mut Vec<u8>, sent: &Sent) -> Result<(), Memory>
 }
 
 #[tactic(auto, using(crate::proofs::Joins::joins))]
-fn push_words(out: &mut Vec<u8>, notice: &Notice) -> Result<(), Memory>
+fn push_words(out: &mut Vec<u8>, notice: &Notice) -> Result<(), OutOfMemory>
     ensures { OnOk result (out.new.items ≡ out.old.items ++ spaced (notice_words notice.now)) }
 {
     match notice {
@@ -131,7 +131,7 @@ fn push_words(out: &mut Vec<u8>, notice: &Notice) -> Result<(), Memory>
 }
 
 /// Adds the line of a notice.
-pub fn push_notice(out: &mut Vec<u8>, notice: &Notice) -> Result<(), Memory>
+pub fn push_notice(out: &mut Vec<u8>, notice: &Notice) -> Result<(), OutOfMemory>
     ensures { OnOk result (out.new.items ≡ out.old.items ++ notice_line notice.now) }
 {
     out.push(b'-')?;
@@ -141,7 +141,7 @@ pub fn push_notice(out: &mut Vec<u8>, notice: &Notice) -> Result<(), Memory>
 }
 
 /// Adds a line for each notice.
-pub fn push_notices(out: &mut Vec<u8>, notices: &[Notice]) -> Result<(), Memory>
+pub fn push_notices(out: &mut Vec<u8>, notices: &[Notice]) -> Result<(), OutOfMemory>
     ensures { OnOk result (out.new.items ≡ out.old.items ++ flat_map notice_line notices.now) }
 {
     for notice in notices {

@@ -11,10 +11,10 @@ use crate::words::{
     push_bytes, push_decimal, push_key, push_labelled, push_name_word, push_number, push_plain,
     push_usn, push_word,
 };
-use cf_base::{Code, End, Identity, Kind, ListedItem, Memory, Pin, Shown, Span, Usn};
+use cf_base::{Code, End, Identity, Kind, ListedItem, OutOfMemory, Pin, Shown, Span, Usn};
 
 /// Adds `refused` and a code.
-pub fn push_refused(out: &mut Vec<u8>, code: Code) -> Result<(), Memory>
+pub fn push_refused(out: &mut Vec<u8>, code: Code) -> Result<(), OutOfMemory>
     ensures { OnOk result (out.new.items ≡ out.old.items ++ spaced (codes "refused" ∷ code_words code)) }
 {
     push_word(out, "refused")?;
@@ -22,14 +22,14 @@ pub fn push_refused(out: &mut Vec<u8>, code: Code) -> Result<(), Memory>
 }
 
 /// Adds `data` and bytes.
-pub fn push_data(out: &mut Vec<u8>, bytes: &[u8]) -> Result<(), Memory>
+pub fn push_data(out: &mut Vec<u8>, bytes: &[u8]) -> Result<(), OutOfMemory>
     ensures { OnOk result (out.new.items ≡ out.old.items ++ spaced (codes "data" ∷ bytes_text bytes.now ∷ [])) }
 {
     push_word(out, "data")?;
     push_bytes(out, bytes)
 }
 
-fn push_listed(out: &mut Vec<u8>, item: &ListedItem) -> Result<(), Memory>
+fn push_listed(out: &mut Vec<u8>, item: &ListedItem) -> Result<(), OutOfMemory>
     ensures { OnOk result (out.new.items ≡ out.old.items ++ 32 ∷ listed item.now) }
 {
     push_name_word(out, item.name.as_slice())?;
@@ -40,7 +40,7 @@ fn push_listed(out: &mut Vec<u8>, item: &ListedItem) -> Result<(), Memory>
     }
 }
 
-fn push_list(out: &mut Vec<u8>, items: &[ListedItem]) -> Result<(), Memory>
+fn push_list(out: &mut Vec<u8>, items: &[ListedItem]) -> Result<(), OutOfMemory>
     ensures { OnOk result (out.new.items ≡ out.old.items ++ spaced (map listed items.now)) }
 {
     for item in items {
@@ -50,7 +50,7 @@ fn push_list(out: &mut Vec<u8>, items: &[ListedItem]) -> Result<(), Memory>
 }
 
 /// Adds how a wait ended, each word after a space.
-pub fn push_end(out: &mut Vec<u8>, end: &End) -> Result<(), Memory>
+pub fn push_end(out: &mut Vec<u8>, end: &End) -> Result<(), OutOfMemory>
     ensures { OnOk result (out.new.items ≡ out.old.items ++ spaced (end_words end.now)) }
 {
     match end {
@@ -74,7 +74,7 @@ pub fn push_end(out: &mut Vec<u8>, end: &End) -> Result<(), Memory>
     }
 }
 
-fn push_run(out: &mut Vec<u8>, span: Span) -> Result<(), Memory>
+fn push_run(out: &mut Vec<u8>, span: Span) -> Result<(), OutOfMemory>
     ensures { OnOk result (out.new.items ≡ out.old.items ++ 32 ∷ run span) }
 {
     push_number(out, span.start)?;
@@ -82,7 +82,7 @@ fn push_run(out: &mut Vec<u8>, span: Span) -> Result<(), Memory>
     push_decimal(out, span.len)
 }
 
-fn push_runs(out: &mut Vec<u8>, runs: &[Span]) -> Result<(), Memory>
+fn push_runs(out: &mut Vec<u8>, runs: &[Span]) -> Result<(), OutOfMemory>
     ensures { OnOk result (out.new.items ≡ out.old.items ++ spaced (map run runs.now)) }
 {
     for span in runs {
@@ -97,21 +97,21 @@ fn sync_word(in_sync: bool) -> &'static str
     if in_sync { "insync" } else { "notinsync" }
 }
 
-fn push_what(out: &mut Vec<u8>, kind: Kind, size: u64) -> Result<(), Memory>
+fn push_what(out: &mut Vec<u8>, kind: Kind, size: u64) -> Result<(), OutOfMemory>
     ensures { OnOk result (out.new.items ≡ out.old.items ++ (32 ∷ kind_word kind ++ (32 ∷ decimal size))) }
 {
     push_word(out, kind_word(kind))?;
     push_number(out, size)
 }
 
-fn push_state(out: &mut Vec<u8>, pin: Pin, in_sync: bool) -> Result<(), Memory>
+fn push_state(out: &mut Vec<u8>, pin: Pin, in_sync: bool) -> Result<(), OutOfMemory>
     ensures { OnOk result (out.new.items ≡ out.old.items ++ (32 ∷ pin_word pin ++ (32 ∷ sync_word in_sync))) }
 {
     push_word(out, pin_word(pin))?;
     push_word(out, sync_word(in_sync))
 }
 
-fn push_known(out: &mut Vec<u8>, number: Usn, identity: &Identity) -> Result<(), Memory>
+fn push_known(out: &mut Vec<u8>, number: Usn, identity: &Identity) -> Result<(), OutOfMemory>
     ensures { OnOk result (out.new.items ≡ out.old.items ++ (32 ∷ usn_text number ++ (32 ∷ bytes_text identity.now))) }
 {
     push_usn(out, number)?;
@@ -124,7 +124,7 @@ fn push_standing(
     in_sync: bool,
     number: Usn,
     identity: &Identity,
-) -> Result<(), Memory>
+) -> Result<(), OutOfMemory>
     ensures { OnOk result (out.new.items ≡ out.old.items ++ (32 ∷ pin_word pin ++ (32 ∷ sync_word in_sync ++ (32 ∷ usn_text number ++ (32 ∷ bytes_text identity.now))))) }
 {
     push_state(out, pin, in_sync)?;
@@ -133,7 +133,7 @@ fn push_standing(
 
 /// Adds a result, each word after a space.
 #[tactic(auto, using(crate::proofs::Joins::joins))]
-pub fn push_shown(out: &mut Vec<u8>, shown: &Shown) -> Result<(), Memory>
+pub fn push_shown(out: &mut Vec<u8>, shown: &Shown) -> Result<(), OutOfMemory>
     ensures { OnOk result (out.new.items ≡ out.old.items ++ spaced (shown_words shown.now)) }
 {
     match shown {
@@ -187,7 +187,7 @@ pub fn push_shown(out: &mut Vec<u8>, shown: &Shown) -> Result<(), Memory>
 }
 
 /// Adds the line of a result.
-pub fn push_result(out: &mut Vec<u8>, shown: &Shown) -> Result<(), Memory>
+pub fn push_result(out: &mut Vec<u8>, shown: &Shown) -> Result<(), OutOfMemory>
     ensures { OnOk result (out.new.items ≡ out.old.items ++ result_line shown.now) }
 {
     out.push(b'=')?;

@@ -3,11 +3,11 @@
 ghost use Rattle.std.specs.Prelude.{◌≡◌, ◌∷◌, ◌++◌, OnOk};
 ghost use Rattle.cf_report.specs.Words.{bytes_text, decimal, escape, key_text, name_text, pair_text, usn_text};
 
-use cf_base::{Key, Memory, Usn};
+use cf_base::{Key, OutOfMemory, Usn};
 use itoa::Buffer;
 
 /// Adds bytes as they are.
-pub fn push_plain(out: &mut Vec<u8>, text: &[u8]) -> Result<(), Memory>
+pub fn push_plain(out: &mut Vec<u8>, text: &[u8]) -> Result<(), OutOfMemory>
     ensures { OnOk result (out.new.items ≡ out.old.items ++ text.now) }
 {
     out.extend_from_slice(text)?;
@@ -15,7 +15,7 @@ pub fn push_plain(out: &mut Vec<u8>, text: &[u8]) -> Result<(), Memory>
 }
 
 /// Adds a space and a word.
-pub fn push_word(out: &mut Vec<u8>, word: &str) -> Result<(), Memory>
+pub fn push_word(out: &mut Vec<u8>, word: &str) -> Result<(), OutOfMemory>
     ensures { OnOk result (out.new.items ≡ out.old.items ++ 32 ∷ word.now) }
 {
     out.push(b' ')?;
@@ -24,7 +24,7 @@ pub fn push_word(out: &mut Vec<u8>, word: &str) -> Result<(), Memory>
 
 /// Adds a number in decimal digits.
 #[tactic(auto, using(crate::proofs::Decimals::decimal_same))]
-pub fn push_decimal(out: &mut Vec<u8>, n: u64) -> Result<(), Memory>
+pub fn push_decimal(out: &mut Vec<u8>, n: u64) -> Result<(), OutOfMemory>
     ensures { OnOk result (out.new.items ≡ out.old.items ++ decimal n) }
 {
     let mut buffer = Buffer::new();
@@ -33,7 +33,7 @@ pub fn push_decimal(out: &mut Vec<u8>, n: u64) -> Result<(), Memory>
 }
 
 /// Adds a space and a number.
-pub fn push_number(out: &mut Vec<u8>, n: u64) -> Result<(), Memory>
+pub fn push_number(out: &mut Vec<u8>, n: u64) -> Result<(), OutOfMemory>
     ensures { OnOk result (out.new.items ≡ out.old.items ++ 32 ∷ decimal n) }
 {
     out.push(b' ')?;
@@ -41,14 +41,14 @@ pub fn push_number(out: &mut Vec<u8>, n: u64) -> Result<(), Memory>
 }
 
 /// Adds a word and a number, a space before each.
-pub fn push_labelled(out: &mut Vec<u8>, label: &str, n: u64) -> Result<(), Memory>
+pub fn push_labelled(out: &mut Vec<u8>, label: &str, n: u64) -> Result<(), OutOfMemory>
     ensures { OnOk result (out.new.items ≡ out.old.items ++ (32 ∷ label.now ++ (32 ∷ decimal n))) }
 {
     push_word(out, label)?;
     push_number(out, n)
 }
 
-fn push_pair(out: &mut Vec<u8>, epoch: u32, n: u32) -> Result<(), Memory>
+fn push_pair(out: &mut Vec<u8>, epoch: u32, n: u32) -> Result<(), OutOfMemory>
     ensures { OnOk result (out.new.items ≡ out.old.items ++ 32 ∷ pair_text epoch n) }
 {
     push_number(out, epoch.into())?;
@@ -57,14 +57,14 @@ fn push_pair(out: &mut Vec<u8>, epoch: u32, n: u32) -> Result<(), Memory>
 }
 
 /// Adds a space and a sequence number.
-pub fn push_usn(out: &mut Vec<u8>, number: Usn) -> Result<(), Memory>
+pub fn push_usn(out: &mut Vec<u8>, number: Usn) -> Result<(), OutOfMemory>
     ensures { OnOk result (out.new.items ≡ out.old.items ++ 32 ∷ usn_text number) }
 {
     push_pair(out, number.epoch, number.place)
 }
 
 /// Adds a space and a key.
-pub fn push_key(out: &mut Vec<u8>, key: Key) -> Result<(), Memory>
+pub fn push_key(out: &mut Vec<u8>, key: Key) -> Result<(), OutOfMemory>
     ensures { OnOk result (out.new.items ≡ out.old.items ++ 32 ∷ key_text key) }
 {
     push_pair(out, key.epoch, key.number)
@@ -72,7 +72,7 @@ pub fn push_key(out: &mut Vec<u8>, key: Key) -> Result<(), Memory>
 
 /// Adds a space and bytes in hexadecimal digits, or a minus for none.
 #[tactic(auto, using(crate::proofs::Digits::hex_same))]
-pub fn push_bytes(out: &mut Vec<u8>, bytes: &[u8]) -> Result<(), Memory>
+pub fn push_bytes(out: &mut Vec<u8>, bytes: &[u8]) -> Result<(), OutOfMemory>
     ensures { OnOk result (out.new.items ≡ out.old.items ++ 32 ∷ bytes_text bytes.now) }
 {
     if bytes.is_empty() {
@@ -83,7 +83,7 @@ pub fn push_bytes(out: &mut Vec<u8>, bytes: &[u8]) -> Result<(), Memory>
     push_word(out, digits.as_str())
 }
 
-fn push_escaped(out: &mut Vec<u8>, byte: u8) -> Result<(), Memory>
+fn push_escaped(out: &mut Vec<u8>, byte: u8) -> Result<(), OutOfMemory>
     ensures { OnOk result (out.new.items ≡ out.old.items ++ escape byte) }
 {
     match byte {
@@ -97,7 +97,7 @@ fn push_escaped(out: &mut Vec<u8>, byte: u8) -> Result<(), Memory>
 }
 
 /// Adds a name with its escapes.
-pub fn push_name(out: &mut Vec<u8>, name: &[u8]) -> Result<(), Memory>
+pub fn push_name(out: &mut Vec<u8>, name: &[u8]) -> Result<(), OutOfMemory>
     ensures { OnOk result (out.new.items ≡ out.old.items ++ name_text name.now) }
 {
     for byte in name {
@@ -107,7 +107,7 @@ pub fn push_name(out: &mut Vec<u8>, name: &[u8]) -> Result<(), Memory>
 }
 
 /// Adds a space and a name with its escapes.
-pub fn push_name_word(out: &mut Vec<u8>, name: &[u8]) -> Result<(), Memory>
+pub fn push_name_word(out: &mut Vec<u8>, name: &[u8]) -> Result<(), OutOfMemory>
     ensures { OnOk result (out.new.items ≡ out.old.items ++ 32 ∷ name_text name.now) }
 {
     out.push(b' ')?;

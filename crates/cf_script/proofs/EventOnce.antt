@@ -71,7 +71,7 @@ peer_once : (w : List ℕ) (x y : PeerCommand) → w ≡ peer_name x → w ≡ p
 peer_once w x y a b = let h : Some x ≡ Some y = sym (peer_again x) ∙ ap (λ v. peer_found v peer_all) (sym a ∙ b) ∙ peer_again y in cc
 
 abbrev operation_all : List OperationCommand
-operation_all = operation.Transfer ∷ operation.Fail ∷ operation.Retrieve ∷ operation.Ack ∷ operation.Rehydrate ∷ operation.Entries ∷ operation.AckDehydrate ∷ []
+operation_all = operation.Transfer ∷ operation.CallError ∷ operation.Retrieve ∷ operation.Ack ∷ operation.Rehydrate ∷ operation.Entries ∷ operation.AckDehydrate ∷ []
 
 abbrev operation_found : List ℕ → List OperationCommand → Option OperationCommand
 operation_found w [] = None
@@ -79,7 +79,7 @@ operation_found w (x ∷ xs) = cond (bytes_eq (operation_name x) w) (Some x) (op
 
 operation_again : (x : OperationCommand) → operation_found (operation_name x) operation_all ≡ Some x
 operation_again operation.Transfer = refl
-operation_again operation.Fail = refl
+operation_again operation.CallError = refl
 operation_again operation.Retrieve = refl
 operation_again operation.Ack = refl
 operation_again operation.Rehydrate = refl
@@ -398,7 +398,7 @@ entries_once (w ∷ ws) (a ∷ as') (b ∷ bs) x y = let one = fields_once (fiel
 
 operation_line_once : (c : OperationCommand) (key : Key) (ws : List (List ℕ)) (a b : Operation) → IsOperation c key ws a → IsOperation c key ws b → a ≡ b
 operation_line_once operation.Transfer key (o ∷ d ∷ []) a b x y = let h0 = num_once o x.0 y.0 x.2 y.2 in let h1 = data_once d x.1 y.1 x.3 y.3 in cc (x.4, y.4)
-operation_line_once operation.Fail key (o ∷ l ∷ s ∷ []) a b x y = let h0 = num_once o x.0 y.0 x.3 y.3 in let h1 = num_once l x.1 y.1 x.4 y.4 in let h2 = num_once s x.2 y.2 x.5 y.5 in cc (x.6, y.6)
+operation_line_once operation.CallError key (o ∷ l ∷ s ∷ []) a b x y = let h0 = num_once o x.0 y.0 x.3 y.3 in let h1 = num_once l x.1 y.1 x.4 y.4 in let h2 = num_once s x.2 y.2 x.5 y.5 in cc (x.6, y.6)
 operation_line_once operation.Retrieve key (o ∷ l ∷ []) a b x y = let h0 = num_once o x.0 y.0 x.2 y.2 in let h1 = num_once l x.1 y.1 x.3 y.3 in cc (x.4, y.4)
 operation_line_once operation.Ack key (o ∷ l ∷ g ∷ []) a b x y = let h0 = num_once o x.0 y.0 x.3 y.3 in let h1 = num_once l x.1 y.1 x.4 y.4 in let h2 = good_once g x.2 y.2 x.5 y.5 in cc (x.6, y.6)
 operation_line_once operation.Rehydrate key [] a b x y = x ∙ sym y

@@ -212,7 +212,7 @@ OpFits key op = (key_of op ≡ key) × OperationFits op
 
 operation_fits : (c : OperationCommand) (key : Key) (ws : List (List ℕ)) (op : Operation) → AllPlain ws → IsOperation c key ws op → OpFits key op
 operation_fits operation_word.Transfer key (o ∷ d ∷ []) op all x = subst (OpFits key) (sym x.4) (refl, (x.2.0, data_fits d x.1 x.3))
-operation_fits operation_word.Fail key (o ∷ l ∷ s ∷ []) op all x = subst (OpFits key) (sym x.6) (refl, ((x.3.0, x.4.0), x.5.0))
+operation_fits operation_word.CallError key (o ∷ l ∷ s ∷ []) op all x = subst (OpFits key) (sym x.6) (refl, ((x.3.0, x.4.0), x.5.0))
 operation_fits operation_word.Retrieve key (o ∷ l ∷ []) op all x = subst (OpFits key) (sym x.4) (refl, (x.2.0, x.3.0))
 operation_fits operation_word.Ack key (o ∷ l ∷ g ∷ []) op all x = subst (OpFits key) (sym x.6) (refl, (x.3.0, x.4.0))
 operation_fits operation_word.Rehydrate key [] op all x = subst (OpFits key) (sym x) (refl, tt)

@@ -7,15 +7,15 @@ use Rattle.std.specs.List.{list_all}
 use Rattle.std.proofs.lemmas.List.Folds.{list_all-append}
 use Rattle.cf_base.specs.declared.events.Event.{Event}
 use Rattle.cf_base.specs.declared.policies.Mode.{Mode}
-use Rattle.cf_script.specs.declared.fails.ScriptFail.{ScriptFail}
-use Rattle.cf_script.specs.declared.fails.ScriptFail.TheVariants as fails
+use Rattle.cf_script.specs.declared.fails.ScriptError.{ScriptError}
+use Rattle.cf_script.specs.declared.fails.ScriptError.TheVariants as fails
 use Rattle.cf_script.specs.Words.{Reads}
 use Rattle.cf_script.specs.Forms.{AreWords}
 use Rattle.std.proofs.lemmas.List.{append-nil}
 use Rattle.std.proofs.lemmas.List.Elements.{filter-append}
 use Rattle.cf_script.specs.Script.{lines_of, words_of, AreEvents, Spells, is_event_line, event_lines, is_plain, IsScript}
 use Rattle.cf_script.specs.Built.{is_built}
-use Rattle.cf_script.specs.Fail.{IsLine, IsCause}
+use Rattle.cf_script.specs.FailEvents.{IsLine, IsCause}
 use Rattle.std.specs.Str.{IsUtf8}
 
 abbrev is_line_end : ℕ → Bool

@@ -5,12 +5,12 @@ use Rattle.std.specs.List.{list_all}
 use Rattle.std.proofs.lemmas.List.Elements.{filter-append}
 use Rattle.cf_base.specs.declared.events.Event.{Event}
 use Rattle.cf_base.specs.declared.policies.Mode.{Mode}
-use Rattle.cf_script.specs.declared.fails.ScriptFail.{ScriptFail}
-use Rattle.cf_script.specs.declared.fails.ScriptFail.TheVariants as fails
+use Rattle.cf_script.specs.declared.fails.ScriptError.{ScriptError}
+use Rattle.cf_script.specs.declared.fails.ScriptError.TheVariants as fails
 use Rattle.cf_script.specs.Forms.{AreWords, Follows}
 use Rattle.cf_script.specs.Script.{lines_of, words_of, AreEvents, Spells, is_event_line, event_lines, IsScript}
 use Rattle.cf_script.specs.Built.{is_built}
-use Rattle.cf_script.specs.Fail.{IsLine, IsCause}
+use Rattle.cf_script.specs.FailEvents.{IsLine, IsCause}
 use Rattle.cf_script.proofs.CommandMeans.{command_once}
 use Rattle.cf_script.proofs.EventOnce.{follows_once}
 
@@ -59,8 +59,8 @@ at_line mode lines n events line h fs good done =
     stands_there mode (event_lines h.before) (event_lines h.after) line events fs h.good (subst (λ ls. AreEvents mode ls fs) parts good) done
 
 -- a script of events that are built is not refused but for memory
-pub not_refused : (mode : Mode) (lines : List (List ℕ)) (f : ScriptFail) → IsCause mode lines f → (fs : List Event) → AreEvents mode (event_lines lines) fs → length fs ≤ 100000 → IsTrue (list_all (is_built mode) fs) → f ≡ fails.Memory
-not_refused mode lines fails.Memory why fs good few done = refl
+pub not_refused : (mode : Mode) (lines : List (List ℕ)) (f : ScriptError) → IsCause mode lines f → (fs : List Event) → AreEvents mode (event_lines lines) fs → length fs ≤ 100000 → IsTrue (list_all (is_built mode) fs) → f ≡ fails.OutOfMemory
+not_refused mode lines fails.OutOfMemory why fs good few done = refl
 not_refused mode lines (fails.Syntax n) why fs good few done =
     let h = at_line mode lines n why.0 why.1 why.2 fs good done in absurd (why.3 h.0 h.1)
 not_refused mode lines (fails.TooManyEvents n) why fs good few done =

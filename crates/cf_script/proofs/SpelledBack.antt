@@ -245,7 +245,7 @@ record InParts (op : Operation) : Type 0 where
 
 in_parts : (op : Operation) → OperationFits op → InParts op
 in_parts (operation.Transfer key at bytes) h = record { word = operation_word.Transfer; rest = decimal at ∷ plain_text bytes ∷ []; shape = λ k. refl; first = fixed (codes "transfer") refl; all = (number_word at h.0, (data_word bytes h.1, tt)); is = (at, bytes, number_is at h.0, data_is bytes h.1, refl) }
-in_parts (operation.Refuse key span status) h = record { word = operation_word.Fail; rest = decimal span.start ∷ decimal span.len ∷ decimal status ∷ []; shape = λ k. refl; first = fixed (codes "fail") refl; all = (number_word span.start h.0.0, (number_word span.len h.0.1, (number_word status h.1, tt))); is = (span.start, span.len, status, number_is span.start h.0.0, number_is span.len h.0.1, number_is status h.1, refl) }
+in_parts (operation.Refuse key span status) h = record { word = operation_word.CallError; rest = decimal span.start ∷ decimal span.len ∷ decimal status ∷ []; shape = λ k. refl; first = fixed (codes "fail") refl; all = (number_word span.start h.0.0, (number_word span.len h.0.1, (number_word status h.1, tt))); is = (span.start, span.len, status, number_is span.start h.0.0, number_is span.len h.0.1, number_is status h.1, refl) }
 in_parts (operation.Retrieve key span) h = record { word = operation_word.Retrieve; rest = decimal span.start ∷ decimal span.len ∷ []; shape = λ k. refl; first = fixed (codes "retrieve") refl; all = (number_word span.start h.0, (number_word span.len h.1, tt)); is = (span.start, span.len, number_is span.start h.0, number_is span.len h.1, refl) }
 in_parts (operation.Ack key span good) h = record { word = operation_word.Ack; rest = decimal span.start ∷ decimal span.len ∷ good_name good ∷ []; shape = λ k. refl; first = fixed (codes "ack") refl; all = (number_word span.start h.0, (number_word span.len h.1, (good_word good, tt))); is = (span.start, span.len, good, number_is span.start h.0, number_is span.len h.1, refl, refl) }
 in_parts (operation.Restart key) h = record { word = operation_word.Rehydrate; rest = []; shape = λ k. refl; first = fixed (codes "rehydrate") refl; all = tt; is = refl }

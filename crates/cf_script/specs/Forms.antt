@@ -234,7 +234,7 @@ AreEntries (w ∷ ws) [] = ⊥
 -- an operation: what follows its key
 abbrev pub IsOperation : OperationCommand → Key → List (List ℕ) → Operation → Type 0
 IsOperation operation_word.Transfer key (o ∷ d ∷ []) op = (at : ℕ) × (bytes : List ℕ) × IsNumber o at × IsData d bytes × (op ≡ operation.Transfer key at bytes)
-IsOperation operation_word.Fail key (o ∷ l ∷ s ∷ []) op = (start len status : ℕ) × IsNumber o start × IsNumber l len × IsNumber s status × (op ≡ operation.Refuse key (record { start = start; len = len }) status)
+IsOperation operation_word.CallError key (o ∷ l ∷ s ∷ []) op = (start len status : ℕ) × IsNumber o start × IsNumber l len × IsNumber s status × (op ≡ operation.Refuse key (record { start = start; len = len }) status)
 IsOperation operation_word.Retrieve key (o ∷ l ∷ []) op = (start len : ℕ) × IsNumber o start × IsNumber l len × (op ≡ operation.Retrieve key (record { start = start; len = len }))
 IsOperation operation_word.Ack key (o ∷ l ∷ g ∷ []) op = (start len : ℕ) × (good : Bool) × IsNumber o start × IsNumber l len × (g ≡ good_name good) × (op ≡ operation.Ack key (record { start = start; len = len }) good)
 IsOperation operation_word.Rehydrate key [] op = op ≡ operation.Restart key

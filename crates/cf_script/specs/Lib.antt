@@ -3,7 +3,7 @@ pub mod Names
 pub mod Forms
 pub mod Script
 pub mod Built
-pub mod Fail
+pub mod FailEvents
 pub mod Printed
 pub mod Fits
 pub mod Cut

@@ -124,7 +124,7 @@ peer_name peer.Keep = codes "keep"
 -- the word after `do` or `plan`
 abbrev pub operation_name : OperationCommand → List ℕ
 operation_name operation.Transfer = codes "transfer"
-operation_name operation.Fail = codes "fail"
+operation_name operation.CallError = codes "fail"
 operation_name operation.Retrieve = codes "retrieve"
 operation_name operation.Ack = codes "ack"
 operation_name operation.Rehydrate = codes "rehydrate"

@@ -8,11 +8,11 @@ use crate::data::data;
 use crate::names::{class, hydration, modifiers, pin, population, reach, yes};
 use crate::numbers::{key, number, positive};
 use crate::paths::path;
-use cf_base::{Call, Event, Handle, Memory, Policy, WaitId};
+use cf_base::{Call, Event, Handle, OutOfMemory, Policy, WaitId};
 use std::alloc::Global;
 
 /// `close H`.
-pub fn close(alloc: Global, words: &[&str]) -> Result<Option<Event>, Memory>
+pub fn close(alloc: Global, words: &[&str]) -> Result<Option<Event>, OutOfMemory>
     ensures { IfOk result (Reads (IsClose (map (λ w. w.now) words.now))) }
 {
     let [word] = words else {
@@ -27,7 +27,7 @@ pub fn close(alloc: Global, words: &[&str]) -> Result<Option<Event>, Memory>
 }
 
 /// `cancel W`.
-pub fn cancel(alloc: Global, words: &[&str]) -> Result<Option<Event>, Memory>
+pub fn cancel(alloc: Global, words: &[&str]) -> Result<Option<Event>, OutOfMemory>
     ensures { IfOk result (Reads (IsCancel (map (λ w. w.now) words.now))) }
 {
     let [word] = words else {
@@ -40,7 +40,7 @@ pub fn cancel(alloc: Global, words: &[&str]) -> Result<Option<Event>, Memory>
 }
 
 /// `tick NUM`.
-pub fn tick(alloc: Global, words: &[&str]) -> Result<Option<Event>, Memory>
+pub fn tick(alloc: Global, words: &[&str]) -> Result<Option<Event>, OutOfMemory>
     ensures { IfOk result (Reads (IsTick (map (λ w. w.now) words.now))) }
 {
     let [word] = words else {
@@ -53,7 +53,7 @@ pub fn tick(alloc: Global, words: &[&str]) -> Result<Option<Event>, Memory>
 }
 
 /// `read H OFF LEN`.
-pub fn read(alloc: Global, words: &[&str]) -> Result<Option<Event>, Memory>
+pub fn read(alloc: Global, words: &[&str]) -> Result<Option<Event>, OutOfMemory>
     ensures { IfOk result (Reads (IsReadLine (map (λ w. w.now) words.now))) }
 {
     let [handle, offset, len] = words else {
@@ -76,7 +76,7 @@ pub fn read(alloc: Global, words: &[&str]) -> Result<Option<Event>, Memory>
 }
 
 /// `get P OFF LEN`.
-pub fn get(alloc: Global, words: &[&str]) -> Result<Option<Event>, Memory>
+pub fn get(alloc: Global, words: &[&str]) -> Result<Option<Event>, OutOfMemory>
     ensures { IfOk result (Reads (IsGet (map (λ w. w.now) words.now))) }
 {
     let [target, offset, len] = words else {
@@ -95,7 +95,7 @@ pub fn get(alloc: Global, words: &[&str]) -> Result<Option<Event>, Memory>
 }
 
 /// `write H OFF DATA`.
-pub fn write(alloc: Global, words: &[&str]) -> Result<Option<Event>, Memory>
+pub fn write(alloc: Global, words: &[&str]) -> Result<Option<Event>, OutOfMemory>
     ensures { IfOk result (Reads (IsWrite (map (λ w. w.now) words.now))) }
 {
     let [handle, offset, bytes] = words else {
@@ -118,7 +118,7 @@ pub fn write(alloc: Global, words: &[&str]) -> Result<Option<Event>, Memory>
 }
 
 /// `size H NUM`.
-pub fn size(alloc: Global, words: &[&str]) -> Result<Option<Event>, Memory>
+pub fn size(alloc: Global, words: &[&str]) -> Result<Option<Event>, OutOfMemory>
     ensures { IfOk result (Reads (IsSize (map (λ w. w.now) words.now))) }
 {
     let [handle, size] = words else {
@@ -137,7 +137,7 @@ pub fn size(alloc: Global, words: &[&str]) -> Result<Option<Event>, Memory>
 }
 
 /// `rename P P`.
-pub fn rename(alloc: Global, words: &[&str]) -> Result<Option<Event>, Memory>
+pub fn rename(alloc: Global, words: &[&str]) -> Result<Option<Event>, OutOfMemory>
     ensures { IfOk result (Reads (IsRename (map (λ w. w.now) words.now))) }
 {
     let [source, target] = words else {
@@ -153,7 +153,7 @@ pub fn rename(alloc: Global, words: &[&str]) -> Result<Option<Event>, Memory>
 }
 
 /// `pin P STATE`, with a reach after it or none.
-pub fn pin_line(alloc: Global, words: &[&str]) -> Result<Option<Event>, Memory>
+pub fn pin_line(alloc: Global, words: &[&str]) -> Result<Option<Event>, OutOfMemory>
     ensures { IfOk result (Reads (IsPinLine (map (λ w. w.now) words.now))) }
 {
     let [target, state, below @ ..] = words else {
@@ -172,7 +172,7 @@ pub fn pin_line(alloc: Global, words: &[&str]) -> Result<Option<Event>, Memory>
 }
 
 /// `ranges P CLASS`.
-pub fn ranges(alloc: Global, words: &[&str]) -> Result<Option<Event>, Memory>
+pub fn ranges(alloc: Global, words: &[&str]) -> Result<Option<Event>, OutOfMemory>
     ensures { IfOk result (Reads (IsRanges (map (λ w. w.now) words.now))) }
 {
     let [target, word] = words else {
@@ -188,7 +188,7 @@ pub fn ranges(alloc: Global, words: &[&str]) -> Result<Option<Event>, Memory>
 }
 
 /// `keep P yes` or `keep P no`.
-pub fn keep(alloc: Global, words: &[&str]) -> Result<Option<Event>, Memory>
+pub fn keep(alloc: Global, words: &[&str]) -> Result<Option<Event>, OutOfMemory>
     ensures { IfOk result (Reads (IsKeep (map (λ w. w.now) words.now))) }
 {
     let [target, word] = words else {
@@ -203,7 +203,7 @@ pub fn keep(alloc: Global, words: &[&str]) -> Result<Option<Event>, Memory>
     Ok(Some(Event::Call(Call::Keep { path, on })))
 }
 
-fn dehydrate_all(alloc: Global, target: &str) -> Result<Option<Event>, Memory>
+fn dehydrate_all(alloc: Global, target: &str) -> Result<Option<Event>, OutOfMemory>
     ensures { IfOk result (Reads (IsDehydrate (target.now ∷ []))) }
 {
     let Some(path) = path(alloc, target)? else {
@@ -217,7 +217,7 @@ fn dehydrate_range(
     target: &str,
     offset: &str,
     len: &str,
-) -> Result<Option<Event>, Memory>
+) -> Result<Option<Event>, OutOfMemory>
     ensures { IfOk result (Reads (IsDehydrate (target.now ∷ offset.now ∷ len.now ∷ []))) }
 {
     let Some(path) = path(alloc, target)? else {
@@ -234,7 +234,7 @@ fn dehydrate_range(
 }
 
 /// `dehydrate P`, or with `OFF LEN`.
-pub fn dehydrate(alloc: Global, words: &[&str]) -> Result<Option<Event>, Memory>
+pub fn dehydrate(alloc: Global, words: &[&str]) -> Result<Option<Event>, OutOfMemory>
     ensures { IfOk result (Reads (IsDehydrate (map (λ w. w.now) words.now))) }
 {
     match words {

@@ -82,7 +82,7 @@ pub enum PeerCommand {
 #[derive(Clone, Copy)]
 pub enum OperationCommand {
     Transfer,
-    Fail,
+    CallError,
     Retrieve,
     Ack,
     Rehydrate,

@@ -5,24 +5,24 @@ ghost use Rattle.cf_script.specs.Words.{Reads, IsHex, IsPlain, IsCount, IsRepeat
 ghost use Rattle.cf_script.specs.Cut.{HasNo};
 
 use crate::numbers::number;
-use cf_base::{Blob, Identity, Memory};
+use cf_base::{Blob, Identity, OutOfMemory};
 use hex::FromHexError;
 use std::alloc::Global;
 
 /// The most often that a byte is repeated.
 const MOST_TIMES: u32 = 16_777_217;
 
-fn refused(e: FromHexError) -> Result<Option<Blob>, Memory>
+fn refused(e: FromHexError) -> Result<Option<Blob>, OutOfMemory>
     ensures { IsOk result → (result ≡ Ok None) × (e ≢ FromHexError.OutOfMemory) }
 {
     match e {
-        FromHexError::OutOfMemory => Err(Memory),
+        FromHexError::OutOfMemory => Err(OutOfMemory),
         _ => Ok(None),
     }
 }
 
 /// Bytes in pairs of lower-case digits.
-fn digits(alloc: Global, word: &str) -> Result<Option<Blob>, Memory>
+fn digits(alloc: Global, word: &str) -> Result<Option<Blob>, OutOfMemory>
     ensures { IfOk result (Reads (IsHex word.now)) }
 {
     let bytes = match hex::decode(alloc, word) {
@@ -38,7 +38,7 @@ fn digits(alloc: Global, word: &str) -> Result<Option<Blob>, Memory>
 }
 
 /// Bytes as the report would write them.
-fn plain(alloc: Global, word: &str) -> Result<Option<Blob>, Memory>
+fn plain(alloc: Global, word: &str) -> Result<Option<Blob>, OutOfMemory>
     ensures { IfOk result (Reads (IsPlain word.now)) }
 {
     if word == "-" {
@@ -51,7 +51,7 @@ fn plain(alloc: Global, word: &str) -> Result<Option<Blob>, Memory>
 }
 
 /// An identity of any length.
-pub fn identity(alloc: Global, word: &str) -> Result<Option<Identity>, Memory>
+pub fn identity(alloc: Global, word: &str) -> Result<Option<Identity>, OutOfMemory>
     ensures { IfOk result (Reads (IsPlain word.now)) }
 {
     let Some(bytes) = plain(alloc, word)? else {
@@ -60,7 +60,7 @@ pub fn identity(alloc: Global, word: &str) -> Result<Option<Identity>, Memory>
     Ok(Some(Identity::new(alloc, bytes.as_slice())?))
 }
 
-fn one_byte(alloc: Global, word: &str) -> Result<Option<u8>, Memory>
+fn one_byte(alloc: Global, word: &str) -> Result<Option<u8>, OutOfMemory>
     ensures { IfOk result (Reads (λ b. IsHex word.now (b ∷ []))) }
 {
     let Some(bytes) = digits(alloc, word)? else {
@@ -73,7 +73,7 @@ fn one_byte(alloc: Global, word: &str) -> Result<Option<u8>, Memory>
     Ok(Some(bytes[0]))
 }
 
-fn times(alloc: Global, word: &str) -> Result<Option<u32>, Memory>
+fn times(alloc: Global, word: &str) -> Result<Option<u32>, OutOfMemory>
     ensures { IfOk result (Reads (IsCount word.now)) }
 {
     let Some(count) = number(alloc, word)? else {
@@ -86,7 +86,7 @@ fn times(alloc: Global, word: &str) -> Result<Option<u32>, Memory>
 }
 
 /// One byte so many times.
-fn repeated(alloc: Global, byte: &str, count: &str) -> Result<Option<Blob>, Memory>
+fn repeated(alloc: Global, byte: &str, count: &str) -> Result<Option<Blob>, OutOfMemory>
     ensures { IfOk result (Reads (IsRepeated byte.now count.now)) }
 {
     let Some(byte) = one_byte(alloc, byte)? else {
@@ -107,7 +107,7 @@ fn cut_at_star(word: &str) -> Option<(&str, &str)>
 }
 
 /// Bytes in digits, or one byte with a star and how often it stands.
-pub fn data(alloc: Global, word: &str) -> Result<Option<Blob>, Memory>
+pub fn data(alloc: Global, word: &str) -> Result<Option<Blob>, OutOfMemory>
     ensures { IfOk result (Reads (IsData word.now)) }
 {
     match cut_at_star(word) {

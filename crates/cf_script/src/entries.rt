@@ -7,7 +7,7 @@ ghost use Rattle.cf_script.specs.Forms.{escape_name_byte, escaped_name, IsEntryN
 use crate::data::identity;
 use crate::names::{entry_kind, in_sync};
 use crate::numbers::number;
-use cf_base::{Blob, Memory, NewItem, Sequence};
+use cf_base::{Blob, OutOfMemory, NewItem, Sequence};
 use std::alloc::{AllocError, Global};
 
 /// The first byte of a name, and what is written after it.
@@ -26,7 +26,7 @@ fn next_byte(text: &[u8]) -> Option<(u8, &[u8])>
 }
 
 /// The name that is written so.
-fn unescaped(alloc: Global, word: &[u8]) -> Result<Option<Blob>, Memory>
+fn unescaped(alloc: Global, word: &[u8]) -> Result<Option<Blob>, OutOfMemory>
     ensures { IfOk result (Reads (λ name. word.now ≡ escaped_name name)) }
 {
     let mut name = Vec::with_capacity(alloc, word.len())?;
@@ -42,7 +42,7 @@ fn unescaped(alloc: Global, word: &[u8]) -> Result<Option<Blob>, Memory>
 }
 
 /// A name, which is judged later.
-fn entry_name(alloc: Global, word: &str) -> Result<Option<Blob>, Memory>
+fn entry_name(alloc: Global, word: &str) -> Result<Option<Blob>, OutOfMemory>
     ensures { IfOk result (Reads (IsEntryName word.now)) }
 {
     let Some(name) = unescaped(alloc, word.as_bytes())? else {
@@ -54,7 +54,7 @@ fn entry_name(alloc: Global, word: &str) -> Result<Option<Blob>, Memory>
     }
 }
 
-fn file_rest(alloc: Global, name: Blob, words: &[&str]) -> Result<Option<NewItem>, Memory>
+fn file_rest(alloc: Global, name: Blob, words: &[&str]) -> Result<Option<NewItem>, OutOfMemory>
     ensures { IfOk result (Reads (IsEntryRest false name (map (λ w. w.now) words.now))) }
 {
     let [size, identity_word, flag @ ..] = words else {
@@ -78,7 +78,7 @@ fn file_rest(alloc: Global, name: Blob, words: &[&str]) -> Result<Option<NewItem
     }))
 }
 
-fn dir_rest(alloc: Global, name: Blob, words: &[&str]) -> Result<Option<NewItem>, Memory>
+fn dir_rest(alloc: Global, name: Blob, words: &[&str]) -> Result<Option<NewItem>, OutOfMemory>
     ensures { IfOk result (Reads (IsEntryRest true name (map (λ w. w.now) words.now))) }
 {
     let [identity_word, flag @ ..] = words else {
@@ -104,7 +104,7 @@ fn entry_rest(
     dir: bool,
     name: Blob,
     words: &[&str],
-) -> Result<Option<NewItem>, Memory>
+) -> Result<Option<NewItem>, OutOfMemory>
     ensures { IfOk result (Reads (IsEntryRest dir name (map (λ w. w.now) words.now))) }
 {
     if dir {
@@ -114,7 +114,7 @@ fn entry_rest(
     }
 }
 
-fn entry_of(alloc: Global, fields: &[&str]) -> Result<Option<NewItem>, Memory>
+fn entry_of(alloc: Global, fields: &[&str]) -> Result<Option<NewItem>, OutOfMemory>
     ensures { IfOk result (Reads (AreFields (map (λ w. w.now) fields.now))) }
 {
     let [name, kind, rest @ ..] = fields else {
@@ -135,7 +135,7 @@ fn fields(alloc: Global, word: &str) -> Result<Vec<&str>, AllocError>
     word.split(',').collect(alloc)
 }
 
-fn entry(alloc: Global, word: &str) -> Result<Option<NewItem>, Memory>
+fn entry(alloc: Global, word: &str) -> Result<Option<NewItem>, OutOfMemory>
     ensures { IfOk result (Reads (IsEntry word.now)) }
 {
     let fields = fields(alloc, word)?;
@@ -143,7 +143,7 @@ fn entry(alloc: Global, word: &str) -> Result<Option<NewItem>, Memory>
 }
 
 /// Entries, one a word.
-pub fn entries(alloc: Global, words: &[&str]) -> Result<Option<Sequence<NewItem>>, Memory>
+pub fn entries(alloc: Global, words: &[&str]) -> Result<Option<Sequence<NewItem>>, OutOfMemory>
     ensures { IfOk result (Reads (AreEntries (map (λ w. w.now) words.now))) }
 {
     let mut list = Vec::new(alloc);

@@ -1,13 +1,13 @@
 //! Why a script is not read.
 
 ghost use Rattle.std.specs.Prelude.{◌≡◌};
-ghost use Rattle.cf_script.specs.declared.fails.ScriptFail.TheVariants as fails;
+ghost use Rattle.cf_script.specs.declared.fails.ScriptError.TheVariants as fails;
 
 use std::alloc::{AllocError, AllocFailed};
 
 /// Why a script is not read. Lines are counted from 1.
 #[derive(Clone, Copy, Debug, PartialEq, Eq, thiserror::Error)]
-pub enum ScriptFail {
+pub enum ScriptError {
     /// The first bad line: it spells no event of the mode.
     #[error("line {0} is bad")]
     Syntax(u32),
@@ -18,29 +18,29 @@ pub enum ScriptFail {
     #[error("line {0} is not built")]
     NotBuilt(u32),
     #[error("out of memory")]
-    Memory,
+    OutOfMemory,
 }
 
-impl From<cf_base::Memory> for ScriptFail {
-    ghost from_gives = { λ _ e. e ≡ fails.Memory };
+impl From<cf_base::OutOfMemory> for ScriptError {
+    ghost from_gives = { λ _ e. e ≡ fails.OutOfMemory };
 
-    fn from(_e: cf_base::Memory) -> ScriptFail {
-        ScriptFail::Memory
+    fn from(_e: cf_base::OutOfMemory) -> ScriptError {
+        ScriptError::OutOfMemory
     }
 }
 
-impl From<AllocError> for ScriptFail {
-    ghost from_gives = { λ _ e. e ≡ fails.Memory };
+impl From<AllocError> for ScriptError {
+    ghost from_gives = { λ _ e. e ≡ fails.OutOfMemory };
 
-    fn from(_e: AllocError) -> ScriptFail {
-        ScriptFail::Memory
+    fn from(_e: AllocError) -> ScriptError {
+        ScriptError::OutOfMemory
     }
 }
 
-impl<T: Drop> From<AllocFailed<T>> for ScriptFail {
-    ghost from_gives = { λ _ e. e ≡ fails.Memory };
+impl<T: Drop> From<AllocFailed<T>> for ScriptError {
+    ghost from_gives = { λ _ e. e ≡ fails.OutOfMemory };
 
-    fn from(_e: AllocFailed<T>) -> ScriptFail {
-        ScriptFail::Memory
+    fn from(_e: AllocFailed<T>) -> ScriptError {
+        ScriptError::OutOfMemory
     }
 }

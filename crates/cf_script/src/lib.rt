@@ -25,7 +25,7 @@ mod scripts;
 mod short_lines;
 mod texts;
 
-pub use fails::ScriptFail;
+pub use fails::ScriptError;
 pub use laws::{all_is_built_in_filter, can_spell, one_event, one_reading, reads_back};
 pub use lines::event_of_line;
 pub use prints::print;

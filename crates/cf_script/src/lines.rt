@@ -15,7 +15,7 @@ use crate::operations::{do_line, plan};
 use crate::peers::{link, peer};
 use crate::providers::{convert, mark, place, place_dir, update};
 use crate::short_lines::{bare, crash, on_number, on_path};
-use cf_base::{Event, Memory, Mode};
+use cf_base::{Event, OutOfMemory, Mode};
 use std::alloc::{AllocError, Global};
 
 fn is_for_engine(command: Command) -> bool
@@ -52,7 +52,7 @@ fn is_foreign(mode: Mode, command: Command) -> bool
 }
 
 /// The event of a line that begins with this word, by the words after it.
-fn event_after(alloc: Global, command: Command, words: &[&str]) -> Result<Option<Event>, Memory>
+fn event_after(alloc: Global, command: Command, words: &[&str]) -> Result<Option<Event>, OutOfMemory>
     ensures { IfOk result (Reads (Follows command (map (λ w. w.now) words.now))) }
 {
     match command {
@@ -85,7 +85,7 @@ fn event_after(alloc: Global, command: Command, words: &[&str]) -> Result<Option
     }
 }
 
-fn event_of(alloc: Global, mode: Mode, words: &[&str]) -> Result<Option<Event>, Memory>
+fn event_of(alloc: Global, mode: Mode, words: &[&str]) -> Result<Option<Event>, OutOfMemory>
     ensures { IfOk result (Reads (AreWords mode (map (λ w. w.now) words.now))) }
 {
     let [word, rest @ ..] = words else {
@@ -107,7 +107,7 @@ fn words_of(alloc: Global, line: &str) -> Result<Vec<&str>, AllocError>
     line.split(' ').collect(alloc)
 }
 
-fn event_of_text(alloc: Global, mode: Mode, line: &str) -> Result<Option<Event>, Memory>
+fn event_of_text(alloc: Global, mode: Mode, line: &str) -> Result<Option<Event>, OutOfMemory>
     ensures { IfOk result (Reads (AreWords mode (words_of line.now))) }
 {
     let words = words_of(alloc, line)?;
@@ -124,7 +124,7 @@ fn is_plain(line: &[u8]) -> bool
 /// The event that a line, without its end, spells in the mode, or none where it spells none.
 ///
 /// Fails only where memory does not suffice.
-pub fn event_of_line(alloc: Global, mode: Mode, line: &[u8]) -> Result<Option<Event>, Memory>
+pub fn event_of_line(alloc: Global, mode: Mode, line: &[u8]) -> Result<Option<Event>, OutOfMemory>
     ensures { IfOk result (Reads (Spells mode line.now)) }
 {
     if !is_plain(line) {

@@ -29,7 +29,7 @@ pub fn operation_command(word: &str) -> Option<OperationCommand>
 {
     match word {
         "transfer" => Some(OperationCommand::Transfer),
-        "fail" => Some(OperationCommand::Fail),
+        "fail" => Some(OperationCommand::CallError),
         "retrieve" => Some(OperationCommand::Retrieve),
         "ack" => Some(OperationCommand::Ack),
         "rehydrate" => Some(OperationCommand::Rehydrate),

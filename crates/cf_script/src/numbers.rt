@@ -4,11 +4,11 @@ ghost use Rattle.std.specs.Prelude.{◌≡◌, ◌∷◌, ◌++◌, IfOk, MatchO
 ghost use Rattle.cf_script.specs.Words.{Reads, IsNumber, IsPositive, IsKey, IsUsn};
 ghost use Rattle.cf_script.specs.Cut.{HasNo, IsKeyParts};
 
-use cf_base::{Key, Memory, Usn};
+use cf_base::{Key, OutOfMemory, Usn};
 use std::alloc::Global;
 
 /// A number as the report would write it.
-pub fn number(alloc: Global, word: &str) -> Result<Option<u32>, Memory>
+pub fn number(alloc: Global, word: &str) -> Result<Option<u32>, OutOfMemory>
     ensures { IfOk result (Reads (IsNumber word.now)) }
 {
     match word.parse::<u32>() {
@@ -25,7 +25,7 @@ pub fn number(alloc: Global, word: &str) -> Result<Option<u32>, Memory>
 }
 
 /// A number from 1.
-pub fn positive(alloc: Global, word: &str) -> Result<Option<u32>, Memory>
+pub fn positive(alloc: Global, word: &str) -> Result<Option<u32>, OutOfMemory>
     ensures { IfOk result (Reads (IsPositive word.now)) }
 {
     let Some(n) = number(alloc, word)? else {
@@ -44,7 +44,7 @@ fn cut_at_dot(word: &str) -> Option<(&str, &str)>
     word.split_once('.')
 }
 
-fn key_of(alloc: Global, epoch: &str, number_word: &str) -> Result<Option<Key>, Memory>
+fn key_of(alloc: Global, epoch: &str, number_word: &str) -> Result<Option<Key>, OutOfMemory>
     ensures { IfOk result (Reads (IsKeyParts epoch.now number_word.now)) }
 {
     let Some(epoch) = number(alloc, epoch)? else {
@@ -57,7 +57,7 @@ fn key_of(alloc: Global, epoch: &str, number_word: &str) -> Result<Option<Key>, 
 }
 
 /// The key of a handle, a wait or an ask: two numbers with a dot between.
-pub fn key(alloc: Global, word: &str) -> Result<Option<Key>, Memory>
+pub fn key(alloc: Global, word: &str) -> Result<Option<Key>, OutOfMemory>
     ensures { IfOk result (Reads (IsKey word.now)) }
 {
     match cut_at_dot(word) {
@@ -67,7 +67,7 @@ pub fn key(alloc: Global, word: &str) -> Result<Option<Key>, Memory>
 }
 
 /// A sequence number: two numbers with a dot between.
-pub fn usn(alloc: Global, word: &str) -> Result<Option<Usn>, Memory>
+pub fn usn(alloc: Global, word: &str) -> Result<Option<Usn>, OutOfMemory>
     ensures { IfOk result (Reads (IsUsn word.now)) }
 {
     match key(alloc, word)? {

@@ -10,10 +10,10 @@ use crate::data::data;
 use crate::entries::entries;
 use crate::names::{good, operation_command};
 use crate::numbers::{key, number};
-use cf_base::{Event, Key, Memory, Operation, ProviderEvent, Span};
+use cf_base::{Event, Key, OutOfMemory, Operation, ProviderEvent, Span};
 use std::alloc::Global;
 
-fn transfer(alloc: Global, key: Key, words: &[&str]) -> Result<Option<Operation>, Memory>
+fn transfer(alloc: Global, key: Key, words: &[&str]) -> Result<Option<Operation>, OutOfMemory>
     ensures { IfOk result (Reads (IsOperation OperationCommand.Transfer key (map (λ w. w.now) words.now))) }
 {
     let [offset, bytes] = words else {
@@ -41,8 +41,8 @@ fn span_of(start: u32, len: u32) -> Span
     }
 }
 
-fn fail(alloc: Global, key: Key, words: &[&str]) -> Result<Option<Operation>, Memory>
-    ensures { IfOk result (Reads (IsOperation OperationCommand.Fail key (map (λ w. w.now) words.now))) }
+fn fail(alloc: Global, key: Key, words: &[&str]) -> Result<Option<Operation>, OutOfMemory>
+    ensures { IfOk result (Reads (IsOperation OperationCommand.CallError key (map (λ w. w.now) words.now))) }
 {
     let [offset, len, status] = words else {
         return Ok(None);
@@ -60,7 +60,7 @@ fn fail(alloc: Global, key: Key, words: &[&str]) -> Result<Option<Operation>, Me
     Ok(Some(Operation::Refuse { key, span, status }))
 }
 
-fn retrieve(alloc: Global, key: Key, words: &[&str]) -> Result<Option<Operation>, Memory>
+fn retrieve(alloc: Global, key: Key, words: &[&str]) -> Result<Option<Operation>, OutOfMemory>
     ensures { IfOk result (Reads (IsOperation OperationCommand.Retrieve key (map (λ w. w.now) words.now))) }
 {
     let [offset, len] = words else {
@@ -76,7 +76,7 @@ fn retrieve(alloc: Global, key: Key, words: &[&str]) -> Result<Option<Operation>
     Ok(Some(Operation::Retrieve { key, span }))
 }
 
-fn ack(alloc: Global, key: Key, words: &[&str]) -> Result<Option<Operation>, Memory>
+fn ack(alloc: Global, key: Key, words: &[&str]) -> Result<Option<Operation>, OutOfMemory>
     ensures { IfOk result (Reads (IsOperation OperationCommand.Ack key (map (λ w. w.now) words.now))) }
 {
     let [offset, len, word] = words else {
@@ -104,7 +104,7 @@ fn rehydrate(key: Key, words: &[&str]) -> Option<Operation>
     }
 }
 
-fn list_entries(alloc: Global, key: Key, words: &[&str]) -> Result<Option<Operation>, Memory>
+fn list_entries(alloc: Global, key: Key, words: &[&str]) -> Result<Option<Operation>, OutOfMemory>
     ensures { IfOk result (Reads (IsOperation OperationCommand.Entries key (map (λ w. w.now) words.now))) }
 {
     let [word, rest @ ..] = words else {
@@ -139,12 +139,12 @@ fn operation(
     command: OperationCommand,
     key: Key,
     words: &[&str],
-) -> Result<Option<Operation>, Memory>
+) -> Result<Option<Operation>, OutOfMemory>
     ensures { IfOk result (Reads (IsOperation command key (map (λ w. w.now) words.now))) }
 {
     match command {
         OperationCommand::Transfer => transfer(alloc, key, words),
-        OperationCommand::Fail => fail(alloc, key, words),
+        OperationCommand::CallError => fail(alloc, key, words),
         OperationCommand::Retrieve => retrieve(alloc, key, words),
         OperationCommand::Ack => ack(alloc, key, words),
         OperationCommand::Rehydrate => Ok(rehydrate(key, words)),
@@ -158,7 +158,7 @@ fn done(
     command: OperationCommand,
     key: Key,
     words: &[&str],
-) -> Result<Option<Event>, Memory>
+) -> Result<Option<Event>, OutOfMemory>
     ensures { IfOk result (Reads (IsDone command key (map (λ w. w.now) words.now))) }
 {
     let Some(operation) = operation(alloc, command, key, words)? else {
@@ -168,7 +168,7 @@ fn done(
 }
 
 /// What follows the word `do`.
-pub fn do_line(alloc: Global, words: &[&str]) -> Result<Option<Event>, Memory>
+pub fn do_line(alloc: Global, words: &[&str]) -> Result<Option<Event>, OutOfMemory>
     ensures { IfOk result (Reads (IsDo (map (λ w. w.now) words.now))) }
 {
     let [word, key_word, rest @ ..] = words else {
@@ -184,7 +184,7 @@ pub fn do_line(alloc: Global, words: &[&str]) -> Result<Option<Event>, Memory>
 }
 
 /// A key, and before it whether it is that of the callback.
-fn plan_key(alloc: Global, word: &str) -> Result<Option<(bool, Key)>, Memory>
+fn plan_key(alloc: Global, word: &str) -> Result<Option<(bool, Key)>, OutOfMemory>
     ensures { IfOk result (Reads (IsPlanKey word.now)) }
 {
     if word == "self" {
@@ -205,7 +205,7 @@ fn planned(
     command: OperationCommand,
     key: (bool, Key),
     words: &[&str],
-) -> Result<Option<Event>, Memory>
+) -> Result<Option<Event>, OutOfMemory>
     ensures { IfOk result (Reads (IsPlanned command key (map (λ w. w.now) words.now))) }
 {
     let (own, key) = key;
@@ -216,7 +216,7 @@ fn planned(
 }
 
 /// What follows the word `plan`.
-pub fn plan(alloc: Global, words: &[&str]) -> Result<Option<Event>, Memory>
+pub fn plan(alloc: Global, words: &[&str]) -> Result<Option<Event>, OutOfMemory>
     ensures { IfOk result (Reads (IsPlan (map (λ w. w.now) words.now))) }
 {
     let [word, key_word, rest @ ..] = words else {

@@ -3,7 +3,7 @@
 ghost use Rattle.std.specs.Prelude.{◌≡◌, ℕ, ◌<◌, List, ◌++◌, length, IfOk, IfSome, IfNone};
 ghost use Rattle.cf_script.specs.Words.{Reads, IsPath, escape_byte, escaped, has_slash};
 
-use cf_base::{Blob, Memory, Text};
+use cf_base::{Blob, OutOfMemory, Text};
 use std::alloc::Global;
 
 /// The first byte of a path, and what is written after it.
@@ -21,7 +21,7 @@ fn next_byte(text: &[u8]) -> Option<(u8, &[u8])>
 }
 
 /// The path that is written so.
-fn unescaped(alloc: Global, word: &[u8]) -> Result<Option<Blob>, Memory>
+fn unescaped(alloc: Global, word: &[u8]) -> Result<Option<Blob>, OutOfMemory>
     ensures { IfOk result (Reads (λ path. word.now ≡ escaped path)) }
 {
     let mut path = Vec::with_capacity(alloc, word.len())?;
@@ -43,7 +43,7 @@ fn has_slash(path: &[u8]) -> bool
 }
 
 /// A path, whose names are judged later.
-pub fn path(alloc: Global, word: &str) -> Result<Option<Text>, Memory>
+pub fn path(alloc: Global, word: &str) -> Result<Option<Text>, OutOfMemory>
     ensures { IfOk result (Reads (IsPath word.now)) }
 {
     let Some(path) = unescaped(alloc, word.as_bytes())? else {

@@ -9,10 +9,10 @@ use crate::data::data;
 use crate::names::{inline, peer_command};
 use crate::numbers::positive;
 use crate::paths::path;
-use cf_base::{EngineEvent, Event, Memory, PeerEvent};
+use cf_base::{EngineEvent, Event, OutOfMemory, PeerEvent};
 use std::alloc::Global;
 
-fn put(alloc: Global, words: &[&str]) -> Result<Option<Event>, Memory>
+fn put(alloc: Global, words: &[&str]) -> Result<Option<Event>, OutOfMemory>
     ensures { IfOk result (Reads (IsPeerEvent PeerCommand.Put (map (λ w. w.now) words.now))) }
 {
     let [target, bytes] = words else {
@@ -27,7 +27,7 @@ fn put(alloc: Global, words: &[&str]) -> Result<Option<Event>, Memory>
     Ok(Some(Event::Peer(PeerEvent::Put { path, bytes })))
 }
 
-fn mkdir(alloc: Global, words: &[&str]) -> Result<Option<Event>, Memory>
+fn mkdir(alloc: Global, words: &[&str]) -> Result<Option<Event>, OutOfMemory>
     ensures { IfOk result (Reads (IsPeerEvent PeerCommand.Mkdir (map (λ w. w.now) words.now))) }
 {
     let [target] = words else {
@@ -39,7 +39,7 @@ fn mkdir(alloc: Global, words: &[&str]) -> Result<Option<Event>, Memory>
     Ok(Some(Event::Peer(PeerEvent::MakeDir { path })))
 }
 
-fn move_item(alloc: Global, words: &[&str]) -> Result<Option<Event>, Memory>
+fn move_item(alloc: Global, words: &[&str]) -> Result<Option<Event>, OutOfMemory>
     ensures { IfOk result (Reads (IsPeerEvent PeerCommand.Move (map (λ w. w.now) words.now))) }
 {
     let [source, target] = words else {
@@ -54,7 +54,7 @@ fn move_item(alloc: Global, words: &[&str]) -> Result<Option<Event>, Memory>
     Ok(Some(Event::Peer(PeerEvent::Move { from, to })))
 }
 
-fn remove(alloc: Global, words: &[&str]) -> Result<Option<Event>, Memory>
+fn remove(alloc: Global, words: &[&str]) -> Result<Option<Event>, OutOfMemory>
     ensures { IfOk result (Reads (IsPeerEvent PeerCommand.Remove (map (λ w. w.now) words.now))) }
 {
     let [target] = words else {
@@ -66,7 +66,7 @@ fn remove(alloc: Global, words: &[&str]) -> Result<Option<Event>, Memory>
     Ok(Some(Event::Peer(PeerEvent::Remove { path })))
 }
 
-fn stat(alloc: Global, words: &[&str]) -> Result<Option<Event>, Memory>
+fn stat(alloc: Global, words: &[&str]) -> Result<Option<Event>, OutOfMemory>
     ensures { IfOk result (Reads (IsPeerEvent PeerCommand.Stat (map (λ w. w.now) words.now))) }
 {
     let [target] = words else {
@@ -78,7 +78,7 @@ fn stat(alloc: Global, words: &[&str]) -> Result<Option<Event>, Memory>
     Ok(Some(Event::Peer(PeerEvent::Stat { path })))
 }
 
-fn keep(alloc: Global, words: &[&str]) -> Result<Option<Event>, Memory>
+fn keep(alloc: Global, words: &[&str]) -> Result<Option<Event>, OutOfMemory>
     ensures { IfOk result (Reads (IsPeerEvent PeerCommand.Keep (map (λ w. w.now) words.now))) }
 {
     let [word] = words else {
@@ -90,7 +90,7 @@ fn keep(alloc: Global, words: &[&str]) -> Result<Option<Event>, Memory>
     Ok(Some(Event::Peer(PeerEvent::Keep { count })))
 }
 
-fn peer_event(alloc: Global, command: PeerCommand, words: &[&str]) -> Result<Option<Event>, Memory>
+fn peer_event(alloc: Global, command: PeerCommand, words: &[&str]) -> Result<Option<Event>, OutOfMemory>
     ensures { IfOk result (Reads (IsPeerEvent command (map (λ w. w.now) words.now))) }
 {
     match command {
@@ -104,7 +104,7 @@ fn peer_event(alloc: Global, command: PeerCommand, words: &[&str]) -> Result<Opt
 }
 
 /// What follows the word `peer`.
-pub fn peer(alloc: Global, words: &[&str]) -> Result<Option<Event>, Memory>
+pub fn peer(alloc: Global, words: &[&str]) -> Result<Option<Event>, OutOfMemory>
     ensures { IfOk result (Reads (IsPeer (map (λ w. w.now) words.now))) }
 {
     let [word, rest @ ..] = words else {

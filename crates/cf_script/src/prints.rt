@@ -4,11 +4,11 @@ ghost use Rattle.std.specs.Prelude.{◌≡◌, IfOk};
 ghost use Rattle.cf_script.specs.Printed.{printed};
 
 use crate::put_events::put_event;
-use cf_base::{Blob, Event, Memory};
+use cf_base::{Blob, Event, OutOfMemory};
 use std::alloc::Global;
 
 /// The text of the events, one line for each: with DATA as pairs of digits, and a line end after the last line.
-pub fn print(alloc: Global, events: &[Event]) -> Result<Blob, Memory>
+pub fn print(alloc: Global, events: &[Event]) -> Result<Blob, OutOfMemory>
     ensures { IfOk result (λ text. text ≡ printed events.now) }
 {
     let mut text = Vec::new(alloc);

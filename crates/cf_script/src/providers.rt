@@ -8,11 +8,11 @@ use crate::data::identity;
 use crate::names::in_sync;
 use crate::numbers::{number, usn};
 use crate::paths::path;
-use cf_base::{Event, Memory, ProviderEvent};
+use cf_base::{Event, OutOfMemory, ProviderEvent};
 use std::alloc::Global;
 
 /// `place P NUM IDENT`, with `insync` after it or not.
-pub fn place(alloc: Global, words: &[&str]) -> Result<Option<Event>, Memory>
+pub fn place(alloc: Global, words: &[&str]) -> Result<Option<Event>, OutOfMemory>
     ensures { IfOk result (Reads (IsPlace (map (λ w. w.now) words.now))) }
 {
     let [target, size, identity_word, flag @ ..] = words else {
@@ -39,7 +39,7 @@ pub fn place(alloc: Global, words: &[&str]) -> Result<Option<Event>, Memory>
 }
 
 /// `placedir P IDENT`, with `insync` after it or not.
-pub fn place_dir(alloc: Global, words: &[&str]) -> Result<Option<Event>, Memory>
+pub fn place_dir(alloc: Global, words: &[&str]) -> Result<Option<Event>, OutOfMemory>
     ensures { IfOk result (Reads (IsPlaceDir (map (λ w. w.now) words.now))) }
 {
     let [target, identity_word, flag @ ..] = words else {
@@ -62,7 +62,7 @@ pub fn place_dir(alloc: Global, words: &[&str]) -> Result<Option<Event>, Memory>
 }
 
 /// `convert P IDENT`.
-pub fn convert(alloc: Global, words: &[&str]) -> Result<Option<Event>, Memory>
+pub fn convert(alloc: Global, words: &[&str]) -> Result<Option<Event>, OutOfMemory>
     ensures { IfOk result (Reads (IsConvert (map (λ w. w.now) words.now))) }
 {
     let [target, word] = words else {
@@ -77,7 +77,7 @@ pub fn convert(alloc: Global, words: &[&str]) -> Result<Option<Event>, Memory>
     Ok(Some(Event::Provider(ProviderEvent::Convert { path, identity })))
 }
 
-fn update_in_place(alloc: Global, target: &str, word: &str) -> Result<Option<Event>, Memory>
+fn update_in_place(alloc: Global, target: &str, word: &str) -> Result<Option<Event>, OutOfMemory>
     ensures { IfOk result (Reads (IsUpdate (target.now ∷ word.now ∷ []))) }
 {
     let Some(path) = path(alloc, target)? else {
@@ -98,7 +98,7 @@ fn update_sized(
     target: &str,
     word: &str,
     size: &str,
-) -> Result<Option<Event>, Memory>
+) -> Result<Option<Event>, OutOfMemory>
     ensures { IfOk result (Reads (IsUpdate (target.now ∷ word.now ∷ size.now ∷ []))) }
 {
     let Some(path) = path(alloc, target)? else {
@@ -118,7 +118,7 @@ fn update_sized(
 }
 
 /// `update P IDENT`, or with a size.
-pub fn update(alloc: Global, words: &[&str]) -> Result<Option<Event>, Memory>
+pub fn update(alloc: Global, words: &[&str]) -> Result<Option<Event>, OutOfMemory>
     ensures { IfOk result (Reads (IsUpdate (map (λ w. w.now) words.now))) }
 {
     match words {
@@ -129,7 +129,7 @@ pub fn update(alloc: Global, words: &[&str]) -> Result<Option<Event>, Memory>
 }
 
 /// `mark P PAIR`.
-pub fn mark(alloc: Global, words: &[&str]) -> Result<Option<Event>, Memory>
+pub fn mark(alloc: Global, words: &[&str]) -> Result<Option<Event>, OutOfMemory>
     ensures { IfOk result (Reads (IsMark (map (λ w. w.now) words.now))) }
 {
     let [target, word] = words else {

@@ -13,7 +13,7 @@ use crate::texts::{
     class_text, data_text, hydration_text, key_text, number_text, path_text, pin_text,
     population_text, yes_text,
 };
-use cf_base::{Blob, Call, Key, Memory, Pin, Policy, Reach, Text};
+use cf_base::{Blob, Call, Key, OutOfMemory, Pin, Policy, Reach, Text};
 use std::alloc::Global;
 
 fn put_read(
@@ -22,7 +22,7 @@ fn put_read(
     key: Key,
     offset: u32,
     len: u32,
-) -> Result<(), Memory>
+) -> Result<(), OutOfMemory>
     ensures { OnOk result (text.new.items ≡ text.old.items ++ line_of (codes "read" ∷ key_text key ∷ decimal offset ∷ decimal len ∷ []) ++ 10 ∷ []) }
 {
     let key = key_text(alloc, key)?;
@@ -41,7 +41,7 @@ fn put_write(
     key: Key,
     offset: u32,
     bytes: &Blob,
-) -> Result<(), Memory>
+) -> Result<(), OutOfMemory>
     ensures { OnOk result (text.new.items ≡ text.old.items ++ line_of (codes "write" ∷ key_text key ∷ decimal offset ∷ plain_text bytes.now ∷ []) ++ 10 ∷ []) }
 {
     let key = key_text(alloc, key)?;
@@ -54,7 +54,7 @@ fn put_write(
     )
 }
 
-fn put_size(alloc: Global, text: &mut Vec<u8>, key: Key, size: u32) -> Result<(), Memory>
+fn put_size(alloc: Global, text: &mut Vec<u8>, key: Key, size: u32) -> Result<(), OutOfMemory>
     ensures { OnOk result (text.new.items ≡ text.old.items ++ line_of (codes "size" ∷ key_text key ∷ decimal size ∷ []) ++ 10 ∷ []) }
 {
     let key = key_text(alloc, key)?;
@@ -62,7 +62,7 @@ fn put_size(alloc: Global, text: &mut Vec<u8>, key: Key, size: u32) -> Result<()
     put_line(text, "size", &[key.as_slice(), size.as_slice()])
 }
 
-fn put_rename(alloc: Global, text: &mut Vec<u8>, from: &Text, to: &Text) -> Result<(), Memory>
+fn put_rename(alloc: Global, text: &mut Vec<u8>, from: &Text, to: &Text) -> Result<(), OutOfMemory>
     ensures { OnOk result (text.new.items ≡ text.old.items ++ line_of (codes "rename" ∷ escaped from.now ∷ escaped to.now ∷ []) ++ 10 ∷ []) }
 {
     let from = path_text(alloc, from)?;
@@ -76,7 +76,7 @@ fn put_pin(
     path: &Text,
     pin: Pin,
     reach: Reach,
-) -> Result<(), Memory>
+) -> Result<(), OutOfMemory>
     ensures { OnOk result (text.new.items ≡ text.old.items ++ line_of (codes "pin" ∷ escaped path.now ∷ pin_name pin ∷ reach_words reach) ++ 10 ∷ []) }
 {
     let path = path_text(alloc, path)?;
@@ -94,7 +94,7 @@ fn put_dehydrate(
     text: &mut Vec<u8>,
     path: &Text,
     range: Option<(u32, u32)>,
-) -> Result<(), Memory>
+) -> Result<(), OutOfMemory>
     ensures { OnOk result (text.new.items ≡ text.old.items ++ line_of (codes "dehydrate" ∷ escaped path.now ∷ range_words range) ++ 10 ∷ []) }
 {
     match range {
@@ -118,7 +118,7 @@ fn modifiers_text(validate: bool, restart: bool, auto: bool) -> &'static str
     }
 }
 
-fn put_policy(text: &mut Vec<u8>, policy: Policy) -> Result<(), Memory>
+fn put_policy(text: &mut Vec<u8>, policy: Policy) -> Result<(), OutOfMemory>
     ensures { OnOk result (text.new.items ≡ text.old.items ++ line_of (codes "policy" ∷ hydration_name policy.hydration ∷ population_name policy.population ∷ modifier_words policy.validate policy.restart policy.auto) ++ 10 ∷ []) }
 {
     let hydration = hydration_text(policy.hydration).as_bytes();
@@ -132,7 +132,7 @@ fn put_policy(text: &mut Vec<u8>, policy: Policy) -> Result<(), Memory>
     )
 }
 
-fn put_connect(text: &mut Vec<u8>, on: bool) -> Result<(), Memory>
+fn put_connect(text: &mut Vec<u8>, on: bool) -> Result<(), OutOfMemory>
     ensures { OnOk result (text.new.items ≡ text.old.items ++ line_of (connect_name on ∷ []) ++ 10 ∷ []) }
 {
     let word = if on { "connect" } else { "disconnect" };
@@ -140,7 +140,7 @@ fn put_connect(text: &mut Vec<u8>, on: bool) -> Result<(), Memory>
 }
 
 /// The line of a call.
-pub fn put_call(alloc: Global, text: &mut Vec<u8>, call: &Call) -> Result<(), Memory>
+pub fn put_call(alloc: Global, text: &mut Vec<u8>, call: &Call) -> Result<(), OutOfMemory>
     ensures { OnOk result (text.new.items ≡ text.old.items ++ line_of (call_words call.now) ++ 10 ∷ []) }
 {
     match call {

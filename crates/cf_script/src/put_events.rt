@@ -10,19 +10,19 @@ use crate::put_lines::{put_line, put_number, put_path, put_path_and};
 use crate::put_operations::{put_do, put_plan};
 use crate::texts::{data_text, link_text, number_text, path_text, usn_text};
 use cf_base::{
-    Blob, Choice, DeviceEvent, EngineEvent, Event, Identity, Memory, PeerEvent, ProviderEvent,
+    Blob, Choice, DeviceEvent, EngineEvent, Event, Identity, OutOfMemory, PeerEvent, ProviderEvent,
     Text, Usn,
 };
 use std::alloc::Global;
 
-fn put_mix(alloc: Global, text: &mut Vec<u8>, seed: u64) -> Result<(), Memory>
+fn put_mix(alloc: Global, text: &mut Vec<u8>, seed: u64) -> Result<(), OutOfMemory>
     ensures { OnOk result (text.new.items ≡ text.old.items ++ line_of (codes "crash" ∷ codes "mix" ∷ decimal seed ∷ []) ++ 10 ∷ []) }
 {
     let seed = number_text(alloc, seed)?;
     put_line(text, "crash", &["mix".as_bytes(), seed.as_slice()])
 }
 
-fn put_crash(alloc: Global, text: &mut Vec<u8>, choice: Choice) -> Result<(), Memory>
+fn put_crash(alloc: Global, text: &mut Vec<u8>, choice: Choice) -> Result<(), OutOfMemory>
     ensures { OnOk result (text.new.items ≡ text.old.items ++ line_of (codes "crash" ∷ choice_words choice) ++ 10 ∷ []) }
 {
     match choice {
@@ -32,7 +32,7 @@ fn put_crash(alloc: Global, text: &mut Vec<u8>, choice: Choice) -> Result<(), Me
     }
 }
 
-fn put_device(alloc: Global, text: &mut Vec<u8>, event: DeviceEvent) -> Result<(), Memory>
+fn put_device(alloc: Global, text: &mut Vec<u8>, event: DeviceEvent) -> Result<(), OutOfMemory>
     ensures { OnOk result (text.new.items ≡ text.old.items ++ line_of (device_words event) ++ 10 ∷ []) }
 {
     match event {
@@ -42,7 +42,7 @@ fn put_device(alloc: Global, text: &mut Vec<u8>, event: DeviceEvent) -> Result<(
     }
 }
 
-fn put_peer_put(alloc: Global, text: &mut Vec<u8>, path: &Text, bytes: &Blob) -> Result<(), Memory>
+fn put_peer_put(alloc: Global, text: &mut Vec<u8>, path: &Text, bytes: &Blob) -> Result<(), OutOfMemory>
     ensures { OnOk result (text.new.items ≡ text.old.items ++ line_of (codes "peer" ∷ codes "put" ∷ escaped path.now ∷ plain_text bytes.now ∷ []) ++ 10 ∷ []) }
 {
     let path = path_text(alloc, path)?;
@@ -54,14 +54,14 @@ fn put_peer_put(alloc: Global, text: &mut Vec<u8>, path: &Text, bytes: &Blob) ->
     )
 }
 
-fn put_peer_path(alloc: Global, text: &mut Vec<u8>, word: &str, path: &Text) -> Result<(), Memory>
+fn put_peer_path(alloc: Global, text: &mut Vec<u8>, word: &str, path: &Text) -> Result<(), OutOfMemory>
     ensures { OnOk result (text.new.items ≡ text.old.items ++ line_of (codes "peer" ∷ word.now ∷ escaped path.now ∷ []) ++ 10 ∷ []) }
 {
     let path = path_text(alloc, path)?;
     put_line(text, "peer", &[word.as_bytes(), path.as_slice()])
 }
 
-fn put_peer_move(alloc: Global, text: &mut Vec<u8>, from: &Text, to: &Text) -> Result<(), Memory>
+fn put_peer_move(alloc: Global, text: &mut Vec<u8>, from: &Text, to: &Text) -> Result<(), OutOfMemory>
     ensures { OnOk result (text.new.items ≡ text.old.items ++ line_of (codes "peer" ∷ codes "move" ∷ escaped from.now ∷ escaped to.now ∷ []) ++ 10 ∷ []) }
 {
     let from = path_text(alloc, from)?;
@@ -73,14 +73,14 @@ fn put_peer_move(alloc: Global, text: &mut Vec<u8>, from: &Text, to: &Text) -> R
     )
 }
 
-fn put_peer_keep(alloc: Global, text: &mut Vec<u8>, count: u32) -> Result<(), Memory>
+fn put_peer_keep(alloc: Global, text: &mut Vec<u8>, count: u32) -> Result<(), OutOfMemory>
     ensures { OnOk result (text.new.items ≡ text.old.items ++ line_of (codes "peer" ∷ codes "keep" ∷ decimal count ∷ []) ++ 10 ∷ []) }
 {
     let count = number_text(alloc, count as u64)?;
     put_line(text, "peer", &["keep".as_bytes(), count.as_slice()])
 }
 
-fn put_peer(alloc: Global, text: &mut Vec<u8>, event: &PeerEvent) -> Result<(), Memory>
+fn put_peer(alloc: Global, text: &mut Vec<u8>, event: &PeerEvent) -> Result<(), OutOfMemory>
     ensures { OnOk result (text.new.items ≡ text.old.items ++ line_of (codes "peer" ∷ peer_words event.now) ++ 10 ∷ []) }
 {
     match event {
@@ -93,7 +93,7 @@ fn put_peer(alloc: Global, text: &mut Vec<u8>, event: &PeerEvent) -> Result<(), 
     }
 }
 
-fn put_engine(alloc: Global, text: &mut Vec<u8>, event: EngineEvent) -> Result<(), Memory>
+fn put_engine(alloc: Global, text: &mut Vec<u8>, event: EngineEvent) -> Result<(), OutOfMemory>
     ensures { OnOk result (text.new.items ≡ text.old.items ++ line_of (engine_words event) ++ 10 ∷ []) }
 {
     match event {
@@ -113,7 +113,7 @@ fn put_place(
     size: u32,
     identity: &Identity,
     in_sync: bool,
-) -> Result<(), Memory>
+) -> Result<(), OutOfMemory>
     ensures { OnOk result (text.new.items ≡ text.old.items ++ line_of (codes "place" ∷ escaped path.now ∷ decimal size ∷ plain_text identity.now ∷ in_sync_words in_sync) ++ 10 ∷ []) }
 {
     let path = path_text(alloc, path)?;
@@ -132,7 +132,7 @@ fn put_place_dir(
     path: &Text,
     identity: &Identity,
     in_sync: bool,
-) -> Result<(), Memory>
+) -> Result<(), OutOfMemory>
     ensures { OnOk result (text.new.items ≡ text.old.items ++ line_of (codes "placedir" ∷ escaped path.now ∷ plain_text identity.now ∷ in_sync_words in_sync) ++ 10 ∷ []) }
 {
     let path = path_text(alloc, path)?;
@@ -149,7 +149,7 @@ fn put_convert(
     text: &mut Vec<u8>,
     path: &Text,
     identity: &Identity,
-) -> Result<(), Memory>
+) -> Result<(), OutOfMemory>
     ensures { OnOk result (text.new.items ≡ text.old.items ++ line_of (codes "convert" ∷ escaped path.now ∷ plain_text identity.now ∷ []) ++ 10 ∷ []) }
 {
     let identity = data_text(alloc, identity.as_slice())?;
@@ -162,7 +162,7 @@ fn put_update(
     path: &Text,
     identity: &Identity,
     size: Option<u32>,
-) -> Result<(), Memory>
+) -> Result<(), OutOfMemory>
     ensures { OnOk result (text.new.items ≡ text.old.items ++ line_of (codes "update" ∷ escaped path.now ∷ plain_text identity.now ∷ size_words size) ++ 10 ∷ []) }
 {
     let identity = data_text(alloc, identity.as_slice())?;
@@ -178,14 +178,14 @@ fn put_update(
     )
 }
 
-fn put_mark(alloc: Global, text: &mut Vec<u8>, path: &Text, number: Usn) -> Result<(), Memory>
+fn put_mark(alloc: Global, text: &mut Vec<u8>, path: &Text, number: Usn) -> Result<(), OutOfMemory>
     ensures { OnOk result (text.new.items ≡ text.old.items ++ line_of (codes "mark" ∷ escaped path.now ∷ pair_text number.epoch number.place ∷ []) ++ 10 ∷ []) }
 {
     let number = usn_text(alloc, number)?;
     put_path_and(alloc, text, "mark", path, number.as_slice())
 }
 
-fn put_provider(alloc: Global, text: &mut Vec<u8>, event: &ProviderEvent) -> Result<(), Memory>
+fn put_provider(alloc: Global, text: &mut Vec<u8>, event: &ProviderEvent) -> Result<(), OutOfMemory>
     ensures { OnOk result (text.new.items ≡ text.old.items ++ line_of (provider_words event.now) ++ 10 ∷ []) }
 {
     match event {
@@ -215,7 +215,7 @@ fn put_provider(alloc: Global, text: &mut Vec<u8>, event: &ProviderEvent) -> Res
 }
 
 /// The line of an event.
-pub fn put_event(alloc: Global, text: &mut Vec<u8>, event: &Event) -> Result<(), Memory>
+pub fn put_event(alloc: Global, text: &mut Vec<u8>, event: &Event) -> Result<(), OutOfMemory>
     ensures { OnOk result (text.new.items ≡ text.old.items ++ line_of (event_words event.now) ++ 10 ∷ []) }
 {
     match event {

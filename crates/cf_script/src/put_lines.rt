@@ -6,10 +6,10 @@ ghost use Rattle.cf_script.specs.Words.{escaped};
 ghost use Rattle.cf_script.specs.Printed.{key_text, spaced, line_of};
 
 use crate::texts::{key_text, number_text, path_text};
-use cf_base::{Key, Memory, Text};
+use cf_base::{Key, OutOfMemory, Text};
 use std::alloc::Global;
 
-fn put_spaced(text: &mut Vec<u8>, words: &[&[u8]]) -> Result<(), Memory>
+fn put_spaced(text: &mut Vec<u8>, words: &[&[u8]]) -> Result<(), OutOfMemory>
     ensures { OnOk result (text.new.items ≡ text.old.items ++ spaced (map (λ w. w.now) words.now)) }
 {
     let mut rest = words;
@@ -22,7 +22,7 @@ fn put_spaced(text: &mut Vec<u8>, words: &[&[u8]]) -> Result<(), Memory>
 }
 
 /// A line of these words.
-pub fn put_line(text: &mut Vec<u8>, first: &str, words: &[&[u8]]) -> Result<(), Memory>
+pub fn put_line(text: &mut Vec<u8>, first: &str, words: &[&[u8]]) -> Result<(), OutOfMemory>
     ensures { OnOk result (text.new.items ≡ text.old.items ++ line_of (first.now ∷ map (λ w. w.now) words.now) ++ 10 ∷ []) }
 {
     text.extend_from_slice(first.as_bytes())?;
@@ -37,7 +37,7 @@ pub fn put_long_line(
     first: &str,
     words: &[&[u8]],
     more: &[u8],
-) -> Result<(), Memory>
+) -> Result<(), OutOfMemory>
     ensures { OnOk result (text.new.items ≡ text.old.items ++ line_of (first.now ∷ map (λ w. w.now) words.now) ++ more.now ++ 10 ∷ []) }
 {
     text.extend_from_slice(first.as_bytes())?;
@@ -48,7 +48,7 @@ pub fn put_long_line(
 }
 
 /// A word and a path.
-pub fn put_path(alloc: Global, text: &mut Vec<u8>, word: &str, path: &Text) -> Result<(), Memory>
+pub fn put_path(alloc: Global, text: &mut Vec<u8>, word: &str, path: &Text) -> Result<(), OutOfMemory>
     ensures { OnOk result (text.new.items ≡ text.old.items ++ line_of (word.now ∷ escaped path.now ∷ []) ++ 10 ∷ []) }
 {
     let path = path_text(alloc, path)?;
@@ -62,7 +62,7 @@ pub fn put_path_and(
     word: &str,
     path: &Text,
     last: &[u8],
-) -> Result<(), Memory>
+) -> Result<(), OutOfMemory>
     ensures { OnOk result (text.new.items ≡ text.old.items ++ line_of (word.now ∷ escaped path.now ∷ last.now ∷ []) ++ 10 ∷ []) }
 {
     let path = path_text(alloc, path)?;
@@ -77,7 +77,7 @@ pub fn put_path_span(
     path: &Text,
     offset: u32,
     len: u32,
-) -> Result<(), Memory>
+) -> Result<(), OutOfMemory>
     ensures { OnOk result (text.new.items ≡ text.old.items ++ line_of (word.now ∷ escaped path.now ∷ decimal offset ∷ decimal len ∷ []) ++ 10 ∷ []) }
 {
     let path = path_text(alloc, path)?;
@@ -91,7 +91,7 @@ pub fn put_path_span(
 }
 
 /// A word and a number.
-pub fn put_number(alloc: Global, text: &mut Vec<u8>, word: &str, number: u32) -> Result<(), Memory>
+pub fn put_number(alloc: Global, text: &mut Vec<u8>, word: &str, number: u32) -> Result<(), OutOfMemory>
     ensures { OnOk result (text.new.items ≡ text.old.items ++ line_of (word.now ∷ decimal number ∷ []) ++ 10 ∷ []) }
 {
     let number = number_text(alloc, number as u64)?;
@@ -99,7 +99,7 @@ pub fn put_number(alloc: Global, text: &mut Vec<u8>, word: &str, number: u32) ->
 }
 
 /// A word and a key.
-pub fn put_key(alloc: Global, text: &mut Vec<u8>, word: &str, key: Key) -> Result<(), Memory>
+pub fn put_key(alloc: Global, text: &mut Vec<u8>, word: &str, key: Key) -> Result<(), OutOfMemory>
     ensures { OnOk result (text.new.items ≡ text.old.items ++ line_of (word.now ∷ key_text key ∷ []) ++ 10 ∷ []) }
 {
     let key = key_text(alloc, key)?;

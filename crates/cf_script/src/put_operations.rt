@@ -9,10 +9,10 @@ ghost use Rattle.cf_script.specs.Printed.{key_text, rest_text, mark_text, entry_
 
 use crate::put_lines::{put_line, put_long_line};
 use crate::texts::{data_text, good_text, key_text, kind_text, name_text, number_text};
-use cf_base::{Blob, Key, Memory, NewItem, Operation, Span};
+use cf_base::{Blob, Key, OutOfMemory, NewItem, Operation, Span};
 use std::alloc::Global;
 
-fn rest_text(alloc: Global, item: &NewItem) -> Result<Blob, Memory>
+fn rest_text(alloc: Global, item: &NewItem) -> Result<Blob, OutOfMemory>
     ensures { IfOk result (λ t. t ≡ rest_text item.now item.now.dir) }
 {
     let identity = data_text(alloc, item.identity.as_slice())?;
@@ -32,7 +32,7 @@ fn mark_text(mark: bool) -> &'static str
     if mark { ",insync" } else { "" }
 }
 
-fn entry_text(alloc: Global, item: &NewItem) -> Result<Blob, Memory>
+fn entry_text(alloc: Global, item: &NewItem) -> Result<Blob, OutOfMemory>
     ensures { IfOk result (λ t. t ≡ entry_text item.now) }
 {
     let name = name_text(alloc, item.name.as_slice())?;
@@ -47,7 +47,7 @@ fn entry_text(alloc: Global, item: &NewItem) -> Result<Blob, Memory>
 }
 
 /// Entries, each behind a space.
-fn entries_text(alloc: Global, list: &[NewItem]) -> Result<Blob, Memory>
+fn entries_text(alloc: Global, list: &[NewItem]) -> Result<Blob, OutOfMemory>
     ensures { IfOk result (λ t. t ≡ spaced (entry_words list.now)) }
 {
     let mut text = Vec::new(alloc);
@@ -68,7 +68,7 @@ fn put_transfer(
     key: &[u8],
     at: u64,
     bytes: &Blob,
-) -> Result<(), Memory>
+) -> Result<(), OutOfMemory>
     ensures { OnOk result (text.new.items ≡ text.old.items ++ line_of (word.now ∷ codes "transfer" ∷ key.now ∷ decimal at ∷ plain_text bytes.now ∷ []) ++ 10 ∷ []) }
 {
     let at = number_text(alloc, at)?;
@@ -88,7 +88,7 @@ fn put_spanned<'a>(
     key: &'a [u8],
     span: Span,
     last: &'a [u8],
-) -> Result<(), Memory>
+) -> Result<(), OutOfMemory>
     ensures { OnOk result (text.new.items ≡ text.old.items ++ line_of (word.now ∷ name.now ∷ key.now ∷ decimal span.start ∷ decimal span.len ∷ last.now ∷ []) ++ 10 ∷ []) }
 {
     let start = number_text(alloc, span.start)?;
@@ -107,7 +107,7 @@ fn put_fail(
     key: &[u8],
     span: Span,
     status: u32,
-) -> Result<(), Memory>
+) -> Result<(), OutOfMemory>
     ensures { OnOk result (text.new.items ≡ text.old.items ++ line_of (word.now ∷ codes "fail" ∷ key.now ∷ decimal span.start ∷ decimal span.len ∷ decimal status ∷ []) ++ 10 ∷ []) }
 {
     let status = number_text(alloc, status as u64)?;
@@ -120,7 +120,7 @@ fn put_retrieve(
     word: &str,
     key: &[u8],
     span: Span,
-) -> Result<(), Memory>
+) -> Result<(), OutOfMemory>
     ensures { OnOk result (text.new.items ≡ text.old.items ++ line_of (word.now ∷ codes "retrieve" ∷ key.now ∷ decimal span.start ∷ decimal span.len ∷ []) ++ 10 ∷ []) }
 {
     let start = number_text(alloc, span.start)?;
@@ -139,7 +139,7 @@ fn put_entries<'a>(
     key: &'a [u8],
     good: &'a str,
     list: &[NewItem],
-) -> Result<(), Memory>
+) -> Result<(), OutOfMemory>
     ensures { OnOk result (text.new.items ≡ text.old.items ++ line_of (word.now ∷ codes "entries" ∷ key.now ∷ good.now ∷ entry_words list.now) ++ 10 ∷ []) }
 {
     let entries = entries_text(alloc, list)?;
@@ -151,7 +151,7 @@ fn put_entries<'a>(
     )
 }
 
-fn put_rehydrate(text: &mut Vec<u8>, word: &str, key: &[u8]) -> Result<(), Memory>
+fn put_rehydrate(text: &mut Vec<u8>, word: &str, key: &[u8]) -> Result<(), OutOfMemory>
     ensures { OnOk result (text.new.items ≡ text.old.items ++ line_of (word.now ∷ codes "rehydrate" ∷ key.now ∷ []) ++ 10 ∷ []) }
 {
     put_line(text, word, &["rehydrate".as_bytes(), key])
@@ -162,7 +162,7 @@ fn put_ack_dehydrate<'a>(
     word: &str,
     key: &'a [u8],
     good: &'a str,
-) -> Result<(), Memory>
+) -> Result<(), OutOfMemory>
     ensures { OnOk result (text.new.items ≡ text.old.items ++ line_of (word.now ∷ codes "ackdehydrate" ∷ key.now ∷ good.now ∷ []) ++ 10 ∷ []) }
 {
     put_line(
@@ -178,7 +178,7 @@ fn put_operation(
     word: &str,
     key: &[u8],
     operation: &Operation,
-) -> Result<(), Memory>
+) -> Result<(), OutOfMemory>
     ensures { OnOk result (text.new.items ≡ text.old.items ++ line_of (word.now ∷ operation_words key.now operation.now) ++ 10 ∷ []) }
 {
     match operation {
@@ -226,7 +226,7 @@ fn key_of(operation: &Operation) -> Key
 }
 
 /// The line of an operation now.
-pub fn put_do(alloc: Global, text: &mut Vec<u8>, operation: &Operation) -> Result<(), Memory>
+pub fn put_do(alloc: Global, text: &mut Vec<u8>, operation: &Operation) -> Result<(), OutOfMemory>
     ensures { OnOk result (text.new.items ≡ text.old.items ++ line_of (codes "do" ∷ operation_words (key_text (key_of operation.now)) operation.now) ++ 10 ∷ []) }
 {
     let key = key_text(alloc, key_of(operation))?;
@@ -239,7 +239,7 @@ pub fn put_plan(
     text: &mut Vec<u8>,
     own: bool,
     operation: &Operation,
-) -> Result<(), Memory>
+) -> Result<(), OutOfMemory>
     ensures { OnOk result (text.new.items ≡ text.old.items ++ line_of (codes "plan" ∷ operation_words (plan_key_text own (key_of operation.now)) operation.now) ++ 10 ∷ []) }
 {
     if own {

@@ -5,10 +5,10 @@ ghost use Rattle.std.specs.List.{list_all};
 ghost use Rattle.cf_base.specs.declared.events.Event.{Event};
 ghost use Rattle.cf_script.specs.Script.{IsScript, lines_of, is_event_line};
 ghost use Rattle.cf_script.specs.Built.{is_built};
-ghost use Rattle.cf_script.specs.Fail.{IsCause};
+ghost use Rattle.cf_script.specs.FailEvents.{IsCause};
 
 use crate::built::is_built;
-use crate::fails::ScriptFail;
+use crate::fails::ScriptError;
 use crate::lines::event_of_line;
 use cf_base::{Event, Mode, Sequence};
 use std::alloc::Global;
@@ -43,7 +43,7 @@ fn is_event_line(line: &[u8]) -> bool
     }
 }
 
-fn read_lines(alloc: Global, text: &[u8], mode: Mode) -> Result<Vec<Event>, ScriptFail>
+fn read_lines(alloc: Global, text: &[u8], mode: Mode) -> Result<Vec<Event>, ScriptError>
     requires { length text.now < 2 ^ 32 }
     ensures ok { IfOk result (λ events. IsScript mode text.now events.items) }
     ensures built { IfOk result (λ events. IsTrue (list_all (is_built mode) events.items)) }
@@ -58,13 +58,15 @@ fn read_lines(alloc: Global, text: &[u8], mode: Mode) -> Result<Vec<Event>, Scri
         rest = after;
         if is_event_line(line) {
             let Some(event) = event_of_line(alloc, mode, line)? else {
-                return Err(ScriptFail::Syntax(number));
+                return Err(ScriptError::Syntax(number));
             };
             if events.len() == MOST_EVENTS {
-                return Err(ScriptFail::TooManyEvents(number));
+                drop(event);
+                return Err(ScriptError::TooManyEvents(number));
             }
             if !is_built(mode, &event) {
-                return Err(ScriptFail::NotBuilt(number));
+                drop(event);
+                return Err(ScriptError::NotBuilt(number));
             }
             events.push(event)?;
         }
@@ -75,13 +77,13 @@ fn read_lines(alloc: Global, text: &[u8], mode: Mode) -> Result<Vec<Event>, Scri
 /// The events of a script, in order. The text has less than 4 GiB.
 ///
 /// Refused as Syntax, TooManyEvents or NotBuilt with the number of the first line that is bad, has one event too many
-/// or is not built, and as Memory.
-pub fn read(alloc: Global, text: &[u8], mode: Mode) -> Result<Sequence<Event>, ScriptFail>
+/// or is not built, and as OutOfMemory.
+pub fn read(alloc: Global, text: &[u8], mode: Mode) -> Result<Sequence<Event>, ScriptError>
     requires { length text.now < 2 ^ 32 }
     ensures ok { IfOk result (λ events. IsScript mode text.now events) }
     ensures built { IfOk result (λ events. IsTrue (list_all (is_built mode) events)) }
     ensures cause { IfErr result (IsCause mode (lines_of text.now)) }
-    ensures complete { (events : List Event) → IsScript mode text.now events → IsTrue (list_all (is_built mode) events) → MatchResult result (λ read. read ≡ events) (λ fail. fail ≡ ScriptFail.Memory) }
+    ensures complete { (events : List Event) → IsScript mode text.now events → IsTrue (list_all (is_built mode) events) → MatchResult result (λ read. read ≡ events) (λ fail. fail ≡ ScriptError.OutOfMemory) }
 {
     let events = read_lines(alloc, text, mode)?;
     Ok(Sequence::from_vec(events))

@@ -8,7 +8,7 @@ use crate::commands::{BareCommand, NumberCommand, PathCommand};
 use crate::names::kept;
 use crate::numbers::number;
 use crate::paths::path;
-use cf_base::{Call, Choice, DeviceEvent, EngineEvent, Event, Memory, ProviderEvent, Text};
+use cf_base::{Call, Choice, DeviceEvent, EngineEvent, Event, OutOfMemory, ProviderEvent, Text};
 use std::alloc::Global;
 
 fn bare_event(command: BareCommand) -> Event
@@ -53,7 +53,7 @@ fn path_event(command: PathCommand, path: Text) -> Event
 }
 
 /// A word and a path.
-pub fn on_path(alloc: Global, command: PathCommand, words: &[&str]) -> Result<Option<Event>, Memory>
+pub fn on_path(alloc: Global, command: PathCommand, words: &[&str]) -> Result<Option<Event>, OutOfMemory>
     ensures { IfOk result (Reads (IsPathLine command (map (λ w. w.now) words.now))) }
 {
     let [target] = words else {
@@ -81,7 +81,7 @@ pub fn on_number(
     alloc: Global,
     command: NumberCommand,
     words: &[&str],
-) -> Result<Option<Event>, Memory>
+) -> Result<Option<Event>, OutOfMemory>
     ensures { IfOk result (Reads (IsNumberLine command (map (λ w. w.now) words.now))) }
 {
     let [word] = words else {
@@ -103,7 +103,7 @@ fn whole_crash(word: &str) -> Option<Event>
     Some(Event::Device(DeviceEvent::Crash { choice }))
 }
 
-fn mixed_crash(alloc: Global, word: &str, seed: &str) -> Result<Option<Event>, Memory>
+fn mixed_crash(alloc: Global, word: &str, seed: &str) -> Result<Option<Event>, OutOfMemory>
     ensures { IfOk result (Reads (IsCrash (word.now ∷ seed.now ∷ []))) }
 {
     if word != "mix" {
@@ -117,7 +117,7 @@ fn mixed_crash(alloc: Global, word: &str, seed: &str) -> Result<Option<Event>, M
 }
 
 /// `crash keep`, `crash drop` or `crash mix NUM`.
-pub fn crash(alloc: Global, words: &[&str]) -> Result<Option<Event>, Memory>
+pub fn crash(alloc: Global, words: &[&str]) -> Result<Option<Event>, OutOfMemory>
     ensures { IfOk result (Reads (IsCrash (map (λ w. w.now) words.now))) }
 {
     match words {

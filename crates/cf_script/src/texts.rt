@@ -7,18 +7,18 @@ ghost use Rattle.cf_script.specs.Names.{pin_name, class_name, hydration_name, po
 ghost use Rattle.cf_script.specs.Forms.{escape_name_byte, escaped_name};
 ghost use Rattle.cf_script.specs.Printed.{key_text};
 
-use cf_base::{Blob, Class, Hydration, Key, Memory, Pin, Population, Text, Usn};
+use cf_base::{Blob, Class, Hydration, Key, OutOfMemory, Pin, Population, Text, Usn};
 use std::alloc::Global;
 
 /// A number.
-pub fn number_text(alloc: Global, number: u64) -> Result<Blob, Memory>
+pub fn number_text(alloc: Global, number: u64) -> Result<Blob, OutOfMemory>
     ensures { IfOk result (λ t. t ≡ decimal number) }
 {
     let text = number.to_string(alloc)?;
     Ok(Blob::from_slice(alloc, text.as_bytes())?)
 }
 
-fn pair_text(alloc: Global, first: u32, second: u32) -> Result<Blob, Memory>
+fn pair_text(alloc: Global, first: u32, second: u32) -> Result<Blob, OutOfMemory>
     ensures { IfOk result (λ t. t ≡ pair_text first second) }
 {
     let text = format!(in alloc; "{first}.{second}")?;
@@ -26,21 +26,21 @@ fn pair_text(alloc: Global, first: u32, second: u32) -> Result<Blob, Memory>
 }
 
 /// A key.
-pub fn key_text(alloc: Global, key: Key) -> Result<Blob, Memory>
+pub fn key_text(alloc: Global, key: Key) -> Result<Blob, OutOfMemory>
     ensures { IfOk result (λ t. t ≡ key_text key) }
 {
     pair_text(alloc, key.epoch, key.number)
 }
 
 /// A sequence number.
-pub fn usn_text(alloc: Global, usn: Usn) -> Result<Blob, Memory>
+pub fn usn_text(alloc: Global, usn: Usn) -> Result<Blob, OutOfMemory>
     ensures { IfOk result (λ t. t ≡ pair_text usn.epoch usn.place) }
 {
     pair_text(alloc, usn.epoch, usn.place)
 }
 
 /// Bytes, in pairs of digits.
-pub fn data_text(alloc: Global, bytes: &[u8]) -> Result<Blob, Memory>
+pub fn data_text(alloc: Global, bytes: &[u8]) -> Result<Blob, OutOfMemory>
     ensures { IfOk result (λ t. t ≡ plain_text bytes.now) }
 {
     if bytes.is_empty() {
@@ -50,7 +50,7 @@ pub fn data_text(alloc: Global, bytes: &[u8]) -> Result<Blob, Memory>
     Ok(Blob::from_slice(alloc, text.as_bytes())?)
 }
 
-fn put_path_byte(text: &mut Vec<u8>, byte: u8) -> Result<(), Memory>
+fn put_path_byte(text: &mut Vec<u8>, byte: u8) -> Result<(), OutOfMemory>
     ensures { OnOk result (text.new.items ≡ text.old.items ++ escape_byte byte) }
 {
     if byte == b' ' {
@@ -64,7 +64,7 @@ fn put_path_byte(text: &mut Vec<u8>, byte: u8) -> Result<(), Memory>
 }
 
 /// A path.
-pub fn path_text(alloc: Global, path: &Text) -> Result<Blob, Memory>
+pub fn path_text(alloc: Global, path: &Text) -> Result<Blob, OutOfMemory>
     ensures { IfOk result (λ t. t ≡ escaped path.now) }
 {
     let path = path.as_str().as_bytes();
@@ -77,7 +77,7 @@ pub fn path_text(alloc: Global, path: &Text) -> Result<Blob, Memory>
     Ok(Blob::from_vec(text))
 }
 
-fn put_name_byte(text: &mut Vec<u8>, byte: u8) -> Result<(), Memory>
+fn put_name_byte(text: &mut Vec<u8>, byte: u8) -> Result<(), OutOfMemory>
     ensures { OnOk result (text.new.items ≡ text.old.items ++ escape_name_byte byte) }
 {
     if byte == b',' {
@@ -88,7 +88,7 @@ fn put_name_byte(text: &mut Vec<u8>, byte: u8) -> Result<(), Memory>
 }
 
 /// The name of an entry.
-pub fn name_text(alloc: Global, name: &[u8]) -> Result<Blob, Memory>
+pub fn name_text(alloc: Global, name: &[u8]) -> Result<Blob, OutOfMemory>
     ensures { IfOk result (λ t. t ≡ escaped_name name.now) }
 {
     let mut text = Vec::with_capacity(alloc, name.len())?;

@@ -1,13 +1,13 @@
 //! What the language takes, refuses and writes.
 
-use cf_base::{Blob, Memory, Mode, Sequence};
-use cf_script::{ScriptFail, event_of_line, print, read};
+use cf_base::{Blob, OutOfMemory, Mode, Sequence};
+use cf_script::{ScriptError, event_of_line, print, read};
 use std::alloc::Global;
 use std::process::Abort;
 use std::test::Fail;
 
 /// The line as it is written again, or none where it is bad.
-fn again(alloc: Global, mode: Mode, line: &[u8]) -> Result<Option<Blob>, Memory> {
+fn again(alloc: Global, mode: Mode, line: &[u8]) -> Result<Option<Blob>, OutOfMemory> {
     let Some(event) = event_of_line(alloc, mode, line)? else {
         return Ok(None);
     };
@@ -16,7 +16,7 @@ fn again(alloc: Global, mode: Mode, line: &[u8]) -> Result<Option<Blob>, Memory>
     Ok(Some(print(alloc, events.as_slice())?))
 }
 
-fn is_bad(alloc: Global, mode: Mode, line: &[u8]) -> Result<bool, Memory> {
+fn is_bad(alloc: Global, mode: Mode, line: &[u8]) -> Result<bool, OutOfMemory> {
     match event_of_line(alloc, mode, line)? {
         Some(_) => Ok(false),
         None => Ok(true),
@@ -46,7 +46,7 @@ fn assert_bad(rt: &impl Abort, alloc: Global, mode: Mode, line: &str) -> Result<
     Ok(())
 }
 
-fn failed(alloc: Global, text: &[u8], mode: Mode) -> Result<Option<ScriptFail>, Memory> {
+fn failed(alloc: Global, text: &[u8], mode: Mode) -> Result<Option<ScriptError>, OutOfMemory> {
     if text.len() >= 100_000_000 {
         return Ok(None);
     }
@@ -295,32 +295,32 @@ fn lines_are_counted(rt: HostRuntime) -> Result<(), Fail> {
     assert_eq!(rt; failed(alloc, b"\n\n#\xff\x00\r\nsync\n", mode)?, None);
     assert_eq!(rt;
         failed(alloc, b"sync\r\n", mode)?,
-        Some(ScriptFail::Syntax(1))
+        Some(ScriptError::Syntax(1))
     );
     assert_eq!(rt;
         failed(alloc, b"\n#\n\nsync \n", mode)?,
-        Some(ScriptFail::Syntax(4))
+        Some(ScriptError::Syntax(4))
     );
     assert_eq!(rt;
         failed(alloc, b"sync\nflush\nflsh\n", mode)?,
-        Some(ScriptFail::NotBuilt(2))
+        Some(ScriptError::NotBuilt(2))
     );
     assert_eq!(rt;
         failed(alloc, b"sync\nflsh\nflush", mode)?,
-        Some(ScriptFail::Syntax(2))
+        Some(ScriptError::Syntax(2))
     );
     assert_eq!(rt;
         failed(alloc, b"get /a/b 0 1", mode)?,
-        Some(ScriptFail::NotBuilt(1))
+        Some(ScriptError::NotBuilt(1))
     );
     assert_eq!(rt;
         failed(alloc, b"get / 0 1", mode)?,
-        Some(ScriptFail::NotBuilt(1))
+        Some(ScriptError::NotBuilt(1))
     );
     assert_eq!(rt; failed(alloc, b"flush", Mode::Filter)?, None);
     assert_eq!(rt;
         failed(alloc, b"sync", Mode::Filter)?,
-        Some(ScriptFail::Syntax(1))
+        Some(ScriptError::Syntax(1))
     );
     Ok(())
 }
@@ -333,7 +333,7 @@ fn an_event_too_many(rt: HostRuntime) -> Result<(), Fail> {
         text.extend_from_slice(b"#\nsync\n")?;
     }
     assert_eq!(rt; failed(alloc, text.as_slice(), Mode::Replay)?, None);
-    let many = ScriptFail::TooManyEvents(200_001);
+    let many = ScriptError::TooManyEvents(200_001);
     text.extend_from_slice(b"sync")?;
     assert_eq!(rt; failed(alloc, text.as_slice(), Mode::Replay)?, Some(many));
     Ok(())

@@ -7,8 +7,8 @@ use Rattle.cf_base.specs.declared.items.Pin.{Pin}
 use Rattle.cf_base.specs.declared.items.Pin.TheVariants as pin
 use Rattle.cf_base.specs.declared.spans.Span.{Span}
 use Rattle.cf_codec.specs.Left.{Left, Takes}
-use Rattle.cf_codec.specs.declared.failures.CodecFail.{CodecFail}
-use Rattle.cf_codec.specs.declared.failures.CodecFail.TheVariants as codec
+use Rattle.cf_codec.specs.declared.failures.CodecError.{CodecError}
+use Rattle.cf_codec.specs.declared.failures.CodecError.TheVariants as codec
 use Rattle.cf_model.specs.Books.{usn_bytes}
 use Rattle.cf_model.specs.Formats.{spell_rows}
 use Rattle.cf_model.specs.Rows.{Extent, pin_byte, spell_extent, spell_extents, spell_row, spell_run, spell_runs}
@@ -16,8 +16,8 @@ use Rattle.cf_model.specs.Rows as model
 use Rattle.cf_model.specs.Words.{in_bytes}
 use Rattle.cf_table.specs.Faults.{Any, AreTable, AtBasics, AtBytes, AtEnd, AtExtent, AtExtents, AtFlags, AtHead, AtIdentity, AtLengths, AtMap, AtName, AtNumber, AtNumbers, AtPin, AtRow, AtRows, AtRun, AtRuns, AtSet, AtSets, AtTable, AtUsn, AtWho, AtWhole, Behind, IsBaseField, IsLen, IsNumber, IsTold, NoFault, Then, of_codec}
 use Rattle.cf_table.specs.Reading.{AreExtents, AreExtentsFrom, AreLengths, AreNumbers, AreRows, AreRunsFrom, IsAbove, IsBasics, IsExtent, IsHead, IsIdentity, IsName, IsRow, IsRun, IsSet, IsStored, IsUsn, IsWho, basics_bytes, flags_number, head_bytes, head_of, identity_bytes, lengths_bytes, name_bytes, numbers_bytes, who_bytes}
-use Rattle.cf_table.specs.declared.failures.RowFail.{RowFail}
-use Rattle.cf_table.specs.declared.failures.RowFail.TheVariants.{BadField, Memory, Short}
+use Rattle.cf_table.specs.declared.failures.RowError.{RowError}
+use Rattle.cf_table.specs.declared.failures.RowError.TheVariants.{BadField, OutOfMemory, Short}
 use Rattle.cf_table.specs.declared.heads.Basics.{Basics}
 use Rattle.cf_table.specs.declared.heads.Flags.{Flags}
 use Rattle.cf_table.specs.declared.heads.Head.{Head}
@@ -30,22 +30,22 @@ use Rattle.cf_table.proofs.OneText.{OneOf, one_2, one_4, one_8, one_basics, one_
 abbrev pub Misses : {X : Type 0} → (X → Type 0) → (X → List ℕ) → List ℕ → Type 0
 Misses {X} Is spell text = (x : X) (more : List ℕ) → Is x → text ≡ spell x ++ more → ⊥
 
-abbrev pub Refuses : {X : Type 0} → (Left → RowFail → Type 0) → (X → Type 0) → (X → List ℕ) → Type 0
-Refuses At Is spell = (left : Left) (e : RowFail) → IsTold e → At left e → Misses Is spell left.rest
+abbrev pub Refuses : {X : Type 0} → (Left → RowError → Type 0) → (X → Type 0) → (X → List ℕ) → Type 0
+Refuses At Is spell = (left : Left) (e : RowError) → IsTold e → At left e → Misses Is spell left.rest
 
 -- of two parts, the first of which has one spelling
-pub two_parts : {X Y : Type 0} (At : Left → RowFail → Type 0) (Is : X → Type 0) (spell : X → List ℕ) (Next : X → Left → RowFail → Type 0) (Then_is : X → Y → Type 0) (then_spell : Y → List ℕ) →
+pub two_parts : {X Y : Type 0} (At : Left → RowError → Type 0) (Is : X → Type 0) (spell : X → List ℕ) (Next : X → Left → RowError → Type 0) (Then_is : X → Y → Type 0) (then_spell : Y → List ℕ) →
     Refuses At Is spell → OneOf Is spell → ((x : X) → Refuses (Next x) (Then_is x) then_spell) →
-    (left : Left) (e : RowFail) → IsTold e → Then At Is spell Next left e → (x : X) (y : Y) (more : List ℕ) → Is x → Then_is x y → left.rest ≡ spell x ++ (then_spell y ++ more) → ⊥
+    (left : Left) (e : RowError) → IsTold e → Then At Is spell Next left e → (x : X) (y : Y) (more : List ℕ) → Is x → Then_is x y → left.rest ≡ spell x ++ (then_spell y ++ more) → ⊥
 two_parts At Is spell Next Then_is then_spell refuses one nexts left e told (inl h) x y more is then_is text = refuses left e told h x (then_spell y ++ more) is text
 two_parts At Is spell Next Then_is then_spell refuses one nexts left e told (inr h) x y more is then_is text =
     let p = one h.part x h.mid.rest (then_spell y ++ more) h.is_part is (sym h.takes.parts ∙ text) in
     nexts h.part h.mid e told h.fault y more (subst (λ z. Then_is z y) (sym p.0) then_is) p.1
 
-pub not_told : (e : RowFail) → IsTold e → NoFault e → ⊥
+pub not_told : (e : RowError) → IsTold e → NoFault e → ⊥
 not_told (Short place) told h = h
 not_told (BadField place) told h = h
-not_told Memory told h = told
+not_told OutOfMemory told h = told
 
 -- numbers
 
@@ -59,14 +59,14 @@ short_of n text x more h l e = absurd (omega (arith, h, l, ap length e, length-a
 pub bytes_miss : (n : ℕ) → Refuses (AtBytes n) (λ (t : List ℕ). length t ≡ n) (λ t. t)
 bytes_miss n left (Short place) told h x more is text = short_of n left.rest x more h.1 is text
 bytes_miss n left (BadField place) told h x more is text = h
-bytes_miss n left Memory told h x more is text = told
+bytes_miss n left OutOfMemory told h x more is text = told
 
 pub number_misses : (n : ℕ) (Allowed : ℕ → Type 0) → OneOf (λ (v : ℕ). v < 256 ^ n) (in_bytes n) → Refuses (AtNumber n Allowed) (IsNumber n Allowed) (in_bytes n)
 number_misses n Allowed one left (Short place) told h x more is text = short_of n left.rest (in_bytes n x) more h.1 (number_length n x) text
 number_misses n Allowed one left (BadField place) told h x more is text =
     let p = one h.1 x h.2.rest more h.3 is.0 (sym h.4.parts ∙ text) in
     h.5 (subst Allowed (sym p.0) is.1)
-number_misses n Allowed one left Memory told h x more is text = told
+number_misses n Allowed one left OutOfMemory told h x more is text = told
 
 pub once : (n : ℕ) (Allowed : ℕ → Type 0) → OneOf (λ (v : ℕ). v < 256 ^ n) (in_bytes n) → OneOf (IsNumber n Allowed) (in_bytes n)
 once n Allowed one v w a b h k e = one v w a b h.0 k.0 e
@@ -203,7 +203,7 @@ map_misses left e told h es more is text =
     (number_misses 4 Any one_4) (once 4 Any one_4) (extents_miss 0) left e told h (length es) es more (is.0, tt) (refl, is.1) text
 
 -- a set, and what its text is followed by
-with_set : {Y : Type 0} (Next : Left → RowFail → Type 0) (Is : Y → Type 0) (spell : Y → List ℕ) → Refuses Next Is spell →
+with_set : {Y : Type 0} (Next : Left → RowError → Type 0) (Is : Y → Type 0) (spell : Y → List ℕ) → Refuses Next Is spell →
     Refuses (Then AtSet IsSet spell_runs (λ s. Next)) (λ (y : List Span × Y). IsSet y.0 × Is y.1) (λ y. spell_runs y.0 ++ spell y.1)
 with_set Next Is spell next left e told h y more is text =
     two_parts AtSet IsSet spell_runs (λ s. Next) (λ s. Is) spell set_misses one_set (λ s. next) left e told h y.0 y.1 more is.0 is.1 (text ∙ append_assoc (spell_runs y.0) (spell y.1) more)
@@ -284,12 +284,12 @@ table_misses left e told h rs more is text =
     two_parts (AtNumber 4 Any) (IsNumber 4 Any) (in_bytes 4) (λ n. AtRows None n) (λ n (xs : List model.Row). (length xs ≡ n) × AreRows None xs) (flat_map spell_row)
     (number_misses 4 Any one_4) (once 4 Any one_4) (rows_miss None) left e told h (length rs) rs more (is.0, tt) (refl, is.1) text
 
-pub not_at_end : (left : Left) (e : RowFail) → IsTold e → AtEnd left e → left.rest ≡ [] → ⊥
+pub not_at_end : (left : Left) (e : RowError) → IsTold e → AtEnd left e → left.rest ≡ [] → ⊥
 not_at_end left (Short place) told h is = h
 not_at_end left (BadField place) told h is = absurd (omega (arith, h.1, ap length is))
-not_at_end left Memory told h is = told
+not_at_end left OutOfMemory told h is = told
 
-whole_misses : (b : List ℕ) (e : RowFail) → IsTold e → AtWhole (record { place = 0; rest = b }) e → (rs : List model.Row) → AreTable rs → b ≡ spell_rows rs → ⊥
+whole_misses : (b : List ℕ) (e : RowError) → IsTold e → AtWhole (record { place = 0; rest = b }) e → (rs : List model.Row) → AreTable rs → b ≡ spell_rows rs → ⊥
 whole_misses b e told (inl h) rs is text = table_misses (record { place = 0; rest = b }) e told h rs [] is (text ∙ sym (append-nil (spell_rows rs)))
 whole_misses b e told (inr h) rs is text =
     let p = one_table h.part rs h.mid.rest [] h.is_part is (sym h.takes.parts ∙ text ∙ sym (append-nil (spell_rows rs))) in
@@ -297,18 +297,18 @@ whole_misses b e told (inr h) rs is text =
 
 -- as the clauses of readers say it
 
-pub no_row : {T : Type 0} (left : Left) (r : Result T RowFail) → IfErr r (AtRow None left) → IfErr r (λ e. IsTold e → (row : model.Row) (more : List ℕ) → IsRow None row → left.rest ≡ spell_row row ++ more → ⊥)
+pub no_row : {T : Type 0} (left : Left) (r : Result T RowError) → IfErr r (AtRow None left) → IfErr r (λ e. IsTold e → (row : model.Row) (more : List ℕ) → IsRow None row → left.rest ≡ spell_row row ++ more → ⊥)
 no_row left (Ok x) h = tt
 no_row left (Err e) h = λ told. row_misses None left e told h
 
-pub no_table : {T : Type 0} (left : Left) (r : Result T RowFail) → IfErr r (AtTable left) → IfErr r (λ e. IsTold e → (rows : List model.Row) (more : List ℕ) → AreTable rows → left.rest ≡ spell_rows rows ++ more → ⊥)
+pub no_table : {T : Type 0} (left : Left) (r : Result T RowError) → IfErr r (AtTable left) → IfErr r (λ e. IsTold e → (rows : List model.Row) (more : List ℕ) → AreTable rows → left.rest ≡ spell_rows rows ++ more → ⊥)
 no_table left (Ok x) h = tt
 no_table left (Err e) h = λ told. table_misses left e told h
 
-pub no_whole : {T : Type 0} (b : List ℕ) (left : Left) (r : Result T RowFail) → left ≡ record { place = 0; rest = b } → IfErr r (AtWhole left) →
+pub no_whole : {T : Type 0} (b : List ℕ) (left : Left) (r : Result T RowError) → left ≡ record { place = 0; rest = b } → IfErr r (AtWhole left) →
     IfErr r (λ e. IsTold e → (rows : List model.Row) → AreTable rows → b ≡ spell_rows rows → ⊥)
 no_whole b left (Ok x) is h = tt
 no_whole b left (Err e) is h = λ told. whole_misses b e told (subst (λ (l : Left). AtWhole l e) is h)
 
-pub at_end : (left : Left) (e : CodecFail) → (e ≡ codec.BadField left.place) × (0 < length left.rest) → AtEnd left (of_codec e)
+pub at_end : (left : Left) (e : CodecError) → (e ≡ codec.BadField left.place) × (0 < length left.rest) → AtEnd left (of_codec e)
 at_end left e h = rw h.0 (refl, h.1)

@@ -11,19 +11,19 @@ use Rattle.cf_table.specs.Faults.{AtRow, AtRows}
 use Rattle.cf_table.specs.Reading.{AreRows, IsAbove, IsRow}
 use Rattle.cf_table.specs.Spelling.{row_value, spell_each}
 use Rattle.cf_table.specs.Tables.{MeansAll, with_row, without_row}
-use Rattle.cf_table.specs.declared.failures.RowFail.{RowFail}
-use Rattle.cf_table.specs.declared.failures.RowFail.TheVariants.{Memory}
+use Rattle.cf_table.specs.declared.failures.RowError.{RowError}
+use Rattle.cf_table.specs.declared.failures.RowError.TheVariants.{OutOfMemory}
 use Rattle.cf_table.specs.declared.rows.Row.{Row}
 use Rattle.cf_table.proofs.TableMeans.{same_id}
 use Rattle.cf_table.proofs.Taken.{takes_both}
 
-pub row_fault : (before : Option ℕ) (n m : ℕ) (left : Left) (e : RowFail) → n ≡ suc m → AtRow before left e → AtRows before n left e
+pub row_fault : (before : Option ℕ) (n m : ℕ) (left : Left) (e : RowError) → n ≡ suc m → AtRow before left e → AtRows before n left e
 row_fault before n m left e is h = rw is (inl h)
 
-pub behind_row : (before : Option ℕ) (n m : ℕ) (left mid : Left) (e : RowFail) (r : model.Row) → n ≡ suc m → IsRow before r → Takes (spell_row r) left mid → AtRows (Some r.id.0) m mid e → AtRows before n left e
+pub behind_row : (before : Option ℕ) (n m : ℕ) (left mid : Left) (e : RowError) (r : model.Row) → n ≡ suc m → IsRow before r → Takes (spell_row r) left mid → AtRows (Some r.id.0) m mid e → AtRows before n left e
 behind_row before n m left mid e r is fits takes h = rw is (inr (record { part = r; is_part = fits; mid = mid; takes = takes; fault = h }))
 
-pub no_memory_for_rows : (before : Option ℕ) (n : ℕ) (left : Left) → AtRows before n left Memory
+pub no_memory_for_rows : (before : Option ℕ) (n : ℕ) (left : Left) → AtRows before n left OutOfMemory
 no_memory_for_rows before zero left = tt
 no_memory_for_rows before (suc n) left = inl (inl (inl (inl tt)))
 

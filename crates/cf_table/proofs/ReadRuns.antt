@@ -10,8 +10,8 @@ use Rattle.cf_ranges.specs.Positions.{IsRunsFrom}
 use Rattle.cf_table.specs.Faults.{AtExtent, AtExtents, AtRun, AtRuns}
 use Rattle.cf_table.specs.Reading.{AreExtentsFrom, AreRunsFrom, IsExtent, IsRun}
 use Rattle.cf_table.specs.Spelling.{extent_of, spell_pairs, spell_spans}
-use Rattle.cf_table.specs.declared.failures.RowFail.{RowFail}
-use Rattle.cf_table.specs.declared.failures.RowFail.TheVariants.{Memory}
+use Rattle.cf_table.specs.declared.failures.RowError.{RowError}
+use Rattle.cf_table.specs.declared.failures.RowError.TheVariants.{OutOfMemory}
 use Rattle.cf_table.proofs.Taken.{takes_both}
 
 pub runs_are : (low : ℕ) (runs : List Span) → AreRunsFrom low runs → IsRunsFrom low runs
@@ -27,22 +27,22 @@ rising_are low (p ∷ ps) h = (h.0.0, rising_are (p.0 + 1) ps h.1)
 pub one_less : (count i : ℕ) → i < count → count - i ≡ suc (count - (i + 1))
 one_less count i h = omega arith
 
-pub run_fault : (low n m : ℕ) (left : Left) (e : RowFail) → n ≡ suc m → AtRun low left e → AtRuns low n left e
+pub run_fault : (low n m : ℕ) (left : Left) (e : RowError) → n ≡ suc m → AtRun low left e → AtRuns low n left e
 run_fault low n m left e is h = rw is (inl h)
 
-pub behind_run : (low n m : ℕ) (left mid : Left) (e : RowFail) (s : Span) → n ≡ suc m → IsRun low s → Takes (spell_run s) left mid → AtRuns (s.start + s.len + 1) m mid e → AtRuns low n left e
+pub behind_run : (low n m : ℕ) (left mid : Left) (e : RowError) (s : Span) → n ≡ suc m → IsRun low s → Takes (spell_run s) left mid → AtRuns (s.start + s.len + 1) m mid e → AtRuns low n left e
 behind_run low n m left mid e s is fits takes h = rw is (inr (record { part = s; is_part = fits; mid = mid; takes = takes; fault = h }))
 
-pub no_memory_for_runs : (low n m : ℕ) (left : Left) → n ≡ suc m → AtRuns low n left Memory
+pub no_memory_for_runs : (low n m : ℕ) (left : Left) → n ≡ suc m → AtRuns low n left OutOfMemory
 no_memory_for_runs low n m left is = rw is (inl (inl tt))
 
-pub extent_fault : (low n m : ℕ) (left : Left) (e : RowFail) → n ≡ suc m → AtExtent low left e → AtExtents low n left e
+pub extent_fault : (low n m : ℕ) (left : Left) (e : RowError) → n ≡ suc m → AtExtent low left e → AtExtents low n left e
 extent_fault low n m left e is h = rw is (inl h)
 
-pub behind_extent : (low n m : ℕ) (left mid : Left) (e : RowFail) (x : Extent) → n ≡ suc m → IsExtent low x → Takes (spell_extent x) left mid → AtExtents (x.block + 1) m mid e → AtExtents low n left e
+pub behind_extent : (low n m : ℕ) (left mid : Left) (e : RowError) (x : Extent) → n ≡ suc m → IsExtent low x → Takes (spell_extent x) left mid → AtExtents (x.block + 1) m mid e → AtExtents low n left e
 behind_extent low n m left mid e x is fits takes h = rw is (inr (record { part = x; is_part = fits; mid = mid; takes = takes; fault = h }))
 
-pub no_memory_for_extents : (low n m : ℕ) (left : Left) → n ≡ suc m → AtExtents low n left Memory
+pub no_memory_for_extents : (low n m : ℕ) (left : Left) → n ≡ suc m → AtExtents low n left OutOfMemory
 no_memory_for_extents low n m left is = rw is (inl (inl tt))
 
 -- one more at the end

@@ -4,8 +4,8 @@
 use Rattle.std.specs.Prelude.{ℕ, zero, suc, Bool, true, false, List, [], length, Option, Some, None, ◌+◌, ◌^◌, ◌≤◌, ◌<◌, ◌≡◌, ◌⊎◌, ◌∷◌}
 use Rattle.cf_base.specs.declared.spans.Span.{Span}
 use Rattle.cf_codec.specs.Left.{Left, Takes}
-use Rattle.cf_codec.specs.declared.failures.CodecFail.{CodecFail}
-use Rattle.cf_codec.specs.declared.failures.CodecFail.TheVariants as codec
+use Rattle.cf_codec.specs.declared.failures.CodecError.{CodecError}
+use Rattle.cf_codec.specs.declared.failures.CodecError.TheVariants as codec
 use Rattle.cf_model.specs.Books.{usn_bytes}
 use Rattle.cf_model.specs.Formats.{spell_rows}
 use Rattle.cf_model.specs.Rows.{Extent, pin_byte, spell_extent, spell_row, spell_run, spell_runs}
@@ -13,41 +13,41 @@ use Rattle.cf_model.specs.Rows as model
 use Rattle.cf_model.specs.Words.{in_bytes}
 use Rattle.cf_table.specs.Reading.{AreRows, IsAbove, IsBasics, IsExtent, IsHead, IsIdentity, IsName, IsRow, IsRun, IsSet, IsStored, IsUsn, IsWho, basics_bytes, flags_number, head_bytes, identity_bytes, name_bytes, who_bytes}
 use Rattle.cf_table.specs.declared.heads.Flags.{Flags}
-use Rattle.cf_table.specs.declared.failures.RowFail.{RowFail}
+use Rattle.cf_table.specs.declared.failures.RowError.{RowError}
 use Rattle.cf_table.specs.declared.heads.Flags.{Flags}
-use Rattle.cf_table.specs.declared.failures.RowFail.TheVariants.{BadField, Memory, Short}
+use Rattle.cf_table.specs.declared.failures.RowError.TheVariants.{BadField, OutOfMemory, Short}
 
 -- the fault of a field as one of a row
-abbrev pub of_codec : CodecFail → RowFail
+abbrev pub of_codec : CodecError → RowError
 of_codec (codec.Short place) = Short place
 of_codec (codec.BadField place) = BadField place
 
 -- a fault that tells of the text
-abbrev pub IsTold : RowFail → Type 0
+abbrev pub IsTold : RowError → Type 0
 IsTold (Short place) = Unit {0}
 IsTold (BadField place) = Unit {0}
-IsTold Memory = ⊥
+IsTold OutOfMemory = ⊥
 
 -- where nothing is read
-abbrev pub NoFault : RowFail → Type 0
+abbrev pub NoFault : RowError → Type 0
 NoFault (Short place) = ⊥
 NoFault (BadField place) = ⊥
-NoFault Memory = Unit {0}
+NoFault OutOfMemory = Unit {0}
 
 -- a text of n bytes lacks some
-abbrev pub AtBytes : ℕ → Left → RowFail → Type 0
+abbrev pub AtBytes : ℕ → Left → RowError → Type 0
 AtBytes n left (Short place) = (place ≡ left.place) × (length left.rest < n)
 AtBytes n left (BadField place) = ⊥
-AtBytes n left Memory = Unit {0}
+AtBytes n left OutOfMemory = Unit {0}
 
 -- a number of n bytes lacks some, or is not one that may stand there
-abbrev pub AtNumber : ℕ → (ℕ → Type 0) → Left → RowFail → Type 0
+abbrev pub AtNumber : ℕ → (ℕ → Type 0) → Left → RowError → Type 0
 AtNumber n Allowed left (Short place) = (place ≡ left.place) × (length left.rest < n)
 AtNumber n Allowed left (BadField place) = (place ≡ left.place) × (v : ℕ) × (mid : Left) × (v < 256 ^ n) × Takes (in_bytes n v) left mid × (Allowed v → ⊥)
-AtNumber n Allowed left Memory = Unit {0}
+AtNumber n Allowed left OutOfMemory = Unit {0}
 
 -- the fault is behind a part, which is spelled
-pub record Behind {X : Type 0} (Is : X → Type 0) (spell : X → List ℕ) (Next : X → Left → RowFail → Type 0) (left : Left) (e : RowFail) : Type 0 where
+pub record Behind {X : Type 0} (Is : X → Type 0) (spell : X → List ℕ) (Next : X → Left → RowError → Type 0) (left : Left) (e : RowError) : Type 0 where
   pub part : X
   pub is_part : Is part
   pub mid : Left
@@ -55,14 +55,14 @@ pub record Behind {X : Type 0} (Is : X → Type 0) (spell : X → List ℕ) (Nex
   pub fault : Next part mid e
 
 -- the fault is in the first part, or behind it
-abbrev pub Then : {X : Type 0} → (Left → RowFail → Type 0) → (X → Type 0) → (X → List ℕ) → (X → Left → RowFail → Type 0) → Left → RowFail → Type 0
+abbrev pub Then : {X : Type 0} → (Left → RowError → Type 0) → (X → Type 0) → (X → List ℕ) → (X → Left → RowError → Type 0) → Left → RowError → Type 0
 Then At Is spell Next left e = At left e ⊎ Behind Is spell Next left e
 
 abbrev pub IsNumber : ℕ → (ℕ → Type 0) → ℕ → Type 0
 IsNumber n Allowed v = (v < 256 ^ n) × Allowed v
 
 -- the same where the first part is a number
-abbrev pub ThenOf : ℕ → (ℕ → Type 0) → (ℕ → Left → RowFail → Type 0) → Left → RowFail → Type 0
+abbrev pub ThenOf : ℕ → (ℕ → Type 0) → (ℕ → Left → RowError → Type 0) → Left → RowError → Type 0
 ThenOf n Allowed Next = Then (AtNumber n Allowed) (IsNumber n Allowed) (in_bytes n) Next
 
 -- heads
@@ -70,13 +70,13 @@ ThenOf n Allowed Next = Then (AtNumber n Allowed) (IsNumber n Allowed) (in_bytes
 abbrev pub Any : ℕ → Type 0
 Any v = Unit {0}
 
-abbrev pub AtWho : Option ℕ → Left → RowFail → Type 0
+abbrev pub AtWho : Option ℕ → Left → RowError → Type 0
 AtWho before = ThenOf 8 (IsAbove before) (λ id. AtNumber 8 Any)
 
-abbrev pub AtFlags : Left → RowFail → Type 0
+abbrev pub AtFlags : Left → RowError → Type 0
 AtFlags = AtNumber 2 (λ v. v < 256)
 
-abbrev pub AtPin : Left → RowFail → Type 0
+abbrev pub AtPin : Left → RowError → Type 0
 AtPin = AtNumber 1 (λ v. v < 4)
 
 -- 0 where there is no base
@@ -84,29 +84,29 @@ abbrev pub IsBaseField : Bool → ℕ → Type 0
 IsBaseField true v = Unit {0}
 IsBaseField false v = v ≡ 0
 
-abbrev pub AtLengths : Bool → Left → RowFail → Type 0
+abbrev pub AtLengths : Bool → Left → RowError → Type 0
 AtLengths has_base = ThenOf 4 Any (λ size. AtNumber 4 (IsBaseField has_base))
 
-abbrev pub AtBasics : Left → RowFail → Type 0
+abbrev pub AtBasics : Left → RowError → Type 0
 AtBasics =
     Then AtFlags (λ (f : Flags). Unit {0}) (λ f. in_bytes 2 (flags_number f))
     (λ f. Then AtPin IsStored (λ p. pin_byte p ∷ []) (λ p. AtLengths f.has_base))
 
-abbrev pub AtUsn : Left → RowFail → Type 0
+abbrev pub AtUsn : Left → RowError → Type 0
 AtUsn = ThenOf 4 Any (λ epoch. AtNumber 4 Any)
 
-abbrev pub AtNumbers : Left → RowFail → Type 0
+abbrev pub AtNumbers : Left → RowError → Type 0
 AtNumbers = Then AtUsn IsUsn usn_bytes (λ number. Then AtUsn IsUsn usn_bytes (λ anchor. AtNumber 8 Any))
 
-abbrev pub AtHead : Option ℕ → Left → RowFail → Type 0
+abbrev pub AtHead : Option ℕ → Left → RowError → Type 0
 AtHead before = Then (AtWho before) (IsWho before) who_bytes (λ w. Then AtBasics IsBasics basics_bytes (λ b. AtNumbers))
 
 -- texts
 
-abbrev pub AtName : Left → RowFail → Type 0
+abbrev pub AtName : Left → RowError → Type 0
 AtName = Then (AtBytes 1) (λ n. n < 2 ^ 8) (λ n. n ∷ []) (λ n. AtBytes n)
 
-abbrev pub AtIdentity : Left → RowFail → Type 0
+abbrev pub AtIdentity : Left → RowError → Type 0
 AtIdentity = ThenOf 2 Any (λ n. AtBytes n)
 
 -- sets
@@ -114,29 +114,29 @@ AtIdentity = ThenOf 2 Any (λ n. AtBytes n)
 abbrev pub IsLen : ℕ → ℕ → Type 0
 IsLen start len = (0 < len) × (start + len < 2 ^ 32)
 
-abbrev pub AtRun : ℕ → Left → RowFail → Type 0
+abbrev pub AtRun : ℕ → Left → RowError → Type 0
 AtRun low = ThenOf 4 (λ v. low ≤ v) (λ start. AtNumber 4 (IsLen start))
 
 -- in one of n runs
-abbrev pub AtRuns : ℕ → ℕ → Left → RowFail → Type 0
+abbrev pub AtRuns : ℕ → ℕ → Left → RowError → Type 0
 AtRuns low zero left e = NoFault e
 AtRuns low (suc n) left e = Then (AtRun low) (IsRun low) spell_run (λ s. AtRuns (s.start + s.len + 1) n) left e
 
-abbrev pub AtSet : Left → RowFail → Type 0
+abbrev pub AtSet : Left → RowError → Type 0
 AtSet = ThenOf 4 Any (λ n. AtRuns 0 n)
 
-abbrev pub AtExtent : ℕ → Left → RowFail → Type 0
+abbrev pub AtExtent : ℕ → Left → RowError → Type 0
 AtExtent low = ThenOf 4 (λ v. low ≤ v) (λ block. AtNumber 4 Any)
 
 -- in one of n extents
-abbrev pub AtExtents : ℕ → ℕ → Left → RowFail → Type 0
+abbrev pub AtExtents : ℕ → ℕ → Left → RowError → Type 0
 AtExtents low zero left e = NoFault e
 AtExtents low (suc n) left e = Then (AtExtent low) (IsExtent low) spell_extent (λ x. AtExtents (x.block + 1) n) left e
 
-abbrev pub AtMap : Left → RowFail → Type 0
+abbrev pub AtMap : Left → RowError → Type 0
 AtMap = ThenOf 4 Any (λ n. AtExtents 0 n)
 
-abbrev pub AtSets : Left → RowFail → Type 0
+abbrev pub AtSets : Left → RowError → Type 0
 AtSets =
     Then AtSet IsSet spell_runs
     (λ here. Then AtSet IsSet spell_runs
@@ -147,7 +147,7 @@ AtSets =
 -- rows
 
 -- a row whose id is to be above this one, if there is one
-abbrev pub AtRow : Option ℕ → Left → RowFail → Type 0
+abbrev pub AtRow : Option ℕ → Left → RowError → Type 0
 AtRow before =
     Then (AtHead before) (IsHead before) head_bytes
     (λ h. Then AtName IsName name_bytes
@@ -155,22 +155,22 @@ AtRow before =
     (λ identity. AtSets)))
 
 -- in one of n rows
-abbrev pub AtRows : Option ℕ → ℕ → Left → RowFail → Type 0
+abbrev pub AtRows : Option ℕ → ℕ → Left → RowError → Type 0
 AtRows before zero left e = NoFault e
 AtRows before (suc n) left e = Then (AtRow before) (IsRow before) spell_row (λ r. AtRows (Some r.id.0) n) left e
 
-abbrev pub AtTable : Left → RowFail → Type 0
+abbrev pub AtTable : Left → RowError → Type 0
 AtTable = ThenOf 4 Any (λ n. AtRows None n)
 
 -- bytes where there should be none
-abbrev pub AtEnd : Left → RowFail → Type 0
+abbrev pub AtEnd : Left → RowError → Type 0
 AtEnd left (Short place) = ⊥
 AtEnd left (BadField place) = (place ≡ left.place) × (0 < length left.rest)
-AtEnd left Memory = Unit {0}
+AtEnd left OutOfMemory = Unit {0}
 
 abbrev pub AreTable : List model.Row → Type 0
 AreTable rs = (length rs < 2 ^ 32) × AreRows None rs
 
 -- in a text of rows and no more
-abbrev pub AtWhole : Left → RowFail → Type 0
+abbrev pub AtWhole : Left → RowError → Type 0
 AtWhole = Then AtTable AreTable spell_rows (λ rs. AtEnd)

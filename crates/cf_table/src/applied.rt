@@ -7,7 +7,7 @@ ghost use Rattle.cf_table.specs.Applied.{FitsRow, IsSpellable, item_effect, move
 ghost use Rattle.cf_table.specs.Means.{is_rebase_point, IsLater, KeepsPlace, KeepsRest, Means, StaysBefore};
 
 use crate::rows::Row;
-use cf_base::{Blob, Change, Identity, ItemId, Memory, Name, Pin, Span, Usn};
+use cf_base::{Blob, Change, Identity, ItemId, OutOfMemory, Name, Pin, Span, Usn};
 use std::alloc::Global;
 
 impl Row {
@@ -19,7 +19,7 @@ impl Row {
         change: &Change,
         pin: Pin,
         number: Usn,
-    ) -> Result<(), Memory>
+    ) -> Result<(), OutOfMemory>
         requires fits { FitsRow change.now self.old }
         requires later { IsLater number self.old }
         ensures ok { OnOk result ((i : Item) → Means self.old i → Means self.new (item_effect change.now pin number i)) }
@@ -103,7 +103,7 @@ impl Row {
         }
     }
 
-    fn convert_to(&mut self, identity: &Identity, number: Usn) -> Result<(), Memory>
+    fn convert_to(&mut self, identity: &Identity, number: Usn) -> Result<(), OutOfMemory>
         requires { IsLater number self.old }
         ensures ok { OnOk result ((i : Item) → Means self.old i → Means self.new (converted identity.now number i)) }
         ensures err { OnErr result (self.new ≡ self.old) }
@@ -123,7 +123,7 @@ impl Row {
         identity: &Identity,
         len: u32,
         at: Usn,
-    ) -> Result<(), Memory>
+    ) -> Result<(), OutOfMemory>
         requires { is_rebase_point at self.old ≡ true }
         ensures ok { OnOk result ((i : Item) → Means self.old i → Means self.new (rebased identity.now len at i)) }
         ensures err { OnErr result (self.new ≡ self.old) }
@@ -142,7 +142,7 @@ impl Row {
         identity: &Identity,
         size: u32,
         number: Usn,
-    ) -> Result<(), Memory>
+    ) -> Result<(), OutOfMemory>
         requires { IsLater number self.old }
         ensures ok { OnOk result ((i : Item) → Means self.old i → Means self.new (took identity.now size number i)) }
         ensures err { OnErr result (self.new ≡ self.old) }
@@ -163,7 +163,7 @@ impl Row {
         name: &Name,
         pin: Pin,
         number: Usn,
-    ) -> Result<(), Memory>
+    ) -> Result<(), OutOfMemory>
         requires { IsLater number self.old }
         ensures ok { OnOk result ((i : Item) → Means self.old i → Means self.new (moved parent name.now pin number i)) }
         ensures err { OnErr result (self.new ≡ self.old) }

@@ -6,14 +6,14 @@ ghost use Rattle.cf_model.specs.Items.{Item};
 ghost use Rattle.cf_table.specs.Means.{IsLater, KeepsRest, KeepsTexts, Means, StaysBefore};
 
 use crate::rows::Row;
-use cf_base::{Memory, Span, Usn};
+use cf_base::{OutOfMemory, Span, Usn};
 use cf_ranges::RangeSet;
 use std::alloc::Global;
 
 impl Row {
     /// A local write of `len` bytes at a place, ending by 16,777,216, with zeros from the old end to its start. Without
     /// memory the row is as before.
-    pub fn write(&mut self, at: u64, len: u64, number: Usn) -> Result<(), Memory>
+    pub fn write(&mut self, at: u64, len: u64, number: Usn) -> Result<(), OutOfMemory>
         requires fits { at + len ≤ 16777216 }
         requires later { IsLater number self.old }
         ensures ok { OnOk result ((i : Item) (bytes : List ℕ) → length bytes ≡ len → Means self.old i → Means self.new (wrote at bytes number i)) }
@@ -43,7 +43,7 @@ impl Row {
     }
 
     /// A local cut, or growth by zeros, to a size of at most 16,777,216. Without memory the row is as before.
-    pub fn set_size(&mut self, size: u32, number: Usn) -> Result<(), Memory>
+    pub fn set_size(&mut self, size: u32, number: Usn) -> Result<(), OutOfMemory>
         requires fits { size ≤ 16777216 }
         requires later { IsLater number self.old }
         ensures ok { OnOk result ((i : Item) → Means self.old i → Means self.new (sized size number i)) }
@@ -59,7 +59,7 @@ impl Row {
         }
     }
 
-    fn cut_to(&mut self, size: u32, number: Usn) -> Result<(), Memory>
+    fn cut_to(&mut self, size: u32, number: Usn) -> Result<(), OutOfMemory>
         requires less { size < self.old.size }
         requires later { IsLater number self.old }
         ensures ok { OnOk result ((i : Item) → Means self.old i → Means self.new (sized size number i)) }
@@ -88,7 +88,7 @@ impl Row {
         Ok(())
     }
 
-    fn grow_to(&mut self, size: u32, number: Usn) -> Result<(), Memory>
+    fn grow_to(&mut self, size: u32, number: Usn) -> Result<(), OutOfMemory>
         requires more { self.old.size ≤ size }
         requires later { IsLater number self.old }
         ensures ok { OnOk result ((i : Item) → Means self.old i → Means self.new (sized size number i)) }
@@ -117,7 +117,7 @@ impl Row {
 
     /// Bytes from the provider, for the positions of a span below the size that are not here. Without memory the row is
     /// as before.
-    pub fn fill(&mut self, span: Span) -> Result<(), Memory>
+    pub fn fill(&mut self, span: Span) -> Result<(), OutOfMemory>
         requires { span.start + span.len ≤ 2 ^ 40 }
         ensures ok { OnOk result ((i : Item) (bytes : List ℕ) → length bytes ≡ span.len → Means self.old i → Means self.new (got span.start bytes i)) }
         ensures err { OnErr result (self.new ≡ self.old) }
@@ -137,7 +137,7 @@ impl Row {
     }
 
     /// The provider vouches for the bytes of a span that are here. Without memory the row is as before.
-    pub fn validate(&mut self, alloc: Global, span: Span) -> Result<(), Memory>
+    pub fn validate(&mut self, alloc: Global, span: Span) -> Result<(), OutOfMemory>
         requires { span.start + span.len ≤ 2 ^ 40 }
         ensures ok { OnOk result ((i : Item) → Means self.old i → Means self.new (validated_in span.start span.len i)) }
         ensures err { OnErr result (self.new ≡ self.old) }
@@ -154,7 +154,7 @@ impl Row {
     }
 
     /// The bytes of a span that are not modified leave. Without memory the row is as before.
-    pub fn empty(&mut self, span: Span) -> Result<(), Memory>
+    pub fn empty(&mut self, span: Span) -> Result<(), OutOfMemory>
         requires { span.start + span.len ≤ 2 ^ 40 }
         ensures ok { OnOk result ((i : Item) → Means self.old i → Means self.new (left_out span.start span.len i)) }
         ensures err { OnErr result (self.new ≡ self.old) }

@@ -6,12 +6,12 @@ ghost use Rattle.cf_model.specs.Words.{put_in};
 ghost use Rattle.cf_table.specs.Index.{compared, entry_at, entry_id, entry_ids, entry_of, InOrder, is_entry_in, is_entry_of, IsPlaceOf, stands_before, without_entry};
 
 use crate::rows::Row;
-use cf_base::{Blob, ItemId, Memory};
+use cf_base::{Blob, ItemId, OutOfMemory};
 use std::alloc::Global;
 use std::cmp::Ordering;
 
 /// Where an item stands.
-#[derive(Debug, Drop)]
+#[derive(Drop)]
 pub(crate) struct Entry {
     pub(crate) parent: ItemId,
     pub(crate) name: Blob,
@@ -19,7 +19,7 @@ pub(crate) struct Entry {
 }
 
 impl Entry {
-    pub(crate) fn of(alloc: Global, row: &Row) -> Result<Entry, Memory>
+    pub(crate) fn of(alloc: Global, row: &Row) -> Result<Entry, OutOfMemory>
         ensures { IfOk result (λ e. e ≡ entry_of row.now) }
     {
         Ok(Entry {
@@ -123,7 +123,7 @@ pub(crate) fn children_at(
     alloc: Global,
     entries: &[Entry],
     parent: ItemId,
-) -> Result<Vec<ItemId>, Memory>
+) -> Result<Vec<ItemId>, OutOfMemory>
     requires { InOrder stands_before entries.now }
     ensures { IfOk result (λ v. v.items ≡ entry_ids (filter (is_entry_in parent) entries.now)) }
 {

@@ -2,14 +2,14 @@
 
 ghost use Rattle.std.specs.Prelude.{◌≡◌};
 ghost use Rattle.cf_table.specs.Faults.{of_codec};
-ghost use Rattle.cf_table.specs.declared.failures.RowFail.TheVariants.{Memory};
+ghost use Rattle.cf_table.specs.declared.failures.RowError.TheVariants.{OutOfMemory};
 
-use cf_codec::CodecFail;
+use cf_codec::CodecError;
 use std::alloc::{AllocError, AllocFailed};
 
 /// Why a row cannot be read. The number is a place in the bytes that the reader was made of, from 0.
 #[derive(Clone, Copy, Debug, PartialEq, Eq, thiserror::Error)]
-pub enum RowFail {
+pub enum RowError {
     /// The field that begins at this place lacks bytes.
     #[error("the field at byte {0} lacks bytes")]
     Short(usize),
@@ -18,40 +18,40 @@ pub enum RowFail {
     BadField(usize),
     /// There was no memory.
     #[error("out of memory")]
-    Memory,
+    OutOfMemory,
 }
 
-impl From<CodecFail> for RowFail {
+impl From<CodecError> for RowError {
     ghost from_gives = { λ c e. e ≡ of_codec c };
 
-    fn from(fail: CodecFail) -> RowFail {
+    fn from(fail: CodecError) -> RowError {
         match fail {
-            CodecFail::Short(place) => RowFail::Short(place),
-            CodecFail::BadField(place) => RowFail::BadField(place),
+            CodecError::Short(place) => RowError::Short(place),
+            CodecError::BadField(place) => RowError::BadField(place),
         }
     }
 }
 
-impl From<AllocError> for RowFail {
-    ghost from_gives = { λ _ e. e ≡ Memory };
+impl From<AllocError> for RowError {
+    ghost from_gives = { λ _ e. e ≡ OutOfMemory };
 
-    fn from(_: AllocError) -> RowFail {
-        RowFail::Memory
+    fn from(_: AllocError) -> RowError {
+        RowError::OutOfMemory
     }
 }
 
-impl<T: Drop> From<AllocFailed<T>> for RowFail {
-    ghost from_gives = { λ _ e. e ≡ Memory };
+impl<T: Drop> From<AllocFailed<T>> for RowError {
+    ghost from_gives = { λ _ e. e ≡ OutOfMemory };
 
-    fn from(_: AllocFailed<T>) -> RowFail {
-        RowFail::Memory
+    fn from(_: AllocFailed<T>) -> RowError {
+        RowError::OutOfMemory
     }
 }
 
-impl From<cf_base::Memory> for RowFail {
-    ghost from_gives = { λ _ e. e ≡ Memory };
+impl From<cf_base::OutOfMemory> for RowError {
+    ghost from_gives = { λ _ e. e ≡ OutOfMemory };
 
-    fn from(_: cf_base::Memory) -> RowFail {
-        RowFail::Memory
+    fn from(_: cf_base::OutOfMemory) -> RowError {
+        RowError::OutOfMemory
     }
 }

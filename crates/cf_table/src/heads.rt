@@ -7,7 +7,7 @@ ghost use Rattle.cf_model.specs.Words.{in_bytes};
 ghost use Rattle.cf_table.specs.Faults.{AtBasics, AtFlags, AtHead, AtLengths, AtNumber, AtNumbers, AtPin, AtWho, IsBaseField};
 ghost use Rattle.cf_table.specs.Reading.{AreLengths, AreNumbers, IsAbove, IsBasics, IsHead, IsStored, IsWho, basics_bytes, flags_number, head_bytes, lengths_bytes, numbers_bytes, who_bytes};
 
-use crate::failures::RowFail;
+use crate::failures::RowError;
 use crate::plain_fields::{place_of, read_1, read_2, read_4, read_8, read_usn};
 use cf_base::{ItemId, Pin, Usn};
 use cf_codec::Reader;
@@ -67,7 +67,7 @@ fn is_above(id: u64, before: Option<u64>) -> bool
     }
 }
 
-fn read_id(r: &mut Reader, before: Option<u64>) -> Result<u64, RowFail>
+fn read_id(r: &mut Reader, before: Option<u64>) -> Result<u64, RowError>
     ensures took { IfOk result (λ v. Takes (in_bytes 8 v) r.old r.new) }
     ensures fits { IfOk result (λ v. v < 2 ^ 64) }
     ensures above { IfOk result (IsAbove before) }
@@ -78,11 +78,11 @@ fn read_id(r: &mut Reader, before: Option<u64>) -> Result<u64, RowFail>
     if is_above(id, before) {
         Ok(id)
     } else {
-        Err(RowFail::BadField(place))
+        Err(RowError::BadField(place))
     }
 }
 
-fn read_who(r: &mut Reader, before: Option<u64>) -> Result<Who, RowFail>
+fn read_who(r: &mut Reader, before: Option<u64>) -> Result<Who, RowError>
     ensures took { IfOk result (λ w. Takes (who_bytes w) r.old r.new) }
     ensures fits { IfOk result (IsWho before) }
     ensures fault { IfErr result (AtWho before r.old) }
@@ -118,7 +118,7 @@ fn flags_of(flags: u16) -> Flags
     }
 }
 
-fn read_flags(r: &mut Reader) -> Result<Flags, RowFail>
+fn read_flags(r: &mut Reader) -> Result<Flags, RowError>
     ensures took { IfOk result (λ f. Takes (in_bytes 2 (flags_number f)) r.old r.new) }
     ensures fault { IfErr result (AtFlags r.old) }
 {
@@ -127,7 +127,7 @@ fn read_flags(r: &mut Reader) -> Result<Flags, RowFail>
     if flags < 256 {
         Ok(flags_of(flags))
     } else {
-        Err(RowFail::BadField(place))
+        Err(RowError::BadField(place))
     }
 }
 
@@ -143,7 +143,7 @@ fn pin_of(byte: u8) -> Option<Pin>
     }
 }
 
-fn read_pin(r: &mut Reader) -> Result<Pin, RowFail>
+fn read_pin(r: &mut Reader) -> Result<Pin, RowError>
     ensures took { IfOk result (λ p. Takes (pin_byte p ∷ []) r.old r.new) }
     ensures fits { IfOk result IsStored }
     ensures fault { IfErr result (AtPin r.old) }
@@ -152,11 +152,11 @@ fn read_pin(r: &mut Reader) -> Result<Pin, RowFail>
     let byte = read_1(r)?;
     match pin_of(byte) {
         Some(pin) => Ok(pin),
-        None => Err(RowFail::BadField(place)),
+        None => Err(RowError::BadField(place)),
     }
 }
 
-fn read_base(r: &mut Reader, has_base: bool) -> Result<Option<u32>, RowFail>
+fn read_base(r: &mut Reader, has_base: bool) -> Result<Option<u32>, RowError>
     ensures took { IfOk result (λ b. Takes (in_bytes 4 (unwrap_or b 0)) r.old r.new) }
     ensures has { IfOk result (λ b. has_base ≡ is_some b) }
     ensures fits { IfOk result (λ b. unwrap_or b 0 < 2 ^ 32) }
@@ -170,11 +170,11 @@ fn read_base(r: &mut Reader, has_base: bool) -> Result<Option<u32>, RowFail>
     if base == 0 {
         Ok(None)
     } else {
-        Err(RowFail::BadField(place))
+        Err(RowError::BadField(place))
     }
 }
 
-fn read_lengths(r: &mut Reader, has_base: bool) -> Result<Lengths, RowFail>
+fn read_lengths(r: &mut Reader, has_base: bool) -> Result<Lengths, RowError>
     ensures took { IfOk result (λ l. Takes (lengths_bytes l) r.old r.new) }
     ensures fits { IfOk result (AreLengths has_base) }
     ensures fault { IfErr result (AtLengths has_base r.old) }
@@ -184,7 +184,7 @@ fn read_lengths(r: &mut Reader, has_base: bool) -> Result<Lengths, RowFail>
     Ok(Lengths { size, base })
 }
 
-fn read_basics(r: &mut Reader) -> Result<Basics, RowFail>
+fn read_basics(r: &mut Reader) -> Result<Basics, RowError>
     ensures took { IfOk result (λ b. Takes (basics_bytes b) r.old r.new) }
     ensures fits { IfOk result IsBasics }
     ensures fault { IfErr result (AtBasics r.old) }
@@ -199,7 +199,7 @@ fn read_basics(r: &mut Reader) -> Result<Basics, RowFail>
     })
 }
 
-fn read_numbers(r: &mut Reader) -> Result<Numbers, RowFail>
+fn read_numbers(r: &mut Reader) -> Result<Numbers, RowError>
     ensures took { IfOk result (λ n. Takes (numbers_bytes n) r.old r.new) }
     ensures fits { IfOk result AreNumbers }
     ensures fault { IfErr result (AtNumbers r.old) }
@@ -215,7 +215,7 @@ fn read_numbers(r: &mut Reader) -> Result<Numbers, RowFail>
 }
 
 /// The head of a row whose id is above this one, if there is one.
-pub(crate) fn read_head(r: &mut Reader, before: Option<u64>) -> Result<Head, RowFail>
+pub(crate) fn read_head(r: &mut Reader, before: Option<u64>) -> Result<Head, RowError>
     ensures took { IfOk result (λ h. Takes (head_bytes h) r.old r.new) }
     ensures fits { IfOk result (IsHead before) }
     ensures fault { IfErr result (AtHead before r.old) }

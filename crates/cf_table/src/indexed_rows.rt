@@ -11,7 +11,7 @@ ghost use Rattle.cf_table.specs.declared.rows.Row.{Row};
 use crate::entries::{Entry, add_entry, has_entry, remove_entry_of};
 use crate::row_lists::{change_at, find_row, insert_at, move_at, push_row, remove_at, replace_at};
 use crate::rows::Row;
-use cf_base::{Blob, Change, ItemId, Memory, Name, Pin, Usn};
+use cf_base::{Blob, Change, ItemId, OutOfMemory, Name, Pin, Usn};
 use std::alloc::Global;
 
 /// Adds a row at the end. Without memory nothing changes.
@@ -21,7 +21,7 @@ pub(crate) fn push_indexed(
     index: &mut Vec<Entry>,
     row: Row,
     len: u128,
-) -> Result<u128, Memory>
+) -> Result<u128, OutOfMemory>
     requires indexed { IsIndexed rows.old.items index.old.items len }
     requires above { All (λ r. r.id.0 < row.id.0) rows.old.items }
     requires spellable { IsSpellable row }
@@ -43,7 +43,7 @@ pub(crate) fn put_indexed(
     index: &mut Vec<Entry>,
     row: Row,
     len: u128,
-) -> Result<u128, Memory>
+) -> Result<u128, OutOfMemory>
     requires indexed { IsIndexed rows.old.items index.old.items len }
     requires spellable { IsSpellable row }
     ensures indexed { IfOk result (IsIndexed rows.new.items index.new.items) }
@@ -90,7 +90,7 @@ fn insert_indexed(
     row: Row,
     entry: Entry,
     len: u128,
-) -> Result<u128, Memory>
+) -> Result<u128, OutOfMemory>
     requires place { IsRowGap rows.old.items row.id.0 place }
     requires indexed { IsIndexed rows.old.items index.old.items len }
     requires spellable { IsSpellable row }
@@ -131,7 +131,7 @@ pub(crate) fn change_indexed(
     change: &Change,
     pin: Pin,
     number: Usn,
-) -> Result<u128, Memory>
+) -> Result<u128, OutOfMemory>
     requires place { place < length rows.old.items }
     requires indexed { IsIndexed rows.old.items index.old.items len }
     requires fits { (d : Row) → FitsRow change.now (get_or rows.old.items place d) }
@@ -163,7 +163,7 @@ fn move_indexed(
     name: &Name,
     pin: Pin,
     number: Usn,
-) -> Result<u128, Memory>
+) -> Result<u128, OutOfMemory>
     requires place { place < length rows.old.items }
     requires indexed { IsIndexed rows.old.items index.old.items len }
     requires name { length name.now ≤ 255 }

@@ -30,7 +30,7 @@ mod tables;
 mod usns;
 mod volume_changes;
 
-pub use failures::RowFail;
+pub use failures::RowError;
 pub use laws::{
     a_change_fits_rows_by_items, a_number_after_the_last_is_next, extents_are_blocks,
     image_len_is_length, look_ups_find_items, new_rows_are_of_the_root, row_is_of_item,

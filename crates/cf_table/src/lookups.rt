@@ -11,7 +11,7 @@ use crate::row_lists::find_row;
 use crate::rows::Row;
 use crate::tables::Rows;
 use crate::usns::is_above;
-use cf_base::{ItemId, Memory, Usn};
+use cf_base::{ItemId, OutOfMemory, Usn};
 use std::alloc::Global;
 
 // How many rows do not come after the id.
@@ -42,7 +42,7 @@ fn id_after(rows: &[Row], id: Option<ItemId>) -> Option<ItemId>
     }
 }
 
-fn changed_in(alloc: Global, rows: &[Row], number: Usn) -> Result<Vec<ItemId>, Memory>
+fn changed_in(alloc: Global, rows: &[Row], number: Usn) -> Result<Vec<ItemId>, OutOfMemory>
     ensures { IfOk result (λ v. v.items ≡ ids_of (filter (λ r. above r.number number) rows.now)) }
 {
     let mut ids = Vec::new(alloc);
@@ -76,14 +76,14 @@ impl Rows {
     }
 
     /// The children of a directory by name. The work grows with them alone.
-    pub fn children(&self, id: ItemId) -> Result<Vec<ItemId>, Memory>
+    pub fn children(&self, id: ItemId) -> Result<Vec<ItemId>, OutOfMemory>
         ensures { IfOk result (λ v. v.items ≡ ids_of (rows_by_name (child_rows self.now.rows id))) }
     {
         children_at(self.alloc, &self.index, id)
     }
 
     /// The items whose number is above this one, in order of id.
-    pub fn changes_since(&self, number: Usn) -> Result<Vec<ItemId>, Memory>
+    pub fn changes_since(&self, number: Usn) -> Result<Vec<ItemId>, OutOfMemory>
         ensures { IfOk result (λ v. v.items ≡ ids_of (filter (λ r. above r.number number) self.now.rows)) }
     {
         changed_in(self.alloc, &self.rows, number)

@@ -9,7 +9,7 @@ ghost use Rattle.cf_model.specs.Numbers.{is_no_usn};
 ghost use Rattle.cf_table.specs.Means.{is_rebase_point, IsLater, KeepsPlace, KeepsRest, KeepsTexts, Means, StaysBefore};
 
 use crate::rows::{NO_USN, Row};
-use cf_base::{Blob, Identity, ItemId, Memory, Pin, Span, Usn};
+use cf_base::{Blob, Identity, ItemId, OutOfMemory, Pin, Span, Usn};
 use cf_ranges::RangeSet;
 use std::alloc::Global;
 
@@ -73,7 +73,7 @@ impl Row {
 
     /// No placeholder any more: no identity, no base, and every byte of a file is modified. Without memory the row is as
     /// before.
-    pub fn revert(&mut self, alloc: Global, number: Usn) -> Result<(), Memory>
+    pub fn revert(&mut self, alloc: Global, number: Usn) -> Result<(), OutOfMemory>
         requires { IsLater number self.old }
         ensures ok { OnOk result ((i : Item) → Means self.old i → Means self.new (reverted number i)) }
         ensures err { OnErr result (self.new ≡ self.old) }
@@ -99,7 +99,7 @@ impl Row {
     }
 
     // All positions of a file, none of a directory.
-    fn all_of_file(&self, alloc: Global) -> Result<RangeSet, Memory>
+    fn all_of_file(&self, alloc: Global) -> Result<RangeSet, OutOfMemory>
         ensures { IfOk result (λ r. (p : ℕ) → contains r p ≡ (not self.now.dir && nat_lt p self.now.size)) }
     {
         let len = if self.dir { 0 } else { self.size as u64 };
@@ -115,7 +115,7 @@ impl Row {
         identity: Identity,
         len: u32,
         at: Usn,
-    ) -> Result<(), Memory>
+    ) -> Result<(), OutOfMemory>
         requires { is_rebase_point at self.old ≡ true }
         ensures ok { OnOk result ((i : Item) → Means self.old i → Means self.new (rebased identity len at i)) }
         ensures err { OnErr result (self.new ≡ self.old) }
@@ -154,7 +154,7 @@ impl Row {
         self.take_in_all(alloc);
     }
 
-    fn rebase_at_anchor(&mut self, identity: Identity, len: u32) -> Result<(), Memory>
+    fn rebase_at_anchor(&mut self, identity: Identity, len: u32) -> Result<(), OutOfMemory>
         requires { is_no_usn self.old.anchor ≡ false }
         ensures ok { OnOk result ((i : Item) → Means self.old i → Means self.new (rebased identity len self.old.anchor i)) }
         ensures err { OnErr result (self.new ≡ self.old) }

@@ -7,12 +7,12 @@ ghost use Rattle.cf_model.specs.Numbers.{above, no_usn};
 ghost use Rattle.cf_table.specs.Means.{IsFresh, Means, starts_dirty};
 
 use crate::rows::{NO_USN, Row};
-use cf_base::{Blob, Identity, ItemId, Kind, Memory, Pin, Usn};
+use cf_base::{Blob, Identity, ItemId, Kind, OutOfMemory, Pin, Usn};
 use cf_ranges::{ExtentMap, RangeSet};
 use std::alloc::Global;
 
 /// Where a new item stands, and what it takes from there.
-#[derive(Debug, Drop)]
+#[derive(Drop)]
 pub struct Place {
     pub id: ItemId,
     pub parent: ItemId,
@@ -73,7 +73,7 @@ fn base_of(kind: Kind, size: u32) -> Option<u32>
     }
 }
 
-fn without_target(alloc: Global, identity: &[u8]) -> Result<Identity, Memory>
+fn without_target(alloc: Global, identity: &[u8]) -> Result<Identity, OutOfMemory>
     requires { 8 ≤ length identity.now }
     ensures { IfOk result (λ i. i ≡ untargeted identity.now) }
 {
@@ -84,7 +84,7 @@ fn without_target(alloc: Global, identity: &[u8]) -> Result<Identity, Memory>
 
 impl Row {
     /// The root of a new volume.
-    pub fn root(alloc: Global) -> Result<Row, Memory>
+    pub fn root(alloc: Global) -> Result<Row, OutOfMemory>
         ensures means { IfOk result (λ r. Means r root) }
         ensures fresh { IfOk result IsFresh }
     {
@@ -162,7 +162,7 @@ impl Row {
     }
 
     /// The row of a new placeholder file with the bytes, the base and the writes of this one. Its identity has no target.
-    pub fn copied(&self, alloc: Global, place: Place) -> Result<Row, Memory>
+    pub fn copied(&self, alloc: Global, place: Place) -> Result<Row, OutOfMemory>
         requires later { above place.number self.now.number ≡ true }
         requires identity { 8 ≤ length self.now.identity }
         ensures means { IfOk result (λ r. (i : Item) → Means self.now i → Means r (copied place.id place.parent place.name place.pin place.number i)) }

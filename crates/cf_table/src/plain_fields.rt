@@ -8,9 +8,9 @@ ghost use Rattle.cf_model.specs.Words.{in_bytes};
 ghost use Rattle.cf_table.specs.Faults.{Any, AtBytes, AtNumber, AtUsn};
 ghost use Rattle.cf_table.specs.Reading.{IsUsn};
 
-use crate::failures::RowFail;
-use cf_base::{Memory, Usn};
-use cf_codec::{CodecFail, Reader, Writer};
+use crate::failures::RowError;
+use cf_base::{OutOfMemory, Usn};
+use cf_codec::{CodecError, Reader, Writer};
 
 /// The place of the next byte, where there is one.
 pub fn place_of(r: &Reader) -> usize
@@ -18,13 +18,13 @@ pub fn place_of(r: &Reader) -> usize
 {
     match r.end() {
         Ok(()) => 0,
-        Err(CodecFail::BadField(place)) => place,
-        Err(CodecFail::Short(place)) => place,
+        Err(CodecError::BadField(place)) => place,
+        Err(CodecError::Short(place)) => place,
     }
 }
 
 /// So many bytes.
-pub fn read_bytes<'a>(r: &mut Reader<'a>, n: usize) -> Result<&'a [u8], RowFail>
+pub fn read_bytes<'a>(r: &mut Reader<'a>, n: usize) -> Result<&'a [u8], RowError>
     ensures took { IfOk result (λ b. Takes b.now r.old r.new) }
     ensures size { IfOk result (λ b. length b.now ≡ n) }
     ensures fault { IfErr result (AtBytes n r.old) }
@@ -33,7 +33,7 @@ pub fn read_bytes<'a>(r: &mut Reader<'a>, n: usize) -> Result<&'a [u8], RowFail>
 }
 
 /// A number of one byte.
-pub fn read_1(r: &mut Reader) -> Result<u8, RowFail>
+pub fn read_1(r: &mut Reader) -> Result<u8, RowError>
     ensures took { IfOk result (λ v. Takes (v ∷ []) r.old r.new) }
     ensures fits { IfOk result (λ v. v < 2 ^ 8) }
     ensures fault { IfErr result (AtBytes 1 r.old) }
@@ -43,7 +43,7 @@ pub fn read_1(r: &mut Reader) -> Result<u8, RowFail>
 
 /// A number of two bytes.
 #[tactic(auto, using(crate::proofs::Fields::two_bytes))]
-pub fn read_2(r: &mut Reader) -> Result<u16, RowFail>
+pub fn read_2(r: &mut Reader) -> Result<u16, RowError>
     ensures took { IfOk result (λ v. Takes (in_bytes 2 v) r.old r.new) }
     ensures fits { IfOk result (λ v. v < 2 ^ 16) }
     ensures fault { IfErr result (AtNumber 2 Any r.old) }
@@ -53,7 +53,7 @@ pub fn read_2(r: &mut Reader) -> Result<u16, RowFail>
 
 /// A number of four bytes.
 #[tactic(auto, using(crate::proofs::Fields::four_bytes))]
-pub fn read_4(r: &mut Reader) -> Result<u32, RowFail>
+pub fn read_4(r: &mut Reader) -> Result<u32, RowError>
     ensures took { IfOk result (λ v. Takes (in_bytes 4 v) r.old r.new) }
     ensures fits { IfOk result (λ v. v < 2 ^ 32) }
     ensures fault { IfErr result (AtNumber 4 Any r.old) }
@@ -63,7 +63,7 @@ pub fn read_4(r: &mut Reader) -> Result<u32, RowFail>
 
 /// A number of eight bytes.
 #[tactic(auto, using(crate::proofs::Fields::eight_bytes))]
-pub fn read_8(r: &mut Reader) -> Result<u64, RowFail>
+pub fn read_8(r: &mut Reader) -> Result<u64, RowError>
     ensures took { IfOk result (λ v. Takes (in_bytes 8 v) r.old r.new) }
     ensures fits { IfOk result (λ v. v < 2 ^ 64) }
     ensures fault { IfErr result (AtNumber 8 Any r.old) }
@@ -72,7 +72,7 @@ pub fn read_8(r: &mut Reader) -> Result<u64, RowFail>
 }
 
 /// A number of a change: epoch and place.
-pub fn read_usn(r: &mut Reader) -> Result<Usn, RowFail>
+pub fn read_usn(r: &mut Reader) -> Result<Usn, RowError>
     ensures took { IfOk result (λ n. Takes (usn_bytes n) r.old r.new) }
     ensures fits { IfOk result IsUsn }
     ensures fault { IfErr result (AtUsn r.old) }
@@ -84,7 +84,7 @@ pub fn read_usn(r: &mut Reader) -> Result<Usn, RowFail>
 
 /// Puts a number of two bytes.
 #[tactic(auto, using(crate::proofs::Fields::two_bytes))]
-pub fn put_2(out: &mut Writer, v: u16) -> Result<(), Memory>
+pub fn put_2(out: &mut Writer, v: u16) -> Result<(), OutOfMemory>
     ensures { OnOk result (out.new ≡ out.old ++ in_bytes 2 v) }
 {
     out.put_u16(v)
@@ -92,7 +92,7 @@ pub fn put_2(out: &mut Writer, v: u16) -> Result<(), Memory>
 
 /// Puts a number of four bytes.
 #[tactic(auto, using(crate::proofs::Fields::four_bytes))]
-pub fn put_4(out: &mut Writer, v: u32) -> Result<(), Memory>
+pub fn put_4(out: &mut Writer, v: u32) -> Result<(), OutOfMemory>
     ensures { OnOk result (out.new ≡ out.old ++ in_bytes 4 v) }
 {
     out.put_u32(v)
@@ -100,7 +100,7 @@ pub fn put_4(out: &mut Writer, v: u32) -> Result<(), Memory>
 
 /// Puts a number of eight bytes.
 #[tactic(auto, using(crate::proofs::Fields::eight_bytes))]
-pub fn put_8(out: &mut Writer, v: u64) -> Result<(), Memory>
+pub fn put_8(out: &mut Writer, v: u64) -> Result<(), OutOfMemory>
     ensures { OnOk result (out.new ≡ out.old ++ in_bytes 8 v) }
 {
     out.put_u64(v)
@@ -108,7 +108,7 @@ pub fn put_8(out: &mut Writer, v: u64) -> Result<(), Memory>
 
 /// Puts a number of a change: epoch and place.
 #[tactic(auto, using(crate::proofs::Fields::joined))]
-pub fn put_usn(out: &mut Writer, n: Usn) -> Result<(), Memory>
+pub fn put_usn(out: &mut Writer, n: Usn) -> Result<(), OutOfMemory>
     ensures { OnOk result (out.new ≡ out.old ++ usn_bytes n) }
 {
     put_4(out, n.epoch)?;

@@ -10,17 +10,17 @@ ghost use Rattle.cf_table.specs.Reading.{AreRows, IsIdentity, IsName, IsRow, ide
 ghost use Rattle.cf_table.specs.Spelling.{HasRoom, row_value, spell_each};
 ghost use Rattle.cf_table.specs.Tables.{RisesFrom};
 
-use crate::failures::RowFail;
+use crate::failures::RowError;
 use crate::heads::{Head, read_head};
 use crate::plain_fields::{read_1, read_2, read_4, read_bytes};
 use crate::rows::Row;
 use crate::set_reads::{Sets, read_sets};
 use crate::tables::Rows;
-use cf_base::{Blob, Identity, ItemId, Memory};
+use cf_base::{Blob, Identity, ItemId, OutOfMemory};
 use cf_codec::Reader;
 use std::alloc::Global;
 
-fn read_name(alloc: Global, r: &mut Reader) -> Result<Blob, RowFail>
+fn read_name(alloc: Global, r: &mut Reader) -> Result<Blob, RowError>
     ensures took { IfOk result (λ name. Takes (name_bytes name) r.old r.new) }
     ensures fits { IfOk result IsName }
     ensures fault { IfErr result (AtName r.old) }
@@ -30,7 +30,7 @@ fn read_name(alloc: Global, r: &mut Reader) -> Result<Blob, RowFail>
     Ok(Blob::from_slice(alloc, bytes)?)
 }
 
-fn read_identity(alloc: Global, r: &mut Reader) -> Result<Identity, RowFail>
+fn read_identity(alloc: Global, r: &mut Reader) -> Result<Identity, RowError>
     ensures took { IfOk result (λ identity. Takes (identity_bytes identity) r.old r.new) }
     ensures fits { IfOk result IsIdentity }
     ensures fault { IfErr result (AtIdentity r.old) }
@@ -72,7 +72,7 @@ fn row_of(head: Head, name: Blob, identity: Identity, sets: Sets) -> Row
 }
 
 // A row whose id is above this one, if there is one.
-fn read_row(alloc: Global, r: &mut Reader, before: Option<u64>) -> Result<Row, RowFail>
+fn read_row(alloc: Global, r: &mut Reader, before: Option<u64>) -> Result<Row, RowError>
     ensures took { IfOk result (λ row. Takes (spell_row (row_value row)) r.old r.new) }
     ensures fits { IfOk result (λ row. IsRow before (row_value row)) }
     ensures fault { IfErr result (AtRow before r.old) }
@@ -86,7 +86,7 @@ fn read_row(alloc: Global, r: &mut Reader, before: Option<u64>) -> Result<Row, R
 
 // A table is made with its root, which is not one of the rows that are read.
 #[tactic(auto, using(crate::proofs::ReadRows::no_rows_left))]
-fn no_rows(alloc: Global, next: ItemId) -> Result<Rows, Memory>
+fn no_rows(alloc: Global, next: ItemId) -> Result<Rows, OutOfMemory>
     ensures rows { IfOk result (λ t. t.rows ≡ []) }
     ensures next { IfOk result (λ t. t.next ≡ next) }
 {
@@ -97,7 +97,7 @@ fn no_rows(alloc: Global, next: ItemId) -> Result<Rows, Memory>
 }
 
 // So many rows, whose ids rise.
-fn read_rows(alloc: Global, r: &mut Reader, count: u32, next: ItemId) -> Result<Rows, RowFail>
+fn read_rows(alloc: Global, r: &mut Reader, count: u32, next: ItemId) -> Result<Rows, RowError>
     ensures took { IfOk result (λ t. Takes (spell_each t.rows) r.old r.new) }
     ensures count { IfOk result (λ t. length t.rows ≡ count) }
     ensures rows { IfOk result (λ t. AreRows None (map row_value t.rows)) }
@@ -118,7 +118,7 @@ fn read_rows(alloc: Global, r: &mut Reader, count: u32, next: ItemId) -> Result<
 impl Row {
     /// Reads what `spell` writes, and leaves what stands behind it. Short or BadField at the first field that lacks bytes
     /// or is not spelled, and then no row is spelled at the front of what is left.
-    pub fn read(alloc: Global, r: &mut Reader) -> Result<Row, RowFail>
+    pub fn read(alloc: Global, r: &mut Reader) -> Result<Row, RowError>
         ensures took { IfOk result (λ row. Takes (spell_row (row_value row)) r.old r.new) }
         ensures fits { IfOk result (λ row. IsRow None (row_value row)) }
         ensures room { IfOk result HasRoom }
@@ -140,7 +140,7 @@ impl Rows {
 
     /// Reads how many rows there are, and the rows, whose ids rise; leaves what stands behind them. Short or BadField at
     /// the first field that lacks bytes or is not spelled, and then no rows are spelled at the front of what is left.
-    pub fn read_front(alloc: Global, r: &mut Reader, next: ItemId) -> Result<Rows, RowFail>
+    pub fn read_front(alloc: Global, r: &mut Reader, next: ItemId) -> Result<Rows, RowError>
         ensures took { IfOk result (λ t. Takes (spell_rows (map row_value t.rows)) r.old r.new) }
         ensures fits { IfOk result (λ t. AreTable (map row_value t.rows)) }
         ensures room { IfOk result (λ t. All HasRoom t.rows) }
@@ -154,7 +154,7 @@ impl Rows {
 
     /// Reads what `spell` writes. Short or BadField at the first field that lacks bytes or is not spelled, or at the first
     /// byte behind the rows, and then the bytes spell no rows.
-    pub fn read(alloc: Global, b: &[u8], next: ItemId) -> Result<Rows, RowFail>
+    pub fn read(alloc: Global, b: &[u8], next: ItemId) -> Result<Rows, RowError>
         ensures spelled { IfOk result (λ t. b.now ≡ spell_rows (map row_value t.rows)) }
         ensures fits { IfOk result (λ t. AreTable (map row_value t.rows)) }
         ensures room { IfOk result (λ t. All HasRoom t.rows) }

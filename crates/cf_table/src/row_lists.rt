@@ -10,7 +10,7 @@ ghost use Rattle.cf_table.specs.declared.rows.Row.{Row};
 
 use crate::ranges::is_in_range;
 use crate::rows::Row;
-use cf_base::{Blob, Change, ItemId, Memory, Pin, Usn};
+use cf_base::{Blob, Change, ItemId, OutOfMemory, Pin, Usn};
 use cf_ranges::RangeSet;
 use std::alloc::Global;
 
@@ -82,7 +82,7 @@ pub(crate) fn change_at(
     change: &Change,
     pin: Pin,
     number: Usn,
-) -> Result<u128, Memory>
+) -> Result<u128, OutOfMemory>
     requires place { place < length rows.old.items }
     requires table { IsTable rows.old.items len }
     requires fits { (d : Row) → FitsRow change.now (get_or rows.old.items place d) }
@@ -121,7 +121,7 @@ pub(crate) fn move_at(
 }
 
 /// Adds a row at the end.
-pub(crate) fn push_row(rows: &mut Vec<Row>, row: Row, len: u128) -> Result<u128, Memory>
+pub(crate) fn push_row(rows: &mut Vec<Row>, row: Row, len: u128) -> Result<u128, OutOfMemory>
     requires table { IsTable rows.old.items len }
     requires above { All (λ r. r.id.0 < row.id.0) rows.old.items }
     requires spellable { IsSpellable row }
@@ -153,7 +153,7 @@ pub(crate) fn extent_at(
     len: &mut u128,
     block: u32,
     cluster: Option<u32>,
-) -> Result<Option<u32>, Memory>
+) -> Result<Option<u32>, OutOfMemory>
     requires place { place < length rows.old.items }
     requires table { IsTable rows.old.items len.old }
     ensures table { IsTable rows.new.items len.new }
@@ -211,7 +211,7 @@ pub(crate) fn insert_at(
     place: usize,
     row: Row,
     len: u128,
-) -> Result<u128, Memory>
+) -> Result<u128, OutOfMemory>
     requires place { IsRowGap rows.old.items row.id.0 place }
     requires table { IsTable rows.old.items len }
     requires spellable { IsSpellable row }

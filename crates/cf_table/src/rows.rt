@@ -2,11 +2,11 @@
 
 ghost use Rattle.std.specs.Prelude.{◌≡◌, IfOk};
 
-use cf_base::{Blob, Identity, ItemId, Memory, Pin, Usn};
+use cf_base::{Blob, Identity, ItemId, OutOfMemory, Pin, Usn};
 use cf_ranges::{ExtentMap, RangeSet};
 
 /// What is kept of an item beside its bytes. Positions and sizes are in bytes.
-#[derive(Debug, Drop)]
+#[derive(Drop)]
 pub struct Row {
     pub id: ItemId,
     /// 0 for the root.
@@ -50,7 +50,7 @@ pub const NO_USN: Usn = Usn { epoch: 0, place: 0 };
 
 impl Row {
     /// An equal row on its own.
-    pub fn copy(&self) -> Result<Row, Memory>
+    pub fn copy(&self) -> Result<Row, OutOfMemory>
         ensures { IfOk result (λ r. r ≡ self.now) }
     {
         Ok(Row {

@@ -12,9 +12,9 @@ ghost use Rattle.cf_table.specs.Faults.{AtExtent, AtExtents, AtMap, AtNumber, At
 ghost use Rattle.cf_table.specs.Reading.{AreExtents, AreExtentsFrom, AreRunsFrom, AreSets, IsExtent, IsRun, IsSet, sets_bytes};
 ghost use Rattle.cf_table.specs.Spelling.{extent_of, spell_pairs, spell_spans};
 
-use crate::failures::RowFail;
+use crate::failures::RowError;
 use crate::plain_fields::{place_of, read_4};
-use cf_base::{Memory, Span};
+use cf_base::{OutOfMemory, Span};
 use cf_codec::Reader;
 use cf_ranges::{ExtentMap, RangeSet};
 use std::alloc::Global;
@@ -28,7 +28,7 @@ pub(crate) struct Sets {
     pub(crate) extents: ExtentMap,
 }
 
-fn read_from(r: &mut Reader, low: u64) -> Result<u32, RowFail>
+fn read_from(r: &mut Reader, low: u64) -> Result<u32, RowError>
     ensures took { IfOk result (λ v. Takes (in_bytes 4 v) r.old r.new) }
     ensures fits { IfOk result (λ v. v < 2 ^ 32) }
     ensures from { IfOk result (λ v. low ≤ v) }
@@ -37,13 +37,13 @@ fn read_from(r: &mut Reader, low: u64) -> Result<u32, RowFail>
     let place = place_of(r);
     let number = read_4(r)?;
     if (number as u64) < low {
-        Err(RowFail::BadField(place))
+        Err(RowError::BadField(place))
     } else {
         Ok(number)
     }
 }
 
-fn read_len(r: &mut Reader, start: u32) -> Result<u32, RowFail>
+fn read_len(r: &mut Reader, start: u32) -> Result<u32, RowError>
     ensures took { IfOk result (λ v. Takes (in_bytes 4 v) r.old r.new) }
     ensures fits { IfOk result (IsLen start) }
     ensures fault { IfErr result (AtNumber 4 (IsLen start) r.old) }
@@ -51,13 +51,13 @@ fn read_len(r: &mut Reader, start: u32) -> Result<u32, RowFail>
     let place = place_of(r);
     let len = read_4(r)?;
     if len == 0 || len > u32::MAX - start {
-        Err(RowFail::BadField(place))
+        Err(RowError::BadField(place))
     } else {
         Ok(len)
     }
 }
 
-fn read_run(r: &mut Reader, low: u64) -> Result<Span, RowFail>
+fn read_run(r: &mut Reader, low: u64) -> Result<Span, RowError>
     ensures took { IfOk result (λ s. Takes (spell_run s) r.old r.new) }
     ensures fits { IfOk result (IsRun low) }
     ensures fault { IfErr result (AtRun low r.old) }
@@ -70,7 +70,7 @@ fn read_run(r: &mut Reader, low: u64) -> Result<Span, RowFail>
     })
 }
 
-fn read_runs(alloc: Global, r: &mut Reader, count: u32) -> Result<Vec<Span>, RowFail>
+fn read_runs(alloc: Global, r: &mut Reader, count: u32) -> Result<Vec<Span>, RowError>
     ensures took { IfOk result (λ v. Takes (spell_spans v.items) r.old r.new) }
     ensures count { IfOk result (λ v. length v.items ≡ count) }
     ensures runs { IfOk result (λ v. AreRunsFrom 0 v.items) }
@@ -94,7 +94,7 @@ fn set_of(alloc: Global, runs: Vec<Span>) -> RangeSet
     RangeSet::from_runs(alloc, runs).unwrap()
 }
 
-fn read_set(alloc: Global, r: &mut Reader) -> Result<RangeSet, RowFail>
+fn read_set(alloc: Global, r: &mut Reader) -> Result<RangeSet, RowError>
     ensures took { IfOk result (λ s. Takes (spell_runs s) r.old r.new) }
     ensures fits { IfOk result IsSet }
     ensures fault { IfErr result (AtSet r.old) }
@@ -104,7 +104,7 @@ fn read_set(alloc: Global, r: &mut Reader) -> Result<RangeSet, RowFail>
     Ok(set_of(alloc, runs))
 }
 
-fn read_extent(r: &mut Reader, low: u64) -> Result<(u32, u32), RowFail>
+fn read_extent(r: &mut Reader, low: u64) -> Result<(u32, u32), RowError>
     ensures took { IfOk result (λ p. Takes (spell_extent (extent_of p)) r.old r.new) }
     ensures fits { IfOk result (λ p. IsExtent low (extent_of p)) }
     ensures fault { IfErr result (AtExtent low r.old) }
@@ -114,7 +114,7 @@ fn read_extent(r: &mut Reader, low: u64) -> Result<(u32, u32), RowFail>
     Ok((block, cluster))
 }
 
-fn read_extents(alloc: Global, r: &mut Reader, count: u32) -> Result<Vec<(u32, u32)>, RowFail>
+fn read_extents(alloc: Global, r: &mut Reader, count: u32) -> Result<Vec<(u32, u32)>, RowError>
     ensures took { IfOk result (λ v. Takes (spell_pairs v.items) r.old r.new) }
     ensures count { IfOk result (λ v. length v.items ≡ count) }
     ensures extents { IfOk result (λ v. AreExtentsFrom 0 (map extent_of v.items)) }
@@ -138,7 +138,7 @@ fn map_of(pairs: Vec<(u32, u32)>) -> ExtentMap
     ExtentMap::from_pairs(pairs).unwrap()
 }
 
-fn read_map(alloc: Global, r: &mut Reader) -> Result<ExtentMap, RowFail>
+fn read_map(alloc: Global, r: &mut Reader) -> Result<ExtentMap, RowError>
     ensures took { IfOk result (λ m. Takes (spell_extents (map extent_of m)) r.old r.new) }
     ensures fits { IfOk result (λ m. AreExtents (map extent_of m)) }
     ensures fault { IfErr result (AtMap r.old) }
@@ -148,7 +148,7 @@ fn read_map(alloc: Global, r: &mut Reader) -> Result<ExtentMap, RowFail>
     Ok(map_of(pairs))
 }
 
-pub(crate) fn read_sets(alloc: Global, r: &mut Reader) -> Result<Sets, RowFail>
+pub(crate) fn read_sets(alloc: Global, r: &mut Reader) -> Result<Sets, RowError>
     ensures took { IfOk result (λ s. Takes (sets_bytes s) r.old r.new) }
     ensures fits { IfOk result AreSets }
     ensures fault { IfErr result (AtSets r.old) }

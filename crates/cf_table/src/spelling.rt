@@ -13,7 +13,7 @@ ghost use Rattle.cf_table.specs.Spelling.{EndBelow, extent_of, HasRoom, row_valu
 use crate::plain_fields::{put_2, put_4, put_8, put_usn};
 use crate::rows::Row;
 use crate::tables::Rows;
-use cf_base::{Blob, Memory, Pin, Span, Usn};
+use cf_base::{Blob, OutOfMemory, Pin, Span, Usn};
 use cf_codec::Writer;
 use cf_ranges::RangeSet;
 
@@ -49,14 +49,14 @@ fn flags(row: &Row) -> u16
         + flag(row.keep, 128)
 }
 
-fn put_pin_and_size(out: &mut Writer, row: &Row) -> Result<(), Memory>
+fn put_pin_and_size(out: &mut Writer, row: &Row) -> Result<(), OutOfMemory>
     ensures { OnOk result (out.new ≡ out.old ++ pin_byte row.now.pin ∷ in_bytes 4 row.now.size) }
 {
     out.put_u8(pin_byte(row.pin))?;
     put_4(out, row.size)
 }
 
-fn put_head(out: &mut Writer, row: &Row) -> Result<(), Memory>
+fn put_head(out: &mut Writer, row: &Row) -> Result<(), OutOfMemory>
     ensures { OnOk result (out.new ≡ out.old ++ spell_head (row_value row.now)) }
 {
     put_8(out, row.id.0)?;
@@ -69,7 +69,7 @@ fn put_head(out: &mut Writer, row: &Row) -> Result<(), Memory>
     put_8(out, row.last)
 }
 
-fn put_name(out: &mut Writer, name: &[u8]) -> Result<(), Memory>
+fn put_name(out: &mut Writer, name: &[u8]) -> Result<(), OutOfMemory>
     requires { length name.now ≤ 255 }
     ensures { OnOk result (out.new ≡ out.old ++ length name.now ∷ name.now) }
 {
@@ -77,7 +77,7 @@ fn put_name(out: &mut Writer, name: &[u8]) -> Result<(), Memory>
     out.put_bytes(name)
 }
 
-fn put_texts(out: &mut Writer, row: &Row) -> Result<(), Memory>
+fn put_texts(out: &mut Writer, row: &Row) -> Result<(), OutOfMemory>
     requires { IsSpellable row.now }
     ensures { OnOk result (out.new ≡ out.old ++ spell_texts (row_value row.now)) }
 {
@@ -87,7 +87,7 @@ fn put_texts(out: &mut Writer, row: &Row) -> Result<(), Memory>
     out.put_bytes(identity)
 }
 
-fn put_span(out: &mut Writer, span: Span) -> Result<(), Memory>
+fn put_span(out: &mut Writer, span: Span) -> Result<(), OutOfMemory>
     requires { span.start + span.len < 2 ^ 32 }
     ensures { OnOk result (out.new ≡ out.old ++ spell_run span) }
 {
@@ -95,7 +95,7 @@ fn put_span(out: &mut Writer, span: Span) -> Result<(), Memory>
     put_4(out, span.len as u32)
 }
 
-fn put_spans(out: &mut Writer, runs: &[Span]) -> Result<(), Memory>
+fn put_spans(out: &mut Writer, runs: &[Span]) -> Result<(), OutOfMemory>
     requires { EndBelow runs.now }
     ensures { OnOk result (out.new ≡ out.old ++ spell_spans runs.now) }
 {
@@ -105,7 +105,7 @@ fn put_spans(out: &mut Writer, runs: &[Span]) -> Result<(), Memory>
     Ok(())
 }
 
-fn put_set(out: &mut Writer, set: &RangeSet) -> Result<(), Memory>
+fn put_set(out: &mut Writer, set: &RangeSet) -> Result<(), OutOfMemory>
     requires { EndBelow set.now }
     ensures { OnOk result (out.new ≡ out.old ++ spell_runs set.now) }
 {
@@ -114,14 +114,14 @@ fn put_set(out: &mut Writer, set: &RangeSet) -> Result<(), Memory>
     put_spans(out, runs)
 }
 
-fn put_pair(out: &mut Writer, pair: (u32, u32)) -> Result<(), Memory>
+fn put_pair(out: &mut Writer, pair: (u32, u32)) -> Result<(), OutOfMemory>
     ensures { OnOk result (out.new ≡ out.old ++ spell_extent (extent_of pair)) }
 {
     put_4(out, pair.0)?;
     put_4(out, pair.1)
 }
 
-fn put_pairs(out: &mut Writer, pairs: &[(u32, u32)]) -> Result<(), Memory>
+fn put_pairs(out: &mut Writer, pairs: &[(u32, u32)]) -> Result<(), OutOfMemory>
     ensures { OnOk result (out.new ≡ out.old ++ spell_pairs pairs.now) }
 {
     for pair in pairs {
@@ -130,7 +130,7 @@ fn put_pairs(out: &mut Writer, pairs: &[(u32, u32)]) -> Result<(), Memory>
     Ok(())
 }
 
-fn put_extents(out: &mut Writer, pairs: &[(u32, u32)]) -> Result<(), Memory>
+fn put_extents(out: &mut Writer, pairs: &[(u32, u32)]) -> Result<(), OutOfMemory>
     requires { length pairs.now < 2 ^ 32 }
     ensures { OnOk result (out.new ≡ out.old ++ spell_extents (map extent_of pairs.now)) }
 {
@@ -138,7 +138,7 @@ fn put_extents(out: &mut Writer, pairs: &[(u32, u32)]) -> Result<(), Memory>
     put_pairs(out, pairs)
 }
 
-fn put_sets(out: &mut Writer, row: &Row) -> Result<(), Memory>
+fn put_sets(out: &mut Writer, row: &Row) -> Result<(), OutOfMemory>
     requires { HasRoom row.now }
     ensures { OnOk result (out.new ≡ out.old ++ spell_sets (row_value row.now)) }
 {
@@ -151,7 +151,7 @@ fn put_sets(out: &mut Writer, row: &Row) -> Result<(), Memory>
 
 impl Row {
     /// Spells the row behind what was written. Without memory some of it is written.
-    pub fn spell(&self, out: &mut Writer) -> Result<(), Memory>
+    pub fn spell(&self, out: &mut Writer) -> Result<(), OutOfMemory>
         requires { HasRoom self.now }
         ensures { OnOk result (out.new ≡ out.old ++ spell_row (row_value self.now)) }
     {
@@ -162,7 +162,7 @@ impl Row {
 }
 
 /// Spells the rows one after the other. Without memory some are written.
-pub(crate) fn put_rows(out: &mut Writer, rows: &[Row]) -> Result<(), Memory>
+pub(crate) fn put_rows(out: &mut Writer, rows: &[Row]) -> Result<(), OutOfMemory>
     requires { All HasRoom rows.now }
     ensures { OnOk result (out.new ≡ out.old ++ spell_each rows.now) }
 {
@@ -175,7 +175,7 @@ pub(crate) fn put_rows(out: &mut Writer, rows: &[Row]) -> Result<(), Memory>
 impl Rows {
     /// Spells how many rows there are, and the rows in order of id. Of 4,294,967,296 rows and more only the last four bytes
     /// of the count are spelled.
-    pub fn spell(&self) -> Result<Blob, Memory>
+    pub fn spell(&self) -> Result<Blob, OutOfMemory>
         requires { All HasRoom self.now.rows }
         ensures { IfOk result (λ b. b ≡ spell_rows (map row_value self.now.rows)) }
     {
@@ -187,7 +187,7 @@ impl Rows {
 }
 
 #[tactic(auto, using(crate::proofs::Lengths::same_count, crate::proofs::Fields::last_four))]
-fn put_count(out: &mut Writer, rows: &[Row]) -> Result<(), Memory>
+fn put_count(out: &mut Writer, rows: &[Row]) -> Result<(), OutOfMemory>
     ensures { OnOk result (out.new ≡ out.old ++ in_bytes 4 (length (map row_value rows.now))) }
 {
     put_4(out, (rows.len() as u64 % 4_294_967_296) as u32)

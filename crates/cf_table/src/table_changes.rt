@@ -16,7 +16,7 @@ use crate::new_rows::Place;
 use crate::row_lists::{find_row, pin_of};
 use crate::rows::Row;
 use crate::tables::Rows;
-use cf_base::{Blob, Change, Identity, ItemId, Kind, Memory, Name, Pin, Usn};
+use cf_base::{Blob, Change, Identity, ItemId, Kind, OutOfMemory, Name, Pin, Usn};
 use std::alloc::Global;
 
 fn item_of(change: &Change) -> ItemId
@@ -63,7 +63,7 @@ fn pin_for(rows: &[Row], change: &Change) -> Pin
     }
 }
 
-fn copied_row(alloc: Global, rows: &[Row], source: usize, place: Place) -> Result<Row, Memory>
+fn copied_row(alloc: Global, rows: &[Row], source: usize, place: Place) -> Result<Row, OutOfMemory>
     requires source { source < length rows.now }
     requires later { (d : Row) → above place.number (get_or rows.now source d).number ≡ true }
     requires identity { (d : Row) → 8 ≤ length (get_or rows.now source d).identity }
@@ -80,7 +80,7 @@ fn copied_row(alloc: Global, rows: &[Row], source: usize, place: Place) -> Resul
 
 impl Rows {
     /// Applies a change under its number. Without memory the rows are as before.
-    pub fn apply(&mut self, change: &Change, number: Usn) -> Result<(), Memory>
+    pub fn apply(&mut self, change: &Change, number: Usn) -> Result<(), OutOfMemory>
         requires fits { Fits change.now self.old.rows }
         requires after { above number no_usn ≡ true }
         requires later { IsNext number self.old.rows }
@@ -98,7 +98,7 @@ impl Rows {
         }
     }
 
-    fn come_or_go(&mut self, change: &Change, number: Usn) -> Result<(), Memory>
+    fn come_or_go(&mut self, change: &Change, number: Usn) -> Result<(), OutOfMemory>
         requires kind { stays change.now ≡ false }
         requires fits { Fits change.now self.old.rows }
         requires after { above number no_usn ≡ true }
@@ -142,7 +142,7 @@ impl Rows {
         size: u32,
         identity: &Identity,
         number: Usn,
-    ) -> Result<(), Memory>
+    ) -> Result<(), OutOfMemory>
         requires new { IsNewItem item self.old.rows }
         requires name { length name.now ≤ 255 }
         requires identity { length identity.now ≤ 65535 }
@@ -173,7 +173,7 @@ impl Rows {
         parent: ItemId,
         name: &Name,
         number: Usn,
-    ) -> Result<(), Memory>
+    ) -> Result<(), OutOfMemory>
         requires new { IsNewItem item self.old.rows }
         requires name { length name.now ≤ 255 }
         requires source { MatchOption (row_of self.old.rows from) ⊥ (λ r. 8 ≤ length r.identity) }
@@ -202,7 +202,7 @@ impl Rows {
         }
     }
 
-    fn add(&mut self, row: Row) -> Result<(), Memory>
+    fn add(&mut self, row: Row) -> Result<(), OutOfMemory>
         requires new { IsNewItem row.id self.old.rows }
         requires spellable { IsSpellable row }
         ensures ok { OnOk result (self.new ≡ record { rows = self.old.rows ++ row ∷ []; next = record { 0 = max self.old.next.0 (row.id.0 + 1) } }) }
@@ -215,7 +215,7 @@ impl Rows {
     }
 
     // A change of an item that stays.
-    fn change(&mut self, id: ItemId, change: &Change, number: Usn) -> Result<(), Memory>
+    fn change(&mut self, id: ItemId, change: &Change, number: Usn) -> Result<(), OutOfMemory>
         requires kind { stays change.now ≡ true }
         requires id { id ≡ item_of_change change.now }
         requires fits { FitsRows change.now self.old.rows }

@@ -14,12 +14,12 @@ use crate::entries::Entry;
 use crate::indexed_rows::{push_indexed, put_indexed, remove_indexed};
 use crate::row_lists::{anchor_at, extent_at, find_row, touch_at};
 use crate::rows::Row;
-use cf_base::{ItemId, Memory};
+use cf_base::{ItemId, OutOfMemory};
 use std::alloc::Global;
 use std::marker::Model;
 
 /// The rows of a volume, by id. Contracts see them in order of id, with the id that the next item gets.
-#[derive(Debug, Drop)]
+#[derive(Drop)]
 pub struct Rows {
     pub(crate) rows: Vec<Row>,
     pub(crate) index: Vec<Entry>,
@@ -41,7 +41,7 @@ impl Model for Rows {
 
 impl Rows {
     /// The rows of a new volume: the root alone. They keep their allocator.
-    pub fn new(alloc: Global) -> Result<Rows, Memory>
+    pub fn new(alloc: Global) -> Result<Rows, OutOfMemory>
         ensures means { IfOk result (λ t. MeansAll t.rows (root ∷ [])) }
         ensures next { IfOk result (λ t. t.next.0 ≡ 2) }
         ensures fresh { IfOk result (λ t. All IsFresh t.rows) }
@@ -89,7 +89,7 @@ impl Rows {
     }
 
     /// Puts the row in place of the one with its id, or adds it. Without memory the rows are as before.
-    pub fn put_row(&mut self, row: Row) -> Result<(), Memory>
+    pub fn put_row(&mut self, row: Row) -> Result<(), OutOfMemory>
         requires { IsSpellable row }
         ensures ok { OnOk result (self.new ≡ record self.old { rows = with_row row self.old.rows }) }
         ensures err { OnErr result (self.new ≡ self.old) }
@@ -124,7 +124,7 @@ impl Rows {
         id: ItemId,
         block: u32,
         cluster: Option<u32>,
-    ) -> Result<Option<u32>, Memory>
+    ) -> Result<Option<u32>, OutOfMemory>
         ensures before { IfOk result (λ before. MatchOption (row_of self.old.rows id) (before ≡ None) (λ r. before ≡ cluster_at r.extents block)) }
         ensures ok { OnOk result (SetsRow (SetsExtent block cluster) id self.old.rows self.new.rows) }
         ensures next { self.new.next ≡ self.old.next }

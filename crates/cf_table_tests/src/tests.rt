@@ -6,18 +6,18 @@ ghost use Rattle.cf_table.specs.Changing.{Fits, IsNext};
 
 mod texts;
 
-use cf_base::{Blob, Change, Identity, ItemId, Kind, Memory, Name, Pin, Usn};
+use cf_base::{Blob, Change, Identity, ItemId, Kind, OutOfMemory, Name, Pin, Usn};
 use cf_table::*;
 use std::alloc::Global;
 use std::test::Fail;
 
-fn name(alloc: Global, bytes: &[u8]) -> Result<Name, Memory>
+fn name(alloc: Global, bytes: &[u8]) -> Result<Name, OutOfMemory>
     requires { length bytes.now ≤ 255 }
     ensures { IfOk result (λ n. length n ≤ 255) }
 {
     match Name::read(alloc, bytes) {
         Ok(name) => Ok(name),
-        Err(_) => Err(Memory),
+        Err(_) => Err(OutOfMemory),
     }
 }
 
@@ -26,7 +26,7 @@ fn is_list(ids: &[ItemId], expected: &[u64]) -> bool {
 }
 
 // A change under the number of a place of the first epoch.
-fn step(rows: &mut Rows, change: &Change, place: u32) -> Result<(), Memory>
+fn step(rows: &mut Rows, change: &Change, place: u32) -> Result<(), OutOfMemory>
     requires fits { Fits change.now rows.old.rows }
     requires place { place < 100 }
     requires later { IsNext (record { epoch = 1; place = place }) rows.old.rows }
@@ -36,7 +36,7 @@ fn step(rows: &mut Rows, change: &Change, place: u32) -> Result<(), Memory>
 }
 
 // A file of five bytes that the provider has, of the change whose place is its id.
-fn file(alloc: Global, id: u32, parent: u64, name: &[u8]) -> Result<Row, Memory>
+fn file(alloc: Global, id: u32, parent: u64, name: &[u8]) -> Result<Row, OutOfMemory>
     requires { length name.now ≤ 255 }
     ensures spellable { IfOk result IsSpellable }
     ensures source { IfOk result (λ r. (r.number ≡ record { epoch = 1; place = id }) × (8 ≤ length r.identity)) }

@@ -9,8 +9,8 @@ use Rattle.cf_base.specs.Names as names
 use Rattle.cf_base.specs.Names.{is_name_byte}
 use Rattle.cf_base.specs.declared.codes.Code.{Code}
 use Rattle.cf_base.specs.declared.codes.Code.TheVariants as code
-use Rattle.cf_base.specs.declared.codes.Fail.{Fail}
-use Rattle.cf_base.specs.declared.codes.Fail.TheVariants as fail
+use Rattle.cf_base.specs.declared.codes.CallError.{CallError}
+use Rattle.cf_base.specs.declared.codes.CallError.TheVariants as fail
 use Rattle.std.proofs.lemmas.Bool.{cond-false, ne_eqb}
 use Rattle.cf_model.specs.LookUp.{after_slash, names_of}
 use Rattle.cf_model.specs.Texts.{is_name, is_text}
@@ -63,6 +63,6 @@ text_name text u = λ k. with_text (nat_lt 0 (length text) && nat_le (length tex
       with_text a false b c e = let z : false ≡ true = e in absurd cc
 
 -- a name is never refused
-pub read_refuses : (e : Fail) (k : Code) (bytes text : List ℕ) → e ≡ fail.No k → bytes ≡ text → names.is_name text ≡ true → (e ≡ fail.Memory) ⊎ ((e ≡ fail.No code.BadPath) × (names.is_name bytes ≡ false)) → ⊥
-read_refuses e k bytes text is same good (inl m) = let z : fail.No k ≡ fail.Memory = sym is ∙ m in cc
+pub read_refuses : (e : CallError) (k : Code) (bytes text : List ℕ) → e ≡ fail.No k → bytes ≡ text → names.is_name text ≡ true → (e ≡ fail.OutOfMemory) ⊎ ((e ≡ fail.No code.BadPath) × (names.is_name bytes ≡ false)) → ⊥
+read_refuses e k bytes text is same good (inl m) = let z : fail.No k ≡ fail.OutOfMemory = sym is ∙ m in cc
 read_refuses e k bytes text is same good (inr p) = let z : true ≡ false = sym good ∙ ap (λ v. names.is_name v) (sym same) ∙ p.1 in cc

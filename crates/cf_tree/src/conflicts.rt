@@ -9,7 +9,7 @@ ghost use Rattle.cf_table.specs.Tables.{MeansAll};
 ghost use Rattle.cf_tree.specs.Parts.{mark_of};
 
 use crate::names::{MOST_NAME_BYTES, name_of};
-use cf_base::{ItemId, Memory, Name};
+use cf_base::{ItemId, OutOfMemory, Name};
 use cf_table::Rows;
 use std::alloc::Global;
 
@@ -56,14 +56,14 @@ fn cut(text: &[u8], most: usize) -> &[u8]
 }
 
 // What marks the conflict name of a number.
-fn mark(alloc: Global, number: u32) -> Result<String, Memory>
+fn mark(alloc: Global, number: u32) -> Result<String, OutOfMemory>
     ensures { IfOk result (λ s. string_bytes s ≡ mark_of number) }
 {
     Ok(format!(in alloc; " (conflict {number})")?)
 }
 
 // The conflict name of a number.
-fn numbered(alloc: Global, name: &[u8], number: u32) -> Result<Name, Memory>
+fn numbered(alloc: Global, name: &[u8], number: u32) -> Result<Name, OutOfMemory>
     requires { is_name name.now ≡ true }
     ensures { IfOk result (λ n. n ≡ with_number name.now number) }
 {
@@ -87,7 +87,7 @@ pub fn conflict_name(
     rows: &Rows,
     parent: ItemId,
     name: &Name,
-) -> Result<Name, Memory>
+) -> Result<Name, OutOfMemory>
     requires { is_name name.now ≡ true }
     ensures { IfOk result (λ n. (items : List Item) → MeansAll rows.now.rows items → n ≡ conflict_name items parent name.now) }
 {
@@ -98,5 +98,5 @@ pub fn conflict_name(
             return Ok(candidate);
         }
     }
-    Err(Memory)
+    Err(OutOfMemory)
 }

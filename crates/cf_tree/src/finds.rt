@@ -12,7 +12,7 @@ ghost use Rattle.cf_tree.specs.Trees.{IsTree};
 
 use crate::lines::ROOT;
 use crate::names::{Names, bad_path, name_of};
-use cf_base::{Code, Fail, ItemId, Name};
+use cf_base::{Code, CallError, ItemId, Name};
 use cf_table::Rows;
 use std::alloc::Global;
 
@@ -101,7 +101,7 @@ fn place<'a>(rows: &Rows, path: &'a str) -> Result<(ItemId, &'a str), Code>
 /// The directory and the name of a path that is to be made or moved to, whether there is an item or not. Refused as
 /// `find` refuses the path of the directory, as TooDeep or BadPath by the name too, and as BadPath where the path is that
 /// of the root.
-pub fn find_parent(alloc: Global, rows: &Rows, path: &str) -> Result<(ItemId, Name), Fail>
+pub fn find_parent(alloc: Global, rows: &Rows, path: &str) -> Result<(ItemId, Name), CallError>
     ensures place { (items : List Item) → MeansAll rows.now.rows items → IsTree items → IsAnswer result (placed (find_place items path.now)) }
     ensures named { IfOk result (λ p. is_name p.1 ≡ true) }
 {
@@ -110,6 +110,6 @@ pub fn find_parent(alloc: Global, rows: &Rows, path: &str) -> Result<(ItemId, Na
             let name = name_of(alloc, name.as_bytes())?;
             Ok((parent, name))
         }
-        Err(code) => Err(Fail::No(code)),
+        Err(code) => Err(CallError::No(code)),
     }
 }

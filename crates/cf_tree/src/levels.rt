@@ -4,11 +4,11 @@ ghost use Rattle.std.specs.Prelude.{◌≡◌, ◌∷◌, [], nat_lt, IfOk, OnOk
 ghost use Rattle.cf_model.specs.Words.{sorted};
 ghost use Rattle.cf_tree.specs.Levels.{children_in, level_at, level_below, levels_in};
 
-use cf_base::{ItemId, Memory};
+use cf_base::{ItemId, OutOfMemory};
 use cf_table::Rows;
 use std::alloc::Global;
 
-fn alone(alloc: Global, id: ItemId) -> Result<Vec<ItemId>, Memory>
+fn alone(alloc: Global, id: ItemId) -> Result<Vec<ItemId>, OutOfMemory>
     ensures { IfOk result (λ v. v.items ≡ id ∷ []) }
 {
     let mut ids = Vec::new(alloc);
@@ -16,7 +16,7 @@ fn alone(alloc: Global, id: ItemId) -> Result<Vec<ItemId>, Memory>
     Ok(ids)
 }
 
-fn children_of(alloc: Global, rows: &Rows, level: &[ItemId]) -> Result<Vec<ItemId>, Memory>
+fn children_of(alloc: Global, rows: &Rows, level: &[ItemId]) -> Result<Vec<ItemId>, OutOfMemory>
     ensures { IfOk result (λ v. v.items ≡ children_in rows.now.rows level.now) }
 {
     let mut all = Vec::new(alloc);
@@ -27,7 +27,7 @@ fn children_of(alloc: Global, rows: &Rows, level: &[ItemId]) -> Result<Vec<ItemI
     Ok(all)
 }
 
-fn sort(ids: &mut Vec<ItemId>) -> Result<(), Memory>
+fn sort(ids: &mut Vec<ItemId>) -> Result<(), OutOfMemory>
     ensures { OnOk result (ids.new.items ≡ sorted (λ a b. nat_lt a.0 b.0) ids.old.items) }
 {
     ids.sort_by_key(|id| id.0)?;
@@ -35,7 +35,7 @@ fn sort(ids: &mut Vec<ItemId>) -> Result<(), Memory>
 }
 
 // The children of these items, by id.
-fn level_below(alloc: Global, rows: &Rows, level: &[ItemId]) -> Result<Vec<ItemId>, Memory>
+fn level_below(alloc: Global, rows: &Rows, level: &[ItemId]) -> Result<Vec<ItemId>, OutOfMemory>
     ensures { IfOk result (λ v. v.items ≡ level_below rows.now.rows level.now) }
 {
     let mut below = children_of(alloc, rows, level)?;
@@ -49,7 +49,7 @@ pub(crate) fn level_at(
     rows: &Rows,
     top: ItemId,
     names: usize,
-) -> Result<Vec<ItemId>, Memory>
+) -> Result<Vec<ItemId>, OutOfMemory>
     ensures { IfOk result (λ v. v.items ≡ level_at names rows.now.rows (top ∷ [])) }
 {
     let mut level = alone(alloc, top)?;
@@ -65,7 +65,7 @@ pub(crate) fn levels_in(
     rows: &Rows,
     top: ItemId,
     count: usize,
-) -> Result<Vec<ItemId>, Memory>
+) -> Result<Vec<ItemId>, OutOfMemory>
     ensures { IfOk result (λ v. v.items ≡ levels_in count rows.now.rows (top ∷ [])) }
 {
     let mut all = Vec::new(alloc);

@@ -12,7 +12,7 @@ use cf_table::Rows;
 pub(crate) const ROOT: ItemId = ItemId(1);
 
 /// How a line goes up from an item to the root.
-#[derive(Clone, Copy, Debug)]
+#[derive(Clone, Copy)]
 pub(crate) struct Line {
     /// How many names lead to the item.
     pub depth: usize,

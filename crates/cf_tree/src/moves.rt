@@ -12,12 +12,12 @@ ghost use Rattle.cf_tree.specs.Trees.{IsTree};
 use crate::levels::level_at;
 use crate::lines::{ROOT, line_of};
 use crate::names::MOST_NAMES;
-use cf_base::{Code, Fail, ItemId, Memory, Name};
+use cf_base::{Code, CallError, ItemId, OutOfMemory, Name};
 use cf_table::Rows;
 use std::alloc::Global;
 
 // Whether items stand so many names below this one.
-fn reaches(alloc: Global, rows: &Rows, id: ItemId, names: usize) -> Result<bool, Memory>
+fn reaches(alloc: Global, rows: &Rows, id: ItemId, names: usize) -> Result<bool, OutOfMemory>
     ensures { IfOk result (λ b. b ≡ not (is_empty (level_at names rows.now.rows (id ∷ [])))) }
 {
     let level = level_at(alloc, rows, id, names)?;
@@ -26,7 +26,7 @@ fn reaches(alloc: Global, rows: &Rows, id: ItemId, names: usize) -> Result<bool,
 
 // Whether more than 32 names would lead to the item or to one below it, where `above` lead to the new directory. What is
 // below is looked at only where the item comes deeper than it stands. Nothing counts as below the root, which never moves.
-fn is_too_deep(alloc: Global, rows: &Rows, id: ItemId, above: usize) -> Result<bool, Memory>
+fn is_too_deep(alloc: Global, rows: &Rows, id: ItemId, above: usize) -> Result<bool, OutOfMemory>
     requires { above ≤ 32 }
     ensures { IfOk result (λ b. (items : List Item) (i : Item) → MeansAll rows.now.rows items → IsTree items → item_of items id ≡ Some i → b ≡ nat_lt 32 (above + 1 + height_at items id)) }
 {
@@ -59,21 +59,21 @@ pub fn check_move(
     id: ItemId,
     parent: ItemId,
     name: &Name,
-) -> Result<(), Fail>
+) -> Result<(), CallError>
     ensures { (items : List Item) (i : Item) → MeansAll rows.now.rows items → IsTree items → item_of items id ≡ Some i → IsChecked result (move_refused items id parent name.now) }
 {
     if parent == id {
-        return Err(Fail::No(Code::IntoItself));
+        return Err(CallError::No(Code::IntoItself));
     }
     let above = line_of(rows, parent, id, MOST_NAMES);
     if above.passes {
-        return Err(Fail::No(Code::IntoItself));
+        return Err(CallError::No(Code::IntoItself));
     }
     if is_too_deep(alloc, rows, id, above.depth)? {
-        return Err(Fail::No(Code::TooDeep));
+        return Err(CallError::No(Code::TooDeep));
     }
     if is_taken(rows, id, parent, name) {
-        return Err(Fail::No(Code::Exists));
+        return Err(CallError::No(Code::Exists));
     }
     Ok(())
 }

@@ -9,7 +9,7 @@ ghost use Rattle.cf_model.specs.Words.{is_empty};
 ghost use Rattle.cf_tree.specs.Parts.{is_name_of_text};
 ghost use Rattle.std.specs.List.{list_all};
 
-use cf_base::{Code, Fail, Memory, Name};
+use cf_base::{Code, CallError, OutOfMemory, Name};
 use std::alloc::Global;
 use std::marker::Model;
 
@@ -20,7 +20,7 @@ pub(crate) const MOST_NAMES: usize = 32;
 pub(crate) const MOST_NAME_BYTES: usize = 255;
 
 /// The names of a path that are left. Contracts see them as a list.
-#[derive(Debug, Drop)]
+#[derive(Drop)]
 pub struct Names<'a> {
     left: Option<&'a str>,
 }
@@ -120,13 +120,13 @@ pub fn bad_path(path: &str) -> Option<Code>
 }
 
 /// The name that the bytes are.
-pub(crate) fn name_of(alloc: Global, bytes: &[u8]) -> Result<Name, Memory>
+pub(crate) fn name_of(alloc: Global, bytes: &[u8]) -> Result<Name, OutOfMemory>
     requires { names.is_name bytes.now ≡ true }
     ensures { IfOk result (λ n. n ≡ bytes.now) }
 {
     match Name::read(alloc, bytes) {
         Ok(name) => Ok(name),
-        Err(Fail::Memory) => Err(Memory),
-        Err(Fail::No(_)) => unreachable!(),
+        Err(CallError::OutOfMemory) => Err(OutOfMemory),
+        Err(CallError::No(_)) => unreachable!(),
     }
 }

@@ -10,12 +10,12 @@ ghost use Rattle.cf_tree.specs.Trees.{AreOpen, HaveNames, IsTree};
 
 use crate::lines::ROOT;
 use crate::names::MOST_NAMES;
-use cf_base::{ItemId, Memory, Text};
+use cf_base::{ItemId, OutOfMemory, Text};
 use cf_table::Rows;
 use std::alloc::Global;
 
 // Adds a slash and the name. What is no text is left out.
-fn push_name(path: &mut String, name: &[u8]) -> Result<(), Memory>
+fn push_name(path: &mut String, name: &[u8]) -> Result<(), OutOfMemory>
     ensures { OnOk result (is_name name.now ≡ true → string_bytes path.new ≡ string_bytes path.old ++ 47 ∷ name.now) }
 {
     match str::from_utf8(name) {
@@ -29,7 +29,7 @@ fn push_name(path: &mut String, name: &[u8]) -> Result<(), Memory>
 }
 
 // A slash and a name for each item on the way down to this one, `most` at most.
-fn names_to(alloc: Global, rows: &Rows, id: ItemId, most: usize) -> Result<String, Memory>
+fn names_to(alloc: Global, rows: &Rows, id: ItemId, most: usize) -> Result<String, OutOfMemory>
     ensures { IfOk result (λ s. HaveNames rows.now.rows → string_bytes s ≡ path_in most rows.now.rows id) }
 {
     if most == 0 {
@@ -48,7 +48,7 @@ fn names_to(alloc: Global, rows: &Rows, id: ItemId, most: usize) -> Result<Strin
 
 /// The path by which `find` leads to the item, where each item but the root has a name and no directory whose entries have
 /// not come has a child. It takes time by the depth.
-pub fn path_of(alloc: Global, rows: &Rows, id: ItemId) -> Result<Text, Memory>
+pub fn path_of(alloc: Global, rows: &Rows, id: ItemId) -> Result<Text, OutOfMemory>
     ensures { IfOk result (λ t. (items : List Item) (i : Item) → HaveNames rows.now.rows → MeansAll rows.now.rows items → IsTree items → AreOpen items → item_of items id ≡ Some i → find_path items t ≡ Ok i) }
 {
     if id == ROOT {

@@ -8,13 +8,13 @@ ghost use Rattle.cf_tree.specs.Trees.{IsTree};
 
 use crate::levels::levels_in;
 use crate::names::MOST_NAMES;
-use cf_base::{ItemId, Memory};
+use cf_base::{ItemId, OutOfMemory};
 use cf_table::Rows;
 use std::alloc::Global;
 
 /// The item and all below it, by depth and then by id; none where it is not there. The work grows with them alone, and not
 /// with the rows.
-pub fn tree_of(alloc: Global, rows: &Rows, top: ItemId) -> Result<Vec<ItemId>, Memory>
+pub fn tree_of(alloc: Global, rows: &Rows, top: ItemId) -> Result<Vec<ItemId>, OutOfMemory>
     ensures { IfOk result (λ v. (items : List Item) → MeansAll rows.now.rows items → IsTree items → v.items ≡ map (λ i. i.id) (tree_of items top)) }
 {
     match rows.get(top) {

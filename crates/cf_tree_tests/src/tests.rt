@@ -2,7 +2,7 @@
 
 ghost use Rattle.std.specs.Prelude.{◌≤◌, length};
 
-use cf_base::Fail::No;
+use cf_base::CallError::No;
 use cf_base::{Blob, Code, Identity, ItemId, Name};
 use cf_table::Rows;
 use cf_tree::{check_move, conflict_name, find, find_below, find_parent, path_of, tree_of};

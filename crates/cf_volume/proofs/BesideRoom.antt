@@ -8,7 +8,7 @@ use Rattle.std.proofs.lemmas.Option.{none-some}
 use Rattle.cf_base.specs.declared.answers.Anchor.{Anchor}
 use Rattle.cf_base.specs.declared.answers.AuxRecord.{AuxRecord}
 use Rattle.cf_base.specs.declared.ids.ItemId.{ItemId}
-use Rattle.cf_base.specs.declared.memory.Memory.{Memory}
+use Rattle.cf_base.specs.declared.memory.OutOfMemory.{OutOfMemory}
 use Rattle.cf_volume_commit.proofs.MergedKeys.{at_with, at_without}
 use Rattle.cf_volume_image.proofs.Keys.{else_before}
 use Rattle.cf_volume_image.specs.Contents.{record_at}
@@ -134,7 +134,7 @@ put_none gone records all t put more less rise = record {
 
 -- the table
 
-pub longer_on : {P Q : Bool → Type 0} (r : Result Bool Memory) → ((b : Bool) → P b → Q b) → IfOk r P → IfOk r Q
+pub longer_on : {P Q : Bool → Type 0} (r : Result Bool OutOfMemory) → ((b : Bool) → P b → Q b) → IfOk r P → IfOk r Q
 longer_on {P} {Q} (Ok b) f h = f b h
 longer_on {P} {Q} (Err e) f h = tt
 

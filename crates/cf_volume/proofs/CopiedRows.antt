@@ -2,7 +2,7 @@
 use Rattle.std.proofs.Common.{◌≡◌, ℕ, ◌≤◌, List, length, drop, sym, subst, arith, Option, Some, None, length-append, length-drop, replicate}
 use Rattle.std.specs.Prelude.{IfOk, MatchOption, Result, Ok, Err}
 use Rattle.cf_base.specs.declared.ids.ItemId.{ItemId}
-use Rattle.cf_base.specs.declared.memory.Memory.{Memory}
+use Rattle.cf_base.specs.declared.memory.OutOfMemory.{OutOfMemory}
 use Rattle.cf_model.specs.Effects.{untargeted}
 use Rattle.cf_table.specs.Applied.{IsSpellable}
 use Rattle.cf_table.specs.Tables.{row_of}
@@ -12,7 +12,7 @@ use Rattle.cf_table.specs.declared.rows.Row.{Row}
 untargeted_long : (identity : List ℕ) → 8 ≤ length identity → length (untargeted identity) ≡ length identity
 untargeted_long identity long = let a = length-append (replicate 8 0) (drop 8 identity) in let b = length-drop 8 identity in omega (arith, a, b, long)
 
-pub copied_spells : (result : Result Row Memory) (place : Place) (source : Row) → IfOk result (λ r. (r.id ≡ place.id) × (r.name ≡ place.name) × (r.identity ≡ untargeted source.identity) × (r.number ≡ place.number))
+pub copied_spells : (result : Result Row OutOfMemory) (place : Place) (source : Row) → IfOk result (λ r. (r.id ≡ place.id) × (r.name ≡ place.name) × (r.identity ≡ untargeted source.identity) × (r.number ≡ place.number))
     → length place.name ≤ 255 → 8 ≤ length source.identity → IsSpellable source → IfOk result IsSpellable
 copied_spells (Err e) place source texts name long spells = tt
 copied_spells (Ok r) place source texts name long spells =

@@ -2,8 +2,8 @@
 use Rattle.std.proofs.Common.{◌≡◌, ◌<◌, inl, inr, sym, ap, subst, ◌⊎◌, ℕ, List}
 use Rattle.std.specs.Prelude.{Err, Result}
 use Rattle.cf_base.specs.declared.codes.Code.{Code}
-use Rattle.cf_base.specs.declared.codes.Fail.{Fail}
-use Rattle.cf_base.specs.declared.codes.Fail.TheVariants as fail
+use Rattle.cf_base.specs.declared.codes.CallError.{CallError}
+use Rattle.cf_base.specs.declared.codes.CallError.TheVariants as fail
 use Rattle.cf_volume_commit.specs.Loaded as loaded
 use Rattle.cf_volume_commit.specs.Loaded.{HoldsImage, raised_image}
 use Rattle.cf_volume_commit.specs.declared.parts.Parts.{Parts}
@@ -31,7 +31,7 @@ pub opened_from : (disk : List ℕ) (p : Parts) (k : Known) → k ≡ loaded.kno
     → (i : Image) × HoldsImage disk i × (i.header.last.epoch < most) × IsOpenedFrom i k
 opened_from disk p k is found = (found.0, found.1, found.2, subst (IsOpenedFrom found.0) (sym is) (known_from p found.0 found.3))
 
-pub refused_as_one : {A : Type 0} → (e : Fail) (c d : Code) → IsRefused e c ⊎ IsRefused e d
-    → (◌≡◌ {A = Result A Fail} (Err e) (Err (fail.No c))) ⊎ (◌≡◌ {A = Result A Fail} (Err e) (Err (fail.No d)))
+pub refused_as_one : {A : Type 0} → (e : CallError) (c d : Code) → IsRefused e c ⊎ IsRefused e d
+    → (◌≡◌ {A = Result A CallError} (Err e) (Err (fail.No c))) ⊎ (◌≡◌ {A = Result A CallError} (Err e) (Err (fail.No d)))
 refused_as_one {A} e c d (inl is) = inl (ap Err (refused_as e c is))
 refused_as_one {A} e c d (inr is) = inr (ap Err (refused_as e d is))

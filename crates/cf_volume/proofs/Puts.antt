@@ -11,7 +11,7 @@ use Rattle.cf_base.specs.declared.ids.ItemId.{ItemId}
 use Rattle.cf_base.specs.declared.ids.Usn.{Usn}
 use Rattle.cf_base.specs.declared.items.Pin.{Pin}
 use Rattle.cf_base.specs.declared.items.Pin.TheVariants as pin
-use Rattle.cf_base.specs.declared.memory.Memory.{Memory}
+use Rattle.cf_base.specs.declared.memory.OutOfMemory.{OutOfMemory}
 use Rattle.cf_volume_blocks.specs.Bytes.{HasEnd, puts_in}
 use Rattle.cf_model.specs.Blocks.{blocks_of, lacks_in}
 use Rattle.cf_model.specs.Items.{Item}
@@ -235,7 +235,7 @@ pin_none (x ∷ xs) id e = by (eqb x.id.0 id.0) e (pin_none xs id)
 
 -- what a plan says, of the row that was found
 
-pub plans_of : (result : Result Planned Memory) (c : Change) (pin' : Pin) (n : Usn) (row : Row) → IsSpellable row
+pub plans_of : (result : Result Planned OutOfMemory) (c : Change) (pin' : Pin) (n : Usn) (row : Row) → IsSpellable row
     → IfOk result (λ p. (i : Item) → Means row i → Means p.row (item_effect c pin' n i)) → IfOk result (λ p. KeepsRest row p.row) → IfOk result (λ p. StaysBefore n row p.row) → IfOk result (λ p. IsStored p.row)
     → IfOk result (λ p. IsSpellable row → IsSpellable p.row) → IfOk result (λ p. (i : Item) → Means row i → p.blocks.items ≡ puts_in c i.held)
     → (rows : List Row) (id : ItemId) → row_of rows id ≡ Some row → IfOk result (λ p. (r : Row) → row_of rows id ≡ Some r → Plans c pin' n r p.row p.blocks.items)

@@ -20,7 +20,7 @@ use Rattle.cf_volume.specs.Laid.{AreRising, HoldsIn, Lays, StagesAll}
 use Rattle.std.specs.Prelude.{IfErr, Result, Ok, Err}
 use Rattle.std.specs.Result.{IsErrAnd}
 use Rattle.cf_volume_points.specs.declared.stops.Stop.{Stop}
-use Rattle.cf_volume_points.specs.declared.stops.Stop.TheVariants.{Device, Memory}
+use Rattle.cf_volume_points.specs.declared.stops.Stop.TheVariants.{Device, OutOfMemory}
 use Rattle.cf_volume_points.specs.Runs.{IsStop, Ran}
 
 pub ran_none : (s : State) → Ran 0 s s
@@ -124,4 +124,4 @@ stop_later {T} (Err y) e s t u is stop le = by y (subst (λ (z : Stop). IsStop z
   where
     by : (z : Stop) → IsStop z t u → IsStop z s u
     by Device h = omega (arith, h, le)
-    by Memory h = tt
+    by OutOfMemory h = tt

@@ -4,14 +4,14 @@ use Rattle.std.specs.Prelude.{Err, IfErr, IsErrAnd, Ok, Result}
 use Rattle.cf_base.specs.declared.changes.Change.{Change}
 use Rattle.cf_base.specs.declared.codes.Code.{Code}
 use Rattle.cf_base.specs.declared.codes.Code.TheVariants as code
-use Rattle.cf_base.specs.declared.codes.Fail.{Fail}
-use Rattle.cf_base.specs.declared.codes.Fail.TheVariants as fail
+use Rattle.cf_base.specs.declared.codes.CallError.{CallError}
+use Rattle.cf_base.specs.declared.codes.CallError.TheVariants as fail
 use Rattle.cf_disk.specs.Disk.{State}
 use Rattle.cf_model.specs.State.{Volume}
 use Rattle.cf_volume_points.specs.Known.{Known}
 use Rattle.cf_volume_points.specs.Runs.{IsStop}
 use Rattle.cf_volume_points.specs.declared.stops.Stop.{Stop}
-use Rattle.cf_volume_points.specs.declared.stops.Stop.TheVariants.{Device, Memory}
+use Rattle.cf_volume_points.specs.declared.stops.Stop.TheVariants.{Device, OutOfMemory}
 use Rattle.cf_volume.specs.Calls.{IsCause, IsFullness, IsKept, IsPut, IsRefused, StopsOnly, fail_of}
 
 -- a want of room is no failure of the device
@@ -19,10 +19,10 @@ pub not_device : (c : Code) → IsFullness c → c ≡ code.Device → ⊥
 not_device c full is = subst IsFullness is full
 
 -- the error of a call is handed on
-pub handed_on : {A : Type 0} → (P : Fail → Type 0) (r : Result A Fail) (e : Fail) → IsErrAnd r (λ y. y ≡ e) → P e → IfErr r P
+pub handed_on : {A : Type 0} → (P : CallError → Type 0) (r : Result A CallError) (e : CallError) → IsErrAnd r (λ y. y ≡ e) → P e → IfErr r P
 handed_on {A} P (Ok a) e is h = tt
 handed_on {A} P (Err y) e is h = subst P (sym is) h
 
-pub refused_as : (e : Fail) (c : Code) → IsRefused e c → e ≡ fail.No c
-refused_as fail.Memory c h = absurd h
+pub refused_as : (e : CallError) (c : Code) → IsRefused e c → e ≡ fail.No c
+refused_as fail.OutOfMemory c h = absurd h
 refused_as (fail.No code) c h = ap fail.No h

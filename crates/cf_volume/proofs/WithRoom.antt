@@ -7,8 +7,8 @@ use Rattle.std.proofs.lemmas.Option.{none-some, same_Some}
 use Rattle.cf_base.specs.declared.changes.Change.{Change}
 use Rattle.cf_base.specs.declared.codes.Code.{Code}
 use Rattle.cf_base.specs.declared.codes.Code.TheVariants as code
-use Rattle.cf_base.specs.declared.codes.Fail.{Fail}
-use Rattle.cf_base.specs.declared.codes.Fail.TheVariants.{Memory, No}
+use Rattle.cf_base.specs.declared.codes.CallError.{CallError}
+use Rattle.cf_base.specs.declared.codes.CallError.TheVariants.{OutOfMemory, No}
 use Rattle.cf_base.specs.declared.ids.Usn.{Usn}
 use Rattle.cf_disk.specs.Disk.{State}
 use Rattle.cf_model.specs.Blocks.{is_full, passes_clusters, puts_into}
@@ -49,8 +49,8 @@ none_waits c v fits waits =
     second false b e = absurd (true≢false (sym e))
 
 -- a change that is not refused is stopped by the device or memory alone
-pub judged_stop : (c : Change) (v : Volume) (e : Fail) → why_no_room (c ∷ []) v ≡ None → IsJudged c v (Err e) → StopsOnly e
-judged_stop c v Memory fits h = tt
+pub judged_stop : (c : Change) (v : Volume) (e : CallError) → why_no_room (c ∷ []) v ≡ None → IsJudged c v (Err e) → StopsOnly e
+judged_stop c v OutOfMemory fits h = tt
 judged_stop c v (No code) fits h = ⊎_elim (λ stop. stop) (λ full. absurd (none-some code (sym fits ∙ full))) h
 
 pub judged_none : (c : Change) (v : Volume) (o : Option Usn) → is_some o ≡ false → IsJudged c v (Ok o) → (why_no_room (c ∷ []) v ≡ None) × (may_need_room c v ≡ true)
@@ -88,9 +88,9 @@ no_device false false true c e is = full_or_number code.Full tt (same_Some code.
 no_device false false false c e is = none-some c e
 
 -- a volume that is not broken stays as it is where a change is refused
-pub whole_answer : {D : Type 0} {o : OnDisk D} → (c : Change) (v : Volume) (d f : D) (k l : Known) (e : Fail) (b : Bool) → record { disk = d; known = k } ≡ o → k.broken ≡ false → IsStopping e b
+pub whole_answer : {D : Type 0} {o : OnDisk D} → (c : Change) (v : Volume) (d f : D) (k l : Known) (e : CallError) (b : Bool) → record { disk = d; known = k } ≡ o → k.broken ≡ false → IsStopping e b
     → Answers c v (record { disk = d; known = k }) (Err e) (record { disk = f; known = l }) → Answers c v o (Err e) (record { disk = f; known = record l { broken = b } })
-whole_answer {D} {o} c v d f k l Memory b view whole stops h = tt
+whole_answer {D} {o} c v d f k l OutOfMemory b view whole stops h = tt
 whole_answer {D} {o} c v d f k l (No code) b view whole stops h = ⊎_elim (λ stop. inl stop) (λ full. inr (full.0, same full.0 full.1)) h
   where
     same : why_no_room (c ∷ []) v ≡ Some code → ◌≡◌ {A = OnDisk D} (record { disk = f; known = l }) (record { disk = d; known = k }) → ◌≡◌ {A = OnDisk D} (record { disk = f; known = record l { broken = b } }) o

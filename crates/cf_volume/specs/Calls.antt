@@ -4,8 +4,8 @@ use Rattle.cf_base.specs.declared.answers.AuxRecord.{AuxRecord}
 use Rattle.cf_base.specs.declared.changes.Change.{Change}
 use Rattle.cf_base.specs.declared.codes.Code.{Code}
 use Rattle.cf_base.specs.declared.codes.Code.TheVariants.{Broken, Device, Full, TableFull}
-use Rattle.cf_base.specs.declared.codes.Fail.{Fail}
-use Rattle.cf_base.specs.declared.codes.Fail.TheVariants.{Memory, No}
+use Rattle.cf_base.specs.declared.codes.CallError.{CallError}
+use Rattle.cf_base.specs.declared.codes.CallError.TheVariants.{OutOfMemory, No}
 use Rattle.cf_base.specs.declared.ids.Usn.{Usn}
 use Rattle.cf_disk.specs.Disk.{State, capped, size_of}
 use Rattle.cf_model.specs.Books.{Book, aux_records}
@@ -26,22 +26,22 @@ pub record OnDisk (D : Type 0) : Type 0 where
   pub known : Known
 
 -- where an earlier call broke the volume, a call does nothing
-abbrev pub IfBroken : {D A : Type 0} → OnDisk D → Result A Fail → OnDisk D → Type 0
+abbrev pub IfBroken : {D A : Type 0} → OnDisk D → Result A CallError → OnDisk D → Type 0
 IfBroken old result new = old.known.broken ≡ true → (result ≡ Err (No Broken)) × (new ≡ old)
 
--- Device and Memory break it
-abbrev pub Breaks : Fail → Known → Type 0
-Breaks Memory k = k.broken ≡ true
+-- Device and OutOfMemory break it
+abbrev pub Breaks : CallError → Known → Type 0
+Breaks OutOfMemory k = k.broken ≡ true
 Breaks (No code) k = code ≡ Device → k.broken ≡ true
 
 -- whether a failure is one of them
-abbrev pub IsStopping : Fail → Bool → Type 0
-IsStopping Memory b = b ≡ true
+abbrev pub IsStopping : CallError → Bool → Type 0
+IsStopping OutOfMemory b = b ≡ true
 IsStopping (No code) b = (code ≡ Device → b ≡ true) × ((code ≡ Device → ⊥) → b ≡ false)
 
 -- the device stops a call only where its count of faults rose
-abbrev pub IsCause : Fail → State → State → Type 0
-IsCause Memory s t = Unit {0}
+abbrev pub IsCause : CallError → State → State → Type 0
+IsCause OutOfMemory s t = Unit {0}
 IsCause (No code) s t = code ≡ Device → capped (s.faults + 1) ≤ t.faults
 
 -- a disk after any calls
@@ -52,19 +52,19 @@ pub record Runs (s t : State) : Type 0 where
 
 -- Why a change was refused, or was not: in the order of the volume's refusals, which leave all as it was, or since the
 -- device failed.
-abbrev pub Answers : {D : Type 0} → Change → Volume → OnDisk D → Result Usn Fail → OnDisk D → Type 0
+abbrev pub Answers : {D : Type 0} → Change → Volume → OnDisk D → Result Usn CallError → OnDisk D → Type 0
 Answers c v old (Ok n) new = why_no_room (c ∷ []) v ≡ None
-Answers c v old (Err Memory) new = Unit {0}
+Answers c v old (Err OutOfMemory) new = Unit {0}
 Answers c v old (Err (No code)) new = (code ≡ Device) ⊎ ((why_no_room (c ∷ []) v ≡ Some code) × (new ≡ old))
 
 -- a call that the device or memory alone can stop
-abbrev pub StopsOnly : Fail → Type 0
-StopsOnly Memory = Unit {0}
+abbrev pub StopsOnly : CallError → Type 0
+StopsOnly OutOfMemory = Unit {0}
 StopsOnly (No code) = code ≡ Device
 
 -- a call that memory alone can stop
-abbrev pub IsMemory : Fail → Type 0
-IsMemory Memory = Unit {0}
+abbrev pub IsMemory : CallError → Type 0
+IsMemory OutOfMemory = Unit {0}
 IsMemory (No code) = ⊥
 
 -- another book, whose auxiliary records are these
@@ -80,9 +80,9 @@ put_record key None records = without_record key records
 put_record key (Some value) records = with_record (record { key = key; value = value }) records
 
 -- why an auxiliary record was not put
-abbrev pub WhyAux : {D : Type 0} → Volume → Book → OnDisk D → Result (Unit {0}) Fail → OnDisk D → Type 0
+abbrev pub WhyAux : {D : Type 0} → Volume → Book → OnDisk D → Result (Unit {0}) CallError → OnDisk D → Type 0
 WhyAux v b old (Ok n) new = table_full v.items b ≡ false
-WhyAux v b old (Err Memory) new = Unit {0}
+WhyAux v b old (Err OutOfMemory) new = Unit {0}
 WhyAux v b old (Err (No code)) new = (code ≡ TableFull) × (table_full v.items b ≡ true) × (new ≡ old)
 
 -- the row is there, and each of its positions from a place to another is here
@@ -91,14 +91,14 @@ IsHere None start end = ⊥
 IsHere (Some r) start end = (p : ℕ) → start ≤ p → p < end → contains r.here p ≡ true
 
 -- why a disk was not formatted or opened
-abbrev pub IsRefused : Fail → Code → Type 0
-IsRefused Memory c = ⊥
+abbrev pub IsRefused : CallError → Code → Type 0
+IsRefused OutOfMemory c = ⊥
 IsRefused (No code) c = code ≡ c
 
 -- what a call answers that was stopped
-abbrev pub fail_of : Stop → Fail
+abbrev pub fail_of : Stop → CallError
 fail_of stop.Device = No Device
-fail_of stop.Memory = Memory
+fail_of stop.OutOfMemory = OutOfMemory
 
 -- there is no room
 abbrev pub IsFullness : Code → Type 0
@@ -108,15 +108,15 @@ IsFullness _ = ⊥
 
 -- A change is put where the clusters that it needs are free: it is in the volume then, or is refused in the order of the
 -- volume's refusals, or the device failed. None: a commit has to make room first.
-abbrev pub IsPut : Change → Volume → State → State → Known → Result (Option Usn) Fail → Type 0
+abbrev pub IsPut : Change → Volume → State → State → Known → Result (Option Usn) CallError → Type 0
 IsPut c v s t new (Ok (Some n)) = (n ≡ next_number v) × (why_no_room (c ∷ []) v ≡ None) × At t new (put_change c v)
 IsPut c v s t new (Ok None) = (why_no_room (c ∷ []) v ≡ None) × (may_need_room c v ≡ true)
-IsPut c v s t new (Err Memory) = Unit {0}
+IsPut c v s t new (Err OutOfMemory) = Unit {0}
 IsPut c v s t new (Err (No code)) = (code ≡ Device) ⊎ (why_no_room (c ∷ []) v ≡ Some code)
 
 -- nothing is done but where the change is put, or was begun
-abbrev pub IsKept : {D : Type 0} → D → Known → Result (Option Usn) Fail → D → Known → Type 0
+abbrev pub IsKept : {D : Type 0} → D → Known → Result (Option Usn) CallError → D → Known → Type 0
 IsKept s old (Ok (Some n)) t new = Unit {0}
 IsKept s old (Ok None) t new = (t ≡ s) × (new ≡ old)
-IsKept s old (Err Memory) t new = Unit {0}
+IsKept s old (Err OutOfMemory) t new = Unit {0}
 IsKept s old (Err (No code)) t new = (code ≡ Device) ⊎ ((t ≡ s) × (new ≡ old))

@@ -3,7 +3,7 @@ use Rattle.std.specs.Prelude.{◌≡◌, ◌≤◌, ◌*◌, ℕ, cond, List, le
 use Rattle.cf_base.specs.declared.answers.AuxRecord.{AuxRecord}
 use Rattle.cf_base.specs.declared.changes.Change.{Change}
 use Rattle.cf_base.specs.declared.changes.Change.TheVariants as change
-use Rattle.cf_base.specs.declared.memory.Memory.{Memory}
+use Rattle.cf_base.specs.declared.memory.OutOfMemory.{OutOfMemory}
 use Rattle.cf_base.specs.declared.ids.ItemId.{ItemId}
 use Rattle.cf_base.specs.declared.ids.Usn.{Usn}
 use Rattle.cf_base.specs.declared.items.Pin.{Pin}
@@ -45,12 +45,12 @@ AreSizesOf None z = z ≡ record { bytes = 0; items = 0; blocks = 0 }
 AreSizesOf (Some r) z = IsStored r × ((n : ℕ) → IsBelow r.here (4096 * n) → z ≡ row_sizes r (touched r.here 0 n))
 
 -- The draft is that after one more change, which puts bytes into so many blocks.
-abbrev pub IsNextDraft : Contents → Change → Draft → Volume → Result (Option ℕ) Memory → Type 0
+abbrev pub IsNextDraft : Contents → Change → Draft → Volume → Result (Option ℕ) OutOfMemory → Type 0
 IsNextDraft c change d w (Ok None) = ⊥
 IsNextDraft c change d w (Ok (Some asked)) = (asked ≡ length (puts_into w.items change)) × Drafts c d (put_change change w)
 IsNextDraft c change d w (Err e) = Unit {0}
 
 -- it is so where the change fits the items
-abbrev pub DraftsNext : Contents → Change → Usn → Draft → Draft → Volume → Result (Option ℕ) Memory → Type 0
+abbrev pub DraftsNext : Contents → Change → Usn → Draft → Draft → Volume → Result (Option ℕ) OutOfMemory → Type 0
 DraftsNext c change n old new w result =
     Drafts c old w → n ≡ shifted w.epoch (next_number w) → FitsAmong change w.book w.items → FitsBook change w.book → IsNextDraft c change new w result

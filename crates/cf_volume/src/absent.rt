@@ -13,7 +13,7 @@ ghost use Rattle.cf_volume.specs.Calls.{IsCause, IsKept, IsPut};
 ghost use Rattle.cf_volume.specs.Steady.{Steady, known_of};
 
 use crate::parts::Parts;
-use cf_base::{Change, Code, Fail, Usn};
+use cf_base::{Change, Code, CallError, Usn};
 use cf_clusters::Data;
 use cf_disk::Disk;
 
@@ -54,7 +54,7 @@ pub(crate) fn put_absent<D: Disk>(
     disk: &D,
     parts: &mut Parts,
     change: &Change,
-) -> Result<Option<Usn>, Fail>
+) -> Result<Option<Usn>, CallError>
     requires kind { stays change.now ≡ true }
     requires none { row_of parts.old.contents.rows.rows (item_of_change change.now) ≡ None }
     requires steady { Steady (size_of (D.state disk.now)) (known_of parts.old) }
@@ -69,7 +69,7 @@ pub(crate) fn put_absent<D: Disk>(
     let _ = disk;
     let last = parts.contents.last;
     if passes_clusters(&parts.held, clusters_asked(change)) {
-        return Err(Fail::No(Code::Full));
+        return Err(CallError::No(Code::Full));
     }
     parts.contents.last.place += 1;
     parts.contents.count += 1;

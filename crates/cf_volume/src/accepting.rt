@@ -23,7 +23,7 @@ use crate::kinds::item_of;
 use crate::noting::is_there;
 use crate::parts::Parts;
 use crate::staying::put_stay;
-use cf_base::{Change, Code, Fail, Usn};
+use cf_base::{Change, Code, CallError, Usn};
 use cf_disk::Disk;
 use cf_volume_image::Contents;
 
@@ -43,7 +43,7 @@ fn put_in_place<D: Disk>(
     disk: &mut D,
     parts: &mut Parts,
     change: &Change,
-) -> Result<Option<Usn>, Fail>
+) -> Result<Option<Usn>, CallError>
     requires kind { stays change.now ≡ true }
     requires steady { Steady (size_of (D.state disk.old)) (known_of parts.old) }
     requires fits { Fits change.now parts.old.contents.rows.rows }
@@ -67,7 +67,7 @@ fn put_in_place<D: Disk>(
 
 // Puts a change, for which there is a number, and gives it. None where a commit has to make room first; then nothing is
 // done.
-fn accept<D: Disk>(disk: &mut D, parts: &mut Parts, change: &Change) -> Result<Option<Usn>, Fail>
+fn accept<D: Disk>(disk: &mut D, parts: &mut Parts, change: &Change) -> Result<Option<Usn>, CallError>
     requires steady { Steady (size_of (D.state disk.old)) (known_of parts.old) }
     requires fits { Fits change.now parts.old.contents.rows.rows }
     requires next { IsNextId change.now parts.old.contents.rows.next }
@@ -95,7 +95,7 @@ fn accept_after_commit<D: Disk>(
     disk: &mut D,
     parts: &mut Parts,
     change: &Change,
-) -> Result<(), Fail>
+) -> Result<(), CallError>
     requires steady { Steady (size_of (D.state disk.old)) (known_of parts.old) }
     requires fits { Fits change.now parts.old.contents.rows.rows }
     requires next { IsNextId change.now parts.old.contents.rows.next }
@@ -113,7 +113,7 @@ fn accept_after_commit<D: Disk>(
     if accept(disk, parts, change)?.is_some() {
         return Ok(());
     }
-    Err(Fail::No(Code::Full))
+    Err(CallError::No(Code::Full))
 }
 
 /// Puts a change, for which a place is left, and gives its number. A commit comes first where the change needs more clusters
@@ -122,7 +122,7 @@ pub(crate) fn accept_with_room<D: Disk>(
     disk: &mut D,
     parts: &mut Parts,
     change: &Change,
-) -> Result<Usn, Fail>
+) -> Result<Usn, CallError>
     requires steady { Steady (size_of (D.state disk.old)) (known_of parts.old) }
     requires fits { Fits change.now parts.old.contents.rows.rows }
     requires next { IsNextId change.now parts.old.contents.rows.next }
@@ -138,7 +138,7 @@ pub(crate) fn accept_with_room<D: Disk>(
     ensures broken { parts.new.broken ≡ parts.old.broken }
 {
     if parts.contents.count == u64::MAX {
-        return Err(Fail::Memory);
+        return Err(CallError::OutOfMemory);
     }
     let last = parts.contents.last;
     let number = Usn {

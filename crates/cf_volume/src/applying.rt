@@ -15,17 +15,17 @@ use crate::accepting::{accept_with_room, has_place};
 use crate::commits::commit_parts;
 use crate::fails::stops;
 use crate::volumes::Volume;
-use cf_base::{Change, Code, Fail, Usn};
+use cf_base::{Change, Code, CallError, Usn};
 use cf_disk::Disk;
 
 impl<D: Disk> Volume<D> {
     /// Makes all accepted changes durable, and gives their count. Broken where an earlier call broke the volume. Device
-    /// where a call of the disk failed, whose count of faults rose; Memory where there is none; both break the volume.
+    /// where a call of the disk failed, whose count of faults rose; OutOfMemory where there is none; both break the volume.
     /// NotAVolume, which breaks it too, where the table is too long for an image, as that of no volume is.
     ///
     /// `apply` takes changes that leave items as no volume has them, such as a Take of a file that is no placeholder. What a
     /// commit writes of those is no volume either: it is done, and `open` answers NotAVolume.
-    pub fn commit(&mut self) -> Result<u64, Fail>
+    pub fn commit(&mut self) -> Result<u64, CallError>
         ensures ok { (v : model) → At (D.state self.old.disk) self.old.known v → IsKeepable v → OnOk result (At (D.state self.new.disk) self.new.known (with_sure_point v) × At (D.state self.new.disk) self.new.known (with_room_point v)) }
         ensures count { (v : model) → At (D.state self.old.disk) self.old.known v → IfOk result (λ n. n ≡ length v.log) }
         ensures why { (v : model) → At (D.state self.old.disk) self.old.known v → IsKeepable v → self.old.known.broken ≡ false → IfErr result StopsOnly }
@@ -39,7 +39,7 @@ impl<D: Disk> Volume<D> {
         ensures records { self.new.known.records ≡ self.old.known.records }
     {
         if self.parts.broken {
-            return Err(Fail::No(Code::Broken));
+            return Err(CallError::No(Code::Broken));
         }
         match commit_parts(&mut self.disk, &mut self.parts) {
             Ok(()) => Ok(self.parts.kept),
@@ -52,7 +52,7 @@ impl<D: Disk> Volume<D> {
 
     /// Adds one change, and gives its number. It is durable with the next commit. Where it needs more clusters than are
     /// free, but no more than a commit makes free, a commit comes first.
-    pub fn apply(&mut self, change: &Change) -> Result<Usn, Fail>
+    pub fn apply(&mut self, change: &Change) -> Result<Usn, CallError>
         requires fits { Fits change.now self.old.known.table.rows }
         requires next { IsNextId change.now self.old.known.table.next }
         ensures ok { (v : model) → At (D.state self.old.disk) self.old.known v → FitsBook change.now v.book → (may_need_room change.now v ≡ true → IsKeepable v) → OnOk result (Applied (D.state self.new.disk) self.new.known change.now v) }
@@ -67,10 +67,10 @@ impl<D: Disk> Volume<D> {
         ensures runs { Runs (D.state self.old.disk) (D.state self.new.disk) }
     {
         if self.parts.broken {
-            return Err(Fail::No(Code::Broken));
+            return Err(CallError::No(Code::Broken));
         }
         if !has_place(&self.parts.contents) {
-            return Err(Fail::No(Code::Exhausted));
+            return Err(CallError::No(Code::Exhausted));
         }
         match accept_with_room(&mut self.disk, &mut self.parts, change) {
             Ok(number) => Ok(number),

@@ -23,7 +23,7 @@ use crate::lengths::{is_too_long, len_of};
 use crate::making::{plan_made, put_made};
 use crate::parts::Parts;
 use crate::settling::tell_stored;
-use cf_base::{Change, Code, Fail, Usn};
+use cf_base::{Change, Code, CallError, Usn};
 use cf_disk::Disk;
 use cf_volume_image::Contents;
 use cf_table::Row;
@@ -67,7 +67,7 @@ pub(crate) fn refusal_of_new<D: Disk>(
 }
 
 // Puts the row of a new item without a byte, unless the change is refused, and gives its number.
-fn put_new<D: Disk>(disk: &D, parts: &mut Parts, row: Row) -> Result<Option<Usn>, Fail>
+fn put_new<D: Disk>(disk: &D, parts: &mut Parts, row: Row) -> Result<Option<Usn>, CallError>
     requires steady { Steady (size_of (D.state disk.now)) (known_of parts.old) }
     requires new { All (λ r. r.id.0 < row.id.0) parts.old.contents.rows.rows }
     requires next { parts.old.contents.rows.next.0 ≤ row.id.0 }
@@ -85,7 +85,7 @@ fn put_new<D: Disk>(disk: &D, parts: &mut Parts, row: Row) -> Result<Option<Usn>
 {
     let number = row.number;
     if let Some(code) = refusal_of_new(disk, parts, &row, 0) {
-        return Err(Fail::No(code));
+        return Err(CallError::No(code));
     }
     put_made(disk, parts, row)?;
     Ok(Some(number))
@@ -96,7 +96,7 @@ pub(crate) fn put_make<D: Disk>(
     disk: &D,
     parts: &mut Parts,
     change: &Change,
-) -> Result<Option<Usn>, Fail>
+) -> Result<Option<Usn>, CallError>
     requires kind { IsMake change.now }
     requires steady { Steady (size_of (D.state disk.now)) (known_of parts.old) }
     requires fits { Fits change.now parts.old.contents.rows.rows }

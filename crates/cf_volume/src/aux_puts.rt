@@ -17,7 +17,7 @@ use crate::lengths::is_too_long;
 use crate::parts::Parts;
 use crate::record_notes::{copied, note_record};
 use crate::rooms::is_full_now;
-use cf_base::{AuxRecord, Blob, Code, Fail, Memory};
+use cf_base::{AuxRecord, Blob, Code, CallError, OutOfMemory};
 use cf_disk::Disk;
 use cf_volume_image::AuxRecords;
 use std::alloc::Global;
@@ -33,7 +33,7 @@ pub(crate) fn len_at(records: &AuxRecords, key: &[u8]) -> u128
     }
 }
 
-fn record_of(alloc: Global, key: &[u8], value: &[u8]) -> Result<AuxRecord, Memory>
+fn record_of(alloc: Global, key: &[u8], value: &[u8]) -> Result<AuxRecord, OutOfMemory>
     ensures { IfOk result (λ r. r ≡ record { key = key.now; value = value.now }) }
 {
     Ok(AuxRecord {
@@ -48,7 +48,7 @@ pub(crate) fn set_record<D: Disk>(
     parts: &mut Parts,
     key: &[u8],
     value: &[u8],
-) -> Result<(), Fail>
+) -> Result<(), CallError>
     requires key { length key.now ≤ 255 }
     requires value { length value.now ≤ 65535 }
     requires steady { Steady (size_of (D.state disk.now)) (known_of parts.old) }
@@ -64,7 +64,7 @@ pub(crate) fn set_record<D: Disk>(
     let before = len_at(&parts.contents.records, key);
     let after = 3 + key.len() as u128 + value.len() as u128;
     if is_too_long(&parts.contents, before, after) {
-        return Err(Fail::No(Code::TableFull));
+        return Err(CallError::No(Code::TableFull));
     }
     let aux = record_of(parts.alloc, key, value)?;
     note_record(
@@ -79,7 +79,7 @@ pub(crate) fn set_record<D: Disk>(
 }
 
 /// Takes the auxiliary record with a key out, if there is one.
-pub(crate) fn take_record<D: Disk>(disk: &D, parts: &mut Parts, key: &[u8]) -> Result<(), Fail>
+pub(crate) fn take_record<D: Disk>(disk: &D, parts: &mut Parts, key: &[u8]) -> Result<(), CallError>
     requires key { length key.now ≤ 255 }
     requires steady { Steady (size_of (D.state disk.now)) (known_of parts.old) }
     ensures ok { (v : Volume) (b : Book) → At (D.state disk.now) (known_of parts.old) v → HasRecords v.book (without_record key.now parts.old.contents.records) b → OnOk result (At (D.state disk.now) (known_of parts.new) (record v { book = b })) }
@@ -107,7 +107,7 @@ pub(crate) fn put_aux<D: Disk>(
     parts: &mut Parts,
     key: &[u8],
     value: Option<&[u8]>,
-) -> Result<(), Fail>
+) -> Result<(), CallError>
     requires key { length key.now ≤ 255 }
     requires value { (b : List ℕ) → option_copied value ≡ Some b → length b ≤ 65535 }
     requires steady { Steady (size_of (D.state disk.now)) (known_of parts.old) }
@@ -130,7 +130,7 @@ fn put_each(
     made: &mut AuxRecords,
     records: &mut AuxRecords,
     list: &[AuxRecord],
-) -> Result<(), Memory>
+) -> Result<(), OutOfMemory>
     requires { All IsShort list.now }
     ensures records { OnOk result (records.new ≡ with_records list.now records.old) }
     ensures known { OnOk result (KnowKeys records.old then.old made.old records.new then.new made.new) }
@@ -143,7 +143,7 @@ fn put_each(
 }
 
 /// Puts auxiliary records in order, each in place of the one with its key, unless the table would be full with all of them.
-pub(crate) fn put_all<D: Disk>(disk: &D, parts: &mut Parts, list: &[AuxRecord]) -> Result<(), Fail>
+pub(crate) fn put_all<D: Disk>(disk: &D, parts: &mut Parts, list: &[AuxRecord]) -> Result<(), CallError>
     requires short { All IsShort list.now }
     requires steady { Steady (size_of (D.state disk.now)) (known_of parts.old) }
     ensures ok { (v : Volume) (b : Book) → At (D.state disk.now) (known_of parts.old) v → HasRecords v.book (with_records list.now parts.old.contents.records) b → OnOk result (At (D.state disk.now) (known_of parts.new) (record v { book = b })) }
@@ -153,7 +153,7 @@ pub(crate) fn put_all<D: Disk>(disk: &D, parts: &mut Parts, list: &[AuxRecord]) 
     ensures broken { parts.new.broken ≡ parts.old.broken }
 {
     if is_full_now(disk, parts, list)? {
-        return Err(Fail::No(Code::TableFull));
+        return Err(CallError::No(Code::TableFull));
     }
     put_each(
         parts.alloc,

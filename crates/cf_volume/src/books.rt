@@ -13,13 +13,13 @@ ghost use Rattle.cf_volume.specs.Calls.{Breaks, HasRecords, IfBroken, IsMemory, 
 use crate::aux_puts::{put_all, put_aux};
 use crate::noting::{anchor_row, touch_row};
 use crate::volumes::Volume;
-use cf_base::{AuxRecord, Code, Fail, ItemId};
+use cf_base::{AuxRecord, Code, CallError, ItemId};
 use cf_disk::Disk;
 
 impl<D: Disk> Volume<D> {
-    /// Makes the anchor of an item its number. It is durable with the next commit. Memory where there is none; the disk is
+    /// Makes the anchor of an item its number. It is durable with the next commit. OutOfMemory where there is none; the disk is
     /// not called.
-    pub fn anchor(&mut self, id: ItemId) -> Result<(), Fail>
+    pub fn anchor(&mut self, id: ItemId) -> Result<(), CallError>
         requires there { row_of self.old.known.table.rows id ≡ None → ⊥ }
         ensures ok { (v : model) (i : Item) → At (D.state self.old.disk) self.old.known v → item_of v.items id ≡ Some i → OnOk result (At (D.state self.new.disk) self.new.known (record v { book = with_anchor id i.number v.book })) }
         ensures only { self.old.known.broken ≡ false → IfErr result IsMemory }
@@ -29,20 +29,20 @@ impl<D: Disk> Volume<D> {
         ensures usable { OnOk result (self.new.known.broken ≡ false) }
     {
         if self.parts.broken {
-            return Err(Fail::No(Code::Broken));
+            return Err(CallError::No(Code::Broken));
         }
         match anchor_row(&mut self.parts, id) {
             Ok(()) => Ok(()),
             Err(_) => {
                 self.parts.broken = true;
-                Err(Fail::Memory)
+                Err(CallError::OutOfMemory)
             }
         }
     }
 
-    /// Makes the clock that of the last access of a file. It is durable with the next commit. Memory where there is none; the
+    /// Makes the clock that of the last access of a file. It is durable with the next commit. OutOfMemory where there is none; the
     /// disk is not called.
-    pub fn touch(&mut self, id: ItemId) -> Result<(), Fail>
+    pub fn touch(&mut self, id: ItemId) -> Result<(), CallError>
         requires there { row_of self.old.known.table.rows id ≡ None → ⊥ }
         ensures ok { (v : model) → At (D.state self.old.disk) self.old.known v → OnOk result (At (D.state self.new.disk) self.new.known (record v { book = with_access id v.book })) }
         ensures only { self.old.known.broken ≡ false → IfErr result IsMemory }
@@ -52,19 +52,19 @@ impl<D: Disk> Volume<D> {
         ensures usable { OnOk result (self.new.known.broken ≡ false) }
     {
         if self.parts.broken {
-            return Err(Fail::No(Code::Broken));
+            return Err(CallError::No(Code::Broken));
         }
         match touch_row(&mut self.parts, id) {
             Ok(()) => Ok(()),
             Err(_) => {
                 self.parts.broken = true;
-                Err(Fail::Memory)
+                Err(CallError::OutOfMemory)
             }
         }
     }
 
     /// Lets so many ticks of the clock pass, up to 2 ^ 64 - 1. It is durable with the next commit. Only Broken is answered.
-    pub fn pass(&mut self, ticks: u64) -> Result<(), Fail>
+    pub fn pass(&mut self, ticks: u64) -> Result<(), CallError>
         ensures ok { (v : model) → At (D.state self.old.disk) self.old.known v → OnOk result (At (D.state self.new.disk) self.new.known (record v { book = with_ticks ticks v.book })) }
         ensures only { self.old.known.broken ≡ false → IfErr result (λ e. ⊥) }
         ensures disk { self.new.disk ≡ self.old.disk }
@@ -73,7 +73,7 @@ impl<D: Disk> Volume<D> {
         ensures usable { OnOk result (self.new.known.broken ≡ false) }
     {
         if self.parts.broken {
-            return Err(Fail::No(Code::Broken));
+            return Err(CallError::No(Code::Broken));
         }
         self.parts.contents.clock = self.parts.contents.clock.saturating_add(ticks);
         Ok(())
@@ -81,7 +81,7 @@ impl<D: Disk> Volume<D> {
 
     /// Puts an auxiliary record in place of the one with its key, or takes the one with the key out where there is no
     /// value. It is durable with the next commit.
-    pub fn aux_put(&mut self, key: &[u8], value: Option<&[u8]>) -> Result<(), Fail>
+    pub fn aux_put(&mut self, key: &[u8], value: Option<&[u8]>) -> Result<(), CallError>
         requires key { length key.now ≤ 255 }
         requires value { (b : List ℕ) → option_copied value ≡ Some b → length b ≤ 65535 }
         ensures ok { (v : model) (b : Book) → At (D.state self.old.disk) self.old.known v → HasRecords v.book (put_record key.now (option_copied value.entry) self.old.known.records) b → OnOk result (At (D.state self.new.disk) self.new.known (record v { book = b })) }
@@ -92,21 +92,21 @@ impl<D: Disk> Volume<D> {
         ensures usable { OnOk result (self.new.known.broken ≡ false) }
     {
         if self.parts.broken {
-            return Err(Fail::No(Code::Broken));
+            return Err(CallError::No(Code::Broken));
         }
         match put_aux(&self.disk, &mut self.parts, key, value) {
             Ok(()) => Ok(()),
-            Err(Fail::Memory) => {
+            Err(CallError::OutOfMemory) => {
                 self.parts.broken = true;
-                Err(Fail::Memory)
+                Err(CallError::OutOfMemory)
             }
-            Err(Fail::No(code)) => Err(Fail::No(code)),
+            Err(CallError::No(code)) => Err(CallError::No(code)),
         }
     }
 
     /// Puts auxiliary records in order, each in place of the one with its key. TableFull where the table would be full with all
     /// of them; then none is put. Keys have at most 255 bytes and values at most 65,535. They are durable with the next commit.
-    pub fn aux_put_all(&mut self, records: &[AuxRecord]) -> Result<(), Fail>
+    pub fn aux_put_all(&mut self, records: &[AuxRecord]) -> Result<(), CallError>
         requires short { All IsShort records.now }
         ensures ok { (v : model) (b : Book) → At (D.state self.old.disk) self.old.known v → HasRecords v.book (with_records records.now self.old.known.records) b → OnOk result (At (D.state self.new.disk) self.new.known (record v { book = b })) }
         ensures why { (v : model) (b : Book) → At (D.state self.old.disk) self.old.known v → HasRecords v.book (with_records records.now self.old.known.records) b → self.old.known.broken ≡ false → WhyAux v b self.old result self.new }
@@ -116,15 +116,15 @@ impl<D: Disk> Volume<D> {
         ensures usable { OnOk result (self.new.known.broken ≡ false) }
     {
         if self.parts.broken {
-            return Err(Fail::No(Code::Broken));
+            return Err(CallError::No(Code::Broken));
         }
         match put_all(&self.disk, &mut self.parts, records) {
             Ok(()) => Ok(()),
-            Err(Fail::Memory) => {
+            Err(CallError::OutOfMemory) => {
                 self.parts.broken = true;
-                Err(Fail::Memory)
+                Err(CallError::OutOfMemory)
             }
-            Err(Fail::No(code)) => Err(Fail::No(code)),
+            Err(CallError::No(code)) => Err(CallError::No(code)),
         }
     }
 }

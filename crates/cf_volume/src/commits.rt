@@ -14,7 +14,7 @@ ghost use Rattle.cf_volume.specs.Steady.{Steady, known_of};
 use crate::fails::fail_of;
 use crate::parts::Parts;
 use crate::writable::can_be_written;
-use cf_base::{Code, Fail, ItemId, Memory};
+use cf_base::{Code, CallError, ItemId, OutOfMemory};
 use cf_volume_commit::{Earlier, save};
 use cf_disk::Disk;
 use cf_volume_image::AuxRecords;
@@ -25,7 +25,7 @@ use std::alloc::Global;
 const ROOT: ItemId = ItemId(1);
 
 /// A table without a row.
-pub(crate) fn no_rows(alloc: Global) -> Result<Rows, Memory>
+pub(crate) fn no_rows(alloc: Global) -> Result<Rows, OutOfMemory>
     ensures { IfOk result (λ t. t.rows ≡ []) }
 {
     let mut rows = Rows::new(alloc)?;
@@ -34,7 +34,7 @@ pub(crate) fn no_rows(alloc: Global) -> Result<Rows, Memory>
 }
 
 /// What is noted where nothing has changed since the last point. `next` is the id that the next item gets.
-pub(crate) fn nothing_noted(alloc: Global, next: ItemId) -> Result<Earlier, Memory>
+pub(crate) fn nothing_noted(alloc: Global, next: ItemId) -> Result<Earlier, OutOfMemory>
     ensures { IfOk result (NotesNothing next) }
 {
     Ok(Earlier {
@@ -46,7 +46,7 @@ pub(crate) fn nothing_noted(alloc: Global, next: ItemId) -> Result<Earlier, Memo
 }
 
 /// Makes all that the volume says durable, which is the last point then. NotAVolume where it cannot be written.
-pub(crate) fn commit_parts<D: Disk>(disk: &mut D, parts: &mut Parts) -> Result<(), Fail>
+pub(crate) fn commit_parts<D: Disk>(disk: &mut D, parts: &mut Parts) -> Result<(), CallError>
     requires steady { Steady (size_of (D.state disk.old)) (known_of parts.old) }
     ensures sure { (v : Volume) → At (D.state disk.old) (known_of parts.old) v → IsKeepable v → OnOk result (At (D.state disk.new) (known_of parts.new) (with_sure_point v)) }
     ensures room { (v : Volume) → At (D.state disk.old) (known_of parts.old) v → IsKeepable v → OnOk result (At (D.state disk.new) (known_of parts.new) (with_room_point v)) }
@@ -61,7 +61,7 @@ pub(crate) fn commit_parts<D: Disk>(disk: &mut D, parts: &mut Parts) -> Result<(
 {
     let _ = parts.contents.rows.image_len();
     if !can_be_written(&parts.contents) {
-        return Err(Fail::No(Code::NotAVolume));
+        return Err(CallError::No(Code::NotAVolume));
     }
     let then = nothing_noted(parts.alloc, parts.contents.rows.next())?;
     match save(

@@ -27,7 +27,7 @@ use crate::copying::copy_item;
 use crate::fails::fail_of;
 use crate::making::plan_copied;
 use crate::parts::Parts;
-use cf_base::{Change, Fail, ItemId, Usn};
+use cf_base::{Change, CallError, ItemId, Usn};
 use cf_disk::Disk;
 use cf_volume_points::Stop;
 use cf_table::{Row, Rows};
@@ -78,7 +78,7 @@ fn put_judged<D: Disk>(
     parts: &mut Parts,
     from: ItemId,
     row: Row,
-) -> Result<Option<Usn>, Fail>
+) -> Result<Option<Usn>, CallError>
     requires steady { Steady (size_of (D.state disk.old)) (known_of parts.old) }
     requires there { row_of parts.old.contents.rows.rows from ≡ None → ⊥ }
     requires new { All (λ r. r.id.0 < row.id.0) parts.old.contents.rows.rows }
@@ -100,7 +100,7 @@ fn put_judged<D: Disk>(
     let number = row.number;
     let blocks = block_count(&parts.contents.rows, from);
     if let Some(code) = refusal_of_new(disk, parts, &row, blocks) {
-        return Err(Fail::No(code));
+        return Err(CallError::No(code));
     }
     if (parts.held.free() as usize) < blocks {
         return Ok(None);
@@ -117,7 +117,7 @@ pub(crate) fn put_copy<D: Disk>(
     disk: &mut D,
     parts: &mut Parts,
     change: &Change,
-) -> Result<Option<Usn>, Fail>
+) -> Result<Option<Usn>, CallError>
     requires kind { IsCopy change.now }
     requires steady { Steady (size_of (D.state disk.old)) (known_of parts.old) }
     requires fits { Fits change.now parts.old.contents.rows.rows }

@@ -1,7 +1,7 @@
 //! Removals, put.
 
 ghost use Rattle.std.specs.Prelude.{◌≡◌, ◌≤◌, ◌<◌, ◌+◌, ◌^◌, ◌∷◌, [], None, Some, length, IfErr, IfOk, OnOk};
-ghost use Rattle.cf_base.specs.declared.codes.Fail.TheVariants as fail;
+ghost use Rattle.cf_base.specs.declared.codes.CallError.TheVariants as fail;
 ghost use Rattle.cf_disk.specs.Disk.{size_of};
 ghost use Rattle.cf_model.specs.Changes.{why_no_room};
 ghost use Rattle.cf_model.specs.Numbers.{usn_after};
@@ -17,12 +17,12 @@ use crate::noting::note_row;
 use crate::parts::Parts;
 use crate::record_notes::note_record;
 use crate::removing::remove_item;
-use cf_base::{Blob, Change, Fail, ItemId, Memory, Usn};
+use cf_base::{Blob, Change, CallError, ItemId, OutOfMemory, Usn};
 use cf_disk::Disk;
 use std::alloc::Global;
 
 /// The key of the record of an item's path seen.
-pub(crate) fn seen_key(alloc: Global, id: ItemId) -> Result<Blob, Memory>
+pub(crate) fn seen_key(alloc: Global, id: ItemId) -> Result<Blob, OutOfMemory>
     ensures key { IfOk result (λ key. key ≡ seen_key id) }
     ensures short { IfOk result (λ key. length key ≤ 255) }
     ensures low { id.0 < 2 ^ 64 }
@@ -38,7 +38,7 @@ pub(crate) fn put_remove<D: Disk>(
     disk: &D,
     parts: &mut Parts,
     change: &Change,
-) -> Result<Option<Usn>, Fail>
+) -> Result<Option<Usn>, CallError>
     requires kind { IsRemove change.now }
     requires steady { Steady (size_of (D.state disk.now)) (known_of parts.old) }
     requires place { parts.old.contents.last.place < 4294967295 }
@@ -46,7 +46,7 @@ pub(crate) fn put_remove<D: Disk>(
     ensures put { (v : Volume) → At (D.state disk.now) (known_of parts.old) v → FitsBook change.now v.book → IsPut change.now v (D.state disk.now) (D.state disk.now) (known_of parts.new) result }
     ensures why { (v : Volume) → At (D.state disk.now) (known_of parts.old) v → why_no_room (change.now ∷ []) v ≡ None }
     ensures number { IfOk result (λ n. n ≡ Some (usn_after parts.old.contents.last.epoch parts.old.contents.last.place)) }
-    ensures only { IfErr result (λ e. e ≡ fail.Memory) }
+    ensures only { IfErr result (λ e. e ≡ fail.OutOfMemory) }
     ensures kept { IsKept disk.now (known_of parts.old) result disk.now (known_of parts.new) }
     ensures steady { OnOk result (Steady (size_of (D.state disk.now)) (known_of parts.new)) }
     ensures broken { parts.new.broken ≡ parts.old.broken }

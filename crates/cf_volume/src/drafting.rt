@@ -20,7 +20,7 @@ use crate::fitting::{MOST_SIZE, fits_row, is_later, is_spellable};
 use crate::kinds::item_of;
 use crate::making::place_of;
 use crate::settling::plan_item;
-use cf_base::{Change, ItemId, Memory, Pin, Usn};
+use cf_base::{Change, ItemId, OutOfMemory, Pin, Usn};
 use cf_volume_image::Contents;
 use cf_table::Row;
 use std::alloc::Global;
@@ -68,7 +68,7 @@ fn draft_stay(
     contents: &Contents,
     change: &Change,
     number: Usn,
-) -> Result<Option<u128>, Memory>
+) -> Result<Option<u128>, OutOfMemory>
     requires kind { stays change.now ≡ true }
     ensures { (w : Volume) → DraftsNext contents.now change.now number draft.old draft.new w result }
 {
@@ -108,7 +108,7 @@ fn leave_record_out(
     draft: &mut Draft,
     contents: &Contents,
     id: ItemId,
-) -> Result<(), Memory>
+) -> Result<(), OutOfMemory>
     ensures same { (draft.new.changed ≡ draft.old.changed) × (draft.new.gone ≡ draft.old.gone) × (draft.new.more ≡ draft.old.more) }
     ensures less { OnOk result (draft.new.less ≡ added draft.old.less (record_sizes draft.old.gone.items contents.now.records id)) }
     ensures low { id.0 < 2 ^ 64 }
@@ -133,7 +133,7 @@ fn draft_remove(
     contents: &Contents,
     change: &Change,
     number: Usn,
-) -> Result<Option<u128>, Memory>
+) -> Result<Option<u128>, OutOfMemory>
     requires kind { IsRemove change.now }
     ensures { (w : Volume) → DraftsNext contents.now change.now number draft.old draft.new w result }
 {
@@ -154,7 +154,7 @@ fn draft_make(
     contents: &Contents,
     change: &Change,
     number: Usn,
-) -> Result<Option<u128>, Memory>
+) -> Result<Option<u128>, OutOfMemory>
     requires kind { IsMake change.now }
     requires after { above number no_usn ≡ true }
     ensures { (w : Volume) → DraftsNext contents.now change.now number draft.old draft.new w result }
@@ -199,7 +199,7 @@ fn draft_copy(
     contents: &Contents,
     change: &Change,
     number: Usn,
-) -> Result<Option<u128>, Memory>
+) -> Result<Option<u128>, OutOfMemory>
     requires kind { IsCopy change.now }
     ensures { (w : Volume) → DraftsNext contents.now change.now number draft.old draft.new w result }
 {
@@ -237,7 +237,7 @@ pub(crate) fn draft_change(
     contents: &Contents,
     change: &Change,
     number: Usn,
-) -> Result<Option<u128>, Memory>
+) -> Result<Option<u128>, OutOfMemory>
     requires after { above number no_usn ≡ true }
     ensures { (w : Volume) → DraftsNext contents.now change.now number draft.old draft.new w result }
 {

@@ -12,14 +12,14 @@ ghost use Rattle.cf_volume.specs.Drafts.{added, is_gone, pin_in, row_in, row_siz
 use crate::commits::no_rows;
 use crate::lengths::len_of;
 use crate::settling::tell_stored;
-use cf_base::{ItemId, Memory, Pin};
+use cf_base::{ItemId, OutOfMemory, Pin};
 use cf_clusters::Data;
 use cf_volume_image::Contents;
 use cf_table::{Row, Rows};
 use std::alloc::Global;
 
 /// Bytes in the image, items, and blocks that hold a byte.
-#[derive(Clone, Copy, Debug)]
+#[derive(Clone, Copy)]
 pub(crate) struct Sizes {
     pub(crate) bytes: u128,
     pub(crate) items: u128,
@@ -39,16 +39,16 @@ pub(crate) struct Draft {
 }
 
 /// A sum, for which there is no memory where it is not below 2 ^ 128.
-pub(crate) fn sum(a: u128, b: u128) -> Result<u128, Memory>
+pub(crate) fn sum(a: u128, b: u128) -> Result<u128, OutOfMemory>
     ensures { IfOk result (λ n. n ≡ a + b) }
 {
     match a.checked_add(b) {
         Some(n) => Ok(n),
-        None => Err(Memory),
+        None => Err(OutOfMemory),
     }
 }
 
-fn sum_sizes(a: Sizes, b: Sizes) -> Result<Sizes, Memory>
+fn sum_sizes(a: Sizes, b: Sizes) -> Result<Sizes, OutOfMemory>
     ensures { IfOk result (λ s. s ≡ added a b) }
 {
     Ok(Sizes {
@@ -70,7 +70,7 @@ pub(crate) fn sizes_of(row: &Row) -> Sizes
 }
 
 /// The draft of no change.
-pub(crate) fn draft_of(alloc: Global, contents: &Contents, held: &Data) -> Result<Draft, Memory>
+pub(crate) fn draft_of(alloc: Global, contents: &Contents, held: &Data) -> Result<Draft, OutOfMemory>
     ensures changed { IfOk result (λ d. d.changed.rows ≡ []) }
     ensures gone { IfOk result (λ d. d.gone.items ≡ []) }
     ensures more { IfOk result (λ d. d.more ≡ record { bytes = min (length (spell_image (image_of contents.now))) 18446744073709551615; items = length contents.now.rows.rows; blocks = how_many is_now held.now }) }
@@ -139,7 +139,7 @@ pub(crate) fn pin_in(draft: &Draft, contents: &Contents, id: ItemId) -> Pin
 }
 
 /// Puts a row that would be new, or stand in place of the one with its id.
-pub(crate) fn draft_row(draft: &mut Draft, row: Row) -> Result<(), Memory>
+pub(crate) fn draft_row(draft: &mut Draft, row: Row) -> Result<(), OutOfMemory>
     requires { IsSpellable row }
     ensures rises { RisesFrom 0 draft.old.changed.rows }
     ensures stored { IsStored row }
@@ -156,7 +156,7 @@ pub(crate) fn draft_row(draft: &mut Draft, row: Row) -> Result<(), Memory>
 }
 
 /// Leaves something out.
-pub(crate) fn leave_out(draft: &mut Draft, sizes: Sizes) -> Result<(), Memory>
+pub(crate) fn leave_out(draft: &mut Draft, sizes: Sizes) -> Result<(), OutOfMemory>
     ensures same { (draft.new.changed ≡ draft.old.changed) × (draft.new.gone ≡ draft.old.gone) × (draft.new.more ≡ draft.old.more) }
     ensures less { OnOk result (draft.new.less ≡ added draft.old.less sizes) }
 {
@@ -165,7 +165,7 @@ pub(crate) fn leave_out(draft: &mut Draft, sizes: Sizes) -> Result<(), Memory>
 }
 
 /// Removes an item, whose sizes are left out already.
-pub(crate) fn remove_row(draft: &mut Draft, id: ItemId) -> Result<(), Memory>
+pub(crate) fn remove_row(draft: &mut Draft, id: ItemId) -> Result<(), OutOfMemory>
     ensures changed { OnOk result (draft.new.changed.rows ≡ without_row id draft.old.changed.rows) }
     ensures gone { OnOk result (draft.new.gone.items ≡ draft.old.gone.items ++ id ∷ []) }
     ensures sizes { (draft.new.more ≡ draft.old.more) × (draft.new.less ≡ draft.old.less) }

@@ -7,13 +7,13 @@ ghost use Rattle.cf_volume_points.specs.Staging.{Drops, DropsGone, DropsOne};
 ghost use Rattle.cf_ranges.specs.Pairs.{cluster_at};
 ghost use Rattle.cf_ranges.specs.Positions.{touches};
 
-use cf_base::Memory;
+use cf_base::OutOfMemory;
 use cf_clusters::Data;
 use cf_ranges::{ExtentMap, RangeSet};
 use std::alloc::Global;
 
 // The blocks of extents that have no place of the set.
-fn gone_blocks(alloc: Global, here: &RangeSet, pairs: &[(u32, u32)]) -> Result<Vec<u32>, Memory>
+fn gone_blocks(alloc: Global, here: &RangeSet, pairs: &[(u32, u32)]) -> Result<Vec<u32>, OutOfMemory>
     ensures { IfOk result (λ v. v.items ≡ filter (λ b. not (touches here.now b)) (map (λ (e : ℕ × ℕ). e.0) pairs.now)) }
 {
     let mut gone = Vec::new(alloc);
@@ -62,7 +62,7 @@ pub(crate) fn drop_gone(
     held: &mut Data,
     here: &RangeSet,
     extents: &mut ExtentMap,
-) -> Result<(), Memory>
+) -> Result<(), OutOfMemory>
     requires { (b k : ℕ) → cluster_at extents.old b ≡ Some k → k < length held.old }
     ensures { OnOk result (DropsGone here.now held.old held.new extents.old extents.new) }
 {

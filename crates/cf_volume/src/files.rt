@@ -11,12 +11,12 @@ ghost use Rattle.cf_volume.specs.Calls.{Breaks, IfBroken, IsCause, IsHere, Runs,
 use crate::fails::fail_of;
 use crate::reading::read_item;
 use crate::volumes::Volume;
-use cf_base::{Blob, Code, Fail, ItemId, Span};
+use cf_base::{Blob, Code, CallError, ItemId, Span};
 use cf_disk::Disk;
 
 impl<D: Disk> Volume<D> {
     /// The bytes of a span of a file, all of which are here.
-    pub fn bytes(&mut self, id: ItemId, span: Span) -> Result<Blob, Fail>
+    pub fn bytes(&mut self, id: ItemId, span: Span) -> Result<Blob, CallError>
         requires end { span.start + span.len ≤ 2 ^ 40 }
         requires here { IsHere (row_of self.old.known.table.rows id) span.start (span.start + span.len) }
         ensures bytes { (v : model) (i : Item) → At (D.state self.old.disk) self.old.known v → item_of v.items id ≡ Some i → IfOk result (λ b. map Some b ≡ slice_range i.held span.start (span.start + span.len)) }
@@ -31,7 +31,7 @@ impl<D: Disk> Volume<D> {
         ensures runs { Runs (D.state self.old.disk) (D.state self.new.disk) }
     {
         if self.parts.broken {
-            return Err(Fail::No(Code::Broken));
+            return Err(CallError::No(Code::Broken));
         }
         match read_item(
             self.parts.alloc,

@@ -18,7 +18,7 @@ use crate::kinds::{item_of, pin_for};
 use crate::lengths::{is_too_long, len_of};
 use crate::parts::Parts;
 use crate::settling::{Planned, plan_item};
-use cf_base::{Change, Code, Memory, Usn};
+use cf_base::{Change, Code, OutOfMemory, Usn};
 use cf_clusters::Data;
 use cf_disk::Disk;
 use cf_volume_image::Contents;
@@ -31,7 +31,7 @@ pub(crate) fn plan_change(
     rows: &Rows,
     change: &Change,
     number: Usn,
-) -> Result<Planned, Memory>
+) -> Result<Planned, OutOfMemory>
     requires kind { stays change.now ≡ true }
     requires there { row_of rows.now.rows (item_of_change change.now) ≡ None → ⊥ }
     requires fits { Fits change.now rows.now.rows }

@@ -21,7 +21,7 @@ ghost use Rattle.cf_volume.specs.Steady.{Steady, known_of};
 use crate::kinds::pin_of;
 use crate::parts::Parts;
 use crate::writable::put_row;
-use cf_base::{Blob, Identity, ItemId, Kind, Memory, Name, Pin, Usn};
+use cf_base::{Blob, Identity, ItemId, Kind, OutOfMemory, Name, Pin, Usn};
 use cf_disk::Disk;
 use cf_table::{Place, Row, Rows};
 use std::alloc::Global;
@@ -34,7 +34,7 @@ pub(crate) fn place_of(
     name: &Name,
     pin: Pin,
     number: Usn,
-) -> Result<Place, Memory>
+) -> Result<Place, OutOfMemory>
     ensures { IfOk result (λ p. p ≡ record { id = item; parent = parent; name = name.now; pin = pin; number = number }) }
 {
     Ok(Place {
@@ -57,7 +57,7 @@ pub(crate) fn plan_made(
     size: u64,
     identity: &Identity,
     number: Usn,
-) -> Result<Row, Memory>
+) -> Result<Row, OutOfMemory>
     requires size { size ≤ 16777216 }
     requires after { above number no_usn ≡ true }
     ensures means { IfOk result (λ r. Means r (made item parent name.now kind size identity.now (pin_at rows.now.rows parent) number)) }
@@ -76,7 +76,7 @@ pub(crate) fn plan_copied(
     parent: ItemId,
     name: &Name,
     number: Usn,
-) -> Result<Row, Memory>
+) -> Result<Row, OutOfMemory>
     requires source { MatchOption (row_of rows.now.rows from) ⊥ (λ r. 8 ≤ length r.identity) }
     requires name { length name.now ≤ 255 }
     requires later { IsNext number rows.now.rows }
@@ -95,7 +95,7 @@ pub(crate) fn plan_copied(
 }
 
 /// Puts the row of a new item without a byte, whose id is that of the next item or a later one.
-pub(crate) fn put_made<D: Disk>(disk: &D, parts: &mut Parts, row: Row) -> Result<(), Memory>
+pub(crate) fn put_made<D: Disk>(disk: &D, parts: &mut Parts, row: Row) -> Result<(), OutOfMemory>
     requires steady { Steady (size_of (D.state disk.now)) (known_of parts.old) }
     requires new { All (λ r. r.id.0 < row.id.0) parts.old.contents.rows.rows }
     requires next { parts.old.contents.rows.next.0 ≤ row.id.0 }

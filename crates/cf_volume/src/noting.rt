@@ -7,11 +7,11 @@ ghost use Rattle.cf_volume.specs.Notes.{Notes, SetsNoted};
 ghost use Rattle.cf_volume.specs.Steady.{known_of};
 
 use crate::parts::Parts;
-use cf_base::{ItemId, Memory};
+use cf_base::{ItemId, OutOfMemory};
 use cf_table::{Row, Rows};
 
 // A row of a table, on its own.
-fn copy_row(rows: &Rows, row: &Row) -> Result<Row, Memory>
+fn copy_row(rows: &Rows, row: &Row) -> Result<Row, OutOfMemory>
     requires { row_of rows.now.rows row.now.id ≡ Some row.now }
     ensures same { IfOk result (λ r. r ≡ row.now) }
     ensures spellable { IsSpellable row.now }
@@ -33,7 +33,7 @@ pub(crate) fn note_row(
     next: ItemId,
     rows: &Rows,
     id: ItemId,
-) -> Result<(), Memory>
+) -> Result<(), OutOfMemory>
     ensures ok { OnOk result (Notes id next rows.now.rows before.old.rows before.new.rows) }
     ensures err { OnErr result (before.new ≡ before.old) }
 {
@@ -51,7 +51,7 @@ pub(crate) fn note_row(
 }
 
 /// Makes the anchor of an item that is there its number.
-pub(crate) fn anchor_row(parts: &mut Parts, id: ItemId) -> Result<(), Memory>
+pub(crate) fn anchor_row(parts: &mut Parts, id: ItemId) -> Result<(), OutOfMemory>
     requires there { row_of parts.old.contents.rows.rows id ≡ None → ⊥ }
     ensures { OnOk result (SetsNoted SetsAnchor id (known_of parts.old) (known_of parts.new)) }
 {
@@ -67,7 +67,7 @@ pub(crate) fn anchor_row(parts: &mut Parts, id: ItemId) -> Result<(), Memory>
 }
 
 /// Makes the clock that of the last access of an item that is there.
-pub(crate) fn touch_row(parts: &mut Parts, id: ItemId) -> Result<(), Memory>
+pub(crate) fn touch_row(parts: &mut Parts, id: ItemId) -> Result<(), OutOfMemory>
     requires there { row_of parts.old.contents.rows.rows id ≡ None → ⊥ }
     ensures { OnOk result (SetsNoted (Touches parts.old.contents.clock) id (known_of parts.old) (known_of parts.new)) }
 {

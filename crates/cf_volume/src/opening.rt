@@ -24,7 +24,7 @@ use crate::commits::nothing_noted;
 use crate::fails::fail_of;
 use crate::parts::Parts;
 use crate::volumes::Volume;
-use cf_base::{Fail, ItemId};
+use cf_base::{CallError, ItemId};
 use cf_volume_commit::{Earlier, Parts as Opened, create, load};
 use cf_disk::Disk;
 use std::alloc::Global;
@@ -48,7 +48,7 @@ fn parts_of(alloc: Global, mut then: Earlier, opened: Opened) -> Parts
 }
 
 // What may be out of memory comes before the disk.
-fn create_parts<D: Disk>(alloc: Global, disk: &mut D) -> Result<Parts, Fail>
+fn create_parts<D: Disk>(alloc: Global, disk: &mut D) -> Result<Parts, CallError>
     requires { IsFitSize (size_of (D.state disk.old)) }
     ensures ok { IfOk result (λ p. At (D.state disk.new) (known_of p) (new_volume (clusters_on (D.state disk.old).seen))) }
     ensures steady { IfOk result (λ p. Steady (size_of (D.state disk.new)) (known_of p)) }
@@ -64,7 +64,7 @@ fn create_parts<D: Disk>(alloc: Global, disk: &mut D) -> Result<Parts, Fail>
     }
 }
 
-fn load_parts<D: Disk>(alloc: Global, disk: &mut D) -> Result<Parts, Fail>
+fn load_parts<D: Disk>(alloc: Global, disk: &mut D) -> Result<Parts, CallError>
     requires { IsFitSize (size_of (D.state disk.old)) }
     ensures ok { (epoch : ℕ) (log : List (Usn × Change)) (b : Book) → Standing epoch (D.state disk.old).seen log b → IfOk result (λ p. At (D.state disk.new) (known_of p) (opened (epoch + 1) log b (clusters_on (D.state disk.old).seen))) }
     ensures found { IfOk result (λ p. (i : Image) × HoldsImage (D.state disk.old).seen i × (i.header.last.epoch < most) × IsOpenedFrom i (known_of p)) }
@@ -88,7 +88,7 @@ fn load_parts<D: Disk>(alloc: Global, disk: &mut D) -> Result<Parts, Fail>
 
 impl<D: Disk> Volume<D> {
     /// Makes a volume on a disk of a fit size, whatever that held, and opens it: its first epoch is 1.
-    pub fn format(alloc: Global, mut disk: D) -> Result<Volume<D>, (D, Fail)>
+    pub fn format(alloc: Global, mut disk: D) -> Result<Volume<D>, (D, CallError)>
         requires { IsFitSize (size_of (D.state disk)) }
         ensures ok { IfOk result (λ w. At (D.state w.disk) w.known (new_volume (clusters_on (D.state disk).seen))) }
         ensures usable { IfOk result (λ w. w.known.broken ≡ false) }
@@ -105,11 +105,11 @@ impl<D: Disk> Volume<D> {
 
     /// Opens the volume on a disk of a fit size: what the image that the disk holds tells, in the next epoch. NotAVolume
     /// exactly where the disk holds no image of a volume, and Exhausted exactly where it holds one of the last epoch; then
-    /// nothing is written. Device where a call of the disk failed, whose count of faults rose. Memory where there is none.
+    /// nothing is written. Device where a call of the disk failed, whose count of faults rose. OutOfMemory where there is none.
     ///
     /// A crash at any moment leaves what it might have left before, or the same changes and book, with the epoch as it was
     /// or raised.
-    pub fn open(alloc: Global, mut disk: D) -> Result<Volume<D>, (D, Fail)>
+    pub fn open(alloc: Global, mut disk: D) -> Result<Volume<D>, (D, CallError)>
         requires { IsFitSize (size_of (D.state disk)) }
         ensures ok { (epoch : ℕ) (log : List (Usn × Change)) (b : Book) → Standing epoch (D.state disk).seen log b → IfOk result (λ w. At (D.state w.disk) w.known (opened (epoch + 1) log b (clusters_on (D.state disk).seen))) }
         ensures found { IfOk result (λ w. (i : Image) × HoldsImage (D.state disk).seen i × (i.header.last.epoch < most) × IsOpenedFrom i w.known) }

@@ -5,7 +5,7 @@ ghost use Rattle.cf_volume_image.specs.Contents.{record_at};
 ghost use Rattle.cf_volume_image.specs.RecordLists.{IsShort};
 ghost use Rattle.cf_volume.specs.Notes.{NotesKey};
 
-use cf_base::{AuxRecord, Memory};
+use cf_base::{AuxRecord, OutOfMemory};
 use cf_volume_commit::bare;
 use cf_volume_image::AuxRecords;
 use std::alloc::Global;
@@ -17,7 +17,7 @@ fn has(records: &AuxRecords, key: &[u8]) -> bool
 }
 
 /// A record, on its own.
-pub(crate) fn copied(aux: &AuxRecord) -> Result<AuxRecord, Memory>
+pub(crate) fn copied(aux: &AuxRecord) -> Result<AuxRecord, OutOfMemory>
     ensures { IfOk result (λ r. r ≡ aux.now) }
 {
     Ok(AuxRecord {
@@ -27,7 +27,7 @@ pub(crate) fn copied(aux: &AuxRecord) -> Result<AuxRecord, Memory>
 }
 
 // One of the records, on its own.
-fn copy_record(records: &AuxRecords, record: &AuxRecord) -> Result<AuxRecord, Memory>
+fn copy_record(records: &AuxRecords, record: &AuxRecord) -> Result<AuxRecord, OutOfMemory>
     requires { record_at records.now record.now.key ≡ Some record.now }
     ensures same { IfOk result (λ r. r ≡ record.now) }
     ensures short { IsShort record.now }
@@ -43,7 +43,7 @@ pub(crate) fn note_record(
     made: &mut AuxRecords,
     records: &AuxRecords,
     key: &[u8],
-) -> Result<(), Memory>
+) -> Result<(), OutOfMemory>
     requires { length key.now ≤ 255 }
     ensures { OnOk result (NotesKey key.now records.now before.old before.new made.old made.new) }
 {

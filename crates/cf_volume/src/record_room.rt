@@ -19,7 +19,7 @@ use crate::departures::seen_key;
 use crate::drafts::{Draft, Sizes, sum};
 use crate::record_notes::copied;
 use crate::tallies::is_long;
-use cf_base::{AuxRecord, ItemId, Memory};
+use cf_base::{AuxRecord, ItemId, OutOfMemory};
 use cf_volume_commit::bare;
 use cf_volume_image::{AuxRecords, Contents};
 use std::alloc::Global;
@@ -66,7 +66,7 @@ fn len_of(aux: &AuxRecord) -> u128
 }
 
 // The keys of the records that items take away which would be removed.
-fn keys_taken(alloc: Global, gone: &[ItemId]) -> Result<AuxRecords, Memory>
+fn keys_taken(alloc: Global, gone: &[ItemId]) -> Result<AuxRecords, OutOfMemory>
     ensures { IfOk result (AreTaken gone.now) }
 {
     let mut keys = AuxRecords::new(alloc);
@@ -103,7 +103,7 @@ fn put_one(
     taken: &AuxRecords,
     records: &AuxRecords,
     aux: &AuxRecord,
-) -> Result<(), Memory>
+) -> Result<(), OutOfMemory>
     requires { IsShort aux.now }
     ensures { (gone : List ItemId) (rest all : List AuxRecord) → AreTaken gone taken.now → Besides gone records.now so_far.old (aux.now ∷ rest) all → OnOk result (Besides gone records.now so_far.new rest all) }
 {
@@ -122,7 +122,7 @@ fn put_beside(
     gone: &[ItemId],
     records: &AuxRecords,
     list: &[AuxRecord],
-) -> Result<Beside, Memory>
+) -> Result<Beside, OutOfMemory>
     requires { All IsShort list.now }
     ensures { IfOk result (λ t. Besides gone.now records.now t [] list.now) }
 {
@@ -139,7 +139,7 @@ fn put_beside(
     Ok(so_far)
 }
 
-fn longer(sizes: Sizes, bytes: u128) -> Result<Sizes, Memory>
+fn longer(sizes: Sizes, bytes: u128) -> Result<Sizes, OutOfMemory>
     ensures { IfOk result (λ s. s ≡ record sizes { bytes = sizes.bytes + bytes }) }
 {
     Ok(Sizes {
@@ -155,7 +155,7 @@ pub(crate) fn is_full_with(
     contents: &Contents,
     draft: &Draft,
     list: &[AuxRecord],
-) -> Result<bool, Memory>
+) -> Result<bool, OutOfMemory>
     requires { All IsShort list.now }
     ensures { (w : Volume) (b : Book) → Drafts contents.now draft.now w → HasBeside w.book list.now b → IfOk result (λ full. full ≡ table_full w.items b) }
 {

@@ -25,7 +25,7 @@ use crate::parts::Parts;
 use crate::record_room::is_full_with;
 use crate::tallies::{Tally, and_not, count_changes};
 use crate::volumes::Volume;
-use cf_base::{AuxRecord, Change, Memory, Usn};
+use cf_base::{AuxRecord, Change, OutOfMemory, Usn};
 use cf_disk::Disk;
 
 /// The greatest place of an epoch.
@@ -51,7 +51,7 @@ const NO_ROOM: Room = Room {
 };
 
 // The count of no change.
-fn first_tally<D: Disk>(disk: &D, parts: &Parts) -> Result<Tally, Memory>
+fn first_tally<D: Disk>(disk: &D, parts: &Parts) -> Result<Tally, OutOfMemory>
     requires steady { Steady (size_of (D.state disk.now)) (known_of parts.now) }
     ensures { (v : model) (list : List Change) → At (D.state disk.now) (known_of parts.now) v → FitInTurn list v → IfOk result (λ t. Counts parts.now.contents (length parts.now.held) t list list v) }
 {
@@ -72,7 +72,7 @@ pub(crate) fn is_full_now<D: Disk>(
     disk: &D,
     parts: &Parts,
     list: &[AuxRecord],
-) -> Result<bool, Memory>
+) -> Result<bool, OutOfMemory>
     requires short { All IsShort list.now }
     requires steady { Steady (size_of (D.state disk.now)) (known_of parts.now) }
     ensures { (v : model) (b : Book) → At (D.state disk.now) (known_of parts.now) v → HasRecords v.book (with_records list.now parts.now.contents.records) b → IfOk result (λ full. full ≡ table_full v.items b) }
@@ -113,7 +113,7 @@ fn has_numbers(last: Usn, list: &[Change]) -> bool
 }
 
 // The count of changes that would be made in order. None where they do not fit the volume.
-fn tally_of<D: Disk>(disk: &D, parts: &Parts, list: &[Change]) -> Result<Option<Tally>, Memory>
+fn tally_of<D: Disk>(disk: &D, parts: &Parts, list: &[Change]) -> Result<Option<Tally>, OutOfMemory>
     requires steady { Steady (size_of (D.state disk.now)) (known_of parts.now) }
     ensures { (v : model) → At (D.state disk.now) (known_of parts.now) v → FitInTurn list.now v → IfOk result (λ tally. MatchOption tally ⊥ (λ t. Counts parts.now.contents (length parts.now.held) t [] list.now v)) }
 {
@@ -126,7 +126,7 @@ fn tally_of<D: Disk>(disk: &D, parts: &Parts, list: &[Change]) -> Result<Option<
 }
 
 // Whether changes have room that would be made in order.
-fn room_for<D: Disk>(disk: &D, parts: &Parts, list: &[Change]) -> Result<Room, Memory>
+fn room_for<D: Disk>(disk: &D, parts: &Parts, list: &[Change]) -> Result<Room, OutOfMemory>
     requires steady { Steady (size_of (D.state disk.now)) (known_of parts.now) }
     ensures { (v : model) → At (D.state disk.now) (known_of parts.now) v → FitInTurn list.now v → IfOk result (HasRoomFor list.now v) }
 {
@@ -155,7 +155,7 @@ fn is_full_after(
     draft: &Draft,
     list: &[Change],
     records: &[AuxRecord],
-) -> Result<bool, Memory>
+) -> Result<bool, OutOfMemory>
     requires { All IsShort records.now }
     ensures { (w : model) (b : Book) → Drafts parts.now.contents draft.now w → HasBeside w.book records.now b → IfOk result (λ full. full ≡ (not (is_empty list.now) && table_full w.items b)) }
 {
@@ -172,7 +172,7 @@ fn room_beside<D: Disk>(
     parts: &Parts,
     list: &[Change],
     records: &[AuxRecord],
-) -> Result<Room, Memory>
+) -> Result<Room, OutOfMemory>
     requires short { All IsShort records.now }
     requires steady { Steady (size_of (D.state disk.now)) (known_of parts.now) }
     ensures { (v : model) (b : Book) → At (D.state disk.now) (known_of parts.now) v → FitInTurn list.now v → HasBeside (put_changes list.now v).book records.now b → IfOk result (HasRoomWith list.now b v) }
@@ -192,26 +192,26 @@ fn room_beside<D: Disk>(
 
 impl<D: Disk> Volume<D> {
     /// Whether changes have room that would be made in order. An id past the greatest is want of a place. Nothing changes,
-    /// and no row is looked at but those of the items that the changes name. Memory also where an earlier call broke the
+    /// and no row is looked at but those of the items that the changes name. OutOfMemory also where an earlier call broke the
     /// volume, and in the last epoch where that has too few places for the changes.
-    pub fn room(&self, list: &[Change]) -> Result<Room, Memory>
+    pub fn room(&self, list: &[Change]) -> Result<Room, OutOfMemory>
         ensures { (v : model) → At (D.state self.now.disk) self.now.known v → FitInTurn list.now v → IfOk result (HasRoomFor list.now v) }
     {
         if self.parts.broken {
-            return Err(Memory);
+            return Err(OutOfMemory);
         }
         room_for(&self.disk, &self.parts, list)
     }
 
     /// The same, with auxiliary records put beside the last change, in order and in the same step: the table has room where it
     /// has room after each change, and after the last with the records too. Keys have at most 255 bytes and values at most
-    /// 65,535. Nothing changes. Memory as `room`.
-    pub fn room_with_records(&self, list: &[Change], records: &[AuxRecord]) -> Result<Room, Memory>
+    /// 65,535. Nothing changes. OutOfMemory as `room`.
+    pub fn room_with_records(&self, list: &[Change], records: &[AuxRecord]) -> Result<Room, OutOfMemory>
         requires short { All IsShort records.now }
         ensures { (v : model) (b : Book) → At (D.state self.now.disk) self.now.known v → FitInTurn list.now v → HasBeside (put_changes list.now v).book records.now b → IfOk result (HasRoomWith list.now b v) }
     {
         if self.parts.broken {
-            return Err(Memory);
+            return Err(OutOfMemory);
         }
         room_beside(&self.disk, &self.parts, list, records)
     }

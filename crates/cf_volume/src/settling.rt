@@ -16,7 +16,7 @@ ghost use Rattle.cf_volume_points.specs.Runs.{IsStop, Ran};
 
 use crate::dropping::drop_gone;
 use crate::staging::stage_all;
-use cf_base::{Change, Memory, Pin, Usn};
+use cf_base::{Change, OutOfMemory, Pin, Usn};
 use cf_volume_blocks::blocks_put;
 use cf_clusters::Data;
 use cf_disk::Disk;
@@ -78,7 +78,7 @@ pub(crate) fn plan_item(
     change: &Change,
     pin: Pin,
     number: Usn,
-) -> Result<Planned, Memory>
+) -> Result<Planned, OutOfMemory>
     requires fits { FitsRow change.now row.now }
     requires later { IsLater number row.now }
     ensures means { IfOk result (λ p. (i : Item) → Means row.now i → Means p.row (item_effect change.now pin number i)) }

@@ -12,9 +12,9 @@ ghost use Rattle.cf_ranges.specs.Pairs.{IsRising, Puts, cluster_at};
 ghost use Rattle.cf_volume.specs.Laid.{Lays, StagesAll};
 ghost use Rattle.cf_volume_points.specs.Runs.{IsStop, Ran};
 
-use cf_base::{Change, Memory};
+use cf_base::{Change, OutOfMemory};
 use cf_volume_blocks::lay_change;
-use cf_clusters::{Data, DataFail};
+use cf_clusters::{Data, ClusterError};
 use cf_disk::Disk;
 use cf_volume_points::Stop;
 use cf_ranges::ExtentMap;
@@ -45,7 +45,7 @@ pub(crate) fn load<D: Disk>(
 }
 
 // Makes the cluster that of a block. The map tells that its blocks rise.
-fn put_extent(extents: &mut ExtentMap, number: u32, cluster: u32) -> Result<(), Memory>
+fn put_extent(extents: &mut ExtentMap, number: u32, cluster: u32) -> Result<(), OutOfMemory>
     ensures puts { OnOk result (Puts extents.old extents.new number (Some cluster)) }
     ensures before { IsRising extents.old }
     ensures rising { IsRising extents.new }
@@ -79,8 +79,8 @@ pub(crate) fn put_block<D: Disk>(
             put_extent(extents, number, cluster)?;
             Ok(())
         }
-        Err(DataFail::Full) => unreachable!(),
-        Err(DataFail::Failed) => Err(Stop::Device),
+        Err(ClusterError::Full) => unreachable!(),
+        Err(ClusterError::Failed) => Err(Stop::Device),
     }
 }
 

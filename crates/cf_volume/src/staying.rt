@@ -15,7 +15,7 @@ use crate::fails::fail_of;
 use crate::judging::{plan_change, refusal_of};
 use crate::parts::Parts;
 use crate::putting::put_planned;
-use cf_base::{Change, Fail, Usn};
+use cf_base::{Change, CallError, Usn};
 use cf_disk::Disk;
 
 /// Puts a change of an item that is there and stays, and gives its number. None where the clusters that it needs are not
@@ -24,7 +24,7 @@ pub(crate) fn put_stay<D: Disk>(
     disk: &mut D,
     parts: &mut Parts,
     change: &Change,
-) -> Result<Option<Usn>, Fail>
+) -> Result<Option<Usn>, CallError>
     requires kind { stays change.now ≡ true }
     requires steady { Steady (size_of (D.state disk.old)) (known_of parts.old) }
     requires there { row_of parts.old.contents.rows.rows (item_of_change change.now) ≡ None → ⊥ }
@@ -47,7 +47,7 @@ pub(crate) fn put_stay<D: Disk>(
     };
     let planned = plan_change(parts.alloc, &parts.contents.rows, change, number)?;
     if let Some(code) = refusal_of(disk, parts, change, &planned) {
-        return Err(Fail::No(code));
+        return Err(CallError::No(code));
     }
     if (parts.held.free() as usize) < planned.blocks.len() {
         return Ok(None);

@@ -10,7 +10,7 @@ ghost use Rattle.cf_volume.specs.Tallies.{Counts};
 
 use crate::drafting::draft_change;
 use crate::drafts::{Draft, Sizes, sum};
-use cf_base::{Change, Memory, Usn};
+use cf_base::{Change, OutOfMemory, Usn};
 use cf_volume_image::Contents;
 use std::alloc::Global;
 
@@ -34,7 +34,7 @@ pub(crate) struct Tally {
 
 // The number of the change after so many, or one of the next epoch where that has none: rows are as long with it. There is
 // no memory for numbers past those of the next epoch.
-fn number_at(last: Usn, steps: u64) -> Result<Usn, Memory>
+fn number_at(last: Usn, steps: u64) -> Result<Usn, OutOfMemory>
     ensures number { IfOk result (λ n. n ≡ shifted last.epoch (usn_after last.epoch (last.place + steps))) }
     ensures after { IfOk result (λ n. above n no_usn ≡ true) }
 {
@@ -46,14 +46,14 @@ fn number_at(last: Usn, steps: u64) -> Result<Usn, Memory>
         });
     }
     if place - NUMBERS >= NUMBERS {
-        return Err(Memory);
+        return Err(OutOfMemory);
     }
     match last.epoch.checked_add(1) {
         Some(epoch) => Ok(Usn {
             epoch,
             place: (place - NUMBERS) as u32,
         }),
-        None => Err(Memory),
+        None => Err(OutOfMemory),
     }
 }
 
@@ -71,7 +71,7 @@ fn never_longer(change: &Change) -> bool
 }
 
 /// Whether a table has too many rows or bytes that has and would get some, of which others would go again.
-pub(crate) fn is_long(more: Sizes, less: Sizes) -> Result<bool, Memory>
+pub(crate) fn is_long(more: Sizes, less: Sizes) -> Result<bool, OutOfMemory>
     ensures { IfOk result (λ b. b ≡ (nat_lt (10000 + less.items) more.items || nat_lt (1306624 + less.bytes) more.bytes)) }
 {
     let rows = sum(MOST_ROWS, less.items)?;
@@ -80,7 +80,7 @@ pub(crate) fn is_long(more: Sizes, less: Sizes) -> Result<bool, Memory>
 }
 
 // Whether a change that needs so many clusters would pass them.
-fn is_full(more: Sizes, less: Sizes, clusters: u32, asked: u128) -> Result<bool, Memory>
+fn is_full(more: Sizes, less: Sizes, clusters: u32, asked: u128) -> Result<bool, OutOfMemory>
     ensures { IfOk result (λ b. b ≡ cond (asked == 0) false (nat_lt (clusters + less.blocks) (more.blocks + asked))) }
 {
     if asked == 0 {
@@ -97,12 +97,12 @@ fn is_refused(change: &Change, long: bool) -> bool
     !never_longer(change) && long
 }
 
-fn one_more(steps: u64) -> Result<u64, Memory>
+fn one_more(steps: u64) -> Result<u64, OutOfMemory>
     ensures { IfOk result (λ n. n ≡ steps + 1) }
 {
     match steps.checked_add(1) {
         Some(more) => Ok(more),
-        None => Err(Memory),
+        None => Err(OutOfMemory),
     }
 }
 
@@ -120,7 +120,7 @@ fn count_change(
     clusters: u32,
     so_far: &mut Tally,
     change: &Change,
-) -> Result<bool, Memory>
+) -> Result<bool, OutOfMemory>
     ensures { (v : Volume) (rest all : List Change) → Counts contents.now clusters so_far.old (change.now ∷ rest) all v → IfOk result (λ fits. (fits ≡ true) × Counts contents.now clusters so_far.new rest all v) }
 {
     let number = number_at(contents.last, so_far.steps)?;
@@ -147,7 +147,7 @@ pub(crate) fn count_changes(
     clusters: u32,
     so_far: &mut Tally,
     list: &[Change],
-) -> Result<bool, Memory>
+) -> Result<bool, OutOfMemory>
     ensures { (v : Volume) → Counts contents.now clusters so_far.old list.now list.now v → IfOk result (λ fits. (fits ≡ true) × Counts contents.now clusters so_far.new [] list.now v) }
 {
     for change in list {

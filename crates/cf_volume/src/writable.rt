@@ -8,7 +8,7 @@ ghost use Rattle.cf_table.specs.Spelling.{HasRoom};
 ghost use Rattle.cf_table.specs.Tables.{with_row};
 ghost use Rattle.cf_volume.specs.Writable.{are_low, has_low_ends};
 
-use cf_base::{Memory, Span};
+use cf_base::{OutOfMemory, Span};
 use cf_volume_image::Contents;
 use cf_table::{Row, Rows};
 
@@ -45,14 +45,14 @@ fn has_low_ends(row: &Row) -> bool
 
 /// Puts a row in place of the one with its id, or adds it. There is no memory for one that has no room in its spelling,
 /// which is that of no item.
-pub(crate) fn put_row(rows: &mut Rows, row: Row) -> Result<(), Memory>
+pub(crate) fn put_row(rows: &mut Rows, row: Row) -> Result<(), OutOfMemory>
     requires { IsSpellable row }
     ensures ok { OnOk result (rows.new ≡ record rows.old { rows = with_row row rows.old.rows }) }
     ensures room { OnOk result (HasRoom row) }
     ensures err { OnErr result (rows.new ≡ rows.old) }
 {
     if !has_low_ends(&row) {
-        return Err(Memory);
+        return Err(OutOfMemory);
     }
     rows.put_row(row)
 }

@@ -7,13 +7,13 @@ ghost use Rattle.cf_model.specs.Items.{Item, is_held};
 ghost use Rattle.cf_ranges.specs.Positions.{contains, in_span, touches};
 ghost use Rattle.cf_table.specs.Means.{Means};
 
-use cf_base::{Change, Memory, Span};
+use cf_base::{Change, OutOfMemory, Span};
 use cf_ranges::RangeSet;
 use cf_table::Row;
 use std::alloc::Global;
 
 // The blocks that a span touches.
-fn span_blocks(alloc: Global, start: u64, len: u64) -> Result<Vec<u32>, Memory>
+fn span_blocks(alloc: Global, start: u64, len: u64) -> Result<Vec<u32>, OutOfMemory>
     requires { start + len ≤ 2 ^ 40 }
     ensures { IfOk result (λ v. v.items ≡ blocks_of start len) }
 {
@@ -30,7 +30,7 @@ fn span_blocks(alloc: Global, start: u64, len: u64) -> Result<Vec<u32>, Memory>
 }
 
 // Those of the blocks that have a place of the set.
-fn touched(alloc: Global, blocks: &[u32], places: &RangeSet) -> Result<Vec<u32>, Memory>
+fn touched(alloc: Global, blocks: &[u32], places: &RangeSet) -> Result<Vec<u32>, OutOfMemory>
     ensures { IfOk result (λ v. v.items ≡ filter (touches places.now) blocks.now) }
 {
     let mut found = Vec::new(alloc);
@@ -57,7 +57,7 @@ fn part_below(start: u64, len: u64, size: u64) -> Span
 }
 
 // The blocks of a span that lack a byte of it below the size.
-fn lacking(alloc: Global, row: &Row, start: u64, len: u64) -> Result<Vec<u32>, Memory>
+fn lacking(alloc: Global, row: &Row, start: u64, len: u64) -> Result<Vec<u32>, OutOfMemory>
     requires { start + len ≤ 2 ^ 40 }
     ensures { IfOk result (λ v. (held : List (Option ℕ)) → row.now.size ≡ length held → ((p : ℕ) → contains row.now.here p ≡ is_held held p) → v.items ≡ filter (lacks_in start (start + len) held) (blocks_of start len)) }
 {
@@ -73,7 +73,7 @@ fn lacking(alloc: Global, row: &Row, start: u64, len: u64) -> Result<Vec<u32>, M
 
 /// The blocks of its item into which a change puts bytes, in order. `row` is the row of the item before the change. A copy
 /// puts bytes into a new item alone.
-pub fn blocks_put(alloc: Global, row: &Row, change: &Change) -> Result<Vec<u32>, Memory>
+pub fn blocks_put(alloc: Global, row: &Row, change: &Change) -> Result<Vec<u32>, OutOfMemory>
     requires { HasEnd change.now }
     ensures { IfOk result (λ v. (i : Item) → Means row.now i → v.items ≡ puts_in change.now i.held) }
 {

@@ -12,7 +12,7 @@ ghost use Rattle.cf_table.specs.Means.{Means};
 ghost use Rattle.cf_ranges.specs.Positions.{contains, in_span};
 ghost use Rattle.cf_model.specs.Overlay.{patched, resized};
 
-use cf_base::{Change, Memory, Span};
+use cf_base::{Change, OutOfMemory, Span};
 use cf_ranges::RangeSet;
 use cf_table::Row;
 
@@ -141,7 +141,7 @@ fn lay_filled(
     here: &RangeSet,
     start: u64,
     bytes: &[u8],
-) -> Result<(), Memory>
+) -> Result<(), OutOfMemory>
     requires size { length block.old ≡ 4096 }
     requires number { number < 2 ^ 40 }
     requires end { start + length bytes.now ≤ 2 ^ 40 }
@@ -155,7 +155,7 @@ fn lay_filled(
 
 /// Lays the bytes that a change puts into a block of its item over those that the block had. `row` is the row of the item
 /// before the change, and `number` that of the block. Without memory some may be laid.
-pub fn lay_change(block: &mut [u8], number: u64, row: &Row, change: &Change) -> Result<(), Memory>
+pub fn lay_change(block: &mut [u8], number: u64, row: &Row, change: &Change) -> Result<(), OutOfMemory>
     requires size { length block.old ≡ 4096 }
     requires number { number < 2 ^ 40 }
     requires fits { HasEnd change.now }

@@ -2,7 +2,7 @@
 use Rattle.std.proofs.Common.{◌≡◌, ℕ, ◌<◌, List, map, sym, ◌∙◌, ap, subst}
 use Rattle.std.specs.Prelude.{All, Err, IfOk, Ok, Result}
 use Rattle.cf_base.specs.declared.changes.Change.{Change}
-use Rattle.cf_base.specs.declared.codes.Fail.{Fail}
+use Rattle.cf_base.specs.declared.codes.CallError.{CallError}
 use Rattle.cf_base.specs.declared.ids.Usn.{Usn}
 use Rattle.cf_volume_commit.specs.Loaded.{Finds, HoldsImage, raised_image}
 use Rattle.cf_volume_commit.specs.declared.parts.Parts.{Parts}
@@ -59,7 +59,7 @@ module _ (one : OneContent) (old mid : State) (o : Opened) (n : ℕ) (settled : 
   pub last_there : (i : Image) × IsContents o.image o.payloads n i × (i.header.last.epoch ≡ most) → (i : Image) × HoldsImage old.seen i × (i.header.last.epoch ≡ most)
   last_there last = (last.0, record { content = content_of o; holds = holds; told = subst (λ (m : ℕ). IsContents o.image o.payloads m last.0) number last.1 }, last.2)
 
-  pub finds : Only old.seen mid → (r : Result Parts Fail) → IfOk r (λ p. p.journal ≡ o.journal)
+  pub finds : Only old.seen mid → (r : Result Parts CallError) → IfOk r (λ p. p.journal ≡ o.journal)
       → IfOk r (λ p. (i : Image) × IsContents o.image o.payloads n i × (i.header.last.epoch < most) × (image_of p.contents ≡ raised_image i.header.last.epoch i)) → IfOk r (λ p. All HasRoom p.contents.rows.rows)
       → IfOk r (λ p. Opens n (clusters_of (map row_value p.contents.rows.rows)) p.held) → IfOk r (λ p. (x : Content) × Finds old mid x p)
   finds only (Err e) same image room opens = tt

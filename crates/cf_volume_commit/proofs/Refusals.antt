@@ -5,16 +5,16 @@ use Rattle.std.specs.Result.{IsErrAnd}
 use Rattle.std.proofs.lemmas.Bool.{true≢false}
 use Rattle.std.proofs.lemmas.Result.{err_from_is_err_and}
 use Rattle.cf_base.specs.declared.codes.Code.TheVariants as code
-use Rattle.cf_base.specs.declared.codes.Fail.TheVariants as fail
+use Rattle.cf_base.specs.declared.codes.CallError.TheVariants as fail
 use Rattle.cf_volume_commit.specs.Loaded.{fail_of}
-use Rattle.cf_journal.specs.declared.failures.JournalFail.{JournalFail}
-use Rattle.cf_journal.specs.declared.failures.JournalFail.TheVariants as journal
+use Rattle.cf_journal.specs.declared.failures.JournalError.{JournalError}
+use Rattle.cf_journal.specs.declared.failures.JournalError.TheVariants as journal
 
-pub not_a_volume : (f : JournalFail) → fail_of f ≡ fail.No code.NotAVolume → f ≡ journal.NotAVolume
+pub not_a_volume : (f : JournalError) → fail_of f ≡ fail.No code.NotAVolume → f ≡ journal.NotAVolume
 not_a_volume journal.Failed e = let z : fail.No code.Device ≡ fail.No code.NotAVolume = e in absurd cc
 not_a_volume journal.NotAVolume e = refl
 not_a_volume journal.Broken e = let z : fail.No code.Broken ≡ fail.No code.NotAVolume = e in absurd cc
-not_a_volume journal.Memory e = let z : fail.Memory ≡ fail.No code.NotAVolume = e in absurd cc
+not_a_volume journal.OutOfMemory e = let z : fail.OutOfMemory ≡ fail.No code.NotAVolume = e in absurd cc
 
 -- the error that a call passes on
 

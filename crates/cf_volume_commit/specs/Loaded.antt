@@ -2,8 +2,8 @@
 use Rattle.std.specs.Prelude.{ℕ, false, List, [], ◌∷◌, map, All, ◌≡◌, ◌⊎◌, ◌+◌, ◌<◌}
 use Rattle.cf_base.specs.declared.changes.Change.{Change}
 use Rattle.cf_base.specs.declared.codes.Code.TheVariants as code
-use Rattle.cf_base.specs.declared.codes.Fail.{Fail}
-use Rattle.cf_base.specs.declared.codes.Fail.TheVariants as fail
+use Rattle.cf_base.specs.declared.codes.CallError.{CallError}
+use Rattle.cf_base.specs.declared.codes.CallError.TheVariants as fail
 use Rattle.cf_base.specs.declared.ids.Usn.{Usn}
 use Rattle.cf_volume_commit.specs.Leading.{HaveStoredPins}
 use Rattle.cf_volume_commit.specs.declared.parts.Parts.{Parts}
@@ -14,8 +14,8 @@ use Rattle.cf_volume_image.specs.States.{IsContents, Tells}
 use Rattle.cf_journal.specs.Content.{Content}
 use Rattle.cf_journal.specs.Content as journal
 use Rattle.cf_journal.specs.Settled.{Settled}
-use Rattle.cf_journal.specs.declared.failures.JournalFail.{JournalFail}
-use Rattle.cf_journal.specs.declared.failures.JournalFail.TheVariants as failure
+use Rattle.cf_journal.specs.declared.failures.JournalError.{JournalError}
+use Rattle.cf_journal.specs.declared.failures.JournalError.TheVariants as failure
 use Rattle.cf_model.specs.Books.{Book, no_book}
 use Rattle.cf_model.specs.Formats.{Header, Image}
 use Rattle.cf_model.specs.Items.{root}
@@ -58,11 +58,11 @@ pub record StandsThen (p : Parts) (s : State) (x : Content) (i : Image) : Type 0
   pub pins : HaveStoredPins p.contents.rows.rows
 
 -- an opening's answer
-abbrev pub fail_of : JournalFail → Fail
+abbrev pub fail_of : JournalError → CallError
 fail_of failure.Failed = fail.No code.Device
 fail_of failure.NotAVolume = fail.No code.NotAVolume
 fail_of failure.Broken = fail.No code.Broken
-fail_of failure.Memory = fail.Memory
+fail_of failure.OutOfMemory = fail.OutOfMemory
 
 -- the epoch raised
 

@@ -19,7 +19,7 @@ ghost use Rattle.cf_table.specs.Spelling.{HasRoom};
 use crate::openings::{clusters_of_disk, raise};
 use crate::parts::Parts;
 use crate::ranges::has_an_image;
-use cf_base::{Memory, Usn};
+use cf_base::{OutOfMemory, Usn};
 use cf_clusters::Data;
 use cf_disk::Disk;
 use cf_volume_image::{AuxRecords, Contents, spell_image};
@@ -29,7 +29,7 @@ use cf_table::Rows;
 use std::alloc::Global;
 
 // What a new volume says of its items: there is the root alone.
-fn nothing(alloc: Global) -> Result<Contents, Memory>
+fn nothing(alloc: Global) -> Result<Contents, OutOfMemory>
     ensures image { IfOk result (λ c. image_of c ≡ first_image 0) }
     ensures room { IfOk result (λ c. All HasRoom c.rows.rows) }
     ensures later { IfOk result (λ c. (n : Usn) → above n no_usn ≡ true → IsNext n c.rows.rows) }
@@ -66,7 +66,7 @@ fn format<D: Disk>(disk: &mut D, image: &[u8]) -> Result<Journal, Stop>
 }
 
 /// Makes an empty volume, whatever the disk held, and opens it: the image is written with epoch 0, and epoch 1 appended.
-/// Device where a call of the disk failed, whose count of faults rose. Memory where there is none.
+/// Device where a call of the disk failed, whose count of faults rose. OutOfMemory where there is none.
 pub fn create<D: Disk>(alloc: Global, disk: &mut D) -> Result<Parts, Stop>
     requires { IsFitSize (size_of (D.state disk.old)) }
     ensures ok { IfOk result (λ p. At (D.state disk.new) (known_of p) (new_volume (clusters_on (D.state disk.old).seen))) }

@@ -9,7 +9,7 @@ ghost use Rattle.cf_model.specs.Words.{same};
 ghost use Rattle.cf_table.specs.Tables.{RisesFrom, row_of};
 
 use crate::earlier::{Earlier, bare};
-use cf_base::{AuxRecord, Blob, ItemId, Memory};
+use cf_base::{AuxRecord, Blob, ItemId, OutOfMemory};
 use cf_volume_image::{AuxRecords, Contents};
 use cf_table::{Row, Rows};
 use std::alloc::Global;
@@ -44,7 +44,7 @@ fn rows_left(
     then: &Earlier,
     now: &Rows,
     noted: &[Row],
-) -> Result<Vec<ItemId>, Memory>
+) -> Result<Vec<ItemId>, OutOfMemory>
     requires { noted.now ≡ then.now.rows.rows }
     ensures { IfOk result (λ v. v.items ≡ rows_left then.now now.now.rows) }
 {
@@ -66,14 +66,14 @@ fn rows_from(rows: &[Row], next: ItemId) -> &[Row]
     &rows[place..]
 }
 
-fn ids_of(alloc: Global, rows: &[Row]) -> Result<Vec<ItemId>, Memory>
+fn ids_of(alloc: Global, rows: &[Row]) -> Result<Vec<ItemId>, OutOfMemory>
     ensures { IfOk result (λ v. v.items ≡ map (λ r. r.id) rows.now) }
 {
     Ok(rows.iter().map(|row| row.id).collect(alloc)?)
 }
 
 // Those noted that are still there, and the new ones behind them. No other row is looked at.
-fn changed_rows(alloc: Global, then: &Earlier, now: &Rows) -> Result<Vec<ItemId>, Memory>
+fn changed_rows(alloc: Global, then: &Earlier, now: &Rows) -> Result<Vec<ItemId>, OutOfMemory>
     ensures { IfOk result (λ v. v.items ≡ changed_rows then.now now.now.rows) }
 {
     let _ = then.rows.image_len();
@@ -89,7 +89,7 @@ fn rows_gone(
     then: &Earlier,
     now: &Rows,
     noted: &[Row],
-) -> Result<Vec<ItemId>, Memory>
+) -> Result<Vec<ItemId>, OutOfMemory>
     requires { noted.now ≡ then.now.rows.rows }
     ensures { IfOk result (λ v. v.items ≡ removed_rows then.now now.now.rows) }
 {
@@ -109,7 +109,7 @@ fn is_record_gone(then: &Earlier, now: &AuxRecords, aux: &AuxRecord) -> bool
 }
 
 // Puts a key among others, if a record has it now.
-fn put_key(alloc: Global, keys: &mut AuxRecords, now: &AuxRecords, key: &[u8]) -> Result<(), Memory>
+fn put_key(alloc: Global, keys: &mut AuxRecords, now: &AuxRecords, key: &[u8]) -> Result<(), OutOfMemory>
     requires { length key.now ≤ 255 }
     ensures { OnOk result (AddsKeys now.now (λ k. same key.now k) keys.old keys.new) }
 {
@@ -126,7 +126,7 @@ fn put_keys(
     keys: &mut AuxRecords,
     now: &AuxRecords,
     noted: &[AuxRecord],
-) -> Result<(), Memory>
+) -> Result<(), OutOfMemory>
     requires { AreRecordsFrom None noted.now }
     ensures { OnOk result (AddsKeys now.now (λ k. list_any (λ r. same r.key k) noted.now) keys.old keys.new) }
 {
@@ -136,7 +136,7 @@ fn put_keys(
     Ok(())
 }
 
-fn keys_of(alloc: Global, records: &[AuxRecord]) -> Result<Vec<Blob>, Memory>
+fn keys_of(alloc: Global, records: &[AuxRecord]) -> Result<Vec<Blob>, OutOfMemory>
     ensures { IfOk result (λ v. v.items ≡ map (λ r. r.key) records.now) }
 {
     let mut keys = Vec::new(alloc);
@@ -147,7 +147,7 @@ fn keys_of(alloc: Global, records: &[AuxRecord]) -> Result<Vec<Blob>, Memory>
 }
 
 // The keys of those noted that are still there, and of new ones. No other record is looked at.
-fn changed_keys(alloc: Global, then: &Earlier, now: &AuxRecords) -> Result<Vec<Blob>, Memory>
+fn changed_keys(alloc: Global, then: &Earlier, now: &AuxRecords) -> Result<Vec<Blob>, OutOfMemory>
     ensures { IfOk result (λ v. v.items ≡ changed_keys then.now now.now) }
 {
     let _ = now.as_slice();
@@ -162,7 +162,7 @@ fn keys_gone(
     then: &Earlier,
     now: &AuxRecords,
     noted: &[AuxRecord],
-) -> Result<Vec<Blob>, Memory>
+) -> Result<Vec<Blob>, OutOfMemory>
     ensures { IfOk result (λ v. v.items ≡ keys_in then.now now.now noted.now) }
 {
     let mut keys = Vec::new(alloc);
@@ -175,7 +175,7 @@ fn keys_gone(
 }
 
 /// What differs from the last point: ids and keys in order.
-#[derive(Debug, Drop)]
+#[derive(Drop)]
 pub(crate) struct NameLists {
     pub(crate) removed: Vec<ItemId>,
     pub(crate) changed: Vec<ItemId>,
@@ -188,7 +188,7 @@ pub(crate) fn what_differs(
     alloc: Global,
     then: &Earlier,
     contents: &Contents,
-) -> Result<NameLists, Memory>
+) -> Result<NameLists, OutOfMemory>
     ensures removed { IfOk result (λ d. d.removed.items ≡ removed_rows then.now contents.now.rows.rows) }
     ensures changed { IfOk result (λ d. d.changed.items ≡ changed_rows then.now contents.now.rows.rows) }
     ensures removed_keys { IfOk result (λ d. d.removed_keys.items ≡ removed_keys then.now contents.now.records) }

@@ -2,13 +2,13 @@
 
 ghost use Rattle.std.specs.Prelude.{◌≡◌, IfOk, length};
 
-use cf_base::{AuxRecord, Blob, ItemId, Memory};
+use cf_base::{AuxRecord, Blob, ItemId, OutOfMemory};
 use cf_volume_image::AuxRecords;
 use cf_table::Rows;
 use std::alloc::Global;
 
 /// What is noted of the last point: its rows and records that have changed since or are gone, as they were.
-#[derive(Debug, Drop)]
+#[derive(Drop)]
 pub struct Earlier {
     /// Rows of items below `next`.
     pub rows: Rows,
@@ -19,8 +19,8 @@ pub struct Earlier {
     pub made: AuxRecords,
 }
 
-/// A key without a value, as `Earlier::made` holds it. Memory where there is none.
-pub fn bare(alloc: Global, key: &[u8]) -> Result<AuxRecord, Memory>
+/// A key without a value, as `Earlier::made` holds it. OutOfMemory where there is none.
+pub fn bare(alloc: Global, key: &[u8]) -> Result<AuxRecord, OutOfMemory>
     ensures { IfOk result (λ r. (r.key ≡ key.now) × (length r.value ≡ 0)) }
 {
     Ok(AuxRecord {

@@ -3,7 +3,7 @@
 ghost use Rattle.std.specs.Prelude.{◌≡◌, ◌≤◌, ◌<◌, ◌+◌, [], ◌++◌, ◌⊎◌, ℕ, List, Some, None, map, All, false, Err, IfErr, IfOk, IsOk, OnOk};
 ghost use Rattle.cf_base.specs.declared.changes.Change.{Change};
 ghost use Rattle.cf_base.specs.declared.codes.Code.TheVariants as code;
-ghost use Rattle.cf_base.specs.declared.codes.Fail.TheVariants as fail;
+ghost use Rattle.cf_base.specs.declared.codes.CallError.TheVariants as fail;
 ghost use Rattle.cf_base.specs.declared.ids.Usn.{Usn};
 ghost use Rattle.cf_volume_commit.specs.Leading.{CanBeWritten, bytes_written};
 ghost use Rattle.cf_volume_commit.specs.Loaded.{Finds, HoldsImage, StandsOrWas, StandsThen, fail_of, known_of, number_after, raised_image};
@@ -34,32 +34,32 @@ ghost use Rattle.cf_table.specs.Tables.{AreTableRows, RisesFrom};
 use crate::parts::Parts;
 use crate::ranges::has_an_image;
 use crate::texts::put_text;
-use cf_base::{Code, Fail, Memory, Usn};
+use cf_base::{Code, CallError, OutOfMemory, Usn};
 use cf_clusters::Data;
 use cf_disk::Disk;
-use cf_volume_image::{Contents, ImageFail, read_contents, spell_payload};
-use cf_journal::{Journal, JournalFail, Opened, one_content};
+use cf_volume_image::{Contents, ImageError, read_contents, spell_payload};
+use cf_journal::{Journal, JournalError, Opened, one_content};
 use cf_volume_points::Stop;
 use cf_table::Row;
 use std::alloc::Global;
 
-fn refused(why: JournalFail) -> Fail
+fn refused(why: JournalError) -> CallError
     ensures { result ≡ fail_of why }
 {
     match why {
-        JournalFail::Failed => Fail::No(Code::Device),
-        JournalFail::NotAVolume => Fail::No(Code::NotAVolume),
-        JournalFail::Broken => Fail::No(Code::Broken),
-        JournalFail::Memory => Fail::Memory,
+        JournalError::Failed => CallError::No(Code::Device),
+        JournalError::NotAVolume => CallError::No(Code::NotAVolume),
+        JournalError::Broken => CallError::No(Code::Broken),
+        JournalError::OutOfMemory => CallError::OutOfMemory,
     }
 }
 
 // The contents that the opened journal tells.
-fn contents_of(alloc: Global, opened: &Opened, clusters: u32) -> Result<Contents, Fail>
+fn contents_of(alloc: Global, opened: &Opened, clusters: u32) -> Result<Contents, CallError>
     ensures ok { IfOk result (λ c. IsContents opened.now.image opened.now.payloads clusters (image_of c)) }
     ensures room { IfOk result (λ c. All HasRoom c.rows.rows) }
     ensures none { result ≡ Err (fail.No code.NotAVolume) → (i : Image) → IsContents opened.now.image opened.now.payloads clusters i → ⊥ }
-    ensures only { IfErr result (λ e. (e ≡ fail.No code.NotAVolume) ⊎ (e ≡ fail.Memory)) }
+    ensures only { IfErr result (λ e. (e ≡ fail.No code.NotAVolume) ⊎ (e ≡ fail.OutOfMemory)) }
 {
     match read_contents(
         alloc,
@@ -68,12 +68,12 @@ fn contents_of(alloc: Global, opened: &Opened, clusters: u32) -> Result<Contents
         clusters,
     ) {
         Ok(contents) => Ok(contents),
-        Err(ImageFail::NotAVolume) => Err(Fail::No(Code::NotAVolume)),
-        Err(ImageFail::Memory) => Err(Fail::Memory),
+        Err(ImageError::NotAVolume) => Err(CallError::No(Code::NotAVolume)),
+        Err(ImageError::OutOfMemory) => Err(CallError::OutOfMemory),
     }
 }
 
-fn push_clusters(clusters: &mut Vec<u32>, pairs: &[(u32, u32)]) -> Result<(), Memory>
+fn push_clusters(clusters: &mut Vec<u32>, pairs: &[(u32, u32)]) -> Result<(), OutOfMemory>
     ensures { OnOk result (clusters.new.items ≡ clusters.old.items ++ clusters_in pairs.now) }
 {
     for pair in pairs {
@@ -82,7 +82,7 @@ fn push_clusters(clusters: &mut Vec<u32>, pairs: &[(u32, u32)]) -> Result<(), Me
     Ok(())
 }
 
-fn clusters_held(alloc: Global, rows: &[Row]) -> Result<Vec<u32>, Memory>
+fn clusters_held(alloc: Global, rows: &[Row]) -> Result<Vec<u32>, OutOfMemory>
     ensures { IfOk result (λ v. v.items ≡ clusters_of (map row_value rows.now)) }
 {
     let mut clusters = Vec::new(alloc);
@@ -93,7 +93,7 @@ fn clusters_held(alloc: Global, rows: &[Row]) -> Result<Vec<u32>, Memory>
 }
 
 // The clusters, those of the rows held.
-fn data_of(alloc: Global, contents: &Contents, clusters: u32) -> Result<Data, Memory>
+fn data_of(alloc: Global, contents: &Contents, clusters: u32) -> Result<Data, OutOfMemory>
     requires { IsSound clusters (image_of contents.now) }
     ensures { IfOk result (Opens clusters (clusters_of (map row_value contents.now.rows.rows))) }
 {
@@ -121,7 +121,7 @@ pub(crate) fn raise<D: Disk>(alloc: Global, disk: &mut D, parts: &mut Parts) -> 
     ensures powers { (D.state disk.new).powers ≡ (D.state disk.old).powers }
     ensures faults { (D.state disk.old).faults ≤ (D.state disk.new).faults }
     ensures cause { IfErr result (λ e. IsStop e (D.state disk.old) (D.state disk.new)) }
-    ensures memory { result ≡ Err stop.Memory → disk.new ≡ disk.old }
+    ensures memory { result ≡ Err stop.OutOfMemory → disk.new ≡ disk.old }
     ensures usable { OnOk result (parts.new.journal.broken ≡ false) }
 {
     has_an_image(&parts.contents);
@@ -133,13 +133,13 @@ pub(crate) fn raise<D: Disk>(alloc: Global, disk: &mut D, parts: &mut Parts) -> 
 }
 
 // The number before the first one of the next epoch; none after the last epoch.
-fn number_after(epoch: u32) -> Result<Usn, Fail>
+fn number_after(epoch: u32) -> Result<Usn, CallError>
     ensures ok { IfOk result (λ n. n ≡ number_after epoch) }
     ensures fits { IfOk result (λ n. epoch < most) }
     ensures last { IfErr result (λ e. (e ≡ fail.No code.Exhausted) × (epoch ≡ most)) }
 {
     if epoch == u32::MAX {
-        return Err(Fail::No(Code::Exhausted));
+        return Err(CallError::No(Code::Exhausted));
     }
     Ok(Usn {
         epoch: epoch + 1,
@@ -156,14 +156,14 @@ pub(crate) fn clusters_of_disk<D: Disk>(disk: &D) -> u32
 }
 
 // The parts of an opened journal, with the epoch raised in the contents and not yet on the disk.
-fn parts_of(alloc: Global, opened: Opened, clusters: u32) -> Result<Parts, Fail>
+fn parts_of(alloc: Global, opened: Opened, clusters: u32) -> Result<Parts, CallError>
     ensures journal { IfOk result (λ p. p.journal ≡ opened.journal) }
     ensures image { IfOk result (λ p. (i : Image) × IsContents opened.image opened.payloads clusters i × (i.header.last.epoch < most) × (image_of p.contents ≡ raised_image i.header.last.epoch i)) }
     ensures room { IfOk result (λ p. All HasRoom p.contents.rows.rows) }
     ensures held { IfOk result (λ p. Opens clusters (clusters_of (map row_value p.contents.rows.rows)) p.held) }
     ensures none { result ≡ Err (fail.No code.NotAVolume) → (i : Image) → IsContents opened.image opened.payloads clusters i → ⊥ }
     ensures last { result ≡ Err (fail.No code.Exhausted) → (i : Image) × IsContents opened.image opened.payloads clusters i × (i.header.last.epoch ≡ most) }
-    ensures only { IfErr result (λ e. (e ≡ fail.No code.NotAVolume) ⊎ ((e ≡ fail.No code.Exhausted) ⊎ (e ≡ fail.Memory))) }
+    ensures only { IfErr result (λ e. (e ≡ fail.No code.NotAVolume) ⊎ ((e ≡ fail.No code.Exhausted) ⊎ (e ≡ fail.OutOfMemory))) }
 {
     let mut contents = contents_of(alloc, &opened, clusters)?;
     let last = number_after(contents.last.epoch)?;
@@ -177,14 +177,14 @@ fn parts_of(alloc: Global, opened: Opened, clusters: u32) -> Result<Parts, Fail>
 }
 
 // Opens the journal, which only reads.
-fn open_journal<D: Disk>(alloc: Global, disk: &mut D) -> Result<Opened, Fail>
+fn open_journal<D: Disk>(alloc: Global, disk: &mut D) -> Result<Opened, CallError>
     requires { IsFitSize (size_of (D.state disk.old)) }
     ensures found { IfOk result (λ o. Settled o.journal (D.state disk.new) (record { image = o.image; payloads = o.payloads })) }
     ensures none { result ≡ Err (fail.No code.NotAVolume) → (x : Content) → Stands (D.state disk.old).seen x → ⊥ }
     ensures durable { OnOk result (Only (D.state disk.old).seen (D.state disk.new)) }
     ensures reads { ReadsOnly (D.state disk.old) (D.state disk.new) }
     ensures cause { result ≡ Err (fail.No code.Device) → capped ((D.state disk.old).faults + 1) ≤ (D.state disk.new).faults }
-    ensures only { IfErr result (λ e. (e ≡ fail.No code.NotAVolume) ⊎ ((e ≡ fail.No code.Device) ⊎ (e ≡ fail.Memory))) }
+    ensures only { IfErr result (λ e. (e ≡ fail.No code.NotAVolume) ⊎ ((e ≡ fail.No code.Device) ⊎ (e ≡ fail.OutOfMemory))) }
 {
     match Journal::open(alloc, disk) {
         Ok(opened) => Ok(opened),
@@ -193,14 +193,14 @@ fn open_journal<D: Disk>(alloc: Global, disk: &mut D) -> Result<Opened, Fail>
 }
 
 // Finds what the disk holds, and only reads: the epoch is raised in the parts and not yet on the disk.
-fn find<D: Disk>(alloc: Global, disk: &mut D) -> Result<Parts, Fail>
+fn find<D: Disk>(alloc: Global, disk: &mut D) -> Result<Parts, CallError>
     requires { IsFitSize (size_of (D.state disk.old)) }
     ensures found { IfOk result (λ p. (x : Content) × Finds (D.state disk.old) (D.state disk.new) x p) }
     ensures none { result ≡ Err (fail.No code.NotAVolume) → (i : Image) → HoldsImage (D.state disk.old).seen i → ⊥ }
     ensures last { result ≡ Err (fail.No code.Exhausted) → (i : Image) × HoldsImage (D.state disk.old).seen i × (i.header.last.epoch ≡ most) }
     ensures reads { ReadsOnly (D.state disk.old) (D.state disk.new) }
     ensures cause { result ≡ Err (fail.No code.Device) → capped ((D.state disk.old).faults + 1) ≤ (D.state disk.new).faults }
-    ensures only { IfErr result (λ e. (e ≡ fail.No code.NotAVolume) ⊎ ((e ≡ fail.No code.Exhausted) ⊎ ((e ≡ fail.No code.Device) ⊎ (e ≡ fail.Memory)))) }
+    ensures only { IfErr result (λ e. (e ≡ fail.No code.NotAVolume) ⊎ ((e ≡ fail.No code.Exhausted) ⊎ ((e ≡ fail.No code.Device) ⊎ (e ≡ fail.OutOfMemory)))) }
 {
     one_content();
     let clusters = clusters_of_disk(disk);
@@ -210,12 +210,12 @@ fn find<D: Disk>(alloc: Global, disk: &mut D) -> Result<Parts, Fail>
 
 /// Opens the volume on the disk and raises its epoch by one, which is appended to the journal, or else a whole image is
 /// written. NotAVolume exactly where the disk holds no image of a volume, and Exhausted exactly where it holds one of the
-/// last epoch; both before anything is written. Device where a call of the disk failed, whose count of faults rose. Memory
+/// last epoch; both before anything is written. Device where a call of the disk failed, whose count of faults rose. OutOfMemory
 /// where there is none.
 ///
 /// A crash at any moment leaves what it might have left before, or the same changes and book, with the epoch as it was or
 /// raised.
-pub fn load<D: Disk>(alloc: Global, disk: &mut D) -> Result<Parts, Fail>
+pub fn load<D: Disk>(alloc: Global, disk: &mut D) -> Result<Parts, CallError>
     requires { IsFitSize (size_of (D.state disk.old)) }
     ensures ok { (e : ℕ) (log : List (Usn × Change)) (b : Book) → Standing e (D.state disk.old).seen log b
         → IfOk result (λ p. At (D.state disk.new) (known_of p) (opened (e + 1) log b (clusters_on (D.state disk.old).seen))) }
@@ -234,13 +234,13 @@ pub fn load<D: Disk>(alloc: Global, disk: &mut D) -> Result<Parts, Fail>
     ensures powers { (D.state disk.new).powers ≡ (D.state disk.old).powers }
     ensures faults { (D.state disk.old).faults ≤ (D.state disk.new).faults }
     ensures cause { result ≡ Err (fail.No code.Device) → capped ((D.state disk.old).faults + 1) ≤ (D.state disk.new).faults }
-    ensures only { IfErr result (λ e. (e ≡ fail.No code.NotAVolume) ⊎ ((e ≡ fail.No code.Exhausted) ⊎ ((e ≡ fail.No code.Device) ⊎ (e ≡ fail.Memory)))) }
+    ensures only { IfErr result (λ e. (e ≡ fail.No code.NotAVolume) ⊎ ((e ≡ fail.No code.Exhausted) ⊎ ((e ≡ fail.No code.Device) ⊎ (e ≡ fail.OutOfMemory)))) }
 {
     one_content();
     let mut parts = find(alloc, disk)?;
     match raise(alloc, disk, &mut parts) {
         Ok(()) => Ok(parts),
-        Err(Stop::Device) => Err(Fail::No(Code::Device)),
-        Err(Stop::Memory) => Err(Fail::Memory),
+        Err(Stop::Device) => Err(CallError::No(Code::Device)),
+        Err(Stop::OutOfMemory) => Err(CallError::OutOfMemory),
     }
 }

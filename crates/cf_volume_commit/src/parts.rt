@@ -5,7 +5,7 @@ use cf_volume_image::Contents;
 use cf_journal::Journal;
 
 /// A volume that was just made or opened, in parts. They go with the disk on which it was.
-#[derive(Debug, Drop)]
+#[derive(Drop)]
 pub struct Parts {
     pub journal: Journal,
     pub held: Data,

@@ -20,7 +20,7 @@ use crate::differences::what_differs;
 use crate::earlier::Earlier;
 use crate::ranges::{has_an_image, stands_in_order};
 use crate::texts::put_text;
-use cf_base::{Blob, Memory};
+use cf_base::{Blob, OutOfMemory};
 use cf_clusters::Data;
 use cf_disk::Disk;
 use cf_volume_image::{Contents, spell_payload};
@@ -29,7 +29,7 @@ use cf_volume_points::Stop;
 use std::alloc::Global;
 
 // The payload of what differs, where its lists are short.
-fn payload_text(alloc: Global, contents: &Contents, then: &Earlier) -> Result<Option<Blob>, Memory>
+fn payload_text(alloc: Global, contents: &Contents, then: &Earlier) -> Result<Option<Blob>, OutOfMemory>
     requires { All HasRoom contents.now.rows.rows }
     ensures { IfOk result (λ text. text ≡ text_of then.now contents.now) }
 {
@@ -51,7 +51,7 @@ fn payload_text(alloc: Global, contents: &Contents, then: &Earlier) -> Result<Op
 /// Makes what a volume says of its items durable, together with the bytes that its clusters hold, and commits the
 /// clusters: appends a payload of what differs from the last point, which `then` tells, where that has room in the journal,
 /// and else writes the whole image. The rows have room in their spelling, there are at most 10,000, and the image is within
-/// its limit. Device where a call of the disk failed, whose count of faults rose; then open the disk again. Memory where
+/// its limit. Device where a call of the disk failed, whose count of faults rose; then open the disk again. OutOfMemory where
 /// there is none; then nothing is done.
 ///
 /// A crash at any moment leaves what stood before, or the contents now; refused or not.
@@ -80,7 +80,7 @@ pub fn save<D: Disk>(
     ensures powers { (D.state disk.new).powers ≡ (D.state disk.old).powers }
     ensures faults { (D.state disk.old).faults ≤ (D.state disk.new).faults }
     ensures cause { IfErr result (λ e. IsStop e (D.state disk.old) (D.state disk.new)) }
-    ensures memory { result ≡ Err stop.Memory → (journal.new ≡ journal.old) × (disk.new ≡ disk.old) }
+    ensures memory { result ≡ Err stop.OutOfMemory → (journal.new ≡ journal.old) × (disk.new ≡ disk.old) }
     ensures usable { OnOk result (journal.new.broken ≡ false) }
 {
     has_an_image(contents);

@@ -9,7 +9,7 @@ ghost use Rattle.cf_journal.specs.Settled.{HasRoom, IsFitSize, Settled};
 ghost use Rattle.cf_model.specs.Formats.{Image, spell_image};
 ghost use Rattle.cf_volume_points.specs.Runs.{IsStop};
 ghost use Rattle.cf_volume_points.specs.Saving.{IsSaving, Saved};
-ghost use Rattle.cf_volume_points.specs.declared.stops.Stop.TheVariants.{Memory};
+ghost use Rattle.cf_volume_points.specs.declared.stops.Stop.TheVariants.{OutOfMemory};
 
 use cf_base::Blob;
 use cf_disk::Disk;
@@ -33,7 +33,7 @@ fn append<D: Disk>(disk: &mut D, journal: &mut Journal, text: &[u8]) -> Result<(
     ensures powers { (D.state disk.new).powers ≡ (D.state disk.old).powers }
     ensures faults { (D.state disk.old).faults ≤ (D.state disk.new).faults }
     ensures cause { IfErr result (λ e. IsStop e (D.state disk.old) (D.state disk.new)) }
-    ensures not_memory { result ≡ Err Memory → ⊥ }
+    ensures not_memory { result ≡ Err OutOfMemory → ⊥ }
     ensures usable { OnOk result (journal.new.broken ≡ false) }
 {
     match journal.append(disk, text) {
@@ -57,7 +57,7 @@ fn rewrite<D: Disk>(disk: &mut D, journal: &mut Journal, image: &[u8]) -> Result
     ensures powers { (D.state disk.new).powers ≡ (D.state disk.old).powers }
     ensures faults { (D.state disk.old).faults ≤ (D.state disk.new).faults }
     ensures cause { IfErr result (λ e. IsStop e (D.state disk.old) (D.state disk.new)) }
-    ensures not_memory { result ≡ Err Memory → ⊥ }
+    ensures not_memory { result ≡ Err OutOfMemory → ⊥ }
     ensures usable { OnOk result (journal.new.broken ≡ false) }
 {
     match journal.rewrite(disk, image) {
@@ -105,7 +105,7 @@ pub(crate) fn put_text<D: Disk>(
     ensures powers { (D.state disk.new).powers ≡ (D.state disk.old).powers }
     ensures faults { (D.state disk.old).faults ≤ (D.state disk.new).faults }
     ensures cause { IfErr result (λ e. IsStop e (D.state disk.old) (D.state disk.new)) }
-    ensures memory { result ≡ Err Memory → (journal.new ≡ journal.old) × (disk.new ≡ disk.old) }
+    ensures memory { result ≡ Err OutOfMemory → (journal.new ≡ journal.old) × (disk.new ≡ disk.old) }
     ensures usable { OnOk result (journal.new.broken ≡ false) }
 {
     match fitting(journal, text) {

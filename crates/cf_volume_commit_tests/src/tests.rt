@@ -7,7 +7,7 @@ ghost use Rattle.cf_table.specs.Spelling.{HasRoom};
 
 mod cuts;
 
-use cf_base::{AuxRecord, Blob, Choice, Code, Fail as Refusal, ItemId, Memory, Usn};
+use cf_base::{AuxRecord, Blob, Choice, Code, CallError as Refusal, ItemId, OutOfMemory, Usn};
 use cf_volume_commit::{Earlier, Parts, create, load, save};
 use cf_disk::{Disk, MemDisk};
 use cf_volume_image::{AuxRecords, Contents, read_contents};
@@ -20,7 +20,7 @@ use std::test::Fail;
 const SIZE: u64 = 3_153_920;
 
 // What is noted of the point of a new volume, where only the header has changed since.
-fn nothing_differs(alloc: Global) -> Result<Earlier, Memory> {
+fn nothing_differs(alloc: Global) -> Result<Earlier, OutOfMemory> {
     let mut rows = Rows::new(alloc)?;
     rows.remove_row(ItemId(1));
     Ok(Earlier {
@@ -143,7 +143,7 @@ fn no_epoch_comes_after_the_last(rt: HostRuntime) -> Result<(), Fail> {
     Ok(())
 }
 
-fn put_directory(out: &mut Vec<u8>, id: u8, parent: u8, name: &[u8]) -> Result<(), Memory> {
+fn put_directory(out: &mut Vec<u8>, id: u8, parent: u8, name: &[u8]) -> Result<(), OutOfMemory> {
     out.extend_from_slice(&[0, 0, 0, 0, 0, 0, 0, id, 0, 0, 0, 0, 0, 0, 0, parent, 0, 5])?;
     out.extend_from_slice(&[0; 33])?;
     out.extend_from_slice(name)?;
@@ -168,7 +168,7 @@ fn contents(alloc: Global, directory: bool, records: AuxRecords) -> Result<Conte
     Ok(contents)
 }
 
-fn put_record(alloc: Global, records: &mut AuxRecords, key: u8, zeros: u16) -> Result<(), Memory> {
+fn put_record(alloc: Global, records: &mut AuxRecords, key: u8, zeros: u16) -> Result<(), OutOfMemory> {
     let zeros = vec![in alloc; 0; zeros as usize]?;
     let key = Blob::from_slice(alloc, &[key])?;
     let value = Blob::from_slice(alloc, &zeros)?;
@@ -176,7 +176,7 @@ fn put_record(alloc: Global, records: &mut AuxRecords, key: u8, zeros: u16) -> R
 }
 
 // So many records, each with a value of so many zeros.
-fn records_of(alloc: Global, count: u8, zeros: u16) -> Result<AuxRecords, Memory> {
+fn records_of(alloc: Global, count: u8, zeros: u16) -> Result<AuxRecords, OutOfMemory> {
     let mut records = AuxRecords::new(alloc);
     for key in 0..count {
         put_record(alloc, &mut records, key, zeros)?;

@@ -12,12 +12,12 @@ use Rattle.cf_table.proofs.OneRow.{one_table}
 use Rattle.cf_table.proofs.OneText.{OneOf, one_4, one_8, one_name, one_usn, parted}
 use Rattle.cf_table.specs.Faults.{Any, AreTable, AtEnd, AtIdentity, AtNumber, AtTable, AtUsn, IsNumber, IsTold, Then, ThenOf}
 use Rattle.cf_table.specs.Reading.{IsAbove, IsIdentity, IsUsn, identity_bytes}
-use Rattle.cf_table.specs.declared.failures.RowFail.{RowFail}
-use Rattle.cf_table.specs.declared.failures.RowFail.TheVariants.{BadField, Memory, Short}
+use Rattle.cf_table.specs.declared.failures.RowError.{RowError}
+use Rattle.cf_table.specs.declared.failures.RowError.TheVariants.{BadField, OutOfMemory, Short}
 use Rattle.cf_volume_image.specs.Faults.{AtFormat, AtHeader, AtId, AtIds, AtIdsFrom, AtImage, AtKey, AtKeys, AtKeysFrom, AtPayload, AtRecord, AtRecords, AtRecordsFrom, of_row}
 use Rattle.cf_volume_image.specs.Spelled.{AreIds, AreIdsFrom, AreKeys, AreKeysFrom, AreRecords, AreRecordsFrom, IsAfter, IsHeader, IsId, IsImage, IsKey, IsPayload, IsRecord, ids_bytes, keys_bytes}
-use Rattle.cf_volume_image.specs.declared.failures.ImageFail.TheVariants as image
-use Rattle.cf_volume_image.specs.declared.failures.ImageFail.TheVariants.{NotAVolume}
+use Rattle.cf_volume_image.specs.declared.failures.ImageError.TheVariants as image
+use Rattle.cf_volume_image.specs.declared.failures.ImageError.TheVariants.{NotAVolume}
 use Rattle.cf_volume_image.proofs.OneImage.{image_parts, one_header, one_id, one_ids, one_key, one_keys, one_record, one_records, payload_parts, record_parts}
 
 -- parts
@@ -90,7 +90,7 @@ ids_miss left e told h ids more is text =
 
 -- wholes: the parts one behind the other, and then nothing
 
-after_records : (left : Left) (e : RowFail) → IsTold e → Then AtRecords AreRecords spell_records (λ records. AtEnd) left e → (rs : List AuxRecord) → AreRecords rs → left.rest ≡ spell_records rs ++ [] → ⊥
+after_records : (left : Left) (e : RowError) → IsTold e → Then AtRecords AreRecords spell_records (λ records. AtEnd) left e → (rs : List AuxRecord) → AreRecords rs → left.rest ≡ spell_records rs ++ [] → ⊥
 after_records left e told (inl h) rs is text = records_miss left e told h rs [] is text
 after_records left e told (inr h) rs is text =
     let p = one_records h.part rs h.mid.rest [] h.is_part is (sym h.takes.parts ∙ text) in
@@ -102,7 +102,7 @@ one_format m n a b h k e = let p = parted (m ∷ []) (n ∷ []) a b refl e in (h
 format_misses : Refuses AtFormat (λ (f : ℕ). f ≡ 2) (λ f. f ∷ [])
 format_misses left e told h f more is text = number_misses 1 (λ v. v ≡ 2) one_1 left e told h 2 more (omega arith, refl) (text ∙ ap (λ v. (v ∷ []) ++ more) is)
 
-image_misses : (left : Left) (e : RowFail) → IsTold e → AtImage left e → (i : Image) → IsImage i → left.rest ≡ spell_image i → ⊥
+image_misses : (left : Left) (e : RowError) → IsTold e → AtImage left e → (i : Image) → IsImage i → left.rest ≡ spell_image i → ⊥
 image_misses left e told (inl h) i is text = format_misses left e told h 2 _ refl (text ∙ sym (append-nil (spell_image i)) ∙ image_parts i [])
 image_misses left e told (inr h) i is text =
     let o = one_format h.part 2 h.mid.rest _ h.is_part refl (sym h.takes.parts ∙ text ∙ sym (append-nil (spell_image i)) ∙ image_parts i []) in
@@ -120,7 +120,7 @@ image_misses left e told (inr h) i is text =
           let p = one_header f.part i.header _ _ f.is_part is.header (sym f.takes.parts ∙ same) in
           behind_header f.mid f.fault p.1
 
-payload_misses : (left : Left) (e : RowFail) → IsTold e → AtPayload left e → (p : Payload) → IsPayload p → left.rest ≡ spell_payload p → ⊥
+payload_misses : (left : Left) (e : RowError) → IsTold e → AtPayload left e → (p : Payload) → IsPayload p → left.rest ≡ spell_payload p → ⊥
 payload_misses left e told (inl h) p is text = header_misses left e told h p.header _ is.header (text ∙ sym (append-nil (spell_payload p)) ∙ payload_parts p [])
 payload_misses left e told (inr h) p is text =
     let o = one_header h.part p.header _ _ h.is_part is.header (sym h.takes.parts ∙ text ∙ sym (append-nil (spell_payload p)) ∙ payload_parts p []) in
@@ -147,13 +147,13 @@ payload_misses left e told (inr h) p is text =
 
 -- as the clauses say it
 
-told_of : (e : RowFail) → of_row e ≡ NotAVolume → IsTold e
+told_of : (e : RowError) → of_row e ≡ NotAVolume → IsTold e
 told_of (Short place) h = tt
 told_of (BadField place) h = tt
-told_of Memory h = let z : image.Memory ≡ NotAVolume = h in absurd cc
+told_of OutOfMemory h = let z : image.OutOfMemory ≡ NotAVolume = h in absurd cc
 
-pub no_image : (b : List ℕ) (left : Left) (e : RowFail) → left ≡ record { place = 0; rest = b } → AtImage left e → of_row e ≡ NotAVolume → (i : Image) → IsImage i → b ≡ spell_image i → ⊥
+pub no_image : (b : List ℕ) (left : Left) (e : RowError) → left ≡ record { place = 0; rest = b } → AtImage left e → of_row e ≡ NotAVolume → (i : Image) → IsImage i → b ≡ spell_image i → ⊥
 no_image b left e is h why i fits text = image_misses left e (told_of e why) h i fits (ap (λ l. l.rest) is ∙ text)
 
-pub no_payload : (b : List ℕ) (left : Left) (e : RowFail) → left ≡ record { place = 0; rest = b } → AtPayload left e → of_row e ≡ NotAVolume → (p : Payload) → IsPayload p → b ≡ spell_payload p → ⊥
+pub no_payload : (b : List ℕ) (left : Left) (e : RowError) → left ≡ record { place = 0; rest = b } → AtPayload left e → of_row e ≡ NotAVolume → (p : Payload) → IsPayload p → b ≡ spell_payload p → ⊥
 no_payload b left e is h why p fits text = payload_misses left e (told_of e why) h p fits (ap (λ l. l.rest) is ∙ text)

@@ -6,8 +6,8 @@ use Rattle.cf_base.specs.declared.ids.ItemId.{ItemId}
 use Rattle.cf_codec.specs.Left.{Left, Takes}
 use Rattle.cf_model.specs.Formats.{spell_id, spell_key, spell_record}
 use Rattle.cf_table.proofs.Taken.{takes_both}
-use Rattle.cf_table.specs.declared.failures.RowFail.{RowFail}
-use Rattle.cf_table.specs.declared.failures.RowFail.TheVariants.{Memory}
+use Rattle.cf_table.specs.declared.failures.RowError.{RowError}
+use Rattle.cf_table.specs.declared.failures.RowError.TheVariants.{OutOfMemory}
 use Rattle.cf_volume_image.specs.Faults.{AtId, AtIdsFrom, AtKey, AtKeysFrom, AtRecord, AtRecordsFrom}
 use Rattle.cf_volume_image.specs.RecordLists.{last_key_of, last_of}
 use Rattle.cf_volume_image.specs.Spelled.{AreIdsFrom, AreKeysFrom, AreRecordsFrom, IsId, IsKey, IsRecord}
@@ -50,14 +50,14 @@ last_at before (x ∷ y ∷ ys) (suc j) d h = last_at (Some x) (y ∷ ys) j d (o
 
 -- records
 
-pub record_fault : (before asked : Option (List ℕ)) (n m : ℕ) (left : Left) (e : RowFail) → n ≡ suc m → asked ≡ before → AtRecord asked left e → AtRecordsFrom before n left e
+pub record_fault : (before asked : Option (List ℕ)) (n m : ℕ) (left : Left) (e : RowError) → n ≡ suc m → asked ≡ before → AtRecord asked left e → AtRecordsFrom before n left e
 record_fault before asked n m left e is same h = rw is (inl (subst (λ (b : Option (List ℕ)). AtRecord b left e) same h))
 
-pub no_memory_for_records : (before : Option (List ℕ)) (n : ℕ) (left : Left) → AtRecordsFrom before n left Memory
+pub no_memory_for_records : (before : Option (List ℕ)) (n : ℕ) (left : Left) → AtRecordsFrom before n left OutOfMemory
 no_memory_for_records before zero left = tt
 no_memory_for_records before (suc n) left = inl (inl (inl (inl tt)))
 
-pub behind_record : (before asked : Option (List ℕ)) (n m : ℕ) (left mid : Left) (e : RowFail) (r : AuxRecord) → n ≡ suc m → asked ≡ before → IsRecord asked r → Takes (spell_record r) left mid → AtRecordsFrom (Some r.key) m mid e → AtRecordsFrom before n left e
+pub behind_record : (before asked : Option (List ℕ)) (n m : ℕ) (left mid : Left) (e : RowError) (r : AuxRecord) → n ≡ suc m → asked ≡ before → IsRecord asked r → Takes (spell_record r) left mid → AtRecordsFrom (Some r.key) m mid e → AtRecordsFrom before n left e
 behind_record before asked n m left mid e r is same fits takes h =
     rw is (inr (record { part = r; is_part = subst (λ (b : Option (List ℕ)). IsRecord b r) same fits; mid = mid; takes = takes; fault = h }))
 
@@ -72,14 +72,14 @@ records_end xs so = subst (λ (v : List AuxRecord). AreRecordsFrom None v) (appe
 
 -- keys
 
-pub key_fault : (before asked : Option (List ℕ)) (n m : ℕ) (left : Left) (e : RowFail) → n ≡ suc m → asked ≡ before → AtKey asked left e → AtKeysFrom before n left e
+pub key_fault : (before asked : Option (List ℕ)) (n m : ℕ) (left : Left) (e : RowError) → n ≡ suc m → asked ≡ before → AtKey asked left e → AtKeysFrom before n left e
 key_fault before asked n m left e is same h = rw is (inl (subst (λ (b : Option (List ℕ)). AtKey b left e) same h))
 
-pub no_memory_for_keys : (before : Option (List ℕ)) (n : ℕ) (left : Left) → AtKeysFrom before n left Memory
+pub no_memory_for_keys : (before : Option (List ℕ)) (n : ℕ) (left : Left) → AtKeysFrom before n left OutOfMemory
 no_memory_for_keys before zero left = tt
 no_memory_for_keys before (suc n) left = inl (inl (inl tt))
 
-pub behind_key : (before asked : Option (List ℕ)) (n m : ℕ) (left mid : Left) (e : RowFail) (k : List ℕ) → n ≡ suc m → asked ≡ before → IsKey asked k → Takes (spell_key k) left mid → AtKeysFrom (Some k) m mid e → AtKeysFrom before n left e
+pub behind_key : (before asked : Option (List ℕ)) (n m : ℕ) (left mid : Left) (e : RowError) (k : List ℕ) → n ≡ suc m → asked ≡ before → IsKey asked k → Takes (spell_key k) left mid → AtKeysFrom (Some k) m mid e → AtKeysFrom before n left e
 behind_key before asked n m left mid e k is same fits takes h =
     rw is (inr (record { part = k; is_part = subst (λ (b : Option (List ℕ)). IsKey b k) same fits; mid = mid; takes = takes; fault = h }))
 
@@ -94,14 +94,14 @@ keys_end xs so = subst (λ (v : List (List ℕ)). AreKeysFrom None v) (append-ni
 
 -- ids
 
-pub id_fault : (before : Option ℕ) (n m : ℕ) (left : Left) (e : RowFail) → n ≡ suc m → AtId before left e → AtIdsFrom before n left e
+pub id_fault : (before : Option ℕ) (n m : ℕ) (left : Left) (e : RowError) → n ≡ suc m → AtId before left e → AtIdsFrom before n left e
 id_fault before n m left e is h = rw is (inl h)
 
-pub no_memory_for_ids : (before : Option ℕ) (n : ℕ) (left : Left) → AtIdsFrom before n left Memory
+pub no_memory_for_ids : (before : Option ℕ) (n : ℕ) (left : Left) → AtIdsFrom before n left OutOfMemory
 no_memory_for_ids before zero left = tt
 no_memory_for_ids before (suc n) left = inl tt
 
-pub behind_id : (before : Option ℕ) (n m : ℕ) (left mid : Left) (e : RowFail) (id : ItemId) → n ≡ suc m → IsId before id → Takes (spell_id id) left mid → AtIdsFrom (Some id.0) m mid e → AtIdsFrom before n left e
+pub behind_id : (before : Option ℕ) (n m : ℕ) (left mid : Left) (e : RowError) (id : ItemId) → n ≡ suc m → IsId before id → Takes (spell_id id) left mid → AtIdsFrom (Some id.0) m mid e → AtIdsFrom before n left e
 behind_id before n m left mid e id is fits takes h = rw is (inr (record { part = id; is_part = fits; mid = mid; takes = takes; fault = h }))
 
 pub ids_then : (before : Option ℕ) (all xs : List ItemId) (id : ItemId) → all ≡ xs ++ id ∷ [] → ((more : List ItemId) → AreIdsFrom before more → AreIdsFrom None (xs ++ more)) → IsId before id →

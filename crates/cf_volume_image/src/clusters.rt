@@ -10,12 +10,12 @@ ghost use Rattle.cf_model.specs.Standing.{are_apart, clusters_of};
 ghost use Rattle.cf_table.specs.Spelling.{row_value};
 ghost use Rattle.cf_volume_image.specs.ClusterLists.{clusters_in};
 
-use cf_base::Memory;
+use cf_base::OutOfMemory;
 use cf_table::Row;
 use std::alloc::{AllocError, Global};
 use std::collections::BTreeSet;
 
-fn push_clusters(clusters: &mut Vec<u32>, pairs: &[(u32, u32)]) -> Result<(), Memory>
+fn push_clusters(clusters: &mut Vec<u32>, pairs: &[(u32, u32)]) -> Result<(), OutOfMemory>
     ensures { OnOk result (clusters.new.items ≡ clusters.old.items ++ clusters_in pairs.now) }
 {
     for pair in pairs {
@@ -24,7 +24,7 @@ fn push_clusters(clusters: &mut Vec<u32>, pairs: &[(u32, u32)]) -> Result<(), Me
     Ok(())
 }
 
-fn clusters_of(alloc: Global, rows: &[Row]) -> Result<Vec<u32>, Memory>
+fn clusters_of(alloc: Global, rows: &[Row]) -> Result<Vec<u32>, OutOfMemory>
     ensures { IfOk result (λ v. v.items ≡ clusters_of (map row_value rows.now)) }
 {
     let mut clusters = Vec::new(alloc);
@@ -40,7 +40,7 @@ fn distinct_of(alloc: Global, clusters: &[u32]) -> Result<BTreeSet<u32>, AllocEr
     clusters.iter().copied().collect(alloc)
 }
 
-fn count_distinct(alloc: Global, clusters: &[u32]) -> Result<usize, Memory>
+fn count_distinct(alloc: Global, clusters: &[u32]) -> Result<usize, OutOfMemory>
     ensures { IfOk result (λ n. n ≡ distinct_count (eq_by_cmp nat_cmp) clusters.now) }
 {
     let distinct = distinct_of(alloc, clusters)?;
@@ -53,7 +53,7 @@ fn are_below(clusters: &[u32], limit: u32) -> bool
     clusters.iter().all(|cluster| *cluster < limit)
 }
 
-fn no_two(alloc: Global, clusters: &[u32], limit: u32) -> Result<bool, Memory>
+fn no_two(alloc: Global, clusters: &[u32], limit: u32) -> Result<bool, OutOfMemory>
     ensures { IfOk result (λ b. b ≡ are_apart limit clusters.now) }
 {
     if !are_below(clusters, limit) {
@@ -63,7 +63,7 @@ fn no_two(alloc: Global, clusters: &[u32], limit: u32) -> Result<bool, Memory>
 }
 
 /// Whether no two blocks of the rows have one cluster, and each has one of so many.
-pub(crate) fn are_apart(alloc: Global, rows: &[Row], limit: u32) -> Result<bool, Memory>
+pub(crate) fn are_apart(alloc: Global, rows: &[Row], limit: u32) -> Result<bool, OutOfMemory>
     ensures { IfOk result (λ b. b ≡ are_apart limit (clusters_of (map row_value rows.now))) }
 {
     let clusters = clusters_of(alloc, rows)?;

@@ -9,7 +9,7 @@ use cf_base::Usn;
 use cf_table::Rows;
 
 /// What a volume says of its items: its header, its rows, and its auxiliary records. The next item is that of the rows.
-#[derive(Debug, Drop)]
+#[derive(Drop)]
 pub struct Contents {
     /// The epoch, and the last place of it that a change has.
     pub last: Usn,

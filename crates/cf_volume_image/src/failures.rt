@@ -2,37 +2,37 @@
 
 ghost use Rattle.std.specs.Prelude.{◌≡◌};
 ghost use Rattle.cf_volume_image.specs.Faults.{of_row};
-ghost use Rattle.cf_volume_image.specs.declared.failures.ImageFail.TheVariants.{Memory};
+ghost use Rattle.cf_volume_image.specs.declared.failures.ImageError.TheVariants.{OutOfMemory};
 
-use cf_table::RowFail;
+use cf_table::RowError;
 
 /// Why an image or a payload cannot be read.
 #[derive(Clone, Copy, Debug, PartialEq, Eq, thiserror::Error)]
-pub enum ImageFail {
+pub enum ImageError {
     /// The bytes spell none, or what they spell tells no volume.
     #[error("the bytes tell no volume")]
     NotAVolume,
     /// There was no memory.
     #[error("out of memory")]
-    Memory,
+    OutOfMemory,
 }
 
-impl From<RowFail> for ImageFail {
+impl From<RowError> for ImageError {
     ghost from_gives = { λ r e. e ≡ of_row r };
 
-    fn from(fail: RowFail) -> ImageFail {
+    fn from(fail: RowError) -> ImageError {
         match fail {
-            RowFail::Memory => ImageFail::Memory,
-            RowFail::Short(_) => ImageFail::NotAVolume,
-            RowFail::BadField(_) => ImageFail::NotAVolume,
+            RowError::OutOfMemory => ImageError::OutOfMemory,
+            RowError::Short(_) => ImageError::NotAVolume,
+            RowError::BadField(_) => ImageError::NotAVolume,
         }
     }
 }
 
-impl From<cf_base::Memory> for ImageFail {
-    ghost from_gives = { λ _ e. e ≡ Memory };
+impl From<cf_base::OutOfMemory> for ImageError {
+    ghost from_gives = { λ _ e. e ≡ OutOfMemory };
 
-    fn from(_: cf_base::Memory) -> ImageFail {
-        ImageFail::Memory
+    fn from(_: cf_base::OutOfMemory) -> ImageError {
+        ImageError::OutOfMemory
     }
 }

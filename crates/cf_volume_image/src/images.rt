@@ -7,16 +7,16 @@ ghost use Rattle.cf_table.specs.Spelling.{HasRoom};
 ghost use Rattle.cf_volume_image.specs.Contents.{header_of, image_of};
 ghost use Rattle.cf_volume_image.specs.Faults.{AtFormat, AtImage};
 ghost use Rattle.cf_volume_image.specs.Spelled.{IsImage};
-ghost use Rattle.cf_volume_image.specs.declared.failures.ImageFail.TheVariants.{NotAVolume};
+ghost use Rattle.cf_volume_image.specs.declared.failures.ImageError.TheVariants.{NotAVolume};
 
 use crate::contents::Contents;
-use crate::failures::ImageFail;
+use crate::failures::ImageError;
 use crate::part_reads::{read_header, read_records};
 use crate::part_writes::{put_header, put_records};
-use cf_base::{Blob, Memory};
+use cf_base::{Blob, OutOfMemory};
 use cf_codec::{Reader, Writer};
 use cf_table::plain_fields::{place_of, read_1};
-use cf_table::{RowFail, Rows};
+use cf_table::{RowError, Rows};
 use std::alloc::Global;
 
 /// The number of the format.
@@ -24,7 +24,7 @@ const FORMAT: u8 = 2;
 
 /// Spells what the contents say. Of 4,294,967,296 rows or records and more only the last four bytes of the count are
 /// spelled. The rows need names, identities and sets that have room in a spelling, as those that were read do.
-pub fn spell_image(alloc: Global, contents: &Contents) -> Result<Blob, Memory>
+pub fn spell_image(alloc: Global, contents: &Contents) -> Result<Blob, OutOfMemory>
     requires { All HasRoom contents.now.rows.rows }
     ensures { IfOk result (λ b. b ≡ spell_image (image_of contents.now)) }
 {
@@ -37,7 +37,7 @@ pub fn spell_image(alloc: Global, contents: &Contents) -> Result<Blob, Memory>
     Ok(out.into_blob())
 }
 
-fn read_format(r: &mut Reader) -> Result<(), RowFail>
+fn read_format(r: &mut Reader) -> Result<(), RowError>
     ensures took { OnOk result (Takes (2 ∷ []) r.old r.new) }
     ensures fault { IfErr result (AtFormat r.old) }
 {
@@ -46,11 +46,11 @@ fn read_format(r: &mut Reader) -> Result<(), RowFail>
     if format == FORMAT {
         Ok(())
     } else {
-        Err(RowFail::BadField(place))
+        Err(RowError::BadField(place))
     }
 }
 
-fn image_in(alloc: Global, r: &mut Reader) -> Result<Contents, RowFail>
+fn image_in(alloc: Global, r: &mut Reader) -> Result<Contents, RowError>
     ensures took { IfOk result (λ c. r.old.rest ≡ spell_image (image_of c)) }
     ensures fits { IfOk result (λ c. IsImage (image_of c)) }
     ensures room { IfOk result (λ c. All HasRoom c.rows.rows) }
@@ -72,8 +72,8 @@ fn image_in(alloc: Global, r: &mut Reader) -> Result<Contents, RowFail>
 
 /// Reads what `spell_image` writes. NotAVolume exactly where the bytes spell no image: a field lacks bytes or has a value
 /// that is not spelled, ids or keys do not rise, or bytes are left over. An image that is read need not be that of a volume;
-/// `read_contents` tests that. Memory where there is none.
-pub fn read_image(alloc: Global, b: &[u8]) -> Result<Contents, ImageFail>
+/// `read_contents` tests that. OutOfMemory where there is none.
+pub fn read_image(alloc: Global, b: &[u8]) -> Result<Contents, ImageError>
     ensures spelled { IfOk result (λ c. b.now ≡ spell_image (image_of c)) }
     ensures fits { IfOk result (λ c. IsImage (image_of c)) }
     ensures room { IfOk result (λ c. All HasRoom c.rows.rows) }

@@ -23,7 +23,7 @@ mod sound_rows;
 mod trees;
 
 pub use contents::Contents;
-pub use failures::ImageFail;
+pub use failures::ImageError;
 pub use images::{read_image, spell_image};
 pub use laws::{a_payload_is_enough, one_value_of_a_text};
 pub use openings::read_contents;

@@ -14,9 +14,9 @@ ghost use Rattle.cf_volume_image.specs.Spelled.{AreIds, AreIdsFrom, AreKeys, Are
 
 use crate::record_lists::is_before;
 use crate::records::AuxRecords;
-use cf_base::{AuxRecord, Blob, ItemId, Memory, Usn};
+use cf_base::{AuxRecord, Blob, ItemId, OutOfMemory, Usn};
 use cf_codec::Reader;
-use cf_table::RowFail;
+use cf_table::RowError;
 use cf_table::plain_fields::{place_of, read_1, read_2, read_4, read_8, read_bytes, read_usn};
 use std::alloc::Global;
 
@@ -30,7 +30,7 @@ pub(crate) struct Header {
 }
 
 /// Reads a header.
-pub(crate) fn read_header(r: &mut Reader) -> Result<Header, RowFail>
+pub(crate) fn read_header(r: &mut Reader) -> Result<Header, RowError>
     ensures took { IfOk result (λ h. Takes (spell_header (read_header_of h)) r.old r.new) }
     ensures fits { IfOk result (λ h. IsHeader (read_header_of h)) }
     ensures fault { IfErr result (AtHeader r.old) }
@@ -57,7 +57,7 @@ fn is_after(before: Option<&[u8]>, key: &[u8]) -> bool
     }
 }
 
-fn read_text<'a>(r: &mut Reader<'a>) -> Result<&'a [u8], RowFail>
+fn read_text<'a>(r: &mut Reader<'a>) -> Result<&'a [u8], RowError>
     ensures took { IfOk result (λ t. Takes (name_bytes t.now) r.old r.new) }
     ensures fits { IfOk result (λ t. IsName t.now) }
     ensures fault { IfErr result (AtName r.old) }
@@ -66,7 +66,7 @@ fn read_text<'a>(r: &mut Reader<'a>) -> Result<&'a [u8], RowFail>
     read_bytes(r, count as usize)
 }
 
-fn read_value<'a>(r: &mut Reader<'a>) -> Result<&'a [u8], RowFail>
+fn read_value<'a>(r: &mut Reader<'a>) -> Result<&'a [u8], RowError>
     ensures took { IfOk result (λ t. Takes (identity_bytes t.now) r.old r.new) }
     ensures fits { IfOk result (λ t. IsIdentity t.now) }
     ensures fault { IfErr result (AtIdentity r.old) }
@@ -76,7 +76,7 @@ fn read_value<'a>(r: &mut Reader<'a>) -> Result<&'a [u8], RowFail>
 }
 
 // A key that comes after this one, if there is one.
-fn read_key<'a>(r: &mut Reader<'a>, before: Option<&[u8]>) -> Result<&'a [u8], RowFail>
+fn read_key<'a>(r: &mut Reader<'a>, before: Option<&[u8]>) -> Result<&'a [u8], RowError>
     ensures took { IfOk result (λ k. Takes (spell_key k.now) r.old r.new) }
     ensures fits { IfOk result (λ k. IsKey (option_copied before.entry) k.now) }
     ensures fault { IfErr result (AtKey (option_copied before.entry) r.old) }
@@ -86,11 +86,11 @@ fn read_key<'a>(r: &mut Reader<'a>, before: Option<&[u8]>) -> Result<&'a [u8], R
     if is_after(before, key) {
         Ok(key)
     } else {
-        Err(RowFail::BadField(place))
+        Err(RowError::BadField(place))
     }
 }
 
-fn read_record(alloc: Global, r: &mut Reader, before: Option<&[u8]>) -> Result<AuxRecord, RowFail>
+fn read_record(alloc: Global, r: &mut Reader, before: Option<&[u8]>) -> Result<AuxRecord, RowError>
     ensures took { IfOk result (λ x. Takes (spell_record x) r.old r.new) }
     ensures fits { IfOk result (IsRecord (option_copied before.entry)) }
     ensures fault { IfErr result (AtRecord (option_copied before.entry) r.old) }
@@ -103,7 +103,7 @@ fn read_record(alloc: Global, r: &mut Reader, before: Option<&[u8]>) -> Result<A
     })
 }
 
-fn records_in(alloc: Global, r: &mut Reader, count: u32) -> Result<Vec<AuxRecord>, RowFail>
+fn records_in(alloc: Global, r: &mut Reader, count: u32) -> Result<Vec<AuxRecord>, RowError>
     ensures took { IfOk result (λ v. Takes (records_bytes v.items) r.old r.new) }
     ensures count { IfOk result (λ v. length v.items ≡ count) }
     ensures fits { IfOk result (λ v. AreRecordsFrom None v.items) }
@@ -128,7 +128,7 @@ fn last_key(records: &[AuxRecord]) -> Option<&[u8]>
 }
 
 /// Reads how many records there are, and the records, whose keys rise.
-pub(crate) fn read_records(alloc: Global, r: &mut Reader) -> Result<AuxRecords, RowFail>
+pub(crate) fn read_records(alloc: Global, r: &mut Reader) -> Result<AuxRecords, RowError>
     ensures took { IfOk result (λ x. Takes (spell_records x) r.old r.new) }
     ensures fits { IfOk result AreRecords }
     ensures fault { IfErr result (AtRecords r.old) }
@@ -138,7 +138,7 @@ pub(crate) fn read_records(alloc: Global, r: &mut Reader) -> Result<AuxRecords, 
     Ok(AuxRecords::from_vec(records))
 }
 
-fn keys_in(alloc: Global, r: &mut Reader, count: u32) -> Result<Vec<Blob>, RowFail>
+fn keys_in(alloc: Global, r: &mut Reader, count: u32) -> Result<Vec<Blob>, RowError>
     ensures took { IfOk result (λ v. Takes (flat_map spell_key v.items) r.old r.new) }
     ensures count { IfOk result (λ v. length v.items ≡ count) }
     ensures fits { IfOk result (λ v. AreKeysFrom None v.items) }
@@ -163,7 +163,7 @@ fn last_of(keys: &[Blob]) -> Option<&[u8]>
 }
 
 /// Reads how many keys there are, and the keys, which rise.
-pub(crate) fn read_keys(alloc: Global, r: &mut Reader) -> Result<Vec<Blob>, RowFail>
+pub(crate) fn read_keys(alloc: Global, r: &mut Reader) -> Result<Vec<Blob>, RowError>
     ensures took { IfOk result (λ v. Takes (keys_bytes v.items) r.old r.new) }
     ensures fits { IfOk result (λ v. AreKeys v.items) }
     ensures fault { IfErr result (AtKeys r.old) }
@@ -172,7 +172,7 @@ pub(crate) fn read_keys(alloc: Global, r: &mut Reader) -> Result<Vec<Blob>, RowF
     keys_in(alloc, r, count)
 }
 
-fn read_id(r: &mut Reader, before: Option<u64>) -> Result<ItemId, RowFail>
+fn read_id(r: &mut Reader, before: Option<u64>) -> Result<ItemId, RowError>
     ensures took { IfOk result (λ id. Takes (spell_id id) r.old r.new) }
     ensures fits { IfOk result (IsId before) }
     ensures fault { IfErr result (AtId before r.old) }
@@ -180,12 +180,12 @@ fn read_id(r: &mut Reader, before: Option<u64>) -> Result<ItemId, RowFail>
     let place = place_of(r);
     let id = read_8(r)?;
     match before {
-        Some(before) if id <= before => Err(RowFail::BadField(place)),
+        Some(before) if id <= before => Err(RowError::BadField(place)),
         _ => Ok(ItemId(id)),
     }
 }
 
-fn ids_in(alloc: Global, r: &mut Reader, count: u32) -> Result<Vec<ItemId>, RowFail>
+fn ids_in(alloc: Global, r: &mut Reader, count: u32) -> Result<Vec<ItemId>, RowError>
     ensures took { IfOk result (λ v. Takes (flat_map spell_id v.items) r.old r.new) }
     ensures count { IfOk result (λ v. length v.items ≡ count) }
     ensures fits { IfOk result (λ v. AreIdsFrom None v.items) }
@@ -202,7 +202,7 @@ fn ids_in(alloc: Global, r: &mut Reader, count: u32) -> Result<Vec<ItemId>, RowF
 }
 
 /// Reads how many ids there are, and the ids, which rise.
-pub(crate) fn read_ids(alloc: Global, r: &mut Reader) -> Result<Vec<ItemId>, RowFail>
+pub(crate) fn read_ids(alloc: Global, r: &mut Reader) -> Result<Vec<ItemId>, RowError>
     ensures took { IfOk result (λ v. Takes (ids_bytes v.items) r.old r.new) }
     ensures fits { IfOk result (λ v. AreIds v.items) }
     ensures fault { IfErr result (AtIds r.old) }

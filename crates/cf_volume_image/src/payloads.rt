@@ -13,20 +13,20 @@ ghost use Rattle.cf_volume_image.specs.Faults.{AtPayload};
 ghost use Rattle.cf_volume_image.specs.RecordLists.{IsShort};
 ghost use Rattle.cf_volume_image.specs.Spelled.{IsPayload};
 ghost use Rattle.cf_volume_image.specs.States.{IsAfter, without_records, without_rows};
-ghost use Rattle.cf_volume_image.specs.declared.failures.ImageFail.TheVariants.{NotAVolume};
+ghost use Rattle.cf_volume_image.specs.declared.failures.ImageError.TheVariants.{NotAVolume};
 
 use crate::contents::Contents;
-use crate::failures::ImageFail;
+use crate::failures::ImageError;
 use crate::part_reads::{Header, read_header, read_ids, read_keys, read_records};
 use crate::part_writes::{put_count, put_header, put_key, put_record};
 use crate::records::AuxRecords;
-use cf_base::{AuxRecord, Blob, ItemId, Memory};
+use cf_base::{AuxRecord, Blob, ItemId, OutOfMemory};
 use cf_codec::{Reader, Writer};
 use cf_table::plain_fields::{put_4, put_8};
-use cf_table::{Row, RowFail, Rows};
+use cf_table::{Row, RowError, Rows};
 use std::alloc::Global;
 
-fn put_ids(out: &mut Writer, ids: &[ItemId]) -> Result<(), Memory>
+fn put_ids(out: &mut Writer, ids: &[ItemId]) -> Result<(), OutOfMemory>
     ensures { OnOk result (out.new ≡ out.old ++ flat_map spell_id ids.now) }
 {
     for id in ids {
@@ -35,7 +35,7 @@ fn put_ids(out: &mut Writer, ids: &[ItemId]) -> Result<(), Memory>
     Ok(())
 }
 
-fn put_keys(out: &mut Writer, keys: &[Blob]) -> Result<(), Memory>
+fn put_keys(out: &mut Writer, keys: &[Blob]) -> Result<(), OutOfMemory>
     requires { All (λ k. length k < 2 ^ 8) keys.now }
     ensures { OnOk result (out.new ≡ out.old ++ flat_map spell_key keys.now) }
 {
@@ -46,7 +46,7 @@ fn put_keys(out: &mut Writer, keys: &[Blob]) -> Result<(), Memory>
 }
 
 // The row with the id, if it is there. Gives how many that are.
-fn put_row(out: &mut Writer, rows: &Rows, id: ItemId) -> Result<u32, Memory>
+fn put_row(out: &mut Writer, rows: &Rows, id: ItemId) -> Result<u32, OutOfMemory>
     requires { All HasRoom rows.now.rows }
     ensures spelled { OnOk result (out.new ≡ out.old ++ flat_map spell_row (one_row (map row_value rows.now.rows) id)) }
     ensures count { IfOk result (λ n. n ≡ length (one_row (map row_value rows.now.rows) id)) }
@@ -61,7 +61,7 @@ fn put_row(out: &mut Writer, rows: &Rows, id: ItemId) -> Result<u32, Memory>
     }
 }
 
-fn put_each_row(out: &mut Writer, rows: &Rows, ids: &[ItemId]) -> Result<u32, Memory>
+fn put_each_row(out: &mut Writer, rows: &Rows, ids: &[ItemId]) -> Result<u32, OutOfMemory>
     requires rows { All HasRoom rows.now.rows }
     requires count { length ids.now < 2 ^ 32 }
     ensures spelled { OnOk result (out.new ≡ out.old ++ flat_map spell_row (rows_at (map row_value rows.now.rows) ids.now)) }
@@ -76,7 +76,7 @@ fn put_each_row(out: &mut Writer, rows: &Rows, ids: &[ItemId]) -> Result<u32, Me
 }
 
 // The record with the key, if it is there. Gives how many that are.
-fn put_one(out: &mut Writer, records: &AuxRecords, key: &[u8]) -> Result<u32, Memory>
+fn put_one(out: &mut Writer, records: &AuxRecords, key: &[u8]) -> Result<u32, OutOfMemory>
     ensures spelled { OnOk result (out.new ≡ out.old ++ flat_map spell_record (one_record records.now key.now)) }
     ensures count { IfOk result (λ n. n ≡ length (one_record records.now key.now)) }
     ensures small { IfOk result (λ n. n ≤ 1) }
@@ -92,7 +92,7 @@ fn put_one(out: &mut Writer, records: &AuxRecords, key: &[u8]) -> Result<u32, Me
     }
 }
 
-fn put_each_record(out: &mut Writer, records: &AuxRecords, keys: &[Blob]) -> Result<u32, Memory>
+fn put_each_record(out: &mut Writer, records: &AuxRecords, keys: &[Blob]) -> Result<u32, OutOfMemory>
     requires { length keys.now < 2 ^ 32 }
     ensures spelled { OnOk result (out.new ≡ out.old ++ flat_map spell_record (records_at records.now keys.now)) }
     ensures count { IfOk result (λ n. n ≡ length (records_at records.now keys.now)) }
@@ -105,7 +105,7 @@ fn put_each_record(out: &mut Writer, records: &AuxRecords, keys: &[Blob]) -> Res
     Ok(count)
 }
 
-fn put_rows(alloc: Global, out: &mut Writer, rows: &Rows, ids: &[ItemId]) -> Result<(), Memory>
+fn put_rows(alloc: Global, out: &mut Writer, rows: &Rows, ids: &[ItemId]) -> Result<(), OutOfMemory>
     requires rows { All HasRoom rows.now.rows }
     requires count { length ids.now < 2 ^ 32 }
     ensures { OnOk result (out.new ≡ out.old ++ spell_rows (rows_at (map row_value rows.now.rows) ids.now)) }
@@ -121,7 +121,7 @@ fn put_records(
     out: &mut Writer,
     records: &AuxRecords,
     keys: &[Blob],
-) -> Result<(), Memory>
+) -> Result<(), OutOfMemory>
     requires { length keys.now < 2 ^ 32 }
     ensures { OnOk result (out.new ≡ out.old ++ spell_records (records_at records.now keys.now)) }
 {
@@ -142,7 +142,7 @@ pub fn spell_payload(
     changed: &[ItemId],
     removed_keys: &[Blob],
     changed_keys: &[Blob],
-) -> Result<Blob, Memory>
+) -> Result<Blob, OutOfMemory>
     requires rows { All HasRoom contents.now.rows.rows }
     requires changed { length changed.now < 2 ^ 32 }
     requires changed_keys { length changed_keys.now < 2 ^ 32 }
@@ -170,7 +170,7 @@ pub(crate) struct Changes {
     records: AuxRecords,
 }
 
-fn changes_in(alloc: Global, r: &mut Reader) -> Result<Changes, RowFail>
+fn changes_in(alloc: Global, r: &mut Reader) -> Result<Changes, RowError>
     ensures took { IfOk result (λ c. r.old.rest ≡ spell_payload (changes_of c)) }
     ensures fits { IfOk result (λ c. IsPayload (changes_of c)) }
     ensures fault { IfErr result (AtPayload r.old) }
@@ -190,7 +190,7 @@ fn changes_in(alloc: Global, r: &mut Reader) -> Result<Changes, RowFail>
     })
 }
 
-fn read_changes(alloc: Global, b: &[u8]) -> Result<Changes, ImageFail>
+fn read_changes(alloc: Global, b: &[u8]) -> Result<Changes, ImageError>
     ensures spelled { IfOk result (λ c. b.now ≡ spell_payload (changes_of c)) }
     ensures fits { IfOk result (λ c. IsPayload (changes_of c)) }
     ensures none { IfErr result (λ e. e ≡ NotAVolume → (p : Payload) → IsPayload p → b.now ≡ spell_payload p → ⊥) }
@@ -208,7 +208,7 @@ fn remove_rows(rows: &mut Rows, ids: &[ItemId])
     }
 }
 
-fn add_rows(rows: &mut Rows, more: &[Row]) -> Result<(), Memory>
+fn add_rows(rows: &mut Rows, more: &[Row]) -> Result<(), OutOfMemory>
     requires { All HasRoom more.now }
     ensures rows { OnOk result (map row_value rows.new.rows ≡ with_rows (map row_value more.now) (map row_value rows.old.rows)) }
     ensures next { OnOk result (rows.new.next ≡ rows.old.next) }
@@ -230,7 +230,7 @@ fn remove_records(records: &mut AuxRecords, keys: &[Blob])
     }
 }
 
-fn copy_of(aux: &AuxRecord) -> Result<AuxRecord, Memory>
+fn copy_of(aux: &AuxRecord) -> Result<AuxRecord, OutOfMemory>
     ensures { IfOk result (λ r. r ≡ aux.now) }
 {
     Ok(AuxRecord {
@@ -239,7 +239,7 @@ fn copy_of(aux: &AuxRecord) -> Result<AuxRecord, Memory>
     })
 }
 
-fn add_records(records: &mut AuxRecords, more: &[AuxRecord]) -> Result<(), Memory>
+fn add_records(records: &mut AuxRecords, more: &[AuxRecord]) -> Result<(), OutOfMemory>
     requires { All IsShort more.now }
     ensures { OnOk result (records.new ≡ with_records more.now records.old) }
 {
@@ -250,7 +250,7 @@ fn add_records(records: &mut AuxRecords, more: &[AuxRecord]) -> Result<(), Memor
     Ok(())
 }
 
-fn apply(contents: &mut Contents, changes: Changes) -> Result<(), Memory>
+fn apply(contents: &mut Contents, changes: Changes) -> Result<(), OutOfMemory>
     requires { IsPayload (changes_of changes) }
     ensures { OnOk result (image_of contents.new ≡ after_payload (image_of contents.old) (changes_of changes)) }
 {
@@ -268,7 +268,7 @@ fn apply(contents: &mut Contents, changes: Changes) -> Result<(), Memory>
 
 /// Applies a payload: removals come first. NotAVolume where the bytes spell none, and then nothing changes. Without memory
 /// the contents are lost.
-pub fn apply_payload(alloc: Global, contents: &mut Contents, b: &[u8]) -> Result<(), ImageFail>
+pub fn apply_payload(alloc: Global, contents: &mut Contents, b: &[u8]) -> Result<(), ImageError>
     ensures ok { OnOk result (IsAfter b.now (image_of contents.old) (image_of contents.new)) }
     ensures none { IfErr result (λ e. e ≡ NotAVolume → (p : Payload) → IsPayload p → b.now ≡ spell_payload p → ⊥) }
     ensures unchanged { IfErr result (λ e. e ≡ NotAVolume → contents.new ≡ contents.old) }

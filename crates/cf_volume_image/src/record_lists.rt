@@ -8,7 +8,7 @@ ghost use Rattle.cf_volume_image.specs.Contents.{record_at};
 ghost use Rattle.cf_volume_image.specs.RecordLists.{AreKept, IsPlaceOf, IsRecordAt, IsRecordGap, IsShort, comes_after, records_len, stands_before};
 ghost use Rattle.cf_volume_image.specs.Spelled.{AreRecordsFrom};
 
-use cf_base::{AuxRecord, Memory};
+use cf_base::{AuxRecord, OutOfMemory};
 
 /// Whether a key comes before another.
 pub(crate) fn is_before(key: &[u8], other: &[u8]) -> bool
@@ -119,7 +119,7 @@ fn insert_at(
     place: usize,
     aux: AuxRecord,
     len: u128,
-) -> Result<u128, Memory>
+) -> Result<u128, OutOfMemory>
     requires place { IsRecordGap aux.key records.old.items place }
     requires kept { AreKept records.old.items len }
     requires short { IsShort aux }
@@ -148,7 +148,7 @@ pub(crate) fn put_record(
     records: &mut Vec<AuxRecord>,
     aux: AuxRecord,
     len: u128,
-) -> Result<u128, Memory>
+) -> Result<u128, OutOfMemory>
     requires kept { AreKept records.old.items len }
     requires short { IsShort aux }
     ensures kept { IfOk result (AreKept records.new.items) }

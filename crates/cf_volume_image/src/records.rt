@@ -7,12 +7,12 @@ ghost use Rattle.cf_volume_image.specs.RecordLists.{IsShort, comes_after, record
 ghost use Rattle.cf_volume_image.specs.Spelled.{AreRecordsFrom};
 
 use crate::record_lists::{find_after, find_record, len_of_all, put_record, remove_record};
-use cf_base::{AuxRecord, Memory};
+use cf_base::{AuxRecord, OutOfMemory};
 use std::alloc::Global;
 use std::marker::Model;
 
 /// The auxiliary records of a volume, each under a key of its own. Contracts see them in order of key.
-#[derive(Debug, Drop)]
+#[derive(Drop)]
 pub struct AuxRecords {
     records: Vec<AuxRecord>,
     len: u128,
@@ -89,7 +89,7 @@ impl AuxRecords {
 
     /// Puts the record, whose key has at most 255 bytes and whose value has at most 65,535, in place of the one with its
     /// key, or adds it. Without memory the records are as before.
-    pub fn put(&mut self, aux: AuxRecord) -> Result<(), Memory>
+    pub fn put(&mut self, aux: AuxRecord) -> Result<(), OutOfMemory>
         requires { IsShort aux }
         ensures ok { OnOk result (self.new ≡ with_record aux self.old) }
         ensures err { OnErr result (self.new ≡ self.old) }

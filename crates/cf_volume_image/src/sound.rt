@@ -15,7 +15,7 @@ use crate::clusters::are_apart;
 use crate::contents::Contents;
 use crate::sound_rows::is_sound_row;
 use crate::trees::is_tree;
-use cf_base::{ItemId, Memory, Usn};
+use cf_base::{ItemId, OutOfMemory, Usn};
 use cf_table::Row;
 use std::alloc::Global;
 
@@ -23,7 +23,7 @@ const MOST_ROWS: usize = 10_000;
 
 const MOST_IMAGE_BYTES: u64 = 1_306_624;
 
-fn are_sound(alloc: Global, rows: &[Row], next: ItemId, last: Usn) -> Result<bool, Memory>
+fn are_sound(alloc: Global, rows: &[Row], next: ItemId, last: Usn) -> Result<bool, OutOfMemory>
     ensures { (h : Header) → h.next ≡ next → h.last ≡ last → IfOk result (λ b. Decides b (AreSound h (map row_value rows.now))) }
 {
     for row in rows {
@@ -53,7 +53,7 @@ fn is_small(contents: &Contents) -> bool
 }
 
 /// Whether the contents are those of a volume of so many clusters.
-pub(crate) fn is_sound(alloc: Global, contents: &Contents, clusters: u32) -> Result<bool, Memory>
+pub(crate) fn is_sound(alloc: Global, contents: &Contents, clusters: u32) -> Result<bool, OutOfMemory>
     ensures { IfOk result (λ b. Decides b (IsSound clusters (image_of contents.now))) }
 {
     let rows = contents.rows.as_slice();

@@ -10,7 +10,7 @@ ghost use Rattle.cf_volume_image.specs.RowTests.{AreSmall, HasSoundName, HasSoun
 ghost use Rattle.cf_ranges.specs.Positions.{IsBelow};
 
 use crate::sets::{has_all, has_span, is_below};
-use cf_base::{Code, Fail, ItemId, Memory, Name, Usn};
+use cf_base::{Code, CallError, ItemId, OutOfMemory, Name, Usn};
 use cf_table::{NO_USN, Row};
 use std::alloc::Global;
 
@@ -32,17 +32,17 @@ fn has_sound_numbers(row: &Row, next: ItemId, last: Usn) -> bool
     row.id.0 < next.0 && !is_above(row.number, last) && !is_above(row.anchor, last)
 }
 
-fn is_name(alloc: Global, name: &[u8]) -> Result<bool, Memory>
+fn is_name(alloc: Global, name: &[u8]) -> Result<bool, OutOfMemory>
     ensures { IfOk result (λ b. b ≡ is_name name.now) }
 {
     match Name::read(alloc, name) {
         Ok(_) => Ok(true),
-        Err(Fail::Memory) => Err(Memory),
-        Err(Fail::No(_)) => Ok(false),
+        Err(CallError::OutOfMemory) => Err(OutOfMemory),
+        Err(CallError::No(_)) => Ok(false),
     }
 }
 
-fn has_sound_name(alloc: Global, row: &Row) -> Result<bool, Memory>
+fn has_sound_name(alloc: Global, row: &Row) -> Result<bool, OutOfMemory>
     ensures { IfOk result (λ b. Decides b (HasSoundName row.now)) }
 {
     let name = row.name.as_slice();
@@ -122,7 +122,7 @@ pub(crate) fn is_sound_row(
     row: &Row,
     next: ItemId,
     last: Usn,
-) -> Result<bool, Memory>
+) -> Result<bool, OutOfMemory>
     ensures { IfOk result (λ b. Decides b (IsSoundRow next last (row_value row.now))) }
 {
     if !has_sound_name(alloc, row)? {

@@ -2,13 +2,13 @@
 
 ghost use Rattle.std.specs.Prelude.{◌≡◌, [], IfOk};
 
-use cf_base::{AuxRecord, Blob, ItemId, Memory, Usn};
+use cf_base::{AuxRecord, Blob, ItemId, OutOfMemory, Usn};
 use cf_codec::Writer;
 use cf_volume_image::*;
 use std::alloc::Global;
 use std::test::Fail;
 
-fn put_places(out: &mut Writer, pairs: &[(u32, u32)]) -> Result<(), Memory> {
+fn put_places(out: &mut Writer, pairs: &[(u32, u32)]) -> Result<(), OutOfMemory> {
     out.put_u32(pairs.len().min(9) as u32)?;
     for (a, b) in pairs {
         out.put_u32(*a)?;
@@ -18,7 +18,7 @@ fn put_places(out: &mut Writer, pairs: &[(u32, u32)]) -> Result<(), Memory> {
 }
 
 // Who it is, its flags and its size; the rest of its head is 0.
-fn put_head(out: &mut Writer, id: u64, parent: u64, flags: u16, size: u32) -> Result<(), Memory> {
+fn put_head(out: &mut Writer, id: u64, parent: u64, flags: u16, size: u32) -> Result<(), OutOfMemory> {
     out.put_u64(id)?;
     out.put_u64(parent)?;
     out.put_u16(flags)?;
@@ -27,14 +27,14 @@ fn put_head(out: &mut Writer, id: u64, parent: u64, flags: u16, size: u32) -> Re
     out.put_bytes(&[0; 28])
 }
 
-fn put_directory(out: &mut Writer, id: u64, parent: u64, name: &[u8]) -> Result<(), Memory> {
+fn put_directory(out: &mut Writer, id: u64, parent: u64, name: &[u8]) -> Result<(), OutOfMemory> {
     put_head(out, id, parent, 5, 0)?;
     out.put_bytes(name)?;
     out.put_bytes(&[0; 22])
 }
 
 // A format, and a header whose next item is this one.
-fn start(alloc: Global, next: u64) -> Result<Writer, Memory> {
+fn start(alloc: Global, next: u64) -> Result<Writer, OutOfMemory> {
     let mut out = Writer::new(alloc);
     out.put_u8(2)?;
     out.put_bytes(&[0; 16])?;
@@ -43,7 +43,7 @@ fn start(alloc: Global, next: u64) -> Result<Writer, Memory> {
     Ok(out)
 }
 
-fn new_volume(alloc: Global) -> Result<Blob, Memory> {
+fn new_volume(alloc: Global) -> Result<Blob, OutOfMemory> {
     let mut out = start(alloc, 2)?;
     out.put_u32(1)?;
     put_directory(&mut out, 1, 0, b"\0")?;
@@ -53,7 +53,7 @@ fn new_volume(alloc: Global) -> Result<Blob, Memory> {
 
 // The root, a directory 2 named d, and in it a file 3 named f of 5,000 local bytes in clusters 0 and 1. The rows begin at
 // 37, 111 and 186.
-fn a_file(alloc: Global) -> Result<Blob, Memory> {
+fn a_file(alloc: Global) -> Result<Blob, OutOfMemory> {
     let mut out = start(alloc, 4)?;
     out.put_u32(3)?;
     put_directory(&mut out, 1, 0, b"\0")?;
@@ -70,7 +70,7 @@ fn a_file(alloc: Global) -> Result<Blob, Memory> {
     Ok(out.into_blob())
 }
 
-fn why(alloc: Global, image: &[u8], clusters: u32) -> Option<ImageFail> {
+fn why(alloc: Global, image: &[u8], clusters: u32) -> Option<ImageError> {
     read_contents(alloc, image, &[], clusters).err()
 }
 
@@ -121,7 +121,7 @@ fn an_image_that_is_cut_is_none(rt: HostRuntime) -> Result<(), Fail> {
     let bytes = image.as_slice();
     assert_eq!(rt; bytes.len(), 305);
     for cut in 0..bytes.len() {
-        assert!(rt; read_image(rt.alloc(), &bytes[..cut]).err() == Some(ImageFail::NotAVolume));
+        assert!(rt; read_image(rt.alloc(), &bytes[..cut]).err() == Some(ImageError::NotAVolume));
     }
     Ok(())
 }
@@ -130,7 +130,7 @@ fn an_image_that_is_cut_is_none(rt: HostRuntime) -> Result<(), Fail> {
 fn what_is_not_sound_is_no_volume(rt: HostRuntime) -> Result<(), Fail> {
     let image = a_file(rt.alloc())?;
     assert!(rt; why(rt.alloc(), image.as_slice(), 2) == None);
-    assert!(rt; why(rt.alloc(), image.as_slice(), 1) == Some(ImageFail::NotAVolume));
+    assert!(rt; why(rt.alloc(), image.as_slice(), 1) == Some(ImageError::NotAVolume));
     let wrong = [
         (0, 1), // another format
         (24, 3), // the next item is the file
@@ -152,14 +152,14 @@ fn what_is_not_sound_is_no_volume(rt: HostRuntime) -> Result<(), Fail> {
         if let Some(b) = bytes.get_mut(place) {
             *b = byte;
         }
-        assert!(rt; why(rt.alloc(), &bytes, 2) == Some(ImageFail::NotAVolume));
+        assert!(rt; why(rt.alloc(), &bytes, 2) == Some(ImageError::NotAVolume));
     }
     Ok(())
 }
 
 #[test]
 fn two_of_one_name_are_no_volume(rt: HostRuntime) -> Result<(), Fail> {
-    for (second, told) in [(b"\x01e", None), (b"\x01d", Some(ImageFail::NotAVolume))] {
+    for (second, told) in [(b"\x01e", None), (b"\x01d", Some(ImageError::NotAVolume))] {
         let mut out = start(rt.alloc(), 4)?;
         out.put_u32(3)?;
         put_directory(&mut out, 1, 0, b"\0")?;
@@ -180,13 +180,13 @@ fn an_item_0_is_no_volume(rt: HostRuntime) -> Result<(), Fail> {
     out.put_u32(0)?;
     let image = out.into_blob();
     assert!(rt; read_image(rt.alloc(), image.as_slice()).is_ok());
-    assert!(rt; why(rt.alloc(), image.as_slice(), 0) == Some(ImageFail::NotAVolume));
+    assert!(rt; why(rt.alloc(), image.as_slice(), 0) == Some(ImageError::NotAVolume));
     Ok(())
 }
 
 #[test]
 fn ids_that_do_not_rise_are_none(rt: HostRuntime) -> Result<(), Fail> {
-    for (second, told) in [(3, None), (2, Some(ImageFail::NotAVolume))] {
+    for (second, told) in [(3, None), (2, Some(ImageError::NotAVolume))] {
         let mut out = start(rt.alloc(), 4)?;
         out.put_u32(3)?;
         put_directory(&mut out, 1, 0, b"\0")?;
@@ -205,22 +205,22 @@ fn bytes_too_many_and_rows_too_few_are_none(rt: HostRuntime) -> Result<(), Fail>
     let image = new_volume(rt.alloc())?;
     let mut bytes = Vec::from_slice(rt.alloc(), image.as_slice())?;
     bytes.push(0)?;
-    assert!(rt; read_image(rt.alloc(), &bytes).err() == Some(ImageFail::NotAVolume));
+    assert!(rt; read_image(rt.alloc(), &bytes).err() == Some(ImageError::NotAVolume));
     let mut out = start(rt.alloc(), 2)?;
     out.put_u32(4_294_967_295)?;
     put_directory(&mut out, 1, 0, b"\0")?;
     let few = out.into_blob();
-    assert!(rt; read_image(rt.alloc(), few.as_slice()).err() == Some(ImageFail::NotAVolume));
+    assert!(rt; read_image(rt.alloc(), few.as_slice()).err() == Some(ImageError::NotAVolume));
     let mut out = start(rt.alloc(), 2)?;
     out.put_u64(0)?;
     let rootless = out.into_blob();
     assert!(rt; read_image(rt.alloc(), rootless.as_slice()).is_ok());
-    assert!(rt; why(rt.alloc(), rootless.as_slice(), 0) == Some(ImageFail::NotAVolume));
+    assert!(rt; why(rt.alloc(), rootless.as_slice(), 0) == Some(ImageError::NotAVolume));
     Ok(())
 }
 
 // Directories in each other, so many below the root.
-fn nested(alloc: Global, levels: u8) -> Result<Blob, Memory> {
+fn nested(alloc: Global, levels: u8) -> Result<Blob, OutOfMemory> {
     let mut out = start(alloc, levels as u64 + 2)?;
     out.put_u32(levels as u32 + 1)?;
     put_directory(&mut out, 1, 0, b"\0")?;
@@ -236,11 +236,11 @@ fn there_are_32_levels(rt: HostRuntime) -> Result<(), Fail> {
     let deepest = nested(rt.alloc(), 32)?;
     assert!(rt; why(rt.alloc(), deepest.as_slice(), 0) == None);
     let deeper = nested(rt.alloc(), 33)?;
-    assert!(rt; why(rt.alloc(), deeper.as_slice(), 0) == Some(ImageFail::NotAVolume));
+    assert!(rt; why(rt.alloc(), deeper.as_slice(), 0) == Some(ImageError::NotAVolume));
     Ok(())
 }
 
-fn put_numbered(alloc: Global, out: &mut Writer, id: u64) -> Result<(), Memory> {
+fn put_numbered(alloc: Global, out: &mut Writer, id: u64) -> Result<(), OutOfMemory> {
     let name = id.to_string(alloc)?;
     let digits = name.as_str().as_bytes();
     put_head(out, id, 1, 5, 0)?;
@@ -250,7 +250,7 @@ fn put_numbered(alloc: Global, out: &mut Writer, id: u64) -> Result<(), Memory> 
 }
 
 // So many rows: the root, and directories in it.
-fn broad(alloc: Global, rows: u32) -> Result<Blob, Memory> {
+fn broad(alloc: Global, rows: u32) -> Result<Blob, OutOfMemory> {
     let mut out = start(alloc, rows as u64 + 1)?;
     out.put_u32(rows)?;
     put_directory(&mut out, 1, 0, b"\0")?;
@@ -266,11 +266,11 @@ fn there_are_10_000_rows(rt: HostRuntime) -> Result<(), Fail> {
     let most = broad(rt.alloc(), 10_000)?;
     assert!(rt; why(rt.alloc(), most.as_slice(), 0) == None);
     let more = broad(rt.alloc(), 10_001)?;
-    assert!(rt; why(rt.alloc(), more.as_slice(), 0) == Some(ImageFail::NotAVolume));
+    assert!(rt; why(rt.alloc(), more.as_slice(), 0) == Some(ImageError::NotAVolume));
     Ok(())
 }
 
-fn put_zeros(out: &mut Writer, key: u8, zeros: &[u8]) -> Result<(), Memory> {
+fn put_zeros(out: &mut Writer, key: u8, zeros: &[u8]) -> Result<(), OutOfMemory> {
     out.put_u8(1)?;
     out.put_u8(key)?;
     out.put_u16(zeros.len().min(65_535) as u16)?;
@@ -278,7 +278,7 @@ fn put_zeros(out: &mut Writer, key: u8, zeros: &[u8]) -> Result<(), Memory> {
 }
 
 // The root, 19 records of 65,539 bytes, and one with a value of so many.
-fn long(alloc: Global, last: usize) -> Result<Blob, Memory> {
+fn long(alloc: Global, last: usize) -> Result<Blob, OutOfMemory> {
     let zeros = vec![in alloc; 0; 65_535]?;
     let mut out = start(alloc, 2)?;
     out.put_u32(1)?;
@@ -298,7 +298,7 @@ fn an_image_has_up_to_1_306_624_bytes(rt: HostRuntime) -> Result<(), Fail> {
     assert!(rt; why(rt.alloc(), longest.as_slice(), 0) == None);
     let longer = long(rt.alloc(), 61_265)?;
     assert!(rt; read_image(rt.alloc(), longer.as_slice()).is_ok());
-    assert!(rt; why(rt.alloc(), longer.as_slice(), 0) == Some(ImageFail::NotAVolume));
+    assert!(rt; why(rt.alloc(), longer.as_slice(), 0) == Some(ImageError::NotAVolume));
     Ok(())
 }
 
@@ -359,13 +359,13 @@ fn payloads_remove_and_put(rt: HostRuntime) -> Result<(), Fail> {
     payloads.push(payload)?;
     payloads.push(Blob::from_slice(rt.alloc(), b"\0")?)?;
     let told = read_contents(rt.alloc(), image.as_slice(), &payloads, 0).err();
-    assert!(rt; told == Some(ImageFail::NotAVolume));
+    assert!(rt; told == Some(ImageError::NotAVolume));
     let mut contents = read_image(rt.alloc(), image.as_slice())?;
-    assert!(rt; apply_payload(rt.alloc(), &mut contents, b"").err() == Some(ImageFail::NotAVolume));
+    assert!(rt; apply_payload(rt.alloc(), &mut contents, b"").err() == Some(ImageError::NotAVolume));
     Ok(())
 }
 
-fn aux(alloc: Global, key: &[u8]) -> Result<AuxRecord, Memory>
+fn aux(alloc: Global, key: &[u8]) -> Result<AuxRecord, OutOfMemory>
     ensures { IfOk result (λ r. (r.key ≡ key.now) × (r.value ≡ [])) }
 {
     Ok(AuxRecord {

@@ -2,7 +2,7 @@
 use Rattle.std.specs.Prelude.{◌≡◌, ◌≤◌, ◌+◌, ℕ}
 use Rattle.cf_disk.specs.Disk.{State, capped, size_of}
 use Rattle.cf_volume_points.specs.declared.stops.Stop.{Stop}
-use Rattle.cf_volume_points.specs.declared.stops.Stop.TheVariants.{Device, Memory}
+use Rattle.cf_volume_points.specs.declared.stops.Stop.TheVariants.{Device, OutOfMemory}
 
 -- A disk after calls that wrote n bytes at most.
 pub record Ran (n : ℕ) (s t : State) : Type 0 where
@@ -14,4 +14,4 @@ pub record Ran (n : ℕ) (s t : State) : Type 0 where
 -- the device stops a call only where its count of faults rose
 abbrev pub IsStop : Stop → State → State → Type 0
 IsStop Device s t = capped (s.faults + 1) ≤ t.faults
-IsStop Memory s t = Unit {0}
+IsStop OutOfMemory s t = Unit {0}

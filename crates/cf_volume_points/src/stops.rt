@@ -1,6 +1,6 @@
 //! Why a call stops in the middle.
 
-use cf_base::Memory;
+use cf_base::OutOfMemory;
 use std::alloc::AllocError;
 
 /// Why a call stops in the middle.
@@ -9,27 +9,27 @@ pub enum Stop {
     /// A call of the disk failed, whose count of faults rose.
     Device,
     /// There was no memory.
-    Memory,
+    OutOfMemory,
 }
 
-impl From<Memory> for Stop {
+impl From<OutOfMemory> for Stop {
     ghost use Rattle.std.specs.Prelude.{◌≡◌};
-    ghost use Rattle.cf_volume_points.specs.declared.stops.Stop.TheVariants.{Memory};
+    ghost use Rattle.cf_volume_points.specs.declared.stops.Stop.TheVariants.{OutOfMemory};
 
-    ghost from_gives = { λ _ e. e ≡ Memory };
+    ghost from_gives = { λ _ e. e ≡ OutOfMemory };
 
-    fn from(_: Memory) -> Stop {
-        Stop::Memory
+    fn from(_: OutOfMemory) -> Stop {
+        Stop::OutOfMemory
     }
 }
 
 impl From<AllocError> for Stop {
     ghost use Rattle.std.specs.Prelude.{◌≡◌};
-    ghost use Rattle.cf_volume_points.specs.declared.stops.Stop.TheVariants.{Memory};
+    ghost use Rattle.cf_volume_points.specs.declared.stops.Stop.TheVariants.{OutOfMemory};
 
-    ghost from_gives = { λ _ e. e ≡ Memory };
+    ghost from_gives = { λ _ e. e ≡ OutOfMemory };
 
     fn from(_: AllocError) -> Stop {
-        Stop::Memory
+        Stop::OutOfMemory
     }
 }

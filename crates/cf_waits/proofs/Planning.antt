@@ -7,7 +7,7 @@ use Rattle.std.proofs.lemmas.Bool.Decides.{nat_tests}
 use Rattle.std.proofs.lemmas.List.Elements.{filter-append}
 use Rattle.cf_ask_rule.specs.Near.{is_near, is_on, named}
 use Rattle.cf_ask_rule.specs.Plans.{Outlook, Planned, plan_of}
-use Rattle.cf_base.specs.declared.codes.Fail.{Fail}
+use Rattle.cf_base.specs.declared.codes.CallError.{CallError}
 use Rattle.cf_base.specs.declared.ids.Handle.{Handle}
 use Rattle.cf_base.specs.declared.ids.ItemId.{ItemId}
 use Rattle.cf_base.specs.declared.ids.WaitId.{WaitId}
@@ -80,6 +80,6 @@ first_count kind item handle asked true s ws e = ap length e
 first_count kind item handle asked false s ws e = ap length e
 
 -- the item of the wait that is cancelled
-pub cancels : (o : Option Wait) (item : ItemId) (id : WaitId) (v : View) (old : Waiting) (r : Result Moves Fail) (new : Waiting) → Some item ≡ option_map (λ w. w.item) o → Steps limits.Free (step_of item v (Cancels id) old) old r new → CancelsAt o id v old r new
+pub cancels : (o : Option Wait) (item : ItemId) (id : WaitId) (v : View) (old : Waiting) (r : Result Moves CallError) (new : Waiting) → Some item ≡ option_map (λ w. w.item) o → Steps limits.Free (step_of item v (Cancels id) old) old r new → CancelsAt o id v old r new
 cancels None item id v old r new e h = cc
 cancels (Some w) item id v old r new e h = let f : item ≡ w.item = cc in subst (λ (i : ItemId). Steps limits.Free (step_of i v (Cancels id) old) old r new) f h

@@ -3,8 +3,8 @@ use Rattle.std.specs.Prelude.{ℕ, Bool, true, false, not, cond, List, [], ◌�
 use Rattle.std.specs.List.{list_any}
 use Rattle.cf_base.specs.declared.codes.Code.{Code}
 use Rattle.cf_base.specs.declared.codes.Code.TheVariants as code
-use Rattle.cf_base.specs.declared.codes.Fail.{Fail}
-use Rattle.cf_base.specs.declared.codes.Fail.TheVariants.{No, Memory}
+use Rattle.cf_base.specs.declared.codes.CallError.{CallError}
+use Rattle.cf_base.specs.declared.codes.CallError.TheVariants.{No, OutOfMemory}
 use Rattle.cf_base.specs.declared.ids.Handle.{Handle}
 use Rattle.cf_base.specs.declared.ids.ItemId.{ItemId}
 use Rattle.cf_base.specs.declared.ids.Key.{Key}
@@ -49,10 +49,10 @@ abbrev pub moved_of : Option WaitId → Told → Moves
 moved_of background t = record { background = background; ended = t.ended; cancelled = t.cancelled; asks = map (λ a. a.ask) t.made }
 
 -- A step that leads to the told, and to the state after.
-abbrev pub Steps : Limits → Told × Waiting → Waiting → Result Moves Fail → Waiting → Type 0
+abbrev pub Steps : Limits → Told × Waiting → Waiting → Result Moves CallError → Waiting → Type 0
 Steps l after old (Ok m) new = (limit_of l after.1 ≡ None) × (m ≡ moved_of None after.0) × (new ≡ after.1)
 Steps l after old (Err (No c)) new = (limit_of l after.1 ≡ Some c) × (new ≡ old)
-Steps l after old (Err Memory) new = new ≡ old
+Steps l after old (Err OutOfMemory) new = new ≡ old
 
 -- what a plan takes out of the state that it was made for, and changes in it
 
@@ -113,12 +113,12 @@ abbrev pub limits_by : WaitKind → Limits
 limits_by wait_kind.Dehydrate = limits.Numbers
 limits_by _ = limits.Begins
 
-abbrev pub Begins : Limits → Option WaitId → Told × Waiting → Waiting → Result (WaitId × Moves) Fail → Waiting → Type 0
+abbrev pub Begins : Limits → Option WaitId → Told × Waiting → Waiting → Result (WaitId × Moves) CallError → Waiting → Type 0
 Begins l background after old (Ok m) new = (limit_of l after.1 ≡ None) × (m.0 ≡ begun_id 0 old) × (m.1 ≡ moved_of background after.0) × (new ≡ after.1)
 Begins l background after old (Err (No c)) new = (limit_of l after.1 ≡ Some c) × (new ≡ old)
-Begins l background after old (Err Memory) new = new ≡ old
+Begins l background after old (Err OutOfMemory) new = new ≡ old
 
 -- The wait ends as cancelled; of a number that is not live it is refused.
-abbrev pub CancelsAt : Option Wait → WaitId → View → Waiting → Result Moves Fail → Waiting → Type 0
+abbrev pub CancelsAt : Option Wait → WaitId → View → Waiting → Result Moves CallError → Waiting → Type 0
 CancelsAt None id v old r new = (r ≡ Err (No code.NoWait)) × (new ≡ old)
 CancelsAt (Some w) id v old r new = Steps limits.Free (step_of w.item v (Cancels id) old) old r new

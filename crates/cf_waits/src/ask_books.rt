@@ -14,13 +14,13 @@ ghost use Rattle.cf_waits.specs.Told.{first_key, owns_by};
 use crate::ask_lists::{ask_at, change_ask, find_ask, has_key, take_ask};
 use crate::entries::{Entry, add_entry, entries_on, remove_entry};
 use cf_ask_rule::{LiveAsk, WaitNumber, is_dehydrate, is_list, is_same_key};
-use cf_base::{Ask, ItemId, Key, Memory, Span};
+use cf_base::{Ask, ItemId, Key, OutOfMemory, Span};
 use std::alloc::Global;
 use std::marker::Model;
 
 /// The live asks in order of key, and their index by item. Of an ask the tick is kept at which its time began, and of all
 /// one that is not after any of these. Some asks count for the limit, some are for entries.
-#[derive(Debug, Drop)]
+#[derive(Drop)]
 pub(crate) struct AskBook {
     asks: Vec<LiveAsk>,
     index: Vec<Entry>,
@@ -79,7 +79,7 @@ impl AskBook {
     }
 
     /// Makes room for so many more.
-    pub(crate) fn reserve(&mut self, more: usize) -> Result<(), Memory>
+    pub(crate) fn reserve(&mut self, more: usize) -> Result<(), OutOfMemory>
         ensures same { self.new.asks ≡ self.old.asks }
         ensures room { OnOk result (more ≤ self.new.room) }
     {
@@ -169,7 +169,7 @@ impl AskBook {
         alloc: Global,
         item: ItemId,
         key: Option<Key>,
-    ) -> Result<Vec<LiveAsk>, Memory>
+    ) -> Result<Vec<LiveAsk>, OutOfMemory>
         ensures { IfOk result (λ v. v.items ≡ filter (is_near item key) self.now.asks) }
     {
         if is_far(&self.asks, item, key) {
@@ -190,7 +190,7 @@ impl AskBook {
     }
 
     /// The keys of the asks on which 60 ticks or more have passed, in order.
-    pub(crate) fn expired_keys(&self, alloc: Global) -> Result<Vec<Key>, Memory>
+    pub(crate) fn expired_keys(&self, alloc: Global) -> Result<Vec<Key>, OutOfMemory>
         ensures { IfOk result (λ keys. keys.items ≡ map (λ a. a.ask.key) (filter (λ a. nat_le 60 a.ticks) self.now.asks)) }
     {
         if self.tick - self.oldest < 60 {
@@ -246,7 +246,7 @@ fn found_of(
     asks: &[LiveAsk],
     entries: &[Entry],
     tick: u64,
-) -> Result<Vec<LiveAsk>, Memory>
+) -> Result<Vec<LiveAsk>, OutOfMemory>
     requires { IsRising ask_key asks.now }
     ensures { IfOk result (λ v. v.items ≡ map (aged_at tick) (found_of ask_key asks.now entries.now)) }
 {
@@ -292,7 +292,7 @@ fn near_of(
     item: ItemId,
     key: Option<Key>,
     tick: u64,
-) -> Result<Vec<LiveAsk>, Memory>
+) -> Result<Vec<LiveAsk>, OutOfMemory>
     ensures { IfOk result (λ v. v.items ≡ map (aged_at tick) (filter (is_near item key) asks.now)) }
 {
     let mut out = Vec::new(alloc);
@@ -324,7 +324,7 @@ fn plain_but(asks: &[LiveAsk], cancelled: &[Key], dropped: Option<Key>) -> usize
         .count()
 }
 
-fn keys_of_age(alloc: Global, asks: &[LiveAsk], tick: u64) -> Result<Vec<Key>, Memory>
+fn keys_of_age(alloc: Global, asks: &[LiveAsk], tick: u64) -> Result<Vec<Key>, OutOfMemory>
     ensures { IfOk result (λ keys. keys.items ≡ map (λ a. a.ask.key) (filter (λ a. nat_le 60 (tick - a.ticks)) asks.now)) }
 {
     Ok(

@@ -9,7 +9,7 @@ ghost use Rattle.cf_waits.specs.Steps.{IsPlanned, begun_id, carried, first_waits
 use crate::moves::Moves;
 use crate::requests::{Requests, Step};
 use cf_ask_rule::{LiveWait, WaitNumber};
-use cf_base::{Handle, ItemId, Key, Memory, Span, WaitId, WaitKind};
+use cf_base::{Handle, ItemId, Key, OutOfMemory, Span, WaitId, WaitKind};
 
 impl Requests {
     /// A wait under the next number, and one for the rest of the file beside it where `beside` says so.
@@ -20,7 +20,7 @@ impl Requests {
         handle: Option<Handle>,
         span: Span,
         beside: bool,
-    ) -> Result<Vec<LiveWait>, Memory>
+    ) -> Result<Vec<LiveWait>, OutOfMemory>
         ensures { IfOk result (λ v. v.items ≡ first_waits kind item handle span beside self.now) }
     {
         let id = WaitNumber::new(self.epoch, self.wait_count + 1);
@@ -39,7 +39,7 @@ impl Requests {
         step: Step,
         begun: &[LiveWait],
         beside: bool,
-    ) -> Result<(WaitId, Moves), Memory>
+    ) -> Result<(WaitId, Moves), OutOfMemory>
         requires planned { IsPlanned step (with_waits begun.now self.old) }
         requires next { AreNext begun.now self.old }
         requires numbers { no_numbers (carried step (with_waits begun.now self.old)).1 ≡ false }
@@ -87,7 +87,7 @@ fn background_id(beside: bool, epoch: u32, first: u64) -> Option<WaitId>
 }
 
 /// The waits, and behind them those that begin.
-pub(crate) fn with_begun(waits: Vec<LiveWait>, begun: &[LiveWait]) -> Result<Vec<LiveWait>, Memory>
+pub(crate) fn with_begun(waits: Vec<LiveWait>, begun: &[LiveWait]) -> Result<Vec<LiveWait>, OutOfMemory>
     ensures { IfOk result (λ v. v.items ≡ waits.items ++ begun.now) }
 {
     let mut all = waits;

@@ -12,21 +12,21 @@ use crate::limits::Limits;
 use crate::moves::Moves;
 use crate::requests::Requests;
 use cf_ask_rule::{Act, View};
-use cf_base::{Cause, Code, Fail, Handle, ItemId, Key, Span, WaitId, WaitKind};
+use cf_base::{Cause, Code, CallError, Handle, ItemId, Key, Span, WaitId, WaitKind};
 
 impl Requests {
-    fn step(&mut self, item: ItemId, act: Act, limits: Limits, v: &View) -> Result<Moves, Fail>
+    fn step(&mut self, item: ItemId, act: Act, limits: Limits, v: &View) -> Result<Moves, CallError>
         requires size { v.now.size ≤ 2 ^ 24 }
         requires base { v.now.base ≤ 2 ^ 24 }
         ensures { Steps limits (step_of item (shown v.now) (deed_of act) self.old) self.old result self.new }
     {
         let step = self.look(item, act, v)?;
         if let Some(code) = self.limit_after(&step, limits) {
-            return Err(Fail::No(code));
+            return Err(CallError::No(code));
         }
         // A step that is held to no limit makes no ask where its view is the one of now.
         if self.has_no_numbers(&step) {
-            return Err(Fail::Memory);
+            return Err(CallError::OutOfMemory);
         }
         let moves = self.take(step)?;
         Ok(moves)
@@ -43,7 +43,7 @@ impl Requests {
         span: Span,
         background: bool,
         v: &View,
-    ) -> Result<(WaitId, Moves), Fail>
+    ) -> Result<(WaitId, Moves), CallError>
         requires size { v.now.size ≤ 2 ^ 24 }
         requires base { v.now.base ≤ 2 ^ 24 }
         ensures { Begins (limits_by kind) (background_id background item self.old) (begun kind item handle span background (shown v.now) self.old) self.old result self.new }
@@ -60,7 +60,7 @@ impl Requests {
         span: Span,
         beside: bool,
         v: &View,
-    ) -> Result<(WaitId, Moves), Fail>
+    ) -> Result<(WaitId, Moves), CallError>
         requires size { v.now.size ≤ 2 ^ 24 }
         requires base { v.now.base ≤ 2 ^ 24 }
         ensures { Begins (limits_by kind) (cond beside (Some (begun_id 1 self.old)) None) (step_of item (shown v.now) Nothing (tried kind item handle span beside self.old)) self.old result self.new }
@@ -69,13 +69,13 @@ impl Requests {
         let waits = begun.as_slice();
         let step = self.look_with(item, Act::Nothing, v, waits)?;
         if let Some(code) = self.limit_with(&step, waits, limits_of(kind)) {
-            return Err(Fail::No(code));
+            return Err(CallError::No(code));
         }
         let began = self.take_begun(step, waits, beside)?;
         Ok(began)
     }
 
-    fn step_at(&mut self, key: Key, act: Act, limits: Limits, v: &View) -> Result<Moves, Fail>
+    fn step_at(&mut self, key: Key, act: Act, limits: Limits, v: &View) -> Result<Moves, CallError>
         requires size { v.now.size ≤ 2 ^ 24 }
         requires base { v.now.base ≤ 2 ^ 24 }
         ensures { Steps limits (step_of (item_at key self.old) (shown v.now) (deed_of act) self.old) self.old result self.new }
@@ -85,7 +85,7 @@ impl Requests {
     }
 
     /// What the view shows of the item was changed. Refused as TooManyAsks, Exhausted.
-    pub fn settle(&mut self, item: ItemId, v: &View) -> Result<Moves, Fail>
+    pub fn settle(&mut self, item: ItemId, v: &View) -> Result<Moves, CallError>
         requires size { v.now.size ≤ 2 ^ 24 }
         requires base { v.now.base ≤ 2 ^ 24 }
         ensures { Steps Limits.Asks (step_of item (shown v.now) Nothing self.old) self.old result self.new }
@@ -94,7 +94,7 @@ impl Requests {
     }
 
     /// Blocks leave the ask of the key, whose ticks begin anew. Refused as TooManyAsks, Exhausted.
-    pub fn release(&mut self, key: Key, blocks: Span, v: &View) -> Result<Moves, Fail>
+    pub fn release(&mut self, key: Key, blocks: Span, v: &View) -> Result<Moves, CallError>
         requires size { v.now.size ≤ 2 ^ 24 }
         requires base { v.now.base ≤ 2 ^ 24 }
         ensures { Steps Limits.Asks (step_of (item_at key self.old) (shown v.now) (Leaves key (counting blocks.start blocks.len)) self.old) self.old result self.new }
@@ -103,7 +103,7 @@ impl Requests {
     }
 
     /// Blocks leave the ask of the key, and the waits that miss a byte in them end.
-    pub fn fail(&mut self, key: Key, blocks: Span, cause: Cause, v: &View) -> Result<Moves, Fail>
+    pub fn fail(&mut self, key: Key, blocks: Span, cause: Cause, v: &View) -> Result<Moves, CallError>
         requires size { v.now.size ≤ 2 ^ 24 }
         requires base { v.now.base ≤ 2 ^ 24 }
         ensures { Steps Limits.Free (step_of (item_at key self.old) (shown v.now) (Fails key (counting blocks.start blocks.len) cause) self.old) self.old result self.new }
@@ -113,13 +113,13 @@ impl Requests {
     }
 
     /// A wait ends as cancelled. Refused as NoWait.
-    pub fn cancel(&mut self, wait: WaitId, v: &View) -> Result<Moves, Fail>
+    pub fn cancel(&mut self, wait: WaitId, v: &View) -> Result<Moves, CallError>
         requires size { v.now.size ≤ 2 ^ 24 }
         requires base { v.now.base ≤ 2 ^ 24 }
         ensures { CancelsAt (wait_of self.old.waits wait) wait (shown v.now) self.old result self.new }
     {
         let Some(item) = self.wait_item(wait) else {
-            return Err(Fail::No(Code::NoWait));
+            return Err(CallError::No(Code::NoWait));
         };
         self.step(item, Act::Cancels(wait), Limits::Free, v)
     }
@@ -131,7 +131,7 @@ impl Requests {
         item: ItemId,
         last: bool,
         v: &View,
-    ) -> Result<Moves, Fail>
+    ) -> Result<Moves, CallError>
         requires size { v.now.size ≤ 2 ^ 24 }
         requires base { v.now.base ≤ 2 ^ 24 }
         ensures { Steps Limits.Free (step_of item (shown v.now) (Closes handle last) self.old) self.old result self.new }
@@ -140,7 +140,7 @@ impl Requests {
     }
 
     /// All data asks of the file are cancelled, and new ones made. Refused as TooManyAsks, Exhausted.
-    pub fn restart(&mut self, item: ItemId, v: &View) -> Result<Moves, Fail>
+    pub fn restart(&mut self, item: ItemId, v: &View) -> Result<Moves, CallError>
         requires size { v.now.size ≤ 2 ^ 24 }
         requires base { v.now.base ≤ 2 ^ 24 }
         ensures { Steps Limits.Asks (step_of item (shown v.now) Restarts self.old) self.old result self.new }
@@ -149,7 +149,7 @@ impl Requests {
     }
 
     /// The ask of the key ends by time, and the waits that wait for it.
-    pub fn expire(&mut self, key: Key, v: &View) -> Result<Moves, Fail>
+    pub fn expire(&mut self, key: Key, v: &View) -> Result<Moves, CallError>
         requires size { v.now.size ≤ 2 ^ 24 }
         requires base { v.now.base ≤ 2 ^ 24 }
         ensures { Steps Limits.Free (step_of (item_at key self.old) (shown v.now) (Expires key) self.old) self.old result self.new }
@@ -158,7 +158,7 @@ impl Requests {
     }
 
     /// The list or dehydrate ask of the key is answered, and the waits that wait for it end so.
-    pub fn finish(&mut self, key: Key, cause: Cause, v: &View) -> Result<Moves, Fail>
+    pub fn finish(&mut self, key: Key, cause: Cause, v: &View) -> Result<Moves, CallError>
         requires size { v.now.size ≤ 2 ^ 24 }
         requires base { v.now.base ≤ 2 ^ 24 }
         ensures { Steps Limits.Free (step_of (item_at key self.old) (shown v.now) (Finishes key cause) self.old) self.old result self.new }

@@ -8,7 +8,7 @@ use cf_base::ItemId;
 use std::cmp::Ordering;
 
 /// The number of a wait or ask on an item.
-#[derive(Clone, Copy, Debug)]
+#[derive(Clone, Copy)]
 pub(crate) struct Entry {
     pub(crate) item: ItemId,
     pub(crate) number: u64,

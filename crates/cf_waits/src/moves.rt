@@ -3,11 +3,11 @@ ghost use Rattle.std.specs.Prelude.{◌≡◌, IfOk, OnOk, map, length, ◌+◌,
 ghost use Rattle.cf_model.specs.Asks.{with_keys};
 
 use cf_ask_rule::{LiveAsk, LiveWait, Wait};
-use cf_base::{Ask, Cause, Key, Memory, Sequence, WaitId};
+use cf_base::{Ask, Cause, Key, OutOfMemory, Sequence, WaitId};
 use std::alloc::Global;
 
 /// What a step tells, in this order.
-#[derive(Debug, Drop)]
+#[derive(Drop)]
 pub struct Moves {
     /// The background wait that began beside the call's own.
     pub background: Option<WaitId>,
@@ -20,14 +20,14 @@ pub struct Moves {
 }
 
 /// The waits that ended, as they are told.
-pub(crate) fn told(alloc: Global, ended: &[(LiveWait, Cause)]) -> Result<Vec<(Wait, Cause)>, Memory>
+pub(crate) fn told(alloc: Global, ended: &[(LiveWait, Cause)]) -> Result<Vec<(Wait, Cause)>, OutOfMemory>
     ensures { IfOk result (λ v. v.items ≡ ended.now) }
 {
     let mut out = Vec::new(alloc);
     for e in ended {
         // Each wait that is kept has a number that fits.
         let Some(wait) = e.0.told() else {
-            return Err(Memory);
+            return Err(OutOfMemory);
         };
         out.push((wait, e.1))?;
     }
@@ -35,7 +35,7 @@ pub(crate) fn told(alloc: Global, ended: &[(LiveWait, Cause)]) -> Result<Vec<(Wa
 }
 
 /// The public part of asks.
-pub(crate) fn public_of(alloc: Global, asks: &[LiveAsk]) -> Result<Vec<Ask>, Memory>
+pub(crate) fn public_of(alloc: Global, asks: &[LiveAsk]) -> Result<Vec<Ask>, OutOfMemory>
     ensures { IfOk result (λ v. v.items ≡ map (λ a. a.ask) asks.now) }
 {
     Ok(asks.iter().map(|a| a.ask()).collect(alloc)?)
@@ -47,7 +47,7 @@ pub(crate) fn with_keys(
     epoch: u32,
     key_count: u64,
     made: &[LiveAsk],
-) -> Result<Vec<LiveAsk>, Memory>
+) -> Result<Vec<LiveAsk>, OutOfMemory>
     requires { key_count + length made.now ≤ 4294967295 }
     ensures { IfOk result (λ v. v.items ≡ with_keys epoch key_count made.now) }
 {

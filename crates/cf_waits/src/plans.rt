@@ -7,7 +7,7 @@ ghost use Rattle.cf_waits.specs.Deltas.{changed_of, delta_of, dropped_of, unless
 
 use crate::requests::Step;
 use cf_ask_rule::{Act, LiveAsk, Plan, live_of};
-use cf_base::{Key, Memory};
+use cf_base::{Key, OutOfMemory};
 
 /// The key that an act names.
 pub(crate) fn named_by(act: Act) -> Option<Key>
@@ -30,7 +30,7 @@ pub(crate) fn named_by(act: Act) -> Option<Key>
 }
 
 /// The step of a plan.
-pub(crate) fn step_of(act: Act, plan: Plan) -> Result<Step, Memory>
+pub(crate) fn step_of(act: Act, plan: Plan) -> Result<Step, OutOfMemory>
     requires { AllByRecursion (λ a. a.ticks ≡ 0) plan.made.items }
     ensures { IfOk result (λ s. s ≡ delta_of (deed_of act) (record { ended = plan.ended.items; left = plan.left.items; cancelled = plan.cancelled.items; kept = plan.kept.items; made = plan.made.items })) }
 {
@@ -52,7 +52,7 @@ pub(crate) fn step_of(act: Act, plan: Plan) -> Result<Step, Memory>
     })
 }
 
-fn changed_of(act: Act, kept: &[LiveAsk]) -> Result<Option<LiveAsk>, Memory>
+fn changed_of(act: Act, kept: &[LiveAsk]) -> Result<Option<LiveAsk>, OutOfMemory>
     ensures { IfOk result (λ a. a ≡ changed_of (deed_of act) kept.now) }
 {
     match act {
@@ -71,7 +71,7 @@ fn changed_of(act: Act, kept: &[LiveAsk]) -> Result<Option<LiveAsk>, Memory>
     }
 }
 
-fn copy_of(ask: Option<&LiveAsk>) -> Result<Option<LiveAsk>, Memory>
+fn copy_of(ask: Option<&LiveAsk>) -> Result<Option<LiveAsk>, OutOfMemory>
     ensures { IfOk result (λ a. a ≡ option_copied ask.entry) }
 {
     match ask {

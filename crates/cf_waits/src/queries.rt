@@ -11,7 +11,7 @@ ghost use Rattle.cf_waits.specs.Told.{is_busy, is_busy_but, is_hydrating, is_lis
 use crate::limits::MOST;
 use crate::requests::Requests;
 use cf_ask_rule::{LiveWait, Sight, View, WaitNumber, is_met};
-use cf_base::{Ask, Handle, ItemId, Key, Memory, Span, WaitId, WaitKind};
+use cf_base::{Ask, Handle, ItemId, Key, OutOfMemory, Span, WaitId, WaitKind};
 
 impl Requests {
     /// The item of a live ask.
@@ -53,7 +53,7 @@ impl Requests {
     }
 
     /// The keys of the asks on which 60 ticks or more have passed, in order.
-    pub fn expired_keys(&self) -> Result<Vec<Key>, Memory>
+    pub fn expired_keys(&self) -> Result<Vec<Key>, OutOfMemory>
         ensures { IfOk result (λ keys. keys.items ≡ map (λ a. a.ask.key) (expired self.now)) }
     {
         self.asks.expired_keys(self.alloc)
@@ -82,7 +82,7 @@ impl Requests {
         handle: Option<Handle>,
         span: Span,
         v: &View,
-    ) -> Result<bool, Memory>
+    ) -> Result<bool, OutOfMemory>
         requires size { v.now.size ≤ 2 ^ 24 }
         requires base { v.now.base ≤ 2 ^ 24 }
         ensures { IfOk result (λ met. met ≡ is_met (shown v.now) (wait_after self.now 0 kind item handle span)) }

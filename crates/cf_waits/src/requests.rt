@@ -19,12 +19,12 @@ use crate::plans::{named_by, step_of};
 use crate::turns::{make_room, turn_asks, turn_waits};
 use crate::wait_books::WaitBook;
 use cf_ask_rule::{Act, LiveAsk, LiveWait, Sight, View, make_plan};
-use cf_base::{Cause, Code, ItemId, Key, Memory, Sequence, WaitId};
+use cf_base::{Cause, Code, ItemId, Key, OutOfMemory, Sequence, WaitId};
 use std::alloc::Global;
 use std::marker::Model;
 
 /// The waits and asks that are live, and the numbers that the epoch has given to them.
-#[derive(Debug, Drop)]
+#[derive(Drop)]
 pub struct Requests {
     pub(crate) alloc: Global,
     pub(crate) epoch: u32,
@@ -47,7 +47,7 @@ impl Model for Requests {
 }
 
 /// A step that was worked out and is not done yet: what it changes.
-#[derive(Debug, Drop)]
+#[derive(Drop)]
 pub struct Step {
     pub(crate) ended: Vec<(LiveWait, Cause)>,
     pub(crate) cancelled: Vec<Key>,
@@ -87,7 +87,7 @@ impl Requests {
     }
 
     /// Works out a step on the item, and changes nothing.
-    pub fn look(&self, item: ItemId, act: Act, v: &View) -> Result<Step, Memory>
+    pub fn look(&self, item: ItemId, act: Act, v: &View) -> Result<Step, OutOfMemory>
         requires size { v.now.size ≤ 2 ^ 24 }
         requires base { v.now.base ≤ 2 ^ 24 }
         ensures { IfOk result (λ s. carried s self.now ≡ step_of item (shown v.now) (deed_of act) self.now) }
@@ -102,7 +102,7 @@ impl Requests {
         act: Act,
         v: &View,
         begun: &[LiveWait],
-    ) -> Result<Step, Memory>
+    ) -> Result<Step, OutOfMemory>
         requires size { v.now.size ≤ 2 ^ 24 }
         requires base { v.now.base ≤ 2 ^ 24 }
         requires next { AreNext begun.now self.now }
@@ -133,7 +133,7 @@ impl Requests {
     }
 
     /// Does a step that was worked out for what waits and is asked now, and for which the numbers of the epoch suffice.
-    pub fn take(&mut self, step: Step) -> Result<Moves, Memory>
+    pub fn take(&mut self, step: Step) -> Result<Moves, OutOfMemory>
         requires planned { IsPlanned step self.old }
         requires numbers { no_numbers (carried step self.old).1 ≡ false }
         ensures moves { IfOk result (λ m. m ≡ moved_of None (carried step self.old).0) }
@@ -149,7 +149,7 @@ impl Requests {
         step: Step,
         begun: &[LiveWait],
         background: Option<WaitId>,
-    ) -> Result<Moves, Memory>
+    ) -> Result<Moves, OutOfMemory>
         requires planned { IsPlanned step (with_waits begun.now self.old) }
         requires next { AreNext begun.now self.old }
         requires numbers { no_numbers (carried step (with_waits begun.now self.old)).1 ≡ false }
@@ -185,7 +185,7 @@ impl Requests {
         dropped: Option<Key>,
         changed: Option<LiveAsk>,
         made: Vec<LiveAsk>,
-    ) -> Result<(), Memory>
+    ) -> Result<(), OutOfMemory>
         requires next { AreNext begun.now self.old }
         requires begins { AllByRecursion (λ a. a.ticks ≡ 0) made.items }
         requires sound { IsSound (turned begun.now ended.now cancelled.now dropped changed made.items self.old) }
@@ -205,7 +205,7 @@ impl Requests {
     }
 
     /// Ends all waits, as the provider is gone, and all asks without a line.
-    pub fn down(&mut self) -> Result<Moves, Memory>
+    pub fn down(&mut self) -> Result<Moves, OutOfMemory>
         ensures moves { IfOk result (λ m. m ≡ moved_of None (downed self.old).0) }
         ensures ok { OnOk result (self.new ≡ (downed self.old).1) }
         ensures err { OnErr result (self.new ≡ self.old) }
@@ -223,7 +223,7 @@ impl Requests {
     }
 }
 
-fn all_down(alloc: Global, waits: &[LiveWait]) -> Result<Vec<(LiveWait, Cause)>, Memory>
+fn all_down(alloc: Global, waits: &[LiveWait]) -> Result<Vec<(LiveWait, Cause)>, OutOfMemory>
     ensures { IfOk result (λ v. v.items ≡ map (λ w. (w, cause.Down)) waits.now) }
 {
     Ok(waits.iter().map(|w| (*w, Cause::Down)).collect(alloc)?)

@@ -9,7 +9,7 @@ ghost use Rattle.cf_waits.specs.Steps.{changed_by, is_ended, is_gone};
 use crate::ask_books::AskBook;
 use crate::wait_books::WaitBook;
 use cf_ask_rule::{LiveAsk, LiveWait};
-use cf_base::{Cause, Key, Memory};
+use cf_base::{Cause, Key, OutOfMemory};
 
 /// Makes room for so many more waits and asks.
 pub(crate) fn make_room(
@@ -17,7 +17,7 @@ pub(crate) fn make_room(
     asks: &mut AskBook,
     more_waits: usize,
     more_asks: usize,
-) -> Result<(), Memory>
+) -> Result<(), OutOfMemory>
     ensures waits { waits.new.waits ≡ waits.old.waits }
     ensures asks { asks.new.asks ≡ asks.old.asks }
     ensures room_waits { OnOk result (more_waits ≤ waits.new.room) }

@@ -15,12 +15,12 @@ use crate::wait_lists::{find_wait, take_wait, wait_at};
 use cf_ask_rule::{
     LiveWait, WaitNumber, is_background, is_dehydrate_wait, is_hydrate_wait, is_list_wait,
 };
-use cf_base::{AskKind, ItemId, Memory, WaitId};
+use cf_base::{AskKind, ItemId, OutOfMemory, WaitId};
 use std::alloc::Global;
 use std::marker::Model;
 
 /// The live waits in order of number, their index by item, and how many of them count for the limit.
-#[derive(Debug, Drop)]
+#[derive(Drop)]
 pub(crate) struct WaitBook {
     waits: Vec<LiveWait>,
     index: Vec<Entry>,
@@ -66,7 +66,7 @@ impl WaitBook {
     }
 
     /// Makes room for so many more.
-    pub(crate) fn reserve(&mut self, more: usize) -> Result<(), Memory>
+    pub(crate) fn reserve(&mut self, more: usize) -> Result<(), OutOfMemory>
         ensures same { self.new.waits ≡ self.old.waits }
         ensures room { OnOk result (more ≤ self.new.room) }
     {
@@ -130,7 +130,7 @@ impl WaitBook {
     }
 
     /// The waits on an item, in order of number.
-    pub(crate) fn on(&self, alloc: Global, item: ItemId) -> Result<Vec<LiveWait>, Memory>
+    pub(crate) fn on(&self, alloc: Global, item: ItemId) -> Result<Vec<LiveWait>, OutOfMemory>
         ensures { IfOk result (λ v. v.items ≡ filter (is_on item) self.now.waits) }
     {
         found_of(alloc, &self.waits, entries_on(&self.index, item))
@@ -165,7 +165,7 @@ impl WaitBook {
     }
 }
 
-fn found_of(alloc: Global, waits: &[LiveWait], entries: &[Entry]) -> Result<Vec<LiveWait>, Memory>
+fn found_of(alloc: Global, waits: &[LiveWait], entries: &[Entry]) -> Result<Vec<LiveWait>, OutOfMemory>
     requires { IsRising wait_key waits.now }
     ensures { IfOk result (λ v. v.items ≡ found_of wait_key waits.now entries.now) }
 {

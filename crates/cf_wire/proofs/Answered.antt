@@ -3,10 +3,10 @@ use Rattle.std.proofs.Common.{◌≡◌, ℕ, ◌+◌, List, [], ◌∷◌, ◌+
 use Rattle.std.proofs.lemmas.List.{append-nil}
 use Rattle.std.specs.Prelude.{MatchResult}
 use Rattle.cf_codec.specs.Left.{Left}
-use Rattle.cf_codec.specs.declared.failures.CodecFail.{CodecFail}
-use Rattle.cf_codec.specs.declared.failures.CodecFail.TheVariants.{BadField, Short}
-use Rattle.cf_wire.specs.declared.failures.WireFail.{WireFail}
-use Rattle.cf_wire.specs.declared.failures.WireFail.TheVariants as fail
+use Rattle.cf_codec.specs.declared.failures.CodecError.{CodecError}
+use Rattle.cf_codec.specs.declared.failures.CodecError.TheVariants.{BadField, Short}
+use Rattle.cf_wire.specs.declared.failures.WireError.{WireError}
+use Rattle.cf_wire.specs.declared.failures.WireError.TheVariants as fail
 use Rattle.cf_wire.specs.Faults.{Answers, Begins, BreaksAt, EndsWithin}
 use Rattle.cf_wire.specs.Reading.{◌>>=◌, GivesAll, Step, ended, whole}
 use Rattle.cf_wire.specs.Spelled.{IsBytes}
@@ -100,7 +100,7 @@ module _ {X : Type 0} (s w : X → List ℕ) (F : X → Type 0) (P : Left → St
         bad = λ (y : X) (rest : List ℕ) (h : Spells (s a.value ++ b.0 ∷ rest) y). no_front a.value y b.0 rest (s a.value) spelled h;
       }
 
-  pub answered : (text : List ℕ) (r : Result X WireFail) → IsBytes text → GivesAll r (whole P text) → Answers Spells w text r
+  pub answered : (text : List ℕ) (r : Result X WireError) → IsBytes text → GivesAll r (whole P text) → Answers Spells w text r
   answered text (Ok x) bytes e = given text x bytes e
   answered text (Err (fail.Short p)) bytes e = elim (bind_err (P (left 0 text)) (λ x. ended x.0 x.1.place x.1.rest) (Short p) e) [
     | inl h ↦ within text p (A.short (left 0 text) p bytes h)
@@ -110,10 +110,10 @@ module _ {X : Type 0} (s w : X → List ℕ) (F : X → Type 0) (P : Left → St
     | inl h ↦ breaks text p (A.bad (left 0 text) p bytes h)
     | inr h ↦ over text p h.0 bytes h.1 h.2
   ]
-  answered text (Err fail.Memory) bytes e = tt
+  answered text (Err fail.OutOfMemory) bytes e = tt
 
-  pub only : (text : List ℕ) (r : Result X WireFail) (x : X) → Spells text x → GivesAll r (whole P text) → MatchResult r (λ y. y ≡ x) (λ e. e ≡ fail.Memory)
+  pub only : (text : List ℕ) (r : Result X WireError) (x : X) → Spells text x → GivesAll r (whole P text) → MatchResult r (λ y. y ≡ x) (λ e. e ≡ fail.OutOfMemory)
   only text (Ok y) x h e = ok_is y x (sym e ∙ read_whole text x h)
-  only text (Err (fail.Short p)) x h e = absurd (let z : ◌≡◌ {A = Result X CodecFail} (Err (Short p)) (Ok x) = sym e ∙ read_whole text x h in cc)
-  only text (Err (fail.BadField p)) x h e = absurd (let z : ◌≡◌ {A = Result X CodecFail} (Err (BadField p)) (Ok x) = sym e ∙ read_whole text x h in cc)
-  only text (Err fail.Memory) x h e = refl
+  only text (Err (fail.Short p)) x h e = absurd (let z : ◌≡◌ {A = Result X CodecError} (Err (Short p)) (Ok x) = sym e ∙ read_whole text x h in cc)
+  only text (Err (fail.BadField p)) x h e = absurd (let z : ◌≡◌ {A = Result X CodecError} (Err (BadField p)) (Ok x) = sym e ∙ read_whole text x h in cc)
+  only text (Err fail.OutOfMemory) x h e = refl

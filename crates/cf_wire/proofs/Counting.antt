@@ -3,10 +3,10 @@ use Rattle.std.proofs.Common.{◌≡◌, ℕ, suc, ◌-◌, ◌+◌, ◌≤◌, 
 use Rattle.std.proofs.lemmas.List.{append-nil}
 use Rattle.cf_base.specs.declared.messages.Entry.{Entry}
 use Rattle.cf_codec.specs.Left.{Left}
-use Rattle.cf_codec.specs.declared.failures.CodecFail.{CodecFail}
-use Rattle.cf_codec.specs.declared.failures.CodecFail.TheVariants.{BadField, Short}
-use Rattle.cf_wire.specs.declared.failures.WireFail.{WireFail}
-use Rattle.cf_wire.specs.declared.failures.WireFail.TheVariants as fail
+use Rattle.cf_codec.specs.declared.failures.CodecError.{CodecError}
+use Rattle.cf_codec.specs.declared.failures.CodecError.TheVariants.{BadField, Short}
+use Rattle.cf_wire.specs.declared.failures.WireError.{WireError}
+use Rattle.cf_wire.specs.declared.failures.WireError.TheVariants as fail
 use Rattle.cf_wire.specs.Reading.{◌>>=◌, Fails, Step, counted_at, entry_at}
 
 -- what was read before, and what is still read
@@ -25,17 +25,17 @@ goes_on front count i l e after total lt h so_far =
     let one : with_front front (counted_at (count - i) l) ≡ with_front (front ++ e ∷ []) (counted_at (count - (i + 1)) after) = rw (k, h) (regroup front e (counted_at (count - (i + 1)) after)) in
     sym one ∙ so_far
 
-failed : (front : List Entry) (count i : ℕ) (l : Left) (d : CodecFail) (total : Step (List Entry)) → i < count → entry_at l ≡ Err d → with_front front (counted_at (count - i) l) ≡ total → total ≡ Err d
+failed : (front : List Entry) (count i : ℕ) (l : Left) (d : CodecError) (total : Step (List Entry)) → i < count → entry_at l ≡ Err d → with_front front (counted_at (count - i) l) ≡ total → total ≡ Err d
 unfolding counted_at
 failed front count i l d total lt h so_far =
     let k : count - i ≡ suc (count - (i + 1)) = omega arith in
     let one : with_front front (counted_at (count - i) l) ≡ Err d = rw (k, h) refl in
     sym so_far ∙ one
 
-pub ends : (e : WireFail) (front : List Entry) (count i : ℕ) (l : Left) (total : Step (List Entry)) → i < count → Fails e (entry_at l) → with_front front (counted_at (count - i) l) ≡ total → Fails e total
+pub ends : (e : WireError) (front : List Entry) (count i : ℕ) (l : Left) (total : Step (List Entry)) → i < count → Fails e (entry_at l) → with_front front (counted_at (count - i) l) ≡ total → Fails e total
 ends (fail.Short p) front count i l total lt h so_far = failed front count i l (Short p) total lt h so_far
 ends (fail.BadField p) front count i l total lt h so_far = failed front count i l (BadField p) total lt h so_far
-ends fail.Memory front count i l total lt h so_far = tt
+ends fail.OutOfMemory front count i l total lt h so_far = tt
 
 pub is_done : (front : List Entry) (count i : ℕ) (l : Left) (total : Step (List Entry)) → count ≤ i → with_front front (counted_at (count - i) l) ≡ total → total ≡ Ok (front, l)
 unfolding counted_at

@@ -7,8 +7,8 @@ use Rattle.cf_base.specs.declared.messages.Entry.{Entry}
 use Rattle.cf_base.specs.declared.messages.Why.{Why}
 use Rattle.cf_base.specs.declared.messages.Why.TheVariants as why
 use Rattle.cf_codec.specs.Left.{Left, Takes}
-use Rattle.cf_codec.specs.declared.failures.CodecFail.{CodecFail}
-use Rattle.cf_codec.specs.declared.failures.CodecFail.TheVariants.{BadField, Short}
+use Rattle.cf_codec.specs.declared.failures.CodecError.{CodecError}
+use Rattle.cf_codec.specs.declared.failures.CodecError.TheVariants.{BadField, Short}
 use Rattle.cf_model.specs.Frames.{flag, name_bytes, spell_entries, spell_entry, why_number}
 use Rattle.cf_model.specs.Words.{in_bytes}
 use Rattle.cf_wire.specs.Reading.{◌>>=◌, Step, counted_at, dir_of, eight_at, entries_at, entry_at, flag_of, four_at, marked_at, name_at, why_of}

@@ -1,8 +1,8 @@
 -- What it means that a part of a frame is read exactly, and how such parts are joined.
 use Rattle.std.proofs.Common.{◌≡◌, ℕ, suc, ◌+◌, ◌<◌, ◌≤◌, List, [], ◌∷◌, ◌++◌, length, Result, Ok, Err, ◌⊎◌, inl, inr, refl, sym, ap, ◌∙◌, subst, arith, append_assoc, length-append}
 use Rattle.cf_codec.specs.Left.{Left, Takes}
-use Rattle.cf_codec.specs.declared.failures.CodecFail.{CodecFail}
-use Rattle.cf_codec.specs.declared.failures.CodecFail.TheVariants.{BadField, Short}
+use Rattle.cf_codec.specs.declared.failures.CodecError.{CodecError}
+use Rattle.cf_codec.specs.declared.failures.CodecError.TheVariants.{BadField, Short}
 use Rattle.cf_wire.specs.Faults.{Begins, total}
 use Rattle.cf_wire.specs.Reading.{◌>>=◌, Step}
 use Rattle.cf_wire.specs.Spelled.{IsBytes}
@@ -55,20 +55,20 @@ pub record IsExact {X Z : Type 0} (spell widths : X → List ℕ) (Fits : X → 
 
 -- results
 
-pub bind_ok : {A B : Type 0} (r : Result A CodecFail) (f : A → Result B CodecFail) (y : B) → (r >>= f) ≡ Ok y → (x : A) × (r ≡ Ok x) × (f x ≡ Ok y)
+pub bind_ok : {A B : Type 0} (r : Result A CodecError) (f : A → Result B CodecError) (y : B) → (r >>= f) ≡ Ok y → (x : A) × (r ≡ Ok x) × (f x ≡ Ok y)
 bind_ok (Ok x) f y e = (x, refl, e)
 bind_ok (Err d) f y e = absurd cc
 
-abbrev done : {A : Type 0} → A → Result A CodecFail
+abbrev done : {A : Type 0} → A → Result A CodecError
 done x = Ok x
 
 pub ok_is : {A : Type 0} (x y : A) → done x ≡ done y → x ≡ y
 ok_is x y e = cc
 
-abbrev failing : {A : Type 0} → CodecFail → Result A CodecFail
+abbrev failing : {A : Type 0} → CodecError → Result A CodecError
 failing d = Err d
 
-pub bind_err : {A B : Type 0} (r : Result A CodecFail) (f : A → Result B CodecFail) (d : CodecFail) → (r >>= f) ≡ Err d → (r ≡ Err d) ⊎ ((x : A) × (r ≡ Ok x) × (f x ≡ Err d))
+pub bind_err : {A B : Type 0} (r : Result A CodecError) (f : A → Result B CodecError) (d : CodecError) → (r >>= f) ≡ Err d → (r ≡ Err d) ⊎ ((x : A) × (r ≡ Ok x) × (f x ≡ Err d))
 bind_err (Ok x) f d e = inr (x, refl, e)
 bind_err (Err c) f d e = let h : c ≡ d = cc in inl (ap failing h)
 

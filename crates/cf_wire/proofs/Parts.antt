@@ -6,8 +6,8 @@ use Rattle.std.proofs.lemmas.Nat.{be_bytes_4, be_bytes_8, from_be_bytes-to_be_by
 use Rattle.std.specs.Int.{w32, w64, from_be_bytes, to_be_bytes}
 use Rattle.cf_base.specs.declared.ids.Key.{Key}
 use Rattle.cf_codec.specs.Left.{Left, Takes}
-use Rattle.cf_codec.specs.declared.failures.CodecFail.{CodecFail}
-use Rattle.cf_codec.specs.declared.failures.CodecFail.TheVariants.{BadField, Short}
+use Rattle.cf_codec.specs.declared.failures.CodecError.{CodecError}
+use Rattle.cf_codec.specs.declared.failures.CodecError.TheVariants.{BadField, Short}
 use Rattle.cf_model.specs.Books.{key_bytes}
 use Rattle.cf_model.specs.Frames.{blob_bytes, name_bytes}
 use Rattle.cf_model.specs.Words.{in_bytes}

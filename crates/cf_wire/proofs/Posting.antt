@@ -1,7 +1,7 @@
 -- Sending posts as the definitions do.
 use Rattle.std.proofs.Common.{◌≡◌, ℕ, zero, suc, Bool, true, false, cond, List, [], length, Option, Some, None, Result, Ok, Err, nat_lt, slice_get, ◌+◌, ◌∷◌, ◌++◌, refl, sym, ap, ◌∙◌, subst}
 use Rattle.std.specs.Prelude.{IfOk}
-use Rattle.cf_base.specs.declared.memory.Memory.{Memory}
+use Rattle.cf_base.specs.declared.memory.OutOfMemory.{OutOfMemory}
 use Rattle.cf_base.specs.declared.notices.Frame.{Frame}
 use Rattle.cf_base.specs.declared.notices.Frame.TheVariants as frame
 use Rattle.cf_model.specs.Frames.{spell_frame}
@@ -67,7 +67,7 @@ one_posted : (m : Message) (f : Frame) (net after : Kept) (s : State) (sent : Se
 one_posted m f net after s sent e g h k =
     subst (λ (x : Kept). Posts f s sent x) (sym g) (subst (λ (x : Sent). Posts f s x (sending m net).1) (sym e) (of_sending m f net s h k))
 
-pub posted : (m : Message) (net after : Kept) (r : Result Sent Memory) → IfOk r (λ sent. (sent ≡ (sending m net).0) × (after ≡ (sending m net).1))
+pub posted : (m : Message) (net after : Kept) (r : Result Sent OutOfMemory) → IfOk r (λ sent. (sent ≡ (sending m net).0) × (after ≡ (sending m net).1))
     → (s : State) (f : Frame) → IsNet net s.link → IsMessage m f → IfOk r (λ sent. Posts f s sent after)
 posted m net after (Ok sent) e s f h k = one_posted m f net after s sent e.0 e.1 h k
 posted m net after (Err x) e s f h k = tt

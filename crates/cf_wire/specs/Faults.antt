@@ -1,7 +1,7 @@
 -- What a reading answers: the value that is spelled, or the first fault, with its place.
 use Rattle.std.specs.Prelude.{◌≡◌, ℕ, ◌+◌, ◌<◌, ◌≤◌, ◌++◌, List, [], ◌∷◌, length, Result, Ok, Err}
-use Rattle.cf_wire.specs.declared.failures.WireFail.{WireFail}
-use Rattle.cf_wire.specs.declared.failures.WireFail.TheVariants.{BadField, Memory, Short}
+use Rattle.cf_wire.specs.declared.failures.WireError.{WireError}
+use Rattle.cf_wire.specs.declared.failures.WireError.TheVariants.{BadField, OutOfMemory, Short}
 
 abbrev pub total : List ℕ → ℕ
 total [] = 0
@@ -33,12 +33,12 @@ pub record BreaksAt {X : Type 0} (Spells : List ℕ → X → Type 0) (text : Li
   pub good : Spells (front ++ more) value
   pub bad : (x : X) (rest : List ℕ) → Spells (front ++ byte ∷ rest) x → ⊥
 
-abbrev pub IsFault : {X : Type 0} → (List ℕ → X → Type 0) → (X → List ℕ) → List ℕ → WireFail → Type 0
+abbrev pub IsFault : {X : Type 0} → (List ℕ → X → Type 0) → (X → List ℕ) → List ℕ → WireError → Type 0
 IsFault Spells widths text (Short place) = EndsWithin Spells widths text place
 IsFault Spells widths text (BadField place) = BreaksAt Spells text place
-IsFault Spells widths text Memory = Unit {0}
+IsFault Spells widths text OutOfMemory = Unit {0}
 
 -- the answer to this text
-abbrev pub Answers : {X : Type 0} → (List ℕ → X → Type 0) → (X → List ℕ) → List ℕ → Result X WireFail → Type 0
+abbrev pub Answers : {X : Type 0} → (List ℕ → X → Type 0) → (X → List ℕ) → List ℕ → Result X WireError → Type 0
 Answers Spells widths text (Ok x) = Spells text x
 Answers Spells widths text (Err e) = IsFault Spells widths text e

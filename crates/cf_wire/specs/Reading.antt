@@ -11,31 +11,31 @@ use Rattle.cf_base.specs.declared.messages.Request.TheVariants as request
 use Rattle.cf_base.specs.declared.messages.Why.{Why}
 use Rattle.cf_base.specs.declared.messages.Why.TheVariants as why
 use Rattle.cf_codec.specs.Left.{Left}
-use Rattle.cf_codec.specs.declared.failures.CodecFail.{CodecFail}
-use Rattle.cf_codec.specs.declared.failures.CodecFail.TheVariants.{BadField, Short}
-use Rattle.cf_wire.specs.declared.failures.WireFail.{WireFail}
-use Rattle.cf_wire.specs.declared.failures.WireFail.TheVariants as fail
+use Rattle.cf_codec.specs.declared.failures.CodecError.{CodecError}
+use Rattle.cf_codec.specs.declared.failures.CodecError.TheVariants.{BadField, Short}
+use Rattle.cf_wire.specs.declared.failures.WireError.{WireError}
+use Rattle.cf_wire.specs.declared.failures.WireError.TheVariants as fail
 
 -- what is read of what is left, and what is left then
 abbrev pub Step : Type 0 → Type 0
-Step X = Result (X × Left) CodecFail
+Step X = Result (X × Left) CodecError
 
 infixl 10 ◌>>=◌
-abbrev pub ◌>>=◌ : {A B : Type 0} → Result A CodecFail → (A → Result B CodecFail) → Result B CodecFail
+abbrev pub ◌>>=◌ : {A B : Type 0} → Result A CodecError → (A → Result B CodecError) → Result B CodecError
 (Ok x) >>= f = f x
 (Err e) >>= f = Err e
 
 -- what a function answered, unless memory ran out
-abbrev pub Fails : {A : Type 0} → WireFail → Result A CodecFail → Type 0
+abbrev pub Fails : {A : Type 0} → WireError → Result A CodecError → Type 0
 Fails (fail.Short place) read = read ≡ Err (Short place)
 Fails (fail.BadField place) read = read ≡ Err (BadField place)
-Fails fail.Memory read = Unit {0}
+Fails fail.OutOfMemory read = Unit {0}
 
-abbrev pub GivesBy : {X Y : Type 0} → (X → Y) → Result X WireFail → Left → Step Y → Type 0
+abbrev pub GivesBy : {X Y : Type 0} → (X → Y) → Result X WireError → Left → Step Y → Type 0
 GivesBy view (Ok x) after read = read ≡ Ok (view x, after)
 GivesBy view (Err e) after read = Fails e read
 
-abbrev pub Gives : {X : Type 0} → Result X WireFail → Left → Step X → Type 0
+abbrev pub Gives : {X : Type 0} → Result X WireError → Left → Step X → Type 0
 Gives given after read = GivesBy (λ x. x) given after read
 
 -- fields
@@ -281,13 +281,13 @@ reply_at l = do
 
 -- all of a text
 
-abbrev pub ended : {X : Type 0} → X → ℕ → List ℕ → Result X CodecFail
+abbrev pub ended : {X : Type 0} → X → ℕ → List ℕ → Result X CodecError
 ended x place [] = Ok x
 ended x place (b ∷ bs) = Err (BadField place)
 
-abbrev pub whole : {X : Type 0} → (Left → Step X) → List ℕ → Result X CodecFail
+abbrev pub whole : {X : Type 0} → (Left → Step X) → List ℕ → Result X CodecError
 whole read text = read (record { place = 0; rest = text }) >>= λ x. ended x.0 x.1.place x.1.rest
 
-abbrev pub GivesAll : {X : Type 0} → Result X WireFail → Result X CodecFail → Type 0
+abbrev pub GivesAll : {X : Type 0} → Result X WireError → Result X CodecError → Type 0
 GivesAll (Ok x) read = read ≡ Ok x
 GivesAll (Err e) read = Fails e read

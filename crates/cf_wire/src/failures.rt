@@ -1,14 +1,14 @@
 //! Why a frame is not read.
 
 ghost use Rattle.std.specs.Prelude.{◌≡◌};
-ghost use Rattle.cf_wire.specs.declared.failures.WireFail.TheVariants.{Memory};
+ghost use Rattle.cf_wire.specs.declared.failures.WireError.TheVariants.{OutOfMemory};
 ghost use Rattle.cf_wire.specs.Given.{wire_of};
 
-use cf_codec::CodecFail;
+use cf_codec::CodecError;
 
 /// Why a frame is not read. The number is a place in its bytes, from 0.
 #[derive(Clone, Copy, Debug, PartialEq, Eq, thiserror::Error)]
-pub enum WireFail {
+pub enum WireError {
     /// The field that begins at this place lacks bytes.
     #[error("the field at byte {0} lacks bytes")]
     Short(usize),
@@ -17,24 +17,24 @@ pub enum WireFail {
     BadField(usize),
     /// There was no memory.
     #[error("out of memory")]
-    Memory,
+    OutOfMemory,
 }
 
-impl From<CodecFail> for WireFail {
+impl From<CodecError> for WireError {
     ghost from_gives = { λ c e. e ≡ wire_of c };
 
-    fn from(fail: CodecFail) -> WireFail {
+    fn from(fail: CodecError) -> WireError {
         match fail {
-            CodecFail::Short(place) => WireFail::Short(place),
-            CodecFail::BadField(place) => WireFail::BadField(place),
+            CodecError::Short(place) => WireError::Short(place),
+            CodecError::BadField(place) => WireError::BadField(place),
         }
     }
 }
 
-impl From<cf_base::Memory> for WireFail {
-    ghost from_gives = { λ _ e. e ≡ Memory };
+impl From<cf_base::OutOfMemory> for WireError {
+    ghost from_gives = { λ _ e. e ≡ OutOfMemory };
 
-    fn from(_: cf_base::Memory) -> WireFail {
-        WireFail::Memory
+    fn from(_: cf_base::OutOfMemory) -> WireError {
+        WireError::OutOfMemory
     }
 }

@@ -3,30 +3,30 @@
 ghost use Rattle.std.specs.Prelude.{◌≡◌, ◌<◌, length};
 ghost use Rattle.cf_wire.specs.Reading.{Gives, GivesBy, blob_at, byte_at, bytes_at, dir_of, eight_at, flag_of, four_at, key_at, marked_at, name_at, why_of};
 
-use crate::failures::WireFail;
+use crate::failures::WireError;
 use cf_base::{Blob, Key, Why};
-use cf_codec::{CodecFail, Reader};
+use cf_codec::{CodecError, Reader};
 use std::alloc::Global;
 
-fn bytes<'a>(r: &mut Reader<'a>, n: usize) -> Result<&'a [u8], WireFail>
+fn bytes<'a>(r: &mut Reader<'a>, n: usize) -> Result<&'a [u8], WireError>
     ensures { GivesBy (λ b. b.now) result r.new (bytes_at n r.old) }
 {
     Ok(r.bytes(n)?)
 }
 
-pub(crate) fn byte(r: &mut Reader) -> Result<u8, WireFail>
+pub(crate) fn byte(r: &mut Reader) -> Result<u8, WireError>
     ensures { Gives result r.new (byte_at r.old) }
 {
     Ok(r.u8()?)
 }
 
-pub(crate) fn four(r: &mut Reader) -> Result<u32, WireFail>
+pub(crate) fn four(r: &mut Reader) -> Result<u32, WireError>
     ensures { Gives result r.new (four_at r.old) }
 {
     Ok(r.u32()?)
 }
 
-pub(crate) fn eight(r: &mut Reader) -> Result<u64, WireFail>
+pub(crate) fn eight(r: &mut Reader) -> Result<u64, WireError>
     ensures { Gives result r.new (eight_at r.old) }
 {
     Ok(r.u64()?)
@@ -38,8 +38,8 @@ fn next_place(r: &Reader) -> usize
 {
     match r.end() {
         Ok(()) => 0,
-        Err(CodecFail::Short(place)) => place,
-        Err(CodecFail::BadField(place)) => place,
+        Err(CodecError::Short(place)) => place,
+        Err(CodecError::BadField(place)) => place,
     }
 }
 
@@ -82,35 +82,35 @@ fn why_of(byte: u8) -> Option<Why>
 
 /// Whether an entry is a directory.
 #[tactic(auto, unfolding(crate::specs::Reading::marked_at))]
-pub(crate) fn dir(r: &mut Reader) -> Result<bool, WireFail>
+pub(crate) fn dir(r: &mut Reader) -> Result<bool, WireError>
     ensures { Gives result r.new (marked_at dir_of r.old) }
 {
     let place = next_place(r);
     let mark = byte(r)?;
-    dir_of(mark).ok_or(WireFail::BadField(place))
+    dir_of(mark).ok_or(WireError::BadField(place))
 }
 
 /// Whether an entry is live.
 #[tactic(auto, unfolding(crate::specs::Reading::marked_at))]
-pub(crate) fn flag(r: &mut Reader) -> Result<bool, WireFail>
+pub(crate) fn flag(r: &mut Reader) -> Result<bool, WireError>
     ensures { Gives result r.new (marked_at flag_of r.old) }
 {
     let place = next_place(r);
     let mark = byte(r)?;
-    flag_of(mark).ok_or(WireFail::BadField(place))
+    flag_of(mark).ok_or(WireError::BadField(place))
 }
 
 #[tactic(auto, unfolding(crate::specs::Reading::marked_at))]
-pub(crate) fn why(r: &mut Reader) -> Result<Why, WireFail>
+pub(crate) fn why(r: &mut Reader) -> Result<Why, WireError>
     ensures { Gives result r.new (marked_at why_of r.old) }
 {
     let place = next_place(r);
     let mark = byte(r)?;
-    why_of(mark).ok_or(WireFail::BadField(place))
+    why_of(mark).ok_or(WireError::BadField(place))
 }
 
 #[tactic(auto, unfolding(crate::specs::Reading::key_at))]
-pub(crate) fn key(r: &mut Reader) -> Result<Key, WireFail>
+pub(crate) fn key(r: &mut Reader) -> Result<Key, WireError>
     ensures { Gives result r.new (key_at r.old) }
 {
     let epoch = four(r)?;
@@ -120,7 +120,7 @@ pub(crate) fn key(r: &mut Reader) -> Result<Key, WireFail>
 
 /// A text of at most 255 bytes.
 #[tactic(auto, unfolding(crate::specs::Reading::name_at))]
-pub(crate) fn name(alloc: Global, r: &mut Reader) -> Result<Blob, WireFail>
+pub(crate) fn name(alloc: Global, r: &mut Reader) -> Result<Blob, WireError>
     ensures { Gives result r.new (name_at r.old) }
 {
     let n = byte(r)?;
@@ -129,7 +129,7 @@ pub(crate) fn name(alloc: Global, r: &mut Reader) -> Result<Blob, WireFail>
 }
 
 #[tactic(auto, unfolding(crate::specs::Reading::blob_at))]
-pub(crate) fn blob(alloc: Global, r: &mut Reader) -> Result<Blob, WireFail>
+pub(crate) fn blob(alloc: Global, r: &mut Reader) -> Result<Blob, WireError>
     ensures { Gives result r.new (blob_at r.old) }
 {
     let n = four(r)?;

@@ -13,7 +13,7 @@ ghost use Rattle.std.specs.HashSet.{IsFromIterResult};
 ghost use Rattle.cf_wire.specs.Sizes.{has_sizes};
 
 use crate::local_items::LocalItems;
-use cf_base::{Entry, Fail, Key, Memory, Name, Reply, Request, Rid, Round, Token};
+use cf_base::{Entry, CallError, Key, OutOfMemory, Name, Reply, Request, Rid, Round, Token};
 use cf_model::laws::one_test_of_names;
 use std::alloc::{AllocError, Global};
 use std::collections::HashSet;
@@ -24,14 +24,14 @@ fn same_key(a: Key, b: Key) -> bool
     a.epoch == b.epoch && a.number == b.number
 }
 
-fn is_name(alloc: Global, name: &[u8]) -> Result<bool, Memory>
+fn is_name(alloc: Global, name: &[u8]) -> Result<bool, OutOfMemory>
     ensures { IfOk result (λ b. b ≡ is_name name.now) }
 {
     one_test_of_names();
     match Name::read(alloc, name) {
         Ok(_) => Ok(true),
-        Err(Fail::No(_)) => Ok(false),
-        Err(Fail::Memory) => Err(Memory),
+        Err(CallError::No(_)) => Ok(false),
+        Err(CallError::OutOfMemory) => Err(OutOfMemory),
     }
 }
 
@@ -46,7 +46,7 @@ fn has_sizes(entry: &Entry) -> bool
     }
 }
 
-fn is_entry<L: LocalItems>(alloc: Global, local: &L, entry: &Entry) -> Result<bool, Memory>
+fn is_entry<L: LocalItems>(alloc: Global, local: &L, entry: &Entry) -> Result<bool, OutOfMemory>
     ensures { IfOk result (λ b. b ≡ is_entry (L.known local.now) entry.now) }
 {
     if entry.rid.0 <= 1 || entry.rid.0 == entry.parent.0 {
@@ -66,7 +66,7 @@ fn rids_of(alloc: Global, entries: &[Entry]) -> Result<HashSet<u64>, AllocError>
 }
 
 // No two have the same item.
-fn are_distinct(alloc: Global, entries: &[Entry]) -> Result<bool, Memory>
+fn are_distinct(alloc: Global, entries: &[Entry]) -> Result<bool, OutOfMemory>
     ensures { IfOk result (λ b. b ≡ are_distinct entries.now) }
 {
     let rids = rids_of(alloc, entries)?;
@@ -74,7 +74,7 @@ fn are_distinct(alloc: Global, entries: &[Entry]) -> Result<bool, Memory>
 }
 
 // No two have the same name: none has one of those behind it.
-fn are_named_apart(alloc: Global, entries: &[Entry]) -> Result<bool, Memory>
+fn are_named_apart(alloc: Global, entries: &[Entry]) -> Result<bool, OutOfMemory>
     ensures { IfOk result (λ b. b ≡ are_named_apart entries.now) }
 {
     let mut names: HashSet<&[u8]> = HashSet::new(alloc);
@@ -90,7 +90,7 @@ fn are_named_apart(alloc: Global, entries: &[Entry]) -> Result<bool, Memory>
     Ok(true)
 }
 
-fn are_entries<L: LocalItems>(alloc: Global, local: &L, entries: &[Entry]) -> Result<bool, Memory>
+fn are_entries<L: LocalItems>(alloc: Global, local: &L, entries: &[Entry]) -> Result<bool, OutOfMemory>
     ensures { IfOk result (λ b. b ≡ are_entries (L.known local.now) entries.now) }
 {
     for entry in entries {
@@ -110,7 +110,7 @@ fn are_children(rid: Rid, entries: &[Entry]) -> bool
 }
 
 // The entries are the live children of this item, and no two have the same name.
-fn is_listing(alloc: Global, rid: Rid, entries: &[Entry]) -> Result<bool, Memory>
+fn is_listing(alloc: Global, rid: Rid, entries: &[Entry]) -> Result<bool, OutOfMemory>
     ensures { IfOk result (λ b. b ≡ is_listing rid entries.now) }
 {
     if !are_children(rid, entries) {
@@ -154,7 +154,7 @@ fn feed_fits<L: LocalItems>(
     local: &L,
     round: Round,
     reply: &Reply,
-) -> Result<bool, Memory>
+) -> Result<bool, OutOfMemory>
     ensures { (settled : Rid) (after : ℕ) → IfOk result (λ b. b ≡ fits (L.known local.now) settled (Request.Feed round after) reply.now) }
 {
     match reply {
@@ -183,7 +183,7 @@ fn listing_fits<L: LocalItems>(
     local: &L,
     rid: Rid,
     entries: &[Entry],
-) -> Result<bool, Memory>
+) -> Result<bool, OutOfMemory>
     ensures { IfOk result (λ b. b ≡ (are_entries (L.known local.now) entries.now && is_listing rid entries.now)) }
 {
     if !are_entries(alloc, local, entries)? {
@@ -198,7 +198,7 @@ fn list_fits<L: LocalItems>(
     key: Key,
     rid: Rid,
     reply: &Reply,
-) -> Result<bool, Memory>
+) -> Result<bool, OutOfMemory>
     ensures { (settled : Rid) → IfOk result (λ b. b ≡ fits (L.known local.now) settled (Request.List key rid) reply.now) }
 {
     match reply {
@@ -249,7 +249,7 @@ pub fn fits<L: LocalItems>(
     settled: Rid,
     request: &Request,
     reply: &Reply,
-) -> Result<bool, Memory>
+) -> Result<bool, OutOfMemory>
     ensures { IfOk result (λ b. b ≡ fits (L.known local.now) settled request.now reply.now) }
 {
     match request {

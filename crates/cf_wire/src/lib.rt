@@ -20,7 +20,7 @@ mod spelled_fields;
 mod spelled_replies;
 mod spelled_requests;
 
-pub use failures::WireFail;
+pub use failures::WireError;
 pub use fitting::fits;
 pub use laws::{no_frame_in_front, one_value_a_frame};
 pub use local_items::{LocalItems, NoItems};

@@ -3,7 +3,7 @@
 use cf_base::Blob;
 
 /// A message: the frame of a request, or that of a reply to request `answers`.
-#[derive(Debug, Drop)]
+#[derive(Drop)]
 pub struct Message {
     pub answers: Option<u32>,
     pub frame: Blob,

@@ -7,7 +7,7 @@ ghost use Rattle.cf_model.specs.State.{State};
 ghost use Rattle.cf_wire.specs.Sending.{IsKept, IsMessage, IsNet, Posts, message_of, no_messages, sending};
 
 use crate::messages::{Message, Sent};
-use cf_base::Memory;
+use cf_base::OutOfMemory;
 use std::alloc::Global;
 use std::marker::Model;
 
@@ -46,7 +46,7 @@ impl Net {
 
     /// Gives the message the next number, and keeps it, unless the kept bytes would pass their limit: then it is lost. After
     /// the number 4,294,967,295 it is lost and its number is 0. Without memory nothing is changed.
-    pub fn send(&mut self, message: Message) -> Result<Sent, Memory>
+    pub fn send(&mut self, message: Message) -> Result<Sent, OutOfMemory>
         ensures sent { IfOk result (λ sent. (sent ≡ (sending message self.old).0) × (self.new ≡ (sending message self.old).1)) }
         ensures posted { (s : State) (f : Frame) → IsNet self.old s.link → IsMessage message f → IfOk result (λ sent. Posts f s sent self.new) }
         ensures err { OnErr result (self.new ≡ self.old) }
@@ -54,7 +54,7 @@ impl Net {
         self.add(message)
     }
 
-    fn add(&mut self, message: Message) -> Result<Sent, Memory>
+    fn add(&mut self, message: Message) -> Result<Sent, OutOfMemory>
         ensures sent { IfOk result (λ sent. (sent ≡ (sending message self.old).0) × (self.new ≡ (sending message self.old).1)) }
         ensures err { OnErr result (self.new ≡ self.old) }
     {

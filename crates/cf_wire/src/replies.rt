@@ -6,14 +6,14 @@ ghost use Rattle.cf_wire.specs.Faults.{Answers};
 ghost use Rattle.cf_wire.specs.Reading.{Gives, GivesAll, bytes_reply_at, counted_at, done_reply_at, entries_at, entry_at, feed_reply_at, gone_reply_at, listing_reply_at, missing_reply_at, refused_reply_at, reply_at, reply_body_at, void_reply_at, whole};
 ghost use Rattle.cf_wire.specs.Spelled.{IsReply, reply_widths};
 
-use crate::failures::WireFail;
+use crate::failures::WireError;
 use crate::fields::{blob, byte, dir, eight, flag, four, key, name, why};
 use cf_base::{Entry, Reply, Rid, Round, Sequence, Token, Version};
 use cf_codec::Reader;
 use std::alloc::Global;
 
 #[tactic(auto, unfolding(crate::specs::Reading::entry_at))]
-fn entry(alloc: Global, r: &mut Reader) -> Result<Entry, WireFail>
+fn entry(alloc: Global, r: &mut Reader) -> Result<Entry, WireError>
     ensures { Gives result r.new (entry_at r.old) }
 {
     let rid = Rid(eight(r)?);
@@ -37,7 +37,7 @@ fn entry(alloc: Global, r: &mut Reader) -> Result<Entry, WireFail>
 }
 
 // So many entries. Room is made as they come, since the count may be any.
-fn counted(alloc: Global, count: u32, r: &mut Reader) -> Result<Sequence<Entry>, WireFail>
+fn counted(alloc: Global, count: u32, r: &mut Reader) -> Result<Sequence<Entry>, WireError>
     ensures { Gives result r.new (counted_at count r.old) }
 {
     let mut entries = Sequence::new(alloc);
@@ -49,7 +49,7 @@ fn counted(alloc: Global, count: u32, r: &mut Reader) -> Result<Sequence<Entry>,
 }
 
 #[tactic(auto, unfolding(crate::specs::Reading::entries_at))]
-fn entries(alloc: Global, r: &mut Reader) -> Result<Sequence<Entry>, WireFail>
+fn entries(alloc: Global, r: &mut Reader) -> Result<Sequence<Entry>, WireError>
     ensures { Gives result r.new (entries_at r.old) }
 {
     let count = four(r)?;
@@ -57,7 +57,7 @@ fn entries(alloc: Global, r: &mut Reader) -> Result<Sequence<Entry>, WireFail>
 }
 
 #[tactic(auto, unfolding(crate::specs::Reading::feed_reply_at))]
-fn feed(alloc: Global, r: &mut Reader) -> Result<Reply, WireFail>
+fn feed(alloc: Global, r: &mut Reader) -> Result<Reply, WireError>
     ensures { Gives result r.new (feed_reply_at r.old) }
 {
     let round = Round(key(r)?);
@@ -71,7 +71,7 @@ fn feed(alloc: Global, r: &mut Reader) -> Result<Reply, WireFail>
 }
 
 #[tactic(auto, unfolding(crate::specs::Reading::listing_reply_at))]
-fn listing(alloc: Global, r: &mut Reader) -> Result<Reply, WireFail>
+fn listing(alloc: Global, r: &mut Reader) -> Result<Reply, WireError>
     ensures { Gives result r.new (listing_reply_at r.old) }
 {
     let key = key(r)?;
@@ -80,7 +80,7 @@ fn listing(alloc: Global, r: &mut Reader) -> Result<Reply, WireFail>
 }
 
 #[tactic(auto, unfolding(crate::specs::Reading::bytes_reply_at))]
-fn bytes(alloc: Global, r: &mut Reader) -> Result<Reply, WireFail>
+fn bytes(alloc: Global, r: &mut Reader) -> Result<Reply, WireError>
     ensures { Gives result r.new (bytes_reply_at r.old) }
 {
     let key = key(r)?;
@@ -90,7 +90,7 @@ fn bytes(alloc: Global, r: &mut Reader) -> Result<Reply, WireFail>
 }
 
 #[tactic(auto, unfolding(crate::specs::Reading::missing_reply_at))]
-fn missing(r: &mut Reader) -> Result<Reply, WireFail>
+fn missing(r: &mut Reader) -> Result<Reply, WireError>
     ensures { Gives result r.new (missing_reply_at r.old) }
 {
     let key = key(r)?;
@@ -98,7 +98,7 @@ fn missing(r: &mut Reader) -> Result<Reply, WireFail>
 }
 
 #[tactic(auto, unfolding(crate::specs::Reading::done_reply_at))]
-fn done(r: &mut Reader) -> Result<Reply, WireFail>
+fn done(r: &mut Reader) -> Result<Reply, WireError>
     ensures { Gives result r.new (done_reply_at r.old) }
 {
     let token = Token(key(r)?);
@@ -112,7 +112,7 @@ fn done(r: &mut Reader) -> Result<Reply, WireFail>
 }
 
 #[tactic(auto, unfolding(crate::specs::Reading::void_reply_at))]
-fn void(r: &mut Reader) -> Result<Reply, WireFail>
+fn void(r: &mut Reader) -> Result<Reply, WireError>
     ensures { Gives result r.new (void_reply_at r.old) }
 {
     let token = Token(key(r)?);
@@ -120,7 +120,7 @@ fn void(r: &mut Reader) -> Result<Reply, WireFail>
 }
 
 #[tactic(auto, unfolding(crate::specs::Reading::refused_reply_at))]
-fn refused(r: &mut Reader) -> Result<Reply, WireFail>
+fn refused(r: &mut Reader) -> Result<Reply, WireError>
     ensures { Gives result r.new (refused_reply_at r.old) }
 {
     let token = Token(key(r)?);
@@ -134,7 +134,7 @@ fn refused(r: &mut Reader) -> Result<Reply, WireFail>
 }
 
 #[tactic(auto, unfolding(crate::specs::Reading::gone_reply_at))]
-fn gone(r: &mut Reader) -> Result<Reply, WireFail>
+fn gone(r: &mut Reader) -> Result<Reply, WireError>
     ensures { Gives result r.new (gone_reply_at r.old) }
 {
     let key = key(r)?;
@@ -143,7 +143,7 @@ fn gone(r: &mut Reader) -> Result<Reply, WireFail>
 
 // What follows the kind that stands at a place.
 #[tactic(auto, unfolding(crate::specs::Reading::reply_body_at))]
-fn body(alloc: Global, place: usize, kind: u8, r: &mut Reader) -> Result<Reply, WireFail>
+fn body(alloc: Global, place: usize, kind: u8, r: &mut Reader) -> Result<Reply, WireError>
     ensures { Gives result r.new (reply_body_at place kind r.old) }
 {
     match kind {
@@ -155,13 +155,13 @@ fn body(alloc: Global, place: usize, kind: u8, r: &mut Reader) -> Result<Reply, 
         70 => void(r),
         71 => refused(r),
         72 => gone(r),
-        _ => Err(WireFail::BadField(place)),
+        _ => Err(WireError::BadField(place)),
     }
 }
 
 // All of the bytes.
 #[tactic(auto, unfolding(crate::specs::Reading::reply_at))]
-fn reply(alloc: Global, bytes: &[u8]) -> Result<Reply, WireFail>
+fn reply(alloc: Global, bytes: &[u8]) -> Result<Reply, WireError>
     ensures { GivesAll result (whole reply_at bytes.now) }
 {
     let mut r = Reader::new(bytes);
@@ -173,9 +173,9 @@ fn reply(alloc: Global, bytes: &[u8]) -> Result<Reply, WireFail>
 
 /// The reply whose frame the bytes are. Short and BadField name the first fault from the left: the field that lacks bytes,
 /// or the first byte that none could have in its place. What `spell_reply` gives is read again, unless memory runs out.
-pub fn read_reply(alloc: Global, bytes: &[u8]) -> Result<Reply, WireFail>
+pub fn read_reply(alloc: Global, bytes: &[u8]) -> Result<Reply, WireError>
     ensures read { Answers IsReply reply_widths bytes.now result }
-    ensures only { (r : Reply) → IsReply bytes.now r → MatchResult result (λ p. p ≡ r) (λ e. e ≡ WireFail.Memory) }
+    ensures only { (r : Reply) → IsReply bytes.now r → MatchResult result (λ p. p ≡ r) (λ e. e ≡ WireError.OutOfMemory) }
 {
     reply(alloc, bytes)
 }

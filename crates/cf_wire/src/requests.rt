@@ -6,14 +6,14 @@ ghost use Rattle.cf_wire.specs.Faults.{Answers};
 ghost use Rattle.cf_wire.specs.Reading.{Gives, GivesAll, feed_request_at, fetch_request_at, keep_request_at, list_request_at, make_request_at, move_request_at, put_request_at, remove_request_at, request_at, request_body_at, settle_request_at, whole};
 ghost use Rattle.cf_wire.specs.Spelled.{IsRequest, request_widths};
 
-use crate::failures::WireFail;
+use crate::failures::WireError;
 use crate::fields::{blob, byte, eight, four, key, name};
 use cf_base::{Request, Rid, Round, Token, Version};
 use cf_codec::Reader;
 use std::alloc::Global;
 
 #[tactic(auto, unfolding(crate::specs::Reading::feed_request_at))]
-fn feed(r: &mut Reader) -> Result<Request, WireFail>
+fn feed(r: &mut Reader) -> Result<Request, WireError>
     ensures { Gives result r.new (feed_request_at r.old) }
 {
     let round = Round(key(r)?);
@@ -22,7 +22,7 @@ fn feed(r: &mut Reader) -> Result<Request, WireFail>
 }
 
 #[tactic(auto, unfolding(crate::specs::Reading::list_request_at))]
-fn list(r: &mut Reader) -> Result<Request, WireFail>
+fn list(r: &mut Reader) -> Result<Request, WireError>
     ensures { Gives result r.new (list_request_at r.old) }
 {
     let key = key(r)?;
@@ -31,7 +31,7 @@ fn list(r: &mut Reader) -> Result<Request, WireFail>
 }
 
 #[tactic(auto, unfolding(crate::specs::Reading::fetch_request_at))]
-fn fetch(r: &mut Reader) -> Result<Request, WireFail>
+fn fetch(r: &mut Reader) -> Result<Request, WireError>
     ensures { Gives result r.new (fetch_request_at r.old) }
 {
     let key = key(r)?;
@@ -49,7 +49,7 @@ fn fetch(r: &mut Reader) -> Result<Request, WireFail>
 }
 
 #[tactic(auto, unfolding(crate::specs::Reading::put_request_at))]
-fn put(alloc: Global, r: &mut Reader) -> Result<Request, WireFail>
+fn put(alloc: Global, r: &mut Reader) -> Result<Request, WireError>
     ensures { Gives result r.new (put_request_at r.old) }
 {
     let token = Token(key(r)?);
@@ -69,7 +69,7 @@ fn put(alloc: Global, r: &mut Reader) -> Result<Request, WireFail>
 }
 
 #[tactic(auto, unfolding(crate::specs::Reading::make_request_at))]
-fn make_dir(alloc: Global, r: &mut Reader) -> Result<Request, WireFail>
+fn make_dir(alloc: Global, r: &mut Reader) -> Result<Request, WireError>
     ensures { Gives result r.new (make_request_at r.old) }
 {
     let token = Token(key(r)?);
@@ -83,7 +83,7 @@ fn make_dir(alloc: Global, r: &mut Reader) -> Result<Request, WireFail>
 }
 
 #[tactic(auto, unfolding(crate::specs::Reading::move_request_at))]
-fn move_to(alloc: Global, r: &mut Reader) -> Result<Request, WireFail>
+fn move_to(alloc: Global, r: &mut Reader) -> Result<Request, WireError>
     ensures { Gives result r.new (move_request_at r.old) }
 {
     let token = Token(key(r)?);
@@ -99,7 +99,7 @@ fn move_to(alloc: Global, r: &mut Reader) -> Result<Request, WireFail>
 }
 
 #[tactic(auto, unfolding(crate::specs::Reading::remove_request_at))]
-fn remove(r: &mut Reader) -> Result<Request, WireFail>
+fn remove(r: &mut Reader) -> Result<Request, WireError>
     ensures { Gives result r.new (remove_request_at r.old) }
 {
     let token = Token(key(r)?);
@@ -109,7 +109,7 @@ fn remove(r: &mut Reader) -> Result<Request, WireFail>
 }
 
 #[tactic(auto, unfolding(crate::specs::Reading::settle_request_at))]
-fn settle(r: &mut Reader) -> Result<Request, WireFail>
+fn settle(r: &mut Reader) -> Result<Request, WireError>
     ensures { Gives result r.new (settle_request_at r.old) }
 {
     let token = Token(key(r)?);
@@ -117,7 +117,7 @@ fn settle(r: &mut Reader) -> Result<Request, WireFail>
 }
 
 #[tactic(auto, unfolding(crate::specs::Reading::keep_request_at))]
-fn keep(r: &mut Reader) -> Result<Request, WireFail>
+fn keep(r: &mut Reader) -> Result<Request, WireError>
     ensures { Gives result r.new (keep_request_at r.old) }
 {
     let token = Token(key(r)?);
@@ -127,7 +127,7 @@ fn keep(r: &mut Reader) -> Result<Request, WireFail>
 
 // What follows the kind that stands at a place.
 #[tactic(auto, unfolding(crate::specs::Reading::request_body_at))]
-fn body(alloc: Global, place: usize, kind: u8, r: &mut Reader) -> Result<Request, WireFail>
+fn body(alloc: Global, place: usize, kind: u8, r: &mut Reader) -> Result<Request, WireError>
     ensures { Gives result r.new (request_body_at place kind r.old) }
 {
     match kind {
@@ -140,13 +140,13 @@ fn body(alloc: Global, place: usize, kind: u8, r: &mut Reader) -> Result<Request
         7 => remove(r),
         8 => settle(r),
         9 => keep(r),
-        _ => Err(WireFail::BadField(place)),
+        _ => Err(WireError::BadField(place)),
     }
 }
 
 // All of the bytes.
 #[tactic(auto, unfolding(crate::specs::Reading::request_at))]
-fn request(alloc: Global, bytes: &[u8]) -> Result<Request, WireFail>
+fn request(alloc: Global, bytes: &[u8]) -> Result<Request, WireError>
     ensures { GivesAll result (whole request_at bytes.now) }
 {
     let mut r = Reader::new(bytes);
@@ -158,9 +158,9 @@ fn request(alloc: Global, bytes: &[u8]) -> Result<Request, WireFail>
 
 /// The request whose frame the bytes are. Short and BadField name the first fault from the left: the field that lacks bytes,
 /// or the first byte that none could have in its place. What `spell_request` gives is read again, unless memory runs out.
-pub fn read_request(alloc: Global, bytes: &[u8]) -> Result<Request, WireFail>
+pub fn read_request(alloc: Global, bytes: &[u8]) -> Result<Request, WireError>
     ensures read { Answers IsRequest request_widths bytes.now result }
-    ensures only { (q : Request) → IsRequest bytes.now q → MatchResult result (λ p. p ≡ q) (λ e. e ≡ WireFail.Memory) }
+    ensures only { (q : Request) → IsRequest bytes.now q → MatchResult result (λ p. p ≡ q) (λ e. e ≡ WireError.OutOfMemory) }
 {
     request(alloc, bytes)
 }

@@ -6,7 +6,7 @@ ghost use Rattle.cf_model.specs.Frames.{flag, spell_entries, spell_entry, spell_
 ghost use Rattle.cf_wire.specs.Spelled.{FitsEntries, FitsEntry, FitsReply, HaveRoom, IsReply, ReplyHasRoom};
 
 use crate::spelled_fields::{put_4, put_8, put_blob, put_key, put_name};
-use cf_base::{Blob, Entry, Key, Memory, Reply, Rid, Round, Token, Version, Why};
+use cf_base::{Blob, Entry, Key, OutOfMemory, Reply, Rid, Round, Token, Version, Why};
 use cf_codec::Writer;
 use std::alloc::Global;
 
@@ -38,14 +38,14 @@ fn why_number(why: Why) -> u8
     }
 }
 
-fn put_why(out: &mut Writer, why: Why) -> Result<(), Memory>
+fn put_why(out: &mut Writer, why: Why) -> Result<(), OutOfMemory>
     ensures ok { OnOk result (out.new ≡ out.old ++ why_number why ∷ []) }
 {
     out.put_u8(why_number(why))
 }
 
 // What an entry is, and whether it is live.
-fn put_marks(out: &mut Writer, dir: bool, live: bool) -> Result<(), Memory>
+fn put_marks(out: &mut Writer, dir: bool, live: bool) -> Result<(), OutOfMemory>
     ensures ok { OnOk result (out.new ≡ out.old ++ cond dir 1 2 ∷ flag live ∷ []) }
 {
     out.put_u8(dir_number(dir))?;
@@ -53,7 +53,7 @@ fn put_marks(out: &mut Writer, dir: bool, live: bool) -> Result<(), Memory>
     Ok(())
 }
 
-fn put_entry(out: &mut Writer, entry: &Entry) -> Result<(), Memory>
+fn put_entry(out: &mut Writer, entry: &Entry) -> Result<(), OutOfMemory>
     requires { length entry.now.name ≤ 255 }
     ensures ok { OnOk result (out.new ≡ out.old ++ spell_entry entry.now) }
     ensures fits { OnOk result (FitsEntry entry.now) }
@@ -69,7 +69,7 @@ fn put_entry(out: &mut Writer, entry: &Entry) -> Result<(), Memory>
     Ok(())
 }
 
-fn put_each(out: &mut Writer, entries: &[Entry]) -> Result<(), Memory>
+fn put_each(out: &mut Writer, entries: &[Entry]) -> Result<(), OutOfMemory>
     requires { All (λ e. length e.name ≤ 255) entries.now }
     ensures ok { OnOk result (out.new ≡ out.old ++ flat_map spell_entry entries.now) }
     ensures fits { OnOk result (AllByRecursion FitsEntry entries.now) }
@@ -81,7 +81,7 @@ fn put_each(out: &mut Writer, entries: &[Entry]) -> Result<(), Memory>
 }
 
 // How many there are, and each.
-fn put_entries(out: &mut Writer, entries: &[Entry]) -> Result<(), Memory>
+fn put_entries(out: &mut Writer, entries: &[Entry]) -> Result<(), OutOfMemory>
     requires { HaveRoom entries.now }
     ensures ok { OnOk result (out.new ≡ out.old ++ spell_entries entries.now) }
     ensures fits { OnOk result (FitsEntries entries.now) }
@@ -90,7 +90,7 @@ fn put_entries(out: &mut Writer, entries: &[Entry]) -> Result<(), Memory>
     put_each(out, entries)
 }
 
-fn put_feed(out: &mut Writer, round: Round, clock: u64, entries: &[Entry]) -> Result<(), Memory>
+fn put_feed(out: &mut Writer, round: Round, clock: u64, entries: &[Entry]) -> Result<(), OutOfMemory>
     requires { HaveRoom entries.now }
     ensures ok { OnOk result (out.new ≡ out.old ++ spell_reply (Reply.Feed round clock entries.now)) }
     ensures fits { OnOk result (FitsReply (Reply.Feed round clock entries.now)) }
@@ -102,7 +102,7 @@ fn put_feed(out: &mut Writer, round: Round, clock: u64, entries: &[Entry]) -> Re
     Ok(())
 }
 
-fn put_listing(out: &mut Writer, key: Key, entries: &[Entry]) -> Result<(), Memory>
+fn put_listing(out: &mut Writer, key: Key, entries: &[Entry]) -> Result<(), OutOfMemory>
     requires { HaveRoom entries.now }
     ensures ok { OnOk result (out.new ≡ out.old ++ spell_reply (Reply.Listing key entries.now)) }
     ensures fits { OnOk result (FitsReply (Reply.Listing key entries.now)) }
@@ -113,7 +113,7 @@ fn put_listing(out: &mut Writer, key: Key, entries: &[Entry]) -> Result<(), Memo
     Ok(())
 }
 
-fn put_bytes(out: &mut Writer, key: Key, start: u32, bytes: &[u8]) -> Result<(), Memory>
+fn put_bytes(out: &mut Writer, key: Key, start: u32, bytes: &[u8]) -> Result<(), OutOfMemory>
     requires { length bytes.now < 2 ^ 32 }
     ensures ok { OnOk result (out.new ≡ out.old ++ spell_reply (Reply.Bytes key start bytes.now)) }
     ensures fits { FitsReply (Reply.Bytes key start bytes.now) }
@@ -125,7 +125,7 @@ fn put_bytes(out: &mut Writer, key: Key, start: u32, bytes: &[u8]) -> Result<(),
     Ok(())
 }
 
-fn put_missing(out: &mut Writer, key: Key) -> Result<(), Memory>
+fn put_missing(out: &mut Writer, key: Key) -> Result<(), OutOfMemory>
     ensures ok { OnOk result (out.new ≡ out.old ++ spell_reply (Reply.Missing key)) }
     ensures fits { FitsReply (Reply.Missing key) }
 {
@@ -134,7 +134,7 @@ fn put_missing(out: &mut Writer, key: Key) -> Result<(), Memory>
     Ok(())
 }
 
-fn put_done(out: &mut Writer, token: Token, rid: Rid, version: Version) -> Result<(), Memory>
+fn put_done(out: &mut Writer, token: Token, rid: Rid, version: Version) -> Result<(), OutOfMemory>
     ensures ok { OnOk result (out.new ≡ out.old ++ spell_reply (Reply.Done token rid version)) }
     ensures fits { FitsReply (Reply.Done token rid version) }
 {
@@ -145,7 +145,7 @@ fn put_done(out: &mut Writer, token: Token, rid: Rid, version: Version) -> Resul
     Ok(())
 }
 
-fn put_void(out: &mut Writer, token: Token) -> Result<(), Memory>
+fn put_void(out: &mut Writer, token: Token) -> Result<(), OutOfMemory>
     ensures ok { OnOk result (out.new ≡ out.old ++ spell_reply (Reply.Void token)) }
     ensures fits { FitsReply (Reply.Void token) }
 {
@@ -154,7 +154,7 @@ fn put_void(out: &mut Writer, token: Token) -> Result<(), Memory>
     Ok(())
 }
 
-fn put_refused(out: &mut Writer, token: Token, why: Why, version: Version) -> Result<(), Memory>
+fn put_refused(out: &mut Writer, token: Token, why: Why, version: Version) -> Result<(), OutOfMemory>
     ensures ok { OnOk result (out.new ≡ out.old ++ spell_reply (Reply.Refused token why version)) }
     ensures fits { FitsReply (Reply.Refused token why version) }
 {
@@ -165,7 +165,7 @@ fn put_refused(out: &mut Writer, token: Token, why: Why, version: Version) -> Re
     Ok(())
 }
 
-fn put_gone(out: &mut Writer, key: Key) -> Result<(), Memory>
+fn put_gone(out: &mut Writer, key: Key) -> Result<(), OutOfMemory>
     ensures ok { OnOk result (out.new ≡ out.old ++ spell_reply (Reply.Gone key)) }
     ensures fits { FitsReply (Reply.Gone key) }
 {
@@ -174,7 +174,7 @@ fn put_gone(out: &mut Writer, key: Key) -> Result<(), Memory>
     Ok(())
 }
 
-fn put_reply(out: &mut Writer, reply: &Reply) -> Result<(), Memory>
+fn put_reply(out: &mut Writer, reply: &Reply) -> Result<(), OutOfMemory>
     requires { ReplyHasRoom reply.now }
     ensures ok { OnOk result (out.new ≡ out.old ++ spell_reply reply.now) }
     ensures fits { OnOk result (FitsReply reply.now) }
@@ -205,7 +205,7 @@ fn put_reply(out: &mut Writer, reply: &Reply) -> Result<(), Memory>
 
 /// The frame of a reply. Names need at most 255 bytes, and there are fewer than 2^32 bytes or entries. `read_reply` gives the
 /// reply back, and no other reply has this frame.
-pub fn spell_reply(alloc: Global, reply: &Reply) -> Result<Blob, Memory>
+pub fn spell_reply(alloc: Global, reply: &Reply) -> Result<Blob, OutOfMemory>
     requires { ReplyHasRoom reply.now }
     ensures { IfOk result (λ frame. IsReply frame reply.now) }
 {

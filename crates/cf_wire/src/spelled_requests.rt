@@ -6,11 +6,11 @@ ghost use Rattle.cf_model.specs.Frames.{spell_request};
 ghost use Rattle.cf_wire.specs.Spelled.{FitsRequest, HasRoom, IsRequest};
 
 use crate::spelled_fields::{put_4, put_8, put_blob, put_key, put_name};
-use cf_base::{Blob, Key, Memory, Request, Rid, Round, Token, Version};
+use cf_base::{Blob, Key, OutOfMemory, Request, Rid, Round, Token, Version};
 use cf_codec::Writer;
 use std::alloc::Global;
 
-fn put_feed(out: &mut Writer, round: Round, after: u64) -> Result<(), Memory>
+fn put_feed(out: &mut Writer, round: Round, after: u64) -> Result<(), OutOfMemory>
     ensures ok { OnOk result (out.new ≡ out.old ++ spell_request (Request.Feed round after)) }
     ensures fits { FitsRequest (Request.Feed round after) }
 {
@@ -20,7 +20,7 @@ fn put_feed(out: &mut Writer, round: Round, after: u64) -> Result<(), Memory>
     Ok(())
 }
 
-fn put_list(out: &mut Writer, key: Key, rid: Rid) -> Result<(), Memory>
+fn put_list(out: &mut Writer, key: Key, rid: Rid) -> Result<(), OutOfMemory>
     ensures ok { OnOk result (out.new ≡ out.old ++ spell_request (Request.List key rid)) }
     ensures fits { FitsRequest (Request.List key rid) }
 {
@@ -37,7 +37,7 @@ fn put_fetch(
     version: Version,
     start: u32,
     len: u32,
-) -> Result<(), Memory>
+) -> Result<(), OutOfMemory>
     ensures ok { OnOk result (out.new ≡ out.old ++ spell_request (Request.Fetch key rid version start len)) }
     ensures fits { FitsRequest (Request.Fetch key rid version start len) }
 {
@@ -58,7 +58,7 @@ fn put_put(
     parent: Rid,
     name: &[u8],
     bytes: &[u8],
-) -> Result<(), Memory>
+) -> Result<(), OutOfMemory>
     requires name_fits { length name.now ≤ 255 }
     requires bytes_fits { length bytes.now < 2 ^ 32 }
     ensures ok { OnOk result (out.new ≡ out.old ++ spell_request (Request.Put token rid expect parent name.now bytes.now)) }
@@ -74,7 +74,7 @@ fn put_put(
     Ok(())
 }
 
-fn put_make_dir(out: &mut Writer, token: Token, parent: Rid, name: &[u8]) -> Result<(), Memory>
+fn put_make_dir(out: &mut Writer, token: Token, parent: Rid, name: &[u8]) -> Result<(), OutOfMemory>
     requires { length name.now ≤ 255 }
     ensures ok { OnOk result (out.new ≡ out.old ++ spell_request (Request.MakeDir token parent name.now)) }
     ensures fits { FitsRequest (Request.MakeDir token parent name.now) }
@@ -92,7 +92,7 @@ fn put_move(
     rid: Rid,
     parent: Rid,
     name: &[u8],
-) -> Result<(), Memory>
+) -> Result<(), OutOfMemory>
     requires { length name.now ≤ 255 }
     ensures ok { OnOk result (out.new ≡ out.old ++ spell_request (Request.Move token rid parent name.now)) }
     ensures fits { FitsRequest (Request.Move token rid parent name.now) }
@@ -105,7 +105,7 @@ fn put_move(
     Ok(())
 }
 
-fn put_remove(out: &mut Writer, token: Token, rid: Rid, expect: Version) -> Result<(), Memory>
+fn put_remove(out: &mut Writer, token: Token, rid: Rid, expect: Version) -> Result<(), OutOfMemory>
     ensures ok { OnOk result (out.new ≡ out.old ++ spell_request (Request.Remove token rid expect)) }
     ensures fits { FitsRequest (Request.Remove token rid expect) }
 {
@@ -116,7 +116,7 @@ fn put_remove(out: &mut Writer, token: Token, rid: Rid, expect: Version) -> Resu
     Ok(())
 }
 
-fn put_settle(out: &mut Writer, token: Token) -> Result<(), Memory>
+fn put_settle(out: &mut Writer, token: Token) -> Result<(), OutOfMemory>
     ensures ok { OnOk result (out.new ≡ out.old ++ spell_request (Request.Settle token)) }
     ensures fits { FitsRequest (Request.Settle token) }
 {
@@ -125,7 +125,7 @@ fn put_settle(out: &mut Writer, token: Token) -> Result<(), Memory>
     Ok(())
 }
 
-fn put_keep(out: &mut Writer, token: Token, count: u32) -> Result<(), Memory>
+fn put_keep(out: &mut Writer, token: Token, count: u32) -> Result<(), OutOfMemory>
     ensures ok { OnOk result (out.new ≡ out.old ++ spell_request (Request.Keep token count)) }
     ensures fits { FitsRequest (Request.Keep token count) }
 {
@@ -135,7 +135,7 @@ fn put_keep(out: &mut Writer, token: Token, count: u32) -> Result<(), Memory>
     Ok(())
 }
 
-fn put_request(out: &mut Writer, request: &Request) -> Result<(), Memory>
+fn put_request(out: &mut Writer, request: &Request) -> Result<(), OutOfMemory>
     requires { HasRoom request.now }
     ensures ok { OnOk result (out.new ≡ out.old ++ spell_request request.now) }
     ensures fits { FitsRequest request.now }
@@ -185,7 +185,7 @@ fn put_request(out: &mut Writer, request: &Request) -> Result<(), Memory>
 
 /// The frame of a request. Its names need at most 255 bytes, and the bytes of a `Put` fewer than 2^32. `read_request` gives
 /// the request back, and no other request has this frame.
-pub fn spell_request(alloc: Global, request: &Request) -> Result<Blob, Memory>
+pub fn spell_request(alloc: Global, request: &Request) -> Result<Blob, OutOfMemory>
     requires { HasRoom request.now }
     ensures { IfOk result (λ frame. IsRequest frame request.now) }
 {

@@ -4,10 +4,10 @@ ghost use Rattle.std.specs.Prelude.{◌≡◌, ◌≤◌, length, IfOk};
 ghost use Rattle.cf_wire.specs.Spelled.{HasRoom, ReplyHasRoom};
 
 use cf_base::{
-    Blob, Entry, Key, Memory, Reply, Request, Rid, Round, Sequence, Token, Version, Why,
+    Blob, Entry, Key, OutOfMemory, Reply, Request, Rid, Round, Sequence, Token, Version, Why,
 };
 use cf_wire::{
-    Message, Net, NoItems, Sent, WireFail, fits, read_reply, read_request, spell_reply,
+    Message, Net, NoItems, Sent, WireError, fits, read_reply, read_request, spell_reply,
     spell_request,
 };
 use std::alloc::Global;
@@ -30,21 +30,21 @@ const BYTES: [u8; 22] = [
 
 const SETTLE: [u8; 9] = [8, 0, 0, 0, 1, 0, 0, 0, 1];
 
-fn request_fail(alloc: Global, bytes: &[u8]) -> Option<WireFail> {
+fn request_fail(alloc: Global, bytes: &[u8]) -> Option<WireError> {
     match read_request(alloc, bytes) {
         Ok(_) => None,
         Err(fail) => Some(fail),
     }
 }
 
-fn reply_fail(alloc: Global, bytes: &[u8]) -> Option<WireFail> {
+fn reply_fail(alloc: Global, bytes: &[u8]) -> Option<WireError> {
     match read_reply(alloc, bytes) {
         Ok(_) => None,
         Err(fail) => Some(fail),
     }
 }
 
-fn with_a_zero(alloc: Global, bytes: &[u8]) -> Result<Blob, Memory> {
+fn with_a_zero(alloc: Global, bytes: &[u8]) -> Result<Blob, OutOfMemory> {
     let mut longer = Vec::from_slice(alloc, bytes)?;
     longer.push(0)?;
     Ok(Blob::from_vec(longer))
@@ -61,11 +61,11 @@ fn assert_request(rt: &impl Abort, alloc: Global, request: &Request) -> Result<(
     let second = format!(in alloc; "{again:?}")?;
     assert_eq!(rt; first.as_str(), second.as_str());
     for n in 0..bytes.len() {
-        assert!(rt; matches!(request_fail(alloc, &bytes[..n]), Some(WireFail::Short(_))));
+        assert!(rt; matches!(request_fail(alloc, &bytes[..n]), Some(WireError::Short(_))));
     }
     let longer = with_a_zero(alloc, bytes)?;
     let fail = request_fail(alloc, longer.as_slice());
-    assert!(rt; fail == Some(WireFail::BadField(bytes.len())));
+    assert!(rt; fail == Some(WireError::BadField(bytes.len())));
     Ok(())
 }
 
@@ -79,21 +79,21 @@ fn assert_reply(rt: &impl Abort, alloc: Global, reply: &Reply) -> Result<(), Fai
     let second = format!(in alloc; "{again:?}")?;
     assert_eq!(rt; first.as_str(), second.as_str());
     for n in 0..bytes.len() {
-        assert!(rt; matches!(reply_fail(alloc, &bytes[..n]), Some(WireFail::Short(_))));
+        assert!(rt; matches!(reply_fail(alloc, &bytes[..n]), Some(WireError::Short(_))));
     }
     let longer = with_a_zero(alloc, bytes)?;
     let fail = reply_fail(alloc, longer.as_slice());
-    assert!(rt; fail == Some(WireFail::BadField(bytes.len())));
+    assert!(rt; fail == Some(WireError::BadField(bytes.len())));
     Ok(())
 }
 
-fn text(alloc: Global, bytes: &[u8; 5]) -> Result<Blob, Memory>
+fn text(alloc: Global, bytes: &[u8; 5]) -> Result<Blob, OutOfMemory>
     ensures { IfOk result (λ b. length b ≤ 255) }
 {
     Blob::from_slice(alloc, bytes)
 }
 
-fn entry(alloc: Global, rid: u64) -> Result<Entry, Memory>
+fn entry(alloc: Global, rid: u64) -> Result<Entry, OutOfMemory>
     ensures { IfOk result (λ e. length e.name ≤ 255) }
 {
     let name = text(alloc, b"notes")?;
@@ -234,15 +234,15 @@ fn replies_with_entries(rt: HostRuntime) -> Result<(), Fail> {
 #[test]
 fn the_first_fault_is_named(rt: HostRuntime) -> Result<(), Fail> {
     let alloc = rt.alloc();
-    assert!(rt; request_fail(alloc, b"") == Some(WireFail::Short(0)));
-    assert!(rt; request_fail(alloc, &SETTLE[..5]) == Some(WireFail::Short(5)));
-    assert!(rt; request_fail(alloc, &SETTLE[..7]) == Some(WireFail::Short(5)));
+    assert!(rt; request_fail(alloc, b"") == Some(WireError::Short(0)));
+    assert!(rt; request_fail(alloc, &SETTLE[..5]) == Some(WireError::Short(5)));
+    assert!(rt; request_fail(alloc, &SETTLE[..7]) == Some(WireError::Short(5)));
     let longer = with_a_zero(alloc, &SETTLE)?;
-    assert!(rt; request_fail(alloc, longer.as_slice()) == Some(WireFail::BadField(9)));
+    assert!(rt; request_fail(alloc, longer.as_slice()) == Some(WireError::BadField(9)));
     let mut other = SETTLE;
     other[0] = 40;
-    assert!(rt; request_fail(alloc, &other) == Some(WireFail::BadField(0)));
-    assert!(rt; reply_fail(alloc, &SETTLE) == Some(WireFail::BadField(0)));
+    assert!(rt; request_fail(alloc, &other) == Some(WireError::BadField(0)));
+    assert!(rt; reply_fail(alloc, &SETTLE) == Some(WireError::BadField(0)));
     Ok(())
 }
 

@@ -6,8 +6,8 @@ use Rattle.cf_io.proofs.Adding.{Adds-then, Adds-none}
 use Rattle.cf_io.specs.Moves.{Adds, AddsFront}
 use Rattle.cf_world.specs.Runs.{most_report}
 use Rattle.cf_world.specs.Steps.{AddFails, Hands, IsDrafted, IsOfSink}
-use Rattle.cf_world.specs.declared.fails.PlayFail.{PlayFail}
-use Rattle.cf_world.specs.declared.fails.PlayFail.TheVariants.{Memory, SinkFault, TooLong}
+use Rattle.cf_world.specs.declared.fails.PlayError.{PlayError}
+use Rattle.cf_world.specs.declared.fails.PlayError.TheVariants.{OutOfMemory, SinkFault, TooLong}
 
 pub drafted_none : (old : Option (List ℕ)) → IsDrafted [] [] 0 old old
 drafted_none old = record { front = []; parts = refl; long = refl; short = omega arith; written = Adds-none old }
@@ -49,9 +49,9 @@ drafted_stops_here text waiting made old now new h k =
     subst (λ x. AddsFront old new x) (append-nil text) (drafted_stops text [] waiting made old now new h (front_more waiting [] now new k))
 
 -- a piece was not added, where sink or memory failed
-pub add_early : (text piece : List ℕ) (old new : Option (List ℕ)) (e : PlayFail) → IsOfSink e → AddsFront old new (text ++ piece) → AddFails text piece old new e
+pub add_early : (text piece : List ℕ) (old new : Option (List ℕ)) (e : PlayError) → IsOfSink e → AddsFront old new (text ++ piece) → AddFails text piece old new e
 add_early text piece old new SinkFault is h = h
-add_early text piece old new Memory is h = h
+add_early text piece old new OutOfMemory is h = h
 add_early text piece old new TooLong is h = absurd is
 
 -- the report would be too long

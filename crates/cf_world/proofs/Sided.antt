@@ -9,7 +9,7 @@ use Rattle.cf_world_filter.specs.Stepped.{StepsOver, disk_of}
 use Rattle.cf_world_filter.specs.declared.places.Acting.{Acting}
 use Rattle.cf_base.specs.declared.answers.Answer.{Answer}
 use Rattle.cf_base.specs.declared.events.Event.{Event}
-use Rattle.cf_base.specs.declared.memory.Memory.{Memory as NoMemory}
+use Rattle.cf_base.specs.declared.memory.OutOfMemory.{OutOfMemory as NoMemory}
 use Rattle.cf_base.specs.declared.policies.Choice.{Choice}
 use Rattle.cf_base.specs.declared.policies.Mode.{Mode}
 use Rattle.cf_base.specs.declared.policies.Mode.TheVariants.{Filter, Replay}

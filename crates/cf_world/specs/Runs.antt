@@ -14,10 +14,10 @@ use Rattle.cf_journal.specs.Settled.{IsFitSize}
 use Rattle.cf_volume_points.specs.Standing.{clusters_on}
 use Rattle.cf_report.specs.Texts.{text as text_of, texts}
 use Rattle.cf_script.specs.Built.{is_built}
-use Rattle.cf_script.specs.Fail.{IsCause}
+use Rattle.cf_script.specs.FailEvents.{IsCause}
 use Rattle.cf_script.specs.Script.{lines_of, IsScript}
-use Rattle.cf_script.specs.declared.fails.ScriptFail.{ScriptFail}
-use Rattle.cf_script.specs.declared.fails.ScriptFail.TheVariants as fails
+use Rattle.cf_script.specs.declared.fails.ScriptError.{ScriptError}
+use Rattle.cf_script.specs.declared.fails.ScriptError.TheVariants as fails
 use Rattle.cf_cli.specs.declared.commands.Command.{Command}
 use Rattle.cf_cli.specs.declared.commands.Command.TheVariants as command
 use Rattle.cf_world.specs.Led.{IsLawful, Leads}
@@ -95,17 +95,17 @@ pub record ReportsLong (Said : List (Event × Answer) → Type 0) (m : Mode) (te
   pub played : PlaysLong Said events old new
 
 -- the line that is written of a script that is not read
-abbrev pub fail_line : ScriptFail → List ℕ
+abbrev pub fail_line : ScriptError → List ℕ
 fail_line (fails.Syntax n) = codes "bad line " ++ decimal n ++ 10 ∷ []
 fail_line (fails.TooManyEvents n) = codes "bad line " ++ decimal n ++ 10 ∷ []
 fail_line (fails.NotBuilt n) = codes "not built line " ++ decimal n ++ 10 ∷ []
-fail_line fails.Memory = []
+fail_line fails.OutOfMemory = []
 
 -- This line is written of the text, which is not read for another cause than memory.
 pub record IsRefusal (m : Mode) (text line : List ℕ) : Type 0 where
-  pub fail : ScriptFail
+  pub fail : ScriptError
   pub why : IsCause m (lines_of text) fail
-  pub not_memory : fail ≢ fails.Memory
+  pub not_memory : fail ≢ fails.OutOfMemory
   pub is : line ≡ fail_line fail
 
 -- The line of a refusal was written.
@@ -126,12 +126,12 @@ abbrev pub StopsEarly : {D : Type 0} → (List (Event × Answer) → Type 0) →
 StopsEarly Said m disk text old new back = (RefusesFront m text old new × (back ≡ disk)) ⊎ ReportsFront Said m text old new
 
 -- What was written of a text, by the status. At Done, at SinkFault and where the report is too long the disk is as the trace
--- leaves it. At Memory that is not said, for memory may have run out within an event.
+-- leaves it. At OutOfMemory that is not said, for memory may have run out within an event.
 abbrev pub Writes : {D : Type 0} → (D → Disk) → Mode → D → List ℕ → Option (List ℕ) → Option (List ℕ) → Status → D → Type 0
 Writes state m disk text old new status.Done back = Reports state m disk text old new back
 Writes state m disk text old new status.BadScript back = Refuses m text old new
 Writes state m disk text old new status.SinkFault back = StopsEarly (λ trace. Leads state m disk trace back) m disk text old new back
-Writes state m disk text old new status.Memory back = Adds old new [] ⊎ StopsEarly (IsLawful m (clusters_on (state disk).seen)) m disk text old new back
+Writes state m disk text old new status.OutOfMemory back = Adds old new [] ⊎ StopsEarly (IsLawful m (clusters_on (state disk).seen)) m disk text old new back
 Writes state m disk text old new status.Usage back = Adds old new []
 Writes state m disk text old new status.SourceFault back = Adds old new []
 Writes state m disk text old new status.TooLong back =
@@ -147,7 +147,7 @@ IsLength status.SinkFault text = length text ≤ 16777216
 IsLength status.BadDevice text = length text ≤ 16777216
 IsLength status.DeviceFault text = length text ≤ 16777216
 IsLength status.TooLong text = Unit {0}
-IsLength status.Memory text = Unit {0}
+IsLength status.OutOfMemory text = Unit {0}
 IsLength status.Usage text = Unit {0}
 IsLength status.SourceFault text = Unit {0}
 
@@ -156,7 +156,7 @@ abbrev pub IsAfterReading : Status → Type 0
 IsAfterReading status.Done = Unit {0}
 IsAfterReading status.BadScript = Unit {0}
 IsAfterReading status.SinkFault = Unit {0}
-IsAfterReading status.Memory = Unit {0}
+IsAfterReading status.OutOfMemory = Unit {0}
 IsAfterReading status.TooLong = Unit {0}
 IsAfterReading status.BadDevice = Unit {0}
 IsAfterReading status.DeviceFault = Unit {0}
@@ -167,7 +167,7 @@ IsAfterReading status.SourceFault = ⊥
 abbrev pub IsOfReport : Status → Type 0
 IsOfReport status.Done = Unit {0}
 IsOfReport status.SinkFault = Unit {0}
-IsOfReport status.Memory = Unit {0}
+IsOfReport status.OutOfMemory = Unit {0}
 IsOfReport status.TooLong = Unit {0}
 IsOfReport _ = ⊥
 
@@ -175,7 +175,7 @@ IsOfReport _ = ⊥
 abbrev pub IsComplete : Status → Type 0
 IsComplete status.Done = Unit {0}
 IsComplete status.TooLong = Unit {0}
-IsComplete status.Memory = Unit {0}
+IsComplete status.OutOfMemory = Unit {0}
 IsComplete status.DeviceFault = Unit {0}
 IsComplete _ = ⊥
 
@@ -183,7 +183,7 @@ IsComplete _ = ⊥
 abbrev pub IsUnfit : Status → Type 0
 IsUnfit status.BadDevice = Unit {0}
 IsUnfit status.SourceFault = Unit {0}
-IsUnfit status.Memory = Unit {0}
+IsUnfit status.OutOfMemory = Unit {0}
 IsUnfit _ = ⊥
 
 -- the statuses of a script that was read
@@ -212,5 +212,5 @@ IsBeforeDevice _ = ⊥
 abbrev pub WritesRefusal : Mode → List ℕ → Option (List ℕ) → Option (List ℕ) → Status → Type 0
 WritesRefusal m text old new status.BadScript = Refuses m text old new
 WritesRefusal m text old new status.SinkFault = RefusesFront m text old new
-WritesRefusal m text old new status.Memory = Adds old new [] ⊎ RefusesFront m text old new
+WritesRefusal m text old new status.OutOfMemory = Adds old new [] ⊎ RefusesFront m text old new
 WritesRefusal m text old new _ = ⊥

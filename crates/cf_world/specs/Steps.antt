@@ -1,25 +1,25 @@
 -- Parts of a run.
 use Rattle.std.specs.Prelude.{◌≡◌, ◌≢◌, ◌≤◌, ◌<◌, ◌+◌, ℕ, List, [], ◌∷◌, ◌++◌, length, Option, Result, Ok, Err}
 use Rattle.cf_base.specs.declared.answers.Answer.{Answer}
-use Rattle.cf_base.specs.declared.codes.Fail.{Fail}
-use Rattle.cf_base.specs.declared.codes.Fail.TheVariants as fail
+use Rattle.cf_base.specs.declared.codes.CallError.{CallError}
+use Rattle.cf_base.specs.declared.codes.CallError.TheVariants as fail
 use Rattle.cf_base.specs.declared.events.Event.{Event}
 use Rattle.cf_base.specs.declared.policies.Mode.{Mode}
 use Rattle.cf_base.specs.declared.statuses.Status.{Status}
 use Rattle.cf_base.specs.declared.statuses.Status.TheVariants as status
 use Rattle.cf_disk.specs.Disk.{State as Disk}
 use Rattle.cf_io.specs.Moves.{Adds, AddsFront}
-use Rattle.cf_io.specs.declared.faults.ReadFail.{ReadFail}
-use Rattle.cf_io.specs.declared.faults.ReadFail.TheVariants as reading
+use Rattle.cf_io.specs.declared.faults.ReadError.{ReadError}
+use Rattle.cf_io.specs.declared.faults.ReadError.TheVariants as reading
 use Rattle.cf_volume_points.specs.Standing.{clusters_on}
 use Rattle.cf_report.specs.Texts.{texts}
 use Rattle.cf_world.specs.Led.{HasRun, HasRunOn, IsLawful}
 use Rattle.cf_world.specs.Runs.{PlaysFront, PlaysLong, answers_of, events_of, most_report}
 use Rattle.cf_world.specs.Sides.{Acted}
-use Rattle.cf_cli.specs.declared.commands.WordsFail.{WordsFail}
-use Rattle.cf_cli.specs.declared.commands.WordsFail.TheVariants as words
-use Rattle.cf_world.specs.declared.fails.PlayFail.{PlayFail}
-use Rattle.cf_world.specs.declared.fails.PlayFail.TheVariants as play
+use Rattle.cf_cli.specs.declared.commands.WordsError.{WordsError}
+use Rattle.cf_cli.specs.declared.commands.WordsError.TheVariants as words
+use Rattle.cf_world.specs.declared.fails.PlayError.{PlayError}
+use Rattle.cf_world.specs.declared.fails.PlayError.TheVariants as play
 use Rattle.cf_world.specs.declared.sides.Side.{Side}
 
 -- a front of what waited was written, and the rest waits on
@@ -35,37 +35,37 @@ pub record IsDrafted (text waiting : List ℕ) (made : ℕ) (old now : Option (L
   pub written : Adds old now front
 
 -- A piece could not be added: the text would be too long, or a front of it all was written.
-abbrev pub AddFails : List ℕ → List ℕ → Option (List ℕ) → Option (List ℕ) → PlayFail → Type 0
+abbrev pub AddFails : List ℕ → List ℕ → Option (List ℕ) → Option (List ℕ) → PlayError → Type 0
 AddFails text piece old new play.TooLong = (most_report < length text + length piece) × Adds old new text
 AddFails text piece old new play.SinkFault = AddsFront old new (text ++ piece)
-AddFails text piece old new play.Memory = AddsFront old new (text ++ piece)
+AddFails text piece old new play.OutOfMemory = AddsFront old new (text ++ piece)
 
 -- the status of a run that ends early
-abbrev pub early_status : PlayFail → Status
+abbrev pub early_status : PlayError → Status
 early_status play.SinkFault = status.SinkFault
 early_status play.TooLong = status.TooLong
-early_status play.Memory = status.Memory
+early_status play.OutOfMemory = status.OutOfMemory
 
 -- the status of a run whose events were done, or not
-abbrev pub play_status : Result (Unit {0}) PlayFail → Status
+abbrev pub play_status : Result (Unit {0}) PlayError → Status
 play_status (Ok u) = status.Done
 play_status (Err e) = early_status e
 
-abbrev pub words_status : WordsFail → Status
+abbrev pub words_status : WordsError → Status
 words_status words.Usage = status.Usage
-words_status words.Memory = status.Memory
+words_status words.OutOfMemory = status.OutOfMemory
 
-abbrev pub read_status : ReadFail → Status
+abbrev pub read_status : ReadError → Status
 read_status reading.Fault = status.SourceFault
 read_status reading.TooLong = status.TooLong
-read_status reading.Memory = status.Memory
+read_status reading.OutOfMemory = status.OutOfMemory
 
-abbrev pub start_status : Fail → Status
+abbrev pub start_status : CallError → Status
 start_status (fail.No c) = status.DeviceFault
-start_status fail.Memory = status.Memory
+start_status fail.OutOfMemory = status.OutOfMemory
 
 -- what a sink or want of memory can stop
-abbrev pub IsOfSink : PlayFail → Type 0
+abbrev pub IsOfSink : PlayError → Type 0
 IsOfSink play.TooLong = ⊥
 IsOfSink _ = Unit {0}
 
@@ -77,7 +77,7 @@ pub record AllPlayed {D R : Type 0} (state : D → Disk) (m : Mode) (disk : D) (
   pub short : length (texts (answers_of w.trace)) ≤ most_report
 
 -- What was written of them where it ended early. But where memory ran out, the world is where the trace leads to.
-abbrev pub SomePlayed : {D : Type 0} → (D → Disk) → Mode → D → List Event → Option (List ℕ) → Option (List ℕ) → Side D → PlayFail → Type 0
+abbrev pub SomePlayed : {D : Type 0} → (D → Disk) → Mode → D → List Event → Option (List ℕ) → Option (List ℕ) → Side D → PlayError → Type 0
 SomePlayed state m disk events old new w play.TooLong = PlaysLong (λ trace. HasRunOn state m disk trace w) events old new
 SomePlayed state m disk events old new w play.SinkFault = PlaysFront (λ trace. HasRunOn state m disk trace w) events old new
-SomePlayed state m disk events old new w play.Memory = PlaysFront (IsLawful m (clusters_on (state disk).seen)) events old new
+SomePlayed state m disk events old new w play.OutOfMemory = PlaysFront (IsLawful m (clusters_on (state disk).seen)) events old new

@@ -4,7 +4,7 @@ ghost use Rattle.std.specs.Prelude.{◌≡◌, ◌≤◌, ◌++◌, List, Option
 ghost use Rattle.cf_io.specs.Moves.{Rose, Adds, AddsFront};
 ghost use Rattle.cf_world.specs.Steps.{AddFails, Hands, IsDrafted, IsOfSink};
 
-use crate::fails::PlayFail;
+use crate::fails::PlayError;
 use cf_io::{Sink, write_all};
 
 /// Texts are written as soon as they have so many bytes together.
@@ -20,15 +20,15 @@ pub fn add<K: Sink>(
     made: usize,
     piece: &[u8],
     sink: &mut K,
-) -> Result<usize, PlayFail>
+) -> Result<usize, PlayError>
     ensures ok { (text : List ℕ) (old : Option (List ℕ)) → IsDrafted text waiting.old.items made old (K.held sink.old) → IfOk result (λ n. IsDrafted (text ++ piece.now) waiting.new.items n old (K.held sink.new)) }
     ensures err { (text : List ℕ) (old : Option (List ℕ)) → IsDrafted text waiting.old.items made old (K.held sink.old) → IfErr result (AddFails text piece.now old (K.held sink.new)) }
-    ensures fault { IsErrOf result PlayFail.SinkFault → Rose (K.faults sink.old) (K.faults sink.new) }
+    ensures fault { IsErrOf result PlayError.SinkFault → Rose (K.faults sink.old) (K.faults sink.new) }
     ensures never_falls { K.faults sink.old ≤ K.faults sink.new }
 {
     if piece.len() > MOST_REPORT.saturating_sub(made) {
         write_all(sink, waiting.as_slice())?;
-        return Err(PlayFail::TooLong);
+        return Err(PlayError::TooLong);
     }
     waiting.extend_from_slice(piece)?;
     write_piece(waiting, sink)?;
@@ -36,10 +36,10 @@ pub fn add<K: Sink>(
 }
 
 /// Writes what waits where it is enough for a piece.
-fn write_piece<K: Sink>(waiting: &mut Vec<u8>, sink: &mut K) -> Result<(), PlayFail>
+fn write_piece<K: Sink>(waiting: &mut Vec<u8>, sink: &mut K) -> Result<(), PlayError>
     ensures ok { OnOk result (Hands (K.held sink.old) (K.held sink.new) waiting.old.items waiting.new.items) }
     ensures err { OnErr result (AddsFront (K.held sink.old) (K.held sink.new) waiting.old.items) }
-    ensures fault { IsErrOf result PlayFail.SinkFault → Rose (K.faults sink.old) (K.faults sink.new) }
+    ensures fault { IsErrOf result PlayError.SinkFault → Rose (K.faults sink.old) (K.faults sink.new) }
     ensures only { IfErr result IsOfSink }
     ensures never_falls { K.faults sink.old ≤ K.faults sink.new }
 {

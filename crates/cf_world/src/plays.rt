@@ -11,9 +11,9 @@ ghost use Rattle.cf_world.specs.Led.{HasRun, IsSame, IsWhole, can_do};
 ghost use Rattle.cf_world.specs.Steps.{AllPlayed, SomePlayed};
 
 use crate::drafts::add;
-use crate::fails::PlayFail;
+use crate::fails::PlayError;
 use crate::worlds::World;
-use cf_base::{Blob, Event, Memory};
+use cf_base::{Blob, Event, OutOfMemory};
 use cf_disk::Disk;
 use cf_io::{Sink, write_all};
 use cf_report::text;
@@ -25,7 +25,7 @@ pub fn play<K: Sink, D: Disk + Drop, R>(
     world: &mut World<D, R>,
     events: &[Event],
     sink: &mut K,
-) -> Result<(), PlayFail>
+) -> Result<(), PlayError>
     requires fresh { world.old.trace ≡ [] }
     requires whole { IsWhole world.old.side }
     requires can { IsTrue (list_all (can_do world.old.side) events.now) }
@@ -33,7 +33,7 @@ pub fn play<K: Sink, D: Disk + Drop, R>(
     ensures err { (m : Commanded) (disk : D) → HasRun D.state m disk world.old → IfErr result (SomePlayed D.state m disk events.now (K.held sink.old) (K.held sink.new) world.new.side) }
     ensures whole { IsWhole world.new.side }
     ensures same { (world.new.remote ≡ world.old.remote) × IsSame world.old.side world.new.side }
-    ensures fault { IsErrOf result PlayFail.SinkFault → Rose (K.faults sink.old) (K.faults sink.new) }
+    ensures fault { IsErrOf result PlayError.SinkFault → Rose (K.faults sink.old) (K.faults sink.new) }
 {
     let mut waiting = Vec::new(alloc);
     let mut made: usize = 0;
@@ -50,7 +50,7 @@ fn answer<D: Disk + Drop, R>(
     alloc: Global,
     world: &mut World<D, R>,
     event: &Event,
-) -> Result<Blob, Memory>
+) -> Result<Blob, OutOfMemory>
     requires whole { IsWhole world.old.side }
     requires can { can_do world.old.side event.now ≡ true }
     ensures ok { (m : Commanded) (disk : D) → HasRun D.state m disk world.old → OnOk result (HasRun D.state m disk world.new) }
@@ -63,7 +63,7 @@ fn answer<D: Disk + Drop, R>(
 }
 
 /// The text of the last answer.
-fn last_text<D: Disk + Drop, R>(alloc: Global, world: &World<D, R>) -> Result<Blob, Memory>
+fn last_text<D: Disk + Drop, R>(alloc: Global, world: &World<D, R>) -> Result<Blob, OutOfMemory>
     requires { 0 < length world.now.trace }
     ensures { (before : List (Done × Answered)) (p : Done × Answered) → world.now.trace ≡ before ++ p ∷ [] → IfOk result (λ t. t ≡ text_of p.1) }
 {

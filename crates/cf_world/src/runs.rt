@@ -6,7 +6,7 @@ ghost use Rattle.cf_base.specs.declared.policies.Mode.{Mode as Commanded};
 ghost use Rattle.cf_base.specs.declared.policies.Mode.TheVariants.{Filter};
 ghost use Rattle.cf_disk.specs.Disk.{capped, size_of};
 ghost use Rattle.cf_io.specs.Moves.{Rose, IsQuiet, Adds, AddsFront};
-ghost use Rattle.cf_script.specs.Fail.{IsCause};
+ghost use Rattle.cf_script.specs.FailEvents.{IsCause};
 ghost use Rattle.cf_script.specs.Script.{lines_of};
 ghost use Rattle.cf_cli.specs.Accounts.{AreTaken, Names};
 ghost use Rattle.cf_cli.specs.declared.commands.Command.{Command as Meant};
@@ -14,15 +14,15 @@ ghost use Rattle.cf_world.specs.Led.{HandsBack, HasRun};
 ghost use Rattle.cf_world.specs.Runs.{IsAfterReading, IsBeforeDevice, IsBeforeWriting, IsBuilt, IsComplete, IsFit, IsLength, IsOfReport, IsStarted, IsUnfit, Writes, WritesRefusal, fail_line, mode_of};
 ghost use Rattle.cf_world.specs.Steps.{early_status, play_status, read_status, start_status, words_status};
 
-use crate::fails::PlayFail;
+use crate::fails::PlayError;
 use crate::plays::play;
 use crate::worlds::World;
-use cf_base::{Event, Fail, Mode, Status};
+use cf_base::{Event, CallError, Mode, Status};
 use cf_disk::Disk;
-use cf_io::{ReadFail, Sink, Source, read_all, write_all};
+use cf_io::{ReadError, Sink, Source, read_all, write_all};
 use cf_remote::Remote;
-use cf_script::{ScriptFail, read};
-use cf_cli::{Command, WordsFail, command_of};
+use cf_script::{ScriptError, read};
+use cf_cli::{Command, WordsError, command_of};
 use std::alloc::{AllocError, Global};
 
 /// The most bytes that a script has.
@@ -64,7 +64,7 @@ pub fn run<S: Source, K: Sink, D: Disk + Drop, R: Remote>(
 
     // The cause of each status.
     ensures usage { result.status ≡ Status.Usage → AreTaken (map string_bytes words.now) → ⊥ }
-    ensures refused { (AreTaken (map string_bytes words.now) → ⊥) → (result.status ≡ Status.Usage) ⊎ (result.status ≡ Status.Memory) }
+    ensures refused { (AreTaken (map string_bytes words.now) → ⊥) → (result.status ≡ Status.Usage) ⊎ (result.status ≡ Status.OutOfMemory) }
     ensures source_fault { result.status ≡ Status.SourceFault → Rose (S.faults source.old) (S.faults source.new) }
     ensures sink_fault { result.status ≡ Status.SinkFault → Rose (K.faults sink.old) (K.faults sink.new) }
     ensures lengths { IfSome (S.left source.old) (IsLength result.status) }
@@ -106,12 +106,12 @@ fn mode_of(command: Command) -> Mode
     }
 }
 
-fn unread(fail: WordsFail) -> Status
+fn unread(fail: WordsError) -> Status
     ensures { result ≡ words_status fail }
 {
     match fail {
-        WordsFail::Usage => Status::Usage,
-        WordsFail::Memory => Status::Memory,
+        WordsError::Usage => Status::Usage,
+        WordsError::OutOfMemory => Status::OutOfMemory,
     }
 }
 
@@ -152,13 +152,13 @@ fn sourced<S: Source, K: Sink, D: Disk + Drop, R: Remote>(
     }
 }
 
-fn unscripted(fail: ReadFail) -> Status
+fn unscripted(fail: ReadError) -> Status
     ensures { result ≡ read_status fail }
 {
     match fail {
-        ReadFail::Fault => Status::SourceFault,
-        ReadFail::TooLong => Status::TooLong,
-        ReadFail::Memory => Status::Memory,
+        ReadError::Fault => Status::SourceFault,
+        ReadError::TooLong => Status::TooLong,
+        ReadError::OutOfMemory => Status::OutOfMemory,
     }
 }
 
@@ -244,12 +244,12 @@ fn started<K: Sink, D: Disk + Drop, R: Remote>(
 }
 
 // A start is stopped by the device or by want of memory alone.
-fn unstarted(fail: Fail) -> Status
+fn unstarted(fail: CallError) -> Status
     ensures { result ≡ start_status fail }
 {
     match fail {
-        Fail::No(_code) => Status::DeviceFault,
-        Fail::Memory => Status::Memory,
+        CallError::No(_code) => Status::DeviceFault,
+        CallError::OutOfMemory => Status::OutOfMemory,
     }
 }
 
@@ -281,7 +281,7 @@ fn report<K: Sink, D: Disk + Drop, R: Remote>(
     }
 }
 
-fn status_of(played: Result<(), PlayFail>) -> Status
+fn status_of(played: Result<(), PlayError>) -> Status
     ensures { result ≡ play_status played }
 {
     match played {
@@ -291,14 +291,14 @@ fn status_of(played: Result<(), PlayFail>) -> Status
 }
 
 /// Writes why the script is not read.
-fn refuse<K: Sink>(alloc: Global, mode: Mode, text: &[u8], fail: ScriptFail, sink: &mut K) -> Status
+fn refuse<K: Sink>(alloc: Global, mode: Mode, text: &[u8], fail: ScriptError, sink: &mut K) -> Status
     requires { IsCause mode (lines_of text.now) fail }
     ensures writes { WritesRefusal mode text.now (K.held sink.old) (K.held sink.new) result }
-    ensures memory { fail ≡ ScriptFail.Memory → result ≡ Status.Memory }
+    ensures memory { fail ≡ ScriptError.OutOfMemory → result ≡ Status.OutOfMemory }
     ensures sink_fault { result ≡ Status.SinkFault → Rose (K.faults sink.old) (K.faults sink.new) }
 {
-    if fail == ScriptFail::Memory {
-        return Status::Memory;
+    if fail == ScriptError::OutOfMemory {
+        return Status::OutOfMemory;
     }
     match write_fail(alloc, fail, sink) {
         Ok(()) => Status::BadScript,
@@ -306,11 +306,11 @@ fn refuse<K: Sink>(alloc: Global, mode: Mode, text: &[u8], fail: ScriptFail, sin
     }
 }
 
-fn write_fail<K: Sink>(alloc: Global, fail: ScriptFail, sink: &mut K) -> Result<(), PlayFail>
+fn write_fail<K: Sink>(alloc: Global, fail: ScriptError, sink: &mut K) -> Result<(), PlayError>
     ensures ok { OnOk result (Adds (K.held sink.old) (K.held sink.new) (fail_line fail)) }
     ensures err { OnErr result (AddsFront (K.held sink.old) (K.held sink.new) (fail_line fail)) }
-    ensures only { IfErr result (λ e. e ≢ PlayFail.TooLong) }
-    ensures fault { IsErrOf result PlayFail.SinkFault → Rose (K.faults sink.old) (K.faults sink.new) }
+    ensures only { IfErr result (λ e. e ≢ PlayError.TooLong) }
+    ensures fault { IsErrOf result PlayError.SinkFault → Rose (K.faults sink.old) (K.faults sink.new) }
 {
     let text = fail_text(alloc, fail)?;
     write_all(sink, text.as_str().as_bytes())?;
@@ -318,23 +318,23 @@ fn write_fail<K: Sink>(alloc: Global, fail: ScriptFail, sink: &mut K) -> Result<
 }
 
 /// The line of a script that is not read.
-fn fail_text(alloc: Global, fail: ScriptFail) -> Result<String, AllocError>
+fn fail_text(alloc: Global, fail: ScriptError) -> Result<String, AllocError>
     ensures { IfOk result (λ t. string_bytes t ≡ fail_line fail) }
 {
     match fail {
-        ScriptFail::Syntax(line) => format!(in alloc; "bad line {line}\n"),
-        ScriptFail::TooManyEvents(line) => format!(in alloc; "bad line {line}\n"),
-        ScriptFail::NotBuilt(line) => format!(in alloc; "not built line {line}\n"),
-        ScriptFail::Memory => Ok(String::new(alloc)),
+        ScriptError::Syntax(line) => format!(in alloc; "bad line {line}\n"),
+        ScriptError::TooManyEvents(line) => format!(in alloc; "bad line {line}\n"),
+        ScriptError::NotBuilt(line) => format!(in alloc; "not built line {line}\n"),
+        ScriptError::OutOfMemory => Ok(String::new(alloc)),
     }
 }
 
-fn early(fail: PlayFail) -> Status
+fn early(fail: PlayError) -> Status
     ensures { result ≡ early_status fail }
 {
     match fail {
-        PlayFail::SinkFault => Status::SinkFault,
-        PlayFail::TooLong => Status::TooLong,
-        PlayFail::Memory => Status::Memory,
+        PlayError::SinkFault => Status::SinkFault,
+        PlayError::TooLong => Status::TooLong,
+        PlayError::OutOfMemory => Status::OutOfMemory,
     }
 }

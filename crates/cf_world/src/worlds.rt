@@ -17,7 +17,7 @@ ghost use Rattle.cf_world.specs.Led.{HasRun, HasRunOn, IsSame, IsWhole, Keeps, L
 
 use crate::sides::Side;
 use cf_world_filter::Acting;
-use cf_base::{Answer, Event, Fail, Memory, Mode};
+use cf_base::{Answer, Event, CallError, OutOfMemory, Mode};
 use cf_disk::Disk;
 use cf_plain::PlainWorld;
 use std::alloc::Global;
@@ -41,8 +41,8 @@ impl<D: Disk + Drop, R> Model for World<D, R> {
 
 impl<D: Disk + Drop, R> World<D, R> {
     /// A world in which nothing has happened. In `filter` a volume is made on the disk, which has a fit size. Refused as
-    /// Device where a call of the disk failed, and as Memory; then disk and remote come back.
-    pub fn start(alloc: Global, disk: D, remote: R, mode: Mode) -> Result<World<D, R>, (D, R, Fail)>
+    /// Device where a call of the disk failed, and as OutOfMemory; then disk and remote come back.
+    pub fn start(alloc: Global, disk: D, remote: R, mode: Mode) -> Result<World<D, R>, (D, R, CallError)>
         requires { IsFitSize (size_of (D.state disk)) }
         ensures ok { IfOk result (HasRun D.state mode disk) }
         ensures begins { IfOk result (λ w. (w.trace ≡ []) × (w.remote ≡ remote)) }
@@ -69,9 +69,9 @@ impl<D: Disk + Drop, R> World<D, R> {
         }
     }
 
-    /// Does an event of the mode, and adds it to the trace with its answer. At Memory nothing is added, and nothing more is
+    /// Does an event of the mode, and adds it to the trace with its answer. At OutOfMemory nothing is added, and nothing more is
     /// said of the world.
-    pub fn step(&mut self, alloc: Global, event: &Event) -> Result<(), Memory>
+    pub fn step(&mut self, alloc: Global, event: &Event) -> Result<(), OutOfMemory>
         requires whole { IsWhole self.old.side }
         requires can { can_do self.old.side event.now ≡ true }
         ensures ok { (m : Commanded) (disk : D) → HasRun D.state m disk self.old → OnOk result (HasRun D.state m disk self.new) }
@@ -120,7 +120,7 @@ fn disk_of<D: Disk + Drop>(side: Side<D>) -> D
 }
 
 // Does an event, and answers it.
-fn act<D: Disk + Drop>(alloc: Global, side: &mut Side<D>, event: &Event) -> Result<Answer, Memory>
+fn act<D: Disk + Drop>(alloc: Global, side: &mut Side<D>, event: &Event) -> Result<Answer, OutOfMemory>
     requires whole { IsWhole side.old }
     requires can { can_do side.old event.now ≡ true }
     ensures ok { IfOk result (λ a. (m : Commanded) (disk : D) (trace : List (Done × Answered)) → HasRunOn D.state m disk trace side.old → HasRunOn D.state m disk (trace ++ (event.now, a) ∷ []) side.new) }
@@ -138,7 +138,7 @@ fn act_on<D: Disk + Drop>(
     alloc: Global,
     acting: &mut Option<Acting<D>>,
     event: &Event,
-) -> Result<Answer, Memory>
+) -> Result<Answer, OutOfMemory>
     requires whole { is_some acting.old ≡ true }
     requires can { is_of Filter event.now ≡ true }
     ensures ok { (a b : Hands D) → acting.old ≡ Some a → acting.new ≡ Some b → StepsOver (Is D.state) event.now a result b }

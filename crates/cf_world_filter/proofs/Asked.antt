@@ -15,10 +15,10 @@ use Rattle.cf_base.specs.declared.answers.Shown.{Shown}
 use Rattle.cf_base.specs.declared.answers.Shown.TheVariants as shown
 use Rattle.cf_base.specs.declared.codes.Code.{Code}
 use Rattle.cf_base.specs.declared.codes.Code.TheVariants as code
-use Rattle.cf_base.specs.declared.codes.Fail.{Fail}
-use Rattle.cf_base.specs.declared.codes.Fail.TheVariants.{No, Memory}
+use Rattle.cf_base.specs.declared.codes.CallError.{CallError}
+use Rattle.cf_base.specs.declared.codes.CallError.TheVariants.{No, OutOfMemory}
 use Rattle.cf_base.specs.declared.events.Event.{Event}
-use Rattle.cf_base.specs.declared.memory.Memory.{Memory as NoMemory}
+use Rattle.cf_base.specs.declared.memory.OutOfMemory.{OutOfMemory as NoMemory}
 use Rattle.cf_base.specs.declared.notices.Notice.{Notice}
 use Rattle.cf_base.specs.declared.operations.Operation.{Operation}
 use Rattle.cf_base.specs.declared.policies.Class.{Class}
@@ -67,11 +67,11 @@ abbrev pub Hush : Filter → Type 0
 Hush f = f.notes ≡ []
 
 module _ {D : Type 0} (state : D → Disk) where
-  asks_by : {A : Type 0} (e : Event) (part : Arrow Filter Shown) (show : A → Shown) (plan : List (Bool × Operation)) (x : Held D) (r : Result A Fail) → IsCall e → NeverStops part
+  asks_by : {A : Type 0} (e : Event) (part : Arrow Filter Shown) (show : A → Shown) (plan : List (Bool × Operation)) (x : Held D) (r : Result A CallError) → IsCall e → NeverStops part
       → ((z : State) → z.mode ≡ InFilter → event_now e z ≡ in_filter part z) → Asks (sense state) show part x r → Steps (IsOn state) e (record { filter = x; provider = plan }) (answered_by (showing show r) []) (record { filter = x; provider = plan })
   asks_by {A} e part show plan x r call never is asks = record { leads = λ past s on. by past s on x.desk.broken refl on.is }
     where
-      comes : (past : Past) (s : State) → IsOn state past (record { filter = x; provider = plan }) s → s.power ≡ On → s.plan ≡ plan → Stands state x (hushed s.filter) → (w : Result Shown Fail) → Answers (sense state) Any part x w x → Comes state past e s w plan [] x
+      comes : (past : Past) (s : State) → IsOn state past (record { filter = x; provider = plan }) s → s.power ≡ On → s.plan ≡ plan → Stands state x (hushed s.filter) → (w : Result Shown CallError) → Answers (sense state) Any part x w x → Comes state past e s w plan [] x
       comes past s on power planned stands w answers =
           comes_by state past e part w plan [] x x s is (subst (λ (y : Held D). Answers (sense state) Any part y w y) (sym (noted_none state x on.quiet)) answers) on.mode power planned on.quiet on.disk stands
 
@@ -81,17 +81,17 @@ module _ {D : Type 0} (state : D → Disk) where
       after past s on whole power planned stands (Ok (Err c)) answers = (let q : Told A = Ok (Err c) in finished state past e s q show plan [] x call power on.quiet whole (comes past s on power planned stands (Ok (shown.Refused c)) answers))
       after past s on whole power planned stands (Err (No c)) answers =
           let d = answers.leads (hushed s.filter) stands (record {}) in absurd (never (hushed s.filter) d.0 d.1.1)
-      after past s on whole power planned stands (Err Memory) answers = record {}
+      after past s on whole power planned stands (Err OutOfMemory) answers = record {}
 
       by : (past : Past) (s : State) → IsOn state past (record { filter = x; provider = plan }) s → (b : Bool) → x.desk.broken ≡ b → OnBy state b (record { filter = x; provider = plan }) s → SteppedTo (IsOn state past) e s (answered_by (showing show r) []) (record { filter = x; provider = plan })
       by past s on true e' h = refused_as_broken state past e s r show plan [] x x call h.0 on (asks.broken e') refl refl
       by past s on false e' h =
           let d = asks.does e' in
-          subst (λ (w : Result A Fail). SteppedTo (IsOn state past) e s (answered_by (showing show w) []) (record { filter = x; provider = plan })) (sym d.1) (after past s on e' h.0 h.1 h.2 d.0 d.2)
+          subst (λ (w : Result A CallError). SteppedTo (IsOn state past) e s (answered_by (showing show w) []) (record { filter = x; provider = plan })) (sym d.1) (after past s on e' h.0 h.1 h.2 d.0 d.2)
 
   -- calls that add no notes
 
-  plainly_by : {A : Type 0} (e : Event) (part : Arrow Filter Shown) (show : A → Shown) (plan : List (Bool × Operation)) (x y : Held D) (r : Result A Fail) → IsCall e → Preserves Hush part
+  plainly_by : {A : Type 0} (e : Event) (part : Arrow Filter Shown) (show : A → Shown) (plan : List (Bool × Operation)) (x y : Held D) (r : Result A CallError) → IsCall e → Preserves Hush part
       → ((z : State) → z.mode ≡ InFilter → event_now e z ≡ in_filter part z) → Calls (sense state) show part x r y → Steps (IsOn state) e (record { filter = x; provider = plan }) (answered_by (showing show r) []) (record { filter = y; provider = plan })
   plainly_by {A} e part show plan x y r call hush is calls = record { leads = λ past s on. by past s on x.desk.broken refl on.is }
     where
@@ -105,7 +105,7 @@ module _ {D : Type 0} (state : D → Disk) where
           let d = answers.leads (hushed s.filter) stands (record {}) in
           d.3.0.notes ∙ kept_at_stop Hush (part (hushed s.filter)) d.0 (hush.keeps (hushed s.filter) refl) d.1.1
 
-      comes : (past : Past) (s : State) → IsOn state past (record { filter = x; provider = plan }) s → s.power ≡ On → s.plan ≡ plan → Stands state x (hushed s.filter) → (w : Result Shown Fail) → y.desk.notes ≡ [] → Answers (sense state) Any part x w y → Comes state past e s w plan [] y
+      comes : (past : Past) (s : State) → IsOn state past (record { filter = x; provider = plan }) s → s.power ≡ On → s.plan ≡ plan → Stands state x (hushed s.filter) → (w : Result Shown CallError) → y.desk.notes ≡ [] → Answers (sense state) Any part x w y → Comes state past e s w plan [] y
       comes past s on power planned stands w quiet answers =
           comes_by state past e part w plan [] x y s is
           (subst (λ (p : Held D). Answers (sense state) Any part p w (noted [] y)) (sym (noted_none state x on.quiet)) (subst (λ (p : Held D). Answers (sense state) Any part x w p) (sym (noted_none state y quiet)) answers))
@@ -119,23 +119,23 @@ module _ {D : Type 0} (state : D → Disk) where
           let quiet = quiet_ok s (shown.Refused c) stands answers in let q : Told A = Ok (Err c) in finished state past e s q show plan [] y call power quiet whole (comes past s on power planned stands (Ok (shown.Refused c)) quiet answers)
       after past s on power planned stands (Err (No c)) answers whole =
           let quiet = quiet_stop s c stands answers in finished state past e s (Err (No c)) show plan [] y call power quiet whole (comes past s on power planned stands (Err (No c)) quiet answers)
-      after past s on power planned stands (Err Memory) answers whole = record {}
+      after past s on power planned stands (Err OutOfMemory) answers whole = record {}
 
       by : (past : Past) (s : State) → IsOn state past (record { filter = x; provider = plan }) s → (b : Bool) → x.desk.broken ≡ b → OnBy state b (record { filter = x; provider = plan }) s → SteppedTo (IsOn state past) e s (answered_by (showing show r) []) (record { filter = y; provider = plan })
       by past s on true e' h = let c = calls.broken e' in refused_as_broken state past e s r show plan [] x y call h.0 on c.0 refl c.1
       by past s on false e' h =
           let d = calls.does e' in
-          subst (λ (w : Result A Fail). SteppedTo (IsOn state past) e s (answered_by (showing show w) []) (record { filter = y; provider = plan })) (sym d.1) (after past s on h.0 h.1 h.2 d.0 d.2 d.3)
+          subst (λ (w : Result A CallError). SteppedTo (IsOn state past) e s (answered_by (showing show w) []) (record { filter = y; provider = plan })) (sym d.1) (after past s on h.0 h.1 h.2 d.0 d.2 d.3)
 
   -- the same, as they are written
-  pub asks_step : {A : Type 0} (e : Event) (part : Arrow Filter Shown) (show : A → Shown) (plan : List (Bool × Operation)) (ns : List Notice) (x : Held D) (r : Result A Fail) (w : Result Shown Fail) (a : Result Answer NoMemory) → IsCall e → NeverStops part
+  pub asks_step : {A : Type 0} (e : Event) (part : Arrow Filter Shown) (show : A → Shown) (plan : List (Bool × Operation)) (ns : List Notice) (x : Held D) (r : Result A CallError) (w : Result Shown CallError) (a : Result Answer NoMemory) → IsCall e → NeverStops part
       → ((z : State) → z.mode ≡ InFilter → event_now e z ≡ in_filter part z) → ns ≡ [] → Asks (sense state) show part x r → w ≡ showing show r → a ≡ answered_by w ns → StepsOn state e (record { filter = x; provider = plan }) a (record { filter = x; provider = plan })
   asks_step e part show plan ns x r w a call never is none asks shows tells =
-      subst (λ (b : Result Answer NoMemory). StepsOn state e (record { filter = x; provider = plan }) b (record { filter = x; provider = plan })) (sym (tells ∙ ap (λ (v : Result Shown Fail). answered_by v ns) shows ∙ ap (λ (l : List Notice). answered_by (showing show r) l) none))
+      subst (λ (b : Result Answer NoMemory). StepsOn state e (record { filter = x; provider = plan }) b (record { filter = x; provider = plan })) (sym (tells ∙ ap (λ (v : Result Shown CallError). answered_by v ns) shows ∙ ap (λ (l : List Notice). answered_by (showing show r) l) none))
       (record { steps = asks_by e part show plan x r call never is asks; counts = λ past s on. asks_count state part show x r asks })
 
-  pub calls_plainly : {A : Type 0} (e : Event) (part : Arrow Filter Shown) (show : A → Shown) (plan : List (Bool × Operation)) (ns : List Notice) (x y : Held D) (r : Result A Fail) (w : Result Shown Fail) (a : Result Answer NoMemory) → IsCall e → Preserves Hush part
+  pub calls_plainly : {A : Type 0} (e : Event) (part : Arrow Filter Shown) (show : A → Shown) (plan : List (Bool × Operation)) (ns : List Notice) (x y : Held D) (r : Result A CallError) (w : Result Shown CallError) (a : Result Answer NoMemory) → IsCall e → Preserves Hush part
       → ((z : State) → z.mode ≡ InFilter → event_now e z ≡ in_filter part z) → ns ≡ [] → Calls (sense state) show part x r y → w ≡ showing show r → a ≡ answered_by w ns → StepsOn state e (record { filter = x; provider = plan }) a (record { filter = y; provider = plan })
   calls_plainly e part show plan ns x y r w a call hush is none calls shows tells =
-      subst (λ (b : Result Answer NoMemory). StepsOn state e (record { filter = x; provider = plan }) b (record { filter = y; provider = plan })) (sym (tells ∙ ap (λ (v : Result Shown Fail). answered_by v ns) shows ∙ ap (λ (l : List Notice). answered_by (showing show r) l) none))
+      subst (λ (b : Result Answer NoMemory). StepsOn state e (record { filter = x; provider = plan }) b (record { filter = y; provider = plan })) (sym (tells ∙ ap (λ (v : Result Shown CallError). answered_by v ns) shows ∙ ap (λ (l : List Notice). answered_by (showing show r) l) none))
       (record { steps = plainly_by e part show plan x y r call hush is calls; counts = plainly_count state part show plan x y r calls })

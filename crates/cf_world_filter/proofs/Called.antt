@@ -11,10 +11,10 @@ use Rattle.cf_world_filter.proofs.Finished.{Comes, IsCall, LeftTo, finished, ref
 use Rattle.cf_world_filter.proofs.Hushed.{left_as_it_was, disk_moved, stands_noted, told_nothing}
 use Rattle.cf_base.specs.declared.answers.Answer.{Answer}
 use Rattle.cf_base.specs.declared.answers.Shown.{Shown}
-use Rattle.cf_base.specs.declared.codes.Fail.{Fail}
-use Rattle.cf_base.specs.declared.codes.Fail.TheVariants.{No, Memory}
+use Rattle.cf_base.specs.declared.codes.CallError.{CallError}
+use Rattle.cf_base.specs.declared.codes.CallError.TheVariants.{No, OutOfMemory}
 use Rattle.cf_base.specs.declared.events.Event.{Event}
-use Rattle.cf_base.specs.declared.memory.Memory.{Memory as NoMemory}
+use Rattle.cf_base.specs.declared.memory.OutOfMemory.{OutOfMemory as NoMemory}
 use Rattle.cf_base.specs.declared.notices.Notice.{Notice}
 use Rattle.cf_base.specs.declared.operations.Operation.{Operation}
 use Rattle.cf_base.specs.declared.policies.Mode.TheVariants.{Filter as InFilter}
@@ -38,17 +38,17 @@ sees_still : (plan : List (Bool × Operation)) (z : State) (f : Filter) → Sees
 sees_still plan z f h = record { mode = h.mode; power = h.power; planned = h.planned; running = h.running }
 
 module _ {D : Type 0} (state : D → Disk) where
-  left_to : (r : Result Shown Fail) (plan : List (Bool × Operation)) (x y : Held D) (z : State) (t : Filter) → Sees plan z → After (sense state) x r y t → LeftTo state r plan y (with_filter t z)
+  left_to : (r : Result Shown CallError) (plan : List (Bool × Operation)) (x y : Held D) (z : State) (t : Filter) → Sees plan z → After (sense state) x r y t → LeftTo state r plan y (with_filter t z)
   left_to (Ok b) plan x y z t sees h = (h, sees_still plan z t sees)
   left_to (Err (No c)) plan x y z t sees h = (h.0, sees_still plan z t sees)
-  left_to (Err Memory) plan x y z t sees h = record {}
+  left_to (Err OutOfMemory) plan x y z t sees h = record {}
 
   disk_left : (past : Past) (x y : Held D) (ns : List Notice) (v : Filter) (t : Filter) → IsDiskOf past (state x.disk) v.volume → Moved (state (noted [] x).disk) (state (noted ns y).disk) v.volume t.volume → IsDiskOf past (state y.disk) t.volume
   unfolding noted
   disk_left past x y ns v t disk moved = disk_moved past (state x.disk) (state y.disk) v.volume t.volume disk moved
 
   -- A part of a call on the filter alone is the event.
-  pub comes_by : (past : Past) (e : Event) (part : Arrow Filter Shown) (r : Result Shown Fail) (plan : List (Bool × Operation)) (ns : List Notice) (x y : Held D) (s : State)
+  pub comes_by : (past : Past) (e : Event) (part : Arrow Filter Shown) (r : Result Shown CallError) (plan : List (Bool × Operation)) (ns : List Notice) (x y : Held D) (s : State)
       → ((z : State) → z.mode ≡ InFilter → event_now e z ≡ in_filter part z) → Answers (sense state) Any part (noted [] x) r (noted ns y)
       → s.mode ≡ InFilter → s.power ≡ On → s.plan ≡ plan → x.desk.notes ≡ [] → IsDiskOf past (state x.disk) s.filter.volume → Stands state x (hushed s.filter) → Comes state past e s r plan ns y
   comes_by past e part r plan ns x y s is answers mode power planned quiet disk stands =
@@ -69,7 +69,7 @@ module _ {D : Type 0} (state : D → Disk) where
   unfolding noted
   is_broken y ns = refl
 
-  calls_by : {A : Type 0} (e : Event) (part : Arrow Filter Shown) (show : A → Shown) (plan : List (Bool × Operation)) (ns : List Notice) (x y : Held D) (r : Result A Fail) → IsCall e
+  calls_by : {A : Type 0} (e : Event) (part : Arrow Filter Shown) (show : A → Shown) (plan : List (Bool × Operation)) (ns : List Notice) (x y : Held D) (r : Result A CallError) → IsCall e
       → ((z : State) → z.mode ≡ InFilter → event_now e z ≡ in_filter part z) → Calls (sense state) show part (noted [] x) r (noted ns y) → y.desk.notes ≡ x.desk.notes
       → Steps (IsOn state) e (record { filter = x; provider = plan }) (answered_by (showing show r) ns) (record { filter = y; provider = plan })
   calls_by {A} e part show plan ns x y r call is calls kept = record { leads = λ past s on. by past s on x.desk.broken refl on.is }
@@ -83,11 +83,11 @@ module _ {D : Type 0} (state : D → Disk) where
           refused_as_broken state past e s r show plan ns x y call h.0 on c.0 (told_nothing state x y ns c.1) (left_as_it_was state x y ns c.1 kept)
       by past s on false e' h =
           let d = calls.does (was_broken x ∙ e') in
-          subst (λ (w : Result A Fail). SteppedTo (IsOn state past) e s (answered_by (showing show w) ns) (record { filter = y; provider = plan })) (sym d.1)
+          subst (λ (w : Result A CallError). SteppedTo (IsOn state past) e s (answered_by (showing show w) ns) (record { filter = y; provider = plan })) (sym d.1)
           (finished state past e s d.0 show plan ns y call h.0 (kept ∙ on.quiet) (sym (is_broken y ns) ∙ d.3) (comes_by past e part (shown_by show d.0) plan ns x y s is d.2 on.mode h.0 h.1 on.quiet on.disk h.2))
 
   -- the same, as a call is written
-  pub calls_step : {A : Type 0} (e : Event) (part : Arrow Filter Shown) (show : A → Shown) (plan : List (Bool × Operation)) (none ns : List Notice) (x y : Held D) (r : Result A Fail) (w : Result Shown Fail) (a : Result Answer NoMemory)
+  pub calls_step : {A : Type 0} (e : Event) (part : Arrow Filter Shown) (show : A → Shown) (plan : List (Bool × Operation)) (none ns : List Notice) (x y : Held D) (r : Result A CallError) (w : Result Shown CallError) (a : Result Answer NoMemory)
       → IsCall e → ((z : State) → z.mode ≡ InFilter → event_now e z ≡ in_filter part z) → none ≡ [] → Calls (sense state) show part (noted none x) r (noted ns y) → y.desk.notes ≡ x.desk.notes → w ≡ showing show r → a ≡ answered_by w ns
       → StepsOn state e (record { filter = x; provider = plan }) a (record { filter = y; provider = plan })
   calls_step {A} e part show plan none ns x y r w a call is begins calls kept shows tells =
@@ -96,4 +96,4 @@ module _ {D : Type 0} (state : D → Disk) where
         steps = calls_by e part show plan ns x y r call is c kept;
         counts = calls_count state part show plan ns x y r c;
       } in
-      subst (λ (b : Result Answer NoMemory). StepsOn state e (record { filter = x; provider = plan }) b (record { filter = y; provider = plan })) (sym (tells ∙ ap (λ (v : Result Shown Fail). answered_by v ns) shows)) h
+      subst (λ (b : Result Answer NoMemory). StepsOn state e (record { filter = x; provider = plan }) b (record { filter = y; provider = plan })) (sym (tells ∙ ap (λ (v : Result Shown CallError). answered_by v ns) shows)) h

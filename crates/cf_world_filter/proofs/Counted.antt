@@ -13,10 +13,10 @@ use Rattle.cf_world_filter.proofs.Hushed.{stands_noted}
 use Rattle.cf_base.specs.declared.answers.Answer.{Answer}
 use Rattle.cf_base.specs.declared.answers.Shown.{Shown}
 use Rattle.cf_base.specs.declared.codes.Code.TheVariants as code
-use Rattle.cf_base.specs.declared.codes.Fail.{Fail}
-use Rattle.cf_base.specs.declared.codes.Fail.TheVariants.{No, Memory}
+use Rattle.cf_base.specs.declared.codes.CallError.{CallError}
+use Rattle.cf_base.specs.declared.codes.CallError.TheVariants.{No, OutOfMemory}
 use Rattle.cf_base.specs.declared.events.Event.{Event}
-use Rattle.cf_base.specs.declared.memory.Memory.{Memory as NoMemory}
+use Rattle.cf_base.specs.declared.memory.OutOfMemory.{OutOfMemory as NoMemory}
 use Rattle.cf_base.specs.declared.notices.Notice.{Notice}
 use Rattle.cf_base.specs.declared.operations.Operation.{Operation}
 use Rattle.cf_disk.specs.Disk.{State as Disk}
@@ -37,7 +37,7 @@ never_both e = let z : false ≡ true = e in absurd cc
 abbrev RoseBy : {A : Type 0} → Told A → Disk → Disk → Type 0
 RoseBy (Ok r) d e = Unit {0}
 RoseBy (Err (No c)) d e = Rose d e
-RoseBy (Err Memory) d e = Unit {0}
+RoseBy (Err OutOfMemory) d e = Unit {0}
 
 -- an answer that tells of no device call that failed
 pub plain_counts : (a : Answer) (d e : Disk) → d.faults ≤ e.faults → meets_device a.shown ≡ false → CountsTo (Ok a) d e
@@ -61,17 +61,17 @@ told_counts : {A : Type 0} (q : Told A) (show : A → Shown) (ns : List Notice) 
 told_counts (Ok (Ok a)) show ns b d e least is rose = (least, λ broken met. never_both (sym is ∙ broken))
 told_counts (Ok (Err c)) show ns b d e least is rose = (least, λ broken met. never_both (sym is ∙ broken))
 told_counts (Err (No c)) show ns b d e least is rose = (least, λ broken met. rose)
-told_counts (Err Memory) show ns b d e least is rose = record {}
+told_counts (Err OutOfMemory) show ns b d e least is rose = record {}
 
 -- a call after one that was stopped
-broken_counts : {A : Type 0} (r : Result A Fail) (show : A → Shown) (ns : List Notice) (b : Bool) (d e : Disk) → r ≡ Err (No code.Broken) → d.faults ≤ e.faults → CountsIf b (answered_by (showing show r) ns) d e
+broken_counts : {A : Type 0} (r : Result A CallError) (show : A → Shown) (ns : List Notice) (b : Bool) (d e : Disk) → r ≡ Err (No code.Broken) → d.faults ≤ e.faults → CountsIf b (answered_by (showing show r) ns) d e
 broken_counts {A} r show ns b d e is least =
     let h : CountsIf b (answered_by (showing show (Err (No code.Broken))) ns) d e = (least, λ broken met. never_both met) in
-    subst (λ (w : Result A Fail). CountsIf b (answered_by (showing show w) ns) d e) (sym is) h
+    subst (λ (w : Result A CallError). CountsIf b (answered_by (showing show w) ns) d e) (sym is) h
 
 -- an opening that failed
-pub failed_counts : (e : Fail) (c d : Disk) → c.faults ≤ d.faults → StopsOnly e ⊎ (IsRefused e code.NotAVolume ⊎ IsRefused e code.Exhausted) → IsCause e c d → CountsTo (answered_by (Err e) []) c d
-failed_counts Memory c d least only cause = record {}
+pub failed_counts : (e : CallError) (c d : Disk) → c.faults ≤ d.faults → StopsOnly e ⊎ (IsRefused e code.NotAVolume ⊎ IsRefused e code.Exhausted) → IsCause e c d → CountsTo (answered_by (Err e) []) c d
+failed_counts OutOfMemory c d least only cause = record {}
 failed_counts (No k) c d least (inl stopped) cause = (least, λ met. cause stopped)
 failed_counts (No k) c d least (inr (inl absent)) cause = (least, λ met. never_both (sym (ap is_device absent) ∙ met))
 failed_counts (No k) c d least (inr (inr spent)) cause = (least, λ met. never_both (sym (ap is_device spent) ∙ met))
@@ -86,12 +86,12 @@ module _ {D : Type 0} (state : D → Disk) where
   rose_after : {A : Type 0} (show : A → Shown) (q : Told A) (x y : Held D) (t : Filter) → After (sense state) x (shown_by show q) y t → RoseBy q (state x.disk) (state y.disk)
   rose_after show (Ok r) x y t h = record {}
   rose_after show (Err (No c)) x y t h = h.1
-  rose_after show (Err Memory) x y t h = record {}
+  rose_after show (Err OutOfMemory) x y t h = record {}
 
   same_least : (x y : Held D) → y ≡ x → (state x.disk).faults ≤ (state y.disk).faults
   same_least x y same = let e = ap (λ (z : Held D). (state z.disk).faults) same in omega (arith, e)
 
-  call_counts : {A : Type 0} (part : Arrow Filter Shown) (show : A → Shown) (ns : List Notice) (x y : Held D) (r : Result A Fail) (f : Filter) → Calls (sense state) show part x r y → (x.desk.broken ≡ false → Stands state x f)
+  call_counts : {A : Type 0} (part : Arrow Filter Shown) (show : A → Shown) (ns : List Notice) (x y : Held D) (r : Result A CallError) (f : Filter) → Calls (sense state) show part x r y → (x.desk.broken ≡ false → Stands state x f)
       → CountsIf y.desk.broken (answered_by (showing show r) ns) (state x.disk) (state y.disk)
   call_counts {A} part show ns x y r f calls stands = by x.desk.broken refl
     where
@@ -100,7 +100,7 @@ module _ {D : Type 0} (state : D → Disk) where
       by false is =
           let d = calls.does is in
           let h = d.2.leads f (stands is) (record {}) in
-          subst (λ (w : Result A Fail). CountsIf y.desk.broken (answered_by (showing show w) ns) (state x.disk) (state y.disk)) (sym d.1)
+          subst (λ (w : Result A CallError). CountsIf y.desk.broken (answered_by (showing show w) ns) (state x.disk) (state y.disk)) (sym d.1)
           (told_counts d.0 show ns y.desk.broken (state x.disk) (state y.disk) h.2.runs.faults d.3 (rose_after show d.0 x y h.0 h.3))
 
   rose_back : {P A : Type 0} (answers : Answering P) (part : Arrow Filter Shown) (show : A → Shown) (q : Told A) (p left : P) (x y : Held D) (s : Filter) → CallsTo state answers part p x s (shown_by show q) left y
@@ -108,9 +108,9 @@ module _ {D : Type 0} (state : D → Disk) where
   rose_back answers part show (Ok (Ok a)) p left x y s h = (h.6.runs.faults, record {})
   rose_back answers part show (Ok (Err c)) p left x y s h = (h.6.runs.faults, record {})
   rose_back answers part show (Err (No c)) p left x y s h = (h.2.runs.faults, h.4)
-  rose_back answers part show (Err Memory) p left x y s h = (h.1.runs.faults, record {})
+  rose_back answers part show (Err OutOfMemory) p left x y s h = (h.1.runs.faults, record {})
 
-  back_counts : {P A : Type 0} (answers : Answering P) (part : Arrow Filter Shown) (show : A → Shown) (ns : List Notice) (p left : P) (x y : Held D) (r : Result A Fail) (f : Filter) → Provides state answers Any show part p x r left y → (x.desk.broken ≡ false → Stands state x f)
+  back_counts : {P A : Type 0} (answers : Answering P) (part : Arrow Filter Shown) (show : A → Shown) (ns : List Notice) (p left : P) (x y : Held D) (r : Result A CallError) (f : Filter) → Provides state answers Any show part p x r left y → (x.desk.broken ≡ false → Stands state x f)
       → CountsIf y.desk.broken (answered_by (showing show r) ns) (state x.disk) (state y.disk)
   back_counts {P} {A} answers part show ns p left x y r f calls stands = by x.desk.broken refl
     where
@@ -119,7 +119,7 @@ module _ {D : Type 0} (state : D → Disk) where
       by false is =
           let d = calls.does is in
           let h = rose_back answers part show d.0 p left x y f (d.2.leads f (stands is) (record {})) in
-          subst (λ (w : Result A Fail). CountsIf y.desk.broken (answered_by (showing show w) ns) (state x.disk) (state y.disk)) (sym d.1)
+          subst (λ (w : Result A CallError). CountsIf y.desk.broken (answered_by (showing show w) ns) (state x.disk) (state y.disk)) (sym d.1)
           (told_counts d.0 show ns y.desk.broken (state x.disk) (state y.disk) h.0 d.3 h.1)
 
   -- notes leave the disk
@@ -136,21 +136,21 @@ module _ {D : Type 0} (state : D → Disk) where
 
   -- as the world makes them
 
-  pub calls_count : {A : Type 0} (part : Arrow Filter Shown) (show : A → Shown) (plan : List (Bool × Operation)) (ns : List Notice) (x y : Held D) (r : Result A Fail) → Calls (sense state) show part (noted [] x) r (noted ns y)
+  pub calls_count : {A : Type 0} (part : Arrow Filter Shown) (show : A → Shown) (plan : List (Bool × Operation)) (ns : List Notice) (x y : Held D) (r : Result A CallError) → Calls (sense state) show part (noted [] x) r (noted ns y)
       → (past : Past) (s : State) → IsOn state past (record { filter = x; provider = plan }) s → CountsIf y.desk.broken (answered_by (showing show r) ns) (state x.disk) (state y.disk)
   calls_count part show plan ns x y r calls past s on =
       as_noted ns x y (answered_by (showing show r) ns) (call_counts part show ns (noted [] x) (noted ns y) r (hushed s.filter) calls (noted_stands past plan x s on))
 
-  pub provides_count : {P A : Type 0} (answers : Answering P) (part : Arrow Filter Shown) (show : A → Shown) (plan : List (Bool × Operation)) (p left : P) (ns : List Notice) (x y : Held D) (r : Result A Fail) → Provides state answers Any show part p (noted [] x) r left (noted ns y)
+  pub provides_count : {P A : Type 0} (answers : Answering P) (part : Arrow Filter Shown) (show : A → Shown) (plan : List (Bool × Operation)) (p left : P) (ns : List Notice) (x y : Held D) (r : Result A CallError) → Provides state answers Any show part p (noted [] x) r left (noted ns y)
       → (past : Past) (s : State) → IsOn state past (record { filter = x; provider = plan }) s → CountsIf y.desk.broken (answered_by (showing show r) ns) (state x.disk) (state y.disk)
   provides_count answers part show plan p left ns x y r calls past s on =
       as_noted ns x y (answered_by (showing show r) ns) (back_counts answers part show ns p left (noted [] x) (noted ns y) r (hushed s.filter) calls (noted_stands past plan x s on))
 
-  pub plainly_count : {A : Type 0} (part : Arrow Filter Shown) (show : A → Shown) (plan : List (Bool × Operation)) (x y : Held D) (r : Result A Fail) → Calls (sense state) show part x r y
+  pub plainly_count : {A : Type 0} (part : Arrow Filter Shown) (show : A → Shown) (plan : List (Bool × Operation)) (x y : Held D) (r : Result A CallError) → Calls (sense state) show part x r y
       → (past : Past) (s : State) → IsOn state past (record { filter = x; provider = plan }) s → CountsIf y.desk.broken (answered_by (showing show r) []) (state x.disk) (state y.disk)
   plainly_count part show plan x y r calls past s on = call_counts part show [] x y r (hushed s.filter) calls (stands_on past (record { filter = x; provider = plan }) s on)
 
-  pub asks_count : {A : Type 0} (part : Arrow Filter Shown) (show : A → Shown) (x : Held D) (r : Result A Fail) → Asks (sense state) show part x r → CountsIf x.desk.broken (answered_by (showing show r) []) (state x.disk) (state x.disk)
+  pub asks_count : {A : Type 0} (part : Arrow Filter Shown) (show : A → Shown) (x : Held D) (r : Result A CallError) → Asks (sense state) show part x r → CountsIf x.desk.broken (answered_by (showing show r) []) (state x.disk) (state x.disk)
   asks_count {A} part show x r asks = by x.desk.broken refl
     where
       by : (b : Bool) → x.desk.broken ≡ b → CountsIf x.desk.broken (answered_by (showing show r) []) (state x.disk) (state x.disk)

@@ -11,8 +11,8 @@ use Rattle.cf_base.specs.declared.answers.Shown.{Shown}
 use Rattle.cf_base.specs.declared.answers.Shown.TheVariants as shown
 use Rattle.cf_base.specs.declared.codes.Code.{Code}
 use Rattle.cf_base.specs.declared.codes.Code.TheVariants as code
-use Rattle.cf_base.specs.declared.codes.Fail.{Fail}
-use Rattle.cf_base.specs.declared.codes.Fail.TheVariants.{No, Memory}
+use Rattle.cf_base.specs.declared.codes.CallError.{CallError}
+use Rattle.cf_base.specs.declared.codes.CallError.TheVariants.{No, OutOfMemory}
 use Rattle.cf_base.specs.declared.events.Event.{Event}
 use Rattle.cf_base.specs.declared.notices.Notice.{Notice}
 use Rattle.cf_base.specs.declared.operations.Operation.{Operation}
@@ -51,13 +51,13 @@ off_step e s of needs power = refused_step InFilter s e code.Off of (rw (needs, 
 
 module _ {D : Type 0} (state : D → Disk) where
   -- what is left of the state
-  abbrev pub LeftTo : Result Shown Fail → List (Bool × Operation) → Held D → State → Type 0
+  abbrev pub LeftTo : Result Shown CallError → List (Bool × Operation) → Held D → State → Type 0
   LeftTo (Ok b) plan y z = Stands state y z.filter × Sees plan z
   LeftTo (Err (No c)) plan y z = Stopped state y z.filter × Sees plan z
-  LeftTo (Err Memory) plan y z = Unit {0}
+  LeftTo (Err OutOfMemory) plan y z = Unit {0}
 
   -- the event was done, or cut off
-  pub record Comes (past : Past) (e : Event) (s : State) (r : Result Shown Fail) (plan : List (Bool × Operation)) (ns : List Notice) (y : Held D) : Type 0 where
+  pub record Comes (past : Past) (e : Event) (s : State) (r : Result Shown CallError) (plan : List (Bool × Operation)) (ns : List Notice) (y : Held D) : Type 0 where
     pub new : State
     pub does : Does (tree_of e s) r new
     pub disk : IsDiskOf past (state y.disk) new.filter.volume
@@ -94,13 +94,13 @@ module _ {D : Type 0} (state : D → Disk) where
   finished past e s (Ok (Ok a)) show plan ns y call power quiet whole c = ended past e s (show a) plan ns y call power quiet whole c
   finished past e s (Ok (Err k)) show plan ns y call power quiet whole c = ended past e s (shown.Refused k) plan ns y call power quiet whole c
   finished past e s (Err (No k)) show plan ns y call power quiet whole c = stopped past e s k plan ns y call power quiet whole c
-  finished past e s (Err Memory) show plan ns y call power quiet whole c = record {}
+  finished past e s (Err OutOfMemory) show plan ns y call power quiet whole c = record {}
 
   -- one that came after a stop
-  pub refused_as_broken : {A : Type 0} (past : Past) (e : Event) (s : State) (r : Result A Fail) (show : A → Shown) (plan : List (Bool × Operation)) (ns : List Notice) (x y : Held D) → IsCall e → s.power ≡ Broken → IsOn state past (record { filter = x; provider = plan }) s
+  pub refused_as_broken : {A : Type 0} (past : Past) (e : Event) (s : State) (r : Result A CallError) (show : A → Shown) (plan : List (Bool × Operation)) (ns : List Notice) (x y : Held D) → IsCall e → s.power ≡ Broken → IsOn state past (record { filter = x; provider = plan }) s
       → r ≡ Err (No code.Broken) → ns ≡ [] → y ≡ x → SteppedTo (IsOn state past) e s (answered_by (showing show r) ns) (record { filter = y; provider = plan })
   refused_as_broken past e s r show plan ns x y call power on is none same =
       let here : SteppedTo (IsOn state past) e s (answered_by (showing show (Err (No code.Broken))) []) (record { filter = x; provider = plan }) = (s, broken_step e s call power, on) in
       let there = subst (λ (z : Held D). SteppedTo (IsOn state past) e s (answered_by (showing show (Err (No code.Broken))) []) (record { filter = z; provider = plan })) (sym same) here in
       let told = subst (λ (l : List Notice). SteppedTo (IsOn state past) e s (answered_by (showing show (Err (No code.Broken))) l) (record { filter = y; provider = plan })) (sym none) there in
-      subst (λ (w : Result _ Fail). SteppedTo (IsOn state past) e s (answered_by (showing show w) ns) (record { filter = y; provider = plan })) (sym is) told
+      subst (λ (w : Result _ CallError). SteppedTo (IsOn state past) e s (answered_by (showing show w) ns) (record { filter = y; provider = plan })) (sym is) told

@@ -15,7 +15,7 @@ use Rattle.cf_base.specs.declared.codes.Code.TheVariants as code
 use Rattle.cf_base.specs.declared.events.Event.{Event}
 use Rattle.cf_base.specs.declared.events.Event.TheVariants as event
 use Rattle.cf_base.specs.declared.events.ProviderEvent.TheVariants as provider
-use Rattle.cf_base.specs.declared.memory.Memory.{Memory as NoMemory}
+use Rattle.cf_base.specs.declared.memory.OutOfMemory.{OutOfMemory as NoMemory}
 use Rattle.cf_base.specs.declared.operations.Operation.{Operation}
 use Rattle.cf_base.specs.declared.policies.Mode.TheVariants.{Filter as InFilter}
 use Rattle.cf_disk.specs.Disk.{State as Disk}

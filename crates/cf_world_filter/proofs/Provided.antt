@@ -12,10 +12,10 @@ use Rattle.cf_world_filter.proofs.Finished.{Comes, IsCall, LeftTo, finished, ref
 use Rattle.cf_world_filter.proofs.Hushed.{left_as_it_was, disk_moved, stands_noted, told_nothing}
 use Rattle.cf_base.specs.declared.answers.Answer.{Answer}
 use Rattle.cf_base.specs.declared.answers.Shown.{Shown}
-use Rattle.cf_base.specs.declared.codes.Fail.{Fail}
-use Rattle.cf_base.specs.declared.codes.Fail.TheVariants.{No, Memory}
+use Rattle.cf_base.specs.declared.codes.CallError.{CallError}
+use Rattle.cf_base.specs.declared.codes.CallError.TheVariants.{No, OutOfMemory}
 use Rattle.cf_base.specs.declared.events.Event.{Event}
-use Rattle.cf_base.specs.declared.memory.Memory.{Memory as NoMemory}
+use Rattle.cf_base.specs.declared.memory.OutOfMemory.{OutOfMemory as NoMemory}
 use Rattle.cf_base.specs.declared.notices.Notice.{Notice}
 use Rattle.cf_base.specs.declared.operations.Operation.{Operation}
 use Rattle.cf_base.specs.declared.ids.Key.{Key}
@@ -107,10 +107,10 @@ scripted_plays = record {
 }
 
 module _ {D : Type 0} (state : D → Disk) where
-  left_to : (r : Result Shown Fail) (q : List (Bool × Operation)) (x y : Held D) (z : State) → LeftBy state Sees x r q y z → LeftTo state r q y z
+  left_to : (r : Result Shown CallError) (q : List (Bool × Operation)) (x y : Held D) (z : State) → LeftBy state Sees x r q y z → LeftTo state r q y z
   left_to (Ok b) q x y z h = h
   left_to (Err (No c)) q x y z h = (h.0, h.1)
-  left_to (Err Memory) q x y z h = record {}
+  left_to (Err OutOfMemory) q x y z h = record {}
 
   disk_left : (past : Past) (x y : Held D) (ns : List Notice) (v t : Filter) → IsDiskOf past (state x.disk) v.volume → Moved (state (noted [] x).disk) (state (noted ns y).disk) v.volume t.volume → IsDiskOf past (state y.disk) t.volume
   unfolding noted
@@ -124,7 +124,7 @@ module _ {D : Type 0} (state : D → Disk) where
   unfolding noted
   is_broken y ns = refl
 
-  comes_back : (past : Past) (e : Event) (part : Arrow Filter Shown) (r : Result Shown Fail) (plan left : List (Bool × Operation)) (ns : List Notice) (x y : Held D) (s : State)
+  comes_back : (past : Past) (e : Event) (part : Arrow Filter Shown) (r : Result Shown CallError) (plan left : List (Bool × Operation)) (ns : List Notice) (x y : Held D) (s : State)
       → ((z : State) → z.mode ≡ InFilter → event_now e z ≡ calling part z) → CallsBack state Answers Any part plan (noted [] x) r left (noted ns y)
       → s.mode ≡ InFilter → s.power ≡ On → s.plan ≡ plan → x.desk.notes ≡ [] → IsDiskOf past (state x.disk) s.filter.volume → Stands state x (hushed s.filter) → Comes state past e s r left ns y
   comes_back past e part r plan left ns x y s is back mode power planned quiet disk stands =
@@ -138,7 +138,7 @@ module _ {D : Type 0} (state : D → Disk) where
         left = left_to r left (noted [] x) (noted ns y) d.new d.left;
       }
 
-  provides_by : {A : Type 0} (e : Event) (part : Arrow Filter Shown) (show : A → Shown) (plan left : List (Bool × Operation)) (ns : List Notice) (x y : Held D) (r : Result A Fail) → IsCall e
+  provides_by : {A : Type 0} (e : Event) (part : Arrow Filter Shown) (show : A → Shown) (plan left : List (Bool × Operation)) (ns : List Notice) (x y : Held D) (r : Result A CallError) → IsCall e
       → ((z : State) → z.mode ≡ InFilter → event_now e z ≡ calling part z) → Provides state Answers Any show part plan (noted [] x) r left (noted ns y) → y.desk.notes ≡ x.desk.notes
       → Steps (IsOn state) e (record { filter = x; provider = plan }) (answered_by (showing show r) ns) (record { filter = y; provider = left })
   provides_by {A} e part show plan left ns x y r call is calls kept = record { leads = λ past s on. by past s on x.desk.broken refl on.is }
@@ -150,11 +150,11 @@ module _ {D : Type 0} (state : D → Disk) where
           (refused_as_broken state past e s r show plan ns x y call h.0 on c.0 (told_nothing state x y ns c.1) (left_as_it_was state x y ns c.1 kept))
       by past s on false e' h =
           let d = calls.does (was_broken x ∙ e') in
-          subst (λ (w : Result A Fail). SteppedTo (IsOn state past) e s (answered_by (showing show w) ns) (record { filter = y; provider = left })) (sym d.1)
+          subst (λ (w : Result A CallError). SteppedTo (IsOn state past) e s (answered_by (showing show w) ns) (record { filter = y; provider = left })) (sym d.1)
           (finished state past e s d.0 show left ns y call h.0 (kept ∙ on.quiet) (sym (is_broken y ns) ∙ d.3) (comes_back past e part (shown_by show d.0) plan left ns x y s is d.2 on.mode h.0 h.1 on.quiet on.disk h.2))
 
   -- the same, as a call is written
-  pub provides_step : {A : Type 0} (e : Event) (part : Arrow Filter Shown) (show : A → Shown) (plan left : List (Bool × Operation)) (none ns : List Notice) (x y : Held D) (r : Result A Fail) (w : Result Shown Fail) (a : Result Answer NoMemory)
+  pub provides_step : {A : Type 0} (e : Event) (part : Arrow Filter Shown) (show : A → Shown) (plan left : List (Bool × Operation)) (none ns : List Notice) (x y : Held D) (r : Result A CallError) (w : Result Shown CallError) (a : Result Answer NoMemory)
       → IsCall e → ((z : State) → z.mode ≡ InFilter → event_now e z ≡ calling part z) → none ≡ [] → Provides state Answers Any show part plan (noted none x) r left (noted ns y) → y.desk.notes ≡ x.desk.notes → w ≡ showing show r → a ≡ answered_by w ns
       → StepsOn state e (record { filter = x; provider = plan }) a (record { filter = y; provider = left })
   provides_step {A} e part show plan left none ns x y r w a call is begins calls kept shows tells =
@@ -163,4 +163,4 @@ module _ {D : Type 0} (state : D → Disk) where
         steps = provides_by e part show plan left ns x y r call is c kept;
         counts = provides_count state Answers part show plan plan left ns x y r c;
       } in
-      subst (λ (b : Result Answer NoMemory). StepsOn state e (record { filter = x; provider = plan }) b (record { filter = y; provider = left })) (sym (tells ∙ ap (λ (v : Result Shown Fail). answered_by v ns) shows)) h
+      subst (λ (b : Result Answer NoMemory). StepsOn state e (record { filter = x; provider = plan }) b (record { filter = y; provider = left })) (sym (tells ∙ ap (λ (v : Result Shown CallError). answered_by v ns) shows)) h

@@ -19,12 +19,12 @@ use Rattle.cf_base.specs.declared.answers.Shown.TheVariants as shown
 use Rattle.cf_base.specs.declared.changes.Change.{Change}
 use Rattle.cf_base.specs.declared.codes.Code.{Code}
 use Rattle.cf_base.specs.declared.codes.Code.TheVariants as code
-use Rattle.cf_base.specs.declared.codes.Fail.{Fail}
-use Rattle.cf_base.specs.declared.codes.Fail.TheVariants.{No, Memory}
+use Rattle.cf_base.specs.declared.codes.CallError.{CallError}
+use Rattle.cf_base.specs.declared.codes.CallError.TheVariants.{No, OutOfMemory}
 use Rattle.cf_base.specs.declared.events.DeviceEvent.TheVariants as device
 use Rattle.cf_base.specs.declared.events.Event.TheVariants as event
 use Rattle.cf_base.specs.declared.ids.Usn.{Usn}
-use Rattle.cf_base.specs.declared.memory.Memory.{Memory as NoMemory}
+use Rattle.cf_base.specs.declared.memory.OutOfMemory.{OutOfMemory as NoMemory}
 use Rattle.cf_base.specs.declared.policies.Mode.TheVariants.{Filter as InFilter}
 use Rattle.cf_base.specs.declared.policies.Policy.{Policy}
 use Rattle.cf_volume_commit.specs.Loaded.{StandsOrWas}
@@ -245,14 +245,14 @@ module _ {D : Type 0} (state : D → Disk) where
   }
 
   -- a restart that opened nothing
-  pub failed_step : (x y : Cut D) (e : Fail) → (state x.disk).may_leave (state x.disk).seen → y.policy ≡ x.policy → Runs (state x.disk) (state y.disk)
+  pub failed_step : (x y : Cut D) (e : CallError) → (state x.disk).may_leave (state x.disk).seen → y.policy ≡ x.policy → Runs (state x.disk) (state y.disk)
       → ((epoch : ℕ) (log : List (Usn × Change)) (b : Book) → Standing epoch (state x.disk).seen log b → Leaves (state x.disk) (state y.disk) (StandsOrWas epoch log b (state x.disk)))
       → StopsOnly e ⊎ (IsRefused e code.NotAVolume ⊎ IsRefused e code.Exhausted)
       → ((epoch : ℕ) (log : List (Usn × Change)) (b : Book) → Standing epoch (state x.disk).seen log b → IsRefused e code.NotAVolume → ⊥)
       → ((epoch : ℕ) (log : List (Usn × Change)) (b : Book) → Standing epoch (state x.disk).seen log b → IsRefused e code.Exhausted → epoch ≡ most)
       → (IsRefused e code.NotAVolume ⊎ IsRefused e code.Exhausted → ReadsOnly (state x.disk) (state y.disk))
       → StepsOver (Is state) (event.Device device.Restart) (acting.Off x) (answered_by (Err e) []) (acting.Off y)
-  failed_step x y Memory reads policy runs leaves only none last unwritten = record { leads = λ past s off. record {} }
+  failed_step x y OutOfMemory reads policy runs leaves only none last unwritten = record { leads = λ past s off. record {} }
   failed_step x y (No c) reads policy runs leaves (inl stopped) none last unwritten = record {
     leads = λ past s off.
         let at = found past x s off reads in

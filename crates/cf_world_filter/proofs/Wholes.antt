@@ -11,7 +11,7 @@ use Rattle.cf_world_filter.proofs.Hushed.{same_clusters}
 use Rattle.cf_base.specs.declared.answers.Answer.{Answer}
 use Rattle.cf_base.specs.declared.events.Event.{Event}
 use Rattle.cf_base.specs.declared.events.Event.TheVariants as event
-use Rattle.cf_base.specs.declared.memory.Memory.{Memory as NoMemory}
+use Rattle.cf_base.specs.declared.memory.OutOfMemory.{OutOfMemory as NoMemory}
 use Rattle.cf_base.specs.declared.policies.Mode.TheVariants.{Filter as InFilter}
 use Rattle.cf_disk.specs.Disk.{State as Disk, size_of}
 use Rattle.cf_journal.specs.Settled.{IsFitSize}

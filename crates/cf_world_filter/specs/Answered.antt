@@ -3,13 +3,13 @@ use Rattle.std.specs.Prelude.{None, Result, Ok, Err, List}
 use Rattle.cf_base.specs.declared.answers.Answer.{Answer}
 use Rattle.cf_base.specs.declared.answers.Shown.{Shown}
 use Rattle.cf_base.specs.declared.answers.Shown.TheVariants as shown
-use Rattle.cf_base.specs.declared.codes.Fail.{Fail}
-use Rattle.cf_base.specs.declared.codes.Fail.TheVariants.{No, Memory}
-use Rattle.cf_base.specs.declared.memory.Memory.{Memory as NoMemory}
+use Rattle.cf_base.specs.declared.codes.CallError.{CallError}
+use Rattle.cf_base.specs.declared.codes.CallError.TheVariants.{No, OutOfMemory}
+use Rattle.cf_base.specs.declared.memory.OutOfMemory.{OutOfMemory as NoMemory}
 use Rattle.cf_base.specs.declared.notices.Notice.{Notice}
 
 -- with the value that it shows
-abbrev pub showing : {A : Type 0} → (A → Shown) → Result A Fail → Result Shown Fail
+abbrev pub showing : {A : Type 0} → (A → Shown) → Result A CallError → Result Shown CallError
 showing show (Ok a) = Ok (show a)
 showing show (Err e) = Err e
 
@@ -17,7 +17,7 @@ abbrev pub answer_with : Shown → List Notice → Answer
 answer_with s notes = record { notes = notes; shown = s; stray = None }
 
 -- a refusal is an answer too; for want of memory there is none
-abbrev pub answered_by : Result Shown Fail → List Notice → Result Answer NoMemory
+abbrev pub answered_by : Result Shown CallError → List Notice → Result Answer NoMemory
 answered_by (Ok s) notes = Ok (answer_with s notes)
 answered_by (Err (No c)) notes = Ok (answer_with (shown.Refused c) notes)
-answered_by (Err Memory) notes = Err (record {})
+answered_by (Err OutOfMemory) notes = Err (record {})

@@ -8,7 +8,7 @@ use Rattle.cf_base.specs.declared.answers.Answer.{Answer}
 use Rattle.cf_base.specs.declared.answers.Shown.{Shown}
 use Rattle.cf_base.specs.declared.answers.Shown.TheVariants as shown
 use Rattle.cf_base.specs.declared.events.Event.{Event}
-use Rattle.cf_base.specs.declared.memory.Memory.{Memory as NoMemory}
+use Rattle.cf_base.specs.declared.memory.OutOfMemory.{OutOfMemory as NoMemory}
 use Rattle.cf_disk.specs.Disk.{State as Disk}
 use Rattle.cf_filter_machine.specs.Sensing.{Rose}
 use Rattle.cf_model.specs.Arrows.{is_device}

@@ -8,7 +8,7 @@ use Rattle.cf_base.specs.declared.events.DeviceEvent.{DeviceEvent}
 use Rattle.cf_base.specs.declared.events.DeviceEvent.TheVariants as device
 use Rattle.cf_base.specs.declared.events.Event.{Event}
 use Rattle.cf_base.specs.declared.events.Event.TheVariants as event
-use Rattle.cf_base.specs.declared.memory.Memory.{Memory as NoMemory}
+use Rattle.cf_base.specs.declared.memory.OutOfMemory.{OutOfMemory as NoMemory}
 use Rattle.cf_base.specs.declared.policies.Choice.{Choice}
 use Rattle.cf_base.specs.declared.policies.Mode.TheVariants.{Filter}
 use Rattle.cf_disk.specs.Disk.{Powers, State as Disk}

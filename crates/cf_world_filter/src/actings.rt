@@ -20,7 +20,7 @@ ghost use Rattle.cf_volume.specs.Calls.{IsCause, StopsOnly};
 
 use crate::answering::{known, plainly};
 use crate::places::{Acting, Cut, Running};
-use cf_base::{Answer, DeviceEvent, Event, Fail, Hydration, Memory, Policy, Population, Shown};
+use cf_base::{Answer, DeviceEvent, Event, CallError, Hydration, OutOfMemory, Policy, Population, Shown};
 use cf_disk::Disk;
 use cf_filter::Filter;
 use cf_provider_script::Scripted;
@@ -40,8 +40,8 @@ fn first_policy() -> Policy
 
 impl<D: Disk> Acting<D> {
     /// A volume that was just made on a disk of a fit size, whatever that held; the disk had no power in this. Refused as
-    /// Device where a call of the disk failed, and as Memory; then the disk comes back.
-    pub fn start(alloc: Global, disk: D) -> Result<Acting<D>, (D, Fail)>
+    /// Device where a call of the disk failed, and as OutOfMemory; then the disk comes back.
+    pub fn start(alloc: Global, disk: D) -> Result<Acting<D>, (D, CallError)>
         requires { IsFitSize (size_of (D.state disk)) }
         ensures ok { (remote : Held) → IfOk result (λ a. (past : Past) → past.told ≡ (D.state disk).powers → Is D.state past a (start InFilter remote (clusters_on (D.state disk).seen))) }
         ensures faults { IfOk result (λ a. (D.state disk).faults ≤ (D.state (disk_of a)).faults) }
@@ -61,7 +61,7 @@ impl<D: Disk> Acting<D> {
     /// its choice, and no other event changes the powers that the disk tells. A restart that resumes opens what the image of
     /// the last power stands for. The disk's count of faults does not fall, and rises in an event that is answered as Device.
     /// For want of memory an event is not answered, and nothing more is said of the world.
-    pub fn step(self, alloc: Global, event: &Event) -> (Acting<D>, Result<Answer, Memory>)
+    pub fn step(self, alloc: Global, event: &Event) -> (Acting<D>, Result<Answer, OutOfMemory>)
         requires { is_of InFilter event.now ≡ true }
         ensures steps { StepsOver (Is D.state) event.now self result.1 result.0 }
         ensures device { Bears event.now (D.state (disk_of self)) (D.state (disk_of result.0)) }
@@ -92,7 +92,7 @@ fn step_on<D: Disk>(
     alloc: Global,
     mut running: Running<D>,
     event: &Event,
-) -> (Acting<D>, Result<Answer, Memory>)
+) -> (Acting<D>, Result<Answer, OutOfMemory>)
     requires { is_of InFilter event.now ≡ true }
     ensures steps { StepsOver (Is D.state) event.now (acting.On running) result.1 result.0 }
     ensures device { Bears event.now (D.state running.filter.disk) (D.state (disk_of result.0)) }
@@ -118,7 +118,7 @@ fn device_on<D: Disk>(
     alloc: Global,
     mut running: Running<D>,
     event: DeviceEvent,
-) -> (Acting<D>, Result<Answer, Memory>)
+) -> (Acting<D>, Result<Answer, OutOfMemory>)
     ensures steps { StepsOver (Is D.state) (events.Device event) (acting.On running) result.1 result.0 }
     ensures device { BearsOn event (D.state running.filter.disk) (D.state (disk_of result.0)) }
     ensures counts { CountsTo result.1 (D.state running.filter.disk) (D.state (disk_of result.0)) }
@@ -144,7 +144,7 @@ fn step_off<D: Disk>(
     alloc: Global,
     cut: Cut<D>,
     event: &Event,
-) -> (Acting<D>, Result<Answer, Memory>)
+) -> (Acting<D>, Result<Answer, OutOfMemory>)
     requires { is_of InFilter event.now ≡ true }
     ensures steps { StepsOver (Is D.state) event.now (acting.Off cut) result.1 result.0 }
     ensures device { Bears event.now (D.state cut.disk) (D.state (disk_of result.0)) }
@@ -163,7 +163,7 @@ fn device_off<D: Disk>(
     alloc: Global,
     mut cut: Cut<D>,
     event: DeviceEvent,
-) -> (Acting<D>, Result<Answer, Memory>)
+) -> (Acting<D>, Result<Answer, OutOfMemory>)
     ensures steps { StepsOver (Is D.state) (events.Device event) (acting.Off cut) result.1 result.0 }
     ensures device { BearsOn event (D.state cut.disk) (D.state (disk_of result.0)) }
     ensures counts { CountsTo result.1 (D.state cut.disk) (D.state (disk_of result.0)) }

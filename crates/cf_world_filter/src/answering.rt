@@ -5,11 +5,11 @@ ghost use Rattle.cf_world_filter.specs.Answered.{answer_with, answered_by};
 ghost use Rattle.cf_world_filter.specs.Counted.{known_by, meets_device};
 ghost use Rattle.cf_base.specs.declared.answers.Shown.TheVariants as shown;
 
-use cf_base::{Answer, Code, Fail, Memory, Notes, Sequence, Shown};
+use cf_base::{Answer, Code, CallError, OutOfMemory, Notes, Sequence, Shown};
 use std::alloc::Global;
 
 /// The answer with these notes. For want of memory there is none.
-pub(crate) fn answered(told: Result<Shown, Fail>, notes: Notes) -> Result<Answer, Memory>
+pub(crate) fn answered(told: Result<Shown, CallError>, notes: Notes) -> Result<Answer, OutOfMemory>
     ensures { result ≡ answered_by told notes }
 {
     match told {
@@ -18,12 +18,12 @@ pub(crate) fn answered(told: Result<Shown, Fail>, notes: Notes) -> Result<Answer
             shown,
             stray: None,
         }),
-        Err(Fail::No(code)) => Ok(Answer {
+        Err(CallError::No(code)) => Ok(Answer {
             notes,
             shown: Shown::Refused(code),
             stray: None,
         }),
-        Err(Fail::Memory) => Err(Memory),
+        Err(CallError::OutOfMemory) => Err(OutOfMemory),
     }
 }
 
@@ -36,12 +36,12 @@ fn meets_device(shown: &Shown) -> bool
 
 /// The answer of a call, after which the filter is broken or not. A call that nothing stopped is not answered as Device: no
 /// part of one is refused so. That is no law of the parts, so such an answer would be want of memory.
-pub(crate) fn known(told: Result<Answer, Memory>, broken: bool) -> Result<Answer, Memory>
+pub(crate) fn known(told: Result<Answer, OutOfMemory>, broken: bool) -> Result<Answer, OutOfMemory>
     ensures { result ≡ known_by broken told }
 {
     let answer = told?;
     if !broken && meets_device(&answer.shown) {
-        return Err(Memory);
+        return Err(OutOfMemory);
     }
     Ok(answer)
 }

@@ -7,14 +7,14 @@ ghost use Rattle.cf_base.specs.declared.events.Event.TheVariants as event;
 use crate::answering::answered;
 use crate::places::Running;
 use crate::showing::{done, item};
-use cf_base::{Answer, Memory, Mode, Notes, Pin, Reach, Text};
+use cf_base::{Answer, OutOfMemory, Mode, Notes, Pin, Reach, Text};
 use cf_disk::Disk;
 use cf_placeholder::Creation;
 use std::alloc::Global;
 
 impl<D: Disk> Running<D> {
     /// `create`
-    pub(crate) fn create(&mut self, alloc: Global, path: &Text) -> Result<Answer, Memory>
+    pub(crate) fn create(&mut self, alloc: Global, path: &Text) -> Result<Answer, OutOfMemory>
         ensures { StepsOn D.state (event.Call (call.Create path.now)) self.old result self.new }
     {
         let mut notes = Notes::new(alloc);
@@ -25,7 +25,7 @@ impl<D: Disk> Running<D> {
     }
 
     /// `mkdir`
-    pub(crate) fn mkdir(&mut self, alloc: Global, path: &Text) -> Result<Answer, Memory>
+    pub(crate) fn mkdir(&mut self, alloc: Global, path: &Text) -> Result<Answer, OutOfMemory>
         ensures { StepsOn D.state (event.Call (call.Mkdir path.now)) self.old result self.new }
     {
         let mut notes = Notes::new(alloc);
@@ -36,7 +36,7 @@ impl<D: Disk> Running<D> {
     }
 
     /// `delete`
-    pub(crate) fn delete(&mut self, alloc: Global, path: &Text) -> Result<Answer, Memory>
+    pub(crate) fn delete(&mut self, alloc: Global, path: &Text) -> Result<Answer, OutOfMemory>
         ensures { StepsOn D.state (event.Call (call.Delete path.now)) self.old result self.new }
     {
         let mut notes = Notes::new(alloc);
@@ -45,7 +45,7 @@ impl<D: Disk> Running<D> {
     }
 
     /// `rename`
-    pub(crate) fn rename(&mut self, alloc: Global, from: &Text, to: &Text) -> Result<Answer, Memory>
+    pub(crate) fn rename(&mut self, alloc: Global, from: &Text, to: &Text) -> Result<Answer, OutOfMemory>
         ensures { StepsOn D.state (event.Call (call.Rename from.now to.now)) self.old result self.new }
     {
         let mut notes = Notes::new(alloc);
@@ -60,7 +60,7 @@ impl<D: Disk> Running<D> {
         path: &Text,
         pin: Pin,
         reach: Reach,
-    ) -> Result<Answer, Memory>
+    ) -> Result<Answer, OutOfMemory>
         ensures { StepsOn D.state (event.Call (call.Pin path.now pin reach)) self.old result self.new }
     {
         let mut notes = Notes::new(alloc);

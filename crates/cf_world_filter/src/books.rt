@@ -4,7 +4,7 @@ ghost use Rattle.std.specs.Prelude.{◌≡◌, IfOk};
 ghost use Rattle.cf_filter_machine.specs.Telling.{accesses_in, anchors_in, told_of};
 ghost use Rattle.cf_model.specs.Numbers.{is_no_usn};
 
-use cf_base::{Access, Anchor, AuxRecord, Memory, OpenedBook, Sequence, Usn};
+use cf_base::{Access, Anchor, AuxRecord, OutOfMemory, OpenedBook, Sequence, Usn};
 use cf_disk::Disk;
 use cf_table::Row;
 use cf_volume::Volume;
@@ -16,7 +16,7 @@ fn is_no_usn(number: Usn) -> bool
     number.epoch == 0 && number.place == 0
 }
 
-fn anchors_in(alloc: Global, rows: &[Row]) -> Result<Sequence<Anchor>, Memory>
+fn anchors_in(alloc: Global, rows: &[Row]) -> Result<Sequence<Anchor>, OutOfMemory>
     ensures { IfOk result (λ a. a ≡ anchors_in rows.now) }
 {
     let mut anchors = Sequence::new(alloc);
@@ -31,7 +31,7 @@ fn anchors_in(alloc: Global, rows: &[Row]) -> Result<Sequence<Anchor>, Memory>
     Ok(anchors)
 }
 
-fn accesses_in(alloc: Global, rows: &[Row]) -> Result<Sequence<Access>, Memory>
+fn accesses_in(alloc: Global, rows: &[Row]) -> Result<Sequence<Access>, OutOfMemory>
     ensures { IfOk result (λ a. a ≡ accesses_in rows.now) }
 {
     let mut accesses = Sequence::new(alloc);
@@ -46,7 +46,7 @@ fn accesses_in(alloc: Global, rows: &[Row]) -> Result<Sequence<Access>, Memory>
     Ok(accesses)
 }
 
-fn copied(record: &AuxRecord) -> Result<AuxRecord, Memory>
+fn copied(record: &AuxRecord) -> Result<AuxRecord, OutOfMemory>
     ensures { IfOk result (λ r. r ≡ record.now) }
 {
     let key = record.key.copy()?;
@@ -54,7 +54,7 @@ fn copied(record: &AuxRecord) -> Result<AuxRecord, Memory>
     Ok(AuxRecord { key, value })
 }
 
-fn copies(alloc: Global, records: &[AuxRecord]) -> Result<Sequence<AuxRecord>, Memory>
+fn copies(alloc: Global, records: &[AuxRecord]) -> Result<Sequence<AuxRecord>, OutOfMemory>
     ensures { IfOk result (λ r. r ≡ records.now) }
 {
     let mut copies = Sequence::new(alloc);
@@ -65,7 +65,7 @@ fn copies(alloc: Global, records: &[AuxRecord]) -> Result<Sequence<AuxRecord>, M
 }
 
 /// The book as it is told of a volume: its records, its clock, and the anchors and last accesses of its rows.
-pub(crate) fn opened_book<D: Disk>(alloc: Global, volume: &Volume<D>) -> Result<OpenedBook, Memory>
+pub(crate) fn opened_book<D: Disk>(alloc: Global, volume: &Volume<D>) -> Result<OpenedBook, OutOfMemory>
     ensures { IfOk result (λ o. o ≡ told_of volume.now.known) }
 {
     let records = copies(alloc, volume.records())?;

@@ -4,13 +4,13 @@ ghost use Rattle.cf_world_filter.specs.Counted.{StepsOn};
 ghost use Rattle.cf_base.specs.declared.events.Event.TheVariants as event;
 
 use crate::places::Running;
-use cf_base::{Answer, Call, Memory};
+use cf_base::{Answer, Call, OutOfMemory};
 use cf_disk::Disk;
 use std::alloc::Global;
 
 impl<D: Disk> Running<D> {
     /// Does a call while the volume is open, and answers it.
-    pub(crate) fn call(&mut self, alloc: Global, call: &Call) -> Result<Answer, Memory>
+    pub(crate) fn call(&mut self, alloc: Global, call: &Call) -> Result<Answer, OutOfMemory>
         ensures { StepsOn D.state (event.Call call.now) self.old result self.new }
     {
         match call {

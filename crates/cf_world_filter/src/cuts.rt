@@ -22,7 +22,7 @@ ghost use Rattle.cf_base.specs.declared.policies.Mode.TheVariants.{Filter as InF
 use crate::answering::{plainly, refused};
 use crate::books::opened_book;
 use crate::places::{Acting, Cut, Running};
-use cf_base::{Answer, Choice, Code, Event, Fail, Memory, Shown};
+use cf_base::{Answer, Choice, Code, Event, CallError, OutOfMemory, Shown};
 use cf_disk::Disk;
 use cf_filter::Filter;
 use cf_journal::{LARGEST_SIZE, LEAST_SIZE};
@@ -62,7 +62,7 @@ impl<D: Disk> Cut<D> {
 
     /// `restart`: opens the volume again. Where the device fails it stays off. A disk of a size that no volume has holds
     /// none.
-    pub(crate) fn restart(self, alloc: Global) -> (Acting<D>, Result<Answer, Memory>)
+    pub(crate) fn restart(self, alloc: Global) -> (Acting<D>, Result<Answer, OutOfMemory>)
         ensures steps { StepsOver (Is D.state) (event.Device device.Restart) (acting.Off self) result.1 result.0 }
         ensures counts { CountsTo result.1 (D.state self.disk) (D.state (disk_of result.0)) }
     {
@@ -72,7 +72,7 @@ impl<D: Disk> Cut<D> {
         self.reopen(alloc)
     }
 
-    fn reopen(self, alloc: Global) -> (Acting<D>, Result<Answer, Memory>)
+    fn reopen(self, alloc: Global) -> (Acting<D>, Result<Answer, OutOfMemory>)
         requires { IsFitSize (size_of (D.state self.disk)) }
         ensures steps { StepsOver (Is D.state) (event.Device device.Restart) (acting.Off self) result.1 result.0 }
         ensures counts { CountsTo result.1 (D.state self.disk) (D.state (disk_of result.0)) }
@@ -94,17 +94,17 @@ fn is_fit(size: u64) -> bool
 }
 
 // The answer of a restart that opened nothing.
-fn refused_by(alloc: Global, fail: Fail) -> Result<Answer, Memory>
+fn refused_by(alloc: Global, fail: CallError) -> Result<Answer, OutOfMemory>
     ensures { result ≡ answered_by (Err fail) [] }
 {
     match fail {
-        Fail::No(code) => Ok(refused(alloc, code)),
-        Fail::Memory => Err(Memory),
+        CallError::No(code) => Ok(refused(alloc, code)),
+        CallError::OutOfMemory => Err(OutOfMemory),
     }
 }
 
 // The world on a volume that was just opened.
-fn reopened<D: Disk>(alloc: Global, filter: Filter<D>) -> (Acting<D>, Result<Answer, Memory>)
+fn reopened<D: Disk>(alloc: Global, filter: Filter<D>) -> (Acting<D>, Result<Answer, OutOfMemory>)
     ensures on { result.0 ≡ acting.On (record { filter = filter; provider = [] }) }
     ensures plain { IfOk result.1 (λ a. meets_device a.shown ≡ false) }
     ensures told { IfOk result.1 (λ a. (f : model) → Stands D.state filter f → a ≡ answer_with (shown.Resumed (length f.volume.log) (opened_of f.volume.book)) []) }
@@ -115,7 +115,7 @@ fn reopened<D: Disk>(alloc: Global, filter: Filter<D>) -> (Acting<D>, Result<Ans
 }
 
 // How many changes were kept, and the book.
-fn resumed<D: Disk>(alloc: Global, filter: &Filter<D>) -> Result<Answer, Memory>
+fn resumed<D: Disk>(alloc: Global, filter: &Filter<D>) -> Result<Answer, OutOfMemory>
     ensures plain { IfOk result (λ a. meets_device a.shown ≡ false) }
     ensures told { IfOk result (λ a. (f : model) → Stands D.state filter.now f → a ≡ answer_with (shown.Resumed (length f.volume.log) (opened_of f.volume.book)) []) }
 {

@@ -8,7 +8,7 @@ ghost use Rattle.cf_base.specs.declared.events.Event.TheVariants as event;
 use crate::answering::answered;
 use crate::places::Running;
 use crate::showing::{done, waited};
-use cf_base::{Answer, Memory, Notes, Text, WaitId};
+use cf_base::{Answer, OutOfMemory, Notes, Text, WaitId};
 use cf_disk::Disk;
 use std::alloc::Global;
 
@@ -23,7 +23,7 @@ fn wide(range: Option<(u32, u32)>) -> Option<(u64, u64)>
 
 impl<D: Disk> Running<D> {
     /// `cancel`
-    pub(crate) fn cancel(&mut self, alloc: Global, wait: WaitId) -> Result<Answer, Memory>
+    pub(crate) fn cancel(&mut self, alloc: Global, wait: WaitId) -> Result<Answer, OutOfMemory>
         ensures { StepsOn D.state (event.Call (call.Cancel wait)) self.old result self.new }
     {
         let mut notes = Notes::new(alloc);
@@ -32,7 +32,7 @@ impl<D: Disk> Running<D> {
     }
 
     /// `tick`
-    pub(crate) fn tick(&mut self, alloc: Global, ticks: u32) -> Result<Answer, Memory>
+    pub(crate) fn tick(&mut self, alloc: Global, ticks: u32) -> Result<Answer, OutOfMemory>
         ensures { StepsOn D.state (event.Call (call.Tick ticks)) self.old result self.new }
     {
         let mut notes = Notes::new(alloc);
@@ -41,7 +41,7 @@ impl<D: Disk> Running<D> {
     }
 
     /// `list`
-    pub(crate) fn list(&mut self, alloc: Global, path: &Text) -> Result<Answer, Memory>
+    pub(crate) fn list(&mut self, alloc: Global, path: &Text) -> Result<Answer, OutOfMemory>
         ensures { StepsOn D.state (event.Call (call.List path.now)) self.old result self.new }
     {
         let mut notes = Notes::new(alloc);
@@ -52,7 +52,7 @@ impl<D: Disk> Running<D> {
     }
 
     /// `hydrate`
-    pub(crate) fn hydrate(&mut self, alloc: Global, path: &Text) -> Result<Answer, Memory>
+    pub(crate) fn hydrate(&mut self, alloc: Global, path: &Text) -> Result<Answer, OutOfMemory>
         ensures { StepsOn D.state (event.Call (call.Hydrate path.now)) self.old result self.new }
     {
         let mut notes = Notes::new(alloc);
@@ -68,7 +68,7 @@ impl<D: Disk> Running<D> {
         alloc: Global,
         path: &Text,
         range: Option<(u32, u32)>,
-    ) -> Result<Answer, Memory>
+    ) -> Result<Answer, OutOfMemory>
         ensures { StepsOn D.state (event.Call (call.Dehydrate path.now range)) self.old result self.new }
     {
         let mut notes = Notes::new(alloc);
@@ -84,7 +84,7 @@ impl<D: Disk> Running<D> {
         alloc: Global,
         path: &Text,
         on: bool,
-    ) -> Result<Answer, Memory>
+    ) -> Result<Answer, OutOfMemory>
         ensures { StepsOn D.state (event.Call (call.Keep path.now on)) self.old result self.new }
     {
         let mut notes = Notes::new(alloc);

@@ -9,7 +9,7 @@ ghost use Rattle.cf_model.specs.Missing.{span_of};
 use crate::answering::answered;
 use crate::places::Running;
 use crate::showing::{done, waited};
-use cf_base::{Answer, Blob, Handle, Memory, Notes, Span, Text};
+use cf_base::{Answer, Blob, Handle, OutOfMemory, Notes, Span, Text};
 use cf_disk::Disk;
 use std::alloc::Global;
 
@@ -24,7 +24,7 @@ fn span_of(offset: u32, len: u32) -> Span
 
 impl<D: Disk> Running<D> {
     /// `close`
-    pub(crate) fn close(&mut self, alloc: Global, handle: Handle) -> Result<Answer, Memory>
+    pub(crate) fn close(&mut self, alloc: Global, handle: Handle) -> Result<Answer, OutOfMemory>
         ensures { StepsOn D.state (event.Call (call.Close handle)) self.old result self.new }
     {
         let mut notes = Notes::new(alloc);
@@ -39,7 +39,7 @@ impl<D: Disk> Running<D> {
         handle: Handle,
         offset: u32,
         len: u32,
-    ) -> Result<Answer, Memory>
+    ) -> Result<Answer, OutOfMemory>
         ensures { StepsOn D.state (event.Call (call.Read handle offset len)) self.old result self.new }
     {
         let mut notes = Notes::new(alloc);
@@ -54,7 +54,7 @@ impl<D: Disk> Running<D> {
         path: &Text,
         offset: u32,
         len: u32,
-    ) -> Result<Answer, Memory>
+    ) -> Result<Answer, OutOfMemory>
         ensures { StepsOn D.state (event.Call (call.Get path.now offset len)) self.old result self.new }
     {
         let mut notes = Notes::new(alloc);
@@ -74,7 +74,7 @@ impl<D: Disk> Running<D> {
         handle: Handle,
         offset: u32,
         bytes: &Blob,
-    ) -> Result<Answer, Memory>
+    ) -> Result<Answer, OutOfMemory>
         ensures { StepsOn D.state (event.Call (call.Write handle offset bytes.now)) self.old result self.new }
     {
         let mut notes = Notes::new(alloc);
@@ -94,7 +94,7 @@ impl<D: Disk> Running<D> {
         alloc: Global,
         handle: Handle,
         size: u32,
-    ) -> Result<Answer, Memory>
+    ) -> Result<Answer, OutOfMemory>
         ensures { StepsOn D.state (event.Call (call.Size handle size)) self.old result self.new }
     {
         let mut notes = Notes::new(alloc);

@@ -8,7 +8,7 @@ ghost use Rattle.cf_base.specs.declared.events.ProviderEvent.TheVariants as prov
 use crate::answering::answered;
 use crate::places::Running;
 use crate::showing::{item, number};
-use cf_base::{Answer, Identity, Memory, Notes, Text};
+use cf_base::{Answer, Identity, OutOfMemory, Notes, Text};
 use cf_disk::Disk;
 use cf_placeholder::Creation;
 use std::alloc::Global;
@@ -31,7 +31,7 @@ impl<D: Disk> Running<D> {
         size: u32,
         identity: &Identity,
         in_sync: bool,
-    ) -> Result<Answer, Memory>
+    ) -> Result<Answer, OutOfMemory>
         ensures { StepsOn D.state (event.Provider (provider.Place path.now size identity.now in_sync)) self.old result self.new }
     {
         let identity = identity.copy()?;
@@ -52,7 +52,7 @@ impl<D: Disk> Running<D> {
         path: &Text,
         identity: &Identity,
         in_sync: bool,
-    ) -> Result<Answer, Memory>
+    ) -> Result<Answer, OutOfMemory>
         ensures { StepsOn D.state (event.Provider (provider.PlaceDir path.now identity.now in_sync)) self.old result self.new }
     {
         let identity = identity.copy()?;
@@ -71,7 +71,7 @@ impl<D: Disk> Running<D> {
         alloc: Global,
         path: &Text,
         identity: &Identity,
-    ) -> Result<Answer, Memory>
+    ) -> Result<Answer, OutOfMemory>
         ensures { StepsOn D.state (event.Provider (provider.Convert path.now identity.now)) self.old result self.new }
     {
         let mut notes = Notes::new(alloc);
@@ -80,7 +80,7 @@ impl<D: Disk> Running<D> {
     }
 
     /// `revert`
-    pub(crate) fn revert(&mut self, alloc: Global, path: &Text) -> Result<Answer, Memory>
+    pub(crate) fn revert(&mut self, alloc: Global, path: &Text) -> Result<Answer, OutOfMemory>
         ensures { StepsOn D.state (event.Provider (provider.Revert path.now)) self.old result self.new }
     {
         let mut notes = Notes::new(alloc);
@@ -95,7 +95,7 @@ impl<D: Disk> Running<D> {
         path: &Text,
         identity: &Identity,
         size: Option<u32>,
-    ) -> Result<Answer, Memory>
+    ) -> Result<Answer, OutOfMemory>
         ensures { StepsOn D.state (event.Provider (provider.Update path.now identity.now size)) self.old result self.new }
     {
         let mut notes = Notes::new(alloc);
@@ -106,7 +106,7 @@ impl<D: Disk> Running<D> {
     }
 
     /// `unmark`
-    pub(crate) fn unmark(&mut self, alloc: Global, path: &Text) -> Result<Answer, Memory>
+    pub(crate) fn unmark(&mut self, alloc: Global, path: &Text) -> Result<Answer, OutOfMemory>
         ensures { StepsOn D.state (event.Provider (provider.Unmark path.now)) self.old result self.new }
     {
         let mut notes = Notes::new(alloc);

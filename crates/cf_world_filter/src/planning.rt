@@ -8,14 +8,14 @@ ghost use Rattle.cf_base.specs.declared.events.ProviderEvent.TheVariants as prov
 use crate::answering::{answered, plainly, refused};
 use crate::places::Running;
 use crate::showing::{number, outcome};
-use cf_base::{Answer, Code, Memory, Notes, Operation, Shown, Text, Usn};
+use cf_base::{Answer, Code, OutOfMemory, Notes, Operation, Shown, Text, Usn};
 use cf_disk::Disk;
 use cf_provider_script::Planned;
 use std::alloc::Global;
 
 impl<D: Disk> Running<D> {
     /// `mark`
-    pub(crate) fn mark(&mut self, alloc: Global, path: &Text, given: Usn) -> Result<Answer, Memory>
+    pub(crate) fn mark(&mut self, alloc: Global, path: &Text, given: Usn) -> Result<Answer, OutOfMemory>
         ensures { StepsOn D.state (event.Provider (provider.Mark path.now given)) self.old result self.new }
     {
         let mut notes = Notes::new(alloc);
@@ -30,7 +30,7 @@ impl<D: Disk> Running<D> {
         &mut self,
         alloc: Global,
         operation: &Operation,
-    ) -> Result<Answer, Memory>
+    ) -> Result<Answer, OutOfMemory>
         ensures { StepsOn D.state (event.Provider (provider.Do operation.now)) self.old result self.new }
     {
         let mut notes = Notes::new(alloc);
@@ -46,7 +46,7 @@ impl<D: Disk> Running<D> {
         alloc: Global,
         own: bool,
         operation: &Operation,
-    ) -> Result<Answer, Memory>
+    ) -> Result<Answer, OutOfMemory>
         ensures { StepsOn D.state (event.Provider (provider.Plan own operation.now)) self.old result self.new }
     {
         if self.filter.is_broken() {

@@ -4,7 +4,7 @@ ghost use Rattle.cf_world_filter.specs.Counted.{StepsOn};
 ghost use Rattle.cf_base.specs.declared.events.Event.TheVariants as event;
 
 use crate::places::Running;
-use cf_base::{Answer, Memory, ProviderEvent};
+use cf_base::{Answer, OutOfMemory, ProviderEvent};
 use cf_disk::Disk;
 use std::alloc::Global;
 
@@ -14,7 +14,7 @@ impl<D: Disk> Running<D> {
         &mut self,
         alloc: Global,
         provided: &ProviderEvent,
-    ) -> Result<Answer, Memory>
+    ) -> Result<Answer, OutOfMemory>
         ensures { StepsOn D.state (event.Provider provided.now) self.old result self.new }
     {
         match provided {

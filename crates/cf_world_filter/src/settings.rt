@@ -7,13 +7,13 @@ ghost use Rattle.cf_base.specs.declared.events.Event.TheVariants as event;
 use crate::answering::answered;
 use crate::places::Running;
 use crate::showing::{count, done, opened};
-use cf_base::{Answer, Memory, Mode, Notes, Policy, Text};
+use cf_base::{Answer, OutOfMemory, Mode, Notes, Policy, Text};
 use cf_disk::Disk;
 use std::alloc::Global;
 
 impl<D: Disk> Running<D> {
     /// `open`
-    pub(crate) fn open(&mut self, alloc: Global, path: &Text) -> Result<Answer, Memory>
+    pub(crate) fn open(&mut self, alloc: Global, path: &Text) -> Result<Answer, OutOfMemory>
         ensures { StepsOn D.state (event.Call (call.Open path.now)) self.old result self.new }
     {
         let told = self.filter.open_file(path.as_str());
@@ -21,7 +21,7 @@ impl<D: Disk> Running<D> {
     }
 
     /// `flush`
-    pub(crate) fn flush(&mut self, alloc: Global) -> Result<Answer, Memory>
+    pub(crate) fn flush(&mut self, alloc: Global) -> Result<Answer, OutOfMemory>
         ensures { StepsOn D.state (event.Call call.Flush) self.old result self.new }
     {
         let told = self.filter.flush();
@@ -29,7 +29,7 @@ impl<D: Disk> Running<D> {
     }
 
     /// `policy`
-    pub(crate) fn set_policy(&mut self, alloc: Global, policy: &Policy) -> Result<Answer, Memory>
+    pub(crate) fn set_policy(&mut self, alloc: Global, policy: &Policy) -> Result<Answer, OutOfMemory>
         ensures { StepsOn D.state (event.Call (call.Policy policy.now)) self.old result self.new }
     {
         let told = self.filter.set_policy(Mode::Filter, policy);
@@ -37,7 +37,7 @@ impl<D: Disk> Running<D> {
     }
 
     /// `connect` and `disconnect`
-    pub(crate) fn connect(&mut self, alloc: Global, on: bool) -> Result<Answer, Memory>
+    pub(crate) fn connect(&mut self, alloc: Global, on: bool) -> Result<Answer, OutOfMemory>
         ensures { StepsOn D.state (event.Call (call.Connect on)) self.old result self.new }
     {
         let mut notes = Notes::new(alloc);

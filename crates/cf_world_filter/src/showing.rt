@@ -7,11 +7,11 @@ ghost use Rattle.cf_provider.specs.Acting.{shown_of};
 ghost use Rattle.cf_filter.specs.Calling.{shows_done};
 ghost use Rattle.cf_filter.specs.Showing.{shows_blocks, shows_info, shows_waited};
 
-use cf_base::{Fail, Handle, ItemId, Sequence, Shown, Span, Usn};
+use cf_base::{CallError, Handle, ItemId, Sequence, Shown, Span, Usn};
 use cf_provider::Outcome;
 use cf_filter::{Info, Waited};
 
-pub(crate) fn done(told: Result<(), Fail>) -> Result<Shown, Fail>
+pub(crate) fn done(told: Result<(), CallError>) -> Result<Shown, CallError>
     ensures { result ≡ showing shows_done told }
 {
     match told {
@@ -20,7 +20,7 @@ pub(crate) fn done(told: Result<(), Fail>) -> Result<Shown, Fail>
     }
 }
 
-pub(crate) fn opened(told: Result<Handle, Fail>) -> Result<Shown, Fail>
+pub(crate) fn opened(told: Result<Handle, CallError>) -> Result<Shown, CallError>
     ensures { result ≡ showing shown.Opened told }
 {
     match told {
@@ -29,7 +29,7 @@ pub(crate) fn opened(told: Result<Handle, Fail>) -> Result<Shown, Fail>
     }
 }
 
-pub(crate) fn count(told: Result<u64, Fail>) -> Result<Shown, Fail>
+pub(crate) fn count(told: Result<u64, CallError>) -> Result<Shown, CallError>
     ensures { result ≡ showing shown.Count told }
 {
     match told {
@@ -38,7 +38,7 @@ pub(crate) fn count(told: Result<u64, Fail>) -> Result<Shown, Fail>
     }
 }
 
-pub(crate) fn item(told: Result<ItemId, Fail>) -> Result<Shown, Fail>
+pub(crate) fn item(told: Result<ItemId, CallError>) -> Result<Shown, CallError>
     ensures { result ≡ showing shown.Item told }
 {
     match told {
@@ -47,7 +47,7 @@ pub(crate) fn item(told: Result<ItemId, Fail>) -> Result<Shown, Fail>
     }
 }
 
-pub(crate) fn number(told: Result<Usn, Fail>) -> Result<Shown, Fail>
+pub(crate) fn number(told: Result<Usn, CallError>) -> Result<Shown, CallError>
     ensures { result ≡ showing shown.Number told }
 {
     match told {
@@ -56,7 +56,7 @@ pub(crate) fn number(told: Result<Usn, Fail>) -> Result<Shown, Fail>
     }
 }
 
-pub(crate) fn used(told: Result<u64, Fail>) -> Result<Shown, Fail>
+pub(crate) fn used(told: Result<u64, CallError>) -> Result<Shown, CallError>
     ensures { result ≡ showing shown.Used told }
 {
     match told {
@@ -65,7 +65,7 @@ pub(crate) fn used(told: Result<u64, Fail>) -> Result<Shown, Fail>
     }
 }
 
-pub(crate) fn runs(told: Result<Sequence<Span>, Fail>) -> Result<Shown, Fail>
+pub(crate) fn runs(told: Result<Sequence<Span>, CallError>) -> Result<Shown, CallError>
     ensures { result ≡ showing shown.Ranges told }
 {
     match told {
@@ -74,7 +74,7 @@ pub(crate) fn runs(told: Result<Sequence<Span>, Fail>) -> Result<Shown, Fail>
     }
 }
 
-pub(crate) fn blocks(told: Result<(u32, u32), Fail>) -> Result<Shown, Fail>
+pub(crate) fn blocks(told: Result<(u32, u32), CallError>) -> Result<Shown, CallError>
     ensures { result ≡ showing shows_blocks told }
 {
     match told {
@@ -83,7 +83,7 @@ pub(crate) fn blocks(told: Result<(u32, u32), Fail>) -> Result<Shown, Fail>
     }
 }
 
-pub(crate) fn info(told: Result<Info, Fail>) -> Result<Shown, Fail>
+pub(crate) fn info(told: Result<Info, CallError>) -> Result<Shown, CallError>
     ensures { result ≡ showing shows_info told }
 {
     match told {
@@ -110,7 +110,7 @@ pub(crate) fn info(told: Result<Info, Fail>) -> Result<Shown, Fail>
     }
 }
 
-pub(crate) fn waited(told: Result<Waited, Fail>) -> Result<Shown, Fail>
+pub(crate) fn waited(told: Result<Waited, CallError>) -> Result<Shown, CallError>
     ensures { result ≡ showing shows_waited told }
 {
     match told {
@@ -120,7 +120,7 @@ pub(crate) fn waited(told: Result<Waited, Fail>) -> Result<Shown, Fail>
     }
 }
 
-pub(crate) fn outcome(told: Result<Outcome, Fail>) -> Result<Shown, Fail>
+pub(crate) fn outcome(told: Result<Outcome, CallError>) -> Result<Shown, CallError>
     ensures { result ≡ showing shown_of told }
 {
     match told {

@@ -7,13 +7,13 @@ ghost use Rattle.cf_base.specs.declared.events.Event.TheVariants as event;
 use crate::answering::answered;
 use crate::places::Running;
 use crate::showing::{blocks, info, runs, used};
-use cf_base::{Answer, Class, Memory, Notes, Text};
+use cf_base::{Answer, Class, OutOfMemory, Notes, Text};
 use cf_disk::Disk;
 use std::alloc::Global;
 
 impl<D: Disk> Running<D> {
     /// `info`
-    pub(crate) fn info(&mut self, alloc: Global, path: &Text) -> Result<Answer, Memory>
+    pub(crate) fn info(&mut self, alloc: Global, path: &Text) -> Result<Answer, OutOfMemory>
         ensures { StepsOn D.state (event.Call (call.Info path.now)) self.old result self.new }
     {
         let told = self.filter.info(path.as_str());
@@ -26,7 +26,7 @@ impl<D: Disk> Running<D> {
         alloc: Global,
         path: &Text,
         class: Class,
-    ) -> Result<Answer, Memory>
+    ) -> Result<Answer, OutOfMemory>
         ensures { StepsOn D.state (event.Call (call.Ranges path.now class)) self.old result self.new }
     {
         let told = self.filter.ranges(path.as_str(), class);
@@ -34,7 +34,7 @@ impl<D: Disk> Running<D> {
     }
 
     /// `used`
-    pub(crate) fn used(&mut self, alloc: Global, path: &Text) -> Result<Answer, Memory>
+    pub(crate) fn used(&mut self, alloc: Global, path: &Text) -> Result<Answer, OutOfMemory>
         ensures { StepsOn D.state (event.Call (call.Used path.now)) self.old result self.new }
     {
         let told = self.filter.used(path.as_str());
@@ -42,7 +42,7 @@ impl<D: Disk> Running<D> {
     }
 
     /// `df`
-    pub(crate) fn df(&mut self, alloc: Global) -> Result<Answer, Memory>
+    pub(crate) fn df(&mut self, alloc: Global) -> Result<Answer, OutOfMemory>
         ensures { StepsOn D.state (event.Call call.Df) self.old result self.new }
     {
         let told = self.filter.df();

@@ -15,12 +15,12 @@ fn words(rt: &HostRuntime) -> Result<Vec<String>, Status> {
     let mut args = match env::args(rt) {
         Ok(args) => args,
         Err(e) if e.kind() == io::ErrorKind::InvalidData => return Err(Status::Usage),
-        Err(_) => return Err(Status::Memory),
+        Err(_) => return Err(Status::OutOfMemory),
     };
     let _program = args.next();
     match args.collect(rt.alloc()) {
         Ok(words) => Ok(words),
-        Err(_) => Err(Status::Memory),
+        Err(_) => Err(Status::OutOfMemory),
     }
 }
 
@@ -28,7 +28,7 @@ fn words(rt: &HostRuntime) -> Result<Vec<String>, Status> {
 const DEVICE: u64 = 67_108_864;
 
 /// A device and a remote in memory.
-fn outside(alloc: Global) -> Result<(MemDisk, StoreRemote), cf_base::Memory> {
+fn outside(alloc: Global) -> Result<(MemDisk, StoreRemote), cf_base::OutOfMemory> {
     let disk = MemDisk::new(alloc, DEVICE)?;
     let remote = StoreRemote::new(alloc)?;
     Ok((disk, remote))
@@ -40,7 +40,7 @@ fn main(rt: HostRuntime) -> ExitCode {
         Err(status) => return ExitCode::from(status.number()),
     };
     let Ok((disk, remote)) = outside(rt.alloc()) else {
-        return ExitCode::from(Status::Memory.number());
+        return ExitCode::from(Status::OutOfMemory.number());
     };
     let mut source = StdSource::new(rt.reader());
     let mut sink = StdSink::new(io::writer(&rt));

@@ -5,19 +5,19 @@ use super::listed::{
     is_convert, is_make, is_mark, is_move, is_nothing, is_rebase, is_seen, listed,
 };
 use super::tables::{identity, table, table_with_plain};
-use cf_base::{Identity, Memory};
+use cf_base::{Identity, OutOfMemory};
 use cf_engine_feed::{Known, Turn};
 use std::alloc::Global;
 use std::test::Fail;
 
-fn dead_is_nothing(alloc: Global) -> Result<bool, Memory> {
+fn dead_is_nothing(alloc: Global) -> Result<bool, OutOfMemory> {
     let rows = table(alloc)?;
     let entry = dead(alloc, 9, false)?;
     let turn = turn(alloc, &rows, &UNKNOWN, &entry)?;
     Ok(is_nothing(&turn))
 }
 
-fn without_parent_is_nothing(alloc: Global) -> Result<bool, Memory> {
+fn without_parent_is_nothing(alloc: Global) -> Result<bool, OutOfMemory> {
     let rows = table(alloc)?;
     let entry = file(alloc, 9, 8, b"n", 1)?;
     let known = Known {
@@ -49,7 +49,7 @@ fn makes_file(turn: &Turn) -> bool {
     }
 }
 
-fn file_is_made(alloc: Global) -> Result<bool, Memory> {
+fn file_is_made(alloc: Global) -> Result<bool, OutOfMemory> {
     let rows = table(alloc)?;
     let entry = file(alloc, 9, 1, b"n", 3)?;
     let turn = turn(alloc, &rows, &UNKNOWN, &entry)?;
@@ -74,7 +74,7 @@ fn moves_off(turn: &Turn) -> bool {
     }
 }
 
-fn name_is_freed(alloc: Global) -> Result<bool, Memory> {
+fn name_is_freed(alloc: Global) -> Result<bool, OutOfMemory> {
     let rows = table(alloc)?;
     let entry = file(alloc, 9, 1, b"d", 3)?;
     let turn = turn(alloc, &rows, &UNKNOWN, &entry)?;
@@ -96,7 +96,7 @@ fn adopts(turn: &Turn, known: &Identity) -> bool {
     }
 }
 
-fn local_is_adopted(alloc: Global) -> Result<bool, Memory> {
+fn local_is_adopted(alloc: Global) -> Result<bool, OutOfMemory> {
     let rows = table(alloc)?;
     let entry = directory(alloc, 9, 1, b"l")?;
     let known = identity(alloc, 9, 0, 0)?;
@@ -122,7 +122,7 @@ fn converts(turn: &Turn, known: &Identity) -> bool {
     }
 }
 
-fn plain_is_converted(alloc: Global) -> Result<bool, Memory> {
+fn plain_is_converted(alloc: Global) -> Result<bool, OutOfMemory> {
     let rows = table_with_plain(alloc)?;
     let entry = directory(alloc, 9, 1, b"l")?;
     let known = identity(alloc, 9, 0, 0)?;

@@ -3,7 +3,7 @@
 use super::entries::{at, directory, file, path, seen_at, turn, used};
 use super::listed::{is_copy_off, is_mark, is_move, is_postponed, is_seen, is_take, listed};
 use super::tables::{identity, table, table_with_inner, table_with_kept, table_with_writes};
-use cf_base::{Change, Fail as Refusal, Identity, ItemId, Memory};
+use cf_base::{Change, CallError as Refusal, Identity, ItemId, OutOfMemory};
 use cf_engine_feed::{Turn, copy_off};
 use cf_table::Rows;
 use std::alloc::Global;
@@ -21,7 +21,7 @@ fn moves_over(turn: &Turn) -> bool {
     }
 }
 
-fn file_is_moved(alloc: Global) -> Result<bool, Memory> {
+fn file_is_moved(alloc: Global) -> Result<bool, OutOfMemory> {
     let rows = table(alloc)?;
     let entry = file(alloc, 3, 1, b"l", 1)?;
     let turn = turn(alloc, &rows, &at(3, 1), &entry)?;
@@ -96,7 +96,7 @@ fn a_kept_file_takes_a_newer_version(rt: HostRuntime) -> Result<(), Fail> {
     Ok(())
 }
 
-fn newer_waits(alloc: Global) -> Result<bool, Memory> {
+fn newer_waits(alloc: Global) -> Result<bool, OutOfMemory> {
     let rows = table(alloc)?;
     let entry = file(alloc, 3, 2, b"f", 2)?;
     let turn = turn(alloc, &rows, &used(3, 2), &entry)?;
@@ -143,7 +143,7 @@ fn moves_and_takes(turn: &Turn, version: &Identity) -> bool {
     }
 }
 
-fn newer_moves(alloc: Global) -> Result<bool, Memory> {
+fn newer_moves(alloc: Global) -> Result<bool, OutOfMemory> {
     let rows = table(alloc)?;
     let entry = file(alloc, 3, 1, b"n", 2)?;
     let version = identity(alloc, 3, 3, 2)?;
@@ -169,7 +169,7 @@ fn lifts(turn: &Turn) -> bool {
     }
 }
 
-fn parent_is_lifted(alloc: Global) -> Result<bool, Memory> {
+fn parent_is_lifted(alloc: Global) -> Result<bool, OutOfMemory> {
     let rows = table_with_inner(alloc)?;
     let entry = directory(alloc, 2, 5, b"d")?;
     let turn = turn(alloc, &rows, &at(2, 5), &entry)?;
@@ -199,7 +199,7 @@ fn is_copy(change: &Change) -> bool {
     }
 }
 
-fn copy_is_named(alloc: Global) -> Result<bool, Memory> {
+fn copy_is_named(alloc: Global) -> Result<bool, OutOfMemory> {
     let rows = table(alloc)?;
     match copy_off(alloc, &rows, ItemId(3))? {
         None => Ok(false),
@@ -207,7 +207,7 @@ fn copy_is_named(alloc: Global) -> Result<bool, Memory> {
     }
 }
 
-fn copy_of_none(alloc: Global) -> Result<bool, Memory> {
+fn copy_of_none(alloc: Global) -> Result<bool, OutOfMemory> {
     let rows = table(alloc)?;
     let change = copy_off(alloc, &rows, ItemId(9))?;
     Ok(change.is_none())

@@ -3,7 +3,7 @@
 use super::entries::{at, dead, last_turn, turn, used};
 use super::listed::{is_clear, is_later, is_postponed, is_rebase, is_remove, listed};
 use super::tables::{identity, table, table_with_kept, table_with_writes};
-use cf_base::{Identity, Memory};
+use cf_base::{Identity, OutOfMemory};
 use cf_engine_feed::{Known, Turn};
 use std::alloc::Global;
 use std::test::Fail;
@@ -15,14 +15,14 @@ fn removes(turn: &Turn) -> bool {
     }
 }
 
-fn clean_file_is_removed(alloc: Global) -> Result<bool, Memory> {
+fn clean_file_is_removed(alloc: Global) -> Result<bool, OutOfMemory> {
     let rows = table(alloc)?;
     let entry = dead(alloc, 3, false)?;
     let turn = turn(alloc, &rows, &at(3, 2), &entry)?;
     Ok(removes(&turn))
 }
 
-fn kept_file_is_removed(alloc: Global) -> Result<bool, Memory> {
+fn kept_file_is_removed(alloc: Global) -> Result<bool, OutOfMemory> {
     let rows = table_with_kept(alloc)?;
     let entry = dead(alloc, 3, false)?;
     let turn = turn(alloc, &rows, &at(3, 2), &entry)?;
@@ -41,7 +41,7 @@ fn kept_files_that_are_gone_are_removed(rt: HostRuntime) -> Result<(), Fail> {
     Ok(())
 }
 
-fn used_file_waits(alloc: Global) -> Result<bool, Memory> {
+fn used_file_waits(alloc: Global) -> Result<bool, OutOfMemory> {
     let rows = table(alloc)?;
     let entry = dead(alloc, 3, false)?;
     let turn = turn(alloc, &rows, &used(3, 2), &entry)?;
@@ -61,7 +61,7 @@ fn lets_go(turn: &Turn, id: u64, known: &Identity) -> bool {
     }
 }
 
-fn written_file_stays(alloc: Global) -> Result<bool, Memory> {
+fn written_file_stays(alloc: Global) -> Result<bool, OutOfMemory> {
     let rows = table_with_writes(alloc)?;
     let entry = dead(alloc, 3, false)?;
     let local = identity(alloc, 0, 3, 1)?;
@@ -79,14 +79,14 @@ fn local_writes_stay(rt: HostRuntime) -> Result<(), Fail> {
     Ok(())
 }
 
-fn directory_comes_again(alloc: Global) -> Result<bool, Memory> {
+fn directory_comes_again(alloc: Global) -> Result<bool, OutOfMemory> {
     let rows = table(alloc)?;
     let entry = dead(alloc, 2, true)?;
     let turn = turn(alloc, &rows, &at(2, 1), &entry)?;
     Ok(is_later(&turn))
 }
 
-fn directory_stays_at_last(alloc: Global) -> Result<bool, Memory> {
+fn directory_stays_at_last(alloc: Global) -> Result<bool, OutOfMemory> {
     let rows = table(alloc)?;
     let entry = dead(alloc, 2, true)?;
     let local = identity(alloc, 0, 0, 0)?;

@@ -1,7 +1,7 @@
 //! Entries, and what is known of them.
 
 use cf_base::{
-    Blob, Entry, Fail, Hydration, ItemId, Memory, Name, Policy, Population, Rid, SeenPath, Version,
+    Blob, Entry, CallError, Hydration, ItemId, OutOfMemory, Name, Policy, Population, Rid, SeenPath, Version,
 };
 use cf_engine_feed::{Known, Turn, steps};
 use cf_table::Rows;
@@ -31,7 +31,7 @@ fn entry(
     dir: bool,
     version: u64,
     len: u32,
-) -> Result<Entry, Memory> {
+) -> Result<Entry, OutOfMemory> {
     Ok(Entry {
         rid: Rid(rid),
         parent: Rid(parent),
@@ -51,7 +51,7 @@ pub(super) fn file(
     parent: u64,
     name: &[u8],
     version: u64,
-) -> Result<Entry, Memory> {
+) -> Result<Entry, OutOfMemory> {
     entry(alloc, rid, parent, name, false, version, 9)
 }
 
@@ -60,11 +60,11 @@ pub(super) fn directory(
     rid: u64,
     parent: u64,
     name: &[u8],
-) -> Result<Entry, Memory> {
+) -> Result<Entry, OutOfMemory> {
     entry(alloc, rid, parent, name, true, 0, 0)
 }
 
-pub(super) fn dead(alloc: Global, rid: u64, dir: bool) -> Result<Entry, Memory> {
+pub(super) fn dead(alloc: Global, rid: u64, dir: bool) -> Result<Entry, OutOfMemory> {
     let mut entry = entry(alloc, rid, 1, b"x", dir, 1, 0)?;
     entry.live = false;
     Ok(entry)
@@ -99,7 +99,7 @@ pub(super) fn seen_at<'a>(item: u64, parent: u64, seen: &'a SeenPath) -> Known<'
 }
 
 /// The path seen of an item.
-pub(super) fn path(alloc: Global, item: u64, parent: u64, name: &[u8]) -> Result<SeenPath, Fail> {
+pub(super) fn path(alloc: Global, item: u64, parent: u64, name: &[u8]) -> Result<SeenPath, CallError> {
     let name = Name::read(alloc, name)?;
     Ok(SeenPath {
         item: ItemId(item),
@@ -114,7 +114,7 @@ pub(super) fn turn(
     rows: &Rows,
     known: &Known,
     entry: &Entry,
-) -> Result<Turn, Memory> {
+) -> Result<Turn, OutOfMemory> {
     steps(alloc, rows, &POLICY, known, entry, false)
 }
 
@@ -124,6 +124,6 @@ pub(super) fn last_turn(
     rows: &Rows,
     known: &Known,
     entry: &Entry,
-) -> Result<Turn, Memory> {
+) -> Result<Turn, OutOfMemory> {
     steps(alloc, rows, &POLICY, known, entry, true)
 }

@@ -2,24 +2,24 @@
 
 use super::entries::{dead, file};
 use super::tables::table;
-use cf_base::{Entry, ItemId, Memory};
+use cf_base::{Entry, ItemId, OutOfMemory};
 use cf_engine_feed::order;
 use std::alloc::Global;
 use std::test::Fail;
 
-fn push_live(alloc: Global, feed: &mut Vec<Entry>, rid: u64) -> Result<(), Memory> {
+fn push_live(alloc: Global, feed: &mut Vec<Entry>, rid: u64) -> Result<(), OutOfMemory> {
     let entry = file(alloc, rid, 1, b"n", 1)?;
     feed.push(entry)?;
     Ok(())
 }
 
-fn push_dead(alloc: Global, feed: &mut Vec<Entry>, rid: u64, dir: bool) -> Result<(), Memory> {
+fn push_dead(alloc: Global, feed: &mut Vec<Entry>, rid: u64, dir: bool) -> Result<(), OutOfMemory> {
     let entry = dead(alloc, rid, dir)?;
     feed.push(entry)?;
     Ok(())
 }
 
-fn mixed_feed(alloc: Global) -> Result<Vec<Entry>, Memory> {
+fn mixed_feed(alloc: Global) -> Result<Vec<Entry>, OutOfMemory> {
     let mut feed = Vec::new(alloc);
     push_live(alloc, &mut feed, 9)?;
     push_dead(alloc, &mut feed, 8, false)?;
@@ -34,13 +34,13 @@ fn is_order(
     feed: &[Entry],
     known: &[Option<ItemId>],
     places: &[usize],
-) -> Result<bool, Memory> {
+) -> Result<bool, OutOfMemory> {
     let rows = table(alloc)?;
     let order = order(alloc, &rows, feed, known)?;
     Ok(order.as_slice() == places)
 }
 
-fn dead_come_first(alloc: Global) -> Result<bool, Memory> {
+fn dead_come_first(alloc: Global) -> Result<bool, OutOfMemory> {
     let feed = mixed_feed(alloc)?;
     let known = [None, None, Some(ItemId(2)), None, Some(ItemId(3))];
     is_order(alloc, feed.as_slice(), &known, &[4, 2, 1, 0, 3])
@@ -53,7 +53,7 @@ fn dead_entries_come_first(rt: HostRuntime) -> Result<(), Fail> {
 }
 
 // It names the remote's 3 four times, and its 2 twice.
-fn doubled_feed(alloc: Global) -> Result<Vec<Entry>, Memory> {
+fn doubled_feed(alloc: Global) -> Result<Vec<Entry>, OutOfMemory> {
     let mut feed = Vec::new(alloc);
     push_live(alloc, &mut feed, 3)?;
     push_dead(alloc, &mut feed, 2, true)?;
@@ -64,7 +64,7 @@ fn doubled_feed(alloc: Global) -> Result<Vec<Entry>, Memory> {
     Ok(feed)
 }
 
-fn doubled_come_each(alloc: Global) -> Result<bool, Memory> {
+fn doubled_come_each(alloc: Global) -> Result<bool, OutOfMemory> {
     let feed = doubled_feed(alloc)?;
     let file = Some(ItemId(3));
     let dir = Some(ItemId(2));

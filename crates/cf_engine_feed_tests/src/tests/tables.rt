@@ -1,6 +1,6 @@
 //! The rows that the entries meet.
 
-use cf_base::{Blob, Identity, ItemId, Kind, Memory, Pin, Usn};
+use cf_base::{Blob, Identity, ItemId, Kind, OutOfMemory, Pin, Usn};
 use cf_table::{Place, Row, Rows};
 use std::alloc::Global;
 
@@ -14,7 +14,7 @@ pub(super) fn identity(
     target: u64,
     base: u64,
     version: u64,
-) -> Result<Identity, Memory> {
+) -> Result<Identity, OutOfMemory> {
     let mut bytes = Vec::from_slice(alloc, &target.to_be_bytes())?;
     bytes.extend_from_slice(&base.to_be_bytes())?;
     bytes.extend_from_slice(&version.to_be_bytes())?;
@@ -29,7 +29,7 @@ fn item(
     name: &[u8],
     kind: Kind,
     identity: Identity,
-) -> Result<Row, Memory> {
+) -> Result<Row, OutOfMemory> {
     let place = Place {
         id: ItemId(id),
         parent: ItemId(parent),
@@ -40,7 +40,7 @@ fn item(
     Ok(Row::made(alloc, place, kind, 9, identity))
 }
 
-fn directory(alloc: Global, id: u64, parent: u64, name: &[u8], target: u64) -> Result<Row, Memory> {
+fn directory(alloc: Global, id: u64, parent: u64, name: &[u8], target: u64) -> Result<Row, OutOfMemory> {
     let identity = identity(alloc, target, 0, 0)?;
     let mut row = item(alloc, id, parent, name, Kind::PlaceholderDir, identity)?;
     row.in_sync = true;
@@ -48,7 +48,7 @@ fn directory(alloc: Global, id: u64, parent: u64, name: &[u8], target: u64) -> R
 }
 
 // `/d/f`, of version 1.
-fn file(alloc: Global) -> Result<Row, Memory> {
+fn file(alloc: Global) -> Result<Row, OutOfMemory> {
     let identity = identity(alloc, 3, 3, 1)?;
     let mut row = item(alloc, 3, 2, b"f", Kind::PlaceholderFile, identity)?;
     row.in_sync = true;
@@ -56,7 +56,7 @@ fn file(alloc: Global) -> Result<Row, Memory> {
 }
 
 // No test has a row that cannot be spelled.
-fn put(rows: &mut Rows, row: Row) -> Result<(), Memory> {
+fn put(rows: &mut Rows, row: Row) -> Result<(), OutOfMemory> {
     if row.name.as_slice().len() <= MOST_NAME && row.identity.as_slice().len() <= MOST_IDENTITY {
         rows.put_row(row)?;
     }
@@ -70,13 +70,13 @@ fn put_directory(
     parent: u64,
     name: &[u8],
     target: u64,
-) -> Result<(), Memory> {
+) -> Result<(), OutOfMemory> {
     let row = directory(alloc, id, parent, name, target)?;
     put(rows, row)
 }
 
 /// `/d` is the remote's 2, `/d/f` its 3, and `/l` is none of it. Here they are 2, 3 and 4.
-pub(super) fn table(alloc: Global) -> Result<Rows, Memory> {
+pub(super) fn table(alloc: Global) -> Result<Rows, OutOfMemory> {
     let mut rows = Rows::new(alloc)?;
     let file = file(alloc)?;
     put_directory(alloc, &mut rows, 2, 1, b"d", 2)?;
@@ -87,7 +87,7 @@ pub(super) fn table(alloc: Global) -> Result<Rows, Memory> {
 }
 
 /// Where `/d/f` has local writes.
-pub(super) fn table_with_writes(alloc: Global) -> Result<Rows, Memory> {
+pub(super) fn table_with_writes(alloc: Global) -> Result<Rows, OutOfMemory> {
     let mut rows = table(alloc)?;
     let mut row = file(alloc)?;
     row.dirty = true;
@@ -96,7 +96,7 @@ pub(super) fn table_with_writes(alloc: Global) -> Result<Rows, Memory> {
 }
 
 /// Where `/d/f` is kept full.
-pub(super) fn table_with_kept(alloc: Global) -> Result<Rows, Memory> {
+pub(super) fn table_with_kept(alloc: Global) -> Result<Rows, OutOfMemory> {
     let mut rows = table(alloc)?;
     let mut row = file(alloc)?;
     row.keep = true;
@@ -105,7 +105,7 @@ pub(super) fn table_with_kept(alloc: Global) -> Result<Rows, Memory> {
 }
 
 /// Where `/l` is no placeholder.
-pub(super) fn table_with_plain(alloc: Global) -> Result<Rows, Memory> {
+pub(super) fn table_with_plain(alloc: Global) -> Result<Rows, OutOfMemory> {
     let mut rows = table(alloc)?;
     let identity = Identity::new(alloc, b"")?;
     let row = item(alloc, 4, 1, b"l", Kind::Dir, identity)?;
@@ -114,7 +114,7 @@ pub(super) fn table_with_plain(alloc: Global) -> Result<Rows, Memory> {
 }
 
 /// Where `/d/l` is the remote's 5, and 5 here.
-pub(super) fn table_with_inner(alloc: Global) -> Result<Rows, Memory> {
+pub(super) fn table_with_inner(alloc: Global) -> Result<Rows, OutOfMemory> {
     let mut rows = table(alloc)?;
     put_directory(alloc, &mut rows, 5, 2, b"l", 5)?;
     rows.set_next(ItemId(6));

@@ -1,7 +1,7 @@
 //! Operations of a provider in few words.
 
 use cf_base::{
-    Blob, Identity, ItemId, Key, Memory, Name, NewItem, Operation, Rid, SeenPath, Sequence, Span,
+    Blob, Identity, ItemId, Key, OutOfMemory, Name, NewItem, Operation, Rid, SeenPath, Sequence, Span,
 };
 use std::alloc::Global;
 
@@ -23,13 +23,13 @@ pub(super) enum Given {
     AckDehydrate(bool),
 }
 
-fn transfer(alloc: Global, key: Key, at: u64, len: u16) -> Result<Operation, Memory> {
+fn transfer(alloc: Global, key: Key, at: u64, len: u16) -> Result<Operation, OutOfMemory> {
     let bytes = vec![in alloc; b'a'; len as usize]?;
     let bytes = Blob::from_vec(bytes);
     Ok(Operation::Transfer { key, at, bytes })
 }
 
-fn entry(alloc: Global) -> Result<NewItem, Memory> {
+fn entry(alloc: Global) -> Result<NewItem, OutOfMemory> {
     let name = Blob::from_slice(alloc, b"f")?;
     let identity = Identity::new(alloc, &[0xbb])?;
     Ok(NewItem {
@@ -41,14 +41,14 @@ fn entry(alloc: Global) -> Result<NewItem, Memory> {
     })
 }
 
-fn entries(alloc: Global, key: Key, good: bool) -> Result<Operation, Memory> {
+fn entries(alloc: Global, key: Key, good: bool) -> Result<Operation, OutOfMemory> {
     let mut list = Sequence::new(alloc);
     list.push(entry(alloc)?)?;
     Ok(Operation::Entries { key, list, good })
 }
 
 /// The operation under this key.
-pub(super) fn operation(alloc: Global, given: Given, key: Key) -> Result<Operation, Memory> {
+pub(super) fn operation(alloc: Global, given: Given, key: Key) -> Result<Operation, OutOfMemory> {
     let op = match given {
         Given::Transfer(at, len) => return transfer(alloc, key, at, len),
         Given::Entries(good) => return entries(alloc, key, good),
@@ -73,9 +73,9 @@ pub(super) fn operation(alloc: Global, given: Given, key: Key) -> Result<Operati
     Ok(op)
 }
 
-fn path(alloc: Global) -> Result<SeenPath, Memory> {
+fn path(alloc: Global) -> Result<SeenPath, OutOfMemory> {
     let Ok(name) = Name::read(alloc, b"f") else {
-        return Err(Memory);
+        return Err(OutOfMemory);
     };
     Ok(SeenPath {
         item: ItemId(3),
@@ -85,7 +85,7 @@ fn path(alloc: Global) -> Result<SeenPath, Memory> {
 }
 
 /// The paths that are seen with the operation.
-pub(super) fn paths_seen(alloc: Global, given: Given) -> Result<Sequence<SeenPath>, Memory> {
+pub(super) fn paths_seen(alloc: Global, given: Given) -> Result<Sequence<SeenPath>, OutOfMemory> {
     let mut seen = Sequence::new(alloc);
     match given {
         Given::EntriesSeen => seen.push(path(alloc)?)?,

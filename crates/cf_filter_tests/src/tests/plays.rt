@@ -10,7 +10,7 @@ mod shows;
 
 use crate::tests::operations::Given;
 use crate::tests::providers::Plans;
-use cf_base::{Answer, Code, Fail, Handle, Key, Notes, Policy, Sequence, Shown};
+use cf_base::{Answer, Code, CallError, Handle, Key, Notes, Policy, Sequence, Shown};
 use cf_disk::Disk;
 use cf_filter::Filter;
 use cf_journal::Journal;
@@ -38,9 +38,9 @@ pub(super) struct Play<D: Disk> {
     out: Vec<u8>,
 }
 
-fn format<D: Disk + Drop>(alloc: Global, disk: D, policy: Policy) -> Result<Filter<D>, Fail> {
+fn format<D: Disk + Drop>(alloc: Global, disk: D, policy: Policy) -> Result<Filter<D>, CallError> {
     if !Journal::is_fit_size(disk.size()) {
-        return Err(Fail::No(Code::NotAVolume));
+        return Err(CallError::No(Code::NotAVolume));
     }
     match Filter::format(alloc, disk, policy) {
         Ok(filter) => Ok(filter),
@@ -53,9 +53,9 @@ pub(super) fn open<D: Disk + Drop>(
     alloc: Global,
     disk: D,
     policy: Policy,
-) -> Result<Filter<D>, Fail> {
+) -> Result<Filter<D>, CallError> {
     if !Journal::is_fit_size(disk.size()) {
-        return Err(Fail::No(Code::NotAVolume));
+        return Err(CallError::No(Code::NotAVolume));
     }
     match Filter::open(alloc, disk, policy) {
         Ok(filter) => Ok(filter),
@@ -64,7 +64,7 @@ pub(super) fn open<D: Disk + Drop>(
 }
 
 impl<D: Disk + Drop> Play<D> {
-    pub(super) fn new(alloc: Global, disk: D, policy: Policy) -> Result<Play<D>, Fail> {
+    pub(super) fn new(alloc: Global, disk: D, policy: Policy) -> Result<Play<D>, CallError> {
         let filter = format(alloc, disk, policy)?;
         let provider = Plans {
             alloc,
@@ -90,7 +90,7 @@ impl<D: Disk + Drop> Play<D> {
     }
 
     /// One more operation that the provider does in its next callback, under this key or the callback's own.
-    pub(super) fn plan(&mut self, key: Option<Key>, given: Given) -> Result<(), Fail> {
+    pub(super) fn plan(&mut self, key: Option<Key>, given: Given) -> Result<(), CallError> {
         if self.provider.calls > 0 {
             self.provider.plan = Vec::new(self.alloc);
             self.provider.calls = 0;
@@ -99,7 +99,7 @@ impl<D: Disk + Drop> Play<D> {
         Ok(())
     }
 
-    fn tell(&mut self, notes: Notes, shown: Shown) -> Result<(), Fail> {
+    fn tell(&mut self, notes: Notes, shown: Shown) -> Result<(), CallError> {
         let answer = Answer {
             notes,
             shown,
@@ -110,7 +110,7 @@ impl<D: Disk + Drop> Play<D> {
         Ok(())
     }
 
-    fn quiet(&mut self, shown: Shown) -> Result<(), Fail> {
+    fn quiet(&mut self, shown: Shown) -> Result<(), CallError> {
         let notes = Sequence::new(self.alloc);
         self.tell(notes, shown)
     }

@@ -4,7 +4,7 @@ ghost use Rattle.std.specs.Prelude.{List};
 ghost use Rattle.cf_model.specs.Ports.{Act};
 
 use crate::tests::operations::{Given, operation, paths_seen};
-use cf_base::{Fail, Key, Memory, Notice, Operation, OperationAnswer, SeenPath};
+use cf_base::{CallError, Key, OutOfMemory, Notice, Operation, OperationAnswer, SeenPath};
 use cf_provider::{Callback, Outcome, Port, Provider};
 use std::alloc::Global;
 
@@ -18,22 +18,22 @@ pub(super) struct Plans {
     pub(super) last: Option<Callback>,
 }
 
-fn meant(alloc: Global, step: (Option<Key>, Given), own: Key) -> Result<Operation, Memory> {
+fn meant(alloc: Global, step: (Option<Key>, Given), own: Key) -> Result<Operation, OutOfMemory> {
     operation(alloc, step.1, step.0.unwrap_or(own))
 }
 
-fn run<P: Port>(op: &Operation, seen: &[SeenPath], port: &mut P) -> Result<OperationAnswer, Memory>
+fn run<P: Port>(op: &Operation, seen: &[SeenPath], port: &mut P) -> Result<OperationAnswer, OutOfMemory>
     ensures { (acts : List Act) × P.goes port.old acts port.new }
 {
     match port.execute_seeing(op, seen) {
         Ok(Outcome::Done) => Ok(OperationAnswer::Done),
         Ok(Outcome::Data(bytes)) => Ok(OperationAnswer::Data(bytes)),
-        Err(Fail::No(code)) => Ok(OperationAnswer::Refused(code)),
-        Err(Fail::Memory) => Err(Memory),
+        Err(CallError::No(code)) => Ok(OperationAnswer::Refused(code)),
+        Err(CallError::OutOfMemory) => Err(OutOfMemory),
     }
 }
 
-fn tell<P: Port>(answer: OperationAnswer, port: &mut P) -> Result<(), Memory>
+fn tell<P: Port>(answer: OperationAnswer, port: &mut P) -> Result<(), OutOfMemory>
     ensures { (acts : List Act) × P.goes port.old acts port.new }
 {
     port.note(Notice::Operation { answer })
@@ -44,7 +44,7 @@ fn act<P: Port>(
     step: (Option<Key>, Given),
     own: Key,
     port: &mut P,
-) -> Result<(), Memory>
+) -> Result<(), OutOfMemory>
     ensures { (acts : List Act) × P.goes port.old acts port.new }
 {
     let op = meant(alloc, step, own)?;
@@ -58,7 +58,7 @@ fn act_all<P: Port>(
     plan: &[(Option<Key>, Given)],
     own: Key,
     port: &mut P,
-) -> Result<(), Memory>
+) -> Result<(), OutOfMemory>
     ensures { (acts : List Act) × P.goes port.old acts port.new }
 {
     for step in plan {
@@ -67,7 +67,7 @@ fn act_all<P: Port>(
     Ok(())
 }
 
-fn copied(call: &Callback) -> Result<Callback, Memory> {
+fn copied(call: &Callback) -> Result<Callback, OutOfMemory> {
     let identity = call.identity.copy()?;
     Ok(Callback {
         ask: call.ask,
@@ -79,7 +79,7 @@ fn copied(call: &Callback) -> Result<Callback, Memory> {
 impl Provider for Plans {
     ghost answers = { λ p sight call acts q. Unit {0} };
 
-    fn on_callback<P: Port>(&mut self, call: &Callback, port: &mut P) -> Result<(), Memory> {
+    fn on_callback<P: Port>(&mut self, call: &Callback, port: &mut P) -> Result<(), OutOfMemory> {
         let first = self.calls == 0;
         self.calls = self.calls.saturating_add(1);
         let kept = copied(call)?;

@@ -3,7 +3,7 @@
 use crate::tests::facts::{Fact, is_so};
 use crate::tests::operations::Given;
 use crate::tests::plays::{Play, SIZE, key};
-use cf_base::{Class, Fail, Hydration, Pin, Policy, Population, Reach, Usn};
+use cf_base::{Class, CallError, Hydration, Pin, Policy, Population, Reach, Usn};
 use cf_disk::{Disk, MemDisk};
 use std::alloc::Global;
 
@@ -97,7 +97,7 @@ pub(super) const LISTING: Policy = Policy {
     ..PARTIAL
 };
 
-fn place<D: Disk + Drop>(play: &mut Play<D>, step: Step) -> Result<bool, Fail> {
+fn place<D: Disk + Drop>(play: &mut Play<D>, step: Step) -> Result<bool, CallError> {
     match step {
         Step::Create(path) => play.create(path)?,
         Step::Mkdir(path) => play.mkdir(path)?,
@@ -114,7 +114,7 @@ fn place<D: Disk + Drop>(play: &mut Play<D>, step: Step) -> Result<bool, Fail> {
     Ok(true)
 }
 
-fn arrange<D: Disk + Drop>(play: &mut Play<D>, step: Step) -> Result<bool, Fail> {
+fn arrange<D: Disk + Drop>(play: &mut Play<D>, step: Step) -> Result<bool, CallError> {
     match step {
         Step::Delete(path) => play.delete(path)?,
         Step::Rename(from, to) => play.rename(from, to)?,
@@ -129,7 +129,7 @@ fn arrange<D: Disk + Drop>(play: &mut Play<D>, step: Step) -> Result<bool, Fail>
     Ok(true)
 }
 
-fn show<D: Disk + Drop>(play: &mut Play<D>, step: Step) -> Result<bool, Fail> {
+fn show<D: Disk + Drop>(play: &mut Play<D>, step: Step) -> Result<bool, CallError> {
     match step {
         Step::Info(path) => play.info(path)?,
         Step::Ranges(path, class) => play.ranges(path, class)?,
@@ -140,7 +140,7 @@ fn show<D: Disk + Drop>(play: &mut Play<D>, step: Step) -> Result<bool, Fail> {
     Ok(true)
 }
 
-fn hand<D: Disk + Drop>(play: &mut Play<D>, step: Step) -> Result<bool, Fail> {
+fn hand<D: Disk + Drop>(play: &mut Play<D>, step: Step) -> Result<bool, CallError> {
     match step {
         Step::Plan(given) => play.plan(None, given)?,
         Step::PlanFor(number, given) => play.plan(Some(key(number)), given)?,
@@ -154,7 +154,7 @@ fn hand<D: Disk + Drop>(play: &mut Play<D>, step: Step) -> Result<bool, Fail> {
     Ok(true)
 }
 
-fn ask<D: Disk + Drop>(play: &mut Play<D>, step: Step) -> Result<bool, Fail> {
+fn ask<D: Disk + Drop>(play: &mut Play<D>, step: Step) -> Result<bool, CallError> {
     match step {
         Step::Read(number, start, len) => play.read(number, start, len)?,
         Step::Get(path, start, len) => play.get(path, start, len)?,
@@ -169,7 +169,7 @@ fn ask<D: Disk + Drop>(play: &mut Play<D>, step: Step) -> Result<bool, Fail> {
 }
 
 // Whether the step goes as it should.
-fn goes<D: Disk + Drop>(play: &mut Play<D>, step: Step) -> Result<bool, Fail> {
+fn goes<D: Disk + Drop>(play: &mut Play<D>, step: Step) -> Result<bool, CallError> {
     match step {
         Step::Is(fact) => return Ok(is_so(play, fact)),
         Step::Close(number) => play.close(number)?,
@@ -182,7 +182,7 @@ fn goes<D: Disk + Drop>(play: &mut Play<D>, step: Step) -> Result<bool, Fail> {
     Ok(true)
 }
 
-fn go<D: Disk + Drop>(play: &mut Play<D>, steps: &[Step]) -> Result<bool, Fail> {
+fn go<D: Disk + Drop>(play: &mut Play<D>, steps: &[Step]) -> Result<bool, CallError> {
     for step in steps {
         if !goes(play, *step)? {
             return Ok(false);
@@ -198,7 +198,7 @@ pub(super) fn played<D: Disk + Drop>(
     policy: Policy,
     steps: &[Step],
     lines: &[u8],
-) -> Result<(Play<D>, bool), Fail> {
+) -> Result<(Play<D>, bool), CallError> {
     let mut play = Play::new(alloc, disk, policy)?;
     let good = go(&mut play, steps)?;
     let told = play.tells(lines);
@@ -211,7 +211,7 @@ pub(super) fn is_told(
     policy: Policy,
     steps: &[Step],
     lines: &[u8],
-) -> Result<bool, Fail> {
+) -> Result<bool, CallError> {
     let disk = MemDisk::new(alloc, SIZE)?;
     let (_, good) = played(alloc, disk, policy, steps, lines)?;
     Ok(good)

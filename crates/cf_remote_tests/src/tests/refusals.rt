@@ -2,7 +2,7 @@
 
 use super::remotes::{Bare, make_dir, move_to, put, remove, stat, stocked};
 use super::told::{refuses, strays, tells};
-use cf_base::{Code, Memory};
+use cf_base::{Code, OutOfMemory};
 use cf_remote::{FlakyRemote, StoreRemote};
 use std::alloc::Global;
 use std::test::Fail;
@@ -15,7 +15,7 @@ fn misses(
     remote: &mut StoreRemote,
     path: &str,
     cause: Code,
-) -> Result<bool, Memory> {
+) -> Result<bool, OutOfMemory> {
     let told = stat(alloc, remote, 4, path)?;
     Ok(refuses(&told, cause, 4))
 }
@@ -26,12 +26,12 @@ fn takes_no_file(
     remote: &mut StoreRemote,
     path: &str,
     cause: Code,
-) -> Result<bool, Memory> {
+) -> Result<bool, OutOfMemory> {
     let told = put(alloc, remote, 4, path, b"a")?;
     Ok(refuses(&told, cause, 4))
 }
 
-fn makes_no_root(alloc: Global, remote: &mut StoreRemote) -> Result<bool, Memory> {
+fn makes_no_root(alloc: Global, remote: &mut StoreRemote) -> Result<bool, OutOfMemory> {
     let told = make_dir(alloc, remote, 4, "/")?;
     Ok(refuses(&told, Code::BadPath, 4))
 }
@@ -49,17 +49,17 @@ fn a_path_leads_nowhere(rt: HostRuntime) -> Result<(), Fail> {
     Ok(())
 }
 
-fn makes_none_twice(alloc: Global, remote: &mut StoreRemote) -> Result<bool, Memory> {
+fn makes_none_twice(alloc: Global, remote: &mut StoreRemote) -> Result<bool, OutOfMemory> {
     let told = make_dir(alloc, remote, 4, "/d")?;
     Ok(refuses(&told, Code::Exists, 5))
 }
 
-fn removes_no_full_one(alloc: Global, remote: &mut StoreRemote) -> Result<bool, Memory> {
+fn removes_no_full_one(alloc: Global, remote: &mut StoreRemote) -> Result<bool, OutOfMemory> {
     let told = remove(alloc, remote, 5, "/d")?;
     Ok(refuses(&told, Code::NotEmpty, 6))
 }
 
-fn moves_none_into_itself(alloc: Global, remote: &mut StoreRemote) -> Result<bool, Memory> {
+fn moves_none_into_itself(alloc: Global, remote: &mut StoreRemote) -> Result<bool, OutOfMemory> {
     let told = move_to(alloc, remote, 6, "/d", "/d/e")?;
     Ok(refuses(&told, Code::IntoItself, 7))
 }
@@ -75,22 +75,22 @@ fn the_remote_refuses(rt: HostRuntime) -> Result<(), Fail> {
 }
 
 // The first ask of all fails, and the third.
-fn flaky(alloc: Global) -> Result<FlakyRemote, Memory> {
+fn flaky(alloc: Global) -> Result<FlakyRemote, OutOfMemory> {
     let remote = StoreRemote::new(alloc)?;
     FlakyRemote::new(alloc, remote, &[1, 3])
 }
 
-fn fails_to_list(alloc: Global, remote: &mut FlakyRemote) -> Result<bool, Memory> {
+fn fails_to_list(alloc: Global, remote: &mut FlakyRemote) -> Result<bool, OutOfMemory> {
     let told = put(alloc, remote, 1, "/a", b"a")?;
     Ok(refuses(&told, Code::RemoteFault, 2))
 }
 
-fn fails_to_put(alloc: Global, remote: &mut FlakyRemote) -> Result<bool, Memory> {
+fn fails_to_put(alloc: Global, remote: &mut FlakyRemote) -> Result<bool, OutOfMemory> {
     let told = put(alloc, remote, 2, "/a", b"a")?;
     Ok(refuses(&told, Code::RemoteFault, 3))
 }
 
-fn puts_at_last(alloc: Global, remote: &mut FlakyRemote) -> Result<bool, Memory> {
+fn puts_at_last(alloc: Global, remote: &mut FlakyRemote) -> Result<bool, OutOfMemory> {
     let told = put(alloc, remote, 3, "/a", b"a")?;
     Ok(tells(&told, 2, 1, 4))
 }
@@ -105,7 +105,7 @@ fn a_fault_uses_a_token_up(rt: HostRuntime) -> Result<(), Fail> {
     Ok(())
 }
 
-fn keeps_a_stray(alloc: Global) -> Result<bool, Memory> {
+fn keeps_a_stray(alloc: Global) -> Result<bool, OutOfMemory> {
     let mut remote = Bare {};
     let told = stat(alloc, &mut remote, 1, "/a")?;
     Ok(refuses(&told, Code::Stale, 2) && strays(&told))

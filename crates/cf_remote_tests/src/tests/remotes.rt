@@ -3,7 +3,7 @@
 ghost use Rattle.std.specs.Prelude.{◌<◌, ◌^◌, IfOk, length};
 ghost use Rattle.cf_remote.specs.LookUps.{EventHasRoom};
 
-use cf_base::{Answer, Blob, Key, Memory, PeerEvent, Reply, Request, Text};
+use cf_base::{Answer, Blob, Key, OutOfMemory, PeerEvent, Reply, Request, Text};
 use cf_remote::{AskError, Remote, StoreRemote, peer};
 use std::alloc::Global;
 
@@ -25,11 +25,11 @@ impl Remote for Bare {
     }
 }
 
-pub(crate) fn text(alloc: Global, path: &str) -> Result<Text, Memory> {
+pub(crate) fn text(alloc: Global, path: &str) -> Result<Text, OutOfMemory> {
     Text::from_str(alloc, path)
 }
 
-pub(crate) fn blob(alloc: Global, bytes: &[u8]) -> Result<Blob, Memory>
+pub(crate) fn blob(alloc: Global, bytes: &[u8]) -> Result<Blob, OutOfMemory>
     requires { length bytes.now < 2 ^ 32 }
     ensures { IfOk result (λ b. length b < 2 ^ 32) }
 {
@@ -42,7 +42,7 @@ pub(crate) fn does<R: Remote>(
     remote: &mut R,
     next: u32,
     e: PeerEvent,
-) -> Result<(Answer, u32), Memory>
+) -> Result<(Answer, u32), OutOfMemory>
     requires first { 0 < next }
     requires next { next < 1000 }
     requires room { EventHasRoom e }
@@ -58,7 +58,7 @@ pub(crate) fn put<R: Remote>(
     next: u32,
     path: &str,
     bytes: &[u8],
-) -> Result<(Answer, u32), Memory>
+) -> Result<(Answer, u32), OutOfMemory>
     requires first { 0 < next }
     requires next { next < 1000 }
     requires room { length bytes.now < 2 ^ 32 }
@@ -73,7 +73,7 @@ pub(crate) fn make_dir<R: Remote>(
     remote: &mut R,
     next: u32,
     path: &str,
-) -> Result<(Answer, u32), Memory>
+) -> Result<(Answer, u32), OutOfMemory>
     requires first { 0 < next }
     requires next { next < 1000 }
 {
@@ -87,7 +87,7 @@ pub(crate) fn move_to<R: Remote>(
     next: u32,
     from: &str,
     to: &str,
-) -> Result<(Answer, u32), Memory>
+) -> Result<(Answer, u32), OutOfMemory>
     requires first { 0 < next }
     requires next { next < 1000 }
 {
@@ -101,7 +101,7 @@ pub(crate) fn remove<R: Remote>(
     remote: &mut R,
     next: u32,
     path: &str,
-) -> Result<(Answer, u32), Memory>
+) -> Result<(Answer, u32), OutOfMemory>
     requires first { 0 < next }
     requires next { next < 1000 }
 {
@@ -114,7 +114,7 @@ pub(crate) fn stat<R: Remote>(
     remote: &mut R,
     next: u32,
     path: &str,
-) -> Result<(Answer, u32), Memory>
+) -> Result<(Answer, u32), OutOfMemory>
     requires first { 0 < next }
     requires next { next < 1000 }
 {
@@ -127,30 +127,30 @@ pub(crate) fn keep<R: Remote>(
     remote: &mut R,
     next: u32,
     count: u32,
-) -> Result<(Answer, u32), Memory>
+) -> Result<(Answer, u32), OutOfMemory>
     requires first { 0 < next }
     requires next { next < 1000 }
 {
     does(alloc, remote, next, PeerEvent::Keep { count })
 }
 
-fn put_file(alloc: Global, remote: &mut StoreRemote) -> Result<(), Memory> {
+fn put_file(alloc: Global, remote: &mut StoreRemote) -> Result<(), OutOfMemory> {
     put(alloc, remote, 1, "/a", b"hello")?;
     Ok(())
 }
 
-fn put_directory(alloc: Global, remote: &mut StoreRemote) -> Result<(), Memory> {
+fn put_directory(alloc: Global, remote: &mut StoreRemote) -> Result<(), OutOfMemory> {
     make_dir(alloc, remote, 2, "/d")?;
     Ok(())
 }
 
-fn put_file_below(alloc: Global, remote: &mut StoreRemote) -> Result<(), Memory> {
+fn put_file_below(alloc: Global, remote: &mut StoreRemote) -> Result<(), OutOfMemory> {
     put(alloc, remote, 3, "/d/f", b"a")?;
     Ok(())
 }
 
 // A file `/a`, and a directory `/d` with a file `f`.
-pub(crate) fn stocked(alloc: Global) -> Result<StoreRemote, Memory> {
+pub(crate) fn stocked(alloc: Global) -> Result<StoreRemote, OutOfMemory> {
     let mut remote = StoreRemote::new(alloc)?;
     put_file(alloc, &mut remote)?;
     put_directory(alloc, &mut remote)?;

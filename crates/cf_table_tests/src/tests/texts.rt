@@ -13,7 +13,7 @@ const ROOT_ALONE: [u8; 78] = [
     0, 0, 0, 0, 0, 0, 0, 0, 0, 0, 0, 0, 0, 0,
 ];
 
-fn why(alloc: Global, bytes: &[u8]) -> Option<RowFail> {
+fn why(alloc: Global, bytes: &[u8]) -> Option<RowError> {
     Rows::read(alloc, bytes, ItemId(2)).err()
 }
 
@@ -45,7 +45,7 @@ fn a_text_that_is_cut_names_its_field(rt: HostRuntime) -> Result<(), Fail> {
                 field = start;
             }
         }
-        assert!(rt; why(rt.alloc(), &ROOT_ALONE[..cut]) == Some(RowFail::Short(field)));
+        assert!(rt; why(rt.alloc(), &ROOT_ALONE[..cut]) == Some(RowError::Short(field)));
     }
     Ok(())
 }
@@ -58,12 +58,12 @@ fn a_wrong_field_is_named(rt: HostRuntime) -> Result<(), Fail> {
         if let Some(b) = bytes.get_mut(place) {
             *b = byte;
         }
-        assert!(rt; why(rt.alloc(), &bytes) == Some(RowFail::BadField(field)));
+        assert!(rt; why(rt.alloc(), &bytes) == Some(RowError::BadField(field)));
     }
     let mut twice = Vec::from_slice(rt.alloc(), &[0, 0, 0, 2])?;
     twice.extend_from_slice(&ROOT_ALONE[4..])?;
     twice.extend_from_slice(&ROOT_ALONE[4..])?;
-    assert!(rt; why(rt.alloc(), &twice) == Some(RowFail::BadField(78)));
-    assert!(rt; why(rt.alloc(), b"\0\0\0\0 ") == Some(RowFail::BadField(4)));
+    assert!(rt; why(rt.alloc(), &twice) == Some(RowError::BadField(78)));
+    assert!(rt; why(rt.alloc(), b"\0\0\0\0 ") == Some(RowError::BadField(4)));
     Ok(())
 }

@@ -3,8 +3,8 @@
 use crate::tests::edits::Edit;
 use crate::tests::openings::EIGHT;
 use crate::tests::steps::{commit, edit, format};
-use cf_base::{Choice, Fail as Refusal, Kind, Memory};
-use cf_disk::{Disk, DiskFault, MemDisk};
+use cf_base::{Choice, CallError as Refusal, Kind, OutOfMemory};
+use cf_disk::{Disk, DiskError, MemDisk};
 use cf_volume::Volume;
 use std::alloc::Global;
 use std::test::Fail;
@@ -23,16 +23,16 @@ impl<D: Disk> Disk for Counted<D> {
         self.disk.size()
     }
 
-    fn read(&mut self, at: u64, out: &mut [u8]) -> Result<(), DiskFault> {
+    fn read(&mut self, at: u64, out: &mut [u8]) -> Result<(), DiskError> {
         self.disk.read(at, out)
     }
 
-    fn write(&mut self, at: u64, bytes: &[u8]) -> Result<(), DiskFault> {
+    fn write(&mut self, at: u64, bytes: &[u8]) -> Result<(), DiskError> {
         self.written = self.written.saturating_add(bytes.len() as u64);
         self.disk.write(at, bytes)
     }
 
-    fn sync(&mut self) -> Result<(), DiskFault> {
+    fn sync(&mut self) -> Result<(), DiskError> {
         self.disk.sync()
     }
 
@@ -79,7 +79,7 @@ fn bytes_written<D: Disk + Drop>(
     Ok(volume.into_disk().written)
 }
 
-fn new_counted(alloc: Global) -> Result<Counted<MemDisk>, Memory> {
+fn new_counted(alloc: Global) -> Result<Counted<MemDisk>, OutOfMemory> {
     let disk = MemDisk::new(alloc, EIGHT)?;
     Ok(Counted { disk, written: 0 })
 }

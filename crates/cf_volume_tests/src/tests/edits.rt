@@ -8,12 +8,12 @@ ghost use Rattle.cf_table.specs.Changing.{Fits, IsNewItem, stays};
 ghost use Rattle.cf_table.specs.Tables.{row_of};
 ghost use Rattle.cf_table.specs.declared.rows.Row.{Row};
 
-use cf_base::{Blob, Change, Fail, Identity, ItemId, Kind, Memory, Name, Pin, Usn};
+use cf_base::{Blob, Change, CallError, Identity, ItemId, Kind, OutOfMemory, Name, Pin, Usn};
 use cf_table::{Row, Rows};
 use std::alloc::Global;
 
 /// A change, of the item that is named first. A new item is made in the root.
-#[derive(Clone, Copy, Debug)]
+#[derive(Clone, Copy)]
 pub(super) enum Edit {
     /// The kind, the name, and the size of a placeholder.
     Make(Kind, u8, u16),
@@ -47,16 +47,16 @@ const NO_USN: Usn = Usn { epoch: 0, place: 0 };
 // Sizes and places of a change, so that no file is too long after it.
 const MOST: u64 = 65_535;
 
-fn repeated(alloc: Global, byte: u8, len: u16) -> Result<Blob, Memory> {
+fn repeated(alloc: Global, byte: u8, len: u16) -> Result<Blob, OutOfMemory> {
     let bytes = vec![in alloc; byte; len as usize]?;
     Ok(Blob::from_vec(bytes))
 }
 
-fn target(alloc: Global) -> Result<Identity, Memory> {
+fn target(alloc: Global) -> Result<Identity, OutOfMemory> {
     Identity::new(alloc, &[0; 8])
 }
 
-fn made(alloc: Global, item: ItemId, kind: Kind, letter: u8, size: u16) -> Result<Change, Fail> {
+fn made(alloc: Global, item: ItemId, kind: Kind, letter: u8, size: u16) -> Result<Change, CallError> {
     let identity = match kind {
         Kind::File | Kind::Dir => Identity::new(alloc, &[])?,
         _ => target(alloc)?,
@@ -71,7 +71,7 @@ fn made(alloc: Global, item: ItemId, kind: Kind, letter: u8, size: u16) -> Resul
     })
 }
 
-fn copied(alloc: Global, item: ItemId, from: ItemId, letter: u8) -> Result<Change, Fail> {
+fn copied(alloc: Global, item: ItemId, from: ItemId, letter: u8) -> Result<Change, CallError> {
     let parent = ROOT;
     let name = Name::read(alloc, &[letter])?;
     Ok(Change::Copy {
@@ -82,12 +82,12 @@ fn copied(alloc: Global, item: ItemId, from: ItemId, letter: u8) -> Result<Chang
     })
 }
 
-fn moved(alloc: Global, item: ItemId, parent: ItemId, letter: u8) -> Result<Change, Fail> {
+fn moved(alloc: Global, item: ItemId, parent: ItemId, letter: u8) -> Result<Change, CallError> {
     let name = Name::read(alloc, &[letter])?;
     Ok(Change::Move { item, parent, name })
 }
 
-fn rebased(alloc: Global, item: ItemId) -> Result<Change, Fail> {
+fn rebased(alloc: Global, item: ItemId) -> Result<Change, CallError> {
     Ok(Change::Rebase {
         item,
         identity: target(alloc)?,
@@ -97,7 +97,7 @@ fn rebased(alloc: Global, item: ItemId) -> Result<Change, Fail> {
 }
 
 // A change of the bytes of a file.
-fn of_bytes(alloc: Global, edit: Edit) -> Result<Option<Change>, Fail> {
+fn of_bytes(alloc: Global, edit: Edit) -> Result<Option<Change>, CallError> {
     let change = match edit {
         Edit::Write(item, at, len, byte) => Change::Write {
             item: ItemId(item),
@@ -134,7 +134,7 @@ fn of_bytes(alloc: Global, edit: Edit) -> Result<Option<Change>, Fail> {
 }
 
 // A change of what is said of an item.
-fn of_item(alloc: Global, edit: Edit) -> Result<Option<Change>, Fail> {
+fn of_item(alloc: Global, edit: Edit) -> Result<Option<Change>, CallError> {
     let change = match edit {
         Edit::SetPin(item, pin) => Change::SetPin {
             item: ItemId(item),
@@ -161,7 +161,7 @@ fn of_item(alloc: Global, edit: Edit) -> Result<Option<Change>, Fail> {
 }
 
 // A change that makes, removes or moves an item. `next` is the id of the next item.
-fn of_place(alloc: Global, edit: Edit, next: ItemId) -> Result<Change, Fail> {
+fn of_place(alloc: Global, edit: Edit, next: ItemId) -> Result<Change, CallError> {
     match edit {
         Edit::Make(kind, letter, size) => made(alloc, next, kind, letter, size),
         Edit::Copy(from, letter) => copied(alloc, next, ItemId(from), letter),
@@ -173,7 +173,7 @@ fn of_place(alloc: Global, edit: Edit, next: ItemId) -> Result<Change, Fail> {
 }
 
 /// The change. `next` is the id of the next item.
-pub(super) fn change_of(alloc: Global, edit: Edit, next: ItemId) -> Result<Change, Fail> {
+pub(super) fn change_of(alloc: Global, edit: Edit, next: ItemId) -> Result<Change, CallError> {
     if let Some(change) = of_bytes(alloc, edit)? {
         return Ok(change);
     }

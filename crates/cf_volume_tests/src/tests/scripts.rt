@@ -4,14 +4,14 @@ use crate::tests::edits::{Edit, change_of};
 use crate::tests::steps::{
     Told, commit, edit, format, has_bytes, note, put, put_all, reopened, room_with, take_out,
 };
-use cf_base::{AuxRecord, Choice, Code, Fail, ItemId, Usn};
+use cf_base::{AuxRecord, Choice, Code, CallError, ItemId, Usn};
 use cf_disk::Disk;
 use cf_table::Row;
 use cf_volume::{Room, Volume};
 use std::alloc::Global;
 
 /// What is done, or looked at. An item is told by its number, a record by its key, its length and the byte in it.
-#[derive(Clone, Copy, Debug)]
+#[derive(Clone, Copy)]
 pub(super) enum Step {
     /// The change is accepted.
     Do(Edit),
@@ -126,14 +126,14 @@ fn is_record(record: Option<&AuxRecord>, key: u8, len: u16, byte: u8) -> bool {
 fn is_refused<D: Disk>(alloc: Global, volume: &mut Volume<D>, refused: Edit, why: Code) -> bool {
     let before = numbers_of(volume);
     let answer = edit(alloc, volume, refused);
-    answer == Err(Fail::No(why)) && numbers_of(volume) == before
+    answer == Err(CallError::No(why)) && numbers_of(volume) == before
 }
 
 fn is_not_put<D: Disk>(alloc: Global, volume: &mut Volume<D>, key: u8, len: u16, byte: u8) -> bool {
-    put(alloc, volume, key, len, byte) == Err(Fail::No(Code::TableFull))
+    put(alloc, volume, key, len, byte) == Err(CallError::No(Code::TableFull))
 }
 
-fn fill<D: Disk>(alloc: Global, volume: &mut Volume<D>, len: u16) -> Result<(), Fail> {
+fn fill<D: Disk>(alloc: Global, volume: &mut Volume<D>, len: u16) -> Result<(), CallError> {
     for key in 0..19 {
         put(alloc, volume, key, 65_535, 0)?;
     }
@@ -145,14 +145,14 @@ fn has_room<D: Disk>(
     volume: &Volume<D>,
     edit: Edit,
     want: Room,
-) -> Result<bool, Fail> {
+) -> Result<bool, CallError> {
     let change = change_of(alloc, edit, volume.rows().next())?;
     let room = volume.room(&[change])?;
     Ok(room == want)
 }
 
 // What is done.
-fn does<D: Disk>(alloc: Global, volume: &mut Volume<D>, step: Step) -> Result<bool, Fail> {
+fn does<D: Disk>(alloc: Global, volume: &mut Volume<D>, step: Step) -> Result<bool, CallError> {
     match step {
         Step::Do(change) => {
             edit(alloc, volume, change)?;
@@ -174,7 +174,7 @@ fn does<D: Disk>(alloc: Global, volume: &mut Volume<D>, step: Step) -> Result<bo
         }
         Step::PutAll(list) => put_all(alloc, volume, list)?,
         Step::NotPutAll(list) => {
-            return Ok(put_all(alloc, volume, list) == Err(Fail::No(Code::TableFull)));
+            return Ok(put_all(alloc, volume, list) == Err(CallError::No(Code::TableFull)));
         }
         _ => return Ok(false),
     }
@@ -199,7 +199,7 @@ fn tells<D: Disk>(volume: &Volume<D>, step: Step) -> Option<bool> {
     Some(told)
 }
 
-fn is_fine<D: Disk>(alloc: Global, volume: &mut Volume<D>, step: Step) -> Result<bool, Fail> {
+fn is_fine<D: Disk>(alloc: Global, volume: &mut Volume<D>, step: Step) -> Result<bool, CallError> {
     match tells(volume, step) {
         Some(told) => Ok(told),
         None => does(alloc, volume, step),
@@ -211,7 +211,7 @@ pub(super) fn played<D: Disk + Drop>(
     alloc: Global,
     disk: D,
     steps: &[Step],
-) -> Result<(Volume<D>, Option<usize>), Fail> {
+) -> Result<(Volume<D>, Option<usize>), CallError> {
     let mut volume = format(alloc, disk)?;
     for (place, step) in steps.iter().enumerate() {
         if let Step::Cut(choice) = *step {
@@ -228,7 +228,7 @@ pub(super) fn wrong_step<D: Disk + Drop>(
     alloc: Global,
     disk: D,
     steps: &[Step],
-) -> Result<Option<usize>, Fail> {
+) -> Result<Option<usize>, CallError> {
     let (_, wrong) = played(alloc, disk, steps)?;
     Ok(wrong)
 }

@@ -4,7 +4,7 @@ ghost use Rattle.std.specs.Prelude.{◌≡◌, ◌≤◌, ◌+◌, ◌^◌, Some
 ghost use Rattle.cf_volume.specs.Calls.{IsHere};
 
 use crate::tests::edits::{Edit, change_of, fits};
-use cf_base::{AuxRecord, Blob, Choice, Code, Fail, ItemId, Memory, Span, Usn};
+use cf_base::{AuxRecord, Blob, Choice, Code, CallError, ItemId, OutOfMemory, Span, Usn};
 use cf_disk::Disk;
 use cf_journal::Journal;
 use cf_table::Row;
@@ -14,9 +14,9 @@ use std::alloc::Global;
 /// A record: the byte that is its key, how long its value is, and the byte in that.
 pub(super) type Told = (u8, u16, u8);
 
-pub(super) fn format<D: Disk + Drop>(alloc: Global, disk: D) -> Result<Volume<D>, Fail> {
+pub(super) fn format<D: Disk + Drop>(alloc: Global, disk: D) -> Result<Volume<D>, CallError> {
     if !Journal::is_fit_size(disk.size()) {
-        return Err(Fail::No(Code::NotAVolume));
+        return Err(CallError::No(Code::NotAVolume));
     }
     match Volume::format(alloc, disk) {
         Ok(volume) => Ok(volume),
@@ -24,9 +24,9 @@ pub(super) fn format<D: Disk + Drop>(alloc: Global, disk: D) -> Result<Volume<D>
     }
 }
 
-pub(super) fn open<D: Disk + Drop>(alloc: Global, disk: D) -> Result<Volume<D>, Fail> {
+pub(super) fn open<D: Disk + Drop>(alloc: Global, disk: D) -> Result<Volume<D>, CallError> {
     if !Journal::is_fit_size(disk.size()) {
-        return Err(Fail::No(Code::NotAVolume));
+        return Err(CallError::No(Code::NotAVolume));
     }
     match Volume::open(alloc, disk) {
         Ok(volume) => Ok(volume),
@@ -39,7 +39,7 @@ pub(super) fn reopened<D: Disk + Drop>(
     alloc: Global,
     volume: Volume<D>,
     choice: Choice,
-) -> Result<Volume<D>, Fail> {
+) -> Result<Volume<D>, CallError> {
     let mut disk = volume.into_disk();
     disk.power(choice);
     open(alloc, disk)
@@ -50,30 +50,30 @@ pub(super) fn edit<D: Disk>(
     alloc: Global,
     volume: &mut Volume<D>,
     edit: Edit,
-) -> Result<Usn, Fail> {
+) -> Result<Usn, CallError> {
     let change = change_of(alloc, edit, volume.rows().next())?;
     if !fits(volume.rows(), &change) {
-        return Err(Fail::No(Code::BadRange));
+        return Err(CallError::No(Code::BadRange));
     }
     volume.apply(&change)
 }
 
-pub(super) fn commit<D: Disk>(volume: &mut Volume<D>) -> Result<u64, Fail> {
+pub(super) fn commit<D: Disk>(volume: &mut Volume<D>) -> Result<u64, CallError> {
     volume.commit()
 }
 
 /// Makes the anchor of the item its number, and the clock that of its last access.
-pub(super) fn note<D: Disk>(volume: &mut Volume<D>, item: ItemId) -> Result<(), Fail> {
+pub(super) fn note<D: Disk>(volume: &mut Volume<D>, item: ItemId) -> Result<(), CallError> {
     if volume.row(item).is_none() {
-        return Err(Fail::No(Code::NotFound));
+        return Err(CallError::No(Code::NotFound));
     }
     volume.anchor(item)?;
     touch(volume, item)
 }
 
-fn touch<D: Disk>(volume: &mut Volume<D>, item: ItemId) -> Result<(), Fail> {
+fn touch<D: Disk>(volume: &mut Volume<D>, item: ItemId) -> Result<(), CallError> {
     if volume.row(item).is_none() {
-        return Err(Fail::No(Code::NotFound));
+        return Err(CallError::No(Code::NotFound));
     }
     volume.touch(item)
 }
@@ -85,12 +85,12 @@ pub(super) fn put<D: Disk>(
     key: u8,
     len: u16,
     byte: u8,
-) -> Result<(), Fail> {
+) -> Result<(), CallError> {
     let value = vec![in alloc; byte; len as usize]?;
     volume.aux_put(&[key], Some(&value))
 }
 
-fn records_of(alloc: Global, list: &[Told]) -> Result<Vec<AuxRecord>, Memory> {
+fn records_of(alloc: Global, list: &[Told]) -> Result<Vec<AuxRecord>, OutOfMemory> {
     let mut records = Vec::new(alloc);
     for (key, len, byte) in list {
         records.push(AuxRecord {
@@ -106,10 +106,10 @@ pub(super) fn put_all<D: Disk>(
     alloc: Global,
     volume: &mut Volume<D>,
     list: &[Told],
-) -> Result<(), Fail> {
+) -> Result<(), CallError> {
     let records = records_of(alloc, list)?;
     if !are_short(&records) {
-        return Err(Fail::Memory);
+        return Err(CallError::OutOfMemory);
     }
     volume.aux_put_all(&records)
 }
@@ -120,22 +120,22 @@ pub(super) fn room_with<D: Disk>(
     volume: &Volume<D>,
     edit: Edit,
     list: &[Told],
-) -> Result<Room, Fail> {
+) -> Result<Room, CallError> {
     let change = change_of(alloc, edit, volume.rows().next())?;
     let records = records_of(alloc, list)?;
     if !are_short(&records) {
-        return Err(Fail::Memory);
+        return Err(CallError::OutOfMemory);
     }
     Ok(volume.room_with_records(&[change], &records)?)
 }
 
-pub(super) fn take_out<D: Disk>(volume: &mut Volume<D>, key: u8) -> Result<(), Fail> {
+pub(super) fn take_out<D: Disk>(volume: &mut Volume<D>, key: u8) -> Result<(), CallError> {
     volume.aux_put(&[key], None)
 }
 
 // Whether each byte of the span is here.
 #[tactic(auto, using(crate::proofs::Tested::here_all))]
-fn is_here(row: &Row, span: Span) -> Result<bool, Memory>
+fn is_here(row: &Row, span: Span) -> Result<bool, OutOfMemory>
     requires { span.start + span.len ≤ 2 ^ 40 }
     ensures { IfOk result (λ yes. IsTrue yes → IsHere (Some row.now) span.start (span.start + span.len)) }
 {
@@ -150,7 +150,7 @@ pub(super) fn has_bytes<D: Disk>(
     at: u16,
     len: u16,
     byte: u8,
-) -> Result<bool, Fail> {
+) -> Result<bool, CallError> {
     let span = Span {
         start: at as u64,
         len: len as u64,

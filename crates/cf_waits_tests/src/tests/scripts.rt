@@ -3,7 +3,7 @@
 ghost use Rattle.std.specs.Prelude.{◌≡◌, ◌+◌, ◌≤◌, ◌^◌, ℕ};
 
 use cf_ask_rule::View;
-use cf_base::{Cause, ItemId, Key, Memory, Span, WaitId, WaitKind};
+use cf_base::{Cause, ItemId, Key, OutOfMemory, Span, WaitId, WaitKind};
 use cf_ranges::RangeSet;
 use cf_waits::*;
 use std::alloc::Global;
@@ -24,7 +24,7 @@ fn span(start: u64, len: u64) -> Span
 }
 
 // A set with this span alone.
-fn set(alloc: Global, at: Span) -> Result<RangeSet, Memory>
+fn set(alloc: Global, at: Span) -> Result<RangeSet, OutOfMemory>
     requires { at.start + at.len ≤ 2 ^ 40 }
 {
     let mut set = RangeSet::new(alloc);
@@ -76,7 +76,7 @@ fn is_quiet(m: &Moves) -> bool {
         && m.asks.as_slice().is_empty()
 }
 
-fn read(requests: &mut Requests, at: Span, v: &View) -> Result<Moves, cf_base::Fail>
+fn read(requests: &mut Requests, at: Span, v: &View) -> Result<Moves, cf_base::CallError>
     requires size { v.now.size ≤ 2 ^ 24 }
     requires base { v.now.base ≤ 2 ^ 24 }
 {
@@ -129,7 +129,7 @@ fn pass(requests: &mut Requests, ticks: u32) -> bool {
 }
 
 // A read of a file of two blocks waits.
-fn two_blocks(alloc: Global) -> Result<Requests, cf_base::Fail> {
+fn two_blocks(alloc: Global) -> Result<Requests, cf_base::CallError> {
     let none = RangeSet::new(alloc);
     let mut requests = Requests::new(alloc, 1);
     read(&mut requests, span(0, 8192), &view(&none, &none, 8192))?;

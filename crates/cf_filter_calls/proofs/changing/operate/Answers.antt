@@ -1,12 +1,12 @@
 use Rattle.cf_ask_rule.specs.Deeds.{deed_of}
-use Rattle.cf_base.specs.declared.codes.Fail.TheVariants as fail
+use Rattle.cf_base.specs.declared.codes.CallError.TheVariants as fail
 use Rattle.cf_filter_calls.specs.Operating.{IsOperable, operated}
 use Rattle.cf_filter_steps.proofs.Laws.{no_memory, with_err}
 use Rattle.cf_filter_calls.proofs.Operated.{operated_off, operated_on}
 use Rattle.cf_filter_calls.proofs.changing.operate.Goals as goal
 
 pub returns-in_err-code : goal.returns-in_err-code
-returns-in_err-code g c = with_err g.S.Steps.sense (IsOperable c.args.item c.args.change.now) (operated c.args.counts c.args.item c.args.change.now (deed_of c.args.act)) c.args.s.now c.args.s.now fail.Memory c.from_residual-in_err-code.result c.from_residual-in_err-code.ensures.1
+returns-in_err-code g c = with_err g.S.Steps.sense (IsOperable c.args.item c.args.change.now) (operated c.args.counts c.args.item c.args.change.now (deed_of c.args.act)) c.args.s.now c.args.s.now fail.OutOfMemory c.from_residual-in_err-code.result c.from_residual-in_err-code.ensures.1
     (no_memory g.S.Steps.sense (IsOperable c.args.item c.args.change.now) (operated c.args.counts c.args.item c.args.change.now (deed_of c.args.act)) c.args.s.now)
 
 pub returns-in-Some : goal.returns-in-Some

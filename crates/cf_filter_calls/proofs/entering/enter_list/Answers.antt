@@ -1,4 +1,4 @@
-use Rattle.cf_base.specs.declared.codes.Fail.TheVariants as fail
+use Rattle.cf_base.specs.declared.codes.CallError.TheVariants as fail
 use Rattle.cf_filter_calls.specs.Entering.{IsOpenList, entered}
 use Rattle.cf_filter_steps.proofs.Laws.{no_memory, with_err}
 use Rattle.cf_filter_calls.proofs.Entered.{entered_as}
@@ -8,7 +8,7 @@ pub returns-then-first-list : goal.returns-then-first-list
 returns-then-first-list g c = λ f. no_memory g.S.Steps.sense (IsOpenList f c.args.ask.now.item c.args.list.now c.args.records.now) (entered f c.args.ask.now c.args.list.now) c.args.s.now
 
 pub returns-in_err-changes : goal.returns-in_err-changes
-returns-in_err-changes g c = λ f. with_err g.S.Steps.sense (IsOpenList f c.args.ask.now.item c.args.list.now c.args.records.now) (entered f c.args.ask.now c.args.list.now) c.args.s.now c.args.s.now fail.Memory c.from_residual.result c.from_residual.ensures.1
+returns-in_err-changes g c = λ f. with_err g.S.Steps.sense (IsOpenList f c.args.ask.now.item c.args.list.now c.args.records.now) (entered f c.args.ask.now c.args.list.now) c.args.s.now c.args.s.now fail.OutOfMemory c.from_residual.result c.from_residual.ensures.1
     (no_memory g.S.Steps.sense (IsOpenList f c.args.ask.now.item c.args.list.now c.args.records.now) (entered f c.args.ask.now c.args.list.now) c.args.s.now)
 
 pub returns : goal.returns

@@ -1,7 +1,7 @@
 use Rattle.std.proofs.Common.{Bool, [], ◌∷◌, sym, ◌∙◌, ap, List, ℕ}
 use Rattle.std.specs.Prelude.{not}
 use Rattle.cf_base.specs.declared.changes.Change.TheVariants as change
-use Rattle.cf_base.specs.declared.codes.Fail.TheVariants as fail
+use Rattle.cf_base.specs.declared.codes.CallError.TheVariants as fail
 use Rattle.cf_model.specs.Calls.{changing, move_of}
 use Rattle.cf_model.specs.Operations.{done}
 use Rattle.cf_model.specs.Words.{when}
@@ -15,7 +15,7 @@ returns-then-stands_there g c = moved_by g.S.Steps.sense c.args.id c.args.parent
     (ap (λ (b : Bool). when (not b) (change.Move c.args.id c.args.parent c.args.name.now ∷ [])) (sym c.if-stands_there.true)) c.make_all.ensures
 
 pub returns-in_err-copy : goal.returns-in_err-copy
-returns-in_err-copy g c = λ i p. with_err g.S.Steps.sense (MayMoveAt c.args.id c.args.parent c.args.name.now i p) (changing (move_of i p) done) c.args.s.now c.args.s.now fail.Memory c.from_residual.result c.from_residual.ensures.1
+returns-in_err-copy g c = λ i p. with_err g.S.Steps.sense (MayMoveAt c.args.id c.args.parent c.args.name.now i p) (changing (move_of i p) done) c.args.s.now c.args.s.now fail.OutOfMemory c.from_residual.result c.from_residual.ensures.1
     (no_memory g.S.Steps.sense (MayMoveAt c.args.id c.args.parent c.args.name.now i p) (changing (move_of i p) done) c.args.s.now)
 
 pub returns : goal.returns

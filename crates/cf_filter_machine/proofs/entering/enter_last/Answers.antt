@@ -1,6 +1,6 @@
 use Rattle.std.proofs.Common.{◌++◌, ◌∷◌, [], ◌∙◌, ap, refl, subst, sym}
 use Rattle.std.specs.Prelude.{Ok}
-use Rattle.cf_base.specs.declared.codes.Fail.TheVariants.{Memory}
+use Rattle.cf_base.specs.declared.codes.CallError.TheVariants.{OutOfMemory}
 use Rattle.cf_base.specs.declared.notices.Notice.TheVariants as notice
 use Rattle.cf_filter_machine.proofs.EnterSteps.{entered_last, enters_err, enters_lost, entry_lost, entry_stopped, listed, last_put, plain}
 use Rattle.cf_filter_machine.proofs.DeskSteps.{on_disk}
@@ -13,7 +13,7 @@ use Rattle.cf_filter_machine.proofs.entering.enter_last.Goals as goal
 
 pub returns-in_err-line-clause-does : goal.returns-in_err-line-clause-does
 returns-in_err-line-clause-does g c = λ dir f.
-    enters_err g.D.Disk.state dir (Stands g.D.Disk.state) (MayEnter f dir (c.args.change.now ∷ []) c.args.records.now) (change_with f c.args.change.now) (held c.args.volume.now c.args.desk.now) _ Memory c.from_residual.result c.from_residual.ensures.1
+    enters_err g.D.Disk.state dir (Stands g.D.Disk.state) (MayEnter f dir (c.args.change.now ∷ []) c.args.records.now) (change_with f c.args.change.now) (held c.args.volume.now c.args.desk.now) _ OutOfMemory c.from_residual.result c.from_residual.ensures.1
     (enters_lost g.D.Disk.state dir (Stands g.D.Disk.state) (MayEnter f dir (c.args.change.now ∷ []) c.args.records.now) (change_with f c.args.change.now) (held c.args.volume.now c.args.desk.now))
 
 pub returns-in_err-number-clause-does : goal.returns-in_err-number-clause-does
@@ -28,7 +28,7 @@ returns-in_err-number-clause-does g c = λ dir f.
 
 pub returns-in_err-put_records-clause-does : goal.returns-in_err-put_records-clause-does
 returns-in_err-put_records-clause-does g c = λ dir f.
-    enters_err g.D.Disk.state dir (Stands g.D.Disk.state) (MayEnter f dir (c.args.change.now ∷ []) c.args.records.now) (change_with f c.args.change.now) (held c.args.volume.now c.args.desk.now) _ Memory c.from_residual-in_err-put_records.result c.from_residual-in_err-put_records.ensures.1
+    enters_err g.D.Disk.state dir (Stands g.D.Disk.state) (MayEnter f dir (c.args.change.now ∷ []) c.args.records.now) (change_with f c.args.change.now) (held c.args.volume.now c.args.desk.now) _ OutOfMemory c.from_residual-in_err-put_records.result c.from_residual-in_err-put_records.ensures.1
     (entry_lost g.D.Disk.state dir (held c.args.volume.now c.args.desk.now) c.args.change.now f c.put_entry.new.volume.disk
     (record { reads_one = g.met.D.Disk.reads_one c.put_entry.new.volume.disk; same_size = g.met.D.Disk.same_size c.put_entry.new.volume.disk })
     c.in_ok-number.ensures.crash c.in_ok-number.ensures.runs
@@ -36,7 +36,7 @@ returns-in_err-put_records-clause-does g c = λ dir f.
 
 pub returns-in_err-note-clause-does : goal.returns-in_err-note-clause-does
 returns-in_err-note-clause-does g c = λ dir f.
-    enters_err g.D.Disk.state dir (Stands g.D.Disk.state) (MayEnter f dir (c.args.change.now ∷ []) c.args.records.now) (change_with f c.args.change.now) (held c.args.volume.now c.args.desk.now) _ Memory c.from_residual-in_err-note.result c.from_residual-in_err-note.ensures.1
+    enters_err g.D.Disk.state dir (Stands g.D.Disk.state) (MayEnter f dir (c.args.change.now ∷ []) c.args.records.now) (change_with f c.args.change.now) (held c.args.volume.now c.args.desk.now) _ OutOfMemory c.from_residual-in_err-note.result c.from_residual-in_err-note.ensures.1
     (entry_lost g.D.Disk.state dir (held c.args.volume.now c.args.desk.now) c.args.change.now f c.put_entry.new.volume.disk
     (record { reads_one = g.met.D.Disk.reads_one c.put_entry.new.volume.disk; same_size = g.met.D.Disk.same_size c.put_entry.new.volume.disk })
     c.in_ok-number.ensures.crash c.in_ok-number.ensures.runs

@@ -1,5 +1,5 @@
 use Rattle.std.proofs.Common.{◌++◌, ◌∷◌, [], ◌∙◌, ap, refl}
-use Rattle.cf_base.specs.declared.codes.Fail.TheVariants.{Memory}
+use Rattle.cf_base.specs.declared.codes.CallError.TheVariants.{OutOfMemory}
 use Rattle.cf_base.specs.declared.notices.Notice.TheVariants as notice
 use Rattle.cf_filter_machine.proofs.EnterSteps.{entered_one, enters_err, enters_lost, entry_lost, entry_stopped, listed, plain}
 use Rattle.cf_filter_machine.specs.Entering.{Coming, IsReadyEntry, held}
@@ -9,7 +9,7 @@ use Rattle.cf_filter_machine.proofs.entering.enter_one.Goals as goal
 
 pub returns-in_err-line-clause-does : goal.returns-in_err-line-clause-does
 returns-in_err-line-clause-does g c = λ dir.
-    enters_err g.D.Disk.state dir (Coming g.D.Disk.state dir) (λ s. IsReadyEntry dir c.args.change.now s.volume) (change c.args.change.now) (held c.args.volume.now c.args.desk.now) _ Memory c.from_residual.result c.from_residual.ensures.1
+    enters_err g.D.Disk.state dir (Coming g.D.Disk.state dir) (λ s. IsReadyEntry dir c.args.change.now s.volume) (change c.args.change.now) (held c.args.volume.now c.args.desk.now) _ OutOfMemory c.from_residual.result c.from_residual.ensures.1
     (enters_lost g.D.Disk.state dir (Coming g.D.Disk.state dir) (λ s. IsReadyEntry dir c.args.change.now s.volume) (change c.args.change.now) (held c.args.volume.now c.args.desk.now))
 
 pub returns-in_err-number-clause-does : goal.returns-in_err-number-clause-does
@@ -24,7 +24,7 @@ returns-in_err-number-clause-does g c = λ dir.
 
 pub returns-in_err-note-clause-does : goal.returns-in_err-note-clause-does
 returns-in_err-note-clause-does g c = λ dir.
-    enters_err g.D.Disk.state dir (Coming g.D.Disk.state dir) (λ s. IsReadyEntry dir c.args.change.now s.volume) (change c.args.change.now) (held c.args.volume.now c.args.desk.now) _ Memory c.from_residual-in_err-note.result c.from_residual-in_err-note.ensures.1
+    enters_err g.D.Disk.state dir (Coming g.D.Disk.state dir) (λ s. IsReadyEntry dir c.args.change.now s.volume) (change c.args.change.now) (held c.args.volume.now c.args.desk.now) _ OutOfMemory c.from_residual-in_err-note.result c.from_residual-in_err-note.ensures.1
     (entry_lost g.D.Disk.state dir (held c.args.volume.now c.args.desk.now) c.args.change.now same_book c.put_entry.new.volume.disk
     (record { reads_one = g.met.D.Disk.reads_one c.put_entry.new.volume.disk; same_size = g.met.D.Disk.same_size c.put_entry.new.volume.disk })
     c.in_ok-number.ensures.crash c.in_ok-number.ensures.runs

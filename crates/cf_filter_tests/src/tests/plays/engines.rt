@@ -2,12 +2,12 @@
 
 use super::Play;
 use super::shows::done;
-use cf_base::{Change, Fail, ItemId, Sequence};
+use cf_base::{Change, CallError, ItemId, Sequence};
 use cf_disk::Disk;
 
 impl<D: Disk + Drop> Play<D> {
     /// The item is no longer in sync.
-    pub(crate) fn clear(&mut self, item: u64) -> Result<(), Fail> {
+    pub(crate) fn clear(&mut self, item: u64) -> Result<(), CallError> {
         let mut notes = Sequence::new(self.alloc);
         let change = Change::Clear { item: ItemId(item) };
         let told = self.filter.engine_apply(&change, &mut notes);
@@ -15,28 +15,28 @@ impl<D: Disk + Drop> Play<D> {
         self.tell(notes, shown)
     }
 
-    pub(crate) fn remove(&mut self, item: u64) -> Result<(), Fail> {
+    pub(crate) fn remove(&mut self, item: u64) -> Result<(), CallError> {
         let mut notes = Sequence::new(self.alloc);
         let told = self.filter.engine_remove(ItemId(item), &mut notes);
         let shown = done(told)?;
         self.tell(notes, shown)
     }
 
-    pub(crate) fn anchor(&mut self, item: u64) -> Result<(), Fail> {
+    pub(crate) fn anchor(&mut self, item: u64) -> Result<(), CallError> {
         let told = self.filter.anchor(ItemId(item));
         let shown = done(told)?;
         self.quiet(shown)
     }
 
     /// Puts a record `x` whose value is `z`.
-    pub(crate) fn put(&mut self) -> Result<(), Fail> {
+    pub(crate) fn put(&mut self) -> Result<(), CallError> {
         let told = self.filter.aux_put(b"x", Some(b"z"));
         let shown = done(told)?;
         self.quiet(shown)
     }
 
     /// Takes the record `x` out.
-    pub(crate) fn take_out(&mut self) -> Result<(), Fail> {
+    pub(crate) fn take_out(&mut self) -> Result<(), CallError> {
         let told = self.filter.aux_put(b"x", None);
         let shown = done(told)?;
         self.quiet(shown)

@@ -2,12 +2,12 @@
 
 use super::Play;
 use super::shows::{done, number, refused};
-use cf_base::{Fail, Identity, Sequence, Shown, Usn};
+use cf_base::{CallError, Identity, Sequence, Shown, Usn};
 use cf_disk::Disk;
 use cf_placeholder::Creation;
 
 impl<D: Disk + Drop> Play<D> {
-    fn make(&mut self, path: &str, what: &Creation) -> Result<(), Fail> {
+    fn make(&mut self, path: &str, what: &Creation) -> Result<(), CallError> {
         let mut notes = Sequence::new(self.alloc);
         let shown = match self.filter.create(path, what, &mut notes) {
             Ok(item) => Shown::Item(item),
@@ -16,15 +16,15 @@ impl<D: Disk + Drop> Play<D> {
         self.tell(notes, shown)
     }
 
-    pub(crate) fn create(&mut self, path: &str) -> Result<(), Fail> {
+    pub(crate) fn create(&mut self, path: &str) -> Result<(), CallError> {
         self.make(path, &Creation::File)
     }
 
-    pub(crate) fn mkdir(&mut self, path: &str) -> Result<(), Fail> {
+    pub(crate) fn mkdir(&mut self, path: &str) -> Result<(), CallError> {
         self.make(path, &Creation::Dir)
     }
 
-    pub(crate) fn place(&mut self, path: &str, size: u64, identity: u8) -> Result<(), Fail> {
+    pub(crate) fn place(&mut self, path: &str, size: u64, identity: u8) -> Result<(), CallError> {
         let identity = Identity::new(self.alloc, &[identity])?;
         let what = Creation::Placeholder {
             size,
@@ -34,7 +34,7 @@ impl<D: Disk + Drop> Play<D> {
         self.make(path, &what)
     }
 
-    pub(crate) fn place_dir(&mut self, path: &str, identity: u8) -> Result<(), Fail> {
+    pub(crate) fn place_dir(&mut self, path: &str, identity: u8) -> Result<(), CallError> {
         let identity = Identity::new(self.alloc, &[identity])?;
         let what = Creation::PlaceholderDir {
             identity,
@@ -43,7 +43,7 @@ impl<D: Disk + Drop> Play<D> {
         self.make(path, &what)
     }
 
-    pub(crate) fn convert(&mut self, path: &str, identity: u8) -> Result<(), Fail> {
+    pub(crate) fn convert(&mut self, path: &str, identity: u8) -> Result<(), CallError> {
         let identity = Identity::new(self.alloc, &[identity])?;
         let mut notes = Sequence::new(self.alloc);
         let told = self.filter.convert(path, &identity, &mut notes);
@@ -51,14 +51,14 @@ impl<D: Disk + Drop> Play<D> {
         self.tell(notes, shown)
     }
 
-    pub(crate) fn revert(&mut self, path: &str) -> Result<(), Fail> {
+    pub(crate) fn revert(&mut self, path: &str) -> Result<(), CallError> {
         let mut notes = Sequence::new(self.alloc);
         let told = self.filter.revert(path, &mut notes);
         let shown = number(told)?;
         self.tell(notes, shown)
     }
 
-    pub(crate) fn update(&mut self, path: &str, identity: u8) -> Result<(), Fail> {
+    pub(crate) fn update(&mut self, path: &str, identity: u8) -> Result<(), CallError> {
         let identity = Identity::new(self.alloc, &[identity])?;
         let mut notes = Sequence::new(self.alloc);
         let told = self.filter.update(path, &identity, None, &mut notes);
@@ -66,14 +66,14 @@ impl<D: Disk + Drop> Play<D> {
         self.tell(notes, shown)
     }
 
-    pub(crate) fn unmark(&mut self, path: &str) -> Result<(), Fail> {
+    pub(crate) fn unmark(&mut self, path: &str) -> Result<(), CallError> {
         let mut notes = Sequence::new(self.alloc);
         let told = self.filter.clear_in_sync(path, &mut notes);
         let shown = number(told)?;
         self.tell(notes, shown)
     }
 
-    pub(crate) fn mark(&mut self, path: &str, given: Usn) -> Result<(), Fail> {
+    pub(crate) fn mark(&mut self, path: &str, given: Usn) -> Result<(), CallError> {
         let mut notes = Sequence::new(self.alloc);
         let told = self
             .filter
@@ -82,7 +82,7 @@ impl<D: Disk + Drop> Play<D> {
         self.tell(notes, shown)
     }
 
-    pub(crate) fn keep(&mut self, path: &str, on: bool) -> Result<(), Fail> {
+    pub(crate) fn keep(&mut self, path: &str, on: bool) -> Result<(), CallError> {
         let mut notes = Sequence::new(self.alloc);
         let told = self
             .filter

@@ -2,11 +2,11 @@
 
 use super::Play;
 use super::shows::refused;
-use cf_base::{Class, Fail, Shown};
+use cf_base::{Class, CallError, Shown};
 use cf_disk::Disk;
 
 impl<D: Disk + Drop> Play<D> {
-    pub(crate) fn info(&mut self, path: &str) -> Result<(), Fail> {
+    pub(crate) fn info(&mut self, path: &str) -> Result<(), CallError> {
         let shown = match self.filter.info(path) {
             Ok(i) => Shown::Info {
                 item: i.item,
@@ -22,7 +22,7 @@ impl<D: Disk + Drop> Play<D> {
         self.quiet(shown)
     }
 
-    pub(crate) fn ranges(&mut self, path: &str, class: Class) -> Result<(), Fail> {
+    pub(crate) fn ranges(&mut self, path: &str, class: Class) -> Result<(), CallError> {
         let shown = match self.filter.ranges(path, class) {
             Ok(runs) => Shown::Ranges(runs),
             Err(fail) => refused(fail)?,
@@ -30,7 +30,7 @@ impl<D: Disk + Drop> Play<D> {
         self.quiet(shown)
     }
 
-    pub(crate) fn used(&mut self, path: &str) -> Result<(), Fail> {
+    pub(crate) fn used(&mut self, path: &str) -> Result<(), CallError> {
         let shown = match self.filter.used(path) {
             Ok(clock) => Shown::Used(clock),
             Err(fail) => refused(fail)?,
@@ -38,7 +38,7 @@ impl<D: Disk + Drop> Play<D> {
         self.quiet(shown)
     }
 
-    pub(crate) fn df(&mut self) -> Result<(), Fail> {
+    pub(crate) fn df(&mut self) -> Result<(), CallError> {
         let shown = match self.filter.df() {
             Ok((used, clusters)) => Shown::Blocks { used, clusters },
             Err(fail) => refused(fail)?,

@@ -1,32 +1,32 @@
 //! What a call gave, as it is told.
 
-use cf_base::{Fail, Shown, Usn};
+use cf_base::{CallError, Shown, Usn};
 use cf_provider::Outcome;
 use cf_filter::Waited;
 
 // A refusal is shown; want of memory is none of the test's.
-pub(super) fn refused(fail: Fail) -> Result<Shown, Fail> {
+pub(super) fn refused(fail: CallError) -> Result<Shown, CallError> {
     match fail {
-        Fail::No(code) => Ok(Shown::Refused(code)),
-        Fail::Memory => Err(Fail::Memory),
+        CallError::No(code) => Ok(Shown::Refused(code)),
+        CallError::OutOfMemory => Err(CallError::OutOfMemory),
     }
 }
 
-pub(super) fn done(told: Result<(), Fail>) -> Result<Shown, Fail> {
+pub(super) fn done(told: Result<(), CallError>) -> Result<Shown, CallError> {
     match told {
         Ok(()) => Ok(Shown::Done),
         Err(fail) => refused(fail),
     }
 }
 
-pub(super) fn number(told: Result<Usn, Fail>) -> Result<Shown, Fail> {
+pub(super) fn number(told: Result<Usn, CallError>) -> Result<Shown, CallError> {
     match told {
         Ok(number) => Ok(Shown::Number(number)),
         Err(fail) => refused(fail),
     }
 }
 
-pub(super) fn waited(told: Result<Waited, Fail>) -> Result<Shown, Fail> {
+pub(super) fn waited(told: Result<Waited, CallError>) -> Result<Shown, CallError> {
     match told {
         Ok(Waited::Pending(wait)) => Ok(Shown::Pending(wait)),
         Ok(Waited::Ended(end)) => Ok(Shown::Ended(end)),
@@ -34,7 +34,7 @@ pub(super) fn waited(told: Result<Waited, Fail>) -> Result<Shown, Fail> {
     }
 }
 
-pub(super) fn outcome(told: Result<Outcome, Fail>) -> Result<Shown, Fail> {
+pub(super) fn outcome(told: Result<Outcome, CallError>) -> Result<Shown, CallError> {
     match told {
         Ok(Outcome::Done) => Ok(Shown::Done),
         Ok(Outcome::Data(bytes)) => Ok(Shown::Retrieved(bytes)),

@@ -16,7 +16,7 @@ returns-in_err-reply g c f next s st =
 
 pub returns-in_err-fits : goal.returns-in_err-fits
 returns-in_err-fits g c f next s st =
-    with_stop (λ (r : Result (List Entry) Stop). Comes (listing c.args.rid f) f next s (g.R.Remote.told c.args.remote.now) r (g.R.Remote.told c.ask.new.self)) c.from_residual-in_err-fits.result stop.Memory c.from_residual-in_err-fits.ensures.1
+    with_stop (λ (r : Result (List Entry) Stop). Comes (listing c.args.rid f) f next s (g.R.Remote.told c.args.remote.now) r (g.R.Remote.told c.ask.new.self)) c.from_residual-in_err-fits.result stop.OutOfMemory c.from_residual-in_err-fits.ensures.1
     (listing_lost f c.args.rid next s (g.R.Remote.told c.args.remote.now) (g.R.Remote.told c.ask.new.self) st c.in_ok-reply.reply c.in_ok-reply.ensures)
 
 pub returns-then-not-branch : goal.returns-then-not-branch

@@ -19,7 +19,7 @@ returns-in-None g c f next s st =
 
 pub returns-in_err-copy-in-Some : goal.returns-in_err-copy-in-Some
 returns-in_err-copy-in-Some g c f next s st =
-    with_stop (λ (r : Result Entry Stop). Comes {A = Entry} (in_dir c.args.at.now (listing c.args.at.now.rid (rest_of f c.args.at.now c.args.name.now))) f next s (g.R.Remote.told c.args.remote.now) r (g.R.Remote.told c.listing.new.remote)) c.from_residual-in_err-copy-in-Some.result stop.Memory c.from_residual-in_err-copy-in-Some.ensures.1
+    with_stop (λ (r : Result Entry Stop). Comes {A = Entry} (in_dir c.args.at.now (listing c.args.at.now.rid (rest_of f c.args.at.now c.args.name.now))) f next s (g.R.Remote.told c.args.remote.now) r (g.R.Remote.told c.listing.new.remote)) c.from_residual-in_err-copy-in-Some.result stop.OutOfMemory c.from_residual-in_err-copy-in-Some.ensures.1
     (step_lost f c.args.at.now c.args.name.now next s (g.R.Remote.told c.args.remote.now) c.in_ok-entries.entries (g.R.Remote.told c.listing.new.remote) c.if-not-at.false (c.in_ok-entries.ensures (rest_of f c.args.at.now c.args.name.now) next s st))
 
 pub returns : goal.returns

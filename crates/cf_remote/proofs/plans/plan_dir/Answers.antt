@@ -30,10 +30,10 @@ returns-in_err-listing-clause-plans g c next s e st =
 
 pub returns-in_err-name-clause-plans : goal.returns-in_err-name-clause-plans
 returns-in_err-name-clause-plans g c next s e st =
-    with_stop (λ (r : Result Plan Stop). Comes {A = Plan} (at_place (names_of c.args.path.now) make_at) finish next s (g.R.Remote.told c.args.remote.now) r (g.R.Remote.told c.listing.new.remote)) c.from_residual-in_err-name.result stop.Memory c.from_residual-in_err-name.ensures.1
-    (comes_as (at_place (names_of c.args.path.now) make_at) (at_place (names_of c.as_str.result.now) make_at) finish next s (g.R.Remote.told c.args.remote.now) (Err stop.Memory) (g.R.Remote.told c.listing.new.remote) (ap (λ (p : List ℕ). at_place (names_of p) make_at) (sym c.as_str.ensures))
+    with_stop (λ (r : Result Plan Stop). Comes {A = Plan} (at_place (names_of c.args.path.now) make_at) finish next s (g.R.Remote.told c.args.remote.now) r (g.R.Remote.told c.listing.new.remote)) c.from_residual-in_err-name.result stop.OutOfMemory c.from_residual-in_err-name.ensures.1
+    (comes_as (at_place (names_of c.args.path.now) make_at) (at_place (names_of c.as_str.result.now) make_at) finish next s (g.R.Remote.told c.args.remote.now) (Err stop.OutOfMemory) (g.R.Remote.told c.listing.new.remote) (ap (λ (p : List ℕ). at_place (names_of p) make_at) (sym c.as_str.ensures))
     (entries_found make_at c.in_ok-place.place.0 c.in_ok-place.place.1.now (names_of c.as_str.result.now) next s (g.R.Remote.told c.args.remote.now) (g.R.Remote.told c.parent.new.remote) (c.in_ok-place.ensures.part (at_name make_at) next s st)
-    c.in_ok-listing.field-0 (g.R.Remote.told c.listing.new.remote) (Err stop.Memory) c.in_ok-listing.ensures
+    c.in_ok-listing.field-0 (g.R.Remote.told c.listing.new.remote) (Err stop.OutOfMemory) c.in_ok-listing.ensures
     (λ t u. comes_lost (make_at c.in_ok-place.place.0 c.in_ok-place.place.1.now (named c.in_ok-place.place.1.now c.in_ok-listing.field-0)) finish next t (g.R.Remote.told c.listing.new.remote))))
 
 pub returns-clause-plans : goal.returns-clause-plans

@@ -12,12 +12,12 @@ use Rattle.cf_remote.proofs.plans.plan_file.Goals as goal
 
 pub returns-in_err-name-clause-plans : goal.returns-in_err-name-clause-plans
 returns-in_err-name-clause-plans c next s told e st =
-    with_stop (λ (r : Result Plan Stop). Comes {A = Plan} (request_with (λ (t : Token). request.Put t no_rid no_version c.args.parent c.args.name.now c.args.bytes.now)) finish next s told r told) c.from_residual.result stop.Memory c.from_residual.ensures.1
+    with_stop (λ (r : Result Plan Stop). Comes {A = Plan} (request_with (λ (t : Token). request.Put t no_rid no_version c.args.parent c.args.name.now c.args.bytes.now)) finish next s told r told) c.from_residual.result stop.OutOfMemory c.from_residual.ensures.1
     (comes_lost (request_with (λ (t : Token). request.Put t no_rid no_version c.args.parent c.args.name.now c.args.bytes.now)) finish next s told)
 
 pub returns-in_err-bytes-clause-plans : goal.returns-in_err-bytes-clause-plans
 returns-in_err-bytes-clause-plans c next s told e st =
-    with_stop (λ (r : Result Plan Stop). Comes {A = Plan} (request_with (λ (t : Token). request.Put t no_rid no_version c.args.parent c.args.name.now c.args.bytes.now)) finish next s told r told) c.from_residual-in_err-bytes.result stop.Memory c.from_residual-in_err-bytes.ensures.1
+    with_stop (λ (r : Result Plan Stop). Comes {A = Plan} (request_with (λ (t : Token). request.Put t no_rid no_version c.args.parent c.args.name.now c.args.bytes.now)) finish next s told r told) c.from_residual-in_err-bytes.result stop.OutOfMemory c.from_residual-in_err-bytes.ensures.1
     (comes_lost (request_with (λ (t : Token). request.Put t no_rid no_version c.args.parent c.args.name.now c.args.bytes.now)) finish next s told)
 
 pub returns-clause-plans : goal.returns-clause-plans

@@ -40,11 +40,11 @@ returns-in_err-place-clause-plans g c next s e st =
 
 pub returns-in_err-name-clause-plans : goal.returns-in_err-name-clause-plans
 returns-in_err-name-clause-plans g c next s e st =
-    with_stop (λ (r : Result Plan Stop). Comes {A = Plan} (below_root (names_of c.args.from.now) (to_place c.args.to.now)) finish next s (g.R.Remote.told c.args.remote.now) r (g.R.Remote.told c.parent.new.remote)) c.from_residual-in_err-name.result stop.Memory c.from_residual-in_err-name.ensures.1
-    (comes_as (below_root (names_of c.args.from.now) (to_place c.args.to.now)) (below_root (names_of c.as_str-from.result.now) (to_place c.args.to.now)) finish next s (g.R.Remote.told c.args.remote.now) (Err stop.Memory) (g.R.Remote.told c.parent.new.remote) (ap (λ (p : List ℕ). below_root (names_of p) (to_place c.args.to.now)) (sym c.as_str-from.ensures))
-    (comes_then (below_root (names_of c.as_str-from.result.now) (to_place c.args.to.now)) (to_place c.args.to.now c.in_ok-entry.entry) finish next s (g.R.Remote.told c.args.remote.now) (g.R.Remote.told c.below_root.new.remote) (Err stop.Memory) (g.R.Remote.told c.parent.new.remote) (c.in_ok-entry.ensures (to_place c.args.to.now) next s st)
-    (λ t u. comes_as (to_place c.args.to.now c.in_ok-entry.entry) (to_place c.as_str-to.result.now c.in_ok-entry.entry) finish next t (g.R.Remote.told c.below_root.new.remote) (Err stop.Memory) (g.R.Remote.told c.parent.new.remote) (ap (λ (p : List ℕ). to_place p c.in_ok-entry.entry) (sym c.as_str-to.ensures))
-    (comes_then (to_place c.as_str-to.result.now c.in_ok-entry.entry) (to_name c.in_ok-entry.entry (c.in_ok-place.place.0, c.in_ok-place.place.1.now)) finish next t (g.R.Remote.told c.below_root.new.remote) (g.R.Remote.told c.parent.new.remote) (Err stop.Memory) (g.R.Remote.told c.parent.new.remote) (c.in_ok-place.ensures.part (to_name c.in_ok-entry.entry) next t u)
+    with_stop (λ (r : Result Plan Stop). Comes {A = Plan} (below_root (names_of c.args.from.now) (to_place c.args.to.now)) finish next s (g.R.Remote.told c.args.remote.now) r (g.R.Remote.told c.parent.new.remote)) c.from_residual-in_err-name.result stop.OutOfMemory c.from_residual-in_err-name.ensures.1
+    (comes_as (below_root (names_of c.args.from.now) (to_place c.args.to.now)) (below_root (names_of c.as_str-from.result.now) (to_place c.args.to.now)) finish next s (g.R.Remote.told c.args.remote.now) (Err stop.OutOfMemory) (g.R.Remote.told c.parent.new.remote) (ap (λ (p : List ℕ). below_root (names_of p) (to_place c.args.to.now)) (sym c.as_str-from.ensures))
+    (comes_then (below_root (names_of c.as_str-from.result.now) (to_place c.args.to.now)) (to_place c.args.to.now c.in_ok-entry.entry) finish next s (g.R.Remote.told c.args.remote.now) (g.R.Remote.told c.below_root.new.remote) (Err stop.OutOfMemory) (g.R.Remote.told c.parent.new.remote) (c.in_ok-entry.ensures (to_place c.args.to.now) next s st)
+    (λ t u. comes_as (to_place c.args.to.now c.in_ok-entry.entry) (to_place c.as_str-to.result.now c.in_ok-entry.entry) finish next t (g.R.Remote.told c.below_root.new.remote) (Err stop.OutOfMemory) (g.R.Remote.told c.parent.new.remote) (ap (λ (p : List ℕ). to_place p c.in_ok-entry.entry) (sym c.as_str-to.ensures))
+    (comes_then (to_place c.as_str-to.result.now c.in_ok-entry.entry) (to_name c.in_ok-entry.entry (c.in_ok-place.place.0, c.in_ok-place.place.1.now)) finish next t (g.R.Remote.told c.below_root.new.remote) (g.R.Remote.told c.parent.new.remote) (Err stop.OutOfMemory) (g.R.Remote.told c.parent.new.remote) (c.in_ok-place.ensures.part (to_name c.in_ok-entry.entry) next t u)
     (λ v w. comes_lost (to_name c.in_ok-entry.entry (c.in_ok-place.place.0, c.in_ok-place.place.1.now)) finish next v (g.R.Remote.told c.parent.new.remote))))))
 
 pub returns-clause-plans : goal.returns-clause-plans

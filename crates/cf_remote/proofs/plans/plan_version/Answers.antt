@@ -16,7 +16,7 @@ use Rattle.cf_remote.proofs.plans.plan_version.Goals as goal
 
 pub returns-in_err-bytes-clause-plans : goal.returns-in_err-bytes-clause-plans
 returns-in_err-bytes-clause-plans c next s told e st =
-    with_stop (λ (r : Result Plan Stop). Comes {A = Plan} (put_over c.args.bytes.now c.args.entry.now) finish next s told r told) c.from_residual.result stop.Memory c.from_residual.ensures.1
+    with_stop (λ (r : Result Plan Stop). Comes {A = Plan} (put_over c.args.bytes.now c.args.entry.now) finish next s told r told) c.from_residual.result stop.OutOfMemory c.from_residual.ensures.1
     (comes_lost (put_over c.args.bytes.now c.args.entry.now) finish next s told)
 
 pub returns-clause-plans : goal.returns-clause-plans

@@ -5,7 +5,7 @@ use Rattle.cf_model.specs.Rows as model
 use Rattle.cf_table.specs.Faults.{AtRows}
 use Rattle.cf_table.specs.Reading.{AreRows, IsAbove}
 use Rattle.cf_table.specs.Spelling.{row_value, spell_each}
-use Rattle.cf_table.specs.declared.failures.RowFail.{RowFail}
+use Rattle.cf_table.specs.declared.failures.RowError.{RowError}
 use Rattle.cf_table.proofs.ReadRows.{AreBelow}
 use Rattle.cf_table.proofs.reads.read_rows.Given as goal
 
@@ -16,5 +16,5 @@ invariant-loop l = record {
   rows : (more : List model.Row) → AreRows l.before more → AreRows None (map row_value l.rows.rows ++ more);
   below : (id : ℕ) → IsAbove l.before id → AreBelow id l.rows.rows;
   next : l.rows.next ≡ l.fn.next;
-  fault : (e : RowFail) → AtRows l.before (l.count - l.counter) l.r e → AtRows None l.count l.fn.r e;
+  fault : (e : RowError) → AtRows l.before (l.count - l.counter) l.r e → AtRows None l.count l.fn.r e;
 }

@@ -5,7 +5,7 @@ use Rattle.cf_model.specs.Rows.{Extent}
 use Rattle.cf_table.specs.Faults.{AtExtents}
 use Rattle.cf_table.specs.Reading.{AreExtentsFrom}
 use Rattle.cf_table.specs.Spelling.{extent_of, spell_pairs}
-use Rattle.cf_table.specs.declared.failures.RowFail.{RowFail}
+use Rattle.cf_table.specs.declared.failures.RowError.{RowError}
 use Rattle.cf_table.proofs.set_reads.read_extents.Given as goal
 
 abbrev pub invariant-loop : goal.invariant-loop
@@ -14,5 +14,5 @@ invariant-loop l = record {
   took : Takes (spell_pairs l.pairs.items) l.fn.r l.r;
   count : length l.pairs.items ≡ l.counter;
   extents : (more : List Extent) → AreExtentsFrom l.low more → AreExtentsFrom 0 (map extent_of l.pairs.items ++ more);
-  fault : (e : RowFail) → AtExtents l.low (l.count - l.counter) l.r e → AtExtents 0 l.count l.fn.r e;
+  fault : (e : RowError) → AtExtents l.low (l.count - l.counter) l.r e → AtExtents 0 l.count l.fn.r e;
 }

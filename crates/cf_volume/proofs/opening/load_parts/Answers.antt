@@ -1,7 +1,7 @@
 use Rattle.std.proofs.Common.{◌≡◌, ◌+◌, ◌⊎◌, refl, sym, ap, subst}
 use Rattle.std.specs.Prelude.{Err}
 use Rattle.cf_base.specs.declared.codes.Code.TheVariants.{Exhausted, NotAVolume}
-use Rattle.cf_base.specs.declared.codes.Fail.{Fail}
+use Rattle.cf_base.specs.declared.codes.CallError.{CallError}
 use Rattle.cf_volume_commit.specs.Loaded.{HoldsImage}
 use Rattle.cf_journal.specs.Steps.{ReadsOnly}
 use Rattle.cf_model.specs.Formats.{Image}
@@ -16,12 +16,12 @@ use Rattle.cf_volume.proofs.opening.load_parts.Goals as goal
 
 pub returns-in_err-found-clause-none : goal.returns-in_err-found-clause-none
 returns-in_err-found-clause-none g c = λ epoch log b st.
-    handed_on (λ (e : Fail). IsRefused e NotAVolume → ⊥) c.from_residual-in_err-found.result c.in_err-found.field-0.0 c.from_residual-in_err-found.ensures.1
+    handed_on (λ (e : CallError). IsRefused e NotAVolume → ⊥) c.from_residual-in_err-found.result c.in_err-found.field-0.0 c.from_residual-in_err-found.ensures.1
     (λ is. c.in_err-found.ensures.none (ap Err (refused_as c.in_err-found.field-0.0 NotAVolume is)) epoch log b st)
 
 pub returns-in_err-found-clause-last : goal.returns-in_err-found-clause-last
 returns-in_err-found-clause-last g c = λ epoch log b st.
-    handed_on (λ (e : Fail). IsRefused e Exhausted → epoch ≡ most) c.from_residual-in_err-found.result c.in_err-found.field-0.0 c.from_residual-in_err-found.ensures.1
+    handed_on (λ (e : CallError). IsRefused e Exhausted → epoch ≡ most) c.from_residual-in_err-found.result c.in_err-found.field-0.0 c.from_residual-in_err-found.ensures.1
     (λ is. (c.in_err-found.ensures.last epoch log b st).0 (ap Err (refused_as c.in_err-found.field-0.0 Exhausted is)))
 
 pub returns-clause-ok : goal.returns-clause-ok
@@ -36,15 +36,15 @@ returns-clause-found g c = opened_from (g.D.Disk.state c.args.disk.now).seen c.i
 
 pub returns-in_err-found-clause-absent : goal.returns-in_err-found-clause-absent
 returns-in_err-found-clause-absent g c =
-    handed_on (λ (e : Fail). IsRefused e NotAVolume → (i : Image) → HoldsImage (g.D.Disk.state c.args.disk.now).seen i → ⊥) c.from_residual-in_err-found.result c.in_err-found.field-0.0 c.from_residual-in_err-found.ensures.1
+    handed_on (λ (e : CallError). IsRefused e NotAVolume → (i : Image) → HoldsImage (g.D.Disk.state c.args.disk.now).seen i → ⊥) c.from_residual-in_err-found.result c.in_err-found.field-0.0 c.from_residual-in_err-found.ensures.1
     (λ is. c.in_err-found.ensures.absent (ap Err (refused_as c.in_err-found.field-0.0 NotAVolume is)))
 
 pub returns-in_err-found-clause-exhausted : goal.returns-in_err-found-clause-exhausted
 returns-in_err-found-clause-exhausted g c =
-    handed_on (λ (e : Fail). IsRefused e Exhausted → (i : Image) × HoldsImage (g.D.Disk.state c.args.disk.now).seen i × (i.header.last.epoch ≡ most)) c.from_residual-in_err-found.result c.in_err-found.field-0.0 c.from_residual-in_err-found.ensures.1
+    handed_on (λ (e : CallError). IsRefused e Exhausted → (i : Image) × HoldsImage (g.D.Disk.state c.args.disk.now).seen i × (i.header.last.epoch ≡ most)) c.from_residual-in_err-found.result c.in_err-found.field-0.0 c.from_residual-in_err-found.ensures.1
     (λ is. c.in_err-found.ensures.exhausted (ap Err (refused_as c.in_err-found.field-0.0 Exhausted is)))
 
 pub returns-in_err-found-clause-unwritten : goal.returns-in_err-found-clause-unwritten
 returns-in_err-found-clause-unwritten g c =
-    handed_on (λ (e : Fail). IsRefused e NotAVolume ⊎ IsRefused e Exhausted → ReadsOnly (g.D.Disk.state c.args.disk.now) (g.D.Disk.state c.load.new.disk)) c.from_residual-in_err-found.result c.in_err-found.field-0.0 c.from_residual-in_err-found.ensures.1
+    handed_on (λ (e : CallError). IsRefused e NotAVolume ⊎ IsRefused e Exhausted → ReadsOnly (g.D.Disk.state c.args.disk.now) (g.D.Disk.state c.load.new.disk)) c.from_residual-in_err-found.result c.in_err-found.field-0.0 c.from_residual-in_err-found.ensures.1
     (λ is. c.in_err-found.ensures.unwritten (refused_as_one c.in_err-found.field-0.0 NotAVolume Exhausted is))

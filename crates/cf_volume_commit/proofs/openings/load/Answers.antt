@@ -1,7 +1,7 @@
 use Rattle.std.proofs.Common.{◌≡◌, inl, ap, subst, sym}
 use Rattle.std.specs.Prelude.{Err, Ok}
 use Rattle.cf_base.specs.declared.codes.Code.TheVariants as code
-use Rattle.cf_base.specs.declared.codes.Fail.TheVariants as fail
+use Rattle.cf_base.specs.declared.codes.CallError.TheVariants as fail
 use Rattle.cf_volume_commit.proofs.FoundParts.{image_there, last_epoch}
 use Rattle.cf_volume_commit.proofs.LaterNumbers.{raised_later}
 use Rattle.cf_volume_commit.proofs.OpenedAgain.{below_most, found_image, found_stands, opening_at, opening_leaves, opening_sound}

@@ -1,6 +1,6 @@
 use Rattle.std.proofs.Common.{ap, ◌∙◌}
 use Rattle.std.specs.Option.{ok_or}
-use Rattle.cf_wire.specs.declared.failures.WireFail.TheVariants as fail
+use Rattle.cf_wire.specs.declared.failures.WireError.TheVariants as fail
 use Rattle.cf_wire.specs.Reading.{flag_of}
 use Rattle.cf_wire.proofs.FieldSteps.{marked}
 use Rattle.cf_wire.proofs.fields.flag.Goals as goal

@@ -4,7 +4,7 @@ use Rattle.cf_world.proofs.Drafted.{add_early, drafted_front, drafted_more, draf
 use Rattle.cf_world.proofs.Errs.{err_if}
 use Rattle.cf_world.specs.Runs.{most_report}
 use Rattle.cf_world.specs.Steps.{AddFails, Hands}
-use Rattle.cf_world.specs.declared.fails.PlayFail.TheVariants.{Memory, SinkFault}
+use Rattle.cf_world.specs.declared.fails.PlayError.TheVariants.{OutOfMemory, SinkFault}
 use Rattle.cf_world.proofs.drafts.add.Goals as goal
 
 pub returns-in_err-write_all-clause-err : goal.returns-in_err-write_all-clause-err
@@ -17,7 +17,7 @@ returns-in_err-write_all-clause-err g c = λ text old h.
 pub returns-in_err-extend_from_slice-clause-err : goal.returns-in_err-extend_from_slice-clause-err
 returns-in_err-extend_from_slice-clause-err g c = λ text old h.
     let now = g.K.Sink.held c.args.sink.now in
-    err_if (AddFails text c.args.piece.now old now) c.from_residual-in_err-extend_from_slice.result Memory c.from_residual-in_err-extend_from_slice.ensures.1
+    err_if (AddFails text c.args.piece.now old now) c.from_residual-in_err-extend_from_slice.result OutOfMemory c.from_residual-in_err-extend_from_slice.ensures.1
     (front_more text c.args.piece.now old now (drafted_front text c.args.waiting.now.items c.args.made old now h))
 
 pub returns-in_err-write_piece-clause-err : goal.returns-in_err-write_piece-clause-err

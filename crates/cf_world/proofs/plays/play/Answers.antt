@@ -11,7 +11,7 @@ use Rattle.cf_world.proofs.Traces.{drafted_next, next_event, played_all, played_
 use Rattle.cf_world.specs.Led.{HasRunOn, IsLawful}
 use Rattle.cf_world.specs.Runs.{answers_of, events_of}
 use Rattle.cf_world.specs.Steps.{AddFails, SomePlayed}
-use Rattle.cf_world.specs.declared.fails.PlayFail.TheVariants.{Memory, SinkFault}
+use Rattle.cf_world.specs.declared.fails.PlayError.TheVariants.{OutOfMemory, SinkFault}
 use Rattle.cf_world.proofs.plays.play.Goals as goal
 
 pub returns-in_err-text-clause-err : goal.returns-in_err-text-clause-err
@@ -22,7 +22,7 @@ returns-in_err-text-clause-err g c = λ m disk h.
     let old = g.K.Sink.held c.args.sink.now in
     let now = g.K.Sink.held c.loop-event.sink in
     let lawful = run_lawful g.D.Disk.state m disk w.trace w.side (inv.2 m disk h) in
-    err_if (SomePlayed g.D.Disk.state m disk all old now c.answer.new.world.side) c.from_residual.result Memory c.from_residual.ensures.1
+    err_if (SomePlayed g.D.Disk.state m disk all old now c.answer.new.world.side) c.from_residual.result OutOfMemory c.from_residual.ensures.1
     (played_front (IsLawful m (clusters_on (g.D.Disk.state disk).seen)) all (drop c.loop-event.event-index all) w.trace c.loop-event.made c.loop-event.waiting.items old now inv.0 lawful inv.1)
 
 pub returns-in_err-made-clause-err : goal.returns-in_err-made-clause-err

@@ -23,5 +23,5 @@ pub returns-in-Err-No : goal.returns-in-Err-No
 returns-in-Err-No g c = λ seen spells.
     failed_on g.D.Disk.state c.args.self.now _ _ seen c.args.op.now _ _ _ _ (sym c.is_broken.ensures ∙ c.if-is_broken.false) (seen_beside g.D.Disk.state c.args.self.now _ seen c.args.records.now c.args.op.now _ spells (seen_from c.self.view_is (c.execute_with-told.ensures (seeing seen)))) c.outcome.ensures c.in-Err-No.is c.in-Err-No.field-0-is c.stop.ensures
 
-pub returns-in-Err-Memory : goal.returns-in-Err-Memory
-returns-in-Err-Memory g c = λ seen spells. lost_by g.D.Disk.state c.args.self.now _ _ seen c.args.op.now _ (sym c.is_broken.ensures ∙ c.if-is_broken.false) (seen_beside g.D.Disk.state c.args.self.now _ seen c.args.records.now c.args.op.now _ spells (seen_from c.self.view_is (c.execute_with-told.ensures (seeing seen)))) c.lose-in-Err-Memory.ensures
+pub returns-in-Err-OutOfMemory : goal.returns-in-Err-OutOfMemory
+returns-in-Err-OutOfMemory g c = λ seen spells. lost_by g.D.Disk.state c.args.self.now _ _ seen c.args.op.now _ (sym c.is_broken.ensures ∙ c.if-is_broken.false) (seen_beside g.D.Disk.state c.args.self.now _ seen c.args.records.now c.args.op.now _ spells (seen_from c.self.view_is (c.execute_with-told.ensures (seeing seen)))) c.lose-in-Err-OutOfMemory.ensures

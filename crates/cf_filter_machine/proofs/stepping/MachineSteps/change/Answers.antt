@@ -1,5 +1,5 @@
 use Rattle.std.proofs.Common.{◌++◌, ◌∷◌, [], ◌∙◌, ap, refl}
-use Rattle.cf_base.specs.declared.codes.Fail.TheVariants.{Memory}
+use Rattle.cf_base.specs.declared.codes.CallError.TheVariants.{OutOfMemory}
 use Rattle.cf_base.specs.declared.notices.Notice.TheVariants as notice
 use Rattle.cf_filter_machine.proofs.ChangeSteps.{not_refused, put_lost, put_stops_by, put_told, suited}
 use Rattle.cf_filter_machine.proofs.DeskSteps.{desk_exit, desk_lost, seen_at, seen_cause, seen_desk, seen_leaves, seen_runs, seen_whole}
@@ -41,7 +41,7 @@ returns-in_err-number-clause-does g c =
 
 pub returns-in_err-note-clause-does : goal.returns-in_err-note-clause-does
 returns-in_err-note-clause-does g c =
-    with_err (sense g.D.Disk.state) (Ready c.args.change.now) (change c.args.change.now) c.args.self.now _ Memory c.from_residual-in_err-note.result c.from_residual-in_err-note.ensures.1
+    with_err (sense g.D.Disk.state) (Ready c.args.change.now) (change c.args.change.now) c.args.self.now _ OutOfMemory c.from_residual-in_err-note.result c.from_residual-in_err-note.ensures.1
     (put_lost g.D.Disk.state (Ready c.args.change.now) c.args.self.now same_book c.args.change.now c.apply.new.self.disk
     (record { reads_one = g.met.D.Disk.reads_one c.apply.new.self.disk; same_size = g.met.D.Disk.same_size c.apply.new.self.disk })
     (λ v at keep. seen_leaves g.D.Disk.state (g.D.Disk.state c.apply.new.self.disk) (StandsEither v) c.self.view_is (c.in_ok-number.ensures.crash v (seen_at g.D.Disk.state v c.self.view_is at) keep))

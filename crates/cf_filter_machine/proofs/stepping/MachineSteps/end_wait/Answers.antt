@@ -1,5 +1,5 @@
 use Rattle.std.proofs.Common.{Option, ◌+◌, ◌∙◌, ap, refl, subst, sym}
-use Rattle.cf_base.specs.declared.codes.Fail.TheVariants.{Memory}
+use Rattle.cf_base.specs.declared.codes.CallError.TheVariants.{OutOfMemory}
 use Rattle.cf_base.specs.declared.ids.ItemId.{ItemId}
 use Rattle.cf_base.specs.declared.ids.WaitId.{WaitId}
 use Rattle.cf_base.specs.declared.waits.End.TheVariants as end
@@ -63,7 +63,7 @@ returns-in_err-bytes g c =
 
 pub returns-in_err-end : goal.returns-in_err-end
 returns-in_err-end g c =
-    with_err (sense g.D.Disk.state) (IsEndOnFile c.args.ended.now) (end_wait c.args.ended.now) c.args.self.now _ Memory c.from_residual-in_err-end.result c.from_residual-in_err-end.ensures.1
+    with_err (sense g.D.Disk.state) (IsEndOnFile c.args.ended.now) (end_wait c.args.ended.now) c.args.self.now _ OutOfMemory c.from_residual-in_err-end.result c.from_residual-in_err-end.ensures.1
     (one_lost g.D.Disk.state (IsEndOnFile c.args.ended.now) c.args.self.now c.read_here.new.volume.disk
     (record { reads_one = g.met.D.Disk.reads_one c.read_here.new.volume.disk; same_size = g.met.D.Disk.same_size c.read_here.new.volume.disk })
     (λ v at. seen_leaves g.D.Disk.state (g.D.Disk.state c.read_here.new.volume.disk) (StandsLast v) c.self.view_is (c.in_ok-bytes.ensures.crash v (seen_at g.D.Disk.state v c.self.view_is at)))

@@ -1,5 +1,5 @@
 use Rattle.std.proofs.Common.{◌++◌, ◌∷◌, [], ◌∙◌, ap, refl, subst, sym}
-use Rattle.cf_base.specs.declared.codes.Fail.TheVariants.{Memory}
+use Rattle.cf_base.specs.declared.codes.CallError.TheVariants.{OutOfMemory}
 use Rattle.std.specs.Prelude.{Ok}
 use Rattle.cf_base.specs.declared.notices.Notice.TheVariants as notice
 use Rattle.cf_filter_machine.proofs.ChangeSteps.{accessed_put, later, not_refused, put_lost, put_stops_by, put_told, suited}
@@ -70,7 +70,7 @@ returns-in_err-touch-clause-does g c =
 
 pub returns-in_err-note-clause-does : goal.returns-in_err-note-clause-does
 returns-in_err-note-clause-does g c =
-    with_err (sense g.D.Disk.state) (ReadyOn c.args.item c.args.change.now) (change_with (with_access c.args.item) c.args.change.now) c.args.self.now _ Memory c.from_residual-in_err-note.result c.from_residual-in_err-note.ensures.1
+    with_err (sense g.D.Disk.state) (ReadyOn c.args.item c.args.change.now) (change_with (with_access c.args.item) c.args.change.now) c.args.self.now _ OutOfMemory c.from_residual-in_err-note.result c.from_residual-in_err-note.ensures.1
     (put_lost g.D.Disk.state (ReadyOn c.args.item c.args.change.now) c.args.self.now (with_access c.args.item) c.args.change.now c.apply.new.self.disk
     (record { reads_one = g.met.D.Disk.reads_one c.apply.new.self.disk; same_size = g.met.D.Disk.same_size c.apply.new.self.disk })
     (λ v at keep. seen_leaves g.D.Disk.state (g.D.Disk.state c.apply.new.self.disk) (StandsEither v) c.self.view_is (c.in_ok-number.ensures.crash v (seen_at g.D.Disk.state v c.self.view_is at) keep))

@@ -1,6 +1,6 @@
 use Rattle.std.proofs.Common.{◌++◌, ◌∷◌, [], ◌∙◌, ap}
 use Rattle.cf_base.specs.declared.changes.Change.TheVariants as change
-use Rattle.cf_base.specs.declared.codes.Fail.TheVariants.{Memory}
+use Rattle.cf_base.specs.declared.codes.CallError.TheVariants.{OutOfMemory}
 use Rattle.cf_base.specs.declared.notices.Notice.TheVariants as notice
 use Rattle.cf_filter_machine.proofs.DeskSteps.{seen_at, seen_cause, seen_desk, seen_leaves, seen_runs, seen_whole}
 use Rattle.cf_filter_machine.proofs.RemoveSteps.{removed_lost, removed_stopped, removed_told}
@@ -24,7 +24,7 @@ returns-in_err-number-clause-does g c = λ i.
 
 pub returns-in_err-note-clause-does : goal.returns-in_err-note-clause-does
 returns-in_err-note-clause-does g c = λ i.
-    with_err (sense g.D.Disk.state) (MayGo c.args.item i) (removed c.args.bury i) c.args.self.now _ Memory c.from_residual-in_err-note.result c.from_residual-in_err-note.ensures.1
+    with_err (sense g.D.Disk.state) (MayGo c.args.item i) (removed c.args.bury i) c.args.self.now _ OutOfMemory c.from_residual-in_err-note.result c.from_residual-in_err-note.ensures.1
     (removed_lost g.D.Disk.state c.args.self.now c.args.item c.args.bury i c.remove_item.new.volume.disk
     (record { reads_one = g.met.D.Disk.reads_one c.remove_item.new.volume.disk; same_size = g.met.D.Disk.same_size c.remove_item.new.volume.disk })
     (λ v at. seen_leaves g.D.Disk.state (g.D.Disk.state c.remove_item.new.volume.disk) (StandsLast v) c.self.view_is (c.in_ok-number.ensures.crash v (seen_at g.D.Disk.state v c.self.view_is at)))

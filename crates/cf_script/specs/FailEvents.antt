@@ -3,8 +3,8 @@ use Rattle.std.specs.Prelude.{◌≡◌, ℕ, ◌+◌, ◌<◌, ◌≤◌, List,
 use Rattle.std.specs.List.{list_all}
 use Rattle.cf_base.specs.declared.events.Event.{Event}
 use Rattle.cf_base.specs.declared.policies.Mode.{Mode}
-use Rattle.cf_script.specs.declared.fails.ScriptFail.{ScriptFail}
-use Rattle.cf_script.specs.declared.fails.ScriptFail.TheVariants as fails
+use Rattle.cf_script.specs.declared.fails.ScriptError.{ScriptError}
+use Rattle.cf_script.specs.declared.fails.ScriptError.TheVariants as fails
 use Rattle.cf_script.specs.Script.{Spells, AreEvents, is_event_line, event_lines}
 use Rattle.cf_script.specs.Built.{is_built}
 
@@ -20,8 +20,8 @@ pub record IsLine (mode : Mode) (lines : List (List ℕ)) (n : ℕ) (events : Li
   pub here : is_event_line line ≡ true
 
 -- memory is free; else the line is the first that stops the reading
-abbrev pub IsCause : Mode → List (List ℕ) → ScriptFail → Type 0
+abbrev pub IsCause : Mode → List (List ℕ) → ScriptError → Type 0
 IsCause mode lines (fails.Syntax n) = (events : List Event) × (line : List ℕ) × IsLine mode lines n events line × ((event : Event) → Spells mode line event → ⊥)
 IsCause mode lines (fails.TooManyEvents n) = (events : List Event) × (line : List ℕ) × IsLine mode lines n events line × (length events ≡ 100000) × ((event : Event) × Spells mode line event)
 IsCause mode lines (fails.NotBuilt n) = (events : List Event) × (line : List ℕ) × IsLine mode lines n events line × (length events < 100000) × ((event : Event) × Spells mode line event × (is_built mode event ≡ false))
-IsCause mode lines fails.Memory = Unit {0}
+IsCause mode lines fails.OutOfMemory = Unit {0}
