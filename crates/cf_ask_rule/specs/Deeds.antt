@@ -3,8 +3,8 @@ use Rattle.std.specs.Prelude.{not, List, filter, map}
 use Rattle.cf_model.specs.Asks.{after_deed, is_over}
 use Rattle.cf_model.specs.Requests.{Cancels, Closes, Deed, Expires, Fails, Finishes, Leaves, Live, Nothing, Restarts}
 use Rattle.cf_model.specs.Words.{counting}
-use Rattle.cf_ask_rule.specs.declared.deeds.Act.{Act}
-use Rattle.cf_ask_rule.specs.declared.deeds.Act.TheVariants as act
+use Rattle.cf_ask_rule.specs.declared.acts.Act.{Act}
+use Rattle.cf_ask_rule.specs.declared.acts.Act.TheVariants as act
 
 abbrev pub deed_of : Act → Deed
 deed_of act.Nothing = Nothing

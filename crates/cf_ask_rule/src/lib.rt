@@ -1,20 +1,20 @@
 //! The ask rule: what one step does to the waits on an item, and to what the provider is asked for them.
 #![tactic(auto)]
 
+mod acts;
 mod asks;
-mod deeds;
 mod laws;
-mod makes;
 mod misses;
-mod nexts;
+mod new_asks;
 mod plans;
+mod searches;
 mod sights;
 mod unions;
 mod views;
 mod waits;
 
+pub use acts::{Act, live_of};
 pub use asks::{LiveAsk, is_data, is_dehydrate, is_list};
-pub use deeds::{Act, live_of};
 pub use laws::{
     a_step_looks_at_its_item, each_data_ask_has_a_missed_block, each_missing_block_has_one_owner,
     each_missing_block_is_owned, no_block_gets_two_owners,

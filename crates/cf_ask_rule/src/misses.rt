@@ -7,7 +7,7 @@ ghost use Rattle.cf_model.specs.Missing.{is_met, misses, misses_between, needed}
 ghost use Rattle.cf_model.specs.Words.{counting};
 ghost use Rattle.cf_ranges.specs.Positions.{contains, IsRuns};
 
-use crate::nexts::next_in;
+use crate::searches::next_in;
 use crate::sights::Sight;
 use crate::unions::union_of;
 use crate::waits::LiveWait;

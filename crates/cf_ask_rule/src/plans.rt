@@ -3,10 +3,10 @@ ghost use Rattle.std.specs.Prelude.{◌≡◌, IfOk};
 ghost use Rattle.cf_ask_rule.specs.Deeds.{deed_of};
 ghost use Rattle.cf_ask_rule.specs.Plans.{plan_of};
 
+use crate::acts::{Act, asks_after, cancelled_of, drop_cancelled, ended_by, left_by};
 use crate::asks::LiveAsk;
-use crate::deeds::{Act, asks_after, cancelled_of, drop_cancelled, ended_by, left_by};
-use crate::makes::new_asks;
 use crate::misses::needs_of;
+use crate::new_asks::new_asks;
 use crate::sights::Sight;
 use crate::waits::LiveWait;
 use cf_base::{Cause, ItemId, Key, OutOfMemory};

@@ -5,7 +5,7 @@ ghost use Rattle.cf_ranges.specs.Positions.{contains, IsRuns};
 ghost use Rattle.cf_ask_rule.specs.Nexts.{IsNext, lacks_at};
 ghost use Rattle.cf_ask_rule.specs.Sights.{is_lacking, meets, shown};
 
-use crate::nexts::{below, lesser, next_in};
+use crate::searches::{below, lesser, next_in};
 use crate::views::View;
 use cf_base::{OutOfMemory, Span};
 use std::alloc::Global;

@@ -1,8 +1,8 @@
 //! Tests of what no clause says: that each call succeeds where memory is ample.
 
 use cf_base::{
-    Blob, CallError, Change, Code, Hydration, Identity, ItemId, Kind, Mode, Name,
-    Policy, Population, Sequence, Span, Status, Text, blocks_of,
+    Blob, CallError, Change, Code, Hydration, Identity, ItemId, Kind, Mode, Name, Policy,
+    Population, Sequence, Span, Status, Text, blocks_of,
 };
 use std::test::Fail as TestFail;
 

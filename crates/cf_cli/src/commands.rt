@@ -8,7 +8,7 @@ ghost use Rattle.cf_cli.specs.Accounts.{AreTaken, Names, name_of};
 ghost use Rattle.cf_cli.specs.declared.commands.Command.{Command as Meant};
 ghost use Rattle.cf_cli.specs.declared.commands.WordsError.TheVariants as fails;
 
-use crate::accounts::account;
+use crate::command_line::account;
 use clap::error::ErrorKind;
 use clap::{ArgMatches, Error};
 use std::alloc::{AllocError, Global};

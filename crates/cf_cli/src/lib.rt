@@ -4,7 +4,7 @@
 //! such a command line takes is `clap`'s own account; its `fault_of` computes.
 #![tactic(auto)]
 
-mod accounts;
+mod command_line;
 mod commands;
 mod laws;
 

@@ -12,6 +12,6 @@ mod orders;
 mod tests;
 mod uses;
 
-pub use clusters::{Data, ClusterError};
+pub use clusters::{ClusterError, Data};
 pub use laws::{commit_frees_all_else, one_more_or_less, stages_find_room, uses_add_up};
 pub use uses::Use;

@@ -1,6 +1,6 @@
 //! A store over a disk in memory, also where the disk fails and the power is cut.
 
-use crate::{Data, ClusterError};
+use crate::{ClusterError, Data};
 use cf_base::{Choice, OutOfMemory};
 use cf_disk::{Disk, MemDisk};
 use std::alloc::Global;

@@ -4,21 +4,21 @@
 //! the entry, whatever step is left out on the way (`IsTurn`).
 #![tactic(auto)]
 
-mod arrivals;
-mod departures;
-mod entry_steps;
+mod ancestors;
+mod changed_entries;
+mod gone_entries;
 mod identities;
-mod knowledge;
+mod known;
 mod laws;
-mod lines;
-mod moves;
 mod names;
+mod new_entries;
 mod orders;
+mod steps;
 mod turns;
 
-pub use entry_steps::{Step, Turn};
-pub use knowledge::Known;
+pub use changed_entries::copy_off;
+pub use known::Known;
 pub use laws::{a_copy_is_its_change, steps_do_the_turn};
-pub use moves::copy_off;
 pub use orders::{order, places_are_in_turn};
+pub use steps::{Step, Turn};
 pub use turns::steps;

@@ -6,7 +6,7 @@ ghost use Rattle.cf_model.specs.Items.{Item};
 ghost use Rattle.cf_engine_feed.specs.Lists.{off};
 ghost use Rattle.cf_table.specs.Tables.{MeansAll};
 
-use cf_base::{Change, ItemId, OutOfMemory, Name};
+use cf_base::{Change, ItemId, Name, OutOfMemory};
 use cf_table::Rows;
 use cf_tree::conflict_name;
 use std::alloc::Global;

@@ -12,7 +12,7 @@ ghost use Rattle.cf_engine_feed.specs.Premises.{id_of};
 ghost use Rattle.cf_table.specs.Tables.{MeansAll};
 ghost use Rattle.cf_tree.specs.Trees.{IsTree};
 
-use crate::lines::{MOST_NAMES, depth_of};
+use crate::ancestors::{MOST_NAMES, depth_of};
 use cf_base::{Entry, ItemId, OutOfMemory};
 use cf_table::Rows;
 use std::alloc::Global;

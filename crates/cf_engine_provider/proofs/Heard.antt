@@ -8,7 +8,7 @@ use Rattle.cf_engine_provider.specs.Agencies.{Agency, Any, Performs, Plays}
 use Rattle.cf_engine_provider.specs.Findings.{Knows}
 use Rattle.cf_engine_provider.specs.Listings.{known_in, path_of, paths_from}
 use Rattle.cf_engine_provider.specs.Parts.{IsList, fetched, give_entries, listed, listing_unless}
-use Rattle.cf_engine_provider.specs.declared.finding.Found.{Found}
+use Rattle.cf_engine_provider.specs.declared.list_views.Found.{Found}
 use Rattle.cf_engine_provider.proofs.Fetched.{by_live, no_fit, same_is}
 use Rattle.cf_engine_provider.proofs.Played.{as_well, nothing, within}
 use Rattle.cf_base.specs.declared.ids.ItemId.{ItemId}

@@ -7,7 +7,7 @@ use Rattle.cf_base.specs.declared.messages.Request.{Request}
 use Rattle.cf_base.specs.declared.notices.Frame.TheVariants as frame
 use Rattle.cf_base.specs.declared.notices.Notice.{Notice}
 use Rattle.cf_link.specs.Linked.{Does, Ended, IsLink, Linked, Posts, with_line}
-use Rattle.cf_link.specs.declared.posting.Posted.{Posted}
+use Rattle.cf_link.specs.declared.posts.Posted.{Posted}
 use Rattle.cf_model.proofs.TreeLaws.{ends_then, stops_then}
 use Rattle.cf_model.specs.Arrows.{unit}
 use Rattle.cf_model.specs.Messages.{after_post, come, come_if, post, send_now, take_if_any}

@@ -3,7 +3,7 @@ use Rattle.std.specs.Prelude.{◌≡◌}
 use Rattle.std.specs.List.{list_any}
 use Rattle.cf_engine_provider.specs.Answering.{IsLive}
 use Rattle.cf_engine_provider.specs.Listings.{known_in}
-use Rattle.cf_engine_provider.specs.declared.finding.Found.{Found}
+use Rattle.cf_engine_provider.specs.declared.list_views.Found.{Found}
 use Rattle.cf_base.specs.declared.ids.Key.{Key}
 use Rattle.cf_model.specs.PushReplies.{is_new_entry}
 use Rattle.cf_model.specs.State.{Filter}

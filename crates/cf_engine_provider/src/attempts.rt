@@ -5,7 +5,7 @@ ghost use Rattle.cf_engine_provider.specs.Agencies.{Any, Performs, Plays};
 ghost use Rattle.cf_engine_provider.specs.Parts.{Tries, tried_of};
 ghost use Rattle.cf_model.specs.Fetching.{do_op};
 
-use cf_base::{Code, CallError, OutOfMemory, Operation, SeenPath};
+use cf_base::{CallError, Code, Operation, OutOfMemory, SeenPath};
 use cf_provider::Port;
 
 /// What an operation came to.

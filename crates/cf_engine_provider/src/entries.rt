@@ -9,7 +9,7 @@ ghost use Rattle.cf_model.specs.Identities.{entry_identity};
 ghost use Rattle.cf_model.specs.Words.{in_bytes};
 
 use crate::locals::Locals;
-use cf_base::{Entry, Identity, ItemId, OutOfMemory, Name, NewItem, SeenPath, Sequence};
+use cf_base::{Entry, Identity, ItemId, Name, NewItem, OutOfMemory, SeenPath, Sequence};
 use cf_wire::LocalItems;
 use std::alloc::Global;
 

@@ -4,7 +4,7 @@ ghost use Rattle.std.specs.Prelude.{◌≡◌, IfOk};
 ghost use Rattle.cf_engine_provider.specs.Parts.{Exchanges};
 ghost use Rattle.cf_wire.specs.Spelled.{HasRoom};
 
-use cf_base::{OutOfMemory, Notice, Reply, Request};
+use cf_base::{Notice, OutOfMemory, Reply, Request};
 use cf_link::Link;
 use cf_remote::Remote;
 
@@ -20,7 +20,10 @@ pub(crate) struct Exchange {
 }
 
 /// Sends a request, which under an inline link comes to the remote at once.
-pub(crate) fn speak<R: Remote>(link: &mut Link<R>, request: &Request) -> Result<Exchange, OutOfMemory>
+pub(crate) fn speak<R: Remote>(
+    link: &mut Link<R>,
+    request: &Request,
+) -> Result<Exchange, OutOfMemory>
     requires { HasRoom request.now }
     ensures { IfOk result (λ e. Exchanges R.told request.now link.old e link.new) }
 {

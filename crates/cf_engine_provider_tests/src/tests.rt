@@ -1,9 +1,9 @@
 //! The engine on a port that keeps what it does, and on which no ask is live.
 
+use cf_base::{Ask, AskKind, Identity, ItemId, Key, Notice, Operation, OutOfMemory, Span};
 use cf_engine_provider::Agent;
-use cf_base::{Ask, AskKind, Identity, ItemId, Key, OutOfMemory, Notice, Operation, Span};
-use cf_provider::{Callback, Kept, Provider, Recorder};
 use cf_link::Link;
+use cf_provider::{Callback, Kept, Provider, Recorder};
 use cf_remote::StoreRemote;
 use cf_table::Rows;
 use std::alloc::Global;

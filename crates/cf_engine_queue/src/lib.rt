@@ -9,16 +9,16 @@
 
 mod fields;
 mod laws;
-mod ordered;
+mod ordered_lists;
 mod queues;
-mod reading;
+mod record_reads;
+mod record_writes;
 mod records;
-mod spelling;
 mod uploads;
 
 pub use laws::{keepable_after_each_step, one_record_a_step, one_value_a_record};
 pub use queues::Queue;
-pub use reading::{read_cursor, read_record, read_seen};
+pub use record_reads::{read_cursor, read_record, read_seen};
+pub use record_writes::{spell_cursor, spell_seen};
 pub use records::Record;
-pub use spelling::{spell_cursor, spell_seen};
 pub use uploads::{Action, QueueEntry, Tombstone};

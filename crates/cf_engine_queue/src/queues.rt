@@ -6,8 +6,8 @@ ghost use Rattle.cf_model.specs.Books.{Book, aux_records, entry_of, no_book, tom
 ghost use Rattle.cf_engine_queue.specs.Books.{ComesLast, added, entry_value, tombstone_value};
 ghost use Rattle.cf_engine_queue.specs.Records.{IsKeepable, Loads, heard, queue_of};
 
-use crate::ordered::{Ranked, find_ranked, put_before, put_behind, take_ranked};
-use crate::reading::read_record;
+use crate::ordered_lists::{Ranked, find_ranked, put_before, put_behind, take_ranked};
+use crate::record_reads::read_record;
 use crate::records::Record;
 use crate::uploads::{QueueEntry, Tombstone};
 use cf_base::{AuxRecord, CallError, OutOfMemory, Token, Usn};

@@ -3,7 +3,7 @@
 ghost use Rattle.std.specs.Prelude.{◌≡◌, [], unwrap_or, IfOk};
 
 use crate::filters::Filter;
-use cf_base::{Ask, Code, CallError, Identity, OutOfMemory, Shown};
+use cf_base::{Ask, CallError, Code, Identity, OutOfMemory, Shown};
 use cf_disk::Disk;
 use cf_provider::{Callback, Provider};
 use cf_table::Row;

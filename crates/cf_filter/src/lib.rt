@@ -5,24 +5,24 @@
 //! since that call began (`Rose`, there).
 #![tactic(auto)]
 
+mod anchors;
 mod answers;
-mod arranging;
-mod booking;
 mod callbacks;
-mod callers;
+mod engine_steps;
 mod filters;
-mod handing;
+mod item_calls;
+mod item_facts;
 mod openings;
+mod operations;
 mod paths;
 mod placements;
 mod ports;
-mod providing;
+mod readouts;
 mod reads;
-mod recording;
+mod records;
+mod sessions;
 mod settings;
-mod standing;
-mod tellings;
-mod told;
+mod shown_values;
 mod writes;
 
 pub use answers::{Info, Waited};

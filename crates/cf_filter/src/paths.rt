@@ -25,7 +25,10 @@ fn spell_path(alloc: Global, path: &SeenPath) -> Result<AuxRecord, OutOfMemory>
 }
 
 /// The records of these paths, in order.
-pub(crate) fn spell_paths(alloc: Global, paths: &[SeenPath]) -> Result<Sequence<AuxRecord>, OutOfMemory>
+pub(crate) fn spell_paths(
+    alloc: Global,
+    paths: &[SeenPath],
+) -> Result<Sequence<AuxRecord>, OutOfMemory>
     ensures { IfOk result (Spells paths.now) }
 {
     let mut records = Sequence::new(alloc);

@@ -2,14 +2,14 @@
 #![tactic(auto, using(crate::proofs::Called::called_not, crate::proofs::Called::called_not_with))]
 
 ghost use Rattle.cf_base.specs.declared.answers.Shown.TheVariants as shown;
-ghost use Rattle.cf_placeholder.specs.Plans.{meant};
+ghost use Rattle.cf_item_rules.specs.PlaceholderPlans.{meant};
 
 use crate::filters::Filter;
-use crate::told::{item, number};
+use crate::shown_values::{item, number};
 use cf_base::{CallError, Identity, ItemId, Notes, Usn};
-use cf_filter_calls::{convert, create, revert, unmark, update};
 use cf_disk::Disk;
-use cf_placeholder::Creation;
+use cf_filter_calls::{convert, create, revert, unmark, update};
+use cf_item_rules::Creation;
 
 impl<D: Disk> Filter<D> {
     ghost use Rattle.std.specs.Prelude.{◌≡◌};
@@ -21,7 +21,12 @@ impl<D: Disk> Filter<D> {
     /// Refused as Broken, as the look-up of a path at which something is made, as Exists, of a placeholder as
     /// IdentityTooLong, of a placeholder file as TooLarge and as PolicyDenied where the policy keeps files full and it has
     /// bytes, then as Exhausted, TableFull, Device.
-    pub fn create(&mut self, path: &str, what: &Creation, notes: &mut Notes) -> Result<ItemId, CallError>
+    pub fn create(
+        &mut self,
+        path: &str,
+        what: &Creation,
+        notes: &mut Notes,
+    ) -> Result<ItemId, CallError>
         ensures does { Calls (sense D.state) shown.Item (create path.now (meant what.now)) (noted notes.old self.old) result (noted notes.new self.new) }
         ensures keeps { self.new.desk.notes ≡ self.old.desk.notes }
     {

@@ -5,10 +5,10 @@ ghost use Rattle.cf_model.specs.Arrows.{is_device};
 
 use crate::filters::Filter;
 use crate::paths::spell_paths;
-use crate::told::outcome;
-use cf_base::{Ask, AuxRecord, Code, CallError, Key, OutOfMemory, Notice, Operation, SeenPath};
-use cf_filter_calls::execute_with;
+use crate::shown_values::outcome;
+use cf_base::{Ask, AuxRecord, CallError, Code, Key, Notice, Operation, OutOfMemory, SeenPath};
 use cf_disk::Disk;
+use cf_filter_calls::execute_with;
 use cf_provider::{Outcome, Port};
 use cf_table::Rows;
 
@@ -74,7 +74,11 @@ impl<D: Disk> Filter<D> {
     }
 
     // An operation; where it gives entries, these records of paths seen come in the same step as the last of them.
-    fn execute_beside(&mut self, op: &Operation, records: &[AuxRecord]) -> Result<Outcome, CallError>
+    fn execute_beside(
+        &mut self,
+        op: &Operation,
+        records: &[AuxRecord],
+    ) -> Result<Outcome, CallError>
         ensures { (seen : List SeenPath) → Spells seen records.now → Executes (Goes D.state) seen op.now self.old result self.new }
     {
         if self.is_broken() {

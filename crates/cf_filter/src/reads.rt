@@ -3,10 +3,10 @@
 
 use crate::answers::Waited;
 use crate::filters::Filter;
-use crate::told::waited;
+use crate::shown_values::waited;
 use cf_base::{CallError, Handle, Notes, Span};
-use cf_filter_calls::{dehydrate, get, hydrate, list, read};
 use cf_disk::Disk;
+use cf_filter_calls::{dehydrate, get, hydrate, list, read};
 use cf_provider::Provider;
 
 impl<D: Disk> Filter<D> {

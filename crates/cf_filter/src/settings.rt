@@ -4,10 +4,10 @@
 ghost use Rattle.cf_base.specs.declared.answers.Shown.TheVariants as shown;
 
 use crate::filters::Filter;
-use crate::told::{count, done, handle};
+use crate::shown_values::{count, done, handle};
 use cf_base::{CallError, Handle, Mode, Notes, Policy};
-use cf_filter_calls::{connect, flush, open_file, set_policy};
 use cf_disk::Disk;
+use cf_filter_calls::{connect, flush, open_file, set_policy};
 
 impl<D: Disk> Filter<D> {
     ghost use Rattle.std.specs.Prelude.{◌≡◌};

@@ -4,10 +4,10 @@
 ghost use Rattle.cf_base.specs.declared.answers.Shown.TheVariants as shown;
 
 use crate::filters::Filter;
-use crate::told::{done, number};
+use crate::shown_values::{done, number};
 use cf_base::{CallError, Handle, Notes, Usn};
-use cf_filter_calls::{close, keep_full, set_in_sync, set_size, write};
 use cf_disk::Disk;
+use cf_filter_calls::{close, keep_full, set_in_sync, set_size, write};
 use cf_provider::Provider;
 
 impl<D: Disk> Filter<D> {

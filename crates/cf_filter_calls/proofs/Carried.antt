@@ -27,7 +27,7 @@ use Rattle.cf_model.specs.State.{Filter}
 use Rattle.cf_model.specs.Trees.{Does}
 use Rattle.cf_model.specs.Waits.{on_ok}
 use Rattle.cf_model.specs.Words.{part}
-use Rattle.cf_placeholder.specs.Plans.{IsPlan}
+use Rattle.cf_item_rules.specs.PlaceholderPlans.{IsPlan}
 use Rattle.cf_waits.specs.Told.{is_busy}
 use Rattle.cf_filter_steps.specs.Answering.{After, Answers, Any, IsAt, Reads, Sense}
 use Rattle.cf_filter_steps.specs.Finding.{Finds, HasRows, Plans}

@@ -22,8 +22,8 @@ use Rattle.cf_base.specs.declared.waits.WaitKind.TheVariants as wait_kind
 use Rattle.cf_filter_calls.specs.Emptying.{MayEmpty, held_emptied, holds_from, verdict_there, verdict_used}
 use Rattle.cf_filter_calls.specs.Moved.{lacks_place}
 use Rattle.cf_filter_calls.specs.Planned.{ReadsAt}
-use Rattle.cf_dehydrate.specs.Told.{Tells}
-use Rattle.cf_dehydrate.specs.declared.facts.Facts.{Facts}
+use Rattle.cf_item_rules.specs.DehydrationFacts.{Tells}
+use Rattle.cf_item_rules.specs.declared.dehydration_facts.Facts.{Facts}
 use Rattle.cf_model.specs.Arrows.{Arrow, choose, then_do, unless}
 use Rattle.cf_model.specs.Calls.{size_at}
 use Rattle.cf_model.specs.Changes.{change as one_change}

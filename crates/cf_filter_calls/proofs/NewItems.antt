@@ -35,7 +35,7 @@ use Rattle.cf_model.specs.Trees.{Does}
 use Rattle.cf_model.specs.Waits.{on_ok}
 use Rattle.cf_model.specs.Words.{first_of, when}
 use Rattle.cf_filter_steps.specs.Answering.{After, Answers, Any, Reads, Sense}
-use Rattle.cf_placeholder.specs.Plans.{IsPlan}
+use Rattle.cf_item_rules.specs.PlaceholderPlans.{IsPlan}
 use Rattle.cf_filter_steps.specs.Finding.{FindsPlace, FoundPlace, HasRows, IsPlace}
 use Rattle.cf_filter_steps.specs.Good.{Every, IsGood}
 use Rattle.cf_filter_steps.specs.Readings.{next_place, policy_of}

@@ -12,7 +12,7 @@ ghost use Rattle.cf_filter_steps.specs.Putting.{IsFile};
 
 use crate::items::is_directory;
 use cf_ask_rule::Act;
-use cf_base::{Code, CallError, Handle, ItemId, Shown, WaitId};
+use cf_base::{CallError, Code, Handle, ItemId, Shown, WaitId};
 use cf_filter_steps::{Steps, find_at, hang_up, settle};
 
 fn open_next<S: Steps>(s: &mut S, id: ItemId) -> Result<Shown, CallError>

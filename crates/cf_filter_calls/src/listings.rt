@@ -10,10 +10,10 @@ ghost use Rattle.cf_model.specs.Operations.{entry_kind, is_twice};
 ghost use Rattle.cf_model.specs.Texts.{is_name};
 ghost use Rattle.cf_model.specs.Words.{same, when};
 
-use crate::dehydrating::is_always_full;
+use crate::dehydrations::is_always_full;
 use cf_base::{
-    Blob, Change, Code, CallError, ItemId, Kind, OutOfMemory, Name, NewItem, Policy, Population, Sequence,
-    Usn,
+    Blob, CallError, Change, Code, ItemId, Kind, Name, NewItem, OutOfMemory, Policy, Population,
+    Sequence, Usn,
 };
 use std::alloc::Global;
 

@@ -11,9 +11,9 @@ ghost use Rattle.cf_filter_steps.specs.Finding.{Plans};
 ghost use Rattle.cf_filter_steps.specs.Suiting.{Suiting};
 
 use crate::items::{is_used, number_at, refused_by};
-use cf_base::{Change, Code, CallError, Identity, ItemId, Sequence, Shown};
-use cf_placeholder::{plan_convert, plan_revert, plan_unmark, plan_update};
+use cf_base::{CallError, Change, Code, Identity, ItemId, Sequence, Shown};
 use cf_filter_steps::{Steps, change_all, find_at, find_below_root};
+use cf_item_rules::{plan_convert, plan_revert, plan_unmark, plan_update};
 
 // Makes the changes, and gives the item's number.
 fn make_on<S: Steps>(s: &mut S, id: ItemId, changes: &[Change]) -> Result<Shown, CallError>
@@ -39,7 +39,11 @@ fn make_planned<S: Steps>(
     }
 }
 
-fn convert_plan<S: Steps>(s: &S, id: ItemId, identity: &Identity) -> Result<Sequence<Change>, CallError>
+fn convert_plan<S: Steps>(
+    s: &S,
+    id: ItemId,
+    identity: &Identity,
+) -> Result<Sequence<Change>, CallError>
     ensures { Plans S.sense id (by_convert identity.now) s.now result }
 {
     // What was found has a row.

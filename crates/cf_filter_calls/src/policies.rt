@@ -8,7 +8,7 @@ ghost use Rattle.cf_model.specs.Waits.{but_directory};
 ghost use Rattle.cf_filter_steps.specs.Answering.{Answers, Any, IsAt, Reads};
 
 use crate::items::is_directory;
-use cf_base::{Code, CallError, ItemId, Mode, Policy, Population, Shown};
+use cf_base::{CallError, Code, ItemId, Mode, Policy, Population, Shown};
 use cf_filter_steps::{Steps, find_at};
 
 fn is_always_population(population: Population) -> bool

@@ -19,14 +19,15 @@ ghost use Rattle.cf_table.specs.Means.{Means};
 
 mod running;
 
-use crate::meeting::{start_gone, start_on};
-use crate::opens::Open;
+use crate::missing_bytes::{start_gone, start_on};
+use crate::open_files::Open;
 use cf_base::{
-    Ask, Code, End, CallError, Handle, ItemId, Key, OutOfMemory, Notes, Notice, Policy, Sequence, WaitId,
+    Ask, CallError, Code, End, Handle, ItemId, Key, Notes, Notice, OutOfMemory, Policy, Sequence,
+    WaitId,
 };
-use cf_waits::{Moves, Requests, Step};
 use cf_filter_steps::Need;
 use cf_table::Row;
+use cf_waits::{Moves, Requests, Step};
 use std::alloc::Global;
 use std::collections::VecDeque;
 use std::marker::Model;
@@ -300,7 +301,11 @@ fn is_own(own: Option<WaitId>, wait: WaitId) -> bool
     }
 }
 
-fn note_background(notes: &mut Notes, beside: Option<WaitId>, item: ItemId) -> Result<(), OutOfMemory>
+fn note_background(
+    notes: &mut Notes,
+    beside: Option<WaitId>,
+    item: ItemId,
+) -> Result<(), OutOfMemory>
     ensures { OnOk result (notes.new ≡ notes.old ++ background_lines item beside) }
 {
     if let Some(wait) = beside {

@@ -7,7 +7,7 @@ ghost use Rattle.cf_model.specs.Settling.{entries_at};
 ghost use Rattle.cf_table.specs.Tables.{MeansAll};
 ghost use Rattle.cf_tree.specs.Trees.{RiseFrom};
 
-use cf_base::{ItemId, ListedItem, OutOfMemory, Name, Sequence};
+use cf_base::{ItemId, ListedItem, Name, OutOfMemory, Sequence};
 use cf_table::{Row, Rows};
 use std::alloc::Global;
 

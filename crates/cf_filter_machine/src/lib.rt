@@ -5,19 +5,19 @@
 //! step (`Rose`, there). Calls are the business of the crates above: a `Machine` alone promises its steps.
 #![tactic(auto)]
 
-mod answering;
 mod desks;
-mod entering;
+mod ends;
 mod entries;
-mod graves;
+mod entry_lists;
+mod filter_steps;
 mod limits;
 mod machines;
-mod meeting;
-mod opens;
-mod removing;
+mod missing_bytes;
+mod open_files;
+mod removals;
 mod rows;
-mod stepping;
+mod tombstones;
 
 pub use desks::Desk;
 pub use machines::Machine;
-pub use opens::Open;
+pub use open_files::Open;

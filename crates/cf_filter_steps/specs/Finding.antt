@@ -8,7 +8,7 @@ use Rattle.cf_base.specs.declared.ids.ItemId.{ItemId}
 use Rattle.cf_model.specs.Items.{Item, item_of}
 use Rattle.cf_model.specs.LookUp.{Place, depth_at}
 use Rattle.cf_model.specs.State.{Filter}
-use Rattle.cf_placeholder.specs.Plans.{IsPlan}
+use Rattle.cf_item_rules.specs.PlaceholderPlans.{IsPlan}
 use Rattle.cf_model.specs.Texts.{is_name}
 use Rattle.cf_filter_steps.specs.Answering.{IsAt, Sense}
 use Rattle.cf_filter_steps.specs.Suiting.{IsOpenDirectory}

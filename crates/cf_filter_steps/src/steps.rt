@@ -30,11 +30,11 @@ use crate::needs::Need;
 use crate::rooms::Room;
 use cf_ask_rule::Wait;
 use cf_base::{
-    Ask, AuxRecord, Blob, Cause, Change, Code, End, CallError, Handle, ItemId, Key, OutOfMemory, Policy,
-    Span, Usn, WaitId,
+    Ask, AuxRecord, Blob, CallError, Cause, Change, Code, End, Handle, ItemId, Key, OutOfMemory,
+    Policy, Span, Usn, WaitId,
 };
-use cf_waits::{Moves, Requests, Step};
 use cf_table::Rows;
+use cf_waits::{Moves, Requests, Step};
 use std::alloc::Global;
 
 /// What the calls of a filter act on: one step of it a method. A step meets Device only where a call of the device failed since
@@ -126,7 +126,12 @@ pub trait Steps {
         ensures { IfOk result (λ room. (f : Book → Book) → Reads sense (Listing f dir changes.now records.now) (room_listed f changes.now) self.now room) };
 
     /// Makes the changes of a list of entries that finds room, and tells them. The records come with the last of them.
-    fn enter(&mut self, dir: ItemId, changes: &[Change], records: &[AuxRecord]) -> Result<(), CallError>
+    fn enter(
+        &mut self,
+        dir: ItemId,
+        changes: &[Change],
+        records: &[AuxRecord],
+    ) -> Result<(), CallError>
         ensures does { (f : Book → Book) → Answers sense (ReadyListed f dir changes.now records.now) (changes_with f changes.now) self.old result self.new }
         ensures same { OnOk result (waiting self.new ≡ waiting self.old) };
 

@@ -12,7 +12,11 @@ const PIECE: usize = 65_536;
 
 /// All bytes of a source, where they are no more than the limit. Fails as Fault where the source failed, as TooLong
 /// where it has more bytes, and for want of memory.
-pub fn read_all<S: Source>(alloc: Global, source: &mut S, limit: usize) -> Result<Vec<u8>, ReadError>
+pub fn read_all<S: Source>(
+    alloc: Global,
+    source: &mut S,
+    limit: usize,
+) -> Result<Vec<u8>, ReadError>
     requires { limit < 2 ^ 32 }
     ensures ok { IfOk result (λ text. IsWhole (S.left source.old) text.items) }
     ensures small { IfOk result (λ text. length text.items ≤ limit) }

@@ -14,7 +14,7 @@ use Rattle.cf_base.specs.declared.notices.Notice.{Notice}
 use Rattle.cf_base.specs.declared.notices.Notice.TheVariants as notice
 use Rattle.cf_link.specs.Linked.{Arrives, Does, Ended, Grows, IsLink, Linked, Rises, Stopped, lines_of, with_line}
 use Rattle.cf_link.specs.Parts.{IsAsked, IsMessageLine, IsRequestAt, PostedBy, SendsFrame, linked, reply_if, with_messages}
-use Rattle.cf_link.specs.declared.posting.Posted.{Posted}
+use Rattle.cf_link.specs.declared.posts.Posted.{Posted}
 use Rattle.cf_model.specs.Arrows.{seq}
 use Rattle.cf_model.specs.Messages.{after_ask, answered, come, if_kept, message_at, post}
 use Rattle.cf_model.specs.Passes.{arrive, arrive_frame, was_sent}

@@ -7,7 +7,7 @@ use Rattle.cf_base.specs.declared.notices.Frame.{Frame}
 use Rattle.cf_base.specs.declared.notices.Notice.TheVariants as notice
 use Rattle.cf_link.specs.Linked.{Linked, Posts}
 use Rattle.cf_link.specs.Parts.{IsMessageLine, PostedBy, SendsFrame, linked, posted_of, with_messages}
-use Rattle.cf_link.specs.declared.posting.Posted.{Posted}
+use Rattle.cf_link.specs.declared.posts.Posted.{Posted}
 use Rattle.cf_model.specs.Messages.{next_message, no_bytes, no_number, post_by, post_unless, post}
 use Rattle.cf_model.specs.Frames.{spell_frame}
 use Rattle.cf_model.specs.State.{State}

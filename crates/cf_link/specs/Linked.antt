@@ -10,8 +10,8 @@ use Rattle.cf_base.specs.declared.messages.Reply.{Reply}
 use Rattle.cf_base.specs.declared.notices.Frame.{Frame}
 use Rattle.cf_base.specs.declared.notices.Notice.{Notice}
 use Rattle.cf_base.specs.declared.notices.Notice.TheVariants as notice
-use Rattle.cf_link.specs.declared.delivering.Replied.{Replied}
-use Rattle.cf_link.specs.declared.posting.Posted.{Posted}
+use Rattle.cf_link.specs.declared.replies.Replied.{Replied}
+use Rattle.cf_link.specs.declared.posts.Posted.{Posted}
 use Rattle.cf_model.specs.Arrows.{Arrow}
 use Rattle.cf_model.specs.Messages.{is_stale, post}
 use Rattle.cf_model.specs.Passes.{arrive, deliver_now, deliver_unless}

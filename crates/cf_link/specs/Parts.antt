@@ -8,8 +8,8 @@ use Rattle.cf_base.specs.declared.notices.Frame.TheVariants as frame
 use Rattle.cf_base.specs.declared.notices.Notice.{Notice}
 use Rattle.cf_base.specs.declared.notices.Notice.TheVariants as notice
 use Rattle.cf_link.specs.Linked.{Linked, with_line}
-use Rattle.cf_link.specs.declared.delivering.Answer.{Answer}
-use Rattle.cf_link.specs.declared.posting.Posted.{Posted}
+use Rattle.cf_link.specs.declared.replies.Answer.{Answer}
+use Rattle.cf_link.specs.declared.posts.Posted.{Posted}
 use Rattle.cf_model.specs.Messages.{post}
 use Rattle.cf_model.specs.State.{Link, State, with_link}
 use Rattle.cf_model.specs.Trees.{Tree}

@@ -6,14 +6,14 @@
 //! says how a link stands for that of the definitions, and what its calls do.
 #![tactic(auto)]
 
-mod arriving;
-mod asking;
-mod coming;
-mod delivering;
+mod arrivals;
+mod asks;
 mod links;
-mod posting;
+mod posts;
+mod replies;
+mod requests;
 
-pub use coming::Came;
-pub use delivering::Replied;
 pub use links::Link;
-pub use posting::Posted;
+pub use posts::Posted;
+pub use replies::Replied;
+pub use requests::Came;

@@ -5,8 +5,8 @@ ghost use Rattle.cf_remote.specs.LookUps.{EventHasRoom};
 ghost use Rattle.cf_wire.specs.Spelled.{HasRoom};
 
 use cf_base::{
-    Blob, Code, CallError, Key, OutOfMemory, Notes, Notice, PeerEvent, Reply, Request, Round, Sequence,
-    Shown, Text,
+    Blob, CallError, Code, Key, Notes, Notice, OutOfMemory, PeerEvent, Reply, Request, Round,
+    Sequence, Shown, Text,
 };
 use cf_link::Link;
 use cf_remote::{FlakyRemote, Remote, StoreRemote};

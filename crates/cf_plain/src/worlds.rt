@@ -13,8 +13,8 @@ ghost use Rattle.cf_plain.specs.Worlds.{State, start, name_of, known, span_of, s
 
 use crate::files::Files;
 use cf_base::{
-    Answer, Blob, Call, Code, End, EngineEvent, Event, CallError, OutOfMemory, Mode, Name, PeerEvent,
-    Sequence, Shown, Text,
+    Answer, Blob, Call, CallError, Code, End, EngineEvent, Event, Mode, Name, OutOfMemory,
+    PeerEvent, Sequence, Shown, Text,
 };
 use std::alloc::Global;
 use std::marker::Model;

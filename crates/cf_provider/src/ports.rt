@@ -7,7 +7,7 @@ ghost use Rattle.cf_model.specs.Ports.{Act};
 ghost use Rattle.cf_model.specs.Requests.{live_of};
 
 use crate::outcomes::{Callback, Outcome};
-use cf_base::{Ask, AuxRecord, CallError, Key, OutOfMemory, Notice, Operation, SeenPath};
+use cf_base::{Ask, AuxRecord, CallError, Key, Notice, Operation, OutOfMemory, SeenPath};
 use cf_table::Rows;
 
 /// What a provider acts on inside a callback. A port says by `goes` what its acts do to it.

@@ -5,9 +5,9 @@ ghost use Rattle.cf_model.specs.Requests.{none_waiting};
 
 use crate::outcomes::Outcome;
 use crate::ports::Port;
-use cf_base::{Ask, AuxRecord, CallError, Key, OutOfMemory, Notice, Operation, SeenPath, Sequence};
-use cf_waits::Requests;
+use cf_base::{Ask, AuxRecord, CallError, Key, Notice, Operation, OutOfMemory, SeenPath, Sequence};
 use cf_table::Rows;
+use cf_waits::Requests;
 use std::alloc::Global;
 use std::marker::Model;
 

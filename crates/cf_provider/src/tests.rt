@@ -8,12 +8,12 @@ ghost use Rattle.cf_model.specs.Ports.{Act};
 use super::*;
 use cf_ask_rule::View;
 use cf_base::{
-    Ask, AskKind, Blob, Code, CallError, Identity, ItemId, Key, OutOfMemory, Name, Operation, Rid, SeenPath,
-    Sequence, Span, WaitKind,
+    Ask, AskKind, Blob, CallError, Code, Identity, ItemId, Key, Name, Operation, OutOfMemory, Rid,
+    SeenPath, Sequence, Span, WaitKind,
 };
 use cf_ranges::RangeSet;
-use cf_waits::Requests;
 use cf_table::Rows;
+use cf_waits::Requests;
 use std::test;
 
 const KEY: Key = Key {

@@ -4,8 +4,8 @@
 //! which acts a callback is answered, for any port, and that this is what the definitions' provider does.
 #![tactic(auto)]
 
-mod carrying;
 mod laws;
+mod plan_steps;
 mod scripted;
 
 pub use laws::a_callback_takes_the_plan;

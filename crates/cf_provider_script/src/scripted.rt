@@ -3,8 +3,8 @@
 ghost use Rattle.std.specs.Prelude.{◌≡◌};
 ghost use Rattle.cf_model.specs.Callbacks.{planned_on, with_key};
 
-use crate::carrying::carry_out;
-use cf_base::{Key, OutOfMemory, Operation};
+use crate::plan_steps::carry_out;
+use cf_base::{Key, Operation, OutOfMemory};
 use cf_provider::{Callback, Port, Provider};
 use std::alloc::Global;
 use std::collections::VecDeque;

@@ -2,12 +2,12 @@
 
 use super::*;
 use cf_base::{
-    Ask, AskKind, AuxRecord, Blob, Code, CallError, Identity, ItemId, Key, OutOfMemory, Notice, Operation,
-    OperationAnswer, SeenPath, Sequence, Span,
+    Ask, AskKind, AuxRecord, Blob, CallError, Code, Identity, ItemId, Key, Notice, Operation,
+    OperationAnswer, OutOfMemory, SeenPath, Sequence, Span,
 };
 use cf_provider::{Callback, Kept, Outcome, Port, Provider, Recorder, key_of};
-use cf_waits::Requests;
 use cf_table::Rows;
+use cf_waits::Requests;
 use std::alloc::Global;
 use std::test;
 

@@ -99,7 +99,11 @@ pub(crate) fn with_span(alloc: Global, runs: &[Span], span: Span) -> Result<Vec<
 
 // One pass: of each run, what lies before the span and what lies behind it.
 #[tactic(auto, using(crate::proofs::Sets::small_runs))]
-pub(crate) fn without_span(alloc: Global, runs: &[Span], span: Span) -> Result<Vec<Span>, OutOfMemory>
+pub(crate) fn without_span(
+    alloc: Global,
+    runs: &[Span],
+    span: Span,
+) -> Result<Vec<Span>, OutOfMemory>
     requires runs { IsRuns runs.now }
     requires some { 0 < span.len }
     requires small { span.start + span.len ≤ 2 ^ 40 }

@@ -9,7 +9,7 @@ ghost use Rattle.cf_remote.specs.Held.{held_len};
 ghost use Rattle.cf_remote.specs.Stores.{holding};
 
 use crate::shelves::Shelf;
-use cf_base::{CallError, OutOfMemory, Name, Rid, Version, Why};
+use cf_base::{CallError, Name, OutOfMemory, Rid, Version, Why};
 use cf_model::laws::one_test_of_names;
 use std::alloc::Global;
 

@@ -108,7 +108,11 @@ fn push_live(
 }
 
 /// All that changed above the clock. It passes once over all items, and then some times over those that it tells.
-pub(crate) fn feed(alloc: Global, items: &[StoredItem], after: u64) -> Result<Vec<Entry>, OutOfMemory>
+pub(crate) fn feed(
+    alloc: Global,
+    items: &[StoredItem],
+    after: u64,
+) -> Result<Vec<Entry>, OutOfMemory>
     requires { CountsFrom 1 items.now }
     ensures room { IfOk result (λ es. All (λ e. length e.name ≤ 255) es.items) }
     ensures told { IfOk result (λ es. es.items ≡ feed_in items.now after) }

@@ -157,7 +157,13 @@ impl Store {
         }
     }
 
-    fn place(&mut self, token: Token, rid: Rid, parent: Rid, name: &Blob) -> Result<Reply, OutOfMemory>
+    fn place(
+        &mut self,
+        token: Token,
+        rid: Rid,
+        parent: Rid,
+        name: &Blob,
+    ) -> Result<Reply, OutOfMemory>
         requires name { length name.now ≤ 255 }
         requires new { recorded_at self.old.tokens token ≡ None }
         requires accepted { why_move self.old rid parent name.now ≡ None }

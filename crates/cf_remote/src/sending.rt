@@ -8,7 +8,7 @@ ghost use Rattle.cf_wire.specs.Spelled.{HasRoom};
 
 use crate::ask_errors::AskError;
 use crate::remotes::Remote;
-use cf_base::{Answer, Code, OutOfMemory, Notes, Reply, Request, Rid, Shown, Why};
+use cf_base::{Answer, Code, Notes, OutOfMemory, Reply, Request, Rid, Shown, Why};
 use cf_wire::{NoItems, fits};
 use std::alloc::Global;
 
@@ -82,7 +82,11 @@ fn failed(alloc: Global, e: AskError) -> Result<Answer, OutOfMemory>
 }
 
 /// Sends the request, which has the next token of a peer, and answers by its reply.
-pub(crate) fn send<R: Remote>(alloc: Global, remote: &mut R, q: &Request) -> Result<Answer, OutOfMemory>
+pub(crate) fn send<R: Remote>(
+    alloc: Global,
+    remote: &mut R,
+    q: &Request,
+) -> Result<Answer, OutOfMemory>
     requires { HasRoom q.now }
     ensures { (next : ℕ) → Does (send_request q.now) next (R.told remote.old) result (next + 1) (R.told remote.new) }
 {

@@ -5,7 +5,7 @@ ghost use Rattle.cf_report.specs.Changes.{change_words, keep_word, kind_word, pi
 ghost use Rattle.cf_report.specs.Words.{bytes_text, decimal, name_text, spaced};
 
 use crate::words::{push_bytes, push_labelled, push_name_word, push_number, push_usn, push_word};
-use cf_base::{Change, Identity, ItemId, Kind, OutOfMemory, Name, Pin};
+use cf_base::{Change, Identity, ItemId, Kind, Name, OutOfMemory, Pin};
 
 /// The word of a kind.
 pub fn kind_word(kind: Kind) -> &'static str
@@ -46,7 +46,12 @@ fn push_place(out: &mut Vec<u8>, parent: ItemId, name: &Name) -> Result<(), OutO
     push_name_word(out, name.as_slice())
 }
 
-fn push_new(out: &mut Vec<u8>, kind: Kind, size: u64, identity: &Identity) -> Result<(), OutOfMemory>
+fn push_new(
+    out: &mut Vec<u8>,
+    kind: Kind,
+    size: u64,
+    identity: &Identity,
+) -> Result<(), OutOfMemory>
     ensures { OnOk result (out.new.items ≡ out.old.items ++ (32 ∷ kind_word kind ++ (32 ∷ decimal size ++ (32 ∷ bytes_text identity.now)))) }
 {
     push_word(out, kind_word(kind))?;

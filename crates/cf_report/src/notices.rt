@@ -11,7 +11,7 @@ use crate::codes::push_code;
 use crate::results::{push_data, push_end, push_refused};
 use crate::words::{push_key, push_labelled, push_number, push_usn, push_word};
 use cf_base::{
-    Ask, AskKind, Change, Frame, Key, OutOfMemory, Notice, OperationAnswer, Request, Sent, Usn,
+    Ask, AskKind, Change, Frame, Key, Notice, OperationAnswer, OutOfMemory, Request, Sent, Usn,
 };
 
 fn push_changed(out: &mut Vec<u8>, number: Usn, change: &Change) -> Result<(), OutOfMemory>

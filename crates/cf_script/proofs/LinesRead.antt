@@ -7,8 +7,8 @@ use Rattle.std.specs.List.{list_all}
 use Rattle.std.proofs.lemmas.List.Folds.{list_all-append}
 use Rattle.cf_base.specs.declared.events.Event.{Event}
 use Rattle.cf_base.specs.declared.policies.Mode.{Mode}
-use Rattle.cf_script.specs.declared.fails.ScriptError.{ScriptError}
-use Rattle.cf_script.specs.declared.fails.ScriptError.TheVariants as fails
+use Rattle.cf_script.specs.declared.script_errors.ScriptError.{ScriptError}
+use Rattle.cf_script.specs.declared.script_errors.ScriptError.TheVariants as fails
 use Rattle.cf_script.specs.Words.{Reads}
 use Rattle.cf_script.specs.Forms.{AreWords}
 use Rattle.std.proofs.lemmas.List.{append-nil}

@@ -3,8 +3,8 @@ use Rattle.std.specs.Prelude.{◌≡◌, ℕ, ◌+◌, ◌<◌, ◌≤◌, List,
 use Rattle.std.specs.List.{list_all}
 use Rattle.cf_base.specs.declared.events.Event.{Event}
 use Rattle.cf_base.specs.declared.policies.Mode.{Mode}
-use Rattle.cf_script.specs.declared.fails.ScriptError.{ScriptError}
-use Rattle.cf_script.specs.declared.fails.ScriptError.TheVariants as fails
+use Rattle.cf_script.specs.declared.script_errors.ScriptError.{ScriptError}
+use Rattle.cf_script.specs.declared.script_errors.ScriptError.TheVariants as fails
 use Rattle.cf_script.specs.Script.{Spells, AreEvents, is_event_line, event_lines}
 use Rattle.cf_script.specs.Built.{is_built}
 

@@ -7,7 +7,7 @@ ghost use Rattle.cf_script.specs.Forms.{escape_name_byte, escaped_name, IsEntryN
 use crate::data::identity;
 use crate::names::{entry_kind, in_sync};
 use crate::numbers::number;
-use cf_base::{Blob, OutOfMemory, NewItem, Sequence};
+use cf_base::{Blob, NewItem, OutOfMemory, Sequence};
 use std::alloc::{AllocError, Global};
 
 /// The first byte of a name, and what is written after it.

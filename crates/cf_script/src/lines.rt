@@ -15,7 +15,7 @@ use crate::operations::{do_line, plan};
 use crate::peers::{link, peer};
 use crate::providers::{convert, mark, place, place_dir, update};
 use crate::short_lines::{bare, crash, on_number, on_path};
-use cf_base::{Event, OutOfMemory, Mode};
+use cf_base::{Event, Mode, OutOfMemory};
 use std::alloc::{AllocError, Global};
 
 fn is_for_engine(command: Command) -> bool
@@ -52,7 +52,11 @@ fn is_foreign(mode: Mode, command: Command) -> bool
 }
 
 /// The event of a line that begins with this word, by the words after it.
-fn event_after(alloc: Global, command: Command, words: &[&str]) -> Result<Option<Event>, OutOfMemory>
+fn event_after(
+    alloc: Global,
+    command: Command,
+    words: &[&str],
+) -> Result<Option<Event>, OutOfMemory>
     ensures { IfOk result (Reads (Follows command (map (λ w. w.now) words.now))) }
 {
     match command {

@@ -10,7 +10,7 @@ use crate::data::data;
 use crate::entries::entries;
 use crate::names::{good, operation_command};
 use crate::numbers::{key, number};
-use cf_base::{Event, Key, OutOfMemory, Operation, ProviderEvent, Span};
+use cf_base::{Event, Key, Operation, OutOfMemory, ProviderEvent, Span};
 use std::alloc::Global;
 
 fn transfer(alloc: Global, key: Key, words: &[&str]) -> Result<Option<Operation>, OutOfMemory>

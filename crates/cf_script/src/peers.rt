@@ -90,7 +90,11 @@ fn keep(alloc: Global, words: &[&str]) -> Result<Option<Event>, OutOfMemory>
     Ok(Some(Event::Peer(PeerEvent::Keep { count })))
 }
 
-fn peer_event(alloc: Global, command: PeerCommand, words: &[&str]) -> Result<Option<Event>, OutOfMemory>
+fn peer_event(
+    alloc: Global,
+    command: PeerCommand,
+    words: &[&str],
+) -> Result<Option<Event>, OutOfMemory>
     ensures { IfOk result (Reads (IsPeerEvent command (map (λ w. w.now) words.now))) }
 {
     match command {

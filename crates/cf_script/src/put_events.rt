@@ -42,7 +42,12 @@ fn put_device(alloc: Global, text: &mut Vec<u8>, event: DeviceEvent) -> Result<(
     }
 }
 
-fn put_peer_put(alloc: Global, text: &mut Vec<u8>, path: &Text, bytes: &Blob) -> Result<(), OutOfMemory>
+fn put_peer_put(
+    alloc: Global,
+    text: &mut Vec<u8>,
+    path: &Text,
+    bytes: &Blob,
+) -> Result<(), OutOfMemory>
     ensures { OnOk result (text.new.items ≡ text.old.items ++ line_of (codes "peer" ∷ codes "put" ∷ escaped path.now ∷ plain_text bytes.now ∷ []) ++ 10 ∷ []) }
 {
     let path = path_text(alloc, path)?;
@@ -54,14 +59,24 @@ fn put_peer_put(alloc: Global, text: &mut Vec<u8>, path: &Text, bytes: &Blob) ->
     )
 }
 
-fn put_peer_path(alloc: Global, text: &mut Vec<u8>, word: &str, path: &Text) -> Result<(), OutOfMemory>
+fn put_peer_path(
+    alloc: Global,
+    text: &mut Vec<u8>,
+    word: &str,
+    path: &Text,
+) -> Result<(), OutOfMemory>
     ensures { OnOk result (text.new.items ≡ text.old.items ++ line_of (codes "peer" ∷ word.now ∷ escaped path.now ∷ []) ++ 10 ∷ []) }
 {
     let path = path_text(alloc, path)?;
     put_line(text, "peer", &[word.as_bytes(), path.as_slice()])
 }
 
-fn put_peer_move(alloc: Global, text: &mut Vec<u8>, from: &Text, to: &Text) -> Result<(), OutOfMemory>
+fn put_peer_move(
+    alloc: Global,
+    text: &mut Vec<u8>,
+    from: &Text,
+    to: &Text,
+) -> Result<(), OutOfMemory>
     ensures { OnOk result (text.new.items ≡ text.old.items ++ line_of (codes "peer" ∷ codes "move" ∷ escaped from.now ∷ escaped to.now ∷ []) ++ 10 ∷ []) }
 {
     let from = path_text(alloc, from)?;

@@ -48,7 +48,12 @@ pub fn put_long_line(
 }
 
 /// A word and a path.
-pub fn put_path(alloc: Global, text: &mut Vec<u8>, word: &str, path: &Text) -> Result<(), OutOfMemory>
+pub fn put_path(
+    alloc: Global,
+    text: &mut Vec<u8>,
+    word: &str,
+    path: &Text,
+) -> Result<(), OutOfMemory>
     ensures { OnOk result (text.new.items ≡ text.old.items ++ line_of (word.now ∷ escaped path.now ∷ []) ++ 10 ∷ []) }
 {
     let path = path_text(alloc, path)?;
@@ -91,7 +96,12 @@ pub fn put_path_span(
 }
 
 /// A word and a number.
-pub fn put_number(alloc: Global, text: &mut Vec<u8>, word: &str, number: u32) -> Result<(), OutOfMemory>
+pub fn put_number(
+    alloc: Global,
+    text: &mut Vec<u8>,
+    word: &str,
+    number: u32,
+) -> Result<(), OutOfMemory>
     ensures { OnOk result (text.new.items ≡ text.old.items ++ line_of (word.now ∷ decimal number ∷ []) ++ 10 ∷ []) }
 {
     let number = number_text(alloc, number as u64)?;

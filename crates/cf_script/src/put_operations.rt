@@ -9,7 +9,7 @@ ghost use Rattle.cf_script.specs.Printed.{key_text, rest_text, mark_text, entry_
 
 use crate::put_lines::{put_line, put_long_line};
 use crate::texts::{data_text, good_text, key_text, kind_text, name_text, number_text};
-use cf_base::{Blob, Key, OutOfMemory, NewItem, Operation, Span};
+use cf_base::{Blob, Key, NewItem, Operation, OutOfMemory, Span};
 use std::alloc::Global;
 
 fn rest_text(alloc: Global, item: &NewItem) -> Result<Blob, OutOfMemory>

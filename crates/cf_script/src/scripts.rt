@@ -8,8 +8,8 @@ ghost use Rattle.cf_script.specs.Built.{is_built};
 ghost use Rattle.cf_script.specs.FailEvents.{IsCause};
 
 use crate::built::is_built;
-use crate::fails::ScriptError;
 use crate::lines::event_of_line;
+use crate::script_errors::ScriptError;
 use cf_base::{Event, Mode, Sequence};
 use std::alloc::Global;
 

@@ -53,7 +53,11 @@ fn path_event(command: PathCommand, path: Text) -> Event
 }
 
 /// A word and a path.
-pub fn on_path(alloc: Global, command: PathCommand, words: &[&str]) -> Result<Option<Event>, OutOfMemory>
+pub fn on_path(
+    alloc: Global,
+    command: PathCommand,
+    words: &[&str],
+) -> Result<Option<Event>, OutOfMemory>
     ensures { IfOk result (Reads (IsPathLine command (map (λ w. w.now) words.now))) }
 {
     let [target] = words else {

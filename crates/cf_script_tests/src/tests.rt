@@ -1,6 +1,6 @@
 //! What the language takes, refuses and writes.
 
-use cf_base::{Blob, OutOfMemory, Mode, Sequence};
+use cf_base::{Blob, Mode, OutOfMemory, Sequence};
 use cf_script::{ScriptError, event_of_line, print, read};
 use std::alloc::Global;
 use std::process::Abort;

@@ -7,7 +7,7 @@ ghost use Rattle.cf_table.specs.Applied.{FitsRow, IsSpellable, item_effect, move
 ghost use Rattle.cf_table.specs.Means.{is_rebase_point, IsLater, KeepsPlace, KeepsRest, Means, StaysBefore};
 
 use crate::rows::Row;
-use cf_base::{Blob, Change, Identity, ItemId, OutOfMemory, Name, Pin, Span, Usn};
+use cf_base::{Blob, Change, Identity, ItemId, Name, OutOfMemory, Pin, Span, Usn};
 use std::alloc::Global;
 
 impl Row {

@@ -11,7 +11,7 @@ ghost use Rattle.cf_table.specs.declared.rows.Row.{Row};
 use crate::entries::{Entry, add_entry, has_entry, remove_entry_of};
 use crate::row_lists::{change_at, find_row, insert_at, move_at, push_row, remove_at, replace_at};
 use crate::rows::Row;
-use cf_base::{Blob, Change, ItemId, OutOfMemory, Name, Pin, Usn};
+use cf_base::{Blob, Change, ItemId, Name, OutOfMemory, Pin, Usn};
 use std::alloc::Global;
 
 /// Adds a row at the end. Without memory nothing changes.

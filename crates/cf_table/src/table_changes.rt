@@ -16,7 +16,7 @@ use crate::new_rows::Place;
 use crate::row_lists::{find_row, pin_of};
 use crate::rows::Row;
 use crate::tables::Rows;
-use cf_base::{Blob, Change, Identity, ItemId, Kind, OutOfMemory, Name, Pin, Usn};
+use cf_base::{Blob, Change, Identity, ItemId, Kind, Name, OutOfMemory, Pin, Usn};
 use std::alloc::Global;
 
 fn item_of(change: &Change) -> ItemId

@@ -12,7 +12,11 @@ use std::alloc::Global;
 impl Row {
     /// Makes the cluster that of the block, or takes the block out where there is none, and gives the one before.
     /// Without memory the row is as before.
-    pub fn set_extent(&mut self, block: u32, cluster: Option<u32>) -> Result<Option<u32>, OutOfMemory>
+    pub fn set_extent(
+        &mut self,
+        block: u32,
+        cluster: Option<u32>,
+    ) -> Result<Option<u32>, OutOfMemory>
         ensures before { IfOk result (λ before. before ≡ cluster_at self.old.extents block) }
         ensures sets { OnOk result (SetsExtent block cluster self.old self.new) }
         ensures err { OnErr result (self.new ≡ self.old) }

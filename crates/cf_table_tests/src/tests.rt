@@ -6,7 +6,7 @@ ghost use Rattle.cf_table.specs.Changing.{Fits, IsNext};
 
 mod texts;
 
-use cf_base::{Blob, Change, Identity, ItemId, Kind, OutOfMemory, Name, Pin, Usn};
+use cf_base::{Blob, Change, Identity, ItemId, Kind, Name, OutOfMemory, Pin, Usn};
 use cf_table::*;
 use std::alloc::Global;
 use std::test::Fail;

@@ -9,7 +9,7 @@ ghost use Rattle.cf_table.specs.Tables.{MeansAll};
 ghost use Rattle.cf_tree.specs.Parts.{mark_of};
 
 use crate::names::{MOST_NAME_BYTES, name_of};
-use cf_base::{ItemId, OutOfMemory, Name};
+use cf_base::{ItemId, Name, OutOfMemory};
 use cf_table::Rows;
 use std::alloc::Global;
 

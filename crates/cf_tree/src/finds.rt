@@ -12,7 +12,7 @@ ghost use Rattle.cf_tree.specs.Trees.{IsTree};
 
 use crate::lines::ROOT;
 use crate::names::{Names, bad_path, name_of};
-use cf_base::{Code, CallError, ItemId, Name};
+use cf_base::{CallError, Code, ItemId, Name};
 use cf_table::Rows;
 use std::alloc::Global;
 

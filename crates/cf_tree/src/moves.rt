@@ -12,7 +12,7 @@ ghost use Rattle.cf_tree.specs.Trees.{IsTree};
 use crate::levels::level_at;
 use crate::lines::{ROOT, line_of};
 use crate::names::MOST_NAMES;
-use cf_base::{Code, CallError, ItemId, OutOfMemory, Name};
+use cf_base::{CallError, Code, ItemId, Name, OutOfMemory};
 use cf_table::Rows;
 use std::alloc::Global;
 

@@ -9,7 +9,7 @@ ghost use Rattle.cf_model.specs.Words.{is_empty};
 ghost use Rattle.cf_tree.specs.Parts.{is_name_of_text};
 ghost use Rattle.std.specs.List.{list_all};
 
-use cf_base::{Code, CallError, OutOfMemory, Name};
+use cf_base::{CallError, Code, Name, OutOfMemory};
 use std::alloc::Global;
 use std::marker::Model;
 

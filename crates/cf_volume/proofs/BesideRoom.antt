@@ -33,9 +33,9 @@ use Rattle.cf_volume.specs.Besides.{AreTaken, Besides}
 use Rattle.cf_volume.specs.Calls.{HasRecords}
 use Rattle.cf_volume.specs.Drafts.{Drafts, records_in}
 use Rattle.cf_volume.specs.Keys.{seen_key}
-use Rattle.cf_volume.specs.declared.drafts.Draft.{Draft}
-use Rattle.cf_volume.specs.declared.drafts.Sizes.{Sizes}
-use Rattle.cf_volume.specs.declared.record_room.Beside.{Beside}
+use Rattle.cf_volume.specs.declared.room.drafts.Draft.{Draft}
+use Rattle.cf_volume.specs.declared.room.drafts.Sizes.{Sizes}
+use Rattle.cf_volume.specs.declared.room.records.Beside.{Beside}
 
 -- records stay in order
 

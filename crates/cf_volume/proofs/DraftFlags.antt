@@ -17,8 +17,8 @@ use Rattle.cf_volume_points.proofs.RowRoom.{AreEven, fits_of, full_of_long, full
 use Rattle.cf_volume.proofs.DraftRows.{drawn_item}
 use Rattle.cf_volume.specs.Drafts.{AreInOrder, Drafts, row_in, shifted}
 use Rattle.cf_volume.specs.Tallies.{Counts}
-use Rattle.cf_volume.specs.declared.drafts.Draft.{Draft}
-use Rattle.cf_volume.specs.declared.tallies.Tally.{Tally}
+use Rattle.cf_volume.specs.declared.room.drafts.Draft.{Draft}
+use Rattle.cf_volume.specs.declared.room.tallies.Tally.{Tally}
 
 -- items have a flag for each position
 

@@ -40,8 +40,8 @@ use Rattle.cf_volume.specs.AuxPuts.{len_if}
 use Rattle.cf_volume.specs.Drafting.{AreSizesOf, record_sizes}
 use Rattle.cf_volume.specs.Drafts.{AreInOrder, Drafts, Draws, added, is_gone, records_in, row_in}
 use Rattle.cf_volume.specs.Keys.{IsRemove, seen_key}
-use Rattle.cf_volume.specs.declared.drafts.Draft.{Draft}
-use Rattle.cf_volume.specs.declared.drafts.Sizes.{Sizes}
+use Rattle.cf_volume.specs.declared.room.drafts.Draft.{Draft}
+use Rattle.cf_volume.specs.declared.room.drafts.Sizes.{Sizes}
 
 -- records
 

@@ -34,8 +34,8 @@ use Rattle.cf_volume.proofs.DraftRows.{all_on, drawn, drawn_below, drawn_blocks,
 use Rattle.cf_volume.proofs.Shifted.{past_above, shift_above, shift_rises, shifted_copy, shifted_made}
 use Rattle.cf_volume.specs.Drafts.{AreInOrder, Drafts, Draws, DrawsRow, IsLow, added, pin_in, records_in, row_in, row_sizes, shifted, shifted_item}
 use Rattle.cf_volume.specs.RoomLeft.{FitsAmong}
-use Rattle.cf_volume.specs.declared.drafts.Draft.{Draft}
-use Rattle.cf_volume.specs.declared.drafts.Sizes.{Sizes}
+use Rattle.cf_volume.specs.declared.room.drafts.Draft.{Draft}
+use Rattle.cf_volume.specs.declared.room.drafts.Sizes.{Sizes}
 
 last_sum : {A : Type 0} (g : A → ℕ) (xs : List A) (x : A) → sum_by g (xs ++ x ∷ []) ≡ sum_by g xs + g x
 last_sum {A} g xs x = omega (arith, sum_by-append g xs (x ∷ []), sum_by-cons g x [])

@@ -30,7 +30,7 @@ use Rattle.cf_volume.proofs.DraftItems.{pin_moved, pin_none, pin_some}
 use Rattle.cf_volume.proofs.Shifted.{HasLowAt, same_at, shift_rises, shifted_len}
 use Rattle.cf_volume.specs.Drafting.{HasPlace, pin_drafted}
 use Rattle.cf_volume.specs.Drafts.{Drafts, Draws, DrawsRow, IsLow, is_gone, pin_in, row_in, shifted, shifted_item}
-use Rattle.cf_volume.specs.declared.drafts.Draft.{Draft}
+use Rattle.cf_volume.specs.declared.room.drafts.Draft.{Draft}
 
 -- a row put, and one taken out
 

@@ -35,8 +35,8 @@ use Rattle.cf_volume.proofs.Shifted.{shift_rises, shifted_effect}
 use Rattle.cf_volume.specs.Drafting.{HasPlace, pin_drafted}
 use Rattle.cf_volume.specs.Drafts.{AreInOrder, Drafts, Draws, DrawsRow, IsLow, added, records_in, row_in, row_sizes, shifted, shifted_item}
 use Rattle.cf_volume.specs.RoomLeft.{FitsAmong}
-use Rattle.cf_volume.specs.declared.drafts.Sizes.{Sizes}
-use Rattle.cf_volume.specs.declared.drafts.Draft.{Draft}
+use Rattle.cf_volume.specs.declared.room.drafts.Sizes.{Sizes}
+use Rattle.cf_volume.specs.declared.room.drafts.Draft.{Draft}
 
 -- the number of an item is its own, or the change's
 number_low : (c : Change) (pin : Pin) (n : Usn) (i : Item) (e : ℕ) → i.number.epoch ≤ e → n.epoch ≤ e → (item_effect c pin n i).number.epoch ≤ e

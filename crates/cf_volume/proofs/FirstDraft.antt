@@ -35,8 +35,8 @@ use Rattle.cf_volume.specs.Drafts.{Drafts, Draws, DrawsRow, IsLow, is_gone, reco
 use Rattle.cf_volume.specs.RoomLeft.{FitInTurn}
 use Rattle.cf_volume.specs.Steady.{known_of}
 use Rattle.cf_volume.specs.Tallies.{Counts}
-use Rattle.cf_volume.specs.declared.drafts.Draft.{Draft}
-use Rattle.cf_volume.specs.declared.drafts.Sizes.{Sizes}
+use Rattle.cf_volume.specs.declared.room.drafts.Draft.{Draft}
+use Rattle.cf_volume.specs.declared.room.drafts.Sizes.{Sizes}
 use Rattle.cf_volume.specs.declared.parts.Parts.{Parts}
 
 -- a number before the next one of the epoch

@@ -32,7 +32,7 @@ use Rattle.cf_table.specs.declared.rows.Row.{Row}
 use Rattle.cf_volume.proofs.Noted.{found_id}
 use Rattle.cf_volume.proofs.Planning.{fits_end}
 use Rattle.cf_volume.specs.Laid.{AreRising, Plans}
-use Rattle.cf_volume.specs.declared.settling.Planned.{Planned}
+use Rattle.cf_volume.specs.declared.stay.clusters.Planned.{Planned}
 use Rattle.cf_volume.specs.Notes.{Notes}
 
 pub some_row : (o : Option Row) → (o ≡ None → ⊥) → (r : Row) × (o ≡ Some r)

@@ -11,7 +11,7 @@ use Rattle.cf_model.specs.Words.{same}
 use Rattle.cf_volume_points.specs.Known.{or_now}
 use Rattle.cf_volume.specs.Drafts.{records_in}
 use Rattle.cf_volume.specs.Keys.{seen_key}
-use Rattle.cf_volume.specs.declared.record_room.Beside.{Beside}
+use Rattle.cf_volume.specs.declared.room.records.Beside.{Beside}
 
 -- a record with the key of each of those that the gone items took away, and no other
 abbrev pub AreTaken : List ItemId → List AuxRecord → Type 0

@@ -22,8 +22,8 @@ use Rattle.cf_volume.specs.AuxPuts.{len_if}
 use Rattle.cf_volume.specs.Drafts.{Drafts, is_gone, pin_in, row_in, row_sizes, shifted}
 use Rattle.cf_volume.specs.Keys.{seen_key}
 use Rattle.cf_volume.specs.RoomLeft.{FitsAmong}
-use Rattle.cf_volume.specs.declared.drafts.Draft.{Draft}
-use Rattle.cf_volume.specs.declared.drafts.Sizes.{Sizes}
+use Rattle.cf_volume.specs.declared.room.drafts.Draft.{Draft}
+use Rattle.cf_volume.specs.declared.room.drafts.Sizes.{Sizes}
 
 -- the number at which a Rebase is made has room in its fields
 abbrev pub HasPlace : Change → Type 0

@@ -23,8 +23,8 @@ use Rattle.cf_table.specs.Means.{IsLater, Means}
 use Rattle.cf_table.specs.Tables.{row_of}
 use Rattle.cf_table.specs.declared.rows.Row.{Row}
 use Rattle.cf_volume.specs.Keys.{seen_key}
-use Rattle.cf_volume.specs.declared.drafts.Draft.{Draft}
-use Rattle.cf_volume.specs.declared.drafts.Sizes.{Sizes}
+use Rattle.cf_volume.specs.declared.room.drafts.Draft.{Draft}
+use Rattle.cf_volume.specs.declared.room.drafts.Sizes.{Sizes}
 
 -- numbers past the last place of an epoch stand for ones of the next, which have room in their fields
 

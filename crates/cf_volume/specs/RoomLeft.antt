@@ -13,7 +13,7 @@ use Rattle.cf_model.specs.Words.{is_empty}
 use Rattle.cf_volume_points.specs.Keeping.{FitsBook}
 use Rattle.cf_table.specs.Changing.{FitsItems}
 use Rattle.cf_volume.specs.Calls.{HasRecords}
-use Rattle.cf_volume.specs.declared.rooms.Room.{Room}
+use Rattle.cf_volume.specs.declared.room.changes.Room.{Room}
 
 -- What a change of a list meets in the items before it: it fits the table, whose book names a removed item by its key. A new
 -- item has an id above all others; whether that is one of an item is a matter of room.

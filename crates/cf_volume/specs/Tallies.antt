@@ -6,7 +6,7 @@ use Rattle.cf_model.specs.Changes.{no_blocks, no_table, put_changes}
 use Rattle.cf_model.specs.State.{Volume}
 use Rattle.cf_volume.specs.Drafts.{Drafts}
 use Rattle.cf_volume.specs.RoomLeft.{FitInTurn}
-use Rattle.cf_volume.specs.declared.tallies.Tally.{Tally}
+use Rattle.cf_volume.specs.declared.room.tallies.Tally.{Tally}
 
 -- The draft is that of the volume which the first of the changes make, and the rest fits it. The flags tell whether those
 -- found room.

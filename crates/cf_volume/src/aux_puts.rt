@@ -13,11 +13,11 @@ ghost use Rattle.cf_volume.specs.Calls.{HasRecords, put_record};
 ghost use Rattle.cf_volume.specs.Notes.{KnowKeys};
 ghost use Rattle.cf_volume.specs.Steady.{Steady, known_of};
 
-use crate::lengths::is_too_long;
 use crate::parts::Parts;
 use crate::record_notes::{copied, note_record};
-use crate::rooms::is_full_now;
-use cf_base::{AuxRecord, Blob, Code, CallError, OutOfMemory};
+use crate::room::changes::is_full_now;
+use crate::room::lengths::is_too_long;
+use cf_base::{AuxRecord, Blob, CallError, Code, OutOfMemory};
 use cf_disk::Disk;
 use cf_volume_image::AuxRecords;
 use std::alloc::Global;
@@ -143,7 +143,11 @@ fn put_each(
 }
 
 /// Puts auxiliary records in order, each in place of the one with its key, unless the table would be full with all of them.
-pub(crate) fn put_all<D: Disk>(disk: &D, parts: &mut Parts, list: &[AuxRecord]) -> Result<(), CallError>
+pub(crate) fn put_all<D: Disk>(
+    disk: &D,
+    parts: &mut Parts,
+    list: &[AuxRecord],
+) -> Result<(), CallError>
     requires short { All IsShort list.now }
     requires steady { Steady (size_of (D.state disk.now)) (known_of parts.old) }
     ensures ok { (v : Volume) (b : Book) → At (D.state disk.now) (known_of parts.old) v → HasRecords v.book (with_records list.now parts.old.contents.records) b → OnOk result (At (D.state disk.now) (known_of parts.new) (record v { book = b })) }

@@ -11,9 +11,9 @@ ghost use Rattle.cf_table.specs.Tables.{row_of};
 ghost use Rattle.cf_volume.specs.Calls.{Breaks, HasRecords, IfBroken, IsMemory, WhyAux, put_record};
 
 use crate::aux_puts::{put_all, put_aux};
-use crate::noting::{anchor_row, touch_row};
+use crate::row_notes::{anchor_row, touch_row};
 use crate::volumes::Volume;
-use cf_base::{AuxRecord, Code, CallError, ItemId};
+use cf_base::{AuxRecord, CallError, Code, ItemId};
 use cf_disk::Disk;
 
 impl<D: Disk> Volume<D> {

@@ -11,14 +11,14 @@ ghost use Rattle.cf_volume.specs.Calls.{IsCause, Runs, StopsOnly};
 ghost use Rattle.cf_volume.specs.Notes.{NotesNothing};
 ghost use Rattle.cf_volume.specs.Steady.{Steady, known_of};
 
-use crate::fails::fail_of;
 use crate::parts::Parts;
-use crate::writable::can_be_written;
-use cf_base::{Code, CallError, ItemId, OutOfMemory};
-use cf_volume_commit::{Earlier, save};
+use crate::stop_causes::fail_of;
+use crate::written_rows::can_be_written;
+use cf_base::{CallError, Code, ItemId, OutOfMemory};
 use cf_disk::Disk;
-use cf_volume_image::AuxRecords;
 use cf_table::Rows;
+use cf_volume_commit::{Earlier, save};
+use cf_volume_image::AuxRecords;
 use std::alloc::Global;
 
 /// The item that is always there.

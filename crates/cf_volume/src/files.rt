@@ -8,10 +8,10 @@ ghost use Rattle.cf_volume_points.specs.At.{At, StandsLast};
 ghost use Rattle.cf_table.specs.Tables.{row_of};
 ghost use Rattle.cf_volume.specs.Calls.{Breaks, IfBroken, IsCause, IsHere, Runs, StopsOnly};
 
-use crate::fails::fail_of;
-use crate::reading::read_item;
+use crate::block_reads::read_item;
+use crate::stop_causes::fail_of;
 use crate::volumes::Volume;
-use cf_base::{Blob, Code, CallError, ItemId, Span};
+use cf_base::{Blob, CallError, Code, ItemId, Span};
 use cf_disk::Disk;
 
 impl<D: Disk> Volume<D> {

@@ -1,9 +1,9 @@
 //! What a program knows of a volume on a disk.
 
-use cf_volume_commit::Earlier;
 use cf_clusters::Data;
-use cf_volume_image::Contents;
 use cf_journal::Journal;
+use cf_volume_commit::Earlier;
+use cf_volume_image::Contents;
 use std::alloc::Global;
 
 /// What a program knows of a volume on a disk.

@@ -5,7 +5,7 @@
 #![tactic(auto)]
 
 mod blocks;
-mod laying;
+mod overlays;
 
 pub use blocks::blocks_put;
-pub use laying::lay_change;
+pub use overlays::lay_change;

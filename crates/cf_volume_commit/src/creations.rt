@@ -22,10 +22,10 @@ use crate::ranges::has_an_image;
 use cf_base::{OutOfMemory, Usn};
 use cf_clusters::Data;
 use cf_disk::Disk;
-use cf_volume_image::{AuxRecords, Contents, spell_image};
 use cf_journal::Journal;
-use cf_volume_points::Stop;
 use cf_table::Rows;
+use cf_volume_image::{AuxRecords, Contents, spell_image};
+use cf_volume_points::Stop;
 use std::alloc::Global;
 
 // What a new volume says of its items: there is the root alone.

@@ -10,8 +10,8 @@ ghost use Rattle.cf_table.specs.Tables.{RisesFrom, row_of};
 
 use crate::earlier::{Earlier, bare};
 use cf_base::{AuxRecord, Blob, ItemId, OutOfMemory};
-use cf_volume_image::{AuxRecords, Contents};
 use cf_table::{Row, Rows};
+use cf_volume_image::{AuxRecords, Contents};
 use std::alloc::Global;
 
 fn has_row(rows: &Rows, id: ItemId) -> bool
@@ -109,7 +109,12 @@ fn is_record_gone(then: &Earlier, now: &AuxRecords, aux: &AuxRecord) -> bool
 }
 
 // Puts a key among others, if a record has it now.
-fn put_key(alloc: Global, keys: &mut AuxRecords, now: &AuxRecords, key: &[u8]) -> Result<(), OutOfMemory>
+fn put_key(
+    alloc: Global,
+    keys: &mut AuxRecords,
+    now: &AuxRecords,
+    key: &[u8],
+) -> Result<(), OutOfMemory>
     requires { length key.now ≤ 255 }
     ensures { OnOk result (AddsKeys now.now (λ k. same key.now k) keys.old keys.new) }
 {

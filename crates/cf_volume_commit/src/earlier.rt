@@ -3,8 +3,8 @@
 ghost use Rattle.std.specs.Prelude.{◌≡◌, IfOk, length};
 
 use cf_base::{AuxRecord, Blob, ItemId, OutOfMemory};
-use cf_volume_image::AuxRecords;
 use cf_table::Rows;
+use cf_volume_image::AuxRecords;
 use std::alloc::Global;
 
 /// What is noted of the last point: its rows and records that have changed since or are gone, as they were.

@@ -34,13 +34,13 @@ ghost use Rattle.cf_table.specs.Tables.{AreTableRows, RisesFrom};
 use crate::parts::Parts;
 use crate::ranges::has_an_image;
 use crate::texts::put_text;
-use cf_base::{Code, CallError, OutOfMemory, Usn};
+use cf_base::{CallError, Code, OutOfMemory, Usn};
 use cf_clusters::Data;
 use cf_disk::Disk;
-use cf_volume_image::{Contents, ImageError, read_contents, spell_payload};
 use cf_journal::{Journal, JournalError, Opened, one_content};
-use cf_volume_points::Stop;
 use cf_table::Row;
+use cf_volume_image::{Contents, ImageError, read_contents, spell_payload};
+use cf_volume_points::Stop;
 use std::alloc::Global;
 
 fn refused(why: JournalError) -> CallError

@@ -1,8 +1,8 @@
 //! The parts of a volume.
 
 use cf_clusters::Data;
-use cf_volume_image::Contents;
 use cf_journal::Journal;
+use cf_volume_image::Contents;
 
 /// A volume that was just made or opened, in parts. They go with the disk on which it was.
 #[derive(Drop)]

@@ -23,13 +23,17 @@ use crate::texts::put_text;
 use cf_base::{Blob, OutOfMemory};
 use cf_clusters::Data;
 use cf_disk::Disk;
-use cf_volume_image::{Contents, spell_payload};
 use cf_journal::Journal;
+use cf_volume_image::{Contents, spell_payload};
 use cf_volume_points::Stop;
 use std::alloc::Global;
 
 // The payload of what differs, where its lists are short.
-fn payload_text(alloc: Global, contents: &Contents, then: &Earlier) -> Result<Option<Blob>, OutOfMemory>
+fn payload_text(
+    alloc: Global,
+    contents: &Contents,
+    then: &Earlier,
+) -> Result<Option<Blob>, OutOfMemory>
     requires { All HasRoom contents.now.rows.rows }
     ensures { IfOk result (λ text. text ≡ text_of then.now contents.now) }
 {

@@ -13,8 +13,8 @@ ghost use Rattle.cf_volume_points.specs.declared.stops.Stop.TheVariants.{OutOfMe
 
 use cf_base::Blob;
 use cf_disk::Disk;
-use cf_volume_image::{Contents, spell_image};
 use cf_journal::Journal;
+use cf_volume_image::{Contents, spell_image};
 use cf_volume_points::Stop;
 use std::alloc::Global;
 

@@ -7,12 +7,12 @@ ghost use Rattle.cf_table.specs.Spelling.{HasRoom};
 
 mod cuts;
 
-use cf_base::{AuxRecord, Blob, Choice, Code, CallError as Refusal, ItemId, OutOfMemory, Usn};
-use cf_volume_commit::{Earlier, Parts, create, load, save};
+use cf_base::{AuxRecord, Blob, CallError as Refusal, Choice, Code, ItemId, OutOfMemory, Usn};
 use cf_disk::{Disk, MemDisk};
-use cf_volume_image::{AuxRecords, Contents, read_contents};
 use cf_journal::Journal;
 use cf_table::Rows;
+use cf_volume_commit::{Earlier, Parts, create, load, save};
+use cf_volume_image::{AuxRecords, Contents, read_contents};
 use std::alloc::Global;
 use std::test::Fail;
 
@@ -168,7 +168,12 @@ fn contents(alloc: Global, directory: bool, records: AuxRecords) -> Result<Conte
     Ok(contents)
 }
 
-fn put_record(alloc: Global, records: &mut AuxRecords, key: u8, zeros: u16) -> Result<(), OutOfMemory> {
+fn put_record(
+    alloc: Global,
+    records: &mut AuxRecords,
+    key: u8,
+    zeros: u16,
+) -> Result<(), OutOfMemory> {
     let zeros = vec![in alloc; 0; zeros as usize]?;
     let key = Blob::from_slice(alloc, &[key])?;
     let value = Blob::from_slice(alloc, &zeros)?;

@@ -92,7 +92,11 @@ fn put_one(out: &mut Writer, records: &AuxRecords, key: &[u8]) -> Result<u32, Ou
     }
 }
 
-fn put_each_record(out: &mut Writer, records: &AuxRecords, keys: &[Blob]) -> Result<u32, OutOfMemory>
+fn put_each_record(
+    out: &mut Writer,
+    records: &AuxRecords,
+    keys: &[Blob],
+) -> Result<u32, OutOfMemory>
     requires { length keys.now < 2 ^ 32 }
     ensures spelled { OnOk result (out.new ≡ out.old ++ flat_map spell_record (records_at records.now keys.now)) }
     ensures count { IfOk result (λ n. n ≡ length (records_at records.now keys.now)) }

@@ -53,7 +53,11 @@ fn is_small(contents: &Contents) -> bool
 }
 
 /// Whether the contents are those of a volume of so many clusters.
-pub(crate) fn is_sound(alloc: Global, contents: &Contents, clusters: u32) -> Result<bool, OutOfMemory>
+pub(crate) fn is_sound(
+    alloc: Global,
+    contents: &Contents,
+    clusters: u32,
+) -> Result<bool, OutOfMemory>
     ensures { IfOk result (λ b. Decides b (IsSound clusters (image_of contents.now))) }
 {
     let rows = contents.rows.as_slice();

@@ -10,7 +10,7 @@ ghost use Rattle.cf_volume_image.specs.RowTests.{AreSmall, HasSoundName, HasSoun
 ghost use Rattle.cf_ranges.specs.Positions.{IsBelow};
 
 use crate::sets::{has_all, has_span, is_below};
-use cf_base::{Code, CallError, ItemId, OutOfMemory, Name, Usn};
+use cf_base::{CallError, Code, ItemId, Name, OutOfMemory, Usn};
 use cf_table::{NO_USN, Row};
 use std::alloc::Global;
 

@@ -18,7 +18,13 @@ fn put_places(out: &mut Writer, pairs: &[(u32, u32)]) -> Result<(), OutOfMemory>
 }
 
 // Who it is, its flags and its size; the rest of its head is 0.
-fn put_head(out: &mut Writer, id: u64, parent: u64, flags: u16, size: u32) -> Result<(), OutOfMemory> {
+fn put_head(
+    out: &mut Writer,
+    id: u64,
+    parent: u64,
+    flags: u16,
+    size: u32,
+) -> Result<(), OutOfMemory> {
     out.put_u64(id)?;
     out.put_u64(parent)?;
     out.put_u16(flags)?;
@@ -361,7 +367,9 @@ fn payloads_remove_and_put(rt: HostRuntime) -> Result<(), Fail> {
     let told = read_contents(rt.alloc(), image.as_slice(), &payloads, 0).err();
     assert!(rt; told == Some(ImageError::NotAVolume));
     let mut contents = read_image(rt.alloc(), image.as_slice())?;
-    assert!(rt; apply_payload(rt.alloc(), &mut contents, b"").err() == Some(ImageError::NotAVolume));
+    assert!(rt;
+        apply_payload(rt.alloc(), &mut contents, b"").err() == Some(ImageError::NotAVolume)
+    );
     Ok(())
 }
 

@@ -87,7 +87,10 @@ fn background_id(beside: bool, epoch: u32, first: u64) -> Option<WaitId>
 }
 
 /// The waits, and behind them those that begin.
-pub(crate) fn with_begun(waits: Vec<LiveWait>, begun: &[LiveWait]) -> Result<Vec<LiveWait>, OutOfMemory>
+pub(crate) fn with_begun(
+    waits: Vec<LiveWait>,
+    begun: &[LiveWait],
+) -> Result<Vec<LiveWait>, OutOfMemory>
     ensures { IfOk result (λ v. v.items ≡ waits.items ++ begun.now) }
 {
     let mut all = waits;

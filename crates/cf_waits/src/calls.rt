@@ -12,7 +12,7 @@ use crate::limits::Limits;
 use crate::moves::Moves;
 use crate::requests::Requests;
 use cf_ask_rule::{Act, View};
-use cf_base::{Cause, Code, CallError, Handle, ItemId, Key, Span, WaitId, WaitKind};
+use cf_base::{CallError, Cause, Code, Handle, ItemId, Key, Span, WaitId, WaitKind};
 
 impl Requests {
     fn step(&mut self, item: ItemId, act: Act, limits: Limits, v: &View) -> Result<Moves, CallError>
@@ -103,7 +103,13 @@ impl Requests {
     }
 
     /// Blocks leave the ask of the key, and the waits that miss a byte in them end.
-    pub fn fail(&mut self, key: Key, blocks: Span, cause: Cause, v: &View) -> Result<Moves, CallError>
+    pub fn fail(
+        &mut self,
+        key: Key,
+        blocks: Span,
+        cause: Cause,
+        v: &View,
+    ) -> Result<Moves, CallError>
         requires size { v.now.size ≤ 2 ^ 24 }
         requires base { v.now.base ≤ 2 ^ 24 }
         ensures { Steps Limits.Free (step_of (item_at key self.old) (shown v.now) (Fails key (counting blocks.start blocks.len) cause) self.old) self.old result self.new }

@@ -20,7 +20,10 @@ pub struct Moves {
 }
 
 /// The waits that ended, as they are told.
-pub(crate) fn told(alloc: Global, ended: &[(LiveWait, Cause)]) -> Result<Vec<(Wait, Cause)>, OutOfMemory>
+pub(crate) fn told(
+    alloc: Global,
+    ended: &[(LiveWait, Cause)],
+) -> Result<Vec<(Wait, Cause)>, OutOfMemory>
     ensures { IfOk result (λ v. v.items ≡ ended.now) }
 {
     let mut out = Vec::new(alloc);

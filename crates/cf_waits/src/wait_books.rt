@@ -165,7 +165,11 @@ impl WaitBook {
     }
 }
 
-fn found_of(alloc: Global, waits: &[LiveWait], entries: &[Entry]) -> Result<Vec<LiveWait>, OutOfMemory>
+fn found_of(
+    alloc: Global,
+    waits: &[LiveWait],
+    entries: &[Entry],
+) -> Result<Vec<LiveWait>, OutOfMemory>
     requires { IsRising wait_key waits.now }
     ensures { IfOk result (λ v. v.items ≡ found_of wait_key waits.now entries.now) }
 {

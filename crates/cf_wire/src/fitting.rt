@@ -13,7 +13,7 @@ ghost use Rattle.std.specs.HashSet.{IsFromIterResult};
 ghost use Rattle.cf_wire.specs.Sizes.{has_sizes};
 
 use crate::local_items::LocalItems;
-use cf_base::{Entry, CallError, Key, OutOfMemory, Name, Reply, Request, Rid, Round, Token};
+use cf_base::{CallError, Entry, Key, Name, OutOfMemory, Reply, Request, Rid, Round, Token};
 use cf_model::laws::one_test_of_names;
 use std::alloc::{AllocError, Global};
 use std::collections::HashSet;
@@ -90,7 +90,11 @@ fn are_named_apart(alloc: Global, entries: &[Entry]) -> Result<bool, OutOfMemory
     Ok(true)
 }
 
-fn are_entries<L: LocalItems>(alloc: Global, local: &L, entries: &[Entry]) -> Result<bool, OutOfMemory>
+fn are_entries<L: LocalItems>(
+    alloc: Global,
+    local: &L,
+    entries: &[Entry],
+) -> Result<bool, OutOfMemory>
     ensures { IfOk result (λ b. b ≡ are_entries (L.known local.now) entries.now) }
 {
     for entry in entries {

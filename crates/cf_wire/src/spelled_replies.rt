@@ -90,7 +90,12 @@ fn put_entries(out: &mut Writer, entries: &[Entry]) -> Result<(), OutOfMemory>
     put_each(out, entries)
 }
 
-fn put_feed(out: &mut Writer, round: Round, clock: u64, entries: &[Entry]) -> Result<(), OutOfMemory>
+fn put_feed(
+    out: &mut Writer,
+    round: Round,
+    clock: u64,
+    entries: &[Entry],
+) -> Result<(), OutOfMemory>
     requires { HaveRoom entries.now }
     ensures ok { OnOk result (out.new ≡ out.old ++ spell_reply (Reply.Feed round clock entries.now)) }
     ensures fits { OnOk result (FitsReply (Reply.Feed round clock entries.now)) }
@@ -154,7 +159,12 @@ fn put_void(out: &mut Writer, token: Token) -> Result<(), OutOfMemory>
     Ok(())
 }
 
-fn put_refused(out: &mut Writer, token: Token, why: Why, version: Version) -> Result<(), OutOfMemory>
+fn put_refused(
+    out: &mut Writer,
+    token: Token,
+    why: Why,
+    version: Version,
+) -> Result<(), OutOfMemory>
     ensures ok { OnOk result (out.new ≡ out.old ++ spell_reply (Reply.Refused token why version)) }
     ensures fits { FitsReply (Reply.Refused token why version) }
 {

@@ -6,8 +6,8 @@ use Rattle.cf_io.proofs.Adding.{Adds-then, Adds-none}
 use Rattle.cf_io.specs.Moves.{Adds, AddsFront}
 use Rattle.cf_world.specs.Runs.{most_report}
 use Rattle.cf_world.specs.Steps.{AddFails, Hands, IsDrafted, IsOfSink}
-use Rattle.cf_world.specs.declared.fails.PlayError.{PlayError}
-use Rattle.cf_world.specs.declared.fails.PlayError.TheVariants.{OutOfMemory, SinkFault, TooLong}
+use Rattle.cf_world.specs.declared.play_errors.PlayError.{PlayError}
+use Rattle.cf_world.specs.declared.play_errors.PlayError.TheVariants.{OutOfMemory, SinkFault, TooLong}
 
 pub drafted_none : (old : Option (List ℕ)) → IsDrafted [] [] 0 old old
 drafted_none old = record { front = []; parts = refl; long = refl; short = omega arith; written = Adds-none old }

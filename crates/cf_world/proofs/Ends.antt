@@ -10,14 +10,14 @@ use Rattle.cf_disk.specs.Disk.{State as Disk}
 use Rattle.cf_io.specs.Moves.{AddsFront}
 use Rattle.cf_script.specs.FailEvents.{IsCause}
 use Rattle.cf_script.specs.Script.{lines_of}
-use Rattle.cf_script.specs.declared.fails.ScriptError.{ScriptError}
-use Rattle.cf_script.specs.declared.fails.ScriptError.TheVariants as fails
+use Rattle.cf_script.specs.declared.script_errors.ScriptError.{ScriptError}
+use Rattle.cf_script.specs.declared.script_errors.ScriptError.TheVariants as fails
 use Rattle.cf_world.specs.Led.{HasRunOn, Leads}
 use Rattle.cf_world.specs.Runs.{IsBuilt, IsRefusal, PlaysFront, PlaysLong, RefusesFront, Writes, WritesRefusal, fail_line}
 use Rattle.cf_world.specs.Sides.{Acted}
 use Rattle.cf_world.specs.Steps.{AllPlayed, SomePlayed, early_status, play_status}
-use Rattle.cf_world.specs.declared.fails.PlayError.{PlayError}
-use Rattle.cf_world.specs.declared.fails.PlayError.TheVariants as plays
+use Rattle.cf_world.specs.declared.play_errors.PlayError.{PlayError}
+use Rattle.cf_world.specs.declared.play_errors.PlayError.TheVariants as plays
 
 refused_front : (m : Mode) (text : List ℕ) (old new : Option (List ℕ)) (fail : ScriptError) → IsCause m (lines_of text) fail → fail ≢ fails.OutOfMemory → AddsFront old new (fail_line fail) → RefusesFront m text old new
 refused_front m text old new fail why other written =

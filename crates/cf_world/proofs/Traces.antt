@@ -17,8 +17,8 @@ use Rattle.cf_world.proofs.Sided.{run_lawful}
 use Rattle.cf_world.specs.Led.{HasRunOn, IsLawful}
 use Rattle.cf_world.specs.Runs.{PlaysFront, answers_of, events_of}
 use Rattle.cf_world.specs.Steps.{AddFails, IsDrafted, SomePlayed}
-use Rattle.cf_world.specs.declared.fails.PlayError.{PlayError}
-use Rattle.cf_world.specs.declared.fails.PlayError.TheVariants.{OutOfMemory, SinkFault, TooLong}
+use Rattle.cf_world.specs.declared.play_errors.PlayError.{PlayError}
+use Rattle.cf_world.specs.declared.play_errors.PlayError.TheVariants.{OutOfMemory, SinkFault, TooLong}
 use Rattle.cf_world.specs.declared.sides.Side.{Side}
 
 texts-push : (answers : List Answer) (a : Answer) → texts (answers ++ a ∷ []) ≡ texts answers ++ text a

@@ -16,8 +16,8 @@ use Rattle.cf_report.specs.Texts.{text as text_of, texts}
 use Rattle.cf_script.specs.Built.{is_built}
 use Rattle.cf_script.specs.FailEvents.{IsCause}
 use Rattle.cf_script.specs.Script.{lines_of, IsScript}
-use Rattle.cf_script.specs.declared.fails.ScriptError.{ScriptError}
-use Rattle.cf_script.specs.declared.fails.ScriptError.TheVariants as fails
+use Rattle.cf_script.specs.declared.script_errors.ScriptError.{ScriptError}
+use Rattle.cf_script.specs.declared.script_errors.ScriptError.TheVariants as fails
 use Rattle.cf_cli.specs.declared.commands.Command.{Command}
 use Rattle.cf_cli.specs.declared.commands.Command.TheVariants as command
 use Rattle.cf_world.specs.Led.{IsLawful, Leads}

@@ -18,8 +18,8 @@ use Rattle.cf_world.specs.Runs.{PlaysFront, PlaysLong, answers_of, events_of, mo
 use Rattle.cf_world.specs.Sides.{Acted}
 use Rattle.cf_cli.specs.declared.commands.WordsError.{WordsError}
 use Rattle.cf_cli.specs.declared.commands.WordsError.TheVariants as words
-use Rattle.cf_world.specs.declared.fails.PlayError.{PlayError}
-use Rattle.cf_world.specs.declared.fails.PlayError.TheVariants as play
+use Rattle.cf_world.specs.declared.play_errors.PlayError.{PlayError}
+use Rattle.cf_world.specs.declared.play_errors.PlayError.TheVariants as play
 use Rattle.cf_world.specs.declared.sides.Side.{Side}
 
 -- a front of what waited was written, and the rest waits on

@@ -4,7 +4,7 @@ ghost use Rattle.std.specs.Prelude.{◌≡◌, ◌≤◌, ◌++◌, List, Option
 ghost use Rattle.cf_io.specs.Moves.{Rose, Adds, AddsFront};
 ghost use Rattle.cf_world.specs.Steps.{AddFails, Hands, IsDrafted, IsOfSink};
 
-use crate::fails::PlayError;
+use crate::play_errors::PlayError;
 use cf_io::{Sink, write_all};
 
 /// Texts are written as soon as they have so many bytes together.

@@ -9,7 +9,7 @@
 #![tactic(auto)]
 
 mod drafts;
-mod fails;
+mod play_errors;
 mod plays;
 mod runs;
 mod sides;

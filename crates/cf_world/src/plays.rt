@@ -11,7 +11,7 @@ ghost use Rattle.cf_world.specs.Led.{HasRun, IsSame, IsWhole, can_do};
 ghost use Rattle.cf_world.specs.Steps.{AllPlayed, SomePlayed};
 
 use crate::drafts::add;
-use crate::fails::PlayError;
+use crate::play_errors::PlayError;
 use crate::worlds::World;
 use cf_base::{Blob, Event, OutOfMemory};
 use cf_disk::Disk;

@@ -14,15 +14,15 @@ ghost use Rattle.cf_world.specs.Led.{HandsBack, HasRun};
 ghost use Rattle.cf_world.specs.Runs.{IsAfterReading, IsBeforeDevice, IsBeforeWriting, IsBuilt, IsComplete, IsFit, IsLength, IsOfReport, IsStarted, IsUnfit, Writes, WritesRefusal, fail_line, mode_of};
 ghost use Rattle.cf_world.specs.Steps.{early_status, play_status, read_status, start_status, words_status};
 
-use crate::fails::PlayError;
+use crate::play_errors::PlayError;
 use crate::plays::play;
 use crate::worlds::World;
-use cf_base::{Event, CallError, Mode, Status};
+use cf_base::{CallError, Event, Mode, Status};
+use cf_cli::{Command, WordsError, command_of};
 use cf_disk::Disk;
 use cf_io::{ReadError, Sink, Source, read_all, write_all};
 use cf_remote::Remote;
 use cf_script::{ScriptError, read};
-use cf_cli::{Command, WordsError, command_of};
 use std::alloc::{AllocError, Global};
 
 /// The most bytes that a script has.
@@ -291,7 +291,13 @@ fn status_of(played: Result<(), PlayError>) -> Status
 }
 
 /// Writes why the script is not read.
-fn refuse<K: Sink>(alloc: Global, mode: Mode, text: &[u8], fail: ScriptError, sink: &mut K) -> Status
+fn refuse<K: Sink>(
+    alloc: Global,
+    mode: Mode,
+    text: &[u8],
+    fail: ScriptError,
+    sink: &mut K,
+) -> Status
     requires { IsCause mode (lines_of text.now) fail }
     ensures writes { WritesRefusal mode text.now (K.held sink.old) (K.held sink.new) result }
     ensures memory { fail ≡ ScriptError.OutOfMemory → result ≡ Status.OutOfMemory }

@@ -16,10 +16,10 @@ ghost use Rattle.cf_volume.specs.Calls.{IsCause, StopsOnly};
 ghost use Rattle.cf_world.specs.Led.{HasRun, HasRunOn, IsSame, IsWhole, Keeps, Leads, can_do};
 
 use crate::sides::Side;
-use cf_world_filter::Acting;
-use cf_base::{Answer, Event, CallError, OutOfMemory, Mode};
+use cf_base::{Answer, CallError, Event, Mode, OutOfMemory};
 use cf_disk::Disk;
 use cf_plain::PlainWorld;
+use cf_world_filter::Acting;
 use std::alloc::Global;
 use std::marker::Model;
 
@@ -42,7 +42,12 @@ impl<D: Disk + Drop, R> Model for World<D, R> {
 impl<D: Disk + Drop, R> World<D, R> {
     /// A world in which nothing has happened. In `filter` a volume is made on the disk, which has a fit size. Refused as
     /// Device where a call of the disk failed, and as OutOfMemory; then disk and remote come back.
-    pub fn start(alloc: Global, disk: D, remote: R, mode: Mode) -> Result<World<D, R>, (D, R, CallError)>
+    pub fn start(
+        alloc: Global,
+        disk: D,
+        remote: R,
+        mode: Mode,
+    ) -> Result<World<D, R>, (D, R, CallError)>
         requires { IsFitSize (size_of (D.state disk)) }
         ensures ok { IfOk result (HasRun D.state mode disk) }
         ensures begins { IfOk result (λ w. (w.trace ≡ []) × (w.remote ≡ remote)) }
@@ -120,7 +125,11 @@ fn disk_of<D: Disk + Drop>(side: Side<D>) -> D
 }
 
 // Does an event, and answers it.
-fn act<D: Disk + Drop>(alloc: Global, side: &mut Side<D>, event: &Event) -> Result<Answer, OutOfMemory>
+fn act<D: Disk + Drop>(
+    alloc: Global,
+    side: &mut Side<D>,
+    event: &Event,
+) -> Result<Answer, OutOfMemory>
     requires whole { IsWhole side.old }
     requires can { can_do side.old event.now ≡ true }
     ensures ok { IfOk result (λ a. (m : Commanded) (disk : D) (trace : List (Done × Answered)) → HasRunOn D.state m disk trace side.old → HasRunOn D.state m disk (trace ++ (event.now, a) ∷ []) side.new) }

@@ -4,7 +4,7 @@ ghost use Rattle.std.specs.Prelude.{◌≡◌, IfOk};
 ghost use Rattle.cf_filter_machine.specs.Telling.{accesses_in, anchors_in, told_of};
 ghost use Rattle.cf_model.specs.Numbers.{is_no_usn};
 
-use cf_base::{Access, Anchor, AuxRecord, OutOfMemory, OpenedBook, Sequence, Usn};
+use cf_base::{Access, Anchor, AuxRecord, OpenedBook, OutOfMemory, Sequence, Usn};
 use cf_disk::Disk;
 use cf_table::Row;
 use cf_volume::Volume;
@@ -65,7 +65,10 @@ fn copies(alloc: Global, records: &[AuxRecord]) -> Result<Sequence<AuxRecord>, O
 }
 
 /// The book as it is told of a volume: its records, its clock, and the anchors and last accesses of its rows.
-pub(crate) fn opened_book<D: Disk>(alloc: Global, volume: &Volume<D>) -> Result<OpenedBook, OutOfMemory>
+pub(crate) fn opened_book<D: Disk>(
+    alloc: Global,
+    volume: &Volume<D>,
+) -> Result<OpenedBook, OutOfMemory>
     ensures { IfOk result (λ o. o ≡ told_of volume.now.known) }
 {
     let records = copies(alloc, volume.records())?;

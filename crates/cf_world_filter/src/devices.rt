@@ -11,7 +11,7 @@ ghost use Rattle.cf_base.specs.declared.codes.Code.TheVariants as code;
 ghost use Rattle.cf_base.specs.declared.events.DeviceEvent.TheVariants as device;
 ghost use Rattle.cf_base.specs.declared.events.Event.TheVariants as event;
 
-use crate::answering::{plainly, refused};
+use crate::answers::{plainly, refused};
 use crate::places::{Cut, Running};
 use cf_base::{Answer, Choice, Code, Shown};
 use cf_disk::Disk;

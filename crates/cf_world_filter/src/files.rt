@@ -6,10 +6,10 @@ ghost use Rattle.cf_base.specs.declared.calls.Call.TheVariants as call;
 ghost use Rattle.cf_base.specs.declared.events.Event.TheVariants as event;
 ghost use Rattle.cf_model.specs.Missing.{span_of};
 
-use crate::answering::answered;
+use crate::answers::answered;
 use crate::places::Running;
-use crate::showing::{done, waited};
-use cf_base::{Answer, Blob, Handle, OutOfMemory, Notes, Span, Text};
+use crate::results::{done, waited};
+use cf_base::{Answer, Blob, Handle, Notes, OutOfMemory, Span, Text};
 use cf_disk::Disk;
 use std::alloc::Global;
 

@@ -5,22 +5,22 @@
 //! answer, and whatever a crash leaves of the disk stands for a point that a restart may then open.
 #![tactic(auto)]
 
-mod actings;
-mod answering;
-mod arranging;
+mod answers;
 mod books;
 mod calls;
-mod cuts;
 mod devices;
-mod fetching;
 mod files;
+mod item_calls;
+mod item_facts;
 pub mod laws;
+mod placeholders;
 mod places;
-mod placing;
-mod planning;
-mod providing;
+mod plans;
+mod power_cuts;
+mod provider_events;
+mod results;
 mod settings;
-mod showing;
-mod telling;
+mod waits;
+mod worlds;
 
 pub use places::{Acting, Cut, Running};

@@ -4,10 +4,10 @@ ghost use Rattle.cf_world_filter.specs.Counted.{StepsOn};
 ghost use Rattle.cf_base.specs.declared.calls.Call.TheVariants as call;
 ghost use Rattle.cf_base.specs.declared.events.Event.TheVariants as event;
 
-use crate::answering::answered;
+use crate::answers::answered;
 use crate::places::Running;
-use crate::showing::{count, done, opened};
-use cf_base::{Answer, OutOfMemory, Mode, Notes, Policy, Text};
+use crate::results::{count, done, opened};
+use cf_base::{Answer, Mode, Notes, OutOfMemory, Policy, Text};
 use cf_disk::Disk;
 use std::alloc::Global;
 
@@ -29,7 +29,11 @@ impl<D: Disk> Running<D> {
     }
 
     /// `policy`
-    pub(crate) fn set_policy(&mut self, alloc: Global, policy: &Policy) -> Result<Answer, OutOfMemory>
+    pub(crate) fn set_policy(
+        &mut self,
+        alloc: Global,
+        policy: &Policy,
+    ) -> Result<Answer, OutOfMemory>
         ensures { StepsOn D.state (event.Call (call.Policy policy.now)) self.old result self.new }
     {
         let told = self.filter.set_policy(Mode::Filter, policy);

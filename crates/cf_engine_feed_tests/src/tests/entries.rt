@@ -1,7 +1,8 @@
 //! Entries, and what is known of them.
 
 use cf_base::{
-    Blob, Entry, CallError, Hydration, ItemId, OutOfMemory, Name, Policy, Population, Rid, SeenPath, Version,
+    Blob, CallError, Entry, Hydration, ItemId, Name, OutOfMemory, Policy, Population, Rid,
+    SeenPath, Version,
 };
 use cf_engine_feed::{Known, Turn, steps};
 use cf_table::Rows;
@@ -99,7 +100,12 @@ pub(super) fn seen_at<'a>(item: u64, parent: u64, seen: &'a SeenPath) -> Known<'
 }
 
 /// The path seen of an item.
-pub(super) fn path(alloc: Global, item: u64, parent: u64, name: &[u8]) -> Result<SeenPath, CallError> {
+pub(super) fn path(
+    alloc: Global,
+    item: u64,
+    parent: u64,
+    name: &[u8],
+) -> Result<SeenPath, CallError> {
     let name = Name::read(alloc, name)?;
     Ok(SeenPath {
         item: ItemId(item),

@@ -40,7 +40,13 @@ fn item(
     Ok(Row::made(alloc, place, kind, 9, identity))
 }
 
-fn directory(alloc: Global, id: u64, parent: u64, name: &[u8], target: u64) -> Result<Row, OutOfMemory> {
+fn directory(
+    alloc: Global,
+    id: u64,
+    parent: u64,
+    name: &[u8],
+    target: u64,
+) -> Result<Row, OutOfMemory> {
     let identity = identity(alloc, target, 0, 0)?;
     let mut row = item(alloc, id, parent, name, Kind::PlaceholderDir, identity)?;
     row.in_sync = true;

@@ -3,8 +3,8 @@
 use crate::tests::plays::{Play, key};
 use cf_base::{ItemId, Policy};
 use cf_disk::Disk;
-use cf_provider::Callback;
 use cf_filter::Filter;
+use cf_provider::Callback;
 use cf_table::Row;
 
 /// What is to be so.

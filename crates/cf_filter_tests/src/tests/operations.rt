@@ -1,7 +1,8 @@
 //! Operations of a provider in few words.
 
 use cf_base::{
-    Blob, Identity, ItemId, Key, OutOfMemory, Name, NewItem, Operation, Rid, SeenPath, Sequence, Span,
+    Blob, Identity, ItemId, Key, Name, NewItem, Operation, OutOfMemory, Rid, SeenPath, Sequence,
+    Span,
 };
 use std::alloc::Global;
 

@@ -10,7 +10,7 @@ mod shows;
 
 use crate::tests::operations::Given;
 use crate::tests::providers::Plans;
-use cf_base::{Answer, Code, CallError, Handle, Key, Notes, Policy, Sequence, Shown};
+use cf_base::{Answer, CallError, Code, Handle, Key, Notes, Policy, Sequence, Shown};
 use cf_disk::Disk;
 use cf_filter::Filter;
 use cf_journal::Journal;

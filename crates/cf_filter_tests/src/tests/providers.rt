@@ -4,7 +4,7 @@ ghost use Rattle.std.specs.Prelude.{List};
 ghost use Rattle.cf_model.specs.Ports.{Act};
 
 use crate::tests::operations::{Given, operation, paths_seen};
-use cf_base::{CallError, Key, OutOfMemory, Notice, Operation, OperationAnswer, SeenPath};
+use cf_base::{CallError, Key, Notice, Operation, OperationAnswer, OutOfMemory, SeenPath};
 use cf_provider::{Callback, Outcome, Port, Provider};
 use std::alloc::Global;
 
@@ -22,7 +22,11 @@ fn meant(alloc: Global, step: (Option<Key>, Given), own: Key) -> Result<Operatio
     operation(alloc, step.1, step.0.unwrap_or(own))
 }
 
-fn run<P: Port>(op: &Operation, seen: &[SeenPath], port: &mut P) -> Result<OperationAnswer, OutOfMemory>
+fn run<P: Port>(
+    op: &Operation,
+    seen: &[SeenPath],
+    port: &mut P,
+) -> Result<OperationAnswer, OutOfMemory>
     ensures { (acts : List Act) × P.goes port.old acts port.new }
 {
     match port.execute_seeing(op, seen) {

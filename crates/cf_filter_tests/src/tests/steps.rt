@@ -3,7 +3,7 @@
 use crate::tests::facts::{Fact, is_so};
 use crate::tests::operations::Given;
 use crate::tests::plays::{Play, SIZE, key};
-use cf_base::{Class, CallError, Hydration, Pin, Policy, Population, Reach, Usn};
+use cf_base::{CallError, Class, Hydration, Pin, Policy, Population, Reach, Usn};
 use cf_disk::{Disk, MemDisk};
 use std::alloc::Global;
 

@@ -3,7 +3,7 @@
 use crate::tests::facts::Fact;
 use crate::tests::plays::{SIZE, open};
 use crate::tests::steps::{PARTIAL, Step, is_told, played};
-use cf_base::{Choice, CallError as Refusal, ItemId, Span};
+use cf_base::{CallError as Refusal, Choice, ItemId, Span};
 use cf_disk::{Disk, MemDisk};
 use cf_filter::Filter;
 use std::alloc::Global;

@@ -2,9 +2,9 @@
 
 use crate::tests::{SIZE, create_at_7, found, opened_at, puts};
 use cf_base::Choice;
-use cf_volume_commit::{create, load};
 use cf_disk::{Disk, MemDisk, TraceDisk};
 use cf_journal::Journal;
+use cf_volume_commit::{create, load};
 use std::alloc::Global;
 use std::test::Fail;
 

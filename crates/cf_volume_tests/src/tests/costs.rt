@@ -3,7 +3,7 @@
 use crate::tests::edits::Edit;
 use crate::tests::openings::EIGHT;
 use crate::tests::steps::{commit, edit, format};
-use cf_base::{Choice, CallError as Refusal, Kind, OutOfMemory};
+use cf_base::{CallError as Refusal, Choice, Kind, OutOfMemory};
 use cf_disk::{Disk, DiskError, MemDisk};
 use cf_volume::Volume;
 use std::alloc::Global;

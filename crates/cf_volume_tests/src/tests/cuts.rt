@@ -5,7 +5,7 @@ ghost use Rattle.std.specs.Prelude.{◌≤◌};
 use crate::tests::edits::Edit;
 use crate::tests::scripts::{Step, played};
 use crate::tests::steps::{commit, edit, has_bytes, open};
-use cf_base::{Choice, Code, CallError as Refusal, ItemId, Kind};
+use cf_base::{CallError as Refusal, Choice, Code, ItemId, Kind};
 use cf_disk::{Disk, MemDisk, TraceDisk};
 use cf_journal::Journal;
 use cf_volume::Volume;

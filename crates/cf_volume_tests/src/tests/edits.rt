@@ -8,7 +8,7 @@ ghost use Rattle.cf_table.specs.Changing.{Fits, IsNewItem, stays};
 ghost use Rattle.cf_table.specs.Tables.{row_of};
 ghost use Rattle.cf_table.specs.declared.rows.Row.{Row};
 
-use cf_base::{Blob, Change, CallError, Identity, ItemId, Kind, OutOfMemory, Name, Pin, Usn};
+use cf_base::{Blob, CallError, Change, Identity, ItemId, Kind, Name, OutOfMemory, Pin, Usn};
 use cf_table::{Row, Rows};
 use std::alloc::Global;
 
@@ -56,7 +56,13 @@ fn target(alloc: Global) -> Result<Identity, OutOfMemory> {
     Identity::new(alloc, &[0; 8])
 }
 
-fn made(alloc: Global, item: ItemId, kind: Kind, letter: u8, size: u16) -> Result<Change, CallError> {
+fn made(
+    alloc: Global,
+    item: ItemId,
+    kind: Kind,
+    letter: u8,
+    size: u16,
+) -> Result<Change, CallError> {
     let identity = match kind {
         Kind::File | Kind::Dir => Identity::new(alloc, &[])?,
         _ => target(alloc)?,

@@ -1,7 +1,7 @@
 //! Openings, and disks that hold no volume.
 
 use crate::tests::steps::{format, open, reopened};
-use cf_base::{Choice, Code, CallError as Refusal, ItemId, Usn};
+use cf_base::{CallError as Refusal, Choice, Code, ItemId, Usn};
 use cf_disk::{Disk, MemDisk};
 use cf_volume::Volume;
 use std::alloc::Global;

@@ -4,7 +4,7 @@ use crate::tests::edits::{Edit, change_of};
 use crate::tests::steps::{
     Told, commit, edit, format, has_bytes, note, put, put_all, reopened, room_with, take_out,
 };
-use cf_base::{AuxRecord, Choice, Code, CallError, ItemId, Usn};
+use cf_base::{AuxRecord, CallError, Choice, Code, ItemId, Usn};
 use cf_disk::Disk;
 use cf_table::Row;
 use cf_volume::{Room, Volume};

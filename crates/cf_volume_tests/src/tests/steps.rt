@@ -4,7 +4,7 @@ ghost use Rattle.std.specs.Prelude.{◌≡◌, ◌≤◌, ◌+◌, ◌^◌, Some
 ghost use Rattle.cf_volume.specs.Calls.{IsHere};
 
 use crate::tests::edits::{Edit, change_of, fits};
-use cf_base::{AuxRecord, Blob, Choice, Code, CallError, ItemId, OutOfMemory, Span, Usn};
+use cf_base::{AuxRecord, Blob, CallError, Choice, Code, ItemId, OutOfMemory, Span, Usn};
 use cf_disk::Disk;
 use cf_journal::Journal;
 use cf_table::Row;

@@ -3,7 +3,7 @@
 ghost use Rattle.std.specs.Prelude.{◌≡◌, ◌+◌, ◌≤◌, ◌<◌, ◌^◌, ℕ};
 
 use cf_ask_rule::View;
-use cf_base::{Cause, CallError as Refusal, ItemId, Key, Span, WaitId, WaitKind};
+use cf_base::{CallError as Refusal, Cause, ItemId, Key, Span, WaitId, WaitKind};
 use cf_ranges::RangeSet;
 use cf_waits::{Moves, Requests};
 use std::test::Fail;

@@ -2,7 +2,7 @@
 
 use super::Play;
 use super::shows::done;
-use cf_base::{Change, CallError, ItemId, Sequence};
+use cf_base::{CallError, Change, ItemId, Sequence};
 use cf_disk::Disk;
 
 impl<D: Disk + Drop> Play<D> {

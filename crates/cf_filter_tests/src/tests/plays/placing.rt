@@ -4,7 +4,7 @@ use super::Play;
 use super::shows::{done, number, refused};
 use cf_base::{CallError, Identity, Sequence, Shown, Usn};
 use cf_disk::Disk;
-use cf_placeholder::Creation;
+use cf_item_rules::Creation;
 
 impl<D: Disk + Drop> Play<D> {
     fn make(&mut self, path: &str, what: &Creation) -> Result<(), CallError> {

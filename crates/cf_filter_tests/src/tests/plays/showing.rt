@@ -2,7 +2,7 @@
 
 use super::Play;
 use super::shows::refused;
-use cf_base::{Class, CallError, Shown};
+use cf_base::{CallError, Class, Shown};
 use cf_disk::Disk;
 
 impl<D: Disk + Drop> Play<D> {

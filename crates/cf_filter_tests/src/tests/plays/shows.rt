@@ -1,8 +1,8 @@
 //! What a call gave, as it is told.
 
 use cf_base::{CallError, Shown, Usn};
-use cf_provider::Outcome;
 use cf_filter::Waited;
+use cf_provider::Outcome;
 
 // A refusal is shown; want of memory is none of the test's.
 pub(super) fn refused(fail: CallError) -> Result<Shown, CallError> {

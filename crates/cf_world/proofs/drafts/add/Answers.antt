@@ -4,7 +4,7 @@ use Rattle.cf_world.proofs.Drafted.{add_early, drafted_front, drafted_more, draf
 use Rattle.cf_world.proofs.Errs.{err_if}
 use Rattle.cf_world.specs.Runs.{most_report}
 use Rattle.cf_world.specs.Steps.{AddFails, Hands}
-use Rattle.cf_world.specs.declared.fails.PlayError.TheVariants.{OutOfMemory, SinkFault}
+use Rattle.cf_world.specs.declared.play_errors.PlayError.TheVariants.{OutOfMemory, SinkFault}
 use Rattle.cf_world.proofs.drafts.add.Goals as goal
 
 pub returns-in_err-write_all-clause-err : goal.returns-in_err-write_all-clause-err

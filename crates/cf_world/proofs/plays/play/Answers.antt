@@ -11,7 +11,7 @@ use Rattle.cf_world.proofs.Traces.{drafted_next, next_event, played_all, played_
 use Rattle.cf_world.specs.Led.{HasRunOn, IsLawful}
 use Rattle.cf_world.specs.Runs.{answers_of, events_of}
 use Rattle.cf_world.specs.Steps.{AddFails, SomePlayed}
-use Rattle.cf_world.specs.declared.fails.PlayError.TheVariants.{OutOfMemory, SinkFault}
+use Rattle.cf_world.specs.declared.play_errors.PlayError.TheVariants.{OutOfMemory, SinkFault}
 use Rattle.cf_world.proofs.plays.play.Goals as goal
 
 pub returns-in_err-text-clause-err : goal.returns-in_err-text-clause-err

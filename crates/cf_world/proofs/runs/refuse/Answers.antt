@@ -1,6 +1,6 @@
 use Rattle.std.proofs.Common.{rules}
 use Rattle.std.specs.Prelude.{◌≢◌}
-use Rattle.cf_script.specs.declared.fails.ScriptError.TheVariants as fails
+use Rattle.cf_script.specs.declared.script_errors.ScriptError.TheVariants as fails
 use Rattle.cf_world.proofs.Ends.{refuse_early}
 use Rattle.cf_world.proofs.runs.refuse.Goals as goal
 

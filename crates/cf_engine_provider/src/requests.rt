@@ -1,0 +1,86 @@
+//! Callbacks that are requests.
+
+ghost use Rattle.std.specs.Prelude.{◌≡◌};
+ghost use Rattle.cf_engine_provider.specs.Agencies.{Performs};
+ghost use Rattle.cf_engine_provider.specs.Answering.{Answers};
+ghost use Rattle.cf_engine_provider.specs.Parts.{Speaks};
+ghost use Rattle.cf_base.specs.declared.waits.AskKind.TheVariants as ask_kind;
+ghost use Rattle.cf_provider.specs.declared.outcomes.Callback.{Callback};
+ghost use Rattle.cf_wire.specs.Spelled.{HasRoom};
+
+use crate::agents::Agent;
+use crate::exchanges::speak;
+use crate::fetches::fetch_of;
+use crate::list_views::find;
+use crate::listings::list_of;
+use crate::message_lines::note_line;
+use cf_base::{Operation, OutOfMemory, Reply, Request};
+use cf_provider::{Callback, Port};
+use cf_remote::Remote;
+
+impl<R: Remote> Agent<R> {
+    // Sends a request, and gives the reply that came at once.
+    fn send<P: Port>(
+        &mut self,
+        request: &Request,
+        port: &mut P,
+    ) -> Result<Option<Reply>, OutOfMemory>
+        requires { HasRoom request.now }
+        ensures { Speaks R.told P.goes request.now self.old port.old result self.new port.new }
+    {
+        let exchange = speak(&mut self.link, request)?;
+        note_line(exchange.first, port)?;
+        note_line(exchange.second, port)?;
+        Ok(exchange.reply)
+    }
+
+    /// Sends Fetch for a fetch ask, and takes its reply.
+    pub(crate) fn fetch<P: Port>(
+        &mut self,
+        call: &Callback,
+        port: &mut P,
+    ) -> Result<(), OutOfMemory>
+        requires { call.now.ask.kind ≡ ask_kind.Fetch }
+        ensures { Performs P.goes (λ acts. Answers R.told self.old (P.sight port.old) call.now acts self.new) port.old result port.new }
+    {
+        let Some(row) = port.rows().get(call.ask.item) else {
+            return Ok(());
+        };
+        let Some(request) = fetch_of(&call.ask, row) else {
+            return Ok(());
+        };
+        let live = port.ask(call.ask.key);
+        let Some(reply) = self.send(&request, port)? else {
+            return Ok(());
+        };
+        self.take_fetched(call.ask.key, live, &request, reply, port)
+    }
+
+    /// Sends List for a list ask, and takes its reply.
+    pub(crate) fn list<P: Port>(&mut self, call: &Callback, port: &mut P) -> Result<(), OutOfMemory>
+        requires { call.now.ask.kind ≡ ask_kind.List }
+        ensures { Performs P.goes (λ acts. Answers R.told self.old (P.sight port.old) call.now acts self.new) port.old result port.new }
+    {
+        let Some(row) = port.rows().get(call.ask.item) else {
+            return Ok(());
+        };
+        let request = list_of(&call.ask, row);
+        let found = find(self.alloc, call.ask.key, port)?;
+        let Some(reply) = self.send(&request, port)? else {
+            return Ok(());
+        };
+        self.take_listed(call.ask.key, &found, &request, &reply, port)
+    }
+
+    /// Consents to a dehydration.
+    pub(crate) fn consent<P: Port>(&self, call: &Callback, port: &mut P) -> Result<(), OutOfMemory>
+        requires { call.now.ask.kind ≡ ask_kind.Dehydrate }
+        ensures { Performs P.goes (λ acts. Answers R.told self.now (P.sight port.old) call.now acts self.now) port.old result port.new }
+    {
+        let consent = Operation::AckDehydrate {
+            key: call.ask.key,
+            good: true,
+        };
+        self.do_op(&consent, port)
+    }
+}

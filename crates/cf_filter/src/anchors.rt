@@ -1,0 +1,58 @@
+//! What an engine keeps beside the items: anchors.
+
+ghost use Rattle.std.specs.Prelude.{◌≡◌, true, option_copied};
+ghost use Rattle.cf_filter.specs.Booking.{anchored_at, with_book_of};
+ghost use Rattle.cf_filter_machine.specs.Sensing.{sense};
+ghost use Rattle.cf_model.specs.Arrows.{one};
+ghost use Rattle.cf_model.specs.Items.{Item};
+ghost use Rattle.cf_model.specs.Numbers.{is_no_usn};
+ghost use Rattle.cf_model.specs.Words.{part};
+ghost use Rattle.cf_filter_steps.specs.Answering.{Answers, IsAt};
+
+use crate::engine_steps::given;
+use crate::filters::Filter;
+use cf_base::{CallError, ItemId};
+use cf_disk::Disk;
+use cf_filter_machine::Machine;
+use cf_table::Row;
+
+// Whether the item of a row never changed, or there is no row.
+fn is_unnumbered(row: Option<&Row>) -> bool
+    ensures { result ≡ part (λ r. is_no_usn r.number) true (option_copied row.entry) }
+{
+    match row {
+        Some(row) => row.number.epoch == 0 && row.number.place == 0,
+        None => true,
+    }
+}
+
+// The item is there wherever the contract says what follows.
+fn put_anchor<D: Disk>(machine: &mut Machine<D>, id: ItemId) -> Result<(), CallError>
+    ensures { (i : Item) → Answers (sense D.state) (IsAt id i) (one (with_book_of (anchored_at id i.number))) machine.old result machine.new }
+{
+    let row = machine.volume.row(id);
+    if row.is_none() {
+        return Err(CallError::OutOfMemory);
+    }
+    if is_unnumbered(row) {
+        return Ok(());
+    }
+    let Ok(()) = machine.volume.anchor(id) else {
+        return Err(CallError::OutOfMemory);
+    };
+    Ok(())
+}
+
+impl<D: Disk> Filter<D> {
+    ghost use Rattle.cf_filter.specs.Handing.{Hands};
+
+    /// Makes the anchor of an item its number, durable with the next commit. An item that never changed keeps what it has.
+    /// Refused as Broken.
+    pub fn anchor(&mut self, id: ItemId) -> Result<(), CallError>
+        ensures { (i : Item) → Hands (sense D.state) (IsAt id i) (one (with_book_of (anchored_at id i.number))) self.old result self.new }
+    {
+        self.check()?;
+        let first = put_anchor(&mut self.machine, id);
+        self.finish(given(first))
+    }
+}

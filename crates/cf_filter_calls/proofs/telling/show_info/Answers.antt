@@ -1,5 +1,0 @@
-use Rattle.cf_filter_calls.proofs.Shown.{info_is}
-use Rattle.cf_filter_calls.proofs.telling.show_info.Goals as goal
-
-pub returns : goal.returns
-returns c = λ i m. info_is c.args.row.now c.kind_by.result c.in_ok-identity.identity i c.kind_by.ensures c.in_ok-identity.ensures m

@@ -1,0 +1,9 @@
+use Rattle.cf_model.specs.Waits.{at_path, list_item}
+use Rattle.cf_filter_calls.proofs.Carried.{found_on, lost_on}
+use Rattle.cf_filter_calls.proofs.waits.list.Goals as goal
+
+pub returns-in-Ok : goal.returns-in-Ok
+returns-in-Ok g c = found_on g.S.Steps.sense (at_path c.args.path.now) list_item c.find_at.result c.in-Ok.id c.args.s.now c.list_item.new.s c.list_item.result c.find_at.ensures c.in-Ok.is c.list_item.ensures
+
+pub returns-in-Err : goal.returns-in-Err
+returns-in-Err g c = lost_on g.S.Steps.sense (at_path c.args.path.now) list_item c.find_at.result c.in-Err.code c.args.s.now c.find_at.ensures c.in-Err.is

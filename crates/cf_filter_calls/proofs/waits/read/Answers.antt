@@ -1,0 +1,10 @@
+use Rattle.cf_model.specs.Waits.{read_item}
+use Rattle.cf_filter_calls.proofs.Begun.{handle_off}
+use Rattle.cf_filter_calls.proofs.Wrote.{handle_file}
+use Rattle.cf_filter_calls.proofs.waits.read.Goals as goal
+
+pub returns-in-Some : goal.returns-in-Some
+returns-in-Some g c = handle_file g.S.Steps.sense c.args.handle (read_item c.args.handle c.args.span) c.opened.result c.in-Some.item c.args.s.now c.read_item.new.s c.read_item.result c.opened.ensures c.in-Some.is c.read_item.ensures
+
+pub returns-in-None : goal.returns-in-None
+returns-in-None g c = handle_off g.S.Steps.sense c.args.handle (read_item c.args.handle c.args.span) c.opened.result c.args.s.now c.opened.ensures c.in-None.is

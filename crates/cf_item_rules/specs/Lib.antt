@@ -1,0 +1,5 @@
+pub mod DehydrationFacts
+pub mod Fitting
+pub mod PinStates
+pub mod PlaceholderPlans
+pub mod Refusals

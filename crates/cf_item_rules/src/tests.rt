@@ -1,0 +1,3 @@
+mod dehydrates;
+mod pins;
+mod placeholders;

@@ -1,4 +1,0 @@
-pub mod Fitting
-pub mod Inheriting
-pub mod Reaching
-pub mod TreeOrder

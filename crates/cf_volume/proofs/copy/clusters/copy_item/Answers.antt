@@ -1,0 +1,13 @@
+use Rattle.std.proofs.Common.{ℕ, List, sym, subst}
+use Rattle.cf_volume.specs.Copies.{CopiesAll}
+use Rattle.cf_volume.proofs.copy.clusters.copy_item.Goals as goal
+
+pub returns-clause-copied : goal.returns-clause-copied
+returns-clause-copied g c = record {
+  source = c.in-Some.source.now;
+  found = sym c.in-Some.ensures;
+  extents = c.copy_all.new.extents;
+  table = c.in_ok-put_row.ensures.ok;
+  room = c.in_ok-put_row.ensures.room;
+  all = subst (λ (l : List (ℕ × ℕ)). CopiesAll l l (g.D.Disk.state c.args.disk.now) (g.D.Disk.state c.copy_all.new.disk) c.args.held.now c.copy_all.new.held c.copy_all.new.extents) c.pairs.ensures.value c.in_ok-copy_all-in-Some.ensures.copied;
+}

@@ -1,0 +1,19 @@
+use Rattle.std.proofs.Common.{◌<◌, length, ℕ}
+use Rattle.cf_volume.proofs.CopyPut.{copied_put, copied_steady}
+use Rattle.cf_volume.proofs.Puts.{found_inside}
+use Rattle.cf_volume.specs.Steady.{known_of}
+use Rattle.cf_volume.proofs.copy.files.put_copied.Goals as goal
+
+pub copy_item-requires-clause-inside : goal.copy_item-requires-clause-inside
+copy_item-requires-clause-inside g c = λ r found. found_inside (λ (k : ℕ). k < length c.args.parts.now.held) c.args.parts.now.contents.rows.rows c.args.from r c.requires.steady.inside found
+
+pub returns-clause-at : goal.returns-clause-at
+returns-clause-at g c = λ v change i at copy fits.
+    copied_put (g.D.Disk.state c.args.disk.now) (g.D.Disk.state c.copy_item.new.disk) (known_of c.args.parts.now) c.args.row c.args.from c.copy_item.new.held c.copy_item.new.rows c.set_next.new.self
+    c.requires.steady c.image_len.ensures.rises c.image_len.ensures.kept c.requires.new c.requires.next c.requires.fresh c.in_ok-copy_item.ensures.copied c.set_next.ensures v change i at copy
+    (record { reads_one = g.met.D.Disk.reads_one c.args.disk.now; same_size = g.met.D.Disk.same_size c.args.disk.now }) fits
+
+pub returns-clause-steady : goal.returns-clause-steady
+returns-clause-steady g c =
+    copied_steady (g.D.Disk.state c.args.disk.now) (g.D.Disk.state c.copy_item.new.disk) (known_of c.args.parts.now) c.args.row c.args.from c.copy_item.new.held c.copy_item.new.rows c.set_next.new.self
+    c.requires.steady c.image_len.ensures.rises c.image_len.ensures.kept c.requires.new c.requires.next c.requires.fresh c.in_ok-copy_item.ensures.copied c.set_next.ensures c.requires.number

@@ -1,0 +1,31 @@
+use Rattle.std.proofs.Common.{sym, ◌∙◌, inr, arith}
+use Rattle.cf_model.specs.Numbers.{usn_after}
+use Rattle.cf_table.specs.Tables.{row_of}
+use Rattle.cf_volume.proofs.CopyPut.{copy_puts}
+use Rattle.cf_volume.proofs.Judged.{room_needed}
+use Rattle.cf_volume.proofs.Puts.{some_row}
+use Rattle.cf_volume.specs.Steady.{known_of}
+use Rattle.cf_volume.proofs.copy.files.put_judged.Goals as goal
+
+pub returns-in-Some-clause-put : goal.returns-in-Some-clause-put
+returns-in-Some-clause-put g c = λ v change i at copy.
+    let source = some_row (row_of c.args.parts.now.contents.rows.rows c.args.from) c.requires.there in
+    let puts = copy_puts (g.D.Disk.state c.args.disk.now) (known_of c.args.parts.now) v change c.args.row source.0 i c.args.from at source.1 copy ∙ sym (c.block_count-blocks.ensures source.0 source.1) in
+    inr (c.in-Some.ensures.why v change i at copy.arrives puts)
+
+pub returns-then-free-blocks-clause-put : goal.returns-then-free-blocks-clause-put
+returns-then-free-blocks-clause-put g c = λ v change i at copy.
+    let source = some_row (row_of c.args.parts.now.contents.rows.rows c.args.from) c.requires.there in
+    let puts = copy_puts (g.D.Disk.state c.args.disk.now) (known_of c.args.parts.now) v change c.args.row source.0 i c.args.from at source.1 copy ∙ sym (c.block_count-blocks.ensures source.0 source.1) in (
+      c.in_default.ensures.why v change i at copy.arrives puts,
+      room_needed (g.D.Disk.state c.args.disk.now) (known_of c.args.parts.now) v change c.block_count-blocks.result at puts (omega (arith, c.if-free-blocks.true, c.free.ensures)),
+    )
+
+pub returns-in-Ok-clause-put : goal.returns-in-Ok-clause-put
+returns-in-Ok-clause-put g c = λ v change i at copy.
+    let source = some_row (row_of c.args.parts.now.contents.rows.rows c.args.from) c.requires.there in
+    let puts = copy_puts (g.D.Disk.state c.args.disk.now) (known_of c.args.parts.now) v change c.args.row source.0 i c.args.from at source.1 copy ∙ sym (c.block_count-blocks.ensures source.0 source.1) in (
+      c.requires.number ∙ (λ j. usn_after (at.now.epoch j) (at.now.place j)),
+      c.in_default.ensures.why v change i at copy.arrives puts,
+      c.in-Ok.ensures.at v change i at copy (c.in_default.ensures.fits v change i at copy.arrives),
+    )

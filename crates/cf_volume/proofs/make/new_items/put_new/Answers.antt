@@ -1,0 +1,13 @@
+use Rattle.std.proofs.Common.{length, ap, ◌∙◌, inr}
+use Rattle.cf_model.specs.Numbers.{usn_after}
+use Rattle.cf_volume.proofs.make.new_items.put_new.Goals as goal
+
+pub returns-in-Some-clause-put : goal.returns-in-Some-clause-put
+returns-in-Some-clause-put g c = λ v change i n at made. inr (c.in-Some.ensures.why v change i at made.arrives (ap length made.puts))
+
+pub returns-clause-put : goal.returns-clause-put
+returns-clause-put g c = λ v change i n at made. (
+  c.requires.number ∙ (λ j. usn_after (at.now.epoch j) (at.now.place j)),
+  c.in_default.ensures.why v change i at made.arrives (ap length made.puts),
+  c.in_ok-put_made.ensures.at v change i n at made (c.in_default.ensures.fits v change i at made.arrives),
+)

@@ -1,0 +1,38 @@
+use Rattle.std.proofs.Common.{inr, sym, ◌∙◌}
+use Rattle.cf_disk.specs.Leaving.{leaves_then}
+use Rattle.cf_model.specs.Points.{with_room_point}
+use Rattle.cf_volume_points.specs.At.{StandsEither, StandsLast}
+use Rattle.cf_volume.proofs.Stopped.{handed_on}
+use Rattle.cf_volume.proofs.WithRoom.{done_some, judged_none, judged_stop, none_waits, room_now}
+use Rattle.cf_volume.specs.Calls.{StopsOnly}
+use Rattle.cf_volume.specs.Steady.{known_of}
+use Rattle.cf_volume.proofs.room_commits.accept_after_commit.Goals as goal
+
+pub returns-in_err-accept-clause-only : goal.returns-in_err-accept-clause-only
+returns-in_err-accept-clause-only g c = λ v at keep fits.
+    handed_on StopsOnly c.from_residual-in_err-accept.result c.in_err-accept.field-0.0 c.from_residual-in_err-accept.ensures.1
+    (judged_stop c.args.change.now (with_room_point v) c.in_err-accept.field-0.0 fits (c.in_err-accept.ensures.judged (with_room_point v) (c.in_ok-commit_parts.ensures.room v at keep)))
+
+pub returns-in_err-accept-clause-crash : goal.returns-in_err-accept-clause-crash
+returns-in_err-accept-clause-crash g c = λ v at keep.
+    leaves_then (g.D.Disk.state c.args.disk.now) (g.D.Disk.state c.commit_parts.new.disk) (g.D.Disk.state c.accept.new.disk) (StandsEither v) (StandsLast (with_room_point v))
+    (c.in_ok-commit_parts.ensures.crash v at keep) (c.in_err-accept.ensures.crash (with_room_point v) (c.in_ok-commit_parts.ensures.room v at keep)) (λ d h. inr (room_now v d h))
+
+pub returns-then-is_some-clause-done : goal.returns-then-is_some-clause-done
+returns-then-is_some-clause-done g c = λ v at keep book.
+    done_some c.args.change.now (with_room_point v) (g.D.Disk.state c.accept.new.disk) (known_of c.accept.new.parts) c.in_ok-accept.field-0 (sym c.is_some.ensures ∙ c.if-is_some.true)
+    (c.in_ok-accept.ensures.done (with_room_point v) (c.in_ok-commit_parts.ensures.room v at keep) book)
+
+pub returns-then-is_some-clause-crash : goal.returns-then-is_some-clause-crash
+returns-then-is_some-clause-crash g c = λ v at keep.
+    leaves_then (g.D.Disk.state c.args.disk.now) (g.D.Disk.state c.commit_parts.new.disk) (g.D.Disk.state c.accept.new.disk) (StandsEither v) (StandsLast (with_room_point v))
+    (c.in_ok-commit_parts.ensures.crash v at keep) (c.in_ok-accept.ensures.crash (with_room_point v) (c.in_ok-commit_parts.ensures.room v at keep)) (λ d h. inr (room_now v d h))
+
+pub returns-clause-only : goal.returns-clause-only
+returns-clause-only g c = λ v at keep fits.
+    absurd (none_waits c.args.change.now v fits (judged_none c.args.change.now (with_room_point v) c.in_ok-accept.field-0 (sym c.is_some.ensures ∙ c.if-is_some.false) (c.in_ok-accept.ensures.judged (with_room_point v) (c.in_ok-commit_parts.ensures.room v at keep))).1)
+
+pub returns-clause-crash : goal.returns-clause-crash
+returns-clause-crash g c = λ v at keep.
+    leaves_then (g.D.Disk.state c.args.disk.now) (g.D.Disk.state c.commit_parts.new.disk) (g.D.Disk.state c.accept.new.disk) (StandsEither v) (StandsLast (with_room_point v))
+    (c.in_ok-commit_parts.ensures.crash v at keep) (c.in_ok-accept.ensures.crash (with_room_point v) (c.in_ok-commit_parts.ensures.room v at keep)) (λ d h. inr (room_now v d h))

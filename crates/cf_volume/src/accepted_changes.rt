@@ -1,0 +1,83 @@
+//! Changes of a volume, and commits.
+
+ghost use Rattle.std.specs.Prelude.{◌≡◌, true, false, length, IfErr, IfOk, OnOk};
+ghost use Rattle.cf_disk.specs.Disk.{Leaves};
+ghost use Rattle.cf_model.specs.Changes.{may_need_room, next_number};
+ghost use Rattle.cf_model.specs.Points.{with_room_point, with_sure_point};
+ghost use Rattle.cf_model.specs.State.{Volume as model};
+ghost use Rattle.cf_volume_points.specs.At.{Applied, At, StandsEither, StandsLast};
+ghost use Rattle.cf_volume_points.specs.Keeping.{FitsBook, IsNextId};
+ghost use Rattle.cf_volume_points.specs.Sound.{IsKeepable};
+ghost use Rattle.cf_table.specs.Changing.{Fits};
+ghost use Rattle.cf_volume.specs.Calls.{Answers, Breaks, IfBroken, IsCause, Runs, StopsOnly};
+
+use crate::commits::commit_parts;
+use crate::room_commits::{accept_with_room, has_place};
+use crate::stop_causes::stops;
+use crate::volumes::Volume;
+use cf_base::{CallError, Change, Code, Usn};
+use cf_disk::Disk;
+
+impl<D: Disk> Volume<D> {
+    /// Makes all accepted changes durable, and gives their count. Broken where an earlier call broke the volume. Device
+    /// where a call of the disk failed, whose count of faults rose; OutOfMemory where there is none; both break the volume.
+    /// NotAVolume, which breaks it too, where the table is too long for an image, as that of no volume is.
+    ///
+    /// `apply` takes changes that leave items as no volume has them, such as a Take of a file that is no placeholder. What a
+    /// commit writes of those is no volume either: it is done, and `open` answers NotAVolume.
+    pub fn commit(&mut self) -> Result<u64, CallError>
+        ensures ok { (v : model) → At (D.state self.old.disk) self.old.known v → IsKeepable v → OnOk result (At (D.state self.new.disk) self.new.known (with_sure_point v) × At (D.state self.new.disk) self.new.known (with_room_point v)) }
+        ensures count { (v : model) → At (D.state self.old.disk) self.old.known v → IfOk result (λ n. n ≡ length v.log) }
+        ensures why { (v : model) → At (D.state self.old.disk) self.old.known v → IsKeepable v → self.old.known.broken ≡ false → IfErr result StopsOnly }
+        ensures crash { (v : model) → At (D.state self.old.disk) self.old.known v → IsKeepable v → Leaves (D.state self.old.disk) (D.state self.new.disk) (StandsEither v) }
+        ensures broken { IfBroken self.old result self.new }
+        ensures breaks { IfErr result (λ e. Breaks e self.new.known) }
+        ensures usable { OnOk result (self.new.known.broken ≡ false) }
+        ensures cause { IfErr result (λ e. IsCause e (D.state self.old.disk) (D.state self.new.disk)) }
+        ensures runs { Runs (D.state self.old.disk) (D.state self.new.disk) }
+        ensures table { self.new.known.table ≡ self.old.known.table }
+        ensures records { self.new.known.records ≡ self.old.known.records }
+    {
+        if self.parts.broken {
+            return Err(CallError::No(Code::Broken));
+        }
+        match commit_parts(&mut self.disk, &mut self.parts) {
+            Ok(()) => Ok(self.parts.kept),
+            Err(fail) => {
+                self.parts.broken = true;
+                Err(fail)
+            }
+        }
+    }
+
+    /// Adds one change, and gives its number. It is durable with the next commit. Where it needs more clusters than are
+    /// free, but no more than a commit makes free, a commit comes first.
+    pub fn apply(&mut self, change: &Change) -> Result<Usn, CallError>
+        requires fits { Fits change.now self.old.known.table.rows }
+        requires next { IsNextId change.now self.old.known.table.next }
+        ensures ok { (v : model) → At (D.state self.old.disk) self.old.known v → FitsBook change.now v.book → (may_need_room change.now v ≡ true → IsKeepable v) → OnOk result (Applied (D.state self.new.disk) self.new.known change.now v) }
+        ensures number { (v : model) → At (D.state self.old.disk) self.old.known v → IfOk result (λ n. n ≡ next_number v) }
+        ensures why { (v : model) → At (D.state self.old.disk) self.old.known v → (may_need_room change.now v ≡ true → IsKeepable v) → self.old.known.broken ≡ false → Answers change.now v self.old result self.new }
+        ensures crash { (v : model) → At (D.state self.old.disk) self.old.known v → (may_need_room change.now v ≡ true → IsKeepable v) → Leaves (D.state self.old.disk) (D.state self.new.disk) (StandsEither v) }
+        ensures kept_crash { (v : model) → At (D.state self.old.disk) self.old.known v → may_need_room change.now v ≡ false → Leaves (D.state self.old.disk) (D.state self.new.disk) (StandsLast v) }
+        ensures broken { IfBroken self.old result self.new }
+        ensures breaks { IfErr result (λ e. Breaks e self.new.known) }
+        ensures usable { OnOk result (self.new.known.broken ≡ false) }
+        ensures cause { IfErr result (λ e. IsCause e (D.state self.old.disk) (D.state self.new.disk)) }
+        ensures runs { Runs (D.state self.old.disk) (D.state self.new.disk) }
+    {
+        if self.parts.broken {
+            return Err(CallError::No(Code::Broken));
+        }
+        if !has_place(&self.parts.contents) {
+            return Err(CallError::No(Code::Exhausted));
+        }
+        match accept_with_room(&mut self.disk, &mut self.parts, change) {
+            Ok(number) => Ok(number),
+            Err(fail) => {
+                self.parts.broken = stops(fail);
+                Err(fail)
+            }
+        }
+    }
+}

@@ -1,0 +1,153 @@
+//! Copies of files, judged and put.
+
+ghost use Rattle.std.specs.Prelude.{◌≡◌, ◌≤◌, ◌<◌, ◌+◌, All, None, Some, length, IfErr, OnOk};
+ghost use Rattle.cf_base.specs.declared.changes.Change.{Change};
+ghost use Rattle.cf_clusters.specs.Area.{KeepsWhere};
+ghost use Rattle.cf_clusters.specs.Roles.{IsCommitted, how_many, is_free};
+ghost use Rattle.cf_disk.specs.Disk.{Leaves, size_of};
+ghost use Rattle.cf_model.specs.Changes.{put_change};
+ghost use Rattle.cf_model.specs.Items.{Item};
+ghost use Rattle.cf_model.specs.Numbers.{usn_after};
+ghost use Rattle.cf_model.specs.State.{Volume};
+ghost use Rattle.cf_volume_points.specs.At.{At};
+ghost use Rattle.cf_volume_points.specs.Holding.{FitsTable};
+ghost use Rattle.cf_volume_points.specs.Keeping.{IsNextId};
+ghost use Rattle.cf_volume_points.specs.Runs.{IsStop};
+ghost use Rattle.cf_table.specs.Applied.{IsSpellable};
+ghost use Rattle.cf_table.specs.Changing.{Fits};
+ghost use Rattle.cf_table.specs.Means.{IsFresh};
+ghost use Rattle.cf_table.specs.Tables.{row_of};
+ghost use Rattle.cf_table.specs.declared.rows.Row.{Row};
+ghost use Rattle.cf_volume.specs.Calls.{IsCause, IsKept, IsPut, Runs};
+ghost use Rattle.cf_volume.specs.NewRows.{IsCopied, IsCopy};
+ghost use Rattle.cf_volume.specs.Steady.{Steady, known_of};
+
+use crate::copy::clusters::copy_item;
+use crate::make::new_items::refusal_of_new;
+use crate::make::rows::plan_copied;
+use crate::parts::Parts;
+use crate::stop_causes::fail_of;
+use cf_base::{CallError, Change, ItemId, Usn};
+use cf_disk::Disk;
+use cf_table::{Row, Rows};
+use cf_volume_points::Stop;
+
+// How many blocks of an item have a cluster.
+fn block_count(rows: &Rows, id: ItemId) -> usize
+    ensures { (r : Row) → row_of rows.now.rows id ≡ Some r → result ≡ length r.extents }
+{
+    match rows.get(id) {
+        None => 0,
+        Some(row) => row.extents.pairs().len(),
+    }
+}
+
+// Puts the planned row of a copy of a file. The clusters that it needs are free, and there is a number for it.
+fn put_copied<D: Disk>(disk: &mut D, parts: &mut Parts, from: ItemId, row: Row) -> Result<(), Stop>
+    requires steady { Steady (size_of (D.state disk.old)) (known_of parts.old) }
+    requires there { row_of parts.old.contents.rows.rows from ≡ None → ⊥ }
+    requires free { (r : Row) → row_of parts.old.contents.rows.rows from ≡ Some r → length r.extents ≤ how_many is_free parts.old.held }
+    requires new { All (λ r. r.id.0 < row.id.0) parts.old.contents.rows.rows }
+    requires next { parts.old.contents.rows.next.0 ≤ row.id.0 }
+    requires id { row.id.0 < 18446744073709551615 }
+    requires spellable { IsSpellable row }
+    requires fresh { IsFresh row }
+    requires number { row.number ≡ usn_after parts.old.contents.last.epoch parts.old.contents.last.place }
+    requires place { parts.old.contents.last.place < 4294967295 }
+    requires count { parts.old.contents.count < 18446744073709551615 }
+    ensures at { (v : Volume) (c : Change) (i : Item) → At (D.state disk.old) (known_of parts.old) v → IsCopied c v row i from → FitsTable (put_change c v).items (put_change c v).book → OnOk result (At (D.state disk.new) (known_of parts.new) (put_change c v)) }
+    ensures steady { OnOk result (Steady (size_of (D.state disk.new)) (known_of parts.new)) }
+    ensures crash { Leaves (D.state disk.old) (D.state disk.new) (KeepsWhere IsCommitted parts.old.held (D.state disk.old)) }
+    ensures runs { Runs (D.state disk.old) (D.state disk.new) }
+    ensures cause { IfErr result (λ e. IsStop e (D.state disk.old) (D.state disk.new)) }
+    ensures broken { parts.new.broken ≡ parts.old.broken }
+{
+    let _ = parts.contents.rows.image_len();
+    let next = ItemId(row.id.0 + 1);
+    copy_item(disk, &mut parts.held, &mut parts.contents.rows, from, row)?;
+    parts.contents.rows.set_next(next);
+    parts.contents.last.place += 1;
+    parts.contents.count += 1;
+    Ok(())
+}
+
+// Puts the planned row of a copy of a file, unless the change is refused, and gives its number. None where the clusters that
+// it needs are not free before a commit; then nothing is done.
+fn put_judged<D: Disk>(
+    disk: &mut D,
+    parts: &mut Parts,
+    from: ItemId,
+    row: Row,
+) -> Result<Option<Usn>, CallError>
+    requires steady { Steady (size_of (D.state disk.old)) (known_of parts.old) }
+    requires there { row_of parts.old.contents.rows.rows from ≡ None → ⊥ }
+    requires new { All (λ r. r.id.0 < row.id.0) parts.old.contents.rows.rows }
+    requires next { parts.old.contents.rows.next.0 ≤ row.id.0 }
+    requires id { row.id.0 < 18446744073709551615 }
+    requires spellable { IsSpellable row }
+    requires fresh { IsFresh row }
+    requires number { row.number ≡ usn_after parts.old.contents.last.epoch parts.old.contents.last.place }
+    requires place { parts.old.contents.last.place < 4294967295 }
+    requires count { parts.old.contents.count < 18446744073709551615 }
+    ensures put { (v : Volume) (c : Change) (i : Item) → At (D.state disk.old) (known_of parts.old) v → IsCopied c v row i from → IsPut c v (D.state disk.old) (D.state disk.new) (known_of parts.new) result }
+    ensures kept { IsKept disk.old (known_of parts.old) result disk.new (known_of parts.new) }
+    ensures steady { OnOk result (Steady (size_of (D.state disk.new)) (known_of parts.new)) }
+    ensures crash { Leaves (D.state disk.old) (D.state disk.new) (KeepsWhere IsCommitted parts.old.held (D.state disk.old)) }
+    ensures runs { Runs (D.state disk.old) (D.state disk.new) }
+    ensures cause { IfErr result (λ e. IsCause e (D.state disk.old) (D.state disk.new)) }
+    ensures broken { parts.new.broken ≡ parts.old.broken }
+{
+    let number = row.number;
+    let blocks = block_count(&parts.contents.rows, from);
+    if let Some(code) = refusal_of_new(disk, parts, &row, blocks) {
+        return Err(CallError::No(code));
+    }
+    if (parts.held.free() as usize) < blocks {
+        return Ok(None);
+    }
+    match put_copied(disk, parts, from, row) {
+        Ok(()) => Ok(Some(number)),
+        Err(stop) => Err(fail_of(stop)),
+    }
+}
+
+/// Puts a Copy, unless it is refused, and gives its number. None where the clusters that it needs are not free before a
+/// commit; then nothing is done.
+pub(crate) fn put_copy<D: Disk>(
+    disk: &mut D,
+    parts: &mut Parts,
+    change: &Change,
+) -> Result<Option<Usn>, CallError>
+    requires kind { IsCopy change.now }
+    requires steady { Steady (size_of (D.state disk.old)) (known_of parts.old) }
+    requires fits { Fits change.now parts.old.contents.rows.rows }
+    requires next { IsNextId change.now parts.old.contents.rows.next }
+    requires place { parts.old.contents.last.place < 4294967295 }
+    requires count { parts.old.contents.count < 18446744073709551615 }
+    ensures put { (v : Volume) → At (D.state disk.old) (known_of parts.old) v → IsPut change.now v (D.state disk.old) (D.state disk.new) (known_of parts.new) result }
+    ensures kept { IsKept disk.old (known_of parts.old) result disk.new (known_of parts.new) }
+    ensures steady { OnOk result (Steady (size_of (D.state disk.new)) (known_of parts.new)) }
+    ensures crash { Leaves (D.state disk.old) (D.state disk.new) (KeepsWhere IsCommitted parts.old.held (D.state disk.old)) }
+    ensures runs { Runs (D.state disk.old) (D.state disk.new) }
+    ensures cause { IfErr result (λ e. IsCause e (D.state disk.old) (D.state disk.new)) }
+    ensures broken { parts.new.broken ≡ parts.old.broken }
+{
+    let last = parts.contents.last;
+    let number = Usn {
+        epoch: last.epoch,
+        place: last.place + 1,
+    };
+    match change {
+        Change::Copy {
+            item,
+            from,
+            parent,
+            name,
+        } => {
+            let rows = &parts.contents.rows;
+            let row = plan_copied(parts.alloc, rows, *item, *from, *parent, name, number)?;
+            put_judged(disk, parts, *from, row)
+        }
+        _ => unreachable!(),
+    }
+}

@@ -1,0 +1,142 @@
+//! New items, judged, and those without a byte put.
+
+ghost use Rattle.std.specs.Prelude.{◌≡◌, ◌≤◌, ◌<◌, ◌+◌, ◌∷◌, [], ℕ, All, length, IfErr, IfNone, IfSome, OnOk};
+ghost use Rattle.cf_base.specs.declared.changes.Change.{Change};
+ghost use Rattle.cf_disk.specs.Disk.{size_of};
+ghost use Rattle.cf_model.specs.Blocks.{puts_into};
+ghost use Rattle.cf_model.specs.Changes.{put_change, why_no_room};
+ghost use Rattle.cf_model.specs.Items.{Item};
+ghost use Rattle.cf_model.specs.Numbers.{no_usn};
+ghost use Rattle.cf_model.specs.State.{Volume};
+ghost use Rattle.cf_volume_points.specs.At.{At};
+ghost use Rattle.cf_volume_points.specs.Holding.{FitsTable};
+ghost use Rattle.cf_volume_points.specs.Keeping.{IsNextId};
+ghost use Rattle.cf_table.specs.Applied.{IsSpellable};
+ghost use Rattle.cf_table.specs.Changing.{Fits};
+ghost use Rattle.cf_table.specs.Means.{IsFresh};
+ghost use Rattle.cf_volume.specs.Calls.{IsCause, IsFullness, IsKept, IsPut};
+ghost use Rattle.cf_volume.specs.NewRows.{Arrives, IsMade, IsMake, TestsRow};
+ghost use Rattle.cf_volume.specs.Steady.{Steady, known_of};
+
+use crate::make::rows::{plan_made, put_made};
+use crate::parts::Parts;
+use crate::room::lengths::{is_too_long, len_of};
+use crate::stay::clusters::tell_stored;
+use crate::stay::plans::is_full;
+use cf_base::{CallError, Change, Code, Usn};
+use cf_disk::Disk;
+use cf_table::Row;
+use cf_volume_image::Contents;
+
+/// The most rows that a table has.
+const MOST_ROWS: usize = 10_000;
+
+// Whether the table has no room for one more row.
+fn lacks_row(contents: &Contents, row: &Row) -> bool
+    ensures { TestsRow contents.now row.now result }
+{
+    let rows = contents.rows.as_slice();
+    rows.len() >= MOST_ROWS || is_too_long(contents, 0, len_of(row))
+}
+
+/// Why a change would be refused that makes the item of a row and needs so many clusters, where a number is left for it.
+pub(crate) fn refusal_of_new<D: Disk>(
+    disk: &D,
+    parts: &Parts,
+    row: &Row,
+    blocks: usize,
+) -> Option<Code>
+    requires new { All (λ r. r.id.0 < row.now.id.0) parts.now.contents.rows.rows }
+    requires id { row.now.id.0 < 18446744073709551615 }
+    requires anchor { row.now.anchor ≡ no_usn }
+    requires place { parts.now.contents.last.place < 4294967295 }
+    ensures why { (v : Volume) (c : Change) (i : Item) → At (D.state disk.now) (known_of parts.now) v → Arrives c v row.now i → length (puts_into v.items c) ≡ blocks → why_no_room (c ∷ []) v ≡ result }
+    ensures fits { IfNone result ((v : Volume) (c : Change) (i : Item) → At (D.state disk.now) (known_of parts.now) v → Arrives c v row.now i → FitsTable (put_change c v).items (put_change c v).book) }
+    ensures only { IfSome result IsFullness }
+{
+    let _ = disk;
+    let _ = parts.contents.rows.image_len();
+    let _ = tell_stored(row);
+    if lacks_row(&parts.contents, row) {
+        return Some(Code::TableFull);
+    }
+    if is_full(&parts.held, blocks) {
+        return Some(Code::Full);
+    }
+    None
+}
+
+// Puts the row of a new item without a byte, unless the change is refused, and gives its number.
+fn put_new<D: Disk>(disk: &D, parts: &mut Parts, row: Row) -> Result<Option<Usn>, CallError>
+    requires steady { Steady (size_of (D.state disk.now)) (known_of parts.old) }
+    requires new { All (λ r. r.id.0 < row.id.0) parts.old.contents.rows.rows }
+    requires next { parts.old.contents.rows.next.0 ≤ row.id.0 }
+    requires id { row.id.0 < 18446744073709551615 }
+    requires spellable { IsSpellable row }
+    requires fresh { IsFresh row }
+    requires number { row.number ≡ record { epoch = parts.old.contents.last.epoch; place = parts.old.contents.last.place + 1 } }
+    requires place { parts.old.contents.last.place < 4294967295 }
+    requires count { parts.old.contents.count < 18446744073709551615 }
+    ensures put { (v : Volume) (c : Change) (i : Item) (n : ℕ) → At (D.state disk.now) (known_of parts.old) v → IsMade c v row i n → IsPut c v (D.state disk.now) (D.state disk.now) (known_of parts.new) result }
+    ensures kept { IsKept disk.now (known_of parts.old) result disk.now (known_of parts.new) }
+    ensures cause { IfErr result (λ e. IsCause e (D.state disk.now) (D.state disk.now)) }
+    ensures steady { OnOk result (Steady (size_of (D.state disk.now)) (known_of parts.new)) }
+    ensures broken { parts.new.broken ≡ parts.old.broken }
+{
+    let number = row.number;
+    if let Some(code) = refusal_of_new(disk, parts, &row, 0) {
+        return Err(CallError::No(code));
+    }
+    put_made(disk, parts, row)?;
+    Ok(Some(number))
+}
+
+/// Puts a Make, unless it is refused, and gives its number.
+pub(crate) fn put_make<D: Disk>(
+    disk: &D,
+    parts: &mut Parts,
+    change: &Change,
+) -> Result<Option<Usn>, CallError>
+    requires kind { IsMake change.now }
+    requires steady { Steady (size_of (D.state disk.now)) (known_of parts.old) }
+    requires fits { Fits change.now parts.old.contents.rows.rows }
+    requires next { IsNextId change.now parts.old.contents.rows.next }
+    requires place { parts.old.contents.last.place < 4294967295 }
+    requires count { parts.old.contents.count < 18446744073709551615 }
+    ensures put { (v : Volume) → At (D.state disk.now) (known_of parts.old) v → IsPut change.now v (D.state disk.now) (D.state disk.now) (known_of parts.new) result }
+    ensures kept { IsKept disk.now (known_of parts.old) result disk.now (known_of parts.new) }
+    ensures cause { IfErr result (λ e. IsCause e (D.state disk.now) (D.state disk.now)) }
+    ensures steady { OnOk result (Steady (size_of (D.state disk.now)) (known_of parts.new)) }
+    ensures broken { parts.new.broken ≡ parts.old.broken }
+{
+    let last = parts.contents.last;
+    let number = Usn {
+        epoch: last.epoch,
+        place: last.place + 1,
+    };
+    match change {
+        Change::Make {
+            item,
+            parent,
+            name,
+            kind,
+            size,
+            identity,
+        } => {
+            let rows = &parts.contents.rows;
+            let row = plan_made(
+                parts.alloc,
+                rows,
+                *item,
+                *parent,
+                name,
+                *kind,
+                *size,
+                identity,
+                number,
+            )?;
+            put_new(disk, parts, row)
+        }
+        _ => unreachable!(),
+    }
+}

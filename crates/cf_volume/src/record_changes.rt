@@ -1,0 +1,80 @@
+//! Changes of items that are not there, put: they are counted, and change no item.
+
+ghost use Rattle.std.specs.Prelude.{◌≡◌, ◌<◌, ◌+◌, ◌^◌, [], None, length, nat_lt, true, IfErr, OnOk};
+ghost use Rattle.cf_volume_blocks.specs.Bytes.{puts_in};
+ghost use Rattle.cf_clusters.specs.Roles.{how_many, is_now};
+ghost use Rattle.cf_disk.specs.Disk.{size_of};
+ghost use Rattle.cf_model.specs.Blocks.{blocks_of};
+ghost use Rattle.cf_model.specs.State.{Volume};
+ghost use Rattle.cf_volume_points.specs.At.{At};
+ghost use Rattle.cf_table.specs.Changing.{item_of_change, stays};
+ghost use Rattle.cf_table.specs.Tables.{row_of};
+ghost use Rattle.cf_volume.specs.Calls.{IsCause, IsKept, IsPut};
+ghost use Rattle.cf_volume.specs.Steady.{Steady, known_of};
+
+use crate::parts::Parts;
+use cf_base::{CallError, Change, Code, Usn};
+use cf_clusters::Data;
+use cf_disk::Disk;
+
+// How many blocks so many bytes touch from the start of a file on.
+fn block_count(bytes: u128) -> u128
+    requires { bytes < 2 ^ 80 }
+    ensures counted { result ≡ length (blocks_of 0 bytes) }
+    ensures small { result < 2 ^ 80 }
+{
+    bytes.div_ceil(4096)
+}
+
+/// How many clusters the change would need in an empty file.
+pub(crate) fn clusters_asked(change: &Change) -> u128
+    requires { stays change.now ≡ true }
+    ensures asked { result ≡ length (puts_in change.now []) }
+    ensures small { result < 2 ^ 80 }
+{
+    match change {
+        Change::Write { at, bytes, .. } => {
+            block_count(*at as u128 + bytes.as_slice().len() as u128)
+        }
+        Change::Size { size, .. } => block_count(*size as u128),
+        _ => 0,
+    }
+}
+
+// Whether the state would hold more clusters than there are with so many more.
+fn passes_clusters(held: &Data, more: u128) -> bool
+    requires { more < 2 ^ 80 }
+    ensures { result ≡ nat_lt (length held.now) (how_many is_now held.now + more) }
+{
+    held.used() as u128 + more > held.clusters() as u128
+}
+
+/// Puts a change of an item that is not there, and gives its number. It is refused as one of an empty file is.
+pub(crate) fn put_absent<D: Disk>(
+    disk: &D,
+    parts: &mut Parts,
+    change: &Change,
+) -> Result<Option<Usn>, CallError>
+    requires kind { stays change.now ≡ true }
+    requires none { row_of parts.old.contents.rows.rows (item_of_change change.now) ≡ None }
+    requires steady { Steady (size_of (D.state disk.now)) (known_of parts.old) }
+    requires place { parts.old.contents.last.place < 4294967295 }
+    requires count { parts.old.contents.count < 18446744073709551615 }
+    ensures put { (v : Volume) → At (D.state disk.now) (known_of parts.old) v → IsPut change.now v (D.state disk.now) (D.state disk.now) (known_of parts.new) result }
+    ensures kept { IsKept disk.now (known_of parts.old) result disk.now (known_of parts.new) }
+    ensures steady { OnOk result (Steady (size_of (D.state disk.now)) (known_of parts.new)) }
+    ensures cause { IfErr result (λ e. IsCause e (D.state disk.now) (D.state disk.now)) }
+    ensures broken { parts.new.broken ≡ parts.old.broken }
+{
+    let _ = disk;
+    let last = parts.contents.last;
+    if passes_clusters(&parts.held, clusters_asked(change)) {
+        return Err(CallError::No(Code::Full));
+    }
+    parts.contents.last.place += 1;
+    parts.contents.count += 1;
+    Ok(Some(Usn {
+        epoch: last.epoch,
+        place: last.place + 1,
+    }))
+}

@@ -1,0 +1,4 @@
+//! Changes that remove an item.
+
+pub(crate) mod items;
+pub(crate) mod rows;

@@ -1,0 +1,80 @@
+//! Removals, put.
+
+ghost use Rattle.std.specs.Prelude.{◌≡◌, ◌≤◌, ◌<◌, ◌+◌, ◌^◌, ◌∷◌, [], None, Some, length, IfErr, IfOk, OnOk};
+ghost use Rattle.cf_base.specs.declared.codes.CallError.TheVariants as fail;
+ghost use Rattle.cf_disk.specs.Disk.{size_of};
+ghost use Rattle.cf_model.specs.Changes.{why_no_room};
+ghost use Rattle.cf_model.specs.Numbers.{usn_after};
+ghost use Rattle.cf_model.specs.State.{Volume};
+ghost use Rattle.cf_volume_points.specs.At.{At};
+ghost use Rattle.cf_volume_points.specs.Keeping.{FitsBook};
+ghost use Rattle.cf_volume.specs.Calls.{IsKept, IsPut};
+ghost use Rattle.cf_volume.specs.Keys.{IsRemove, seen_key};
+ghost use Rattle.cf_volume.specs.Steady.{Steady, known_of};
+
+use crate::kinds::item_of;
+use crate::parts::Parts;
+use crate::record_notes::note_record;
+use crate::remove::rows::remove_item;
+use crate::row_notes::note_row;
+use cf_base::{Blob, CallError, Change, ItemId, OutOfMemory, Usn};
+use cf_disk::Disk;
+use std::alloc::Global;
+
+/// The key of the record of an item's path seen.
+pub(crate) fn seen_key(alloc: Global, id: ItemId) -> Result<Blob, OutOfMemory>
+    ensures key { IfOk result (λ key. key ≡ seen_key id) }
+    ensures short { IfOk result (λ key. length key ≤ 255) }
+    ensures low { id.0 < 2 ^ 64 }
+{
+    let mut key = Vec::from_slice(alloc, b"s")?;
+    key.extend_from_slice(&id.0.to_be_bytes())?;
+    Ok(Blob::from_vec(key))
+}
+
+/// Puts a Remove, which needs no room, and gives its number. The item's path seen, its anchor and its last access go with
+/// it.
+pub(crate) fn put_remove<D: Disk>(
+    disk: &D,
+    parts: &mut Parts,
+    change: &Change,
+) -> Result<Option<Usn>, CallError>
+    requires kind { IsRemove change.now }
+    requires steady { Steady (size_of (D.state disk.now)) (known_of parts.old) }
+    requires place { parts.old.contents.last.place < 4294967295 }
+    requires count { parts.old.contents.count < 18446744073709551615 }
+    ensures put { (v : Volume) → At (D.state disk.now) (known_of parts.old) v → FitsBook change.now v.book → IsPut change.now v (D.state disk.now) (D.state disk.now) (known_of parts.new) result }
+    ensures why { (v : Volume) → At (D.state disk.now) (known_of parts.old) v → why_no_room (change.now ∷ []) v ≡ None }
+    ensures number { IfOk result (λ n. n ≡ Some (usn_after parts.old.contents.last.epoch parts.old.contents.last.place)) }
+    ensures only { IfErr result (λ e. e ≡ fail.OutOfMemory) }
+    ensures kept { IsKept disk.now (known_of parts.old) result disk.now (known_of parts.new) }
+    ensures steady { OnOk result (Steady (size_of (D.state disk.now)) (known_of parts.new)) }
+    ensures broken { parts.new.broken ≡ parts.old.broken }
+{
+    let _ = disk;
+    let _ = parts.contents.rows.image_len();
+    let last = parts.contents.last;
+    let id = item_of(change);
+    let key = seen_key(parts.alloc, id)?;
+    note_row(
+        &mut parts.then.rows,
+        parts.then.next,
+        &parts.contents.rows,
+        id,
+    )?;
+    note_record(
+        parts.alloc,
+        &mut parts.then.records,
+        &mut parts.then.made,
+        &parts.contents.records,
+        key.as_slice(),
+    )?;
+    remove_item(&mut parts.held, &mut parts.contents.rows, id);
+    parts.contents.records.remove(key.as_slice());
+    parts.contents.last.place += 1;
+    parts.contents.count += 1;
+    Ok(Some(Usn {
+        epoch: last.epoch,
+        place: last.place + 1,
+    }))
+}

@@ -1,0 +1,157 @@
+//! Changes put by their kind, with a commit before one that needs room.
+
+ghost use Rattle.std.specs.Prelude.{◌≡◌, ◌≤◌, ◌<◌, ◌+◌, ◌∷◌, [], None, false, true, IfErr, IfOk, IsFalse, IsTrue, OnOk};
+ghost use Rattle.cf_disk.specs.Disk.{Leaves, size_of};
+ghost use Rattle.cf_model.specs.Changes.{may_need_room, put_change, why_no_room};
+ghost use Rattle.cf_model.specs.Numbers.{usn_after};
+ghost use Rattle.cf_model.specs.Points.{with_room_point};
+ghost use Rattle.cf_model.specs.State.{Volume};
+ghost use Rattle.cf_volume_points.specs.At.{Applied, At, StandsEither, StandsLast};
+ghost use Rattle.cf_volume_points.specs.Keeping.{FitsBook, IsNextId};
+ghost use Rattle.cf_volume_points.specs.Sound.{IsKeepable};
+ghost use Rattle.cf_table.specs.Changing.{Fits, stays};
+ghost use Rattle.cf_volume.specs.Accepted.{IsDone, IsJudged, StaysSteady};
+ghost use Rattle.cf_volume.specs.Calls.{Answers, IsCause, IsKept, Runs, StopsOnly};
+ghost use Rattle.cf_volume.specs.Steady.{Steady, known_of};
+
+use crate::commits::commit_parts;
+use crate::copy::files::put_copy;
+use crate::kinds::item_of;
+use crate::make::new_items::put_make;
+use crate::parts::Parts;
+use crate::record_changes::put_absent;
+use crate::remove::items::put_remove;
+use crate::row_notes::is_there;
+use crate::stay::items::put_stay;
+use cf_base::{CallError, Change, Code, Usn};
+use cf_disk::Disk;
+use cf_volume_image::Contents;
+
+/// The greatest place of an epoch.
+const MOST: u32 = 4_294_967_295;
+
+/// Whether a place is left for one more change.
+pub(crate) fn has_place(contents: &Contents) -> bool
+    ensures yes { IsTrue result → contents.now.last.place < 4294967295 }
+    ensures no { IsFalse result → 4294967295 ≤ contents.now.last.place }
+{
+    contents.last.place < MOST
+}
+
+// Puts a change of an item that is no new one, and stays.
+fn put_in_place<D: Disk>(
+    disk: &mut D,
+    parts: &mut Parts,
+    change: &Change,
+) -> Result<Option<Usn>, CallError>
+    requires kind { stays change.now ≡ true }
+    requires steady { Steady (size_of (D.state disk.old)) (known_of parts.old) }
+    requires fits { Fits change.now parts.old.contents.rows.rows }
+    requires place { parts.old.contents.last.place < 4294967295 }
+    requires count { parts.old.contents.count < 18446744073709551615 }
+    ensures judged { (v : Volume) → At (D.state disk.old) (known_of parts.old) v → IsJudged change.now v result }
+    ensures done { (v : Volume) → At (D.state disk.old) (known_of parts.old) v → IsDone change.now v (D.state disk.new) (known_of parts.new) result }
+    ensures kept { IsKept disk.old (known_of parts.old) result disk.new (known_of parts.new) }
+    ensures steady { OnOk result (Steady (size_of (D.state disk.new)) (known_of parts.new)) }
+    ensures crash { (v : Volume) → At (D.state disk.old) (known_of parts.old) v → Leaves (D.state disk.old) (D.state disk.new) (StandsLast v) }
+    ensures runs { Runs (D.state disk.old) (D.state disk.new) }
+    ensures cause { IfErr result (λ e. IsCause e (D.state disk.old) (D.state disk.new)) }
+    ensures broken { parts.new.broken ≡ parts.old.broken }
+{
+    if is_there(&parts.contents.rows, item_of(change)) {
+        put_stay(disk, parts, change)
+    } else {
+        put_absent(disk, parts, change)
+    }
+}
+
+// Puts a change, for which there is a number, and gives it. None where a commit has to make room first; then nothing is
+// done.
+fn accept<D: Disk>(
+    disk: &mut D,
+    parts: &mut Parts,
+    change: &Change,
+) -> Result<Option<Usn>, CallError>
+    requires steady { Steady (size_of (D.state disk.old)) (known_of parts.old) }
+    requires fits { Fits change.now parts.old.contents.rows.rows }
+    requires next { IsNextId change.now parts.old.contents.rows.next }
+    requires place { parts.old.contents.last.place < 4294967295 }
+    requires count { parts.old.contents.count < 18446744073709551615 }
+    ensures judged { (v : Volume) → At (D.state disk.old) (known_of parts.old) v → IsJudged change.now v result }
+    ensures done { (v : Volume) → At (D.state disk.old) (known_of parts.old) v → FitsBook change.now v.book → IsDone change.now v (D.state disk.new) (known_of parts.new) result }
+    ensures kept { IsKept disk.old (known_of parts.old) result disk.new (known_of parts.new) }
+    ensures steady { OnOk result (Steady (size_of (D.state disk.new)) (known_of parts.new)) }
+    ensures crash { (v : Volume) → At (D.state disk.old) (known_of parts.old) v → Leaves (D.state disk.old) (D.state disk.new) (StandsLast v) }
+    ensures runs { Runs (D.state disk.old) (D.state disk.new) }
+    ensures cause { IfErr result (λ e. IsCause e (D.state disk.old) (D.state disk.new)) }
+    ensures broken { parts.new.broken ≡ parts.old.broken }
+{
+    match change {
+        Change::Make { .. } => put_make(disk, parts, change),
+        Change::Copy { .. } => put_copy(disk, parts, change),
+        Change::Remove { .. } => put_remove(disk, parts, change),
+        _ => put_in_place(disk, parts, change),
+    }
+}
+
+// Puts a change that needs room, after a commit.
+fn accept_after_commit<D: Disk>(
+    disk: &mut D,
+    parts: &mut Parts,
+    change: &Change,
+) -> Result<(), CallError>
+    requires steady { Steady (size_of (D.state disk.old)) (known_of parts.old) }
+    requires fits { Fits change.now parts.old.contents.rows.rows }
+    requires next { IsNextId change.now parts.old.contents.rows.next }
+    requires place { parts.old.contents.last.place < 4294967295 }
+    requires count { parts.old.contents.count < 18446744073709551615 }
+    ensures only { (v : Volume) → At (D.state disk.old) (known_of parts.old) v → IsKeepable v → why_no_room (change.now ∷ []) v ≡ None → IfErr result StopsOnly }
+    ensures done { (v : Volume) → At (D.state disk.old) (known_of parts.old) v → IsKeepable v → FitsBook change.now v.book → OnOk result (At (D.state disk.new) (known_of parts.new) (put_change change.now (with_room_point v))) }
+    ensures steady { StaysSteady (size_of (D.state disk.new)) (known_of parts.new) result }
+    ensures crash { (v : Volume) → At (D.state disk.old) (known_of parts.old) v → IsKeepable v → Leaves (D.state disk.old) (D.state disk.new) (StandsEither v) }
+    ensures runs { Runs (D.state disk.old) (D.state disk.new) }
+    ensures cause { IfErr result (λ e. IsCause e (D.state disk.old) (D.state disk.new)) }
+    ensures broken { parts.new.broken ≡ parts.old.broken }
+{
+    commit_parts(disk, parts)?;
+    if accept(disk, parts, change)?.is_some() {
+        return Ok(());
+    }
+    Err(CallError::No(Code::Full))
+}
+
+/// Puts a change, for which a place is left, and gives its number. A commit comes first where the change needs more clusters
+/// than are free. There is no memory for a change that cannot be counted.
+pub(crate) fn accept_with_room<D: Disk>(
+    disk: &mut D,
+    parts: &mut Parts,
+    change: &Change,
+) -> Result<Usn, CallError>
+    requires steady { Steady (size_of (D.state disk.old)) (known_of parts.old) }
+    requires fits { Fits change.now parts.old.contents.rows.rows }
+    requires next { IsNextId change.now parts.old.contents.rows.next }
+    requires place { parts.old.contents.last.place < 4294967295 }
+    ensures why { (v : Volume) → At (D.state disk.old) (known_of parts.old) v → (may_need_room change.now v ≡ true → IsKeepable v) → Answers change.now v (record { disk = disk.old; known = known_of parts.old }) result (record { disk = disk.new; known = known_of parts.new }) }
+    ensures number { IfOk result (λ n. n ≡ usn_after parts.old.contents.last.epoch parts.old.contents.last.place) }
+    ensures done { (v : Volume) → At (D.state disk.old) (known_of parts.old) v → FitsBook change.now v.book → (may_need_room change.now v ≡ true → IsKeepable v) → OnOk result (Applied (D.state disk.new) (known_of parts.new) change.now v) }
+    ensures steady { StaysSteady (size_of (D.state disk.new)) (known_of parts.new) result }
+    ensures crash { (v : Volume) → At (D.state disk.old) (known_of parts.old) v → (may_need_room change.now v ≡ true → IsKeepable v) → Leaves (D.state disk.old) (D.state disk.new) (StandsEither v) }
+    ensures kept_crash { (v : Volume) → At (D.state disk.old) (known_of parts.old) v → may_need_room change.now v ≡ false → Leaves (D.state disk.old) (D.state disk.new) (StandsLast v) }
+    ensures runs { Runs (D.state disk.old) (D.state disk.new) }
+    ensures cause { IfErr result (λ e. IsCause e (D.state disk.old) (D.state disk.new)) }
+    ensures broken { parts.new.broken ≡ parts.old.broken }
+{
+    if parts.contents.count == u64::MAX {
+        return Err(CallError::OutOfMemory);
+    }
+    let last = parts.contents.last;
+    let number = Usn {
+        epoch: last.epoch,
+        place: last.place + 1,
+    };
+    if accept(disk, parts, change)?.is_some() {
+        return Ok(number);
+    }
+    accept_after_commit(disk, parts, change)?;
+    Ok(number)
+}

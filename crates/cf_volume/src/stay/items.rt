@@ -1,0 +1,59 @@
+//! Changes of items that stay, from a plan to the clusters.
+
+ghost use Rattle.std.specs.Prelude.{◌≡◌, ◌<◌, ◌+◌, true, None, Some, Ok, IfErr, OnOk};
+ghost use Rattle.cf_clusters.specs.Area.{KeepsWhere};
+ghost use Rattle.cf_clusters.specs.Roles.{IsCommitted};
+ghost use Rattle.cf_disk.specs.Disk.{Leaves, size_of};
+ghost use Rattle.cf_model.specs.State.{Volume};
+ghost use Rattle.cf_volume_points.specs.At.{At};
+ghost use Rattle.cf_table.specs.Changing.{Fits, item_of_change, stays};
+ghost use Rattle.cf_table.specs.Tables.{row_of};
+ghost use Rattle.cf_volume.specs.Calls.{IsCause, IsKept, IsPut, Runs};
+ghost use Rattle.cf_volume.specs.Steady.{Steady, known_of};
+
+use crate::parts::Parts;
+use crate::stay::plans::{plan_change, refusal_of};
+use crate::stay::rows::put_planned;
+use crate::stop_causes::fail_of;
+use cf_base::{CallError, Change, Usn};
+use cf_disk::Disk;
+
+/// Puts a change of an item that is there and stays, and gives its number. None where the clusters that it needs are not
+/// free before a commit; then nothing is done.
+pub(crate) fn put_stay<D: Disk>(
+    disk: &mut D,
+    parts: &mut Parts,
+    change: &Change,
+) -> Result<Option<Usn>, CallError>
+    requires kind { stays change.now ≡ true }
+    requires steady { Steady (size_of (D.state disk.old)) (known_of parts.old) }
+    requires there { row_of parts.old.contents.rows.rows (item_of_change change.now) ≡ None → ⊥ }
+    requires fits { Fits change.now parts.old.contents.rows.rows }
+    requires place { parts.old.contents.last.place < 4294967295 }
+    requires count { parts.old.contents.count < 18446744073709551615 }
+    ensures put { (v : Volume) → At (D.state disk.old) (known_of parts.old) v → IsPut change.now v (D.state disk.old) (D.state disk.new) (known_of parts.new) result }
+    ensures kept { IsKept disk.old (known_of parts.old) result disk.new (known_of parts.new) }
+    ensures steady { OnOk result (Steady (size_of (D.state disk.new)) (known_of parts.new)) }
+    ensures crash { Leaves (D.state disk.old) (D.state disk.new) (KeepsWhere IsCommitted parts.old.held (D.state disk.old)) }
+    ensures runs { Runs (D.state disk.old) (D.state disk.new) }
+    ensures cause { IfErr result (λ e. IsCause e (D.state disk.old) (D.state disk.new)) }
+    ensures broken { parts.new.broken ≡ parts.old.broken }
+{
+    let _ = parts.contents.rows.image_len();
+    let last = parts.contents.last;
+    let number = Usn {
+        epoch: last.epoch,
+        place: last.place + 1,
+    };
+    let planned = plan_change(parts.alloc, &parts.contents.rows, change, number)?;
+    if let Some(code) = refusal_of(disk, parts, change, &planned) {
+        return Err(CallError::No(code));
+    }
+    if (parts.held.free() as usize) < planned.blocks.len() {
+        return Ok(None);
+    }
+    match put_planned(disk, parts, planned, change) {
+        Ok(()) => Ok(Some(number)),
+        Err(stop) => Err(fail_of(stop)),
+    }
+}

@@ -1,0 +1,60 @@
+//! Planned changes, carried out on the table and the clusters.
+
+ghost use Rattle.std.specs.Prelude.{◌≡◌, ◌≤◌, ◌<◌, ◌*◌, ℕ, None, Some, length, OnOk, IfErr};
+ghost use Rattle.cf_volume_blocks.specs.Bytes.{HasEnd};
+ghost use Rattle.cf_clusters.specs.Area.{KeepsWhere, place};
+ghost use Rattle.cf_clusters.specs.Roles.{IsCommitted, how_many, is_free};
+ghost use Rattle.cf_disk.specs.Disk.{Leaves, size_of};
+ghost use Rattle.cf_ranges.specs.Pairs.{cluster_at};
+ghost use Rattle.cf_table.specs.Applied.{IsSpellable};
+ghost use Rattle.cf_table.specs.Tables.{row_of};
+ghost use Rattle.cf_volume.specs.Laid.{Carries};
+ghost use Rattle.cf_volume_points.specs.Runs.{IsStop, Ran};
+
+use crate::stay::clusters::{Planned, settle_blocks};
+use crate::written_rows::put_row;
+use cf_base::{Change, ItemId};
+use cf_clusters::Data;
+use cf_disk::Disk;
+use cf_table::Rows;
+use cf_volume_points::Stop;
+use std::alloc::Global;
+
+/// Carries out a planned change of an item that is there.
+pub(crate) fn change_item<D: Disk>(
+    alloc: Global,
+    disk: &mut D,
+    held: &mut Data,
+    rows: &mut Rows,
+    id: ItemId,
+    planned: Planned,
+    change: &Change,
+) -> Result<(), Stop>
+    requires there { row_of rows.old.rows id ≡ None → ⊥ }
+    requires room { place (length held.old) ≤ size_of (D.state disk.old) }
+    requires inside { (b k : ℕ) → cluster_at planned.row.extents b ≡ Some k → k < length held.old }
+    requires end { HasEnd change.now }
+    requires free { length planned.blocks.items ≤ how_many is_free held.old }
+    requires spellable { IsSpellable planned.row }
+    ensures carried { OnOk result (Carries change.now id planned.row planned.blocks.items (D.state disk.old) (D.state disk.new) held.old held.new rows.old rows.new) }
+    ensures crash { Leaves (D.state disk.old) (D.state disk.new) (KeepsWhere IsCommitted held.old (D.state disk.old)) }
+    ensures ran { Ran (4096 * length planned.blocks.items) (D.state disk.old) (D.state disk.new) }
+    ensures cause { IfErr result (λ e. IsStop e (D.state disk.old) (D.state disk.new)) }
+{
+    let mut after = planned.row;
+    match rows.get(id) {
+        None => unreachable!(),
+        Some(row) => settle_blocks(
+            alloc,
+            disk,
+            held,
+            row,
+            &after.here,
+            &mut after.extents,
+            &planned.blocks,
+            change,
+        )?,
+    }
+    put_row(rows, after)?;
+    Ok(())
+}

@@ -1,0 +1,126 @@
+//! Events while the volume is off.
+#![tactic(auto, using(crate::proofs::Offs::off_stop, crate::proofs::Offs::off_crash, crate::proofs::Offs::unfit_step))]
+
+ghost use Rattle.std.specs.Prelude.{◌≡◌, Err, IfOk, Ok, [], false, length, true};
+ghost use Rattle.cf_world_filter.specs.Answered.{answer_with, answered_by};
+ghost use Rattle.cf_world_filter.specs.Counted.{CountsTo, meets_device};
+ghost use Rattle.cf_world_filter.specs.Meaning.{Is, IsOff};
+ghost use Rattle.cf_world_filter.specs.Stepped.{BearsOn, Steps, StepsOver, disk_of};
+ghost use Rattle.cf_world_filter.specs.declared.places.Acting.TheVariants as acting;
+ghost use Rattle.cf_base.specs.declared.answers.Shown.TheVariants as shown;
+ghost use Rattle.cf_base.specs.declared.codes.Code.TheVariants as code;
+ghost use Rattle.cf_base.specs.declared.events.DeviceEvent.TheVariants as device;
+ghost use Rattle.cf_base.specs.declared.events.Event.TheVariants as event;
+ghost use Rattle.cf_disk.specs.Disk.{size_of};
+ghost use Rattle.cf_journal.specs.Settled.{IsFitSize};
+ghost use Rattle.cf_filter_machine.specs.Sensing.{Stands};
+ghost use Rattle.cf_model.specs.Books.{opened_of};
+ghost use Rattle.cf_model.specs.Events.{is_of, needs_volume};
+ghost use Rattle.cf_model.specs.State.{Filter as model};
+ghost use Rattle.cf_base.specs.declared.policies.Mode.TheVariants.{Filter as InFilter};
+
+use crate::answers::{plainly, refused};
+use crate::books::opened_book;
+use crate::places::{Acting, Cut, Running};
+use cf_base::{Answer, CallError, Choice, Code, Event, OutOfMemory, Shown};
+use cf_disk::Disk;
+use cf_filter::Filter;
+use cf_journal::{LARGEST_SIZE, LEAST_SIZE};
+use cf_provider_script::Scripted;
+use std::alloc::Global;
+
+impl<D: Disk> Cut<D> {
+    /// `stop`
+    pub(crate) fn stop(&mut self, alloc: Global, calls: u32) -> Answer
+        ensures steps { Steps (IsOff D.state) (event.Device (device.Stop calls)) self.old (Ok result) self.new }
+        ensures armed { BearsOn (device.Stop calls) (D.state self.old.disk) (D.state self.new.disk) }
+        ensures counts { CountsTo (Ok result) (D.state self.old.disk) (D.state self.new.disk) }
+    {
+        self.disk.arm(calls);
+        plainly(alloc, Shown::Done)
+    }
+
+    /// `crash`: one more power.
+    pub(crate) fn cut(&mut self, alloc: Global, choice: Choice) -> Answer
+        ensures steps { StepsOver (IsOff D.state) (event.Device (device.Crash choice)) self.old (Ok result) self.new }
+        ensures powers { BearsOn (device.Crash choice) (D.state self.old.disk) (D.state self.new.disk) }
+        ensures counts { CountsTo (Ok result) (D.state self.old.disk) (D.state self.new.disk) }
+    {
+        self.disk.power(choice);
+        plainly(alloc, Shown::Done)
+    }
+
+    /// What needs the volume is refused as Off.
+    pub(crate) fn refuse(&self, alloc: Global, event: &Event) -> Answer
+        requires of { is_of InFilter event.now ≡ true }
+        requires needs { needs_volume event.now ≡ true }
+        ensures steps { Steps (IsOff D.state) event.now self.now (Ok result) self.now }
+        ensures told { result ≡ answer_with (shown.Refused code.Off) [] }
+    {
+        refused(alloc, Code::Off)
+    }
+
+    /// `restart`: opens the volume again. Where the device fails it stays off. A disk of a size that no volume has holds
+    /// none.
+    pub(crate) fn restart(self, alloc: Global) -> (Acting<D>, Result<Answer, OutOfMemory>)
+        ensures steps { StepsOver (Is D.state) (event.Device device.Restart) (acting.Off self) result.1 result.0 }
+        ensures counts { CountsTo result.1 (D.state self.disk) (D.state (disk_of result.0)) }
+    {
+        if !is_fit(self.disk.size()) {
+            return (Acting::Off(self), Ok(refused(alloc, Code::NotAVolume)));
+        }
+        self.reopen(alloc)
+    }
+
+    fn reopen(self, alloc: Global) -> (Acting<D>, Result<Answer, OutOfMemory>)
+        requires { IsFitSize (size_of (D.state self.disk)) }
+        ensures steps { StepsOver (Is D.state) (event.Device device.Restart) (acting.Off self) result.1 result.0 }
+        ensures counts { CountsTo result.1 (D.state self.disk) (D.state (disk_of result.0)) }
+    {
+        let policy = self.policy;
+        match Filter::open(alloc, self.disk, policy) {
+            Ok(filter) => reopened(alloc, filter),
+            Err((disk, fail)) => (Acting::Off(Cut { disk, policy }), refused_by(alloc, fail)),
+        }
+    }
+}
+
+// Whether a volume may have this size.
+fn is_fit(size: u64) -> bool
+    ensures fit { result ≡ true → IsFitSize size }
+    ensures unfit { result ≡ false → IsFitSize size → ⊥ }
+{
+    LEAST_SIZE <= size && size <= LARGEST_SIZE
+}
+
+// The answer of a restart that opened nothing.
+fn refused_by(alloc: Global, fail: CallError) -> Result<Answer, OutOfMemory>
+    ensures { result ≡ answered_by (Err fail) [] }
+{
+    match fail {
+        CallError::No(code) => Ok(refused(alloc, code)),
+        CallError::OutOfMemory => Err(OutOfMemory),
+    }
+}
+
+// The world on a volume that was just opened.
+fn reopened<D: Disk>(alloc: Global, filter: Filter<D>) -> (Acting<D>, Result<Answer, OutOfMemory>)
+    ensures on { result.0 ≡ acting.On (record { filter = filter; provider = [] }) }
+    ensures plain { IfOk result.1 (λ a. meets_device a.shown ≡ false) }
+    ensures told { IfOk result.1 (λ a. (f : model) → Stands D.state filter f → a ≡ answer_with (shown.Resumed (length f.volume.log) (opened_of f.volume.book)) []) }
+{
+    let told = resumed(alloc, &filter);
+    let provider = Scripted::new(alloc);
+    (Acting::On(Running { filter, provider }), told)
+}
+
+// How many changes were kept, and the book.
+fn resumed<D: Disk>(alloc: Global, filter: &Filter<D>) -> Result<Answer, OutOfMemory>
+    ensures plain { IfOk result (λ a. meets_device a.shown ≡ false) }
+    ensures told { IfOk result (λ a. (f : model) → Stands D.state filter.now f → a ≡ answer_with (shown.Resumed (length f.volume.log) (opened_of f.volume.book)) []) }
+{
+    let volume = filter.volume();
+    let opened = opened_book(alloc, volume)?;
+    let count = volume.count();
+    Ok(plainly(alloc, Shown::Resumed { count, opened }))
+}
