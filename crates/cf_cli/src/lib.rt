@@ -10,6 +10,3 @@ mod laws;
 
 pub use commands::{Command, WordsError, command_of};
 pub use laws::{one_word_is_taken, without_a_command};
-
-#[cfg(test)]
-mod tests;

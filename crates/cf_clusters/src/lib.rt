@@ -7,10 +7,7 @@
 
 mod clusters;
 mod laws;
-mod orders;
-#[cfg(test)]
-mod tests;
-mod uses;
+mod orders;mod uses;
 
 pub use clusters::{ClusterError, Data};
 pub use laws::{commit_frees_all_else, one_more_or_less, stages_find_room, uses_add_up};

@@ -11,6 +11,3 @@ mod writers;
 pub use failures::CodecError;
 pub use readers::{Reader, one_number};
 pub use writers::Writer;
-
-#[cfg(test)]
-mod tests;

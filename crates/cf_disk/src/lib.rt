@@ -17,6 +17,3 @@ mod trails;
 pub use disks::{Disk, DiskError};
 pub use mem_disks::MemDisk;
 pub use trace_disks::TraceDisk;
-
-#[cfg(test)]
-mod tests;

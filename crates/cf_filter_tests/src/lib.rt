@@ -1,7 +1,5 @@
-//! Tests of `cf_filter`, of what no clause says.
-//!
-//! They stand in a crate of their own, so that no change of them has the filter and what stands on it proved again.
+//! Tests of the filter: each public call, with a provider that answers right or wrong.
 #![tactic(auto)]
 
 #[cfg(test)]
-mod tests;
+mod filter;

@@ -18,6 +18,3 @@ pub use readings::read_all;
 pub use sinks::{Sink, write_all};
 pub use sources::Source;
 pub use system::{StdSink, StdSource};
-
-#[cfg(test)]
-mod tests;

@@ -24,6 +24,3 @@ pub use placeholder_laws::plans_fit;
 pub use placeholder_plans::{
     plan_convert, plan_keep, plan_mark, plan_revert, plan_unmark, plan_update,
 };
-
-#[cfg(test)]
-mod tests;

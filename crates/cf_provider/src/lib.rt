@@ -15,6 +15,3 @@ pub use laws::check_is_first;
 pub use outcomes::{Callback, Outcome};
 pub use ports::{Port, Provider};
 pub use recorders::{Kept, Recorder};
-
-#[cfg(test)]
-mod tests;

@@ -10,6 +10,3 @@ mod scripted;
 
 pub use laws::a_callback_takes_the_plan;
 pub use scripted::{Planned, Scripted};
-
-#[cfg(test)]
-mod tests;

@@ -87,25 +87,3 @@ impl ExtentMap {
         })
     }
 }
-
-#[cfg(test)]
-mod tests {
-    use super::*;
-    use std::test::Fail;
-
-    #[test]
-    fn puts_and_takes(rt: HostRuntime) -> Result<(), Fail> {
-        let mut map = ExtentMap::new(rt.alloc());
-        assert_eq!(rt; map.put(3, 9)?, None);
-        assert_eq!(rt; map.put(3, 9)?, Some(9));
-        assert_eq!(rt; map.put(1, 7)?, None);
-        assert_eq!(rt; map.pairs(), [(1, 7), (3, 9)].as_slice());
-        let copy = map.copy()?;
-        assert_eq!(rt; map.take(1), Some(7));
-        assert_eq!(rt; map.take(1), None);
-        assert_eq!(rt; copy.get(1), Some(7));
-        let again = vec![in rt.alloc(); (1, 7), (3, 9)]?;
-        assert!(rt; ExtentMap::from_pairs(again).is_some());
-        Ok(())
-    }
-}

@@ -148,10 +148,3 @@ fn push_piece(out: &mut Vec<Span>, from: u64, to: u64) -> Result<(), OutOfMemory
 }
 
 // A short name for the tests.
-#[cfg(test)]
-pub(crate) fn span(start: u64, len: u64) -> Span
-    ensures start { result.start ≡ start }
-    ensures len { result.len ≡ len }
-{
-    Span { start, len }
-}

@@ -1,7 +1,11 @@
-//! Tests of `cf_table`, of what no clause says.
-//!
-//! They stand in a crate of their own, so that no test has the crate proved a second time.
+//! Tests of rows, paths, the rules of an item, and images.
 #![tactic(auto)]
 
 #[cfg(test)]
-mod tests;
+mod item_rules;
+#[cfg(test)]
+mod table;
+#[cfg(test)]
+mod tree;
+#[cfg(test)]
+mod volume_image;

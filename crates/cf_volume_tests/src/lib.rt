@@ -1,7 +1,7 @@
-//! Tests of `cf_volume`, of what no clause says.
-//!
-//! They stand in a crate of their own, so that no change of them has the volume and what stands on it proved again.
+//! Tests of commits and volumes.
 #![tactic(auto)]
 
 #[cfg(test)]
-mod tests;
+mod volume;
+#[cfg(test)]
+mod volume_commit;

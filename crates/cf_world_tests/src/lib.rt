@@ -1,5 +1,5 @@
-//! Whole runs: tests of `cf_world`. They stand apart, so that no change of a test has the world proved again.
+//! Tests of whole runs.
 #![tactic(auto)]
 
 #[cfg(test)]
-mod tests;
+mod world;

@@ -1,5 +1,5 @@
 use Rattle.std.specs.Prelude.{[], ◌++◌}
-use Rattle.cf_filter_tests.proofs.tests.providers.act.Goals as goal
+use Rattle.cf_filter_tests.proofs.filter.providers.act.Goals as goal
 
 pub returns-in_err-op : goal.returns-in_err-op
 returns-in_err-op g c = ([], g.met.P.Port.stays c.args.port.now)

@@ -1,5 +1,5 @@
 use Rattle.std.specs.Prelude.{[], ◌++◌}
-use Rattle.cf_filter_tests.proofs.tests.providers.act_all.Goals as goal
+use Rattle.cf_filter_tests.proofs.filter.providers.act_all.Goals as goal
 
 pub loop-step-init : goal.loop-step-init
 loop-step-init g c = ([], g.met.P.Port.stays c.args.port.now)

@@ -1,0 +1,17 @@
+//! Tests of the leaves: plain types, codecs, sources and sinks, words, ranges, reports and scripts.
+#![tactic(auto)]
+
+#[cfg(test)]
+mod base;
+#[cfg(test)]
+mod cli;
+#[cfg(test)]
+mod codec;
+#[cfg(test)]
+mod io;
+#[cfg(test)]
+mod ranges;
+#[cfg(test)]
+mod report;
+#[cfg(test)]
+mod script;
