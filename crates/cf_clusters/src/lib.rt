@@ -7,7 +7,8 @@
 
 mod clusters;
 mod laws;
-mod orders;mod uses;
+mod orders;
+mod uses;
 
 pub use clusters::{ClusterError, Data};
 pub use laws::{commit_frees_all_else, one_more_or_less, stages_find_room, uses_add_up};

@@ -18,8 +18,8 @@ use crate::waits::begin_limited;
 use cf_base::{
     CallError, Change, Code, End, Hydration, ItemId, Pin, Policy, Shown, Span, WaitKind,
 };
-use cf_item_rules::{Facts, Verdict, verdict};
 use cf_filter_steps::{Need, Steps, find_at};
+use cf_item_rules::{Facts, Verdict, verdict};
 use cf_table::Row;
 
 /// Whether files are to be full at any time.
