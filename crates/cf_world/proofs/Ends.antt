@@ -14,10 +14,10 @@ use Rattle.cf_script.specs.declared.script_errors.ScriptError.{ScriptError}
 use Rattle.cf_script.specs.declared.script_errors.ScriptError.TheVariants as fails
 use Rattle.cf_world.specs.Led.{HasRunOn, Leads}
 use Rattle.cf_world.specs.Runs.{IsBuilt, IsRefusal, PlaysFront, PlaysLong, RefusesFront, Writes, WritesRefusal, fail_line}
-use Rattle.cf_world.specs.Sides.{Acted}
 use Rattle.cf_world.specs.Steps.{AllPlayed, SomePlayed, early_status, play_status}
 use Rattle.cf_world.specs.declared.play_errors.PlayError.{PlayError}
 use Rattle.cf_world.specs.declared.play_errors.PlayError.TheVariants as plays
+use Rattle.cf_world.specs.declared.sides.Side.{Side}
 
 refused_front : (m : Mode) (text : List ℕ) (old new : Option (List ℕ)) (fail : ScriptError) → IsCause m (lines_of text) fail → fail ≢ fails.OutOfMemory → AddsFront old new (fail_line fail) → RefusesFront m text old new
 refused_front m text old new fail why other written =
@@ -51,14 +51,14 @@ long_said : (P Q : List (Event × Answer) → Type 0) (events : List Event) (old
 long_said P Q events old new f h =
     record { trace = h.trace; event = h.event; answer = h.answer; more = h.more; first = h.first; said = f (h.trace ++ (h.event, h.answer) ∷ []) h.said; written = h.written; passes = h.passes }
 
-module _ {D R : Type 0} (state : D → Disk) where
+module _ {D : Type 0} (state : D → Disk) where
   -- what was written of a script that was read, by how its events went
-  pub played_written : (m : Mode) (disk back : D) (text : List ℕ) (events : List Event) (old new : Option (List ℕ)) (w : Acted D R) (r : Result (Unit {0}) PlayError) → IsBuilt m text events → length text ≤ 16777216 → OnOk r (AllPlayed state m disk events old new w)
-      → IfErr r (SomePlayed state m disk events old new w.side) → ((trace : List (Event × Answer)) → HasRunOn state m disk trace w.side → Leads state m disk trace back) → Writes state m disk text old new (play_status r) back
+  pub played_written : (m : Mode) (disk back : D) (text : List ℕ) (events : List Event) (old new : Option (List ℕ)) (w : Side D) (r : Result (Unit {0}) PlayError) → IsBuilt m text events → length text ≤ 16777216 → OnOk r (AllPlayed state m disk events old new w)
+      → IfErr r (SomePlayed state m disk events old new w) → ((trace : List (Event × Answer)) → HasRunOn state m disk trace w → Leads state m disk trace back) → Writes state m disk text old new (play_status r) back
   played_written m disk back text events old new w (Ok u) built short all some leads =
-      record { events = events; spelled = built; played = record { trace = w.trace; each = all.each; leads = leads w.trace all.run; written = all.written; short = all.short } }
+      record { events = events; spelled = built; played = record { trace = all.trace; each = all.each; leads = leads all.trace all.run; written = all.written; short = all.short } }
   played_written m disk back text events old new w (Err plays.SinkFault) built short all some leads =
-      inr (record { events = events; spelled = built; played = front_said (λ trace. HasRunOn state m disk trace w.side) (λ trace. Leads state m disk trace back) events old new leads some })
+      inr (record { events = events; spelled = built; played = front_said (λ trace. HasRunOn state m disk trace w) (λ trace. Leads state m disk trace back) events old new leads some })
   played_written m disk back text events old new w (Err plays.OutOfMemory) built short all some leads = inr (inr (record { events = events; spelled = built; played = some }))
   played_written m disk back text events old new w (Err plays.TooLong) built short all some leads =
-      inr (short, record { events = events; spelled = built; played = long_said (λ trace. HasRunOn state m disk trace w.side) (λ trace. Leads state m disk trace back) events old new leads some })
+      inr (short, record { events = events; spelled = built; played = long_said (λ trace. HasRunOn state m disk trace w) (λ trace. Leads state m disk trace back) events old new leads some })

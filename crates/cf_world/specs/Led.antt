@@ -17,7 +17,6 @@ use Rattle.cf_model.specs.State.{State, start}
 use Rattle.cf_model.specs.Store.{Held}
 use Rattle.cf_plain.specs.Worlds as plain
 use Rattle.cf_volume_points.specs.Standing.{clusters_on}
-use Rattle.cf_world.specs.Sides.{Acted}
 use Rattle.cf_script.specs.Built.{is_built}
 use Rattle.cf_world.specs.declared.sides.Side.{Side}
 use Rattle.cf_world.specs.declared.sides.Side.TheVariants as side
@@ -63,10 +62,6 @@ abbrev pub HasRunOn : {D : Type 0} → (D → Disk) → Mode → D → List (Eve
 HasRunOn state m disk trace (side.Replay w back) = (m ≡ Replay) × plain.Lawful plain.start trace × (w ≡ plain.after plain.start trace) × (back ≡ disk)
 HasRunOn state m disk trace (side.Filter None) = ⊥
 HasRunOn state m disk trace (side.Filter (Some a)) = (m ≡ Filter) × ((remote : Held) → LeadsWorld state remote disk trace a)
-
--- a world that began on this disk is where its trace leads to
-abbrev pub HasRun : {D R : Type 0} → (D → Disk) → Mode → D → Acted D R → Type 0
-HasRun state m disk w = HasRunOn state m disk w.trace w.side
 
 -- an event may be under way in no world
 abbrev pub IsWhole : {D : Type 0} → Side D → Type 0

@@ -13,9 +13,8 @@ use Rattle.cf_io.specs.declared.faults.ReadError.{ReadError}
 use Rattle.cf_io.specs.declared.faults.ReadError.TheVariants as reading
 use Rattle.cf_volume_points.specs.Standing.{clusters_on}
 use Rattle.cf_report.specs.Texts.{texts}
-use Rattle.cf_world.specs.Led.{HasRun, HasRunOn, IsLawful}
+use Rattle.cf_world.specs.Led.{HasRunOn, IsLawful}
 use Rattle.cf_world.specs.Runs.{PlaysFront, PlaysLong, answers_of, events_of, most_report}
-use Rattle.cf_world.specs.Sides.{Acted}
 use Rattle.cf_cli.specs.declared.commands.WordsError.{WordsError}
 use Rattle.cf_cli.specs.declared.commands.WordsError.TheVariants as words
 use Rattle.cf_world.specs.declared.play_errors.PlayError.{PlayError}
@@ -69,12 +68,20 @@ abbrev pub IsOfSink : PlayError → Type 0
 IsOfSink play.TooLong = ⊥
 IsOfSink _ = Unit {0}
 
+-- Some first events were done, and the rest is still to do. Of the texts of their answers a front was written, and what follows waits.
+pub record IsUnderWay {D : Type 0} (state : D → Disk) (m : Mode) (disk : D) (events rest : List Event) (waiting : List ℕ) (made : ℕ) (old now : Option (List ℕ)) (w : Side D) : Type 0 where
+  pub trace : List (Event × Answer)
+  pub run : HasRunOn state m disk trace w
+  pub parts : events_of trace ++ rest ≡ events
+  pub drafted : IsDrafted (texts (answers_of trace)) waiting made old now
+
 -- All events were done, and the texts of their answers written.
-pub record AllPlayed {D R : Type 0} (state : D → Disk) (m : Mode) (disk : D) (events : List Event) (old new : Option (List ℕ)) (w : Acted D R) : Type 0 where
-  pub run : HasRun state m disk w
-  pub each : events_of w.trace ≡ events
-  pub written : Adds old new (texts (answers_of w.trace))
-  pub short : length (texts (answers_of w.trace)) ≤ most_report
+pub record AllPlayed {D : Type 0} (state : D → Disk) (m : Mode) (disk : D) (events : List Event) (old new : Option (List ℕ)) (w : Side D) : Type 0 where
+  pub trace : List (Event × Answer)
+  pub run : HasRunOn state m disk trace w
+  pub each : events_of trace ≡ events
+  pub written : Adds old new (texts (answers_of trace))
+  pub short : length (texts (answers_of trace)) ≤ most_report
 
 -- What was written of them where it ended early. But where memory ran out, the world is where the trace leads to.
 abbrev pub SomePlayed : {D : Type 0} → (D → Disk) → Mode → D → List Event → Option (List ℕ) → Option (List ℕ) → Side D → PlayError → Type 0

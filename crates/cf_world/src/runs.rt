@@ -10,7 +10,7 @@ ghost use Rattle.cf_script.specs.FailEvents.{IsCause};
 ghost use Rattle.cf_script.specs.Script.{lines_of};
 ghost use Rattle.cf_cli.specs.Accounts.{AreTaken, Names};
 ghost use Rattle.cf_cli.specs.declared.commands.Command.{Command as Meant};
-ghost use Rattle.cf_world.specs.Led.{HandsBack, HasRun};
+ghost use Rattle.cf_world.specs.Led.{HandsBack, HasRunOn};
 ghost use Rattle.cf_world.specs.Runs.{IsAfterReading, IsBeforeDevice, IsBeforeWriting, IsBuilt, IsComplete, IsFit, IsLength, IsOfReport, IsStarted, IsUnfit, Writes, WritesRefusal, fail_line, mode_of};
 ghost use Rattle.cf_world.specs.Steps.{early_status, play_status, read_status, start_status, words_status};
 
@@ -264,11 +264,10 @@ fn report<K: Sink, D: Disk + Drop, R: Remote>(
 ) -> Finish<D, R>
     requires short { length text.now ≤ 16777216 }
     requires built { IsBuilt mode text.now events.now }
-    requires fresh { world.trace ≡ [] }
-    requires began { (disk : D) × HasRun D.state mode disk world }
-    ensures writes { (disk : D) → HasRun D.state mode disk world → Writes D.state mode disk text.now (K.held sink.old) (K.held sink.new) result.status result.disk }
+    requires began { (disk : D) × HasRunOn D.state mode disk [] world.side }
+    ensures writes { (disk : D) → HasRunOn D.state mode disk [] world.side → Writes D.state mode disk text.now (K.held sink.old) (K.held sink.new) result.status result.disk }
     ensures remote { result.remote ≡ world.remote }
-    ensures kept { (disk : D) → HasRun D.state mode disk world → HandsBack mode disk result.disk }
+    ensures kept { (disk : D) → HasRunOn D.state mode disk [] world.side → HandsBack mode disk result.disk }
     ensures only { IsOfReport result.status }
     ensures sink_fault { result.status ≡ Status.SinkFault → Rose (K.faults sink.old) (K.faults sink.new) }
 {

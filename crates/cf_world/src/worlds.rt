@@ -1,6 +1,6 @@
-//! The world that a script acts on, and its trace.
+//! The world that a script acts on.
 
-ghost use Rattle.std.specs.Prelude.{◌≡◌, ◌++◌, ◌∷◌, [], is_some, IfErr, IfOk, OnErr, OnOk, List, Some, true};
+ghost use Rattle.std.specs.Prelude.{◌≡◌, ◌++◌, ◌∷◌, [], is_some, IfErr, IfOk, List, Some, true};
 ghost use Rattle.cf_world_filter.specs.Counted.{Counts};
 ghost use Rattle.cf_world_filter.specs.Meaning.{Is};
 ghost use Rattle.cf_world_filter.specs.Stepped.{StepsOver, disk_of};
@@ -13,7 +13,7 @@ ghost use Rattle.cf_base.specs.declared.policies.Mode.TheVariants.{Filter};
 ghost use Rattle.cf_journal.specs.Settled.{IsFitSize};
 ghost use Rattle.cf_model.specs.Events.{is_of};
 ghost use Rattle.cf_volume.specs.Calls.{IsCause, StopsOnly};
-ghost use Rattle.cf_world.specs.Led.{HasRun, HasRunOn, IsSame, IsWhole, Keeps, Leads, can_do};
+ghost use Rattle.cf_world.specs.Led.{HasRunOn, IsSame, IsWhole, Keeps, Leads, can_do};
 
 use crate::sides::Side;
 use cf_base::{Answer, CallError, Event, Mode, OutOfMemory};
@@ -23,12 +23,11 @@ use cf_world_filter::Acting;
 use std::alloc::Global;
 use std::marker::Model;
 
-/// A world with the events so far and their answers.
+/// A world: the side of its command, and the remote. Contracts name the trace of its events; the program keeps none.
 #[derive(Drop)]
 pub struct World<D: Disk + Drop, R> {
     side: Side<D>,
     remote: R,
-    trace: Vec<(Event, Answer)>,
 }
 
 impl<D: Disk + Drop, R> Model for World<D, R> {
@@ -36,7 +35,7 @@ impl<D: Disk + Drop, R> Model for World<D, R> {
 
     ghost Value = { Acted D R };
 
-    ghost view = { λ w. record { side = w.side; remote = w.remote; trace = w.trace.items } };
+    ghost view = { λ w. record { side = w.side; remote = w.remote } };
 }
 
 impl<D: Disk + Drop, R> World<D, R> {
@@ -49,54 +48,37 @@ impl<D: Disk + Drop, R> World<D, R> {
         mode: Mode,
     ) -> Result<World<D, R>, (D, R, CallError)>
         requires { IsFitSize (size_of (D.state disk)) }
-        ensures ok { IfOk result (HasRun D.state mode disk) }
-        ensures begins { IfOk result (λ w. (w.trace ≡ []) × (w.remote ≡ remote)) }
+        ensures ok { IfOk result (λ w. HasRunOn D.state mode disk [] w.side) }
+        ensures begins { IfOk result (λ w. w.remote ≡ remote) }
         ensures back { IfErr result (λ e. e.1 ≡ remote) }
         ensures made { IfErr result (λ e. mode ≡ Filter) }
         ensures only { IfErr result (λ e. StopsOnly e.2) }
         ensures cause { IfErr result (λ e. IsCause e.2 (D.state disk) (D.state e.0)) }
     {
-        let trace = Vec::new(alloc);
         match mode {
             Mode::Replay => Ok(World {
                 side: Side::Replay(PlainWorld::start(alloc), disk),
                 remote,
-                trace,
             }),
             Mode::Filter => match Acting::start(alloc, disk) {
                 Ok(acting) => Ok(World {
                     side: Side::Filter(Some(acting)),
                     remote,
-                    trace,
                 }),
                 Err((disk, fail)) => Err((disk, remote, fail)),
             },
         }
     }
 
-    /// Does an event of the mode, and adds it to the trace with its answer. At OutOfMemory nothing is added, and nothing more is
-    /// said of the world.
-    pub fn step(&mut self, alloc: Global, event: &Event) -> Result<(), OutOfMemory>
+    /// Does an event of the mode, and answers it. At OutOfMemory nothing more is said of the world.
+    pub fn step(&mut self, alloc: Global, event: &Event) -> Result<Answer, OutOfMemory>
         requires whole { IsWhole self.old.side }
         requires can { can_do self.old.side event.now ≡ true }
-        ensures ok { (m : Commanded) (disk : D) → HasRun D.state m disk self.old → OnOk result (HasRun D.state m disk self.new) }
-        ensures adds { OnOk result ((a : Answered) × (self.new.trace ≡ self.old.trace ++ (event.now, a) ∷ [])) }
-        ensures err { OnErr result (self.new.trace ≡ self.old.trace) }
+        ensures ok { IfOk result (λ a. (m : Commanded) (disk : D) (trace : List (Done × Answered)) → HasRunOn D.state m disk trace self.old.side → HasRunOn D.state m disk (trace ++ (event.now, a) ∷ []) self.new.side) }
         ensures whole { IsWhole self.new.side }
         ensures same { (self.new.remote ≡ self.old.remote) × IsSame self.old.side self.new.side }
     {
-        self.trace.reserve(1)?;
-        let kept = event.copy()?;
-        let answer = act(alloc, &mut self.side, event)?;
-        self.trace.push((kept, answer)).unwrap();
-        Ok(())
-    }
-
-    /// The events so far with their answers.
-    pub fn trace(&self) -> &[(Event, Answer)]
-        ensures { result.now ≡ self.now.trace }
-    {
-        &self.trace
+        act(alloc, &mut self.side, event)
     }
 
     /// The disk and the remote.

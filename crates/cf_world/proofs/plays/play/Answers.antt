@@ -1,4 +1,4 @@
-use Rattle.std.proofs.Common.{◌≡◌, ◌+◌, ◌++◌, ◌∷◌, [], List, drop, sym, ◌∙◌, subst, arith}
+use Rattle.std.proofs.Common.{◌≡◌, ◌+◌, ◌++◌, ◌∷◌, [], List, drop, refl, sym, ◌∙◌, subst, arith}
 use Rattle.std.proofs.lemmas.List.{drop_all}
 use Rattle.cf_base.specs.declared.answers.Answer.{Answer}
 use Rattle.cf_base.specs.declared.events.Event.{Event}
@@ -16,75 +16,78 @@ use Rattle.cf_world.proofs.plays.play.Goals as goal
 
 pub returns-in_err-text-clause-err : goal.returns-in_err-text-clause-err
 returns-in_err-text-clause-err g c = λ m disk h.
-    let inv = c.loop-event.invariant in
-    let w = c.loop-event.world in
+    let u = c.loop-event.invariant.0 m disk h in
     let all = c.args.events.now in
     let old = g.K.Sink.held c.args.sink.now in
     let now = g.K.Sink.held c.loop-event.sink in
-    let lawful = run_lawful g.D.Disk.state m disk w.trace w.side (inv.2 m disk h) in
+    let lawful = run_lawful g.D.Disk.state m disk u.trace c.loop-event.world.side u.run in
     err_if (SomePlayed g.D.Disk.state m disk all old now c.answer.new.world.side) c.from_residual.result OutOfMemory c.from_residual.ensures.1
-    (played_front (IsLawful m (clusters_on (g.D.Disk.state disk).seen)) all (drop c.loop-event.event-index all) w.trace c.loop-event.made c.loop-event.waiting.items old now inv.0 lawful inv.1)
+    (played_front (IsLawful m (clusters_on (g.D.Disk.state disk).seen)) all (drop c.loop-event.event-index all) u.trace c.loop-event.made c.loop-event.waiting.items old now u.parts lawful u.drafted)
 
 pub returns-in_err-made-clause-err : goal.returns-in_err-made-clause-err
 returns-in_err-made-clause-err g c = λ m disk h.
-    let inv = c.loop-event.invariant in
-    let w = c.loop-event.world in
+    let u = c.loop-event.invariant.0 m disk h in
     let next = c.answer.new.world in
-    let added = c.in_ok-text.ensures.adds in
+    let added = c.in_ok-text.ensures.ok in
     let all = c.args.events.now in
     let old = g.K.Sink.held c.args.sink.now in
     let new = g.K.Sink.held c.add.new.sink in
-    let run = subst (λ (ps : List (Event × Answer)). HasRunOn g.D.Disk.state m disk ps next.side) added.1 (c.in_ok-text.ensures.ok m disk (inv.2 m disk h)) in
-    let fails = c.in_err-made.ensures.err (texts (answers_of w.trace)) old inv.1 in
-    let piece : c.as_slice.result.now ≡ text added.0 = c.as_slice.ensures ∙ added.2 in
+    let run = added.2 m disk u.trace u.run in
+    let fails = c.in_err-made.ensures.err (texts (answers_of u.trace)) old u.drafted in
+    let piece : c.as_slice.result.now ≡ text added.0 = c.as_slice.ensures ∙ added.1 in
     let e = c.in_err-made.field-0.0 in
     err_if (SomePlayed g.D.Disk.state m disk all old new next.side) c.from_residual-in_err-made.result e c.from_residual-in_err-made.ensures.1
-    (played_early g.D.Disk.state m disk all c.loop-event.event-index w.trace next.side c.event-item.result added.0 old new e c.event-item.is c.loop-event-test.true inv.0 run
-    (subst (λ x. AddFails (texts (answers_of w.trace)) x old new e) piece fails))
+    (played_early g.D.Disk.state m disk all c.loop-event.event-index u.trace next.side c.event-item.result added.0 old new e c.event-item.is c.loop-event-test.true u.parts run
+    (subst (λ x. AddFails (texts (answers_of u.trace)) x old new e) piece fails))
 
 pub loop-event-preserved : goal.loop-event-preserved
 loop-event-preserved g c =
     let inv = c.loop-event.invariant in
     let w = c.loop-event.world in
     let next = c.answer.new.world in
-    let added = c.in_ok-text.ensures.adds in
+    let added = c.in_ok-text.ensures.ok in
     let same = c.in_ok-text.ensures.same in
     let old = g.K.Sink.held c.args.sink.now in
     let new = g.K.Sink.held c.add.new.sink in
-    let piece : c.as_slice.result.now ≡ text added.0 = c.as_slice.ensures ∙ added.2 in
-    let drafted = c.in_ok-made.ensures.ok (texts (answers_of w.trace)) old inv.1 in
-    let rest = next_event c.args.events.now c.loop-event.event-index w.trace c.event-item.result added.0 c.event-item.is c.loop-event-test.true inv.0 in (
-      subst (λ (ps : List (Event × Answer)). events_of ps ++ drop (c.loop-event.event-index + 1) c.args.events.now ≡ c.args.events.now) (sym added.1) rest,
-      drafted_next w.trace next.trace c.event-item.result added.0 c.as_slice.result.now c.add.new.waiting.items c.in_ok-made.made old new added.1 piece drafted,
-      λ m disk h. c.in_ok-text.ensures.ok m disk (inv.2 m disk h),
+    let event = c.event-item.result in
+    let piece : c.as_slice.result.now ≡ text added.0 = c.as_slice.ensures ∙ added.1 in (
+      λ m disk h.
+          let u = inv.0 m disk h in
+          let then : List (Event × Answer) = u.trace ++ (event, added.0) ∷ [] in
+          record {
+            trace = then;
+            run = added.2 m disk u.trace u.run;
+            parts = next_event c.args.events.now c.loop-event.event-index u.trace event added.0 c.event-item.is c.loop-event-test.true u.parts;
+            drafted = drafted_next u.trace then event added.0 c.as_slice.result.now c.add.new.waiting.items c.in_ok-made.made old new refl piece (c.in_ok-made.ensures.ok (texts (answers_of u.trace)) old u.drafted);
+          },
       c.in_ok-text.ensures.whole,
-      same_can w.side next.side c.args.events.now same.1 inv.4,
-      same.0 ∙ inv.5,
-      same_then c.args.world.now.side w.side next.side inv.6 same.1,
-      omega (arith, inv.7, c.in_ok-made.ensures.never_falls),
+      same_can w.side next.side c.args.events.now same.1 inv.2,
+      same.0 ∙ inv.3,
+      same_then c.args.world.now.side w.side next.side inv.4 same.1,
+      omega (arith, inv.5, c.in_ok-made.ensures.never_falls),
     )
 
 pub returns-in_err-write_all-clause-err : goal.returns-in_err-write_all-clause-err
 returns-in_err-write_all-clause-err g c = λ m disk h.
-    let inv = c.loop-event.invariant in
+    let u = c.loop-event.invariant.0 m disk h in
     let w = c.loop-event.world in
     let all = c.args.events.now in
     let old = g.K.Sink.held c.args.sink.now in
     let new = g.K.Sink.held c.write_all.new.sink in
     let written = rw c.as_slice-2.ensures.value at c.in_err-write_all.ensures.err in
     err_if (SomePlayed g.D.Disk.state m disk all old new w.side) c.from_residual-in_err-write_all.result SinkFault c.from_residual-in_err-write_all.ensures.1
-    (played_stops (λ trace. HasRunOn g.D.Disk.state m disk trace w.side) all (drop c.loop-event.event-index all) w.trace c.loop-event.made c.loop-event.waiting.items old (g.K.Sink.held c.loop-event.sink) new inv.0 (inv.2 m disk h) inv.1 written)
+    (played_stops (λ trace. HasRunOn g.D.Disk.state m disk trace w.side) all (drop c.loop-event.event-index all) u.trace c.loop-event.made c.loop-event.waiting.items old (g.K.Sink.held c.loop-event.sink) new u.parts u.run u.drafted written)
 
 pub returns-clause-ok : goal.returns-clause-ok
 returns-clause-ok g c = λ m disk h.
-    let inv = c.loop-event.invariant in
-    let w = c.loop-event.world in
+    let u = c.loop-event.invariant.0 m disk h in
     let all = c.args.events.now in
     let i = c.loop-event.event-index in
     let written = rw c.as_slice-2.ensures.value at c.in_ok-write_all.ensures.ok in
     record {
-      run = inv.2 m disk h;
-      each = played_all all (drop i all) w.trace inv.0 (drop_all i all c.loop-event-test.false);
-      written = drafted_all (texts (answers_of w.trace)) c.loop-event.waiting.items c.loop-event.made (g.K.Sink.held c.args.sink.now) (g.K.Sink.held c.loop-event.sink) (g.K.Sink.held c.write_all.new.sink) inv.1 written;
-      short = let l = inv.1.long in let s = inv.1.short in omega (arith, l, s);
+      trace = u.trace;
+      run = u.run;
+      each = played_all all (drop i all) u.trace u.parts (drop_all i all c.loop-event-test.false);
+      written = drafted_all (texts (answers_of u.trace)) c.loop-event.waiting.items c.loop-event.made (g.K.Sink.held c.args.sink.now) (g.K.Sink.held c.loop-event.sink) (g.K.Sink.held c.write_all.new.sink) u.drafted written;
+      short = let l = u.drafted.long in let s = u.drafted.short in omega (arith, l, s);
     }

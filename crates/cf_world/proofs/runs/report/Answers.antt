@@ -4,5 +4,5 @@ use Rattle.cf_world.proofs.runs.report.Goals as goal
 pub returns-clause-writes : goal.returns-clause-writes
 returns-clause-writes g c = λ disk h.
     rw c.status_of.ensures (
-    played_written g.D.Disk.state c.args.mode disk c.finish-disk.result.0 c.args.text.now c.args.events.now (g.K.Sink.held c.args.sink.now) (g.K.Sink.held c.play-played.new.sink) c.play-played.new.world c.play-played.result
+    played_written g.D.Disk.state c.args.mode disk c.finish-disk.result.0 c.args.text.now c.args.events.now (g.K.Sink.held c.args.sink.now) (g.K.Sink.held c.play-played.new.sink) c.play-played.new.world.side c.play-played.result
     c.requires.built c.requires.short (c.play-played.ensures.ok c.args.mode disk h) (c.play-played.ensures.err c.args.mode disk h) (c.finish-disk.ensures.disk c.args.mode disk))
