@@ -110,7 +110,7 @@ def rounds(folder, chosen):
 
 def words():
     parser = argparse.ArgumentParser(description=__doc__, formatter_class=argparse.RawDescriptionHelpFormatter)
-    parser.add_argument("--program", type=pathlib.Path, help="the program; else the one that ./cloudfiles builds")
+    parser.add_argument("--program", type=pathlib.Path, help="the program; else the proved one, where it is here")
     parser.add_argument("--keep", metavar="FOLDER", type=pathlib.Path, help="keep the scripts and last reports there")
     parser.add_argument("--runs", type=int, default=3, help="runs of each script, from 1 (3)")
     parser.add_argument("--divide", type=int, default=1, help="divide the sizes of the scripts by this number (1)")
@@ -123,9 +123,10 @@ def words():
 def main():
     chosen = words()
     if not chosen.program:
-        chosen.program = TOP / "target" / "cloudfiles"
-        if subprocess.run([TOP / "cloudfiles", "replay"], stdin=subprocess.DEVNULL, check=False).returncode != 0:
-            sys.exit("./cloudfiles does not run")
+        found = subprocess.run([sys.executable, TOP / "tools/proved.py", "find"], stdout=subprocess.PIPE, text=True, check=False)
+        if found.returncode != 0:
+            sys.exit("no proved program is here: ./cloudfiles --prove makes it")
+        chosen.program = pathlib.Path(found.stdout.strip())
     chosen.programs = [chosen.program] + ([chosen.other] if chosen.other else [])
     with tempfile.TemporaryDirectory() as made:
         folder = chosen.keep or pathlib.Path(made)

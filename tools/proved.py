@@ -1,0 +1,195 @@
+#!/usr/bin/env python3
+"""The proved program: found, taken from what an earlier gate proved on this machine, or proved.
+
+    tools/proved.py find     prints the path of the proved program of exactly these files, or ends with 1. It proves nothing
+    tools/proved.py prove    proves it on all processors, with a line on standard error for each crate that is done
+
+What is found lies in target/, which git ignores. `rt ci` keeps what it proved by the checksums of all that it read; so the
+program that is taken was proved from these very files.
+"""
+import hashlib
+import importlib.machinery
+import importlib.util
+import os
+import pathlib
+import re
+import shutil
+import subprocess
+import sys
+import time
+
+sys.dont_write_bytecode = True
+TOP = pathlib.Path(__file__).resolve().parent.parent
+TARGET = TOP / "target"
+PROGRAM = TARGET / "cloudfiles"
+STAMP = TARGET / "cloudfiles.sum"
+PARTS = ("src", "specs", "proofs")
+# The share of a crate of which no seconds are known.
+USUAL = 60
+
+
+def say(words):
+    print(f"cloudfiles: {words}", file=sys.stderr, flush=True)
+
+
+def below(name, uses, found):
+    """The crates that a crate stands on, each after those below it, and then the crate."""
+    for it in uses[name]:
+        if it in uses and it not in found:
+            below(it, uses, found)
+    if name not in found:
+        found.append(name)
+    return found
+
+
+def crates():
+    """The crates of the program, lowest first."""
+    uses = {}
+    for line in (TOP / "crates.txt").read_text(encoding="utf-8").splitlines():
+        name, colon, libraries = line.split("#")[0].partition(":")
+        if colon:
+            uses[name.split()[0]] = libraries.split()
+    return below("cloudfiles", uses, [])
+
+
+def files(names):
+    """The files that a proof of these crates reads."""
+    yield TOP / "crates.txt"
+    for name in names:
+        for part in PARTS:
+            yield from sorted(it for it in (TOP / "crates" / name / part).rglob("*") if it.is_file())
+
+
+def checksum(names):
+    made = hashlib.sha256()
+    for path in files(names):
+        made.update(f"{path.relative_to(TOP)}\0".encode() + path.read_bytes() + b"\0")
+    return made.hexdigest()
+
+
+def is_current(names):
+    """Whether the program in target/ was made of these files: none is newer, or all are the same."""
+    if not (PROGRAM.exists() and STAMP.exists()):
+        return False
+    made = STAMP.stat().st_mtime
+    if all(it.stat().st_mtime <= made for it in files(names)):
+        return True
+    if STAMP.read_text(encoding="ascii") != checksum(names):
+        return False
+    STAMP.touch()
+    return True
+
+
+def toolchain():
+    """The toolchain's command, as a module: it knows where `rt ci` keeps what it proved."""
+    path = os.path.realpath(shutil.which("rt"))
+    loader = importlib.machinery.SourceFileLoader("rt_of_kit", path)
+    made = importlib.util.module_from_spec(importlib.util.spec_from_loader("rt_of_kit", loader))
+    sys.modules["rt_of_kit"] = made
+    loader.exec_module(made)
+    return made
+
+
+def take(names):
+    """Takes the program that an earlier `rt ci` kept of these files. Whether there is one."""
+    os.chdir(TOP)
+    rt = toolchain()
+    rt.Crate.cuts_libraries = True
+    rt.rtlib.guarded()
+    rt.Crate.allowed = rt.handles_of(str(TOP))
+    every = [it for it in rt.crates_of(str(TOP)) if it.name in names]
+    kept = rt.Kept(every)
+    for crate in sorted(every, key=lambda it: names.index(it.name)):
+        os.makedirs(f"{crate.folder}/out", exist_ok=True)
+        if not kept.give(crate, False, kept.key(crate)):
+            return False
+        if not crate.is_program:
+            kept.is_built(crate)
+    TARGET.mkdir(exist_ok=True)
+    shutil.copyfile(TOP / "crates/cloudfiles/out/cloudfiles", PROGRAM)
+    PROGRAM.chmod(0o755)
+    STAMP.write_text(checksum(names), encoding="ascii")
+    return True
+
+
+def find(names):
+    if not shutil.which("rt"):
+        return is_current(names)
+    try:
+        return is_current(names) or take(names)
+    except (AttributeError, OSError, SystemExit):
+        # (another kit keeps what it proved in another way)
+        return False
+
+
+def seconds():
+    """The processor seconds that the proof of each crate takes, as they were measured once."""
+    lines = (TOP / "tools/seconds.txt").read_text(encoding="ascii").splitlines()
+    return {name: int(number) for name, number in (line.split() for line in lines if line and not line.startswith("#"))}
+
+
+def copied(names):
+    """A copy of the crates in target/, without their tests and edits."""
+    place = TARGET / "prove"
+    shutil.rmtree(place, ignore_errors=True)
+    for name in names:
+        for part in (*PARTS, "args", "stdin", "stdout"):
+            old, new = TOP / "crates" / name / part, place / "crates" / name / part
+            if old.is_dir():
+                shutil.copytree(old, new)
+            elif old.exists():
+                shutil.copyfile(old, new)
+    for name in ("crates.txt", "HANDLES"):
+        shutil.copyfile(TOP / name, place / name)
+    text = (place / "crates.txt").read_text(encoding="utf-8").splitlines()
+    kept = [line for line in text if line.startswith("#") or line.split(":")[0].split()[0] in names]
+    (place / "crates.txt").write_text("\n".join(kept) + "\n", encoding="utf-8")
+    return place
+
+
+def minutes_left(todo, started, done, weights):
+    """About how long the rest takes, by the crates that were proved in this run."""
+    share = lambda names: sum(weights.get(it, USUAL) for it in names)
+    rate = (time.monotonic() - started) / share(done) if done else 1 / (os.cpu_count() or 1)
+    return max(1, round(share(todo) * rate / 60))
+
+
+def prove(names):
+    place, weights, started, done, todo = copied(names), seconds(), time.monotonic(), [], list(names)
+    say(f"proving {len(names)} crates, about {minutes_left(todo, started, done, weights)} minutes; the whole log is {TARGET}/prove.log")
+    environment = dict(os.environ, RT_JOBS=str(os.cpu_count() or 1))
+    with open(TARGET / "prove.log", "w", encoding="utf-8") as log:
+        run = subprocess.Popen(["rt", "ci", "cloudfiles"], cwd=place, env=environment, text=True, errors="replace",
+                               stdin=subprocess.DEVNULL, stdout=subprocess.PIPE, stderr=subprocess.STDOUT)
+        for line in run.stdout:
+            log.write(line)
+            found = re.match(r"rt: (\w+) (proved$|is kept)", line)
+            if found and found[1] in todo:
+                todo.remove(found[1])
+                if found[2] == "proved":
+                    done.append(found[1])
+                left = f"about {minutes_left(todo, started, done, weights)} minutes left" if todo else "done"
+                say(f"{len(names) - len(todo)} of {len(names)} crates: {found[1]}; {left}")
+            elif "NOT PROVED" in line:
+                say(line.strip())
+    status = run.wait()
+    shutil.rmtree(place, ignore_errors=True)
+    return status == 0 and find(names)
+
+
+def main(words):
+    if words not in (["find"], ["prove"]):
+        sys.exit(__doc__)
+    names = crates()
+    if words == ["prove"] and not shutil.which("rt"):
+        say("the toolchain (rt) is not here")
+        return 1
+    TARGET.mkdir(exist_ok=True)
+    if not (find(names) or words == ["prove"] and prove(names)):
+        return 1
+    print(PROGRAM)
+    return 0
+
+
+if __name__ == "__main__":
+    sys.exit(main(sys.argv[1:]))
