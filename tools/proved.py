@@ -100,6 +100,8 @@ def take(names):
     every = [it for it in rt.crates_of(str(TOP)) if it.name in names]
     kept = rt.Kept(every)
     for crate in sorted(every, key=lambda it: names.index(it.name)):
+        # (what stands there already would make the kept one count as damaged)
+        shutil.rmtree(f"{crate.folder}/out/rlib", ignore_errors=True)
         os.makedirs(f"{crate.folder}/out", exist_ok=True)
         if not kept.give(crate, False, kept.key(crate)):
             return False

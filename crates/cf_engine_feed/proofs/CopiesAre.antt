@@ -8,7 +8,7 @@ use Rattle.cf_model.specs.Skips.{try_change}
 use Rattle.cf_model.specs.State.{State, items_now}
 use Rattle.cf_engine_feed.specs.Lists.{copied_off, copy_of}
 use Rattle.cf_engine_feed.specs.Turns.{copy_if, do_step}
-use Rattle.cf_engine_feed.specs.declared.steps.Step.TheVariants.{CopyOff}
+use Rattle.cf_engine_feed.specs.declared.entry_steps.Step.TheVariants.{CopyOff}
 use Rattle.cf_tree.proofs.Depths.{only}
 
 pub copy_is : (s : State) (item : ItemId) (c : Change) → copy_of s.filter.volume.next_item (items_now s) item ≡ Some c → do_step (CopyOff item) s ≡ try_change c s

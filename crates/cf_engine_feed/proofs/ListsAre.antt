@@ -20,8 +20,8 @@ use Rattle.cf_model.specs.Trees.{bind}
 use Rattle.cf_model.specs.Words.{when}
 use Rattle.cf_engine_feed.specs.Lists.{adopt_steps, applied, gone_steps, is_removable, make_of, make_steps, new_over, untarget_steps}
 use Rattle.cf_engine_feed.specs.Turns.{do_steps}
-use Rattle.cf_engine_feed.specs.declared.steps.Step.{Step}
-use Rattle.cf_engine_feed.specs.declared.steps.Step.TheVariants.{Apply, Mark, Seen}
+use Rattle.cf_engine_feed.specs.declared.entry_steps.Step.{Step}
+use Rattle.cf_engine_feed.specs.declared.entry_steps.Step.TheVariants.{Apply, Mark, Seen}
 use Rattle.cf_engine_feed.proofs.ChangesEnd.{IsAfter, change_ends}
 use Rattle.cf_engine_feed.proofs.TreesSame.{and_same, last_step, three_steps}
 use Rattle.cf_tree.proofs.Walks.{same_item_id}

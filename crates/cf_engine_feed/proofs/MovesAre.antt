@@ -26,8 +26,8 @@ use Rattle.cf_model.specs.Words.{is_empty, part, same, says, when}
 use Rattle.cf_engine_feed.specs.Lists as lists
 use Rattle.cf_engine_feed.specs.Lists.{applied, enter, lift, move_steps, off, take_steps}
 use Rattle.cf_engine_feed.specs.Turns.{copy_if, copy_now, do_steps}
-use Rattle.cf_engine_feed.specs.declared.steps.Step as step
-use Rattle.cf_engine_feed.specs.declared.steps.Step.TheVariants.{Apply, CopyOff, Mark, Seen}
+use Rattle.cf_engine_feed.specs.declared.entry_steps.Step as step
+use Rattle.cf_engine_feed.specs.declared.entry_steps.Step.TheVariants.{Apply, CopyOff, Mark, Seen}
 use Rattle.cf_engine_feed.proofs.ChangesEnd.{IsAfter, change_ends, seen_ends}
 use Rattle.cf_engine_feed.proofs.MovedItems.{found_changed, other_stays, root_name_stays, under_stays}
 use Rattle.cf_engine_feed.proofs.TreesSame.{and_and, and_same, last_step, steps_append}

@@ -5,7 +5,7 @@ use Rattle.cf_model.specs.Arrows.{Arrow, and_then, ret, when_ok}
 use Rattle.cf_model.specs.State.{State}
 use Rattle.cf_model.specs.Trees.{Asked, Ends, Fork, Ret, Step, Tree, bind}
 use Rattle.cf_engine_feed.specs.Turns.{do_step, do_steps}
-use Rattle.cf_engine_feed.specs.declared.steps.Step as declared
+use Rattle.cf_engine_feed.specs.declared.entry_steps.Step as declared
 
 -- two ways to go on that agree wherever the first part ends
 pub bind_same : {S A B : Type 0} (p : Tree S A) (g h : A → S → Tree S B) → ((a : A) (t : S) → Ends p a t → g a t ≡ h a t) → bind p g ≡ bind p h

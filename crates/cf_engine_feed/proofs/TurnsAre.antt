@@ -20,7 +20,7 @@ use Rattle.cf_engine_feed.specs.Lists.{changed_turn, gone_steps, gone_turn, has_
 use Rattle.cf_engine_feed.specs.Lists as lists
 use Rattle.cf_engine_feed.specs.Premises.{IsOf, IsProper, Knows}
 use Rattle.cf_engine_feed.specs.Turns.{IsTurn, do_steps}
-use Rattle.cf_engine_feed.specs.declared.steps.Turn.TheVariants.{Nothing, Postponed, Later, Do}
+use Rattle.cf_engine_feed.specs.declared.entry_steps.Turn.TheVariants.{Nothing, Postponed, Later, Do}
 use Rattle.cf_engine_feed.proofs.ListsAre.{gone_is, new_is}
 use Rattle.cf_engine_feed.proofs.MovesAre.{MayMove, changed_is, flipped}
 use Rattle.cf_table.specs.Tables.{Table}

@@ -15,10 +15,10 @@ use Rattle.cf_model.specs.LookUp.{child_of, children}
 use Rattle.cf_model.specs.Numbers.{no_item, no_usn, root_id}
 use Rattle.cf_model.specs.Skips.{conflict_move, if_other}
 use Rattle.cf_model.specs.Words.{is_empty, part, says, when}
-use Rattle.cf_engine_feed.specs.declared.steps.Step.{Step}
-use Rattle.cf_engine_feed.specs.declared.steps.Step.TheVariants.{Apply, Mark, Seen, CopyOff}
-use Rattle.cf_engine_feed.specs.declared.steps.Turn.{Turn}
-use Rattle.cf_engine_feed.specs.declared.steps.Turn.TheVariants.{Nothing, Postponed, Later, Do}
+use Rattle.cf_engine_feed.specs.declared.entry_steps.Step.{Step}
+use Rattle.cf_engine_feed.specs.declared.entry_steps.Step.TheVariants.{Apply, Mark, Seen, CopyOff}
+use Rattle.cf_engine_feed.specs.declared.entry_steps.Turn.{Turn}
+use Rattle.cf_engine_feed.specs.declared.entry_steps.Turn.TheVariants.{Nothing, Postponed, Later, Do}
 
 -- a change that there may be
 abbrev pub applied : Option Change → List Step

@@ -7,10 +7,10 @@ use Rattle.cf_model.specs.Feeds.{copy_off, is_later, take_turn, turn}
 use Rattle.cf_model.specs.Items.{Item, item_of}
 use Rattle.cf_model.specs.Skips.{try_change, try_mark_now, try_seen}
 use Rattle.cf_model.specs.State.{State, items_now}
-use Rattle.cf_engine_feed.specs.declared.steps.Step.{Step}
-use Rattle.cf_engine_feed.specs.declared.steps.Step.TheVariants.{Apply, Mark, Seen, CopyOff}
-use Rattle.cf_engine_feed.specs.declared.steps.Turn.{Turn}
-use Rattle.cf_engine_feed.specs.declared.steps.Turn.TheVariants.{Nothing, Postponed, Later, Do}
+use Rattle.cf_engine_feed.specs.declared.entry_steps.Step.{Step}
+use Rattle.cf_engine_feed.specs.declared.entry_steps.Step.TheVariants.{Apply, Mark, Seen, CopyOff}
+use Rattle.cf_engine_feed.specs.declared.entry_steps.Turn.{Turn}
+use Rattle.cf_engine_feed.specs.declared.entry_steps.Turn.TheVariants.{Nothing, Postponed, Later, Do}
 
 -- the item's local writes go on in a file of their own; nothing where the item is gone
 abbrev pub copy_if : Option Item → Arrow State Bool

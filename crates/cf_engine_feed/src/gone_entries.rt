@@ -7,8 +7,8 @@ ghost use Rattle.cf_engine_feed.specs.Lists.{applied, gone_steps, has_child, is_
 ghost use Rattle.cf_table.specs.Means.{Means};
 ghost use Rattle.cf_table.specs.Tables.{child_rows, ids_of, MeansAll, rows_by_name};
 
+use crate::entry_steps::Step;
 use crate::identities::untargeted;
-use crate::steps::Step;
 use cf_base::{Change, ItemId, OutOfMemory, Sequence};
 use cf_table::{NO_USN, Row, Rows};
 use std::alloc::Global;

@@ -11,8 +11,8 @@ ghost use Rattle.cf_model.specs.State.{State, items_now};
 ghost use Rattle.cf_model.specs.Trees.{Does};
 ghost use Rattle.cf_engine_feed.specs.Lists.{copy_of};
 ghost use Rattle.cf_engine_feed.specs.Turns.{do_step, do_steps, IsTurn};
-ghost use Rattle.cf_engine_feed.specs.declared.steps.Step.{Step};
-ghost use Rattle.cf_engine_feed.specs.declared.steps.Turn.{Turn};
+ghost use Rattle.cf_engine_feed.specs.declared.entry_steps.Step.{Step};
+ghost use Rattle.cf_engine_feed.specs.declared.entry_steps.Turn.{Turn};
 
 /// Whoever does the steps of an entry, wherever the device stops, does what the definitions say of the entry's turn.
 pub fn steps_do_the_turn()

@@ -6,6 +6,7 @@
 
 mod ancestors;
 mod changed_entries;
+mod entry_steps;
 mod gone_entries;
 mod identities;
 mod known;
@@ -13,12 +14,11 @@ mod laws;
 mod names;
 mod new_entries;
 mod orders;
-mod steps;
 mod turns;
 
 pub use changed_entries::copy_off;
+pub use entry_steps::{Step, Turn};
 pub use known::Known;
 pub use laws::{a_copy_is_its_change, steps_do_the_turn};
 pub use orders::{order, places_are_in_turn};
-pub use steps::{Step, Turn};
 pub use turns::steps;

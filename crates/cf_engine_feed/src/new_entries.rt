@@ -11,10 +11,10 @@ ghost use Rattle.cf_table.specs.Tables.{MeansAll};
 ghost use Rattle.cf_tree.specs.Trees.{IsTree};
 
 use crate::ancestors::ROOT;
+use crate::entry_steps::Step;
 use crate::gone_entries::push_change;
 use crate::identities::{entry_identity, has_no_target, no_identity};
 use crate::names::{name_of, off};
-use crate::steps::Step;
 use cf_base::{Change, Entry, ItemId, Kind, OutOfMemory, Policy, Population, SeenPath, Sequence};
 use cf_table::{NO_USN, Row, Rows};
 use std::alloc::Global;

@@ -11,10 +11,10 @@ ghost use Rattle.cf_table.specs.Tables.{MeansAll};
 ghost use Rattle.cf_tree.specs.Trees.{IsTree};
 
 use crate::changed_entries::{changed, is_newer};
+use crate::entry_steps::Turn;
 use crate::gone_entries::{gone, has_child};
 use crate::known::Known;
 use crate::new_entries::new_entry;
-use crate::steps::Turn;
 use cf_base::{Entry, ItemId, OutOfMemory, Policy};
 use cf_table::{Row, Rows};
 use std::alloc::Global;

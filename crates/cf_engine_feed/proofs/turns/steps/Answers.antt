@@ -3,7 +3,7 @@ use Rattle.cf_model.specs.Feeds.{parent_here}
 use Rattle.cf_model.specs.Identities.{by_target}
 use Rattle.cf_model.specs.State.{items_now}
 use Rattle.cf_engine_feed.specs.Turns.{IsTurn}
-use Rattle.cf_engine_feed.specs.declared.steps.Turn.{Turn}
+use Rattle.cf_engine_feed.specs.declared.entry_steps.Turn.{Turn}
 use Rattle.cf_engine_feed.proofs.TurnsAre.{item_there, parent_there, turn_is}
 use Rattle.std.specs.Prelude.{option_copied}
 use Rattle.cf_engine_feed.proofs.turns.steps.Goals as goal
