@@ -54,7 +54,7 @@ pub enum EngineEvent {
     Work,
     /// Passes of the engine until nothing is left to do.
     Sync,
-    /// Files are dehydrated until at most so many blocks are used.
+    /// Files are dehydrated until at most that many blocks are used.
     Space { blocks: u32 },
 }
 

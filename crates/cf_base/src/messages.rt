@@ -84,7 +84,7 @@ pub enum Why {
     TooLarge,
 }
 
-/// An item as the remote tells it. `changed` is the clock of its last change; `len` is in bytes.
+/// An item as the remote reports it. `changed` is the clock of its last change; `len` is in bytes.
 #[derive(Clone, Debug, Drop)]
 pub struct Entry {
     pub rid: Rid,

@@ -40,7 +40,7 @@ impl From<AllocError> for WordsError {
 }
 
 /// The command that the words after the program's name are. Refused as Usage exactly where `clap` does not take the words,
-/// but for want of memory, which is answered as OutOfMemory.
+/// but where memory runs out, which is answered as OutOfMemory.
 pub fn command_of(alloc: Global, words: &[String]) -> Result<Command, WordsError>
     ensures ok { IfOk result (Names (map string_bytes words.now)) }
     ensures usage { IsErrOf result WordsError.Usage → AreTaken (map string_bytes words.now) → ⊥ }

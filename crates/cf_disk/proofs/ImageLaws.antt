@@ -139,7 +139,7 @@ range_over low high xs ys order room same outside = ext_get_or 0 (over low (part
     fits : low + length (part low (high - low) xs) ≤ length ys
     fits = omega (arith, size)
 
--- where nothing is pending outside of a range, the bytes of that range are all that a power has to look at
+-- where nothing is pending outside of a range, the bytes of that range are all that a power cut has to look at
 module _ (low high : ℕ) (h : Held) (whole : IsWhole h) (order : low ≤ high) (room : high ≤ length h.bytes) (quiet : IsQuietOutside low high h.pending) where
   abbrev cut_bytes : ℕ → List ℕ
   cut_bytes s = mixed s (part low (high - low) h.bytes) (part low (high - low) h.synced) (take (high - low) (drop low h.pending))

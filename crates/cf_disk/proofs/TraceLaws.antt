@@ -46,7 +46,7 @@ pub run_none : (h : Held) → run_calls h [] ≡ h
 unfolding run_calls
 run_none h = refl
 
--- a power begins a new past
+-- a power cut begins a new past
 pub moment_power : (before new : Option ℕ) (calls : ℕ) → calls < 2 ^ 64 → ((b : ℕ) → before ≡ Some b → b < 2 ^ 64) → MovesOn before calls new → moment_of before calls ≤ moment_of new 0
 moment_power None new calls few small moves = rw moves (omega arith)
 moment_power (Some b) None calls few small moves = omega (arith, few, small b refl)
@@ -57,7 +57,7 @@ since_power None new start calls t image le moves left = subst (λ (o : Option �
 since_power (Some b) None start calls t image le moves left = left
 since_power (Some b) (Some n) start calls t image le moves left = omega (arith, le, moves, left.0)
 
--- the list of powers has one more, or is no longer told
+-- the list of power cuts has one more, or is no longer reported
 pub adds_power : (choice : Choice) (image seen : List ℕ) (old new : PowerBook) → new ≡ added choice image old → image ≡ seen
     → AddsPower choice seen (cond old.told (Some old.kept) None) (cond new.told (Some new.kept) None)
 adds_power choice image seen old new is same = rw (is, same) (cases old.told (ltb (length old.kept) old.most))

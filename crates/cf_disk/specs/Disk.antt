@@ -10,16 +10,16 @@ pub record State : Type 1 where
   pub may_leave : List ℕ → Type 0
   -- the time, which does not fall
   pub moment : ℕ
-  -- which images a crash at some moment from that time on may have left, where the disk tells it (else none)
+  -- which images a crash at some moment from that time on may have left, where the disk reports it (else none)
   pub left_since : ℕ → List ℕ → Type 0
   -- from which times on it tells them all
   pub tells : ℕ → Type 0
-  -- each power so far, its choice and the image that it left, in order, where the disk tells it
+  -- each power cut so far, its choice and the image that it left, in order, where the disk reports it
   pub powers : Option (List (Choice × List ℕ))
   -- how many bytes were written, and how often a call failed
   pub written : ℕ
   pub faults : ℕ
-  -- the armed number (how many further calls pass, or none armed), where the disk tells it: then exactly the calls
+  -- the armed number (how many further calls pass, or none armed), where the disk reports it: then exactly the calls
   -- after those fail
   pub armed : Option (Option ℕ)
 
@@ -70,7 +70,7 @@ pub record Goes (old new : State) : Type 0 where
 abbrev pub capped : ℕ → ℕ
 capped n = min n (2 ^ 64 - 1)
 
--- n bytes were written, or at most so many where the call failed
+-- n bytes were written, or at most that many where the call failed
 pub record Counts {T E : Type 0} (n : ℕ) (result : Result T E) (old new : State) : Type 0 where
   pub exact : OnOk result (new.written ≡ capped (old.written + n))
   pub least : old.written ≤ new.written
@@ -81,13 +81,13 @@ pub record Rises {T E : Type 0} (result : Result T E) (old new : State) : Type 0
   pub least : old.faults ≤ new.faults
   pub failed : IsErr result → capped (old.faults + 1) ≤ new.faults
 
--- the list of powers has one more, or is no longer told
+-- the list of power cuts has one more, or is no longer reported
 abbrev pub AddsPower : Choice → List ℕ → Option (List (Choice × List ℕ)) → Option (List (Choice × List ℕ)) → Type 0
 AddsPower choice image old None = Unit {0}
 AddsPower choice image None (Some new) = Unit {0} → ⊥
 AddsPower choice image (Some old) (Some new) = new ≡ old ++ (choice, image) ∷ []
 
--- what a power does to the counts and to time
+-- what a power cut does to the counts and to time
 pub record Powers (choice : Choice) (old new : State) : Type 0 where
   pub size : size_of new ≡ size_of old
   pub later : old.moment ≤ new.moment
@@ -97,7 +97,7 @@ pub record Powers (choice : Choice) (old new : State) : Type 0 where
   pub faults : new.faults ≡ old.faults
   pub armed : new.armed ≡ option_map (λ _. None) old.armed
 
--- Each image that a crash may leave after a call has P, and so has, where the disk tells them, each that a crash
+-- Each image that a crash may leave after a call has P, and so has, where the disk reports them, each that a crash
 -- at some moment of the call may have left.
 pub record Leaves (old new : State) (P : List ℕ → Type 0) : Type 0 where
   pub later : old.moment ≤ new.moment

@@ -4,7 +4,7 @@ use Rattle.cf_disk.specs.declared.mem_disks.MemDisk.{MemDisk}
 use Rattle.cf_disk.specs.Disk.{State, size_of}
 use Rattle.cf_disk.specs.Images.{IsImage}
 
--- it tells its armed number, and neither its past nor its powers
+-- it tells its armed number, and neither its past nor its power cuts
 abbrev pub mem_state : MemDisk → State
 mem_state d = record {
   seen = d.medium.bytes;

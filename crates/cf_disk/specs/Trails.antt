@@ -33,7 +33,7 @@ unfoldable pub run_calls : Held → List (Head × List ℕ) → Held
 run_calls h [] = h
 run_calls h (c ∷ cs) = run_calls (step c h) cs
 
--- how many moments lie before a power, where it is told: those before the last one, one a call, and the power's own
+-- how many moments lie before a power cut, where it is told: those before the last one, one a call, and the power cut's own
 abbrev pub MovesOn : Option ℕ → ℕ → Option ℕ → Type 0
 MovesOn None calls new = new ≡ None
 MovesOn (Some before) calls None = Unit {0}

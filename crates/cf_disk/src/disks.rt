@@ -65,7 +65,7 @@ pub trait Disk {
         ensures durable { Only (state self.new).seen (state self.new) }
         ensures powers { Powers choice (state self.old) (state self.new) };
 
-    /// Where the disk tells the images since a time, those of this moment are among them.
+    /// Where the disk reports the images since a time, those of this moment are among them.
     ghost counts_now: { (disk : Self) (t : ℕ) (c : List ℕ) → t ≤ (state disk).moment → (state disk).tells t → (state disk).may_leave c → (state disk).left_since t c };
 
     /// Since this moment there are no others.

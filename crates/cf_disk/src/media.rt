@@ -15,7 +15,7 @@ use std::marker::Model;
 /// The bytes of a disk, those of the last sync, and a flag for each byte that was written since. They lie in memory up to
 /// the last place that was ever written; all behind it is zero and durable. Room for the whole is taken at the start, so
 /// that a write takes none, and what was never touched costs nothing. The flags that are set lie in the ranges, so that a
-/// sync goes over these places alone, however far apart they lie, and a power from the first to the last of them.
+/// sync goes over these places alone, however far apart they lie, and a power cut from the first to the last of them.
 #[derive(Drop)]
 pub(crate) struct Medium {
     bytes: Vec<u8>,
@@ -101,7 +101,7 @@ impl Medium {
         self.ranges.clear();
     }
 
-    // What a power leaves of the pending bytes, as if it had been written.
+    // What a power cut leaves of the pending bytes, as if it had been written.
     fn cut(&mut self, choice: Choice)
         ensures is { self.new ≡ record { bytes = left_by choice self.old; synced = self.old.synced; pending = self.old.pending } }
         ensures whole { IsWhole self.old }

@@ -10,7 +10,7 @@ use cf_base::{Choice, OutOfMemory};
 use std::alloc::Global;
 
 /// A disk in memory. It fails exactly while an armed number is spent. It tells that number, and neither the images since
-/// a time nor its powers.
+/// a time nor its power cuts.
 #[derive(Drop)]
 pub struct MemDisk {
     medium: Medium,
@@ -84,7 +84,7 @@ impl Disk for MemDisk {
         self.armed = Some(calls);
     }
 
-    /// What the power leaves of the pending bytes is the choice's: all that was written, all that was synced, or byte by
+    /// What the power cut leaves of the pending bytes is the choice's: all that was written, all that was synced, or byte by
     /// byte what the generator of the given number says.
     fn power(&mut self, choice: Choice)
         ensures left { (mem_state self.old).may_leave (mem_state self.new).seen }

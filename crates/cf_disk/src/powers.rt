@@ -1,4 +1,4 @@
-//! The powers of a disk that keeps them.
+//! The power cuts of a disk that keeps them.
 
 ghost use Rattle.std.specs.Prelude.{◌≡◌, ◌≤◌, ◌<◌, ◌+◌, ◌++◌, ◌∷◌, [], List, ℕ, length, IfOk, true, false};
 ghost use Rattle.cf_disk.specs.PowerBooks.{PowerBook, added};
@@ -7,7 +7,7 @@ use cf_base::{Choice, OutOfMemory};
 use std::alloc::Global;
 use std::marker::Model;
 
-/// The first powers, each with its choice and the image that it left, in room that is taken when it is made. It tells
+/// The first power cuts, each with its choice and the image that it left, in room that is taken when it is made. It tells
 /// them until there are more.
 #[derive(Drop)]
 pub(crate) struct KeptPowers {
@@ -31,7 +31,7 @@ impl Model for KeptPowers {
 }
 
 impl KeptPowers {
-    /// No power yet. OutOfMemory also where the images have no number of bytes that a machine knows.
+    /// No power cut yet. OutOfMemory also where the images have no number of bytes that a machine knows.
     pub(crate) fn new(alloc: Global, size: usize, powers: usize) -> Result<KeptPowers, OutOfMemory>
         ensures { IfOk result (λ p. p ≡ record { kept = []; size = size; most = powers; told = true }) }
     {
@@ -47,7 +47,7 @@ impl KeptPowers {
         })
     }
 
-    /// One more power.
+    /// One more power cut.
     pub(crate) fn add(&mut self, choice: Choice, image: &[u8])
         requires { length image.now ≡ self.old.size }
         ensures { self.new ≡ added choice image.now self.old }

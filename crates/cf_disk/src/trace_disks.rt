@@ -13,8 +13,8 @@ use crate::trails::{Calls, Head, Kind};
 use cf_base::{Choice, OutOfMemory};
 use std::alloc::Global;
 
-/// A disk in memory that also keeps each `read`, `write` and `sync` since the last power, with its bytes, and its first
-/// powers. So it tells the images since each time that is not before the last power, and the list of its powers until
+/// A disk in memory that also keeps each `read`, `write` and `sync` since the last power cut, with its bytes, and its first
+/// power cuts. So it tells the images since each time that is not before the last power cut, and the list of its power cuts until
 /// there are more than it has room for. A call that finds no room fails without being done. It does not tell its
 /// armed number.
 #[derive(Drop)]
@@ -23,7 +23,7 @@ pub struct TraceDisk {
     start: Vec<u8>,
     calls: Calls,
     powers: KeptPowers,
-    /// How many moments lie before the last power, while that can be told.
+    /// How many moments lie before the last power cut, while that can be told.
     before: Option<u64>,
     armed: Option<u32>,
     faults: u64,
@@ -36,7 +36,7 @@ pub struct TraceDisk {
     ghost small_written: { written < 2 ^ 64 },
 }
 
-// How many moments lie before a power, where so many lay before the one before it.
+// How many moments lie before a power cut, where so many lay before the one before it.
 fn moments_after(before: Option<u64>, calls: usize) -> Option<u64>
     ensures moves { MovesOn before calls result }
     ensures small { (b : ℕ) → before ≡ Some b → b < 2 ^ 64 }
@@ -63,7 +63,7 @@ impl TraceDisk {
     ghost use Rattle.cf_disk.specs.TraceState.{trace_state};
 
     /// A disk of so many bytes, all of them zero and durable, with none armed; with room for so many calls with so many
-    /// bytes between two powers, and for so many powers. No later call takes memory.
+    /// bytes between two power cuts, and for so many power cuts. No later call takes memory.
     pub fn new(
         alloc: Global,
         size: u64,
@@ -179,7 +179,7 @@ impl Disk for TraceDisk {
         self.armed = Some(calls);
     }
 
-    /// What the power leaves of the pending bytes is the choice's, as with `MemDisk`.
+    /// What the power cut leaves of the pending bytes is the choice's, as with `MemDisk`.
     fn power(&mut self, choice: Choice)
         ensures left { (trace_state self.old).may_leave (trace_state self.new).seen }
         ensures durable { Only (trace_state self.new).seen (trace_state self.new) }

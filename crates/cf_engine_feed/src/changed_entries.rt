@@ -168,7 +168,7 @@ fn copied_off(alloc: Global, rows: &Rows, row: &Row) -> Result<Change, OutOfMemo
 
 /// The change of a step `CopyOff`, on the rows as they are at its turn: a copy of the file under the next id, in the file's
 /// directory, under its conflict name there. None where there is no such item. Bytes that are no name, which no item has, are
-/// answered as want of memory.
+/// answered as out of memory.
 pub fn copy_off(alloc: Global, rows: &Rows, item: ItemId) -> Result<Option<Change>, OutOfMemory>
     ensures { IfOk result (λ o. (items : List Item) → MeansAll rows.now.rows items → o ≡ copy_of rows.now.next items item) }
 {

@@ -11,7 +11,7 @@ use cf_table::Rows;
 use cf_tree::conflict_name;
 use std::alloc::Global;
 
-/// The name that the bytes are. Bytes that are none, which no entry and no item has, are answered as want of memory.
+/// The name that the bytes are. Bytes that are none, which no entry and no item has, are answered as out of memory.
 pub(crate) fn name_of(alloc: Global, bytes: &[u8]) -> Result<Name, OutOfMemory>
     ensures { IfOk result (λ n. (n ≡ bytes.now) × (is_name bytes.now ≡ true)) }
 {

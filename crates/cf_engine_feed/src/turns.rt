@@ -157,7 +157,7 @@ fn turn_by_rows(
 ///   writes go on in a copy.
 ///
 /// It takes time by the depth of the parent, the children of a directory that is gone, and the conflict names that are taken. Bytes
-/// that are no name, which no entry and no item has, are answered as want of memory.
+/// that are no name, which no entry and no item has, are answered as out of memory.
 pub fn steps(
     alloc: Global,
     rows: &Rows,

@@ -58,7 +58,7 @@ pub(crate) fn new_items(alloc: Global, entries: &[Entry]) -> Result<Sequence<New
     Ok(list)
 }
 
-// The name that the bytes are. Bytes that are none, which no entry that fits has, are answered as want of memory.
+// The name that the bytes are. Bytes that are none, which no entry that fits has, are answered as out of memory.
 fn name_of(alloc: Global, bytes: &[u8]) -> Result<Name, OutOfMemory>
     ensures { IfOk result (λ n. (n ≡ bytes.now) × (is_name bytes.now ≡ true)) }
 {
@@ -79,7 +79,7 @@ fn path_of(alloc: Global, id: u64, entry: &Entry) -> Result<SeenPath, OutOfMemor
     })
 }
 
-// After the last id there is none, which is answered as want of memory.
+// After the last id there is none, which is answered as out of memory.
 fn following(id: u64) -> Result<u64, OutOfMemory>
     ensures { IfOk result (λ n. n ≡ id + 1) }
 {

@@ -29,7 +29,7 @@ fn any_new(entries: &[QueueEntry]) -> bool
 }
 
 /// Whether a new item is on its way to the remote, by the auxiliary records of a volume that is open. Records that are those of no
-/// book, which such a volume does not have, are answered as want of memory.
+/// book, which such a volume does not have, are answered as out of memory.
 #[tactic(auto, using(crate::proofs::Uploaded::any_of_book))]
 pub(crate) fn sends_new(alloc: Global, records: &[AuxRecord]) -> Result<bool, OutOfMemory>
     ensures { (b : Book) → IsKeepable b → records.now ≡ aux_records b → IfOk result (λ x. x ≡ list_any is_new_entry b.entries) }

@@ -1,4 +1,4 @@
--- What the remote tells.
+-- What the remote reports.
 use Rattle.std.specs.Prelude.{List, [], ◌∷◌}
 use Prim.Native.String.{String}
 

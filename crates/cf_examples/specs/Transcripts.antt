@@ -38,7 +38,7 @@ HasBadLine mode ls number = ◌≡◌ {A = Script} (read mode (ended ls)) (BadLi
 
 -- choices
 
--- the device stops in the step after so many of the event
+-- the device stops in the step after that many of the event
 abbrev pub stopping : ℕ → Choices
 stopping steps = record plainly { stop = Some steps }
 
@@ -50,7 +50,7 @@ second_way = record plainly { forks = true ∷ [] }
 abbrev pub meeting : List Telling → Choices
 meeting tellings = record plainly { tellings = tellings }
 
--- the same choices after so many events in which all goes as usual
+-- the same choices after that many events in which all goes as usual
 abbrev pub after : ℕ → List Choices → List Choices
 after events choices = replicate events plainly ++ choices
 

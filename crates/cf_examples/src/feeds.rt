@@ -1,4 +1,4 @@
-//! What the remote tells.
+//! What the remote reports.
 
 ghost use Rattle.cf_base.specs.declared.policies.Mode.TheVariants.{Replay};
 ghost use Rattle.cf_examples.specs.Transcripts.{Plays};

@@ -41,7 +41,7 @@ anchored_book id i v there given fits h = record {
     by key true = of_found (λ (j : Item). above (next_number v) j.number ≡ true) (λ j. j.id.0 == id.0) v.items i h.given there
     by key false = h.book.anchors key
 
--- the row tells whether the item has a number
+-- the row says whether the item has a number
 abbrev pub unnumbered : Option Row → Bool
 unnumbered o = part (λ (r : Row). is_no_usn r.number) true o
 

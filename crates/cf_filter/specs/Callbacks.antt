@@ -40,13 +40,13 @@ CutOff {P} answers p s (acts ∷ next ∷ more) q t =
     (ask : Ask) × (rest : List Ask) × (s.outbox ≡ ask ∷ rest) × (mid : Filter) × Acts (with_rest rest s) acts mid × NoneFailed acts
     × (after : P) × AnswersOn answers ask p (with_rest rest s) acts after × CutOff answers after mid (next ∷ more) q t
 
--- The callbacks were called, at most so many, and none is left.
+-- The callbacks were called, at most that many, and none is left.
 pub record CalledBack {P : Type 0} (most : ℕ) (answers : Answering P) (p : P) (s : Filter) (q : P) (t : Filter) : Type 0 where
   pub runs : List (List Act)
   pub few : length runs ≤ most
   pub drained : Drained answers p s runs q t
 
--- They were called, at most so many, until an operation of one met Device.
+-- They were called, at most that many, until an operation of one met Device.
 pub record CutBack {P : Type 0} (most : ℕ) (answers : Answering P) (p : P) (s : Filter) (q : P) (t : Filter) : Type 0 where
   pub runs : List (List Act)
   pub few : length runs ≤ most

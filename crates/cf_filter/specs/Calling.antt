@@ -35,7 +35,7 @@ is_stopped (Err e) = true
 unfoldable pub shows_done : Unit {0} → Shown
 shows_done u = shown.Done
 
--- the value that was shown, or want of memory
+-- the value that was shown, or out of memory
 abbrev pub Takes : {A : Type 0} → (A → Shown) → Result Shown CallError → Told A → Type 0
 Takes show q (Ok (Ok a)) = q ≡ Ok (show a)
 Takes show q (Ok (Err c)) = q ≡ Ok (shown.Refused c)
@@ -48,7 +48,7 @@ noted notes x = record x { desk = record x.desk { notes = notes } }
 unfoldable pub broken_by : {D : Type 0} → Bool → Held D → Held D
 broken_by b x = record x { desk = record x.desk { broken = b } }
 
--- by want of memory, where that is said
+-- by lack of memory, where that is said
 unfoldable pub stopped_by : {D : Type 0} → Bool → Held D → Held D
 stopped_by lost x = record x { desk = record x.desk { broken = true; lost = lost } }
 

@@ -120,7 +120,7 @@ module _ {D : Type 0} (state : D → State) where
         subst (λ (d : D). Rose (state x.disk) (state d)) (sym stays.disk) rose,
       )
 
-  -- after want of memory
+  -- after out of memory
   gone_lost : (acts : List Act) (s t : Filter) (x y z : Held D) (broken lost : Bool) → broken ≡ true → lost ≡ true → z.disk ≡ y.disk → Lasts (state y.disk) t.volume → GoneTo state broken lost acts x s z t
   gone_lost acts s t x y z true true b l disk h = still_lasts y.disk z.disk t.volume t.volume disk refl h
   gone_lost acts s t x y z true false b l disk h = false_true l

@@ -27,7 +27,7 @@ pub record PutsRecord (key : List ℕ) (value : Option (List ℕ)) (f : Book →
 abbrev pub why_full : (Book → Book) → Filter → Option Code
 why_full f s = first_of ((table_full s.volume.items (f s.volume.book), code.TableFull) ∷ [])
 
--- whether there was room, by what the volume answered; all that is no full table counts as want of memory
+-- whether there was room, by what the volume answered; all that is no full table counts as out of memory
 abbrev pub HasRoom : Result (Unit {0}) CallError → Result Bool OutOfMemory → Type 0
 HasRoom r (Ok true) = r ≡ Ok unit
 HasRoom r (Ok false) = r ≡ Err (fail.No code.TableFull)

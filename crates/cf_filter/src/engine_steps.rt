@@ -32,7 +32,7 @@ impl<D: Disk> Filter<D> {
     ghost use Rattle.cf_filter_steps.specs.Putting.{IsHere, MayGo, bytes_there, removed};
     ghost use Rattle.cf_filter_steps.specs.Suiting.{Ready};
 
-    /// Makes a change that suits and finds room; its line tells the number. Refused as Broken, Device.
+    /// Makes a change that suits and finds room; its line names the number. Refused as Broken, Device.
     pub fn engine_apply(&mut self, change: &Change, notes: &mut Notes) -> Result<(), CallError>
         ensures does { Hands (sense D.state) (Ready change.now) (one_change change.now) (noted notes.old self.old) result (noted notes.new self.new) }
         ensures keeps { self.new.desk.notes ≡ self.old.desk.notes }
@@ -42,7 +42,7 @@ impl<D: Disk> Filter<D> {
         self.finish_with(given(first), notes)
     }
 
-    /// Removes an item that has no child and that no handle is open on; its line tells the number. No tombstone is left.
+    /// Removes an item that has no child and that no handle is open on; its line names the number. No tombstone is left.
     /// Refused as Broken, Device.
     pub fn engine_remove(&mut self, item: ItemId, notes: &mut Notes) -> Result<(), CallError>
         ensures does { (i : Item) → Hands (sense D.state) (MayGo item i) (removed false i) (noted notes.old self.old) result (noted notes.new self.new) }

@@ -11,7 +11,7 @@ use cf_base::{CallError, Code, Handle, ItemId, Sequence, Shown, Span, Usn};
 use cf_provider::Outcome;
 
 /// What a part of a call gave, or why it was refused; or that the device or memory stopped it. A part that shows what its
-/// call can not give counts as stopped for want of memory.
+/// call can not give counts as stopped where memory runs out.
 pub(crate) type Told<A> = Result<Result<A, Code>, CallError>;
 
 /// What the caller is answered.

@@ -145,7 +145,7 @@ updates_by S x id used policy identity size r reads pol s i h at p =
     subst (λ (k : ItemId). IsPlan r (plan_update s.policy i identity size (in_use k s))) (own_id s.volume.items id i at)
     (subst (λ (b : Bool). IsPlan r (plan_update s.policy i identity size b)) (reads.is s h (record {})) (subst (λ (q : Policy). IsPlan r (plan_update q i identity size used)) (pol.is s h (record {})) p))
 
--- what an item's row tells
+-- what an item's row says
 
 pub both_item : (r : Row) (o : Option Item) → BothMean (Some r) o → (i : Item) × (o ≡ Some i) × Means r i
 both_item r None h = absurd h

@@ -1,4 +1,4 @@
--- The book of a volume that is kept is the one that its rows and records tell.
+-- The book of a volume that is kept is the one that its rows and records say.
 use Rattle.std.proofs.Common.{◌≡◌, ℕ, Bool, cond, List, [], ◌∷◌, refl, sym, ◌∙◌, ap}
 use Rattle.std.specs.Prelude.{◌==◌}
 use Rattle.cf_base.specs.declared.answers.Access.{Access}

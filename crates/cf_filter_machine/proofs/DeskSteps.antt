@@ -59,7 +59,7 @@ desk_stepped {D} state P f g x y d e is was made same fits good =
       );
     })
 
--- want of memory, whatever became of the desk
+-- out of memory, whatever became of the desk
 pub desk_lost : {D A : Type 0} (state : D → State) (P : Filter → Type 0) (f : Arrow Filter A) (x y : Held D) (e : Desk) → y ≡ record x { desk = e } → Answers (sense state) P f x (Err OutOfMemory) y
 desk_lost {D} state P f x y e is =
     subst (λ (z : Held D). Answers (sense state) P f x (Err OutOfMemory) z) (sym is) (record {

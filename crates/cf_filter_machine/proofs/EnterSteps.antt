@@ -239,7 +239,7 @@ module _ {D : Type 0} (state : D → State) (dir : ItemId) (x : Held D) (c : Cha
     }
     entry_stopped k e OutOfMemory same only cause = record { leads = λ s h p. (s, record {}, stay_moved s h, stay_lasts s h) }
 
--- nothing was done, for want of memory
+-- nothing was done, where memory runs out
 pub enters_lost : {D : Type 0} (state : D → State) (dir : ItemId) (Q : Held D → Filter → Type 0) (P : Filter → Type 0) (f : Arrow Filter (Unit {0})) (x : Held D) → Enters state dir Q P f x (Err OutOfMemory) x
 enters_lost state dir Q P f x = record {
   leads = λ s h p.

@@ -1,4 +1,4 @@
--- The entries that rows tell are those of the items.
+-- The entries that rows say are those of the items.
 use Rattle.std.proofs.Common.{◌≡◌, true, List, [], ◌∷◌, map, Option, Some, refl, sym, ◌∙◌, ap, subst}
 use Rattle.std.specs.Prelude.{MatchOption}
 use Rattle.cf_base.specs.declared.ids.ItemId.{ItemId}

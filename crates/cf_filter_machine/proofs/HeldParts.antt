@@ -43,7 +43,7 @@ bytes_back : (bytes : List ℕ) → bytes_held (map Some bytes) ≡ bytes
 bytes_back [] = refl
 bytes_back (b ∷ bs) = ap (λ (l : List ℕ). b ∷ l) (bytes_back bs)
 
--- what was read of a file as its row tells it
+-- what was read of a file as its row says it
 pub read_in : (r : Row) (i : Item) (asked cut : Span) (bytes : List ℕ) → Means r i → cut ≡ cut_at asked r.size → map Some bytes ≡ slice_range i.held cut.start (cut.start + cut.len) → bytes ≡ bytes_in asked i
 read_in r i asked cut bytes means is read =
     sym (bytes_back bytes)

@@ -79,7 +79,7 @@ module _ {D : Type 0} (state : D → State) (P : Filter → Type 0) (x : Held D)
   }
   one_stopped f k e OutOfMemory same only cause = record { leads = λ s h p. (s, record {}, one_moved s s.volume.book h, one_lasts s h) }
 
-  -- want of memory, whatever became of the desk
+  -- out of memory, whatever became of the desk
   pub one_lost : (f : Filter → Filter) (k : Known) (e : Desk) → Answers (sense state) P (one f) x (Err OutOfMemory) (record { disk = d; known = k; desk = e })
   one_lost f k e = record { leads = λ s h p. (s, record {}, one_moved s s.volume.book h, one_lasts s h) }
 

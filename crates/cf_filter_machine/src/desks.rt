@@ -213,7 +213,7 @@ impl Desk {
         self.requests.take(step)
     }
 
-    /// Begins a wait on an item as this row tells it, and one for the rest of the file beside it where that is wanted and
+    /// Begins a wait on an item as this row says it, and one for the rest of the file beside it where that is wanted and
     /// none is live.
     pub fn start_on(&mut self, row: &Row, need: &Need) -> Result<(WaitId, Moves), CallError>
         ensures begins { (i : Item) → Means row.now i → IsSmall i → BeginsBy (meant need.now) (view_of self.old.policy i) self.old result self.new }

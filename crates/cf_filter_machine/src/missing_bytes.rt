@@ -17,7 +17,7 @@ use cf_table::Row;
 use cf_waits::{Moves, Requests};
 use std::alloc::Global;
 
-/// Whether nothing is missing of an item as this row tells it.
+/// Whether nothing is missing of an item as this row says it.
 pub(crate) fn is_met_on(
     requests: &Requests,
     policy: Policy,
@@ -52,7 +52,7 @@ pub(crate) fn is_met_gone(
     requests.is_met(need.kind, need.item, need.handle, need.span, &v)
 }
 
-/// Begins a wait on an item as this row tells it.
+/// Begins a wait on an item as this row says it.
 pub(crate) fn start_on(
     requests: &mut Requests,
     policy: Policy,

@@ -17,7 +17,7 @@ use Rattle.cf_filter_steps.specs.Good.{Every}
 pub returned : {X A : Type 0} (S : Sense X) (P : Filter → Type 0) (a : A) (x : X) → Answers S P (ret a) x (Ok a) x
 returned S P a x = record { leads = λ s h p. (s, (refl, refl), S.stays x s h, h) }
 
--- want of memory before anything was done
+-- out of memory before anything was done
 pub no_memory : {X A : Type 0} (S : Sense X) (P : Filter → Type 0) (f : Arrow Filter A) (x : X) → Answers S P f x (Err OutOfMemory) x
 no_memory S P f x = record { leads = λ s h p. (s, record {}, S.stays x s h, S.endures x s h) }
 

@@ -19,7 +19,7 @@ use Rattle.cf_filter_steps.specs.Good.{Every}
 use Rattle.cf_filter_steps.specs.Suiting.{FitsTable, LastsAs}
 use Rattle.cf_filter_steps.specs.declared.rooms.Room.{Room}
 
--- The new book has these records besides, and all else as before. Records tell ids and numbers as far as they have room for
+-- The new book has these records besides, and all else as before. Records say ids and numbers as far as they have room for
 -- them: so ids of paths seen stay below 2 ^ 64 where they were, and each tombstone has a number that was given.
 pub record HasRecordsBeside (b : Book) (records : List AuxRecord) (new : Book) : Type 0 where
   pub told : aux_records new ≡ with_records records (aux_records b)

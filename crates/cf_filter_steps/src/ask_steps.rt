@@ -19,7 +19,7 @@ use cf_ranges::RangeSet;
 use cf_table::Row;
 use cf_waits::{Moves, Step};
 
-/// Works out a step on an item as this row tells it, and changes nothing.
+/// Works out a step on an item as this row says it, and changes nothing.
 pub fn look_at<S: Steps>(s: &S, item: ItemId, row: &Row, act: Act) -> Result<Step, OutOfMemory>
     ensures planned { IfOk result (λ p. IsPlanned p (S.waiting s.now)) }
     ensures looks { IfOk result (λ p. Looks S.sense item row.now (deed_of act) p s.now) }

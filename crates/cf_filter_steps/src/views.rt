@@ -43,7 +43,7 @@ fn needs_all(hydration: Hydration, row: &Row) -> bool
     is_whole(hydration) || row.keep
 }
 
-/// What the ask rule sees of an item as this row tells it, under a policy.
+/// What the ask rule sees of an item as this row says it, under a policy.
 pub fn view_of<'a>(row: &'a Row, policy: Policy) -> View<'a>
     ensures size { result.size ≤ 2 ^ 24 }
     ensures base { result.base ≤ 2 ^ 24 }

@@ -14,7 +14,7 @@ Rose old new = old < 2 ^ 64 - 1 → old < new
 abbrev pub IsQuiet : ℕ → ℕ → Type 0
 IsQuiet old new = (new ≡ old) × (old < 2 ^ 64 - 1)
 
--- The bytes were taken from the front of what was left. Where a source tells nothing, nothing is said.
+-- The bytes were taken from the front of what was left. Where a source reports nothing, nothing is said.
 abbrev pub Takes : Option (List ℕ) → Option (List ℕ) → List ℕ → Type 0
 Takes None new bytes = Unit {0}
 Takes (Some left) new bytes = (rest : List ℕ) × (new ≡ Some rest) × (left ≡ bytes ++ rest)
@@ -24,7 +24,7 @@ abbrev pub EndsWell : Option (List ℕ) → List ℕ → Type 0
 EndsWell None bytes = Unit {0}
 EndsWell (Some left) bytes = bytes ≡ [] → left ≡ []
 
--- The bytes were put behind what a sink held. Where a sink tells nothing, nothing is said.
+-- The bytes were put behind what a sink held. Where a sink reports nothing, nothing is said.
 abbrev pub Adds : Option (List ℕ) → Option (List ℕ) → List ℕ → Type 0
 Adds None new bytes = Unit {0}
 Adds (Some held) new bytes = new ≡ Some (held ++ bytes)

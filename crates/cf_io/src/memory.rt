@@ -36,7 +36,7 @@ impl Faults {
     }
 }
 
-/// Copies as many bytes as both sides have, from the front, and tells how many.
+/// Copies as many bytes as both sides have, from the front, and reports how many.
 fn copy_front(from: &[u8], to: &mut [u8]) -> usize
     ensures all { (result ≡ length from.now) ⊎ (result ≡ length to.old) }
     ensures from { result ≤ length from.now }

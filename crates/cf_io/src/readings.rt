@@ -11,7 +11,7 @@ use std::alloc::Global;
 const PIECE: usize = 65_536;
 
 /// All bytes of a source, where they are no more than the limit. Fails as Fault where the source failed, as TooLong
-/// where it has more bytes, and for want of memory.
+/// where it has more bytes, and where memory runs out.
 pub fn read_all<S: Source>(
     alloc: Global,
     source: &mut S,

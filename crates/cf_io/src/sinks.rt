@@ -7,13 +7,13 @@ use crate::faults::IoError;
 
 /// Where bytes go.
 pub trait Sink {
-    /// The bytes that it holds, where the sink tells them.
+    /// The bytes that it holds, where the sink reports them.
     ghost held: { Self → Option (List ℕ) };
 
     /// How often it failed.
     ghost faults: { Self → ℕ };
 
-    /// Takes at least one byte of the piece, from its front, and tells how many. At a fault it takes none; a fault is
+    /// Takes at least one byte of the piece, from its front, and reports how many. At a fault it takes none; a fault is
     /// answered only where the count of faults rose.
     fn write(&mut self, piece: &[u8]) -> Result<usize, IoError>
         requires { 0 < length piece.now }

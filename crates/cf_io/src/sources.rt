@@ -7,13 +7,13 @@ use crate::faults::IoError;
 
 /// Where bytes come from.
 pub trait Source {
-    /// The bytes that are left to read, where the source tells them.
+    /// The bytes that are left to read, where the source reports them.
     ghost left: { Self → Option (List ℕ) };
 
     /// How often it failed.
     ghost faults: { Self → ℕ };
 
-    /// Moves the next bytes to the front of `out`, and tells how many: none only at the end. A fault is answered only
+    /// Moves the next bytes to the front of `out`, and reports how many: none only at the end. A fault is answered only
     /// where the count of faults rose.
     fn read(&mut self, out: &mut [u8]) -> Result<usize, IoError>
         requires { 0 < length out.old }

@@ -1,4 +1,4 @@
--- Which state is stored in which items, as the rows tell it.
+-- Which state is stored in which items, as the rows say it.
 use Rattle.std.specs.Prelude.{ℕ, Bool, not, List, [], Option, Some, None, ◌∷◌, ◌++◌, ◌==◌}
 use Rattle.cf_base.specs.declared.changes.Change.{Change}
 use Rattle.cf_base.specs.declared.changes.Change.TheVariants as change

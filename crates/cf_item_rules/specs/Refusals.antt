@@ -1,4 +1,4 @@
--- Why a plan is refused, in order, as the rows tell it.
+-- Why a plan is refused, in order, as the rows say it.
 use Rattle.std.specs.Prelude.{ℕ, Bool, not, List, [], length, find, is_some, nat_lt, ◌&&◌, ◌||◌, ◌∷◌}
 use Rattle.cf_base.specs.Policies.{is_always_full}
 use Rattle.cf_base.specs.declared.codes.Code.{Code}

@@ -28,7 +28,7 @@ pub record Linked (R : Type 0) : Type 0 where
   pub remote : R
   pub inline : Bool
 
--- the link of the definitions has the same messages, and what this remote tells
+-- the link of the definitions has the same messages, and what this remote reports
 pub record IsLink {R : Type 0} (told : R → Told) (l : Linked R) (link : Link) : Type 0 where
   pub net : IsNet l.net link
   pub held : IsHeld (told l.remote).held link.remote

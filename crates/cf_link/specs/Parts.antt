@@ -44,7 +44,7 @@ posted_of sent f = record {
 abbrev pub with_messages : List (Option Frame) → ℕ → Link → Link
 with_messages ms bytes link = record link { messages = ms; kept_bytes = bytes }
 
--- the tree of a message's posting from this state on ends so, whatever the remote tells
+-- the tree of a message's posting from this state on ends so, whatever the remote reports
 pub record PostedBy (p : Tree State Bool) (s : State) (posted : Posted) (net : Kept) : Type 0 where
   pub messages : List (Option Frame)
   pub bytes : ℕ

@@ -90,7 +90,7 @@ each f (x ∷ xs) = then_do (f x) (each f xs)
 abbrev pub lifted : {S T A : Type 0} → (T → S) → (S → T → T) → Arrow S A → Arrow T A
 lifted get put f t = mapped (λ s. put s t) (f (get t))
 
--- What a call told, with a refusal as a value: only Device and want of memory go up.
+-- What a call told, with a refusal as a value: only Device and out of memory go up.
 abbrev pub is_device : Code → Bool
 is_device code.Device = true
 is_device _ = false

@@ -1,4 +1,4 @@
--- What a run says of its disk: what each restart opens stands for what the power before it left.
+-- What a run says of its disk: what each restart opens stands for what the power cut before it left.
 use Rattle.std.specs.Prelude.{ℕ, Bool, true, false, List, [], ◌∷◌, ◌≡◌, Option, Some, None, take, IsTrue}
 use Rattle.cf_base.specs.declared.answers.Answer.{Answer}
 use Rattle.cf_base.specs.declared.answers.Shown.{Shown}
@@ -27,12 +27,12 @@ abbrev pub resumes : Shown → Bool
 resumes (shown.Resumed count opened) = true
 resumes _ = false
 
--- what is open now is what the image stands for, if there was a power
+-- what is open now is what the image stands for, if there was a power cut
 abbrev pub OpensLast : StandsFor → Option (List ℕ) → State → Type 0
 OpensLast stands None t = Unit {0}
 OpensLast stands (Some image) t = stands image t.filter.volume.log t.filter.volume.book
 
--- how an event bears on the disk's powers, of which these are still to come; gives the image of the last and the rest
+-- how an event bears on the disk's power cuts, of which these are still to come; gives the image of the last and the rest
 abbrev pub IsPower : StandsFor → Option (List ℕ) → Event → Answer → State → List (Choice × List ℕ) → Option (List ℕ) → List (Choice × List ℕ) → Type 0
 IsPower stands last (event.Device (device.Crash choice)) a t [] after rest = ⊥
 IsPower stands last (event.Device (device.Crash choice)) a t (w ∷ ws) after rest = (w.0 ≡ choice) × (after ≡ Some w.1) × (rest ≡ ws)
@@ -43,7 +43,7 @@ IsPower stands last (event.Peer e) a t powers after rest = (after ≡ last) × (
 IsPower stands last (event.Engine e) a t powers after rest = (after ≡ last) × (rest ≡ powers)
 IsPower stands last (event.Provider e) a t powers after rest = (after ≡ last) × (rest ≡ powers)
 
--- As Runs; besides, there is one power for each crash, with its choice and in order, and each `resumed` opens what the image
+-- As Runs; besides, there is one power cut for each crash, with its choice and in order, and each `resumed` opens what the image
 -- that the last of them left stands for.
 abbrev pub RunsOver : StandsFor → Mode → Option (List ℕ) → State → List (Event × Answer) → List (Choice × List ℕ) → State → Type 0
 RunsOver stands m last s [] powers t = (t ≡ s) × (powers ≡ [])

@@ -72,6 +72,6 @@ free_all before items = then_do (each dehydrate_whole items) (show_freed before)
 abbrev pub free : ℕ → Arrow State Shown
 free budget s = free_all (blocks_used (items_now s)) (plan_now budget s) s
 
--- files are dehydrated until at most so many blocks are used, or none is left that may be
+-- files are dehydrated until at most that many blocks are used, or none is left that may be
 abbrev pub space : ℕ → Arrow State Shown
 space budget s = unless shown.Refused (why_no_space budget s) (free budget) s

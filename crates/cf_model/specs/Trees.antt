@@ -41,7 +41,7 @@ Stops (Step s p) t = (t ≡ s) ⊎ Stops p t
 Stops (Fork p q) t = Stops p t ⊎ Stops q t
 Stops (Asked k) t = (x : Telling) × Stops (k x) t
 
--- What a program that does the tree answers, and the state that it leaves. Of want of memory nothing is said.
+-- What a program that does the tree answers, and the state that it leaves. Where memory ran out nothing is said.
 abbrev pub Does : {S A : Type 0} → Tree S A → Result A CallError → S → Type 0
 Does p (Ok a) t = Ends p a t
 Does p (Err (No c)) t = (c ≡ code.Device) × Stops p t

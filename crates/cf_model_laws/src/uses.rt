@@ -33,7 +33,7 @@ pub fn nothing_is_removed_that_was_changed_here()
 
 /// A feed, which alone takes items over and removes them where no application asks for it, does so only with items that are not
 /// in use in the state in which the change is made, nor right after it: an item is in use in each state that the feed goes
-/// through or in none, and what it takes over or removes is in use in none. So it is of any feed, whatever the remote tells, and
+/// through or in none, and what it takes over or removes is in use in none. So it is of any feed, whatever the remote reports, and
 /// from any state whose ids rise; and in `replay`, over a remote that keeps its rules, the ids rise in each state of a run.
 #[tactic(auto, using(crate::proofs::FeedsIdle::feed_idle, crate::proofs::FeedsIdle::ids_rise))]
 pub fn a_feed_replaces_nothing_in_use()

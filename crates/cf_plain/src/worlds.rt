@@ -48,7 +48,7 @@ impl PlainWorld {
         }
     }
 
-    /// Does an event, and answers it. For want of memory all is as before.
+    /// Does an event, and answers it. Where memory runs out all is as before.
     pub fn step(&mut self, alloc: Global, event: &Event) -> Result<Answer, OutOfMemory>
         requires { IsTrue (is_built Mode.Replay event.now) }
         ensures lawful { IfOk result (IsAnswer self.old event.now) }

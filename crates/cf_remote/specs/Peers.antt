@@ -11,7 +11,7 @@ use Rattle.cf_model.specs.Store.{Held}
 use Rattle.cf_model.specs.Trees.{AsItKeeps, Asked, Faults, Fork, Ret, Step, Telling, Tells, Tree}
 use Rattle.cf_remote.specs.Told.{Counts, Told, counted}
 
--- What the remote did at one ask. It fails exactly at those that are listed, where it tells them, and then what it holds stays
+-- What the remote did at one ask. It fails exactly at those that are listed, where it reports them, and then what it holds stays
 -- and its count of faults rises. It breaks its rules only where it does not tell what it holds, and goes on telling what it
 -- told before.
 abbrev pub IsTelling : Telling → Told → Told → Type 0
@@ -41,7 +41,7 @@ abbrev pub IsCount : Option ℕ → ℕ → Type 0
 IsCount None asks = Unit {0}
 IsCount (Some told) asks = told ≡ min asks (2 ^ 64 - 1)
 
--- the state of the definitions has this next token of a peer, and what this remote tells
+-- the state of the definitions has this next token of a peer, and what this remote reports
 pub record Stands (next : ℕ) (told : Told) (s : State) : Type 0 where
   pub token : next ≡ s.peer_tokens + 1
   pub held : IsHeld told.held s.link.remote

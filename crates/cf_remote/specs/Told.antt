@@ -1,4 +1,4 @@
--- What a remote tells of itself, and what an ask makes of that.
+-- What a remote reports of itself, and what an ask makes of that.
 use Rattle.std.specs.Prelude.{◌≡◌, ℕ, ◌+◌, ◌-◌, ◌^◌, ◌≤◌, Bool, true, false, List, Option, Some, None, Result, Ok, Err, min, option_map, ◌==◌}
 use Rattle.std.specs.List.{list_any}
 use Rattle.cf_base.specs.declared.messages.Reply.{Reply}
@@ -9,7 +9,7 @@ use Rattle.cf_remote.specs.declared.ask_errors.AskError.TheVariants.{Fault, OutO
 use Rattle.cf_wire.specs.Spelled.{ReplyHasRoom}
 
 -- What a remote holds, how often it was asked, and the numbers of the asks that fail, counted from 1, each where the
--- remote tells it; and how often it failed.
+-- remote reports it; and how often it failed.
 pub record Told : Type 0 where
   pub held : Option Held
   pub asks : Option ℕ
@@ -25,7 +25,7 @@ pub record Asked : Type 0 where
 abbrev pub counted : ℕ → ℕ
 counted n = min (n + 1) (2 ^ 64 - 1)
 
--- whether the next ask is one of those that fail, where the remote tells it
+-- whether the next ask is one of those that fail, where the remote reports it
 abbrev pub IsNextListed : Option ℕ → Option (List ℕ) → Bool → Type 0
 IsNextListed (Some asks) (Some fails) listed = list_any (λ n. n == counted asks) fails ≡ listed
 IsNextListed (Some asks) None listed = Unit {0}
@@ -37,7 +37,7 @@ pub record Counts (listed : Bool) (old new : Told) : Type 0 where
   pub fails : new.fails ≡ old.fails
   pub which : IsNextListed old.asks old.fails listed
 
--- the reply and what is held then are the definitions', where the remote tells what it holds; it does not begin to tell it
+-- the reply and what is held then are the definitions', where the remote reports what it holds; it does not begin to tell it
 abbrev pub Replies : Request → Reply → Option Held → Option Held → Type 0
 Replies q r None new = new ≡ None
 Replies q r (Some held) new = (r ≡ (remote_step held q).0) × (new ≡ Some (remote_step held q).1)

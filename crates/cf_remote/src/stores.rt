@@ -96,7 +96,7 @@ impl Store {
         })
     }
 
-    // what the remote tells
+    // what the remote reports
 
     fn feed(&self, round: Round, after: u64) -> Result<Reply, OutOfMemory>
         ensures told { IfOk result (λ r. r ≡ reply.Feed round self.now.clock (feed_of self.now after)) }

@@ -64,7 +64,7 @@ fn zeros_are_no_volume(rt: HostRuntime) -> Result<(), Fail> {
     Ok(())
 }
 
-// Whether a device that fails after so many calls of an append or a rewrite, and then loses its power, leaves the content
+// Whether a device that fails after that many calls of an append or a rewrite, and then loses its power, leaves the content
 // before or after, as it is opened again; and the content after where the call succeeded, as it is to do or not.
 fn leaves_before_or_after<D: Disk>(
     alloc: Global,
@@ -155,7 +155,7 @@ fn a_cut_of_a_traced_disk_does_too(rt: HostRuntime) -> Result<(), Fail> {
     Ok(())
 }
 
-// Whether a formatting that is cut after so many of its twelve calls leaves what stood there before, no volume, or the new
+// Whether a formatting that is cut after that many of its twelve calls leaves what stood there before, no volume, or the new
 // one, and the new one where it succeeded.
 fn formats_or_not<D: Disk>(
     alloc: Global,
@@ -181,7 +181,7 @@ fn formats_or_not<D: Disk>(
     Ok(done == (calls == 12) && (new || (old && calls < 3)))
 }
 
-// Whether an opening that is cut after so many of its five calls leaves the content.
+// Whether an opening that is cut after that many of its five calls leaves the content.
 fn opens_again<D: Disk>(
     alloc: Global,
     disk: &mut D,

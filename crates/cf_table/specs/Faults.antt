@@ -1,5 +1,5 @@
 -- Where a text stops being that of a row: the first field that lacks bytes, or that spells what may not stand there.
--- Of each part of a row a relation tells with which fault the reading of what is left ends in it. Of want of memory it
+-- Of each part of a row a relation tells with which fault the reading of what is left ends in it. Where memory ran out it
 -- says nothing.
 use Rattle.std.specs.Prelude.{ℕ, zero, suc, Bool, true, false, List, [], length, Option, Some, None, ◌+◌, ◌^◌, ◌≤◌, ◌<◌, ◌≡◌, ◌⊎◌, ◌∷◌}
 use Rattle.cf_base.specs.declared.spans.Span.{Span}

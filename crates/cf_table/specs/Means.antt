@@ -1,4 +1,4 @@
--- What a row tells of an item.
+-- What a row says of an item.
 use Rattle.std.specs.Prelude.{ℕ, Bool, true, false, not, List, [], length, nat_lt, ◌&&◌, ◌||◌, ◌∷◌, ◌≡◌}
 use Rattle.cf_base.specs.declared.ids.Usn.{Usn}
 use Rattle.cf_base.specs.declared.items.Kind.{Kind}
@@ -32,7 +32,7 @@ pub record HasBytes (row : Row) (i : Item) : Type 0 where
   pub modified : (p : ℕ) → contains row.modified p ≡ is_modified i p
   pub modified_since : (p : ℕ) → contains row.modified_since p ≡ is_modified_since row.anchor i p
 
--- the row tells what is said of the item, and where its bytes are
+-- the row says what is said of the item, and where its bytes are
 pub record Means (row : Row) (i : Item) : Type 0 where
   pub id : row.id ≡ i.id
   pub parent : row.parent ≡ i.parent

@@ -1,4 +1,4 @@
--- A look-up, name by name, as the rows tell it.
+-- A look-up, name by name, as the rows say it.
 use Rattle.std.specs.Prelude.{ℕ, List, [], not, find, ok_or, Option, Some, None, Result, Ok, Err, ◌∷◌}
 use denote.Ref.{Bor}
 use Rattle.cf_base.specs.declared.codes.Code.{Code}

@@ -41,7 +41,7 @@ fn is_inside(byte: u8) -> bool
     byte >= 128 && byte < 192
 }
 
-// The text, cut to at most so many bytes at the end of a character.
+// The text, cut to at most that many bytes at the end of a character.
 fn cut(text: &[u8], most: usize) -> &[u8]
     ensures { result.now ≡ cut_text most text.now }
 {

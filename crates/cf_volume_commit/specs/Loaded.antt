@@ -49,7 +49,7 @@ known_of p = record {
 abbrev pub number_after : ℕ → Usn
 number_after epoch = record { epoch = epoch + 1; place = 0 }
 
--- The disk tells the contents, but for the header.
+-- The disk reports the contents, but for the header.
 pub record StandsThen (p : Parts) (s : State) (x : Content) (i : Image) : Type 0 where
   pub settled : Settled p.journal s x
   pub told : Tells x.image x.payloads i

@@ -34,7 +34,7 @@ abbrev pub AreWhole : List Item → Type 0
 AreWhole [] = Unit {0}
 AreWhole (i ∷ is) = (length i.valid ≡ length i.held) × AreUpTo i.number i.writes × AreWhole is
 
--- What no bytes tell of a log: its numbers are of the epochs up to this one, and its items are whole.
+-- What no bytes say of a log: its numbers are of the epochs up to this one, and its items are whole.
 pub record IsLogOf (epoch : ℕ) (log : List (Usn × Change)) : Type 0 where
   pub below : AllBelow (record { epoch = epoch + 1; place = 1 }) log
   pub whole : AreWhole (items_of log)

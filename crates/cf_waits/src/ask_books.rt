@@ -178,7 +178,7 @@ impl AskBook {
         found_of(alloc, &self.asks, entries_on(&self.index, item), self.tick)
     }
 
-    /// The least key of an ask on which 60 ticks or more will have passed after so many more.
+    /// The least key of an ask on which 60 ticks or more will have passed after that many more.
     pub(crate) fn next_expired(&self, ticks: u32) -> Option<Key>
         ensures { result ≡ first_key (filter (λ a. nat_le 60 a.ticks) (map (aged ticks) self.now.asks)) }
     {
@@ -213,7 +213,7 @@ impl AskBook {
     }
 }
 
-// Ticks are counted anew, from the latest 60 on, after so many.
+// Ticks are counted anew, from the latest 60 on, after that many.
 const LATE: u64 = 1 << 62;
 
 fn base_of(tick: u64) -> u64

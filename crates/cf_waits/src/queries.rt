@@ -45,7 +45,7 @@ impl Requests {
         self.asks.owns(key, blocks)
     }
 
-    /// The least key of an ask on which 60 ticks or more will have passed after so many more. Takes no memory.
+    /// The least key of an ask on which 60 ticks or more will have passed after that many more. Takes no memory.
     pub fn next_expired(&self, ticks: u32) -> Option<Key>
         ensures { result ≡ next_expired ticks self.now }
     {

@@ -5,4 +5,3 @@ use Rattle.std.specs.Prelude.{IfErr, IsErrAnd}
 pub err_if : {A E : Type 0} (P : E → Type 0) (r : Result A E) (e : E) → IsErrAnd r (λ x. x ≡ e) → P e → IfErr r P
 err_if P (Ok x) e is h = absurd is
 err_if P (Err x) e is h = subst P (sym is) h
-

@@ -1,4 +1,4 @@
--- Runs over the powers of a disk.
+-- Runs over the power cuts of a disk.
 use Rattle.std.proofs.Common.{◌≡◌, ℕ, List, [], ◌∷◌, ◌++◌, refl, sym, ap, subst, ◌∙◌}
 use Rattle.std.specs.Prelude.{Option, Some}
 use Rattle.cf_world_filter.specs.Pasts.{Gains, last_image}
@@ -12,7 +12,7 @@ use Rattle.cf_model.specs.Lawful.{IsStep, Runs}
 use Rattle.cf_model.specs.Powers.{IsPower, RunsOver, StandsFor}
 use Rattle.cf_model.specs.State.{State}
 
--- more powers behind those of an event
+-- more power cuts behind those of an event
 power_more : (stands : StandsFor) (last : Option (List ℕ)) (e : Event) (a : Answer) (t : State) (powers : List (Choice × List ℕ)) (after : Option (List ℕ)) (rest more : List (Choice × List ℕ))
     → IsPower stands last e a t powers after rest → IsPower stands last e a t (powers ++ more) after (rest ++ more)
 power_more stands last (event.Device (device.Crash choice)) a t [] after rest more h = absurd h
@@ -46,7 +46,7 @@ last_then last (w ∷ ws) more = last_then (Some w.1) ws more
 pub after_all : (stands : StandsFor) (last : Option (List ℕ)) (e : Event) (a : Answer) (t : State) (powers : List (Choice × List ℕ)) (after : Option (List ℕ)) → IsPower stands last e a t powers after [] → after ≡ last_image last powers
 after_all stands last e a t powers after h = sym (power_last stands last e a t powers after [] h)
 
--- one more step, with its powers
+-- one more step, with its power cuts
 pub over_push : (stands : StandsFor) (m : Mode) (last : Option (List ℕ)) (s mid t : State) (trace : List (Event × Answer)) (powers more : List (Choice × List ℕ)) (e : Event) (a : Answer) (after : Option (List ℕ))
     → RunsOver stands m last s trace powers mid → IsStep m mid e a t → IsPower stands (last_image last powers) e a t more after [] → RunsOver stands m last s (trace ++ (e, a) ∷ []) (powers ++ more) t
 over_push stands m last s mid t [] powers more e a after h is power =
@@ -67,7 +67,7 @@ over_push stands m last s mid t (p ∷ ps) powers more e a after h is power = (
   over_push stands m h.1 h.0 mid t ps h.2 more e a after h.5 is (subst (λ (o : Option (List ℕ)). IsPower stands o e a t more after []) (power_last stands last p.0 p.1 h.0 powers h.1 h.2 h.4) power),
 )
 
--- a run over powers is a run
+-- a run over power cuts is a run
 pub over_runs : (stands : StandsFor) (m : Mode) (last : Option (List ℕ)) (s t : State) (trace : List (Event × Answer)) (powers : List (Choice × List ℕ)) → RunsOver stands m last s trace powers t → Runs m s trace t
 over_runs stands m last s t [] powers h = h.0
 over_runs stands m last s t (p ∷ ps) powers h = (h.0, h.3, over_runs stands m h.1 h.0 t ps h.2 h.5)

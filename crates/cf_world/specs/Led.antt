@@ -31,9 +31,9 @@ abbrev pub met_by : List (Event × Answer) → ℕ
 met_by [] = 0
 met_by (p ∷ ps) = cond (meets_device p.1.shown) 1 0 + met_by ps
 
--- What a trace of `filter` leaves of a disk on which it began with a new volume. There is one power of the disk for each crash,
+-- What a trace of `filter` leaves of a disk on which it began with a new volume. There is one power cut of the disk for each crash,
 -- with its choice and in order, and each `resumed` opens what the image that the last of them left stands for. These are all
--- the powers that the disk had, where it tells them. Of each answer Device a device call failed in its event: the count of
+-- the power cuts that the disk had, where it reports them. Of each answer Device a device call failed in its event: the count of
 -- faults rose by as many at least. Whatever a crash leaves then stands for a point that a restart may open.
 pub record LeadsDisk {D : Type 0} (state : D → Disk) (remote : Held) (disk : D) (trace : List (Event × Answer)) (back : D) : Type 0 where
   pub left : State
@@ -48,7 +48,7 @@ abbrev pub Leads : {D : Type 0} → (D → Disk) → Mode → D → List (Event 
 Leads state Replay disk trace back = plain.Lawful plain.start trace × (back ≡ disk)
 Leads state Filter disk trace back = (remote : Held) → LeadsDisk state remote disk trace back
 
--- The same of a world, which stands for the state after these powers.
+-- The same of a world, which stands for the state after these power cuts.
 pub record LeadsWorld {D : Type 0} (state : D → Disk) (remote : Held) (disk : D) (trace : List (Event × Answer)) (a : Acting D) : Type 0 where
   pub left : State
   pub powers : List (Choice × List ℕ)

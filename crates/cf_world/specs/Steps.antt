@@ -63,7 +63,7 @@ abbrev pub start_status : CallError → Status
 start_status (fail.No c) = status.DeviceFault
 start_status fail.OutOfMemory = status.OutOfMemory
 
--- what a sink or want of memory can stop
+-- what a sink or out of memory can stop
 abbrev pub IsOfSink : PlayError → Type 0
 IsOfSink play.TooLong = ⊥
 IsOfSink _ = Unit {0}

@@ -55,7 +55,7 @@ pub fn run<S: Source, K: Sink, D: Disk + Drop, R: Remote>(
     remote: R,
 ) -> Finish<D, R>
     // What was written, by the status: at Done the texts of lawful answers, one for each event of the whole text. The disk
-    // had one power for each crash, and each restart that resumed opened what the last of them left; what a crash leaves of
+    // had one power cut for each crash, and each restart that resumed opened what the last of them left; what a crash leaves of
     // the disk then stands for a point that a restart may open. So it is of the events that were done at SinkFault, and where
     // the report is too long.
     ensures writes { (c : Meant) → Names (map string_bytes words.now) c → IfSome (S.left source.old) (λ text. Writes D.state (mode_of c) disk text (K.held sink.old) (K.held sink.new) result.status result.disk) }
@@ -243,7 +243,7 @@ fn started<K: Sink, D: Disk + Drop, R: Remote>(
     }
 }
 
-// A start is stopped by the device or by want of memory alone.
+// A start is stopped by the device or by lack of memory alone.
 fn unstarted(fail: CallError) -> Status
     ensures { result ≡ start_status fail }
 {

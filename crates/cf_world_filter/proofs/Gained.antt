@@ -1,4 +1,4 @@
--- What a disk tells of the powers that it gained.
+-- What a disk reports of the power cuts that it gained.
 use Rattle.std.proofs.Common.{◌≡◌, ℕ, List, [], ◌∷◌, ◌++◌, append_assoc, sym, ap, ◌∙◌}
 use Rattle.std.specs.Prelude.{Bool, true, false, Option, Some, None}
 use Rattle.std.proofs.lemmas.List.{append-nil}
@@ -13,7 +13,7 @@ abbrev is_told : Option (List (Choice × List ℕ)) → Bool
 is_told None = false
 is_told (Some l) = true
 
--- a disk that told them no longer does not tell them again
+-- a disk that reported them no longer does not tell them again
 never_again : (powers new : List (Choice × List ℕ)) → Gains powers None (Some new) → ⊥
 never_again [] new h = let z : true ≡ false = ap is_told h in absurd cc
 never_again (w ∷ ws) new (None, adds, rest) = never_again ws new rest

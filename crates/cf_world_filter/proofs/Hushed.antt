@@ -68,7 +68,7 @@ module _ {D : Type 0} (state : D → Disk) where
 pub same_clusters : (d e : Disk) → size_of e ≡ size_of d → clusters_on e.seen ≡ clusters_on d.seen
 same_clusters d e same = ap (λ (n : ℕ). (n - 3145728) / 4096) same
 
--- a call leaves the size and the powers of the disk, and the clusters of the volume
+-- a call leaves the size and the power cuts of the disk, and the clusters of the volume
 pub disk_moved : (past : Past) (d e : Disk) (v w : Volume) → IsDiskOf past d v → Moved d e v w → IsDiskOf past e w
 disk_moved past d e v w h m = record {
   fit = subst IsFitSize (sym m.runs.size) h.fit;

@@ -54,7 +54,7 @@ module _ {D : Type 0} (state : D → Disk) where
     );
   }
 
-  -- one more power leaves the point
+  -- one more power cut leaves the point
   off_again : (past : Past) (choice : Choice) (x y : Cut D) (s : State) → y.policy ≡ x.policy → (state x.disk).may_leave (state y.disk).seen → Only (state y.disk).seen (state y.disk) → Powers choice (state x.disk) (state y.disk)
       → IsOff state past x s → IsOff state (left_by (state y.disk)) y (crashed (begun s))
   off_again past choice x y s policy left only powers off =

@@ -61,7 +61,7 @@ module _ {D : Type 0} (state : D → Disk) where
       (sym (adds ∙ ap (λ (o : Operation). plan ++ (own, o) ∷ []) same)) h in
       subst (λ (b : Answer). StepsOn state (event.Provider (provider.Plan own op)) (record { filter = x; provider = plan }) (Ok b) (record { filter = x; provider = left })) (sym told) to
 
--- of want of memory nothing is said
+-- where memory ran out nothing is said
 pub no_memory : {D : Type 0} (state : D → Disk) (e : Event) (x y : Run D) (r : Result Answer NoMemory) (m : NoMemory) → IsErrAnd r (λ z. z ≡ m) → StepsOn state e x r y
 no_memory state e x y (Ok a) m h = absurd h
 no_memory state e x y (Err k) m h = record { steps = record { leads = λ past s is. record {} }; counts = λ past s is. record {} }

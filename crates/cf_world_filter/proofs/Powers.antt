@@ -30,15 +30,15 @@ use Rattle.cf_model.specs.State.{Broken, Filter, On, Power, State, Volume}
 use Rattle.cf_model.specs.Trees.{Ends}
 use Rattle.cf_volume_points.specs.Standing.{Standing}
 
--- what a power left
+-- what a power cut left
 abbrev pub left_by : Disk → Past
 left_by d = record { told = d.powers; last = Some d.seen }
 
--- a disk of the same size that had no power
+-- a disk of the same size that had no power cut
 pub disk_again : (past : Past) (d e : Disk) (v : Volume) → size_of e ≡ size_of d → e.powers ≡ d.powers → IsDiskOf past d v → IsDiskOf past e v
 disk_again past d e v same still h = record { fit = subst IsFitSize (sym same) h.fit; clusters = h.clusters ∙ sym (same_clusters d e same); powers = still ∙ h.powers }
 
--- and one that had a power
+-- and one that had a power cut
 pub disk_cut : (past : Past) (choice : Choice) (d e : Disk) (v : Volume) → Powers choice d e → IsDiskOf past d v → IsDiskOf (left_by e) e v
 disk_cut past choice d e v powers h = record { fit = subst IsFitSize (sym powers.size) h.fit; clusters = h.clusters ∙ sym (same_clusters d e powers.size); powers = refl }
 
@@ -59,7 +59,7 @@ same_epoch e = omega arith
 pub opens_nothing : (last : Option (List ℕ)) (c : Code) (t : State) → IsPower StandsFor last (event.Device device.Restart) (answer_with (shown.Refused c) []) t [] last []
 opens_nothing last c t = (λ never. let z : false ≡ true = never in absurd cc, refl, refl)
 
--- the one power of a crash
+-- the one power cut of a crash
 pub one_gained : (past : Past) (choice : Choice) (d e : Disk) → d.powers ≡ past.told → Powers choice d e → Gains ((choice, e.seen) ∷ []) past.told e.powers
 one_gained past choice d e told powers = (e.powers, subst (λ (o : Option (List (Choice × List ℕ))). AddsPower choice e.seen o e.powers) told powers.adds, refl)
 
@@ -108,7 +108,7 @@ module _ {D : Type 0} (state : D → Disk) where
       by s true h = (h.0, ap (λ (d : Desk). d.policy) desk ∙ h.1, lasting_again (state x.disk) (state y.disk) s.filter.volume same h.2)
       by s false h = (h.0, h.1, stands (hushed s.filter) h.2)
 
-  -- what the power leaves stands for a point
+  -- what the power cut leaves stands for a point
   pub cut_off : (past : Past) (x : D) (y : Cut D) (choice : Choice) (s : State) → s.mode ≡ InFilter → IsDiskOf past (state x) s.filter.volume → y.policy ≡ s.filter.policy → Lasts (state x) s.filter.volume
       → (state x).may_leave (state y.disk).seen → Only (state y.disk).seen (state y.disk) → Powers choice (state x) (state y.disk) → IsOff state (left_by (state y.disk)) y (crashed (begun s))
   cut_off past x y choice s mode disk policy lasts left only powers =

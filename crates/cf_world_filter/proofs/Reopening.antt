@@ -131,7 +131,7 @@ opened_is p k clusters v early same =
     ap (λ (n : ℕ). opened n (take p.count v.log) p.book clusters) epoch ∙ ap (λ (n : ℕ). opened (v.epoch + 1 + k) (take p.count v.log) p.book n) same
     ∙ ap (λ (n : ℕ). record (opened (v.epoch + 1 + k) (take p.count v.log) p.book v.clusters) { points = record { sure = true; count = n; book = p.book } ∷ [] }) count
 
--- what is open is what the image of the last power stands for
+-- what is open is what the image of the last power cut stands for
 opens_left : (last : Option (List ℕ)) (image : List ℕ) (t : State) → last ≡ Some image → StandsFor image t.filter.volume.log t.filter.volume.book → OpensLast StandsFor last t
 opens_left last image t is left = subst (λ (o : Option (List ℕ)). OpensLast StandsFor o t) (sym is) left
 

@@ -25,7 +25,7 @@ use Rattle.cf_model.specs.Store.{Held as Store}
 use Rattle.cf_volume_points.specs.Standing.{clusters_on}
 use Rattle.cf_volume.specs.Calls.{Runs}
 
--- an event that does no power, whatever it is answered
+-- an event that does no power cut, whatever it is answered
 abbrev pub DoesNone : Event → Type 0
 DoesNone e = (last : Option (List ℕ)) (a : Answer) (t : State) → IsPower StandsFor last e a t [] last []
 

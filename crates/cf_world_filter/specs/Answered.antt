@@ -16,7 +16,7 @@ showing show (Err e) = Err e
 abbrev pub answer_with : Shown → List Notice → Answer
 answer_with s notes = record { notes = notes; shown = s; stray = None }
 
--- a refusal is an answer too; for want of memory there is none
+-- a refusal is an answer too; where memory runs out there is none
 abbrev pub answered_by : Result Shown CallError → List Notice → Result Answer NoMemory
 answered_by (Ok s) notes = Ok (answer_with s notes)
 answered_by (Err (No c)) notes = Ok (answer_with (shown.Refused c) notes)

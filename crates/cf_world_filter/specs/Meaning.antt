@@ -20,7 +20,7 @@ use Rattle.cf_volume_points.specs.Standing.{Standing, clusters_on}
 abbrev pub hushed : Filter → Filter
 hushed f = record f { notes = [] }
 
--- the disk has a fit size and as many clusters as the volume, and tells these powers
+-- the disk has a fit size and as many clusters as the volume, and tells these power cuts
 pub record IsDiskOf (past : Past) (d : Disk) (v : Volume) : Type 0 where
   pub fit : IsFitSize (size_of d)
   pub clusters : v.clusters ≡ clusters_on d.seen
@@ -52,7 +52,7 @@ pub record IsOfEpoch (s : State) (p : Point) (image : List ℕ) : Type 0 where
   pub stands : Standing (s.filter.volume.epoch + taken) image (take p.count s.filter.volume.log) p.book
 
 -- The power was cut: whatever a crash leaves now stands for one point, which a restart may open, and so does the image that
--- the last power left.
+-- the last power cut left.
 pub record IsOff {D : Type 0} (state : D → Disk) (past : Past) (x : Cut D) (s : State) : Type 0 where
   pub mode : s.mode ≡ InFilter
   pub power : s.power ≡ Off
@@ -67,7 +67,7 @@ pub record IsOff {D : Type 0} (state : D → Disk) (past : Past) (x : Cut D) (s 
   pub last : past.last ≡ Some image
   pub left : StandsFor image (take point.count s.filter.volume.log) point.book
 
--- the world stands for the state, after these powers
+-- the world stands for the state, after these power cuts
 abbrev pub Is : {D : Type 0} → (D → Disk) → Past → Acting D → State → Type 0
 Is state past (acting.On x) s = IsOn state past x s
 Is state past (acting.Off x) s = IsOff state past x s

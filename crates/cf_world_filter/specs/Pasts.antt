@@ -1,4 +1,4 @@
--- The powers of a disk, and the images that they left.
+-- The power cuts of a disk, and the images that they left.
 use Rattle.std.specs.Prelude.{◌≡◌, ℕ, List, [], ◌∷◌, Option, Some}
 use Rattle.cf_base.specs.declared.changes.Change.{Change}
 use Rattle.cf_base.specs.declared.ids.Usn.{Usn}
@@ -11,12 +11,12 @@ use Rattle.cf_volume_points.specs.Standing.{Standing}
 abbrev pub StandsFor : List ℕ → List (Usn × Change) → Book → Type 0
 StandsFor image log b = (epoch : ℕ) × Standing epoch image log b
 
--- what the disk tells of its powers, and the image that the last of a run's powers left, if it had one
+-- what the disk reports of its power cuts, and the image that the last of a run's power cuts left, if it had one
 pub record Past : Type 0 where
   pub told : Option (List (Choice × List ℕ))
   pub last : Option (List ℕ)
 
--- The powers that a disk tells have each of these more, in order, where it tells them.
+-- The power cuts that a disk reports have each of these more, in order, where it reports them.
 abbrev pub Gains : List (Choice × List ℕ) → Option (List (Choice × List ℕ)) → Option (List (Choice × List ℕ)) → Type 0
 Gains [] old new = new ≡ old
 Gains (w ∷ ws) old new = (mid : Option (List (Choice × List ℕ))) × AddsPower w.0 w.1 old mid × Gains ws mid new

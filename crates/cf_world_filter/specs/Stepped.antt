@@ -21,11 +21,11 @@ abbrev pub SteppedTo : {X : Type 0} → (X → State → Type 0) → Event → S
 SteppedTo Is e s (Ok a) new = (t : State) × IsStep Filter s e a t × Is new t
 SteppedTo Is e s (Err m) new = Unit {0}
 
--- in each state that it stands for, and without a power
+-- in each state that it stands for, and without a power cut
 pub record Steps {X : Type 0} (Is : Past → X → State → Type 0) (e : Event) (old : X) (r : Result Answer NoMemory) (new : X) : Type 0 where
   pub leads : (past : Past) (s : State) → Is past old s → SteppedTo (Is past) e s r new
 
--- A step of the definitions, with this answer, and with the powers that the event does: one with its choice for a crash, and
+-- A step of the definitions, with this answer, and with the power cuts that the event does: one with its choice for a crash, and
 -- else none. A restart that resumes opens what the image that the last of them left stands for.
 abbrev pub PoweredTo : {X : Type 0} → (Past → X → State → Type 0) → Past → Event → State → Result Answer NoMemory → X → Type 0
 PoweredTo Is past e s (Ok a) new =
@@ -42,7 +42,7 @@ abbrev pub disk_of : {D : Type 0} → Acting D → D
 disk_of (acting.On x) = x.filter.disk
 disk_of (acting.Off x) = x.disk
 
--- What an event of the device does to the disk: a stop arms it with its number, and a crash is one power with its choice.
+-- What an event of the device does to the disk: a stop arms it with its number, and a crash is one power cut with its choice.
 abbrev pub BearsOn : DeviceEvent → Disk → Disk → Type 0
 BearsOn (device.Stop calls) old new = new.armed ≡ option_map (λ _. Some calls) old.armed
 BearsOn (device.Crash choice) old new = Powers choice old new

@@ -8,7 +8,7 @@ ghost use Rattle.cf_base.specs.declared.answers.Shown.TheVariants as shown;
 use cf_base::{Answer, CallError, Code, Notes, OutOfMemory, Sequence, Shown};
 use std::alloc::Global;
 
-/// The answer with these notes. For want of memory there is none.
+/// The answer with these notes. Where memory runs out there is none.
 pub(crate) fn answered(told: Result<Shown, CallError>, notes: Notes) -> Result<Answer, OutOfMemory>
     ensures { result ≡ answered_by told notes }
 {
@@ -35,7 +35,7 @@ fn meets_device(shown: &Shown) -> bool
 }
 
 /// The answer of a call, after which the filter is broken or not. A call that nothing stopped is not answered as Device: no
-/// part of one is refused so. That is no law of the parts, so such an answer would be want of memory.
+/// part of one is refused so. That is no law of the parts, so such an answer would be out of memory.
 pub(crate) fn known(told: Result<Answer, OutOfMemory>, broken: bool) -> Result<Answer, OutOfMemory>
     ensures { result ≡ known_by broken told }
 {

@@ -40,7 +40,7 @@ impl<D: Disk> Cut<D> {
         plainly(alloc, Shown::Done)
     }
 
-    /// `crash`: one more power.
+    /// `crash`: one more power cut.
     pub(crate) fn cut(&mut self, alloc: Global, choice: Choice) -> Answer
         ensures steps { StepsOver (IsOff D.state) (event.Device (device.Crash choice)) self.old (Ok result) self.new }
         ensures powers { BearsOn (device.Crash choice) (D.state self.old.disk) (D.state self.new.disk) }

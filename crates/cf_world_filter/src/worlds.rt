@@ -41,7 +41,7 @@ fn first_policy() -> Policy
 }
 
 impl<D: Disk> Acting<D> {
-    /// A volume that was just made on a disk of a fit size, whatever that held; the disk had no power in this. Refused as
+    /// A volume that was just made on a disk of a fit size, whatever that held; the disk had no power cut in this. Refused as
     /// Device where a call of the disk failed, and as OutOfMemory; then the disk comes back.
     pub fn start(alloc: Global, disk: D) -> Result<Acting<D>, (D, CallError)>
         requires { IsFitSize (size_of (D.state disk)) }
@@ -59,10 +59,10 @@ impl<D: Disk> Acting<D> {
         }
     }
 
-    /// Does an event of the mode, and answers it. A stop arms the disk with its number, a crash is one power of the disk with
-    /// its choice, and no other event changes the powers that the disk tells. A restart that resumes opens what the image of
-    /// the last power stands for. The disk's count of faults does not fall, and rises in an event that is answered as Device.
-    /// For want of memory an event is not answered, and nothing more is said of the world.
+    /// Does an event of the mode, and answers it. A stop arms the disk with its number, a crash is one power cut of the disk with
+    /// its choice, and no other event changes the power cuts that the disk reports. A restart that resumes opens what the image of
+    /// the last power cut stands for. The disk's count of faults does not fall, and rises in an event that is answered as Device.
+    /// Where memory runs out an event is not answered, and nothing more is said of the world.
     pub fn step(self, alloc: Global, event: &Event) -> (Acting<D>, Result<Answer, OutOfMemory>)
         requires { is_of InFilter event.now ≡ true }
         ensures steps { StepsOver (Is D.state) event.now self result.1 result.0 }
@@ -75,7 +75,7 @@ impl<D: Disk> Acting<D> {
         }
     }
 
-    /// The disk, which tells the powers that the world knows of. Whatever a crash leaves of it stands for a point that a
+    /// The disk, which tells the power cuts that the world knows of. Whatever a crash leaves of it stands for a point that a
     /// restart may open.
     pub fn finish(self) -> D
         ensures lasts { (past : Past) (s : State) → Is D.state past self s → (c : List ℕ) → (D.state result).may_leave c → StandsNow StandsFor s c }

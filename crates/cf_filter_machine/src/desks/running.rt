@@ -23,7 +23,7 @@ impl Desk {
         self.broken = broken;
     }
 
-    /// A call was stopped, by want of memory where that is said.
+    /// A call was stopped, by lack of memory where that is said.
     pub fn stop(&mut self, lost: bool)
         ensures { self.new ≡ record self.old { broken = true; lost = lost } }
     {

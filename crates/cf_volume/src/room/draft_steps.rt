@@ -230,7 +230,7 @@ fn draft_copy(
     }
 }
 
-/// Drafts a change under a number, and tells how many clusters it needs. None where it does not fit the draft.
+/// Drafts a change under a number, and reports how many clusters it needs. None where it does not fit the draft.
 pub(crate) fn draft_change(
     alloc: Global,
     draft: &mut Draft,

@@ -32,7 +32,7 @@ pub(crate) struct Tally {
     pub(crate) blocks: bool,
 }
 
-// The number of the change after so many, or one of the next epoch where that has none: rows are as long with it. There is
+// The number of the change after that many, or one of the next epoch where that has none: rows are as long with it. There is
 // no memory for numbers past those of the next epoch.
 fn number_at(last: Usn, steps: u64) -> Result<Usn, OutOfMemory>
     ensures number { IfOk result (λ n. n ≡ shifted last.epoch (usn_after last.epoch (last.place + steps))) }

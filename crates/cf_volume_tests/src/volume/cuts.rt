@@ -1,4 +1,4 @@
-//! Each call of the disk fails in turn, and the volume that the power then leaves is opened again.
+//! Each call of the disk fails in turn, and the volume that the power cut then leaves is opened again.
 
 ghost use Rattle.std.specs.Prelude.{◌≤◌};
 
@@ -118,7 +118,7 @@ fn cut_power<D: Disk + Drop>(alloc: Global, disk: D, choice: Choice) -> Result<(
     Ok((volume.into_disk(), left))
 }
 
-// A call that is cut after so many calls of the disk: it succeeds, or breaks the volume; a crash leaves the last point or
+// A call that is cut after that many calls of the disk: it succeeds, or breaks the volume; a crash leaves the last point or
 // the one that the call makes, which it leaves where it succeeded.
 fn cut<D: Disk + Drop>(
     alloc: Global,

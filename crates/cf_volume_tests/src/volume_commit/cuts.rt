@@ -1,4 +1,4 @@
-//! Each call of the disk fails in turn, and each image that the power then leaves is opened again.
+//! Each call of the disk fails in turn, and each image that the power cut then leaves is opened again.
 
 use crate::volume_commit::{SIZE, create_at_7, found, opened_at, puts};
 use cf_base::Choice;
@@ -8,7 +8,7 @@ use cf_volume_commit::{create, load};
 use std::alloc::Global;
 use std::test::Fail;
 
-// Whether a formatting that is cut after so many of its 18 calls leaves the old volume, none, or the new one in its first
+// Whether a formatting that is cut after that many of its 18 calls leaves the old volume, none, or the new one in its first
 // epoch or before it; and the new one in its first epoch where it succeeded.
 fn creates_or_not<D: Disk>(
     alloc: Global,
@@ -28,7 +28,7 @@ fn creates_or_not<D: Disk>(
     Ok(done == (calls == 18) && (left == Some((2, 0)) || (!done && (old || partly))))
 }
 
-// Whether an opening that is cut after so many of its 11 calls leaves the volume in its epoch or in the next one, and in the
+// Whether an opening that is cut after that many of its 11 calls leaves the volume in its epoch or in the next one, and in the
 // next one where it succeeded.
 fn opens_or_not<D: Disk>(
     alloc: Global,
@@ -46,7 +46,7 @@ fn opens_or_not<D: Disk>(
     Ok(done == (calls == 11) && (left == Some((3, 7)) || (!done && left == Some((2, 7)))))
 }
 
-// Whether a commit of so many long records that is cut after so many calls leaves what was before or what is saved, and what
+// Whether a commit of so many long records that is cut after that many calls leaves what was before or what is saved, and what
 // is saved where it succeeded. A payload takes 6 calls, and an image 9.
 fn saves_or_not<D: Disk>(
     alloc: Global,

@@ -117,7 +117,7 @@ fn devices_that_are_not_fit(rt: HostRuntime) -> Result<(), Fail> {
     Ok(())
 }
 
-/// How a run ends on a device that fails after so many calls, where nothing is written.
+/// How a run ends on a device that fails after that many calls, where nothing is written.
 fn armed(alloc: Global, word: &str, script: &[u8], calls: u32) -> Result<Option<Status>, Fail> {
     let mut disk = MemDisk::new(alloc, SMALL)?;
     disk.arm(calls);

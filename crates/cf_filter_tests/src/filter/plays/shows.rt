@@ -4,7 +4,7 @@ use cf_base::{CallError, Shown, Usn};
 use cf_filter::Waited;
 use cf_provider::Outcome;
 
-// A refusal is shown; want of memory is none of the test's.
+// A refusal is shown; out of memory is none of the test's.
 pub(super) fn refused(fail: CallError) -> Result<Shown, CallError> {
     match fail {
         CallError::No(code) => Ok(Shown::Refused(code)),
