@@ -5,9 +5,11 @@
 #![tactic(auto)]
 
 mod failures;
+mod formats;
 mod readers;
 mod writers;
 
 pub use failures::CodecError;
+pub use formats::Format;
 pub use readers::{Reader, one_number};
 pub use writers::Writer;

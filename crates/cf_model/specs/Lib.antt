@@ -15,6 +15,9 @@ pub mod EngineEvents
 pub mod Events
 pub mod Feeds
 pub mod Fetching
+pub mod FirstFormats
+pub mod FirstPlaces
+pub mod FirstRows
 pub mod Fits
 pub mod Flushed
 pub mod Formats
