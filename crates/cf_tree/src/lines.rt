@@ -1,9 +1,12 @@
 //! The way up from an item.
 
-ghost use Rattle.std.specs.Prelude.{◌≡◌, ◌==◌, ◌≤◌, length};
+ghost use Rattle.std.specs.Prelude.{◌≡◌, ◌==◌, ◌≤◌, List, length};
 ghost use Rattle.std.specs.List.{list_any};
-ghost use Rattle.cf_table.specs.Tables.{row_of};
+ghost use Rattle.cf_model.specs.Items.{Item};
+ghost use Rattle.cf_model.specs.LookUp.{depth_at};
+ghost use Rattle.cf_table.specs.Tables.{MeansAll, row_of};
 ghost use Rattle.cf_tree.specs.Lines.{line_in, parent_in};
+ghost use Rattle.cf_tree.specs.Trees.{IsTree};
 
 use crate::names::MOST_NAMES;
 use cf_base::ItemId;
@@ -52,4 +55,12 @@ pub(crate) fn line_of(rows: &Rows, id: ItemId, other: ItemId, most: usize) -> Li
         depth: most,
         passes,
     }
+}
+
+/// How many names lead from the root to the item: 0 for the root and for an item that is not there. It takes time by the depth.
+pub fn depth_of(rows: &Rows, id: ItemId) -> usize
+    ensures depth { (items : List Item) → MeansAll rows.now.rows items → IsTree items → result ≡ depth_at items id }
+    ensures small { result ≤ 32 }
+{
+    line_of(rows, id, id, MOST_NAMES).depth
 }

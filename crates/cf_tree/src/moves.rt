@@ -2,7 +2,7 @@
 
 ghost use Rattle.std.specs.Prelude.{◌≡◌, ◌+◌, ◌≤◌, ◌==◌, ◌∷◌, [], List, Some, IfOk, find, nat_lt, not};
 ghost use Rattle.cf_model.specs.Items.{Item, item_of};
-ghost use Rattle.cf_model.specs.LookUp.{height_at, move_refused};
+ghost use Rattle.cf_model.specs.LookUp.{depth_at, height_at, move_refused};
 ghost use Rattle.cf_model.specs.Words.{is_empty, says};
 ghost use Rattle.cf_table.specs.Tables.{id_of, is_child_row, MeansAll};
 ghost use Rattle.cf_tree.specs.Answers.{IsChecked};
@@ -10,7 +10,7 @@ ghost use Rattle.cf_tree.specs.Levels.{level_at};
 ghost use Rattle.cf_tree.specs.Trees.{IsTree};
 
 use crate::levels::level_at;
-use crate::lines::{ROOT, line_of};
+use crate::lines::{ROOT, depth_of, line_of};
 use crate::names::MOST_NAMES;
 use cf_base::{CallError, Code, ItemId, Name, OutOfMemory};
 use cf_table::Rows;
@@ -26,7 +26,12 @@ fn reaches(alloc: Global, rows: &Rows, id: ItemId, names: usize) -> Result<bool,
 
 // Whether more than 32 names would lead to the item or to one below it, where `above` lead to the new directory. What is
 // below is looked at only where the item comes deeper than it stands. Nothing counts as below the root, which never moves.
-fn is_too_deep(alloc: Global, rows: &Rows, id: ItemId, above: usize) -> Result<bool, OutOfMemory>
+fn reaches_too_deep(
+    alloc: Global,
+    rows: &Rows,
+    id: ItemId,
+    above: usize,
+) -> Result<bool, OutOfMemory>
     requires { above ≤ 32 }
     ensures { IfOk result (λ b. (items : List Item) (i : Item) → MeansAll rows.now.rows items → IsTree items → item_of items id ≡ Some i → b ≡ nat_lt 32 (above + 1 + height_at items id)) }
 {
@@ -37,6 +42,19 @@ fn is_too_deep(alloc: Global, rows: &Rows, id: ItemId, above: usize) -> Result<b
         return Ok(false);
     }
     reaches(alloc, rows, id, MOST_NAMES - above)
+}
+
+/// Whether more than 32 names would lead to the item, which is there, or to one below it, if it stood in the directory. It takes
+/// time by the depths, and by what is below the item only where it comes deeper than it stands; there alone it takes memory.
+pub fn is_too_deep(
+    alloc: Global,
+    rows: &Rows,
+    id: ItemId,
+    parent: ItemId,
+) -> Result<bool, OutOfMemory>
+    ensures { IfOk result (λ b. (items : List Item) (i : Item) → MeansAll rows.now.rows items → IsTree items → item_of items id ≡ Some i → b ≡ nat_lt 32 (depth_at items parent + 1 + height_at items id)) }
+{
+    reaches_too_deep(alloc, rows, id, depth_of(rows, parent))
 }
 
 // Whether another item of the directory has the name.
@@ -69,7 +87,7 @@ pub fn check_move(
     if above.passes {
         return Err(CallError::No(Code::IntoItself));
     }
-    if is_too_deep(alloc, rows, id, above.depth)? {
+    if reaches_too_deep(alloc, rows, id, above.depth)? {
         return Err(CallError::No(Code::TooDeep));
     }
     if is_taken(rows, id, parent, name) {

@@ -14,16 +14,16 @@ returns-then-above c = λ items i m t e. below_itself _ _ _ _ (sym (c.line_of-ab
 pub returns-then-branch : goal.returns-then-branch
 returns-then-branch c = λ items i m t e.
     let deep : depth_at items c.args.parent ≡ c.line_of-above.result.depth = sym (c.line_of-above.ensures.depth ∙ ap length (line_is 32 c.args.rows.now.rows items c.args.parent m t (omega arith))) in
-    too_deep _ _ _ _ (sym c.eq.ensures ∙ c.if-eq.false) (sym (c.line_of-above.ensures.passes ∙ ap (λ (l : List ℕ). list_any (λ k. eqb k c.args.id.0) l) (line_is 32 c.args.rows.now.rows items c.args.parent m t (omega arith))) ∙ c.if-above.false) (ap (λ (n : ℕ). ltb 32 (n + 1 + height_at items c.args.id)) deep ∙ sym (c.in_ok-is_too_deep.ensures items i m t e) ∙ c.if-branch.true)
+    too_deep _ _ _ _ (sym c.eq.ensures ∙ c.if-eq.false) (sym (c.line_of-above.ensures.passes ∙ ap (λ (l : List ℕ). list_any (λ k. eqb k c.args.id.0) l) (line_is 32 c.args.rows.now.rows items c.args.parent m t (omega arith))) ∙ c.if-above.false) (ap (λ (n : ℕ). ltb 32 (n + 1 + height_at items c.args.id)) deep ∙ sym (c.in_ok-reaches_too_deep.ensures items i m t e) ∙ c.if-branch.true)
 
 pub returns-then-is_taken : goal.returns-then-is_taken
 returns-then-is_taken c = λ items i m t e.
     let deep : depth_at items c.args.parent ≡ c.line_of-above.result.depth = sym (c.line_of-above.ensures.depth ∙ ap length (line_is 32 c.args.rows.now.rows items c.args.parent m t (omega arith))) in
-    name_taken _ _ _ _ (sym c.eq.ensures ∙ c.if-eq.false) (sym (c.line_of-above.ensures.passes ∙ ap (λ (l : List ℕ). list_any (λ k. eqb k c.args.id.0) l) (line_is 32 c.args.rows.now.rows items c.args.parent m t (omega arith))) ∙ c.if-above.false) (ap (λ (n : ℕ). ltb 32 (n + 1 + height_at items c.args.id)) deep ∙ sym (c.in_ok-is_too_deep.ensures items i m t e) ∙ c.if-branch.false)
+    name_taken _ _ _ _ (sym c.eq.ensures ∙ c.if-eq.false) (sym (c.line_of-above.ensures.passes ∙ ap (λ (l : List ℕ). list_any (λ k. eqb k c.args.id.0) l) (line_is 32 c.args.rows.now.rows items c.args.parent m t (omega arith))) ∙ c.if-above.false) (ap (λ (n : ℕ). ltb 32 (n + 1 + height_at items c.args.id)) deep ∙ sym (c.in_ok-reaches_too_deep.ensures items i m t e) ∙ c.if-branch.false)
     (sym (c.is_taken.ensures ∙ taken_is c.args.rows.now.rows items c.args.id c.args.parent c.args.name.now m) ∙ c.if-is_taken.true)
 
 pub returns : goal.returns
 returns c = λ items i m t e.
     let deep : depth_at items c.args.parent ≡ c.line_of-above.result.depth = sym (c.line_of-above.ensures.depth ∙ ap length (line_is 32 c.args.rows.now.rows items c.args.parent m t (omega arith))) in
-    may_move _ _ _ _ (sym c.eq.ensures ∙ c.if-eq.false) (sym (c.line_of-above.ensures.passes ∙ ap (λ (l : List ℕ). list_any (λ k. eqb k c.args.id.0) l) (line_is 32 c.args.rows.now.rows items c.args.parent m t (omega arith))) ∙ c.if-above.false) (ap (λ (n : ℕ). ltb 32 (n + 1 + height_at items c.args.id)) deep ∙ sym (c.in_ok-is_too_deep.ensures items i m t e) ∙ c.if-branch.false)
+    may_move _ _ _ _ (sym c.eq.ensures ∙ c.if-eq.false) (sym (c.line_of-above.ensures.passes ∙ ap (λ (l : List ℕ). list_any (λ k. eqb k c.args.id.0) l) (line_is 32 c.args.rows.now.rows items c.args.parent m t (omega arith))) ∙ c.if-above.false) (ap (λ (n : ℕ). ltb 32 (n + 1 + height_at items c.args.id)) deep ∙ sym (c.in_ok-reaches_too_deep.ensures items i m t e) ∙ c.if-branch.false)
     (sym (c.is_taken.ensures ∙ taken_is c.args.rows.now.rows items c.args.id c.args.parent c.args.name.now m) ∙ c.if-is_taken.false)
