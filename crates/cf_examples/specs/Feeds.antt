@@ -52,9 +52,9 @@ a_listing_may_be_older_than_the_remote =
     ∷ "= ok 0"
     ∷ []
 
--- A feed reply that is delivered again is applied again.
-abbrev pub a_feed_reply_may_come_twice : List String
-a_feed_reply_may_come_twice =
+-- A feed reply that is delivered again is stale.
+abbrev pub a_feed_reply_is_taken_once : List String
+a_feed_reply_is_taken_once =
     "> peer put /a 61"
     ∷ "= ok 2 1"
     ∷ "> link queued"
@@ -73,11 +73,9 @@ a_feed_reply_may_come_twice =
     ∷ "- change 1.3 remove 2"
     ∷ "= ok"
     ∷ "> deliver 2"
-    ∷ "- change 1.4 make 3 1 a pfile 1 000000000000000200000000000000020000000000000001"
-    ∷ "- change 1.5 mark 3 1.4"
-    ∷ "= ok"
+    ∷ "= refused Stale"
     ∷ "> list /"
-    ∷ "= list a:f"
+    ∷ "= list"
     ∷ []
 
 -- What stands in the way of a move takes a conflict name, and a parent that would come under itself goes to the root.

@@ -9,9 +9,9 @@ pub fn a_listing_may_be_older_than_the_remote()
     ensures { Plays Replay feeds.a_listing_may_be_older_than_the_remote }
 {}
 
-/// A feed reply that is delivered again is applied again.
-pub fn a_feed_reply_may_come_twice()
-    ensures { Plays Replay feeds.a_feed_reply_may_come_twice }
+/// A feed reply that is delivered again is stale.
+pub fn a_feed_reply_is_taken_once()
+    ensures { Plays Replay feeds.a_feed_reply_is_taken_once }
 {}
 
 /// What stands in the way of a move takes a conflict name, and a parent that would come under itself goes to the root.

@@ -54,7 +54,7 @@ pub use faults::a_reply_with_a_byte_too_few_is_stale;
 pub use faults::a_version_may_be_gone;
 pub use faults::an_upload_is_settled_where_few_versions_are_kept;
 pub use faults::bytes_that_are_here_need_no_version;
-pub use feeds::a_feed_reply_may_come_twice;
+pub use feeds::a_feed_reply_is_taken_once;
 pub use feeds::a_listing_may_be_older_than_the_remote;
 pub use feeds::a_move_on_both_sides_to_one_place_is_none;
 pub use feeds::an_occupant_and_a_parent_are_moved_first;

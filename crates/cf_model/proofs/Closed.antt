@@ -26,7 +26,7 @@ use Rattle.cf_model.specs.Operations.{as_it_is}
 use Rattle.cf_model.specs.Passes.{showing, with_round, without_done}
 use Rattle.cf_model.specs.Peers.{with_stray, with_token_used}
 use Rattle.cf_model.specs.Points.{Opens, commit}
-use Rattle.cf_model.specs.PushReplies.{held_and_closed, not_in_row, taken_from_row, with_done, with_not_empty, with_taken_name}
+use Rattle.cf_model.specs.PushReplies.{held_and_closed, not_in_row, round_closed, taken_from_row, with_done, with_not_empty, with_taken_name}
 use Rattle.cf_model.specs.Pushes.{with_token}
 use Rattle.cf_model.specs.Requests.{Deed}
 use Rattle.cf_model.specs.Restarts.{crashed, failed_open, open_skipping}
@@ -67,6 +67,7 @@ pub record Closed (P : State → Type 0) : Type 0 where
   pub keeps_volatile_all_released : (s : State) → P s → P (with_volatile all_released s)
   pub keeps_volatile_held_and_closed : (x1 : QueueEntry) → (s : State) → P s → P (with_volatile (held_and_closed x1) s)
   pub keeps_volatile_not_in_row : (x1 : QueueEntry) → (s : State) → P s → P (with_volatile (not_in_row x1) s)
+  pub keeps_volatile_round_closed : (s : State) → P s → P (with_volatile round_closed s)
   pub keeps_volatile_taken_from_row : (x1 : QueueEntry) → (s : State) → P s → P (with_volatile (taken_from_row x1) s)
   pub keeps_volatile_with_not_empty : (x1 : Usn) → (s : State) → P s → P (with_volatile (with_not_empty x1) s)
   pub keeps_volatile_with_round : (s : State) → P s → P (with_volatile with_round s)

@@ -215,6 +215,7 @@ closed s0 = record {
   keeps_volatile_all_released = volatile_keeps s0 all_released (λ v. (same _, same _));
   keeps_volatile_held_and_closed = λ e. volatile_keeps s0 (held_and_closed e) (λ v. held_back_tame e (round_closed v));
   keeps_volatile_not_in_row = λ e. volatile_keeps s0 (not_in_row e) (not_in_row_tame e);
+  keeps_volatile_round_closed = volatile_keeps s0 round_closed (λ v. (same _, same _));
   keeps_volatile_taken_from_row = λ e. volatile_keeps s0 (taken_from_row e) (λ v. not_in_row_tame e (round_closed v));
   keeps_volatile_with_not_empty = λ n. volatile_keeps s0 (with_not_empty n) (λ v. (same _, same _));
   keeps_volatile_with_round = volatile_keeps s0 with_round (λ v. (more _ 1, same _));

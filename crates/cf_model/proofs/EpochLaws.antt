@@ -123,6 +123,7 @@ closed = record {
   keeps_volatile_all_released = λ s h. h;
   keeps_volatile_held_and_closed = λ e s h. h;
   keeps_volatile_not_in_row = λ e s h. h;
+  keeps_volatile_round_closed = λ s h. h;
   keeps_volatile_taken_from_row = λ e s h. h;
   keeps_volatile_with_not_empty = λ n s h. h;
   keeps_volatile_with_round = λ s h. h;

@@ -84,6 +84,6 @@ device_event_keeps P closed device.Restart = restarts_keep.restart_keeps P close
 pub event_now_keeps : (P : State → Type 0) → Closed P → (x1 : Event) → Preserves P (event_now x1)
 event_now_keeps P closed (event.Call c) = call_now_keeps P closed c
 event_now_keeps P closed (event.Device e) = device_event_keeps P closed e
-event_now_keeps P closed (event.Peer e) = peers_keep.peer_event_keeps P closed e
+event_now_keeps P closed (event.Peer e) = peers_keep.peer_event_keeps P closed.asks closed.keeps_with_token_used closed.keeps_with_stray e
 event_now_keeps P closed (event.Engine e) = engine_events_keep.engine_event_keeps P closed e
 event_now_keeps P closed (event.Provider e) = provider_event_keeps P closed e

@@ -10,13 +10,13 @@ use Rattle.cf_model.specs.Identities.{by_target, entry_identity, no_identity}
 use Rattle.cf_model.specs.Items.{Item, base_of, is_dirty, item_of}
 use Rattle.cf_model.specs.LookUp.{child_of}
 use Rattle.cf_model.specs.Numbers.{no_item, no_usn, root_id}
-use Rattle.cf_model.specs.PushReplies.{whatever}
+use Rattle.cf_model.specs.PushReplies.{round_closed, whatever}
 use Rattle.cf_model.specs.Skips.{in_use, in_volatile, try_change, try_clear_name, try_cursor, try_mark_now, try_seen}
 use Rattle.cf_model.specs.State.{State, items_now}
 use Rattle.cf_model.specs.Words.{says}
 use Rattle.cf_model.proofs.PushRepliesKeep as push_replies_keep
 use Rattle.cf_model.proofs.SkipsKeep as skips_keep
-use Rattle.cf_model.specs.Feeds.{Fed, adopt, all_released, all_turns, apply_feed, changed_entry, changed_steps, changed_unless, copy_off, cursor_if, end_feed, first_turn, first_turn_by, free_parent, gone, gone_unless, in_turn, is_adoptable, is_later, is_newer, is_removable, is_seen_so, is_under, is_whole, known, make_after, make_entry, make_of, move_entry, move_in, name_in_root, new_entry, new_over, parent_here, remove_or_untarget, second_turn, second_turns, seen_entry, stands_in, take_entry, take_over, take_turn, taken, turn, turn_by, turns, unknown, untarget, with_clock_seen, with_turn}
+use Rattle.cf_model.specs.Feeds.{Fed, adopt, all_released, all_turns, apply_entries, apply_feed, changed_entry, changed_steps, changed_unless, copy_off, cursor_if, end_feed, first_turn, first_turn_by, free_parent, gone, gone_unless, in_turn, is_adoptable, is_later, is_newer, is_removable, is_seen_so, is_under, is_whole, known, make_after, make_entry, make_of, move_entry, move_in, name_in_root, new_entry, new_over, parent_here, remove_or_untarget, second_turn, second_turns, seen_entry, stands_in, take_entry, take_over, take_turn, taken, turn, turn_by, turns, unknown, untarget, with_clock_seen, with_turn}
 use Rattle.cf_model.proofs.Closed.{Closed}
 use Rattle.cf_model.proofs.ArrowLaws.{keeps_and_then, keeps_choose, keeps_noted, keeps_only_if, keeps_reading, keeps_ret, keeps_seq, keeps_then}
 use Rattle.cf_model.specs.Arrows.{Preserves}
@@ -134,5 +134,8 @@ cursor_if_keeps P closed clock true = keeps_seq P (try_cursor clock) whatever (s
 pub end_feed_keeps : (P : State → Type 0) → Closed P → (x1 : ℕ) → (x2 : ℕ) → (x3 : Fed) → Preserves P (end_feed x1 x2 x3)
 end_feed_keeps P closed clock skips f = keeps_then P (in_volatile all_released) (then_do (noted (with_clock_seen clock)) (reading (is_whole skips f) (cursor_if clock))) (keeps_noted P (with_volatile all_released) (closed.keeps_volatile_all_released)) (keeps_then P (noted (with_clock_seen clock)) (reading (is_whole skips f) (cursor_if clock)) (keeps_noted P (with_clock_seen clock) (closed.keeps_with_clock_seen clock)) (keeps_reading P (is_whole skips f) (cursor_if clock) (cursor_if_keeps P closed clock)))
 
+pub apply_entries_keeps : (P : State → Type 0) → Closed P → (x1 : ℕ) → (x2 : List Entry) → Preserves P (apply_entries x1 x2)
+apply_entries_keeps P closed clock es = record { keeps = λ s i_. ((keeps_seq P (all_turns es) (end_feed clock s.running.skips) (all_turns_keeps P closed es) (end_feed_keeps P closed clock s.running.skips))).keeps s i_ }
+
 pub apply_feed_keeps : (P : State → Type 0) → Closed P → (x1 : ℕ) → (x2 : List Entry) → Preserves P (apply_feed x1 x2)
-apply_feed_keeps P closed clock es = record { keeps = λ s i_. ((keeps_seq P (all_turns es) (end_feed clock s.running.skips) (all_turns_keeps P closed es) (end_feed_keeps P closed clock s.running.skips))).keeps s i_ }
+apply_feed_keeps P closed clock es = keeps_then P (in_volatile round_closed) (apply_entries clock es) (keeps_noted P (with_volatile round_closed) (closed.keeps_volatile_round_closed)) (apply_entries_keeps P closed clock es)

@@ -66,7 +66,7 @@ reset_if_keeps P closed true = reset_cursor_keeps P closed
 reset_if_keeps P closed false = keeps_ret P unit
 
 pub end_tombstone_keeps : (P : State → Type 0) → Closed P → (x1 : QueueEntry) → (x2 : Bool) → Preserves P (end_tombstone x1 x2)
-end_tombstone_keeps P closed e directory = keeps_then P (in_book (without_tombstone e.number)) (reset_if directory) (skips_keep.in_book_keeps P closed (without_tombstone e.number)) (reset_if_keeps P closed directory)
+end_tombstone_keeps P closed e directory = keeps_then P (reset_if directory) (in_book (without_tombstone e.number)) (reset_if_keeps P closed directory) (skips_keep.in_book_keeps P closed (without_tombstone e.number))
 
 pub done_removal_keeps : (P : State → Type 0) → Closed P → (x1 : QueueEntry) → Preserves P (done_removal x1)
 done_removal_keeps P closed e = keeps_then P (take e) (reading (was_directory e) (end_tombstone e)) (take_keeps P closed e) (keeps_reading P (was_directory e) (end_tombstone e) (end_tombstone_keeps P closed e))
@@ -88,7 +88,7 @@ drop_if_keeps P closed true e = skips_keep.in_book_keeps P closed (without_tombs
 drop_if_keeps P closed false e = keeps_ret P unit
 
 pub lost_place_keeps : (P : State → Type 0) → Closed P → (x1 : QueueEntry) → Preserves P (lost_place x1)
-lost_place_keeps P closed e = keeps_then P (in_volatile (not_in_row e)) (then_do (drop_if (is_removal e) e) reset_cursor) (keeps_noted P (with_volatile (not_in_row e)) (closed.keeps_volatile_not_in_row e)) (keeps_then P (drop_if (is_removal e) e) reset_cursor (drop_if_keeps P closed (is_removal e) e) (reset_cursor_keeps P closed))
+lost_place_keeps P closed e = keeps_then P (in_volatile (not_in_row e)) (then_do reset_cursor (drop_if (is_removal e) e)) (keeps_noted P (with_volatile (not_in_row e)) (closed.keeps_volatile_not_in_row e)) (keeps_then P reset_cursor (drop_if (is_removal e) e) (reset_cursor_keeps P closed) (drop_if_keeps P closed (is_removal e) e))
 
 pub move_away_keeps : (P : State → Type 0) → Closed P → (x1 : Option Item) → Preserves P (move_away x1)
 move_away_keeps P closed None = keeps_ret P unit

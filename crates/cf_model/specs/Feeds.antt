@@ -19,7 +19,7 @@ use Rattle.cf_model.specs.Items.{Item, base_of, is_dirty, item_of}
 use Rattle.cf_model.specs.LookUp.{child_of, children, depth_at, is_below}
 use Rattle.cf_model.specs.Numbers.{no_item, no_usn, root_id}
 use Rattle.cf_model.specs.Plans.{placeholder_dir}
-use Rattle.cf_model.specs.PushReplies.{whatever}
+use Rattle.cf_model.specs.PushReplies.{round_closed, whatever}
 use Rattle.cf_model.specs.Skips.{in_use, in_volatile, try_change, try_clear_name, try_cursor, try_mark_now, try_seen}
 use Rattle.cf_model.specs.State.{Running, State, Volatile, book_now, items_now}
 use Rattle.cf_model.specs.Words.{is_empty, part, same, says, sorted}
@@ -260,5 +260,9 @@ abbrev pub end_feed : ℕ → ℕ → Fed → Arrow State (Unit {0})
 end_feed clock skips f =
     then_do (in_volatile all_released) (then_do (noted (with_clock_seen clock)) (reading (is_whole skips f) (cursor_if clock)))
 
+abbrev pub apply_entries : ℕ → List Entry → Arrow State (Unit {0})
+apply_entries clock es s = seq (all_turns es) (end_feed clock s.running.skips) s
+
+-- a reply that is taken closes its round: a later one to the same request counts no more
 abbrev pub apply_feed : ℕ → List Entry → Arrow State (Unit {0})
-apply_feed clock es s = seq (all_turns es) (end_feed clock s.running.skips) s
+apply_feed clock es = then_do (in_volatile round_closed) (apply_entries clock es)

@@ -132,8 +132,8 @@ abbrev pub is_latest_round : State → Key → Bool
 is_latest_round s round = (round.epoch == s.filter.volume.epoch) && (round.number == s.volatile.rounds)
 
 -- Nothing waits for the reply any more: its key or token is not live; it is a Listing while a new item is on its way to
--- the remote; or it is a feed that is not of the latest round, that is older than the cursor, or that came while an
--- upload was on its way.
+-- the remote; or it is a feed that is not of the latest round, whose round was closed by a reply, that is older than the
+-- cursor, or that came while an upload was on its way.
 abbrev pub is_old : State → Reply → Bool
 is_old s (reply.Feed round clock es) =
     not (is_latest_round s round.0 && s.volatile.round_open && nat_le (book_now s).cursor clock && is_empty (book_now s).entries)

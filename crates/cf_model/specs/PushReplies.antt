@@ -47,7 +47,7 @@ end_entry e = in_book (without_entry e.token)
 
 -- what is kept until a restart
 
--- a reply to an upload was taken: a feed that was asked for before it counts no more
+-- a reply to a feed or to an upload was taken: a feed that was asked for before it counts no more
 abbrev pub round_closed : Volatile → Volatile
 round_closed v = record v { round_open = false }
 
@@ -157,8 +157,9 @@ abbrev pub reset_if : Bool → Arrow State (Unit {0})
 reset_if true = reset_cursor
 reset_if false = ret unit
 
+-- the cursor first: with a directory's tombstone nothing is said of what it has passed
 abbrev pub end_tombstone : QueueEntry → Bool → Arrow State (Unit {0})
-end_tombstone e directory = then_do (in_book (without_tombstone e.number)) (reset_if directory)
+end_tombstone e directory = then_do (reset_if directory) (in_book (without_tombstone e.number))
 
 abbrev pub done_removal : QueueEntry → Arrow State (Unit {0})
 done_removal e = then_do (take e) (reading (was_directory e) (end_tombstone e))
@@ -182,9 +183,9 @@ abbrev pub drop_if : Bool → QueueEntry → Arrow State (Unit {0})
 drop_if true e = in_book (without_tombstone e.number)
 drop_if false e = ret unit
 
--- the remote knows better: a tombstone is dropped, and all is fed again
+-- the remote knows better: all is fed again, and a tombstone is dropped
 abbrev pub lost_place : QueueEntry → Arrow State (Unit {0})
-lost_place e = then_do (in_volatile (not_in_row e)) (then_do (drop_if (is_removal e) e) reset_cursor)
+lost_place e = then_do (in_volatile (not_in_row e)) (then_do reset_cursor (drop_if (is_removal e) e))
 
 abbrev pub move_away : Option Item → Arrow State (Unit {0})
 move_away None = ret unit

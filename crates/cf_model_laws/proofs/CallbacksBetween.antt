@@ -36,7 +36,7 @@ use Rattle.cf_model_laws.proofs.Leading.{Ended, Leads, led}
 use Rattle.cf_model_laws.proofs.OpeningLaws.{Opening, restart_leads}
 use Rattle.cf_model_laws.proofs.OutboxEvents.{filter_runs_keep}
 use Rattle.cf_model_laws.proofs.OutboxMessages.{asks_keep, come_keeps}
-use Rattle.cf_model_laws.proofs.OutboxPeers.{peer_event_keeps}
+use Rattle.cf_model.proofs.PeersKeep.{peer_event_keeps}
 use Rattle.cf_model_laws.proofs.OutboxRuns.{run_kept}
 use Rattle.cf_model_laws.proofs.RightItems.{no_way}
 use Rattle.cf_model_laws.proofs.SpentKeys.{spent_runs}

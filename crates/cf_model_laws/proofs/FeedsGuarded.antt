@@ -11,12 +11,12 @@ use Rattle.cf_model.specs.Arrows.{Arrow, Preserves, and_then, noted, only_if, re
 use Rattle.cf_model.specs.Books.{QueueEntry}
 use Rattle.cf_model.specs.Changes.{next_number}
 use Rattle.cf_model.specs.Dehydration.{in_use as is_used}
-use Rattle.cf_model.specs.Feeds.{Fed, depth_of_entry, all_released, all_turns, apply_feed, changed_entry, changed_steps, changed_unless, cursor_if, end_feed, first_turn, first_turn_by, in_turn, is_later, is_newer, is_parent, is_seen_so, is_whole, known, move_entry, parent_here, second_turn, second_turns, take_entry, take_over, take_turn, turn_by, turns, unknown, with_clock_seen, with_turn}
+use Rattle.cf_model.specs.Feeds.{Fed, depth_of_entry, all_released, all_turns, apply_entries, apply_feed, changed_entry, changed_steps, changed_unless, cursor_if, end_feed, first_turn, first_turn_by, in_turn, is_later, is_newer, is_parent, is_seen_so, is_whole, known, move_entry, parent_here, second_turn, second_turns, take_entry, take_over, take_turn, turn_by, turns, unknown, with_clock_seen, with_turn}
 use Rattle.cf_model.specs.Identities.{by_target, has_target, target_of}
 use Rattle.cf_model.specs.Items.{Item, item_of}
 use Rattle.cf_model.specs.Missing.{Wait}
 use Rattle.cf_model.specs.Numbers.{no_key, no_rid, root_rid, same_key}
-use Rattle.cf_model.specs.PushReplies.{whatever}
+use Rattle.cf_model.specs.PushReplies.{round_closed, whatever}
 use Rattle.cf_model.specs.Requests.{Waiting, is_busy_beside}
 use Rattle.cf_model.specs.Skips.{in_use, in_volatile, try_cursor, try_mark_now, with_volatile}
 use Rattle.cf_model.specs.State.{Filter, Link, State, book_now, items_now}
@@ -211,10 +211,13 @@ end_feed_keeps : (P : State → Type 0) → Guarded P → (clock skips : ℕ) (f
 end_feed_keeps P closed clock skips f = keeps_then P (in_volatile all_released) (then_do (noted (with_clock_seen clock)) (reading (is_whole skips f) (cursor_if clock))) (keeps_noted P (with_volatile all_released) (closed.keeps_volatile_all_released)) (keeps_then P (noted (with_clock_seen clock)) (reading (is_whole skips f) (cursor_if clock)) (keeps_noted P (with_clock_seen clock) (closed.keeps_with_clock_seen clock)) (keeps_reading P (is_whole skips f) (cursor_if clock) (cursor_if_keeps P closed clock)))
 
 -- a feed that was told, while no upload is on its way
-pub apply_feed_at : (P : State → Type 0) → Guarded P → (clock : ℕ) (list : List Entry) (s : State) → (IsFair s.link → (book_now s).entries ≡ []) → All (IsTold s.link) list → P s → Keeps P (apply_feed clock list s)
-apply_feed_at P closed clock list s none told h =
+apply_entries_at : (P : State → Type 0) → Guarded P → (clock : ℕ) (list : List Entry) (s : State) → (IsFair s.link → (book_now s).entries ≡ []) → All (IsTold s.link) list → P s → Keeps P (apply_entries clock list s)
+apply_entries_at P closed clock list s none told h =
     keeps_bind P (all_turns list s) (end_feed clock s.running.skips)
     (keeps_first P (Feeding s.link s.filter (book_now s).entries) (all_turns list s)
     ((all_turns_keep s.link s.filter (book_now s).entries (λ t. P t × Feeding s.link s.filter (book_now s).entries t)
     (record { steps = framed Whichever P (Feeding s.link s.filter (book_now s).entries) (guarded_skipping P closed) (feeding s.link s.filter (book_now s).entries); fed = λ t k. k.1; none = none }) list told).keeps s (h, record { link = refl; waiting = refl; handles = refl; entries = refl })))
     (λ f t j. (end_feed_keeps P closed clock s.running.skips f).keeps t j)
+
+pub apply_feed_at : (P : State → Type 0) → Guarded P → (clock : ℕ) (list : List Entry) (s : State) → (IsFair s.link → (book_now s).entries ≡ []) → All (IsTold s.link) list → P s → Keeps P (apply_feed clock list s)
+apply_feed_at P closed clock list s none told h = apply_entries_at P closed clock list (with_volatile round_closed s) none told (closed.keeps_volatile_round_closed s h)

@@ -21,7 +21,7 @@ use Rattle.cf_model.specs.ConflictNames.{conflict_name}
 use Rattle.cf_model.specs.Dehydration.{in_use as is_used}
 use Rattle.cf_model.specs.Effects.{changed, copies, effect, untargeted}
 use Rattle.cf_model.specs.Events.{begun, is_of, tree_of}
-use Rattle.cf_model.specs.Feeds.{Fed, adopt, all_released, all_turns, apply_feed, changed_steps, changed_unless, copy_off, cursor_if, end_feed, first_turn, first_turn_by, free_parent, gone, gone_unless, in_turn, is_adoptable, is_later, is_newer, is_removable, is_seen_so, is_under, is_whole, known, make_after, make_entry, make_of, move_entry, move_in, name_in_root, new_entry, new_over, parent_here, remove_or_untarget, second_turn, second_turns, seen_entry, stands_in, take_entry, take_over, take_turn, turn_by, turns, unknown, untarget, with_clock_seen, with_turn}
+use Rattle.cf_model.specs.Feeds.{Fed, adopt, all_released, all_turns, apply_entries, apply_feed, changed_steps, changed_unless, copy_off, cursor_if, end_feed, first_turn, first_turn_by, free_parent, gone, gone_unless, in_turn, is_adoptable, is_later, is_newer, is_removable, is_seen_so, is_under, is_whole, known, make_after, make_entry, make_of, move_entry, move_in, name_in_root, new_entry, new_over, parent_here, remove_or_untarget, second_turn, second_turns, seen_entry, stands_in, take_entry, take_over, take_turn, turn_by, turns, unknown, untarget, with_clock_seen, with_turn}
 use Rattle.cf_model.specs.Identities.{by_target, entry_identity, has_target, no_identity}
 use Rattle.cf_model.specs.Items.{Item, base_of, is_dirty, item_of, pin_of}
 use Rattle.cf_model.specs.Lawful.{Runs}
@@ -29,7 +29,7 @@ use Rattle.cf_model.specs.Logs.{next_by}
 use Rattle.cf_model.specs.LookUp.{child_of}
 use Rattle.cf_model.specs.Numbers.{no_item, no_key, no_usn, root_id}
 use Rattle.cf_model.specs.Points.{with_point_begun, with_room_point}
-use Rattle.cf_model.specs.PushReplies.{whatever}
+use Rattle.cf_model.specs.PushReplies.{round_closed, whatever}
 use Rattle.cf_model.specs.Requests.{Waiting, is_busy_beside}
 use Rattle.cf_model.specs.Skips.{do_change, in_book, in_use, in_volatile, is_cursor, is_there, is_markable, left_out, move_off, not_done, number_of_item, occupant, skip, skip_line, skipped, tried, try_book, try_change, try_clear_name, try_cursor, try_mark_now, try_seen, why_no_change, why_no_record, with_book, with_volatile}
 use Rattle.cf_model.specs.Soundness.{Each}
@@ -357,12 +357,14 @@ calm_idle s t h =
       idle = subst (All (λ c. Idle s c.1)) (sym e) h.idle;
     }
 
+feed_calm : (w : State) (clock : ℕ) (entries : List Entry) (s : State) → Calm w Whatever s → Keeps (Calm w Whatever) (apply_entries clock entries s)
+feed_calm w clock entries s h =
+    keeps_bind (Calm w Whatever) (all_turns entries s) (end_feed clock s.running.skips) (calm_all w entries s h) (λ f t j. (calm_end w clock s.running.skips f).keeps t j)
+
 pub feed_idle : (clock : ℕ) (entries : List Entry) (s : State) → AreIdsRising s → Keeps (AreReplacedIdle s) (apply_feed clock entries s)
 feed_idle clock entries s rising =
     keeps_weaker (Calm s Whatever) (AreReplacedIdle s) (calm_idle s) (apply_feed clock entries s)
-    (keeps_bind (Calm s Whatever) (all_turns entries s) (end_feed clock s.running.skips)
-    (calm_all s entries s (record { handles = refl; waiting = refl; changes = []; longer = sym (append-nil s.filter.volume.log); idle = tt; order = rising; items = tt }))
-    (λ f t j. (calm_end s clock s.running.skips f).keeps t j))
+    (feed_calm s clock entries (with_volatile round_closed s) (record { handles = refl; waiting = refl; changes = []; longer = sym (append-nil s.filter.volume.log); idle = tt; order = rising; items = tt }))
 
 pub ids_rise : (remote : Held) (clusters : ℕ) (trace : List (Event × Answer)) (s : State) (e : Event)
     → Runs mode.Replay (start mode.Replay remote clusters) trace s → IsFresh remote → is_of mode.Replay e ≡ true → Keeps (λ t. IsFair t.link → AreIdsRising t) (tree_of e s)

@@ -169,6 +169,7 @@ guarded_framed Used id R k es P closed = record {
   keeps_volatile_all_released = λ s h. (closed.keeps_volatile_all_released s h.0, h.1);
   keeps_volatile_held_and_closed = λ e s h. (closed.keeps_volatile_held_and_closed e s h.0, same_framed Used id R es s.link s.volatile.tokens _ s.filter.volume (back_tokens e (round_closed s.volatile)) h.1);
   keeps_volatile_not_in_row = λ e s h. (closed.keeps_volatile_not_in_row e s h.0, same_framed Used id R es s.link s.volatile.tokens _ s.filter.volume (row_tokens e s.volatile) h.1);
+  keeps_volatile_round_closed = λ s h. (closed.keeps_volatile_round_closed s h.0, h.1);
   keeps_volatile_taken_from_row = λ e s h. (closed.keeps_volatile_taken_from_row e s h.0, same_framed Used id R es s.link s.volatile.tokens _ s.filter.volume (row_tokens e (round_closed s.volatile)) h.1);
   keeps_volatile_with_not_empty = λ n s h. (closed.keeps_volatile_with_not_empty n s h.0, h.1);
   keeps_volatile_with_round = λ s h. (closed.keeps_volatile_with_round s h.0, h.1);

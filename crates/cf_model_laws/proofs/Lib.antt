@@ -67,7 +67,6 @@ pub mod OutboxRuns
 pub mod SpentKeys
 pub mod OwnAsks
 pub mod OutboxMessages
-pub mod OutboxPeers
 pub mod OutboxStill
 pub mod CallbacksOver
 pub mod CallbacksBetween

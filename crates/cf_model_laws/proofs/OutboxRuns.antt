@@ -79,6 +79,7 @@ module _ (F : Fact) (b : BoxingRuns F) where
     keeps_volatile_all_released = λ s h. (closed.keeps_volatile_all_released s h.0, h.1);
     keeps_volatile_held_and_closed = λ e s h. (closed.keeps_volatile_held_and_closed e s h.0, h.1);
     keeps_volatile_not_in_row = λ e s h. (closed.keeps_volatile_not_in_row e s h.0, h.1);
+    keeps_volatile_round_closed = λ s h. (closed.keeps_volatile_round_closed s h.0, h.1);
     keeps_volatile_taken_from_row = λ e s h. (closed.keeps_volatile_taken_from_row e s h.0, h.1);
     keeps_volatile_with_not_empty = λ n s h. (closed.keeps_volatile_with_not_empty n s h.0, h.1);
     keeps_volatile_with_round = λ s h. (closed.keeps_volatile_with_round s h.0, h.1);

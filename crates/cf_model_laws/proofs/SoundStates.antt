@@ -165,6 +165,7 @@ sound_guarded = record {
   keeps_volatile_all_released = λ s h. h;
   keeps_volatile_held_and_closed = λ e s h. volatile_state s (held_and_closed e s.volatile) (back_tokens e (round_closed s.volatile)) h;
   keeps_volatile_not_in_row = λ e s h. volatile_state s (not_in_row e s.volatile) (row_tokens e s.volatile) h;
+  keeps_volatile_round_closed = λ s h. h;
   keeps_volatile_taken_from_row = λ e s h. volatile_state s (taken_from_row e s.volatile) (row_tokens e (round_closed s.volatile)) h;
   keeps_volatile_with_not_empty = λ n s h. h;
   keeps_volatile_with_round = λ s h. h;
