@@ -13,6 +13,7 @@ use Rattle.cf_base.specs.declared.ids.ItemId.{ItemId}
 use Rattle.cf_base.specs.declared.ids.Usn.{Usn}
 use Rattle.cf_base.specs.declared.items.Pin.{Pin}
 use Rattle.cf_base.specs.declared.items.Reach.{Reach}
+use Rattle.cf_base.specs.declared.limits.TheConstants.{MOST_FILE_BYTES, MOST_HANDLES}
 use Rattle.cf_base.specs.declared.policies.Class.{Class}
 use Rattle.cf_base.specs.declared.policies.Class.TheVariants as class
 use Rattle.cf_base.specs.declared.policies.Mode.{Mode}
@@ -47,7 +48,7 @@ abbrev pub with_handle : ItemId → Filter → Filter
 with_handle item s = record s { handles = s.handles ++ record { handle = next_handle s; item = item } ∷ []; handle_count = s.handle_count + 1 }
 
 abbrev pub open_tests : Filter → List (Bool × Code)
-open_tests s = (nat_le 1024 (length s.handles), code.TooManyHandles) ∷ (nat_le most s.handle_count, code.Exhausted) ∷ []
+open_tests s = (nat_le MOST_HANDLES (length s.handles), code.TooManyHandles) ∷ (nat_le most s.handle_count, code.Exhausted) ∷ []
 
 abbrev pub opened_as : ItemId → Handle → Arrow Filter Shown
 opened_as item h = then_do (noted (with_handle item)) (ret (shown.Opened h))
@@ -85,7 +86,7 @@ number_of item = reading (number_at item) show_number
 -- writes
 
 abbrev pub write_tests : ℕ → List Change → Filter → List (Bool × Code)
-write_tests end cs s = (nat_lt 16777216 end, code.TooLarge) ∷ room_tests cs s
+write_tests end cs s = (nat_lt MOST_FILE_BYTES end, code.TooLarge) ∷ room_tests cs s
 
 -- a write or a size, which is an access too
 abbrev pub write_now : ItemId → Change → Arrow Filter Shown

@@ -1,6 +1,7 @@
 -- The name of a conflict copy: `stem (conflict N).ext`.
 use Rattle.std.specs.Prelude.{ℕ, zero, suc, Bool, true, false, cond, List, [], length, take, drop, Option, Some, None, nat_lt, slice_get, codes, ◌+◌, ◌-◌, ◌||◌, ◌∷◌, ◌++◌, ◌==◌}
 use Rattle.cf_base.specs.declared.ids.ItemId.{ItemId}
+use Rattle.cf_base.specs.declared.limits.TheConstants.{MOST_NAME_BYTES}
 use Rattle.cf_model.specs.Items.{Item}
 use Rattle.cf_model.specs.LookUp.{child_of}
 use Rattle.cf_model.specs.Words.{decimal, says, within}
@@ -41,7 +42,7 @@ cut_text n text = cut_back n text (says is_inside (slice_get text n))
 abbrev pub with_number : List ℕ → ℕ → List ℕ
 with_number name n =
     let tail : List ℕ = codes " (conflict " ++ decimal n ++ codes ")" ++ drop (ext_at name) name in
-    cut_text (255 - length tail) (take (ext_at name) name) ++ tail
+    cut_text (MOST_NAME_BYTES - length tail) (take (ext_at name) name) ++ tail
 
 -- the first name from number n on that is free; fuel is the number of items
 abbrev pub first_free : ℕ → List Item → ItemId → List ℕ → ℕ → List ℕ

@@ -3,6 +3,7 @@ use Rattle.std.specs.Prelude.{ℕ, Bool, true, false, not, cond, List, [], lengt
 use Rattle.std.specs.List.{list_all, list_any}
 use Rattle.cf_base.specs.declared.ids.Rid.{Rid}
 use Rattle.cf_base.specs.declared.ids.Token.{Token}
+use Rattle.cf_base.specs.declared.limits.TheConstants.{MOST_FILE_BYTES}
 use Rattle.cf_base.specs.declared.messages.Entry.{Entry}
 use Rattle.cf_base.specs.declared.messages.Reply.{Reply}
 use Rattle.cf_base.specs.declared.messages.Reply.TheVariants as reply
@@ -33,7 +34,7 @@ is_of_kind ks e = list_all (λ k. not (k.rid.0 == e.rid.0) || same_flag k.direct
 abbrev pub is_entry : List Known → Entry → Bool
 is_entry ks e =
     nat_lt 1 e.rid.0 && not (e.rid.0 == e.parent.0) && is_name e.name && is_of_kind ks e
-    && cond e.dir ((e.version.0 == 0) && (e.len == 0)) (nat_le 1 e.version.0 && nat_le e.len 16777216)
+    && cond e.dir ((e.version.0 == 0) && (e.len == 0)) (nat_le 1 e.version.0 && nat_le e.len MOST_FILE_BYTES)
 
 abbrev pub has_rid : Rid → List Entry → Bool
 has_rid rid es = list_any (λ e. e.rid.0 == rid.0) es

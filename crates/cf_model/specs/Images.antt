@@ -3,6 +3,7 @@ use Rattle.std.specs.Prelude.{ℕ, Bool, true, false, cond, List, [], length, na
 use Rattle.cf_base.specs.declared.answers.AuxRecord.{AuxRecord}
 use Rattle.cf_base.specs.declared.changes.Change.{Change}
 use Rattle.cf_base.specs.declared.changes.Change.TheVariants as change
+use Rattle.cf_base.specs.declared.limits.TheConstants.{MOST_IMAGE_BYTES, MOST_ITEMS}
 use Rattle.cf_base.specs.declared.spans.Span.{Span}
 use Rattle.cf_model.specs.Blocks.{blocks_holding, blocks_in}
 use Rattle.cf_model.specs.Books.{Book, anchor_of, aux_records}
@@ -60,14 +61,14 @@ abbrev pub most_len : List Item → Book → ℕ
 most_len items b = 41 + sum_by most_row_len items + aux_len_of b
 
 abbrev pub most_image : ℕ
-most_image = 1306624
+most_image = MOST_IMAGE_BYTES
 
 abbrev pub is_too_long : List Item → Book → Bool
 is_too_long items b = nat_lt most_image (most_len items b) && nat_lt most_image (image_len items b)
 
 -- the table would have too many items, or too many bytes
 abbrev pub table_full : List Item → Book → Bool
-table_full items b = nat_lt 10000 (length items) || is_too_long items b
+table_full items b = nat_lt MOST_ITEMS (length items) || is_too_long items b
 
 -- what never makes the image longer is never refused as TableFull
 abbrev pub never_longer : Change → Bool

@@ -6,6 +6,7 @@ use Rattle.cf_base.specs.declared.codes.Code.TheVariants as code
 use Rattle.cf_base.specs.declared.ids.ItemId.{ItemId}
 use Rattle.cf_base.specs.declared.items.Pin.{Pin}
 use Rattle.cf_base.specs.declared.items.Pin.TheVariants as pin
+use Rattle.cf_base.specs.declared.limits.TheConstants.{MOST_PATH_NAMES}
 use Rattle.cf_model.specs.Items.{Item, item_of, pin_of, root}
 use Rattle.cf_model.specs.Texts.{is_name}
 use Rattle.cf_model.specs.Words.{but_last, comes_before, first_of, greatest, last_of, same, says, sorted, split_at}
@@ -52,7 +53,7 @@ root_of (i ∷ is) = i
 
 -- why the names are no path, before anything is looked up
 abbrev pub bad_names : List (List ℕ) → Option Code
-bad_names names = first_of ((nat_lt 32 (length names), code.TooDeep) ∷ (not (list_all is_name names), code.BadPath) ∷ [])
+bad_names names = first_of ((nat_lt MOST_PATH_NAMES (length names), code.TooDeep) ∷ (not (list_all is_name names), code.BadPath) ∷ [])
 
 abbrev pub refused_or : {A : Type 0} → Option Code → Result A Code → Result A Code
 refused_or (Some c) r = Err c
@@ -117,7 +118,7 @@ height_at items id = greatest (map (λ i. depth_at items i.id) (filter (λ i. is
 abbrev pub move_refused : List Item → ItemId → ItemId → List ℕ → Option Code
 move_refused items id parent name = first_of (
     ((parent.0 == id.0) || is_below items parent id, code.IntoItself)
-    ∷ (nat_lt 32 (depth_at items parent + 1 + height_at items id), code.TooDeep)
+    ∷ (nat_lt MOST_PATH_NAMES (depth_at items parent + 1 + height_at items id), code.TooDeep)
     ∷ (says (λ i. not (i.id.0 == id.0)) (child_of items parent name), code.Exists) ∷ [])
 
 -- items by depth, then by id

@@ -5,10 +5,11 @@ use Rattle.cf_base.specs.declared.ids.Key.{Key}
 use Rattle.cf_base.specs.declared.ids.Rid.{Rid}
 use Rattle.cf_base.specs.declared.ids.Usn.{Usn}
 use Rattle.cf_base.specs.declared.ids.Version.{Version}
+use Rattle.cf_base.specs.declared.limits.TheConstants.{MOST_NUMBER}
 
 -- the greatest epoch, and the greatest place, key, token, round, wait and handle number of an epoch
 abbrev pub most : ℕ
-most = 4294967295
+most = MOST_NUMBER
 
 -- the greatest item id
 abbrev pub most_items : ℕ

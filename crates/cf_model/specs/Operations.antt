@@ -14,6 +14,7 @@ use Rattle.cf_base.specs.declared.ids.Usn.{Usn}
 use Rattle.cf_base.specs.declared.ids.WaitId.{WaitId}
 use Rattle.cf_base.specs.declared.items.Kind.{Kind}
 use Rattle.cf_base.specs.declared.items.Kind.TheVariants as kind
+use Rattle.cf_base.specs.declared.limits.TheConstants.{MOST_FILE_BYTES, MOST_IDENTITY_BYTES, MOST_PATH_NAMES}
 use Rattle.cf_base.specs.declared.operations.NewItem.{NewItem}
 use Rattle.cf_base.specs.declared.operations.Operation.{Operation}
 use Rattle.cf_base.specs.declared.operations.Operation.TheVariants as operation
@@ -183,9 +184,9 @@ no_table_listed f cs v = no_table v cs || (not (is_empty cs) && table_full (put_
 abbrev pub entries_tests : (Book → Book) → Live → List NewItem → List Change → Filter → List (Bool × Code)
 entries_tests f a list cs s =
     (not (is_list a.ask.kind), code.WrongKind) ∷ (not (list_all (λ e. is_name e.name) list), code.BadPath) ∷ (is_twice list, code.Exists)
-    ∷ (list_any (λ e. nat_lt 4096 (length e.identity)) list, code.IdentityTooLong) ∷ (list_any (λ e. not e.dir && nat_lt 16777216 e.size) list, code.TooLarge)
+    ∷ (list_any (λ e. nat_lt MOST_IDENTITY_BYTES (length e.identity)) list, code.IdentityTooLong) ∷ (list_any (λ e. not e.dir && nat_lt MOST_FILE_BYTES e.size) list, code.TooLarge)
     ∷ (list_any (λ e. not e.dir && is_always_full s.policy.hydration && nat_lt 0 e.size) list, code.PolicyDenied)
-    ∷ (not (is_empty list) && nat_le 32 (depth_at s.volume.items a.ask.item), code.TooDeep)
+    ∷ (not (is_empty list) && nat_le MOST_PATH_NAMES (depth_at s.volume.items a.ask.item), code.TooDeep)
     ∷ (no_table_listed f cs s.volume, code.TableFull) ∷ (lacks_numbers s.volume cs, code.Exhausted) ∷ []
 
 -- the book changes with the last change

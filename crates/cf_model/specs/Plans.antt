@@ -13,6 +13,7 @@ use Rattle.cf_base.specs.declared.items.Pin.{Pin}
 use Rattle.cf_base.specs.declared.items.Pin.TheVariants as pin
 use Rattle.cf_base.specs.declared.items.Reach.{Reach}
 use Rattle.cf_base.specs.declared.items.Reach.TheVariants as reach
+use Rattle.cf_base.specs.declared.limits.TheConstants.{MOST_FILE_BYTES, MOST_IDENTITY_BYTES}
 use Rattle.cf_base.specs.declared.policies.Policy.{Policy}
 use Rattle.cf_base.specs.declared.policies.Population.{Population}
 use Rattle.cf_base.specs.declared.policies.Population.TheVariants as population
@@ -58,18 +59,18 @@ plan_create items p item next parent name NewFile =
 plan_create items p item next parent name NewDir =
     plan ((is_some (child_of items parent name), code.Exists) ∷ []) (make_and_mark item next parent name kind.Dir 0 [] false)
 plan_create items p item next parent name (NewPlaceholder size identity mark) =
-    plan ((is_some (child_of items parent name), code.Exists) ∷ (nat_lt 4096 (length identity), code.IdentityTooLong)
-    ∷ (nat_lt 16777216 size, code.TooLarge) ∷ (is_always_full p.hydration && nat_lt 0 size, code.PolicyDenied) ∷ [])
+    plan ((is_some (child_of items parent name), code.Exists) ∷ (nat_lt MOST_IDENTITY_BYTES (length identity), code.IdentityTooLong)
+    ∷ (nat_lt MOST_FILE_BYTES size, code.TooLarge) ∷ (is_always_full p.hydration && nat_lt 0 size, code.PolicyDenied) ∷ [])
     (make_and_mark item next parent name kind.PlaceholderFile size identity mark)
 plan_create items p item next parent name (NewPlaceholderDir identity mark) =
-    plan ((is_some (child_of items parent name), code.Exists) ∷ (nat_lt 4096 (length identity), code.IdentityTooLong) ∷ [])
+    plan ((is_some (child_of items parent name), code.Exists) ∷ (nat_lt MOST_IDENTITY_BYTES (length identity), code.IdentityTooLong) ∷ [])
     (make_and_mark item next parent name (placeholder_dir p) 0 identity mark)
 
 -- placeholders
 
 abbrev pub plan_convert : Item → List ℕ → Result (List Change) Code
 plan_convert i identity =
-    plan ((i.placeholder, code.AlreadyPlaceholder) ∷ (nat_lt 4096 (length identity), code.IdentityTooLong) ∷ []) (change.Convert i.id identity ∷ [])
+    plan ((i.placeholder, code.AlreadyPlaceholder) ∷ (nat_lt MOST_IDENTITY_BYTES (length identity), code.IdentityTooLong) ∷ []) (change.Convert i.id identity ∷ [])
 
 abbrev pub plan_revert : Item → Bool → Result (List Change) Code
 plan_revert i in_use =
@@ -79,11 +80,11 @@ plan_revert i in_use =
 -- with a size another version takes the place of the file's bytes; without one only another identity makes a change
 abbrev pub plan_update : Policy → Item → List ℕ → Option ℕ → Bool → Result (List Change) Code
 plan_update p i identity None in_use =
-    plan ((not i.placeholder, code.NotPlaceholder) ∷ (nat_lt 4096 (length identity), code.IdentityTooLong) ∷ [])
+    plan ((not i.placeholder, code.NotPlaceholder) ∷ (nat_lt MOST_IDENTITY_BYTES (length identity), code.IdentityTooLong) ∷ [])
     (when (not (same i.identity identity)) (change.Rebase i.id identity (base_of i) no_usn ∷ []))
 plan_update p i identity (Some size) in_use =
-    plan ((i.directory, code.IsDirectory) ∷ (not i.placeholder, code.NotPlaceholder) ∷ (nat_lt 4096 (length identity), code.IdentityTooLong)
-    ∷ (is_kept_full p i, code.PolicyDenied) ∷ (not i.in_sync, code.NotInSync) ∷ (in_use, code.InUse) ∷ (nat_lt 16777216 size, code.TooLarge) ∷ [])
+    plan ((i.directory, code.IsDirectory) ∷ (not i.placeholder, code.NotPlaceholder) ∷ (nat_lt MOST_IDENTITY_BYTES (length identity), code.IdentityTooLong)
+    ∷ (is_kept_full p i, code.PolicyDenied) ∷ (not i.in_sync, code.NotInSync) ∷ (in_use, code.InUse) ∷ (nat_lt MOST_FILE_BYTES size, code.TooLarge) ∷ [])
     (change.Take i.id identity size ∷ [])
 
 -- 0.0 marks whatever the item's number is

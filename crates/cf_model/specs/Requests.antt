@@ -5,6 +5,7 @@ use Rattle.cf_base.specs.declared.ids.Handle.{Handle}
 use Rattle.cf_base.specs.declared.ids.ItemId.{ItemId}
 use Rattle.cf_base.specs.declared.ids.Key.{Key}
 use Rattle.cf_base.specs.declared.ids.WaitId.{WaitId}
+use Rattle.cf_base.specs.declared.limits.TheConstants.{MOST_ASKS, MOST_WAITS}
 use Rattle.cf_base.specs.declared.spans.Span.{Span}
 use Rattle.cf_base.specs.declared.waits.Ask.{Ask}
 use Rattle.cf_base.specs.declared.waits.AskKind.{AskKind}
@@ -125,10 +126,10 @@ with_waits ws s = record s { waits = s.waits ++ ws; wait_count = s.wait_count + 
 -- limits on the state after a step; waits and asks of dehydrations do not count
 
 abbrev pub too_many_waits : Waiting → Bool
-too_many_waits s = nat_lt 1024 (count_by (λ w. not (is_dehydrate_wait w.kind)) s.waits)
+too_many_waits s = nat_lt MOST_WAITS (count_by (λ w. not (is_dehydrate_wait w.kind)) s.waits)
 
 abbrev pub too_many_asks : Waiting → Bool
-too_many_asks s = nat_lt 4096 (count_by (λ a. not (is_dehydrate a.ask.kind)) s.asks)
+too_many_asks s = nat_lt MOST_ASKS (count_by (λ a. not (is_dehydrate a.ask.kind)) s.asks)
 
 abbrev pub no_numbers : Waiting → Bool
 no_numbers s = passes_most s.key_count 0 || passes_most s.wait_count 0

@@ -5,6 +5,7 @@ use Rattle.cf_base.specs.declared.ids.ItemId.{ItemId}
 use Rattle.cf_base.specs.declared.ids.Usn.{Usn}
 use Rattle.cf_base.specs.declared.items.Pin.{Pin}
 use Rattle.cf_base.specs.declared.items.Pin.TheVariants as pin
+use Rattle.cf_base.specs.declared.limits.TheConstants.{MOST_FILE_BYTES, MOST_IDENTITY_BYTES}
 use Rattle.cf_base.specs.declared.spans.Span.{Span}
 use Rattle.cf_model.specs.Books.{Book, access_of, anchor_of, usn_bytes}
 use Rattle.cf_model.specs.Images.{runs_of, writes_since}
@@ -144,7 +145,7 @@ pub record IsSoundRow (next : ItemId) (last : Usn) (r : Row) : Type 0 where
   pub numbers : (above r.number last ≡ false) × (above r.anchor last ≡ false)
   pub root_name : r.id.0 ≡ 1 → r.name ≡ []
   pub name : r.id.0 ≢ 1 → is_name r.name ≡ true
-  pub lengths : (length r.identity ≤ 4096) × (r.size ≤ 16777216) × (unwrap_or r.base 0 ≤ 16777216)
+  pub lengths : (length r.identity ≤ MOST_IDENTITY_BYTES) × (r.size ≤ MOST_FILE_BYTES) × (unwrap_or r.base 0 ≤ MOST_FILE_BYTES)
   pub in_size : (p : ℕ) → has_place r.here p ≡ true → p < r.size
   pub valid : Inside r.valid r.here
   pub modified : Inside r.modified r.here

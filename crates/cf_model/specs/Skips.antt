@@ -7,6 +7,7 @@ use Rattle.cf_base.specs.declared.codes.Code.TheVariants as code
 use Rattle.cf_base.specs.declared.ids.ItemId.{ItemId}
 use Rattle.cf_base.specs.declared.ids.Usn.{Usn}
 use Rattle.cf_base.specs.declared.items.SeenPath.{SeenPath}
+use Rattle.cf_base.specs.declared.limits.TheConstants.{MOST_PATH_NAMES}
 use Rattle.cf_base.specs.declared.notices.Notice.TheVariants as notice
 use Rattle.cf_model.specs.Arrows.{Arrow, attempt, noted, one, only_if, reading, ret, seq}
 use Rattle.cf_model.specs.Books.{Book, with_cursor, with_seen}
@@ -51,9 +52,9 @@ in_use s item = is_used item s.filter
 -- changes
 
 abbrev pub is_too_deep : List Item → Change → Bool
-is_too_deep items (change.Make item parent name kind size identity) = nat_le 32 (depth_at items parent)
-is_too_deep items (change.Copy item from parent name) = nat_le 32 (depth_at items parent)
-is_too_deep items (change.Move item parent name) = nat_lt 32 (depth_at items parent + 1 + height_at items item)
+is_too_deep items (change.Make item parent name kind size identity) = nat_le MOST_PATH_NAMES (depth_at items parent)
+is_too_deep items (change.Copy item from parent name) = nat_le MOST_PATH_NAMES (depth_at items parent)
+is_too_deep items (change.Move item parent name) = nat_lt MOST_PATH_NAMES (depth_at items parent + 1 + height_at items item)
 is_too_deep items _ = false
 
 abbrev pub or_else : Option Code → Option Code → Option Code

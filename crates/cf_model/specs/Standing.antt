@@ -3,6 +3,7 @@ use Rattle.std.specs.Prelude.{ℕ, Bool, true, List, [], length, map, not, Optio
 use Rattle.std.specs.List.{flat_map, list_any}
 use Rattle.cf_base.specs.declared.changes.Change.{Change}
 use Rattle.cf_base.specs.declared.ids.Usn.{Usn}
+use Rattle.cf_base.specs.declared.limits.TheConstants.{MOST_ITEMS}
 use Rattle.cf_model.specs.Blocks.{blocks_holding}
 use Rattle.cf_model.specs.Books.{Book, aux_records}
 use Rattle.cf_model.specs.Formats.{Header, Image, spell_image}
@@ -52,5 +53,5 @@ pub record Stands (clusters : ℕ) (cluster : ℕ → List ℕ) (image : Image) 
   pub next : image.header.next.0 ≡ next_of log
   pub clock : image.header.clock ≡ b.clock
   pub records : image.records ≡ aux_records b
-  pub few : length image.rows ≤ 10000
+  pub few : length image.rows ≤ MOST_ITEMS
   pub short : length (spell_image image) ≤ most_image

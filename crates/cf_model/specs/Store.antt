@@ -1,6 +1,7 @@
 -- The remote: what it holds, and what a request makes of it.
 use Rattle.std.specs.Prelude.{ℕ, zero, suc, Bool, true, false, not, cond, List, [], length, drop, map, filter, Option, Some, None, find, max, nat_le, nat_lt, slice_get, slice_range, sum_by, count_by, ◌+◌, ◌-◌, ◌&&◌, ◌||◌, ◌∷◌, ◌++◌, ◌==◌, if◌then◌else◌}
 use Rattle.std.specs.List.{flat_map, list_any}
+use Rattle.cf_base.specs.declared.limits.TheConstants.{MOST_FILE_BYTES, MOST_ITEMS, MOST_PATH_NAMES}
 use Rattle.cf_model.specs.Texts.{is_name}
 use Rattle.cf_base.specs.declared.ids.Key.{Key}
 use Rattle.cf_base.specs.declared.ids.Rid.{Rid}
@@ -120,7 +121,7 @@ entry_told s = record { rid = s.rid; parent = s.parent; name = s.name; dir = s.d
 abbrev pub feed_of : Held → ℕ → List Entry
 feed_of held after =
     let seen : List Stored = filter (λ s. nat_lt after s.changed && not (s.rid.0 == 1)) held.items in
-    map entry_told (flat_map (λ d. filter (λ s. s.live && (depth_of held s.rid == d)) seen) (counting 1 32) ++ filter (λ s. not s.live) seen)
+    map entry_told (flat_map (λ d. filter (λ s. s.live && (depth_of held s.rid == d)) seen) (counting 1 MOST_PATH_NAMES) ++ filter (λ s. not s.live) seen)
 
 -- the live children of a directory, by name
 abbrev pub listing_of : Held → Rid → List Entry
@@ -177,32 +178,32 @@ passes_bytes items = nat_lt 536870912 (sum_by (λ s. sum_by length (versions_hel
 
 -- the live items would be too many
 abbrev pub passes_items : List Stored → Bool
-passes_items items = nat_lt 10000 (count_by (λ s. s.live) items)
+passes_items items = nat_lt MOST_ITEMS (count_by (λ s. s.live) items)
 
 abbrev pub why_new_file : Held → Rid → List ℕ → List ℕ → Option Why
 why_new_file held parent name bytes =
     let after : List Stored = with_new held parent name false (bytes ∷ []) in
     first_of (
-    (not (is_live_dir held parent), why.NotThere) ∷ (not (is_name name), why.BadName) ∷ (nat_lt 16777216 (length bytes), why.TooLarge)
-    ∷ (nat_le 32 (depth_of held parent), why.TooDeep) ∷ (is_taken held parent name no_rid, why.NameTaken)
+    (not (is_live_dir held parent), why.NotThere) ∷ (not (is_name name), why.BadName) ∷ (nat_lt MOST_FILE_BYTES (length bytes), why.TooLarge)
+    ∷ (nat_le MOST_PATH_NAMES (depth_of held parent), why.TooDeep) ∷ (is_taken held parent name no_rid, why.NameTaken)
     ∷ (passes_bytes after || passes_items after, why.Quota) ∷ [])
 
 abbrev pub why_version : Held → Rid → Version → List ℕ → Option Why
 why_version held rid expect bytes = first_of (
-    (not (is_live_file held rid), why.NotThere) ∷ (nat_lt 16777216 (length bytes), why.TooLarge)
+    (not (is_live_file held rid), why.NotThere) ∷ (nat_lt MOST_FILE_BYTES (length bytes), why.TooLarge)
     ∷ (not (expect.0 == (latest_at held rid).0), why.Conflict) ∷ (passes_bytes (with_version held rid bytes), why.Quota) ∷ [])
 
 abbrev pub why_new_dir : Held → Rid → List ℕ → Option Why
 why_new_dir held parent name = first_of (
     (not (is_live_dir held parent), why.NotThere) ∷ (not (is_name name), why.BadName)
-    ∷ (nat_le 32 (depth_of held parent), why.TooDeep) ∷ (is_taken held parent name no_rid, why.NameTaken)
+    ∷ (nat_le MOST_PATH_NAMES (depth_of held parent), why.TooDeep) ∷ (is_taken held parent name no_rid, why.NameTaken)
     ∷ (passes_items (with_new held parent name true []), why.Quota) ∷ [])
 
 abbrev pub why_move : Held → Rid → Rid → List ℕ → Option Why
 why_move held rid parent name = first_of (
     ((rid.0 == 1) || not (is_live held rid) || not (is_live_dir held parent), why.NotThere)
     ∷ (not (is_name name), why.BadName) ∷ ((parent.0 == rid.0) || is_under held parent rid, why.Loop)
-    ∷ (nat_lt 32 (depth_of held parent + 1 + height_of held rid), why.TooDeep) ∷ (is_taken held parent name rid, why.NameTaken) ∷ [])
+    ∷ (nat_lt MOST_PATH_NAMES (depth_of held parent + 1 + height_of held rid), why.TooDeep) ∷ (is_taken held parent name rid, why.NameTaken) ∷ [])
 
 abbrev pub why_remove : Held → Rid → Version → Option Why
 why_remove held rid expect = first_of (

@@ -4,6 +4,7 @@ use Rattle.std.specs.List.{list_all}
 use Rattle.std.specs.Str.{bytes_eq, chars_after, continuation_len, lead_bits}
 use lib.Utf8.{scalars}
 use Rattle.cf_base.specs.Names.{is_name_byte}
+use Rattle.cf_base.specs.declared.limits.TheConstants.{MOST_NAME_BYTES}
 
 -- the characters that bytes spell
 abbrev pub chars_in : List ℕ → List ℕ
@@ -31,4 +32,4 @@ is_text bs = scalars (chars_in bs) && bytes_eq (all_encoded (chars_in bs)) bs
 
 -- one to 255 bytes of UTF-8, none of them a control byte or a mark, and neither one dot nor two
 abbrev pub is_name : List ℕ → Bool
-is_name name = nat_lt 0 (length name) && nat_le (length name) 255 && list_all is_name_byte name && is_text name && not (bytes_eq name (codes ".")) && not (bytes_eq name (codes ".."))
+is_name name = nat_lt 0 (length name) && nat_le (length name) MOST_NAME_BYTES && list_all is_name_byte name && is_text name && not (bytes_eq name (codes ".")) && not (bytes_eq name (codes ".."))
