@@ -2,13 +2,13 @@
 use Rattle.std.proofs.Common.{◌≡◌, ℕ, ◌+◌, ◌-◌, ◌≤◌, Bool, true, false, List, [], length, replicate, sym, ◌∙◌, ap, subst, arith}
 use Rattle.std.proofs.lemmas.List.{length-replicate}
 use Rattle.cf_base.specs.declared.policies.Choice.{Choice}
-use Rattle.cf_disk.specs.Covering.{Adds, IsOuter}
-use Rattle.cf_disk.specs.Fronts.{IsFront, filled, padded, window}
-use Rattle.cf_disk.specs.Images.{Held, IsWhole, IsQuietOutside, durable, written, left_by}
+use Rattle.cf_disk.specs.Covering.{Adds}
+use Rattle.cf_disk.specs.Fronts.{IsFront, filled, padded}
+use Rattle.cf_disk.specs.Images.{Held, IsWhole, durable, written, left_by}
 use Rattle.cf_disk.specs.Splice.{over, length-over}
 use Rattle.cf_disk.specs.declared.ranges.Range.{Range}
 use Rattle.cf_disk.proofs.FrontLaws.{length-filled, filled_again, filled_over, padded_durable, padded_whole, left_padded}
-use Rattle.cf_disk.proofs.ImageLaws.{left_over, left_image}
+use Rattle.cf_disk.proofs.ImageLaws.{left_image}
 use Rattle.cf_disk.proofs.MediumLaws.{medium_written, medium_durable, medium_cut, medium_padded}
 
 module _ (size : ℕ) (ranges : List Range) (r y p : ℕ) (bytes synced : List ℕ) (pending : List Bool) (is : IsFront size ranges r y p (record { bytes = bytes; synced = synced; pending = pending }))
@@ -83,16 +83,7 @@ module _ (size : ℕ) (ranges : List Range) (r y p : ℕ) (bytes synced : List �
         ∙ padded_durable size bytes is.fits
         ∙ ap (λ (h : Held). durable h.bytes) view
 
-  module _ (choice : Choice) (new : List ℕ) (outer : Range) (covers : IsOuter ranges outer) (new_is : new ≡ over outer.low (left_by choice (window outer.low (outer.high - outer.low) front)) bytes) where
-    inside : (outer.low ≤ outer.high) × (outer.high ≤ length bytes)
-    inside = covers.within (length bytes) is.medium.within
-
-    quiet : IsQuietOutside outer.low outer.high pending
-    quiet i out = is.medium.covered i (covers.outside i out)
-
-    left : new ≡ left_by choice front
-    left = new_is ∙ left_over outer.low outer.high front is.medium.whole inside.0 inside.1 quiet choice
-
+  module _ (choice : Choice) (new : List ℕ) (left : new ≡ left_by choice front) where
     pub front_cut : (r2 : ℕ) → r ≤ r2 → IsFront size ranges r2 y p (record { bytes = new; synced = synced; pending = pending })
     front_cut r2 rs = record {
       medium = medium_cut bytes synced pending ranges is.medium choice new left;

@@ -1,15 +1,14 @@
 -- What the calls of a disk in memory do to its images.
-use Rattle.std.proofs.Common.{◌≡◌, ◌⊎◌, inl, inr, ℕ, zero, suc, ◌+◌, ◌-◌, ◌<◌, ◌≤◌, Bool, true, false, List, ◌++◌, length, get_or, take, drop, replicate, refl, sym, ◌∙◌, ap, arith, append_assoc}
+use Rattle.std.proofs.Common.{◌≡◌, ◌⊎◌, inl, inr, ℕ, zero, suc, ◌+◌, ◌-◌, ◌<◌, ◌≤◌, Bool, true, false, List, length, get_or, replicate, refl, sym, ◌∙◌, ap, arith}
 use Rattle.std.proofs.lemmas.Bool.{cases_lt, both_ways}
-use Rattle.std.proofs.lemmas.List.{ext_get_or, length-replicate, length-drop, get_or-drop, get_or-replicate, drop-drop}
+use Rattle.std.proofs.lemmas.List.{ext_get_or, length-replicate, get_or-replicate}
 use Rattle.cf_base.specs.declared.policies.Choice.{Choice}
 use Rattle.cf_base.specs.declared.policies.Choice.TheVariants.{Keep, Drop, Mix}
 use Rattle.cf_disk.specs.Disk.{part, SameBut}
-use Rattle.cf_disk.specs.Fronts.{window}
-use Rattle.cf_disk.specs.Images.{Held, IsImage, IsWhole, IsQuietOutside, written, durable, left_by, mixed}
+use Rattle.cf_disk.specs.Images.{Held, IsImage, IsWhole, written, durable, left_by, mixed}
 use Rattle.cf_disk.specs.Parts.{length-part, get_or-part}
 use Rattle.cf_disk.specs.Splice.{over, length-over, over_before, over_in, over_after}
-use Rattle.cf_disk.proofs.Mixing.{length-mixed, mixed_stays, mixed_from, mixed_to}
+use Rattle.cf_disk.proofs.Mixing.{length-mixed, mixed_stays}
 
 -- the flags after n places from one on were set alike
 module _ (b : Bool) (at n : ℕ) (flags : List Bool) (room : at + n ≤ length flags) where
@@ -116,56 +115,6 @@ left_image (Mix n) h whole = record {
   size = length-mixed n h.bytes h.synced h.pending ∙ whole.reads_one.size;
   stays = λ i is. mixed_stays n h.bytes h.synced h.pending i is ∙ whole.reads_one.stays i is;
 }
-
--- a range put over bytes that are the same outside of it
-pub range_over : (low high : ℕ) (xs ys : List ℕ) → low ≤ high → high ≤ length xs → length ys ≡ length xs → ((i : ℕ) → (i < low) ⊎ (high ≤ i) → get_or ys i 0 ≡ get_or xs i 0)
-    → over low (part low (high - low) xs) ys ≡ xs
-range_over low high xs ys order room same outside = ext_get_or 0 (over low (part low (high - low) xs) ys) xs
-    (length-over 0 low (part low (high - low) xs) ys fits ∙ same)
-    (λ i _. elim (cases_lt i low) [
-      | inl under ↦ over_before 0 low (part low (high - low) xs) ys fits i under ∙ outside i (inl under)
-      | inr from ↦ elim (cases_lt i high) [
-        | inl below ↦
-            over_in 0 low (part low (high - low) xs) ys fits i from (omega (arith, size))
-            ∙ get_or-part low (high - low) xs (i - low) (omega arith)
-            ∙ (let here : low + (i - low) ≡ i = omega arith in ap (λ (k : ℕ). get_or xs k 0) here)
-        | inr above ↦ over_after 0 low (part low (high - low) xs) ys fits i (omega (arith, size)) ∙ outside i (inr above)
-      ]
-    ])
-  where
-    size : length (part low (high - low) xs) ≡ high - low
-    size = length-part low (high - low) xs (omega arith)
-
-    fits : low + length (part low (high - low) xs) ≤ length ys
-    fits = omega (arith, size)
-
--- where nothing is pending outside of a range, the bytes of that range are all that a power cut has to look at
-module _ (low high : ℕ) (h : Held) (whole : IsWhole h) (order : low ≤ high) (room : high ≤ length h.bytes) (quiet : IsQuietOutside low high h.pending) where
-  abbrev cut_bytes : ℕ → List ℕ
-  cut_bytes s = mixed s (part low (high - low) h.bytes) (part low (high - low) h.synced) (take (high - low) (drop low h.pending))
-
-  mixed_over : (s : ℕ) → over low (cut_bytes s) h.bytes ≡ mixed s h.bytes h.synced h.pending
-  mixed_over s =
-      ap (λ (k : ℕ). take low h.bytes ++ cut_bytes s ++ drop k h.bytes) place
-      ∙ append_assoc (take low h.bytes) (cut_bytes s) (drop (low + (high - low)) h.bytes)
-      ∙ ap (λ (l : List ℕ). take low h.bytes ++ (cut_bytes s ++ l)) (sym (drop-drop (high - low) low h.bytes))
-      ∙ ap (λ (l : List ℕ). take low h.bytes ++ l) (sym ended)
-      ∙ sym (mixed_from low s h.bytes h.synced h.pending (λ i under. quiet i (inl under)) (omega arith) (sym whole.reads_one.size) (omega (arith, whole.flags, whole.reads_one.size)))
-    where
-      place : low + length (cut_bytes s) ≡ low + (high - low)
-      place = omega (arith, length-mixed s (part low (high - low) h.bytes) (part low (high - low) h.synced) (take (high - low) (drop low h.pending)), length-part low (high - low) h.bytes (omega arith))
-
-      ended : mixed s (drop low h.bytes) (drop low h.synced) (drop low h.pending) ≡ cut_bytes s ++ drop (high - low) (drop low h.bytes)
-      ended = mixed_to (high - low) s (drop low h.bytes) (drop low h.synced) (drop low h.pending)
-          (λ i above. get_or-drop low h.pending i false ∙ quiet (low + i) (inr (omega arith)))
-          (omega (arith, length-drop low h.bytes)) (omega (arith, length-drop low h.bytes, length-drop low h.synced, whole.reads_one.size))
-          (omega (arith, length-drop low h.bytes, length-drop low h.pending, whole.flags, whole.reads_one.size))
-
-  -- a power cut of the range alone
-  pub left_over : (choice : Choice) → over low (left_by choice (window low (high - low) h)) h.bytes ≡ left_by choice h
-  left_over Keep = range_over low high h.bytes h.bytes order room refl (λ i out. refl)
-  left_over Drop = range_over low high h.synced h.bytes order (omega (arith, whole.reads_one.size)) whole.reads_one.size (λ i out. whole.reads_one.stays i (quiet i out))
-  left_over (Mix s) = mixed_over s
 
 -- where nothing is pending, all is durable
 pub quiet_durable : (bytes synced : List ℕ) (pending : List Bool) → IsWhole (record { bytes = bytes; synced = synced; pending = pending }) → ((i : ℕ) → get_or pending i false ≡ false)

@@ -2,6 +2,7 @@ mod Mixing
 mod CoverLaws
 mod ImageLaws
 mod FrontLaws
+mod RangeCuts
 mod MediumLaws
 mod FrontSteps
 mod CutLaws

@@ -1,7 +1,7 @@
 -- One step of the loop over pending bytes.
 use Rattle.std.proofs.Common.{◌≡◌, ℕ, zero, suc, ◌+◌, ◌<◌, ◌≤◌, List, [], ◌∷◌, ◌++◌, Bool, true, false, length, get_or, set, take, drop, refl, sym, ◌∙◌, ap, arith, append_assoc}
-use Rattle.std.proofs.lemmas.List.{drop_more, take_more, take_more_set, drop-set-lt}
-use Rattle.cf_disk.specs.Images.{mixed, mixed_byte, stirred}
+use Rattle.std.proofs.lemmas.List.{drop_more, take_more, take_more_set, drop-set-lt, get_or-drop, take-append-drop}
+use Rattle.cf_disk.specs.Images.{mixed, mixed_after, mixed_byte, stirred}
 
 module _ (s i : ℕ) (b y : List ℕ) (p : List Bool) (lb : i < length b) (ly : i < length y) (lp : i < length p) where
   opened : (f : Bool) → get_or p i false ≡ f → mixed s (drop i b) (drop i y) (drop i p) ≡ mixed s (get_or b i 0 ∷ drop (i + 1) b) (get_or y i 0 ∷ drop (i + 1) y) (f ∷ drop (i + 1) p)
@@ -48,25 +48,22 @@ mixed_quiet s (w ∷ b) (x ∷ y) [] quiet = refl
 mixed_quiet s (w ∷ b) (x ∷ y) (false ∷ p) quiet = ap (λ (l : List ℕ). w ∷ l) (mixed_quiet s b y p (λ i. quiet (suc i)))
 mixed_quiet s (w ∷ b) (x ∷ y) (true ∷ p) quiet = let no : true ≡ false = quiet zero in absurd cc
 
--- where nothing is pending before a place, the generator starts there
-pub mixed_from : (low s : ℕ) (b y : List ℕ) (p : List Bool) → ((i : ℕ) → i < low → get_or p i false ≡ false) → low ≤ length b → length y ≡ length b → length p ≡ length b
-    → mixed s b y p ≡ take low b ++ mixed s (drop low b) (drop low y) (drop low p)
-mixed_from zero s b y p quiet fits ly lp = refl
-mixed_from (suc low) s [] y p quiet fits ly lp = absurd (omega arith)
-mixed_from (suc low) s (w ∷ b) [] p quiet fits ly lp = absurd (omega arith)
-mixed_from (suc low) s (w ∷ b) (x ∷ y) [] quiet fits ly lp = absurd (omega arith)
-mixed_from (suc low) s (w ∷ b) (x ∷ y) (false ∷ p) quiet fits ly lp =
-    ap (λ (l : List ℕ). w ∷ l) (mixed_from low s b y p (λ i lt. quiet (suc i) (omega (arith, lt))) (omega arith) (omega arith) (omega arith))
-mixed_from (suc low) s (w ∷ b) (x ∷ y) (true ∷ p) quiet fits ly lp = let no : true ≡ false = quiet zero (omega arith) in absurd cc
+-- where nothing is pending from one place up to another, the generator goes on there
+pub mixed_skips : (low at s : ℕ) (b y : List ℕ) (p : List Bool) → at ≤ low → ((i : ℕ) → at ≤ i → i < low → get_or p i false ≡ false) → low ≤ length b → length y ≡ length b → length p ≡ length b
+    → mixed_after low s b y p ≡ mixed_after at s b y p
+mixed_skips zero zero s b y p le quiet fits ly lp = refl
+mixed_skips zero (suc at) s b y p le quiet fits ly lp = absurd (omega arith)
+mixed_skips (suc low) at s [] y p le quiet fits ly lp = absurd (omega arith)
+mixed_skips (suc low) at s (w ∷ b) [] p le quiet fits ly lp = absurd (omega arith)
+mixed_skips (suc low) at s (w ∷ b) (x ∷ y) [] le quiet fits ly lp = absurd (omega arith)
+mixed_skips (suc low) zero s (w ∷ b) (x ∷ y) (false ∷ p) le quiet fits ly lp =
+    ap (λ (l : List ℕ). w ∷ l) (mixed_skips low zero s b y p (omega arith) (λ i from lt. quiet (suc i) (omega arith) (omega (arith, lt))) (omega arith) (omega arith) (omega arith))
+mixed_skips (suc low) zero s (w ∷ b) (x ∷ y) (true ∷ p) le quiet fits ly lp = let no : true ≡ false = quiet zero (omega arith) (omega arith) in absurd cc
+mixed_skips (suc low) (suc at) s (w ∷ b) (x ∷ y) (f ∷ p) le quiet fits ly lp =
+    ap (λ (l : List ℕ). w ∷ l) (mixed_skips low at s b y p (omega arith) (λ i from lt. quiet (suc i) (omega (arith, from)) (omega (arith, lt))) (omega arith) (omega arith) (omega arith))
 
--- where nothing is pending from a place on, the generator ends there
-pub mixed_to : (n s : ℕ) (b y : List ℕ) (p : List Bool) → ((i : ℕ) → n ≤ i → get_or p i false ≡ false) → n ≤ length b → length y ≡ length b → length p ≡ length b
-    → mixed s b y p ≡ mixed s (take n b) (take n y) (take n p) ++ drop n b
-mixed_to zero s b y p quiet fits ly lp = mixed_quiet s b y p (λ i. quiet i (omega arith))
-mixed_to (suc n) s [] y p quiet fits ly lp = absurd (omega arith)
-mixed_to (suc n) s (w ∷ b) [] p quiet fits ly lp = absurd (omega arith)
-mixed_to (suc n) s (w ∷ b) (x ∷ y) [] quiet fits ly lp = absurd (omega arith)
-mixed_to (suc n) s (w ∷ b) (x ∷ y) (false ∷ p) quiet fits ly lp =
-    ap (λ (l : List ℕ). w ∷ l) (mixed_to n s b y p (λ i le. quiet (suc i) (omega (arith, le))) (omega arith) (omega arith) (omega arith))
-mixed_to (suc n) s (w ∷ b) (x ∷ y) (true ∷ p) quiet fits ly lp =
-    ap (λ (l : List ℕ). mixed_byte (stirred s) x w ∷ l) (mixed_to n (stirred s) b y p (λ i le. quiet (suc i) (omega (arith, le))) (omega arith) (omega arith) (omega arith))
+-- where nothing is pending from a place on, all is done
+pub mixed_done : (at s : ℕ) (b y : List ℕ) (p : List Bool) → ((i : ℕ) → at ≤ i → get_or p i false ≡ false) → mixed_after at s b y p ≡ b
+mixed_done at s b y p quiet =
+    ap (λ (l : List ℕ). take at b ++ l) (mixed_quiet s (drop at b) (drop at y) (drop at p) (λ i. get_or-drop at p i false ∙ quiet (at + i) (omega arith)))
+    ∙ take-append-drop at b

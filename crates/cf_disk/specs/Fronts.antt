@@ -1,5 +1,5 @@
 -- A medium of which the front alone lies in memory: all behind it is zero, synced and not pending.
-use Rattle.std.specs.Prelude.{◌<◌, ◌≤◌, ◌-◌, ◌^◌, ℕ, false, List, ◌++◌, length, take, drop, replicate}
+use Rattle.std.specs.Prelude.{◌<◌, ◌≤◌, ◌-◌, ◌^◌, ℕ, false, List, ◌++◌, length, replicate}
 use Rattle.cf_disk.specs.Images.{Held, IsMedium}
 use Rattle.cf_disk.specs.declared.ranges.Range.{Range}
 
@@ -13,14 +13,6 @@ padded size h = record {
   bytes = filled size 0 h.bytes;
   synced = filled size 0 h.synced;
   pending = filled size false h.pending;
-}
-
--- n bytes of each from a place on
-abbrev pub window : ℕ → ℕ → Held → Held
-window at n h = record {
-  bytes = take n (drop at h.bytes);
-  synced = take n (drop at h.synced);
-  pending = take n (drop at h.pending);
 }
 
 -- so a medium in memory keeps its front, with room for the whole of each list

@@ -9,6 +9,7 @@ mod disks;
 mod media;
 mod mem_disks;
 mod patches;
+mod power_cuts;
 mod powers;
 mod ranges;
 mod trace_disks;

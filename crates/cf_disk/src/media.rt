@@ -5,8 +5,9 @@ ghost use Rattle.cf_disk.specs.Disk.{part};
 ghost use Rattle.cf_disk.specs.Images.{Held, IsWhole, written, durable, left_by};
 
 use crate::patches::{
-    copy_filled, cut_vec, fill_up, fill_up_flags, mark_vec, put_vec, read_filled, sync_ranges,
+    copy_filled, fill_up, fill_up_flags, mark_vec, put_vec, read_filled, sync_ranges,
 };
+use crate::power_cuts::cut_vec;
 use crate::ranges::{FewRanges, Range};
 use cf_base::{Choice, OutOfMemory};
 use std::alloc::Global;
@@ -15,7 +16,7 @@ use std::marker::Model;
 /// The bytes of a disk, those of the last sync, and a flag for each byte that was written since. They lie in memory up to
 /// the last place that was ever written; all behind it is zero and durable. Room for the whole is taken at the start, so
 /// that a write takes none, and what was never touched costs nothing. The flags that are set lie in the ranges, so that a
-/// sync goes over these places alone, however far apart they lie, and a power cut from the first to the last of them.
+/// sync and a power cut go over these places alone, however far apart they lie.
 #[derive(Drop)]
 pub(crate) struct Medium {
     bytes: Vec<u8>,
@@ -106,13 +107,11 @@ impl Medium {
         ensures is { self.new ≡ record { bytes = left_by choice self.old; synced = self.old.synced; pending = self.old.pending } }
         ensures whole { IsWhole self.old }
     {
-        let outer = self.ranges.outer();
         cut_vec(
             &mut self.bytes,
             &self.synced,
             &self.pending,
-            outer.low,
-            outer.high,
+            self.ranges.as_slice(),
             choice,
         );
     }

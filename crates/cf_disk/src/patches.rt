@@ -1,13 +1,13 @@
-//! Parts of vectors: bytes put over others, flags set, and the bytes that a power cut mixes.
+//! Parts of vectors: bytes put over others, and flags set.
 
 ghost use Rattle.std.specs.Prelude.{◌≡◌, ◌≤◌, ◌<◌, ◌+◌, ◌-◌, ◌^◌, List, length, replicate, false, IfOk, vec_capacity};
 ghost use Rattle.cf_disk.specs.Disk.{part};
-ghost use Rattle.cf_disk.specs.Fronts.{filled, window};
-ghost use Rattle.cf_disk.specs.Images.{durable, left_by, mixed, mixed_byte, stirred, Held, IsMedium};
+ghost use Rattle.cf_disk.specs.Fronts.{filled};
+ghost use Rattle.cf_disk.specs.Images.{durable, Held, IsMedium};
 ghost use Rattle.cf_disk.specs.Splice.{over};
 
 use crate::ranges::Range;
-use cf_base::{Choice, OutOfMemory};
+use cf_base::OutOfMemory;
 use std::alloc::Global;
 
 // So many zeros.
@@ -18,7 +18,7 @@ pub(crate) fn zeros(alloc: Global, n: usize) -> Result<Vec<u8>, OutOfMemory>
 }
 
 // Puts bytes over others at a place.
-fn put(bytes: &mut [u8], at: usize, src: &[u8])
+pub(crate) fn put(bytes: &mut [u8], at: usize, src: &[u8])
     requires { at + length src.now ≤ length bytes.old }
     ensures { bytes.new ≡ over at src.now bytes.old }
 {
@@ -141,100 +141,4 @@ pub(crate) fn copy_filled(bytes: &[u8], size: usize, out: &mut Vec<u8>)
     ensures { out.new.items ≡ filled size 0 bytes.now }
 {
     read_filled(bytes, size, 0, out);
-}
-
-// The next number of the generator.
-#[tactic(auto, unfolding(crate::specs::Images::stirred))]
-fn stir(s: u64) -> u64
-    ensures { result ≡ stirred s }
-{
-    s.wrapping_mul(6_364_136_223_846_793_005)
-        .wrapping_add(1_442_695_040_888_963_407)
-}
-
-// One pending byte, by a number of the generator.
-#[tactic(auto, unfolding(crate::specs::Images::mixed_byte))]
-fn pick(s: u64, synced: u8, written: u8) -> u8
-    ensures { result ≡ mixed_byte s synced written }
-{
-    let choice = s / (1 << 62);
-    if choice == 0 {
-        synced
-    } else if choice == 1 {
-        written
-    } else if choice == 2 {
-        0
-    } else {
-        (s / (1 << 32) % 256) as u8
-    }
-}
-
-// The pending bytes by the generator, which starts with the seed.
-fn mix(bytes: &mut [u8], synced: &[u8], pending: &[bool], seed: u64)
-    requires synced { length synced.now ≡ length bytes.old }
-    requires pending { length pending.now ≡ length bytes.old }
-    ensures { bytes.new ≡ mixed seed bytes.old synced.now pending.now }
-{
-    let mut s = seed;
-    for i in 0..bytes.len() {
-        if pending[i] {
-            s = stir(s);
-            bytes[i] = pick(s, synced[i], bytes[i]);
-        }
-    }
-}
-
-// What a power cut leaves of the bytes.
-fn cut(bytes: &mut [u8], synced: &[u8], pending: &[bool], choice: Choice)
-    requires synced { length synced.now ≡ length bytes.old }
-    requires pending { length pending.now ≡ length bytes.old }
-    ensures { bytes.new ≡ left_by choice (record { bytes = bytes.old; synced = synced.now; pending = pending.now }) }
-{
-    match choice {
-        Choice::Keep => {}
-        Choice::Drop => bytes.copy_from_slice(synced),
-        Choice::Mix(seed) => mix(bytes, synced, pending, seed),
-    }
-}
-
-// The same of a range, outside of which nothing changes.
-fn cut_range(
-    bytes: &mut [u8],
-    synced: &[u8],
-    pending: &[bool],
-    low: usize,
-    high: usize,
-    choice: Choice,
-)
-    requires order { low ≤ high }
-    requires room { high ≤ length bytes.old }
-    requires synced { length synced.now ≡ length bytes.old }
-    requires pending { length pending.now ≡ length bytes.old }
-    ensures { bytes.new ≡ over low (left_by choice (window low (high - low) (record { bytes = bytes.old; synced = synced.now; pending = pending.now }))) bytes.old }
-{
-    cut(
-        &mut bytes[low..high],
-        &synced[low..high],
-        &pending[low..high],
-        choice,
-    );
-}
-
-// The same of vectors.
-pub(crate) fn cut_vec(
-    bytes: &mut Vec<u8>,
-    synced: &Vec<u8>,
-    pending: &Vec<bool>,
-    low: usize,
-    high: usize,
-    choice: Choice,
-)
-    requires order { low ≤ high }
-    requires room { high ≤ length bytes.old.items }
-    requires synced { length synced.now.items ≡ length bytes.old.items }
-    requires pending { length pending.now.items ≡ length bytes.old.items }
-    ensures items { bytes.new.items ≡ over low (left_by choice (window low (high - low) (record { bytes = bytes.old.items; synced = synced.now.items; pending = pending.now.items }))) bytes.old.items }
-    ensures capacity { vec_capacity bytes.new ≡ vec_capacity bytes.old }
-{
-    cut_range(bytes, synced, pending, low, high, choice);
 }

@@ -1,7 +1,7 @@
 //! A few ranges of places that cover what was written.
 
 ghost use Rattle.std.specs.Prelude.{◌≡◌, ◌≤◌, ◌<◌, [], length, vec_capacity, IfOk, IfSome, IfNone};
-ghost use Rattle.cf_disk.specs.Covering.{joined, outer_of, Adds, IsOuter};
+ghost use Rattle.cf_disk.specs.Covering.{earlier, joined, rest_of, Adds, IsNext};
 
 use cf_base::OutOfMemory;
 use std::alloc::Global;
@@ -100,25 +100,41 @@ fn add(ranges: &mut Vec<Range>, range: Range)
     }
 }
 
-// One range over one and all of a list.
-fn over_all(first: Range, ranges: &[Range]) -> Range
-    ensures { result ≡ outer_of first ranges.now }
+// What a range covers from a place on.
+fn rest_of(range: Range, at: usize) -> Option<Range>
+    ensures { result ≡ rest_of range at }
 {
-    let mut outer = first;
-    for range in ranges {
-        outer = joined(outer, *range);
+    let low = range.low.max(at);
+    if low < range.high {
+        Some(Range {
+            low,
+            high: range.high,
+        })
+    } else {
+        None
     }
-    outer
 }
 
-// One range over all of a list.
-fn outer(ranges: &[Range]) -> Range
-    ensures { IsOuter ranges.now result }
+// The one that begins first, where there are two.
+fn earlier(a: Option<Range>, b: Option<Range>) -> Option<Range>
+    ensures { result ≡ earlier a b }
 {
-    if ranges.is_empty() {
-        return Range { low: 0, high: 0 };
+    match (a, b) {
+        (None, b) => b,
+        (a, None) => a,
+        (Some(a), Some(b)) => Some(if b.low < a.low { b } else { a }),
     }
-    over_all(ranges[0], ranges)
+}
+
+/// The next places that the ranges cover from a place on.
+pub(crate) fn next_after(ranges: &[Range], at: usize) -> Option<Range>
+    ensures { IsNext ranges.now at result }
+{
+    let mut next = None;
+    for range in ranges {
+        next = earlier(next, rest_of(*range, at));
+    }
+    next
 }
 
 /// At most 32 ranges, in room that is taken when the list is made. One that is touched by a new one is widened, and where
@@ -160,13 +176,6 @@ impl FewRanges {
         ensures { Adds range self.old self.new }
     {
         add(&mut self.ranges, range);
-    }
-
-    /// One range over them all.
-    pub(crate) fn outer(&self) -> Range
-        ensures { IsOuter self.now result }
-    {
-        outer(&self.ranges)
     }
 
     /// Covers nothing.

@@ -1,8 +1,8 @@
 use Rattle.std.proofs.Common.{ℕ, ◌<◌, length, get_or, ◌∙◌, ap, arith}
 use Rattle.cf_disk.specs.Images.{mixed_byte}
 use Rattle.cf_disk.proofs.Mixing.{step_synced, step_pending}
-use Rattle.cf_disk.proofs.patches.mix.Goals as goal
-use Rattle.cf_disk.proofs.patches.mix.Goals.{then-pending-i, else-pending-i}
+use Rattle.cf_disk.proofs.power_cuts.mix.Goals as goal
+use Rattle.cf_disk.proofs.power_cuts.mix.Goals.{then-pending-i, else-pending-i}
 
 pub loop-i-preserved : goal.loop-i-preserved
 loop-i-preserved c =
