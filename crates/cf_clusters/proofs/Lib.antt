@@ -1,4 +1,7 @@
+mod TreeLaws
+mod TreeRoots
 pub mod Counts
+pub mod FreeOnes
 pub mod Keeping
 pub mod Moves
 pub mod Opening

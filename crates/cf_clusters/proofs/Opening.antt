@@ -11,7 +11,7 @@ use Rattle.cf_clusters.specs.Roles.{how_many, is_free, is_dropped, use_of, commi
 use Rattle.cf_clusters.specs.Layout.{IsLayout, descending, use_at, uses_from}
 use Rattle.cf_clusters.proofs.Moves.{inside}
 
-length-descending : (n : ℕ) → length (descending n) ≡ n
+pub length-descending : (n : ℕ) → length (descending n) ≡ n
 length-descending zero = refl
 length-descending (suc n) = omega (arith, length-descending n)
 
@@ -23,6 +23,9 @@ get_or-descending : (n k : ℕ) → k < n → get_or (descending n) k 0 + k + 1 
 get_or-descending zero k lt = absurd (omega arith)
 get_or-descending (suc n) zero lt = omega arith
 get_or-descending (suc n) (suc k) lt = omega (arith, get_or-descending n k (omega arith))
+
+pub descending_low : (n k : ℕ) → k < n → get_or (descending n) k 0 < n
+descending_low n k lt = omega (arith, get_or-descending n k lt)
 
 free_below : (n p : ℕ) → p < n → use_at 0 n n p ≡ Free
 free_below n p lt = grind (arith, nat_tests)

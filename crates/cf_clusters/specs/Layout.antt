@@ -1,5 +1,5 @@
 -- How the uses of the clusters are kept: the numbers stand in an order, by use.
-use Rattle.std.specs.Prelude.{◌≡◌, ℕ, zero, suc, [], ◌∷◌, ◌-◌, ◌<◌, ◌≤◌, ◌^◌, ◌==◌, cond, nat_lt, List, length, map, slice_index_or}
+use Rattle.std.specs.Prelude.{◌≡◌, ℕ, zero, suc, [], ◌∷◌, ◌-◌, ◌<◌, ◌≤◌, ◌^◌, ◌==◌, Bool, cond, nat_lt, List, length, map, slice_index_or}
 use Rattle.cf_clusters.specs.declared.uses.Use.{Use}
 use Rattle.cf_clusters.specs.declared.uses.Use.TheVariants.{Free, Held, Staged, Dropped}
 use Rattle.cf_clusters.specs.Roles.{how_many, is_free, is_dropped}
@@ -38,3 +38,8 @@ pub record IsLayout (order places : List ℕ) (free staged held : ℕ) : Type 0 
   pub third : held ≤ length order
   pub free_count : how_many is_free (uses_from free staged held places) ≡ staged - free
   pub dropped_count : how_many is_dropped (uses_from free staged held places) ≡ free
+
+-- the same beside the set of those that are free
+pub record IsKept (order places : List ℕ) (free_numbers : List Bool) (free staged held : ℕ) : Type 0 where
+  pub layout : IsLayout order places free staged held
+  pub free_ones : free_numbers ≡ map is_free (uses_from free staged held places)

@@ -1,3 +1,4 @@
 pub mod Area
 pub mod Layout
+pub mod LeastNumbers
 pub mod Roles

@@ -1,5 +1,6 @@
 //! The clusters of a volume.
-ghost use Rattle.std.specs.Prelude.{◌≡◌, ◌<◌, ◌≤◌, ◌+◌, ◌*◌, ◌↔◌, ◌∷◌, [], ℕ, length, map, slice_set, All, None, Some, Err, IfSome, IfNone, IfOk, OnOk, OnErr};
+ghost use Rattle.std.specs.Prelude.{◌≡◌, ◌<◌, ◌≤◌, ◌+◌, ◌*◌, ◌↔◌, ◌∷◌, [], ℕ, length, map, replicate, slice_set, true, All, None, Some, Err, IfSome, IfNone, IfOk, OnOk, OnErr};
+ghost use Rattle.std.specs.List.{position_or_len};
 ghost use Rattle.std.specs.Option.{ForSome};
 ghost use Rattle.cf_disk.specs.Disk.{size_of, part, capped, SameBut, Leaves, Keeps, Counts, Rises, Spends};
 ghost use Rattle.cf_clusters.specs.declared.uses.Use.TheVariants.{Free, Held, Staged, Dropped};
@@ -8,6 +9,7 @@ ghost use Rattle.cf_clusters.specs.Roles.{committed, dropped_at, how_many, is_fr
 ghost use Rattle.cf_clusters.specs.Layout.{descending};
 ghost use Rattle.cf_clusters.specs.Area.{place, KeepsWhere, SameWhere, SpendsOne};
 
+use crate::free_numbers::{FreeNumbers, insert_all};
 use crate::orders::{numbers, swap};
 use crate::uses::Use;
 use cf_base::OutOfMemory;
@@ -43,11 +45,13 @@ impl From<DiskError> for ClusterError {
 }
 
 /// The clusters of a volume. Their numbers stand in an order, dropped ones first, then free, staged and held ones, so that
-/// a cluster changes its use by swaps at the bounds, and a commit by two bounds alone.
+/// a cluster changes its use by swaps at the bounds, and a commit by two bounds alone. The free ones stand in a set too,
+/// which gives the lowest.
 #[derive(Drop)]
 pub struct Data {
     order: Vec<u32>,
     places: Vec<u32>,
+    free_numbers: FreeNumbers,
     free: usize,
     staged: usize,
     held: usize,
@@ -56,13 +60,13 @@ pub struct Data {
 impl Model for Data {
     ghost use Rattle.std.specs.Prelude.{List};
     ghost use Rattle.cf_clusters.specs.declared.uses.Use.{Use};
-    ghost use Rattle.cf_clusters.specs.Layout.{uses_from, IsLayout};
+    ghost use Rattle.cf_clusters.specs.Layout.{uses_from, IsKept};
 
     ghost Value = { List Use };
 
     ghost view = { λ d. uses_from d.free d.staged d.held d.places.items };
 
-    ghost invariant = { λ d. IsLayout d.order.items d.places.items d.free d.staged d.held };
+    ghost invariant = { λ d. IsKept d.order.items d.places.items d.free_numbers d.free d.staged d.held };
 }
 
 impl Data {
@@ -84,18 +88,21 @@ impl Data {
     {
         let order = numbers(alloc, clusters)?;
         let places = numbers(alloc, clusters)?;
-        Ok(Data::fresh(order, places, clusters))
+        let free_numbers = FreeNumbers::all(alloc, clusters)?;
+        Ok(Data::fresh(order, places, free_numbers, clusters))
     }
 
-    // All clusters are free, and the first of them are taken first: a disk in memory then grows with what it holds.
-    fn fresh(order: Vec<u32>, places: Vec<u32>, clusters: u32) -> Data
+    // All clusters are free.
+    fn fresh(order: Vec<u32>, places: Vec<u32>, free_numbers: FreeNumbers, clusters: u32) -> Data
         requires order { order.items ≡ descending clusters }
         requires places { places.items ≡ descending clusters }
+        requires free { free_numbers ≡ replicate clusters true }
         ensures { Opens clusters [] result }
     {
         Data {
             order,
             places,
+            free_numbers,
             free: 0,
             staged: clusters as usize,
             held: clusters as usize,
@@ -121,6 +128,7 @@ impl Data {
         let at = self.places[cluster as usize] as usize;
         swap(&mut self.order, &mut self.places, at, self.staged - 1);
         self.staged -= 1;
+        self.free_numbers.remove(cluster);
     }
 
     // A held cluster becomes staged.
@@ -142,6 +150,7 @@ impl Data {
         let at = self.places[cluster as usize] as usize;
         swap(&mut self.order, &mut self.places, at, self.staged);
         self.staged += 1;
+        self.free_numbers.insert(cluster);
     }
 
     // A free cluster becomes dropped.
@@ -152,6 +161,7 @@ impl Data {
         let at = self.places[cluster as usize] as usize;
         swap(&mut self.order, &mut self.places, at, self.free);
         self.free += 1;
+        self.free_numbers.remove(cluster);
     }
 
     fn use_of(&self, cluster: u32) -> Use
@@ -170,16 +180,17 @@ impl Data {
         }
     }
 
-    // A free cluster, if there is one.
+    // The lowest free cluster, if there is one.
     fn pick(&self) -> Option<u32>
         ensures some { IfSome result (λ k. (k < length self.now) × (use_of self.now k ≡ Free)) }
+        ensures lowest { IfSome result (λ k. k ≡ position_or_len is_free self.now) }
         ensures none { IfNone result (how_many is_free self.now ≡ 0) }
         ensures one { IfSome result (λ k. 0 < how_many is_free self.now) }
     {
         if self.free == self.staged {
             return None;
         }
-        Some(self.order[self.staged - 1])
+        Some(self.free_numbers.least())
     }
 
     /// How many clusters there are.
@@ -232,6 +243,7 @@ impl Data {
     pub fn committed(&mut self)
         ensures { self.new ≡ map committed self.old }
     {
+        insert_all(&mut self.free_numbers, &self.order[..self.free]);
         self.free = 0;
         self.held = self.staged;
     }
@@ -248,10 +260,11 @@ impl Data {
         }
     }
 
-    /// Writes a block into a free cluster and gives its number. The state then holds that cluster, and no longer `old`.
-    /// A crash leaves all clusters that the last commit or the state holds as it might have left them before, and the
-    /// journal's halves too. The write is not synced. The disk has room for all clusters. Full comes exactly where none
-    /// is free, and then nothing is done; after Failed the clusters are held as before.
+    /// Writes a block into the lowest free cluster and gives its number. The state then holds that cluster, and no longer
+    /// `old`. A crash leaves all clusters that the last commit or the state holds as it might have left them before, and
+    /// the journal's halves too. The write is not synced. The disk has room for all clusters. Full comes exactly where
+    /// none is free, and then nothing is done; after Failed the clusters are held as before. The number is found at a
+    /// cost of a logarithm of how many clusters there are.
     pub fn stage<D: Disk>(
         &mut self,
         disk: &mut D,
@@ -263,6 +276,7 @@ impl Data {
 
         ensures uses { IfOk result (λ k. self.new ≡ staged_at k old self.old) }
         ensures was_free { IfOk result (λ k. (k < length self.old) × (use_of self.old k ≡ Free)) }
+        ensures lowest { IfOk result (λ k. k ≡ position_or_len is_free self.old) }
         ensures err { OnErr result (self.new ≡ self.old) }
         ensures full { result ≡ Err Full ↔ how_many is_free self.old ≡ 0 }
         ensures full_same { result ≡ Err Full → disk.new ≡ disk.old }

@@ -1,11 +1,13 @@
 //! The clusters of a volume, which hold the bytes of its blocks.
 //!
 //! A block is staged into a cluster that neither the last commit nor the state now holds, so that a crash leaves the
-//! last commit's clusters as they were. A cluster that the state drops is free again once no commit holds it. Contracts
-//! see `Data` as the list of its clusters' uses, by number.
+//! last commit's clusters as they were. It takes the lowest that is free, so that a disk is used from its front on. A
+//! cluster that the state drops is free again once no commit holds it. Contracts see `Data` as the list of its
+//! clusters' uses, by number.
 #![tactic(auto)]
 
 mod clusters;
+mod free_numbers;
 mod laws;
 mod orders;
 mod uses;
