@@ -1,4 +1,4 @@
-//! Tests of the filter: each public call, with a provider that answers right or wrong.
+//! Tests of what an engine does on a filter.
 #![tactic(auto)]
 
 #[cfg(test)]

@@ -1,8 +1,6 @@
-//! Tests of rows, paths, the rules of an item, and images.
+//! Tests of rows, paths and images: worked bytes and limits.
 #![tactic(auto)]
 
-#[cfg(test)]
-mod item_rules;
 #[cfg(test)]
 mod table;
 #[cfg(test)]

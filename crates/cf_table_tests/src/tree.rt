@@ -51,23 +51,6 @@ fn table(alloc: Global) -> Result<Rows, Fail> {
     Ok(rows)
 }
 
-#[test]
-fn paths_lead_to_items(rt: HostRuntime) -> Result<(), Fail> {
-    let rows = table(rt.alloc())?;
-    for (path, id) in [("/", 1), ("/d", 2), ("/d/f", 3), ("/d/e/g", 7)] {
-        assert!(rt; find(&rows, path) == Ok(ItemId(id)));
-    }
-    for path in ["", "d", "/a//b", "/a/", "/..", "/d/."] {
-        assert!(rt; find(&rows, path) == Err(Code::BadPath));
-    }
-    assert!(rt; find(&rows, "/d/n") == Err(Code::NotFound));
-    assert!(rt; find(&rows, "/d/f/n") == Err(Code::NotDirectory));
-    assert!(rt; find(&rows, "/u/x") == Err(Code::NotPopulated));
-    assert!(rt; find_below(&rows, "/d") == Ok(ItemId(2)));
-    assert!(rt; find_below(&rows, "/") == Err(Code::BadPath));
-    Ok(())
-}
-
 fn path_of_names(alloc: Global, name: &str, count: usize) -> Result<String, Fail> {
     let mut path = String::new(alloc);
     for _ in 0..count {
@@ -101,23 +84,6 @@ fn paths_have_32_names_of_255_bytes(rt: HostRuntime) -> Result<(), Fail> {
     Ok(())
 }
 
-#[test]
-fn places_are_found(rt: HostRuntime) -> Result<(), Fail> {
-    let rows = table(rt.alloc())?;
-    let (parent, name) = find_parent(rt.alloc(), &rows, "/d/new")?;
-    assert!(rt; parent == ItemId(2));
-    assert_eq!(rt; name.as_slice(), b"new".as_slice());
-    for (path, code) in [
-        ("/", Code::BadPath),
-        ("/u/n", Code::NotPopulated),
-        ("/d/f/n", Code::NotDirectory),
-        ("/n/n", Code::NotFound),
-    ] {
-        assert!(rt; matches!(find_parent(rt.alloc(), &rows, path), Err(No(c)) if c == code));
-    }
-    Ok(())
-}
-
 // Directories `/c`, `/c/c` and so on, of which that many names lead to the last. Their ids begin at 10.
 fn add_chain(alloc: Global, rows: &mut Rows, names: u64) -> Result<(), Fail>
     requires { names ≤ 32 }
@@ -140,16 +106,6 @@ fn judged(alloc: Global, rows: &Rows, id: u64, parent: u64) -> Result<Option<Cod
 }
 
 #[test]
-fn moves_are_judged(rt: HostRuntime) -> Result<(), Fail> {
-    let rows = table(rt.alloc())?;
-    assert!(rt; judged(rt.alloc(), &rows, 2, 6)? == Some(Code::IntoItself));
-    assert!(rt; judged(rt.alloc(), &rows, 2, 2)? == Some(Code::IntoItself));
-    assert!(rt; judged(rt.alloc(), &rows, 3, 1)? == Some(Code::Exists));
-    assert!(rt; judged(rt.alloc(), &rows, 4, 1)?.is_none());
-    Ok(())
-}
-
-#[test]
 fn moves_end_at_32_names(rt: HostRuntime) -> Result<(), Fail> {
     let mut rows = table(rt.alloc())?;
     add_chain(rt.alloc(), &mut rows, 31)?;
@@ -158,36 +114,6 @@ fn moves_end_at_32_names(rt: HostRuntime) -> Result<(), Fail> {
     assert!(rt; judged(rt.alloc(), &rows, 6, 40)? == Some(Code::TooDeep));
     assert!(rt; judged(rt.alloc(), &rows, 10, 2)?.is_none());
     assert!(rt; judged(rt.alloc(), &rows, 10, 6)? == Some(Code::TooDeep));
-    Ok(())
-}
-
-#[test]
-fn all_33_levels_are_reached(rt: HostRuntime) -> Result<(), Fail> {
-    let mut rows = Rows::new(rt.alloc())?;
-    add_chain(rt.alloc(), &mut rows, 32)?;
-    let path = path_of_names(rt.alloc(), "c", 32)?;
-    assert!(rt; find(&rows, path.as_str()) == Ok(ItemId(41)));
-    assert_eq!(rt;
-        path_of(rt.alloc(), &rows, ItemId(41))?.as_str(),
-        path.as_str()
-    );
-    assert_eq!(rt; tree_of(rt.alloc(), &rows, ItemId(1))?.len(), 33);
-    assert_eq!(rt; tree_of(rt.alloc(), &rows, ItemId(41))?.len(), 1);
-    assert!(rt; tree_of(rt.alloc(), &rows, ItemId(42))?.is_empty());
-    Ok(())
-}
-
-#[test]
-fn trees_and_paths_of_items(rt: HostRuntime) -> Result<(), Fail> {
-    let rows = table(rt.alloc())?;
-    let below = tree_of(rt.alloc(), &rows, ItemId(2))?;
-    assert_eq!(rt;
-        below.as_slice(),
-        [ItemId(2), ItemId(3), ItemId(6), ItemId(7)].as_slice()
-    );
-    assert_eq!(rt; tree_of(rt.alloc(), &rows, ItemId(1))?.len(), 7);
-    assert_eq!(rt; path_of(rt.alloc(), &rows, ItemId(7))?.as_str(), "/d/e/g");
-    assert_eq!(rt; path_of(rt.alloc(), &rows, ItemId(1))?.as_str(), "/");
     Ok(())
 }
 

@@ -1,7 +1,5 @@
-//! Tests of commits and volumes.
+//! Tests of volumes.
 #![tactic(auto)]
 
 #[cfg(test)]
 mod volume;
-#[cfg(test)]
-mod volume_commit;

@@ -1,6 +1,5 @@
 //! What no clause says: that the calls succeed where disk, memory and room do, and what they then do on a disk.
 
-mod contents;
 mod costs;
 mod cuts;
 mod edits;

@@ -1,10 +1,7 @@
-//! Whole runs of both commands: scripts and their reports, each status, and power cuts at each call of the device.
+//! Whole runs: each status, faults of the outside, and power cuts at each call of the device. Reports stand in tests/.
 
-mod examples;
 mod faults;
-mod filters;
 mod lengths;
-mod replays;
 mod sinks;
 mod stops;
 

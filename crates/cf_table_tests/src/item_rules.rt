@@ -1,3 +1,0 @@
-mod dehydrates;
-mod pins;
-mod placeholders;
