@@ -32,7 +32,7 @@ pub use codes::{CallError, Code};
 pub use events::{DeviceEvent, EngineEvent, Event, PeerEvent, ProviderEvent};
 pub use ids::{Handle, ItemId, Key, Rid, Round, Token, Usn, Version, WaitId};
 pub use items::{Kind, ListedItem, Pin, Reach, SeenPath};
-pub use memory::OutOfMemory;
+pub use memory::{OutOfMemory, no_such_state};
 pub use messages::{Entry, Reply, Request, Why};
 pub use names::{Identity, Name, is_name};
 pub use notices::{Frame, Notes, Notice, OperationAnswer, Sent};

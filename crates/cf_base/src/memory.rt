@@ -1,4 +1,6 @@
-//! Want of memory.
+//! Out of memory.
+
+ghost use Rattle.std.specs.Prelude.{◌≡◌};
 
 use std::alloc::{AllocError, AllocFailed};
 
@@ -17,4 +19,12 @@ impl<T: Drop> From<AllocFailed<T>> for OutOfMemory {
     fn from(_e: AllocFailed<T>) -> OutOfMemory {
         OutOfMemory
     }
+}
+
+/// The answer to a case that no state has, where no law rules it out in code. Nothing is lost or wrong by it: the caller opens
+/// the volume again, as after any other lack of memory. Each such place calls this, so that they can be counted.
+pub fn no_such_state() -> OutOfMemory
+    ensures { result ≡ record {} }
+{
+    OutOfMemory
 }
