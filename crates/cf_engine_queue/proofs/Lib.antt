@@ -4,5 +4,6 @@ pub mod Steps
 pub mod InOrder
 pub mod KeyOrder
 pub mod Mapped
+pub mod Numbered
 pub mod Loading
 pub mod OneMeaning

@@ -1,4 +1,5 @@
 pub mod Order
 pub mod Books
+pub mod Identities
 pub mod Records
 pub mod Steps

@@ -4,21 +4,25 @@
 //! do to them what the definitions do to those of a book. `Queue::load` reads them from the auxiliary records of a volume;
 //! specs/Records says which record says what. The records of the cursor and of paths seen are read and spelled alike.
 //! `one_record_a_step` tells by which record each step of a book is kept, and `keepable_after_each_step` that the book stays
-//! one that its records keep; specs/Steps says what a step asks.
+//! one that its records keep; specs/Steps says what a step asks. `numbers_of` reads the identities that an engine gives.
 #![tactic(auto)]
 
 mod fields;
+mod identities;
 mod laws;
 mod ordered_lists;
 mod queues;
 mod record_reads;
 mod record_writes;
 mod records;
+mod unexpected_cases;
 mod uploads;
 
+pub use identities::{Numbers, numbers_of};
 pub use laws::{keepable_after_each_step, one_record_a_step, one_value_a_record};
 pub use queues::Queue;
 pub use record_reads::{read_cursor, read_record, read_seen};
 pub use record_writes::{spell_cursor, spell_seen};
 pub use records::Record;
+pub use unexpected_cases::unexpected;
 pub use uploads::{Action, QueueEntry, Tombstone};
