@@ -1,6 +1,6 @@
 -- A request that came to the remote did so as in the definitions.
 use Rattle.std.proofs.Common.{◌≡◌, inr, ℕ, ◌+◌, ◌≤◌, Bool, true, false, List, ◌++◌, refl, sym, ap, ◌∙◌, subst}
-use Rattle.std.specs.Prelude.{Option, Some, None, Result, Ok, Err, IfErr}
+use Rattle.std.specs.Prelude.{Option, Some, None, is_some, Result, Ok, Err, IfErr}
 use Rattle.std.specs.Result.{IsErrAnd}
 use Rattle.std.proofs.lemmas.Result.{err_from_is_err_and}
 use Rattle.cf_base.specs.declared.answers.Shown.TheVariants as shown
@@ -68,13 +68,13 @@ rises (Some (notice.Skipped c)) old new h k = absurd h
 -- the link before, and the remote after the ask
 module _ {R : Type 0} (told : R → Told) (m : ℕ) (q : Request) (net : Kept) (remote : R) (inline : Bool) (old : Linked R) (mid : R) (same : linked net remote inline ≡ old) where
   stands_at : (s : State) → IsLink told (linked net remote inline) s.link → Stands (s.peer_tokens + 1) (told remote) s
-  stands_at s h = record { token = refl; held = h.held; asks = h.asks }
+  stands_at s h = record { token = refl; held = h.held; asks = h.asks; honest = h.honest }
 
   -- what follows the ask leads from the state that it left to this result
   abbrev Follows : Kept → Option Reply → Option Notice → Option Reply → State → State → Type 0
   Follows after r line asked s t =
       (link : Link) × Leads (answered m asked t) (told mid) r (with_line line (with_link link s)) (told mid)
-      × ((held : IsHeld (told mid).held t.link.remote) → (asks : IsCount (told mid).asks t.link.remote_asks) → IsLink told (linked after mid inline) link)
+      × ((held : IsHeld (told mid).held t.link.remote) → (asks : IsCount (told mid).asks t.link.remote_asks) → (honest : is_some (told mid).held ≡ true → t.link.honest ≡ true) → IsLink told (linked after mid inline) link)
 
   ends_by : (after : Kept) (r : Option Reply) (line : Option Notice) (asked : Option Reply) (s : State) → After q asked (s.peer_tokens + 1) s (told remote) (told mid)
       → ((held : Held) (asks : ℕ) (honest : Bool) → Follows after r line asked s (with_ask held asks honest s)) → Ended told (come m q) s (linked net remote inline) r line (linked after mid inline)
@@ -85,7 +85,7 @@ module _ {R : Type 0} (told : R → Told) (m : ℕ) (q : Request) (net : Kept) (
       record {
         link = f.0;
         leads = (a.does, told mid, a.is, subst (λ (y : Tree State (Option Reply)). Leads (bind y (answered m)) (told mid) r u (told mid)) (sym a.there) f.1);
-        stands = f.2 a.stands.held a.stands.asks;
+        stands = f.2 a.stands.held a.stands.asks a.stands.honest;
       }
 
   does_from : (after : Kept) (r : Option Reply) (line : Option Notice) → Does told (come m q) (linked net remote inline) r line (linked after mid inline) → Does told (come m q) old r line (linked after mid inline)
@@ -98,7 +98,7 @@ module _ {R : Type 0} (told : R → Told) (m : ℕ) (q : Request) (net : Kept) (
         ends_by net None (Some (notice.Fault m)) None s (after_fault q (s.peer_tokens + 1) s (told remote) (told mid) (stands_at s k) (subst (λ (x : Option Reply). IsAsked q (told remote) (Ok x) (told mid)) e h)) (λ held asks honest. (
           record s.link { remote = held; remote_asks = asks; honest = honest },
           (refl, refl, refl),
-          λ holds counts. record { net = record { messages = k.net.messages; bytes = k.net.bytes }; held = holds; asks = counts; inline = k.inline },
+          λ holds counts fair. record { net = record { messages = k.net.messages; bytes = k.net.bytes }; held = holds; asks = counts; honest = fair; inline = k.inline },
         ));
   })
 
@@ -115,7 +115,7 @@ module _ {R : Type 0} (told : R → Told) (m : ℕ) (q : Request) (net : Kept) (
           let u : State = with_line p.line (with_link link s) in (
             link,
             leads_on (post (frame.Reply m r) t) (if_kept r) (told mid) (told mid) (told mid) p.kept u (reply_if p.kept r) u (d.leads (told mid)) (kept_leads r p.kept u (told mid)),
-            λ holds counts. record { net = d.stands; held = holds; asks = counts; inline = k.inline },
+            λ holds counts fair. record { net = d.stands; held = holds; asks = counts; honest = fair; inline = k.inline },
           )
 
       -- the remote replied, and its reply was posted

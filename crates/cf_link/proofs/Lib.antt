@@ -1,4 +1,5 @@
 pub mod Asked
+pub mod FaultCounts
 pub mod PeerLinks
 pub mod PeerWalk
 pub mod Sending

@@ -29,7 +29,7 @@ same_inline inline s t e h = subst (λ (x : State). inline ≡ x.link.inline) (s
 -- the link before, and the remote after the event
 module _ {R : Type 0} (told : R → Told) (e : PeerEvent) (next : ℕ) (net : Kept) (remote : R) (inline : Bool) (old : Linked R) (same : linked net remote inline ≡ old) (mid : R) (after : ℕ) where
   stands_at : (s : State) → next ≡ s.peer_tokens + 1 → IsLink told (linked net remote inline) s.link → Stands next (told remote) s
-  stands_at s token h = record { token = token; held = h.held; asks = h.asks }
+  stands_at s token h = record { token = token; held = h.held; asks = h.asks; honest = h.honest }
 
   ended : (s t : State) (a : Answer) → IsLink told (linked net remote inline) s.link → restored s t ≡ s → Leads (peer_event e s) (told remote) a.shown t (told mid) → Stands after (told mid) t
       → a ≡ record { notes = []; shown = a.shown; stray = t.running.stray } → PeerEnded told (peer_event e) s (linked net remote inline) a after (linked net mid inline)
@@ -40,7 +40,7 @@ module _ {R : Type 0} (told : R → Told) (e : PeerEvent) (next : ℕ) (net : Ke
         tokens = t.peer_tokens;
         leads = subst (λ (o : Option Reply). Leads (peer_event e s) (told remote) a.shown (after_peer t.link t.peer_tokens o s) (told mid)) (sym stray)
             (subst (λ (x : State). Leads (peer_event e s) (told remote) a.shown x (told mid)) (only s t is) leads);
-        stands = record { net = same_net net s t is k.net; held = stands.held; asks = stands.asks; inline = same_inline inline s t is k.inline };
+        stands = record { net = same_net net s t is k.net; held = stands.held; asks = stands.asks; honest = stands.honest; inline = same_inline inline s t is k.inline };
         next = stands.token;
         notes = ap (λ (x : Answer). x.notes) shows;
       }

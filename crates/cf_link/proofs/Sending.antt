@@ -1,11 +1,11 @@
 -- A message that was sent is posted as the definitions do it.
-use Rattle.std.proofs.Common.{◌≡◌, ℕ, ◌+◌, Bool, true, false, not, cond, List, [], ◌∷◌, ◌++◌, ◌==◌, length, refl, sym, subst, arith}
+use Rattle.std.proofs.Common.{◌≡◌, ℕ, ◌+◌, Bool, true, false, not, cond, List, [], ◌∷◌, ◌++◌, ◌==◌, length, refl, sym, ap, subst, arith}
 use Rattle.std.specs.Prelude.{Some, None, Result, Ok, Err, IfOk}
 use Rattle.std.proofs.lemmas.Bool.Decides.{nat_tests}
 use Rattle.std.proofs.lemmas.List.{length-append}
 use Rattle.cf_base.specs.declared.notices.Frame.{Frame}
 use Rattle.cf_base.specs.declared.notices.Notice.TheVariants as notice
-use Rattle.cf_link.specs.Linked.{Linked, Posts}
+use Rattle.cf_link.specs.Linked.{Linked, Posts, posted_line}
 use Rattle.cf_link.specs.Parts.{IsMessageLine, PostedBy, SendsFrame, linked, posted_of, with_messages}
 use Rattle.cf_link.specs.declared.posts.Posted.{Posted}
 use Rattle.cf_model.specs.Messages.{next_message, no_bytes, no_number, post_by, post_unless, post}
@@ -75,6 +75,16 @@ line_of false sent f = tt
 pub lined_as : (sent : Sent) (p : Posted) (f : Frame) → p ≡ posted_of sent f → IsMessageLine p.line
 lined_as sent p f e = subst (λ (x : Posted). IsMessageLine x.line) (sym e) (line_of (sent.number == 0) sent f)
 
+-- the line of each
+
+not_not : (b : Bool) → b ≡ not (not b)
+not_not true = refl
+not_not false = refl
+
+pub line_is : (sent : Sent) (p : Posted) (f : Frame) → p ≡ posted_of sent f → p.line ≡ posted_line f p
+line_is sent p f e = subst (λ (x : Posted). x.line ≡ posted_line f x) (sym e)
+    (ap (λ (b : Bool). cond (sent.number == 0) None (Some (notice.Message (record { message = sent.number; frame = f; lost = b })))) (not_not sent.lost))
+
 pub posts : {R E : Type 0} (told : R → Told) (f : Frame) (net : Kept) (remote : R) (inline : Bool) (old : Linked R) (after : Kept) (r : Result Posted E) → linked net remote inline ≡ old
     → IfOk r (λ p. SendsFrame f net p after) → IfOk r (λ p. Posts told f old p (linked after remote inline))
 posts told f net remote inline old after (Err e) same h = tt
@@ -84,7 +94,7 @@ posts told f net remote inline old after (Ok p) same h = subst (λ (x : Linked _
         record {
           link = with_messages d.messages d.bytes s.link;
           leads = d.leads (told remote);
-          stands = record { net = d.stands; held = k.held; asks = k.asks; inline = k.inline };
+          stands = record { net = d.stands; held = k.held; asks = k.asks; honest = k.honest; inline = k.inline };
         },
         d.number,
       );

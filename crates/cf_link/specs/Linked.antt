@@ -1,5 +1,5 @@
 -- What a program has of the link, how that stands for the link of the definitions, and what its calls do.
-use Rattle.std.specs.Prelude.{◌≡◌, ◌⊎◌, ℕ, ◌+◌, ◌≤◌, Bool, true, List, [], ◌∷◌, ◌++◌, length, Option, Some, None, Result, Ok, Err}
+use Rattle.std.specs.Prelude.{◌≡◌, ◌⊎◌, ℕ, ◌+◌, ◌≤◌, ◌==◌, Bool, true, not, cond, List, [], ◌∷◌, ◌++◌, length, Option, Some, None, is_some, Result, Ok, Err}
 use Rattle.cf_base.specs.declared.answers.Answer.{Answer}
 use Rattle.cf_base.specs.declared.answers.Shown.{Shown}
 use Rattle.cf_base.specs.declared.answers.Shown.TheVariants as shown
@@ -28,12 +28,30 @@ pub record Linked (R : Type 0) : Type 0 where
   pub remote : R
   pub inline : Bool
 
--- the link of the definitions has the same messages, and what this remote reports
+-- The link of the definitions has the same messages, and what this remote tells. A remote that tells what it holds has kept its
+-- rules so far.
 pub record IsLink {R : Type 0} (told : R → Told) (l : Linked R) (link : Link) : Type 0 where
   pub net : IsNet l.net link
   pub held : IsHeld (told l.remote).held link.remote
   pub asks : IsCount (told l.remote).asks link.remote_asks
+  pub honest : is_some (told l.remote).held ≡ true → link.honest ≡ true
   pub inline : l.inline ≡ link.inline
+
+-- a link without its remote
+pub record Boxed : Type 0 where
+  pub net : Kept
+  pub inline : Bool
+
+-- the two parts of what a link stands for
+
+pub record IsMailbox (m : Boxed) (link : Link) : Type 0 where
+  pub net : IsNet m.net link
+  pub inline : m.inline ≡ link.inline
+
+pub record IsRemote (told : Told) (link : Link) : Type 0 where
+  pub held : IsHeld told.held link.remote
+  pub asks : IsCount told.asks link.remote_asks
+  pub honest : is_some told.held ≡ true → link.honest ≡ true
 
 -- lines
 
@@ -63,6 +81,10 @@ pub record Ended {R A : Type 0} (told : R → Told) (f : Arrow State A) (s : Sta
 -- so it is from each state for whose link that of the program stands
 pub record Does {R A : Type 0} (told : R → Told) (f : Arrow State A) (old : Linked R) (a : A) (line : Option Notice) (new : Linked R) : Type 0 where
   pub ends : (s : State) → IsLink told old s.link → Ended told f s old a line new
+
+-- the line of a message that was posted, which is lost where it is not kept; none where it got no number
+abbrev pub posted_line : Frame → Posted → Option Notice
+posted_line f p = cond (p.number == 0) None (Some (notice.Message (record { message = p.number; frame = f; lost = not p.kept })))
 
 -- The message is posted. One that is kept has the number of the last message.
 pub record Posts {R : Type 0} (told : R → Told) (f : Frame) (old : Linked R) (p : Posted) (new : Linked R) : Type 0 where

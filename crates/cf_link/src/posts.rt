@@ -2,7 +2,7 @@
 
 ghost use Rattle.std.specs.Prelude.{◌≡◌, IfOk, OnErr};
 ghost use Rattle.cf_base.specs.declared.notices.Frame.TheVariants as frame;
-ghost use Rattle.cf_link.specs.Linked.{Grows, Posts};
+ghost use Rattle.cf_link.specs.Linked.{Grows, Posts, posted_line};
 ghost use Rattle.cf_link.specs.Parts.{FrameHasRoom, IsMessageLine, SendsFrame, posted_of};
 ghost use Rattle.cf_wire.specs.Sending.{IsMessage};
 ghost use Rattle.cf_wire.specs.Spelled.{HasRoom};
@@ -69,7 +69,8 @@ fn with_line(sent: cf_wire::Sent, frame: Frame) -> Posted
 pub(crate) fn send(alloc: Global, net: &mut Net, frame: Frame) -> Result<Posted, OutOfMemory>
     requires { FrameHasRoom frame }
     ensures sends { IfOk result (λ p. SendsFrame frame net.old p net.new) }
-    ensures line { IfOk result (λ p. IsMessageLine p.line) }
+    ensures line { IfOk result (λ p. p.line ≡ posted_line frame p) }
+    ensures message { IfOk result (λ p. IsMessageLine p.line) }
     ensures grows { IfOk result (λ _. Grows net.old net.new) }
     ensures err { OnErr result (net.new ≡ net.old) }
 {
@@ -81,10 +82,13 @@ pub(crate) fn send(alloc: Global, net: &mut Net, frame: Frame) -> Result<Posted,
 impl<R: Remote> Link<R> {
     /// Sends a request, whose names need at most 255 bytes and whose bytes fewer than 4,294,967,296: it gets the next number,
     /// and is kept, unless the kept bytes would pass their limit. After the last number it gets none, and no line. It does not
-    /// come to the remote. Without memory nothing is changed.
+    /// come to the remote, which stays as it is. Without memory nothing is changed.
     pub fn post(&mut self, request: Request) -> Result<Posted, OutOfMemory>
         requires { HasRoom request }
         ensures posts { IfOk result (λ p. Posts R.told (frame.Request request) self.old p self.new) }
+        ensures line { IfOk result (λ p. p.line ≡ posted_line (frame.Request request) p) }
+        ensures remote { self.new.remote ≡ self.old.remote }
+        ensures inline { self.new.inline ≡ self.old.inline }
         ensures err { OnErr result (self.new ≡ self.old) }
     {
         send(self.alloc, &mut self.net, Frame::Request(request))

@@ -1,5 +1,5 @@
 -- An ask of the remote as a way through the tree.
-use Rattle.std.proofs.Common.{◌≡◌, inl, inr, ℕ, ◌+◌, ◌-◌, ◌^◌, refl, sym, ap, ◌∙◌, subst, arith, min}
+use Rattle.std.proofs.Common.{◌≡◌, inl, inr, true, false, ℕ, ◌+◌, ◌-◌, ◌^◌, refl, sym, ap, ◌∙◌, subst, arith, min}
 use Rattle.std.specs.Prelude.{Option, Some, None, is_some, option_map}
 use Rattle.std.proofs.lemmas.Bool.{cases_lt}
 use Rattle.std.proofs.Math.Nat.{min-eq_left, min-eq_right}
@@ -52,6 +52,7 @@ after_reply q r next s old new st a = one old.held refl where
       token = st.token;
       held = subst (λ (h : Option Held). IsHeld h (remote_step s.link.remote q).1) (sym (subst (λ (h : Option Held). Replies q r h new.held) e a.replies)) tt;
       asks = asks;
+      honest = λ tells. let z : false ≡ true = sym (ap (λ (h : Option Held). is_some h) (subst (λ (h : Option Held). Replies q r h new.held) e a.replies)) ∙ tells in absurd cc;
     };
     running = refl;
   }
@@ -68,6 +69,7 @@ after_reply q r next s old new st a = one old.held refl where
           token = st.token;
           held = subst (λ (h : Option Held). IsHeld h (remote_step s.link.remote q).1) (sym told.1) (ap (λ (h : Held). (remote_step h q).1) same);
           asks = asks;
+          honest = λ tells. st.honest (ap (λ (h : Option Held). is_some h) e);
         };
         running = refl;
       }
@@ -82,6 +84,7 @@ after_fault q next s old new st f = record {
     token = st.token;
     held = subst (λ (h : Option Held). IsHeld h s.link.remote) (sym f.held) st.held;
     asks = count_on old.asks new.asks s.link.remote_asks st.asks f.counts.asks;
+    honest = λ tells. st.honest (sym (ap (λ (h : Option Held). is_some h) f.held) ∙ tells);
   };
   running = refl;
 }

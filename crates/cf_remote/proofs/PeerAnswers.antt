@@ -1,6 +1,6 @@
 -- What a peer event is answered.
 use Rattle.std.proofs.Common.{◌≡◌, inl, ℕ, ◌+◌, Bool, true, false, refl, sym, ap, ◌∙◌, subst, arith}
-use Rattle.std.specs.Prelude.{Option, Some, None, Result, Ok, Err, option_map}
+use Rattle.std.specs.Prelude.{Option, Some, None, Result, Ok, Err, is_some, option_map}
 use Rattle.std.specs.Result.{IsErrAnd}
 use Rattle.std.proofs.lemmas.Result.{err_from_is_err_and}
 use Rattle.cf_base.specs.declared.answers.Answer.{Answer}
@@ -117,7 +117,7 @@ stray_shows r fit a e f t none =
 
 module _ (q : Request) (next : ℕ) (old new : Told) where
   used : (s : State) → Stands next old s → Stands (next + 1) old (with_token_used s)
-  used s st = record { token = ap (λ (n : ℕ). n + 1) st.token; held = st.held; asks = st.asks }
+  used s st = record { token = ap (λ (n : ℕ). n + 1) st.token; held = st.held; asks = st.asks; honest = st.honest }
 
   pub failed_does : (e : AskError) (result : Result Answer OutOfMemory) → Asks q old (Err e) new → IsFailed e result → Does (send_request q) next old result (next + 1) new
   failed_does ask.Fault (Ok a) h k = λ s none st.
@@ -154,6 +154,7 @@ module _ (q : Request) (next : ℕ) (old new : Told) where
           token = after.stands.token ∙ ap (λ (n : ℕ). n + 1) (sym u.3);
           held = subst (λ (l : Link). IsHeld new.held l.remote) (sym u.2) after.stands.held;
           asks = subst (λ (l : Link). IsCount new.asks l.remote_asks) (sym u.2) after.stands.asks;
+          honest = subst (λ (l : Link). is_some new.held ≡ true → l.honest ≡ true) (sym u.2) after.stands.honest;
         },
         u.4,
       )

@@ -91,7 +91,7 @@ module _ (f : List Entry → Arrow State Shown) (rid : Rid) (next : ℕ) (s : St
   strays r a e =
       let after = after_reply (list_of rid) r next s old new st a in (
         with_token_used (with_stray r after.state),
-        record { token = ap (λ (n : ℕ). n + 1) after.stands.token; held = after.stands.held; asks = after.stands.asks },
+        record { token = ap (λ (n : ℕ). n + 1) after.stands.token; held = after.stands.held; asks = after.stands.asks; honest = after.stands.honest },
         ap (λ (x : Running). record x { stray = Some r }) after.running,
         leads_ask (list_of rid) (Some r) next s old new (on_listing rid f) after (shown.Refused code.Stale) (with_token_used (with_stray r after.state)) new
             (subst (λ (g : Arrow State Shown). Leads (g after.state) new (shown.Refused code.Stale) (with_token_used (with_stray r after.state)) new) (sym e) (refl, refl, refl)),
@@ -114,7 +114,7 @@ module _ (f : List Entry → Arrow State Shown) (rid : Rid) (next : ℕ) (s : St
   listing_fails Fault h =
       let after = after_fault (list_of rid) next s old new st h in (
         with_token_used after.state,
-        record { token = ap (λ (n : ℕ). n + 1) after.stands.token; held = after.stands.held; asks = after.stands.asks },
+        record { token = ap (λ (n : ℕ). n + 1) after.stands.token; held = after.stands.held; asks = after.stands.asks; honest = after.stands.honest },
         after.running,
         leads_ask (list_of rid) None next s old new (on_listing rid f) after (shown.Refused code.RemoteFault) (with_token_used after.state) new (refl, refl, refl),
       )

@@ -26,6 +26,13 @@ Leads (Step s p) old b t new = Leads p old b t new
 Leads (Fork p q) old b t new = Leads p old b t new ⊎ Leads q old b t new
 Leads (Asked k) old b t new = (w : Telling) × (mid : Told) × IsTelling w old mid × Leads (k w) mid b t new
 
+-- the device may stop in the tree and leave this state, its asks being those that lead the remote from old to new
+abbrev pub StopsAt : {S A : Type 0} → Tree S A → Told → S → Told → Type 0
+StopsAt (Ret a s) old t new = ⊥
+StopsAt (Step s p) old t new = ((t ≡ s) × (new ≡ old)) ⊎ StopsAt p old t new
+StopsAt (Fork p q) old t new = StopsAt p old t new ⊎ StopsAt q old t new
+StopsAt (Asked k) old t new = (w : Telling) × (mid : Told) × IsTelling w old mid × StopsAt (k w) mid t new
+
 -- the tree was gone so far, to an ask or to its end, its asks being those that lead the remote from old to new
 abbrev pub Begins : {S A : Type 0} → Tree S A → Told → Told → Type 0
 Begins (Ret a s) old new = new ≡ old
@@ -41,11 +48,13 @@ abbrev pub IsCount : Option ℕ → ℕ → Type 0
 IsCount None asks = Unit {0}
 IsCount (Some told) asks = told ≡ min asks (2 ^ 64 - 1)
 
--- the state of the definitions has this next token of a peer, and what this remote reports
+-- The state of the definitions has this next token of a peer, and what this remote tells. A remote that tells what it holds has
+-- kept its rules so far.
 pub record Stands (next : ℕ) (told : Told) (s : State) : Type 0 where
   pub token : next ≡ s.peer_tokens + 1
   pub held : IsHeld told.held s.link.remote
   pub asks : IsCount told.asks s.link.remote_asks
+  pub honest : is_some told.held ≡ true → s.link.honest ≡ true
 
 -- The answer is one of the event's, and it keeps the reply that made it Stale. Without memory one token at most is used up, and
 -- the event was begun: the first of its asks were made, or none.

@@ -13,4 +13,4 @@ returns-clause-does g c = sent_does g.R.Remote.told c.args.number c.args.request
     (reply_does g.R.Remote.told c.args.number c.args.request.now c.self.inside.net c.self.inside.remote c.self.inside.inline c.args.self.now c.ask.new.remote c.self.view_is c.in_ok-reply.field-0 c.in-Some.reply c.in-Some.is c.in_ok-reply.ensures c.in_ok-posted.posted c.send.new.net c.in_ok-posted.ensures.sends c.in-Some.reply (reply_if c.in_ok-posted.posted.kept c.in-Some.reply) refl refl)
 
 pub returns-clause-rises : goal.returns-clause-rises
-returns-clause-rises g c = reply_rises g.R.Remote.told c.args.number c.args.request.now c.self.inside.net c.self.inside.remote c.self.inside.inline c.args.self.now c.ask.new.remote c.self.view_is c.in_ok-reply.field-0 c.in-Some.reply c.in-Some.is c.in_ok-reply.ensures c.in_ok-posted.posted c.send.new.net c.in_ok-posted.ensures.sends c.in_ok-posted.ensures.line
+returns-clause-rises g c = reply_rises g.R.Remote.told c.args.number c.args.request.now c.self.inside.net c.self.inside.remote c.self.inside.inline c.args.self.now c.ask.new.remote c.self.view_is c.in_ok-reply.field-0 c.in-Some.reply c.in-Some.is c.in_ok-reply.ensures c.in_ok-posted.posted c.send.new.net c.in_ok-posted.ensures.sends c.in_ok-posted.ensures.message
