@@ -28,7 +28,7 @@ pub record Linked (R : Type 0) : Type 0 where
   pub remote : R
   pub inline : Bool
 
--- The link of the definitions has the same messages, and what this remote tells. A remote that tells what it holds has kept its
+-- The link of the definitions has the same messages, and what this remote reports. A remote that tells what it holds has kept its
 -- rules so far.
 pub record IsLink {R : Type 0} (told : R → Told) (l : Linked R) (link : Link) : Type 0 where
   pub net : IsNet l.net link

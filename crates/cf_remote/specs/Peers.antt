@@ -48,7 +48,7 @@ abbrev pub IsCount : Option ℕ → ℕ → Type 0
 IsCount None asks = Unit {0}
 IsCount (Some told) asks = told ≡ min asks (2 ^ 64 - 1)
 
--- The state of the definitions has this next token of a peer, and what this remote tells. A remote that tells what it holds has
+-- The state of the definitions has this next token of a peer, and what this remote reports. A remote that tells what it holds has
 -- kept its rules so far.
 pub record Stands (next : ℕ) (told : Told) (s : State) : Type 0 where
   pub token : next ≡ s.peer_tokens + 1
