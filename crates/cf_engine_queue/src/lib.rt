@@ -15,7 +15,6 @@ mod queues;
 mod record_reads;
 mod record_writes;
 mod records;
-mod unexpected_cases;
 mod uploads;
 
 pub use identities::{Numbers, numbers_of};
@@ -24,5 +23,4 @@ pub use queues::Queue;
 pub use record_reads::{read_cursor, read_record, read_seen};
 pub use record_writes::{spell_cursor, spell_seen};
 pub use records::Record;
-pub use unexpected_cases::unexpected;
 pub use uploads::{Action, QueueEntry, Tombstone};
