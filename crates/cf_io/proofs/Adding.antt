@@ -1,8 +1,8 @@
 -- One piece behind another.
-use Rattle.std.proofs.Common.{◌≡◌, ℕ, ◌<◌, List, [], ◌++◌, length, take, drop, Option, Some, None, refl, sym, ap, ◌∙◌, append_assoc, subst, arith, length-append, length-drop, ◌+◌, ◌-◌}
-use Rattle.std.proofs.lemmas.List.{append-nil, take-append-drop, drop-drop}
+use Rattle.std.proofs.Common.{◌≡◌, ℕ, ◌<◌, ◌≤◌, List, [], ◌∷◌, ◌++◌, length, take, drop, Option, Some, None, refl, sym, ap, ◌∙◌, append_assoc, subst, arith, length-append, length-drop, ◌+◌, ◌-◌}
+use Rattle.std.proofs.lemmas.List.{append-nil, take-append-drop, drop-drop, length-take, take_all, take_at}
 use Rattle.std.proofs.Math.Seq.{take-length}
-use Rattle.cf_io.specs.Moves.{Adds, Takes, EndsWell, IsWhole, IsLonger}
+use Rattle.cf_io.specs.Moves.{Adds, AddsPiece, Takes, EndsWell, IsFront, IsWhole, IsLonger}
 
 pub Adds-then : (a b c : Option (List ℕ)) (xs ys : List ℕ) → Adds a b xs → Adds b c ys → Adds a c (xs ++ ys)
 Adds-then None b c xs ys h k = tt
@@ -40,15 +40,42 @@ pub Takes-none : (a : Option (List ℕ)) → Takes a a []
 Takes-none None = tt
 Takes-none (Some left) = (left, refl, refl)
 
-pub whole_at_end : (a b : Option (List ℕ)) (text piece : List ℕ) → Takes a b text → EndsWell b piece → piece ≡ [] → IsWhole a text
-whole_at_end None b text piece h e none = tt
-whole_at_end (Some left) b text piece h e none =
-    let end = subst (λ x. EndsWell x piece) h.1 e in
-    sym (h.2 ∙ ap (λ r. text ++ r) (end none) ∙ append-nil text)
+-- a piece behind the text that was taken before
 
-pub longer_than : (a b : Option (List ℕ)) (text : List ℕ) (limit : ℕ) → Takes a b text → limit < length text → IsLonger a limit
-longer_than None b text limit h lt = tt
-longer_than (Some left) b text limit h lt = let e : length left ≡ length text + length h.0 = ap length h.2 ∙ length-append text h.0 in omega arith
+pub more_taken : (a b c : Option (List ℕ)) (before after : List ℕ) (room n : ℕ) → AddsPiece room b c before after n → Takes a b before → Takes a c after
+more_taken a b c before after room n h k = subst (λ (t : List ℕ). Takes a c t) (sym h.behind) (Takes-then a b c before h.piece k h.takes)
+
+pub more_length : (b c : Option (List ℕ)) (before after : List ℕ) (room n : ℕ) → AddsPiece room b c before after n → length after ≡ length before + n
+more_length b c before after room n h = ap length h.behind ∙ length-append before h.piece ∙ ap (λ (k : ℕ). length before + k) h.count
+
+-- the front of a source
+
+pub front_at_end : (most : ℕ) (a b c : Option (List ℕ)) (before after : List ℕ) (room n : ℕ) → Takes a b before → AddsPiece room b c before after n → n ≡ 0 → length after ≤ most → IsFront most a after
+front_at_end most None b c before after room n h k none le = tt
+front_at_end most (Some left) b c before after room n h k none le =
+    let nothing : k.piece ≡ [] = empty k.piece (k.count ∙ none) in
+    let end : h.0 ≡ [] = subst (λ x. EndsWell x k.piece) h.1 k.ends nothing in
+    let all : left ≡ before = h.2 ∙ ap (λ r. before ++ r) end ∙ append-nil before in
+    let same : after ≡ before = k.behind ∙ ap (λ r. before ++ r) nothing ∙ append-nil before in
+    same ∙ sym (take_all most before (subst (λ (t : List ℕ). length t ≤ most) same le)) ∙ ap (λ t. take most t) (sym all)
+  where
+    empty : (xs : List ℕ) → length xs ≡ 0 → xs ≡ []
+    empty [] e = refl
+    empty (x ∷ xs) e = absurd (omega (arith, e))
+
+pub front_of : (most : ℕ) (a b : Option (List ℕ)) (text : List ℕ) → Takes a b text → length text ≡ most → IsFront most a text
+front_of most None b text h full = tt
+front_of most (Some left) b text h full = sym (ap (λ t. take most t) h.2 ∙ take_at text h.0 most full)
+
+-- a front that is shorter than was asked for is all
+
+pub whole_of : (limit : ℕ) (a : Option (List ℕ)) (text : List ℕ) → IsFront (limit + 1) a text → length text ≤ limit → IsWhole a text
+whole_of limit None text h le = tt
+whole_of limit (Some left) text h le = h ∙ take_all (limit + 1) left (omega (arith, le, ap length h, length-take (limit + 1) left))
+
+pub longer_of : (limit : ℕ) (a : Option (List ℕ)) (text : List ℕ) → IsFront (limit + 1) a text → limit < length text → IsLonger a limit
+longer_of limit None text h lt = tt
+longer_of limit (Some left) text h lt = omega (arith, lt, ap length h, length-take (limit + 1) left)
 
 -- a source that moves the next bytes to a buffer
 pub takes_front : (all left moved : List ℕ) (at n : ℕ) → left ≡ drop at all → moved ≡ take n (take (length all - at) (drop at all)) → Takes (Some left) (Some (drop (at + n) all)) moved

@@ -1,5 +1,5 @@
 -- What moves between a source, a sink and the program, and how often they failed.
-use Rattle.std.specs.Prelude.{◌≡◌, ℕ, ◌-◌, ◌<◌, ◌^◌, List, [], ◌++◌, length, Option, Some, None}
+use Rattle.std.specs.Prelude.{◌≡◌, ℕ, ◌-◌, ◌<◌, ◌≤◌, ◌^◌, List, [], ◌++◌, length, take, Option, Some, None}
 
 -- A source or a sink in memory: the bytes that are left or held, and the faults so far.
 pub record Store : Type 0 where
@@ -37,6 +37,20 @@ AddsFront old new bytes = (front rest : List ℕ) × (bytes ≡ front ++ rest) �
 abbrev pub IsWhole : Option (List ℕ) → List ℕ → Type 0
 IsWhole None text = Unit {0}
 IsWhole (Some left) text = text ≡ left
+
+-- The text is the first `most` bytes that a source had left, or all where there were fewer.
+abbrev pub IsFront : ℕ → Option (List ℕ) → List ℕ → Type 0
+IsFront most None text = Unit {0}
+IsFront most (Some left) text = text ≡ take most left
+
+-- So many bytes, at most `room`, were taken and stand behind the text; none only at the end.
+pub record AddsPiece (room : ℕ) (old new : Option (List ℕ)) (before after : List ℕ) (n : ℕ) : Type 0 where
+  pub piece : List ℕ
+  pub takes : Takes old new piece
+  pub ends : EndsWell old piece
+  pub behind : after ≡ before ++ piece
+  pub count : length piece ≡ n
+  pub fits : n ≤ room
 
 -- A source had more bytes left than the limit.
 abbrev pub IsLonger : Option (List ℕ) → ℕ → Type 0

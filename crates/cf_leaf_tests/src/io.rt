@@ -1,7 +1,8 @@
 //! That calls succeed with ample memory, that the listed calls fail, and that the system's bytes come through.
 
 use cf_io::{
-    IoError, MemSink, MemSource, ReadError, Sink, Source, StdSink, StdSource, read_all, write_all,
+    IoError, MemSink, MemSource, ReadError, Sink, Source, StdSink, StdSource, read_all, read_up_to,
+    write_all,
 };
 use std::test::Fail;
 
@@ -20,6 +21,22 @@ fn reads_a_whole_source(rt: HostRuntime) -> Result<(), Fail> {
         read_all(rt.alloc(), &mut source, 5).err(),
         Some(ReadError::Fault)
     );
+    Ok(())
+}
+
+#[test]
+fn reads_the_front_of_a_source(rt: HostRuntime) -> Result<(), Fail> {
+    let mut source = MemSource::new(rt.alloc(), b"abcde", &[3])?;
+    let front = read_up_to(rt.alloc(), &mut source, 2)?;
+    assert_eq!(rt; front.as_slice(), b"ab".as_slice());
+    let next = read_up_to(rt.alloc(), &mut source, 2)?;
+    assert_eq!(rt; next.as_slice(), b"cd".as_slice());
+    assert_eq!(rt;
+        read_up_to(rt.alloc(), &mut source, 2).err(),
+        Some(ReadError::Fault)
+    );
+    let rest = read_up_to(rt.alloc(), &mut source, 2)?;
+    assert_eq!(rt; rest.as_slice(), b"e".as_slice());
     Ok(())
 }
 
