@@ -60,6 +60,13 @@ impl<'a> Reader<'a> {
         Reader { rest: bytes, at: 0 }
     }
 
+    /// The place of the next byte.
+    pub fn place(&self) -> usize
+        ensures { result ≡ self.now.place }
+    {
+        self.at
+    }
+
     /// The next `n` bytes. Short at the place of the first of them where fewer are left.
     pub fn bytes(&mut self, n: usize) -> Result<&'a [u8], CodecError>
         ensures took { IfOk result (λ b. Takes b.now self.old self.new) }

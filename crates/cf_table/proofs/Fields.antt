@@ -41,3 +41,13 @@ pub eight_joined : (o a b c d e f g h : List ℕ) (p q r s t u v w : List ℕ) �
 eight_joined o a b c d e f g h p q r s t u v w i j k l m n x y =
     joined o g h (p ++ q ++ r ++ s ++ t ++ u ++ v) w (joined o f g (p ++ q ++ r ++ s ++ t ++ u) v (joined o e f (p ++ q ++ r ++ s ++ t) u
     (joined o d e (p ++ q ++ r ++ s) t (joined o c d (p ++ q ++ r) s (joined o b c (p ++ q) r (joined o a b p q i j) k) l) m) n) x) y
+
+-- the eight bytes of a number are the four of what it has above 2 ^ 32 and the four of the rest
+pub usn_halves : (n : ℕ) → in_bytes 4 (n / 4294967296) ++ in_bytes 4 (n % 4294967296) ≡ in_bytes 8 n
+usn_halves n =
+    same ((n / 4294967296) / 16777216 % 256) _ ((n / 4294967296) / 65536 % 256) _ ((n / 4294967296) / 256 % 256) _ ((n / 4294967296) / 1 % 256) _
+    ((n % 4294967296) / 16777216 % 256) _ ((n % 4294967296) / 65536 % 256) _ ((n % 4294967296) / 256 % 256) _ ((n % 4294967296) / 1 % 256) _
+    (omega arith) (omega arith) (omega arith) (omega arith) (omega arith) (omega arith) (omega arith) (omega arith) where
+      same : (a a' b b' c c' d d' e e' f f' g g' h h' : ℕ) → a ≡ a' → b ≡ b' → c ≡ c' → d ≡ d' → e ≡ e' → f ≡ f' → g ≡ g' → h ≡ h' →
+          a ∷ b ∷ c ∷ d ∷ e ∷ f ∷ g ∷ h ∷ [] ≡ a' ∷ b' ∷ c' ∷ d' ∷ e' ∷ f' ∷ g' ∷ h' ∷ []
+      same a a' b b' c c' d d' e e' f f' g g' h h' p q r s t u v w = λ j. p j ∷ q j ∷ r j ∷ s j ∷ t j ∷ u j ∷ v j ∷ w j ∷ []

@@ -4,6 +4,7 @@ pub mod ChildrenOf
 pub mod EachOf
 pub mod Fields
 pub mod Finds
+pub mod Formats
 pub mod HeldBlocks
 pub mod Indexed
 pub mod Lengths

@@ -9,13 +9,15 @@ use Rattle.cf_base.specs.declared.spans.Span.{Span}
 use Rattle.cf_codec.specs.Left.{Left, Takes}
 use Rattle.cf_codec.specs.declared.failures.CodecError.{CodecError}
 use Rattle.cf_codec.specs.declared.failures.CodecError.TheVariants as codec
+use Rattle.cf_codec.specs.declared.formats.Format.{Format}
+use Rattle.cf_codec.specs.declared.formats.Format.TheVariants.{First, Second}
 use Rattle.cf_model.specs.Books.{usn_bytes}
-use Rattle.cf_model.specs.Formats.{spell_rows}
-use Rattle.cf_model.specs.Rows.{Extent, pin_byte, spell_extent, spell_extents, spell_row, spell_run, spell_runs}
+use Rattle.cf_model.specs.Rows.{Extent, pin_byte, spell_extent, spell_extents, spell_run, spell_runs}
 use Rattle.cf_model.specs.Rows as model
 use Rattle.cf_model.specs.Words.{in_bytes}
-use Rattle.cf_table.specs.Faults.{Any, AreTable, AtBasics, AtBytes, AtEnd, AtExtent, AtExtents, AtFlags, AtHead, AtIdentity, AtLengths, AtMap, AtName, AtNumber, AtNumbers, AtPin, AtRow, AtRows, AtRun, AtRuns, AtSet, AtSets, AtTable, AtUsn, AtWho, AtWhole, Behind, IsBaseField, IsLen, IsNumber, IsTold, NoFault, Then, of_codec}
-use Rattle.cf_table.specs.Reading.{AreExtents, AreExtentsFrom, AreLengths, AreNumbers, AreRows, AreRunsFrom, IsAbove, IsBasics, IsExtent, IsHead, IsIdentity, IsName, IsRow, IsRun, IsSet, IsStored, IsUsn, IsWho, basics_bytes, flags_number, head_bytes, head_of, identity_bytes, lengths_bytes, name_bytes, numbers_bytes, who_bytes}
+use Rattle.cf_table.specs.Faults.{Any, AreFlags, AreTable, AtBasics, AtBytes, AtEnd, AtExtent, AtExtents, AtFlags, AtHead, AtIdentity, AtLengths, AtMap, AtName, AtNumber, AtNumbers, AtPin, AtRow, AtRows, AtRun, AtRuns, AtSet, AtSets, AtTable, AtTicks, AtUsn, AtWho, AtWhole, Behind, IsBaseField, IsLen, IsNumber, IsTold, NoFault, Then, of_codec}
+use Rattle.cf_table.specs.Reading.{AreExtents, AreExtentsFrom, AreLengths, AreNumbers, AreRowsIn, AreRunsFrom, AreTicks, IsAbove, IsBasics, IsExtent, IsHead, IsIdentity, IsName, IsRowIn, IsRun, IsSet, IsStored, IsUsn, IsWho, basics_bytes, flags_limit, flags_number, head_bytes, head_of, identity_bytes, lengths_bytes, name_bytes, numbers_bytes, ticks_bytes, who_bytes}
+use Rattle.cf_table.specs.Spelling.{spell_row_in, spell_rows_in}
 use Rattle.cf_table.specs.declared.failures.RowError.{RowError}
 use Rattle.cf_table.specs.declared.failures.RowError.TheVariants.{BadField, OutOfMemory, Short}
 use Rattle.cf_table.specs.declared.heads.Basics.{Basics}
@@ -24,7 +26,7 @@ use Rattle.cf_table.specs.declared.heads.Head.{Head}
 use Rattle.cf_table.specs.declared.heads.Lengths.{Lengths}
 use Rattle.cf_table.specs.declared.heads.Numbers.{Numbers}
 use Rattle.cf_table.proofs.OneRow.{in_parts, one_extent, one_map, one_row, one_run, one_set, one_table, row_parts}
-use Rattle.cf_table.proofs.OneText.{OneOf, one_2, one_4, one_8, one_basics, one_flags, one_head, one_identity, one_lengths, one_name, one_numbers, one_pin, one_usn, one_who, parted, small_flags}
+use Rattle.cf_table.proofs.OneText.{OneOf, one_2, one_4, one_8, one_basics, one_flags, one_head, one_identity, one_lengths, one_name, one_numbers, one_pin, one_usn, one_who, low_flags, parted, small_flags}
 
 -- no value stands at the front of the text
 abbrev pub Misses : {X : Type 0} → (X → Type 0) → (X → List ℕ) → List ℕ → Type 0
@@ -84,8 +86,19 @@ who_misses before left e told h w more is text =
     two_parts (AtNumber 8 (IsAbove before)) (IsNumber 8 (IsAbove before)) (in_bytes 8) (λ id. AtNumber 8 Any) (λ id. IsNumber 8 Any) (in_bytes 8)
     (number_misses 8 (IsAbove before) one_8) (once 8 (IsAbove before) one_8) (λ id. number_misses 8 Any one_8) left e told h w.id.0 w.parent.0 more (is.0, is.1) (is.2, tt) text
 
-flags_miss : Refuses AtFlags (λ (f : Flags). Unit {0}) (λ f. in_bytes 2 (flags_number f))
-flags_miss left e told h f more is text = number_misses 2 (λ v. v < 256) one_2 left e told h (flags_number f) more (omega (arith, small_flags f), small_flags f) text
+flags_miss : (f : Format) → Refuses (AtFlags f) (AreFlags f) (λ (flags : Flags). in_bytes 2 (flags_number flags))
+flags_miss f left e told h flags more is text = number_misses 2 (λ v. v < flags_limit f) one_2 left e told h (flags_number flags) more (omega (arith, small_flags flags), is) text
+
+flags_once : (f : Format) → OneOf (AreFlags f) (λ (flags : Flags). in_bytes 2 (flags_number flags))
+flags_once f m n a b h k e = one_flags m n a b tt tt e
+
+flags_are : (f : Format) (b : Basics) → IsBasics f b → AreFlags f b.flags
+flags_are First b is = low_flags b.flags is.2
+flags_are Second b is = small_flags b.flags
+
+rest_is : (f : Format) (b : Basics) → IsBasics f b → IsStored b.pin × AreLengths b.flags.has_base b.lengths
+rest_is First b is = (is.0, is.1)
+rest_is Second b is = is
 
 pin_small : (p : Pin) → IsStored p → pin_byte p < 4
 pin_small pin.Unspecified h = omega arith
@@ -120,33 +133,43 @@ pins_miss : (has_base : Bool) → Refuses (Then AtPin IsStored (λ p. pin_byte p
 pins_miss has_base left e told h y more is text =
     two_parts AtPin IsStored (λ p. pin_byte p ∷ []) (λ p. AtLengths has_base) (λ p. AreLengths has_base) lengths_bytes pin_misses one_pin (λ p. lengths_miss has_base) left e told h y.0 y.1 more is.0 is.1 text
 
-basics_miss : Refuses AtBasics IsBasics basics_bytes
-basics_miss left e told h b more is text =
-    two_parts AtFlags (λ (f : Flags). Unit {0}) (λ f. in_bytes 2 (flags_number f)) (λ f. Then AtPin IsStored (λ p. pin_byte p ∷ []) (λ p. AtLengths f.has_base)) (λ f (y : Pin × Lengths). IsStored y.0 × AreLengths f.has_base y.1)
-    (λ y. pin_byte y.0 ∷ lengths_bytes y.1) flags_miss one_flags (λ f. pins_miss f.has_base) left e told h b.flags (b.pin, b.lengths) more tt is text
+basics_miss : (f : Format) → Refuses (AtBasics f) (IsBasics f) basics_bytes
+basics_miss f left e told h b more is text =
+    two_parts (AtFlags f) (AreFlags f) (λ (flags : Flags). in_bytes 2 (flags_number flags)) (λ flags. Then AtPin IsStored (λ p. pin_byte p ∷ []) (λ p. AtLengths flags.has_base))
+    (λ flags (y : Pin × Lengths). IsStored y.0 × AreLengths flags.has_base y.1)
+    (λ y. pin_byte y.0 ∷ lengths_bytes y.1) (flags_miss f) (flags_once f) (λ flags. pins_miss flags.has_base) left e told h b.flags (b.pin, b.lengths) more (flags_are f b is) (rest_is f b is) text
 
 pub usn_misses : Refuses AtUsn IsUsn usn_bytes
 usn_misses left e told h n more is text =
     two_parts (AtNumber 4 Any) (IsNumber 4 Any) (in_bytes 4) (λ epoch. AtNumber 4 Any) (λ epoch. IsNumber 4 Any) (in_bytes 4)
     (number_misses 4 Any one_4) (once 4 Any one_4) (λ epoch. number_misses 4 Any one_4) left e told h n.epoch n.place more (is.0, tt) (is.1, tt) text
 
-anchor_misses : Refuses (Then AtUsn IsUsn usn_bytes (λ anchor. AtNumber 8 Any)) (λ (y : Usn × ℕ). IsUsn y.0 × (y.1 < 2 ^ 64)) (λ y. usn_bytes y.0 ++ in_bytes 8 y.1)
-anchor_misses left e told h y more is text =
-    two_parts AtUsn IsUsn usn_bytes (λ anchor. AtNumber 8 Any) (λ anchor. IsNumber 8 Any) (in_bytes 8) usn_misses one_usn (λ anchor. number_misses 8 Any one_8) left e told h y.0 y.1 more is.0 (is.1, tt) text
+usns_miss : Refuses (AtNumber 8 Any) IsUsn usn_bytes
+usns_miss left (Short place) told h n more is text = short_of 8 left.rest (usn_bytes n) more h.1 refl text
+usns_miss left (BadField place) told h n more is text = h.5 tt
+usns_miss left OutOfMemory told h n more is text = told
 
-numbers_miss : Refuses AtNumbers AreNumbers numbers_bytes
-numbers_miss left e told h n more is text =
-    two_parts AtUsn IsUsn usn_bytes (λ number. Then AtUsn IsUsn usn_bytes (λ anchor. AtNumber 8 Any)) (λ number (y : Usn × ℕ). IsUsn y.0 × (y.1 < 2 ^ 64)) (λ y. usn_bytes y.0 ++ in_bytes 8 y.1)
-    usn_misses one_usn (λ number. anchor_misses) left e told h n.number (n.anchor, n.last) more is.0 (is.1, is.2) text
+pub ticks_miss : (f : Format) → Refuses (AtTicks f) (AreTicks f) (ticks_bytes f)
+ticks_miss First left e told h n more is text = not_told e told h
+ticks_miss Second left e told h n more is text = number_misses 8 Any one_8 left e told h n more (is, tt) text
 
-body_misses : Refuses (Then AtBasics IsBasics basics_bytes (λ b. AtNumbers)) (λ (y : Basics × Numbers). IsBasics y.0 × AreNumbers y.1) (λ y. basics_bytes y.0 ++ numbers_bytes y.1)
-body_misses left e told h y more is text =
-    two_parts AtBasics IsBasics basics_bytes (λ b. AtNumbers) (λ b. AreNumbers) numbers_bytes basics_miss one_basics (λ b. numbers_miss) left e told h y.0 y.1 more is.0 is.1 text
+anchor_misses : (f : Format) → Refuses (Then (AtNumber 8 Any) IsUsn usn_bytes (λ anchor. AtTicks f)) (λ (y : Usn × ℕ). IsUsn y.0 × AreTicks f y.1) (λ y. usn_bytes y.0 ++ ticks_bytes f y.1)
+anchor_misses f left e told h y more is text =
+    two_parts (AtNumber 8 Any) IsUsn usn_bytes (λ anchor. AtTicks f) (λ anchor. AreTicks f) (ticks_bytes f) usns_miss one_usn (λ anchor. ticks_miss f) left e told h y.0 y.1 more is.0 is.1 text
 
-head_misses : (before : Option ℕ) → Refuses (AtHead before) (IsHead before) head_bytes
-head_misses before left e told h x more is text =
-    two_parts (AtWho before) (IsWho before) who_bytes (λ w. Then AtBasics IsBasics basics_bytes (λ b. AtNumbers)) (λ w (y : Basics × Numbers). IsBasics y.0 × AreNumbers y.1) (λ y. basics_bytes y.0 ++ numbers_bytes y.1)
-    (who_misses before) (one_who before) (λ w. body_misses) left e told h x.who (x.basics, x.numbers) more is.who (is.basics, is.numbers) text
+numbers_miss : (f : Format) → Refuses (AtNumbers f) (AreNumbers f) (numbers_bytes f)
+numbers_miss f left e told h n more is text =
+    two_parts (AtNumber 8 Any) IsUsn usn_bytes (λ number. Then (AtNumber 8 Any) IsUsn usn_bytes (λ anchor. AtTicks f)) (λ number (y : Usn × ℕ). IsUsn y.0 × AreTicks f y.1) (λ y. usn_bytes y.0 ++ ticks_bytes f y.1)
+    usns_miss one_usn (λ number. anchor_misses f) left e told h n.number (n.anchor, n.last) more is.0 (is.1, is.2) text
+
+body_misses : (f : Format) → Refuses (Then (AtBasics f) (IsBasics f) basics_bytes (λ b. AtNumbers f)) (λ (y : Basics × Numbers). IsBasics f y.0 × AreNumbers f y.1) (λ y. basics_bytes y.0 ++ numbers_bytes f y.1)
+body_misses f left e told h y more is text =
+    two_parts (AtBasics f) (IsBasics f) basics_bytes (λ b. AtNumbers f) (λ b. AreNumbers f) (numbers_bytes f) (basics_miss f) (one_basics f) (λ b. numbers_miss f) left e told h y.0 y.1 more is.0 is.1 text
+
+head_misses : (f : Format) (before : Option ℕ) → Refuses (AtHead f before) (IsHead f before) (head_bytes f)
+head_misses f before left e told h x more is text =
+    two_parts (AtWho before) (IsWho before) who_bytes (λ w. Then (AtBasics f) (IsBasics f) basics_bytes (λ b. AtNumbers f)) (λ w (y : Basics × Numbers). IsBasics f y.0 × AreNumbers f y.1) (λ y. basics_bytes y.0 ++ numbers_bytes f y.1)
+    (who_misses before) (one_who before) (λ w. body_misses f) left e told h x.who (x.basics, x.numbers) more is.who (is.basics, is.numbers) text
 
 -- texts
 
@@ -243,10 +266,10 @@ sets_miss =
 
 -- rows
 
-row_misses : (before : Option ℕ) → Refuses (AtRow before) (IsRow before) spell_row
-row_misses before left e told (inl h) r more is text = head_misses before left e told h (head_of r) _ is.head (text ∙ row_parts r more)
-row_misses before left e told (inr h) r more is text =
-    let p = one_head before h.part (head_of r) _ _ h.is_part is.head (sym h.takes.parts ∙ text ∙ row_parts r more) in
+row_misses : (f : Format) (before : Option ℕ) → Refuses (AtRow f before) (IsRowIn f before) (spell_row_in f)
+row_misses f before left e told (inl h) r more is text = head_misses f before left e told h (head_of r) _ is.head (text ∙ row_parts f r more)
+row_misses f before left e told (inr h) r more is text =
+    let p = one_head f before h.part (head_of r) _ _ h.is_part is.head (sym h.takes.parts ∙ text ∙ row_parts f r more) in
     behind_head h.mid h.fault p.1 where
       sets : List ℕ
       sets = spell_runs r.here ++ (spell_runs r.valid ++ (spell_runs r.modified ++ (spell_runs r.modified_since ++ (spell_extents r.extents ++ more))))
@@ -255,60 +278,60 @@ row_misses before left e told (inr h) r more is text =
       grouped a b c d x = simp append_assoc
 
       behind_identity : (mid : Left) → AtSets mid e → mid.rest ≡ sets → ⊥
-      behind_identity mid f same =
-          sets_miss mid e told f (r.here, (r.valid, (r.modified, (r.modified_since, r.extents)))) more (is.here, (is.valid, (is.modified, (is.modified_since, is.extents))))
+      behind_identity mid g same =
+          sets_miss mid e told g (r.here, (r.valid, (r.modified, (r.modified_since, r.extents)))) more (is.here, (is.valid, (is.modified, (is.modified_since, is.extents))))
           (same ∙ grouped (spell_runs r.here) (spell_runs r.valid) (spell_runs r.modified) (spell_runs r.modified_since) (spell_extents r.extents))
 
       behind_name : (mid : Left) → Then AtIdentity IsIdentity identity_bytes (λ identity. AtSets) mid e → mid.rest ≡ identity_bytes r.identity ++ sets → ⊥
-      behind_name mid (inl f) same = identity_misses mid e told f r.identity sets is.identity same
-      behind_name mid (inr f) same =
-          let q = one_identity f.part r.identity _ _ f.is_part is.identity (sym f.takes.parts ∙ same) in
-          behind_identity f.mid f.fault q.1
+      behind_name mid (inl g) same = identity_misses mid e told g r.identity sets is.identity same
+      behind_name mid (inr g) same =
+          let q = one_identity g.part r.identity _ _ g.is_part is.identity (sym g.takes.parts ∙ same) in
+          behind_identity g.mid g.fault q.1
 
       behind_head : (mid : Left) → Then AtName IsName name_bytes (λ name. Then AtIdentity IsIdentity identity_bytes (λ identity. AtSets)) mid e → mid.rest ≡ name_bytes r.name ++ (identity_bytes r.identity ++ sets) → ⊥
-      behind_head mid (inl f) same = name_misses mid e told f r.name _ is.name same
-      behind_head mid (inr f) same =
-          let q = one_name f.part r.name _ _ f.is_part is.name (sym f.takes.parts ∙ same) in
-          behind_name f.mid f.fault q.1
+      behind_head mid (inl g) same = name_misses mid e told g r.name _ is.name same
+      behind_head mid (inr g) same =
+          let q = one_name g.part r.name _ _ g.is_part is.name (sym g.takes.parts ∙ same) in
+          behind_name g.mid g.fault q.1
 
-rows_miss : (before : Option ℕ) (n : ℕ) → Refuses (AtRows before n) (λ (rs : List model.Row). (length rs ≡ n) × AreRows before rs) (flat_map spell_row)
-rows_miss before zero left e told h rs more is text = not_told e told h
-rows_miss before (suc n) left e told h [] more is text = absurd (omega (arith, is.0))
-rows_miss before (suc n) left e told h (r ∷ rs) more is text =
-    two_parts (AtRow before) (IsRow before) spell_row (λ (x : model.Row). AtRows (Some x.id.0) n) (λ (x : model.Row) (xs : List model.Row). (length xs ≡ n) × AreRows (Some x.id.0) xs) (flat_map spell_row)
-    (row_misses before) (one_row before) (λ (x : model.Row). rows_miss (Some x.id.0) n) left e told h r rs more is.1.0 (omega (arith, is.0), is.1.1)
-    (text ∙ append_assoc (spell_row r) (flat_map spell_row rs) more)
+rows_miss : (f : Format) (before : Option ℕ) (n : ℕ) → Refuses (AtRows f before n) (λ (rs : List model.Row). (length rs ≡ n) × AreRowsIn f before rs) (flat_map (spell_row_in f))
+rows_miss f before zero left e told h rs more is text = not_told e told h
+rows_miss f before (suc n) left e told h [] more is text = absurd (omega (arith, is.0))
+rows_miss f before (suc n) left e told h (r ∷ rs) more is text =
+    two_parts (AtRow f before) (IsRowIn f before) (spell_row_in f) (λ (x : model.Row). AtRows f (Some x.id.0) n) (λ (x : model.Row) (xs : List model.Row). (length xs ≡ n) × AreRowsIn f (Some x.id.0) xs) (flat_map (spell_row_in f))
+    (row_misses f before) (one_row f before) (λ (x : model.Row). rows_miss f (Some x.id.0) n) left e told h r rs more is.1.0 (omega (arith, is.0), is.1.1)
+    (text ∙ append_assoc (spell_row_in f r) (flat_map (spell_row_in f) rs) more)
 
-pub table_misses : Refuses AtTable AreTable spell_rows
-table_misses left e told h rs more is text =
-    two_parts (AtNumber 4 Any) (IsNumber 4 Any) (in_bytes 4) (λ n. AtRows None n) (λ n (xs : List model.Row). (length xs ≡ n) × AreRows None xs) (flat_map spell_row)
-    (number_misses 4 Any one_4) (once 4 Any one_4) (rows_miss None) left e told h (length rs) rs more (is.0, tt) (refl, is.1) text
+pub table_misses : (f : Format) → Refuses (AtTable f) (AreTable f) (spell_rows_in f)
+table_misses f left e told h rs more is text =
+    two_parts (AtNumber 4 Any) (IsNumber 4 Any) (in_bytes 4) (λ n. AtRows f None n) (λ n (xs : List model.Row). (length xs ≡ n) × AreRowsIn f None xs) (flat_map (spell_row_in f))
+    (number_misses 4 Any one_4) (once 4 Any one_4) (rows_miss f None) left e told h (length rs) rs more (is.0, tt) (refl, is.1) text
 
 pub not_at_end : (left : Left) (e : RowError) → IsTold e → AtEnd left e → left.rest ≡ [] → ⊥
 not_at_end left (Short place) told h is = h
 not_at_end left (BadField place) told h is = absurd (omega (arith, h.1, ap length is))
 not_at_end left OutOfMemory told h is = told
 
-whole_misses : (b : List ℕ) (e : RowError) → IsTold e → AtWhole (record { place = 0; rest = b }) e → (rs : List model.Row) → AreTable rs → b ≡ spell_rows rs → ⊥
-whole_misses b e told (inl h) rs is text = table_misses (record { place = 0; rest = b }) e told h rs [] is (text ∙ sym (append-nil (spell_rows rs)))
-whole_misses b e told (inr h) rs is text =
-    let p = one_table h.part rs h.mid.rest [] h.is_part is (sym h.takes.parts ∙ text ∙ sym (append-nil (spell_rows rs))) in
+whole_misses : (f : Format) (b : List ℕ) (e : RowError) → IsTold e → AtWhole f (record { place = 0; rest = b }) e → (rs : List model.Row) → AreTable f rs → b ≡ spell_rows_in f rs → ⊥
+whole_misses f b e told (inl h) rs is text = table_misses f (record { place = 0; rest = b }) e told h rs [] is (text ∙ sym (append-nil (spell_rows_in f rs)))
+whole_misses f b e told (inr h) rs is text =
+    let p = one_table f h.part rs h.mid.rest [] h.is_part is (sym h.takes.parts ∙ text ∙ sym (append-nil (spell_rows_in f rs))) in
     not_at_end h.mid e told h.fault p.1
 
 -- as the clauses of readers say it
 
-pub no_row : {T : Type 0} (left : Left) (r : Result T RowError) → IfErr r (AtRow None left) → IfErr r (λ e. IsTold e → (row : model.Row) (more : List ℕ) → IsRow None row → left.rest ≡ spell_row row ++ more → ⊥)
-no_row left (Ok x) h = tt
-no_row left (Err e) h = λ told. row_misses None left e told h
+pub no_row : {T : Type 0} (f : Format) (left : Left) (r : Result T RowError) → IfErr r (AtRow f None left) → IfErr r (λ e. IsTold e → (row : model.Row) (more : List ℕ) → IsRowIn f None row → left.rest ≡ spell_row_in f row ++ more → ⊥)
+no_row f left (Ok x) h = tt
+no_row f left (Err e) h = λ told. row_misses f None left e told h
 
-pub no_table : {T : Type 0} (left : Left) (r : Result T RowError) → IfErr r (AtTable left) → IfErr r (λ e. IsTold e → (rows : List model.Row) (more : List ℕ) → AreTable rows → left.rest ≡ spell_rows rows ++ more → ⊥)
-no_table left (Ok x) h = tt
-no_table left (Err e) h = λ told. table_misses left e told h
+pub no_table : {T : Type 0} (f : Format) (left : Left) (r : Result T RowError) → IfErr r (AtTable f left) → IfErr r (λ e. IsTold e → (rows : List model.Row) (more : List ℕ) → AreTable f rows → left.rest ≡ spell_rows_in f rows ++ more → ⊥)
+no_table f left (Ok x) h = tt
+no_table f left (Err e) h = λ told. table_misses f left e told h
 
-pub no_whole : {T : Type 0} (b : List ℕ) (left : Left) (r : Result T RowError) → left ≡ record { place = 0; rest = b } → IfErr r (AtWhole left) →
-    IfErr r (λ e. IsTold e → (rows : List model.Row) → AreTable rows → b ≡ spell_rows rows → ⊥)
-no_whole b left (Ok x) is h = tt
-no_whole b left (Err e) is h = λ told. whole_misses b e told (subst (λ (l : Left). AtWhole l e) is h)
+pub no_whole : {T : Type 0} (f : Format) (b : List ℕ) (left : Left) (r : Result T RowError) → left ≡ record { place = 0; rest = b } → IfErr r (AtWhole f left) →
+    IfErr r (λ e. IsTold e → (rows : List model.Row) → AreTable f rows → b ≡ spell_rows_in f rows → ⊥)
+no_whole f b left (Ok x) is h = tt
+no_whole f b left (Err e) is h = λ told. whole_misses f b e told (subst (λ (l : Left). AtWhole f l e) is h)
 
 pub at_end : (left : Left) (e : CodecError) → (e ≡ codec.BadField left.place) × (0 < length left.rest) → AtEnd left (of_codec e)
 at_end left e h = rw h.0 (refl, h.1)

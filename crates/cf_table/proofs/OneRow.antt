@@ -3,13 +3,15 @@ use Rattle.std.proofs.Common.{◌≡◌, ℕ, zero, suc, ◌+◌, ◌^◌, ◌<�
 use Rattle.std.specs.Prelude.{map}
 use Rattle.std.specs.List.{flat_map}
 use Rattle.cf_base.specs.declared.spans.Span.{Span}
-use Rattle.cf_model.specs.Formats.{spell_rows}
-use Rattle.cf_model.specs.Rows.{Extent, spell_extent, spell_extents, spell_head, spell_row, spell_run, spell_runs, spell_sets, spell_texts}
+use Rattle.cf_codec.specs.declared.formats.Format.{Format}
+use Rattle.cf_codec.specs.declared.formats.Format.TheVariants.{First, Second}
+use Rattle.cf_model.specs.FirstRows as first
+use Rattle.cf_model.specs.Rows.{Extent, spell_extent, spell_extents, spell_head, spell_run, spell_runs, spell_sets, spell_texts}
 use Rattle.cf_model.specs.Rows as model
 use Rattle.cf_model.specs.Words.{in_bytes}
 use Rattle.cf_table.specs.Faults.{AreTable}
-use Rattle.cf_table.specs.Reading.{AreExtents, AreExtentsFrom, AreRows, AreRunsFrom, IsExtent, IsRow, IsRun, IsSet, head_bytes, head_of, identity_bytes, name_bytes}
-use Rattle.cf_table.specs.Spelling.{spell_spans}
+use Rattle.cf_table.specs.Reading.{AreExtents, AreExtentsFrom, AreRowsIn, AreRunsFrom, IsExtent, IsRowIn, IsRun, IsSet, head_bytes, head_of, identity_bytes, name_bytes}
+use Rattle.cf_table.specs.Spelling.{spell_row_in, spell_rows_in, spell_spans}
 use Rattle.cf_table.specs.declared.heads.Head.{Head}
 use Rattle.cf_table.proofs.OneText.{OneOf, one_4, one_head, one_identity, one_name}
 
@@ -73,11 +75,13 @@ in_parts head name identity here valid modified since extents more =
 eight_parts : (head n c i p q r s t more : List ℕ) → (head ++ ((n ++ c) ++ i) ++ ((((p ++ q) ++ r) ++ s) ++ t)) ++ more ≡ head ++ (n ++ ((c ++ i) ++ (p ++ (q ++ (r ++ (s ++ (t ++ more)))))))
 eight_parts head n c i p q r s t more = simp append_assoc
 
-pub row_parts : (r : model.Row) (more : List ℕ) → spell_row r ++ more ≡ in_parts (head_bytes (head_of r)) r.name r.identity r.here r.valid r.modified r.modified_since r.extents more
-row_parts r more = generic (spell_head r) r.name r.identity (spell_runs r.here) (spell_runs r.valid) (spell_runs r.modified) (spell_runs r.modified_since) (spell_extents r.extents) more where
-  generic : (head n i p q s t x more : List ℕ) → (head ++ ((length n ∷ n) ++ in_bytes 2 (length i) ++ i) ++ (p ++ q ++ s ++ t ++ x)) ++ more
-      ≡ head ++ (name_bytes n ++ (identity_bytes i ++ (p ++ (q ++ (s ++ (t ++ (x ++ more)))))))
-  generic head n i p q s t x more = eight_parts head (length n ∷ n) (in_bytes 2 (length i)) i p q s t x more
+parts_of : (head n i p q s t x more : List ℕ) → (head ++ ((length n ∷ n) ++ in_bytes 2 (length i) ++ i) ++ (p ++ q ++ s ++ t ++ x)) ++ more
+    ≡ head ++ (name_bytes n ++ (identity_bytes i ++ (p ++ (q ++ (s ++ (t ++ (x ++ more)))))))
+parts_of head n i p q s t x more = eight_parts head (length n ∷ n) (in_bytes 2 (length i)) i p q s t x more
+
+pub row_parts : (f : Format) (r : model.Row) (more : List ℕ) → spell_row_in f r ++ more ≡ in_parts (head_bytes f (head_of r)) r.name r.identity r.here r.valid r.modified r.modified_since r.extents more
+row_parts First r more = parts_of (first.spell_head r) r.name r.identity (spell_runs r.here) (spell_runs r.valid) (spell_runs r.modified) (spell_runs r.modified_since) (spell_extents r.extents) more
+row_parts Second r more = parts_of (spell_head r) r.name r.identity (spell_runs r.here) (spell_runs r.valid) (spell_runs r.modified) (spell_runs r.modified_since) (spell_extents r.extents) more
 
 abbrev row_from : Head → List ℕ → List ℕ → List Span → List Span → List Span → List Span → List Extent → model.Row
 row_from h name identity here valid modified since extents = record {
@@ -116,11 +120,11 @@ same_parts : (r s : model.Row) → head_of r ≡ head_of s → r.name ≡ s.name
 same_parts r s a b c d e f g j =
     same_row (head_of r) (head_of s) r.name s.name r.identity s.identity r.here s.here r.valid s.valid r.modified s.modified r.modified_since s.modified_since r.extents s.extents a b c d e f g j
 
-pub one_row : (before : Option ℕ) → OneOf (IsRow before) spell_row
-one_row before m n a b h k e =
-    let z : in_parts (head_bytes (head_of m)) m.name m.identity m.here m.valid m.modified m.modified_since m.extents a
-    ≡ in_parts (head_bytes (head_of n)) n.name n.identity n.here n.valid n.modified n.modified_since n.extents b = sym (row_parts m a) ∙ e ∙ row_parts n b in
-    let p = one_head before (head_of m) (head_of n) _ _ h.head k.head z in
+pub one_row : (f : Format) (before : Option ℕ) → OneOf (IsRowIn f before) (spell_row_in f)
+one_row f before m n a b h k e =
+    let z : in_parts (head_bytes f (head_of m)) m.name m.identity m.here m.valid m.modified m.modified_since m.extents a
+    ≡ in_parts (head_bytes f (head_of n)) n.name n.identity n.here n.valid n.modified n.modified_since n.extents b = sym (row_parts f m a) ∙ e ∙ row_parts f n b in
+    let p = one_head f before (head_of m) (head_of n) _ _ h.head k.head z in
     let q = one_name m.name n.name _ _ h.name k.name p.1 in
     let r = one_identity m.identity n.identity _ _ h.identity k.identity q.1 in
     let s = one_set m.here n.here _ _ h.here k.here r.1 in
@@ -130,17 +134,17 @@ one_row before m n a b h k e =
     let w = one_map m.extents n.extents a b h.extents k.extents v.1 in
     (same_parts m n p.0 q.0 r.0 s.0 t.0 u.0 v.0 w.0, w.1)
 
-pub one_row_list : (before : Option ℕ) (xs ys : List model.Row) (a b : List ℕ) → length xs ≡ length ys → AreRows before xs → AreRows before ys → flat_map spell_row xs ++ a ≡ flat_map spell_row ys ++ b → (xs ≡ ys) × (a ≡ b)
-one_row_list before [] [] a b l h k e = (refl, e)
-one_row_list before [] (y ∷ ys) a b l h k e = absurd (omega arith)
-one_row_list before (x ∷ xs) [] a b l h k e = absurd (omega arith)
-one_row_list before (x ∷ xs) (y ∷ ys) a b l h k e =
-    let f : spell_row x ++ (flat_map spell_row xs ++ a) ≡ spell_row y ++ (flat_map spell_row ys ++ b) = sym (append_assoc (spell_row x) (flat_map spell_row xs) a) ∙ e ∙ append_assoc (spell_row y) (flat_map spell_row ys) b in
-    let p = one_row before x y (flat_map spell_row xs ++ a) (flat_map spell_row ys ++ b) h.0 k.0 f in
-    let q = one_row_list (Some x.id.0) xs ys a b (omega arith) h.1 (subst (λ (z : model.Row). AreRows (Some z.id.0) ys) (sym p.0) k.1) p.1 in
+pub one_row_list : (f : Format) (before : Option ℕ) (xs ys : List model.Row) (a b : List ℕ) → length xs ≡ length ys → AreRowsIn f before xs → AreRowsIn f before ys → flat_map (spell_row_in f) xs ++ a ≡ flat_map (spell_row_in f) ys ++ b → (xs ≡ ys) × (a ≡ b)
+one_row_list f before [] [] a b l h k e = (refl, e)
+one_row_list f before [] (y ∷ ys) a b l h k e = absurd (omega arith)
+one_row_list f before (x ∷ xs) [] a b l h k e = absurd (omega arith)
+one_row_list f before (x ∷ xs) (y ∷ ys) a b l h k e =
+    let z : spell_row_in f x ++ (flat_map (spell_row_in f) xs ++ a) ≡ spell_row_in f y ++ (flat_map (spell_row_in f) ys ++ b) = sym (append_assoc (spell_row_in f x) (flat_map (spell_row_in f) xs) a) ∙ e ∙ append_assoc (spell_row_in f y) (flat_map (spell_row_in f) ys) b in
+    let p = one_row f before x y (flat_map (spell_row_in f) xs ++ a) (flat_map (spell_row_in f) ys ++ b) h.0 k.0 z in
+    let q = one_row_list f (Some x.id.0) xs ys a b (omega arith) h.1 (subst (λ (z : model.Row). AreRowsIn f (Some z.id.0) ys) (sym p.0) k.1) p.1 in
     (ap (λ v. v ∷ xs) p.0 ∙ ap (λ v. y ∷ v) q.0, q.1)
 
-pub one_table : OneOf AreTable spell_rows
-one_table m n a b h k e =
-    let p = one_4 (length m) (length n) (flat_map spell_row m ++ a) (flat_map spell_row n ++ b) h.0 k.0 e in
-    one_row_list None m n a b p.0 h.1 k.1 p.1
+pub one_table : (f : Format) → OneOf (AreTable f) (spell_rows_in f)
+one_table f m n a b h k e =
+    let p = one_4 (length m) (length n) (flat_map (spell_row_in f) m ++ a) (flat_map (spell_row_in f) n ++ b) h.0 k.0 e in
+    one_row_list f None m n a b p.0 h.1 k.1 p.1

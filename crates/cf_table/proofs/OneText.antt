@@ -9,11 +9,13 @@ use Rattle.cf_base.specs.declared.ids.Usn.{Usn}
 use Rattle.cf_base.specs.declared.items.Pin.{Pin}
 use Rattle.cf_base.specs.declared.items.Pin.TheVariants as pin
 use Rattle.cf_base.specs.declared.spans.Span.{Span}
+use Rattle.cf_codec.specs.declared.formats.Format.{Format}
+use Rattle.cf_codec.specs.declared.formats.Format.TheVariants.{First, Second}
 use Rattle.cf_model.specs.Books.{usn_bytes}
 use Rattle.cf_model.specs.Rows.{Extent, flag_of, pin_byte, spell_extent, spell_extents, spell_row, spell_run, spell_runs}
 use Rattle.cf_model.specs.Rows as model
 use Rattle.cf_model.specs.Words.{in_bytes}
-use Rattle.cf_table.specs.Reading.{AreExtents, AreExtentsFrom, AreLengths, AreNumbers, AreRunsFrom, IsBasics, IsExtent, IsHead, IsIdentity, IsName, IsRun, IsSet, IsStored, IsUsn, IsWho, basics_bytes, flags_number, head_bytes, identity_bytes, lengths_bytes, name_bytes, numbers_bytes, who_bytes}
+use Rattle.cf_table.specs.Reading.{AreExtents, AreExtentsFrom, AreLengths, AreNumbers, AreRunsFrom, AreTicks, IsBasics, IsExtent, IsHead, IsIdentity, IsName, IsRun, IsSet, IsStored, IsUsn, IsWho, basics_bytes, flags_limit, flags_number, head_bytes, identity_bytes, lengths_bytes, name_bytes, numbers_bytes, ticks_bytes, who_bytes}
 use Rattle.cf_table.specs.Spelling.{spell_spans}
 use Rattle.cf_table.specs.declared.heads.Basics.{Basics}
 use Rattle.cf_table.specs.declared.heads.Flags.{Flags}
@@ -115,6 +117,21 @@ one_flags_number f g e =
 pub small_flags : (f : Flags) → flags_number f < 256
 small_flags f = omega (arith, small_flag f.dir 1, small_flag f.placeholder 2, small_flag f.populated 4, small_flag f.in_sync 8, small_flag f.dirty 16, small_flag f.dirty_since 32, small_flag f.has_base 64, small_flag f.keep 128)
 
+kept_is : (k : Bool) (rest : ℕ) → rest + flag_of k 128 < 128 → k ≡ false
+kept_is true rest h = absurd (omega (arith, h))
+kept_is false rest h = refl
+
+-- flag 128 is set in no number below it
+pub not_kept : (f : Flags) → flags_number f < 128 → f.keep ≡ false
+not_kept f h = kept_is f.keep (flag_of f.dir 1 + flag_of f.placeholder 2 + flag_of f.populated 4 + flag_of f.in_sync 8 + flag_of f.dirty 16 + flag_of f.dirty_since 32 + flag_of f.has_base 64) h
+
+pub basics_are : (f : Format) (b : Basics) → flags_number b.flags < flags_limit f → IsStored b.pin → AreLengths b.flags.has_base b.lengths → IsBasics f b
+basics_are First b h pin lengths = (pin, lengths, not_kept b.flags h)
+basics_are Second b h pin lengths = (pin, lengths)
+
+pub low_flags : (f : Flags) → f.keep ≡ false → flags_number f < 128
+low_flags f h = rw h (omega (arith, small_flag f.dir 1, small_flag f.placeholder 2, small_flag f.populated 4, small_flag f.in_sync 8, small_flag f.dirty 16, small_flag f.dirty_since 32, small_flag f.has_base 64))
+
 pub one_flags : OneOf (λ (f : Flags). Unit {0}) (λ f. in_bytes 2 (flags_number f))
 one_flags f g a b h k e = let p = one_2 (flags_number f) (flags_number g) a b (omega (arith, small_flags f)) (omega (arith, small_flags g)) e in (one_flags_number f g p.0, p.1)
 
@@ -152,8 +169,8 @@ one_lengths has_base m n a b h k e =
       same : (a b : ℕ) (c d : Option ℕ) → a ≡ b → c ≡ d → ◌≡◌ {A = Lengths} (record { size = a; base = c }) (record { size = b; base = d })
       same a b c d e f = ap (λ x. record { size = x; base = c }) e ∙ ap (λ x. record { size = b; base = x }) f
 
-pub one_basics : OneOf IsBasics basics_bytes
-one_basics m n a b h k e =
+basics_once : OneOf (λ (b : Basics). IsStored b.pin × AreLengths b.flags.has_base b.lengths) basics_bytes
+basics_once m n a b h k e =
     let p = one_flags m.flags n.flags (pin_byte m.pin ∷ lengths_bytes m.lengths ++ a) (pin_byte n.pin ∷ lengths_bytes n.lengths ++ b) tt tt e in
     let q = one_pin m.pin n.pin (lengths_bytes m.lengths ++ a) (lengths_bytes n.lengths ++ b) h.0 k.0 p.1 in
     let r = one_lengths m.flags.has_base m.lengths n.lengths a b h.1 (subst (λ (f : Flags). AreLengths f.has_base n.lengths) (sym p.0) k.1) q.1 in
@@ -161,20 +178,28 @@ one_basics m n a b h k e =
       same : (a b : Flags) (c d : Pin) (e f : Lengths) → a ≡ b → c ≡ d → e ≡ f → ◌≡◌ {A = Basics} (record { flags = a; pin = c; lengths = e }) (record { flags = b; pin = d; lengths = f })
       same a b c d e f g h i = ap (λ x. record { flags = x; pin = c; lengths = e }) g ∙ ap (λ x. record { flags = b; pin = x; lengths = e }) h ∙ ap (λ x. record { flags = b; pin = d; lengths = x }) i
 
-pub one_numbers : OneOf AreNumbers numbers_bytes
-one_numbers m n a b h k e =
-    let p = one_usn m.number n.number (usn_bytes m.anchor ++ in_bytes 8 m.last ++ a) (usn_bytes n.anchor ++ in_bytes 8 n.last ++ b) h.0 k.0 e in
-    let q = one_usn m.anchor n.anchor (in_bytes 8 m.last ++ a) (in_bytes 8 n.last ++ b) h.1 k.1 p.1 in
-    let r = one_8 m.last n.last a b h.2 k.2 q.1 in
+pub one_basics : (f : Format) → OneOf (IsBasics f) basics_bytes
+one_basics First m n a b h k e = basics_once m n a b (h.0, h.1) (k.0, k.1) e
+one_basics Second m n a b h k e = basics_once m n a b h k e
+
+pub one_ticks : (f : Format) → OneOf (AreTicks f) (ticks_bytes f)
+one_ticks First m n a b h k e = (h ∙ sym k, e)
+one_ticks Second m n a b h k e = one_8 m n a b h k e
+
+pub one_numbers : (f : Format) → OneOf (AreNumbers f) (numbers_bytes f)
+one_numbers f m n a b h k e =
+    let p = one_usn m.number n.number (usn_bytes m.anchor ++ ticks_bytes f m.last ++ a) (usn_bytes n.anchor ++ ticks_bytes f n.last ++ b) h.0 k.0 e in
+    let q = one_usn m.anchor n.anchor (ticks_bytes f m.last ++ a) (ticks_bytes f n.last ++ b) h.1 k.1 p.1 in
+    let r = one_ticks f m.last n.last a b h.2 k.2 q.1 in
     (same m.number n.number m.anchor n.anchor m.last n.last p.0 q.0 r.0, r.1) where
       same : (a b c d : Usn) (e f : ℕ) → a ≡ b → c ≡ d → e ≡ f → ◌≡◌ {A = Numbers} (record { number = a; anchor = c; last = e }) (record { number = b; anchor = d; last = f })
       same a b c d e f g h i = ap (λ x. record { number = x; anchor = c; last = e }) g ∙ ap (λ x. record { number = b; anchor = x; last = e }) h ∙ ap (λ x. record { number = b; anchor = d; last = x }) i
 
-pub one_head : (before : Option ℕ) → OneOf (IsHead before) head_bytes
-one_head before m n a b h k e =
-    let p = one_who before m.who n.who (basics_bytes m.basics ++ numbers_bytes m.numbers ++ a) (basics_bytes n.basics ++ numbers_bytes n.numbers ++ b) h.who k.who e in
-    let q = one_basics m.basics n.basics (numbers_bytes m.numbers ++ a) (numbers_bytes n.numbers ++ b) h.basics k.basics p.1 in
-    let r = one_numbers m.numbers n.numbers a b h.numbers k.numbers q.1 in
+pub one_head : (f : Format) (before : Option ℕ) → OneOf (IsHead f before) (head_bytes f)
+one_head f before m n a b h k e =
+    let p = one_who before m.who n.who (basics_bytes m.basics ++ numbers_bytes f m.numbers ++ a) (basics_bytes n.basics ++ numbers_bytes f n.numbers ++ b) h.who k.who e in
+    let q = one_basics f m.basics n.basics (numbers_bytes f m.numbers ++ a) (numbers_bytes f n.numbers ++ b) h.basics k.basics p.1 in
+    let r = one_numbers f m.numbers n.numbers a b h.numbers k.numbers q.1 in
     (same m.who n.who m.basics n.basics m.numbers n.numbers p.0 q.0 r.0, r.1) where
       same : (a b : Who) (c d : Basics) (e f : Numbers) → a ≡ b → c ≡ d → e ≡ f → ◌≡◌ {A = Head} (record { who = a; basics = c; numbers = e }) (record { who = b; basics = d; numbers = f })
       same a b c d e f g h i = ap (λ x. record { who = x; basics = c; numbers = e }) g ∙ ap (λ x. record { who = b; basics = x; numbers = e }) h ∙ ap (λ x. record { who = b; basics = d; numbers = x }) i

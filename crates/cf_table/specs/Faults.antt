@@ -6,15 +6,16 @@ use Rattle.cf_base.specs.declared.spans.Span.{Span}
 use Rattle.cf_codec.specs.Left.{Left, Takes}
 use Rattle.cf_codec.specs.declared.failures.CodecError.{CodecError}
 use Rattle.cf_codec.specs.declared.failures.CodecError.TheVariants as codec
+use Rattle.cf_codec.specs.declared.formats.Format.{Format}
+use Rattle.cf_codec.specs.declared.formats.Format.TheVariants.{First, Second}
 use Rattle.cf_model.specs.Books.{usn_bytes}
-use Rattle.cf_model.specs.Formats.{spell_rows}
-use Rattle.cf_model.specs.Rows.{Extent, pin_byte, spell_extent, spell_row, spell_run, spell_runs}
+use Rattle.cf_model.specs.Rows.{Extent, pin_byte, spell_extent, spell_run, spell_runs}
 use Rattle.cf_model.specs.Rows as model
 use Rattle.cf_model.specs.Words.{in_bytes}
-use Rattle.cf_table.specs.Reading.{AreRows, IsAbove, IsBasics, IsExtent, IsHead, IsIdentity, IsName, IsRow, IsRun, IsSet, IsStored, IsUsn, IsWho, basics_bytes, flags_number, head_bytes, identity_bytes, name_bytes, who_bytes}
+use Rattle.cf_table.specs.Reading.{AreRowsIn, IsAbove, IsBasics, IsExtent, IsHead, IsIdentity, IsName, IsRowIn, IsRun, IsSet, IsStored, IsUsn, IsWho, basics_bytes, flags_limit, flags_number, head_bytes, identity_bytes, name_bytes, who_bytes}
+use Rattle.cf_table.specs.Spelling.{spell_row_in, spell_rows_in}
 use Rattle.cf_table.specs.declared.heads.Flags.{Flags}
 use Rattle.cf_table.specs.declared.failures.RowError.{RowError}
-use Rattle.cf_table.specs.declared.heads.Flags.{Flags}
 use Rattle.cf_table.specs.declared.failures.RowError.TheVariants.{BadField, OutOfMemory, Short}
 
 -- the fault of a field as one of a row
@@ -73,8 +74,11 @@ Any v = Unit {0}
 abbrev pub AtWho : Option ℕ → Left → RowError → Type 0
 AtWho before = ThenOf 8 (IsAbove before) (λ id. AtNumber 8 Any)
 
-abbrev pub AtFlags : Left → RowError → Type 0
-AtFlags = AtNumber 2 (λ v. v < 256)
+abbrev pub AreFlags : Format → Flags → Type 0
+AreFlags f flags = flags_number flags < flags_limit f
+
+abbrev pub AtFlags : Format → Left → RowError → Type 0
+AtFlags f = AtNumber 2 (λ v. v < flags_limit f)
 
 abbrev pub AtPin : Left → RowError → Type 0
 AtPin = AtNumber 1 (λ v. v < 4)
@@ -87,19 +91,25 @@ IsBaseField false v = v ≡ 0
 abbrev pub AtLengths : Bool → Left → RowError → Type 0
 AtLengths has_base = ThenOf 4 Any (λ size. AtNumber 4 (IsBaseField has_base))
 
-abbrev pub AtBasics : Left → RowError → Type 0
-AtBasics =
-    Then AtFlags (λ (f : Flags). Unit {0}) (λ f. in_bytes 2 (flags_number f))
-    (λ f. Then AtPin IsStored (λ p. pin_byte p ∷ []) (λ p. AtLengths f.has_base))
+abbrev pub AtBasics : Format → Left → RowError → Type 0
+AtBasics f =
+    Then (AtFlags f) (AreFlags f) (λ flags. in_bytes 2 (flags_number flags))
+    (λ flags. Then AtPin IsStored (λ p. pin_byte p ∷ []) (λ p. AtLengths flags.has_base))
 
+-- a number of a change in two fields, epoch and place
 abbrev pub AtUsn : Left → RowError → Type 0
 AtUsn = ThenOf 4 Any (λ epoch. AtNumber 4 Any)
 
-abbrev pub AtNumbers : Left → RowError → Type 0
-AtNumbers = Then AtUsn IsUsn usn_bytes (λ number. Then AtUsn IsUsn usn_bytes (λ anchor. AtNumber 8 Any))
+abbrev pub AtTicks : Format → Left → RowError → Type 0
+AtTicks First left e = NoFault e
+AtTicks Second left e = AtNumber 8 Any left e
 
-abbrev pub AtHead : Option ℕ → Left → RowError → Type 0
-AtHead before = Then (AtWho before) (IsWho before) who_bytes (λ w. Then AtBasics IsBasics basics_bytes (λ b. AtNumbers))
+-- a number of a change is one field here
+abbrev pub AtNumbers : Format → Left → RowError → Type 0
+AtNumbers f = Then (AtNumber 8 Any) IsUsn usn_bytes (λ number. Then (AtNumber 8 Any) IsUsn usn_bytes (λ anchor. AtTicks f))
+
+abbrev pub AtHead : Format → Option ℕ → Left → RowError → Type 0
+AtHead f before = Then (AtWho before) (IsWho before) who_bytes (λ w. Then (AtBasics f) (IsBasics f) basics_bytes (λ b. AtNumbers f))
 
 -- texts
 
@@ -147,20 +157,20 @@ AtSets =
 -- rows
 
 -- a row whose id is to be above this one, if there is one
-abbrev pub AtRow : Option ℕ → Left → RowError → Type 0
-AtRow before =
-    Then (AtHead before) (IsHead before) head_bytes
+abbrev pub AtRow : Format → Option ℕ → Left → RowError → Type 0
+AtRow f before =
+    Then (AtHead f before) (IsHead f before) (head_bytes f)
     (λ h. Then AtName IsName name_bytes
     (λ name. Then AtIdentity IsIdentity identity_bytes
     (λ identity. AtSets)))
 
 -- in one of n rows
-abbrev pub AtRows : Option ℕ → ℕ → Left → RowError → Type 0
-AtRows before zero left e = NoFault e
-AtRows before (suc n) left e = Then (AtRow before) (IsRow before) spell_row (λ r. AtRows (Some r.id.0) n) left e
+abbrev pub AtRows : Format → Option ℕ → ℕ → Left → RowError → Type 0
+AtRows f before zero left e = NoFault e
+AtRows f before (suc n) left e = Then (AtRow f before) (IsRowIn f before) (spell_row_in f) (λ r. AtRows f (Some r.id.0) n) left e
 
-abbrev pub AtTable : Left → RowError → Type 0
-AtTable = ThenOf 4 Any (λ n. AtRows None n)
+abbrev pub AtTable : Format → Left → RowError → Type 0
+AtTable f = ThenOf 4 Any (λ n. AtRows f None n)
 
 -- bytes where there should be none
 abbrev pub AtEnd : Left → RowError → Type 0
@@ -168,9 +178,9 @@ AtEnd left (Short place) = ⊥
 AtEnd left (BadField place) = (place ≡ left.place) × (0 < length left.rest)
 AtEnd left OutOfMemory = Unit {0}
 
-abbrev pub AreTable : List model.Row → Type 0
-AreTable rs = (length rs < 2 ^ 32) × AreRows None rs
+abbrev pub AreTable : Format → List model.Row → Type 0
+AreTable f rs = (length rs < 2 ^ 32) × AreRowsIn f None rs
 
 -- in a text of rows and no more
-abbrev pub AtWhole : Left → RowError → Type 0
-AtWhole = Then AtTable AreTable spell_rows (λ rs. AtEnd)
+abbrev pub AtWhole : Format → Left → RowError → Type 0
+AtWhole f = Then (AtTable f) (AreTable f) (spell_rows_in f) (λ rs. AtEnd)

@@ -1,9 +1,11 @@
 -- Which rows have a spelling, and how the parts of a row are spelled.
-use Rattle.std.specs.Prelude.{ℕ, Bool, List, [], length, map, Option, Some, None, is_some, unwrap_or, ◌+◌, ◌^◌, ◌≤◌, ◌<◌, ◌≡◌, ◌∷◌, ◌++◌}
+use Rattle.std.specs.Prelude.{ℕ, Bool, false, List, [], length, map, Option, Some, None, is_some, unwrap_or, ◌+◌, ◌^◌, ◌≤◌, ◌<◌, ◌≡◌, ◌∷◌, ◌++◌}
 use Rattle.cf_base.specs.declared.ids.Usn.{Usn}
 use Rattle.cf_base.specs.declared.items.Pin.{Pin}
 use Rattle.cf_base.specs.declared.items.Pin.TheVariants as pin
 use Rattle.cf_base.specs.declared.spans.Span.{Span}
+use Rattle.cf_codec.specs.declared.formats.Format.{Format}
+use Rattle.cf_codec.specs.declared.formats.Format.TheVariants.{First, Second}
 use Rattle.cf_model.specs.Books.{usn_bytes}
 use Rattle.cf_model.specs.Rows.{Extent, flag_of, pin_byte, spell_extents, spell_runs}
 use Rattle.cf_model.specs.Rows as model
@@ -34,11 +36,16 @@ lengths_bytes l = in_bytes 4 l.size ++ in_bytes 4 (unwrap_or l.base 0)
 abbrev pub basics_bytes : Basics → List ℕ
 basics_bytes b = in_bytes 2 (flags_number b.flags) ++ pin_byte b.pin ∷ lengths_bytes b.lengths
 
-abbrev pub numbers_bytes : Numbers → List ℕ
-numbers_bytes n = usn_bytes n.number ++ usn_bytes n.anchor ++ in_bytes 8 n.last
+-- format 1 has no place for it
+abbrev pub ticks_bytes : Format → ℕ → List ℕ
+ticks_bytes First n = []
+ticks_bytes Second n = in_bytes 8 n
 
-abbrev pub head_bytes : Head → List ℕ
-head_bytes h = who_bytes h.who ++ basics_bytes h.basics ++ numbers_bytes h.numbers
+abbrev pub numbers_bytes : Format → Numbers → List ℕ
+numbers_bytes f n = usn_bytes n.number ++ usn_bytes n.anchor ++ ticks_bytes f n.last
+
+abbrev pub head_bytes : Format → Head → List ℕ
+head_bytes f h = who_bytes h.who ++ basics_bytes h.basics ++ numbers_bytes f h.numbers
 
 abbrev pub name_bytes : List ℕ → List ℕ
 name_bytes name = length name ∷ name
@@ -67,19 +74,30 @@ IsStored pin.Inherit = ⊥
 abbrev pub AreLengths : Bool → Lengths → Type 0
 AreLengths has_base l = (has_base ≡ is_some l.base) × (l.size < 2 ^ 32) × (unwrap_or l.base 0 < 2 ^ 32)
 
-abbrev pub IsBasics : Basics → Type 0
-IsBasics b = IsStored b.pin × AreLengths b.flags.has_base b.lengths
+-- no file of format 1 is kept full
+abbrev pub IsBasics : Format → Basics → Type 0
+IsBasics First b = IsStored b.pin × AreLengths b.flags.has_base b.lengths × (b.flags.keep ≡ false)
+IsBasics Second b = IsStored b.pin × AreLengths b.flags.has_base b.lengths
+
+-- the flags are less than this
+abbrev pub flags_limit : Format → ℕ
+flags_limit First = 128
+flags_limit Second = 256
 
 abbrev pub IsUsn : Usn → Type 0
 IsUsn n = (n.epoch < 2 ^ 32) × (n.place < 2 ^ 32)
 
-abbrev pub AreNumbers : Numbers → Type 0
-AreNumbers n = IsUsn n.number × IsUsn n.anchor × (n.last < 2 ^ 64)
+abbrev pub AreTicks : Format → ℕ → Type 0
+AreTicks First n = n ≡ 0
+AreTicks Second n = n < 2 ^ 64
 
-pub record IsHead (before : Option ℕ) (h : Head) : Type 0 where
+abbrev pub AreNumbers : Format → Numbers → Type 0
+AreNumbers f n = IsUsn n.number × IsUsn n.anchor × AreTicks f n.last
+
+pub record IsHead (f : Format) (before : Option ℕ) (h : Head) : Type 0 where
   pub who : IsWho before h.who
-  pub basics : IsBasics h.basics
-  pub numbers : AreNumbers h.numbers
+  pub basics : IsBasics f h.basics
+  pub numbers : AreNumbers f h.numbers
 
 abbrev pub IsName : List ℕ → Type 0
 IsName name = length name < 2 ^ 8
@@ -130,8 +148,8 @@ head_of r = record {
 }
 
 -- a row whose id is above this one, if there is one
-pub record IsRow (before : Option ℕ) (r : model.Row) : Type 0 where
-  pub head : IsHead before (head_of r)
+pub record IsRowIn (f : Format) (before : Option ℕ) (r : model.Row) : Type 0 where
+  pub head : IsHead f before (head_of r)
   pub name : IsName r.name
   pub identity : IsIdentity r.identity
   pub here : IsSet r.here
@@ -141,9 +159,17 @@ pub record IsRow (before : Option ℕ) (r : model.Row) : Type 0 where
   pub extents : AreExtents r.extents
 
 -- rows whose ids rise
+abbrev pub AreRowsIn : Format → Option ℕ → List model.Row → Type 0
+AreRowsIn f before [] = Unit {0}
+AreRowsIn f before (r ∷ rs) = IsRowIn f before r × AreRowsIn f (Some r.id.0) rs
+
+-- in format 2, which is written
+
+abbrev pub IsRow : Option ℕ → model.Row → Type 0
+IsRow before r = IsRowIn Second before r
+
 abbrev pub AreRows : Option ℕ → List model.Row → Type 0
-AreRows before [] = Unit {0}
-AreRows before (r ∷ rs) = IsRow before r × AreRows (Some r.id.0) rs
+AreRows before rs = AreRowsIn Second before rs
 
 -- as they are read
 

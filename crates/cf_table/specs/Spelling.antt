@@ -1,9 +1,13 @@
 -- How rows are spelled.
-use Rattle.std.specs.Prelude.{ℕ, List, length, map, All, ◌+◌, ◌^◌, ◌<◌}
+use Rattle.std.specs.Prelude.{ℕ, List, length, map, All, ◌+◌, ◌^◌, ◌<◌, ◌++◌}
 use Rattle.cf_base.specs.declared.spans.Span.{Span}
 use Rattle.std.specs.List.{flat_map}
+use Rattle.cf_codec.specs.declared.formats.Format.{Format}
+use Rattle.cf_codec.specs.declared.formats.Format.TheVariants.{First, Second}
+use Rattle.cf_model.specs.FirstRows as first
 use Rattle.cf_model.specs.Rows.{Extent, spell_extent, spell_row, spell_run}
 use Rattle.cf_model.specs.Rows as model
+use Rattle.cf_model.specs.Words.{in_bytes}
 use Rattle.cf_table.specs.Applied.{IsSpellable}
 use Rattle.cf_table.specs.declared.rows.Row.{Row}
 
@@ -56,6 +60,16 @@ spell_spans runs = flat_map spell_run runs
 abbrev pub spell_pairs : List (ℕ × ℕ) → List ℕ
 spell_pairs pairs = flat_map spell_extent (map extent_of pairs)
 
+abbrev pub spell_row_in : Format → model.Row → List ℕ
+spell_row_in First r = first.spell_row r
+spell_row_in Second r = spell_row r
+
+abbrev pub spell_rows_in : Format → List model.Row → List ℕ
+spell_rows_in f rs = in_bytes 4 (length rs) ++ flat_map (spell_row_in f) rs
+
 -- all rows one after the other
+abbrev pub spell_each_in : Format → List Row → List ℕ
+spell_each_in f rows = flat_map (spell_row_in f) (map row_value rows)
+
 abbrev pub spell_each : List Row → List ℕ
 spell_each rows = flat_map spell_row (map row_value rows)

@@ -7,7 +7,8 @@ ghost use Rattle.cf_table.specs.declared.failures.RowError.TheVariants.{OutOfMem
 use cf_codec::CodecError;
 use std::alloc::{AllocError, AllocFailed};
 
-/// Why a row cannot be read. The number is a place in the bytes that the reader was made of, from 0.
+/// Why a row, or a text with rows in it, cannot be read. The number is a place in the bytes that the reader was made of,
+/// from 0.
 #[derive(Clone, Copy, Debug, PartialEq, Eq, thiserror::Error)]
 pub enum RowError {
     /// The field that begins at this place lacks bytes.

@@ -1,16 +1,16 @@
 //! The head of a row: its numbers and flags, which stand in front.
 
-ghost use Rattle.std.specs.Prelude.{◌≡◌, ◌<◌, ◌+◌, ◌/◌, ◌%◌, ◌==◌, ◌^◌, ◌∷◌, [], IfOk, IfErr, MatchOption, Option, true, false, unwrap_or, is_some};
+ghost use Rattle.std.specs.Prelude.{◌≡◌, ◌<◌, ◌≤◌, ◌+◌, ◌/◌, ◌%◌, ◌==◌, ◌^◌, ◌∷◌, [], IfOk, IfErr, MatchOption, Option, true, false, unwrap_or, is_some};
 ghost use Rattle.cf_codec.specs.Left.{Takes};
 ghost use Rattle.cf_model.specs.Rows.{pin_byte};
 ghost use Rattle.cf_model.specs.Words.{in_bytes};
-ghost use Rattle.cf_table.specs.Faults.{AtBasics, AtFlags, AtHead, AtLengths, AtNumber, AtNumbers, AtPin, AtWho, IsBaseField};
-ghost use Rattle.cf_table.specs.Reading.{AreLengths, AreNumbers, IsAbove, IsBasics, IsHead, IsStored, IsWho, basics_bytes, flags_number, head_bytes, lengths_bytes, numbers_bytes, who_bytes};
+ghost use Rattle.cf_table.specs.Faults.{AreFlags, AtBasics, AtFlags, AtHead, AtLengths, AtNumber, AtNumbers, AtPin, AtWho, IsBaseField};
+ghost use Rattle.cf_table.specs.Reading.{AreLengths, AreNumbers, IsAbove, IsBasics, IsHead, IsStored, IsWho, basics_bytes, flags_limit, flags_number, head_bytes, lengths_bytes, numbers_bytes, who_bytes};
 
 use crate::failures::RowError;
-use crate::plain_fields::{place_of, read_1, read_2, read_4, read_8, read_usn};
+use crate::plain_fields::{read_1, read_2, read_4, read_8, read_number, read_ticks};
 use cf_base::{ItemId, Pin, Usn};
-use cf_codec::Reader;
+use cf_codec::{Format, Reader};
 
 #[derive(Clone, Copy)]
 pub(crate) struct Who {
@@ -73,7 +73,7 @@ fn read_id(r: &mut Reader, before: Option<u64>) -> Result<u64, RowError>
     ensures above { IfOk result (IsAbove before) }
     ensures fault { IfErr result (AtNumber 8 (IsAbove before) r.old) }
 {
-    let place = place_of(r);
+    let place = r.place();
     let id = read_8(r)?;
     if is_above(id, before) {
         Ok(id)
@@ -118,13 +118,25 @@ fn flags_of(flags: u16) -> Flags
     }
 }
 
-fn read_flags(r: &mut Reader) -> Result<Flags, RowError>
-    ensures took { IfOk result (λ f. Takes (in_bytes 2 (flags_number f)) r.old r.new) }
-    ensures fault { IfErr result (AtFlags r.old) }
+fn flags_limit(format: Format) -> u16
+    ensures value { result ≡ flags_limit format }
+    ensures byte { result ≤ 256 }
 {
-    let place = place_of(r);
+    match format {
+        Format::First => 128,
+        Format::Second => 256,
+    }
+}
+
+fn read_flags(r: &mut Reader, format: Format) -> Result<Flags, RowError>
+    ensures took { IfOk result (λ f. Takes (in_bytes 2 (flags_number f)) r.old r.new) }
+    ensures fits { IfOk result (AreFlags format) }
+    ensures fault { IfErr result (AtFlags format r.old) }
+{
+    let place = r.place();
+    let limit = flags_limit(format);
     let flags = read_2(r)?;
-    if flags < 256 {
+    if flags < limit {
         Ok(flags_of(flags))
     } else {
         Err(RowError::BadField(place))
@@ -148,7 +160,7 @@ fn read_pin(r: &mut Reader) -> Result<Pin, RowError>
     ensures fits { IfOk result IsStored }
     ensures fault { IfErr result (AtPin r.old) }
 {
-    let place = place_of(r);
+    let place = r.place();
     let byte = read_1(r)?;
     match pin_of(byte) {
         Some(pin) => Ok(pin),
@@ -162,7 +174,7 @@ fn read_base(r: &mut Reader, has_base: bool) -> Result<Option<u32>, RowError>
     ensures fits { IfOk result (λ b. unwrap_or b 0 < 2 ^ 32) }
     ensures fault { IfErr result (AtNumber 4 (IsBaseField has_base) r.old) }
 {
-    let place = place_of(r);
+    let place = r.place();
     let base = read_4(r)?;
     if has_base {
         return Ok(Some(base));
@@ -184,12 +196,12 @@ fn read_lengths(r: &mut Reader, has_base: bool) -> Result<Lengths, RowError>
     Ok(Lengths { size, base })
 }
 
-fn read_basics(r: &mut Reader) -> Result<Basics, RowError>
+fn read_basics(r: &mut Reader, format: Format) -> Result<Basics, RowError>
     ensures took { IfOk result (λ b. Takes (basics_bytes b) r.old r.new) }
-    ensures fits { IfOk result IsBasics }
-    ensures fault { IfErr result (AtBasics r.old) }
+    ensures fits { IfOk result (IsBasics format) }
+    ensures fault { IfErr result (AtBasics format r.old) }
 {
-    let flags = read_flags(r)?;
+    let flags = read_flags(r, format)?;
     let pin = read_pin(r)?;
     let lengths = read_lengths(r, flags.has_base)?;
     Ok(Basics {
@@ -199,14 +211,14 @@ fn read_basics(r: &mut Reader) -> Result<Basics, RowError>
     })
 }
 
-fn read_numbers(r: &mut Reader) -> Result<Numbers, RowError>
-    ensures took { IfOk result (λ n. Takes (numbers_bytes n) r.old r.new) }
-    ensures fits { IfOk result AreNumbers }
-    ensures fault { IfErr result (AtNumbers r.old) }
+fn read_numbers(r: &mut Reader, format: Format) -> Result<Numbers, RowError>
+    ensures took { IfOk result (λ n. Takes (numbers_bytes format n) r.old r.new) }
+    ensures fits { IfOk result (AreNumbers format) }
+    ensures fault { IfErr result (AtNumbers format r.old) }
 {
-    let number = read_usn(r)?;
-    let anchor = read_usn(r)?;
-    let last = read_8(r)?;
+    let number = read_number(r)?;
+    let anchor = read_number(r)?;
+    let last = read_ticks(r, format)?;
     Ok(Numbers {
         number,
         anchor,
@@ -215,14 +227,18 @@ fn read_numbers(r: &mut Reader) -> Result<Numbers, RowError>
 }
 
 /// The head of a row whose id is above this one, if there is one.
-pub(crate) fn read_head(r: &mut Reader, before: Option<u64>) -> Result<Head, RowError>
-    ensures took { IfOk result (λ h. Takes (head_bytes h) r.old r.new) }
-    ensures fits { IfOk result (IsHead before) }
-    ensures fault { IfErr result (AtHead before r.old) }
+pub(crate) fn read_head(
+    r: &mut Reader,
+    format: Format,
+    before: Option<u64>,
+) -> Result<Head, RowError>
+    ensures took { IfOk result (λ h. Takes (head_bytes format h) r.old r.new) }
+    ensures fits { IfOk result (IsHead format before) }
+    ensures fault { IfErr result (AtHead format before r.old) }
 {
     let who = read_who(r, before)?;
-    let basics = read_basics(r)?;
-    let numbers = read_numbers(r)?;
+    let basics = read_basics(r, format)?;
+    let numbers = read_numbers(r, format)?;
     Ok(Head {
         who,
         basics,

@@ -37,7 +37,7 @@ pub use laws::{
     rows_are_as_long_as_items, rows_are_items, rows_have_room,
 };
 pub use new_rows::Place;
-pub use read_laws::one_row_in_a_text;
+pub use read_laws::{format_2_spells_all, one_row_in_a_text};
 pub use rows::{NO_USN, Row};
 pub use tables::Rows;
 pub use usns::{is_above, same_usn};

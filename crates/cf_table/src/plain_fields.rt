@@ -5,23 +5,12 @@ ghost use Rattle.cf_base.specs.declared.ids.Usn.{Usn};
 ghost use Rattle.cf_codec.specs.Left.{Takes};
 ghost use Rattle.cf_model.specs.Books.{usn_bytes};
 ghost use Rattle.cf_model.specs.Words.{in_bytes};
-ghost use Rattle.cf_table.specs.Faults.{Any, AtBytes, AtNumber, AtUsn};
-ghost use Rattle.cf_table.specs.Reading.{IsUsn};
+ghost use Rattle.cf_table.specs.Faults.{Any, AtBytes, AtNumber, AtTicks, AtUsn};
+ghost use Rattle.cf_table.specs.Reading.{AreTicks, IsUsn, ticks_bytes};
 
 use crate::failures::RowError;
 use cf_base::{OutOfMemory, Usn};
-use cf_codec::{CodecError, Reader, Writer};
-
-/// The place of the next byte, where there is one.
-pub fn place_of(r: &Reader) -> usize
-    ensures { 0 < length r.now.rest → result ≡ r.now.place }
-{
-    match r.end() {
-        Ok(()) => 0,
-        Err(CodecError::BadField(place)) => place,
-        Err(CodecError::Short(place)) => place,
-    }
-}
+use cf_codec::{Format, Reader, Writer};
 
 /// So many bytes.
 pub fn read_bytes<'a>(r: &mut Reader<'a>, n: usize) -> Result<&'a [u8], RowError>
@@ -71,7 +60,40 @@ pub fn read_8(r: &mut Reader) -> Result<u64, RowError>
     Ok(r.u64()?)
 }
 
-/// A number of a change: epoch and place.
+/// A number of ticks, in eight bytes. Format 1 has no place for it, and it is 0 there.
+pub fn read_ticks(r: &mut Reader, format: Format) -> Result<u64, RowError>
+    ensures took { IfOk result (λ v. Takes (ticks_bytes format v) r.old r.new) }
+    ensures fits { IfOk result (AreTicks format) }
+    ensures fault { IfErr result (AtTicks format r.old) }
+{
+    match format {
+        Format::First => Ok(0),
+        Format::Second => read_8(r),
+    }
+}
+
+/// A number of a change, in one field of eight bytes.
+pub fn read_number(r: &mut Reader) -> Result<Usn, RowError>
+    ensures took { IfOk result (λ n. Takes (usn_bytes n) r.old r.new) }
+    ensures fits { IfOk result IsUsn }
+    ensures fault { IfErr result (AtNumber 8 Any r.old) }
+{
+    let number = read_8(r)?;
+    Ok(usn_of(number))
+}
+
+#[tactic(auto, using(crate::proofs::Fields::usn_halves))]
+fn usn_of(number: u64) -> Usn
+    ensures bytes { usn_bytes result ≡ in_bytes 8 number }
+    ensures fits { IsUsn result }
+{
+    Usn {
+        epoch: (number / 4_294_967_296) as u32,
+        place: (number % 4_294_967_296) as u32,
+    }
+}
+
+/// A number of a change in two fields, epoch and place.
 pub fn read_usn(r: &mut Reader) -> Result<Usn, RowError>
     ensures took { IfOk result (λ n. Takes (usn_bytes n) r.old r.new) }
     ensures fits { IfOk result IsUsn }

@@ -2,12 +2,10 @@
 
 ghost use Rattle.std.specs.Prelude.{◌≡◌, ◌<◌, ◌^◌, ◌++◌, [], ℕ, List, Option, None, Some, All, IfOk, IfErr, length, map};
 ghost use Rattle.cf_codec.specs.Left.{Takes};
-ghost use Rattle.cf_model.specs.Formats.{spell_rows};
 ghost use Rattle.cf_model.specs.Rows as model;
-ghost use Rattle.cf_model.specs.Rows.{spell_row};
 ghost use Rattle.cf_table.specs.Faults.{AreTable, AtIdentity, AtName, AtRow, AtRows, AtTable, AtWhole, IsTold};
-ghost use Rattle.cf_table.specs.Reading.{AreRows, IsIdentity, IsName, IsRow, identity_bytes, name_bytes, row_of};
-ghost use Rattle.cf_table.specs.Spelling.{HasRoom, row_value, spell_each};
+ghost use Rattle.cf_table.specs.Reading.{AreRowsIn, IsIdentity, IsName, IsRowIn, identity_bytes, name_bytes, row_of};
+ghost use Rattle.cf_table.specs.Spelling.{HasRoom, row_value, spell_each_in, spell_row_in, spell_rows_in};
 ghost use Rattle.cf_table.specs.Tables.{RisesFrom};
 
 use crate::failures::RowError;
@@ -17,7 +15,7 @@ use crate::rows::Row;
 use crate::set_reads::{Sets, read_sets};
 use crate::tables::Rows;
 use cf_base::{Blob, Identity, ItemId, OutOfMemory};
-use cf_codec::Reader;
+use cf_codec::{Format, Reader};
 use std::alloc::Global;
 
 fn read_name(alloc: Global, r: &mut Reader) -> Result<Blob, RowError>
@@ -72,12 +70,17 @@ fn row_of(head: Head, name: Blob, identity: Identity, sets: Sets) -> Row
 }
 
 // A row whose id is above this one, if there is one.
-fn read_row(alloc: Global, r: &mut Reader, before: Option<u64>) -> Result<Row, RowError>
-    ensures took { IfOk result (λ row. Takes (spell_row (row_value row)) r.old r.new) }
-    ensures fits { IfOk result (λ row. IsRow before (row_value row)) }
-    ensures fault { IfErr result (AtRow before r.old) }
+fn read_row(
+    alloc: Global,
+    r: &mut Reader,
+    format: Format,
+    before: Option<u64>,
+) -> Result<Row, RowError>
+    ensures took { IfOk result (λ row. Takes (spell_row_in format (row_value row)) r.old r.new) }
+    ensures fits { IfOk result (λ row. IsRowIn format before (row_value row)) }
+    ensures fault { IfErr result (AtRow format before r.old) }
 {
-    let head = read_head(r, before)?;
+    let head = read_head(r, format, before)?;
     let name = read_name(alloc, r)?;
     let identity = read_identity(alloc, r)?;
     let sets = read_sets(alloc, r)?;
@@ -97,18 +100,24 @@ fn no_rows(alloc: Global, next: ItemId) -> Result<Rows, OutOfMemory>
 }
 
 // So many rows, whose ids rise.
-fn read_rows(alloc: Global, r: &mut Reader, count: u32, next: ItemId) -> Result<Rows, RowError>
-    ensures took { IfOk result (λ t. Takes (spell_each t.rows) r.old r.new) }
+fn read_rows(
+    alloc: Global,
+    r: &mut Reader,
+    format: Format,
+    count: u32,
+    next: ItemId,
+) -> Result<Rows, RowError>
+    ensures took { IfOk result (λ t. Takes (spell_each_in format t.rows) r.old r.new) }
     ensures count { IfOk result (λ t. length t.rows ≡ count) }
-    ensures rows { IfOk result (λ t. AreRows None (map row_value t.rows)) }
+    ensures rows { IfOk result (λ t. AreRowsIn format None (map row_value t.rows)) }
     ensures room { IfOk result (λ t. All HasRoom t.rows) }
     ensures next { IfOk result (λ t. t.next ≡ next) }
-    ensures fault { IfErr result (AtRows None count r.old) }
+    ensures fault { IfErr result (AtRows format None count r.old) }
 {
     let mut rows = no_rows(alloc, next)?;
     let mut before = None;
     for _ in 0..count {
-        let row = read_row(alloc, r, before)?;
+        let row = read_row(alloc, r, format, before)?;
         before = Some(row.id.0);
         rows.put_row(row)?;
     }
@@ -116,16 +125,16 @@ fn read_rows(alloc: Global, r: &mut Reader, count: u32, next: ItemId) -> Result<
 }
 
 impl Row {
-    /// Reads what `spell` writes, and leaves what stands behind it. Short or BadField at the first field that lacks bytes
-    /// or is not spelled, and then no row is spelled at the front of what is left.
-    pub fn read(alloc: Global, r: &mut Reader) -> Result<Row, RowError>
-        ensures took { IfOk result (λ row. Takes (spell_row (row_value row)) r.old r.new) }
-        ensures fits { IfOk result (λ row. IsRow None (row_value row)) }
+    /// Reads a row that is spelled in the format, as `spell` does in format 2, and leaves what stands behind it. Short or
+    /// BadField at the first field that lacks bytes or is not spelled, and then no row is spelled at the front of what is left.
+    pub fn read(alloc: Global, r: &mut Reader, format: Format) -> Result<Row, RowError>
+        ensures took { IfOk result (λ row. Takes (spell_row_in format (row_value row)) r.old r.new) }
+        ensures fits { IfOk result (λ row. IsRowIn format None (row_value row)) }
         ensures room { IfOk result HasRoom }
-        ensures fault { IfErr result (AtRow None r.old) }
-        ensures none { IfErr result (λ e. IsTold e → (row : model.Row) (more : List ℕ) → IsRow None row → r.old.rest ≡ spell_row row ++ more → ⊥) }
+        ensures fault { IfErr result (AtRow format None r.old) }
+        ensures none { IfErr result (λ e. IsTold e → (row : model.Row) (more : List ℕ) → IsRowIn format None row → r.old.rest ≡ spell_row_in format row ++ more → ⊥) }
     {
-        read_row(alloc, r, None)
+        read_row(alloc, r, format, None)
     }
 }
 
@@ -140,30 +149,35 @@ impl Rows {
 
     /// Reads how many rows there are, and the rows, whose ids rise; leaves what stands behind them. Short or BadField at
     /// the first field that lacks bytes or is not spelled, and then no rows are spelled at the front of what is left.
-    pub fn read_front(alloc: Global, r: &mut Reader, next: ItemId) -> Result<Rows, RowError>
-        ensures took { IfOk result (λ t. Takes (spell_rows (map row_value t.rows)) r.old r.new) }
-        ensures fits { IfOk result (λ t. AreTable (map row_value t.rows)) }
+    pub fn read_front(
+        alloc: Global,
+        r: &mut Reader,
+        format: Format,
+        next: ItemId,
+    ) -> Result<Rows, RowError>
+        ensures took { IfOk result (λ t. Takes (spell_rows_in format (map row_value t.rows)) r.old r.new) }
+        ensures fits { IfOk result (λ t. AreTable format (map row_value t.rows)) }
         ensures room { IfOk result (λ t. All HasRoom t.rows) }
         ensures next { IfOk result (λ t. t.next ≡ next) }
-        ensures fault { IfErr result (AtTable r.old) }
-        ensures none { IfErr result (λ e. IsTold e → (rows : List model.Row) (more : List ℕ) → AreTable rows → r.old.rest ≡ spell_rows rows ++ more → ⊥) }
+        ensures fault { IfErr result (AtTable format r.old) }
+        ensures none { IfErr result (λ e. IsTold e → (rows : List model.Row) (more : List ℕ) → AreTable format rows → r.old.rest ≡ spell_rows_in format rows ++ more → ⊥) }
     {
         let count = read_4(r)?;
-        read_rows(alloc, r, count, next)
+        read_rows(alloc, r, format, count, next)
     }
 
-    /// Reads what `spell` writes. Short or BadField at the first field that lacks bytes or is not spelled, or at the first
-    /// byte behind the rows, and then the bytes spell no rows.
-    pub fn read(alloc: Global, b: &[u8], next: ItemId) -> Result<Rows, RowError>
-        ensures spelled { IfOk result (λ t. b.now ≡ spell_rows (map row_value t.rows)) }
-        ensures fits { IfOk result (λ t. AreTable (map row_value t.rows)) }
+    /// Reads rows that are spelled in the format, as `spell` does in format 2. Short or BadField at the first field that
+    /// lacks bytes or is not spelled, or at the first byte behind the rows, and then the bytes spell no rows.
+    pub fn read(alloc: Global, b: &[u8], format: Format, next: ItemId) -> Result<Rows, RowError>
+        ensures spelled { IfOk result (λ t. b.now ≡ spell_rows_in format (map row_value t.rows)) }
+        ensures fits { IfOk result (λ t. AreTable format (map row_value t.rows)) }
         ensures room { IfOk result (λ t. All HasRoom t.rows) }
         ensures next { IfOk result (λ t. t.next ≡ next) }
-        ensures fault { IfErr result (AtWhole (record { place = 0; rest = b.now })) }
-        ensures none { IfErr result (λ e. IsTold e → (rows : List model.Row) → AreTable rows → b.now ≡ spell_rows rows → ⊥) }
+        ensures fault { IfErr result (AtWhole format (record { place = 0; rest = b.now })) }
+        ensures none { IfErr result (λ e. IsTold e → (rows : List model.Row) → AreTable format rows → b.now ≡ spell_rows_in format rows → ⊥) }
     {
         let mut r = Reader::new(b);
-        let rows = Rows::read_front(alloc, &mut r, next)?;
+        let rows = Rows::read_front(alloc, &mut r, format, next)?;
         r.end()?;
         Ok(rows)
     }

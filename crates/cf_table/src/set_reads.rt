@@ -13,7 +13,7 @@ ghost use Rattle.cf_table.specs.Reading.{AreExtents, AreExtentsFrom, AreRunsFrom
 ghost use Rattle.cf_table.specs.Spelling.{extent_of, spell_pairs, spell_spans};
 
 use crate::failures::RowError;
-use crate::plain_fields::{place_of, read_4};
+use crate::plain_fields::read_4;
 use cf_base::{OutOfMemory, Span};
 use cf_codec::Reader;
 use cf_ranges::{ExtentMap, RangeSet};
@@ -34,7 +34,7 @@ fn read_from(r: &mut Reader, low: u64) -> Result<u32, RowError>
     ensures from { IfOk result (λ v. low ≤ v) }
     ensures fault { IfErr result (AtNumber 4 (λ v. low ≤ v) r.old) }
 {
-    let place = place_of(r);
+    let place = r.place();
     let number = read_4(r)?;
     if (number as u64) < low {
         Err(RowError::BadField(place))
@@ -48,7 +48,7 @@ fn read_len(r: &mut Reader, start: u32) -> Result<u32, RowError>
     ensures fits { IfOk result (IsLen start) }
     ensures fault { IfErr result (AtNumber 4 (IsLen start) r.old) }
 {
-    let place = place_of(r);
+    let place = r.place();
     let len = read_4(r)?;
     if len == 0 || len > u32::MAX - start {
         Err(RowError::BadField(place))

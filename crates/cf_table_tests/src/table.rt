@@ -1,7 +1,7 @@
 //! Rows read from bytes.
 
 use cf_base::ItemId;
-use cf_codec::Reader;
+use cf_codec::{Format, Reader};
 use cf_table::*;
 use std::alloc::Global;
 use std::test::Fail;
@@ -13,22 +13,22 @@ const ROOT_ALONE: [u8; 78] = [
     0, 0, 0, 0, 0, 0, 0, 0, 0, 0, 0, 0, 0, 0,
 ];
 
-fn why(alloc: Global, bytes: &[u8]) -> Option<RowError> {
-    Rows::read(alloc, bytes, ItemId(2)).err()
+fn why(alloc: Global, bytes: &[u8], format: Format) -> Option<RowError> {
+    Rows::read(alloc, bytes, format, ItemId(2)).err()
 }
 
 #[test]
 fn what_is_read_is_spelled_again(rt: HostRuntime) -> Result<(), Fail> {
-    let rows = Rows::read(rt.alloc(), &ROOT_ALONE, ItemId(7))?;
+    let rows = Rows::read(rt.alloc(), &ROOT_ALONE, Format::Second, ItemId(7))?;
     assert_eq!(rt; rows.image_len(), 74);
     assert!(rt; rows.next() == ItemId(7));
     assert!(rt; rows.get(ItemId(1)).is_some());
     let again = rows.spell()?;
     assert_eq!(rt; again.as_slice(), ROOT_ALONE.as_slice());
-    let none = Rows::read(rt.alloc(), &[0, 0, 0, 0], ItemId(2))?;
+    let none = Rows::read(rt.alloc(), &[0, 0, 0, 0], Format::Second, ItemId(2))?;
     assert_eq!(rt; none.as_slice().len(), 0);
     let mut reader = Reader::new(&ROOT_ALONE[4..]);
-    let row = Row::read(rt.alloc(), &mut reader)?;
+    let row = Row::read(rt.alloc(), &mut reader, Format::Second)?;
     assert!(rt; row.id == ItemId(1));
     Ok(())
 }
@@ -36,7 +36,7 @@ fn what_is_read_is_spelled_again(rt: HostRuntime) -> Result<(), Fail> {
 #[test]
 fn a_text_that_is_cut_names_its_field(rt: HostRuntime) -> Result<(), Fail> {
     let starts = [
-        0, 4, 12, 20, 22, 23, 27, 31, 35, 39, 43, 47, 55, 56, 58, 62, 66, 70, 74,
+        0, 4, 12, 20, 22, 23, 27, 31, 39, 47, 55, 56, 58, 62, 66, 70, 74,
     ];
     for cut in 0..78 {
         let mut field = 0;
@@ -45,7 +45,8 @@ fn a_text_that_is_cut_names_its_field(rt: HostRuntime) -> Result<(), Fail> {
                 field = start;
             }
         }
-        assert!(rt; why(rt.alloc(), &ROOT_ALONE[..cut]) == Some(RowError::Short(field)));
+        let told = why(rt.alloc(), &ROOT_ALONE[..cut], Format::Second);
+        assert!(rt; told == Some(RowError::Short(field)));
     }
     Ok(())
 }
@@ -58,12 +59,33 @@ fn a_wrong_field_is_named(rt: HostRuntime) -> Result<(), Fail> {
         if let Some(b) = bytes.get_mut(place) {
             *b = byte;
         }
-        assert!(rt; why(rt.alloc(), &bytes) == Some(RowError::BadField(field)));
+        assert!(rt; why(rt.alloc(), &bytes, Format::Second) == Some(RowError::BadField(field)));
     }
     let mut twice = Vec::from_slice(rt.alloc(), &[0, 0, 0, 2])?;
     twice.extend_from_slice(&ROOT_ALONE[4..])?;
     twice.extend_from_slice(&ROOT_ALONE[4..])?;
-    assert!(rt; why(rt.alloc(), &twice) == Some(RowError::BadField(78)));
-    assert!(rt; why(rt.alloc(), b"\0\0\0\0 ") == Some(RowError::BadField(4)));
+    assert!(rt; why(rt.alloc(), &twice, Format::Second) == Some(RowError::BadField(78)));
+    assert!(rt; why(rt.alloc(), b"\0\0\0\0 ", Format::Second) == Some(RowError::BadField(4)));
+    Ok(())
+}
+
+// In format 1 the last eight bytes of the root's numbers are not there.
+#[test]
+fn format_1_has_no_last_access(rt: HostRuntime) -> Result<(), Fail> {
+    let first = &ROOT_ALONE[..70];
+    let rows = Rows::read(rt.alloc(), first, Format::First, ItemId(2))?;
+    let again = rows.spell()?;
+    assert_eq!(rt; again.as_slice(), ROOT_ALONE.as_slice());
+    assert!(rt; why(rt.alloc(), &first[..69], Format::First) == Some(RowError::Short(66)));
+    assert!(rt; why(rt.alloc(), &ROOT_ALONE, Format::First) == Some(RowError::BadField(70)));
+    Ok(())
+}
+
+#[test]
+fn format_1_keeps_no_file_full(rt: HostRuntime) -> Result<(), Fail> {
+    let mut kept = ROOT_ALONE;
+    kept[21] = 133;
+    assert!(rt; why(rt.alloc(), &kept, Format::Second).is_none());
+    assert!(rt; why(rt.alloc(), &kept[..70], Format::First) == Some(RowError::BadField(20)));
     Ok(())
 }

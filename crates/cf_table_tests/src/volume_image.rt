@@ -3,7 +3,8 @@
 ghost use Rattle.std.specs.Prelude.{◌≡◌, [], IfOk};
 
 use cf_base::{AuxRecord, Blob, ItemId, OutOfMemory, Usn};
-use cf_codec::Writer;
+use cf_codec::{Format, Writer};
+use cf_table::RowError;
 use cf_volume_image::*;
 use std::alloc::Global;
 use std::test::Fail;
@@ -77,13 +78,13 @@ fn a_file(alloc: Global) -> Result<Blob, OutOfMemory> {
 }
 
 fn why(alloc: Global, image: &[u8], clusters: u32) -> Option<ImageError> {
-    read_contents(alloc, image, &[], clusters).err()
+    read_contents(alloc, image, &[], Format::Second, clusters).err()
 }
 
 #[test]
 fn an_image_of_the_root_has_115_bytes(rt: HostRuntime) -> Result<(), Fail> {
     let image = new_volume(rt.alloc())?;
-    let contents = read_image(rt.alloc(), image.as_slice())?;
+    let contents = read_image(rt.alloc(), image.as_slice(), Format::Second)?;
     assert_eq!(rt; contents.image_len(), 115);
     let again = spell_image(rt.alloc(), &contents)?;
     assert_eq!(rt; again.as_slice(), image.as_slice());
@@ -97,7 +98,7 @@ fn an_image_of_the_root_has_115_bytes(rt: HostRuntime) -> Result<(), Fail> {
 #[test]
 fn an_image_begins_with_format_and_epoch(rt: HostRuntime) -> Result<(), Fail> {
     let image = new_volume(rt.alloc())?;
-    let mut contents = read_image(rt.alloc(), image.as_slice())?;
+    let mut contents = read_image(rt.alloc(), image.as_slice(), Format::Second)?;
     contents.last = Usn { epoch: 2, place: 0 };
     let spelled = spell_image(rt.alloc(), &contents)?;
     assert!(rt; spelled.as_slice().starts_with(&[2, 0, 0, 0, 2]));
@@ -114,11 +115,18 @@ fn a_payload_of_a_new_file_has_123_bytes(rt: HostRuntime) -> Result<(), Fail> {
     out.put_bytes(b"\x01n")?;
     out.put_bytes(&[0; 26])?;
     let image = out.into_blob();
-    let contents = read_contents(rt.alloc(), image.as_slice(), &[], 0)?;
+    let contents = read_contents(rt.alloc(), image.as_slice(), &[], Format::Second, 0)?;
     assert_eq!(rt; contents.image_len(), 190);
     let payload = spell_payload(rt.alloc(), &contents, &[], &[ItemId(2)], &[], &[])?;
     assert_eq!(rt; payload.as_slice().len(), 123);
     Ok(())
+}
+
+fn is_short(alloc: Global, image: &[u8], format: Format) -> bool {
+    match read_image(alloc, image, format) {
+        Err(RowError::Short(place)) => place <= image.len(),
+        _ => false,
+    }
 }
 
 #[test]
@@ -127,7 +135,7 @@ fn an_image_that_is_cut_is_none(rt: HostRuntime) -> Result<(), Fail> {
     let bytes = image.as_slice();
     assert_eq!(rt; bytes.len(), 305);
     for cut in 0..bytes.len() {
-        assert!(rt; read_image(rt.alloc(), &bytes[..cut]).err() == Some(ImageError::NotAVolume));
+        assert!(rt; is_short(rt.alloc(), &bytes[..cut], Format::Second));
     }
     Ok(())
 }
@@ -136,9 +144,8 @@ fn an_image_that_is_cut_is_none(rt: HostRuntime) -> Result<(), Fail> {
 fn what_is_not_sound_is_no_volume(rt: HostRuntime) -> Result<(), Fail> {
     let image = a_file(rt.alloc())?;
     assert!(rt; why(rt.alloc(), image.as_slice(), 2) == None);
-    assert!(rt; why(rt.alloc(), image.as_slice(), 1) == Some(ImageError::NotAVolume));
+    assert!(rt; why(rt.alloc(), image.as_slice(), 1) == Some(ImageError::Unsound));
     let wrong = [
-        (0, 1), // another format
         (24, 3), // the next item is the file
         (52, 1), // the root is in a directory
         (54, 4), // the root is none
@@ -158,14 +165,14 @@ fn what_is_not_sound_is_no_volume(rt: HostRuntime) -> Result<(), Fail> {
         if let Some(b) = bytes.get_mut(place) {
             *b = byte;
         }
-        assert!(rt; why(rt.alloc(), &bytes, 2) == Some(ImageError::NotAVolume));
+        assert!(rt; why(rt.alloc(), &bytes, 2) == Some(ImageError::Unsound));
     }
     Ok(())
 }
 
 #[test]
 fn two_of_one_name_are_no_volume(rt: HostRuntime) -> Result<(), Fail> {
-    for (second, told) in [(b"\x01e", None), (b"\x01d", Some(ImageError::NotAVolume))] {
+    for (second, told) in [(b"\x01e", None), (b"\x01d", Some(ImageError::Unsound))] {
         let mut out = start(rt.alloc(), 4)?;
         out.put_u32(3)?;
         put_directory(&mut out, 1, 0, b"\0")?;
@@ -185,28 +192,87 @@ fn an_item_0_is_no_volume(rt: HostRuntime) -> Result<(), Fail> {
     put_directory(&mut out, 1, 0, b"\0")?;
     out.put_u32(0)?;
     let image = out.into_blob();
-    assert!(rt; read_image(rt.alloc(), image.as_slice()).is_ok());
-    assert!(rt; why(rt.alloc(), image.as_slice(), 0) == Some(ImageError::NotAVolume));
+    assert!(rt; read_image(rt.alloc(), image.as_slice(), Format::Second).is_ok());
+    assert!(rt; why(rt.alloc(), image.as_slice(), 0) == Some(ImageError::Unsound));
     Ok(())
 }
 
-fn put_zeros(out: &mut Writer, key: u8, zeros: &[u8]) -> Result<(), OutOfMemory> {
+// The same image in format 1, which has no clock and no last accesses. The rows begin at these places.
+fn in_format_1(alloc: Global, image: &[u8], rows: &[usize]) -> Result<Blob, OutOfMemory> {
+    let mut out = Writer::new(alloc);
     out.put_u8(1)?;
-    out.put_u8(key)?;
-    out.put_u16(zeros.len().min(65_535) as u16)?;
-    out.put_bytes(zeros)
+    out.put_bytes(image.get(1..25).unwrap_or(&[]))?;
+    let mut from = 33;
+    for row in rows {
+        let last = row.saturating_add(43);
+        out.put_bytes(image.get(from..last).unwrap_or(&[]))?;
+        from = row.saturating_add(51);
+    }
+    out.put_bytes(image.get(from..).unwrap_or(&[]))?;
+    Ok(out.into_blob())
 }
 
-// The root, 19 records of 65,539 bytes, and one with a value of so many.
-fn long(alloc: Global, last: usize) -> Result<Blob, OutOfMemory> {
-    let zeros = vec![in alloc; 0; 65_535]?;
-    let mut out = start(alloc, 2)?;
-    out.put_u32(1)?;
-    put_directory(&mut out, 1, 0, b"\0")?;
-    out.put_u32(20)?;
-    for key in 0..19 {
-        put_zeros(&mut out, key, &zeros)?;
+#[test]
+fn format_1_is_read(rt: HostRuntime) -> Result<(), Fail> {
+    let image = a_file(rt.alloc())?;
+    let first = in_format_1(rt.alloc(), image.as_slice(), &[37, 111, 186])?;
+    let bytes = first.as_slice();
+    assert_eq!(rt; bytes.len(), 273);
+    let contents = read_contents(rt.alloc(), bytes, &[], Format::First, 2)?;
+    let again = spell_image(rt.alloc(), &contents)?;
+    assert_eq!(rt; again.as_slice(), image.as_slice());
+    for cut in 0..bytes.len() {
+        assert!(rt; is_short(rt.alloc(), &bytes[..cut], Format::First));
     }
-    put_zeros(&mut out, 19, zeros.as_slice().get(..last).unwrap_or(&[]))?;
+    assert!(rt; why(rt.alloc(), bytes, 2) == Some(ImageError::Image(0)));
+    let told = read_contents(rt.alloc(), image.as_slice(), &[], Format::First, 2).err();
+    assert!(rt; told == Some(ImageError::Image(0)));
+    Ok(())
+}
+
+#[test]
+fn what_is_not_spelled_is_named(rt: HostRuntime) -> Result<(), Fail> {
+    let image = a_file(rt.alloc())?;
+    let first = in_format_1(rt.alloc(), image.as_slice(), &[37, 111, 186])?;
+    let wrong = [
+        (46, 128, ImageError::Image(45)), // a directory that is kept full
+        (47, 4, ImageError::Image(47)), // a pin that is none
+        (52, 1, ImageError::Image(52)), // a base without its flag
+        (102, 0, ImageError::Image(95)), // an id that does not rise
+        (24, 0, ImageError::Unsound), // the next item is none
+    ];
+    for (place, byte, why) in wrong {
+        let mut bytes = Vec::from_slice(rt.alloc(), first.as_slice())?;
+        if let Some(b) = bytes.get_mut(place) {
+            *b = byte;
+        }
+        let told = read_contents(rt.alloc(), &bytes, &[], Format::First, 2).err();
+        assert!(rt; told == Some(why));
+    }
+    Ok(())
+}
+
+// A payload that changes nothing but the records, which stand behind its first 44 bytes.
+fn put_records(alloc: Global, records: &[u8]) -> Result<Blob, OutOfMemory> {
+    let mut out = Writer::new(alloc);
+    out.put_bytes(&[0; 16])?;
+    out.put_u64(2)?;
+    out.put_bytes(&[0; 20])?;
+    out.put_bytes(records)?;
     Ok(out.into_blob())
+}
+
+#[test]
+fn the_payload_at_fault_is_named(rt: HostRuntime) -> Result<(), Fail> {
+    let image = new_volume(rt.alloc())?;
+    let mut payloads = Vec::new(rt.alloc());
+    payloads.push(put_records(rt.alloc(), b"\0\0\0\0")?)?;
+    let told = read_contents(rt.alloc(), image.as_slice(), &payloads, Format::Second, 0);
+    assert!(rt; told.is_ok());
+    // The second key does not come after the first.
+    let late = put_records(rt.alloc(), b"\0\0\0\x02\x01q\0\0\x01c\0\0")?;
+    payloads.push(late)?;
+    let told = read_contents(rt.alloc(), image.as_slice(), &payloads, Format::Second, 0);
+    assert!(rt; told.err() == Some(ImageError::Payload(1, 53)));
+    Ok(())
 }

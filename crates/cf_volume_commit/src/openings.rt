@@ -36,6 +36,7 @@ use crate::ranges::has_an_image;
 use crate::texts::put_text;
 use cf_base::{CallError, Code, OutOfMemory, Usn};
 use cf_clusters::Data;
+use cf_codec::Format;
 use cf_disk::Disk;
 use cf_journal::{Journal, JournalError, Opened, one_content};
 use cf_table::Row;
@@ -65,10 +66,13 @@ fn contents_of(alloc: Global, opened: &Opened, clusters: u32) -> Result<Contents
         alloc,
         opened.image.as_slice(),
         opened.payloads.as_slice(),
+        Format::Second,
         clusters,
     ) {
         Ok(contents) => Ok(contents),
-        Err(ImageError::NotAVolume) => Err(CallError::No(Code::NotAVolume)),
+        Err(ImageError::Image(_)) => Err(CallError::No(Code::NotAVolume)),
+        Err(ImageError::Payload(_, _)) => Err(CallError::No(Code::NotAVolume)),
+        Err(ImageError::Unsound) => Err(CallError::No(Code::NotAVolume)),
         Err(ImageError::OutOfMemory) => Err(CallError::OutOfMemory),
     }
 }

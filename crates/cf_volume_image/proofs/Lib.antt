@@ -1,8 +1,10 @@
 pub mod Applied
 pub mod BlockTests
+pub mod CauseLaws
 pub mod Choices
 pub mod ClusterTests
 pub mod EachRow
+pub mod Formats
 pub mod Kept
 pub mod Keys
 pub mod Lengths
@@ -24,3 +26,4 @@ pub mod SoundTests
 pub mod Told
 pub mod TreeSteps
 pub mod WholeSound
+pub mod WholeTexts

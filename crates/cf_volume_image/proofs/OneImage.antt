@@ -4,20 +4,24 @@ use Rattle.std.specs.List.{flat_map}
 use Rattle.cf_base.specs.declared.answers.AuxRecord.{AuxRecord}
 use Rattle.cf_base.specs.declared.ids.ItemId.{ItemId}
 use Rattle.cf_base.specs.declared.ids.Usn.{Usn}
-use Rattle.cf_model.specs.Formats.{Header, Image, Payload, spell_header, spell_id, spell_image, spell_key, spell_payload, spell_record, spell_records, spell_rows}
+use Rattle.cf_codec.specs.declared.formats.Format.{Format}
+use Rattle.cf_codec.specs.declared.formats.Format.TheVariants.{First, Second}
+use Rattle.cf_model.specs.FirstFormats as first
+use Rattle.cf_model.specs.Formats.{Header, Image, Payload, spell_header, spell_id, spell_key, spell_record, spell_records, spell_rows}
 use Rattle.cf_model.specs.Rows.{Row}
 use Rattle.cf_model.specs.Words.{in_bytes}
 use Rattle.cf_table.proofs.OneRow.{one_table}
-use Rattle.cf_table.proofs.OneText.{OneOf, one_4, one_8, one_identity, one_name, one_usn, parted}
-use Rattle.cf_table.specs.Reading.{identity_bytes}
-use Rattle.cf_volume_image.specs.Spelled.{AreIds, AreIdsFrom, AreKeys, AreKeysFrom, AreRecords, AreRecordsFrom, AreSpelled, IsHeader, IsId, IsImage, IsKey, IsPayload, IsRecord, ids_bytes, keys_bytes}
+use Rattle.cf_table.proofs.OneText.{OneOf, one_4, one_8, one_identity, one_name, one_ticks, one_usn, parted}
+use Rattle.cf_table.specs.Reading.{identity_bytes, ticks_bytes}
+use Rattle.cf_table.specs.Spelling.{spell_rows_in}
+use Rattle.cf_volume_image.specs.Spelled.{AreIds, AreIdsFrom, AreKeys, AreKeysFrom, AreRecords, AreRecordsFrom, AreSpelledIn, IsHeaderIn, IsId, IsImageIn, IsKey, IsPayloadIn, IsRecord, format_byte, ids_bytes, keys_bytes, spell_header_in, spell_image_in, spell_payload_in}
 
-pub one_header : OneOf IsHeader spell_header
-one_header m n a b h k e =
-    let p = one_usn m.last n.last (in_bytes 8 m.count ++ in_bytes 8 m.next.0 ++ in_bytes 8 m.clock ++ a) (in_bytes 8 n.count ++ in_bytes 8 n.next.0 ++ in_bytes 8 n.clock ++ b) h.0 k.0 e in
-    let q = one_8 m.count n.count (in_bytes 8 m.next.0 ++ in_bytes 8 m.clock ++ a) (in_bytes 8 n.next.0 ++ in_bytes 8 n.clock ++ b) h.1 k.1 p.1 in
-    let r = one_8 m.next.0 n.next.0 (in_bytes 8 m.clock ++ a) (in_bytes 8 n.clock ++ b) h.2 k.2 q.1 in
-    let s = one_8 m.clock n.clock a b h.3 k.3 r.1 in
+pub one_header : (f : Format) → OneOf (IsHeaderIn f) (spell_header_in f)
+one_header f m n a b h k e =
+    let p = one_usn m.last n.last (in_bytes 8 m.count ++ in_bytes 8 m.next.0 ++ ticks_bytes f m.clock ++ a) (in_bytes 8 n.count ++ in_bytes 8 n.next.0 ++ ticks_bytes f n.clock ++ b) h.0 k.0 e in
+    let q = one_8 m.count n.count (in_bytes 8 m.next.0 ++ ticks_bytes f m.clock ++ a) (in_bytes 8 n.next.0 ++ ticks_bytes f n.clock ++ b) h.1 k.1 p.1 in
+    let r = one_8 m.next.0 n.next.0 (ticks_bytes f m.clock ++ a) (ticks_bytes f n.clock ++ b) h.2 k.2 q.1 in
+    let s = one_ticks f m.clock n.clock a b h.3 k.3 r.1 in
     (same m.last n.last m.count n.count m.next.0 n.next.0 m.clock n.clock p.0 q.0 r.0 s.0, s.1) where
       same : (a b : Usn) (c d e f g h : ℕ) → a ≡ b → c ≡ d → e ≡ f → g ≡ h →
           ◌≡◌ {A = Header} (record { last = a; count = c; next = record { 0 = e }; clock = g }) (record { last = b; count = d; next = record { 0 = f }; clock = h })
@@ -90,33 +94,37 @@ one_ids m n a b h k e =
 
 -- wholes
 
-pub image_parts : (i : Image) (more : List ℕ) → spell_image i ++ more ≡ 2 ∷ (spell_header i.header ++ (spell_rows i.rows ++ (spell_records i.records ++ more)))
-image_parts i more = generic (spell_header i.header) (spell_rows i.rows) (spell_records i.records) more where
-  generic : (h r x more : List ℕ) → ((2 ∷ h) ++ r ++ x) ++ more ≡ 2 ∷ (h ++ (r ++ (x ++ more)))
-  generic h r x more = simp append_assoc
+image_of_parts : (byte : ℕ) (h r x more : List ℕ) → ((byte ∷ h) ++ r ++ x) ++ more ≡ byte ∷ (h ++ (r ++ (x ++ more)))
+image_of_parts byte h r x more = simp append_assoc
 
-pub one_image : OneOf IsImage spell_image
-one_image m n a b h k e =
-    let z : 2 ∷ (spell_header m.header ++ (spell_rows m.rows ++ (spell_records m.records ++ a))) ≡ 2 ∷ (spell_header n.header ++ (spell_rows n.rows ++ (spell_records n.records ++ b))) = sym (image_parts m a) ∙ e ∙ image_parts n b in
-    let o = parted (2 ∷ []) (2 ∷ []) (spell_header m.header ++ (spell_rows m.rows ++ (spell_records m.records ++ a))) (spell_header n.header ++ (spell_rows n.rows ++ (spell_records n.records ++ b))) refl z in
-    let p = one_header m.header n.header _ _ h.header k.header o.1 in
-    let q = one_table m.rows n.rows _ _ h.rows k.rows p.1 in
+pub image_parts : (f : Format) (i : Image) (more : List ℕ) → spell_image_in f i ++ more ≡ format_byte f ∷ (spell_header_in f i.header ++ (spell_rows_in f i.rows ++ (spell_records i.records ++ more)))
+image_parts First i more = image_of_parts 1 (first.spell_header i.header) (first.spell_rows i.rows) (spell_records i.records) more
+image_parts Second i more = image_of_parts 2 (spell_header i.header) (spell_rows i.rows) (spell_records i.records) more
+
+pub one_image : (f : Format) → OneOf (IsImageIn f) (spell_image_in f)
+one_image f m n a b h k e =
+    let z : format_byte f ∷ (spell_header_in f m.header ++ (spell_rows_in f m.rows ++ (spell_records m.records ++ a))) ≡ format_byte f ∷ (spell_header_in f n.header ++ (spell_rows_in f n.rows ++ (spell_records n.records ++ b))) = sym (image_parts f m a) ∙ e ∙ image_parts f n b in
+    let o = parted (format_byte f ∷ []) (format_byte f ∷ []) (spell_header_in f m.header ++ (spell_rows_in f m.rows ++ (spell_records m.records ++ a))) (spell_header_in f n.header ++ (spell_rows_in f n.rows ++ (spell_records n.records ++ b))) refl z in
+    let p = one_header f m.header n.header _ _ h.header k.header o.1 in
+    let q = one_table f m.rows n.rows _ _ h.rows k.rows p.1 in
     let r = one_records m.records n.records a b h.records k.records q.1 in
     (same m.header n.header m.rows n.rows m.records n.records p.0 q.0 r.0, r.1) where
       same : (a b : Header) (c d : List Row) (e f : List AuxRecord) → a ≡ b → c ≡ d → e ≡ f → ◌≡◌ {A = Image} (record { header = a; rows = c; records = e }) (record { header = b; rows = d; records = f })
       same a b c d e f g h i = ap (λ x. record { header = x; rows = c; records = e }) g ∙ ap (λ x. record { header = b; rows = x; records = e }) h ∙ ap (λ x. record { header = b; rows = d; records = x }) i
 
-pub payload_parts : (p : Payload) (more : List ℕ) → spell_payload p ++ more ≡ spell_header p.header ++ (ids_bytes p.removed ++ (spell_rows p.rows ++ (keys_bytes p.removed_keys ++ (spell_records p.records ++ more))))
-payload_parts p more = generic (spell_header p.header) (in_bytes 4 (length p.removed)) (flat_map spell_id p.removed) (spell_rows p.rows) (in_bytes 4 (length p.removed_keys)) (flat_map spell_key p.removed_keys) (spell_records p.records) more where
-  generic : (h c i r d k x more : List ℕ) → ((((((h ++ c) ++ i) ++ r) ++ d) ++ k) ++ x) ++ more ≡ h ++ ((c ++ i) ++ (r ++ ((d ++ k) ++ (x ++ more))))
-  generic h c i r d k x more = simp append_assoc
+payload_of_parts : (h c i r d k x more : List ℕ) → ((((((h ++ c) ++ i) ++ r) ++ d) ++ k) ++ x) ++ more ≡ h ++ ((c ++ i) ++ (r ++ ((d ++ k) ++ (x ++ more))))
+payload_of_parts h c i r d k x more = simp append_assoc
 
-pub one_payload : OneOf IsPayload spell_payload
-one_payload m n a b h k e =
-    let z = sym (payload_parts m a) ∙ e ∙ payload_parts n b in
-    let p = one_header m.header n.header _ _ h.header k.header z in
+pub payload_parts : (f : Format) (p : Payload) (more : List ℕ) → spell_payload_in f p ++ more ≡ spell_header_in f p.header ++ (ids_bytes p.removed ++ (spell_rows_in f p.rows ++ (keys_bytes p.removed_keys ++ (spell_records p.records ++ more))))
+payload_parts First p more = payload_of_parts (first.spell_header p.header) (in_bytes 4 (length p.removed)) (flat_map spell_id p.removed) (first.spell_rows p.rows) (in_bytes 4 (length p.removed_keys)) (flat_map spell_key p.removed_keys) (spell_records p.records) more
+payload_parts Second p more = payload_of_parts (spell_header p.header) (in_bytes 4 (length p.removed)) (flat_map spell_id p.removed) (spell_rows p.rows) (in_bytes 4 (length p.removed_keys)) (flat_map spell_key p.removed_keys) (spell_records p.records) more
+
+pub one_payload : (f : Format) → OneOf (IsPayloadIn f) (spell_payload_in f)
+one_payload f m n a b h k e =
+    let z = sym (payload_parts f m a) ∙ e ∙ payload_parts f n b in
+    let p = one_header f m.header n.header _ _ h.header k.header z in
     let q = one_ids m.removed n.removed _ _ h.removed k.removed p.1 in
-    let r = one_table m.rows n.rows _ _ h.rows k.rows q.1 in
+    let r = one_table f m.rows n.rows _ _ h.rows k.rows q.1 in
     let s = one_keys m.removed_keys n.removed_keys _ _ h.removed_keys k.removed_keys r.1 in
     let t = one_records m.records n.records a b h.records k.records s.1 in
     (same m.header n.header m.removed n.removed m.rows n.rows m.removed_keys n.removed_keys m.records n.records p.0 q.0 r.0 s.0 t.0, t.1) where
@@ -131,11 +139,11 @@ one_payload m n a b h k e =
 pub alone : {X : Type 0} (Is : X → Type 0) (spell : X → List ℕ) → OneOf Is spell → (x y : X) → Is x → Is y → spell x ≡ spell y → x ≡ y
 alone Is spell one x y h k e = (one x y [] [] h k (ap (λ t. t ++ []) e)).0
 
-pub one_list_of_payloads : (ts : List (List ℕ)) (ps qs : List Payload) → AreSpelled ts ps → AreSpelled ts qs → ps ≡ qs
-one_list_of_payloads [] [] [] h k = refl
-one_list_of_payloads [] [] (q ∷ qs) h k = absurd k
-one_list_of_payloads [] (p ∷ ps) qs h k = absurd h
-one_list_of_payloads (t ∷ ts) [] qs h k = absurd h
-one_list_of_payloads (t ∷ ts) (p ∷ ps) [] h k = absurd k
-one_list_of_payloads (t ∷ ts) (p ∷ ps) (q ∷ qs) h k =
-    ap (λ v. v ∷ ps) (alone IsPayload spell_payload one_payload p q h.0 k.0 (sym h.1 ∙ k.1)) ∙ ap (λ v. q ∷ v) (one_list_of_payloads ts ps qs h.2 k.2)
+pub one_list_of_payloads : (f : Format) (ts : List (List ℕ)) (ps qs : List Payload) → AreSpelledIn f ts ps → AreSpelledIn f ts qs → ps ≡ qs
+one_list_of_payloads f [] [] [] h k = refl
+one_list_of_payloads f [] [] (q ∷ qs) h k = absurd k
+one_list_of_payloads f [] (p ∷ ps) qs h k = absurd h
+one_list_of_payloads f (t ∷ ts) [] qs h k = absurd h
+one_list_of_payloads f (t ∷ ts) (p ∷ ps) [] h k = absurd k
+one_list_of_payloads f (t ∷ ts) (p ∷ ps) (q ∷ qs) h k =
+    ap (λ v. v ∷ ps) (alone (IsPayloadIn f) (spell_payload_in f) (one_payload f) p q h.0 k.0 (sym h.1 ∙ k.1)) ∙ ap (λ v. q ∷ v) (one_list_of_payloads f ts ps qs h.2 k.2)

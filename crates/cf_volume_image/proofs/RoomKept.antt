@@ -1,25 +1,26 @@
 -- The rows that an image and payloads tell have room in a spelling.
 use Rattle.std.proofs.Common.{ℕ, Bool, true, false, cond, not, List, [], ◌∷◌, sym, ap, subst, eqb, ltb, Option, Some, None}
 use Rattle.std.proofs.lemmas.List.Elements.{All-cons, All-filter, All-head, All-nil, All-tail}
-use Rattle.std.specs.Prelude.{All, IfOk, Result, Ok, Err, filter, map}
+use Rattle.std.specs.Prelude.{All, filter, map}
+use Rattle.cf_codec.specs.declared.formats.Format.{Format}
 use Rattle.cf_model.specs.Formats.{Image, Payload, after_payload, after_payloads, is_removed, with_rows, without_row}
 use Rattle.cf_model.specs.Rows as model
 use Rattle.cf_model.specs.Words.{put_in}
-use Rattle.cf_table.specs.Reading.{AreRows, IsRow}
+use Rattle.cf_table.specs.Reading.{AreRowsIn, IsRowIn}
 use Rattle.cf_table.specs.Spelling.{HasRoom, row_value}
 use Rattle.cf_table.specs.declared.rows.Row.{Row}
 use Rattle.cf_table.proofs.RowTaken.{has_room}
 use Rattle.cf_volume_image.specs.Contents.{image_of}
-use Rattle.cf_volume_image.specs.Spelled.{AreSpelled}
-use Rattle.cf_volume_image.specs.States.{Tells}
+use Rattle.cf_volume_image.specs.Spelled.{AreSpelledIn}
+use Rattle.cf_volume_image.specs.States.{TellsIn}
 use Rattle.cf_volume_image.specs.declared.contents.Contents.{Contents}
 
 abbrev Spells : model.Row → Type 0
-Spells r = (before : Option ℕ) × IsRow before r
+Spells r = (f : Format) × (before : Option ℕ) × IsRowIn f before r
 
-each_spells : (before : Option ℕ) (rows : List model.Row) → AreRows before rows → All Spells rows
-each_spells before [] h = All-nil Spells
-each_spells before (r ∷ rs) h = All-cons Spells r rs (before, h.0) (each_spells (Some r.id.0) rs h.1)
+each_spells : (f : Format) (before : Option ℕ) (rows : List model.Row) → AreRowsIn f before rows → All Spells rows
+each_spells f before [] h = All-nil Spells
+each_spells f before (r ∷ rs) h = All-cons Spells r rs (f, before, h.0) (each_spells f (Some r.id.0) rs h.1)
 
 put_spells : (r : model.Row) (rows : List model.Row) → Spells r → All Spells rows → All Spells (put_in (λ x y. ltb x.id.0 y.id.0) r rows)
 put_spells r [] s h = All-cons Spells r [] s (All-nil Spells)
@@ -34,28 +35,21 @@ with_spells (r ∷ rs) rows m h =
     with_spells rs (put_in (λ x y. ltb x.id.0 y.id.0) r (without_row r.id rows)) (All-tail Spells r rs m)
     (put_spells r (without_row r.id rows) (All-head Spells r rs m) (All-filter (λ x. not (eqb x.id.0 r.id.0)) Spells rows h))
 
-after_spells : (texts : List (List ℕ)) (ps : List Payload) (i : Image) → AreSpelled texts ps → All Spells i.rows → All Spells (after_payloads i ps).rows
-after_spells [] [] i a h = h
-after_spells [] (p ∷ ps) i a h = absurd a
-after_spells (t ∷ ts) [] i a h = absurd a
-after_spells (t ∷ ts) (p ∷ ps) i a h =
-    after_spells ts ps (after_payload i p) a.2
-    (with_spells p.rows (filter (λ r. not (is_removed p.removed r)) i.rows) (each_spells None p.rows a.0.rows.1) (All-filter (λ r. not (is_removed p.removed r)) Spells i.rows h))
+after_spells : (f : Format) (texts : List (List ℕ)) (ps : List Payload) (i : Image) → AreSpelledIn f texts ps → All Spells i.rows → All Spells (after_payloads i ps).rows
+after_spells f [] [] i a h = h
+after_spells f [] (p ∷ ps) i a h = absurd a
+after_spells f (t ∷ ts) [] i a h = absurd a
+after_spells f (t ∷ ts) (p ∷ ps) i a h =
+    after_spells f ts ps (after_payload i p) a.2
+    (with_spells p.rows (filter (λ r. not (is_removed p.removed r)) i.rows) (each_spells f None p.rows a.0.rows.1) (All-filter (λ r. not (is_removed p.removed r)) Spells i.rows h))
 
 room_each : (rows : List Row) → All Spells (map row_value rows) → All HasRoom rows
 room_each [] h = All-nil HasRoom
 room_each (r ∷ rs) h =
     let one : Spells (row_value r) = All-head Spells (row_value r) (map row_value rs) h in
-    All-cons HasRoom r rs (has_room one.0 r one.1) (room_each rs (All-tail Spells (row_value r) (map row_value rs) h))
+    All-cons HasRoom r rs (has_room one.0 one.1 r one.2) (room_each rs (All-tail Spells (row_value r) (map row_value rs) h))
 
-pub told_room : (image : List ℕ) (texts : List (List ℕ)) (c : Contents) → Tells image texts (image_of c) → All HasRoom c.rows.rows
-told_room image texts c t =
+pub told_room : (f : Format) (image : List ℕ) (texts : List (List ℕ)) (c : Contents) → TellsIn f image texts (image_of c) → All HasRoom c.rows.rows
+told_room f image texts c t =
     room_each c.rows.rows (subst (λ (l : List model.Row). All Spells l) (sym (ap (λ v. v.rows) t.state_is))
-    (after_spells texts t.changes t.value t.payloads_are (each_spells None t.value.rows t.is_image.rows.1)))
-
-pub rooms : {E : Type 0} (image : List ℕ) (texts : List (List ℕ)) (r : Result Contents E) → IfOk r (λ c. Tells image texts (image_of c)) → IfOk r (λ c. All HasRoom c.rows.rows)
-rooms image texts (Ok c) t = told_room image texts c t
-rooms image texts (Err e) t = tt
-
-pub rooms_of : (before : Option ℕ) (rows : List Row) → AreRows before (map row_value rows) → All HasRoom rows
-rooms_of before rows h = room_each rows (each_spells before (map row_value rows) h)
+    (after_spells f texts t.changes t.value t.payloads_are (each_spells f None t.value.rows t.is_image.rows.1)))

@@ -1,55 +1,46 @@
 -- What an image and payloads tell, payload by payload.
-use Rattle.std.proofs.Common.{◌≡◌, ℕ, List, [], ◌∷◌, refl, sym, ap, subst, ◌∙◌}
-use Rattle.cf_model.specs.Formats.{Image, Payload, after_payload, after_payloads, spell_image, spell_payload}
-use Rattle.cf_volume_image.specs.Spelled.{AreSpelled, IsImage, IsPayload}
-use Rattle.cf_volume_image.specs.States.{IsAfter, IsContents, Tells}
-use Rattle.cf_volume_image.proofs.OneImage.{alone, one_image, one_list_of_payloads, one_payload}
+use Rattle.std.proofs.Common.{◌≡◌, ℕ, zero, suc, ◌+◌, ◌<◌, ◌≤◌, List, [], ◌∷◌, ◌++◌, length, take, refl, sym, ap, subst, ◌∙◌, arith, Option, Some, None}
+use Rattle.std.specs.Prelude.{slice_get}
+use Rattle.std.proofs.lemmas.List.{take_all}
+use Rattle.cf_codec.specs.declared.formats.Format.{Format}
+use Rattle.cf_codec.specs.declared.formats.Format.TheVariants.{Second}
+use Rattle.cf_model.specs.Formats.{Image, Payload, after_payload, after_payloads}
+use Rattle.cf_volume_image.specs.Spelled.{AreSpelledIn, IsImageIn, IsPayloadIn, spell_image_in, spell_payload_in}
+use Rattle.cf_volume_image.specs.States.{IsAfterIn, IsContents, IsContentsIn, TellsIn}
+use Rattle.cf_volume_image.proofs.OneImage.{alone, one_image, one_list_of_payloads}
 
--- the state that these texts of payloads tell, this one being before them
-pub record TellsOn (texts : List (List ℕ)) (before state : Image) : Type 0 where
-  pub changes : List Payload
-  pub are : AreSpelled texts changes
-  pub state_is : state ≡ after_payloads before changes
+pub told_first : (f : Format) (image : List ℕ) (i : Image) → IsImageIn f i → image ≡ spell_image_in f i → TellsIn f image [] i
+told_first f image i fits is = record { value = i; changes = []; is_image = fits; image_is = is; payloads_are = tt; state_is = refl }
 
-pub tells_all : (image : List ℕ) (texts : List (List ℕ)) (i state : Image) → IsImage i → image ≡ spell_image i → TellsOn texts i state → Tells image texts state
-tells_all image texts i state fits is h = record { value = i; changes = h.changes; is_image = fits; image_is = is; payloads_are = h.are; state_is = h.state_is }
+spelled_more : (f : Format) (ts : List (List ℕ)) (ps : List Payload) (t : List ℕ) (p : Payload) → AreSpelledIn f ts ps → IsPayloadIn f p → t ≡ spell_payload_in f p → AreSpelledIn f (ts ++ t ∷ []) (ps ++ p ∷ [])
+spelled_more f [] [] t p h fits is = (fits, is, tt)
+spelled_more f [] (q ∷ qs) t p h fits is = absurd h
+spelled_more f (s ∷ ts) [] t p h fits is = absurd h
+spelled_more f (s ∷ ts) (q ∷ qs) t p h fits is = (h.0, h.1, spelled_more f ts qs t p h.2 fits is)
 
-pub told_on : (image : List ℕ) (texts : List (List ℕ)) (i state : Image) → IsImage i → image ≡ spell_image i → Tells image texts state → TellsOn texts i state
-told_on image texts i state fits is t = record {
-  changes = t.changes;
-  are = t.payloads_are;
-  state_is = t.state_is ∙ ap (λ v. after_payloads v t.changes) (alone IsImage spell_image one_image t.value i t.is_image fits (sym t.image_is ∙ is));
+after_more : (i : Image) (ps : List Payload) (p : Payload) → after_payloads i (ps ++ p ∷ []) ≡ after_payload (after_payloads i ps) p
+after_more i [] p = refl
+after_more i (q ∷ qs) p = after_more (after_payload i q) qs p
+
+-- one payload more
+pub told_more : (f : Format) (image : List ℕ) (before after : List (List ℕ)) (text : List ℕ) (i j : Image) → after ≡ before ++ text ∷ [] → TellsIn f image before i → IsAfterIn f text i j → TellsIn f image after j
+told_more f image before after text i j is t h = record {
+  value = t.value;
+  changes = t.changes ++ h.value ∷ [];
+  is_image = t.is_image;
+  image_is = t.image_is;
+  payloads_are = subst (λ (l : List (List ℕ)). AreSpelledIn f l (t.changes ++ h.value ∷ [])) (sym is) (spelled_more f before t.changes text h.value t.payloads_are h.is_payload h.text_is);
+  state_is = h.new_is ∙ ap (λ v. after_payload v h.value) t.state_is ∙ sym (after_more t.value t.changes h.value);
 }
 
-pub tells_more : (texts rest : List (List ℕ)) (text : List ℕ) (i j state : Image) → texts ≡ text ∷ rest → IsAfter text i j → TellsOn rest j state → TellsOn texts i state
-tells_more texts rest text i j state is h t = record {
-  changes = h.value ∷ t.changes;
-  are = subst (λ (l : List (List ℕ)). AreSpelled l (h.value ∷ t.changes)) (sym is) (h.is_payload, h.text_is, t.are);
-  state_is = t.state_is ∙ ap (λ v. after_payloads v t.changes) h.new_is;
-}
-
-pub told_more : (texts rest : List (List ℕ)) (text : List ℕ) (i j state : Image) → texts ≡ text ∷ rest → IsAfter text i j → TellsOn texts i state → TellsOn rest j state
-told_more texts rest text i j state is h t = by t.changes (subst (λ (l : List (List ℕ)). AreSpelled l t.changes) is t.are) t.state_is where
-  by : (ps : List Payload) → AreSpelled (text ∷ rest) ps → state ≡ after_payloads i ps → TellsOn rest j state
-  by [] a e = absurd a
-  by (p ∷ ps) a e =
-      let same : p ≡ h.value = alone IsPayload spell_payload one_payload p h.value a.0 h.is_payload (sym a.1 ∙ h.text_is) in
-      record { changes = ps; are = a.2; state_is = e ∙ ap (λ v. after_payloads v ps) (ap (after_payload i) same ∙ sym h.new_is) }
-
-pub no_more : (texts rest : List (List ℕ)) (text : List ℕ) (i state : Image) → texts ≡ text ∷ rest → ((p : Payload) → IsPayload p → text ≡ spell_payload p → ⊥) → TellsOn texts i state → ⊥
-no_more texts rest text i state is none t = by t.changes (subst (λ (l : List (List ℕ)). AreSpelled l t.changes) is t.are) where
-  by : (ps : List Payload) → AreSpelled (text ∷ rest) ps → ⊥
-  by [] a = a
-  by (p ∷ ps) a = none p a.0 a.1
-
-pub tells_itself : (texts : List (List ℕ)) (i : Image) → texts ≡ [] → TellsOn texts i i
-tells_itself texts i is = record { changes = []; are = subst (λ (l : List (List ℕ)). AreSpelled l []) (sym is) tt; state_is = refl }
-
-pub one_told : (image : List ℕ) (payloads : List (List ℕ)) (s t : Image) → Tells image payloads s → Tells image payloads t → s ≡ t
-one_told image payloads s t h k =
+pub one_told : (f : Format) (image : List ℕ) (payloads : List (List ℕ)) (s t : Image) → TellsIn f image payloads s → TellsIn f image payloads t → s ≡ t
+one_told f image payloads s t h k =
     h.state_is
-    ∙ ap (λ v. after_payloads v h.changes) (alone IsImage spell_image one_image h.value k.value h.is_image k.is_image (sym h.image_is ∙ k.image_is))
-    ∙ ap (after_payloads k.value) (one_list_of_payloads payloads h.changes k.changes h.payloads_are k.payloads_are) ∙ sym k.state_is
+    ∙ ap (λ v. after_payloads v h.changes) (alone (IsImageIn f) (spell_image_in f) (one_image f) h.value k.value h.is_image k.is_image (sym h.image_is ∙ k.image_is))
+    ∙ ap (after_payloads k.value) (one_list_of_payloads f payloads h.changes k.changes h.payloads_are k.payloads_are) ∙ sym k.state_is
+
+pub one_state_in : (f : Format) (image : List ℕ) (payloads : List (List ℕ)) (clusters : ℕ) (s t : Image) → IsContentsIn f image payloads clusters s → IsContentsIn f image payloads clusters t → s ≡ t
+one_state_in f image payloads clusters s t h k = one_told f image payloads s t h.told k.told
 
 pub one_state : (image : List ℕ) (payloads : List (List ℕ)) (clusters : ℕ) (s t : Image) → IsContents image payloads clusters s → IsContents image payloads clusters t → s ≡ t
-one_state image payloads clusters s t h k = one_told image payloads s t h.told k.told
+one_state = one_state_in Second

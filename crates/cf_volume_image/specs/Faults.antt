@@ -1,31 +1,24 @@
 -- Where a text stops being that of an image or of a payload.
-use Rattle.std.specs.Prelude.{ℕ, zero, suc, List, [], length, Option, Some, None, ◌^◌, ◌<◌, ◌≡◌, ◌⊎◌, ◌∷◌}
+use Rattle.std.specs.Prelude.{ℕ, zero, suc, List, [], length, Option, Some, None, ◌+◌, ◌^◌, ◌<◌, ◌≡◌, ◌⊎◌, ◌∷◌}
 use Rattle.cf_codec.specs.Left.{Left, Takes}
 use Rattle.cf_model.specs.Books.{usn_bytes}
-use Rattle.cf_model.specs.Formats.{spell_header, spell_id, spell_key, spell_record, spell_records, spell_rows}
-use Rattle.cf_table.specs.Faults.{Any, AreTable, AtEnd, AtIdentity, AtName, AtNumber, AtTable, AtUsn, NoFault, Then, ThenOf}
+use Rattle.cf_codec.specs.declared.formats.Format.{Format}
+use Rattle.cf_model.specs.Formats.{spell_id, spell_key, spell_record, spell_records}
+use Rattle.cf_table.specs.Faults.{Any, AreTable, AtEnd, AtIdentity, AtName, AtNumber, AtTable, AtTicks, AtUsn, NoFault, Then, ThenOf}
 use Rattle.cf_table.specs.Reading.{IsAbove, IsUsn}
+use Rattle.cf_table.specs.Spelling.{spell_rows_in}
 use Rattle.cf_table.specs.declared.failures.RowError.{RowError}
-use Rattle.cf_table.specs.declared.failures.RowError.TheVariants.{BadField, OutOfMemory, Short}
-use Rattle.cf_volume_image.specs.declared.failures.ImageError.{ImageError}
-use Rattle.cf_volume_image.specs.declared.failures.ImageError.TheVariants as image
-use Rattle.cf_volume_image.specs.declared.failures.ImageError.TheVariants.{NotAVolume}
-use Rattle.cf_volume_image.specs.Spelled.{AreIds, AreKeys, AreRecords, IsAfter, IsHeader, IsId, IsKey, IsRecord, ids_bytes, keys_bytes}
+use Rattle.cf_table.specs.declared.failures.RowError.TheVariants.{BadField}
+use Rattle.cf_volume_image.specs.Spelled.{AreIds, AreKeys, AreRecords, IsAfter, IsHeaderIn, IsId, IsKey, IsRecord, format_byte, ids_bytes, keys_bytes, spell_header_in}
 
--- the fault of an image in which a field is at fault
-abbrev pub of_row : RowError → ImageError
-of_row (Short place) = NotAVolume
-of_row (BadField place) = NotAVolume
-of_row OutOfMemory = image.OutOfMemory
+abbrev pub AtHeader : Format → Left → RowError → Type 0
+AtHeader f = Then AtUsn IsUsn usn_bytes (λ last. ThenOf 8 Any (λ count. ThenOf 8 Any (λ next. AtTicks f)))
 
-abbrev pub AtHeader : Left → RowError → Type 0
-AtHeader = Then AtUsn IsUsn usn_bytes (λ last. ThenOf 8 Any (λ count. ThenOf 8 Any (λ next. AtNumber 8 Any)))
-
--- a key that does not come after the one before it
+-- a key that does not come after the one before it: the fault is behind the byte of its length
 pub record IsLate (before : Option (List ℕ)) (left : Left) (e : RowError) : Type 0 where
   pub key : List ℕ
   pub mid : Left
-  pub fail_is : e ≡ BadField left.place
+  pub fail_is : e ≡ BadField (left.place + 1)
   pub has_room : length key < 2 ^ 8
   pub takes : Takes (spell_key key) left mid
   pub late : IsAfter before key → ⊥
@@ -62,22 +55,22 @@ abbrev pub AtIds : Left → RowError → Type 0
 AtIds = ThenOf 4 Any (λ n. AtIdsFrom None n)
 
 -- the format's number
-abbrev pub AtFormat : Left → RowError → Type 0
-AtFormat = AtNumber 1 (λ v. v ≡ 2)
+abbrev pub AtFormat : Format → Left → RowError → Type 0
+AtFormat f = AtNumber 1 (λ v. v ≡ format_byte f)
 
-abbrev pub AtImage : Left → RowError → Type 0
-AtImage =
-    Then AtFormat (λ (f : ℕ). f ≡ 2) (λ f. f ∷ [])
-    (λ f. Then AtHeader IsHeader spell_header
-    (λ h. Then AtTable AreTable spell_rows
+abbrev pub AtImage : Format → Left → RowError → Type 0
+AtImage f =
+    Then (AtFormat f) (λ (byte : ℕ). byte ≡ format_byte f) (λ byte. byte ∷ [])
+    (λ byte. Then (AtHeader f) (IsHeaderIn f) (spell_header_in f)
+    (λ h. Then (AtTable f) (AreTable f) (spell_rows_in f)
     (λ rows. Then AtRecords AreRecords spell_records
     (λ records. AtEnd))))
 
-abbrev pub AtPayload : Left → RowError → Type 0
-AtPayload =
-    Then AtHeader IsHeader spell_header
+abbrev pub AtPayload : Format → Left → RowError → Type 0
+AtPayload f =
+    Then (AtHeader f) (IsHeaderIn f) (spell_header_in f)
     (λ h. Then AtIds AreIds ids_bytes
-    (λ ids. Then AtTable AreTable spell_rows
+    (λ ids. Then (AtTable f) (AreTable f) (spell_rows_in f)
     (λ rows. Then AtKeys AreKeys keys_bytes
     (λ keys. Then AtRecords AreRecords spell_records
     (λ records. AtEnd)))))

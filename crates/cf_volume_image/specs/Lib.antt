@@ -1,3 +1,4 @@
+pub mod Causes
 pub mod ClusterLists
 pub mod Contents
 pub mod Enough

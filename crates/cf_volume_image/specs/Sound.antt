@@ -1,14 +1,18 @@
 -- What must hold of an image so that it tells a volume of so many clusters.
-use Rattle.std.specs.Prelude.{ℕ, zero, suc, Bool, true, not, List, [], length, None, Some, ◌||◌, ◌&&◌, ◌==◌, ◌≡◌, ◌≢◌, ◌≤◌, ◌/◌, ◌∷◌}
+use Rattle.std.specs.Prelude.{ℕ, zero, suc, Bool, true, not, List, [], length, None, Some, ◌||◌, ◌&&◌, ◌==◌, ◌≡◌, ◌≢◌, ◌≤◌, ◌+◌, ◌*◌, ◌/◌, ◌∷◌}
 use Rattle.std.specs.List.{list_any}
 use Rattle.cf_base.specs.declared.ids.ItemId.{ItemId}
-use Rattle.cf_model.specs.Formats.{Image, spell_image}
+use Rattle.cf_codec.specs.declared.formats.Format.{Format}
+use Rattle.cf_codec.specs.declared.formats.Format.TheVariants.{First, Second}
+use Rattle.cf_model.specs.FirstPlaces as first
+use Rattle.cf_model.specs.Formats.{Image}
 use Rattle.cf_model.specs.Images.{most_image}
 use Rattle.cf_model.specs.Numbers.{no_item, root_id}
 use Rattle.cf_model.specs.Rows.{Extent, Row, has_place}
 use Rattle.cf_model.specs.Standing.{AreSound, are_apart, clusters_of}
 use Rattle.cf_model.specs.Words.{same, says}
 use Rattle.cf_volume_image.specs.Contents.{row_at}
+use Rattle.cf_volume_image.specs.Spelled.{spell_image_in}
 
 -- item 1 is a directory, and in no other
 abbrev pub IsRoot : Row → Type 0
@@ -54,7 +58,18 @@ abbrev pub AllHoldBytes : List Row → Type 0
 AllHoldBytes [] = Unit {0}
 AllHoldBytes (r ∷ rs) = HoldsBytes r × AllHoldBytes rs
 
-pub record IsSound (clusters : ℕ) (i : Image) : Type 0 where
+-- the most bytes of an image
+abbrev pub most_image_in : Format → ℕ
+most_image_in First = first.most_image
+most_image_in Second = most_image
+
+-- the most bytes in format 2 of an image that is within the limit of its format: format 1 spells no clock and no accesses
+abbrev pub most_image_of : Format → ℕ → ℕ
+most_image_of First rows = first.most_image + 8 + 8 * rows
+most_image_of Second rows = most_image
+
+-- An image of a volume of so many clusters in this format.
+pub record IsSoundIn (f : Format) (clusters : ℕ) (i : Image) : Type 0 where
   pub rows : AreSound i.header i.rows
   pub root : HasRoot i.rows
   -- what the root names as its parent is no item
@@ -64,4 +79,8 @@ pub record IsSound (clusters : ℕ) (i : Image) : Type 0 where
   pub blocks : AllHoldBytes i.rows
   pub apart : are_apart clusters (clusters_of i.rows) ≡ true
   pub few : length i.rows ≤ 10000
-  pub short : length (spell_image i) ≤ most_image
+  pub short : length (spell_image_in f i) ≤ most_image_in f
+
+-- in format 2, which is written
+abbrev pub IsSound : ℕ → Image → Type 0
+IsSound clusters i = IsSoundIn Second clusters i

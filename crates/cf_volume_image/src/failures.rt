@@ -1,32 +1,24 @@
-//! Why an image cannot be read.
+//! Why an image and its payloads cannot be read.
 
 ghost use Rattle.std.specs.Prelude.{◌≡◌};
-ghost use Rattle.cf_volume_image.specs.Faults.{of_row};
 ghost use Rattle.cf_volume_image.specs.declared.failures.ImageError.TheVariants.{OutOfMemory};
 
-use cf_table::RowError;
-
-/// Why an image or a payload cannot be read.
+/// Why an image and the payloads behind it tell no volume. The first that is not spelled is named, by the byte at which the
+/// first field begins in it that lacks bytes or spells what may not stand there.
 #[derive(Clone, Copy, Debug, PartialEq, Eq, thiserror::Error)]
 pub enum ImageError {
-    /// The bytes spell none, or what they spell tells no volume.
+    /// The image is not spelled: its field at this byte.
+    #[error("the field at byte {0} of the image is wrong")]
+    Image(usize),
+    /// The payload of this number, counted from 0, is not spelled: its field at this byte.
+    #[error("the field at byte {1} of payload {0} is wrong")]
+    Payload(usize, usize),
+    /// All is spelled, and the state that it tells is none of a volume.
     #[error("the bytes tell no volume")]
-    NotAVolume,
+    Unsound,
     /// There was no memory.
     #[error("out of memory")]
     OutOfMemory,
-}
-
-impl From<RowError> for ImageError {
-    ghost from_gives = { λ r e. e ≡ of_row r };
-
-    fn from(fail: RowError) -> ImageError {
-        match fail {
-            RowError::OutOfMemory => ImageError::OutOfMemory,
-            RowError::Short(_) => ImageError::NotAVolume,
-            RowError::BadField(_) => ImageError::NotAVolume,
-        }
-    }
 }
 
 impl From<cf_base::OutOfMemory> for ImageError {

@@ -3,23 +3,22 @@
 ghost use Rattle.std.specs.Prelude.{◌≡◌, ◌<◌, ◌^◌, ◌++◌, ◌∷◌, [], List, None, IfOk, IfErr, OnOk, All, length, map};
 ghost use Rattle.cf_codec.specs.Left.{Takes};
 ghost use Rattle.cf_model.specs.Formats.{Image, spell_header, spell_image};
+ghost use Rattle.cf_table.specs.Faults.{IsTold};
 ghost use Rattle.cf_table.specs.Spelling.{HasRoom};
 ghost use Rattle.cf_volume_image.specs.Contents.{header_of, image_of};
 ghost use Rattle.cf_volume_image.specs.Faults.{AtFormat, AtImage};
-ghost use Rattle.cf_volume_image.specs.Spelled.{IsImage};
-ghost use Rattle.cf_volume_image.specs.declared.failures.ImageError.TheVariants.{NotAVolume};
+ghost use Rattle.cf_volume_image.specs.Spelled.{IsImageIn, format_byte, spell_image_in};
 
 use crate::contents::Contents;
-use crate::failures::ImageError;
 use crate::part_reads::{read_header, read_records};
 use crate::part_writes::{put_header, put_records};
 use cf_base::{Blob, OutOfMemory};
-use cf_codec::{Reader, Writer};
-use cf_table::plain_fields::{place_of, read_1};
+use cf_codec::{Format, Reader, Writer};
+use cf_table::plain_fields::read_1;
 use cf_table::{RowError, Rows};
 use std::alloc::Global;
 
-/// The number of the format.
+/// The number of the format that is written.
 const FORMAT: u8 = 2;
 
 /// Spells what the contents say. Of 4,294,967,296 rows or records and more only the last four bytes of the count are
@@ -37,28 +36,38 @@ pub fn spell_image(alloc: Global, contents: &Contents) -> Result<Blob, OutOfMemo
     Ok(out.into_blob())
 }
 
-fn read_format(r: &mut Reader) -> Result<(), RowError>
-    ensures took { OnOk result (Takes (2 ∷ []) r.old r.new) }
-    ensures fault { IfErr result (AtFormat r.old) }
+fn number_of(format: Format) -> u8
+    ensures { result ≡ format_byte format }
 {
-    let place = place_of(r);
-    let format = read_1(r)?;
-    if format == FORMAT {
+    match format {
+        Format::First => 1,
+        Format::Second => FORMAT,
+    }
+}
+
+fn read_format(r: &mut Reader, format: Format) -> Result<(), RowError>
+    ensures took { OnOk result (Takes (format_byte format ∷ []) r.old r.new) }
+    ensures fault { IfErr result (AtFormat format r.old) }
+{
+    let place = r.place();
+    let number = number_of(format);
+    let byte = read_1(r)?;
+    if byte == number {
         Ok(())
     } else {
         Err(RowError::BadField(place))
     }
 }
 
-fn image_in(alloc: Global, r: &mut Reader) -> Result<Contents, RowError>
-    ensures took { IfOk result (λ c. r.old.rest ≡ spell_image (image_of c)) }
-    ensures fits { IfOk result (λ c. IsImage (image_of c)) }
+fn image_in(alloc: Global, r: &mut Reader, format: Format) -> Result<Contents, RowError>
+    ensures took { IfOk result (λ c. r.old.rest ≡ spell_image_in format (image_of c)) }
+    ensures fits { IfOk result (λ c. IsImageIn format (image_of c)) }
     ensures room { IfOk result (λ c. All HasRoom c.rows.rows) }
-    ensures fault { IfErr result (AtImage r.old) }
+    ensures fault { IfErr result (AtImage format r.old) }
 {
-    read_format(r)?;
-    let header = read_header(r)?;
-    let rows = Rows::read_front(alloc, r, header.next)?;
+    read_format(r, format)?;
+    let header = read_header(r, format)?;
+    let rows = Rows::read_front(alloc, r, format, header.next)?;
     let records = read_records(alloc, r)?;
     r.end()?;
     Ok(Contents {
@@ -70,15 +79,17 @@ fn image_in(alloc: Global, r: &mut Reader) -> Result<Contents, RowError>
     })
 }
 
-/// Reads what `spell_image` writes. NotAVolume exactly where the bytes spell no image: a field lacks bytes or has a value
-/// that is not spelled, ids or keys do not rise, or bytes are left over. An image that is read need not be that of a volume;
-/// `read_contents` tests that. OutOfMemory where there is none.
-pub fn read_image(alloc: Global, b: &[u8]) -> Result<Contents, ImageError>
-    ensures spelled { IfOk result (λ c. b.now ≡ spell_image (image_of c)) }
-    ensures fits { IfOk result (λ c. IsImage (image_of c)) }
+/// Reads an image of the format, in format 2 what `spell_image` writes. Short or BadField exactly where the bytes spell no
+/// image, at the first field that lacks bytes or has a value that is not spelled, where ids or keys do not rise, or at the
+/// first byte that is left over. An image that is read need not be that of a volume; `read_contents` tests that. OutOfMemory
+/// where there is none.
+pub fn read_image(alloc: Global, b: &[u8], format: Format) -> Result<Contents, RowError>
+    ensures spelled { IfOk result (λ c. b.now ≡ spell_image_in format (image_of c)) }
+    ensures fits { IfOk result (λ c. IsImageIn format (image_of c)) }
     ensures room { IfOk result (λ c. All HasRoom c.rows.rows) }
-    ensures none { IfErr result (λ e. e ≡ NotAVolume → (i : Image) → IsImage i → b.now ≡ spell_image i → ⊥) }
+    ensures fault { IfErr result (AtImage format (record { place = 0; rest = b.now })) }
+    ensures none { IfErr result (λ e. IsTold e → (i : Image) → IsImageIn format i → b.now ≡ spell_image_in format i → ⊥) }
 {
     let mut r = Reader::new(b);
-    Ok(image_in(alloc, &mut r)?)
+    image_in(alloc, &mut r, format)
 }

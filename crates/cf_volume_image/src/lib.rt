@@ -25,7 +25,7 @@ mod trees;
 pub use contents::Contents;
 pub use failures::ImageError;
 pub use images::{read_image, spell_image};
-pub use laws::{a_payload_is_enough, one_value_of_a_text};
+pub use laws::{a_payload_is_enough, format_2_takes_all, one_value_of_a_text};
 pub use openings::read_contents;
 pub use payloads::{apply_payload, spell_payload};
 pub use records::AuxRecords;

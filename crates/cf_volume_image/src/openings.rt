@@ -1,52 +1,91 @@
 //! The contents that an image and payloads tell.
 
-ghost use Rattle.std.specs.Prelude.{◌≡◌, List, IfOk, IfErr, All, IsTrue, ◌↔◌};
+ghost use Rattle.std.specs.Prelude.{◌≡◌, List, IfOk, IfErr, All};
 ghost use Rattle.cf_model.specs.Formats.{Image};
 ghost use Rattle.cf_table.specs.Spelling.{HasRoom};
+ghost use Rattle.cf_volume_image.specs.Causes.{IsCause, IsKnown, IsUnspelled, image_error, payload_error};
 ghost use Rattle.cf_volume_image.specs.Contents.{image_of};
-ghost use Rattle.cf_volume_image.specs.Sound.{IsSound};
-ghost use Rattle.cf_volume_image.specs.States.{IsContents, Tells};
-ghost use Rattle.cf_volume_image.specs.declared.failures.ImageError.TheVariants.{NotAVolume};
+ghost use Rattle.cf_volume_image.specs.States.{IsContentsIn, TellsIn};
 
 use crate::contents::Contents;
 use crate::failures::ImageError;
 use crate::images::read_image;
 use crate::payloads::apply_payload;
 use crate::sound::is_sound;
-use cf_base::{Blob, OutOfMemory};
+use cf_base::Blob;
+use cf_codec::Format;
+use cf_table::RowError;
 use std::alloc::Global;
 
-// What image and payloads spell, sound or not.
-fn contents_of(alloc: Global, image: &[u8], payloads: &[Blob]) -> Result<Contents, ImageError>
-    ensures told { IfOk result (λ c. Tells image.now payloads.now (image_of c)) }
-    ensures none { IfErr result (λ e. e ≡ NotAVolume → (state : Image) → Tells image.now payloads.now state → ⊥) }
+fn in_image(fault: RowError) -> ImageError
+    ensures { result ≡ image_error fault }
 {
-    let mut contents = read_image(alloc, image)?;
-    for payload in payloads {
-        apply_payload(alloc, &mut contents, payload.as_slice())?;
+    match fault {
+        RowError::Short(place) => ImageError::Image(place),
+        RowError::BadField(place) => ImageError::Image(place),
+        RowError::OutOfMemory => ImageError::OutOfMemory,
+    }
+}
+
+fn in_payload(number: usize, fault: RowError) -> ImageError
+    ensures { result ≡ payload_error number fault }
+{
+    match fault {
+        RowError::Short(place) => ImageError::Payload(number, place),
+        RowError::BadField(place) => ImageError::Payload(number, place),
+        RowError::OutOfMemory => ImageError::OutOfMemory,
+    }
+}
+
+// What image and payloads spell, sound or not.
+fn contents_of(
+    alloc: Global,
+    image: &[u8],
+    payloads: &[Blob],
+    format: Format,
+) -> Result<Contents, ImageError>
+    ensures told { IfOk result (λ c. TellsIn format image.now payloads.now (image_of c)) }
+    ensures cause { IfErr result (IsUnspelled format image.now payloads.now) }
+{
+    let mut contents = match read_image(alloc, image, format) {
+        Ok(contents) => contents,
+        Err(fault) => return Err(in_image(fault)),
+    };
+    for (number, payload) in payloads.iter().enumerate() {
+        match apply_payload(alloc, &mut contents, payload.as_slice(), format) {
+            Ok(()) => {}
+            Err(fault) => {
+                drop(contents);
+                return Err(in_payload(number, fault));
+            }
+        }
     }
     Ok(contents)
 }
 
-/// Reads an image and the payloads behind it, the oldest first. NotAVolume exactly where they spell none, or where the state
-/// after all payloads is none of a volume of so many clusters. Of that state alone it is asked that each row is sound, that
-/// the rows form a tree of at most 32 levels under item 1, that no directory has a name twice or entries that have not come,
-/// that each block with a byte that is here has a cluster, no other block has one, and no two have the same, that there are
-/// at most 10,000 rows, and that its image has at most 1,306,624 bytes. OutOfMemory where there is none.
+/// Reads an image and the payloads behind it, the oldest first. Image or Payload exactly where one of them is not spelled in
+/// the format, at the first field of the first that is not. Unsound exactly where they are, and the state after all payloads is
+/// none of a volume of so many clusters. Of that state alone it is asked that each row is sound, that the rows form a tree of
+/// at most 32 levels under item 1, that no directory has a name twice or entries that have not come, that each block with a
+/// byte that is here has a cluster, no other block has one, and no two have the same, that there are at most 10,000 rows, and
+/// that its image has at most 1,306,624 bytes, or 1,044,480 in format 1. OutOfMemory where there is none.
 pub fn read_contents(
     alloc: Global,
     image: &[u8],
     payloads: &[Blob],
+    format: Format,
     clusters: u32,
 ) -> Result<Contents, ImageError>
-    ensures ok { IfOk result (λ c. IsContents image.now payloads.now clusters (image_of c)) }
+    ensures ok { IfOk result (λ c. IsContentsIn format image.now payloads.now clusters (image_of c)) }
     ensures room { IfOk result (λ c. All HasRoom c.rows.rows) }
-    ensures none { IfErr result (λ e. e ≡ NotAVolume → (state : Image) → IsContents image.now payloads.now clusters state → ⊥) }
+    ensures cause { IfErr result (IsCause format image.now payloads.now clusters) }
+    ensures none { IfErr result (λ e. IsKnown e → (state : Image) → IsContentsIn format image.now payloads.now clusters state → ⊥) }
 {
-    let contents = contents_of(alloc, image, payloads)?;
-    if is_sound(alloc, &contents, clusters)? {
+    let contents = contents_of(alloc, image, payloads, format)?;
+    if is_sound(alloc, &contents, format, clusters)? {
         Ok(contents)
     } else {
-        Err(ImageError::NotAVolume)
+        drop(contents);
+        Err(ImageError::Unsound)
     }
 }

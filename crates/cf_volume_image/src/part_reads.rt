@@ -3,21 +3,21 @@
 ghost use Rattle.std.specs.Prelude.{◌≡◌, ◌<◌, ◌^◌, ◌++◌, ◌∷◌, [], ℕ, List, Option, None, Some, IfOk, IfErr, true, false, length, option_copied};
 ghost use Rattle.std.specs.List.{flat_map};
 ghost use Rattle.cf_codec.specs.Left.{Takes};
-ghost use Rattle.cf_model.specs.Formats.{spell_header, spell_id, spell_key, spell_record, spell_records};
+ghost use Rattle.cf_model.specs.Formats.{spell_id, spell_key, spell_record, spell_records};
 ghost use Rattle.cf_model.specs.Words.{in_bytes};
-ghost use Rattle.cf_table.specs.Faults.{AtIdentity, AtName};
-ghost use Rattle.cf_table.specs.Reading.{IsAbove, IsIdentity, IsName, identity_bytes, name_bytes};
+ghost use Rattle.cf_table.specs.Faults.{AtIdentity};
+ghost use Rattle.cf_table.specs.Reading.{IsAbove, IsIdentity, identity_bytes};
 ghost use Rattle.cf_volume_image.specs.Contents.{read_header_of};
 ghost use Rattle.cf_volume_image.specs.Faults.{AtHeader, AtId, AtIds, AtIdsFrom, AtKey, AtKeys, AtKeysFrom, AtRecord, AtRecords, AtRecordsFrom};
 ghost use Rattle.cf_volume_image.specs.RecordLists.{last_key_of, last_of, records_bytes};
-ghost use Rattle.cf_volume_image.specs.Spelled.{AreIds, AreIdsFrom, AreKeys, AreKeysFrom, AreRecords, AreRecordsFrom, IsAfter, IsHeader, IsId, IsKey, IsRecord, ids_bytes, keys_bytes};
+ghost use Rattle.cf_volume_image.specs.Spelled.{AreIds, AreIdsFrom, AreKeys, AreKeysFrom, AreRecords, AreRecordsFrom, IsAfter, IsHeaderIn, IsId, IsKey, IsRecord, ids_bytes, keys_bytes, spell_header_in};
 
 use crate::record_lists::is_before;
 use crate::records::AuxRecords;
 use cf_base::{AuxRecord, Blob, ItemId, OutOfMemory, Usn};
-use cf_codec::Reader;
+use cf_codec::{Format, Reader};
 use cf_table::RowError;
-use cf_table::plain_fields::{place_of, read_1, read_2, read_4, read_8, read_bytes, read_usn};
+use cf_table::plain_fields::{read_1, read_2, read_4, read_8, read_bytes, read_ticks, read_usn};
 use std::alloc::Global;
 
 /// What stands in front of an image and of a payload.
@@ -30,15 +30,15 @@ pub(crate) struct Header {
 }
 
 /// Reads a header.
-pub(crate) fn read_header(r: &mut Reader) -> Result<Header, RowError>
-    ensures took { IfOk result (λ h. Takes (spell_header (read_header_of h)) r.old r.new) }
-    ensures fits { IfOk result (λ h. IsHeader (read_header_of h)) }
-    ensures fault { IfErr result (AtHeader r.old) }
+pub(crate) fn read_header(r: &mut Reader, format: Format) -> Result<Header, RowError>
+    ensures took { IfOk result (λ h. Takes (spell_header_in format (read_header_of h)) r.old r.new) }
+    ensures fits { IfOk result (λ h. IsHeaderIn format (read_header_of h)) }
+    ensures fault { IfErr result (AtHeader format r.old) }
 {
     let last = read_usn(r)?;
     let count = read_8(r)?;
     let next = read_8(r)?;
-    let clock = read_8(r)?;
+    let clock = read_ticks(r, format)?;
     Ok(Header {
         last,
         count,
@@ -57,15 +57,6 @@ fn is_after(before: Option<&[u8]>, key: &[u8]) -> bool
     }
 }
 
-fn read_text<'a>(r: &mut Reader<'a>) -> Result<&'a [u8], RowError>
-    ensures took { IfOk result (λ t. Takes (name_bytes t.now) r.old r.new) }
-    ensures fits { IfOk result (λ t. IsName t.now) }
-    ensures fault { IfErr result (AtName r.old) }
-{
-    let count = read_1(r)?;
-    read_bytes(r, count as usize)
-}
-
 fn read_value<'a>(r: &mut Reader<'a>) -> Result<&'a [u8], RowError>
     ensures took { IfOk result (λ t. Takes (identity_bytes t.now) r.old r.new) }
     ensures fits { IfOk result (λ t. IsIdentity t.now) }
@@ -75,14 +66,15 @@ fn read_value<'a>(r: &mut Reader<'a>) -> Result<&'a [u8], RowError>
     read_bytes(r, count as usize)
 }
 
-// A key that comes after this one, if there is one.
+// A key that comes after this one, if there is one. Where it does not, the fault is behind the byte of its length.
 fn read_key<'a>(r: &mut Reader<'a>, before: Option<&[u8]>) -> Result<&'a [u8], RowError>
     ensures took { IfOk result (λ k. Takes (spell_key k.now) r.old r.new) }
     ensures fits { IfOk result (λ k. IsKey (option_copied before.entry) k.now) }
     ensures fault { IfErr result (AtKey (option_copied before.entry) r.old) }
 {
-    let place = place_of(r);
-    let key = read_text(r)?;
+    let count = read_1(r)?;
+    let place = r.place();
+    let key = read_bytes(r, count as usize)?;
     if is_after(before, key) {
         Ok(key)
     } else {
@@ -177,7 +169,7 @@ fn read_id(r: &mut Reader, before: Option<u64>) -> Result<ItemId, RowError>
     ensures fits { IfOk result (IsId before) }
     ensures fault { IfErr result (AtId before r.old) }
 {
-    let place = place_of(r);
+    let place = r.place();
     let id = read_8(r)?;
     match before {
         Some(before) if id <= before => Err(RowError::BadField(place)),

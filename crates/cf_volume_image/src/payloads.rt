@@ -6,22 +6,21 @@ ghost use Rattle.cf_codec.specs.Left.{Takes};
 ghost use Rattle.cf_model.specs.Formats.{Payload, after_payload, with_records, with_rows, spell_header, spell_id, spell_key, spell_payload, spell_record, spell_records, spell_rows};
 ghost use Rattle.cf_model.specs.Rows.{spell_row};
 ghost use Rattle.cf_model.specs.Words.{in_bytes};
+ghost use Rattle.cf_table.specs.Faults.{IsTold};
 ghost use Rattle.cf_table.specs.Spelling.{HasRoom, row_value};
 ghost use Rattle.cf_table.specs.Tables.{RisesFrom};
 ghost use Rattle.cf_volume_image.specs.Contents.{changes_of, header_of, image_of, one_record, one_row, payload_of, records_at, rows_at};
 ghost use Rattle.cf_volume_image.specs.Faults.{AtPayload};
 ghost use Rattle.cf_volume_image.specs.RecordLists.{IsShort};
-ghost use Rattle.cf_volume_image.specs.Spelled.{IsPayload};
-ghost use Rattle.cf_volume_image.specs.States.{IsAfter, without_records, without_rows};
-ghost use Rattle.cf_volume_image.specs.declared.failures.ImageError.TheVariants.{NotAVolume};
+ghost use Rattle.cf_volume_image.specs.Spelled.{IsPayloadIn, spell_payload_in};
+ghost use Rattle.cf_volume_image.specs.States.{IsAfterIn, without_records, without_rows};
 
 use crate::contents::Contents;
-use crate::failures::ImageError;
 use crate::part_reads::{Header, read_header, read_ids, read_keys, read_records};
 use crate::part_writes::{put_count, put_header, put_key, put_record};
 use crate::records::AuxRecords;
 use cf_base::{AuxRecord, Blob, ItemId, OutOfMemory};
-use cf_codec::{Reader, Writer};
+use cf_codec::{Format, Reader, Writer};
 use cf_table::plain_fields::{put_4, put_8};
 use cf_table::{Row, RowError, Rows};
 use std::alloc::Global;
@@ -174,14 +173,15 @@ pub(crate) struct Changes {
     records: AuxRecords,
 }
 
-fn changes_in(alloc: Global, r: &mut Reader) -> Result<Changes, RowError>
-    ensures took { IfOk result (λ c. r.old.rest ≡ spell_payload (changes_of c)) }
-    ensures fits { IfOk result (λ c. IsPayload (changes_of c)) }
-    ensures fault { IfErr result (AtPayload r.old) }
+fn changes_in(alloc: Global, r: &mut Reader, format: Format) -> Result<Changes, RowError>
+    ensures took { IfOk result (λ c. r.old.rest ≡ spell_payload_in format (changes_of c)) }
+    ensures fits { IfOk result (λ c. IsPayloadIn format (changes_of c)) }
+    ensures room { IfOk result (λ c. All HasRoom c.rows.rows) }
+    ensures fault { IfErr result (AtPayload format r.old) }
 {
-    let header = read_header(r)?;
+    let header = read_header(r, format)?;
     let removed = read_ids(alloc, r)?;
-    let rows = Rows::read_front(alloc, r, header.next)?;
+    let rows = Rows::read_front(alloc, r, format, header.next)?;
     let removed_keys = read_keys(alloc, r)?;
     let records = read_records(alloc, r)?;
     r.end()?;
@@ -194,13 +194,14 @@ fn changes_in(alloc: Global, r: &mut Reader) -> Result<Changes, RowError>
     })
 }
 
-fn read_changes(alloc: Global, b: &[u8]) -> Result<Changes, ImageError>
-    ensures spelled { IfOk result (λ c. b.now ≡ spell_payload (changes_of c)) }
-    ensures fits { IfOk result (λ c. IsPayload (changes_of c)) }
-    ensures none { IfErr result (λ e. e ≡ NotAVolume → (p : Payload) → IsPayload p → b.now ≡ spell_payload p → ⊥) }
+fn read_changes(alloc: Global, b: &[u8], format: Format) -> Result<Changes, RowError>
+    ensures spelled { IfOk result (λ c. b.now ≡ spell_payload_in format (changes_of c)) }
+    ensures fits { IfOk result (λ c. IsPayloadIn format (changes_of c)) }
+    ensures room { IfOk result (λ c. All HasRoom c.rows.rows) }
+    ensures fault { IfErr result (AtPayload format (record { place = 0; rest = b.now })) }
 {
     let mut r = Reader::new(b);
-    Ok(changes_in(alloc, &mut r)?)
+    changes_in(alloc, &mut r, format)
 }
 
 fn remove_rows(rows: &mut Rows, ids: &[ItemId])
@@ -255,7 +256,8 @@ fn add_records(records: &mut AuxRecords, more: &[AuxRecord]) -> Result<(), OutOf
 }
 
 fn apply(contents: &mut Contents, changes: Changes) -> Result<(), OutOfMemory>
-    requires { IsPayload (changes_of changes) }
+    requires rows { All HasRoom changes.rows.rows }
+    requires records { All IsShort changes.records }
     ensures { OnOk result (image_of contents.new ≡ after_payload (image_of contents.old) (changes_of changes)) }
 {
     let header = changes.header;
@@ -270,13 +272,19 @@ fn apply(contents: &mut Contents, changes: Changes) -> Result<(), OutOfMemory>
     Ok(())
 }
 
-/// Applies a payload: removals come first. NotAVolume where the bytes spell none, and then nothing changes. Without memory
-/// the contents are lost.
-pub fn apply_payload(alloc: Global, contents: &mut Contents, b: &[u8]) -> Result<(), ImageError>
-    ensures ok { OnOk result (IsAfter b.now (image_of contents.old) (image_of contents.new)) }
-    ensures none { IfErr result (λ e. e ≡ NotAVolume → (p : Payload) → IsPayload p → b.now ≡ spell_payload p → ⊥) }
-    ensures unchanged { IfErr result (λ e. e ≡ NotAVolume → contents.new ≡ contents.old) }
+/// Applies a payload of the format: removals come first. Short or BadField exactly where the bytes spell none, at the first
+/// field that lacks bytes or is not spelled, and then nothing changes. Without memory the contents are lost.
+pub fn apply_payload(
+    alloc: Global,
+    contents: &mut Contents,
+    b: &[u8],
+    format: Format,
+) -> Result<(), RowError>
+    ensures ok { OnOk result (IsAfterIn format b.now (image_of contents.old) (image_of contents.new)) }
+    ensures fault { IfErr result (AtPayload format (record { place = 0; rest = b.now })) }
+    ensures none { IfErr result (λ e. IsTold e → (p : Payload) → IsPayloadIn format p → b.now ≡ spell_payload_in format p → ⊥) }
+    ensures unchanged { IfErr result (λ e. IsTold e → contents.new ≡ contents.old) }
 {
-    let changes = read_changes(alloc, b)?;
+    let changes = read_changes(alloc, b, format)?;
     Ok(apply(contents, changes)?)
 }

@@ -3,12 +3,12 @@
 ghost use Rattle.std.specs.Prelude.{◌≡◌, ◌≤◌, ℕ, List, IfOk, length, map};
 ghost use Rattle.std.specs.Bool.{Decides};
 ghost use Rattle.cf_model.specs.Standing.{AreSound};
-ghost use Rattle.cf_model.specs.Formats.{Header, spell_image};
-ghost use Rattle.cf_model.specs.Images.{most_image};
+ghost use Rattle.cf_model.specs.Formats.{Header};
 ghost use Rattle.cf_table.specs.Spelling.{row_value};
 ghost use Rattle.cf_volume_image.specs.Contents.{image_of};
 ghost use Rattle.cf_volume_image.specs.Sets.{AllBelow};
-ghost use Rattle.cf_volume_image.specs.Sound.{AllHoldBytes, IsSound};
+ghost use Rattle.cf_volume_image.specs.Sound.{AllHoldBytes, IsSoundIn, most_image_in, most_image_of};
+ghost use Rattle.cf_volume_image.specs.Spelled.{spell_image_in};
 
 use crate::blocks::are_blocks_of;
 use crate::clusters::are_apart;
@@ -16,12 +16,15 @@ use crate::contents::Contents;
 use crate::sound_rows::is_sound_row;
 use crate::trees::is_tree;
 use cf_base::{ItemId, OutOfMemory, Usn};
+use cf_codec::Format;
 use cf_table::Row;
 use std::alloc::Global;
 
 const MOST_ROWS: usize = 10_000;
 
 const MOST_IMAGE_BYTES: u64 = 1_306_624;
+
+const MOST_FIRST_IMAGE_BYTES: u64 = 1_044_480;
 
 fn are_sound(alloc: Global, rows: &[Row], next: ItemId, last: Usn) -> Result<bool, OutOfMemory>
     ensures { (h : Header) → h.next ≡ next → h.last ≡ last → IfOk result (λ b. Decides b (AreSound h (map row_value rows.now))) }
@@ -46,22 +49,39 @@ fn hold_bytes(rows: &[Row]) -> bool
     true
 }
 
-fn is_small(contents: &Contents) -> bool
-    ensures { Decides result ((length contents.now.rows.rows ≤ 10000) × (length (spell_image (image_of contents.now)) ≤ most_image)) }
+// The most bytes of an image in format 2 that is within the limit of the format: format 1 spells no clock and no last access
+// of a row, which take eight bytes each.
+fn most_bytes(format: Format, rows: usize) -> u64
+    requires { rows ≤ 10000 }
+    ensures { result ≡ most_image_of format rows }
 {
-    contents.rows.as_slice().len() <= MOST_ROWS && contents.image_len() <= MOST_IMAGE_BYTES
+    match format {
+        Format::First => MOST_FIRST_IMAGE_BYTES + 8 + 8 * rows as u64,
+        Format::Second => MOST_IMAGE_BYTES,
+    }
 }
 
-/// Whether the contents are those of a volume of so many clusters.
+fn is_small(contents: &Contents, format: Format) -> bool
+    ensures { Decides result ((length contents.now.rows.rows ≤ 10000) × (length (spell_image_in format (image_of contents.now)) ≤ most_image_in format)) }
+{
+    let rows = contents.rows.as_slice().len();
+    if rows > MOST_ROWS {
+        return false;
+    }
+    contents.image_len() <= most_bytes(format, rows)
+}
+
+/// Whether the contents are those of a volume of so many clusters in this format.
 pub(crate) fn is_sound(
     alloc: Global,
     contents: &Contents,
+    format: Format,
     clusters: u32,
 ) -> Result<bool, OutOfMemory>
-    ensures { IfOk result (λ b. Decides b (IsSound clusters (image_of contents.now))) }
+    ensures { IfOk result (λ b. Decides b (IsSoundIn format clusters (image_of contents.now))) }
 {
     let rows = contents.rows.as_slice();
-    if !is_small(contents) {
+    if !is_small(contents, format) {
         return Ok(false);
     }
     if !are_sound(alloc, rows, contents.rows.next(), contents.last)? {

@@ -50,5 +50,5 @@ returns-in_err-sets-clause-fault c =
 
 pub returns-clause-took : goal.returns-clause-took
 returns-clause-took c =
-    row_taken c.row_of.result c.in_ok-head.head c.in_ok-name.name c.in_ok-identity.identity c.in_ok-sets.sets _ _ _ _ _ c.row_of.ensures c.in_ok-head.ensures.fits.basics.1.0
+    row_taken c.args.format c.row_of.result c.in_ok-head.head c.in_ok-name.name c.in_ok-identity.identity c.in_ok-sets.sets _ _ _ _ _ c.row_of.ensures c.in_ok-head.ensures.fits.basics
     c.in_ok-head.ensures.took c.in_ok-name.ensures.took c.in_ok-identity.ensures.took c.in_ok-sets.ensures.took

@@ -7,26 +7,26 @@ use Rattle.cf_table.proofs.RowTaken.{rooms_of}
 use Rattle.cf_table.proofs.reads.read_rows.Goals as goal
 
 pub returns-in_err-rows-clause-fault : goal.returns-in_err-rows-clause-fault
-returns-in_err-rows-clause-fault c = exits _ _ _ c.from_residual.ensures.1 (no_memory_for_rows _ _ _)
+returns-in_err-rows-clause-fault c = exits _ _ _ c.from_residual.ensures.1 (no_memory_for_rows _ _ _ _)
 
 pub returns-in_err-row-clause-fault : goal.returns-in_err-row-clause-fault
 returns-in_err-row-clause-fault c =
-    exits _ _ _ c.from_residual-in_err-row.ensures.1 (c.loop.invariant.fault _ (row_fault _ _ _ _ _ (one_less c.args.count c.loop.counter (omega arith)) c.in_err-row.ensures.fault))
+    exits _ _ _ c.from_residual-in_err-row.ensures.1 (c.loop.invariant.fault _ (row_fault _ _ _ _ _ _ (one_less c.args.count c.loop.counter (omega arith)) c.in_err-row.ensures.fault))
 
 pub loop-preserved : goal.loop-preserved
 loop-preserved c =
     let is = put_behind _ c.put_row.new.self.rows _ _ (ap (λ t. t.rows) c.in_ok-put_row.ensures.ok) c.loop.invariant.below c.in_ok-row.ensures.fits.head.who.1 in
     record {
-      took = each_taken _ _ _ _ _ _ is c.loop.invariant.took c.in_ok-row.ensures.took;
+      took = each_taken _ _ _ _ _ _ _ is c.loop.invariant.took c.in_ok-row.ensures.took;
       count = count_more _ _ _ _ is c.loop.invariant.count;
-      rows = rows_then _ _ _ _ is c.loop.invariant.rows c.in_ok-row.ensures.fits;
+      rows = rows_then _ _ _ _ _ is c.loop.invariant.rows c.in_ok-row.ensures.fits;
       below = above_then _ _ _ _ is c.loop.invariant.below c.in_ok-row.ensures.fits.head.who.1;
       next = ap (λ t. t.next) c.in_ok-put_row.ensures.ok ∙ c.loop.invariant.next;
-      fault = λ e h. c.loop.invariant.fault e (behind_row _ _ _ _ _ e (row_value c.in_ok-row.row) (one_less c.args.count c.loop.counter (omega arith)) c.in_ok-row.ensures.fits c.in_ok-row.ensures.took h);
+      fault = λ e h. c.loop.invariant.fault e (behind_row _ _ _ _ _ _ e (row_value c.in_ok-row.row) (one_less c.args.count c.loop.counter (omega arith)) c.in_ok-row.ensures.fits c.in_ok-row.ensures.took h);
     }
 
 pub returns-clause-rows : goal.returns-clause-rows
-returns-clause-rows c = rows_end _ _ c.loop.invariant.rows
+returns-clause-rows c = rows_end _ _ _ c.loop.invariant.rows
 
 pub returns-clause-room : goal.returns-clause-room
-returns-clause-room c = rooms_of None c.loop.rows.rows (rows_end _ _ c.loop.invariant.rows)
+returns-clause-room c = rooms_of c.args.format None c.loop.rows.rows (rows_end _ _ _ c.loop.invariant.rows)

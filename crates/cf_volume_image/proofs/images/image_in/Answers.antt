@@ -2,13 +2,15 @@ use Rattle.std.proofs.Common.{inl, inr, refl}
 use Rattle.cf_table.proofs.NoRow.{at_end}
 use Rattle.cf_table.proofs.ReadExit.{exits}
 use Rattle.cf_volume_image.specs.Contents.{read_header_of}
+use Rattle.cf_volume_image.specs.Spelled.{format_byte}
+use Rattle.cf_volume_image.proofs.WholeTexts.{image_taken, same_header}
 use Rattle.cf_volume_image.proofs.images.image_in.Goals as goal
 
 pub returns-in_err-header-clause-fault : goal.returns-in_err-header-clause-fault
 returns-in_err-header-clause-fault c =
     exits _ _ _ c.from_residual-in_err-header.ensures.1
     (inr (record {
-      part = 2;
+      part = format_byte c.args.format;
       is_part = refl;
       mid = _;
       takes = c.in_ok-read_format.ensures.took;
@@ -20,7 +22,7 @@ pub returns-in_err-rows-clause-fault : goal.returns-in_err-rows-clause-fault
 returns-in_err-rows-clause-fault c =
     exits _ _ _ c.from_residual-in_err-rows.ensures.1
     (inr (record {
-      part = 2;
+      part = format_byte c.args.format;
       is_part = refl;
       mid = _;
       takes = c.in_ok-read_format.ensures.took;
@@ -39,7 +41,7 @@ pub returns-in_err-records-clause-fault : goal.returns-in_err-records-clause-fau
 returns-in_err-records-clause-fault c =
     exits _ _ _ c.from_residual-in_err-records.ensures.1
     (inr (record {
-      part = 2;
+      part = format_byte c.args.format;
       is_part = refl;
       mid = _;
       takes = c.in_ok-read_format.ensures.took;
@@ -65,7 +67,7 @@ pub returns-in_err-end-clause-fault : goal.returns-in_err-end-clause-fault
 returns-in_err-end-clause-fault c =
     exits _ _ _ c.from_residual-in_err-end.ensures.1
     (inr (record {
-      part = 2;
+      part = format_byte c.args.format;
       is_part = refl;
       mid = _;
       takes = c.in_ok-read_format.ensures.took;
@@ -96,3 +98,9 @@ returns-in_err-end-clause-fault c =
 
 pub returns-clause-room : goal.returns-clause-room
 returns-clause-room c = c.in_ok-rows.ensures.room
+
+pub returns-clause-took : goal.returns-clause-took
+returns-clause-took c =
+    image_taken c.args.format _ (read_header_of c.in_ok-header.header) _ _ _ _ _
+    (same_header c.in_ok-header.header.last c.in_ok-header.header.count c.in_ok-header.header.clock c.in_ok-rows.rows.next c.in_ok-header.header.next c.in_ok-rows.ensures.next)
+    c.in_ok-read_format.ensures.took c.in_ok-header.ensures.took c.in_ok-rows.ensures.took c.in_ok-records.ensures.took c.in_ok-end.ensures

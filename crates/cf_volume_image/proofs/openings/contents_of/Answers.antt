@@ -1,34 +1,24 @@
-use Rattle.std.proofs.Common.{◌∙◌, ℕ, List, arith, subst}
-use Rattle.cf_table.proofs.ReadExit.{exits}
+use Rattle.std.proofs.Common.{◌+◌, ℕ, List, arith, subst, sym, take}
+use Rattle.cf_table.specs.declared.failures.RowError.{RowError}
+use Rattle.cf_volume_image.specs.Causes.{IsUnspelled}
 use Rattle.cf_volume_image.specs.Contents.{image_of}
-use Rattle.cf_volume_image.specs.States.{IsAfter}
-use Rattle.cf_volume_image.proofs.Loops.{drop_at, drop_end}
-use Rattle.cf_volume_image.proofs.Told.{no_more, tells_all, tells_itself, tells_more, told_more, told_on}
+use Rattle.cf_volume_image.specs.Faults.{AtPayload}
+use Rattle.cf_volume_image.specs.States.{IsAfterIn}
+use Rattle.cf_volume_image.specs.declared.failures.ImageError.{ImageError}
+use Rattle.cf_volume_image.proofs.CauseLaws.{next_text, payload_cause, text_there}
+use Rattle.cf_volume_image.proofs.Told.{told_more}
 use Rattle.cf_volume_image.proofs.openings.contents_of.Goals as goal
 
-pub returns-in_err-contents-clause-none : goal.returns-in_err-contents-clause-none
-returns-in_err-contents-clause-none c = exits _ _ _ c.from_residual.ensures.1 (λ why state t. c.in_err-contents.ensures.none why t.value t.is_image t.image_is)
+pub loop-number-preserved : goal.loop-number-preserved
+loop-number-preserved c =
+    told_more c.args.format c.args.image.now (take c.loop-number.number c.args.payloads.now) (take (c.loop-number.number + 1) c.args.payloads.now) c.index-payloads-number.result _ _
+    (next_text c.args.payloads.now c.loop-number.number c.index-payloads-number.result (omega (arith, c.loop-number-test.true)) c.index-payloads-number.is)
+    c.loop-number.invariant
+    (subst (λ (b : List ℕ). IsAfterIn c.args.format b (image_of c.loop-number.contents) (image_of c.apply_payload.new.contents)) c.as_slice.ensures c.in-Ok-apply_payload.ensures.ok)
 
-pub loop-payload-init : goal.loop-payload-init
-loop-payload-init c = record {
-  to = λ state t. tells_all c.args.image.now c.args.payloads.now (image_of c.in_ok-contents.contents) state c.in_ok-contents.ensures.fits c.in_ok-contents.ensures.spelled t;
-  from = λ state t. told_on c.args.image.now c.args.payloads.now (image_of c.in_ok-contents.contents) state c.in_ok-contents.ensures.fits c.in_ok-contents.ensures.spelled t;
-}
-
-pub loop-payload-preserved : goal.loop-payload-preserved
-loop-payload-preserved c =
-    let is = drop_at c.args.payloads.now c.loop-payload.payload-index c.payload-item.result c.loop-payload-test.true c.payload-item.is in
-    let after = subst (λ (b : List ℕ). IsAfter b (image_of c.loop-payload.contents) (image_of c.apply_payload.new.contents)) c.as_slice.ensures c.in_ok-apply_payload.ensures.ok in
-    record {
-      to = λ state t. c.loop-payload.invariant.to state (tells_more _ _ c.payload-item.result _ _ state is after t);
-      from = λ state t. told_more _ _ c.payload-item.result _ _ state is after (c.loop-payload.invariant.from state t);
-    }
-
-pub returns-in_err-apply_payload-clause-none : goal.returns-in_err-apply_payload-clause-none
-returns-in_err-apply_payload-clause-none c =
-    let is = drop_at c.args.payloads.now c.loop-payload.payload-index c.payload-item.result c.loop-payload-test.true c.payload-item.is in
-    exits _ _ _ c.from_residual-in_err-apply_payload.ensures.1 (λ why state t. no_more _ _ c.payload-item.result _ state is
-    (λ p fits text. c.in_err-apply_payload.ensures.none why p fits (c.as_slice.ensures ∙ text)) (c.loop-payload.invariant.from state t))
-
-pub returns-clause-told : goal.returns-clause-told
-returns-clause-told c = c.loop-payload.invariant.to _ (tells_itself _ _ (drop_end c.args.payloads.now c.loop-payload.payload-index (omega arith)))
+pub returns-in-Err-apply_payload-clause-cause : goal.returns-in-Err-apply_payload-clause-cause
+returns-in-Err-apply_payload-clause-cause c =
+    subst (λ (e : ImageError). IsUnspelled c.args.format c.args.image.now c.args.payloads.now e) (sym c.in_payload.ensures)
+    (payload_cause c.args.format c.args.image.now c.index-payloads-number.result c.args.payloads.now c.loop-number.number (image_of c.loop-number.contents) c.in-Err-apply_payload.fault c.loop-number.invariant
+    (text_there c.args.payloads.now c.loop-number.number c.index-payloads-number.result (omega (arith, c.loop-number-test.true)) c.index-payloads-number.is)
+    (subst (λ (b : List ℕ). AtPayload c.args.format (record { place = 0; rest = b }) c.in-Err-apply_payload.fault) c.as_slice.ensures c.in-Err-apply_payload.ensures.fault))

@@ -1,4 +1,4 @@
-use Rattle.std.proofs.Common.{◌∙◌, List, None, ap, subst, sym}
+use Rattle.std.proofs.Common.{◌∙◌, List, ap, subst, sym}
 use Rattle.std.specs.Prelude.{All, map}
 use Rattle.cf_base.specs.declared.answers.AuxRecord.{AuxRecord}
 use Rattle.cf_base.specs.declared.ids.ItemId.{ItemId}
@@ -8,15 +8,13 @@ use Rattle.cf_table.specs.declared.rows.Row.{Row}
 use Rattle.cf_volume_image.specs.RecordLists.{IsShort}
 use Rattle.cf_volume_image.specs.States.{without_records, without_rows}
 use Rattle.cf_volume_image.proofs.Applied.{applied}
-use Rattle.cf_volume_image.proofs.Kept.{all_short}
-use Rattle.cf_volume_image.proofs.RoomKept.{rooms_of}
 use Rattle.cf_volume_image.proofs.payloads.apply.Goals as goal
 
 pub add_rows-requires : goal.add_rows-requires
-add_rows-requires c = subst (λ (l : List Row). All HasRoom l) (sym c.as_slice.ensures.value) (rooms_of None c.args.changes.rows.rows c.requires.rows.1)
+add_rows-requires c = subst (λ (l : List Row). All HasRoom l) (sym c.as_slice.ensures.value) c.requires.rows
 
 pub add_records-requires : goal.add_records-requires
-add_records-requires c = subst (λ (l : List AuxRecord). All IsShort l) (sym c.as_slice-2.ensures.value) (all_short c.args.changes.records c.requires.records.1)
+add_records-requires c = subst (λ (l : List AuxRecord). All IsShort l) (sym c.as_slice-2.ensures.value) c.requires.records
 
 pub returns : goal.returns
 returns c =

@@ -2,6 +2,7 @@ use Rattle.std.proofs.Common.{inl, inr}
 use Rattle.cf_table.proofs.NoRow.{at_end}
 use Rattle.cf_table.proofs.ReadExit.{exits}
 use Rattle.cf_volume_image.specs.Contents.{read_header_of}
+use Rattle.cf_volume_image.proofs.WholeTexts.{payload_taken}
 use Rattle.cf_volume_image.proofs.payloads.changes_in.Goals as goal
 
 pub returns-in_err-removed-clause-fault : goal.returns-in_err-removed-clause-fault
@@ -133,3 +134,7 @@ returns-in_err-end-clause-fault c =
                 });
           });
     }))
+
+pub returns-clause-took : goal.returns-clause-took
+returns-clause-took c =
+    payload_taken c.args.format _ _ _ _ _ _ _ c.in_ok-header.ensures.took c.in_ok-removed.ensures.took c.in_ok-rows.ensures.took c.in_ok-removed_keys.ensures.took c.in_ok-records.ensures.took c.in_ok-end.ensures

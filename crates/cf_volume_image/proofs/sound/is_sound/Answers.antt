@@ -4,14 +4,14 @@ use Rattle.cf_model.specs.Standing.{AreSound, are_apart, clusters_of}
 use Rattle.cf_table.specs.Spelling.{row_value}
 use Rattle.cf_table.specs.declared.rows.Row.{Row}
 use Rattle.cf_volume_image.specs.Contents.{header_of, image_of}
-use Rattle.cf_volume_image.specs.Sound.{AllHoldBytes, IsSound}
+use Rattle.cf_volume_image.specs.Sound.{AllHoldBytes, IsSoundIn}
 use Rattle.cf_volume_image.proofs.EachRow.{all_below}
 use Rattle.cf_volume_image.proofs.SoundTests.{tree_from, tree_told}
 use Rattle.cf_volume_image.proofs.WholeSound.{decided, small_of, sound_of, tree_of}
 use Rattle.cf_volume_image.proofs.sound.is_sound.Goals as goal
 
 pub returns-then-not-is_small : goal.returns-then-not-is_small
-returns-then-not-is_small c = (λ z. let w : false ≡ true = z in absurd cc, λ s. c.if-not-is_small.ensures.1 (small_of c.args.clusters c.args.contents.now s))
+returns-then-not-is_small c = (λ z. let w : false ≡ true = z in absurd cc, λ s. c.if-not-is_small.ensures.1 (small_of c.args.format c.args.clusters c.args.contents.now s))
 
 pub returns-then-not-branch : goal.returns-then-not-branch
 returns-then-not-branch c = (
@@ -23,7 +23,7 @@ returns-then-not-branch c = (
 pub returns-then-not-is_tree : goal.returns-then-not-is_tree
 returns-then-not-is_tree c = (
   λ z. let w : false ≡ true = z in absurd cc,
-  λ s. c.if-not-is_tree.ensures ∙ tree_told c.args.contents.now.rows.rows c.as_slice-rows.ensures.rises (tree_of c.args.clusters c.args.contents.now s),
+  λ s. c.if-not-is_tree.ensures ∙ tree_told c.args.contents.now.rows.rows c.as_slice-rows.ensures.rises (tree_of c.args.format c.args.clusters c.args.contents.now s),
 )
 
 pub hold_bytes-requires : goal.hold_bytes-requires
@@ -38,8 +38,8 @@ returns-then-not-hold_bytes c = (
 pub returns : goal.returns
 returns c =
     let sound = (c.in_ok-are_sound.ensures (header_of c.args.contents.now) (sym c.next.ensures) refl).0 c.if-not-branch.false in
-    decided c.are_apart.result (are_apart c.args.clusters (clusters_of (map row_value c.as_slice-rows.result.now))) (IsSound c.args.clusters (image_of c.args.contents.now)) c.are_apart.ensures (
-      λ yes. sound_of c.args.clusters c.args.contents.now (c.is_small.ensures.0 c.if-not-is_small.false)
+    decided c.are_apart.result (are_apart c.args.clusters (clusters_of (map row_value c.as_slice-rows.result.now))) (IsSoundIn c.args.format c.args.clusters (image_of c.args.contents.now)) c.are_apart.ensures (
+      λ yes. sound_of c.args.format c.args.clusters c.args.contents.now (c.is_small.ensures.0 c.if-not-is_small.false)
           (subst (λ (l : List Row). AreSound (header_of c.args.contents.now) (map row_value l)) c.as_slice-rows.ensures.value sound)
           (tree_from c.args.contents.now.rows.rows c.as_slice-rows.ensures.rises (sym c.if-not-is_tree.ensures))
           (subst (λ (l : List Row). AllHoldBytes (map row_value l)) c.as_slice-rows.ensures.value (c.hold_bytes.ensures.0 c.if-not-hold_bytes.false))

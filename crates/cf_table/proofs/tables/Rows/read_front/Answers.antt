@@ -5,5 +5,5 @@ use Rattle.cf_table.proofs.tables.Rows.read_front.Goals as goal
 
 pub returns-clause-none : goal.returns-clause-none
 returns-clause-none c =
-    no_table c.args.r.now c.read_rows.result
+    no_table c.args.format c.args.r.now c.read_rows.result
     (err_weaker _ _ c.read_rows.result (λ e h. inr (record { part = c.in_ok-count.count; is_part = (c.in_ok-count.ensures.fits, tt); mid = _; takes = c.in_ok-count.ensures.took; fault = h })) c.read_rows.ensures.fault)

@@ -1,6 +1,0 @@
-use Rattle.cf_table.proofs.ReadExit.{exits}
-use Rattle.cf_volume_image.proofs.NoImage.{no_payload}
-use Rattle.cf_volume_image.proofs.payloads.read_changes.Goals as goal
-
-pub returns-in_err-changes_in-clause-none : goal.returns-in_err-changes_in-clause-none
-returns-in_err-changes_in-clause-none c = exits _ _ _ c.from_residual.ensures.1 (no_payload c.args.b.now c.new-r.result _ c.new-r.ensures c.in_err-changes_in.ensures.fault)
