@@ -16,7 +16,7 @@ use Rattle.cf_table.specs.Means.{HasBytes, IsLater, is_modified_since}
 use Rattle.cf_table.specs.declared.rows.Row.{Row}
 use Rattle.cf_table.proofs.Above.{covered_push_above, numbers_push, some_pushed, some_pushed_above}
 use Rattle.cf_table.proofs.Meaning.{covered_push, flag_cleared, flag_padded, flag_sized, held_emptied, held_filled, held_sized, held_wrote, length_cleared, length_emptied, length_filled, length_wrote}
-use Rattle.cf_table.proofs.Places.{length_padded, length_resized, passes_past}
+use Rattle.cf_model.proofs.Places.{length_padded, length_resized, passes_past}
 
 -- a write and a size
 

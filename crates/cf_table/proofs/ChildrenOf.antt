@@ -14,13 +14,14 @@ use Rattle.cf_model.specs.Items.{Item}
 use Rattle.cf_model.specs.LookUp.{by_name, child_of, children, is_child_named}
 use Rattle.cf_model.specs.Numbers.{above}
 use Rattle.cf_model.specs.Words.{comes_before, put_in, same, sorted}
-use Rattle.cf_table.specs.Index.{AllAfter, InOrder, compared, entries_of, entry_id, entry_ids, entry_of, index_of, is_entry_in, is_entry_of, stands_before}
+use Rattle.cf_lists.specs.Ordered.{AllAfter, InOrder}
+use Rattle.cf_table.specs.Index.{compared, entries_of, entry_id, entry_ids, entry_of, index_of, is_entry_in, is_entry_of, stands_before}
 use Rattle.cf_table.specs.Means.{Means}
 use Rattle.cf_table.specs.Tables.{MeansAll, RisesFrom, child_rows, id_of, ids_of, is_child_row, rows_by_name}
 use Rattle.cf_table.specs.declared.rows.Row.{Row}
 use Rattle.cf_table.proofs.Indexed.{all_apart, compared_total, number_is}
 use Rattle.cf_table.proofs.NamedEntries.{by_id, first_of_both, less_is, same_is, second_of_both}
-use Rattle.cf_table.proofs.Ordered as ordered
+use Rattle.cf_lists.proofs.Ordered as ordered
 
 -- the one with a name
 

@@ -18,12 +18,13 @@ use Rattle.cf_base.specs.declared.ids.Usn.{Usn}
 use Rattle.cf_base.specs.declared.items.Pin.{Pin}
 use Rattle.cf_model.specs.Words.{put_in, sorted}
 use Rattle.cf_table.specs.Applied.{Moves, Steps, moves}
-use Rattle.cf_table.specs.Index.{AllAfter, InOrder, IsIndexed, IsPlaceOf, compared, entries_of, entry_at, entry_of, index_of, stands_before, without_entry}
+use Rattle.cf_lists.specs.Ordered.{AllAfter, InOrder}
+use Rattle.cf_table.specs.Index.{IsIndexed, IsPlaceOf, compared, entries_of, entry_at, entry_of, index_of, stands_before, without_entry}
 use Rattle.cf_table.specs.Means.{KeepsPlace}
 use Rattle.cf_table.specs.Tables.{IsRowAt, IsRowGap, IsTable, RisesFrom, SetsAt, with_row, without_row}
 use Rattle.cf_table.specs.declared.entries.Entry.{Entry}
 use Rattle.cf_table.specs.declared.rows.Row.{Row}
-use Rattle.cf_table.proofs.Ordered as ordered
+use Rattle.cf_lists.proofs.Ordered as ordered
 use Rattle.cf_table.proofs.TableMeans.{at_tail, before, gap_is_without, kept_above, not_there, remove_is_without, rises_without, set_is_with}
 
 -- the order

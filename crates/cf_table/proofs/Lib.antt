@@ -16,8 +16,6 @@ pub mod NextChange
 pub mod NoRow
 pub mod OneRow
 pub mod OneText
-pub mod Ordered
-pub mod Places
 pub mod ReadExit
 pub mod ReadRows
 pub mod ReadRuns

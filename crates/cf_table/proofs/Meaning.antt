@@ -9,7 +9,7 @@ use Rattle.cf_model.specs.Words.{by_place, passes_at, within}
 use Rattle.cf_model.specs.Items.{is_held, is_modified, Item}
 use Rattle.cf_base.specs.declared.ids.Usn.{Usn}
 use Rattle.cf_model.specs.Effects.{filled, filled_front, wrote, sized, emptied, cleared}
-use Rattle.cf_table.proofs.Places.{passes_past, passes_front, passes_back, passes_take, passes_drop, passes_padded_new, length_padded, length_resized, passes_resized_old, passes_resized_new, length_patched, passes_patched_before, passes_patched_filler, passes_patched_new, passes_patched_after}
+use Rattle.cf_model.proofs.Places.{passes_past, passes_front, passes_back, passes_take, passes_drop, passes_padded_new, length_padded, length_resized, passes_resized_old, passes_resized_new, length_patched, passes_patched_before, passes_patched_filler, passes_patched_new, passes_patched_after}
 
 -- b, or within, by where p is
 outside_before : (b : Bool) (s e p : ℕ) → p < s → b ≡ (b || within s e p)

@@ -11,7 +11,8 @@ use Rattle.std.proofs.lemmas.Cmp.{nat_cmp_total, nat_list_cmp_total, tied_itself
 use Rattle.std.proofs.lemmas.Map.Text.{is_eq-slice_cmp}
 use Rattle.cf_base.specs.declared.ids.ItemId.{ItemId}
 use Rattle.cf_model.specs.Words.{same}
-use Rattle.cf_table.specs.Index.{AllAfter, InOrder, IsPlaceOf, entry_at, entry_id, is_entry_in, is_entry_of, stands_before}
+use Rattle.cf_lists.specs.Ordered.{AllAfter, InOrder}
+use Rattle.cf_table.specs.Index.{IsPlaceOf, entry_at, entry_id, is_entry_in, is_entry_of, stands_before}
 use Rattle.cf_table.specs.declared.entries.Entry.{Entry}
 use Rattle.cf_table.proofs.Finds.{same_bytes}
 use Rattle.cf_table.proofs.Indexed.{number_is, place_tail}

@@ -24,7 +24,7 @@ use Rattle.cf_table.specs.Spelling.{EndBelow, HasRoom, extent_of, row_value}
 use Rattle.cf_table.specs.Tables.{AreTableRows, IsStored, IsTableRow, MeansAll, row_len, rows_len}
 use Rattle.cf_table.specs.declared.rows.Row.{Row}
 use Rattle.cf_table.proofs.Lengths.{row_length}
-use Rattle.cf_table.proofs.Places.{passes_past}
+use Rattle.cf_model.proofs.Places.{passes_past}
 use Rattle.cf_table.proofs.RunsOf.{covered_at, held_flags, length_flags, length_held, runs_of_contain, runs_of_runs}
 
 -- a set is the runs of flags

@@ -19,15 +19,6 @@ compared e f = ordering_then (nat_cmp e.parent.0 f.parent.0) (ordering_then (sli
 abbrev pub stands_before : Entry → Entry → Bool
 stands_before e f = is_lt (compared e f)
 
--- each entry comes before all after it
-abbrev pub AllAfter : {A : Type 0} → (A → A → Bool) → A → List A → Type 0
-AllAfter before x [] = Unit {0}
-AllAfter before x (y ∷ ys) = (before x y ≡ true) × AllAfter before x ys
-
-abbrev pub InOrder : {A : Type 0} → (A → A → Bool) → List A → Type 0
-InOrder before [] = Unit {0}
-InOrder before (x ∷ xs) = AllAfter before x xs × InOrder before xs
-
 -- how many entries come before the one that is asked for
 pub record IsPlaceOf (key : Entry) (entries : List Entry) (n : ℕ) : Type 0 where
   pub in_range : n ≤ length entries

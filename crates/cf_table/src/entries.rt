@@ -3,7 +3,8 @@
 ghost use Rattle.std.specs.Prelude.{◌≡◌, ◌<◌, IfOk, cond, filter, find, Some, None, true};
 ghost use Rattle.std.specs.Vec.{vec_capacity, vec_len};
 ghost use Rattle.cf_model.specs.Words.{put_in};
-ghost use Rattle.cf_table.specs.Index.{compared, entry_at, entry_id, entry_ids, entry_of, InOrder, is_entry_in, is_entry_of, IsPlaceOf, stands_before, without_entry};
+ghost use Rattle.cf_lists.specs.Ordered.{InOrder};
+ghost use Rattle.cf_table.specs.Index.{compared, entry_at, entry_id, entry_ids, entry_of, is_entry_in, is_entry_of, IsPlaceOf, stands_before, without_entry};
 
 use crate::rows::Row;
 use cf_base::{Blob, ItemId, OutOfMemory};

@@ -10,7 +10,8 @@ use Rattle.cf_model.specs.Missing.{Wait}
 use Rattle.cf_model.specs.Numbers.{same_key}
 use Rattle.cf_model.specs.Words.{put_in, says}
 use Rattle.cf_waits.proofs.Indexed as indexed
-use Rattle.cf_waits.specs.Books.{HoldsWaits, InOrder, at_number, found_of, index_of, is_entry_on, is_plain_wait, stands_before, wait_entry, without_entry}
+use Rattle.cf_lists.specs.Ordered.{InOrder}
+use Rattle.cf_waits.specs.Books.{HoldsWaits, at_number, found_of, index_of, is_entry_on, is_plain_wait, stands_before, wait_entry, without_entry}
 use Rattle.cf_waits.specs.Rising.{IsRising, wait_key}
 use Rattle.cf_waits.specs.declared.entries.Entry.{Entry}
 

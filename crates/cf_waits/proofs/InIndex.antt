@@ -12,9 +12,10 @@ use Rattle.std.proofs.lemmas.List.Sorted.{IsPartitionedBy-leb, IsPartitionedBy-l
 use Rattle.std.proofs.lemmas.Cmp.{nat_cmp_total, on_total, then_total}
 use Rattle.cf_base.specs.declared.ids.ItemId.{ItemId}
 use Rattle.cf_model.specs.Words.{put_in}
-use Rattle.cf_waits.specs.Books.{AllAfter, InOrder, IsPlaceOf, compared, is_entry_on, stands_before, without_entry}
+use Rattle.cf_lists.specs.Ordered.{AllAfter, InOrder}
+use Rattle.cf_waits.specs.Books.{IsPlaceOf, compared, is_entry_on, stands_before, without_entry}
 use Rattle.cf_waits.specs.declared.entries.Entry.{Entry}
-use Rattle.cf_waits.proofs.Ordered as ordered
+use Rattle.cf_lists.proofs.Ordered as ordered
 
 pub compared_total : IsTotalOrder compared
 compared_total = then_total (on_total (λ (e : Entry). e.item.0) nat_cmp_total) (on_total (λ (e : Entry). e.number) nat_cmp_total)

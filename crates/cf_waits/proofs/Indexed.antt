@@ -14,9 +14,10 @@ use Rattle.cf_base.specs.declared.ids.Key.{Key}
 use Rattle.cf_model.specs.Numbers.{same_key}
 use Rattle.cf_model.specs.Words.{put_in, says, sorted}
 use Rattle.cf_waits.proofs.InIndex.{compared_total}
-use Rattle.cf_waits.proofs.Ordered as ordered
+use Rattle.cf_lists.proofs.Ordered as ordered
 use Rattle.cf_waits.proofs.Rises.{all_above, below_differs, rises_filter, same_number}
-use Rattle.cf_waits.specs.Books.{AllAfter, InOrder, at_number, compared, found_of, index_of, is_entry_on, stands_before, with_found, without_entry}
+use Rattle.cf_lists.specs.Ordered.{AllAfter, InOrder}
+use Rattle.cf_waits.specs.Books.{at_number, compared, found_of, index_of, is_entry_on, stands_before, with_found, without_entry}
 use Rattle.cf_waits.specs.Rising.{IsRising, RisesTo}
 use Rattle.cf_waits.specs.declared.entries.Entry.{Entry}
 

@@ -8,7 +8,6 @@ pub mod Counts
 pub mod InIndex
 pub mod Indexed
 pub mod Numbered
-pub mod Ordered
 pub mod Planning
 pub mod Rises
 pub mod Soundness

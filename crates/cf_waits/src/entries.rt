@@ -2,7 +2,8 @@
 ghost use Rattle.std.specs.Prelude.{◌≡◌, ◌<◌, ◌≤◌, ◌+◌, filter};
 ghost use Rattle.std.specs.Vec.{vec_capacity, vec_len};
 ghost use Rattle.cf_model.specs.Words.{put_in};
-ghost use Rattle.cf_waits.specs.Books.{compared, InOrder, is_entry_on, IsPlaceOf, stands_before, without_entry};
+ghost use Rattle.cf_lists.specs.Ordered.{InOrder};
+ghost use Rattle.cf_waits.specs.Books.{compared, is_entry_on, IsPlaceOf, stands_before, without_entry};
 
 use cf_base::ItemId;
 use std::cmp::Ordering;

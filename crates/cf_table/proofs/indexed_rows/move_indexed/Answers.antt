@@ -1,6 +1,7 @@
 use Rattle.std.proofs.Common.{◌∙◌, List, ap, subst, sym}
 use Rattle.std.proofs.lemmas.List.{get_or_default}
-use Rattle.cf_table.specs.Index.{InOrder, entry_of, stands_before, without_entry}
+use Rattle.cf_lists.specs.Ordered.{InOrder}
+use Rattle.cf_table.specs.Index.{entry_of, stands_before, without_entry}
 use Rattle.cf_table.specs.declared.entries.Entry.{Entry}
 use Rattle.cf_table.specs.declared.rows.Row.{Row}
 use Rattle.cf_table.proofs.Indexed.{entries_in_order, entry_gone, moved_indexed, row_here, same_parts, without_in_order}

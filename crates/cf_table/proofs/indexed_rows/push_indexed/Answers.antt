@@ -1,6 +1,7 @@
 use Rattle.std.proofs.Common.{◌∙◌, List, ap, subst, sym}
 use Rattle.cf_model.specs.Words.{put_in}
-use Rattle.cf_table.specs.Index.{InOrder, stands_before}
+use Rattle.cf_lists.specs.Ordered.{InOrder}
+use Rattle.cf_table.specs.Index.{stands_before}
 use Rattle.cf_table.specs.declared.entries.Entry.{Entry}
 use Rattle.cf_table.proofs.Indexed.{entries_in_order, pushed_indexed}
 use Rattle.cf_table.proofs.indexed_rows.push_indexed.Goals as goal

@@ -1,5 +1,6 @@
 use Rattle.std.proofs.Common.{List, subst, sym}
-use Rattle.cf_table.specs.Index.{InOrder, stands_before}
+use Rattle.cf_lists.specs.Ordered.{InOrder}
+use Rattle.cf_table.specs.Index.{stands_before}
 use Rattle.cf_table.specs.declared.entries.Entry.{Entry}
 use Rattle.cf_table.proofs.Indexed.{entries_in_order, entry_gone, kept_entry, replaced_indexed, without_in_order}
 use Rattle.cf_table.proofs.indexed_rows.replace_indexed.Goals as goal

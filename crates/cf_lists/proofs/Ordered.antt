@@ -1,13 +1,13 @@
 -- Lists that are sorted by a total order, and what goes in and out of them.
-use Rattle.std.proofs.Common.{◌≡◌, ℕ, zero, suc, ◌<◌, arith, get_or, length, Bool, true, false, not, cond, List, [], ◌∷◌, ◌++◌, refl, sym, ap, ◌∙◌}
-use Rattle.std.specs.Prelude.{filter}
+use Rattle.std.proofs.Common.{◌≡◌, ℕ, zero, suc, ◌<◌, arith, get_or, length, Bool, true, false, not, cond, List, [], ◌∷◌, ◌++◌, refl, sym, ap, ◌∙◌, Option, Some, None}
+use Rattle.std.specs.Prelude.{filter, find}
 use Rattle.std.specs.Cmp.{IsTotalOrder}
 use Rattle.std.specs.Ordering.{is_lt, ordering_reverse}
 use Rattle.std.specs.declared.cmp.Ordering.{Ordering}
 use Rattle.std.specs.declared.cmp.Ordering.TheVariants.{Less, Equal, Greater}
 use Rattle.std.proofs.lemmas.Bool.{cond-true, cond-false}
 use Rattle.cf_model.specs.Words.{put_in, sorted}
-use Rattle.cf_waits.specs.Books.{AllAfter, InOrder}
+use Rattle.cf_lists.specs.Ordered.{AllAfter, InOrder}
 
 flip_lt : (a b : Ordering) → a ≡ ordering_reverse b → (b ≡ Equal → ⊥) → is_lt a ≡ not (is_lt b)
 flip_lt a Less e h = ap is_lt e
@@ -23,6 +23,18 @@ lt_is : (a : Ordering) → is_lt a ≡ true → a ≡ Less
 lt_is Less h = refl
 lt_is Equal h = let z : false ≡ true = h in cc
 lt_is Greater h = let z : false ≡ true = h in cc
+
+-- the first that passes
+abbrev pub first : {A : Type 0} → List A → Option A
+first [] = None
+first (x ∷ xs) = Some x
+
+pub find_first : {A : Type 0} (f : A → Bool) (xs : List A) → find f xs ≡ first (filter f xs)
+find_first f [] = refl
+find_first f (x ∷ xs) = by (find_first f xs) (f x) where
+  by : find f xs ≡ first (filter f xs) → (b : Bool) → cond b (Some x) (find f xs) ≡ first (cond b (x ∷ filter f xs) (filter f xs))
+  by rest true = refl
+  by rest false = rest
 
 module _ {A : Type 0} (R : A → A → Ordering) (o : IsTotalOrder R) where
   abbrev pub before : A → A → Bool
