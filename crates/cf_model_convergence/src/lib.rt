@@ -1,0 +1,4 @@
+//! When the items here and those of the remote come to be alike: laws over the definitions.
+#![tactic(auto)]
+
+pub mod settled;
