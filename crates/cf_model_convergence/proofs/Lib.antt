@@ -1,1 +1,2 @@
 pub mod SettledItems
+pub mod TidyRemotes

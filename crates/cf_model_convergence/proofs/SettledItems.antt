@@ -1,11 +1,10 @@
 -- Items that match are alike by their paths too.
 use Rattle.std.proofs.Common.{◌≡◌, ℕ, zero, suc, Bool, true, false, List, [], ◌∷◌, refl, sym, ◌∙◌, ap, subst, length, eq-eqb}
-use Rattle.std.specs.Prelude.{Option, Some, None, not, map, filter, cond, count_by, ◌+◌, ◌&&◌, ◌||◌, ◌==◌}
+use Rattle.std.specs.Prelude.{Option, Some, None, not, map, filter, count_by, ◌+◌, ◌&&◌, ◌||◌, ◌==◌}
 use Rattle.std.specs.Bool.{beq}
 use Rattle.std.specs.List.{list_all, list_any}
 use Rattle.std.proofs.lemmas.Bool.{eqb-true}
 use Rattle.std.proofs.lemmas.List.Sums.{length-filter}
-use Rattle.cf_base.specs.declared.ids.ItemId.{ItemId}
 use Rattle.cf_base.specs.declared.ids.Rid.{Rid}
 use Rattle.cf_model.specs.Books.{Tombstone}
 use Rattle.cf_model.specs.Identities.{target_of}

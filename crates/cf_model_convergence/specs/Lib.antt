@@ -1,2 +1,3 @@
 pub mod Matching
 pub mod Quiet
+pub mod Tidy

@@ -1,5 +1,5 @@
 -- Items here that match their targets.
-use Rattle.std.specs.Prelude.{ℕ, Bool, true, false, [], Some, ◌∷◌, ◌≡◌}
+use Rattle.std.specs.Prelude.{true, false, [], Some, ◌∷◌, ◌≡◌}
 use Rattle.cf_model.specs.Identities.{parent_target, target_of}
 use Rattle.cf_model.specs.Items.{Item, item_of}
 use Rattle.cf_model.specs.LookUp.{is_excluded, item_line}

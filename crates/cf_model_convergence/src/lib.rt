@@ -1,4 +1,5 @@
 //! When the items here and those of the remote come to be alike: laws over the definitions.
 #![tactic(auto)]
 
+pub mod remotes;
 pub mod settled;
