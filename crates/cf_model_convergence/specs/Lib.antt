@@ -1,3 +1,4 @@
 pub mod Matching
 pub mod Quiet
+pub mod Scripts
 pub mod Tidy

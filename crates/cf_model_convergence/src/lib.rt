@@ -1,5 +1,6 @@
 //! When the items here and those of the remote come to be alike: laws over the definitions.
 #![tactic(auto)]
 
+pub mod examples;
 pub mod remotes;
 pub mod settled;
