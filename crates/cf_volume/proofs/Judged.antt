@@ -146,7 +146,7 @@ module _ (s : State) (k : Known) (v : Volume) (c : Change) (row planned : Row) (
         both false e = fits_of (put_change c v).items (put_change c v).book (stay_fits e) ∙ sym e
 
 -- how many blocks a planned change puts
-plan_puts : (s : State) (k : Known) (v : Volume) (c : Change) (pin : Pin) (n : Usn) (row planned : Row) (blocks : List ℕ) → At s k v → stays c ≡ true → row_of k.table.rows (item_of_change c) ≡ Some row → Plans c pin n row planned blocks
+pub plan_puts : (s : State) (k : Known) (v : Volume) (c : Change) (pin : Pin) (n : Usn) (row planned : Row) (blocks : List ℕ) → At s k v → stays c ≡ true → row_of k.table.rows (item_of_change c) ≡ Some row → Plans c pin n row planned blocks
     → length (puts_into v.items c) ≡ length blocks
 plan_puts s k v c pin n row planned blocks at kind found plan =
     let item = row_holds (cluster_on s.seen) v.book k.table.rows v.items (item_of_change c) row at.now.rows found in

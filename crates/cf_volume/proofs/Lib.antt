@@ -17,6 +17,7 @@ pub mod Views
 pub mod Stopped
 pub mod Rebooks
 pub mod Judged
+pub mod WrittenBytes
 pub mod SeenGone
 pub mod GoneFits
 pub mod GoneCalls

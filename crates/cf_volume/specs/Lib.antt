@@ -15,3 +15,4 @@ pub mod Drafts
 pub mod Drafting
 pub mod Tallies
 pub mod Besides
+pub mod Written

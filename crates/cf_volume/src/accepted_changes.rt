@@ -1,15 +1,17 @@
 //! Changes of a volume, and commits.
 
-ghost use Rattle.std.specs.Prelude.{◌≡◌, true, false, length, IfErr, IfOk, OnOk};
-ghost use Rattle.cf_disk.specs.Disk.{Leaves};
+ghost use Rattle.std.specs.Prelude.{◌≡◌, ◌+◌, true, false, length, IfErr, IfOk, OnOk};
+ghost use Rattle.cf_disk.specs.Disk.{Counts, Leaves};
 ghost use Rattle.cf_model.specs.Changes.{may_need_room, next_number};
+ghost use Rattle.cf_model.specs.Costs.{most_of_change};
 ghost use Rattle.cf_model.specs.Points.{with_room_point, with_sure_point};
 ghost use Rattle.cf_model.specs.State.{Volume as model};
 ghost use Rattle.cf_volume_points.specs.At.{Applied, At, StandsEither, StandsLast};
 ghost use Rattle.cf_volume_points.specs.Keeping.{FitsBook, IsNextId};
 ghost use Rattle.cf_volume_points.specs.Sound.{IsKeepable};
-ghost use Rattle.cf_table.specs.Changing.{Fits};
+ghost use Rattle.cf_table.specs.Changing.{Fits, item_of_change};
 ghost use Rattle.cf_volume.specs.Calls.{Answers, Breaks, IfBroken, IsCause, Runs, StopsOnly};
+ghost use Rattle.cf_volume.specs.Written.{IsAtPoint, NotesOnly, WritesAtMost, commit_bytes};
 
 use crate::commits::commit_parts;
 use crate::room_commits::{accept_with_room, has_place};
@@ -19,7 +21,8 @@ use cf_base::{CallError, Change, Code, Usn};
 use cf_disk::Disk;
 
 impl<D: Disk> Volume<D> {
-    /// Makes all accepted changes durable, and gives their count. Broken where an earlier call broke the volume. Device
+    /// Makes all accepted changes durable, and gives their count. It writes a payload of the rows and records that are
+    /// noted or new since the last point, and of no others, or the whole image where that has no room. Broken where an earlier call broke the volume. Device
     /// where a call of the disk failed, whose count of faults rose; OutOfMemory where there is none; both break the volume.
     /// NotAVolume, which breaks it too, where the table is too long for an image, as that of no volume is.
     ///
@@ -35,6 +38,8 @@ impl<D: Disk> Volume<D> {
         ensures usable { OnOk result (self.new.known.broken ≡ false) }
         ensures cause { IfErr result (λ e. IsCause e (D.state self.old.disk) (D.state self.new.disk)) }
         ensures runs { Runs (D.state self.old.disk) (D.state self.new.disk) }
+        ensures noted { OnOk result (IsAtPoint self.new.known) }
+        ensures written { Counts (commit_bytes self.old.known) result (D.state self.old.disk) (D.state self.new.disk) }
         ensures table { self.new.known.table ≡ self.old.known.table }
         ensures records { self.new.known.records ≡ self.old.known.records }
     {
@@ -51,7 +56,8 @@ impl<D: Disk> Volume<D> {
     }
 
     /// Adds one change, and gives its number. It is durable with the next commit. Where it needs more clusters than are
-    /// free, but no more than a commit makes free, a commit comes first.
+    /// free, but no more than a commit makes free, a commit comes first. Beside that it writes at most the blocks into which
+    /// it puts bytes.
     pub fn apply(&mut self, change: &Change) -> Result<Usn, CallError>
         requires fits { Fits change.now self.old.known.table.rows }
         requires next { IsNextId change.now self.old.known.table.next }
@@ -60,6 +66,9 @@ impl<D: Disk> Volume<D> {
         ensures why { (v : model) → At (D.state self.old.disk) self.old.known v → (may_need_room change.now v ≡ true → IsKeepable v) → self.old.known.broken ≡ false → Answers change.now v self.old result self.new }
         ensures crash { (v : model) → At (D.state self.old.disk) self.old.known v → (may_need_room change.now v ≡ true → IsKeepable v) → Leaves (D.state self.old.disk) (D.state self.new.disk) (StandsEither v) }
         ensures kept_crash { (v : model) → At (D.state self.old.disk) self.old.known v → may_need_room change.now v ≡ false → Leaves (D.state self.old.disk) (D.state self.new.disk) (StandsLast v) }
+        ensures noted { OnOk result (NotesOnly (item_of_change change.now) self.old.known self.new.known) }
+        ensures written { (v : model) → At (D.state self.old.disk) self.old.known v → (may_need_room change.now v ≡ true → IsKeepable v) → WritesAtMost (commit_bytes self.old.known + most_of_change v.items change.now) (D.state self.old.disk) (D.state self.new.disk) }
+        ensures kept_written { (v : model) → At (D.state self.old.disk) self.old.known v → may_need_room change.now v ≡ false → WritesAtMost (most_of_change v.items change.now) (D.state self.old.disk) (D.state self.new.disk) }
         ensures broken { IfBroken self.old result self.new }
         ensures breaks { IfErr result (λ e. Breaks e self.new.known) }
         ensures usable { OnOk result (self.new.known.broken ≡ false) }

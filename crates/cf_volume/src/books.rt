@@ -9,6 +9,7 @@ ghost use Rattle.cf_model.specs.State.{Volume as model};
 ghost use Rattle.cf_volume_points.specs.At.{At};
 ghost use Rattle.cf_table.specs.Tables.{row_of};
 ghost use Rattle.cf_volume.specs.Calls.{Breaks, HasRecords, IfBroken, IsMemory, WhyAux, put_record};
+ghost use Rattle.cf_volume.specs.Written.{NotesOnly};
 
 use crate::aux_puts::{put_all, put_aux};
 use crate::row_notes::{anchor_row, touch_row};
@@ -23,6 +24,7 @@ impl<D: Disk> Volume<D> {
         requires there { row_of self.old.known.table.rows id ≡ None → ⊥ }
         ensures ok { (v : model) (i : Item) → At (D.state self.old.disk) self.old.known v → item_of v.items id ≡ Some i → OnOk result (At (D.state self.new.disk) self.new.known (record v { book = with_anchor id i.number v.book })) }
         ensures only { self.old.known.broken ≡ false → IfErr result IsMemory }
+        ensures noted { OnOk result (NotesOnly id self.old.known self.new.known) }
         ensures disk { self.new.disk ≡ self.old.disk }
         ensures broken { IfBroken self.old result self.new }
         ensures breaks { IfErr result (λ e. Breaks e self.new.known) }
@@ -46,6 +48,7 @@ impl<D: Disk> Volume<D> {
         requires there { row_of self.old.known.table.rows id ≡ None → ⊥ }
         ensures ok { (v : model) → At (D.state self.old.disk) self.old.known v → OnOk result (At (D.state self.new.disk) self.new.known (record v { book = with_access id v.book })) }
         ensures only { self.old.known.broken ≡ false → IfErr result IsMemory }
+        ensures noted { OnOk result (NotesOnly id self.old.known self.new.known) }
         ensures disk { self.new.disk ≡ self.old.disk }
         ensures broken { IfBroken self.old result self.new }
         ensures breaks { IfErr result (λ e. Breaks e self.new.known) }

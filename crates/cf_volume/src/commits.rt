@@ -1,7 +1,7 @@
 //! Commits.
 
 ghost use Rattle.std.specs.Prelude.{◌≡◌, [], IfErr, IfOk, OnOk};
-ghost use Rattle.cf_disk.specs.Disk.{Leaves, size_of};
+ghost use Rattle.cf_disk.specs.Disk.{Counts, Leaves, size_of};
 ghost use Rattle.cf_model.specs.Points.{with_room_point, with_sure_point};
 ghost use Rattle.cf_model.specs.State.{Volume};
 ghost use Rattle.cf_volume_points.specs.At.{At, StandsEither};
@@ -10,6 +10,7 @@ ghost use Rattle.cf_volume.specs.Accepted.{StaysSteady};
 ghost use Rattle.cf_volume.specs.Calls.{IsCause, Runs, StopsOnly};
 ghost use Rattle.cf_volume.specs.Notes.{NotesNothing};
 ghost use Rattle.cf_volume.specs.Steady.{Steady, known_of};
+ghost use Rattle.cf_volume.specs.Written.{IsAtPoint, commit_bytes};
 
 use crate::parts::Parts;
 use crate::stop_causes::fail_of;
@@ -54,6 +55,8 @@ pub(crate) fn commit_parts<D: Disk>(disk: &mut D, parts: &mut Parts) -> Result<(
     ensures crash { (v : Volume) → At (D.state disk.old) (known_of parts.old) v → IsKeepable v → Leaves (D.state disk.old) (D.state disk.new) (StandsEither v) }
     ensures steady { StaysSteady (size_of (D.state disk.new)) (known_of parts.new) result }
     ensures kept { OnOk result (parts.new.kept ≡ parts.old.contents.count) }
+    ensures noted { OnOk result (IsAtPoint (known_of parts.new)) }
+    ensures written { Counts (commit_bytes (known_of parts.old)) result (D.state disk.old) (D.state disk.new) }
     ensures runs { Runs (D.state disk.old) (D.state disk.new) }
     ensures cause { IfErr result (λ e. IsCause e (D.state disk.old) (D.state disk.new)) }
     ensures contents { parts.new.contents ≡ parts.old.contents }

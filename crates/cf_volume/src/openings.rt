@@ -6,9 +6,11 @@ ghost use Rattle.cf_base.specs.declared.codes.Code.TheVariants.{Exhausted, NotAV
 ghost use Rattle.cf_base.specs.declared.ids.Usn.{Usn};
 ghost use Rattle.cf_volume_commit.specs.Loaded as loaded;
 ghost use Rattle.cf_volume_commit.specs.Loaded.{HoldsImage};
-ghost use Rattle.cf_disk.specs.Disk.{Leaves, size_of};
+ghost use Rattle.cf_disk.specs.Disk.{Leaves, capped, size_of};
+ghost use Rattle.cf_journal.specs.Content.{Content, Stands};
 ghost use Rattle.cf_journal.specs.Settled.{IsFitSize};
 ghost use Rattle.cf_journal.specs.Steps.{ReadsOnly};
+ghost use Rattle.cf_volume_image.specs.Contents.{image_of};
 ghost use Rattle.cf_model.specs.Books.{Book};
 ghost use Rattle.cf_model.specs.Formats.{Image};
 ghost use Rattle.cf_model.specs.Numbers.{most};
@@ -19,6 +21,7 @@ ghost use Rattle.cf_volume.specs.Calls.{IsCause, IsRefused, Runs, StopsOnly};
 ghost use Rattle.cf_volume.specs.Notes.{NotesNothing};
 ghost use Rattle.cf_volume.specs.Openings.{IsOpenedFrom};
 ghost use Rattle.cf_volume.specs.Steady.{Steady, known_of};
+ghost use Rattle.cf_volume.specs.Written.{IsAtPoint, WritesAtMost, contents_in};
 
 use crate::commits::nothing_noted;
 use crate::parts::Parts;
@@ -32,7 +35,8 @@ use std::alloc::Global;
 // The parts of a volume that was just made or opened. Nothing is noted yet.
 fn parts_of(alloc: Global, mut then: Earlier, opened: Opened) -> Parts
     requires { NotesNothing then.next then }
-    ensures { known_of result ≡ loaded.known_of opened }
+    ensures known { known_of result ≡ loaded.known_of opened }
+    ensures noted { IsAtPoint (known_of result) }
 {
     then.next = opened.contents.rows.next();
     let kept = opened.contents.count;
@@ -53,6 +57,7 @@ fn create_parts<D: Disk>(alloc: Global, disk: &mut D) -> Result<Parts, CallError
     ensures ok { IfOk result (λ p. At (D.state disk.new) (known_of p) (new_volume (clusters_on (D.state disk.old).seen))) }
     ensures steady { IfOk result (λ p. Steady (size_of (D.state disk.new)) (known_of p)) }
     ensures usable { IfOk result (λ p. p.broken ≡ false) }
+    ensures noted { IfOk result (λ p. IsAtPoint (known_of p)) }
     ensures only { IfErr result StopsOnly }
     ensures cause { IfErr result (λ e. IsCause e (D.state disk.old) (D.state disk.new)) }
     ensures runs { Runs (D.state disk.old) (D.state disk.new) }
@@ -73,12 +78,15 @@ fn load_parts<D: Disk>(alloc: Global, disk: &mut D) -> Result<Parts, CallError>
     ensures unwritten { IfErr result (λ e. IsRefused e NotAVolume ⊎ IsRefused e Exhausted → ReadsOnly (D.state disk.old) (D.state disk.new)) }
     ensures steady { IfOk result (λ p. Steady (size_of (D.state disk.new)) (known_of p)) }
     ensures usable { IfOk result (λ p. p.broken ≡ false) }
+    ensures noted { IfOk result (λ p. IsAtPoint (known_of p)) }
     ensures none { (epoch : ℕ) (log : List (Usn × Change)) (b : Book) → Standing epoch (D.state disk.old).seen log b → IfErr result (λ e. IsRefused e NotAVolume → ⊥) }
     ensures last { (epoch : ℕ) (log : List (Usn × Change)) (b : Book) → Standing epoch (D.state disk.old).seen log b → IfErr result (λ e. IsRefused e Exhausted → epoch ≡ most) }
     ensures more { (epoch : ℕ) (log : List (Usn × Change)) (b : Book) → Standing epoch (D.state disk.old).seen log b → IfOk result (λ p. epoch < most) }
     ensures only { IfErr result (λ e. StopsOnly e ⊎ (IsRefused e NotAVolume ⊎ IsRefused e Exhausted)) }
     ensures crash { (epoch : ℕ) (log : List (Usn × Change)) (b : Book) → Standing epoch (D.state disk.old).seen log b → Leaves (D.state disk.old) (D.state disk.new) (loaded.StandsOrWas epoch log b (D.state disk.old)) }
     ensures cause { IfErr result (λ e. IsCause e (D.state disk.old) (D.state disk.new)) }
+    ensures written { (x : Content) → Stands (D.state disk.old).seen x → IfOk result (λ p. (D.state disk.new).written ≡ capped ((D.state disk.old).written + loaded.opening_bytes x (image_of (contents_in (known_of p))))) }
+    ensures at_most { WritesAtMost 1306654 (D.state disk.old) (D.state disk.new) }
     ensures runs { Runs (D.state disk.old) (D.state disk.new) }
 {
     let then = nothing_noted(alloc, ItemId(0))?;
@@ -92,6 +100,7 @@ impl<D: Disk> Volume<D> {
         requires { IsFitSize (size_of (D.state disk)) }
         ensures ok { IfOk result (λ w. At (D.state w.disk) w.known (new_volume (clusters_on (D.state disk).seen))) }
         ensures usable { IfOk result (λ w. w.known.broken ≡ false) }
+        ensures noted { IfOk result (λ w. IsAtPoint w.known) }
         ensures only { IfErr result (λ e. StopsOnly e.1) }
         ensures cause { IfErr result (λ e. IsCause e.1 (D.state disk) (D.state e.0)) }
         ensures runs { IfOk result (λ w. Runs (D.state disk) (D.state w.disk)) }
@@ -105,7 +114,7 @@ impl<D: Disk> Volume<D> {
 
     /// Opens the volume on a disk of a fit size: what the image that the disk holds tells, in the next epoch. NotAVolume
     /// exactly where the disk holds no image of a volume, and Exhausted exactly where it holds one of the last epoch; then
-    /// nothing is written. Device where a call of the disk failed, whose count of faults rose. OutOfMemory where there is none.
+    /// nothing is written. Else 54 bytes are, or the whole image where the journal has no room for them. Device where a call of the disk failed, whose count of faults rose. OutOfMemory where there is none.
     ///
     /// A crash at any moment leaves what it might have left before, or the same changes and book, with the epoch as it was
     /// or raised.
@@ -123,7 +132,10 @@ impl<D: Disk> Volume<D> {
         ensures crash { (epoch : ℕ) (log : List (Usn × Change)) (b : Book) → Standing epoch (D.state disk).seen log b → IfOk result (λ w. Leaves (D.state disk) (D.state w.disk) (loaded.StandsOrWas epoch log b (D.state disk))) }
         ensures crash_back { (epoch : ℕ) (log : List (Usn × Change)) (b : Book) → Standing epoch (D.state disk).seen log b → IfErr result (λ e. Leaves (D.state disk) (D.state e.0) (loaded.StandsOrWas epoch log b (D.state disk))) }
         ensures usable { IfOk result (λ w. w.known.broken ≡ false) }
+        ensures noted { IfOk result (λ w. IsAtPoint w.known) }
         ensures cause { IfErr result (λ e. IsCause e.1 (D.state disk) (D.state e.0)) }
+        ensures written { (x : Content) → Stands (D.state disk).seen x → IfOk result (λ w. (D.state w.disk).written ≡ capped ((D.state disk).written + loaded.opening_bytes x (image_of (contents_in w.known)))) }
+        ensures at_most { IfErr result (λ e. WritesAtMost 1306654 (D.state disk) (D.state e.0)) }
         ensures runs { IfOk result (λ w. Runs (D.state disk) (D.state w.disk)) }
         ensures runs_back { IfErr result (λ e. Runs (D.state disk) (D.state e.0)) }
     {

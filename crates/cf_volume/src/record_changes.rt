@@ -11,6 +11,7 @@ ghost use Rattle.cf_table.specs.Changing.{item_of_change, stays};
 ghost use Rattle.cf_table.specs.Tables.{row_of};
 ghost use Rattle.cf_volume.specs.Calls.{IsCause, IsKept, IsPut};
 ghost use Rattle.cf_volume.specs.Steady.{Steady, known_of};
+ghost use Rattle.cf_volume.specs.Written.{NotesOnly};
 
 use crate::parts::Parts;
 use cf_base::{CallError, Change, Code, Usn};
@@ -64,6 +65,7 @@ pub(crate) fn put_absent<D: Disk>(
     ensures kept { IsKept disk.now (known_of parts.old) result disk.now (known_of parts.new) }
     ensures steady { OnOk result (Steady (size_of (D.state disk.now)) (known_of parts.new)) }
     ensures cause { IfErr result (λ e. IsCause e (D.state disk.now) (D.state disk.now)) }
+    ensures noted { OnOk result (NotesOnly (item_of_change change.now) (known_of parts.old) (known_of parts.new)) }
     ensures broken { parts.new.broken ≡ parts.old.broken }
 {
     let _ = disk;

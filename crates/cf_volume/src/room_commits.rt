@@ -3,16 +3,18 @@
 ghost use Rattle.std.specs.Prelude.{◌≡◌, ◌≤◌, ◌<◌, ◌+◌, ◌∷◌, [], None, false, true, IfErr, IfOk, IsFalse, IsTrue, OnOk};
 ghost use Rattle.cf_disk.specs.Disk.{Leaves, size_of};
 ghost use Rattle.cf_model.specs.Changes.{may_need_room, put_change, why_no_room};
+ghost use Rattle.cf_model.specs.Costs.{most_of_change};
 ghost use Rattle.cf_model.specs.Numbers.{usn_after};
 ghost use Rattle.cf_model.specs.Points.{with_room_point};
 ghost use Rattle.cf_model.specs.State.{Volume};
 ghost use Rattle.cf_volume_points.specs.At.{Applied, At, StandsEither, StandsLast};
 ghost use Rattle.cf_volume_points.specs.Keeping.{FitsBook, IsNextId};
 ghost use Rattle.cf_volume_points.specs.Sound.{IsKeepable};
-ghost use Rattle.cf_table.specs.Changing.{Fits, stays};
+ghost use Rattle.cf_table.specs.Changing.{Fits, item_of_change, stays};
 ghost use Rattle.cf_volume.specs.Accepted.{IsDone, IsJudged, StaysSteady};
 ghost use Rattle.cf_volume.specs.Calls.{Answers, IsCause, IsKept, Runs, StopsOnly};
 ghost use Rattle.cf_volume.specs.Steady.{Steady, known_of};
+ghost use Rattle.cf_volume.specs.Written.{NotesOnly, WritesAtMost, commit_bytes};
 
 use crate::commits::commit_parts;
 use crate::copy::files::put_copy;
@@ -54,8 +56,10 @@ fn put_in_place<D: Disk>(
     ensures kept { IsKept disk.old (known_of parts.old) result disk.new (known_of parts.new) }
     ensures steady { OnOk result (Steady (size_of (D.state disk.new)) (known_of parts.new)) }
     ensures crash { (v : Volume) → At (D.state disk.old) (known_of parts.old) v → Leaves (D.state disk.old) (D.state disk.new) (StandsLast v) }
+    ensures written { (v : Volume) → At (D.state disk.old) (known_of parts.old) v → WritesAtMost (most_of_change v.items change.now) (D.state disk.old) (D.state disk.new) }
     ensures runs { Runs (D.state disk.old) (D.state disk.new) }
     ensures cause { IfErr result (λ e. IsCause e (D.state disk.old) (D.state disk.new)) }
+    ensures noted { OnOk result (NotesOnly (item_of_change change.now) (known_of parts.old) (known_of parts.new)) }
     ensures broken { parts.new.broken ≡ parts.old.broken }
 {
     if is_there(&parts.contents.rows, item_of(change)) {
@@ -82,8 +86,10 @@ fn accept<D: Disk>(
     ensures kept { IsKept disk.old (known_of parts.old) result disk.new (known_of parts.new) }
     ensures steady { OnOk result (Steady (size_of (D.state disk.new)) (known_of parts.new)) }
     ensures crash { (v : Volume) → At (D.state disk.old) (known_of parts.old) v → Leaves (D.state disk.old) (D.state disk.new) (StandsLast v) }
+    ensures written { (v : Volume) → At (D.state disk.old) (known_of parts.old) v → WritesAtMost (most_of_change v.items change.now) (D.state disk.old) (D.state disk.new) }
     ensures runs { Runs (D.state disk.old) (D.state disk.new) }
     ensures cause { IfErr result (λ e. IsCause e (D.state disk.old) (D.state disk.new)) }
+    ensures noted { OnOk result (NotesOnly (item_of_change change.now) (known_of parts.old) (known_of parts.new)) }
     ensures broken { parts.new.broken ≡ parts.old.broken }
 {
     match change {
@@ -109,8 +115,10 @@ fn accept_after_commit<D: Disk>(
     ensures done { (v : Volume) → At (D.state disk.old) (known_of parts.old) v → IsKeepable v → FitsBook change.now v.book → OnOk result (At (D.state disk.new) (known_of parts.new) (put_change change.now (with_room_point v))) }
     ensures steady { StaysSteady (size_of (D.state disk.new)) (known_of parts.new) result }
     ensures crash { (v : Volume) → At (D.state disk.old) (known_of parts.old) v → IsKeepable v → Leaves (D.state disk.old) (D.state disk.new) (StandsEither v) }
+    ensures written { (v : Volume) → At (D.state disk.old) (known_of parts.old) v → IsKeepable v → WritesAtMost (commit_bytes (known_of parts.old) + most_of_change v.items change.now) (D.state disk.old) (D.state disk.new) }
     ensures runs { Runs (D.state disk.old) (D.state disk.new) }
     ensures cause { IfErr result (λ e. IsCause e (D.state disk.old) (D.state disk.new)) }
+    ensures noted { OnOk result (NotesOnly (item_of_change change.now) (known_of parts.old) (known_of parts.new)) }
     ensures broken { parts.new.broken ≡ parts.old.broken }
 {
     commit_parts(disk, parts)?;
@@ -137,8 +145,11 @@ pub(crate) fn accept_with_room<D: Disk>(
     ensures steady { StaysSteady (size_of (D.state disk.new)) (known_of parts.new) result }
     ensures crash { (v : Volume) → At (D.state disk.old) (known_of parts.old) v → (may_need_room change.now v ≡ true → IsKeepable v) → Leaves (D.state disk.old) (D.state disk.new) (StandsEither v) }
     ensures kept_crash { (v : Volume) → At (D.state disk.old) (known_of parts.old) v → may_need_room change.now v ≡ false → Leaves (D.state disk.old) (D.state disk.new) (StandsLast v) }
+    ensures written { (v : Volume) → At (D.state disk.old) (known_of parts.old) v → (may_need_room change.now v ≡ true → IsKeepable v) → WritesAtMost (commit_bytes (known_of parts.old) + most_of_change v.items change.now) (D.state disk.old) (D.state disk.new) }
+    ensures kept_written { (v : Volume) → At (D.state disk.old) (known_of parts.old) v → may_need_room change.now v ≡ false → WritesAtMost (most_of_change v.items change.now) (D.state disk.old) (D.state disk.new) }
     ensures runs { Runs (D.state disk.old) (D.state disk.new) }
     ensures cause { IfErr result (λ e. IsCause e (D.state disk.old) (D.state disk.new)) }
+    ensures noted { OnOk result (NotesOnly (item_of_change change.now) (known_of parts.old) (known_of parts.new)) }
     ensures broken { parts.new.broken ≡ parts.old.broken }
 {
     if parts.contents.count == u64::MAX {

@@ -17,3 +17,4 @@ pub mod Refusals
 pub mod SavedText
 pub mod ToldPins
 pub mod LaterNumbers
+pub mod OpenedBytes

@@ -1,5 +1,5 @@
 -- What is known of a volume that was just made or opened.
-use Rattle.std.specs.Prelude.{ℕ, false, List, [], ◌∷◌, map, All, ◌≡◌, ◌⊎◌, ◌+◌, ◌<◌}
+use Rattle.std.specs.Prelude.{ℕ, false, List, [], ◌∷◌, length, map, cond, nat_lt, All, ◌≡◌, ◌⊎◌, ◌+◌, ◌<◌}
 use Rattle.cf_base.specs.declared.changes.Change.{Change}
 use Rattle.cf_base.specs.declared.codes.Code.TheVariants as code
 use Rattle.cf_base.specs.declared.codes.CallError.{CallError}
@@ -13,11 +13,12 @@ use Rattle.cf_volume_image.specs.Contents.{image_of}
 use Rattle.cf_volume_image.specs.States.{IsContents, Tells}
 use Rattle.cf_journal.specs.Content.{Content}
 use Rattle.cf_journal.specs.Content as journal
+use Rattle.cf_journal.specs.Format.{size_of_records}
 use Rattle.cf_journal.specs.Settled.{Settled}
 use Rattle.cf_journal.specs.declared.failures.JournalError.{JournalError}
 use Rattle.cf_journal.specs.declared.failures.JournalError.TheVariants as failure
 use Rattle.cf_model.specs.Books.{Book, no_book}
-use Rattle.cf_model.specs.Formats.{Header, Image}
+use Rattle.cf_model.specs.Formats.{Header, Image, spell_image}
 use Rattle.cf_model.specs.Items.{root}
 use Rattle.cf_model.specs.Numbers.{most}
 use Rattle.cf_model.specs.Rows.{row_of}
@@ -98,3 +99,8 @@ StandsOrWas epoch log b old c = old.may_leave c ⊎ (Standing epoch c log b ⊎ 
 -- the image of a new volume
 abbrev pub first_image : ℕ → Image
 first_image epoch = record { header = record { last = record { epoch = epoch; place = 0 }; count = 0; next = record { 0 = 2 }; clock = 0 }; rows = row_of no_book [] root ∷ []; records = [] }
+
+-- What an opening writes: a payload of a header alone, where it has room behind those of the content, and else the whole
+-- image.
+abbrev pub opening_bytes : Content → Image → ℕ
+opening_bytes x i = cond (nat_lt 262144 (size_of_records x.payloads + 54)) (30 + length (spell_image i)) 54

@@ -6,7 +6,7 @@ ghost use Rattle.cf_base.specs.declared.codes.Code.TheVariants as code;
 ghost use Rattle.cf_base.specs.declared.codes.CallError.TheVariants as fail;
 ghost use Rattle.cf_base.specs.declared.ids.Usn.{Usn};
 ghost use Rattle.cf_volume_commit.specs.Leading.{CanBeWritten, bytes_written};
-ghost use Rattle.cf_volume_commit.specs.Loaded.{Finds, HoldsImage, StandsOrWas, StandsThen, fail_of, known_of, number_after, raised_image};
+ghost use Rattle.cf_volume_commit.specs.Loaded.{Finds, HoldsImage, StandsOrWas, StandsThen, fail_of, known_of, number_after, opening_bytes, raised_image};
 ghost use Rattle.cf_clusters.specs.Roles.{Opens, committed};
 ghost use Rattle.cf_disk.specs.Disk.{size_of, capped, Counts, Only, Leaves};
 ghost use Rattle.cf_volume_image.specs.ClusterLists.{clusters_in};
@@ -212,8 +212,8 @@ fn find<D: Disk>(alloc: Global, disk: &mut D) -> Result<Parts, CallError>
     parts_of(alloc, opened, clusters)
 }
 
-/// Opens the volume on the disk and raises its epoch by one, which is appended to the journal, or else a whole image is
-/// written. NotAVolume exactly where the disk holds no image of a volume, and Exhausted exactly where it holds one of the
+/// Opens the volume on the disk and raises its epoch by one, which is appended to the journal in 54 bytes, or else a whole
+/// image is written. NotAVolume exactly where the disk holds no image of a volume, and Exhausted exactly where it holds one of the
 /// last epoch; both before anything is written. Device where a call of the disk failed, whose count of faults rose. OutOfMemory
 /// where there is none.
 ///
@@ -234,6 +234,8 @@ pub fn load<D: Disk>(alloc: Global, disk: &mut D) -> Result<Parts, CallError>
     ensures sound { IfOk result (λ p. Sound (size_of (D.state disk.old)) (known_of p)) }
     ensures later { IfOk result (λ p. IsNext (usn_after p.contents.last.epoch p.contents.last.place) p.contents.rows.rows) }
     ensures usable { IfOk result (λ p. p.journal.broken ≡ false) }
+    ensures written { (x : Content) → Stands (D.state disk.old).seen x → IfOk result (λ p. (D.state disk.new).written ≡ capped ((D.state disk.old).written + opening_bytes x (image_of p.contents))) }
+    ensures at_most { (D.state disk.new).written ≤ (D.state disk.old).written + 1306654 }
     ensures same_size { size_of (D.state disk.new) ≡ size_of (D.state disk.old) }
     ensures powers { (D.state disk.new).powers ≡ (D.state disk.old).powers }
     ensures faults { (D.state disk.old).faults ≤ (D.state disk.new).faults }

@@ -86,6 +86,7 @@ pub(crate) fn copy_item<D: Disk>(
     requires spellable { IsSpellable planned }
     ensures copied { OnOk result (Duplicates from planned (D.state disk.old) (D.state disk.new) held.old held.new rows.old rows.new) }
     ensures crash { Leaves (D.state disk.old) (D.state disk.new) (KeepsWhere IsCommitted held.old (D.state disk.old)) }
+    ensures ran { (r : Row) → row_of rows.old.rows from ≡ Some r → Ran (4096 * length r.extents) (D.state disk.old) (D.state disk.new) }
     ensures runs { Runs (D.state disk.old) (D.state disk.new) }
     ensures cause { IfErr result (λ e. IsStop e (D.state disk.old) (D.state disk.new)) }
 {

@@ -1,26 +1,28 @@
 //! Copies of files, judged and put.
 
-ghost use Rattle.std.specs.Prelude.{◌≡◌, ◌≤◌, ◌<◌, ◌+◌, All, None, Some, length, IfErr, OnOk};
+ghost use Rattle.std.specs.Prelude.{◌≡◌, ◌≤◌, ◌<◌, ◌+◌, ◌*◌, All, None, Some, length, IfErr, OnOk};
 ghost use Rattle.cf_base.specs.declared.changes.Change.{Change};
 ghost use Rattle.cf_clusters.specs.Area.{KeepsWhere};
 ghost use Rattle.cf_clusters.specs.Roles.{IsCommitted, how_many, is_free};
 ghost use Rattle.cf_disk.specs.Disk.{Leaves, size_of};
 ghost use Rattle.cf_model.specs.Changes.{put_change};
+ghost use Rattle.cf_model.specs.Costs.{most_of_change};
 ghost use Rattle.cf_model.specs.Items.{Item};
 ghost use Rattle.cf_model.specs.Numbers.{usn_after};
 ghost use Rattle.cf_model.specs.State.{Volume};
 ghost use Rattle.cf_volume_points.specs.At.{At};
 ghost use Rattle.cf_volume_points.specs.Holding.{FitsTable};
 ghost use Rattle.cf_volume_points.specs.Keeping.{IsNextId};
-ghost use Rattle.cf_volume_points.specs.Runs.{IsStop};
+ghost use Rattle.cf_volume_points.specs.Runs.{IsStop, Ran};
 ghost use Rattle.cf_table.specs.Applied.{IsSpellable};
-ghost use Rattle.cf_table.specs.Changing.{Fits};
+ghost use Rattle.cf_table.specs.Changing.{Fits, item_of_change};
 ghost use Rattle.cf_table.specs.Means.{IsFresh};
 ghost use Rattle.cf_table.specs.Tables.{row_of};
 ghost use Rattle.cf_table.specs.declared.rows.Row.{Row};
 ghost use Rattle.cf_volume.specs.Calls.{IsCause, IsKept, IsPut, Runs};
 ghost use Rattle.cf_volume.specs.NewRows.{IsCopied, IsCopy};
 ghost use Rattle.cf_volume.specs.Steady.{Steady, known_of};
+ghost use Rattle.cf_volume.specs.Written.{NotesOnly, WritesAtMost};
 
 use crate::copy::clusters::copy_item;
 use crate::make::new_items::refusal_of_new;
@@ -58,8 +60,10 @@ fn put_copied<D: Disk>(disk: &mut D, parts: &mut Parts, from: ItemId, row: Row) 
     ensures at { (v : Volume) (c : Change) (i : Item) → At (D.state disk.old) (known_of parts.old) v → IsCopied c v row i from → FitsTable (put_change c v).items (put_change c v).book → OnOk result (At (D.state disk.new) (known_of parts.new) (put_change c v)) }
     ensures steady { OnOk result (Steady (size_of (D.state disk.new)) (known_of parts.new)) }
     ensures crash { Leaves (D.state disk.old) (D.state disk.new) (KeepsWhere IsCommitted parts.old.held (D.state disk.old)) }
+    ensures ran { (r : Row) → row_of parts.old.contents.rows.rows from ≡ Some r → Ran (4096 * length r.extents) (D.state disk.old) (D.state disk.new) }
     ensures runs { Runs (D.state disk.old) (D.state disk.new) }
     ensures cause { IfErr result (λ e. IsStop e (D.state disk.old) (D.state disk.new)) }
+    ensures noted { OnOk result (parts.new.then ≡ parts.old.then) }
     ensures broken { parts.new.broken ≡ parts.old.broken }
 {
     let _ = parts.contents.rows.image_len();
@@ -93,8 +97,10 @@ fn put_judged<D: Disk>(
     ensures kept { IsKept disk.old (known_of parts.old) result disk.new (known_of parts.new) }
     ensures steady { OnOk result (Steady (size_of (D.state disk.new)) (known_of parts.new)) }
     ensures crash { Leaves (D.state disk.old) (D.state disk.new) (KeepsWhere IsCommitted parts.old.held (D.state disk.old)) }
+    ensures written { (v : Volume) (c : Change) (i : Item) → At (D.state disk.old) (known_of parts.old) v → IsCopied c v row i from → WritesAtMost (most_of_change v.items c) (D.state disk.old) (D.state disk.new) }
     ensures runs { Runs (D.state disk.old) (D.state disk.new) }
     ensures cause { IfErr result (λ e. IsCause e (D.state disk.old) (D.state disk.new)) }
+    ensures noted { OnOk result (parts.new.then ≡ parts.old.then) }
     ensures broken { parts.new.broken ≡ parts.old.broken }
 {
     let number = row.number;
@@ -128,8 +134,10 @@ pub(crate) fn put_copy<D: Disk>(
     ensures kept { IsKept disk.old (known_of parts.old) result disk.new (known_of parts.new) }
     ensures steady { OnOk result (Steady (size_of (D.state disk.new)) (known_of parts.new)) }
     ensures crash { Leaves (D.state disk.old) (D.state disk.new) (KeepsWhere IsCommitted parts.old.held (D.state disk.old)) }
+    ensures written { (v : Volume) → At (D.state disk.old) (known_of parts.old) v → WritesAtMost (most_of_change v.items change.now) (D.state disk.old) (D.state disk.new) }
     ensures runs { Runs (D.state disk.old) (D.state disk.new) }
     ensures cause { IfErr result (λ e. IsCause e (D.state disk.old) (D.state disk.new)) }
+    ensures noted { OnOk result (NotesOnly (item_of_change change.now) (known_of parts.old) (known_of parts.new)) }
     ensures broken { parts.new.broken ≡ parts.old.broken }
 {
     let last = parts.contents.last;

@@ -12,11 +12,12 @@ ghost use Rattle.cf_volume_points.specs.At.{At};
 ghost use Rattle.cf_volume_points.specs.Holding.{FitsTable};
 ghost use Rattle.cf_volume_points.specs.Keeping.{IsNextId};
 ghost use Rattle.cf_table.specs.Applied.{IsSpellable};
-ghost use Rattle.cf_table.specs.Changing.{Fits};
+ghost use Rattle.cf_table.specs.Changing.{Fits, item_of_change};
 ghost use Rattle.cf_table.specs.Means.{IsFresh};
 ghost use Rattle.cf_volume.specs.Calls.{IsCause, IsFullness, IsKept, IsPut};
 ghost use Rattle.cf_volume.specs.NewRows.{Arrives, IsMade, IsMake, TestsRow};
 ghost use Rattle.cf_volume.specs.Steady.{Steady, known_of};
+ghost use Rattle.cf_volume.specs.Written.{NotesOnly};
 
 use crate::make::rows::{plan_made, put_made};
 use crate::parts::Parts;
@@ -81,6 +82,7 @@ fn put_new<D: Disk>(disk: &D, parts: &mut Parts, row: Row) -> Result<Option<Usn>
     ensures kept { IsKept disk.now (known_of parts.old) result disk.now (known_of parts.new) }
     ensures cause { IfErr result (λ e. IsCause e (D.state disk.now) (D.state disk.now)) }
     ensures steady { OnOk result (Steady (size_of (D.state disk.now)) (known_of parts.new)) }
+    ensures noted { OnOk result (parts.new.then ≡ parts.old.then) }
     ensures broken { parts.new.broken ≡ parts.old.broken }
 {
     let number = row.number;
@@ -107,6 +109,7 @@ pub(crate) fn put_make<D: Disk>(
     ensures kept { IsKept disk.now (known_of parts.old) result disk.now (known_of parts.new) }
     ensures cause { IfErr result (λ e. IsCause e (D.state disk.now) (D.state disk.now)) }
     ensures steady { OnOk result (Steady (size_of (D.state disk.now)) (known_of parts.new)) }
+    ensures noted { OnOk result (NotesOnly (item_of_change change.now) (known_of parts.old) (known_of parts.new)) }
     ensures broken { parts.new.broken ≡ parts.old.broken }
 {
     let last = parts.contents.last;

@@ -107,6 +107,7 @@ pub(crate) fn put_made<D: Disk>(disk: &D, parts: &mut Parts, row: Row) -> Result
     requires count { parts.old.contents.count < 18446744073709551615 }
     ensures at { (v : Volume) (c : Change) (i : Item) (n : ℕ) → At (D.state disk.now) (known_of parts.old) v → IsMade c v row i n → FitsTable (put_change c v).items (put_change c v).book → OnOk result (At (D.state disk.now) (known_of parts.new) (put_change c v)) }
     ensures steady { OnOk result (Steady (size_of (D.state disk.now)) (known_of parts.new)) }
+    ensures noted { OnOk result (parts.new.then ≡ parts.old.then) }
     ensures broken { parts.new.broken ≡ parts.old.broken }
 {
     let _ = disk;

@@ -8,9 +8,11 @@ ghost use Rattle.cf_model.specs.Numbers.{usn_after};
 ghost use Rattle.cf_model.specs.State.{Volume};
 ghost use Rattle.cf_volume_points.specs.At.{At};
 ghost use Rattle.cf_volume_points.specs.Keeping.{FitsBook};
+ghost use Rattle.cf_table.specs.Changing.{item_of_change};
 ghost use Rattle.cf_volume.specs.Calls.{IsKept, IsPut};
 ghost use Rattle.cf_volume.specs.Keys.{IsRemove, seen_key};
 ghost use Rattle.cf_volume.specs.Steady.{Steady, known_of};
+ghost use Rattle.cf_volume.specs.Written.{NotesOnly};
 
 use crate::kinds::item_of;
 use crate::parts::Parts;
@@ -49,6 +51,7 @@ pub(crate) fn put_remove<D: Disk>(
     ensures only { IfErr result (λ e. e ≡ fail.OutOfMemory) }
     ensures kept { IsKept disk.now (known_of parts.old) result disk.now (known_of parts.new) }
     ensures steady { OnOk result (Steady (size_of (D.state disk.now)) (known_of parts.new)) }
+    ensures noted { OnOk result (NotesOnly (item_of_change change.now) (known_of parts.old) (known_of parts.new)) }
     ensures broken { parts.new.broken ≡ parts.old.broken }
 {
     let _ = disk;

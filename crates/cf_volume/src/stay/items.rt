@@ -4,12 +4,14 @@ ghost use Rattle.std.specs.Prelude.{◌≡◌, ◌<◌, ◌+◌, true, None, Som
 ghost use Rattle.cf_clusters.specs.Area.{KeepsWhere};
 ghost use Rattle.cf_clusters.specs.Roles.{IsCommitted};
 ghost use Rattle.cf_disk.specs.Disk.{Leaves, size_of};
+ghost use Rattle.cf_model.specs.Costs.{most_of_change};
 ghost use Rattle.cf_model.specs.State.{Volume};
 ghost use Rattle.cf_volume_points.specs.At.{At};
 ghost use Rattle.cf_table.specs.Changing.{Fits, item_of_change, stays};
 ghost use Rattle.cf_table.specs.Tables.{row_of};
 ghost use Rattle.cf_volume.specs.Calls.{IsCause, IsKept, IsPut, Runs};
 ghost use Rattle.cf_volume.specs.Steady.{Steady, known_of};
+ghost use Rattle.cf_volume.specs.Written.{NotesOnly, WritesAtMost};
 
 use crate::parts::Parts;
 use crate::stay::plans::{plan_change, refusal_of};
@@ -35,6 +37,8 @@ pub(crate) fn put_stay<D: Disk>(
     ensures kept { IsKept disk.old (known_of parts.old) result disk.new (known_of parts.new) }
     ensures steady { OnOk result (Steady (size_of (D.state disk.new)) (known_of parts.new)) }
     ensures crash { Leaves (D.state disk.old) (D.state disk.new) (KeepsWhere IsCommitted parts.old.held (D.state disk.old)) }
+    ensures noted { OnOk result (NotesOnly (item_of_change change.now) (known_of parts.old) (known_of parts.new)) }
+    ensures written { (v : Volume) → At (D.state disk.old) (known_of parts.old) v → WritesAtMost (most_of_change v.items change.now) (D.state disk.old) (D.state disk.new) }
     ensures runs { Runs (D.state disk.old) (D.state disk.new) }
     ensures cause { IfErr result (λ e. IsCause e (D.state disk.old) (D.state disk.new)) }
     ensures broken { parts.new.broken ≡ parts.old.broken }

@@ -16,6 +16,7 @@ ghost use Rattle.cf_table.specs.Tables.{row_of};
 ghost use Rattle.cf_table.specs.declared.rows.Row.{Row};
 ghost use Rattle.cf_volume.specs.Laid.{Plans};
 ghost use Rattle.cf_volume.specs.Steady.{Steady, known_of};
+ghost use Rattle.cf_volume.specs.Written.{NotesOnly};
 
 use crate::kinds::item_of;
 use crate::parts::Parts;
@@ -44,6 +45,7 @@ pub(crate) fn put_planned<D: Disk>(
     ensures at { (v : Volume) → At (D.state disk.old) (known_of parts.old) v → FitsTable (put_change change.now v).items (put_change change.now v).book → OnOk result (At (D.state disk.new) (known_of parts.new) (put_change change.now v)) }
     ensures steady { OnOk result (Steady (size_of (D.state disk.new)) (known_of parts.new)) }
     ensures crash { Leaves (D.state disk.old) (D.state disk.new) (KeepsWhere IsCommitted parts.old.held (D.state disk.old)) }
+    ensures noted { OnOk result (NotesOnly (item_of_change change.now) (known_of parts.old) (known_of parts.new)) }
     ensures ran { Ran (4096 * length planned.blocks.items) (D.state disk.old) (D.state disk.new) }
     ensures cause { IfErr result (λ e. IsStop e (D.state disk.old) (D.state disk.new)) }
     ensures broken { parts.new.broken ≡ parts.old.broken }

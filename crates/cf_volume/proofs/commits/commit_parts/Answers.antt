@@ -55,3 +55,14 @@ returns-in-Err-clause-crash g c = λ v at keep.
     commit_leaves (g.D.Disk.state c.args.disk.now) (g.D.Disk.state c.save.new.disk) c.args.parts.now
     (record { reads_one = g.met.D.Disk.reads_one c.args.disk.now; same_size = g.met.D.Disk.same_size c.args.disk.now })
     c.requires.steady c.image_len.ensures.rises c.image_len.ensures.kept (c.can_be_written.ensures.0 c.if-not-can_be_written.false) v at keep c.in-Err.ensures.crash
+
+pub returns-in-Ok-clause-noted : goal.returns-in-Ok-clause-noted
+returns-in-Ok-clause-noted g c =
+    let then = subst (λ (n : ItemId). NotesNothing n c.in_ok-then.then) c.next.ensures c.in_ok-then.ensures in
+    record { rows = then.rows; next = then.next_is; records = then.records; keys = then.made }
+
+pub returns-in-Ok-clause-written : goal.returns-in-Ok-clause-written
+returns-in-Ok-clause-written g c = record { exact = c.in-Ok.ensures.counts.exact; least = c.in-Ok.ensures.counts.least; most = c.in-Ok.ensures.counts.most }
+
+pub returns-in-Err-clause-written : goal.returns-in-Err-clause-written
+returns-in-Err-clause-written g c = record { exact = tt; least = c.in-Err.ensures.counts.least; most = c.in-Err.ensures.counts.most }

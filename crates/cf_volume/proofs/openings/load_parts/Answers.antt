@@ -12,6 +12,10 @@ use Rattle.cf_volume_points.specs.Standing.{clusters_on, opened}
 use Rattle.cf_volume.proofs.OpenedFrom.{opened_from, refused_as_one}
 use Rattle.cf_volume.proofs.Stopped.{handed_on, refused_as}
 use Rattle.cf_volume.specs.Calls.{IsRefused}
+use Rattle.cf_disk.specs.Disk.{capped}
+use Rattle.cf_volume_commit.specs.Loaded.{opening_bytes}
+use Rattle.cf_volume_image.specs.Contents.{image_of}
+use Rattle.cf_volume.specs.Written.{contents_in}
 use Rattle.cf_volume.proofs.openings.load_parts.Goals as goal
 
 pub returns-in_err-found-clause-none : goal.returns-in_err-found-clause-none
@@ -26,13 +30,13 @@ returns-in_err-found-clause-last g c = λ epoch log b st.
 
 pub returns-clause-ok : goal.returns-clause-ok
 returns-clause-ok g c = λ epoch log b st.
-    subst (λ (k : Known). At (g.D.Disk.state c.load.new.disk) k (opened (epoch + 1) log b (clusters_on (g.D.Disk.state c.args.disk.now).seen))) (sym c.parts_of.ensures) (c.in_ok-found.ensures.ok epoch log b st)
+    subst (λ (k : Known). At (g.D.Disk.state c.load.new.disk) k (opened (epoch + 1) log b (clusters_on (g.D.Disk.state c.args.disk.now).seen))) (sym c.parts_of.ensures.known) (c.in_ok-found.ensures.ok epoch log b st)
 
 pub returns-clause-more : goal.returns-clause-more
 returns-clause-more g c = λ epoch log b st. (c.in_ok-found.ensures.last epoch log b st).1 refl
 
 pub returns-clause-found : goal.returns-clause-found
-returns-clause-found g c = opened_from (g.D.Disk.state c.args.disk.now).seen c.in_ok-found.found _ c.parts_of.ensures c.in_ok-found.ensures.found
+returns-clause-found g c = opened_from (g.D.Disk.state c.args.disk.now).seen c.in_ok-found.found _ c.parts_of.ensures.known c.in_ok-found.ensures.found
 
 pub returns-in_err-found-clause-absent : goal.returns-in_err-found-clause-absent
 returns-in_err-found-clause-absent g c =
@@ -48,3 +52,7 @@ pub returns-in_err-found-clause-unwritten : goal.returns-in_err-found-clause-unw
 returns-in_err-found-clause-unwritten g c =
     handed_on (λ (e : CallError). IsRefused e NotAVolume ⊎ IsRefused e Exhausted → ReadsOnly (g.D.Disk.state c.args.disk.now) (g.D.Disk.state c.load.new.disk)) c.from_residual-in_err-found.result c.in_err-found.field-0.0 c.from_residual-in_err-found.ensures.1
     (λ is. c.in_err-found.ensures.unwritten (refused_as_one c.in_err-found.field-0.0 NotAVolume Exhausted is))
+
+pub returns-clause-written : goal.returns-clause-written
+returns-clause-written g c = λ x stands.
+    subst (λ (k : Known). (g.D.Disk.state c.load.new.disk).written ≡ capped ((g.D.Disk.state c.args.disk.now).written + opening_bytes x (image_of (contents_in k)))) (sym c.parts_of.ensures.known) (c.in_ok-found.ensures.written x stands)

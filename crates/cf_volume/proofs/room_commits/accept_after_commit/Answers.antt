@@ -1,4 +1,4 @@
-use Rattle.std.proofs.Common.{inr, sym, ◌∙◌}
+use Rattle.std.proofs.Common.{◌+◌, inr, sym, ◌∙◌, arith}
 use Rattle.cf_disk.specs.Leaving.{leaves_then}
 use Rattle.cf_model.specs.Points.{with_room_point}
 use Rattle.cf_volume_points.specs.At.{StandsEither, StandsLast}
@@ -6,6 +6,10 @@ use Rattle.cf_volume.proofs.Stopped.{handed_on}
 use Rattle.cf_volume.proofs.WithRoom.{done_some, judged_none, judged_stop, none_waits, room_now}
 use Rattle.cf_volume.specs.Calls.{StopsOnly}
 use Rattle.cf_volume.specs.Steady.{known_of}
+use Rattle.cf_model.specs.Costs.{most_of_change}
+use Rattle.cf_volume.proofs.WrittenBytes.{notes_after, writes_more, writes_then}
+use Rattle.cf_volume.specs.Written.{commit_bytes}
+use Rattle.cf_table.specs.Changing.{item_of_change}
 use Rattle.cf_volume.proofs.room_commits.accept_after_commit.Goals as goal
 
 pub returns-in_err-accept-clause-only : goal.returns-in_err-accept-clause-only
@@ -36,3 +40,25 @@ pub returns-clause-crash : goal.returns-clause-crash
 returns-clause-crash g c = λ v at keep.
     leaves_then (g.D.Disk.state c.args.disk.now) (g.D.Disk.state c.commit_parts.new.disk) (g.D.Disk.state c.accept.new.disk) (StandsEither v) (StandsLast (with_room_point v))
     (c.in_ok-commit_parts.ensures.crash v at keep) (c.in_ok-accept.ensures.crash (with_room_point v) (c.in_ok-commit_parts.ensures.room v at keep)) (λ d h. inr (room_now v d h))
+
+pub returns-in_err-commit_parts-clause-written : goal.returns-in_err-commit_parts-clause-written
+returns-in_err-commit_parts-clause-written g c = λ v at keep.
+    writes_more (commit_bytes (known_of c.args.parts.now)) (commit_bytes (known_of c.args.parts.now) + most_of_change v.items c.args.change.now) (g.D.Disk.state c.args.disk.now) (g.D.Disk.state c.commit_parts.new.disk) (omega arith) c.in_err-commit_parts.ensures.written.most
+
+pub returns-in_err-accept-clause-written : goal.returns-in_err-accept-clause-written
+returns-in_err-accept-clause-written g c = λ v at keep.
+    writes_then (commit_bytes (known_of c.args.parts.now)) (most_of_change v.items c.args.change.now) (g.D.Disk.state c.args.disk.now) (g.D.Disk.state c.commit_parts.new.disk) (g.D.Disk.state c.accept.new.disk)
+    c.in_ok-commit_parts.ensures.written.most (c.in_err-accept.ensures.written (with_room_point v) (c.in_ok-commit_parts.ensures.room v at keep))
+
+pub returns-then-is_some-clause-written : goal.returns-then-is_some-clause-written
+returns-then-is_some-clause-written g c = λ v at keep.
+    writes_then (commit_bytes (known_of c.args.parts.now)) (most_of_change v.items c.args.change.now) (g.D.Disk.state c.args.disk.now) (g.D.Disk.state c.commit_parts.new.disk) (g.D.Disk.state c.accept.new.disk)
+    c.in_ok-commit_parts.ensures.written.most (c.in_ok-accept.ensures.written (with_room_point v) (c.in_ok-commit_parts.ensures.room v at keep))
+
+pub returns-clause-written : goal.returns-clause-written
+returns-clause-written g c = λ v at keep.
+    writes_then (commit_bytes (known_of c.args.parts.now)) (most_of_change v.items c.args.change.now) (g.D.Disk.state c.args.disk.now) (g.D.Disk.state c.commit_parts.new.disk) (g.D.Disk.state c.accept.new.disk)
+    c.in_ok-commit_parts.ensures.written.most (c.in_ok-accept.ensures.written (with_room_point v) (c.in_ok-commit_parts.ensures.room v at keep))
+
+pub returns-then-is_some-clause-noted : goal.returns-then-is_some-clause-noted
+returns-then-is_some-clause-noted g c = notes_after (item_of_change c.args.change.now) (known_of c.args.parts.now) (known_of c.commit_parts.new.parts) (known_of c.accept.new.parts) c.in_ok-commit_parts.ensures.noted c.in_ok-accept.ensures.noted

@@ -1,16 +1,17 @@
-use Rattle.std.proofs.Common.{◌≡◌, inl, ap, subst, sym}
+use Rattle.std.proofs.Common.{◌≡◌, inl, ap, arith, subst, sym}
 use Rattle.std.specs.Prelude.{Err, Ok}
 use Rattle.cf_base.specs.declared.codes.Code.TheVariants as code
 use Rattle.cf_base.specs.declared.codes.CallError.TheVariants as fail
 use Rattle.cf_volume_commit.proofs.FoundParts.{image_there, last_epoch}
 use Rattle.cf_volume_commit.proofs.LaterNumbers.{raised_later}
-use Rattle.cf_volume_commit.proofs.OpenedAgain.{below_most, found_image, found_stands, opening_at, opening_leaves, opening_sound}
+use Rattle.cf_volume_commit.proofs.OpenedAgain.{below_most, found_can, found_image, found_stands, opening_at, opening_leaves, opening_sound}
 use Rattle.cf_volume_commit.proofs.Refusals.{error_is, not_ok}
 use Rattle.cf_volume_commit.specs.Loaded.{StandsOrWas}
 use Rattle.cf_disk.specs.Leaving.{leaves_weaker}
 use Rattle.cf_volume_image.specs.declared.contents.Contents.{Contents}
 use Rattle.cf_model.specs.Numbers.{usn_after}
 use Rattle.cf_table.specs.Changing.{IsNext}
+use Rattle.cf_volume_commit.proofs.OpenedBytes.{opening_counts, opening_most}
 use Rattle.cf_volume_commit.proofs.openings.load.Goals as goal
 
 pub returns-in_err-parts-clause-absent : goal.returns-in_err-parts-clause-absent
@@ -78,3 +79,30 @@ pub returns-in-Ok-clause-later : goal.returns-in-Ok-clause-later
 returns-in-Ok-clause-later g c =
     let f = c.in_ok-parts.ensures.found in
     subst (λ (x : Contents). IsNext (usn_after x.last.epoch x.last.place) x.rows.rows) (sym c.raise.ensures.contents) (raised_later c.in_ok-parts.parts.contents f.1.image f.1.told.sound.rows f.1.is)
+
+pub returns-in-Ok-clause-written : goal.returns-in-Ok-clause-written
+returns-in-Ok-clause-written g c = λ y stands.
+    let f = c.in_ok-parts.ensures.found in
+    opening_counts (g.D.Disk.state c.args.disk.now) (g.D.Disk.state c.find.new.disk) (g.D.Disk.state c.raise.new.disk) f.0 y c.in_ok-parts.parts c.raise.new.parts.contents f.1 (f.1.alone y stands) c.raise.ensures.contents
+    c.find.ensures.reads.written c.in-Ok.ensures.counts.exact
+
+pub returns-in_err-parts-clause-at_most : goal.returns-in_err-parts-clause-at_most
+returns-in_err-parts-clause-at_most g c = omega (arith, c.find.ensures.reads.written)
+
+pub returns-in-Ok-clause-at_most : goal.returns-in-Ok-clause-at_most
+returns-in-Ok-clause-at_most g c =
+    let f = c.in_ok-parts.ensures.found in
+    opening_most (g.D.Disk.state c.args.disk.now) (g.D.Disk.state c.find.new.disk) (g.D.Disk.state c.raise.new.disk) c.in_ok-parts.parts.journal c.in_ok-parts.parts.contents
+    (found_can (g.D.Disk.state c.args.disk.now) (g.D.Disk.state c.find.new.disk) f.0 c.in_ok-parts.parts f.1 c.requires) c.find.ensures.reads.written c.raise.ensures.counts.most
+
+pub returns-in-Err-Device-clause-at_most : goal.returns-in-Err-Device-clause-at_most
+returns-in-Err-Device-clause-at_most g c =
+    let f = c.in_ok-parts.ensures.found in
+    opening_most (g.D.Disk.state c.args.disk.now) (g.D.Disk.state c.find.new.disk) (g.D.Disk.state c.raise.new.disk) c.in_ok-parts.parts.journal c.in_ok-parts.parts.contents
+    (found_can (g.D.Disk.state c.args.disk.now) (g.D.Disk.state c.find.new.disk) f.0 c.in_ok-parts.parts f.1 c.requires) c.find.ensures.reads.written c.raise.ensures.counts.most
+
+pub returns-clause-at_most : goal.returns-clause-at_most
+returns-clause-at_most g c =
+    let f = c.in_ok-parts.ensures.found in
+    opening_most (g.D.Disk.state c.args.disk.now) (g.D.Disk.state c.find.new.disk) (g.D.Disk.state c.raise.new.disk) c.in_ok-parts.parts.journal c.in_ok-parts.parts.contents
+    (found_can (g.D.Disk.state c.args.disk.now) (g.D.Disk.state c.find.new.disk) f.0 c.in_ok-parts.parts f.1 c.requires) c.find.ensures.reads.written c.raise.ensures.counts.most

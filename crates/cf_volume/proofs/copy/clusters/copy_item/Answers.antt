@@ -1,5 +1,6 @@
 use Rattle.std.proofs.Common.{ℕ, List, sym, subst}
 use Rattle.cf_volume.specs.Copies.{CopiesAll}
+use Rattle.cf_volume.proofs.WrittenBytes.{source_ran}
 use Rattle.cf_volume.proofs.copy.clusters.copy_item.Goals as goal
 
 pub returns-clause-copied : goal.returns-clause-copied
@@ -11,3 +12,7 @@ returns-clause-copied g c = record {
   room = c.in_ok-put_row.ensures.room;
   all = subst (λ (l : List (ℕ × ℕ)). CopiesAll l l (g.D.Disk.state c.args.disk.now) (g.D.Disk.state c.copy_all.new.disk) c.args.held.now c.copy_all.new.held c.copy_all.new.extents) c.pairs.ensures.value c.in_ok-copy_all-in-Some.ensures.copied;
 }
+
+pub returns-clause-ran : goal.returns-clause-ran
+returns-clause-ran g c = λ r found.
+    source_ran c.args.rows.now.rows c.args.from c.in-Some.source.now r c.pairs.result.now (g.D.Disk.state c.args.disk.now) (g.D.Disk.state c.copy_all.new.disk) (sym c.in-Some.ensures) found c.pairs.ensures.value c.copy_all.ensures.ran

@@ -5,6 +5,7 @@ use Rattle.cf_volume.proofs.CopyPut.{copy_puts}
 use Rattle.cf_volume.proofs.Judged.{room_needed}
 use Rattle.cf_volume.proofs.Puts.{some_row}
 use Rattle.cf_volume.specs.Steady.{known_of}
+use Rattle.cf_volume.proofs.WrittenBytes.{puts_write}
 use Rattle.cf_volume.proofs.copy.files.put_judged.Goals as goal
 
 pub returns-in-Some-clause-put : goal.returns-in-Some-clause-put
@@ -29,3 +30,15 @@ returns-in-Ok-clause-put g c = λ v change i at copy.
       c.in_default.ensures.why v change i at copy.arrives puts,
       c.in-Ok.ensures.at v change i at copy (c.in_default.ensures.fits v change i at copy.arrives),
     )
+
+pub returns-in-Ok-clause-written : goal.returns-in-Ok-clause-written
+returns-in-Ok-clause-written g c = λ v change i at copy.
+    let source = some_row (row_of c.args.parts.now.contents.rows.rows c.args.from) c.requires.there in
+    puts_write (g.D.Disk.state c.args.disk.now) (g.D.Disk.state c.put_copied.new.disk) v change _
+    (copy_puts (g.D.Disk.state c.args.disk.now) (known_of c.args.parts.now) v change c.args.row source.0 i c.args.from at source.1 copy) (c.in-Ok.ensures.ran source.0 source.1)
+
+pub returns-in-Err-clause-written : goal.returns-in-Err-clause-written
+returns-in-Err-clause-written g c = λ v change i at copy.
+    let source = some_row (row_of c.args.parts.now.contents.rows.rows c.args.from) c.requires.there in
+    puts_write (g.D.Disk.state c.args.disk.now) (g.D.Disk.state c.put_copied.new.disk) v change _
+    (copy_puts (g.D.Disk.state c.args.disk.now) (known_of c.args.parts.now) v change c.args.row source.0 i c.args.from at source.1 copy) (c.in-Err.ensures.ran source.0 source.1)

@@ -5,8 +5,11 @@ use Rattle.cf_model.specs.Numbers.{usn_after}
 use Rattle.cf_volume.proofs.GoneCalls.{gone_call, gone_inside, gone_why}
 use Rattle.cf_volume.proofs.GoneFits.{gone_steady}
 use Rattle.cf_volume.specs.Keys.{seen_key}
-use Rattle.cf_volume.specs.Notes.{NotesKey}
+use Rattle.cf_volume.specs.Notes.{Notes, NotesKey}
 use Rattle.cf_volume.specs.Steady.{known_of}
+use Rattle.cf_base.specs.declared.ids.ItemId.{ItemId}
+use Rattle.cf_table.specs.Changing.{item_of_change}
+use Rattle.cf_volume.proofs.WrittenBytes.{notes_one}
 use Rattle.cf_volume.proofs.remove.items.put_remove.Goals as goal
 
 pub remove_item-requires : goal.remove_item-requires
@@ -34,3 +37,7 @@ returns-clause-steady g c =
 
 pub returns-clause-why : goal.returns-clause-why
 returns-clause-why g c = λ v at. gone_why (g.D.Disk.state c.args.disk.now) (known_of c.args.parts.now) v c.args.change.now at c.requires.place c.requires.kind
+
+pub returns-clause-noted : goal.returns-clause-noted
+returns-clause-noted g c = notes_one (item_of_change c.args.change.now) c.args.parts.now.then.next c.args.parts.now.contents.rows.rows c.args.parts.now.then.rows.rows c.note_row.new.before.rows
+    (subst (λ (n : ItemId). Notes n c.args.parts.now.then.next c.args.parts.now.contents.rows.rows c.args.parts.now.then.rows.rows c.note_row.new.before.rows) c.item_of-id.ensures c.in_ok-note_row.ensures.ok)

@@ -7,6 +7,7 @@ use Rattle.cf_volume.proofs.Planning.{fits_end}
 use Rattle.cf_volume.proofs.Puts.{found_fits, some_row}
 use Rattle.cf_volume.proofs.Stopped.{not_device}
 use Rattle.cf_volume.specs.Steady.{known_of}
+use Rattle.cf_volume.proofs.WrittenBytes.{plan_writes}
 use Rattle.cf_volume.proofs.stay.items.put_stay.Goals as goal
 
 pub returns-in-Some-clause-cause : goal.returns-in-Some-clause-cause
@@ -31,3 +32,13 @@ returns-in-Ok-clause-put g c = λ v at. (
   c.in_default.ensures.why v at,
   c.in-Ok.ensures.at v at (c.in_default.ensures.fits v at),
 )
+
+pub returns-in-Ok-clause-written : goal.returns-in-Ok-clause-written
+returns-in-Ok-clause-written g c = λ v at.
+    let row = some_row (row_of c.args.parts.now.contents.rows.rows (item_of_change c.args.change.now)) c.requires.there in
+    plan_writes (g.D.Disk.state c.args.disk.now) (g.D.Disk.state c.put_planned.new.disk) (known_of c.args.parts.now) v c.args.change.now _ _ row.0 c.in_ok-planned.planned.row c.in_ok-planned.planned.blocks.items at c.requires.kind row.1 (c.in_ok-planned.ensures row.0 row.1) c.in-Ok.ensures.ran
+
+pub returns-in-Err-clause-written : goal.returns-in-Err-clause-written
+returns-in-Err-clause-written g c = λ v at.
+    let row = some_row (row_of c.args.parts.now.contents.rows.rows (item_of_change c.args.change.now)) c.requires.there in
+    plan_writes (g.D.Disk.state c.args.disk.now) (g.D.Disk.state c.put_planned.new.disk) (known_of c.args.parts.now) v c.args.change.now _ _ row.0 c.in_ok-planned.planned.row c.in_ok-planned.planned.blocks.items at c.requires.kind row.1 (c.in_ok-planned.ensures row.0 row.1) c.in-Err.ensures.ran

@@ -1,9 +1,11 @@
 use Rattle.std.proofs.Common.{subst}
 use Rattle.cf_base.specs.declared.ids.ItemId.{ItemId}
+use Rattle.cf_table.specs.Changing.{item_of_change}
 use Rattle.cf_volume.proofs.PlannedPut.{planned_at, planned_inside, planned_steady}
 use Rattle.cf_volume.specs.Laid.{Carries}
 use Rattle.cf_volume.specs.Notes.{Notes}
 use Rattle.cf_volume.specs.Steady.{known_of}
+use Rattle.cf_volume.proofs.WrittenBytes.{notes_one}
 use Rattle.cf_volume.proofs.stay.rows.put_planned.Goals as goal
 
 pub returns-clause-at : goal.returns-clause-at
@@ -25,3 +27,7 @@ pub change_item-requires-clause-inside : goal.change_item-requires-clause-inside
 change_item-requires-clause-inside g c =
     planned_inside (g.D.Disk.state c.args.disk.now) (g.D.Disk.state c.args.disk.now) (known_of c.args.parts.now) c.args.change.now c.args.planned.row c.args.planned.blocks.items c.args.parts.now.held c.args.parts.now.contents.rows c.args.parts.now.then.rows.rows
     c.requires.steady c.image_len.ensures.rises c.image_len.ensures.kept c.requires.plan c.requires.there
+
+pub returns-clause-noted : goal.returns-clause-noted
+returns-clause-noted g c = notes_one (item_of_change c.args.change.now) c.args.parts.now.then.next c.args.parts.now.contents.rows.rows c.args.parts.now.then.rows.rows c.note_row.new.before.rows
+    (subst (λ (n : ItemId). Notes n c.args.parts.now.then.next c.args.parts.now.contents.rows.rows c.args.parts.now.then.rows.rows c.note_row.new.before.rows) c.item_of-id.ensures c.in_ok-note_row.ensures.ok)

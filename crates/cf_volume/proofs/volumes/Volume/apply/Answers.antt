@@ -1,9 +1,14 @@
-use Rattle.std.proofs.Common.{sym}
+use Rattle.std.proofs.Common.{◌+◌, sym}
 use Rattle.cf_volume_points.proofs.Saves.{untouched, untouched_either}
 use Rattle.cf_volume_points.specs.At.{StandsEither, StandsLast}
 use Rattle.cf_volume.proofs.Views.{seen_at, seen_leaves}
 use Rattle.cf_volume.proofs.WithRoom.{whole_answer}
 use Rattle.cf_volume.specs.Steady.{known_of}
+use Rattle.cf_model.specs.Costs.{most_of_change}
+use Rattle.cf_table.specs.Changing.{item_of_change}
+use Rattle.cf_volume.proofs.WrittenBytes.{seen_notes, seen_writes}
+use Rattle.cf_volume.specs.Written.{commit_bytes}
+use Rattle.cf_volume_points.specs.Known.{Known}
 use Rattle.cf_volume.proofs.volumes.Volume.apply.Goals as goal
 
 pub returns-then-self-clause-crash : goal.returns-then-self-clause-crash
@@ -46,3 +51,22 @@ returns-in-Ok-clause-kept_crash g c = λ v at none.
 pub returns-in-Err-clause-kept_crash : goal.returns-in-Err-clause-kept_crash
 returns-in-Err-clause-kept_crash g c = λ v at none.
     seen_leaves g.D.Disk.state (g.D.Disk.state c.accept_with_room.new.disk) (StandsLast v) c.self.view_is (c.in-Err.ensures.kept_crash v (seen_at g.D.Disk.state v (sym c.self.view_is) at) none)
+
+pub returns-in-Ok-clause-noted : goal.returns-in-Ok-clause-noted
+returns-in-Ok-clause-noted g c = seen_notes (item_of_change c.args.change.now) (known_of c.accept_with_room.new.parts) c.self.view_is c.in-Ok.ensures.noted
+
+pub returns-in-Ok-clause-written : goal.returns-in-Ok-clause-written
+returns-in-Ok-clause-written g c = λ v at keep.
+    seen_writes g.D.Disk.state (λ (k : Known). commit_bytes k + most_of_change v.items c.args.change.now) (g.D.Disk.state c.accept_with_room.new.disk) c.self.view_is (c.in-Ok.ensures.written v (seen_at g.D.Disk.state v (sym c.self.view_is) at) keep)
+
+pub returns-in-Err-clause-written : goal.returns-in-Err-clause-written
+returns-in-Err-clause-written g c = λ v at keep.
+    seen_writes g.D.Disk.state (λ (k : Known). commit_bytes k + most_of_change v.items c.args.change.now) (g.D.Disk.state c.accept_with_room.new.disk) c.self.view_is (c.in-Err.ensures.written v (seen_at g.D.Disk.state v (sym c.self.view_is) at) keep)
+
+pub returns-in-Ok-clause-kept_written : goal.returns-in-Ok-clause-kept_written
+returns-in-Ok-clause-kept_written g c = λ v at none.
+    seen_writes g.D.Disk.state (λ (k : Known). most_of_change v.items c.args.change.now) (g.D.Disk.state c.accept_with_room.new.disk) c.self.view_is (c.in-Ok.ensures.kept_written v (seen_at g.D.Disk.state v (sym c.self.view_is) at) none)
+
+pub returns-in-Err-clause-kept_written : goal.returns-in-Err-clause-kept_written
+returns-in-Err-clause-kept_written g c = λ v at none.
+    seen_writes g.D.Disk.state (λ (k : Known). most_of_change v.items c.args.change.now) (g.D.Disk.state c.accept_with_room.new.disk) c.self.view_is (c.in-Err.ensures.kept_written v (seen_at g.D.Disk.state v (sym c.self.view_is) at) none)
