@@ -11,7 +11,7 @@ use Rattle.cf_model.specs.Formats.{spell_image}
 use Rattle.cf_volume_points.specs.Known.{Known}
 use Rattle.cf_table.specs.Tables.{row_of}
 
--- at most so many bytes
+-- at most that many bytes
 abbrev pub WritesAtMost : ℕ → State → State → Type 0
 WritesAtMost n s t = t.written ≤ s.written + n
 
