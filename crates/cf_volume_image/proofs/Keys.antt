@@ -12,7 +12,7 @@ use Rattle.std.specs.Ordering.{is_eq}
 use Rattle.std.proofs.lemmas.Map.Text.{is_eq-slice_cmp}
 use Rattle.cf_table.proofs.Finds.{same_bytes}
 use Rattle.cf_table.proofs.NamedEntries.{same_is}
-use Rattle.cf_table.proofs.Ordered.{after_is_not_before, goes_on, other_way}
+use Rattle.cf_lists.proofs.Ordered.{after_is_not_before, goes_on, other_way}
 
 pub before_is : (xs ys : List ℕ) → comes_before xs ys ≡ is_lt (slice_cmp nat_cmp xs ys)
 before_is [] [] = refl
