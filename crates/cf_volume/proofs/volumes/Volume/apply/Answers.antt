@@ -70,3 +70,9 @@ returns-in-Ok-clause-kept_written g c = λ v at none.
 pub returns-in-Err-clause-kept_written : goal.returns-in-Err-clause-kept_written
 returns-in-Err-clause-kept_written g c = λ v at none.
     seen_writes g.D.Disk.state (λ (k : Known). most_of_change v.items c.args.change.now) (g.D.Disk.state c.accept_with_room.new.disk) c.self.view_is (c.in-Err.ensures.kept_written v (seen_at g.D.Disk.state v (sym c.self.view_is) at) none)
+
+pub returns-in-Ok-clause-ok : goal.returns-in-Ok-clause-ok
+returns-in-Ok-clause-ok g c = λ v at book keep. c.in-Ok.ensures.done v (seen_at g.D.Disk.state v (sym c.self.view_is) at) book keep
+
+pub returns-in-Ok-clause-why : goal.returns-in-Ok-clause-why
+returns-in-Ok-clause-why g c = λ v at keep usable. c.in-Ok.ensures.why v (seen_at g.D.Disk.state v (sym c.self.view_is) at) keep
