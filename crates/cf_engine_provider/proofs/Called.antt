@@ -1,10 +1,8 @@
 -- A callback, from what is seen as it begins.
-use Rattle.std.proofs.Common.{◌≡◌, ℕ, Bool, true, false, cond, List, [], ◌∷◌, ◌++◌, ◌==◌, refl, sym, ◌∙◌, ap, subst}
-use Rattle.std.specs.Prelude.{Option, Some, None, MatchOption, find, option_map}
-use Rattle.std.specs.List.{AllByRecursion}
+use Rattle.std.proofs.Common.{◌≡◌, true, List, [], ◌++◌, refl, sym, ◌∙◌, ap, subst}
+use Rattle.std.specs.Prelude.{Option, Some, None, IfSome, MatchOption, option_map}
 use Rattle.cf_engine_provider.specs.Agencies.{Agency, Any, Leaves, Plays, Sees}
-use Rattle.cf_engine_provider.specs.Answering.{Answers, IsLive, IsShort, Suits}
-use Rattle.cf_engine_provider.specs.Identities.{HasOurs}
+use Rattle.cf_engine_provider.specs.Answering.{Answers, IsLive, Suits}
 use Rattle.cf_engine_provider.specs.Parts.{Carries}
 use Rattle.cf_engine_provider.proofs.Played.{as_well, nothing, within}
 use Rattle.cf_base.specs.declared.ids.ItemId.{ItemId}
@@ -33,22 +31,6 @@ use Rattle.cf_table.specs.Tables.{MeansAll, row_of}
 use Rattle.cf_table.specs.declared.rows.Row.{Row}
 use Rattle.cf_table.proofs.Lengths.{rows_are_items}
 
--- what is found in a list has what each has
-abbrev the_item : Item → Option Item → Item
-the_item d None = d
-the_item d (Some i) = i
-
-found_by : (P : Item → Type 0) (x i : Item) (b : Bool) (o : Option Item) → P x → (o ≡ Some i → P i) → cond b (Some x) o ≡ Some i → P i
-found_by P x i true o h rest e = subst P (ap (the_item x) e) h
-found_by P x i false o h rest e = rest e
-
-found : (P : Item → Type 0) (p : Item → Bool) (is : List Item) (i : Item) → AllByRecursion P is → find p is ≡ Some i → P i
-found P p [] i h e = let z : None ≡ Some i = e in let bad : ⊥ = cc in absurd bad
-found P p (x ∷ is) i h e = found_by P x i (p x) (find p is) h.0 (found P p is i h.1) e
-
-no_some : {A B : Type 0} {a : A} → None ≡ Some a → B
-no_some e = let bad : ⊥ = cc in absurd bad
-
 module _ {R : Type 0} (told : R → Told) (sight : Sight) (call : Callback) where
   agent_at : (k : AskKind) (o : Option Item) (z : State) → call.ask.kind ≡ k → item_of (items_now z) call.ask.item ≡ o → agent call.ask z ≡ agent_on k call.ask o z
   agent_at k o z is at = (λ j. agent_on (is j) call.ask (at j) z)
@@ -70,28 +52,23 @@ module _ {R : Type 0} (told : R → Told) (sight : Sight) (call : Callback) wher
 
   -- a request about the item
   module _ (k : AskKind) (of : Item → Request) (sends_now : (i : Item) (z : State) → send_now (of i) z ≡ agent_on k call.ask (Some i) z) (row : Row) (o : Option Request) (is : call.ask.kind ≡ k) (there : row_of sight.table.rows call.ask.item ≡ Some row)
-      (asked : (i : Item) → Means row i → HasOurs i → IsShort call.ask.span → o ≡ Some (of i)) where
+      (asked : IfSome o (λ q. (i : Item) → Means row i → q ≡ of i)) where
     abbrev At : State → Type 0
-    At z = (i : Item) × (item_of (items_now z) call.ask.item ≡ Some i) × (o ≡ Some (of i))
+    At z = (i : Item) × (item_of (items_now z) call.ask.item ≡ Some i) × Means row i
 
     at : (z : State) → Suits sight call z.filter → At z
     at z h =
         let m : MatchOption (row_of sight.table.rows call.ask.item) (item_of (items_now z) call.ask.item ≡ None) (λ r. (i : Item) × (item_of (items_now z) call.ask.item ≡ Some i) × Means r i) = rows_are_items sight.table.rows (items_now z) call.ask.item h.shows.rows in
-        let n : (i : Item) × (item_of (items_now z) call.ask.item ≡ Some i) × Means row i = subst (λ (x : Option Row). MatchOption x (item_of (items_now z) call.ask.item ≡ None) (λ r. (i : Item) × (item_of (items_now z) call.ask.item ≡ Some i) × Means r i)) there m in
-        (n.0, n.1, asked n.0 n.2 (found HasOurs (λ i. i.id.0 == call.ask.item.0) (items_now z) n.0 h.ours n.1) h.span)
-
-    -- there always is a request
-    pub too_long : (p : Agency R) → o ≡ None → Answers told p sight call [] p
-    too_long p none = as_well told (Suits sight call) (ret unit) (agent call.ask) p p [] (λ z h. no_some (sym none ∙ (at z h).2)) (nothing told Any p)
+        subst (λ (x : Option Row). MatchOption x (item_of (items_now z) call.ask.item ≡ None) (λ r. (i : Item) × (item_of (items_now z) call.ask.item ≡ Some i) × Means r i)) there m
 
     module _ (q : Request) (some : o ≡ Some q) where
-      same_some : (a b : Request) → Some a ≡ Some b → a ≡ b
-      same_some a b e = ap (λ (x : Option Request). elim x as (λ _. Request) [ None ↦ a | Some y ↦ y ]) e
+      asks : (i : Item) → Means row i → q ≡ of i
+      asks = subst (λ (x : Option Request). IfSome x (λ y. (i : Item) → Means row i → y ≡ of i)) some asked
 
       sends : (z : State) → Suits sight call z.filter → send_now q z ≡ agent call.ask z
       sends z h =
           let n : At z = at z h in
-          ap (λ (x : Request). send_now x z) (same_some q (of n.0) (sym some ∙ n.2)) ∙ sends_now n.0 z ∙ sym (agent_at k (Some n.0) z is n.1)
+          ap (λ (x : Request). send_now x z) (asks n.0 n.2) ∙ sends_now n.0 z ∙ sym (agent_at k (Some n.0) z is n.1)
 
       pub unanswered : (p m : Agency R) (acts : List Act) → Carries told (Suits sight call) q p None acts m → Answers told p sight call (acts ++ []) m
       unanswered p m acts c = within told (Suits sight call) (send_now q) (agent call.ask) p m (acts ++ []) sends (c.plays [] m (nothing told (Suits sight call) m))
@@ -100,8 +77,9 @@ module _ {R : Type 0} (told : R → Told) (sight : Sight) (call : Callback) wher
           → Answers told p sight call (acts ++ more) n
       answered Holds p m n acts more r so c h =
           within told (Suits sight call) (send_now q) (agent call.ask) p n (acts ++ more) sends (c.plays more n (record {
-            ends = λ start z g sees holds does fine. h.ends start z g sees (so z.filter holds) does fine;
-            stops = λ start z g sees holds does failed. h.stops start z g sees (so z.filter holds) does failed;
+            ends = λ z g sees holds does fine. h.ends z g sees (so z.filter holds) does fine;
+            stops = λ z g sees holds does failed. h.stops z g sees (so z.filter holds) does failed;
+            faults = h.faults;
           }))
 
   -- what was seen of the ask is so
@@ -110,14 +88,14 @@ module _ {R : Type 0} (told : R → Told) (sight : Sight) (call : Callback) wher
 
 -- as the definitions call it back
 
-pub callback_ends : {R : Type 0} (told : R → Told) (p q : Agency R) (sight : Sight) (call : Callback) (acts : List Act) (start : ℕ) (z : State) (f : Filter) → Answers told p sight call acts q → Sees told start p z → Suits sight call z.filter → Acts z.filter acts f → (HasFailed acts → ⊥)
-    → Leaves told start (Ends (call_back call.ask z) unit) f q
-callback_ends told p q sight call acts start z f h sees suits does fine =
-    let e = h.ends start z f sees suits does fine in
+pub callback_ends : {R : Type 0} (told : R → Told) (p q : Agency R) (sight : Sight) (call : Callback) (acts : List Act) (z : State) (f : Filter) → Answers told p sight call acts q → Sees told p z → Suits sight call z.filter → Acts z.filter acts f → (HasFailed acts → ⊥)
+    → Leaves told (Ends (call_back call.ask z) unit) f q
+callback_ends told p q sight call acts z f h sees suits does fine =
+    let e = h.ends z f sees suits does fine in
     record { state = e.state; is = subst (λ (m : Mode). Ends (provider m call.ask z) unit e.state) (sym sees.replays) e.is; filter = e.filter; sees = e.sees }
 
-pub callback_stops : {R : Type 0} (told : R → Told) (p q : Agency R) (sight : Sight) (call : Callback) (acts : List Act) (start : ℕ) (z : State) (f : Filter) → Answers told p sight call acts q → Sees told start p z → Suits sight call z.filter → Acts z.filter acts f → HasFailed acts
-    → Leaves told start (Stops (call_back call.ask z)) f q
-callback_stops told p q sight call acts start z f h sees suits does failed =
-    let e = h.stops start z f sees suits does failed in
+pub callback_stops : {R : Type 0} (told : R → Told) (p q : Agency R) (sight : Sight) (call : Callback) (acts : List Act) (z : State) (f : Filter) → Answers told p sight call acts q → Sees told p z → Suits sight call z.filter → Acts z.filter acts f → HasFailed acts
+    → Leaves told (Stops (call_back call.ask z)) f q
+callback_stops told p q sight call acts z f h sees suits does failed =
+    let e = h.stops z f sees suits does failed in
     record { state = e.state; is = subst (λ (m : Mode). Stops (provider m call.ask z) e.state) (sym sees.replays) e.is; filter = e.filter; sees = e.sees }

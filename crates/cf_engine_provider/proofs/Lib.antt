@@ -2,8 +2,8 @@ pub mod Called
 pub mod Carried
 pub mod Fetched
 pub mod Heard
+pub mod KnownTargets
 pub mod Listed
-pub mod Numbered
 pub mod Performed
 pub mod Played
 pub mod Sent

@@ -1,5 +1,5 @@
 -- Acts on a port, one part after the other.
-use Rattle.std.proofs.Common.{◌≡◌, ◌≢◌, ◌⊎◌, inl, inr, ℕ, Bool, true, false, List, [], ◌∷◌, ◌++◌, length, refl, sym, ◌∙◌, ap, subst}
+use Rattle.std.proofs.Common.{◌≡◌, ◌≢◌, ◌⊎◌, inl, inr, ℕ, Bool, true, false, List, [], ◌∷◌, ◌++◌, ◌+◌, length, refl, sym, ◌∙◌, ap, subst}
 use Rattle.std.specs.Prelude.{Result, Ok, Err, is_ok, Option, Some, None}
 use Rattle.std.specs.Result.{IsErrAnd}
 use Rattle.std.proofs.lemmas.Result.{err_from_is_err_and}
@@ -52,12 +52,15 @@ module _ {X : Type 0} (goes : X → List Act → X → Type 0) where
   module _ {R : Type 0} (told : R → Told) where
     -- a step that is left out
 
-    pub skipped_line : (c : Code) (p : Agency R) (b : Bool) (old new : X) (r : Result (Unit {0}) NoMemory) → p.shows_skips ≡ b → b ≡ true → Notes goes (notice.Skipped c) old r new → Performs goes (λ acts. Skips c p acts (record p { left_out = true })) old r new
-    skipped_line c p b old new (Ok u) is hit h = (Noted (notice.Skipped c) ∷ [], h, λ ok. record { line = ap (λ (x : Bool). skip_acts x c) (sym (is ∙ hit)); left_out = refl })
-    skipped_line c p b old new (Err e) is hit h = ([], h, λ ok. no ok)
+    shows_alike : (p q : Agency R) → q ≡ record p { skips = p.skips + 1 } → p.shows_skips ≡ q.shows_skips
+    shows_alike p q more = ap (λ (x : Agency R). x.shows_skips) (sym more)
 
-    pub skipped_silently : (c : Code) (p : Agency R) (b : Bool) (x : X) → goes x [] x → p.shows_skips ≡ b → b ≡ false → (r : Result (Unit {0}) NoMemory) → Performs goes (λ acts. Skips c p acts (record p { left_out = true })) x r x
-    skipped_silently c p b x stays is miss r = ([], stays, λ ok. record { line = ap (λ (y : Bool). skip_acts y c) (sym (is ∙ miss)); left_out = refl })
+    pub skipped_line : (c : Code) (p q : Agency R) (b : Bool) (old new : X) (r : Result (Unit {0}) NoMemory) → q ≡ record p { skips = p.skips + 1 } → q.shows_skips ≡ b → b ≡ true → Notes goes (notice.Skipped c) old r new → Performs goes (λ acts. Skips c p acts q) old r new
+    skipped_line c p q b old new (Ok u) more is hit h = (Noted (notice.Skipped c) ∷ [], h, λ ok. record { line = ap (λ (x : Bool). skip_acts x c) (sym (shows_alike p q more ∙ is ∙ hit)); counted = more })
+    skipped_line c p q b old new (Err e) more is hit h = ([], h, λ ok. no ok)
+
+    pub skipped_silently : (c : Code) (p q : Agency R) (b : Bool) (x : X) → goes x [] x → q ≡ record p { skips = p.skips + 1 } → q.shows_skips ≡ b → b ≡ false → (r : Result (Unit {0}) NoMemory) → Performs goes (λ acts. Skips c p acts q) x r x
+    skipped_silently c p q b x stays more is miss r = ([], stays, λ ok. record { line = ap (λ (y : Bool). skip_acts y c) (sym (shows_alike p q more ∙ is ∙ miss)); counted = more })
 
     -- an operation, whatever it is answered
     pub did : (op : Operation) (p : Agency R) (old new : X) (t : Tried) (r : Result (Unit {0}) NoMemory) → Tries goes [] op old (Ok t) new → Performs goes (λ acts. Plays told Any (do_op op) p acts p) old r new

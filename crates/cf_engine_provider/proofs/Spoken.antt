@@ -1,28 +1,22 @@
 -- A request and its reply, as the definitions send it.
-use Rattle.std.proofs.Common.{◌≡◌, ℕ, Bool, true, false, length, inl, inr, refl, sym, ◌∙◌, ap, subst}
+use Rattle.std.proofs.Common.{◌≡◌, ℕ, ◌+◌, Bool, true, false, length, refl, sym, ◌∙◌, ap, subst, arith}
 use Rattle.std.specs.Prelude.{Option, Some, None}
 use Rattle.cf_engine_provider.specs.Parts.{Exchanges, Sends, exchanged}
 use Rattle.cf_base.specs.declared.messages.Reply.{Reply}
 use Rattle.cf_base.specs.declared.messages.Request.{Request}
 use Rattle.cf_base.specs.declared.notices.Frame.TheVariants as frame
 use Rattle.cf_base.specs.declared.notices.Notice.{Notice}
-use Rattle.cf_link.specs.Linked.{Does, Ended, IsLink, Linked, Posts, with_line}
+use Rattle.cf_link.specs.Linked.{Does, Ended, IsLink, Linked, Posts, Rises, lines_of, posted_line, with_line}
 use Rattle.cf_link.specs.declared.posts.Posted.{Posted}
+use Rattle.cf_link.specs.Faults.{RoseBy, faults_in}
+use Rattle.cf_link.proofs.FaultCounts.{posted_quiet, rises_by, rose_both, rose_none}
+use Rattle.cf_link.proofs.Ways.{leads_ends}
 use Rattle.cf_model.proofs.TreeLaws.{ends_then, stops_then}
 use Rattle.cf_model.specs.Arrows.{unit}
 use Rattle.cf_model.specs.Messages.{after_post, come, come_if, post, send_now, take_if_any}
 use Rattle.cf_model.specs.State.{Link, State, with_link}
-use Rattle.cf_model.specs.Trees.{Asked, Ends, Fork, Ret, Step, Stops, Tree}
-use Rattle.cf_remote.specs.Peers.{Leads}
+use Rattle.cf_model.specs.Trees.{Ends, Stops}
 use Rattle.cf_remote.specs.Told.{Told}
-
--- what is led to is an end
-leads_ends : {S A : Type 0} (p : Tree S A) (old new : Told) (a : A) (t : S) → Leads p old a t new → Ends p a t
-leads_ends (Ret b s) old new a t h = (h.0, h.1)
-leads_ends (Step s p) old new a t h = leads_ends p old new a t h
-leads_ends (Fork p q) old new a t (inl h) = inl (leads_ends p old new a t h)
-leads_ends (Fork p q) old new a t (inr h) = inr (leads_ends q old new a t h)
-leads_ends (Asked k) old new a t h = (h.0, leads_ends (k h.0) h.1 new a t h.3)
 
 link_behind : (line : Option Notice) (k : Link) (s : State) → (with_line line (with_link k s)).link ≡ k
 link_behind None k s = refl
@@ -33,7 +27,8 @@ links_in_turn : (first : Option Notice) (k l : Link) (s : State) → with_link l
 links_in_turn None k l s = refl
 links_in_turn (Some n) k l s = refl
 
-module _ {R : Type 0} (told : R → Told) (q : Request) (old mid : Linked R) (posted : Posted) (posts : Posts told (frame.Request q) old posted mid) where
+module _ {R : Type 0} (told : R → Told) (q : Request) (old mid : Linked R) (posted : Posted) (posts : Posts told (frame.Request q) old posted mid)
+    (line_is : posted.line ≡ posted_line (frame.Request q) posted) (same : mid.remote ≡ old.remote) where
   module _ (s : State) (stands : IsLink told old s.link) where
     abbrev sent : Ended told (post (frame.Request q)) s old posted.kept posted.line mid
     sent = (posts.ends s stands).0
@@ -54,6 +49,16 @@ module _ {R : Type 0} (told : R → Told) (q : Request) (old mid : Linked R) (po
     inline_is : mid.inline ≡ after.link.inline
     inline_is = sent.stands.inline ∙ ap (λ (k : Link). k.inline) (sym (link_behind posted.line sent.link s))
 
+  -- the request's line reports no fault, nor does its posting
+  quiet_line : faults_in (lines_of posted.line) ≡ 0
+  quiet_line = ap (λ (o : Option Notice). faults_in (lines_of o)) line_is ∙ posted_quiet (frame.Request q) posted
+
+  sent_alone : RoseBy (faults_in (lines_of posted.line) + faults_in (lines_of None)) (told old.remote).faults (told mid.remote).faults
+  sent_alone =
+      let z : faults_in (lines_of posted.line) ≡ 0 = quiet_line in
+      let none : 0 ≡ faults_in (lines_of posted.line) + faults_in (lines_of None) = omega (arith, z) in
+      subst (λ (n : ℕ). RoseBy n (told old.remote).faults (told mid.remote).faults) none (subst (λ (x : R). RoseBy 0 (told old.remote).faults (told x).faults) (sym same) (rose_none (told old.remote).faults (told old.remote).faults (omega arith)))
+
   -- it is not kept
   pub unkept : posted.kept ≡ false → Exchanges told q old (record { first = posted.line; second = None; reply = None }) mid
   unkept miss = record {
@@ -63,6 +68,7 @@ module _ {R : Type 0} (told : R → Told) (q : Request) (old mid : Linked R) (po
       stops = λ u h. stops s stands false miss u h;
       stands = (sent s stands).stands;
     };
+    faults = sent_alone;
   }
 
   -- it waits until it is handed on
@@ -76,12 +82,13 @@ module _ {R : Type 0} (told : R → Told) (q : Request) (old mid : Linked R) (po
           stops = λ u h. stops s stands true kept u (subst (λ (b : Bool). Stops (come_if q b (after s stands)) u) (sym is) h);
           stands = (sent s stands).stands;
         };
+    faults = sent_alone;
   }
 
   -- it comes to the remote at once
-  pub at_once : (new : Linked R) (r : Option Reply) (line : Option Notice) → posted.kept ≡ true → mid.inline ≡ true → Does told (come posted.number q) mid r line new
+  pub at_once : (new : Linked R) (r : Option Reply) (line : Option Notice) → posted.kept ≡ true → mid.inline ≡ true → Does told (come posted.number q) mid r line new → Rises line (told mid.remote).faults (told new.remote).faults
       → Exchanges told q old (record { first = posted.line; second = line; reply = r }) new
-  at_once new r line kept fast does = record {
+  at_once new r line kept fast does rises = record {
     sends = λ s stands.
         let k : Link = (sent s stands).link in
         let t : State = after s stands in
@@ -97,4 +104,8 @@ module _ {R : Type 0} (told : R → Told) (q : Request) (old mid : Linked R) (po
           stops = λ u h. stops s stands true kept u (subst (λ (b : Bool). Stops (come_if q b t) u) (sym is) (stops_then (come (length t.link.messages) q t) (take_if_any q) r u1 u came (subst (λ (x : State). Stops (take_if_any q r x) u) (sym same) h)));
           stands = e.stands;
         };
+    faults =
+        rose_both (faults_in (lines_of posted.line)) (faults_in (lines_of line)) (told old.remote).faults (told mid.remote).faults (told new.remote).faults
+        (subst (λ (n : ℕ). RoseBy n (told old.remote).faults (told mid.remote).faults) (sym quiet_line) (subst (λ (x : R). RoseBy 0 (told old.remote).faults (told x).faults) (sym same) (rose_none (told old.remote).faults (told old.remote).faults (omega arith))))
+        (rises_by line (told mid.remote).faults (told new.remote).faults rises);
   }

@@ -1,42 +1,52 @@
 -- What a program has of the engine as a provider, the states for which that stands, and parts of an event that it plays.
-use Rattle.std.specs.Prelude.{◌≡◌, ◌⊎◌, ℕ, ◌≤◌, Bool, true, List, [], ◌∷◌, ◌++◌, Option, Some, None, Result, Ok, Err, is_ok, nat_lt}
+use Rattle.std.specs.Prelude.{◌≡◌, ◌⊎◌, ℕ, ◌+◌, Bool, true, List, [], ◌∷◌, ◌++◌, Option, Some, None, Result, Ok, Err, is_ok}
 use Rattle.cf_base.specs.declared.codes.Code.{Code}
 use Rattle.cf_base.specs.declared.memory.OutOfMemory.{OutOfMemory as NoMemory}
 use Rattle.cf_base.specs.declared.notices.Notice.{Notice}
 use Rattle.cf_base.specs.declared.policies.Mode.TheVariants as mode
+use Rattle.cf_link.specs.Faults.{RoseBy, fault_of}
 use Rattle.cf_link.specs.Linked.{IsLink, Linked}
 use Rattle.cf_model.specs.Arrows.{Arrow, unit}
-use Rattle.cf_model.specs.Ports.{Act, Acts, HasFailed}
+use Rattle.cf_model.specs.Ports.{Act, Acts, Did, Failed, HasFailed, Noted}
 use Rattle.cf_model.specs.State.{Filter, State}
 use Rattle.cf_model.specs.Trees.{Ends, Stops}
 use Rattle.cf_remote.specs.Told.{Told}
 
--- the link to the remote, whether lines of steps that are left out stand in the running event, and whether a step was left out
+-- the link to the remote; and of the running event whether lines of steps that are left out stand in it, and how many were
 pub record Agency (R : Type 0) : Type 0 where
   pub link : Linked R
   pub shows_skips : Bool
-  pub left_out : Bool
+  pub skips : ℕ
 
--- It stands for a state in the command replay, of which so many steps had been left out before.
-pub record Sees {R : Type 0} (told : R → Told) (start : ℕ) (p : Agency R) (z : State) : Type 0 where
+-- it stands for a state in the command replay
+pub record Sees {R : Type 0} (told : R → Told) (p : Agency R) (z : State) : Type 0 where
   pub replays : z.mode ≡ mode.Replay
   pub link : IsLink told p.link z.link
   pub shows_skips : p.shows_skips ≡ z.running.shows_skips
-  pub from : start ≤ z.running.skips
-  pub left_out : p.left_out ≡ nat_lt start z.running.skips
+  pub skips : p.skips ≡ z.running.skips
 
 -- a state of this kind has this filter, and the provider stands for it
-pub record Leaves {R : Type 0} (told : R → Told) (start : ℕ) (Is : State → Type 0) (f : Filter) (q : Agency R) : Type 0 where
+pub record Leaves {R : Type 0} (told : R → Told) (Is : State → Type 0) (f : Filter) (q : Agency R) : Type 0 where
   pub state : State
   pub is : Is state
   pub filter : state.filter ≡ f
-  pub sees : Sees told start q state
+  pub sees : Sees told q state
+
+-- the lines among acts that report that the remote failed
+abbrev pub faults_among : List Act → ℕ
+faults_among [] = 0
+faults_among (Did seen op answer ∷ acts) = faults_among acts
+faults_among (Failed seen op ∷ acts) = faults_among acts
+faults_among (Noted n ∷ acts) = fault_of n + faults_among acts
 
 -- These acts are this part of an event: from each state with a filter of this kind for which the provider stands the part ends in
--- one that they lead to, and for which the provider then stands. Where one of them met the device the part stops there.
+-- one that they lead to, and for which the provider then stands. Where one of them met the device the part stops there. For each
+-- line of a fault the remote's count of faults rose. So no reply is passed off as a fault, and a remote that tells what it holds,
+-- which `IsLink` says has kept its rules, gave the replies that stand among the messages.
 pub record Plays {R : Type 0} (told : R → Told) (Holds : Filter → Type 0) (f : Arrow State (Unit {0})) (p : Agency R) (acts : List Act) (q : Agency R) : Type 0 where
-  pub ends : (start : ℕ) (z : State) (g : Filter) → Sees told start p z → Holds z.filter → Acts z.filter acts g → (HasFailed acts → ⊥) → Leaves told start (Ends (f z) unit) g q
-  pub stops : (start : ℕ) (z : State) (g : Filter) → Sees told start p z → Holds z.filter → Acts z.filter acts g → HasFailed acts → Leaves told start (Stops (f z)) g q
+  pub ends : (z : State) (g : Filter) → Sees told p z → Holds z.filter → Acts z.filter acts g → (HasFailed acts → ⊥) → Leaves told (Ends (f z) unit) g q
+  pub stops : (z : State) (g : Filter) → Sees told p z → Holds z.filter → Acts z.filter acts g → HasFailed acts → Leaves told (Stops (f z)) g q
+  pub faults : RoseBy (faults_among acts) (told p.link.remote).faults (told q.link.remote).faults
 
 -- a filter of any kind
 abbrev pub Any : Filter → Type 0

@@ -1,8 +1,6 @@
 -- By which acts the engine answers a callback.
 use Rattle.std.specs.Prelude.{◌≡◌, ◌<◌, ◌^◌, ℕ, List, Option, option_map}
-use Rattle.std.specs.List.{AllByRecursion}
 use Rattle.cf_engine_provider.specs.Agencies.{Agency, Plays}
-use Rattle.cf_engine_provider.specs.Identities.{HasOurs}
 use Rattle.cf_base.specs.declared.ids.Key.{Key}
 use Rattle.cf_base.specs.declared.spans.Span.{Span}
 use Rattle.cf_base.specs.declared.waits.Ask.{Ask}
@@ -20,13 +18,10 @@ pub record IsShort (span : Span) : Type 0 where
   pub start : span.start < 2 ^ 32
   pub len : span.len < 2 ^ 32
 
--- What is seen as the callback begins is so of the filter, whose items have identities as an engine gives them, and whose book its
--- records keep.
+-- What is seen as the callback begins is so of the filter, whose book its records keep.
 pub record Suits (sight : Sight) (call : Callback) (f : Filter) : Type 0 where
   pub shows : Shows sight f
   pub is : call ≡ callback_of call.ask f
-  pub span : IsShort call.ask.span
-  pub ours : AllByRecursion HasOurs f.volume.items
   pub book : IsKeepable f.volume.book
 
 -- the live ask with the key is this

@@ -1,5 +1,5 @@
 -- Parts of what the engine does in a callback, which mirror the code: no definitions to believe.
-use Rattle.std.specs.Prelude.{◌≡◌, ◌⊎◌, ℕ, ◌<◌, ◌^◌, Bool, true, false, cond, List, [], ◌∷◌, ◌++◌, Option, Some, None, Result, Ok, Err}
+use Rattle.std.specs.Prelude.{◌≡◌, ◌⊎◌, ℕ, ◌+◌, ◌<◌, ◌^◌, Bool, true, false, cond, List, [], ◌∷◌, ◌++◌, Option, Some, None, Result, Ok, Err}
 use Rattle.cf_engine_provider.specs.Agencies.{Agency, Plays}
 use Rattle.cf_engine_provider.specs.Answering.{Suits}
 use Rattle.cf_engine_provider.specs.declared.exchanges.Exchange.{Exchange}
@@ -28,7 +28,8 @@ use Rattle.cf_provider.specs.Acting.{shown_of}
 use Rattle.cf_provider.specs.Sights.{Sight}
 use Rattle.cf_provider.specs.declared.outcomes.Callback.{Callback}
 use Rattle.cf_provider.specs.declared.outcomes.Outcome.{Outcome}
-use Rattle.cf_link.specs.Linked.{IsLink, Linked, with_line}
+use Rattle.cf_link.specs.Faults.{RoseBy, faults_in}
+use Rattle.cf_link.specs.Linked.{IsLink, Linked, lines_of, with_line}
 use Rattle.cf_base.specs.declared.operations.NewItem.{NewItem}
 use Rattle.cf_model.specs.Arrows.{Arrow, is_device, ret, seq, unit}
 use Rattle.cf_model.specs.Fetching.{after_listing, do_op, no_entries, take_bytes, take_listing}
@@ -54,7 +55,7 @@ skip_acts false c = []
 
 pub record Skips {R : Type 0} (c : Code) (old : Agency R) (acts : List Act) (new : Agency R) : Type 0 where
   pub line : acts ≡ skip_acts old.shows_skips c
-  pub left_out : new ≡ record old { left_out = true }
+  pub counted : new ≡ record old { skips = old.skips + 1 }
 
 -- requests
 
@@ -70,6 +71,7 @@ pub record Sends {R : Type 0} (told : R → Told) (q : Request) (s : State) (e :
 
 pub record Exchanges {R : Type 0} (told : R → Told) (q : Request) (old : Linked R) (e : Exchange) (new : Linked R) : Type 0 where
   pub sends : (s : State) → IsLink told old s.link → Sends told q s e new
+  pub faults : RoseBy (faults_in (lines_of e.first) + faults_in (lines_of e.second)) (told old.remote).faults (told new.remote).faults
 
 -- The request was sent with these acts, which changed the provider so; what is left of the part is to take the reply.
 pub record Carries {R : Type 0} (told : R → Told) (Holds : Filter → Type 0) (q : Request) (p : Agency R) (r : Option Reply) (acts : List Act) (m : Agency R) : Type 0 where

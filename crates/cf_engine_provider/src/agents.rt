@@ -1,19 +1,20 @@
 //! The provider.
 
-ghost use Rattle.std.specs.Prelude.{◌≡◌, false};
+ghost use Rattle.std.specs.Prelude.{◌≡◌, ◌+◌, OnErr, OnOk};
 
+use cf_base::{OutOfMemory, no_such_state};
 use cf_link::Link;
 use cf_remote::Remote;
 use std::alloc::Global;
 use std::marker::Model;
 
-/// The engine as a provider, for the callbacks of one event.
+/// The engine as a provider: the link, and what is known of the running event.
 #[derive(Drop)]
 pub struct Agent<R: Remote> {
     pub(crate) alloc: Global,
     pub(crate) link: Link<R>,
     pub(crate) shows_skips: bool,
-    pub(crate) left_out: bool,
+    skips: u64,
 }
 
 impl<R: Remote> Model for Agent<R> {
@@ -21,28 +22,50 @@ impl<R: Remote> Model for Agent<R> {
 
     ghost Value = { Agency R };
 
-    ghost view = { λ a. record { link = a.link; shows_skips = a.shows_skips; left_out = a.left_out } };
+    ghost view = { λ a. record { link = a.link; shows_skips = a.shows_skips; skips = a.skips } };
 }
 
 impl<R: Remote> Agent<R> {
-    /// The provider on a link. `shows_skips` says whether a step that is left out has a line in the running event. Takes no
-    /// memory.
+    /// The provider on a link, in an event in which no step was left out. `shows_skips` says whether a step that is left out has
+    /// a line in it. Takes no memory.
     pub fn new(alloc: Global, link: Link<R>, shows_skips: bool) -> Agent<R>
-        ensures { result ≡ record { link = link; shows_skips = shows_skips; left_out = false } }
+        ensures { result ≡ record { link = link; shows_skips = shows_skips; skips = 0 } }
     {
         Agent {
             alloc,
             link,
             shows_skips,
-            left_out: false,
+            skips: 0,
         }
     }
 
-    /// Whether a step was left out since the agent was made.
-    pub fn left_out(&self) -> bool
-        ensures { result ≡ self.now.left_out }
+    /// An event begins, in which no step was left out.
+    pub fn begin(&mut self, shows_skips: bool)
+        ensures { self.new ≡ record self.old { shows_skips = shows_skips; skips = 0 } }
     {
-        self.left_out
+        self.shows_skips = shows_skips;
+        self.skips = 0;
+    }
+
+    /// Whether a step that is left out has a line in the running event.
+    pub fn shows_skips(&self) -> bool
+        ensures { result ≡ self.now.shows_skips }
+    {
+        self.shows_skips
+    }
+
+    /// How many steps were left out in the running event.
+    pub fn skips(&self) -> u64
+        ensures { result ≡ self.now.skips }
+    {
+        self.skips
+    }
+
+    /// The link.
+    pub fn link(&self) -> &Link<R>
+        ensures { result.now ≡ self.now.link }
+    {
+        &self.link
     }
 
     /// The link.
@@ -50,5 +73,19 @@ impl<R: Remote> Agent<R> {
         ensures { result ≡ self.link }
     {
         self.link
+    }
+
+    // A step more was left out. There never are 2^64 of them.
+    pub(crate) fn count_skip(&mut self) -> Result<(), OutOfMemory>
+        ensures ok { OnOk result (self.new ≡ record self.old { skips = self.old.skips + 1 }) }
+        ensures err { OnErr result (self.new ≡ self.old) }
+    {
+        match self.skips.checked_add(1) {
+            Some(skips) => {
+                self.skips = skips;
+                Ok(())
+            }
+            None => Err(no_such_state()),
+        }
     }
 }

@@ -9,7 +9,9 @@ ghost use Rattle.cf_model.specs.Identities.{entry_identity};
 ghost use Rattle.cf_model.specs.Words.{in_bytes};
 
 use crate::locals::Locals;
-use cf_base::{Entry, Identity, ItemId, Name, NewItem, OutOfMemory, SeenPath, Sequence};
+use cf_base::{
+    Entry, Identity, ItemId, Name, NewItem, OutOfMemory, SeenPath, Sequence, no_such_state,
+};
 use cf_wire::LocalItems;
 use std::alloc::Global;
 
@@ -58,13 +60,13 @@ pub(crate) fn new_items(alloc: Global, entries: &[Entry]) -> Result<Sequence<New
     Ok(list)
 }
 
-// The name that the bytes are. Bytes that are none, which no entry that fits has, are answered as out of memory.
+// The name that the bytes are. No entry that fits has bytes that are none.
 fn name_of(alloc: Global, bytes: &[u8]) -> Result<Name, OutOfMemory>
     ensures { IfOk result (λ n. (n ≡ bytes.now) × (is_name bytes.now ≡ true)) }
 {
     match Name::read(alloc, bytes) {
         Ok(name) => Ok(name),
-        Err(_) => Err(OutOfMemory),
+        Err(_) => Err(no_such_state()),
     }
 }
 
@@ -79,13 +81,13 @@ fn path_of(alloc: Global, id: u64, entry: &Entry) -> Result<SeenPath, OutOfMemor
     })
 }
 
-// After the last id there is none, which is answered as out of memory.
+// No item is made after the last id.
 fn following(id: u64) -> Result<u64, OutOfMemory>
     ensures { IfOk result (λ n. n ≡ id + 1) }
 {
     match id.checked_add(1) {
         Some(next) => Ok(next),
-        None => Err(OutOfMemory),
+        None => Err(no_such_state()),
     }
 }
 

@@ -3,7 +3,7 @@
 ghost use Rattle.std.specs.Prelude.{◌≡◌, Some, IfSome};
 ghost use Rattle.cf_engine_provider.specs.Agencies.{Any, Performs, Plays};
 ghost use Rattle.cf_engine_provider.specs.Answering.{IsLive, IsShort};
-ghost use Rattle.cf_engine_provider.specs.Identities.{HasOurs};
+ghost use Rattle.cf_engine_queue.specs.Identities.{HasOurs};
 ghost use Rattle.cf_engine_provider.specs.Parts.{IsFetch, fetched, refuse_ask};
 ghost use Rattle.cf_model.specs.Agents.{fetch_of};
 ghost use Rattle.cf_model.specs.Fetching.{no_entries};
@@ -12,10 +12,10 @@ ghost use Rattle.cf_model.specs.Messages.{take_reply};
 ghost use Rattle.cf_table.specs.Means.{Means};
 
 use crate::agents::Agent;
-use crate::identities::numbers_of;
 use cf_base::{
     Ask, AskKind, Code, Key, Operation, OutOfMemory, Reply, Request, Rid, Sequence, Version,
 };
+use cf_engine_queue::numbers_of;
 use cf_provider::Port;
 use cf_remote::Remote;
 use cf_table::Row;
@@ -23,9 +23,11 @@ use cf_wire::{NoItems, fits};
 
 pub(crate) const NO_FILE: u32 = 2;
 
-/// The request for the bytes of the base that the ask is about. None where its numbers do not hold the span.
+/// The request for the bytes of the base that the ask is about. None where its numbers do not hold the span, or no engine gave the
+/// item's identity.
 pub(crate) fn fetch_of(ask: &Ask, row: &Row) -> Option<Request>
-    ensures is { (i : Item) → Means row.now i → HasOurs i → IsShort ask.now.span → result ≡ Some (fetch_of ask.now i) }
+    ensures some { (i : Item) → Means row.now i → HasOurs i → IsShort ask.now.span → result ≡ Some (fetch_of ask.now i) }
+    ensures is { IfSome result (λ q. (i : Item) → Means row.now i → q ≡ fetch_of ask.now i) }
     ensures fetch { IfSome result (IsFetch ask.now.key) }
 {
     let Ok(start) = u32::try_from(ask.span.start) else {
@@ -34,7 +36,7 @@ pub(crate) fn fetch_of(ask: &Ask, row: &Row) -> Option<Request>
     let Ok(len) = u32::try_from(ask.span.len) else {
         return None;
     };
-    let numbers = numbers_of(&row.identity);
+    let numbers = numbers_of(&row.identity)?;
     Some(Request::Fetch {
         key: ask.key,
         rid: Rid(numbers.base),
@@ -56,8 +58,8 @@ impl<R: Remote> Agent<R> {
         self.do_op(&none, port)
     }
 
-    // No bytes for the whole ask, or no entries.
-    pub(crate) fn refuse_ask<P: Port>(
+    /// No bytes for the whole ask, or no entries.
+    pub fn refuse_ask<P: Port>(
         &self,
         status: u32,
         ask: &Ask,
@@ -80,7 +82,13 @@ impl<R: Remote> Agent<R> {
         }
     }
 
-    fn act_on<P: Port>(&mut self, ask: &Ask, reply: Reply, port: &mut P) -> Result<(), OutOfMemory>
+    /// Does what a reply to a request for bytes does that fits it, where this is the live ask with its key.
+    pub fn act_on_fetched<P: Port>(
+        &mut self,
+        ask: &Ask,
+        reply: Reply,
+        port: &mut P,
+    ) -> Result<(), OutOfMemory>
         ensures { Performs P.goes (λ acts. Plays R.told Any (fetched (Some ask.now) reply) self.old acts self.new) port.old result port.new }
     {
         match reply {
@@ -97,7 +105,7 @@ impl<R: Remote> Agent<R> {
 
     /// Takes the reply to a request for bytes of the ask with this key, where `live` is that ask if it is live. A reply that is
     /// stale does nothing.
-    pub(crate) fn take_fetched<P: Port>(
+    pub fn take_fetched<P: Port>(
         &mut self,
         key: Key,
         live: Option<Ask>,
@@ -113,7 +121,7 @@ impl<R: Remote> Agent<R> {
             return Ok(());
         }
         match live {
-            Some(ask) => self.act_on(&ask, reply, port),
+            Some(ask) => self.act_on_fetched(&ask, reply, port),
             None => Ok(()),
         }
     }

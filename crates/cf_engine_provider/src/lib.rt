@@ -3,6 +3,7 @@
 //! To a fetch ask it sends Fetch, to a list ask List, and it consents to a dehydration. Under an inline link the request comes to
 //! the remote at once, and its reply becomes one operation on the ask. What a reply is looked at with is read from the port
 //! before the first act. specs/Answering says by which acts a callback is answered, and a law that this is the definitions' own.
+//! What a reply does is public for replies that come later, outside a callback.
 #![tactic(auto)]
 
 mod agents;
@@ -11,8 +12,8 @@ mod callbacks;
 mod entries;
 mod exchanges;
 mod fetches;
-mod identities;
 mod laws;
+mod link_calls;
 mod list_views;
 mod listings;
 mod locals;
@@ -22,3 +23,5 @@ mod requests;
 mod uploads;
 
 pub use agents::Agent;
+pub use list_views::{Found, find};
+pub use locals::Locals;

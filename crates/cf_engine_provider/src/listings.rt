@@ -1,9 +1,9 @@
 //! What entries of a directory do.
 
-ghost use Rattle.std.specs.Prelude.{◌≡◌, Some};
+ghost use Rattle.std.specs.Prelude.{◌≡◌, IfSome, Some};
 ghost use Rattle.cf_engine_provider.specs.Agencies.{Any, Performs, Plays};
 ghost use Rattle.cf_engine_provider.specs.Findings.{Knows};
-ghost use Rattle.cf_engine_provider.specs.Identities.{HasOurs};
+ghost use Rattle.cf_engine_queue.specs.Identities.{HasOurs};
 ghost use Rattle.cf_engine_provider.specs.Parts.{IsList, give_entries, listed, listing_unless};
 ghost use Rattle.cf_base.specs.declared.answers.Shown.TheVariants as shown;
 ghost use Rattle.cf_model.specs.Agents.{list_of};
@@ -28,15 +28,14 @@ use cf_remote::Remote;
 use cf_table::Row;
 use cf_wire::fits;
 
-/// The request for the entries of the item that the ask is about.
-pub(crate) fn list_of(ask: &Ask, row: &Row) -> Request
-    ensures is { (i : Item) → Means row.now i → HasOurs i → result ≡ list_of ask.now i }
-    ensures list { IsList ask.now.key result }
+/// The request for the entries of the item that the ask is about. None where no engine gave the item's identity.
+pub(crate) fn list_of(ask: &Ask, row: &Row) -> Option<Request>
+    ensures some { (i : Item) → Means row.now i → HasOurs i → result ≡ Some (list_of ask.now i) }
+    ensures is { IfSome result (λ q. (i : Item) → Means row.now i → q ≡ list_of ask.now i) }
+    ensures list { IfSome result (IsList ask.now.key) }
 {
-    Request::List {
-        key: ask.key,
-        rid: target_of(row),
-    }
+    let rid = target_of(row)?;
+    Some(Request::List { key: ask.key, rid })
 }
 
 impl<R: Remote> Agent<R> {
@@ -112,7 +111,8 @@ impl<R: Remote> Agent<R> {
         self.give_entries(key, list, &seen, port)
     }
 
-    fn act_on_listed<P: Port>(
+    /// Does what a reply to a request for entries does that fits it, where this is the live ask with its key.
+    pub fn act_on_listed<P: Port>(
         &mut self,
         ask: &Ask,
         reply: &Reply,
@@ -139,7 +139,7 @@ impl<R: Remote> Agent<R> {
     }
 
     /// Takes the reply to a request for the entries of the ask with this key. A reply that is stale does nothing.
-    pub(crate) fn take_listed<P: Port>(
+    pub fn take_listed<P: Port>(
         &mut self,
         key: Key,
         found: &Found,

@@ -14,11 +14,11 @@ use cf_provider::Port;
 use cf_remote::Remote;
 
 impl<R: Remote> Agent<R> {
-    // A step is left out, with a line where such lines stand.
-    pub(crate) fn skip<P: Port>(&mut self, code: Code, port: &mut P) -> Result<(), OutOfMemory>
+    /// A step is left out, with a line where such lines stand in the event.
+    pub fn skip<P: Port>(&mut self, code: Code, port: &mut P) -> Result<(), OutOfMemory>
         ensures { Performs P.goes (λ acts. Skips code self.old acts self.new) port.old result port.new }
     {
-        self.left_out = true;
+        self.count_skip()?;
         if !self.shows_skips {
             return Ok(());
         }

@@ -14,7 +14,7 @@ use crate::fetches::fetch_of;
 use crate::list_views::find;
 use crate::listings::list_of;
 use crate::message_lines::note_line;
-use cf_base::{Operation, OutOfMemory, Reply, Request};
+use cf_base::{Operation, OutOfMemory, Reply, Request, no_such_state};
 use cf_provider::{Callback, Port};
 use cf_remote::Remote;
 
@@ -47,7 +47,7 @@ impl<R: Remote> Agent<R> {
             return Ok(());
         };
         let Some(request) = fetch_of(&call.ask, row) else {
-            return Ok(());
+            return Err(no_such_state());
         };
         let live = port.ask(call.ask.key);
         let Some(reply) = self.send(&request, port)? else {
@@ -64,7 +64,9 @@ impl<R: Remote> Agent<R> {
         let Some(row) = port.rows().get(call.ask.item) else {
             return Ok(());
         };
-        let request = list_of(&call.ask, row);
+        let Some(request) = list_of(&call.ask, row) else {
+            return Err(no_such_state());
+        };
         let found = find(self.alloc, call.ask.key, port)?;
         let Some(reply) = self.send(&request, port)? else {
             return Ok(());

@@ -7,7 +7,7 @@ ghost use Rattle.cf_model.specs.PushReplies.{is_new_entry};
 ghost use Rattle.cf_engine_queue.specs.Books.{entry_value};
 ghost use Rattle.cf_engine_queue.specs.Records.{IsKeepable};
 
-use cf_base::{AuxRecord, OutOfMemory};
+use cf_base::{AuxRecord, OutOfMemory, no_such_state};
 use cf_engine_queue::{Action, Queue, QueueEntry};
 use std::alloc::Global;
 
@@ -28,14 +28,14 @@ fn any_new(entries: &[QueueEntry]) -> bool
     entries.iter().any(|entry| is_new(entry))
 }
 
-/// Whether a new item is on its way to the remote, by the auxiliary records of a volume that is open. Records that are those of no
-/// book, which such a volume does not have, are answered as out of memory.
+/// Whether a new item is on its way to the remote, by the auxiliary records of a volume that is open. Such a volume has no records
+/// that are those of no book.
 #[tactic(auto, using(crate::proofs::Uploaded::any_of_book))]
 pub(crate) fn sends_new(alloc: Global, records: &[AuxRecord]) -> Result<bool, OutOfMemory>
     ensures { (b : Book) → IsKeepable b → records.now ≡ aux_records b → IfOk result (λ x. x ≡ list_any is_new_entry b.entries) }
 {
     let Ok(queue) = Queue::load(alloc, records) else {
-        return Err(OutOfMemory);
+        return Err(no_such_state());
     };
     Ok(any_new(queue.entries()))
 }

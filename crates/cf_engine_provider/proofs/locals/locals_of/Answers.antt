@@ -1,12 +1,12 @@
-use Rattle.cf_engine_provider.proofs.Targeted.{all_rows, none_yet, one_more}
+use Rattle.std.proofs.Common.{◌≡◌, ◌∙◌, Bool, List, true, false, subst}
+use Rattle.std.specs.List.Sorted.{IsPermutation}
+use Rattle.cf_engine_provider.specs.Listings.{known_in, targets_in}
+use Rattle.cf_model.specs.Fits.{Known}
+use Rattle.cf_engine_provider.proofs.KnownTargets.{alike}
 use Rattle.cf_engine_provider.proofs.locals.locals_of.Goals as goal
 
-pub loop-row-init : goal.loop-row-init
-loop-row-init c = λ items m h. none_yet c.args.rows.now items c.new-list.result.items c.new-list.ensures.items m h
-
-pub loop-row-preserved : goal.loop-row-preserved
-loop-row-preserved c = λ items m h.
-    one_more c.args.rows.now c.loop-row.row-index c.row-item.result items c.loop-row.list.items c.add.new.list.items c.loop-row-test.true c.row-item.is (c.loop-row.invariant items m h) c.in_ok-add.ensures
-
 pub returns : goal.returns
-returns c = λ items m h. all_rows c.args.rows.now c.loop-row.row-index items c.loop-row.list.items c.loop-row-test.false (c.loop-row.invariant items m h)
+returns c = λ items m.
+    alike (known_in items) c.in_ok-files.files.items c.in_ok-directories.directories.items
+    (subst (λ (ks : List Known). IsPermutation (targets_in false ks) c.in_ok-files.files.items) (c.deref.ensures.value ∙ c.in_ok-list.ensures items m) c.in_ok-files.ensures.same)
+    (subst (λ (ks : List Known). IsPermutation (targets_in true ks) c.in_ok-directories.directories.items) (c.deref-2.ensures.value ∙ c.in_ok-list.ensures items m) c.in_ok-directories.ensures.same)

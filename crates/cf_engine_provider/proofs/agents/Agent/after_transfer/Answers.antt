@@ -1,9 +1,19 @@
 use Rattle.std.proofs.Common.{inl, inr}
 use Rattle.std.specs.Prelude.{Ok}
 use Rattle.cf_base.specs.declared.answers.Shown.TheVariants as shown
-use Rattle.cf_model.specs.Fetching.{after_transfer}
-use Rattle.cf_engine_provider.proofs.Performed.{as_skip, no_part, otherwise, when_skipped}
+use Rattle.cf_model.specs.Fetching.{after_transfer, refuse_for}
+use Rattle.cf_engine_provider.proofs.Performed.{as_part, as_skip, no_part, otherwise, when_refused, when_skipped}
 use Rattle.cf_engine_provider.proofs.agents.Agent.after_transfer.Goals as goal
+
+pub returns-in-Full : goal.returns-in-Full
+returns-in-Full g c =
+    as_part g.P.Port.goes g.R.Remote.told (refuse_for c.args.key c.args.span c.args.code) (after_transfer c.args.key c.args.span (shown.Refused c.args.code)) c.args.self.now c.refuse_for.new.self c.args.port.now c.refuse_for.new.port c.refuse_for.result
+    (when_refused c.args.key c.args.span c.args.code (inl c.in-Full.is)) c.refuse_for.ensures
+
+pub returns-in-TableFull : goal.returns-in-TableFull
+returns-in-TableFull g c =
+    as_part g.P.Port.goes g.R.Remote.told (refuse_for c.args.key c.args.span c.args.code) (after_transfer c.args.key c.args.span (shown.Refused c.args.code)) c.args.self.now c.refuse_for-in-TableFull.new.self c.args.port.now c.refuse_for-in-TableFull.new.port c.refuse_for-in-TableFull.result
+    (when_refused c.args.key c.args.span c.args.code (inr c.in-TableFull.is)) c.refuse_for-in-TableFull.ensures
 
 pub returns-in-TooManyAsks : goal.returns-in-TooManyAsks
 returns-in-TooManyAsks g c =

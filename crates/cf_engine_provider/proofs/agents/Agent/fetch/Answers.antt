@@ -7,7 +7,7 @@ use Rattle.cf_model.specs.Agents.{fetch_of}
 use Rattle.cf_model.specs.Messages.{take_reply}
 use Rattle.cf_model.specs.Ports.{Act}
 use Rattle.cf_table.specs.Tables.{Table, row_of}
-use Rattle.cf_engine_provider.proofs.Called.{answered, gone, live_now, too_long, unanswered}
+use Rattle.cf_engine_provider.proofs.Called.{answered, gone, live_now, unanswered}
 use Rattle.cf_engine_provider.proofs.Sent.{ended, went_on}
 use Rattle.cf_engine_provider.proofs.agents.Agent.fetch.Goals as goal
 
@@ -17,15 +17,6 @@ returns-in_default g c = (
   g.met.P.Port.stays c.args.port.now,
   λ ok.
       gone g.R.Remote.told (g.P.Port.sight c.args.port.now) c.args.call.now ask_kind.Fetch c.args.self.now (λ z. refl) c.requires (subst (λ (t : Table). row_of t.rows c.args.call.now.ask.item ≡ None) c.rows.ensures (sym c.in_default.ensures)),
-)
-
-pub returns-in_default-fetch_of : goal.returns-in_default-fetch_of
-returns-in_default-fetch_of g c = (
-  [],
-  g.met.P.Port.stays c.args.port.now,
-  λ ok.
-      too_long g.R.Remote.told (g.P.Port.sight c.args.port.now) c.args.call.now ask_kind.Fetch (fetch_of c.args.call.now.ask) (λ i z. refl) c.in-Some.row.now c.fetch_of.result c.requires
-      (subst (λ (t : Table). row_of t.rows c.args.call.now.ask.item ≡ Some c.in-Some.row.now) c.rows.ensures (sym c.in-Some.ensures)) c.fetch_of.ensures.is c.args.self.now c.in_default-fetch_of.is,
 )
 
 pub returns-in_default-2 : goal.returns-in_default-2

@@ -1,8 +1,7 @@
-use Rattle.std.proofs.Common.{[], ap, refl, sym, subst}
+use Rattle.std.proofs.Common.{[], refl, sym, subst}
 use Rattle.std.specs.Prelude.{◌≡◌, List, None, Ok, Some}
 use Rattle.cf_engine_provider.specs.Agencies.{Plays}
 use Rattle.cf_engine_provider.specs.Findings.{Knows}
-use Rattle.cf_base.specs.declared.messages.Request.{Request}
 use Rattle.cf_base.specs.declared.waits.AskKind.TheVariants as ask_kind
 use Rattle.cf_model.specs.Agents.{list_of}
 use Rattle.cf_model.specs.Messages.{take_reply}
@@ -22,19 +21,19 @@ returns-in_default g c = (
 
 pub returns-in_default-2 : goal.returns-in_default-2
 returns-in_default-2 g c =
-    ended g.P.Port.goes g.R.Remote.told c.list_of-request.result c.args.self.now g.met.P.Port.goes_on (g.P.Port.sight c.args.port.now) c.args.call.now c.send.new.self c.args.port.now c.send.new.port c.in_ok-reply.field-0 (Ok (record {}))
+    ended g.P.Port.goes g.R.Remote.told c.in-Some-list_of.request c.args.self.now g.met.P.Port.goes_on (g.P.Port.sight c.args.port.now) c.args.call.now c.send.new.self c.args.port.now c.send.new.port c.in_ok-reply.field-0 (Ok (record {}))
     c.in_ok-reply.ensures c.in_default-2.is
-    (unanswered g.R.Remote.told (g.P.Port.sight c.args.port.now) c.args.call.now ask_kind.List (list_of c.args.call.now.ask) (λ i z. refl) c.in-Some.row.now (Some c.list_of-request.result) c.requires
-    (subst (λ (t : Table). row_of t.rows c.args.call.now.ask.item ≡ Some c.in-Some.row.now) c.rows.ensures (sym c.in-Some.ensures)) (λ i m h short. ap (λ (q : Request). Some q) (c.list_of-request.ensures.is i m h)) c.list_of-request.result refl c.args.self.now c.send.new.self)
+    (unanswered g.R.Remote.told (g.P.Port.sight c.args.port.now) c.args.call.now ask_kind.List (list_of c.args.call.now.ask) (λ i z. refl) c.in-Some.row.now c.list_of.result c.requires
+    (subst (λ (t : Table). row_of t.rows c.args.call.now.ask.item ≡ Some c.in-Some.row.now) c.rows.ensures (sym c.in-Some.ensures)) c.list_of.ensures.is c.in-Some-list_of.request c.in-Some-list_of.is c.args.self.now c.send.new.self)
     g.met.P.Port.stays
 
 pub returns : goal.returns
 returns g c =
-    went_on g.P.Port.goes g.R.Remote.told c.list_of-request.result c.args.self.now g.met.P.Port.goes_on (g.P.Port.sight c.args.port.now) c.args.call.now c.send.new.self c.take_listed.new.self c.args.port.now c.send.new.port c.take_listed.new.port
-    c.in_ok-reply.field-0 c.in-Some-2.reply (λ (acts : List Act). Plays g.R.Remote.told (Knows c.args.call.now.ask.key c.in_ok-found.found) (take_reply c.list_of-request.result c.in-Some-2.reply) c.send.new.self acts c.take_listed.new.self) c.take_listed.result
+    went_on g.P.Port.goes g.R.Remote.told c.in-Some-list_of.request c.args.self.now g.met.P.Port.goes_on (g.P.Port.sight c.args.port.now) c.args.call.now c.send.new.self c.take_listed.new.self c.args.port.now c.send.new.port c.take_listed.new.port
+    c.in_ok-reply.field-0 c.in-Some-2.reply (λ (acts : List Act). Plays g.R.Remote.told (Knows c.args.call.now.ask.key c.in_ok-found.found) (take_reply c.in-Some-list_of.request c.in-Some-2.reply) c.send.new.self acts c.take_listed.new.self) c.take_listed.result
     c.in_ok-reply.ensures c.in-Some-2.is
     (λ acts more carries next.
-    answered g.R.Remote.told (g.P.Port.sight c.args.port.now) c.args.call.now ask_kind.List (list_of c.args.call.now.ask) (λ i z. refl) c.in-Some.row.now (Some c.list_of-request.result) c.requires
-    (subst (λ (t : Table). row_of t.rows c.args.call.now.ask.item ≡ Some c.in-Some.row.now) c.rows.ensures (sym c.in-Some.ensures)) (λ i m h short. ap (λ (q : Request). Some q) (c.list_of-request.ensures.is i m h)) c.list_of-request.result refl
-    (Knows c.args.call.now.ask.key c.in_ok-found.found) c.args.self.now c.send.new.self c.take_listed.new.self acts more c.in-Some-2.reply (λ f h. c.in_ok-found.ensures f h.shows h.ours h.book) carries next)
+    answered g.R.Remote.told (g.P.Port.sight c.args.port.now) c.args.call.now ask_kind.List (list_of c.args.call.now.ask) (λ i z. refl) c.in-Some.row.now c.list_of.result c.requires
+    (subst (λ (t : Table). row_of t.rows c.args.call.now.ask.item ≡ Some c.in-Some.row.now) c.rows.ensures (sym c.in-Some.ensures)) c.list_of.ensures.is c.in-Some-list_of.request c.in-Some-list_of.is
+    (Knows c.args.call.now.ask.key c.in_ok-found.found) c.args.self.now c.send.new.self c.take_listed.new.self acts more c.in-Some-2.reply (λ f h. c.in_ok-found.ensures f h.shows h.book) carries next)
     c.take_listed.ensures

@@ -12,6 +12,6 @@ returns-in_err-note_line-2 g c =
 pub returns : goal.returns
 returns g c =
     spoke g.P.Port.goes g.R.Remote.told c.args.request.now c.args.self.now g.met.P.Port.goes_on c.in_ok-exchange.exchange c.speak.new.link
-    (record { link = c.speak.new.link; shows_skips = c.self.inside.shows_skips; left_out = c.self.inside.left_out }) c.args.port.now c.note_line.new.port c.note_line-2.new.port c.in_ok-note_line.field-0 c.in_ok-note_line-2.field-0
+    (record { link = c.speak.new.link; shows_skips = c.self.inside.shows_skips; skips = c.self.inside.skips }) c.args.port.now c.note_line.new.port c.note_line-2.new.port c.in_ok-note_line.field-0 c.in_ok-note_line-2.field-0
     (subst (λ (x : Agency g.row.R.Denot). Exchanges g.R.Remote.told c.args.request.now x.link c.in_ok-exchange.exchange c.speak.new.link) c.self.view_is c.in_ok-exchange.ensures)
     (ap (λ (x : Agency g.row.R.Denot). record x { link = c.speak.new.link }) c.self.view_is) c.in_ok-note_line.ensures c.in_ok-note_line-2.ensures

@@ -4,7 +4,7 @@ use Rattle.cf_engine_provider.specs.Parts.{fetched}
 use Rattle.cf_base.specs.declared.messages.Reply.{Reply}
 use Rattle.cf_model.specs.Fetching.{take_bytes}
 use Rattle.cf_engine_provider.proofs.Performed.{as_part, no_part}
-use Rattle.cf_engine_provider.proofs.agents.Agent.act_on.Goals as goal
+use Rattle.cf_engine_provider.proofs.agents.Agent.act_on_fetched.Goals as goal
 
 pub returns-in-Bytes : goal.returns-in-Bytes
 returns-in-Bytes g c =
