@@ -8,7 +8,7 @@ use Rattle.cf_base.specs.declared.changes.Change.TheVariants as change
 use Rattle.cf_base.specs.declared.ids.ItemId.{ItemId}
 use Rattle.cf_base.specs.declared.ids.Usn.{Usn}
 use Rattle.cf_filter_machine.proofs.LowNumbers.{none_spelled}
-use Rattle.cf_filter_machine.proofs.Tombstones.{grave_record}
+use Rattle.cf_filter_machine.proofs.TombstoneLaws.{grave_record}
 use Rattle.cf_model.specs.Books.{Book, Tombstone, aux_records, tombstone_record, with_tombstone}
 use Rattle.cf_model.specs.Calls.{buried, tombstone_for}
 use Rattle.cf_model.specs.Changes.{no_places, why_no_room}

@@ -31,6 +31,6 @@ pub mod RowReads
 pub mod Seen
 pub mod StillFiles
 pub mod TellsRows
-pub mod Tombstones
+pub mod TombstoneLaws
 pub mod WithinLimits
 pub mod WrittenHere
