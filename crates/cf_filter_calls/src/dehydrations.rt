@@ -189,7 +189,8 @@ fn dehydrate_item<S: Steps>(s: &mut S, id: ItemId, start: u64, len: u64) -> Resu
     }
 }
 
-fn dehydrate_range<S: Steps>(
+/// The bytes of the placeholder file with this id leave, as by `dehydrate`. Refused as that is, but for the look-up and IsDirectory.
+pub fn dehydrate_range<S: Steps>(
     s: &mut S,
     id: ItemId,
     range: Option<(u64, u64)>,

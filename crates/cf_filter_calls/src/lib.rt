@@ -27,7 +27,7 @@ mod writes;
 
 pub use commits::flush;
 pub use creations::create;
-pub use dehydrations::dehydrate;
+pub use dehydrations::{dehydrate, dehydrate_range};
 pub use handles::{cancel, close, connect, open_file};
 pub use item_facts::{info, ranges};
 pub use marks::{keep_full, set_in_sync};
@@ -38,5 +38,5 @@ pub use placeholders::{convert, revert, unmark, update};
 pub use policies::{df, set_policy, used};
 pub use removals::delete;
 pub use ticks::tick;
-pub use waits::{get, hydrate, list, read};
+pub use waits::{get, hydrate, hydrate_file, list, read};
 pub use writes::{set_size, write};

@@ -171,7 +171,8 @@ pub fn list<S: Steps>(s: &mut S, path: &str) -> Result<Shown, CallError>
     }
 }
 
-fn hydrate_file<S: Steps>(s: &mut S, id: ItemId) -> Result<Shown, CallError>
+/// The whole of a placeholder file comes here, of the file with this id. Refused as NotPlaceholder, else as `get`.
+pub fn hydrate_file<S: Steps>(s: &mut S, id: ItemId) -> Result<Shown, CallError>
     ensures { (i : Item) → Answers S.sense (IsAt id i) (hydrate_item i) s.old result s.new }
 {
     if is_placeholder(s, id) {
