@@ -43,7 +43,7 @@ pub stops_calling : (part : Arrow Filter Shown) (x : State) (t : Filter) → Sto
 stops_calling part x t h = stops_first (in_filter part x) finish_call (with_filter t x) (stops_mapped (λ f. with_filter f x) (part x.filter) t h)
 
 module _ {P : Type 0} (answers : Answering P) (Sees : P → State → Type 0) (plays : Plays answers Sees) where
-  drains_all : (runs : List (List Act)) (n : ℕ) (p q : P) (x : State) (t : Filter) → length runs ≤ n → Sees p x → Drained answers p x.filter runs q t
+  pub drains_all : (runs : List (List Act)) (n : ℕ) (p q : P) (x : State) (t : Filter) → length runs ≤ n → Sees p x → Drained answers p x.filter runs q t
       → (y : State) × (y.filter ≡ t) × Sees q y × Ends (drained n x) unit y
   drains_all [] n p q x t few sees h = (x, sym h.1, subst (λ (z : P). Sees z x) (sym h.2) sees, ends_none n x h.0)
   drains_all (acts ∷ more) zero p q x t few sees h = absurd (omega (arith, few))
@@ -54,7 +54,7 @@ module _ {P : Type 0} (answers : Answering P) (Sees : P → State → Type 0) (p
       let tail = drains_all more n h.6 q turn.0 t (omega (arith, few)) turn.2 (subst (λ (f : Filter). Drained answers h.6 f more q t) (sym turn.1) h.8) in
       (tail.0, tail.1, tail.2, ends_from n x tail.0 (h.0 ∷ rest) h.2 (ends_then (call_back h.0 next) (λ _ y. drained n y) unit turn.0 unit tail.0 turn.3 tail.3))
 
-  drains_cut : (runs : List (List Act)) (n : ℕ) (p q : P) (x : State) (t : Filter) → length runs ≤ n → Sees p x → CutOff answers p x.filter runs q t
+  pub drains_cut : (runs : List (List Act)) (n : ℕ) (p q : P) (x : State) (t : Filter) → length runs ≤ n → Sees p x → CutOff answers p x.filter runs q t
       → (y : State) × (y.filter ≡ t) × Sees q y × Stops (drained n x) y
   drains_cut [] n p q x t few sees h = absurd h
   drains_cut (acts ∷ []) zero p q x t few sees h = absurd (omega (arith, few))

@@ -87,8 +87,9 @@ impl<D: Disk> Filter<D> {
         self.turned(told)
     }
 
-    // Each callback spends a key of the epoch, so that there are no more than keys.
-    fn drain<P: Provider>(&mut self, p: &mut P) -> Result<(), CallError>
+    /// Calls the provider for each ask that waits for it, in their order, each after the earlier ones have returned, until none is
+    /// left. Each callback spends a key of the epoch, so that there are no more than keys.
+    pub fn drain<P: Provider>(&mut self, p: &mut P) -> Result<(), CallError>
         ensures { Drains most D.state P.answers p.old self.old result p.new self.new }
     {
         for called in 0..u32::MAX {

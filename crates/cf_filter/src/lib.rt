@@ -27,3 +27,4 @@ mod writes;
 
 pub use answers::{Info, Waited};
 pub use filters::Filter;
+pub use shown_values::Told;

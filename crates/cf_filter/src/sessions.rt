@@ -25,8 +25,9 @@ impl<D: Disk> Filter<D> {
         Ok(())
     }
 
-    /// A call begins that tells its notes to the caller.
-    pub(crate) fn begin(&mut self, notes: &mut Notes) -> Result<(), CallError>
+    /// A call, or an event of an engine, begins: the notes of all that is done until it ends go to the caller. Refused as Broken, and
+    /// nothing is changed, after a call that was stopped.
+    pub fn begin(&mut self, notes: &mut Notes) -> Result<(), CallError>
         ensures whole { OnOk result (self.old.desk.broken ≡ false) }
         ensures ok { OnOk result (self.new ≡ noted notes.old self.old) }
         ensures kept { OnOk result (notes.new ≡ self.old.desk.notes) }
@@ -60,12 +61,9 @@ impl<D: Disk> Filter<D> {
         }
     }
 
-    /// The same, of a call that tells its notes to the caller.
-    pub(crate) fn finish_with<A>(
-        &mut self,
-        told: Told<A>,
-        notes: &mut Notes,
-    ) -> Result<A, CallError>
+    /// The call or the event ends, and the notes are the caller's. What it was told is its answer, and one that was stopped breaks the
+    /// filter.
+    pub fn finish_with<A>(&mut self, told: Told<A>, notes: &mut Notes) -> Result<A, CallError>
         ensures answer { result ≡ answer_of told }
         ensures new { self.new ≡ broken_by (is_stopped told) (noted notes.old self.old) }
         ensures notes { notes.new ≡ self.old.desk.notes }

@@ -12,7 +12,7 @@ use cf_provider::Outcome;
 
 /// What a part of a call gave, or why it was refused; or that the device or memory stopped it. A part that shows what its
 /// call can not give counts as stopped where memory runs out.
-pub(crate) type Told<A> = Result<Result<A, Code>, CallError>;
+pub type Told<A> = Result<Result<A, Code>, CallError>;
 
 /// What the caller is answered.
 pub(crate) fn answer<A>(told: Told<A>) -> Result<A, CallError>
