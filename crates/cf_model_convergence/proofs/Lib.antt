@@ -1,2 +1,11 @@
+pub mod FeedsOrder
+pub mod FeedsTold
+pub mod LateChanges
+pub mod Lines
+pub mod RestingMatches
+pub mod RoundsTaken
 pub mod SettledItems
+pub mod TargetsHere
+pub mod TidyDepths
+pub mod TidyItems
 pub mod TidyRemotes

@@ -1,6 +1,6 @@
 -- Items that match are alike by their paths too.
 use Rattle.std.proofs.Common.{◌≡◌, ℕ, zero, suc, Bool, true, false, List, [], ◌∷◌, refl, sym, ◌∙◌, ap, subst, length, eq-eqb}
-use Rattle.std.specs.Prelude.{Option, Some, None, not, map, filter, count_by, ◌+◌, ◌&&◌, ◌||◌, ◌==◌}
+use Rattle.std.specs.Prelude.{Option, Some, not, map, filter, count_by, ◌+◌, ◌&&◌, ◌||◌, ◌==◌}
 use Rattle.std.specs.Bool.{beq}
 use Rattle.std.specs.List.{list_all, list_any}
 use Rattle.std.proofs.lemmas.Bool.{eqb-true}
@@ -15,14 +15,16 @@ use Rattle.cf_model.specs.Passes.{is_unsettled, unsettled}
 use Rattle.cf_model.specs.Settled.{has_one_local, is_alike, is_latest, is_settled, is_settled_item, local_names, remote_names, same_names}
 use Rattle.cf_model.specs.Skips.{in_use}
 use Rattle.cf_model.specs.State.{State, book_now, items_now}
-use Rattle.cf_model.specs.Store.{Held, Stored, ancestors, line_of, stored_at}
+use Rattle.cf_model.specs.Store.{Held, Stored, line_of, stored_at}
 use Rattle.cf_model.specs.Words.{is_empty, part, same, says}
 use Rattle.cf_model_laws.specs.Invariant.{All}
 use Rattle.cf_model_laws.proofs.FoundItems.{both, found_id}
-use Rattle.cf_model_laws.proofs.Gathered.{all_any, all_found, all_weaker}
+use Rattle.cf_model_laws.proofs.Gathered.{all_weaker}
 use Rattle.cf_model_laws.proofs.RightItems.{no_way, no_way_back}
 use Rattle.cf_model_laws.proofs.SoundSettles.{left_true, right_true}
 use Rattle.cf_model_convergence.specs.Matching.{IsAllHere, IsBelow, IsMatched, IsMatching}
+use Rattle.cf_model_convergence.proofs.Lines.{no_line as no_above, same_rid}
+use Rattle.cf_model_convergence.proofs.TidyItems.{found_rid}
 
 -- the root
 
@@ -32,15 +34,8 @@ no_line items i found top = ap (λ (o : Option Item). line_up (length items) ite
   by zero = refl
   by (suc fuel) = rw (eq-eqb i.id.0 1 top) refl
 
-pub stored_rid : (items : List Stored) (rid : Rid) (r : Stored) → stored_at items rid ≡ Some r → r.rid.0 ≡ rid.0
-stored_rid items rid r e = eqb-true r.rid.0 rid.0 (all_found (λ s. Unit {0}) (λ s. s.rid.0 == rid.0) items r e (all_any (λ s. Unit {0}) (λ s. tt) items)).1
-
 root_line : (held : Held) → line_of held root_rid ≡ []
-root_line held = by (length held.items) (stored_at held.items root_rid) (λ r e. eq-eqb r.rid.0 1 (stored_rid held.items root_rid r e)) where
-  by : (fuel : ℕ) (o : Option Stored) → ((r : Stored) → o ≡ Some r → (r.rid.0 == 1) ≡ true) → ancestors fuel held.items o ≡ []
-  by zero o h = refl
-  by (suc fuel) None h = refl
-  by (suc fuel) (Some r) h = rw (h r refl) refl
+root_line held = no_above (length held.items) held.items root_rid refl
 
 root_target : (i : Item) → i.id.0 ≡ 1 → target_of i ≡ root_rid
 root_target i top = rw (eq-eqb i.id.0 1 top) refl
@@ -55,9 +50,6 @@ more_names f g x y l m xs ys d e h k = rw (d, e) (both (same (f x) (g y)) (same_
 
 tail_of : (x y : ℕ) (xs ys : List ℕ) → x ∷ xs ≡ y ∷ ys → xs ≡ ys
 tail_of x y xs ys e = cc
-
-same_rid : (a b : Rid) → a.0 ≡ b.0 → a ≡ b
-same_rid a b e = λ i. record { 0 = e i }
 
 -- an item that is not excluded has no parent that is
 not_excluded : (f : ℕ → Bool) (x : ℕ) (l xs : List ℕ) → xs ≡ x ∷ l → list_any f (1 ∷ xs) ≡ false → list_any f (1 ∷ l) ≡ false
@@ -84,7 +76,7 @@ module _ (s : State) (h : IsMatching s) where
   below_root x xs rest i below out idle line =
       let m : IsMatched s i = h.matched i below out idle in
       let p : (p : Item) × (item_of (items_now s) i.parent ≡ Some p) × (item_line (items_now s) i.id ≡ i.id.0 ∷ item_line (items_now s) p.id) = h.tree i below in
-      let target : (target_of i).0 ≡ m.stored.rid.0 = sym (stored_rid s.link.remote.items (target_of i) m.stored m.found) in
+      let target : (target_of i).0 ≡ m.stored.rid.0 = sym (found_rid s.link.remote.items (target_of i) m.stored m.found) in
       let there : stored_at s.link.remote.items m.stored.rid ≡ Some m.stored = subst (λ (rid : Rid). stored_at s.link.remote.items rid ≡ Some m.stored) (same_rid (target_of i) m.stored.rid target) m.found in
       let lower : (m.stored.rid.0 ≡ 1) → ⊥ = λ top. h.one_root i below (target ∙ top) in
       let up : (target_of p.0).0 ≡ m.stored.parent.0 = ap (λ (o : Option Item). (part target_of no_rid o).0) (sym p.1) ∙ m.parent in
@@ -127,7 +119,7 @@ module _ (s : State) (h : IsMatching s) where
   alike : (i : Item) → IsBelow s i → is_excluded (items_now s) i.id ≡ false → in_use s i.id ≡ false → (i.in_sync && says (is_alike s i) (stored_at s.link.remote.items (target_of i))) ≡ true
   alike i below out idle =
       let m : IsMatched s i = h.matched i below out idle in
-      let target : target_of i ≡ m.stored.rid = same_rid (target_of i) m.stored.rid (sym (stored_rid s.link.remote.items (target_of i) m.stored m.found)) in
+      let target : target_of i ≡ m.stored.rid = same_rid (target_of i) m.stored.rid (sym (found_rid s.link.remote.items (target_of i) m.stored m.found)) in
       let paths : same_names (local_names (items_now s) i.id) (remote_names s.link.remote m.stored.rid) ≡ true =
       subst (λ (rid : Rid). same_names (local_names (items_now s) i.id) (remote_names s.link.remote rid) ≡ true) target (same_paths (item_line (items_now s) i.id) i below.0 out idle refl) in
       both i.in_sync (says (is_alike s i) (stored_at s.link.remote.items (target_of i))) m.in_sync

@@ -1,4 +1,7 @@
+pub mod Feeds
 pub mod Matching
 pub mod Quiet
+pub mod Resting
+pub mod Rounds
 pub mod Scripts
 pub mod Tidy

@@ -1,6 +1,5 @@
 -- Small scripts that end with a `sync`, quiet or not.
-use Rattle.std.specs.Prelude.{Bool, true, false, List, [], codes, ◌∷◌, ◌++◌, map}
-use Rattle.cf_base.specs.declared.answers.Answer.{Answer}
+use Rattle.std.specs.Prelude.{Bool, List, [], codes, ◌∷◌, map}
 use Rattle.cf_base.specs.declared.calls.Call.TheVariants as call
 use Rattle.cf_base.specs.declared.events.EngineEvent.TheVariants as engine
 use Rattle.cf_base.specs.declared.events.Event.{Event}

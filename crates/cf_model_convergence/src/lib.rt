@@ -3,4 +3,5 @@
 
 pub mod examples;
 pub mod remotes;
+pub mod rounds;
 pub mod settled;
