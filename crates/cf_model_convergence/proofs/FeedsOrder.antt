@@ -1,4 +1,4 @@
--- A feed of a tidy remote tells parents before their children.
+-- A feed of a tidy remote reports parents before their children.
 use Rattle.std.proofs.Common.{◌≡◌, ◌⊎◌, ◌<◌, ◌≤◌, ◌+◌, ℕ, zero, suc, Bool, true, false, List, [], ◌∷◌, ◌++◌, refl, sym, ◌∙◌, ap, subst, inl, inr, arith, length, map, eq-eqb}
 use Rattle.std.specs.Prelude.{Some, None, cond, filter, not, nat_lt, ◌&&◌, ◌==◌}
 use Rattle.std.specs.List.{flat_map}

@@ -1,4 +1,4 @@
--- A feed of a tidy remote tells what was changed, once, and as it is.
+-- A feed of a tidy remote reports what was changed, once, and as it is.
 use Rattle.std.proofs.Common.{◌≡◌, ◌<◌, ◌≤◌, ◌+◌, ℕ, zero, suc, Bool, true, false, List, [], ◌∷◌, ◌++◌, refl, sym, ◌∙◌, ap, subst, inl, inr, arith, length, map, eq-eqb}
 use Rattle.std.specs.Prelude.{Some, cond, filter, not, nat_le, nat_lt, ◌&&◌, ◌||◌, ◌==◌}
 use Rattle.std.specs.List.{flat_map, list_all}

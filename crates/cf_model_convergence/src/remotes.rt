@@ -22,7 +22,7 @@ pub fn a_tidy_remote_stays_tidy()
     ensures empty { IsTidy empty_remote }
 {}
 
-/// A feed of a tidy remote tells each item below the root that was changed after the clock, as it is now, and nothing else. No item
+/// A feed of a tidy remote reports each item below the root that was changed after the clock, as it is now, and nothing else. No item
 /// is told twice, and the reply fits where what is known of the kinds is right.
 #[tactic(auto, using(crate::proofs::FeedsTold::tells_now, crate::proofs::FeedsTold::tells_all, crate::proofs::FeedsTold::fits_known))]
 pub fn a_feed_tells_what_was_changed()
