@@ -1,0 +1,54 @@
+-- What an engine has of its own, and how that and what stands for a filter stand for the whole state.
+use Rattle.std.proofs.Common.{◌≡◌, ℕ, Bool, refl}
+use Rattle.std.specs.Prelude.{Option}
+use Rattle.cf_base.specs.declared.policies.Mode.TheVariants as mode
+use Rattle.cf_engine_steps.specs.Answering.{Whole}
+use Rattle.cf_engine_steps.specs.Faults.{Rose, fault_lines, rose_both, rose_none}
+use Rattle.cf_link.specs.Linked.{IsLink, Linked}
+use Rattle.cf_model.specs.State.{On, State}
+use Rattle.cf_remote.specs.Told.{Told}
+use Rattle.cf_filter_steps.specs.Answering.{Sense}
+
+-- the link to the remote; and of the running event whether `skipped` lines stand in it, how many steps were left out, whether
+-- a Done was taken, and the clock of the first feed that was applied
+pub record Own (R : Type 0) : Type 0 where
+  pub link : Linked R
+  pub shows_skips : Bool
+  pub skips : ℕ
+  pub took_done : Bool
+  pub first_clock : Option ℕ
+
+pub record Means {X R : Type 0} (S : Sense X) (told : R → Told) (x : X) (e : Own R) (s : State) : Type 0 where
+  pub filter : S.means x s.filter
+  pub replays : s.mode ≡ mode.Replay
+  pub on : s.power ≡ On
+  pub link : IsLink told e.link s.link
+  pub shows_skips : e.shows_skips ≡ s.running.shows_skips
+  pub skips : e.skips ≡ s.running.skips
+  pub took_done : e.took_done ≡ s.running.took_done
+  pub first_clock : e.first_clock ≡ s.running.first_clock
+
+-- The link stands also where the device stopped a part: other devices and crashes go on with it.
+pub record Stopped {X R : Type 0} (S : Sense X) (told : R → Told) (x y : X) (f : Own R) (t : State) : Type 0 where
+  pub filter : S.stopped x y t.filter
+  pub replays : t.mode ≡ mode.Replay
+  pub link : IsLink told f.link t.link
+
+-- how often the remote failed
+abbrev pub faults_of : {R : Type 0} → (R → Told) → Own R → ℕ
+faults_of told e = (told e.link.remote).faults
+
+abbrev pub whole : {X R : Type 0} → Sense X → (R → Told) → Whole (X × Own R)
+whole S told = record {
+  means = λ x s. Means S told x.0 x.1 s;
+  stopped = λ x y t. Stopped S told x.0 y.0 y.1 t;
+  durable = λ x s. S.durable x.0 s.filter;
+  moved = λ x y s t. S.moved x.0 y.0 s.filter t.filter;
+  counted = λ x y s t. Rose (faults_of told x.1) (faults_of told y.1) (fault_lines s.filter) (fault_lines t.filter);
+  endures = λ x s h. S.endures x.0 s.filter h.filter;
+  stays = λ x s h. S.stays x.0 s.filter h.filter;
+  goes_on = λ x y z s t u a b. S.goes_on x.0 y.0 z.0 s.filter t.filter u.filter a b;
+  stops_on = λ x y z s t u a b. record { filter = S.stops_on x.0 y.0 z.0 s.filter t.filter u.filter a b.filter; replays = b.replays; link = b.link };
+  counts_none = λ x s. rose_none (faults_of told x.1) (fault_lines s.filter) (fault_lines s.filter) refl;
+  counts_on = λ x y z s t u a b. rose_both (faults_of told x.1) (faults_of told y.1) (faults_of told z.1) (fault_lines s.filter) (fault_lines t.filter) (fault_lines u.filter) a b;
+}

@@ -1,0 +1,38 @@
+//! The steps of which the engine is made.
+//!
+//! The engine acts on two values. One does the steps of a filter, and those of `EngineSteps` on the lines of the running event and on
+//! the book; that may be a filter on a disk, or a plain machine. The other is `Engine`: the link to the remote, and what the engine
+//! knows of the running event. Together they stand for the whole state of the definitions, and each step here does to that state what
+//! the definition of its name does. specs/Answering says what a step answers and leaves, specs/States how the two stand for the state.
+//!
+//! Of each step holds:
+//!
+//! - Where it is done, the two values stand for the state after it.
+//! - Where the device stopped it, they stand for the state that a stop leaves there. The filter answers nothing more. The link and the
+//!   remote still stand for those of that state, since other devices and a crash go on with them.
+//! - Out of memory, at each moment of the step a crash leaves a point that the state may be opened at.
+//! - Where it is done or stopped, the remote's count of faults rose at least by the lines that report a fault and that the notes have
+//!   more than before.
+//!
+//! A step that finds no room is left out: `skip` counts it, and adds its line where such lines stand. `try_change`, `mark` and
+//! `try_seen` answer whether they were done. What a step needs of the state is tested where it is used; a case that no state has is
+//! answered as out of memory, by `no_such_state` of cf_base, and nothing is lost by it. The laws by which steps are put together
+//! stand in proofs/Laws and proofs/Loops; those by which a part of the filter or of the link is a part of the whole, in
+//! proofs/Lifting and proofs/Linking.
+#![tactic(auto)]
+
+mod changes;
+mod engine_steps;
+mod engines;
+mod marks;
+mod paths_seen;
+mod posts;
+mod skips;
+
+pub use changes::try_change;
+pub use engine_steps::EngineSteps;
+pub use engines::Engine;
+pub use marks::mark;
+pub use paths_seen::try_seen;
+pub use posts::post;
+pub use skips::skip;
