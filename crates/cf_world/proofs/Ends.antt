@@ -5,7 +5,7 @@ use Rattle.cf_base.specs.declared.answers.Answer.{Answer}
 use Rattle.cf_base.specs.declared.events.Event.{Event}
 use Rattle.cf_base.specs.declared.policies.Mode.{Mode}
 use Rattle.cf_base.specs.declared.statuses.Status.{Status}
-use Rattle.cf_base.specs.declared.statuses.Status.TheVariants.{Done, Usage, BadScript, SourceFault, SinkFault, BadDevice, OutOfMemory, TooLong, DeviceFault}
+use Rattle.cf_base.specs.declared.statuses.Status.TheVariants.{Done, Usage, BadScript, SourceFault, SinkFault, BadDevice, OutOfMemory, TooLong, DeviceFault, BadImage, Unlawful, Undecided, Damaged}
 use Rattle.cf_disk.specs.Disk.{State as Disk}
 use Rattle.cf_io.specs.Moves.{AddsFront}
 use Rattle.cf_script.specs.FailEvents.{IsCause}
@@ -42,6 +42,10 @@ refusal_written state m disk text old new SourceFault h = absurd h
 refusal_written state m disk text old new TooLong h = absurd h
 refusal_written state m disk text old new BadDevice h = absurd h
 refusal_written state m disk text old new DeviceFault h = absurd h
+refusal_written state m disk text old new BadImage h = absurd h
+refusal_written state m disk text old new Unlawful h = absurd h
+refusal_written state m disk text old new Undecided h = absurd h
+refusal_written state m disk text old new Damaged h = absurd h
 
 -- what is said of the trace of what was played is all that changes
 front_said : (P Q : List (Event × Answer) → Type 0) (events : List Event) (old new : Option (List ℕ)) → ((trace : List (Event × Answer)) → P trace → Q trace) → PlaysFront P events old new → PlaysFront Q events old new

@@ -5,3 +5,4 @@ pub mod Ends
 pub mod Counted
 pub mod Sided
 pub mod OverPowers
+mod OfTexts

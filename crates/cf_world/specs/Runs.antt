@@ -8,7 +8,7 @@ use Rattle.cf_base.specs.declared.policies.Mode.{Mode}
 use Rattle.cf_base.specs.declared.policies.Mode.TheVariants as mode
 use Rattle.cf_base.specs.declared.statuses.Status.{Status}
 use Rattle.cf_base.specs.declared.statuses.Status.TheVariants as status
-use Rattle.cf_disk.specs.Disk.{State as Disk}
+use Rattle.cf_disk.specs.Disk.{State as Disk, size_of}
 use Rattle.cf_io.specs.Moves.{Adds, AddsFront}
 use Rattle.cf_journal.specs.Settled.{IsFitSize}
 use Rattle.cf_volume_points.specs.Standing.{clusters_on}
@@ -138,6 +138,11 @@ Writes state m disk text old new status.TooLong back =
     (16777216 < length text × Adds old new [] × (back ≡ disk)) ⊎ (length text ≤ 16777216 × ReportsLong (λ trace. Leads state m disk trace back) m text old new)
 Writes state m disk text old new status.BadDevice back = IsGood m text × Adds old new []
 Writes state m disk text old new status.DeviceFault back = IsGood m text × Adds old new []
+-- these are of commands that judge images and reports
+Writes state m disk text old new status.BadImage back = ⊥
+Writes state m disk text old new status.Unlawful back = ⊥
+Writes state m disk text old new status.Undecided back = ⊥
+Writes state m disk text old new status.Damaged back = ⊥
 
 -- how long a text is, by the status
 abbrev pub IsLength : Status → List ℕ → Type 0
@@ -150,6 +155,10 @@ IsLength status.TooLong text = Unit {0}
 IsLength status.OutOfMemory text = Unit {0}
 IsLength status.Usage text = Unit {0}
 IsLength status.SourceFault text = Unit {0}
+IsLength status.BadImage text = ⊥
+IsLength status.Unlawful text = ⊥
+IsLength status.Undecided text = ⊥
+IsLength status.Damaged text = ⊥
 
 -- the statuses of a text that was read
 abbrev pub IsAfterReading : Status → Type 0
@@ -162,6 +171,10 @@ IsAfterReading status.BadDevice = Unit {0}
 IsAfterReading status.DeviceFault = Unit {0}
 IsAfterReading status.Usage = ⊥
 IsAfterReading status.SourceFault = ⊥
+IsAfterReading status.BadImage = ⊥
+IsAfterReading status.Unlawful = ⊥
+IsAfterReading status.Undecided = ⊥
+IsAfterReading status.Damaged = ⊥
 
 -- the statuses of a report
 abbrev pub IsOfReport : Status → Type 0
@@ -214,3 +227,17 @@ WritesRefusal m text old new status.BadScript = Refuses m text old new
 WritesRefusal m text old new status.SinkFault = RefusesFront m text old new
 WritesRefusal m text old new status.OutOfMemory = Adds old new [] ⊎ RefusesFront m text old new
 WritesRefusal m text old new _ = ⊥
+
+-- All that holds of the text of a run, by how it ended. The run was quiet where neither source nor sink failed.
+pub record OfText {D : Type 0} (state : D → Disk) (m : Mode) (disk : D) (text : List ℕ) (old new : Option (List ℕ)) (Unwritten Quiet : Type 0) (end : Status) (back : D) : Type 0 where
+  -- what was written: at Done the texts of lawful answers, one for each event of the whole text
+  pub writes : Writes state m disk text old new end back
+  pub lengths : IsLength end text
+  -- no text of events that are built ends as BadScript
+  pub bad : end ≡ status.BadScript → (events : List Event) → IsBuilt m text events → ⊥
+  -- a device that is not fit ends as BadDevice, once the text was read
+  pub unfit : (IsFit (size_of (state disk)) → ⊥) → length text ≤ 16777216 → (events : List Event) → IsBuilt m text events → IsUnfit end
+  -- of a text that is too long nothing is written
+  pub long : end ≡ status.TooLong → 16777216 < length text → Unwritten
+  -- a quiet run on a fit device is done, or the report is too long, memory ran out, or the device failed before the first event
+  pub complete : Quiet → IsFit (size_of (state disk)) → length text ≤ 16777216 → (events : List Event) → IsBuilt m text events → IsComplete end

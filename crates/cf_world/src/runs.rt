@@ -1,17 +1,17 @@
 //! The top call.
 
-ghost use Rattle.std.specs.Prelude.{◌≡◌, ◌≢◌, ◌⊎◌, ◌<◌, ◌≤◌, ◌+◌, ◌↔◌, length, List, [], IfErr, IfSome, IfOk, IsTrue, OnOk, OnErr, IsErrOf, string_bytes, map};
+ghost use Rattle.std.specs.Prelude.{◌≡◌, ◌≢◌, ◌⊎◌, ◌<◌, ◌≤◌, ◌+◌, ◌↔◌, ℕ, length, List, [], IfErr, IfOk, IsTrue, OnOk, OnErr, IsErrOf, string_bytes, map};
 ghost use Rattle.cf_base.specs.declared.events.Event.{Event};
 ghost use Rattle.cf_base.specs.declared.policies.Mode.{Mode as Commanded};
 ghost use Rattle.cf_base.specs.declared.policies.Mode.TheVariants.{Filter};
 ghost use Rattle.cf_disk.specs.Disk.{capped, size_of};
-ghost use Rattle.cf_io.specs.Moves.{Rose, IsQuiet, Adds, AddsFront};
+ghost use Rattle.cf_io.specs.Moves.{Rose, IsQuiet, IsWhole, Adds, AddsFront};
 ghost use Rattle.cf_script.specs.FailEvents.{IsCause};
 ghost use Rattle.cf_script.specs.Script.{lines_of};
 ghost use Rattle.cf_cli.specs.Accounts.{AreTaken, Names};
 ghost use Rattle.cf_cli.specs.declared.commands.Command.{Command as Meant};
 ghost use Rattle.cf_world.specs.Led.{HandsBack, HasRunOn};
-ghost use Rattle.cf_world.specs.Runs.{IsAfterReading, IsBeforeDevice, IsBeforeWriting, IsBuilt, IsComplete, IsFit, IsLength, IsOfReport, IsStarted, IsUnfit, Writes, WritesRefusal, fail_line, mode_of};
+ghost use Rattle.cf_world.specs.Runs.{IsAfterReading, IsBeforeDevice, IsBeforeWriting, IsBuilt, IsComplete, IsFit, IsOfReport, OfText, IsStarted, IsUnfit, Writes, WritesRefusal, fail_line, mode_of};
 ghost use Rattle.cf_world.specs.Steps.{early_status, play_status, read_status, start_status, words_status};
 
 use crate::play_errors::PlayError;
@@ -54,38 +54,28 @@ pub fn run<S: Source, K: Sink, D: Disk + Drop, R: Remote>(
     disk: D,
     remote: R,
 ) -> Finish<D, R>
-    // What was written, by the status: at Done the texts of lawful answers, one for each event of the whole text. The disk
-    // had one power cut for each crash, and each restart that resumed opened what the last of them left; what a crash leaves of
-    // the disk then stands for a point that a restart may open. So it is of the events that were done at SinkFault, and where
-    // the report is too long.
-    ensures writes { (c : Meant) → Names (map string_bytes words.now) c → IfSome (S.left source.old) (λ text. Writes D.state (mode_of c) disk text (K.held sink.old) (K.held sink.new) result.status result.disk) }
-    ensures remote { result.remote ≡ remote }
-    ensures kept { (c : Meant) → Names (map string_bytes words.now) c → HandsBack (mode_of c) disk result.disk }
-
-    // The cause of each status.
+    // The words name a command, and there is a text, which the source had left where it reports one, of which all holds that
+    // `OfText` says: what was written, by the status, and when each status comes. Or the words are no command, or memory ran out
+    // while they were read; then nothing was touched.
+    ensures words { ((c : Meant) × Names (map string_bytes words.now) c × ((text : List ℕ) × IsWhole (S.left source.old) text
+        × OfText D.state (mode_of c) disk text (K.held sink.old) (K.held sink.new) (sink.new ≡ sink.old) (IsQuiet (S.faults source.old) (S.faults source.new) × IsQuiet (K.faults sink.old) (K.faults sink.new)) result.status result.disk))
+        ⊎ (((result.status ≡ Status.Usage) ⊎ (result.status ≡ Status.OutOfMemory)) × (source.new ≡ source.old) × (sink.new ≡ sink.old) × (result.disk ≡ disk)) }
     ensures usage { result.status ≡ Status.Usage → AreTaken (map string_bytes words.now) → ⊥ }
     ensures refused { (AreTaken (map string_bytes words.now) → ⊥) → (result.status ≡ Status.Usage) ⊎ (result.status ≡ Status.OutOfMemory) }
+
+    // The cause of each status, of whatever text.
     ensures source_fault { result.status ≡ Status.SourceFault → Rose (S.faults source.old) (S.faults source.new) }
     ensures sink_fault { result.status ≡ Status.SinkFault → Rose (K.faults sink.old) (K.faults sink.new) }
-    ensures lengths { IfSome (S.left source.old) (IsLength result.status) }
-    ensures bad { (c : Meant) → Names (map string_bytes words.now) c → result.status ≡ Status.BadScript → IfSome (S.left source.old) (λ text. (events : List Event) → IsBuilt (mode_of c) text events → ⊥) }
     ensures device { result.status ≡ Status.BadDevice → IsFit (size_of (D.state disk)) → ⊥ }
-    ensures unfit { (c : Meant) → Names (map string_bytes words.now) c → (IsFit (size_of (D.state disk)) → ⊥)
-        → IfSome (S.left source.old) (λ text. length text ≤ 16777216 → (events : List Event) → IsBuilt (mode_of c) text events → IsUnfit result.status) }
     ensures device_fault { result.status ≡ Status.DeviceFault → capped ((D.state disk).faults + 1) ≤ (D.state result.disk).faults }
     ensures begun { (c : Meant) → Names (map string_bytes words.now) c → result.status ≡ Status.DeviceFault → mode_of c ≡ Filter }
 
     // What is not touched.
+    ensures remote { result.remote ≡ remote }
+    ensures kept { (c : Meant) → Names (map string_bytes words.now) c → HandsBack (mode_of c) disk result.disk }
     ensures unread { result.status ≡ Status.Usage → source.new ≡ source.old }
     ensures unwritten { IsBeforeWriting result.status → sink.new ≡ sink.old }
-    ensures long { result.status ≡ Status.TooLong → IfSome (S.left source.old) (λ text. 16777216 < length text → sink.new ≡ sink.old) }
     ensures unused { IsBeforeDevice result.status → result.disk ≡ disk }
-
-    // Source and sink do not fail, the device is fit, and the text spells events that are built: the run is done, the report
-    // is too long, memory ran out, or the device failed before the first event.
-    ensures complete { (c : Meant) → Names (map string_bytes words.now) c → IsQuiet (S.faults source.old) (S.faults source.new)
-        → IsQuiet (K.faults sink.old) (K.faults sink.new) → IsFit (size_of (D.state disk))
-        → IfSome (S.left source.old) (λ text. length text ≤ 16777216 → (events : List Event) → IsBuilt (mode_of c) text events → IsComplete result.status) }
 {
     match command_of(alloc, words) {
         Ok(command) => sourced(alloc, mode_of(command), source, sink, disk, remote),
@@ -124,23 +114,17 @@ fn sourced<S: Source, K: Sink, D: Disk + Drop, R: Remote>(
     disk: D,
     remote: R,
 ) -> Finish<D, R>
-    ensures writes { IfSome (S.left source.old) (λ text. Writes D.state mode disk text (K.held sink.old) (K.held sink.new) result.status result.disk) }
+    ensures text { (text : List ℕ) × IsWhole (S.left source.old) text × OfText D.state mode disk text (K.held sink.old) (K.held sink.new) (sink.new ≡ sink.old) (IsQuiet (S.faults source.old) (S.faults source.new) × IsQuiet (K.faults sink.old) (K.faults sink.new)) result.status result.disk }
     ensures remote { result.remote ≡ remote }
     ensures kept { HandsBack mode disk result.disk }
     ensures only { result.status ≢ Status.Usage }
     ensures source_fault { result.status ≡ Status.SourceFault → Rose (S.faults source.old) (S.faults source.new) }
     ensures sink_fault { result.status ≡ Status.SinkFault → Rose (K.faults sink.old) (K.faults sink.new) }
-    ensures lengths { IfSome (S.left source.old) (IsLength result.status) }
-    ensures bad { result.status ≡ Status.BadScript → IfSome (S.left source.old) (λ text. (events : List Event) → IsBuilt mode text events → ⊥) }
     ensures device { result.status ≡ Status.BadDevice → IsFit (size_of (D.state disk)) → ⊥ }
-    ensures unfit { (IsFit (size_of (D.state disk)) → ⊥) → IfSome (S.left source.old) (λ text. length text ≤ 16777216 → (events : List Event) → IsBuilt mode text events → IsUnfit result.status) }
     ensures device_fault { result.status ≡ Status.DeviceFault → capped ((D.state disk).faults + 1) ≤ (D.state result.disk).faults }
     ensures begun { result.status ≡ Status.DeviceFault → mode ≡ Filter }
     ensures unwritten { IsBeforeWriting result.status → sink.new ≡ sink.old }
-    ensures long { result.status ≡ Status.TooLong → IfSome (S.left source.old) (λ text. 16777216 < length text → sink.new ≡ sink.old) }
     ensures unused { IsBeforeDevice result.status → result.disk ≡ disk }
-    ensures complete { IsQuiet (S.faults source.old) (S.faults source.new) → IsQuiet (K.faults sink.old) (K.faults sink.new) → IsFit (size_of (D.state disk))
-        → IfSome (S.left source.old) (λ text. length text ≤ 16777216 → (events : List Event) → IsBuilt mode text events → IsComplete result.status) }
 {
     match read_all(alloc, source, MOST_SCRIPT_BYTES) {
         Ok(text) => scripted(alloc, mode, &text, sink, disk, remote),

@@ -1,0 +1,108 @@
+-- The text of a run: the one that was read, or one that the source may have had left.
+use Rattle.std.proofs.Common.{◌≡◌, ◌<◌, ◌≤◌, ◌+◌, ◌^◌, ℕ, List, [], ◌++◌, length, refl, sym, ap, ◌∙◌, subst, arith, inl, inr}
+use Rattle.std.specs.Prelude.{Option, Some, None}
+use Rattle.std.proofs.Math.ListN.{replicate}
+use Rattle.std.proofs.lemmas.List.{append-nil, length-replicate}
+use Rattle.cf_base.specs.declared.events.Event.{Event}
+use Rattle.cf_base.specs.declared.policies.Mode.{Mode}
+use Rattle.cf_base.specs.declared.statuses.Status.{Status}
+use Rattle.cf_base.specs.declared.statuses.Status.TheVariants as status
+use Rattle.cf_disk.specs.Disk.{State as Disk, size_of}
+use Rattle.cf_io.specs.Moves.{Adds, IsLonger, IsQuiet, IsWhole, Rose}
+use Rattle.cf_io.specs.declared.faults.ReadError.{ReadError}
+use Rattle.cf_io.specs.declared.faults.ReadError.TheVariants as reading
+use Rattle.cf_world.specs.Runs.{IsAfterReading, IsBuilt, IsComplete, IsFit, IsLength, IsUnfit, OfText, Writes}
+use Rattle.cf_world.specs.Steps.{read_status}
+
+-- what the source has left, or a text of some length where it reports nothing
+abbrev pub some_text : ℕ → Option (List ℕ) → List ℕ
+some_text n None = replicate n 0
+some_text n (Some left) = left
+
+whole_text : (n : ℕ) (left : Option (List ℕ)) → IsWhole left (some_text n left)
+whole_text n None = tt
+whole_text n (Some left) = refl
+
+long_text : (n : ℕ) (left : Option (List ℕ)) → IsLonger left n → n < length (some_text (n + 1) left)
+long_text n None h = rw (length-replicate (n + 1) 0) (omega arith)
+long_text n (Some left) h = h
+
+pub adds_nothing : (held : Option (List ℕ)) → Adds held held []
+adds_nothing None = tt
+adds_nothing (Some h) = ap (λ l. Some l) (sym (append-nil h))
+
+not_quiet : (old new : ℕ) → Rose old new → IsQuiet old new → ⊥
+not_quiet old new rose quiet = omega (arith, rose quiet.1, quiet.0)
+
+short_enough : (s : Status) (text : List ℕ) → length text ≤ 16777216 → IsAfterReading s → IsLength s text
+short_enough status.Done text short h = short
+short_enough status.BadScript text short h = short
+short_enough status.SinkFault text short h = short
+short_enough status.BadDevice text short h = short
+short_enough status.DeviceFault text short h = short
+short_enough status.TooLong text short h = tt
+short_enough status.OutOfMemory text short h = tt
+short_enough status.Usage text short h = absurd h
+short_enough status.SourceFault text short h = absurd h
+short_enough status.BadImage text short h = absurd h
+short_enough status.Unlawful text short h = absurd h
+short_enough status.Undecided text short h = absurd h
+short_enough status.Damaged text short h = absurd h
+
+module _ {D : Type 0} (state : D → Disk) (m : Mode) (disk : D) (old new : Option (List ℕ)) (Unwritten : Type 0) (a b c d : ℕ) where
+  abbrev Quiet : Type 0
+  Quiet = IsQuiet a b × IsQuiet c d
+
+  -- the text was read
+  pub read_text : (text : List ℕ) (s : Status) (back : D) → length text ≤ 16777216 → IsAfterReading s → Writes state m disk text old new s back → (s ≡ status.BadScript → (events : List Event) → IsBuilt m text events → ⊥)
+      → ((IsFit (size_of (state disk)) → ⊥) → (events : List Event) → IsBuilt m text events → IsUnfit s) → (IsQuiet c d → IsFit (size_of (state disk)) → (events : List Event) → IsBuilt m text events → IsComplete s)
+      → OfText state m disk text old new Unwritten Quiet s back
+  read_text text s back short after writes bad unfit complete = record {
+    writes = writes;
+    lengths = short_enough s text short after;
+    bad = bad;
+    unfit = λ none l. unfit none;
+    long = λ e l. absurd (omega (arith, short, l));
+    complete = λ quiet fit l. complete quiet.1 fit;
+  }
+
+  -- it was not
+  pub unread_text : (left : Option (List ℕ)) (fail : ReadError) → (fail ≡ reading.TooLong → IsLonger left 16777216) → (fail ≡ reading.Fault → Rose a b) → Adds old new [] → Unwritten
+      → (text : List ℕ) × IsWhole left text × OfText state m disk text old new Unwritten Quiet (read_status fail) disk
+  unread_text left reading.Fault long rose adds none = (
+    some_text 0 left,
+    whole_text 0 left,
+    record {
+      writes = adds;
+      lengths = tt;
+      bad = λ e. let z : status.SourceFault ≡ status.BadScript = e in cc;
+      unfit = λ n l events built. tt;
+      long = λ e. let z : status.SourceFault ≡ status.TooLong = e in cc;
+      complete = λ quiet. absurd (not_quiet a b (rose refl) quiet.0);
+    },
+  )
+  unread_text left reading.TooLong long rose adds none =
+      let more : 16777216 < length (some_text 16777217 left) = long_text 16777216 left (long refl) in (
+        some_text 16777217 left,
+        whole_text 16777217 left,
+        record {
+          writes = inl (more, adds, refl);
+          lengths = tt;
+          bad = λ e. let z : status.TooLong ≡ status.BadScript = e in cc;
+          unfit = λ n l. absurd (omega (arith, more, l));
+          long = λ e l. none;
+          complete = λ quiet fit l events built. tt;
+        },
+      )
+  unread_text left reading.OutOfMemory long rose adds none = (
+    some_text 0 left,
+    whole_text 0 left,
+    record {
+      writes = inl adds;
+      lengths = tt;
+      bad = λ e. let z : status.OutOfMemory ≡ status.BadScript = e in cc;
+      unfit = λ n l events built. tt;
+      long = λ e. let z : status.OutOfMemory ≡ status.TooLong = e in cc;
+      complete = λ quiet fit l events built. tt;
+    },
+  )
