@@ -14,13 +14,6 @@ use Rattle.cf_model.proofs.TreeLaws as trees
 pub returned : {X A : Type 0} (W : Whole X) (P : State → Type 0) (a : A) (x : X) → Answers W P (ret a) x (Ok a) x
 returned W P a x = record { leads = λ s h p. (s, (refl, refl), W.stays x s h, (h, W.counts_none x s)) }
 
--- out of memory before anything was done
-no_memory : {X A : Type 0} (W : Whole X) (P : State → Type 0) (f : Arrow State A) (x : X) → Answers W P f x (Err OutOfMemory) x
-no_memory W P f x = record { leads = λ s h p. (s, record {}, W.stays x s h, W.endures x s h) }
-
-pub out_of_memory : {X A : Type 0} (W : Whole X) (P : State → Type 0) (f : Arrow State A) (x : X) (e : CallError) → e ≡ OutOfMemory → Answers W P f x (Err e) x
-out_of_memory W P f x e is = subst (λ (q : CallError). Answers W P f x (Err q) x) (sym is) (no_memory W P f x)
-
 after_err : {X : Type 0} (A B : Type 0) (W : Whole X) (e : CallError) (x y : X) (s t : State) → After {A = A} W x (Err e) y s t → After {A = B} W x (Err e) y s t
 after_err A B W (No c) x y s t h = h
 after_err A B W OutOfMemory x y s t h = h

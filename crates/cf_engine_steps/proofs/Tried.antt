@@ -8,7 +8,8 @@ use Rattle.cf_base.specs.declared.codes.Code.TheVariants as code
 use Rattle.cf_base.specs.declared.codes.CallError.{CallError}
 use Rattle.cf_engine_steps.specs.Answering.{After, Answers, Any, On, Whole}
 use Rattle.cf_engine_steps.specs.States.{Own, whole}
-use Rattle.cf_engine_steps.proofs.Laws.{fails_first, goes_any, returned}
+use Rattle.cf_engine_steps.specs.Suited.{IsSuited}
+use Rattle.cf_engine_steps.proofs.Laws.{fails_first, goes_any, known, returned}
 use Rattle.cf_engine_steps.proofs.Lifting.{lift_filter, quiet_change}
 use Rattle.cf_model.specs.Arrows.{Arrow, ret, seq, unless_done}
 use Rattle.cf_model.specs.Changes.{change as one_change, why_no_room}
@@ -97,3 +98,19 @@ change_skipped S told c x y e f why r h k =
 -- as the code comes to it
 pub room_by : {X : Type 0} (S : steps.Sense X) (c : Change) (cs : List Change) (x : X) (o w : Option Code) → cs ≡ c ∷ [] → o ≡ w → steps.Reads S (Suiting cs) (room_refusal cs) x o → steps.Reads S (Suiting (c ∷ [])) (room_refusal (c ∷ [])) x w
 room_by S c cs x o w same is h = subst (λ (v : Option Code). steps.Reads S (Suiting (c ∷ [])) (room_refusal (c ∷ [])) x v) is (subst (λ (ds : List Change). steps.Reads S (Suiting ds) (room_refusal ds) x o) same h)
+
+-- a change in any state, by what was tested of it
+
+deep_refused : (c : Change) (v : Volume) → is_too_deep v.items c ≡ true → change_refused c v ≡ Some code.TooDeep
+deep_refused c v h = ap (λ (b : Bool). or_else (first_of ((b, code.TooDeep) ∷ [])) (why_no_room (c ∷ []) v)) h
+
+module _ {X R : Type 0} (S : steps.Sense X) (told : R → Told) (c : Change) (x y : X) (e f : Own R) (o : Option Code) (r : Result Bool CallError) where
+  pub change_deep : (d : Code) → o ≡ Some d → IsSuited S c x o → Answers (whole S told) Any (seq (skip d) not_done) (x, e) r (y, f) → Answers (whole S told) Any (try_change c) (x, e) r (y, f)
+  change_deep d is h k =
+      let t = subst (λ (w : Option Code). IsSuited S c x w) is h in
+      tried_skips (whole S told) Any Any (why_no_change c) (do_change c) (x, e) (y, f) d r (λ s i p. deep_refused c s.filter.volume (t.1.deep refl s.filter i.filter) ∙ ap (λ (w : Code). Some w) (sym t.0)) k
+
+  pub change_suited : o ≡ None → IsSuited S c x o → Answers (whole S told) (On (Suiting (c ∷ []))) (try_change c) (x, e) r (y, f) → Answers (whole S told) Any (try_change c) (x, e) r (y, f)
+  change_suited is h k =
+      let t = subst (λ (w : Option Code). IsSuited S c x w) is h in
+      known (whole S told) (On (Suiting (c ∷ []))) (try_change c) (x, e) (y, f) r (λ s i. t.suits refl s.filter i.filter) k

@@ -12,7 +12,7 @@ use Rattle.cf_model.specs.Images.{table_full}
 use Rattle.cf_model.specs.Items.{Item, item_of}
 use Rattle.cf_model.specs.Numbers.{above, is_no_usn}
 use Rattle.cf_model.specs.State.{Filter}
-use Rattle.cf_model.specs.Words.{first_of, says}
+use Rattle.cf_model.specs.Words.{first_of}
 use Rattle.cf_engine_queue.specs.Records.{IsKeepable}
 use Rattle.cf_filter_steps.specs.Good.{Every}
 
@@ -48,7 +48,3 @@ pub record HasNumber (id : ItemId) (i : Item) (s : Filter) : Type 0 where
 -- an item is there
 abbrev pub is_here : ItemId → Filter → Bool
 is_here id s = is_some (item_of s.volume.items id)
-
--- an item is there, and is a placeholder
-abbrev pub is_placeholder_at : ItemId → Filter → Bool
-is_placeholder_at id s = says (λ i. i.placeholder) (item_of s.volume.items id)

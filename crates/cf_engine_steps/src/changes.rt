@@ -1,7 +1,7 @@
 //! Changes that are made, or left out with a line.
 
 ghost use Rattle.std.specs.Prelude.{◌∷◌, []};
-ghost use Rattle.cf_engine_steps.specs.Answering.{Answers, On};
+ghost use Rattle.cf_engine_steps.specs.Answering.{Answers, Any, On};
 ghost use Rattle.cf_engine_steps.specs.States.{whole};
 ghost use Rattle.cf_model.specs.Skips.{try_change};
 ghost use Rattle.cf_filter_steps.specs.Suiting.{Suiting};
@@ -9,15 +9,14 @@ ghost use Rattle.cf_filter_steps.specs.Suiting.{Suiting};
 use crate::engine_steps::EngineSteps;
 use crate::engines::Engine;
 use crate::skips::leave_out;
+use crate::suited_changes::suited;
 use cf_base::{CallError, Change};
 use cf_filter_steps::refuse_room;
 use cf_remote::Remote;
 use std::slice;
 
-/// Makes a change that suits the volume, with its line, or leaves it out where it finds no room (Exhausted, TableFull or Full).
-/// Whether it was made. A stop of the device leaves the change begun: the volume answers nothing more, and a crash leaves a point
-/// of before. The link and the remote stay as they are, also after a stop.
-pub fn try_change<S: EngineSteps, R: Remote>(
+// Makes a change that suits, or leaves it out where it finds no room.
+fn try_suited<S: EngineSteps, R: Remote>(
     s: &mut S,
     e: &mut Engine<R>,
     change: &Change,
@@ -30,5 +29,22 @@ pub fn try_change<S: EngineSteps, R: Remote>(
             s.change(change)?;
             Ok(true)
         }
+    }
+}
+
+/// Makes a change, with its line, or leaves it out where it leads too deep or finds no room: TooDeep, Exhausted, TableFull, Full,
+/// in this order. Whether it was made. It is tested whether the change suits the volume, for `Make`, `Mark` and `Take`; one that
+/// does not, or of another kind, is out of memory, and all is as before. A stop of the device leaves the change begun: the volume
+/// answers nothing more, and a crash leaves a point of before. The link and the remote stay as they are, also after a stop.
+pub fn try_change<S: EngineSteps, R: Remote>(
+    s: &mut S,
+    e: &mut Engine<R>,
+    change: &Change,
+) -> Result<bool, CallError>
+    ensures { Answers (whole S.sense R.told) Any (try_change change.now) (s.old, e.old) result (s.new, e.new) }
+{
+    match suited(s, change)? {
+        Some(code) => leave_out(s, e, code),
+        None => try_suited(s, e, change),
     }
 }

@@ -28,6 +28,7 @@ mod marks;
 mod paths_seen;
 mod posts;
 mod skips;
+mod suited_changes;
 
 pub use changes::try_change;
 pub use engine_steps::EngineSteps;
