@@ -24,7 +24,7 @@ whole_text n None = tt
 whole_text n (Some left) = refl
 
 long_text : (n : ℕ) (left : Option (List ℕ)) → IsLonger left n → n < length (some_text (n + 1) left)
-long_text n None h = rw (length-replicate (n + 1) 0) (omega arith)
+long_text n None h = rw (length-replicate {A = ℕ} (n + 1) 0) (omega arith)
 long_text n (Some left) h = h
 
 pub adds_nothing : (held : Option (List ℕ)) → Adds held held []
