@@ -4,8 +4,8 @@
     tools/proved.py find     prints the path of the proved program of exactly these files, or ends with 1. It proves nothing
     tools/proved.py prove    proves it on all processors, with a line on standard error for each crate that is done
 
-What is found lies in target/, which git ignores. `rt ci` keeps what it proved by the checksums of all that it read; so the
-program that is taken was proved from these very files.
+What is found lies in target/, which git ignores. Some toolchains keep what `rt ci` proved by the checksums of all that it read;
+with the others each library that it proved lies in its crate's out/. So the program that is taken was proved from these very files.
 """
 import hashlib
 import importlib.machinery
@@ -16,6 +16,7 @@ import re
 import shutil
 import subprocess
 import sys
+import tempfile
 import time
 
 sys.dont_write_bytecode = True
@@ -90,6 +91,32 @@ def toolchain():
     return made
 
 
+def newest(paths):
+    return max(it.stat().st_mtime for it in paths)
+
+
+def made_in(top, names):
+    """The program that `rt ci` made in this folder, where each library below it was proved after the last change of its files."""
+    program = top / "crates/cloudfiles/out/cloudfiles"
+    made = {name: top / f"crates/{name}/out/rlib/{name}.rlib/format" for name in names}
+    made["cloudfiles"] = program
+    if not all(it.exists() for it in made.values()):
+        return None
+    of = lambda name: [it for part in PARTS for it in (top / "crates" / name / part).rglob("*") if it.is_file()]
+    return program if all(newest(of(name)) <= made[name].stat().st_mtime for name in names) else None
+
+
+def put(program, names):
+    """Puts a proved program into target/. Whether there is one."""
+    if program is None:
+        return False
+    TARGET.mkdir(exist_ok=True)
+    shutil.copyfile(program, PROGRAM)
+    PROGRAM.chmod(0o755)
+    STAMP.write_text(checksum(names), encoding="ascii")
+    return True
+
+
 def take(names):
     """Takes the program that an earlier `rt ci` kept of these files. Whether there is one."""
     os.chdir(TOP)
@@ -107,20 +134,18 @@ def take(names):
             return False
         if not crate.is_program:
             kept.is_built(crate)
-    TARGET.mkdir(exist_ok=True)
-    shutil.copyfile(TOP / "crates/cloudfiles/out/cloudfiles", PROGRAM)
-    PROGRAM.chmod(0o755)
-    STAMP.write_text(checksum(names), encoding="ascii")
-    return True
+    return put(TOP / "crates/cloudfiles/out/cloudfiles", names)
 
 
 def find(names):
+    if is_current(names) or put(made_in(TOP, names), names):
+        return True
     if not shutil.which("rt"):
-        return is_current(names)
+        return False
     try:
-        return is_current(names) or take(names)
-    except (AttributeError, OSError, SystemExit):
-        # (another kit keeps what it proved in another way)
+        return take(names)
+    except (AttributeError, TypeError, OSError, SystemExit):
+        # (this toolchain keeps nothing)
         return False
 
 
@@ -131,9 +156,8 @@ def seconds():
 
 
 def copied(names):
-    """A copy of the crates in target/, without their tests and edits."""
-    place = TARGET / "prove"
-    shutil.rmtree(place, ignore_errors=True)
+    """A copy of the crates, without their tests and edits. It lies outside this repository, because `rt ci` runs at the top of one."""
+    place = pathlib.Path(tempfile.mkdtemp(prefix="cloudfiles-prove-"))
     for name in names:
         for part in (*PARTS, "args", "stdin", "stdout"):
             old, new = TOP / "crates" / name / part, place / "crates" / name / part
@@ -161,7 +185,7 @@ def prove(names):
     say(f"proving {len(names)} crates, about {minutes_left(todo, started, done, weights)} minutes; the whole log is {TARGET}/prove.log")
     environment = dict(os.environ, RT_JOBS=str(os.cpu_count() or 1))
     with open(TARGET / "prove.log", "w", encoding="utf-8") as log:
-        run = subprocess.Popen(["rt", "ci", "cloudfiles"], cwd=place, env=environment, text=True, errors="replace",
+        run = subprocess.Popen(["rt", "ci"], cwd=place, env=environment, text=True, errors="replace",
                                stdin=subprocess.DEVNULL, stdout=subprocess.PIPE, stderr=subprocess.STDOUT)
         for line in run.stdout:
             log.write(line)
@@ -174,9 +198,9 @@ def prove(names):
                 say(f"{len(names) - len(todo)} of {len(names)} crates: {found[1]}; {left}")
             elif "NOT PROVED" in line:
                 say(line.strip())
-    status = run.wait()
+    is_proved = run.wait() == 0 and (put(made_in(place, names), names) or find(names))
     shutil.rmtree(place, ignore_errors=True)
-    return status == 0 and find(names)
+    return is_proved
 
 
 def main(words):
