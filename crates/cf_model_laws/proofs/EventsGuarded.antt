@@ -78,7 +78,7 @@ call_in_keeps P closed m is (call.Keep path on) deleting = callbacks_keep.callin
 call_in_keeps P closed m is (call.Used path) deleting = keeps_lifted P (λ s. s.filter) with_filter (used path) (λ t i. i) (λ t1 i2. (calls_keep.used_keeps t1.link t1.volatile.tokens (λ x. P (with_filter x t1)) (closed.on_filter t1 i2) path))
 call_in_keeps P closed m is (call.Connect on) deleting = keeps_lifted P (λ s. s.filter) with_filter (connect on) (λ t i. i) (λ t1 i2. (waits_keep.connect_keeps t1.link t1.volatile.tokens (λ x. P (with_filter x t1)) (closed.on_filter t1 i2) on))
 
-call_now_keeps : (P : State → Type 0) → Guarded P → (c : Call) → (is_removal c ≡ true → Deleting P) → Preserves P (call_now c)
+pub call_now_keeps : (P : State → Type 0) → Guarded P → (c : Call) → (is_removal c ≡ true → Deleting P) → Preserves P (call_now c)
 call_now_keeps P closed c deleting = record { keeps = λ s h. (call_in_keeps P closed s.mode (closed.replay s h) c deleting).keeps s h }
 
 opening : (P : State → Type 0) → Whole P → (s : State) → P s → Opening P (λ r t. P t) s

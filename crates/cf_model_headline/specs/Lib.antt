@@ -1,0 +1,4 @@
+pub mod Reports
+pub mod Resumed
+pub mod Marked
+pub mod Dehydrated

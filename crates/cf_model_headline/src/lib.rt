@@ -1,0 +1,7 @@
+//! What a user of the product may rely on, told by the answers in a report: laws over the definitions, for every lawful trace.
+#![tactic(auto)]
+
+pub mod dehydrated;
+pub mod marked;
+pub mod reports;
+pub mod resumed;
