@@ -6,3 +6,4 @@ pub mod StepCases
 pub mod ResumedLaws
 pub mod DehydratedLaws
 pub mod MarkedLaws
+pub mod KeptBytesLaws

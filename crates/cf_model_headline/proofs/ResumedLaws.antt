@@ -49,7 +49,7 @@ resumed_first m remote clusters report last fresh runs before a n book is e =
     )
 
 -- a flush that counted the changes
-flush_ends : (m : Mode) (s : State) (b : Answer) (t : State) (k : ℕ) → IsStep m s flushing b t → b.shown ≡ shown.Count k → Ends (tree_of flushing s) (shown.Count k) t
+pub flush_ends : (m : Mode) (s : State) (b : Answer) (t : State) (k : ℕ) → IsStep m s flushing b t → b.shown ≡ shown.Count k → Ends (tree_of flushing s) (shown.Count k) t
 flush_ends m s b t k is e = by (step_case m s flushing b t is) where
   over : IsOver s flushing (t, b) → Ends (tree_of flushing s) (shown.Count k) t
   over (inl h) = subst (λ (r : Shown). Ends (tree_of flushing s) r t) (sym (ap (λ (x : Answer). x.shown) h.2) ∙ e) h.1
@@ -61,7 +61,7 @@ flush_ends m s b t k is e = by (step_case m s flushing b t is) where
     none c z = cc
   by (inr h) = over h.1
 
-flush_counts : (s t : State) (k : ℕ) → Ends (tree_of flushing s) (shown.Count k) t → (k ≡ length s.filter.volume.log) × (t.filter.volume.log ≡ s.filter.volume.log)
+pub flush_counts : (s t : State) (k : ℕ) → Ends (tree_of flushing s) (shown.Count k) t → (k ≡ length s.filter.volume.log) × (t.filter.volume.log ≡ s.filter.volume.log)
 flush_counts s t k (e, f) = (counted e, ap (λ (x : State). x.filter.volume.log) f) where
   counted : ◌≡◌ {A = Shown} (shown.Count k) (shown.Count (length s.filter.volume.log)) → k ≡ length s.filter.volume.log
   counted z = cc

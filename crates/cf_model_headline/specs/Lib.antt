@@ -2,3 +2,4 @@ pub mod Reports
 pub mod Resumed
 pub mod Marked
 pub mod Dehydrated
+pub mod KeptBytes

@@ -2,6 +2,7 @@
 #![tactic(auto)]
 
 pub mod dehydrated;
+pub mod kept_bytes;
 pub mod marked;
 pub mod reports;
 pub mod resumed;

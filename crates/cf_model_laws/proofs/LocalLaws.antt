@@ -250,7 +250,7 @@ module _ (r : Held) (n : Usn) (p b : ℕ) where
       by (change.Keep item on) met e = nothing e
 
   -- all that is kept of the byte
-  keeping : (before : List (Usn × Change)) (c : Change) (after : List (Usn × Change)) (id : ItemId) → EachMade (IsInOrder r) [] (before ++ (n, c) ∷ after) → IsWritten (items_of before) c id p b → AreSparing (effect (items_of before) c n) (id ∷ []) n p after
+  pub keeping : (before : List (Usn × Change)) (c : Change) (after : List (Usn × Change)) (id : ItemId) → EachMade (IsInOrder r) [] (before ++ (n, c) ∷ after) → IsWritten (items_of before) c id p b → AreSparing (effect (items_of before) c n) (id ∷ []) n p after
       → Keeping (before ++ (n, c) ∷ after) (with_copies after (id ∷ [])) (dropped_from (effect (items_of before) c n) (id ∷ []) n after)
   keeping before c after id made w spares =
       let behind : EachMade (IsInOrder r) before ((n, c) ∷ after) = made_behind (IsInOrder r) [] before ((n, c) ∷ after) made in
