@@ -7,3 +7,4 @@ pub mod ResumedLaws
 pub mod DehydratedLaws
 pub mod MarkedLaws
 pub mod KeptBytesLaws
+pub mod TokenLaws

@@ -3,3 +3,4 @@ pub mod Resumed
 pub mod Marked
 pub mod Dehydrated
 pub mod KeptBytes
+pub mod Tokens

@@ -6,3 +6,4 @@ pub mod kept_bytes;
 pub mod marked;
 pub mod reports;
 pub mod resumed;
+pub mod tokens;
