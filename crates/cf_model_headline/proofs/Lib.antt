@@ -8,3 +8,4 @@ pub mod DehydratedLaws
 pub mod MarkedLaws
 pub mod KeptBytesLaws
 pub mod TokenLaws
+pub mod HeadlineLaws

@@ -35,10 +35,10 @@ filter_noticed : (Q : Filter → Type 0) → ClosedFilter Q → (l : Link) (toke
 filter_noticed Q q l tokens P closed = record {
   sound = λ x h fair. closed.sound x h.0 fair;
   change = λ f c x keeps seen free fit h. keeps_both P Q (change_with f c x) (closed.change f c x keeps seen free fit h.0) ((q.change f c).keeps x h.1);
-  touch = λ f c item d x keeps seen on fit h. keeps_both P Q (then_do (change_with f c) (then_do (settle item d) done) x) (closed.touch f c item d x keeps seen on fit h.0)
+  touch = λ f c item d x quiet keeps seen on fit h. keeps_both P Q (then_do (change_with f c) (then_do (settle item d) done) x) (closed.touch f c item d x quiet keeps seen on fit h.0)
       (keeps_bind Q (change_with f c x) (λ _ t. then_do (settle item d) done t) ((q.change f c).keeps x h.1) (λ a t j. keeps_bind Q (settle item d t) (λ _ y. done y) ((q.settled item d).keeps t j) (λ b y m. m)));
   commits = record { keeps = λ x h. keeps_both P Q (in_volume commit x) (closed.commits.keeps x h.0) (q.commits.keeps x h.1) };
-  settled = λ item d. record { keeps = λ x h. keeps_both P Q (settle item d x) ((closed.settled item d).keeps x h.0) ((q.settled item d).keeps x h.1) };
+  settled = λ item d x others h. keeps_both P Q (settle item d x) (closed.settled item d x others h.0) ((q.settled item d).keeps x h.1);
   begins = λ n. record { keeps = λ x h. keeps_both P Q (reading (begun n) (begin_now n) x) ((closed.begins n).keeps x h.0) ((q.begins n).keeps x h.1) };
   downs = record { keeps = λ x h. keeps_both P Q (reading all_down tell x) (closed.downs.keeps x h.0) (q.downs.keeps x h.1) };
   keeps_accessed = λ item x h. (closed.keeps_accessed item x h.0, q.keeps_accessed item x h.1);

@@ -4,3 +4,4 @@ pub mod Marked
 pub mod Dehydrated
 pub mod KeptBytes
 pub mod Tokens
+pub mod Headline

@@ -2,6 +2,7 @@
 #![tactic(auto)]
 
 pub mod dehydrated;
+pub mod headline;
 pub mod kept_bytes;
 pub mod marked;
 pub mod reports;

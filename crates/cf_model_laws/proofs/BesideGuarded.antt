@@ -101,10 +101,10 @@ filter_beside : (F : Fact) → Beside F → (l : Link) (tokens : ℕ) (P : Filte
 filter_beside F b l tokens P closed = record {
   sound = λ x h fair. closed.sound x h.0 fair;
   change = λ f c x keeps seen free fit h. keeps_both P (Holds F l) (change_with f c x) (closed.change f c x keeps seen free fit h.0) (changed_beside F l f c x h.1 (b.puts l tokens c x (closed.sound x h.0) fit h.1));
-  touch = λ f c item d x keeps seen on fit h. keeps_both P (Holds F l) (then_do (change_with f c) (then_do (settle item d) done) x) (closed.touch f c item d x keeps seen on fit h.0)
+  touch = λ f c item d x quiet keeps seen on fit h. keeps_both P (Holds F l) (then_do (change_with f c) (then_do (settle item d) done) x) (closed.touch f c item d x quiet keeps seen on fit h.0)
       (keeps_bind (Holds F l) (change_with f c x) (λ _ t. then_do (settle item d) done t) (changed_beside F l f c x h.1 (b.puts l tokens c x (closed.sound x h.0) fit h.1)) (λ a t j. keeps_bind (Holds F l) (settle item d t) (λ _ y. done y) (settle_beside F b l item d t j) (λ a y m. m)));
   commits = record { keeps = λ x h. keeps_both P (Holds F l) (in_volume commit x) (closed.commits.keeps x h.0) (h.1, h.1) };
-  settled = λ item d. record { keeps = λ x h. keeps_both P (Holds F l) (settle item d x) ((closed.settled item d).keeps x h.0) (settle_beside F b l item d x h.1) };
+  settled = λ item d x others h. keeps_both P (Holds F l) (settle item d x) (closed.settled item d x others h.0) (settle_beside F b l item d x h.1);
   begins = λ n. record {
     keeps = λ x h. keeps_both P (Holds F l) (reading (begun n) (begin_now n) x) ((closed.begins n).keeps x h.0)
         (keeps_bind (Holds F l) (tell (begun n x) (with_own n x)) (λ _ t. Ret (shown.Pending (own_id n x)) t)

@@ -72,14 +72,14 @@ pub write_item_keeps : (l : Link) (tokens : ℕ) (P : Filter → Type 0) → Gua
 write_item_keeps l tokens P closed at [] item = operations_keep.done_keeps l tokens P closed
 write_item_keeps l tokens P closed at (b ∷ bs) item =
     operations_keep.checked_keeps l tokens P closed (write_tests (at + length (b ∷ bs)) (change.Write item at (b ∷ bs) ∷ [])) (write_now item (change.Write item at (b ∷ bs)))
-    (record { keeps = λ x h. closed.touch (with_access item) (change.Write item at (b ∷ bs)) item Nothing x (access_same item) (λ fair. ((λ z. absurd z), λ k. k)) (λ id k. k) (λ fair. tt) h })
+    (record { keeps = λ x h. closed.touch (with_access item) (change.Write item at (b ∷ bs)) item Nothing x tt (access_same item) (λ fair. ((λ z. absurd z), λ k. k)) (λ id k. k) (λ fair. tt) h })
 
 pub write_keeps : (l : Link) (tokens : ℕ) (P : Filter → Type 0) → GuardedFilter l tokens P → (x1 : Handle) → (x2 : ℕ) → (x3 : List ℕ) → Preserves P (write x1 x2 x3)
 write_keeps l tokens P closed h at bytes = waits_keep.on_handle_keeps l tokens P closed h (write_item at bytes) (write_item_keeps l tokens P closed at bytes)
 
 pub size_now_keeps : (l : Link) (tokens : ℕ) (P : Filter → Type 0) → GuardedFilter l tokens P → (item : ItemId) (n : ℕ) (b : Bool) → Preserves P (size_now item n b)
 size_now_keeps l tokens P closed item n true = keeps_then P (noted (accessed item)) done (keeps_noted P (accessed item) (closed.keeps_accessed item)) (operations_keep.done_keeps l tokens P closed)
-size_now_keeps l tokens P closed item n false = record { keeps = λ x h. closed.touch (with_access item) (change.Size item n) item Nothing x (access_same item) (λ fair. ((λ z. absurd z), λ k. k)) (λ id k. k) (λ fair. tt) h }
+size_now_keeps l tokens P closed item n false = record { keeps = λ x h. closed.touch (with_access item) (change.Size item n) item Nothing x tt (access_same item) (λ fair. ((λ z. absurd z), λ k. k)) (λ id k. k) (λ fair. tt) h }
 
 pub size_item_keeps : (l : Link) (tokens : ℕ) (P : Filter → Type 0) → GuardedFilter l tokens P → (x1 : ℕ) → (x2 : ItemId) → Preserves P (size_item x1 x2)
 size_item_keeps l tokens P closed n item = operations_keep.checked_keeps l tokens P closed (size_tests item n) (reading (has_size item n) (size_now item n)) (keeps_reading P (has_size item n) (size_now item n) (size_now_keeps l tokens P closed item n))

@@ -102,10 +102,10 @@ filter_framed : (Used : Type 0) (id : ItemId) (R : Bool → Bool → Type 0) →
 filter_framed Used id R k es l tokens P closed = record {
   sound = λ x h fair. closed.sound x h.0 fair;
   change = λ f c x keeps seen free fit h. keeps_both P (InFilter Used id R es l tokens) (change_with f c x) (closed.change f c x keeps seen free fit h.0) (frame_change Used id R k es l tokens f c x keeps fit h.1);
-  touch = λ f c item d x keeps seen on fit h. keeps_both P (InFilter Used id R es l tokens) (then_do (change_with f c) (then_do (settle item d) done) x) (closed.touch f c item d x keeps seen on fit h.0)
+  touch = λ f c item d x quiet keeps seen on fit h. keeps_both P (InFilter Used id R es l tokens) (then_do (change_with f c) (then_do (settle item d) done) x) (closed.touch f c item d x quiet keeps seen on fit h.0)
       (keeps_bind (InFilter Used id R es l tokens) (change_with f c x) (λ _ t. then_do (settle item d) done t) (frame_change Used id R k es l tokens f c x keeps fit h.1) (λ a t j. keeps_bind (InFilter Used id R es l tokens) (settle item d t) (λ _ y. done y) (tell_frame (Frame Used id R es l tokens) (told_frame Used id R es l tokens) (told_at item d t) t j) (λ b y m. m)));
   commits = record { keeps = λ x h. keeps_both P (InFilter Used id R es l tokens) (in_volume commit x) (closed.commits.keeps x h.0) (h.1, h.1) };
-  settled = λ item d. record { keeps = λ x h. keeps_both P (InFilter Used id R es l tokens) (settle item d x) ((closed.settled item d).keeps x h.0) (tell_frame (Frame Used id R es l tokens) (told_frame Used id R es l tokens) (told_at item d x) x h.1) };
+  settled = λ item d x others h. keeps_both P (InFilter Used id R es l tokens) (settle item d x) (closed.settled item d x others h.0) (tell_frame (Frame Used id R es l tokens) (told_frame Used id R es l tokens) (told_at item d x) x h.1);
   begins = λ n. record { keeps = λ x h. keeps_both P (InFilter Used id R es l tokens) (reading (begun n) (begin_now n) x) ((closed.begins n).keeps x h.0) (keeps_bind (InFilter Used id R es l tokens) (tell (begun n x) (with_own n x)) (λ _ t. Ret (shown.Pending (own_id n x)) t) (tell_frame (Frame Used id R es l tokens) (told_frame Used id R es l tokens) (begun n x) (with_own n x) h.1) (λ a t j. j)) };
   downs = record { keeps = λ x h. keeps_both P (InFilter Used id R es l tokens) (reading all_down tell x) (closed.downs.keeps x h.0) (tell_frame (Frame Used id R es l tokens) (told_frame Used id R es l tokens) (all_down x) x h.1) };
   keeps_accessed = λ item x h. (closed.keeps_accessed item x h.0, h.1);

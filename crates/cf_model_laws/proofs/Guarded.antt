@@ -14,6 +14,8 @@ use Rattle.cf_base.specs.declared.messages.Request.{Request}
 use Rattle.cf_base.specs.declared.notices.Frame.{Frame}
 use Rattle.cf_base.specs.declared.policies.Policy.{Policy}
 use Rattle.cf_base.specs.declared.waits.Ask.{Ask}
+use Rattle.cf_base.specs.declared.waits.Cause.{Cause}
+use Rattle.cf_base.specs.declared.waits.Cause.TheVariants as cause
 use Rattle.cf_model.specs.Arrows.{Preserves, reading, then_do}
 use Rattle.cf_model.specs.Books.{Book, MoveItem, QueueEntry, book_after, entry_of, with_entry, with_seen, without_entry}
 use Rattle.cf_model.specs.Callbacks.{begin_call, with_outbox}
@@ -32,7 +34,7 @@ use Rattle.cf_model.specs.Peers.{with_stray, with_token_used}
 use Rattle.cf_model.specs.Points.{commit}
 use Rattle.cf_model.specs.PushReplies.{entry_seen, held_and_closed, not_in_row, round_closed, taken_from_row, with_done, with_not_empty, with_taken_name}
 use Rattle.cf_model.specs.Pushes.{with_token}
-use Rattle.cf_model.specs.Requests.{Deed}
+use Rattle.cf_model.specs.Requests.{Deed, Fails, Finishes, Leaves, Live, Nothing, is_list, live_of}
 use Rattle.cf_model.specs.Settling.{accessed, settle, tell}
 use Rattle.cf_model.specs.Skips.{skipped, with_book, with_volatile}
 use Rattle.cf_model.specs.State.{Filter, Link, State, book_now, in_volume, is_replay, items_now, with_filter}
@@ -83,14 +85,31 @@ MovesThere s e = e.action ≡ MoveItem → StandsAtPath (items_now s) e.item (en
 abbrev pub after_move : QueueEntry → State → State
 after_move e s = with_book (with_seen (entry_seen e)) (with_volatile (taken_from_row e) (with_book (without_entry e.token) s))
 
+-- why a wait ends: not as met
+abbrev pub is_other_cause : Cause → Bool
+is_other_cause cause.Met = false
+is_other_cause _ = true
+
+-- What a step does of its own ends no wait as met but those of a listing.
+abbrev pub EndsOthers : Deed → Filter → Type 0
+EndsOthers (Fails key blocks c) x = is_other_cause c ≡ true
+EndsOthers (Finishes key c) x = (is_other_cause c ≡ true) ⊎ ((a : Live) → live_of x.waiting.asks key ≡ Some a → is_list a.ask.kind ≡ true)
+EndsOthers _ x = Unit {0}
+
+-- it ends none at all
+abbrev pub IsQuiet : Deed → Type 0
+IsQuiet Nothing = Unit {0}
+IsQuiet (Leaves key blocks) = Unit {0}
+IsQuiet _ = ⊥
+
 -- of the filter, beside this link and so many tokens
 pub record GuardedFilter (l : Link) (tokens : ℕ) (P : Filter → Type 0) : Type 0 where
   pub sound : (x : Filter) → P x → IsFair l → IsSound l tokens x
   pub change : (f : Book → Book) (c : Change) (x : Filter) → KeepsEntries f → (IsFair l → KeepsSeenBy f c x) → ((id : ItemId) → Touches c id → ⊥) → (IsFair l → Fits l.remote x c) → P x → Keeps P (change_with f c x)
-  pub touch : (f : Book → Book) (c : Change) (item : ItemId) (d : Deed) (x : Filter) → KeepsEntries f → (IsFair l → KeepsSeenBy f c x) → ((id : ItemId) → Touches c id → id.0 ≡ item.0) → (IsFair l → Fits l.remote x c) → P x
+  pub touch : (f : Book → Book) (c : Change) (item : ItemId) (d : Deed) (x : Filter) → IsQuiet d → KeepsEntries f → (IsFair l → KeepsSeenBy f c x) → ((id : ItemId) → Touches c id → id.0 ≡ item.0) → (IsFair l → Fits l.remote x c) → P x
       → Keeps P (then_do (change_with f c) (then_do (settle item d) done) x)
   pub commits : Preserves P (in_volume commit)
-  pub settled : (item : ItemId) (d : Deed) → Preserves P (settle item d)
+  pub settled : (item : ItemId) (d : Deed) (x : Filter) → EndsOthers d x → P x → Keeps P (settle item d x)
   pub begins : (n : Need) → Preserves P (reading (begun n) (begin_now n))
   pub downs : Preserves P (reading all_down tell)
   pub keeps_accessed : (x1 : ItemId) → (s : Filter) → P s → P (accessed x1 s)
@@ -112,6 +131,10 @@ PostedIn s f = PostedWell s.link.remote s.link.messages s.volatile.tokens s.filt
 
 abbrev pub EnteredIn : State → QueueEntry → Type 0
 EnteredIn s e = EnteredWell s.link.remote s.link.messages s.filter.volume.epoch s.volatile.tokens (next_number s.filter.volume) s.filter.volume.next_item.0 (items_now s) (book_now s).entries e
+
+-- what a step does of its own, wherever it is done
+pub settled_on : (l : Link) (tokens : ℕ) (P : Filter → Type 0) → GuardedFilter l tokens P → (item : ItemId) (d : Deed) → ((x : Filter) → EndsOthers d x) → Preserves P (settle item d)
+settled_on l tokens P closed item d others = record { keeps = λ x h. closed.settled item d x (others x) h }
 
 -- of the whole
 pub record Guarded (P : State → Type 0) : Type 0 where

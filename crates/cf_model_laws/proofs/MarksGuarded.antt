@@ -114,11 +114,11 @@ filter_placed : (l : Link) (tokens : ℕ) (P : Filter → Type 0) → GuardedFil
 filter_placed l tokens P closed = record {
   sound = λ x h fair. closed.sound x h.0 fair;
   change = λ f c x keeps seen free fit h. keeps_both P (InFilter l) (change_with f c x) (closed.change f c x keeps seen free fit h.0) (placed_change l tokens f c x (closed.sound x h.0) (λ fair. placed_after l tokens f c x keeps (seen fair) (closed.sound x h.0 fair) (fit fair) (h.1 fair).0) h.1);
-  touch = λ f c item d x keeps seen on fit h. keeps_both P (InFilter l) (then_do (change_with f c) (then_do (settle item d) done) x) (closed.touch f c item d x keeps seen on fit h.0)
+  touch = λ f c item d x quiet keeps seen on fit h. keeps_both P (InFilter l) (then_do (change_with f c) (then_do (settle item d) done) x) (closed.touch f c item d x quiet keeps seen on fit h.0)
       (keeps_bind (InFilter l) (change_with f c x) (λ _ t. then_do (settle item d) done t) (placed_change l tokens f c x (closed.sound x h.0) (λ fair. placed_after l tokens f c x keeps (seen fair) (closed.sound x h.0 fair) (fit fair) (h.1 fair).0) h.1)
       (λ a t j. keeps_bind (InFilter l) (settle item d t) (λ _ y. done y) (tell_frame (Placed l) (placed_book l) (told_at item d t) t j) (λ b y m. m)));
   commits = record { keeps = λ x h. keeps_both P (InFilter l) (in_volume commit x) (closed.commits.keeps x h.0) (point_begun l tokens x (closed.sound x h.0) h.1, λ fair. ((h.1 fair).0, (point_placed true x.volume (closed.sound x h.0 fair).of_log (h.1 fair).0, tt))) };
-  settled = λ item d. record { keeps = λ x h. keeps_both P (InFilter l) (settle item d x) ((closed.settled item d).keeps x h.0) (tell_frame (Placed l) (placed_book l) (told_at item d x) x h.1) };
+  settled = λ item d x others h. keeps_both P (InFilter l) (settle item d x) (closed.settled item d x others h.0) (tell_frame (Placed l) (placed_book l) (told_at item d x) x h.1);
   begins = λ n. record { keeps = λ x h. keeps_both P (InFilter l) (reading (waiting_begun n) (begin_now n) x) ((closed.begins n).keeps x h.0) (keeps_bind (InFilter l) (tell (waiting_begun n x) (with_own n x)) (λ _ t. Ret (shown.Pending (own_id n x)) t) (tell_frame (Placed l) (placed_book l) (waiting_begun n x) (with_own n x) h.1) (λ a t j. j)) };
   downs = record { keeps = λ x h. keeps_both P (InFilter l) (reading all_down tell x) (closed.downs.keeps x h.0) (tell_frame (Placed l) (placed_book l) (all_down x) x h.1) };
   keeps_accessed = λ item x h. (closed.keeps_accessed item x h.0, placed_book l x.volume (with_access item x.volume.book) refl refl h.1);

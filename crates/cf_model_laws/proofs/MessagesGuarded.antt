@@ -37,6 +37,7 @@ use Rattle.cf_model.proofs.StoreLaws.{step_extends}
 use Rattle.cf_model_laws.specs.GivenOnce.{WasGiven}
 use Rattle.cf_model_laws.specs.Invariant.{All, Carries, HasEntry, IsGivenIn, IsLiveRight, IsMessageRight, IsSound, Names, OfRequest, TellsBytes, TellsTruth, message_in, put_bytes}
 use Rattle.cf_model_laws.specs.Premises.{IsFair}
+use Rattle.cf_model_laws.proofs.OperationsGuarded.{keys_same}
 use Rattle.cf_model_laws.proofs.FeedEntriesGuarded.{IsTold}
 use Rattle.cf_model_laws.proofs.FeedsGuarded.{apply_feed_at}
 use Rattle.cf_model_laws.proofs.FetchingGuarded as fetching
@@ -203,9 +204,6 @@ is_nothing (q ∷ es) e = no_way e
 or_false : (a b : Bool) → (not a || b) ≡ false → (a ≡ true) × (b ≡ false)
 or_false true b e = (refl, e)
 or_false false b e = no_way_back e
-
-keys_same : (a b : Key) → same_key a b ≡ true → a ≡ b
-keys_same a b h = λ i. record { epoch = eqb-true a.epoch b.epoch (left_true (a.epoch == b.epoch) (a.number == b.number) h) i; number = eqb-true a.number b.number (right_true (a.epoch == b.epoch) (a.number == b.number) h) i }
 
 -- the bytes of a fetch are those of the base that the file has
 bytes_fit : (P : State → Type 0) → Guarded P → (m : ℕ) (q : Request) (key : Key) (start : ℕ) (bytes : List ℕ) (s : State) → P s → fits (known_now s) (settled_rid s q) q (reply.Bytes key start bytes) ≡ true → (IsFair s.link → ToldAt s m q (reply.Bytes key start bytes))

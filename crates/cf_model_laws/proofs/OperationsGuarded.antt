@@ -1,5 +1,5 @@
 -- What the parts of `Operations` keep in `replay`, each by what its own parts keep.
-use Rattle.std.specs.Prelude.{ℕ, Bool, List, [], ◌∷◌, length, Option, Some, None, cond, not, take, drop, map, ◌==◌}
+use Rattle.std.specs.Prelude.{◌&&◌, ℕ, Bool, List, [], ◌∷◌, length, Option, Some, None, cond, not, take, drop, map, ◌==◌}
 use Rattle.cf_base.specs.declared.changes.Change.{Change}
 use Rattle.cf_base.specs.declared.changes.Change.TheVariants as change
 use Rattle.cf_base.specs.declared.answers.Shown.{Shown}
@@ -12,18 +12,18 @@ use Rattle.cf_base.specs.declared.operations.Operation.TheVariants as operation
 use Rattle.cf_base.specs.declared.spans.Span.{Span}
 use Rattle.cf_base.specs.declared.waits.Cause.TheVariants as cause
 use Rattle.cf_model.specs.Arrows.{Arrow, ret, then_do, Preserves, unit}
-use Rattle.cf_model.specs.Requests.{Fails, Leaves, Live, live_of, is_fetch}
+use Rattle.cf_model.specs.Requests.{Fails, Leaves, Live, Waiting, live_of, is_fetch, is_list}
 use Rattle.cf_model.specs.Blocks.{blocks_of}
 use Rattle.cf_model.specs.Books.{Book}
-use Rattle.cf_model.specs.Changes.{change, changes, same_book, next_number}
+use Rattle.cf_model.specs.Changes.{change_with, change, changes, same_book, next_number}
 use Rattle.cf_model.specs.Items.{Item, item_of, pin_of, size_of}
 use Rattle.cf_model.specs.Settling.{settle}
 use Rattle.cf_model.specs.State.{Filter, Link}
 use Rattle.cf_model.specs.Words.{first_of, number_of, part}
 use Rattle.cf_model.specs.Operations.{ack_dehydrate, changes_with, checked, consent_by, consent_deed, consent_tests, done, entries, entries_deed, entries_tests, execute, execute_with, key_of, on_ask, on_live, refuse, refuse_tests, second_verdict, transfer, transfer_by, transfer_tests, entry_changes, entry_kind, list_changes, dehydration, in_use_beside}
-use Rattle.cf_model_laws.proofs.Guarded.{AreSeenBelow, GuardedFilter}
+use Rattle.cf_model_laws.proofs.Guarded.{AreSeenBelow, GuardedFilter, settled_on}
 use Rattle.cf_model.proofs.ArrowLaws.{keeps_ret, keeps_then, keeps_unless}
-use Rattle.std.proofs.Common.{◌≡◌, ◌<◌, ◌≤◌, ◌+◌, ◌∷◌, ◌++◌, refl, sym, ◌∙◌, ap, subst, inr, max, arith, List, [], ℕ, suc, Bool, true, false}
+use Rattle.std.proofs.Common.{◌≡◌, ◌<◌, ◌≤◌, ◌+◌, ◌∷◌, ◌++◌, refl, sym, ◌∙◌, ap, subst, inl, inr, max, arith, List, [], ℕ, suc, Bool, true, false}
 use Rattle.cf_base.specs.declared.ids.ItemId.{ItemId}
 use Rattle.cf_base.specs.declared.ids.Usn.{Usn}
 use Rattle.cf_base.specs.declared.ids.Key.{Key}
@@ -34,7 +34,7 @@ use Rattle.cf_model.specs.Contents.{base_named}
 use Rattle.cf_model.specs.Effects.{is_directory, is_placeholder, made, size_made, writes_made}
 use Rattle.cf_model.specs.Fetching.{new_item_of}
 use Rattle.cf_model.specs.Identities.{base_bytes, is_untargeted}
-use Rattle.cf_model.specs.Numbers.{root_rid, usn_after}
+use Rattle.cf_model.specs.Numbers.{root_rid, same_key, usn_after}
 use Rattle.cf_model.specs.Plans.{is_full_population}
 use Rattle.cf_model.specs.Soundness.{Each}
 use Rattle.cf_model.specs.Store.{Held}
@@ -45,6 +45,8 @@ use Rattle.cf_model_laws.specs.Fitting.{NamesWell}
 use Rattle.cf_model_laws.specs.Invariant.{All, InOrder}
 use Rattle.cf_model_laws.specs.Premises.{IsFair}
 use Rattle.cf_model_laws.proofs.FitItems.{each_append}
+use Rattle.cf_model_laws.proofs.Gathered.{all_any, all_found}
+use Rattle.cf_model_laws.proofs.Leading.{Leads, leads_bind, leads_weaker}
 use Rattle.cf_model_laws.proofs.Plainly.{After, change_after, checked_at, head_false, keeps_led, tail_none, tail_of}
 use Rattle.cf_model_laws.proofs.RightItems.{no_way}
 use Rattle.cf_model_laws.proofs.SoundChanges.{KeepsEntries}
@@ -63,10 +65,10 @@ pub transfer_at : (l : Link) (tokens : ℕ) (P : Filter → Type 0) → GuardedF
 transfer_at l tokens P closed a at bytes x fit h =
     let c : Change = change.Filled a.ask.item at bytes in
     checked_at P (transfer_tests a c at (length bytes)) (transfer_by a c (blocks_of at (length bytes))) x h
-    (λ e. closed.touch same_book c a.ask.item (Leaves a.ask.key (blocks_of at (length bytes))) x (λ b. refl) (λ fair. ((λ z b. refl), λ k. k)) (λ id k. k) (λ fair. fit fair (not_false (is_fetch a.ask.kind) (head_false (transfer_tests a c at (length bytes) x) e))) h)
+    (λ e. closed.touch same_book c a.ask.item (Leaves a.ask.key (blocks_of at (length bytes))) x tt (λ b. refl) (λ fair. ((λ z b. refl), λ k. k)) (λ id k. k) (λ fair. fit fair (not_false (is_fetch a.ask.kind) (head_false (transfer_tests a c at (length bytes) x) e))) h)
 
 pub refuse_keeps : (l : Link) (tokens : ℕ) (P : Filter → Type 0) → GuardedFilter l tokens P → (x1 : Live) → (x2 : Span) → (x3 : ℕ) → Preserves P (refuse x1 x2 x3)
-refuse_keeps l tokens P closed a asked status = checked_keeps l tokens P closed (refuse_tests a asked) (then_do (settle a.ask.item (Fails a.ask.key (blocks_of asked.start asked.len) (cause.Failed status))) done) (keeps_then P (settle a.ask.item (Fails a.ask.key (blocks_of asked.start asked.len) (cause.Failed status))) done (closed.settled a.ask.item (Fails a.ask.key (blocks_of asked.start asked.len) (cause.Failed status))) (done_keeps l tokens P closed))
+refuse_keeps l tokens P closed a asked status = checked_keeps l tokens P closed (refuse_tests a asked) (then_do (settle a.ask.item (Fails a.ask.key (blocks_of asked.start asked.len) (cause.Failed status))) done) (keeps_then P (settle a.ask.item (Fails a.ask.key (blocks_of asked.start asked.len) (cause.Failed status))) done (settled_on l tokens P closed a.ask.item (Fails a.ask.key (blocks_of asked.start asked.len) (cause.Failed status)) (λ x. refl)) (done_keeps l tokens P closed))
 
 -- entries
 
@@ -161,20 +163,36 @@ listing_in l tokens P closed f keeps p parent (e ∷ es) item n x sees fit next 
     (λ fair. next_kept y.volume.next_item.0 t.volume.next_item.0 (item + 1) b.next (a.next ∙ next_made x.volume.next_item.0 item (next fair)) (closed.sound t j fair).now.more)
     (ap (λ (d : ℕ). usn_after d y.volume.place) (b.epoch ∙ a.epoch) ∙ number_after n x.volume.epoch x.volume.place t.volume.place y.volume.place number a.place b.place) k)))
 
-pub listing_at : (l : Link) (tokens : ℕ) (P : Filter → Type 0) → GuardedFilter l tokens P → (f : Book → Book) → KeepsEntries f → (a : Live) (es : List Entry) (x : Filter)
+-- the changes leave what waits and is asked
+waiting_stays : (f : Book → Book) (cs : List Change) (x : Filter) → Leads (λ s. Unit {0}) (λ u t. t.waiting ≡ x.waiting) (changes_with f cs x)
+waiting_stays f [] x = refl
+waiting_stays f (c ∷ []) x = leads_weaker (λ s. Unit {0}) (λ u t. After f c x t) (λ u t. t.waiting ≡ x.waiting) (change_with f c x) (λ u t h. h.waiting) (change_after f c x)
+waiting_stays f (c ∷ d ∷ cs) x =
+    leads_bind (λ s. Unit {0}) (λ u t. After same_book c x t) (λ u t. t.waiting ≡ x.waiting) (change c x) (λ _ t. changes_with f (d ∷ cs) t) (change_after same_book c x)
+    (λ u t h. leads_weaker (λ s. Unit {0}) (λ v y. y.waiting ≡ t.waiting) (λ v y. y.waiting ≡ x.waiting) (changes_with f (d ∷ cs) t) (λ v y e. e ∙ h.waiting) (waiting_stays f (d ∷ cs) t))
+
+-- the ask that is answered is of a listing
+listing_ends : (a : Live) (w v : Waiting) → v ≡ w → live_of w.asks a.ask.key ≡ Some a → is_list a.ask.kind ≡ true → (b : Live) → live_of v.asks a.ask.key ≡ Some b → is_list b.ask.kind ≡ true
+listing_ends a w v same found list b e = inner (sym found ∙ ap (λ (u : Waiting). live_of u.asks a.ask.key) (sym same) ∙ e) where
+  inner : ◌≡◌ {A = Option Live} (Some a) (Some b) → is_list b.ask.kind ≡ true
+  inner z = let y : a ≡ b = cc in subst (λ (c : Live). is_list c.ask.kind ≡ true) y list
+
+pub listing_at : (l : Link) (tokens : ℕ) (P : Filter → Type 0) → GuardedFilter l tokens P → (f : Book → Book) → KeepsEntries f → (a : Live) (es : List Entry) (x : Filter) → live_of x.waiting.asks a.ask.key ≡ Some a
     → SeesFrom f (x.volume.next_item.0 + length es) → (IsFair l → All (λ e. NewFits l.remote x.policy (new_item_of e)) es) → P x → Keeps P (entries f a (map new_item_of es) true x)
-listing_at l tokens P closed f keeps a es x sees fit h =
+listing_at l tokens P closed f keeps a es x live sees fit h =
     checked_at P (entries_tests f a (map new_item_of es) (list_changes a (map new_item_of es) x)) (then_do (changes_with f (list_changes a (map new_item_of es) x)) (then_do (settle a.ask.item (entries_deed a true)) done)) x h
-    (λ e. keeps_bind P (changes_with f (list_changes a (map new_item_of es) x) x) (λ _ t. then_do (settle a.ask.item (entries_deed a true)) done t)
+    (λ e. keeps_led P (λ u t. t.waiting ≡ x.waiting) (changes_with f (list_changes a (map new_item_of es) x) x) (λ _ t. then_do (settle a.ask.item (entries_deed a true)) done t)
     (listing_in l tokens P closed f keeps x.policy a.ask.item es x.volume.next_item.0 (next_number x.volume) x sees fit (λ fair. refl) refl h)
-    (λ u t j. keeps_bind P (settle a.ask.item (entries_deed a true) t) (λ _ y. done y) ((closed.settled a.ask.item (entries_deed a true)).keeps t j) (λ v y k. k)))
+    (waiting_stays f (list_changes a (map new_item_of es) x) x)
+    (λ u t j w. keeps_bind P (settle a.ask.item (entries_deed a true) t) (λ _ y. done y)
+    (closed.settled a.ask.item (entries_deed a true) t (inr (listing_ends a x.waiting t.waiting w live (not_false (is_list a.ask.kind) (head_false (entries_tests f a (map new_item_of es) (list_changes a (map new_item_of es) x) x) e)))) j) (λ v y k. k)))
 
 -- no entries
 pub no_listing_keeps : (l : Link) (tokens : ℕ) (P : Filter → Type 0) → GuardedFilter l tokens P → (f : Book → Book) (a : Live) (list : List NewItem) → Preserves P (entries f a list false)
 no_listing_keeps l tokens P closed f a list =
     record {
       keeps = λ x h. checked_at P (entries_tests f a list []) (then_do (changes_with f []) (then_do (settle a.ask.item (entries_deed a false)) done)) x h
-          (λ e. keeps_bind P (settle a.ask.item (entries_deed a false) x) (λ _ y. done y) ((closed.settled a.ask.item (entries_deed a false)).keeps x h) (λ v y k. k));
+          (λ e. keeps_bind P (settle a.ask.item (entries_deed a false) x) (λ _ y. done y) (closed.settled a.ask.item (entries_deed a false) x (inl refl) h) (λ v y k. k));
     }
 
 -- consent
@@ -199,15 +217,28 @@ consent_at l tokens P closed a None x e h =
     checked_at P (consent_tests a (dehydration a ∷ [])) (then_do (changes (dehydration a ∷ [])) (then_do (settle a.ask.item (consent_deed a true None)) done)) x h
     (λ q. keeps_bind P (changes (dehydration a ∷ []) x) (λ _ t. then_do (settle a.ask.item (consent_deed a true None)) done t)
     (keeps_bind P (change (dehydration a) x) (λ _ t. ret unit t) (closed.change same_book (dehydration a) x (λ b. refl) (λ fair. ((λ z b. refl), λ k. k)) (λ id k. k) (λ fair. consent_fits l tokens P closed a x h e fair) h) (λ u t j. j))
-    (λ u t j. keeps_bind P (settle a.ask.item (consent_deed a true None) t) (λ _ y. done y) ((closed.settled a.ask.item (consent_deed a true None)).keeps t j) (λ v y k. k)))
+    (λ u t j. keeps_bind P (settle a.ask.item (consent_deed a true None) t) (λ _ y. done y) (closed.settled a.ask.item (consent_deed a true None) t (inl refl) j) (λ v y k. k)))
 consent_at l tokens P closed a (Some c) x e h =
     checked_at P (consent_tests a []) (then_do (changes []) (then_do (settle a.ask.item (consent_deed a true (Some c))) done)) x h
-    (λ q. keeps_bind P (settle a.ask.item (consent_deed a true (Some c)) x) (λ _ y. done y) ((closed.settled a.ask.item (consent_deed a true (Some c))).keeps x h) (λ v y k. k))
+    (λ q. keeps_bind P (settle a.ask.item (consent_deed a true (Some c)) x) (λ _ y. done y) (closed.settled a.ask.item (consent_deed a true (Some c)) x (inl refl) h) (λ v y k. k))
 
 pub consents_keep : (l : Link) (tokens : ℕ) (P : Filter → Type 0) → GuardedFilter l tokens P → (a : Live) → Preserves P (ack_dehydrate a true)
 consents_keep l tokens P closed a = record { keeps = λ x h. consent_at l tokens P closed a (second_verdict a x) x refl h }
 
 -- an operation of the engine
+
+pub keys_same : (a b : Key) → same_key a b ≡ true → a ≡ b
+keys_same a b h = by (a.epoch == b.epoch) (a.number == b.number) refl refl h where
+  at : ℕ → ℕ → Key
+  at x y = record { epoch = x; number = y }
+
+  by : (p q : Bool) → (a.epoch == b.epoch) ≡ p → (a.number == b.number) ≡ q → (p && q) ≡ true → a ≡ b
+  by true true e f g = ap (λ (x : ℕ). at x a.number) (eqb-true a.epoch b.epoch e) ∙ ap (λ (x : ℕ). at b.epoch x) (eqb-true a.number b.number f)
+  by true false e f g = no_way g
+  by false q e f g = no_way g
+
+live_key : (asks : List Live) (key : Key) (a : Live) → live_of asks key ≡ Some a → a.ask.key ≡ key
+live_key asks key a e = keys_same a.ask.key key (all_found (λ (b : Live). Unit {0}) (λ (b : Live). same_key b.ask.key key) asks a e (all_any (λ (b : Live). Unit {0}) (λ b. tt) asks)).1
 
 on_key : (l : Link) (tokens : ℕ) (P : Filter → Type 0) (f : Book → Book) (op : Operation) (x : Filter) → P x → ((a : Live) → live_of x.waiting.asks (key_of op) ≡ Some a → Keeps P (on_ask f op a x)) → Keeps P (execute_with f op x)
 on_key l tokens P f op x h k = by (live_of x.waiting.asks (key_of op)) refl where
@@ -228,7 +259,7 @@ no_entries_op_keeps l tokens P closed key = record { keeps = λ x h. on_key l to
 
 pub listed_at : (l : Link) (tokens : ℕ) (P : Filter → Type 0) → GuardedFilter l tokens P → (f : Book → Book) → KeepsEntries f → (key : Key) (es : List Entry) (x : Filter)
     → SeesFrom f (x.volume.next_item.0 + length es) → (IsFair l → All (λ e. NewFits l.remote x.policy (new_item_of e)) es) → P x → Keeps P (execute_with f (operation.Entries key (map new_item_of es) true) x)
-listed_at l tokens P closed f keeps key es x sees fit h = on_key l tokens P f (operation.Entries key (map new_item_of es) true) x h (λ a e. listing_at l tokens P closed f keeps a es x sees fit h)
+listed_at l tokens P closed f keeps key es x sees fit h = on_key l tokens P f (operation.Entries key (map new_item_of es) true) x h (λ a e. listing_at l tokens P closed f keeps a es x (subst (λ (k : Key). live_of x.waiting.asks k ≡ Some a) (sym (live_key x.waiting.asks key a e)) e) sees fit h)
 
 pub consented_keeps : (l : Link) (tokens : ℕ) (P : Filter → Type 0) → GuardedFilter l tokens P → (key : Key) → Preserves P (execute (operation.AckDehydrate key true))
 consented_keeps l tokens P closed key = record { keeps = λ x h. on_key l tokens P same_book (operation.AckDehydrate key true) x h (λ a e. (consents_keep l tokens P closed a).keeps x h) }

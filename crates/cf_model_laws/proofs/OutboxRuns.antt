@@ -39,10 +39,10 @@ module _ (F : Fact) (b : BoxingRuns F) where
   filter_beside l tokens P closed = record {
     sound = λ x h fair. closed.sound x h.0 fair;
     change = λ f d x keeps seen free fit h. keeps_both P (Holds F) (change_with f d x) (closed.change f d x keeps seen free fit h.0) (((filter_closed F b.boxing).change f d).keeps x h.1);
-    touch = λ f d item e x keeps seen on fit h. keeps_both P (Holds F) (then_do (change_with f d) (then_do (settle item e) done) x) (closed.touch f d item e x keeps seen on fit h.0)
+    touch = λ f d item e x quiet keeps seen on fit h. keeps_both P (Holds F) (then_do (change_with f d) (then_do (settle item e) done) x) (closed.touch f d item e x quiet keeps seen on fit h.0)
         ((keeps_then (Holds F) (change_with f d) (then_do (settle item e) done) ((filter_closed F b.boxing).change f d) (keeps_then (Holds F) (settle item e) done ((filter_closed F b.boxing).settled item e) (record { keeps = λ y k. k }))).keeps x h.1);
     commits = record { keeps = λ x h. keeps_both P (Holds F) (in_volume commit x) (closed.commits.keeps x h.0) ((filter_closed F b.boxing).commits.keeps x h.1) };
-    settled = λ item d. record { keeps = λ x h. keeps_both P (Holds F) (settle item d x) ((closed.settled item d).keeps x h.0) (((filter_closed F b.boxing).settled item d).keeps x h.1) };
+    settled = λ item d x others h. keeps_both P (Holds F) (settle item d x) (closed.settled item d x others h.0) (((filter_closed F b.boxing).settled item d).keeps x h.1);
     begins = λ n. record { keeps = λ x h. keeps_both P (Holds F) (reading (wait_begun n) (begin_now n) x) ((closed.begins n).keeps x h.0) (((filter_closed F b.boxing).begins n).keeps x h.1) };
     downs = record { keeps = λ x h. keeps_both P (Holds F) (reading all_down tell x) (closed.downs.keeps x h.0) ((filter_closed F b.boxing).downs.keeps x h.1) };
     keeps_accessed = λ item x h. (closed.keeps_accessed item x h.0, h.1);

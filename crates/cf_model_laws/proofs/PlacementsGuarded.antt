@@ -17,7 +17,7 @@ use Rattle.cf_model.specs.Calls.{place_at, room_tests}
 use Rattle.cf_model_laws.proofs.OperationsGuarded as operations_keep
 use Rattle.cf_model_laws.proofs.WaitsGuarded as waits_keep
 use Rattle.cf_model.specs.Placements.{asking, asking_tests, create, create_at, keep_full, keep_item, make_planned, settle_changed}
-use Rattle.cf_model_laws.proofs.Guarded.{GuardedFilter}
+use Rattle.cf_model_laws.proofs.Guarded.{GuardedFilter, settled_on}
 use Rattle.cf_model.proofs.ArrowLaws.{keeps_reading, keeps_ret, keeps_then}
 use Rattle.std.proofs.Common.{◌≡◌, ◌∷◌, refl, sym, ◌∙◌, ap, inl, List, [], ℕ, Bool, true, false}
 use Rattle.cf_base.specs.declared.changes.Change.TheVariants as change
@@ -67,7 +67,7 @@ create_dir_keeps l tokens P closed path = keeps_reading P (place_at path) (on_ok
 
 pub settle_changed_keeps : (l : Link) (tokens : ℕ) (P : Filter → Type 0) → GuardedFilter l tokens P → (x1 : ItemId) → (x2 : List Change) → Preserves P (settle_changed x1 x2)
 settle_changed_keeps l tokens P closed item [] = keeps_ret P unit
-settle_changed_keeps l tokens P closed item (c ∷ cs) = closed.settled item Nothing
+settle_changed_keeps l tokens P closed item (c ∷ cs) = settled_on l tokens P closed item Nothing (λ x. tt)
 
 pub asking_keeps : (l : Link) (tokens : ℕ) (P : Filter → Type 0) → GuardedFilter l tokens P → (item : ItemId) (answer : Arrow Filter Shown) → Preserves P answer → (cs : List Change) → All IsPlain cs → Preserves P (asking item answer cs)
 asking_keeps l tokens P closed item answer answer_keeps cs plain =

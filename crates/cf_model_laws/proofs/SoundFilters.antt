@@ -252,9 +252,9 @@ pub filter_guarded : (M : Type 0) (l : Link) (tokens : ℕ) → GuardedFilter l 
 filter_guarded M l tokens = record {
   sound = λ x h e. h.1 e;
   change = λ f c x keeps seen free fit h. change_keeps M l tokens f c x keeps free (λ e. fits_meets l.remote x c (fit e)) h;
-  touch = λ f c item d x keeps seen on fit h. touch_keeps M l tokens f c item d x keeps on (λ e. fits_meets l.remote x c (fit e)) h;
+  touch = λ f c item d x quiet keeps seen on fit h. touch_keeps M l tokens f c item d x keeps on (λ e. fits_meets l.remote x c (fit e)) h;
   commits = record { keeps = λ x h. ((h.0, λ e. with_begun l tokens x (h.1 e)), (h.0, λ e. with_sure l tokens x (h.1 e))) };
-  settled = λ item d. record { keeps = λ x h. settle_but M l tokens item d x h.0 (λ e. none_on item l tokens x (h.1 e)) };
+  settled = λ item d x others h. settle_but M l tokens item d x h.0 (λ e. none_on item l tokens x (h.1 e));
   begins = begins_keep M l tokens;
   downs = record { keeps = λ x h. tell_keeps M l tokens (all_down x) x h.0 (λ e. (downed_sound l tokens x (h.1 e), (tt, tt))) };
   keeps_accessed = λ item x h. h;

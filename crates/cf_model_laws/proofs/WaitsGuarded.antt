@@ -19,7 +19,7 @@ use Rattle.cf_model.specs.Settling.{settle, tell}
 use Rattle.cf_model.specs.State.{Filter, Open, Link}
 use Rattle.cf_model_laws.proofs.OperationsGuarded as operations_keep
 use Rattle.cf_model.specs.Waits.{Need, accessed_now, all_down, answer_now, answer_or_begin, answer_with, at_path, begin, begin_now, begin_tests, begun, but_directory, cancel, cancel_wait, close, close_item, connect, connected_again, disconnected, end_handle, end_now, expire, expire_live, expired_keys, get, get_item, hydrate, hydrate_file, hydrate_item, is_last, is_met_now, list, list_item, need, on_file, on_handle, on_ok, on_open, on_path, opened_by, plain_need, read, read_file, read_item, read_need, refused, still_live, tick, waiting_by, wants_rest, with_time, without_handle}
-use Rattle.cf_model_laws.proofs.Guarded.{GuardedFilter}
+use Rattle.cf_model_laws.proofs.Guarded.{GuardedFilter, settled_on}
 use Rattle.cf_model.proofs.ArrowLaws.{keeps_choose, keeps_each, keeps_noted, keeps_one, keeps_reading, keeps_ret, keeps_then}
 
 pub on_ok_keeps : {X : Type 0} → (l : Link) (tokens : ℕ) (P : Filter → Type 0) → GuardedFilter l tokens P → (x1 : (X → Arrow Filter Shown)) → ((z0_0 : X) → Preserves P (x1 z0_0)) → (x2 : Result X Code) → Preserves P (on_ok x1 x2)
@@ -93,13 +93,13 @@ hydrate_keeps l tokens P closed path = on_file_keeps l tokens P closed path hydr
 
 pub cancel_wait_keeps : (l : Link) (tokens : ℕ) (P : Filter → Type 0) → GuardedFilter l tokens P → (x1 : WaitId) → (x2 : Option Wait) → Preserves P (cancel_wait x1 x2)
 cancel_wait_keeps l tokens P closed id None = refused_keeps l tokens P closed code.NoWait
-cancel_wait_keeps l tokens P closed id (Some w) = keeps_then P (settle w.item (Cancels id)) done (closed.settled w.item (Cancels id)) (operations_keep.done_keeps l tokens P closed)
+cancel_wait_keeps l tokens P closed id (Some w) = keeps_then P (settle w.item (Cancels id)) done (settled_on l tokens P closed w.item (Cancels id) (λ x. tt)) (operations_keep.done_keeps l tokens P closed)
 
 pub cancel_keeps : (l : Link) (tokens : ℕ) (P : Filter → Type 0) → GuardedFilter l tokens P → (x1 : WaitId) → Preserves P (cancel x1)
 cancel_keeps l tokens P closed id = keeps_reading P (waiting_by id) (cancel_wait id) (cancel_wait_keeps l tokens P closed id)
 
 pub end_handle_keeps : (l : Link) (tokens : ℕ) (P : Filter → Type 0) → GuardedFilter l tokens P → (x1 : Handle) → (x2 : ItemId) → (x3 : Bool) → Preserves P (end_handle x1 x2 x3)
-end_handle_keeps l tokens P closed h item last = closed.settled item (Closes h last)
+end_handle_keeps l tokens P closed h item last = settled_on l tokens P closed item (Closes h last) (λ x. tt)
 
 pub close_item_keeps : (l : Link) (tokens : ℕ) (P : Filter → Type 0) → GuardedFilter l tokens P → (x1 : Handle) → (x2 : ItemId) → Preserves P (close_item x1 x2)
 close_item_keeps l tokens P closed h item = keeps_then P (noted (without_handle h)) (then_do (reading (is_last item) (end_handle h item)) done) (keeps_noted P (without_handle h) (closed.keeps_without_handle h)) (keeps_then P (reading (is_last item) (end_handle h item)) done (keeps_reading P (is_last item) (end_handle h item) (end_handle_keeps l tokens P closed h item)) (operations_keep.done_keeps l tokens P closed))
@@ -109,7 +109,7 @@ close_keeps l tokens P closed h = on_handle_keeps l tokens P closed h (close_ite
 
 pub expire_live_keeps : (l : Link) (tokens : ℕ) (P : Filter → Type 0) → GuardedFilter l tokens P → (x1 : Key) → (x2 : Option Live) → Preserves P (expire_live x1 x2)
 expire_live_keeps l tokens P closed key None = keeps_ret P (record {})
-expire_live_keeps l tokens P closed key (Some a) = closed.settled a.ask.item (Expires key)
+expire_live_keeps l tokens P closed key (Some a) = settled_on l tokens P closed a.ask.item (Expires key) (λ x. tt)
 
 pub expire_keeps : (l : Link) (tokens : ℕ) (P : Filter → Type 0) → GuardedFilter l tokens P → (x1 : Key) → Preserves P (expire x1)
 expire_keeps l tokens P closed key = keeps_reading P (still_live key) (expire_live key) (expire_live_keeps l tokens P closed key)
