@@ -9,3 +9,5 @@ pub mod MarkedLaws
 pub mod KeptBytesLaws
 pub mod TokenLaws
 pub mod HeadlineLaws
+pub mod ReadLines
+pub mod ReadsGuarded

@@ -45,7 +45,7 @@ pub changes_more : (ns ms : List Notice) → changes_in (ns ++ ms) ≡ changes_i
 changes_more [] ms = refl
 changes_more (n ∷ ns) ms = ap (λ (cs : List (Usn × Change)). change_in n ++ cs) (changes_more ns ms) ∙ sym (append_assoc (change_in n) (changes_in ns) (changes_in ms))
 
-none_in : {X : Type 0} (f : X → Notice) → ((x : X) → change_in (f x) ≡ []) → (xs : List X) → changes_in (map f xs) ≡ []
+pub none_in : {X : Type 0} (f : X → Notice) → ((x : X) → change_in (f x) ≡ []) → (xs : List X) → changes_in (map f xs) ≡ []
 none_in f h [] = refl
 none_in f h (x ∷ xs) = ap (λ (cs : List (Usn × Change)). cs ++ changes_in (map f xs)) (h x) ∙ none_in f h xs
 

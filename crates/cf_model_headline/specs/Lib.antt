@@ -5,3 +5,4 @@ pub mod Dehydrated
 pub mod KeptBytes
 pub mod Tokens
 pub mod Headline
+pub mod Reads

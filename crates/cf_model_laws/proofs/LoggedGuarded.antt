@@ -130,7 +130,7 @@ met r x n c front is next log order fit truly right = by c fit where
 
 -- what was met stays so where the remote grows
 
-content_grows : (r s : Held) → Extends r s → (i : Item) → HasBase r i.identity → content s i ≡ content r i
+pub content_grows : (r s : Held) → Extends r s → (i : Item) → HasBase r i.identity → content s i ≡ content r i
 content_grows r s x i h = ap (λ (b : List ℕ). over b (writes_of i)) (base_stays r s i.identity x h)
 
 measured_grows : (r s : Held) → Extends r s → (next : ℕ) (n : Usn) (i : Item) → IsMeasured r next n i → IsMeasured s next n i

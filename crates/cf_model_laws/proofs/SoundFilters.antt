@@ -73,7 +73,7 @@ with_sure l tokens x h =
 
 -- a change
 
-changed_at : (l : Link) (tokens : ℕ) (f : Book → Book) (c : Change) (x : Filter) → KeepsEntries f → Meets l.remote x c → IsSound l tokens x → (v : Volume) → (v ≡ x.volume) ⊎ (v ≡ with_room_point x.volume)
+pub changed_at : (l : Link) (tokens : ℕ) (f : Book → Book) (c : Change) (x : Filter) → KeepsEntries f → Meets l.remote x c → IsSound l tokens x → (v : Volume) → (v ≡ x.volume) ⊎ (v ≡ with_room_point x.volume)
     → IsSoundBut (Touches c) l tokens (with_volume (put_with_book f c v) x)
 changed_at l tokens f c x keeps fit h v (inl e) = subst (λ (w : Volume). IsSoundBut (Touches c) l tokens (with_volume (put_with_book f c w) x)) (sym e) (change_sound l tokens x f c keeps fit h)
 changed_at l tokens f c x keeps fit h v (inr e) =
