@@ -8,6 +8,7 @@ pub mod DehydratedLaws
 pub mod MarkedLaws
 pub mod KeptBytesLaws
 pub mod TokenLaws
-pub mod HeadlineLaws
 pub mod ReadLines
 pub mod ReadsGuarded
+pub mod ReadsLaws
+pub mod HeadlineLaws

@@ -288,12 +288,12 @@ module _ (base : Log) (ws : List Wait) (e n : ℕ) (Fair : Type 0) (r : Held) wh
             let items : items_of (base ++ changes_in y.notes) ≡ x.volume.items = ap items_of (sym h.0.shown ∙ h.3) ∙ sym t.of_log in
             let found_now : item_of x.volume.items w.0.item ≡ Some i = subst (λ (is : List Item). item_of is w.0.item ≡ Some i) items found in
             let ends : end_of x.volume.items w.0 cause.Met ≡ end.Data (slice_range (content r i) w.0.span.start (w.0.span.start + w.0.span.len)) =
-                read_right r x w.0 i t.unvalidated ((all_found (λ j. j.directory ≡ false → IsTrueTo r j) (λ j. j.id.0 == w.0.item.0) x.volume.items i found_now t.contents).0 file) is.1 found_now met in (
+            read_right r x w.0 i t.unvalidated ((all_found (λ j. j.directory ≡ false → IsTrueTo r j) (λ j. j.id.0 == w.0.item.0) x.volume.items i found_now t.contents).0 file) is.1 found_now met in (
               (all_found (λ j. HasBase r j.identity) (λ j. j.id.0 == w.0.item.0) x.volume.items i found_now t.based).0,
               sym (data_is w.0.id (slice_range (content r i) w.0.span.start (w.0.span.start + w.0.span.len)) id bytes
-              (ap (λ (d : End). data_shown (notice.Done w.0.id d)) (sym ends)
-              ∙ ap (λ (is : List Item). data_shown (notice.Done w.0.id (end_of is w.0 cause.Met))) (sym h.2)
-              ∙ ap (λ (c : Cause). data_shown (notice.Done w.0.id (end_of y.volume.items w.0 c))) (sym is.0) ∙ shows)),
+                  (ap (λ (d : End). data_shown (notice.Done w.0.id d)) (sym ends)
+                  ∙ ap (λ (is : List Item). data_shown (notice.Done w.0.id (end_of is w.0 cause.Met))) (sym h.2)
+                  ∙ ap (λ (c : Cause). data_shown (notice.Done w.0.id (end_of y.volume.items w.0 c))) (sym is.0) ∙ shows)),
             ),
       )
 

@@ -123,8 +123,8 @@ version_adds held at new rid v bytes e =
     by s found own true q (suc v) e =
         let same : rid.0 ≡ at.0 = sym own ∙ eqb-true s.rid.0 at.0 q in
         elim (last_or_old s.versions new v bytes (ap (λ (vs : List (List ℕ)). slice_get vs v) (sym (trimmed_versions held.keep (record s { versions = s.versions ++ new ∷ []; changed = held.clock + 1 }))) ∙ e))
-            as (λ _. (version_bytes (stored_at held.items rid) (suc v) ≡ Some bytes) ⊎ ((rid.0 ≡ at.0) × (suc v ≡ (latest_at held at).0 + 1)))
-            [ inl h ↦ inl (ap (λ (o : Option Stored). version_bytes o (suc v)) found ∙ h) | inr h ↦ inr (same, ap suc h ∙ plus (length s.versions) ∙ ap (λ (n : ℕ). n + 1) (sym (last s found same))) ]
+        as (λ _. (version_bytes (stored_at held.items rid) (suc v) ≡ Some bytes) ⊎ ((rid.0 ≡ at.0) × (suc v ≡ (latest_at held at).0 + 1)))
+        [ inl h ↦ inl (ap (λ (o : Option Stored). version_bytes o (suc v)) found ∙ h) | inr h ↦ inr (same, ap suc h ∙ plus (length s.versions) ∙ ap (λ (n : ℕ). n + 1) (sym (last s found same))) ]
 
 new_adds : (held : Held) (parent : Rid) (name : List ℕ) (bytes : List ℕ) → Adds held.items (with_new held parent name false (bytes ∷ [])) (next_rid held) 1
 new_adds held parent name new rid v bytes e = by (appended held.items _ rid v bytes e) where
@@ -174,8 +174,11 @@ decided_made first held token m None more adds h = λ rid version bytes e. by ri
       elim (h rid version bytes k) as (λ _. (bytes_of first rid version ≡ Some bytes) ⊎ ((t : Token) × WasDone (decide held token m None).1 t rid version))
       [ inl o ↦ inl o | inr t ↦ inr (t.0, more.tokens t.0 (RecordedDone rid version) t.1) ]
   by rid version bytes (inr k) =
-      inr (token, subst (λ (r : Rid). WasDone (decide held token m None).1 token r version) (sym (rid_at rid m.rid k.0))
-      (subst (λ (v : Version). WasDone (decide held token m None).1 token m.rid v) (sym (version_at version m.version k.1)) (recorded-first held.tokens token (RecordedDone m.rid m.version))))
+      inr (
+        token,
+        subst (λ (r : Rid). WasDone (decide held token m None).1 token r version) (sym (rid_at rid m.rid k.0))
+            (subst (λ (v : Version). WasDone (decide held token m None).1 token m.rid v) (sym (version_at version m.version k.1)) (recorded-first held.tokens token (RecordedDone m.rid m.version))),
+      )
 
 mutated_made : (first held : Held) (token : Token) (m : Mutation) (o : Option Recorded) → Extends held (mutate held token m o).1 → Adds held.items m.items m.rid m.version.0 → Made first held → Made first (mutate held token m o).1
 mutated_made first held token m (Some r) more adds h = h

@@ -13,6 +13,7 @@ use Rattle.cf_model_laws.specs.Premises.{IsFair, IsFresh}
 use Rattle.cf_model_headline.specs.Dehydrated.{DehydratesExactly}
 use Rattle.cf_model_headline.specs.KeptBytes.{FlushedIsKept}
 use Rattle.cf_model_headline.specs.Marked.{InSyncByMark, MarksGiveNumbers}
+use Rattle.cf_model_headline.specs.Reads.{DataIsRight}
 use Rattle.cf_model_headline.specs.Reports.{OfEach, Report, standing}
 use Rattle.cf_model_headline.specs.Resumed.{ResumesRight}
 use Rattle.cf_model_headline.specs.Tokens.{OneVersionEach}
@@ -25,14 +26,15 @@ FindsVolume e a = e ≡ restarting → a.shown ≢ shown.Refused code.NotAVolume
 pub record Promises (m : Mode) (remote : Held) (clusters : ℕ) (report : Report) (last : State) : Type 0 where
   pub changes : last.filter.volume.log ≡ standing report
   pub restarts : ResumesRight report
-  pub opens : OfEach m remote clusters report last (λ s e a t. FindsVolume e a)
+  pub opens : OfEach m remote clusters report last (λ before s e a t. FindsVolume e a)
   pub in_sync : InSyncByMark report
-  pub dehydrations : OfEach m remote clusters report last (λ s e a t. DehydratesExactly s e a)
+  pub dehydrations : OfEach m remote clusters report last (λ before s e a t. DehydratesExactly s e a)
   pub tokens : OneVersionEach remote last.link.remote
 
 -- In `replay`, over a remote that keeps its rules: besides.
 pub record Headline (remote : Held) (clusters : ℕ) (report : Report) (last : State) : Type 0 where
   pub promises : Promises mode.Replay remote clusters report last
+  pub reads : OfEach mode.Replay remote clusters report last (λ before s e a t. DataIsRight last.link.remote before s a)
   pub marks : MarksGiveNumbers report
   pub flushed : FlushedIsKept report last.link.remote
 

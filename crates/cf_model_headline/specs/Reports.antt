@@ -57,8 +57,8 @@ is_device (event.Peer e) = false
 is_device (event.Engine e) = false
 is_device (event.Provider e) = false
 
--- this holds of each event of a run, with the state before it, its answer and the state after it
-abbrev pub OfEach : Mode → Held → ℕ → Report → State → (State → Event → Answer → State → Type 0) → Type 0
+-- this holds of each event of a run, with the report before it, the state there, its answer and the state after it
+abbrev pub OfEach : Mode → Held → ℕ → Report → State → (Report → State → Event → Answer → State → Type 0) → Type 0
 OfEach m remote clusters report last P =
     (before rest : Report) (s : State) (e : Event) (a : Answer) (t : State)
-    → report ≡ before ++ (e, a) ∷ rest → Runs m (start m remote clusters) before s → IsStep m s e a t → Runs m t rest last → P s e a t
+    → report ≡ before ++ (e, a) ∷ rest → Runs m (start m remote clusters) before s → IsStep m s e a t → Runs m t rest last → P before s e a t
