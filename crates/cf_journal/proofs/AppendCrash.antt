@@ -1,11 +1,12 @@
 -- The two steps of an append as calls of a disk.
 use Rattle.std.proofs.Common.{◌≡◌, ◌≢◌, ◌⊎◌, inl, inr, ⊎_elim, ℕ, ◌+◌, ◌≤◌, List, [], ◌∷◌, length, get_or, take, sym, ◌∙◌, ap, subst, arith}
+use Rattle.cf_codec.specs.declared.formats.Format.TheVariants.{Second}
 use Rattle.cf_disk.specs.Disk.{State, SameBut, Holds, Near, Only, Leaves, size_of}
 use Rattle.cf_disk.specs.Leaving.{leaves_weaker, leaves_then}
 use Rattle.cf_disk.specs.Parts.{holds_same, holds_part, get_or-first}
 use Rattle.cf_journal.specs.declared.sides.Side.{Side}
 use Rattle.cf_journal.specs.Format.{base, size_of_records}
-use Rattle.cf_journal.specs.Content.{Content, StandsAt, IsBeforeOrAfter, appended, clusters}
+use Rattle.cf_journal.specs.Content.{Content, StandsAt, IsBeforeOrAfter, appended, clusters, second}
 use Rattle.cf_journal.specs.Settled.{Ready}
 use Rattle.cf_journal.specs.Steps.{Records}
 use Rattle.cf_journal.specs.Halves.{area_stands, clusters_same, base_low}
@@ -16,7 +17,10 @@ pub record Fair (s : State) : Type 0 where
   pub reads_one : s.may_leave s.seen
   pub same_size : (c : List ℕ) → s.may_leave c → length c ≡ size_of s
 
-module _ (old mid new : State) (side : Side) (g e gate : ℕ) (x : Content) (p : List ℕ) (fair : Fair old) (ready : Ready old side g x) (ends : e ≡ size_of_records x.payloads) (fits : e + (6 + length p) ≤ 262144) (gate_is : gate ≡ base side + 1310720 + e) where
+module _ (old mid new : State) (side : Side) (g e gate : ℕ) (image : List ℕ) (qs : List (List ℕ)) (p : List ℕ) (fair : Fair old) (ready : Ready old side g (second image qs)) (ends : e ≡ size_of_records qs) (fits : e + (6 + length p) ≤ 262144) (gate_is : gate ≡ base side + 1310720 + e) where
+  abbrev x : Content
+  x = second image qs
+
   abbrev P : List ℕ → Type 0
   P = IsBeforeOrAfter old x (appended x p)
 
@@ -29,7 +33,7 @@ module _ (old mid new : State) (side : Side) (g e gate : ℕ) (x : Content) (p :
       let stands : StandsAt d side g x = area_stands side g x old.seen d (fair.same_size d near.1) (ready.durable d near.1) ready.stands in
       let big : 3145728 ≤ length d = omega (arith, fair.same_size d near.1, ready.size.0) in
       let same : SameBut (base side + 1310720 + e + 1) (5 + length p) d c = subst (λ (k : ℕ). SameBut (k + 1) (5 + length p) d c) gate_is near.2 in
-      inl ((side, g, record_torn side g e x p d stands ends big fits c same), (d, near.1, clusters_same (gate + 1) (5 + length p) d c near.2 (omega (arith, gate_is, base_low side))))
+      inl ((side, g, record_torn side g e image qs p d stands ends big fits c same), (d, near.1, clusters_same (gate + 1) (5 + length p) d c near.2 (omega (arith, gate_is, base_low side))))
 
   pub record_crash : Leaves old mid (Near old (gate + 1) (5 + length p)) → Leaves old mid P
   record_crash leaves = leaves_weaker old mid (Near old (gate + 1) (5 + length p)) P leaves torn
@@ -39,7 +43,7 @@ module _ (old mid new : State) (side : Side) (g e gate : ℕ) (x : Content) (p :
     records_at = subst (λ (k : ℕ). Records (k + 1) p old.seen mid.seen) gate_is records
 
     opens : (c : List ℕ) → SameBut gate 1 mid.seen c → ((get_or c (base side + 1310720 + e) 0 ≡ 0) × StandsAt c side g x) ⊎ ((get_or c (base side + 1310720 + e) 0 ≢ 0) × StandsAt c side g (appended x p))
-    opens c same = gate_torn side g e x p old.seen ready.stands ends ready.size.0 fits mid.seen c records_at (subst (λ (k : ℕ). SameBut k 1 mid.seen c) gate_is same)
+    opens c same = gate_torn side g e image qs p old.seen ready.stands ends ready.size.0 fits mid.seen c records_at (subst (λ (k : ℕ). SameBut k 1 mid.seen c) gate_is same)
 
     behind : (c : List ℕ) → SameBut gate 1 mid.seen c → clusters c ≡ clusters old.seen
     behind c same = clusters_same gate 1 mid.seen c same (omega (arith, gate_is, base_low side)) ∙ clusters_same (gate + 1) (5 + length p) old.seen mid.seen records.same (omega (arith, gate_is, base_low side))
@@ -78,3 +82,16 @@ pub append_rest : (side : Side) (e gate : ℕ) (p old mid new : List ℕ) → ga
 append_rest side e gate p old mid new gate_is fits size records holds =
     clusters_same gate 1 mid new (holds_same gate (1 ∷ []) mid new (omega (arith, gate_is, base_low side, size, records.same.size)) holds) (omega (arith, gate_is, base_low side))
     ∙ clusters_same (gate + 1) (5 + length p) old mid records.same (omega (arith, gate_is, base_low side))
+
+-- a content of format 2
+pub is_second : (x : Content) → x.format ≡ Second → second x.image x.payloads ≡ x
+is_second x e = (λ j. record { format = sym e j; image = x.image; payloads = x.payloads })
+
+pub ready_second : (s : State) (side : Side) (g : ℕ) (x : Content) → x.format ≡ Second → Ready s side g x → Ready s side g (second x.image x.payloads)
+ready_second s side g x e ready = subst (λ (y : Content). Ready s side g y) (sym (is_second x e)) ready
+
+pub appended_ready : (s : State) (side : Side) (g : ℕ) (x : Content) (p : List ℕ) → x.format ≡ Second → Ready s side g (appended (second x.image x.payloads) p) → Ready s side g (appended x p)
+appended_ready s side g x p e ready = subst (λ (y : Content). Ready s side g (appended y p)) (is_second x e) ready
+
+pub leaves_second : (old new : State) (x : Content) (p : List ℕ) → x.format ≡ Second → Leaves old new (IsBeforeOrAfter old (second x.image x.payloads) (appended (second x.image x.payloads) p)) → Leaves old new (IsBeforeOrAfter old x (appended x p))
+leaves_second old new x p e leaves = subst (λ (y : Content). Leaves old new (IsBeforeOrAfter old y (appended y p))) (is_second x e) leaves

@@ -1,5 +1,6 @@
 -- The steps of a first image, as the code names its places.
 use Rattle.std.proofs.Common.{◌≡◌, ℕ, ◌+◌, ◌<◌, ◌≤◌, ◌^◌, List, length, get_or, refl, subst}
+use Rattle.cf_codec.specs.declared.formats.Format.TheVariants.{Second}
 use Rattle.cf_disk.specs.Disk.{State, Near, Only, Leaves, size_of}
 use Rattle.cf_journal.specs.declared.sides.Side.{Side}
 use Rattle.cf_journal.specs.Format.{base, other, header}
@@ -26,7 +27,7 @@ module _ (old closed staged new : State) (side : Side) (at generation : ℕ) (im
     pub stage_fresh_at : Leaves old staged (IsFresh old (rewritten image))
     stage_fresh_at = stage_fresh old closed staged new side generation image near_shut far_shut only_old closes_at only first_at second_at
 
-    pub open_fresh_at : (h : List ℕ) (size : ℕ) → h ≡ header generation (length image) size → size ≡ size_of old → 0 < generation → generation < 2 ^ 64 → length image ≤ 1306624 → 3145728 ≤ length old.seen
+    pub open_fresh_at : (h : List ℕ) (size : ℕ) → h ≡ header Second generation (length image) size → size ≡ size_of old → 0 < generation → generation < 2 ^ 64 → length image ≤ 1306624 → 3145728 ≤ length old.seen
         → Stages at h image closed.seen staged.seen → Only staged.seen staged → Leaves staged new (Near staged at 1) → Leaves old new (IsFresh old (rewritten image))
     open_fresh_at h size h_is size_is positive fits short big stages only_staged third =
         open_fresh old closed staged new side generation image near_shut far_shut only_old closes_at only positive fits short big

@@ -1,6 +1,7 @@
 -- What a crash leaves of a disk that is being formatted.
 use Rattle.std.proofs.Common.{◌≡◌, ◌≢◌, ◌⊎◌, inl, inr, ⊎_elim, ℕ, ◌+◌, ◌<◌, ◌≤◌, ◌^◌, List, [], ◌∷◌, length, get_or, refl, sym, ◌∙◌, ap, subst, arith}
 use Rattle.std.proofs.lemmas.Bool.{cases_eq, cases_lt}
+use Rattle.cf_codec.specs.declared.formats.Format.TheVariants.{Second}
 use Rattle.cf_disk.specs.Disk.{State, SameBut, Holds, Near, Follows, Goes, Only, Leaves, size_of}
 use Rattle.cf_disk.specs.Leaving.{leaves_weaker, leaves_then, leaves_write}
 use Rattle.cf_disk.specs.Parts.{part_same, holds_same, holds_part, same_wider, same_then, get_or-first}
@@ -67,7 +68,7 @@ module _ (old closed staged new : State) (side : Side) (generation : ℕ) (image
     pub stage_fresh : Leaves old closed (IsClosing old far) → Leaves closed staged (Near closed (far + 1) 1572863) → Leaves old staged P
     stage_fresh first second = leaves_then old closed staged P (Near closed (far + 1) 1572863) (close_fresh first) second staging
 
-    module _ (positive : 0 < generation) (fits : generation < 2 ^ 64) (short : length image ≤ 1306624) (size : 3145728 ≤ length old.seen) (stages : Stages far (header generation (length image) (size_of old)) image closed.seen staged.seen) (only_staged : Only staged.seen staged) where
+    module _ (positive : 0 < generation) (fits : generation < 2 ^ 64) (short : length image ≤ 1306624) (size : 3145728 ≤ length old.seen) (stages : Stages far (header Second generation (length image) (size_of old)) image closed.seen staged.seen) (only_staged : Only staged.seen staged) where
       open_stands : (c : List ℕ) → SameBut far 1 staged.seen c → SameBut far 1572864 old.seen c → get_or c far 0 ≢ 0 → StandsAt c (other side) generation (rewritten image)
       open_stands c same all is_open =
           let none : far + 1310720 + 0 ≡ far + 1310720 = omega arith in
@@ -77,13 +78,13 @@ module _ (old closed staged new : State) (side : Side) (generation : ℕ) (image
             chosen = record {
               slot = record {
                 gate = is_open;
-                header_is = part_same far 1 staged.seen c same (far + 1) 27 (inr (omega arith)) ∙ stages.header_is ∙ ap (λ (n : ℕ). header generation (length image) n) (sym all.size);
+                header_is = part_same far 1 staged.seen c same (far + 1) 27 (inr (omega arith)) ∙ stages.header_is ∙ ap (λ (n : ℕ). header Second generation (length image) n) (sym all.size);
                 positive = positive;
                 fits = fits;
                 short = short;
               };
-              newest = λ h l slot.
-                  let theirs : HasSlot c (base side) h l = subst (λ (s : Side). HasSlot c (base s) h l) (other-other side) slot in
+              newest = λ f h l slot.
+                  let theirs : HasSlot f c (base side) h l = subst (λ (s : Side). HasSlot f c (base s) h l) (other-other side) slot in
                   absurd (theirs.gate (near_gate side far 1572864 old.seen c all (omega arith) (omega arith) ∙ near_shut));
             };
             image = sym (part_same far 1 staged.seen c same (far + 4096) (length image) (inr (omega arith)) ∙ stages.image_is);

@@ -8,7 +8,7 @@ use Rattle.cf_journal.specs.Settled.{Ready, Installs, IsFitSize}
 pub formatted : (closed new : State) (image : List ℕ) → get_or closed.seen 1572864 0 ≡ 0 → IsFitSize (size_of closed) → Installs A 1 image closed.seen new.seen → Only new.seen new → Ready new A 1 (rewritten image)
 formatted closed new image gate size installs only = record {
   stands = record {
-    chosen = record { slot = installs.slot; newest = λ h l slot. absurd (slot.gate (installs.same.after 1572864 (omega arith) ∙ gate)) };
+    chosen = record { slot = installs.slot; newest = λ f h l slot. absurd (slot.gate (installs.same.after 1572864 (omega arith) ∙ gate)) };
     image = sym installs.image_is;
     payloads = installs.payloads;
   };

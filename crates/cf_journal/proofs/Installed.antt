@@ -1,5 +1,6 @@
 -- What stands in a slot after its gate was opened.
 use Rattle.std.proofs.Common.{◌≡◌, inr, ℕ, ◌+◌, ◌<◌, ◌≤◌, ◌^◌, List, [], ◌∷◌, length, get_or, refl, sym, ◌∙◌, ap, arith}
+use Rattle.cf_codec.specs.declared.formats.Format.TheVariants.{Second}
 use Rattle.cf_disk.specs.Disk.{SameBut, Holds}
 use Rattle.cf_disk.specs.Parts.{part_same, holds_same, holds_part, same_wider, same_then, get_or-first}
 use Rattle.cf_journal.specs.declared.sides.Side.{Side}
@@ -9,7 +10,7 @@ use Rattle.cf_journal.specs.Steps.{Closes, Stages}
 use Rattle.cf_journal.specs.Halves.{base_low}
 use Rattle.cf_journal.proofs.Records.{spells_shut}
 
-pub installed : (side : Side) (g : ℕ) (image old closed staged new : List ℕ) → 0 < g → g < 2 ^ 64 → length image ≤ 1306624 → 3145728 ≤ length old → Closes (base side) old closed → Stages (base side) (header g (length image) (length old)) image closed staged
+pub installed : (side : Side) (g : ℕ) (image old closed staged new : List ℕ) → 0 < g → g < 2 ^ 64 → length image ≤ 1306624 → 3145728 ≤ length old → Closes (base side) old closed → Stages (base side) (header Second g (length image) (length old)) image closed staged
     → Holds (base side) (1 ∷ []) staged new → Installs side g image old new
 installed side g image old closed staged new pos fits short size closes stages holds =
     let far = base side in
@@ -25,7 +26,7 @@ installed side g image old closed staged new pos fits short size closes stages h
     record {
       slot = record {
         gate = λ zero_gate. absurd (clash one zero_gate);
-        header_is = part_same far 1 staged new same (far + 1) 27 (inr (omega arith)) ∙ stages.header_is ∙ ap (λ (n : ℕ). header g (length image) n) (sym all.size);
+        header_is = part_same far 1 staged new same (far + 1) 27 (inr (omega arith)) ∙ stages.header_is ∙ ap (λ (n : ℕ). header Second g (length image) n) (sym all.size);
         positive = pos;
         fits = fits;
         short = short;

@@ -12,10 +12,10 @@ pub installed_stands : (side : Side) (g generation : ℕ) (x : Content) (image o
 installed_stands side g generation x image old new stands is installs = record {
   chosen = record {
     slot = installs.slot;
-    newest = λ h l slot.
-        let theirs : HasSlot new (base side) h l = subst (λ (s : Side). HasSlot new (base s) h l) (other-other side) slot in
-        let mine : HasSlot new (base side) g (length x.image) = half_slot (base side) old new g (length x.image) (half_apart side (base (other side)) 1572864 old new installs.same (omega arith) (omega arith)) stands.chosen.slot in
-        let same_g : g ≡ h = header_generation g (length x.image) (length new) (length new) h l mine.fits theirs.fits (sym mine.header_is ∙ theirs.header_is) in
+    newest = λ f h l slot.
+        let theirs : HasSlot f new (base side) h l = subst (λ (s : Side). HasSlot f new (base s) h l) (other-other side) slot in
+        let mine : HasSlot x.format new (base side) g (length x.image) = half_slot x.format (base side) old new g (length x.image) (half_apart side (base (other side)) 1572864 old new installs.same (omega arith) (omega arith)) stands.chosen.slot in
+        let same_g : g ≡ h = header_generation x.format f g (length x.image) (length new) (length new) h l mine.fits theirs.fits (sym mine.header_is ∙ theirs.header_is) in
         let beats : Beats (other side) (next_of g) h = subst (λ (k : ℕ). Beats (other side) (next_of g) k) same_g (next_beats side g stands.chosen.slot.positive stands.chosen.slot.fits) in
         subst (λ (k : ℕ). Beats (other side) k h) (sym is) beats;
   };

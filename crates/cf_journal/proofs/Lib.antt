@@ -12,7 +12,7 @@ mod Reading
 mod SlotText
 mod Opening
 mod Choosing
-mod WhatWasRead
+pub mod WhatWasRead
 mod Formatted
 mod Unique
 mod FormatCrash

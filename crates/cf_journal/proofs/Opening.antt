@@ -1,6 +1,7 @@
 -- Calls that only read, one after another.
 use Rattle.std.proofs.Common.{◌≡◌, ℕ, ◌+◌, List, length, get_or, take, drop, sym, ◌∙◌, ap, arith, Result}
 use Rattle.std.proofs.lemmas.List.{drop-drop, drop-take}
+use Rattle.cf_codec.specs.declared.formats.Format.{Format}
 use Rattle.cf_disk.specs.Disk.{State, part, Keeps, Goes, Counts, Rises}
 use Rattle.cf_disk.specs.Leaving.{leaves_keep, leaves_then}
 use Rattle.cf_disk.specs.Parts.{get_or-first}
@@ -23,8 +24,8 @@ reads_then a b c p q = record {
 tail_is : (at : ℕ) (xs : List ℕ) → drop 1 (part at 28 xs) ≡ part (at + 1) 27 xs
 tail_is at xs = drop-take 1 27 (drop at xs) ∙ ap (λ (l : List ℕ). take 27 l) (drop-drop 1 at xs)
 
-pub slot_found : (at g l : ℕ) (xs text : List ℕ) → text ≡ part at 28 xs → IsSlotText text g l (length xs) → HasSlot xs at g l
-slot_found at g l xs text is slot = record {
+pub slot_found : (f : Format) (at g l : ℕ) (xs text : List ℕ) → text ≡ part at 28 xs → IsSlotText f text g l (length xs) → HasSlot f xs at g l
+slot_found f at g l xs text is slot = record {
   gate = λ shut. slot.gate (ap (λ (t : List ℕ). get_or t 0 0) is ∙ get_or-first at 28 xs (omega arith) ∙ shut);
   header_is = sym (tail_is at xs) ∙ ap (λ (t : List ℕ). drop 1 t) (sym is) ∙ slot.header_is;
   positive = slot.positive;
@@ -32,8 +33,8 @@ slot_found at g l xs text is slot = record {
   short = slot.short;
 }
 
-pub slot_text : (at g l : ℕ) (xs text : List ℕ) → text ≡ part at 28 xs → HasSlot xs at g l → IsSlotText text g l (length xs)
-slot_text at g l xs text is slot = record {
+pub slot_text : (f : Format) (at g l : ℕ) (xs text : List ℕ) → text ≡ part at 28 xs → HasSlot f xs at g l → IsSlotText f text g l (length xs)
+slot_text f at g l xs text is slot = record {
   gate = λ shut. slot.gate (sym (get_or-first at 28 xs (omega arith)) ∙ ap (λ (t : List ℕ). get_or t 0 0) (sym is) ∙ shut);
   header_is = ap (λ (t : List ℕ). drop 1 t) is ∙ tail_is at xs ∙ slot.header_is;
   positive = slot.positive;

@@ -3,15 +3,11 @@ use Rattle.std.proofs.Common.{◌≡◌, ◌≢◌, ℕ, ◌+◌, ◌^◌, ◌<�
 use Rattle.std.specs.Int.{w32, to_be_bytes, from_be_bytes}
 use Rattle.std.proofs.lemmas.List.{length-append, append-nil, drop_at}
 use Rattle.std.proofs.lemmas.Nat.{from_be_bytes-to_be_bytes_4}
-use Rattle.cf_journal.specs.Format.{IsFront, Spells, size_of_records}
+use Rattle.cf_journal.specs.Format.{IsFront, IsOverrun, Overruns, Spells, size_of_records}
 use Rattle.cf_journal.proofs.Records.{one_record, front_push, length-front, size-push}
 
 pub head_is : (a b : ℕ) (x y : List ℕ) → a ∷ x ≡ b ∷ y → (a ≡ b) × (x ≡ y)
 head_is a b x y e = (cc, cc)
-
--- nothing is no journal
-pub spells_nothing : (ps : List (List ℕ)) (bytes : List ℕ) → length bytes < 1 → Spells ps bytes → ⊥
-spells_nothing ps bytes none s = omega (arith, none, ap length s.3, length-append s.0 (0 ∷ s.1))
 
 -- the record behind an open gate
 pub record Opens (more : List ℕ) (ps : List (List ℕ)) : Type 0 where
@@ -47,16 +43,57 @@ one_length m n x y fm fn e = (
   ap (λ (l : List ℕ). drop 4 l) e,
 )
 
-pub lacks_length : (ps : List (List ℕ)) (gate : ℕ) (bytes more : List ℕ) → bytes ≡ gate ∷ more → gate ≢ 0 → length more < 4 → Spells ps bytes → ⊥
-lacks_length ps gate bytes more is is_open short s =
-    let o = opens ps gate more is_open (subst (Spells ps) is s) in
-    omega (arith, short, ap length o.split)
+-- what is left behind an open gate is no record that fits
 
-pub lacks_bytes : (ps : List (List ℕ)) (gate n : ℕ) (bytes more rest : List ℕ) → bytes ≡ gate ∷ more → gate ≢ 0 → n < 2 ^ 32 → more ≡ to_be_bytes w32 n ++ rest → length rest < n → Spells ps bytes → ⊥
-lacks_bytes ps gate n bytes more rest is is_open fits field short s =
-    let o = opens ps gate more is_open (subst (Spells ps) is s) in
-    let same = one_length n (length o.payload) rest (o.payload ++ o.rest) fits o.short (sym field ∙ o.split) in
-    omega (arith, short, same.0, ap length same.1, length-append o.payload o.rest)
+pub lacks_gate : (rest : List ℕ) → 0 < length rest → length rest < 1 → IsOverrun rest
+lacks_gate rest some none = absurd (omega (arith, some, none))
+
+pub lacks_length : (gate : ℕ) (rest more : List ℕ) → rest ≡ gate ∷ more → gate ≢ 0 → length more < 4 → IsOverrun rest
+lacks_length gate rest more is is_open short = (gate, more, is_open, is, λ p next tail fits e. omega (arith, short, ap length e))
+
+pub lacks_bytes : (gate n : ℕ) (rest more bytes : List ℕ) → rest ≡ gate ∷ more → gate ≢ 0 → n < 2 ^ 32 → more ≡ to_be_bytes w32 n ++ bytes → length bytes ≤ n → IsOverrun rest
+lacks_bytes gate n rest more bytes is is_open field parts short = (
+  gate,
+  more,
+  is_open,
+  is,
+  λ p next tail fits e.
+      let same = one_length n (length p) bytes (p ++ next ∷ tail) field fits (sym parts ∙ e) in
+      omega (arith, short, same.0, ap length same.1, length-append p (next ∷ tail)),
+)
+
+-- a journal has a byte
+first_byte : (ps : List (List ℕ)) (bytes : List ℕ) → Spells ps bytes → (x : ℕ) × (xs : List ℕ) × (bytes ≡ x ∷ xs)
+first_byte ps bytes s = by s.0 s.3
+  where
+    by : (front : List ℕ) → bytes ≡ front ++ 0 ∷ s.1 → (x : ℕ) × (xs : List ℕ) × (bytes ≡ x ∷ xs)
+    by [] e = (0, s.1, e)
+    by (x ∷ xs) e = (x, xs ++ 0 ∷ s.1, e)
+
+overrun_none : (rest : List ℕ) → IsOverrun rest → (qs : List (List ℕ)) → Spells qs rest → ⊥
+overrun_none rest over qs s =
+    let o = opens qs over.0 over.1 over.2 (subst (Spells qs) over.3 s) in
+    let next = first_byte o.others o.rest o.behind in
+    over.4 o.payload next.0 next.1 o.short (o.split ∙ ap (λ (l : List ℕ). to_be_bytes w32 (length o.payload) ++ (o.payload ++ l)) next.2)
+
+append_same : (a b x y : List ℕ) → length a ≡ length b → a ++ x ≡ b ++ y → x ≡ y
+append_same a b x y len e = sym (drop_at a x (length a) refl) ∙ ap (λ (l : List ℕ). drop (length a) l) e ∙ drop_at b y (length a) (sym len)
+
+-- what stands behind open records is a journal where all is
+behind_front : (ps : List (List ℕ)) (front tail : List ℕ) → IsFront ps front → (qs : List (List ℕ)) → Spells qs (front ++ tail) → (rs : List (List ℕ)) × Spells rs tail
+behind_front [] front tail f qs s = (qs, subst (λ (l : List ℕ). Spells qs (l ++ tail)) f s)
+behind_front (p ∷ ps) front tail f qs s =
+    let all : front ++ tail ≡ f.0 ∷ (to_be_bytes w32 (length p) ++ (p ++ (f.1 ++ tail))) =
+    ap (λ (l : List ℕ). l ++ tail) f.4 ∙ ap (λ (l : List ℕ). f.0 ∷ l) (append_assoc (to_be_bytes w32 (length p)) (p ++ f.1) tail ∙ ap (λ (l : List ℕ). to_be_bytes w32 (length p) ++ l) (append_assoc p f.1 tail)) in
+    let o = opens qs f.0 (to_be_bytes w32 (length p) ++ (p ++ (f.1 ++ tail))) f.2 (subst (Spells qs) all s) in
+    let same = one_length (length p) (length o.payload) (p ++ (f.1 ++ tail)) (o.payload ++ o.rest) f.3 o.short o.split in
+    behind_front ps f.1 tail f.5 o.others (subst (Spells o.others) (sym (append_same p o.payload (f.1 ++ tail) o.rest same.0 same.1)) o.behind)
+
+-- a journal that a record does not fit is none
+pub overruns_none : (ps : List (List ℕ)) (bytes : List ℕ) → Overruns ps bytes → (qs : List (List ℕ)) → Spells qs bytes → ⊥
+overruns_none ps bytes over qs s =
+    let left = behind_front ps over.0 over.1 over.2 qs (subst (Spells qs) over.3 s) in
+    overrun_none over.1 over.4 left.0 left.1
 
 -- the records so far, and what is left
 pub record Walked (bytes : List ℕ) (payloads : List (List ℕ)) (end : ℕ) (rest : List ℕ) : Type 0 where
@@ -64,32 +101,28 @@ pub record Walked (bytes : List ℕ) (payloads : List (List ℕ)) (end : ℕ) (r
   pub is_front : IsFront payloads front
   pub split : bytes ≡ front ++ rest
   pub size : end ≡ size_of_records payloads
-  pub only : (ps : List (List ℕ)) → Spells ps bytes → (qs : List (List ℕ)) × Spells qs rest
+  pub some : 0 < length rest
 
-pub walked_none : (bytes : List ℕ) → Walked bytes [] 0 bytes
-walked_none bytes = record { front = []; is_front = refl; split = refl; size = refl; only = λ ps s. (ps, s) }
+pub walked_none : (bytes : List ℕ) → 0 < length bytes → Walked bytes [] 0 bytes
+walked_none bytes some = record { front = []; is_front = refl; split = refl; size = refl; some = some }
 
-pub walked_more : (bytes : List ℕ) (payloads : List (List ℕ)) (end : ℕ) (old : List ℕ) (gate : ℕ) (p new : List ℕ) → Walked bytes payloads end old → gate ≢ 0 → length p < 2 ^ 32 → old ≡ gate ∷ (to_be_bytes w32 (length p) ++ (p ++ new)) → Walked bytes (payloads ++ p ∷ []) (end + (5 + length p)) new
-walked_more bytes payloads end old gate p new w is_open short is = record {
+pub walked_more : (bytes : List ℕ) (payloads : List (List ℕ)) (end : ℕ) (old : List ℕ) (gate : ℕ) (p new : List ℕ) → Walked bytes payloads end old → gate ≢ 0 → length p < 2 ^ 32 → old ≡ gate ∷ (to_be_bytes w32 (length p) ++ (p ++ new)) → 0 < length new → Walked bytes (payloads ++ p ∷ []) (end + (5 + length p)) new
+walked_more bytes payloads end old gate p new w is_open short is some = record {
   front = w.front ++ one_record gate p;
   is_front = front_push payloads p w.front gate is_open short w.is_front;
   split = w.split ∙ ap (λ (l : List ℕ). w.front ++ l) (is ∙ ap (λ (l : List ℕ). gate ∷ l) (regroup (to_be_bytes w32 (length p)) p new)) ∙ sym (append_assoc w.front (one_record gate p) new);
   size = omega (arith, w.size, size-push payloads p);
-  only = λ ps s.
-      let left = w.only ps s in
-      let o = opens left.0 gate (to_be_bytes w32 (length p) ++ (p ++ new)) is_open (subst (Spells left.0) is left.1) in
-      let same = one_length (length p) (length o.payload) (p ++ new) (o.payload ++ o.rest) short o.short o.split in
-      (o.others, subst (Spells o.others) (sym (append_same p o.payload new o.rest same.0 same.1)) o.behind);
+  some = some;
 }
   where
     regroup : (b q t : List ℕ) → b ++ (q ++ t) ≡ (b ++ (q ++ [])) ++ t
     regroup b q t = simp (append_assoc, append-nil) refl
 
-    append_same : (a b x y : List ℕ) → length a ≡ length b → a ++ x ≡ b ++ y → x ≡ y
-    append_same a b x y len e = sym (drop_at a x (length a) refl) ∙ ap (λ (l : List ℕ). drop (length a) l) e ∙ drop_at b y (length a) (sym len)
-
 pub walked_end : (bytes : List ℕ) (payloads : List (List ℕ)) (end : ℕ) (old tail : List ℕ) → Walked bytes payloads end old → old ≡ 0 ∷ tail → Spells payloads bytes
 walked_end bytes payloads end old tail w is = (w.front, tail, w.is_front, w.split ∙ ap (λ (l : List ℕ). w.front ++ l) is)
+
+pub walked_over : (bytes : List ℕ) (payloads : List (List ℕ)) (end : ℕ) (old : List ℕ) → Walked bytes payloads end old → IsOverrun old → Overruns payloads bytes
+walked_over bytes payloads end old w over = (w.front, old, w.is_front, w.split, over)
 
 pub walked_fits : (bytes : List ℕ) (payloads : List (List ℕ)) (end : ℕ) (old : List ℕ) (gate : ℕ) (p new : List ℕ) → Walked bytes payloads end old → old ≡ gate ∷ (to_be_bytes w32 (length p) ++ (p ++ new)) → end + (5 + length p) ≤ length bytes
 walked_fits bytes payloads end old gate p new w is = omega (arith, w.size, length-front payloads w.front w.is_front, ap length w.split, length-append w.front old, ap length is, length-append p new)

@@ -1,5 +1,6 @@
 -- The three steps of a rewrite as calls of a disk.
 use Rattle.std.proofs.Common.{◌≡◌, inl, inr, ⊎_elim, ℕ, ◌+◌, ◌≤◌, List, [], ◌∷◌, length, get_or, sym, ◌∙◌, subst, arith}
+use Rattle.cf_codec.specs.declared.formats.Format.TheVariants.{Second}
 use Rattle.cf_disk.specs.Disk.{State, SameBut, Holds, Near, Only, Leaves, size_of}
 use Rattle.cf_disk.specs.Leaving.{leaves_weaker, leaves_then}
 use Rattle.cf_disk.specs.Parts.{holds_same, same_wider, same_then}
@@ -54,7 +55,7 @@ module _ (old closed staged new : State) (side : Side) (g : ℕ) (x : Content) (
     pub stage_crash : Leaves old closed (IsClosing old far) → Leaves closed staged (Near closed (far + 1) 1572863) → Leaves old staged P
     stage_crash first second = leaves_then old closed staged P (Near closed (far + 1) 1572863) (close_crash first) second staging
 
-    module _ (short : length image ≤ 1306624) (stages : Stages far (header (next_of g) (length image) (size_of old)) image closed.seen staged.seen) (only_staged : Only staged.seen staged) where
+    module _ (short : length image ≤ 1306624) (stages : Stages far (header Second (next_of g) (length image) (size_of old)) image closed.seen staged.seen) (only_staged : Only staged.seen staged) where
       opening : (c : List ℕ) → Near staged far 1 c → P c
       opening c near =
           let same : SameBut far 1 staged.seen c = subst (λ (d : List ℕ). SameBut far 1 d c) (only_staged near.0 near.1) near.2 in

@@ -2,9 +2,10 @@
 use Rattle.std.proofs.Common.{◌≡◌, ◌≢◌, ℕ, ◌+◌, ◌^◌, ◌<◌, List, [], ◌∷◌, ◌++◌, length, take, drop, refl, sym, ◌∙◌, ap, subst, append_assoc}
 use Rattle.std.specs.Int.{w32, to_be_bytes}
 use Rattle.std.proofs.lemmas.List.{take_at, drop_at}
+use Rattle.cf_codec.specs.declared.formats.Format.{Format}
 use Rattle.cf_disk.specs.Disk.{part}
 use Rattle.cf_journal.specs.declared.sides.Side.{Side}
-use Rattle.cf_journal.specs.Format.{base, Spells}
+use Rattle.cf_journal.specs.Format.{base, journal_at, journal_len, Spells}
 use Rattle.cf_journal.specs.Content.{Content, Stands}
 use Rattle.cf_journal.proofs.Reading.{one_length, head_is}
 use Rattle.cf_journal.proofs.Choosing.{one_chosen}
@@ -52,7 +53,9 @@ spells_once (p ∷ ps) (q ∷ qs) bytes s t =
 
 pub one_content : (disk : List ℕ) (x y : Content) → Stands disk x → Stands disk y → x ≡ y
 one_content disk x y s t =
-    let same = one_chosen disk s.0 t.0 s.1 (length x.image) t.1 (length y.image) s.2.chosen t.2.chosen in
-    let images : x.image ≡ y.image = s.2.image ∙ (λ i. part (base (same.0 i) + 4096) (same.2 i) disk) ∙ sym t.2.image in
-    let payloads : x.payloads ≡ y.payloads = spells_once x.payloads y.payloads (part (base t.0 + 1310720) 262144 disk) (subst (λ (u : Side). Spells x.payloads (part (base u + 1310720) 262144 disk)) same.0 s.2.payloads) t.2.payloads in
-    (λ i. record { image = images i; payloads = payloads i })
+    let same = one_chosen disk s.0 t.0 x.format y.format s.1 (length x.image) t.1 (length y.image) s.2.chosen t.2.chosen in
+    let images : x.image ≡ y.image = s.2.image ∙ (λ i. part (base (same.0 i) + 4096) (same.3 i) disk) ∙ sym t.2.image in
+    let there : Spells x.payloads (part (base t.0 + journal_at y.format) (journal_len y.format) disk) =
+    subst (λ (u : Side). Spells x.payloads (part (base u + journal_at y.format) (journal_len y.format) disk)) same.0 (subst (λ (e : Format). Spells x.payloads (part (base s.0 + journal_at e) (journal_len e) disk)) same.1 s.2.payloads) in
+    let payloads : x.payloads ≡ y.payloads = spells_once x.payloads y.payloads (part (base t.0 + journal_at y.format) (journal_len y.format) disk) there t.2.payloads in
+    (λ i. record { format = same.1 i; image = images i; payloads = payloads i })

@@ -1,15 +1,21 @@
 -- What was read is what the disk stands for.
-use Rattle.std.proofs.Common.{◌≡◌, ℕ, ◌+◌, ◌<◌, ◌≤◌, List, ◌∷◌, length, take, drop, sym, ◌∙◌, ap, subst, arith, Option, Some, None}
+use Rattle.std.proofs.Common.{◌≡◌, ℕ, zero, suc, ◌+◌, ◌<◌, ◌≤◌, Bool, true, false, List, [], ◌∷◌, length, take, drop, refl, sym, ◌∙◌, ap, subst, arith, Option, Some, None}
 use Rattle.std.specs.Prelude.{IfSome, IfNone}
 use Rattle.std.proofs.lemmas.List.{length-append, length-take}
+use Rattle.cf_codec.specs.declared.formats.Format.{Format}
+use Rattle.cf_codec.specs.declared.formats.Format.TheVariants.{First, Second}
 use Rattle.cf_disk.specs.Disk.{State, part, Only, size_of}
 use Rattle.cf_disk.specs.Parts.{length-part}
 use Rattle.cf_journal.specs.declared.sides.Side.{Side}
-use Rattle.cf_journal.specs.Format.{base, Chosen, Spells, size_of_records}
+use Rattle.cf_journal.specs.Format.{base, journal_at, journal_len, Chosen, Overruns, Spells, size_of_records}
 use Rattle.cf_journal.specs.Content.{Content, StandsAt, Stands}
-use Rattle.cf_journal.specs.Settled.{Ready, IsFitSize}
+use Rattle.cf_journal.specs.Settled.{Ready, Settled, IsFitSize}
 use Rattle.cf_journal.proofs.Choosing.{one_chosen}
-use Rattle.cf_journal.specs.Halves.{base_low}
+use Rattle.cf_journal.specs.Halves.{base_low, image_room, journal_ends}
+use Rattle.cf_journal.specs.Places.{IsFound, IsOpened, journal_of}
+use Rattle.cf_journal.specs.declared.found.Found.{Found}
+use Rattle.cf_journal.specs.declared.journals.Opened.{Opened}
+use Rattle.cf_journal.proofs.Reading.{overruns_none}
 use Rattle.cf_journal.proofs.Records.{length-front}
 
 pub at_some : {X : Type 0} (o : Option X) (x : X) (P : X → Type 0) → o ≡ Some x → IfSome o P → P x
@@ -19,25 +25,57 @@ pub at_none : {X : Type 0} (o : Option X) (P : Type 0) → o ≡ None → IfNone
 at_none o P is h = subst (λ u. IfNone u P) is h
 
 -- where the records end
-pub end_low : (payloads : List (List ℕ)) (bytes : List ℕ) (end : ℕ) → length bytes ≤ 262144 → Spells payloads bytes → end ≡ size_of_records payloads → end < 262144
-end_low payloads bytes end short s is = omega (arith, short, is, length-front payloads s.0 s.2, ap length s.3, length-append s.0 (0 ∷ s.1))
+pub end_low : (n : ℕ) (payloads : List (List ℕ)) (bytes : List ℕ) (end : ℕ) → length bytes ≤ n → Spells payloads bytes → end ≡ size_of_records payloads → end < n
+end_low n payloads bytes end short s is = omega (arith, short, is, length-front payloads s.0 s.2, ap length s.3, length-append s.0 (0 ∷ s.1))
 
-module _ (xs : List ℕ) (side : Side) (g len b : ℕ) (chosen : Chosen xs side g len) (b_is : b ≡ base side) (size : 3145728 ≤ length xs) where
-  pub read_stands : (image : List ℕ) (payloads : List (List ℕ)) (bytes : List ℕ) → image ≡ part (b + 4096) len xs → bytes ≡ part (b + 1310720) 262144 xs → Spells payloads bytes → StandsAt xs side g (record { image = image; payloads = payloads })
-  read_stands image payloads bytes image_is bytes_is spells =
-      let at : image ≡ part (base side + 4096) len xs = image_is ∙ ap (λ (k : ℕ). part (k + 4096) len xs) b_is in
-      let same : len ≡ length image = sym (ap length at ∙ length-part (base side + 4096) len xs (omega (arith, chosen.slot.short, base_low side))) in
-      record {
-        chosen = subst (λ (n : ℕ). Chosen xs side g n) same chosen;
-        image = at ∙ ap (λ (n : ℕ). part (base side + 4096) n xs) same;
-        payloads = subst (Spells payloads) (bytes_is ∙ ap (λ (k : ℕ). part (k + 1310720) 262144 xs) b_is) spells;
-      }
+pub read_short : (at n : ℕ) (xs bytes : List ℕ) → bytes ≡ part at n xs → length bytes ≤ n
+read_short at n xs bytes is = omega (arith, ap length is, length-take n (drop at xs))
 
-  pub read_none : (bytes : List ℕ) → bytes ≡ part (b + 1310720) 262144 xs → ((ps : List (List ℕ)) → Spells ps bytes → ⊥) → (x : Content) → Stands xs x → ⊥
-  read_none bytes bytes_is none x stands =
-      let same = one_chosen xs stands.0 side stands.1 (length x.image) g len stands.2.chosen chosen in
-      let here : Spells x.payloads (part (base side + 1310720) 262144 xs) = subst (λ (s : Side). Spells x.payloads (part (base s + 1310720) 262144 xs)) same.0 stands.2.payloads in
-      none x.payloads (subst (Spells x.payloads) (sym (bytes_is ∙ ap (λ (k : ℕ). part (k + 1310720) 262144 xs) b_is)) here)
+module _ (xs : List ℕ) (side : Side) (f : Format) (g len b : ℕ) (chosen : Chosen f xs side g len) (b_is : b ≡ base side) (size : 3145728 ≤ length xs) (image : List ℕ) (image_is : image ≡ part (b + 4096) len xs) where
+  at_base : image ≡ part (base side + 4096) len xs
+  at_base = image_is ∙ ap (λ (k : ℕ). part (k + 4096) len xs) b_is
+
+  same_length : len ≡ length image
+  same_length = sym (ap length at_base ∙ length-part (base side + 4096) len xs (omega (arith, image_room f len chosen.slot.short, base_low side)))
+
+  pub image_chosen : Chosen f xs side g (length image)
+  image_chosen = subst (λ (n : ℕ). Chosen f xs side g n) same_length chosen
+
+  pub image_read : image ≡ part (base side + 4096) (length image) xs
+  image_read = at_base ∙ ap (λ (n : ℕ). part (base side + 4096) n xs) same_length
+
+pub journal_read : (xs : List ℕ) (side : Side) (f : Format) (b at n : ℕ) (bytes : List ℕ) → bytes ≡ part (b + at) n xs → b ≡ base side → at ≡ journal_at f → n ≡ journal_len f → bytes ≡ part (base side + journal_at f) (journal_len f) xs
+journal_read xs side f b at n bytes is b_is at_is n_is = is ∙ (λ i. part (b_is i + at_is i) (n_is i) xs)
+
+pub found_is : (f : Found) (xs : List ℕ) → Chosen f.format xs f.side f.generation (length f.image) → f.image ≡ part (base f.side + 4096) (length f.image) xs → (bytes : List ℕ) → bytes ≡ journal_of f xs → (ps : List (List ℕ)) → f.payloads ≡ ps
+    → (f.overruns ≡ false → Spells ps bytes) → (f.overruns ≡ true → Overruns ps bytes) → f.end ≡ size_of_records ps → f.end < journal_len f.format → IsFound f xs
+found_is f xs chosen image bytes is ps same whole torn end short = record {
+  chosen = chosen;
+  image = image;
+  whole = λ w. subst (λ (l : List ℕ). Spells f.payloads l) is (subst (λ (qs : List (List ℕ)). Spells qs bytes) (sym same) (whole w));
+  torn = λ w. subst (λ (l : List ℕ). Overruns f.payloads l) is (subst (λ (qs : List (List ℕ)). Overruns qs bytes) (sym same) (torn w));
+  end = end ∙ ap size_of_records (sym same);
+  short = let e = ap size_of_records same in omega (arith, end, short, e);
+}
+
+-- what was found is the content, where each record fits
+
+pub found_stands : (f : Found) (xs : List ℕ) → IsFound f xs → f.overruns ≡ false → StandsAt xs f.side f.generation (record { format = f.format; image = f.image; payloads = f.payloads })
+found_stands f xs is whole = record { chosen = is.chosen; image = is.image; payloads = is.whole whole }
+
+pub found_none : (f : Found) (xs : List ℕ) → IsFound f xs → f.overruns ≡ true → (x : Content) → Stands xs x → ⊥
+found_none f xs is torn x stands =
+    let same = one_chosen xs stands.0 f.side x.format f.format stands.1 (length x.image) f.generation (length f.image) stands.2.chosen is.chosen in
+    let here : Spells x.payloads (journal_of f xs) =
+    subst (λ (s : Side). Spells x.payloads (part (base s + journal_at f.format) (journal_len f.format) xs)) same.0 (subst (λ (e : Format). Spells x.payloads (part (base stands.0 + journal_at e) (journal_len e) xs)) same.1 stands.2.payloads) in
+    overruns_none f.payloads (journal_of f xs) (is.torn torn) x.payloads here
+
+-- the records end within the journal, whether one does not fit or not
+pub front_low : (n : ℕ) (payloads : List (List ℕ)) (bytes : List ℕ) (end : ℕ) (torn : Bool) → length bytes ≤ n → (torn ≡ false → Spells payloads bytes) → (torn ≡ true → Overruns payloads bytes) → end ≡ size_of_records payloads → end < n
+front_low n payloads bytes end false short whole over is = end_low n payloads bytes end short (whole refl) is
+front_low n payloads bytes end true short whole over is =
+    let s = over refl in
+    omega (arith, short, is, length-front payloads s.0 s.2, ap length s.3, length-append s.0 s.1, ap length s.4.3)
 
 pub read_ready : (old new : State) (side : Side) (g : ℕ) (x : Content) → new.seen ≡ old.seen → Only old.seen new → IsFitSize (size_of old) → StandsAt old.seen side g x → Ready new side g x
 read_ready old new side g x seen only size stands = record {
@@ -46,5 +84,31 @@ read_ready old new side g x seen only size stands = record {
   size = subst (λ (l : List ℕ). IsFitSize (length l)) (sym seen) size;
 }
 
-pub read_short : (at n : ℕ) (xs bytes : List ℕ) → bytes ≡ part at n xs → length bytes ≤ n
-read_short at n xs bytes is = omega (arith, ap length is, length-take n (drop at xs))
+-- records at the front of the payloads of a journal
+
+journal_most : (f : Format) → journal_len f ≤ 524288
+journal_most First = omega arith
+journal_most Second = omega arith
+
+fewer : (n : ℕ) (ps : List (List ℕ)) → size_of_records (take n ps) ≤ size_of_records ps
+fewer zero ps = omega arith
+fewer (suc n) [] = omega arith
+fewer (suc n) (p ∷ ps) = omega (arith, fewer n ps)
+
+pub front_short : (n : ℕ) (ps qs : List (List ℕ)) (f : Format) → ps ≡ qs → size_of_records qs < journal_len f → size_of_records (take n ps) ≤ 524288
+front_short n ps qs f same short = omega (arith, fewer n ps, ap size_of_records same, short, journal_most f)
+
+pub front_ends : (n : ℕ) (ps qs : List (List ℕ)) (f : Format) (side : Side) (b at size : ℕ) → ps ≡ qs → size_of_records qs < journal_len f → b ≡ base side → at ≡ journal_at f → size ≡ size_of_records (take n ps) → b + at + size + 1 ≤ 3145728
+front_ends n ps qs f side b at size same short b_is at_is size_is = omega (arith, fewer n ps, ap size_of_records same, short, b_is, at_is, size_is, journal_ends f, base_low side)
+
+-- what is opened, where each record fits
+pub opened_settled : (f : Found) (o : Opened) (old new : State) → IsFound f old.seen → f.overruns ≡ false → IsOpened f o → new.seen ≡ old.seen → Only old.seen new → IsFitSize (size_of old) → Settled o.journal new (record { format = o.format; image = o.image; payloads = o.payloads })
+opened_settled f o old new found whole is seen only size = record {
+  usable = is.usable;
+  ready = let ready = read_ready old new f.side f.generation (record { format = f.format; image = f.image; payloads = f.payloads }) seen only size (found_stands f old.seen found whole) in
+      subst (λ (x : Content). Ready new o.journal.side o.journal.generation x) (λ i. record { format = sym is.format i; image = sym is.image i; payloads = sym is.payloads i })
+      (subst (λ (g : ℕ). Ready new o.journal.side g (record { format = f.format; image = f.image; payloads = f.payloads })) (sym is.generation)
+      (subst (λ (s : Side). Ready new s f.generation (record { format = f.format; image = f.image; payloads = f.payloads })) (sym is.side) ready));
+  format = is.journal_format ∙ sym is.format;
+  end = is.end ∙ found.end ∙ ap size_of_records (sym is.payloads);
+}

@@ -1,26 +1,34 @@
 -- What a volume stands for.
 use Rattle.std.specs.Prelude.{◌≡◌, ◌≢◌, ◌+◌, ◌⊎◌, ℕ, List, [], ◌∷◌, ◌++◌, length, drop, get_or}
+use Rattle.cf_codec.specs.declared.formats.Format.{Format}
+use Rattle.cf_codec.specs.declared.formats.Format.TheVariants.{Second}
 use Rattle.cf_disk.specs.Disk.{State, part}
 use Rattle.cf_journal.specs.declared.sides.Side.{Side}
 use Rattle.cf_journal.specs.declared.sides.Side.TheVariants.{A, B}
-use Rattle.cf_journal.specs.Format.{base, Chosen, Spells}
+use Rattle.cf_journal.specs.Format.{base, journal_at, journal_len, Chosen, Spells}
 
--- an image, and the payloads of the records behind it
+-- an image, the payloads of the records behind it, and the format that they are spelled in
 pub record Content : Type 0 where
+  pub format : Format
   pub image : List ℕ
   pub payloads : List (List ℕ)
 
 abbrev pub appended : Content → List ℕ → Content
-appended c payload = record { image = c.image; payloads = c.payloads ++ payload ∷ [] }
+appended c payload = record { format = c.format; image = c.image; payloads = c.payloads ++ payload ∷ [] }
 
+-- of format 2
+abbrev pub second : List ℕ → List (List ℕ) → Content
+second image payloads = record { format = Second; image = image; payloads = payloads }
+
+-- what is written is of format 2
 abbrev pub rewritten : List ℕ → Content
-rewritten image = record { image = image; payloads = [] }
+rewritten image = second image []
 
 -- the disk stands for this content, by the slot of this side
 pub record StandsAt (disk : List ℕ) (side : Side) (generation : ℕ) (c : Content) : Type 0 where
-  pub chosen : Chosen disk side generation (length c.image)
+  pub chosen : Chosen c.format disk side generation (length c.image)
   pub image : c.image ≡ part (base side + 4096) (length c.image) disk
-  pub payloads : Spells c.payloads (part (base side + 1310720) 262144 disk)
+  pub payloads : Spells c.payloads (part (base side + journal_at c.format) (journal_len c.format) disk)
 
 abbrev pub Stands : List ℕ → Content → Type 0
 Stands disk c = (side : Side) × (generation : ℕ) × StandsAt disk side generation c

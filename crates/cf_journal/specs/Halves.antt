@@ -1,11 +1,13 @@
 -- Laws: what a disk stands for, where parts of it stay. For those who change the clusters, `settled_image` and `still_settled`.
-use Rattle.std.proofs.Common.{◌≡◌, ℕ, ◌+◌, ◌<◌, ◌≤◌, List, [], ◌∷◌, length, get_or, take, sym, ◌∙◌, ap, subst, arith}
+use Rattle.std.proofs.Common.{◌≡◌, ℕ, ◌+◌, ◌<◌, ◌≤◌, List, [], ◌∷◌, length, get_or, take, refl, sym, ◌∙◌, ap, subst, arith}
 use Rattle.std.proofs.lemmas.List.{get_or-take, drop_more}
+use Rattle.cf_codec.specs.declared.formats.Format.{Format}
+use Rattle.cf_codec.specs.declared.formats.Format.TheVariants.{First, Second}
 use Rattle.cf_disk.specs.Disk.{State, size_of, part, SameBut}
 use Rattle.cf_disk.specs.Parts.{part_ext, end_same}
 use Rattle.cf_journal.specs.declared.sides.Side.{Side}
 use Rattle.cf_journal.specs.declared.sides.Side.TheVariants.{A, B}
-use Rattle.cf_journal.specs.Format.{base, other, header, HasSlot, Beats, Spells}
+use Rattle.cf_journal.specs.Format.{base, other, header, journal_at, journal_len, most_image, HasSlot, Beats, Spells}
 use Rattle.cf_journal.specs.Content.{Content, StandsAt, clusters}
 use Rattle.cf_journal.specs.Settled.{Settled, IsFitSize}
 use Rattle.cf_journal.specs.declared.journals.Journal.{Journal}
@@ -21,10 +23,10 @@ half_back at old new same = record { size = sym same.size; bytes = λ i low high
 pub half_part : (at : ℕ) (old new : List ℕ) → SameHalf at old new → (k n : ℕ) → at ≤ k → k + n ≤ at + 1572864 → part k n new ≡ part k n old
 half_part at old new same k n low high = part_ext k n new old same.size (λ i from to. same.bytes i (omega arith) (omega arith))
 
-pub half_slot : (at : ℕ) (old new : List ℕ) (g l : ℕ) → SameHalf at old new → HasSlot old at g l → HasSlot new at g l
-half_slot at old new g l same slot = record {
+pub half_slot : (f : Format) (at : ℕ) (old new : List ℕ) (g l : ℕ) → SameHalf at old new → HasSlot f old at g l → HasSlot f new at g l
+half_slot f at old new g l same slot = record {
   gate = λ shut. slot.gate (sym (same.bytes at (omega arith) (omega arith)) ∙ shut);
-  header_is = half_part at old new same (at + 1) 27 (omega arith) (omega arith) ∙ slot.header_is ∙ ap (λ (n : ℕ). header g l n) (sym same.size);
+  header_is = half_part at old new same (at + 1) 27 (omega arith) (omega arith) ∙ slot.header_is ∙ ap (λ (n : ℕ). header f g l n) (sym same.size);
   positive = slot.positive;
   fits = slot.fits;
   short = slot.short;
@@ -40,14 +42,23 @@ pub half_other : (side : Side) (at n : ℕ) (old new : List ℕ) → SameBut at 
 half_other A at n old new same low high = record { size = same.size; bytes = λ i from to. same.after i (omega arith) }
 half_other B at n old new same low high = record { size = same.size; bytes = λ i from to. same.before i (omega arith) }
 
+-- the journal ends with its half, and an image ends before that
+pub journal_ends : (f : Format) → journal_at f + journal_len f ≡ 1572864
+journal_ends First = refl
+journal_ends Second = refl
+
+pub image_room : (f : Format) (n : ℕ) → n ≤ most_image f → n ≤ 1306624
+image_room First n short = omega (arith, short)
+image_room Second n short = short
+
 -- a disk with the same halves stands for the same
-pub halves_stand : (side : Side) (g : ℕ) (x : Content) (old new : List ℕ) → SameHalf (base side) old new → ((h l : ℕ) → HasSlot new (base (other side)) h l → Beats side g h) → StandsAt old side g x → StandsAt new side g x
+pub halves_stand : (side : Side) (g : ℕ) (x : Content) (old new : List ℕ) → SameHalf (base side) old new → ((f : Format) (h l : ℕ) → HasSlot f new (base (other side)) h l → Beats side g h) → StandsAt old side g x → StandsAt new side g x
 halves_stand side g x old new same newest stands =
-    let short = stands.chosen.slot.short in
+    let short = image_room x.format (length x.image) stands.chosen.slot.short in
     record {
-      chosen = record { slot = half_slot (base side) old new g (length x.image) same stands.chosen.slot; newest = newest };
+      chosen = record { slot = half_slot x.format (base side) old new g (length x.image) same stands.chosen.slot; newest = newest };
       image = stands.image ∙ sym (half_part (base side) old new same (base side + 4096) (length x.image) (omega arith) (omega arith));
-      payloads = subst (Spells x.payloads) (sym (half_part (base side) old new same (base side + 1310720) 262144 (omega arith) (omega arith))) stands.payloads;
+      payloads = subst (Spells x.payloads) (sym (half_part (base side) old new same (base side + journal_at x.format) (journal_len x.format) (omega arith) (omega (arith, journal_ends x.format)))) stands.payloads;
     }
 
 -- the same two halves
@@ -63,7 +74,7 @@ both_halves old new size same side = record { size = size; bytes = at_side side 
 
 pub area_stands : (side : Side) (g : ℕ) (x : Content) (old new : List ℕ) → length new ≡ length old → take 3145728 new ≡ take 3145728 old → StandsAt old side g x → StandsAt new side g x
 area_stands side g x old new size same stands = halves_stand side g x old new (both_halves old new size same side)
-    (λ h l slot. stands.chosen.newest h l (half_slot (base (other side)) new old h l (half_back (base (other side)) old new (both_halves old new size same (other side))) slot)) stands
+    (λ f h l slot. stands.chosen.newest f h l (half_slot f (base (other side)) new old h l (half_back (base (other side)) old new (both_halves old new size same (other side))) slot)) stands
 
 pub part-one : (at : ℕ) (xs : List ℕ) → at < length xs → part at 1 xs ≡ get_or xs at 0 ∷ []
 part-one at xs lt = ap (λ (l : List ℕ). take 1 l) (drop_more xs at 0 lt)
@@ -85,6 +96,7 @@ pub still_settled : (j : Journal) (old new : State) (x : Content) → Settled j 
     → ((c : List ℕ) → new.may_leave c → (d : List ℕ) × old.may_leave d × (take 3145728 c ≡ take 3145728 d)) → Settled j new x
 still_settled j old new x settled size halves images = record {
   usable = settled.usable;
+  format = settled.format;
   ready = record {
     stands = area_stands j.side j.generation x old.seen new.seen size halves settled.ready.stands;
     durable = λ c left. let was = images c left in was.2 ∙ settled.ready.durable was.0 was.1 ∙ sym halves;

@@ -5,3 +5,4 @@ pub mod Steps
 pub mod Records
 pub mod SlotTexts
 pub mod Halves
+pub mod Places

@@ -1,5 +1,6 @@
 -- A journal and its disk.
 use Rattle.std.specs.Prelude.{◌≡◌, ◌≤◌, ◌+◌, ℕ, List, [], length, take, true, false, if◌then◌else◌, ◌==◌}
+use Rattle.cf_codec.specs.declared.formats.Format.TheVariants.{Second}
 use Rattle.cf_disk.specs.Disk.{State, size_of, capped, part, SameBut}
 use Rattle.cf_journal.specs.declared.sides.Side.{Side}
 use Rattle.cf_journal.specs.declared.failures.JournalError.{JournalError}
@@ -22,11 +23,12 @@ pub record Ready (s : State) (side : Side) (generation : ℕ) (c : Content) : Ty
 pub record Settled (j : Journal) (s : State) (c : Content) : Type 0 where
   pub usable : j.broken ≡ false
   pub ready : Ready s j.side j.generation c
+  pub format : j.format ≡ c.format
   pub end : j.end ≡ size_of_records c.payloads
 
--- a record of n bytes has room
+-- a record of n bytes has room; none in a journal of format 1
 abbrev pub HasRoom : Journal → ℕ → Type 0
-HasRoom j n = j.end + (6 + n) ≤ 262144
+HasRoom j n = (j.format ≡ Second) × (j.end + (6 + n) ≤ 262144)
 
 -- why a call other than open failed
 abbrev pub IsCause : JournalError → Journal → State → State → Type 0
@@ -37,7 +39,7 @@ IsCause OutOfMemory j old new = ⊥
 
 -- the slot of this side holds the image, without a record, and nothing outside of this half is changed
 pub record Installs (side : Side) (generation : ℕ) (image old new : List ℕ) : Type 0 where
-  pub slot : HasSlot new (base side) generation (length image)
+  pub slot : HasSlot Second new (base side) generation (length image)
   pub image_is : part (base side + 4096) (length image) new ≡ image
   pub payloads : Spells [] (part (base side + 1310720) 262144 new)
   pub same : SameBut (base side) 1572864 old new

@@ -9,9 +9,10 @@ ghost use Rattle.cf_journal.specs.Settled.{IsFitSize, Ready, Installs, next_of};
 use crate::headers::header_bytes;
 use crate::sides::{Side, base_of, other_of};
 use crate::writes::{close, put, stage};
+use cf_codec::Format;
 use cf_disk::{Disk, DiskError};
 
-// Writes an image into the slot of the other side: the slot is closed, then filled behind its closed gate, then opened,
+// Writes an image of format 2 into the slot of the other side: the slot is closed, then filled behind its closed gate, then opened,
 // with a sync after each of these.
 pub(crate) fn install<D: Disk>(
     disk: &mut D,
@@ -35,7 +36,7 @@ pub(crate) fn install<D: Disk>(
 {
     let size = disk.size();
     let at = base_of(other_of(side));
-    let header = header_bytes(generation, image.len() as u32, size);
+    let header = header_bytes(Format::Second, generation, image.len() as u32, size);
     close(disk, at)?;
     stage(disk, at, &header, image)?;
     put(disk, at, &[1])?;

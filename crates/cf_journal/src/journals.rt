@@ -1,14 +1,16 @@
 //! A journal and its calls.
 
 ghost use Rattle.std.specs.Prelude.{◌<◌};
+ghost use Rattle.cf_journal.specs.Format.{journal_len};
 
 use crate::failures::JournalError;
+use crate::findings::read;
+use crate::found::Found;
 use crate::installs::{generation_after, install};
-use crate::reads::{find, load};
 use crate::sides::{Side, base_of, other_of};
-use crate::walks::records;
 use crate::writes::{close_both, put, put_record};
 use cf_base::{Blob, Sequence};
+use cf_codec::Format;
 use cf_disk::Disk;
 use std::alloc::Global;
 
@@ -31,17 +33,18 @@ const JOURNAL: u64 = 262_144;
 pub struct Journal {
     side: Side,
     generation: u64,
+    format: Format,
     end: u64,
     broken: bool,
-    ghost in_journal: { end < 262144 },
+    ghost in_journal: { end < journal_len format },
 }
 
 /// What an opened disk stands for.
 #[derive(Drop)]
 pub struct Opened {
     pub journal: Journal,
-    /// The format of the volume's slot. It is 2.
-    pub format: u8,
+    /// The format of the volume's slot.
+    pub format: Format,
     pub image: Blob,
     /// The payloads that were appended since the image was written, in order.
     pub payloads: Sequence<Blob>,
@@ -61,12 +64,18 @@ impl Journal {
         LEAST_SIZE <= size && size <= LARGEST_SIZE
     }
 
-    /// Whether a record with a payload of so many bytes has room in the journal.
+    /// Whether a record with a payload of so many bytes has room in the journal. None has in one of format 1, which is only
+    /// read.
     pub fn fits(&self, len: usize) -> bool
         ensures { IsTrue result ↔ HasRoom self.now len }
     {
-        let room = JOURNAL - 1 - self.end;
-        len < 262_144 && 5 + len as u64 <= room
+        match self.format {
+            Format::First => false,
+            Format::Second => {
+                let room = JOURNAL - 1 - self.end;
+                len < 262_144 && 5 + len as u64 <= room
+            }
+        }
     }
 
     /// Adds a record behind the others and makes it durable. Broken where an earlier call failed; then nothing is done.
@@ -105,8 +114,8 @@ impl Journal {
         Ok(())
     }
 
-    /// Puts an image in place of the content and makes it durable. Broken where an earlier call failed; then nothing is
-    /// done. Failed where a call of the disk failed; then open the disk again.
+    /// Puts an image of format 2 in place of the content, of whichever format that is, and makes it durable. Broken where an
+    /// earlier call failed; then nothing is done. Failed where a call of the disk failed; then open the disk again.
     pub fn rewrite<D: Disk>(&mut self, disk: &mut D, image: &[u8]) -> Result<(), JournalError>
         requires short { length image.now ≤ 1306624 }
         requires size { IsFitSize (size_of (D.state disk.old)) }
@@ -134,6 +143,7 @@ impl Journal {
         let generation = generation_after(self.generation);
         install(disk, self.side, generation, image)?;
         self.side = other_of(self.side);
+        self.format = Format::Second;
         self.generation = generation;
         self.end = 0;
         self.broken = false;
@@ -163,6 +173,7 @@ impl Journal {
         Ok(Journal {
             side: Side::A,
             generation: 1,
+            format: Format::Second,
             end: 0,
             broken: false,
         })
@@ -176,35 +187,44 @@ impl Journal {
         requires { IsFitSize (size_of (D.state disk.old)) }
 
         // It gives the content that the disk stands for, and no record whose gate is closed.
-        ensures found { IfOk result (λ o. Settled o.journal (D.state disk.new) (record { image = o.image; payloads = o.payloads })) }
+        ensures found { IfOk result (λ o. Settled o.journal (D.state disk.new) (record { format = o.format; image = o.image; payloads = o.payloads })) }
         ensures none { result ≡ Err JournalError.NotAVolume → (x : Content) → Stands (D.state disk.old).seen x → ⊥ }
-        ensures format { IfOk result (λ o. o.format ≡ 2) }
 
         ensures durable { OnOk result (Only (D.state disk.old).seen (D.state disk.new)) }
         ensures reads { ReadsOnly (D.state disk.old) (D.state disk.new) }
         ensures cause { IfErr result (λ e. (e ≡ JournalError.NotAVolume) ⊎ IsOpenCause e (D.state disk.old) (D.state disk.new)) }
     {
-        let volume = match find(disk)? {
-            None => return Err(JournalError::NotAVolume),
-            Some(volume) => volume,
-        };
-        let base = base_of(volume.0);
-        let image = load(alloc, disk, base + 4096, volume.2 as usize)?;
-        let bytes = load(alloc, disk, base + SLOT, JOURNAL as usize)?;
-        let walked = match records(alloc, &bytes)? {
-            None => return Err(JournalError::NotAVolume),
-            Some(walked) => walked,
-        };
-        Ok(Opened {
+        let found = read(alloc, disk)?;
+        match found.open() {
+            None => Err(JournalError::NotAVolume),
+            Some(opened) => Ok(opened),
+        }
+    }
+}
+
+impl Found {
+    ghost use Rattle.std.specs.Prelude.{◌≡◌, true, false, MatchOption};
+    ghost use Rattle.cf_journal.specs.Places.{IsOpened};
+
+    /// The journal of what was found, as it is opened. None exactly where a record does not fit it.
+    pub fn open(self) -> Option<Opened>
+        ensures { MatchOption result (self.overruns ≡ true) (λ o. (self.overruns ≡ false) × IsOpened self o) }
+    {
+        if self.overruns {
+            drop(self);
+            return None;
+        }
+        Some(Opened {
             journal: Journal {
-                side: volume.0,
-                generation: volume.1,
-                end: walked.1,
+                side: self.side,
+                generation: self.generation,
+                format: self.format,
+                end: self.end,
                 broken: false,
             },
-            format: 2,
-            image: Blob::from_vec(image),
-            payloads: Sequence::from_vec(walked.0),
+            format: self.format,
+            image: self.image,
+            payloads: self.payloads,
         })
     }
 }

@@ -6,6 +6,7 @@ ghost use Rattle.cf_disk.specs.Disk.{size_of};
 ghost use Rattle.cf_journal.specs.Settled.{HasRoom, IsFitSize};
 
 use cf_base::Choice;
+use cf_codec::Format;
 use cf_disk::{Disk, MemDisk, TraceDisk};
 use cf_journal::*;
 use std::alloc::Global;
@@ -24,7 +25,7 @@ fn a_record_comes_back(rt: HostRuntime) -> Result<(), Fail> {
     disk.power(Choice::Drop);
     assert!(rt; disk.size() == SIZE);
     let opened = Journal::open(rt.alloc(), &mut disk)?;
-    assert_eq!(rt; opened.format, 2);
+    assert_eq!(rt; opened.format, Format::Second);
     assert_eq!(rt; opened.image.as_slice(), [0].as_slice());
     assert_eq!(rt; opened.payloads.as_slice().len(), 1);
     assert_eq!(rt; opened.payloads.as_slice()[0].as_slice(), b"ab".as_slice());

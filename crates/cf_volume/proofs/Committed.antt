@@ -13,7 +13,7 @@ use Rattle.cf_clusters.specs.declared.uses.Use.{Use}
 use Rattle.cf_disk.specs.Disk.{Leaves, Only, State, size_of}
 use Rattle.cf_volume_image.specs.Contents.{image_of}
 use Rattle.cf_volume_image.specs.Spelled.{AreRecordsFrom}
-use Rattle.cf_volume_image.specs.States.{Tells}
+use Rattle.cf_volume_image.specs.States.{TellsIn}
 use Rattle.cf_journal.specs.Content.{Content, clusters}
 use Rattle.cf_journal.specs.Settled.{IsFitSize, Settled}
 use Rattle.cf_journal.specs.declared.journals.Journal.{Journal}
@@ -132,7 +132,7 @@ none_left (r ∷ s ∷ rs) m = absurd m.1
 
 -- What `save` asks of the last point, and what it gives then.
 abbrev Given : (State → Content → Image → Type 0) → State → Parts → Type 0
-Given P old p = (x : Content) (image : Image) → Settled p.journal old x → Tells x.image x.payloads image → IsThen p.then p.contents image → HaveStoredPins p.contents.rows.rows → P old x image
+Given P old p = (x : Content) (image : Image) → Settled p.journal old x → TellsIn x.format x.image x.payloads image → IsThen p.then p.contents image → HaveStoredPins p.contents.rows.rows → P old x image
 
 module _ (old new : State) (p : Parts) (fair : Fair old) (steady : Steady (size_of old) (known_of p)) (rises : RisesFrom 0 p.contents.rows.rows) (table : AreTableRows p.contents.rows.rows) (can : CanBeWritten p.contents)
     (v : Volume) (at : At old (known_of p) v) (keep : IsKeepable v) where

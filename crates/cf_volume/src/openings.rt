@@ -112,9 +112,10 @@ impl<D: Disk> Volume<D> {
         }
     }
 
-    /// Opens the volume on a disk of a fit size: what the image that the disk holds tells, in the next epoch. NotAVolume
-    /// exactly where the disk holds no image of a volume, and Exhausted exactly where it holds one of the last epoch; then
-    /// nothing is written. Else 54 bytes are, or the whole image where the journal has no room for them. Device where a call of the disk failed, whose count of faults rose. OutOfMemory where there is none.
+    /// Opens the volume on a disk of a fit size, in either format: what the image that the disk holds tells, in the next epoch.
+    /// NotAVolume exactly where the disk holds no image of a volume, and Exhausted exactly where it holds one of the last epoch;
+    /// then nothing is written. Else 54 bytes are, or the whole image in format 2 where the journal is of format 1 or has no
+    /// room for them. Device where a call of the disk failed, whose count of faults rose. OutOfMemory where there is none.
     ///
     /// A crash at any moment leaves what it might have left before, or the same changes and book, with the epoch as it was
     /// or raised.

@@ -9,11 +9,13 @@ use Rattle.cf_volume_commit.proofs.Appended.{tells_rewritten}
 use Rattle.cf_volume_commit.proofs.OpenedAt.{opened_holds}
 use Rattle.cf_volume_commit.proofs.RaisedEpoch.{raised_at, sound_after, sound_before}
 use Rattle.cf_volume_commit.proofs.ToldPins.{pins_told}
-use Rattle.cf_volume_commit.specs.Leading.{CanBeWritten, bytes_of, bytes_written}
+use Rattle.cf_volume_commit.specs.Leading.{CanBeWritten, bytes_of, bytes_written, is_full}
 use Rattle.cf_volume_commit.specs.Loaded.{StandsThen, first_image, known_of}
 use Rattle.cf_volume_commit.specs.declared.parts.Parts.{Parts}
 use Rattle.cf_clusters.specs.Roles.{Opens, committed}
 use Rattle.cf_clusters.specs.declared.uses.Use.{Use}
+use Rattle.cf_codec.specs.declared.formats.Format.{Format}
+use Rattle.cf_codec.specs.declared.formats.Format.TheVariants.{Second}
 use Rattle.cf_disk.specs.Disk.{Counts, Only, State, capped, size_of}
 use Rattle.cf_volume_image.specs.Contents.{image_of, payload_of}
 use Rattle.cf_volume_image.specs.Sound.{IsSound}
@@ -141,8 +143,10 @@ first_stands n cluster = record {
 
 -- what is written
 
-pub first_bytes : (j : Journal) (c : Contents) (image : List ℕ) → j.end ≡ 0 → bytes_written j (Some (spell_payload (payload_of c [] [] [] []))) image ≡ 54
-first_bytes j c image end = ap (λ (n : ℕ). bytes_of (cond (ltb 262144 (n + 54)) None (Some (spell_payload (payload_of c [] [] [] [])))) image) end
+pub first_bytes : (j : Journal) (c : Contents) (image : List ℕ) → j.format ≡ Second → j.end ≡ 0 → bytes_written j (Some (spell_payload (payload_of c [] [] [] []))) image ≡ 54
+first_bytes j c image second end =
+    ap (λ (f : Format). bytes_of (cond (is_full f (j.end + 54)) None (Some (spell_payload (payload_of c [] [] [] [])))) image) second
+    ∙ ap (λ (n : ℕ). bytes_of (cond (ltb 262144 (n + 54)) None (Some (spell_payload (payload_of c [] [] [] [])))) image) end
 
 pub first_can : (c : Contents) → image_of c ≡ first_image 1 → All HasRoom c.rows.rows → CanBeWritten c
 first_can c is room = record {
@@ -160,7 +164,7 @@ first_stands_then s p text is e settled =
       told = told;
       rows = rows;
       records = sym (ap (λ (i : Image). i.records) is);
-      pins = pins_told text [] (first_image 0) p.contents.rows.rows told rows;
+      pins = pins_told Second text [] (first_image 0) p.contents.rows.rows told rows;
     }
 
 pub first_text : (text : List ℕ) (i : Image) → text ≡ spell_image i → i ≡ first_image 0 → text ≡ spell_image (first_image 0)

@@ -6,16 +6,18 @@ use Rattle.cf_volume_commit.proofs.OpenedAt.{opened_holds, sound_raised, stands_
 use Rattle.cf_volume_commit.proofs.RaisedEpoch.{can_be_written, raised_at, sound_after, sound_before}
 use Rattle.cf_volume_commit.proofs.ToldPins.{pins_told}
 use Rattle.cf_volume_commit.specs.Leading.{CanBeWritten}
-use Rattle.cf_volume_commit.specs.Loaded.{Finds, HoldsImage, StandsOrWas, StandsThen, known_of, number_after, raised_image}
+use Rattle.cf_volume_commit.specs.Loaded.{Finds, HoldsImage, HoldsSecond, StandsOrWas, StandsThen, known_of, number_after, raised_image}
 use Rattle.cf_volume_commit.specs.declared.parts.Parts.{Parts}
 use Rattle.cf_clusters.specs.Roles.{committed}
 use Rattle.cf_disk.specs.Disk.{Leaves, Only, State, size_of}
 use Rattle.cf_disk.specs.Leaving.{leaves_then, leaves_weaker}
-use Rattle.cf_volume_image.proofs.Told.{one_state}
+use Rattle.cf_volume_image.proofs.Formats.{sound_in_second}
+use Rattle.cf_volume_image.proofs.Told.{one_state_in}
 use Rattle.cf_volume_image.specs.Contents.{image_of}
 use Rattle.cf_volume_image.specs.Sound.{IsSound}
 use Rattle.cf_volume_image.specs.Spelled.{AreRecordsFrom}
-use Rattle.cf_volume_image.specs.States.{IsContents}
+use Rattle.cf_volume_image.specs.States.{IsContentsIn}
+use Rattle.cf_volume_image.specs.declared.contents.Contents.{Contents}
 use Rattle.cf_journal.specs.Content.{Content, clusters}
 use Rattle.cf_journal.specs.Content as journal
 use Rattle.cf_journal.specs.Settled.{IsFitSize}
@@ -23,6 +25,8 @@ use Rattle.cf_model.specs.Books.{Book}
 use Rattle.cf_model.specs.Formats.{Image}
 use Rattle.cf_model.specs.Numbers.{most}
 use Rattle.cf_model.specs.Standing.{Stands, clusters_of}
+use Rattle.std.specs.Prelude.{◌-◌, ◌/◌}
+use Rattle.cf_volume_points.proofs.Commits.{in_second}
 use Rattle.cf_volume_points.proofs.Frames.{same_all, stands_frame}
 use Rattle.cf_volume_points.proofs.Saves.{after_stands, same_number}
 use Rattle.cf_volume_points.specs.At.{At}
@@ -44,10 +48,21 @@ found_image old mid x p f q same = (
 
 module _ (old mid : State) (x : Content) (p : Parts) (f : Finds old mid x p) (fit : IsFitSize (size_of old)) where
   sound_now : IsSound (clusters_on old.seen) (image_of p.contents)
-  sound_now = subst (λ (i : Image). IsSound (clusters_on old.seen) i) (sym f.is) (sound_raised f.image.header.last.epoch (clusters_on old.seen) f.image refl f.told.sound)
+  sound_now = subst (λ (i : Image). IsSound (clusters_on old.seen) i) (sym f.is) (sound_raised f.image.header.last.epoch (clusters_on old.seen) f.image refl (sound_in_second x.format (clusters_on old.seen) f.image f.told.sound))
 
   sound_held : IsSound (length p.held) (image_of p.contents)
   sound_held = subst (λ (n : ℕ). IsSound n (image_of p.contents)) (sym f.opens.size) sound_now
+
+  -- what is on the disk then
+  pub opening_holds : (q : Parts) (new : State) → q.contents ≡ p.contents → Saved q.journal new (image_of p.contents) → size_of new ≡ size_of mid → HoldsSecond new.seen (image_of q.contents)
+  opening_holds q new contents saved size = record {
+    content = saved.0;
+    second = saved.2;
+    holds = (q.journal.side, q.journal.generation, saved.1.ready.stands);
+    told = subst (λ (k : Contents). IsContentsIn saved.0.format saved.0.image saved.0.payloads (clusters_on new.seen) (image_of k)) (sym contents)
+        (in_second saved.0 (clusters_on new.seen) (image_of p.contents) saved.2 saved.3
+        (subst (λ (n : ℕ). IsSound n (image_of p.contents)) (sym (ap (λ (n : ℕ). (n - 3145728) / 4096) (size ∙ ap length f.seen))) sound_now));
+  }
 
   pub found_can : CanBeWritten p.contents
   found_can = can_be_written (clusters_on old.seen) p.contents f.room sound_now
@@ -60,7 +75,7 @@ module _ (old mid : State) (x : Content) (p : Parts) (f : Finds old mid x p) (fi
         told = f.told.told;
         rows = rows;
         records = sym (ap (λ (i : Image). i.records) f.is);
-        pins = pins_told x.image x.payloads f.image p.contents.rows.rows f.told.told rows;
+        pins = pins_told x.format x.image x.payloads f.image p.contents.rows.rows f.told.told rows;
       }
 
   module _ (rises : RisesFrom 0 p.contents.rows.rows) (kept : AreTableRows p.contents.rows.rows) where
@@ -73,8 +88,8 @@ module _ (old mid : State) (x : Content) (p : Parts) (f : Finds old mid x p) (fi
 
       image_is : st.image ≡ f.image
       image_is =
-          one_state x.image x.payloads (clusters_on old.seen) st.image f.image
-          (subst (λ (y : Content). IsContents y.image y.payloads (clusters_on old.seen) st.image) content_is st.told) f.told
+          one_state_in x.format x.image x.payloads (clusters_on old.seen) st.image f.image
+          (subst (λ (y : Content). IsContentsIn y.format y.image y.payloads (clusters_on old.seen) st.image) content_is st.told) f.told
 
       epoch_is : f.image.header.last.epoch ≡ e
       epoch_is = ap (λ (i : Image). i.header.last.epoch) (sym image_is) ∙ st.epoch_is
@@ -103,7 +118,7 @@ module _ (old mid : State) (x : Content) (p : Parts) (f : Finds old mid x p) (fi
             content = st.content;
             image = st.image;
             holds = subst (λ (y : Content). journal.Stands d y) (sym content_is) h.0;
-            told = subst (λ (n : ℕ). IsContents st.content.image st.content.payloads n st.image) (sym (same_number d old.seen same)) st.told;
+            told = subst (λ (n : ℕ). IsContentsIn st.content.format st.content.image st.content.payloads n st.image) (sym (same_number d old.seen same)) st.told;
             epoch_is = st.epoch_is;
             stands = subst (λ (n : ℕ). Stands n (cluster_on d) st.image log b) (sym (same_number d old.seen same))
                 (stands_frame (clusters_on old.seen) (cluster_on old.seen) (cluster_on d) st.image log b (same_all old.seen d same (clusters_of st.image.rows)) st.stands);

@@ -101,4 +101,4 @@ module _ (p q : Parts) (contents : q.contents ≡ p.contents) (held : q.held ≡
       → size_of new ≡ size_of old → Only new.seen new → clusters new.seen ≡ clusters old.seen → At new (known_of q) (with_points_now (record { sure = true; count = length v.log; book = v.book }) [] v)
   raised_at old new v sound fit holds saved keys size only rest =
       subst (λ (k : Known). At new k (with_points_now (record { sure = true; count = length v.log; book = v.book }) [] v)) known_is
-      (commit_at old new q.journal (known_of p) v (record { sure = true; count = length v.log; book = v.book }) [] sound fit holds refl refl saved.0 saved.1 saved.2 keys size only rest)
+      (commit_at old new q.journal (known_of p) v (record { sure = true; count = length v.log; book = v.book }) [] sound fit holds refl refl saved.0 saved.1 saved.2 saved.3 keys size only rest)

@@ -10,7 +10,7 @@ use Rattle.cf_disk.specs.Disk.{Counts, State, capped}
 use Rattle.cf_volume_commit.specs.declared.earlier.Earlier.{Earlier}
 use Rattle.cf_volume_image.specs.Contents.{image_of}
 use Rattle.cf_volume_image.specs.Spelled.{AreRecordsFrom, IsImage}
-use Rattle.cf_volume_image.specs.States.{Tells}
+use Rattle.cf_volume_image.specs.States.{TellsIn}
 use Rattle.cf_volume_image.specs.declared.contents.Contents.{Contents}
 use Rattle.cf_journal.specs.Content.{Content}
 use Rattle.cf_journal.specs.declared.journals.Journal.{Journal}
@@ -23,7 +23,7 @@ keys_fit then c k noted e =
     (keys_short None (removed_keys then c.records) (keys_of None _ (filter_records (is_record_gone then c.records) None then.records noted)))
 
 pub follows : (x : Content) (then : Earlier) (c : Contents) (i : Image) (text : Option (List ℕ)) → text ≡ text_of then c → then.next.0 < 2 ^ 64 → RisesFrom 0 c.rows.rows → RisesFrom 0 then.rows.rows → AreRecordsFrom None then.records → IsImage (image_of c)
-    → Tells x.image x.payloads i → IsThen then c i → Follows x text i c
+    → TellsIn x.format x.image x.payloads i → IsThen then c i → Follows x text i c
 follows x then c i text is small rise noted noted_keys image told h = record {
   told = told;
   leads = subst (λ (t : Option (List ℕ)). LeadsTo t i (image_of c)) (sym is) (text_leads then c i small rise noted noted_keys image h);

@@ -2,12 +2,14 @@
 use Rattle.std.proofs.Common.{◌≡◌, ℕ, Bool, true, false, not, cond, ltb, eqb, List, [], ◌∷◌, map, Option, Some, None, sym, subst}
 use Rattle.std.specs.Prelude.{All, filter}
 use Rattle.std.proofs.lemmas.List.Elements.{All-head, All-tail, All-nil, All-cons}
+use Rattle.cf_codec.specs.declared.formats.Format.{Format}
 use Rattle.cf_volume_commit.specs.Leading.{HaveStoredPins}
-use Rattle.cf_volume_image.specs.Spelled.{AreSpelled}
-use Rattle.cf_volume_image.specs.States.{Tells}
+use Rattle.cf_volume_image.specs.Spelled.{AreSpelledIn}
+use Rattle.cf_volume_image.specs.States.{TellsIn}
 use Rattle.cf_model.specs.Formats.{Image, Payload, after_payload, after_payloads, is_removed, with_row, with_rows, without_row}
 use Rattle.cf_model.specs.Rows.{Row}
 use Rattle.cf_model.specs.Words.{put_in}
+use Rattle.cf_table.proofs.Formats.{rows_in_second}
 use Rattle.cf_table.specs.Reading.{AreRows, IsStored}
 use Rattle.cf_table.specs.Spelling.{row_value}
 use Rattle.cf_table.specs.declared.rows.Row.{Row as TableRow}
@@ -41,18 +43,18 @@ with_all (r ∷ rs) rows n h =
     with_all rs (with_row r rows) (All-tail Pinned r rs n)
     (put (λ x y. ltb x.id.0 y.id.0) r (without_row r.id rows) (All-head Pinned r rs n) (filtered (λ x. not (eqb x.id.0 r.id.0)) rows h))
 
-after_all : (texts : List (List ℕ)) (ps : List Payload) (i : Image) → AreSpelled texts ps → All Pinned i.rows → All Pinned (after_payloads i ps).rows
-after_all [] [] i s h = h
-after_all [] (p ∷ ps) i s h = absurd s
-after_all (t ∷ ts) [] i s h = absurd s
-after_all (t ∷ ts) (p ∷ ps) i s h =
-    after_all ts ps (after_payload i p) s.2 (with_all p.rows (filter (λ r. not (is_removed p.removed r)) i.rows) (of_rows None p.rows s.0.rows.1) (filtered (λ r. not (is_removed p.removed r)) i.rows h))
+after_all : (f : Format) (texts : List (List ℕ)) (ps : List Payload) (i : Image) → AreSpelledIn f texts ps → All Pinned i.rows → All Pinned (after_payloads i ps).rows
+after_all f [] [] i s h = h
+after_all f [] (p ∷ ps) i s h = absurd s
+after_all f (t ∷ ts) [] i s h = absurd s
+after_all f (t ∷ ts) (p ∷ ps) i s h =
+    after_all f ts ps (after_payload i p) s.2 (with_all p.rows (filter (λ r. not (is_removed p.removed r)) i.rows) (of_rows None p.rows (rows_in_second f None p.rows s.0.rows.1)) (filtered (λ r. not (is_removed p.removed r)) i.rows h))
 
 of_table : (rows : List TableRow) → All Pinned (map row_value rows) → HaveStoredPins rows
 of_table [] h = All-nil (λ (r : TableRow). IsStored r.pin)
 of_table (r ∷ rs) h = All-cons (λ (x : TableRow). IsStored x.pin) r rs (All-head Pinned (row_value r) (map row_value rs) h) (of_table rs (All-tail Pinned (row_value r) (map row_value rs) h))
 
-pub pins_told : (image : List ℕ) (payloads : List (List ℕ)) (s : Image) (rows : List TableRow) → Tells image payloads s → s.rows ≡ map row_value rows → HaveStoredPins rows
-pins_told image payloads s rows told is =
+pub pins_told : (f : Format) (image : List ℕ) (payloads : List (List ℕ)) (s : Image) (rows : List TableRow) → TellsIn f image payloads s → s.rows ≡ map row_value rows → HaveStoredPins rows
+pins_told f image payloads s rows told is =
     of_table rows (subst (λ (l : List Row). All Pinned l) is (subst (λ (i : Image). All Pinned i.rows) (sym told.state_is)
-    (after_all payloads told.changes told.value told.payloads_are (of_rows None told.value.rows told.is_image.rows.1))))
+    (after_all f payloads told.changes told.value told.payloads_are (of_rows None told.value.rows (rows_in_second f None told.value.rows told.is_image.rows.1)))))

@@ -1,8 +1,10 @@
 -- A text put into a journal: a payload behind the others, or an image in place of all.
-use Rattle.std.specs.Prelude.{ℕ, List, length, Option, Some, None, MatchOption, All, cond, nat_lt, ◌≤◌, ◌+◌}
+use Rattle.std.specs.Prelude.{ℕ, Bool, true, List, length, Option, Some, None, MatchOption, All, cond, nat_lt, ◌≤◌, ◌+◌}
+use Rattle.cf_codec.specs.declared.formats.Format.{Format}
+use Rattle.cf_codec.specs.declared.formats.Format.TheVariants.{First, Second}
 use Rattle.cf_volume_image.specs.Contents.{image_of}
 use Rattle.cf_volume_image.specs.Spelled.{IsImage}
-use Rattle.cf_volume_image.specs.States.{IsAfter, Tells}
+use Rattle.cf_volume_image.specs.States.{IsAfter, TellsIn}
 use Rattle.cf_volume_image.specs.declared.contents.Contents.{Contents}
 use Rattle.cf_journal.specs.Content.{Content}
 use Rattle.cf_journal.specs.declared.journals.Journal.{Journal}
@@ -26,16 +28,21 @@ pub record CanBeWritten (c : Contents) : Type 0 where
 abbrev pub LeadsTo : Option (List ℕ) → Image → Image → Type 0
 LeadsTo text old new = MatchOption text (Unit {0}) (λ t. IsAfter t old new)
 
--- the content tells one image, and the text leads from it to the other
+-- the content tells one image in its format, and the text leads from it to the other
 pub record Follows (x : Content) (text : Option (List ℕ)) (image : Image) (c : Contents) : Type 0 where
-  pub told : Tells x.image x.payloads image
+  pub told : TellsIn x.format x.image x.payloads image
   pub leads : LeadsTo text image (image_of c)
   pub is_image : IsImage (image_of c)
+
+-- records that would end at this place have no room in a journal of the format; in one of format 1 nothing is written
+abbrev pub is_full : Format → ℕ → Bool
+is_full First end = true
+is_full Second end = nat_lt 262144 end
 
 -- the text, where it has room in the journal
 abbrev pub text_in : Journal → Option (List ℕ) → Option (List ℕ)
 text_in j None = None
-text_in j (Some text) = cond (nat_lt 262144 (j.end + (6 + length text))) None (Some text)
+text_in j (Some text) = cond (is_full j.format (j.end + (6 + length text))) None (Some text)
 
 -- how many bytes are written: the payload's and 6, or the image's and 30
 abbrev pub bytes_of : Option (List ℕ) → List ℕ → ℕ

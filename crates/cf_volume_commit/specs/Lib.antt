@@ -1,3 +1,4 @@
+pub mod Damages
 pub mod Differing
 pub mod Leading
 pub mod Loaded

@@ -16,7 +16,8 @@ ghost use Rattle.cf_volume_points.specs.Standing.{clusters_on};
 ghost use Rattle.cf_table.specs.Changing.{IsNext};
 ghost use Rattle.cf_table.specs.Spelling.{HasRoom};
 
-use crate::openings::{clusters_of_disk, raise};
+use crate::findings::clusters_of_disk;
+use crate::openings::raise;
 use crate::parts::Parts;
 use crate::ranges::has_an_image;
 use cf_base::{OutOfMemory, Usn};

@@ -2,12 +2,15 @@
 //!
 //! `save` makes what a volume says of its items durable: it appends what differs from the last point where that fits, and
 //! else writes the whole image. `create` makes an empty volume, `load` opens one; both give its parts with the epoch
-//! raised. specs/Differing says what differs, specs/Loaded what is known of a volume that was just opened.
+//! raised. `read_volume` only reads one, and names the first thing that is wrong where there is none, which specs/Damages says.
+//! specs/Differing says what differs, specs/Loaded what is known of a volume that was just opened.
 #![tactic(auto)]
 
 mod creations;
+mod damages;
 mod differences;
 mod earlier;
+mod findings;
 mod openings;
 mod parts;
 mod ranges;
@@ -15,7 +18,9 @@ mod saves;
 mod texts;
 
 pub use creations::create;
+pub use damages::{Damage, FindError};
 pub use earlier::{Earlier, bare};
+pub use findings::read_volume;
 pub use openings::load;
 pub use parts::Parts;
 pub use saves::save;

@@ -1,26 +1,24 @@
 //! Openings.
 
-ghost use Rattle.std.specs.Prelude.{◌≡◌, ◌≤◌, ◌<◌, ◌+◌, [], ◌++◌, ◌⊎◌, ℕ, List, Some, None, map, All, false, Err, IfErr, IfOk, IsOk, OnOk};
+ghost use Rattle.std.specs.Prelude.{◌≡◌, ◌≤◌, ◌<◌, ◌+◌, [], ◌++◌, ◌⊎◌, ℕ, List, Some, None, map, All, false, true, Err, IfErr, IfOk, IsOk, OnOk};
 ghost use Rattle.cf_base.specs.declared.changes.Change.{Change};
 ghost use Rattle.cf_base.specs.declared.codes.Code.TheVariants as code;
 ghost use Rattle.cf_base.specs.declared.codes.CallError.TheVariants as fail;
 ghost use Rattle.cf_base.specs.declared.ids.Usn.{Usn};
 ghost use Rattle.cf_volume_commit.specs.Leading.{CanBeWritten, bytes_written};
-ghost use Rattle.cf_volume_commit.specs.Loaded.{Finds, HoldsImage, StandsOrWas, StandsThen, fail_of, known_of, number_after, opening_bytes, raised_image};
+ghost use Rattle.cf_volume_commit.specs.Loaded.{Finds, HoldsImage, HoldsSecond, IsNoVolume, StandsOrWas, StandsThen, fail_of, known_of, number_after, opening_bytes, raised_image};
 ghost use Rattle.cf_clusters.specs.Roles.{Opens, committed};
 ghost use Rattle.cf_disk.specs.Disk.{size_of, capped, Counts, Only, Leaves};
 ghost use Rattle.cf_volume_image.specs.ClusterLists.{clusters_in};
 ghost use Rattle.cf_volume_image.specs.Contents.{image_of, payload_of};
-ghost use Rattle.cf_volume_image.specs.Sound.{IsSound};
 ghost use Rattle.cf_volume_image.specs.Spelled.{AreRecordsFrom};
-ghost use Rattle.cf_volume_image.specs.States.{IsContents};
 ghost use Rattle.cf_journal.specs.Content.{Content, Stands, clusters};
 ghost use Rattle.cf_journal.specs.Settled.{IsFitSize, Settled};
 ghost use Rattle.cf_journal.specs.Steps.{ReadsOnly};
 ghost use Rattle.cf_model.specs.Books.{Book};
 ghost use Rattle.cf_model.specs.Formats.{Image, spell_image, spell_payload};
 ghost use Rattle.cf_model.specs.Numbers.{most, usn_after};
-ghost use Rattle.cf_model.specs.Standing.{clusters_of};
+ghost use Rattle.cf_model.specs.Standing.{are_apart, clusters_of};
 ghost use Rattle.cf_volume_points.specs.At.{At};
 ghost use Rattle.cf_volume_points.specs.Runs.{IsStop};
 ghost use Rattle.cf_volume_points.specs.Saving.{IsSaving, Saved};
@@ -31,49 +29,27 @@ ghost use Rattle.cf_table.specs.Changing.{IsNext};
 ghost use Rattle.cf_table.specs.Spelling.{HasRoom, row_value};
 ghost use Rattle.cf_table.specs.Tables.{AreTableRows, RisesFrom};
 
+use crate::damages::FindError;
+use crate::findings::{clusters_of_disk, read_volume};
 use crate::parts::Parts;
 use crate::ranges::has_an_image;
 use crate::texts::put_text;
 use cf_base::{CallError, Code, OutOfMemory, Usn};
 use cf_clusters::Data;
-use cf_codec::Format;
 use cf_disk::Disk;
-use cf_journal::{Journal, JournalError, Opened, one_content};
+use cf_journal::{Journal, one_content};
 use cf_table::Row;
-use cf_volume_image::{Contents, ImageError, read_contents, spell_payload};
+use cf_volume_image::{Contents, spell_payload};
 use cf_volume_points::Stop;
 use std::alloc::Global;
 
-fn refused(why: JournalError) -> CallError
+fn refused(why: FindError) -> CallError
     ensures { result ≡ fail_of why }
 {
     match why {
-        JournalError::Failed => CallError::No(Code::Device),
-        JournalError::NotAVolume => CallError::No(Code::NotAVolume),
-        JournalError::Broken => CallError::No(Code::Broken),
-        JournalError::OutOfMemory => CallError::OutOfMemory,
-    }
-}
-
-// The contents that the opened journal tells.
-fn contents_of(alloc: Global, opened: &Opened, clusters: u32) -> Result<Contents, CallError>
-    ensures ok { IfOk result (λ c. IsContents opened.now.image opened.now.payloads clusters (image_of c)) }
-    ensures room { IfOk result (λ c. All HasRoom c.rows.rows) }
-    ensures none { result ≡ Err (fail.No code.NotAVolume) → (i : Image) → IsContents opened.now.image opened.now.payloads clusters i → ⊥ }
-    ensures only { IfErr result (λ e. (e ≡ fail.No code.NotAVolume) ⊎ (e ≡ fail.OutOfMemory)) }
-{
-    match read_contents(
-        alloc,
-        opened.image.as_slice(),
-        opened.payloads.as_slice(),
-        Format::Second,
-        clusters,
-    ) {
-        Ok(contents) => Ok(contents),
-        Err(ImageError::Image(_)) => Err(CallError::No(Code::NotAVolume)),
-        Err(ImageError::Payload(_, _)) => Err(CallError::No(Code::NotAVolume)),
-        Err(ImageError::Unsound) => Err(CallError::No(Code::NotAVolume)),
-        Err(ImageError::OutOfMemory) => Err(CallError::OutOfMemory),
+        FindError::Damaged(_damage) => CallError::No(Code::NotAVolume),
+        FindError::Device => CallError::No(Code::Device),
+        FindError::OutOfMemory => CallError::OutOfMemory,
     }
 }
 
@@ -98,7 +74,7 @@ fn clusters_held(alloc: Global, rows: &[Row]) -> Result<Vec<u32>, OutOfMemory>
 
 // The clusters, those of the rows held.
 fn data_of(alloc: Global, contents: &Contents, clusters: u32) -> Result<Data, OutOfMemory>
-    requires { IsSound clusters (image_of contents.now) }
+    requires { are_apart clusters (clusters_of (map row_value contents.now.rows.rows)) ≡ true }
     ensures { IfOk result (Opens clusters (clusters_of (map row_value contents.now.rows.rows))) }
 {
     let held = clusters_held(alloc, contents.rows.as_slice())?;
@@ -151,56 +127,37 @@ fn number_after(epoch: u32) -> Result<Usn, CallError>
     })
 }
 
-// How many clusters the disk has behind the journal's halves.
-pub(crate) fn clusters_of_disk<D: Disk>(disk: &D) -> u32
-    requires { IsFitSize (size_of (D.state disk.now)) }
-    ensures { result ≡ clusters_on (D.state disk.now).seen }
-{
-    ((disk.size() - 3_145_728) / 4096) as u32
-}
-
-// The parts of an opened journal, with the epoch raised in the contents and not yet on the disk.
-fn parts_of(alloc: Global, opened: Opened, clusters: u32) -> Result<Parts, CallError>
-    ensures journal { IfOk result (λ p. p.journal ≡ opened.journal) }
-    ensures image { IfOk result (λ p. (i : Image) × IsContents opened.image opened.payloads clusters i × (i.header.last.epoch < most) × (image_of p.contents ≡ raised_image i.header.last.epoch i)) }
-    ensures room { IfOk result (λ p. All HasRoom p.contents.rows.rows) }
+// The parts of an opened journal and of the contents that it tells, with the epoch raised in them and not yet on the disk.
+fn parts_of(
+    alloc: Global,
+    journal: Journal,
+    mut contents: Contents,
+    clusters: u32,
+) -> Result<Parts, CallError>
+    requires { are_apart clusters (clusters_of (map row_value contents.rows.rows)) ≡ true }
+    ensures journal { IfOk result (λ p. p.journal ≡ journal) }
+    ensures below { IfOk result (λ p. contents.last.epoch < most) }
+    ensures image { IfOk result (λ p. image_of p.contents ≡ raised_image contents.last.epoch (image_of contents)) }
+    ensures rows { IfOk result (λ p. p.contents.rows.rows ≡ contents.rows.rows) }
     ensures held { IfOk result (λ p. Opens clusters (clusters_of (map row_value p.contents.rows.rows)) p.held) }
-    ensures none { result ≡ Err (fail.No code.NotAVolume) → (i : Image) → IsContents opened.image opened.payloads clusters i → ⊥ }
-    ensures last { result ≡ Err (fail.No code.Exhausted) → (i : Image) × IsContents opened.image opened.payloads clusters i × (i.header.last.epoch ≡ most) }
-    ensures only { IfErr result (λ e. (e ≡ fail.No code.NotAVolume) ⊎ ((e ≡ fail.No code.Exhausted) ⊎ (e ≡ fail.OutOfMemory))) }
+    ensures last { result ≡ Err (fail.No code.Exhausted) → contents.last.epoch ≡ most }
+    ensures only { IfErr result (λ e. (e ≡ fail.No code.Exhausted) ⊎ (e ≡ fail.OutOfMemory)) }
 {
-    let mut contents = contents_of(alloc, &opened, clusters)?;
     let last = number_after(contents.last.epoch)?;
     let held = data_of(alloc, &contents, clusters)?;
     contents.last = last;
     Ok(Parts {
-        journal: opened.journal,
+        journal,
         held,
         contents,
     })
-}
-
-// Opens the journal, which only reads.
-fn open_journal<D: Disk>(alloc: Global, disk: &mut D) -> Result<Opened, CallError>
-    requires { IsFitSize (size_of (D.state disk.old)) }
-    ensures found { IfOk result (λ o. Settled o.journal (D.state disk.new) (record { image = o.image; payloads = o.payloads })) }
-    ensures none { result ≡ Err (fail.No code.NotAVolume) → (x : Content) → Stands (D.state disk.old).seen x → ⊥ }
-    ensures durable { OnOk result (Only (D.state disk.old).seen (D.state disk.new)) }
-    ensures reads { ReadsOnly (D.state disk.old) (D.state disk.new) }
-    ensures cause { result ≡ Err (fail.No code.Device) → capped ((D.state disk.old).faults + 1) ≤ (D.state disk.new).faults }
-    ensures only { IfErr result (λ e. (e ≡ fail.No code.NotAVolume) ⊎ ((e ≡ fail.No code.Device) ⊎ (e ≡ fail.OutOfMemory))) }
-{
-    match Journal::open(alloc, disk) {
-        Ok(opened) => Ok(opened),
-        Err(why) => Err(refused(why)),
-    }
 }
 
 // Finds what the disk holds, and only reads: the epoch is raised in the parts and not yet on the disk.
 fn find<D: Disk>(alloc: Global, disk: &mut D) -> Result<Parts, CallError>
     requires { IsFitSize (size_of (D.state disk.old)) }
     ensures found { IfOk result (λ p. (x : Content) × Finds (D.state disk.old) (D.state disk.new) x p) }
-    ensures none { result ≡ Err (fail.No code.NotAVolume) → (i : Image) → HoldsImage (D.state disk.old).seen i → ⊥ }
+    ensures none { result ≡ Err (fail.No code.NotAVolume) → IsNoVolume (D.state disk.old).seen }
     ensures last { result ≡ Err (fail.No code.Exhausted) → (i : Image) × HoldsImage (D.state disk.old).seen i × (i.header.last.epoch ≡ most) }
     ensures reads { ReadsOnly (D.state disk.old) (D.state disk.new) }
     ensures cause { result ≡ Err (fail.No code.Device) → capped ((D.state disk.old).faults + 1) ≤ (D.state disk.new).faults }
@@ -208,12 +165,14 @@ fn find<D: Disk>(alloc: Global, disk: &mut D) -> Result<Parts, CallError>
 {
     one_content();
     let clusters = clusters_of_disk(disk);
-    let opened = open_journal(alloc, disk)?;
-    parts_of(alloc, opened, clusters)
+    match read_volume(alloc, disk) {
+        Ok(volume) => parts_of(alloc, volume.0.journal, volume.1, clusters),
+        Err(why) => Err(refused(why)),
+    }
 }
 
-/// Opens the volume on the disk and raises its epoch by one, which is appended to the journal in 54 bytes, or else a whole
-/// image is written. NotAVolume exactly where the disk holds no image of a volume, and Exhausted exactly where it holds one of the
+/// Opens the volume on the disk, which may be of either format, and raises its epoch by one: that is appended to a journal
+/// of format 2 with room for it in 54 bytes, and else a whole image of format 2 is written into the other slot. NotAVolume exactly where the disk holds no image of a volume, and Exhausted exactly where it holds one of the
 /// last epoch; both before anything is written. Device where a call of the disk failed, whose count of faults rose. OutOfMemory
 /// where there is none.
 ///
@@ -224,7 +183,9 @@ pub fn load<D: Disk>(alloc: Global, disk: &mut D) -> Result<Parts, CallError>
     ensures ok { (e : ℕ) (log : List (Usn × Change)) (b : Book) → Standing e (D.state disk.old).seen log b
         → IfOk result (λ p. At (D.state disk.new) (known_of p) (opened (e + 1) log b (clusters_on (D.state disk.old).seen))) }
     ensures found { IfOk result (λ p. (i : Image) × HoldsImage (D.state disk.old).seen i × (i.header.last.epoch < most) × (image_of p.contents ≡ raised_image i.header.last.epoch i)) }
-    ensures absent { result ≡ Err (fail.No code.NotAVolume) → (i : Image) → HoldsImage (D.state disk.old).seen i → ⊥ }
+    ensures holds { IfOk result (λ p. HoldsSecond (D.state disk.new).seen (image_of p.contents)) }
+    ensures rest { OnOk result (clusters (D.state disk.new).seen ≡ clusters (D.state disk.old).seen) }
+    ensures absent { result ≡ Err (fail.No code.NotAVolume) → IsNoVolume (D.state disk.old).seen }
     ensures exhausted { result ≡ Err (fail.No code.Exhausted) → (i : Image) × HoldsImage (D.state disk.old).seen i × (i.header.last.epoch ≡ most) }
     ensures unwritten { (result ≡ Err (fail.No code.NotAVolume)) ⊎ (result ≡ Err (fail.No code.Exhausted)) → ReadsOnly (D.state disk.old) (D.state disk.new) }
     ensures none { result ≡ Err (fail.No code.NotAVolume) → (e : ℕ) (log : List (Usn × Change)) (b : Book) → Standing e (D.state disk.old).seen log b → ⊥ }

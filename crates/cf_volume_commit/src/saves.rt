@@ -7,7 +7,7 @@ ghost use Rattle.cf_clusters.specs.Roles.{committed};
 ghost use Rattle.cf_disk.specs.Disk.{size_of, Only, Leaves, Counts};
 ghost use Rattle.cf_volume_image.specs.Contents.{image_of};
 ghost use Rattle.cf_volume_image.specs.Spelled.{AreRecordsFrom};
-ghost use Rattle.cf_volume_image.specs.States.{Tells};
+ghost use Rattle.cf_volume_image.specs.States.{TellsIn};
 ghost use Rattle.cf_journal.specs.Content.{Content, clusters};
 ghost use Rattle.cf_journal.specs.Settled.{IsFitSize, Settled};
 ghost use Rattle.cf_model.specs.Formats.{Image, spell_image};
@@ -70,9 +70,9 @@ pub fn save<D: Disk>(
     requires size { IsFitSize (size_of (D.state disk.old)) }
     requires usable { journal.old.broken ≡ false }
     requires written { CanBeWritten contents.now }
-    ensures saved { (x : Content) (image : Image) → Settled journal.old (D.state disk.old) x → Tells x.image x.payloads image → IsThen then.now contents.now image → HaveStoredPins contents.now.rows.rows
+    ensures saved { (x : Content) (image : Image) → Settled journal.old (D.state disk.old) x → TellsIn x.format x.image x.payloads image → IsThen then.now contents.now image → HaveStoredPins contents.now.rows.rows
         → OnOk result (Saved journal.new (D.state disk.new) (image_of contents.now)) }
-    ensures crash { (x : Content) (image : Image) → Settled journal.old (D.state disk.old) x → Tells x.image x.payloads image → IsThen then.now contents.now image → HaveStoredPins contents.now.rows.rows
+    ensures crash { (x : Content) (image : Image) → Settled journal.old (D.state disk.old) x → TellsIn x.format x.image x.payloads image → IsThen then.now contents.now image → HaveStoredPins contents.now.rows.rows
         → Leaves (D.state disk.old) (D.state disk.new) (IsSaving (D.state disk.old) x (image_of contents.now)) }
     ensures held { OnOk result (held.new ≡ map committed held.old) }
     ensures held_still { OnErr result (held.new ≡ held.old) }

@@ -13,10 +13,12 @@ use Rattle.cf_base.specs.declared.ids.Usn.{Usn}
 use Rattle.cf_clusters.specs.Roles.{IsCommitted, committed, is_now, use_of}
 use Rattle.cf_clusters.specs.declared.uses.Use.{Use}
 use Rattle.cf_clusters.specs.declared.uses.Use.TheVariants.{Free, Held, Staged, Dropped}
+use Rattle.cf_codec.specs.declared.formats.Format.{Format}
+use Rattle.cf_codec.specs.declared.formats.Format.TheVariants.{Second}
 use Rattle.cf_disk.specs.Disk.{Only, State, part, size_of}
 use Rattle.cf_volume_image.specs.Sound.{IsSound}
 use Rattle.cf_volume_image.specs.Spelled.{AreRecordsFrom}
-use Rattle.cf_volume_image.specs.States.{Tells}
+use Rattle.cf_volume_image.specs.States.{IsContentsIn, Tells}
 use Rattle.cf_journal.specs.Content.{Content, clusters}
 use Rattle.cf_journal.specs.Settled.{Settled}
 use Rattle.cf_journal.specs.declared.journals.Journal.{Journal}
@@ -25,7 +27,7 @@ use Rattle.cf_model.specs.Blocks.{blocks_used}
 use Rattle.cf_model.specs.Books.{Book}
 use Rattle.cf_model.specs.Given.{AllBelow}
 use Rattle.cf_model.specs.Numbers.{above}
-use Rattle.cf_model.specs.Formats.{Header, spell_image, spell_record}
+use Rattle.cf_model.specs.Formats.{Header, Image, spell_image, spell_record}
 use Rattle.cf_model.specs.Images.{aux_len}
 use Rattle.cf_model.specs.Items.{Item, item_of}
 use Rattle.cf_model.specs.Logs.{items_of}
@@ -207,6 +209,10 @@ below_next h rows id sound = by (ltb id.0 h.next.0) refl
     by true e = refl
     by false e = sym (none rows sound (ltb-false id.0 h.next.0 e))
 
+-- what a content of format 2 tells
+pub in_second : (y : Content) (clusters : ℕ) (i : Image) → y.format ≡ Second → Tells y.image y.payloads i → IsSound clusters i → IsContentsIn y.format y.image y.payloads clusters i
+in_second y clusters i second told sound = subst (λ (f : Format). IsContentsIn f y.image y.payloads clusters i) (sym second) (record { told = told; sound = sound })
+
 -- the volume with its last point at what it is now
 abbrev pub with_points_now : Point → List Point → Volume → Volume
 with_points_now p ps v = record v { points = p ∷ ps; items_then = v.items; put_since = 0 }
@@ -215,8 +221,8 @@ module _ (old new : State) (j : Journal) (k : Known) (v : Volume) (p : Point) (p
   whole_log : take p.count v.log ≡ v.log
   whole_log = take_all p.count v.log (omega (arith, count_is))
 
-  pub commit_at : (y : Content) → Settled j new y → Tells y.image y.payloads (image_now k) → AreRecordsFrom None k.records → size_of new ≡ size_of old → Only new.seen new → clusters new.seen ≡ clusters old.seen → At new (committed_known j k) (with_points_now p ps v)
-  commit_at y settled tells keys size only rest = record {
+  pub commit_at : (y : Content) → Settled j new y → y.format ≡ Second → Tells y.image y.payloads (image_now k) → AreRecordsFrom None k.records → size_of new ≡ size_of old → Only new.seen new → clusters new.seen ≡ clusters old.seen → At new (committed_known j k) (with_points_now p ps v)
+  commit_at y settled second tells keys size only rest = record {
     last = record {
       point = p;
       earlier = ps;
@@ -227,7 +233,7 @@ module _ (old new : State) (j : Journal) (k : Known) (v : Volume) (p : Point) (p
       kept = record {
         content = y;
         settled = settled;
-        told = record { told = tells; sound = subst (λ (n : ℕ). IsSound n (image_now k)) (sym (length-map k.uses committed)) fit };
+        told = in_second y (length (map committed k.uses)) (image_now k) second tells (subst (λ (n : ℕ). IsSound n (image_now k)) (sym (length-map k.uses committed)) fit);
         epoch_is = holds.epoch;
         clusters = same_count;
         stands = λ c left. at_image c (only c left);

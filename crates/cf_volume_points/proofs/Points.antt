@@ -17,7 +17,7 @@ use Rattle.cf_model.specs.Formats.{Image}
 use Rattle.cf_model.specs.Standing.{Stands, clusters_of}
 use Rattle.cf_volume_points.specs.At.{Kept}
 use Rattle.cf_volume_points.specs.Clusters.{HoldsCommitted}
-use Rattle.cf_volume_image.specs.States.{IsContents}
+use Rattle.cf_volume_image.specs.States.{IsContentsIn}
 use Rattle.cf_volume_points.specs.Standing.{Standing, cluster_on, clusters_on}
 use Rattle.cf_volume_points.proofs.Frames.{SameIn, stands_frame}
 
@@ -45,7 +45,7 @@ kept_stands {image} s j uses epoch log b fair kept c left = record {
   content = kept.content;
   image = image;
   holds = (j.side, j.generation, settled_image j s kept.content kept.settled c left (fair.same_size c left));
-  told = subst (λ (n : ℕ). IsContents kept.content.image kept.content.payloads n image) (kept.clusters ∙ same_clusters s.seen c (sym (fair.same_size c left))) kept.told;
+  told = subst (λ (n : ℕ). IsContentsIn kept.content.format kept.content.image kept.content.payloads n image) (kept.clusters ∙ same_clusters s.seen c (sym (fair.same_size c left))) kept.told;
   epoch_is = kept.epoch_is;
   stands = on_image (length uses) c image log b (kept.clusters ∙ same_clusters s.seen c (sym (fair.same_size c left))) (kept.stands c left);
   book = kept.book;
@@ -67,7 +67,7 @@ module _ {image : Image} (old new : State) (j : Journal) (uses : List Use) (epoc
         content = kept.content;
         image = image;
         holds = (j.side, j.generation, area_stands j.side j.generation kept.content old.seen c size (h.2.halves ∙ kept.settled.ready.durable h.0 h.1) kept.settled.ready.stands);
-        told = subst (λ (n : ℕ). IsContents kept.content.image kept.content.payloads n image) (kept.clusters ∙ same_clusters old.seen c (sym size)) kept.told;
+        told = subst (λ (n : ℕ). IsContentsIn kept.content.format kept.content.image kept.content.payloads n image) (kept.clusters ∙ same_clusters old.seen c (sym size)) kept.told;
         epoch_is = kept.epoch_is;
         stands = on_image (length uses) c image log b (kept.clusters ∙ same_clusters old.seen c (sym size)) (still_means c h);
         book = kept.book;
@@ -83,7 +83,7 @@ module _ {image : Image} (old new : State) (j : Journal) (uses : List Use) (epoc
   kept_staged uses' long stays size halves leaves = record {
     content = kept.content;
     settled = still_settled j old new kept.content kept.settled size halves (λ c left. let was = leaves.now c left in (was.0, was.1, was.2.halves));
-    told = subst (λ (n : ℕ). IsContents kept.content.image kept.content.payloads n image) (sym long) kept.told;
+    told = subst (λ (n : ℕ). IsContentsIn kept.content.format kept.content.image kept.content.payloads n image) (sym long) kept.told;
     epoch_is = kept.epoch_is;
     clusters = long ∙ kept.clusters ∙ same_clusters old.seen new.seen (sym size);
     stands = λ c left. subst (λ (n : ℕ). Stands n (cluster_on c) image log b) (sym long) (still_means c (leaves.now c left));

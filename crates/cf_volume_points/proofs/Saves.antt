@@ -5,6 +5,7 @@ use Rattle.std.proofs.lemmas.List.{length-drop}
 use Rattle.cf_base.specs.declared.changes.Change.{Change}
 use Rattle.cf_base.specs.declared.ids.Usn.{Usn}
 use Rattle.cf_clusters.specs.declared.uses.Use.{Use}
+use Rattle.cf_codec.specs.declared.formats.Format.TheVariants.{Second}
 use Rattle.cf_disk.specs.Disk.{Leaves, Only, State, size_of}
 use Rattle.cf_disk.specs.Leaving.{leaves_weaker}
 use Rattle.cf_journal.specs.Content.{clusters}
@@ -23,12 +24,12 @@ use Rattle.cf_volume_points.specs.Known.{Known}
 use Rattle.cf_volume_points.specs.Saving.{IsSaving, Saved}
 use Rattle.cf_volume_points.specs.Sound.{IsKeepable, Sound, image_now}
 use Rattle.cf_volume_points.specs.Standing.{IsBookOf, Standing, cluster_on, clusters_on}
-use Rattle.cf_volume_points.proofs.Commits.{commit_at, committed_known, log_now, now_sound, now_stands}
+use Rattle.cf_volume_points.proofs.Commits.{commit_at, committed_known, in_second, log_now, now_sound, now_stands}
 use Rattle.cf_volume_points.proofs.Frames.{same_all, stands_frame}
 use Rattle.cf_volume_points.proofs.Points.{Fair, kept_stands, stage_stands}
 use Rattle.cf_volume_image.specs.Sound.{IsSound}
 use Rattle.cf_volume_image.specs.Spelled.{AreRecordsFrom}
-use Rattle.cf_volume_image.specs.States.{IsContents, Tells}
+use Rattle.cf_volume_image.specs.States.{IsContentsIn, Tells}
 use Rattle.cf_journal.specs.Content.{Content}
 use Rattle.cf_table.specs.Spelling.{row_value}
 use Rattle.cf_clusters.specs.Area.{KeepsWhere}
@@ -50,7 +51,7 @@ module _ {image : Image} (old : State) (j : Journal) (uses : List Use) (epoch : 
     content = kept.content;
     image = image;
     holds = h.0;
-    told = subst (λ (n : ℕ). IsContents kept.content.image kept.content.payloads n image) (number_on h.1.0 h.1.1 ∙ sym (same_number c h.1.0 h.1.2)) kept.told;
+    told = subst (λ (n : ℕ). IsContentsIn kept.content.format kept.content.image kept.content.payloads n image) (number_on h.1.0 h.1.1 ∙ sym (same_number c h.1.0 h.1.2)) kept.told;
     epoch_is = kept.epoch_is;
     stands = subst (λ (n : ℕ). Stands n (cluster_on c) image log b) (number_on h.1.0 h.1.1 ∙ sym (same_number c h.1.0 h.1.2))
         (stands_frame (length uses) (cluster_on h.1.0) (cluster_on c) image log b (same_all h.1.0 c h.1.2 (clusters_of image.rows)) (kept.stands h.1.0 h.1.1));
@@ -59,15 +60,15 @@ module _ {image : Image} (old : State) (j : Journal) (uses : List Use) (epoch : 
   }
 
 -- the content of the state now, as it reads
-pub after_stands : (old : State) (k : Known) (v : Volume) → Sound (size_of old) k → IsSound (length k.uses) (image_now k) → Holds old k v → (c : List ℕ) → ((y : Content) × journal.Stands c y × Tells y.image y.payloads (image_now k) × (clusters c ≡ clusters old.seen)) → Standing v.epoch c v.log v.book
+pub after_stands : (old : State) (k : Known) (v : Volume) → Sound (size_of old) k → IsSound (length k.uses) (image_now k) → Holds old k v → (c : List ℕ) → ((y : Content) × journal.Stands c y × (y.format ≡ Second) × Tells y.image y.payloads (image_now k) × (clusters c ≡ clusters old.seen)) → Standing v.epoch c v.log v.book
 after_stands old k v sound fit holds c h = record {
   content = h.0;
   image = image_now k;
   holds = h.1;
-  told = record { told = h.2; sound = subst (λ (n : ℕ). IsSound n (image_now k)) (sound.clusters ∙ sym (same_number c old.seen h.3)) fit };
+  told = in_second h.0 (clusters_on c) (image_now k) h.2 h.3 (subst (λ (n : ℕ). IsSound n (image_now k)) (sound.clusters ∙ sym (same_number c old.seen h.4)) fit);
   epoch_is = holds.epoch;
-  stands = subst (λ (n : ℕ). Stands n (cluster_on c) (image_now k) v.log v.book) (sound.clusters ∙ sym (same_number c old.seen h.3))
-      (stands_frame (length k.uses) (cluster_on old.seen) (cluster_on c) (image_now k) v.log v.book (same_all old.seen c h.3 (clusters_of (map row_value k.table.rows))) (now_stands old k v sound fit.rows holds));
+  stands = subst (λ (n : ℕ). Stands n (cluster_on c) (image_now k) v.log v.book) (sound.clusters ∙ sym (same_number c old.seen h.4))
+      (stands_frame (length k.uses) (cluster_on old.seen) (cluster_on c) (image_now k) v.log v.book (same_all old.seen c h.4 (clusters_of (map row_value k.table.rows))) (now_stands old k v sound fit.rows holds));
   book = subst (λ (l : List Item). IsBookOf l v.book) holds.of_log.0 holds.book;
   given = log_now old k v holds;
 }
@@ -106,7 +107,7 @@ module _ (old new : State) (k : Known) (v : Volume) (fair : Fair old) (at : At o
 
   module _ (j : Journal) (sound : Sound (size_of old) k) (fit : IsKeepable v) (saved : Saved j new (image_now k)) (keys : AreRecordsFrom None k.records) (size : size_of new ≡ size_of old) (only : Only new.seen new) (rest : clusters new.seen ≡ clusters old.seen) where
     pub sure_at : At new (committed_known j k) (with_sure_point v)
-    sure_at = commit_at old new j k v (point_now true v) [] sound (now_sound old k v sound fit at.now) at.now refl refl saved.0 saved.1 saved.2 keys size only rest
+    sure_at = commit_at old new j k v (point_now true v) [] sound (now_sound old k v sound fit at.now) at.now refl refl saved.0 saved.1 saved.2 saved.3 keys size only rest
 
     pub room_at : At new (committed_known j k) (with_room_point v)
-    room_at = commit_at old new j k v (point_now false v) v.points sound (now_sound old k v sound fit at.now) at.now refl refl saved.0 saved.1 saved.2 keys size only rest
+    room_at = commit_at old new j k v (point_now false v) v.points sound (now_sound old k v sound fit at.now) at.now refl refl saved.0 saved.1 saved.2 saved.3 keys size only rest

@@ -6,7 +6,7 @@ use Rattle.cf_base.specs.declared.ids.Usn.{Usn}
 use Rattle.cf_clusters.specs.declared.uses.Use.{Use}
 use Rattle.cf_disk.specs.Disk.{State}
 use Rattle.cf_volume_image.specs.Spelled.{AreRecordsFrom}
-use Rattle.cf_volume_image.specs.States.{IsContents}
+use Rattle.cf_volume_image.specs.States.{IsContentsIn}
 use Rattle.cf_journal.specs.declared.journals.Journal.{Journal}
 use Rattle.cf_journal.specs.Content.{Content}
 use Rattle.cf_journal.specs.Settled.{Settled}
@@ -30,7 +30,7 @@ use Rattle.cf_table.specs.Tables.{row_of}
 pub record Kept (s : State) (j : Journal) (uses : List Use) (epoch : ℕ) (log : List (Usn × Change)) (b : Book) (image : Image) : Type 0 where
   pub content : Content
   pub settled : Settled j s content
-  pub told : IsContents content.image content.payloads (length uses) image
+  pub told : IsContentsIn content.format content.image content.payloads (length uses) image
   pub epoch_is : image.header.last.epoch ≡ epoch
   pub clusters : length uses ≡ clusters_on s.seen
   pub stands : (c : List ℕ) → s.may_leave c → Stands (length uses) (cluster_on c) image log b

@@ -5,7 +5,7 @@ use Rattle.cf_base.specs.declared.ids.ItemId.{ItemId}
 use Rattle.cf_base.specs.declared.ids.Usn.{Usn}
 use Rattle.cf_clusters.specs.Area.{place}
 use Rattle.cf_disk.specs.Disk.{part}
-use Rattle.cf_volume_image.specs.States.{IsContents}
+use Rattle.cf_volume_image.specs.States.{IsContentsIn}
 use Rattle.cf_journal.specs.Content.{Content}
 use Rattle.cf_journal.specs.Content as journal
 use Rattle.cf_model.specs.Books.{Book, access_of, anchor_of}
@@ -40,12 +40,12 @@ pub record IsLogOf (epoch : ℕ) (log : List (Usn × Change)) : Type 0 where
   pub whole : AreWhole (items_of log)
 
 -- The disk stands for the changes of the log and the book, in this epoch: the journal's content tells an image, which is
--- sound, and stands for them with the clusters.
+-- sound in the content's format, and stands for them with the clusters.
 pub record Standing (epoch : ℕ) (disk : List ℕ) (log : List (Usn × Change)) (b : Book) : Type 0 where
   pub content : Content
   pub image : Image
   pub holds : journal.Stands disk content
-  pub told : IsContents content.image content.payloads (clusters_on disk) image
+  pub told : IsContentsIn content.format content.image content.payloads (clusters_on disk) image
   pub epoch_is : image.header.last.epoch ≡ epoch
   pub stands : Stands (clusters_on disk) (cluster_on disk) image log b
   pub book : IsBookOf (items_of log) b

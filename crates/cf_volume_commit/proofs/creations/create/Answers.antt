@@ -43,5 +43,5 @@ returns-clause-counts g c =
     let text = first_text c.as_slice.result.now (image_of c.in_ok-contents.contents) (c.as_slice.ensures ∙ c.in_ok-image.ensures) c.in_ok-contents.ensures.image in
     counts_both (Ok c.raise.new.parts) (g.D.Disk.state c.args.disk.now) (g.D.Disk.state c.format.new.disk) (g.D.Disk.state c.raise.new.disk) (length c.as_slice.result.now)
     (bytes_written c.in_ok-journal.journal (Some (spell_payload (payload_of p.contents [] [] [] []))) (spell_image (image_of p.contents))) (text_length c.as_slice.result.now text)
-    (first_bytes c.in_ok-journal.journal p.contents (spell_image (image_of p.contents)) c.in_ok-journal.ensures.ok.end) c.in_ok-journal.ensures.counts.exact c.in_ok-journal.ensures.counts.least c.in_ok-journal.ensures.counts.most
+    (first_bytes c.in_ok-journal.journal p.contents (spell_image (image_of p.contents)) c.in_ok-journal.ensures.ok.format c.in_ok-journal.ensures.ok.end) c.in_ok-journal.ensures.counts.exact c.in_ok-journal.ensures.counts.least c.in_ok-journal.ensures.counts.most
     c.in_ok-raise.ensures.counts.exact c.in_ok-raise.ensures.counts.least c.in_ok-raise.ensures.counts.most

@@ -1,13 +1,14 @@
-use Rattle.std.proofs.Common.{◌≡◌, inl, ap, arith, subst, sym}
+use Rattle.std.proofs.Common.{◌≡◌, ◌∙◌, inl, ap, arith, subst, sym}
 use Rattle.std.specs.Prelude.{Err, Ok}
 use Rattle.cf_base.specs.declared.codes.Code.TheVariants as code
 use Rattle.cf_base.specs.declared.codes.CallError.TheVariants as fail
 use Rattle.cf_volume_commit.proofs.FoundParts.{image_there, last_epoch}
 use Rattle.cf_volume_commit.proofs.LaterNumbers.{raised_later}
-use Rattle.cf_volume_commit.proofs.OpenedAgain.{below_most, found_can, found_image, found_stands, opening_at, opening_leaves, opening_sound}
+use Rattle.cf_volume_commit.proofs.OpenedAgain.{below_most, found_can, found_image, found_stands, opening_at, opening_holds, opening_leaves, opening_sound}
 use Rattle.cf_volume_commit.proofs.Refusals.{error_is, not_ok}
 use Rattle.cf_volume_commit.specs.Loaded.{StandsOrWas}
 use Rattle.cf_disk.specs.Leaving.{leaves_weaker}
+use Rattle.cf_journal.specs.Content.{clusters}
 use Rattle.cf_volume_image.specs.declared.contents.Contents.{Contents}
 use Rattle.cf_model.specs.Numbers.{usn_after}
 use Rattle.cf_table.specs.Changing.{IsNext}
@@ -106,3 +107,17 @@ returns-clause-at_most g c =
     let f = c.in_ok-parts.ensures.found in
     opening_most (g.D.Disk.state c.args.disk.now) (g.D.Disk.state c.find.new.disk) (g.D.Disk.state c.raise.new.disk) c.in_ok-parts.parts.journal c.in_ok-parts.parts.contents
     (found_can (g.D.Disk.state c.args.disk.now) (g.D.Disk.state c.find.new.disk) f.0 c.in_ok-parts.parts f.1 c.requires) c.find.ensures.reads.written c.raise.ensures.counts.most
+
+pub returns-in-Ok-clause-holds : goal.returns-in-Ok-clause-holds
+returns-in-Ok-clause-holds g c =
+    let f = c.in_ok-parts.ensures.found in
+    opening_holds (g.D.Disk.state c.args.disk.now) (g.D.Disk.state c.find.new.disk) f.0 c.in_ok-parts.parts f.1 c.requires c.raise.new.parts (g.D.Disk.state c.raise.new.disk) c.raise.ensures.contents
+    (c.in-Ok.ensures.saved f.0 f.1.image (found_stands (g.D.Disk.state c.args.disk.now) (g.D.Disk.state c.find.new.disk) f.0 c.in_ok-parts.parts f.1 c.requires)) c.raise.ensures.same_size
+
+pub returns-in-Ok-clause-rest : goal.returns-in-Ok-clause-rest
+returns-in-Ok-clause-rest g c = c.in-Ok.ensures.rest ∙ ap clusters c.find.ensures.reads.keeps.seen
+
+pub raise-requires-clause-written : goal.raise-requires-clause-written
+raise-requires-clause-written g c =
+    let f = c.in_ok-parts.ensures.found in
+    found_can (g.D.Disk.state c.args.disk.now) (g.D.Disk.state c.find.new.disk) f.0 c.in_ok-parts.parts f.1 c.requires

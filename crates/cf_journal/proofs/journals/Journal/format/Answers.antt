@@ -13,6 +13,7 @@ returns-clause-ok g c = record {
   ready = formatted (g.D.Disk.state c.close_both.new.disk) (g.D.Disk.state c.install.new.disk) c.args.image.now
       (subst (λ (k : ℕ). get_or (g.D.Disk.state c.close_both.new.disk).seen k 0 ≡ 0) c.base_of-2.ensures c.in_ok-close_both.ensures.gates.1)
       (subst (λ (n : ℕ). IsFitSize n) (sym c.close_both.ensures.same_size) c.requires.size) c.in_ok-install.ensures.installed c.in_ok-install.ensures.durable;
+  format = refl;
   end = refl;
 }
 

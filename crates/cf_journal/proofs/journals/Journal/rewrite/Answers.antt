@@ -7,6 +7,7 @@ pub returns-clause-ok : goal.returns-clause-ok
 returns-clause-ok g c = λ x settled. record {
   usable = refl;
   ready = installed_ready (g.D.Disk.state c.args.disk.now) (g.D.Disk.state c.install.new.disk) c.args.self.now.side c.other_of-self.result c.args.self.now.generation c.generation_after-generation.result x c.args.image.now settled.ready c.generation_after-generation.ensures c.other_of-self.ensures c.in_ok-install.ensures.installed c.in_ok-install.ensures.durable;
+  format = refl;
   end = refl;
 }
 

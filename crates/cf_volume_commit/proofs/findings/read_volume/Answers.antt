@@ -1,0 +1,6 @@
+use Rattle.cf_volume_commit.proofs.FoundParts.{found_cause}
+use Rattle.cf_volume_commit.proofs.findings.read_volume.Goals as goal
+
+pub returns-in-Err-clause-cause : goal.returns-in-Err-clause-cause
+returns-in-Err-clause-cause g c =
+    found_cause c.one_content.ensures (g.D.Disk.state c.args.disk.now) (g.D.Disk.state c.journal_of.new.disk) c.in_ok-found.found c.clusters_of_disk-clusters.result c.in-Err.error c.in_ok-found.ensures.found c.clusters_of_disk-clusters.ensures c.in-Err.ensures.cause
