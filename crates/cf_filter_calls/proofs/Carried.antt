@@ -26,7 +26,6 @@ use Rattle.cf_model.specs.Requests.{Waiting, is_busy_beside}
 use Rattle.cf_model.specs.State.{Filter}
 use Rattle.cf_model.specs.Trees.{Does}
 use Rattle.cf_model.specs.Waits.{on_ok}
-use Rattle.cf_model.specs.Words.{part}
 use Rattle.cf_item_rules.specs.PlaceholderPlans.{IsPlan}
 use Rattle.cf_waits.specs.Told.{is_busy}
 use Rattle.cf_filter_steps.specs.Answering.{After, Answers, Any, IsAt, Reads, Sense}
@@ -37,6 +36,7 @@ use Rattle.cf_filter_steps.specs.Suiting.{Suiting}
 use Rattle.cf_filter_steps.specs.Making.{Made}
 use Rattle.cf_filter_steps.proofs.Laws.{no_memory, reads_on, returned}
 use Rattle.cf_filter_steps.proofs.MakingRoom.{made_on}
+use Rattle.cf_filter_steps.proofs.RowReads.{row_read}
 use Rattle.cf_table.specs.Means.{Means}
 use Rattle.cf_table.specs.Tables.{MeansAll, Table, row_of}
 use Rattle.cf_table.specs.declared.rows.Row.{Row}
@@ -147,65 +147,35 @@ updates_by S x id used policy identity size r reads pol s i h at p =
 
 -- what an item's row says
 
-pub both_item : (r : Row) (o : Option Item) → BothMean (Some r) o → (i : Item) × (o ≡ Some i) × Means r i
-both_item r None h = absurd h
-both_item r (Some i) h = (i, refl, h)
-
-pub no_item : (o : Option Item) → BothMean None o → o ≡ None
-no_item None h = refl
-no_item (Some i) h = absurd h
-
 pub number_some : {X : Type 0} (S : Sense X) (x : X) (t : Table) (id : ItemId) (row : Row) → HasRows S x t → row_of t.rows id ≡ Some row → Reads S Any (number_at id) x row.number
-number_some S x t id row rows e = record {
-  is = λ s h p.
-      let b = both_item row (item_of s.volume.items id) (subst (λ (o : Option Row). BothMean o (item_of s.volume.items id)) e (rows_by_id t.rows s.volume.items id (rows.rows s h))) in
-      b.2.number ∙ sym (ap (λ (o : Option Item). part (λ i. i.number) no_usn o) b.1);
-}
+number_some S x t id row rows e = row_read S x t id rows (λ r. r.number) (λ i. i.number) no_usn (λ r i m. m.number) (Some row) row.number e refl
 
 pub number_none : {X : Type 0} (S : Sense X) (x : X) (t : Table) (id : ItemId) → HasRows S x t → row_of t.rows id ≡ None → Reads S Any (number_at id) x no_usn
-number_none S x t id rows e = record {
-  is = λ s h p.
-      sym (ap (λ (o : Option Item). part (λ i. i.number) no_usn o) (no_item (item_of s.volume.items id) (subst (λ (o : Option Row). BothMean o (item_of s.volume.items id)) e (rows_by_id t.rows s.volume.items id (rows.rows s h)))));
-}
+number_none S x t id rows e = row_read S x t id rows (λ r. r.number) (λ i. i.number) no_usn (λ r i m. m.number) None no_usn e refl
 
 pub size_some : {X : Type 0} (S : Sense X) (x : X) (t : Table) (id : ItemId) (row : Row) → HasRows S x t → row_of t.rows id ≡ Some row → Reads S Any (size_at id) x row.size
-size_some S x t id row rows e = record {
-  is = λ s h p.
-      let b = both_item row (item_of s.volume.items id) (subst (λ (o : Option Row). BothMean o (item_of s.volume.items id)) e (rows_by_id t.rows s.volume.items id (rows.rows s h))) in
-      b.2.bytes.size ∙ sym (ap (λ (o : Option Item). part size_of 0 o) b.1);
-}
+size_some S x t id row rows e = row_read S x t id rows (λ r. r.size) size_of 0 (λ r i m. m.bytes.size) (Some row) row.size e refl
 
 pub size_none : {X : Type 0} (S : Sense X) (x : X) (t : Table) (id : ItemId) → HasRows S x t → row_of t.rows id ≡ None → Reads S Any (size_at id) x 0
-size_none S x t id rows e = record {
-  is = λ s h p.
-      sym (ap (λ (o : Option Item). part size_of 0 o) (no_item (item_of s.volume.items id) (subst (λ (o : Option Row). BothMean o (item_of s.volume.items id)) e (rows_by_id t.rows s.volume.items id (rows.rows s h)))));
-}
+size_none S x t id rows e = row_read S x t id rows (λ r. r.size) size_of 0 (λ r i m. m.bytes.size) None 0 e refl
+
+base_same : (r : Row) (i : Item) → Means r i → unwrap_or r.base 0 ≡ base_of i
+base_same r i m = ap (λ (b : Option ℕ). unwrap_or b 0) m.base
 
 pub base_some : {X : Type 0} (S : Sense X) (x : X) (t : Table) (id : ItemId) (row : Row) (n : ℕ) → HasRows S x t → row_of t.rows id ≡ Some row → n ≡ unwrap_or row.base 0 → Reads S Any (base_at id) x n
-base_some S x t id row n rows e q = record {
-  is = λ s h p.
-      let m = both_item row (item_of s.volume.items id) (subst (λ (o : Option Row). BothMean o (item_of s.volume.items id)) e (rows_by_id t.rows s.volume.items id (rows.rows s h))) in
-      q ∙ ap (λ (b : Option ℕ). unwrap_or b 0) m.2.base ∙ sym (ap (λ (o : Option Item). part base_of 0 o) m.1);
-}
+base_some S x t id row n rows e q = row_read S x t id rows (λ r. unwrap_or r.base 0) base_of 0 base_same (Some row) n e q
 
 pub base_none : {X : Type 0} (S : Sense X) (x : X) (t : Table) (id : ItemId) → HasRows S x t → row_of t.rows id ≡ None → Reads S Any (base_at id) x 0
-base_none S x t id rows e = record {
-  is = λ s h p.
-      sym (ap (λ (o : Option Item). part base_of 0 o) (no_item (item_of s.volume.items id) (subst (λ (o : Option Row). BothMean o (item_of s.volume.items id)) e (rows_by_id t.rows s.volume.items id (rows.rows s h)))));
-}
+base_none S x t id rows e = row_read S x t id rows (λ r. unwrap_or r.base 0) base_of 0 base_same None 0 e refl
+
+unlisted_same : (r : Row) (i : Item) → Means r i → (r.dir && not r.populated) ≡ is_unlisted i
+unlisted_same r i m = λ j. m.directory j && not (m.populated j)
 
 pub unlisted_some : {X : Type 0} (S : Sense X) (x : X) (t : Table) (id : ItemId) (row : Row) (b : Bool) → HasRows S x t → row_of t.rows id ≡ Some row → b ≡ (row.dir && not row.populated) → Reads S Any (is_unlisted_at id) x b
-unlisted_some S x t id row b rows e q = record {
-  is = λ s h p.
-      let m = both_item row (item_of s.volume.items id) (subst (λ (o : Option Row). BothMean o (item_of s.volume.items id)) e (rows_by_id t.rows s.volume.items id (rows.rows s h))) in
-      q ∙ (λ j. m.2.directory j && not (m.2.populated j)) ∙ sym (ap (λ (o : Option Item). part is_unlisted false o) m.1);
-}
+unlisted_some S x t id row b rows e q = row_read S x t id rows (λ r. r.dir && not r.populated) is_unlisted false unlisted_same (Some row) b e q
 
 pub unlisted_none : {X : Type 0} (S : Sense X) (x : X) (t : Table) (id : ItemId) → HasRows S x t → row_of t.rows id ≡ None → Reads S Any (is_unlisted_at id) x false
-unlisted_none S x t id rows e = record {
-  is = λ s h p.
-      sym (ap (λ (o : Option Item). part is_unlisted false o) (no_item (item_of s.volume.items id) (subst (λ (o : Option Row). BothMean o (item_of s.volume.items id)) e (rows_by_id t.rows s.volume.items id (rows.rows s h)))));
-}
+unlisted_none S x t id rows e = row_read S x t id rows (λ r. r.dir && not r.populated) is_unlisted false unlisted_same None false e refl
 
 -- use
 

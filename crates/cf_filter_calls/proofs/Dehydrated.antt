@@ -45,12 +45,11 @@ use Rattle.cf_filter_steps.specs.Readings.{policy_of}
 use Rattle.cf_filter_steps.specs.Suiting.{Ready}
 use Rattle.cf_filter_steps.proofs.LookUps.{of_found}
 use Rattle.cf_filter_steps.proofs.Laws.{returned, stops_first, then_on}
+use Rattle.cf_filter_steps.proofs.RowReads.{row_gone, row_there}
 use Rattle.cf_table.specs.Means.{Means}
 use Rattle.cf_table.specs.Tables.{Table, row_of}
 use Rattle.cf_table.specs.declared.rows.Row.{Row}
-use Rattle.cf_tree.proofs.Alike.{BothMean, rows_by_id}
 use Rattle.cf_tree.proofs.Walks.{own_id}
-use Rattle.cf_filter_calls.proofs.Carried.{both_item, no_item}
 use Rattle.cf_filter_calls.proofs.EndEmptied.{EndsSynced, empty_room}
 use Rattle.cf_filter_calls.proofs.Suited.{first_none, needs_at, not_false, small_at}
 
@@ -136,15 +135,14 @@ pub judged : {X : Type 0} (S : Sense X) (x : X) (t : Table) (id : ItemId) (row :
     → f.start ≡ start → f.len ≡ len → f.in_use ≡ used → Reads S Any (verdict_there id start len used) x o
 judged S x t id row f p start len used o rows e policy model tells a b d = record {
   is = λ s h u.
-      let m = both_item row (item_of s.volume.items id) (subst (λ (q : Option Row). BothMean q (item_of s.volume.items id)) e (rows_by_id t.rows s.volume.items id (rows.rows s h))) in
+      let m = row_there t.rows s.volume.items id row (rows.rows s h) e in
       model p m.0 (tells m.0 m.2) ∙ (λ j. verdict (policy.is s h u j) m.0 (a j) (b j) (d j)) ∙ sym (ap (λ (q : Option Item). part (λ (i : Item). verdict s.policy i start len used) None q) m.1);
 }
 
 pub judged_none : {X : Type 0} (S : Sense X) (x : X) (t : Table) (id : ItemId) (start len : ℕ) (used : Bool) → HasRows S x t → row_of t.rows id ≡ None → Reads S Any (verdict_there id start len used) x None
 judged_none S x t id start len used rows e = record {
   is = λ s h u.
-      sym (ap (λ (q : Option Item). part (λ (i : Item). verdict s.policy i start len used) None q)
-      (no_item (item_of s.volume.items id) (subst (λ (q : Option Row). BothMean q (item_of s.volume.items id)) e (rows_by_id t.rows s.volume.items id (rows.rows s h)))));
+      sym (ap (λ (q : Option Item). part (λ (i : Item). verdict s.policy i start len used) None q) (row_gone t.rows s.volume.items id (rows.rows s h) e));
 }
 
 -- of an item that is there

@@ -35,8 +35,7 @@ use Rattle.cf_filter_steps.proofs.Laws.{any_on, reads_on, returned, stops_first,
 use Rattle.cf_table.specs.Tables.{Table, row_of}
 use Rattle.cf_table.specs.Means.{Means}
 use Rattle.cf_table.specs.declared.rows.Row.{Row}
-use Rattle.cf_tree.proofs.Alike.{BothMean, rows_by_id}
-use Rattle.cf_filter_steps.proofs.AskRule.{both_none, both_some}
+use Rattle.cf_filter_steps.proofs.RowReads.{row_gone, row_there}
 use Rattle.cf_filter_calls.proofs.Suited.{first_none}
 
 -- positions of a list, one after the other
@@ -105,7 +104,7 @@ pub holds_some : {X : Type 0} (S : Sense X) (x : X) (t : Table) (id : ItemId) (r
     → HasRows S x t → row_of t.rows id ≡ Some row → ((i : Item) → Means row i → b ≡ is_whole_in span i) → Reads S Any (holds_all id span) x b
 holds_some S x t id row span b rows e h = record {
   is = λ s m p.
-      let k = both_some row (item_of s.volume.items id) (subst (λ (o : Option Row). BothMean o (item_of s.volume.items id)) e (rows_by_id t.rows s.volume.items id (rows.rows s m))) in
+      let k = row_there t.rows s.volume.items id row (rows.rows s m) e in
       h k.0 k.2 ∙ sym (ap (λ (o : Option Item). whole_at span o) k.1);
 } where
   whole_at : Span → Option Item → Bool
@@ -114,7 +113,7 @@ holds_some S x t id row span b rows e h = record {
 pub holds_none : {X : Type 0} (S : Sense X) (x : X) (t : Table) (id : ItemId) (span : Span) → HasRows S x t → row_of t.rows id ≡ None → Reads S Any (holds_all id span) x (span.len == 0)
 holds_none S x t id span rows e = record {
   is = λ s m p.
-      let k = both_none (item_of s.volume.items id) (subst (λ (o : Option Row). BothMean o (item_of s.volume.items id)) e (rows_by_id t.rows s.volume.items id (rows.rows s m))) in
+      let k = row_gone t.rows s.volume.items id (rows.rows s m) e in
       none_whole span ∙ sym (ap (λ (o : Option Item). whole_at span o) k);
 } where
   whole_at : Span → Option Item → Bool

@@ -8,10 +8,9 @@ use Rattle.cf_model.specs.Items.{Item, item_of}
 use Rattle.cf_model.specs.LookUp.{by_name, children, is_child}
 use Rattle.cf_model.specs.Settling.{entries_at, listed}
 use Rattle.cf_model.specs.Words.{comes_before}
-use Rattle.cf_filter_steps.proofs.AskRule.{both_some}
+use Rattle.cf_filter_steps.proofs.RowReads.{row_there}
 use Rattle.cf_table.specs.Tables.{MeansAll, row_of}
 use Rattle.cf_table.specs.declared.rows.Row.{Row}
-use Rattle.cf_tree.proofs.Alike.{BothMean, rows_by_id}
 use Rattle.cf_tree.proofs.Depths.{some_of}
 use Rattle.cf_tree.proofs.Elements.{Each, each_also, each_filtered, each_sorted, each_there}
 use Rattle.cf_tree.specs.Trees.{RiseFrom}
@@ -22,7 +21,7 @@ same_some a b e = cc
 entry_is : (rows : List Row) (items : List Item) (i : Item) (e : ListedItem) → MeansAll rows items → item_of items i.id ≡ Some i → MatchOption (row_of rows i.id) ⊥ (λ r. e ≡ entry_of r) → e ≡ listed i
 entry_is rows items i e mean there told =
     let r = some_of (row_of rows i.id) (λ r. e ≡ entry_of r) told in
-    let b = both_some r.0 (item_of items i.id) (subst (λ (o : Option Row). BothMean o (item_of items i.id)) r.1 (rows_by_id rows items i.id mean)) in
+    let b = row_there rows items i.id r.0 mean r.1 in
     let same : b.0 ≡ i = same_some b.0 i (sym b.1 ∙ there) in
     r.2 ∙ (λ j. record { name = b.2.name j; dir = b.2.directory j }) ∙ ap listed same
 

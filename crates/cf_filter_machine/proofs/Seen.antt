@@ -15,27 +15,26 @@ use Rattle.cf_model.specs.Waits.{Need, is_met_now}
 use Rattle.cf_model.specs.Words.{part}
 use Rattle.cf_volume_points.proofs.KeptSound.{means_all}
 use Rattle.cf_volume_points.specs.Standing.{cluster_on}
-use Rattle.cf_filter_steps.proofs.AskRule.{both_none, both_some}
+use Rattle.cf_filter_steps.proofs.RowReads.{row_gone, row_there}
 use Rattle.cf_filter_steps.proofs.LookUps.{of_found}
 use Rattle.cf_filter_steps.specs.Answering.{Any, Reads}
 use Rattle.cf_filter_steps.specs.Good.{IsSmall}
 use Rattle.cf_table.specs.Means.{Means}
-use Rattle.cf_table.specs.Tables.{row_of}
+use Rattle.cf_table.specs.Tables.{MeansAll, row_of}
 use Rattle.cf_table.specs.declared.rows.Row.{Row}
-use Rattle.cf_tree.proofs.Alike.{BothMean, rows_by_id}
 use Rattle.std.specs.Prelude.{Bool}
 
 module _ {D : Type 0} (state : D → State) (x : Held D) (s : Filter) (h : Stands state x s) (id : ItemId) where
-  both : BothMean (row_of x.known.table.rows id) (item_of s.volume.items id)
-  both = rows_by_id x.known.table.rows s.volume.items id (means_all (cluster_on (state x.disk).seen) s.volume.book x.known.table.rows s.volume.items h.volume.now.rows)
+  rows_mean : MeansAll x.known.table.rows s.volume.items
+  rows_mean = means_all (cluster_on (state x.disk).seen) s.volume.book x.known.table.rows s.volume.items h.volume.now.rows
 
   pub seen_there : (row : Row) → row_of x.known.table.rows id ≡ Some row → (i : Item) × (item_of s.volume.items id ≡ Some i) × Means row i × IsSmall i
   seen_there row e =
-      let b = both_some row (item_of s.volume.items id) (subst (λ (o : Option Row). BothMean o (item_of s.volume.items id)) e both) in
+      let b = row_there x.known.table.rows s.volume.items id row rows_mean e in
       (b.0, b.1, b.2, of_found IsSmall (λ j. j.id.0 == id.0) s.volume.items b.0 h.good.volume.small b.1)
 
   pub seen_gone : row_of x.known.table.rows id ≡ None → item_of s.volume.items id ≡ None
-  seen_gone e = both_none (item_of s.volume.items id) (subst (λ (o : Option Row). BothMean o (item_of s.volume.items id)) e both)
+  seen_gone e = row_gone x.known.table.rows s.volume.items id rows_mean e
 
   -- the view of it
 

@@ -30,9 +30,9 @@ use Rattle.cf_filter_steps.specs.Settled.{AreOnFiles, IsEndOnFile, IsStepNow, Lo
 use Rattle.cf_table.specs.Means.{Means}
 use Rattle.cf_table.specs.Tables.{Table, row_of}
 use Rattle.cf_table.specs.declared.rows.Row.{Row}
-use Rattle.cf_tree.proofs.Alike.{BothMean, rows_by_id}
 use Rattle.cf_filter_steps.proofs.Laws.{All, stops_first, then_on, weaker}
 use Rattle.cf_filter_steps.proofs.LookUps.{of_found}
+use Rattle.cf_filter_steps.proofs.RowReads.{row_gone, row_there}
 
 lines_are : (made : List Live) → map asked_line (map (λ a. a.ask) made) ≡ map ask_line made
 lines_are [] = refl
@@ -111,19 +111,11 @@ looked_gone S x w item d p waits e = record { is = λ st h. looks_is S x w item 
 step_by : (item : ItemId) (d : Deed) (s : Filter) (o : Option Item) (v : View) → item_of s.volume.items item ≡ o → part (view_of s.policy) no_view o ≡ v → step_of item v d s.waiting ≡ told_at item d s
 step_by item d s o v e q = ap (λ (y : View). step_of item y d s.waiting) (sym (ap (λ (p : Option Item). part (view_of s.policy) no_view p) e ∙ q))
 
-pub both_some : (r : Row) (o : Option Item) → BothMean (Some r) o → (i : Item) × (o ≡ Some i) × Means r i
-both_some r None h = absurd h
-both_some r (Some i) h = (i, refl, h)
-
-pub both_none : (o : Option Item) → BothMean None o → o ≡ None
-both_none None h = refl
-both_none (Some i) h = absurd h
-
 pub looks_now : {X : Type 0} (S : Sense X) (x : X) (t : Table) (item : ItemId) (row : Row) (d : Deed) (p : Planned)
     → HasRows S x t → row_of t.rows item ≡ Some row → Looks S item row d p x → LooksNow S item d p x
 looks_now S x t item row d p rows e looks = record {
   is = λ s h.
-      let b = both_some row (item_of s.volume.items item) (subst (λ (o : Option Row). BothMean o (item_of s.volume.items item)) e (rows_by_id t.rows s.volume.items item (rows.rows s h))) in
+      let b = row_there t.rows s.volume.items item row (rows.rows s h) e in
       looks.is s b.0 h b.2 (of_found IsSmall (λ j. j.id.0 == item.0) s.volume.items b.0 (S.good x s h).volume.small b.1) ∙ step_by item d s (Some b.0) (view_of s.policy b.0) b.1 refl;
 }
 
@@ -131,7 +123,7 @@ pub gone_now : {X : Type 0} (S : Sense X) (x : X) (t : Table) (item : ItemId) (d
     → HasRows S x t → row_of t.rows item ≡ None → LooksGone S item d p x → LooksNow S item d p x
 gone_now S x t item d p rows e looks = record {
   is = λ s h.
-      let b = both_none (item_of s.volume.items item) (subst (λ (o : Option Row). BothMean o (item_of s.volume.items item)) e (rows_by_id t.rows s.volume.items item (rows.rows s h))) in
+      let b = row_gone t.rows s.volume.items item (rows.rows s h) e in
       looks.is s h ∙ step_by item d s None no_view b refl;
 }
 

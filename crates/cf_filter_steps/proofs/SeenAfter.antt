@@ -23,8 +23,7 @@ use Rattle.cf_filter_steps.specs.Settled.{Looks, LooksAfter, LooksGone}
 use Rattle.cf_table.specs.Means.{Means}
 use Rattle.cf_table.specs.Tables.{Table, row_of}
 use Rattle.cf_table.specs.declared.rows.Row.{Row}
-use Rattle.cf_tree.proofs.Alike.{BothMean, rows_by_id}
-use Rattle.cf_filter_steps.proofs.AskRule.{both_none, both_some}
+use Rattle.cf_filter_steps.proofs.RowReads.{row_gone, row_there}
 use Rattle.cf_filter_steps.proofs.LookUps.{of_found}
 
 -- the item that changes is found as it is then
@@ -128,7 +127,7 @@ pub looks_after : {X : Type 0} (S : Sense X) (x : X) (t : Table) (item : ItemId)
     → HasRows S x t → row_of t.rows item ≡ Some row → ((i : Item) → FitsSpans c → Means row i → Means after (effect_on c i)) → Looks S item after d p x → LooksAfter S item c d p x
 looks_after S x t item c row after d p rows e change looks = record {
   is = λ s h seen.
-      let b = both_some row (item_of s.volume.items item) (subst (λ (o : Option Row). BothMean o (item_of s.volume.items item)) e (rows_by_id t.rows s.volume.items item (rows.rows s h))) in
+      let b = row_there t.rows s.volume.items item row (rows.rows s h) e in
       let k = does_of c item seen in
       let small = of_found IsSmall (λ j. j.id.0 == item.0) s.volume.items b.0 (S.good x s h).volume.small b.1 in
       looks.is s (effect_on c b.0) h (change b.0 k.fits b.2) (k.small b.0 small)
@@ -140,7 +139,7 @@ pub gone_after : {X : Type 0} (S : Sense X) (x : X) (t : Table) (item : ItemId) 
     → HasRows S x t → row_of t.rows item ≡ None → LooksGone S item d p x → LooksAfter S item c d p x
 gone_after S x t item c d p rows e looks = record {
   is = λ s h seen.
-      let b = both_none (item_of s.volume.items item) (subst (λ (o : Option Row). BothMean o (item_of s.volume.items item)) e (rows_by_id t.rows s.volume.items item (rows.rows s h))) in
+      let b = row_gone t.rows s.volume.items item (rows.rows s h) e in
       let k = does_of c item seen in
       looks.is s h
       ∙ told_by item d s (effect s.volume.items c (next_number s.volume)) None no_view
