@@ -23,6 +23,8 @@ use Rattle.cf_volume_points.proofs.BookChanges.{anchor_put}
 use Rattle.cf_volume_points.specs.At.{At}
 use Rattle.cf_volume_points.specs.Holding.{FitsTable}
 use Rattle.cf_volume_points.specs.Known.{Known}
+use Rattle.cf_engine_queue.proofs.StaysKeepable.{anchor_kept}
+use Rattle.cf_filter_machine.proofs.Rebooked.{rebooked}
 use Rattle.cf_filter_steps.proofs.LookUps.{of_found}
 use Rattle.cf_filter_steps.specs.Answering.{Answers, IsAt}
 use Rattle.cf_table.specs.Means.{Means}
@@ -30,12 +32,8 @@ use Rattle.cf_table.specs.Tables.{row_of}
 use Rattle.cf_table.specs.declared.rows.Row.{Row}
 
 anchored_book : (id : ItemId) (i : Item) (v : Volume) → item_of v.items id ≡ Some i → is_no_usn i.number ≡ false → FitsTable v.items (with_anchor id i.number v.book) → IsKeptVolume v → IsKeptVolume (record v { book = with_anchor id i.number v.book })
-anchored_book id i v there given fits h = record {
-  good = record { tree = h.good.tree; opened = h.good.opened; sound = h.good.sound; small = h.good.small; later = h.good.later; below = h.good.below; pins = h.good.pins; few = fits.few; short = fits.short };
-  items = h.items;
-  given = h.given;
-  book = record { anchors = λ key. subst (λ (n : Usn). above (next_number v) n ≡ true) (sym (anchor_put id key i.number v.book)) (by key (eqb id.0 key.0)); accesses = h.book.accesses; seen = h.book.seen; graves = h.book.graves; anchors_rise = anchors_with id i.number v.book given h.book.anchors_rise; accesses_rise = h.book.accesses_rise };
-}
+anchored_book id i v there given fits h = rebooked v (with_anchor id i.number v.book) fits.short
+    (record { anchors = λ key. subst (λ (n : Usn). above (next_number v) n ≡ true) (sym (anchor_put id key i.number v.book)) (by key (eqb id.0 key.0)); accesses = h.book.accesses; fits = anchor_kept v.book id i.number h.book.fits; graves = h.book.graves; anchors_rise = anchors_with id i.number v.book given h.book.anchors_rise; accesses_rise = h.book.accesses_rise }) h
   where
     by : (key : ItemId) (t : Bool) → above (next_number v) (cond t i.number (anchor_of v.book key)) ≡ true
     by key true = of_found (λ (j : Item). above (next_number v) j.number ≡ true) (λ j. j.id.0 == id.0) v.items i h.given there

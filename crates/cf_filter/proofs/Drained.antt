@@ -69,7 +69,7 @@ module _ {D P : Type 0} (state : D → State) (answers : Answering P) where
   -- one callback
 
   answers_on : (ask : Ask) (p q : P) (x : Held D) (call : Callback) (acts : List Act) (s : Filter) → Stands state x s → call ≡ callback_of ask s → answers p (sight_of x) call acts q → AnswersOn answers ask p s acts q
-  answers_on ask p q x call acts s stands same gives = record { seen = sight_of x; shows = sight_shows state x s stands; good = stands.good; gives = subst (λ (k : Callback). answers p (sight_of x) k acts q) same gives }
+  answers_on ask p q x call acts s stands same gives = record { seen = sight_of x; shows = sight_shows state x s stands; good = stands.good; keeps = stands.kept.book.fits; gives = subst (λ (k : Callback). answers p (sight_of x) k acts q) same gives }
 
   turn_to : (ask : Ask) (p q : P) (x y : Held D) (call : Callback) (told : Result (Unit {0}) NoMemory) (r : Result (Unit {0}) CallError) (acts : List Act) (s t : Filter) (broken lost : Bool)
       → Stands state x s → call ≡ callback_of ask s → (is_ok told ≡ true → answers p (sight_of x) call acts q) → IsTurned told broken lost r → GoneTo state broken lost acts x s y t → TurnTo state answers ask p x s r q y t

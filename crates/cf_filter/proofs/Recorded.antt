@@ -22,6 +22,7 @@ use Rattle.cf_filter_machine.specs.Entering.{held}
 use Rattle.cf_filter_machine.specs.Held.{Desk, Held}
 use Rattle.cf_filter_machine.specs.Keeping.{IsKeptBook, IsKeptVolume}
 use Rattle.cf_filter_machine.specs.Lasting.{Moved}
+use Rattle.cf_filter_machine.proofs.Rebooked.{rebooked}
 use Rattle.cf_filter_machine.specs.Lasts.{lasts_at}
 use Rattle.cf_filter_machine.specs.Sensing.{Stands, sense}
 use Rattle.cf_model.specs.Arrows.{Arrow, attempt, one, outcome, unless_done}
@@ -35,14 +36,6 @@ use Rattle.cf_volume_points.specs.At.{At}
 use Rattle.cf_volume_points.specs.Holding.{FitsTable}
 use Rattle.cf_filter_steps.specs.Answering.{Answers}
 use Rattle.cf_volume.specs.Calls.{HasRecords, OnDisk, WhyAux, put_record}
-
-kept_with : (v : Volume) (b : Book) → FitsTable v.items b → IsKeptBook (next_number v) v.items b → IsKeptVolume v → IsKeptVolume (record v { book = b })
-kept_with v b fits book h = record {
-  good = record { tree = h.good.tree; opened = h.good.opened; sound = h.good.sound; small = h.good.small; later = h.good.later; below = h.good.below; pins = h.good.pins; few = fits.few; short = fits.short };
-  items = h.items;
-  given = h.given;
-  book = book;
-}
 
 -- why a record was not put
 full_of : {D : Type 0} (v : Volume) (b : Book) (old new : OnDisk D) (r : Result (Unit {0}) CallError) → r ≡ Err (No code.TableFull) → WhyAux v b old r new → (table_full v.items b ≡ true) × (new ≡ old)
@@ -69,7 +62,7 @@ module _ {D : Type 0} (state : D → State) (key : List ℕ) (value : Option (Li
     leads = λ s h p.
         let has = as_known s h p in
         let now = on_disk state new.known (with_book_of f s).volume same (ok s.volume (f s.volume.book) h.volume has) in
-        let after : IsKeptVolume (with_book_of f s).volume = kept_with s.volume (f s.volume.book) now.now.fits (p.kept h.kept.book) h.kept in (
+        let after : IsKeptVolume (with_book_of f s).volume = rebooked s.volume (f s.volume.book) now.now.fits.short (p.kept h.kept.book) h.kept in (
           with_book_of f s,
           done_by (why_full f s) s (ap (λ (t : Bool). first_of ((t, code.TableFull) ∷ [])) (why s.volume (f s.volume.book) h.volume has h.whole)),
           book_moved (state old.disk) s.volume (f s.volume.book) (lasts_at (state old.disk) old.known s.volume h.fair h.volume h.points),

@@ -1,12 +1,12 @@
 -- Filters that begin.
 use Rattle.std.proofs.Common.{◌≡◌, ℕ, Bool, true, false, cond, List, [], ◌∷◌, Some, None, refl, sym, ap, subst, arith, eqb}
-use Rattle.std.proofs.lemmas.List.Elements.{All-nil}
 use Rattle.std.proofs.lemmas.Option.{none-some, same_Some}
 use Rattle.cf_base.specs.declared.changes.Change.{Change}
 use Rattle.cf_base.specs.declared.ids.ItemId.{ItemId}
 use Rattle.cf_base.specs.declared.ids.Usn.{Usn}
 use Rattle.cf_base.specs.declared.policies.Policy.{Policy}
 use Rattle.cf_disk.specs.Disk.{State}
+use Rattle.cf_engine_queue.proofs.StaysKeepable.{none_kept}
 use Rattle.cf_filter_machine.proofs.PointSteps.{sure_points}
 use Rattle.cf_filter_machine.specs.Held.{Held}
 use Rattle.cf_filter_machine.specs.Keeping.{HasKeptPoints, IsKeptVolume}
@@ -66,7 +66,7 @@ new_kept clusters fits = record {
   };
   items = (record { written = λ p lt h. absurd (omega (arith, lt)); identity = omega arith; top = λ h. refl; unlisted = λ h k. not_true _ (sym k) }, record {});
   given = (refl, record {});
-  book = record { anchors = λ id. refl; accesses = λ id i h k. refl; seen = All-nil _; graves = record {}; anchors_rise = record {}; accesses_rise = record {} };
+  book = record { anchors = λ id. refl; accesses = λ id i h k. refl; fits = none_kept; graves = record {}; anchors_rise = record {}; accesses_rise = record {} };
 }
 
 -- a volume that is opened
@@ -76,7 +76,7 @@ with_clusters clusters v h = record {
   good = record { tree = h.good.tree; opened = h.good.opened; sound = h.good.sound; small = h.good.small; later = h.good.later; below = h.good.below; pins = h.good.pins; few = h.good.few; short = h.good.short };
   items = h.items;
   given = h.given;
-  book = record { anchors = h.book.anchors; accesses = h.book.accesses; seen = h.book.seen; graves = h.book.graves; anchors_rise = h.book.anchors_rise; accesses_rise = h.book.accesses_rise };
+  book = record { anchors = h.book.anchors; accesses = h.book.accesses; fits = h.book.fits; graves = h.book.graves; anchors_rise = h.book.anchors_rise; accesses_rise = h.book.accesses_rise };
 }
 
 module _ {D : Type 0} (state : D → State) (x : Held D) (d : D) (k : Known) (policy : Policy) (fair : Fair (state d)) (whole : k.broken ≡ false)

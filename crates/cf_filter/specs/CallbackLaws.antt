@@ -2,6 +2,7 @@
 use Rattle.std.proofs.Common.{◌≡◌, ◌≤◌, ℕ, zero, suc, List, [], ◌∷◌, length, refl, sym, ◌∙◌, ap, subst, arith}
 use Rattle.cf_base.specs.declared.answers.Shown.{Shown}
 use Rattle.cf_base.specs.declared.waits.Ask.{Ask}
+use Rattle.cf_engine_queue.specs.Records.{IsKeepable}
 use Rattle.cf_provider.specs.Sights.{Shows, Sight, callback_of}
 use Rattle.cf_filter.specs.Callbacks.{Answering, CalledBack, CutBack, CutOff, Drained, NoneFailed}
 use Rattle.cf_model.proofs.TreeLaws.{ends_mapped, ends_then, stops_first, stops_mapped, stops_then}
@@ -13,14 +14,15 @@ use Rattle.cf_model.specs.State.{Filter, State, in_filter, with_filter}
 use Rattle.cf_model.specs.Trees.{Ends, Ret, Stops, Tree, bind}
 use Rattle.cf_filter_steps.specs.Good.{IsGood}
 
--- The provider plays the arrow of the mode on a state that it sees, where what it is shown is that state's. It sees the state still
+-- The provider plays the arrow of the mode on a state that it sees, where what it is shown is that state's, and the book
+-- fits its records. It sees the state still
 -- where a callback leaves the outbox, and where the call is over.
 pub record Plays {P : Type 0} (answers : Answering P) (Sees : P → State → Type 0) : Type 0 where
   pub called : (p : P) (x : State) (asks : List Ask) → Sees p x → Sees p (with_outbox asks x)
   pub over : (p : P) (x : State) → Sees p x → Sees p (with_filter (begin_call x.filter) x)
-  pub ends : (p q : P) (x : State) (ask : Ask) (acts : List Act) (t : Filter) (seen : Sight) → Sees p x → Shows seen x.filter → IsGood x.filter → answers p seen (callback_of ask x.filter) acts q → Acts x.filter acts t → NoneFailed acts
+  pub ends : (p q : P) (x : State) (ask : Ask) (acts : List Act) (t : Filter) (seen : Sight) → Sees p x → Shows seen x.filter → IsGood x.filter → IsKeepable x.filter.volume.book → answers p seen (callback_of ask x.filter) acts q → Acts x.filter acts t → NoneFailed acts
       → (y : State) × (y.filter ≡ t) × Sees q y × Ends (call_back ask x) unit y
-  pub stops : (p q : P) (x : State) (ask : Ask) (acts : List Act) (t : Filter) (seen : Sight) → Sees p x → Shows seen x.filter → IsGood x.filter → answers p seen (callback_of ask x.filter) acts q → Acts x.filter acts t → HasFailed acts
+  pub stops : (p q : P) (x : State) (ask : Ask) (acts : List Act) (t : Filter) (seen : Sight) → Sees p x → Shows seen x.filter → IsGood x.filter → IsKeepable x.filter.volume.book → answers p seen (callback_of ask x.filter) acts q → Acts x.filter acts t → HasFailed acts
       → (y : State) × (y.filter ≡ t) × Sees q y × Stops (call_back ask x) y
 
 -- the drain, by its outbox
@@ -50,7 +52,7 @@ module _ {P : Type 0} (answers : Answering P) (Sees : P → State → Type 0) (p
   drains_all (acts ∷ more) (suc n) p q x t few sees h =
       let rest = h.1 in
       let next : State = with_outbox rest x in
-      let turn = plays.ends p h.6 next h.0 acts h.3 h.7.seen (plays.called p x rest sees) h.7.shows h.7.good h.7.gives h.4 h.5 in
+      let turn = plays.ends p h.6 next h.0 acts h.3 h.7.seen (plays.called p x rest sees) h.7.shows h.7.good h.7.keeps h.7.gives h.4 h.5 in
       let tail = drains_all more n h.6 q turn.0 t (omega (arith, few)) turn.2 (subst (λ (f : Filter). Drained answers h.6 f more q t) (sym turn.1) h.8) in
       (tail.0, tail.1, tail.2, ends_from n x tail.0 (h.0 ∷ rest) h.2 (ends_then (call_back h.0 next) (λ _ y. drained n y) unit turn.0 unit tail.0 turn.3 tail.3))
 
@@ -61,13 +63,13 @@ module _ {P : Type 0} (answers : Answering P) (Sees : P → State → Type 0) (p
   drains_cut (acts ∷ []) (suc n) p q x t few sees h =
       let rest = h.1 in
       let next : State = with_outbox rest x in
-      let turn = plays.stops p q next h.0 acts t h.5.seen (plays.called p x rest sees) h.5.shows h.5.good h.5.gives h.3 h.4 in
+      let turn = plays.stops p q next h.0 acts t h.5.seen (plays.called p x rest sees) h.5.shows h.5.good h.5.keeps h.5.gives h.3 h.4 in
       (turn.0, turn.1, turn.2, stops_from n x turn.0 (h.0 ∷ rest) h.2 (stops_first (call_back h.0 next) (λ _ y. drained n y) turn.0 turn.3))
   drains_cut (acts ∷ other ∷ more) zero p q x t few sees h = absurd (omega (arith, few))
   drains_cut (acts ∷ other ∷ more) (suc n) p q x t few sees h =
       let rest = h.1 in
       let next : State = with_outbox rest x in
-      let turn = plays.ends p h.6 next h.0 acts h.3 h.7.seen (plays.called p x rest sees) h.7.shows h.7.good h.7.gives h.4 h.5 in
+      let turn = plays.ends p h.6 next h.0 acts h.3 h.7.seen (plays.called p x rest sees) h.7.shows h.7.good h.7.keeps h.7.gives h.4 h.5 in
       let tail = drains_cut (other ∷ more) n h.6 q turn.0 t (omega (arith, few)) turn.2 (subst (λ (f : Filter). CutOff answers h.6 f (other ∷ more) q t) (sym turn.1) h.8) in
       (tail.0, tail.1, tail.2, stops_from n x tail.0 (h.0 ∷ rest) h.2 (stops_then (call_back h.0 next) (λ _ y. drained n y) unit turn.0 tail.0 turn.3 tail.3))
 

@@ -1,6 +1,7 @@
 -- Callbacks of a provider, one after the other.
 use Rattle.std.specs.Prelude.{◌≡◌, ◌≤◌, ℕ, List, [], ◌∷◌, length}
 use Rattle.cf_base.specs.declared.waits.Ask.{Ask}
+use Rattle.cf_engine_queue.specs.Records.{IsKeepable}
 use Rattle.cf_provider.specs.Sights.{Shows, Sight, callback_of}
 use Rattle.cf_provider.specs.declared.outcomes.Callback.{Callback}
 use Rattle.cf_model.specs.Ports.{Act, Acts, Did, Failed, HasFailed, Noted, with_rest}
@@ -18,11 +19,12 @@ NoneFailed (Noted n ∷ acts) = NoneFailed acts
 abbrev pub Answering : Type 0 → Type 1
 Answering P = P → Sight → Callback → List Act → P → Type 0
 
--- It answers the ask so, where what it sees is so of the state, which is a good one.
+-- It answers the ask so, where what it sees is so of the state, which is a good one, and whose book its records keep.
 pub record AnswersOn {P : Type 0} (answers : Answering P) (ask : Ask) (p : P) (s : Filter) (acts : List Act) (q : P) : Type 0 where
   pub seen : Sight
   pub shows : Shows seen s
   pub good : IsGood s
+  pub keeps : IsKeepable s.volume.book
   pub gives : answers p seen (callback_of ask s) acts q
 
 -- All callbacks, in order, each after the earlier ones have returned, until none is left.

@@ -23,6 +23,7 @@ mod records;
 mod sessions;
 mod settings;
 mod shown_values;
+mod steps;
 mod writes;
 
 pub use answers::{Info, Waited};

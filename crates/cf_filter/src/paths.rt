@@ -1,26 +1,20 @@
 //! Paths seen, as the auxiliary records that come beside the entries of a directory.
 
-ghost use Rattle.std.specs.Prelude.{◌≡◌, ◌<◌, IfOk};
+ghost use Rattle.std.specs.Prelude.{◌≡◌, IfOk};
+ghost use Rattle.cf_engine_queue.specs.Records.{IsSeen};
 ghost use Rattle.cf_filter.specs.Porting.{Spells};
-ghost use Rattle.cf_model.specs.Books.{seen_record};
 
-use cf_base::{AuxRecord, OutOfMemory, SeenPath, Sequence};
+use cf_base::{AuxRecord, OutOfMemory, SeenPath, Sequence, is_name, no_such_state};
 use cf_engine_queue::spell_seen;
 use std::alloc::Global;
 
-// Ids have room in the keys of records.
-fn id_of(path: &SeenPath) -> u64
-    ensures is { result ≡ path.now.item.0 }
-    ensures short { path.now.item.0 < 18446744073709551616 }
-{
-    path.item.0
-}
-
+// Each path that is seen has a name.
 fn spell_path(alloc: Global, path: &SeenPath) -> Result<AuxRecord, OutOfMemory>
-    ensures spelled { IfOk result (λ r. r ≡ seen_record path.now) }
-    ensures short { path.now.item.0 < 18446744073709551616 }
+    ensures { IfOk result (λ r. IsSeen r path.now) }
 {
-    let _ = id_of(path);
+    if !is_name(path.name.as_slice()) {
+        return Err(no_such_state());
+    }
     spell_seen(alloc, path)
 }
 

@@ -102,4 +102,4 @@ pub plainly : {X : Type 0} (S : Sense X) (x new : X) (op : Operation) (records :
     → ((f : Book → Book) → Answers S (Keeps f records) (execute_with f op) x r new) → Answers S Any (execute op) x r new
 plainly S x new op records r e a =
     let b = subst (λ (l : List AuxRecord). (f : Book → Book) → Answers S (Keeps f l) (execute_with f op) x r new) e a in
-    record { leads = λ s h p. (b same_book).leads s h (record { told = refl; anchors = refl; clock = refl; accesses = refl; seen = λ k. k; graves = λ n k. k }) }
+    record { leads = λ s h p. (b same_book).leads s h (record { told = refl; anchors = refl; clock = refl; accesses = refl; fits = λ k. k; graves = λ n from k. k }) }

@@ -104,7 +104,7 @@ HasPlace s = lacks_place s ≡ false
 -- a list that is not refused, and the records that come with it
 pub record IsListable (f : Book → Book) (dir : ItemId) (list : List NewItem) (records : List AuxRecord) (s : Filter) : Type 0 where
   pub passes : list_refusal dir list s ≡ None
-  pub beside : HasRecordsBeside s.volume.book records (f s.volume.book)
+  pub beside : HasRecordsBeside (next_number s.volume) s.volume.book records (f s.volume.book)
 
 pub record IsOpenList (f : Book → Book) (dir : ItemId) (list : List NewItem) (records : List AuxRecord) (s : Filter) : Type 0 where
   pub listable : IsListable f dir list records s

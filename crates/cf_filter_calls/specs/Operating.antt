@@ -17,7 +17,7 @@ use Rattle.cf_provider.specs.Checks.{base_at, check_of, span_named, tests_by}
 use Rattle.cf_model.specs.Arrows.{Arrow, one, reading, ret, then_do}
 use Rattle.cf_model.specs.Books.{Book}
 use Rattle.cf_model.specs.Calls.{size_at}
-use Rattle.cf_model.specs.Changes.{change as one_change, no_blocks, no_places, no_table}
+use Rattle.cf_model.specs.Changes.{change as one_change, next_number, no_blocks, no_places, no_table}
 use Rattle.cf_model.specs.Items.{Item, base_of, item_of}
 use Rattle.cf_model.specs.Operations.{as_it_is, checked, done, is_outside, key_of, live_at, waiting_after, with_changes}
 use Rattle.cf_model.specs.Requests.{Deed, Leaves, Live, Restarts, Waiting, no_numbers, too_many_asks}
@@ -108,8 +108,8 @@ pub record IsLiveFor (f : Book → Book) (op : Operation) (ask : Ask) (records :
   pub live : live_at (key_of op) s ≡ Some a
   pub same : a.ask ≡ ask
   pub passes : first_of (tests_on op a s) ≡ None
-  pub beside : HasRecordsBeside s.volume.book records (f s.volume.book)
+  pub beside : HasRecordsBeside (next_number s.volume) s.volume.book records (f s.volume.book)
 
 -- the book is given these records besides
 abbrev pub Keeps : (Book → Book) → List AuxRecord → Filter → Type 0
-Keeps f records s = HasRecordsBeside s.volume.book records (f s.volume.book)
+Keeps f records s = HasRecordsBeside (next_number s.volume) s.volume.book records (f s.volume.book)

@@ -8,6 +8,8 @@ use Rattle.cf_base.specs.declared.codes.CallError.{CallError}
 use Rattle.cf_base.specs.declared.codes.CallError.TheVariants.{OutOfMemory}
 use Rattle.cf_base.specs.declared.ids.ItemId.{ItemId}
 use Rattle.cf_disk.specs.Disk.{State}
+use Rattle.cf_engine_queue.proofs.StaysKeepable.{access_kept, ticks_kept}
+use Rattle.cf_filter_machine.proofs.Rebooked.{rebooked}
 use Rattle.cf_filter_machine.proofs.RisingBooks.{accesses_with}
 use Rattle.cf_filter_machine.specs.Held.{Desk, Held, desk_of}
 use Rattle.cf_filter_machine.specs.Keeping.{HasKeptPoints, IsKeptVolume}
@@ -89,29 +91,14 @@ not_file : (o : Option Item) (i : Item) → MatchOption o ⊥ (λ (j : Item). j.
 not_file o i file e d = true≢false (sym d ∙ subst (λ (p : Option Item). MatchOption p ⊥ (λ (j : Item). j.directory ≡ false)) e file)
 
 pub touched_book : (id : ItemId) (v : Volume) → IsFileIn v.items id → IsKeptVolume v → IsKeptVolume (with_access_to id v)
-touched_book id v file h = record {
-  good = record {
-    tree = h.good.tree;
-    opened = h.good.opened;
-    sound = h.good.sound;
-    small = h.good.small;
-    later = h.good.later;
-    below = h.good.below;
-    few = h.good.few;
-    short = h.good.short;
-    pins = h.good.pins;
-  };
-  items = h.items;
-  given = h.given;
-  book = record {
-    anchors = h.book.anchors;
-    accesses = λ key i e d. access_put id key v.book ∙ by key i e d (eqb id.0 key.0) refl;
-    seen = h.book.seen;
-    graves = h.book.graves;
-    anchors_rise = h.book.anchors_rise;
-    accesses_rise = accesses_with id v.book.clock v.book.accesses h.book.accesses_rise;
-  };
-}
+touched_book id v file h = rebooked v (with_access id v.book) h.good.short (record {
+  anchors = h.book.anchors;
+  accesses = λ key i e d. access_put id key v.book ∙ by key i e d (eqb id.0 key.0) refl;
+  fits = access_kept v.book id h.book.fits;
+  graves = h.book.graves;
+  anchors_rise = h.book.anchors_rise;
+  accesses_rise = accesses_with id v.book.clock v.book.accesses h.book.accesses_rise;
+}) h
   where
     by : (key : ItemId) (i : Item) → item_of v.items key ≡ Some i → i.directory ≡ true → (t : Bool) → eqb id.0 key.0 ≡ t → cond t v.book.clock (access_of v.book key) ≡ 0
     by key i e d true q = absurd (not_file (item_of v.items id) i file (ap (item_of v.items) (same_id id key (eqb-true id.0 key.0 q)) ∙ e) d)
@@ -125,22 +112,8 @@ accessed_good id s file good kept =
 -- time
 
 passed_book : (n : ℕ) (v : Volume) → IsKeptVolume v → IsKeptVolume (with_clock n v)
-passed_book n v h = record {
-  good = record {
-    tree = h.good.tree;
-    opened = h.good.opened;
-    sound = h.good.sound;
-    small = h.good.small;
-    later = h.good.later;
-    below = h.good.below;
-    few = h.good.few;
-    short = h.good.short;
-    pins = h.good.pins;
-  };
-  items = h.items;
-  given = h.given;
-  book = record { anchors = h.book.anchors; accesses = h.book.accesses; seen = h.book.seen; graves = h.book.graves; anchors_rise = h.book.anchors_rise; accesses_rise = h.book.accesses_rise };
-}
+passed_book n v h = rebooked v (with_ticks n v.book) h.good.short
+    (record { anchors = h.book.anchors; accesses = h.book.accesses; fits = ticks_kept v.book n h.book.fits; graves = h.book.graves; anchors_rise = h.book.anchors_rise; accesses_rise = h.book.accesses_rise }) h
 
 pub passed_good : (n : ℕ) (s : Filter) → IsGood s → IsKeptVolume s.volume → IsRebooked s (with_time n s)
 passed_good n s good kept =

@@ -15,7 +15,8 @@ use Rattle.cf_base.specs.declared.notices.Notice.TheVariants as notice
 use Rattle.cf_disk.specs.Disk.{Leaves, State}
 use Rattle.cf_disk.specs.Leaving.{leaves_weaker}
 use Rattle.cf_filter_machine.proofs.ChangeSteps.{by_room, grows_put, later, longer_point, not_refused, put_ends, told}
-use Rattle.cf_filter_machine.proofs.EntriesKept.{directory_first, kept_come, kept_entry, rebooked}
+use Rattle.cf_filter_machine.proofs.EntriesKept.{book_beside, directory_first, kept_come, kept_entry, later_beside}
+use Rattle.cf_filter_machine.proofs.Rebooked.{rebooked}
 use Rattle.cf_filter_machine.proofs.PointSteps.{last_point}
 use Rattle.cf_filter_machine.proofs.StillFiles.{in_place, still_opened, still_reads, with_more}
 use Rattle.cf_filter_machine.specs.Entering.{AfterEntry, Coming, EndsBy, Enters, GoesOn, IsReadyEntry, MayEnter, is_listed}
@@ -167,8 +168,8 @@ module _ {D : Type 0} (state : D → State) (dir : ItemId) (x : Held D) (c : Cha
         let at : At (state d) k (put_with_book f c s.volume) = put s h p in
         let files = (plain c is).file s.volume in
         let come : IsKeptVolume (put_change c s.volume) = come_last s h p (fits s.volume h.volume) in
-        let kept : IsKeptVolume (put_with_book f c s.volume) = rebooked (put_change c s.volume) records (f (put_change c s.volume).book)
-        (subst (λ (b : Book). HasRecordsBeside b records (f b)) (sym ((plain c is).book s.volume.book)) p.beside) at.now.fits come in (
+        let kept : IsKeptVolume (put_with_book f c s.volume) = book_beside (put_change c s.volume) records (f (put_change c s.volume).book)
+        (subst (λ (b : Book). HasRecordsBeside (next_number (put_change c s.volume)) b records (f b)) (sym ((plain c is).book s.volume.book)) (later_beside c s.volume records (f s.volume.book) p.beside)) at.now.fits come in (
           told f c false s,
           ends_plain f c s,
           moved_to f s h,
@@ -270,7 +271,7 @@ module _ {D : Type 0} (state : D → State) (dir : ItemId) (Q : Held D → Filte
       subst (MayEnter f dir (rest ++ last ∷ []) records) (sym (done_as same_book c s t (may_need_room c s.volume) (is.room s.volume) e)) (record {
         entries = p.entries.1;
         ends = ends_rest dir c last rest p.ends;
-        beside = subst (λ (b : Book). HasRecordsBeside b records (f b)) (sym (is.book s.volume.book)) p.beside;
+        beside = subst (λ (b : Book). HasRecordsBeside (next_number (put_change c s.volume)) b records (f b)) (sym (is.book s.volume.book)) (later_beside c s.volume records (f s.volume.book) p.beside);
       })
 
   -- seen from further back
@@ -310,12 +311,12 @@ module _ {D : Type 0} (state : D → State) (dir : ItemId) (Q : Held D → Filte
   }
 
 -- what is put beside the last change
-pub records_beside : (d : State) (k : Known) (v : Volume) (f : Book → Book) (records : List AuxRecord) → At d k v → HasRecordsBeside v.book records (f v.book) → HasRecords v.book (with_records records k.records) (f v.book)
-records_beside d k v f records at h = record { told = h.told ∙ ap (with_records records) (sym at.now.records); anchors = h.anchors; clock = h.clock; accesses = h.accesses }
+pub records_beside : (d : State) (k : Known) (v : Volume) (f : Book → Book) (records : List AuxRecord) → At d k v → (n : Usn) → HasRecordsBeside n v.book records (f v.book) → HasRecords v.book (with_records records k.records) (f v.book)
+records_beside d k v f records at n h = record { told = h.told ∙ ap (with_records records) (sym at.now.records); anchors = h.anchors; clock = h.clock; accesses = h.accesses }
 
-pub last_put : (d : State) (k : Known) (c : Change) (v : Volume) (f : Book → Book) (records : List AuxRecord) → is_listed c ≡ true → At d k (put_change c v) → HasRecordsBeside v.book records (f v.book)
+pub last_put : (d : State) (k : Known) (c : Change) (v : Volume) (f : Book → Book) (records : List AuxRecord) → is_listed c ≡ true → At d k (put_change c v) → (n : Usn) → HasRecordsBeside n v.book records (f v.book)
     → HasRecords (put_change c v).book (with_records records k.records) (f (put_change c v).book)
-last_put d k c v f records is at h = records_beside d k (put_change c v) f records at (subst (λ (b : Book). HasRecordsBeside b records (f b)) (sym ((plain c is).book v.book)) h)
+last_put d k c v f records is at n h = records_beside d k (put_change c v) f records at n (subst (λ (b : Book). HasRecordsBeside n b records (f b)) (sym ((plain c is).book v.book)) h)
 
 -- of the volume alone
 

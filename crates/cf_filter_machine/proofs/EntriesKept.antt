@@ -16,8 +16,9 @@ use Rattle.cf_filter_machine.proofs.ChangedItems.{changed_at, every_changed}
 use Rattle.cf_filter_machine.proofs.ChangesKept.{kept_change}
 use Rattle.cf_filter_machine.proofs.ItemsKept.{IsWhole, populated_whole}
 use Rattle.cf_filter_machine.proofs.OpenTrees.{open_changed}
-use Rattle.cf_filter_machine.proofs.PlacesKept.{all_kept, all_later, all_pins, all_small, all_whole, new_number}
+use Rattle.cf_filter_machine.proofs.PlacesKept.{all_kept, all_later, all_pins, all_small, all_whole, new_number, still_above}
 use Rattle.cf_filter_machine.proofs.PointSteps.{same_parts}
+use Rattle.cf_filter_machine.proofs.Rebooked.{rebooked}
 use Rattle.cf_filter_machine.proofs.RisingBooks.{AccessesRise, AnchorsRise}
 use Rattle.cf_filter_machine.specs.Entering.{AreReadyEntries, EndsBy, ahead}
 use Rattle.cf_filter_machine.specs.Keeping.{IsKeptVolume}
@@ -33,7 +34,7 @@ use Rattle.cf_volume_points.specs.Holding.{FitsTable}
 use Rattle.cf_volume_points.specs.Standing.{IsBookOf}
 use Rattle.cf_filter_steps.proofs.LookUps.{of_found}
 use Rattle.cf_filter_steps.specs.Good.{Every}
-use Rattle.cf_filter_steps.specs.Listing.{HasRecordsBeside, IsEntry, IsFreeEntry}
+use Rattle.cf_filter_steps.specs.Listing.{HasRecordsBeside, IsEntry, IsFreeEntry, IsFrom}
 use Rattle.cf_filter_steps.specs.Suiting.{IsFreePlace, IsOpenDirectory}
 use Rattle.cf_tree.proofs.Depths.{some_of}
 use Rattle.cf_tree.proofs.TreesStay.{in_place}
@@ -63,7 +64,7 @@ kept_early dir v directory h = record {
   book = record {
     anchors = h.book.anchors;
     accesses = λ id j e d. let a = changed_at dir populated v.items id j (λ i. refl) e in h.book.accesses id a.0 a.1 (same_side (eqb a.0.id.0 dir.0) a.0 (ap (λ (x : Item). x.directory) (sym a.2) ∙ d));
-    seen = h.book.seen;
+    fits = h.book.fits;
     graves = h.book.graves;
     anchors_rise = h.book.anchors_rise;
     accesses_rise = h.book.accesses_rise;
@@ -223,27 +224,26 @@ directory_first dir (c ∷ d ∷ cs) v ends h = directory_before dir c v h.0.ent
 
 -- another book beside
 
-pub rebooked : (v : Volume) (records : List AuxRecord) (b : Book) → HasRecordsBeside v.book records b → FitsTable v.items b → IsKeptVolume v → IsKeptVolume (record v { book = b })
-rebooked v records b beside fits h = record {
-  good = record {
-    tree = h.good.tree;
-    opened = h.good.opened;
-    sound = h.good.sound;
-    small = h.good.small;
-    later = h.good.later;
-    below = h.good.below;
-    pins = h.good.pins;
-    few = fits.few;
-    short = fits.short;
-  };
-  items = h.items;
-  given = h.given;
-  book = record {
-    anchors = λ id. subst (λ (l : List Anchor). above (next_number v) (anchor_of (record b { anchors = l }) id) ≡ true) (sym beside.anchors) (h.book.anchors id);
-    accesses = λ id i e d. ap (λ (l : List Access). access_of (record b { accesses = l }) id) beside.accesses ∙ h.book.accesses id i e d;
-    seen = beside.seen h.book.seen;
-    graves = beside.graves (next_number v) h.book.graves;
-    anchors_rise = subst AnchorsRise (sym beside.anchors) h.book.anchors_rise;
-    accesses_rise = subst AccessesRise (sym beside.accesses) h.book.accesses_rise;
-  };
+from_next : (c : Change) (v : Volume) → IsFrom (next_number v) (next_number (put_change c v))
+from_next c v m h = still_above v.epoch v.place m h
+
+-- records beside stay so after a change that leaves the book
+pub later_beside : (c : Change) (v : Volume) (records : List AuxRecord) (b : Book) → HasRecordsBeside (next_number v) v.book records b → HasRecordsBeside (next_number (put_change c v)) v.book records b
+later_beside c v records b h = record {
+  told = h.told;
+  anchors = h.anchors;
+  clock = h.clock;
+  accesses = h.accesses;
+  fits = h.fits;
+  graves = λ n from. h.graves n (λ m below. from m (from_next c v m below));
 }
+
+pub book_beside : (v : Volume) (records : List AuxRecord) (b : Book) → HasRecordsBeside (next_number v) v.book records b → FitsTable v.items b → IsKeptVolume v → IsKeptVolume (record v { book = b })
+book_beside v records b beside fits h = rebooked v b fits.short (record {
+  anchors = λ id. subst (λ (l : List Anchor). above (next_number v) (anchor_of (record b { anchors = l }) id) ≡ true) (sym beside.anchors) (h.book.anchors id);
+  accesses = λ id i e d. ap (λ (l : List Access). access_of (record b { accesses = l }) id) beside.accesses ∙ h.book.accesses id i e d;
+  fits = beside.fits h.book.fits;
+  graves = beside.graves (next_number v) (λ m below. below) h.book.graves;
+  anchors_rise = subst AnchorsRise (sym beside.anchors) h.book.anchors_rise;
+  accesses_rise = subst AccessesRise (sym beside.accesses) h.book.accesses_rise;
+}) h

@@ -18,11 +18,11 @@ pub mod HeldParts
 pub mod ItemsKept
 pub mod Keepable
 pub mod Listings
-pub mod LowNumbers
 pub mod OpenTrees
 pub mod PlacesKept
 pub mod PointSteps
 pub mod ReadSteps
+pub mod Rebooked
 pub mod RemoveSteps
 pub mod RemovedItems
 pub mod RisingBooks
@@ -31,6 +31,5 @@ pub mod RowReads
 pub mod Seen
 pub mod StillFiles
 pub mod TellsRows
-pub mod TombstoneLaws
 pub mod WithinLimits
 pub mod WrittenHere

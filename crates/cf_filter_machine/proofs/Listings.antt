@@ -11,6 +11,7 @@ use Rattle.cf_base.specs.declared.codes.Code.TheVariants as code
 use Rattle.cf_base.specs.declared.codes.CallError.{CallError}
 use Rattle.cf_base.specs.declared.codes.CallError.TheVariants.{OutOfMemory, No}
 use Rattle.cf_base.specs.declared.ids.ItemId.{ItemId}
+use Rattle.cf_base.specs.declared.ids.Usn.{Usn}
 use Rattle.cf_disk.specs.Disk.{State}
 use Rattle.cf_filter_machine.proofs.ComingItems.{all_below}
 use Rattle.cf_filter_machine.proofs.EntriesKept.{directory_first, kept_early}
@@ -20,7 +21,7 @@ use Rattle.cf_filter_machine.specs.Entering.{AfterEntry, AreReadyEntries, Coming
 use Rattle.cf_filter_machine.specs.Held.{Held}
 use Rattle.cf_filter_machine.specs.Sensing.{Stands, sense}
 use Rattle.cf_model.specs.Books.{Book}
-use Rattle.cf_model.specs.Changes.{lacks_numbers, needs_id, no_blocks, no_table, put_change, put_changes, why_no_room}
+use Rattle.cf_model.specs.Changes.{lacks_numbers, needs_id, next_number, no_blocks, no_table, put_change, put_changes, why_no_room}
 use Rattle.cf_model.specs.Numbers.{most}
 use Rattle.cf_model.specs.Operations.{changes_with}
 use Rattle.cf_model.specs.State.{Filter, Volume}
@@ -139,8 +140,8 @@ same_books : (dir : ItemId) (cs : List Change) (v : Volume) → AreEntries dir c
 same_books dir [] v e = refl
 same_books dir (c ∷ cs) v e = same_books dir cs (put_change c v) e.1 ∙ (plain c (listed dir c v e.0)).book v.book
 
-pub records_put : (b new : Book) (records : List AuxRecord) → HasRecordsBeside b records new → HasBeside b records new
-records_put b new records h = record { told = h.told; anchors = h.anchors; clock = h.clock; accesses = h.accesses }
+pub records_put : (n : Usn) (b new : Book) (records : List AuxRecord) → HasRecordsBeside n b records new → HasBeside b records new
+records_put n b new records h = record { told = h.told; anchors = h.anchors; clock = h.clock; accesses = h.accesses }
 
 pub listed_read : {D : Type 0} (state : D → State) (dir : ItemId) (cs : List Change) (records : List AuxRecord) (x : Held D) (r : Room)
     → ((v : Volume) (b : Book) → At (state x.disk) x.known v → FitInTurn cs v → HasBeside (put_changes cs v).book records b → HasRoomWith cs b v r)
@@ -149,6 +150,6 @@ listed_read state dir cs records x r told f = record {
   is = λ s h p.
       let book = same_books dir cs s.volume p.entries in
       let k = told s.volume (f (put_changes cs s.volume).book) h.volume (entries_fit dir cs s.volume h.good.volume.below p.entries)
-      (subst (λ (b : Book). HasBeside b records (f b)) (sym book) (records_put s.volume.book (f s.volume.book) records p.beside)) in
+      (subst (λ (b : Book). HasBeside b records (f b)) (sym book) (records_put (next_number s.volume) s.volume.book (f s.volume.book) records p.beside)) in
       λ j. record { no_numbers = turned _ _ k.places j; no_table = turned _ _ k.table j; no_blocks = turned _ _ k.blocks j };
 }

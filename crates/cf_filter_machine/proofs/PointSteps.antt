@@ -57,7 +57,7 @@ reopened v h = record {
   };
   items = h.items;
   given = all_given v.epoch v.place v.items h.given;
-  book = record { anchors = λ id. above_epoch v.epoch v.place _ (h.book.anchors id); accesses = h.book.accesses; seen = h.book.seen; graves = graves_then v.epoch v.place v.book.tombstones h.book.graves; anchors_rise = h.book.anchors_rise; accesses_rise = h.book.accesses_rise };
+  book = record { anchors = λ id. above_epoch v.epoch v.place _ (h.book.anchors id); accesses = h.book.accesses; fits = h.book.fits; graves = graves_then v.epoch v.place v.book.tombstones h.book.graves; anchors_rise = h.book.anchors_rise; accesses_rise = h.book.accesses_rise };
 }
 
 -- what it says hangs on the parts of the volume alone
@@ -79,7 +79,7 @@ same_parts v w items next epoch place book h = whole (sym items) (sym next) (sym
       };
       items = h.items;
       given = h.given;
-      book = record { anchors = h.book.anchors; accesses = h.book.accesses; seen = h.book.seen; graves = h.book.graves; anchors_rise = h.book.anchors_rise; accesses_rise = h.book.accesses_rise };
+      book = record { anchors = h.book.anchors; accesses = h.book.accesses; fits = h.book.fits; graves = h.book.graves; anchors_rise = h.book.anchors_rise; accesses_rise = h.book.accesses_rise };
     }
 
     whole : v.items ≡ w.items → v.next_item ≡ w.next_item → v.epoch ≡ w.epoch → v.place ≡ w.place → v.book ≡ w.book → IsKeptVolume w

@@ -14,6 +14,7 @@ use Rattle.cf_filter_machine.proofs.ChangeSteps.{grows_put, put_points, told}
 use Rattle.cf_filter_machine.proofs.PlacesKept.{every_weaker, own_above, still_above}
 use Rattle.cf_filter_machine.proofs.PointSteps.{last_point}
 use Rattle.cf_filter_machine.proofs.RemovedItems.{IsBeside, kept_without, opened_without, reads_without}
+use Rattle.cf_engine_queue.specs.Records.{IsKeepable}
 use Rattle.cf_filter_machine.specs.Held.{Desk, Held, desk_of}
 use Rattle.cf_filter_machine.specs.Keeping.{IsKeptVolume}
 use Rattle.cf_filter_machine.specs.Graves.{gone}
@@ -54,18 +55,18 @@ every_put P before t (x ∷ xs) h k = by (before x t) (every_put P before t xs h
     by true rest = (k.0, rest)
     by false rest = (h, k)
 
-one_beside : (number : Usn) (b c : Book) (u : Bool) → IsBeside number b b → IsBeside number b c → IsBeside number b (cond u b c)
-one_beside number b c true h k = h
-one_beside number b c false h k = k
+one_beside : (number : Usn) (b c : Book) (u : Bool) → IsKeepable (cond u b c) → (IsKeepable b → IsBeside number b b) → (IsKeepable c → IsBeside number b c) → IsBeside number b (cond u b c)
+one_beside number b c true fits h k = h fits
+one_beside number b c false fits h k = k fits
 
-beside : (bury : Bool) (e p : ℕ) (i : Item) (b : Book) → Every (λ t. above (usn_after e (p + 1)) t.number ≡ true) b.tombstones → IsBeside (usn_after e (p + 1)) b (buried bury i (usn_after e p) b)
-beside false e p i b h = record { anchors = refl; accesses = refl; seen = refl; graves = h }
-beside true e p i b h =
-    one_beside (usn_after e (p + 1)) b (with_tombstone (tombstone_for i (usn_after e p)) b) (is_untargeted i) (record { anchors = refl; accesses = refl; seen = refl; graves = h })
-    (record {
+beside : (bury : Bool) (e p : ℕ) (i : Item) (b : Book) → IsKeepable (buried bury i (usn_after e p) b) → Every (λ t. above (usn_after e (p + 1)) t.number ≡ true) b.tombstones → IsBeside (usn_after e (p + 1)) b (buried bury i (usn_after e p) b)
+beside false e p i b fits h = record { anchors = refl; accesses = refl; fits = fits; graves = h }
+beside true e p i b fits h =
+    one_beside (usn_after e (p + 1)) b (with_tombstone (tombstone_for i (usn_after e p)) b) (is_untargeted i) fits (λ k. record { anchors = refl; accesses = refl; fits = k; graves = h })
+    (λ k. record {
       anchors = refl;
       accesses = refl;
-      seen = refl;
+      fits = k;
       graves = every_put (λ t. above (usn_after e (p + 1)) t.number ≡ true) (λ x y. above y.number x.number) (tombstone_for i (usn_after e p)) b.tombstones (own_above e p) h;
     })
 
@@ -79,17 +80,17 @@ module _ {D : Type 0} (state : D → State) (x : Held D) (id : ItemId) (bury : B
   }
 
   -- the volume without the item
-  gone_kept : (k : Known) (s : Filter) → Stands state x s → MayGo id i s → At (state d) k (gone bury id i s.volume) → IsKeptVolume (gone bury id i s.volume)
-  gone_kept k s h p at =
+  gone_kept : (k : Known) (s : Filter) → Stands state x s → MayGo id i s → IsKeepable (gone bury id i s.volume).book → At (state d) k (gone bury id i s.volume) → IsKeptVolume (gone bury id i s.volume)
+  gone_kept k s h p fits at =
       kept_without s.volume id (gone bury id i s.volume).book p.below p.empty
-      (beside bury s.volume.epoch s.volume.place i (book_after (change.Remove id) s.volume.book)
+      (beside bury s.volume.epoch s.volume.place i (book_after (change.Remove id) s.volume.book) fits
       (every_weaker (λ (t : Tombstone). above (usn_after s.volume.epoch s.volume.place) t.number ≡ true) (λ (t : Tombstone). above (usn_after s.volume.epoch (s.volume.place + 1)) t.number ≡ true)
       (λ t was. still_above s.volume.epoch s.volume.place t.number was) s.volume.book.tombstones h.kept.book.graves)) at.now.fits h.kept
 
   done : (k : Known) (e : Desk) (n : Usn) → k.broken ≡ false → e ≡ record x.desk { notes = x.desk.notes ++ notice.Change n (change.Remove id) ∷ [] } → ((s : Filter) → Stands state x s → n ≡ next_number s.volume) → (s : Filter) (h : Stands state x s) → MayGo id i s
-      → At (state d) k (gone bury id i s.volume) → Stands state (record { disk = d; known = k; desk = e }) (told (buried bury i (next_number s.volume)) (change.Remove id) false s)
-  done k e n usable desk number s h p at =
-      let kept : IsKeptVolume (gone bury id i s.volume) = gone_kept k s h p at in
+      → IsKeepable (gone bury id i s.volume).book → At (state d) k (gone bury id i s.volume) → Stands state (record { disk = d; known = k; desk = e }) (told (buried bury i (next_number s.volume)) (change.Remove id) false s)
+  done k e n usable desk number s h p fits at =
+      let kept : IsKeptVolume (gone bury id i s.volume) = gone_kept k s h p fits at in
       record {
         fair = fair;
         volume = at;
@@ -111,13 +112,14 @@ module _ {D : Type 0} (state : D → State) (x : Held D) (id : ItemId) (bury : B
   by_own s p = own_id s.volume.items id i p.there
 
   pub removed_told : (k : Known) (e : Desk) (n : Usn) → k.broken ≡ false → e ≡ record x.desk { notes = x.desk.notes ++ notice.Change n (change.Remove id) ∷ [] } → ((s : Filter) → Stands state x s → n ≡ next_number s.volume)
+      → ((s : Filter) → Stands state x s → MayGo id i s → IsKeepable (gone bury id i s.volume).book)
       → ((s : Filter) → Stands state x s → MayGo id i s → At (state d) k (gone bury id i s.volume)) → Answers (sense state) (MayGo id i) (removed bury i) x (Ok unit) (record { disk = d; known = k; desk = e })
-  removed_told k e n usable desk number at = record {
+  removed_told k e n usable desk number fits at = record {
     leads = λ s h p. (
       told (buried bury i (next_number s.volume)) (change.Remove id) false s,
       (refl, ap (λ (j : ItemId). told (buried bury i (next_number s.volume)) (change.Remove j) false s) (by_own s p)),
       remove_moved s (gone bury id i s.volume) (grows_put (change.Remove id) (buried bury i (next_number s.volume)) s.volume false) h,
-      done k e n usable desk number s h p (at s h p),
+      done k e n usable desk number s h p (fits s h p) (at s h p),
     );
   }
 

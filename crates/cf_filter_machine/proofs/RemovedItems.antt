@@ -5,18 +5,17 @@ use Rattle.std.specs.List.{list_any}
 use Rattle.std.proofs.Math.Nat.{le-max_left}
 use Rattle.std.proofs.lemmas.Bool.{eqb-false, eqb-true, not_from_false, or_parts}
 use Rattle.std.proofs.lemmas.Bool.Decides.{nat_tests}
-use Rattle.std.proofs.lemmas.List.Elements.{All-filter}
 use Rattle.cf_base.specs.declared.answers.Access.{Access}
 use Rattle.cf_base.specs.declared.answers.Anchor.{Anchor}
 use Rattle.cf_base.specs.declared.changes.Change.TheVariants as change
 use Rattle.cf_base.specs.declared.ids.ItemId.{ItemId}
 use Rattle.cf_base.specs.declared.ids.Usn.{Usn}
-use Rattle.cf_base.specs.declared.items.SeenPath.{SeenPath}
 use Rattle.cf_base.specs.declared.waits.WaitKind.{WaitKind}
 use Rattle.cf_base.specs.declared.waits.WaitKind.TheVariants as wait_kind
 use Rattle.cf_filter_machine.proofs.GoodSteps.{every_kept}
 use Rattle.cf_filter_machine.proofs.PlacesKept.{all_later, every_weaker, new_number, still_above}
 use Rattle.cf_filter_machine.proofs.RisingBooks.{AccessesRise, AnchorsRise, accesses_without, anchors_without}
+use Rattle.cf_engine_queue.specs.Records.{IsKeepable}
 use Rattle.cf_filter_machine.specs.Keeping.{IsKept, IsKeptVolume}
 use Rattle.cf_model.specs.Books.{Book, access_of, anchor_of, book_after}
 use Rattle.cf_model.specs.Changes.{next_number, put_change}
@@ -29,7 +28,6 @@ use Rattle.cf_model.specs.State.{Open, Volume}
 use Rattle.cf_model.specs.Words.{part}
 use Rattle.cf_model.proofs.SoundEffects.{effect_sound}
 use Rattle.cf_volume_points.specs.Holding.{FitsTable}
-use Rattle.cf_volume_points.specs.Keeping.{AreShortIds}
 use Rattle.cf_filter_steps.specs.Good.{Every, IsFileIn, IsOnFile, IsSmall}
 use Rattle.cf_table.specs.Reading.{IsStored}
 use Rattle.cf_tree.proofs.Depths.{some_of}
@@ -74,11 +72,11 @@ access_gone id key b h = ap (λ o. part (λ a. a.clock) 0 o) (found_gone (λ a. 
     by true = refl
     by false = h
 
--- a book that differs from another in its tombstones alone, which were given before a number
+-- a book that fits its records and has the anchors and accesses of another, and whose tombstones were given before a number
 pub record IsBeside (number : Usn) (b c : Book) : Type 0 where
   pub anchors : c.anchors ≡ b.anchors
   pub accesses : c.accesses ≡ b.accesses
-  pub seen : c.seen ≡ b.seen
+  pub fits : IsKeepable c
   pub graves : Every (λ t. above number t.number ≡ true) c.tombstones
 
 pub kept_without : (v : Volume) (id : ItemId) (b : Book) → (eqb id.0 1) ≡ false → children v.items id ≡ [] → IsBeside (usn_after v.epoch (v.place + 1)) (book_after (change.Remove id) v.book) b → FitsTable (without id v.items) b → IsKeptVolume v
@@ -102,7 +100,7 @@ kept_without v id b other bare beside fits h = record {
     anchors = λ key. ap (λ (l : List Anchor). above (usn_after v.epoch (v.place + 1)) (part (λ a. a.number) no_usn (find (λ a. a.item.0 == key.0) l))) beside.anchors
         ∙ anchor_gone v.epoch (v.place + 1) id key v.book (still_above v.epoch v.place (anchor_of v.book key) (h.book.anchors key));
     accesses = λ key i e d. ap (λ (l : List Access). part (λ a. a.clock) 0 (find (λ a. a.item.0 == key.0) l)) beside.accesses ∙ access_gone id key v.book (h.book.accesses key i (was_there v.items key id i e) d);
-    seen = subst AreShortIds (sym beside.seen) (All-filter (λ (p : SeenPath). not (p.item.0 == id.0)) (λ (p : SeenPath). p.item.0 < 18446744073709551616) v.book.seen h.book.seen);
+    fits = beside.fits;
     graves = beside.graves;
     anchors_rise = subst AnchorsRise (sym beside.anchors) (anchors_without id v.book.anchors h.book.anchors_rise);
     accesses_rise = subst AccessesRise (sym beside.accesses) (accesses_without id v.book.accesses h.book.accesses_rise);

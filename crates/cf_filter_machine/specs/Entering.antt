@@ -13,7 +13,7 @@ use Rattle.cf_filter_machine.specs.Lasting.{Lasts, Moved}
 use Rattle.cf_filter_machine.specs.Sensing.{Rose, Stands, Stopped}
 use Rattle.cf_model.specs.Arrows.{Arrow}
 use Rattle.cf_model.specs.Books.{Book}
-use Rattle.cf_model.specs.Changes.{put_change, why_no_room}
+use Rattle.cf_model.specs.Changes.{next_number, put_change, why_no_room}
 use Rattle.cf_model.specs.Effects.{changed, populated}
 use Rattle.cf_model.specs.Numbers.{no_key, same_key}
 use Rattle.cf_model.specs.Operations.{changes_with}
@@ -52,7 +52,7 @@ EndsBy dir (c ∷ d ∷ cs) = EndsBy dir (d ∷ cs)
 pub record MayEnter (f : Book → Book) (dir : ItemId) (cs : List Change) (records : List AuxRecord) (s : Filter) : Type 0 where
   pub entries : AreReadyEntries dir cs s.volume
   pub ends : EndsBy dir cs
-  pub beside : HasRecordsBeside s.volume.book records (f s.volume.book)
+  pub beside : HasRecordsBeside (next_number s.volume) s.volume.book records (f s.volume.book)
 
 -- the volume as if the entries had come
 abbrev pub ahead : ItemId → Volume → Volume

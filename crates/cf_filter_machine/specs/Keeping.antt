@@ -3,6 +3,7 @@ use Rattle.std.specs.Prelude.{◌≡◌, ◌≤◌, ◌<◌, ◌==◌, ◌+◌, 
 use Rattle.cf_base.specs.declared.changes.Change.{Change}
 use Rattle.cf_base.specs.declared.ids.ItemId.{ItemId}
 use Rattle.cf_base.specs.declared.ids.Usn.{Usn}
+use Rattle.cf_engine_queue.specs.Records.{IsKeepable}
 use Rattle.cf_model.specs.Books.{Book, access_of, anchor_of}
 use Rattle.cf_model.specs.Changes.{next_number}
 use Rattle.cf_model.specs.Items.{Item, is_held, item_of}
@@ -10,7 +11,6 @@ use Rattle.cf_model.specs.Numbers.{above, is_no_usn}
 use Rattle.cf_model.specs.Overlay.{Written, is_covered}
 use Rattle.cf_model.specs.Points.{Opens}
 use Rattle.cf_model.specs.State.{Point, Volume}
-use Rattle.cf_volume_points.specs.Keeping.{AreShortIds}
 use Rattle.cf_volume_points.specs.Standing.{opened}
 use Rattle.cf_filter_steps.specs.Good.{Every, IsGoodVolume}
 
@@ -31,12 +31,12 @@ abbrev pub IsRisingBy : {A : Type 0} → (A → ℕ) → (A → Type 0) → List
 IsRisingBy key good [] = Unit {0}
 IsRisingBy key good (x ∷ xs) = good x × Every (λ y. key x < key y) xs × IsRisingBy key good xs
 
--- Anchors and the numbers of tombstones were given, files alone are accessed, and the paths seen are of items with ids that
--- fit. Anchors and accesses stand by item, one an item, and none of them says that there is none.
+-- The book fits its records. Anchors and the numbers of tombstones were given, and files alone are accessed. Anchors and accesses
+-- stand by item, one an item, and none of them says that there is none.
 pub record IsKeptBook (next : Usn) (items : List Item) (b : Book) : Type 0 where
   pub anchors : (id : ItemId) → above next (anchor_of b id) ≡ true
   pub accesses : (id : ItemId) (i : Item) → item_of items id ≡ Some i → i.directory ≡ true → access_of b id ≡ 0
-  pub seen : AreShortIds b.seen
+  pub fits : IsKeepable b
   pub graves : Every (λ t. above next t.number ≡ true) b.tombstones
   pub anchors_rise : IsRisingBy (λ a. a.item.0) (λ a. is_no_usn a.number ≡ false) b.anchors
   pub accesses_rise : IsRisingBy (λ a. a.item.0) (λ a. (a.clock == 0) ≡ false) b.accesses

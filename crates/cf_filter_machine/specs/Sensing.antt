@@ -2,6 +2,7 @@
 use Rattle.std.proofs.Common.{◌≡◌, ◌+◌, ◌≤◌, ap, arith}
 use Rattle.std.specs.Prelude.{false}
 use Rattle.cf_disk.specs.Disk.{State, capped}
+use Rattle.cf_engine_queue.specs.Records.{IsKeepable}
 use Rattle.cf_filter_machine.specs.Lasts.{lasts_at, moved_on, stays_put}
 use Rattle.cf_filter_machine.specs.Held.{Desk, Held, desk_of}
 use Rattle.cf_filter_machine.specs.Keeping.{HasKeptPoints, IsKeptVolume}
@@ -51,3 +52,7 @@ sense state = record {
 
 pub waits_known : {D : Type 0} (state : D → State) (x : Held D) (s : Filter) → Stands state x s → x.desk.waiting ≡ s.waiting
 waits_known state x s h = ap (λ (d : Desk). d.waiting) h.desk
+
+-- its book fits its records
+pub keepable : {D : Type 0} (state : D → State) (x : Held D) (s : Filter) → Stands state x s → IsKeepable s.volume.book
+keepable state x s h = h.kept.book.fits

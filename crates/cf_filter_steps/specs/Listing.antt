@@ -1,12 +1,13 @@
 -- The entries of a directory, which come as one, with records beside the last of their changes.
-use Rattle.std.specs.Prelude.{◌≡◌, ◌<◌, false, true, ℕ, All, List, [], ◌∷◌, ◌++◌, None, MatchOption}
+use Rattle.std.specs.Prelude.{◌≡◌, ◌<◌, false, true, ℕ, List, [], ◌∷◌, ◌++◌, None, MatchOption}
 use Rattle.cf_base.specs.declared.answers.AuxRecord.{AuxRecord}
 use Rattle.cf_base.specs.declared.changes.Change.{Change}
 use Rattle.cf_base.specs.declared.changes.Change.TheVariants as change
 use Rattle.cf_base.specs.declared.ids.ItemId.{ItemId}
 use Rattle.cf_base.specs.declared.ids.Usn.{Usn}
 use Rattle.cf_model.specs.Books.{Book, aux_records}
-use Rattle.cf_model.specs.Changes.{lacks_numbers, no_blocks, put_change}
+use Rattle.cf_engine_queue.specs.Records.{IsKeepable}
+use Rattle.cf_model.specs.Changes.{lacks_numbers, next_number, no_blocks, put_change}
 use Rattle.cf_model.specs.Formats.{with_records}
 use Rattle.cf_model.specs.Items.{Item, item_of}
 use Rattle.cf_model.specs.LookUp.{child_of, depth_at}
@@ -19,15 +20,19 @@ use Rattle.cf_filter_steps.specs.Good.{Every}
 use Rattle.cf_filter_steps.specs.Suiting.{FitsTable, LastsAs}
 use Rattle.cf_filter_steps.specs.declared.rooms.Room.{Room}
 
--- The new book has these records besides, and all else as before. Records say ids and numbers as far as they have room for
--- them: so ids of paths seen stay below 2 ^ 64 where they were, and each tombstone has a number that was given.
-pub record HasRecordsBeside (b : Book) (records : List AuxRecord) (new : Book) : Type 0 where
+-- the number comes no earlier than the other: what is below the other is below it
+abbrev pub IsFrom : Usn → Usn → Type 0
+IsFrom next n = (m : Usn) → above next m ≡ true → above n m ≡ true
+
+-- The new book has these records besides, and all else as before. It fits its records where the old one did. Each tombstone has a
+-- number that was given, where this is the next one.
+pub record HasRecordsBeside (next : Usn) (b : Book) (records : List AuxRecord) (new : Book) : Type 0 where
   pub told : aux_records new ≡ with_records records (aux_records b)
   pub anchors : new.anchors ≡ b.anchors
   pub clock : new.clock ≡ b.clock
   pub accesses : new.accesses ≡ b.accesses
-  pub seen : All (λ p. p.item.0 < 18446744073709551616) b.seen → All (λ p. p.item.0 < 18446744073709551616) new.seen
-  pub graves : (n : Usn) → Every (λ t. above n t.number ≡ true) b.tombstones → Every (λ t. above n t.number ≡ true) new.tombstones
+  pub fits : IsKeepable b → IsKeepable new
+  pub graves : (n : Usn) → IsFrom next n → Every (λ t. above n t.number ≡ true) b.tombstones → Every (λ t. above n t.number ≡ true) new.tombstones
 
 -- a free name in a directory, at most 32 names from the root
 abbrev pub IsFreeEntry : List Item → ItemId → List ℕ → Type 0
@@ -58,7 +63,7 @@ pub record Listing (f : Book → Book) (dir : ItemId) (cs : List Change) (record
   pub entries : AreEntries dir cs s.volume
   pub before : List Change
   pub ends : cs ≡ before ++ change.Populated dir ∷ []
-  pub beside : HasRecordsBeside s.volume.book records (f s.volume.book)
+  pub beside : HasRecordsBeside (next_number s.volume) s.volume.book records (f s.volume.book)
 
 -- whether it finds no room
 abbrev pub room_listed : (Book → Book) → List Change → Filter → Room

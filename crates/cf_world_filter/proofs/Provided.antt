@@ -92,13 +92,13 @@ pub scripted_plays : Plays Answers Sees
 scripted_plays = record {
   called = λ p x asks h. sees_still p x (record x.filter { outbox = asks }) h;
   over = λ p x h. sees_still p x (begin_call x.filter) h;
-  ends = λ p q x ask acts t seen sees shows good answered h none. (
+  ends = λ p q x ask acts t seen sees shows good keeps answered h none. (
     with_filter t (without_plan x),
     refl,
     subst (λ (l : List (Bool × Operation)). Sees l (with_filter t (without_plan x))) (sym answered.1) (taken p x t sees),
     subst (λ (w : Tree State (Unit {0})). Ends w unit (with_filter t (without_plan x))) (sym (scripted_tree ask x p sees)) (all_done ask.key p acts (without_plan x) t answered.0 h none),
   );
-  stops = λ p q x ask acts t seen sees shows good answered h failed. (
+  stops = λ p q x ask acts t seen sees shows good keeps answered h failed. (
     with_filter t (without_plan x),
     refl,
     subst (λ (l : List (Bool × Operation)). Sees l (with_filter t (without_plan x))) (sym answered.1) (taken p x t sees),

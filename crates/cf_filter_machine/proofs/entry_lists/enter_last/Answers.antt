@@ -9,6 +9,7 @@ use Rattle.cf_filter_machine.specs.Held.{Desk}
 use Rattle.cf_filter_machine.specs.Sensing.{Stands}
 use Rattle.cf_model.specs.Changes.{change_with, put_change, put_with_book}
 use Rattle.cf_model.specs.Arrows.{unit}
+use Rattle.cf_model.specs.Changes.{next_number}
 use Rattle.cf_filter_machine.proofs.entry_lists.enter_last.Goals as goal
 
 pub returns-in_err-line-clause-does : goal.returns-in_err-line-clause-does
@@ -59,7 +60,7 @@ returns-clause-does g c = λ dir f.
     let at = c.in_ok-number.ensures.ok s.volume h.volume in
     on_disk g.D.Disk.state c.put_records.new.volume.known (put_with_book f c.args.change.now s.volume) c.put_records.ensures.disk
     (c.in_ok-put_records.ensures.ok (put_change c.args.change.now s.volume) (f (put_change c.args.change.now s.volume).book) at
-    (last_put (g.D.Disk.state c.put_entry.new.volume.disk) c.put_entry.new.volume.known c.args.change.now s.volume f c.args.records.now c.in_ok-number.ensures.listed at p.beside)))
+    (last_put (g.D.Disk.state c.put_entry.new.volume.disk) c.put_entry.new.volume.known c.args.change.now s.volume f c.args.records.now c.in_ok-number.ensures.listed at (next_number s.volume) p.beside)))
     (λ v at. (c.in_ok-number.ensures.ok v at).now.fits))
 
 pub returns-clause-same : goal.returns-clause-same

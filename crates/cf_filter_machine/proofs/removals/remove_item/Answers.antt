@@ -5,7 +5,9 @@ use Rattle.cf_base.specs.declared.changes.Change.TheVariants as change
 use Rattle.cf_disk.specs.Disk.{Leaves}
 use Rattle.cf_filter_machine.specs.Graves.{IsGraveOf}
 use Rattle.cf_filter_machine.proofs.AnswerSteps.{on_ok_map}
-use Rattle.cf_filter_machine.proofs.Buried.{no_grave, no_reason, one_grave}
+use Rattle.cf_engine_queue.specs.Records.{FitsUsn}
+use Rattle.cf_engine_queue.proofs.StaysKeepable.{change_kept, short_ids}
+use Rattle.cf_filter_machine.proofs.Buried.{no_grave, no_reason, none_fits, not_yet, one_fits, one_grave}
 use Rattle.cf_filter_machine.proofs.ChangeSteps.{not_refused}
 use Rattle.cf_filter_machine.proofs.ReadSteps.{err_map, memory_alone, still, stops_by}
 use Rattle.cf_filter_machine.proofs.RemoveSteps.{gone_at, other_own, row_there, was_gone}
@@ -38,11 +40,11 @@ pub returns-in-None-clause-crash : goal.returns-in-None-clause-crash
 returns-in-None-clause-crash g c = λ v at. c.in_ok-number.ensures.kept_crash v at refl
 
 pub returns-in-None-clause-done : goal.returns-in-None-clause-done
-returns-in-None-clause-done g c = λ v i at there other short graves.
+returns-in-None-clause-done g c = λ v i at there other keeps graves.
     let grave = c.in_ok-grave.ensures.grave i (row_there (g.D.Disk.state c.args.volume.now.disk) c.args.volume.now.known v c.args.item i _ c.row.ensures at there) (other_own v.items c.args.item i there other) in
     gone_at (g.D.Disk.state c.apply.new.self.disk) c.apply.new.self.known c.args.bury c.args.item i v (put_change (change.Remove c.args.item) v).book
     (sym (no_grave c.args.bury i (next_number v) (put_change (change.Remove c.args.item) v).book (subst (IsGraveOf c.args.bury i) c.in-None.is grave)))
-    (was_gone (g.D.Disk.state c.apply.new.self.disk) c.apply.new.self.known c.args.item v (c.in_ok-number.ensures.ok v at short (λ may. absurd (true≢false (sym may)))))
+    (was_gone (g.D.Disk.state c.apply.new.self.disk) c.apply.new.self.known c.args.item v (c.in_ok-number.ensures.ok v at (short_ids v.book keeps) (λ may. absurd (true≢false (sym may)))))
 
 pub returns-in-Some-clause-crash : goal.returns-in-Some-clause-crash
 returns-in-Some-clause-crash g c = λ v at.
@@ -55,14 +57,24 @@ pub returns-in-Some-clause-number : goal.returns-in-Some-clause-number
 returns-in-Some-clause-number g c = λ v at. ok_map c.put_grave.result _ _ (λ n same. same ∙ c.in_ok-number.ensures.number v at) c.put_grave.ensures.number
 
 pub returns-in-Some-clause-done : goal.returns-in-Some-clause-done
-returns-in-Some-clause-done g c = λ v i at there other short graves.
+returns-in-Some-clause-done g c = λ v i at there other keeps graves.
     let grave = subst (IsGraveOf c.args.bury i) c.in-Some.is (c.in_ok-grave.ensures.grave i (row_there (g.D.Disk.state c.args.volume.now.disk) c.args.volume.now.known v c.args.item i _ c.row.ensures at there) (other_own v.items c.args.item i there other)) in
     on_ok_map c.put_grave.result
     (λ done. gone_at (g.D.Disk.state c.put_grave.new.volume.disk) c.put_grave.new.volume.known c.args.bury c.args.item i v (with_tombstone (tombstone_for i (next_number v)) (put_change (change.Remove c.args.item) v).book)
     (one_grave c.args.bury i (next_number v) (put_change (change.Remove c.args.item) v).book grave.0) done)
     (c.put_grave.ensures.ok (put_change (change.Remove c.args.item) v) (tombstone_for i (next_number v))
-    (was_gone (g.D.Disk.state c.apply.new.self.disk) c.apply.new.self.known c.args.item v (c.in_ok-number.ensures.ok v at short (λ may. absurd (true≢false (sym may)))))
-    (sym (c.in_ok-number.ensures.number v at)) grave.1 graves)
+    (was_gone (g.D.Disk.state c.apply.new.self.disk) c.apply.new.self.known c.args.item v (c.in_ok-number.ensures.ok v at (short_ids v.book keeps) (λ may. absurd (true≢false (sym may)))))
+    (sym (c.in_ok-number.ensures.number v at)) grave.1 (change_kept v.book (change.Remove c.args.item) keeps) (not_yet (next_number v) v.book.tombstones graves))
+
+pub returns-in-None-clause-fits : goal.returns-in-None-clause-fits
+returns-in-None-clause-fits g c = λ v i at there other keeps graves.
+    let grave = c.in_ok-grave.ensures.grave i (row_there (g.D.Disk.state c.args.volume.now.disk) c.args.volume.now.known v c.args.item i _ c.row.ensures at there) (other_own v.items c.args.item i there other) in
+    none_fits c.args.bury c.args.item i v keeps (subst (IsGraveOf c.args.bury i) c.in-None.is grave)
+
+pub returns-in-Some-clause-fits : goal.returns-in-Some-clause-fits
+returns-in-Some-clause-fits g c = λ v i at there other keeps graves.
+    let grave = subst (IsGraveOf c.args.bury i) c.in-Some.is (c.in_ok-grave.ensures.grave i (row_there (g.D.Disk.state c.args.volume.now.disk) c.args.volume.now.known v c.args.item i _ c.row.ensures at there) (other_own v.items c.args.item i there other)) in
+    on_ok_map c.put_grave.result (λ usable. one_fits c.args.bury c.args.item i v keeps grave.0 grave.2 (subst FitsUsn (c.in_ok-number.ensures.number v at) c.put_grave.ensures.fits) graves) c.put_grave.ensures.usable
 
 pub returns-in_err-grave-clause-runs : goal.returns-in_err-grave-clause-runs
 returns-in_err-grave-clause-runs g c = record { size = refl; powers = refl; faults = omega arith }

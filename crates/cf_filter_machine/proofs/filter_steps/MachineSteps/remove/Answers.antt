@@ -40,7 +40,8 @@ returns-clause-does g c = λ i.
     c.remove_item.new.volume.known c.note.new.self c.in_ok-number.number c.in_ok-number.ensures.usable
     (c.in_ok-note.ensures.ok ∙ ap (λ (d : Desk). record d { notes = d.notes ++ notice.Change c.in_ok-number.number (change.Remove c.args.item) ∷ [] }) (seen_desk c.self.view_is))
     (λ s h. c.in_ok-number.ensures.number s.volume (seen_at g.D.Disk.state s.volume c.self.view_is h.volume))
-    (λ s h p. c.in_ok-number.ensures.done s.volume i (seen_at g.D.Disk.state s.volume c.self.view_is h.volume) p.there p.below h.kept.book.seen h.kept.book.graves)
+    (λ s h p. c.in_ok-number.ensures.fits s.volume i (seen_at g.D.Disk.state s.volume c.self.view_is h.volume) p.there p.below h.kept.book.fits h.kept.book.graves)
+    (λ s h p. c.in_ok-number.ensures.done s.volume i (seen_at g.D.Disk.state s.volume c.self.view_is h.volume) p.there p.below h.kept.book.fits h.kept.book.graves)
 
 pub returns-clause-same : goal.returns-clause-same
 returns-clause-same g c = ap (λ (d : Desk). d.waiting) c.in_ok-note.ensures.ok ∙ ap (λ (d : Desk). d.waiting) (seen_desk c.self.view_is)
