@@ -75,8 +75,8 @@ impl<R: Remote> Agent<R> {
         self.link
     }
 
-    // A step more was left out. There never are 2^64 of them.
-    pub(crate) fn count_skip(&mut self) -> Result<(), OutOfMemory>
+    /// Counts a step that was left out. There never are 2^64 of them: that is answered as out of memory, and the count stays.
+    pub fn count_skip(&mut self) -> Result<(), OutOfMemory>
         ensures ok { OnOk result (self.new ≡ record self.old { skips = self.old.skips + 1 }) }
         ensures err { OnErr result (self.new ≡ self.old) }
     {

@@ -7,7 +7,7 @@ use Rattle.cf_base.specs.declared.codes.CallError.TheVariants.{No, OutOfMemory}
 use Rattle.cf_base.specs.declared.notices.Notice.TheVariants as notice
 use Rattle.cf_engine_steps.specs.Answering.{Answers, Any}
 use Rattle.cf_engine_steps.specs.Faults.{fault_lines, rose_none}
-use Rattle.cf_engine_steps.specs.States.{Own, faults_of, whole}
+use Rattle.cf_engine_steps.specs.States.{Own, faults_of, whole, with_skip_counted}
 use Rattle.cf_engine_steps.specs.Lines.{with_line_if}
 use Rattle.cf_engine_steps.specs.Lines.{with_skip}
 use Rattle.cf_engine_steps.proofs.Lifting.{quiet_notes}
@@ -33,45 +33,45 @@ quiet_skip true c s = quiet_notes (fault_lines s) (notice.Skipped c ∷ []) s re
 quiet_skip false c s = refl
 
 module _ {X R : Type 0} (S : steps.Sense X) (told : R → Told) (c : Code) (x y : X) (e : Own R) where
-  pub left_out_ok : (u : Unit {0}) → steps.Answers S steps.Any (noted (with_skip e.shows_skips c)) x (Ok u) y → Answers (whole S told) Any (skip c) (x, e) (Ok unit) (y, record e { skips = e.skips + 1 })
+  pub left_out_ok : (u : Unit {0}) → steps.Answers S steps.Any (noted (with_skip e.agent.shows_skips c)) x (Ok u) y → Answers (whole S told) Any (skip c) (x, e) (Ok unit) (y, with_skip_counted e)
   left_out_ok u h = record {
     leads = λ s i p.
         let l = h.leads s.filter i.filter (record {}) in (
           with_filter l.0 (with_count s),
-          (refl, ap (λ (f : Filter). with_filter f (with_count s)) l.1.1 ∙ sym (line_is e.shows_skips c s) ∙ ap (λ (b : Bool). skip_line b c (with_count s)) i.shows_skips),
+          (refl, ap (λ (f : Filter). with_filter f (with_count s)) l.1.1 ∙ sym (line_is e.agent.shows_skips c s) ∙ ap (λ (b : Bool). skip_line b c (with_count s)) i.sees.shows_skips),
           l.2,
           (
-            record { filter = l.3; replays = i.replays; on = i.on; link = i.link; shows_skips = i.shows_skips; skips = ap (λ (n : ℕ). n + 1) i.skips; took_done = i.took_done; first_clock = i.first_clock },
-            rose_none (faults_of told e) (fault_lines s.filter) (fault_lines l.0) (ap fault_lines l.1.1 ∙ quiet_skip e.shows_skips c s.filter),
+            record { filter = l.3; on = i.on; sees = record { replays = i.sees.replays; link = i.sees.link; shows_skips = i.sees.shows_skips; skips = ap (λ (n : ℕ). n + 1) i.sees.skips }; took_done = i.took_done; first_clock = i.first_clock; volatile = i.volatile },
+            rose_none (faults_of told e) (fault_lines s.filter) (fault_lines l.0) (ap fault_lines l.1.1 ∙ quiet_skip e.agent.shows_skips c s.filter),
           ),
         );
   }
 
   -- without memory to count it
-  pub left_out_full : (u : Unit {0}) → steps.Answers S steps.Any (noted (with_skip e.shows_skips c)) x (Ok u) y → Answers (whole S told) Any (skip c) (x, e) (Err OutOfMemory) (y, e)
+  pub left_out_full : (u : Unit {0}) → steps.Answers S steps.Any (noted (with_skip e.agent.shows_skips c)) x (Ok u) y → Answers (whole S told) Any (skip c) (x, e) (Err OutOfMemory) (y, e)
   left_out_full u h = record {
     leads = λ s i p. let l = h.leads s.filter i.filter (record {}) in (with_filter l.0 s, record {}, l.2, S.endures y l.0 l.3);
   }
 
-  pub left_out_fails : (f : CallError) → steps.Answers S steps.Any (noted (with_skip e.shows_skips c)) x (Err f) y → Answers (whole S told) Any (skip c) (x, e) (Err f) (y, e)
+  pub left_out_fails : (f : CallError) → steps.Answers S steps.Any (noted (with_skip e.agent.shows_skips c)) x (Err f) y → Answers (whole S told) Any (skip c) (x, e) (Err f) (y, e)
   left_out_fails (No d) h = record { leads = λ s i p. absurd ((h.leads s.filter i.filter (record {})).1.1) }
   left_out_fails OutOfMemory h = record { leads = λ s i p. let l = h.leads s.filter i.filter (record {}) in (with_filter l.0 s, record {}, l.2, l.3) }
 
 -- the same as the code comes to it: with what it read, and with what it left
 pub skip_ok : {X R : Type 0} (S : steps.Sense X) (told : R → Told) (c : Code) (x y : X) (e f : Own R) (b : Bool) (u : Unit {0})
-    → b ≡ e.shows_skips → f ≡ record e { skips = e.skips + 1 } → steps.Answers S steps.Any (noted (with_skip b c)) x (Ok u) y → Answers (whole S told) Any (skip c) (x, e) (Ok unit) (y, f)
+    → b ≡ e.agent.shows_skips → f ≡ with_skip_counted e → steps.Answers S steps.Any (noted (with_skip b c)) x (Ok u) y → Answers (whole S told) Any (skip c) (x, e) (Ok unit) (y, f)
 skip_ok {X} {R} S told c x y e f b u is new h =
     subst (λ (o : Own R). Answers (whole S told) Any (skip c) (x, e) (Ok unit) (y, o)) (sym new)
     (left_out_ok S told c x y e u (subst (λ (d : Bool). steps.Answers S steps.Any (noted (with_skip d c)) x (Ok u) y) is h))
 
 pub skip_full : {X R : Type 0} (S : steps.Sense X) (told : R → Told) (c : Code) (x y : X) (e f : Own R) (b : Bool) (u : Unit {0})
-    → b ≡ e.shows_skips → f ≡ e → steps.Answers S steps.Any (noted (with_skip b c)) x (Ok u) y → Answers (whole S told) Any (skip c) (x, e) (Err OutOfMemory) (y, f)
+    → b ≡ e.agent.shows_skips → f ≡ e → steps.Answers S steps.Any (noted (with_skip b c)) x (Ok u) y → Answers (whole S told) Any (skip c) (x, e) (Err OutOfMemory) (y, f)
 skip_full {X} {R} S told c x y e f b u is new h =
     subst (λ (o : Own R). Answers (whole S told) Any (skip c) (x, e) (Err OutOfMemory) (y, o)) (sym new)
     (left_out_full S told c x y e u (subst (λ (d : Bool). steps.Answers S steps.Any (noted (with_skip d c)) x (Ok u) y) is h))
 
 pub skip_fails : {X R : Type 0} (S : steps.Sense X) (told : R → Told) (c : Code) (x y : X) (e : Own R) (b : Bool) (f : CallError)
-    → b ≡ e.shows_skips → steps.Answers S steps.Any (noted (with_skip b c)) x (Err f) y → Answers (whole S told) Any (skip c) (x, e) (Err f) (y, e)
+    → b ≡ e.agent.shows_skips → steps.Answers S steps.Any (noted (with_skip b c)) x (Err f) y → Answers (whole S told) Any (skip c) (x, e) (Err f) (y, e)
 skip_fails S told c x y e b f is h = left_out_fails S told c x y e f (subst (λ (d : Bool). steps.Answers S steps.Any (noted (with_skip d c)) x (Err f) y) is h)
 
 pub nothing_noted : {X : Type 0} (S : steps.Sense X) (x : X) → steps.Answers S steps.Any (noted (with_line_if None)) x (Ok unit) x

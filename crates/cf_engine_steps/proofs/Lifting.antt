@@ -5,6 +5,7 @@ use Rattle.cf_base.specs.declared.changes.Change.{Change}
 use Rattle.cf_base.specs.declared.codes.CallError.{CallError}
 use Rattle.cf_base.specs.declared.codes.CallError.TheVariants.{No, OutOfMemory}
 use Rattle.cf_base.specs.declared.notices.Notice.{Notice}
+use Rattle.cf_engine_provider.specs.Agencies.{Agency, Sees}
 use Rattle.cf_engine_steps.specs.Answering.{After, Answers, Any, On, Reads}
 use Rattle.cf_engine_steps.specs.Faults.{fault_lines, rose_none}
 use Rattle.cf_engine_steps.specs.States.{Means, Own, faults_of, whole}
@@ -21,16 +22,18 @@ use Rattle.cf_remote.specs.Told.{Told}
 use Rattle.cf_filter_steps.specs.Answering as steps
 
 -- with another filter it stands for the whole as it did
+
+pub sees_filter : {R : Type 0} (told : R → Told) (p : Agency R) (s : State) (t : Filter) → Sees told p s → Sees told p (with_filter t s)
+sees_filter told p s t h = record { replays = h.replays; link = h.link; shows_skips = h.shows_skips; skips = h.skips }
+
 pub mean_filter : {X R : Type 0} (S : steps.Sense X) (told : R → Told) (x y : X) (e : Own R) (s : State) (t : Filter) → Means S told x e s → S.means y t → Means S told y e (with_filter t s)
 mean_filter S told x y e s t h k = record {
   filter = k;
-  replays = h.replays;
   on = h.on;
-  link = h.link;
-  shows_skips = h.shows_skips;
-  skips = h.skips;
+  sees = sees_filter told e.agent s t h.sees;
   took_done = h.took_done;
   first_clock = h.first_clock;
+  volatile = h.volatile;
 }
 
 lift_after : {X R A : Type 0} (S : steps.Sense X) (told : R → Told) (f : Arrow Filter A) (x y : X) (e : Own R) (s : State) (t : Filter) (r : Result A CallError)
@@ -38,7 +41,7 @@ lift_after : {X R A : Type 0} (S : steps.Sense X) (told : R → Told) (f : Arrow
 lift_after S told f x y e s t (Ok a) q h d k =
     (mean_filter S told x y e s t h k, rose_none (faults_of told e) (fault_lines s.filter) (fault_lines t) (kept_at_end (λ (z : Filter). fault_lines z ≡ fault_lines s.filter) (f s.filter) a t ((q.keeps (fault_lines s.filter)).keeps s.filter refl) d))
 lift_after S told f x y e s t (Err (No c)) q h d k = (
-  record { filter = k; replays = h.replays; link = h.link },
+  record { filter = k; replays = h.sees.replays; link = h.sees.link },
   rose_none (faults_of told e) (fault_lines s.filter) (fault_lines t) (kept_at_stop (λ (z : Filter). fault_lines z ≡ fault_lines s.filter) (f s.filter) t ((q.keeps (fault_lines s.filter)).keeps s.filter refl) d.1),
 )
 lift_after S told f x y e s t (Err OutOfMemory) q h d k = k

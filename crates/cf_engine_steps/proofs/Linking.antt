@@ -8,7 +8,7 @@ use Rattle.cf_base.specs.declared.notices.Notice.{Notice}
 use Rattle.cf_engine_steps.specs.Answering.{Answers, Any}
 use Rattle.cf_engine_steps.specs.Faults.{Rose, fault_lines}
 use Rattle.cf_engine_steps.specs.Lines.{with_line_if}
-use Rattle.cf_engine_steps.specs.States.{Means, Own, faults_of, whole}
+use Rattle.cf_engine_steps.specs.States.{Means, Own, faults_of, whole, with_link_of}
 use Rattle.cf_link.specs.Faults.{RoseBy, faults_in}
 use Rattle.cf_link.specs.Linked.{Ended, IsLink, Linked, Posts, lines_of, posted_line, with_line}
 use Rattle.cf_link.specs.declared.posts.Posted.{Posted}
@@ -35,20 +35,22 @@ rose_by : (line : Option Notice) (link : model.Link) (s : State) (old new : ℕ)
 rose_by line link s old new h = record { more = faults_in (lines_of line); lines = ap fault_lines (line_noted line (with_link link s)) ∙ lines_with line s.filter; rose = h }
 
 line_mean : {X R : Type 0} (S : steps.Sense X) (told : R → Told) (x y : X) (e : Own R) (l : Linked R) (link : model.Link) (line : Option Notice) (s : State)
-    → Means S told x e s → IsLink told l link → S.means y (with_line_if line s.filter) → Means S told y (record e { link = l }) (with_line line (with_link link s))
-line_mean S told x y e l link None s h stands k = record { filter = k; replays = h.replays; on = h.on; link = stands; shows_skips = h.shows_skips; skips = h.skips; took_done = h.took_done; first_clock = h.first_clock }
-line_mean S told x y e l link (Some n) s h stands k = record { filter = k; replays = h.replays; on = h.on; link = stands; shows_skips = h.shows_skips; skips = h.skips; took_done = h.took_done; first_clock = h.first_clock }
+    → Means S told x e s → IsLink told l link → S.means y (with_line_if line s.filter) → Means S told y (with_link_of l e) (with_line line (with_link link s))
+line_mean S told x y e l link None s h stands k =
+    record { filter = k; on = h.on; sees = record { replays = h.sees.replays; link = stands; shows_skips = h.sees.shows_skips; skips = h.sees.skips }; took_done = h.took_done; first_clock = h.first_clock; volatile = h.volatile }
+line_mean S told x y e l link (Some n) s h stands k =
+    record { filter = k; on = h.on; sees = record { replays = h.sees.replays; link = stands; shows_skips = h.sees.shows_skips; skips = h.sees.skips }; took_done = h.took_done; first_clock = h.first_clock; volatile = h.volatile }
 
 module _ {X R A : Type 0} (S : steps.Sense X) (told : R → Told) (f : Arrow State A) (x y : X) (e : Own R) (l : Linked R) (a : A) (line : Option Notice) where
   -- A part of the link's, whose line was noted, is a part of the whole, where the remote counts the faults that the line reports.
-  pub lift_link : (u : Unit {0}) → ((s : State) → IsLink told e.link s.link → Ended told f s e.link a line l)
+  pub lift_link : (u : Unit {0}) → ((s : State) → IsLink told e.agent.link s.link → Ended told f s e.agent.link a line l)
       → RoseBy (faults_in (lines_of line)) (faults_of told e) (told l.remote).faults
-      → steps.Answers S steps.Any (noted (with_line_if line)) x (Ok u) y → Answers (whole S told) Any f (x, e) (Ok a) (y, record e { link = l })
+      → steps.Answers S steps.Any (noted (with_line_if line)) x (Ok u) y → Answers (whole S told) Any f (x, e) (Ok a) (y, with_link_of l e)
   lift_link u ends rose h = record {
     leads = λ s i p.
-        let d = h.leads s.filter i.filter (record {}) in let n = ends s i.link in (
+        let d = h.leads s.filter i.filter (record {}) in let n = ends s i.sees.link in (
           with_line line (with_link n.link s),
-          leads_ends (f s) (told e.link.remote) (told l.remote) a (with_line line (with_link n.link s)) n.leads,
+          leads_ends (f s) (told e.agent.link.remote) (told l.remote) a (with_line line (with_link n.link s)) n.leads,
           subst (λ (t : Filter). S.moved x y s.filter t) (d.1.1 ∙ sym (line_noted line (with_link n.link s))) d.2,
           (line_mean S told x y e l n.link line s i n.stands (subst (λ (t : Filter). S.means y t) d.1.1 d.3), rose_by line n.link s (faults_of told e) (told l.remote).faults rose),
         );
@@ -69,9 +71,9 @@ posted_rose m p old new same line =
     subst (λ (n : ℕ). RoseBy n old.faults new.faults) (sym (ap (λ (o : Option Notice). faults_in (lines_of o)) line ∙ posted_quiet m p))
     (subst (λ (t : Told). RoseBy 0 old.faults t.faults) (sym same) (rose_none old.faults old.faults (omega arith)))
 
-pub posted : {X R : Type 0} (S : steps.Sense X) (told : R → Told) (m : Frame) (x y : X) (e g : Own R) (p : Posted) (u : Unit {0}) → Posts told m e.link p g.link → g ≡ record e { link = g.link }
-    → p.line ≡ posted_line m p → g.link.remote ≡ e.link.remote
+pub posted : {X R : Type 0} (S : steps.Sense X) (told : R → Told) (m : Frame) (x y : X) (e g : Own R) (p : Posted) (u : Unit {0}) → Posts told m e.agent.link p g.agent.link → g ≡ with_link_of g.agent.link e
+    → p.line ≡ posted_line m p → g.agent.link.remote ≡ e.agent.link.remote
     → steps.Answers S steps.Any (noted (with_line_if p.line)) x (Ok u) y → Answers (whole S told) Any (post m) (x, e) (Ok p.kept) (y, g)
 posted {X} {R} S told m x y e g p u h is line same k =
     subst (λ (o : Own R). Answers (whole S told) Any (post m) (x, e) (Ok p.kept) (y, o)) (sym is)
-    (lift_link S told (post m) x y e g.link p.kept p.line u (λ s i. (h.ends s i).0) (posted_rose m p (told e.link.remote) (told g.link.remote) (ap told same) line) k)
+    (lift_link S told (post m) x y e g.agent.link p.kept p.line u (λ s i. (h.ends s i).0) (posted_rose m p (told e.agent.link.remote) (told g.agent.link.remote) (ap told same) line) k)

@@ -7,7 +7,8 @@ use Rattle.cf_base.specs.declared.codes.CallError.{CallError}
 use Rattle.cf_base.specs.declared.ids.ItemId.{ItemId}
 use Rattle.cf_base.specs.declared.items.SeenPath.{SeenPath}
 use Rattle.cf_engine_steps.specs.Answering.{Answers, Any, On}
-use Rattle.cf_engine_steps.specs.BookSteps.{PutsBeside, is_here, put_outcome, why_full, with_book_of}
+use Rattle.cf_engine_steps.specs.Readings.{is_here}
+use Rattle.cf_engine_host.specs.BookSteps.{PutsBeside, put_outcome, why_full, with_book_of}
 use Rattle.cf_engine_steps.specs.States.{Own, whole}
 use Rattle.cf_engine_steps.proofs.Laws.{known, reads_on, returned}
 use Rattle.cf_engine_steps.proofs.Lifting.{lift_reads}

@@ -6,7 +6,7 @@ use Rattle.cf_base.specs.declared.codes.Code.TheVariants as code
 use Rattle.cf_base.specs.declared.codes.CallError.{CallError}
 use Rattle.cf_base.specs.declared.codes.CallError.TheVariants.{No, OutOfMemory}
 use Rattle.cf_engine_steps.specs.Answering.{After, Answers, Any, On}
-use Rattle.cf_engine_steps.specs.BookSteps.{put_outcome, why_full, with_book_of}
+use Rattle.cf_engine_host.specs.BookSteps.{put_outcome, why_full, with_book_of}
 use Rattle.cf_engine_steps.specs.Faults.{fault_lines, rose_none}
 use Rattle.cf_engine_steps.specs.States.{Own, faults_of, whole}
 use Rattle.cf_engine_steps.proofs.Laws.{after_on}

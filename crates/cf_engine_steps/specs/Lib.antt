@@ -1,7 +1,7 @@
 pub mod Answering
-pub mod BookSteps
 pub mod Faults
 pub mod Lines
 pub mod Quiet
+pub mod Readings
 pub mod States
 pub mod Suited

@@ -1,42 +1,48 @@
 -- What an engine has of its own, and how that and what stands for a filter stand for the whole state.
-use Rattle.std.proofs.Common.{◌≡◌, ℕ, Bool, refl}
+use Rattle.std.proofs.Common.{◌≡◌, ℕ, ◌+◌, Bool, refl}
 use Rattle.std.specs.Prelude.{Option}
 use Rattle.cf_base.specs.declared.policies.Mode.TheVariants as mode
+use Rattle.cf_engine_provider.specs.Agencies.{Agency, Sees}
 use Rattle.cf_engine_steps.specs.Answering.{Whole}
 use Rattle.cf_engine_steps.specs.Faults.{Rose, fault_lines, rose_both, rose_none}
 use Rattle.cf_link.specs.Linked.{IsLink, Linked}
-use Rattle.cf_model.specs.State.{On, State}
+use Rattle.cf_model.specs.State.{On, State, Volatile}
 use Rattle.cf_remote.specs.Told.{Told}
 use Rattle.cf_filter_steps.specs.Answering.{Sense}
 
--- the link to the remote; and of the running event whether `skipped` lines stand in it, how many steps were left out, whether
--- a Done was taken, and the clock of the first feed that was applied
+-- the provider, which has the link, and whether and how many steps were left out in the running event; of that event also whether a
+-- Done was taken, and the clock of the first feed that was applied; and what is known until the volume is opened again
 pub record Own (R : Type 0) : Type 0 where
-  pub link : Linked R
-  pub shows_skips : Bool
-  pub skips : ℕ
+  pub agent : Agency R
   pub took_done : Bool
   pub first_clock : Option ℕ
+  pub volatile : Volatile
 
 pub record Means {X R : Type 0} (S : Sense X) (told : R → Told) (x : X) (e : Own R) (s : State) : Type 0 where
   pub filter : S.means x s.filter
-  pub replays : s.mode ≡ mode.Replay
   pub on : s.power ≡ On
-  pub link : IsLink told e.link s.link
-  pub shows_skips : e.shows_skips ≡ s.running.shows_skips
-  pub skips : e.skips ≡ s.running.skips
+  pub sees : Sees told e.agent s
   pub took_done : e.took_done ≡ s.running.took_done
   pub first_clock : e.first_clock ≡ s.running.first_clock
+  pub volatile : e.volatile ≡ s.volatile
 
 -- The link stands also where the device stopped a part: other devices and crashes go on with it.
 pub record Stopped {X R : Type 0} (S : Sense X) (told : R → Told) (x y : X) (f : Own R) (t : State) : Type 0 where
   pub filter : S.stopped x y t.filter
   pub replays : t.mode ≡ mode.Replay
-  pub link : IsLink told f.link t.link
+  pub link : IsLink told f.agent.link t.link
+
+-- with another link, and with one step more that was left out
+
+abbrev pub with_link_of : {R : Type 0} → Linked R → Own R → Own R
+with_link_of l e = record e { agent = record e.agent { link = l } }
+
+abbrev pub with_skip_counted : {R : Type 0} → Own R → Own R
+with_skip_counted e = record e { agent = record e.agent { skips = e.agent.skips + 1 } }
 
 -- how often the remote failed
 abbrev pub faults_of : {R : Type 0} → (R → Told) → Own R → ℕ
-faults_of told e = (told e.link.remote).faults
+faults_of told e = (told e.agent.link.remote).faults
 
 abbrev pub whole : {X R : Type 0} → Sense X → (R → Told) → Whole (X × Own R)
 whole S told = record {

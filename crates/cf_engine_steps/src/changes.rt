@@ -6,17 +6,17 @@ ghost use Rattle.cf_engine_steps.specs.States.{whole};
 ghost use Rattle.cf_model.specs.Skips.{try_change};
 ghost use Rattle.cf_filter_steps.specs.Suiting.{Suiting};
 
-use crate::engine_steps::EngineSteps;
 use crate::engines::Engine;
 use crate::skips::leave_out;
 use crate::suited_changes::suited;
 use cf_base::{CallError, Change};
+use cf_engine_host::EngineHost;
 use cf_filter_steps::refuse_room;
 use cf_remote::Remote;
 use std::slice;
 
 // Makes a change that suits, or leaves it out where it finds no room.
-fn try_suited<S: EngineSteps, R: Remote>(
+fn try_suited<S: EngineHost, R: Remote>(
     s: &mut S,
     e: &mut Engine<R>,
     change: &Change,
@@ -36,7 +36,7 @@ fn try_suited<S: EngineSteps, R: Remote>(
 /// in this order. Whether it was made. It is tested whether the change suits the volume, for `Make`, `Mark` and `Take`; one that
 /// does not, or of another kind, is out of memory, and all is as before. A stop of the device leaves the change begun: the volume
 /// answers nothing more, and a crash leaves a point of before. The link and the remote stay as they are, also after a stop.
-pub fn try_change<S: EngineSteps, R: Remote>(
+pub fn try_change<S: EngineHost, R: Remote>(
     s: &mut S,
     e: &mut Engine<R>,
     change: &Change,

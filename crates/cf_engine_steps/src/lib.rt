@@ -1,6 +1,6 @@
 //! The steps of which the engine is made.
 //!
-//! The engine acts on two values. One does the steps of a filter, and those of `EngineSteps` on the lines of the running event and on
+//! The engine acts on two values. One does the steps of a filter, and those of `EngineHost` on the lines of the running event and on
 //! the book; that may be a filter on a disk, or a plain machine. The other is `Engine`: the link to the remote, and what the engine
 //! knows of the running event. Together they stand for the whole state of the definitions, and each step here does to that state what
 //! the definition of its name does. specs/Answering says what a step answers and leaves, specs/States how the two stand for the state.
@@ -22,18 +22,18 @@
 #![tactic(auto)]
 
 mod changes;
-mod engine_steps;
 mod engines;
 mod marks;
 mod paths_seen;
 mod posts;
 mod skips;
 mod suited_changes;
+mod volatiles;
 
 pub use changes::try_change;
-pub use engine_steps::EngineSteps;
 pub use engines::Engine;
 pub use marks::mark;
 pub use paths_seen::try_seen;
 pub use posts::post;
 pub use skips::skip;
+pub use volatiles::Volatile;

@@ -3,19 +3,19 @@
 ghost use Rattle.std.specs.Prelude.{◌≡◌, IfOk, OnOk, true};
 ghost use Rattle.cf_base.specs.Names.{is_name};
 ghost use Rattle.cf_engine_steps.specs.Answering.{Answers, Any};
-ghost use Rattle.cf_engine_steps.specs.BookSteps.{is_here};
+ghost use Rattle.cf_engine_steps.specs.Readings.{is_here};
 ghost use Rattle.cf_engine_steps.specs.States.{whole};
 ghost use Rattle.cf_model.specs.Books.{with_seen};
 ghost use Rattle.cf_model.specs.Skips.{try_book, try_seen};
 ghost use Rattle.cf_engine_queue.specs.Records.{IsSeen};
 ghost use Rattle.cf_filter_steps.specs.Answering.{Any as AnyFilter, Reads as FilterReads};
 
-use crate::engine_steps::EngineSteps;
 use crate::engines::Engine;
 use crate::skips::leave_out;
 use cf_base::{
     AuxRecord, CallError, Code, ItemId, Name, OutOfMemory, SeenPath, is_name, no_such_state,
 };
+use cf_engine_host::EngineHost;
 use cf_engine_queue::spell_seen;
 use cf_filter_steps::Steps;
 use cf_remote::Remote;
@@ -51,7 +51,7 @@ fn is_here<S: Steps>(s: &S, item: ItemId) -> bool
 }
 
 // Records the path, or leaves it out.
-fn put_seen<S: EngineSteps, R: Remote>(
+fn put_seen<S: EngineHost, R: Remote>(
     s: &mut S,
     e: &mut Engine<R>,
     seen: &SeenPath,
@@ -70,7 +70,7 @@ fn put_seen<S: EngineSteps, R: Remote>(
 /// False where it was left out. Of an item that is gone nothing is recorded, which counts as done. A name that is none cannot be
 /// recorded: then it is out of memory, and all is as before. It never meets the device; what it records is durable with the next
 /// commit.
-pub fn try_seen<S: EngineSteps, R: Remote>(
+pub fn try_seen<S: EngineHost, R: Remote>(
     s: &mut S,
     e: &mut Engine<R>,
     seen: &SeenPath,

@@ -10,14 +10,14 @@ ghost use Rattle.cf_model.specs.Messages.{post};
 ghost use Rattle.cf_filter_steps.specs.Answering.{Answers as FilterAnswers, Any as AnyFilter};
 ghost use Rattle.cf_wire.specs.Spelled.{HasRoom};
 
-use crate::engine_steps::EngineSteps;
 use crate::engines::Engine;
 use cf_base::{CallError, Notice, Request};
+use cf_engine_host::EngineHost;
 use cf_remote::Remote;
 
 // Adds the line that the link gave, where there is one.
 #[tactic(auto, using(crate::proofs::LeftOut::nothing_noted))]
-fn note_line<S: EngineSteps>(s: &mut S, line: Option<Notice>) -> Result<(), CallError>
+fn note_line<S: EngineHost>(s: &mut S, line: Option<Notice>) -> Result<(), CallError>
     ensures { FilterAnswers S.sense AnyFilter (noted (with_line_if line)) s.old result s.new }
 {
     match line {
@@ -29,7 +29,7 @@ fn note_line<S: EngineSteps>(s: &mut S, line: Option<Notice>) -> Result<(), Call
 /// Posts a request, whose names need at most 255 bytes and whose bytes fewer than 4,294,967,296, with the line of its message.
 /// Whether it is kept. It does not come to the remote, which stays as it is; the items and the book stay too. It never meets the
 /// device. Out of memory leaves it posted or not, but without its line.
-pub fn post<S: EngineSteps, R: Remote>(
+pub fn post<S: EngineHost, R: Remote>(
     s: &mut S,
     e: &mut Engine<R>,
     request: Request,
