@@ -25,8 +25,8 @@ abbrev pub records_of : Filter → List AuxRecord
 records_of s = aux_records s.volume.book
 
 -- The new book has these records, and all else as before. Records keep it, and the numbers of its tombstones were given.
-pub record HasRecords (records : List AuxRecord) (f : Book → Book) (s : Filter) : Type 0 where
-  pub records : aux_records (f s.volume.book) ≡ records
+pub record HasRecords (kept : List AuxRecord) (f : Book → Book) (s : Filter) : Type 0 where
+  pub records : aux_records (f s.volume.book) ≡ kept
   pub anchors : (f s.volume.book).anchors ≡ s.volume.book.anchors
   pub clock : (f s.volume.book).clock ≡ s.volume.book.clock
   pub accesses : (f s.volume.book).accesses ≡ s.volume.book.accesses

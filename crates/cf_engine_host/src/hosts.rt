@@ -4,16 +4,16 @@ ghost use Rattle.std.specs.Prelude.{◌≡◌, ◌∷◌, [], List, Ok};
 ghost use Rattle.cf_base.specs.declared.answers.AuxRecord.{AuxRecord};
 ghost use Rattle.cf_engine_host.specs.BookSteps.{DropsRecord, HasNumber, PutsBeside, put_outcome, records_of, why_full, with_book_of};
 ghost use Rattle.cf_engine_host.specs.Draining.{DrainsBy};
-ghost use Rattle.cf_engine_host.specs.Readings.{epoch_of};
+ghost use Rattle.cf_engine_host.specs.Readings.{anchor_at, epoch_of};
 ghost use Rattle.cf_engine_queue.specs.Records.{IsKeepable};
-ghost use Rattle.cf_filter_steps.specs.Answering.{Answers, Any, Reads};
+ghost use Rattle.cf_filter_steps.specs.Answering.{Answers, Any, IsAt, Reads};
 ghost use Rattle.cf_model.specs.Arrows.{attempt, noted};
 ghost use Rattle.cf_model.specs.Books.{Book, with_anchor};
 ghost use Rattle.cf_model.specs.Callbacks.{finish};
 ghost use Rattle.cf_model.specs.Items.{Item};
 ghost use Rattle.cf_model.specs.State.{Filter, with_notes};
 
-use cf_base::{AuxRecord, CallError, ItemId, Notice, Shown};
+use cf_base::{AuxRecord, CallError, ItemId, Notice, Shown, Usn};
 use cf_filter_steps::Steps;
 use cf_provider::Provider;
 
@@ -48,6 +48,10 @@ pub trait EngineHost: Steps {
     /// Makes the number that an item has its anchor. The item is there, and its number is not 0.0. All else stays as it is.
     fn keep_anchor(&mut self, item: ItemId) -> Result<(), CallError>
         ensures { (i : Item) → Answers Self.sense (HasNumber item i) (noted (with_book_of (with_anchor item i.number))) self.old result self.new };
+
+    /// The number that an item had at its last upload, 0.0 before one. The item is there.
+    fn anchor(&self, item: ItemId) -> Usn
+        ensures { (i : Item) → Reads Self.sense (IsAt item i) (anchor_at item) self.now result };
 
     /// Calls the provider for each ask whose callback waits, in their order, each after the earlier ones have returned, until none is
     /// left.
