@@ -1,18 +1,19 @@
 -- Changes that suit by what was tested of them.
 use Rattle.std.proofs.Common.{◌≡◌, ◌≤◌, Bool, true, false, not, List, refl, sym, ◌∙◌, ap, ℕ, length, arith}
-use Rattle.std.proofs.lemmas.Bool.{and_parts, eqb-true, ltb-true}
-use Rattle.std.specs.Prelude.{Option, Some, None, MatchOption, is_none, is_some, nat_lt, find, ◌&&◌, ◌==◌}
+use Rattle.std.proofs.lemmas.Bool.{and_parts, eqb-true, leb-true, ltb-true}
+use Rattle.std.specs.Prelude.{Option, Some, None, MatchOption, is_none, is_some, nat_le, nat_lt, find, ◌&&◌, ◌==◌}
 use Rattle.cf_base.specs.declared.changes.Change.{Change}
 use Rattle.cf_base.specs.declared.changes.Change.TheVariants as change
 use Rattle.cf_base.specs.declared.ids.ItemId.{ItemId}
 use Rattle.cf_base.specs.declared.ids.Usn.{Usn}
 use Rattle.cf_base.specs.declared.items.Kind.{Kind}
 use Rattle.cf_base.specs.Names.{is_name}
-use Rattle.cf_engine_steps.specs.Suited.{DeepIf, PlaceIf, SuitsIf, is_free_at, is_high_at, is_next_at, is_open_directory, is_placeholder, is_placeholder_file, says_at}
+use Rattle.cf_engine_steps.specs.Suited.{DeepIf, PlaceIf, SuitsIf, has_this_number, is_free_at, is_high_at, is_next_at, is_open_directory, is_placeholder, is_placeholder_file, may_be_copied, says_at}
 use Rattle.cf_filter_calls.proofs.NewItems.{name_short}
 use Rattle.cf_filter_calls.proofs.Suited.{each_at}
 use Rattle.cf_model.specs.Items.{Item, item_of}
 use Rattle.cf_model.specs.LookUp.{child_of, depth_at}
+use Rattle.cf_model.specs.Numbers.{is_no_usn, same_usn}
 use Rattle.cf_model.specs.Soundness.{Each, MadeNeeds}
 use Rattle.cf_model.specs.State.{Filter}
 use Rattle.cf_model.specs.Words.{says}
@@ -57,6 +58,12 @@ module _ {X : Type 0} (S : Sense X) (x : X) (t : Table) (id : ItemId) (o : Optio
   pub open_directory_by : HasRows S x t → row_of t.rows id ≡ o → b ≡ says (λ r. r.dir && r.populated) o → Reads S Any (says_at is_open_directory id) x b
   open_directory_by rows e is = read_by (λ r. r.dir && r.populated) is_open_directory (λ r i h. ap (λ (c : Bool). c && r.populated) h.directory ∙ ap (λ (c : Bool). i.directory && c) h.populated) rows e is
 
+  pub copied_by : HasRows S x t → row_of t.rows id ≡ o → b ≡ says (λ r. not r.dir && nat_le 8 (length r.identity)) o → Reads S Any (says_at may_be_copied id) x b
+  copied_by rows e is = read_by (λ r. not r.dir && nat_le 8 (length r.identity)) may_be_copied (λ r i h. ap (λ (c : Bool). not c && nat_le 8 (length r.identity)) h.directory ∙ ap (λ (l : List ℕ). not i.directory && nat_le 8 (length l)) h.identity) rows e is
+
+  pub numbered_by : (n : Usn) → HasRows S x t → row_of t.rows id ≡ o → b ≡ says (λ r. same_usn r.number n && not (is_no_usn n)) o → Reads S Any (says_at (has_this_number n) id) x b
+  numbered_by n rows e is = read_by (λ r. same_usn r.number n && not (is_no_usn n)) (has_this_number n) (λ r i h. ap (λ (m : Usn). same_usn m n && not (is_no_usn n)) h.number) rows e is
+
 both_none : (o : Option Row) (i : Option Item) → BothMean o i → is_none (id_of o) ≡ is_none i
 both_none None None h = refl
 both_none None (Some i) h = absurd h
@@ -80,7 +87,7 @@ next_by S x t item next b rows e is = record { is = λ s m u. is ∙ ap (λ (k :
 
 -- what is said of an item holds of each with its id
 
-there : (q : Item → Bool) (P : Item → Type 0) → ((i : Item) → q i ≡ true → P i) → (id : ItemId) (s : Filter) (o : Option Item) → item_of s.volume.items id ≡ o → says q o ≡ true → IsGood s → Each id P s.volume.items
+pub there : (q : Item → Bool) (P : Item → Type 0) → ((i : Item) → q i ≡ true → P i) → (id : ItemId) (s : Filter) (o : Option Item) → item_of s.volume.items id ≡ o → says q o ≡ true → IsGood s → Each id P s.volume.items
 there q P gives id s None at h good = let z : false ≡ true = h in cc
 there q P gives id s (Some i) at h good = each_at 1 P id s.volume.items i good.volume.tree.order at (gives i h)
 
@@ -112,7 +119,7 @@ take_by S id identity size x b short small reads = record {
   );
 }
 
-opened_by : (o : Option Item) → says is_open_directory o ≡ true → MatchOption o ⊥ IsOpenDirectory
+pub opened_by : (o : Option Item) → says is_open_directory o ≡ true → MatchOption o ⊥ IsOpenDirectory
 opened_by None h = let z : false ≡ true = h in absurd cc
 opened_by (Some i) h = and_parts i.directory i.populated h
 
@@ -141,6 +148,33 @@ make_by S item parent name k size identity x a b ai next short small needs place
           needs = needs;
           plants = (ap (λ (n : ℕ). record { 0 = n }) (eqb-true item.0 s.volume.next_item.0 (sym (next.is s m (record {})) ∙ ai)), p);
           lasts = short;
+        },
+        record {},
+      );
+}
+
+pub clear_by : {X : Type 0} (S : Sense X) (id : ItemId) (x : X) → SuitsIf S (change.Clear id) x true
+clear_by S id x = record { suits = λ e s m. (record { fits = λ i j k l. record {}; needs = record {}; plants = record {}; lasts = record {} }, record {}) }
+
+pub convert_by : {X : Type 0} (S : Sense X) (id : ItemId) (identity : List ℕ) (x : X) (b : Bool) → (b ≡ true → length identity ≤ 4096) → SuitsIf S (change.Convert id identity) x b
+convert_by S id identity x b short = record {
+  suits = λ is s m. (record { fits = λ i j k l. wide (length identity) (short is); needs = record {}; plants = record {}; lasts = short is }, record {});
+}
+
+copied_is : (o : Option Item) → says may_be_copied o ≡ true → MatchOption o ⊥ (λ i. 8 ≤ length i.identity)
+copied_is None h = let z : false ≡ true = h in absurd cc
+copied_is (Some i) h = leb-true 8 (length i.identity) (and_parts (not i.directory) (nat_le 8 (length i.identity)) h).1
+
+pub copy_by : {X : Type 0} (S : Sense X) (item from parent : ItemId) (name : List ℕ) (x : X) (a f b : Bool) → a ≡ true → Reads S Any (is_next_at item) x a → f ≡ true → Reads S Any (says_at may_be_copied from) x f
+    → PlaceIf S parent name x b → SuitsIf S (change.Copy item from parent name) x b
+copy_by S item from parent name x a f b ai next fi copied place = record {
+  suits = λ bi s m.
+      let p = place.place bi s m in (
+        record {
+          fits = (name_short name p.0, copied_is (item_of s.volume.items from) (sym (copied.is s m (record {})) ∙ fi));
+          needs = each_said S may_be_copied (λ i. i.directory ≡ false) (λ i h. not_true i.directory (and_parts (not i.directory) (nat_le 8 (length i.identity)) h).0) from x f fi copied s m;
+          plants = (ap (λ (n : ℕ). record { 0 = n }) (eqb-true item.0 s.volume.next_item.0 (sym (next.is s m (record {})) ∙ ai)), p);
+          lasts = record {};
         },
         record {},
       );

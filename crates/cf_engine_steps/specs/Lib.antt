@@ -1,7 +1,10 @@
 pub mod Answering
 pub mod Faults
 pub mod Lines
+pub mod Occupants
 pub mod Quiet
 pub mod Readings
+pub mod Recorded
+pub mod Removals
 pub mod States
 pub mod Suited

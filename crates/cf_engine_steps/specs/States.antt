@@ -1,6 +1,6 @@
 -- What an engine has of its own, and how that and what stands for a filter stand for the whole state.
 use Rattle.std.proofs.Common.{◌≡◌, ℕ, ◌+◌, Bool, refl}
-use Rattle.std.specs.Prelude.{Option}
+use Rattle.std.specs.Prelude.{Option, Some, unwrap_or}
 use Rattle.cf_base.specs.declared.policies.Mode.TheVariants as mode
 use Rattle.cf_engine_provider.specs.Agencies.{Agency, Sees}
 use Rattle.cf_engine_steps.specs.Answering.{Whole}
@@ -39,6 +39,18 @@ with_link_of l e = record e { agent = record e.agent { link = l } }
 
 abbrev pub with_skip_counted : {R : Type 0} → Own R → Own R
 with_skip_counted e = record e { agent = record e.agent { skips = e.agent.skips + 1 } }
+
+-- with something else known until the volume is opened again
+abbrev pub with_volatile_of : {R : Type 0} → (Volatile → Volatile) → Own R → Own R
+with_volatile_of f e = record e { volatile = f e.volatile }
+
+-- with the facts of the running event: whether a Done was taken, and the clock of the first feed
+
+abbrev pub with_took_done : {R : Type 0} → Bool → Own R → Own R
+with_took_done b e = record e { took_done = b }
+
+abbrev pub with_clock_of : {R : Type 0} → ℕ → Own R → Own R
+with_clock_of clock e = record e { first_clock = Some (unwrap_or e.first_clock clock) }
 
 -- how often the remote failed
 abbrev pub faults_of : {R : Type 0} → (R → Told) → Own R → ℕ

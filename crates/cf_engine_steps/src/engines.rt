@@ -1,15 +1,22 @@
 //! What an engine has of its own.
 
-ghost use Rattle.std.specs.Prelude.{◌≡◌, ◌+◌, IfOk, None, OnErr, OnOk, false};
+ghost use Rattle.std.specs.Prelude.{◌≡◌, IfOk, None, OnErr, OnOk, false, nat_le, not, true};
 ghost use Rattle.cf_base.specs.declared.notices.Frame.TheVariants as frame;
-ghost use Rattle.cf_engine_steps.specs.States.{with_link_of, with_skip_counted};
+ghost use Rattle.cf_engine_queue.specs.Books.{entry_value};
+ghost use Rattle.cf_engine_steps.specs.States.{with_clock_of, with_link_of, with_skip_counted, with_took_done, with_volatile_of};
 ghost use Rattle.cf_link.specs.Linked.{Posts, posted_line};
+ghost use Rattle.cf_model.specs.Feeds.{all_released};
+ghost use Rattle.cf_model.specs.Numbers.{most};
+ghost use Rattle.cf_model.specs.Passes.{with_round};
+ghost use Rattle.cf_model.specs.PushReplies.{held_and_closed, not_in_row, round_closed, taken_from_row, with_not_empty, with_taken_name};
+ghost use Rattle.cf_model.specs.Pushes.{with_token};
 ghost use Rattle.cf_model.specs.State.{fresh};
 ghost use Rattle.cf_wire.specs.Spelled.{HasRoom};
 
 use crate::volatiles::Volatile;
-use cf_base::{OutOfMemory, Request};
+use cf_base::{ItemId, OutOfMemory, Request, Usn};
 use cf_engine_provider::Agent;
+use cf_engine_queue::QueueEntry;
 use cf_link::{Link, Posted};
 use cf_remote::Remote;
 use std::alloc::Global;
@@ -58,6 +65,121 @@ impl<R: Remote> Engine<R> {
         ensures { result ≡ self.now.agent.skips }
     {
         self.agent.skips()
+    }
+
+    /// Whether a Done was taken in the running event.
+    pub fn took_done(&self) -> bool
+        ensures { result ≡ self.now.took_done }
+    {
+        self.took_done
+    }
+
+    /// The clock of the first feed that was applied in the running event.
+    pub fn first_clock(&self) -> Option<u64>
+        ensures { result ≡ self.now.first_clock }
+    {
+        self.first_clock
+    }
+
+    /// What is known until the volume is opened again.
+    pub fn volatile(&self) -> &Volatile
+        ensures { result.now ≡ self.now.volatile }
+    {
+        &self.volatile
+    }
+
+    /// A Done is taken.
+    pub fn note_done(&mut self)
+        ensures { self.new ≡ with_took_done true self.old }
+    {
+        self.took_done = true;
+    }
+
+    /// No Done was taken yet.
+    pub fn without_done(&mut self)
+        ensures { self.new ≡ with_took_done false self.old }
+    {
+        self.took_done = false;
+    }
+
+    /// A feed with this clock is applied. Only the first of the event is kept.
+    pub fn see_clock(&mut self, clock: u64)
+        ensures { self.new ≡ with_clock_of clock self.old }
+    {
+        if self.first_clock.is_none() {
+            self.first_clock = Some(clock);
+        }
+    }
+
+    /// The reply to the latest round counts no more.
+    pub fn close_round(&mut self)
+        ensures { self.new ≡ with_volatile_of round_closed self.old }
+    {
+        self.volatile.close_round();
+    }
+
+    /// The entry was answered: the latest round is closed, and its item or tombstone was not refused last time.
+    pub fn take_from_row(&mut self, entry: &QueueEntry)
+        ensures { self.new ≡ with_volatile_of (taken_from_row (entry_value entry.now)) self.old }
+    {
+        self.volatile.close_round();
+        self.volatile.leave_row(entry);
+    }
+
+    /// The entry's item or tombstone was not refused last time.
+    pub fn leave_row(&mut self, entry: &QueueEntry)
+        ensures { self.new ≡ with_volatile_of (not_in_row (entry_value entry.now)) self.old }
+    {
+        self.volatile.leave_row(entry);
+    }
+
+    /// Holds the entry's item or tombstone back until a feed, and closes the latest round. Without memory all is as before.
+    pub fn hold_back(&mut self, entry: &QueueEntry) -> Result<(), OutOfMemory>
+        ensures ok { OnOk result (self.new ≡ with_volatile_of (held_and_closed (entry_value entry.now)) self.old) }
+        ensures err { OnErr result (self.new ≡ self.old) }
+    {
+        self.volatile.hold_back(entry)
+    }
+
+    /// The item's upload was refused as its name was taken. Without memory all is as before.
+    pub fn note_name_taken(&mut self, item: ItemId) -> Result<(), OutOfMemory>
+        ensures ok { OnOk result (self.new ≡ with_volatile_of (with_taken_name item) self.old) }
+        ensures err { OnErr result (self.new ≡ self.old) }
+    {
+        self.volatile.note_name_taken(item)
+    }
+
+    /// The removal of the tombstone with this number was refused as the directory was not empty. Without memory all is as before.
+    pub fn note_not_empty(&mut self, number: Usn) -> Result<(), OutOfMemory>
+        ensures ok { OnOk result (self.new ≡ with_volatile_of (with_not_empty number) self.old) }
+        ensures err { OnErr result (self.new ≡ self.old) }
+    {
+        self.volatile.note_not_empty(number)
+    }
+
+    /// Nothing is held back any more.
+    pub fn release_all(&mut self)
+        ensures { self.new ≡ with_volatile_of all_released self.old }
+    {
+        self.volatile.release_all();
+    }
+
+    /// Draws a token. False where none is left, at 2^32 - 1, and then nothing is changed.
+    pub(crate) fn draw_token(&mut self) -> bool
+        ensures left { result ≡ not (nat_le most self.old.volatile.tokens) }
+        ensures drawn { result ≡ true → self.new ≡ with_volatile_of with_token self.old }
+        ensures none { result ≡ false → self.new ≡ self.old }
+    {
+        self.volatile.draw_token()
+    }
+
+    /// Draws a round, whose reply counts from now on. False where none is left, at 2^32 - 1, and then nothing is changed.
+    pub(crate) fn draw_round(&mut self) -> bool
+        ensures left { result ≡ not (nat_le most self.old.volatile.rounds) }
+        ensures drawn { result ≡ true → self.new ≡ with_volatile_of with_round self.old }
+        ensures none { result ≡ false → self.new ≡ self.old }
+    {
+        self.volatile.draw_round()
     }
 
     /// Counts a step that is left out. Without a number for it, at 2^64 - 1, it is out of memory and the count stays.

@@ -14,26 +14,36 @@
 //! - Where it is done or stopped, the remote's count of faults rose at least by the lines that report a fault and that the notes have
 //!   more than before.
 //!
-//! A step that finds no room is left out: `skip` counts it, and adds its line where such lines stand. `try_change`, `mark` and
-//! `try_seen` answer whether they were done. What a step needs of the state is tested where it is used; a case that no state has is
-//! answered as out of memory, by `no_such_state` of cf_base, and nothing is lost by it. The laws by which steps are put together
-//! stand in proofs/Laws and proofs/Loops; those by which a part of the filter or of the link is a part of the whole, in
-//! proofs/Lifting and proofs/Linking.
+//! A step that finds no room is left out: `skip` counts it, and adds its line where such lines stand. Those whose names begin with
+//! `try` answer whether they were done. What a step needs of the state is tested where it is used; a case that no state has is
+//! answered as out of memory, by `no_such_state` of cf_base, and nothing is lost by it. What an engine has of its own is changed by
+//! the methods of `Engine`. The laws by which steps are put together stand in proofs/Laws and proofs/Loops; those by which a part of
+//! the filter, of the link or of the engine's own is a part of the whole, in proofs/Lifting, proofs/Linking and proofs/Noted.
 #![tactic(auto)]
 
+mod book_tests;
+mod books;
 mod changes;
 mod engines;
+mod item_tests;
 mod marks;
+mod names;
 mod paths_seen;
 mod posts;
+mod removals;
 mod skips;
 mod suited_changes;
+mod suited_moves;
+mod tokens;
 mod volatiles;
 
+pub use books::{drop_tombstone, end_entry, keep_number, reset_cursor, try_entry, try_tombstone};
 pub use changes::try_change;
 pub use engines::Engine;
 pub use marks::mark;
+pub use names::{to_conflict, try_clear_name};
 pub use paths_seen::try_seen;
 pub use posts::post;
 pub use skips::skip;
+pub use tokens::{next_token, try_round, try_token};
 pub use volatiles::Volatile;

@@ -1,47 +1,22 @@
 //! Paths seen, which the book keeps.
 
-ghost use Rattle.std.specs.Prelude.{◌≡◌, IfOk, OnOk, true};
-ghost use Rattle.cf_base.specs.Names.{is_name};
 ghost use Rattle.cf_engine_steps.specs.Answering.{Answers, Any};
 ghost use Rattle.cf_engine_steps.specs.Readings.{is_here};
 ghost use Rattle.cf_engine_steps.specs.States.{whole};
 ghost use Rattle.cf_model.specs.Books.{with_seen};
 ghost use Rattle.cf_model.specs.Skips.{try_book, try_seen};
-ghost use Rattle.cf_engine_queue.specs.Records.{IsSeen};
 ghost use Rattle.cf_filter_steps.specs.Answering.{Any as AnyFilter, Reads as FilterReads};
 
+use crate::book_tests::spell_path;
+use crate::books::put_or_leave_out;
 use crate::engines::Engine;
-use crate::skips::leave_out;
-use cf_base::{
-    AuxRecord, CallError, Code, ItemId, Name, OutOfMemory, SeenPath, is_name, no_such_state,
-};
+use cf_base::{CallError, ItemId, SeenPath};
 use cf_engine_host::EngineHost;
-use cf_engine_queue::spell_seen;
 use cf_filter_steps::Steps;
 use cf_remote::Remote;
-use std::alloc::Global;
 
-// A name that is none cannot be kept.
-fn check_name(name: &Name) -> Result<(), OutOfMemory>
-    ensures { OnOk result (is_name name.now ≡ true) }
-{
-    if is_name(name.as_slice()) {
-        Ok(())
-    } else {
-        Err(no_such_state())
-    }
-}
-
-// The record of a path that can be kept.
-fn spell(alloc: Global, seen: &SeenPath) -> Result<AuxRecord, OutOfMemory>
-    ensures { IfOk result (λ r. IsSeen r seen.now) }
-{
-    check_name(&seen.name)?;
-    spell_seen(alloc, seen)
-}
-
-// Whether an item is there.
-fn is_here<S: Steps>(s: &S, item: ItemId) -> bool
+/// Whether an item is there.
+pub(crate) fn is_here<S: Steps>(s: &S, item: ItemId) -> bool
     ensures { FilterReads S.sense AnyFilter (is_here item) s.now result }
 {
     match s.rows().get(item) {
@@ -58,12 +33,8 @@ fn put_seen<S: EngineHost, R: Remote>(
 ) -> Result<bool, CallError>
     ensures { Answers (whole S.sense R.told) Any (try_book (with_seen seen.now)) (s.old, e.old) result (s.new, e.new) }
 {
-    let record = spell(s.alloc(), seen)?;
-    let put = s.put_record(&record)?;
-    if put {
-        return Ok(true);
-    }
-    leave_out(s, e, Code::TableFull)
+    let record = spell_path(s, seen)?;
+    put_or_leave_out(s, e, &record)
 }
 
 /// Records where an item stands in the remote, in place of what was recorded of it, or leaves that out where the table has no room.

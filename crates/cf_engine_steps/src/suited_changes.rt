@@ -1,86 +1,19 @@
 //! Whether a change can be made, tested where it is made.
 
-ghost use Rattle.std.specs.Prelude.{◌≡◌, ◌≤◌, ◌&&◌, IfOk, length, not, true};
+ghost use Rattle.std.specs.Prelude.{◌≡◌, IfOk, true};
 ghost use Rattle.cf_base.specs.declared.changes.Change.TheVariants as change;
-ghost use Rattle.cf_engine_steps.specs.Suited.{DeepIf, IsSuited, PlaceIf, SuitsIf, is_free_at, is_high_at, is_next_at, is_open_directory, is_placeholder, is_placeholder_file, says_at};
+ghost use Rattle.cf_engine_steps.specs.Suited.{DeepIf, IsSuited, SuitsIf};
 ghost use Rattle.cf_model.specs.Soundness.{MadeNeeds};
-ghost use Rattle.cf_filter_steps.specs.Answering.{Any as AnyFilter, Reads as FilterReads};
 
-use cf_base::limits::{MOST_FILE_BYTES, MOST_IDENTITY_BYTES, MOST_PATH_NAMES};
-use cf_base::{
-    Change, Code, Identity, ItemId, Kind, Name, OutOfMemory, Usn, is_name, no_such_state,
+use crate::item_tests::{
+    is_copied, is_high, is_next, is_place, is_placeholder, is_placeholder_file, is_short,
+    takes_writes_in,
 };
+use crate::suited_moves::move_suited;
+use cf_base::limits::MOST_FILE_BYTES;
+use cf_base::{Change, Code, Identity, ItemId, Kind, Name, OutOfMemory, Usn, no_such_state};
+use cf_engine_host::EngineHost;
 use cf_filter_steps::Steps;
-use cf_table::Row;
-use cf_tree::depth_of;
-
-const MOST_NAMES: usize = MOST_PATH_NAMES as usize;
-
-// Whether an item is there, and is a placeholder.
-fn is_placeholder<S: Steps>(s: &S, item: ItemId) -> bool
-    ensures { FilterReads S.sense AnyFilter (says_at is_placeholder item) s.now result }
-{
-    match s.rows().get(item) {
-        Some(row) => row.placeholder,
-        None => false,
-    }
-}
-
-fn is_placeholder_of_file(row: &Row) -> bool
-    ensures { result ≡ (row.now.placeholder && not row.now.dir) }
-{
-    row.placeholder && !row.dir
-}
-
-fn is_listed(row: &Row) -> bool
-    ensures { result ≡ (row.now.dir && row.now.populated) }
-{
-    row.dir && row.populated
-}
-
-// Whether an item is there, and is the placeholder of a file.
-fn is_placeholder_file<S: Steps>(s: &S, item: ItemId) -> bool
-    ensures { FilterReads S.sense AnyFilter (says_at is_placeholder_file item) s.now result }
-{
-    match s.rows().get(item) {
-        Some(row) => is_placeholder_of_file(row),
-        None => false,
-    }
-}
-
-// Whether a directory is there whose entries are known.
-fn is_open_directory<S: Steps>(s: &S, item: ItemId) -> bool
-    ensures { FilterReads S.sense AnyFilter (says_at is_open_directory item) s.now result }
-{
-    match s.rows().get(item) {
-        Some(row) => is_listed(row),
-        None => false,
-    }
-}
-
-fn is_free<S: Steps>(s: &S, parent: ItemId, name: &Name) -> bool
-    ensures { FilterReads S.sense AnyFilter (is_free_at parent name.now) s.now result }
-{
-    s.rows().child(parent, name.as_slice()).is_none()
-}
-
-fn is_high<S: Steps>(s: &S, parent: ItemId) -> bool
-    ensures { FilterReads S.sense AnyFilter (is_high_at parent) s.now result }
-{
-    depth_of(s.rows(), parent) < MOST_NAMES
-}
-
-fn is_next<S: Steps>(s: &S, item: ItemId) -> bool
-    ensures { FilterReads S.sense AnyFilter (is_next_at item) s.now result }
-{
-    item.0 == s.rows().next().0
-}
-
-fn is_short(identity: &Identity) -> bool
-    ensures { result ≡ true → length identity.now ≤ 4096 }
-{
-    identity.as_slice().len() <= MOST_IDENTITY_BYTES
-}
 
 fn mark_suits<S: Steps>(s: &S, item: ItemId, number: Usn) -> bool
     ensures { SuitsIf S.sense (change.Mark item number) s.now result }
@@ -111,23 +44,6 @@ fn kind_suits(kind: Kind, identity: &Identity) -> bool
     }
 }
 
-// Whether an item may come under the name.
-#[tactic(auto, using(crate::proofs::Suited::never_a_place))]
-fn is_place<S: Steps>(s: &S, parent: ItemId, name: &Name) -> bool
-    ensures { PlaceIf S.sense parent name.now s.now result }
-{
-    if !is_name(name.as_slice()) {
-        return false;
-    }
-    if !is_open_directory(s, parent) {
-        return false;
-    }
-    if !is_high(s, parent) {
-        return false;
-    }
-    is_free(s, parent, name)
-}
-
 #[tactic(auto, using(crate::proofs::Suited::never_suits))]
 fn make_suits<S: Steps>(
     s: &S,
@@ -155,9 +71,65 @@ fn make_suits<S: Steps>(
     is_place(s, parent, name)
 }
 
-// Whether the change suits. Of the kinds that no step of the engine makes here it is not tested, and false.
 #[tactic(auto, using(crate::proofs::Suited::never_suits))]
-fn suits<S: Steps>(s: &S, change: &Change) -> bool
+fn copy_suits<S: Steps>(s: &S, item: ItemId, from: ItemId, parent: ItemId, name: &Name) -> bool
+    ensures { SuitsIf S.sense (change.Copy item from parent name.now) s.now result }
+{
+    if !is_next(s, item) {
+        return false;
+    }
+    if !is_copied(s, from) {
+        return false;
+    }
+    is_place(s, parent, name)
+}
+
+fn convert_suits<S: Steps>(s: &S, item: ItemId, identity: &Identity) -> bool
+    ensures { SuitsIf S.sense (change.Convert item identity.now) s.now result }
+{
+    is_short(identity)
+}
+
+#[tactic(auto, using(crate::proofs::Suited::never_suits))]
+fn rebase_suits<S: EngineHost>(s: &S, item: ItemId, identity: &Identity, len: u64, at: Usn) -> bool
+    ensures { SuitsIf S.sense (change.Rebase item identity.now len at) s.now result }
+{
+    if !is_short(identity) {
+        return false;
+    }
+    if len > MOST_FILE_BYTES {
+        return false;
+    }
+    takes_writes_in(s, item, len, at)
+}
+
+// Whether a change of an item that stays where it is suits. Of the kinds that no step of the engine makes here it is not tested, and
+// false.
+#[tactic(auto, using(crate::proofs::Suited::never_suits, crate::proofs::Suited::clear_by))]
+fn stays_suited<S: EngineHost>(s: &S, change: &Change) -> bool
+    ensures { SuitsIf S.sense change.now s.now result }
+{
+    match change {
+        Change::Mark { item, number } => mark_suits(s, *item, *number),
+        Change::Clear { .. } => true,
+        Change::Convert { item, identity } => convert_suits(s, *item, identity),
+        Change::Rebase {
+            item,
+            identity,
+            len,
+            at,
+        } => rebase_suits(s, *item, identity, *len, *at),
+        Change::Take {
+            item,
+            identity,
+            size,
+        } => take_suits(s, *item, identity, *size),
+        _ => false,
+    }
+}
+
+// Whether the change suits. Of the kinds that no step of the engine makes here it is not tested, and false.
+fn suits<S: EngineHost>(s: &S, change: &Change) -> bool
     ensures { SuitsIf S.sense change.now s.now result }
 {
     match change {
@@ -169,13 +141,13 @@ fn suits<S: Steps>(s: &S, change: &Change) -> bool
             size,
             identity,
         } => make_suits(s, *item, *parent, name, *kind, *size, identity),
-        Change::Mark { item, number } => mark_suits(s, *item, *number),
-        Change::Take {
+        Change::Copy {
             item,
-            identity,
-            size,
-        } => take_suits(s, *item, identity, *size),
-        _ => false,
+            from,
+            parent,
+            name,
+        } => copy_suits(s, *item, *from, *parent, name),
+        _ => stays_suited(s, change),
     }
 }
 
@@ -186,13 +158,12 @@ fn is_deep<S: Steps>(s: &S, change: &Change) -> bool
 {
     match change {
         Change::Make { parent, .. } => !is_high(s, *parent),
+        Change::Copy { parent, .. } => !is_high(s, *parent),
         _ => false,
     }
 }
 
-/// Whether a change suits (none), or leads too deep. One that neither suits nor leads too deep is never to be made: then it is
-/// out of memory.
-pub(crate) fn suited<S: Steps>(s: &S, change: &Change) -> Result<Option<Code>, OutOfMemory>
+fn put_suited<S: EngineHost>(s: &S, change: &Change) -> Result<Option<Code>, OutOfMemory>
     ensures { IfOk result (IsSuited S.sense change.now s.now) }
 {
     if is_deep(s, change) {
@@ -202,4 +173,15 @@ pub(crate) fn suited<S: Steps>(s: &S, change: &Change) -> Result<Option<Code>, O
         return Ok(None);
     }
     Err(no_such_state())
+}
+
+/// Whether a change suits (none), or leads too deep. One that neither suits nor leads too deep is never to be made: then it is
+/// out of memory.
+pub(crate) fn suited<S: EngineHost>(s: &S, change: &Change) -> Result<Option<Code>, OutOfMemory>
+    ensures { IfOk result (IsSuited S.sense change.now s.now) }
+{
+    match change {
+        Change::Move { item, parent, name } => move_suited(s, *item, *parent, name),
+        _ => put_suited(s, change),
+    }
 }

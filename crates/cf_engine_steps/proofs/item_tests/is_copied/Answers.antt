@@ -1,0 +1,10 @@
+use Rattle.std.proofs.Common.{false, sym, ap, ◌∙◌, refl}
+use Rattle.std.specs.Prelude.{Some, None, option_copied}
+use Rattle.cf_engine_steps.proofs.Suited.{copied_by}
+use Rattle.cf_engine_steps.proofs.item_tests.is_copied.Goals as goal
+
+pub returns-in-Some : goal.returns-in-Some
+returns-in-Some g c = copied_by g.S.Steps.sense c.args.s.now c.rows.result.now c.args.item (Some c.in-Some.row.now) c.may_be_copied.result c.rows.ensures.means (sym c.get.ensures ∙ ap option_copied c.in-Some.is) c.may_be_copied.ensures
+
+pub returns-in-None : goal.returns-in-None
+returns-in-None g c = copied_by g.S.Steps.sense c.args.s.now c.rows.result.now c.args.item None false c.rows.ensures.means (sym c.get.ensures ∙ ap option_copied c.in-None.is) refl

@@ -1,0 +1,107 @@
+//! What is tested of the book before a record is put.
+
+ghost use Rattle.std.specs.Prelude.{◌≡◌, ◌||◌, IfOk, OnOk, not, true};
+ghost use Rattle.std.specs.List.{list_all};
+ghost use Rattle.cf_base.specs.declared.answers.AuxRecord.{AuxRecord};
+ghost use Rattle.cf_base.specs.Names.{is_name};
+ghost use Rattle.cf_engine_queue.specs.Books.{entry_value, tombstone_value};
+ghost use Rattle.cf_engine_steps.specs.Recorded.{GivenIf, PutsIf, comes_after_entries};
+ghost use Rattle.cf_model.specs.Books.{with_entry, with_seen, with_tombstone};
+ghost use Rattle.cf_model.specs.Words.{comes_before, same};
+
+use cf_base::{AuxRecord, Name, OutOfMemory, SeenPath, Usn, is_name, no_such_state};
+use cf_engine_host::EngineHost;
+use cf_engine_queue::{QueueEntry, Tombstone, spell_seen};
+use cf_table::is_above;
+
+/// No key of an entry comes after this one, and each key of a path or of a tombstone does.
+const AFTER_ENTRIES: &[u8] = b"r";
+
+// Whether a key comes before another.
+fn is_before(key: &[u8], other: &[u8]) -> bool
+    ensures { result ≡ comes_before key.now other.now }
+{
+    key.cmp(other).is_lt()
+}
+
+fn has_key(record: &AuxRecord, key: &[u8]) -> bool
+    ensures { result ≡ same record.now.key key.now }
+{
+    record.key.as_slice() == key
+}
+
+// Whether no entry of the records has this key or one after it.
+fn is_newest(records: &[AuxRecord], key: &[u8]) -> bool
+    ensures { result ≡ list_all (λ (r : AuxRecord). comes_before r.key key.now || comes_after_entries r.key) records.now }
+{
+    records.iter().all(|record| {
+        is_before(record.key.as_slice(), key) || is_before(AFTER_ENTRIES, record.key.as_slice())
+    })
+}
+
+// Whether none of the records has this key.
+fn is_new(records: &[AuxRecord], key: &[u8]) -> bool
+    ensures { result ≡ list_all (λ (r : AuxRecord). not (same r.key key.now)) records.now }
+{
+    records.iter().all(|record| !has_key(record, key))
+}
+
+// Whether a change had this number before, or one after it.
+fn was_given<S: EngineHost>(s: &S, number: Usn) -> bool
+    ensures { GivenIf S.sense number s.now result }
+{
+    match s.next_number() {
+        Some(next) => is_above(next, number),
+        None => number.epoch <= s.epoch(),
+    }
+}
+
+/// The record of an entry whose token is above those of all entries. Another is never to be put: then it is out of memory.
+pub(crate) fn spell_entry<S: EngineHost>(
+    s: &S,
+    entry: &QueueEntry,
+) -> Result<AuxRecord, OutOfMemory>
+    ensures { IfOk result (λ r. PutsIf S.sense r (with_entry (entry_value entry.now)) s.now) }
+{
+    let record = entry.spell(s.alloc())?;
+    if !is_newest(s.records(), record.key.as_slice()) {
+        return Err(no_such_state());
+    }
+    Ok(record)
+}
+
+/// The record of a tombstone whose number was given, and that no tombstone has. Another is never to be put: then it is out of memory.
+pub(crate) fn spell_tombstone<S: EngineHost>(
+    s: &S,
+    tombstone: &Tombstone,
+) -> Result<AuxRecord, OutOfMemory>
+    ensures { IfOk result (λ r. PutsIf S.sense r (with_tombstone (tombstone_value tombstone.now)) s.now) }
+{
+    let record = tombstone.spell(s.alloc())?;
+    if !was_given(s, tombstone.number) {
+        return Err(no_such_state());
+    }
+    if !is_new(s.records(), record.key.as_slice()) {
+        return Err(no_such_state());
+    }
+    Ok(record)
+}
+
+// A name that is none cannot be kept.
+fn check_name(name: &Name) -> Result<(), OutOfMemory>
+    ensures { OnOk result (is_name name.now ≡ true) }
+{
+    if is_name(name.as_slice()) {
+        Ok(())
+    } else {
+        Err(no_such_state())
+    }
+}
+
+/// The record of a path seen. One whose name is none is never to be put: then it is out of memory.
+pub(crate) fn spell_path<S: EngineHost>(s: &S, seen: &SeenPath) -> Result<AuxRecord, OutOfMemory>
+    ensures { IfOk result (λ r. PutsIf S.sense r (with_seen seen.now) s.now) }
+{
+    check_name(&seen.name)?;
+    spell_seen(s.alloc(), seen)
+}
