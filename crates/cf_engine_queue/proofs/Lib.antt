@@ -7,3 +7,6 @@ pub mod Mapped
 pub mod Numbered
 pub mod Loading
 pub mod OneMeaning
+pub mod ByKey
+pub mod Found
+pub mod UploadRecords

@@ -13,7 +13,7 @@ use Rattle.cf_base.specs.declared.items.SeenPath.{SeenPath}
 use Rattle.cf_model.specs.Books.{Book, QueueEntry, Tombstone, book_after, no_book, tombstone_of, with_access, with_anchor, with_cursor, with_entry, with_seen, with_ticks, with_tombstone, without_entry, without_seen, without_tombstone}
 use Rattle.cf_model.specs.Numbers.{above, same_key, same_usn}
 use Rattle.cf_model.specs.Words.{put_in}
-use Rattle.cf_engine_queue.specs.Books.{number_rank, token_rank}
+use Rattle.cf_engine_queue.specs.Books.{number_rank, path_rank, token_rank}
 use Rattle.cf_engine_queue.specs.Order.{IsRising, is_above, is_same}
 use Rattle.cf_engine_queue.specs.Records.{FitsEntry, FitsKey, FitsSeen, FitsTombstone, FitsUsn, IsKeepable}
 use Rattle.cf_engine_queue.specs.Steps.{AreShortIds, AreShortNumbers, AreShortTokens, IsNewest}
@@ -49,10 +49,18 @@ rising_put rank x (y ∷ ys) h k = elim (cases_Bool (is_above (rank x) (rank y))
       rw e ((up, all_weaker (λ z. is_above (rank z) (rank y) ≡ true) (λ z. is_above (rank z) (rank x) ≡ true) ys (λ z g. then_above (rank z).0 (rank z).1 (rank y).0 (rank y).1 (rank x).0 (rank x).1 g up) h.0), h))
 ]
 
+-- the paths of other items
+others_left : (item : ItemId) (ps : List SeenPath) → AllByRecursion (λ q. is_same (path_rank q) (0, item.0) ≡ false) (without_seen item ps)
+others_left item [] = tt
+others_left item (p ∷ ps) = elim (cases_Bool (p.item.0 == item.0)) [
+  | inl e ↦ rw e (others_left item ps)
+  | inr e ↦ rw e (e, others_left item ps)
+]
+
 -- steps
 
 pub cursor_kept : (b : Book) (clock : ℕ) → IsKeepable b → clock < 2 ^ 64 → IsKeepable (with_cursor clock b)
-cursor_kept b clock k low = record { cursor = low; entries = k.entries; seen = k.seen; tombstones = k.tombstones; tokens = k.tokens; numbers = k.numbers }
+cursor_kept b clock k low = record { cursor = low; entries = k.entries; seen = k.seen; tombstones = k.tombstones; tokens = k.tokens; paths = k.paths; numbers = k.numbers }
 
 pub entry_kept : (b : Book) (e : QueueEntry) → IsKeepable b → FitsEntry e → IsNewest e b → IsKeepable (with_entry e b)
 entry_kept b e k fits newest = record {
@@ -61,6 +69,7 @@ entry_kept b e k fits newest = record {
   seen = k.seen;
   tombstones = k.tombstones;
   tokens = rising_push token_rank b.entries e k.tokens newest;
+  paths = k.paths;
   numbers = k.numbers;
 }
 
@@ -71,6 +80,7 @@ no_entry_kept b token k = record {
   seen = k.seen;
   tombstones = k.tombstones;
   tokens = rising_filter token_rank (λ e. not (same_key e.token.0 token.0)) b.entries k.tokens;
+  paths = k.paths;
   numbers = k.numbers;
 }
 
@@ -81,6 +91,7 @@ seen_kept b p k fits = record {
   seen = all_put FitsSeen (λ x y. nat_lt x.item.0 y.item.0) p (without_seen p.item b.seen) fits (all_kept FitsSeen (λ q. not (q.item.0 == p.item.0)) b.seen k.seen);
   tombstones = k.tombstones;
   tokens = k.tokens;
+  paths = rising_put path_rank p (without_seen p.item b.seen) (rising_filter path_rank (λ q. not (q.item.0 == p.item.0)) b.seen k.paths) (others_left p.item b.seen);
   numbers = k.numbers;
 }
 
@@ -91,6 +102,7 @@ no_seen_kept b item k = record {
   seen = all_kept FitsSeen (λ q. not (q.item.0 == item.0)) b.seen k.seen;
   tombstones = k.tombstones;
   tokens = k.tokens;
+  paths = rising_filter path_rank (λ q. not (q.item.0 == item.0)) b.seen k.paths;
   numbers = k.numbers;
 }
 
@@ -101,6 +113,7 @@ tombstone_kept b t k fits new = record {
   seen = k.seen;
   tombstones = all_put FitsTombstone (λ x y. above y.number x.number) t b.tombstones fits k.tombstones;
   tokens = k.tokens;
+  paths = k.paths;
   numbers = rising_put number_rank t b.tombstones k.numbers (none_found (λ x. same_usn x.number t.number) b.tombstones new);
 }
 
@@ -111,17 +124,18 @@ no_tombstone_kept b number k = record {
   seen = k.seen;
   tombstones = all_kept FitsTombstone (λ t. not (same_usn t.number number)) b.tombstones k.tombstones;
   tokens = k.tokens;
+  paths = k.paths;
   numbers = rising_filter number_rank (λ t. not (same_usn t.number number)) b.tombstones k.numbers;
 }
 
 pub anchor_kept : (b : Book) (item : ItemId) (number : Usn) → IsKeepable b → IsKeepable (with_anchor item number b)
-anchor_kept b item number k = record { cursor = k.cursor; entries = k.entries; seen = k.seen; tombstones = k.tombstones; tokens = k.tokens; numbers = k.numbers }
+anchor_kept b item number k = record { cursor = k.cursor; entries = k.entries; seen = k.seen; tombstones = k.tombstones; tokens = k.tokens; paths = k.paths; numbers = k.numbers }
 
 pub ticks_kept : (b : Book) (ticks : ℕ) → IsKeepable b → IsKeepable (with_ticks ticks b)
-ticks_kept b ticks k = record { cursor = k.cursor; entries = k.entries; seen = k.seen; tombstones = k.tombstones; tokens = k.tokens; numbers = k.numbers }
+ticks_kept b ticks k = record { cursor = k.cursor; entries = k.entries; seen = k.seen; tombstones = k.tombstones; tokens = k.tokens; paths = k.paths; numbers = k.numbers }
 
 pub access_kept : (b : Book) (item : ItemId) → IsKeepable b → IsKeepable (with_access item b)
-access_kept b item k = record { cursor = k.cursor; entries = k.entries; seen = k.seen; tombstones = k.tombstones; tokens = k.tokens; numbers = k.numbers }
+access_kept b item k = record { cursor = k.cursor; entries = k.entries; seen = k.seen; tombstones = k.tombstones; tokens = k.tokens; paths = k.paths; numbers = k.numbers }
 
 pub change_kept : (b : Book) (c : Change) → IsKeepable b → IsKeepable (book_after c b)
 change_kept b (change.Remove item) k = record {
@@ -130,6 +144,7 @@ change_kept b (change.Remove item) k = record {
   seen = all_kept FitsSeen (λ q. not (q.item.0 == item.0)) b.seen k.seen;
   tombstones = k.tombstones;
   tokens = k.tokens;
+  paths = rising_filter path_rank (λ q. not (q.item.0 == item.0)) b.seen k.paths;
   numbers = k.numbers;
 }
 change_kept b _ k = k
@@ -137,7 +152,7 @@ change_kept b _ k = k
 -- what the steps ask
 
 pub none_kept : IsKeepable no_book
-none_kept = record { cursor = omega arith; entries = tt; seen = tt; tombstones = tt; tokens = tt; numbers = tt }
+none_kept = record { cursor = omega arith; entries = tt; seen = tt; tombstones = tt; tokens = tt; paths = tt; numbers = tt }
 
 pub short_tokens : (b : Book) → IsKeepable b → AreShortTokens b.entries
 short_tokens b k = all_weaker FitsEntry (λ (e : QueueEntry). FitsKey e.token.0) b.entries (λ e f. f.token) k.entries

@@ -31,7 +31,7 @@ pub record IsBehind (key : List ℕ) (x : AuxRecord) : Type 0 where
   pub before : comes_before x.key key ≡ false
   pub other : same x.key key ≡ false
 
-all_mapped : {A : Type 0} (P : AuxRecord → Type 0) (f : A → AuxRecord) (xs : List A) → ((x : A) → P (f x)) → AllByRecursion P (map f xs)
+pub all_mapped : {A : Type 0} (P : AuxRecord → Type 0) (f : A → AuxRecord) (xs : List A) → ((x : A) → P (f x)) → AllByRecursion P (map f xs)
 all_mapped P f [] h = tt
 all_mapped P f (x ∷ xs) h = (h x, all_mapped P f xs h)
 
@@ -39,7 +39,7 @@ pub all_both : {X : Type 0} (P : X → Type 0) (xs ys : List X) → AllByRecursi
 all_both P [] ys h k = k
 all_both P (x ∷ xs) ys h k = (h.0, all_both P xs ys h.1 k)
 
-cursor_is : (P : AuxRecord → Type 0) (clock : ℕ) → P (record { key = codes "c"; value = in_bytes 8 clock }) → AllByRecursion P (cursor_records clock)
+pub cursor_is : (P : AuxRecord → Type 0) (clock : ℕ) → P (record { key = codes "c"; value = in_bytes 8 clock }) → AllByRecursion P (cursor_records clock)
 cursor_is P clock h = by (nat_lt 0 clock)
   where
     by : (t : Bool) → AllByRecursion P (when t (record { key = codes "c"; value = in_bytes 8 clock } ∷ []))

@@ -1,5 +1,5 @@
 -- The identities that an engine gives, as numbers.
-use Rattle.std.specs.Prelude.{◌≡◌, ◌⊎◌, ◌<◌, ◌^◌, ℕ, List, [], length, take, drop}
+use Rattle.std.specs.Prelude.{◌≡◌, ◌⊎◌, ℕ, List, [], length, take, drop}
 use Rattle.cf_engine_queue.specs.declared.identities.Numbers.{Numbers}
 use Rattle.cf_model.specs.Items.{Item}
 use Rattle.cf_model.specs.Words.{number_of}

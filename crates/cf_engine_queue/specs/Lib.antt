@@ -1,5 +1,6 @@
 pub mod Order
 pub mod Books
 pub mod Identities
+pub mod Keys
 pub mod Records
 pub mod Steps

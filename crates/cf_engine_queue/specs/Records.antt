@@ -12,12 +12,10 @@ use Rattle.cf_base.specs.Names.{is_name}
 use Rattle.cf_model.specs.Books as model
 use Rattle.cf_model.specs.Books.{Book, entry_record, no_book, seen_record, tombstone_record, with_tombstone}
 use Rattle.cf_model.specs.Words.{in_bytes}
-use Rattle.cf_engine_queue.specs.Books.{added, entry_value, number_rank, token_rank, tombstone_value}
+use Rattle.cf_engine_queue.specs.Books.{added, entry_value, number_rank, path_rank, token_rank, tombstone_value}
 use Rattle.cf_engine_queue.specs.Order.{IsRising}
 use Rattle.cf_engine_queue.specs.declared.records.Record.{Record}
 use Rattle.cf_engine_queue.specs.declared.records.Record.TheVariants as said
-use Rattle.cf_engine_queue.specs.declared.uploads.QueueEntry.{QueueEntry}
-use Rattle.cf_engine_queue.specs.declared.uploads.Tombstone.{Tombstone}
 
 -- numbers that their fields hold
 
@@ -101,13 +99,14 @@ heard_all (x ∷ xs) b = heard_all xs (heard x b)
 abbrev pub queue_of : Book → Book
 queue_of b = record no_book { entries = b.entries; tombstones = b.tombstones }
 
--- the parts of the book fit their records, and its entries and tombstones are in order
+-- the parts of the book fit their records, and its entries, paths seen and tombstones are in order
 pub record IsKeepable (b : Book) : Type 0 where
   pub cursor : b.cursor < 2 ^ 64
   pub entries : AllByRecursion FitsEntry b.entries
   pub seen : AllByRecursion FitsSeen b.seen
   pub tombstones : AllByRecursion FitsTombstone b.tombstones
   pub tokens : IsRising token_rank b.entries
+  pub paths : IsRising path_rank b.seen
   pub numbers : IsRising number_rank b.tombstones
 
 -- what is answered to these records

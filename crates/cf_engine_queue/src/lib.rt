@@ -3,6 +3,8 @@
 //! `Queue` holds the uploads that wait for a reply, by token, and the removals that are still to upload, by number; its calls
 //! do to them what the definitions do to those of a book. `Queue::load` reads them from the auxiliary records of a volume;
 //! specs/Records says which record says what. The records of the cursor and of paths seen are read and spelled alike.
+//! `find_entry`, `find_seen`, `find_tombstone` and `find_cursor` read one record of a book by its key, by halves; `load_uploads` and the
+//! tests beside it read those of uploads alone.
 //! `one_record_a_step` tells by which record each step of a book is kept, and `keepable_after_each_step` that the book stays
 //! one that its records keep; specs/Steps says what a step asks. `numbers_of` reads the identities that an engine gives.
 #![tactic(auto)]
@@ -10,7 +12,9 @@
 mod fields;
 mod identities;
 mod laws;
+mod look_ups;
 mod ordered_lists;
+mod pending_uploads;
 mod queues;
 mod record_reads;
 mod record_writes;
@@ -19,8 +23,10 @@ mod uploads;
 
 pub use identities::{Numbers, numbers_of};
 pub use laws::{keepable_after_each_step, one_record_a_step, one_value_a_record};
+pub use look_ups::{find_cursor, find_entry, find_seen, find_tombstone};
+pub use pending_uploads::{has_uploads, load_uploads, sends_item, sends_new, sends_target};
 pub use queues::Queue;
 pub use record_reads::{read_cursor, read_record, read_seen};
-pub use record_writes::{spell_cursor, spell_seen};
+pub use record_writes::{entry_key, seen_key, spell_cursor, spell_seen, tombstone_key};
 pub use records::Record;
 pub use uploads::{Action, QueueEntry, Tombstone};

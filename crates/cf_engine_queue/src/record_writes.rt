@@ -2,13 +2,13 @@
 
 ghost use Rattle.std.specs.Prelude.{◌≡◌, ◌<◌, ◌^◌, ◌++◌, ◌∷◌, true, IfOk, OnOk};
 ghost use Rattle.cf_base.specs.Names.{is_name};
-ghost use Rattle.cf_model.specs.Books.{action_byte, seen_record, usn_bytes};
+ghost use Rattle.cf_model.specs.Books.{action_byte, key_bytes, seen_record, usn_bytes};
 ghost use Rattle.cf_model.specs.Words.{in_bytes};
 ghost use Rattle.cf_engine_queue.specs.Books.{action_of, entry_value, tombstone_value};
-ghost use Rattle.cf_engine_queue.specs.Records.{FitsUsn, IsCursor, IsEntry, IsSeen, IsTombstone};
+ghost use Rattle.cf_engine_queue.specs.Records.{FitsKey, FitsUsn, IsCursor, IsEntry, IsSeen, IsTombstone};
 
 use crate::uploads::{Action, QueueEntry, Tombstone};
-use cf_base::{AuxRecord, Blob, OutOfMemory, SeenPath};
+use cf_base::{AuxRecord, Blob, ItemId, OutOfMemory, SeenPath, Token, Usn};
 use cf_codec::Writer;
 use std::alloc::Global;
 
@@ -62,13 +62,14 @@ pub fn spell_cursor(alloc: Global, clock: u64) -> Result<AuxRecord, OutOfMemory>
     Ok(AuxRecord { key, value })
 }
 
-fn item_key(alloc: Global, item: u64) -> Result<Blob, OutOfMemory>
-    ensures ok { IfOk result (λ key. key ≡ 115 ∷ in_bytes 8 item) }
-    ensures fits { item < 2 ^ 64 }
+/// The key of the auxiliary record of a path seen.
+pub fn seen_key(alloc: Global, item: ItemId) -> Result<Blob, OutOfMemory>
+    ensures ok { IfOk result (λ key. key ≡ 115 ∷ in_bytes 8 item.0) }
+    ensures fits { item.0 < 2 ^ 64 }
 {
     let mut out = Writer::new(alloc);
     out.put_u8(b's')?;
-    put_8(&mut out, item)?;
+    put_8(&mut out, item.0)?;
     Ok(out.into_blob())
 }
 
@@ -87,7 +88,7 @@ pub fn spell_seen(alloc: Global, seen: &SeenPath) -> Result<AuxRecord, OutOfMemo
     ensures spelled { IfOk result (λ r. r ≡ seen_record seen.now) }
     ensures read_again { is_name seen.now.name ≡ true → IfOk result (λ r. IsSeen r seen.now) }
 {
-    let key = item_key(alloc, seen.item.0)?;
+    let key = seen_key(alloc, seen.item)?;
     let value = seen_value(alloc, seen)?;
     Ok(AuxRecord { key, value })
 }
@@ -107,13 +108,20 @@ fn entry_value(alloc: Global, entry: &QueueEntry) -> Result<Blob, OutOfMemory>
     Ok(out.into_blob())
 }
 
+/// The key of the auxiliary record of an entry.
+pub fn entry_key(alloc: Global, token: Token) -> Result<Blob, OutOfMemory>
+    ensures ok { IfOk result (λ key. key ≡ 113 ∷ key_bytes token.0) }
+    ensures fits { FitsKey token.0 }
+{
+    pair_key(alloc, b'q', token.0.epoch, token.0.number)
+}
+
 impl QueueEntry {
     /// The entry's auxiliary record, of which `read_record` gives the entry back.
     pub fn spell(&self, alloc: Global) -> Result<AuxRecord, OutOfMemory>
         ensures { IfOk result (λ r. IsEntry r (entry_value self.now)) }
     {
-        let token = self.token.0;
-        let key = pair_key(alloc, b'q', token.epoch, token.number)?;
+        let key = entry_key(alloc, self.token)?;
         let value = entry_value(alloc, self)?;
         Ok(AuxRecord { key, value })
     }
@@ -129,13 +137,20 @@ fn tombstone_value(alloc: Global, tombstone: Tombstone) -> Result<Blob, OutOfMem
     Ok(out.into_blob())
 }
 
+/// The key of the auxiliary record of a tombstone.
+pub fn tombstone_key(alloc: Global, number: Usn) -> Result<Blob, OutOfMemory>
+    ensures ok { IfOk result (λ key. key ≡ 116 ∷ usn_bytes number) }
+    ensures fits { FitsUsn number }
+{
+    pair_key(alloc, b't', number.epoch, number.place)
+}
+
 impl Tombstone {
     /// The tombstone's auxiliary record, of which `read_record` gives the tombstone back.
     pub fn spell(&self, alloc: Global) -> Result<AuxRecord, OutOfMemory>
         ensures { IfOk result (λ r. IsTombstone r (tombstone_value self.now)) }
     {
-        let number = self.number;
-        let key = pair_key(alloc, b't', number.epoch, number.place)?;
+        let key = tombstone_key(alloc, self.number)?;
         let value = tombstone_value(alloc, *self)?;
         Ok(AuxRecord { key, value })
     }
