@@ -34,7 +34,7 @@ pub(crate) fn size_at<S: Steps>(s: &S, id: ItemId) -> u64
 
 /// Whether a handle is open on the item, or a wait on it is live.
 #[tactic(auto, using(crate::proofs::Carried::used_open, crate::proofs::Carried::used_else))]
-pub(crate) fn is_used<S: Steps>(s: &S, id: ItemId) -> bool
+pub fn is_used<S: Steps>(s: &S, id: ItemId) -> bool
     ensures { Reads S.sense Any (in_use id) s.now result }
 {
     if s.is_open(id) {

@@ -30,6 +30,7 @@ pub use creations::create;
 pub use dehydrations::{dehydrate, dehydrate_range};
 pub use handles::{cancel, close, connect, open_file};
 pub use item_facts::{info, ranges};
+pub use items::is_used;
 pub use marks::{keep_full, set_in_sync};
 pub use moves::rename;
 pub use operations::{execute, execute_with};
