@@ -9,4 +9,3 @@ pub mod Played
 pub mod Sent
 pub mod Spoken
 pub mod Targeted
-pub mod Uploaded

@@ -20,7 +20,6 @@ mod locals;
 mod message_lines;
 mod replies;
 mod requests;
-mod uploads;
 
 pub use agents::Agent;
 pub use list_views::{Found, find};

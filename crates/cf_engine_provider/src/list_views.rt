@@ -7,8 +7,8 @@ ghost use Rattle.cf_model.specs.State.{Filter};
 ghost use Rattle.cf_engine_queue.specs.Records.{IsKeepable};
 
 use crate::locals::{Locals, locals_of};
-use crate::uploads::sends_new;
 use cf_base::{Ask, ItemId, Key, OutOfMemory};
+use cf_engine_queue::sends_new;
 use cf_provider::Port;
 use std::alloc::Global;
 
