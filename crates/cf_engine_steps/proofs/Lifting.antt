@@ -72,7 +72,7 @@ quiet_notes n ms s none h = let m : faults_in (s.notes ++ ms) ≡ faults_in s.no
 pub quiet_line : (m : Notice) → fault_of m ≡ 0 → Quiet (noted (with_notes (m ∷ [])))
 quiet_line m none = record { keeps = λ n. keeps_noted (λ s. fault_lines s ≡ n) (with_notes (m ∷ [])) (λ s h. quiet_notes n (m ∷ []) s (let z : fault_of m ≡ 0 = none in omega (arith, z)) h) }
 
-quiet_volume : {A : Type 0} (n : ℕ) (f : Arrow Volume A) → Preserves (λ s. fault_lines s ≡ n) (in_volume f)
+pub quiet_volume : {A : Type 0} (n : ℕ) (f : Arrow Volume A) → Preserves (λ s. fault_lines s ≡ n) (in_volume f)
 quiet_volume n f = keeps_lifted (λ s. fault_lines s ≡ n) (λ (s : Filter). s.volume) with_volume f (λ t h. h) (λ t h. keeps_const (fault_lines t ≡ n) f)
 
 pub quiet_change : (c : Change) → Quiet (change c)

@@ -1,21 +1,24 @@
 -- Parts of the link as parts of the whole: the line that the link gives is noted, and then the state is that of the definitions.
-use Rattle.std.proofs.Common.{◌≡◌, ◌+◌, [], ◌∷◌, refl, sym, ◌∙◌, ap, subst, ℕ, arith}
+use Rattle.std.proofs.Common.{◌≡◌, Bool, ◌+◌, [], ◌∷◌, refl, sym, ◌∙◌, ap, subst, ℕ, arith}
 use Rattle.std.specs.Prelude.{Ok, Err, Option, Some, None}
 use Rattle.cf_base.specs.declared.codes.CallError.{CallError}
 use Rattle.cf_base.specs.declared.codes.CallError.TheVariants.{No, OutOfMemory}
+use Rattle.cf_base.specs.declared.messages.Reply.{Reply}
+use Rattle.cf_base.specs.declared.messages.Request.{Request}
 use Rattle.cf_base.specs.declared.notices.Frame.{Frame}
 use Rattle.cf_base.specs.declared.notices.Notice.{Notice}
-use Rattle.cf_engine_steps.specs.Answering.{Answers, Any}
+use Rattle.cf_engine_steps.specs.Answering.{Answers, Any, Reads}
 use Rattle.cf_engine_steps.specs.Faults.{Rose, fault_lines}
 use Rattle.cf_engine_steps.specs.Lines.{with_line_if}
 use Rattle.cf_engine_steps.specs.States.{Means, Own, faults_of, whole, with_link_of}
 use Rattle.cf_link.specs.Faults.{RoseBy, faults_in}
-use Rattle.cf_link.specs.Linked.{Ended, IsLink, Linked, Posts, lines_of, posted_line, with_line}
+use Rattle.cf_link.specs.Linked as links
+use Rattle.cf_link.specs.Linked.{Ended, IsLink, Linked, Posts, Rises, lines_of, posted_line, with_line}
 use Rattle.cf_link.specs.declared.posts.Posted.{Posted}
-use Rattle.cf_link.proofs.FaultCounts.{faults_both, posted_quiet, rose_none}
+use Rattle.cf_link.proofs.FaultCounts.{faults_both, posted_quiet, rises_by, rose_none}
 use Rattle.cf_link.proofs.Ways.{leads_ends}
 use Rattle.cf_model.specs.Arrows.{Arrow, noted}
-use Rattle.cf_model.specs.Messages.{post}
+use Rattle.cf_model.specs.Messages.{come, is_inline, post}
 use Rattle.cf_model.specs.State as model
 use Rattle.cf_model.specs.State.{Filter, State, with_link}
 use Rattle.cf_remote.specs.Told.{Told}
@@ -77,3 +80,19 @@ pub posted : {X R : Type 0} (S : steps.Sense X) (told : R → Told) (m : Frame) 
 posted {X} {R} S told m x y e g p u h is line same k =
     subst (λ (o : Own R). Answers (whole S told) Any (post m) (x, e) (Ok p.kept) (y, o)) (sym is)
     (lift_link S told (post m) x y e g.agent.link p.kept p.line u (λ s i. (h.ends s i).0) (posted_rose m p (told e.agent.link.remote) (told g.agent.link.remote) (ap told same) line) k)
+
+-- a request that comes to the remote
+
+pub came : {X R : Type 0} (S : steps.Sense X) (told : R → Told) (n : ℕ) (q : Request) (x y : X) (e g : Own R) (r : Option Reply) (line : Option Notice) (u : Unit {0})
+    → links.Does told (come n q) e.agent.link r line g.agent.link → g ≡ with_link_of g.agent.link e → Rises line (told e.agent.link.remote).faults (told g.agent.link.remote).faults
+    → steps.Answers S steps.Any (noted (with_line_if line)) x (Ok u) y → Answers (whole S told) Any (come n q) (x, e) (Ok r) (y, g)
+came {X} {R} S told n q x y e g r line u h is rises k =
+    subst (λ (o : Own R). Answers (whole S told) Any (come n q) (x, e) (Ok r) (y, o)) (sym is)
+    (lift_link S told (come n q) x y e g.agent.link r line u h.ends (rises_by line (told e.agent.link.remote).faults (told g.agent.link.remote).faults rises) k)
+
+-- without memory for it
+pub link_stays : {X R A : Type 0} (S : steps.Sense X) (told : R → Told) (f : Arrow State A) (x : X) (e g : Own R) → Answers (whole S told) Any f (x, e) (Err OutOfMemory) (x, g)
+link_stays S told f x e g = record { leads = λ s i p. (s, record {}, S.stays x s.filter i.filter, S.endures x s.filter i.filter) }
+
+pub inline_read : {X R : Type 0} (S : steps.Sense X) (told : R → Told) (x : X) (e : Own R) (b : Bool) → b ≡ e.agent.link.inline → Reads (whole S told) Any is_inline (x, e) b
+inline_read S told x e b is = record { is = λ s i p. is ∙ i.sees.link.inline }

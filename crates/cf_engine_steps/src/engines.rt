@@ -4,8 +4,9 @@ ghost use Rattle.std.specs.Prelude.{◌≡◌, IfOk, None, OnErr, OnOk, false, n
 ghost use Rattle.cf_base.specs.declared.notices.Frame.TheVariants as frame;
 ghost use Rattle.cf_engine_queue.specs.Books.{entry_value};
 ghost use Rattle.cf_engine_steps.specs.States.{with_clock_of, with_link_of, with_skip_counted, with_took_done, with_volatile_of};
-ghost use Rattle.cf_link.specs.Linked.{Posts, posted_line};
+ghost use Rattle.cf_link.specs.Linked.{Does, Posts, Rises, posted_line};
 ghost use Rattle.cf_model.specs.Feeds.{all_released};
+ghost use Rattle.cf_model.specs.Messages.{come};
 ghost use Rattle.cf_model.specs.Numbers.{most};
 ghost use Rattle.cf_model.specs.Passes.{with_round};
 ghost use Rattle.cf_model.specs.PushReplies.{held_and_closed, not_in_row, round_closed, taken_from_row, with_not_empty, with_taken_name};
@@ -17,7 +18,7 @@ use crate::volatiles::Volatile;
 use cf_base::{ItemId, OutOfMemory, Request, Usn};
 use cf_engine_provider::Agent;
 use cf_engine_queue::QueueEntry;
-use cf_link::{Link, Posted};
+use cf_link::{Came, Link, Posted};
 use cf_remote::Remote;
 use std::alloc::Global;
 use std::marker::Model;
@@ -200,5 +201,22 @@ impl<R: Remote> Engine<R> {
         ensures err { OnErr result (self.new ≡ self.old) }
     {
         self.agent.post(request)
+    }
+
+    /// Whether requests come to the remote as they are sent.
+    pub(crate) fn is_inline(&self) -> bool
+        ensures { result ≡ self.now.agent.link.inline }
+    {
+        self.agent.link().is_inline()
+    }
+
+    /// A request comes to the remote. The line of its reply, or of a fault, is still to be noted.
+    pub(crate) fn come(&mut self, number: u32, request: &Request) -> Result<Came, OutOfMemory>
+        requires { HasRoom request.now }
+        ensures does { IfOk result (λ c. Does R.told (come number request.now) self.old.agent.link c.reply c.line self.new.agent.link) }
+        ensures rises { IfOk result (λ c. Rises c.line (R.told self.old.agent.link.remote).faults (R.told self.new.agent.link.remote).faults) }
+        ensures rest { self.new ≡ with_link_of self.new.agent.link self.old }
+    {
+        self.agent.come(number, request)
     }
 }

@@ -16,17 +16,21 @@
 //!
 //! A step that finds no room is left out: `skip` counts it, and adds its line where such lines stand. Those whose names begin with
 //! `try` answer whether they were done. What a step needs of the state is tested where it is used; a case that no state has is
-//! answered as out of memory, by `no_such_state` of cf_base, and nothing is lost by it. What an engine has of its own is changed by
-//! the methods of `Engine`. The laws by which steps are put together stand in proofs/Laws and proofs/Loops; those by which a part of
-//! the filter, of the link or of the engine's own is a part of the whole, in proofs/Lifting, proofs/Linking and proofs/Noted.
+//! answered as out of memory, by `no_such_state` of cf_base, and nothing is lost by it. `drain` calls the engine's own provider for
+//! what waits, and `finish_call` ends a call by it; `post` and `come` send a request, and bring it to the remote. What an engine has of
+//! its own is changed by the methods of `Engine`. The laws by which steps are put together stand in proofs/Laws and proofs/Loops;
+//! those by which a part of the filter, of the link or of the engine's own is a part of the whole, in proofs/Lifting, proofs/Linking
+//! and proofs/Noted.
 #![tactic(auto)]
 
 mod book_tests;
 mod books;
+mod callbacks;
 mod changes;
 mod engines;
 mod item_tests;
 mod marks;
+mod messages;
 mod names;
 mod paths_seen;
 mod posts;
@@ -38,9 +42,11 @@ mod tokens;
 mod volatiles;
 
 pub use books::{drop_tombstone, end_entry, keep_number, reset_cursor, try_entry, try_tombstone};
+pub use callbacks::{drain, finish_call};
 pub use changes::try_change;
 pub use engines::Engine;
 pub use marks::mark;
+pub use messages::{come, is_inline};
 pub use names::{to_conflict, try_clear_name};
 pub use paths_seen::try_seen;
 pub use posts::post;

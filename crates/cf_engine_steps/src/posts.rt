@@ -14,9 +14,9 @@ use cf_base::{CallError, Notice, Request};
 use cf_engine_host::EngineHost;
 use cf_remote::Remote;
 
-// Adds the line that the link gave, where there is one.
+/// Adds the line that the link gave, where there is one.
 #[tactic(auto, using(crate::proofs::LeftOut::nothing_noted))]
-fn note_line<S: EngineHost>(s: &mut S, line: Option<Notice>) -> Result<(), CallError>
+pub(crate) fn note_line<S: EngineHost>(s: &mut S, line: Option<Notice>) -> Result<(), CallError>
     ensures { FilterAnswers S.sense AnyFilter (noted (with_line_if line)) s.old result s.new }
 {
     match line {
