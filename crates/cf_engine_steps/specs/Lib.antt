@@ -1,4 +1,5 @@
 pub mod Answering
+pub mod BookReads
 pub mod Faults
 pub mod Lines
 pub mod Occupants

@@ -23,6 +23,7 @@
 //! and proofs/Noted.
 #![tactic(auto)]
 
+mod book_reads;
 mod book_tests;
 mod books;
 mod callbacks;
@@ -41,6 +42,10 @@ mod suited_moves;
 mod tokens;
 mod volatiles;
 
+pub use book_reads::{
+    cursor, has_entries, has_entry, has_new_entry, has_target_entry, live_entry, queue, seen,
+    tombstone,
+};
 pub use books::{drop_tombstone, end_entry, keep_number, reset_cursor, try_entry, try_tombstone};
 pub use callbacks::{drain, finish_call};
 pub use changes::try_change;

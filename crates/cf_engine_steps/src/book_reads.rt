@@ -1,0 +1,79 @@
+//! What the engine reads of the book: single records by their keys, and what is on its way.
+
+ghost use Rattle.std.specs.Prelude.{IfOk, option_map};
+ghost use Rattle.cf_engine_queue.specs.Books.{entry_value, tombstone_value};
+ghost use Rattle.cf_engine_steps.specs.BookReads.{cursor_in, entry_in, has_entries_in, has_entry_in, has_new_entry_in, has_target_entry_in, queue_in, seen_in, tombstone_in};
+ghost use Rattle.cf_filter_steps.specs.Answering.{Any as AnyFilter, Reads as FilterReads};
+
+use cf_base::{ItemId, OutOfMemory, Rid, SeenPath, Token, Usn, no_such_state};
+use cf_engine_host::EngineHost;
+use cf_engine_queue::{
+    Queue, QueueEntry, Tombstone, find_cursor, find_entry, find_seen, find_tombstone, has_uploads,
+    sends_item, sends_new, sends_target,
+};
+
+/// The entry that is live under a token: an upload that has no reply yet. It takes steps as the logarithm of the records.
+pub fn live_entry<S: EngineHost>(s: &S, token: Token) -> Result<Option<QueueEntry>, OutOfMemory>
+    ensures { IfOk result (λ o. FilterReads S.sense AnyFilter (entry_in token) s.now (option_map entry_value o)) }
+{
+    find_entry(s.alloc(), s.records(), token)
+}
+
+/// Where an item was seen in the remote. As `live_entry`.
+pub fn seen<S: EngineHost>(s: &S, item: ItemId) -> Result<Option<SeenPath>, OutOfMemory>
+    ensures { IfOk result (λ o. FilterReads S.sense AnyFilter (seen_in item) s.now o) }
+{
+    find_seen(s.alloc(), s.records(), item)
+}
+
+/// The tombstone with this number. As `live_entry`.
+pub fn tombstone<S: EngineHost>(s: &S, number: Usn) -> Result<Option<Tombstone>, OutOfMemory>
+    ensures { IfOk result (λ o. FilterReads S.sense AnyFilter (tombstone_in number) s.now (option_map tombstone_value o)) }
+{
+    find_tombstone(s.alloc(), s.records(), number)
+}
+
+/// The clock of the last feed that was applied whole, 0 before the first. Takes no memory.
+pub fn cursor<S: EngineHost>(s: &S) -> Result<u64, OutOfMemory>
+    ensures { IfOk result (λ clock. FilterReads S.sense AnyFilter cursor_in s.now clock) }
+{
+    find_cursor(s.records())
+}
+
+/// All uploads on their way and all removals to upload. It takes time by the records.
+pub fn queue<S: EngineHost>(s: &S) -> Result<Queue, OutOfMemory>
+    ensures { IfOk result (λ q. FilterReads S.sense AnyFilter queue_in s.now q) }
+{
+    let Ok(queue) = Queue::load(s.alloc(), s.records()) else {
+        return Err(no_such_state());
+    };
+    Ok(queue)
+}
+
+/// Whether an upload is on its way. Takes no memory.
+pub fn has_entries<S: EngineHost>(s: &S) -> bool
+    ensures { FilterReads S.sense AnyFilter has_entries_in s.now result }
+{
+    has_uploads(s.records())
+}
+
+/// Whether an upload of this local item is on its way. It takes time by the uploads.
+pub fn has_entry<S: EngineHost>(s: &S, item: ItemId) -> Result<bool, OutOfMemory>
+    ensures { IfOk result (λ x. FilterReads S.sense AnyFilter (has_entry_in item) s.now x) }
+{
+    sends_item(s.alloc(), s.records(), item)
+}
+
+/// Whether an upload to this item of the remote is on its way. As `has_entry`.
+pub fn has_target_entry<S: EngineHost>(s: &S, rid: Rid) -> Result<bool, OutOfMemory>
+    ensures { IfOk result (λ x. FilterReads S.sense AnyFilter (has_target_entry_in rid) s.now x) }
+{
+    sends_target(s.alloc(), s.records(), rid)
+}
+
+/// Whether an item that is new to the remote is on its way there. As `has_entry`.
+pub fn has_new_entry<S: EngineHost>(s: &S) -> Result<bool, OutOfMemory>
+    ensures { IfOk result (λ x. FilterReads S.sense AnyFilter has_new_entry_in s.now x) }
+{
+    sends_new(s.alloc(), s.records())
+}
