@@ -2,11 +2,7 @@
 use Rattle.std.proofs.Common.{◌≡◌, ◌≤◌, ◌<◌, ◌+◌, ◌^◌, Bool, true, false, not, cond, List, [], ◌∷◌, ◌++◌, filter, map, refl, sym, ◌∙◌, ap, subst, ℕ, arith}
 use Rattle.std.proofs.lemmas.Bool.{and_parts, eqb-true, ltb-true}
 use Rattle.std.proofs.lemmas.Bool.Decides.{nat_tests}
-use Rattle.std.specs.Cmp.Lexicographic.{slice_cmp}
-use Rattle.std.specs.Ordering.{is_lt, nat_cmp, ordering_then}
-use Rattle.std.specs.declared.cmp.Ordering.{Ordering}
-use Rattle.std.specs.declared.cmp.Ordering.TheVariants.{Less, Equal, Greater}
-use Rattle.std.specs.Prelude.{Option, Some, None, find, nat_lt, ◌&&◌, ◌||◌, ◌==◌}
+use Rattle.std.specs.Prelude.{Option, Some, None, is_some, nat_lt, option_map, ◌&&◌, ◌||◌, ◌==◌}
 use Rattle.std.specs.List.{AllByRecursion, list_all}
 use Rattle.cf_base.specs.declared.answers.AuxRecord.{AuxRecord}
 use Rattle.cf_base.specs.declared.ids.ItemId.{ItemId}
@@ -15,37 +11,26 @@ use Rattle.cf_base.specs.declared.ids.Usn.{Usn}
 use Rattle.cf_base.specs.declared.items.SeenPath.{SeenPath}
 use Rattle.cf_engine_host.specs.BookSteps.{DropsRecord, HasNumber, PutsBeside, records_of}
 use Rattle.cf_engine_host.specs.Readings.{epoch_of}
-use Rattle.cf_engine_queue.specs.Books.{token_rank}
+use Rattle.cf_engine_queue.specs.Books.{token_rank, tombstone_value}
+use Rattle.cf_engine_queue.specs.declared.uploads.Tombstone as queue
 use Rattle.cf_engine_queue.specs.Order.{is_above}
 use Rattle.cf_engine_queue.specs.Records.{FitsKey, FitsUsn, IsEntry, IsKeepable, IsSeen, IsTombstone}
-use Rattle.cf_engine_queue.specs.Steps.{AreShortNumbers, AreShortTokens}
-use Rattle.cf_engine_queue.proofs.KeyOrder.{key_order, same_usns}
+use Rattle.cf_engine_queue.specs.Steps.{AreShortTokens}
+use Rattle.cf_engine_queue.proofs.KeyOrder.{key_order}
 use Rattle.cf_engine_queue.proofs.StaysKeepable.{cursor_kept, entry_kept, no_entry_kept, no_tombstone_kept, seen_kept, short_ids, short_numbers, short_tokens, tombstone_kept}
 use Rattle.cf_engine_queue.proofs.Steps.{entry_step, no_cursor_step, no_entry_step, no_tombstone_step, seen_step, tombstone_step}
-use Rattle.cf_engine_steps.specs.Recorded.{GivenIf, IsEntryKey, IsTombstoneKey, NumberIf, PutsIf, comes_after_entries}
+use Rattle.cf_engine_steps.specs.Recorded.{GivenIf, NewIf, NumberIf, PutsIf, comes_after_entries}
 use Rattle.cf_engine_steps.specs.Suited.{has_this_number, says_at}
 use Rattle.cf_filter_steps.specs.Answering.{Any, Reads, Sense}
 use Rattle.cf_filter_steps.specs.Good.{Every}
 use Rattle.cf_filter_steps.specs.Readings.{next_place}
-use Rattle.cf_model.specs.Books.{Book, QueueEntry, Tombstone, aux_records, cursor_records, entry_record, seen_record, tombstone_of, tombstone_record, with_cursor, with_entry, with_seen, with_tombstone, without_entry, without_tombstone}
+use Rattle.cf_model.specs.Books.{Book, QueueEntry, Tombstone, aux_records, cursor_records, entry_record, key_bytes, seen_record, tombstone_of, tombstone_record, usn_bytes, with_cursor, with_entry, with_seen, with_tombstone, without_entry, without_tombstone}
 use Rattle.cf_model.specs.Changes.{next_number, no_places}
 use Rattle.cf_model.specs.Formats.{with_record, without_record}
 use Rattle.cf_model.specs.Items.{Item, item_of}
 use Rattle.cf_model.specs.Numbers.{above, is_no_usn, most, same_usn}
 use Rattle.cf_model.specs.State.{Filter}
 use Rattle.cf_model.specs.Words.{comes_before, put_in, same, says}
-
--- texts
-
-pub before_is : (xs ys : List ℕ) → comes_before xs ys ≡ is_lt (slice_cmp nat_cmp xs ys)
-before_is [] [] = refl
-before_is [] (y ∷ ys) = refl
-before_is (x ∷ xs) [] = refl
-before_is (x ∷ xs) (y ∷ ys) = step (nat_lt x y) (x == y) (slice_cmp nat_cmp xs ys) (comes_before xs ys) (before_is xs ys) where
-  step : (b e : Bool) (o : Ordering) (v : Bool) → v ≡ is_lt o → (b || (e && v)) ≡ is_lt (ordering_then (cond b Less (cond e Equal Greater)) o)
-  step true e o v h = refl
-  step false true o v h = h
-  step false false o v h = refl
 
 -- a test that all records pass
 
@@ -62,9 +47,6 @@ of_entries p b h =
     let k = all_left p (cursor_records b.cursor ++ map entry_record b.entries ++ map seen_record b.seen) (map tombstone_record b.tombstones) h in
     let l = all_left p (cursor_records b.cursor ++ map entry_record b.entries) (map seen_record b.seen) k in
     all_right p (cursor_records b.cursor) (map entry_record b.entries) l
-
-of_tombstones : (p : AuxRecord → Bool) (b : Book) → list_all p (aux_records b) ≡ true → list_all p (map tombstone_record b.tombstones) ≡ true
-of_tombstones p b h = all_right p (cursor_records b.cursor ++ map entry_record b.entries ++ map seen_record b.seen) (map tombstone_record b.tombstones) h
 
 -- a token above all
 
@@ -93,21 +75,11 @@ puts_entry r e s is k h =
       tombstones = λ g. g;
     }
 
--- a number that no tombstone has
-
-abbrev is_other : List ℕ → AuxRecord → Bool
-is_other key r = not (same r.key key)
+-- a tombstone
 
 not_true : (b : Bool) → not b ≡ true → b ≡ false
 not_true false h = refl
 not_true true h = let z : false ≡ true = h in cc
-
-none_has : (t : Tombstone) (ts : List Tombstone) → FitsUsn t.number → AreShortNumbers ts → list_all (is_other (tombstone_record t).key) (map tombstone_record ts) ≡ true → find (λ x. same_usn x.number t.number) ts ≡ None
-none_has t [] fits short h = refl
-none_has t (x ∷ xs) fits short h =
-    let k = and_parts (is_other (tombstone_record t).key (tombstone_record x)) (list_all (is_other (tombstone_record t).key) (map tombstone_record xs)) h in
-    let other : same_usn x.number t.number ≡ false = sym (same_usns x.number t.number short.0 fits) ∙ not_true _ k.0 in
-    rw other (none_has t xs fits short.1 k.1)
 
 every_put : {A : Type 0} (P : A → Type 0) (before : A → A → Bool) (x : A) (xs : List A) → P x → Every P xs → Every P (put_in before x xs)
 every_put P before x [] p h = (p, record {})
@@ -123,17 +95,15 @@ every_kept P f (x ∷ xs) h = two (f x) (every_kept P f xs h.1) where
   two true rest = (h.0, rest)
   two false rest = rest
 
-pub puts_tombstone : (r : AuxRecord) (t : Tombstone) (s : Filter) → IsTombstone r t → IsKeepable s.volume.book → list_all (is_other r.key) (aux_records s.volume.book) ≡ true → above (next_number s.volume) t.number ≡ true → PutsBeside r (with_tombstone t) s
-puts_tombstone r t s is k h given =
-    let b = s.volume.book in
-    let new : tombstone_of b t.number ≡ None = none_has t b.tombstones is.fits.number (short_numbers b k) (of_tombstones (is_other (tombstone_record t).key) b (subst (λ (q : AuxRecord). list_all (is_other q.key) (aux_records b) ≡ true) is.spelled h)) in record {
-      records = tombstone_step b t (short_numbers b k) is.fits.number new ∙ ap (λ (q : AuxRecord). with_record q (aux_records b)) (sym is.spelled);
-      anchors = refl;
-      clock = refl;
-      accesses = refl;
-      fits = tombstone_kept b t k is.fits new;
-      tombstones = λ g. every_put (λ u. above (next_number s.volume) u.number ≡ true) (λ x y. above y.number x.number) t b.tombstones given g;
-    }
+pub puts_tombstone : (r : AuxRecord) (t : Tombstone) (s : Filter) → IsTombstone r t → IsKeepable s.volume.book → tombstone_of s.volume.book t.number ≡ None → above (next_number s.volume) t.number ≡ true → PutsBeside r (with_tombstone t) s
+puts_tombstone r t s is k new given = record {
+  records = tombstone_step s.volume.book t (short_numbers s.volume.book k) is.fits.number new ∙ ap (λ (q : AuxRecord). with_record q (aux_records s.volume.book)) (sym is.spelled);
+  anchors = refl;
+  clock = refl;
+  accesses = refl;
+  fits = tombstone_kept s.volume.book t k is.fits new;
+  tombstones = λ g. every_put (λ u. above (next_number s.volume) u.number ≡ true) (λ x y. above y.number x.number) t s.volume.book.tombstones given g;
+}
 
 -- a path seen
 
@@ -159,9 +129,9 @@ drops_cursor s k = record {
   tombstones = λ h. h;
 }
 
-pub drops_entry : (key : List ℕ) (token : Token) (s : Filter) → IsEntryKey token key → IsKeepable s.volume.book → DropsRecord key (without_entry token) s
-drops_entry key token s is k = record {
-  records = no_entry_step s.volume.book token (short_tokens s.volume.book k) is.fits ∙ ap (λ (l : List ℕ). without_record l (aux_records s.volume.book)) (sym is.spelled);
+pub drops_entry : (key : List ℕ) (token : Token) (s : Filter) → FitsKey token.0 → key ≡ 113 ∷ key_bytes token.0 → IsKeepable s.volume.book → DropsRecord key (without_entry token) s
+drops_entry key token s fits is k = record {
+  records = no_entry_step s.volume.book token (short_tokens s.volume.book k) fits ∙ ap (λ (l : List ℕ). without_record l (aux_records s.volume.book)) (sym is);
   anchors = refl;
   clock = refl;
   accesses = refl;
@@ -169,9 +139,9 @@ drops_entry key token s is k = record {
   tombstones = λ h. h;
 }
 
-pub drops_tombstone : (key : List ℕ) (number : Usn) (s : Filter) → IsTombstoneKey number key → IsKeepable s.volume.book → DropsRecord key (without_tombstone number) s
-drops_tombstone key number s is k = record {
-  records = no_tombstone_step s.volume.book number (short_numbers s.volume.book k) is.fits ∙ ap (λ (l : List ℕ). without_record l (aux_records s.volume.book)) (sym is.spelled);
+pub drops_tombstone : (key : List ℕ) (number : Usn) (s : Filter) → FitsUsn number → key ≡ 116 ∷ usn_bytes number → IsKeepable s.volume.book → DropsRecord key (without_tombstone number) s
+drops_tombstone key number s fits is k = record {
+  records = no_tombstone_step s.volume.book number (short_numbers s.volume.book k) fits ∙ ap (λ (l : List ℕ). without_record l (aux_records s.volume.book)) (sym is);
   anchors = refl;
   clock = refl;
   accesses = refl;
@@ -188,11 +158,14 @@ module _ {X : Type 0} (S : Sense X) (keeps : (x : X) (s : Filter) → S.means x 
     puts = λ s m. puts_entry r e s is (keeps x s m) (sym (tests ∙ (λ i. list_all (is_below (same i)) (reads.is s m (record {}) i))) ∙ h);
   }
 
-  pub tombstone_if : (r : AuxRecord) (t : Tombstone) (records : List AuxRecord) (key : List ℕ) (g b : Bool) → IsTombstone r t → GivenIf S t.number x g → g ≡ true → Reads S Any records_of x records → key ≡ r.key
-      → b ≡ list_all (λ (q : AuxRecord). not (same q.key key)) records → b ≡ true → PutsIf S r (with_tombstone t) x
-  tombstone_if r t records key g b is given gi reads eq tests h = record {
-    puts = λ s m. puts_tombstone r t s is (keeps x s m) (sym (tests ∙ (λ i. list_all (is_other (eq i)) (reads.is s m (record {}) i))) ∙ h) (given.given gi is.fits.number s m);
-  }
+  pub new_if : (number : Usn) (records : List AuxRecord) (o : Option queue.Tombstone) (b : Bool) → Reads S Any records_of x records → ((c : Book) → IsKeepable c → records ≡ aux_records c → option_map tombstone_value o ≡ tombstone_of c number) → is_some o ≡ not b → NewIf S number x b
+  new_if number records o b reads found none = record { new = λ h s m. sym (found s.volume.book (keeps x s m) (reads.is s m (record {}))) ∙ ap (option_map tombstone_value) (is_no o (none ∙ ap not h)) } where
+    is_no : (q : Option queue.Tombstone) → is_some q ≡ false → q ≡ None
+    is_no None e = refl
+    is_no (Some t) e = let z : true ≡ false = e in absurd cc
+
+  pub tombstone_if : (r : AuxRecord) (t : Tombstone) (g b : Bool) → IsTombstone r t → GivenIf S t.number x g → g ≡ true → NewIf S t.number x b → b ≡ true → PutsIf S r (with_tombstone t) x
+  tombstone_if r t g b is given gi new bi = record { puts = λ s m. puts_tombstone r t s is (keeps x s m) (new.new bi s m) (given.given gi is.fits.number s m) }
 
   pub seen_if : (r : AuxRecord) (p : SeenPath) → IsSeen r p → PutsIf S r (with_seen p) x
   seen_if r p is = record { puts = λ s m. puts_seen r p s is (keeps x s m) }

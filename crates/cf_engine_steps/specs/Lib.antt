@@ -2,6 +2,7 @@ pub mod Answering
 pub mod BookReads
 pub mod Faults
 pub mod Lines
+pub mod Marks
 pub mod Occupants
 pub mod Quiet
 pub mod Readings

@@ -1,13 +1,12 @@
 -- What is tested of the book before a record is put or dropped, and why then each state meets what the step asks.
-use Rattle.std.specs.Prelude.{◌≡◌, ◌++◌, Bool, true, List, ℕ, codes}
+use Rattle.std.specs.Prelude.{◌≡◌, Bool, true, List, ℕ, None, codes}
 use Rattle.cf_base.specs.declared.answers.AuxRecord.{AuxRecord}
 use Rattle.cf_base.specs.declared.ids.ItemId.{ItemId}
-use Rattle.cf_base.specs.declared.ids.Token.{Token}
 use Rattle.cf_base.specs.declared.ids.Usn.{Usn}
-use Rattle.cf_engine_host.specs.BookSteps.{DropsRecord, HasNumber, PutsBeside}
-use Rattle.cf_engine_queue.specs.Records.{FitsKey, FitsUsn}
+use Rattle.cf_engine_host.specs.BookSteps.{HasNumber, PutsBeside}
+use Rattle.cf_engine_queue.specs.Records.{FitsUsn}
 use Rattle.cf_filter_steps.specs.Answering.{Sense}
-use Rattle.cf_model.specs.Books.{Book, key_bytes, usn_bytes}
+use Rattle.cf_model.specs.Books.{Book, tombstone_of}
 use Rattle.cf_model.specs.Changes.{next_number}
 use Rattle.cf_model.specs.Items.{Item}
 use Rattle.cf_model.specs.Numbers.{above}
@@ -18,10 +17,6 @@ use Rattle.cf_model.specs.Words.{comes_before}
 pub record PutsIf {X : Type 0} (S : Sense X) (r : AuxRecord) (f : Book → Book) (x : X) : Type 0 where
   pub puts : (s : Filter) → S.means x s → PutsBeside r f s
 
--- in each state the new book differs by the record with this key alone, which it lacks
-pub record DropsIf {X : Type 0} (S : Sense X) (key : List ℕ) (f : Book → Book) (x : X) : Type 0 where
-  pub drops : (s : Filter) → S.means x s → DropsRecord key f s
-
 -- where the test holds, the number was given in each state
 pub record GivenIf {X : Type 0} (S : Sense X) (number : Usn) (x : X) (b : Bool) : Type 0 where
   pub given : b ≡ true → FitsUsn number → (s : Filter) → S.means x s → above (next_number s.volume) number ≡ true
@@ -30,15 +25,9 @@ pub record GivenIf {X : Type 0} (S : Sense X) (number : Usn) (x : X) (b : Bool) 
 pub record NumberIf {X : Type 0} (S : Sense X) (item : ItemId) (number : Usn) (x : X) : Type 0 where
   pub has : (s : Filter) → S.means x s → (i : Item) × HasNumber item i s × (i.number ≡ number)
 
--- a key is that of the record of this entry, or of this tombstone
-
-pub record IsEntryKey (token : Token) (key : List ℕ) : Type 0 where
-  pub fits : FitsKey token.0
-  pub spelled : key ≡ codes "q" ++ key_bytes token.0
-
-pub record IsTombstoneKey (number : Usn) (key : List ℕ) : Type 0 where
-  pub fits : FitsUsn number
-  pub spelled : key ≡ codes "t" ++ usn_bytes number
+-- where the test holds, no tombstone has the number in each state
+pub record NewIf {X : Type 0} (S : Sense X) (number : Usn) (x : X) (b : Bool) : Type 0 where
+  pub new : b ≡ true → (s : Filter) → S.means x s → tombstone_of s.volume.book number ≡ None
 
 -- a key behind those of all entries
 abbrev pub comes_after_entries : List ℕ → Bool

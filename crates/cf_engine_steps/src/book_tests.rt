@@ -1,17 +1,17 @@
 //! What is tested of the book before a record is put.
 
-ghost use Rattle.std.specs.Prelude.{◌≡◌, ◌||◌, IfOk, OnOk, not, true};
+ghost use Rattle.std.specs.Prelude.{◌≡◌, ◌||◌, IfOk, OnOk, true};
 ghost use Rattle.std.specs.List.{list_all};
 ghost use Rattle.cf_base.specs.declared.answers.AuxRecord.{AuxRecord};
 ghost use Rattle.cf_base.specs.Names.{is_name};
 ghost use Rattle.cf_engine_queue.specs.Books.{entry_value, tombstone_value};
-ghost use Rattle.cf_engine_steps.specs.Recorded.{GivenIf, PutsIf, comes_after_entries};
+ghost use Rattle.cf_engine_steps.specs.Recorded.{GivenIf, NewIf, PutsIf, comes_after_entries};
 ghost use Rattle.cf_model.specs.Books.{with_entry, with_seen, with_tombstone};
-ghost use Rattle.cf_model.specs.Words.{comes_before, same};
+ghost use Rattle.cf_model.specs.Words.{comes_before};
 
 use cf_base::{AuxRecord, Name, OutOfMemory, SeenPath, Usn, is_name, no_such_state};
 use cf_engine_host::EngineHost;
-use cf_engine_queue::{QueueEntry, Tombstone, spell_seen};
+use cf_engine_queue::{QueueEntry, Tombstone, find_tombstone, spell_seen};
 use cf_table::is_above;
 
 /// No key of an entry comes after this one, and each key of a path or of a tombstone does.
@@ -24,12 +24,6 @@ fn is_before(key: &[u8], other: &[u8]) -> bool
     key.cmp(other).is_lt()
 }
 
-fn has_key(record: &AuxRecord, key: &[u8]) -> bool
-    ensures { result ≡ same record.now.key key.now }
-{
-    record.key.as_slice() == key
-}
-
 // Whether no entry of the records has this key or one after it.
 fn is_newest(records: &[AuxRecord], key: &[u8]) -> bool
     ensures { result ≡ list_all (λ (r : AuxRecord). comes_before r.key key.now || comes_after_entries r.key) records.now }
@@ -39,11 +33,12 @@ fn is_newest(records: &[AuxRecord], key: &[u8]) -> bool
     })
 }
 
-// Whether none of the records has this key.
-fn is_new(records: &[AuxRecord], key: &[u8]) -> bool
-    ensures { result ≡ list_all (λ (r : AuxRecord). not (same r.key key.now)) records.now }
+// Whether no tombstone has this number.
+fn is_new<S: EngineHost>(s: &S, number: Usn) -> Result<bool, OutOfMemory>
+    ensures { IfOk result (NewIf S.sense number s.now) }
 {
-    records.iter().all(|record| !has_key(record, key))
+    let found = find_tombstone(s.alloc(), s.records(), number)?;
+    Ok(found.is_none())
 }
 
 // Whether a change had this number before, or one after it.
@@ -81,7 +76,7 @@ pub(crate) fn spell_tombstone<S: EngineHost>(
     if !was_given(s, tombstone.number) {
         return Err(no_such_state());
     }
-    if !is_new(s.records(), record.key.as_slice()) {
+    if !is_new(s, tombstone.number)? {
         return Err(no_such_state());
     }
     Ok(record)

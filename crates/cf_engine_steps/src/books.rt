@@ -1,13 +1,12 @@
 //! Records of the book, which are put, left out or dropped.
 
-ghost use Rattle.std.specs.Prelude.{IfOk, OnOk};
+ghost use Rattle.std.specs.Prelude.{OnOk};
 ghost use Rattle.cf_engine_host.specs.BookSteps.{PutsBeside};
 ghost use Rattle.cf_engine_queue.specs.Books.{entry_value, tombstone_value};
 ghost use Rattle.cf_engine_steps.specs.Answering.{Answers, Any, On};
-ghost use Rattle.cf_engine_steps.specs.Recorded.{IsEntryKey, IsTombstoneKey, NumberIf};
+ghost use Rattle.cf_engine_steps.specs.Recorded.{NumberIf};
 ghost use Rattle.cf_engine_steps.specs.States.{whole};
 ghost use Rattle.cf_model.specs.Books.{Book, with_anchor, with_entry, with_tombstone, without_entry, without_tombstone};
-ghost use Rattle.cf_model.specs.PushReplies.{reset_cursor};
 ghost use Rattle.cf_model.specs.Pushes.{anchored};
 ghost use Rattle.cf_model.specs.Skips.{in_book, try_book};
 
@@ -15,15 +14,11 @@ use crate::book_tests::{spell_entry, spell_tombstone};
 use crate::engines::Engine;
 use crate::item_tests::has_number;
 use crate::skips::leave_out;
-use cf_base::{
-    AuxRecord, Blob, CallError, Code, ItemId, OutOfMemory, Rid, Token, Usn, Version, no_such_state,
-};
+use cf_base::{AuxRecord, CallError, Code, ItemId, OutOfMemory, Token, Usn, no_such_state};
 use cf_engine_host::EngineHost;
-use cf_engine_queue::{Action, QueueEntry, Tombstone};
+use cf_engine_queue::{QueueEntry, Tombstone, entry_key, tombstone_key};
 use cf_filter_steps::Steps;
 use cf_remote::Remote;
-use cf_table::NO_USN;
-use std::alloc::Global;
 
 /// Puts a record beside the others, or leaves it out where the table has no room.
 pub(crate) fn put_or_leave_out<S: EngineHost, R: Remote>(
@@ -67,36 +62,6 @@ pub fn try_tombstone<S: EngineHost, R: Remote>(
     put_or_leave_out(s, e, &record)
 }
 
-// The key of the record of an entry.
-fn entry_key(alloc: Global, token: Token) -> Result<Blob, OutOfMemory>
-    ensures { IfOk result (IsEntryKey token) }
-{
-    let entry = QueueEntry {
-        token,
-        item: ItemId(0),
-        action: Action::Remove,
-        number: NO_USN,
-        rid: Rid(0),
-        parent: Rid(0),
-        name: Blob::from_vec(Vec::new(alloc)),
-    };
-    let record = entry.spell(alloc)?;
-    Ok(record.key)
-}
-
-// The key of the record of a tombstone.
-fn tombstone_key(alloc: Global, number: Usn) -> Result<Blob, OutOfMemory>
-    ensures { IfOk result (IsTombstoneKey number) }
-{
-    let tombstone = Tombstone {
-        number,
-        rid: Rid(0),
-        version: Version(0),
-    };
-    let record = tombstone.spell(alloc)?;
-    Ok(record.key)
-}
-
 /// The entry with this token is over: its record goes. It never meets the device, and is durable with the next commit.
 pub fn end_entry<S: EngineHost, R: Remote>(
     s: &mut S,
@@ -119,13 +84,6 @@ pub fn drop_tombstone<S: EngineHost, R: Remote>(
 {
     let key = tombstone_key(s.alloc(), number)?;
     s.drop_record(key.as_slice())
-}
-
-/// The cursor becomes 0, so that all is fed again. It never meets the device, and is durable with the next commit.
-pub fn reset_cursor<S: EngineHost, R: Remote>(s: &mut S, e: &mut Engine<R>) -> Result<(), CallError>
-    ensures { Answers (whole S.sense R.told) Any reset_cursor (s.old, e.old) result (s.new, e.new) }
-{
-    s.drop_record(b"c")
 }
 
 fn check_number<S: Steps>(s: &S, item: ItemId, number: Usn) -> Result<(), OutOfMemory>

@@ -28,6 +28,7 @@ mod book_tests;
 mod books;
 mod callbacks;
 mod changes;
+mod cursors;
 mod engines;
 mod item_tests;
 mod marks;
@@ -46,11 +47,12 @@ pub use book_reads::{
     cursor, has_entries, has_entry, has_new_entry, has_target_entry, live_entry, queue, seen,
     tombstone,
 };
-pub use books::{drop_tombstone, end_entry, keep_number, reset_cursor, try_entry, try_tombstone};
+pub use books::{drop_tombstone, end_entry, keep_number, try_entry, try_tombstone};
 pub use callbacks::{drain, finish_call};
 pub use changes::try_change;
+pub use cursors::{reset_cursor, try_cursor};
 pub use engines::Engine;
-pub use marks::mark;
+pub use marks::{mark, try_mark, try_mark_now};
 pub use messages::{come, is_inline};
 pub use names::{to_conflict, try_clear_name};
 pub use paths_seen::try_seen;

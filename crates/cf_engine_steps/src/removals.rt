@@ -7,7 +7,6 @@ ghost use Rattle.cf_engine_steps.specs.Removals.{CanGo, GoesIf, GoesNow};
 ghost use Rattle.cf_engine_steps.specs.States.{whole};
 ghost use Rattle.cf_filter_calls.specs.Moved.{has_children};
 ghost use Rattle.cf_filter_steps.specs.Answering.{Any as AnyFilter, Reads as FilterReads};
-ghost use Rattle.cf_model.specs.Dehydration.{in_use};
 ghost use Rattle.cf_model.specs.Skips.{try_change};
 ghost use Rattle.cf_model.specs.Words.{is_empty};
 
@@ -16,21 +15,11 @@ use crate::paths_seen::is_here;
 use crate::skips::leave_out;
 use cf_base::{CallError, Code, ItemId, OutOfMemory, no_such_state};
 use cf_engine_host::EngineHost;
+use cf_filter_calls::is_used;
 use cf_filter_steps::Steps;
 use cf_remote::Remote;
 
 const ROOT: ItemId = ItemId(1);
-
-// Whether a handle is open on the item, or a wait on it is live.
-#[tactic(auto, using(cf_filter_calls::proofs::Carried::used_open, cf_filter_calls::proofs::Carried::used_else))]
-fn is_used<S: Steps>(s: &S, item: ItemId) -> bool
-    ensures { FilterReads S.sense AnyFilter (in_use item) s.now result }
-{
-    if s.is_open(item) {
-        return true;
-    }
-    s.requests().busy(item)
-}
 
 fn is_any(ids: &[ItemId]) -> bool
     ensures { result ≡ not (is_empty ids.now) }

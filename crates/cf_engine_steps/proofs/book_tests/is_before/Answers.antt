@@ -1,6 +1,6 @@
 use Rattle.std.proofs.Common.{◌∙◌, ap, sym}
 use Rattle.std.specs.Ordering.{is_lt}
-use Rattle.cf_engine_steps.proofs.BookTests.{before_is}
+use Rattle.cf_engine_queue.proofs.ByKey.{before_is}
 use Rattle.cf_engine_steps.proofs.book_tests.is_before.Goals as goal
 
 pub returns : goal.returns

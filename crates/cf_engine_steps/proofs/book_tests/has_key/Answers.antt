@@ -1,7 +1,0 @@
-use Rattle.std.proofs.Common.{◌∙◌, List, ℕ, ap}
-use Rattle.std.specs.Prelude.{bytes_eq}
-use Rattle.cf_table.proofs.Finds.{same_bytes}
-use Rattle.cf_engine_steps.proofs.book_tests.has_key.Goals as goal
-
-pub returns : goal.returns
-returns c = c.eq.ensures ∙ ap (λ (l : List ℕ). bytes_eq l c.args.key.now) c.as_slice.ensures ∙ same_bytes c.args.record.now.key c.args.key.now
