@@ -1,7 +1,7 @@
 -- Replies to a request for entries.
 use Rattle.std.proofs.Common.{◌≡◌, ℕ, ◌+◌, Bool, true, false, not, cond, List, [], ◌∷◌, ◌||◌, ◌&&◌, ◌==◌, refl, sym, ◌∙◌, ap, subst, arith}
-use Rattle.std.specs.Prelude.{Option, Some, None, Result, filter, is_some, map, nat_le, nat_lt, option_map}
-use Rattle.std.specs.List.{list_all, list_any}
+use Rattle.std.specs.Prelude.{Option, Some, None, Result, filter, is_some, map, nat_lt, option_map}
+use Rattle.std.specs.List.{list_any}
 use Rattle.std.proofs.lemmas.Bool.{and_parts}
 use Rattle.std.proofs.lemmas.Bool.Decides.{nat_tests}
 use Rattle.cf_engine_provider.specs.Agencies.{Agency, Any, Performs, Plays}
@@ -10,6 +10,7 @@ use Rattle.cf_engine_provider.specs.Listings.{AreAlike, known_in, path_of, paths
 use Rattle.cf_engine_provider.specs.Parts.{IsList, fetched, give_entries, listed, listing_unless}
 use Rattle.cf_engine_provider.specs.declared.list_views.Found.{Found}
 use Rattle.cf_engine_provider.proofs.Fetched.{by_live, no_fit, same_is}
+use Rattle.cf_engine_provider.proofs.FitsAlike.{fits_alike}
 use Rattle.cf_engine_provider.proofs.Played.{as_well, nothing, within}
 use Rattle.cf_base.specs.declared.ids.ItemId.{ItemId}
 use Rattle.cf_base.specs.declared.ids.Key.{Key}
@@ -27,7 +28,7 @@ use Rattle.cf_base.specs.declared.waits.Ask.{Ask}
 use Rattle.cf_model.specs.Arrows.{Arrow, ret, seq, unit}
 use Rattle.cf_model.specs.Books.{Book, with_seen}
 use Rattle.cf_model.specs.Fetching.{after_listing, is_new, live_ask, new_item_of, take_listing, with_seen_from}
-use Rattle.cf_model.specs.Fits.{Known, are_distinct, are_entries, fits, is_entry, is_known, is_listing}
+use Rattle.cf_model.specs.Fits.{Known, are_entries, fits, is_known, is_listing}
 use Rattle.cf_model.specs.Identities.{by_target, is_untargeted, target_of}
 use Rattle.cf_model.specs.Items.{Item}
 use Rattle.cf_model.specs.Messages.{act_unless, is_old, known_now, known_of, settled_rid, take_reply}
@@ -36,7 +37,6 @@ use Rattle.cf_model.specs.Operations.{execute_with}
 use Rattle.cf_model.specs.Ports.{Act, seeing}
 use Rattle.cf_model.specs.PushReplies.{is_new_entry}
 use Rattle.cf_model.specs.Requests.{Live}
-use Rattle.cf_model.specs.Texts.{is_name}
 use Rattle.cf_model.specs.State.{Filter, State, book_now, in_filter, items_now}
 use Rattle.cf_remote.specs.Told.{Told}
 
@@ -77,15 +77,6 @@ same_new is es = ap (λ (p : Entry → Bool). filter p es) (λ j. λ e. not (her
 left_alike : (ks ls : List Known) (es : List Entry) → AreAlike ks ls → left_of ks es ≡ left_of ls es
 left_alike ks ls es same = ap (λ (p : Entry → Bool). filter p es) (λ j. λ e. not (same.known e.rid j))
 
-entry_alike : (ks ls : List Known) (e : Entry) → AreAlike ks ls → is_entry ks e ≡ is_entry ls e
-entry_alike ks ls e same = ap (λ (b : Bool). nat_lt 1 e.rid.0 && not (e.rid.0 == e.parent.0) && is_name e.name && b && cond e.dir ((e.version.0 == 0) && (e.len == 0)) (nat_le 1 e.version.0 && nat_le e.len 16777216)) (same.kind e)
-
-all_alike : (ks ls : List Known) (es : List Entry) → AreAlike ks ls → list_all (is_entry ks) es ≡ list_all (is_entry ls) es
-all_alike ks ls es same = ap (λ (p : Entry → Bool). list_all p es) (λ j. λ e. entry_alike ks ls e same j)
-
-entries_alike : (ks ls : List Known) (es : List Entry) → AreAlike ks ls → are_entries ks es ≡ are_entries ls es
-entries_alike ks ls es same = ap (λ (b : Bool). b && are_distinct es) (all_alike ks ls es same)
-
 -- paths seen
 
 paths_at : (id : ℕ) (es : List Entry) (b : Book) → with_seen_from id es b ≡ seeing (paths_from id es) b
@@ -123,24 +114,6 @@ fits_here ks a b key (request.Move a1 a2 a3 a4) r is = absurd is
 fits_here ks a b key (request.Remove a1 a2 a3) r is = absurd is
 fits_here ks a b key (request.Settle a1) r is = absurd is
 fits_here ks a b key (request.Keep a1 a2) r is = absurd is
-
-fits_alike : (ks ls : List Known) (a : Rid) (key : Key) (q : Request) (r : Reply) → IsList key q → AreAlike ks ls → fits ks a q r ≡ fits ls a q r
-fits_alike ks ls a key (request.List own rid) (reply.Feed round clock es) is same = refl
-fits_alike ks ls a key (request.List own rid) (reply.Listing k es) is same = ap (λ (b : Bool). same_key own k && b && is_listing rid es) (entries_alike ks ls es same)
-fits_alike ks ls a key (request.List own rid) (reply.Bytes k at bytes) is same = refl
-fits_alike ks ls a key (request.List own rid) (reply.Missing k) is same = refl
-fits_alike ks ls a key (request.List own rid) (reply.Done token r v) is same = refl
-fits_alike ks ls a key (request.List own rid) (reply.Void token) is same = refl
-fits_alike ks ls a key (request.List own rid) (reply.Refused token w v) is same = refl
-fits_alike ks ls a key (request.List own rid) (reply.Gone k) is same = refl
-fits_alike ks ls a key (request.Feed a1 a2) r is same = absurd is
-fits_alike ks ls a key (request.Fetch a1 a2 a3 a4 a5) r is same = absurd is
-fits_alike ks ls a key (request.Put a1 a2 a3 a4 a5 a6) r is same = absurd is
-fits_alike ks ls a key (request.MakeDir a1 a2 a3) r is same = absurd is
-fits_alike ks ls a key (request.Move a1 a2 a3 a4) r is same = absurd is
-fits_alike ks ls a key (request.Remove a1 a2 a3) r is same = absurd is
-fits_alike ks ls a key (request.Settle a1) r is same = absurd is
-fits_alike ks ls a key (request.Keep a1 a2) r is same = absurd is
 
 -- a reply that fits is one of two, and has the key
 abbrev Listing : Key → Reply → Type 0
@@ -202,7 +175,7 @@ module _ {R : Type 0} (told : R → Told) where
 
   module _ (key : Key) (x : Found) (q : Request) (r : Reply) (own : IsList key q) where
     whole : (z : State) (b : Bool) → Knows key x z.filter → b ≡ fits x.local (record { 0 = 0 }) q r → b ≡ fits (known_now z) (settled_rid z q) q r
-    whole z b k is = is ∙ fits_here x.local (record { 0 = 0 }) (settled_rid z q) key q r own ∙ fits_alike x.local (known_now z) (settled_rid z q) key q r own k.local
+    whole z b k is = is ∙ fits_here x.local (record { 0 = 0 }) (settled_rid z q) key q r own ∙ fits_alike x.local (known_now z) (settled_rid z q) q r k.local
 
     pub unfit : (b : Bool) (p : Agency R) → b ≡ fits x.local (record { 0 = 0 }) q r → b ≡ false → Plays told (Knows key x) (take_reply q r) p [] p
     unfit b p is miss = as_well told (Knows key x) (ret unit) (take_reply q r) p p [] (λ z k. sym (ap (λ (y : Bool). act_unless r (not y || is_old z r) z) (sym (whole z b k is) ∙ miss))) (nothing told Any p)

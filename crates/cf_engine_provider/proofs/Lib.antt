@@ -9,3 +9,4 @@ pub mod Played
 pub mod Sent
 pub mod Spoken
 pub mod Targeted
+pub mod FitsAlike

@@ -50,7 +50,7 @@ fn new_item(alloc: Global, entry: &Entry) -> Result<NewItem, OutOfMemory>
 }
 
 /// The new items of entries.
-pub(crate) fn new_items(alloc: Global, entries: &[Entry]) -> Result<Sequence<NewItem>, OutOfMemory>
+pub fn new_items(alloc: Global, entries: &[Entry]) -> Result<Sequence<NewItem>, OutOfMemory>
     ensures { IfOk result (λ v. v ≡ map new_item_of entries.now) }
 {
     let mut list = Sequence::new(alloc);
@@ -92,7 +92,7 @@ fn following(id: u64) -> Result<u64, OutOfMemory>
 }
 
 /// The paths of entries, as those of items with the ids from this one on.
-pub(crate) fn paths_from(
+pub fn paths_from(
     alloc: Global,
     first: u64,
     entries: &[Entry],
@@ -109,11 +109,7 @@ pub(crate) fn paths_from(
 }
 
 /// The entries that no local item has as its target.
-pub(crate) fn unknown(
-    alloc: Global,
-    local: &Locals,
-    entries: &[Entry],
-) -> Result<Vec<Entry>, OutOfMemory>
+pub fn unknown(alloc: Global, local: &Locals, entries: &[Entry]) -> Result<Vec<Entry>, OutOfMemory>
     ensures { IfOk result (λ v. v.items ≡ filter (λ e. not (is_known local.now e.rid)) entries.now) }
 {
     let mut left = Vec::new(alloc);

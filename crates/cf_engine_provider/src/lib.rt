@@ -22,5 +22,6 @@ mod replies;
 mod requests;
 
 pub use agents::Agent;
+pub use entries::{new_items, paths_from, unknown};
 pub use list_views::{Found, find};
-pub use locals::Locals;
+pub use locals::{Locals, locals_of};

@@ -173,7 +173,7 @@ fn sorted_targets(alloc: Global, list: &[Local], directory: bool) -> Result<Vec<
 }
 
 /// The local items of the rows that are items of the remote.
-pub(crate) fn locals_of(alloc: Global, rows: &[Row]) -> Result<Locals, OutOfMemory>
+pub fn locals_of(alloc: Global, rows: &[Row]) -> Result<Locals, OutOfMemory>
     ensures { (items : List Item) → MeansAll rows.now items → IfOk result (λ l. AreAlike l (known_in items)) }
 {
     let list = list_of(alloc, rows)?;
