@@ -41,6 +41,7 @@ mod skips;
 mod suited_changes;
 mod suited_moves;
 mod tokens;
+mod uses;
 mod volatiles;
 
 pub use book_reads::{
@@ -59,4 +60,5 @@ pub use paths_seen::try_seen;
 pub use posts::post;
 pub use skips::skip;
 pub use tokens::{next_token, try_round, try_token};
+pub use uses::in_use;
 pub use volatiles::Volatile;
