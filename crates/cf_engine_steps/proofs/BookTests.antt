@@ -1,5 +1,5 @@
 -- Records that may be put or dropped, by what was tested of the book.
-use Rattle.std.proofs.Common.{◌≡◌, ◌≤◌, ◌<◌, ◌+◌, ◌^◌, Bool, true, false, not, cond, List, [], ◌∷◌, ◌++◌, filter, map, refl, sym, ◌∙◌, ap, subst, ℕ, arith}
+use Rattle.std.proofs.Common.{◌≡◌, ◌≤◌, ◌<◌, ◌+◌, ◌^◌, zero, suc, Bool, true, false, not, cond, List, [], ◌∷◌, ◌++◌, filter, map, refl, sym, ◌∙◌, ap, subst, ℕ, slice_get, arith}
 use Rattle.std.proofs.lemmas.Bool.{and_parts, eqb-true, ltb-true}
 use Rattle.std.proofs.lemmas.Bool.Decides.{nat_tests}
 use Rattle.std.specs.Prelude.{Option, Some, None, is_some, nat_lt, option_map, ◌&&◌, ◌||◌, ◌==◌}
@@ -13,13 +13,16 @@ use Rattle.cf_engine_host.specs.BookSteps.{DropsRecord, HasNumber, PutsBeside, r
 use Rattle.cf_engine_host.specs.Readings.{epoch_of}
 use Rattle.cf_engine_queue.specs.Books.{token_rank, tombstone_value}
 use Rattle.cf_engine_queue.specs.declared.uploads.Tombstone as queue
-use Rattle.cf_engine_queue.specs.Order.{is_above}
+use Rattle.cf_engine_queue.specs.Keys.{AreByKey}
+use Rattle.cf_engine_queue.specs.Order.{Divides, is_above}
+use Rattle.cf_engine_queue.proofs.Found.{by_key}
 use Rattle.cf_engine_queue.specs.Records.{FitsKey, FitsUsn, IsEntry, IsKeepable, IsSeen, IsTombstone}
 use Rattle.cf_engine_queue.specs.Steps.{AreShortTokens}
 use Rattle.cf_engine_queue.proofs.KeyOrder.{key_order}
 use Rattle.cf_engine_queue.proofs.StaysKeepable.{cursor_kept, entry_kept, no_entry_kept, no_tombstone_kept, seen_kept, short_ids, short_numbers, short_tokens, tombstone_kept}
 use Rattle.cf_engine_queue.proofs.Steps.{entry_step, no_cursor_step, no_entry_step, no_tombstone_step, seen_step, tombstone_step}
 use Rattle.cf_engine_steps.specs.Recorded.{GivenIf, NewIf, NumberIf, PutsIf, comes_after_entries}
+use Rattle.cf_engine_steps.proofs.Suited.{not_true}
 use Rattle.cf_engine_steps.specs.Suited.{has_this_number, says_at}
 use Rattle.cf_filter_steps.specs.Answering.{Any, Reads, Sense}
 use Rattle.cf_filter_steps.specs.Good.{Every}
@@ -63,6 +66,38 @@ newest_in e (x ∷ xs) fits short h =
     let k = and_parts (is_below (entry_record e).key (entry_record x)) (list_all (is_below (entry_record e).key) (map entry_record xs)) h in
     (sym (key_order x.token.0 e.token.0 short.0 fits) ∙ left_of _ k.0, newest_in e xs fits short.1 k.1)
 
+-- the record at the place of the key comes after all entries, and so do those behind it
+
+after_goes_on : (a b : List ℕ) → comes_after_entries a ≡ true → comes_before a b ≡ true → comes_after_entries b ≡ true
+after_goes_on [] b h k = let z : false ≡ true = h in absurd cc
+after_goes_on (x ∷ xs) [] h k = let z : false ≡ true = k in absurd cc
+after_goes_on (x ∷ xs) (y ∷ ys) h k = step x y (comes_before xs ys) h k where
+  step : (m n : ℕ) (c : Bool) → nat_lt 113 m ≡ true → (nat_lt m n || ((m == n) && c)) ≡ true → nat_lt 113 n ≡ true
+  step m n true h k = grind (arith, nat_tests)
+  step m n false h k = grind (arith, nat_tests)
+
+or_right : (a b : Bool) → b ≡ true → (a || b) ≡ true
+or_right true b h = refl
+or_right false b h = h
+
+or_left : (a b : Bool) → a ≡ true → (a || b) ≡ true
+or_left true b h = refl
+or_left false b h = let z : false ≡ true = h in absurd cc
+
+all_after : (key first : List ℕ) (rs : List AuxRecord) → comes_after_entries first ≡ true → AllByRecursion (λ x. comes_before first x.key ≡ true) rs → list_all (is_below key) rs ≡ true
+all_after key first [] h k = refl
+all_after key first (r ∷ rs) h k = rw (or_right (comes_before r.key key) (comes_after_entries r.key) (after_goes_on first r.key h k.0), all_after key first rs h k.1) refl
+
+not_after : (b : Bool) → not b ≡ false → b ≡ true
+not_after true h = refl
+not_after false h = let z : true ≡ false = h in absurd cc
+
+pub newest_at : (key : List ℕ) (n : ℕ) (rs : List AuxRecord) → AreByKey rs → Divides (λ r. comes_before r.key key) n rs → says (λ (r : AuxRecord). not (comes_after_entries r.key)) (slice_get rs n) ≡ false → list_all (is_below key) rs ≡ true
+newest_at key zero [] o d h = refl
+newest_at key zero (r ∷ rs) o d h = let after = not_after (comes_after_entries r.key) h in rw (or_right (comes_before r.key key) (comes_after_entries r.key) after, all_after key r.key rs after o.0) refl
+newest_at key (suc n) [] o d h = absurd d
+newest_at key (suc n) (r ∷ rs) o d h = rw (or_left (comes_before r.key key) (comes_after_entries r.key) d.0, newest_at key n rs o.1 d.1 h) refl
+
 pub puts_entry : (r : AuxRecord) (e : QueueEntry) (s : Filter) → IsEntry r e → IsKeepable s.volume.book → list_all (is_below r.key) (aux_records s.volume.book) ≡ true → PutsBeside r (with_entry e) s
 puts_entry r e s is k h =
     let b = s.volume.book in
@@ -76,10 +111,6 @@ puts_entry r e s is k h =
     }
 
 -- a tombstone
-
-not_true : (b : Bool) → not b ≡ true → b ≡ false
-not_true false h = refl
-not_true true h = let z : false ≡ true = h in cc
 
 every_put : {A : Type 0} (P : A → Type 0) (before : A → A → Bool) (x : A) (xs : List A) → P x → Every P xs → Every P (put_in before x xs)
 every_put P before x [] p h = (p, record {})
@@ -153,9 +184,11 @@ drops_tombstone key number s fits is k = record {
 
 module _ {X : Type 0} (S : Sense X) (keeps : (x : X) (s : Filter) → S.means x s → IsKeepable s.volume.book) (x : X) where
   pub entry_if : (r : AuxRecord) (e : QueueEntry) (records : List AuxRecord) (key : List ℕ) (b : Bool) → IsEntry r e → Reads S Any records_of x records → key ≡ r.key
-      → b ≡ list_all (λ (q : AuxRecord). comes_before q.key key || comes_after_entries q.key) records → b ≡ true → PutsIf S r (with_entry e) x
+      → (b ≡ true → AreByKey records → list_all (λ (q : AuxRecord). comes_before q.key key || comes_after_entries q.key) records ≡ true) → b ≡ true → PutsIf S r (with_entry e) x
   entry_if r e records key b is reads same tests h = record {
-    puts = λ s m. puts_entry r e s is (keeps x s m) (sym (tests ∙ (λ i. list_all (is_below (same i)) (reads.is s m (record {}) i))) ∙ h);
+    puts = λ s m.
+        let kept = reads.is s m (record {}) in
+        puts_entry r e s is (keeps x s m) (sym (λ i. list_all (is_below (same i)) (kept i)) ∙ tests h (subst AreByKey (sym kept) (by_key s.volume.book (keeps x s m))));
   }
 
   pub new_if : (number : Usn) (records : List AuxRecord) (o : Option queue.Tombstone) (b : Bool) → Reads S Any records_of x records → ((c : Book) → IsKeepable c → records ≡ aux_records c → option_map tombstone_value o ≡ tombstone_of c number) → is_some o ≡ not b → NewIf S number x b

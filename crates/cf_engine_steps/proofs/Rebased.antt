@@ -1,5 +1,5 @@
 -- A Rebase that suits by what was tested of it.
-use Rattle.std.proofs.Common.{◌≡◌, ◌≤◌, Bool, true, false, List, [], ◌∷◌, refl, sym, ◌∙◌, ap, subst, ℕ, length, arith}
+use Rattle.std.proofs.Common.{◌≡◌, ◌≤◌, Bool, true, false, List, [], ◌∷◌, refl, sym, ◌∙◌, ap, subst, ℕ, length}
 use Rattle.std.proofs.lemmas.Bool.{and_parts, eqb-true, eq-eqb}
 use Rattle.std.proofs.lemmas.List.Elements.{All-from_recursion}
 use Rattle.std.specs.Prelude.{Option, Some, None, ◌&&◌, ◌||◌, ◌==◌}
@@ -9,7 +9,7 @@ use Rattle.cf_base.specs.declared.ids.ItemId.{ItemId}
 use Rattle.cf_base.specs.declared.ids.Usn.{Usn}
 use Rattle.cf_engine_host.specs.Readings.{anchor_at}
 use Rattle.cf_engine_steps.specs.Suited.{SuitsIf, takes_writes, takes_writes_at}
-use Rattle.cf_engine_steps.proofs.Suited.{there}
+use Rattle.cf_engine_steps.proofs.Suited.{there, wide}
 use Rattle.cf_filter_steps.proofs.RowReads.{row_gone, row_there}
 use Rattle.cf_filter_steps.specs.Answering.{Any, IsAt, Reads, Sense}
 use Rattle.cf_filter_steps.specs.Finding.{HasRows}
@@ -60,9 +60,6 @@ size_in at len anchor i h none = eqb-true len (size_of i) (by (is_no_usn at) (le
   by true b c n e = let z : true ≡ false = n in cc
   by false true c n e = refl
   by false false c n e = e
-
-wide : (n : ℕ) → n ≤ 4096 → n ≤ 65535
-wide n h = omega (arith, h)
 
 pub rebase_by : {X : Type 0} (S : Sense X) (id : ItemId) (identity : List ℕ) (len : ℕ) (at : Usn) (x : X) (b : Bool) → length identity ≤ 4096 → len ≤ 16777216 → Reads S Any (takes_writes_at id len at) x b
     → SuitsIf S (change.Rebase id identity len at) x b

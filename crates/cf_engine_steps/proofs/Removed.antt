@@ -1,7 +1,7 @@
 -- Items that are removed, or left out.
 use Rattle.std.proofs.Common.{◌≡◌, ◌∷◌, Bool, true, false, not, List, [], refl, sym, ◌∙◌, ap, subst}
 use Rattle.std.proofs.lemmas.Bool.{or_parts}
-use Rattle.std.specs.Prelude.{Result, Ok, Err, Option, Some, None, is_some, ◌==◌, ◌||◌}
+use Rattle.std.specs.Prelude.{Result, Ok, Err, Option, Some, None, ◌==◌, ◌||◌}
 use Rattle.cf_base.specs.declared.changes.Change.TheVariants as change
 use Rattle.cf_base.specs.declared.codes.Code.TheVariants as code
 use Rattle.cf_base.specs.declared.codes.CallError.{CallError}
@@ -13,9 +13,11 @@ use Rattle.cf_engine_steps.specs.Removals.{CanGo, GoesIf, GoesNow}
 use Rattle.cf_engine_steps.specs.States.{Own, whole}
 use Rattle.cf_engine_steps.proofs.Laws.{known}
 use Rattle.cf_engine_steps.proofs.Lifting.{lift_filter, quiet_change}
+use Rattle.cf_engine_steps.proofs.SuitedMoves.{there_is}
 use Rattle.cf_engine_steps.proofs.Tried.{tried_done, tried_fails, tried_skips}
 use Rattle.cf_filter_calls.proofs.Carried.{waited}
 use Rattle.cf_filter_calls.proofs.Moved.{place_left, place_none}
+use Rattle.cf_filter_calls.proofs.Suited.{not_false}
 use Rattle.cf_filter_calls.specs.Moved.{has_children}
 use Rattle.cf_filter_steps.specs.Answering as steps
 use Rattle.cf_filter_steps.specs.Putting.{MayGo, removed}
@@ -42,10 +44,6 @@ never_goes S item x = record { goes = λ e. let z : false ≡ true = e in absurd
 empty_is : (xs : List Item) → is_empty xs ≡ true → xs ≡ []
 empty_is [] e = refl
 empty_is (x ∷ xs) e = let z : false ≡ true = e in absurd cc
-
-not_false : (b : Bool) → not b ≡ false → b ≡ true
-not_false true e = refl
-not_false false e = let z : true ≡ false = e in cc
 
 full_not : (b c : Bool) → not b ≡ true → b ≡ c → c ≡ false
 full_not false c h e = sym e
@@ -93,10 +91,6 @@ module _ {X R : Type 0} (S : steps.Sense X) (told : R → Told) (id : ItemId) (x
   pub removal_fails : (f : CallError) → ((i : Item) → steps.Answers S (MayGo id i) (removed false i) x (Err f) y) → Answers (whole S told) (On (GoesNow id)) (try_change (change.Remove id)) (x, e) (Err f) (y, e)
   removal_fails f h = tried_fails (whole S told) (On (GoesNow id)) (On (GoesNow id)) (why_no_change (change.Remove id)) (do_change (change.Remove id)) (x, e) (y, e) f goes_so
       (lift_filter S told (GoesNow id) (one_change (change.Remove id)) x y e (Err f) (quiet_change (change.Remove id)) (removed_as_change S id x y (Err f) h))
-
-there_is : (o : Option Item) → is_some o ≡ true → (i : Item) × (o ≡ Some i)
-there_is None e = let z : false ≡ true = e in absurd cc
-there_is (Some i) e = (i, refl)
 
 module _ {X R : Type 0} (S : steps.Sense X) (told : R → Told) (id : ItemId) (x y : X) (e f : Own R) (o : Option Usn) (r : Result Bool CallError) where
   pub removal_on : (n : Usn) → CanGo S id x → steps.Reads S steps.Any next_place x o → o ≡ Some n → Answers (whole S told) (On (GoesNow id)) (try_change (change.Remove id)) (x, e) r (y, f)

@@ -99,11 +99,11 @@ mark_by S id n x b reads = record {
   suits = λ is s m. (record { fits = λ i j k l. record {}; needs = each_said S is_placeholder (λ i. i.placeholder ≡ true) (λ i h. h) id x b is reads s m; plants = record {}; lasts = record {} }, record {});
 }
 
-not_true : (b : Bool) → not b ≡ true → b ≡ false
+pub not_true : (b : Bool) → not b ≡ true → b ≡ false
 not_true false e = refl
 not_true true e = let z : false ≡ true = e in cc
 
-wide : (n : ℕ) → n ≤ 4096 → n ≤ 65535
+pub wide : (n : ℕ) → n ≤ 4096 → n ≤ 65535
 wide n h = omega (arith, h)
 
 pub take_by : {X : Type 0} (S : Sense X) (id : ItemId) (identity : List ℕ) (size : ℕ) (x : X) (b : Bool) → length identity ≤ 4096 → size ≤ 16777216 → Reads S Any (says_at is_placeholder_file id) x b → SuitsIf S (change.Take id identity size) x b

@@ -52,7 +52,7 @@ module _ {X : Type 0} (S : Sense X) (x : X) (t : Table) (item parent : ItemId) (
     refused = λ s i m at. (subst (λ (q : Result (Unit {0}) CallError). Checks q item parent name t) is check) s.volume.items i (rows.rows s m) (S.good x s m).volume.tree at;
   }
 
-there_is : (o : Option Item) → is_some o ≡ true → (i : Item) × (o ≡ Some i)
+pub there_is : (o : Option Item) → is_some o ≡ true → (i : Item) × (o ≡ Some i)
 there_is None e = let z : false ≡ true = e in absurd cc
 there_is (Some i) e = (i, refl)
 

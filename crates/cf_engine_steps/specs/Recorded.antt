@@ -1,5 +1,5 @@
 -- What is tested of the book before a record is put or dropped, and why then each state meets what the step asks.
-use Rattle.std.specs.Prelude.{◌≡◌, Bool, true, List, ℕ, None, codes}
+use Rattle.std.specs.Prelude.{◌≡◌, Bool, true, false, List, [], ◌∷◌, ℕ, None, nat_lt}
 use Rattle.cf_base.specs.declared.answers.AuxRecord.{AuxRecord}
 use Rattle.cf_base.specs.declared.ids.ItemId.{ItemId}
 use Rattle.cf_base.specs.declared.ids.Usn.{Usn}
@@ -11,7 +11,6 @@ use Rattle.cf_model.specs.Changes.{next_number}
 use Rattle.cf_model.specs.Items.{Item}
 use Rattle.cf_model.specs.Numbers.{above}
 use Rattle.cf_model.specs.State.{Filter}
-use Rattle.cf_model.specs.Words.{comes_before}
 
 -- in each state the new book differs by this record alone, which it has
 pub record PutsIf {X : Type 0} (S : Sense X) (r : AuxRecord) (f : Book → Book) (x : X) : Type 0 where
@@ -29,6 +28,7 @@ pub record NumberIf {X : Type 0} (S : Sense X) (item : ItemId) (number : Usn) (x
 pub record NewIf {X : Type 0} (S : Sense X) (number : Usn) (x : X) (b : Bool) : Type 0 where
   pub new : b ≡ true → (s : Filter) → S.means x s → tombstone_of s.volume.book number ≡ None
 
--- a key behind those of all entries
+-- a key behind those of all entries, by its first byte
 abbrev pub comes_after_entries : List ℕ → Bool
-comes_after_entries key = comes_before (codes "r") key
+comes_after_entries [] = false
+comes_after_entries (k ∷ ks) = nat_lt 113 k

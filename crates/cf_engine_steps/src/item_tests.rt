@@ -14,6 +14,8 @@ use cf_tree::depth_of;
 
 const MOST_NAMES: usize = MOST_PATH_NAMES as usize;
 
+pub(crate) const ROOT: ItemId = ItemId(1);
+
 /// How many bytes of an identity name its target.
 const TARGET_BYTES: usize = 8;
 
