@@ -89,14 +89,14 @@ impl<R: Remote> Engine<R> {
         &self.volatile
     }
 
-    /// A Done is taken.
+    /// A Done is taken in the running event.
     pub fn note_done(&mut self)
         ensures { self.new ≡ with_took_done true self.old }
     {
         self.took_done = true;
     }
 
-    /// No Done was taken yet.
+    /// Forgets that a Done was taken, as before each pass.
     pub fn without_done(&mut self)
         ensures { self.new ≡ with_took_done false self.old }
     {
@@ -119,7 +119,7 @@ impl<R: Remote> Engine<R> {
         self.volatile.close_round();
     }
 
-    /// The entry was answered: the latest round is closed, and its item or tombstone was not refused last time.
+    /// The entry was answered: closes the latest round, and forgets what its item or tombstone was refused for last time.
     pub fn take_from_row(&mut self, entry: &QueueEntry)
         ensures { self.new ≡ with_volatile_of (taken_from_row (entry_value entry.now)) self.old }
     {
@@ -127,7 +127,7 @@ impl<R: Remote> Engine<R> {
         self.volatile.leave_row(entry);
     }
 
-    /// The entry's item or tombstone was not refused last time.
+    /// Forgets that the name of the entry's item was taken last time, or that the directory of its tombstone was not empty.
     pub fn leave_row(&mut self, entry: &QueueEntry)
         ensures { self.new ≡ with_volatile_of (not_in_row (entry_value entry.now)) self.old }
     {

@@ -158,7 +158,7 @@ impl Volatile {
         self.round_open = false;
     }
 
-    // The entry's item or tombstone was not refused for the same reason last time.
+    // Forgets that the name of the entry's item was taken last time, or that the directory of its tombstone was not empty.
     pub(crate) fn leave_row(&mut self, entry: &QueueEntry)
         ensures { self.new ≡ not_in_row (entry_value entry.now) self.old }
     {
