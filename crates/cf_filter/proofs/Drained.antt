@@ -15,7 +15,7 @@ use Rattle.cf_provider.specs.declared.outcomes.Callback.{Callback}
 use Rattle.cf_filter_machine.proofs.DeskSteps.{stands_with}
 use Rattle.cf_filter_machine.proofs.GoodSteps.{same_good}
 use Rattle.cf_filter_machine.proofs.Seen.{seen_gone, seen_there}
-use Rattle.cf_filter.specs.Callbacks.{Answering, AnswersOn, CutOff, NoneFailed}
+use Rattle.cf_engine_host.specs.Callbacks.{Answering, AnswersOn, CutOff, NoneFailed}
 use Rattle.cf_filter.specs.Draining.{CallsTo, Drains, DrainsTo, PartTo, TurnTo, Turns}
 use Rattle.cf_filter_machine.specs.Held.{Desk, Held}
 use Rattle.cf_filter_machine.specs.Lasting.{Moved}

@@ -11,7 +11,7 @@ use Rattle.cf_base.specs.declared.notices.Notice.{Notice}
 use Rattle.cf_disk.specs.Disk.{State}
 use Rattle.cf_filter.proofs.Called.{is_broken, noted_back, still_noted, whole_again}
 use Rattle.cf_filter.specs.Calling.{Takes, Told, answer_of, broken_by, is_stopped, noted, shown_by}
-use Rattle.cf_filter.specs.Callbacks.{Answering}
+use Rattle.cf_engine_host.specs.Callbacks.{Answering}
 use Rattle.cf_filter.specs.Draining.{CallsBack, CallsTo, PartTo, Provides}
 use Rattle.cf_filter_machine.specs.Held.{Held}
 use Rattle.cf_filter.specs.PortLaws.{false_true}

@@ -6,7 +6,7 @@ use Rattle.cf_base.specs.declared.codes.CallError.{CallError}
 use Rattle.cf_base.specs.declared.codes.CallError.TheVariants.{No, OutOfMemory}
 use Rattle.cf_base.specs.declared.waits.Ask.{Ask}
 use Rattle.cf_disk.specs.Disk.{State}
-use Rattle.cf_filter.specs.Callbacks.{Answering, AnswersOn, CalledBack, CutBack, NoneFailed}
+use Rattle.cf_engine_host.specs.Callbacks.{Answering, AnswersOn, CalledBack, CutBack, NoneFailed}
 use Rattle.cf_filter.specs.Calling.{Told, answer_of, is_stopped, shown_by}
 use Rattle.cf_filter_machine.specs.Held.{Held}
 use Rattle.cf_filter_machine.specs.Lasting.{Lasts, Moved}

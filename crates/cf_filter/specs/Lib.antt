@@ -1,6 +1,4 @@
 pub mod Booking
-pub mod CallbackLaws
-pub mod Callbacks
 pub mod Calling
 pub mod Draining
 pub mod Handing

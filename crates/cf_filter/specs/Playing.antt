@@ -5,8 +5,8 @@ use Rattle.cf_base.specs.declared.answers.Shown.{Shown}
 use Rattle.cf_base.specs.declared.codes.CallError.{CallError}
 use Rattle.cf_base.specs.declared.codes.CallError.TheVariants.{No, OutOfMemory}
 use Rattle.cf_disk.specs.Disk.{State as Disk}
-use Rattle.cf_filter.specs.CallbackLaws.{Plays, cut_calling, ends_calling, stops_calling}
-use Rattle.cf_filter.specs.Callbacks.{Answering}
+use Rattle.cf_engine_host.specs.CallbackLaws.{Plays, cut_calling, ends_calling, stops_calling}
+use Rattle.cf_engine_host.specs.Callbacks.{Answering}
 use Rattle.cf_filter.specs.Draining.{CallsBack, CallsTo}
 use Rattle.cf_filter_machine.specs.Held.{Held}
 use Rattle.cf_filter_machine.specs.Lasting.{Lasts, Moved}

@@ -4,7 +4,7 @@ use Rattle.cf_base.specs.declared.notices.Notice.{Notice}
 use Rattle.cf_disk.specs.Disk.{State}
 use Rattle.cf_filter_machine.specs.Held.{Desk, Held}
 use Rattle.cf_filter_machine.specs.Lasting.{Lasts, Moved}
-use Rattle.cf_filter.specs.Callbacks.{NoneFailed}
+use Rattle.cf_engine_host.specs.Callbacks.{NoneFailed}
 use Rattle.cf_filter.specs.Porting.{Goes, GoneTo, StaysBroken, notes_of}
 use Rattle.cf_filter_machine.specs.Sensing.{Rose, Stands, Stopped, rose_on, sense}
 use Rattle.cf_model.specs.Ports.{Act, Acts, Did, Failed, HasFailed, Noted, noted_by}

@@ -7,7 +7,7 @@ use Rattle.cf_base.specs.declared.notices.Notice.{Notice}
 use Rattle.cf_disk.specs.Disk.{State}
 use Rattle.cf_provider.specs.Sights.{Sight}
 use Rattle.cf_engine_queue.specs.Records.{FitsSeen}
-use Rattle.cf_filter.specs.Callbacks.{NoneFailed}
+use Rattle.cf_engine_host.specs.Callbacks.{NoneFailed}
 use Rattle.cf_filter_machine.specs.Held.{Held}
 use Rattle.cf_filter_machine.specs.Lasting.{Lasts, Moved}
 use Rattle.cf_filter_machine.specs.Sensing.{Rose, Stands, Stopped}

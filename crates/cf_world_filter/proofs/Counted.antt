@@ -20,7 +20,7 @@ use Rattle.cf_base.specs.declared.memory.OutOfMemory.{OutOfMemory as NoMemory}
 use Rattle.cf_base.specs.declared.notices.Notice.{Notice}
 use Rattle.cf_base.specs.declared.operations.Operation.{Operation}
 use Rattle.cf_disk.specs.Disk.{State as Disk}
-use Rattle.cf_filter.specs.Callbacks.{Answering}
+use Rattle.cf_engine_host.specs.Callbacks.{Answering}
 use Rattle.cf_filter.specs.Calling.{Asks, Calls, Told, answer_of, is_stopped, noted, shown_by}
 use Rattle.cf_filter.specs.Draining.{CallsTo, Provides}
 use Rattle.cf_filter_machine.specs.Held.{Held}

@@ -22,8 +22,8 @@ use Rattle.cf_base.specs.declared.ids.Key.{Key}
 use Rattle.cf_base.specs.declared.policies.Mode.TheVariants.{Filter as InFilter}
 use Rattle.cf_base.specs.declared.waits.Ask.{Ask}
 use Rattle.cf_disk.specs.Disk.{State as Disk}
-use Rattle.cf_filter.specs.CallbackLaws.{Plays}
-use Rattle.cf_filter.specs.Callbacks.{NoneFailed}
+use Rattle.cf_engine_host.specs.CallbackLaws.{Plays}
+use Rattle.cf_engine_host.specs.Callbacks.{NoneFailed}
 use Rattle.cf_filter.specs.Calling.{noted, shown_by}
 use Rattle.cf_filter.specs.Draining.{CallsBack, Provides}
 use Rattle.cf_filter.specs.Playing.{LeftBy, played}
