@@ -21,6 +21,7 @@ use Rattle.cf_model_headline.specs.Reports.{Report}
 use Rattle.cf_model_headline.proofs.DehydratedLaws.{dehydrates_exactly}
 use Rattle.cf_model_headline.proofs.KeptBytesLaws.{flushed_is_kept}
 use Rattle.cf_model_headline.proofs.MarkedLaws.{marks_give, shown_by_mark}
+use Rattle.cf_model_headline.proofs.ReadsAtOnceLaws.{reads_at_once}
 use Rattle.cf_model_headline.proofs.ReadsLaws.{data_is_right}
 use Rattle.cf_model_headline.proofs.ResumedLaws.{resumes_right}
 use Rattle.cf_model_headline.proofs.StandingLaws.{shows_all}
@@ -53,7 +54,8 @@ promised m remote clusters report last fresh runs = record {
 pub headline : (remote : Held) (clusters : ℕ) (report : Report) (last : State) → Premises remote last → Runs mode.Replay (start mode.Replay remote clusters) report last → Headline remote clusters report last
 headline remote clusters report last premises runs = record {
   promises = promised mode.Replay remote clusters report last premises.fresh runs;
-  reads = data_is_right remote clusters report last premises.fresh premises.fair runs;
+  data_lines = data_is_right remote clusters report last premises.fresh premises.fair runs;
+  reads = reads_at_once remote clusters report last premises.fresh premises.fair runs;
   marks = marks_give remote clusters report last premises.fresh premises.fair runs;
   flushed = flushed_is_kept remote clusters report last premises.fresh premises.fair runs;
 }

@@ -11,4 +11,5 @@ pub mod TokenLaws
 pub mod ReadLines
 pub mod ReadsGuarded
 pub mod ReadsLaws
+pub mod ReadsAtOnceLaws
 pub mod HeadlineLaws

@@ -1,7 +1,12 @@
 -- What a read reports.
-use Rattle.std.specs.Prelude.{ℕ, false, List, [], Option, Some, None, slice_range, ◌+◌, ◌∷◌, ◌++◌, ◌≡◌, ◌⊎◌}
+use Rattle.std.specs.Prelude.{ℕ, false, List, [], Option, Some, None, Ok, slice_range, ◌+◌, ◌∷◌, ◌++◌, ◌≡◌, ◌≢◌, ◌⊎◌}
 use Rattle.cf_base.specs.declared.answers.Answer.{Answer}
+use Rattle.cf_base.specs.declared.answers.Shown.TheVariants as shown
+use Rattle.cf_base.specs.declared.calls.Call.TheVariants as call
 use Rattle.cf_base.specs.declared.changes.Change.{Change}
+use Rattle.cf_base.specs.declared.codes.Code.TheVariants as code
+use Rattle.cf_base.specs.declared.events.Event.{Event}
+use Rattle.cf_base.specs.declared.events.Event.TheVariants as event
 use Rattle.cf_base.specs.declared.ids.ItemId.{ItemId}
 use Rattle.cf_base.specs.declared.ids.Usn.{Usn}
 use Rattle.cf_base.specs.declared.ids.WaitId.{WaitId}
@@ -9,12 +14,16 @@ use Rattle.cf_base.specs.declared.notices.Notice.{Notice}
 use Rattle.cf_base.specs.declared.notices.Notice.TheVariants as notice
 use Rattle.cf_base.specs.declared.spans.Span.{Span}
 use Rattle.cf_base.specs.declared.waits.End.TheVariants as end
+use Rattle.cf_base.specs.declared.waits.WaitKind.TheVariants as wait_kind
 use Rattle.cf_model.specs.Identities.{content}
 use Rattle.cf_model.specs.Items.{Item, item_of}
 use Rattle.cf_model.specs.Logs.{items_of}
-use Rattle.cf_model.specs.Missing.{Wait}
-use Rattle.cf_model.specs.State.{State}
+use Rattle.cf_model.specs.LookUp.{find_path}
+use Rattle.cf_model.specs.Missing.{Wait, misses, span_of, view_of}
+use Rattle.cf_model.specs.Numbers.{no_key}
+use Rattle.cf_model.specs.State.{On, Open, State, items_now}
 use Rattle.cf_model.specs.Store.{Held}
+use Rattle.cf_model.specs.Waits.{opened_by}
 use Rattle.cf_model_laws.specs.GivenOnce.{IsGiven, Waits}
 use Rattle.cf_model_headline.specs.Reports.{Report, changes_in, standing}
 
@@ -39,3 +48,20 @@ abbrev pub DataIsRight : Held → Report → State → Answer → Type 0
 DataIsRight held before s a =
     (front back : List Notice) (line : Notice) (id : WaitId) (bytes : List ℕ) → a.notes ≡ front ++ line ∷ back → data_shown line ≡ Some (id, bytes) → IsGiven Waits s id.0
     → (w : Wait) × IsIn w s.filter.waiting.waits × (w.id ≡ id) × IsSpanOf held (standing before ++ changes_in front) w.item w.span bytes
+
+-- a read that waits for a span of a file
+abbrev pub wait_on : Item → Span → Wait
+wait_on i asked = record { id = record { 0 = no_key }; kind = wait_kind.Read; item = i.id; handle = None; span = asked }
+
+-- the file that a read by path or by handle names, in this state
+abbrev pub Reads : State → Event → Item → Span → Type 0
+Reads s (event.Call (call.Get path offset len)) i asked = (find_path (items_now s) path ≡ Ok i) × (asked ≡ span_of offset len)
+Reads s (event.Call (call.Read handle offset len)) i asked = (o : Open) × (opened_by handle s.filter ≡ Some o) × (item_of (items_now s) o.item ≡ Some i) × (asked ≡ span_of offset len)
+Reads s _ i asked = ⊥
+
+-- A read of a file whose needed bytes are all here is answered at once: with the span, cut at the size, of the file's content;
+-- but for a stop of the device.
+abbrev pub ReadsAtOnce : Held → State → Event → Answer → Type 0
+ReadsAtOnce held s e a =
+    (i : Item) (asked : Span) → Reads s e i asked → i.directory ≡ false → s.power ≡ On → misses (view_of s.filter.policy i) (wait_on i asked) ≡ false → a.shown ≢ shown.Refused code.Device
+    → a.shown ≡ shown.Ended (end.Data (slice_range (content held i) asked.start (asked.start + asked.len)))

@@ -111,7 +111,7 @@ run_sound remote clusters trace s runs fresh = runs_keep Invariant sound_whole (
 sound_files : (s : State) → Invariant s → AreFilesRight s
 sound_files s h fair = all_weaker (λ i. i.directory ≡ false → IsTrueTo s.link.remote i) (λ i. i.directory ≡ false → IsFileRight s.link.remote i) (λ i k d. true_right s.link.remote i (k d)) (items_now s) (h.1 fair).now.contents
 
-sound_reads : (s : State) → Invariant s → AreReadsRight s
+pub sound_reads : (s : State) → Invariant s → AreReadsRight s
 sound_reads s h fair w i kind there file met =
     read_right s.link.remote s.filter w i (h.1 fair).unvalidated ((all_found (λ x. x.directory ≡ false → IsTrueTo s.link.remote x) (λ x. x.id.0 == w.item.0) (items_now s) i there (h.1 fair).now.contents).0 file) kind there met
 
