@@ -1,0 +1,93 @@
+//! Each report is that of a run, but for what was changed; `specs/Changed.antt` has them.
+
+ghost use Rattle.std.specs.Prelude.{◌≡◌, ◌∷◌, []};
+ghost use Rattle.cf_model.specs.Store.{empty_remote};
+ghost use Rattle.cf_model_laws.specs.Openings.{restarting};
+ghost use Rattle.cf_model_headline.specs.Dehydrated.{DehydratesExactly};
+ghost use Rattle.cf_model_headline.specs.Headline.{FindsVolume};
+ghost use Rattle.cf_model_headline.specs.KeptBytes.{FlushedIsKept};
+ghost use Rattle.cf_model_headline.specs.Marked.{InSyncByMark, MarksGiveNumbers};
+ghost use Rattle.cf_model_headline.specs.Reads.{DataIsRight, ReadsAtOnce};
+ghost use Rattle.cf_model_headline.specs.Reports.{standing};
+ghost use Rattle.cf_model_headline.specs.Resumed.{ResumesRight};
+ghost use Rattle.cf_model_headline.specs.Tokens.{OneVersionEach};
+ghost use Rattle.cf_model_headline_rows.specs.Changed.{arrived, delivered, found_none, given_wrongly, in_sync, in_use, numbered, read_wrongly, refused, refused_otherwise, resumed_as, taken_over, unmarked, unrecorded, until_arrived, written};
+ghost use Rattle.cf_model_headline_rows.specs.Scripts.{dehydrate_a, get_f, info_a, left_by, put_a, sync};
+
+/// The line of a Mark is left out: the log has a change that the report does not show.
+#[tactic(auto, using(crate::proofs::Refuted::a_change_not_shown))]
+pub fn a_change_is_not_shown()
+    ensures { (left_by (put_a ∷ sync ∷ info_a ∷ [])).filter.volume.log ≡ standing unmarked → ⊥ }
+{}
+
+/// `resumed 0` after a flush that counted one change.
+#[tactic(auto, using(crate::proofs::Refuted::fewer_than_flushed))]
+pub fn a_restart_keeps_fewer_than_flushed()
+    ensures { ResumesRight (resumed_as 0) → ⊥ }
+{}
+
+/// `resumed 2` where one change stood.
+#[tactic(auto, using(crate::proofs::Refuted::more_than_stood))]
+pub fn a_restart_keeps_more_than_stood()
+    ensures { ResumesRight (resumed_as 2) → ⊥ }
+{}
+
+/// A restart that finds no volume.
+#[tactic(auto, using(crate::proofs::Refuted::no_volume_found))]
+pub fn a_restart_finds_no_volume()
+    ensures { FindsVolume restarting found_none → ⊥ }
+{}
+
+/// `info` shows a file in sync, and no line a Mark of it.
+#[tactic(auto, using(crate::proofs::Refuted::in_sync_without_a_mark))]
+pub fn in_sync_without_a_mark()
+    ensures { InSyncByMark unmarked → ⊥ }
+{}
+
+/// `info` shows a file in sync with a number that it did not have at the Mark.
+#[tactic(auto, using(crate::proofs::Refuted::in_sync_at_another_number))]
+pub fn in_sync_at_another_number()
+    ensures { InSyncByMark numbered → ⊥ }
+{}
+
+/// A Mark names another number than that of its item.
+#[tactic(auto, using(crate::proofs::Refuted::another_number_given))]
+pub fn a_mark_gives_another_number()
+    ensures { MarksGiveNumbers given_wrongly → ⊥ }
+{}
+
+/// A file that is in sync, not in use and not pinned is refused as Pinned.
+#[tactic(auto, using(crate::proofs::Refuted::refused_without_a_cause))]
+pub fn a_dehydration_is_refused_without_a_cause()
+    ensures { DehydratesExactly in_sync dehydrate_a refused → ⊥ }
+{}
+
+/// A file that is in use is refused as NotInSync.
+#[tactic(auto, using(crate::proofs::Refuted::refused_for_another_cause))]
+pub fn a_dehydration_is_refused_for_another_cause()
+    ensures { DehydratesExactly in_use dehydrate_a refused_otherwise → ⊥ }
+{}
+
+/// `done 1.1 data` with another first byte than the version has.
+#[tactic(auto, using(crate::proofs::Refuted::another_byte_delivered))]
+pub fn another_byte_is_delivered()
+    ensures { DataIsRight arrived.link.remote until_arrived arrived delivered → ⊥ }
+{}
+
+/// `data` with another byte than was written here.
+#[tactic(auto, using(crate::proofs::Refuted::another_byte_read))]
+pub fn another_byte_is_read()
+    ensures { ReadsAtOnce written.link.remote written get_f read_wrongly → ⊥ }
+{}
+
+/// A line that a file was taken over after its bytes were flushed, and before any upload of it.
+#[tactic(auto, using(crate::proofs::Refuted::a_flushed_byte_gone))]
+pub fn a_flushed_byte_is_gone()
+    ensures { FlushedIsKept taken_over empty_remote → ⊥ }
+{}
+
+/// A version of the remote that no token made.
+#[tactic(auto, using(crate::proofs::Refuted::a_version_without_a_token))]
+pub fn a_version_has_no_token()
+    ensures { OneVersionEach empty_remote unrecorded → ⊥ }
+{}
