@@ -12,4 +12,5 @@ pub mod ReadLines
 pub mod ReadsGuarded
 pub mod ReadsLaws
 pub mod ReadsAtOnceLaws
+pub mod StaleLaws
 pub mod HeadlineLaws

@@ -16,6 +16,7 @@ use Rattle.cf_model_headline.specs.Marked.{InSyncByMark, MarksGiveNumbers}
 use Rattle.cf_model_headline.specs.Reads.{DataIsRight, ReadsAtOnce}
 use Rattle.cf_model_headline.specs.Reports.{OfEach, Report, standing}
 use Rattle.cf_model_headline.specs.Resumed.{ResumesRight}
+use Rattle.cf_model_headline.specs.Stale.{EarlierIsStale}
 use Rattle.cf_model_headline.specs.Tokens.{OneVersionEach}
 
 -- a restart finds a volume
@@ -27,6 +28,7 @@ pub record Promises (m : Mode) (remote : Held) (clusters : ℕ) (report : Report
   pub changes : last.filter.volume.log ≡ standing report
   pub restarts : ResumesRight report
   pub opens : OfEach m remote clusters report last (λ before s e a t. FindsVolume e a)
+  pub stale : OfEach m remote clusters report last (λ before s e a t. EarlierIsStale s e a)
   pub in_sync : InSyncByMark report
   pub dehydrations : OfEach m remote clusters report last (λ before s e a t. DehydratesExactly s e a)
   pub tokens : OneVersionEach remote last.link.remote

@@ -4,5 +4,6 @@ pub mod Marked
 pub mod Dehydrated
 pub mod KeptBytes
 pub mod Tokens
-pub mod Headline
 pub mod Reads
+pub mod Stale
+pub mod Headline

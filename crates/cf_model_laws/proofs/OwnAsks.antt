@@ -111,7 +111,7 @@ module _ (w : Waiting) (item : ItemId) (v : View) (d : Deed) where
   abbrev made : List Live
   made = with_keys w.epoch w.key_count fresh
 
-  kept_all : (C : Ask → Type 0) → All (λ a. C a.ask) w.asks → All (λ a. C a.ask) kept
+  pub kept_all : (C : Ask → Type 0) → All (λ a. C a.ask) w.asks → All (λ a. C a.ask) kept
   kept_all C h =
       all_filter (λ a. C a.ask) (λ a. not (is_cancelled item v d ws a)) (filter (λ a. not (is_over d a)) (map (after_deed d) w.asks))
       (all_filter (λ a. C a.ask) (λ a. not (is_over d a)) (map (after_deed d) w.asks) (all_map (λ a. C a.ask) (λ a. C a.ask) (after_deed d) (λ a h. subst C (sym (deed_ask d a)) h) w.asks h))

@@ -1,0 +1,170 @@
+-- Replies of earlier epochs.
+use Rattle.std.proofs.Common.{◌≡◌, ◌⊎◌, ◌<◌, ◌+◌, ℕ, Bool, true, false, List, [], ◌∷◌, ◌++◌, refl, sym, ◌∙◌, ap, subst, inl, inr, arith, nat_le}
+use Rattle.std.specs.Prelude.{Option, Some, None, cond, find, is_some, map, not, ◌==◌, ◌&&◌, ◌||◌}
+use Rattle.std.specs.List.{list_any}
+use Rattle.std.proofs.lemmas.Bool.{eqb-true}
+use Rattle.cf_base.specs.declared.answers.Answer.{Answer}
+use Rattle.cf_base.specs.declared.answers.Shown.{Shown}
+use Rattle.cf_base.specs.declared.answers.Shown.TheVariants as shown
+use Rattle.cf_base.specs.declared.codes.Code.{Code}
+use Rattle.cf_base.specs.declared.codes.Code.TheVariants as code
+use Rattle.cf_base.specs.declared.events.EngineEvent.TheVariants as engine
+use Rattle.cf_base.specs.declared.events.Event.{Event}
+use Rattle.cf_base.specs.declared.events.Event.TheVariants as event
+use Rattle.cf_base.specs.declared.ids.Key.{Key}
+use Rattle.cf_base.specs.declared.messages.Reply.{Reply}
+use Rattle.cf_base.specs.declared.messages.Reply.TheVariants as reply
+use Rattle.cf_base.specs.declared.messages.Request.{Request}
+use Rattle.cf_base.specs.declared.notices.Frame.{Frame}
+use Rattle.cf_base.specs.declared.notices.Frame.TheVariants as frame
+use Rattle.cf_base.specs.declared.policies.Mode.{Mode}
+use Rattle.cf_base.specs.declared.waits.Ask.{Ask}
+use Rattle.cf_model.specs.Asks.{is_cancelled, is_over, after_deed, left_of, new_asks, step_of, why, with_keys}
+use Rattle.cf_model.specs.Books.{Book}
+use Rattle.cf_model.specs.Events.{begun, needs_volume, no_volume, tree_of}
+use Rattle.cf_model.specs.Fits.{fits}
+use Rattle.cf_model.specs.Lawful.{IsStep, Runs}
+use Rattle.cf_model.specs.Messages.{is_latest_round, is_old, is_stale, known_now, message_at, settled_rid}
+use Rattle.cf_model.specs.Missing.{View, Wait}
+use Rattle.cf_model.specs.Numbers.{same_key}
+use Rattle.cf_model.specs.Passes.{deliver_frame, deliver_now, deliver_reply, deliver_unless, unless_down}
+use Rattle.cf_model.specs.PushReplies.{is_new_entry}
+use Rattle.cf_model.specs.Requests.{Deed, Live, Waiting, aged, live_of}
+use Rattle.cf_model.specs.State.{On, Power, State, book_now, start}
+use Rattle.cf_model.specs.Store.{Held}
+use Rattle.cf_model.specs.Trees.{Ends, Stops}
+use Rattle.cf_model.specs.Words.{is_empty}
+use Rattle.cf_model.proofs.EpochLaws.{started_in_epoch}
+use Rattle.cf_model_laws.specs.Invariant.{All}
+use Rattle.cf_model_laws.specs.Premises.{IsFresh}
+use Rattle.cf_model_laws.proofs.Gathered.{all_append, all_found, all_map, all_weaker}
+use Rattle.cf_model_laws.proofs.OutboxFacts.{Boxing, BoxingRuns}
+use Rattle.cf_model_laws.proofs.OutboxRuns.{run_holds}
+use Rattle.cf_model_laws.proofs.OwnAsks.{kept_all}
+use Rattle.cf_model_laws.proofs.RightItems.{no_way, no_way_back}
+use Rattle.cf_model_headline.specs.Reports.{Report}
+use Rattle.cf_model_headline.specs.Stale.{EarlierIsStale, IsOfEarlier}
+use Rattle.cf_model_headline.proofs.StepCases.{IsCase, IsOver, step_case}
+
+-- each live ask is of the epoch of the waits
+
+abbrev OfEpoch : ℕ → Ask → Type 0
+OfEpoch epoch a = a.key.epoch ≡ epoch
+
+abbrev InEpoch : List Ask → Waiting → Type 0
+InEpoch o w = All (λ a. OfEpoch w.epoch a.ask) w.asks
+
+made_in : (epoch n : ℕ) (asks : List Live) → All (λ a. OfEpoch epoch a.ask) (with_keys epoch n asks)
+made_in epoch n [] = tt
+made_in epoch n (a ∷ as') = (refl, made_in epoch (n + 1) as')
+
+steps_in : (o : List Ask) (w : Waiting) (item : _) (v : View) (d : Deed) → InEpoch o w → InEpoch o (step_of item v d w).1
+steps_in o w item v d h = all_append (λ a. OfEpoch w.epoch a.ask) _ _ (kept_all w item v d (OfEpoch w.epoch) h) (made_in w.epoch w.key_count _)
+
+epoch_runs : BoxingRuns InEpoch
+epoch_runs = record {
+  boxing = record {
+    steps = λ o w item v d h. (steps_in o w item v d h, steps_in o w item v d h);
+    begins = λ o w ws h. h;
+    downs = λ o w h. tt;
+    ticks = λ o w n h. all_map (λ a. OfEpoch w.epoch a.ask) (λ a. OfEpoch w.epoch a.ask) (aged n) (λ a k. k) w.asks h;
+    pops = λ a o w h. h;
+  };
+  crashes = λ o w h. tt;
+  opens = λ epoch. tt;
+}
+
+none_live : (epoch : ℕ) (asks : List Live) (key : Key) → All (λ a. OfEpoch epoch a.ask) asks → key.epoch < epoch → live_of asks key ≡ None
+none_live epoch asks key h less = by (live_of asks key) refl where
+  apart : (a b c : ℕ) → a ≡ b → b ≡ c → c < a → ⊥
+  apart a b c h k l = omega (arith, h, k, l)
+
+  first : (a b : Bool) → (a && b) ≡ true → a ≡ true
+  first true b e = refl
+  first false b e = e
+
+  by : (o : Option Live) → live_of asks key ≡ o → o ≡ None
+  by None e = refl
+  by (Some a) e =
+      let x = all_found (λ b. OfEpoch epoch b.ask) (λ b. same_key b.ask.key key) asks a e h in
+      absurd (apart epoch a.ask.key.epoch key.epoch (sym x.0) (eqb-true a.ask.key.epoch key.epoch (first (a.ask.key.epoch == key.epoch) (a.ask.key.number == key.number) x.1)) less)
+
+-- such a reply is old
+
+or_right : (a b : Bool) → b ≡ true → (a || b) ≡ true
+or_right true b h = refl
+or_right false b h = h
+
+apart_eq : (a b : ℕ) → a < b → (a == b) ≡ false
+apart_eq a b h = by (a == b) refl where
+  same : a ≡ b → ⊥
+  same e = omega (arith, e, h)
+
+  by : (c : Bool) → (a == b) ≡ c → c ≡ false
+  by false e = refl
+  by true e = absurd (same (eqb-true a b e))
+
+old_one : (s : State) (r : Reply) → s.filter.waiting.epoch ≡ s.filter.volume.epoch → All (λ a. OfEpoch s.filter.waiting.epoch a.ask) s.filter.waiting.asks → IsOfEarlier s.filter.volume.epoch r → is_old s r ≡ true
+old_one s r same asks h = by r h where
+  none : (key : Key) → key.epoch < s.filter.volume.epoch → not (is_some (live_of s.filter.waiting.asks key)) ≡ true
+  none key less = ap (λ (o : Option Live). not (is_some o)) (none_live s.filter.waiting.epoch s.filter.waiting.asks key asks (subst (λ (e : ℕ). key.epoch < e) (sym same) less))
+
+  or_left : (a b : Bool) → a ≡ true → (a || b) ≡ true
+  or_left true b k = refl
+  or_left false b k = no_way k
+
+  by : (r : Reply) → IsOfEarlier s.filter.volume.epoch r → is_old s r ≡ true
+  by (reply.Feed round clock es) less = rw (apart_eq round.0.epoch s.filter.volume.epoch less) refl
+  by (reply.Listing key es) less = or_left (not (is_some (live_of s.filter.waiting.asks key))) (list_any is_new_entry (book_now s).entries) (none key less)
+  by (reply.Bytes key start bytes) less = none key less
+  by (reply.Missing key) less = none key less
+  by (reply.Gone key) less = none key less
+  by (reply.Done token rid version) less = absurd less
+  by (reply.Void token) less = absurd less
+  by (reply.Refused token w version) less = absurd less
+
+-- so it is refused
+
+answers_stale : (s : State) (r : Reply) (f : Option Frame) (q : Shown) (t : State) → is_old s r ≡ true → Ends (deliver_reply r f s) q t → q ≡ shown.Refused code.Stale
+answers_stale s r (Some (frame.Request p)) q t old e = by (is_stale p r s) (or_right (not (fits (known_now s) (settled_rid s p) p r)) (is_old s r) old) e where
+  by : (b : Bool) → b ≡ true → Ends (deliver_unless r b s) q t → q ≡ shown.Refused code.Stale
+  by true z k = k.0
+  by false z k = no_way z
+answers_stale s r (Some (frame.Reply answers other)) q t old e = e.0
+answers_stale s r None q t old e = e.0
+
+never_stops : (s : State) (r : Reply) (f : Option Frame) (t : State) → is_old s r ≡ true → Stops (deliver_reply r f s) t → ⊥
+never_stops s r (Some (frame.Request p)) t old e = by (is_stale p r s) (or_right (not (fits (known_now s) (settled_rid s p) p r)) (is_old s r) old) e where
+  by : (b : Bool) → b ≡ true → Stops (deliver_unless r b s) t → ⊥
+  by true z k = k
+  by false z k = no_way z
+never_stops s r (Some (frame.Reply answers other)) t old e = e
+never_stops s r None t old e = e
+
+pub earlier_is_stale : (m : Mode) (remote : Held) (clusters : ℕ) (before : Report) (s : State) (e : Event) (a : Answer) (t : State) → IsFresh remote → Runs m (start m remote clusters) before s → IsStep m s e a t → EarlierIsStale s e a
+earlier_is_stale m remote clusters before s e a t fresh runs is number answers r same sent less on linked =
+    by (step_case m s (event.Engine (engine.Deliver number)) a t (subst (λ (x : Event). IsStep m s x a t) same is)) where
+      asks : All (λ l. OfEpoch s.filter.waiting.epoch l.ask) s.filter.waiting.asks
+      asks = run_holds InEpoch epoch_runs m remote clusters before s runs fresh
+
+      old : is_old (begun s) r ≡ true
+      old = old_one (begun s) r (started_in_epoch m remote clusters before s runs) asks less
+
+      nothing : (c : Code) → no_volume true s.power ≡ Some c → a.shown ≡ shown.Refused code.Stale
+      nothing c z = let y : ◌≡◌ {A = Option Code} None (Some c) = sym (ap (λ (p : Power). no_volume true p) on) ∙ z in cc
+
+      ends : (b : Bool) → b ≡ true → (q : Shown) (u : State) → Ends (unless_down (deliver_now number) (not b) (begun s)) q u → q ≡ shown.Refused code.Stale
+      ends false z q u k = no_way z
+      ends true z q u k = answers_stale (begun s) r (message_at (begun s) answers) q u old (subst (λ (h : Option Frame). Ends (deliver_frame h (begun s)) q u) sent k)
+
+      stops : (b : Bool) → b ≡ true → (u : State) → Stops (unless_down (deliver_now number) (not b) (begun s)) u → ⊥
+      stops false z u k = no_way z
+      stops true z u k = never_stops (begun s) r (message_at (begun s) answers) u old (subst (λ (h : Option Frame). Stops (deliver_frame h (begun s)) u) sent k)
+
+      over : IsOver s (event.Engine (engine.Deliver number)) (t, a) → a.shown ≡ shown.Refused code.Stale
+      over (inl h) = ap (λ (x : Answer). x.shown) h.2 ∙ ends s.filter.connected linked h.0 t h.1
+      over (inr h) = absurd (stops s.filter.connected linked h.0 h.1)
+
+      by : IsCase s (event.Engine (engine.Deliver number)) (t, a) → a.shown ≡ shown.Refused code.Stale
+      by (inl h) = nothing h.0 h.1
+      by (inr h) = over h.1
