@@ -18,6 +18,7 @@ use Rattle.cf_model_laws.specs.Openings.{restarting}
 use Rattle.cf_model_laws.specs.Premises.{IsFair, IsFresh}
 use Rattle.cf_model_headline.specs.Headline.{FindsVolume, Headline, Premises, Promises}
 use Rattle.cf_model_headline.specs.Reports.{Report}
+use Rattle.cf_model_headline.proofs.AskedReads.{reads_answered}
 use Rattle.cf_model_headline.proofs.DehydratedLaws.{dehydrates_exactly}
 use Rattle.cf_model_headline.proofs.KeptBytesLaws.{flushed_is_kept}
 use Rattle.cf_model_headline.proofs.MarkedLaws.{marks_give, shown_by_mark}
@@ -56,6 +57,7 @@ promised m remote clusters report last fresh runs = record {
 pub headline : (remote : Held) (clusters : ℕ) (report : Report) (last : State) → Premises remote last → Runs mode.Replay (start mode.Replay remote clusters) report last → Headline remote clusters report last
 headline remote clusters report last premises runs = record {
   promises = promised mode.Replay remote clusters report last premises.fresh runs;
+  answers = reads_answered remote clusters report last premises.fresh premises.fair;
   data_lines = data_is_right remote clusters report last premises.fresh premises.fair runs;
   reads = reads_at_once remote clusters report last premises.fresh premises.fair runs;
   marks = marks_give remote clusters report last premises.fresh premises.fair runs;

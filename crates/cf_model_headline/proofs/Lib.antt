@@ -13,4 +13,5 @@ pub mod ReadsGuarded
 pub mod ReadsLaws
 pub mod ReadsAtOnceLaws
 pub mod StaleLaws
+pub mod AskedReads
 pub mod HeadlineLaws

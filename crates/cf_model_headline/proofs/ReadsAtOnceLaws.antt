@@ -74,7 +74,7 @@ calling_leads part s e h =
     (λ q t k. leads_bind Any (λ a u. Unit {0}) (λ p u. p ≡ shown.Ended e) (drain t) (λ _ u. in_filter (finish q) u) (leads_any (λ a u. Unit {0}) (drain t) (λ a u. tt))
     (λ a u j. ap (λ (x : Shown). result_of x u.filter) k))
 
-led_ends : {S A : Type 0} (Q : A → S → Type 0) (p : Tree S A) (a : A) (t : S) → Leads Any Q p → Ends p a t → Q a t
+pub led_ends : {S A : Type 0} (Q : A → S → Type 0) (p : Tree S A) (a : A) (t : S) → Leads Any Q p → Ends p a t → Q a t
 led_ends Q (Ret b s) a t h (d, e) = rw d (rw e h)
 led_ends Q (Step s p) a t h e = led_ends Q p a t h.1 e
 led_ends Q (Fork p q) a t h (inl e) = led_ends Q p a t h.0 e

@@ -135,7 +135,7 @@ lines_right before s u held ns notes log h fair more front back line id bytes pa
           k.1 ∙ ap (λ (c : List ℕ). slice_range c x.0.span.start (x.0.span.start + x.0.span.len)) (sym (content_grows u.link.remote held more i k.0)),
     )
 
-data_in_event : (remote : Held) (clusters : ℕ) (last : State) → IsFresh remote → IsFair last.link → (before rest : Report) (s : State) (e : Event) (a : Answer) (t : State)
+pub data_in_event : (remote : Held) (clusters : ℕ) (last : State) → IsFresh remote → IsFair last.link → (before rest : Report) (s : State) (e : Event) (a : Answer) (t : State)
     → Runs mode.Replay (start mode.Replay remote clusters) before s → IsStep mode.Replay s e a t → Runs mode.Replay t rest last → DataIsRight last.link.remote before s a
 data_in_event remote clusters last fresh fair before rest s e a t runs is on front back line id bytes parts shows given = by (is_device e) refl where
   sound : Invariant s

@@ -13,7 +13,7 @@ use Rattle.cf_model_laws.specs.Premises.{IsFair, IsFresh}
 use Rattle.cf_model_headline.specs.Dehydrated.{DehydratesExactly}
 use Rattle.cf_model_headline.specs.KeptBytes.{FlushedIsKept}
 use Rattle.cf_model_headline.specs.Marked.{InSyncByMark, MarksGiveNumbers}
-use Rattle.cf_model_headline.specs.Reads.{DataIsRight, ReadsAtOnce}
+use Rattle.cf_model_headline.specs.Reads.{DataIsRight, ReadsAnswered, ReadsAtOnce}
 use Rattle.cf_model_headline.specs.Reports.{OfEach, Report, standing}
 use Rattle.cf_model_headline.specs.Resumed.{ResumesRight}
 use Rattle.cf_model_headline.specs.Stale.{EarlierIsStale}
@@ -36,6 +36,7 @@ pub record Promises (m : Mode) (remote : Held) (clusters : ℕ) (report : Report
 -- In `replay`, over a remote that keeps its rules: besides.
 pub record Headline (remote : Held) (clusters : ℕ) (report : Report) (last : State) : Type 0 where
   pub promises : Promises mode.Replay remote clusters report last
+  pub answers : ReadsAnswered remote clusters report last
   pub data_lines : OfEach mode.Replay remote clusters report last (λ before s e a t. DataIsRight last.link.remote before s a)
   pub reads : OfEach mode.Replay remote clusters report last (λ before s e a t. ReadsAtOnce last.link.remote s e a)
   pub marks : MarksGiveNumbers report

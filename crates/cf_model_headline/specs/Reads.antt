@@ -12,16 +12,18 @@ use Rattle.cf_base.specs.declared.ids.Usn.{Usn}
 use Rattle.cf_base.specs.declared.ids.WaitId.{WaitId}
 use Rattle.cf_base.specs.declared.notices.Notice.{Notice}
 use Rattle.cf_base.specs.declared.notices.Notice.TheVariants as notice
+use Rattle.cf_base.specs.declared.policies.Mode.TheVariants as mode
 use Rattle.cf_base.specs.declared.spans.Span.{Span}
 use Rattle.cf_base.specs.declared.waits.End.TheVariants as end
 use Rattle.cf_base.specs.declared.waits.WaitKind.TheVariants as wait_kind
 use Rattle.cf_model.specs.Identities.{content}
 use Rattle.cf_model.specs.Items.{Item, item_of}
 use Rattle.cf_model.specs.Logs.{items_of}
+use Rattle.cf_model.specs.Lawful.{IsStep, Runs}
 use Rattle.cf_model.specs.LookUp.{find_path}
 use Rattle.cf_model.specs.Missing.{Wait, misses, span_of, view_of}
 use Rattle.cf_model.specs.Numbers.{no_key}
-use Rattle.cf_model.specs.State.{On, Open, State, items_now}
+use Rattle.cf_model.specs.State.{On, Open, State, items_now, start}
 use Rattle.cf_model.specs.Store.{Held}
 use Rattle.cf_model.specs.Waits.{opened_by}
 use Rattle.cf_model_laws.specs.GivenOnce.{IsGiven, Waits}
@@ -65,3 +67,13 @@ abbrev pub ReadsAtOnce : Held → State → Event → Answer → Type 0
 ReadsAtOnce held s e a =
     (i : Item) (asked : Span) → Reads s e i asked → i.directory ≡ false → s.power ≡ On → misses (view_of s.filter.policy i) (wait_on i asked) ≡ false → a.shown ≢ shown.Refused code.Device
     → a.shown ≡ shown.Ended (end.Data (slice_range (content held i) asked.start (asked.start + asked.len)))
+
+-- A read was answered `pending`, and a later answer has a line that its wait is done, with data: it is the span that was asked
+-- for, cut at the size, of the content of the file that the read named, as it is when the line comes.
+abbrev pub ReadsAnswered : Held → ℕ → Report → State → Type 0
+ReadsAnswered remote clusters report last =
+    (early between rest : Report) (s t u v : State) (ask e : Event) (b a : Answer) (i : Item) (asked : Span) (wait : WaitId)
+    → report ≡ early ++ (ask, b) ∷ (between ++ (e, a) ∷ rest) → Runs mode.Replay (start mode.Replay remote clusters) early s → IsStep mode.Replay s ask b t → Runs mode.Replay t between u → IsStep mode.Replay u e a v → Runs mode.Replay v rest last
+    → Reads s ask i asked → b.shown ≡ shown.Pending wait
+    → (front back : List Notice) (line : Notice) (bytes : List ℕ) → a.notes ≡ front ++ line ∷ back → data_shown line ≡ Some (wait, bytes)
+    → IsSpanOf last.link.remote (standing (early ++ (ask, b) ∷ between) ++ changes_in front) i.id asked bytes

@@ -84,7 +84,7 @@ ended_beside F l e x h = accesses (is_access e.0.kind e.1) (tell_end e.0.id (end
   accesses true y k = k
   accesses false y k = k
 
-tell_beside : (F : Fact) (l : Link) (r : Told × Waiting) (x : Filter) → Holds F l (with_waiting r.1 x) → Keeps (Holds F l) (tell r x)
+pub tell_beside : (F : Fact) (l : Link) (r : Told × Waiting) (x : Filter) → Holds F l (with_waiting r.1 x) → Keeps (Holds F l) (tell r x)
 tell_beside F l r x h =
     (keeps_then (Holds F l) (each end_wait r.0.ended) (noted (with_asks_told r.0)) (keeps_each (Holds F l) end_wait r.0.ended (λ e. keeps_one (Holds F l) (with_ended e) (λ y j. ended_beside F l e y j))) (record { keeps = λ y j. j })).keeps (with_waiting r.1 x) h
 
