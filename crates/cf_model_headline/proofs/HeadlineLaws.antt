@@ -20,6 +20,7 @@ use Rattle.cf_model_headline.specs.Headline.{FindsVolume, Headline, Premises, Pr
 use Rattle.cf_model_headline.specs.Reports.{Report}
 use Rattle.cf_model_headline.proofs.AskedReads.{reads_answered}
 use Rattle.cf_model_headline.proofs.DehydratedLaws.{dehydrates_exactly}
+use Rattle.cf_model_headline.proofs.HeldLaws.{data_is_held}
 use Rattle.cf_model_headline.proofs.KeptBytesLaws.{flushed_is_kept}
 use Rattle.cf_model_headline.proofs.MarkedLaws.{marks_give, shown_by_mark}
 use Rattle.cf_model_headline.proofs.ReadsAtOnceLaws.{reads_at_once}
@@ -49,6 +50,7 @@ promised m remote clusters report last fresh runs = record {
   restarts = resumes_right m remote clusters report last fresh runs;
   opens = λ before rest s e a t parts led is leads. finds_volume m remote clusters before s e a t led is;
   stale = λ before rest s e a t parts led is leads. earlier_is_stale m remote clusters before s e a t fresh led is;
+  held_data = λ before rest s e a t parts led is leads. data_is_held m remote clusters before s e a t fresh led is;
   in_sync = shown_by_mark m remote clusters report last fresh runs;
   dehydrations = λ before rest s e a t parts led is leads. dehydrates_exactly m s e a t is;
   tokens = one_version_each m (start m remote clusters) report last runs;

@@ -14,4 +14,6 @@ pub mod ReadsLaws
 pub mod ReadsAtOnceLaws
 pub mod StaleLaws
 pub mod AskedReads
+pub mod HeldLines
+pub mod HeldLaws
 pub mod HeadlineLaws

@@ -55,7 +55,7 @@ module _ (Q : Filter → Type 0) (q : Noticed Q) where
   carry_out_keeps : (own : Key) (p : Bool × Operation) → Preserves In (carry_out own p)
   carry_out_keeps own p =
       keeps_seq In (in_filter (execute (planned_on own p))) note_operation (part_keeps (execute (planned_on own p)) (operations_keep.execute_keeps Q q.closed (planned_on own p)))
-      (λ answer. keeps_noted In (with_operation_told answer) (λ s h. (h.0, q.notes (notice.Operation (operation_line answer)) s.filter refl h.1)))
+      (λ answer. keeps_noted In (with_operation_told answer) (λ s h. (h.0, q.notes (notice.Operation (operation_line answer)) s.filter refl refl h.1)))
 
   planned_keeps : (own : Key) (ops : List (Bool × Operation)) → Preserves In (carry_out_all own ops)
   planned_keeps own ops = keeps_then In (noted without_plan) (each (carry_out own) ops) (keeps_noted In without_plan (λ s h. h)) (keeps_each In (carry_out own) ops (carry_out_keeps own))

@@ -54,7 +54,7 @@ filter_noticed Q q l tokens P closed = record {
 }
 
 line_noticed : (Q : Filter → Type 0) → Noticed Q → (b : Bool) (c : Code) (s : State) → Q s.filter → Q (skip_line b c s).filter
-line_noticed Q q true c s h = q.notes (notice.Skipped c) s.filter refl h
+line_noticed Q q true c s h = q.notes (notice.Skipped c) s.filter refl refl h
 line_noticed Q q false c s h = h
 
 book_noticed : (Q : Filter → Type 0) → Noticed Q → (f : Book → Book) (s : State) → Q s.filter → Q (with_book f s).filter
@@ -71,12 +71,12 @@ module _ (Q : Filter → Type 0) (q : Noticed Q) (P : State → Type 0) where
     keeps_counted = λ s h. (closed.keeps_counted s h.0, h.1);
     asked = λ r s well h. (closed.asked r s well h.0, h.1);
     told = λ held s h. (closed.told held s h.0, h.1);
-    posts = λ f s well h. (closed.posts f s well h.0, q.notes (notice.Message _) s.filter refl h.1);
-    loses = λ f s h. (closed.loses f s h.0, q.notes (notice.Message _) s.filter refl h.1);
+    posts = λ f s well h. (closed.posts f s well h.0, q.notes (notice.Message _) s.filter refl refl h.1);
+    loses = λ f s h. (closed.loses f s h.0, q.notes (notice.Message _) s.filter refl refl h.1);
     books = λ f s keeps placed h. (closed.books f s keeps placed h.0, book_noticed Q q f s h.1);
     moved = λ e s is live h. (closed.moved e s is live h.0, book_noticed Q q (with_seen (entry_seen e)) (with_volatile (taken_from_row e) (with_book (without_entry e.token) s)) (book_noticed Q q (without_entry e.token) s h.1));
     leaves = λ token s h. (closed.leaves token s h.0, book_noticed Q q (without_entry token) s h.1);
-    keeps_fault_line = λ m s h. (closed.keeps_fault_line m s h.0, q.notes (notice.Fault m) s.filter refl h.1);
+    keeps_fault_line = λ m s h. (closed.keeps_fault_line m s h.0, q.notes (notice.Fault m) s.filter refl refl h.1);
     keeps_showing = λ s h. (closed.keeps_showing s h.0, h.1);
     keeps_skipped = λ c s h. (closed.keeps_skipped c s h.0, line_noticed Q q s.running.shows_skips c (record s { running = record s.running { skips = s.running.skips + 1 } }) h.1);
     keeps_volatile_all_released = λ s h. (closed.keeps_volatile_all_released s h.0, h.1);

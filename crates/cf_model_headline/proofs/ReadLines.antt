@@ -56,7 +56,7 @@ abbrev pub EachLine : (List Notice → Notice → Type 0) → List Notice → Li
 EachLine C front [] = Unit {0}
 EachLine C front (m ∷ ms) = C front m × EachLine C (front ++ m ∷ []) ms
 
-lines_more : (C : List Notice → Notice → Type 0) (front ns ms : List Notice) → EachLine C front ns → EachLine C (front ++ ns) ms → EachLine C front (ns ++ ms)
+pub lines_more : (C : List Notice → Notice → Type 0) (front ns ms : List Notice) → EachLine C front ns → EachLine C (front ++ ns) ms → EachLine C front (ns ++ ms)
 lines_more C front [] ms h k = subst (λ (f : List Notice). EachLine C f ms) (append-nil front) k
 lines_more C front (n ∷ ns) ms h k = (h.0, lines_more C (front ++ n ∷ []) ns ms h.1 (subst (λ (f : List Notice). EachLine C f ms) (sym (append_assoc front (n ∷ []) ns)) k))
 
@@ -206,7 +206,7 @@ all_ended K R f k (w ∷ ws) h = by (f w) refl (all_ended K R f k ws h.1) where
   by (Some c) e g = (k w c h.0 e, g)
 
 -- what the first part keeps is more than what is to be kept
-keeps_from : {S A B : Type 0} (P M : S → Type 0) (p : Tree S A) (g : A → S → Tree S B) → ((s : S) → M s → P s) → Keeps M p → ((a : A) (s : S) → M s → Keeps P (g a s)) → Keeps P (bind p g)
+pub keeps_from : {S A B : Type 0} (P M : S → Type 0) (p : Tree S A) (g : A → S → Tree S B) → ((s : S) → M s → P s) → Keeps M p → ((a : A) (s : S) → M s → Keeps P (g a s)) → Keeps P (bind p g)
 keeps_from P M (Ret a s) g w h k = k a s h
 keeps_from P M (Step s p) g w h k = (w s h.0, keeps_from P M p g w h.1 k)
 keeps_from P M (Fork p q) g w h k = (keeps_from P M p g w h.0 k, keeps_from P M q g w h.1 k)
@@ -232,17 +232,17 @@ sound_truly But l tokens x h = record {
   of_log = h.of_log.0;
 }
 
-data_is : (own : WaitId) (bs : List ℕ) (id : WaitId) (bytes : List ℕ) → ◌≡◌ {A = Option (WaitId × List ℕ)} (Some (own, bs)) (Some (id, bytes)) → bs ≡ bytes
+pub data_is : (own : WaitId) (bs : List ℕ) (id : WaitId) (bytes : List ℕ) → ◌≡◌ {A = Option (WaitId × List ℕ)} (Some (own, bs)) (Some (id, bytes)) → bs ≡ bytes
 data_is own bs id bytes z = let y : ◌≡◌ {A = WaitId × List ℕ} (own, bs) (id, bytes) = cc in ap (λ (p : WaitId × List ℕ). p.1) y
 
-data_of : (own : WaitId) (d : End) (id : WaitId) (bytes : List ℕ) → data_shown (notice.Done own d) ≡ Some (id, bytes) → own ≡ id
+pub data_of : (own : WaitId) (d : End) (id : WaitId) (bytes : List ℕ) → data_shown (notice.Done own d) ≡ Some (id, bytes) → own ≡ id
 data_of own (end.Data bs) id bytes z = let y : ◌≡◌ {A = Option (WaitId × List ℕ)} (Some (own, bs)) (Some (id, bytes)) = z in let x : ◌≡◌ {A = WaitId × List ℕ} (own, bs) (id, bytes) = cc in ap (λ (p : WaitId × List ℕ). p.0) x
 data_of own d id bytes z = none z where
   none : ◌≡◌ {A = Option (WaitId × List ℕ)} None (Some (id, bytes)) → own ≡ id
   none y = cc
 
 -- a line with data is of a read that was met
-is_data : (items : List Item) (w : Wait) (c : Cause) (k : WaitKind) → w.kind ≡ k → (p : WaitId × List ℕ) → data_shown (notice.Done w.id (end_of items w c)) ≡ Some p → (c ≡ cause.Met) × (w.kind ≡ wait_kind.Read)
+pub is_data : (items : List Item) (w : Wait) (c : Cause) (k : WaitKind) → w.kind ≡ k → (p : WaitId × List ℕ) → data_shown (notice.Done w.id (end_of items w c)) ≡ Some p → (c ≡ cause.Met) × (w.kind ≡ wait_kind.Read)
 is_data items w c k e p h = by c k e h where
   Goal : Cause → Type 0
   Goal c = (c ≡ cause.Met) × (w.kind ≡ wait_kind.Read)

@@ -83,20 +83,20 @@ ended_notes : (x : Option Shown × State) → Ended (λ t. t.filter.notes ≡ []
 ended_notes (Some r, t) h = h
 ended_notes (None, t) h = h
 
-device_notes : (s : State) (d : DeviceEvent) (c : Choices) → (answered None c s (event.Device d)).1.notes ≡ []
+pub device_notes : (s : State) (d : DeviceEvent) (c : Choices) → (answered None c s (event.Device d)).1.notes ≡ []
 device_notes s (device.Stop calls) c = refl
 device_notes s (device.Crash choice) c = refl
 device_notes s device.Restart c =
     notes_after (play c (tree_of (event.Device device.Restart) s))
     (ended_notes (play c (tree_of (event.Device device.Restart) s)) (led (λ t. t.filter.notes ≡ []) (λ r t. t.filter.notes ≡ []) c (restart_by s.power (begun s)) (restart_leads (λ t. t.filter.notes ≡ []) (λ r t. t.filter.notes ≡ []) (begun s) (opening_notes (begun s) refl) s.power)))
 
-no_line : {A : Type 0} (ns front back : List Notice) (line : Notice) → ns ≡ [] → ns ≡ front ++ line ∷ back → A
+pub no_line : {A : Type 0} (ns front back : List Notice) (line : Notice) → ns ≡ [] → ns ≡ front ++ line ∷ back → A
 no_line ns [] back line e f = let z : ◌≡◌ {A = List Notice} [] (line ∷ back) = sym e ∙ f in cc
 no_line ns (m ∷ front) back line e f = let z : ◌≡◌ {A = List Notice} [] (m ∷ (front ++ line ∷ back)) = sym e ∙ f in cc
 
 -- the waits that are live at first
 
-in_itself : (ws : List Wait) → All (λ w. IsIn w ws) ws
+pub in_itself : (ws : List Wait) → All (λ w. IsIn w ws) ws
 in_itself [] = tt
 in_itself (w ∷ ws) = (inl refl, all_weaker (λ v. IsIn v ws) (λ v. IsIn v (w ∷ ws)) (λ v h. inr h) ws (in_itself ws))
 

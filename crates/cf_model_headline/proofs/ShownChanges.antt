@@ -1,6 +1,6 @@
 -- Facts on a filter that the lines of an event may bear on: what keeps them, and that each accepted change has its line.
 use Rattle.std.proofs.Common.{◌≡◌, ◌⊎◌, Bool, true, false, List, [], ◌∷◌, ◌++◌, refl, sym, ◌∙◌, ap, subst, inl, inr, if◌then◌else◌}
-use Rattle.std.specs.Prelude.{ℕ, map}
+use Rattle.std.specs.Prelude.{ℕ, None, map}
 use Rattle.std.proofs.lemmas.List.{append_assoc, append-nil}
 use Rattle.cf_base.specs.declared.answers.Shown.TheVariants as shown
 use Rattle.cf_base.specs.declared.changes.Change.{Change}
@@ -29,13 +29,14 @@ use Rattle.cf_model.proofs.Closed.{ClosedFilter}
 use Rattle.cf_model.proofs.TreeLaws.{keeps_bind}
 use Rattle.cf_model_laws.proofs.Leading.{kept_leads}
 use Rattle.cf_model_laws.proofs.SoundFilters.{change_leads}
+use Rattle.cf_model_headline.specs.Reads.{data_shown}
 use Rattle.cf_model_headline.specs.Reports.{change_in, changes_in}
 
 -- what keeps a fact on the filter within an event: each part of a call, the lines of the link and of steps left out, and what
 -- happens to callbacks and book
 pub record Noticed (Q : Filter → Type 0) : Type 0 where
   pub closed : ClosedFilter Q
-  pub notes : (n : Notice) (x : Filter) → change_in n ≡ [] → Q x → Q (with_notes (n ∷ []) x)
+  pub notes : (n : Notice) (x : Filter) → change_in n ≡ [] → data_shown n ≡ None → Q x → Q (with_notes (n ∷ []) x)
   pub boxes : (asks : List Ask) (x : Filter) → Q x → Q (record x { outbox = asks })
   pub books : (b : Book) (x : Filter) → Q x → Q (with_volume (record x.volume { book = b }) x)
 
@@ -116,7 +117,7 @@ changes_shown base = record {
     keeps_with_time = λ n x h. h;
     keeps_without_handle = λ handle x h. h;
   };
-  notes = λ n x none h. shows_more base (n ∷ []) x (ap (λ (cs : List (Usn × Change)). cs ++ []) none) h;
+  notes = λ n x none plain h. shows_more base (n ∷ []) x (ap (λ (cs : List (Usn × Change)). cs ++ []) none) h;
   boxes = λ asks x h. h;
   books = λ b x h. h;
 }

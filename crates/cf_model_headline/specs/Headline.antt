@@ -13,7 +13,7 @@ use Rattle.cf_model_laws.specs.Premises.{IsFair, IsFresh}
 use Rattle.cf_model_headline.specs.Dehydrated.{DehydratesExactly}
 use Rattle.cf_model_headline.specs.KeptBytes.{FlushedIsKept}
 use Rattle.cf_model_headline.specs.Marked.{InSyncByMark, MarksGiveNumbers}
-use Rattle.cf_model_headline.specs.Reads.{DataIsRight, ReadsAnswered, ReadsAtOnce}
+use Rattle.cf_model_headline.specs.Reads.{DataIsHeld, DataIsRight, ReadsAnswered, ReadsAtOnce}
 use Rattle.cf_model_headline.specs.Reports.{OfEach, Report, standing}
 use Rattle.cf_model_headline.specs.Resumed.{ResumesRight}
 use Rattle.cf_model_headline.specs.Stale.{EarlierIsStale}
@@ -29,6 +29,7 @@ pub record Promises (m : Mode) (remote : Held) (clusters : ℕ) (report : Report
   pub restarts : ResumesRight report
   pub opens : OfEach m remote clusters report last (λ before s e a t. FindsVolume e a)
   pub stale : OfEach m remote clusters report last (λ before s e a t. EarlierIsStale s e a)
+  pub held_data : OfEach m remote clusters report last (λ before s e a t. DataIsHeld before s a)
   pub in_sync : InSyncByMark report
   pub dehydrations : OfEach m remote clusters report last (λ before s e a t. DehydratesExactly s e a)
   pub tokens : OneVersionEach remote last.link.remote

@@ -23,6 +23,7 @@ use Rattle.cf_model.specs.Lawful.{IsStep, Runs}
 use Rattle.cf_model.specs.LookUp.{find_path}
 use Rattle.cf_model.specs.Missing.{Wait, misses, span_of, view_of}
 use Rattle.cf_model.specs.Numbers.{no_key}
+use Rattle.cf_model.specs.Settling.{bytes_at}
 use Rattle.cf_model.specs.State.{On, Open, State, items_now, start}
 use Rattle.cf_model.specs.Store.{Held}
 use Rattle.cf_model.specs.Waits.{opened_by}
@@ -50,6 +51,13 @@ abbrev pub DataIsRight : Held → Report → State → Answer → Type 0
 DataIsRight held before s a =
     (front back : List Notice) (line : Notice) (id : WaitId) (bytes : List ℕ) → a.notes ≡ front ++ line ∷ back → data_shown line ≡ Some (id, bytes) → IsGiven Waits s id.0
     → (w : Wait) × IsIn w s.filter.waiting.waits × (w.id ≡ id) × IsSpanOf held (standing before ++ changes_in front) w.item w.span bytes
+
+-- Each line with data in an answer, of a wait from before this event: it is the bytes that its file holds of the span, cut at the
+-- size, when the line comes. So it is in both commands, whatever a provider did; a byte that is not here counts as 0.
+abbrev pub DataIsHeld : Report → State → Answer → Type 0
+DataIsHeld before s a =
+    (front back : List Notice) (line : Notice) (id : WaitId) (bytes : List ℕ) → a.notes ≡ front ++ line ∷ back → data_shown line ≡ Some (id, bytes) → IsGiven Waits s id.0
+    → (w : Wait) × IsIn w s.filter.waiting.waits × (w.id ≡ id) × (bytes ≡ bytes_at (items_of (standing before ++ changes_in front)) w.item w.span)
 
 -- a read that waits for a span of a file
 abbrev pub wait_on : Item → Span → Wait
