@@ -321,7 +321,7 @@ in_all P (v ∷ vs) w h (inl e) = subst P (sym e) h.0
 in_all P (v ∷ vs) w h (inr is) = in_all P vs w h.1 is
 
 pub reads_answered : (remote : Held) (clusters : ℕ) (report : Report) (last : State) → IsFresh remote → IsFair last.link → ReadsAnswered remote clusters report last
-reads_answered remote clusters report last fresh fair early between rest s t u v ask e b a i asked wait parts led asks on is leads reads pending front back line bytes lines shows =
+reads_answered remote clusters report last fresh fair early between rest s t u v ask e b a parts led asks on is leads i asked wait reads pending front back line bytes lines shows =
     subst (λ (p : Span). IsSpanOf last.link.remote (standing (early ++ (ask, b) ∷ between) ++ changes_in front) i.id p bytes) the.1
     (subst (λ (k : ItemId). IsSpanOf last.link.remote (standing (early ++ (ask, b) ∷ between) ++ changes_in front) k x.0.span bytes) the.0 x.3)
   where

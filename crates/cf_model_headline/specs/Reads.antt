@@ -76,12 +76,16 @@ ReadsAtOnce held s e a =
     (i : Item) (asked : Span) → Reads s e i asked → i.directory ≡ false → s.power ≡ On → misses (view_of s.filter.policy i) (wait_on i asked) ≡ false → a.shown ≢ shown.Refused code.Device
     → a.shown ≡ shown.Ended (end.Data (slice_range (content held i) asked.start (asked.start + asked.len)))
 
--- A read was answered `pending`, and a later answer has a line that its wait is done, with data: it is the span that was asked
--- for, cut at the size, of the content of the file that the read named, as it is when the line comes.
+-- A read in this state was answered `pending`, and a later answer has a line that its wait is done, with data: it is the span
+-- that was asked for, cut at the size, of the content of the file that the read named, as it is when the line comes.
+abbrev pub AnswersRead : Held → State → Event → Answer → Report → Answer → Type 0
+AnswersRead held s ask pending before a =
+    (i : Item) (asked : Span) (wait : WaitId) → Reads s ask i asked → pending.shown ≡ shown.Pending wait
+    → (front back : List Notice) (line : Notice) (bytes : List ℕ) → a.notes ≡ front ++ line ∷ back → data_shown line ≡ Some (wait, bytes) → IsSpanOf held (standing before ++ changes_in front) i.id asked bytes
+
+-- So it is of each two events of a run.
 abbrev pub ReadsAnswered : Held → ℕ → Report → State → Type 0
 ReadsAnswered remote clusters report last =
-    (early between rest : Report) (s t u v : State) (ask e : Event) (b a : Answer) (i : Item) (asked : Span) (wait : WaitId)
-    → report ≡ early ++ (ask, b) ∷ (between ++ (e, a) ∷ rest) → Runs mode.Replay (start mode.Replay remote clusters) early s → IsStep mode.Replay s ask b t → Runs mode.Replay t between u → IsStep mode.Replay u e a v → Runs mode.Replay v rest last
-    → Reads s ask i asked → b.shown ≡ shown.Pending wait
-    → (front back : List Notice) (line : Notice) (bytes : List ℕ) → a.notes ≡ front ++ line ∷ back → data_shown line ≡ Some (wait, bytes)
-    → IsSpanOf last.link.remote (standing (early ++ (ask, b) ∷ between) ++ changes_in front) i.id asked bytes
+    (early between rest : Report) (s t u v : State) (ask e : Event) (b a : Answer) → report ≡ early ++ (ask, b) ∷ (between ++ (e, a) ∷ rest)
+    → Runs mode.Replay (start mode.Replay remote clusters) early s → IsStep mode.Replay s ask b t → Runs mode.Replay t between u → IsStep mode.Replay u e a v → Runs mode.Replay v rest last
+    → AnswersRead last.link.remote s ask b (early ++ (ask, b) ∷ between) a

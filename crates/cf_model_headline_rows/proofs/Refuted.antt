@@ -1,6 +1,6 @@
 -- Each changed report fails its sentence.
-use Rattle.std.proofs.Common.{◌≡◌, ◌⊎◌, ◌≤◌, ℕ, Bool, true, false, List, [], ◌∷◌, ◌++◌, append-nil, refl, sym, ◌∙◌, ap, subst, inl, inr, arith, eq-eqb, take, drop, length}
-use Rattle.std.specs.Prelude.{Option, Some, None, not, slice_get, slice_range, codes, ◌==◌, ◌&&◌, ◌||◌}
+use Rattle.std.proofs.Common.{◌≡◌, ◌⊎◌, ◌<◌, ◌≤◌, ℕ, Bool, true, false, List, [], ◌∷◌, ◌++◌, append-nil, refl, sym, ◌∙◌, ap, subst, inl, inr, arith, eq-eqb, take, drop, length}
+use Rattle.std.specs.Prelude.{Option, Some, None, Ok, not, slice_get, slice_range, codes, ◌==◌, ◌&&◌, ◌||◌}
 use Rattle.std.specs.List.{list_any}
 use Rattle.std.proofs.lemmas.List.{append_assoc}
 use Rattle.cf_base.specs.declared.answers.Answer.{Answer}
@@ -16,6 +16,9 @@ use Rattle.cf_base.specs.declared.ids.Usn.{Usn}
 use Rattle.cf_base.specs.declared.ids.WaitId.{WaitId}
 use Rattle.cf_base.specs.declared.items.Kind.TheVariants as kind
 use Rattle.cf_base.specs.declared.items.Pin.TheVariants as pin
+use Rattle.cf_base.specs.declared.messages.Reply.{Reply}
+use Rattle.cf_base.specs.declared.messages.Reply.TheVariants as reply
+use Rattle.cf_base.specs.declared.notices.Frame.TheVariants as frame
 use Rattle.cf_base.specs.declared.notices.Notice.{Notice}
 use Rattle.cf_base.specs.declared.notices.Notice.TheVariants as notice
 use Rattle.cf_base.specs.declared.waits.End.{End}
@@ -27,9 +30,12 @@ use Rattle.cf_model.specs.Identities.{content, identity_of}
 use Rattle.cf_model.specs.Items.{Item, item_of, root}
 use Rattle.cf_model.specs.Kept.{heirs_of}
 use Rattle.cf_model.specs.Logs.{items_of}
+use Rattle.cf_model.specs.LookUp.{find_path}
+use Rattle.cf_model.specs.Messages.{message_at}
 use Rattle.cf_model.specs.Missing.{Wait, span_of}
 use Rattle.cf_model.specs.Numbers.{above}
-use Rattle.cf_model.specs.State.{State}
+use Rattle.cf_model.specs.Settling.{bytes_at}
+use Rattle.cf_model.specs.State.{On, State, items_now}
 use Rattle.cf_model.specs.Store.{Held, Recorded, RecordedDone, empty_remote}
 use Rattle.cf_model.specs.Words.{part, says}
 use Rattle.cf_model_laws.specs.GivenOnce.{WasGiven}
@@ -39,12 +45,13 @@ use Rattle.cf_model_headline.specs.Dehydrated.{DehydratesExactly}
 use Rattle.cf_model_headline.specs.Headline.{FindsVolume}
 use Rattle.cf_model_headline.specs.KeptBytes.{FlushedIsKept, IsHere, IsKept, IsUploaded}
 use Rattle.cf_model_headline.specs.Marked.{InSyncByMark, IsMarked, MarksGiveNumbers, has_number}
-use Rattle.cf_model_headline.specs.Reads.{DataIsRight, IsIn, IsSpanOf, ReadsAtOnce}
+use Rattle.cf_model_headline.specs.Reads.{AnswersRead, DataIsHeld, DataIsRight, IsIn, IsSpanOf, Reads, ReadsAtOnce}
 use Rattle.cf_model_headline.specs.Reports.{Report, changes_in, standing}
 use Rattle.cf_model_headline.specs.Resumed.{ResumesRight, flushing}
+use Rattle.cf_model_headline.specs.Stale.{EarlierIsStale}
 use Rattle.cf_model_headline.specs.Tokens.{OneVersionEach}
-use Rattle.cf_model_headline_rows.specs.Changed.{answer_at, arrived, brought, delivered, file_of, found_none, given_wrongly, in_sync, in_use, informed, no_answer, numbered, read_wrongly, refused, refused_otherwise, resumed_as, second, taken_over, unmarked, unrecorded, until_arrived, usn, written}
-use Rattle.cf_model_headline_rows.specs.Scripts.{crash, create_f, dehydrate_a, get_f, info_a, left_by, put_a, sync}
+use Rattle.cf_model_headline_rows.specs.Changed.{answer_at, arrived, asked, brought, delivered, file_of, found_none, given_wrongly, in_sync, in_use, informed, no_answer, numbered, opened_again, pending, read_wrongly, refused, refused_otherwise, resumed_as, second, taken, taken_over, unmarked, unrecorded, until_arrived, usn, written}
+use Rattle.cf_model_headline_rows.specs.Scripts.{crash, create_f, dehydrate_a, deliver, get_a, get_f, info_a, left_by, put_a, sync}
 
 no_truth : false ≡ true → ⊥
 no_truth z = cc
@@ -189,6 +196,78 @@ bytes_so = refl
 
 pub another_byte_delivered : DataIsRight arrived.link.remote until_arrived arrived delivered → ⊥
 another_byte_delivered h = wrong_byte arrived.link.remote until_arrived arrived delivered lines_so waits_so count_so epoch_so log_so bytes_so h
+
+-- the same line, for the call that was answered `pending`
+wrong_answer : (held : Held) (s : State) (before : Report) (p a : Answer) (i : Item) → a.notes ≡ filled_line ∷ wrong_line ∷ [] → standing before ≡ marked_then → slice_range (content held filled_file) 0 2 ≡ 104 ∷ 105 ∷ []
+    → p.shown ≡ shown.Pending first_wait → Reads s get_a i (span_of 0 2) → i.id ≡ second → AnswersRead held s get_a p before a → ⊥
+wrong_answer held s before p a i notes log bytes waits reads id h = wrong (span filled_file found refl ∙ bytes) where
+  span : IsSpanOf held (standing before ++ changes_in (filled_line ∷ [])) i.id (span_of 0 2) (98 ∷ 105 ∷ [])
+  span = h i (span_of 0 2) first_wait reads waits (filled_line ∷ []) [] wrong_line (98 ∷ 105 ∷ []) notes refl
+
+  found : item_of (items_of (standing before ++ changes_in (filled_line ∷ []))) i.id ≡ Some filled_file
+  found = ap (λ (l : List (Usn × Change)). item_of (items_of (l ++ changes_in (filled_line ∷ []))) i.id) log ∙ ap (λ (k : ItemId). item_of (items_of (marked_then ++ changes_in (filled_line ∷ []))) k) id
+
+  wrong : ◌≡◌ {A = List ℕ} (98 ∷ 105 ∷ []) (104 ∷ 105 ∷ []) → ⊥
+  wrong e = let z : ◌≡◌ {A = ℕ} 98 104 = cc in omega (arith, z)
+
+pending_so : pending.shown ≡ shown.Pending first_wait
+pending_so = refl
+
+file_so : find_path (items_now asked) (codes "/a") ≡ Ok (file_of asked)
+file_so = refl
+
+id_so : (file_of asked).id ≡ second
+id_so = refl
+
+pub another_byte_answered : AnswersRead arrived.link.remote asked get_a pending until_arrived delivered → ⊥
+another_byte_answered h = wrong_answer arrived.link.remote asked until_arrived pending delivered (file_of asked) lines_so log_so bytes_so pending_so (file_so, refl) id_so h
+
+-- and of what is held
+wrong_held : (before : Report) (s : State) (a : Answer) → a.notes ≡ filled_line ∷ wrong_line ∷ [] → s.filter.waiting.waits ≡ waiting_read ∷ [] → s.filter.waiting.wait_count ≡ 1 → s.filter.volume.epoch ≡ 1 → standing before ≡ marked_then → DataIsHeld before s a → ⊥
+wrong_held before s a notes waits count epoch log h = by (subst (λ (ws : List Wait). IsIn x.0 ws) waits x.1) (x.3 ∙ ap (λ (l : List (Usn × Change)). bytes_at (items_of (l ++ changes_in (filled_line ∷ []))) x.0.item x.0.span) log) where
+  itself : 1 ≤ 1
+  itself = omega arith
+
+  given : WasGiven s.filter.volume.epoch s.filter.waiting.wait_count first_wait.0
+  given = subst (λ (e : ℕ). WasGiven e s.filter.waiting.wait_count first_wait.0) (sym epoch) (subst (λ (n : ℕ). WasGiven 1 n first_wait.0) (sym count) (inr (refl, itself)))
+
+  x : (w : Wait) × IsIn w s.filter.waiting.waits × (w.id ≡ first_wait) × (98 ∷ 105 ∷ [] ≡ bytes_at (items_of (standing before ++ changes_in (filled_line ∷ []))) w.item w.span)
+  x = h (filled_line ∷ []) [] wrong_line first_wait (98 ∷ 105 ∷ []) notes refl given
+
+  wrong : ◌≡◌ {A = List ℕ} (98 ∷ 105 ∷ []) (104 ∷ 105 ∷ []) → ⊥
+  wrong e = let z : ◌≡◌ {A = ℕ} 98 104 = cc in omega (arith, z)
+
+  by : {w : Wait} → IsIn w (waiting_read ∷ []) → 98 ∷ 105 ∷ [] ≡ bytes_at (items_of (marked_then ++ changes_in (filled_line ∷ []))) w.item w.span → ⊥
+  by (inl e) held = wrong (subst (λ (v : Wait). 98 ∷ 105 ∷ [] ≡ bytes_at (items_of (marked_then ++ changes_in (filled_line ∷ []))) v.item v.span) e held)
+  by (inr none) held = absurd none
+
+pub another_byte_held : DataIsHeld until_arrived arrived delivered → ⊥
+another_byte_held h = wrong_held until_arrived arrived delivered lines_so waits_so count_so epoch_so log_so h
+
+-- replies
+
+abbrev old_reply : Reply
+old_reply = reply.Bytes (record { epoch = 1; number = 1 }) 0 (codes "hi")
+
+reply_so : message_at opened_again 6 ≡ Some (frame.Reply 5 old_reply)
+reply_so = refl
+
+now_so : opened_again.filter.volume.epoch ≡ 2
+now_so = refl
+
+on_so : opened_again.power ≡ On
+on_so = refl
+
+linked_so : opened_again.filter.connected ≡ true
+linked_so = refl
+
+pub an_old_reply_taken : EarlierIsStale opened_again (deliver 6) taken → ⊥
+an_old_reply_taken h = wrong (h 6 5 old_reply refl reply_so (subst (λ (e : ℕ). 1 < e) (sym now_so) less) on_so linked_so) where
+  less : 1 < 2
+  less = omega arith
+
+  wrong : ◌≡◌ {A = Shown} shown.Done (shown.Refused code.Stale) → ⊥
+  wrong z = cc
 
 pub another_byte_read : ReadsAtOnce written.link.remote written get_f read_wrongly → ⊥
 another_byte_read h = wrong (h (file_of written) (span_of 0 1) (refl, refl) refl refl refl (λ e. let y : ◌≡◌ {A = Shown} (shown.Ended (end.Data (codes "b"))) (shown.Refused code.Device) = e in cc)) where

@@ -127,6 +127,19 @@ until_arrived = reported (put_a ∷ sync ∷ queue ∷ get_a ∷ arrive 5 ∷ []
 abbrev pub delivered : Answer
 delivered = with_other_byte (answer_at 5 (reported (put_a ∷ sync ∷ queue ∷ get_a ∷ arrive 5 ∷ deliver 6 ∷ [])))
 
+-- a reply of the epoch before the crash is taken
+abbrev pub opened_again : State
+opened_again = left_by (put_a ∷ sync ∷ queue ∷ get_a ∷ arrive 5 ∷ crash ∷ restart ∷ [])
+
+abbrev pub taken : Answer
+taken = no_answer
+
+abbrev pub asked : State
+asked = left_by (put_a ∷ sync ∷ queue ∷ [])
+
+abbrev pub pending : Answer
+pending = answer_at 3 until_arrived
+
 abbrev pub written : State
 written = left_by (create_f ∷ open_f ∷ write_a ∷ [])
 

@@ -7,12 +7,13 @@ ghost use Rattle.cf_model_headline.specs.Dehydrated.{DehydratesExactly};
 ghost use Rattle.cf_model_headline.specs.Headline.{FindsVolume};
 ghost use Rattle.cf_model_headline.specs.KeptBytes.{FlushedIsKept};
 ghost use Rattle.cf_model_headline.specs.Marked.{InSyncByMark, MarksGiveNumbers};
-ghost use Rattle.cf_model_headline.specs.Reads.{DataIsRight, ReadsAtOnce};
+ghost use Rattle.cf_model_headline.specs.Reads.{AnswersRead, DataIsHeld, DataIsRight, ReadsAtOnce};
 ghost use Rattle.cf_model_headline.specs.Reports.{standing};
 ghost use Rattle.cf_model_headline.specs.Resumed.{ResumesRight};
+ghost use Rattle.cf_model_headline.specs.Stale.{EarlierIsStale};
 ghost use Rattle.cf_model_headline.specs.Tokens.{OneVersionEach};
-ghost use Rattle.cf_model_headline_rows.specs.Changed.{arrived, delivered, found_none, given_wrongly, in_sync, in_use, numbered, read_wrongly, refused, refused_otherwise, resumed_as, taken_over, unmarked, unrecorded, until_arrived, written};
-ghost use Rattle.cf_model_headline_rows.specs.Scripts.{dehydrate_a, get_f, info_a, left_by, put_a, sync};
+ghost use Rattle.cf_model_headline_rows.specs.Changed.{arrived, asked, delivered, found_none, given_wrongly, in_sync, in_use, numbered, opened_again, pending, read_wrongly, refused, refused_otherwise, resumed_as, taken, taken_over, unmarked, unrecorded, until_arrived, written};
+ghost use Rattle.cf_model_headline_rows.specs.Scripts.{dehydrate_a, deliver, get_a, get_f, info_a, left_by, put_a, sync};
 
 /// The line of a Mark is left out: the log has a change that the report does not show.
 #[tactic(auto, using(crate::proofs::Refuted::a_change_not_shown))]
@@ -72,6 +73,24 @@ pub fn a_dehydration_is_refused_for_another_cause()
 #[tactic(auto, using(crate::proofs::Refuted::another_byte_delivered))]
 pub fn another_byte_is_delivered()
     ensures { DataIsRight arrived.link.remote until_arrived arrived delivered → ⊥ }
+{}
+
+/// The same line, of the read that was answered `pending 1.1`.
+#[tactic(auto, using(crate::proofs::Refuted::another_byte_answered))]
+pub fn another_byte_answers_a_read()
+    ensures { AnswersRead arrived.link.remote asked get_a pending until_arrived delivered → ⊥ }
+{}
+
+/// The same line, of the bytes that are held.
+#[tactic(auto, using(crate::proofs::Refuted::another_byte_held))]
+pub fn another_byte_is_held()
+    ensures { DataIsHeld until_arrived arrived delivered → ⊥ }
+{}
+
+/// A reply that was asked for before a crash is taken.
+#[tactic(auto, using(crate::proofs::Refuted::an_old_reply_taken))]
+pub fn an_old_reply_is_taken()
+    ensures { EarlierIsStale opened_again (deliver 6) taken → ⊥ }
 {}
 
 /// `data` with another byte than was written here.
