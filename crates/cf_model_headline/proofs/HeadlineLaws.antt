@@ -25,6 +25,7 @@ use Rattle.cf_model_headline.proofs.KeptBytesLaws.{flushed_is_kept}
 use Rattle.cf_model_headline.proofs.MarkedLaws.{marks_give, shown_by_mark}
 use Rattle.cf_model_headline.proofs.ReadsAtOnceLaws.{reads_at_once}
 use Rattle.cf_model_headline.proofs.ReadsLaws.{data_is_right}
+use Rattle.cf_model_headline.proofs.RefusalLaws.{refusals_leave}
 use Rattle.cf_model_headline.proofs.ResumedLaws.{resumes_right}
 use Rattle.cf_model_headline.proofs.StaleLaws.{earlier_is_stale}
 use Rattle.cf_model_headline.proofs.StandingLaws.{shows_all}
@@ -49,6 +50,7 @@ promised m remote clusters report last fresh runs = record {
   changes = shows_all m remote clusters report last fresh runs;
   restarts = resumes_right m remote clusters report last fresh runs;
   opens = λ before rest s e a t parts led is leads. finds_volume m remote clusters before s e a t led is;
+  refusals = λ before rest s e a t parts led is leads. refusals_leave m s e a t is;
   stale = λ before rest s e a t parts led is leads. earlier_is_stale m remote clusters before s e a t fresh led is;
   held_data = λ before rest s e a t parts led is leads. data_is_held m remote clusters before s e a t fresh led is;
   in_sync = shown_by_mark m remote clusters report last fresh runs;

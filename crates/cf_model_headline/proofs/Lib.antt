@@ -16,4 +16,6 @@ pub mod StaleLaws
 pub mod AskedReads
 pub mod HeldLines
 pub mod HeldLaws
+pub mod QuietRefusals
+pub mod RefusalLaws
 pub mod HeadlineLaws

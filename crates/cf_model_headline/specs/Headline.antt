@@ -14,6 +14,7 @@ use Rattle.cf_model_headline.specs.Dehydrated.{DehydratesExactly}
 use Rattle.cf_model_headline.specs.KeptBytes.{FlushedIsKept}
 use Rattle.cf_model_headline.specs.Marked.{InSyncByMark, MarksGiveNumbers}
 use Rattle.cf_model_headline.specs.Reads.{DataIsHeld, DataIsRight, ReadsAnswered, ReadsAtOnce}
+use Rattle.cf_model_headline.specs.Refusals.{RefusalsLeave}
 use Rattle.cf_model_headline.specs.Reports.{OfEach, Report, standing}
 use Rattle.cf_model_headline.specs.Resumed.{ResumesRight}
 use Rattle.cf_model_headline.specs.Stale.{EarlierIsStale}
@@ -28,6 +29,7 @@ pub record Promises (m : Mode) (remote : Held) (clusters : ℕ) (report : Report
   pub changes : last.filter.volume.log ≡ standing report
   pub restarts : ResumesRight report
   pub opens : OfEach m remote clusters report last (λ before s e a t. FindsVolume e a)
+  pub refusals : OfEach m remote clusters report last (λ before s e a t. RefusalsLeave s e a t)
   pub stale : OfEach m remote clusters report last (λ before s e a t. EarlierIsStale s e a)
   pub held_data : OfEach m remote clusters report last (λ before s e a t. DataIsHeld before s a)
   pub in_sync : InSyncByMark report

@@ -6,4 +6,5 @@ pub mod KeptBytes
 pub mod Tokens
 pub mod Reads
 pub mod Stale
+pub mod Refusals
 pub mod Headline

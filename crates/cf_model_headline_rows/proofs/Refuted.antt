@@ -35,7 +35,7 @@ use Rattle.cf_model.specs.Messages.{message_at}
 use Rattle.cf_model.specs.Missing.{Wait, span_of}
 use Rattle.cf_model.specs.Numbers.{above}
 use Rattle.cf_model.specs.Settling.{bytes_at}
-use Rattle.cf_model.specs.State.{On, State, items_now}
+use Rattle.cf_model.specs.State.{On, State, Volume, items_now}
 use Rattle.cf_model.specs.Store.{Held, Recorded, RecordedDone, empty_remote}
 use Rattle.cf_model.specs.Words.{part, says}
 use Rattle.cf_model_laws.specs.GivenOnce.{WasGiven}
@@ -46,12 +46,13 @@ use Rattle.cf_model_headline.specs.Headline.{FindsVolume}
 use Rattle.cf_model_headline.specs.KeptBytes.{FlushedIsKept, IsHere, IsKept, IsUploaded}
 use Rattle.cf_model_headline.specs.Marked.{InSyncByMark, IsMarked, MarksGiveNumbers, has_number}
 use Rattle.cf_model_headline.specs.Reads.{AnswersRead, DataIsHeld, DataIsRight, IsIn, IsSpanOf, Reads, ReadsAtOnce}
+use Rattle.cf_model_headline.specs.Refusals.{IsLeft, RefusalsLeave}
 use Rattle.cf_model_headline.specs.Reports.{Report, changes_in, standing}
 use Rattle.cf_model_headline.specs.Resumed.{ResumesRight, flushing}
 use Rattle.cf_model_headline.specs.Stale.{EarlierIsStale}
 use Rattle.cf_model_headline.specs.Tokens.{OneVersionEach}
-use Rattle.cf_model_headline_rows.specs.Changed.{answer_at, arrived, asked, brought, delivered, file_of, found_none, given_wrongly, in_sync, in_use, informed, no_answer, numbered, opened_again, pending, read_wrongly, refused, refused_otherwise, resumed_as, second, taken, taken_over, unmarked, unrecorded, until_arrived, usn, written}
-use Rattle.cf_model_headline_rows.specs.Scripts.{crash, create_f, dehydrate_a, deliver, get_a, get_f, info_a, left_by, put_a, sync}
+use Rattle.cf_model_headline_rows.specs.Changed.{answer_at, arrived, asked, brought, delivered, file_of, found_none, given_wrongly, in_sync, in_use, informed, no_answer, numbered, opened_again, pending, read_wrongly, refused, refused_create, refused_otherwise, resumed_as, second, taken, taken_over, unmarked, unrecorded, until_arrived, usn, written}
+use Rattle.cf_model_headline_rows.specs.Scripts.{crash, create_f, dehydrate_a, deliver, from_start, get_a, get_f, info_a, left_by, put_a, sync}
 
 no_truth : false ≡ true → ⊥
 no_truth z = cc
@@ -120,6 +121,14 @@ wrong_number report same h =
 
 pub another_number_given : MarksGiveNumbers given_wrongly → ⊥
 another_number_given h = wrong_number given_wrongly given_so h
+
+-- refusals
+
+pub a_refusal_that_changes : RefusalsLeave written create_f refused_create from_start → ⊥
+a_refusal_that_changes h =
+    let left : IsLeft written from_start = h.calls refl refl refl refl (λ e. let y : ◌≡◌ {A = Shown} (shown.Refused code.Exists) (shown.Refused code.Device) = e in cc) in
+    let z : 0 ≡ 2 = ap (λ (v : Volume). length v.log) left.volume in
+    omega (arith, z)
 
 -- dehydrations
 

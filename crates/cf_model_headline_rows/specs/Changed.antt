@@ -101,6 +101,12 @@ numbered = edited 2 (with_shown (informed (usn 1 2))) brought
 abbrev pub given_wrongly : Report
 given_wrongly = edited 1 with_other_given brought
 
+-- refusals
+
+-- a refused call after which the file is gone
+abbrev pub refused_create : Answer
+refused_create = with_shown (shown.Refused code.Exists) no_answer
+
 -- dehydrations
 
 abbrev pub in_sync : State

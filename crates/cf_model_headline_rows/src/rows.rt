@@ -8,12 +8,13 @@ ghost use Rattle.cf_model_headline.specs.Headline.{FindsVolume};
 ghost use Rattle.cf_model_headline.specs.KeptBytes.{FlushedIsKept};
 ghost use Rattle.cf_model_headline.specs.Marked.{InSyncByMark, MarksGiveNumbers};
 ghost use Rattle.cf_model_headline.specs.Reads.{AnswersRead, DataIsHeld, DataIsRight, ReadsAtOnce};
+ghost use Rattle.cf_model_headline.specs.Refusals.{RefusalsLeave};
 ghost use Rattle.cf_model_headline.specs.Reports.{standing};
 ghost use Rattle.cf_model_headline.specs.Resumed.{ResumesRight};
 ghost use Rattle.cf_model_headline.specs.Stale.{EarlierIsStale};
 ghost use Rattle.cf_model_headline.specs.Tokens.{OneVersionEach};
-ghost use Rattle.cf_model_headline_rows.specs.Changed.{arrived, asked, delivered, found_none, given_wrongly, in_sync, in_use, numbered, opened_again, pending, read_wrongly, refused, refused_otherwise, resumed_as, taken, taken_over, unmarked, unrecorded, until_arrived, written};
-ghost use Rattle.cf_model_headline_rows.specs.Scripts.{dehydrate_a, deliver, get_a, get_f, info_a, left_by, put_a, sync};
+ghost use Rattle.cf_model_headline_rows.specs.Changed.{arrived, asked, delivered, found_none, given_wrongly, in_sync, in_use, numbered, opened_again, pending, read_wrongly, refused, refused_create, refused_otherwise, resumed_as, taken, taken_over, unmarked, unrecorded, until_arrived, written};
+ghost use Rattle.cf_model_headline_rows.specs.Scripts.{create_f, dehydrate_a, deliver, from_start, get_a, get_f, info_a, left_by, put_a, sync};
 
 /// The line of a Mark is left out: the log has a change that the report does not show.
 #[tactic(auto, using(crate::proofs::Refuted::a_change_not_shown))]
@@ -55,6 +56,12 @@ pub fn in_sync_at_another_number()
 #[tactic(auto, using(crate::proofs::Refuted::another_number_given))]
 pub fn a_mark_gives_another_number()
     ensures { MarksGiveNumbers given_wrongly → ⊥ }
+{}
+
+/// A refused call after which the file that stood there is gone.
+#[tactic(auto, using(crate::proofs::Refuted::a_refusal_that_changes))]
+pub fn a_refusal_changes_the_volume()
+    ensures { RefusalsLeave written create_f refused_create from_start → ⊥ }
 {}
 
 /// A file that is in sync, not in use and not pinned is refused as Pinned.
