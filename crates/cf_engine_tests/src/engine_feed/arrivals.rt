@@ -6,7 +6,7 @@ use super::listed::{
 };
 use super::tables::{identity, table, table_with_plain};
 use cf_base::{Identity, OutOfMemory};
-use cf_engine_feed::{Known, Turn};
+use cf_engine_feed_plan::{Known, Turn};
 use std::alloc::Global;
 use std::test::Fail;
 

@@ -4,7 +4,7 @@ use super::entries::{at, directory, file, path, seen_at, turn, used};
 use super::listed::{is_copy_off, is_mark, is_move, is_postponed, is_seen, is_take, listed};
 use super::tables::{identity, table, table_with_inner, table_with_kept, table_with_writes};
 use cf_base::{CallError as Refusal, Change, Identity, ItemId, OutOfMemory};
-use cf_engine_feed::{Turn, copy_off};
+use cf_engine_feed_plan::{Turn, copy_off};
 use cf_table::Rows;
 use std::alloc::Global;
 use std::test::Fail;

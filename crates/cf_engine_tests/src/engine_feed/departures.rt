@@ -4,7 +4,7 @@ use super::entries::{at, dead, last_turn, turn, used};
 use super::listed::{is_clear, is_later, is_postponed, is_rebase, is_remove, listed};
 use super::tables::{identity, table, table_with_kept, table_with_writes};
 use cf_base::{Identity, OutOfMemory};
-use cf_engine_feed::{Known, Turn};
+use cf_engine_feed_plan::{Known, Turn};
 use std::alloc::Global;
 use std::test::Fail;
 

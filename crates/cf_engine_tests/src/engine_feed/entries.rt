@@ -4,7 +4,7 @@ use cf_base::{
     Blob, CallError, Entry, Hydration, ItemId, Name, OutOfMemory, Policy, Population, Rid,
     SeenPath, Version,
 };
-use cf_engine_feed::{Known, Turn, steps};
+use cf_engine_feed_plan::{Known, Turn, steps};
 use cf_table::Rows;
 use std::alloc::Global;
 

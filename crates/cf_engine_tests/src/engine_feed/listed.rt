@@ -1,7 +1,7 @@
 //! What stands in a turn. A step is looked at by the item that it names.
 
 use cf_base::{Change, Identity};
-use cf_engine_feed::{Step, Turn};
+use cf_engine_feed_plan::{Step, Turn};
 
 /// The steps, where there are some to be done.
 pub(super) fn listed(turn: &Turn) -> Option<&[Step]> {

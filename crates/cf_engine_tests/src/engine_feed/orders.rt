@@ -3,7 +3,7 @@
 use super::entries::{dead, file};
 use super::tables::table;
 use cf_base::{Entry, ItemId, OutOfMemory};
-use cf_engine_feed::order;
+use cf_engine_feed_plan::order;
 use std::alloc::Global;
 use std::test::Fail;
 
