@@ -1,0 +1,6 @@
+pub mod FirstFound
+pub mod FeedEnds
+pub mod FeedOrder
+pub mod FeedTurns
+pub mod PlannedTurns
+pub mod StepRuns

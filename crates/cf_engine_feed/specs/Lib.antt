@@ -1,0 +1,5 @@
+pub mod Copies
+pub mod Ends
+pub mod Plans
+pub mod Targets
+pub mod Turns

@@ -1,0 +1,17 @@
+//! A feed, applied to the items.
+//!
+//! `apply_feed` does what the definitions say of a feed's reply that is taken: it closes the round, gives each entry its turn, and moves
+//! the cursor where nothing was postponed or left out. cf_engine_feed_plan says which steps an entry has on the rows as they are at its
+//! turn; here they are done, by the steps of cf_engine_steps, each of which may be left out or stopped by the device.
+#![tactic(auto)]
+
+mod entry_turns;
+mod feed_ends;
+mod feed_orders;
+mod feeds;
+mod plans;
+mod step_runs;
+mod targets;
+mod turn_lists;
+
+pub use feeds::apply_feed;
