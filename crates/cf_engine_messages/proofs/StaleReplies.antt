@@ -1,0 +1,131 @@
+-- Whether a reply is stale, by what is read of the filter and of the engine's own.
+use Rattle.std.proofs.Common.{◌≡◌, ℕ, Bool, true, false, not, List, ◌&&◌, ◌||◌, ◌==◌, refl, sym, ◌∙◌, ap, subst}
+use Rattle.std.specs.Prelude.{Result, Ok, Err, IfOk, Option, Some, None, is_some, nat_le, option_map}
+use Rattle.cf_base.specs.declared.ids.Key.{Key}
+use Rattle.cf_base.specs.declared.ids.Rid.{Rid}
+use Rattle.cf_base.specs.declared.ids.Round.{Round}
+use Rattle.cf_base.specs.declared.ids.Token.{Token}
+use Rattle.cf_base.specs.declared.memory.OutOfMemory.{OutOfMemory as NoMemory}
+use Rattle.cf_base.specs.declared.messages.Entry.{Entry}
+use Rattle.cf_base.specs.declared.messages.Reply.{Reply}
+use Rattle.cf_base.specs.declared.messages.Reply.TheVariants as reply
+use Rattle.cf_base.specs.declared.messages.Request.{Request}
+use Rattle.cf_base.specs.declared.messages.Request.TheVariants as request
+use Rattle.cf_base.specs.declared.waits.Ask.{Ask}
+use Rattle.cf_engine_host.specs.Readings.{epoch_of}
+use Rattle.cf_engine_messages.specs.Staleness.{fits_in, is_ended_in, is_feed_over, is_idle_in, is_old_now, is_unlisted_in, rid_under, settled_token}
+use Rattle.cf_engine_provider.specs.Listings.{AreAlike, known_in}
+use Rattle.cf_engine_provider.proofs.FitsAlike.{fits_alike}
+use Rattle.cf_engine_steps.specs.Answering.{Any, Reads}
+use Rattle.cf_engine_steps.specs.BookReads.{cursor_in, entry_in, has_entries_in, has_new_entry_in}
+use Rattle.cf_engine_steps.specs.States.{Own, whole}
+use Rattle.cf_model.specs.Books.{QueueEntry}
+use Rattle.cf_model.specs.Fits.{Known, fits}
+use Rattle.cf_model.specs.Items.{Item}
+use Rattle.cf_model.specs.Messages.{is_old, is_stale, known_now, settled_rid}
+use Rattle.cf_model.specs.Numbers.{no_rid}
+use Rattle.cf_model.specs.Requests.{Live, Waiting, live_of}
+use Rattle.cf_model.specs.State.{Filter, State, Volatile}
+use Rattle.cf_model.specs.Words.{is_empty, part}
+use Rattle.cf_remote.specs.Told.{Told}
+use Rattle.cf_table.specs.Tables.{MeansAll, Table}
+use Rattle.cf_filter_steps.specs.Answering as steps
+use Rattle.cf_filter_steps.specs.Finding.{HasRows}
+use Rattle.cf_filter_steps.specs.Readings.{waiting_of}
+
+-- what a Settle is about
+
+pub settled_is : (q : Request) (s : State) → rid_under (settled_token q) s.filter ≡ settled_rid s q
+settled_is (request.Settle token) s = refl
+settled_is (request.Feed a b) s = refl
+settled_is (request.List a b) s = refl
+settled_is (request.Fetch a b c d e) s = refl
+settled_is (request.Put a b c d e f) s = refl
+settled_is (request.MakeDir a b c) s = refl
+settled_is (request.Move a b c d) s = refl
+settled_is (request.Remove a b c) s = refl
+settled_is (request.Keep a b) s = refl
+
+module _ {X : Type 0} (S : steps.Sense X) (x : X) where
+  pub rid_some : (token : Token) (o : Option QueueEntry) (e : QueueEntry) → steps.Reads S steps.Any (entry_in token) x o → o ≡ Some e → steps.Reads S steps.Any (rid_under (Some token)) x e.rid
+  rid_some token o e h is = record { is = λ s m a. ap (part (λ (d : QueueEntry). d.rid) no_rid) (sym is ∙ h.is s m a) }
+
+  pub rid_none : (token : Token) (o : Option QueueEntry) → steps.Reads S steps.Any (entry_in token) x o → o ≡ None → steps.Reads S steps.Any (rid_under (Some token)) x no_rid
+  rid_none token o h is = record { is = λ s m a. ap (part (λ (d : QueueEntry). d.rid) no_rid) (sym is ∙ h.is s m a) }
+
+  pub no_settle : steps.Reads S steps.Any (rid_under None) x no_rid
+  no_settle = record { is = λ s m a. refl }
+
+  pub fitting_by : (t : Table) (l : List Known) (o : Option Token) (rid : Rid) (q : Request) (r : Reply) (b : Bool) → HasRows S x t → ((items : List Item) → MeansAll t.rows items → AreAlike l (known_in items))
+      → steps.Reads S steps.Any (rid_under o) x rid → o ≡ settled_token q → b ≡ fits l rid q r → steps.Reads S steps.Any (fits_in q r) x b
+  fitting_by t l o rid q r b rows alike settled is fit = record {
+    is = λ s m a.
+        fit ∙ ap (λ (n : Rid). fits l n q r) (settled.is s m a ∙ ap (λ (p : Option Token). rid_under p s) is)
+        ∙ fits_alike l (known_in s.volume.items) (rid_under (settled_token q) s) q r (alike s.volume.items (rows.rows s m));
+  }
+
+  -- asks and uploads
+
+  turned : (a b : Bool) → a ≡ not b → b ≡ not a
+  turned a true h = ap not (sym h)
+  turned a false h = ap not (sym h)
+
+  idle_is : {A B : Type 0} (f : A → B) (o : Option A) → is_some (option_map f o) ≡ is_some o
+  idle_is f None = refl
+  idle_is f (Some a) = refl
+
+  pub idle_by : (key : Key) (w : Waiting) (o : Option Ask) (b : Bool) → steps.Reads S steps.Any waiting_of x w → o ≡ option_map (λ (a : Live). a.ask) (live_of w.asks key) → is_some o ≡ not b → steps.Reads S steps.Any (is_idle_in key) x b
+  idle_by key w o b h asked is = record {
+    is = λ s m a.
+        turned (is_some o) b is
+        ∙ ap not (ap is_some (asked ∙ ap (λ (v : Waiting). option_map (λ (l : Live). l.ask) (live_of v.asks key)) (h.is s m a)) ∙ idle_is (λ (l : Live). l.ask) (live_of s.waiting.asks key));
+  }
+
+  pub unlisted_idle : (key : Key) (b : Bool) → steps.Reads S steps.Any (is_idle_in key) x b → b ≡ true → steps.Reads S steps.Any (is_unlisted_in key) x true
+  unlisted_idle key b h is = record { is = λ s m a. sym (ap (λ (c : Bool). c || has_new_entry_in s) (sym (h.is s m a) ∙ is)) }
+
+  pub unlisted_else : (key : Key) (b : Bool) (r : Result Bool NoMemory) → steps.Reads S steps.Any (is_idle_in key) x b → b ≡ false → IfOk r (λ c. steps.Reads S steps.Any has_new_entry_in x c) → IfOk r (λ c. steps.Reads S steps.Any (is_unlisted_in key) x c)
+  unlisted_else key b (Ok c) h is k = record { is = λ s m a. k.is s m a ∙ sym (ap (λ (d : Bool). d || has_new_entry_in s) (sym (h.is s m a) ∙ is)) }
+  unlisted_else key b (Err e) h is k = tt
+
+  pub ended_some : (token : Token) (o : Option QueueEntry) (e : QueueEntry) → steps.Reads S steps.Any (entry_in token) x o → o ≡ Some e → steps.Reads S steps.Any (is_ended_in token) x false
+  ended_some token o e h is = record { is = λ s m a. ap (λ (p : Option QueueEntry). not (is_some p)) (sym is ∙ h.is s m a) }
+
+  pub ended_none : (token : Token) (o : Option QueueEntry) → steps.Reads S steps.Any (entry_in token) x o → o ≡ None → steps.Reads S steps.Any (is_ended_in token) x true
+  ended_none token o h is = record { is = λ s m a. ap (λ (p : Option QueueEntry). not (is_some p)) (sym is ∙ h.is s m a) }
+
+  -- on the whole state
+
+  module _ {R : Type 0} (told : R → Told) (e : Own R) where
+    none_sent : {A : Type 0} (es : List A) (sends none : Bool) → sends ≡ not (is_empty es) → none ≡ not sends → none ≡ is_empty es
+    none_sent es sends none h k = k ∙ ap not h ∙ twice (is_empty es)
+      where
+        twice : (b : Bool) → not (not b) ≡ b
+        twice true = refl
+        twice false = refl
+
+    pub feed_by : (round : Round) (clock : ℕ) (es : List Entry) (epoch rounds cursor : ℕ) (counts sends none b : Bool) → steps.Reads S steps.Any epoch_of x epoch → rounds ≡ e.volatile.rounds → counts ≡ e.volatile.round_open
+        → steps.Reads S steps.Any cursor_in x cursor → steps.Reads S steps.Any has_entries_in x sends → none ≡ not sends
+        → b ≡ is_feed_over round.0 (record { epoch = epoch; number = rounds }) counts cursor clock none → Reads (whole S told) Any (is_old_now (reply.Feed round clock es)) (x, e) b
+    feed_by round clock es epoch rounds cursor counts sends none b epochs latest is_open cursors entries flip is = record {
+      is = λ s i any.
+          is
+          ∙ (λ j. not ((round.0.epoch == epochs.is s.filter i.filter (record {}) j) && (round.0.number == (latest ∙ ap (λ (v : Volatile). v.rounds) i.volatile) j) && (is_open ∙ ap (λ (v : Volatile). v.round_open) i.volatile) j
+          && nat_le (cursors.is s.filter i.filter (record {}) j) clock && none_sent s.filter.volume.book.entries sends none (entries.is s.filter i.filter (record {})) flip j));
+    }
+
+    pub old_by : (r : Reply) (v : Filter → Bool) (b : Bool) → steps.Reads S steps.Any v x b → ((s : State) → v s.filter ≡ is_old s r) → Reads (whole S told) Any (is_old_now r) (x, e) b
+    old_by r v b h same = record { is = λ s i any. h.is s.filter i.filter (record {}) ∙ same s }
+
+    pub old_if : (r : Reply) (v : Filter → Bool) (o : Result Bool NoMemory) → IfOk o (λ b. steps.Reads S steps.Any v x b) → ((s : State) → v s.filter ≡ is_old s r) → IfOk o (λ b. Reads (whole S told) Any (is_old_now r) (x, e) b)
+    old_if r v (Ok b) h same = old_by r v b h same
+    old_if r v (Err f) h same = tt
+
+    pub old_feed : (r : Reply) (round : Round) (clock : ℕ) (es : List Entry) (o : Result Bool NoMemory) → r ≡ reply.Feed round clock es → IfOk o (λ b. Reads (whole S told) Any (is_old_now (reply.Feed round clock es)) (x, e) b)
+        → IfOk o (λ b. Reads (whole S told) Any (is_old_now r) (x, e) b)
+    old_feed r round clock es o is h = subst (λ (p : Reply). IfOk o (λ b. Reads (whole S told) Any (is_old_now p) (x, e) b)) (sym is) h
+
+    pub stale_by : (q : Request) (r : Reply) (fit old b : Bool) → steps.Reads S steps.Any (fits_in q r) x fit → Reads (whole S told) Any (is_old_now r) (x, e) old → b ≡ (not fit || old) → Reads (whole S told) Any (is_stale q r) (x, e) b
+    stale_by q r fit old b h k is = record {
+      is = λ s i any. is ∙ (λ j. not ((h.is s.filter i.filter (record {}) ∙ ap (λ (n : Rid). fits (known_now s) n q r) (settled_is q s)) j) || k.is s i any j);
+    }

@@ -1,0 +1,14 @@
+//! The messages of the engine: what a reply of the remote does.
+//!
+//! A reply that does not fit its request, or for which nothing waits any more, is stale: `is_stale` tells it by the items, the asks and
+//! the records as they are then. One that is not does one thing. Each step here answers what the definition of its name does, on the
+//! whole state, as cf_engine_steps has it.
+#![tactic(auto)]
+
+mod operations;
+mod refusals;
+mod staleness;
+
+pub use operations::take_bytes;
+pub use refusals::{take_gone, take_missing};
+pub use staleness::is_stale;
