@@ -27,7 +27,7 @@ use Rattle.cf_model_headline.proofs.ReadsAtOnceLaws.{reads_at_once}
 use Rattle.cf_model_headline.proofs.ReadsLaws.{data_is_right}
 use Rattle.cf_model_headline.proofs.RefusalLaws.{refusals_leave}
 use Rattle.cf_model_headline.proofs.ResumedLaws.{resumes_right}
-use Rattle.cf_model_headline.proofs.StaleLaws.{earlier_is_stale}
+use Rattle.cf_model_headline.proofs.StaleLaws.{late_is_stale, not_done_is_taken}
 use Rattle.cf_model_headline.proofs.StandingLaws.{shows_all}
 use Rattle.cf_model_headline.proofs.StepCases.{IsCase, IsOver, step_case}
 use Rattle.cf_model_headline.proofs.TokenLaws.{one_version_each}
@@ -51,7 +51,7 @@ promised m remote clusters report last fresh runs = record {
   restarts = resumes_right m remote clusters report last fresh runs;
   opens = λ before rest s e a t parts led is leads. finds_volume m remote clusters before s e a t led is;
   refusals = λ before rest s e a t parts led is leads. refusals_leave m s e a t is;
-  stale = λ before rest s e a t parts led is leads. earlier_is_stale m remote clusters before s e a t fresh led is;
+  stale = λ before rest s e a t parts led is leads. late_is_stale m remote clusters before s e a t fresh led is;
   held_data = λ before rest s e a t parts led is leads. data_is_held m remote clusters before s e a t fresh led is;
   in_sync = shown_by_mark m remote clusters report last fresh runs;
   dehydrations = λ before rest s e a t parts led is leads. dehydrates_exactly m s e a t is;
@@ -65,5 +65,6 @@ headline remote clusters report last premises runs = record {
   data_lines = data_is_right remote clusters report last premises.fresh premises.fair runs;
   reads = reads_at_once remote clusters report last premises.fresh premises.fair runs;
   marks = marks_give remote clusters report last premises.fresh premises.fair runs;
+  not_done = not_done_is_taken remote clusters report last premises.fresh premises.fair runs;
   flushed = flushed_is_kept remote clusters report last premises.fresh premises.fair runs;
 }

@@ -1,6 +1,6 @@
--- Replies of earlier epochs.
-use Rattle.std.proofs.Common.{◌≡◌, ◌⊎◌, ◌<◌, ◌+◌, ℕ, Bool, true, false, List, [], ◌∷◌, ◌++◌, refl, sym, ◌∙◌, ap, subst, inl, inr, arith, nat_le}
-use Rattle.std.specs.Prelude.{Option, Some, None, cond, find, is_some, map, not, ◌==◌, ◌&&◌, ◌||◌}
+-- Replies that come too late, and those that an upload was not done.
+use Rattle.std.proofs.Common.{◌≡◌, ◌⊎◌, ◌<◌, ◌+◌, ℕ, Bool, true, false, List, [], ◌∷◌, ◌++◌, zero, suc, refl, sym, ◌∙◌, ap, subst, inl, inr, arith, nat_le}
+use Rattle.std.specs.Prelude.{Option, Some, None, cond, find, is_some, map, not, ◌==◌, ◌≢◌, ◌&&◌, ◌||◌}
 use Rattle.std.specs.List.{list_any}
 use Rattle.std.proofs.lemmas.Bool.{eqb-true}
 use Rattle.cf_base.specs.declared.answers.Answer.{Answer}
@@ -12,22 +12,30 @@ use Rattle.cf_base.specs.declared.events.EngineEvent.TheVariants as engine
 use Rattle.cf_base.specs.declared.events.Event.{Event}
 use Rattle.cf_base.specs.declared.events.Event.TheVariants as event
 use Rattle.cf_base.specs.declared.ids.Key.{Key}
+use Rattle.cf_base.specs.declared.ids.Rid.{Rid}
+use Rattle.cf_base.specs.declared.ids.Token.{Token}
+use Rattle.cf_base.specs.declared.ids.Version.{Version}
 use Rattle.cf_base.specs.declared.messages.Reply.{Reply}
 use Rattle.cf_base.specs.declared.messages.Reply.TheVariants as reply
 use Rattle.cf_base.specs.declared.messages.Request.{Request}
+use Rattle.cf_base.specs.declared.messages.Request.TheVariants as request
+use Rattle.cf_base.specs.declared.messages.Why.{Why}
 use Rattle.cf_base.specs.declared.notices.Frame.{Frame}
 use Rattle.cf_base.specs.declared.notices.Frame.TheVariants as frame
 use Rattle.cf_base.specs.declared.policies.Mode.{Mode}
+use Rattle.cf_base.specs.declared.policies.Mode.TheVariants as mode
 use Rattle.cf_base.specs.declared.waits.Ask.{Ask}
 use Rattle.cf_model.specs.Asks.{is_cancelled, is_over, after_deed, left_of, new_asks, step_of, why, with_keys}
-use Rattle.cf_model.specs.Books.{Book}
+use Rattle.cf_model.specs.Arrows.{ret, then_do}
+use Rattle.cf_model.specs.Books.{Book, QueueEntry}
+use Rattle.cf_model.specs.Callbacks.{drain}
 use Rattle.cf_model.specs.Events.{begun, needs_volume, no_volume, tree_of}
-use Rattle.cf_model.specs.Fits.{fits}
+use Rattle.cf_model.specs.Fits.{Known, fits}
 use Rattle.cf_model.specs.Lawful.{IsStep, Runs}
-use Rattle.cf_model.specs.Messages.{is_latest_round, is_old, is_stale, known_now, message_at, settled_rid}
+use Rattle.cf_model.specs.Messages.{act_on, entry_live, is_latest_round, is_old, is_stale, known_now, message_at, settled_rid}
 use Rattle.cf_model.specs.Missing.{View, Wait}
 use Rattle.cf_model.specs.Numbers.{same_key}
-use Rattle.cf_model.specs.Passes.{deliver_frame, deliver_now, deliver_reply, deliver_unless, unless_down}
+use Rattle.cf_model.specs.Passes.{deliver_frame, deliver_now, deliver_reply, deliver_unless, showing, unless_down}
 use Rattle.cf_model.specs.PushReplies.{is_new_entry}
 use Rattle.cf_model.specs.Requests.{Deed, Live, Waiting, aged, live_of}
 use Rattle.cf_model.specs.State.{On, Power, State, book_now, start}
@@ -35,15 +43,20 @@ use Rattle.cf_model.specs.Store.{Held}
 use Rattle.cf_model.specs.Trees.{Ends, Stops}
 use Rattle.cf_model.specs.Words.{is_empty}
 use Rattle.cf_model.proofs.EpochLaws.{started_in_epoch}
-use Rattle.cf_model_laws.specs.Invariant.{All}
-use Rattle.cf_model_laws.specs.Premises.{IsFresh}
+use Rattle.cf_model_laws.specs.Invariant.{All, Invariant, IsMessageRight, IsSound, TellsBytes, message_in}
+use Rattle.cf_model_laws.specs.Premises.{IsFair, IsFresh}
+use Rattle.cf_model_laws.proofs.ContentLaws.{run_sound}
 use Rattle.cf_model_laws.proofs.Gathered.{all_append, all_found, all_map, all_weaker}
+use Rattle.cf_model_laws.proofs.Leading.{Leads, leads_any, leads_bind}
 use Rattle.cf_model_laws.proofs.OutboxFacts.{Boxing, BoxingRuns}
 use Rattle.cf_model_laws.proofs.OutboxRuns.{run_holds}
 use Rattle.cf_model_laws.proofs.OwnAsks.{kept_all}
+use Rattle.cf_model_laws.proofs.PassesGuarded.{one_message}
 use Rattle.cf_model_laws.proofs.RightItems.{no_way, no_way_back}
-use Rattle.cf_model_headline.specs.Reports.{Report}
-use Rattle.cf_model_headline.specs.Stale.{EarlierIsStale, IsOfEarlier}
+use Rattle.cf_model_headline.specs.Reports.{OfEach, Report}
+use Rattle.cf_model_headline.specs.Stale.{Delivers, IsLate, IsNotDone, LateIsStale, NotDoneIsTaken}
+use Rattle.cf_model_headline.proofs.ReadsAtOnceLaws.{led_ends}
+use Rattle.cf_model_headline.proofs.ReadsLaws.{fair_before}
 use Rattle.cf_model_headline.proofs.StepCases.{IsCase, IsOver, step_case}
 
 -- each live ask is of the epoch of the waits
@@ -104,24 +117,27 @@ apart_eq a b h = by (a == b) refl where
   by false e = refl
   by true e = absurd (same (eqb-true a b e))
 
-old_one : (s : State) (r : Reply) → s.filter.waiting.epoch ≡ s.filter.volume.epoch → All (λ a. OfEpoch s.filter.waiting.epoch a.ask) s.filter.waiting.asks → IsOfEarlier s.filter.volume.epoch r → is_old s r ≡ true
+old_one : (s : State) (r : Reply) → s.filter.waiting.epoch ≡ s.filter.volume.epoch → All (λ a. OfEpoch s.filter.waiting.epoch a.ask) s.filter.waiting.asks → IsLate s r → is_old s r ≡ true
 old_one s r same asks h = by r h where
   none : (key : Key) → key.epoch < s.filter.volume.epoch → not (is_some (live_of s.filter.waiting.asks key)) ≡ true
   none key less = ap (λ (o : Option Live). not (is_some o)) (none_live s.filter.waiting.epoch s.filter.waiting.asks key asks (subst (λ (e : ℕ). key.epoch < e) (sym same) less))
+
+  gone : (token : Token) → entry_live s token ≡ None → not (is_some (entry_live s token)) ≡ true
+  gone token k = ap (λ (o : Option QueueEntry). not (is_some o)) k
 
   or_left : (a b : Bool) → a ≡ true → (a || b) ≡ true
   or_left true b k = refl
   or_left false b k = no_way k
 
-  by : (r : Reply) → IsOfEarlier s.filter.volume.epoch r → is_old s r ≡ true
+  by : (r : Reply) → IsLate s r → is_old s r ≡ true
   by (reply.Feed round clock es) less = rw (apart_eq round.0.epoch s.filter.volume.epoch less) refl
   by (reply.Listing key es) less = or_left (not (is_some (live_of s.filter.waiting.asks key))) (list_any is_new_entry (book_now s).entries) (none key less)
   by (reply.Bytes key start bytes) less = none key less
   by (reply.Missing key) less = none key less
   by (reply.Gone key) less = none key less
-  by (reply.Done token rid version) less = absurd less
-  by (reply.Void token) less = absurd less
-  by (reply.Refused token w version) less = absurd less
+  by (reply.Done token rid version) less = gone token less
+  by (reply.Void token) less = gone token less
+  by (reply.Refused token w version) less = gone token less
 
 -- so it is refused
 
@@ -141,8 +157,8 @@ never_stops s r (Some (frame.Request p)) t old e = by (is_stale p r s) (or_right
 never_stops s r (Some (frame.Reply answers other)) t old e = e
 never_stops s r None t old e = e
 
-pub earlier_is_stale : (m : Mode) (remote : Held) (clusters : ℕ) (before : Report) (s : State) (e : Event) (a : Answer) (t : State) → IsFresh remote → Runs m (start m remote clusters) before s → IsStep m s e a t → EarlierIsStale s e a
-earlier_is_stale m remote clusters before s e a t fresh runs is number answers r same sent less on linked =
+pub late_is_stale : (m : Mode) (remote : Held) (clusters : ℕ) (before : Report) (s : State) (e : Event) (a : Answer) (t : State) → IsFresh remote → Runs m (start m remote clusters) before s → IsStep m s e a t → LateIsStale s e a
+late_is_stale m remote clusters before s e a t fresh runs is r (number, answers, same, sent, on, linked) less =
     by (step_case m s (event.Engine (engine.Deliver number)) a t (subst (λ (x : Event). IsStep m s x a t) same is)) where
       asks : All (λ l. OfEpoch s.filter.waiting.epoch l.ask) s.filter.waiting.asks
       asks = run_holds InEpoch epoch_runs m remote clusters before s runs fresh
@@ -167,4 +183,119 @@ earlier_is_stale m remote clusters before s e a t fresh runs is number answers r
 
       by : IsCase s (event.Engine (engine.Deliver number)) (t, a) → a.shown ≡ shown.Refused code.Stale
       by (inl h) = nothing h.0 h.1
+      by (inr h) = over h.1
+
+-- a reply that an upload was not done fits its request
+
+right_now : (a : Bool) → a ≡ true → not a ≡ false
+right_now true h = refl
+right_now false h = no_way h
+
+fits_void : (ks : List Known) (st : Rid) (held : Held) (q : Request) (token : Token) → TellsBytes held q (reply.Void token) → fits ks st q (reply.Void token) ≡ true
+fits_void ks st held (request.Feed round after) token h = absurd h
+fits_void ks st held (request.List key rid) token h = absurd h
+fits_void ks st held (request.Fetch key rid version start len) token h = absurd h
+fits_void ks st held (request.Put t rid expect parent name bytes) token h = h
+fits_void ks st held (request.MakeDir t parent name) token h = h
+fits_void ks st held (request.Move t rid parent name) token h = h
+fits_void ks st held (request.Remove t rid expect) token h = h
+fits_void ks st held (request.Settle t) token h = h
+fits_void ks st held (request.Keep t count) token h = h
+
+fits_refused : (ks : List Known) (st : Rid) (held : Held) (q : Request) (token : Token) (w : Why) (version : Version) → TellsBytes held q (reply.Refused token w version) → fits ks st q (reply.Refused token w version) ≡ true
+fits_refused ks st held (request.Feed round after) token w version h = absurd h
+fits_refused ks st held (request.List key rid) token w version h = absurd h
+fits_refused ks st held (request.Fetch key rid v start len) token w version h = absurd h
+fits_refused ks st held (request.Put t rid expect parent name bytes) token w version h = h
+fits_refused ks st held (request.MakeDir t parent name) token w version h = h
+fits_refused ks st held (request.Move t rid parent name) token w version h = h
+fits_refused ks st held (request.Remove t rid expect) token w version h = h
+fits_refused ks st held (request.Settle t) token w version h = h
+fits_refused ks st held (request.Keep t count) token w version h = h
+
+is_there : (o : Option QueueEntry) → o ≢ None → is_some o ≡ true
+is_there None h = absurd (h refl)
+is_there (Some e) h = refl
+
+-- so nothing of it is stale
+not_stale : (s : State) (held : Held) (q : Request) (r : Reply) → TellsBytes held q r → IsNotDone s r → is_stale q r s ≡ false
+not_stale s held q (reply.Void token) tells live = ap (λ (b : Bool). b || not (is_some (entry_live s token))) (right_now (fits (known_now s) (settled_rid s q) q (reply.Void token)) (fits_void (known_now s) (settled_rid s q) held q token tells)) ∙ right_now (is_some (entry_live s token)) (is_there (entry_live s token) live)
+not_stale s held q (reply.Refused token w version) tells live = ap (λ (b : Bool). b || not (is_some (entry_live s token))) (right_now (fits (known_now s) (settled_rid s q) q (reply.Refused token w version)) (fits_refused (known_now s) (settled_rid s q) held q token w version tells)) ∙ right_now (is_some (entry_live s token)) (is_there (entry_live s token) live)
+not_stale s held q (reply.Feed round clock es) tells live = absurd live
+not_stale s held q (reply.Listing key es) tells live = absurd live
+not_stale s held q (reply.Bytes key start bytes) tells live = absurd live
+not_stale s held q (reply.Missing key) tells live = absurd live
+not_stale s held q (reply.Gone key) tells live = absurd live
+not_stale s held q (reply.Done token rid version) tells live = absurd live
+
+-- and it is taken
+
+abbrev Any : {S : Type 0} → S → Type 0
+Any s = Unit {0}
+
+abbrev IsDone : Shown → State → Type 0
+IsDone q t = q ≡ shown.Done
+
+takes : (r : Reply) (s : State) → Leads Any IsDone (deliver_unless r false s)
+takes r s =
+    leads_bind Any (λ u t. Unit {0}) IsDone (act_on r (showing s)) (λ _ t. then_do drain (ret shown.Done) t)
+    (leads_any (λ u t. Unit {0}) (act_on r (showing s)) (λ u t. tt))
+    (λ u t j. leads_bind Any (λ v w. Unit {0}) IsDone (drain t) (λ _ w. ret shown.Done w) (leads_any (λ v w. Unit {0}) (drain t) (λ v w. tt)) (λ v w k. refl))
+
+answers_taken : (s : State) (held : Held) (r : Reply) (q : Request) (p : Shown) (t : State) → TellsBytes held q r → IsNotDone s r → Ends (deliver_reply r (Some (frame.Request q)) s) p t → p ≡ shown.Done
+answers_taken s held r q p t tells live e = by (is_stale q r s) (not_stale s held q r tells live) e where
+  by : (b : Bool) → b ≡ false → Ends (deliver_unless r b s) p t → p ≡ shown.Done
+  by true z k = no_way (sym z)
+  by false z k = led_ends IsDone (deliver_unless r false s) p t (takes r s) k
+
+-- the request that a reply answers
+asked_by : (s : State) (m answers : ℕ) (r : Reply) → IsSound s.link s.volatile.tokens s.filter → message_in s.link.messages m ≡ Some (frame.Reply answers r) → (q : Request) × (message_in s.link.messages answers ≡ Some (frame.Request q)) × TellsBytes s.link.remote q r
+asked_by s m answers r sound at =
+    let k : IsMessageRight s.link.remote s.link.messages s.filter.volume.epoch s.filter.waiting.key_count s.volatile.tokens (Some (frame.Reply answers r)) =
+    one_message (IsMessageRight s.link.remote s.link.messages s.filter.volume.epoch s.filter.waiting.key_count s.volatile.tokens) s.link.messages m (frame.Reply answers r) sound.messages at in
+    (k.1, k.2, k.3)
+
+message_same : (s : State) (m : ℕ) → message_at s m ≡ message_in s.link.messages m
+message_same s zero = refl
+message_same s (suc n) = refl
+
+pub not_done_is_taken : (remote : Held) (clusters : ℕ) (report : Report) (last : State) → IsFresh remote → IsFair last.link → Runs mode.Replay (start mode.Replay remote clusters) report last
+    → OfEach mode.Replay remote clusters report last (λ before s e a t. NotDoneIsTaken s e a)
+not_done_is_taken remote clusters report last fresh fair all before rest s e a t parts runs is on r (number, answers, same, sent, power, linked) live stale =
+    wrong (by (step_case mode.Replay s (event.Engine (engine.Deliver number)) a t (subst (λ (x : Event). IsStep mode.Replay s x a t) same is)) stale) where
+      sound : Invariant s
+      sound = run_sound remote clusters before s runs fresh
+
+      wrong : ⊥ → ⊥
+      wrong z = z
+
+      request_of : (q : Request) × (message_in s.link.messages answers ≡ Some (frame.Request q)) × TellsBytes s.link.remote q r
+      request_of = asked_by s number answers r (sound.1 (fair_before s ((e, a) ∷ rest) last sound (t, is, on) fair)) (sym (message_same s number) ∙ sent)
+
+      asked : message_at s answers ≡ Some (frame.Request request_of.0)
+      asked = message_same s answers ∙ request_of.1
+
+      done : a.shown ≡ shown.Done → a.shown ≡ shown.Refused code.Stale → ⊥
+      done d z = let y : ◌≡◌ {A = Shown} shown.Done (shown.Refused code.Stale) = sym d ∙ z in cc
+
+      nothing : (c : Code) → no_volume true s.power ≡ Some c → ⊥
+      nothing c z = let y : ◌≡◌ {A = Option Code} None (Some c) = sym (ap (λ (p : Power). no_volume true p) power) ∙ z in cc
+
+      ends : (b : Bool) → b ≡ true → (q : Shown) (u : State) → Ends (unless_down (deliver_now number) (not b) (begun s)) q u → q ≡ shown.Done
+      ends false z q u k = no_way z
+      ends true z q u k =
+          answers_taken (begun s) s.link.remote r request_of.0 q u request_of.2 live
+          (subst (λ (f : Option Frame). Ends (deliver_reply r f (begun s)) q u) asked (subst (λ (h : Option Frame). Ends (deliver_frame h (begun s)) q u) sent k))
+
+      other : a.shown ≡ shown.Refused code.Device → a.shown ≡ shown.Refused code.Stale → ⊥
+      other d z = let y : ◌≡◌ {A = Shown} (shown.Refused code.Device) (shown.Refused code.Stale) = sym d ∙ z in differ y where
+        differ : ◌≡◌ {A = Shown} (shown.Refused code.Device) (shown.Refused code.Stale) → ⊥
+        differ y = let w : ◌≡◌ {A = Code} code.Device code.Stale = cc in cc
+
+      over : IsOver s (event.Engine (engine.Deliver number)) (t, a) → a.shown ≡ shown.Refused code.Stale → ⊥
+      over (inl h) = done (ap (λ (x : Answer). x.shown) h.2 ∙ ends s.filter.connected linked h.0 t h.1)
+      over (inr h) = other (ap (λ (x : Answer). x.shown) h.3)
+
+      by : IsCase s (event.Engine (engine.Deliver number)) (t, a) → a.shown ≡ shown.Refused code.Stale → ⊥
+      by (inl h) = λ z. nothing h.0 h.1
       by (inr h) = over h.1

@@ -17,7 +17,7 @@ use Rattle.cf_model_headline.specs.Reads.{DataIsHeld, DataIsRight, ReadsAnswered
 use Rattle.cf_model_headline.specs.Refusals.{RefusalsLeave}
 use Rattle.cf_model_headline.specs.Reports.{OfEach, Report, standing}
 use Rattle.cf_model_headline.specs.Resumed.{ResumesRight}
-use Rattle.cf_model_headline.specs.Stale.{EarlierIsStale}
+use Rattle.cf_model_headline.specs.Stale.{LateIsStale, NotDoneIsTaken}
 use Rattle.cf_model_headline.specs.Tokens.{OneVersionEach}
 
 -- a restart finds a volume
@@ -30,7 +30,7 @@ pub record Promises (m : Mode) (remote : Held) (clusters : ℕ) (report : Report
   pub restarts : ResumesRight report
   pub opens : OfEach m remote clusters report last (λ before s e a t. FindsVolume e a)
   pub refusals : OfEach m remote clusters report last (λ before s e a t. RefusalsLeave s e a t)
-  pub stale : OfEach m remote clusters report last (λ before s e a t. EarlierIsStale s e a)
+  pub stale : OfEach m remote clusters report last (λ before s e a t. LateIsStale s e a)
   pub held_data : OfEach m remote clusters report last (λ before s e a t. DataIsHeld before s a)
   pub in_sync : InSyncByMark report
   pub dehydrations : OfEach m remote clusters report last (λ before s e a t. DehydratesExactly s e a)
@@ -43,6 +43,7 @@ pub record Headline (remote : Held) (clusters : ℕ) (report : Report) (last : S
   pub data_lines : OfEach mode.Replay remote clusters report last (λ before s e a t. DataIsRight last.link.remote before s a)
   pub reads : OfEach mode.Replay remote clusters report last (λ before s e a t. ReadsAtOnce last.link.remote s e a)
   pub marks : MarksGiveNumbers report
+  pub not_done : OfEach mode.Replay remote clusters report last (λ before s e a t. NotDoneIsTaken s e a)
   pub flushed : FlushedIsKept report last.link.remote
 
 -- What it rests on. The remote that was handed in had recorded no token, and its items were numbered from 1. So far it replied

@@ -1,6 +1,6 @@
 -- Each changed report fails its sentence.
 use Rattle.std.proofs.Common.{◌≡◌, ◌⊎◌, ◌<◌, ◌≤◌, ℕ, Bool, true, false, List, [], ◌∷◌, ◌++◌, append-nil, refl, sym, ◌∙◌, ap, subst, inl, inr, arith, eq-eqb, take, drop, length}
-use Rattle.std.specs.Prelude.{Option, Some, None, Ok, not, slice_get, slice_range, codes, ◌==◌, ◌&&◌, ◌||◌}
+use Rattle.std.specs.Prelude.{Option, Some, None, Ok, not, slice_get, slice_range, codes, is_some, ◌==◌, ◌&&◌, ◌||◌}
 use Rattle.std.specs.List.{list_any}
 use Rattle.std.proofs.lemmas.List.{append_assoc}
 use Rattle.cf_base.specs.declared.answers.Answer.{Answer}
@@ -18,20 +18,21 @@ use Rattle.cf_base.specs.declared.items.Kind.TheVariants as kind
 use Rattle.cf_base.specs.declared.items.Pin.TheVariants as pin
 use Rattle.cf_base.specs.declared.messages.Reply.{Reply}
 use Rattle.cf_base.specs.declared.messages.Reply.TheVariants as reply
+use Rattle.cf_base.specs.declared.messages.Why.TheVariants as why
 use Rattle.cf_base.specs.declared.notices.Frame.TheVariants as frame
 use Rattle.cf_base.specs.declared.notices.Notice.{Notice}
 use Rattle.cf_base.specs.declared.notices.Notice.TheVariants as notice
 use Rattle.cf_base.specs.declared.waits.End.{End}
 use Rattle.cf_base.specs.declared.waits.End.TheVariants as end
 use Rattle.cf_base.specs.declared.waits.WaitKind.TheVariants as wait_kind
-use Rattle.cf_model.specs.Books.{no_book, opened_of}
+use Rattle.cf_model.specs.Books.{QueueEntry, no_book, opened_of}
 use Rattle.cf_model.specs.Contents.{base_named}
 use Rattle.cf_model.specs.Identities.{content, identity_of}
 use Rattle.cf_model.specs.Items.{Item, item_of, root}
 use Rattle.cf_model.specs.Kept.{heirs_of}
 use Rattle.cf_model.specs.Logs.{items_of}
 use Rattle.cf_model.specs.LookUp.{find_path}
-use Rattle.cf_model.specs.Messages.{message_at}
+use Rattle.cf_model.specs.Messages.{entry_live, message_at}
 use Rattle.cf_model.specs.Missing.{Wait, span_of}
 use Rattle.cf_model.specs.Numbers.{above}
 use Rattle.cf_model.specs.Settling.{bytes_at}
@@ -49,9 +50,9 @@ use Rattle.cf_model_headline.specs.Reads.{AnswersRead, DataIsHeld, DataIsRight, 
 use Rattle.cf_model_headline.specs.Refusals.{IsLeft, RefusalsLeave}
 use Rattle.cf_model_headline.specs.Reports.{Report, changes_in, standing}
 use Rattle.cf_model_headline.specs.Resumed.{ResumesRight, flushing}
-use Rattle.cf_model_headline.specs.Stale.{EarlierIsStale}
+use Rattle.cf_model_headline.specs.Stale.{LateIsStale, NotDoneIsTaken}
 use Rattle.cf_model_headline.specs.Tokens.{OneVersionEach}
-use Rattle.cf_model_headline_rows.specs.Changed.{answer_at, arrived, asked, brought, delivered, file_of, found_none, given_wrongly, in_sync, in_use, informed, no_answer, numbered, opened_again, pending, read_wrongly, refused, refused_create, refused_otherwise, resumed_as, second, taken, taken_over, unmarked, unrecorded, until_arrived, usn, written}
+use Rattle.cf_model_headline_rows.specs.Changed.{answer_at, arrived, asked, brought, delivered, file_of, found_none, given_wrongly, in_sync, in_use, informed, no_answer, numbered, opened_again, pending, read_wrongly, refused, refused_create, refused_otherwise, resumed_as, second, taken, taken_over, turned_away, unmarked, unrecorded, until_arrived, uploaded, usn, written}
 use Rattle.cf_model_headline_rows.specs.Scripts.{crash, create_f, dehydrate_a, deliver, from_start, get_a, get_f, info_a, left_by, put_a, sync}
 
 no_truth : false ≡ true → ⊥
@@ -270,13 +271,34 @@ on_so = refl
 linked_so : opened_again.filter.connected ≡ true
 linked_so = refl
 
-pub an_old_reply_taken : EarlierIsStale opened_again (deliver 6) taken → ⊥
-an_old_reply_taken h = wrong (h 6 5 old_reply refl reply_so (subst (λ (e : ℕ). 1 < e) (sym now_so) less) on_so linked_so) where
+pub an_old_reply_taken : LateIsStale opened_again (deliver 6) taken → ⊥
+an_old_reply_taken h = wrong (h old_reply (6, 5, refl, reply_so, on_so, linked_so) (subst (λ (e : ℕ). 1 < e) (sym now_so) less)) where
   less : 1 < 2
   less = omega arith
 
   wrong : ◌≡◌ {A = Shown} shown.Done (shown.Refused code.Stale) → ⊥
   wrong z = cc
+
+-- the name was taken by another device
+abbrev not_made : Reply
+not_made = reply.Refused (record { 0 = record { epoch = 1; number = 1 } }) why.NameTaken (record { 0 = 0 })
+
+refusal_so : message_at uploaded 3 ≡ Some (frame.Reply 2 not_made)
+refusal_so = refl
+
+waited_for : is_some (entry_live uploaded (record { 0 = record { epoch = 1; number = 1 } })) ≡ true
+waited_for = refl
+
+up_so : uploaded.power ≡ On
+up_so = refl
+
+joined_so : uploaded.filter.connected ≡ true
+joined_so = refl
+
+pub an_upload_turned_away : NotDoneIsTaken uploaded (deliver 3) turned_away → ⊥
+an_upload_turned_away h = h not_made (3, 2, refl, refusal_so, up_so, joined_so) live refl where
+  live : ◌≡◌ {A = Option QueueEntry} (entry_live uploaded (record { 0 = record { epoch = 1; number = 1 } })) None → ⊥
+  live e = no_truth (sym (ap (λ (o : Option QueueEntry). is_some o) e) ∙ waited_for)
 
 pub another_byte_read : ReadsAtOnce written.link.remote written get_f read_wrongly → ⊥
 another_byte_read h = wrong (h (file_of written) (span_of 0 1) (refl, refl) refl refl refl (λ e. let y : ◌≡◌ {A = Shown} (shown.Ended (end.Data (codes "b"))) (shown.Refused code.Device) = e in cc)) where

@@ -20,7 +20,7 @@ use Rattle.cf_model.specs.State.{State, items_now}
 use Rattle.cf_model.specs.Store.{Held}
 use Rattle.cf_model.specs.Words.{part}
 use Rattle.cf_model_headline.specs.Reports.{Report}
-use Rattle.cf_model_headline_rows.specs.Scripts.{arrive, count_blocks, crash, create_f, deliver, flush, get_a, get_f, info_a, left_by, open_a, open_f, put_a, queue, reported, restart, sync, write_a}
+use Rattle.cf_model_headline_rows.specs.Scripts.{arrive, count_blocks, crash, create_f, deliver, flush, get_a, get_f, info_a, left_by, open_a, open_f, put_a, put_f, queue, reported, restart, sync, write_a}
 
 -- ways to change a report
 
@@ -139,6 +139,13 @@ opened_again = left_by (put_a ∷ sync ∷ queue ∷ get_a ∷ arrive 5 ∷ cras
 
 abbrev pub taken : Answer
 taken = no_answer
+
+-- a reply that an upload on its way was not done is refused
+abbrev pub uploaded : State
+uploaded = left_by (create_f ∷ put_f ∷ queue ∷ sync ∷ arrive 2 ∷ [])
+
+abbrev pub turned_away : Answer
+turned_away = with_shown (shown.Refused code.Stale) no_answer
 
 abbrev pub asked : State
 asked = left_by (put_a ∷ sync ∷ queue ∷ [])

@@ -55,6 +55,10 @@ restart = event.Device device.Restart
 abbrev pub put_a : Event
 put_a = event.Peer (peer.Put (codes "/a") (codes "hi"))
 
+-- another device makes a file of the name that one here has
+abbrev pub put_f : Event
+put_f = event.Peer (peer.Put (codes "/f") (codes "hi"))
+
 abbrev pub sync : Event
 sync = event.Engine engine.Sync
 

@@ -138,7 +138,7 @@ is_message s (suc n) = refl
 pub arrive_keeps : (P : State → Type 0) → Guarded P → (m : ℕ) → Preserves P (arrive m)
 arrive_keeps P closed m = record { keeps = λ s h. arrive_frame_at P closed m (message_at s m) s (is_message s m) h }
 
-one_message : (C : Option Frame → Type 0) (ms : List (Option Frame)) (m : ℕ) (f : Frame) → All C ms → message_in ms m ≡ Some f → C (Some f)
+pub one_message : (C : Option Frame → Type 0) (ms : List (Option Frame)) (m : ℕ) (f : Frame) → All C ms → message_in ms m ≡ Some f → C (Some f)
 one_message C ms zero f h e = cc
 one_message C ms (suc n) f h e = by ms n h e where
   by : (ms : List (Option Frame)) (n : ℕ) → All C ms → part (λ g. g) None (slice_get ms n) ≡ Some f → C (Some f)

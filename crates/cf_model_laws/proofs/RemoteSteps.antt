@@ -18,9 +18,9 @@ use Rattle.cf_model.specs.Store as store
 use Rattle.std.proofs.lemmas.List.{length-append, length-map}
 use Rattle.cf_model.specs.Words.{comes_before, counting, last_of}
 use Rattle.cf_model.proofs.ReplyLaws.{put_names}
-use Rattle.cf_model.proofs.StoreLaws.{recorded-first}
+use Rattle.cf_model.proofs.StoreLaws.{recorded-first, same_key-refl}
 use Rattle.std.proofs.lemmas.Bool.{eqb-true}
-use Rattle.cf_model_laws.specs.Invariant.{All, Carries, HasEntry, TellsBytes, TellsTruth}
+use Rattle.cf_model_laws.specs.Invariant.{All, Carries, HasEntry, IsWithNoToken, IsWithToken, TellsBytes, TellsTruth}
 use Rattle.cf_model_laws.proofs.Gathered.{all_append, all_both, all_filter, all_flat, all_map, all_sorted, all_weaker}
 use Rattle.cf_model_laws.proofs.SoundSettles.{left_true, right_true}
 
@@ -258,9 +258,31 @@ take-itself zero xs = refl
 take-itself (suc n) [] = refl
 take-itself (suc n) (x ∷ xs) = ap (λ (r : List ℕ). x ∷ r) (take-itself n xs)
 
+-- each reply to an upload has its token
+decided_with : (held : Held) (t : Token) (m : Mutation) (o : Option Recorded) → IsWithToken t (mutate held t m o).0
+decided_with held t m (Some (RecordedDone rid version)) = same_key-refl t.0
+decided_with held t m (Some RecordedVoid) = same_key-refl t.0
+decided_with held t m None = by m.refusal where
+  by : (w : Option Why) → IsWithToken t (decide held t m w).0
+  by (Some w) = same_key-refl t.0
+  by None = same_key-refl t.0
+
+settled_with : (held : Held) (t : Token) (o : Option Recorded) → IsWithToken t (store.settle held t o).0
+settled_with held t (Some (RecordedDone rid version)) = same_key-refl t.0
+settled_with held t (Some RecordedVoid) = same_key-refl t.0
+settled_with held t None = same_key-refl t.0
+
+kept_with : (held : Held) (t : Token) (count : ℕ) (o : Option Recorded) → IsWithToken t (keep_last held t count o).0
+kept_with held t count (Some (RecordedDone rid version)) = same_key-refl t.0
+kept_with held t count (Some RecordedVoid) = same_key-refl t.0
+kept_with held t count None = same_key-refl t.0
+
 pub tells_bytes : (held : Held) (q : Request) → TellsBytes held q (remote_step held q).0
 tells_bytes held (request.Feed round after) = tt
-tells_bytes held (request.List key rid) = tt
+tells_bytes held (request.List key rid) = by (is_live_dir held rid) where
+  by : (b : Bool) → IsWithNoToken (cond b (reply.Listing key (listing_of held rid)) (reply.Missing key))
+  by true = tt
+  by false = tt
 tells_bytes held (request.Fetch key rid version start len) = by (is_held held rid version) (bytes_of held rid version) refl where
   one : (bytes : List ℕ) → bytes_of held rid version ≡ Some bytes → (b : Bool) → TellsBytes held (request.Fetch key rid version start len) (cond b (reply.Bytes key start (slice_range bytes start (start + len))) (reply.Missing key))
   one bytes e true = (bytes, e, take-itself (start + len - start) (drop start bytes))
@@ -271,12 +293,12 @@ tells_bytes held (request.Fetch key rid version start len) = by (is_held held ri
   by false None e = tt
   by false (Some bytes) e = tt
   by true (Some bytes) e = one bytes e (nat_le (start + len) (length bytes))
-tells_bytes held (request.Put t rid expect parent name bytes) = tt
-tells_bytes held (request.MakeDir t parent name) = tt
-tells_bytes held (request.Move t rid parent name) = tt
-tells_bytes held (request.Remove t rid expect) = tt
-tells_bytes held (request.Settle t) = tt
-tells_bytes held (request.Keep t count) = tt
+tells_bytes held (request.Put t rid expect parent name bytes) = decided_with held t _ (recorded_at held.tokens t)
+tells_bytes held (request.MakeDir t parent name) = decided_with held t _ (recorded_at held.tokens t)
+tells_bytes held (request.Move t rid parent name) = decided_with held t _ (recorded_at held.tokens t)
+tells_bytes held (request.Remove t rid expect) = decided_with held t _ (recorded_at held.tokens t)
+tells_bytes held (request.Settle t) = settled_with held t (recorded_at held.tokens t)
+tells_bytes held (request.Keep t count) = kept_with held t count (recorded_at held.tokens t)
 
 -- no item is lost
 
@@ -356,21 +378,21 @@ still_true old new (reply.Gone key) x g h = tt
 
 still_at : (old new : Held) (rid : Rid) (version : Version) (a : Reply) → Extends old new → TellsBytes old (request.Fetch (record { epoch = 0; number = 0 }) rid version 0 0) a → TellsBytes new (request.Fetch (record { epoch = 0; number = 0 }) rid version 0 0) a
 still_at old new rid version (reply.Bytes key start bytes) x h = (h.0, x.versions rid version h.0 h.1, h.2)
-still_at old new rid version (reply.Done token r v) x h = tt
+still_at old new rid version (reply.Done token r v) x h = h
 still_at old new rid version (reply.Feed round clock es) x h = tt
 still_at old new rid version (reply.Listing key es) x h = tt
 still_at old new rid version (reply.Missing key) x h = tt
-still_at old new rid version (reply.Void token) x h = tt
-still_at old new rid version (reply.Refused token w v) x h = tt
+still_at old new rid version (reply.Void token) x h = h
+still_at old new rid version (reply.Refused token w v) x h = h
 still_at old new rid version (reply.Gone key) x h = tt
 
 pub still_bytes : (old new : Held) (q : Request) (a : Reply) → Extends old new → TellsBytes old q a → TellsBytes new q a
 still_bytes old new (request.Fetch key rid version start len) a x h = still_at old new rid version a x h
-still_bytes old new (request.Feed round after) a x h = tt
-still_bytes old new (request.List key rid) a x h = tt
-still_bytes old new (request.Put t rid expect parent name bytes) a x h = tt
-still_bytes old new (request.MakeDir t parent name) a x h = tt
-still_bytes old new (request.Move t rid parent name) a x h = tt
-still_bytes old new (request.Remove t rid expect) a x h = tt
-still_bytes old new (request.Settle t) a x h = tt
-still_bytes old new (request.Keep t count) a x h = tt
+still_bytes old new (request.Feed round after) a x h = h
+still_bytes old new (request.List key rid) a x h = h
+still_bytes old new (request.Put t rid expect parent name bytes) a x h = h
+still_bytes old new (request.MakeDir t parent name) a x h = h
+still_bytes old new (request.Move t rid parent name) a x h = h
+still_bytes old new (request.Remove t rid expect) a x h = h
+still_bytes old new (request.Settle t) a x h = h
+still_bytes old new (request.Keep t count) a x h = h

@@ -177,13 +177,35 @@ TellsTruth r _ = Unit {0}
 abbrev pub AreAt : Held → Rid → Version → ℕ → List ℕ → Type 0
 AreAt r rid version at bytes = (b : List ℕ) × (bytes_of r rid version ≡ Some b) × (take (length bytes) (drop at b) ≡ bytes)
 
+-- a reply to an upload, with its token
+abbrev pub IsWithToken : Token → Reply → Type 0
+IsWithToken token (reply.Done other rid version) = same_key token.0 other.0 ≡ true
+IsWithToken token (reply.Void other) = same_key token.0 other.0 ≡ true
+IsWithToken token (reply.Refused other w version) = same_key token.0 other.0 ≡ true
+IsWithToken token _ = ⊥
+
+-- a reply to another request
+abbrev pub IsWithNoToken : Reply → Type 0
+IsWithNoToken (reply.Done token rid version) = ⊥
+IsWithNoToken (reply.Void token) = ⊥
+IsWithNoToken (reply.Refused token w version) = ⊥
+IsWithNoToken _ = Unit {0}
+
 abbrev pub TellsBytesOf : Held → Rid → Version → Reply → Type 0
 TellsBytesOf r rid version (reply.Bytes key at bytes) = AreAt r rid version at bytes
-TellsBytesOf r rid version _ = Unit {0}
+TellsBytesOf r rid version q = IsWithNoToken q
 
+-- it is a reply to the request: it has the bytes or the token that this names
 abbrev pub TellsBytes : Held → Request → Reply → Type 0
 TellsBytes r (request.Fetch key rid version start len) q = TellsBytesOf r rid version q
-TellsBytes r _ q = Unit {0}
+TellsBytes r (request.Feed round after) q = IsWithNoToken q
+TellsBytes r (request.List key rid) q = IsWithNoToken q
+TellsBytes r (request.Put token rid expect parent name bytes) q = IsWithToken token q
+TellsBytes r (request.MakeDir token parent name) q = IsWithToken token q
+TellsBytes r (request.Move token rid parent name) q = IsWithToken token q
+TellsBytes r (request.Remove token rid expect) q = IsWithToken token q
+TellsBytes r (request.Settle token) q = IsWithToken token q
+TellsBytes r (request.Keep token count) q = IsWithToken token q
 
 -- the numbers that it names were given
 abbrev pub IsGivenIn : ℕ → ℕ → ℕ → Request → Type 0
