@@ -1,2 +1,4 @@
+pub mod Entered
 pub mod Operated
+pub mod PathRecords
 pub mod StaleReplies

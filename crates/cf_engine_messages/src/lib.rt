@@ -5,10 +5,12 @@
 //! whole state, as cf_engine_steps has it.
 #![tactic(auto)]
 
+mod listings;
 mod operations;
 mod refusals;
 mod staleness;
 
+pub use listings::take_listing;
 pub use operations::take_bytes;
 pub use refusals::{take_gone, take_missing};
 pub use staleness::is_stale;

@@ -88,12 +88,17 @@ paths_are id es = λ j. λ b. paths_at id es b j
 
 -- entries
 
-listing_is : (key own : Key) (x : Found) (es : List Entry) (z : State) → Knows own x z.filter → give_entries key (map new_item_of (left_of x.local es)) (paths_from x.next.0 (left_of x.local es)) z ≡ take_listing key es z
-listing_is key own x es z k =
-    let is : left_of x.local es ≡ filter (is_new (items_now z)) es = left_alike x.local (known_in (items_now z)) es k.local ∙ sym (same_new (items_now z) es) in
-    ap (λ (n : ItemId). give_entries key (map new_item_of (left_of x.local es)) (paths_from n.0 (left_of x.local es)) z) k.next
+-- by items that are known alike, and the next id
+pub listing_by : (key : Key) (local : List Known) (next : ItemId) (es : List Entry) (z : State) → AreAlike local (known_in (items_now z)) → next ≡ z.filter.volume.next_item
+    → give_entries key (map new_item_of (left_of local es)) (paths_from next.0 (left_of local es)) z ≡ take_listing key es z
+listing_by key local next es z alike first =
+    let is : left_of local es ≡ filter (is_new (items_now z)) es = left_alike local (known_in (items_now z)) es alike ∙ sym (same_new (items_now z) es) in
+    ap (λ (n : ItemId). give_entries key (map new_item_of (left_of local es)) (paths_from n.0 (left_of local es)) z) first
     ∙ ap (λ (l : List Entry). give_entries key (map new_item_of l) (paths_from z.filter.volume.next_item.0 l) z) is
     ∙ ap (λ (f : Book → Book). seq (in_filter (execute_with f (operation.Entries key (map new_item_of (filter (is_new (items_now z)) es)) true))) (after_listing key) z) (sym (paths_are z.filter.volume.next_item.0 (filter (is_new (items_now z)) es)))
+
+listing_is : (key own : Key) (x : Found) (es : List Entry) (z : State) → Knows own x z.filter → give_entries key (map new_item_of (left_of x.local es)) (paths_from x.next.0 (left_of x.local es)) z ≡ take_listing key es z
+listing_is key own x es z k = listing_by key x.local x.next es z k.local k.next
 
 -- whether a reply fits
 
