@@ -1,11 +1,10 @@
 -- The wait of a read that was answered `pending`: as long as it is live it is for the file and the span that were asked for.
-use Rattle.std.proofs.Common.{◌≡◌, ◌⊎◌, ◌<◌, ◌≤◌, ◌+◌, ℕ, suc, Bool, true, false, List, [], ◌∷◌, ◌++◌, append_assoc, refl, sym, ◌∙◌, ap, subst, inl, inr, arith, length, take}
-use Rattle.std.specs.Prelude.{Option, Some, None, Result, Ok, Err, filter}
+use Rattle.std.proofs.Common.{◌≡◌, ◌<◌, ◌≤◌, ◌+◌, ℕ, suc, Bool, true, false, List, [], ◌∷◌, ◌++◌, refl, sym, ◌∙◌, ap, subst, inl, inr, arith, length}
+use Rattle.std.specs.Prelude.{Option, Some, None, Result, Ok}
 use Rattle.cf_base.specs.declared.answers.Answer.{Answer}
 use Rattle.cf_base.specs.declared.answers.Shown.{Shown}
 use Rattle.cf_base.specs.declared.answers.Shown.TheVariants as shown
 use Rattle.cf_base.specs.declared.calls.Call.TheVariants as call
-use Rattle.cf_base.specs.declared.changes.Change.{Change}
 use Rattle.cf_base.specs.declared.codes.Code.{Code}
 use Rattle.cf_base.specs.declared.codes.Code.TheVariants as code
 use Rattle.cf_base.specs.declared.events.Event.{Event}
@@ -13,17 +12,15 @@ use Rattle.cf_base.specs.declared.events.Event.TheVariants as event
 use Rattle.cf_base.specs.declared.ids.Handle.{Handle}
 use Rattle.cf_base.specs.declared.ids.ItemId.{ItemId}
 use Rattle.cf_base.specs.declared.ids.Key.{Key}
-use Rattle.cf_base.specs.declared.ids.Usn.{Usn}
 use Rattle.cf_base.specs.declared.ids.WaitId.{WaitId}
-use Rattle.cf_base.specs.declared.notices.Notice.{Notice}
 use Rattle.cf_base.specs.declared.policies.Mode.TheVariants as mode
 use Rattle.cf_base.specs.declared.spans.Span.{Span}
 use Rattle.cf_base.specs.declared.waits.End.{End}
 use Rattle.cf_base.specs.declared.waits.WaitKind.TheVariants as wait_kind
-use Rattle.cf_model.specs.Arrows.{Arrow, Preserves, choose, reading, unless}
+use Rattle.cf_model.specs.Arrows.{Arrow, choose, reading, unless}
 use Rattle.cf_model.specs.Callbacks.{calling, drain, end_or_pending, finish, finish_call, result_of}
 use Rattle.cf_model.specs.Events.{begun, tree_of}
-use Rattle.cf_model.specs.Items.{Item, item_of}
+use Rattle.cf_model.specs.Items.{Item}
 use Rattle.cf_model.specs.Lawful.{IsStep, Runs}
 use Rattle.cf_model.specs.LookUp.{find_path}
 use Rattle.cf_model.specs.Missing.{Wait, no_span, span_of}
@@ -32,27 +29,26 @@ use Rattle.cf_model.specs.Requests.{also_background, wait_after}
 use Rattle.cf_model.specs.State.{Filter, Link, Open, State, in_filter, items_now, start, with_filter}
 use Rattle.cf_model.specs.Settling.{tell}
 use Rattle.cf_model.specs.Store.{Held}
-use Rattle.cf_model.specs.Trees.{Asked, Ends, Fork, Keeps, Ret, Step, Tree, mapped}
+use Rattle.cf_model.specs.Trees.{Asked, Fork, Keeps, Ret, Step, Tree}
 use Rattle.cf_model.specs.Waits as waits
 use Rattle.cf_model.specs.Waits.{Need, answer_or_begin, begin_tests, beside, but_directory, get, get_item, is_met_now, need, on_ok, on_open, opened_by, own_id, plain_need, read, read_item, read_need, refused, wait_for, wants_rest, with_own}
 use Rattle.cf_model.specs.Words.{first_of, when}
-use Rattle.cf_model_laws.specs.GivenOnce.{IsGiven, Waits, WasGiven}
+use Rattle.cf_model_laws.specs.GivenOnce.{WasGiven}
 use Rattle.cf_model_laws.specs.Invariant.{All, Invariant, IsSound}
 use Rattle.cf_model_laws.specs.Premises.{IsFair, IsFresh}
-use Rattle.cf_model_laws.proofs.BesideGuarded.{Beside, BesideRuns, Fact, Holds, HoldsIn, guarded_beside, tell_beside, whole_beside}
+use Rattle.cf_model_laws.proofs.BesideGuarded.{BesideRuns, Fact, Holds, HoldsIn, guarded_beside, tell_beside, whole_beside}
 use Rattle.cf_model_laws.proofs.CallbacksGuarded.{drain_keeps}
 use Rattle.cf_model_laws.proofs.ContentLaws.{run_sound, sound_whole, start_sound}
 use Rattle.cf_model_laws.proofs.EventsGuarded.{runs_keep}
 use Rattle.cf_model.proofs.TraceLaws.{runs_join}
 use Rattle.cf_model_laws.proofs.FoundItems.{found_id}
 use Rattle.cf_model_laws.proofs.Gathered.{all_append, all_filter, all_weaker}
-use Rattle.cf_model_laws.proofs.Leading.{Leads, leads_any, leads_bind, leads_kept, leads_mapped}
+use Rattle.cf_model_laws.proofs.Leading.{Leads, leads_any, leads_bind, leads_mapped}
 use Rattle.cf_model_laws.proofs.Plainly.{kept_with}
-use Rattle.cf_model_laws.proofs.RightItems.{no_way}
 use Rattle.cf_model_laws.proofs.SoundSettles.{same_item}
 use Rattle.cf_model_laws.proofs.SoundStates.{sound_guarded}
 use Rattle.cf_model_laws.proofs.WaitsGuarded as waits_keep
-use Rattle.cf_model_headline.specs.Reads.{IsIn, IsSpanOf, Reads, ReadsAnswered, data_shown}
+use Rattle.cf_model_headline.specs.Reads.{IsIn, IsSpanOf, Reads, ReadsAnswered}
 use Rattle.cf_model_headline.specs.Reports.{Report, changes_in, standing}
 use Rattle.cf_model_headline.proofs.ReadsAtOnceLaws.{led_ends}
 use Rattle.cf_model_headline.proofs.ReadsLaws.{data_in_event, fair_before}

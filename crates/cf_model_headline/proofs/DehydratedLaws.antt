@@ -1,5 +1,5 @@
 -- Which dehydrations are refused, by the report.
-use Rattle.std.proofs.Common.{◌≡◌, ℕ, Bool, true, false, List, [], ◌∷◌, refl, sym, ◌∙◌, ap, subst}
+use Rattle.std.proofs.Common.{◌≡◌, ℕ, Bool, true, false, List, [], ◌∷◌, refl, ◌∙◌, ap, subst}
 use Rattle.std.specs.Prelude.{Option, Some, None, not, ◌≢◌}
 use Rattle.cf_base.specs.declared.answers.Answer.{Answer}
 use Rattle.cf_base.specs.declared.answers.Shown.{Shown}
@@ -14,7 +14,7 @@ use Rattle.cf_model.specs.Lawful.{IsStep}
 use Rattle.cf_model.specs.State.{State}
 use Rattle.cf_model.specs.Verdicts.{is_pinned}
 use Rattle.cf_model.specs.Words.{first_of}
-use Rattle.cf_model_laws.specs.Dehydrations.{IsAllowed, IsRefusedExactly, dehydrating, is_cause, why_kept}
+use Rattle.cf_model_laws.specs.Dehydrations.{IsRefusedExactly, is_cause, why_kept}
 use Rattle.cf_model_laws.proofs.DehydrationLaws.{refused_exactly}
 use Rattle.cf_model_laws.proofs.RightItems.{no_way, no_way_back}
 use Rattle.cf_model_headline.specs.Dehydrated.{DehydratesExactly, cause_shown}

@@ -1,6 +1,5 @@
 -- All that a user may rely on.
-use Rattle.std.proofs.Common.{◌≡◌, ◌⊎◌, ℕ, List, refl, sym, ◌∙◌, ap, subst, inl, inr}
-use Rattle.std.specs.Prelude.{◌≢◌}
+use Rattle.std.proofs.Common.{◌≡◌, ℕ, sym, ◌∙◌, ap, subst, inl, inr}
 use Rattle.cf_base.specs.declared.answers.Answer.{Answer}
 use Rattle.cf_base.specs.declared.answers.Shown.{Shown}
 use Rattle.cf_base.specs.declared.answers.Shown.TheVariants as shown
@@ -9,13 +8,12 @@ use Rattle.cf_base.specs.declared.codes.Code.TheVariants as code
 use Rattle.cf_base.specs.declared.events.Event.{Event}
 use Rattle.cf_base.specs.declared.policies.Mode.{Mode}
 use Rattle.cf_base.specs.declared.policies.Mode.TheVariants as mode
-use Rattle.cf_model.specs.Events.{broken_by}
 use Rattle.cf_model.specs.Lawful.{IsStep, Runs}
 use Rattle.cf_model.specs.State.{State, start}
 use Rattle.cf_model.specs.Store.{Held}
 use Rattle.cf_model.proofs.ResumedLaws.{restart_finds}
 use Rattle.cf_model_laws.specs.Openings.{restarting}
-use Rattle.cf_model_laws.specs.Premises.{IsFair, IsFresh}
+use Rattle.cf_model_laws.specs.Premises.{IsFresh}
 use Rattle.cf_model_headline.specs.Headline.{FindsVolume, Headline, Premises, Promises}
 use Rattle.cf_model_headline.specs.Reports.{Report}
 use Rattle.cf_model_headline.proofs.AskedReads.{reads_answered}

@@ -9,12 +9,10 @@ use Rattle.cf_base.specs.declared.notices.Notice.{Notice}
 use Rattle.cf_base.specs.declared.notices.Notice.TheVariants as notice
 use Rattle.cf_base.specs.declared.waits.Cause.{Cause}
 use Rattle.cf_base.specs.declared.waits.Cause.TheVariants as cause
-use Rattle.cf_base.specs.declared.waits.End.{End}
-use Rattle.cf_base.specs.declared.waits.End.TheVariants as end
 use Rattle.cf_base.specs.declared.waits.WaitKind.{WaitKind}
 use Rattle.cf_base.specs.declared.waits.WaitKind.TheVariants as wait_kind
 use Rattle.cf_model.specs.Arrows.{each}
-use Rattle.cf_model.specs.Asks.{left_of, step_of, why}
+use Rattle.cf_model.specs.Asks.{why}
 use Rattle.cf_model.specs.Books.{Book}
 use Rattle.cf_model.specs.Changes.{change_with, next_number, put_with_book}
 use Rattle.cf_model.specs.Effects.{effect}
@@ -27,7 +25,7 @@ use Rattle.cf_model.specs.Requests.{Deed, Nothing, Told, Waiting, also_backgroun
 use Rattle.cf_model.specs.Settling.{accessed, ask_line, bytes_at, cancel_line, end_met, end_of, end_wait, is_access, is_own, settle, tell, tell_end, told_at, view_at, with_asks_told, with_ended, with_waiting}
 use Rattle.cf_model.specs.State.{Filter, Volume, with_notes, with_volume}
 use Rattle.cf_model.specs.Trees.{Keeps, Ret}
-use Rattle.cf_model.specs.Waits.{Need, all_down, background_line, begun, beside, own_id, wait_for, with_new_waits, with_own}
+use Rattle.cf_model.specs.Waits.{Need, all_down, background_line, begun, beside, own_id, wait_for, with_own}
 use Rattle.cf_model.specs.Words.{when}
 use Rattle.cf_model.proofs.TreeLaws.{keeps_bind}
 use Rattle.cf_model_laws.specs.GivenOnce.{WasGiven}
@@ -37,8 +35,8 @@ use Rattle.cf_model_laws.proofs.Leading.{kept_leads}
 use Rattle.cf_model_laws.proofs.LoggedGuarded.{items_more}
 use Rattle.cf_model_laws.proofs.SoundFilters.{change_leads}
 use Rattle.cf_model_headline.specs.Reads.{IsIn, data_shown}
-use Rattle.cf_model_headline.specs.Reports.{change_in, changes_in}
-use Rattle.cf_model_headline.proofs.ReadLines.{EachLine, Log, all_ended, all_lines, data_is, data_of, is_data, keeps_from, lines_more}
+use Rattle.cf_model_headline.specs.Reports.{changes_in}
+use Rattle.cf_model_headline.proofs.ReadLines.{EachLine, Log, all_ended, all_lines, data_is, data_of, is_data, lines_more}
 use Rattle.cf_model_headline.proofs.ShownChanges.{Noticed, changes_more, none_in}
 
 -- Beside an event that began with these waits, and so many given in the epoch.

@@ -1,5 +1,5 @@
 -- What was flushed is kept, by the report.
-use Rattle.std.proofs.Common.{◌≡◌, ◌⊎◌, ℕ, Bool, true, false, List, [], ◌∷◌, ◌++◌, refl, sym, ◌∙◌, ap, subst, inl, inr, length, take, drop}
+use Rattle.std.proofs.Common.{◌≡◌, ◌⊎◌, ℕ, Bool, true, false, List, [], ◌∷◌, ◌++◌, refl, sym, ◌∙◌, ap, subst, inl, inr, length, take}
 use Rattle.std.specs.Prelude.{Option, Some, None, not, slice_get, ◌&&◌, ◌||◌, ◌==◌}
 use Rattle.std.specs.List.{list_any}
 use Rattle.std.proofs.lemmas.Bool.{eqb-true}
@@ -14,8 +14,8 @@ use Rattle.cf_base.specs.declared.policies.Mode.{Mode}
 use Rattle.cf_base.specs.declared.policies.Mode.TheVariants as mode
 use Rattle.cf_model.specs.Contents.{base_named}
 use Rattle.cf_model.specs.Effects.{effect}
-use Rattle.cf_model.specs.Items.{Item, item_of, root}
-use Rattle.cf_model.specs.Kept.{dropped_by, dropped_from, has_id, heirs_of, lists, lists_at, made_with, with_copies, with_copy}
+use Rattle.cf_model.specs.Items.{Item}
+use Rattle.cf_model.specs.Kept.{dropped_by, dropped_from, has_id, heirs_of, lists_at, made_with, with_copies, with_copy}
 use Rattle.cf_model.specs.Lawful.{Runs}
 use Rattle.cf_model.specs.Logs.{items_of}
 use Rattle.cf_model.specs.Numbers.{above}
@@ -34,7 +34,7 @@ use Rattle.cf_model_laws.proofs.LocalSteps.{HasLister, HoldsAt, HoldsIn}
 use Rattle.cf_model_laws.proofs.LoggedGuarded.{run_logged}
 use Rattle.cf_model_laws.proofs.RightItems.{no_way}
 use Rattle.cf_model_laws.proofs.SparedBytes.{held_is}
-use Rattle.cf_model_headline.specs.KeptBytes.{FlushedIsKept, Gave, IsHere, IsKept, IsSpared, IsUploaded, later_than}
+use Rattle.cf_model_headline.specs.KeptBytes.{FlushedIsKept, Gave, IsKept, IsSpared, IsUploaded, later_than}
 use Rattle.cf_model_headline.specs.Reports.{IsAnswered, Report, standing}
 use Rattle.cf_model_headline.specs.Resumed.{flushing}
 use Rattle.cf_model_headline.proofs.ResumedLaws.{flush_counts, flush_ends}

@@ -1,7 +1,6 @@
 -- An item comes to be in sync by a Mark alone, and keeps its number as long as it stays so.
-use Rattle.std.proofs.Common.{◌≡◌, ◌⊎◌, ℕ, Bool, true, false, List, [], ◌∷◌, ◌++◌, refl, sym, ◌∙◌, ap, subst, inl, inr, eq-eqb, eqb-true}
-use Rattle.std.specs.Prelude.{Option, Some, None, Result, Ok, Err, cond, filter, not, find, ◌==◌, ◌&&◌, ◌||◌}
-use Rattle.std.specs.List.{list_any}
+use Rattle.std.proofs.Common.{◌≡◌, ℕ, Bool, true, false, List, [], ◌∷◌, ◌++◌, refl, sym, ◌∙◌, ap, subst, inl, inr, eq-eqb, eqb-true}
+use Rattle.std.specs.Prelude.{Option, Some, None, Result, Ok, Err, cond, not, ◌==◌, ◌&&◌, ◌||◌}
 use Rattle.std.proofs.lemmas.List.{append_assoc, append-nil}
 use Rattle.cf_base.specs.declared.changes.Change.{Change}
 use Rattle.cf_base.specs.declared.changes.Change.TheVariants as change
@@ -26,21 +25,21 @@ use Rattle.cf_model.specs.Trees.{Ends, mapped}
 use Rattle.cf_model.specs.Waits.{on_ok}
 use Rattle.cf_model.proofs.OfLogLaws.{started_of_log}
 use Rattle.cf_model_laws.specs.Premises.{IsFair, IsFresh}
-use Rattle.cf_model_headline.specs.Reports.{IsAnswered, Report, standing}
+use Rattle.cf_model_headline.specs.Reports.{Report, standing}
 use Rattle.cf_model_headline.proofs.StandingLaws.{shows_all}
 use Rattle.cf_model_headline.proofs.StepCases.{IsCase, IsOver, moment, step_case}
 use Rattle.cf_base.specs.declared.ids.Usn.{Usn}
-use Rattle.cf_model.specs.Effects.{changed, converted, copied, copies, effect, got, kept, left_out, made, marked, moved, pinned, populated, rebased, reverted, sized, took, unmarked, validated_in, wrote}
+use Rattle.cf_model.specs.Effects.{changed, converted, copies, effect, got, kept, left_out, made, marked, moved, pinned, populated, rebased, reverted, sized, took, unmarked, validated_in, wrote}
 use Rattle.cf_model.specs.Items.{Item, item_of, kind_of, pin_of, root, size_of}
-use Rattle.cf_model.specs.Logs.{after_changes, items_of}
+use Rattle.cf_model.specs.Logs.{items_of}
 use Rattle.cf_model.specs.Numbers.{same_usn}
 use Rattle.cf_model_laws.specs.Invariant.{All}
 use Rattle.cf_model_laws.specs.Logged.{EachMade, IsChangeRight}
 use Rattle.cf_model_laws.proofs.LocalLaws.{made_behind}
 use Rattle.cf_model_laws.proofs.FitItems.{all_changed}
-use Rattle.cf_model_laws.proofs.Gathered.{all_any, all_append, all_found, all_both, all_filter, all_weaker, each_any, each_weaker}
+use Rattle.cf_model_laws.proofs.Gathered.{all_append, all_found, all_filter, all_weaker, each_any, each_weaker}
 use Rattle.cf_model_laws.proofs.LoggedGuarded.{changes_right, items_more}
-use Rattle.cf_model_laws.proofs.RightItems.{no_way, no_way_back}
+use Rattle.cf_model_laws.proofs.RightItems.{no_way}
 use Rattle.cf_model_laws.proofs.SoundSettles.{same_item}
 use Rattle.cf_model_headline.specs.Marked.{InSyncByMark, IsMarked, MarksGiveNumbers, has_number, informing}
 

@@ -1,8 +1,5 @@
 -- A fact on the filter beside a property of the machine in `replay`: within an event the machine keeps both.
-use Rattle.std.proofs.Common.{◌≡◌, Bool, true, false, List, [], ◌∷◌, refl, sym, ◌∙◌, ap}
-use Rattle.std.specs.Prelude.{not}
-use Rattle.cf_base.specs.declared.answers.Shown.TheVariants as shown
-use Rattle.cf_base.specs.declared.calls.Call.{Call}
+use Rattle.std.proofs.Common.{◌≡◌, Bool, true, false, refl}
 use Rattle.cf_base.specs.declared.changes.Change.TheVariants as change
 use Rattle.cf_base.specs.declared.codes.Code.{Code}
 use Rattle.cf_base.specs.declared.events.Event.{Event}
@@ -18,7 +15,6 @@ use Rattle.cf_model.specs.Settling.{settle, tell}
 use Rattle.cf_model.specs.PushReplies.{entry_seen, taken_from_row}
 use Rattle.cf_model.specs.Skips.{skip_line, with_book, with_volatile}
 use Rattle.cf_model.specs.State.{Filter, Link, State, in_volume, with_filter}
-use Rattle.cf_model.specs.Trees.{Keeps}
 use Rattle.cf_model.specs.Waits.{all_down, begin_now, begun}
 use Rattle.cf_model.proofs.TreeLaws.{keeps_bind}
 use Rattle.cf_model.proofs.Closed.{ClosedFilter}

@@ -19,7 +19,6 @@ use Rattle.cf_base.specs.declared.ids.WaitId.{WaitId}
 use Rattle.cf_base.specs.declared.operations.Operation.{Operation}
 use Rattle.cf_base.specs.declared.operations.Operation.TheVariants as operation
 use Rattle.cf_base.specs.declared.policies.Mode.{Mode}
-use Rattle.cf_base.specs.declared.spans.Span.{Span}
 use Rattle.cf_base.specs.declared.waits.Ask.{Ask}
 use Rattle.cf_base.specs.declared.waits.Cause.TheVariants as cause
 use Rattle.cf_base.specs.declared.waits.End.{End}
@@ -33,7 +32,6 @@ use Rattle.cf_model.specs.Changes as volume
 use Rattle.cf_model.specs.Dehydration as dehydration
 use Rattle.cf_model.specs.Events.{begun, call_in, provider_event, tree_of}
 use Rattle.cf_model.specs.Items.{Item, bytes_held, size_of}
-use Rattle.cf_model.specs.LookUp.{Place}
 use Rattle.cf_model.specs.Missing.{Wait, no_span, span_of}
 use Rattle.cf_model.specs.Numbers.{most}
 use Rattle.cf_model.specs.Operations as operations

@@ -1,9 +1,8 @@
 -- Lines with data within an event: each shows the bytes of a wait that was live before the event.
-use Rattle.std.proofs.Common.{◌≡◌, ◌⊎◌, ◌<◌, ◌≤◌, ◌+◌, ℕ, Bool, true, false, List, [], ◌∷◌, ◌++◌, refl, sym, ◌∙◌, ap, subst, inl, inr, arith, length, if◌then◌else◌}
-use Rattle.std.specs.Prelude.{Option, Some, None, cond, filter, map, not, is_some, slice_range, ◌==◌, ◌&&◌}
+use Rattle.std.proofs.Common.{◌≡◌, ◌≤◌, ◌+◌, ℕ, Bool, true, false, List, [], ◌∷◌, ◌++◌, refl, sym, ◌∙◌, ap, subst, inl, inr, if◌then◌else◌}
+use Rattle.std.specs.Prelude.{Option, Some, None, cond, map, slice_range, ◌==◌, ◌&&◌}
 use Rattle.std.proofs.lemmas.Bool.{eqb-true}
 use Rattle.std.proofs.lemmas.List.{append_assoc, append-nil}
-use Rattle.cf_base.specs.declared.answers.Shown.TheVariants as shown
 use Rattle.cf_base.specs.declared.changes.Change.{Change}
 use Rattle.cf_base.specs.declared.ids.ItemId.{ItemId}
 use Rattle.cf_base.specs.declared.ids.Usn.{Usn}
@@ -19,8 +18,8 @@ use Rattle.cf_base.specs.declared.waits.End.{End}
 use Rattle.cf_base.specs.declared.waits.End.TheVariants as end
 use Rattle.cf_base.specs.declared.waits.WaitKind.{WaitKind}
 use Rattle.cf_base.specs.declared.waits.WaitKind.TheVariants as wait_kind
-use Rattle.cf_model.specs.Arrows.{each, noted, then_do}
-use Rattle.cf_model.specs.Asks.{cause_by, cause_if, closed_by, ended_of, left_of, or_met, step_of, waits_by, waits_for, why, with_end}
+use Rattle.cf_model.specs.Arrows.{each}
+use Rattle.cf_model.specs.Asks.{cause_by, cause_if, closed_by, ended_of, or_met, waits_by, waits_for, why, with_end}
 use Rattle.cf_model.specs.Contents.{IsTrueTo}
 use Rattle.cf_model.specs.Growth.{Extends}
 use Rattle.cf_model.specs.Identities.{content}
@@ -30,7 +29,7 @@ use Rattle.cf_model.specs.Missing.{View, Wait, is_met}
 use Rattle.cf_model.specs.Numbers.{same_key, usn_after}
 use Rattle.cf_model.specs.Requests.{Cancels, Closes, Deed, Expires, Fails, Finishes, Leaves, Live, Nothing, Restarts, Told, Waiting, is_background, is_list, is_list_wait, live_of}
 use Rattle.cf_model.specs.Settling.{accessed, ask_line, cancel_line, end_met, end_of, end_wait, is_access, is_own, tell, settle, tell_end, told_at, view_at, with_asks_told, with_ended, with_waiting}
-use Rattle.cf_model.specs.State.{Filter, Link, with_notes}
+use Rattle.cf_model.specs.State.{Filter, Link}
 use Rattle.cf_model.specs.Store.{Held}
 use Rattle.cf_model.specs.Trees.{Asked, Fork, Keeps, Ret, Step, Tree, bind}
 use Rattle.cf_model.specs.Words.{says}
@@ -41,11 +40,11 @@ use Rattle.cf_model_laws.proofs.Gathered.{all_filter, all_found, all_weaker}
 use Rattle.cf_model_laws.proofs.Guarded.{EndsOthers, is_other_cause}
 use Rattle.cf_model_laws.proofs.LoggedGuarded.{content_grows}
 use Rattle.cf_model_laws.proofs.ReadLaws.{read_right}
-use Rattle.cf_model_laws.proofs.RightItems.{no_way, no_way_back}
+use Rattle.cf_model_laws.proofs.RightItems.{no_way}
 use Rattle.cf_model_laws.proofs.SoundLinks.{based_still}
 use Rattle.cf_model_laws.proofs.SoundSettles.{same_item}
 use Rattle.cf_model_headline.specs.Reads.{IsIn, data_shown}
-use Rattle.cf_model_headline.specs.Reports.{change_in, changes_in}
+use Rattle.cf_model_headline.specs.Reports.{changes_in}
 use Rattle.cf_model_headline.proofs.ShownChanges.{changes_more, none_in}
 
 abbrev pub Log : Type 0

@@ -1,17 +1,15 @@
 -- A read that misses nothing is answered at once.
-use Rattle.std.proofs.Common.{◌≡◌, ◌⊎◌, ◌+◌, ℕ, Bool, true, false, List, ◌∷◌, refl, sym, ◌∙◌, ap, subst, inl, inr}
-use Rattle.std.specs.Prelude.{Option, Some, None, Result, Ok, Err, not, slice_range, ◌==◌, ◌≢◌}
+use Rattle.std.proofs.Common.{◌≡◌, ◌+◌, ℕ, Bool, true, false, List, ◌∷◌, refl, sym, ◌∙◌, ap, subst, inl, inr}
+use Rattle.std.specs.Prelude.{Option, Some, None, Result, Ok, not, slice_range, ◌==◌}
 use Rattle.cf_base.specs.declared.answers.Answer.{Answer}
 use Rattle.cf_base.specs.declared.answers.Shown.{Shown}
 use Rattle.cf_base.specs.declared.answers.Shown.TheVariants as shown
-use Rattle.cf_base.specs.declared.calls.Call.{Call}
 use Rattle.cf_base.specs.declared.calls.Call.TheVariants as call
 use Rattle.cf_base.specs.declared.codes.Code.{Code}
 use Rattle.cf_base.specs.declared.codes.Code.TheVariants as code
 use Rattle.cf_base.specs.declared.events.Event.{Event}
 use Rattle.cf_base.specs.declared.events.Event.TheVariants as event
 use Rattle.cf_base.specs.declared.ids.Handle.{Handle}
-use Rattle.cf_base.specs.declared.ids.ItemId.{ItemId}
 use Rattle.cf_base.specs.declared.policies.Mode.TheVariants as mode
 use Rattle.cf_base.specs.declared.spans.Span.{Span}
 use Rattle.cf_base.specs.declared.waits.Cause.TheVariants as cause
@@ -28,25 +26,23 @@ use Rattle.cf_model.specs.Lawful.{IsStep, Runs}
 use Rattle.cf_model.specs.LookUp.{find_path}
 use Rattle.cf_model.specs.Missing.{View, Wait, is_met, misses, span_of, view_of}
 use Rattle.cf_model.specs.Settling.{end_of, no_view, view_at}
-use Rattle.cf_model.specs.State.{Broken, Filter, Off, On, Open, Power, State, in_filter, items_now, start, with_filter}
+use Rattle.cf_model.specs.State.{Filter, On, Open, State, in_filter, items_now, start, with_filter}
 use Rattle.cf_model.specs.Store.{Held}
 use Rattle.cf_model.specs.Trees.{Asked, Ends, Fork, Ret, Step, Tree}
-use Rattle.cf_model.specs.Waits.{Need, answer_or_begin, but_directory, end_now, get, get_item, is_met_now, need, on_ok, on_open, opened_by, plain_need, read, read_file, read_item, read_need, refused, wait_for, wants_rest}
+use Rattle.cf_model.specs.Waits.{Need, answer_or_begin, but_directory, end_now, get, get_item, is_met_now, need, on_ok, on_open, opened_by, plain_need, read, read_item, read_need, refused, wait_for, wants_rest}
 use Rattle.cf_model.specs.Words.{part}
 use Rattle.cf_model.proofs.RemoteLaws.{runs_extend}
 use Rattle.cf_model_laws.specs.Invariant.{All, HasBase, Invariant}
 use Rattle.cf_model_laws.specs.Premises.{IsFair, IsFresh}
 use Rattle.cf_model_laws.proofs.ContentLaws.{run_sound, sound_reads}
-use Rattle.cf_model_laws.proofs.FoundItems.{found_id, found_there}
+use Rattle.cf_model_laws.proofs.FoundItems.{found_there}
 use Rattle.cf_model_laws.proofs.Gathered.{all_found, all_weaker}
 use Rattle.cf_model_laws.proofs.Leading.{Leads, leads_any, leads_bind, leads_mapped}
 use Rattle.cf_model_laws.proofs.LoggedGuarded.{content_grows}
 use Rattle.cf_model_laws.proofs.RightItems.{no_way}
-use Rattle.cf_model_laws.proofs.SoundSettles.{same_item}
 use Rattle.cf_model_headline.specs.Reads.{Reads, ReadsAtOnce, wait_on}
 use Rattle.cf_model_headline.specs.Reports.{OfEach, Report}
 use Rattle.cf_model_headline.proofs.ReadsLaws.{fair_before}
-use Rattle.cf_model_headline.proofs.StandingLaws.{step_ready}
 use Rattle.cf_model_headline.proofs.StepCases.{IsCase, IsOver, step_case}
 
 abbrev Any : {S : Type 0} → S → Type 0

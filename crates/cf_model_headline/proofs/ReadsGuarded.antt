@@ -1,15 +1,13 @@
 -- Lines with data in `replay`: the machine keeps what is said of them within an event.
-use Rattle.std.proofs.Common.{◌≡◌, ◌⊎◌, ◌<◌, ◌≤◌, ◌+◌, ℕ, Bool, true, false, List, [], ◌∷◌, ◌++◌, refl, sym, ◌∙◌, ap, subst, inl, inr, arith, length, if◌then◌else◌}
-use Rattle.std.specs.Prelude.{Option, Some, None, map}
+use Rattle.std.proofs.Common.{◌≡◌, ◌⊎◌, ◌<◌, ◌≤◌, ◌+◌, ℕ, Bool, true, false, List, [], ◌∷◌, ◌++◌, refl, sym, subst, inl, inr, arith, length, if◌then◌else◌}
+use Rattle.std.specs.Prelude.{None, map}
 use Rattle.cf_base.specs.declared.answers.Shown.TheVariants as shown
-use Rattle.cf_base.specs.declared.calls.Call.{Call}
 use Rattle.cf_base.specs.declared.changes.Change.{Change}
 use Rattle.cf_base.specs.declared.changes.Change.TheVariants as change
 use Rattle.cf_base.specs.declared.codes.Code.{Code}
 use Rattle.cf_base.specs.declared.events.Event.{Event}
 use Rattle.cf_base.specs.declared.events.Event.TheVariants as event
 use Rattle.cf_base.specs.declared.ids.ItemId.{ItemId}
-use Rattle.cf_base.specs.declared.ids.Usn.{Usn}
 use Rattle.cf_base.specs.declared.notices.Notice.{Notice}
 use Rattle.cf_base.specs.declared.notices.Notice.TheVariants as notice
 use Rattle.cf_base.specs.declared.policies.Mode.TheVariants as mode
@@ -27,15 +25,15 @@ use Rattle.cf_model.specs.Missing.{Wait, no_span}
 use Rattle.cf_model.specs.Numbers.{key_after}
 use Rattle.cf_model.specs.Operations.{done}
 use Rattle.cf_model.specs.Points.{commit, with_room_point}
-use Rattle.cf_model.specs.Requests.{Deed, Fails, Finishes, Leaves, Nothing, Told, Waiting, also_background, wait_after}
+use Rattle.cf_model.specs.Requests.{Deed, Leaves, Nothing, also_background, wait_after}
 use Rattle.cf_model.specs.Settling.{accessed, is_access, settle, tell, view_at}
 use Rattle.cf_model.specs.Skips.{skip_line}
 use Rattle.cf_model.specs.State.{Filter, Link, State, Volume, in_volume, with_filter, with_notes, with_volume}
-use Rattle.cf_model.specs.Store.{Held, remote_step}
+use Rattle.cf_model.specs.Store.{remote_step}
 use Rattle.cf_model.specs.Trees.{Keeps, Ret}
-use Rattle.cf_model.specs.Waits.{Need, all_down, background_line, begin_now, begun, beside, own_id, wait_for, with_new_waits, with_own}
+use Rattle.cf_model.specs.Waits.{Need, all_down, background_line, begin_now, begun, beside, own_id, wait_for, with_own}
 use Rattle.cf_model.specs.Words.{when}
-use Rattle.cf_model.proofs.StoreLaws.{extends-self, step_extends}
+use Rattle.cf_model.proofs.StoreLaws.{step_extends}
 use Rattle.cf_model.proofs.TreeLaws.{keeps_bind}
 use Rattle.cf_model_laws.specs.Fitting.{Fits, Touches}
 use Rattle.cf_model_laws.specs.GivenOnce.{WasGiven}

@@ -1,12 +1,8 @@
 -- What a read reports, by the report.
-use Rattle.std.proofs.Common.{◌≡◌, ◌⊎◌, ◌≤◌, ◌+◌, ℕ, Bool, true, false, List, [], ◌∷◌, ◌++◌, append-nil, refl, sym, ◌∙◌, ap, subst, inl, inr, arith}
+use Rattle.std.proofs.Common.{◌≡◌, ◌≤◌, ◌+◌, ℕ, Bool, true, false, List, [], ◌∷◌, ◌++◌, append-nil, refl, sym, ◌∙◌, ap, subst, inl, inr, arith}
 use Rattle.std.specs.Prelude.{Option, Some, None, slice_range}
 use Rattle.cf_base.specs.declared.answers.Answer.{Answer}
-use Rattle.cf_base.specs.declared.answers.OpenedBook.{OpenedBook}
 use Rattle.cf_base.specs.declared.answers.Shown.{Shown}
-use Rattle.cf_base.specs.declared.answers.Shown.TheVariants as shown
-use Rattle.cf_base.specs.declared.codes.Code.{Code}
-use Rattle.cf_base.specs.declared.codes.Code.TheVariants as code
 use Rattle.cf_base.specs.declared.events.DeviceEvent.{DeviceEvent}
 use Rattle.cf_base.specs.declared.events.DeviceEvent.TheVariants as device
 use Rattle.cf_base.specs.declared.events.Event.{Event}
@@ -14,9 +10,8 @@ use Rattle.cf_base.specs.declared.events.Event.TheVariants as event
 use Rattle.cf_base.specs.declared.ids.WaitId.{WaitId}
 use Rattle.cf_base.specs.declared.notices.Notice.{Notice}
 use Rattle.cf_base.specs.declared.policies.Mode.TheVariants as mode
-use Rattle.cf_model.specs.Events.{answered, begun, is_of, needs_volume, no_volume, outcome, tree_of}
+use Rattle.cf_model.specs.Events.{answered, begun, needs_volume, no_volume, outcome, tree_of}
 use Rattle.cf_model.specs.Growth.{Extends}
-use Rattle.cf_model.specs.Identities.{content}
 use Rattle.cf_model.specs.Lawful.{IsStep, Runs}
 use Rattle.cf_model.specs.Missing.{Wait}
 use Rattle.cf_model.specs.Restarts.{restart_by}
@@ -33,7 +28,7 @@ use Rattle.cf_model_laws.proofs.BesideGuarded.{BesideRuns, Fact, HoldsIn, whole_
 use Rattle.cf_model_laws.proofs.ContentLaws.{run_sound, sound_whole}
 use Rattle.cf_model_laws.proofs.EventsGuarded.{runs_keep}
 use Rattle.cf_model_laws.proofs.Gathered.{all_weaker}
-use Rattle.cf_model_laws.proofs.Leading.{Ended, Leads, led}
+use Rattle.cf_model_laws.proofs.Leading.{Ended, led}
 use Rattle.cf_model_laws.proofs.LoggedGuarded.{content_grows}
 use Rattle.cf_model.specs.Items.{item_of}
 use Rattle.cf_model.specs.Logs.{items_of}
@@ -41,8 +36,8 @@ use Rattle.cf_model_laws.proofs.RightItems.{no_way}
 use Rattle.cf_model_laws.proofs.OpeningLaws.{Opening, restart_leads}
 use Rattle.cf_model_headline.specs.Reads.{DataIsRight, IsIn, IsSpanOf, data_shown}
 use Rattle.cf_model_headline.specs.Reports.{OfEach, Report, changes_in, is_device, standing}
-use Rattle.cf_model_headline.proofs.ReadLines.{EachLine, IsRight, Known, LineRight, Log, Reading, line_at}
-use Rattle.cf_model_headline.proofs.ReadsGuarded.{Both, event_reads}
+use Rattle.cf_model_headline.proofs.ReadLines.{EachLine, Known, LineRight, Log, Reading, line_at}
+use Rattle.cf_model_headline.proofs.ReadsGuarded.{event_reads}
 use Rattle.cf_model_headline.proofs.StandingLaws.{shows_all}
 use Rattle.cf_model_headline.proofs.StepCases.{IsCase, IsOver, step_case}
 

@@ -1,8 +1,7 @@
 -- What a refusal leaves, of each event.
-use Rattle.std.proofs.Common.{◌≡◌, ◌⊎◌, Bool, true, false, List, [], refl, sym, ◌∙◌, ap, subst, inl, inr}
+use Rattle.std.proofs.Common.{◌≡◌, Bool, true, false, [], refl, sym, ◌∙◌, ap, inl, inr}
 use Rattle.std.specs.Prelude.{Option, Some, None, ◌≢◌}
 use Rattle.cf_base.specs.declared.answers.Answer.{Answer}
-use Rattle.cf_base.specs.declared.answers.Shown.{Shown}
 use Rattle.cf_base.specs.declared.answers.Shown.TheVariants as shown
 use Rattle.cf_base.specs.declared.codes.Code.{Code}
 use Rattle.cf_base.specs.declared.codes.Code.TheVariants as code
@@ -10,7 +9,7 @@ use Rattle.cf_base.specs.declared.events.Event.{Event}
 use Rattle.cf_base.specs.declared.policies.Mode.{Mode}
 use Rattle.cf_model.specs.Events.{needs_volume, no_volume, tree_of}
 use Rattle.cf_model.specs.Lawful.{IsStep}
-use Rattle.cf_model.specs.State.{On, Power, State}
+use Rattle.cf_model.specs.State.{On, State}
 use Rattle.cf_model_headline.specs.Refusals.{IsLeft, RefusalsLeave, is_call, is_refused}
 use Rattle.cf_model_headline.proofs.QuietRefusals.{event_quiet}
 use Rattle.cf_model_headline.proofs.ReadsAtOnceLaws.{led_ends}

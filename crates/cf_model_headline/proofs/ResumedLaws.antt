@@ -1,6 +1,5 @@
 -- What a restart that resumes keeps, by the report.
-use Rattle.std.proofs.Common.{◌≡◌, ◌⊎◌, ◌≤◌, ℕ, Bool, true, false, List, [], ◌∷◌, ◌++◌, append-nil, refl, sym, ◌∙◌, ap, subst, inl, inr, arith, length, take}
-use Rattle.std.specs.Prelude.{Option, Some, None}
+use Rattle.std.proofs.Common.{◌≡◌, ◌≤◌, ℕ, List, [], ◌∷◌, ◌++◌, refl, sym, ◌∙◌, ap, subst, inl, inr, arith, length, take}
 use Rattle.cf_base.specs.declared.answers.Answer.{Answer}
 use Rattle.cf_base.specs.declared.answers.OpenedBook.{OpenedBook}
 use Rattle.cf_base.specs.declared.answers.Shown.{Shown}
@@ -8,7 +7,6 @@ use Rattle.cf_base.specs.declared.answers.Shown.TheVariants as shown
 use Rattle.cf_base.specs.declared.changes.Change.{Change}
 use Rattle.cf_base.specs.declared.codes.Code.{Code}
 use Rattle.cf_base.specs.declared.codes.Code.TheVariants as code
-use Rattle.cf_base.specs.declared.events.Event.{Event}
 use Rattle.cf_base.specs.declared.ids.Usn.{Usn}
 use Rattle.cf_base.specs.declared.policies.Mode.{Mode}
 use Rattle.cf_model.specs.Events.{tree_of}
@@ -22,7 +20,7 @@ use Rattle.cf_model.proofs.PointLaws.{started_with_points}
 use Rattle.cf_model_laws.specs.Openings.{IsOpened, restarting}
 use Rattle.cf_model_laws.specs.Premises.{IsFresh}
 use Rattle.cf_model_laws.proofs.OpeningLaws.{flushed_kept, step_opens}
-use Rattle.cf_model_headline.specs.Reports.{IsAnswered, Report, after_answer, resumed_with, standing, standing_from}
+use Rattle.cf_model_headline.specs.Reports.{IsAnswered, Report, resumed_with, standing}
 use Rattle.cf_model_headline.specs.Resumed.{ResumesRight, flushing}
 use Rattle.cf_model_headline.proofs.StandingLaws.{shows_all, standing_more}
 use Rattle.cf_model_headline.proofs.StepCases.{IsCase, IsOver, moment, step_case}

@@ -1,11 +1,10 @@
 -- Facts on a filter that the lines of an event may bear on: what keeps them, and that each accepted change has its line.
 use Rattle.std.proofs.Common.{◌≡◌, ◌⊎◌, Bool, true, false, List, [], ◌∷◌, ◌++◌, refl, sym, ◌∙◌, ap, subst, inl, inr, if◌then◌else◌}
-use Rattle.std.specs.Prelude.{ℕ, None, map}
+use Rattle.std.specs.Prelude.{None, map}
 use Rattle.std.proofs.lemmas.List.{append_assoc, append-nil}
 use Rattle.cf_base.specs.declared.answers.Shown.TheVariants as shown
 use Rattle.cf_base.specs.declared.changes.Change.{Change}
 use Rattle.cf_base.specs.declared.ids.ItemId.{ItemId}
-use Rattle.cf_base.specs.declared.ids.Key.{Key}
 use Rattle.cf_base.specs.declared.ids.Usn.{Usn}
 use Rattle.cf_base.specs.declared.ids.WaitId.{WaitId}
 use Rattle.cf_base.specs.declared.notices.Notice.{Notice}
@@ -14,12 +13,12 @@ use Rattle.cf_base.specs.declared.waits.Ask.{Ask}
 use Rattle.cf_base.specs.declared.waits.Cause.{Cause}
 use Rattle.cf_base.specs.declared.waits.Cause.TheVariants as cause
 use Rattle.cf_base.specs.declared.waits.End.{End}
-use Rattle.cf_model.specs.Arrows.{Preserves, each, noted, reading, then_do}
+use Rattle.cf_model.specs.Arrows.{each, noted}
 use Rattle.cf_model.specs.Books.{Book}
 use Rattle.cf_model.specs.Changes.{change_with, next_number, put_with_book}
 use Rattle.cf_model.specs.Missing.{Wait}
 use Rattle.cf_model.specs.Points.{with_room_point}
-use Rattle.cf_model.specs.Requests.{Live, Told, Waiting}
+use Rattle.cf_model.specs.Requests.{Told, Waiting}
 use Rattle.cf_model.specs.Settling.{accessed, ask_line, cancel_line, end_of, end_wait, is_access, is_own, tell, tell_end, told_at, with_asks_told, with_ended, with_waiting}
 use Rattle.cf_model.specs.State.{Filter, Volume, with_notes, with_volume}
 use Rattle.cf_model.specs.Trees.{Keeps, Ret}

@@ -1,6 +1,6 @@
 -- Replies that come too late, and those that an upload was not done.
-use Rattle.std.proofs.Common.{◌≡◌, ◌⊎◌, ◌<◌, ◌+◌, ℕ, Bool, true, false, List, [], ◌∷◌, ◌++◌, zero, suc, refl, sym, ◌∙◌, ap, subst, inl, inr, arith, nat_le}
-use Rattle.std.specs.Prelude.{Option, Some, None, cond, find, is_some, map, not, ◌==◌, ◌≢◌, ◌&&◌, ◌||◌}
+use Rattle.std.proofs.Common.{◌≡◌, ◌<◌, ◌+◌, ℕ, Bool, true, false, List, [], ◌∷◌, zero, suc, refl, sym, ◌∙◌, ap, subst, inl, inr, arith}
+use Rattle.std.specs.Prelude.{Option, Some, None, is_some, not, ◌==◌, ◌≢◌, ◌&&◌, ◌||◌}
 use Rattle.std.specs.List.{list_any}
 use Rattle.std.proofs.lemmas.Bool.{eqb-true}
 use Rattle.cf_base.specs.declared.answers.Answer.{Answer}
@@ -25,36 +25,35 @@ use Rattle.cf_base.specs.declared.notices.Frame.TheVariants as frame
 use Rattle.cf_base.specs.declared.policies.Mode.{Mode}
 use Rattle.cf_base.specs.declared.policies.Mode.TheVariants as mode
 use Rattle.cf_base.specs.declared.waits.Ask.{Ask}
-use Rattle.cf_model.specs.Asks.{is_cancelled, is_over, after_deed, left_of, new_asks, step_of, why, with_keys}
+use Rattle.cf_model.specs.Asks.{step_of, with_keys}
 use Rattle.cf_model.specs.Arrows.{ret, then_do}
-use Rattle.cf_model.specs.Books.{Book, QueueEntry}
+use Rattle.cf_model.specs.Books.{QueueEntry}
 use Rattle.cf_model.specs.Callbacks.{drain}
-use Rattle.cf_model.specs.Events.{begun, needs_volume, no_volume, tree_of}
+use Rattle.cf_model.specs.Events.{begun, no_volume}
 use Rattle.cf_model.specs.Fits.{Known, fits}
 use Rattle.cf_model.specs.Lawful.{IsStep, Runs}
-use Rattle.cf_model.specs.Messages.{act_on, entry_live, is_latest_round, is_old, is_stale, known_now, message_at, settled_rid}
-use Rattle.cf_model.specs.Missing.{View, Wait}
+use Rattle.cf_model.specs.Messages.{act_on, entry_live, is_old, is_stale, known_now, message_at, settled_rid}
+use Rattle.cf_model.specs.Missing.{View}
 use Rattle.cf_model.specs.Numbers.{same_key}
 use Rattle.cf_model.specs.Passes.{deliver_frame, deliver_now, deliver_reply, deliver_unless, showing, unless_down}
 use Rattle.cf_model.specs.PushReplies.{is_new_entry}
 use Rattle.cf_model.specs.Requests.{Deed, Live, Waiting, aged, live_of}
-use Rattle.cf_model.specs.State.{On, Power, State, book_now, start}
+use Rattle.cf_model.specs.State.{Power, State, book_now, start}
 use Rattle.cf_model.specs.Store.{Held}
 use Rattle.cf_model.specs.Trees.{Ends, Stops}
-use Rattle.cf_model.specs.Words.{is_empty}
 use Rattle.cf_model.proofs.EpochLaws.{started_in_epoch}
 use Rattle.cf_model_laws.specs.Invariant.{All, Invariant, IsMessageRight, IsSound, TellsBytes, message_in}
 use Rattle.cf_model_laws.specs.Premises.{IsFair, IsFresh}
 use Rattle.cf_model_laws.proofs.ContentLaws.{run_sound}
-use Rattle.cf_model_laws.proofs.Gathered.{all_append, all_found, all_map, all_weaker}
+use Rattle.cf_model_laws.proofs.Gathered.{all_append, all_found, all_map}
 use Rattle.cf_model_laws.proofs.Leading.{Leads, leads_any, leads_bind}
-use Rattle.cf_model_laws.proofs.OutboxFacts.{Boxing, BoxingRuns}
+use Rattle.cf_model_laws.proofs.OutboxFacts.{BoxingRuns}
 use Rattle.cf_model_laws.proofs.OutboxRuns.{run_holds}
 use Rattle.cf_model_laws.proofs.OwnAsks.{kept_all}
 use Rattle.cf_model_laws.proofs.PassesGuarded.{one_message}
-use Rattle.cf_model_laws.proofs.RightItems.{no_way, no_way_back}
+use Rattle.cf_model_laws.proofs.RightItems.{no_way}
 use Rattle.cf_model_headline.specs.Reports.{OfEach, Report}
-use Rattle.cf_model_headline.specs.Stale.{Delivers, IsLate, IsNotDone, LateIsStale, NotDoneIsTaken}
+use Rattle.cf_model_headline.specs.Stale.{IsLate, IsNotDone, LateIsStale, NotDoneIsTaken}
 use Rattle.cf_model_headline.proofs.ReadsAtOnceLaws.{led_ends}
 use Rattle.cf_model_headline.proofs.ReadsLaws.{fair_before}
 use Rattle.cf_model_headline.proofs.StepCases.{IsCase, IsOver, step_case}

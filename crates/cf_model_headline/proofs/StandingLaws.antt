@@ -1,5 +1,5 @@
 -- The changes that a report shows are those of the log.
-use Rattle.std.proofs.Common.{◌≡◌, ℕ, Bool, true, false, List, [], ◌∷◌, ◌++◌, append-nil, refl, sym, ◌∙◌, ap, subst, take}
+use Rattle.std.proofs.Common.{◌≡◌, ℕ, Bool, true, false, List, [], ◌∷◌, ◌++◌, append-nil, refl, sym, ◌∙◌, ap, subst}
 use Rattle.std.specs.Prelude.{Option, Some, None}
 use Rattle.cf_base.specs.declared.answers.Answer.{Answer}
 use Rattle.cf_base.specs.declared.answers.OpenedBook.{OpenedBook}
@@ -15,7 +15,7 @@ use Rattle.cf_base.specs.declared.events.Event.TheVariants as event
 use Rattle.cf_base.specs.declared.ids.Usn.{Usn}
 use Rattle.cf_base.specs.declared.policies.Mode.{Mode}
 use Rattle.cf_base.specs.declared.policies.Mode.TheVariants as mode
-use Rattle.cf_model.specs.Events.{answer_in, answered, begun, choices_in, event_now, is_of, may_stop, needs_volume, no_volume, outcome, tree_of}
+use Rattle.cf_model.specs.Events.{answer_in, answered, begun, choices_in, is_of, may_stop, needs_volume, no_volume, outcome, tree_of}
 use Rattle.cf_model.specs.Lawful.{IsStep, Runs}
 use Rattle.cf_model.specs.Restarts.{restart_by}
 use Rattle.cf_model.specs.State.{Filter, State, start}
@@ -24,9 +24,9 @@ use Rattle.cf_model.specs.Trees.{Choices, Keeps, play}
 use Rattle.cf_model.proofs.TreeLaws.{kept_by_walk}
 use Rattle.cf_model_laws.specs.Invariant.{Invariant}
 use Rattle.cf_model_laws.specs.Premises.{IsFresh}
-use Rattle.cf_model_laws.proofs.ContentLaws.{keeps_weaker, sound_whole, start_sound}
+use Rattle.cf_model_laws.proofs.ContentLaws.{sound_whole, start_sound}
 use Rattle.cf_model_laws.proofs.EventsGuarded.{runs_keep}
-use Rattle.cf_model_laws.proofs.Leading.{Ended, Leads, led}
+use Rattle.cf_model_laws.proofs.Leading.{Ended, led}
 use Rattle.cf_model_laws.proofs.OpeningLaws.{Opening, restart_leads}
 use Rattle.cf_model_headline.specs.Reports.{after_answer, changes_in, is_device, resumed_with, standing, standing_from}
 use Rattle.cf_model_headline.proofs.NoticedFilter as in_filter

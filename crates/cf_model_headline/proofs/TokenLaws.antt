@@ -18,8 +18,7 @@ use Rattle.cf_model.specs.Store.{Held, Mutation, Recorded, RecordedDone, Recorde
 use Rattle.cf_model.specs.Store as store
 use Rattle.cf_model.specs.Words.{part}
 use Rattle.cf_model.proofs.RemoteLaws.{runs_keep_remote}
-use Rattle.cf_model.proofs.StoreLaws.{extends-self, recorded-first, step_extends}
-use Rattle.cf_model_laws.proofs.RightItems.{no_way}
+use Rattle.cf_model.proofs.StoreLaws.{recorded-first, step_extends}
 use Rattle.cf_model_headline.specs.Tokens.{OneVersionEach, WasDone}
 
 -- what a request adds: at most this version of this item

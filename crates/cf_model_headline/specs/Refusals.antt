@@ -7,7 +7,7 @@ use Rattle.cf_base.specs.declared.codes.Code.{Code}
 use Rattle.cf_base.specs.declared.codes.Code.TheVariants as code
 use Rattle.cf_base.specs.declared.events.Event.{Event}
 use Rattle.cf_base.specs.declared.events.Event.TheVariants as event
-use Rattle.cf_model.specs.Events.{needs_volume, no_volume, refusal}
+use Rattle.cf_model.specs.Events.{needs_volume, no_volume}
 use Rattle.cf_model.specs.State.{On, State}
 
 abbrev pub is_refused : Shown → Bool
