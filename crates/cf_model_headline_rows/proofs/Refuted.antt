@@ -22,7 +22,6 @@ use Rattle.cf_base.specs.declared.messages.Why.TheVariants as why
 use Rattle.cf_base.specs.declared.notices.Frame.TheVariants as frame
 use Rattle.cf_base.specs.declared.notices.Notice.{Notice}
 use Rattle.cf_base.specs.declared.notices.Notice.TheVariants as notice
-use Rattle.cf_base.specs.declared.waits.End.{End}
 use Rattle.cf_base.specs.declared.waits.End.TheVariants as end
 use Rattle.cf_base.specs.declared.waits.WaitKind.TheVariants as wait_kind
 use Rattle.cf_model.specs.Books.{QueueEntry, no_book, opened_of}
@@ -49,10 +48,10 @@ use Rattle.cf_model_headline.specs.Marked.{InSyncByMark, IsMarked, MarksGiveNumb
 use Rattle.cf_model_headline.specs.Reads.{AnswersRead, DataIsHeld, DataIsRight, IsIn, IsSpanOf, Reads, ReadsAtOnce}
 use Rattle.cf_model_headline.specs.Refusals.{IsLeft, RefusalsLeave}
 use Rattle.cf_model_headline.specs.Reports.{Report, changes_in, standing}
-use Rattle.cf_model_headline.specs.Resumed.{ResumesRight, flushing}
+use Rattle.cf_model_headline.specs.Resumed.{ResumesRight}
 use Rattle.cf_model_headline.specs.Stale.{LateIsStale, NotDoneIsTaken}
 use Rattle.cf_model_headline.specs.Tokens.{OneVersionEach}
-use Rattle.cf_model_headline_rows.specs.Changed.{answer_at, arrived, asked, brought, delivered, file_of, found_none, given_wrongly, in_sync, in_use, informed, no_answer, numbered, opened_again, pending, read_wrongly, refused, refused_create, refused_otherwise, resumed_as, second, taken, taken_over, turned_away, unmarked, unrecorded, until_arrived, uploaded, usn, written}
+use Rattle.cf_model_headline_rows.specs.Changed.{answer_at, arrived, asked, delivered, file_of, found_none, given_wrongly, in_sync, in_use, numbered, opened_again, pending, read_wrongly, refused, refused_create, refused_otherwise, resumed_as, second, taken, taken_over, turned_away, unmarked, unrecorded, until_arrived, uploaded, usn, written}
 use Rattle.cf_model_headline_rows.specs.Scripts.{crash, create_f, dehydrate_a, deliver, from_start, get_a, get_f, info_a, left_by, put_a, sync}
 
 no_truth : false ≡ true → ⊥

@@ -1,9 +1,8 @@
 -- Reports in which one line, byte or number was changed.
-use Rattle.std.specs.Prelude.{ℕ, zero, suc, Bool, true, false, not, List, [], Option, None, drop, filter, map, slice_get, codes, ◌∷◌, ◌++◌}
+use Rattle.std.specs.Prelude.{ℕ, zero, suc, Bool, true, false, not, [], None, drop, filter, map, slice_get, codes, ◌∷◌, ◌++◌}
 use Rattle.cf_base.specs.declared.answers.Answer.{Answer}
 use Rattle.cf_base.specs.declared.answers.Shown.{Shown}
 use Rattle.cf_base.specs.declared.answers.Shown.TheVariants as shown
-use Rattle.cf_base.specs.declared.changes.Change.{Change}
 use Rattle.cf_base.specs.declared.changes.Change.TheVariants as change
 use Rattle.cf_base.specs.declared.codes.Code.TheVariants as code
 use Rattle.cf_base.specs.declared.ids.ItemId.{ItemId}
@@ -20,7 +19,7 @@ use Rattle.cf_model.specs.State.{State, items_now}
 use Rattle.cf_model.specs.Store.{Held}
 use Rattle.cf_model.specs.Words.{part}
 use Rattle.cf_model_headline.specs.Reports.{Report}
-use Rattle.cf_model_headline_rows.specs.Scripts.{arrive, count_blocks, crash, create_f, deliver, flush, get_a, get_f, info_a, left_by, open_a, open_f, put_a, put_f, queue, reported, restart, sync, write_a}
+use Rattle.cf_model_headline_rows.specs.Scripts.{arrive, count_blocks, crash, create_f, deliver, flush, get_a, info_a, left_by, open_a, open_f, put_a, put_f, queue, reported, restart, sync, write_a}
 
 -- ways to change a report
 

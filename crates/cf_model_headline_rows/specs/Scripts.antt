@@ -1,6 +1,5 @@
 -- Small scripts of `replay` with an empty remote, and what they report.
-use Rattle.std.specs.Prelude.{ℕ, false, List, [], Option, None, codes, length, map, take, ◌∷◌, ◌++◌}
-use Rattle.cf_base.specs.declared.answers.Answer.{Answer}
+use Rattle.std.specs.Prelude.{ℕ, false, List, None, codes, map}
 use Rattle.cf_base.specs.declared.calls.Call.TheVariants as call
 use Rattle.cf_base.specs.declared.events.DeviceEvent.TheVariants as device
 use Rattle.cf_base.specs.declared.events.EngineEvent.TheVariants as engine
