@@ -1,5 +1,6 @@
 pub mod Answering
 pub mod BookReads
+pub mod Exchanges
 pub mod Faults
 pub mod Lines
 pub mod Marks
