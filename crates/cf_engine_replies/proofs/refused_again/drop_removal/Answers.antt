@@ -1,0 +1,15 @@
+use Rattle.std.proofs.Common.{true, false, sym, ◌∙◌}
+use Rattle.cf_engine_queue.specs.Books.{action_of, entry_value}
+use Rattle.cf_engine_steps.specs.Answering.{Any}
+use Rattle.cf_engine_steps.specs.States.{whole}
+use Rattle.cf_model.specs.Arrows.{unit}
+use Rattle.cf_model.specs.PushReplies.{drop_if, is_removal_by}
+use Rattle.cf_engine_steps.proofs.Laws.{returned}
+use Rattle.cf_engine_replies.proofs.Parts.{by_known}
+use Rattle.cf_engine_replies.proofs.refused_again.drop_removal.Goals as goal
+
+pub returns-then-is_removal : goal.returns-then-is_removal
+returns-then-is_removal g c = by_known _ (λ b. drop_if b (entry_value c.args.entry.now)) _ _ (is_removal_by (action_of c.args.entry.now.action)) true _ (sym c.is_removal.ensures ∙ c.if-is_removal.true) c.drop_tombstone.ensures
+
+pub returns-else-is_removal : goal.returns-else-is_removal
+returns-else-is_removal g c = by_known _ (λ b. drop_if b (entry_value c.args.entry.now)) _ _ (is_removal_by (action_of c.args.entry.now.action)) false _ (sym c.is_removal.ensures ∙ c.if-is_removal.false) (returned (whole g.S.Steps.sense g.R.Remote.told) Any unit (c.args.s.now, c.args.e.now))

@@ -1,0 +1,4 @@
+pub mod Marks
+pub mod Refusals
+pub mod Removals
+pub mod Tombstones
