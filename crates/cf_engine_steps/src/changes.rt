@@ -9,7 +9,7 @@ ghost use Rattle.cf_filter_steps.specs.Suiting.{Suiting};
 use crate::engines::Engine;
 use crate::removals::try_remove;
 use crate::skips::leave_out;
-use crate::suited_changes::suited;
+use crate::suited_changes::refuse_depth;
 use cf_base::{CallError, Change};
 use cf_engine_host::EngineHost;
 use cf_filter_steps::refuse_room;
@@ -41,7 +41,7 @@ fn try_made<S: EngineHost, R: Remote>(
 ) -> Result<bool, CallError>
     ensures { Answers (whole S.sense R.told) Any (try_change change.now) (s.old, e.old) result (s.new, e.new) }
 {
-    match suited(s, change)? {
+    match refuse_depth(s, change)? {
         Some(code) => leave_out(s, e, code),
         None => try_suited(s, e, change),
     }

@@ -61,6 +61,7 @@ pub use names::{to_conflict, try_clear_name};
 pub use paths_seen::try_seen;
 pub use posts::post;
 pub use skips::skip;
+pub use suited_changes::refuse_depth;
 pub use tokens::{next_token, try_round, try_token};
 pub use uses::in_use;
 pub use volatiles::Volatile;

@@ -175,9 +175,9 @@ fn put_suited<S: EngineHost>(s: &S, change: &Change) -> Result<Option<Code>, Out
     Err(no_such_state())
 }
 
-/// Whether a change suits (none), or leads too deep. One that neither suits nor leads too deep is never to be made: then it is
-/// out of memory.
-pub(crate) fn suited<S: EngineHost>(s: &S, change: &Change) -> Result<Option<Code>, OutOfMemory>
+/// Why a change that is no removal is refused for its depth: TooDeep, or none, and then it suits the volume. One that neither suits nor
+/// leads too deep is never to be made, and neither is one of a kind that no engine makes: then it is out of memory. It changes nothing.
+pub fn refuse_depth<S: EngineHost>(s: &S, change: &Change) -> Result<Option<Code>, OutOfMemory>
     ensures { IfOk result (IsSuited S.sense change.now s.now) }
 {
     match change {
