@@ -1,2 +1,5 @@
 pub mod Parts
+pub mod PutBack
+pub mod Rebased
 pub mod Replied
+pub mod Uploaded

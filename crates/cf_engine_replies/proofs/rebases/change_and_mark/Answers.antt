@@ -1,0 +1,15 @@
+use Rattle.cf_engine_queue.specs.Books.{entry_value}
+use Rattle.cf_engine_replies.specs.Rebases.{change_and_mark}
+use Rattle.cf_engine_steps.specs.Answering.{On}
+use Rattle.cf_engine_steps.specs.States.{whole}
+use Rattle.cf_filter_steps.specs.Suiting.{Ready}
+use Rattle.cf_engine_steps.proofs.Laws.{with_err}
+use Rattle.cf_engine_replies.proofs.Rebased.{change_lost, changed}
+use Rattle.cf_engine_replies.proofs.rebases.change_and_mark.Goals as goal
+
+pub returns-in_err-change : goal.returns-in_err-change
+returns-in_err-change g c = with_err (whole g.S.Steps.sense g.R.Remote.told) (On (Ready c.args.change.now)) (change_and_mark (entry_value c.args.entry.now) c.args.change.now) (c.args.s.now, c.args.e.now) (c.change.new.self, c.args.e.now) c.in_err-change.field-0.0 c.from_residual.result c.from_residual.ensures.1
+    (change_lost g.S.Steps.sense g.R.Remote.told (entry_value c.args.entry.now) c.args.change.now c.args.s.now c.change.new.self c.args.e.now c.in_err-change.field-0.0 c.in_err-change.ensures.does)
+
+pub returns : goal.returns
+returns g c = changed g.S.Steps.sense g.R.Remote.told (entry_value c.args.entry.now) c.args.change.now c.args.s.now c.change.new.self c.see_and_mark.new.s c.args.e.now c.see_and_mark.new.e c.in_ok-change.field-0 c.see_and_mark.result c.in_ok-change.ensures.does c.see_and_mark.ensures
