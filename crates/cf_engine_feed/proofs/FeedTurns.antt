@@ -7,6 +7,10 @@ use Rattle.std.specs.Result.{IsErrAnd}
 use Rattle.cf_base.specs.declared.codes.CallError.{CallError}
 use Rattle.cf_base.specs.declared.messages.Entry.{Entry}
 use Rattle.cf_engine_feed.specs.Turns.{before, entries_at, fed, fed_of, turn_at, turns_in}
+use Rattle.cf_engine_feed.specs.Indexed.{indexed}
+use Rattle.cf_engine_feed.specs.Indexes.{IsIndex, target_at}
+use Rattle.cf_engine_feed.specs.declared.indexes.Targets.{Targets}
+use Rattle.cf_engine_feed.proofs.IndexedParts.{beside}
 use Rattle.cf_engine_feed.proofs.StepRuns.{same_where}
 use Rattle.cf_engine_steps.specs.Answering.{Answers, Any, Whole}
 use Rattle.cf_engine_steps.specs.States.{Own, whole}
@@ -20,7 +24,8 @@ use Rattle.cf_model.specs.Items.{Item}
 use Rattle.cf_model.specs.State.{State, items_now}
 use Rattle.cf_remote.specs.Told.{Told}
 use Rattle.cf_table.specs.Tables.{MeansAll, Table}
-use Rattle.cf_tree.specs.Trees.{IsTree}
+use Rattle.cf_table.specs.declared.rows.Row.{Row}
+use Rattle.cf_tree.specs.Trees.{IsTree, RiseFrom}
 
 -- the same element for each other value that stands for none
 pub there : (ks : List ℕ) (i d e : ℕ) → i < length ks → get_or ks i d ≡ get_or ks i e
@@ -69,9 +74,13 @@ pub first_fails : {X : Type 0} (W : Whole X) (es : List Entry) (ks none : List �
 first_fails W es ks none old new e is h = fails_first W Any (turns first_turn (entries_at es ks) (fed es false [])) second_turns old new e (from_none W es ks none old new (Err e) is h)
 
 -- in the order of the items as they are before all of them
-pub in_order : {X R : Type 0} (S : Sense X) (told : R → Told) (t : Table) (es : List Entry) (ks : List ℕ) (x y : X) (d e : Own R) (r : Result Fed CallError) → HasRows S x t → ((items : List Item) → MeansAll t.rows items → IsTree items → entries_at es ks ≡ in_turn items es)
-    → Answers (whole S told) Any (turns_in (entries_at es ks)) (x, d) r (y, e) → Answers (whole S told) Any (all_turns es) (x, d) r (y, e)
-in_order S told t es ks x y d e r rows is h =
-    same_where (whole S told) (turns_in (entries_at es ks)) (all_turns es) (x, d) (y, e) r
-    (λ s i. ap (λ (l : List Entry). turns_in l s) (is (items_now s) (rows.rows s.filter i.filter) (S.good x s.filter i.filter).volume.tree))
-    h
+pub in_order : {X R : Type 0} (S : Sense X) (told : R → Told) (t u : Table) (rows : List Row) (es : List Entry) (ks : List ℕ) (x y : X) (d e : Own R) (m n : Targets) (r : Result Fed CallError) → HasRows S x t → HasRows S x u → rows ≡ u.rows
+    → ((items : List Item) → MeansAll rows items → RiseFrom 1 items → IsIndex m (target_at items))
+    → ((items : List Item) → MeansAll t.rows items → IsTree items → IsIndex m (target_at items) → entries_at es ks ≡ in_turn items es)
+    → Answers (indexed (whole S told)) Any (turns_in (entries_at es ks)) ((x, d), m) r ((y, e), n) → Answers (whole S told) Any (all_turns es) (x, d) r (y, e)
+in_order S told t u rows es ks x y d e m n r has old same fills is h =
+    beside (whole S told) (all_turns es) (x, d) (y, e) m n r
+    (λ s i. fills (items_now s) (subst (λ (l : List Row). MeansAll l (items_now s)) (sym same) (old.rows s.filter i.filter)) (S.good x s.filter i.filter).volume.tree.order)
+    (same_where (indexed (whole S told)) (turns_in (entries_at es ks)) (all_turns es) ((x, d), m) ((y, e), n) r
+    (λ s i. ap (λ (l : List Entry). turns_in l s) (is (items_now s) (has.rows s.filter i.0.filter) (S.good x s.filter i.0.filter).volume.tree i.1))
+    h)

@@ -9,7 +9,10 @@ use Rattle.cf_base.specs.declared.items.SeenPath.{SeenPath}
 use Rattle.cf_base.specs.declared.messages.Entry.{Entry}
 use Rattle.cf_base.specs.declared.policies.Policy.{Policy}
 use Rattle.cf_engine_feed.specs.Plans.{IsFound, PlansTurn, SeenAt}
-use Rattle.cf_engine_feed.specs.Targets.{IsFirst, is_parent_of}
+use Rattle.cf_engine_feed.specs.Indexed.{indexed}
+use Rattle.cf_engine_feed.specs.Indexes.{Indexes}
+use Rattle.cf_engine_feed.specs.Targets.{IsFirstBy, is_parent_of}
+use Rattle.cf_engine_feed.specs.declared.indexes.Targets.{Targets}
 use Rattle.cf_engine_feed.specs.Turns.{before, comes_again, entries_at, fed, planned, planned_by, turn_at}
 use Rattle.cf_engine_feed.proofs.StepRuns.{same_where}
 use Rattle.cf_engine_feed_plan.specs.Premises.{IsOf, id_of}
@@ -32,7 +35,6 @@ use Rattle.cf_model.specs.State.{State, items_now}
 use Rattle.cf_model.specs.Trees.{Tree, bind}
 use Rattle.cf_remote.specs.Told.{Told}
 use Rattle.cf_table.specs.Tables.{MeansAll, Table}
-use Rattle.cf_table.specs.declared.rows.Row.{Row}
 use Rattle.cf_tree.specs.Trees.{BeginWithRoot}
 
 -- what is known of the rows and the policy
@@ -56,13 +58,14 @@ pub if_ok_on : {A E : Type 0} (P Q : A → Type 0) (r : Result A E) → ((a : A)
 if_ok_on P Q (Ok a) f h = f a h
 if_ok_on P Q (Err e) f h = record {}
 
-pub found_of : {X : Type 0} (S : Sense X) (x : X) (t : Table) (rows : List Row) (item parent : Option ItemId) (path seen : Option SeenPath) (e : Entry) (s : State) → HasRows S x t → rows ≡ t.rows
-    → IsFirst (λ i. has_target i e.rid) rows item → IsFirst (is_parent_of e.parent) rows parent → SeenAt S x item path → seen ≡ path → S.means x s.filter → IsFound item parent seen e s
-found_of S x t rows item parent path seen e s has same first above at is m =
-    let all : MeansAll rows (items_now s) = subst (λ (l : List Row). MeansAll l (items_now s)) (sym same) (has.rows s.filter m) in record {
-      item = first (items_now s) all;
-      parent = above (items_now s) all;
-      path = λ i h. is ∙ at.is s i.id m (first (items_now s) all ∙ ap id_of h);
+pub found_of : {X : Type 0} (S : Sense X) (x : X) (t : Table) (targets : Targets) (item parent : Option ItemId) (path seen : Option SeenPath) (e : Entry) (s : State) → HasRows S x t
+    → IsFirstBy (λ i. has_target i e.rid) targets t.rows item → IsFirstBy (is_parent_of e.parent) targets t.rows parent → SeenAt S x item path → seen ≡ path → S.means x s.filter → Indexes targets s → IsFound item parent seen e s
+found_of S x t targets item parent path seen e s has first above at is m index =
+    let all : MeansAll t.rows (items_now s) = has.rows s.filter m in
+    let rises = (S.good x s.filter m).volume.tree.order in record {
+      item = first (items_now s) all rises index;
+      parent = above (items_now s) all rises index;
+      path = λ i h. is ∙ at.is s i.id m (first (items_now s) all rises index ∙ ap id_of h);
     }
 
 -- the entry at a place
@@ -91,11 +94,11 @@ planned_is es Postponed k p l e s at h = taken e Postponed (fed es p l) s h
 planned_is es Later k p l e s at h = ap (λ (xs : List Entry). ret (record { postponed = p; later = xs }) s) (entries_more es l k e at) ∙ sym (ap (λ (b : Bool). first_turn_by b e (fed es p l) s) h.1)
 planned_is es (Do xs) k p l e s at h = taken e (Do xs) (fed es p l) s h
 
-pub first_by : {X R : Type 0} (S : Sense X) (told : R → Told) (es : List Entry) (t : Turn) (k : ℕ) (p : Bool) (l : List ℕ) (e : Entry) (x y : X) (d f : Own R) (r : Result Fed CallError) → slice_get es k ≡ Some e → PlansTurn S false e x t
-    → Answers (whole S told) Any (planned es t k p l) (x, d) r (y, f) → Answers (whole S told) Any (turn_at first_turn (slice_get es k) (fed es p l)) (x, d) r (y, f)
-first_by S told es t k p l e x y d f r at plan h =
-    subst (λ (o : Option Entry). Answers (whole S told) Any (turn_at first_turn o (fed es p l)) (x, d) r (y, f)) (sym at)
-    (same_where (whole S told) (planned es t k p l) (first_turn e (fed es p l)) (x, d) (y, f) r (λ s i. planned_is es t k p l e s at (plan.is s i.filter)) h)
+pub first_by : {X R : Type 0} (S : Sense X) (told : R → Told) (es : List Entry) (t : Turn) (k : ℕ) (p : Bool) (l : List ℕ) (e : Entry) (x y : X) (d f : Own R) (m n : Targets) (r : Result Fed CallError) → slice_get es k ≡ Some e → PlansTurn S false e x m t
+    → Answers (indexed (whole S told)) Any (planned es t k p l) ((x, d), m) r ((y, f), n) → Answers (indexed (whole S told)) Any (turn_at first_turn (slice_get es k) (fed es p l)) ((x, d), m) r ((y, f), n)
+first_by S told es t k p l e x y d f m n r at plan h =
+    subst (λ (o : Option Entry). Answers (indexed (whole S told)) Any (turn_at first_turn o (fed es p l)) ((x, d), m) r ((y, f), n)) (sym at)
+    (same_where (indexed (whole S told)) (planned es t k p l) (first_turn e (fed es p l)) ((x, d), m) ((y, f), n) r (λ s i. planned_is es t k p l e s at (plan.is s i.0.filter i.1)) h)
 
 -- as it was planned
 
@@ -120,9 +123,9 @@ second_is Postponed e s h = h.1
 second_is Later e s h = let z : true ≡ false = h.0 in cc
 second_is (Do xs) e s h = h.1
 
-pub second_by : {X R : Type 0} (S : Sense X) (told : R → Told) (t : Turn) (e : Entry) (x y : X) (d f : Own R) (r : Result Bool CallError) → PlansTurn S true e x t
-    → Answers (whole S told) Any (turn_of t) (x, d) r (y, f) → Answers (whole S told) Any (take_turn e) (x, d) r (y, f)
-second_by S told t e x y d f r plan h = same_where (whole S told) (turn_of t) (take_turn e) (x, d) (y, f) r (λ s i. second_is t e s (plan.is s i.filter)) h
+pub second_by : {X R : Type 0} (S : Sense X) (told : R → Told) (t : Turn) (e : Entry) (x y : X) (d f : Own R) (m n : Targets) (r : Result Bool CallError) → PlansTurn S true e x m t
+    → Answers (indexed (whole S told)) Any (turn_of t) ((x, d), m) r ((y, f), n) → Answers (indexed (whole S told)) Any (take_turn e) ((x, d), m) r ((y, f), n)
+second_by S told t e x y d f m n r plan h = same_where (indexed (whole S told)) (turn_of t) (take_turn e) ((x, d), m) ((y, f), n) r (λ s i. second_is t e s (plan.is s i.0.filter i.1)) h
 
 module _ {X : Type 0} (W : Whole X) (es : List Entry) (k : ℕ) (p : Bool) (l : List ℕ) (e : Entry) (old new : X) (at : slice_get es k ≡ Some e) where
   of_entry : (r : Result Fed CallError) → Answers W Any (second_turn e (fed es p l)) old r new → Answers W Any (turn_at second_turn (slice_get es k) (fed es p l)) old r new

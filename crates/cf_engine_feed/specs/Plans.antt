@@ -3,6 +3,8 @@ use Rattle.std.specs.Prelude.{◌≡◌, Bool, Option, Some}
 use Rattle.cf_base.specs.declared.ids.ItemId.{ItemId}
 use Rattle.cf_base.specs.declared.items.SeenPath.{SeenPath}
 use Rattle.cf_base.specs.declared.messages.Entry.{Entry}
+use Rattle.cf_engine_feed.specs.Indexes.{Indexes}
+use Rattle.cf_engine_feed.specs.declared.indexes.Targets.{Targets}
 use Rattle.cf_engine_feed_plan.specs.Premises.{id_of}
 use Rattle.cf_engine_feed_plan.specs.Turns.{IsTurn}
 use Rattle.cf_engine_feed_plan.specs.declared.entry_steps.Turn.{Turn}
@@ -28,6 +30,6 @@ pub record IsFound (id above : Option ItemId) (at : Option SeenPath) (e : Entry)
   pub parent : above ≡ id_of (parent_here s e)
   pub path : (i : Item) → by_target (items_now s) e.rid ≡ Some i → at ≡ seen_of (book_now s) i.id
 
--- in each whole state whose filter it stands for the turn is the entry's
-pub record PlansTurn {X : Type 0} (S : Sense X) (last : Bool) (e : Entry) (x : X) (turn : Turn) : Type 0 where
-  pub is : (s : State) → S.means x s.filter → IsTurn last e s turn
+-- in each whole state whose filter it stands for, and whose items the index has, the turn is the entry's
+pub record PlansTurn {X : Type 0} (S : Sense X) (last : Bool) (e : Entry) (x : X) (targets : Targets) (turn : Turn) : Type 0 where
+  pub is : (s : State) → S.means x s.filter → Indexes targets s → IsTurn last e s turn

@@ -1,10 +1,12 @@
 //! The turn of one entry.
 
+ghost use Rattle.cf_engine_feed.specs.Indexed.{indexed};
 ghost use Rattle.cf_engine_feed_plan.specs.Turns.{do_steps, turn_of};
 ghost use Rattle.cf_engine_steps.specs.Answering.{Answers, Any};
 ghost use Rattle.cf_engine_steps.specs.States.{whole};
 ghost use Rattle.cf_model.specs.Feeds.{turn};
 
+use crate::indexes::Targets;
 use crate::step_runs::do_steps;
 use cf_base::CallError;
 use cf_engine_feed_plan::{Step, Turn};
@@ -17,11 +19,12 @@ use cf_remote::Remote;
 fn do_all<S: EngineHost, R: Remote>(
     s: &mut S,
     e: &mut Engine<R>,
+    targets: &mut Targets,
     steps: &[Step],
 ) -> Result<bool, CallError>
-    ensures { Answers (whole S.sense R.told) Any (turn (do_steps steps.now)) (s.old, e.old) result (s.new, e.new) }
+    ensures { Answers (indexed (whole S.sense R.told)) Any (turn (do_steps steps.now)) ((s.old, e.old), targets.old) result ((s.new, e.new), targets.new) }
 {
-    do_steps(s, e, steps)?;
+    do_steps(s, e, targets, steps)?;
     Ok(false)
 }
 
@@ -29,13 +32,14 @@ fn do_all<S: EngineHost, R: Remote>(
 pub(crate) fn do_turn<S: EngineHost, R: Remote>(
     s: &mut S,
     e: &mut Engine<R>,
+    targets: &mut Targets,
     turn: &Turn,
 ) -> Result<bool, CallError>
-    ensures { Answers (whole S.sense R.told) Any (turn_of turn.now) (s.old, e.old) result (s.new, e.new) }
+    ensures { Answers (indexed (whole S.sense R.told)) Any (turn_of turn.now) ((s.old, e.old), targets.old) result ((s.new, e.new), targets.new) }
 {
     match turn {
         Turn::Nothing | Turn::Later => Ok(false),
         Turn::Postponed => Ok(true),
-        Turn::Do(steps) => do_all(s, e, steps.as_slice()),
+        Turn::Do(steps) => do_all(s, e, targets, steps.as_slice()),
     }
 }

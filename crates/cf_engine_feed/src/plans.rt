@@ -6,6 +6,7 @@ ghost use Rattle.cf_engine_feed_plan.specs.Premises.{IsProper};
 ghost use Rattle.cf_engine_feed_plan.specs.Turns.{IsTurn};
 ghost use Rattle.cf_model.specs.State.{State};
 
+use crate::indexes::Targets;
 use crate::targets::{find_item, find_parent};
 use cf_base::{Entry, ItemId, OutOfMemory, SeenPath, no_such_state};
 use cf_engine_feed_plan::{Known, Turn, steps};
@@ -64,13 +65,18 @@ fn steps_of<S: EngineHost>(
 
 /// The turn of an entry. `last` says that it is the second turn of a dead directory. An entry of its own parent, which no reply that fits
 /// has, is out of memory.
-pub(crate) fn plan<S: EngineHost>(s: &S, entry: &Entry, last: bool) -> Result<Turn, OutOfMemory>
-    ensures { IfOk result (PlansTurn S.sense last entry.now s.now) }
+pub(crate) fn plan<S: EngineHost>(
+    s: &S,
+    targets: &Targets,
+    entry: &Entry,
+    last: bool,
+) -> Result<Turn, OutOfMemory>
+    ensures { IfOk result (PlansTurn S.sense last entry.now s.now targets.now) }
 {
     check_parent(entry)?;
-    let rows = s.rows().as_slice();
-    let item = find_item(rows, entry.rid)?;
-    let parent = find_parent(rows, entry.parent)?;
+    let rows = s.rows();
+    let item = find_item(targets, rows, entry.rid)?;
+    let parent = find_parent(targets, rows, entry.parent)?;
     let path = seen_of(s, item)?;
     let turn = steps_of(s, entry, item, parent, path.as_ref(), last);
     drop(path);

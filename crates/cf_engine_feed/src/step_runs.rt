@@ -1,10 +1,16 @@
 //! The steps of an entry, done in order.
 
+ghost use Rattle.std.specs.Prelude.{◌≡◌};
 ghost use Rattle.cf_engine_feed.specs.Copies.{try_if};
+ghost use Rattle.cf_engine_feed.specs.Indexed.{indexed};
+ghost use Rattle.cf_engine_feed.specs.Named.{item_of_step};
 ghost use Rattle.cf_engine_feed_plan.specs.Turns.{copy_now, do_step, do_steps};
 ghost use Rattle.cf_engine_steps.specs.Answering.{Answers, Any};
 ghost use Rattle.cf_engine_steps.specs.States.{whole};
+ghost use Rattle.cf_model.specs.Given.{named_by};
 
+use crate::indexes::Targets;
+use crate::targets::{refresh, target_at};
 use cf_base::{CallError, Change, ItemId};
 use cf_engine_feed_plan::{Step, copy_off};
 use cf_engine_host::EngineHost;
@@ -55,16 +61,71 @@ fn do_step<S: EngineHost, R: Remote>(
     }
 }
 
+// The item that a change names.
+fn named_by(change: &Change) -> ItemId
+    ensures { result ≡ named_by change.now }
+{
+    match change {
+        Change::Make { item, .. } => *item,
+        Change::Remove { item, .. } => *item,
+        Change::Move { item, .. } => *item,
+        Change::Write { item, .. } => *item,
+        Change::Size { item, .. } => *item,
+        Change::Filled { item, .. } => *item,
+        Change::Validated { item, .. } => *item,
+        Change::Emptied { item, .. } => *item,
+        Change::SetPin { item, .. } => *item,
+        Change::Mark { item, .. } => *item,
+        Change::Clear { item, .. } => *item,
+        Change::Convert { item, .. } => *item,
+        Change::Revert { item, .. } => *item,
+        Change::Rebase { item, .. } => *item,
+        Change::Take { item, .. } => *item,
+        Change::Copy { item, .. } => *item,
+        Change::Populated { item, .. } => *item,
+        Change::Keep { item, .. } => *item,
+    }
+}
+
+// The item that a step names.
+fn item_of(next: ItemId, step: &Step) -> ItemId
+    ensures { result ≡ item_of_step next step.now }
+{
+    match step {
+        Step::Apply(change) => named_by(change),
+        Step::Mark(item) => *item,
+        Step::Seen(path) => path.item,
+        Step::CopyOff(_) => next,
+    }
+}
+
+// Does a step, and keeps the index of the items.
+fn do_indexed<S: EngineHost, R: Remote>(
+    s: &mut S,
+    e: &mut Engine<R>,
+    targets: &mut Targets,
+    step: &Step,
+) -> Result<bool, CallError>
+    ensures { Answers (indexed (whole S.sense R.told)) Any (do_step step.now) ((s.old, e.old), targets.old) result ((s.new, e.new), targets.new) }
+{
+    let item = item_of(s.rows().next(), step);
+    let before = target_at(s.rows(), item)?;
+    let done = do_step(s, e, step)?;
+    refresh(s.rows(), targets, item, before)?;
+    Ok(done)
+}
+
 /// Does the steps in order, up to the first that is left out. Whether all were done.
 pub(crate) fn do_steps<S: EngineHost, R: Remote>(
     s: &mut S,
     e: &mut Engine<R>,
+    targets: &mut Targets,
     steps: &[Step],
 ) -> Result<bool, CallError>
-    ensures { Answers (whole S.sense R.told) Any (do_steps steps.now) (s.old, e.old) result (s.new, e.new) }
+    ensures { Answers (indexed (whole S.sense R.told)) Any (do_steps steps.now) ((s.old, e.old), targets.old) result ((s.new, e.new), targets.new) }
 {
     for step in steps {
-        let done = do_step(s, e, step)?;
+        let done = do_indexed(s, e, targets, step)?;
         if !done {
             return Ok(false);
         }

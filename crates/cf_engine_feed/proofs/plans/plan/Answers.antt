@@ -9,9 +9,9 @@ use Rattle.cf_engine_feed.proofs.plans.plan.Goals as goal
 
 pub returns : goal.returns
 returns g c = if_ok_on (λ (turn : Turn). (s' : State) → g.S.Steps.sense.means c.args.s.now s'.filter → IsProper c.args.entry.now → IsFound c.in_ok-item.item c.in_ok-parent.parent (option_copied c.as_ref.result) c.args.entry.now s' → IsTurn c.args.last c.args.entry.now s' turn)
-    (PlansTurn g.S.Steps.sense c.args.last c.args.entry.now c.args.s.now) c.steps_of-turn.result
+    (PlansTurn g.S.Steps.sense c.args.last c.args.entry.now c.args.s.now c.args.targets.now) c.steps_of-turn.result
     (λ turn h. record {
-      is = λ s m. h s m c.in_ok-check_parent.ensures
-          (found_of g.S.Steps.sense c.args.s.now c.rows.result.now c.as_slice-rows.result.now c.in_ok-item.item c.in_ok-parent.parent c.in_ok-path.path (option_copied c.as_ref.result) c.args.entry.now s c.rows.ensures.means c.as_slice-rows.ensures.value c.in_ok-item.ensures c.in_ok-parent.ensures c.in_ok-path.ensures c.as_ref.ensures.value m);
+      is = λ s m index. h s m c.in_ok-check_parent.ensures
+          (found_of g.S.Steps.sense c.args.s.now c.rows-rows.result.now c.args.targets.now c.in_ok-item.item c.in_ok-parent.parent c.in_ok-path.path (option_copied c.as_ref.result) c.args.entry.now s c.rows-rows.ensures.means c.in_ok-item.ensures c.in_ok-parent.ensures c.in_ok-path.ensures c.as_ref.ensures.value m index);
     })
     c.steps_of-turn.ensures

@@ -1,3 +1,4 @@
+use Rattle.cf_engine_feed.specs.Indexed.{indexed}
 use Rattle.std.proofs.Common.{List, drop, ℕ}
 use Rattle.std.specs.Prelude.{Result}
 use Rattle.cf_base.specs.declared.codes.CallError.{CallError}
@@ -10,5 +11,5 @@ use Rattle.cf_engine_feed.proofs.turn_lists.second_turns.Given as goal
 -- what the turns that are left answer all answer
 abbrev pub invariant-loop-place : goal.invariant-loop-place
 invariant-loop-place g l = (later : List ℕ) → (r : Result Fed CallError) (u : _)
-    → Answers (whole g.S.Steps.sense g.R.Remote.told) Any (turns second_turn (entries_at l.entries (drop l.place-index l.places)) (fed l.entries l.postponed later)) (l.s, l.e) r u
-    → Answers (whole g.S.Steps.sense g.R.Remote.told) Any (turns second_turn (entries_at l.entries l.places) (fed l.entries l.fn.postponed later)) (l.fn.s, l.fn.e) r u
+    → Answers (indexed (whole g.S.Steps.sense g.R.Remote.told)) Any (turns second_turn (entries_at l.entries (drop l.place-index l.places)) (fed l.entries l.postponed later)) ((l.s, l.e), l.targets) r u
+    → Answers (indexed (whole g.S.Steps.sense g.R.Remote.told)) Any (turns second_turn (entries_at l.entries l.places) (fed l.entries l.fn.postponed later)) ((l.fn.s, l.fn.e), l.fn.targets) r u

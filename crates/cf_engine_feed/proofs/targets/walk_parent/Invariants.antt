@@ -1,10 +1,10 @@
 use Rattle.std.proofs.Common.{List, drop}
+use Rattle.cf_engine_feed.specs.Targets.{is_parent_of}
 use Rattle.cf_engine_feed.proofs.FirstFound.{AreLeft}
-use Rattle.cf_model.specs.Identities.{has_target}
 use Rattle.cf_model.specs.Items.{Item}
 use Rattle.cf_table.specs.Tables.{MeansAll}
-use Rattle.cf_engine_feed.proofs.targets.find_item.Given as goal
+use Rattle.cf_engine_feed.proofs.targets.walk_parent.Given as goal
 
 -- the first item is that of the rows that are left
 abbrev pub invariant-loop-row : goal.invariant-loop-row
-invariant-loop-row l = (items : List Item) → MeansAll l.rows items → AreLeft (λ (i : Item). has_target i l.rid) (drop l.row-index l.rows) items
+invariant-loop-row l = (items : List Item) → MeansAll l.rows items → AreLeft (is_parent_of l.rid) (drop l.row-index l.rows) items
