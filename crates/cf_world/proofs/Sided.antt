@@ -21,6 +21,7 @@ use Rattle.cf_plain.specs.Worlds as plain
 use Rattle.cf_volume_points.specs.Standing.{clusters_on}
 use Rattle.cf_script.specs.Built.{is_built}
 use Rattle.cf_world.proofs.Counted.{met_more, met_none}
+use Rattle.cf_model_headline.proofs.HeadlineLaws.{promised}
 use Rattle.cf_world.proofs.OverPowers.{after_all, gains_then, last_then, over_push, over_runs}
 use Rattle.cf_world.specs.Led.{HandsBack, HasRunOn, IsLawful, IsSame, IsWhole, Keeps, Leads, LeadsWorld, can_do, met_by}
 use Rattle.cf_world.specs.declared.sides.Side.{Side}
@@ -116,6 +117,7 @@ module _ {D : Type 0} (state : D → Disk) where
   filter_hands m disk back trace a hands tells same h = subst (λ (k : Mode). Leads state k disk trace back) (sym h.0) (λ remote.
       let r = h.1 remote in
       let past : Past = record { told = r.told; last = last_image None r.powers } in
+      let clusters = clusters_on (state disk).seen in
       record {
         left = r.left;
         powers = r.powers;
@@ -123,6 +125,7 @@ module _ {D : Type 0} (state : D → Disk) where
         gains = subst (λ (o : Option (List (Choice × List ℕ))). Gains r.powers (state disk).powers o) (sym (tells past r.left r.is)) r.gains;
         met = subst (λ (d : D). capped ((state disk).faults + met_by trace) ≤ (state d).faults) (sym same) r.met;
         lasts = hands past r.left r.is;
+        promises = λ fresh. promised Filter remote clusters trace r.left fresh (over_runs StandsFor Filter None (start Filter remote clusters) r.left trace r.powers r.runs);
       })
 
   -- a world that has begun is whole

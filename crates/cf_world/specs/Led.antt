@@ -15,6 +15,8 @@ use Rattle.cf_model.specs.Lawful.{Lawful}
 use Rattle.cf_model.specs.Powers.{RunsOver, StandsNow}
 use Rattle.cf_model.specs.State.{State, start}
 use Rattle.cf_model.specs.Store.{Held}
+use Rattle.cf_model_headline.specs.Headline.{Promises}
+use Rattle.cf_model_laws.specs.Premises.{IsFresh}
 use Rattle.cf_plain.specs.Worlds as plain
 use Rattle.cf_volume_points.specs.Standing.{clusters_on}
 use Rattle.cf_script.specs.Built.{is_built}
@@ -34,7 +36,8 @@ met_by (p ∷ ps) = cond (meets_device p.1.shown) 1 0 + met_by ps
 -- What a trace of `filter` leaves of a disk on which it began with a new volume. There is one power cut of the disk for each crash,
 -- with its choice and in order, and each `resumed` opens what the image that the last of them left stands for. These are all
 -- the power cuts that the disk had, where it reports them. Of each answer Device a device call failed in its event: the count of
--- faults rose by as many at least. Whatever a crash leaves then stands for a point that a restart may open.
+-- faults rose by as many at least. Whatever a crash leaves then stands for a point that a restart may open. Of the same trace all
+-- holds that a user is promised of both commands, where the remote had recorded no token.
 pub record LeadsDisk {D : Type 0} (state : D → Disk) (remote : Held) (disk : D) (trace : List (Event × Answer)) (back : D) : Type 0 where
   pub left : State
   pub powers : List (Choice × List ℕ)
@@ -42,6 +45,7 @@ pub record LeadsDisk {D : Type 0} (state : D → Disk) (remote : Held) (disk : D
   pub gains : Gains powers (state disk).powers (state back).powers
   pub met : capped ((state disk).faults + met_by trace) ≤ (state back).faults
   pub lasts : (c : List ℕ) → (state back).may_leave c → StandsNow StandsFor left c
+  pub promises : IsFresh remote → Promises Filter remote (clusters_on (state disk).seen) trace left
 
 -- In `filter` no event touches the remote. In `replay` the disk is not used yet.
 abbrev pub Leads : {D : Type 0} → (D → Disk) → Mode → D → List (Event × Answer) → D → Type 0
