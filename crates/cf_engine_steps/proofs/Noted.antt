@@ -5,10 +5,10 @@ use Rattle.cf_base.specs.declared.codes.CallError.{CallError}
 use Rattle.cf_base.specs.declared.codes.CallError.TheVariants.{No, OutOfMemory}
 use Rattle.cf_engine_steps.specs.Answering.{Answers, Whole}
 use Rattle.cf_engine_steps.specs.Faults.{Rose, fault_lines, rose_none}
-use Rattle.cf_engine_steps.specs.States.{Means, Own, faults_of, whole, with_clock_of, with_took_done, with_volatile_of}
+use Rattle.cf_engine_steps.specs.States.{Means, Own, faults_of, whole, with_clock_of, with_skips_shown, with_took_done, with_volatile_of}
 use Rattle.cf_model.specs.Arrows.{Arrow, noted, one, unit}
 use Rattle.cf_model.specs.Feeds.{with_clock_seen}
-use Rattle.cf_model.specs.Passes.{without_done}
+use Rattle.cf_model.specs.Passes.{showing, without_done}
 use Rattle.cf_model.specs.PushReplies.{with_done}
 use Rattle.cf_model.specs.Skips.{in_volatile, with_volatile}
 use Rattle.cf_model.specs.State.{Filter, State, Volatile}
@@ -60,3 +60,7 @@ module _ {X R : Type 0} (S : steps.Sense X) (told : R → Told) (P : State → T
   pub noted_clock : (f : Own R) (clock : ℕ) → f ≡ with_clock_of clock e → Answers (whole S told) P (noted (with_clock_seen clock)) (x, e) (Ok unit) (x, f)
   noted_clock f clock is = subst (λ (o : Own R). Answers (whole S told) P (noted (with_clock_seen clock)) (x, e) (Ok unit) (x, o)) (sym is)
       (noted_own (with_clock_of clock e) (with_clock_seen clock) (λ s. refl) (λ s i. record { filter = i.filter; on = i.on; sees = record { replays = i.sees.replays; link = i.sees.link; shows_skips = i.sees.shows_skips; skips = i.sees.skips }; took_done = i.took_done; first_clock = ap (λ (o : Option ℕ). Some (unwrap_or o clock)) i.first_clock; volatile = i.volatile }) refl)
+
+  pub noted_showing : (f : Own R) → f ≡ with_skips_shown e → Answers (whole S told) P (noted showing) (x, e) (Ok unit) (x, f)
+  noted_showing f is = subst (λ (o : Own R). Answers (whole S told) P (noted showing) (x, e) (Ok unit) (x, o)) (sym is)
+      (noted_own (with_skips_shown e) showing (λ s. refl) (λ s i. record { filter = i.filter; on = i.on; sees = record { replays = i.sees.replays; link = i.sees.link; shows_skips = refl; skips = i.sees.skips }; took_done = i.took_done; first_clock = i.first_clock; volatile = i.volatile }) refl)

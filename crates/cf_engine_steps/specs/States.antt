@@ -1,6 +1,6 @@
 -- What an engine has of its own, and how that and what stands for a filter stand for the whole state.
-use Rattle.std.proofs.Common.{◌≡◌, ℕ, ◌+◌, Bool, refl}
-use Rattle.std.specs.Prelude.{Option, Some, unwrap_or}
+use Rattle.std.proofs.Common.{◌≡◌, ℕ, ◌+◌, Bool, true, false, refl}
+use Rattle.std.specs.Prelude.{Option, Some, None, unwrap_or}
 use Rattle.cf_base.specs.declared.policies.Mode.TheVariants as mode
 use Rattle.cf_engine_provider.specs.Agencies.{Agency, Sees}
 use Rattle.cf_engine_steps.specs.Answering.{Whole}
@@ -39,6 +39,16 @@ with_link_of l e = record e { agent = record e.agent { link = l } }
 
 abbrev pub with_skip_counted : {R : Type 0} → Own R → Own R
 with_skip_counted e = record e { agent = record e.agent { skips = e.agent.skips + 1 } }
+
+-- as an event begins, in which nothing was left out, and no Done taken and no feed applied
+
+abbrev pub event_begun : {R : Type 0} → Own R → Own R
+event_begun e = record e { agent = record e.agent { shows_skips = false; skips = 0 }; took_done = false; first_clock = None }
+
+-- with lines of the steps that are left out
+
+abbrev pub with_skips_shown : {R : Type 0} → Own R → Own R
+with_skips_shown e = record e { agent = record e.agent { shows_skips = true } }
 
 -- with something else known until the volume is opened again
 abbrev pub with_volatile_of : {R : Type 0} → (Volatile → Volatile) → Own R → Own R

@@ -3,7 +3,7 @@
 ghost use Rattle.std.specs.Prelude.{◌≡◌, IfOk, None, OnErr, OnOk, false, nat_le, not, true};
 ghost use Rattle.cf_base.specs.declared.notices.Frame.TheVariants as frame;
 ghost use Rattle.cf_engine_queue.specs.Books.{entry_value};
-ghost use Rattle.cf_engine_steps.specs.States.{with_clock_of, with_link_of, with_skip_counted, with_took_done, with_volatile_of};
+ghost use Rattle.cf_engine_steps.specs.States.{event_begun, with_clock_of, with_link_of, with_skip_counted, with_skips_shown, with_took_done, with_volatile_of};
 ghost use Rattle.cf_link.specs.Linked.{Does, Posts, Rises, posted_line};
 ghost use Rattle.cf_model.specs.Feeds.{all_released};
 ghost use Rattle.cf_model.specs.Messages.{come};
@@ -15,7 +15,7 @@ ghost use Rattle.cf_model.specs.State.{fresh};
 ghost use Rattle.cf_wire.specs.Spelled.{HasRoom};
 
 use crate::volatiles::Volatile;
-use cf_base::{ItemId, OutOfMemory, Request, Usn};
+use cf_base::{ItemId, OutOfMemory, Request, Usn, no_such_state};
 use cf_engine_provider::Agent;
 use cf_engine_queue::QueueEntry;
 use cf_link::{Came, Link, Posted};
@@ -52,6 +52,35 @@ impl<R: Remote> Engine<R> {
             first_clock: None,
             volatile: Volatile::new(alloc),
         }
+    }
+
+    /// An event begins, of which nothing is known yet. A step that is left out has no line in it.
+    pub fn begin(&mut self)
+        ensures { self.new ≡ event_begun self.old }
+    {
+        self.agent.begin(false);
+        self.took_done = false;
+        self.first_clock = None;
+    }
+
+    /// A step that is left out has a line in the running event, in which none was left out so far. One in which a step was left out
+    /// already never asks for it: then it is out of memory, and all is as before.
+    pub fn show_skips(&mut self) -> Result<(), OutOfMemory>
+        ensures ok { OnOk result (self.new ≡ with_skips_shown self.old) }
+        ensures err { OnErr result (self.new ≡ self.old) }
+    {
+        if self.agent.skips() != 0 {
+            return Err(no_such_state());
+        }
+        self.agent.begin(true);
+        Ok(())
+    }
+
+    /// The link to the remote.
+    pub fn link(&self) -> &Link<R>
+        ensures { result.now ≡ self.now.agent.link }
+    {
+        self.agent.link()
     }
 
     /// Whether a step that is left out has a line in the running event.
