@@ -2,7 +2,6 @@
 use Rattle.std.proofs.Common.{◌≡◌, Bool, true, false, refl, sym, ◌∙◌, ap, subst}
 use Rattle.std.specs.Prelude.{Result, Ok, Err, Option}
 use Rattle.cf_base.specs.declared.codes.CallError.{CallError}
-use Rattle.cf_base.specs.declared.codes.CallError.TheVariants.{OutOfMemory}
 use Rattle.cf_base.specs.declared.messages.Reply.{Reply}
 use Rattle.cf_base.specs.declared.messages.Request.{Request}
 use Rattle.cf_base.specs.declared.notices.Frame.TheVariants as frame
@@ -12,9 +11,8 @@ use Rattle.cf_engine_steps.specs.Quiet.{Quiet}
 use Rattle.cf_engine_steps.specs.States.{Own, whole}
 use Rattle.cf_engine_steps.proofs.Laws.{fails_first, goes_any, reads_on, returned, same_as, stops_first, then_any}
 use Rattle.cf_engine_steps.proofs.Lifting.{lift_any}
-use Rattle.cf_engine_steps.proofs.Linking.{link_stays}
 use Rattle.cf_engine_steps.proofs.QuietParts.{quiet_filter}
-use Rattle.cf_model.specs.Arrows.{Arrow, choose, seq, then_do, unit}
+use Rattle.cf_model.specs.Arrows.{choose, seq, then_do, unit}
 use Rattle.cf_model.specs.Messages.{act_on, act_unless, after_post, come_if, is_inline, is_stale, is_upload, post, send, send_now, take_if_any, take_reply}
 use Rattle.cf_model.specs.Points.{commit}
 use Rattle.cf_model.specs.State.{State, in_filter, in_volume}
@@ -54,10 +52,6 @@ module _ {X : Type 0} (W : Whole X) (q : Request) where
 
   pub sent_fails : (x y : X) (c : CallError) → Answers W Any (exchange q) x (Err c) y → Answers W Any (send_now q) x (Err c) y
   sent_fails x y c h = same_as W Any (seq (exchange q) (take_if_any q)) (send_now q) x y (Err c) (send_is q) (fails_first W Any (exchange q) (take_if_any q) x y c h)
-
--- what is not built yet
-pub not_yet : {X R : Type 0} (S : steps.Sense X) (told : R → Told) (f : Arrow State (Unit {0})) (x : X) (e : Own R) (r : Result (Unit {0}) CallError) → r ≡ Err OutOfMemory → Answers (whole S told) Any f (x, e) r (x, e)
-not_yet S told f x e r is = subst (λ (q : Result (Unit {0}) CallError). Answers (whole S told) Any f (x, e) q (x, e)) (sym is) (link_stays S told f x e e)
 
 -- uploads
 

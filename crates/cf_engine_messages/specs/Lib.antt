@@ -1,3 +1,4 @@
 pub mod Listings
 pub mod Refusals
 pub mod Staleness
+pub mod UploadReplies

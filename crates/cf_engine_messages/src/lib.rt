@@ -2,7 +2,7 @@
 //!
 //! A reply that does not fit its request, or for which nothing waits any more, is stale: `is_stale` tells it by the items, the asks and
 //! the records as they are then. One that is not does one thing, which `act_on` does: bytes and entries become one operation on their
-//! ask. `send` sends a request, what an upload is about being durable first; under an inline link its reply is taken at once. Each step
+//! ask, a feed is applied by cf_engine_feed, and the reply to an upload acts on its entry by cf_engine_replies. `send` sends a request, what an upload is about being durable first; under an inline link its reply is taken at once. Each step
 //! here answers what the definition of its name does, on the whole state, as cf_engine_steps has it.
 #![tactic(auto)]
 
@@ -11,6 +11,7 @@ mod operations;
 mod refusals;
 mod replies;
 mod staleness;
+mod upload_replies;
 
 pub use listings::take_listing;
 pub use operations::take_bytes;

@@ -1,7 +1,6 @@
 //! What replies do, and requests whose replies come at once.
 
-ghost use Rattle.std.specs.Prelude.{◌≡◌, Err};
-ghost use Rattle.cf_base.specs.declared.codes.CallError.TheVariants.{OutOfMemory};
+ghost use Rattle.std.specs.Prelude.{◌≡◌};
 ghost use Rattle.cf_engine_steps.specs.Answering.{Answers, Any};
 ghost use Rattle.cf_engine_steps.specs.States.{whole};
 ghost use Rattle.cf_model.specs.Messages.{act_on, is_upload, send, send_now, take_if_any, take_reply};
@@ -11,19 +10,15 @@ use crate::listings::take_listing;
 use crate::operations::take_bytes;
 use crate::refusals::{take_gone, take_missing};
 use crate::staleness::is_stale;
+use crate::upload_replies::{take_done, take_refused, take_void};
 use cf_base::{CallError, Reply, Request};
+use cf_engine_feed::apply_feed;
 use cf_engine_host::EngineHost;
 use cf_engine_steps::{Engine, exchange};
 use cf_remote::Remote;
 
-// What a feed and the replies to uploads do.
-fn not_built() -> Result<(), CallError>
-    ensures { result ≡ Err OutOfMemory }
-{
-    Err(CallError::OutOfMemory)
-}
-
-/// Does what a reply does that is not stale. What a feed and the replies to uploads do is not built yet: they are out of memory.
+/// Does what a reply does that is not stale. An upload whose reply comes has its entry live; of another it does nothing. An entry of a feed
+/// that is its own parent, which no reply that fits has, is answered as out of memory.
 pub fn act_on<S: EngineHost, R: Remote>(
     s: &mut S,
     e: &mut Engine<R>,
@@ -40,10 +35,18 @@ pub fn act_on<S: EngineHost, R: Remote>(
             drop(entries);
             done
         }
-        Reply::Feed { .. } => not_built(),
-        Reply::Done { .. } => not_built(),
-        Reply::Void { .. } => not_built(),
-        Reply::Refused { .. } => not_built(),
+        Reply::Feed { clock, entries, .. } => {
+            let done = apply_feed(s, e, clock, entries.as_slice());
+            drop(entries);
+            done
+        }
+        Reply::Done {
+            token,
+            rid,
+            version,
+        } => take_done(s, e, token, rid, version),
+        Reply::Void { token } => take_void(s, e, token),
+        Reply::Refused { token, why, .. } => take_refused(s, e, token, why),
     }
 }
 
