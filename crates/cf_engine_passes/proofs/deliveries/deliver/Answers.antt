@@ -1,0 +1,9 @@
+use Rattle.cf_engine_passes.proofs.Passed.{when_down, when_up}
+use Rattle.cf_model.specs.Passes.{deliver_now}
+use Rattle.cf_engine_passes.proofs.deliveries.deliver.Goals as goal
+
+pub returns-then-is_connected : goal.returns-then-is_connected
+returns-then-is_connected g c = when_up g.S.Steps.sense g.R.Remote.told c.args.s.now c.deliver_now.new.s c.args.e.now c.deliver_now.new.e (deliver_now c.args.message) c.deliver_now.result c.is_connected.result c.is_connected.ensures c.if-is_connected.true c.deliver_now.ensures
+
+pub returns-else-is_connected : goal.returns-else-is_connected
+returns-else-is_connected g c = when_down g.S.Steps.sense g.R.Remote.told c.args.s.now c.args.e.now (deliver_now c.args.message) c.is_connected.result c.is_connected.ensures c.if-is_connected.false
