@@ -1,0 +1,49 @@
+-- What an item's turn is.
+use Rattle.std.specs.Prelude.{◌≡◌, Bool, List, map}
+use Rattle.cf_base.specs.declared.ids.ItemId.{ItemId}
+use Rattle.cf_engine_queue.specs.Books.{tombstone_value}
+use Rattle.cf_engine_queue.specs.declared.uploads.Tombstone as queue
+use Rattle.cf_engine_steps.specs.Answering.{Whole}
+use Rattle.cf_engine_uploads.specs.declared.turns.Course.{Course}
+use Rattle.cf_engine_uploads.specs.declared.turns.Course.TheVariants.{Nothing, New, Moved, Changed, Settled}
+use Rattle.cf_filter_steps.specs.Answering.{IsAt, Sense}
+use Rattle.cf_model.specs.Arrows.{Arrow, ret, unit}
+use Rattle.cf_model.specs.Books.{MoveItem, Tombstone}
+use Rattle.cf_model.specs.Items.{Item}
+use Rattle.cf_model.specs.LookUp.{by_depth}
+use Rattle.cf_model.specs.Pushes.{is_left_out, mark_item, push_by_case, push_item, push_lists, push_tombstone, push_turn, upload, upload_new}
+use Rattle.cf_model.specs.State.{State, items_now}
+use Rattle.cf_table.specs.Means.{Means}
+use Rattle.cf_table.specs.declared.rows.Row.{Row}
+
+-- what is done with an item that is there
+abbrev pub done_by : Course → Item → Arrow State (Unit {0})
+done_by Nothing i = ret unit
+done_by New i = upload_new i
+done_by Moved i = push_item MoveItem i
+done_by Changed i = upload i
+done_by Settled i = mark_item i.id
+
+-- it is the case of the item that the row means
+pub record IsCase {X : Type 0} (S : Sense X) (row : Row) (x : X) (c : Course) : Type 0 where
+  pub is : (s : State) (i : Item) → S.means x s.filter → Means row i → done_by c i s ≡ push_by_case i s
+
+-- whether that item is left out
+pub record IsLeftOut {X : Type 0} (W : Whole X) (row : Row) (x : X) (b : Bool) : Type 0 where
+  pub is : (s : State) (i : Item) → W.means x s → Means row i → b ≡ is_left_out s i
+
+-- The turn is nothing, or this of an item that is there.
+abbrev pub IsTurn : Course → ItemId → State → Type 0
+IsTurn Nothing id s = ret unit s ≡ push_turn id s
+IsTurn c id s = (i : Item) × IsAt id i s.filter × (done_by c i s ≡ push_turn id s)
+
+pub record PlansTurn {X : Type 0} (W : Whole X) (id : ItemId) (x : X) (c : Course) : Type 0 where
+  pub is : (s : State) → W.means x s → IsTurn c id s
+
+-- all turns, of these tombstones and of the items as they are now
+abbrev pub push_with : List Tombstone → Arrow State (Unit {0})
+push_with ts s = push_lists ts (map (λ i. i.id) (by_depth (items_now s) (items_now s))) s
+
+-- the turn of a tombstone as its record has it
+abbrev pub push_one : queue.Tombstone → Arrow State (Unit {0})
+push_one t = push_tombstone (tombstone_value t)

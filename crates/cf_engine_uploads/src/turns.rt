@@ -1,0 +1,114 @@
+//! The turn of an item.
+
+ghost use Rattle.std.specs.Prelude.{◌≡◌, ◌||◌, IfOk};
+ghost use Rattle.cf_engine_steps.specs.Answering.{Answers, Any};
+ghost use Rattle.cf_engine_steps.specs.States.{whole};
+ghost use Rattle.cf_engine_uploads.specs.Turns.{IsCase, IsLeftOut, PlansTurn};
+ghost use Rattle.cf_model.specs.Pushes.{push_turn};
+
+use crate::exclusions::is_excluded;
+use crate::item_reads::{NO_RID, ROOT, parent_target, stands_at_seen, target_of};
+use crate::items::{mark_item, upload, upload_new};
+use crate::senders::Sender;
+use crate::uploads::push_place;
+use cf_base::{CallError, ItemId, OutOfMemory};
+use cf_engine_host::EngineHost;
+use cf_engine_queue::Action;
+use cf_engine_steps::{Engine, has_entry};
+use cf_filter_steps::Steps;
+use cf_remote::Remote;
+use cf_table::Row;
+
+/// What is done with an item at its turn.
+#[derive(Clone, Copy)]
+pub(crate) enum Course {
+    /// It is gone or left out.
+    Nothing,
+    /// No item of the remote is it.
+    New,
+    /// It stands at another path than the one seen.
+    Moved,
+    /// It has local writes that the base has not taken in.
+    Changed,
+    /// It may only have to be marked.
+    Settled,
+}
+
+fn any_of(root: bool, sent: bool, held: bool, excluded: bool, astray: bool) -> bool
+    ensures { result ≡ (root || sent || held || excluded || astray) }
+{
+    root || sent || held || excluded || astray
+}
+
+// Whether it is the root, an upload of it is on its way, it is held back until a feed, it is excluded, or no item of the remote is its
+// parent.
+fn is_left_out<S: EngineHost, R: Remote>(
+    s: &S,
+    e: &Engine<R>,
+    row: &Row,
+) -> Result<bool, OutOfMemory>
+    ensures { IfOk result (IsLeftOut (whole S.sense R.told) row.now (s.now, e.now)) }
+{
+    let sent = has_entry(s, row.id)?;
+    let parent = parent_target(s, row)?;
+    let held = e.volatile().holds_item(row.id);
+    let excluded = is_excluded(s.rows(), row.id);
+    Ok(any_of(
+        row.id.0 == ROOT.0,
+        sent,
+        held,
+        excluded,
+        parent.0 == NO_RID.0,
+    ))
+}
+
+// The first case that holds.
+fn case_of<S: EngineHost>(s: &S, row: &Row) -> Result<Course, OutOfMemory>
+    ensures { IfOk result (IsCase S.sense row.now s.now) }
+{
+    let target = target_of(row)?;
+    if target.0 == NO_RID.0 {
+        return Ok(Course::New);
+    }
+    if !stands_at_seen(s, row)? {
+        return Ok(Course::Moved);
+    }
+    if row.dirty {
+        return Ok(Course::Changed);
+    }
+    Ok(Course::Settled)
+}
+
+fn course_of<S: EngineHost, R: Remote>(
+    s: &S,
+    e: &Engine<R>,
+    id: ItemId,
+) -> Result<Course, OutOfMemory>
+    ensures { IfOk result (PlansTurn (whole S.sense R.told) id (s.now, e.now)) }
+{
+    let Some(row) = s.rows().get(id) else {
+        return Ok(Course::Nothing);
+    };
+    if is_left_out(s, e, row)? {
+        return Ok(Course::Nothing);
+    }
+    case_of(s, row)
+}
+
+/// Does what an item needs to be in sync, as it is at its turn: an upload, or a mark.
+pub(crate) fn push_turn<S: EngineHost, R: Remote, T: Sender>(
+    s: &mut S,
+    e: &mut Engine<R>,
+    sender: &T,
+    id: ItemId,
+) -> Result<(), CallError>
+    ensures { Answers (whole S.sense R.told) Any (push_turn id) (s.old, e.old) result (s.new, e.new) }
+{
+    match course_of(s, e, id)? {
+        Course::Nothing => Ok(()),
+        Course::New => upload_new(s, e, sender, id),
+        Course::Moved => push_place(s, e, sender, Action::Move, id),
+        Course::Changed => upload(s, e, sender, id),
+        Course::Settled => mark_item(s, e, id),
+    }
+}
