@@ -1,41 +1,26 @@
 -- Uploads of items, and what is done at their turns.
-use Rattle.std.proofs.Common.{◌≡◌, ◌==◌, Bool, true, false, not, List, refl, sym, ◌∙◌, ap, subst}
-use Rattle.std.specs.List.{list_any}
-use Rattle.std.specs.Prelude.{◌||◌, Result, Ok, Err, Option, Some, None, is_some}
+use Rattle.std.proofs.Common.{◌≡◌, Bool, true, false, not, refl, sym, ◌∙◌, ap, subst}
+use Rattle.std.specs.Prelude.{Result, Ok, Err, Option, Some, None, is_some}
 use Rattle.cf_base.specs.declared.changes.Change.TheVariants as change
 use Rattle.cf_base.specs.declared.codes.CallError.{CallError}
 use Rattle.cf_base.specs.declared.ids.ItemId.{ItemId}
-use Rattle.cf_base.specs.declared.ids.Rid.{Rid}
-use Rattle.cf_engine_steps.specs.Answering.{Answers, Any, On, Whole}
-use Rattle.cf_engine_steps.specs.BookReads.{has_entry_in}
-use Rattle.cf_engine_steps.specs.Marks.{IsParentTarget, IsTarget, StandsIf}
+use Rattle.cf_engine_steps.specs.Answering.{Answers, Any, On}
 use Rattle.cf_engine_steps.specs.States.{Means, Own, whole}
-use Rattle.cf_engine_steps.proofs.Laws.{fails_first, goes_any, ok_off, returned}
+use Rattle.cf_engine_steps.proofs.Laws.{fails_first, goes_any, returned}
 use Rattle.cf_engine_uploads.proofs.Trees.{on_tree, same_at, under}
 use Rattle.cf_engine_uploads.specs.Reads.{is_there_at}
-use Rattle.cf_engine_uploads.specs.Turns.{IsCase, IsLeftOut, IsTurn, PlansTurn, done_by}
-use Rattle.cf_engine_uploads.specs.declared.turns.Course.{Course}
-use Rattle.cf_engine_uploads.specs.declared.turns.Course.TheVariants.{Nothing, New, Moved, Changed, Settled}
 use Rattle.cf_filter_calls.specs.Planned.{ReadsAt, has_entries, stands_for}
-use Rattle.cf_filter_steps.proofs.RowReads.{row_gone, row_there}
 use Rattle.cf_filter_steps.specs.Answering as steps
 use Rattle.cf_filter_steps.specs.Answering.{IsAt}
-use Rattle.cf_filter_steps.specs.Finding.{HasRows}
 use Rattle.cf_model.specs.Arrows.{Arrow, choose, only_if, reading, ret, seq, then_do, unit}
-use Rattle.cf_model.specs.Books.{MakeDir, MoveItem}
-use Rattle.cf_model.specs.Identities.{is_untargeted, no_identity, parent_target, stands_at_seen}
-use Rattle.cf_model.specs.Items.{Item, is_dirty, item_of}
-use Rattle.cf_model.specs.LookUp.{is_excluded}
-use Rattle.cf_model.specs.PushReplies.{has_item}
-use Rattle.cf_model.specs.Pushes.{hydrate_first, is_left_out, item_now, mark_item, push_by_case, push_here, push_item, push_turn, push_unless, put_file, put_whole, upload, upload_if, upload_new, upload_now}
+use Rattle.cf_model.specs.Books.{MakeDir}
+use Rattle.cf_model.specs.Identities.{no_identity}
+use Rattle.cf_model.specs.Items.{Item, item_of}
+use Rattle.cf_model.specs.Pushes.{hydrate_first, item_now, push_item, put_file, put_whole, upload, upload_if, upload_new, upload_now}
 use Rattle.cf_model.specs.Skips.{try_change}
-use Rattle.cf_model.specs.State.{State, Volatile, book_now, items_now}
+use Rattle.cf_model.specs.State.{State, items_now}
 use Rattle.cf_remote.specs.Told.{Told}
-use Rattle.cf_table.specs.Means.{Means as MeansItem}
-use Rattle.cf_table.specs.Tables.{MeansAll, Table, row_of}
-use Rattle.cf_table.specs.declared.rows.Row.{Row}
 use Rattle.cf_tree.proofs.Walks.{own_id}
-use Rattle.cf_tree.specs.Trees.{IsTree}
 
 module _ {X R : Type 0} (S : steps.Sense X) (told : R → Told) (id : ItemId) (i : Item) (x : X) (e : Own R) where
   abbrev Here : State → Type 0

@@ -1,6 +1,6 @@
 -- Drafts of uploads are those of the definitions.
-use Rattle.std.proofs.Common.{◌≡◌, Bool, true, false, refl, sym, ◌∙◌, ap, subst, ℕ, List}
-use Rattle.std.specs.Prelude.{Option, Some, None, cond, ◌==◌}
+use Rattle.std.proofs.Common.{◌≡◌, sym, ◌∙◌, ap, subst}
+use Rattle.std.specs.Prelude.{Option, Some, cond, ◌==◌}
 use Rattle.cf_base.specs.declared.ids.ItemId.{ItemId}
 use Rattle.cf_base.specs.declared.ids.Rid.{Rid}
 use Rattle.cf_base.specs.declared.ids.Token.{Token}
@@ -9,9 +9,9 @@ use Rattle.cf_engine_uploads.specs.Entries.{IsEntry, IsPlaced, IsRead}
 use Rattle.cf_filter_steps.proofs.RowReads.{row_there}
 use Rattle.cf_filter_steps.specs.Answering.{IsAt, Sense}
 use Rattle.cf_filter_steps.specs.Finding.{HasRows}
-use Rattle.cf_model.specs.Books.{Action, MakeDir, MoveItem, PutFile, QueueEntry, RemoveItem}
+use Rattle.cf_model.specs.Books.{Action, MakeDir, PutFile, QueueEntry}
 use Rattle.cf_model.specs.Items.{Item}
-use Rattle.cf_model.specs.Pushes.{next_token, placed, without_place, without_rid}
+use Rattle.cf_model.specs.Pushes.{next_token, without_place, without_rid}
 use Rattle.cf_model.specs.State.{State}
 use Rattle.cf_table.specs.Means.{Means}
 use Rattle.cf_table.specs.Tables.{Table, row_of}

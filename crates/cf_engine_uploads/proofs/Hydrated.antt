@@ -1,5 +1,5 @@
 -- Files that are hydrated first.
-use Rattle.std.proofs.Common.{◌≡◌, Bool, true, false, List, refl, sym, ◌∙◌, ap, subst, ◌⊎◌, inl, inr}
+use Rattle.std.proofs.Common.{◌≡◌, Bool, true, false, refl, sym, ◌∙◌, ap, subst, ◌⊎◌, inl, inr}
 use Rattle.std.specs.List.{list_any}
 use Rattle.std.specs.Prelude.{◌≢◌, ◌&&◌, ◌==◌, Result, Ok, Err, Option, Some, None}
 use Rattle.cf_base.specs.declared.answers.Shown.{Shown}

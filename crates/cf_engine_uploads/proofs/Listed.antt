@@ -1,11 +1,11 @@
 -- The turns of all tombstones and items.
-use Rattle.std.proofs.Common.{◌≡◌, ℕ, ◌<◌, List, [], ◌∷◌, length, get_or, zero, suc, refl, sym, ◌∙◌, ap, subst, arith}
+use Rattle.std.proofs.Common.{◌≡◌, ℕ, ◌<◌, List, [], ◌∷◌, length, get_or, zero, suc, refl, ◌∙◌, ap, arith}
 use Rattle.std.specs.Prelude.{Result, map, filter}
 use Rattle.cf_base.specs.declared.codes.CallError.{CallError}
 use Rattle.cf_base.specs.declared.ids.ItemId.{ItemId}
 use Rattle.cf_engine_queue.specs.Books.{tombstone_value}
 use Rattle.cf_engine_queue.specs.declared.uploads.Tombstone.{Tombstone}
-use Rattle.cf_engine_steps.specs.Answering.{Answers, Any, Whole}
+use Rattle.cf_engine_steps.specs.Answering.{Answers, Any}
 use Rattle.cf_engine_steps.specs.BookReads.{queue_in}
 use Rattle.cf_engine_steps.specs.States.{Own, whole}
 use Rattle.cf_engine_uploads.proofs.Trees.{same_at}
@@ -17,8 +17,8 @@ use Rattle.cf_model.specs.Books as model
 use Rattle.cf_model.specs.Items.{Item}
 use Rattle.cf_model.specs.LookUp.{by_depth, is_in_tree_of, tree_of}
 use Rattle.cf_model.specs.Numbers.{root_id}
-use Rattle.cf_model.specs.Pushes.{push_all, push_lists, push_tombstone, push_turn}
-use Rattle.cf_model.specs.State.{State, items_now}
+use Rattle.cf_model.specs.Pushes.{push_all, push_lists, push_tombstone}
+use Rattle.cf_model.specs.State.{items_now}
 use Rattle.cf_remote.specs.Told.{Told}
 use Rattle.cf_table.specs.Tables.{MeansAll, Table}
 use Rattle.cf_tree.specs.Trees.{IsTree}

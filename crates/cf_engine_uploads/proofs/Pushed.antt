@@ -1,18 +1,15 @@
 -- One upload: its token, its record, and what is sent.
-use Rattle.std.proofs.Common.{◌≡◌, ◌∷◌, [], Bool, true, false, refl, sym, ◌∙◌, ap, subst, inl, inr}
+use Rattle.std.proofs.Common.{◌≡◌, ◌∷◌, [], Bool, true, false, refl, sym, ◌∙◌, subst, inl}
 use Rattle.std.specs.Prelude.{Result, Ok, Err, Option, Some, None, cond, nat_le}
 use Rattle.cf_base.specs.declared.codes.CallError.{CallError}
-use Rattle.cf_base.specs.declared.codes.CallError.TheVariants.{No, OutOfMemory}
 use Rattle.cf_base.specs.declared.codes.Code.{Code}
 use Rattle.cf_base.specs.declared.codes.Code.TheVariants as code
 use Rattle.cf_base.specs.declared.ids.Token.{Token}
 use Rattle.cf_base.specs.declared.messages.Request.{Request}
-use Rattle.cf_engine_steps.specs.Answering.{After, Answers, Any, Reads, Whole}
+use Rattle.cf_engine_steps.specs.Answering.{Answers, Any, Reads, Whole}
 use Rattle.cf_engine_steps.specs.Readings.{token_left}
-use Rattle.cf_engine_steps.specs.States.{Own, faults_of, whole}
 use Rattle.cf_engine_steps.proofs.Laws.{fails_first, goes_any, ok_off, returned}
 use Rattle.cf_engine_steps.proofs.Tried.{tried_skips}
-use Rattle.cf_filter_steps.specs.Answering as steps
 use Rattle.cf_model.specs.Arrows.{and_then, one, then_do, unit, unless_done, when_ok}
 use Rattle.cf_model.specs.Books.{QueueEntry, with_entry}
 use Rattle.cf_model.specs.Messages.{send}

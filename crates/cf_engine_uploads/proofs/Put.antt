@@ -9,14 +9,13 @@ use Rattle.cf_base.specs.declared.codes.Code.TheVariants as code
 use Rattle.cf_base.specs.declared.ids.ItemId.{ItemId}
 use Rattle.cf_base.specs.declared.ids.Token.{Token}
 use Rattle.cf_base.specs.declared.ids.Version.{Version}
-use Rattle.cf_base.specs.declared.messages.Request.{Request}
 use Rattle.cf_base.specs.declared.spans.Span.{Span}
 use Rattle.cf_engine_queue.specs.Books.{entry_value}
-use Rattle.cf_engine_steps.specs.Answering.{After, Answers, Any, On, Reads, Whole}
+use Rattle.cf_engine_steps.specs.Answering.{Answers, Any, On, Reads}
 use Rattle.cf_engine_steps.specs.Readings.{token_left}
 use Rattle.cf_engine_steps.specs.States.{Means, Own, whole}
 use Rattle.cf_engine_steps.proofs.Laws.{after_on, returned}
-use Rattle.cf_engine_uploads.proofs.Pushed.{NoToken, no_token, none_left, stops_at_token, token_is}
+use Rattle.cf_engine_uploads.proofs.Pushed.{no_token, none_left, stops_at_token, token_is}
 use Rattle.cf_engine_uploads.proofs.Trees.{Leads, on_tree, same_at, under}
 use Rattle.cf_engine_uploads.specs.Entries.{Drafts}
 use Rattle.cf_engine_uploads.specs.Reads.{is_whole_at}
@@ -26,13 +25,12 @@ use Rattle.cf_filter_calls.specs.Planned.{ReadsAt}
 use Rattle.cf_filter_steps.specs.Answering as steps
 use Rattle.cf_filter_steps.specs.Answering.{IsAt}
 use Rattle.cf_filter_steps.specs.Putting.{IsHere, bytes_there}
-use Rattle.cf_filter_steps.specs.Readings.{whether}
 use Rattle.cf_model.specs.Arrows.{Arrow, one, reading, ret, unit}
 use Rattle.cf_model.specs.Books.{Action, MakeDir, MoveItem, PutFile, QueueEntry, RemoveItem}
 use Rattle.cf_model.specs.Identities.{base_version}
 use Rattle.cf_model.specs.Items.{Item, bytes_held, is_all_here, item_of, size_of}
 use Rattle.cf_model.specs.Operations.{as_it_is}
-use Rattle.cf_model.specs.Pushes.{entry_by, item_now, next_token, push, push_item, put_if, put_whole, request_of}
+use Rattle.cf_model.specs.Pushes.{entry_by, item_now, push, push_item, put_if, put_whole, request_of}
 use Rattle.cf_model.specs.Skips.{skip}
 use Rattle.cf_model.specs.State.{Filter, State, items_now, with_filter}
 use Rattle.cf_model.specs.Words.{part, says}

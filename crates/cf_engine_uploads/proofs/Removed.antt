@@ -1,5 +1,5 @@
 -- Uploads of removals.
-use Rattle.std.proofs.Common.{◌≡◌, ◌==◌, Bool, true, false, not, List, [], refl, sym, ◌∙◌, ap, subst, ℕ}
+use Rattle.std.proofs.Common.{◌≡◌, ◌==◌, Bool, true, false, not, List, [], sym, ◌∙◌, ap, subst, ℕ}
 use Rattle.std.specs.Prelude.{◌||◌, Result, Ok, Option, Some, None}
 use Rattle.cf_base.specs.declared.codes.CallError.{CallError}
 use Rattle.cf_base.specs.declared.codes.Code.TheVariants as code
@@ -15,12 +15,12 @@ use Rattle.cf_engine_uploads.proofs.Trees.{same_at}
 use Rattle.cf_engine_uploads.specs.Removals.{DraftsRemoval, IsTombstoneLeftOut}
 use Rattle.cf_engine_uploads.specs.declared.entries.Draft.{Draft}
 use Rattle.cf_filter_steps.specs.Answering as steps
-use Rattle.cf_model.specs.Arrows.{ret, unit}
+use Rattle.cf_model.specs.Arrows.{unit}
 use Rattle.cf_model.specs.Books.{Tombstone, tombstone_of}
 use Rattle.cf_model.specs.PushReplies.{has_number}
 use Rattle.cf_model.specs.Pushes.{bury_unless, has_rid_entry, is_tombstone_left_out, push, push_removal, push_tombstone, removal_entry, request_of}
 use Rattle.cf_model.specs.Skips.{skip}
-use Rattle.cf_model.specs.State.{State, book_now}
+use Rattle.cf_model.specs.State.{book_now}
 use Rattle.cf_model.specs.Words.{says}
 use Rattle.cf_remote.specs.Told.{Told}
 

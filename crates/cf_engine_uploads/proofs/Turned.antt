@@ -1,6 +1,6 @@
 -- What is done with an item at its turn is what the rules of a pass say.
 use Rattle.std.proofs.Common.{◌≡◌, ◌==◌, Bool, true, false, not, List, refl, sym, ◌∙◌, ap, subst}
-use Rattle.std.specs.Prelude.{◌||◌, Result, Ok, Err, Option, Some, None}
+use Rattle.std.specs.Prelude.{◌||◌, Result, Ok, Option, Some, None}
 use Rattle.cf_base.specs.declared.codes.CallError.{CallError}
 use Rattle.cf_base.specs.declared.ids.ItemId.{ItemId}
 use Rattle.cf_base.specs.declared.ids.Rid.{Rid}
@@ -17,13 +17,13 @@ use Rattle.cf_filter_steps.proofs.RowReads.{row_gone, row_there}
 use Rattle.cf_filter_steps.specs.Answering as steps
 use Rattle.cf_filter_steps.specs.Answering.{IsAt}
 use Rattle.cf_filter_steps.specs.Finding.{HasRows}
-use Rattle.cf_model.specs.Arrows.{Arrow, choose, ret, unit}
+use Rattle.cf_model.specs.Arrows.{choose, ret, unit}
 use Rattle.cf_model.specs.Books.{MoveItem}
 use Rattle.cf_model.specs.Identities.{is_untargeted, stands_at_seen}
-use Rattle.cf_model.specs.Items.{Item, is_dirty, item_of}
+use Rattle.cf_model.specs.Items.{Item, is_dirty}
 use Rattle.cf_model.specs.LookUp.{is_excluded}
 use Rattle.cf_model.specs.PushReplies.{has_item}
-use Rattle.cf_model.specs.Pushes.{has_entry, is_left_out, mark_item, push_by_case, push_here, push_item, push_turn, push_unless, upload, upload_new}
+use Rattle.cf_model.specs.Pushes.{has_entry, mark_item, push_by_case, push_here, push_item, push_turn, push_unless, upload, upload_new}
 use Rattle.cf_model.specs.State.{State, book_now, items_now}
 use Rattle.cf_model.specs.Trees.{Tree}
 use Rattle.cf_remote.specs.Told.{Told}

@@ -1,6 +1,5 @@
 use Rattle.cf_engine_queue.specs.Books.{action_of, entry_value}
 use Rattle.cf_engine_uploads.proofs.Drafted.{new_directory, of_action, put_entry_is}
-use Rattle.cf_model.specs.Books.{MakeDir}
 use Rattle.std.proofs.Common.{ap}
 use Rattle.cf_engine_uploads.proofs.entries.entry_by.Goals as goal
 

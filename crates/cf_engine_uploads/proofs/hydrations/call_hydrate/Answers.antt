@@ -5,7 +5,6 @@ use Rattle.cf_engine_uploads.proofs.Hydrated.{called, not_called}
 use Rattle.cf_filter_steps.specs.Answering.{IsAt}
 use Rattle.cf_model.specs.Callbacks.{calling}
 use Rattle.cf_model.specs.Waits.{hydrate_item}
-use Rattle.cf_base.specs.declared.answers.Shown.TheVariants as shown
 use Rattle.cf_engine_uploads.proofs.hydrations.call_hydrate.Goals as goal
 
 pub returns-in_err-shown : goal.returns-in_err-shown

@@ -1,5 +1,4 @@
 use Rattle.cf_engine_queue.specs.Books.{action_of, entry_value}
-use Rattle.cf_model.specs.Books.{MakeDir}
 use Rattle.cf_model.specs.Pushes.{request_by}
 use Rattle.std.proofs.Common.{sym}
 use Rattle.cf_engine_uploads.proofs.requests.spell.Goals as goal

@@ -4,7 +4,6 @@ use Rattle.cf_engine_steps.specs.States.{whole}
 use Rattle.cf_model.specs.Messages.{send}
 use Rattle.cf_model.specs.Pushes.{anchored}
 use Rattle.cf_model.specs.Skips.{in_book}
-use Rattle.std.specs.Prelude.{Ok}
 use Rattle.cf_engine_uploads.proofs.uploads.keep_and_send.Goals as goal
 
 pub returns-in-Ok : goal.returns-in-Ok
