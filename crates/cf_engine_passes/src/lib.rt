@@ -8,11 +8,10 @@
 mod deliveries;
 mod feeds;
 mod passes;
+mod senders;
 mod settlements;
-mod uploads;
 
 pub use deliveries::deliver;
 pub use feeds::ask_feed;
 pub use passes::{pass, work};
 pub use settlements::settle_all;
-pub use uploads::Uploads;

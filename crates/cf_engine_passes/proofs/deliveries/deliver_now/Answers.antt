@@ -1,4 +1,4 @@
-use Rattle.cf_engine_passes.proofs.Delivered.{kept, refused}
+use Rattle.cf_engine_passes.proofs.Delivered.{kept}
 use Rattle.cf_engine_passes.proofs.deliveries.deliver_now.Goals as goal
 
 pub returns-in-Ok : goal.returns-in-Ok
