@@ -1,10 +1,11 @@
 -- Anchors that are noted.
 use Rattle.std.proofs.Common.{◌≡◌, ◌==◌, Bool, true, false, cond, eqb, Option, Some, None, refl, sym, ◌∙◌, ap, subst}
-use Rattle.std.specs.Prelude.{MatchOption, Ok}
+use Rattle.std.specs.Prelude.{MatchOption, Ok, Result}
+use Rattle.cf_base.specs.declared.codes.CallError.{CallError}
 use Rattle.cf_base.specs.declared.ids.ItemId.{ItemId}
 use Rattle.cf_base.specs.declared.ids.Usn.{Usn}
 use Rattle.cf_disk.specs.Disk.{State}
-use Rattle.cf_filter.specs.Booking.{anchored_at, with_book_of}
+use Rattle.cf_filter.specs.Booking.{anchored_at}
 use Rattle.cf_filter_machine.proofs.BookSteps.{book_moved}
 use Rattle.cf_filter_machine.proofs.RemoveSteps.{row_there}
 use Rattle.cf_filter_machine.proofs.RisingBooks.{anchors_with}
@@ -12,7 +13,7 @@ use Rattle.cf_filter_machine.specs.Held.{Desk, Held}
 use Rattle.cf_filter_machine.specs.Keeping.{IsKeptVolume}
 use Rattle.cf_filter_machine.specs.Lasts.{lasts_at}
 use Rattle.cf_filter_machine.specs.Sensing.{Stands, sense}
-use Rattle.cf_model.specs.Arrows.{one, unit}
+use Rattle.cf_model.specs.Arrows.{noted, unit}
 use Rattle.cf_model.specs.Books.{Book, anchor_of, with_anchor}
 use Rattle.cf_model.specs.Changes.{next_number}
 use Rattle.cf_model.specs.Items.{Item, item_of}
@@ -25,8 +26,10 @@ use Rattle.cf_volume_points.specs.Holding.{FitsTable}
 use Rattle.cf_volume_points.specs.Known.{Known}
 use Rattle.cf_engine_queue.proofs.StaysKeepable.{anchor_kept}
 use Rattle.cf_filter_machine.proofs.Rebooked.{rebooked}
+use Rattle.cf_filter_steps.proofs.Laws.{noted_as, weaker}
 use Rattle.cf_filter_steps.proofs.LookUps.{of_found}
 use Rattle.cf_filter_steps.specs.Answering.{Answers, IsAt}
+use Rattle.cf_engine_host.specs.BookSteps.{HasNumber, with_book_of}
 use Rattle.cf_table.specs.Means.{Means}
 use Rattle.cf_table.specs.Tables.{row_of}
 use Rattle.cf_table.specs.declared.rows.Row.{Row}
@@ -59,7 +62,7 @@ anchored_is id n b s e = ap (λ (c : Bool). with_book_of (λ (k : Book). cond c 
 
 -- an item without a number keeps what it has
 pub anchored_not : {D : Type 0} (state : D → State) (x : Held D) (id : ItemId) (i : Item) → true ≡ unnumbered (row_of x.known.table.rows id)
-    → Answers (sense state) (IsAt id i) (one (with_book_of (anchored_at id i.number))) x (Ok unit) x
+    → Answers (sense state) (IsAt id i) (noted (with_book_of (anchored_at id i.number))) x (Ok unit) x
 anchored_not state x id i none = record {
   leads = λ s h there. (
     s,
@@ -72,8 +75,8 @@ anchored_not state x id i none = record {
 pub anchored_done : {D : Type 0} (state : D → State) (x y : Held D) (k : Known) (e : Desk) (id : ItemId) (i : Item) → y ≡ record { disk = x.disk; known = k; desk = e }
     → false ≡ unnumbered (row_of x.known.table.rows id) → k.broken ≡ false → e ≡ x.desk
     → ((s : Filter) → Stands state x s → item_of s.volume.items id ≡ Some i → At (state x.disk) k (record s.volume { book = with_anchor id i.number s.volume.book }))
-    → Answers (sense state) (IsAt id i) (one (with_book_of (anchored_at id i.number))) x (Ok unit) y
-anchored_done {D} state x y k e id i is some usable same at = subst (λ (z : Held D). Answers (sense state) (IsAt id i) (one (with_book_of (anchored_at id i.number))) x (Ok unit) z) (sym is) (record {
+    → Answers (sense state) (IsAt id i) (noted (with_book_of (anchored_at id i.number))) x (Ok unit) y
+anchored_done {D} state x y k e id i is some usable same at = subst (λ (z : Held D). Answers (sense state) (IsAt id i) (noted (with_book_of (anchored_at id i.number))) x (Ok unit) z) (sym is) (record {
   leads = λ s h there.
       let now = at s h there in
       let given : is_no_usn i.number ≡ false = number_of (state x.disk) x.known s.volume id i false some h.volume there in
@@ -92,3 +95,11 @@ anchored_done {D} state x y k e id i is some usable same at = subst (λ (z : Hel
         },
       );
 })
+
+-- of an item that has a number
+pub numbered_done : {D : Type 0} (state : D → State) (x y : Held D) (id : ItemId) (i : Item) (r : Result (Unit {0}) CallError)
+    → Answers (sense state) (IsAt id i) (noted (with_book_of (anchored_at id i.number))) x r y → Answers (sense state) (HasNumber id i) (noted (with_book_of (with_anchor id i.number))) x r y
+numbered_done state x y id i r h =
+    noted_as (sense state) (HasNumber id i) (with_book_of (anchored_at id i.number)) (with_book_of (with_anchor id i.number)) x y r
+    (λ s stands has. ap (λ (b : Bool). with_book_of (λ (k : Book). cond b k (with_anchor id i.number k)) s) has.number)
+    (weaker (sense state) (IsAt id i) (HasNumber id i) (noted (with_book_of (anchored_at id i.number))) x y r (λ s has. has.at) h)

@@ -16,6 +16,7 @@ use Rattle.cf_filter_machine.proofs.DeskSteps.{stands_with}
 use Rattle.cf_filter_machine.proofs.GoodSteps.{same_good}
 use Rattle.cf_filter_machine.proofs.Seen.{seen_gone, seen_there}
 use Rattle.cf_engine_host.specs.Callbacks.{Answering, AnswersOn, CutOff, NoneFailed}
+use Rattle.cf_engine_host.specs.Draining.{DrainedTo, DrainsBy}
 use Rattle.cf_filter.specs.Draining.{CallsTo, Drains, DrainsTo, PartTo, TurnTo, Turns}
 use Rattle.cf_filter_machine.specs.Held.{Desk, Held}
 use Rattle.cf_filter_machine.specs.Lasting.{Moved}
@@ -24,7 +25,7 @@ use Rattle.cf_filter.specs.Porting.{Goes, GoneTo, sight_of}
 use Rattle.cf_filter_machine.specs.Sensing.{Rose, Stands, rose_on, sense}
 use Rattle.cf_filter.specs.Turning.{IsTurned, shows_end, with_no_own}
 use Rattle.cf_model.specs.Arrows.{Arrow}
-use Rattle.cf_model.specs.Callbacks.{begin_call, result_of}
+use Rattle.cf_model.specs.Callbacks.{begin_call, finish, result_of}
 use Rattle.cf_model.specs.Items.{base_of}
 use Rattle.cf_model.specs.Numbers.{most}
 use Rattle.cf_model.specs.Ports.{Act, Acts, with_rest}
@@ -32,7 +33,7 @@ use Rattle.cf_model.specs.State.{Filter}
 use Rattle.cf_model.specs.Words.{part}
 use Rattle.cf_volume_points.proofs.KeptSound.{means_all}
 use Rattle.cf_volume_points.specs.Standing.{cluster_on}
-use Rattle.cf_filter_steps.specs.Answering.{Any, Reads}
+use Rattle.cf_filter_steps.specs.Answering.{Answers, Any, Reads}
 use Rattle.cf_table.specs.Tables.{row_of}
 use Rattle.cf_table.specs.declared.rows.Row.{Row}
 
@@ -64,6 +65,26 @@ sight_shows state x s h = record {
   waiting = ap (λ (d : Desk). d.waiting) h.desk;
   records = h.volume.now.records;
 }
+
+-- the end of a call
+
+pub result_shown : (a : Shown) (t : Filter) → shows_end a t.ending ≡ result_of a t
+result_shown (shown.Pending id) t = refl
+result_shown a t = refl
+
+module _ {D : Type 0} (state : D → State) where
+  over : (x : Held D) (t : Filter) → Stands state x t → Stands state (with_no_own x) (begin_call t)
+  unfolding with_no_own
+  over x t h = stands_with state x (record x.desk { own = None; ending = None }) t (begin_call t) h refl (ap (λ (d : Desk). record d { own = None; ending = None }) h.desk) (same_good t (begin_call t) refl refl refl h.good)
+
+  over_moved : (x y : Held D) (s t : Filter) → Moved (state x.disk) (state y.disk) s.volume t.volume → Moved (state x.disk) (state (with_no_own y).disk) s.volume t.volume
+  unfolding with_no_own
+  over_moved x y s t m = m
+
+  pub call_ended : (a b : Shown) (x z : Held D) → b ≡ shows_end a x.desk.ending → z ≡ with_no_own x → Answers (sense state) Any (finish a) x (Ok b) z
+  call_ended a b x z shows is = subst (λ (w : Held D). Answers (sense state) Any (finish a) x (Ok b) w) (sym is) (record {
+    leads = λ s h p. (begin_call s, (shows ∙ ap (λ (k : Desk). shows_end a k.ending) h.desk ∙ result_shown a s, refl), over_moved x x s s ((sense state).stays x s h), over x s h);
+  })
 
 module _ {D P : Type 0} (state : D → State) (answers : Answering P) where
   -- one callback
@@ -177,6 +198,24 @@ module _ {D P : Type 0} (state : D → State) (answers : Answering P) where
   drains_exit p q x next y ask e r some turn is =
       let o = err_from_is_err_and r is in subst (λ (u : Result (Unit {0}) CallError). Drains 1 state answers p x u q y) (sym (o.1 ∙ ap (λ (z : CallError). Err z) o.2)) (drains_stops p q x next y ask e some turn)
 
+  -- in the words of an engine
+
+  drained_to : (p q : P) (x y : Held D) (s t : Filter) (r : Result (Unit {0}) CallError) → DrainsTo most state answers p x s r q y t → DrainedTo (sense state) answers p x s r q y t
+  drained_to p q x y s t (Ok u) h = h
+  drained_to p q x y s t (Err (No c)) h = (h.0, h.1, (h.2, h.3))
+  drained_to p q x y s t (Err OutOfMemory) h = h
+
+  drains_to : (p q : P) (x y : Held D) (s t : Filter) (r : Result (Unit {0}) CallError) → DrainedTo (sense state) answers p x s r q y t → DrainsTo most state answers p x s r q y t
+  drains_to p q x y s t (Ok u) h = h
+  drains_to p q x y s t (Err (No c)) h = (h.0, h.1, h.2.0, h.2.1)
+  drains_to p q x y s t (Err OutOfMemory) h = h
+
+  pub drains_by : (p q : P) (x y : Held D) (r : Result (Unit {0}) CallError) → Drains most state answers p x r q y → DrainsBy (sense state) answers p x r q y
+  drains_by p q x y r h = record { leads = λ s i. let d = h.leads s i in (d.0, d.1, drained_to p q x y s d.0 r d.2) }
+
+  pub drains_as : (p q : P) (x y : Held D) (r : Result (Unit {0}) CallError) → DrainsBy (sense state) answers p x r q y → Drains most state answers p x r q y
+  drains_as p q x y r h = record { leads = λ s i. let d = h.leads s i in (d.0, d.1, drains_to p q x y s d.0 r d.2) }
+
   -- a call
 
   pub calls_stopped : (part : Arrow Filter Shown) (p : P) (x y : Held D) (s : Filter) (told r : Result Shown CallError) (e : CallError) → PartTo state part x s told y → told ≡ Err e → IsErrAnd r (λ z. z ≡ e) → CallsTo state answers part p x s r p y
@@ -197,18 +236,6 @@ module _ {D P : Type 0} (state : D → State) (answers : Answering P) where
       by (No c) b d = let u = d.leads b.0 b.3 in (u.2.0, u.0, (sense state).goes_on x mid y s b.0 u.0 b.2 u.1, u.2.2, rose_on (state x.disk) (state mid.disk) (state y.disk) b.2.runs.faults u.2.3, inr (a, b.0, b.1, u.2.1))
       by OutOfMemory b d = let u = d.leads b.0 b.3 in (u.0, (sense state).goes_on x mid y s b.0 u.0 b.2 u.1, u.2)
 
-  pub result_shown : (a : Shown) (t : Filter) → shows_end a t.ending ≡ result_of a t
-  result_shown (shown.Pending id) t = refl
-  result_shown a t = refl
-
-  over : (x : Held D) (t : Filter) → Stands state x t → Stands state (with_no_own x) (begin_call t)
-  unfolding with_no_own
-  over x t h = stands_with state x (record x.desk { own = None; ending = None }) t (begin_call t) h refl (ap (λ (d : Desk). record d { own = None; ending = None }) h.desk) (same_good t (begin_call t) refl refl refl h.good)
-
-  over_moved : (x y : Held D) (s t : Filter) → Moved (state x.disk) (state y.disk) s.volume t.volume → Moved (state x.disk) (state (with_no_own y).disk) s.volume t.volume
-  unfolding with_no_own
-  over_moved x y s t m = m
-
   pub calls_end : (part : Arrow Filter Shown) (p q : P) (x mid y z : Held D) (s : Filter) (told : Result Shown CallError) (a b : Shown) (u : Unit {0}) → PartTo state part x s told mid → told ≡ Ok a → Drains most state answers p mid (Ok u) q y
       → b ≡ shows_end a y.desk.ending → z ≡ with_no_own y → CallsTo state answers part p x s (Ok b) q z
   calls_end part p q x mid y z s told a b u first was drains shows is =
@@ -217,4 +244,4 @@ module _ {D P : Type 0} (state : D → State) (answers : Answering P) where
       by : PartTo state part x s (Ok a) mid → CallsTo state answers part p x s (Ok b) q (with_no_own y)
       by c =
           let d = drains.leads c.0 c.3 in
-          (a, c.0, d.0, c.1, d.2.0, shows ∙ ap (λ (k : Desk). shows_end a k.ending) d.2.1.desk ∙ result_shown a d.0, over_moved x y s d.0 ((sense state).goes_on x mid y s c.0 d.0 c.2 d.1), over y d.0 d.2.1)
+          (a, c.0, d.0, c.1, d.2.0, shows ∙ ap (λ (k : Desk). shows_end a k.ending) d.2.1.desk ∙ result_shown a d.0, over_moved state x y s d.0 ((sense state).goes_on x mid y s c.0 d.0 c.2 d.1), over state y d.0 d.2.1)

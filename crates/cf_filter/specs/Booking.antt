@@ -4,10 +4,6 @@ use Rattle.cf_base.specs.declared.ids.ItemId.{ItemId}
 use Rattle.cf_base.specs.declared.ids.Usn.{Usn}
 use Rattle.cf_model.specs.Books.{Book, with_anchor}
 use Rattle.cf_model.specs.Numbers.{is_no_usn}
-use Rattle.cf_model.specs.State.{Filter}
-
-abbrev pub with_book_of : (Book → Book) → Filter → Filter
-with_book_of f s = record s { volume = record s.volume { book = f s.volume.book } }
 
 -- The number becomes the anchor of the item. 0.0, that of an item that never changed, is none.
 abbrev pub anchored_at : ItemId → Usn → Book → Book

@@ -1,5 +1,5 @@
 -- Auxiliary records that an engine puts.
-use Rattle.std.specs.Prelude.{◌≡◌, ℕ, Bool, true, false, List, [], ◌∷◌, Option, Some, None, Result, Ok, Err, is_err}
+use Rattle.std.specs.Prelude.{◌≡◌, ℕ, Bool, true, false, List, Option, Some, None, Result, Ok, Err, is_err}
 use Rattle.cf_base.specs.declared.codes.Code.{Code}
 use Rattle.cf_base.specs.declared.codes.Code.TheVariants as code
 use Rattle.cf_base.specs.declared.codes.CallError.{CallError}
@@ -11,9 +11,7 @@ use Rattle.cf_filter_machine.specs.Keeping.{IsKeptBook}
 use Rattle.cf_model.specs.Arrows.{Arrow, attempt, outcome, unit}
 use Rattle.cf_model.specs.Books.{Book, aux_records}
 use Rattle.cf_model.specs.Changes.{next_number}
-use Rattle.cf_model.specs.Images.{table_full}
 use Rattle.cf_model.specs.State.{Filter}
-use Rattle.cf_model.specs.Words.{first_of}
 use Rattle.cf_filter_steps.specs.Answering.{Answers, Sense}
 use Rattle.cf_volume.specs.Calls.{HasRecords, put_record}
 
@@ -22,10 +20,6 @@ use Rattle.cf_volume.specs.Calls.{HasRecords, put_record}
 pub record PutsRecord (key : List ℕ) (value : Option (List ℕ)) (f : Book → Book) (s : Filter) : Type 0 where
   pub has : HasRecords s.volume.book (put_record key value (aux_records s.volume.book)) (f s.volume.book)
   pub kept : IsKeptBook (next_number s.volume) s.volume.items s.volume.book → IsKeptBook (next_number s.volume) s.volume.items (f s.volume.book)
-
--- there is no room for the new book
-abbrev pub why_full : (Book → Book) → Filter → Option Code
-why_full f s = first_of ((table_full s.volume.items (f s.volume.book), code.TableFull) ∷ [])
 
 -- whether there was room, by what the volume answered; all that is no full table counts as out of memory
 abbrev pub HasRoom : Result (Unit {0}) CallError → Result Bool OutOfMemory → Type 0
@@ -40,10 +34,16 @@ put_told (Ok false) = Ok (Err code.TableFull)
 put_told (Err e) = Err fail.OutOfMemory
 
 -- and as a step does
-abbrev pub put_outcome : Result Bool OutOfMemory → Result (Option Code) CallError
-put_outcome (Ok true) = Ok None
-put_outcome (Ok false) = Ok (Some code.TableFull)
-put_outcome (Err e) = Err fail.OutOfMemory
+abbrev pub aux_outcome : Result Bool OutOfMemory → Result (Option Code) CallError
+aux_outcome (Ok true) = Ok None
+aux_outcome (Ok false) = Ok (Some code.TableFull)
+aux_outcome (Err e) = Err fail.OutOfMemory
+
+-- of a record that is taken out, for which there is always room
+abbrev pub drop_outcome : Result Bool OutOfMemory → Result (Unit {0}) CallError
+drop_outcome (Ok true) = Ok unit
+drop_outcome (Ok false) = Err fail.OutOfMemory
+drop_outcome (Err e) = Err fail.OutOfMemory
 
 -- After a call that was stopped it is refused as Broken, and changes nothing. Else, where the state has the property, it is one
 -- step, or is refused exactly for that reason and changes nothing. It breaks the filter exactly where it is stopped.

@@ -1,13 +1,14 @@
 //! What an engine keeps beside the items: anchors.
 
 ghost use Rattle.std.specs.Prelude.{◌≡◌, true, option_copied};
-ghost use Rattle.cf_filter.specs.Booking.{anchored_at, with_book_of};
+ghost use Rattle.cf_filter.specs.Booking.{anchored_at};
 ghost use Rattle.cf_filter_machine.specs.Sensing.{sense};
-ghost use Rattle.cf_model.specs.Arrows.{one};
+ghost use Rattle.cf_model.specs.Arrows.{noted};
 ghost use Rattle.cf_model.specs.Items.{Item};
 ghost use Rattle.cf_model.specs.Numbers.{is_no_usn};
 ghost use Rattle.cf_model.specs.Words.{part};
 ghost use Rattle.cf_filter_steps.specs.Answering.{Answers, IsAt};
+ghost use Rattle.cf_engine_host.specs.BookSteps.{with_book_of};
 
 use crate::engine_steps::given;
 use crate::filters::Filter;
@@ -26,9 +27,10 @@ fn is_unnumbered(row: Option<&Row>) -> bool
     }
 }
 
-// The item is there wherever the contract says what follows.
-fn put_anchor<D: Disk>(machine: &mut Machine<D>, id: ItemId) -> Result<(), CallError>
-    ensures { (i : Item) → Answers (sense D.state) (IsAt id i) (one (with_book_of (anchored_at id i.number))) machine.old result machine.new }
+/// Makes the anchor of an item its number, durable with the next commit. An item that never changed keeps what it has. Of an
+/// item that is not there nothing is promised.
+pub(crate) fn put_anchor<D: Disk>(machine: &mut Machine<D>, id: ItemId) -> Result<(), CallError>
+    ensures { (i : Item) → Answers (sense D.state) (IsAt id i) (noted (with_book_of (anchored_at id i.number))) machine.old result machine.new }
 {
     let row = machine.volume.row(id);
     if row.is_none() {
@@ -49,7 +51,7 @@ impl<D: Disk> Filter<D> {
     /// Makes the anchor of an item its number, durable with the next commit. An item that never changed keeps what it has.
     /// Refused as Broken.
     pub fn anchor(&mut self, id: ItemId) -> Result<(), CallError>
-        ensures { (i : Item) → Hands (sense D.state) (IsAt id i) (one (with_book_of (anchored_at id i.number))) self.old result self.new }
+        ensures { (i : Item) → Hands (sense D.state) (IsAt id i) (noted (with_book_of (anchored_at id i.number))) self.old result self.new }
     {
         self.check()?;
         let first = put_anchor(&mut self.machine, id);

@@ -47,12 +47,12 @@ impl<D: Disk> Filter<D> {
     ghost use Rattle.std.specs.Prelude.{◌≡◌, IfOk};
     ghost use Rattle.cf_base.specs.declared.answers.Shown.{Shown};
     ghost use Rattle.cf_provider.specs.Sights.{callback_of};
-    ghost use Rattle.cf_filter.specs.Draining.{CallsTo, Drains, PartTo, Turns};
+    ghost use Rattle.cf_engine_host.specs.Draining.{DrainsBy};
+    ghost use Rattle.cf_filter.specs.Draining.{CallsTo, PartTo, Turns};
     ghost use Rattle.cf_filter.specs.Turning.{IsTurned, shows_end, with_no_own};
     ghost use Rattle.cf_filter_machine.specs.Held.{Held};
     ghost use Rattle.cf_filter_machine.specs.Sensing.{sense};
     ghost use Rattle.cf_model.specs.Arrows.{Arrow};
-    ghost use Rattle.cf_model.specs.Numbers.{most};
     ghost use Rattle.cf_model.specs.State.{Filter as model};
     ghost use Rattle.cf_filter_steps.specs.Answering.{Any, Reads};
 
@@ -90,7 +90,7 @@ impl<D: Disk> Filter<D> {
     /// Calls the provider for each ask that waits for it, in their order, each after the earlier ones have returned, until none is
     /// left. Each callback spends a key of the epoch, so that there are no more than keys.
     pub fn drain<P: Provider>(&mut self, p: &mut P) -> Result<(), CallError>
-        ensures { Drains most D.state P.answers p.old self.old result p.new self.new }
+        ensures { DrainsBy (sense D.state) P.answers p.old self.old result p.new self.new }
     {
         for called in 0..u32::MAX {
             let Some(ask) = self.next_ask() else {
@@ -101,9 +101,9 @@ impl<D: Disk> Filter<D> {
         Err(CallError::OutOfMemory)
     }
 
-    // The answer of a call whose callbacks have all returned.
+    /// The answer of a call whose callbacks have all returned.
     #[tactic(auto, unfolding(crate::specs::Turning::with_no_own))]
-    fn end_call(&mut self, shown: Shown) -> Shown
+    pub(crate) fn end_call(&mut self, shown: Shown) -> Shown
         ensures answer { result ≡ shows_end shown self.old.desk.ending }
         ensures desk { self.new ≡ with_no_own self.old }
     {

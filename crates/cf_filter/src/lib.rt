@@ -10,6 +10,8 @@ mod answers;
 mod callbacks;
 mod engine_steps;
 mod filters;
+mod host_steps;
+mod hosts;
 mod item_calls;
 mod item_facts;
 mod openings;

@@ -42,7 +42,8 @@ impl<D: Disk> Filter<D> {
         self.machine.desk.is_lost()
     }
 
-    fn add_note(&mut self, n: Notice) -> Result<(), OutOfMemory>
+    /// Adds a line at the end of the running event's notes.
+    pub(crate) fn add_note(&mut self, n: Notice) -> Result<(), OutOfMemory>
         ensures ok { OnOk result (self.new ≡ record self.old { desk = record self.old.desk { notes = self.old.desk.notes ++ n ∷ [] } }) }
         ensures err { OnErr result (self.new ≡ self.old) }
     {

@@ -1,13 +1,13 @@
 //! What an engine keeps beside the items: auxiliary records.
 
 ghost use Rattle.std.specs.Prelude.{◌≡◌, ◌≤◌, ℕ, List, Some, false, length, option_copied, IfOk};
-ghost use Rattle.cf_filter.specs.Booking.{with_book_of};
-ghost use Rattle.cf_filter.specs.Recording.{HasRoom, PutsRecord, put_outcome, put_told, why_full};
+ghost use Rattle.cf_filter.specs.Recording.{HasRoom, PutsRecord, aux_outcome, put_told};
 ghost use Rattle.cf_filter_machine.specs.Sensing.{Stands, sense};
-ghost use Rattle.cf_model.specs.Arrows.{attempt, one};
+ghost use Rattle.cf_model.specs.Arrows.{attempt, noted};
 ghost use Rattle.cf_model.specs.Books.{Book};
 ghost use Rattle.cf_model.specs.State.{Filter as state};
 ghost use Rattle.cf_filter_steps.specs.Answering.{Answers};
+ghost use Rattle.cf_engine_host.specs.BookSteps.{why_full, with_book_of};
 
 use crate::filters::Filter;
 use crate::shown_values::Told;
@@ -26,15 +26,15 @@ fn has_room(put: Result<(), CallError>) -> Result<bool, OutOfMemory>
     }
 }
 
-// Whether the table has room for the record; where it has none, it is not put.
-fn put_record<D: Disk>(
+/// Puts an auxiliary record, or takes the one with the key out. False where the table has no room for it; then nothing is changed.
+pub(crate) fn put_aux<D: Disk>(
     machine: &mut Machine<D>,
     key: &[u8],
     value: Option<&[u8]>,
 ) -> Result<bool, OutOfMemory>
     requires key { length key.now ≤ 255 }
     requires value { (b : List ℕ) → option_copied value ≡ Some b → length b ≤ 65535 }
-    ensures does { (f : Book → Book) → Answers (sense D.state) (PutsRecord key.now (option_copied value.entry) f) (attempt (why_full f) (one (with_book_of f))) machine.old (put_outcome result) machine.new }
+    ensures does { (f : Book → Book) → Answers (sense D.state) (PutsRecord key.now (option_copied value.entry) f) (attempt (why_full f) (noted (with_book_of f))) machine.old (aux_outcome result) machine.new }
     ensures same { (f : Book → Book) (s : state) → Stands D.state machine.old s → PutsRecord key.now (option_copied value.entry) f s → IfOk result (λ put. put ≡ false → machine.new ≡ machine.old) }
 {
     let put = machine.volume.aux_put(key, value);
@@ -61,10 +61,10 @@ impl<D: Disk> Filter<D> {
     pub fn aux_put(&mut self, key: &[u8], value: Option<&[u8]>) -> Result<(), CallError>
         requires key { length key.now ≤ 255 }
         requires value { (b : List ℕ) → option_copied value ≡ Some b → length b ≤ 65535 }
-        ensures { (f : Book → Book) → Attempts (sense D.state) (PutsRecord key.now (option_copied value.entry) f) (why_full f) (one (with_book_of f)) self.old result self.new }
+        ensures { (f : Book → Book) → Attempts (sense D.state) (PutsRecord key.now (option_copied value.entry) f) (why_full f) (noted (with_book_of f)) self.old result self.new }
     {
         self.check()?;
-        let first = put_record(&mut self.machine, key, value);
+        let first = put_aux(&mut self.machine, key, value);
         self.finish(told(first))
     }
 }

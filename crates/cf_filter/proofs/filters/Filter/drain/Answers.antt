@@ -1,5 +1,5 @@
 use Rattle.std.proofs.Common.{◌+◌, arith}
-use Rattle.cf_filter.proofs.Drained.{drains_exit, drains_more, drains_none, drains_out, drains_wider}
+use Rattle.cf_filter.proofs.Drained.{drains_by, drains_exit, drains_more, drains_none, drains_out, drains_wider}
 use Rattle.cf_model.specs.Numbers.{most}
 use Rattle.cf_filter.proofs.filters.Filter.drain.Goals as goal
 
@@ -13,7 +13,7 @@ returns-in_err-call_back g c =
     (drains_exit g.D.Disk.state g.P.Provider.answers c.loop-called.p c.call_back.new.p c.loop-called.self c.next_ask.new.self c.call_back.new.self c.in-Some.ask c.in_err-call_back.field-0.0 c.from_residual.result c.in-Some.ensures.some c.in_err-call_back.ensures c.from_residual.ensures.1)
 
 pub loop-called-init : goal.loop-called-init
-loop-called-init g c = λ n r q y le drains. drains_wider g.D.Disk.state g.P.Provider.answers n most c.args.p.now q c.args.self.now y r (omega (arith, le)) drains
+loop-called-init g c = λ n r q y le drains. drains_by g.D.Disk.state g.P.Provider.answers c.args.p.now q c.args.self.now y r (drains_wider g.D.Disk.state g.P.Provider.answers n most c.args.p.now q c.args.self.now y r (omega (arith, le)) drains)
 
 pub loop-called-preserved : goal.loop-called-preserved
 loop-called-preserved g c = λ n r q y le more.

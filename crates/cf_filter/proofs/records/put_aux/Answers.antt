@@ -3,7 +3,7 @@ use Rattle.cf_filter.proofs.Called.{seen_from}
 use Rattle.cf_filter.proofs.Recorded.{record_stays, record_told, seen_same}
 use Rattle.cf_filter.specs.Recording.{PutsRecord}
 use Rattle.cf_filter_machine.specs.Entering.{held}
-use Rattle.cf_filter.proofs.records.put_record.Goals as goal
+use Rattle.cf_filter.proofs.records.put_aux.Goals as goal
 
 pub returns-clause-does : goal.returns-clause-does
 returns-clause-does g c = λ f.
