@@ -53,7 +53,7 @@ pub record ClosedFilter (P : Filter → Type 0) : Type 0 where
   pub keeps_with_time : (x1 : ℕ) → (s : Filter) → P s → P (with_time x1 s)
   pub keeps_without_handle : (x1 : Handle) → (s : Filter) → P s → P (without_handle x1 s)
 
--- of the whole
+-- of the whole, but for events of other devices
 pub record Closed (P : State → Type 0) : Type 0 where
   pub on_filter : (s : State) → P s → ClosedFilter (λ x. P (with_filter x s))
   pub opens : (s : State) (p : Point) (skipped : ℕ) → Opens s.filter.volume.points p → P s → Keeps P (open_skipping p skipped s)
@@ -82,7 +82,10 @@ pub record Closed (P : State → Type 0) : Type 0 where
   pub keeps_with_operation_told : (x1 : Shown) → (s : State) → P s → P (with_operation_told x1 s)
   pub keeps_with_outbox : (x1 : List Ask) → (s : State) → P s → P (with_outbox x1 s)
   pub keeps_with_planned : (x1 : Bool) → (x2 : Operation) → (s : State) → P s → P (with_planned x1 x2 s)
-  pub keeps_with_stray : (x1 : Reply) → (s : State) → P s → P (with_stray x1 s)
-  pub keeps_with_token_used : (s : State) → P s → P (with_token_used s)
   pub keeps_without_done : (s : State) → P s → P (without_done s)
   pub keeps_without_plan : (s : State) → P s → P (without_plan s)
+
+-- and what those do besides their requests
+pub record ClosedToPeers (P : State → Type 0) : Type 0 where
+  pub keeps_with_stray : (x1 : Reply) → (s : State) → P s → P (with_stray x1 s)
+  pub keeps_with_token_used : (s : State) → P s → P (with_token_used s)

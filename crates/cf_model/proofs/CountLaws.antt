@@ -27,7 +27,7 @@ use Rattle.cf_model.specs.State.{Filter, Point, State, Volatile, Volume, in_volu
 use Rattle.cf_model.specs.Trees.{Keeps, Ret}
 use Rattle.cf_model.specs.Waits.{Need, accessed_now, all_down, begin_now, begun, own_id, with_own}
 use Rattle.cf_model.proofs.ArrowLaws.{keeps_each, keeps_either, keeps_lifted, keeps_one, keeps_reading, keeps_seq, keeps_then}
-use Rattle.cf_model.proofs.Closed.{Closed, ClosedFilter}
+use Rattle.cf_model.proofs.Closed.{Closed, ClosedFilter, ClosedToPeers}
 use Rattle.cf_model.proofs.TreeLaws.{keeps_bind}
 use Rattle.cf_model.specs.Books.{QueueEntry}
 use Rattle.cf_model.specs.Calls.{with_handle}
@@ -230,12 +230,16 @@ closed s0 = record {
   keeps_with_operation_told = λ answer s h. h;
   keeps_with_outbox = λ asks s h. h;
   keeps_with_planned = λ own op s h. h;
-  keeps_with_stray = λ r s h. h;
-  keeps_with_token_used = λ s h. rises s0 s (with_token_used s) h (refl, same _, same _, same _, same _, same _, same _) (same _) (more _ 1);
   keeps_without_done = λ s h. h;
   keeps_without_plan = λ s h. h;
 }
 
+peers : (s0 : State) → ClosedToPeers (Rises s0)
+peers s0 = record {
+  keeps_with_stray = λ r s h. h;
+  keeps_with_token_used = λ s h. rises s0 s (with_token_used s) h (refl, same _, same _, same _, same _, same _, same _) (same _) (more _ 1);
+}
+
 -- from any state that a run passes on no count has fallen
 pub runs_rise : (m : Mode) (s : State) (trace : List (Event × Answer)) (t : State) → Runs m s trace t → Rises s t
-runs_rise m s trace t h = runs_keep (Rises s) (closed s) (λ x k. k) m s trace t h (inr (refl, same _, same _, same _, same _, same _, same _), same _, same _)
+runs_rise m s trace t h = runs_keep (Rises s) (closed s) (peers s) (λ x k. k) m s trace t h (inr (refl, same _, same _, same _, same _, same _, same _), same _, same _)

@@ -27,7 +27,7 @@ use Rattle.cf_model.specs.Store.{Held}
 use Rattle.cf_model.specs.Trees.{Keeps, Ret}
 use Rattle.cf_model.specs.Waits.{Need, all_down, begin_now, begun, own_id, with_own}
 use Rattle.cf_model.proofs.ArrowLaws.{keeps_each, keeps_either, keeps_lifted, keeps_one, keeps_reading, keeps_seq, keeps_then}
-use Rattle.cf_model.proofs.Closed.{Closed, ClosedFilter}
+use Rattle.cf_model.proofs.Closed.{Closed, ClosedFilter, ClosedToPeers}
 use Rattle.cf_model.proofs.TreeLaws.{keeps_bind}
 use Rattle.cf_model.specs.Numbers.{most}
 use Rattle.cf_model.specs.Skips.{skip_line}
@@ -138,14 +138,18 @@ closed = record {
   keeps_with_operation_told = λ answer s h. h;
   keeps_with_outbox = λ asks s h. h;
   keeps_with_planned = λ own op s h. h;
-  keeps_with_stray = λ r s h. h;
-  keeps_with_token_used = λ s h. h;
   keeps_without_done = λ s h. h;
   keeps_without_plan = λ s h. h;
 }
 
+peers : ClosedToPeers OfOneEpoch
+peers = record {
+  keeps_with_stray = λ r s h. h;
+  keeps_with_token_used = λ s h. h;
+}
+
 pub epochs_agree : (m : Mode) (s : State) (trace : List (Event × Answer)) (t : State) → Runs m s trace t → OfOneEpoch s → OfOneEpoch t
-epochs_agree m s trace t h i = runs_keep OfOneEpoch closed (λ x k. k) m s trace t h i
+epochs_agree m s trace t h i = runs_keep OfOneEpoch closed peers (λ x k. k) m s trace t h i
 
 -- from the start
 pub started_in_epoch : (m : Mode) (remote : Held) (clusters : ℕ) (trace : List (Event × Answer)) (t : State) → Runs m (start m remote clusters) trace t → OfOneEpoch t

@@ -29,7 +29,7 @@ use Rattle.cf_model.proofs.PlacementsKeep as placements_keep
 use Rattle.cf_model.proofs.RestartsKeep as restarts_keep
 use Rattle.cf_model.proofs.WaitsKeep as waits_keep
 use Rattle.cf_model.specs.Events.{call_by, call_in, call_now, device_event, event_now, provider_event, with_planned}
-use Rattle.cf_model.proofs.Closed.{Closed}
+use Rattle.cf_model.proofs.Closed.{Closed, ClosedToPeers}
 use Rattle.cf_model.proofs.ArrowLaws.{keeps_lifted, keeps_noted, keeps_reading, keeps_ret, keeps_then}
 use Rattle.cf_model.specs.Arrows.{Preserves}
 
@@ -81,9 +81,9 @@ device_event_keeps P closed (device.Stop calls) = keeps_ret P shown.Done
 device_event_keeps P closed (device.Crash choice) = restarts_keep.crash_keeps P closed
 device_event_keeps P closed device.Restart = restarts_keep.restart_keeps P closed
 
-pub event_now_keeps : (P : State → Type 0) → Closed P → (x1 : Event) → Preserves P (event_now x1)
-event_now_keeps P closed (event.Call c) = call_now_keeps P closed c
-event_now_keeps P closed (event.Device e) = device_event_keeps P closed e
-event_now_keeps P closed (event.Peer e) = peers_keep.peer_event_keeps P closed.asks closed.keeps_with_token_used closed.keeps_with_stray e
-event_now_keeps P closed (event.Engine e) = engine_events_keep.engine_event_keeps P closed e
-event_now_keeps P closed (event.Provider e) = provider_event_keeps P closed e
+pub event_now_keeps : (P : State → Type 0) → Closed P → ClosedToPeers P → (x1 : Event) → Preserves P (event_now x1)
+event_now_keeps P closed peers (event.Call c) = call_now_keeps P closed c
+event_now_keeps P closed peers (event.Device e) = device_event_keeps P closed e
+event_now_keeps P closed peers (event.Peer e) = peers_keep.peer_event_keeps P closed.asks peers.keeps_with_token_used peers.keeps_with_stray e
+event_now_keeps P closed peers (event.Engine e) = engine_events_keep.engine_event_keeps P closed e
+event_now_keeps P closed peers (event.Provider e) = provider_event_keeps P closed e

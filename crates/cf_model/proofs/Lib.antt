@@ -23,6 +23,7 @@ pub mod FlushedLaws
 pub mod RemoteLaws
 pub mod OperationsKeep
 pub mod PassesKeep
+pub mod PeersAside
 pub mod PeersKeep
 pub mod PlacementsKeep
 pub mod Places

@@ -10,7 +10,7 @@ use Rattle.cf_model.specs.Events.{answered, begun, broken, choices_in, may_stop,
 use Rattle.cf_model.specs.Lawful.{Runs}
 use Rattle.cf_model.specs.State.{State}
 use Rattle.cf_model.specs.Trees.{Choices, play}
-use Rattle.cf_model.proofs.Closed.{Closed}
+use Rattle.cf_model.proofs.Closed.{Closed, ClosedToPeers}
 use Rattle.cf_model.proofs.EventsKeep.{event_now_keeps}
 use Rattle.cf_model.proofs.TreeLaws.{kept_by_walk}
 
@@ -18,19 +18,19 @@ outcome_keeps : (P : State → Type 0) → ((s : State) → P s → P (broken s)
 outcome_keeps P breaks (Some r, s) h = h
 outcome_keeps P breaks (None, s) h = breaks s h
 
-answered_keeps : (P : State → Type 0) → Closed P → ((s : State) → P s → P (broken s)) → (why : Option Code) (c : Choices) (s : State) (e : Event) → P s → P (answered why c s e).0
-answered_keeps P closed breaks (Some r) c s e h = h
-answered_keeps P closed breaks None c s e h =
+answered_keeps : (P : State → Type 0) → Closed P → ClosedToPeers P → ((s : State) → P s → P (broken s)) → (why : Option Code) (c : Choices) (s : State) (e : Event) → P s → P (answered why c s e).0
+answered_keeps P closed peers breaks (Some r) c s e h = h
+answered_keeps P closed peers breaks None c s e h =
     let d : Choices = choices_in (may_stop e) c in
-    outcome_keeps P breaks (play d (tree_of e s)) (kept_by_walk P d.stop d.forks d.tellings (tree_of e s) ((event_now_keeps P closed e).keeps (begun s) (closed.keeps_begun s h)))
+    outcome_keeps P breaks (play d (tree_of e s)) (kept_by_walk P d.stop d.forks d.tellings (tree_of e s) ((event_now_keeps P closed peers e).keeps (begun s) (closed.keeps_begun s h)))
 
 -- an event, whatever is chosen of what the rules leave open
-pub on_event_keeps : (P : State → Type 0) → Closed P → ((s : State) → P s → P (broken s)) → (c : Choices) (s : State) (e : Event) → P s → P (on_event c s e).0
-on_event_keeps P closed breaks c s e h = answered_keeps P closed breaks (no_volume (needs_volume e) s.power) c s e h
+pub on_event_keeps : (P : State → Type 0) → Closed P → ClosedToPeers P → ((s : State) → P s → P (broken s)) → (c : Choices) (s : State) (e : Event) → P s → P (on_event c s e).0
+on_event_keeps P closed peers breaks c s e h = answered_keeps P closed peers breaks (no_volume (needs_volume e) s.power) c s e h
 
 -- a run
-pub runs_keep : (P : State → Type 0) → Closed P → ((s : State) → P s → P (broken s)) → (m : Mode) (s : State) (trace : List (Event × Answer)) (t : State) → Runs m s trace t → P s → P t
-runs_keep P closed breaks m s [] t h i = subst (λ (x : State). P x) (sym h) i
-runs_keep P closed breaks m s (p ∷ ps) t h i =
-    let mid : P h.0 = subst (λ (x : State × Answer). P x.0) h.1.2 (on_event_keeps P closed breaks h.1.1 s p.0 i) in
-    runs_keep P closed breaks m h.0 ps t h.2 mid
+pub runs_keep : (P : State → Type 0) → Closed P → ClosedToPeers P → ((s : State) → P s → P (broken s)) → (m : Mode) (s : State) (trace : List (Event × Answer)) (t : State) → Runs m s trace t → P s → P t
+runs_keep P closed peers breaks m s [] t h i = subst (λ (x : State). P x) (sym h) i
+runs_keep P closed peers breaks m s (p ∷ ps) t h i =
+    let mid : P h.0 = subst (λ (x : State × Answer). P x.0) h.1.2 (on_event_keeps P closed peers breaks h.1.1 s p.0 i) in
+    runs_keep P closed peers breaks m h.0 ps t h.2 mid

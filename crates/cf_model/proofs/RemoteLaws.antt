@@ -22,14 +22,15 @@ use Rattle.cf_model.specs.Store.{Held, remote_step}
 use Rattle.cf_model.specs.Trees.{AsItKeeps, Faults, Keeps, Telling, Tells}
 use Rattle.cf_model.specs.Waits.{all_down, begin_now, begun}
 use Rattle.cf_model.proofs.ArrowLaws.{keeps_const}
-use Rattle.cf_model.proofs.Closed.{Closed, ClosedFilter}
+use Rattle.cf_model.proofs.Closed.{Closed, ClosedFilter, ClosedToPeers}
 use Rattle.cf_model.proofs.MachineLaws.{runs_keep}
 use Rattle.cf_model.proofs.StoreLaws.{step_counts, step_extends}
 
 abbrev Of : (Held → Type 0) → State → Type 0
 Of R s = R s.link.remote
 
-filter_closed : (C : Type 0) → ClosedFilter (λ _. C)
+-- a property of all but the filter
+pub filter_closed : (C : Type 0) → ClosedFilter (λ _. C)
 filter_closed C = record {
   change = λ f c. keeps_const C (change_with f c);
   commits = keeps_const C (in_volume commit);
@@ -91,16 +92,20 @@ closed R steps = record {
   keeps_with_operation_told = λ answer s h. h;
   keeps_with_outbox = λ asks s h. h;
   keeps_with_planned = λ own op s h. h;
-  keeps_with_stray = λ r s h. h;
-  keeps_with_token_used = λ s h. h;
   keeps_without_done = λ s h. h;
   keeps_without_plan = λ s h. h;
+}
+
+peers : (R : Held → Type 0) → ClosedToPeers (Of R)
+peers R = record {
+  keeps_with_stray = λ r s h. h;
+  keeps_with_token_used = λ s h. h;
 }
 
 -- a property of the remote that each request keeps
 pub runs_keep_remote : (R : Held → Type 0) → ((held : Held) (q : Request) → R held → R (remote_step held q).1)
     → (m : Mode) (s : State) (trace : List (Event × Answer)) (t : State) → Runs m s trace t → R s.link.remote → R t.link.remote
-runs_keep_remote R steps m s trace t h i = runs_keep (Of R) (closed R steps) (λ x k. k) m s trace t h i
+runs_keep_remote R steps m s trace t h i = runs_keep (Of R) (closed R steps) (peers R) (λ x k. k) m s trace t h i
 
 extends_more : (first held : Held) (q : Request) → Extends first held → Extends first (remote_step held q).1
 extends_more first held q h =

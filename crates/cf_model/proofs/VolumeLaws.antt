@@ -25,7 +25,7 @@ use Rattle.cf_model.specs.State.{Filter, Point, State, Volume, in_volume, with_v
 use Rattle.cf_model.specs.Trees.{Keeps, Ret}
 use Rattle.cf_model.specs.Waits.{Need, all_down, begin_now, begun, own_id, with_own}
 use Rattle.cf_model.proofs.ArrowLaws.{keeps_each, keeps_either, keeps_lifted, keeps_one, keeps_reading, keeps_seq, keeps_then}
-use Rattle.cf_model.proofs.Closed.{Closed, ClosedFilter}
+use Rattle.cf_model.proofs.Closed.{Closed, ClosedFilter, ClosedToPeers}
 use Rattle.cf_model.proofs.TreeLaws.{keeps_bind}
 use Rattle.cf_model.specs.Numbers.{most}
 use Rattle.cf_model.specs.Skips.{skip_line}
@@ -144,12 +144,16 @@ whole_closed V closed = record {
   keeps_with_operation_told = λ answer s h. h;
   keeps_with_outbox = λ asks s h. h;
   keeps_with_planned = λ own op s h. h;
-  keeps_with_stray = λ r s h. h;
-  keeps_with_token_used = λ s h. h;
   keeps_without_done = λ s h. h;
   keeps_without_plan = λ s h. h;
 }
 
+peers : (V : Volume → Type 0) → ClosedToPeers (λ s. V s.filter.volume)
+peers V = record {
+  keeps_with_stray = λ r s h. h;
+  keeps_with_token_used = λ s h. h;
+}
+
 -- a run keeps the property
 pub runs_keep_volume : (V : Volume → Type 0) → ClosedVolume V → (m : Mode) (s : State) (trace : List (Event × Answer)) (t : State) → Runs m s trace t → V s.filter.volume → V t.filter.volume
-runs_keep_volume V closed m s trace t h i = runs_keep (λ x. V x.filter.volume) (whole_closed V closed) (λ x k. k) m s trace t h i
+runs_keep_volume V closed m s trace t h i = runs_keep (λ x. V x.filter.volume) (whole_closed V closed) (peers V) (λ x k. k) m s trace t h i
