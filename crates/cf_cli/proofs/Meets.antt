@@ -16,7 +16,7 @@ use Rattle.clap.specs.declared.error.Error.{Error}
 use Rattle.clap.specs.declared.error.kind.ErrorKind.TheVariants as kind
 use Rattle.cf_cli.specs.Accounts.{AreTaken, Names, account, name_of}
 use Rattle.cf_cli.specs.declared.commands.Command.{Command}
-use Rattle.cf_cli.specs.declared.commands.Command.TheVariants.{Filter, Replay}
+use Rattle.cf_cli.specs.declared.commands.Command.TheVariants.{Filter, Migrate, Replay}
 
 pub replay_taken : Names (codes "replay" ∷ []) Replay
 unfolding clap_on_literals
@@ -26,9 +26,14 @@ pub filter_taken : Names (codes "filter" ∷ []) Filter
 unfolding clap_on_literals
 filter_taken = (refl, refl)
 
+pub migrate_taken : Names (codes "migrate" ∷ []) Migrate
+unfolding clap_on_literals
+migrate_taken = (refl, refl)
+
 pub taken : (c : Command) → Names (name_of c ∷ []) c
 taken Replay = replay_taken
 taken Filter = filter_taken
+taken Migrate = migrate_taken
 
 pub none_taken : AreTaken [] → ⊥
 unfolding clap_on_literals
@@ -50,7 +55,10 @@ entered_one (Some p) h = elim (cases_Bool (answers_to p.0 (codes "replay", [])))
   | inl first ↦ (Replay, rw first refl)
   | inr first ↦ elim (cases_Bool (answers_to p.0 (codes "filter", []))) [
     | inl second ↦ (Filter, rw (first, second) refl)
-    | inr second ↦ let z : false ≡ true = rw (first, second) at h in absurd cc
+    | inr second ↦ elim (cases_Bool (answers_to p.0 (codes "migrate", []))) [
+      | inl third ↦ (Migrate, rw (first, second, third) refl)
+      | inr third ↦ let z : false ≡ true = rw (first, second, third) at h in absurd cc
+    ]
   ]
 ]
 

@@ -3,7 +3,7 @@ use Rattle.std.specs.Prelude.{◌≡◌, ℕ, true, List, [], codes, Option, Som
 use Rattle.clap.specs.Faults.{fault_of}
 use Rattle.clap.specs.Simple.{App, Shape, new_app, new_shape, subcommand_of, with_subcommand}
 use Rattle.cf_cli.specs.declared.commands.Command.{Command}
-use Rattle.cf_cli.specs.declared.commands.Command.TheVariants.{Filter, Replay}
+use Rattle.cf_cli.specs.declared.commands.Command.TheVariants.{Filter, Migrate, Replay}
 
 -- the program itself: a subcommand is required, and there is neither help nor version
 abbrev pub top : Shape
@@ -18,13 +18,18 @@ top = record (new_shape (codes "cloudfiles")) {
 abbrev pub name_of : Command → List ℕ
 name_of Replay = codes "replay"
 name_of Filter = codes "filter"
+name_of Migrate = codes "migrate"
 
 abbrev pub leaf : Command → Shape
 leaf c = new_shape (name_of c)
 
--- the command line with its subcommands
+-- the command line with the subcommands that read a script, and with all
+
+abbrev pub of_scripts : App
+of_scripts = with_subcommand (with_subcommand (record { top = top; subs = [] }) (leaf Replay)) (leaf Filter)
+
 abbrev pub account : App
-account = with_subcommand (with_subcommand (record { top = top; subs = [] }) (leaf Replay)) (leaf Filter)
+account = with_subcommand of_scripts (leaf Migrate)
 
 -- clap takes the words
 abbrev pub AreTaken : List (List ℕ) → Type 0

@@ -20,6 +20,8 @@ pub enum Command {
     Replay,
     /// The same with a scripted provider and no engine.
     Filter,
+    /// Reads a device's bytes, puts their volume into format 2, and writes them.
+    Migrate,
 }
 
 /// Why words are no command.
@@ -60,6 +62,7 @@ fn met(matches: &ArgMatches) -> Command
     match matches.subcommand_name() {
         Some("replay") => Command::Replay,
         Some("filter") => Command::Filter,
+        Some("migrate") => Command::Migrate,
         _ => unreachable!(),
     }
 }

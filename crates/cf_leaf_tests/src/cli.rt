@@ -28,6 +28,7 @@ const BAD: [&[&str]; 9] = [
 fn one_word_is_a_command(rt: HostRuntime) -> Result<(), Fail> {
     assert_eq!(rt; read(rt.alloc(), &["replay"])?, Ok(Command::Replay));
     assert_eq!(rt; read(rt.alloc(), &["filter"])?, Ok(Command::Filter));
+    assert_eq!(rt; read(rt.alloc(), &["migrate"])?, Ok(Command::Migrate));
     Ok(())
 }
 

@@ -6,4 +6,6 @@ mod clusters;
 #[cfg(test)]
 mod disk;
 #[cfg(test)]
+mod first_format;
+#[cfg(test)]
 mod journal;

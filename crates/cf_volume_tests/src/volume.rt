@@ -3,6 +3,7 @@
 mod costs;
 mod cuts;
 mod edits;
+mod first_format;
 mod limits;
 mod openings;
 mod scripts;

@@ -6,3 +6,4 @@ pub mod Counted
 pub mod Sided
 pub mod OverPowers
 mod OfTexts
+mod Migrated

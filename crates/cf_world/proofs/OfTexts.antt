@@ -19,11 +19,11 @@ abbrev pub some_text : ℕ → Option (List ℕ) → List ℕ
 some_text n None = replicate n 0
 some_text n (Some left) = left
 
-whole_text : (n : ℕ) (left : Option (List ℕ)) → IsWhole left (some_text n left)
+pub whole_text : (n : ℕ) (left : Option (List ℕ)) → IsWhole left (some_text n left)
 whole_text n None = tt
 whole_text n (Some left) = refl
 
-long_text : (n : ℕ) (left : Option (List ℕ)) → IsLonger left n → n < length (some_text (n + 1) left)
+pub long_text : (n : ℕ) (left : Option (List ℕ)) → IsLonger left n → n < length (some_text (n + 1) left)
 long_text n None h = rw (length-replicate {A = ℕ} (n + 1) 0) (omega arith)
 long_text n (Some left) h = h
 
@@ -31,7 +31,7 @@ pub adds_nothing : (held : Option (List ℕ)) → Adds held held []
 adds_nothing None = tt
 adds_nothing (Some h) = ap (λ l. Some l) (sym (append-nil h))
 
-not_quiet : (old new : ℕ) → Rose old new → IsQuiet old new → ⊥
+pub not_quiet : (old new : ℕ) → Rose old new → IsQuiet old new → ⊥
 not_quiet old new rose quiet = omega (arith, rose quiet.1, quiet.0)
 
 short_enough : (s : Status) (text : List ℕ) → length text ≤ 16777216 → IsAfterReading s → IsLength s text

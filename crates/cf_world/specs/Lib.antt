@@ -1,4 +1,6 @@
 pub mod Led
 pub mod Runs
+pub mod Migrations
+pub mod Commands
 pub mod Sides
 pub mod Steps

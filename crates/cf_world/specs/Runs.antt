@@ -5,7 +5,6 @@ use Rattle.std.specs.List.{list_all}
 use Rattle.cf_base.specs.declared.answers.Answer.{Answer}
 use Rattle.cf_base.specs.declared.events.Event.{Event}
 use Rattle.cf_base.specs.declared.policies.Mode.{Mode}
-use Rattle.cf_base.specs.declared.policies.Mode.TheVariants as mode
 use Rattle.cf_base.specs.declared.statuses.Status.{Status}
 use Rattle.cf_base.specs.declared.statuses.Status.TheVariants as status
 use Rattle.cf_disk.specs.Disk.{State as Disk, size_of}
@@ -18,13 +17,7 @@ use Rattle.cf_script.specs.FailEvents.{IsCause}
 use Rattle.cf_script.specs.Script.{lines_of, IsScript}
 use Rattle.cf_script.specs.declared.script_errors.ScriptError.{ScriptError}
 use Rattle.cf_script.specs.declared.script_errors.ScriptError.TheVariants as fails
-use Rattle.cf_cli.specs.declared.commands.Command.{Command}
-use Rattle.cf_cli.specs.declared.commands.Command.TheVariants as command
 use Rattle.cf_world.specs.Led.{IsLawful, Leads}
-
-abbrev pub mode_of : Command → Mode
-mode_of command.Replay = mode.Replay
-mode_of command.Filter = mode.Filter
 
 -- a size that a device may have, in bytes
 abbrev pub IsFit : ℕ → Type 0

@@ -6,9 +6,14 @@
 //! stands for a point that a restart may open. Where the sink failed or the report is too long it promises the same of the
 //! events that were done; and it names the cause of each status but Done. What a lawful answer is, `cf_model` says for
 //! `filter`, and `cf_plain` for what is built of `replay`; what a run writes, `specs/Runs.antt`.
+//!
+//! The command `migrate` does no script: it puts the bytes of a device on the disk, opens the volume there and writes the disk's
+//! bytes, which at Done hold in format 2 what the source's bytes hold, in the next epoch. `specs/Migrations.antt` says when each
+//! status comes.
 #![tactic(auto)]
 
 mod drafts;
+mod migrations;
 mod play_errors;
 mod plays;
 mod runs;

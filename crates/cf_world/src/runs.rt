@@ -10,10 +10,14 @@ ghost use Rattle.cf_script.specs.FailEvents.{IsCause};
 ghost use Rattle.cf_script.specs.Script.{lines_of};
 ghost use Rattle.cf_cli.specs.Accounts.{AreTaken, Names};
 ghost use Rattle.cf_cli.specs.declared.commands.Command.{Command as Meant};
+ghost use Rattle.cf_cli.specs.declared.commands.Command.TheVariants as meant;
+ghost use Rattle.cf_world.specs.Commands.{KeepsDisk, OfSource};
 ghost use Rattle.cf_world.specs.Led.{HandsBack, HasRunOn};
-ghost use Rattle.cf_world.specs.Runs.{IsAfterReading, IsBeforeDevice, IsBeforeWriting, IsBuilt, IsComplete, IsFit, IsOfReport, OfText, IsStarted, IsUnfit, Writes, WritesRefusal, fail_line, mode_of};
+ghost use Rattle.cf_world.specs.Migrations.{OfDevice};
+ghost use Rattle.cf_world.specs.Runs.{IsAfterReading, IsBeforeDevice, IsBeforeWriting, IsBuilt, IsComplete, IsFit, IsOfReport, OfText, IsStarted, IsUnfit, Writes, WritesRefusal, fail_line};
 ghost use Rattle.cf_world.specs.Steps.{early_status, play_status, read_status, start_status, words_status};
 
+use crate::migrations::migrate;
 use crate::play_errors::PlayError;
 use crate::plays::play;
 use crate::worlds::World;
@@ -44,8 +48,8 @@ pub struct Finish<D, R> {
 }
 
 /// Reads a script from the source, does its events on the disk and the remote, and writes the report to the sink. The words
-/// are those after the program's name; `replay` and `filter` are commands. In `replay` the disk and the remote are not used
-/// yet, in `filter` the remote.
+/// are those after the program's name; `replay` and `filter` are such commands. In `replay` the disk and the remote are not used
+/// yet, in `filter` the remote. The command `migrate` reads the bytes of a device instead, and writes them in format 2.
 pub fn run<S: Source, K: Sink, D: Disk + Drop, R: Remote>(
     alloc: Global,
     words: &[String],
@@ -55,10 +59,10 @@ pub fn run<S: Source, K: Sink, D: Disk + Drop, R: Remote>(
     remote: R,
 ) -> Finish<D, R>
     // The words name a command, and there is a text, which the source had left where it reports one, of which all holds that
-    // `OfText` says: what was written, by the status, and when each status comes. Or the words are no command, or memory ran out
+    // `OfSource` says: what was written, by the status, and when each status comes. Or the words are no command, or memory ran out
     // while they were read; then nothing was touched.
     ensures words { ((c : Meant) × Names (map string_bytes words.now) c × ((text : List ℕ) × IsWhole (S.left source.old) text
-        × OfText D.state (mode_of c) disk text (K.held sink.old) (K.held sink.new) (sink.new ≡ sink.old) (IsQuiet (S.faults source.old) (S.faults source.new) × IsQuiet (K.faults sink.old) (K.faults sink.new)) result.status result.disk))
+        × OfSource D.state c disk text (K.held sink.old) (K.held sink.new) (sink.new ≡ sink.old) (IsQuiet (S.faults source.old) (S.faults source.new) × IsQuiet (K.faults sink.old) (K.faults sink.new)) result.status result.disk))
         ⊎ (((result.status ≡ Status.Usage) ⊎ (result.status ≡ Status.OutOfMemory)) × (source.new ≡ source.old) × (sink.new ≡ sink.old) × (result.disk ≡ disk)) }
     ensures usage { result.status ≡ Status.Usage → AreTaken (map string_bytes words.now) → ⊥ }
     ensures refused { (AreTaken (map string_bytes words.now) → ⊥) → (result.status ≡ Status.Usage) ⊎ (result.status ≡ Status.OutOfMemory) }
@@ -68,17 +72,19 @@ pub fn run<S: Source, K: Sink, D: Disk + Drop, R: Remote>(
     ensures sink_fault { result.status ≡ Status.SinkFault → Rose (K.faults sink.old) (K.faults sink.new) }
     ensures device { result.status ≡ Status.BadDevice → IsFit (size_of (D.state disk)) → ⊥ }
     ensures device_fault { result.status ≡ Status.DeviceFault → capped ((D.state disk).faults + 1) ≤ (D.state result.disk).faults }
-    ensures begun { (c : Meant) → Names (map string_bytes words.now) c → result.status ≡ Status.DeviceFault → mode_of c ≡ Filter }
+    ensures begun { (c : Meant) → Names (map string_bytes words.now) c → result.status ≡ Status.DeviceFault → c ≢ meant.Replay }
 
     // What is not touched.
     ensures remote { result.remote ≡ remote }
-    ensures kept { (c : Meant) → Names (map string_bytes words.now) c → HandsBack (mode_of c) disk result.disk }
+    ensures kept { (c : Meant) → Names (map string_bytes words.now) c → KeepsDisk c disk result.disk }
     ensures unread { result.status ≡ Status.Usage → source.new ≡ source.old }
     ensures unwritten { IsBeforeWriting result.status → sink.new ≡ sink.old }
     ensures unused { IsBeforeDevice result.status → result.disk ≡ disk }
 {
     match command_of(alloc, words) {
-        Ok(command) => sourced(alloc, mode_of(command), source, sink, disk, remote),
+        Ok(Command::Replay) => sourced(alloc, Mode::Replay, source, sink, disk, remote),
+        Ok(Command::Filter) => sourced(alloc, Mode::Filter, source, sink, disk, remote),
+        Ok(Command::Migrate) => migrated(alloc, source, sink, disk, remote),
         Err(fail) => Finish {
             status: unread(fail),
             disk,
@@ -87,12 +93,29 @@ pub fn run<S: Source, K: Sink, D: Disk + Drop, R: Remote>(
     }
 }
 
-fn mode_of(command: Command) -> Mode
-    ensures { result ≡ mode_of command }
+/// Migrates the device whose bytes the source has.
+fn migrated<S: Source, K: Sink, D: Disk, R: Remote>(
+    alloc: Global,
+    source: &mut S,
+    sink: &mut K,
+    mut disk: D,
+    remote: R,
+) -> Finish<D, R>
+    ensures bytes { (bytes : List ℕ) × IsWhole (S.left source.old) bytes × OfDevice (D.state disk) (D.state result.disk) bytes (K.held sink.old) (K.held sink.new) (IsQuiet (S.faults source.old) (S.faults source.new) × IsQuiet (K.faults sink.old) (K.faults sink.new)) result.status }
+    ensures remote { result.remote ≡ remote }
+    ensures only { result.status ≢ Status.Usage }
+    ensures source_fault { result.status ≡ Status.SourceFault → Rose (S.faults source.old) (S.faults source.new) }
+    ensures sink_fault { result.status ≡ Status.SinkFault → Rose (K.faults sink.old) (K.faults sink.new) }
+    ensures device { result.status ≡ Status.BadDevice → IsFit (size_of (D.state disk)) → ⊥ }
+    ensures device_fault { result.status ≡ Status.DeviceFault → capped ((D.state disk).faults + 1) ≤ (D.state result.disk).faults }
+    ensures unwritten { IsBeforeWriting result.status → sink.new ≡ sink.old }
+    ensures unused { IsBeforeDevice result.status → result.disk ≡ disk }
 {
-    match command {
-        Command::Replay => Mode::Replay,
-        Command::Filter => Mode::Filter,
+    let status = migrate(alloc, source, sink, &mut disk);
+    Finish {
+        status,
+        disk,
+        remote,
     }
 }
 
@@ -180,7 +203,7 @@ fn scripted<K: Sink, D: Disk + Drop, R: Remote>(
     }
 }
 
-fn is_fit(size: u64) -> bool
+pub(crate) fn is_fit(size: u64) -> bool
     ensures { IsTrue result ↔ IsFit size }
 {
     LEAST_DEVICE <= size && size <= MOST_DEVICE && size % CLUSTER == 0

@@ -2,6 +2,7 @@
 
 mod faults;
 mod lengths;
+mod migrations;
 mod sinks;
 mod stops;
 
@@ -31,9 +32,22 @@ fn ran(
     sink_fails: &[u64],
     disk: MemDisk,
 ) -> Result<(Status, MemSink), Fail> {
+    ran_with(alloc, word, script, source_fails, sink_fails, disk, ROOM)
+}
+
+/// The same with room for so many bytes in the sink.
+fn ran_with(
+    alloc: Global,
+    word: &str,
+    bytes: &[u8],
+    source_fails: &[u64],
+    sink_fails: &[u64],
+    disk: MemDisk,
+    room: usize,
+) -> Result<(Status, MemSink), Fail> {
     let words = vec![in alloc; String::from_str(alloc, word)?]?;
-    let mut source = MemSource::new(alloc, script, source_fails)?;
-    let mut sink = MemSink::new(alloc, ROOM, sink_fails)?;
+    let mut source = MemSource::new(alloc, bytes, source_fails)?;
+    let mut sink = MemSink::new(alloc, room, sink_fails)?;
     let remote = StoreRemote::new(alloc)?;
     let finish = run(alloc, &words, &mut source, &mut sink, disk, remote);
     Ok((finish.status, sink))

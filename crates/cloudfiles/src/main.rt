@@ -1,4 +1,4 @@
-//! A script from standard input to a report on standard output.
+//! From standard input to standard output: a script to its report, or the bytes of a device to those of its volume in format 2.
 #![tactic(auto)]
 
 use cf_base::Status;

@@ -23,7 +23,7 @@ fn is_empty<D: Disk>(volume: &Volume<D>) -> bool {
 }
 
 // Whether the volume is empty in this epoch.
-fn is_new<D: Disk>(volume: &Volume<D>, epoch: u32) -> bool {
+pub(super) fn is_new<D: Disk>(volume: &Volume<D>, epoch: u32) -> bool {
     let first = Some(Usn { epoch, place: 1 });
     is_empty(volume) && volume.epoch() == epoch && volume.next_usn() == first
 }
@@ -44,7 +44,7 @@ fn each_opening_of_a_new_volume_begins_an_epoch(rt: HostRuntime) -> Result<(), F
     Ok(())
 }
 
-fn is_none<D: Disk + Drop>(alloc: Global, disk: D) -> bool {
+pub(super) fn is_none<D: Disk + Drop>(alloc: Global, disk: D) -> bool {
     matches!(open(alloc, disk), Err(Refusal::No(Code::NotAVolume)))
 }
 

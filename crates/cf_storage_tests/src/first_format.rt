@@ -1,0 +1,105 @@
+//! Journals of format 1, which are opened and not written: one that is spelled, and slots that break one condition each.
+
+ghost use Rattle.std.specs.Prelude.{◌≡◌};
+ghost use Rattle.cf_disk.specs.Disk.{size_of};
+
+use cf_codec::Format;
+use cf_disk::{Disk, DiskError, MemDisk};
+use cf_journal::*;
+use std::alloc::Global;
+use std::test::Fail;
+
+const SIZE: u64 = 3_145_728;
+
+const JOURNAL: u64 = 1_048_576;
+
+// An open gate, CFVOL01, generation 1, an image of three bytes, the size of the disk.
+const SLOT: [u8; 28] = [
+    1, 67, 70, 86, 79, 76, 48, 49, 0, 0, 0, 0, 0, 0, 0, 1, 0, 0, 0, 3, 0, 0, 0, 0, 0, 48, 0, 0,
+];
+
+// Writes bytes where they lie in the disk, and makes them durable.
+fn put<D: Disk>(disk: &mut D, at: u64, bytes: &[u8]) -> Result<(), DiskError>
+    ensures { size_of (D.state disk.new) ≡ size_of (D.state disk.old) }
+{
+    let size = disk.size();
+    if bytes.len() as u64 <= size && at <= size - bytes.len() as u64 {
+        disk.write(at, bytes)?;
+    }
+    disk.sync()?;
+    Ok(())
+}
+
+// The slot, the image `one` and this journal, in side A.
+fn put_first<D: Disk>(disk: &mut D, slot: &[u8], journal: &[u8]) -> Result<(), DiskError>
+    ensures { size_of (D.state disk.new) ≡ size_of (D.state disk.old) }
+{
+    put(disk, 0, slot)?;
+    put(disk, 4096, b"one")?;
+    put(disk, JOURNAL, journal)
+}
+
+// What a journal holds: a record of two bytes, and a closed gate.
+const RECORD: [u8; 8] = [1, 0, 0, 0, 2, 97, 98, 0];
+
+// Whether the disk holds the image and the record, in format 1, in which no record has room.
+fn holds_first<D: Disk>(alloc: Global, disk: &mut D) -> Result<bool, JournalError>
+    ensures { size_of (D.state disk.new) ≡ size_of (D.state disk.old) }
+{
+    if !Journal::is_fit_size(disk.size()) {
+        return Ok(false);
+    }
+    let opened = Journal::open(alloc, disk)?;
+    let payloads = opened.payloads.as_slice();
+    let is_record = payloads.len() == 1 && payloads[0].as_slice() == b"ab".as_slice();
+    let is_image = opened.image.as_slice() == b"one".as_slice();
+    Ok(opened.format == Format::First && is_image && is_record && !opened.journal.fits(0))
+}
+
+// Whether the disk is no volume.
+fn is_none<D: Disk>(alloc: Global, disk: &mut D) -> bool
+    ensures { size_of (D.state disk.new) ≡ size_of (D.state disk.old) }
+{
+    if !Journal::is_fit_size(disk.size()) {
+        return false;
+    }
+    matches!(Journal::open(alloc, disk), Err(JournalError::NotAVolume))
+}
+
+#[test]
+fn a_slot_of_format_1_is_opened(rt: HostRuntime) -> Result<(), Fail> {
+    let mut disk = MemDisk::new(rt.alloc(), SIZE)?;
+    put_first(&mut disk, &SLOT, &RECORD)?;
+    assert!(rt; holds_first(rt.alloc(), &mut disk)?);
+    Ok(())
+}
+
+// A slot with some bytes changed, from a place on.
+fn changed(at: usize, bytes: &[u8]) -> [u8; 28] {
+    let mut slot = SLOT;
+    let mut place = at;
+    for byte in bytes {
+        if place < 28 {
+            slot[place] = *byte;
+            place += 1;
+        }
+    }
+    slot
+}
+
+#[test]
+fn a_slot_that_breaks_one_condition_is_none(rt: HostRuntime) -> Result<(), Fail> {
+    let mut disk = MemDisk::new(rt.alloc(), SIZE)?;
+    let breaks: [(usize, &[u8]); 5] = [
+        (0, &[0]),
+        (7, &[51]),
+        (15, &[0]),
+        (17, &[15, 240, 1]),
+        (27, &[1]),
+    ];
+    for (at, bytes) in breaks {
+        put_first(&mut disk, &changed(at, bytes), &RECORD)?;
+        assert!(rt; is_none(rt.alloc(), &mut disk));
+    }
+    Ok(())
+}

@@ -1,0 +1,169 @@
+//! Openings of devices of format 1: what they give, each stop and power cut within one, and images that break one condition.
+
+use crate::volume::openings::{EIGHT, is_new, is_none};
+use crate::volume::steps::{open, reopened};
+use cf_base::{CallError as Refusal, Choice};
+use cf_disk::{Disk, MemDisk};
+use cf_journal::Journal;
+use cf_volume::Volume;
+use std::alloc::Global;
+use std::test::Fail;
+
+const IMAGE: u64 = 4096;
+
+const JOURNAL: u64 = 1_048_576;
+
+const OTHER_SLOT: u64 = 1_572_864;
+
+// An open gate, CFVOL01, generation 1, an image of 99 bytes, a device of eight clusters.
+const SLOT: [u8; 28] = [
+    1, 67, 70, 86, 79, 76, 48, 49, 0, 0, 0, 0, 0, 0, 0, 1, 0, 0, 0, 99, 0, 0, 0, 0, 0, 48, 128, 0,
+];
+
+// What the image of a new volume in epoch 1 has besides zeros: the format, the epoch, the next item, one row, and in it the
+// root's id and its flags.
+const FIELDS: [(u64, u8); 6] = [(0, 1), (4, 1), (24, 2), (28, 1), (36, 1), (46, 5)];
+
+fn put<D: Disk>(disk: &mut D, at: u64, bytes: &[u8]) -> bool {
+    let fits = disk.size() == EIGHT && at <= OTHER_SLOT && bytes.len() <= 4096;
+    fits && disk.write(at, bytes).is_ok() && disk.sync().is_ok()
+}
+
+// A new volume of format 1, with some bytes changed: whether the disk has it.
+fn put_volume<D: Disk>(disk: &mut D, changed: &[(u64, u8)]) -> bool {
+    if !put(disk, 0, &SLOT) {
+        return false;
+    }
+    for (place, byte) in FIELDS {
+        if !put(disk, IMAGE + place, &[byte]) {
+            return false;
+        }
+    }
+    for (place, byte) in changed {
+        if !put(disk, *place, &[*byte]) {
+            return false;
+        }
+    }
+    true
+}
+
+fn made(alloc: Global, changed: &[(u64, u8)]) -> Result<Option<MemDisk>, Refusal> {
+    let mut disk = MemDisk::new(alloc, EIGHT)?;
+    if put_volume(&mut disk, changed) {
+        Ok(Some(disk))
+    } else {
+        drop(disk);
+        Ok(None)
+    }
+}
+
+fn opens_twice(alloc: Global, disk: MemDisk) -> Result<bool, Refusal> {
+    let volume = open(alloc, disk)?;
+    let first = is_new(&volume, 2);
+    let volume = reopened(alloc, volume, Choice::Drop)?;
+    Ok(first && is_new(&volume, 3))
+}
+
+// A change that no reader of format 1 sees: it lies where format 2 has a journal.
+const UNSEEN: (u64, u8) = (1_310_720, 1);
+
+fn opens(alloc: Global, changed: &[(u64, u8)]) -> Result<bool, Refusal> {
+    match made(alloc, changed)? {
+        Some(disk) => opens_twice(alloc, disk),
+        None => Ok(false),
+    }
+}
+
+fn is_refused(alloc: Global, changed: &[(u64, u8)]) -> Result<bool, Refusal> {
+    match made(alloc, changed)? {
+        Some(disk) => Ok(is_none(alloc, disk)),
+        None => Ok(false),
+    }
+}
+
+#[test]
+fn a_device_of_format_1_is_opened(rt: HostRuntime) -> Result<(), Fail> {
+    assert!(rt; opens(rt.alloc(), &[])?);
+    assert!(rt; opens(rt.alloc(), &[UNSEEN])?);
+    Ok(())
+}
+
+// Each breaks one condition: the gate, the letters, the generation, the length and the device's size; the format, the number of
+// rows and the root's flags; the next item and the root's parent; and a record that is no payload.
+const BREAKS: [(u64, u8); 11] = [
+    (0, 0),
+    (7, 51),
+    (15, 0),
+    (19, 98),
+    (26, 129),
+    (IMAGE, 2),
+    (IMAGE + 28, 0),
+    (IMAGE + 46, 133),
+    (IMAGE + 24, 1),
+    (IMAGE + 44, 1),
+    (JOURNAL, 1),
+];
+
+// An image of more bytes than format 1 may have, and a record that does not fit its journal.
+const TOO_LONG: [(u64, u8); 3] = [(17, 15), (18, 240), (19, 1)];
+
+const NO_ROOM: [(u64, u8); 2] = [(JOURNAL, 1), (JOURNAL + 1, 255)];
+
+#[test]
+fn an_image_of_format_1_that_breaks_one_condition_is_no_volume(
+    rt: HostRuntime,
+) -> Result<(), Fail> {
+    for change in BREAKS {
+        assert!(rt; is_refused(rt.alloc(), &[change])?);
+    }
+    assert!(rt; is_refused(rt.alloc(), &TOO_LONG)?);
+    assert!(rt; is_refused(rt.alloc(), &NO_ROOM)?);
+    Ok(())
+}
+
+// Whether a new volume of an epoch between these is there.
+fn is_between(volume: &Volume<MemDisk>, least: u32, most: u32) -> bool {
+    let epoch = volume.epoch();
+    least <= epoch && epoch <= most && is_new(volume, epoch)
+}
+
+// Whether an opening that is stopped after so many of its calls leaves what is opened again: the old format, in whose next
+// epoch it then is, or the new one, after the epoch that the first opening began.
+fn opens_again(alloc: Global, disk: MemDisk, choice: Choice) -> Result<bool, Refusal> {
+    if !Journal::is_fit_size(disk.size()) {
+        drop(disk);
+        return Ok(false);
+    }
+    let (mut disk, done) = match Volume::open(alloc, disk) {
+        Ok(volume) => (volume.into_disk(), true),
+        Err((disk, _)) => (disk, false),
+    };
+    disk.power(choice);
+    let volume = open(alloc, disk)?;
+    Ok(if done {
+        is_between(&volume, 3, 3)
+    } else {
+        is_between(&volume, 2, 3)
+    })
+}
+
+// It makes fourteen calls.
+#[test]
+fn a_stopped_opening_of_format_1_is_opened_again(rt: HostRuntime) -> Result<(), Fail> {
+    for calls in 0..15 {
+        for choice in [Choice::Keep, Choice::Drop, Choice::Mix(3)] {
+            assert!(rt; is_stopped_well(rt.alloc(), calls, choice)?);
+        }
+    }
+    Ok(())
+}
+
+fn is_stopped_well(alloc: Global, calls: u32, choice: Choice) -> Result<bool, Refusal> {
+    match made(alloc, &[])? {
+        Some(mut disk) => {
+            disk.arm(calls);
+            opens_again(alloc, disk, choice)
+        }
+        None => Ok(false),
+    }
+}
