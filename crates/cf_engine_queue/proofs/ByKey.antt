@@ -33,7 +33,7 @@ is_less Less h = refl
 is_less Equal h = let bad : false ≡ true = h in cc
 is_less Greater h = let bad : false ≡ true = h in cc
 
-before_goes_on : (a b c : List ℕ) → comes_before a b ≡ true → comes_before b c ≡ true → comes_before a c ≡ true
+pub before_goes_on : (a b c : List ℕ) → comes_before a b ≡ true → comes_before b c ≡ true → comes_before a c ≡ true
 before_goes_on a b c h k =
     before_is a c
     ∙ ap is_lt (nat_list_cmp_total.trans a b c (is_less (slice_cmp nat_cmp a b) (sym (before_is a b) ∙ h)) (is_less (slice_cmp nat_cmp b c) (sym (before_is b c) ∙ k)))
@@ -44,7 +44,7 @@ same_bytes [] (y ∷ ys) = refl
 same_bytes (x ∷ xs) [] = refl
 same_bytes (x ∷ xs) (y ∷ ys) = ap (λ b. eqb x y && b) (same_bytes xs ys)
 
-not_itself : (a : List ℕ) → comes_before a a ≡ false
+pub not_itself : (a : List ℕ) → comes_before a a ≡ false
 not_itself [] = refl
 not_itself (x ∷ xs) = rw (le-ltb x x (omega arith), eq-eqb x x refl) (not_itself xs)
 
@@ -52,7 +52,7 @@ both_true : (x y : Bool) → (x && y) ≡ true → (x ≡ true) × (y ≡ true)
 both_true true y h = (refl, h)
 both_true false y h = let bad : false ≡ true = h in cc
 
-same_text : (a b : List ℕ) → same a b ≡ true → a ≡ b
+pub same_text : (a b : List ℕ) → same a b ≡ true → a ≡ b
 same_text [] [] h = refl
 same_text [] (y ∷ ys) h = let bad : false ≡ true = h in cc
 same_text (x ∷ xs) [] h = let bad : false ≡ true = h in cc

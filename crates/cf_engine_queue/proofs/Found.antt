@@ -87,7 +87,7 @@ at_mapped f is key (x ∷ xs) h = elim (cases_Bool (is x)) [
 abbrev Other : List ℕ → AuxRecord → Type 0
 Other key r = same r.key key ≡ false
 
-entry_at : (b : Book) (token : Token) → IsKeepable b → FitsKey token.0 → record_at (codes "q" ++ key_bytes token.0) (aux_records b) ≡ option_map entry_record (entry_of b token)
+pub entry_at : (b : Book) (token : Token) → IsKeepable b → FitsKey token.0 → record_at (codes "q" ++ key_bytes token.0) (aux_records b) ≡ option_map entry_record (entry_of b token)
 entry_at b token k fits =
     let key = codes "q" ++ key_bytes token.0 in
     at_front key (cursor_records b.cursor ++ map entry_record b.entries ++ map seen_record b.seen) (map tombstone_record b.tombstones) (all_mapped (Other key) tombstone_record b.tombstones (λ t. refl))

@@ -10,3 +10,4 @@ pub mod OneMeaning
 pub mod ByKey
 pub mod Found
 pub mod UploadRecords
+pub mod PutBack

@@ -1,11 +1,14 @@
 //! What the identities of items say.
 
-ghost use Rattle.std.specs.Prelude.{◌≡◌, ◌≢◌, ◌++◌, ◌<◌, length, MatchOption};
+ghost use Rattle.std.specs.Prelude.{◌≡◌, ◌≢◌, ◌++◌, ◌<◌, length, IfOk, MatchOption};
 ghost use Rattle.cf_engine_queue.specs.Identities.{IsOurs, numbers_of};
+ghost use Rattle.cf_model.specs.Identities.{identity_for};
 ghost use Rattle.cf_model.specs.Words.{in_bytes};
 
-use cf_base::Identity;
-use cf_codec::Reader;
+use crate::record_writes::put_8;
+use cf_base::{Identity, OutOfMemory, Rid, Version};
+use cf_codec::{Reader, Writer};
+use std::alloc::Global;
 
 /// What an identity that an engine gave says: the item of the remote that the local one is, and the item and version of the remote
 /// of its base. 0 stands for none.
@@ -52,4 +55,31 @@ pub fn numbers_of(identity: &Identity) -> Option<Numbers>
         });
     }
     read(bytes)
+}
+
+fn spelled(alloc: Global, target: u64, base: u64, version: u64) -> Result<Identity, OutOfMemory>
+    ensures { IfOk result (λ i. i ≡ in_bytes 8 target ++ in_bytes 8 base ++ in_bytes 8 version) }
+{
+    let mut out = Writer::new(alloc);
+    put_8(&mut out, target)?;
+    put_8(&mut out, base)?;
+    put_8(&mut out, version)?;
+    let bytes = out.into_blob();
+    Identity::new(alloc, bytes.as_slice())
+}
+
+/// The identity of a local item which is this item of the remote, in this version. A directory has no base.
+pub fn identity_for(
+    alloc: Global,
+    is_directory: bool,
+    rid: Rid,
+    version: Version,
+) -> Result<Identity, OutOfMemory>
+    ensures { IfOk result (λ i. i ≡ identity_for is_directory rid version) }
+{
+    if is_directory {
+        spelled(alloc, rid.0, 0, 0)
+    } else {
+        spelled(alloc, rid.0, rid.0, version.0)
+    }
 }

@@ -6,7 +6,8 @@
 //! `find_entry`, `find_seen`, `find_tombstone` and `find_cursor` read one record of a book by its key, by halves; `load_uploads` and the
 //! tests beside it read those of uploads alone.
 //! `one_record_a_step` tells by which record each step of a book is kept, and `keepable_after_each_step` that the book stays
-//! one that its records keep; specs/Steps says what a step asks. `numbers_of` reads the identities that an engine gives.
+//! one that its records keep; specs/Steps says what a step asks. `numbers_of` reads the identities that an engine gives,
+//! and `identity_for` spells them.
 #![tactic(auto)]
 
 mod fields;
@@ -21,7 +22,7 @@ mod record_writes;
 mod records;
 mod uploads;
 
-pub use identities::{Numbers, numbers_of};
+pub use identities::{Numbers, identity_for, numbers_of};
 pub use laws::{keepable_after_each_step, one_record_a_step, one_value_a_record};
 pub use look_ups::{find_cursor, find_entry, find_seen, find_tombstone};
 pub use pending_uploads::{has_uploads, load_uploads, sends_item, sends_new, sends_target};

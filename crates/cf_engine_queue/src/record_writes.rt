@@ -21,7 +21,7 @@ fn put_4(out: &mut Writer, v: u32) -> Result<(), OutOfMemory>
 }
 
 #[tactic(auto, using(crate::proofs::Spelled::eight_bytes))]
-fn put_8(out: &mut Writer, v: u64) -> Result<(), OutOfMemory>
+pub(crate) fn put_8(out: &mut Writer, v: u64) -> Result<(), OutOfMemory>
     ensures ok { OnOk result (out.new ≡ out.old ++ in_bytes 8 v) }
     ensures fits { v < 2 ^ 64 }
 {
