@@ -1,5 +1,4 @@
 pub mod Parts
-pub mod PutBack
 pub mod Rebased
 pub mod Replied
 pub mod Uploaded

@@ -13,7 +13,7 @@ use Rattle.cf_engine_queue.specs.Books.{entry_value}
 use Rattle.cf_engine_queue.specs.Records.{FitsKey, IsEntry, IsKeepable}
 use Rattle.cf_engine_queue.specs.declared.uploads.QueueEntry.{QueueEntry as Entry}
 use Rattle.cf_engine_replies.specs.Rebases.{PutsBack, ReadyIf, ReadyWithout, RefusedIf, StandsIf, change_and_mark, rebase_now, refused_without, without}
-use Rattle.cf_engine_replies.proofs.PutBack.{entry_back}
+use Rattle.cf_engine_queue.proofs.PutBack.{entry_back}
 use Rattle.cf_engine_steps.specs.Answering.{After, Answers, Any, On}
 use Rattle.cf_engine_steps.specs.BookReads.{entry_in}
 use Rattle.cf_engine_steps.specs.States.{Own, whole}
@@ -131,7 +131,7 @@ module _ {X : Type 0} (S : steps.Sense X) (token : Token) (c : Change) (r : AuxR
 pub stands_by : {X : Type 0} (S : steps.Sense X) (keepable : (z : X) (s : Filter) → S.means z s → IsKeepable s.volume.book) (token : Token) (x : X) (o : Option Entry) (e : Entry) (r : AuxRecord)
     → steps.Reads S steps.Any (entry_in token) x (option_map entry_value o) → o ≡ Some e → IsEntry r (entry_value e) → StandsIf S token r x
 stands_by S keepable token x o e r reads is says = record {
-  back = λ s i. entry_back s token (entry_value e) r (keepable x s i) (ap (λ (z : Option Entry). option_map entry_value z) (sym is) ∙ reads.is s i (record {})) says;
+  back = λ s i. entry_back s.volume.book token (entry_value e) r (keepable x s i) (ap (λ (z : Option Entry). option_map entry_value z) (sym is) ∙ reads.is s i (record {})) says;
 }
 
 pub refused_by : {X : Type 0} (S : steps.Sense X) (token : Token) (c : Change) (r : AuxRecord) (x y : X) (q : Result (Option Code) CallError) → StandsIf S token r x

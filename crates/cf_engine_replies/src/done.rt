@@ -9,14 +9,13 @@ ghost use Rattle.cf_model.specs.Identities.{identity_for};
 ghost use Rattle.cf_model.specs.PushReplies.{done_move, done_upload, take_done};
 
 use crate::entries::take;
-use crate::identities::identity_for;
 use crate::rebases::rebase;
 use crate::removals::done_removal;
 use crate::seen_paths::see_then_mark;
 use crate::tombstones::bury_new;
 use cf_base::{CallError, Change, OutOfMemory, Rid, Usn, Version};
 use cf_engine_host::EngineHost;
-use cf_engine_queue::{Action, QueueEntry};
+use cf_engine_queue::{Action, QueueEntry, identity_for};
 use cf_engine_steps::Engine;
 use cf_filter_steps::Steps;
 use cf_remote::Remote;

@@ -8,7 +8,6 @@
 
 mod done;
 mod entries;
-mod identities;
 mod rebase_room;
 mod rebases;
 mod refusals;
