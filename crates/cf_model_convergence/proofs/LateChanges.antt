@@ -19,6 +19,7 @@ use Rattle.cf_model.proofs.RemoteLaws.{runs_keep_remote}
 use Rattle.cf_model.proofs.StoreLaws.{step_counts}
 use Rattle.cf_model_laws.specs.Invariant.{All}
 use Rattle.cf_model_laws.proofs.Gathered.{all_append, all_found, all_map, all_weaker}
+use Rattle.cf_model_laws.proofs.RemoteGrowth.{clock_rises}
 use Rattle.cf_model_convergence.specs.Feeds.{AreAsTheyWere, IsAsItWas, IsLateOrSame}
 use Rattle.cf_model_convergence.proofs.TidyItems.{each_found}
 
@@ -100,38 +101,6 @@ module _ (held : Held) (counted : IsCounted held) where
 
 pub late_or_same : (held : Held) (q : Request) → IsCounted held → All (IsLateOrSame held) (remote_step held q).1.items
 late_or_same held q counted = step_late held counted q
-
--- the clock
-
-clock_after : (n : ℕ) → n ≤ n + 1
-clock_after n = omega arith
-
-clock_still : (n : ℕ) → n ≤ n
-clock_still n = omega arith
-
-mutated_clock : (held : Held) (token : Token) (m : Mutation) (o : Option Recorded) → held.clock ≤ (mutate held token m o).1.clock
-mutated_clock held token m (Some r) = clock_still held.clock
-mutated_clock held token m None = by m.refusal where
-  by : (w : Option Why) → held.clock ≤ (decide held token m w).1.clock
-  by (Some w) = clock_still held.clock
-  by None = clock_after held.clock
-
-pub clock_rises : (held : Held) (q : Request) → held.clock ≤ (remote_step held q).1.clock
-clock_rises held (request.Feed round after) = clock_still held.clock
-clock_rises held (request.List key rid) = clock_still held.clock
-clock_rises held (request.Fetch key rid version start len) = clock_still held.clock
-clock_rises held (request.Put token rid expect parent name bytes) = mutated_clock held token (elim (rid.0 == 0) as (λ _. Mutation) [ true ↦ put_new held parent name bytes | false ↦ put_version held rid expect bytes ]) (recorded_at held.tokens token)
-clock_rises held (request.MakeDir token parent name) = mutated_clock held token (make_dir held parent name) (recorded_at held.tokens token)
-clock_rises held (request.Move token rid parent name) = mutated_clock held token (move_to held rid parent name) (recorded_at held.tokens token)
-clock_rises held (request.Remove token rid expect) = mutated_clock held token (remove_at held rid expect) (recorded_at held.tokens token)
-clock_rises held (request.Settle token) = by (recorded_at held.tokens token) where
-  by : (o : Option Recorded) → held.clock ≤ (settle held token o).1.clock
-  by (Some r) = clock_still held.clock
-  by None = clock_still held.clock
-clock_rises held (request.Keep token count) = by (recorded_at held.tokens token) where
-  by : (o : Option Recorded) → held.clock ≤ (keep_last held token count o).1.clock
-  by (Some r) = clock_still held.clock
-  by None = clock_still held.clock
 
 -- a run
 

@@ -1,5 +1,7 @@
+pub mod EarlyCursors
 pub mod FeedsOrder
 pub mod FeedsTold
+pub mod LastingGuarded
 pub mod LateChanges
 pub mod Lines
 pub mod RestingMatches

@@ -1,6 +1,7 @@
 //! When the items here and those of the remote come to be alike: laws over the definitions.
 #![tactic(auto)]
 
+pub mod books;
 pub mod examples;
 pub mod remotes;
 pub mod rounds;

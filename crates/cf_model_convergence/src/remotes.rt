@@ -38,7 +38,7 @@ pub fn a_feed_tells_parents_first()
 {}
 
 /// A request changes an item at a time behind the clock: what was not changed after it is told as before. The clock never goes back.
-#[tactic(auto, using(crate::proofs::LateChanges::late_or_same, crate::proofs::LateChanges::clock_rises))]
+#[tactic(auto, using(crate::proofs::LateChanges::late_or_same, cf_model_laws::proofs::RemoteGrowth::clock_rises))]
 pub fn a_request_changes_what_is_late()
     ensures late { (held : Held) (q : Request) → IsCounted held → All (IsLateOrSame held) (remote_step held q).1.items }
     ensures clock { (held : Held) (q : Request) → held.clock ≤ (remote_step held q).1.clock }

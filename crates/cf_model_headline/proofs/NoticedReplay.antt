@@ -98,7 +98,7 @@ module _ (Q : Filter → Type 0) (q : Noticed Q) (P : State → Type 0) where
 
   pub deleting_noticed : Deleting P → Deleting Both
   deleting_noticed deleting = record {
-    deletes = λ f item s keeps seen idle h. keeps_both (λ x. P (with_filter x s)) Q (change_with f (change.Remove item) s.filter) (deleting.deletes f item s keeps seen idle h.0) ((q.closed.change f (change.Remove item)).keeps s.filter h.1);
+    deletes = λ f item s keeps seen cursor idle h. keeps_both (λ x. P (with_filter x s)) Q (change_with f (change.Remove item) s.filter) (deleting.deletes f item s keeps seen cursor idle h.0) ((q.closed.change f (change.Remove item)).keeps s.filter h.1);
   }
 
   -- an event other than those of the device

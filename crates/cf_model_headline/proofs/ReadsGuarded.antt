@@ -220,7 +220,7 @@ module _ (base : Log) (ws : List Wait) (e n : ℕ) where
 
     deleting_reading : Deleting P → Deleting Both
     deleting_reading deleting = record {
-      deletes = λ f item s keeps seen idle h. keeps_both (λ x. P (with_filter x s)) (At s.link) (change_with f (change.Remove item) s.filter) (deleting.deletes f item s keeps seen idle h.0) (removing s f item h.1);
+      deletes = λ f item s keeps seen cursor idle h. keeps_both (λ x. P (with_filter x s)) (At s.link) (change_with f (change.Remove item) s.filter) (deleting.deletes f item s keeps seen cursor idle h.0) (removing s f item h.1);
     }
 
     -- an event other than those of the device

@@ -191,7 +191,7 @@ whole_beside F b P whole = record {
   closed = guarded_beside F b.beside P whole.closed;
   entering = entering_beside F P whole.entering;
   deleting = record {
-    deletes = λ f item s keeps seen idle h. keeps_both (λ x. P (with_filter x s)) (Holds F s.link) (change_with f (change.Remove item) s.filter) (whole.deleting.deletes f item s keeps seen idle h.0)
+    deletes = λ f item s keeps seen cursor idle h. keeps_both (λ x. P (with_filter x s)) (Holds F s.link) (change_with f (change.Remove item) s.filter) (whole.deleting.deletes f item s keeps seen cursor idle h.0)
         (changed_beside F s.link f (change.Remove item) s.filter h.1 (b.removes s.link s.volatile.tokens item s.filter ((whole.closed.on_filter s h.0).sound s.filter h.0) idle h.1));
   };
   begins = λ s h. (whole.begins s h.0, h.1);

@@ -27,7 +27,7 @@ use Rattle.cf_model.specs.Waits.{on_ok}
 use Rattle.cf_model_laws.proofs.OperationsGuarded as operations_keep
 use Rattle.cf_model_laws.proofs.WaitsGuarded as waits_keep
 use Rattle.cf_model.specs.Calls.{below_at, blocks_now, buried, changing, class_flags, count_now, delete, delete_item, delete_now, delete_tests, df, flush, has_size, info, info_item, info_of, move_of, next_handle, number_at, number_next, number_of, open_file, open_item, open_tests, opened_as, pin_item, pins_at, place_at, policy_tests, ranges, ranges_item, rename, rename_item, rename_tests, rename_to, room_tests, set_pin, set_policy, set_size, show_count, show_number, size_item, size_now, size_tests, used, used_item, used_now, with_handle, with_policy, write, write_item, write_now, write_tests, tombstone_for, stands_there}
-use Rattle.cf_model_laws.proofs.Guarded.{GuardedFilter}
+use Rattle.cf_model_laws.proofs.Guarded.{GuardedFilter, KeepsCursor}
 use Rattle.cf_model.proofs.ArrowLaws.{keeps_noted, keeps_reading, keeps_ret, keeps_then}
 use Rattle.std.proofs.Common.{◌≡◌, ◌+◌, ◌∷◌, refl, List, [], ℕ, Bool, true, false}
 use Rattle.cf_base.specs.Policies.{is_allowed, is_always_full, is_partial}
@@ -72,14 +72,14 @@ pub write_item_keeps : (l : Link) (tokens : ℕ) (P : Filter → Type 0) → Gua
 write_item_keeps l tokens P closed at [] item = operations_keep.done_keeps l tokens P closed
 write_item_keeps l tokens P closed at (b ∷ bs) item =
     operations_keep.checked_keeps l tokens P closed (write_tests (at + length (b ∷ bs)) (change.Write item at (b ∷ bs) ∷ [])) (write_now item (change.Write item at (b ∷ bs)))
-    (record { keeps = λ x h. closed.touch (with_access item) (change.Write item at (b ∷ bs)) item Nothing x tt (access_same item) (λ fair. ((λ z. absurd z), λ k. k)) (λ id k. k) (λ fair. tt) h })
+    (record { keeps = λ x h. closed.touch (with_access item) (change.Write item at (b ∷ bs)) item Nothing x tt (access_same item) (λ fair. ((λ z. absurd z), (λ k. k), λ b. refl)) (λ id k. k) (λ fair. tt) h })
 
 pub write_keeps : (l : Link) (tokens : ℕ) (P : Filter → Type 0) → GuardedFilter l tokens P → (x1 : Handle) → (x2 : ℕ) → (x3 : List ℕ) → Preserves P (write x1 x2 x3)
 write_keeps l tokens P closed h at bytes = waits_keep.on_handle_keeps l tokens P closed h (write_item at bytes) (write_item_keeps l tokens P closed at bytes)
 
 pub size_now_keeps : (l : Link) (tokens : ℕ) (P : Filter → Type 0) → GuardedFilter l tokens P → (item : ItemId) (n : ℕ) (b : Bool) → Preserves P (size_now item n b)
 size_now_keeps l tokens P closed item n true = keeps_then P (noted (accessed item)) done (keeps_noted P (accessed item) (closed.keeps_accessed item)) (operations_keep.done_keeps l tokens P closed)
-size_now_keeps l tokens P closed item n false = record { keeps = λ x h. closed.touch (with_access item) (change.Size item n) item Nothing x tt (access_same item) (λ fair. ((λ z. absurd z), λ k. k)) (λ id k. k) (λ fair. tt) h }
+size_now_keeps l tokens P closed item n false = record { keeps = λ x h. closed.touch (with_access item) (change.Size item n) item Nothing x tt (access_same item) (λ fair. ((λ z. absurd z), (λ k. k), λ b. refl)) (λ id k. k) (λ fair. tt) h }
 
 pub size_item_keeps : (l : Link) (tokens : ℕ) (P : Filter → Type 0) → GuardedFilter l tokens P → (x1 : ℕ) → (x2 : ItemId) → Preserves P (size_item x1 x2)
 size_item_keeps l tokens P closed n item = operations_keep.checked_keeps l tokens P closed (size_tests item n) (reading (has_size item n) (size_now item n)) (keeps_reading P (has_size item n) (size_now item n) (size_now_keeps l tokens P closed item n))
@@ -107,12 +107,19 @@ buried_seen true i n book = by (is_untargeted i) where
   by true = refl
   by false = refl
 
+buried_cursor : (b : Bool) (i : Item) (n : Usn) → KeepsCursor (buried b i n)
+buried_cursor false i n book = refl
+buried_cursor true i n book = by (is_untargeted i) where
+  by : (b : Bool) → (cond b book (with_tombstone (tombstone_for i n) book)).cursor ≡ book.cursor
+  by true = refl
+  by false = refl
+
 -- the removal that an application asks for
 abbrev pub Removing : (Filter → Type 0) → Type 0
-Removing P = (f : Book → Book) (item : ItemId) (x : Filter) → KeepsEntries f → ((b : Book) → (f b).seen ≡ b.seen) → in_use item x ≡ false → P x → Keeps P (change_with f (change.Remove item) x)
+Removing P = (f : Book → Book) (item : ItemId) (x : Filter) → KeepsEntries f → ((b : Book) → (f b).seen ≡ b.seen) → KeepsCursor f → in_use item x ≡ false → P x → Keeps P (change_with f (change.Remove item) x)
 
 delete_now_at : (P : Filter → Type 0) → Removing P → (m : Mode) (i : Item) (number : Usn) (x : Filter) → in_use i.id x ≡ false → P x → Keeps P (delete_now m i number x)
-delete_now_at P removes m i number x idle h = keeps_bind P (change_with (buried (is_replay m) i number) (change.Remove i.id) x) (λ _ t. ret (shown.Done) t) (removes (buried (is_replay m) i number) i.id x (buried_same (is_replay m) i number) (buried_seen (is_replay m) i number) idle h) (λ a t j. j)
+delete_now_at P removes m i number x idle h = keeps_bind P (change_with (buried (is_replay m) i number) (change.Remove i.id) x) (λ _ t. ret (shown.Done) t) (removes (buried (is_replay m) i number) i.id x (buried_same (is_replay m) i number) (buried_seen (is_replay m) i number) (buried_cursor (is_replay m) i number) idle h) (λ a t j. j)
 
 delete_item_keeps : (P : Filter → Type 0) → Removing P → (m : Mode) (i : Item) → Preserves P (delete_item m i)
 delete_item_keeps P removes m i = record {

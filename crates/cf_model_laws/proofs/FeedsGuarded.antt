@@ -1,5 +1,5 @@
 -- What a feed keeps in `replay`.
-use Rattle.std.proofs.Common.{◌≡◌, ℕ, Bool, true, false, List, [], ◌∷◌, refl, sym, ◌∙◌, ap, subst, arith}
+use Rattle.std.proofs.Common.{◌≤◌, ◌≡◌, ℕ, Bool, true, false, List, [], ◌∷◌, refl, sym, ◌∙◌, ap, subst, arith}
 use Rattle.std.specs.Prelude.{Option, Some, None, cond, not, filter, find, nat_lt, take, ◌&&◌, ◌||◌, ◌==◌}
 use Rattle.std.specs.List.{list_any}
 use Rattle.std.proofs.lemmas.Bool.{eqb-true}
@@ -33,7 +33,7 @@ use Rattle.cf_model_laws.proofs.Guarded.{Guarded}
 use Rattle.cf_model_laws.proofs.Leading.{Leads, kept_leads, leads_bind, leads_kept, leads_weaker}
 use Rattle.cf_model_laws.proofs.PushRepliesGuarded.{each_at}
 use Rattle.cf_model_laws.proofs.RightItems.{no_way, no_way_back}
-use Rattle.cf_model_laws.proofs.SkipsGuarded.{Whichever, and_then_keeps, fewer_changes, framed, guarded_skipping, keeps_first, only_if_at, try_cursor_keeps, try_mark_now_at}
+use Rattle.cf_model_laws.proofs.SkipsGuarded.{Whichever, and_then_keeps, fewer_changes, framed, guarded_skipping, keeps_into, only_if_at, try_cursor_at, try_mark_now_at}
 use Rattle.cf_model_laws.proofs.SoundSettles.{each_found, left_true, right_true, same_item}
 use Rattle.cf_model_laws.proofs.FeedMovesGuarded.{here_ready, move_entry_at}
 use Rattle.cf_model_laws.proofs.FeedEntriesGuarded.{Feeding, feeding, Feeds, IsTold, fair_now, turn_at, gone_at, new_at, IsMove, unmoved, Alike, AlikeAt, alike_frame, newer_file, idle_first, take_at}
@@ -203,21 +203,24 @@ all_turns_keep l w es P feeds list told = record {
         all_append (IsTold l) (sorted (λ d e. nat_lt (depth_of_entry (items_now s) e) (depth_of_entry (items_now s) d)) (filter (λ e. not e.live) list)) (filter (λ e. e.live) list)
         (all_sorted (IsTold l) (λ d e. nat_lt (depth_of_entry (items_now s) e) (depth_of_entry (items_now s) d)) (filter (λ e. not e.live) list) (all_filter (IsTold l) (λ e. not e.live) list told)) (all_filter (IsTold l) (λ e. e.live) list told)
 
-cursor_if_keeps : (P : State → Type 0) → Guarded P → (clock : ℕ) (b : Bool) → Preserves P (cursor_if clock b)
-cursor_if_keeps P closed clock false = keeps_ret P unit
-cursor_if_keeps P closed clock true = keeps_seq P (try_cursor clock) whatever (try_cursor_keeps Whichever P (guarded_skipping P closed) clock) (λ b. keeps_ret P unit)
+cursor_if_at : (P : State → Type 0) → Guarded P → (clock : ℕ) (b : Bool) (s : State) → (IsFair s.link → clock ≤ s.link.remote.clock) → P s → Keeps P (cursor_if clock b s)
+cursor_if_at P closed clock false s early h = h
+cursor_if_at P closed clock true s early h = keeps_bind P (try_cursor clock s) whatever (try_cursor_at Whichever P (guarded_skipping P closed) clock s early h) (λ b t j. j)
 
-end_feed_keeps : (P : State → Type 0) → Guarded P → (clock skips : ℕ) (f : Fed) → Preserves P (end_feed clock skips f)
-end_feed_keeps P closed clock skips f = keeps_then P (in_volatile all_released) (then_do (noted (with_clock_seen clock)) (reading (is_whole skips f) (cursor_if clock))) (keeps_noted P (with_volatile all_released) (closed.keeps_volatile_all_released)) (keeps_then P (noted (with_clock_seen clock)) (reading (is_whole skips f) (cursor_if clock)) (keeps_noted P (with_clock_seen clock) (closed.keeps_with_clock_seen clock)) (keeps_reading P (is_whole skips f) (cursor_if clock) (cursor_if_keeps P closed clock)))
+end_feed_at : (P : State → Type 0) → Guarded P → (clock skips : ℕ) (f : Fed) (s : State) → (IsFair s.link → clock ≤ s.link.remote.clock) → P s → Keeps P (end_feed clock skips f s)
+end_feed_at P closed clock skips f s early h =
+    let t : State = with_clock_seen clock (with_volatile all_released s) in
+    cursor_if_at P closed clock (is_whole skips f t) t early (closed.keeps_with_clock_seen clock (with_volatile all_released s) (closed.keeps_volatile_all_released s h))
 
 -- a feed that was told, while no upload is on its way
-apply_entries_at : (P : State → Type 0) → Guarded P → (clock : ℕ) (list : List Entry) (s : State) → (IsFair s.link → (book_now s).entries ≡ []) → All (IsTold s.link) list → P s → Keeps P (apply_entries clock list s)
-apply_entries_at P closed clock list s none told h =
-    keeps_bind P (all_turns list s) (end_feed clock s.running.skips)
-    (keeps_first P (Feeding s.link s.filter (book_now s).entries) (all_turns list s)
-    ((all_turns_keep s.link s.filter (book_now s).entries (λ t. P t × Feeding s.link s.filter (book_now s).entries t)
-    (record { steps = framed Whichever P (Feeding s.link s.filter (book_now s).entries) (guarded_skipping P closed) (feeding s.link s.filter (book_now s).entries); fed = λ t k. k.1; none = none }) list told).keeps s (h, record { link = refl; waiting = refl; handles = refl; entries = refl })))
-    (λ f t j. (end_feed_keeps P closed clock s.running.skips f).keeps t j)
+apply_entries_at : (P : State → Type 0) → Guarded P → (clock : ℕ) (list : List Entry) (s : State) → (IsFair s.link → (book_now s).entries ≡ []) → (IsFair s.link → clock ≤ s.link.remote.clock) → All (IsTold s.link) list → P s → Keeps P (apply_entries clock list s)
+apply_entries_at P closed clock list s none early told h =
+    keeps_into P Fed_ (λ t k. k.0) (all_turns list s) (end_feed clock s.running.skips)
+    ((all_turns_keep s.link s.filter (book_now s).entries Fed_
+    (record { steps = framed Whichever P (Feeding s.link s.filter (book_now s).entries) (guarded_skipping P closed) (feeding s.link s.filter (book_now s).entries); fed = λ t k. k.1; none = none }) list told).keeps s (h, record { link = refl; waiting = refl; handles = refl; entries = refl }))
+    (λ f t j. end_feed_at P closed clock s.running.skips f t (subst (λ (l : Link). IsFair l → clock ≤ l.remote.clock) (sym j.1.link) early) j.0) where
+      Fed_ : State → Type 0
+      Fed_ t = P t × Feeding s.link s.filter (book_now s).entries t
 
-pub apply_feed_at : (P : State → Type 0) → Guarded P → (clock : ℕ) (list : List Entry) (s : State) → (IsFair s.link → (book_now s).entries ≡ []) → All (IsTold s.link) list → P s → Keeps P (apply_feed clock list s)
-apply_feed_at P closed clock list s none told h = apply_entries_at P closed clock list (with_volatile round_closed s) none told (closed.keeps_volatile_round_closed s h)
+pub apply_feed_at : (P : State → Type 0) → Guarded P → (clock : ℕ) (list : List Entry) (s : State) → (IsFair s.link → (book_now s).entries ≡ []) → (IsFair s.link → clock ≤ s.link.remote.clock) → All (IsTold s.link) list → P s → Keeps P (apply_feed clock list s)
+apply_feed_at P closed clock list s none early told h = apply_entries_at P closed clock list (with_volatile round_closed s) none early told (closed.keeps_volatile_round_closed s h)

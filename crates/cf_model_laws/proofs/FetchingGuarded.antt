@@ -20,10 +20,10 @@ use Rattle.cf_model.specs.State.{State, in_filter, items_now, with_filter, Filte
 use Rattle.cf_model_laws.proofs.OperationsGuarded as operations_keep
 use Rattle.cf_model_laws.proofs.StepsGuarded as skips_keep
 use Rattle.cf_model.specs.Fetching.{after_listing, after_transfer, do_op, is_new, live_ask, new_item_of, no_entries, nothing_more, refuse_by_kind, refuse_for, refuse_live, span_at, take_bytes, take_gone, take_listing, take_missing, with_seen_from}
-use Rattle.cf_model_laws.proofs.Guarded.{Guarded}
+use Rattle.cf_model_laws.proofs.Guarded.{Guarded, KeepsCursor, AreSeenBelow}
 use Rattle.cf_model.proofs.ArrowLaws.{keeps_ret, keeps_then}
 use Rattle.std.proofs.Common.{◌≡◌, ◌<◌, ◌≤◌, ℕ, ◌+◌, suc, List, [], ◌∷◌, refl, true, false, arith}
-use Rattle.cf_model.specs.Books.{with_seen}
+use Rattle.cf_model.specs.Books.{with_seen, Book}
 use Rattle.cf_model.specs.Identities.{base_bytes}
 use Rattle.cf_model.specs.Soundness.{Each}
 use Rattle.cf_model.specs.Trees.{Keeps}
@@ -100,7 +100,7 @@ seen_from_keeps : (id : ℕ) (es : List Entry) → KeepsEntries (with_seen_from 
 seen_from_keeps id [] b = refl
 seen_from_keeps id (e ∷ es) b = seen_from_keeps (id + 1) es (with_seen (record { item = record { 0 = id }; parent = e.parent; name = e.name }) b)
 
-seen_from_below : (id : ℕ) (es : List Entry) → SeesFrom (with_seen_from id es) (id + length es)
+seen_from_below : (id : ℕ) (es : List Entry) (m : ℕ) (b : Book) → id + length es ≤ m → AreSeenBelow m b → AreSeenBelow m (with_seen_from id es b)
 seen_from_below id [] m b low h = h
 seen_from_below id (e ∷ es) m b low h =
     seen_from_below (id + 1) es m (with_seen (record { item = record { 0 = id }; parent = e.parent; name = e.name }) b) (rest id (length es) m low) (seen_below m (record { item = record { 0 = id }; parent = e.parent; name = e.name }) b (first id (length es) m low) h) where
@@ -110,11 +110,15 @@ seen_from_below id (e ∷ es) m b low h =
       rest : (k n m : ℕ) → k + suc n ≤ m → k + 1 + n ≤ m
       rest k n m h = omega (arith, h)
 
+seen_from_cursor : (id : ℕ) (es : List Entry) → KeepsCursor (with_seen_from id es)
+seen_from_cursor id [] b = refl
+seen_from_cursor id (e ∷ es) b = seen_from_cursor (id + 1) es (with_seen (record { item = record { 0 = id }; parent = e.parent; name = e.name }) b)
+
 pub take_listing_at : (P : State → Type 0) → Guarded P → (key : Key) (es : List Entry) (s : State) → (IsFair s.link → All (HasEntry s.link.remote) es) → P s → Keeps P (take_listing key es s)
 take_listing_at P closed key es s has h =
     let news : List Entry = filter (is_new (items_now s)) es in
     keeps_bind P (in_filter (execute_with (with_seen_from s.filter.volume.next_item.0 news) (operation.Entries key (map new_item_of news) true)) s) (after_listing key)
     (in_filter_at P (execute_with (with_seen_from s.filter.volume.next_item.0 news) (operation.Entries key (map new_item_of news) true)) s
-    (operations_keep.listed_at s.link s.volatile.tokens (λ x. P (with_filter x s)) (closed.on_filter s h) (with_seen_from s.filter.volume.next_item.0 news) (seen_from_keeps s.filter.volume.next_item.0 news) key news s.filter (seen_from_below s.filter.volume.next_item.0 news)
+    (operations_keep.listed_at s.link s.volatile.tokens (λ x. P (with_filter x s)) (closed.on_filter s h) (with_seen_from s.filter.volume.next_item.0 news) (seen_from_keeps s.filter.volume.next_item.0 news) key news s.filter (seen_from_below s.filter.volume.next_item.0 news, seen_from_cursor s.filter.volume.next_item.0 news)
     (λ fair. all_weaker (HasEntry s.link.remote) (λ e. NewFits s.link.remote s.filter.policy (new_item_of e)) (λ e k. new_fits s.link.remote s.filter.policy e fair.1 k) news (all_filter (HasEntry s.link.remote) (is_new (items_now s)) es (has fair))) h))
     (λ a t j. (after_listing_keeps P closed key a).keeps t j)

@@ -82,11 +82,18 @@ tell_end_frame : (F : Volume → Type 0) (i : WaitId) (e : End) (own : Bool) (x 
 tell_end_frame F i e true x h = h
 tell_end_frame F i e false x h = h
 
-pub access_frame : (F : Volume → Type 0) → ((v : Volume) (b : Book) → b.entries ≡ v.book.entries → b.seen ≡ v.book.seen → F v → F (record v { book = b })) → (item : ItemId) (is : Bool) (x : Filter) → F x.volume → F (if is then accessed item x else x).volume
-access_frame F k item true x h = k x.volume _ refl refl h
+-- the second book has the records of the first, and perhaps another clock, other anchors and accesses
+pub record SameRecords (b d : Book) : Type 0 where
+  pub cursor : d.cursor ≡ b.cursor
+  pub entries : d.entries ≡ b.entries
+  pub seen : d.seen ≡ b.seen
+  pub tombstones : d.tombstones ≡ b.tombstones
+
+pub access_frame : (F : Volume → Type 0) → ((v : Volume) (b : Book) → SameRecords v.book b → F v → F (record v { book = b })) → (item : ItemId) (is : Bool) (x : Filter) → F x.volume → F (if is then accessed item x else x).volume
+access_frame F k item true x h = k x.volume _ (record { cursor = refl; entries = refl; seen = refl; tombstones = refl }) h
 access_frame F k item false x h = h
 
-pub tell_frame : (F : Volume → Type 0) → ((v : Volume) (b : Book) → b.entries ≡ v.book.entries → b.seen ≡ v.book.seen → F v → F (record v { book = b })) → (r : Told × Waiting) (x : Filter) → F x.volume → Keeps (λ y. F y.volume) (tell r x)
+pub tell_frame : (F : Volume → Type 0) → ((v : Volume) (b : Book) → SameRecords v.book b → F v → F (record v { book = b })) → (r : Told × Waiting) (x : Filter) → F x.volume → Keeps (λ y. F y.volume) (tell r x)
 tell_frame F k r x h =
     (keeps_then (λ y. F y.volume) (each end_wait r.0.ended) (noted (with_asks_told r.0))
     (keeps_each (λ y. F y.volume) end_wait r.0.ended (λ e. keeps_one (λ y. F y.volume) (with_ended e) (λ y j. access_frame F k e.0.item (is_access e.0.kind e.1) (tell_end e.0.id (end_of y.volume.items e.0 e.1) (is_own e.0.id y) y) (tell_end_frame F e.0.id (end_of y.volume.items e.0 e.1) (is_own e.0.id y) y j))))
@@ -95,8 +102,8 @@ tell_frame F k r x h =
 frame_book : (Used : Type 0) (id : ItemId) (R : Bool → Bool → Type 0) (es : List QueueEntry) (l : Link) (tokens : ℕ) (v : Volume) (b : Book) → b.entries ≡ v.book.entries → Frame Used id R es l tokens v → Frame Used id R es l tokens (record v { book = b })
 frame_book Used id R es l tokens v b e h = (λ u fair. let g = h.0 u fair in (g.0, g.1, subst (λ (qs : List QueueEntry). NoEntry qs id) (sym e) g.2), h.1)
 
-told_frame : (Used : Type 0) (id : ItemId) (R : Bool → Bool → Type 0) (es : List QueueEntry) (l : Link) (tokens : ℕ) (v : Volume) (b : Book) → b.entries ≡ v.book.entries → b.seen ≡ v.book.seen → Frame Used id R es l tokens v → Frame Used id R es l tokens (record v { book = b })
-told_frame Used id R es l tokens v b e seen h = frame_book Used id R es l tokens v b e h
+told_frame : (Used : Type 0) (id : ItemId) (R : Bool → Bool → Type 0) (es : List QueueEntry) (l : Link) (tokens : ℕ) (v : Volume) (b : Book) → SameRecords v.book b → Frame Used id R es l tokens v → Frame Used id R es l tokens (record v { book = b })
+told_frame Used id R es l tokens v b same h = frame_book Used id R es l tokens v b same.entries h
 
 filter_framed : (Used : Type 0) (id : ItemId) (R : Bool → Bool → Type 0) → ((d p : Bool) → R d p → R d true) → (es : List QueueEntry) (l : Link) (tokens : ℕ) (P : Filter → Type 0) → GuardedFilter l tokens P → GuardedFilter l tokens (λ x. P x × InFilter Used id R es l tokens x)
 filter_framed Used id R k es l tokens P closed = record {

@@ -1,6 +1,6 @@
 -- What a property must be kept by, to be kept by the whole machine in `replay`: each step that is not made of others, with
 -- what it meets.
-use Rattle.std.specs.Prelude.{ℕ, Bool, true, false, List, Option, Some, max, ◌≡◌, ◌⊎◌, ◌<◌, ◌∷◌}
+use Rattle.std.specs.Prelude.{ℕ, Bool, true, false, List, Option, Some, max, ◌≡◌, ◌⊎◌, ◌<◌, ◌∷◌, ◌≤◌}
 use Rattle.cf_base.specs.declared.changes.Change.{Change}
 use Rattle.cf_base.specs.declared.changes.Change.TheVariants as change
 use Rattle.cf_base.specs.declared.codes.Code.{Code}
@@ -53,11 +53,16 @@ use Rattle.cf_model_laws.proofs.SoundLinks.{AskedWell, PostedWell}
 abbrev pub AreSeenBelow : ℕ → Book → Type 0
 AreSeenBelow next b = All (λ p. p.item.0 < next) b.seen
 
--- A Mark and a Make leave the paths seen; and with no change a path comes to be seen of an item that is not there yet.
+abbrev pub KeepsCursor : (Book → Book) → Type 0
+KeepsCursor f = (b : Book) → (f b).cursor ≡ b.cursor
+
+-- A Mark and a Make leave the paths seen; and with no change a path comes to be seen of an item that is not there yet. The
+-- cursor stays.
 abbrev pub KeepsSeenBy : (Book → Book) → Change → Filter → Type 0
 KeepsSeenBy f c x =
     (IsNaming c → (b : Book) → (f b).seen ≡ b.seen)
     × (AreSeenBelow (max x.volume.next_item.0 (next_by c)) (book_after c x.volume.book) → AreSeenBelow (max x.volume.next_item.0 (next_by c)) (f (book_after c x.volume.book)))
+    × KeepsCursor f
 
 -- the last change is a Mark or the Make of the item
 abbrev pub IsNamedLast : List (Usn × Change) → ItemId → Type 0
@@ -73,6 +78,10 @@ KeepsPlaced f s = (item : ItemId) → IsNamedLast s.filter.volume.log item → S
 
 abbrev pub KeepsBelow : (Book → Book) → State → Type 0
 KeepsBelow f s = AreSeenBelow s.filter.volume.next_item.0 (book_now s) → AreSeenBelow s.filter.volume.next_item.0 (f (book_now s))
+
+-- the cursor goes back, or to a clock that the remote has had
+abbrev pub KeepsEarly : (Book → Book) → State → Type 0
+KeepsEarly f s = ((f (book_now s)).cursor ≤ (book_now s).cursor) ⊎ ((f (book_now s)).cursor ≤ s.link.remote.clock)
 
 abbrev pub StandsAtPath : List Item → ItemId → SeenPath → Type 0
 StandsAtPath items item p = (i : Item) × (item_of items item ≡ Some i) × (stands_at_path items i p ≡ true)
@@ -145,7 +154,7 @@ pub record Guarded (P : State → Type 0) : Type 0 where
   pub told : (held : Held) (s : State) → P s → P (distrusted (with_remote held (counted s)))
   pub posts : (f : Frame) (s : State) → (IsFair s.link → PostedIn s (Some f)) → P s → P (with_message f s)
   pub loses : (f : Frame) (s : State) → P s → P (with_lost f s)
-  pub books : (f : Book → Book) (s : State) → KeepsEntries f → (IsFair s.link → KeepsPlaced f s × KeepsBelow f s) → P s → P (with_book f s)
+  pub books : (f : Book → Book) (s : State) → KeepsEntries f → (IsFair s.link → KeepsPlaced f s × KeepsBelow f s × KeepsEarly f s) → P s → P (with_book f s)
   pub moved : (e : QueueEntry) (s : State) → e.action ≡ MoveItem → (IsFair s.link → entry_of (book_now s) e.token ≡ Some e) → P s → P (after_move e s)
   pub leaves : (token : Token) (s : State) → P s → P (with_book (without_entry token) s)
   pub keeps_fault_line : (x1 : ℕ) → (s : State) → P s → P (fault_line x1 s)
@@ -170,7 +179,7 @@ pub record Guarded (P : State → Type 0) : Type 0 where
 
 -- and by a removal that an application asks for
 pub record Deleting (P : State → Type 0) : Type 0 where
-  pub deletes : (f : Book → Book) (item : ItemId) (s : State) → KeepsEntries f → ((b : Book) → (f b).seen ≡ b.seen) → in_use item s.filter ≡ false → P s → Keeps (λ x. P (with_filter x s)) (change_with f (change.Remove item) s.filter)
+  pub deletes : (f : Book → Book) (item : ItemId) (s : State) → KeepsEntries f → ((b : Book) → (f b).seen ≡ b.seen) → KeepsCursor f → in_use item s.filter ≡ false → P s → Keeps (λ x. P (with_filter x s)) (change_with f (change.Remove item) s.filter)
 
 -- and by an upload that is entered
 pub record Entering (P : State → Type 0) : Type 0 where

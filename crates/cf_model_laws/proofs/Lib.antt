@@ -37,6 +37,7 @@ pub mod PlacementsGuarded
 pub mod Plainly
 pub mod PushRepliesGuarded
 pub mod PushesGuarded
+pub mod RemoteGrowth
 pub mod RemoteSteps
 pub mod RightItems
 pub mod SeenPaths

@@ -41,9 +41,9 @@ use Rattle.cf_model_laws.specs.Marks.{IsMadeAtSeen, IsMarkedAtSeen, IsMarkedLast
 use Rattle.cf_model_laws.specs.Premises.{IsFair, IsFresh}
 use Rattle.cf_model_laws.proofs.ContentLaws.{keeps_weaker, sound_whole, start_sound}
 use Rattle.cf_model_laws.proofs.EventsGuarded.{Whole, event_now_keeps, runs_keep}
-use Rattle.cf_model_laws.proofs.FramesGuarded.{access_frame, tell_frame}
+use Rattle.cf_model_laws.proofs.FramesGuarded.{SameRecords, access_frame, tell_frame}
 use Rattle.cf_model_laws.proofs.Gathered.{all_append, all_filter, all_found, all_weaker}
-use Rattle.cf_model_laws.proofs.Guarded.{Guarded, GuardedFilter, KeepsBelow, KeepsPlaced, MovesThere, StandsAtPath, after_move}
+use Rattle.cf_model_laws.proofs.Guarded.{Guarded, GuardedFilter, KeepsBelow, KeepsEarly, KeepsPlaced, MovesThere, StandsAtPath, after_move}
 use Rattle.cf_model_laws.proofs.Leading.{kept_leads}
 use Rattle.cf_model_laws.proofs.RightItems.{no_way}
 use Rattle.cf_model_laws.proofs.SeenPaths.{sees_still}
@@ -104,9 +104,9 @@ placed_change : (l : Link) (tokens : ℕ) (f : Book → Book) (c : Change) (x : 
 placed_change l tokens f c x sound after h =
     kept_leads (InFilter l) (change_with f c x) (change_leads (InFilter l) (InFilter l) f c x h (point_begun l tokens x sound h) (point_begun l tokens x sound h) (λ v is. placed_put l tokens f c x v is sound after h))
 
-placed_book : (l : Link) (v : Volume) (b : Book) → b.entries ≡ v.book.entries → b.seen ≡ v.book.seen → Placed l v → Placed l (record v { book = b })
-placed_book l v b entries seen h fair = (
-  rebooked v.log v.items v.next_item.0 v.book b (λ item m k. (subst (λ (es : List QueueEntry). MovesAt v.items es item) (sym entries) k, same_seen v.items v.book b item seen)) (λ k. subst (All (λ p. p.item.0 < v.next_item.0)) (sym seen) k) (h fair).0,
+placed_book : (l : Link) (v : Volume) (b : Book) → SameRecords v.book b → Placed l v → Placed l (record v { book = b })
+placed_book l v b same h fair = (
+  rebooked v.log v.items v.next_item.0 v.book b (λ item m k. (subst (λ (es : List QueueEntry). MovesAt v.items es item) (sym same.entries) k, same_seen v.items v.book b item same.seen)) (λ k. subst (All (λ p. p.item.0 < v.next_item.0)) (sym same.seen) k) (h fair).0,
   (h fair).1,
 )
 
@@ -121,7 +121,7 @@ filter_placed l tokens P closed = record {
   settled = λ item d x others h. keeps_both P (InFilter l) (settle item d x) (closed.settled item d x others h.0) (tell_frame (Placed l) (placed_book l) (told_at item d x) x h.1);
   begins = λ n. record { keeps = λ x h. keeps_both P (InFilter l) (reading (waiting_begun n) (begin_now n) x) ((closed.begins n).keeps x h.0) (keeps_bind (InFilter l) (tell (waiting_begun n x) (with_own n x)) (λ _ t. Ret (shown.Pending (own_id n x)) t) (tell_frame (Placed l) (placed_book l) (waiting_begun n x) (with_own n x) h.1) (λ a t j. j)) };
   downs = record { keeps = λ x h. keeps_both P (InFilter l) (reading all_down tell x) (closed.downs.keeps x h.0) (tell_frame (Placed l) (placed_book l) (all_down x) x h.1) };
-  keeps_accessed = λ item x h. (closed.keeps_accessed item x h.0, placed_book l x.volume (with_access item x.volume.book) refl refl h.1);
+  keeps_accessed = λ item x h. (closed.keeps_accessed item x h.0, placed_book l x.volume (with_access item x.volume.book) (record { cursor = refl; entries = refl; seen = refl; tombstones = refl }) h.1);
   keeps_accessed_now = λ n x h. (closed.keeps_accessed_now n x h.0, access_frame (Placed l) (placed_book l) n.item (is_access n.kind cause.Met) x h.1);
   keeps_as_it_is = λ x h. (closed.keeps_as_it_is x h.0, h.1);
   keeps_begin_call = λ x h. (closed.keeps_begin_call x h.0, h.1);
@@ -129,7 +129,7 @@ filter_placed l tokens P closed = record {
   keeps_disconnected = λ x h. (closed.keeps_disconnected x h.0, h.1);
   keeps_with_handle = λ item x h. (closed.keeps_with_handle item x h.0, h.1);
   keeps_with_policy = λ p v x h. (closed.keeps_with_policy p v x h.0, h.1);
-  keeps_with_time = λ n x h. (closed.keeps_with_time n x h.0, placed_book l x.volume (with_ticks n x.volume.book) refl refl h.1);
+  keeps_with_time = λ n x h. (closed.keeps_with_time n x h.0, placed_book l x.volume (with_ticks n x.volume.book) (record { cursor = refl; entries = refl; seen = refl; tombstones = refl }) h.1);
   keeps_without_handle = λ handle x h. (closed.keeps_without_handle handle x h.0, h.1);
 }
 
@@ -142,7 +142,7 @@ placed_line : (b : Bool) (c : Code) (s : State) → PlacedIn s → PlacedIn (ski
 placed_line true c s h = h
 placed_line false c s h = h
 
-book_placed : (f : Book → Book) (s : State) → KeepsEntries f → (IsFair s.link → KeepsPlaced f s × KeepsBelow f s) → PlacedIn s → PlacedIn (with_book f s)
+book_placed : (f : Book → Book) (s : State) → KeepsEntries f → (IsFair s.link → KeepsPlaced f s × KeepsBelow f s × KeepsEarly f s) → PlacedIn s → PlacedIn (with_book f s)
 book_placed f s keeps placed h fair = (
   rebooked s.filter.volume.log (items_now s) s.filter.volume.next_item.0 (book_now s) (f (book_now s)) (λ item m k. (subst (λ (es : List QueueEntry). MovesAt (items_now s) es item) (sym (keeps (book_now s))) k, (placed fair).0 item m)) (placed fair).1 (h fair).0,
   (h fair).1,
@@ -238,7 +238,7 @@ placed_whole = record {
   closed = guarded_placed Invariant sound_whole.closed;
   entering = record { enters = λ e s well h. (sound_whole.entering.enters e s well h.0, entered_placed e s (λ fair. (well fair).1) h.1) };
   deleting = record {
-    deletes = λ f item s keeps seen idle h. keeps_both (λ x. Invariant (with_filter x s)) (InFilter s.link) (change_with f (change.Remove item) s.filter) (sound_whole.deleting.deletes f item s keeps seen idle h.0)
+    deletes = λ f item s keeps seen cursor idle h. keeps_both (λ x. Invariant (with_filter x s)) (InFilter s.link) (change_with f (change.Remove item) s.filter) (sound_whole.deleting.deletes f item s keeps seen cursor idle h.0)
         (placed_change s.link s.volatile.tokens f (change.Remove item) s.filter h.0.1 (λ fair. other_placed f (change.Remove item) s.filter (λ z. z) seen (h.1 fair).0.below) h.1);
   };
   begins = λ s h. (sound_whole.begins s h.0, h.1);

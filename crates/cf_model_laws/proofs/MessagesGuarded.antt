@@ -46,7 +46,8 @@ use Rattle.cf_model_laws.proofs.Gathered.{all_any, all_found, all_weaker, each_w
 use Rattle.cf_model_laws.proofs.Guarded.{AskedIn, Guarded, PostedIn}
 use Rattle.cf_model_laws.proofs.Leading.{Leads, kept_leads, leads_bind, leads_kept}
 use Rattle.cf_model_laws.proofs.PushRepliesGuarded as replies
-use Rattle.cf_model_laws.proofs.RemoteSteps.{HasToken, same_token, still_bytes, tells_bytes, tells_truth}
+use Rattle.cf_model_laws.proofs.RemoteGrowth.{still_bytes}
+use Rattle.cf_model_laws.proofs.RemoteSteps.{HasToken, same_token, tells_bytes, tells_truth}
 use Rattle.cf_model_laws.proofs.RightItems.{no_way, no_way_back}
 use Rattle.cf_model_laws.proofs.SoundLinks.{CarriesBy, FrameCarries, message_longer}
 use Rattle.cf_model_laws.proofs.SoundSettles.{left_true, not_false, right_true}
@@ -236,7 +237,8 @@ act_on_at P closed m q (reply.Feed round clock es) s stale told h =
     let k = or_false (fits (known_now s) (settled_rid s q) q (reply.Feed round clock es)) (is_old s (reply.Feed round clock es)) stale in
     let live = not_false (is_latest_round s round.0 && s.volatile.round_open && nat_le (book_now s).cursor clock && is_empty (book_now s).entries) k.1 in
     apply_feed_at P closed clock es s (λ fair. is_nothing (book_now s).entries (right_true (is_latest_round s round.0 && s.volatile.round_open && nat_le (book_now s).cursor clock) (is_empty (book_now s).entries) live))
-    (told_all s.link (known_now s) es (λ fair. (told fair).1) (left_true (list_all (is_entry (known_now s)) es) (are_distinct es) (feed_fits (known_now s) (settled_rid s q) q round clock es k.0))) h
+    (λ fair. (told fair).1.0)
+    (told_all s.link (known_now s) es (λ fair. (told fair).1.1) (left_true (list_all (is_entry (known_now s)) es) (are_distinct es) (feed_fits (known_now s) (settled_rid s q) q round clock es k.0))) h
 act_on_at P closed m q (reply.Listing key es) s stale told h = fetching.take_listing_at P closed key es s (λ fair. (told fair).1) h
 act_on_at P closed m q (reply.Bytes key start bytes) s stale told h =
     let k = or_false (fits (known_now s) (settled_rid s q) q (reply.Bytes key start bytes)) (is_old s (reply.Bytes key start bytes)) stale in

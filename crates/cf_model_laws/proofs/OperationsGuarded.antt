@@ -21,7 +21,7 @@ use Rattle.cf_model.specs.Settling.{settle}
 use Rattle.cf_model.specs.State.{Filter, Link}
 use Rattle.cf_model.specs.Words.{first_of, number_of, part}
 use Rattle.cf_model.specs.Operations.{ack_dehydrate, changes_with, checked, consent_by, consent_deed, consent_tests, done, entries, entries_deed, entries_tests, execute, execute_with, key_of, on_ask, on_live, refuse, refuse_tests, second_verdict, transfer, transfer_by, transfer_tests, entry_changes, entry_kind, list_changes, dehydration, in_use_beside}
-use Rattle.cf_model_laws.proofs.Guarded.{AreSeenBelow, GuardedFilter, settled_on}
+use Rattle.cf_model_laws.proofs.Guarded.{AreSeenBelow, GuardedFilter, KeepsCursor, settled_on}
 use Rattle.cf_model.proofs.ArrowLaws.{keeps_ret, keeps_then, keeps_unless}
 use Rattle.std.proofs.Common.{◌≡◌, ◌<◌, ◌≤◌, ◌+◌, ◌∷◌, ◌++◌, refl, sym, ◌∙◌, ap, subst, inl, inr, max, arith, List, [], ℕ, suc, Bool, true, false}
 use Rattle.cf_base.specs.declared.ids.ItemId.{ItemId}
@@ -65,7 +65,7 @@ pub transfer_at : (l : Link) (tokens : ℕ) (P : Filter → Type 0) → GuardedF
 transfer_at l tokens P closed a at bytes x fit h =
     let c : Change = change.Filled a.ask.item at bytes in
     checked_at P (transfer_tests a c at (length bytes)) (transfer_by a c (blocks_of at (length bytes))) x h
-    (λ e. closed.touch same_book c a.ask.item (Leaves a.ask.key (blocks_of at (length bytes))) x tt (λ b. refl) (λ fair. ((λ z b. refl), λ k. k)) (λ id k. k) (λ fair. fit fair (not_false (is_fetch a.ask.kind) (head_false (transfer_tests a c at (length bytes) x) e))) h)
+    (λ e. closed.touch same_book c a.ask.item (Leaves a.ask.key (blocks_of at (length bytes))) x tt (λ b. refl) (λ fair. ((λ z b. refl), (λ k. k), λ b. refl)) (λ id k. k) (λ fair. fit fair (not_false (is_fetch a.ask.kind) (head_false (transfer_tests a c at (length bytes) x) e))) h)
 
 pub refuse_keeps : (l : Link) (tokens : ℕ) (P : Filter → Type 0) → GuardedFilter l tokens P → (x1 : Live) → (x2 : Span) → (x3 : ℕ) → Preserves P (refuse x1 x2 x3)
 refuse_keeps l tokens P closed a asked status = checked_keeps l tokens P closed (refuse_tests a asked) (then_do (settle a.ask.item (Fails a.ask.key (blocks_of asked.start asked.len) (cause.Failed status))) done) (keeps_then P (settle a.ask.item (Fails a.ask.key (blocks_of asked.start asked.len) (cause.Failed status))) done (settled_on l tokens P closed a.ask.item (Fails a.ask.key (blocks_of asked.start asked.len) (cause.Failed status)) (λ x. refl)) (done_keeps l tokens P closed))
@@ -127,9 +127,9 @@ targeted : (b : Bool) (identity : List ℕ) → (number_of (take 8 identity) == 
 targeted true identity h = refl
 targeted false identity h = h
 
--- the paths that come to be seen are of items below this one
+-- the paths that come to be seen are of items below this one; the cursor stays
 abbrev pub SeesFrom : (Book → Book) → ℕ → Type 0
-SeesFrom f n = (m : ℕ) (b : Book) → n ≤ m → AreSeenBelow m b → AreSeenBelow m (f b)
+SeesFrom f n = ((m : ℕ) (b : Book) → n ≤ m → AreSeenBelow m b → AreSeenBelow m (f b)) × KeepsCursor f
 
 shift : (k n : ℕ) → k + suc n ≡ k + 1 + n
 shift k n = omega arith
@@ -138,7 +138,7 @@ shift k n = omega arith
 listing_in : (l : Link) (tokens : ℕ) (P : Filter → Type 0) → GuardedFilter l tokens P → (f : Book → Book) → KeepsEntries f → (p : Policy) (parent : ItemId) (es : List Entry) (item : ℕ) (n : Usn) (x : Filter)
     → SeesFrom f (item + length es) → (IsFair l → All (λ e. NewFits l.remote p (new_item_of e)) es) → (IsFair l → x.volume.next_item.0 ≡ item) → next_number x.volume ≡ n → P x
     → Keeps P (changes_with f (entry_changes p parent item n (map new_item_of es) ++ change.Populated parent ∷ []) x)
-listing_in l tokens P closed f keeps p parent [] item n x sees fit next number h = closed.change f (change.Populated parent) x keeps (λ fair. ((λ z. absurd z), λ k. sees (max x.volume.next_item.0 2) x.volume.book (room x.volume.next_item.0 item (next fair)) k)) (λ id k. k) (λ fair. tt) h where
+listing_in l tokens P closed f keeps p parent [] item n x sees fit next number h = closed.change f (change.Populated parent) x keeps (λ fair. ((λ z. absurd z), (λ k. sees.0 (max x.volume.next_item.0 2) x.volume.book (room x.volume.next_item.0 item (next fair)) k), sees.1)) (λ id k. k) (λ fair. tt) h where
   room : (m k : ℕ) → m ≡ k → k + 0 ≤ max m 2
   room m k e = omega (arith, e)
 listing_in l tokens P closed f keeps p parent (e ∷ es) item n x sees fit next number h =
@@ -146,11 +146,11 @@ listing_in l tokens P closed f keeps p parent (e ∷ es) item n x sees fit next 
     let make : Change = change.Make (record { 0 = item }) parent q.name (entry_kind p q.dir) (cond q.dir 0 q.size) q.identity in
     let mark : Change = change.Mark (record { 0 = item }) n in
     keeps_led P (λ u t. After same_book make x t) (change make x) (λ _ t. changes_with f (mark ∷ (entry_changes p parent (item + 1) (record n { place = n.place + 2 }) (map new_item_of es) ++ change.Populated parent ∷ [])) t)
-    (closed.change same_book make x (λ b. refl) (λ fair. ((λ z b. refl), λ k. k)) (λ id k. k) (λ fair. (sym (next fair), (fit fair).0.0, (fit fair).0.1)) h) (change_after same_book make x)
+    (closed.change same_book make x (λ b. refl) (λ fair. ((λ z b. refl), (λ k. k), λ b. refl)) (λ id k. k) (λ fair. (sym (next fair), (fit fair).0.0, (fit fair).0.1)) h) (change_after same_book make x)
     (λ u t j a.
     more_in P f mark (change.Populated parent) (entry_changes p parent (item + 1) (record n { place = n.place + 2 }) (map new_item_of es)) t
     (keeps_led P (λ u y. After same_book mark t y) (change mark t) (λ _ y. changes_with f (entry_changes p parent (item + 1) (record n { place = n.place + 2 }) (map new_item_of es) ++ change.Populated parent ∷ []) y)
-    (closed.change same_book mark t (λ b. refl) (λ fair. ((λ z b. refl), λ k. k)) (λ id k. k)
+    (closed.change same_book mark t (λ b. refl) (λ fair. ((λ z b. refl), (λ k. k), λ b. refl)) (λ id k. k)
     (λ fair. (
       subst (λ (is : List Item). Each (record { 0 = item }) (IsUnmarked n) is) (sym a.items)
           (each_append (record { 0 = item }) (IsUnmarked n) x.volume.items (made (record { 0 = item }) parent q.name (entry_kind p q.dir) (cond q.dir 0 q.size) q.identity (pin_of x.volume.items parent) (next_number x.volume))
@@ -216,7 +216,7 @@ consent_at : (l : Link) (tokens : ℕ) (P : Filter → Type 0) → GuardedFilter
 consent_at l tokens P closed a None x e h =
     checked_at P (consent_tests a (dehydration a ∷ [])) (then_do (changes (dehydration a ∷ [])) (then_do (settle a.ask.item (consent_deed a true None)) done)) x h
     (λ q. keeps_bind P (changes (dehydration a ∷ []) x) (λ _ t. then_do (settle a.ask.item (consent_deed a true None)) done t)
-    (keeps_bind P (change (dehydration a) x) (λ _ t. ret unit t) (closed.change same_book (dehydration a) x (λ b. refl) (λ fair. ((λ z b. refl), λ k. k)) (λ id k. k) (λ fair. consent_fits l tokens P closed a x h e fair) h) (λ u t j. j))
+    (keeps_bind P (change (dehydration a) x) (λ _ t. ret unit t) (closed.change same_book (dehydration a) x (λ b. refl) (λ fair. ((λ z b. refl), (λ k. k), λ b. refl)) (λ id k. k) (λ fair. consent_fits l tokens P closed a x h e fair) h) (λ u t j. j))
     (λ u t j. keeps_bind P (settle a.ask.item (consent_deed a true None) t) (λ _ y. done y) (closed.settled a.ask.item (consent_deed a true None) t (inl refl) j) (λ v y k. k)))
 consent_at l tokens P closed a (Some c) x e h =
     checked_at P (consent_tests a []) (then_do (changes []) (then_do (settle a.ask.item (consent_deed a true (Some c))) done)) x h

@@ -99,7 +99,7 @@ module _ (F : Fact) (b : BoxingRuns F) where
     closed = guarded_beside P whole.closed;
     entering = record { enters = λ e s well h. (whole.entering.enters e s well h.0, h.1) };
     deleting = record {
-      deletes = λ f item s keeps seen idle h. keeps_both (λ x. P (with_filter x s)) (Holds F) (change_with f (change.Remove item) s.filter) (whole.deleting.deletes f item s keeps seen idle h.0) (((filter_closed F b.boxing).change f (change.Remove item)).keeps s.filter h.1);
+      deletes = λ f item s keeps seen cursor idle h. keeps_both (λ x. P (with_filter x s)) (Holds F) (change_with f (change.Remove item) s.filter) (whole.deleting.deletes f item s keeps seen cursor idle h.0) (((filter_closed F b.boxing).change f (change.Remove item)).keeps s.filter h.1);
     };
     begins = λ s h. (whole.begins s h.0, h.1);
     breaks = λ s h. (whole.breaks s h.0, h.1);

@@ -31,7 +31,7 @@ pub record IsPlain (c : Change) : Type 0 where
   pub free : (id : ItemId) → Touches c id → ⊥
 
 pub plain_keeps : (l : Link) (tokens : ℕ) (P : Filter → Type 0) → GuardedFilter l tokens P → (c : Change) → IsPlain c → Preserves P (change c)
-plain_keeps l tokens P closed c plain = record { keeps = λ x h. closed.change same_book c x (λ b. refl) (λ fair. ((λ z b. refl), λ k. k)) plain.free (λ e. plain.fits l.remote x) h }
+plain_keeps l tokens P closed c plain = record { keeps = λ x h. closed.change same_book c x (λ b. refl) (λ fair. ((λ z b. refl), (λ k. k), λ b. refl)) plain.free (λ e. plain.fits l.remote x) h }
 
 pub plains_keep : (l : Link) (tokens : ℕ) (P : Filter → Type 0) → GuardedFilter l tokens P → (cs : List Change) → All IsPlain cs → Preserves P (changes cs)
 plains_keep l tokens P closed [] h = record { keeps = λ x k. k }

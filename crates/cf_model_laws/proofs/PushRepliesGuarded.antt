@@ -1,5 +1,5 @@
 -- What the parts of `PushReplies` keep in `replay`, each by what its own parts keep.
-use Rattle.std.specs.Prelude.{Bool, true, false, Option, Some, None, is_some, filter, not, cond, find, ◌==◌}
+use Rattle.std.specs.Prelude.{◌≤◌, Bool, true, false, Option, Some, None, is_some, filter, not, cond, find, ◌==◌}
 use Rattle.cf_base.specs.declared.codes.Code.{Code}
 use Rattle.cf_base.specs.declared.codes.Code.TheVariants as code
 use Rattle.cf_base.specs.declared.ids.Rid.{Rid}
@@ -35,7 +35,7 @@ use Rattle.cf_model_laws.proofs.Gathered.{all_found}
 use Rattle.cf_model_laws.proofs.Plainly.{keeps_led}
 use Rattle.cf_model_laws.proofs.RightItems.{no_way}
 use Rattle.cf_model_laws.proofs.SeenPaths.{led_unnamed}
-use Rattle.cf_model_laws.proofs.SkipsGuarded.{Led, Skipping, Whichever, and_then_keeps, do_led, framed, guarded_skipping, keeps_first, no_move, only_if_at, tried_at, try_mark_at, try_seen_at}
+use Rattle.cf_model_laws.proofs.SkipsGuarded.{Led, Skipping, Whichever, and_then_keeps, do_led, framed, guarded_skipping, keeps_first, no_move, only_if_at, tried_at, try_mark_at, try_seen_at, cursor_stays}
 use Rattle.cf_model_laws.proofs.SoundSettles.{each_found, same_item}
 
 pub end_entry_keeps : (P : State → Type 0) → Guarded P → (e : QueueEntry) → Preserves P (end_entry e)
@@ -185,7 +185,7 @@ rebase_at P closed e rid version i s fits h = by (why_no_rebase e (rebase_of e r
       )
 
 pub bury_new_keeps : (P : State → Type 0) → Guarded P → (x1 : QueueEntry) → (x2 : Rid) → (x3 : Version) → Preserves P (bury_new x1 x2 x3)
-bury_new_keeps P closed e rid version = keeps_then P (take e) (seq (only_if (is_new_entry e) (try_book (with_tombstone (tombstone_left e rid version)))) whatever) (take_keeps P closed e) (keeps_seq P (only_if (is_new_entry e) (try_book (with_tombstone (tombstone_left e rid version)))) whatever (keeps_only_if P (is_new_entry e) (try_book (with_tombstone (tombstone_left e rid version))) (skips_keep.try_book_keeps P closed (with_tombstone (tombstone_left e rid version)) (λ b. refl) (λ b. refl))) (whatever_keeps P closed))
+bury_new_keeps P closed e rid version = keeps_then P (take e) (seq (only_if (is_new_entry e) (try_book (with_tombstone (tombstone_left e rid version)))) whatever) (take_keeps P closed e) (keeps_seq P (only_if (is_new_entry e) (try_book (with_tombstone (tombstone_left e rid version)))) whatever (keeps_only_if P (is_new_entry e) (try_book (with_tombstone (tombstone_left e rid version))) (skips_keep.try_book_keeps P closed (with_tombstone (tombstone_left e rid version)) (λ b. refl) (λ b. refl) (λ b. refl))) (whatever_keeps P closed))
 
 upload_done_at : (P : State → Type 0) → Guarded P → (e : QueueEntry) (rid : Rid) (version : Version) (s : State) → (e.action ≡ PutFile) ⊎ (e.action ≡ MakeDir) → (IsFair s.link → DoneIn s e rid version) → P s → Keeps P (done_upload e rid version s)
 upload_done_at P closed e rid version s is done h = by (item_of (items_now s) e.item) refl where
@@ -216,7 +216,9 @@ done_move_at P closed e s is live h = (one, mark_after P closed e (try_seen (ent
 
 pub cursor_reset_if_keeps : (P : State → Type 0) → Guarded P → (x1 : Bool) → Preserves P (cursor_reset_if x1)
 cursor_reset_if_keeps P closed true = keeps_ret P unit
-cursor_reset_if_keeps P closed false = skips_keep.in_book_keeps P closed (with_cursor 0) (λ b. refl) (λ b. refl)
+cursor_reset_if_keeps P closed false = skips_keep.in_book_keeps P closed (with_cursor 0) (λ b. refl) (λ b. refl) (λ s. inl (none (book_now s).cursor)) where
+  none : (n : ℕ) → 0 ≤ n
+  none n = omega arith
 
 pub reset_cursor_keeps : (P : State → Type 0) → Guarded P → Preserves P (reset_cursor)
 reset_cursor_keeps P closed = keeps_reading P (is_cursor 0) cursor_reset_if (cursor_reset_if_keeps P closed)
@@ -226,7 +228,7 @@ reset_if_keeps P closed true = reset_cursor_keeps P closed
 reset_if_keeps P closed false = keeps_ret P unit
 
 pub end_tombstone_keeps : (P : State → Type 0) → Guarded P → (x1 : QueueEntry) → (x2 : Bool) → Preserves P (end_tombstone x1 x2)
-end_tombstone_keeps P closed e directory = keeps_then P (reset_if directory) (in_book (without_tombstone e.number)) (reset_if_keeps P closed directory) (skips_keep.in_book_keeps P closed (without_tombstone e.number) (λ b. refl) (λ b. refl))
+end_tombstone_keeps P closed e directory = keeps_then P (reset_if directory) (in_book (without_tombstone e.number)) (reset_if_keeps P closed directory) (skips_keep.in_book_keeps P closed (without_tombstone e.number) (λ b. refl) (λ b. refl) (λ s. cursor_stays (without_tombstone e.number) s (λ b. refl)))
 
 pub done_removal_keeps : (P : State → Type 0) → Guarded P → (x1 : QueueEntry) → Preserves P (done_removal x1)
 done_removal_keeps P closed e = keeps_then P (take e) (reading (was_directory e) (end_tombstone e)) (take_keeps P closed e) (keeps_reading P (was_directory e) (end_tombstone e) (end_tombstone_keeps P closed e))
@@ -235,7 +237,7 @@ pub take_void_keeps : (P : State → Type 0) → Guarded P → (x1 : QueueEntry)
 take_void_keeps P closed e = end_and_close_keeps P closed e
 
 pub drop_if_keeps : (P : State → Type 0) → Guarded P → (x1 : Bool) → (x2 : QueueEntry) → Preserves P (drop_if x1 x2)
-drop_if_keeps P closed true e = skips_keep.in_book_keeps P closed (without_tombstone e.number) (λ b. refl) (λ b. refl)
+drop_if_keeps P closed true e = skips_keep.in_book_keeps P closed (without_tombstone e.number) (λ b. refl) (λ b. refl) (λ s. cursor_stays (without_tombstone e.number) s (λ b. refl))
 drop_if_keeps P closed false e = keeps_ret P unit
 
 pub lost_place_keeps : (P : State → Type 0) → Guarded P → (x1 : QueueEntry) → Preserves P (lost_place x1)

@@ -24,7 +24,7 @@ use Rattle.cf_model_laws.specs.Invariant.{All, Carries, HasEntry, IsWithNoToken,
 use Rattle.cf_model_laws.proofs.Gathered.{all_append, all_both, all_filter, all_flat, all_map, all_sorted, all_weaker}
 use Rattle.cf_model_laws.proofs.SoundSettles.{left_true, right_true}
 
-none_some : {A : Type 0} {B : Type 0} (x : A) → ◌≡◌ {A = Option A} None (Some x) → B
+pub none_some : {A : Type 0} {B : Type 0} (x : A) → ◌≡◌ {A = Option A} None (Some x) → B
 none_some x e = absurd (w e) where
   w : None ≡ Some x → ⊥
   w e = cc
@@ -187,7 +187,7 @@ all_under n (s ∷ ss) c = (here s.rid.0 n (length ss) c.0, all_weaker (λ t. t.
   there a n k h = omega (arith, h)
 
 told_one : (held : Held) (s : Stored) → Found held.items s → 1 ≤ s.rid.0 → s.rid.0 ≤ length held.items → HasEntry held (entry_told s)
-told_one held s found some below = (some, below, λ file. by (last_told s.versions)) where
+told_one held s found some below = (some, below, (λ file. by (last_told s.versions)), (s, found, refl)) where
   by : ((length s.versions ≡ 0) × (len_of s.versions ≡ 0)) ⊎ ((bytes : List ℕ) × (k : ℕ) × (length s.versions ≡ suc k) × (slice_get s.versions k ≡ Some bytes) × (length bytes ≡ len_of s.versions))
       → ((length s.versions ≡ 0) × (len_of s.versions ≡ 0)) ⊎ ((bytes : List ℕ) × (bytes_of held s.rid (record { 0 = latest s }) ≡ Some bytes) × (length bytes ≡ len_of s.versions))
   by (inl h) = inl h
@@ -223,7 +223,9 @@ mutated_tells held t m None e = by m.refusal where
   by None = recorded-first held.tokens t (RecordedDone m.rid m.version)
 
 pub tells_truth : (held : Held) (q : Request) → IsCounted held → TellsTruth (remote_step held q).1 (remote_step held q).0
-tells_truth held (request.Feed round after) c = feed_told held after c
+tells_truth held (request.Feed round after) c = (same held.clock, feed_told held after c) where
+  same : (n : ℕ) → n ≤ n
+  same n = omega arith
 tells_truth held (request.List key rid) c = by (is_live_dir held rid) where
   by : (b : Bool) → TellsTruth held (cond b (reply.Listing key (listing_of held rid)) (reply.Missing key))
   by true = listing_told held rid c
@@ -354,45 +356,3 @@ items_grow held q = by q where
   by (request.Remove t rid expect) = decided_grow held t (remove_at held rid expect) (recorded_at held.tokens t) (equal (length held.items) (length (with_dead held rid)) (same_at rid _ held.items))
   by (request.Settle t) = settled t (recorded_at held.tokens t)
   by (request.Keep t count) = kept t count (recorded_at held.tokens t)
-
--- what was told stays true
-
-pub still_there : (old new : Held) (e : Entry) → Extends old new → length old.items ≤ length new.items → HasEntry old e → HasEntry new e
-still_there old new e x g h = (h.0, most e.rid.0 (length old.items) (length new.items) h.1 g, λ file. by (h.2 file)) where
-  most : (a b c : ℕ) → a ≤ b → b ≤ c → a ≤ c
-  most a b c h k = omega (arith, h, k)
-
-  by : ((e.version.0 ≡ 0) × (e.len ≡ 0)) ⊎ ((bytes : List ℕ) × (bytes_of old e.rid e.version ≡ Some bytes) × (length bytes ≡ e.len)) → ((e.version.0 ≡ 0) × (e.len ≡ 0)) ⊎ ((bytes : List ℕ) × (bytes_of new e.rid e.version ≡ Some bytes) × (length bytes ≡ e.len))
-  by (inl k) = inl k
-  by (inr k) = inr (k.0, x.versions e.rid e.version k.0 k.1, k.2)
-
-pub still_true : (old new : Held) (a : Reply) → Extends old new → length old.items ≤ length new.items → TellsTruth old a → TellsTruth new a
-still_true old new (reply.Done token rid version) x g h = x.tokens token (RecordedDone rid version) h
-still_true old new (reply.Feed round clock es) x g h = all_weaker (HasEntry old) (HasEntry new) (λ e k. still_there old new e x g k) es h
-still_true old new (reply.Listing key es) x g h = all_weaker (HasEntry old) (HasEntry new) (λ e k. still_there old new e x g k) es h
-still_true old new (reply.Bytes key start bytes) x g h = tt
-still_true old new (reply.Missing key) x g h = tt
-still_true old new (reply.Void token) x g h = tt
-still_true old new (reply.Refused token w version) x g h = tt
-still_true old new (reply.Gone key) x g h = tt
-
-still_at : (old new : Held) (rid : Rid) (version : Version) (a : Reply) → Extends old new → TellsBytes old (request.Fetch (record { epoch = 0; number = 0 }) rid version 0 0) a → TellsBytes new (request.Fetch (record { epoch = 0; number = 0 }) rid version 0 0) a
-still_at old new rid version (reply.Bytes key start bytes) x h = (h.0, x.versions rid version h.0 h.1, h.2)
-still_at old new rid version (reply.Done token r v) x h = h
-still_at old new rid version (reply.Feed round clock es) x h = tt
-still_at old new rid version (reply.Listing key es) x h = tt
-still_at old new rid version (reply.Missing key) x h = tt
-still_at old new rid version (reply.Void token) x h = h
-still_at old new rid version (reply.Refused token w v) x h = h
-still_at old new rid version (reply.Gone key) x h = tt
-
-pub still_bytes : (old new : Held) (q : Request) (a : Reply) → Extends old new → TellsBytes old q a → TellsBytes new q a
-still_bytes old new (request.Fetch key rid version start len) a x h = still_at old new rid version a x h
-still_bytes old new (request.Feed round after) a x h = h
-still_bytes old new (request.List key rid) a x h = h
-still_bytes old new (request.Put t rid expect parent name bytes) a x h = h
-still_bytes old new (request.MakeDir t parent name) a x h = h
-still_bytes old new (request.Move t rid parent name) a x h = h
-still_bytes old new (request.Remove t rid expect) a x h = h
-still_bytes old new (request.Settle t) a x h = h
-still_bytes old new (request.Keep t count) a x h = h

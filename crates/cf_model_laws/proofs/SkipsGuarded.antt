@@ -1,5 +1,5 @@
 -- What the engine's single steps keep in `replay`.
-use Rattle.std.proofs.Common.{◌≡◌, ◌⊎◌, ◌+◌, ℕ, Bool, true, false, List, [], ◌∷◌, refl, sym, subst, inl, inr, max}
+use Rattle.std.proofs.Common.{◌≤◌, ◌≡◌, ◌⊎◌, ◌+◌, ℕ, Bool, true, false, List, [], ◌∷◌, refl, sym, subst, inl, inr, max, arith}
 use Rattle.std.specs.Prelude.{Option, Some, None, is_some, nat_lt, not, ◌<◌, ◌&&◌, ◌==◌}
 use Rattle.cf_base.specs.declared.changes.Change.{Change}
 use Rattle.cf_base.specs.declared.changes.Change.TheVariants as change
@@ -29,7 +29,7 @@ use Rattle.cf_model_laws.specs.Fitting.{Fits, NoEntry, NoMove, Touches}
 use Rattle.cf_model_laws.specs.Invariant.{All, InOrder, IsSound}
 use Rattle.cf_model_laws.specs.Premises.{IsFair}
 use Rattle.cf_model_laws.proofs.Gathered.{all_filter, all_put_in, all_weaker}
-use Rattle.cf_model_laws.proofs.Guarded.{AreSeenBelow, Guarded, KeepsBelow, KeepsPlaced, StandsStill}
+use Rattle.cf_model_laws.proofs.Guarded.{AreSeenBelow, Guarded, KeepsBelow, KeepsCursor, KeepsEarly, KeepsPlaced, StandsStill}
 use Rattle.cf_model_laws.proofs.Leading.{Leads, kept_leads, leads_bind, leads_mapped}
 use Rattle.cf_model_laws.proofs.Plainly.{After, change_after, keeps_led}
 use Rattle.cf_model_laws.proofs.RightItems.{no_way}
@@ -41,7 +41,7 @@ use Rattle.cf_model_laws.proofs.SoundSettles.{each_found, found_below, left_true
 pub record Skipping (Ok : Change → Type 0) (P : State → Type 0) : Type 0 where
   pub sound : (s : State) → P s → IsFair s.link → IsSound s.link s.volatile.tokens s.filter
   pub change : (c : Change) (s : State) → Ok c → ((id : ItemId) → Touches c id → ⊥) → (IsFair s.link → Fits s.link.remote s.filter c) → P s → Keeps P (do_change c s)
-  pub books : (f : Book → Book) (s : State) → KeepsEntries f → (IsFair s.link → KeepsPlaced f s × KeepsBelow f s) → P s → P (with_book f s)
+  pub books : (f : Book → Book) (s : State) → KeepsEntries f → (IsFair s.link → KeepsPlaced f s × KeepsBelow f s × KeepsEarly f s) → P s → P (with_book f s)
   pub skips : (c : Code) (s : State) → P s → P (skipped c s)
 
 abbrev pub Whichever : Change → Type 0
@@ -50,7 +50,7 @@ Whichever c = Unit {0}
 pub guarded_skipping : (P : State → Type 0) → Guarded P → Skipping Whichever P
 guarded_skipping P closed = record {
   sound = λ s h. (closed.on_filter s h).sound s.filter h;
-  change = λ c s ok free fit h. keeps_mapped (λ x. P (with_filter x s)) P (λ x. with_filter x s) (put c s.filter) (λ x j. j) ((closed.on_filter s h).change same_book c s.filter (λ b. refl) (λ fair. ((λ z b. refl), λ k. k)) free fit h);
+  change = λ c s ok free fit h. keeps_mapped (λ x. P (with_filter x s)) P (λ x. with_filter x s) (put c s.filter) (λ x j. j) ((closed.on_filter s h).change same_book c s.filter (λ b. refl) (λ fair. ((λ z b. refl), (λ k. k), λ b. refl)) free fit h);
   books = λ f s keeps placed h. closed.books f s keeps placed h;
   skips = λ c s h. closed.keeps_skipped c s h;
 }
@@ -135,7 +135,7 @@ tried_at Ok P closed why f s h k = by (why s) where
 pub try_change_at : (Ok : Change → Type 0) (P : State → Type 0) → Skipping Ok P → (c : Change) (s : State) → Ok c → ((id : ItemId) → Touches c id → ⊥) → (IsFair s.link → Fits s.link.remote s.filter c) → P s → Keeps P (try_change c s)
 try_change_at Ok P closed c s ok free fit h = tried_at Ok P closed (why_no_change c) (do_change c) s h (closed.change c s ok free fit h)
 
-try_book_at : (Ok : Change → Type 0) (P : State → Type 0) → Skipping Ok P → (f : Book → Book) (s : State) → KeepsEntries f → (IsFair s.link → KeepsPlaced f s × KeepsBelow f s) → P s → Keeps P (try_book f s)
+try_book_at : (Ok : Change → Type 0) (P : State → Type 0) → Skipping Ok P → (f : Book → Book) (s : State) → KeepsEntries f → (IsFair s.link → KeepsPlaced f s × KeepsBelow f s × KeepsEarly f s) → P s → Keeps P (try_book f s)
 try_book_at Ok P closed f s keeps placed h = tried_at Ok P closed (why_no_record f) (in_book f) s h (h, closed.books f s keeps placed h)
 
 -- a book with the same paths seen
@@ -145,14 +145,24 @@ same_seen items b d item e = (
   λ k. inr (subst (λ (ps : List SeenPath). seen_of (record d { seen = ps }) item ≡ None) (sym e) k),
 )
 
+-- a cursor that stays
+pub cursor_stays : (f : Book → Book) (s : State) → KeepsCursor f → KeepsEarly f s
+cursor_stays f s keeps = inl (same (f (book_now s)).cursor (book_now s).cursor (keeps (book_now s))) where
+  same : (a b : ℕ) → a ≡ b → a ≤ b
+  same a b e = omega (arith, e)
+
 pub leaves_seen : (f : Book → Book) (s : State) → ((b : Book) → (f b).seen ≡ b.seen) → KeepsPlaced f s × KeepsBelow f s
 leaves_seen f s seen = (
   λ item m. same_seen (items_now s) (book_now s) (f (book_now s)) item (seen (book_now s)),
   λ h. subst (All (λ p. p.item.0 < s.filter.volume.next_item.0)) (sym (seen (book_now s))) h,
 )
 
-pub try_book_keeps : (Ok : Change → Type 0) (P : State → Type 0) → Skipping Ok P → (f : Book → Book) → KeepsEntries f → ((b : Book) → (f b).seen ≡ b.seen) → Preserves P (try_book f)
-try_book_keeps Ok P closed f keeps seen = record { keeps = λ s h. try_book_at Ok P closed f s keeps (λ fair. leaves_seen f s seen) h }
+-- and a cursor that is no later than it was, or than the remote
+pub leaves_early : (f : Book → Book) (s : State) → ((b : Book) → (f b).seen ≡ b.seen) → KeepsEarly f s → KeepsPlaced f s × KeepsBelow f s × KeepsEarly f s
+leaves_early f s seen early = ((leaves_seen f s seen).0, (leaves_seen f s seen).1, early)
+
+pub try_book_keeps : (Ok : Change → Type 0) (P : State → Type 0) → Skipping Ok P → (f : Book → Book) → KeepsEntries f → ((b : Book) → (f b).seen ≡ b.seen) → KeepsCursor f → Preserves P (try_book f)
+try_book_keeps Ok P closed f keeps seen cursor = record { keeps = λ s h. try_book_at Ok P closed f s keeps (λ fair. leaves_early f s seen (cursor_stays f s cursor)) h }
 
 -- what a change that was done leaves
 pub record Led (c : Change) (s t : State) : Type 0 where
@@ -205,15 +215,16 @@ seen_below n p b low h = all_put_in (λ q. q.item.0 < n) (λ x y. nat_lt x.item.
 
 pub try_seen_at : (Ok : Change → Type 0) (P : State → Type 0) → Skipping Ok P → (p : SeenPath) (s : State) → (IsFair s.link → KeepsPlaced (with_seen p) s) → P s → Keeps P (try_seen p s)
 try_seen_at Ok P closed p s placed h =
-    only_if_at P (is_there p.item s) (try_book (with_seen p)) s h (λ q. try_book_at Ok P closed (with_seen p) s (λ b. refl) (λ fair. (placed fair, λ k. seen_below s.filter.volume.next_item.0 p (book_now s) (low (closed.sound s h fair).now.order q) k)) h) where
+    only_if_at P (is_there p.item s) (try_book (with_seen p)) s h (λ q. try_book_at Ok P closed (with_seen p) s (λ b. refl) (λ fair. (placed fair, (λ k. seen_below s.filter.volume.next_item.0 p (book_now s) (low (closed.sound s h fair).now.order q) k), cursor_stays (with_seen p) s (λ b. refl))) h) where
       low : InOrder 0 s.filter.volume.next_item.0 (items_now s) → is_some (item_of (items_now s) p.item) ≡ true → p.item.0 < s.filter.volume.next_item.0
       low order q = by (item_of (items_now s) p.item) refl q where
         by : (o : Option Item) → item_of (items_now s) p.item ≡ o → is_some o ≡ true → p.item.0 < s.filter.volume.next_item.0
         by None f z = no_way z
         by (Some i) f z = found_below p.item 0 s.filter.volume.next_item.0 (items_now s) i order f
 
-pub try_cursor_keeps : (Ok : Change → Type 0) (P : State → Type 0) → Skipping Ok P → (clock : ℕ) → Preserves P (try_cursor clock)
-try_cursor_keeps Ok P closed clock = keeps_reading P (is_cursor clock) (cursor_unless clock) (λ is_so. keeps_only_if P (not is_so) (try_book (with_cursor clock)) (try_book_keeps Ok P closed (with_cursor clock) (λ b. refl) (λ b. refl)))
+pub try_cursor_at : (Ok : Change → Type 0) (P : State → Type 0) → Skipping Ok P → (clock : ℕ) (s : State) → (IsFair s.link → clock ≤ s.link.remote.clock) → P s → Keeps P (try_cursor clock s)
+try_cursor_at Ok P closed clock s early h =
+    only_if_at P (not (is_cursor clock s)) (try_book (with_cursor clock)) s h (λ _. try_book_at Ok P closed (with_cursor clock) s (λ b. refl) (λ fair. leaves_early (with_cursor clock) s (λ b. refl) (inr (early fair))) h)
 
 -- marks
 

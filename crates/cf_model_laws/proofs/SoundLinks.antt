@@ -32,7 +32,8 @@ use Rattle.cf_model_laws.specs.GivenOnce.{WasGiven}
 use Rattle.cf_model_laws.specs.Invariant.{All, AreTrueTo, Carries, EntryFits, FitsBy, HasBase, IsDurable, IsEntryOf, IsLiveRight, IsMessageRight, IsPointRight, IsRight, IsSoundOf, Names, OfRequest, PutFits, message_in, put_bytes, rid_in, version_in}
 use Rattle.cf_model_laws.proofs.FitAsks.{of_request}
 use Rattle.cf_model_laws.proofs.Gathered.{all_append, all_both, all_weaker, each_all, each_both}
-use Rattle.cf_model_laws.proofs.RemoteSteps.{HasToken, items_grow, recorded_new, still_bytes, still_true, tokens_kept}
+use Rattle.cf_model_laws.proofs.RemoteSteps.{HasToken, recorded_new, tokens_kept}
+use Rattle.cf_model_laws.proofs.RemoteGrowth.{GrowsTo, step_grows, still_bytes, still_true}
 use Rattle.cf_model_laws.proofs.RightItems.{none_named}
 
 -- a remote that grows
@@ -104,7 +105,7 @@ durable_asked r ms epoch tokens q n next items es counted well h = record {
   apart = h.apart;
 }
 
-message_asked : (r s : Held) (ms : List (Option Frame)) (epoch keys tokens : ℕ) → Extends r s → length r.items ≤ length s.items → (m : Option Frame) → IsMessageRight r ms epoch keys tokens m → IsMessageRight s ms epoch keys tokens m
+message_asked : (r s : Held) (ms : List (Option Frame)) (epoch keys tokens : ℕ) → Extends r s → GrowsTo r s → (m : Option Frame) → IsMessageRight r ms epoch keys tokens m → IsMessageRight s ms epoch keys tokens m
 message_asked r s ms epoch keys tokens x g (Some (frame.Request q)) h = h
 message_asked r s ms epoch keys tokens x g (Some (frame.Reply answers a)) h = (still_true r s a x g h.0, h.1, h.2, still_bytes r s h.1 a x h.3)
 message_asked r s ms epoch keys tokens x g None h = h
@@ -150,7 +151,7 @@ pub ask_sound : (But : ItemId → Type 0) (r : Held) (ms : List (Option Frame)) 
 ask_sound But r ms tokens epoch place log items next_item points entries asks_epoch ws asks keys outbox validate q well h = record {
   counted = step_counts r q h.counted;
   recorded = tokens_kept (λ t. WasGiven epoch tokens t.0) r q well.token h.recorded;
-  messages = all_weaker (IsMessageRight r ms epoch keys tokens) (IsMessageRight (remote_step r q).1 ms epoch keys tokens) (message_asked r (remote_step r q).1 ms epoch keys tokens (step_extends r q) (items_grow r q)) ms h.messages;
+  messages = all_weaker (IsMessageRight r ms epoch keys tokens) (IsMessageRight (remote_step r q).1 ms epoch keys tokens) (message_asked r (remote_step r q).1 ms epoch keys tokens (step_extends r q) (step_grows r q)) ms h.messages;
   old = h.old;
   of_log = h.of_log;
   now = durable_asked r ms epoch tokens q (usn_after epoch place) next_item items entries h.counted well h.now;

@@ -7,19 +7,19 @@ use Rattle.cf_model.specs.Items.{Item}
 use Rattle.cf_model.specs.Skips.{in_book, skip, to_conflict, try_book, with_book}
 use Rattle.cf_model.specs.State.{State}
 use Rattle.cf_model.proofs.ArrowLaws.{keeps_one}
-use Rattle.cf_model_laws.proofs.Guarded.{Guarded}
+use Rattle.cf_model_laws.proofs.Guarded.{Guarded, KeepsCursor, KeepsEarly}
 use Rattle.cf_model_laws.proofs.SkipsGuarded as steps
-use Rattle.cf_model_laws.proofs.SkipsGuarded.{Whichever, guarded_skipping, leaves_seen}
+use Rattle.cf_model_laws.proofs.SkipsGuarded.{Whichever, guarded_skipping, leaves_early}
 use Rattle.cf_model_laws.proofs.SoundChanges.{KeepsEntries}
 
 pub skip_keeps : (P : State → Type 0) → Guarded P → (c : Code) → Preserves P (skip c)
 skip_keeps P closed c = steps.skip_keeps Whichever P (guarded_skipping P closed) c
 
-pub in_book_keeps : (P : State → Type 0) → Guarded P → (f : Book → Book) → KeepsEntries f → ((b : Book) → (f b).seen ≡ b.seen) → Preserves P (in_book f)
-in_book_keeps P closed f keeps seen = keeps_one P (with_book f) (λ s h. closed.books f s keeps (λ fair. leaves_seen f s seen) h)
+pub in_book_keeps : (P : State → Type 0) → Guarded P → (f : Book → Book) → KeepsEntries f → ((b : Book) → (f b).seen ≡ b.seen) → ((s : State) → KeepsEarly f s) → Preserves P (in_book f)
+in_book_keeps P closed f keeps seen early = keeps_one P (with_book f) (λ s h. closed.books f s keeps (λ fair. leaves_early f s seen (early s)) h)
 
-pub try_book_keeps : (P : State → Type 0) → Guarded P → (f : Book → Book) → KeepsEntries f → ((b : Book) → (f b).seen ≡ b.seen) → Preserves P (try_book f)
-try_book_keeps P closed f keeps seen = steps.try_book_keeps Whichever P (guarded_skipping P closed) f keeps seen
+pub try_book_keeps : (P : State → Type 0) → Guarded P → (f : Book → Book) → KeepsEntries f → ((b : Book) → (f b).seen ≡ b.seen) → KeepsCursor f → Preserves P (try_book f)
+try_book_keeps P closed f keeps seen cursor = steps.try_book_keeps Whichever P (guarded_skipping P closed) f keeps seen cursor
 
 pub to_conflict_keeps : (P : State → Type 0) → Guarded P → (i : Item) → Preserves P (to_conflict i)
 to_conflict_keeps P closed i = steps.to_conflict_keeps Whichever P (guarded_skipping P closed) (λ a b c. tt) i

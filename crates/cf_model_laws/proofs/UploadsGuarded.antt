@@ -36,7 +36,7 @@ use Rattle.cf_model_laws.proofs.Guarded.{EnteredIn, Entering, Guarded, MovesTher
 use Rattle.cf_model_laws.proofs.MessagesGuarded.{anyhow, send_now_at}
 use Rattle.cf_model_laws.proofs.RightItems.{no_way, no_way_back}
 use Rattle.cf_model_laws.proofs.SoundLinks.{CarriesBy, FrameCarries}
-use Rattle.cf_model_laws.proofs.SkipsGuarded.{leaves_seen}
+use Rattle.cf_model_laws.proofs.SkipsGuarded.{cursor_stays, leaves_early}
 use Rattle.cf_model_laws.proofs.SoundSettles.{left_true, right_true}
 
 -- a fresh token
@@ -194,6 +194,12 @@ anchored_seen e b = by (e.item.0 == 0) where
   by true = refl
   by false = refl
 
+anchored_cursor : (e : QueueEntry) (b : Book) → (anchored e b).cursor ≡ b.cursor
+anchored_cursor e b = by (e.item.0 == 0) where
+  by : (d : Bool) → (cond d b (with_anchor e.item e.number b)).cursor ≡ b.cursor
+  by true = refl
+  by false = refl
+
 -- the state in which its request is sent
 abbrev Sending : QueueEntry → State → State
 Sending e s = with_filter (with_volume (with_sure_point (with_book (anchored e) (with_book (with_entry e) (with_volatile with_token s))).filter.volume) (with_book (anchored e) (with_book (with_entry e) (with_volatile with_token s))).filter) (with_book (anchored e) (with_book (with_entry e) (with_volatile with_token s)))
@@ -222,7 +228,7 @@ push_at P closed entering e expect bytes s token new h = by (why_no_token s) whe
   stored = entering.enters e (with_volatile with_token s) (λ fair. (entered s e bytes token ((closed.on_filter s h).sound s.filter h fair) (new fair), (new fair).off)) drawn
 
   noted : P (with_book (anchored e) (with_book (with_entry e) (with_volatile with_token s)))
-  noted = closed.books (anchored e) (with_book (with_entry e) (with_volatile with_token s)) (anchored_entries e) (λ fair. leaves_seen (anchored e) (with_book (with_entry e) (with_volatile with_token s)) (anchored_seen e)) stored
+  noted = closed.books (anchored e) (with_book (with_entry e) (with_volatile with_token s)) (anchored_entries e) (λ fair. leaves_early (anchored e) (with_book (with_entry e) (with_volatile with_token s)) (anchored_seen e) (cursor_stays (anchored e) (with_book (with_entry e) (with_volatile with_token s)) (anchored_cursor e))) stored
 
   sent : Keeps P (send (request_of e expect bytes) (with_book (anchored e) (with_book (with_entry e) (with_volatile with_token s))))
   sent =

@@ -27,7 +27,7 @@ use Rattle.cf_model.specs.Overlay.{Written, over}
 use Rattle.cf_model.specs.Requests.{Live, is_fetch}
 use Rattle.cf_model.specs.Soundness.{Each}
 use Rattle.cf_model.specs.State.{Filter, Link, Point, State, is_replay}
-use Rattle.cf_model.specs.Store.{Held, RecordedDone, bytes_of, recorded_at}
+use Rattle.cf_model.specs.Store.{Held, RecordedDone, Stored, bytes_of, recorded_at, stored_at}
 use Rattle.cf_model.specs.Words.{number_of, part}
 use Rattle.std.specs.Prelude.{zero, suc, slice_get, unwrap_or}
 use Rattle.cf_model_laws.specs.GivenOnce.{WasGiven}
@@ -162,15 +162,20 @@ IsPointRight r ms epoch tokens next log p = (p.count ≤ length log) × IsDurabl
 
 -- messages
 
--- the remote made the item of the entry, and the version of a file, of its length
+-- the remote has the item, of this kind
+abbrev pub IsOfKind : Held → Rid → Bool → Type 0
+IsOfKind r rid directory = (s : Stored) × (stored_at r.items rid ≡ Some s) × (s.directory ≡ directory)
+
+-- the remote made the item of the entry, which is of its kind, and the version of a file, of its length
 abbrev pub HasEntry : Held → Entry → Type 0
 HasEntry r e =
     (1 ≤ e.rid.0) × (e.rid.0 ≤ length r.items)
     × (e.dir ≡ false → ((e.version.0 ≡ 0) × (e.len ≡ 0)) ⊎ ((bytes : List ℕ) × (bytes_of r e.rid e.version ≡ Some bytes) × (length bytes ≡ e.len)))
+    × IsOfKind r e.rid e.dir
 
 abbrev pub TellsTruth : Held → Reply → Type 0
 TellsTruth r (reply.Done token rid version) = recorded_at r.tokens token ≡ Some (RecordedDone rid version)
-TellsTruth r (reply.Feed round clock es) = All (HasEntry r) es
+TellsTruth r (reply.Feed round clock es) = (clock ≤ r.clock) × All (HasEntry r) es
 TellsTruth r (reply.Listing key es) = All (HasEntry r) es
 TellsTruth r _ = Unit {0}
 

@@ -1,0 +1,18 @@
+//! The book of the engine, over a remote that keeps its rules.
+
+ghost use Rattle.std.specs.Prelude.{ℕ, List};
+ghost use Rattle.cf_base.specs.declared.answers.Answer.{Answer};
+ghost use Rattle.cf_base.specs.declared.events.Event.{Event};
+ghost use Rattle.cf_base.specs.declared.policies.Mode.TheVariants as mode;
+ghost use Rattle.cf_model.specs.Lawful.{Runs};
+ghost use Rattle.cf_model.specs.State.{State, start};
+ghost use Rattle.cf_model.specs.Store.{Held};
+ghost use Rattle.cf_model_laws.specs.Premises.{IsFresh};
+ghost use Rattle.cf_model_convergence.specs.Lasting.{HoldsIn, IsCursorEarly};
+
+/// In each state of a run the cursor is a time that the remote has had, and so it is in the book of each point that a restart may
+/// open.
+#[tactic(auto, using(crate::proofs::EarlyCursors::cursor_early))]
+pub fn a_cursor_is_never_late()
+    ensures { (remote : Held) (clusters : ℕ) (trace : List (Event × Answer)) (s : State) → Runs mode.Replay (start mode.Replay remote clusters) trace s → IsFresh remote → HoldsIn IsCursorEarly s }
+{}
