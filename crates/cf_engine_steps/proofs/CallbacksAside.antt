@@ -1,5 +1,6 @@
--- What a callback leaves as it is: what is known until the volume is opened again, the power, whether a Done was taken, and the clock
--- of the first feed. Only replies to Fetch and List come to it, and none of those touches them.
+-- What a callback leaves as it is: what is known until the volume is opened again, the power, whether a Done was taken, the clock of
+-- the first feed, how many tokens other devices have used, and the reply that an answer keeps. Only replies to Fetch and List come to
+-- it, and none of those touches them.
 use Rattle.std.proofs.Common.{◌≡◌, ℕ, zero, suc, ◌+◌, Bool, true, false, List, [], ◌∷◌, length, map, filter, Option, Some, None}
 use Rattle.cf_base.specs.Codes.{number_of}
 use Rattle.cf_base.specs.declared.answers.Shown.{Shown}
@@ -41,10 +42,10 @@ use Rattle.cf_model.proofs.MessagesKeep.{asked_keeps}
 use Rattle.cf_model.proofs.TreeLaws.{keeps_bind}
 
 abbrev pub Aside : Type 0
-Aside = Volatile × Power × Bool × Option ℕ
+Aside = Volatile × Power × Bool × Option ℕ × ℕ × Option Reply
 
 abbrev pub aside_of : State → Aside
-aside_of s = (s.volatile, s.power, s.running.took_done, s.running.first_clock)
+aside_of s = (s.volatile, s.power, s.running.took_done, s.running.first_clock, s.peer_tokens, s.running.stray)
 
 module _ (o : Aside) where
   abbrev P : State → Type 0
@@ -216,11 +217,14 @@ module _ (o : Aside) where
   provider_aside a mode.Replay = record { keeps = λ s h. (agent_on_aside a.kind a (item_of (items_now s) a.item)).keeps s h }
   provider_aside a mode.Filter = keeps_reading P plan_of (carry_out_all a.key) (scripted_aside a.key)
 
+  pub callback_aside : (a : Ask) → Preserves P (call_back a)
+  callback_aside a = keeps_reading P mode_of (provider_on a) (provider_aside a)
+
   popped_aside : (n : ℕ) → Preserves P (drained n) → (asks : List Ask) (s : State) → P s
       → Keeps P (elim asks as (λ _. Tree State (Unit {0})) [ [] ↦ Ret (record {}) s | a ∷ rest ↦ bind (call_back a (with_outbox rest s)) (λ _ t. drained n t) ])
   popped_aside n k [] s h = h
   popped_aside n k (a ∷ rest) s h =
-      keeps_bind P (call_back a (with_outbox rest s)) (λ _ t. drained n t) ((keeps_reading P mode_of (provider_on a) (provider_aside a)).keeps (with_outbox rest s) h) (λ u t j. k.keeps t j)
+      keeps_bind P (call_back a (with_outbox rest s)) (λ _ t. drained n t) ((callback_aside a).keeps (with_outbox rest s) h) (λ u t j. k.keeps t j)
 
   pub drained_aside : (n : ℕ) → Preserves P (drained n)
   drained_aside zero = record { keeps = λ s h. h }

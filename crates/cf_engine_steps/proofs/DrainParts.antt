@@ -24,7 +24,7 @@ use Rattle.cf_model.specs.Callbacks.{begin_call, calling, drain, drained, finish
 use Rattle.cf_model.specs.Numbers.{most}
 use Rattle.cf_model.specs.Ports.{Act, Acts, Did, Failed, HasFailed, Noted, with_rest}
 use Rattle.cf_model.specs.State.{Filter, State, in_filter, with_filter}
-use Rattle.cf_model.proofs.TreeLaws.{kept_at_end}
+use Rattle.cf_model.proofs.TreeLaws.{kept_at_end, kept_at_stop}
 use Rattle.cf_remote.specs.Told.{Told}
 use Rattle.cf_filter_steps.specs.Answering as steps
 
@@ -40,7 +40,7 @@ quiet_finish a = record { keeps = λ n. record { keeps = λ s h. h } }
 
 module _ {R : Type 0} (told : R → Told) where
   -- the provider plays the callbacks of the definitions
-  plays : Plays (provider.Answers told) (Sees told)
+  pub plays : Plays (provider.Answers told) (Sees told)
   plays = record {
     called = λ p x asks h. sees_filter told p x (record x.filter { outbox = asks }) h;
     over = λ p x h. sees_filter told p x (begin_call x.filter) h;
@@ -109,12 +109,13 @@ module _ {R : Type 0} (told : R → Told) where
       leads = λ s i any.
           let d = h.leads s.filter i.filter in
           let back = d.2.1 in
-          let a = drains_cut (provider.Answers told) (Sees told) plays back.runs most e.agent q s d.0 back.few i.sees back.cut in (
+          let a = drains_cut (provider.Answers told) (Sees told) plays back.runs most e.agent q s d.0 back.few i.sees back.cut in
+          let kept : aside_of a.0 ≡ aside_of s = kept_at_stop (λ (t : State). aside_of t ≡ aside_of s) (drained most s) a.0 ((drained_aside (aside_of s) most).keeps s refl) a.3 in (
             a.0,
             (d.2.0, a.3),
             subst (λ (t : Filter). S.moved x y s.filter t) (sym a.1) d.1,
             (
-              record { filter = subst (λ (t : Filter). S.stopped x y t) (sym a.1) d.2.2; replays = a.2.replays; link = a.2.link },
+              record { filter = subst (λ (t : Filter). S.stopped x y t) (sym a.1) d.2.2; on = ap (λ (o : Aside). o.1) kept ∙ i.on; replays = a.2.replays; link = a.2.link },
               subst (λ (t : Filter). RoseFor e.agent q s.filter t) (sym a.1) (rose_cut back.runs e.agent q s.filter d.0 back.cut),
             ),
           );

@@ -41,7 +41,7 @@ lift_after : {X R A : Type 0} (S : steps.Sense X) (told : R → Told) (f : Arrow
 lift_after S told f x y e s t (Ok a) q h d k =
     (mean_filter S told x y e s t h k, rose_none (faults_of told e) (fault_lines s.filter) (fault_lines t) (kept_at_end (λ (z : Filter). fault_lines z ≡ fault_lines s.filter) (f s.filter) a t ((q.keeps (fault_lines s.filter)).keeps s.filter refl) d))
 lift_after S told f x y e s t (Err (No c)) q h d k = (
-  record { filter = k; replays = h.sees.replays; link = h.sees.link },
+  record { filter = k; on = h.on; replays = h.sees.replays; link = h.sees.link },
   rose_none (faults_of told e) (fault_lines s.filter) (fault_lines t) (kept_at_stop (λ (z : Filter). fault_lines z ≡ fault_lines s.filter) (f s.filter) t ((q.keeps (fault_lines s.filter)).keeps s.filter refl) d.1),
 )
 lift_after S told f x y e s t (Err OutOfMemory) q h d k = k

@@ -1,5 +1,6 @@
 pub mod Answering
 pub mod BookReads
+pub mod Callbacks
 pub mod Exchanges
 pub mod Faults
 pub mod Lines

@@ -29,6 +29,7 @@ pub record Means {X R : Type 0} (S : Sense X) (told : R → Told) (x : X) (e : O
 -- The link stands also where the device stopped a part: other devices and crashes go on with it.
 pub record Stopped {X R : Type 0} (S : Sense X) (told : R → Told) (x y : X) (f : Own R) (t : State) : Type 0 where
   pub filter : S.stopped x y t.filter
+  pub on : t.power ≡ On
   pub replays : t.mode ≡ mode.Replay
   pub link : IsLink told f.agent.link t.link
 
@@ -76,7 +77,7 @@ whole S told = record {
   endures = λ x s h. S.endures x.0 s.filter h.filter;
   stays = λ x s h. S.stays x.0 s.filter h.filter;
   goes_on = λ x y z s t u a b. S.goes_on x.0 y.0 z.0 s.filter t.filter u.filter a b;
-  stops_on = λ x y z s t u a b. record { filter = S.stops_on x.0 y.0 z.0 s.filter t.filter u.filter a b.filter; replays = b.replays; link = b.link };
+  stops_on = λ x y z s t u a b. record { filter = S.stops_on x.0 y.0 z.0 s.filter t.filter u.filter a b.filter; on = b.on; replays = b.replays; link = b.link };
   counts_none = λ x s. rose_none (faults_of told x.1) (fault_lines s.filter) (fault_lines s.filter) refl;
   counts_on = λ x y z s t u a b. rose_both (faults_of told x.1) (faults_of told y.1) (faults_of told z.1) (fault_lines s.filter) (fault_lines t.filter) (fault_lines u.filter) a b;
 }

@@ -8,9 +8,20 @@ ghost use Rattle.cf_engine_steps.specs.States.{whole};
 ghost use Rattle.cf_model.specs.Callbacks.{drain, finish_call};
 
 use crate::engines::Engine;
-use cf_base::{CallError, Shown};
+use cf_base::{CallError, OutOfMemory, Shown};
 use cf_engine_host::EngineHost;
+use cf_provider::{Callback, Port, Provider};
 use cf_remote::Remote;
+
+impl<R: Remote> Provider for Engine<R> {
+    ghost use Rattle.cf_engine_steps.specs.Callbacks.{Answers as AnswersBySelf};
+
+    ghost answers = { AnswersBySelf R.told };
+
+    fn on_callback<P: Port>(&mut self, call: &Callback, port: &mut P) -> Result<(), OutOfMemory> {
+        self.agent.on_callback(call, port)
+    }
+}
 
 impl<R: Remote> Engine<R> {
     // The callbacks that wait, by the provider.

@@ -32,6 +32,7 @@ mod cursors;
 mod engines;
 mod exchanges;
 mod item_tests;
+mod link_events;
 mod marks;
 mod messages;
 mod names;

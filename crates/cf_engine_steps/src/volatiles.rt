@@ -211,6 +211,19 @@ impl Volatile {
         self.held_tombstones.clear();
     }
 
+    // The volume is opened again: nothing is known.
+    pub(crate) fn forget(&mut self)
+        ensures { self.new ≡ fresh }
+    {
+        self.rounds = 0;
+        self.round_open = false;
+        self.tokens = 0;
+        self.held_items.clear();
+        self.held_tombstones.clear();
+        self.taken_names.clear();
+        self.not_empty.clear();
+    }
+
     // Draws a token, where one is left.
     pub(crate) fn draw_token(&mut self) -> bool
         ensures left { result ≡ not (nat_le most self.old.tokens) }

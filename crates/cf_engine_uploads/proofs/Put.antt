@@ -91,7 +91,7 @@ module _ {X R : Type 0} (S : steps.Sense X) (told : R → Told) (id : ItemId) (i
     s,
     (device, stops_at_token (entry_by PutFile i s) (request_of (entry_by PutFile i s) (base_version i) (bytes_held i.held)) s p.left),
     subst (S.moved x y s.filter) same moved,
-    (record { filter = subst (S.stopped x y) same stopped; replays = m.sees.replays; link = m.sees.link }, (whole S told).counts_none (x, e) s),
+    (record { filter = subst (S.stopped x y) same stopped; on = m.on; replays = m.sees.replays; link = m.sees.link }, (whole S told).counts_none (x, e) s),
   )
   stopped_by c s t m p device (inr none) moved stopped = absurd none
 
