@@ -1,4 +1,5 @@
 pub mod Feeds
+pub mod Lapses
 pub mod Lasting
 pub mod Matching
 pub mod Quiet

@@ -3,7 +3,8 @@
 ghost use Rattle.std.specs.Prelude.{◌≡◌, ◌∷◌, ◌++◌, [], map, true, false};
 ghost use Rattle.cf_model.specs.Lawful.{usual};
 ghost use Rattle.cf_model.specs.Settled.{is_settled};
-ghost use Rattle.cf_model_convergence.specs.Scripts.{failing, full, left_by, make_b, populated, put_a, quiet, sync};
+ghost use Rattle.cf_model_convergence.specs.Lapses.{Bases, Kinds, PassedHere, PassedKnown, Targets};
+ghost use Rattle.cf_model_convergence.specs.Scripts.{arrive, believing, crash, delete_a, delete_c, deliver, failing, full, inline, keeping_back, lapsed, lapses_now, left_by, list_d, listing_less, make_a, make_b, make_c, passing_over, peer_dir, peer_into, peer_removes_b, populated, put_a, put_a_again, queued, quiet, rename_b, restart, sync, work};
 
 /// A `sync` that brings a file and marks it ends with an idle pass; so does one that uploads a file, and the next one.
 pub fn a_sync_ends_quiet()
@@ -22,4 +23,25 @@ pub fn a_failing_remote_is_not_quiet()
 pub fn a_trace_tells_its_policies()
     ensures always { populated (put_a ∷ sync ∷ []) ≡ true }
     ensures full { populated (full ∷ put_a ∷ sync ∷ []) ≡ false }
+{}
+
+/// After no event of these scripts a clause lapses, now or at a point that a restart may open.
+pub fn no_clause_lapses()
+    ensures calls { lapsed (put_a ∷ make_b ∷ make_c ∷ sync ∷ rename_b ∷ delete_a ∷ sync ∷ []) ≡ [] }
+    ensures peers { lapsed (put_a ∷ make_b ∷ sync ∷ peer_dir ∷ peer_into ∷ peer_removes_b ∷ sync ∷ []) ≡ [] }
+    ensures both { lapsed (put_a ∷ make_a ∷ make_c ∷ work ∷ put_a_again ∷ work ∷ delete_c ∷ sync ∷ []) ≡ [] }
+    ensures queued { lapsed (put_a ∷ make_b ∷ queued ∷ work ∷ arrive 1 ∷ arrive 2 ∷ deliver 3 ∷ deliver 4 ∷ inline ∷ sync ∷ []) ≡ [] }
+    ensures crash { lapsed (make_b ∷ make_c ∷ queued ∷ work ∷ arrive 1 ∷ arrive 2 ∷ crash ∷ restart ∷ inline ∷ sync ∷ []) ≡ [] }
+    ensures full { lapsed (full ∷ peer_dir ∷ put_a ∷ peer_into ∷ sync ∷ list_d ∷ sync ∷ []) ≡ [] }
+{}
+
+/// States that wrong engines would leave. One that passes an entry over lapses in what is here; one that takes a stopped upload
+/// for done lapses in targets, kinds, bases and what is known. A listing without an entry lapses nowhere, since under FULL population not all is claimed to be
+/// here; and a file that is never uploaded is no lapse, but the state is not settled.
+pub fn wrong_states_lapse()
+    ensures passed { lapses_now true passing_over ≡ PassedHere ∷ [] }
+    ensures believed { lapses_now true believing ≡ Targets ∷ Kinds ∷ Bases ∷ PassedKnown ∷ [] }
+    ensures listed { lapses_now false listing_less ≡ [] }
+    ensures kept { lapses_now true keeping_back ≡ [] }
+    ensures unsettled { is_settled false keeping_back ≡ false }
 {}
