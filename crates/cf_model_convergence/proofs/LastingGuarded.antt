@@ -29,7 +29,7 @@ use Rattle.cf_model.specs.Points.{Opens, commit, point_now, with_point_begun, wi
 use Rattle.cf_model.specs.PushReplies.{entry_seen}
 use Rattle.cf_model.specs.Restarts.{epoch_after, with_opened}
 use Rattle.cf_model.specs.Settling.{is_access, settle, tell, told_at}
-use Rattle.cf_model.specs.Skips.{skip_line, with_book}
+use Rattle.cf_model.specs.Skips.{skip_line}
 use Rattle.cf_model.specs.State.{Filter, Link, Point, State, Volume, book_now, in_volume, items_now, start, with_filter}
 use Rattle.cf_model.specs.Store.{Held, remote_step}
 use Rattle.cf_model.specs.Trees.{Keeps, Ret}

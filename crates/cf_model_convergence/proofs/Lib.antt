@@ -5,6 +5,7 @@ pub mod LastingGuarded
 pub mod LateChanges
 pub mod Lines
 pub mod RestingMatches
+pub mod RightTargets
 pub mod RoundsTaken
 pub mod SettledItems
 pub mod TargetsHere

@@ -1,8 +1,7 @@
 -- What an agreement up to the cursor lacks, as it computes: which clauses lapse of a remote, the items and a book.
-use Rattle.std.specs.Prelude.{ℕ, Bool, true, false, not, cond, List, [], length, take, is_some, unwrap_or, nat_lt, nat_le, ◌&&◌, ◌||◌, ◌∷◌, ◌++◌, ◌==◌}
+use Rattle.std.specs.Prelude.{Bool, true, false, not, cond, List, [], length, take, is_some, unwrap_or, nat_lt, nat_le, ◌&&◌, ◌||◌, ◌∷◌, ◌++◌, ◌==◌}
 use Rattle.std.specs.Bool.{beq}
 use Rattle.std.specs.List.{list_all, list_any, flat_map}
-use Rattle.cf_base.specs.declared.ids.Rid.{Rid}
 use Rattle.cf_base.specs.declared.ids.Version.{Version}
 use Rattle.cf_base.specs.declared.items.SeenPath.{SeenPath}
 use Rattle.cf_model.specs.Books.{Action, Book, MakeDir, MoveItem, PutFile, QueueEntry, RemoveItem, Tombstone, seen_of, tombstone_of}
@@ -12,7 +11,7 @@ use Rattle.cf_model.specs.Logs.{items_of}
 use Rattle.cf_model.specs.LookUp.{children}
 use Rattle.cf_model.specs.Numbers.{same_usn}
 use Rattle.cf_model.specs.PushReplies.{is_new_entry, is_removal}
-use Rattle.cf_model.specs.State.{Point, State, book_now, items_now}
+use Rattle.cf_model.specs.State.{State, book_now, items_now}
 use Rattle.cf_model.specs.Store.{Held, Recorded, RecordedDone, RecordedVoid, Stored, latest, recorded_at, stored_at}
 use Rattle.cf_model.specs.Words.{is_empty, part, same, says}
 

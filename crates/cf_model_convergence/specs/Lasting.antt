@@ -1,14 +1,18 @@
 -- What holds of the remote, the items and the book: of the moment, and of each point that a restart may open.
-use Rattle.std.specs.Prelude.{ℕ, List, length, take, ◌≤◌}
+use Rattle.std.specs.Prelude.{List, Some, length, take, ◌≡◌, ◌≤◌, ◌⊎◌}
 use Rattle.cf_base.specs.declared.changes.Change.{Change}
+use Rattle.cf_base.specs.declared.ids.Rid.{Rid}
 use Rattle.cf_base.specs.declared.ids.Usn.{Usn}
+use Rattle.cf_base.specs.declared.ids.Version.{Version}
 use Rattle.cf_model.specs.Books.{Book}
+use Rattle.cf_model.specs.Identities.{target_of}
 use Rattle.cf_model.specs.Items.{Item}
 use Rattle.cf_model.specs.Logs.{items_of}
 use Rattle.cf_model.specs.State.{Link, Point, State, Volume}
-use Rattle.cf_model.specs.Store.{Held}
-use Rattle.cf_model_laws.specs.Invariant.{All}
+use Rattle.cf_model.specs.Store.{Held, RecordedDone, Stored, recorded_at, stored_at}
+use Rattle.cf_model_laws.specs.Invariant.{All, DidBy}
 use Rattle.cf_model_laws.specs.Premises.{IsFair}
+use Rattle.cf_model_convergence.specs.Resting.{IsTargetRight}
 
 -- of the remote, the items and the book
 abbrev pub Fact : Type 1
@@ -27,6 +31,15 @@ Lasts F l v = IsFair l → LastsIn F l.remote v
 -- over a remote that kept its rules
 abbrev pub HoldsIn : Fact → State → Type 0
 HoldsIn F s = Lasts F s.link s.filter.volume
+
+-- The target of an item below the root is in the remote, of the item's kind, and of a file it is the base too; or there is none.
+abbrev pub AreTargetsRight : Fact
+AreTargetsRight r items b = All (λ i. (i.id.0 ≡ 1 → ⊥) → ((target_of i).0 ≡ 0) ⊎ ((s : Stored) × (stored_at r.items (target_of i) ≡ Some s) × IsTargetRight i s)) items
+
+-- What the remote did of an upload on its way, it did as that upload asks: a file or a directory was made, or the item is that of the
+-- upload; one that was removed is dead.
+abbrev pub AreUploadsDone : Fact
+AreUploadsDone r items b = All (λ e. (rid : Rid) (version : Version) → recorded_at r.tokens e.token ≡ Some (RecordedDone rid version) → DidBy e.action r.items e.rid rid) b.entries
 
 -- the cursor is a time that the remote has had
 abbrev pub IsCursorEarly : Fact

@@ -8,11 +8,23 @@ ghost use Rattle.cf_model.specs.Lawful.{Runs};
 ghost use Rattle.cf_model.specs.State.{State, start};
 ghost use Rattle.cf_model.specs.Store.{Held};
 ghost use Rattle.cf_model_laws.specs.Premises.{IsFresh};
-ghost use Rattle.cf_model_convergence.specs.Lasting.{HoldsIn, IsCursorEarly};
+ghost use Rattle.cf_model_convergence.specs.Lasting.{AreTargetsRight, AreUploadsDone, HoldsIn, IsCursorEarly};
 
 /// In each state of a run the cursor is a time that the remote has had, and so it is in the book of each point that a restart may
 /// open.
 #[tactic(auto, using(crate::proofs::EarlyCursors::cursor_early))]
 pub fn a_cursor_is_never_late()
     ensures { (remote : Held) (clusters : ℕ) (trace : List (Event × Answer)) (s : State) → Runs mode.Replay (start mode.Replay remote clusters) trace s → IsFresh remote → HoldsIn IsCursorEarly s }
+{}
+
+/// The target of an item below the root is in the remote and of the item's kind; a file has it as its base.
+#[tactic(auto, using(crate::proofs::RightTargets::targets_right))]
+pub fn a_target_is_of_its_items_kind()
+    ensures { (remote : Held) (clusters : ℕ) (trace : List (Event × Answer)) (s : State) → Runs mode.Replay (start mode.Replay remote clusters) trace s → IsFresh remote → HoldsIn AreTargetsRight s }
+{}
+
+/// What the remote did under the token of an upload that is on its way, it did as that upload asks.
+#[tactic(auto, using(crate::proofs::RightTargets::uploads_done))]
+pub fn what_was_done_was_asked_for()
+    ensures { (remote : Held) (clusters : ℕ) (trace : List (Event × Answer)) (s : State) → Runs mode.Replay (start mode.Replay remote clusters) trace s → IsFresh remote → HoldsIn AreUploadsDone s }
 {}

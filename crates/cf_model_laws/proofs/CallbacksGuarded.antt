@@ -32,7 +32,7 @@ use Rattle.cf_model_laws.proofs.FetchingGuarded.{consents_op_keeps, in_filter_at
 use Rattle.cf_model_laws.proofs.FitAsks.{LiveAt}
 use Rattle.cf_model_laws.proofs.Gathered.{all_any, all_found, all_weaker}
 use Rattle.cf_model_laws.proofs.Guarded.{Guarded, PostedIn}
-use Rattle.cf_model_laws.proofs.MessagesGuarded.{quiet, send_now_at}
+use Rattle.cf_model_laws.proofs.MessagesGuarded.{quiet_request, send_now_at}
 use Rattle.cf_model_laws.proofs.RightItems.{no_way}
 use Rattle.cf_model_laws.proofs.SoundLinks.{FrameCarries}
 use Rattle.cf_model_laws.proofs.SoundSettles.{each_found, same_item}
@@ -42,18 +42,18 @@ pub record WasBoxed (s : State) (a : Ask) : Type 0 where
   pub given : WasGiven s.filter.volume.epoch s.filter.waiting.key_count a.key
   pub same : All (λ b. is_fetch b.ask.kind ≡ true → same_key b.ask.key a.key ≡ true → b.ask.item.0 ≡ a.item.0) s.filter.waiting.asks
 
-quiet_now : (q : Request) (s : State) → ((token : Token) (bytes : List ℕ) → OfRequest (Carries token bytes) (Some (frame.Request q))) → All (FrameCarries s.link.remote (items_now s) (Some (frame.Request q))) (book_now s).entries
-quiet_now q s k = all_any (FrameCarries s.link.remote (items_now s) (Some (frame.Request q))) (λ e. quiet e.action s.link.remote (items_now s) (Some (frame.Request q)) e k) (book_now s).entries
+quiet_now : (q : Request) (s : State) → ((token : Token) (bytes : List ℕ) → Carries token bytes q) → All (FrameCarries s.link.remote (items_now s) (Some (frame.Request q))) (book_now s).entries
+quiet_now q s k = all_any (FrameCarries s.link.remote (items_now s) (Some (frame.Request q))) (λ e. quiet_request s.link.remote (items_now s) q e k) (book_now s).entries
 
 -- a request that says nothing of uploads
-pub plain_posted : (q : Request) (s : State) → ((token : Token) (bytes : List ℕ) → OfRequest (Carries token bytes) (Some (frame.Request q))) → IsGivenIn s.filter.volume.epoch s.filter.waiting.key_count s.volatile.tokens q
+pub plain_posted : (q : Request) (s : State) → ((token : Token) (bytes : List ℕ) → Carries token bytes q) → IsGivenIn s.filter.volume.epoch s.filter.waiting.key_count s.volatile.tokens q
     → All (λ a. is_fetch a.ask.kind ≡ true → Names s.link.remote (items_now s) a.ask q) s.filter.waiting.asks → PostedIn s (Some (frame.Request q))
 plain_posted q s k given named = record {
   right = given;
   named = named;
   now = quiet_now q s k;
   kept = all_any (λ p. All (FrameCarries s.link.remote (items_of (take p.count s.filter.volume.log)) (Some (frame.Request q))) p.book.entries)
-      (λ p. all_any (FrameCarries s.link.remote (items_of (take p.count s.filter.volume.log)) (Some (frame.Request q))) (λ e. quiet e.action s.link.remote (items_of (take p.count s.filter.volume.log)) (Some (frame.Request q)) e k) p.book.entries) s.filter.volume.points;
+      (λ p. all_any (FrameCarries s.link.remote (items_of (take p.count s.filter.volume.log)) (Some (frame.Request q))) (λ e. quiet_request s.link.remote (items_of (take p.count s.filter.volume.log)) q e k) p.book.entries) s.filter.volume.points;
 }
 
 fetch_posted : (P : State → Type 0) → Guarded P → (a : Ask) (i : Item) (s : State) → P s → (IsFair s.link → WasBoxed s a) → item_of (items_now s) a.item ≡ Some i → IsFair s.link → PostedIn s (Some (frame.Request (fetch_of a i)))

@@ -39,7 +39,7 @@ use Rattle.cf_model.proofs.TreeLaws.{keeps_bind, keeps_mapped}
 use Rattle.cf_model_laws.specs.Fitting.{Fits, IsCopied, IsVacant, NamesWell, NoEntry, NoMove}
 use Rattle.cf_model_laws.specs.Invariant.{HasEntry, InOrder, IsRight, SameBase, version_in, waits_on}
 use Rattle.cf_model_laws.specs.Premises.{IsFair}
-use Rattle.cf_model_laws.proofs.EntryLaws.{dir_identity, dir_none, dir_well, file_wants, make_fits, none_none}
+use Rattle.cf_model_laws.proofs.EntryLaws.{dir_identity, dir_none, entry_dir_well, file_wants, make_fits, none_none}
 use Rattle.cf_model_laws.proofs.FitEntries.{kind_stays}
 use Rattle.cf_model_laws.proofs.FitItems.{each_changed}
 use Rattle.cf_model_laws.proofs.FoundItems.{both, found_again, found_new, same_self, target_at, target_more, target_stays}
@@ -124,6 +124,7 @@ no_target identity = refl
 untargeted_well : (r : Held) (d p : Bool) (identity : List ℕ) → NamesWell r d p identity → NamesWell r d p (untargeted identity)
 untargeted_well r d p identity h = record {
   based = same_based r (untargeted identity) identity (untargeted_same identity) h.based;
+  aimed = inl (no_target identity);
   bare = λ e. same_none (untargeted identity) identity (untargeted_same identity) (h.bare e);
   plain = λ e f. (same_none (untargeted identity) identity (untargeted_same identity) (h.plain e f).0, no_target identity);
 }
@@ -132,7 +133,7 @@ untarget_fits : (l : Link) (w : Filter) (es : List QueueEntry) (P : State → Ty
     → Fits s.link.remote s.filter (change.Rebase i.id (untargeted i.identity) (base_of i) no_usn)
 untarget_fits l w es P feeds i s h same fair = (
   each_both i.id (λ j. j.identity ≡ i.identity) (IsRight s.link.remote (next_number s.filter.volume)) (λ j. NamesWell s.link.remote j.directory j.placeholder (untargeted i.identity))
-      (λ j e k. subst (λ (x : List ℕ). NamesWell s.link.remote j.directory j.placeholder (untargeted x)) e (untargeted_well s.link.remote j.directory j.placeholder j.identity (record { based = k.based; bare = k.bare; plain = k.plain })))
+      (λ j e k. subst (λ (x : List ℕ). NamesWell s.link.remote j.directory j.placeholder (untargeted x)) e (untargeted_well s.link.remote j.directory j.placeholder j.identity (record { based = k.based; aimed = k.aimed; bare = k.bare; plain = k.plain })))
       (items_now s) (same fair) (right_now P feeds.steps s h fair i.id),
   inl (refl, each_weaker i.id (λ j. j.identity ≡ i.identity) (λ j. SameBase (untargeted i.identity) j.identity) (λ j e. subst (λ (x : List ℕ). SameBase (untargeted i.identity) x) (sym e) (untargeted_same i.identity)) (items_now s) (same fair)),
 )
@@ -212,8 +213,8 @@ abbrev DirsAt : ItemId → State → Type 0
 DirsAt id t = IsFair t.link → (id.0 < t.filter.volume.next_item.0) × Each id (λ j. j.directory ≡ true) (items_now t)
 
 -- a local directory that becomes the one of an entry
-adopt_in : (l : Link) (w : Filter) (es : List QueueEntry) (P : State → Type 0) → Feeds l w es P → (e : Entry) (i : Item) → e.dir ≡ true → ((s : State) → P s → DirsAt i.id s) → Preserves P (adopt e i)
-adopt_in l w es P feeds e i dir dirs = record {
+adopt_in : (l : Link) (w : Filter) (es : List QueueEntry) (P : State → Type 0) → Feeds l w es P → (e : Entry) (i : Item) → IsTold l e → e.dir ≡ true → ((s : State) → P s → DirsAt i.id s) → Preserves P (adopt e i)
+adopt_in l w es P feeds e i told dir dirs = record {
   keeps = λ s h.
       and_then_keeps P (only_if (not i.placeholder) (try_change (change.Convert i.id no_identity))) (and_then (try_change (change.Rebase i.id (entry_identity e) 0 no_usn)) (and_then (try_seen (seen_entry i.id e)) (try_mark_now i.id))) s
       (only_if_at P (not i.placeholder) (try_change (change.Convert i.id no_identity)) s h (λ _. try_change_at Whichever P feeds.steps (change.Convert i.id no_identity) s tt (λ id k. k) (convert_fits s h) h))
@@ -222,13 +223,18 @@ adopt_in l w es P feeds e i dir dirs = record {
 }
   where
     convert_fits : (t : State) → P t → IsFair t.link → Fits t.link.remote t.filter (change.Convert i.id no_identity)
-    convert_fits t j fair =
-        each_both i.id (λ k. k.directory ≡ true) (IsRight t.link.remote (next_number t.filter.volume)) (λ k. SameBase no_identity k.identity) (λ k d r. both_none no_identity k.identity none_none (r.bare d)) (items_now t) (dirs t j fair).1 (right_now P feeds.steps t j fair i.id)
+    convert_fits t j fair = (
+      each_both i.id (λ k. k.directory ≡ true) (IsRight t.link.remote (next_number t.filter.volume)) (λ k. SameBase no_identity k.identity) (λ k d r. both_none no_identity k.identity none_none (r.bare d)) (items_now t) (dirs t j fair).1 (right_now P feeds.steps t j fair i.id),
+      refl,
+    )
+
+    told_at : (t : State) → P t → IsFair t.link → HasEntry t.link.remote e
+    told_at t j fair = subst (λ (k : Link). HasEntry k.remote e) (sym (feeds.fed t j).link) (told.has (fair_now l w es t (feeds.fed t j) fair))
 
     rebase_fits : (t : State) → P t → IsFair t.link → Fits t.link.remote t.filter (change.Rebase i.id (entry_identity e) 0 no_usn)
     rebase_fits t j fair =
         subst (λ (x : List ℕ). Fits t.link.remote t.filter (change.Rebase i.id x 0 no_usn)) (sym (dir_identity e dir)) (
-          each_weaker i.id (λ k. k.directory ≡ true) (λ k. NamesWell t.link.remote k.directory k.placeholder (identity_of e.rid no_rid no_version)) (λ k d. subst (λ (b : Bool). NamesWell t.link.remote b k.placeholder (identity_of e.rid no_rid no_version)) (sym d) (dir_well t.link.remote e.rid k.placeholder)) (items_now t) (dirs t j fair).1,
+          each_weaker i.id (λ k. k.directory ≡ true) (λ k. NamesWell t.link.remote k.directory k.placeholder (identity_of e.rid no_rid no_version)) (λ k d. subst (λ (b : Bool). NamesWell t.link.remote b k.placeholder (identity_of e.rid no_rid no_version)) (sym d) (entry_dir_well t.link.remote e k.placeholder fair.1 (told_at t j fair) dir)) (items_now t) (dirs t j fair).1,
           inl (
             refl,
             each_both i.id (λ k. k.directory ≡ true) (IsRight t.link.remote (next_number t.filter.volume)) (λ k. SameBase (identity_of e.rid no_rid no_version) k.identity)
@@ -236,10 +242,10 @@ adopt_in l w es P feeds e i dir dirs = record {
           ),
         )
 
-adopt_at : (l : Link) (w : Filter) (es : List QueueEntry) (P : State → Type 0) → Feeds l w es P → (e : Entry) (i : Item) (s : State) → e.dir ≡ true → i.directory ≡ true → P s → (IsFair s.link → item_of (items_now s) i.id ≡ Some i) → Keeps P (adopt e i s)
-adopt_at l w es P feeds e i s dir local h there =
+adopt_at : (l : Link) (w : Filter) (es : List QueueEntry) (P : State → Type 0) → Feeds l w es P → (e : Entry) (i : Item) (s : State) → IsTold l e → e.dir ≡ true → i.directory ≡ true → P s → (IsFair s.link → item_of (items_now s) i.id ≡ Some i) → Keeps P (adopt e i s)
+adopt_at l w es P feeds e i s told dir local h there =
     keeps_first P (DirsAt i.id) (adopt e i s)
-    ((adopt_in l w es (λ t. P t × DirsAt i.id t) (feeds_framed l w es P (DirsAt i.id) feeds (kinds_frame i.id (λ d p. d ≡ true) (λ d p k. k))) e i dir (λ t k. k.1)).keeps s
+    ((adopt_in l w es (λ t. P t × DirsAt i.id t) (feeds_framed l w es P (DirsAt i.id) feeds (kinds_frame i.id (λ d p. d ≡ true) (λ d p k. k))) e i told dir (λ t k. k.1)).keeps s
     (h, λ fair. (found_below i.id 0 s.filter.volume.next_item.0 (items_now s) i (feeds.steps.sound s h fair).now.order (there fair), each_found i.id (λ j. j.directory ≡ true) 0 s.filter.volume.next_item.0 (items_now s) i (feeds.steps.sound s h fair).now.order (there fair) local)))
 
 -- the parent of an entry's item
@@ -286,7 +292,7 @@ new_at l w es P feeds e p s told some parent h = turn_at P (λ t. new_over e p (
   choice : (i : Item) → child_of (items_now s) p.id e.name ≡ Some i → (b : Bool) → is_adoptable e i ≡ b → Keeps P (choose b (adopt e i) (make_entry e p) s)
   choice i f true q =
       let a : (e.dir && i.directory) ≡ true = left_true (e.dir && i.directory) (is_untargeted i) q in
-      adopt_at l w es P feeds e i s (left_true e.dir i.directory a) (right_true e.dir i.directory a) h (λ fair. found_again (is_child_named p.id e.name) 0 s.filter.volume.next_item.0 (items_now s) i (feeds.steps.sound s h fair).now.order f)
+      adopt_at l w es P feeds e i s told (left_true e.dir i.directory a) (right_true e.dir i.directory a) h (λ fair. found_again (is_child_named p.id e.name) 0 s.filter.volume.next_item.0 (items_now s) i (feeds.steps.sound s h fair).now.order f)
   choice i f false q = make_entry_at l w es P feeds e p s told some parent h
 
   by : (o : Option Item) → child_of (items_now s) p.id e.name ≡ o → Keeps P (new_over e p o s)

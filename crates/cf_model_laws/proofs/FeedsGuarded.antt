@@ -7,7 +7,7 @@ use Rattle.std.proofs.lemmas.Bool.Decides.{nat_tests}
 use Rattle.cf_base.specs.declared.ids.ItemId.{ItemId}
 use Rattle.cf_base.specs.declared.ids.Usn.{Usn}
 use Rattle.cf_base.specs.declared.messages.Entry.{Entry}
-use Rattle.cf_model.specs.Arrows.{Arrow, Preserves, and_then, noted, only_if, reading, seq, then_do, unit, when_ok}
+use Rattle.cf_model.specs.Arrows.{Arrow, Preserves, and_then, only_if, seq, when_ok}
 use Rattle.cf_model.specs.Books.{QueueEntry}
 use Rattle.cf_model.specs.Changes.{next_number}
 use Rattle.cf_model.specs.Dehydration.{in_use as is_used}
@@ -18,12 +18,11 @@ use Rattle.cf_model.specs.Missing.{Wait}
 use Rattle.cf_model.specs.Numbers.{no_key, no_rid, root_rid, same_key}
 use Rattle.cf_model.specs.PushReplies.{round_closed, whatever}
 use Rattle.cf_model.specs.Requests.{Waiting, is_busy_beside}
-use Rattle.cf_model.specs.Skips.{in_use, in_volatile, try_cursor, try_mark_now, with_volatile}
+use Rattle.cf_model.specs.Skips.{in_use, try_cursor, try_mark_now, with_volatile}
 use Rattle.cf_model.specs.State.{Filter, Link, State, book_now, items_now}
 use Rattle.cf_model.specs.Store.{Held}
 use Rattle.cf_model.specs.Trees.{Asked, Fork, Keeps, Ret, Step, Tree}
 use Rattle.cf_model.specs.Words.{number_of, part, sorted}
-use Rattle.cf_model.proofs.ArrowLaws.{keeps_noted, keeps_reading, keeps_ret, keeps_seq, keeps_then}
 use Rattle.cf_model.proofs.TreeLaws.{keeps_bind}
 use Rattle.cf_model_laws.specs.Invariant.{All, IsRight, version_in, waits_on}
 use Rattle.cf_model_laws.specs.Premises.{IsFair}

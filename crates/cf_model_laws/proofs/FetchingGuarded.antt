@@ -32,7 +32,7 @@ use Rattle.cf_model_laws.specs.Invariant.{All, HasEntry}
 use Rattle.cf_model_laws.specs.Premises.{IsFair}
 use Rattle.cf_model_laws.proofs.EntryLaws.{new_fits}
 use Rattle.cf_model_laws.proofs.Gathered.{all_filter, all_weaker}
-use Rattle.cf_model_laws.proofs.OperationsGuarded.{NewFits, SeesFrom}
+use Rattle.cf_model_laws.proofs.OperationsGuarded.{NewFits}
 use Rattle.cf_model_laws.proofs.SkipsGuarded.{seen_below}
 use Rattle.cf_model_laws.proofs.SoundChanges.{KeepsEntries}
 

@@ -105,7 +105,7 @@ base_stays r x (change.Emptied item start len) n at base below waited lacks righ
 base_stays r x (change.SetPin item pin) n at base below waited lacks right fit h = plainly at item _ (Has r base) (λ i. refl) (λ i k. k) x.volume.items h
 base_stays r x (change.Mark item number) n at base below waited lacks right fit h = plainly at item _ (Has r base) (λ i. refl) (λ i k. k) x.volume.items h
 base_stays r x (change.Clear item) n at base below waited lacks right fit h = plainly at item _ (Has r base) (λ i. refl) (λ i k. k) x.volume.items h
-base_stays r x (change.Convert item identity) n at base below waited lacks right fit h = each_changed at item _ (λ i. SameBase identity i.identity) (Has r base) (Has r base) (λ i. refl) (λ i same k. same_named r identity i.identity same ∙ k) (λ i k. k) x.volume.items fit h
+base_stays r x (change.Convert item identity) n at base below waited lacks right fit h = each_changed at item _ (λ i. SameBase identity i.identity) (Has r base) (Has r base) (λ i. refl) (λ i same k. same_named r identity i.identity same ∙ k) (λ i k. k) x.volume.items fit.0 h
 base_stays r x (change.Revert item) n at base below waited lacks right fit h = elim fit as (λ _. Each at (Has r base) (effect x.volume.items (change.Revert item) n)) [ ]
 base_stays r x (change.Rebase item identity len number) n at base below waited lacks right fit h = by fit.1 where
   one : (i : Item) → (i.directory ≡ false → ((list_all is_some i.held ≡ true) ⊎ (up_to number i.writes ≡ [])) × (base_named r identity ≡ put_bytes (base_bytes r i) number i.writes)) → NamesWell r i.directory i.placeholder identity → IsRight r n i → Misses i → Has r base i

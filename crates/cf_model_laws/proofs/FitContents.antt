@@ -101,7 +101,7 @@ effect_contents r x (change.Emptied item start len) n fit right h =
 effect_contents r x (change.SetPin item pin) n fit right h = plainly r item (pinned pin) (λ i k. k) x.volume.items h
 effect_contents r x (change.Mark item number) n fit right h = with_each r item marked _ (λ i is k d. marked-true r i is.0 (k d)) x.volume.items fit h
 effect_contents r x (change.Clear item) n fit right h = plainly r item unmarked (λ i k. k) x.volume.items h
-effect_contents r x (change.Convert item identity) n fit right h = with_each r item (converted identity n) _ (λ i same k d. converted-true r identity n i (same_named r identity i.identity same) (k d)) x.volume.items fit h
+effect_contents r x (change.Convert item identity) n fit right h = with_each r item (converted identity n) _ (λ i same k d. converted-true r identity n i (same_named r identity i.identity same) (k d)) x.volume.items fit.0 h
 effect_contents r x (change.Revert item) n fit right h = elim fit as (λ _. AreTrueTo r (effect x.volume.items (change.Revert item) n)) [ ]
 effect_contents r x (change.Rebase item identity len at) n fit right h =
     with_each r item (rebased identity len at) (λ i. i.directory ≡ false → StaysBy (base_bytes r i) (base_named r identity) (later_than at i.writes) i) (λ i is g d. rebased-true r identity len at i (is d) (g d)) x.volume.items (rebase_leaves r x item identity len at n fit right) h

@@ -107,7 +107,7 @@ put_stays r ms x (change.SetPin item pin) n e next epoch tokens is g free fit ri
 put_stays r ms x (change.Mark item number) n e next epoch tokens is g free fit right h = with_each r ms e item _ _ (λ i. refl) (λ i clean k. carried r ms e.token e.number (base_bytes r i) (base_bytes r i) i.directory i.placeholder i.held i.held i.writes [] (inr refl) (ap (λ (ws : List Written). put_bytes (base_bytes r i) e.number ws) (sym clean.0)) k) x.volume.items fit h
 put_stays r ms x (change.Clear item) n e next epoch tokens is g free fit right h = plainly r ms e item _ (λ i. refl) (λ i k. k) x.volume.items h
 put_stays r ms x (change.Convert item identity) n e next epoch tokens is g free fit right h =
-    with_each r ms e item _ _ (λ i. refl) (λ i same k. based_anew r ms e.token e.number (base_bytes r i) (base_named r identity) i.directory i.placeholder i.held i.writes (same_named r identity i.identity same) k) x.volume.items fit h
+    with_each r ms e item _ _ (λ i. refl) (λ i same k. based_anew r ms e.token e.number (base_bytes r i) (base_named r identity) i.directory i.placeholder i.held i.writes (same_named r identity i.identity same) k) x.volume.items fit.0 h
 put_stays r ms x (change.Revert item) n e next epoch tokens is g free fit right h = elim fit as (λ _. Each e.item (PutFits r ms e) (effect x.volume.items (change.Revert item) n)) [ ]
 put_stays r ms x (change.Rebase item identity len at) n e next epoch tokens is g free fit right h = by fit.1 where
   one : (i : Item) → (at ≡ no_usn) → SameBase identity i.identity → IsRight r n i → PutFits r ms e i → PutFitsOf r ms e.token e.number (base_named r identity) i.directory i.placeholder i.held (later_than at i.writes)

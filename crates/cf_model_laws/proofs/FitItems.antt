@@ -113,7 +113,7 @@ effect_right r x (change.Mark item number) n after some e large fit h =
 effect_right r x (change.Clear item) n after some e large fit h =
     plainly r n after item unmarked (λ i. cleared_right r n after i.id.0 i.directory i.placeholder i.identity i.in_sync i.number i.writes e) e x.volume.items h
 effect_right r x (change.Convert item identity) n after some e large fit h =
-    with_each r n after item (converted identity n) _ (λ i same. converted_right r n after i.id.0 i.directory i.placeholder i.identity identity i.in_sync i.number i.writes same e) e x.volume.items fit h
+    with_each r n after item (converted identity n) _ (λ i same. converted_right r n after i.id.0 i.directory i.placeholder i.identity identity i.in_sync i.number i.writes same fit.1 e) e x.volume.items fit.0 h
 effect_right r x (change.Revert item) n after some e large fit h = elim fit as (λ _. All (IsRight r after) (effect x.volume.items (change.Revert item) n)) [ ]
 effect_right r x (change.Rebase item identity len at) n after some e large fit h =
     with_each r n after item (rebased identity len at) _ (λ i well. rebased_right r n after i.id.0 i.directory i.placeholder i.identity identity i.in_sync i.number at i.writes well e) e x.volume.items fit.0 h

@@ -2,6 +2,7 @@ pub mod BesideGuarded
 pub mod CallsGuarded
 pub mod DehydrationGuarded
 pub mod DehydrationLaws
+pub mod EntriesAsked
 pub mod EntryLaws
 pub mod CallbacksGuarded
 pub mod FeedEntriesGuarded

@@ -112,7 +112,7 @@ met r x n c front is next log order fit truly right = by c fit where
   by (change.Mark item number) fit = there item (IsMarkable r number) (each_both item (λ i. (i.writes ≡ []) × (number ≡ i.number) × (is_untargeted i ≡ false)) (IsRight r n) (IsMarkable r number) (λ i k right. (k.1, k.0, k.2, right.based)) x.volume.items fit (at item))
   by (change.Clear item) fit = tt
   by (change.Convert item identity) fit =
-      there item (IsConvertible r identity) (each_both item (λ i. SameBase identity i.identity) (IsRight r n) (IsConvertible r identity) (λ i k right. (right.based, same_based r identity i.identity k right.based, same_named r identity i.identity k)) x.volume.items fit (at item))
+      there item (IsConvertible r identity) (each_both item (λ i. SameBase identity i.identity) (IsRight r n) (IsConvertible r identity) (λ i k right. (right.based, same_based r identity i.identity k right.based, same_named r identity i.identity k)) x.volume.items fit.0 (at item))
   by (change.Revert item) fit = fit
   by (change.Rebase item identity len number) fit =
       there item (IsRebasable r identity len number)

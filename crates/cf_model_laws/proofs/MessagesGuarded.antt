@@ -35,7 +35,7 @@ use Rattle.cf_model.specs.Trees.{AsItKeeps, Faults, Keeps, Telling, Tells, bind}
 use Rattle.cf_model.specs.Words.{is_empty, part}
 use Rattle.cf_model.proofs.StoreLaws.{step_extends}
 use Rattle.cf_model_laws.specs.GivenOnce.{WasGiven}
-use Rattle.cf_model_laws.specs.Invariant.{All, Carries, HasEntry, IsGivenIn, IsLiveRight, IsMessageRight, IsSound, Names, OfRequest, TellsBytes, TellsTruth, message_in, put_bytes}
+use Rattle.cf_model_laws.specs.Invariant.{All, Carries, HasEntry, IsGivenIn, IsLiveRight, IsMessageRight, IsSound, Names, OfRequest, TellsBytes, TellsTruth, message_in, put_bytes, Asks}
 use Rattle.cf_model_laws.specs.Premises.{IsFair}
 use Rattle.cf_model_laws.proofs.OperationsGuarded.{keys_same}
 use Rattle.cf_model_laws.proofs.FeedEntriesGuarded.{IsTold}
@@ -52,6 +52,7 @@ use Rattle.cf_model_laws.proofs.RightItems.{no_way, no_way_back}
 use Rattle.cf_model_laws.proofs.SoundLinks.{CarriesBy, FrameCarries, message_longer}
 use Rattle.cf_model_laws.proofs.SoundSettles.{left_true, not_false, right_true}
 use Rattle.cf_model_laws.proofs.SoundStates.{small_before}
+use Rattle.cf_model_laws.proofs.EntriesAsked.{carries_asks}
 
 -- what the remote is asked
 
@@ -100,6 +101,7 @@ sent_well P closed m q s at h fair =
       token = given_token s.filter.volume.epoch s.filter.waiting.key_count s.volatile.tokens q (all_message (IsGivenIn s.filter.volume.epoch s.filter.waiting.key_count s.volatile.tokens) s.link.messages m q
           (of_messages s.link.remote s.link.messages s.link.messages s.filter.volume.epoch s.filter.waiting.key_count s.volatile.tokens sound.messages) at);
       carries = λ token bytes own k. all_message (Carries token bytes) s.link.messages m q k at;
+      asks = λ e own k. all_message (Asks e) s.link.messages m q k at;
     }
 
 -- a reply comes
@@ -126,8 +128,11 @@ quiet MakeDir r items f e k = tt
 quiet MoveItem r items f e k = tt
 quiet RemoveItem r items f e k = tt
 
+pub quiet_request : (r : Held) (items : List Item) (q : Request) (e : QueueEntry) → ((token : Token) (bytes : List ℕ) → Carries token bytes q) → FrameCarries r items (Some (frame.Request q)) e
+quiet_request r items q e k = (quiet e.action r items (Some (frame.Request q)) e k, carries_asks e q (k e.token))
+
 quiet_reply : (m : ℕ) (a : Reply) (r : Held) (items : List Item) (e : QueueEntry) → FrameCarries r items (Some (frame.Reply m a)) e
-quiet_reply m a r items e = quiet e.action r items (Some (frame.Reply m a)) e (λ t b. tt)
+quiet_reply m a r items e = (quiet e.action r items (Some (frame.Reply m a)) e (λ t b. tt), tt)
 
 same_reply : (a b : Reply) → ◌≡◌ {A = Option Reply} (Some a) (Some b) → a ≡ b
 same_reply a b e = cc
@@ -304,4 +309,4 @@ send_now_at P closed q s well h = by (no_number s) where
   by false = two (no_bytes (frame.Request q) s)
 
 pub list_ask_keeps : (P : State → Type 0) → Guarded P → (key : Key) (rid : Rid) → Preserves P (ask (request.List key rid))
-list_ask_keeps P closed key rid = record { keeps = λ s h. ask_at P closed (request.List key rid) s (λ fair. record { token = tt; carries = λ t b o k. tt }) h }
+list_ask_keeps P closed key rid = record { keeps = λ s h. ask_at P closed (request.List key rid) s (λ fair. record { token = tt; carries = λ t b o k. tt; asks = λ e o k. tt }) h }

@@ -33,6 +33,7 @@ use Rattle.cf_model_laws.specs.GivenOnce.{WasGiven}
 use Rattle.cf_model_laws.specs.Invariant.{Carries, IsSound}
 use Rattle.cf_model_laws.proofs.RemoteSteps.{HasToken}
 use Rattle.cf_model_laws.proofs.SoundSettles.{left_true}
+use Rattle.cf_model_laws.proofs.EntriesAsked.{carries_asks}
 
 pub failed_keeps : (P : State → Type 0) → Guarded P → (x1 : Code) → Preserves P (failed x1)
 failed_keeps P closed c = keeps_then P (noted with_token_used) (ret (shown.Refused c)) (keeps_noted P with_token_used (closed.keeps_with_token_used)) (keeps_ret P (shown.Refused c))
@@ -118,7 +119,7 @@ request_with_keeps P closed q peers tokens = record {
       keeps_bind P (ask (q (peer_token s)) (with_token_used s)) (on_answer (q (peer_token s)))
       (messages_keep.ask_at P closed (q (peer_token s)) (with_token_used s)
       (λ fair. let sound : IsSound s.link s.volatile.tokens s.filter = (closed.on_filter s h).sound s.filter h fair in
-      record { token = tokens s.filter.volume.epoch s.volatile.tokens (peer_token s) (lower s.filter.volume.epoch sound.old); carries = λ token bytes own k. peers (peer_token s) token bytes (apart_epochs (peer_token s).0 token.0 refl own) })
+      record { token = tokens s.filter.volume.epoch s.volatile.tokens (peer_token s) (lower s.filter.volume.epoch sound.old); carries = λ token bytes own k. peers (peer_token s) token bytes (apart_epochs (peer_token s).0 token.0 refl own); asks = λ e own k. carries_asks e (q (peer_token s)) (λ bytes. peers (peer_token s) e.token bytes (apart_epochs (peer_token s).0 e.token.0 refl own)) })
       (closed.keeps_with_token_used s h))
       (λ o t j. (on_answer_keeps P closed (q (peer_token s)) o).keeps t j);
 }

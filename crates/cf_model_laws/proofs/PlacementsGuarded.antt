@@ -38,7 +38,7 @@ use Rattle.cf_model_laws.proofs.Plainly.{IsPlain, checked_at, plains_keep}
 -- a new file or directory
 
 no_base : (r : Held) (d p : Bool) → NamesWell r d p []
-no_base r d p = record { based = inl refl; bare = λ e. (refl, refl); plain = λ e f. ((refl, refl), refl) }
+no_base r d p = record { based = inl refl; aimed = inl refl; bare = λ e. (refl, refl); plain = λ e f. ((refl, refl), refl) }
 
 made_at : (l : Link) (tokens : ℕ) (P : Filter → Type 0) → GuardedFilter l tokens P → (k : Kind) → size_made k 0 ≡ 0 → (p : Place) (x : Filter) → P x
     → Keeps P (on_ok make_planned (plan ((is_some (child_of x.volume.items p.parent.id p.name), code.Exists) ∷ []) (make_and_mark x.volume.next_item (next_number x.volume) p.parent.id p.name k 0 [] false)) x)

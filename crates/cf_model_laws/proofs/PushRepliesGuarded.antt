@@ -26,9 +26,9 @@ use Rattle.cf_model.specs.Store.{RecordedDone, bytes_of, recorded_at}
 use Rattle.cf_model.specs.Trees.{Keeps}
 use Rattle.cf_model.proofs.TreeLaws.{keeps_bind}
 use Rattle.cf_model_laws.specs.Fitting.{Fits, NamesWell, NoEntry, NoMove}
-use Rattle.cf_model_laws.specs.Invariant.{All, AreApart, EntryFits, FitsBy, InOrder, IsSound, PutFits, put_bytes}
+use Rattle.cf_model_laws.specs.Invariant.{All, AreApart, EntryFits, FitsBy, InOrder, IsSound, PutFits, put_bytes, DidBy, IsAskedFor, IsOfKind}
 use Rattle.cf_model_laws.specs.Premises.{IsFair}
-use Rattle.cf_model_laws.proofs.EntryLaws.{dir_well, file_well, made_named, made_read}
+use Rattle.cf_model_laws.proofs.EntryLaws.{dir_well, file_well, made_named, made_read, small_rid}
 use Rattle.cf_model_laws.proofs.FeedEntriesGuarded.{Feeding, feeding}
 use Rattle.cf_model_laws.proofs.FoundItems.{found_id}
 use Rattle.cf_model_laws.proofs.Gathered.{all_found}
@@ -125,11 +125,11 @@ alone_after : (s : State) (e : QueueEntry) → entry_of (book_now s) e.token ≡
 alone_after s e live sound some = apart_rest (λ f. same_key f.token.0 e.token.0) e.item.0 (book_now s).entries e refl some live sound.now.apart
 
 -- the identity that a Done gives names well
-put_well : (s : State) (e : QueueEntry) (rid : Rid) (version : Version) (i : Item) → IsFair s.link → bytes_of s.link.remote rid version ≡ Some (put_bytes (base_bytes s.link.remote i) e.number i.writes) → i.directory ≡ false → i.placeholder ≡ true
+put_well : (s : State) (e : QueueEntry) (rid : Rid) (version : Version) (i : Item) → IsFair s.link → bytes_of s.link.remote rid version ≡ Some (put_bytes (base_bytes s.link.remote i) e.number i.writes) → i.directory ≡ false → i.placeholder ≡ true → IsOfKind s.link.remote rid false
     → NamesWell s.link.remote i.directory i.placeholder (identity_for i.directory rid version) × (base_named s.link.remote (identity_for i.directory rid version) ≡ put_bytes (base_bytes s.link.remote i) e.number i.writes)
-put_well s e rid version i fair made file placed =
+put_well s e rid version i fair made file placed kind =
     subst (λ (d : Bool). NamesWell s.link.remote d i.placeholder (identity_for d rid version) × (base_named s.link.remote (identity_for d rid version) ≡ put_bytes (base_bytes s.link.remote i) e.number i.writes)) (sym file) (
-      subst (λ (p : Bool). NamesWell s.link.remote false p (identity_of rid rid version)) (sym placed) (file_well s.link.remote (identity_of rid rid version) (inr (put_bytes (base_bytes s.link.remote i) e.number i.writes, made_read s.link.remote rid rid version (put_bytes (base_bytes s.link.remote i) e.number i.writes) fair.1 made))),
+      subst (λ (p : Bool). NamesWell s.link.remote false p (identity_of rid rid version)) (sym placed) (file_well s.link.remote rid version (fair.1.1 rid version (put_bytes (base_bytes s.link.remote i) e.number i.writes) made).0 kind (inr (put_bytes (base_bytes s.link.remote i) e.number i.writes, made_read s.link.remote rid rid version (put_bytes (base_bytes s.link.remote i) e.number i.writes) fair.1 made))),
       made_named s.link.remote rid rid version (put_bytes (base_bytes s.link.remote i) e.number i.writes) fair.1 made,
     )
 
@@ -139,16 +139,16 @@ DoneFits s e rid version i =
     × (i.directory ≡ false → ((list_all is_some i.held ≡ true) ⊎ (up_to e.number i.writes ≡ [])) × (base_named s.link.remote (identity_for i.directory rid version) ≡ put_bytes (base_bytes s.link.remote i) e.number i.writes))
 
 done_one : (a : Action) (s : State) (e : QueueEntry) (rid : Rid) (version : Version) (i : Item) → (a ≡ PutFile) ⊎ (a ≡ MakeDir) → IsFair s.link → IsSound s.link s.volatile.tokens s.filter → DoneIn s e rid version → item_of (items_now s) e.item ≡ Some i
-    → FitsBy a s.link.remote s.link.messages (items_now s) e → DoneFits s e rid version i
-done_one PutFile s e rid version i is fair sound done found fit =
+    → FitsBy a s.link.remote s.link.messages (items_now s) e → DidBy a s.link.remote.items e.rid rid → DoneFits s e rid version i
+done_one PutFile s e rid version i is fair sound done found fit did =
     let p : PutFits s.link.remote s.link.messages e i = each_at e.item (PutFits s.link.remote s.link.messages e) (items_now s) i found fit in
-    let w = put_well s e rid version i fair (p.recorded rid version done.1) p.file p.placed in
+    let w = put_well s e rid version i fair (p.recorded rid version done.1) p.file p.placed did.0 in
     (w.0, λ file. (p.here, w.1))
-done_one MakeDir s e rid version i is fair sound done found fit =
+done_one MakeDir s e rid version i is fair sound done found fit did =
     let dir : i.directory ≡ true = each_at e.item (λ i. i.directory ≡ true) (items_now s) i found fit in
-    (subst (λ (d : Bool). NamesWell s.link.remote d i.placeholder (identity_for d rid version)) (sym dir) (dir_well s.link.remote rid i.placeholder), λ file. no_way (sym file ∙ dir))
-done_one MoveItem s e rid version i is fair sound done found fit = elim is as (λ _. DoneFits s e rid version i) [ inl z ↦ cc | inr z ↦ cc ]
-done_one RemoveItem s e rid version i is fair sound done found fit = elim is as (λ _. DoneFits s e rid version i) [ inl z ↦ cc | inr z ↦ cc ]
+    (subst (λ (d : Bool). NamesWell s.link.remote d i.placeholder (identity_for d rid version)) (sym dir) (dir_well s.link.remote rid i.placeholder (small_rid s.link.remote rid true sound.counted fair.1 did) did), λ file. no_way (sym file ∙ dir))
+done_one MoveItem s e rid version i is fair sound done found fit did = elim is as (λ _. DoneFits s e rid version i) [ inl z ↦ cc | inr z ↦ cc ]
+done_one RemoveItem s e rid version i is fair sound done found fit did = elim is as (λ _. DoneFits s e rid version i) [ inl z ↦ cc | inr z ↦ cc ]
 
 pub rebase_at : (P : State → Type 0) → Guarded P → (e : QueueEntry) (rid : Rid) (version : Version) (i : Item) (s : State) → (IsFair s.link → DoneFits s e rid version i × DoneIn s e rid version × (item_of (items_now s) e.item ≡ Some i)) → P s
     → Keeps P (rebase e (rebase_of e rid version i) s)
@@ -194,7 +194,7 @@ upload_done_at P closed e rid version s is done h = by (item_of (items_now s) e.
   by (Some i) f =
       rebase_at P closed e rid version i s
       (λ fair. let sound : IsSound s.link s.volatile.tokens s.filter = (closed.on_filter s h).sound s.filter h fair in
-      (done_one e.action s e rid version i is fair sound (done fair) f (all_found (EntryFits s.link.remote s.link.messages (items_now s)) (λ q. same_key q.token.0 e.token.0) (book_now s).entries e (done fair).0 sound.now.fit).0, done fair, f)) h
+      (done_one e.action s e rid version i is fair sound (done fair) f (all_found (EntryFits s.link.remote s.link.messages (items_now s)) (λ q. same_key q.token.0 e.token.0) (book_now s).entries e (done fair).0 sound.now.fit).0 ((all_found (IsAskedFor s.link.remote s.link.messages) (λ q. same_key q.token.0 e.token.0) (book_now s).entries e (done fair).0 sound.now.asked).0.did rid version (done fair).1), done fair, f)) h
 
 -- the path of a Move that was done comes to be seen
 done_move_at : (P : State → Type 0) → Guarded P → (e : QueueEntry) (s : State) → e.action ≡ MoveItem → (IsFair s.link → entry_of (book_now s) e.token ≡ Some e) → P s → Keeps P (done_move e s)

@@ -211,7 +211,7 @@ upload_new_at P closed entering i s there alone h = by i.placeholder refl where
   of j e = cc
 
   fits : i.placeholder ≡ false → IsFair s.link → Fits s.link.remote s.filter (change.Convert i.id no_identity)
-  fits bare fair = each_found i.id (λ j. SameBase no_identity j.identity) 0 s.filter.volume.next_item.0 (items_now s) i (sound_of P closed s h fair).now.order there (both_none no_identity i.identity none_none (two i.directory refl)) where
+  fits bare fair = (each_found i.id (λ j. SameBase no_identity j.identity) 0 s.filter.volume.next_item.0 (items_now s) i (sound_of P closed s h fair).now.order there (both_none no_identity i.identity none_none (two i.directory refl)), refl) where
     right : IsRight s.link.remote (next_number s.filter.volume) i
     right = right_of s i (sound_of P closed s h fair) there
 

@@ -1,5 +1,5 @@
 -- What grows in a remote by a request, and what was told of it stays true.
-use Rattle.std.proofs.Common.{◌≡◌, ◌⊎◌, ◌≤◌, ◌+◌, ◌-◌, ℕ, Bool, true, false, List, [], ◌∷◌, ◌++◌, refl, ◌∙◌, ap, inl, inr, arith, length}
+use Rattle.std.proofs.Common.{◌≡◌, ◌⊎◌, ◌≤◌, ◌+◌, ◌-◌, ℕ, Bool, true, false, List, [], ◌∷◌, ◌++◌, refl, ◌∙◌, ap, inl, inr, arith, length, subst}
 use Rattle.std.specs.Prelude.{Option, Some, None, cond, map, max, ◌==◌}
 use Rattle.cf_base.specs.declared.ids.Rid.{Rid}
 use Rattle.cf_base.specs.declared.ids.Token.{Token}
@@ -11,8 +11,8 @@ use Rattle.cf_base.specs.declared.messages.Request.{Request}
 use Rattle.cf_base.specs.declared.messages.Request.TheVariants as request
 use Rattle.cf_base.specs.declared.messages.Why.{Why}
 use Rattle.cf_model.specs.Growth.{Extends}
-use Rattle.cf_model.specs.Store.{Held, Mutation, Recorded, RecordedDone, Stored, at_rid, bytes_of, decide, keep_last, latest, make_dir, move_to, mutate, put_new, put_version, recorded_at, remote_step, remove_at, settle, stored_at, trimmed}
-use Rattle.cf_model_laws.specs.Invariant.{HasEntry, IsOfKind, TellsBytes, TellsTruth}
+use Rattle.cf_model.specs.Store.{Held, Mutation, Recorded, RecordedDone, Stored, at_rid, bytes_of, decide, keep_last, latest, make_dir, move_to, mutate, put_new, put_version, recorded_at, remote_step, remove_at, settle, stored_at, trimmed, with_version}
+use Rattle.cf_model_laws.specs.Invariant.{HasEntry, IsIn, IsOfKind, TellsBytes, TellsTruth}
 use Rattle.cf_model_laws.proofs.Gathered.{all_weaker}
 use Rattle.cf_model_laws.proofs.RemoteSteps.{items_grow, none_some}
 
@@ -48,70 +48,99 @@ clock_rises held (request.Keep token count) = by (recorded_at held.tokens token)
   by (Some r) = clock_still held.clock
   by None = clock_still held.clock
 
--- kinds
+-- what no request takes from an item
 
--- one of these items is this one, of this kind
-abbrev IsKindIn : List Stored → Rid → Bool → Type 0
-IsKindIn ss rid d = (s : Stored) × (stored_at ss rid ≡ Some s) × (s.directory ≡ d)
+pub record Stays (Q : Stored → Type 0) : Type 0 where
+  pub trims : (keep : Option ℕ) (s : Stored) → Q s → Q (trimmed keep s)
+  pub writes : (versions : List (List ℕ)) (changed : ℕ) (s : Stored) → Q s → Q (record s { versions = versions; changed = changed })
+  pub moves : (parent : Rid) (name : List ℕ) (changed : ℕ) (s : Stored) → Q s → Q (record s { parent = parent; name = name; changed = changed })
+  pub dies : (changed : ℕ) (s : Stored) → Q s → Q (record s { live = false; changed = changed })
 
--- items that are changed keep their rids and kinds
-kind_mapped : (f : Stored → Stored) → ((s : Stored) → ((f s).rid ≡ s.rid) × ((f s).directory ≡ s.directory)) → (ss : List Stored) (rid : Rid) (d : Bool) → IsKindIn ss rid d → IsKindIn (map f ss) rid d
-kind_mapped f same [] rid d h = none_some h.0 h.1
-kind_mapped f same (s ∷ ss) rid d h = by (s.rid.0 == rid.0) refl h (kind_mapped f same ss rid d) where
-  some : (a b : Stored) → ◌≡◌ {A = Option Stored} (Some a) (Some b) → a ≡ b
+in_mapped : (Q : Stored → Type 0) (f : Stored → Stored) → ((s : Stored) → (f s).rid ≡ s.rid) → ((s : Stored) → Q s → Q (f s)) → (ss : List Stored) (rid : Rid) → IsIn Q ss rid → IsIn Q (map f ss) rid
+in_mapped Q f same k [] rid h = none_some h.0 h.1
+in_mapped Q f same k (s ∷ ss) rid h = by (s.rid.0 == rid.0) refl h (in_mapped Q f same k ss rid) where
+  some : (a b : Stored) → ◌≡◌ {A = Option Stored} (Some a) (Some b) → b ≡ a
   some a b e = cc
 
-  by : (b : Bool) → (s.rid.0 == rid.0) ≡ b → ((t : Stored) × (cond b (Some s) (stored_at ss rid) ≡ Some t) × (t.directory ≡ d)) → (IsKindIn ss rid d → IsKindIn (map f ss) rid d) → IsKindIn (f s ∷ map f ss) rid d
-  by true q k more = (f s, ap (λ (c : Bool). cond c (Some (f s)) (stored_at (map f ss) rid)) (ap (λ (x : Rid). x.0 == rid.0) (same s).0 ∙ q), (same s).1 ∙ ap (λ (x : Stored). x.directory) (some s k.0 k.1) ∙ k.2)
-  by false q k more = ((more k).0, ap (λ (c : Bool). cond c (Some (f s)) (stored_at (map f ss) rid)) (ap (λ (x : Rid). x.0 == rid.0) (same s).0 ∙ q) ∙ (more k).1, (more k).2)
+  by : (b : Bool) → (s.rid.0 == rid.0) ≡ b → ((t : Stored) × (cond b (Some s) (stored_at ss rid) ≡ Some t) × Q t) → (IsIn Q ss rid → IsIn Q (map f ss) rid) → IsIn Q (f s ∷ map f ss) rid
+  by true q j more = (f s, ap (λ (c : Bool). cond c (Some (f s)) (stored_at (map f ss) rid)) (ap (λ (x : Rid). x.0 == rid.0) (same s) ∙ q), k s (subst Q (some s j.0 j.1) j.2))
+  by false q j more = ((more j).0, ap (λ (c : Bool). cond c (Some (f s)) (stored_at (map f ss) rid)) (ap (λ (x : Rid). x.0 == rid.0) (same s) ∙ q) ∙ (more j).1, (more j).2)
 
-kind_more : (ss : List Stored) (t : Stored) (rid : Rid) (d : Bool) → IsKindIn ss rid d → IsKindIn (ss ++ t ∷ []) rid d
-kind_more [] t rid d h = none_some h.0 h.1
-kind_more (s ∷ ss) t rid d h = by (s.rid.0 == rid.0) h (kind_more ss t rid d) where
-  by : (b : Bool) → ((u : Stored) × (cond b (Some s) (stored_at ss rid) ≡ Some u) × (u.directory ≡ d)) → (IsKindIn ss rid d → IsKindIn (ss ++ t ∷ []) rid d) → (u : Stored) × (cond b (Some s) (stored_at (ss ++ t ∷ []) rid) ≡ Some u) × (u.directory ≡ d)
-  by true k more = k
-  by false k more = more k
+in_more : (Q : Stored → Type 0) (ss : List Stored) (t : Stored) (rid : Rid) → IsIn Q ss rid → IsIn Q (ss ++ t ∷ []) rid
+in_more Q [] t rid h = none_some h.0 h.1
+in_more Q (s ∷ ss) t rid h = by (s.rid.0 == rid.0) h (in_more Q ss t rid) where
+  by : (b : Bool) → ((u : Stored) × (cond b (Some s) (stored_at ss rid) ≡ Some u) × Q u) → (IsIn Q ss rid → IsIn Q (ss ++ t ∷ []) rid) → (u : Stored) × (cond b (Some s) (stored_at (ss ++ t ∷ []) rid) ≡ Some u) × Q u
+  by true j more = j
+  by false j more = more j
 
-trimmed_kind : (keep : Option ℕ) (s : Stored) → ((trimmed keep s).rid ≡ s.rid) × ((trimmed keep s).directory ≡ s.directory)
-trimmed_kind None s = (refl, refl)
-trimmed_kind (Some n) s = by s.directory where
-  by : (b : Bool) → ((cond b s (record s { least = max s.least (latest s + 1 - n) })).rid ≡ s.rid) × ((cond b s (record s { least = max s.least (latest s + 1 - n) })).directory ≡ s.directory)
-  by true = (refl, refl)
-  by false = (refl, refl)
+trimmed_rid : (keep : Option ℕ) (s : Stored) → (trimmed keep s).rid ≡ s.rid
+trimmed_rid None s = refl
+trimmed_rid (Some n) s = by s.directory where
+  by : (b : Bool) → (cond b s (record s { least = max s.least (latest s + 1 - n) })).rid ≡ s.rid
+  by true = refl
+  by false = refl
 
--- one item is changed, with its rid and kind as they were
-kind_at : (at : Rid) (f : Stored → Stored) → ((s : Stored) → ((f s).rid ≡ s.rid) × ((f s).directory ≡ s.directory)) → (ss : List Stored) (rid : Rid) (d : Bool) → IsKindIn ss rid d → IsKindIn (at_rid at f ss) rid d
-kind_at at f same ss rid d h = kind_mapped (λ s. cond (s.rid.0 == at.0) (f s) s) (λ s. by s (s.rid.0 == at.0)) ss rid d h where
-  by : (s : Stored) (b : Bool) → ((cond b (f s) s).rid ≡ s.rid) × ((cond b (f s) s).directory ≡ s.directory)
+pub in_at : (Q : Stored → Type 0) (at : Rid) (f : Stored → Stored) → ((s : Stored) → (f s).rid ≡ s.rid) → ((s : Stored) → Q s → Q (f s)) → (ss : List Stored) (rid : Rid) → IsIn Q ss rid → IsIn Q (at_rid at f ss) rid
+in_at Q at f same k ss rid h = in_mapped Q (λ s. cond (s.rid.0 == at.0) (f s) s) (λ s. by s (s.rid.0 == at.0)) (λ s. also s (s.rid.0 == at.0)) ss rid h where
+  by : (s : Stored) (b : Bool) → (cond b (f s) s).rid ≡ s.rid
   by s true = same s
-  by s false = (refl, refl)
+  by s false = refl
 
-kind_mutated : (held : Held) (token : Token) (m : Mutation) (o : Option Recorded) (rid : Rid) (d : Bool) → (IsKindIn held.items rid d → IsKindIn m.items rid d) → IsOfKind held rid d → IsOfKind (mutate held token m o).1 rid d
-kind_mutated held token m (Some r) rid d k h = h
-kind_mutated held token m None rid d k h = by m.refusal where
-  by : (w : Option Why) → IsOfKind (decide held token m w).1 rid d
+  also : (s : Stored) (b : Bool) → Q s → Q (cond b (f s) s)
+  also s true j = k s j
+  also s false j = j
+
+in_mutated : (Q : Stored → Type 0) (held : Held) (token : Token) (m : Mutation) (o : Option Recorded) (rid : Rid) → (IsIn Q held.items rid → IsIn Q m.items rid) → IsIn Q held.items rid → IsIn Q (mutate held token m o).1.items rid
+in_mutated Q held token m (Some r) rid k h = h
+in_mutated Q held token m None rid k h = by m.refusal where
+  by : (w : Option Why) → IsIn Q (decide held token m w).1.items rid
   by (Some w) = h
   by None = k h
 
-pub kind_stays : (held : Held) (q : Request) (rid : Rid) (d : Bool) → IsOfKind held rid d → IsOfKind (remote_step held q).1 rid d
-kind_stays held (request.Feed round after) rid d h = h
-kind_stays held (request.List key at) rid d h = h
-kind_stays held (request.Fetch key at version start len) rid d h = h
-kind_stays held (request.Put token at expect parent name bytes) rid d h = by (at.0 == 0) where
-  by : (b : Bool) → IsOfKind (mutate held token (elim b as (λ _. Mutation) [ true ↦ put_new held parent name bytes | false ↦ put_version held at expect bytes ]) (recorded_at held.tokens token)).1 rid d
-  by true = kind_mutated held token (put_new held parent name bytes) (recorded_at held.tokens token) rid d (λ k. kind_more held.items _ rid d k) h
-  by false = kind_mutated held token (put_version held at expect bytes) (recorded_at held.tokens token) rid d (λ k. kind_at at _ (λ s. trimmed_kind held.keep (record s { versions = s.versions ++ bytes ∷ []; changed = held.clock + 1 })) held.items rid d k) h
-kind_stays held (request.MakeDir token parent name) rid d h = kind_mutated held token (make_dir held parent name) (recorded_at held.tokens token) rid d (λ k. kind_more held.items _ rid d k) h
-kind_stays held (request.Move token at parent name) rid d h = kind_mutated held token (move_to held at parent name) (recorded_at held.tokens token) rid d (λ k. kind_at at _ (λ s. (refl, refl)) held.items rid d k) h
-kind_stays held (request.Remove token at expect) rid d h = kind_mutated held token (remove_at held at expect) (recorded_at held.tokens token) rid d (λ k. kind_at at _ (λ s. (refl, refl)) held.items rid d k) h
-kind_stays held (request.Settle token) rid d h = by (recorded_at held.tokens token) where
-  by : (o : Option Recorded) → IsOfKind (settle held token o).1 rid d
+pub in_version : (Q : Stored → Type 0) → Stays Q → (held : Held) (at : Rid) (bytes : List ℕ) (rid : Rid) → IsIn Q held.items rid → IsIn Q (with_version held at bytes) rid
+in_version Q stays held at bytes rid h =
+    in_at Q at (λ s. trimmed held.keep (record s { versions = s.versions ++ bytes ∷ []; changed = held.clock + 1 })) (λ s. trimmed_rid held.keep (record s { versions = s.versions ++ bytes ∷ []; changed = held.clock + 1 }))
+    (λ s j. stays.trims held.keep (record s { versions = s.versions ++ bytes ∷ []; changed = held.clock + 1 }) (stays.writes (s.versions ++ bytes ∷ []) (held.clock + 1) s j)) held.items rid h
+
+pub step_stays : (Q : Stored → Type 0) → Stays Q → (held : Held) (q : Request) (rid : Rid) → IsIn Q held.items rid → IsIn Q (remote_step held q).1.items rid
+step_stays Q stays held (request.Feed round after) rid h = h
+step_stays Q stays held (request.List key at) rid h = h
+step_stays Q stays held (request.Fetch key at version start len) rid h = h
+step_stays Q stays held (request.Put token at expect parent name bytes) rid h = by (at.0 == 0) where
+  by : (b : Bool) → IsIn Q (mutate held token (elim b as (λ _. Mutation) [ true ↦ put_new held parent name bytes | false ↦ put_version held at expect bytes ]) (recorded_at held.tokens token)).1.items rid
+  by true = in_mutated Q held token (put_new held parent name bytes) (recorded_at held.tokens token) rid (λ k. in_more Q held.items _ rid k) h
+  by false = in_mutated Q held token (put_version held at expect bytes) (recorded_at held.tokens token) rid (λ k. in_version Q stays held at bytes rid k) h
+step_stays Q stays held (request.MakeDir token parent name) rid h = in_mutated Q held token (make_dir held parent name) (recorded_at held.tokens token) rid (λ k. in_more Q held.items _ rid k) h
+step_stays Q stays held (request.Move token at parent name) rid h =
+    in_mutated Q held token (move_to held at parent name) (recorded_at held.tokens token) rid (λ k. in_at Q at (λ s. record s { parent = parent; name = name; changed = held.clock + 1 }) (λ s. refl) (λ s j. stays.moves parent name (held.clock + 1) s j) held.items rid k) h
+step_stays Q stays held (request.Remove token at expect) rid h =
+    in_mutated Q held token (remove_at held at expect) (recorded_at held.tokens token) rid (λ k. in_at Q at (λ s. record s { live = false; changed = held.clock + 1 }) (λ s. refl) (λ s j. stays.dies (held.clock + 1) s j) held.items rid k) h
+step_stays Q stays held (request.Settle token) rid h = by (recorded_at held.tokens token) where
+  by : (o : Option Recorded) → IsIn Q (settle held token o).1.items rid
   by (Some r) = h
   by None = h
-kind_stays held (request.Keep token count) rid d h = by (recorded_at held.tokens token) where
-  by : (o : Option Recorded) → IsOfKind (keep_last held token count o).1 rid d
+step_stays Q stays held (request.Keep token count) rid h = by (recorded_at held.tokens token) where
+  by : (o : Option Recorded) → IsIn Q (keep_last held token count o).1.items rid
   by (Some r) = h
-  by None = kind_mapped (trimmed (Some count)) (trimmed_kind (Some count)) held.items rid d h
+  by None = in_mapped Q (trimmed (Some count)) (trimmed_rid (Some count)) (λ s j. stays.trims (Some count) s j) held.items rid h
+
+pub kind_stays : (d : Bool) → Stays (λ s. s.directory ≡ d)
+kind_stays d = record { trims = trims; writes = λ versions changed s h. h; moves = λ parent name changed s h. h; dies = λ changed s h. h } where
+  trims : (keep : Option ℕ) (s : Stored) → s.directory ≡ d → (trimmed keep s).directory ≡ d
+  trims None s h = h
+  trims (Some n) s h = by s.directory h where
+    by : (b : Bool) → s.directory ≡ d → (cond b s (record s { least = max s.least (latest s + 1 - n) })).directory ≡ d
+    by true h = h
+    by false h = h
+
+pub dead_stays : Stays (λ s. s.live ≡ false)
+dead_stays = record { trims = trims; writes = λ versions changed s h. h; moves = λ parent name changed s h. h; dies = λ changed s h. refl } where
+  trims : (keep : Option ℕ) (s : Stored) → s.live ≡ false → (trimmed keep s).live ≡ false
+  trims None s h = h
+  trims (Some n) s h = by s.directory where
+    by : (b : Bool) → (cond b s (record s { least = max s.least (latest s + 1 - n) })).live ≡ false
+    by true = h
+    by false = h
 
 -- what grows in a remote: the count of its items and its clock; a kind stays
 pub record GrowsTo (old new : Held) : Type 0 where
@@ -120,7 +149,7 @@ pub record GrowsTo (old new : Held) : Type 0 where
   pub kinds : (rid : Rid) (directory : Bool) → IsOfKind old rid directory → IsOfKind new rid directory
 
 pub step_grows : (held : Held) (q : Request) → GrowsTo held (remote_step held q).1
-step_grows held q = record { longer = items_grow held q; later = clock_rises held q; kinds = kind_stays held q }
+step_grows held q = record { longer = items_grow held q; later = clock_rises held q; kinds = λ rid d h. step_stays (λ s. s.directory ≡ d) (kind_stays d) held q rid h }
 
 -- what was told stays true
 

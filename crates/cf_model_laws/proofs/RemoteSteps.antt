@@ -5,23 +5,21 @@ use Rattle.std.specs.List.{flat_map}
 use Rattle.cf_base.specs.declared.ids.Rid.{Rid}
 use Rattle.cf_base.specs.declared.ids.Token.{Token}
 use Rattle.cf_base.specs.declared.ids.Version.{Version}
-use Rattle.cf_base.specs.declared.messages.Entry.{Entry}
-use Rattle.cf_base.specs.declared.messages.Reply.{Reply}
 use Rattle.cf_base.specs.declared.messages.Reply.TheVariants as reply
 use Rattle.cf_base.specs.declared.messages.Request.{Request}
 use Rattle.cf_base.specs.declared.messages.Request.TheVariants as request
 use Rattle.cf_base.specs.declared.messages.Why.{Why}
-use Rattle.cf_model.specs.Growth.{CountsFrom, Extends, IsCounted, NamesBytes}
+use Rattle.cf_model.specs.Growth.{CountsFrom, IsCounted, NamesBytes}
 use Rattle.cf_model.specs.Numbers.{no_version, root_rid, same_key}
-use Rattle.cf_model.specs.Store.{Held, Mutation, at_rid, with_dead, with_new, with_place, with_version, Recorded, RecordedDone, RecordedVoid, Stored, as_recorded, bytes_of, bytes_told, decide, depth_of, entry_told, feed_of, is_held, is_live_dir, keep_last, latest, len_of, listing_of, make_dir, move_to, mutate, put_new, put_version, recorded_at, remote_step, remove_at, stored_at, trimmed, version_bytes, version_told, with_token}
+use Rattle.cf_model.specs.Store.{Held, Mutation, at_rid, with_dead, with_new, with_place, with_version, Recorded, RecordedDone, RecordedVoid, Stored, bytes_of, bytes_told, decide, depth_of, entry_told, feed_of, is_held, is_live_dir, keep_last, latest, len_of, listing_of, make_dir, move_to, mutate, put_new, put_version, recorded_at, remote_step, remove_at, stored_at, trimmed, version_bytes, with_token}
 use Rattle.cf_model.specs.Store as store
 use Rattle.std.proofs.lemmas.List.{length-append, length-map}
 use Rattle.cf_model.specs.Words.{comes_before, counting, last_of}
 use Rattle.cf_model.proofs.ReplyLaws.{put_names}
 use Rattle.cf_model.proofs.StoreLaws.{recorded-first, same_key-refl}
 use Rattle.std.proofs.lemmas.Bool.{eqb-true}
-use Rattle.cf_model_laws.specs.Invariant.{All, Carries, HasEntry, IsWithNoToken, IsWithToken, TellsBytes, TellsTruth}
-use Rattle.cf_model_laws.proofs.Gathered.{all_append, all_both, all_filter, all_flat, all_map, all_sorted, all_weaker}
+use Rattle.cf_model_laws.specs.Invariant.{All, Carries, HasEntry, IsIn, IsWithNoToken, IsWithToken, TellsBytes, TellsTruth}
+use Rattle.cf_model_laws.proofs.Gathered.{all_found as all_one, all_append, all_both, all_filter, all_flat, all_map, all_sorted, all_weaker}
 use Rattle.cf_model_laws.proofs.SoundSettles.{left_true, right_true}
 
 pub none_some : {A : Type 0} {B : Type 0} (x : A) → ◌≡◌ {A = Option A} None (Some x) → B
@@ -50,14 +48,14 @@ mutated_names : (held : Held) (token : Token) (m : Mutation) (bytes : List ℕ) 
 mutated_names held token m bytes (Some r) e h = let z : None ≡ Some r = sym e in none_some r z
 mutated_names held token m bytes None e h = decided_names held token m bytes m.refusal h
 
-other_first : (ts : List (Token × Recorded)) (t token : Token) (new : Recorded) → same_key t.0 token.0 ≡ false → recorded_at ((t, new) ∷ ts) token ≡ recorded_at ts token
+pub other_first : (ts : List (Token × Recorded)) (t token : Token) (new : Recorded) → same_key t.0 token.0 ≡ false → recorded_at ((t, new) ∷ ts) token ≡ recorded_at ts token
 other_first ts t token new e = rw e refl
 
 decided_other : (held : Held) (t token : Token) (m : Mutation) (w : Option Why) → same_key t.0 token.0 ≡ false → recorded_at (decide held t m w).1.tokens token ≡ recorded_at held.tokens token
 decided_other held t token m (Some w) e = other_first held.tokens t token RecordedVoid e
 decided_other held t token m None e = other_first held.tokens t token (RecordedDone m.rid m.version) e
 
-mutated_other : (held : Held) (t token : Token) (m : Mutation) (o : Option Recorded) → same_key t.0 token.0 ≡ false → recorded_at (mutate held t m o).1.tokens token ≡ recorded_at held.tokens token
+pub mutated_other : (held : Held) (t token : Token) (m : Mutation) (o : Option Recorded) → same_key t.0 token.0 ≡ false → recorded_at (mutate held t m o).1.tokens token ≡ recorded_at held.tokens token
 mutated_other held t token m (Some r) e = refl
 mutated_other held t token m None e = decided_other held t token m m.refusal e
 
@@ -185,6 +183,11 @@ all_under n (s ∷ ss) c = (here s.rid.0 n (length ss) c.0, all_weaker (λ t. t.
 
   there : (a n k : ℕ) → a + 1 ≤ n + 1 + k → a + 1 ≤ n + suc k
   there a n k h = omega (arith, h)
+
+pub kind_under : (items : List Stored) (rid : Rid) (d : Bool) → CountsFrom 1 items → IsIn (λ s. s.directory ≡ d) items rid → rid.0 + 1 ≤ 1 + length items
+kind_under items rid d c h =
+    let k : (h.0.rid.0 + 1 ≤ 1 + length items) × ((h.0.rid.0 == rid.0) ≡ true) = all_one (λ s. s.rid.0 + 1 ≤ 1 + length items) (λ s. s.rid.0 == rid.0) items h.0 h.1 (all_under 1 items c) in
+    subst (λ (n : ℕ). n + 1 ≤ 1 + length items) (eqb-true h.0.rid.0 rid.0 k.1) k.0
 
 told_one : (held : Held) (s : Stored) → Found held.items s → 1 ≤ s.rid.0 → s.rid.0 ≤ length held.items → HasEntry held (entry_told s)
 told_one held s found some below = (some, below, (λ file. by (last_told s.versions)), (s, found, refl)) where

@@ -15,7 +15,7 @@ use Rattle.cf_model.specs.State.{Filter}
 use Rattle.cf_model.specs.Store.{Held, bytes_of, stored_at, version_bytes}
 use Rattle.cf_model.specs.Words.{number_of}
 use Rattle.cf_model.proofs.ContentItems.{drop-more, no-version}
-use Rattle.cf_model_laws.specs.Invariant.{All, AllUpTo, HasBase, HasNone, IsRightOf, SameBase, rid_in, version_in}
+use Rattle.cf_model_laws.specs.Invariant.{All, AllUpTo, HasBase, HasNone, IsRightOf, SameBase, rid_in, version_in, target_in}
 use Rattle.cf_model_laws.specs.Fitting.{Fits, Meets, NamesWell}
 use Rattle.cf_model_laws.proofs.Gathered.{all_append, all_filter, all_weaker}
 
@@ -142,6 +142,7 @@ pub stays_right : (r : Held) (next after : Usn) (id : ℕ) (directory placeholde
     → above after next ≡ true → IsRightOf r next id directory placeholder identity in_sync number ws → IsRightOf r after id directory placeholder identity in_sync number ws
 stays_right r next after id directory placeholder identity in_sync number ws e h = record {
   based = h.based;
+  aimed = h.aimed;
   rises = h.rises;
   last = h.last;
   early = above_then after next number e h.early;
@@ -156,6 +157,7 @@ pub numbered_right : (r : Held) (next after : Usn) (id : ℕ) (directory placeho
     → above after next ≡ true → IsRightOf r next id directory placeholder identity in_sync number ws → IsRightOf r after id directory placeholder identity false next ws
 numbered_right r next after id directory placeholder identity in_sync number ws e h = record {
   based = h.based;
+  aimed = h.aimed;
   rises = h.rises;
   last = up_to_next next number ws h.early h.last;
   early = e;
@@ -169,6 +171,7 @@ pub written_right : (r : Held) (next after : Usn) (id : ℕ) (directory placehol
     → w.number ≡ next → above after next ≡ true → IsRightOf r next id directory placeholder identity in_sync number ws → IsRightOf r after id directory placeholder identity false next (ws ++ w ∷ [])
 written_right r next after id directory placeholder identity in_sync number ws w is e h = record {
   based = h.based;
+  aimed = h.aimed;
   rises = rises_more no_usn next ws w is (above_none next number h.early) (all_under next number ws h.early h.last) h.rises;
   last = all_append (λ v. above v.number next ≡ false) ws (w ∷ []) (up_to_next next number ws h.early h.last) (subst (λ (x : Usn). above x next ≡ false) (sym is) (above_self next), tt);
   early = e;
@@ -182,6 +185,7 @@ pub marked_right : (r : Held) (next after : Usn) (id : ℕ) (directory placehold
     → above after next ≡ true → IsRightOf r next id directory placeholder identity in_sync number ws → IsRightOf r after id directory placeholder identity true number []
 marked_right r next after id directory placeholder identity in_sync number ws e h = record {
   based = h.based;
+  aimed = h.aimed;
   rises = tt;
   last = tt;
   early = above_then after next number e h.early;
@@ -195,6 +199,7 @@ pub cleared_right : (r : Held) (next after : Usn) (id : ℕ) (directory placehol
     → above after next ≡ true → IsRightOf r next id directory placeholder identity in_sync number ws → IsRightOf r after id directory placeholder identity false number ws
 cleared_right r next after id directory placeholder identity in_sync number ws e h = record {
   based = h.based;
+  aimed = h.aimed;
   rises = h.rises;
   last = h.last;
   early = above_then after next number e h.early;
@@ -205,9 +210,10 @@ cleared_right r next after id directory placeholder identity in_sync number ws e
 }
 
 pub converted_right : (r : Held) (next after : Usn) (id : ℕ) (directory placeholder : Bool) (identity new : List ℕ) (in_sync : Bool) (number : Usn) (ws : List Written)
-    → SameBase new identity → above after next ≡ true → IsRightOf r next id directory placeholder identity in_sync number ws → IsRightOf r after id directory true new false next ws
-converted_right r next after id directory placeholder identity new in_sync number ws same e h = record {
+    → SameBase new identity → (target_in new).0 ≡ 0 → above after next ≡ true → IsRightOf r next id directory placeholder identity in_sync number ws → IsRightOf r after id directory true new false next ws
+converted_right r next after id directory placeholder identity new in_sync number ws same away e h = record {
   based = same_based r new identity same h.based;
+  aimed = inl away;
   rises = h.rises;
   last = up_to_next next number ws h.early h.last;
   early = e;
@@ -221,6 +227,7 @@ pub rebased_right : (r : Held) (next after : Usn) (id : ℕ) (directory placehol
     → NamesWell r directory placeholder new → above after next ≡ true → IsRightOf r next id directory placeholder identity in_sync number ws → IsRightOf r after id directory placeholder new in_sync number (later_than at ws)
 rebased_right r next after id directory placeholder identity new in_sync number at ws well e h = record {
   based = well.based;
+  aimed = well.aimed;
   rises = rises_later at no_usn ws h.rises;
   last = all_filter (λ w. above w.number number ≡ false) (λ w. above w.number at) ws h.last;
   early = above_then after next number e h.early;
@@ -234,6 +241,7 @@ pub took_right : (r : Held) (next after : Usn) (id : ℕ) (directory placeholder
     → NamesWell r directory placeholder new → above after next ≡ true → IsRightOf r next id directory placeholder identity in_sync number ws → IsRightOf r after id directory placeholder new false next []
 took_right r next after id directory placeholder identity new in_sync number ws well e h = record {
   based = well.based;
+  aimed = well.aimed;
   rises = tt;
   last = tt;
   early = e;
@@ -247,6 +255,7 @@ pub copied_right : (r : Held) (next after : Usn) (id new : ℕ) (directory place
     → w.number ≡ next → 2 ≤ new → above after next ≡ true → IsRightOf r next id directory placeholder identity in_sync number ws → IsRightOf r after new directory true (untargeted identity) false next (ws ++ w ∷ [])
 copied_right r next after id new directory placeholder identity in_sync number ws w is large e h = record {
   based = same_based r (untargeted identity) identity (untargeted_same identity) h.based;
+  aimed = inl refl;
   rises = rises_more no_usn next ws w is (above_none next number h.early) (all_under next number ws h.early h.last) h.rises;
   last = all_append (λ v. above v.number next ≡ false) ws (w ∷ []) (up_to_next next number ws h.early h.last) (subst (λ (x : Usn). above x next ≡ false) (sym is) (above_self next), tt);
   early = e;
@@ -263,6 +272,7 @@ pub made_right : (r : Held) (next after : Usn) (new : ℕ) (directory placeholde
     → NamesWell r directory placeholder identity → RisesFrom no_usn ws → AllUpTo next ws → 2 ≤ new → above after next ≡ true → IsRightOf r after new directory placeholder identity false next ws
 made_right r next after new directory placeholder identity ws well rises last large e = record {
   based = well.based;
+  aimed = well.aimed;
   rises = rises;
   last = last;
   early = e;

@@ -18,12 +18,12 @@ use Rattle.cf_model.specs.Items.{Item, is_dirty, item_of}
 use Rattle.cf_model.specs.Logs.{next_by}
 use Rattle.cf_model.specs.Numbers.{same_usn}
 use Rattle.cf_model.specs.Overlay.{Written}
-use Rattle.cf_model.specs.Skips.{cursor_unless, do_change, in_book, is_cursor, is_markable, is_there, left_out, may_mark, move_off, not_done, number_of_item, occupant, skip, skip_line, skipped, to_conflict, tried, try_book, try_change, try_clear_name, try_cursor, try_mark, try_mark_now, try_seen, why_no_change, why_no_record, with_book}
+use Rattle.cf_model.specs.Skips.{do_change, in_book, is_cursor, is_markable, is_there, left_out, may_mark, move_off, not_done, number_of_item, occupant, skip, skip_line, skipped, to_conflict, tried, try_book, try_change, try_clear_name, try_cursor, try_mark, try_mark_now, try_seen, why_no_change, why_no_record, with_book}
 use Rattle.cf_model.specs.State.{State, Volume, book_now, items_now, with_filter}
 use Rattle.cf_model.specs.Points.{with_room_point}
 use Rattle.cf_model.specs.Trees.{Asked, Fork, Keeps, Ret, Step, Tree, bind}
 use Rattle.cf_model.specs.Words.{is_empty, says}
-use Rattle.cf_model.proofs.ArrowLaws.{keeps_noted, keeps_only_if, keeps_reading, keeps_ret, keeps_seq}
+use Rattle.cf_model.proofs.ArrowLaws.{keeps_noted, keeps_reading, keeps_ret, keeps_seq}
 use Rattle.cf_model.proofs.TreeLaws.{keeps_bind, keeps_mapped}
 use Rattle.cf_model_laws.specs.Fitting.{Fits, NoEntry, NoMove, Touches}
 use Rattle.cf_model_laws.specs.Invariant.{All, InOrder, IsSound}

@@ -22,7 +22,7 @@ use Rattle.cf_model.specs.Requests.{Live}
 use Rattle.cf_model.specs.State.{Point}
 use Rattle.cf_model.specs.Store.{Held}
 use Rattle.cf_model_laws.specs.GivenOnce.{WasGiven}
-use Rattle.cf_model_laws.specs.Invariant.{All, AreApart, EntryFits, IsDurable, IsEntryOf, IsGivenIn, IsMessageRight, IsPointRight, IsSoundOf, NoItem}
+use Rattle.cf_model_laws.specs.Invariant.{All, AreApart, EntryFits, IsDurable, IsEntryOf, IsGivenIn, IsMessageRight, IsPointRight, IsSoundOf, NoItem, IsAskedFor}
 use Rattle.cf_model_laws.proofs.Gathered.{all_append, all_filter, all_weaker}
 use Rattle.cf_model_laws.proofs.OnceLaws.{later}
 use Rattle.cf_model_laws.proofs.SoundChanges.{durable_later}
@@ -47,6 +47,7 @@ apart_fewer p (e ∷ es) h = by (p e) (apart_fewer p es h.1) where
 pub record EnteredWell (r : Held) (ms : List (Option Frame)) (epoch tokens : ℕ) (n : Usn) (next_item : ℕ) (items : List Item) (es : List QueueEntry) (e : QueueEntry) : Type 0 where
   pub fits : EntryFits r ms items e
   pub entry : IsEntryOf n next_item epoch tokens e
+  pub asked : IsAskedFor r ms e
   pub apart : All (λ f. f.item.0 ≡ e.item.0 → f.item.0 ≡ 0) es
 
 pub durable_entered : (r : Held) (ms : List (Option Frame)) (epoch tokens : ℕ) (n : Usn) (next_item : ℕ) (items : List Item) (es : List QueueEntry) (e : QueueEntry) → EnteredWell r ms epoch tokens n next_item items es e
@@ -58,6 +59,7 @@ durable_entered r ms epoch tokens n next_item items es e well h = record {
   more = h.more;
   fit = all_append (EntryFits r ms items) es (e ∷ []) h.fit (well.fits, tt);
   given = all_append (IsEntryOf n next_item epoch tokens) es (e ∷ []) h.given (well.entry, tt);
+  asked = all_append (IsAskedFor r ms) es (e ∷ []) h.asked (well.asked, tt);
   apart = apart_more es e well.apart h.apart;
 }
 
@@ -70,6 +72,7 @@ durable_fewer r ms epoch tokens n next_item items p es h = record {
   more = h.more;
   fit = all_filter (EntryFits r ms items) p es h.fit;
   given = all_filter (IsEntryOf n next_item epoch tokens) p es h.given;
+  asked = all_filter (IsAskedFor r ms) p es h.asked;
   apart = apart_fewer p es h.apart;
 }
 
@@ -126,6 +129,7 @@ durable_tokens r ms n next epoch tokens more items es k h = record {
   order = h.order;
   more = h.more;
   fit = h.fit;
+  asked = h.asked;
   apart = h.apart;
   given = all_weaker (IsEntryOf n next epoch tokens) (IsEntryOf n next epoch more) (λ q g. record { early = g.early; token = later epoch epoch tokens more q.token.0 (inr (refl, k)) g.token; own = g.own; item = g.item }) es h.given;
 }

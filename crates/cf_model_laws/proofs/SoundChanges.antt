@@ -56,6 +56,7 @@ durable_later r ms n after next epoch tokens e t items es a k h = record {
   more = h.more;
   fit = h.fit;
   given = all_weaker (IsEntryOf n next epoch tokens) (IsEntryOf after next e t) (entry_later n after next next epoch tokens e t a (same next) k) es h.given;
+  asked = h.asked;
   apart = h.apart;
 }
   where
@@ -93,6 +94,7 @@ durable_effect r ms x c n after epoch tokens some a fit h = record {
   more = least (grows x.volume.next_item.0 (next_by c)) h.more;
   fit = effect_entries r ms x c n epoch tokens fit h.right h.given h.fit;
   given = all_weaker (IsEntryOf n x.volume.next_item.0 epoch tokens) (IsEntryOf after (max x.volume.next_item.0 (next_by c)) epoch tokens) (entry_later n after x.volume.next_item.0 (max x.volume.next_item.0 (next_by c)) epoch tokens epoch tokens a (grows x.volume.next_item.0 (next_by c)) (inr (refl, same tokens))) x.volume.book.entries h.given;
+  asked = h.asked;
   apart = h.apart;
 }
   where

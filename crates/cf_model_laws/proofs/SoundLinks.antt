@@ -1,5 +1,5 @@
 -- Requests and messages keep the whole sound.
-use Rattle.std.proofs.Common.{◌≡◌, ◌⊎◌, ◌≤◌, ℕ, zero, suc, Bool, true, List, [], ◌∷◌, ◌++◌, refl, sym, ◌∙◌, ap, subst, inl, inr, length, take}
+use Rattle.std.proofs.Common.{◌≡◌, ◌⊎◌, ◌≤◌, ℕ, zero, suc, Bool, true, List, [], ◌∷◌, ◌++◌, refl, sym, ◌∙◌, ap, subst, inl, inr, take}
 use Rattle.std.specs.Prelude.{Option, Some, None, slice_get, unwrap_or}
 use Rattle.cf_base.specs.declared.changes.Change.{Change}
 use Rattle.cf_base.specs.declared.ids.ItemId.{ItemId}
@@ -29,12 +29,13 @@ use Rattle.cf_model.specs.Words.{part}
 use Rattle.cf_model.proofs.ContentItems.{no-version}
 use Rattle.cf_model.proofs.StoreLaws.{step_counts, step_extends}
 use Rattle.cf_model_laws.specs.GivenOnce.{WasGiven}
-use Rattle.cf_model_laws.specs.Invariant.{All, AreTrueTo, Carries, EntryFits, FitsBy, HasBase, IsDurable, IsEntryOf, IsLiveRight, IsMessageRight, IsPointRight, IsRight, IsSoundOf, Names, OfRequest, PutFits, message_in, put_bytes, rid_in, version_in}
+use Rattle.cf_model_laws.specs.Invariant.{All, AreTrueTo, Carries, EntryFits, FitsBy, HasBase, IsDurable, IsEntryOf, IsLiveRight, IsMessageRight, IsPointRight, IsRight, IsSoundOf, Names, OfRequest, PutFits, message_in, put_bytes, rid_in, version_in, Asks, DidBy, IsAskedFor, IsAimed, target_in}
 use Rattle.cf_model_laws.proofs.FitAsks.{of_request}
 use Rattle.cf_model_laws.proofs.Gathered.{all_append, all_both, all_weaker, each_all, each_both}
 use Rattle.cf_model_laws.proofs.RemoteSteps.{HasToken, recorded_new, tokens_kept}
 use Rattle.cf_model_laws.proofs.RemoteGrowth.{GrowsTo, step_grows, still_bytes, still_true}
 use Rattle.cf_model_laws.proofs.RightItems.{none_named}
+use Rattle.cf_model_laws.proofs.EntriesAsked.{did_new, did_stays}
 
 -- a remote that grows
 
@@ -51,13 +52,18 @@ true_still r s n x [] right h = tt
 true_still r s n x (i ∷ is) right h =
     (λ e. subst (λ (b : List ℕ). over b (writes_of i) ≡ laid i.held b) (sym (base_stays r s i.identity x right.0.based)) (h.0 e), true_still r s n x is right.1 h.1)
 
-right_still : (r s : Held) (n : Usn) (i : Item) → Extends r s → IsRight r n i → IsRight s n i
-right_still r s n i x h = record { based = based_still r s i.identity x h.based; rises = h.rises; last = h.last; early = h.early; clean = h.clean; bare = h.bare; plain = h.plain; top = h.top }
+aimed_still : (r s : Held) (directory : Bool) (identity : List ℕ) → GrowsTo r s → IsAimed r directory identity → IsAimed s directory identity
+aimed_still r s directory identity g (inl e) = inl e
+aimed_still r s directory identity g (inr k) = inr (g.kinds (target_in identity) directory k.0, k.1)
+
+right_still : (r s : Held) (n : Usn) (i : Item) → Extends r s → GrowsTo r s → IsRight r n i → IsRight s n i
+right_still r s n i x g h = record { based = based_still r s i.identity x h.based; aimed = aimed_still r s i.directory i.identity g h.aimed; rises = h.rises; last = h.last; early = h.early; clean = h.clean; bare = h.bare; plain = h.plain; top = h.top }
 
 -- a request that is right about each upload on its way
 pub record AskedWell (ms : List (Option Frame)) (epoch tokens : ℕ) (q : Request) : Type 0 where
   pub token : HasToken (λ t. WasGiven epoch tokens t.0) q
   pub carries : (token : Token) (bytes : List ℕ) → 1 ≤ token.0.epoch → All (OfRequest (Carries token bytes)) ms → Carries token bytes q
+  pub asks : (e : QueueEntry) → 1 ≤ e.token.0.epoch → All (OfRequest (Asks e)) ms → Asks e q
 
 put_asked : (r : Held) (ms : List (Option Frame)) (epoch tokens : ℕ) (q : Request) (e : QueueEntry) (i : Item) → IsCounted r → AskedWell ms epoch tokens q → 1 ≤ e.token.0.epoch → HasBase r i.identity
     → PutFits r ms e i → PutFits (remote_step r q).1 ms e i
@@ -93,15 +99,24 @@ fits_asked MakeDir r ms epoch tokens q n e items counted well own right h = h
 fits_asked MoveItem r ms epoch tokens q n e items counted well own right h = tt
 fits_asked RemoveItem r ms epoch tokens q n e items counted well own right h = tt
 
+entry_asked : (r : Held) (ms : List (Option Frame)) (epoch tokens : ℕ) (q : Request) (e : QueueEntry) → IsCounted r → AskedWell ms epoch tokens q → 1 ≤ e.token.0.epoch → IsAskedFor r ms e → IsAskedFor (remote_step r q).1 ms e
+entry_asked r ms epoch tokens q e counted well own h = record { did = λ rid version k. by rid version (recorded_at r.tokens e.token) refl k; sent = h.sent } where
+  by : (rid : Rid) (version : Version) (o : Option Recorded) → recorded_at r.tokens e.token ≡ o → recorded_at (remote_step r q).1.tokens e.token ≡ Some (RecordedDone rid version) → DidBy e.action (remote_step r q).1.items e.rid rid
+  by rid version (Some d) f k =
+      let z : ◌≡◌ {A = Option Recorded} (Some d) (Some (RecordedDone rid version)) = sym ((step_extends r q).tokens e.token d f) ∙ k in
+      did_stays e.action r q e.rid rid (h.did rid version (f ∙ z))
+  by rid version None f k = did_new r q e counted f (well.asks e own h.sent) rid version k
+
 durable_asked : (r : Held) (ms : List (Option Frame)) (epoch tokens : ℕ) (q : Request) (n : Usn) (next : ℕ) (items : List Item) (es : List QueueEntry) → IsCounted r → AskedWell ms epoch tokens q
     → IsDurable r ms epoch tokens n next items es → IsDurable (remote_step r q).1 ms epoch tokens n next items es
 durable_asked r ms epoch tokens q n next items es counted well h = record {
   contents = true_still r (remote_step r q).1 n (step_extends r q) items h.right h.contents;
-  right = all_weaker (IsRight r n) (IsRight (remote_step r q).1 n) (λ i k. right_still r (remote_step r q).1 n i (step_extends r q) k) items h.right;
+  right = all_weaker (IsRight r n) (IsRight (remote_step r q).1 n) (λ i k. right_still r (remote_step r q).1 n i (step_extends r q) (step_grows r q) k) items h.right;
   order = h.order;
   more = h.more;
   fit = all_both (EntryFits r ms items) (IsEntryOf n next epoch tokens) (EntryFits (remote_step r q).1 ms items) (λ e k g. fits_asked e.action r ms epoch tokens q n e items counted well g.own h.right k) es h.fit h.given;
   given = h.given;
+  asked = all_both (IsAskedFor r ms) (IsEntryOf n next epoch tokens) (IsAskedFor (remote_step r q).1 ms) (λ e k g. entry_asked r ms epoch tokens q e counted well g.own k) es h.asked h.given;
   apart = h.apart;
 }
 
@@ -196,7 +211,7 @@ CarriesBy MoveItem r items f e = Unit {0}
 CarriesBy RemoveItem r items f e = Unit {0}
 
 abbrev pub FrameCarries : Held → List Item → Option Frame → QueueEntry → Type 0
-FrameCarries r items f e = CarriesBy e.action r items f e
+FrameCarries r items f e = CarriesBy e.action r items f e × OfRequest (Asks e) f
 
 pub record PostedWell (r : Held) (ms : List (Option Frame)) (tokens epoch : ℕ) (log : List (Usn × Change)) (items : List Item) (points : List Point) (entries : List QueueEntry) (asks : List Live) (keys : ℕ) (f : Option Frame) : Type 0 where
   pub right : IsMessageRight r (ms ++ f ∷ []) epoch keys tokens f
@@ -219,8 +234,9 @@ durable_posted r ms f epoch tokens n next items es c h = record {
   right = h.right;
   order = h.order;
   more = h.more;
-  fit = all_both (FrameCarries r items f) (EntryFits r ms items) (EntryFits r (ms ++ f ∷ []) items) (λ e g k. fits_posted e.action r ms f items e g k) es c h.fit;
+  fit = all_both (FrameCarries r items f) (EntryFits r ms items) (EntryFits r (ms ++ f ∷ []) items) (λ e g k. fits_posted e.action r ms f items e g.0 k) es c h.fit;
   given = h.given;
+  asked = all_both (FrameCarries r items f) (IsAskedFor r ms) (IsAskedFor r (ms ++ f ∷ [])) (λ e g k. record { did = k.did; sent = all_append (OfRequest (Asks e)) ms (f ∷ []) k.sent (g.1, tt) }) es c h.asked;
   apart = h.apart;
 }
 

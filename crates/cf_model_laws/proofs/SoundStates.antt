@@ -66,9 +66,9 @@ lost_well : (s : State) → PostedIn s None
 lost_well s = record {
   right = tt;
   named = all_any (λ a. is_fetch a.ask.kind ≡ true → OfRequest (Names s.link.remote s.filter.volume.items a.ask) None) (λ a e. tt) s.filter.waiting.asks;
-  now = all_any (FrameCarries s.link.remote s.filter.volume.items None) (λ e. lost_by e.action s.link.remote s.filter.volume.items e) s.filter.volume.book.entries;
+  now = all_any (FrameCarries s.link.remote s.filter.volume.items None) (λ e. (lost_by e.action s.link.remote s.filter.volume.items e, tt)) s.filter.volume.book.entries;
   kept = all_any (λ p. All (FrameCarries s.link.remote (items_of (take p.count s.filter.volume.log)) None) p.book.entries)
-      (λ p. all_any (FrameCarries s.link.remote (items_of (take p.count s.filter.volume.log)) None) (λ e. lost_by e.action s.link.remote (items_of (take p.count s.filter.volume.log)) e) p.book.entries) s.filter.volume.points;
+      (λ p. all_any (FrameCarries s.link.remote (items_of (take p.count s.filter.volume.log)) None) (λ e. (lost_by e.action s.link.remote (items_of (take p.count s.filter.volume.log)) e, tt)) p.book.entries) s.filter.volume.points;
 }
 
 -- another list of entries

@@ -29,7 +29,7 @@ use Rattle.cf_model.specs.State.{State, book_now, in_filter, in_volume, items_no
 use Rattle.cf_model.specs.Store.{Held, Recorded, RecordedDone, recorded_at}
 use Rattle.cf_model.specs.Trees.{Keeps, bind}
 use Rattle.cf_model_laws.specs.GivenOnce.{WasGiven}
-use Rattle.cf_model_laws.specs.Invariant.{All, Carries, FitsBy, IsEntryOf, IsGivenIn, IsMessageRight, IsSound, Names, OfRequest, PutFits, is_put, put_bytes}
+use Rattle.cf_model_laws.specs.Invariant.{All, Carries, FitsBy, IsEntryOf, IsGivenIn, IsMessageRight, IsSound, Names, OfRequest, PutFits, is_put, put_bytes, Asks}
 use Rattle.cf_model_laws.specs.Premises.{IsFair}
 use Rattle.cf_model_laws.proofs.Gathered.{all_any, all_append, all_weaker, each_weaker}
 use Rattle.cf_model_laws.proofs.Guarded.{EnteredIn, Entering, Guarded, MovesThere, PostedIn}
@@ -38,6 +38,7 @@ use Rattle.cf_model_laws.proofs.RightItems.{no_way, no_way_back}
 use Rattle.cf_model_laws.proofs.SoundLinks.{CarriesBy, FrameCarries}
 use Rattle.cf_model_laws.proofs.SkipsGuarded.{cursor_stays, leaves_early}
 use Rattle.cf_model_laws.proofs.SoundSettles.{left_true, right_true}
+use Rattle.cf_model_laws.proofs.EntriesAsked.{carries_asks}
 
 -- a fresh token
 
@@ -120,6 +121,12 @@ last_given epoch n = inr (refl, same (n + 1)) where
   same : (m : ℕ) → m ≤ m
   same m = omega arith
 
+-- no message is of an upload with a fresh token
+unsent : (s : State) (e : QueueEntry) → e.token ≡ next_token s → (m : Option Frame) → IsMessageRight s.link.remote s.link.messages s.filter.volume.epoch s.filter.waiting.key_count s.volatile.tokens m → OfRequest (Asks e) m
+unsent s e token (Some (frame.Request q)) h = carries_asks e q (λ bytes. subst (λ (t : Token). Carries t bytes q) (sym token) (fresh_request s.filter.volume.epoch s.filter.waiting.key_count s.volatile.tokens bytes q h))
+unsent s e token (Some (frame.Reply answers a)) h = tt
+unsent s e token None h = tt
+
 entered : (s : State) (e : QueueEntry) (bytes : List ℕ) → e.token ≡ next_token s → IsSound s.link s.volatile.tokens s.filter → IsNewEntry s e bytes → EnteredIn (with_volatile with_token s) e
 entered s e bytes token sound new = record {
   fits = new_fits e.action s e bytes token sound new.facts;
@@ -128,6 +135,10 @@ entered s e bytes token sound new = record {
     token = subst (λ (t : Token). WasGiven s.filter.volume.epoch (s.volatile.tokens + 1) t.0) (sym token) (last_given s.filter.volume.epoch s.volatile.tokens);
     own = subst (λ (t : Token). 1 ≤ t.0.epoch) (sym token) sound.old;
     item = new.item;
+  };
+  asked = record {
+    did = λ rid version f. absurd (unrecorded s.filter.volume.epoch s.volatile.tokens s.link.remote.tokens (RecordedDone rid version) sound.recorded (subst (λ (t : Token). recorded_at s.link.remote.tokens t ≡ Some (RecordedDone rid version)) token f));
+    sent = all_weaker (IsMessageRight s.link.remote s.link.messages s.filter.volume.epoch s.filter.waiting.key_count s.volatile.tokens) (OfRequest (Asks e)) (unsent s e token) s.link.messages sound.messages;
   };
   apart = new.apart;
 }
@@ -171,14 +182,21 @@ others MakeDir r items f e k = tt
 others MoveItem r items f e k = tt
 others RemoveItem r items f e k = tt
 
+own_asks : (a : Action) (e : QueueEntry) (expect : Version) (bytes : List ℕ) → e.action ≡ a → Asks e (request_by a e expect bytes)
+own_asks PutFile e expect bytes is = λ z. (is, refl)
+own_asks MakeDir e expect bytes is = λ z. is
+own_asks MoveItem e expect bytes is = λ z. (is, refl)
+own_asks RemoveItem e expect bytes is = λ z. (is, refl)
+
 carries_all : (s : State) (e : QueueEntry) (expect : Version) (bytes : List ℕ) → e.token ≡ next_token s → IsSound s.link s.volatile.tokens s.filter → IsNewEntry s e bytes
     → All (FrameCarries s.link.remote (items_now s) (Some (frame.Request (request_of e expect bytes)))) ((book_now s).entries ++ e ∷ [])
 carries_all s e expect bytes token sound new =
     all_append (FrameCarries s.link.remote (items_now s) (Some (frame.Request (request_of e expect bytes)))) (book_now s).entries (e ∷ [])
     (all_weaker (IsEntryOf (next_number s.filter.volume) s.filter.volume.next_item.0 s.filter.volume.epoch s.volatile.tokens) (FrameCarries s.link.remote (items_now s) (Some (frame.Request (request_of e expect bytes))))
-    (λ f g. others f.action s.link.remote (items_now s) (Some (frame.Request (request_of e expect bytes))) f
-    (λ bs. other_carries e.action e expect bytes bs f.token (subst (λ (t : Token). same_key t.0 f.token.0 ≡ false) (sym token) (fresh_left s.filter.volume.epoch s.volatile.tokens f.token.0 g.token)))) (book_now s).entries sound.now.given)
-    (own_carries e.action s.link.remote (items_now s) e expect bytes new.facts, tt)
+    (λ f g. (others f.action s.link.remote (items_now s) (Some (frame.Request (request_of e expect bytes))) f (other f g), carries_asks f (request_of e expect bytes) (other f g))) (book_now s).entries sound.now.given)
+    ((own_carries e.action s.link.remote (items_now s) e expect bytes new.facts, own_asks e.action e expect bytes refl), tt) where
+      other : (f : QueueEntry) → IsEntryOf (next_number s.filter.volume) s.filter.volume.next_item.0 s.filter.volume.epoch s.volatile.tokens f → (bs : List ℕ) → Carries f.token bs (request_of e expect bytes)
+      other f g bs = other_carries e.action e expect bytes bs f.token (subst (λ (t : Token). same_key t.0 f.token.0 ≡ false) (sym token) (fresh_left s.filter.volume.epoch s.volatile.tokens f.token.0 g.token))
 
 -- as it is pushed
 

@@ -17,13 +17,14 @@ use Rattle.cf_model.specs.Soundness.{Each}
 use Rattle.cf_model.specs.State.{Filter}
 use Rattle.cf_model.specs.Store.{Held}
 use Rattle.cf_model.specs.Words.{number_of}
-use Rattle.cf_model_laws.specs.Invariant.{All, HasBase, HasNone, SameBase, put_bytes, waits_on}
+use Rattle.cf_model_laws.specs.Invariant.{All, HasBase, HasNone, IsAimed, SameBase, put_bytes, target_in, waits_on}
 use Rattle.cf_model_laws.specs.Marks.{IsMadeLast, StandsAtSeen}
 
--- The identity of an item names a version that the remote has made, or none. A directory has none, and a file that is no
+-- The identity of an item names a version that the remote has made, or none, and a target of the item's kind, or none. A directory has none, and a file that is no
 -- placeholder has neither a base nor a target.
 pub record NamesWell (r : Held) (directory placeholder : Bool) (identity : List ℕ) : Type 0 where
   pub based : HasBase r identity
+  pub aimed : IsAimed r directory identity
   pub bare : directory ≡ true → HasNone identity
   pub plain : directory ≡ false → placeholder ≡ false → HasNone identity × (number_of (take 8 identity) ≡ 0)
 
@@ -50,7 +51,7 @@ Meets r x (change.Remove item) = in_use item x ≡ false
 Meets r x (change.Filled item start bytes) = Each item (λ i. take (length bytes) (drop start (base_bytes r i)) ≡ bytes) x.volume.items
 Meets r x (change.Emptied item start len) = Each item (λ i. i.in_sync ≡ true) x.volume.items
 Meets r x (change.Mark item number) = Each item (λ i. (i.writes ≡ []) × (number ≡ i.number) × (is_untargeted i ≡ false)) x.volume.items
-Meets r x (change.Convert item identity) = Each item (λ i. SameBase identity i.identity) x.volume.items
+Meets r x (change.Convert item identity) = Each item (λ i. SameBase identity i.identity) x.volume.items × ((target_in identity).0 ≡ 0)
 Meets r x (change.Revert item) = ⊥
 Meets r x (change.Rebase item identity len at) =
     Each item (λ i. NamesWell r i.directory i.placeholder identity) x.volume.items × RebasesWell r x.volume.book.entries x.volume.items item identity at

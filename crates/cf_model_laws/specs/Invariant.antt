@@ -56,6 +56,23 @@ HasBase r identity = ((version_in identity).0 ≡ 0) ⊎ ((bytes : List ℕ) × 
 abbrev pub HasNone : List ℕ → Type 0
 HasNone identity = ((rid_in identity).0 ≡ 0) × ((version_in identity).0 ≡ 0)
 
+-- one of the items of the remote is this one, and so
+abbrev pub IsIn : (Stored → Type 0) → List Stored → Rid → Type 0
+IsIn Q ss rid = (s : Stored) × (stored_at ss rid ≡ Some s) × Q s
+
+-- the remote has the item, of this kind
+abbrev pub IsOfKind : Held → Rid → Bool → Type 0
+IsOfKind r rid directory = IsIn (λ s. s.directory ≡ directory) r.items rid
+
+-- what an identity aims at
+
+abbrev pub target_in : List ℕ → Rid
+target_in identity = record { 0 = number_of (take 8 identity) }
+
+-- The target is an item of the remote, of the kind, and of a file it is the base too; or there is none.
+abbrev pub IsAimed : Held → Bool → List ℕ → Type 0
+IsAimed r directory identity = ((target_in identity).0 ≡ 0) ⊎ (IsOfKind r (target_in identity) directory × (directory ≡ false → (rid_in identity).0 ≡ (target_in identity).0))
+
 -- an item
 
 abbrev pub AllUpTo : Usn → List Written → Type 0
@@ -64,6 +81,7 @@ AllUpTo n ws = All (λ w. above w.number n ≡ false) ws
 pub record IsRightOf (r : Held) (next : Usn) (id : ℕ) (directory placeholder : Bool) (identity : List ℕ) (in_sync : Bool) (number : Usn) (writes : List Written) : Type 0 where
   -- the base is there, so that a remote that grows changes no content
   pub based : HasBase r identity
+  pub aimed : IsAimed r directory identity
   -- the numbers of its writes rise, up to its own, which is below the next
   pub rises : RisesFrom no_usn writes
   pub last : AllUpTo number writes
@@ -138,6 +156,27 @@ pub record IsEntryOf (next : Usn) (next_item : ℕ) (epoch tokens : ℕ) (e : Qu
   pub own : 1 ≤ e.token.0.epoch
   pub item : e.item.0 < next_item
 
+-- the request, if it has the token of the upload, is the upload's
+abbrev pub Asks : QueueEntry → Request → Type 0
+Asks e (request.Put t rid expect parent name bytes) = same_key t.0 e.token.0 ≡ true → (e.action ≡ PutFile) × (rid.0 ≡ e.rid.0)
+Asks e (request.MakeDir t parent name) = same_key t.0 e.token.0 ≡ true → e.action ≡ MakeDir
+Asks e (request.Move t rid parent name) = same_key t.0 e.token.0 ≡ true → (e.action ≡ MoveItem) × (rid.0 ≡ e.rid.0)
+Asks e (request.Remove t rid expect) = same_key t.0 e.token.0 ≡ true → (e.action ≡ RemoveItem) × (rid.0 ≡ e.rid.0)
+Asks e (request.Keep t count) = same_key t.0 e.token.0 ≡ false
+Asks e _ = Unit {0}
+
+-- What an upload of this kind did that is about this item, 0 for none: it did something to that item, or made one. A removed item is dead.
+abbrev pub DidBy : Action → List Stored → Rid → Rid → Type 0
+DidBy PutFile ss asked rid = IsIn (λ s. s.directory ≡ false) ss rid × ((asked.0 ≡ 0) ⊎ (rid.0 ≡ asked.0))
+DidBy MakeDir ss asked rid = IsIn (λ s. s.directory ≡ true) ss rid
+DidBy MoveItem ss asked rid = rid.0 ≡ asked.0
+DidBy RemoveItem ss asked rid = (rid.0 ≡ asked.0) × IsIn (λ s. s.live ≡ false) ss rid
+
+-- What was sent with the token of the upload is the upload, and so is what the remote did of it.
+pub record IsAskedFor (r : Held) (ms : List (Option Frame)) (e : QueueEntry) : Type 0 where
+  pub did : (rid : Rid) (version : Version) → recorded_at r.tokens e.token ≡ Some (RecordedDone rid version) → DidBy e.action r.items e.rid rid
+  pub sent : All (OfRequest (Asks e)) ms
+
 -- no two entries are about one item
 abbrev pub AreApart : List QueueEntry → Type 0
 AreApart [] = Unit {0}
@@ -155,16 +194,13 @@ pub record IsDurable (r : Held) (ms : List (Option Frame)) (epoch tokens : ℕ) 
   pub more : 2 ≤ next_item
   pub fit : All (EntryFits r ms items) entries
   pub given : All (IsEntryOf next next_item epoch tokens) entries
+  pub asked : All (IsAskedFor r ms) entries
   pub apart : AreApart entries
 
 abbrev pub IsPointRight : Held → List (Option Frame) → ℕ → ℕ → Usn → List (Usn × Change) → Point → Type 0
 IsPointRight r ms epoch tokens next log p = (p.count ≤ length log) × IsDurable r ms epoch tokens next (next_of (take p.count log)) (items_of (take p.count log)) p.book.entries
 
 -- messages
-
--- the remote has the item, of this kind
-abbrev pub IsOfKind : Held → Rid → Bool → Type 0
-IsOfKind r rid directory = (s : Stored) × (stored_at r.items rid ≡ Some s) × (s.directory ≡ directory)
 
 -- the remote made the item of the entry, which is of its kind, and the version of a file, of its length
 abbrev pub HasEntry : Held → Entry → Type 0
