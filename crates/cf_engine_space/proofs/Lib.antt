@@ -1,0 +1,3 @@
+pub mod Eligible
+pub mod Freed
+pub mod Fronts
