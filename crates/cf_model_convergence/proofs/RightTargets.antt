@@ -21,8 +21,7 @@ use Rattle.cf_model_laws.specs.Premises.{IsFresh}
 use Rattle.cf_model_laws.proofs.ContentLaws.{run_sound}
 use Rattle.cf_model_laws.proofs.Gathered.{all_found, all_weaker}
 use Rattle.cf_model_laws.proofs.RightItems.{no_way}
-use Rattle.cf_model_convergence.specs.Lasting.{AreTargetsRight, AreUploadsDone, AtPoint, Fact, HoldsIn}
-use Rattle.cf_model_convergence.specs.Resting.{IsTargetRight}
+use Rattle.cf_model_convergence.specs.Lasting.{AreTargetsRight, AreUploadsDone, AtPoint, Fact, HoldsIn, IsTargetedWell}
 
 -- what lasts is given by what is durable
 abbrev IsGiven : Fact → Type 0
@@ -53,14 +52,20 @@ found_rid (t ∷ items) rid s e = by (t.rid.0 == rid.0) refl e (found_rid items 
   by true q z more = subst (λ (x : Stored). x.rid.0 ≡ rid.0) (some t s z) (eqb-true t.rid.0 rid.0 q)
   by false q z more = more z
 
-aimed_right : (r : Held) (i : Item) → IsAimed r i.directory i.identity → (i.id.0 ≡ 1 → ⊥) → ((target_of i).0 ≡ 0) ⊎ ((s : Stored) × (stored_at r.items (target_of i) ≡ Some s) × IsTargetRight i s)
+aimed_right : (r : Held) (i : Item) → IsAimed r i.directory i.identity → (i.id.0 ≡ 1 → ⊥) → IsTargetedWell r i
 aimed_right r i (inl e) below = inl (ap (λ (x : Rid). x.0) (target_below i below) ∙ e)
-aimed_right r i (inr k) below = inr (k.0.0, subst (λ (x : Rid). stored_at r.items x ≡ Some k.0.0) (sym (target_below i below)) k.0.1, record { kind = k.0.2; base = λ file. k.1 file ∙ sym (found_rid r.items (target_in i.identity) k.0.0 k.0.1) })
+aimed_right r i (inr k) below =
+    inr (
+      k.0.0,
+      subst (λ (x : Rid). stored_at r.items x ≡ Some k.0.0) (sym (target_below i below)) k.0.1,
+      record { kind = k.0.2; base = λ file. k.1 file ∙ sym (found_rid r.items (target_in i.identity) k.0.0 k.0.1) },
+      subst (λ (x : Rid). x.0 ≡ 1 → ⊥) (sym (target_below i below)) k.2,
+    )
 
 pub targets_right : (remote : Held) (clusters : ℕ) (trace : List (Event × Answer)) (s : State) → Runs mode.Replay (start mode.Replay remote clusters) trace s → IsFresh remote → HoldsIn AreTargetsRight s
 targets_right remote clusters trace s runs fresh =
     given_holds AreTargetsRight
-    (λ r ms epoch tokens n next items b h. all_weaker (IsRight r n) (λ i. (i.id.0 ≡ 1 → ⊥) → ((target_of i).0 ≡ 0) ⊎ ((t : Stored) × (stored_at r.items (target_of i) ≡ Some t) × IsTargetRight i t)) (λ i k. aimed_right r i k.aimed) items h.right) s
+    (λ r ms epoch tokens n next items b h. all_weaker (IsRight r n) (λ i. (i.id.0 ≡ 1 → ⊥) → IsTargetedWell r i) (λ i k. aimed_right r i k.aimed) items h.right) s
     (run_sound remote clusters trace s runs fresh)
 
 pub uploads_done : (remote : Held) (clusters : ℕ) (trace : List (Event × Answer)) (s : State) → Runs mode.Replay (start mode.Replay remote clusters) trace s → IsFresh remote → HoldsIn AreUploadsDone s

@@ -32,9 +32,13 @@ Lasts F l v = IsFair l → LastsIn F l.remote v
 abbrev pub HoldsIn : Fact → State → Type 0
 HoldsIn F s = Lasts F s.link s.filter.volume
 
--- The target of an item below the root is in the remote, of the item's kind, and of a file it is the base too; or there is none.
+-- The target of an item below the root is in the remote below its root, of the item's kind, and of a file it is the base too; or
+-- there is none.
+abbrev pub IsTargetedWell : Held → Item → Type 0
+IsTargetedWell r i = ((target_of i).0 ≡ 0) ⊎ ((s : Stored) × (stored_at r.items (target_of i) ≡ Some s) × IsTargetRight i s × ((target_of i).0 ≡ 1 → ⊥))
+
 abbrev pub AreTargetsRight : Fact
-AreTargetsRight r items b = All (λ i. (i.id.0 ≡ 1 → ⊥) → ((target_of i).0 ≡ 0) ⊎ ((s : Stored) × (stored_at r.items (target_of i) ≡ Some s) × IsTargetRight i s)) items
+AreTargetsRight r items b = All (λ i. (i.id.0 ≡ 1 → ⊥) → IsTargetedWell r i) items
 
 -- What the remote did of an upload on its way, it did as that upload asks: a file or a directory was made, or the item is that of the
 -- upload; one that was removed is dead.

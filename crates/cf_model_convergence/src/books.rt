@@ -17,7 +17,7 @@ pub fn a_cursor_is_never_late()
     ensures { (remote : Held) (clusters : ℕ) (trace : List (Event × Answer)) (s : State) → Runs mode.Replay (start mode.Replay remote clusters) trace s → IsFresh remote → HoldsIn IsCursorEarly s }
 {}
 
-/// The target of an item below the root is in the remote and of the item's kind; a file has it as its base.
+/// The target of an item below the root is in the remote, below its root, and of the item's kind; a file has it as its base.
 #[tactic(auto, using(crate::proofs::RightTargets::targets_right))]
 pub fn a_target_is_of_its_items_kind()
     ensures { (remote : Held) (clusters : ℕ) (trace : List (Event × Answer)) (s : State) → Runs mode.Replay (start mode.Replay remote clusters) trace s → IsFresh remote → HoldsIn AreTargetsRight s }

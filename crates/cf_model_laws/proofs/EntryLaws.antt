@@ -70,9 +70,9 @@ none_none = (refl, refl)
 target_read : (t b : Rid) (v : Version) → t.0 < 18446744073709551616 → ◌≡◌ {A = Rid} (target_in (identity_of t b v)) t
 target_read t b v h = ap rid_at (read_back t.0 h)
 
-aimed_at : (r : Held) (d : Bool) (t b : Rid) (v : Version) → t.0 < 18446744073709551616 → IsOfKind r t d → (d ≡ false → b.0 ≡ t.0) → IsAimed r d (identity_of t b v)
-aimed_at r d t b v small kind base =
-    inr (subst (λ (x : Rid). IsOfKind r x d) (sym (target_read t b v small)) kind, λ file. ap (λ (x : Rid). x.0) (rid_read t b v (subst (λ (n : ℕ). n < 18446744073709551616) (sym (base file)) small)) ∙ base file ∙ sym (ap (λ (x : Rid). x.0) (target_read t b v small)))
+aimed_at : (r : Held) (d : Bool) (t b : Rid) (v : Version) → t.0 < 18446744073709551616 → IsOfKind r t d → (t.0 ≡ 1 → ⊥) → (d ≡ false → b.0 ≡ t.0) → IsAimed r d (identity_of t b v)
+aimed_at r d t b v small kind low base =
+    inr (subst (λ (x : Rid). IsOfKind r x d) (sym (target_read t b v small)) kind, λ file. ap (λ (x : Rid). x.0) (rid_read t b v (subst (λ (n : ℕ). n < 18446744073709551616) (sym (base file)) small)) ∙ base file ∙ sym (ap (λ (x : Rid). x.0) (target_read t b v small)), subst (λ (x : Rid). x.0 ≡ 1 → ⊥) (sym (target_read t b v small)) low)
 
 -- an item of the remote has a small rid
 pub small_rid : (r : Held) (t : Rid) (d : Bool) → IsCounted r → IsSmall r → IsOfKind r t d → t.0 < 18446744073709551616
@@ -80,11 +80,11 @@ small_rid r t d counted small kind = below t.0 (length r.items) (kind_under r.it
   below : (a b : ℕ) → a + 1 ≤ 1 + b → b < 18446744073709551616 → a < 18446744073709551616
   below a b h k = omega (arith, h, k)
 
-pub dir_well : (r : Held) (t : Rid) (p : Bool) → t.0 < 18446744073709551616 → IsOfKind r t true → NamesWell r true p (identity_of t no_rid no_version)
-dir_well r t p small kind = record { based = inl refl; aimed = aimed_at r true t no_rid no_version small kind (λ e. no_way_back e); bare = λ e. dir_none t; plain = λ e. no_way_back e }
+pub dir_well : (r : Held) (t : Rid) (p : Bool) → t.0 < 18446744073709551616 → IsOfKind r t true → (t.0 ≡ 1 → ⊥) → NamesWell r true p (identity_of t no_rid no_version)
+dir_well r t p small kind low = record { based = inl refl; aimed = aimed_at r true t no_rid no_version small kind low (λ e. no_way_back e); bare = λ e. dir_none t; plain = λ e. no_way_back e }
 
-pub file_well : (r : Held) (t : Rid) (v : Version) → t.0 < 18446744073709551616 → IsOfKind r t false → HasBase r (identity_of t t v) → NamesWell r false true (identity_of t t v)
-file_well r t v small kind h = record { based = h; aimed = aimed_at r false t t v small kind (λ e. refl); bare = λ e. no_way e; plain = λ e f. no_way_back f }
+pub file_well : (r : Held) (t : Rid) (v : Version) → t.0 < 18446744073709551616 → IsOfKind r t false → (t.0 ≡ 1 → ⊥) → HasBase r (identity_of t t v) → NamesWell r false true (identity_of t t v)
+file_well r t v small kind low h = record { based = h; aimed = aimed_at r false t t v small kind low (λ e. refl); bare = λ e. no_way e; plain = λ e f. no_way_back f }
 
 -- of an entry
 
@@ -94,8 +94,8 @@ Wants r d p size i = (length (base_named r i) ≡ size) × NamesWell r d p i
 below : (a b : ℕ) → a ≤ b → b < 18446744073709551616 → a < 18446744073709551616
 below a b h k = omega (arith, h, k)
 
-pub file_wants : (r : Held) (e : Entry) → IsSmall r → HasEntry r e → e.dir ≡ false → Wants r false true e.len (entry_identity e)
-file_wants r e small h file = subst (λ (i : List ℕ). Wants r false true e.len i) (ap (λ (b : Bool). identity_for b e.rid e.version) (sym file)) (by (h.2 file)) where
+pub file_wants : (r : Held) (e : Entry) → IsSmall r → HasEntry r e → (e.rid.0 ≡ 1 → ⊥) → e.dir ≡ false → Wants r false true e.len (entry_identity e)
+file_wants r e small h low file = subst (λ (i : List ℕ). Wants r false true e.len i) (ap (λ (b : Bool). identity_for b e.rid e.version) (sym file)) (by (h.2 file)) where
   small_one : e.rid.0 < 18446744073709551616
   small_one = below e.rid.0 (length r.items) h.1 small.0
 
@@ -103,17 +103,17 @@ file_wants r e small h file = subst (λ (i : List ℕ). Wants r false true e.len
   is_file = subst (λ (d : Bool). IsOfKind r e.rid d) file h.3
 
   by : ((e.version.0 ≡ 0) × (e.len ≡ 0)) ⊎ ((bytes : List ℕ) × (bytes_of r e.rid e.version ≡ Some bytes) × (length bytes ≡ e.len)) → Wants r false true e.len (identity_of e.rid e.rid e.version)
-  by (inl k) = (ap (λ (bs : List ℕ). length bs) (none_named r (identity_of e.rid e.rid e.version) (zero_read e.rid e.rid e.version k.0)) ∙ sym k.1, file_well r e.rid e.version small_one is_file (inl (zero_read e.rid e.rid e.version k.0)))
-  by (inr k) = (ap (λ (bs : List ℕ). length bs) (made_named r e.rid e.rid e.version k.0 small k.1) ∙ k.2, file_well r e.rid e.version small_one is_file (inr (k.0, made_read r e.rid e.rid e.version k.0 small k.1)))
+  by (inl k) = (ap (λ (bs : List ℕ). length bs) (none_named r (identity_of e.rid e.rid e.version) (zero_read e.rid e.rid e.version k.0)) ∙ sym k.1, file_well r e.rid e.version small_one is_file low (inl (zero_read e.rid e.rid e.version k.0)))
+  by (inr k) = (ap (λ (bs : List ℕ). length bs) (made_named r e.rid e.rid e.version k.0 small k.1) ∙ k.2, file_well r e.rid e.version small_one is_file low (inr (k.0, made_read r e.rid e.rid e.version k.0 small k.1)))
 
-pub entry_dir_well : (r : Held) (e : Entry) (p : Bool) → IsSmall r → HasEntry r e → e.dir ≡ true → NamesWell r true p (identity_of e.rid no_rid no_version)
-entry_dir_well r e p small h dir = dir_well r e.rid p (below e.rid.0 (length r.items) h.1 small.0) (subst (λ (d : Bool). IsOfKind r e.rid d) dir h.3)
+pub entry_dir_well : (r : Held) (e : Entry) (p : Bool) → IsSmall r → HasEntry r e → (e.rid.0 ≡ 1 → ⊥) → e.dir ≡ true → NamesWell r true p (identity_of e.rid no_rid no_version)
+entry_dir_well r e p small h low dir = dir_well r e.rid p (below e.rid.0 (length r.items) h.1 small.0) (subst (λ (d : Bool). IsOfKind r e.rid d) dir h.3) low
 
 pub dir_identity : (e : Entry) → e.dir ≡ true → entry_identity e ≡ identity_of e.rid no_rid no_version
 dir_identity e dir = ap (λ (b : Bool). identity_for b e.rid e.version) dir
 
-dir_wants : (r : Held) (e : Entry) → IsSmall r → HasEntry r e → e.dir ≡ true → Wants r true true 0 (entry_identity e)
-dir_wants r e small h dir = subst (λ (i : List ℕ). Wants r true true 0 i) (sym (dir_identity e dir)) (ap (λ (bs : List ℕ). length bs) (none_named r (identity_of e.rid no_rid no_version) (dir_none e.rid).1), dir_well r e.rid true (below e.rid.0 (length r.items) h.1 small.0) (subst (λ (d : Bool). IsOfKind r e.rid d) dir h.3))
+dir_wants : (r : Held) (e : Entry) → IsSmall r → HasEntry r e → (e.rid.0 ≡ 1 → ⊥) → e.dir ≡ true → Wants r true true 0 (entry_identity e)
+dir_wants r e small h low dir = subst (λ (i : List ℕ). Wants r true true 0 i) (sym (dir_identity e dir)) (ap (λ (bs : List ℕ). length bs) (none_named r (identity_of e.rid no_rid no_version) (dir_none e.rid).1), dir_well r e.rid true (below e.rid.0 (length r.items) h.1 small.0) (subst (λ (d : Bool). IsOfKind r e.rid d) dir h.3) low)
 
 dir_kind : (r : Held) (i : List ℕ) (full : Bool) (size : ℕ) → Wants r true true 0 i
     → (length (base_named r i) ≡ size_made (cond full kind.UnpopulatedDir kind.PlaceholderDir) size) × NamesWell r (is_directory (cond full kind.UnpopulatedDir kind.PlaceholderDir)) (is_placeholder (cond full kind.UnpopulatedDir kind.PlaceholderDir)) i
@@ -135,14 +135,14 @@ some_target r e small h = subst (λ (n : ℕ). (n == 0) ≡ false) (sym (entry_t
     one true q = let z : n ≡ 0 = eqb-true n 0 q in absurd (omega (arith, z, h))
     one false q = refl
 
-pub new_fits : (r : Held) (p : Policy) (e : Entry) → IsSmall r → HasEntry r e → NewFits r p (new_item_of e)
-new_fits r p e small h = let k = by e.dir refl in (k.0, k.1, some_target r e small h) where
+pub new_fits : (r : Held) (p : Policy) (e : Entry) → IsSmall r → HasEntry r e → (e.rid.0 ≡ 1 → ⊥) → NewFits r p (new_item_of e)
+new_fits r p e small h low = let k = by e.dir refl in (k.0, k.1, some_target r e small h) where
   by : (d : Bool) → e.dir ≡ d → (length (base_named r (entry_identity e)) ≡ size_made (entry_kind p d) (cond d 0 e.len)) × NamesWell r (is_directory (entry_kind p d)) (is_placeholder (entry_kind p d)) (entry_identity e)
-  by true q = dir_kind r (entry_identity e) (is_full_population p.population) 0 (dir_wants r e small h q)
-  by false q = file_wants r e small h q
+  by true q = dir_kind r (entry_identity e) (is_full_population p.population) 0 (dir_wants r e small h low q)
+  by false q = file_wants r e small h low q
 
-pub make_fits : (r : Held) (p : Policy) (e : Entry) → IsSmall r → HasEntry r e → (length (base_named r (entry_identity e)) ≡ size_made (kind_of_entry p e) (cond e.dir 0 e.len)) × NamesWell r (is_directory (kind_of_entry p e)) (is_placeholder (kind_of_entry p e)) (entry_identity e)
-make_fits r p e small h = by e.dir refl where
+pub make_fits : (r : Held) (p : Policy) (e : Entry) → IsSmall r → HasEntry r e → (e.rid.0 ≡ 1 → ⊥) → (length (base_named r (entry_identity e)) ≡ size_made (kind_of_entry p e) (cond e.dir 0 e.len)) × NamesWell r (is_directory (kind_of_entry p e)) (is_placeholder (kind_of_entry p e)) (entry_identity e)
+make_fits r p e small h low = by e.dir refl where
   by : (d : Bool) → e.dir ≡ d → (length (base_named r (entry_identity e)) ≡ size_made (cond d (placeholder_dir p) kind.PlaceholderFile) (cond d 0 e.len)) × NamesWell r (is_directory (cond d (placeholder_dir p) kind.PlaceholderFile)) (is_placeholder (cond d (placeholder_dir p) kind.PlaceholderFile)) (entry_identity e)
-  by true q = dir_kind r (entry_identity e) (is_full_population p.population) 0 (dir_wants r e small h q)
-  by false q = file_wants r e small h q
+  by true q = dir_kind r (entry_identity e) (is_full_population p.population) 0 (dir_wants r e small h low q)
+  by false q = file_wants r e small h low q

@@ -94,6 +94,7 @@ pub record Feeds (l : Link) (w : Filter) (es : List QueueEntry) (P : State → T
 pub record IsTold (l : Link) (e : Entry) : Type 0 where
   pub has : IsFair l → HasEntry l.remote e
   pub dir : e.dir ≡ true → e.version.0 ≡ 0
+  pub low : e.rid.0 ≡ 1 → ⊥
 
 pub fair_now : (l : Link) (w : Filter) (es : List QueueEntry) (s : State) → Feeding l w es s → IsFair s.link → IsFair l
 fair_now l w es s h fair = subst IsFair h.link fair
@@ -234,7 +235,7 @@ adopt_in l w es P feeds e i told dir dirs = record {
     rebase_fits : (t : State) → P t → IsFair t.link → Fits t.link.remote t.filter (change.Rebase i.id (entry_identity e) 0 no_usn)
     rebase_fits t j fair =
         subst (λ (x : List ℕ). Fits t.link.remote t.filter (change.Rebase i.id x 0 no_usn)) (sym (dir_identity e dir)) (
-          each_weaker i.id (λ k. k.directory ≡ true) (λ k. NamesWell t.link.remote k.directory k.placeholder (identity_of e.rid no_rid no_version)) (λ k d. subst (λ (b : Bool). NamesWell t.link.remote b k.placeholder (identity_of e.rid no_rid no_version)) (sym d) (entry_dir_well t.link.remote e k.placeholder fair.1 (told_at t j fair) dir)) (items_now t) (dirs t j fair).1,
+          each_weaker i.id (λ k. k.directory ≡ true) (λ k. NamesWell t.link.remote k.directory k.placeholder (identity_of e.rid no_rid no_version)) (λ k d. subst (λ (b : Bool). NamesWell t.link.remote b k.placeholder (identity_of e.rid no_rid no_version)) (sym d) (entry_dir_well t.link.remote e k.placeholder fair.1 (told_at t j fair) told.low dir)) (items_now t) (dirs t j fair).1,
           inl (
             refl,
             each_both i.id (λ k. k.directory ≡ true) (IsRight t.link.remote (next_number t.filter.volume)) (λ k. SameBase (identity_of e.rid no_rid no_version) k.identity)
@@ -271,7 +272,7 @@ made_stands e p s t led order some parent =
 make_after_at : (l : Link) (w : Filter) (es : List QueueEntry) (P : State → Type 0) → Feeds l w es P → (e : Entry) (p : Item) (s : State) → IsTold l e → nat_lt 0 e.parent.0 ≡ true → ParentAt p.id e.parent s → P s → Keeps P (make_after e p s)
 make_after_at l w es P feeds e p s told some parent h =
     and_then_at Whichever P feeds.steps (make_of s e p) (and_then (try_seen (seen_entry s.filter.volume.next_item e)) (try_mark_now s.filter.volume.next_item)) s tt (λ id k. k)
-    (λ fair. let m = make_fits s.link.remote s.filter.policy e fair.1 (subst (λ (k : Link). HasEntry k.remote e) (sym (feeds.fed s h).link) (told.has (fair_now l w es s (feeds.fed s h) fair))) in (refl, m.0, m.1)) h
+    (λ fair. let m = make_fits s.link.remote s.filter.policy e fair.1 (subst (λ (k : Link). HasEntry k.remote e) (sym (feeds.fed s h).link) (told.has (fair_now l w es s (feeds.fed s h) fair))) told.low in (refl, m.0, m.1)) h
     (λ t j led. seen_and_marked l w es P feeds (seen_entry s.filter.volume.next_item e) t
     (λ fair item m. sees_still (seen_entry s.filter.volume.next_item e) (items_now t) (book_now t) item
     (λ own. subst (λ (x : ItemId). StandsAtPath (items_now t) x (seen_entry s.filter.volume.next_item e)) (same_item s.filter.volume.next_item item (eqb-true s.filter.volume.next_item.0 item.0 own)) (stands t led (subst IsFair led.link fair)))) j) where
@@ -353,7 +354,7 @@ take_in l w es P feeds e i told file free idle files s h there = by (is_dirty i)
   fits : (t : State) → P t → (IsFair t.link → Each i.id (λ k. k.writes ≡ []) (items_now t) ⊎ IsCopied t.filter.volume.log i.id) → IsFair t.link → Fits t.link.remote t.filter (change.Take i.id (entry_identity e) e.len)
   fits t j clean fair =
       let fair0 : IsFair l = fair_now l w es t (feeds.fed t j) fair in
-      let wants = file_wants t.link.remote e fair.1 (subst (λ (k : Link). HasEntry k.remote e) (sym (feeds.fed t j).link) (told.has fair0)) file in (
+      let wants = file_wants t.link.remote e fair.1 (subst (λ (k : Link). HasEntry k.remote e) (sym (feeds.fed t j).link) (told.has fair0)) told.low file in (
         each_weaker i.id (λ k. (k.directory ≡ false) × (k.placeholder ≡ true)) (λ k. (length (base_named t.link.remote (entry_identity e)) ≡ e.len) × NamesWell t.link.remote k.directory k.placeholder (entry_identity e))
             (λ k d. (wants.0, subst (λ (b : Bool). NamesWell t.link.remote b k.placeholder (entry_identity e)) (sym d.0) (subst (λ (b : Bool). NamesWell t.link.remote false b (entry_identity e)) (sym d.1) wants.1))) (items_now t) (files t j fair).1,
         subst (λ (qs : List QueueEntry). NoEntry qs i.id) (sym ((feeds.fed t j).entries ∙ feeds.none fair0)) tt,

@@ -1,5 +1,5 @@
 -- Messages, and what their replies do, in `replay`.
-use Rattle.std.proofs.Common.{◌≡◌, ◌+◌, ℕ, zero, suc, Bool, true, false, List, [], ◌∷◌, ◌++◌, refl, sym, ◌∙◌, ap, subst, arith, length}
+use Rattle.std.proofs.Common.{◌≡◌, ◌+◌, ℕ, zero, suc, Bool, true, false, List, [], ◌∷◌, ◌++◌, refl, sym, ◌∙◌, ap, subst, arith, length, ◌⊎◌, inl, inr}
 use Rattle.std.specs.Prelude.{Option, Some, None, cond, not, take, drop, unwrap_or, slice_get, nat_le, nat_lt, ◌&&◌, ◌||◌, ◌==◌}
 use Rattle.std.specs.List.{list_all}
 use Rattle.std.proofs.lemmas.Bool.{eqb-true}
@@ -19,12 +19,12 @@ use Rattle.cf_base.specs.declared.notices.Frame.{Frame}
 use Rattle.cf_base.specs.declared.notices.Frame.TheVariants as frame
 use Rattle.cf_model.specs.Arrows.{Preserves}
 use Rattle.cf_model.specs.Books.{Action, MakeDir, MoveItem, PutFile, QueueEntry, RemoveItem, entry_of}
-use Rattle.cf_model.specs.Fits.{Known, are_distinct, are_entries, fits, is_entry, is_of_kind}
+use Rattle.cf_model.specs.Fits.{Known, are_distinct, are_entries, fits, is_entry, is_of_kind, done_fits, is_known, is_listing}
 use Rattle.cf_model.specs.Identities.{base_bytes}
 use Rattle.cf_model.specs.Items.{Item}
 use Rattle.cf_model.specs.Logs.{items_of}
 use Rattle.cf_model.specs.Messages.{act_on, act_unless, after_ask, after_post, answered, ask, come, come_if, come_now, counted, distrusted, entry_live, fault_line, if_kept, is_latest_round, is_old, is_stale, known_now, no_bytes, no_number, post_by, post_unless, send_now, settled_rid, take_if_any, take_reply, with_entry, with_lost, with_message, with_remote}
-use Rattle.cf_model.specs.Numbers.{same_key}
+use Rattle.cf_model.specs.Numbers.{same_key, no_rid}
 use Rattle.cf_model.specs.PushReplies.{take_done, take_refused, take_void}
 use Rattle.cf_model.specs.Requests.{Live, is_fetch, live_of}
 use Rattle.cf_model.specs.Soundness.{Each}
@@ -35,7 +35,7 @@ use Rattle.cf_model.specs.Trees.{AsItKeeps, Faults, Keeps, Telling, Tells, bind}
 use Rattle.cf_model.specs.Words.{is_empty, part}
 use Rattle.cf_model.proofs.StoreLaws.{step_extends}
 use Rattle.cf_model_laws.specs.GivenOnce.{WasGiven}
-use Rattle.cf_model_laws.specs.Invariant.{All, Carries, HasEntry, IsGivenIn, IsLiveRight, IsMessageRight, IsSound, Names, OfRequest, TellsBytes, TellsTruth, message_in, put_bytes, Asks}
+use Rattle.cf_model_laws.specs.Invariant.{All, Carries, HasEntry, IsGivenIn, IsLiveRight, IsMessageRight, IsSound, Names, OfRequest, TellsBytes, TellsTruth, message_in, put_bytes, Asks, IsAskedFor}
 use Rattle.cf_model_laws.specs.Premises.{IsFair}
 use Rattle.cf_model_laws.proofs.OperationsGuarded.{keys_same}
 use Rattle.cf_model_laws.proofs.FeedEntriesGuarded.{IsTold}
@@ -53,6 +53,7 @@ use Rattle.cf_model_laws.proofs.SoundLinks.{CarriesBy, FrameCarries, message_lon
 use Rattle.cf_model_laws.proofs.SoundSettles.{left_true, not_false, right_true}
 use Rattle.cf_model_laws.proofs.SoundStates.{small_before}
 use Rattle.cf_model_laws.proofs.EntriesAsked.{carries_asks}
+use Rattle.std.proofs.lemmas.Bool.Decides.{nat_tests}
 
 -- what the remote is asked
 
@@ -182,10 +183,20 @@ come_led P closed m q s at h = λ x. by x where
 
 -- a reply is taken
 
+entry_low : (ks : List Known) (x : Entry) → is_entry ks x ≡ true → x.rid.0 ≡ 1 → ⊥
+entry_low ks x e z = by x.rid.0 z (left_true (nat_lt 1 x.rid.0) (not (x.rid.0 == x.parent.0)) (left_true (nat_lt 1 x.rid.0 && not (x.rid.0 == x.parent.0)) (is_name x.name) (left_true (nat_lt 1 x.rid.0 && not (x.rid.0 == x.parent.0) && is_name x.name) (is_of_kind ks x)
+    (left_true (nat_lt 1 x.rid.0 && not (x.rid.0 == x.parent.0) && is_name x.name && is_of_kind ks x) (cond x.dir ((x.version.0 == 0) && (x.len == 0)) (nat_le 1 x.version.0 && nat_le x.len 16777216)) e)))) where
+      by : (n : ℕ) → n ≡ 1 → nat_lt 1 n ≡ true → ⊥
+      by n z e = grind (arith, nat_tests, z, e)
+
+lows : (ks : List Known) (es : List Entry) → list_all (is_entry ks) es ≡ true → All (λ e. e.rid.0 ≡ 1 → ⊥) es
+lows ks [] e = tt
+lows ks (x ∷ es) e = (entry_low ks x (left_true (is_entry ks x) (list_all (is_entry ks) es) e), lows ks es (right_true (is_entry ks x) (list_all (is_entry ks) es) e))
+
 told_all : (l : Link) (ks : List Known) (es : List Entry) → (IsFair l → All (HasEntry l.remote) es) → list_all (is_entry ks) es ≡ true → All (IsTold l) es
 told_all l ks [] has e = tt
 told_all l ks (x ∷ es) has e = (
-  record { has = λ fair. (has fair).0; dir = λ d. version_zero x (right_true (nat_lt 1 x.rid.0 && not (x.rid.0 == x.parent.0) && is_name x.name && is_of_kind ks x) (cond x.dir ((x.version.0 == 0) && (x.len == 0)) (nat_le 1 x.version.0 && nat_le x.len 16777216)) (left_true (is_entry ks x) (list_all (is_entry ks) es) e)) d },
+  record { has = λ fair. (has fair).0; low = entry_low ks x (left_true (is_entry ks x) (list_all (is_entry ks) es) e); dir = λ d. version_zero x (right_true (nat_lt 1 x.rid.0 && not (x.rid.0 == x.parent.0) && is_name x.name && is_of_kind ks x) (cond x.dir ((x.version.0 == 0) && (x.len == 0)) (nat_le 1 x.version.0 && nat_le x.len 16777216)) (left_true (is_entry ks x) (list_all (is_entry ks) es) e)) d },
   told_all l ks es (λ fair. (has fair).1) (right_true (is_entry ks x) (list_all (is_entry ks) es) e),
 ) where
   version_zero : (x : Entry) → cond x.dir ((x.version.0 == 0) && (x.len == 0)) (nat_le 1 x.version.0 && nat_le x.len 16777216) ≡ true → x.dir ≡ true → x.version.0 ≡ 0
@@ -202,6 +213,69 @@ feed_fits ks st (request.Move t rid parent name) round clock es e = no_way e
 feed_fits ks st (request.Remove t rid expect) round clock es e = no_way e
 feed_fits ks st (request.Settle t) round clock es e = no_way e
 feed_fits ks st (request.Keep t count) round clock es e = no_way e
+
+listing_fits : (ks : List Known) (st : Rid) (q : Request) (key : Key) (es : List Entry) → fits ks st q (reply.Listing key es) ≡ true → are_entries ks es ≡ true
+listing_fits ks st (request.List key2 rid) key es e = right_true (same_key key2 key) (are_entries ks es) (left_true (same_key key2 key && are_entries ks es) (is_listing rid es) e)
+listing_fits ks st (request.Feed round2 after) key es e = no_way e
+listing_fits ks st (request.Fetch key2 rid version start2 len) key es e = no_way e
+listing_fits ks st (request.Put t rid expect parent name bs) key es e = no_way e
+listing_fits ks st (request.MakeDir t parent name) key es e = no_way e
+listing_fits ks st (request.Move t rid parent name) key es e = no_way e
+listing_fits ks st (request.Remove t rid expect) key es e = no_way e
+listing_fits ks st (request.Settle t) key es e = no_way e
+listing_fits ks st (request.Keep t count) key es e = no_way e
+
+-- a Done that fits names no root
+
+own_key : (s : State) (t token : Token) (e : QueueEntry) → entry_live s token ≡ Some e → same_key t.0 token.0 ≡ true → same_key t.0 e.token.0 ≡ true
+own_key s t token e live k =
+    let same : e.token ≡ token = same_token e.token token (all_found (λ q. Unit {0}) (λ q. same_key q.token.0 token.0) (book_now s).entries e live (all_any (λ q. Unit {0}) (λ q. tt) (book_now s).entries)).1 in
+    subst (λ (x : Token). same_key t.0 x.0 ≡ true) (sym same) k
+
+low_told : (ks : List Known) (asked told : Rid) → done_fits ks asked told ≡ true → (asked.0 ≡ 1 → ⊥) → told.0 ≡ 1 → ⊥
+low_told ks asked told e low z = by (asked.0 == 0) e where
+  small : (n : ℕ) → n ≡ 1 → nat_lt 1 n ≡ true → ⊥
+  small n z e = grind (arith, nat_tests, z, e)
+
+  by : (b : Bool) → cond b (nat_lt 1 told.0 && not (is_known ks told)) (asked.0 == told.0) ≡ true → ⊥
+  by true k = small told.0 z (left_true (nat_lt 1 told.0) (not (is_known ks told)) k)
+  by false k = low (eqb-true asked.0 told.0 k ∙ z)
+
+zero_low : (n : ℕ) → n ≡ 0 → n ≡ 1 → ⊥
+zero_low n a b = omega (arith, a, b)
+
+entry_rid_low : (r : Held) (ms : List (Option Frame)) (e : QueueEntry) → IsAskedFor r ms e → (e.action ≡ PutFile) ⊎ (e.action ≡ MakeDir) → e.rid.0 ≡ 1 → ⊥
+entry_rid_low r ms e asked (inl is) z = asked.low is z
+entry_rid_low r ms e asked (inr is) z = zero_low e.rid.0 (asked.new is) z
+
+no_move_up : (a : Action) → (a ≡ PutFile) ⊎ (a ≡ MakeDir) → a ≡ MoveItem → ⊥
+no_move_up a (inl is) z = let y : ◌≡◌ {A = Action} PutFile MoveItem = sym is ∙ z in cc
+no_move_up a (inr is) z = let y : ◌≡◌ {A = Action} MakeDir MoveItem = sym is ∙ z in cc
+
+no_removal_up : (a : Action) → (a ≡ PutFile) ⊎ (a ≡ MakeDir) → a ≡ RemoveItem → ⊥
+no_removal_up a (inl is) z = let y : ◌≡◌ {A = Action} PutFile RemoveItem = sym is ∙ z in cc
+no_removal_up a (inr is) z = let y : ◌≡◌ {A = Action} MakeDir RemoveItem = sym is ∙ z in cc
+
+done_low : (s : State) (q : Request) (token : Token) (rid : Rid) (version : Version) (e : QueueEntry) → fits (known_now s) (settled_rid s q) q (reply.Done token rid version) ≡ true → entry_live s token ≡ Some e → Asks e q → IsAskedFor s.link.remote s.link.messages e
+    → (e.action ≡ PutFile) ⊎ (e.action ≡ MakeDir) → rid.0 ≡ 1 → ⊥
+done_low s (request.Feed round after) token rid version e fit live asks asked is = no_way fit
+done_low s (request.List key r) token rid version e fit live asks asked is = no_way fit
+done_low s (request.Fetch key r v start len) token rid version e fit live asks asked is = no_way fit
+done_low s (request.Put t r expect parent name bytes) token rid version e fit live asks asked is =
+    let own : same_key t.0 e.token.0 ≡ true = own_key s t token e live (left_true (same_key t.0 token.0) (done_fits (known_now s) r rid) fit) in
+    low_told (known_now s) r rid (right_true (same_key t.0 token.0) (done_fits (known_now s) r rid) fit) (λ z. entry_rid_low s.link.remote s.link.messages e asked is (sym (asks own).1 ∙ z))
+done_low s (request.MakeDir t parent name) token rid version e fit live asks asked is =
+    low_told (known_now s) (record { 0 = 0 }) rid (right_true (same_key t.0 token.0) (done_fits (known_now s) (record { 0 = 0 }) rid) fit) (λ z. zero_low 0 refl z)
+done_low s (request.Move t r parent name) token rid version e fit live asks asked is =
+    absurd (no_move_up e.action is (asks (own_key s t token e live (left_true (same_key t.0 token.0) (done_fits (known_now s) r rid) fit))).0)
+done_low s (request.Remove t r expect) token rid version e fit live asks asked is =
+    absurd (no_removal_up e.action is (asks (own_key s t token e live (left_true (same_key t.0 token.0) (done_fits (known_now s) r rid) fit))).0)
+done_low s (request.Keep t count) token rid version e fit live asks asked is =
+    no_way (sym asks ∙ own_key s t token e live (left_true (same_key t.0 token.0) (done_fits (known_now s) (record { 0 = 1 }) rid) fit))
+done_low s (request.Settle t) token rid version e fit live asks asked is =
+    low_told (known_now s) (part (λ q. q.rid) no_rid (entry_live s t)) rid (right_true (same_key t.0 token.0) (done_fits (known_now s) (part (λ q. q.rid) no_rid (entry_live s t)) rid) fit)
+    (λ z. entry_rid_low s.link.remote s.link.messages e asked is
+    (sym (ap (λ (o : Option QueueEntry). (part (λ q. q.rid) no_rid o).0) (ap (entry_live s) (same_token t token (left_true (same_key t.0 token.0) (done_fits (known_now s) (part (λ q. q.rid) no_rid (entry_live s t)) rid) fit)) ∙ live)) ∙ z))
 
 is_nothing : (es : List QueueEntry) → is_empty es ≡ true → es ≡ []
 is_nothing [] e = refl
@@ -232,10 +306,10 @@ bytes_fit P closed m (request.Remove t rid expect) key start bytes s h fit told 
 bytes_fit P closed m (request.Settle t) key start bytes s h fit told a live fair fetch = no_way fit
 bytes_fit P closed m (request.Keep t count) key start bytes s h fit told a live fair fetch = no_way fit
 
-done_in : (s : State) (token : Token) (rid : Rid) (version : Version) (e : QueueEntry) → entry_live s token ≡ Some e → TellsTruth s.link.remote (reply.Done token rid version) → replies.DoneIn s e rid version
-done_in s token rid version e f told =
+done_in : (s : State) (token : Token) (rid : Rid) (version : Version) (e : QueueEntry) → entry_live s token ≡ Some e → TellsTruth s.link.remote (reply.Done token rid version) → ((e.action ≡ PutFile) ⊎ (e.action ≡ MakeDir) → rid.0 ≡ 1 → ⊥) → replies.DoneIn s e rid version
+done_in s token rid version e f told low =
     let same : e.token ≡ token = same_token e.token token (all_found (λ q. Unit {0}) (λ q. same_key q.token.0 token.0) (book_now s).entries e f (all_any (λ q. Unit {0}) (λ q. tt) (book_now s).entries)).1 in
-    (subst (λ (t : Token). entry_of (book_now s) t ≡ Some e) (sym same) f, subst (λ (t : Token). recorded_at s.link.remote.tokens t ≡ Some (RecordedDone rid version)) (sym same) told)
+    (subst (λ (t : Token). entry_of (book_now s) t ≡ Some e) (sym same) f, subst (λ (t : Token). recorded_at s.link.remote.tokens t ≡ Some (RecordedDone rid version)) (sym same) told, low)
 
 act_on_at : (P : State → Type 0) → Guarded P → (m : ℕ) (q : Request) (r : Reply) (s : State) → is_stale q r s ≡ false → (IsFair s.link → ToldAt s m q r) → P s → Keeps P (act_on r s)
 act_on_at P closed m q (reply.Feed round clock es) s stale told h =
@@ -244,7 +318,9 @@ act_on_at P closed m q (reply.Feed round clock es) s stale told h =
     apply_feed_at P closed clock es s (λ fair. is_nothing (book_now s).entries (right_true (is_latest_round s round.0 && s.volatile.round_open && nat_le (book_now s).cursor clock) (is_empty (book_now s).entries) live))
     (λ fair. (told fair).1.0)
     (told_all s.link (known_now s) es (λ fair. (told fair).1.1) (left_true (list_all (is_entry (known_now s)) es) (are_distinct es) (feed_fits (known_now s) (settled_rid s q) q round clock es k.0))) h
-act_on_at P closed m q (reply.Listing key es) s stale told h = fetching.take_listing_at P closed key es s (λ fair. (told fair).1) h
+act_on_at P closed m q (reply.Listing key es) s stale told h =
+    fetching.take_listing_at P closed key es s (λ fair. (told fair).1)
+    (lows (known_now s) es (left_true (list_all (is_entry (known_now s)) es) (are_distinct es) (listing_fits (known_now s) (settled_rid s q) q key es (or_false (fits (known_now s) (settled_rid s q) q (reply.Listing key es)) (is_old s (reply.Listing key es)) stale).0))) h
 act_on_at P closed m q (reply.Bytes key start bytes) s stale told h =
     let k = or_false (fits (known_now s) (settled_rid s q) q (reply.Bytes key start bytes)) (is_old s (reply.Bytes key start bytes)) stale in
     fetching.take_bytes_at P closed key start bytes s (bytes_fit P closed m q key start bytes s h k.0 told) h
@@ -252,7 +328,10 @@ act_on_at P closed m q (reply.Missing key) s stale told h = (fetching.take_missi
 act_on_at P closed m q (reply.Done token rid version) s stale told h = by (entry_live s token) refl where
   by : (o : Option QueueEntry) → entry_live s token ≡ o → Keeps P (with_entry (λ e. take_done e rid version) o s)
   by None f = h
-  by (Some e) f = replies.take_done_at P closed e rid version s (λ fair. done_in s token rid version e f (told fair).1) h
+  by (Some e) f = replies.take_done_at P closed e rid version s
+      (λ fair. let asked : IsAskedFor s.link.remote s.link.messages e = (all_found (IsAskedFor s.link.remote s.link.messages) (λ x. same_key x.token.0 token.0) (book_now s).entries e f ((closed.on_filter s h).sound s.filter h fair).now.asked).0 in
+      done_in s token rid version e f (told fair).1
+      (done_low s q token rid version e (or_false (fits (known_now s) (settled_rid s q) q (reply.Done token rid version)) (is_old s (reply.Done token rid version)) stale).0 f (all_message (Asks e) s.link.messages m q asked.sent (told fair).0) asked)) h
 act_on_at P closed m q (reply.Void token) s stale told h = by (entry_live s token) where
   by : (o : Option QueueEntry) → Keeps P (with_entry take_void o s)
   by None = h

@@ -52,7 +52,7 @@ whatever_keeps P closed done = keeps_ret P unit
 
 -- What a Done tells: its entry is live, and the remote has recorded the version.
 abbrev pub DoneIn : State → QueueEntry → Rid → Version → Type 0
-DoneIn s e rid version = (entry_of (book_now s) e.token ≡ Some e) × (recorded_at s.link.remote.tokens e.token ≡ Some (RecordedDone rid version))
+DoneIn s e rid version = (entry_of (book_now s) e.token ≡ Some e) × (recorded_at s.link.remote.tokens e.token ≡ Some (RecordedDone rid version)) × ((e.action ≡ PutFile) ⊎ (e.action ≡ MakeDir) → rid.0 ≡ 1 → ⊥)
 
 pub each_at : (id : ItemId) (P : Item → Type 0) (items : List Item) (i : Item) → item_of items id ≡ Some i → Each id P items → P i
 each_at id P [] i e h = cc
@@ -125,11 +125,11 @@ alone_after : (s : State) (e : QueueEntry) → entry_of (book_now s) e.token ≡
 alone_after s e live sound some = apart_rest (λ f. same_key f.token.0 e.token.0) e.item.0 (book_now s).entries e refl some live sound.now.apart
 
 -- the identity that a Done gives names well
-put_well : (s : State) (e : QueueEntry) (rid : Rid) (version : Version) (i : Item) → IsFair s.link → bytes_of s.link.remote rid version ≡ Some (put_bytes (base_bytes s.link.remote i) e.number i.writes) → i.directory ≡ false → i.placeholder ≡ true → IsOfKind s.link.remote rid false
+put_well : (s : State) (e : QueueEntry) (rid : Rid) (version : Version) (i : Item) → IsFair s.link → bytes_of s.link.remote rid version ≡ Some (put_bytes (base_bytes s.link.remote i) e.number i.writes) → i.directory ≡ false → i.placeholder ≡ true → IsOfKind s.link.remote rid false → (rid.0 ≡ 1 → ⊥)
     → NamesWell s.link.remote i.directory i.placeholder (identity_for i.directory rid version) × (base_named s.link.remote (identity_for i.directory rid version) ≡ put_bytes (base_bytes s.link.remote i) e.number i.writes)
-put_well s e rid version i fair made file placed kind =
+put_well s e rid version i fair made file placed kind low =
     subst (λ (d : Bool). NamesWell s.link.remote d i.placeholder (identity_for d rid version) × (base_named s.link.remote (identity_for d rid version) ≡ put_bytes (base_bytes s.link.remote i) e.number i.writes)) (sym file) (
-      subst (λ (p : Bool). NamesWell s.link.remote false p (identity_of rid rid version)) (sym placed) (file_well s.link.remote rid version (fair.1.1 rid version (put_bytes (base_bytes s.link.remote i) e.number i.writes) made).0 kind (inr (put_bytes (base_bytes s.link.remote i) e.number i.writes, made_read s.link.remote rid rid version (put_bytes (base_bytes s.link.remote i) e.number i.writes) fair.1 made))),
+      subst (λ (p : Bool). NamesWell s.link.remote false p (identity_of rid rid version)) (sym placed) (file_well s.link.remote rid version (fair.1.1 rid version (put_bytes (base_bytes s.link.remote i) e.number i.writes) made).0 kind low (inr (put_bytes (base_bytes s.link.remote i) e.number i.writes, made_read s.link.remote rid rid version (put_bytes (base_bytes s.link.remote i) e.number i.writes) fair.1 made))),
       made_named s.link.remote rid rid version (put_bytes (base_bytes s.link.remote i) e.number i.writes) fair.1 made,
     )
 
@@ -138,17 +138,17 @@ DoneFits s e rid version i =
     NamesWell s.link.remote i.directory i.placeholder (identity_for i.directory rid version)
     × (i.directory ≡ false → ((list_all is_some i.held ≡ true) ⊎ (up_to e.number i.writes ≡ [])) × (base_named s.link.remote (identity_for i.directory rid version) ≡ put_bytes (base_bytes s.link.remote i) e.number i.writes))
 
-done_one : (a : Action) (s : State) (e : QueueEntry) (rid : Rid) (version : Version) (i : Item) → (a ≡ PutFile) ⊎ (a ≡ MakeDir) → IsFair s.link → IsSound s.link s.volatile.tokens s.filter → DoneIn s e rid version → item_of (items_now s) e.item ≡ Some i
+done_one : (a : Action) (s : State) (e : QueueEntry) (rid : Rid) (version : Version) (i : Item) → (a ≡ PutFile) ⊎ (a ≡ MakeDir) → (rid.0 ≡ 1 → ⊥) → IsFair s.link → IsSound s.link s.volatile.tokens s.filter → DoneIn s e rid version → item_of (items_now s) e.item ≡ Some i
     → FitsBy a s.link.remote s.link.messages (items_now s) e → DidBy a s.link.remote.items e.rid rid → DoneFits s e rid version i
-done_one PutFile s e rid version i is fair sound done found fit did =
+done_one PutFile s e rid version i is low fair sound done found fit did =
     let p : PutFits s.link.remote s.link.messages e i = each_at e.item (PutFits s.link.remote s.link.messages e) (items_now s) i found fit in
-    let w = put_well s e rid version i fair (p.recorded rid version done.1) p.file p.placed did.0 in
+    let w = put_well s e rid version i fair (p.recorded rid version done.1) p.file p.placed did.0 low in
     (w.0, λ file. (p.here, w.1))
-done_one MakeDir s e rid version i is fair sound done found fit did =
+done_one MakeDir s e rid version i is low fair sound done found fit did =
     let dir : i.directory ≡ true = each_at e.item (λ i. i.directory ≡ true) (items_now s) i found fit in
-    (subst (λ (d : Bool). NamesWell s.link.remote d i.placeholder (identity_for d rid version)) (sym dir) (dir_well s.link.remote rid i.placeholder (small_rid s.link.remote rid true sound.counted fair.1 did) did), λ file. no_way (sym file ∙ dir))
-done_one MoveItem s e rid version i is fair sound done found fit did = elim is as (λ _. DoneFits s e rid version i) [ inl z ↦ cc | inr z ↦ cc ]
-done_one RemoveItem s e rid version i is fair sound done found fit did = elim is as (λ _. DoneFits s e rid version i) [ inl z ↦ cc | inr z ↦ cc ]
+    (subst (λ (d : Bool). NamesWell s.link.remote d i.placeholder (identity_for d rid version)) (sym dir) (dir_well s.link.remote rid i.placeholder (small_rid s.link.remote rid true sound.counted fair.1 did) did low), λ file. no_way (sym file ∙ dir))
+done_one MoveItem s e rid version i is low fair sound done found fit did = elim is as (λ _. DoneFits s e rid version i) [ inl z ↦ cc | inr z ↦ cc ]
+done_one RemoveItem s e rid version i is low fair sound done found fit did = elim is as (λ _. DoneFits s e rid version i) [ inl z ↦ cc | inr z ↦ cc ]
 
 pub rebase_at : (P : State → Type 0) → Guarded P → (e : QueueEntry) (rid : Rid) (version : Version) (i : Item) (s : State) → (IsFair s.link → DoneFits s e rid version i × DoneIn s e rid version × (item_of (items_now s) e.item ≡ Some i)) → P s
     → Keeps P (rebase e (rebase_of e rid version i) s)
@@ -194,7 +194,7 @@ upload_done_at P closed e rid version s is done h = by (item_of (items_now s) e.
   by (Some i) f =
       rebase_at P closed e rid version i s
       (λ fair. let sound : IsSound s.link s.volatile.tokens s.filter = (closed.on_filter s h).sound s.filter h fair in
-      (done_one e.action s e rid version i is fair sound (done fair) f (all_found (EntryFits s.link.remote s.link.messages (items_now s)) (λ q. same_key q.token.0 e.token.0) (book_now s).entries e (done fair).0 sound.now.fit).0 ((all_found (IsAskedFor s.link.remote s.link.messages) (λ q. same_key q.token.0 e.token.0) (book_now s).entries e (done fair).0 sound.now.asked).0.did rid version (done fair).1), done fair, f)) h
+      (done_one e.action s e rid version i is ((done fair).2 is) fair sound (done fair) f (all_found (EntryFits s.link.remote s.link.messages (items_now s)) (λ q. same_key q.token.0 e.token.0) (book_now s).entries e (done fair).0 sound.now.fit).0 ((all_found (IsAskedFor s.link.remote s.link.messages) (λ q. same_key q.token.0 e.token.0) (book_now s).entries e (done fair).0 sound.now.asked).0.did rid version (done fair).1), done fair, f)) h
 
 -- the path of a Move that was done comes to be seen
 done_move_at : (P : State → Type 0) → Guarded P → (e : QueueEntry) (s : State) → e.action ≡ MoveItem → (IsFair s.link → entry_of (book_now s) e.token ≡ Some e) → P s → Keeps P (done_move e s)

@@ -54,7 +54,7 @@ true_still r s n x (i ∷ is) right h =
 
 aimed_still : (r s : Held) (directory : Bool) (identity : List ℕ) → GrowsTo r s → IsAimed r directory identity → IsAimed s directory identity
 aimed_still r s directory identity g (inl e) = inl e
-aimed_still r s directory identity g (inr k) = inr (g.kinds (target_in identity) directory k.0, k.1)
+aimed_still r s directory identity g (inr k) = inr (g.kinds (target_in identity) directory k.0, k.1, k.2)
 
 right_still : (r s : Held) (n : Usn) (i : Item) → Extends r s → GrowsTo r s → IsRight r n i → IsRight s n i
 right_still r s n i x g h = record { based = based_still r s i.identity x h.based; aimed = aimed_still r s i.directory i.identity g h.aimed; rises = h.rises; last = h.last; early = h.early; clean = h.clean; bare = h.bare; plain = h.plain; top = h.top }
@@ -100,7 +100,7 @@ fits_asked MoveItem r ms epoch tokens q n e items counted well own right h = tt
 fits_asked RemoveItem r ms epoch tokens q n e items counted well own right h = tt
 
 entry_asked : (r : Held) (ms : List (Option Frame)) (epoch tokens : ℕ) (q : Request) (e : QueueEntry) → IsCounted r → AskedWell ms epoch tokens q → 1 ≤ e.token.0.epoch → IsAskedFor r ms e → IsAskedFor (remote_step r q).1 ms e
-entry_asked r ms epoch tokens q e counted well own h = record { did = λ rid version k. by rid version (recorded_at r.tokens e.token) refl k; sent = h.sent } where
+entry_asked r ms epoch tokens q e counted well own h = record { did = λ rid version k. by rid version (recorded_at r.tokens e.token) refl k; sent = h.sent; low = h.low; new = h.new } where
   by : (rid : Rid) (version : Version) (o : Option Recorded) → recorded_at r.tokens e.token ≡ o → recorded_at (remote_step r q).1.tokens e.token ≡ Some (RecordedDone rid version) → DidBy e.action (remote_step r q).1.items e.rid rid
   by rid version (Some d) f k =
       let z : ◌≡◌ {A = Option Recorded} (Some d) (Some (RecordedDone rid version)) = sym ((step_extends r q).tokens e.token d f) ∙ k in
@@ -236,7 +236,7 @@ durable_posted r ms f epoch tokens n next items es c h = record {
   more = h.more;
   fit = all_both (FrameCarries r items f) (EntryFits r ms items) (EntryFits r (ms ++ f ∷ []) items) (λ e g k. fits_posted e.action r ms f items e g.0 k) es c h.fit;
   given = h.given;
-  asked = all_both (FrameCarries r items f) (IsAskedFor r ms) (IsAskedFor r (ms ++ f ∷ [])) (λ e g k. record { did = k.did; sent = all_append (OfRequest (Asks e)) ms (f ∷ []) k.sent (g.1, tt) }) es c h.asked;
+  asked = all_both (FrameCarries r items f) (IsAskedFor r ms) (IsAskedFor r (ms ++ f ∷ [])) (λ e g k. record { did = k.did; sent = all_append (OfRequest (Asks e)) ms (f ∷ []) k.sent (g.1, tt); low = k.low; new = k.new }) es c h.asked;
   apart = h.apart;
 }
 

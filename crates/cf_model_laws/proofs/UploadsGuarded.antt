@@ -71,6 +71,8 @@ pub record IsNewEntry (s : State) (e : QueueEntry) (bytes : List ℕ) : Type 0 w
   pub apart : All (λ f. f.item.0 ≡ e.item.0 → f.item.0 ≡ 0) (book_now s).entries
   pub facts : NewBy e.action s.link.remote (items_now s) e bytes
   pub off : MovesThere s e
+  pub low : e.action ≡ PutFile → e.rid.0 ≡ 1 → ⊥
+  pub new : e.action ≡ MakeDir → e.rid.0 ≡ 0
 
 -- nothing says a word of a fresh token
 
@@ -139,6 +141,8 @@ entered s e bytes token sound new = record {
   asked = record {
     did = λ rid version f. absurd (unrecorded s.filter.volume.epoch s.volatile.tokens s.link.remote.tokens (RecordedDone rid version) sound.recorded (subst (λ (t : Token). recorded_at s.link.remote.tokens t ≡ Some (RecordedDone rid version)) token f));
     sent = all_weaker (IsMessageRight s.link.remote s.link.messages s.filter.volume.epoch s.filter.waiting.key_count s.volatile.tokens) (OfRequest (Asks e)) (unsent s e token) s.link.messages sound.messages;
+    low = new.low;
+    new = new.new;
   };
   apart = new.apart;
 }

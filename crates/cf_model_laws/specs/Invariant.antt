@@ -69,9 +69,11 @@ IsOfKind r rid directory = IsIn (λ s. s.directory ≡ directory) r.items rid
 abbrev pub target_in : List ℕ → Rid
 target_in identity = record { 0 = number_of (take 8 identity) }
 
--- The target is an item of the remote, of the kind, and of a file it is the base too; or there is none.
+-- The target is an item of the remote below its root, of the kind, and of a file it is the base too; or there is none.
 abbrev pub IsAimed : Held → Bool → List ℕ → Type 0
-IsAimed r directory identity = ((target_in identity).0 ≡ 0) ⊎ (IsOfKind r (target_in identity) directory × (directory ≡ false → (rid_in identity).0 ≡ (target_in identity).0))
+IsAimed r directory identity =
+    ((target_in identity).0 ≡ 0)
+    ⊎ (IsOfKind r (target_in identity) directory × (directory ≡ false → (rid_in identity).0 ≡ (target_in identity).0) × ((target_in identity).0 ≡ 1 → ⊥))
 
 -- an item
 
@@ -176,6 +178,9 @@ DidBy RemoveItem ss asked rid = (rid.0 ≡ asked.0) × IsIn (λ s. s.live ≡ fa
 pub record IsAskedFor (r : Held) (ms : List (Option Frame)) (e : QueueEntry) : Type 0 where
   pub did : (rid : Rid) (version : Version) → recorded_at r.tokens e.token ≡ Some (RecordedDone rid version) → DidBy e.action r.items e.rid rid
   pub sent : All (OfRequest (Asks e)) ms
+  -- a file is not the remote's root, and a directory is a new one
+  pub low : e.action ≡ PutFile → e.rid.0 ≡ 1 → ⊥
+  pub new : e.action ≡ MakeDir → e.rid.0 ≡ 0
 
 -- no two entries are about one item
 abbrev pub AreApart : List QueueEntry → Type 0
