@@ -1,2 +1,4 @@
+pub mod CountedLeft
 pub mod Delivered
 pub mod Passed
+pub mod Synced

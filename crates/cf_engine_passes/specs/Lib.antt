@@ -1,3 +1,5 @@
 pub mod Deliveries
 pub mod Settlements
+pub mod Syncs
+pub mod Unsettled
 pub mod Works

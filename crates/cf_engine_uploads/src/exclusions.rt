@@ -64,7 +64,7 @@ fn is_line_stored(rows: &Rows, id: ItemId) -> bool
 }
 
 /// Whether the item or one above it is stored as excluded. It takes time by the depth.
-pub(crate) fn is_excluded(rows: &Rows, id: ItemId) -> bool
+pub fn is_excluded(rows: &Rows, id: ItemId) -> bool
     ensures { (items : List Item) → MeansAll rows.now.rows items → IsTree items → result ≡ is_excluded items id }
 {
     if is_stored(rows, ROOT) {

@@ -18,5 +18,6 @@ mod senders;
 mod turns;
 mod uploads;
 
+pub use exclusions::is_excluded;
 pub use push_lists::push_all;
 pub use senders::Sender;
