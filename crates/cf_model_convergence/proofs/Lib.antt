@@ -1,9 +1,11 @@
+pub mod AddingGuarded
 pub mod EarlyCursors
 pub mod FeedsOrder
 pub mod FeedsTold
 pub mod LastingGuarded
 pub mod LateChanges
 pub mod Lines
+pub mod PassesAdd
 pub mod RestingMatches
 pub mod RightTargets
 pub mod RoundsTaken

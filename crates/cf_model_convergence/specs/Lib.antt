@@ -1,3 +1,4 @@
+pub mod Adding
 pub mod Feeds
 pub mod Lapses
 pub mod Lasting
