@@ -1,15 +1,1 @@
-pub mod Asked
-pub mod Called
-pub mod Counted
-pub mod Finished
-pub mod Gained
-pub mod Hushed
-pub mod Hushing
-pub mod Later
-pub mod Offs
 pub mod Planned
-pub mod Powers
-pub mod Provided
-pub mod Reopening
-pub mod Tellings
-pub mod Wholes

@@ -1,5 +1,2 @@
-pub mod Answered
-pub mod Counted
-pub mod Meaning
-pub mod Pasts
-pub mod Stepped
+pub mod Plays
+pub mod Scripts

@@ -1,15 +1,16 @@
 //! Placeholders.
 
-ghost use Rattle.std.specs.Prelude.{◌≡◌};
-ghost use Rattle.cf_world_filter.specs.Counted.{StepsOn};
+ghost use Rattle.std.specs.Prelude.{◌≡◌, Bool, List};
+ghost use Rattle.cf_filter_events.specs.Counted.{StepsOn};
+ghost use Rattle.cf_base.specs.declared.operations.Operation.{Operation};
 ghost use Rattle.cf_base.specs.declared.events.Event.TheVariants as event;
 ghost use Rattle.cf_base.specs.declared.events.ProviderEvent.TheVariants as provider;
+ghost use Rattle.cf_world_filter.specs.Scripts.{scripts};
 
-use crate::answers::answered;
-use crate::places::Running;
-use crate::results::{item, number};
 use cf_base::{Answer, Identity, Notes, OutOfMemory, Text};
 use cf_disk::Disk;
+use cf_filter::Filter;
+use cf_filter_events::{answered, item, number};
 use cf_item_rules::Creation;
 use std::alloc::Global;
 
@@ -22,95 +23,99 @@ fn wide_size(size: Option<u32>) -> Option<u64>
     }
 }
 
-impl<D: Disk> Running<D> {
-    /// `place`
-    pub(crate) fn place(
-        &mut self,
-        alloc: Global,
-        path: &Text,
-        size: u32,
-        identity: &Identity,
-        in_sync: bool,
-    ) -> Result<Answer, OutOfMemory>
-        ensures { StepsOn D.state (event.Provider (provider.Place path.now size identity.now in_sync)) self.old result self.new }
-    {
-        let identity = identity.copy()?;
-        let what = Creation::Placeholder {
-            size: size as u64,
-            identity,
-            mark: in_sync,
-        };
-        let mut notes = Notes::new(alloc);
-        let told = self.filter.create(path.as_str(), &what, &mut notes);
-        answered(item(told), notes)
-    }
+/// `place`
+pub(crate) fn place<D: Disk>(
+    alloc: Global,
+    filter: &mut Filter<D>,
+    path: &Text,
+    size: u32,
+    identity: &Identity,
+    in_sync: bool,
+) -> Result<Answer, OutOfMemory>
+    ensures { (plan : List (Bool × Operation)) → StepsOn scripts D.state (event.Provider (provider.Place path.now size identity.now in_sync)) (record { filter = filter.old; actor = plan }) result (record { filter = filter.new; actor = plan }) }
+{
+    let identity = identity.copy()?;
+    let what = Creation::Placeholder {
+        size: size as u64,
+        identity,
+        mark: in_sync,
+    };
+    let mut notes = Notes::new(alloc);
+    let told = filter.create(path.as_str(), &what, &mut notes);
+    answered(item(told), notes)
+}
 
-    /// `placedir`
-    pub(crate) fn place_dir(
-        &mut self,
-        alloc: Global,
-        path: &Text,
-        identity: &Identity,
-        in_sync: bool,
-    ) -> Result<Answer, OutOfMemory>
-        ensures { StepsOn D.state (event.Provider (provider.PlaceDir path.now identity.now in_sync)) self.old result self.new }
-    {
-        let identity = identity.copy()?;
-        let what = Creation::PlaceholderDir {
-            identity,
-            mark: in_sync,
-        };
-        let mut notes = Notes::new(alloc);
-        let told = self.filter.create(path.as_str(), &what, &mut notes);
-        answered(item(told), notes)
-    }
+/// `placedir`
+pub(crate) fn place_dir<D: Disk>(
+    alloc: Global,
+    filter: &mut Filter<D>,
+    path: &Text,
+    identity: &Identity,
+    in_sync: bool,
+) -> Result<Answer, OutOfMemory>
+    ensures { (plan : List (Bool × Operation)) → StepsOn scripts D.state (event.Provider (provider.PlaceDir path.now identity.now in_sync)) (record { filter = filter.old; actor = plan }) result (record { filter = filter.new; actor = plan }) }
+{
+    let identity = identity.copy()?;
+    let what = Creation::PlaceholderDir {
+        identity,
+        mark: in_sync,
+    };
+    let mut notes = Notes::new(alloc);
+    let told = filter.create(path.as_str(), &what, &mut notes);
+    answered(item(told), notes)
+}
 
-    /// `convert`
-    pub(crate) fn convert(
-        &mut self,
-        alloc: Global,
-        path: &Text,
-        identity: &Identity,
-    ) -> Result<Answer, OutOfMemory>
-        ensures { StepsOn D.state (event.Provider (provider.Convert path.now identity.now)) self.old result self.new }
-    {
-        let mut notes = Notes::new(alloc);
-        let told = self.filter.convert(path.as_str(), identity, &mut notes);
-        answered(number(told), notes)
-    }
+/// `convert`
+pub(crate) fn convert<D: Disk>(
+    alloc: Global,
+    filter: &mut Filter<D>,
+    path: &Text,
+    identity: &Identity,
+) -> Result<Answer, OutOfMemory>
+    ensures { (plan : List (Bool × Operation)) → StepsOn scripts D.state (event.Provider (provider.Convert path.now identity.now)) (record { filter = filter.old; actor = plan }) result (record { filter = filter.new; actor = plan }) }
+{
+    let mut notes = Notes::new(alloc);
+    let told = filter.convert(path.as_str(), identity, &mut notes);
+    answered(number(told), notes)
+}
 
-    /// `revert`
-    pub(crate) fn revert(&mut self, alloc: Global, path: &Text) -> Result<Answer, OutOfMemory>
-        ensures { StepsOn D.state (event.Provider (provider.Revert path.now)) self.old result self.new }
-    {
-        let mut notes = Notes::new(alloc);
-        let told = self.filter.revert(path.as_str(), &mut notes);
-        answered(number(told), notes)
-    }
+/// `revert`
+pub(crate) fn revert<D: Disk>(
+    alloc: Global,
+    filter: &mut Filter<D>,
+    path: &Text,
+) -> Result<Answer, OutOfMemory>
+    ensures { (plan : List (Bool × Operation)) → StepsOn scripts D.state (event.Provider (provider.Revert path.now)) (record { filter = filter.old; actor = plan }) result (record { filter = filter.new; actor = plan }) }
+{
+    let mut notes = Notes::new(alloc);
+    let told = filter.revert(path.as_str(), &mut notes);
+    answered(number(told), notes)
+}
 
-    /// `update`
-    pub(crate) fn update(
-        &mut self,
-        alloc: Global,
-        path: &Text,
-        identity: &Identity,
-        size: Option<u32>,
-    ) -> Result<Answer, OutOfMemory>
-        ensures { StepsOn D.state (event.Provider (provider.Update path.now identity.now size)) self.old result self.new }
-    {
-        let mut notes = Notes::new(alloc);
-        let told = self
-            .filter
-            .update(path.as_str(), identity, wide_size(size), &mut notes);
-        answered(number(told), notes)
-    }
+/// `update`
+pub(crate) fn update<D: Disk>(
+    alloc: Global,
+    filter: &mut Filter<D>,
+    path: &Text,
+    identity: &Identity,
+    size: Option<u32>,
+) -> Result<Answer, OutOfMemory>
+    ensures { (plan : List (Bool × Operation)) → StepsOn scripts D.state (event.Provider (provider.Update path.now identity.now size)) (record { filter = filter.old; actor = plan }) result (record { filter = filter.new; actor = plan }) }
+{
+    let mut notes = Notes::new(alloc);
+    let told = filter.update(path.as_str(), identity, wide_size(size), &mut notes);
+    answered(number(told), notes)
+}
 
-    /// `unmark`
-    pub(crate) fn unmark(&mut self, alloc: Global, path: &Text) -> Result<Answer, OutOfMemory>
-        ensures { StepsOn D.state (event.Provider (provider.Unmark path.now)) self.old result self.new }
-    {
-        let mut notes = Notes::new(alloc);
-        let told = self.filter.clear_in_sync(path.as_str(), &mut notes);
-        answered(number(told), notes)
-    }
+/// `unmark`
+pub(crate) fn unmark<D: Disk>(
+    alloc: Global,
+    filter: &mut Filter<D>,
+    path: &Text,
+) -> Result<Answer, OutOfMemory>
+    ensures { (plan : List (Bool × Operation)) → StepsOn scripts D.state (event.Provider (provider.Unmark path.now)) (record { filter = filter.old; actor = plan }) result (record { filter = filter.new; actor = plan }) }
+{
+    let mut notes = Notes::new(alloc);
+    let told = filter.clear_in_sync(path.as_str(), &mut notes);
+    answered(number(told), notes)
 }

@@ -1,62 +1,61 @@
 //! Marks and operations of the provider.
-#![tactic(auto, using(crate::proofs::Planned::no_memory))]
 
-ghost use Rattle.cf_world_filter.specs.Counted.{StepsOn};
+ghost use Rattle.std.specs.Prelude.{◌≡◌, ◌++◌, ◌∷◌, [], IfOk};
+ghost use Rattle.cf_filter_events.specs.Answered.{answer_with};
+ghost use Rattle.cf_filter_events.specs.Counted.{StepsOn};
+ghost use Rattle.cf_world_filter.specs.Scripts.{scripts};
+ghost use Rattle.cf_base.specs.declared.answers.Shown.TheVariants as shown;
 ghost use Rattle.cf_base.specs.declared.events.Event.TheVariants as event;
 ghost use Rattle.cf_base.specs.declared.events.ProviderEvent.TheVariants as provider;
 
-use crate::answers::{answered, plainly, refused};
-use crate::places::Running;
-use crate::results::{number, outcome};
-use cf_base::{Answer, Code, Notes, Operation, OutOfMemory, Shown, Text, Usn};
+use crate::actors::ScriptActor;
+use cf_base::{Answer, Notes, Operation, OutOfMemory, Shown, Text, Usn};
 use cf_disk::Disk;
+use cf_filter::Filter;
+use cf_filter_events::{answered, number, outcome, plainly};
 use cf_provider_script::Planned;
 use std::alloc::Global;
 
-impl<D: Disk> Running<D> {
+impl ScriptActor {
     /// `mark`
-    pub(crate) fn mark(
+    pub(crate) fn mark<D: Disk>(
         &mut self,
         alloc: Global,
+        filter: &mut Filter<D>,
         path: &Text,
         given: Usn,
     ) -> Result<Answer, OutOfMemory>
-        ensures { StepsOn D.state (event.Provider (provider.Mark path.now given)) self.old result self.new }
+        ensures { StepsOn scripts D.state (event.Provider (provider.Mark path.now given)) (record { filter = filter.old; actor = self.old }) result (record { filter = filter.new; actor = self.new }) }
     {
         let mut notes = Notes::new(alloc);
-        let told = self
-            .filter
-            .set_in_sync(path.as_str(), given, &mut self.provider, &mut notes);
+        let told = filter.set_in_sync(path.as_str(), given, self, &mut notes);
         answered(number(told), notes)
     }
 
     /// `do`
-    pub(crate) fn carry_out(
+    pub(crate) fn carry_out<D: Disk>(
         &mut self,
         alloc: Global,
+        filter: &mut Filter<D>,
         operation: &Operation,
     ) -> Result<Answer, OutOfMemory>
-        ensures { StepsOn D.state (event.Provider (provider.Do operation.now)) self.old result self.new }
+        ensures { StepsOn scripts D.state (event.Provider (provider.Do operation.now)) (record { filter = filter.old; actor = self.old }) result (record { filter = filter.new; actor = self.new }) }
     {
         let mut notes = Notes::new(alloc);
-        let told = self
-            .filter
-            .execute_now(operation, &mut self.provider, &mut notes);
+        let told = filter.execute_now(operation, self, &mut notes);
         answered(outcome(told), notes)
     }
 
-    /// `plan`: refused as Broken after an event that met Device.
+    /// `plan`: the filter stays as it is.
     pub(crate) fn plan(
         &mut self,
         alloc: Global,
         own: bool,
         operation: &Operation,
     ) -> Result<Answer, OutOfMemory>
-        ensures { StepsOn D.state (event.Provider (provider.Plan own operation.now)) self.old result self.new }
+        ensures told { IfOk result (λ a. a ≡ answer_with shown.Done []) }
+        ensures planned { IfOk result (λ a. self.new ≡ self.old ++ (own, operation.now) ∷ []) }
     {
-        if self.filter.is_broken() {
-            return Ok(refused(alloc, Code::Broken));
-        }
         let operation = operation.copy()?;
         self.provider.plan(Planned { own, operation })?;
         Ok(plainly(alloc, Shown::Done))

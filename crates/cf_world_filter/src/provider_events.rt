@@ -1,21 +1,25 @@
 //! Events of the provider.
 
-ghost use Rattle.cf_world_filter.specs.Counted.{StepsOn};
 ghost use Rattle.cf_base.specs.declared.events.Event.TheVariants as event;
+ghost use Rattle.cf_filter_events.specs.Counted.{StepsOn};
+ghost use Rattle.cf_world_filter.specs.Scripts.{scripts};
 
-use crate::places::Running;
+use crate::actors::ScriptActor;
+use crate::placeholders::{convert, place, place_dir, revert, unmark, update};
 use cf_base::{Answer, OutOfMemory, ProviderEvent};
 use cf_disk::Disk;
+use cf_filter::Filter;
 use std::alloc::Global;
 
-impl<D: Disk> Running<D> {
-    /// Does an event of the provider while the volume is open, and answers it.
-    pub(crate) fn provide(
+impl ScriptActor {
+    /// Does an event of the provider while the volume is open and no event met Device, and answers it.
+    pub(crate) fn provide<D: Disk>(
         &mut self,
         alloc: Global,
+        filter: &mut Filter<D>,
         provided: &ProviderEvent,
     ) -> Result<Answer, OutOfMemory>
-        ensures { StepsOn D.state (event.Provider provided.now) self.old result self.new }
+        ensures { StepsOn scripts D.state (event.Provider provided.now) (record { filter = filter.old; actor = self.old }) result (record { filter = filter.new; actor = self.new }) }
     {
         match provided {
             ProviderEvent::Place {
@@ -23,22 +27,22 @@ impl<D: Disk> Running<D> {
                 size,
                 identity,
                 in_sync,
-            } => self.place(alloc, path, *size, identity, *in_sync),
+            } => place(alloc, filter, path, *size, identity, *in_sync),
             ProviderEvent::PlaceDir {
                 path,
                 identity,
                 in_sync,
-            } => self.place_dir(alloc, path, identity, *in_sync),
-            ProviderEvent::Convert { path, identity } => self.convert(alloc, path, identity),
-            ProviderEvent::Revert { path } => self.revert(alloc, path),
+            } => place_dir(alloc, filter, path, identity, *in_sync),
+            ProviderEvent::Convert { path, identity } => convert(alloc, filter, path, identity),
+            ProviderEvent::Revert { path } => revert(alloc, filter, path),
             ProviderEvent::Update {
                 path,
                 identity,
                 size,
-            } => self.update(alloc, path, identity, *size),
-            ProviderEvent::Mark { path, number } => self.mark(alloc, path, *number),
-            ProviderEvent::Unmark { path } => self.unmark(alloc, path),
-            ProviderEvent::Do { operation } => self.carry_out(alloc, operation),
+            } => update(alloc, filter, path, identity, *size),
+            ProviderEvent::Mark { path, number } => self.mark(alloc, filter, path, *number),
+            ProviderEvent::Unmark { path } => unmark(alloc, filter, path),
+            ProviderEvent::Do { operation } => self.carry_out(alloc, filter, operation),
             ProviderEvent::Plan { own, operation } => self.plan(alloc, *own, operation),
         }
     }

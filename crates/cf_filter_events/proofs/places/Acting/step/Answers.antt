@@ -1,0 +1,17 @@
+use Rattle.cf_filter_events.proofs.Counted.{counts_always}
+use Rattle.cf_filter_events.proofs.places.Acting.step.Goals as goal
+
+pub returns-in-On-clause-steps : goal.returns-in-On-clause-steps
+returns-in-On-clause-steps g c = rw c.in-On.is c.step_on.ensures.steps
+
+pub returns-in-On-clause-device : goal.returns-in-On-clause-device
+returns-in-On-clause-device g c = rw c.in-On.is c.step_on.ensures.device
+
+pub returns-in-Off-clause-device : goal.returns-in-Off-clause-device
+returns-in-Off-clause-device g c = rw c.in-Off.is c.step_off.ensures.device
+
+pub returns-in-On-clause-counts : goal.returns-in-On-clause-counts
+returns-in-On-clause-counts g c = rw c.in-On.is c.step_on.ensures.counts
+
+pub returns-in-Off-clause-counts : goal.returns-in-Off-clause-counts
+returns-in-Off-clause-counts g c = rw c.in-Off.is (counts_always _ _ _ _ _ c.step_off.ensures.counts)

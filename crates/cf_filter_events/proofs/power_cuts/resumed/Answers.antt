@@ -1,0 +1,5 @@
+use Rattle.cf_filter_events.proofs.Tellings.{tells_resumed}
+use Rattle.cf_filter_events.proofs.power_cuts.resumed.Goals as goal
+
+pub returns-clause-told : goal.returns-clause-told
+returns-clause-told g c = tells_resumed g.D.Disk.state c.args.filter.now _ _ _ _ c.volume-volume.ensures.known c.count-count.ensures c.in_ok-opened.ensures c.plainly.ensures

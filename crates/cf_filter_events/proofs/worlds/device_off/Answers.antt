@@ -1,0 +1,30 @@
+use Rattle.std.proofs.Common.{refl}
+use Rattle.cf_filter_events.proofs.Wholes.{off_over, off_steps}
+use Rattle.cf_filter_events.proofs.worlds.device_off.Goals as goal
+
+pub returns-in-Stop-clause-steps : goal.returns-in-Stop-clause-steps
+returns-in-Stop-clause-steps g c = rw c.in-Stop.is (off_steps g.A.Actor.acts g.D.Disk.state _ _ _ _ (λ last a t. (refl, refl)) c.stop-told.ensures.steps)
+
+pub returns-in-Stop-clause-device : goal.returns-in-Stop-clause-device
+returns-in-Stop-clause-device g c = rw c.in-Stop.is c.stop-told.ensures.armed
+
+pub returns-in-Crash-clause-steps : goal.returns-in-Crash-clause-steps
+returns-in-Crash-clause-steps g c = rw c.in-Crash.is (off_over g.A.Actor.acts g.D.Disk.state _ _ _ _ c.cut-told.ensures.steps)
+
+pub returns-in-Crash-clause-device : goal.returns-in-Crash-clause-device
+returns-in-Crash-clause-device g c = rw c.in-Crash.is c.cut-told.ensures.powers
+
+pub returns-in-Restart-clause-steps : goal.returns-in-Restart-clause-steps
+returns-in-Restart-clause-steps g c = rw c.in-Restart.is c.restart.ensures.steps
+
+pub returns-in-Restart-clause-device : goal.returns-in-Restart-clause-device
+returns-in-Restart-clause-device g c = rw c.in-Restart.is (record {})
+
+pub returns-in-Stop-clause-counts : goal.returns-in-Stop-clause-counts
+returns-in-Stop-clause-counts g c = c.stop-told.ensures.counts
+
+pub returns-in-Crash-clause-counts : goal.returns-in-Crash-clause-counts
+returns-in-Crash-clause-counts g c = c.cut-told.ensures.counts
+
+pub returns-in-Restart-clause-counts : goal.returns-in-Restart-clause-counts
+returns-in-Restart-clause-counts g c = c.restart.ensures.counts

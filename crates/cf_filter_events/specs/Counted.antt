@@ -1,0 +1,50 @@
+-- How the disk's count of failed calls goes with the answers of events.
+use Rattle.std.specs.Prelude.{◌≡◌, ◌≤◌, Bool, true, false, Result, Ok, Err}
+use Rattle.cf_filter_events.specs.Actors.{Acts}
+use Rattle.cf_filter_events.specs.Meaning.{IsBegun, IsOn}
+use Rattle.cf_filter_events.specs.Pasts.{Past}
+use Rattle.cf_filter_events.specs.Stepped.{SteppedTo}
+use Rattle.cf_filter_events.specs.declared.places.Running.{Running as Run}
+use Rattle.cf_base.specs.declared.answers.Answer.{Answer}
+use Rattle.cf_base.specs.declared.answers.Shown.{Shown}
+use Rattle.cf_base.specs.declared.answers.Shown.TheVariants as shown
+use Rattle.cf_base.specs.declared.events.Event.{Event}
+use Rattle.cf_base.specs.declared.memory.OutOfMemory.{OutOfMemory as NoMemory}
+use Rattle.cf_disk.specs.Disk.{State as Disk}
+use Rattle.cf_filter_machine.specs.Sensing.{Rose}
+use Rattle.cf_model.specs.Arrows.{is_device}
+use Rattle.cf_model.specs.State.{State}
+
+-- a result that tells of a device call that failed
+abbrev pub meets_device : Shown → Bool
+meets_device (shown.Refused c) = is_device c
+meets_device _ = false
+
+-- The count of faults does not fall, and it rose where the event is answered as Device.
+abbrev pub CountsTo : Result Answer NoMemory → Disk → Disk → Type 0
+CountsTo (Ok a) d e = (d.faults ≤ e.faults) × (meets_device a.shown ≡ true → Rose d e)
+CountsTo (Err m) d e = Unit {0}
+
+-- in each state that the world stands for
+pub record Counts {X : Type 0} (Is : Past → X → State → Type 0) (old : X) (r : Result Answer NoMemory) (d e : Disk) : Type 0 where
+  pub counts : (past : Past) (s : State) → Is past old s → CountsTo r d e
+
+-- As CountsTo, but that the count rose is said only where the filter is broken after the event.
+abbrev pub CountsIf : Bool → Result Answer NoMemory → Disk → Disk → Type 0
+CountsIf broken (Ok a) d e = (d.faults ≤ e.faults) × (broken ≡ true → meets_device a.shown ≡ true → Rose d e)
+CountsIf broken (Err m) d e = Unit {0}
+
+-- an event that has begun on the open volume is a step of the definitions, with this answer; and the count
+pub record StepsOn {D A : Type 0} (acts : Acts A) (state : D → Disk) (e : Event) (old : Run D A) (r : Result Answer NoMemory) (new : Run D A) : Type 0 where
+  pub steps : (past : Past) (s : State) → IsBegun acts state past old s → SteppedTo acts.mode (IsOn acts state past) e s r new
+  pub counts : (past : Past) (s : State) → IsBegun acts state past old s → CountsIf new.filter.desk.broken r (state old.filter.disk) (state new.filter.disk)
+
+-- what is answered, by whether the filter is broken and whether the answer tells of a device call that failed
+abbrev pub known_as : Bool → Bool → Answer → Result Answer NoMemory
+known_as true met a = Ok a
+known_as false true a = Err (record {})
+known_as false false a = Ok a
+
+abbrev pub known_by : Bool → Result Answer NoMemory → Result Answer NoMemory
+known_by broken (Ok a) = known_as broken (meets_device a.shown) a
+known_by broken (Err m) = Err m

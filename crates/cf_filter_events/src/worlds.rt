@@ -1,0 +1,178 @@
+//! The world, on and off.
+#![tactic(auto, using(crate::proofs::Wholes::begins))]
+
+ghost use Rattle.std.specs.Prelude.{◌≡◌, ◌≤◌, ℕ, List, true, IfErr, IfOk};
+ghost use Rattle.cf_filter_events.specs.Counted.{Counts, CountsTo};
+ghost use Rattle.cf_filter_events.specs.Meaning.{Is};
+ghost use Rattle.cf_filter_events.specs.Pasts.{Past, StandsFor};
+ghost use Rattle.cf_filter_events.specs.Stepped.{Bears, BearsOn, StepsOver, actor_of, disk_of};
+ghost use Rattle.cf_filter_events.specs.declared.places.Acting.TheVariants as acting;
+ghost use Rattle.cf_base.specs.declared.events.Event.TheVariants as events;
+ghost use Rattle.cf_disk.specs.Disk.{size_of};
+ghost use Rattle.cf_journal.specs.Settled.{IsFitSize};
+ghost use Rattle.cf_model.specs.Events.{is_of};
+ghost use Rattle.cf_model.specs.Powers.{StandsNow};
+ghost use Rattle.cf_model.specs.State.{State, first_policy, start};
+ghost use Rattle.cf_model.specs.Store.{Held};
+ghost use Rattle.cf_volume_points.specs.Standing.{clusters_on};
+ghost use Rattle.cf_volume.specs.Calls.{IsCause, StopsOnly};
+
+use crate::actors::Actor;
+use crate::answers::plainly;
+use crate::places::{Acting, Cut, Running};
+use cf_base::{
+    Answer, CallError, DeviceEvent, Event, Hydration, OutOfMemory, Policy, Population, Shown,
+};
+use cf_disk::Disk;
+use cf_filter::Filter;
+use std::alloc::Global;
+
+fn first_policy() -> Policy
+    ensures { result ≡ first_policy }
+{
+    Policy {
+        hydration: Hydration::Partial,
+        population: Population::AlwaysFull,
+        validate: false,
+        restart: false,
+        auto: false,
+    }
+}
+
+impl<D: Disk, A: Actor> Acting<D, A> {
+    /// A volume that was just made on a disk of a fit size, whatever that held, and an actor that stands for a start beside it; the
+    /// disk had no power cut in this. Refused as Device where a call of the disk failed, and as OutOfMemory; then disk and actor come
+    /// back.
+    pub fn start(alloc: Global, disk: D, actor: A) -> Result<Acting<D, A>, (D, A, CallError)>
+        requires { IsFitSize (size_of (D.state disk)) }
+        ensures ok { (remote : Held) → A.acts.stands actor (start A.acts.mode remote (clusters_on (D.state disk).seen)) → IfOk result (λ a. (past : Past) → past.told ≡ (D.state disk).powers → Is A.acts D.state past a (start A.acts.mode remote (clusters_on (D.state disk).seen))) }
+        ensures same { IfOk result (λ a. actor_of a ≡ actor) }
+        ensures back { IfErr result (λ e. e.1 ≡ actor) }
+        ensures faults { IfOk result (λ a. (D.state disk).faults ≤ (D.state (disk_of a)).faults) }
+        ensures only { IfErr result (λ e. StopsOnly e.2) }
+        ensures cause { IfErr result (λ e. IsCause e.2 (D.state disk) (D.state e.0)) }
+    {
+        match Filter::format(alloc, disk, first_policy()) {
+            Ok(filter) => Ok(Acting::On(Running { filter, actor })),
+            Err((disk, fail)) => Err((disk, actor, fail)),
+        }
+    }
+
+    /// Does an event of the mode, and answers it. A stop arms the disk with its number, a crash is one power cut of the disk with
+    /// its choice, and no other event changes the power cuts that the disk reports. A restart that resumes opens what the image of
+    /// the last power cut stands for. The disk's count of faults does not fall, and rises in an event that is answered as Device.
+    /// Where memory runs out an event is not answered, and nothing more is said of the world.
+    pub fn step(self, alloc: Global, event: &Event) -> (Acting<D, A>, Result<Answer, OutOfMemory>)
+        requires { is_of A.acts.mode event.now ≡ true }
+        ensures steps { StepsOver A.acts.mode (Is A.acts D.state) event.now self result.1 result.0 }
+        ensures device { Bears event.now (D.state (disk_of self)) (D.state (disk_of result.0)) }
+        ensures counts { Counts (Is A.acts D.state) self result.1 (D.state (disk_of self)) (D.state (disk_of result.0)) }
+    {
+        match self {
+            Acting::On(running) => step_on(alloc, running, event),
+            Acting::Off(cut) => step_off(alloc, cut, event),
+        }
+    }
+
+    /// The disk, which reports the power cuts that the world knows of, and the actor. Whatever a crash leaves of the disk stands for a
+    /// point that a restart may open.
+    pub fn finish(self) -> (D, A)
+        ensures lasts { (past : Past) (s : State) → Is A.acts D.state past self s → (c : List ℕ) → (D.state result.0).may_leave c → StandsNow StandsFor s c }
+        ensures powers { (past : Past) (s : State) → Is A.acts D.state past self s → (D.state result.0).powers ≡ past.told }
+        ensures holds { (past : Past) (s : State) → Is A.acts D.state past self s → A.acts.holds result.1 s }
+        ensures disk { result.0 ≡ disk_of self }
+        ensures actor { result.1 ≡ actor_of self }
+    {
+        match self {
+            Acting::On(running) => (running.filter.into_disk(), running.actor),
+            Acting::Off(cut) => (cut.disk, cut.actor),
+        }
+    }
+}
+
+// An event while the volume is open.
+fn step_on<D: Disk, A: Actor>(
+    alloc: Global,
+    mut running: Running<D, A>,
+    event: &Event,
+) -> (Acting<D, A>, Result<Answer, OutOfMemory>)
+    requires { is_of A.acts.mode event.now ≡ true }
+    ensures steps { StepsOver A.acts.mode (Is A.acts D.state) event.now (acting.On running) result.1 result.0 }
+    ensures device { Bears event.now (D.state running.filter.disk) (D.state (disk_of result.0)) }
+    ensures counts { Counts (Is A.acts D.state) (acting.On running) result.1 (D.state running.filter.disk) (D.state (disk_of result.0)) }
+{
+    match event {
+        Event::Device(device) => device_on(alloc, running, *device),
+        event => {
+            let told = running.act(alloc, event);
+            (Acting::On(running), told)
+        }
+    }
+}
+
+fn device_on<D: Disk, A: Actor>(
+    alloc: Global,
+    mut running: Running<D, A>,
+    event: DeviceEvent,
+) -> (Acting<D, A>, Result<Answer, OutOfMemory>)
+    ensures steps { StepsOver A.acts.mode (Is A.acts D.state) (events.Device event) (acting.On running) result.1 result.0 }
+    ensures device { BearsOn event (D.state running.filter.disk) (D.state (disk_of result.0)) }
+    ensures counts { CountsTo result.1 (D.state running.filter.disk) (D.state (disk_of result.0)) }
+{
+    match event {
+        DeviceEvent::Stop { calls } => {
+            let told = running.stop(alloc, calls);
+            (Acting::On(running), Ok(told))
+        }
+        DeviceEvent::Crash { choice } => {
+            let cut = running.cut(choice);
+            (Acting::Off(cut), Ok(plainly(alloc, Shown::Done)))
+        }
+        DeviceEvent::Restart => {
+            let told = running.restart(alloc);
+            (Acting::On(running), Ok(told))
+        }
+    }
+}
+
+// An event while the volume is off.
+fn step_off<D: Disk, A: Actor>(
+    alloc: Global,
+    mut cut: Cut<D, A>,
+    event: &Event,
+) -> (Acting<D, A>, Result<Answer, OutOfMemory>)
+    requires { is_of A.acts.mode event.now ≡ true }
+    ensures steps { StepsOver A.acts.mode (Is A.acts D.state) event.now (acting.Off cut) result.1 result.0 }
+    ensures device { Bears event.now (D.state cut.disk) (D.state (disk_of result.0)) }
+    ensures counts { CountsTo result.1 (D.state cut.disk) (D.state (disk_of result.0)) }
+{
+    match event {
+        Event::Device(device) => device_off(alloc, cut, *device),
+        event => {
+            let told = cut.act(alloc, event);
+            (Acting::Off(cut), told)
+        }
+    }
+}
+
+fn device_off<D: Disk, A: Actor>(
+    alloc: Global,
+    mut cut: Cut<D, A>,
+    event: DeviceEvent,
+) -> (Acting<D, A>, Result<Answer, OutOfMemory>)
+    ensures steps { StepsOver A.acts.mode (Is A.acts D.state) (events.Device event) (acting.Off cut) result.1 result.0 }
+    ensures device { BearsOn event (D.state cut.disk) (D.state (disk_of result.0)) }
+    ensures counts { CountsTo result.1 (D.state cut.disk) (D.state (disk_of result.0)) }
+{
+    match event {
+        DeviceEvent::Stop { calls } => {
+            let told = cut.stop(alloc, calls);
+            (Acting::Off(cut), Ok(told))
+        }
+        DeviceEvent::Crash { choice } => {
+            let told = cut.cut(alloc, choice);
+            (Acting::Off(cut), Ok(told))
+        }
+        DeviceEvent::Restart => cut.restart(alloc),
+    }
+}

@@ -1,9 +1,0 @@
-use Rattle.std.proofs.Common.{List, ap, refl, sym, ℕ}
-use Rattle.cf_world_filter.proofs.Provided.{provides_step}
-use Rattle.cf_model.specs.Callbacks.{calling}
-use Rattle.cf_model.specs.Placements.{mark}
-use Rattle.cf_world_filter.proofs.places.Running.mark.Goals as goal
-
-pub returns : goal.returns
-returns g c =
-    provides_step g.D.Disk.state _ (mark c.as_str.result.now c.args.given) _ _ _ _ _ _ _ _ _ _ (record { of = refl; stops = refl; needs = refl }) (λ z m. ap (λ (p : List ℕ). calling (mark p c.args.given) z) (sym c.as_str.ensures)) c.new-notes.ensures c.set_in_sync-told.ensures.does c.set_in_sync-told.ensures.keeps c.number.ensures c.answered.ensures

@@ -1,9 +1,0 @@
-use Rattle.std.proofs.Common.{List, ap, refl, sym, ℕ, ◌∙◌}
-use Rattle.cf_world_filter.proofs.Called.{calls_step}
-use Rattle.cf_model.specs.Calls.{rename}
-use Rattle.cf_model.specs.State.{in_filter}
-use Rattle.cf_world_filter.proofs.places.Running.rename.Goals as goal
-
-pub returns : goal.returns
-returns g c =
-    calls_step g.D.Disk.state _ (rename c.as_str.result.now c.as_str-2.result.now) _ _ _ _ _ _ _ _ _ (record { of = refl; stops = refl; needs = refl }) (λ z m. ap (λ (p : List ℕ). in_filter (rename p c.args.to.now) z) (sym c.as_str.ensures) ∙ ap (λ (p : List ℕ). in_filter (rename c.as_str.result.now p) z) (sym c.as_str-2.ensures)) c.new-notes.ensures c.rename-told.ensures.does c.rename-told.ensures.keeps c.done.ensures c.answered.ensures

@@ -1,9 +1,0 @@
-use Rattle.std.proofs.Common.{List, ap, refl, sym, ℕ}
-use Rattle.cf_world_filter.proofs.Called.{calls_step}
-use Rattle.cf_model.specs.Placements.{revert}
-use Rattle.cf_model.specs.State.{in_filter}
-use Rattle.cf_world_filter.proofs.places.Running.revert.Goals as goal
-
-pub returns : goal.returns
-returns g c =
-    calls_step g.D.Disk.state _ (revert c.as_str.result.now) _ _ _ _ _ _ _ _ _ (record { of = refl; stops = refl; needs = refl }) (λ z m. ap (λ (p : List ℕ). in_filter (revert p) z) (sym c.as_str.ensures)) c.new-notes.ensures c.revert-told.ensures.does c.revert-told.ensures.keeps c.number.ensures c.answered.ensures

@@ -1,8 +1,0 @@
-use Rattle.std.proofs.Common.{refl}
-use Rattle.cf_world_filter.proofs.Provided.{provides_step}
-use Rattle.cf_model.specs.Waits.{tick}
-use Rattle.cf_world_filter.proofs.places.Running.tick.Goals as goal
-
-pub returns : goal.returns
-returns g c =
-    provides_step g.D.Disk.state _ (tick c.args.ticks) _ _ _ _ _ _ _ _ _ _ (record { of = refl; stops = refl; needs = refl }) (λ z m. refl) c.new-notes.ensures c.tick-told.ensures.does c.tick-told.ensures.keeps c.done.ensures c.answered.ensures

@@ -1,9 +1,0 @@
-use Rattle.std.proofs.Common.{List, ap, refl, sym, ℕ}
-use Rattle.cf_world_filter.proofs.Asked.{asks_step, used_never}
-use Rattle.cf_model.specs.Calls.{used}
-use Rattle.cf_model.specs.State.{in_filter}
-use Rattle.cf_world_filter.proofs.places.Running.used.Goals as goal
-
-pub returns : goal.returns
-returns g c =
-    asks_step g.D.Disk.state _ (used c.as_str.result.now) _ _ _ _ _ _ _ (record { of = refl; stops = refl; needs = refl }) (used_never c.as_str.result.now) (λ z m. ap (λ (p : List ℕ). in_filter (used p) z) (sym c.as_str.ensures)) c.new.ensures c.used-told.ensures c.used.ensures c.answered.ensures
