@@ -1,0 +1,4 @@
+pub mod BesideSteps
+pub mod Opened
+pub mod SessionSteps
+pub mod Started

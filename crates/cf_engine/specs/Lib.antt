@@ -1,0 +1,4 @@
+pub mod Actors
+pub mod Engines
+pub mod Playing
+pub mod Sessions
