@@ -7,7 +7,6 @@ use Rattle.cf_engine_provider.specs.Agencies as agencies
 use Rattle.cf_engine_steps.proofs.CallbacksAside.{Aside, aside_of, callback_aside}
 use Rattle.cf_engine_steps.proofs.DrainParts as drains
 use Rattle.cf_engine_steps.proofs.Lifting.{sees_filter}
-use Rattle.cf_engine_steps.specs.Callbacks as callbacks
 use Rattle.cf_engine_steps.specs.States.{Own, event_begun}
 use Rattle.cf_filter_events.specs.Actors.{Begins, IsActor, Reopens}
 use Rattle.cf_link.specs.Linked.{IsLink}

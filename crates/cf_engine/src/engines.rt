@@ -39,9 +39,9 @@ use std::marker::Model;
 /// and a link to the remote.
 ///
 /// Each call of an application and each event of the engine gives an `Answer`: its lines, what it shows, or by which code it was refused.
-/// What was refused has changed nothing, but where it is refused as Device: then a call of the disk failed, what was done before
-/// stands, and all that needs the volume is refused as Broken until the volume is opened again. Where memory runs out there is no
-/// answer; then the engine is to be taken apart, and the volume opened again.
+/// Where one is refused as Device a call of the disk failed: its lines are those of what was done before, and all that needs the volume
+/// is refused as Broken until the volume is opened again. Where memory runs out there is no answer, and nothing more is promised of the
+/// engine.
 #[derive(Drop)]
 pub struct SyncEngine<D: Disk, R: Remote> {
     alloc: Global,
@@ -186,8 +186,9 @@ impl<D: Disk, R: Remote> SyncEngine<D, R> {
         self.engine_event(EngineEvent::Work)
     }
 
-    /// Passes until one changes nothing, or so many were made as the definitions allow. It shows how many items and removals are not yet
-    /// as the remote has them. Under a link that is not inline it is one pass. Refused as `work` is.
+    /// Passes until one has nothing more to do, or the most are made; under a link that is not inline it is one pass. It shows how many
+    /// removals are still to be uploaded and how many items are not in sync, without those that are in use or are never uploaded. Refused
+    /// as `work` is.
     pub fn sync(&mut self) -> Result<Answer, OutOfMemory>
         ensures { Does D.state R.told (events.Engine engine.Sync) self.old result self.new }
     {
@@ -217,8 +218,9 @@ impl<D: Disk, R: Remote> SyncEngine<D, R> {
         self.engine_event(EngineEvent::Link { inline })
     }
 
-    /// Dehydrates files that nothing needs, the longest unused first, until at most that many blocks are used. It shows how many are used
-    /// then. Refused as `work` is.
+    /// Dehydrates files, those whose last access is longest ago first, until at most that many blocks of 4,096 bytes are used, or none is
+    /// left that may be. It shows by how many blocks the used ones fell. Refused, in this order, as Broken, as PolicyDenied where the
+    /// policy does not allow it, as Exhausted where numbers for it are lacking, and as Device.
     pub fn space(&mut self, blocks: u32) -> Result<Answer, OutOfMemory>
         ensures { Does D.state R.told (events.Engine (engine.Space blocks)) self.old result self.new }
     {
