@@ -303,20 +303,13 @@ fn lines_are_counted(rt: HostRuntime) -> Result<(), Fail> {
     );
     assert_eq!(rt;
         failed(alloc, b"sync\nflush\nflsh\n", mode)?,
-        Some(ScriptError::NotBuilt(2))
+        Some(ScriptError::Syntax(3))
     );
     assert_eq!(rt;
         failed(alloc, b"sync\nflsh\nflush", mode)?,
         Some(ScriptError::Syntax(2))
     );
-    assert_eq!(rt;
-        failed(alloc, b"get /a/b 0 1", mode)?,
-        Some(ScriptError::NotBuilt(1))
-    );
-    assert_eq!(rt;
-        failed(alloc, b"get / 0 1", mode)?,
-        Some(ScriptError::NotBuilt(1))
-    );
+    assert_eq!(rt; failed(alloc, b"get /a/b 0 1\nget / 0 1", mode)?, None);
     assert_eq!(rt; failed(alloc, b"flush", Mode::Filter)?, None);
     assert_eq!(rt;
         failed(alloc, b"sync", Mode::Filter)?,

@@ -55,8 +55,7 @@ use Rattle.cf_script.specs.declared.commands.PathCommand.{PathCommand}
 use Rattle.cf_script.specs.declared.commands.NumberCommand.{NumberCommand}
 use Rattle.cf_script.specs.declared.commands.PeerCommand.{PeerCommand}
 use Rattle.cf_script.specs.Forms.{Follows, AreWords, IsBareLine, IsPathLine, IsNumberLine, IsClose, IsCancel, IsTick, IsReadLine, IsGet, IsWrite, IsSize, IsRename, IsPinLine, IsDehydrate, IsRanges, IsPolicyLine, IsKeep, IsCrash, IsLink, IsPeerEvent, IsPeer, IsPlace, IsPlaceDir, IsConvert, IsUpdate, IsMark, IsEntryName, IsEntryRest, AreFields, IsEntry, AreEntries, IsOperation, IsDo, IsKeyOf, IsPlanKey, IsPlan, escape_name_byte, escaped_name, fields_of, kept}
-use Rattle.cf_script.specs.Built.{is_built}
-use Rattle.cf_script.specs.Script.{is_plain, words_of, Spells}
+use Rattle.cf_script.specs.Script.{AreEvents, IsScript, Spells, event_lines, is_plain, lines_of, words_of}
 use Rattle.cf_script.specs.Fits.{is_of, ItemFits, ItemsFit, EventFits, KeyFits, PathFits, RangeFits, SizeFits, CallFits, ChoiceFits, DeviceFits, PeerFits, EngineFits, OperationFits, PlanKeyFits, ProviderFits, CanSpell, CanSpellAll}
 use Rattle.cf_script.specs.Printed.{key_text, key_of, in_sync_words, range_words, size_words, call_words, choice_words, device_words, peer_words, engine_words, entry_words, operation_words, plan_key_text, provider_words, event_words, line_of, printed}
 use Rattle.cf_script.proofs.PathMeans.{code_cases, name_code}
@@ -273,13 +272,12 @@ words_fit m (w ∷ ws) e all x = line_fits m x.0 ws e x.2 all.1 x.3
 pub spelled_fits : (m : Mode) (line : List ℕ) (e : Event) → Spells m line e → CanSpell m e
 spelled_fits m line e h = words_fit m (words_of line) e (parts_plain (λ b. b == 32) line h.plain) h.words
 
-of_filter : (e : Event) → IsTrue (is_of mode.Filter e) → is_built mode.Filter e ≡ true
-of_filter (event.Call e) h = refl
-of_filter (event.Device e) h = refl
-of_filter (event.Peer e) h = let z : false ≡ true = h in absurd cc
-of_filter (event.Engine e) h = let z : false ≡ true = h in absurd cc
-of_filter (event.Provider e) h = refl
+all_of_lines : (m : Mode) (lines : List (List ℕ)) (es : List Event) → AreEvents m lines es → IsTrue (list_all (is_of m) es)
+all_of_lines m [] [] h = refl
+all_of_lines m [] (e ∷ es) h = absurd h
+all_of_lines m (l ∷ ls) [] h = absurd h
+all_of_lines m (l ∷ ls) (e ∷ es) h = rw ((spelled_fits m l e h.0).0, all_of_lines m ls es h.1) refl
 
--- each event of a script in `filter` is built
-pub filter_built : (line : List ℕ) (e : Event) → Spells mode.Filter line e → is_built mode.Filter e ≡ true
-filter_built line e h = of_filter e (spelled_fits mode.Filter line e h).0
+-- each event of a script is one of its mode
+pub all_of : (m : Mode) (text : List ℕ) (es : List Event) → IsScript m text es → IsTrue (list_all (is_of m) es)
+all_of m text es h = all_of_lines m (event_lines (lines_of text)) es h.0

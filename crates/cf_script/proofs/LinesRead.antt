@@ -3,8 +3,6 @@ use Rattle.std.proofs.Common.{◌≡◌, ℕ, zero, suc, ◌+◌, ◌-◌, ◌<�
 use Rattle.std.specs.Prelude.{◌⊎◌, position, nat_lt, filter, IsTrue, ◌==◌, ◌&&◌, Option}
 use Rattle.std.proofs.Math.Seq.{take-length}
 use Rattle.std.specs.List.{position_or_len, onto_first}
-use Rattle.std.specs.List.{list_all}
-use Rattle.std.proofs.lemmas.List.Folds.{list_all-append}
 use Rattle.cf_base.specs.declared.events.Event.{Event}
 use Rattle.cf_base.specs.declared.policies.Mode.{Mode}
 use Rattle.cf_script.specs.declared.script_errors.ScriptError.{ScriptError}
@@ -14,7 +12,6 @@ use Rattle.cf_script.specs.Forms.{AreWords}
 use Rattle.std.proofs.lemmas.List.{append-nil}
 use Rattle.std.proofs.lemmas.List.Elements.{filter-append}
 use Rattle.cf_script.specs.Script.{lines_of, words_of, AreEvents, Spells, is_event_line, event_lines, is_plain, IsScript}
-use Rattle.cf_script.specs.Built.{is_built}
 use Rattle.cf_script.specs.FailEvents.{IsLine, IsCause}
 use Rattle.std.specs.Str.{IsUtf8}
 
@@ -55,12 +52,11 @@ lines_whole (b ∷ c ∷ bs) some e = elim (bool_cases (is_line_end b)) [
       rw (miss, rest) refl
 ]
 
--- after some lines: they spell the events, which are built, and what is left follows
+-- after some lines: they spell the events, and what is left follows
 pub record HasRead (mode : Mode) (all : List (List ℕ)) (events : List Event) (rest : List (List ℕ)) (number : ℕ) : Type 0 where
   pub before : List (List ℕ)
   pub parts : all ≡ before ++ rest
   pub good : AreEvents mode (event_lines before) events
-  pub built : IsTrue (list_all (is_built mode) events)
   pub few : length events ≤ 100000
   pub count : number ≡ length before
 
@@ -76,12 +72,11 @@ kept_line lines line here = filter-append is_event_line lines (line ∷ []) ∙ 
 skipped_line : (lines : List (List ℕ)) (line : List ℕ) → is_event_line line ≡ false → event_lines (lines ++ line ∷ []) ≡ event_lines lines
 skipped_line lines line none = filter-append is_event_line lines (line ∷ []) ∙ rw none (append-nil (event_lines lines))
 
-pub read_more : (mode : Mode) (all : List (List ℕ)) (events : List Event) (line : List ℕ) (rest : List (List ℕ)) (n : ℕ) (event : Event) → HasRead mode all events (line ∷ rest) n → is_event_line line ≡ true → Spells mode line event → is_built mode event ≡ true → length events < 100000 → HasRead mode all (events ++ event ∷ []) rest (n + 1)
-read_more mode all events line rest n event h here is done room = record {
+pub read_more : (mode : Mode) (all : List (List ℕ)) (events : List Event) (line : List ℕ) (rest : List (List ℕ)) (n : ℕ) (event : Event) → HasRead mode all events (line ∷ rest) n → is_event_line line ≡ true → Spells mode line event → length events < 100000 → HasRead mode all (events ++ event ∷ []) rest (n + 1)
+read_more mode all events line rest n event h here is room = record {
   before = h.before ++ line ∷ [];
   parts = h.parts ∙ sym (append_assoc h.before (line ∷ []) rest);
   good = rw (kept_line h.before line here) (AreEvents-push mode (event_lines h.before) events line event h.good is);
-  built = rw (list_all-append (is_built mode) events (event ∷ []), h.built, done) refl;
   few = simp length-append (omega arith);
   count = simp length-append (omega (arith, h.count));
 }
@@ -91,7 +86,6 @@ read_skip mode all events line rest n h none = record {
   before = h.before ++ line ∷ [];
   parts = h.parts ∙ sym (append_assoc h.before (line ∷ []) rest);
   good = rw (skipped_line h.before line none) h.good;
-  built = h.built;
   few = h.few;
   count = simp length-append (omega (arith, h.count));
 }
@@ -103,7 +97,6 @@ read_stops mode all events line rest n h here = record {
   parts = h.parts;
   place = omega (arith, h.count);
   good = h.good;
-  built = h.built;
   few = h.few;
   here = here;
 }
@@ -112,7 +105,7 @@ pub read_all : (mode : Mode) (all : List (List ℕ)) (events : List Event) (n : 
 read_all mode all events n h = (subst (λ ls. AreEvents mode (event_lines ls) events) (sym (h.parts ∙ append-nil h.before)) h.good, h.few)
 
 pub read_none : (mode : Mode) (all : List (List ℕ)) → HasRead mode all [] all 0
-read_none mode all = record { before = []; parts = refl; good = tt; built = refl; few = omega arith; count = refl }
+read_none mode all = record { before = []; parts = refl; good = tt; few = omega arith; count = refl }
 
 pub line_reads : (mode : Mode) (line text : List ℕ) (o : Option Event) → text ≡ line → IsUtf8 line → is_plain line ≡ true → Reads (AreWords mode (words_of text)) o → Reads (Spells mode line) o
 line_reads mode line text (Some e) same utf8 plain h = (record { utf8 = utf8; plain = plain; words = subst (λ t. AreWords mode (words_of t) e) same h.0 }, λ y is. h.1 y (subst (λ t. AreWords mode (words_of t) y) (sym same) is.words))

@@ -1,7 +1,6 @@
 -- A text has one reading, and is refused only where it has none.
 use Rattle.std.proofs.Common.{◌≡◌, ℕ, ◌+◌, ◌^◌, ◌<◌, ◌≤◌, Bool, true, false, List, [], ◌∷◌, ◌++◌, length, refl, sym, ap, subst, ◌∙◌, inl, inr, arith}
 use Rattle.std.specs.Prelude.{◌&&◌, IsTrue, filter}
-use Rattle.std.specs.List.{list_all}
 use Rattle.std.proofs.lemmas.List.Elements.{filter-append}
 use Rattle.cf_base.specs.declared.events.Event.{Event}
 use Rattle.cf_base.specs.declared.policies.Mode.{Mode}
@@ -9,7 +8,6 @@ use Rattle.cf_script.specs.declared.script_errors.ScriptError.{ScriptError}
 use Rattle.cf_script.specs.declared.script_errors.ScriptError.TheVariants as fails
 use Rattle.cf_script.specs.Forms.{AreWords, Follows}
 use Rattle.cf_script.specs.Script.{lines_of, words_of, AreEvents, Spells, is_event_line, event_lines, IsScript}
-use Rattle.cf_script.specs.Built.{is_built}
 use Rattle.cf_script.specs.FailEvents.{IsLine, IsCause}
 use Rattle.cf_script.proofs.CommandMeans.{command_once}
 use Rattle.cf_script.proofs.EventOnce.{follows_once}
@@ -36,37 +34,29 @@ events_once mode (l ∷ ls) (e ∷ es) (f ∷ fs) x y =
 pub script_once : (mode : Mode) (text : List ℕ) (es fs : List Event) → IsScript mode text es → IsScript mode text fs → es ≡ fs
 script_once mode text es fs x y = events_once mode (event_lines (lines_of text)) es fs x.0 y.0
 
-and_parts : (a b : Bool) → (a && b) ≡ true → (a ≡ true) × (b ≡ true)
-and_parts true b h = (refl, h)
-and_parts false b h = absurd cc
-
 -- what stands at a line of a script
-stands_there : (mode : Mode) (xs ys : List (List ℕ)) (line : List ℕ) (es fs : List Event) → AreEvents mode xs es → AreEvents mode (xs ++ line ∷ ys) fs → IsTrue (list_all (is_built mode) fs)
-    → (e : Event) × Spells mode line e × (is_built mode e ≡ true) × (length es < length fs)
-stands_there mode [] ys line [] [] x y done = absurd y
-stands_there mode [] ys line [] (f ∷ fs) x y done = (f, y.0, (and_parts (is_built mode f) (list_all (is_built mode) fs) done).0, omega arith)
-stands_there mode [] ys line (e ∷ es) fs x y done = absurd x
-stands_there mode (l ∷ ls) ys line [] fs x y done = absurd x
-stands_there mode (l ∷ ls) ys line (e ∷ es) [] x y done = absurd y
-stands_there mode (l ∷ ls) ys line (e ∷ es) (f ∷ fs) x y done =
-    let h = stands_there mode ls ys line es fs x.1 y.1 (and_parts (is_built mode f) (list_all (is_built mode) fs) done).1 in (h.0, h.1, h.2, omega (arith, h.3))
+stands_there : (mode : Mode) (xs ys : List (List ℕ)) (line : List ℕ) (es fs : List Event) → AreEvents mode xs es → AreEvents mode (xs ++ line ∷ ys) fs
+    → (e : Event) × Spells mode line e × (length es < length fs)
+stands_there mode [] ys line [] [] x y = absurd y
+stands_there mode [] ys line [] (f ∷ fs) x y = (f, y.0, omega arith)
+stands_there mode [] ys line (e ∷ es) fs x y = absurd x
+stands_there mode (l ∷ ls) ys line [] fs x y = absurd x
+stands_there mode (l ∷ ls) ys line (e ∷ es) [] x y = absurd y
+stands_there mode (l ∷ ls) ys line (e ∷ es) (f ∷ fs) x y =
+    let h = stands_there mode ls ys line es fs x.1 y.1 in (h.0, h.1, omega (arith, h.2))
 
-at_line : (mode : Mode) (lines : List (List ℕ)) (n : ℕ) (events : List Event) (line : List ℕ) (h : IsLine mode lines n events line) (fs : List Event) → AreEvents mode (event_lines lines) fs → IsTrue (list_all (is_built mode) fs)
-    → (e : Event) × Spells mode line e × (is_built mode e ≡ true) × (length events < length fs)
-at_line mode lines n events line h fs good done =
+at_line : (mode : Mode) (lines : List (List ℕ)) (n : ℕ) (events : List Event) (line : List ℕ) (h : IsLine mode lines n events line) (fs : List Event) → AreEvents mode (event_lines lines) fs
+    → (e : Event) × Spells mode line e × (length events < length fs)
+at_line mode lines n events line h fs good =
     let kept : event_lines (line ∷ h.after) ≡ line ∷ event_lines h.after = rw h.here refl in
     let parts : event_lines lines ≡ event_lines h.before ++ line ∷ event_lines h.after = ap event_lines h.parts ∙ filter-append is_event_line h.before (line ∷ h.after) ∙ ap (λ ls. event_lines h.before ++ ls) kept in
-    stands_there mode (event_lines h.before) (event_lines h.after) line events fs h.good (subst (λ ls. AreEvents mode ls fs) parts good) done
+    stands_there mode (event_lines h.before) (event_lines h.after) line events fs h.good (subst (λ ls. AreEvents mode ls fs) parts good)
 
--- a script of events that are built is not refused but for memory
-pub not_refused : (mode : Mode) (lines : List (List ℕ)) (f : ScriptError) → IsCause mode lines f → (fs : List Event) → AreEvents mode (event_lines lines) fs → length fs ≤ 100000 → IsTrue (list_all (is_built mode) fs) → f ≡ fails.OutOfMemory
-not_refused mode lines fails.OutOfMemory why fs good few done = refl
-not_refused mode lines (fails.Syntax n) why fs good few done =
-    let h = at_line mode lines n why.0 why.1 why.2 fs good done in absurd (why.3 h.0 h.1)
-not_refused mode lines (fails.TooManyEvents n) why fs good few done =
-    let h = at_line mode lines n why.0 why.1 why.2 fs good done in
-    let many = why.3 in absurd (omega (arith, h.3))
-not_refused mode lines (fails.NotBuilt n) why fs good few done =
-    let h = at_line mode lines n why.0 why.1 why.2 fs good done in
-    let one : why.4.0 ≡ h.0 = line_once mode why.1 why.4.0 h.0 why.4.1 h.1 in
-    let k : is_built mode h.0 ≡ false = subst (λ e. is_built mode e ≡ false) one why.4.2 in absurd cc
+-- a script is not refused but for memory
+pub not_refused : (mode : Mode) (lines : List (List ℕ)) (f : ScriptError) → IsCause mode lines f → (fs : List Event) → AreEvents mode (event_lines lines) fs → length fs ≤ 100000 → f ≡ fails.OutOfMemory
+not_refused mode lines fails.OutOfMemory why fs good few = refl
+not_refused mode lines (fails.Syntax n) why fs good few =
+    let h = at_line mode lines n why.0 why.1 why.2 fs good in absurd (why.3 h.0 h.1)
+not_refused mode lines (fails.TooManyEvents n) why fs good few =
+    let h = at_line mode lines n why.0 why.1 why.2 fs good in
+    let many = why.3 in absurd (omega (arith, h.2))

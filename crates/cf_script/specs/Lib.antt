@@ -2,7 +2,6 @@ pub mod Words
 pub mod Names
 pub mod Forms
 pub mod Script
-pub mod Built
 pub mod FailEvents
 pub mod Printed
 pub mod Fits

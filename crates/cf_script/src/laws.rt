@@ -1,11 +1,10 @@
 //! Laws of the script language.
 
-ghost use Rattle.std.specs.Prelude.{◌≡◌, ◌≤◌, ℕ, true, List, length};
+ghost use Rattle.std.specs.Prelude.{◌≡◌, ◌≤◌, ℕ, IsTrue, List, length};
 ghost use Rattle.cf_base.specs.declared.events.Event.{Event};
 ghost use Rattle.cf_base.specs.declared.policies.Mode.{Mode};
-ghost use Rattle.cf_base.specs.declared.policies.Mode.TheVariants.{Filter};
-ghost use Rattle.cf_script.specs.Built.{is_built};
-ghost use Rattle.cf_script.specs.Fits.{CanSpell, CanSpellAll};
+ghost use Rattle.std.specs.List.{list_all};
+ghost use Rattle.cf_script.specs.Fits.{CanSpell, CanSpellAll, is_of};
 ghost use Rattle.cf_script.specs.Printed.{printed};
 ghost use Rattle.cf_script.specs.Script.{Spells, IsScript};
 
@@ -33,8 +32,8 @@ pub fn can_spell()
     ensures { (mode : Mode) (line : List ℕ) (event : Event) → Spells mode line event → CanSpell mode event }
 {}
 
-/// Of a script in `filter` each event is built.
-#[tactic(auto, using(crate::proofs::FitsBack::filter_built))]
-pub fn all_is_built_in_filter()
-    ensures { (line : List ℕ) (event : Event) → Spells Filter line event → is_built Filter event ≡ true }
+/// Each event of a script is one of its mode.
+#[tactic(auto, using(crate::proofs::FitsBack::all_of))]
+pub fn all_of_the_mode()
+    ensures { (mode : Mode) (text : List ℕ) (events : List Event) → IsScript mode text events → IsTrue (list_all (is_of mode) events) }
 {}

@@ -1,7 +1,6 @@
 //! Scripts: the events that a text spells, and the text that spells events.
 #![tactic(auto)]
 
-mod built;
 mod calls;
 mod commands;
 mod data;
@@ -25,7 +24,7 @@ mod scripts;
 mod short_lines;
 mod texts;
 
-pub use laws::{all_is_built_in_filter, can_spell, one_event, one_reading, reads_back};
+pub use laws::{all_of_the_mode, can_spell, one_event, one_reading, reads_back};
 pub use lines::event_of_line;
 pub use prints::print;
 pub use script_errors::ScriptError;

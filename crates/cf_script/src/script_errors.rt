@@ -14,9 +14,6 @@ pub enum ScriptError {
     /// The line of the 100,001st event.
     #[error("line {0} has one event too many")]
     TooManyEvents(u32),
-    /// The line spells an event that is not built yet, and no line before it is bad or spells one.
-    #[error("line {0} is not built")]
-    NotBuilt(u32),
     #[error("out of memory")]
     OutOfMemory,
 }

@@ -4,10 +4,9 @@ ghost use Rattle.std.specs.Prelude.{◌≡◌, ◌+◌, ◌<◌, ◌^◌, ◌==�
 ghost use Rattle.std.specs.List.{list_all};
 ghost use Rattle.cf_base.specs.declared.events.Event.{Event};
 ghost use Rattle.cf_script.specs.Script.{IsScript, lines_of, is_event_line};
-ghost use Rattle.cf_script.specs.Built.{is_built};
+ghost use Rattle.cf_script.specs.Fits.{is_of};
 ghost use Rattle.cf_script.specs.FailEvents.{IsCause};
 
-use crate::built::is_built;
 use crate::lines::event_of_line;
 use crate::script_errors::ScriptError;
 use cf_base::{Event, Mode, Sequence};
@@ -46,7 +45,6 @@ fn is_event_line(line: &[u8]) -> bool
 fn read_lines(alloc: Global, text: &[u8], mode: Mode) -> Result<Vec<Event>, ScriptError>
     requires { length text.now < 2 ^ 32 }
     ensures ok { IfOk result (λ events. IsScript mode text.now events.items) }
-    ensures built { IfOk result (λ events. IsTrue (list_all (is_built mode) events.items)) }
     ensures cause { IfErr result (IsCause mode (lines_of text.now)) }
 {
     let mut events = Vec::new(alloc);
@@ -64,10 +62,6 @@ fn read_lines(alloc: Global, text: &[u8], mode: Mode) -> Result<Vec<Event>, Scri
                 drop(event);
                 return Err(ScriptError::TooManyEvents(number));
             }
-            if !is_built(mode, &event) {
-                drop(event);
-                return Err(ScriptError::NotBuilt(number));
-            }
             events.push(event)?;
         }
     }
@@ -76,14 +70,13 @@ fn read_lines(alloc: Global, text: &[u8], mode: Mode) -> Result<Vec<Event>, Scri
 
 /// The events of a script, in order. The text has less than 4 GiB.
 ///
-/// Refused as Syntax, TooManyEvents or NotBuilt with the number of the first line that is bad, has one event too many
-/// or is not built, and as OutOfMemory.
+/// Refused as Syntax or TooManyEvents with the number of the first line that is bad or has one event too many, and as OutOfMemory.
 pub fn read(alloc: Global, text: &[u8], mode: Mode) -> Result<Sequence<Event>, ScriptError>
     requires { length text.now < 2 ^ 32 }
     ensures ok { IfOk result (λ events. IsScript mode text.now events) }
-    ensures built { IfOk result (λ events. IsTrue (list_all (is_built mode) events)) }
+    ensures of { IfOk result (λ events. IsTrue (list_all (is_of mode) events)) }
     ensures cause { IfErr result (IsCause mode (lines_of text.now)) }
-    ensures complete { (events : List Event) → IsScript mode text.now events → IsTrue (list_all (is_built mode) events) → MatchResult result (λ read. read ≡ events) (λ fail. fail ≡ ScriptError.OutOfMemory) }
+    ensures complete { (events : List Event) → IsScript mode text.now events → MatchResult result (λ read. read ≡ events) (λ fail. fail ≡ ScriptError.OutOfMemory) }
 {
     let events = read_lines(alloc, text, mode)?;
     Ok(Sequence::from_vec(events))

@@ -8,7 +8,7 @@ loop-rest-preserved-in-Continue-branch-3 c =
     let h = rw c.next_line.ensures.line at c.loop-rest.invariant.0 in
     let few = h.few in
     let is = rw c.in-Some.is at c.in_ok-event.ensures in
-    (rw c.in_ok-push.ensures.items (read_more _ _ _ _ _ _ _ h (sym c.is_event_line.ensures ∙ c.if-is_event_line.true) is.0 (sym c.is_built.ensures ∙ c.if-not-is_built.false) (omega (arith, c.if-len-eq-MOST_EVENTS.false, c.len.ensures, c.loop-rest.events.ok))), omega arith)
+    (rw c.in_ok-push.ensures.items (read_more _ _ _ _ _ _ _ h (sym c.is_event_line.ensures ∙ c.if-is_event_line.true) is.0 (omega (arith, c.if-len-eq-MOST_EVENTS.false, c.len.ensures, c.loop-rest.events.ok))), omega arith)
 
 pub loop-rest-preserved : goal.loop-rest-preserved
 loop-rest-preserved c =
