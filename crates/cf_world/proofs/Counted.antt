@@ -1,7 +1,7 @@
 -- The answers that tell of a device call that failed, and the disk's count.
 use Rattle.std.proofs.Common.{◌≡◌, ◌≤◌, ℕ, ◌+◌, Bool, true, false, List, [], ◌∷◌, ◌++◌, refl, sym, subst, arith}
 use Rattle.std.specs.Prelude.{Ok, cond}
-use Rattle.cf_world_filter.specs.Counted.{CountsTo, meets_device}
+use Rattle.cf_filter_events.specs.Counted.{CountsTo, meets_device}
 use Rattle.cf_base.specs.declared.answers.Answer.{Answer}
 use Rattle.cf_base.specs.declared.events.Event.{Event}
 use Rattle.cf_disk.specs.Disk.{State as Disk, capped}

@@ -3,7 +3,9 @@ pub mod Drafted
 pub mod Traces
 pub mod Ends
 pub mod Counted
-pub mod Sided
+pub mod Commanded
+pub mod ModeEvents
+pub mod WorldRuns
 pub mod OverPowers
 mod OfTexts
 mod Migrated

@@ -11,7 +11,9 @@ use Rattle.cf_disk.specs.Disk.{State as Disk, size_of}
 use Rattle.cf_io.specs.Moves.{Adds, IsLonger, IsQuiet, IsWhole, Rose}
 use Rattle.cf_io.specs.declared.faults.ReadError.{ReadError}
 use Rattle.cf_io.specs.declared.faults.ReadError.TheVariants as reading
-use Rattle.cf_world.specs.Runs.{IsAfterReading, IsBuilt, IsComplete, IsFit, IsLength, IsUnfit, OfText, Writes}
+use Rattle.cf_remote.specs.Told.{Told}
+use Rattle.cf_script.specs.Script.{IsScript}
+use Rattle.cf_world.specs.Runs.{IsAfterReading, IsComplete, IsFit, IsLength, IsUnfit, OfText, WritesOf}
 use Rattle.cf_world.specs.Steps.{read_status}
 
 -- what the source has left, or a text of some length where it reports nothing
@@ -49,15 +51,15 @@ short_enough status.Unlawful text short h = absurd h
 short_enough status.Undecided text short h = absurd h
 short_enough status.Damaged text short h = absurd h
 
-module _ {D : Type 0} (state : D → Disk) (m : Mode) (disk : D) (old new : Option (List ℕ)) (Unwritten : Type 0) (a b c d : ℕ) where
+module _ {D R : Type 0} (state : D → Disk) (told : R → Told) (m : Mode) (disk : D) (remote : R) (old new : Option (List ℕ)) (Unwritten : Type 0) (a b c d : ℕ) where
   abbrev Quiet : Type 0
   Quiet = IsQuiet a b × IsQuiet c d
 
   -- the text was read
-  pub read_text : (text : List ℕ) (s : Status) (back : D) → length text ≤ 16777216 → IsAfterReading s → Writes state m disk text old new s back → (s ≡ status.BadScript → (events : List Event) → IsBuilt m text events → ⊥)
-      → ((IsFit (size_of (state disk)) → ⊥) → (events : List Event) → IsBuilt m text events → IsUnfit s) → (IsQuiet c d → IsFit (size_of (state disk)) → (events : List Event) → IsBuilt m text events → IsComplete s)
-      → OfText state m disk text old new Unwritten Quiet s back
-  read_text text s back short after writes bad unfit complete = record {
+  pub read_text : (text : List ℕ) (s : Status) (back : D) (left : R) → length text ≤ 16777216 → IsAfterReading s → WritesOf state told m disk remote text old new s back left → (s ≡ status.BadScript → (events : List Event) → IsScript m text events → ⊥)
+      → ((IsFit (size_of (state disk)) → ⊥) → (events : List Event) → IsScript m text events → IsUnfit s) → (IsQuiet c d → IsFit (size_of (state disk)) → (events : List Event) → IsScript m text events → IsComplete s)
+      → OfText state told m disk remote text old new Unwritten Quiet s back left
+  read_text text s back left short after writes bad unfit complete = record {
     writes = writes;
     lengths = short_enough s text short after;
     bad = bad;
@@ -68,7 +70,7 @@ module _ {D : Type 0} (state : D → Disk) (m : Mode) (disk : D) (old new : Opti
 
   -- it was not
   pub unread_text : (left : Option (List ℕ)) (fail : ReadError) → (fail ≡ reading.TooLong → IsLonger left 16777216) → (fail ≡ reading.Fault → Rose a b) → Adds old new [] → Unwritten
-      → (text : List ℕ) × IsWhole left text × OfText state m disk text old new Unwritten Quiet (read_status fail) disk
+      → (text : List ℕ) × IsWhole left text × OfText state told m disk remote text old new Unwritten Quiet (read_status fail) disk remote
   unread_text left reading.Fault long rose adds none = (
     some_text 0 left,
     whole_text 0 left,
@@ -86,7 +88,7 @@ module _ {D : Type 0} (state : D → Disk) (m : Mode) (disk : D) (old new : Opti
         some_text 16777217 left,
         whole_text 16777217 left,
         record {
-          writes = inl (more, adds, refl);
+          writes = inl (more, adds, (refl, refl));
           lengths = tt;
           bad = λ e. let z : status.TooLong ≡ status.BadScript = e in cc;
           unfit = λ n l. absurd (omega (arith, more, l));

@@ -1,7 +1,7 @@
 -- Runs over the power cuts of a disk.
 use Rattle.std.proofs.Common.{◌≡◌, ℕ, List, [], ◌∷◌, ◌++◌, refl, sym, ap, subst, ◌∙◌}
 use Rattle.std.specs.Prelude.{Option, Some}
-use Rattle.cf_world_filter.specs.Pasts.{Gains, last_image}
+use Rattle.cf_filter_events.specs.Pasts.{Gains, last_image}
 use Rattle.cf_base.specs.declared.answers.Answer.{Answer}
 use Rattle.cf_base.specs.declared.events.DeviceEvent.TheVariants as device
 use Rattle.cf_base.specs.declared.events.Event.{Event}

@@ -7,19 +7,19 @@ use Rattle.std.proofs.lemmas.List.{append-nil, map-append}
 use Rattle.std.proofs.lemmas.List.Folds.{list_all_at}
 use Rattle.cf_base.specs.declared.answers.Answer.{Answer}
 use Rattle.cf_base.specs.declared.events.Event.{Event}
-use Rattle.cf_base.specs.declared.policies.Mode.{Mode}
 use Rattle.cf_disk.specs.Disk.{State as Disk}
 use Rattle.cf_io.specs.Moves.{AddsFront}
 use Rattle.cf_volume_points.specs.Standing.{clusters_on}
 use Rattle.cf_report.specs.Texts.{texts, text}
 use Rattle.cf_world.proofs.Drafted.{drafted_front, drafted_stops_here}
-use Rattle.cf_world.proofs.Sided.{run_lawful}
-use Rattle.cf_world.specs.Led.{HasRunOn, IsLawful}
+use Rattle.cf_world.proofs.WorldRuns.{run_lawful}
+use Rattle.cf_world.specs.Led.{HasRunOn}
 use Rattle.cf_world.specs.Runs.{PlaysFront, answers_of, events_of}
-use Rattle.cf_world.specs.Steps.{AddFails, IsDrafted, SomePlayed}
+use Rattle.cf_world.specs.Steps.{AddFails, IsDrafted, IsLawfulFrom, SomePlayed}
 use Rattle.cf_world.specs.declared.play_errors.PlayError.{PlayError}
 use Rattle.cf_world.specs.declared.play_errors.PlayError.TheVariants.{OutOfMemory, SinkFault, TooLong}
-use Rattle.cf_world.specs.declared.sides.Side.{Side}
+use Rattle.cf_filter_events.specs.Actors.{Acts}
+use Rattle.cf_filter_events.specs.declared.places.Acting.{Acting}
 
 texts-push : (answers : List Answer) (a : Answer) → texts (answers ++ a ∷ []) ≡ texts answers ++ text a
 texts-push [] a = append-nil (text a)
@@ -63,13 +63,14 @@ played_stops Said all rest trace made waiting old now new parts said h k =
     front_at Said all rest trace old new parts said (drafted_stops_here (texts (answers_of trace)) waiting made old now new h k)
 
 -- the text of an event that was done is not added
-pub played_early : {D : Type 0} (state : D → Disk) (m : Mode) (disk : D) (all : List Event) (i : ℕ) (trace : List (Event × Answer)) (w : Side D) (event : Event) (a : Answer) (old new : Option (List ℕ)) (e : PlayError) → event ≡ get_or all i event → i < length all
-    → events_of trace ++ drop i all ≡ all → HasRunOn state m disk (trace ++ (event, a) ∷ []) w → AddFails (texts (answers_of trace)) (text a) old new e → SomePlayed state m disk all old new w e
-played_early state m disk all i trace w event a old new SinkFault item lt parts run h =
-    front_at (λ ps. HasRunOn state m disk ps w) all (drop (i + 1) all) (trace ++ (event, a) ∷ []) old new (next_event all i trace event a item lt parts) run (subst (λ x. AddsFront old new x) (sym (next_texts trace event a)) h)
-played_early state m disk all i trace w event a old new OutOfMemory item lt parts run h =
-    front_at (IsLawful m (clusters_on (state disk).seen)) all (drop (i + 1) all) (trace ++ (event, a) ∷ []) old new (next_event all i trace event a item lt parts) (run_lawful state m disk (trace ++ (event, a) ∷ []) w run) (subst (λ x. AddsFront old new x) (sym (next_texts trace event a)) h)
-played_early state m disk all i trace w event a old new TooLong item lt parts run h = record {
+pub played_early : {D A : Type 0} (state : D → Disk) (W : Acts A) (disk : D) (first : A) (all : List Event) (i : ℕ) (trace : List (Event × Answer)) (w : Option (Acting D A)) (event : Event) (a : Answer) (old new : Option (List ℕ)) (e : PlayError) → event ≡ get_or all i event → i < length all
+    → events_of trace ++ drop i all ≡ all → HasRunOn state W disk first (trace ++ (event, a) ∷ []) w → AddFails (texts (answers_of trace)) (text a) old new e → SomePlayed state W disk first all old new w e
+played_early state W disk first all i trace w event a old new SinkFault item lt parts run h =
+    front_at (λ ps. HasRunOn state W disk first ps w) all (drop (i + 1) all) (trace ++ (event, a) ∷ []) old new (next_event all i trace event a item lt parts) run (subst (λ x. AddsFront old new x) (sym (next_texts trace event a)) h)
+played_early state W disk first all i trace w event a old new OutOfMemory item lt parts run h =
+    front_at (IsLawfulFrom W (clusters_on (state disk).seen) first) all (drop (i + 1) all) (trace ++ (event, a) ∷ []) old new (next_event all i trace event a item lt parts) (run_lawful state W disk first (trace ++ (event, a) ∷ []) w run)
+    (subst (λ x. AddsFront old new x) (sym (next_texts trace event a)) h)
+played_early state W disk first all i trace w event a old new TooLong item lt parts run h = record {
   trace = trace;
   event = event;
   answer = a;

@@ -1,7 +1,6 @@
 -- What a run writes, and how it ends.
 use Rattle.std.specs.Prelude.{◌≡◌, ◌≢◌, ◌⊎◌, ℕ, ◌+◌, ◌<◌, ◌≤◌, ◌%◌, List, [], ◌∷◌, ◌++◌, length, map, codes, Option, IsTrue}
 use Rattle.std.specs.Fmt.{decimal}
-use Rattle.std.specs.List.{list_all}
 use Rattle.cf_base.specs.declared.answers.Answer.{Answer}
 use Rattle.cf_base.specs.declared.events.Event.{Event}
 use Rattle.cf_base.specs.declared.policies.Mode.{Mode}
@@ -11,13 +10,13 @@ use Rattle.cf_disk.specs.Disk.{State as Disk, size_of}
 use Rattle.cf_io.specs.Moves.{Adds, AddsFront}
 use Rattle.cf_journal.specs.Settled.{IsFitSize}
 use Rattle.cf_volume_points.specs.Standing.{clusters_on}
+use Rattle.cf_remote.specs.Told.{Told}
 use Rattle.cf_report.specs.Texts.{text as text_of, texts}
-use Rattle.cf_script.specs.Built.{is_built}
 use Rattle.cf_script.specs.FailEvents.{IsCause}
 use Rattle.cf_script.specs.Script.{lines_of, IsScript}
 use Rattle.cf_script.specs.declared.script_errors.ScriptError.{ScriptError}
 use Rattle.cf_script.specs.declared.script_errors.ScriptError.TheVariants as fails
-use Rattle.cf_world.specs.Led.{IsLawful, Leads}
+use Rattle.cf_world.specs.Led.{Begins, IsLawful, Leads}
 
 -- a size that a device may have, in bytes
 abbrev pub IsFit : ℕ → Type 0
@@ -33,19 +32,15 @@ events_of trace = map (λ p. p.0) trace
 abbrev pub answers_of : List (Event × Answer) → List Answer
 answers_of trace = map (λ p. p.1) trace
 
--- The text spells these events, and each of them is built.
-abbrev pub IsBuilt : Mode → List ℕ → List Event → Type 0
-IsBuilt m text events = IsScript m text events × IsTrue (list_all (is_built m) events)
-
--- the text spells events that are built
+-- the text is a script
 abbrev pub IsGood : Mode → List ℕ → Type 0
-IsGood m text = (events : List Event) × IsBuilt m text events
+IsGood m text = (events : List Event) × IsScript m text events
 
--- The texts of lawful answers were written, one for each event, and the disk is as they leave it.
-pub record Plays {D : Type 0} (state : D → Disk) (m : Mode) (disk : D) (events : List Event) (old new : Option (List ℕ)) (back : D) : Type 0 where
+-- The texts of answers were written, one for each event, and of their trace this is said.
+pub record Plays (Said : List (Event × Answer) → Type 0) (events : List Event) (old new : Option (List ℕ)) : Type 0 where
   pub trace : List (Event × Answer)
   pub each : events_of trace ≡ events
-  pub leads : Leads state m disk trace back
+  pub said : Said trace
   pub written : Adds old new (texts (answers_of trace))
   pub short : length (texts (answers_of trace)) ≤ most_report
 
@@ -69,29 +64,28 @@ pub record PlaysLong (Said : List (Event × Answer) → Type 0) (events : List E
   pub written : Adds old new (texts (answers_of trace))
   pub passes : most_report < length (texts (answers_of trace)) + length (text_of answer)
 
--- The report of a text: lawful answers, one for each event that it spells.
-pub record Reports {D : Type 0} (state : D → Disk) (m : Mode) (disk : D) (text : List ℕ) (old new : Option (List ℕ)) (back : D) : Type 0 where
+-- The report of a text: answers, one for each event that it spells.
+pub record Reports (Said : List (Event × Answer) → Type 0) (m : Mode) (text : List ℕ) (old new : Option (List ℕ)) : Type 0 where
   pub events : List Event
-  pub spelled : IsBuilt m text events
-  pub played : Plays state m disk events old new back
+  pub spelled : IsScript m text events
+  pub played : Plays Said events old new
 
 -- A front of a report.
 pub record ReportsFront (Said : List (Event × Answer) → Type 0) (m : Mode) (text : List ℕ) (old new : Option (List ℕ)) : Type 0 where
   pub events : List Event
-  pub spelled : IsBuilt m text events
+  pub spelled : IsScript m text events
   pub played : PlaysFront Said events old new
 
 -- A report that would pass its limit.
 pub record ReportsLong (Said : List (Event × Answer) → Type 0) (m : Mode) (text : List ℕ) (old new : Option (List ℕ)) : Type 0 where
   pub events : List Event
-  pub spelled : IsBuilt m text events
+  pub spelled : IsScript m text events
   pub played : PlaysLong Said events old new
 
 -- the line that is written of a script that is not read
 abbrev pub fail_line : ScriptError → List ℕ
 fail_line (fails.Syntax n) = codes "bad line " ++ decimal n ++ 10 ∷ []
 fail_line (fails.TooManyEvents n) = codes "bad line " ++ decimal n ++ 10 ∷ []
-fail_line (fails.NotBuilt n) = codes "not built line " ++ decimal n ++ 10 ∷ []
 fail_line fails.OutOfMemory = []
 
 -- This line is written of the text, which is not read for another cause than memory.
@@ -113,29 +107,28 @@ pub record RefusesFront (m : Mode) (text : List ℕ) (old new : Option (List ℕ
   pub refusal : IsRefusal m text line
   pub written : AddsFront old new line
 
--- What was written where the script was read: a front of the line of a refusal, and the disk is as it came, or a front of a
+-- What was written where the run ended early: a front of the line of a refusal, and disk and remote are as they came, or a front of a
 -- report, of whose trace this is said.
-abbrev pub StopsEarly : {D : Type 0} → (List (Event × Answer) → Type 0) → Mode → D → List ℕ → Option (List ℕ) → Option (List ℕ) → D → Type 0
-StopsEarly Said m disk text old new back = (RefusesFront m text old new × (back ≡ disk)) ⊎ ReportsFront Said m text old new
+abbrev pub StopsEarly : (List (Event × Answer) → Type 0) → Type 0 → Mode → List ℕ → Option (List ℕ) → Option (List ℕ) → Type 0
+StopsEarly Said Kept m text old new = (RefusesFront m text old new × Kept) ⊎ ReportsFront Said m text old new
 
--- What was written of a text, by the status. At Done, at SinkFault and where the report is too long the disk is as the trace
--- leaves it. At OutOfMemory that is not said, for memory may have run out within an event.
-abbrev pub Writes : {D : Type 0} → (D → Disk) → Mode → D → List ℕ → Option (List ℕ) → Option (List ℕ) → Status → D → Type 0
-Writes state m disk text old new status.Done back = Reports state m disk text old new back
-Writes state m disk text old new status.BadScript back = Refuses m text old new
-Writes state m disk text old new status.SinkFault back = StopsEarly (λ trace. Leads state m disk trace back) m disk text old new back
-Writes state m disk text old new status.OutOfMemory back = Adds old new [] ⊎ StopsEarly (IsLawful m (clusters_on (state disk).seen)) m disk text old new back
-Writes state m disk text old new status.Usage back = Adds old new []
-Writes state m disk text old new status.SourceFault back = Adds old new []
-Writes state m disk text old new status.TooLong back =
-    (16777216 < length text × Adds old new [] × (back ≡ disk)) ⊎ (length text ≤ 16777216 × ReportsLong (λ trace. Leads state m disk trace back) m text old new)
-Writes state m disk text old new status.BadDevice back = IsGood m text × Adds old new []
-Writes state m disk text old new status.DeviceFault back = IsGood m text × Adds old new []
+-- What was written of a text, by the status. At Done, at SinkFault and where the report is too long this is said of the trace, which
+-- speaks of what is left. At OutOfMemory the trace is lawful, and no more is said, for memory may have run out within an event.
+abbrev pub Writes : (Said Lawful : List (Event × Answer) → Type 0) → Type 0 → Mode → List ℕ → Option (List ℕ) → Option (List ℕ) → Status → Type 0
+Writes Said Lawful Kept m text old new status.Done = Reports Said m text old new
+Writes Said Lawful Kept m text old new status.BadScript = Refuses m text old new
+Writes Said Lawful Kept m text old new status.SinkFault = StopsEarly Said Kept m text old new
+Writes Said Lawful Kept m text old new status.OutOfMemory = Adds old new [] ⊎ StopsEarly Lawful Kept m text old new
+Writes Said Lawful Kept m text old new status.Usage = Adds old new []
+Writes Said Lawful Kept m text old new status.SourceFault = Adds old new []
+Writes Said Lawful Kept m text old new status.TooLong = (16777216 < length text × Adds old new [] × Kept) ⊎ (length text ≤ 16777216 × ReportsLong Said m text old new)
+Writes Said Lawful Kept m text old new status.BadDevice = IsGood m text × Adds old new []
+Writes Said Lawful Kept m text old new status.DeviceFault = IsGood m text × Adds old new []
 -- these are of commands that judge images and reports
-Writes state m disk text old new status.BadImage back = ⊥
-Writes state m disk text old new status.Unlawful back = ⊥
-Writes state m disk text old new status.Undecided back = ⊥
-Writes state m disk text old new status.Damaged back = ⊥
+Writes Said Lawful Kept m text old new status.BadImage = ⊥
+Writes Said Lawful Kept m text old new status.Unlawful = ⊥
+Writes Said Lawful Kept m text old new status.Undecided = ⊥
+Writes Said Lawful Kept m text old new status.Damaged = ⊥
 
 -- how long a text is, by the status
 abbrev pub IsLength : Status → List ℕ → Type 0
@@ -192,11 +185,15 @@ IsUnfit status.SourceFault = Unit {0}
 IsUnfit status.OutOfMemory = Unit {0}
 IsUnfit _ = ⊥
 
+-- how the events of a script end on a fit device
+abbrev pub IsPlayed : Status → Type 0
+IsPlayed status.DeviceFault = Unit {0}
+IsPlayed s = IsOfReport s
+
 -- the statuses of a script that was read
 abbrev pub IsStarted : Status → Type 0
 IsStarted status.BadDevice = Unit {0}
-IsStarted status.DeviceFault = Unit {0}
-IsStarted s = IsOfReport s
+IsStarted s = IsPlayed s
 
 -- those at which nothing was written
 abbrev pub IsBeforeWriting : Status → Type 0
@@ -214,6 +211,11 @@ IsBeforeDevice status.BadScript = Unit {0}
 IsBeforeDevice status.BadDevice = Unit {0}
 IsBeforeDevice _ = ⊥
 
+-- those at which no event was done
+abbrev pub IsBeforeEvents : Status → Type 0
+IsBeforeEvents status.DeviceFault = Unit {0}
+IsBeforeEvents s = IsBeforeDevice s
+
 -- what is written of a script that is not read
 abbrev pub WritesRefusal : Mode → List ℕ → Option (List ℕ) → Option (List ℕ) → Status → Type 0
 WritesRefusal m text old new status.BadScript = Refuses m text old new
@@ -221,16 +223,21 @@ WritesRefusal m text old new status.SinkFault = RefusesFront m text old new
 WritesRefusal m text old new status.OutOfMemory = Adds old new [] ⊎ RefusesFront m text old new
 WritesRefusal m text old new _ = ⊥
 
+-- what was written of a text by a run that began on this disk with this remote, and leaves those
+abbrev pub WritesOf : {D R : Type 0} → (D → Disk) → (R → Told) → Mode → D → R → List ℕ → Option (List ℕ) → Option (List ℕ) → Status → D → R → Type 0
+WritesOf state told m disk remote text old new end back left =
+    Writes (λ trace. Leads state told m disk remote trace back left) (IsLawful m (Begins told m remote) (clusters_on (state disk).seen)) ((back ≡ disk) × (left ≡ remote)) m text old new end
+
 -- All that holds of the text of a run, by how it ended. The run was quiet where neither source nor sink failed.
-pub record OfText {D : Type 0} (state : D → Disk) (m : Mode) (disk : D) (text : List ℕ) (old new : Option (List ℕ)) (Unwritten Quiet : Type 0) (end : Status) (back : D) : Type 0 where
+pub record OfText {D R : Type 0} (state : D → Disk) (told : R → Told) (m : Mode) (disk : D) (remote : R) (text : List ℕ) (old new : Option (List ℕ)) (Unwritten Quiet : Type 0) (end : Status) (back : D) (left : R) : Type 0 where
   -- what was written: at Done the texts of lawful answers, one for each event of the whole text
-  pub writes : Writes state m disk text old new end back
+  pub writes : WritesOf state told m disk remote text old new end back left
   pub lengths : IsLength end text
-  -- no text of events that are built ends as BadScript
-  pub bad : end ≡ status.BadScript → (events : List Event) → IsBuilt m text events → ⊥
+  -- no script ends as BadScript
+  pub bad : end ≡ status.BadScript → (events : List Event) → IsScript m text events → ⊥
   -- a device that is not fit ends as BadDevice, once the text was read
-  pub unfit : (IsFit (size_of (state disk)) → ⊥) → length text ≤ 16777216 → (events : List Event) → IsBuilt m text events → IsUnfit end
+  pub unfit : (IsFit (size_of (state disk)) → ⊥) → length text ≤ 16777216 → (events : List Event) → IsScript m text events → IsUnfit end
   -- of a text that is too long nothing is written
   pub long : end ≡ status.TooLong → 16777216 < length text → Unwritten
   -- a quiet run on a fit device is done, or the report is too long, memory ran out, or the device failed before the first event
-  pub complete : Quiet → IsFit (size_of (state disk)) → length text ≤ 16777216 → (events : List Event) → IsBuilt m text events → IsComplete end
+  pub complete : Quiet → IsFit (size_of (state disk)) → length text ≤ 16777216 → (events : List Event) → IsScript m text events → IsComplete end

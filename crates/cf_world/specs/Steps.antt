@@ -4,7 +4,6 @@ use Rattle.cf_base.specs.declared.answers.Answer.{Answer}
 use Rattle.cf_base.specs.declared.codes.CallError.{CallError}
 use Rattle.cf_base.specs.declared.codes.CallError.TheVariants as fail
 use Rattle.cf_base.specs.declared.events.Event.{Event}
-use Rattle.cf_base.specs.declared.policies.Mode.{Mode}
 use Rattle.cf_base.specs.declared.statuses.Status.{Status}
 use Rattle.cf_base.specs.declared.statuses.Status.TheVariants as status
 use Rattle.cf_disk.specs.Disk.{State as Disk}
@@ -13,13 +12,14 @@ use Rattle.cf_io.specs.declared.faults.ReadError.{ReadError}
 use Rattle.cf_io.specs.declared.faults.ReadError.TheVariants as reading
 use Rattle.cf_volume_points.specs.Standing.{clusters_on}
 use Rattle.cf_report.specs.Texts.{texts}
-use Rattle.cf_world.specs.Led.{HasRunOn, IsLawful}
-use Rattle.cf_world.specs.Runs.{PlaysFront, PlaysLong, answers_of, events_of, most_report}
+use Rattle.cf_filter_events.specs.Actors.{Acts}
+use Rattle.cf_filter_events.specs.declared.places.Acting.{Acting}
+use Rattle.cf_world.specs.Led.{HasRunOn, IsLawful, LeavesActor, Stood}
+use Rattle.cf_world.specs.Runs.{PlaysFront, PlaysLong, Writes, answers_of, events_of, most_report}
 use Rattle.cf_cli.specs.declared.commands.WordsError.{WordsError}
 use Rattle.cf_cli.specs.declared.commands.WordsError.TheVariants as words
 use Rattle.cf_world.specs.declared.play_errors.PlayError.{PlayError}
 use Rattle.cf_world.specs.declared.play_errors.PlayError.TheVariants as play
-use Rattle.cf_world.specs.declared.sides.Side.{Side}
 
 -- a front of what waited was written, and the rest waits on
 abbrev pub Hands : Option (List ℕ) → Option (List ℕ) → List ℕ → List ℕ → Type 0
@@ -69,22 +69,31 @@ IsOfSink play.TooLong = ⊥
 IsOfSink _ = Unit {0}
 
 -- Some first events were done, and the rest is still to do. Of the texts of their answers a front was written, and what follows waits.
-pub record IsUnderWay {D : Type 0} (state : D → Disk) (m : Mode) (disk : D) (events rest : List Event) (waiting : List ℕ) (made : ℕ) (old now : Option (List ℕ)) (w : Side D) : Type 0 where
+pub record IsUnderWay {D A : Type 0} (state : D → Disk) (W : Acts A) (disk : D) (first : A) (events rest : List Event) (waiting : List ℕ) (made : ℕ) (old now : Option (List ℕ)) (w : Option (Acting D A)) : Type 0 where
   pub trace : List (Event × Answer)
-  pub run : HasRunOn state m disk trace w
+  pub run : HasRunOn state W disk first trace w
   pub parts : events_of trace ++ rest ≡ events
   pub drafted : IsDrafted (texts (answers_of trace)) waiting made old now
 
 -- All events were done, and the texts of their answers written.
-pub record AllPlayed {D : Type 0} (state : D → Disk) (m : Mode) (disk : D) (events : List Event) (old new : Option (List ℕ)) (w : Side D) : Type 0 where
+pub record AllPlayed {D A : Type 0} (state : D → Disk) (W : Acts A) (disk : D) (first : A) (events : List Event) (old new : Option (List ℕ)) (w : Option (Acting D A)) : Type 0 where
   pub trace : List (Event × Answer)
-  pub run : HasRunOn state m disk trace w
+  pub run : HasRunOn state W disk first trace w
   pub each : events_of trace ≡ events
   pub written : Adds old new (texts (answers_of trace))
   pub short : length (texts (answers_of trace)) ≤ most_report
 
+-- the answers are lawful, whichever remote of the definitions the actor stood for
+abbrev pub IsLawfulFrom : {A : Type 0} → Acts A → ℕ → A → List (Event × Answer) → Type 0
+IsLawfulFrom W clusters first trace = IsLawful W.mode (Stood W clusters first) clusters trace
+
 -- What was written of them where it ended early. But where memory ran out, the world is where the trace leads to.
-abbrev pub SomePlayed : {D : Type 0} → (D → Disk) → Mode → D → List Event → Option (List ℕ) → Option (List ℕ) → Side D → PlayError → Type 0
-SomePlayed state m disk events old new w play.TooLong = PlaysLong (λ trace. HasRunOn state m disk trace w) events old new
-SomePlayed state m disk events old new w play.SinkFault = PlaysFront (λ trace. HasRunOn state m disk trace w) events old new
-SomePlayed state m disk events old new w play.OutOfMemory = PlaysFront (IsLawful m (clusters_on (state disk).seen)) events old new
+abbrev pub SomePlayed : {D A : Type 0} → (D → Disk) → Acts A → D → A → List Event → Option (List ℕ) → Option (List ℕ) → Option (Acting D A) → PlayError → Type 0
+SomePlayed state W disk first events old new w play.TooLong = PlaysLong (λ trace. HasRunOn state W disk first trace w) events old new
+SomePlayed state W disk first events old new w play.SinkFault = PlaysFront (λ trace. HasRunOn state W disk first trace w) events old new
+SomePlayed state W disk first events old new w play.OutOfMemory = PlaysFront (IsLawfulFrom W (clusters_on (state disk).seen) first) events old new
+
+-- What was written of a script that was read, under an actor: as `Writes` says, of what is left of disk and actor.
+abbrev pub WritesBy : {D A : Type 0} → (D → Disk) → Acts A → D → A → List ℕ → Option (List ℕ) → Option (List ℕ) → Status → D → A → Type 0
+WritesBy state W disk first text old new end back actor =
+    Writes (λ trace. LeavesActor state W disk first trace back actor) (IsLawfulFrom W (clusters_on (state disk).seen) first) ((back ≡ disk) × (actor ≡ first)) W.mode text old new end

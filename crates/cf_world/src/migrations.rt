@@ -11,7 +11,7 @@ ghost use Rattle.cf_journal.specs.Settled.{IsFitSize};
 ghost use Rattle.cf_world.specs.Migrations.{HandsOut, IsMigrated, IsRefused, IsUnopened, IsUnopenedEnd, IsUnread, Migrates, OfDevice};
 ghost use Rattle.cf_world.specs.Runs.{IsBeforeDevice, IsBeforeWriting, IsFit};
 
-use crate::runs::is_fit;
+use crate::scripts::is_fit;
 use cf_base::{CallError, Code, Status};
 use cf_disk::{Disk, DiskError};
 use cf_io::{ReadError, Sink, Source, read_all, write_all};

@@ -1,139 +1,114 @@
 //! The world that a script acts on.
 
 ghost use Rattle.std.specs.Prelude.{◌≡◌, ◌++◌, ◌∷◌, [], is_some, IfErr, IfOk, List, Some, true};
-ghost use Rattle.cf_world_filter.specs.Counted.{Counts};
-ghost use Rattle.cf_world_filter.specs.Meaning.{Is};
-ghost use Rattle.cf_world_filter.specs.Stepped.{StepsOver, disk_of};
-ghost use Rattle.cf_world_filter.specs.declared.places.Acting.{Acting as Hands};
+ghost use Rattle.cf_filter_events.specs.Counted.{Counts};
+ghost use Rattle.cf_filter_events.specs.Meaning.{Is};
+ghost use Rattle.cf_filter_events.specs.Stepped.{StepsOver, disk_of};
+ghost use Rattle.cf_filter_events.specs.declared.places.Acting.{Acting as Hands};
 ghost use Rattle.cf_base.specs.declared.answers.Answer.{Answer as Answered};
 ghost use Rattle.cf_base.specs.declared.events.Event.{Event as Done};
-ghost use Rattle.cf_base.specs.declared.policies.Mode.{Mode as Commanded};
 ghost use Rattle.cf_disk.specs.Disk.{size_of};
-ghost use Rattle.cf_base.specs.declared.policies.Mode.TheVariants.{Filter};
 ghost use Rattle.cf_journal.specs.Settled.{IsFitSize};
 ghost use Rattle.cf_model.specs.Events.{is_of};
 ghost use Rattle.cf_volume.specs.Calls.{IsCause, StopsOnly};
-ghost use Rattle.cf_world.specs.Led.{HasRunOn, IsSame, IsWhole, Keeps, Leads, can_do};
+ghost use Rattle.cf_world.specs.Led.{HasRunOn, LeavesActor};
 
-use crate::sides::Side;
-use cf_base::{Answer, CallError, Event, Mode, OutOfMemory};
+use cf_base::{Answer, CallError, Event, OutOfMemory};
 use cf_disk::Disk;
-use cf_plain::PlainWorld;
-use cf_world_filter::Acting;
+use cf_filter_events::{Acting, Actor};
 use std::alloc::Global;
 use std::marker::Model;
 
-/// A world: the side of its command, and the remote. Contracts name the trace of its events; the program keeps none.
+/// A world: the volume, open or cut off by a crash, under an actor, which is the scripted provider of `filter` or the engine of
+/// `replay`. It is there but while an event goes on. Contracts name the trace of its events; the program keeps none.
 #[derive(Drop)]
-pub struct World<D: Disk + Drop, R> {
-    side: Side<D>,
-    remote: R,
+pub struct World<D: Disk + Drop, A: Actor + Drop> {
+    acting: Option<Acting<D, A>>,
 }
 
-impl<D: Disk + Drop, R> Model for World<D, R> {
-    ghost use Rattle.cf_world.specs.Sides.{Acted};
+impl<D: Disk + Drop, A: Actor + Drop> Model for World<D, A> {
+    ghost use Rattle.std.specs.Prelude.{Option};
+    ghost use Rattle.cf_filter_events.specs.declared.places.Acting.{Acting as Hands};
 
-    ghost Value = { Acted D R };
+    ghost Value = { Option (Hands D A) };
 
-    ghost view = { λ w. record { side = w.side; remote = w.remote } };
+    ghost view = { λ w. w.acting };
 }
 
-impl<D: Disk + Drop, R> World<D, R> {
-    /// A world in which nothing has happened. In `filter` a volume is made on the disk, which has a fit size. Refused as
-    /// Device where a call of the disk failed, and as OutOfMemory; then disk and remote come back.
-    pub fn start(
-        alloc: Global,
-        disk: D,
-        remote: R,
-        mode: Mode,
-    ) -> Result<World<D, R>, (D, R, CallError)>
+impl<D: Disk + Drop, A: Actor + Drop> World<D, A> {
+    /// A world in which nothing has happened: a volume is made on the disk, which has a fit size. Refused as Device where a call of
+    /// the disk failed, and as OutOfMemory; then disk and actor come back.
+    pub fn start(alloc: Global, disk: D, actor: A) -> Result<World<D, A>, (D, A, CallError)>
         requires { IsFitSize (size_of (D.state disk)) }
-        ensures ok { IfOk result (λ w. HasRunOn D.state mode disk [] w.side) }
-        ensures begins { IfOk result (λ w. w.remote ≡ remote) }
-        ensures back { IfErr result (λ e. e.1 ≡ remote) }
-        ensures made { IfErr result (λ e. mode ≡ Filter) }
+        ensures ok { IfOk result (HasRunOn D.state A.acts disk actor []) }
+        ensures whole { IfOk result (λ w. is_some w ≡ true) }
+        ensures back { IfErr result (λ e. e.1 ≡ actor) }
         ensures only { IfErr result (λ e. StopsOnly e.2) }
         ensures cause { IfErr result (λ e. IsCause e.2 (D.state disk) (D.state e.0)) }
     {
-        match mode {
-            Mode::Replay => Ok(World {
-                side: Side::Replay(PlainWorld::start(alloc), disk),
-                remote,
+        match Acting::start(alloc, disk, actor) {
+            Ok(acting) => Ok(World {
+                acting: Some(acting),
             }),
-            Mode::Filter => match Acting::start(alloc, disk) {
-                Ok(acting) => Ok(World {
-                    side: Side::Filter(Some(acting)),
-                    remote,
-                }),
-                Err((disk, fail)) => Err((disk, remote, fail)),
-            },
+            Err(back) => Err(back),
         }
     }
 
     /// Does an event of the mode, and answers it. At OutOfMemory nothing more is said of the world.
     pub fn step(&mut self, alloc: Global, event: &Event) -> Result<Answer, OutOfMemory>
-        requires whole { IsWhole self.old.side }
-        requires can { can_do self.old.side event.now ≡ true }
-        ensures ok { IfOk result (λ a. (m : Commanded) (disk : D) (trace : List (Done × Answered)) → HasRunOn D.state m disk trace self.old.side → HasRunOn D.state m disk (trace ++ (event.now, a) ∷ []) self.new.side) }
-        ensures whole { IsWhole self.new.side }
-        ensures same { (self.new.remote ≡ self.old.remote) × IsSame self.old.side self.new.side }
+        requires whole { is_some self.old ≡ true }
+        requires of { is_of A.acts.mode event.now ≡ true }
+        ensures ok { IfOk result (λ a. (disk : D) (first : A) (trace : List (Done × Answered)) → HasRunOn D.state A.acts disk first trace self.old → HasRunOn D.state A.acts disk first (trace ++ (event.now, a) ∷ []) self.new) }
+        ensures whole { is_some self.new ≡ true }
     {
-        act(alloc, &mut self.side, event)
+        act(alloc, &mut self.acting, event)
     }
 
-    /// The disk and the remote.
-    pub fn finish(self) -> (D, R)
-        requires { IsWhole self.side }
-        ensures disk { (m : Commanded) (disk : D) (trace : List (Done × Answered)) → HasRunOn D.state m disk trace self.side → Leads D.state m disk trace result.0 }
-        ensures kept { Keeps self.side result.0 }
-        ensures remote { result.1 ≡ self.remote }
+    /// The disk and the actor.
+    pub fn finish(self) -> (D, A)
+        requires { is_some self ≡ true }
+        ensures { (disk : D) (first : A) (trace : List (Done × Answered)) → HasRunOn D.state A.acts disk first trace self → LeavesActor D.state A.acts disk first trace result.0 result.1 }
     {
-        let World { side, remote, .. } = self;
-        (disk_of(side), remote)
+        let World { acting, .. } = self;
+        parts_of(acting)
     }
 }
 
-// The disk of a world.
-fn disk_of<D: Disk + Drop>(side: Side<D>) -> D
-    requires { IsWhole side }
-    ensures kept { Keeps side result }
-    ensures disk { (m : Commanded) (disk : D) (trace : List (Done × Answered)) → HasRunOn D.state m disk trace side → Leads D.state m disk trace result }
+// The disk and the actor of a world that is there.
+fn parts_of<D: Disk + Drop, A: Actor + Drop>(acting: Option<Acting<D, A>>) -> (D, A)
+    requires { is_some acting ≡ true }
+    ensures { (disk : D) (first : A) (trace : List (Done × Answered)) → HasRunOn D.state A.acts disk first trace acting → LeavesActor D.state A.acts disk first trace result.0 result.1 }
 {
-    match side {
-        Side::Replay(_, disk) => disk,
-        Side::Filter(Some(acting)) => acting.finish(),
-        Side::Filter(None) => unreachable!(),
+    match acting {
+        Some(acting) => acting.finish(),
+        None => unreachable!(),
     }
 }
 
 // Does an event, and answers it.
-fn act<D: Disk + Drop>(
+fn act<D: Disk + Drop, A: Actor + Drop>(
     alloc: Global,
-    side: &mut Side<D>,
-    event: &Event,
-) -> Result<Answer, OutOfMemory>
-    requires whole { IsWhole side.old }
-    requires can { can_do side.old event.now ≡ true }
-    ensures ok { IfOk result (λ a. (m : Commanded) (disk : D) (trace : List (Done × Answered)) → HasRunOn D.state m disk trace side.old → HasRunOn D.state m disk (trace ++ (event.now, a) ∷ []) side.new) }
-    ensures whole { IsWhole side.new }
-    ensures same { IsSame side.old side.new }
-{
-    match side {
-        Side::Replay(world, _) => world.step(alloc, event),
-        Side::Filter(acting) => act_on(alloc, acting, event),
-    }
-}
-
-// The same in `filter`.
-fn act_on<D: Disk + Drop>(
-    alloc: Global,
-    acting: &mut Option<Acting<D>>,
+    acting: &mut Option<Acting<D, A>>,
     event: &Event,
 ) -> Result<Answer, OutOfMemory>
     requires whole { is_some acting.old ≡ true }
-    requires can { is_of Filter event.now ≡ true }
-    ensures ok { (a b : Hands D) → acting.old ≡ Some a → acting.new ≡ Some b → StepsOver (Is D.state) event.now a result b }
-    ensures counts { (a b : Hands D) → acting.old ≡ Some a → acting.new ≡ Some b → Counts (Is D.state) a result (D.state (disk_of a)) (D.state (disk_of b)) }
+    requires of { is_of A.acts.mode event.now ≡ true }
+    ensures ok { IfOk result (λ a. (disk : D) (first : A) (trace : List (Done × Answered)) → HasRunOn D.state A.acts disk first trace acting.old → HasRunOn D.state A.acts disk first (trace ++ (event.now, a) ∷ []) acting.new) }
+    ensures whole { is_some acting.new ≡ true }
+{
+    act_on(alloc, acting, event)
+}
+
+// The same, by the world before and after.
+fn act_on<D: Disk + Drop, A: Actor + Drop>(
+    alloc: Global,
+    acting: &mut Option<Acting<D, A>>,
+    event: &Event,
+) -> Result<Answer, OutOfMemory>
+    requires whole { is_some acting.old ≡ true }
+    requires of { is_of A.acts.mode event.now ≡ true }
+    ensures ok { (a b : Hands D A) → acting.old ≡ Some a → acting.new ≡ Some b → StepsOver A.acts.mode (Is A.acts D.state) event.now a result b }
+    ensures counts { (a b : Hands D A) → acting.old ≡ Some a → acting.new ≡ Some b → Counts (Is A.acts D.state) a result (D.state (disk_of a)) (D.state (disk_of b)) }
     ensures whole { is_some acting.new ≡ true }
 {
     let Some(begun) = acting.take() else {

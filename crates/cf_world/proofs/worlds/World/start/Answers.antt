@@ -1,6 +1,5 @@
-use Rattle.std.proofs.Common.{[], refl}
-use Rattle.cf_world.proofs.Sided.{filter_begins}
+use Rattle.cf_world.proofs.WorldRuns.{begins}
 use Rattle.cf_world.proofs.worlds.World.start.Goals as goal
 
 pub returns-in-Ok-clause-ok : goal.returns-in-Ok-clause-ok
-returns-in-Ok-clause-ok g c = filter_begins g.D.Disk.state c.args.mode c.args.disk [] c.in-Ok.acting c.in-Filter.is refl c.in-Ok.ensures.ok c.in-Ok.ensures.faults
+returns-in-Ok-clause-ok g c = begins g.D.Disk.state g.A.Actor.acts c.args.disk c.args.actor c.in-Ok.acting c.in-Ok.ensures.ok c.in-Ok.ensures.faults

@@ -1,0 +1,93 @@
+-- What the trace of a world says.
+use Rattle.std.proofs.Common.{◌≡◌, ◌≤◌, ◌+◌, ℕ, Bool, true, false, List, [], ◌∷◌, ◌++◌, refl, sym, subst, ◌∙◌, Result, Ok, Err}
+use Rattle.std.specs.Prelude.{Option, Some, None, IfOk, is_some}
+use Rattle.cf_filter_events.specs.Actors.{Acts}
+use Rattle.cf_filter_events.specs.Counted.{Counts}
+use Rattle.cf_filter_events.specs.Meaning.{Is}
+use Rattle.cf_filter_events.specs.Pasts.{Gains, Past, StandsFor, last_image}
+use Rattle.cf_filter_events.specs.Stepped.{StepsOver, disk_of}
+use Rattle.cf_filter_events.specs.declared.places.Acting.{Acting}
+use Rattle.cf_base.specs.declared.answers.Answer.{Answer}
+use Rattle.cf_base.specs.declared.events.Event.{Event}
+use Rattle.cf_base.specs.declared.memory.OutOfMemory.{OutOfMemory as NoMemory}
+use Rattle.cf_base.specs.declared.policies.Choice.{Choice}
+use Rattle.cf_disk.specs.Disk.{State as Disk, capped}
+use Rattle.cf_model.specs.Powers.{StandsNow}
+use Rattle.cf_model.specs.State.{State, start}
+use Rattle.cf_model.specs.Store.{Held}
+use Rattle.cf_volume_points.specs.Standing.{clusters_on}
+use Rattle.cf_world.proofs.Counted.{met_more, met_none}
+use Rattle.cf_world.proofs.OverPowers.{after_all, gains_then, last_then, over_push, over_runs}
+use Rattle.cf_world.specs.Led.{HasRunOn, LeadsActor, LeadsWorld, LeavesActor, met_by}
+use Rattle.cf_world.specs.Steps.{IsLawfulFrom}
+
+module _ {D A : Type 0} (state : D → Disk) (W : Acts A) where
+  -- what a world has done is lawful
+  pub run_lawful : (disk : D) (first : A) (trace : List (Event × Answer)) (w : Option (Acting D A)) → HasRunOn state W disk first trace w → IsLawfulFrom W (clusters_on (state disk).seen) first trace
+  run_lawful disk first trace None h = absurd h
+  run_lawful disk first trace (Some a) h = λ held stood. let r = h held stood in (r.left, over_runs StandsFor W.mode None (start W.mode held (clusters_on (state disk).seen)) r.left trace r.powers r.runs)
+
+  -- one more event
+
+  world_more : (held : Held) (disk : D) (trace : List (Event × Answer)) (old new : Acting D A) (e : Event) (a : Answer) → StepsOver W.mode (Is W state) e old (Ok a) new → Counts (Is W state) old (Ok a) (state (disk_of old)) (state (disk_of new)) → LeadsWorld state W held disk trace old
+      → LeadsWorld state W held disk (trace ++ (e, a) ∷ []) new
+  world_more held disk trace old new e a steps counts r =
+      let last : Option (List ℕ) = last_image None r.powers in
+      let t = steps.leads (record { told = r.told; last = last }) r.left r.is in
+      let all : t.2.last ≡ last_image None (r.powers ++ t.1) = after_all StandsFor last e a t.0 t.1 t.2.last t.4 ∙ last_then None r.powers t.1 in
+      record {
+        left = t.0;
+        powers = r.powers ++ t.1;
+        told = t.2.told;
+        runs = over_push StandsFor W.mode None (start W.mode held (clusters_on (state disk).seen)) r.left t.0 trace r.powers t.1 e a t.2.last r.runs t.3 t.4;
+        gains = gains_then r.powers t.1 (state disk).powers r.told t.2.told r.gains t.5;
+        met = met_more trace e a (state disk).faults (state (disk_of old)) (state (disk_of new)) r.met (counts.counts (record { told = r.told; last = last }) r.left r.is);
+        is = subst (λ (o : Option (List ℕ)). Is W state (record { told = t.2.told; last = o }) new t.0) all t.6;
+      }
+
+  goes : (disk : D) (first : A) (trace : List (Event × Answer)) (old new : Option (Acting D A)) (e : Event) (a : Answer) → ((x y : Acting D A) → old ≡ Some x → new ≡ Some y → StepsOver W.mode (Is W state) e x (Ok a) y) → ((x y : Acting D A) → old ≡ Some x → new ≡ Some y → Counts (Is W state) x (Ok a) (state (disk_of x)) (state (disk_of y))) → is_some new ≡ true
+      → HasRunOn state W disk first trace old → HasRunOn state W disk first (trace ++ (e, a) ∷ []) new
+  goes disk first trace None new e a steps counts there h = absurd h
+  goes disk first trace (Some x) None e a steps counts there h = let z : false ≡ true = there in absurd cc
+  goes disk first trace (Some x) (Some y) e a steps counts there h = λ held stood. world_more held disk trace x y e a (steps x y refl refl) (counts x y refl refl) (h held stood)
+
+  -- the event with its answer, if there is one
+  pub acts : (r : Result Answer NoMemory) (old new : Option (Acting D A)) (e : Event) → ((x y : Acting D A) → old ≡ Some x → new ≡ Some y → StepsOver W.mode (Is W state) e x r y) → ((x y : Acting D A) → old ≡ Some x → new ≡ Some y → Counts (Is W state) x r (state (disk_of x)) (state (disk_of y))) → is_some new ≡ true
+      → IfOk r (λ a. (disk : D) (first : A) (trace : List (Event × Answer)) → HasRunOn state W disk first trace old → HasRunOn state W disk first (trace ++ (e, a) ∷ []) new)
+  acts (Ok a) old new e steps counts there = λ disk first trace h. goes disk first trace old new e a steps counts there h
+  acts (Err x) old new e steps counts there = tt
+
+  -- a world in which nothing has happened
+  pub begins : (disk : D) (first : A) (a : Acting D A) → ((held : Held) → W.stands first (start W.mode held (clusters_on (state disk).seen)) → (past : Past) → past.told ≡ (state disk).powers → Is W state past a (start W.mode held (clusters_on (state disk).seen))) → (state disk).faults ≤ (state (disk_of a)).faults
+      → HasRunOn state W disk first [] (Some a)
+  begins disk first a starts least = λ held stood. record {
+    left = start W.mode held (clusters_on (state disk).seen);
+    powers = [];
+    told = (state disk).powers;
+    runs = (refl, refl);
+    gains = refl;
+    met = met_none (state disk).faults (state (disk_of a)).faults least;
+    is = starts held stood (record { told = (state disk).powers; last = None }) refl;
+  }
+
+  -- what is handed back
+
+  hands_back : (held : Held) (disk back : D) (actor : A) (trace : List (Event × Answer)) (a : Acting D A) → ((past : Past) (s : State) → Is W state past a s → (c : List ℕ) → (state back).may_leave c → StandsNow StandsFor s c)
+      → ((past : Past) (s : State) → Is W state past a s → (state back).powers ≡ past.told) → ((past : Past) (s : State) → Is W state past a s → W.holds actor s) → back ≡ disk_of a → LeadsWorld state W held disk trace a → LeadsActor state W held disk trace back actor
+  hands_back held disk back actor trace a lasts tells holds same r =
+      let past : Past = record { told = r.told; last = last_image None r.powers } in
+      record {
+        left = r.left;
+        powers = r.powers;
+        runs = r.runs;
+        gains = subst (λ (o : Option (List (Choice × List ℕ))). Gains r.powers (state disk).powers o) (sym (tells past r.left r.is)) r.gains;
+        met = subst (λ (d : D). capped ((state disk).faults + met_by trace) ≤ (state d).faults) (sym same) r.met;
+        lasts = lasts past r.left r.is;
+        holds = holds past r.left r.is;
+      }
+
+  pub gives : (o : Option (Acting D A)) (a : Acting D A) (back : D) (actor : A) → o ≡ Some a → ((past : Past) (s : State) → Is W state past a s → (c : List ℕ) → (state back).may_leave c → StandsNow StandsFor s c)
+      → ((past : Past) (s : State) → Is W state past a s → (state back).powers ≡ past.told) → ((past : Past) (s : State) → Is W state past a s → W.holds actor s) → back ≡ disk_of a
+      → (disk : D) (first : A) (trace : List (Event × Answer)) → HasRunOn state W disk first trace o → LeavesActor state W disk first trace back actor
+  gives o a back actor some lasts tells holds same disk first trace h held stood =
+      hands_back held disk back actor trace a lasts tells holds same ((subst (λ (x : Option (Acting D A)). HasRunOn state W disk first trace x) some h) held stood)
