@@ -3,6 +3,7 @@
 mod faults;
 mod lengths;
 mod migrations;
+mod remotes;
 mod sinks;
 mod stops;
 

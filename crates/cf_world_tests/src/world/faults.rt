@@ -132,10 +132,10 @@ fn armed(alloc: Global, word: &str, script: &[u8], calls: u32) -> Result<Option<
 #[test]
 fn devices_that_fail_at_the_start(rt: HostRuntime) -> Result<(), Fail> {
     for calls in 0..8 {
-        let filtered = armed(rt.alloc(), "filter", b"flush\n", calls)?;
-        assert_eq!(rt; filtered, Some(Status::DeviceFault));
+        for word in ["filter", "replay"] {
+            let status = armed(rt.alloc(), word, b"flush\n", calls)?;
+            assert_eq!(rt; status, Some(Status::DeviceFault));
+        }
     }
-    let replayed = armed(rt.alloc(), "replay", b"", 0)?;
-    assert_eq!(rt; replayed, Some(Status::Done));
     Ok(())
 }
