@@ -15,37 +15,81 @@ def large(count):
         yield f"get /film {start} 4000"
 
 
-def spelled(count):
-    """One version of `count` bytes that are spelled one by one, and one read of them all."""
-    yield "peer put /film " + "".join(f"{n * 7 % 256:02x}" for n in range(256)) * (count // 256)
+def put_back(count):
+    """A file of `count` bytes, written in pieces of 65,536, uploaded, dehydrated and read back whole."""
+    yield "create /film"
+    yield "open /film"
+    for start in range(0, count, 16 * BLOCK):
+        yield f"write 1.1 {start} {start // BLOCK % 256:02x}*{min(16 * BLOCK, count - start)}"
+    yield "close 1.1"
     yield "sync"
+    yield "dehydrate /film"
     yield f"get /film 0 {count}"
 
 
-def events(count):
-    """Reads of one small file."""
-    yield "peer put /note 68656c6c6f"
+def work_day(count):
+    """A user's day over 200 files, with edits on both sides and a sync now and then."""
+    yield from (f"create /file-{n}" for n in range(FILES))
+    yield from (f"open /file-{n}" for n in range(FILES))
+    for n in range((count - 2 * FILES) // 10):
+        handle, at = n % FILES + 1, n // FILES % 64 * 8
+        yield f"write 1.{handle} {at} {n:016x}"
+        yield f"read 1.{handle} {at} 16"
+        yield f"info /file-{handle - 1}"
+        yield f"write 1.{handle} {at + 8} {n:08x}"
+        yield f"ranges /file-{handle - 1} modified"
+        yield "df"
+        yield "flush" if n % 50 == 0 else f"read 1.{handle} 0 8"
+        yield f"peer put /other-{n % FILES} {n:08x}" if n % 100 == 99 else f"info /file-{n * 7 % FILES}"
+        yield "sync" if n % 200 == 199 else f"read 1.{handle} {at} 4"
+        yield f"get /file-{n * 3 % FILES} 0 4"
+
+
+def mirrored(count):
+    """`count` new files that are synced, changed, synced, removed and synced."""
+    yield from (f"create /file-{n}" for n in range(count))
     yield "sync"
-    for n in range(count - 2):
-        yield f"get /note {n % 5} {n % 7}"
-
-
-def files(count):
-    """Files, as many as a fifth of the events, then reads of them in turn."""
-    names = count // 5
-    for n in range(names):
-        yield f"peer put /file-{n} {n % 256:02x}"
+    yield from (f"pin /file-{n} pinned" for n in range(count))
+    yield from (f"rename /file-{n} /moved-{n}" for n in range(count))
     yield "sync"
-    for n in range(count - names - 1):
-        yield f"get /file-{n * 7 % names} 0 1"
+    yield from (f"delete /moved-{n}" for n in range(count))
+    yield "sync"
 
 
-def versions(count):
-    """One file that gets versions, with a sync and a read after each."""
-    for n in range(count // 3):
-        yield f"peer put /note {n % 256:02x}"
-        yield "sync"
-        yield "get /note 0 1"
+def fed(count):
+    """`count` files that another device put, synced, and changed by it, and synced."""
+    yield from (f"peer put /file-{n} {n % 256:02x}" for n in range(count))
+    yield "sync"
+    yield from (f"peer put /file-{n} {n % 256:02x}00" for n in range(count))
+    yield "sync"
+
+
+def idle(count):
+    """60 syncs with nothing to do over `count` files."""
+    yield from (f"create /file-{n}" for n in range(count))
+    yield "sync"
+    yield from ("sync" for _ in range(60))
+
+
+def waiting(count):
+    """`count` reads that wait on one file, answered one by one."""
+    yield f"peer put /film 61*{4 * count * BLOCK}"
+    yield "sync"
+    yield "open /film"
+    yield "link queued"
+    yield from (f"read 1.1 {4 * n * BLOCK} {BLOCK}" for n in range(count))
+    yield from (f"arrive {n + 5}" for n in range(count))
+    yield from (f"deliver {n + count + 5}" for n in range(count))
+
+
+def apart(count):
+    """`count` reads that wait, each on a file of its own, answered one by one."""
+    yield from (f"peer put /file-{n} 61*{BLOCK}" for n in range(count))
+    yield "sync"
+    yield "link queued"
+    yield from (f"get /file-{n} 0 {BLOCK}" for n in range(count))
+    yield from (f"arrive {n + 5}" for n in range(count))
+    yield from (f"deliver {n + count + 5}" for n in range(count))
 
 
 # Scripts of `filter`
@@ -156,11 +200,14 @@ def commits(items, rounds):
 
 
 CASES = [
+    ("replay", work_day, 90_000),
     ("replay", large, 16_000_000),
-    ("replay", spelled, 8_000_000),
-    ("replay", events, 99_999),
-    ("replay", files, 40_000),
-    ("replay", versions, 20_001),
+    ("replay", put_back, 16_777_216),
+    ("replay", mirrored, 8_000),
+    ("replay", fed, 8_000),
+    ("replay", idle, 8_000),
+    ("replay", waiting, 1_024),
+    ("replay", apart, 1_024),
     ("filter", users, 90_000),
     ("filter", transfers, 16_777_216),
     ("filter", blocks, 16_777_216),
