@@ -1,11 +1,10 @@
 //! Events that need no volume: those of other devices, and messages that are handed to the remote.
 
-ghost use Rattle.std.specs.Prelude.{◌≡◌, ◌<◌, ◌^◌, false, true};
+ghost use Rattle.std.specs.Prelude.{◌≡◌, ◌<◌, ◌^◌, true};
 ghost use Rattle.cf_base.specs.declared.events.EngineEvent.TheVariants as engine;
 ghost use Rattle.cf_base.specs.declared.events.Event.TheVariants as events;
 ghost use Rattle.cf_engine.specs.Actors.{acts_of};
 ghost use Rattle.cf_filter_events.specs.Actors.{StepsBeside};
-ghost use Rattle.cf_model.specs.Events.{engine_needs};
 ghost use Rattle.cf_remote.specs.LookUps.{EventHasRoom};
 
 use crate::actors::SyncActor;
@@ -54,13 +53,12 @@ impl<R: Remote> SyncActor<R> {
         answered(done(told), notes)
     }
 
-    /// An event of the engine that needs no volume.
+    /// An event of the engine that needs no volume. Any other is out of memory: it never comes here.
     pub(crate) fn do_beside(
         &mut self,
         alloc: Global,
         event: EngineEvent,
     ) -> Result<Answer, OutOfMemory>
-        requires { engine_needs event ≡ false }
         ensures { StepsBeside (acts_of R.told) (events.Engine event) self.old result self.new }
     {
         match event {

@@ -1,7 +1,7 @@
 //! What acts beside the filter.
 
 ghost use Rattle.std.specs.Prelude.{◌≡◌, false, true};
-ghost use Rattle.cf_filter_events.specs.Actors.{Acts, Begins, IsActor, Reopens, StepsBeside, is_call, is_device_event};
+ghost use Rattle.cf_filter_events.specs.Actors.{Acts, Begins, IsActor, Reopens, StepsBeside, is_call};
 ghost use Rattle.cf_filter_events.specs.Counted.{StepsOn};
 ghost use Rattle.cf_model.specs.Events.{is_of, needs_volume};
 
@@ -29,12 +29,10 @@ pub trait Actor: Provider {
     fn reopen(&mut self)
         ensures { Reopens acts self.old self.new };
 
-    /// Does an event of the mode that needs no volume, and answers it, whether the volume is open, broken or off. Of the filter it
-    /// changes the notes alone. Where memory runs out the event is not answered, and nothing more is said.
+    /// Does an event of the mode that needs no volume and is none of the device, and answers it, whether the volume is open, broken or
+    /// off. Of the filter it changes the notes alone. Any other event is out of memory: it never comes here. Where memory runs out the
+    /// event is not answered, and nothing more is said.
     fn beside(&mut self, alloc: Global, event: &Event) -> Result<Answer, OutOfMemory>
-        requires of { is_of acts.mode event.now ≡ true }
-        requires needs { needs_volume event.now ≡ false }
-        requires other { is_device_event event.now ≡ false }
         ensures { StepsBeside acts event.now self.old result self.new };
 
     /// Does an event of the mode that needs the volume and is no call of an application, and answers it. The actor has begun the event:
