@@ -1,5 +1,5 @@
 -- What an item's turn is.
-use Rattle.std.specs.Prelude.{◌≡◌, Bool, List, map}
+use Rattle.std.specs.Prelude.{◌≡◌, Bool, true, false, List, map}
 use Rattle.cf_base.specs.declared.ids.ItemId.{ItemId}
 use Rattle.cf_engine_queue.specs.Books.{tombstone_value}
 use Rattle.cf_engine_queue.specs.declared.uploads.Tombstone as queue
@@ -24,9 +24,13 @@ done_by Moved i = push_item MoveItem i
 done_by Changed i = upload i
 done_by Settled i = mark_item i.id
 
--- it is the case of the item that the row means
+abbrev pub is_nothing : Course → Bool
+is_nothing Nothing = true
+is_nothing _ = false
+
+-- it is the case of the item that the row means, which stands there
 pub record IsCase {X : Type 0} (S : Sense X) (row : Row) (x : X) (c : Course) : Type 0 where
-  pub is : (s : State) (i : Item) → S.means x s.filter → Means row i → done_by c i s ≡ push_by_case i s
+  pub is : (s : State) (i : Item) → S.means x s.filter → Means row i → IsAt i.id i s.filter → done_by c i s ≡ push_by_case i s
 
 -- whether that item is left out
 pub record IsLeftOut {X : Type 0} (W : Whole X) (row : Row) (x : X) (b : Bool) : Type 0 where

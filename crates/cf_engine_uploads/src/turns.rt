@@ -3,7 +3,7 @@
 ghost use Rattle.std.specs.Prelude.{◌≡◌, ◌||◌, IfOk};
 ghost use Rattle.cf_engine_steps.specs.Answering.{Answers, Any};
 ghost use Rattle.cf_engine_steps.specs.States.{whole};
-ghost use Rattle.cf_engine_uploads.specs.Turns.{IsCase, IsLeftOut, PlansTurn};
+ghost use Rattle.cf_engine_uploads.specs.Turns.{IsCase, IsLeftOut, PlansTurn, is_nothing};
 ghost use Rattle.cf_model.specs.Pushes.{push_turn};
 
 use crate::exclusions::is_excluded;
@@ -22,7 +22,7 @@ use cf_table::Row;
 /// What is done with an item at its turn.
 #[derive(Clone, Copy)]
 pub(crate) enum Course {
-    /// It is gone or left out.
+    /// It is gone or left out, or differs in nothing.
     Nothing,
     /// No item of the remote is it.
     New,
@@ -30,7 +30,7 @@ pub(crate) enum Course {
     Moved,
     /// It has local writes that the base has not taken in.
     Changed,
-    /// It may only have to be marked.
+    /// It is to be marked.
     Settled,
 }
 
@@ -76,9 +76,22 @@ fn case_of<S: EngineHost>(s: &S, row: &Row) -> Result<Course, OutOfMemory>
     if row.dirty {
         return Ok(Course::Changed);
     }
+    if row.in_sync {
+        return Ok(Course::Nothing);
+    }
     Ok(Course::Settled)
 }
 
+fn is_nothing(course: Course) -> bool
+    ensures { result ≡ is_nothing course }
+{
+    match course {
+        Course::Nothing => true,
+        _ => false,
+    }
+}
+
+// An item that differs in nothing is not looked at further: its uploads on their way, and what is above it, cost nothing.
 fn course_of<S: EngineHost, R: Remote>(
     s: &S,
     e: &Engine<R>,
@@ -89,10 +102,14 @@ fn course_of<S: EngineHost, R: Remote>(
     let Some(row) = s.rows().get(id) else {
         return Ok(Course::Nothing);
     };
+    let course = case_of(s, row)?;
+    if is_nothing(course) {
+        return Ok(Course::Nothing);
+    }
     if is_left_out(s, e, row)? {
         return Ok(Course::Nothing);
     }
-    case_of(s, row)
+    Ok(course)
 }
 
 /// Does what an item needs to be in sync, as it is at its turn: an upload, or a mark.
