@@ -3,3 +3,4 @@ pub mod Operated
 pub mod PathRecords
 pub mod RepliesTaken
 pub mod StaleReplies
+pub mod Unread

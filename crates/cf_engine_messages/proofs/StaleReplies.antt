@@ -1,5 +1,5 @@
 -- Whether a reply is stale, by what is read of the filter and of the engine's own.
-use Rattle.std.proofs.Common.{◌≡◌, ℕ, Bool, true, false, not, List, ◌&&◌, ◌||◌, ◌==◌, refl, sym, ◌∙◌, ap, subst}
+use Rattle.std.proofs.Common.{◌≡◌, ℕ, Bool, true, false, not, List, [], ◌&&◌, ◌||◌, ◌==◌, refl, sym, ◌∙◌, ap, subst}
 use Rattle.std.specs.Prelude.{Result, Ok, Err, IfOk, Option, Some, None, is_some, nat_le, option_map}
 use Rattle.cf_base.specs.declared.ids.Key.{Key}
 use Rattle.cf_base.specs.declared.ids.Rid.{Rid}
@@ -13,7 +13,8 @@ use Rattle.cf_base.specs.declared.messages.Request.{Request}
 use Rattle.cf_base.specs.declared.messages.Request.TheVariants as request
 use Rattle.cf_base.specs.declared.waits.Ask.{Ask}
 use Rattle.cf_engine_host.specs.Readings.{epoch_of}
-use Rattle.cf_engine_messages.specs.Staleness.{fits_in, is_ended_in, is_feed_over, is_idle_in, is_old_now, is_unlisted_in, rid_under, settled_token}
+use Rattle.cf_engine_messages.specs.Staleness.{fits_in, fits_with, is_ended_in, is_feed_over, is_idle_in, is_old_now, is_unlisted_in, needs_items, rid_under, settled_token}
+use Rattle.cf_engine_messages.proofs.Unread.{unread}
 use Rattle.cf_engine_provider.specs.Listings.{AreAlike, known_in}
 use Rattle.cf_engine_provider.proofs.FitsAlike.{fits_alike}
 use Rattle.cf_engine_steps.specs.Answering.{Any, Reads}
@@ -56,13 +57,18 @@ module _ {X : Type 0} (S : steps.Sense X) (x : X) where
   pub no_settle : steps.Reads S steps.Any (rid_under None) x no_rid
   no_settle = record { is = λ s m a. refl }
 
-  pub fitting_by : (t : Table) (l : List Known) (o : Option Token) (rid : Rid) (q : Request) (r : Reply) (b : Bool) → HasRows S x t → ((items : List Item) → MeansAll t.rows items → AreAlike l (known_in items))
-      → steps.Reads S steps.Any (rid_under o) x rid → o ≡ settled_token q → b ≡ fits l rid q r → steps.Reads S steps.Any (fits_in q r) x b
-  fitting_by t l o rid q r b rows alike settled is fit = record {
-    is = λ s m a.
-        fit ∙ ap (λ (n : Rid). fits l n q r) (settled.is s m a ∙ ap (λ (p : Option Token). rid_under p s) is)
-        ∙ fits_alike l (known_in s.volume.items) (rid_under (settled_token q) s) q r (alike s.volume.items (rows.rows s m));
-  }
+  pub fits_here : (t : Table) (l : List Known) (rid : Rid) (q : Request) (r : Reply) (b : Bool) → HasRows S x t → ((items : List Item) → MeansAll t.rows items → AreAlike l (known_in items)) → b ≡ fits l rid q r → steps.Reads S steps.Any (fits_with rid q r) x b
+  fits_here t l rid q r b rows alike fit = record { is = λ s m a. fit ∙ fits_alike l (known_in s.volume.items) rid q r (alike s.volume.items (rows.rows s m)) }
+
+  module _ (o : Option Token) (rid : Rid) (q : Request) (r : Reply) (b : Bool) (settled : steps.Reads S steps.Any (rid_under o) x rid) (is : o ≡ settled_token q) where
+    about : (s : Filter) → S.means x s → fits_with rid q r s ≡ fits_in q r s
+    about s m = ap (λ (n : Rid). fits_with n q r s) (settled.is s m (record {}) ∙ ap (λ (p : Option Token). rid_under p s) is)
+
+    pub by_items : steps.Reads S steps.Any (fits_with rid q r) x b → steps.Reads S steps.Any (fits_in q r) x b
+    by_items reads = record { is = λ s m a. reads.is s m a ∙ about s m }
+
+    pub without_items : (c : Bool) → c ≡ needs_items q rid r → c ≡ false → b ≡ fits [] rid q r → steps.Reads S steps.Any (fits_in q r) x b
+    without_items c needs none fit = record { is = λ s m a. fit ∙ unread [] (known_in s.volume.items) rid q r (sym needs ∙ none) ∙ about s m }
 
   -- asks and uploads
 

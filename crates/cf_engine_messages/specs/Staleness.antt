@@ -1,10 +1,11 @@
 -- What is read to tell whether a reply is stale.
-use Rattle.std.specs.Prelude.{◌==◌, ◌&&◌, ◌||◌, ℕ, Bool, not, Option, Some, None, is_some, nat_le}
+use Rattle.std.specs.Prelude.{◌==◌, ◌&&◌, ◌||◌, ℕ, Bool, true, false, not, Option, Some, None, is_some, nat_le}
 use Rattle.std.specs.List.{list_any}
 use Rattle.cf_base.specs.declared.ids.Key.{Key}
 use Rattle.cf_base.specs.declared.ids.Rid.{Rid}
 use Rattle.cf_base.specs.declared.ids.Token.{Token}
 use Rattle.cf_base.specs.declared.messages.Reply.{Reply}
+use Rattle.cf_base.specs.declared.messages.Reply.TheVariants as reply
 use Rattle.cf_base.specs.declared.messages.Request.{Request}
 use Rattle.cf_base.specs.declared.messages.Request.TheVariants as request
 use Rattle.cf_engine_provider.specs.Listings.{known_in}
@@ -30,6 +31,26 @@ rid_under (Some token) s = part (λ e. e.rid) no_rid (entry_of s.volume.book tok
 -- the reply fits the request, by the items and the uploads that are there
 abbrev pub fits_in : Request → Reply → Filter → Bool
 fits_in q r s = fits (known_in s.volume.items) (rid_under (settled_token q) s) q r
+
+-- the same of an upload about this item
+abbrev pub fits_with : Rid → Request → Reply → Filter → Bool
+fits_with settled q r s = fits (known_in s.volume.items) settled q r
+
+-- An upload is about a new item of the remote; and each request that is none.
+abbrev pub is_new : Request → Rid → Bool
+is_new (request.Put token rid expect parent name bytes) settled = rid.0 == 0
+is_new (request.Move token rid parent name) settled = rid.0 == 0
+is_new (request.Remove token rid expect) settled = rid.0 == 0
+is_new (request.Settle token) settled = settled.0 == 0
+is_new (request.Keep token count) settled = false
+is_new _ settled = true
+
+-- the items that are here can tell that the reply does not fit
+abbrev pub needs_items : Request → Rid → Reply → Bool
+needs_items q settled (reply.Feed round clock es) = true
+needs_items q settled (reply.Listing key es) = true
+needs_items q settled (reply.Done token rid version) = is_new q settled
+needs_items q settled _ = false
 
 -- no ask with the key is live
 abbrev pub is_idle_in : Key → Filter → Bool

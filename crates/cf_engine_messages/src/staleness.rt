@@ -3,7 +3,7 @@
 ghost use Rattle.std.specs.Prelude.{◌≡◌, ◌||◌, IfOk, List};
 ghost use Rattle.cf_base.specs.declared.messages.Entry.{Entry};
 ghost use Rattle.cf_base.specs.declared.messages.Reply.TheVariants as reply;
-ghost use Rattle.cf_engine_messages.specs.Staleness.{fits_in, is_ended_in, is_feed_over, is_idle_in, is_old_now, is_unlisted_in, rid_under, settled_token};
+ghost use Rattle.cf_engine_messages.specs.Staleness.{fits_in, fits_with, is_ended_in, is_feed_over, is_idle_in, is_new, is_old_now, is_unlisted_in, needs_items, rid_under, settled_token};
 ghost use Rattle.cf_engine_steps.specs.Answering.{Any, Reads};
 ghost use Rattle.cf_engine_steps.specs.States.{whole};
 ghost use Rattle.cf_model.specs.Messages.{is_stale};
@@ -15,7 +15,7 @@ use cf_engine_provider::locals_of;
 use cf_engine_steps::{Engine, cursor, has_entries, has_new_entry, live_entry};
 use cf_filter_steps::Steps;
 use cf_remote::Remote;
-use cf_wire::fits;
+use cf_wire::{NoItems, fits};
 
 // The upload that a request asks how it went.
 fn settled_token(request: &Request) -> Option<Token>
@@ -40,13 +40,55 @@ fn rid_under<S: EngineHost>(s: &S, token: Option<Token>) -> Result<Rid, OutOfMem
     }
 }
 
-// Whether the reply fits the request. It takes time by the items.
+// Whether the item of the remote that an upload is about is a new one. True also of a request that is no upload.
+fn is_new(request: &Request, settled: Rid) -> bool
+    ensures { result ≡ is_new request.now settled }
+{
+    match request {
+        Request::Put { rid, .. } => rid.0 == 0,
+        Request::Move { rid, .. } => rid.0 == 0,
+        Request::Remove { rid, .. } => rid.0 == 0,
+        Request::Settle { .. } => settled.0 == 0,
+        Request::Keep { .. } => false,
+        _ => true,
+    }
+}
+
+// Whether the items that are here can tell that the reply does not fit: of a feed and of a listing, and of the item that an upload made.
+fn needs_items(request: &Request, settled: Rid, reply: &Reply) -> bool
+    ensures { result ≡ needs_items request.now settled reply.now }
+{
+    match reply {
+        Reply::Feed { .. } => true,
+        Reply::Listing { .. } => true,
+        Reply::Done { .. } => is_new(request, settled),
+        _ => false,
+    }
+}
+
+// It takes time by the items.
+fn fits_items<S: EngineHost>(
+    s: &S,
+    settled: Rid,
+    request: &Request,
+    reply: &Reply,
+) -> Result<bool, OutOfMemory>
+    ensures { IfOk result (λ x. FilterReads S.sense AnyFilter (fits_with settled request.now reply.now) s.now x) }
+{
+    let local = locals_of(s.alloc(), s.rows().as_slice())?;
+    let fitting = fits(s.alloc(), &local, settled, request, reply)?;
+    Ok(fitting)
+}
+
+// Whether the reply fits the request.
 fn reply_fits<S: EngineHost>(s: &S, request: &Request, reply: &Reply) -> Result<bool, OutOfMemory>
     ensures { IfOk result (λ x. FilterReads S.sense AnyFilter (fits_in request.now reply.now) s.now x) }
 {
     let settled = rid_under(s, settled_token(request))?;
-    let local = locals_of(s.alloc(), s.rows().as_slice())?;
-    let fitting = fits(s.alloc(), &local, settled, request, reply)?;
+    if needs_items(request, settled, reply) {
+        return fits_items(s, settled, request, reply);
+    }
+    let fitting = fits(s.alloc(), &NoItems, settled, request, reply)?;
     Ok(fitting)
 }
 
@@ -131,8 +173,8 @@ fn either(unfit: bool, old: bool) -> bool
 
 /// Whether a reply does not fit the request that it answers, or nothing waits for it any more: its key or token is not live; it is a
 /// listing while an item that is new to the remote is on its way there; or it is a feed that is not of the latest round, whose round was
-/// closed, that is older than the cursor, or that came while an upload was on its way. It takes time by the items, and by the entries
-/// of the reply as sorting does at most.
+/// closed, that is older than the cursor, or that came while an upload was on its way. It takes time by the entries of the reply as sorting
+/// does at most; of a feed, of a listing and of the item that an upload made also by the items.
 pub fn is_stale<S: EngineHost, R: Remote>(
     s: &S,
     e: &Engine<R>,
