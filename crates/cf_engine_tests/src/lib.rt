@@ -4,6 +4,8 @@
 #[cfg(test)]
 mod engine_feed;
 #[cfg(test)]
+mod engine_passes;
+#[cfg(test)]
 mod engine_provider;
 #[cfg(test)]
 mod engine_queue;
