@@ -2,10 +2,12 @@ pub mod AddingGuarded
 pub mod EarlyCursors
 pub mod FeedsOrder
 pub mod FeedsTold
+pub mod ItemsPushed
 pub mod LastingGuarded
 pub mod LateChanges
 pub mod Lines
 pub mod PassesAdd
+pub mod PushesTold
 pub mod RestingMatches
 pub mod RightTargets
 pub mod RoundsTaken

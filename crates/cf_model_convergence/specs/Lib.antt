@@ -7,4 +7,5 @@ pub mod Quiet
 pub mod Resting
 pub mod Rounds
 pub mod Scripts
+pub mod Telling
 pub mod Tidy

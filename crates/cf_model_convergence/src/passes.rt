@@ -1,16 +1,22 @@
 //! Passes, and what they tell.
 
-ghost use Rattle.std.specs.Prelude.{ℕ, List};
+ghost use Rattle.std.specs.Prelude.{◌≡◌, ℕ, List, false};
 ghost use Rattle.cf_base.specs.declared.answers.Answer.{Answer};
 ghost use Rattle.cf_base.specs.declared.events.Event.{Event};
 ghost use Rattle.cf_base.specs.declared.policies.Mode.TheVariants as mode;
+ghost use Rattle.cf_model.specs.Books.{Action, Tombstone};
+ghost use Rattle.cf_model.specs.Items.{Item};
 ghost use Rattle.cf_model.specs.Lawful.{Runs};
+ghost use Rattle.cf_model.specs.Messages.{no_number};
 ghost use Rattle.cf_model.specs.Passes.{pass, sync_passes};
+ghost use Rattle.cf_model.specs.Pushes.{push_item, push_removal};
 ghost use Rattle.cf_model.specs.State.{State, start};
 ghost use Rattle.cf_model.specs.Store.{Held};
 ghost use Rattle.cf_model.specs.Trees.{Keeps};
-ghost use Rattle.cf_model_laws.specs.Premises.{IsFresh};
+ghost use Rattle.cf_model_laws.specs.Invariant.{Invariant};
+ghost use Rattle.cf_model_laws.specs.Premises.{IsFair, IsFresh};
 ghost use Rattle.cf_model_convergence.specs.Adding.{AddsTo};
+ghost use Rattle.cf_model_convergence.specs.Telling.{EndsFairly, IsListening, IsPushable, IsTold};
 
 /// A pass takes nothing from the notes or the log. As long as it has added no line of a change, the log and the items are as they
 /// were. So it is of the passes of a `sync` together.
@@ -18,4 +24,12 @@ ghost use Rattle.cf_model_convergence.specs.Adding.{AddsTo};
 pub fn a_pass_only_adds()
     ensures one { (remote : Held) (clusters : ℕ) (trace : List (Event × Answer)) (s : State) → Runs mode.Replay (start mode.Replay remote clusters) trace s → IsFresh remote → Keeps (AddsTo s) (pass s) }
     ensures all { (remote : Held) (clusters : ℕ) (trace : List (Event × Answer)) (s : State) → Runs mode.Replay (start mode.Replay remote clusters) trace s → IsFresh remote → Keeps (AddsTo s) (sync_passes s) }
+{}
+
+/// An upload that a pass sends over a link that answers at once is told, where the remote keeps its rules or fails, and numbers of
+/// messages are left: it is done or refused, or there is a line of trouble. So is the removal of a tombstone's item.
+#[tactic(auto, using(crate::proofs::ItemsPushed::item_told, crate::proofs::ItemsPushed::removal_told))]
+pub fn an_upload_is_told()
+    ensures item { (a : Action) (i : Item) (s : State) (u : Unit {0}) (t : State) → Invariant s → IsFair s.link → IsListening s → IsPushable a s i → EndsFairly (push_item a i s) u t → no_number t ≡ false → IsTold s t }
+    ensures removal { (x : Tombstone) (s : State) (u : Unit {0}) (t : State) → Invariant s → IsFair s.link → IsListening s → EndsFairly (push_removal x s) u t → no_number t ≡ false → IsTold s t }
 {}

@@ -138,7 +138,7 @@ quiet_reply m a r items e = (quiet e.action r items (Some (frame.Reply m a)) e (
 same_reply : (a b : Reply) → ◌≡◌ {A = Option Reply} (Some a) (Some b) → a ≡ b
 same_reply a b e = cc
 
-reply_posted : (m : ℕ) (q : Request) (r : Reply) (t : State) → ToldAt t m q r → PostedIn t (Some (frame.Reply m r))
+pub reply_posted : (m : ℕ) (q : Request) (r : Reply) (t : State) → ToldAt t m q r → PostedIn t (Some (frame.Reply m r))
 reply_posted m q r t told = record {
   right = (told.1, q, message_longer t.link.messages (Some (frame.Reply m r) ∷ []) m (frame.Request q) told.0, told.2);
   named = all_any (λ a. is_fetch a.ask.kind ≡ true → OfRequest (Names t.link.remote (items_now t) a.ask) (Some (frame.Reply m r))) (λ a e. tt) t.filter.waiting.asks;
@@ -345,7 +345,7 @@ act_on_at P closed m q (reply.Gone key) s stale told h = (fetching.take_gone_kee
 pub acts_at : (P : State → Type 0) → Guarded P → (m : ℕ) (q : Request) (r : Reply) (s : State) → is_stale q r s ≡ false → (IsFair s.link → ToldAt s m q r) → P s → Keeps P (act_on r s)
 acts_at P closed m q r s stale told h = act_on_at P closed m q r s stale told h
 
-take_reply_at : (P : State → Type 0) → Guarded P → (m : ℕ) (q : Request) (r : Reply) (s : State) → (IsFair s.link → ToldAt s m q r) → P s → Keeps P (take_reply q r s)
+pub take_reply_at : (P : State → Type 0) → Guarded P → (m : ℕ) (q : Request) (r : Reply) (s : State) → (IsFair s.link → ToldAt s m q r) → P s → Keeps P (take_reply q r s)
 take_reply_at P closed m q r s told h = by (is_stale q r s) refl where
   by : (b : Bool) → is_stale q r s ≡ b → Keeps P (act_unless r b s)
   by true e = h
@@ -357,7 +357,7 @@ last_get : (ms : List (Option Frame)) (f : Option Frame) → slice_get (ms ++ f 
 last_get [] f = refl
 last_get (g ∷ ms) f = last_get ms f
 
-last_message : (ms : List (Option Frame)) (f : Frame) → message_in (ms ++ Some f ∷ []) (length (ms ++ Some f ∷ [])) ≡ Some f
+pub last_message : (ms : List (Option Frame)) (f : Frame) → message_in (ms ++ Some f ∷ []) (length (ms ++ Some f ∷ [])) ≡ Some f
 last_message ms f = ap (λ (n : ℕ). message_in (ms ++ Some f ∷ []) n) (length-append ms (Some f ∷ []) ∙ one (length ms)) ∙ ap (λ (o : Option (Option Frame)). part (λ g. g) None o) (last_get ms (Some f)) where
   one : (n : ℕ) → n + 1 ≡ suc n
   one n = omega arith

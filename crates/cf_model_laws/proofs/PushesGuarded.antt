@@ -62,7 +62,7 @@ left_false : (a b : Bool) → (a || b) ≡ false → a ≡ false
 left_false true b e = e
 left_false false b e = refl
 
-lone : (es : List QueueEntry) (id : ItemId) → list_any (λ e. e.item.0 == id.0) es ≡ false → NoEntry es id
+pub lone : (es : List QueueEntry) (id : ItemId) → list_any (λ e. e.item.0 == id.0) es ≡ false → NoEntry es id
 lone [] id h = tt
 lone (e ∷ es) id h = by (e.item.0 == id.0) refl h (lone es id) where
   to_true : (a b : ℕ) → a ≡ b → (a == b) ≡ true
@@ -72,14 +72,14 @@ lone (e ∷ es) id h = by (e.item.0 == id.0) refl h (lone es id) where
   by true q k g = no_way_back k
   by false q k g = ((λ z. no_way (sym q ∙ to_true e.item.0 id.0 z)), g k)
 
-now_lone : (s : State) (i : Item) → is_left_out s i ≡ false → NoEntry (book_now s).entries i.id
+pub now_lone : (s : State) (i : Item) → is_left_out s i ≡ false → NoEntry (book_now s).entries i.id
 now_lone s i h =
     let a = left_false ((i.id.0 == 1) || has_entry s i.id || has_item s.volatile.held_items i.id || is_excluded (items_now s) i.id) ((parent_target (items_now s) i).0 == 0) h in
     let b = left_false ((i.id.0 == 1) || has_entry s i.id || has_item s.volatile.held_items i.id) (is_excluded (items_now s) i.id) a in
     let c = left_false ((i.id.0 == 1) || has_entry s i.id) (has_item s.volatile.held_items i.id) b in
     lone (book_now s).entries i.id (neither (i.id.0 == 1) (has_entry s i.id) c)
 
-targeted : (r : Held) (n : Usn) (i : Item) → IsRight r n i → is_untargeted i ≡ false → i.directory ≡ false → i.placeholder ≡ true
+pub targeted : (r : Held) (n : Usn) (i : Item) → IsRight r n i → is_untargeted i ≡ false → i.directory ≡ false → i.placeholder ≡ true
 targeted r n i right target file = by i.placeholder refl where
   no_root : (i.id.0 == 1) ≡ false
   no_root = one (i.id.0 == 1) refl where
@@ -104,10 +104,10 @@ up_all n (w ∷ ws) h = by (above w.number n) h.0 (up_all n ws h.1) where
 abbrev PutFacts : Held → Item → Item → Type 0
 PutFacts r i j = (j.directory ≡ false) × (j.placeholder ≡ true) × (list_all is_some j.held ≡ true) × (bytes_held i.held ≡ put_bytes (base_bytes r j) i.number j.writes)
 
-sound_of : (P : State → Type 0) → Guarded P → (s : State) → P s → IsFair s.link → IsSound s.link s.volatile.tokens s.filter
+pub sound_of : (P : State → Type 0) → Guarded P → (s : State) → P s → IsFair s.link → IsSound s.link s.volatile.tokens s.filter
 sound_of P closed s h fair = (closed.on_filter s h).sound s.filter h fair
 
-right_of : (s : State) (i : Item) → IsSound s.link s.volatile.tokens s.filter → item_of (items_now s) i.id ≡ Some i → IsRight s.link.remote (next_number s.filter.volume) i
+pub right_of : (s : State) (i : Item) → IsSound s.link s.volatile.tokens s.filter → item_of (items_now s) i.id ≡ Some i → IsRight s.link.remote (next_number s.filter.volume) i
 right_of s i sound there = (all_found (IsRight s.link.remote (next_number s.filter.volume)) (λ x. x.id.0 == i.id.0) (items_now s) i there sound.now.right).0
 
 put_facts : (s : State) (i : Item) → IsSound s.link s.volatile.tokens s.filter → item_of (items_now s) i.id ≡ Some i → i.directory ≡ false → i.placeholder ≡ true → list_all is_some i.held ≡ true → PutFacts s.link.remote i i
@@ -149,7 +149,7 @@ file_low s i sound there file is = by (i.id.0 == 1) refl is where
   by true q z = no_way (sym file ∙ right.top (eqb-true i.id.0 1 q))
   by false q z = aimed right.aimed z
 
-push_put_at : (P : State → Type 0) → Guarded P → Entering P → (i : Item) (s : State) → item_of (items_now s) i.id ≡ Some i → (IsFair s.link → NoEntry (book_now s).entries i.id) → (IsFair s.link → (i.directory ≡ false) × (i.placeholder ≡ true)) → list_all is_some i.held ≡ true → P s
+pub push_put_at : (P : State → Type 0) → Guarded P → Entering P → (i : Item) (s : State) → item_of (items_now s) i.id ≡ Some i → (IsFair s.link → NoEntry (book_now s).entries i.id) → (IsFair s.link → (i.directory ≡ false) × (i.placeholder ≡ true)) → list_all is_some i.held ≡ true → P s
     → Keeps P (push_item PutFile i s)
 push_put_at P closed entering i s there alone kind here h = by (is_untargeted i) where
   facts : IsFair s.link → Each i.id (PutFacts s.link.remote i) (items_now s)
@@ -161,12 +161,12 @@ push_put_at P closed entering i s there alone kind here h = by (is_untargeted i)
   by true = push_at P closed entering (placed PutFile i s) (base_version i) (bytes_held i.held) s refl (λ fair. new_entry s i (placed PutFile i s) (bytes_held i.held) refl refl there (sound_of P closed s h fair) (alone fair) (facts fair) (λ z. cc) (λ _. file_low s i (sound_of P closed s h fair) there (kind fair).0) (λ z. cc)) h
   by false = push_at P closed entering (without_place (placed PutFile i s)) (base_version i) (bytes_held i.held) s refl (λ fair. new_entry s i (without_place (placed PutFile i s)) (bytes_held i.held) refl refl there (sound_of P closed s h fair) (alone fair) (facts fair) (λ z. cc) (λ _. file_low s i (sound_of P closed s h fair) there (kind fair).0) (λ z. cc)) h
 
-push_dir_at : (P : State → Type 0) → Guarded P → Entering P → (i : Item) (s : State) → item_of (items_now s) i.id ≡ Some i → (IsFair s.link → NoEntry (book_now s).entries i.id) → i.directory ≡ true → P s → Keeps P (push_item MakeDir i s)
+pub push_dir_at : (P : State → Type 0) → Guarded P → Entering P → (i : Item) (s : State) → item_of (items_now s) i.id ≡ Some i → (IsFair s.link → NoEntry (book_now s).entries i.id) → i.directory ≡ true → P s → Keeps P (push_item MakeDir i s)
 push_dir_at P closed entering i s there alone dir h =
     push_at P closed entering (without_rid (placed MakeDir i s)) (base_version i) (bytes_held i.held) s refl
     (λ fair. new_entry s i (without_rid (placed MakeDir i s)) (bytes_held i.held) refl refl there (sound_of P closed s h fair) (alone fair) (each_found i.id (λ j. j.directory ≡ true) 0 s.filter.volume.next_item.0 (items_now s) i (sound_of P closed s h fair).now.order there dir) (λ z. cc) (λ z. cc) (λ z. refl)) h
 
-push_move_at : (P : State → Type 0) → Guarded P → Entering P → (i : Item) (s : State) → item_of (items_now s) i.id ≡ Some i → (IsFair s.link → NoEntry (book_now s).entries i.id) → stands_at_seen (items_now s) (book_now s) i ≡ false → P s → Keeps P (push_item MoveItem i s)
+pub push_move_at : (P : State → Type 0) → Guarded P → Entering P → (i : Item) (s : State) → item_of (items_now s) i.id ≡ Some i → (IsFair s.link → NoEntry (book_now s).entries i.id) → stands_at_seen (items_now s) (book_now s) i ≡ false → P s → Keeps P (push_item MoveItem i s)
 push_move_at P closed entering i s there alone away h =
     push_at P closed entering (placed MoveItem i s) (base_version i) (bytes_held i.held) s refl (λ fair. new_entry s i (placed MoveItem i s) (bytes_held i.held) refl refl there (sound_of P closed s h fair) (alone fair) tt (λ z. (i, there, both ((parent_target (items_now s) i).0 == (parent_target (items_now s) i).0) (same i.name i.name) (eq-eqb (parent_target (items_now s) i).0 (parent_target (items_now s) i).0 refl) (same_self i.name))) (λ z. cc) (λ z. cc)) h
 
@@ -188,7 +188,7 @@ pub hydrate_first_keeps : (P : State → Type 0) → Guarded P → (x1 : Item) �
 hydrate_first_keeps P closed i = hydrate_if_keeps P closed i.id (is_all_here i)
 
 -- a file is uploaded, after it was hydrated
-put_file_at : (P : State → Type 0) → Guarded P → Entering P → (i : Item) (s : State) → item_of (items_now s) i.id ≡ Some i → (IsFair s.link → NoEntry (book_now s).entries i.id) → (IsFair s.link → (i.directory ≡ false) × (i.placeholder ≡ true)) → P s → Keeps P (put_file i s)
+pub put_file_at : (P : State → Type 0) → Guarded P → Entering P → (i : Item) (s : State) → item_of (items_now s) i.id ≡ Some i → (IsFair s.link → NoEntry (book_now s).entries i.id) → (IsFair s.link → (i.directory ≡ false) × (i.placeholder ≡ true)) → P s → Keeps P (put_file i s)
 put_file_at P closed entering i s there alone kind h =
     kept_leads P (put_file i s)
     (leads_bind P (λ u t. P t × FrameIn (Unit {0}) i.id Files [] t) (λ u t. P t) (hydrate_first i s) (λ u t. reading (item_now i.id) put_whole t)
@@ -211,13 +211,13 @@ put_file_at P closed entering i s there alone kind h =
             push_put_at P closed entering j t (subst (λ (x : ItemId). item_of (items_now t) x ≡ Some j) (sym same) e) (λ fair. subst (NoEntry (book_now t).entries) (sym same) (k.1.0 tt fair).2)
             (λ fair. each_at i.id (λ j. Files j.directory j.placeholder) (items_now t) j e (k.1.0 tt fair).1) q k.0
 
-upload_at : (P : State → Type 0) → Guarded P → Entering P → (i : Item) (s : State) → item_of (items_now s) i.id ≡ Some i → (IsFair s.link → NoEntry (book_now s).entries i.id) → (IsFair s.link → i.directory ≡ false → i.placeholder ≡ true) → P s → Keeps P (upload i s)
+pub upload_at : (P : State → Type 0) → Guarded P → Entering P → (i : Item) (s : State) → item_of (items_now s) i.id ≡ Some i → (IsFair s.link → NoEntry (book_now s).entries i.id) → (IsFair s.link → i.directory ≡ false → i.placeholder ≡ true) → P s → Keeps P (upload i s)
 upload_at P closed entering i s there alone placed h = by i.directory refl where
   by : (b : Bool) → i.directory ≡ b → Keeps P (choose b (push_item MakeDir i) (put_file i) s)
   by true e = push_dir_at P closed entering i s there alone e h
   by false e = put_file_at P closed entering i s there alone (λ fair. (e, placed fair e)) h
 
-upload_now_at : (P : State → Type 0) → Guarded P → Entering P → (item : ItemId) (o : Option Item) (s : State) → item_of (items_now s) item ≡ o → (IsFair s.link → NoEntry (book_now s).entries item) → ((j : Item) → item_of (items_now s) item ≡ Some j → j.placeholder ≡ true) → P s → Keeps P (upload_now o s)
+pub upload_now_at : (P : State → Type 0) → Guarded P → Entering P → (item : ItemId) (o : Option Item) (s : State) → item_of (items_now s) item ≡ o → (IsFair s.link → NoEntry (book_now s).entries item) → ((j : Item) → item_of (items_now s) item ≡ Some j → j.placeholder ≡ true) → P s → Keeps P (upload_now o s)
 upload_now_at P closed entering item None s e alone placed h = h
 upload_now_at P closed entering item (Some j) s e alone placed h =
     upload_at P closed entering j s (subst (λ (x : ItemId). item_of (items_now s) x ≡ Some j) (sym same) e) (λ fair. subst (NoEntry (book_now s).entries) (sym same) (alone fair)) (λ fair d. placed j e) h where
@@ -288,7 +288,7 @@ push_turn_keeps P closed entering item = record { keeps = λ s h. by (item_of (i
     two true q = h
     two false q = push_by_case_at P closed entering i s (subst (λ (x : ItemId). item_of (items_now s) x ≡ Some i) (sym same) e) (λ fair. now_lone s i q) h
 
-push_removal_keeps : (P : State → Type 0) → Guarded P → Entering P → (t : Tombstone) → Preserves P (push_removal t)
+pub push_removal_keeps : (P : State → Type 0) → Guarded P → Entering P → (t : Tombstone) → Preserves P (push_removal t)
 push_removal_keeps P closed entering t = record {
   keeps = λ s h. push_at P closed entering (removal_entry s t) t.version [] s refl
       (λ fair. record { early = λ e. no_way e; item = low s.filter.volume.next_item.0 (sound_of P closed s h fair).now.more; apart = all_any (λ f. f.item.0 ≡ 0 → f.item.0 ≡ 0) (λ f e. e) (book_now s).entries; facts = tt; off = λ z. cc; low = λ z. cc; new = λ z. cc }) h;

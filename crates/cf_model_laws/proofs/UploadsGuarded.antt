@@ -92,7 +92,7 @@ fresh_message r ms epoch keys tokens bytes (Some (frame.Request q)) h = fresh_re
 fresh_message r ms epoch keys tokens bytes (Some (frame.Reply answers a)) h = tt
 fresh_message r ms epoch keys tokens bytes None h = tt
 
-unrecorded : (epoch tokens : ℕ) (ts : List (Token × Recorded)) (d : Recorded) → All (λ t. WasGiven epoch tokens t.0.0) ts → recorded_at ts (record { 0 = key_after epoch tokens }) ≡ Some d → ⊥
+pub unrecorded : (epoch tokens : ℕ) (ts : List (Token × Recorded)) (d : Recorded) → All (λ t. WasGiven epoch tokens t.0.0) ts → recorded_at ts (record { 0 = key_after epoch tokens }) ≡ Some d → ⊥
 unrecorded epoch tokens [] d h e = none d e where
   none : (d : Recorded) → ◌≡◌ {A = Option Recorded} None (Some d) → ⊥
   none d e = cc
@@ -149,7 +149,7 @@ entered s e bytes token sound new = record {
 
 -- the request of the upload
 
-upload_sends : (a : Action) (e : QueueEntry) (expect : Version) (bytes : List ℕ) → is_upload (request_by a e expect bytes) ≡ true
+pub upload_sends : (a : Action) (e : QueueEntry) (expect : Version) (bytes : List ℕ) → is_upload (request_by a e expect bytes) ≡ true
 upload_sends PutFile e expect bytes = refl
 upload_sends MakeDir e expect bytes = refl
 upload_sends MoveItem e expect bytes = refl

@@ -1,0 +1,40 @@
+-- What an event tells that a quiet one does not.
+use Rattle.std.specs.Prelude.{Bool, true, false, List, [], Some, ◌||◌, ◌++◌, ◌≡◌, ◌⊎◌}
+use Rattle.std.specs.List.{list_any}
+use Rattle.cf_base.specs.declared.notices.Notice.{Notice}
+use Rattle.cf_model.specs.Books.{Action, MakeDir, MoveItem, PutFile, RemoveItem}
+use Rattle.cf_model.specs.Identities.{stands_at_seen}
+use Rattle.cf_model.specs.Items.{Item, is_all_here, item_of}
+use Rattle.cf_model.specs.Pushes.{has_entry}
+use Rattle.cf_model.specs.State.{State, book_now, items_now}
+use Rattle.cf_model.specs.Trees.{AsItKeeps, Asked, Faults, Fork, Ret, Step, Tree}
+use Rattle.cf_model_convergence.specs.Quiet.{is_act, is_trouble}
+
+-- It may end with this result and this state, where the remote keeps its rules or fails.
+abbrev pub EndsFairly : {S A : Type 0} → Tree S A → A → S → Type 0
+EndsFairly (Ret a s) b t = (b ≡ a) × (t ≡ s)
+EndsFairly (Step s p) b t = EndsFairly p b t
+EndsFairly (Fork p q) b t = EndsFairly p b t ⊎ EndsFairly q b t
+EndsFairly (Asked k) b t = EndsFairly (k AsItKeeps) b t ⊎ EndsFairly (k Faults) b t
+
+-- a line that no quiet part has: of trouble, a change, an upload that was done, or one that was refused
+abbrev pub is_loud : Notice → Bool
+is_loud n = is_trouble n || is_act n
+
+-- such a line came
+pub record IsTold (s t : State) : Type 0 where
+  pub lines : List Notice
+  pub noted : t.filter.notes ≡ s.filter.notes ++ lines
+  pub loud : list_any is_loud lines ≡ true
+
+-- requests come to the remote at once, and steps that are left out have their lines
+pub record IsListening (s : State) : Type 0 where
+  pub inline : s.link.inline ≡ true
+  pub shows : s.running.shows_skips ≡ true
+
+-- what a pass has found of an item that it uploads
+abbrev pub IsPushable : Action → State → Item → Type 0
+IsPushable PutFile s i = (item_of (items_now s) i.id ≡ Some i) × (has_entry s i.id ≡ false) × (i.directory ≡ false) × (i.placeholder ≡ true) × (is_all_here i ≡ true)
+IsPushable MakeDir s i = (item_of (items_now s) i.id ≡ Some i) × (has_entry s i.id ≡ false) × (i.directory ≡ true)
+IsPushable MoveItem s i = (item_of (items_now s) i.id ≡ Some i) × (has_entry s i.id ≡ false) × (stands_at_seen (items_now s) (book_now s) i ≡ false)
+IsPushable RemoveItem s i = ⊥
