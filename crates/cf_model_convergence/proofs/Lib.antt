@@ -16,3 +16,4 @@ pub mod TargetsHere
 pub mod TidyDepths
 pub mod TidyItems
 pub mod TidyRemotes
+pub mod TurnsTold

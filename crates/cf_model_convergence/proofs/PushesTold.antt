@@ -41,7 +41,7 @@ use Rattle.cf_model.proofs.StoreLaws.{step_extends}
 
 -- lines
 
-kept_ends : {S A : Type 0} (P : S → Type 0) (p : Tree S A) (a : A) (t : S) → Keeps P p → EndsFairly p a t → P t
+pub kept_ends : {S A : Type 0} (P : S → Type 0) (p : Tree S A) (a : A) (t : S) → Keeps P p → EndsFairly p a t → P t
 kept_ends P (Ret b s) a t h e = subst P (sym e.1) h
 kept_ends P (Step s p) a t h e = kept_ends P p a t h.1 e
 kept_ends P (Fork p q) a t h (inl e) = kept_ends P p a t h.0 e
@@ -69,16 +69,16 @@ one_loud n e = by (is_loud n) e where
   by true z = refl
   by false z = no_way z
 
-told_one : (s t : State) (n : Notice) → t.filter.notes ≡ s.filter.notes ++ n ∷ [] → is_loud n ≡ true → IsTold s t
+pub told_one : (s t : State) (n : Notice) → t.filter.notes ≡ s.filter.notes ++ n ∷ [] → is_loud n ≡ true → IsTold s t
 told_one s t n e loud = record { lines = n ∷ []; noted = e; loud = one_loud n loud }
 
-told_then : (s m t : State) → IsTold s m → In m.filter t.filter → IsTold s t
+pub told_then : (s m t : State) → IsTold s m → In m.filter t.filter → IsTold s t
 told_then s m t h k = record { lines = h.lines ++ k.lines; noted = k.noted ∙ ap (λ (ns : List Notice). ns ++ k.lines) h.noted ∙ append_assoc s.filter.notes h.lines k.lines; loud = loud_left h.lines k.lines h.loud }
 
 told_after : (s m t : State) (ns : List Notice) → m.filter.notes ≡ s.filter.notes ++ ns → IsTold m t → IsTold s t
 told_after s m t ns e h = record { lines = ns ++ h.lines; noted = h.noted ∙ ap (λ (xs : List Notice). xs ++ h.lines) e ∙ append_assoc s.filter.notes ns h.lines; loud = loud_right ns h.lines h.loud }
 
-skip_told : (b : Bool) (c : Code) (s u : State) → b ≡ true → u.filter.notes ≡ s.filter.notes → IsTold s (skip_line b c u)
+pub skip_told : (b : Bool) (c : Code) (s u : State) → b ≡ true → u.filter.notes ≡ s.filter.notes → IsTold s (skip_line b c u)
 skip_told true c s u shows same = told_one s (skip_line true c u) (notice.Skipped c) (ap (λ (ns : List Notice). ns ++ notice.Skipped c ∷ []) same) refl
 skip_told false c s u shows same = no_way shows
 

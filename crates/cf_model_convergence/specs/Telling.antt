@@ -5,10 +5,11 @@ use Rattle.cf_base.specs.declared.notices.Notice.{Notice}
 use Rattle.cf_model.specs.Books.{Action, MakeDir, MoveItem, PutFile, RemoveItem}
 use Rattle.cf_model.specs.Identities.{stands_at_seen}
 use Rattle.cf_model.specs.Items.{Item, is_all_here, item_of}
-use Rattle.cf_model.specs.Pushes.{has_entry}
+use Rattle.cf_model.specs.Pushes.{has_entry, is_left_out}
 use Rattle.cf_model.specs.State.{State, book_now, items_now}
 use Rattle.cf_model.specs.Trees.{AsItKeeps, Asked, Faults, Fork, Ret, Step, Tree}
 use Rattle.cf_model_convergence.specs.Quiet.{is_act, is_trouble}
+use Rattle.cf_model_convergence.specs.Resting.{IsRested}
 
 -- It may end with this result and this state, where the remote keeps its rules or fails.
 abbrev pub EndsFairly : {S A : Type 0} → Tree S A → A → S → Type 0
@@ -38,3 +39,7 @@ IsPushable PutFile s i = (item_of (items_now s) i.id ≡ Some i) × (has_entry s
 IsPushable MakeDir s i = (item_of (items_now s) i.id ≡ Some i) × (has_entry s i.id ≡ false) × (i.directory ≡ true)
 IsPushable MoveItem s i = (item_of (items_now s) i.id ≡ Some i) × (has_entry s i.id ≡ false) × (stands_at_seen (items_now s) (book_now s) i ≡ false)
 IsPushable RemoveItem s i = ⊥
+
+-- Nothing is to be done for the item in a pass: it is left out, it is a file that lacks a byte, or it rests.
+abbrev pub IsSpared : State → Item → Type 0
+IsSpared s i = (is_left_out s i ≡ true) ⊎ ((i.directory ≡ false) × (is_all_here i ≡ false)) ⊎ IsRested s i

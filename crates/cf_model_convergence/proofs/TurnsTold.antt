@@ -1,0 +1,231 @@
+-- An item at its turn in a pass: it is told, or nothing is to be done for it.
+use Rattle.std.proofs.Common.{◌≡◌, ◌⊎◌, ◌+◌, Bool, true, false, List, [], ◌∷◌, refl, sym, ◌∙◌, ap, subst, inl, inr, eq-eqb}
+use Rattle.std.specs.Prelude.{Option, Some, None, cond, not, is_some, ◌&&◌, ◌||◌, ◌==◌}
+use Rattle.std.specs.List.{list_all}
+use Rattle.cf_base.specs.declared.changes.Change.{Change}
+use Rattle.cf_base.specs.declared.changes.Change.TheVariants as change
+use Rattle.cf_base.specs.declared.codes.Code.{Code}
+use Rattle.cf_base.specs.declared.ids.ItemId.{ItemId}
+use Rattle.cf_base.specs.declared.ids.Usn.{Usn}
+use Rattle.cf_base.specs.declared.notices.Notice.TheVariants as notice
+use Rattle.cf_model.specs.Arrows.{choose, only_if, unless_done}
+use Rattle.cf_model.specs.Books.{MakeDir, MoveItem, PutFile, QueueEntry}
+use Rattle.cf_model.specs.Changes.{change as put, next_number, same_book}
+use Rattle.cf_model.specs.Effects.{converted, effect}
+use Rattle.cf_model.specs.Identities.{is_untargeted, no_identity, parent_target, stands_at_seen}
+use Rattle.cf_model.specs.Items.{Item, is_all_here, is_dirty, item_of}
+use Rattle.cf_model.specs.LookUp.{is_excluded}
+use Rattle.cf_model.specs.Messages.{no_number}
+use Rattle.cf_model.specs.Numbers.{no_usn, same_usn}
+use Rattle.cf_model.specs.PushReplies.{has_item, whatever}
+use Rattle.cf_model.specs.Pushes.{has_entry, hydrate_if, is_left_out, mark_item, push_by_case, push_here, push_item, push_turn, push_unless, put_file, put_if, put_whole, upload, upload_if, upload_new, upload_now}
+use Rattle.cf_model.specs.Skips.{do_change, left_out, may_mark, mark_if, skipped, try_change, why_no_change}
+use Rattle.cf_model.specs.Soundness.{Each}
+use Rattle.cf_model.specs.State.{State, book_now, items_now, with_filter}
+use Rattle.cf_model.specs.Trees.{AsItKeeps, Asked, Faults, Fork, Keeps, Ret, Step, Tree, bind}
+use Rattle.cf_model.specs.Words.{part, says}
+use Rattle.cf_model_laws.specs.Fitting.{Fits, NoEntry}
+use Rattle.cf_model_laws.specs.Invariant.{HasNone, Invariant, IsRight, SameBase}
+use Rattle.cf_model_laws.specs.Premises.{IsFair}
+use Rattle.cf_model_laws.proofs.ContentLaws.{sound_whole}
+use Rattle.cf_model_laws.proofs.EntryLaws.{none_none}
+use Rattle.cf_model_laws.proofs.FoundItems.{found_id}
+use Rattle.cf_model_laws.proofs.Leading.{Leads, leads_bind, leads_mapped}
+use Rattle.cf_model_laws.proofs.PushRepliesGuarded.{each_at}
+use Rattle.cf_model_laws.proofs.PushesGuarded.{lone, now_lone, right_of, targeted, upload_now_at}
+use Rattle.cf_model_laws.proofs.RightItems.{both_none, no_way, no_way_back}
+use Rattle.cf_model_laws.proofs.SkipsGuarded.{Any, Led, Whichever, guarded_skipping, try_change_at, try_led}
+use Rattle.cf_model_laws.proofs.SoundFilters.{change_leads}
+use Rattle.cf_model_laws.proofs.SoundSettles.{each_found, not_true, same_item}
+use Rattle.cf_model_convergence.specs.Resting.{IsRested}
+use Rattle.cf_model_convergence.specs.Telling.{EndsFairly, IsListening, IsSpared, IsTold}
+use Rattle.cf_model_convergence.proofs.AddingGuarded.{In, entering_adds, guarded_adds, itself}
+use Rattle.cf_model_convergence.proofs.ItemsPushed.{item_told}
+use Rattle.cf_model_convergence.proofs.PushesTold.{kept_ends, skip_told, told_one, told_then}
+
+-- ends
+
+leads_ends : {S A : Type 0} (I : S → Type 0) (Q : A → S → Type 0) (p : Tree S A) (a : A) (t : S) → Leads I Q p → EndsFairly p a t → Q a t
+leads_ends I Q (Ret b s) a t h e = subst (λ (x : _). Q a x) (sym e.1) (subst (λ (x : _). Q x s) (sym e.0) h)
+leads_ends I Q (Step s p) a t h e = leads_ends I Q p a t h.1 e
+leads_ends I Q (Fork p q) a t h (inl e) = leads_ends I Q p a t h.0 e
+leads_ends I Q (Fork p q) a t h (inr e) = leads_ends I Q q a t h.1 e
+leads_ends I Q (Asked k) a t h (inl e) = leads_ends I Q (k AsItKeeps) a t (h AsItKeeps) e
+leads_ends I Q (Asked k) a t h (inr e) = leads_ends I Q (k Faults) a t (h Faults) e
+
+ends_bind : {S A B : Type 0} (p : Tree S A) (g : A → S → Tree S B) (b : B) (t : S) → EndsFairly (bind p g) b t → (a : A) × (m : S) × EndsFairly p a m × EndsFairly (g a m) b t
+ends_bind (Ret a s) g b t e = (a, s, (refl, refl), e)
+ends_bind (Step s p) g b t e = ends_bind p g b t e
+ends_bind (Fork p q) g b t (inl e) = let k = ends_bind p g b t e in (k.0, k.1, inl k.2, k.3)
+ends_bind (Fork p q) g b t (inr e) = let k = ends_bind q g b t e in (k.0, k.1, inr k.2, k.3)
+ends_bind (Asked k) g b t (inl e) = let j = ends_bind (k AsItKeeps) g b t e in (j.0, j.1, inl j.2, j.3)
+ends_bind (Asked k) g b t (inr e) = let j = ends_bind (k Faults) g b t e in (j.0, j.1, inr j.2, j.3)
+
+-- a change is told, or that it is left out
+
+change_led : (c : Change) (s : State) → Leads Any (λ u t. IsTold s t) (do_change c s)
+change_led c s =
+    leads_mapped Any (λ u x. IsTold s (with_filter x s)) Any (λ u t. IsTold s t) (λ x. with_filter x s) (put c s.filter) (λ x k. tt) (λ u x k. k)
+    (change_leads Any (λ x. IsTold s (with_filter x s)) same_book c s.filter tt tt tt (λ v is. record { lines = notice.Change (next_number v) c ∷ []; noted = refl; loud = refl }))
+
+try_told_led : (c : Change) (s : State) → IsListening s → Leads Any (λ done t. IsTold s t) (try_change c s)
+try_told_led c s listening = by (why_no_change c s) where
+  by : (o : Option Code) → Leads Any (λ done t. IsTold s t) (bind (unless_done (do_change c) o s) left_out)
+  by None = leads_bind Any (λ o t. (o ≡ None) × IsTold s t) (λ done t. IsTold s t) (bind (do_change c s) (λ _ t. Ret None t)) left_out
+      (leads_bind Any (λ u t. IsTold s t) (λ o t. (o ≡ None) × IsTold s t) (do_change c s) (λ _ t. Ret None t) (change_led c s) (λ u t k. (refl, k)))
+      (λ o t k. subst (λ (q : Option Code). Leads Any (λ done u. IsTold s u) (left_out q t)) (sym k.0) k.1)
+  by (Some d) = skip_told s.running.shows_skips d s (record s { running = record s.running { skips = s.running.skips + 1 } }) listening.shows refl
+
+-- one item
+
+module _ (s : State) (h : Invariant s) (fair : IsFair s.link) (listening : IsListening s) (i : Item) (there : item_of (items_now s) i.id ≡ Some i) (free : has_entry s i.id ≡ false) (u : Unit {0}) (t : State) (left : no_number t ≡ false) where
+  right : IsRight s.link.remote (next_number s.filter.volume) i
+  right = right_of s i (h.1 fair) there
+
+  -- what is found again is this item
+  same_found : (o : Option Item) → item_of (items_now s) i.id ≡ o → o ≡ Some i
+  same_found o e = sym e ∙ there
+
+  whole_told : (o : Option Item) → o ≡ Some i → i.directory ≡ false → i.placeholder ≡ true → is_all_here i ≡ true → EndsFairly (put_whole o s) u t → IsTold s t
+  whole_told None e file placed here ends = let z : ◌≡◌ {A = Option Item} None (Some i) = e in absurd (none i z) where
+    none : (j : Item) → ◌≡◌ {A = Option Item} None (Some j) → ⊥
+    none j z = cc
+  whole_told (Some j) e file placed here ends =
+      let same : j ≡ i = some j i e in
+      item_told PutFile i s u t h fair listening (there, free, file, placed, here)
+      (subst (λ (b : Bool). EndsFairly (put_if i b s) u t) here (subst (λ (k : Item). EndsFairly (put_if k (is_all_here k) s) u t) same ends)) left where
+        some : (a b : Item) → ◌≡◌ {A = Option Item} (Some a) (Some b) → a ≡ b
+        some a b z = cc
+
+  upload_told : (i.directory ≡ false → i.placeholder ≡ true) → EndsFairly (upload i s) u t → IsTold s t ⊎ IsSpared s i
+  upload_told placed ends = by i.directory refl ends where
+    hydrated : (b : Bool) → is_all_here i ≡ b → i.directory ≡ false → EndsFairly (bind (hydrate_if i.id b s) (λ _ x. put_whole (item_of (items_now x) i.id) x)) u t → IsTold s t ⊎ IsSpared s i
+    hydrated true here file e = inl (whole_told (item_of (items_now s) i.id) there file (placed file) here e)
+    hydrated false here file e = inr (inr (inl (file, here)))
+
+    by : (b : Bool) → i.directory ≡ b → EndsFairly (choose b (push_item MakeDir i) (put_file i) s) u t → IsTold s t ⊎ IsSpared s i
+    by true dir e = inl (item_told MakeDir i s u t h fair listening (there, free, dir) e left)
+    by false file e = hydrated (is_all_here i) refl file e
+
+  -- an item that is no placeholder becomes one first
+  abbrev convert : Change
+  convert = change.Convert i.id no_identity
+
+  convert_fits : i.placeholder ≡ false → IsFair s.link → Fits s.link.remote s.filter convert
+  convert_fits bare f = (each_found i.id (λ j. SameBase no_identity j.identity) 0 s.filter.volume.next_item.0 (items_now s) i (h.1 f).now.order there (both_none no_identity i.identity none_none (two i.directory refl)), refl) where
+    two : (d : Bool) → i.directory ≡ d → HasNone i.identity
+    two true e = right.bare e
+    two false e = (right.plain e bare).0
+
+  after_told : i.placeholder ≡ false → (a : Bool) (m : State) → EndsFairly (try_change convert s) a m → EndsFairly (upload_if i.id a m) u t → IsTold s t
+  after_told bare false m first ends = subst (IsTold s) (sym ends.1) (leads_ends Any (λ done x. IsTold s x) (try_change convert s) false m (try_told_led convert s listening) first)
+  after_told bare true m first ends =
+      told_then s m t (leads_ends Any (λ done x. IsTold s x) (try_change convert s) true m (try_told_led convert s listening) first)
+      (kept_ends (λ x. Invariant x × In m.filter x.filter) (upload_if i.id true m) u t
+      (upload_now_at (λ x. Invariant x × In m.filter x.filter) (guarded_adds m.filter Invariant sound_whole.closed) (entering_adds m.filter Invariant sound_whole.entering) i.id (item_of (items_now m) i.id) m refl
+      (λ f. subst (λ (es : List QueueEntry). NoEntry es i.id) (sym (led.after.entries (λ b. refl))) (lone (book_now s).entries i.id free))
+      (λ k e. each_at i.id (λ x. x.placeholder ≡ true) (items_now m) k e (subst (Each i.id (λ x. x.placeholder ≡ true)) (sym led.after.items) (made (items_now s))))
+      (kept_ends Invariant (try_change convert s) true m (try_change_at Whichever Invariant (guarded_skipping Invariant sound_whole.closed) convert s tt (λ id k. k) (convert_fits bare) h) first, itself m.filter)) ends).1 where
+        led : Led convert s m
+        led = leads_ends Any (λ done x. done ≡ true → Led convert s x) (try_change convert s) true m (try_led convert s) first refl
+
+        made : (items : List Item) → Each i.id (λ x. x.placeholder ≡ true) (effect items convert (next_number s.filter.volume))
+        made [] = tt
+        made (x ∷ xs) = (turned (x.id.0 == i.id.0) refl, made xs) where
+          turned : (b : Bool) → (x.id.0 == i.id.0) ≡ b → ((cond b (converted no_identity (next_number s.filter.volume) x) x).id.0 == i.id.0) ≡ true → (cond b (converted no_identity (next_number s.filter.volume) x) x).placeholder ≡ true
+          turned true q z = refl
+          turned false q z = no_way (sym q ∙ z)
+
+  new_told : EndsFairly (upload_new i s) u t → IsTold s t ⊎ IsSpared s i
+  new_told ends = by i.placeholder refl ends where
+    found : (o : Option Item) → o ≡ Some i → i.placeholder ≡ true → EndsFairly (upload_now o s) u t → IsTold s t ⊎ IsSpared s i
+    found None e placed z = let y : ◌≡◌ {A = Option Item} None (Some i) = e in absurd (none i y) where
+      none : (j : Item) → ◌≡◌ {A = Option Item} None (Some j) → ⊥
+      none j z = cc
+    found (Some j) e placed z = upload_told (λ _. placed) (subst (λ (k : Item). EndsFairly (upload k s) u t) (some j i e) z) where
+      some : (a b : Item) → ◌≡◌ {A = Option Item} (Some a) (Some b) → a ≡ b
+      some a b z = cc
+
+    by : (b : Bool) → i.placeholder ≡ b → EndsFairly (bind (only_if (not b) (try_change convert) s) (upload_if i.id)) u t → IsTold s t ⊎ IsSpared s i
+    by true placed e = found (item_of (items_now s) i.id) there placed e
+    by false bare e = let k = ends_bind (try_change convert s) (upload_if i.id) u t e in inl (after_told bare k.0 k.1 k.2 k.3)
+
+  -- nothing but a mark is left to do
+  mark_told : is_untargeted i ≡ false → stands_at_seen (items_now s) (book_now s) i ≡ true → is_dirty i ≡ false → EndsFairly (mark_item i.id s) u t → IsTold s t ⊎ IsSpared s i
+  mark_told aimed stands clean ends = by (says (may_mark (items_now s) (book_now s) number) (item_of (items_now s) i.id)) refl ends where
+    number : Usn
+    number = part (λ j. j.number) no_usn (item_of (items_now s) i.id)
+
+    own : number ≡ i.number
+    own = ap (λ (o : Option Item). part (λ j. j.number) no_usn o) there
+
+    same : (n : Usn) → same_usn n n ≡ true
+    same n = both (n.epoch == n.epoch) (n.place == n.place) (eq-eqb n.epoch n.epoch refl) (eq-eqb n.place n.place refl) where
+      both : (a b : Bool) → a ≡ true → b ≡ true → (a && b) ≡ true
+      both true b e z = z
+      both false b e z = no_way e
+
+    last : (a b c d e : Bool) → a ≡ true → c ≡ false → d ≡ false → e ≡ true → (a && not b && not c && not d && e) ≡ false → b ≡ true
+    last true true c d e p q r w z = refl
+    last true false false false true p q r w z = no_way_back z
+    last true false false false false p q r w z = no_way w
+    last true false false true e p q r w z = no_way_back r
+    last true false true d e p q r w z = no_way_back q
+    last false b c d e p q r w z = no_way p
+
+    rested : says (may_mark (items_now s) (book_now s) number) (item_of (items_now s) i.id) ≡ false → i.in_sync ≡ true
+    rested e =
+        last (same_usn i.number number) i.in_sync (is_dirty i) (is_untargeted i) (stands_at_seen (items_now s) (book_now s) i) (subst (λ (n : Usn). same_usn i.number n ≡ true) (sym own) (same i.number)) clean aimed stands
+        (sym (ap (λ (o : Option Item). says (may_mark (items_now s) (book_now s) number) o) there) ∙ e)
+
+    by : (b : Bool) → says (may_mark (items_now s) (book_now s) number) (item_of (items_now s) i.id) ≡ b → EndsFairly (bind (mark_if i.id number b s) whatever) u t → IsTold s t ⊎ IsSpared s i
+    by true may e =
+        let k = ends_bind (try_change (change.Mark i.id number) s) whatever u t e in
+        inl (subst (IsTold s) (sym k.3.1) (leads_ends Any (λ done x. IsTold s x) (try_change (change.Mark i.id number) s) k.0 k.1 (try_told_led (change.Mark i.id number) s listening) k.2))
+    by false may e = inr (inr (inr (record { target = aimed; stands = stands; clean = clean; in_sync = rested may })))
+
+  case_told : EndsFairly (push_by_case i s) u t → IsTold s t ⊎ IsSpared s i
+  case_told ends = by (is_untargeted i) refl ends where
+    three : (b : Bool) → is_dirty i ≡ b → is_untargeted i ≡ false → stands_at_seen (items_now s) (book_now s) i ≡ true → EndsFairly (choose b (upload i) (mark_item i.id) s) u t → IsTold s t ⊎ IsSpared s i
+    three true dirty aimed stands e = upload_told (λ file. targeted s.link.remote (next_number s.filter.volume) i right aimed file) e
+    three false clean aimed stands e = mark_told aimed stands clean e
+
+    two : (b : Bool) → stands_at_seen (items_now s) (book_now s) i ≡ b → is_untargeted i ≡ false → EndsFairly (choose (not b) (push_item MoveItem i) (choose (is_dirty i) (upload i) (mark_item i.id)) s) u t → IsTold s t ⊎ IsSpared s i
+    two false away aimed e = inl (item_told MoveItem i s u t h fair listening (there, free, away) e left)
+    two true stands aimed e = three (is_dirty i) refl aimed stands e
+
+    by : (b : Bool) → is_untargeted i ≡ b → EndsFairly (choose b (upload_new i) (choose (not (stands_at_seen (items_now s) (book_now s) i)) (push_item MoveItem i) (choose (is_dirty i) (upload i) (mark_item i.id))) s) u t → IsTold s t ⊎ IsSpared s i
+    by true bare e = new_told e
+    by false aimed e = two (stands_at_seen (items_now s) (book_now s) i) refl aimed e
+
+-- no upload of an item that is not left out is on its way
+no_entry : (s : State) (i : Item) → is_left_out s i ≡ false → has_entry s i.id ≡ false
+no_entry s i e = second (i.id.0 == 1) (has_entry s i.id) (first ((i.id.0 == 1) || has_entry s i.id) (has_item s.volatile.held_items i.id)
+    (first ((i.id.0 == 1) || has_entry s i.id || has_item s.volatile.held_items i.id) (is_excluded (items_now s) i.id) (first ((i.id.0 == 1) || has_entry s i.id || has_item s.volatile.held_items i.id || is_excluded (items_now s) i.id) ((parent_target (items_now s) i).0 == 0) e))) where
+      first : (a b : Bool) → (a || b) ≡ false → a ≡ false
+      first true b z = z
+      first false b z = refl
+
+      second : (a b : Bool) → (a || b) ≡ false → b ≡ false
+      second true b z = no_way_back z
+      second false b z = z
+
+pub turn_told : (item : ItemId) (s : State) (u : Unit {0}) (t : State) → Invariant s → IsFair s.link → IsListening s → EndsFairly (push_turn item s) u t → no_number t ≡ false → IsTold s t ⊎ ((i : Item) → item_of (items_now s) item ≡ Some i → IsSpared s i)
+turn_told item s u t h fair listening ends left = by (item_of (items_now s) item) refl ends where
+  some : (a b : Item) → ◌≡◌ {A = Option Item} (Some a) (Some b) → a ≡ b
+  some a b z = cc
+
+  none : (j : Item) → ◌≡◌ {A = Option Item} None (Some j) → ⊥
+  none j z = cc
+
+  spared : (i : Item) → item_of (items_now s) item ≡ Some i → IsTold s t ⊎ IsSpared s i → IsTold s t ⊎ ((j : Item) → item_of (items_now s) item ≡ Some j → IsSpared s j)
+  spared i e (inl k) = inl k
+  spared i e (inr k) = inr (λ j z. subst (IsSpared s) (some i j (sym e ∙ z)) k)
+
+  two : (i : Item) → item_of (items_now s) item ≡ Some i → (b : Bool) → is_left_out s i ≡ b → EndsFairly (push_unless i b s) u t → IsTold s t ⊎ IsSpared s i
+  two i e true q z = inr (inl q)
+  two i e false q z = case_told s h fair listening i (subst (λ (x : ItemId). item_of (items_now s) x ≡ Some i) (sym (same_item i.id item (found_id item (items_now s) i e))) e) (no_entry s i q) u t left z
+
+  by : (o : Option Item) → item_of (items_now s) item ≡ o → EndsFairly (push_here o s) u t → IsTold s t ⊎ ((i : Item) → item_of (items_now s) item ≡ Some i → IsSpared s i)
+  by None e z = inr (λ i q. absurd (none i (sym e ∙ q)))
+  by (Some i) e z = spared i e (two i e (is_left_out s i) refl z)
