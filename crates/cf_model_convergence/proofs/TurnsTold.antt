@@ -9,7 +9,7 @@ use Rattle.cf_base.specs.declared.ids.ItemId.{ItemId}
 use Rattle.cf_base.specs.declared.ids.Usn.{Usn}
 use Rattle.cf_base.specs.declared.notices.Notice.TheVariants as notice
 use Rattle.cf_model.specs.Arrows.{choose, only_if, unless_done}
-use Rattle.cf_model.specs.Books.{MakeDir, MoveItem, PutFile, QueueEntry}
+use Rattle.cf_model.specs.Books.{MakeDir, MoveItem, PutFile, QueueEntry, Tombstone}
 use Rattle.cf_model.specs.Changes.{change as put, next_number, same_book}
 use Rattle.cf_model.specs.Effects.{converted, effect}
 use Rattle.cf_model.specs.Identities.{is_untargeted, no_identity, parent_target, stands_at_seen}
@@ -18,7 +18,7 @@ use Rattle.cf_model.specs.LookUp.{is_excluded}
 use Rattle.cf_model.specs.Messages.{no_number}
 use Rattle.cf_model.specs.Numbers.{no_usn, same_usn}
 use Rattle.cf_model.specs.PushReplies.{has_item, whatever}
-use Rattle.cf_model.specs.Pushes.{has_entry, hydrate_if, is_left_out, mark_item, push_by_case, push_here, push_item, push_turn, push_unless, put_file, put_if, put_whole, upload, upload_if, upload_new, upload_now}
+use Rattle.cf_model.specs.Pushes.{bury_unless, has_entry, hydrate_if, is_left_out, is_tombstone_left_out, mark_item, push_by_case, push_here, push_item, push_tombstone, push_turn, push_unless, put_file, put_if, put_whole, upload, upload_if, upload_new, upload_now}
 use Rattle.cf_model.specs.Skips.{do_change, left_out, may_mark, mark_if, skipped, try_change, why_no_change}
 use Rattle.cf_model.specs.Soundness.{Each}
 use Rattle.cf_model.specs.State.{State, book_now, items_now, with_filter}
@@ -38,9 +38,9 @@ use Rattle.cf_model_laws.proofs.SkipsGuarded.{Any, Led, Whichever, guarded_skipp
 use Rattle.cf_model_laws.proofs.SoundFilters.{change_leads}
 use Rattle.cf_model_laws.proofs.SoundSettles.{each_found, not_true, same_item}
 use Rattle.cf_model_convergence.specs.Resting.{IsRested}
-use Rattle.cf_model_convergence.specs.Telling.{EndsFairly, IsListening, IsSpared, IsTold}
+use Rattle.cf_model_convergence.specs.Telling.{EndsFairly, IsListening, IsSpared, IsTold, IsTurned}
 use Rattle.cf_model_convergence.proofs.AddingGuarded.{In, entering_adds, guarded_adds, itself}
-use Rattle.cf_model_convergence.proofs.ItemsPushed.{item_told}
+use Rattle.cf_model_convergence.proofs.ItemsPushed.{item_told, removal_told}
 use Rattle.cf_model_convergence.proofs.PushesTold.{kept_ends, skip_told, told_one, told_then}
 
 -- ends
@@ -97,13 +97,13 @@ module _ (s : State) (h : Invariant s) (fair : IsFair s.link) (listening : IsLis
         some : (a b : Item) → ◌≡◌ {A = Option Item} (Some a) (Some b) → a ≡ b
         some a b z = cc
 
-  upload_told : (i.directory ≡ false → i.placeholder ≡ true) → EndsFairly (upload i s) u t → IsTold s t ⊎ IsSpared s i
+  upload_told : (i.directory ≡ false → i.placeholder ≡ true) → EndsFairly (upload i s) u t → IsTold s t ⊎ IsSpared s i t
   upload_told placed ends = by i.directory refl ends where
-    hydrated : (b : Bool) → is_all_here i ≡ b → i.directory ≡ false → EndsFairly (bind (hydrate_if i.id b s) (λ _ x. put_whole (item_of (items_now x) i.id) x)) u t → IsTold s t ⊎ IsSpared s i
+    hydrated : (b : Bool) → is_all_here i ≡ b → i.directory ≡ false → EndsFairly (bind (hydrate_if i.id b s) (λ _ x. put_whole (item_of (items_now x) i.id) x)) u t → IsTold s t ⊎ IsSpared s i t
     hydrated true here file e = inl (whole_told (item_of (items_now s) i.id) there file (placed file) here e)
-    hydrated false here file e = inr (inr (inl (file, here)))
+    hydrated false here file e = inr (inl (file, here))
 
-    by : (b : Bool) → i.directory ≡ b → EndsFairly (choose b (push_item MakeDir i) (put_file i) s) u t → IsTold s t ⊎ IsSpared s i
+    by : (b : Bool) → i.directory ≡ b → EndsFairly (choose b (push_item MakeDir i) (put_file i) s) u t → IsTold s t ⊎ IsSpared s i t
     by true dir e = inl (item_told MakeDir i s u t h fair listening (there, free, dir) e left)
     by false file e = hydrated (is_all_here i) refl file e
 
@@ -136,9 +136,9 @@ module _ (s : State) (h : Invariant s) (fair : IsFair s.link) (listening : IsLis
           turned true q z = refl
           turned false q z = no_way (sym q ∙ z)
 
-  new_told : EndsFairly (upload_new i s) u t → IsTold s t ⊎ IsSpared s i
+  new_told : EndsFairly (upload_new i s) u t → IsTold s t ⊎ IsSpared s i t
   new_told ends = by i.placeholder refl ends where
-    found : (o : Option Item) → o ≡ Some i → i.placeholder ≡ true → EndsFairly (upload_now o s) u t → IsTold s t ⊎ IsSpared s i
+    found : (o : Option Item) → o ≡ Some i → i.placeholder ≡ true → EndsFairly (upload_now o s) u t → IsTold s t ⊎ IsSpared s i t
     found None e placed z = let y : ◌≡◌ {A = Option Item} None (Some i) = e in absurd (none i y) where
       none : (j : Item) → ◌≡◌ {A = Option Item} None (Some j) → ⊥
       none j z = cc
@@ -146,12 +146,12 @@ module _ (s : State) (h : Invariant s) (fair : IsFair s.link) (listening : IsLis
       some : (a b : Item) → ◌≡◌ {A = Option Item} (Some a) (Some b) → a ≡ b
       some a b z = cc
 
-    by : (b : Bool) → i.placeholder ≡ b → EndsFairly (bind (only_if (not b) (try_change convert) s) (upload_if i.id)) u t → IsTold s t ⊎ IsSpared s i
+    by : (b : Bool) → i.placeholder ≡ b → EndsFairly (bind (only_if (not b) (try_change convert) s) (upload_if i.id)) u t → IsTold s t ⊎ IsSpared s i t
     by true placed e = found (item_of (items_now s) i.id) there placed e
     by false bare e = let k = ends_bind (try_change convert s) (upload_if i.id) u t e in inl (after_told bare k.0 k.1 k.2 k.3)
 
   -- nothing but a mark is left to do
-  mark_told : is_untargeted i ≡ false → stands_at_seen (items_now s) (book_now s) i ≡ true → is_dirty i ≡ false → EndsFairly (mark_item i.id s) u t → IsTold s t ⊎ IsSpared s i
+  mark_told : is_untargeted i ≡ false → stands_at_seen (items_now s) (book_now s) i ≡ true → is_dirty i ≡ false → EndsFairly (mark_item i.id s) u t → IsTold s t ⊎ IsSpared s i t
   mark_told aimed stands clean ends = by (says (may_mark (items_now s) (book_now s) number) (item_of (items_now s) i.id)) refl ends where
     number : Usn
     number = part (λ j. j.number) no_usn (item_of (items_now s) i.id)
@@ -178,23 +178,23 @@ module _ (s : State) (h : Invariant s) (fair : IsFair s.link) (listening : IsLis
         last (same_usn i.number number) i.in_sync (is_dirty i) (is_untargeted i) (stands_at_seen (items_now s) (book_now s) i) (subst (λ (n : Usn). same_usn i.number n ≡ true) (sym own) (same i.number)) clean aimed stands
         (sym (ap (λ (o : Option Item). says (may_mark (items_now s) (book_now s) number) o) there) ∙ e)
 
-    by : (b : Bool) → says (may_mark (items_now s) (book_now s) number) (item_of (items_now s) i.id) ≡ b → EndsFairly (bind (mark_if i.id number b s) whatever) u t → IsTold s t ⊎ IsSpared s i
+    by : (b : Bool) → says (may_mark (items_now s) (book_now s) number) (item_of (items_now s) i.id) ≡ b → EndsFairly (bind (mark_if i.id number b s) whatever) u t → IsTold s t ⊎ IsSpared s i t
     by true may e =
         let k = ends_bind (try_change (change.Mark i.id number) s) whatever u t e in
         inl (subst (IsTold s) (sym k.3.1) (leads_ends Any (λ done x. IsTold s x) (try_change (change.Mark i.id number) s) k.0 k.1 (try_told_led (change.Mark i.id number) s listening) k.2))
-    by false may e = inr (inr (inr (record { target = aimed; stands = stands; clean = clean; in_sync = rested may })))
+    by false may e = inr (inr (e.1, inr (record { target = aimed; stands = stands; clean = clean; in_sync = rested may })))
 
-  case_told : EndsFairly (push_by_case i s) u t → IsTold s t ⊎ IsSpared s i
+  case_told : EndsFairly (push_by_case i s) u t → IsTold s t ⊎ IsSpared s i t
   case_told ends = by (is_untargeted i) refl ends where
-    three : (b : Bool) → is_dirty i ≡ b → is_untargeted i ≡ false → stands_at_seen (items_now s) (book_now s) i ≡ true → EndsFairly (choose b (upload i) (mark_item i.id) s) u t → IsTold s t ⊎ IsSpared s i
+    three : (b : Bool) → is_dirty i ≡ b → is_untargeted i ≡ false → stands_at_seen (items_now s) (book_now s) i ≡ true → EndsFairly (choose b (upload i) (mark_item i.id) s) u t → IsTold s t ⊎ IsSpared s i t
     three true dirty aimed stands e = upload_told (λ file. targeted s.link.remote (next_number s.filter.volume) i right aimed file) e
     three false clean aimed stands e = mark_told aimed stands clean e
 
-    two : (b : Bool) → stands_at_seen (items_now s) (book_now s) i ≡ b → is_untargeted i ≡ false → EndsFairly (choose (not b) (push_item MoveItem i) (choose (is_dirty i) (upload i) (mark_item i.id)) s) u t → IsTold s t ⊎ IsSpared s i
+    two : (b : Bool) → stands_at_seen (items_now s) (book_now s) i ≡ b → is_untargeted i ≡ false → EndsFairly (choose (not b) (push_item MoveItem i) (choose (is_dirty i) (upload i) (mark_item i.id)) s) u t → IsTold s t ⊎ IsSpared s i t
     two false away aimed e = inl (item_told MoveItem i s u t h fair listening (there, free, away) e left)
     two true stands aimed e = three (is_dirty i) refl aimed stands e
 
-    by : (b : Bool) → is_untargeted i ≡ b → EndsFairly (choose b (upload_new i) (choose (not (stands_at_seen (items_now s) (book_now s) i)) (push_item MoveItem i) (choose (is_dirty i) (upload i) (mark_item i.id))) s) u t → IsTold s t ⊎ IsSpared s i
+    by : (b : Bool) → is_untargeted i ≡ b → EndsFairly (choose b (upload_new i) (choose (not (stands_at_seen (items_now s) (book_now s) i)) (push_item MoveItem i) (choose (is_dirty i) (upload i) (mark_item i.id))) s) u t → IsTold s t ⊎ IsSpared s i t
     by true bare e = new_told e
     by false aimed e = two (stands_at_seen (items_now s) (book_now s) i) refl aimed e
 
@@ -210,7 +210,7 @@ no_entry s i e = second (i.id.0 == 1) (has_entry s i.id) (first ((i.id.0 == 1) |
       second true b z = no_way_back z
       second false b z = z
 
-pub turn_told : (item : ItemId) (s : State) (u : Unit {0}) (t : State) → Invariant s → IsFair s.link → IsListening s → EndsFairly (push_turn item s) u t → no_number t ≡ false → IsTold s t ⊎ ((i : Item) → item_of (items_now s) item ≡ Some i → IsSpared s i)
+pub turn_told : (item : ItemId) (s : State) (u : Unit {0}) (t : State) → Invariant s → IsFair s.link → IsListening s → EndsFairly (push_turn item s) u t → no_number t ≡ false → IsTold s t ⊎ IsTurned s item t
 turn_told item s u t h fair listening ends left = by (item_of (items_now s) item) refl ends where
   some : (a b : Item) → ◌≡◌ {A = Option Item} (Some a) (Some b) → a ≡ b
   some a b z = cc
@@ -218,14 +218,21 @@ turn_told item s u t h fair listening ends left = by (item_of (items_now s) item
   none : (j : Item) → ◌≡◌ {A = Option Item} None (Some j) → ⊥
   none j z = cc
 
-  spared : (i : Item) → item_of (items_now s) item ≡ Some i → IsTold s t ⊎ IsSpared s i → IsTold s t ⊎ ((j : Item) → item_of (items_now s) item ≡ Some j → IsSpared s j)
+  spared : (i : Item) → item_of (items_now s) item ≡ Some i → IsTold s t ⊎ IsSpared s i t → IsTold s t ⊎ IsTurned s item t
   spared i e (inl k) = inl k
-  spared i e (inr k) = inr (λ j z. subst (IsSpared s) (some i j (sym e ∙ z)) k)
+  spared i e (inr k) = inr (inr (i, e, k))
 
-  two : (i : Item) → item_of (items_now s) item ≡ Some i → (b : Bool) → is_left_out s i ≡ b → EndsFairly (push_unless i b s) u t → IsTold s t ⊎ IsSpared s i
-  two i e true q z = inr (inl q)
+  two : (i : Item) → item_of (items_now s) item ≡ Some i → (b : Bool) → is_left_out s i ≡ b → EndsFairly (push_unless i b s) u t → IsTold s t ⊎ IsSpared s i t
+  two i e true q z = inr (inr (z.1, inl q))
   two i e false q z = case_told s h fair listening i (subst (λ (x : ItemId). item_of (items_now s) x ≡ Some i) (sym (same_item i.id item (found_id item (items_now s) i e))) e) (no_entry s i q) u t left z
 
-  by : (o : Option Item) → item_of (items_now s) item ≡ o → EndsFairly (push_here o s) u t → IsTold s t ⊎ ((i : Item) → item_of (items_now s) item ≡ Some i → IsSpared s i)
-  by None e z = inr (λ i q. absurd (none i (sym e ∙ q)))
+  by : (o : Option Item) → item_of (items_now s) item ≡ o → EndsFairly (push_here o s) u t → IsTold s t ⊎ IsTurned s item t
+  by None e z = inr (inl (e, z.1))
   by (Some i) e z = spared i e (two i e (is_left_out s i) refl z)
+
+-- a tombstone at its turn
+pub tombstone_told : (x : Tombstone) (s : State) (u : Unit {0}) (t : State) → Invariant s → IsFair s.link → IsListening s → EndsFairly (push_tombstone x s) u t → no_number t ≡ false → IsTold s t ⊎ ((t ≡ s) × (is_tombstone_left_out s x ≡ true))
+tombstone_told x s u t h fair listening ends left = by (is_tombstone_left_out s x) refl ends where
+  by : (b : Bool) → is_tombstone_left_out s x ≡ b → EndsFairly (bury_unless x b s) u t → IsTold s t ⊎ ((t ≡ s) × (is_tombstone_left_out s x ≡ true))
+  by true q e = inr (e.1, q)
+  by false q e = inl (removal_told x s u t h fair listening e left)

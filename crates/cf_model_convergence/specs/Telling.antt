@@ -1,6 +1,7 @@
 -- What an event tells that a quiet one does not.
-use Rattle.std.specs.Prelude.{Bool, true, false, List, [], Some, ◌||◌, ◌++◌, ◌≡◌, ◌⊎◌}
+use Rattle.std.specs.Prelude.{Bool, true, false, List, [], None, Some, ◌||◌, ◌++◌, ◌≡◌, ◌⊎◌}
 use Rattle.std.specs.List.{list_any}
+use Rattle.cf_base.specs.declared.ids.ItemId.{ItemId}
 use Rattle.cf_base.specs.declared.notices.Notice.{Notice}
 use Rattle.cf_model.specs.Books.{Action, MakeDir, MoveItem, PutFile, RemoveItem}
 use Rattle.cf_model.specs.Identities.{stands_at_seen}
@@ -40,6 +41,11 @@ IsPushable MakeDir s i = (item_of (items_now s) i.id ≡ Some i) × (has_entry s
 IsPushable MoveItem s i = (item_of (items_now s) i.id ≡ Some i) × (has_entry s i.id ≡ false) × (stands_at_seen (items_now s) (book_now s) i ≡ false)
 IsPushable RemoveItem s i = ⊥
 
--- Nothing is to be done for the item in a pass: it is left out, it is a file that lacks a byte, or it rests.
-abbrev pub IsSpared : State → Item → Type 0
-IsSpared s i = (is_left_out s i ≡ true) ⊎ ((i.directory ≡ false) × (is_all_here i ≡ false)) ⊎ IsRested s i
+-- A pass does nothing for the item: it is a file that lacks a byte, which is asked for; or the state stays, and the item is left out
+-- or rests.
+abbrev pub IsSpared : State → Item → State → Type 0
+IsSpared s i t = ((i.directory ≡ false) × (is_all_here i ≡ false)) ⊎ ((t ≡ s) × ((is_left_out s i ≡ true) ⊎ IsRested s i))
+
+-- what a pass leaves of an item that it does nothing for: it is not there, or it is spared
+abbrev pub IsTurned : State → ItemId → State → Type 0
+IsTurned s item t = ((item_of (items_now s) item ≡ None) × (t ≡ s)) ⊎ ((i : Item) × (item_of (items_now s) item ≡ Some i) × IsSpared s i t)

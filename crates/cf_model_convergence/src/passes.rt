@@ -1,23 +1,23 @@
 //! Passes, and what they tell.
 
-ghost use Rattle.std.specs.Prelude.{◌≡◌, ◌⊎◌, ℕ, List, Some, false};
+ghost use Rattle.std.specs.Prelude.{◌≡◌, ◌⊎◌, ℕ, List, false, true};
 ghost use Rattle.cf_base.specs.declared.answers.Answer.{Answer};
 ghost use Rattle.cf_base.specs.declared.events.Event.{Event};
 ghost use Rattle.cf_base.specs.declared.ids.ItemId.{ItemId};
 ghost use Rattle.cf_base.specs.declared.policies.Mode.TheVariants as mode;
 ghost use Rattle.cf_model.specs.Books.{Action, Tombstone};
-ghost use Rattle.cf_model.specs.Items.{Item, item_of};
+ghost use Rattle.cf_model.specs.Items.{Item};
 ghost use Rattle.cf_model.specs.Lawful.{Runs};
 ghost use Rattle.cf_model.specs.Messages.{no_number};
 ghost use Rattle.cf_model.specs.Passes.{pass, sync_passes};
-ghost use Rattle.cf_model.specs.Pushes.{push_item, push_removal, push_turn};
-ghost use Rattle.cf_model.specs.State.{State, items_now, start};
+ghost use Rattle.cf_model.specs.Pushes.{is_tombstone_left_out, push_item, push_removal, push_tombstone, push_turn};
+ghost use Rattle.cf_model.specs.State.{State, start};
 ghost use Rattle.cf_model.specs.Store.{Held};
 ghost use Rattle.cf_model.specs.Trees.{Keeps};
 ghost use Rattle.cf_model_laws.specs.Invariant.{Invariant};
 ghost use Rattle.cf_model_laws.specs.Premises.{IsFair, IsFresh};
 ghost use Rattle.cf_model_convergence.specs.Adding.{AddsTo};
-ghost use Rattle.cf_model_convergence.specs.Telling.{EndsFairly, IsListening, IsPushable, IsSpared, IsTold};
+ghost use Rattle.cf_model_convergence.specs.Telling.{EndsFairly, IsListening, IsPushable, IsTold, IsTurned};
 
 /// A pass takes nothing from the notes or the log. As long as it has added no line of a change, the log and the items are as they
 /// were. So it is of the passes of a `sync` together.
@@ -35,9 +35,11 @@ pub fn an_upload_is_told()
     ensures removal { (x : Tombstone) (s : State) (u : Unit {0}) (t : State) → Invariant s → IsFair s.link → IsListening s → EndsFairly (push_removal x s) u t → no_number t ≡ false → IsTold s t }
 {}
 
-/// An item at its turn in a pass: a line tells of an upload, a change or a step that was left out, or nothing is to be done for it.
-/// Then it is left out, it is a file that lacks a byte, or it rests: it has a target, stands at the path seen, is clean and in sync.
-#[tactic(auto, using(crate::proofs::TurnsTold::turn_told))]
+/// An item at its turn in a pass: a line tells of an upload, a change or a step that was left out, or nothing is done for it. Then it is
+/// a file that lacks a byte, or the state stays and the item is left out or rests: it has a target, stands at the path seen, is clean and
+/// in sync. A tombstone at its turn is told so, or the state stays and it is left out.
+#[tactic(auto, using(crate::proofs::TurnsTold::turn_told, crate::proofs::TurnsTold::tombstone_told))]
 pub fn an_item_at_its_turn_is_told_or_rests()
-    ensures { (item : ItemId) (s : State) (u : Unit {0}) (t : State) → Invariant s → IsFair s.link → IsListening s → EndsFairly (push_turn item s) u t → no_number t ≡ false → IsTold s t ⊎ ((i : Item) → item_of (items_now s) item ≡ Some i → IsSpared s i) }
+    ensures item { (item : ItemId) (s : State) (u : Unit {0}) (t : State) → Invariant s → IsFair s.link → IsListening s → EndsFairly (push_turn item s) u t → no_number t ≡ false → IsTold s t ⊎ IsTurned s item t }
+    ensures tombstone { (x : Tombstone) (s : State) (u : Unit {0}) (t : State) → Invariant s → IsFair s.link → IsListening s → EndsFairly (push_tombstone x s) u t → no_number t ≡ false → IsTold s t ⊎ ((t ≡ s) × (is_tombstone_left_out s x ≡ true)) }
 {}
