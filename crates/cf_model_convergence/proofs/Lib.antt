@@ -1,4 +1,5 @@
 pub mod AddingGuarded
+pub mod CountsGuarded
 pub mod EarlyCursors
 pub mod FeedsOrder
 pub mod FeedsTold
@@ -7,6 +8,7 @@ pub mod LastingGuarded
 pub mod LateChanges
 pub mod Lines
 pub mod PassesAdd
+pub mod PushesIdle
 pub mod PushesTold
 pub mod RestingMatches
 pub mod RightTargets

@@ -53,7 +53,7 @@ leads_ends I Q (Fork p q) a t h (inr e) = leads_ends I Q q a t h.1 e
 leads_ends I Q (Asked k) a t h (inl e) = leads_ends I Q (k AsItKeeps) a t (h AsItKeeps) e
 leads_ends I Q (Asked k) a t h (inr e) = leads_ends I Q (k Faults) a t (h Faults) e
 
-ends_bind : {S A B : Type 0} (p : Tree S A) (g : A → S → Tree S B) (b : B) (t : S) → EndsFairly (bind p g) b t → (a : A) × (m : S) × EndsFairly p a m × EndsFairly (g a m) b t
+pub ends_bind : {S A B : Type 0} (p : Tree S A) (g : A → S → Tree S B) (b : B) (t : S) → EndsFairly (bind p g) b t → (a : A) × (m : S) × EndsFairly p a m × EndsFairly (g a m) b t
 ends_bind (Ret a s) g b t e = (a, s, (refl, refl), e)
 ends_bind (Step s p) g b t e = ends_bind p g b t e
 ends_bind (Fork p q) g b t (inl e) = let k = ends_bind p g b t e in (k.0, k.1, inl k.2, k.3)

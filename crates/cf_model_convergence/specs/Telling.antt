@@ -6,9 +6,10 @@ use Rattle.cf_base.specs.declared.notices.Notice.{Notice}
 use Rattle.cf_model.specs.Books.{Action, MakeDir, MoveItem, PutFile, RemoveItem}
 use Rattle.cf_model.specs.Identities.{stands_at_seen}
 use Rattle.cf_model.specs.Items.{Item, is_all_here, item_of}
-use Rattle.cf_model.specs.Pushes.{has_entry, is_left_out}
+use Rattle.cf_model.specs.Pushes.{has_entry, is_left_out, is_tombstone_left_out}
 use Rattle.cf_model.specs.State.{State, book_now, items_now}
 use Rattle.cf_model.specs.Trees.{AsItKeeps, Asked, Faults, Fork, Ret, Step, Tree}
+use Rattle.cf_model_laws.specs.Invariant.{All}
 use Rattle.cf_model_convergence.specs.Quiet.{is_act, is_trouble}
 use Rattle.cf_model_convergence.specs.Resting.{IsRested}
 
@@ -49,3 +50,13 @@ IsSpared s i t = ((i.directory ≡ false) × (is_all_here i ≡ false)) ⊎ ((t 
 -- what a pass leaves of an item that it does nothing for: it is not there, or it is spared
 abbrev pub IsTurned : State → ItemId → State → Type 0
 IsTurned s item t = ((item_of (items_now s) item ≡ None) × (t ≡ s)) ⊎ ((i : Item) × (item_of (items_now s) item ≡ Some i) × IsSpared s i t)
+
+-- No file lacks a byte.
+abbrev pub AreWhole : State → Type 0
+AreWhole s = All (λ i. i.directory ≡ false → is_all_here i ≡ true) (items_now s)
+
+-- The state stays. Each tombstone is left out, and so is each item that does not rest.
+pub record IsIdle (s t : State) : Type 0 where
+  pub same : t ≡ s
+  pub tombstones : All (λ x. is_tombstone_left_out s x ≡ true) (book_now s).tombstones
+  pub items : All (λ i. (j : Item) → item_of (items_now s) i.id ≡ Some j → (is_left_out s j ≡ true) ⊎ IsRested s j) (items_now s)

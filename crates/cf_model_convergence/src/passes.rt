@@ -10,14 +10,14 @@ ghost use Rattle.cf_model.specs.Items.{Item};
 ghost use Rattle.cf_model.specs.Lawful.{Runs};
 ghost use Rattle.cf_model.specs.Messages.{no_number};
 ghost use Rattle.cf_model.specs.Passes.{pass, sync_passes};
-ghost use Rattle.cf_model.specs.Pushes.{is_tombstone_left_out, push_item, push_removal, push_tombstone, push_turn};
+ghost use Rattle.cf_model.specs.Pushes.{is_tombstone_left_out, push_all, push_item, push_removal, push_tombstone, push_turn};
 ghost use Rattle.cf_model.specs.State.{State, start};
 ghost use Rattle.cf_model.specs.Store.{Held};
 ghost use Rattle.cf_model.specs.Trees.{Keeps};
 ghost use Rattle.cf_model_laws.specs.Invariant.{Invariant};
 ghost use Rattle.cf_model_laws.specs.Premises.{IsFair, IsFresh};
 ghost use Rattle.cf_model_convergence.specs.Adding.{AddsTo};
-ghost use Rattle.cf_model_convergence.specs.Telling.{EndsFairly, IsListening, IsPushable, IsTold, IsTurned};
+ghost use Rattle.cf_model_convergence.specs.Telling.{AreWhole, EndsFairly, IsIdle, IsListening, IsPushable, IsTold, IsTurned};
 
 /// A pass takes nothing from the notes or the log. As long as it has added no line of a change, the log and the items are as they
 /// were. So it is of the passes of a `sync` together.
@@ -42,4 +42,11 @@ pub fn an_upload_is_told()
 pub fn an_item_at_its_turn_is_told_or_rests()
     ensures item { (item : ItemId) (s : State) (u : Unit {0}) (t : State) → Invariant s → IsFair s.link → IsListening s → EndsFairly (push_turn item s) u t → no_number t ≡ false → IsTold s t ⊎ IsTurned s item t }
     ensures tombstone { (x : Tombstone) (s : State) (u : Unit {0}) (t : State) → Invariant s → IsFair s.link → IsListening s → EndsFairly (push_tombstone x s) u t → no_number t ≡ false → IsTold s t ⊎ ((t ≡ s) × (is_tombstone_left_out s x ≡ true)) }
+{}
+
+/// The uploads of a pass, where no file lacks a byte: a line tells of one, of a change or of a step that was left out; or the state
+/// stays, each tombstone is left out, and each item is left out or rests.
+#[tactic(auto, using(crate::proofs::PushesIdle::pushes_told))]
+pub fn uploads_are_told_or_none_is_left()
+    ensures { (s : State) (u : Unit {0}) (t : State) → Invariant s → IsFair s.link → IsListening s → AreWhole s → EndsFairly (push_all s) u t → no_number t ≡ false → IsTold s t ⊎ IsIdle s t }
 {}

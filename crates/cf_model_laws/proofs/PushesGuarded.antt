@@ -276,7 +276,7 @@ push_by_case_at P closed entering i s there alone h = by (is_untargeted i) refl 
   by true e = upload_new_at P closed entering i s there alone h
   by false e = two (not (stands_at_seen (items_now s) (book_now s) i)) refl e
 
-push_turn_keeps : (P : State → Type 0) → Guarded P → Entering P → (item : ItemId) → Preserves P (push_turn item)
+pub push_turn_keeps : (P : State → Type 0) → Guarded P → Entering P → (item : ItemId) → Preserves P (push_turn item)
 push_turn_keeps P closed entering item = record { keeps = λ s h. by (item_of (items_now s) item) s refl h } where
   by : (o : Option Item) (s : State) → item_of (items_now s) item ≡ o → P s → Keeps P (push_here o s)
   by None s e h = h
@@ -301,7 +301,7 @@ bury_unless_keeps : (P : State → Type 0) → Guarded P → Entering P → (t :
 bury_unless_keeps P closed entering t true = keeps_ret P unit
 bury_unless_keeps P closed entering t false = push_removal_keeps P closed entering t
 
-push_tombstone_keeps : (P : State → Type 0) → Guarded P → Entering P → (t : Tombstone) → Preserves P (push_tombstone t)
+pub push_tombstone_keeps : (P : State → Type 0) → Guarded P → Entering P → (t : Tombstone) → Preserves P (push_tombstone t)
 push_tombstone_keeps P closed entering t = keeps_reading P (λ s. is_tombstone_left_out s t) (bury_unless t) (bury_unless_keeps P closed entering t)
 
 push_lists_keeps : (P : State → Type 0) → Guarded P → Entering P → (ts : List Tombstone) (ids : List ItemId) → Preserves P (push_lists ts ids)
