@@ -10,6 +10,7 @@ pub mod Lines
 pub mod PassesAdd
 pub mod PushesIdle
 pub mod PushesTold
+pub mod ReadyRests
 pub mod RestingMatches
 pub mod RightTargets
 pub mod RoundsTaken

@@ -21,6 +21,7 @@ use Rattle.cf_model_laws.specs.Premises.{IsFresh}
 use Rattle.cf_model_laws.proofs.ContentLaws.{run_sound}
 use Rattle.cf_model_laws.proofs.Gathered.{all_found, all_weaker}
 use Rattle.cf_model_laws.proofs.RightItems.{no_way}
+use Rattle.cf_model_convergence.proofs.TidyItems.{found_rid}
 use Rattle.cf_model_convergence.specs.Lasting.{AreTargetsRight, AreUploadsDone, AtPoint, Fact, HoldsIn, IsTargetedWell}
 
 -- what lasts is given by what is durable
@@ -42,17 +43,7 @@ target_below i below = by (i.id.0 == 1) refl where
   by true q = absurd (below (eqb-true i.id.0 1 q))
   by false q = refl
 
-found_rid : (items : List Stored) (rid : Rid) (s : Stored) → stored_at items rid ≡ Some s → s.rid.0 ≡ rid.0
-found_rid [] rid s e = let z : ◌≡◌ {A = Option Stored} None (Some s) = e in cc
-found_rid (t ∷ items) rid s e = by (t.rid.0 == rid.0) refl e (found_rid items rid s) where
-  some : (a b : Stored) → ◌≡◌ {A = Option Stored} (Some a) (Some b) → a ≡ b
-  some a b z = cc
-
-  by : (b : Bool) → (t.rid.0 == rid.0) ≡ b → cond b (Some t) (stored_at items rid) ≡ Some s → (stored_at items rid ≡ Some s → s.rid.0 ≡ rid.0) → s.rid.0 ≡ rid.0
-  by true q z more = subst (λ (x : Stored). x.rid.0 ≡ rid.0) (some t s z) (eqb-true t.rid.0 rid.0 q)
-  by false q z more = more z
-
-aimed_right : (r : Held) (i : Item) → IsAimed r i.directory i.identity → (i.id.0 ≡ 1 → ⊥) → IsTargetedWell r i
+pub aimed_right : (r : Held) (i : Item) → IsAimed r i.directory i.identity → (i.id.0 ≡ 1 → ⊥) → IsTargetedWell r i
 aimed_right r i (inl e) below = inl (ap (λ (x : Rid). x.0) (target_below i below) ∙ e)
 aimed_right r i (inr k) below =
     inr (

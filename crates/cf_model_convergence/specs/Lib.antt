@@ -4,6 +4,7 @@ pub mod Lapses
 pub mod Lasting
 pub mod Matching
 pub mod Quiet
+pub mod Ready
 pub mod Resting
 pub mod Rounds
 pub mod Scripts

@@ -11,12 +11,14 @@ ghost use Rattle.cf_model.specs.Lawful.{Runs};
 ghost use Rattle.cf_model.specs.Messages.{no_number};
 ghost use Rattle.cf_model.specs.Passes.{pass, sync_passes};
 ghost use Rattle.cf_model.specs.Pushes.{is_tombstone_left_out, push_all, push_item, push_removal, push_tombstone, push_turn};
+ghost use Rattle.cf_model.specs.Settled.{is_settled};
 ghost use Rattle.cf_model.specs.State.{State, start};
 ghost use Rattle.cf_model.specs.Store.{Held};
 ghost use Rattle.cf_model.specs.Trees.{Keeps};
 ghost use Rattle.cf_model_laws.specs.Invariant.{Invariant};
 ghost use Rattle.cf_model_laws.specs.Premises.{IsFair, IsFresh};
 ghost use Rattle.cf_model_convergence.specs.Adding.{AddsTo};
+ghost use Rattle.cf_model_convergence.specs.Ready.{IsReady};
 ghost use Rattle.cf_model_convergence.specs.Telling.{AreWhole, EndsFairly, IsIdle, IsListening, IsPushable, IsTold, IsTurned};
 
 /// A pass takes nothing from the notes or the log. As long as it has added no line of a change, the log and the items are as they
@@ -49,4 +51,11 @@ pub fn an_item_at_its_turn_is_told_or_rests()
 #[tactic(auto, using(crate::proofs::PushesIdle::pushes_told))]
 pub fn uploads_are_told_or_none_is_left()
     ensures { (s : State) (u : Unit {0}) (t : State) → Invariant s → IsFair s.link → IsListening s → AreWhole s → EndsFairly (push_all s) u t → no_number t ≡ false → IsTold s t ⊎ IsIdle s t }
+{}
+
+/// So where all that the remote told is known, and no file lacks a byte, the uploads of a pass are told, or the state is settled after
+/// them.
+#[tactic(auto, using(crate::proofs::ReadyRests::ready_settled))]
+pub fn untold_uploads_leave_a_settled_state()
+    ensures { (s : State) (u : Unit {0}) (t : State) → Invariant s → IsFair s.link → IsListening s → AreWhole s → IsReady s → EndsFairly (push_all s) u t → no_number t ≡ false → IsTold s t ⊎ (is_settled false t ≡ true) }
 {}
