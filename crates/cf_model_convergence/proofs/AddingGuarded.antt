@@ -33,7 +33,7 @@ use Rattle.cf_model_laws.proofs.Leading.{kept_leads}
 use Rattle.cf_model_laws.proofs.RightItems.{no_way_back}
 use Rattle.cf_model_laws.proofs.SkipsGuarded.{keeps_both}
 use Rattle.cf_model_laws.proofs.SoundFilters.{change_leads}
-use Rattle.cf_model_convergence.specs.Adding.{Adds, AddsTo, is_change}
+use Rattle.cf_model_convergence.specs.Adding.{Adds, is_change}
 
 any_left : (f : Notice → Bool) (xs ys : List Notice) → list_any f (xs ++ ys) ≡ false → list_any f xs ≡ false
 any_left f [] ys e = refl

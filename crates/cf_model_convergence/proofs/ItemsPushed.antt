@@ -1,7 +1,7 @@
 -- Each upload of a pass is told.
-use Rattle.std.proofs.Common.{◌≡◌, ◌⊎◌, Bool, true, false, List, [], ◌∷◌, refl, subst}
+use Rattle.std.proofs.Common.{◌≡◌, Bool, true, false, [], refl}
 use Rattle.std.specs.Prelude.{Option, Some, None, cond}
-use Rattle.cf_model.specs.Books.{Action, MakeDir, MoveItem, PutFile, QueueEntry, RemoveItem, Tombstone}
+use Rattle.cf_model.specs.Books.{Action, MakeDir, MoveItem, PutFile, RemoveItem, Tombstone}
 use Rattle.cf_model.specs.Identities.{base_version, is_untargeted}
 use Rattle.cf_model.specs.Items.{Item, bytes_held}
 use Rattle.cf_model.specs.Messages.{no_number}

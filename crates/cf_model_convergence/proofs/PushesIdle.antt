@@ -11,13 +11,12 @@ use Rattle.cf_model.specs.Messages.{no_number}
 use Rattle.cf_model.specs.Numbers.{most}
 use Rattle.cf_model.specs.Pushes.{is_left_out, is_tombstone_left_out, push_all, push_tombstone, push_turn}
 use Rattle.cf_model.specs.State.{State, book_now, items_now}
-use Rattle.cf_model.specs.Trees.{Keeps}
 use Rattle.cf_model.specs.Words.{put_in, sorted}
 use Rattle.cf_model.proofs.ArrowLaws.{keeps_each}
 use Rattle.cf_model_laws.specs.Invariant.{All, Invariant}
 use Rattle.cf_model_laws.specs.Premises.{IsFair}
 use Rattle.cf_model_laws.proofs.ContentLaws.{sound_whole}
-use Rattle.cf_model_laws.proofs.Gathered.{all_found, all_weaker}
+use Rattle.cf_model_laws.proofs.Gathered.{all_found}
 use Rattle.cf_model_laws.proofs.Guarded.{Entering, Guarded}
 use Rattle.cf_model_laws.proofs.PushesGuarded.{push_tombstone_keeps, push_turn_keeps}
 use Rattle.cf_model_laws.proofs.RightItems.{no_way}

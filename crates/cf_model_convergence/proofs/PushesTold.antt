@@ -1,5 +1,5 @@
 -- An upload that a pass sends over a link that answers at once is told: done, refused, or with trouble.
-use Rattle.std.proofs.Common.{◌≡◌, ◌⊎◌, ◌+◌, ℕ, Bool, true, false, List, [], ◌∷◌, ◌++◌, refl, sym, ◌∙◌, ap, subst, inl, inr, length}
+use Rattle.std.proofs.Common.{◌≡◌, ◌+◌, ℕ, Bool, true, false, List, [], ◌∷◌, ◌++◌, refl, sym, ◌∙◌, ap, subst, inl, inr, length}
 use Rattle.std.specs.Prelude.{Option, Some, None, ◌||◌, ◌==◌}
 use Rattle.std.specs.List.{list_any}
 use Rattle.std.proofs.lemmas.List.{append_assoc}
@@ -11,21 +11,19 @@ use Rattle.cf_base.specs.declared.messages.Reply.TheVariants as reply
 use Rattle.cf_base.specs.declared.messages.Request.{Request}
 use Rattle.cf_base.specs.declared.messages.Request.TheVariants as request
 use Rattle.cf_base.specs.declared.messages.Why.{Why}
-use Rattle.cf_base.specs.declared.notices.Frame.{Frame}
 use Rattle.cf_base.specs.declared.notices.Frame.TheVariants as frame
 use Rattle.cf_base.specs.declared.notices.Notice.{Notice}
 use Rattle.cf_base.specs.declared.notices.Notice.TheVariants as notice
-use Rattle.cf_model.specs.Arrows.{choose, one, then_do, unit, unless_done, when_ok}
-use Rattle.cf_model.specs.Books.{Action, MakeDir, MoveItem, PutFile, QueueEntry, RemoveItem, Tombstone, with_entry}
-use Rattle.cf_model.specs.Items.{Item}
-use Rattle.cf_model.specs.Messages.{after_ask, after_post, answered, come_if, counted, fault_line, if_kept, is_upload, next_message, no_bytes, no_number, post_by, post_unless, send_now, take_if_any, take_reply, with_lost, with_message, with_remote}
+use Rattle.cf_model.specs.Arrows.{choose, one, then_do, unless_done, when_ok}
+use Rattle.cf_model.specs.Books.{Action, MakeDir, MoveItem, PutFile, QueueEntry, RemoveItem, with_entry}
+use Rattle.cf_model.specs.Messages.{after_post, answered, come_if, counted, fault_line, if_kept, is_upload, next_message, no_bytes, no_number, post_by, post_unless, send_now, take_if_any, take_reply, with_lost, with_message, with_remote}
 use Rattle.cf_model.specs.Points.{commit, with_sure_point}
-use Rattle.cf_model.specs.Pushes.{anchored, next_token, push, push_item, push_removal, request_by, request_of, send_if, with_token, why_no_token}
-use Rattle.cf_model.specs.Skips.{in_book, left_out, skip_line, skipped, try_book, why_no_record, with_book, with_volatile}
+use Rattle.cf_model.specs.Pushes.{anchored, push, request_by, send_if, with_token, why_no_token}
+use Rattle.cf_model.specs.Skips.{in_book, left_out, skip_line, try_book, why_no_record, with_book, with_volatile}
 use Rattle.cf_model.specs.State.{State, in_filter, in_volume, with_filter, with_volume}
-use Rattle.cf_model.specs.Store.{Held, Mutation, Recorded, RecordedDone, decide, make_dir, move_to, mutate, put_new, put_version, recorded_at, remote_step, remove_at}
-use Rattle.cf_model.specs.Trees.{AsItKeeps, Asked, Faults, Fork, Keeps, Ret, Step, Telling, Tree, bind}
-use Rattle.cf_model_laws.specs.Invariant.{Invariant, message_in}
+use Rattle.cf_model.specs.Store.{Held, Mutation, Recorded, decide, make_dir, move_to, mutate, put_new, put_version, recorded_at, remote_step, remove_at}
+use Rattle.cf_model.specs.Trees.{AsItKeeps, Asked, Faults, Fork, Keeps, Ret, Step, Tree, bind}
+use Rattle.cf_model_laws.specs.Invariant.{Invariant}
 use Rattle.cf_model_laws.specs.Premises.{IsFair}
 use Rattle.cf_model_laws.proofs.ContentLaws.{sound_whole}
 use Rattle.cf_model_laws.proofs.MessagesGuarded.{ToldAt, last_message, reply_posted, take_reply_at}
@@ -34,7 +32,7 @@ use Rattle.cf_model_laws.proofs.RemoteSteps.{tells_bytes, tells_truth}
 use Rattle.cf_model_laws.proofs.RightItems.{no_way}
 use Rattle.cf_model_laws.proofs.SoundLinks.{message_longer}
 use Rattle.cf_model_laws.proofs.SoundStates.{small_before}
-use Rattle.cf_model_laws.proofs.UploadsGuarded.{unrecorded, upload_sends}
+use Rattle.cf_model_laws.proofs.UploadsGuarded.{upload_sends}
 use Rattle.cf_model_convergence.specs.Telling.{EndsFairly, IsListening, IsTold, is_loud}
 use Rattle.cf_model_convergence.proofs.AddingGuarded.{In, guarded_adds, itself}
 use Rattle.cf_model.proofs.StoreLaws.{step_extends}

@@ -1,6 +1,6 @@
 -- Targets, and what was done of uploads, by the invariant of the machine.
-use Rattle.std.proofs.Common.{◌≡◌, ◌⊎◌, ℕ, Bool, true, false, List, [], ◌∷◌, refl, sym, ◌∙◌, ap, subst, inl, inr, take}
-use Rattle.std.specs.Prelude.{Option, Some, None, cond, ◌==◌}
+use Rattle.std.proofs.Common.{◌≡◌, ℕ, Bool, true, false, List, refl, sym, ◌∙◌, ap, subst, inl, inr, take}
+use Rattle.std.specs.Prelude.{Option, Some, cond, ◌==◌}
 use Rattle.std.proofs.lemmas.Bool.{eqb-true}
 use Rattle.cf_base.specs.declared.answers.Answer.{Answer}
 use Rattle.cf_base.specs.declared.events.Event.{Event}
@@ -8,21 +8,20 @@ use Rattle.cf_base.specs.declared.ids.Rid.{Rid}
 use Rattle.cf_base.specs.declared.ids.Usn.{Usn}
 use Rattle.cf_base.specs.declared.notices.Frame.{Frame}
 use Rattle.cf_base.specs.declared.policies.Mode.TheVariants as mode
-use Rattle.cf_model.specs.Books.{Book, QueueEntry}
+use Rattle.cf_model.specs.Books.{Book}
 use Rattle.cf_model.specs.Identities.{target_of}
 use Rattle.cf_model.specs.Items.{Item}
 use Rattle.cf_model.specs.Lawful.{Runs}
 use Rattle.cf_model.specs.Logs.{items_of, next_of}
 use Rattle.cf_model.specs.Numbers.{root_rid, usn_after}
 use Rattle.cf_model.specs.State.{State, book_now, items_now, start}
-use Rattle.cf_model.specs.Store.{Held, Stored, stored_at}
-use Rattle.cf_model_laws.specs.Invariant.{All, Invariant, IsAimed, IsAskedFor, IsDurable, IsPointRight, IsRight, target_in}
+use Rattle.cf_model.specs.Store.{Held, stored_at}
+use Rattle.cf_model_laws.specs.Invariant.{HasBase, Invariant, IsAimed, IsAskedFor, IsDurable, IsPointRight, IsRight, target_in}
 use Rattle.cf_model_laws.specs.Premises.{IsFresh}
 use Rattle.cf_model_laws.proofs.ContentLaws.{run_sound}
-use Rattle.cf_model_laws.proofs.Gathered.{all_found, all_weaker}
-use Rattle.cf_model_laws.proofs.RightItems.{no_way}
+use Rattle.cf_model_laws.proofs.Gathered.{all_weaker}
 use Rattle.cf_model_convergence.proofs.TidyItems.{found_rid}
-use Rattle.cf_model_convergence.specs.Lasting.{AreTargetsRight, AreUploadsDone, AtPoint, Fact, HoldsIn, IsTargetedWell}
+use Rattle.cf_model_convergence.specs.Lasting.{AreBasesMade, AreTargetsRight, AreUploadsApart, AreUploadsDone, AtPoint, Fact, HoldsIn, IsTargetedWell}
 
 -- what lasts is given by what is durable
 abbrev IsGiven : Fact → Type 0
@@ -61,3 +60,9 @@ targets_right remote clusters trace s runs fresh =
 
 pub uploads_done : (remote : Held) (clusters : ℕ) (trace : List (Event × Answer)) (s : State) → Runs mode.Replay (start mode.Replay remote clusters) trace s → IsFresh remote → HoldsIn AreUploadsDone s
 uploads_done remote clusters trace s runs fresh = given_holds AreUploadsDone (λ r ms epoch tokens n next items b h. all_weaker (IsAskedFor r ms) _ (λ e k. k.did) b.entries h.asked) s (run_sound remote clusters trace s runs fresh)
+
+pub bases_made : (remote : Held) (clusters : ℕ) (trace : List (Event × Answer)) (s : State) → Runs mode.Replay (start mode.Replay remote clusters) trace s → IsFresh remote → HoldsIn AreBasesMade s
+bases_made remote clusters trace s runs fresh = given_holds AreBasesMade (λ r ms epoch tokens n next items b h. all_weaker (IsRight r n) (λ i. HasBase r i.identity) (λ i k. k.based) items h.right) s (run_sound remote clusters trace s runs fresh)
+
+pub uploads_apart : (remote : Held) (clusters : ℕ) (trace : List (Event × Answer)) (s : State) → Runs mode.Replay (start mode.Replay remote clusters) trace s → IsFresh remote → HoldsIn AreUploadsApart s
+uploads_apart remote clusters trace s runs fresh = given_holds AreUploadsApart (λ r ms epoch tokens n next items b h. h.apart) s (run_sound remote clusters trace s runs fresh)

@@ -1,7 +1,6 @@
 -- An item at its turn in a pass: it is told, or nothing is to be done for it.
 use Rattle.std.proofs.Common.{◌≡◌, ◌⊎◌, ◌+◌, Bool, true, false, List, [], ◌∷◌, refl, sym, ◌∙◌, ap, subst, inl, inr, eq-eqb}
-use Rattle.std.specs.Prelude.{Option, Some, None, cond, not, is_some, ◌&&◌, ◌||◌, ◌==◌}
-use Rattle.std.specs.List.{list_all}
+use Rattle.std.specs.Prelude.{Option, Some, None, cond, not, ◌&&◌, ◌||◌, ◌==◌}
 use Rattle.cf_base.specs.declared.changes.Change.{Change}
 use Rattle.cf_base.specs.declared.changes.Change.TheVariants as change
 use Rattle.cf_base.specs.declared.codes.Code.{Code}
@@ -19,10 +18,10 @@ use Rattle.cf_model.specs.Messages.{no_number}
 use Rattle.cf_model.specs.Numbers.{no_usn, same_usn}
 use Rattle.cf_model.specs.PushReplies.{has_item, whatever}
 use Rattle.cf_model.specs.Pushes.{bury_unless, has_entry, hydrate_if, is_left_out, is_tombstone_left_out, mark_item, push_by_case, push_here, push_item, push_tombstone, push_turn, push_unless, put_file, put_if, put_whole, upload, upload_if, upload_new, upload_now}
-use Rattle.cf_model.specs.Skips.{do_change, left_out, may_mark, mark_if, skipped, try_change, why_no_change}
+use Rattle.cf_model.specs.Skips.{do_change, left_out, may_mark, mark_if, try_change, why_no_change}
 use Rattle.cf_model.specs.Soundness.{Each}
 use Rattle.cf_model.specs.State.{State, book_now, items_now, with_filter}
-use Rattle.cf_model.specs.Trees.{AsItKeeps, Asked, Faults, Fork, Keeps, Ret, Step, Tree, bind}
+use Rattle.cf_model.specs.Trees.{AsItKeeps, Asked, Faults, Fork, Ret, Step, Tree, bind}
 use Rattle.cf_model.specs.Words.{part, says}
 use Rattle.cf_model_laws.specs.Fitting.{Fits, NoEntry}
 use Rattle.cf_model_laws.specs.Invariant.{HasNone, Invariant, IsRight, SameBase}
@@ -32,16 +31,15 @@ use Rattle.cf_model_laws.proofs.EntryLaws.{none_none}
 use Rattle.cf_model_laws.proofs.FoundItems.{found_id}
 use Rattle.cf_model_laws.proofs.Leading.{Leads, leads_bind, leads_mapped}
 use Rattle.cf_model_laws.proofs.PushRepliesGuarded.{each_at}
-use Rattle.cf_model_laws.proofs.PushesGuarded.{lone, now_lone, right_of, targeted, upload_now_at}
+use Rattle.cf_model_laws.proofs.PushesGuarded.{lone, right_of, targeted, upload_now_at}
 use Rattle.cf_model_laws.proofs.RightItems.{both_none, no_way, no_way_back}
 use Rattle.cf_model_laws.proofs.SkipsGuarded.{Any, Led, Whichever, guarded_skipping, try_change_at, try_led}
 use Rattle.cf_model_laws.proofs.SoundFilters.{change_leads}
-use Rattle.cf_model_laws.proofs.SoundSettles.{each_found, not_true, same_item}
-use Rattle.cf_model_convergence.specs.Resting.{IsRested}
+use Rattle.cf_model_laws.proofs.SoundSettles.{each_found, same_item}
 use Rattle.cf_model_convergence.specs.Telling.{EndsFairly, IsListening, IsSpared, IsTold, IsTurned}
 use Rattle.cf_model_convergence.proofs.AddingGuarded.{In, entering_adds, guarded_adds, itself}
 use Rattle.cf_model_convergence.proofs.ItemsPushed.{item_told, removal_told}
-use Rattle.cf_model_convergence.proofs.PushesTold.{kept_ends, skip_told, told_one, told_then}
+use Rattle.cf_model_convergence.proofs.PushesTold.{kept_ends, skip_told, told_then}
 
 -- ends
 

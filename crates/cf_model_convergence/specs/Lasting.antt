@@ -10,7 +10,7 @@ use Rattle.cf_model.specs.Items.{Item}
 use Rattle.cf_model.specs.Logs.{items_of}
 use Rattle.cf_model.specs.State.{Link, Point, State, Volume}
 use Rattle.cf_model.specs.Store.{Held, RecordedDone, Stored, recorded_at, stored_at}
-use Rattle.cf_model_laws.specs.Invariant.{All, DidBy}
+use Rattle.cf_model_laws.specs.Invariant.{All, AreApart, DidBy, HasBase}
 use Rattle.cf_model_laws.specs.Premises.{IsFair}
 use Rattle.cf_model_convergence.specs.Resting.{IsTargetRight}
 
@@ -39,6 +39,14 @@ IsTargetedWell r i = ((target_of i).0 ≡ 0) ⊎ ((s : Stored) × (stored_at r.i
 
 abbrev pub AreTargetsRight : Fact
 AreTargetsRight r items b = All (λ i. (i.id.0 ≡ 1 → ⊥) → IsTargetedWell r i) items
+
+-- A base is a version that the remote made, or there is none.
+abbrev pub AreBasesMade : Fact
+AreBasesMade r items b = All (λ i. HasBase r i.identity) items
+
+-- no two uploads on their way are about one item
+abbrev pub AreUploadsApart : Fact
+AreUploadsApart r items b = AreApart b.entries
 
 -- What the remote did of an upload on its way, it did as that upload asks: a file or a directory was made, or the item is that of the
 -- upload; one that was removed is dead.

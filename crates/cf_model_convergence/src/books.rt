@@ -8,7 +8,7 @@ ghost use Rattle.cf_model.specs.Lawful.{Runs};
 ghost use Rattle.cf_model.specs.State.{State, start};
 ghost use Rattle.cf_model.specs.Store.{Held};
 ghost use Rattle.cf_model_laws.specs.Premises.{IsFresh};
-ghost use Rattle.cf_model_convergence.specs.Lasting.{AreTargetsRight, AreUploadsDone, HoldsIn, IsCursorEarly};
+ghost use Rattle.cf_model_convergence.specs.Lasting.{AreBasesMade, AreTargetsRight, AreUploadsApart, AreUploadsDone, HoldsIn, IsCursorEarly};
 
 /// In each state of a run the cursor is a time that the remote has had, and so it is in the book of each point that a restart may
 /// open.
@@ -21,6 +21,13 @@ pub fn a_cursor_is_never_late()
 #[tactic(auto, using(crate::proofs::RightTargets::targets_right))]
 pub fn a_target_is_of_its_items_kind()
     ensures { (remote : Held) (clusters : ℕ) (trace : List (Event × Answer)) (s : State) → Runs mode.Replay (start mode.Replay remote clusters) trace s → IsFresh remote → HoldsIn AreTargetsRight s }
+{}
+
+/// The base of an item is a version that the remote made, or there is none; and no two uploads on their way are about one item.
+#[tactic(auto, using(crate::proofs::RightTargets::bases_made, crate::proofs::RightTargets::uploads_apart))]
+pub fn bases_are_made_and_uploads_apart()
+    ensures bases { (remote : Held) (clusters : ℕ) (trace : List (Event × Answer)) (s : State) → Runs mode.Replay (start mode.Replay remote clusters) trace s → IsFresh remote → HoldsIn AreBasesMade s }
+    ensures apart { (remote : Held) (clusters : ℕ) (trace : List (Event × Answer)) (s : State) → Runs mode.Replay (start mode.Replay remote clusters) trace s → IsFresh remote → HoldsIn AreUploadsApart s }
 {}
 
 /// What the remote did under the token of an upload that is on its way, it did as that upload asks.
