@@ -1,6 +1,6 @@
 -- What was sent with the token of an upload is the upload, and so is what the remote did of it.
-use Rattle.std.proofs.Common.{◌≡◌, ◌⊎◌, ◌<◌, ◌≤◌, ◌+◌, ℕ, suc, Bool, true, false, List, [], ◌∷◌, ◌++◌, refl, sym, ◌∙◌, ap, subst, inl, inr, arith, length, eq-eqb}
-use Rattle.std.specs.Prelude.{Option, Some, None, cond, not, nat_lt, nat_le, ◌&&◌, ◌||◌, ◌==◌}
+use Rattle.std.proofs.Common.{◌≡◌, ◌+◌, ℕ, suc, Bool, true, false, List, [], ◌∷◌, ◌++◌, refl, sym, ◌∙◌, ap, subst, inl, inr, arith, length, eq-eqb}
+use Rattle.std.specs.Prelude.{Option, Some, None, cond, not, nat_lt, ◌&&◌, ◌||◌, ◌==◌}
 use Rattle.std.specs.List.{list_any}
 use Rattle.std.proofs.lemmas.Bool.{eqb-true}
 use Rattle.cf_base.specs.declared.ids.Rid.{Rid}
@@ -14,14 +14,14 @@ use Rattle.cf_base.specs.declared.limits.TheConstants.{MOST_FILE_BYTES}
 use Rattle.cf_model.specs.Books.{Action, MakeDir, MoveItem, PutFile, QueueEntry, RemoveItem}
 use Rattle.cf_model.specs.Growth.{CountsFrom, IsCounted}
 use Rattle.cf_model.specs.Numbers.{no_version, root_rid, same_key}
-use Rattle.cf_model.specs.Store.{Held, Mutation, Recorded, RecordedDone, RecordedVoid, Stored, at_rid, decide, is_live, is_live_file, is_taken, keep_last, latest_at, make_dir, move_to, mutate, next_rid, passes_bytes, put_new, put_version, recorded_at, remote_step, remove_at, settle, stored_at, with_dead, with_new, with_token, with_version, why_version, why_remove}
+use Rattle.cf_model.specs.Store.{Held, Mutation, Recorded, RecordedDone, RecordedVoid, Stored, at_rid, decide, is_live, is_live_file, keep_last, latest_at, make_dir, move_to, mutate, next_rid, passes_bytes, put_new, put_version, recorded_at, remote_step, remove_at, settle, stored_at, with_dead, with_new, with_token, with_version, why_remove}
 use Rattle.cf_model.specs.Words.{first_of, says}
 use Rattle.cf_model.proofs.StoreLaws.{recorded-first}
 use Rattle.cf_model_laws.specs.Invariant.{Asks, Carries, DidBy, IsIn}
 use Rattle.cf_model_laws.proofs.RemoteGrowth.{dead_stays, in_version, kind_stays, step_stays}
 use Rattle.cf_model_laws.proofs.RemoteSteps.{mutated_other, none_some, other_first, same_token}
 use Rattle.cf_model_laws.proofs.RightItems.{no_way, no_way_back}
-use Rattle.cf_model_laws.proofs.SoundSettles.{left_true, right_true}
+use Rattle.cf_model_laws.proofs.SoundSettles.{right_true}
 
 -- a request that is no Put of two contents is of no upload with this token
 

@@ -31,7 +31,7 @@ use Rattle.cf_model.proofs.TreeLaws.{keeps_bind, keeps_mapped}
 use Rattle.cf_model_laws.specs.Invariant.{All, HasEntry}
 use Rattle.cf_model_laws.specs.Premises.{IsFair}
 use Rattle.cf_model_laws.proofs.EntryLaws.{new_fits}
-use Rattle.cf_model_laws.proofs.Gathered.{all_filter, all_weaker, all_both}
+use Rattle.cf_model_laws.proofs.Gathered.{all_filter, all_both}
 use Rattle.cf_model_laws.proofs.OperationsGuarded.{NewFits}
 use Rattle.cf_model_laws.proofs.SkipsGuarded.{seen_below}
 use Rattle.cf_model_laws.proofs.SoundChanges.{KeepsEntries}
