@@ -75,7 +75,7 @@ module _ (w : Filter) where
     still = λ e. no_way_back (any_right is_change h.lines (notice.Change n c ∷ []) e);
   }
 
-  change_adds : (f : Book → Book) (c : Change) (x : Filter) → In x → Keeps In (change_with f c x)
+  pub change_adds : (f : Book → Book) (c : Change) (x : Filter) → In x → Keeps In (change_with f c x)
   change_adds f c x h = kept_leads In (change_with f c x) (change_leads In In f c x h h h (λ v is. by v is)) where
     by : (v : Volume) → (v ≡ x.volume) ⊎ (v ≡ with_room_point x.volume) → In (with_notes (notice.Change (next_number v) c ∷ []) (with_volume (put_with_book f c v) x))
     by v (inl e) = subst (λ (u : Volume). In (with_notes (notice.Change (next_number u) c ∷ []) (with_volume (put_with_book f c u) x))) (sym e) (one_change (next_number x.volume) c x.notes x.volume.log x.volume.items _ h)
@@ -125,7 +125,7 @@ module _ (w : Filter) where
     keeps_without_handle = λ handle x h. (closed.keeps_without_handle handle x h.0, h.1);
   }
 
-  line_adds : (b : Bool) (c : Code) (s : State) → In s.filter → In (skip_line b c s).filter
+  pub line_adds : (b : Bool) (c : Code) (s : State) → In s.filter → In (skip_line b c s).filter
   line_adds true c s h = more_lines (notice.Skipped c ∷ []) s.filter.notes s.filter.volume.log (items_now s) h
   line_adds false c s h = h
 

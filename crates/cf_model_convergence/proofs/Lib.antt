@@ -1,6 +1,7 @@
 pub mod AddingGuarded
 pub mod CountsGuarded
 pub mod EarlyCursors
+pub mod FeedTurns
 pub mod FeedsOrder
 pub mod FeedsTold
 pub mod ItemsPushed
@@ -20,3 +21,4 @@ pub mod TidyDepths
 pub mod TidyItems
 pub mod TidyRemotes
 pub mod TurnsTold
+pub mod TurnsGrow

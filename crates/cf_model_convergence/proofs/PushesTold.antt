@@ -73,7 +73,7 @@ told_one s t n e loud = record { lines = n ∷ []; noted = e; loud = one_loud n 
 pub told_then : (s m t : State) → IsTold s m → In m.filter t.filter → IsTold s t
 told_then s m t h k = record { lines = h.lines ++ k.lines; noted = k.noted ∙ ap (λ (ns : List Notice). ns ++ k.lines) h.noted ∙ append_assoc s.filter.notes h.lines k.lines; loud = loud_left h.lines k.lines h.loud }
 
-told_after : (s m t : State) (ns : List Notice) → m.filter.notes ≡ s.filter.notes ++ ns → IsTold m t → IsTold s t
+pub told_after : (s m t : State) (ns : List Notice) → m.filter.notes ≡ s.filter.notes ++ ns → IsTold m t → IsTold s t
 told_after s m t ns e h = record { lines = ns ++ h.lines; noted = h.noted ∙ ap (λ (xs : List Notice). xs ++ h.lines) e ∙ append_assoc s.filter.notes ns h.lines; loud = loud_right ns h.lines h.loud }
 
 pub skip_told : (b : Bool) (c : Code) (s u : State) → b ≡ true → u.filter.notes ≡ s.filter.notes → IsTold s (skip_line b c u)

@@ -43,7 +43,7 @@ use Rattle.cf_model_convergence.proofs.PushesTold.{kept_ends, skip_told, told_th
 
 -- ends
 
-leads_ends : {S A : Type 0} (I : S → Type 0) (Q : A → S → Type 0) (p : Tree S A) (a : A) (t : S) → Leads I Q p → EndsFairly p a t → Q a t
+pub leads_ends : {S A : Type 0} (I : S → Type 0) (Q : A → S → Type 0) (p : Tree S A) (a : A) (t : S) → Leads I Q p → EndsFairly p a t → Q a t
 leads_ends I Q (Ret b s) a t h e = subst (λ (x : _). Q a x) (sym e.1) (subst (λ (x : _). Q x s) (sym e.0) h)
 leads_ends I Q (Step s p) a t h e = leads_ends I Q p a t h.1 e
 leads_ends I Q (Fork p q) a t h (inl e) = leads_ends I Q p a t h.0 e
@@ -66,7 +66,7 @@ change_led c s =
     leads_mapped Any (λ u x. IsTold s (with_filter x s)) Any (λ u t. IsTold s t) (λ x. with_filter x s) (put c s.filter) (λ x k. tt) (λ u x k. k)
     (change_leads Any (λ x. IsTold s (with_filter x s)) same_book c s.filter tt tt tt (λ v is. record { lines = notice.Change (next_number v) c ∷ []; noted = refl; loud = refl }))
 
-try_told_led : (c : Change) (s : State) → IsListening s → Leads Any (λ done t. IsTold s t) (try_change c s)
+pub try_told_led : (c : Change) (s : State) → IsListening s → Leads Any (λ done t. IsTold s t) (try_change c s)
 try_told_led c s listening = by (why_no_change c s) where
   by : (o : Option Code) → Leads Any (λ done t. IsTold s t) (bind (unless_done (do_change c) o s) left_out)
   by None = leads_bind Any (λ o t. (o ≡ None) × IsTold s t) (λ done t. IsTold s t) (bind (do_change c s) (λ _ t. Ret None t)) left_out

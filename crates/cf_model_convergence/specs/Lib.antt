@@ -10,3 +10,4 @@ pub mod Rounds
 pub mod Scripts
 pub mod Telling
 pub mod Tidy
+pub mod Turns

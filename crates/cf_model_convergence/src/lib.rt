@@ -7,3 +7,4 @@ pub mod passes;
 pub mod remotes;
 pub mod rounds;
 pub mod settled;
+pub mod turns;

@@ -63,7 +63,7 @@ seen_past p b id e =
     find_past (λ q. q.item.0 == id.0) first_seen p (without_seen p.item b.seen) e
     ∙ find_left (λ q. q.item.0 == id.0) (λ q. q.item.0 == p.item.0) b.seen (λ q z. subst (λ (n : ℕ). (n == id.0) ≡ false) (sym (eqb-true q.item.0 p.item.0 z)) e)
 
-seen_put : (p : SeenPath) (b : Book) → seen_of (with_seen p b) p.item ≡ Some p
+pub seen_put : (p : SeenPath) (b : Book) → seen_of (with_seen p b) p.item ≡ Some p
 seen_put p b = find_put (λ q. q.item.0 == p.item.0) first_seen p (without_seen p.item b.seen) (eq-eqb p.item.0 p.item.0 refl) (none_left (λ q. q.item.0 == p.item.0) b.seen)
 
 -- a path that is seen is seen
