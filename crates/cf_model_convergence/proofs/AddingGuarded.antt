@@ -81,7 +81,7 @@ module _ (w : Filter) where
     by v (inl e) = subst (λ (u : Volume). In (with_notes (notice.Change (next_number u) c ∷ []) (with_volume (put_with_book f c u) x))) (sym e) (one_change (next_number x.volume) c x.notes x.volume.log x.volume.items _ h)
     by v (inr e) = subst (λ (u : Volume). In (with_notes (notice.Change (next_number u) c ∷ []) (with_volume (put_with_book f c u) x))) (sym e) (one_change (next_number x.volume) c x.notes x.volume.log x.volume.items _ h)
 
-  -- what is told after a step
+  -- what is reported after a step
 
   accessed_adds : (item : ItemId) (is : Bool) (x : Filter) → In x → In (if is then accessed item x else x)
   accessed_adds item true x h = h

@@ -1,4 +1,4 @@
--- An entry of a feed at its turn: it is told, or it is postponed, of no case, or taken in.
+-- An entry of a feed at its turn: it is reported, or it is postponed, of no case, or taken in.
 use Rattle.std.proofs.Common.{◌≡◌, ◌⊎◌, ◌+◌, Bool, true, false, refl, sym, ◌∙◌, ap, subst, inl, inr, eq-eqb}
 use Rattle.std.specs.Prelude.{Option, Some, None, is_some, not, ◌&&◌, ◌==◌}
 use Rattle.cf_base.specs.declared.changes.Change.{Change}
@@ -31,7 +31,7 @@ use Rattle.cf_model_convergence.proofs.PushesTold.{skip_told}
 use Rattle.cf_model_convergence.proofs.TurnsGrow.{Clean, Grows, Same, change_grows, change_told, free_grows, if_grows, if_same, mark_grows, mark_same, move_grows, names_same, seen_grows, state_grows, then_clean, then_grows, told_on}
 use Rattle.cf_model_convergence.proofs.TurnsTold.{ends_bind}
 
--- steps that begin with a change are told
+-- steps that begin with a change are reported
 
 first_told : (c : Change) (g : Arrow State Bool) → Grows g → (s : State) (done : Bool) (t : State) → IsListening s → EndsFairly (and_then (try_change c) g s) done t → IsTold s t
 first_told c g grows s done t listening ends = by x.0 x.1 x.3 (change_told c s x.0 x.1 listening x.2) where

@@ -1,4 +1,4 @@
--- Each upload of a pass is told.
+-- Each upload of a pass is reported.
 use Rattle.std.proofs.Common.{◌≡◌, Bool, true, false, [], refl}
 use Rattle.std.specs.Prelude.{Option, Some, None, cond}
 use Rattle.cf_model.specs.Books.{Action, MakeDir, MoveItem, PutFile, RemoveItem, Tombstone}

@@ -16,6 +16,7 @@ pub mod RestingMatches
 pub mod RightTargets
 pub mod RoundsTaken
 pub mod SettledItems
+pub mod TakenKnown
 pub mod TargetsHere
 pub mod TidyDepths
 pub mod TidyItems

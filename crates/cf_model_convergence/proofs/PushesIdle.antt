@@ -1,4 +1,4 @@
--- The uploads of a pass: one is told, or nothing is left to upload.
+-- The uploads of a pass: one is reported, or nothing is left to upload.
 use Rattle.std.proofs.Common.{◌≡◌, ◌⊎◌, ◌≤◌, ◌+◌, ℕ, Bool, true, false, List, [], ◌∷◌, refl, sym, ◌∙◌, subst, inl, inr, arith, length, map}
 use Rattle.std.specs.Prelude.{Option, Some, None, cond, nat_lt, ◌==◌}
 use Rattle.std.proofs.lemmas.Bool.Decides.{nat_tests}
@@ -49,7 +49,7 @@ module _ (rest : Arrow State (Unit {0})) (keeps : (P : State → Type 0) → Gua
     by true q = no_way (sym left ∙ passes (length m.link.messages) (length t.link.messages) most more q)
     by false q = refl
 
--- one after the other, each of which is told or leaves the state
+-- one after the other, each of which is reported or leaves the state
 module _ (X : Type 0) (f : X → Arrow State (Unit {0})) (keeps : (P : State → Type 0) → Guarded P → Entering P → (x : X) → Preserves P (f x)) (H : State → Type 0) (C : State → X → Type 0)
     (step : (x : X) (s : State) (u : Unit {0}) (t : State) → Invariant s → IsFair s.link → IsListening s → H s → EndsFairly (f x s) u t → no_number t ≡ false → IsTold s t ⊎ ((t ≡ s) × C s x)) where
   keeps_all : (xs : List X) (P : State → Type 0) → Guarded P → Entering P → Preserves P (each f xs)

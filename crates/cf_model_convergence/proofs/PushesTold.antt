@@ -1,4 +1,4 @@
--- An upload that a pass sends over a link that answers at once is told: done, refused, or with trouble.
+-- An upload that a pass sends over a link that answers at once is reported: done, refused, or with trouble.
 use Rattle.std.proofs.Common.{◌≡◌, ◌+◌, ℕ, Bool, true, false, List, [], ◌∷◌, ◌++◌, refl, sym, ◌∙◌, ap, subst, inl, inr, length}
 use Rattle.std.specs.Prelude.{Option, Some, None, ◌||◌, ◌==◌}
 use Rattle.std.specs.List.{list_any}
@@ -121,7 +121,7 @@ HasNumbers t = no_number t ≡ false
 numbers_used : {A : Type 0} (s t : State) → t ≡ s → no_number s ≡ true → HasNumbers t → A
 numbers_used s t e used left = no_way (sym (subst (λ (x : State). no_number x ≡ false) e left) ∙ used)
 
--- a reply that decides was sent: it is told, whatever becomes of it
+-- a reply that decides was sent: it is reported, whatever becomes of it
 reply_told : (m : ℕ) (q : Request) (r : Reply) (s : State) (u : Unit {0}) (t : State) → is_decided r ≡ true → (IsFair s.link → ToldAt s m q r) → Keeps Invariant (bind (answered m (Some r) s) (take_if_any q)) → EndsFairly (bind (answered m (Some r) s) (take_if_any q)) u t → HasNumbers t → IsTold s t
 reply_told m q r s u t decided told kept ends left = by (no_number s) refl kept ends where
   sent : State

@@ -1,4 +1,4 @@
--- The steps of a feed's turns: their lines only come, and a change or a step that is left out is told.
+-- The steps of a feed's turns: their lines only come, and a change or a step that is left out is reported.
 use Rattle.std.proofs.Common.{◌≡◌, ◌⊎◌, ◌+◌, Bool, true, false, List, refl, sym, subst, inl, inr}
 use Rattle.std.specs.Prelude.{Option, Some, None, not}
 use Rattle.cf_base.specs.declared.changes.Change.{Change}
@@ -82,7 +82,7 @@ move_grows e i p w = record {
   keeps = λ s h. (if_grows (not (says (stands_in p e.name) (item_of (items_now s) i.id))) (try_change (change.Move i.id p.id e.name)) (change_grows (change.Move i.id p.id e.name)) w).keeps s h;
 }
 
--- what is not told
+-- what is not reported
 
 abbrev pub Clean : Arrow State Bool → (State → State → Type 0) → Type 0
 Clean f R = (s : State) (done : Bool) (t : State) → IsListening s → EndsFairly (f s) done t → IsTold s t ⊎ ((done ≡ true) × R s t)
@@ -93,7 +93,7 @@ Same s t = t ≡ s
 pub change_told : (c : Change) (s : State) (done : Bool) (t : State) → IsListening s → EndsFairly (try_change c s) done t → IsTold s t
 change_told c s done t listening e = leads_ends Any (λ d x. IsTold s x) (try_change c s) done t (try_told_led c s listening) e
 
--- what is told stays so, whatever comes later
+-- what is reported stays so, whatever comes later
 pub told_on : {A : Type 0} (f : Arrow State A) → Grows f → (s m : State) (a : A) (t : State) → IsTold s m → EndsFairly (f m) a t → IsTold s t
 told_on f grows s m a t told e = told_then s m t told (kept_ends (λ x. In m.filter x.filter) (f m) a t ((grows m.filter).keeps m (itself m.filter)) e)
 

@@ -1,4 +1,4 @@
--- An item at its turn in a pass: it is told, or nothing is to be done for it.
+-- An item at its turn in a pass: it is reported, or nothing is to be done for it.
 use Rattle.std.proofs.Common.{◌≡◌, ◌⊎◌, ◌+◌, Bool, true, false, List, [], ◌∷◌, refl, sym, ◌∙◌, ap, subst, inl, inr, eq-eqb}
 use Rattle.std.specs.Prelude.{Option, Some, None, cond, not, ◌&&◌, ◌||◌, ◌==◌}
 use Rattle.cf_base.specs.declared.changes.Change.{Change}
@@ -59,7 +59,7 @@ ends_bind (Fork p q) g b t (inr e) = let k = ends_bind q g b t e in (k.0, k.1, i
 ends_bind (Asked k) g b t (inl e) = let j = ends_bind (k AsItKeeps) g b t e in (j.0, j.1, inl j.2, j.3)
 ends_bind (Asked k) g b t (inr e) = let j = ends_bind (k Faults) g b t e in (j.0, j.1, inr j.2, j.3)
 
--- a change is told, or that it is left out
+-- a change is reported, or that it is left out
 
 change_led : (c : Change) (s : State) → Leads Any (λ u t. IsTold s t) (do_change c s)
 change_led c s =

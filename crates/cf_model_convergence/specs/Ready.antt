@@ -1,4 +1,4 @@
--- A state that a pass finds when all its feed tells is known.
+-- A state that a pass finds when all that its feed reports is known.
 use Rattle.std.specs.Prelude.{false, [], Some, ◌∷◌, ◌≡◌}
 use Rattle.cf_model.specs.Items.{Item, item_of}
 use Rattle.cf_model.specs.LookUp.{item_line}

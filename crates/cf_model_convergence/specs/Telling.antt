@@ -1,4 +1,4 @@
--- What an event tells that a quiet one does not.
+-- What an event reports that a quiet one does not.
 use Rattle.std.specs.Prelude.{Bool, true, false, List, None, Some, ◌||◌, ◌++◌, ◌≡◌, ◌⊎◌}
 use Rattle.std.specs.List.{list_any}
 use Rattle.cf_base.specs.declared.ids.ItemId.{ItemId}

@@ -1,4 +1,4 @@
--- What a feed's turns leave where they tell nothing.
+-- What a feed's turns leave where they report nothing.
 use Rattle.std.specs.Prelude.{Bool, true, false, None, Some, ◌≡◌, ◌⊎◌}
 use Rattle.cf_base.specs.declared.messages.Entry.{Entry}
 use Rattle.cf_model.specs.Feeds.{is_newer, is_seen_so, parent_here}
@@ -13,7 +13,7 @@ pub record IsTakenIn (e : Entry) (i : Item) (s t : State) : Type 0 where
   pub seen : is_seen_so t i e ≡ true
   pub version : is_newer i e ≡ false
 
--- A turn that tells nothing: its item is in use, and it is postponed; it is dead or its parent is not here, and no item is its; or
+-- A turn that reports nothing: its item is in use, and it is postponed; it is dead or its parent is not here, and no item is its; or
 -- it is taken in.
 abbrev pub IsTurnOf : Entry → State → Bool → State → Type 0
 IsTurnOf e s postponed t =

@@ -1,4 +1,4 @@
-//! Passes, and what they tell.
+//! Passes, and what they report.
 
 ghost use Rattle.std.specs.Prelude.{◌≡◌, ◌⊎◌, ℕ, List, false, true};
 ghost use Rattle.cf_base.specs.declared.answers.Answer.{Answer};
@@ -29,7 +29,7 @@ pub fn a_pass_only_adds()
     ensures all { (remote : Held) (clusters : ℕ) (trace : List (Event × Answer)) (s : State) → Runs mode.Replay (start mode.Replay remote clusters) trace s → IsFresh remote → Keeps (AddsTo s) (sync_passes s) }
 {}
 
-/// An upload that a pass sends over a link that answers at once is told, where the remote keeps its rules or fails, and numbers of
+/// An upload that a pass sends over a link that answers at once is reported, where the remote keeps its rules or fails, and numbers of
 /// messages are left: it is done or refused, or there is a line of trouble. So is the removal of a tombstone's item.
 #[tactic(auto, using(crate::proofs::ItemsPushed::item_told, crate::proofs::ItemsPushed::removal_told))]
 pub fn an_upload_is_told()
@@ -37,23 +37,23 @@ pub fn an_upload_is_told()
     ensures removal { (x : Tombstone) (s : State) (u : Unit {0}) (t : State) → Invariant s → IsFair s.link → IsListening s → EndsFairly (push_removal x s) u t → no_number t ≡ false → IsTold s t }
 {}
 
-/// An item at its turn in a pass: a line tells of an upload, a change or a step that was left out, or nothing is done for it. Then it is
+/// An item at its turn in a pass: a line reports an upload, a change or a step that was left out, or nothing is done for it. Then it is
 /// a file that lacks a byte, or the state stays and the item is left out or rests: it has a target, stands at the path seen, is clean and
-/// in sync. A tombstone at its turn is told so, or the state stays and it is left out.
+/// in sync. A tombstone at its turn is reported so, or the state stays and it is left out.
 #[tactic(auto, using(crate::proofs::TurnsTold::turn_told, crate::proofs::TurnsTold::tombstone_told))]
 pub fn an_item_at_its_turn_is_told_or_rests()
     ensures item { (item : ItemId) (s : State) (u : Unit {0}) (t : State) → Invariant s → IsFair s.link → IsListening s → EndsFairly (push_turn item s) u t → no_number t ≡ false → IsTold s t ⊎ IsTurned s item t }
     ensures tombstone { (x : Tombstone) (s : State) (u : Unit {0}) (t : State) → Invariant s → IsFair s.link → IsListening s → EndsFairly (push_tombstone x s) u t → no_number t ≡ false → IsTold s t ⊎ ((t ≡ s) × (is_tombstone_left_out s x ≡ true)) }
 {}
 
-/// The uploads of a pass, where no file lacks a byte: a line tells of one, of a change or of a step that was left out; or the state
+/// The uploads of a pass, where no file lacks a byte: a line reports one, a change or a step that was left out; or the state
 /// stays, each tombstone is left out, and each item is left out or rests.
 #[tactic(auto, using(crate::proofs::PushesIdle::pushes_told))]
 pub fn uploads_are_told_or_none_is_left()
     ensures { (s : State) (u : Unit {0}) (t : State) → Invariant s → IsFair s.link → IsListening s → AreWhole s → EndsFairly (push_all s) u t → no_number t ≡ false → IsTold s t ⊎ IsIdle s t }
 {}
 
-/// So where all that the remote told is known, and no file lacks a byte, the uploads of a pass are told, or the state is settled after
+/// So where all that the remote reported is known, and no file lacks a byte, the uploads of a pass are reported, or the state is settled after
 /// them.
 #[tactic(auto, using(crate::proofs::ReadyRests::ready_settled))]
 pub fn untold_uploads_leave_a_settled_state()
