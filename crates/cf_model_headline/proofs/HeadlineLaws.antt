@@ -18,6 +18,7 @@ use Rattle.cf_model_headline.specs.Headline.{FindsVolume, Headline, Premises, Pr
 use Rattle.cf_model_headline.specs.Reports.{Report}
 use Rattle.cf_model_headline.proofs.AskedReads.{reads_answered}
 use Rattle.cf_model_headline.proofs.DehydratedLaws.{dehydrates_exactly}
+use Rattle.cf_model_headline.proofs.DoneLaws.{done_is_taken}
 use Rattle.cf_model_headline.proofs.HeldLaws.{data_is_held}
 use Rattle.cf_model_headline.proofs.KeptBytesLaws.{flushed_is_kept}
 use Rattle.cf_model_headline.proofs.MarkedLaws.{marks_give, shown_by_mark}
@@ -64,5 +65,6 @@ headline remote clusters report last premises runs = record {
   reads = reads_at_once remote clusters report last premises.fresh premises.fair runs;
   marks = marks_give remote clusters report last premises.fresh premises.fair runs;
   not_done = not_done_is_taken remote clusters report last premises.fresh premises.fair runs;
+  done = done_is_taken remote clusters report last premises.fresh premises.fair runs;
   flushed = flushed_is_kept remote clusters report last premises.fresh premises.fair runs;
 }

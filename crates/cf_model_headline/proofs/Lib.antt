@@ -13,6 +13,7 @@ pub mod ReadsGuarded
 pub mod ReadsLaws
 pub mod ReadsAtOnceLaws
 pub mod StaleLaws
+pub mod DoneLaws
 pub mod AskedReads
 pub mod HeldLines
 pub mod HeldLaws

@@ -42,7 +42,7 @@ use Rattle.cf_model.specs.State.{Power, State, book_now, start}
 use Rattle.cf_model.specs.Store.{Held}
 use Rattle.cf_model.specs.Trees.{Ends, Stops}
 use Rattle.cf_model.proofs.EpochLaws.{started_in_epoch}
-use Rattle.cf_model_laws.specs.Invariant.{All, Invariant, IsMessageRight, IsSound, TellsBytes, message_in}
+use Rattle.cf_model_laws.specs.Invariant.{All, IsMessageRight, IsSound, TellsBytes, TellsTruth, message_in}
 use Rattle.cf_model_laws.specs.Premises.{IsFair, IsFresh}
 use Rattle.cf_model_laws.proofs.ContentLaws.{run_sound}
 use Rattle.cf_model_laws.proofs.Gathered.{all_append, all_found, all_map}
@@ -53,7 +53,7 @@ use Rattle.cf_model_laws.proofs.OwnAsks.{kept_all}
 use Rattle.cf_model_laws.proofs.PassesGuarded.{one_message}
 use Rattle.cf_model_laws.proofs.RightItems.{no_way}
 use Rattle.cf_model_headline.specs.Reports.{OfEach, Report}
-use Rattle.cf_model_headline.specs.Stale.{IsLate, IsNotDone, LateIsStale, NotDoneIsTaken}
+use Rattle.cf_model_headline.specs.Stale.{Delivers, IsLate, IsNotDone, LateIsStale, NotDoneIsTaken}
 use Rattle.cf_model_headline.proofs.ReadsAtOnceLaws.{led_ends}
 use Rattle.cf_model_headline.proofs.ReadsLaws.{fair_before}
 use Rattle.cf_model_headline.proofs.StepCases.{IsCase, IsOver, step_case}
@@ -232,47 +232,47 @@ not_stale s held q (reply.Done token rid version) tells live = absurd live
 abbrev Any : {S : Type 0} → S → Type 0
 Any s = Unit {0}
 
-abbrev IsDone : Shown → State → Type 0
-IsDone q t = q ≡ shown.Done
+abbrev IsShownDone : Shown → State → Type 0
+IsShownDone q t = q ≡ shown.Done
 
-takes : (r : Reply) (s : State) → Leads Any IsDone (deliver_unless r false s)
+takes : (r : Reply) (s : State) → Leads Any IsShownDone (deliver_unless r false s)
 takes r s =
-    leads_bind Any (λ u t. Unit {0}) IsDone (act_on r (showing s)) (λ _ t. then_do drain (ret shown.Done) t)
+    leads_bind Any (λ u t. Unit {0}) IsShownDone (act_on r (showing s)) (λ _ t. then_do drain (ret shown.Done) t)
     (leads_any (λ u t. Unit {0}) (act_on r (showing s)) (λ u t. tt))
-    (λ u t j. leads_bind Any (λ v w. Unit {0}) IsDone (drain t) (λ _ w. ret shown.Done w) (leads_any (λ v w. Unit {0}) (drain t) (λ v w. tt)) (λ v w k. refl))
+    (λ u t j. leads_bind Any (λ v w. Unit {0}) IsShownDone (drain t) (λ _ w. ret shown.Done w) (leads_any (λ v w. Unit {0}) (drain t) (λ v w. tt)) (λ v w k. refl))
 
-answers_taken : (s : State) (held : Held) (r : Reply) (q : Request) (p : Shown) (t : State) → TellsBytes held q r → IsNotDone s r → Ends (deliver_reply r (Some (frame.Request q)) s) p t → p ≡ shown.Done
-answers_taken s held r q p t tells live e = by (is_stale q r s) (not_stale s held q r tells live) e where
+answers_taken : (s : State) (r : Reply) (q : Request) (p : Shown) (t : State) → is_stale q r s ≡ false → Ends (deliver_reply r (Some (frame.Request q)) s) p t → p ≡ shown.Done
+answers_taken s r q p t not_old e = by (is_stale q r s) not_old e where
   by : (b : Bool) → b ≡ false → Ends (deliver_unless r b s) p t → p ≡ shown.Done
   by true z k = no_way (sym z)
-  by false z k = led_ends IsDone (deliver_unless r false s) p t (takes r s) k
+  by false z k = led_ends IsShownDone (deliver_unless r false s) p t (takes r s) k
 
 -- the request that a reply answers
-asked_by : (s : State) (m answers : ℕ) (r : Reply) → IsSound s.link s.volatile.tokens s.filter → message_in s.link.messages m ≡ Some (frame.Reply answers r) → (q : Request) × (message_in s.link.messages answers ≡ Some (frame.Request q)) × TellsBytes s.link.remote q r
-asked_by s m answers r sound at =
-    let k : IsMessageRight s.link.remote s.link.messages s.filter.volume.epoch s.filter.waiting.key_count s.volatile.tokens (Some (frame.Reply answers r)) =
-    one_message (IsMessageRight s.link.remote s.link.messages s.filter.volume.epoch s.filter.waiting.key_count s.volatile.tokens) s.link.messages m (frame.Reply answers r) sound.messages at in
-    (k.1, k.2, k.3)
+asked_by : (s : State) (m answers : ℕ) (r : Reply) → IsSound s.link s.volatile.tokens s.filter → message_in s.link.messages m ≡ Some (frame.Reply answers r) → IsMessageRight s.link.remote s.link.messages s.filter.volume.epoch s.filter.waiting.key_count s.volatile.tokens (Some (frame.Reply answers r))
+asked_by s m answers r sound at = one_message (IsMessageRight s.link.remote s.link.messages s.filter.volume.epoch s.filter.waiting.key_count s.volatile.tokens) s.link.messages m (frame.Reply answers r) sound.messages at
 
 message_same : (s : State) (m : ℕ) → message_at s m ≡ message_in s.link.messages m
 message_same s zero = refl
 message_same s (suc n) = refl
 
-pub not_done_is_taken : (remote : Held) (clusters : ℕ) (report : Report) (last : State) → IsFresh remote → IsFair last.link → Runs mode.Replay (start mode.Replay remote clusters) report last
-    → OfEach mode.Replay remote clusters report last (λ before s e a t. NotDoneIsTaken s e a)
-not_done_is_taken remote clusters report last fresh fair all before rest s e a t parts runs is on r (number, answers, same, sent, power, linked) live stale =
-    wrong (by (step_case mode.Replay s (event.Engine (engine.Deliver number)) a t (subst (λ (x : Event). IsStep mode.Replay s x a t) same is)) stale) where
-      sound : Invariant s
-      sound = run_sound remote clusters before s runs fresh
+-- no reply of this kind is stale
+abbrev pub IsNeverStale : (State → Reply → Type 0) → Type 0
+IsNeverStale K =
+    (s : State) (answers : ℕ) (q : Request) (r : Reply) → IsSound s.link s.volatile.tokens s.filter → message_in s.link.messages answers ≡ Some (frame.Request q) → TellsTruth s.link.remote r → TellsBytes s.link.remote q r → K s r
+    → is_stale q r s ≡ false
 
-      wrong : ⊥ → ⊥
-      wrong z = z
+pub taken_where : (K : State → Reply → Type 0) → IsNeverStale K → (remote : Held) (clusters : ℕ) (report : Report) (last : State) → IsFresh remote → IsFair last.link → Runs mode.Replay (start mode.Replay remote clusters) report last
+    → OfEach mode.Replay remote clusters report last (λ before s e a t. (r : Reply) → Delivers s e r → K s r → a.shown ≢ shown.Refused code.Stale)
+taken_where K never remote clusters report last fresh fair all before rest s e a t parts runs is on r (number, answers, same, sent, power, linked) kind stale =
+    by (step_case mode.Replay s (event.Engine (engine.Deliver number)) a t (subst (λ (x : Event). IsStep mode.Replay s x a t) same is)) stale where
+      sound : IsSound s.link s.volatile.tokens s.filter
+      sound = (run_sound remote clusters before s runs fresh).1 (fair_before s ((e, a) ∷ rest) last (run_sound remote clusters before s runs fresh) (t, is, on) fair)
 
-      request_of : (q : Request) × (message_in s.link.messages answers ≡ Some (frame.Request q)) × TellsBytes s.link.remote q r
-      request_of = asked_by s number answers r (sound.1 (fair_before s ((e, a) ∷ rest) last sound (t, is, on) fair)) (sym (message_same s number) ∙ sent)
+      right : TellsTruth s.link.remote r × (q : Request) × (message_in s.link.messages answers ≡ Some (frame.Request q)) × TellsBytes s.link.remote q r
+      right = asked_by s number answers r sound (sym (message_same s number) ∙ sent)
 
-      asked : message_at s answers ≡ Some (frame.Request request_of.0)
-      asked = message_same s answers ∙ request_of.1
+      asked : message_at s answers ≡ Some (frame.Request right.1)
+      asked = message_same s answers ∙ right.2
 
       done : a.shown ≡ shown.Done → a.shown ≡ shown.Refused code.Stale → ⊥
       done d z = let y : ◌≡◌ {A = Shown} shown.Done (shown.Refused code.Stale) = sym d ∙ z in cc
@@ -283,7 +283,7 @@ not_done_is_taken remote clusters report last fresh fair all before rest s e a t
       ends : (b : Bool) → b ≡ true → (q : Shown) (u : State) → Ends (unless_down (deliver_now number) (not b) (begun s)) q u → q ≡ shown.Done
       ends false z q u k = no_way z
       ends true z q u k =
-          answers_taken (begun s) s.link.remote r request_of.0 q u request_of.2 live
+          answers_taken (begun s) r right.1 q u (never s answers right.1 r sound right.2 right.0 right.3 kind)
           (subst (λ (f : Option Frame). Ends (deliver_reply r f (begun s)) q u) asked (subst (λ (h : Option Frame). Ends (deliver_frame h (begun s)) q u) sent k))
 
       other : a.shown ≡ shown.Refused code.Device → a.shown ≡ shown.Refused code.Stale → ⊥
@@ -298,3 +298,7 @@ not_done_is_taken remote clusters report last fresh fair all before rest s e a t
       by : IsCase s (event.Engine (engine.Deliver number)) (t, a) → a.shown ≡ shown.Refused code.Stale → ⊥
       by (inl h) = λ z. nothing h.0 h.1
       by (inr h) = over h.1
+
+pub not_done_is_taken : (remote : Held) (clusters : ℕ) (report : Report) (last : State) → IsFresh remote → IsFair last.link → Runs mode.Replay (start mode.Replay remote clusters) report last
+    → OfEach mode.Replay remote clusters report last (λ before s e a t. NotDoneIsTaken s e a)
+not_done_is_taken = taken_where IsNotDone (λ s answers q r sound sent truth tells live. not_stale s s.link.remote q r tells live)

@@ -17,7 +17,7 @@ use Rattle.cf_model_headline.specs.Reads.{DataIsHeld, DataIsRight, ReadsAnswered
 use Rattle.cf_model_headline.specs.Refusals.{RefusalsLeave}
 use Rattle.cf_model_headline.specs.Reports.{OfEach, Report, standing}
 use Rattle.cf_model_headline.specs.Resumed.{ResumesRight}
-use Rattle.cf_model_headline.specs.Stale.{LateIsStale, NotDoneIsTaken}
+use Rattle.cf_model_headline.specs.Stale.{DoneIsTaken, LateIsStale, NotDoneIsTaken}
 use Rattle.cf_model_headline.specs.Tokens.{OneVersionEach}
 
 -- a restart finds a volume
@@ -44,6 +44,7 @@ pub record Headline (remote : Held) (clusters : ℕ) (report : Report) (last : S
   pub reads : OfEach mode.Replay remote clusters report last (λ before s e a t. ReadsAtOnce last.link.remote s e a)
   pub marks : MarksGiveNumbers report
   pub not_done : OfEach mode.Replay remote clusters report last (λ before s e a t. NotDoneIsTaken s e a)
+  pub done : OfEach mode.Replay remote clusters report last (λ before s e a t. DoneIsTaken s e a)
   pub flushed : FlushedIsKept report last.link.remote
 
 -- What it rests on. The remote that was handed in had recorded no token, and its items were numbered from 1. So far it replied

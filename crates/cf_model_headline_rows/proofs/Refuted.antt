@@ -11,6 +11,7 @@ use Rattle.cf_base.specs.declared.changes.Change.TheVariants as change
 use Rattle.cf_base.specs.declared.codes.Code.{Code}
 use Rattle.cf_base.specs.declared.codes.Code.TheVariants as code
 use Rattle.cf_base.specs.declared.ids.ItemId.{ItemId}
+use Rattle.cf_base.specs.declared.ids.Rid.{Rid}
 use Rattle.cf_base.specs.declared.ids.Token.{Token}
 use Rattle.cf_base.specs.declared.ids.Usn.{Usn}
 use Rattle.cf_base.specs.declared.ids.WaitId.{WaitId}
@@ -24,16 +25,17 @@ use Rattle.cf_base.specs.declared.notices.Notice.{Notice}
 use Rattle.cf_base.specs.declared.notices.Notice.TheVariants as notice
 use Rattle.cf_base.specs.declared.waits.End.TheVariants as end
 use Rattle.cf_base.specs.declared.waits.WaitKind.TheVariants as wait_kind
-use Rattle.cf_model.specs.Books.{QueueEntry, no_book, opened_of}
+use Rattle.cf_model.specs.Books.{PutFile, QueueEntry, no_book, opened_of}
 use Rattle.cf_model.specs.Contents.{base_named}
+use Rattle.cf_model.specs.Fits.{is_known}
 use Rattle.cf_model.specs.Identities.{content, identity_of}
 use Rattle.cf_model.specs.Items.{Item, item_of, root}
 use Rattle.cf_model.specs.Kept.{heirs_of}
 use Rattle.cf_model.specs.Logs.{items_of}
 use Rattle.cf_model.specs.LookUp.{find_path}
-use Rattle.cf_model.specs.Messages.{entry_live, message_at}
+use Rattle.cf_model.specs.Messages.{entry_live, known_now, message_at}
 use Rattle.cf_model.specs.Missing.{Wait, span_of}
-use Rattle.cf_model.specs.Numbers.{above}
+use Rattle.cf_model.specs.Numbers.{above, no_rid, root_rid}
 use Rattle.cf_model.specs.Settling.{bytes_at}
 use Rattle.cf_model.specs.State.{On, State, Volume, items_now}
 use Rattle.cf_model.specs.Store.{Held, Recorded, RecordedDone, empty_remote}
@@ -49,9 +51,9 @@ use Rattle.cf_model_headline.specs.Reads.{AnswersRead, DataIsHeld, DataIsRight, 
 use Rattle.cf_model_headline.specs.Refusals.{IsLeft, RefusalsLeave}
 use Rattle.cf_model_headline.specs.Reports.{Report, changes_in, standing}
 use Rattle.cf_model_headline.specs.Resumed.{ResumesRight}
-use Rattle.cf_model_headline.specs.Stale.{LateIsStale, NotDoneIsTaken}
+use Rattle.cf_model_headline.specs.Stale.{DoneIsTaken, LateIsStale, NotDoneIsTaken}
 use Rattle.cf_model_headline.specs.Tokens.{OneVersionEach}
-use Rattle.cf_model_headline_rows.specs.Changed.{answer_at, arrived, asked, delivered, file_of, found_none, given_wrongly, in_sync, in_use, numbered, opened_again, pending, read_wrongly, refused, refused_create, refused_otherwise, resumed_as, second, taken, taken_over, turned_away, unmarked, unrecorded, until_arrived, uploaded, usn, written}
+use Rattle.cf_model_headline_rows.specs.Changed.{answer_at, arrived, asked, delivered, file_of, found_none, given_wrongly, in_sync, in_use, numbered, opened_again, pending, read_wrongly, refused, refused_create, refused_otherwise, resumed_as, second, taken, taken_over, turned_away, unmarked, unrecorded, until_arrived, uploaded, uploaded_new, usn, written}
 use Rattle.cf_model_headline_rows.specs.Scripts.{crash, create_f, dehydrate_a, deliver, from_start, get_a, get_f, info_a, left_by, put_a, sync}
 
 no_truth : false ≡ true → ⊥
@@ -298,6 +300,38 @@ pub an_upload_turned_away : NotDoneIsTaken uploaded (deliver 3) turned_away → 
 an_upload_turned_away h = h not_made (3, 2, refl, refusal_so, up_so, joined_so) live refl where
   live : ◌≡◌ {A = Option QueueEntry} (entry_live uploaded (record { 0 = record { epoch = 1; number = 1 } })) None → ⊥
   live e = no_truth (sym (ap (λ (o : Option QueueEntry). is_some o) e) ∙ waited_for)
+
+abbrev first_token : Token
+first_token = record { 0 = record { epoch = 1; number = 1 } }
+
+abbrev new_upload : QueueEntry
+new_upload = record { token = first_token; item = second; action = PutFile; number = usn 1 2; rid = no_rid; parent = root_rid; name = codes "f" }
+
+abbrev its_file : Rid
+its_file = record { 0 = 2 }
+
+abbrev its_done : Reply
+its_done = reply.Done first_token its_file (record { 0 = 1 })
+
+done_so : message_at uploaded_new 3 ≡ Some (frame.Reply 2 its_done)
+done_so = refl
+
+on_its_way : entry_live uploaded_new first_token ≡ Some new_upload
+on_its_way = refl
+
+made_up : uploaded_new.power ≡ On
+made_up = refl
+
+made_joined : uploaded_new.filter.connected ≡ true
+made_joined = refl
+
+unknown_so : is_known (known_now uploaded_new) its_file ≡ false
+unknown_so = refl
+
+pub a_done_upload_turned_away : DoneIsTaken uploaded_new (deliver 3) turned_away → ⊥
+a_done_upload_turned_away h = h its_done (3, 2, refl, done_so, made_up, made_joined) (new_upload, on_its_way, inr (refl, below, unknown_so)) refl where
+  below : 1 < 2
+  below = omega arith
 
 pub another_byte_read : ReadsAtOnce written.link.remote written get_f read_wrongly → ⊥
 another_byte_read h = wrong (h (file_of written) (span_of 0 1) (refl, refl) refl refl refl (λ e. let y : ◌≡◌ {A = Shown} (shown.Ended (end.Data (codes "b"))) (shown.Refused code.Device) = e in cc)) where

@@ -146,6 +146,10 @@ uploaded = left_by (create_f ∷ put_f ∷ queue ∷ sync ∷ arrive 2 ∷ [])
 abbrev pub turned_away : Answer
 turned_away = with_shown (shown.Refused code.Stale) no_answer
 
+-- a reply that an upload made a new file is refused
+abbrev pub uploaded_new : State
+uploaded_new = left_by (create_f ∷ queue ∷ sync ∷ arrive 2 ∷ [])
+
 abbrev pub asked : State
 asked = left_by (put_a ∷ sync ∷ queue ∷ [])
 

@@ -11,9 +11,9 @@ ghost use Rattle.cf_model_headline.specs.Reads.{AnswersRead, DataIsHeld, DataIsR
 ghost use Rattle.cf_model_headline.specs.Refusals.{RefusalsLeave};
 ghost use Rattle.cf_model_headline.specs.Reports.{standing};
 ghost use Rattle.cf_model_headline.specs.Resumed.{ResumesRight};
-ghost use Rattle.cf_model_headline.specs.Stale.{LateIsStale, NotDoneIsTaken};
+ghost use Rattle.cf_model_headline.specs.Stale.{DoneIsTaken, LateIsStale, NotDoneIsTaken};
 ghost use Rattle.cf_model_headline.specs.Tokens.{OneVersionEach};
-ghost use Rattle.cf_model_headline_rows.specs.Changed.{arrived, asked, delivered, found_none, given_wrongly, in_sync, in_use, numbered, opened_again, pending, read_wrongly, refused, refused_create, refused_otherwise, resumed_as, taken, taken_over, unmarked, unrecorded, turned_away, until_arrived, uploaded, written};
+ghost use Rattle.cf_model_headline_rows.specs.Changed.{arrived, asked, delivered, found_none, given_wrongly, in_sync, in_use, numbered, opened_again, pending, read_wrongly, refused, refused_create, refused_otherwise, resumed_as, taken, taken_over, unmarked, unrecorded, turned_away, until_arrived, uploaded, uploaded_new, written};
 ghost use Rattle.cf_model_headline_rows.specs.Scripts.{create_f, dehydrate_a, deliver, from_start, get_a, get_f, info_a, left_by, put_a, sync};
 
 /// The line of a Mark is left out: the log has a change that the report does not show.
@@ -104,6 +104,12 @@ pub fn an_old_reply_is_taken()
 #[tactic(auto, using(crate::proofs::Refuted::an_upload_turned_away))]
 pub fn an_upload_is_turned_away()
     ensures { NotDoneIsTaken uploaded (deliver 3) turned_away → ⊥ }
+{}
+
+/// A reply that an upload on its way made a new file is refused as Stale.
+#[tactic(auto, using(crate::proofs::Refuted::a_done_upload_turned_away))]
+pub fn a_done_upload_is_turned_away()
+    ensures { DoneIsTaken uploaded_new (deliver 3) turned_away → ⊥ }
 {}
 
 /// `data` with another byte than was written here.
