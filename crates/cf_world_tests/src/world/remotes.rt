@@ -43,16 +43,17 @@ fn faults_of(alloc: Global, ask: u64) -> Result<Option<usize>, Fail> {
         return Ok(None);
     }
     let lines = lines_with(report, b"- fault ");
-    Ok(Some(lines + lines_with(report, b"= refused RemoteFault")))
+    let refused = lines_with(report, b"= refused RemoteFault");
+    Ok(Some(lines.saturating_add(refused)))
 }
 
 #[test]
 fn each_ask_that_fails_is_reported_once(rt: HostRuntime) -> Result<(), Fail> {
-    let mut all = 0;
+    let mut all: usize = 0;
     for ask in 1..=MOST_ASKS {
         let faults = faults_of(rt.alloc(), ask)?;
         assert!(rt; faults.is_some(), "ask {ask}");
-        all += faults.unwrap_or(0);
+        all = faults.unwrap_or(0).saturating_add(all);
     }
     assert!(rt; 8 <= all && all <= 16, "{all} faults");
     Ok(())
