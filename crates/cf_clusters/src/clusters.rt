@@ -2,7 +2,7 @@
 ghost use Rattle.std.specs.Prelude.{◌≡◌, ◌<◌, ◌≤◌, ◌+◌, ◌*◌, ◌↔◌, ◌∷◌, [], ℕ, length, map, replicate, slice_set, true, All, None, Some, Err, IfSome, IfNone, IfOk, OnOk, OnErr};
 ghost use Rattle.std.specs.List.{position_or_len};
 ghost use Rattle.std.specs.Option.{ForSome};
-ghost use Rattle.cf_disk.specs.Disk.{size_of, part, capped, SameBut, Leaves, Keeps, Counts, Rises, Spends};
+ghost use Rattle.cf_disk.specs.Disk.{size_of, part, SameBut, HasFailed, Leaves, Keeps, Counts, Rises, Spends, may_fail};
 ghost use Rattle.cf_clusters.specs.declared.uses.Use.TheVariants.{Free, Held, Staged, Dropped};
 ghost use Rattle.cf_clusters.specs.declared.clusters.ClusterError.TheVariants.{Failed, Full};
 ghost use Rattle.cf_clusters.specs.Roles.{committed, dropped_at, how_many, is_free, is_now, staged_at, use_of, AreApart, HoldsAll, IsUsed, Opens};
@@ -291,7 +291,8 @@ impl Data {
         ensures powers { (D.state disk.new).powers ≡ (D.state disk.old).powers }
         ensures counts { Counts 4096 result (D.state disk.old) (D.state disk.new) }
         ensures faults { (D.state disk.old).faults ≤ (D.state disk.new).faults }
-        ensures failed { result ≡ Err Failed → capped ((D.state disk.old).faults + 1) ≤ (D.state disk.new).faults }
+        ensures calm { may_fail (D.state disk.new).armed ≤ may_fail (D.state disk.old).armed }
+        ensures failed { result ≡ Err Failed → HasFailed (D.state disk.old) (D.state disk.new) }
         ensures spends { SpendsOne result (D.state disk.old) (D.state disk.new) }
     {
         let Some(cluster) = self.pick() else {

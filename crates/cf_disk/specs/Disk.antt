@@ -76,10 +76,24 @@ pub record Counts {T E : Type 0} (n : ℕ) (result : Result T E) (old new : Stat
   pub least : old.written ≤ new.written
   pub most : new.written ≤ old.written + n
 
--- the count of faults rose if the call failed
+-- Whether calls may fail, by the armed number where the disk reports it: 0 where it reports that none is armed, 1 where it reports a
+-- number, and 2 where it reports nothing.
+abbrev pub may_fail : Option (Option ℕ) → ℕ
+may_fail (Some None) = 0
+may_fail (Some (Some n)) = 1
+may_fail None = 2
+
+-- The count of faults rose if the call failed. No call of a disk fails that reports that none is armed, and no call arms it.
 pub record Rises {T E : Type 0} (result : Result T E) (old new : State) : Type 0 where
   pub least : old.faults ≤ new.faults
+  pub calm : may_fail new.armed ≤ may_fail old.armed
   pub failed : IsErr result → capped (old.faults + 1) ≤ new.faults
+  pub armed : IsErr result → 1 ≤ may_fail old.armed
+
+-- A call failed on the way from the one to the other: the count of faults rose, or stays at the most that it counts; and the disk did
+-- not report that none is armed.
+abbrev pub HasFailed : State → State → Type 0
+HasFailed old new = (capped (old.faults + 1) ≤ new.faults) × (1 ≤ may_fail old.armed)
 
 -- the list of power cuts has one more, or is no longer reported
 abbrev pub AddsPower : Choice → List ℕ → Option (List (Choice × List ℕ)) → Option (List (Choice × List ℕ)) → Type 0

@@ -1,5 +1,5 @@
 -- A filter whose disk is armed stands for what it stood for.
-use Rattle.std.proofs.Common.{◌≡◌, inl, sym, ◌∙◌, ap, subst, arith, length}
+use Rattle.std.proofs.Common.{◌≡◌, inl, sym, ◌∙◌, ap, subst, arith}
 use Rattle.cf_disk.specs.Disk.{IsUnchanged, Keeps, Leaves, State}
 use Rattle.cf_filter_machine.specs.Held.{Desk, Held}
 use Rattle.cf_filter_machine.specs.Sensing.{Stands, Stopped}
@@ -8,16 +8,12 @@ use Rattle.cf_volume_points.proofs.Points.{Fair}
 use Rattle.cf_volume_points.proofs.Readings.{read_at}
 use Rattle.cf_volume_points.specs.At.{At}
 use Rattle.cf_volume_points.specs.Known.{Known}
-use Rattle.cf_volume.specs.Calls.{Runs}
 
 still_keeps : (d e : State) → IsUnchanged d e → Keeps d e
 still_keeps d e u = record { seen = u.seen; crash = u.crash }
 
 still_leaves : (d e : State) → IsUnchanged d e → Leaves d e d.may_leave
 still_leaves d e u = record { later = omega (arith, u.moment); now = u.crash; since = λ t c le left. inl (u.since t c left) }
-
-pub armed_runs : (d e : State) → IsUnchanged d e → Runs d e
-armed_runs d e u = record { size = ap length u.seen; powers = u.powers; faults = omega (arith, u.faults) }
 
 module _ {D : Type 0} (state : D → State) (x y : Held D) (same : IsUnchanged (state x.disk) (state y.disk)) (known : y.known ≡ x.known) (desk : y.desk ≡ x.desk) where
   pub armed_stands : Fair (state y.disk) → (s : Filter) → Stands state x s → Stands state y s

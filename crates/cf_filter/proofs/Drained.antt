@@ -32,6 +32,7 @@ use Rattle.cf_model.specs.Ports.{Act, Acts, with_rest}
 use Rattle.cf_model.specs.State.{Filter}
 use Rattle.cf_model.specs.Words.{part}
 use Rattle.cf_volume_points.proofs.KeptSound.{means_all}
+use Rattle.cf_volume.specs.Calls.{Runs}
 use Rattle.cf_volume_points.specs.Standing.{cluster_on}
 use Rattle.cf_filter_steps.specs.Answering.{Answers, Any, Reads}
 use Rattle.cf_table.specs.Tables.{row_of}
@@ -145,18 +146,18 @@ module _ {D P : Type 0} (state : D → State) (answers : Answering P) where
   cut_more p s mid ask rest acts after q t (next ∷ more) out does none gives cut = (ask, rest, out, mid, does, none, after, gives, cut)
 
   drains_on : (n : ℕ) (p after q : P) (x next y z : Held D) (ask : Ask) (rest : List Ask) (s mid t : Filter) (r : Result (Unit {0}) CallError) → s.outbox ≡ ask ∷ rest
-      → (state x.disk).faults ≤ (state y.disk).faults → TurnTo state answers ask p next (with_rest rest s) (Ok (record {})) after y mid → DrainsTo n state answers after y mid r q z t → DrainsTo (n + 1) state answers p x s r q z t
-  drains_on n p after q x next y z ask rest s mid t (Ok u) out least turn more = (
+      → Runs (state x.disk) (state y.disk) → TurnTo state answers ask p next (with_rest rest s) (Ok (record {})) after y mid → DrainsTo n state answers after y mid r q z t → DrainsTo (n + 1) state answers p x s r q z t
+  drains_on n p after q x next y z ask rest s mid t (Ok u) out ran turn more = (
     record { runs = turn.0 ∷ more.0.runs; few = omega (arith, more.0.few); drained = (ask, rest, out, mid, turn.1, turn.2, after, turn.3, more.0.drained) },
     more.1,
   )
-  drains_on n p after q x next y z ask rest s mid t (Err (No c)) out least turn more = (
+  drains_on n p after q x next y z ask rest s mid t (Err (No c)) out ran turn more = (
     more.0,
     record { runs = turn.0 ∷ more.1.runs; few = omega (arith, more.1.few); cut = cut_more p s mid ask rest turn.0 after q t more.1.runs out turn.1 turn.2 turn.3 more.1.cut },
     more.2,
-    rose_on (state x.disk) (state y.disk) (state z.disk) least more.3,
+    rose_on (state x.disk) (state y.disk) (state z.disk) ran more.3,
   )
-  drains_on n p after q x next y z ask rest s mid t (Err OutOfMemory) out least turn more = more
+  drains_on n p after q x next y z ask rest s mid t (Err OutOfMemory) out ran turn more = more
 
   turn_stands : (ask : Ask) (p q : P) (x y : Held D) (s t : Filter) → TurnTo state answers ask p x s (Ok (record {})) q y t → Stands state y t
   turn_stands ask p q x y s t turn = turn.4
@@ -170,7 +171,7 @@ module _ {D P : Type 0} (state : D → State) (answers : Answering P) where
         let a = turn.leads (with_rest some.0 s) (popped x next some.0 s some.2 h) in
         let b = more.leads a.0 (turn_stands ask p after next y (with_rest some.0 s) a.0 a.2) in
         let m = popped_moved x next y some.0 s a.0 some.2 a.1 in
-        (b.0, (sense state).goes_on x y z s a.0 b.0 m b.1, drains_on n p after q x next y z ask some.0 s a.0 b.0 r out m.runs.faults a.2 b.2);
+        (b.0, (sense state).goes_on x y z s a.0 b.0 m b.1, drains_on n p after q x next y z ask some.0 s a.0 b.0 r out m.runs a.2 b.2);
   }
 
   stops_to : (p q : P) (x next y : Held D) (ask : Ask) (rest : List Ask) (s t : Filter) (e : CallError) → s.outbox ≡ ask ∷ rest → next ≡ record x { desk = record x.desk { outbox = rest } } → TurnTo state answers ask p next (with_rest rest s) (Err e) q y t
@@ -233,7 +234,7 @@ module _ {D P : Type 0} (state : D → State) (answers : Answering P) where
       let o = err_from_is_err_and r is in subst (λ (u : Result Shown CallError). CallsTo state answers part p x s u q y) (sym (o.1 ∙ ap (λ (z : CallError). Err z) o.2)) (by e (subst (λ (u : Result Shown CallError). PartTo state part x s u mid) was first) drains)
     where
       by : (f : CallError) → PartTo state part x s (Ok a) mid → Drains most state answers p mid (Err f) q y → CallsTo state answers part p x s (Err f) q y
-      by (No c) b d = let u = d.leads b.0 b.3 in (u.2.0, u.0, (sense state).goes_on x mid y s b.0 u.0 b.2 u.1, u.2.2, rose_on (state x.disk) (state mid.disk) (state y.disk) b.2.runs.faults u.2.3, inr (a, b.0, b.1, u.2.1))
+      by (No c) b d = let u = d.leads b.0 b.3 in (u.2.0, u.0, (sense state).goes_on x mid y s b.0 u.0 b.2 u.1, u.2.2, rose_on (state x.disk) (state mid.disk) (state y.disk) b.2.runs u.2.3, inr (a, b.0, b.1, u.2.1))
       by OutOfMemory b d = let u = d.leads b.0 b.3 in (u.0, (sense state).goes_on x mid y s b.0 u.0 b.2 u.1, u.2)
 
   pub calls_end : (part : Arrow Filter Shown) (p q : P) (x mid y z : Held D) (s : Filter) (told : Result Shown CallError) (a b : Shown) (u : Unit {0}) → PartTo state part x s told mid → told ≡ Ok a → Drains most state answers p mid (Ok u) q y

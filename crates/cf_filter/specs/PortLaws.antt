@@ -9,6 +9,7 @@ use Rattle.cf_filter.specs.Porting.{Goes, GoneTo, StaysBroken, notes_of}
 use Rattle.cf_filter_machine.specs.Sensing.{Rose, Stands, Stopped, rose_on, sense}
 use Rattle.cf_model.specs.Ports.{Act, Acts, Did, Failed, HasFailed, Noted, noted_by}
 use Rattle.cf_model.specs.State.{Filter, Volume, with_notes}
+use Rattle.cf_volume.specs.Calls.{Runs}
 
 pub false_true : {A : Type 0} → false ≡ true → A
 false_true e = let bad : ⊥ = cc in absurd bad
@@ -97,12 +98,12 @@ module _ {D : Type 0} (state : D → State) where
           ∙ ap (λ (l : List Notice). record x.desk { notes = l }) (append_assoc x.desk.notes (notes_of acts) (notes_of more) ∙ ap (λ (l : List Notice). x.desk.notes ++ l) (sym (notes_both acts more)))
 
   -- after acts of which none failed
-  gone_on : (broken lost : Bool) (acts more : List Act) (x : Held D) (s : Filter) (y : Held D) (t : Filter) (z : Held D) (u : Filter) → (state x.disk).faults ≤ (state y.disk).faults → Acts s acts t → NoneFailed acts → GoneTo state broken lost more y t z u
+  gone_on : (broken lost : Bool) (acts more : List Act) (x : Held D) (s : Filter) (y : Held D) (t : Filter) (z : Held D) (u : Filter) → Runs (state x.disk) (state y.disk) → Acts s acts t → NoneFailed acts → GoneTo state broken lost more y t z u
       → GoneTo state broken lost (acts ++ more) x s z u
-  gone_on false lost acts more x s y t z u least h none k = (acts_on s acts t more u h none k.0, none_both acts more none k.1, k.2)
-  gone_on true false acts more x s y t z u least h none k =
-      (acts_on s acts t more u h none k.0, failed_later acts more k.1, k.2, rose_on (state x.disk) (state y.disk) (state z.disk) least k.3)
-  gone_on true true acts more x s y t z u least h none k = k
+  gone_on false lost acts more x s y t z u runs h none k = (acts_on s acts t more u h none k.0, none_both acts more none k.1, k.2)
+  gone_on true false acts more x s y t z u runs h none k =
+      (acts_on s acts t more u h none k.0, failed_later acts more k.1, k.2, rose_on (state x.disk) (state y.disk) (state z.disk) runs k.3)
+  gone_on true true acts more x s y t z u runs h none k = k
 
   -- after acts that met Device
   gone_noted : (lost : Bool) (acts more : List Act) (s t : Filter) (x y z : Held D) → z.desk.lost ≡ lost → Acts s acts t → HasFailed acts → Stopped state y t → Rose (state x.disk) (state y.disk) → StaysBroken y more z → GoneTo state true lost (acts ++ more) x s z (noted_by more t)
@@ -136,7 +137,7 @@ module _ {D : Type 0} (state : D → State) where
           → (u : Filter) × Moved (state x.disk) (state z.disk) s.volume u.volume × GoneTo state z.desk.broken z.desk.lost (acts ++ more) x s z u
       by s i t m false l e f gone =
           let b = h.leads t gone.2 in
-          (b.0, (sense state).goes_on x y z s t b.0 m b.1, gone_on z.desk.broken z.desk.lost acts more x s y t z b.0 m.runs.faults gone.0 gone.1 b.2)
+          (b.0, (sense state).goes_on x y z s t b.0 m b.1, gone_on z.desk.broken z.desk.lost acts more x s y t z b.0 m.runs gone.0 gone.1 b.2)
       by s i t m true false e f gone =
           let stays = h.still e in (
             noted_by more t,

@@ -106,7 +106,6 @@ impl<D: Disk> Filter<D> {
     pub fn arm(&mut self, calls: u32)
         ensures stands { (s : model) → Stands D.state self.old s → Stands D.state self.new s }
         ensures stopped { (s : model) → Stopped D.state self.old s → Stopped D.state self.new s }
-        ensures runs { Runs (D.state self.old.disk) (D.state self.new.disk) }
         ensures same { IsUnchanged (D.state self.old.disk) (D.state self.new.disk) }
         ensures armed { (D.state self.new.disk).armed ≡ option_map (λ _. Some calls) (D.state self.old.disk).armed }
         ensures known { self.new.known ≡ self.old.known }

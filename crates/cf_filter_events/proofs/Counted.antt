@@ -1,8 +1,8 @@
 -- The disk's count of failed calls over calls of the filter.
-use Rattle.std.proofs.Common.{◌≡◌, ◌≤◌, Bool, true, false, List, [], refl, sym, ap, subst, ◌∙◌, inl, inr, arith}
-use Rattle.std.specs.Prelude.{◌⊎◌, IfOk, Result, Ok, Err}
+use Rattle.std.proofs.Common.{◌≡◌, ◌≤◌, ◌+◌, ℕ, Bool, true, false, List, [], refl, sym, ap, subst, ◌∙◌, inl, inr, arith}
+use Rattle.std.specs.Prelude.{◌⊎◌, IfOk, None, Option, Result, Ok, Err, Some, option_map}
 use Rattle.cf_filter_events.specs.Answered.{answer_with, answered_by, showing}
-use Rattle.cf_filter_events.specs.Counted.{CountsIf, CountsTo, Counts, StepsOn, known_as, known_by, meets_device}
+use Rattle.cf_filter_events.specs.Counted.{CountsBy, CountsIf, CountsOver, CountsTo, Counts, GoesOn, StepsOn, arms, known_as, known_by, meets_device}
 use Rattle.cf_filter_events.specs.Actors.{Acts, hushed}
 use Rattle.cf_filter_events.specs.Meaning.{Is, IsBegun, IsOn}
 use Rattle.cf_filter_events.specs.Pasts.{Past}
@@ -20,7 +20,7 @@ use Rattle.cf_base.specs.declared.events.Event.{Event}
 use Rattle.cf_base.specs.declared.memory.OutOfMemory.{OutOfMemory as NoMemory}
 use Rattle.cf_base.specs.declared.notices.Notice.{Notice}
 use Rattle.cf_base.specs.declared.policies.Mode.{Mode}
-use Rattle.cf_disk.specs.Disk.{State as Disk}
+use Rattle.cf_disk.specs.Disk.{State as Disk, may_fail}
 use Rattle.cf_engine_host.specs.Callbacks.{Answering}
 use Rattle.cf_filter.specs.Calling.{Asks, Calls, Told, answer_of, is_stopped, noted, shown_by}
 use Rattle.cf_filter.specs.Draining.{CallsTo, Provides}
@@ -34,6 +34,21 @@ use Rattle.cf_volume.specs.Calls.{IsCause, IsRefused, Runs, StopsOnly}
 never_both : {A : Type 0} → false ≡ true → A
 never_both e = let z : false ≡ true = e in absurd cc
 
+-- a disk that is not used
+pub stays : (d : Disk) → GoesOn d d
+stays d = (omega arith, omega arith)
+
+-- a disk after calls
+pub ran_on : (d e : Disk) → Runs d e → GoesOn d e
+ran_on d e runs = (runs.faults, runs.calm)
+
+-- a power cut ends what was armed
+pub cut_off : (d e : Disk) → e.faults ≡ d.faults → e.armed ≡ option_map (λ _. None) d.armed → GoesOn d e
+cut_off d e same armed = (omega (arith, same), by d.armed armed) where
+  by : (a : Option (Option ℕ)) → e.armed ≡ option_map (λ _. None) a → may_fail e.armed ≤ may_fail a
+  by None is = omega (arith, ap may_fail is)
+  by (Some n) is = omega (arith, ap may_fail is)
+
 -- the count over a call that was stopped
 abbrev RoseBy : {A : Type 0} → Told A → Disk → Disk → Type 0
 RoseBy (Ok r) d e = Unit {0}
@@ -41,37 +56,54 @@ RoseBy (Err (No c)) d e = Rose d e
 RoseBy (Err OutOfMemory) d e = Unit {0}
 
 -- an answer that tells of no device call that failed
-pub plain_counts : (a : Answer) (d e : Disk) → d.faults ≤ e.faults → meets_device a.shown ≡ false → CountsTo (Ok a) d e
+pub plain_counts : (a : Answer) (d e : Disk) → GoesOn d e → meets_device a.shown ≡ false → CountsTo (Ok a) d e
 plain_counts a d e least plain = (least, λ met. never_both (sym plain ∙ met))
 
-pub shown_counts : (a : Answer) (r : Shown) (d e : Disk) → a ≡ answer_with r [] → meets_device r ≡ false → e.faults ≡ d.faults → CountsTo (Ok a) d e
-shown_counts a r d e is plain same = plain_counts a d e (omega (arith, same)) (ap (λ (b : Answer). meets_device b.shown) is ∙ plain)
+pub shown_counts : (a : Answer) (r : Shown) (d e : Disk) → a ≡ answer_with r [] → meets_device r ≡ false → GoesOn d e → CountsTo (Ok a) d e
+shown_counts a r d e is plain goes = plain_counts a d e goes (ap (λ (b : Answer). meets_device b.shown) is ∙ plain)
 
 pub counts_always : {X : Type 0} (Is : Past → X → State → Type 0) (x : X) (r : Result Answer NoMemory) (d e : Disk) → CountsTo r d e → Counts Is x r d e
 counts_always Is x r d e h = record { counts = λ past s is. h }
 
+-- of an event, which may be a stop
+
+pub counts_by : (n : ℕ) (r : Result Answer NoMemory) (d e : Disk) → CountsTo r d e → CountsBy n r d e
+counts_by n (Ok a) d e h = (h.0.0, omega (arith, h.0.1), h.1)
+counts_by n (Err m) d e h = record {}
+
+pub stop_counts : (calls : ℕ) (a : Answer) (r : Shown) (d e : Disk) → a ≡ answer_with r [] → meets_device r ≡ false → e.faults ≡ d.faults → e.armed ≡ option_map (λ _. Some calls) d.armed → CountsBy 1 (Ok a) d e
+stop_counts calls a r d e is plain same armed = (omega (arith, same), by d.armed armed, λ met. never_both (sym (ap (λ (b : Answer). meets_device b.shown) is ∙ plain) ∙ met))
+  where
+    by : (o : Option (Option ℕ)) → e.armed ≡ option_map (λ _. Some calls) o → may_fail e.armed ≤ may_fail o + 1
+    by None h = omega (arith, ap may_fail h)
+    by (Some None) h = omega (arith, ap may_fail h)
+    by (Some (Some n)) h = omega (arith, ap may_fail h)
+
+pub counts_event : {X : Type 0} (Is : Past → X → State → Type 0) (e : Event) (x : X) (r : Result Answer NoMemory) (d f : Disk) → CountsBy (arms e) r d f → CountsOver Is e x r d f
+counts_event Is e x r d f h = record { counts = λ past s is. h }
+
 pub plain_if : (a : Answer) (b : Bool) (d : Disk) → meets_device a.shown ≡ false → CountsIf b (Ok a) d d
-plain_if a b d plain = (omega arith, λ broken met. never_both (sym plain ∙ met))
+plain_if a b d plain = (stays d, λ broken met. never_both (sym plain ∙ met))
 
 -- a filter that is not broken
-whole_counts : (b : Bool) (r : Result Answer NoMemory) (d e : Disk) → d.faults ≤ e.faults → b ≡ false → CountsIf b r d e
+whole_counts : (b : Bool) (r : Result Answer NoMemory) (d e : Disk) → GoesOn d e → b ≡ false → CountsIf b r d e
 whole_counts b (Ok a) d e least whole = (least, λ broken met. never_both (sym whole ∙ broken))
 whole_counts b (Err m) d e least whole = record {}
 
-told_counts : {A : Type 0} (q : Told A) (show : A → Shown) (ns : List Notice) (b : Bool) (d e : Disk) → d.faults ≤ e.faults → b ≡ is_stopped q → RoseBy q d e → CountsIf b (answered_by (showing show (answer_of q)) ns) d e
+told_counts : {A : Type 0} (q : Told A) (show : A → Shown) (ns : List Notice) (b : Bool) (d e : Disk) → GoesOn d e → b ≡ is_stopped q → RoseBy q d e → CountsIf b (answered_by (showing show (answer_of q)) ns) d e
 told_counts (Ok (Ok a)) show ns b d e least is rose = (least, λ broken met. never_both (sym is ∙ broken))
 told_counts (Ok (Err c)) show ns b d e least is rose = (least, λ broken met. never_both (sym is ∙ broken))
 told_counts (Err (No c)) show ns b d e least is rose = (least, λ broken met. rose)
 told_counts (Err OutOfMemory) show ns b d e least is rose = record {}
 
 -- a call after one that was stopped
-broken_counts : {A : Type 0} (r : Result A CallError) (show : A → Shown) (ns : List Notice) (b : Bool) (d e : Disk) → r ≡ Err (No code.Broken) → d.faults ≤ e.faults → CountsIf b (answered_by (showing show r) ns) d e
+broken_counts : {A : Type 0} (r : Result A CallError) (show : A → Shown) (ns : List Notice) (b : Bool) (d e : Disk) → r ≡ Err (No code.Broken) → GoesOn d e → CountsIf b (answered_by (showing show r) ns) d e
 broken_counts {A} r show ns b d e is least =
     let h : CountsIf b (answered_by (showing show (Err (No code.Broken))) ns) d e = (least, λ broken met. never_both met) in
     subst (λ (w : Result A CallError). CountsIf b (answered_by (showing show w) ns) d e) (sym is) h
 
 -- an opening that failed
-pub failed_counts : (e : CallError) (c d : Disk) → c.faults ≤ d.faults → StopsOnly e ⊎ (IsRefused e code.NotAVolume ⊎ IsRefused e code.Exhausted) → IsCause e c d → CountsTo (answered_by (Err e) []) c d
+pub failed_counts : (e : CallError) (c d : Disk) → GoesOn c d → StopsOnly e ⊎ (IsRefused e code.NotAVolume ⊎ IsRefused e code.Exhausted) → IsCause e c d → CountsTo (answered_by (Err e) []) c d
 failed_counts OutOfMemory c d least only cause = record {}
 failed_counts (No k) c d least (inl stopped) cause = (least, λ met. cause stopped)
 failed_counts (No k) c d least (inr (inl absent)) cause = (least, λ met. never_both (sym (ap is_device absent) ∙ met))
@@ -85,8 +117,8 @@ module _ {D : Type 0} (state : D → Disk) where
   rose_after show (Err (No c)) x y t h = h.1
   rose_after show (Err OutOfMemory) x y t h = record {}
 
-  same_least : (x y : Held D) → y ≡ x → (state x.disk).faults ≤ (state y.disk).faults
-  same_least x y same = let e = ap (λ (z : Held D). (state z.disk).faults) same in omega (arith, e)
+  same_least : (x y : Held D) → y ≡ x → GoesOn (state x.disk) (state y.disk)
+  same_least x y same = subst (λ (z : Held D). GoesOn (state x.disk) (state z.disk)) (sym same) (stays (state x.disk))
 
   call_counts : {A : Type 0} (part : Arrow Filter Shown) (show : A → Shown) (ns : List Notice) (x y : Held D) (r : Result A CallError) (f : Filter) → Calls (sense state) show part x r y → (x.desk.broken ≡ false → Stands state x f)
       → CountsIf y.desk.broken (answered_by (showing show r) ns) (state x.disk) (state y.disk)
@@ -98,14 +130,14 @@ module _ {D : Type 0} (state : D → Disk) where
           let d = calls.does is in
           let h = d.2.leads f (stands is) (record {}) in
           subst (λ (w : Result A CallError). CountsIf y.desk.broken (answered_by (showing show w) ns) (state x.disk) (state y.disk)) (sym d.1)
-          (told_counts d.0 show ns y.desk.broken (state x.disk) (state y.disk) h.2.runs.faults d.3 (rose_after show d.0 x y h.0 h.3))
+          (told_counts d.0 show ns y.desk.broken (state x.disk) (state y.disk) (ran_on (state x.disk) (state y.disk) h.2.runs) d.3 (rose_after show d.0 x y h.0 h.3))
 
   rose_back : {P A : Type 0} (answers : Answering P) (part : Arrow Filter Shown) (show : A → Shown) (q : Told A) (p left : P) (x y : Held D) (s : Filter) → CallsTo state answers part p x s (shown_by show q) left y
-      → ((state x.disk).faults ≤ (state y.disk).faults) × RoseBy q (state x.disk) (state y.disk)
-  rose_back answers part show (Ok (Ok a)) p left x y s h = (h.6.runs.faults, record {})
-  rose_back answers part show (Ok (Err c)) p left x y s h = (h.6.runs.faults, record {})
-  rose_back answers part show (Err (No c)) p left x y s h = (h.2.runs.faults, h.4)
-  rose_back answers part show (Err OutOfMemory) p left x y s h = (h.1.runs.faults, record {})
+      → GoesOn (state x.disk) (state y.disk) × RoseBy q (state x.disk) (state y.disk)
+  rose_back answers part show (Ok (Ok a)) p left x y s h = (ran_on (state x.disk) (state y.disk) h.6.runs, record {})
+  rose_back answers part show (Ok (Err c)) p left x y s h = (ran_on (state x.disk) (state y.disk) h.6.runs, record {})
+  rose_back answers part show (Err (No c)) p left x y s h = (ran_on (state x.disk) (state y.disk) h.2.runs, h.4)
+  rose_back answers part show (Err OutOfMemory) p left x y s h = (ran_on (state x.disk) (state y.disk) h.1.runs, record {})
 
   back_counts : {P A : Type 0} (answers : Answering P) (part : Arrow Filter Shown) (show : A → Shown) (ns : List Notice) (p left : P) (x y : Held D) (r : Result A CallError) (f : Filter) → Provides state answers Any show part p x r left y → (x.desk.broken ≡ false → Stands state x f)
       → CountsIf y.desk.broken (answered_by (showing show r) ns) (state x.disk) (state y.disk)
@@ -145,7 +177,7 @@ known_to b (Ok a) d e h = known_count b (meets_device a.shown) a d e refl h
 known_to b (Err m) d e h = record {}
 
 never_broken : (r : Result Answer NoMemory) (d : Disk) → CountsIf false r d d
-never_broken (Ok b) d = (omega arith, λ broken met. never_both broken)
+never_broken (Ok b) d = (stays d, λ broken met. never_both broken)
 never_broken (Err m) d = record {}
 
 -- of an event that leaves the disk
@@ -191,10 +223,10 @@ module _ {D A : Type 0} (acts : Acts A) (state : D → Disk) where
       subst (λ (w : Result Answer NoMemory). CountsTo w (state x.filter.disk) (state y.filter.disk)) (sym is) (known_to b r (state x.filter.disk) (state y.filter.disk) counts)
 
   -- of the open volume
-  pub counts_over : (x : Run D A) (r : Result Answer NoMemory) (d e : Disk) → Counts (IsOn acts state) x r d e → Counts (Is acts state) (acting.On x) r d e
-  counts_over x r d e h = record { counts = λ past s on. h.counts past s on }
+  pub counts_over : (e : Event) (x : Run D A) (r : Result Answer NoMemory) (d f : Disk) → Counts (IsOn acts state) x r d f → CountsOver (Is acts state) e (acting.On x) r d f
+  counts_over e x r d f h = record { counts = λ past s on. counts_by (arms e) r d f (h.counts past s on) }
 
   -- a restart that opened the volume
   pub opened_counts : (d : D) (x : Held D) (back : Acting D A) (r : Result Answer NoMemory) → Runs (state d) (state x.disk) → back ≡ acting.On (record { filter = x; actor = actor_of back }) → IfOk r (λ a. meets_device a.shown ≡ false) → CountsTo r (state d) (state (disk_of back))
-  opened_counts d x back (Ok a) runs is plain = subst (λ (n : D). CountsTo (Ok a) (state d) (state n)) (sym (ap disk_of is)) (plain_counts a (state d) (state x.disk) runs.faults plain)
+  opened_counts d x back (Ok a) runs is plain = subst (λ (n : D). CountsTo (Ok a) (state d) (state n)) (sym (ap disk_of is)) (plain_counts a (state d) (state x.disk) (ran_on (state d) (state x.disk) runs) plain)
   opened_counts d x back (Err m) runs is plain = record {}

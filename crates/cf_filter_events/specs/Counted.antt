@@ -1,5 +1,5 @@
--- How the disk's count of failed calls goes with the answers of events.
-use Rattle.std.specs.Prelude.{◌≡◌, ◌≤◌, Bool, true, false, Result, Ok, Err}
+-- How the disk's count of failed calls, and what is armed, go with the answers of events.
+use Rattle.std.specs.Prelude.{◌≡◌, ◌≤◌, ◌+◌, ℕ, Bool, true, false, Result, Ok, Err}
 use Rattle.cf_filter_events.specs.Actors.{Acts}
 use Rattle.cf_filter_events.specs.Meaning.{IsBegun, IsOn}
 use Rattle.cf_filter_events.specs.Pasts.{Past}
@@ -8,9 +8,12 @@ use Rattle.cf_filter_events.specs.declared.places.Running.{Running as Run}
 use Rattle.cf_base.specs.declared.answers.Answer.{Answer}
 use Rattle.cf_base.specs.declared.answers.Shown.{Shown}
 use Rattle.cf_base.specs.declared.answers.Shown.TheVariants as shown
+use Rattle.cf_base.specs.declared.events.DeviceEvent.{DeviceEvent}
+use Rattle.cf_base.specs.declared.events.DeviceEvent.TheVariants as device
 use Rattle.cf_base.specs.declared.events.Event.{Event}
+use Rattle.cf_base.specs.declared.events.Event.TheVariants as event
 use Rattle.cf_base.specs.declared.memory.OutOfMemory.{OutOfMemory as NoMemory}
-use Rattle.cf_disk.specs.Disk.{State as Disk}
+use Rattle.cf_disk.specs.Disk.{State as Disk, may_fail}
 use Rattle.cf_filter_machine.specs.Sensing.{Rose}
 use Rattle.cf_model.specs.Arrows.{is_device}
 use Rattle.cf_model.specs.State.{State}
@@ -20,18 +23,44 @@ abbrev pub meets_device : Shown → Bool
 meets_device (shown.Refused c) = is_device c
 meets_device _ = false
 
--- The count of faults does not fall, and it rose where the event is answered as Device.
+-- The count of faults does not fall, and where no call could fail none can fail then.
+abbrev pub GoesOn : Disk → Disk → Type 0
+GoesOn d e = (d.faults ≤ e.faults) × (may_fail e.armed ≤ may_fail d.armed)
+
+-- So it is, and a call failed where the event is answered as Device.
 abbrev pub CountsTo : Result Answer NoMemory → Disk → Disk → Type 0
-CountsTo (Ok a) d e = (d.faults ≤ e.faults) × (meets_device a.shown ≡ true → Rose d e)
+CountsTo (Ok a) d e = GoesOn d e × (meets_device a.shown ≡ true → Rose d e)
 CountsTo (Err m) d e = Unit {0}
 
 -- in each state that the world stands for
 pub record Counts {X : Type 0} (Is : Past → X → State → Type 0) (old : X) (r : Result Answer NoMemory) (d e : Disk) : Type 0 where
   pub counts : (past : Past) (s : State) → Is past old s → CountsTo r d e
 
--- As CountsTo, but that the count rose is said only where the filter is broken after the event.
+-- a stop arms the disk, and no other event does
+abbrev pub arms_in : DeviceEvent → ℕ
+arms_in (device.Stop calls) = 1
+arms_in (device.Crash choice) = 0
+arms_in device.Restart = 0
+
+abbrev pub arms : Event → ℕ
+arms (event.Call c) = 0
+arms (event.Device e) = arms_in e
+arms (event.Peer e) = 0
+arms (event.Engine e) = 0
+arms (event.Provider e) = 0
+
+-- As CountsTo, but that calls may fail after a stop.
+abbrev pub CountsBy : ℕ → Result Answer NoMemory → Disk → Disk → Type 0
+CountsBy n (Ok a) d e = (d.faults ≤ e.faults) × (may_fail e.armed ≤ may_fail d.armed + n) × (meets_device a.shown ≡ true → Rose d e)
+CountsBy n (Err m) d e = Unit {0}
+
+-- in each state that the world stands for
+pub record CountsOver {X : Type 0} (Is : Past → X → State → Type 0) (e : Event) (old : X) (r : Result Answer NoMemory) (d f : Disk) : Type 0 where
+  pub counts : (past : Past) (s : State) → Is past old s → CountsBy (arms e) r d f
+
+-- As CountsTo, but that a call failed is said only where the filter is broken after the event.
 abbrev pub CountsIf : Bool → Result Answer NoMemory → Disk → Disk → Type 0
-CountsIf broken (Ok a) d e = (d.faults ≤ e.faults) × (broken ≡ true → meets_device a.shown ≡ true → Rose d e)
+CountsIf broken (Ok a) d e = GoesOn d e × (broken ≡ true → meets_device a.shown ≡ true → Rose d e)
 CountsIf broken (Err m) d e = Unit {0}
 
 -- an event that has begun on the open volume is a step of the definitions, with this answer; and the count

@@ -1,7 +1,7 @@
 //! Events of the device while the volume is open.
 
 ghost use Rattle.std.specs.Prelude.{◌≡◌, Ok, []};
-ghost use Rattle.cf_filter_events.specs.Counted.{CountsTo};
+ghost use Rattle.cf_filter_events.specs.Counted.{CountsBy};
 ghost use Rattle.cf_filter_events.specs.Meaning.{Is, IsOn};
 ghost use Rattle.cf_filter_events.specs.Stepped.{BearsOn, Steps, StepsOver};
 ghost use Rattle.cf_filter_events.specs.Answered.{answer_with};
@@ -23,7 +23,7 @@ impl<D: Disk, A: Actor> Running<D, A> {
     pub fn stop(&mut self, alloc: Global, calls: u32) -> Answer
         ensures steps { Steps A.acts.mode (IsOn A.acts D.state) (event.Device (device.Stop calls)) self.old (Ok result) self.new }
         ensures armed { BearsOn (device.Stop calls) (D.state self.old.filter.disk) (D.state self.new.filter.disk) }
-        ensures counts { CountsTo (Ok result) (D.state self.old.filter.disk) (D.state self.new.filter.disk) }
+        ensures counts { CountsBy 1 (Ok result) (D.state self.old.filter.disk) (D.state self.new.filter.disk) }
     {
         self.filter.arm(calls);
         plainly(alloc, Shown::Done)

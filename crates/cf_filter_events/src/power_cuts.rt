@@ -4,7 +4,7 @@
 ghost use Rattle.std.specs.Prelude.{◌≡◌, Err, IfOk, Ok, [], false, length, true};
 ghost use Rattle.cf_filter_events.specs.Actors.{Reopens};
 ghost use Rattle.cf_filter_events.specs.Answered.{answer_with, answered_by};
-ghost use Rattle.cf_filter_events.specs.Counted.{CountsTo, meets_device};
+ghost use Rattle.cf_filter_events.specs.Counted.{CountsBy, CountsTo, meets_device};
 ghost use Rattle.cf_filter_events.specs.Meaning.{Is, IsOff};
 ghost use Rattle.cf_filter_events.specs.Stepped.{BearsOn, Steps, StepsOver, actor_of, disk_of};
 ghost use Rattle.cf_filter_events.specs.declared.places.Acting.TheVariants as acting;
@@ -32,7 +32,7 @@ impl<D: Disk, A: Actor> Cut<D, A> {
     pub(crate) fn stop(&mut self, alloc: Global, calls: u32) -> Answer
         ensures steps { Steps A.acts.mode (IsOff A.acts D.state) (event.Device (device.Stop calls)) self.old (Ok result) self.new }
         ensures armed { BearsOn (device.Stop calls) (D.state self.old.disk) (D.state self.new.disk) }
-        ensures counts { CountsTo (Ok result) (D.state self.old.disk) (D.state self.new.disk) }
+        ensures counts { CountsBy 1 (Ok result) (D.state self.old.disk) (D.state self.new.disk) }
     {
         self.disk.arm(calls);
         plainly(alloc, Shown::Done)

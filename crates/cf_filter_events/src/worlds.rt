@@ -2,7 +2,7 @@
 #![tactic(auto, using(crate::proofs::Wholes::begins))]
 
 ghost use Rattle.std.specs.Prelude.{◌≡◌, ◌≤◌, ℕ, List, true, IfErr, IfOk};
-ghost use Rattle.cf_filter_events.specs.Counted.{Counts, CountsTo};
+ghost use Rattle.cf_filter_events.specs.Counted.{CountsBy, CountsOver, GoesOn, arms, arms_in};
 ghost use Rattle.cf_filter_events.specs.Meaning.{Is};
 ghost use Rattle.cf_filter_events.specs.Pasts.{Past, StandsFor};
 ghost use Rattle.cf_filter_events.specs.Stepped.{Bears, BearsOn, StepsOver, actor_of, disk_of};
@@ -48,7 +48,7 @@ impl<D: Disk, A: Actor> Acting<D, A> {
         ensures ok { (remote : Held) → A.acts.stands actor (start A.acts.mode remote (clusters_on (D.state disk).seen)) → IfOk result (λ a. (past : Past) → past.told ≡ (D.state disk).powers → Is A.acts D.state past a (start A.acts.mode remote (clusters_on (D.state disk).seen))) }
         ensures same { IfOk result (λ a. actor_of a ≡ actor) }
         ensures back { IfErr result (λ e. e.1 ≡ actor) }
-        ensures faults { IfOk result (λ a. (D.state disk).faults ≤ (D.state (disk_of a)).faults) }
+        ensures goes_on { IfOk result (λ a. GoesOn (D.state disk) (D.state (disk_of a))) }
         ensures only { IfErr result (λ e. StopsOnly e.2) }
         ensures cause { IfErr result (λ e. IsCause e.2 (D.state disk) (D.state e.0)) }
     {
@@ -60,13 +60,14 @@ impl<D: Disk, A: Actor> Acting<D, A> {
 
     /// Does an event of the mode, and answers it. A stop arms the disk with its number, a crash is one power cut of the disk with
     /// its choice, and no other event changes the power cuts that the disk reports. A restart that resumes opens what the image of
-    /// the last power cut stands for. The disk's count of faults does not fall, and rises in an event that is answered as Device.
+    /// the last power cut stands for. The disk's count of faults does not fall. In an event that is answered as Device a call of the
+    /// disk failed: the count rose, and a number was armed, where the disk reports that. Only a stop arms a number.
     /// Where memory runs out an event is not answered, and nothing more is said of the world.
     pub fn step(self, alloc: Global, event: &Event) -> (Acting<D, A>, Result<Answer, OutOfMemory>)
         requires { is_of A.acts.mode event.now ≡ true }
         ensures steps { StepsOver A.acts.mode (Is A.acts D.state) event.now self result.1 result.0 }
         ensures device { Bears event.now (D.state (disk_of self)) (D.state (disk_of result.0)) }
-        ensures counts { Counts (Is A.acts D.state) self result.1 (D.state (disk_of self)) (D.state (disk_of result.0)) }
+        ensures counts { CountsOver (Is A.acts D.state) event.now self result.1 (D.state (disk_of self)) (D.state (disk_of result.0)) }
     {
         match self {
             Acting::On(running) => step_on(alloc, running, event),
@@ -99,7 +100,7 @@ fn step_on<D: Disk, A: Actor>(
     requires { is_of A.acts.mode event.now ≡ true }
     ensures steps { StepsOver A.acts.mode (Is A.acts D.state) event.now (acting.On running) result.1 result.0 }
     ensures device { Bears event.now (D.state running.filter.disk) (D.state (disk_of result.0)) }
-    ensures counts { Counts (Is A.acts D.state) (acting.On running) result.1 (D.state running.filter.disk) (D.state (disk_of result.0)) }
+    ensures counts { CountsOver (Is A.acts D.state) event.now (acting.On running) result.1 (D.state running.filter.disk) (D.state (disk_of result.0)) }
 {
     match event {
         Event::Device(device) => device_on(alloc, running, *device),
@@ -117,7 +118,7 @@ fn device_on<D: Disk, A: Actor>(
 ) -> (Acting<D, A>, Result<Answer, OutOfMemory>)
     ensures steps { StepsOver A.acts.mode (Is A.acts D.state) (events.Device event) (acting.On running) result.1 result.0 }
     ensures device { BearsOn event (D.state running.filter.disk) (D.state (disk_of result.0)) }
-    ensures counts { CountsTo result.1 (D.state running.filter.disk) (D.state (disk_of result.0)) }
+    ensures counts { CountsBy (arms_in event) result.1 (D.state running.filter.disk) (D.state (disk_of result.0)) }
 {
     match event {
         DeviceEvent::Stop { calls } => {
@@ -144,7 +145,7 @@ fn step_off<D: Disk, A: Actor>(
     requires { is_of A.acts.mode event.now ≡ true }
     ensures steps { StepsOver A.acts.mode (Is A.acts D.state) event.now (acting.Off cut) result.1 result.0 }
     ensures device { Bears event.now (D.state cut.disk) (D.state (disk_of result.0)) }
-    ensures counts { CountsTo result.1 (D.state cut.disk) (D.state (disk_of result.0)) }
+    ensures counts { CountsBy (arms event.now) result.1 (D.state cut.disk) (D.state (disk_of result.0)) }
 {
     match event {
         Event::Device(device) => device_off(alloc, cut, *device),
@@ -162,7 +163,7 @@ fn device_off<D: Disk, A: Actor>(
 ) -> (Acting<D, A>, Result<Answer, OutOfMemory>)
     ensures steps { StepsOver A.acts.mode (Is A.acts D.state) (events.Device event) (acting.Off cut) result.1 result.0 }
     ensures device { BearsOn event (D.state cut.disk) (D.state (disk_of result.0)) }
-    ensures counts { CountsTo result.1 (D.state cut.disk) (D.state (disk_of result.0)) }
+    ensures counts { CountsBy (arms_in event) result.1 (D.state cut.disk) (D.state (disk_of result.0)) }
 {
     match event {
         DeviceEvent::Stop { calls } => {

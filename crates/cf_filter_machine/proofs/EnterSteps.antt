@@ -275,10 +275,10 @@ module _ {D : Type 0} (state : D → State) (dir : ItemId) (Q : Held D → Filte
       })
 
   -- seen from further back
-  entry_on : (x m y : Held D) (r : Result (Unit {0}) CallError) (t : Filter) → (state x.disk).faults ≤ (state m.disk).faults → AfterEntry state Q m r y t → AfterEntry state Q x r y t
-  entry_on x m y (Ok a) t least h = h
-  entry_on x m y (Err (No code)) t least h = (h.0, rose_on (state x.disk) (state m.disk) (state y.disk) least h.1)
-  entry_on x m y (Err OutOfMemory) t least h = h
+  entry_on : (x m y : Held D) (r : Result (Unit {0}) CallError) (t : Filter) → Runs (state x.disk) (state m.disk) → AfterEntry state Q m r y t → AfterEntry state Q x r y t
+  entry_on x m y (Ok a) t runs h = h
+  entry_on x m y (Err (No code)) t runs h = (h.0, rose_on (state x.disk) (state m.disk) (state y.disk) runs h.1)
+  entry_on x m y (Err OutOfMemory) t runs h = h
 
   pub enters_more : (x m y : Held D) (r : Result (Unit {0}) CallError) → Enters state dir (Coming state dir) (λ s. IsReadyEntry dir c s.volume) (one_change c) x (Ok unit) m
       → Enters state dir Q (MayEnter f dir (rest ++ last ∷ []) records) (changes_with f (rest ++ last ∷ [])) m r y
@@ -290,7 +290,7 @@ module _ {D : Type 0} (state : D → State) (dir : ItemId) (Q : Held D → Filte
           b.0,
           subst (λ (g : Arrow Filter (Unit {0})). Does (g s) r b.0) (sym (with_more_of f c last rest)) (trees.goes_on (one_change c s) (λ _ t. changes_with f (rest ++ last ∷ []) t) unit a.0 r b.0 a.1 b.1),
           moved_on (state x.disk) (state m.disk) (state y.disk) s.volume a.0.volume b.0.volume a.2 b.2,
-          entry_on x m y r b.0 a.2.runs.faults b.3,
+          entry_on x m y r b.0 a.2.runs b.3,
         );
   }
 

@@ -1,12 +1,13 @@
 -- How a filter on a disk stands for states of the definitions.
 use Rattle.std.proofs.Common.{◌≡◌, ◌+◌, ◌≤◌, ap, arith}
 use Rattle.std.specs.Prelude.{false}
-use Rattle.cf_disk.specs.Disk.{State, capped}
+use Rattle.cf_disk.specs.Disk.{HasFailed, State}
 use Rattle.cf_engine_queue.specs.Records.{IsKeepable}
 use Rattle.cf_filter_machine.specs.Lasts.{lasts_at, moved_on, stays_put}
 use Rattle.cf_filter_machine.specs.Held.{Desk, Held, desk_of}
 use Rattle.cf_filter_machine.specs.Keeping.{HasKeptPoints, IsKeptVolume}
 use Rattle.cf_filter_machine.specs.Lasting.{Lasts, Moved}
+use Rattle.cf_volume.specs.Calls.{Runs}
 use Rattle.cf_model.specs.State.{Filter}
 use Rattle.cf_volume_points.proofs.Points.{Fair}
 use Rattle.cf_volume_points.specs.At.{At}
@@ -23,12 +24,12 @@ pub record Stands {D : Type 0} (state : D → State) (x : Held D) (s : Filter) :
   pub kept : IsKeptVolume s.volume
   pub points : HasKeptPoints s.volume
 
--- A device call failed from the one to the other: the count of faults rose, or stays at the most that it counts.
+-- a device call failed from the one to the other
 abbrev pub Rose : State → State → Type 0
-Rose d e = capped (d.faults + 1) ≤ e.faults
+Rose d e = HasFailed d e
 
-pub rose_on : (c d e : State) → c.faults ≤ d.faults → Rose d e → Rose c e
-rose_on c d e h rose = omega (arith, h, rose)
+pub rose_on : (c d e : State) → Runs c d → Rose d e → Rose c e
+rose_on c d e runs rose = (omega (arith, runs.faults, rose.0), omega (arith, runs.calm, rose.1))
 
 -- after a device call that failed: what was told stands, and a restart opens a point of the state
 pub record Stopped {D : Type 0} (state : D → State) (x : Held D) (s : Filter) : Type 0 where
@@ -47,7 +48,7 @@ sense state = record {
   endures = λ x s h. lasts_at (state x.disk) x.known s.volume h.fair h.volume h.points;
   stays = λ x s h. stays_put (state x.disk) x.known s.volume h.fair h.volume h.points;
   goes_on = λ x y z s t u a b. moved_on (state x.disk) (state y.disk) (state z.disk) s.volume t.volume u.volume a b;
-  stops_on = λ x y z s t u a b. (b.0, rose_on (state x.disk) (state y.disk) (state z.disk) a.runs.faults b.1);
+  stops_on = λ x y z s t u a b. (b.0, rose_on (state x.disk) (state y.disk) (state z.disk) a.runs b.1);
 }
 
 pub waits_known : {D : Type 0} (state : D → State) (x : Held D) (s : Filter) → Stands state x s → x.desk.waiting ≡ s.waiting

@@ -10,7 +10,7 @@ use Rattle.cf_journal.specs.SlotTexts.{IsSlotText}
 use Rattle.cf_journal.specs.Steps.{ReadsOnly}
 
 pub reads_call : {T E : Type 0} (r : Result T E) (a b : State) → Keeps a b → Goes a b → Counts 0 r a b → Rises r a b → ReadsOnly a b
-reads_call r a b keeps goes counts rises = record { keeps = keeps; leaves = leaves_keep a b keeps goes; written = omega (arith, counts.least, counts.most); powers = goes.powers; faults = rises.least }
+reads_call r a b keeps goes counts rises = record { keeps = keeps; leaves = leaves_keep a b keeps goes; written = omega (arith, counts.least, counts.most); powers = goes.powers; faults = rises.least; calm = rises.calm }
 
 pub reads_then : (a b c : State) → ReadsOnly a b → ReadsOnly b c → ReadsOnly a c
 reads_then a b c p q = record {
@@ -19,6 +19,7 @@ reads_then a b c p q = record {
   written = q.written ∙ p.written;
   powers = q.powers ∙ p.powers;
   faults = omega (arith, p.faults, q.faults);
+  calm = omega (arith, p.calm, q.calm);
 }
 
 tail_is : (at : ℕ) (xs : List ℕ) → drop 1 (part at 28 xs) ≡ part (at + 1) 27 xs

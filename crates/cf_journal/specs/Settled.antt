@@ -1,7 +1,7 @@
 -- A journal and its disk.
 use Rattle.std.specs.Prelude.{◌≡◌, ◌≤◌, ◌+◌, ℕ, List, [], length, take, true, false, if◌then◌else◌, ◌==◌}
 use Rattle.cf_codec.specs.declared.formats.Format.TheVariants.{Second}
-use Rattle.cf_disk.specs.Disk.{State, size_of, capped, part, SameBut}
+use Rattle.cf_disk.specs.Disk.{State, HasFailed, size_of, part, SameBut}
 use Rattle.cf_journal.specs.declared.sides.Side.{Side}
 use Rattle.cf_journal.specs.declared.failures.JournalError.{JournalError}
 use Rattle.cf_journal.specs.declared.failures.JournalError.TheVariants.{Failed, NotAVolume, Broken, OutOfMemory}
@@ -32,7 +32,7 @@ HasRoom j n = (j.format ≡ Second) × (j.end + (6 + n) ≤ 262144)
 
 -- why a call other than open failed
 abbrev pub IsCause : JournalError → Journal → State → State → Type 0
-IsCause Failed j old new = (j.broken ≡ false) × (capped (old.faults + 1) ≤ new.faults)
+IsCause Failed j old new = (j.broken ≡ false) × HasFailed old new
 IsCause Broken j old new = j.broken ≡ true
 IsCause NotAVolume j old new = ⊥
 IsCause OutOfMemory j old new = ⊥
@@ -50,7 +50,7 @@ next_of g = if g == 18446744073709551615 then 1 else g + 1
 
 -- why open failed
 abbrev pub IsOpenCause : JournalError → State → State → Type 0
-IsOpenCause Failed old new = capped (old.faults + 1) ≤ new.faults
+IsOpenCause Failed old new = HasFailed old new
 IsOpenCause Broken old new = ⊥
 IsOpenCause NotAVolume old new = ⊥
 IsOpenCause OutOfMemory old new = Unit {0}

@@ -1,7 +1,7 @@
 -- What the steps of a rewrite leave.
 use Rattle.std.specs.Prelude.{◌≡◌, ◌≢◌, ◌≤◌, ◌+◌, ◌⊎◌, ◌∷◌, [], ◌++◌, ℕ, List, length, get_or}
 use Rattle.std.specs.Int.{w32, to_be_bytes}
-use Rattle.cf_disk.specs.Disk.{State, part, SameBut, Keeps, Leaves}
+use Rattle.cf_disk.specs.Disk.{State, part, SameBut, Keeps, Leaves, may_fail}
 
 -- an image that a crash may leave, but for an open gate, or for a letter behind a closed one
 abbrev pub IsClosing : State → ℕ → List ℕ → Type 0
@@ -35,3 +35,4 @@ pub record ReadsOnly (old new : State) : Type 0 where
   pub written : new.written ≡ old.written
   pub powers : new.powers ≡ old.powers
   pub faults : old.faults ≤ new.faults
+  pub calm : may_fail new.armed ≤ may_fail old.armed

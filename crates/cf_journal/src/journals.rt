@@ -52,7 +52,7 @@ pub struct Opened {
 
 impl Journal {
     ghost use Rattle.std.specs.Prelude.{◌≡◌, ◌≤◌, ◌↔◌, ◌+◌, ℕ, length, true, false, Err, IsTrue, IfErr, OnOk, OnErr, IfOk, ◌⊎◌};
-    ghost use Rattle.cf_disk.specs.Disk.{size_of, Only, Leaves, Counts};
+    ghost use Rattle.cf_disk.specs.Disk.{size_of, may_fail, Only, Leaves, Counts};
     ghost use Rattle.cf_journal.specs.Content.{Content, Stands, IsBeforeOrAfter, IsFormatting, appended, rewritten, clusters};
     ghost use Rattle.cf_journal.specs.Settled.{IsFitSize, Settled, HasRoom, IsCause, IsOpenCause};
     ghost use Rattle.cf_journal.specs.Steps.{ReadsOnly};
@@ -98,6 +98,7 @@ impl Journal {
         ensures powers { (D.state disk.new).powers ≡ (D.state disk.old).powers }
         ensures cause { IfErr result (λ e. IsCause e self.old (D.state disk.old) (D.state disk.new)) }
         ensures faults { (D.state disk.old).faults ≤ (D.state disk.new).faults }
+        ensures calm { may_fail (D.state disk.new).armed ≤ may_fail (D.state disk.old).armed }
         ensures usable { OnOk result (self.new.broken ≡ false) }
         ensures broken { self.old.broken ≡ true → (result ≡ Err JournalError.Broken) × (self.new ≡ self.old) × (disk.new ≡ disk.old) }
         ensures breaks { OnErr result (self.new.broken ≡ true) }
@@ -132,6 +133,7 @@ impl Journal {
         ensures powers { (D.state disk.new).powers ≡ (D.state disk.old).powers }
         ensures cause { IfErr result (λ e. IsCause e self.old (D.state disk.old) (D.state disk.new)) }
         ensures faults { (D.state disk.old).faults ≤ (D.state disk.new).faults }
+        ensures calm { may_fail (D.state disk.new).armed ≤ may_fail (D.state disk.old).armed }
         ensures usable { OnOk result (self.new.broken ≡ false) }
         ensures broken { self.old.broken ≡ true → (result ≡ Err JournalError.Broken) × (self.new ≡ self.old) × (disk.new ≡ disk.old) }
         ensures breaks { OnErr result (self.new.broken ≡ true) }
@@ -167,6 +169,7 @@ impl Journal {
         ensures powers { (D.state disk.new).powers ≡ (D.state disk.old).powers }
         ensures cause { IfErr result (λ e. (e ≡ JournalError.Failed) × IsOpenCause e (D.state disk.old) (D.state disk.new)) }
         ensures faults { (D.state disk.old).faults ≤ (D.state disk.new).faults }
+        ensures calm { may_fail (D.state disk.new).armed ≤ may_fail (D.state disk.old).armed }
     {
         close_both(disk, base_of(Side::A), base_of(Side::B))?;
         install(disk, Side::B, 1, image)?;

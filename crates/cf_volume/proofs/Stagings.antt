@@ -10,7 +10,7 @@ use Rattle.cf_clusters.specs.Roles.{IsCommitted, IsUsed, how_many, is_free}
 use Rattle.std.proofs.lemmas.List.{take_all}
 use Rattle.cf_volume.proofs.Staged.{same_here}
 use Rattle.cf_clusters.specs.declared.uses.Use.{Use}
-use Rattle.cf_disk.specs.Disk.{Leaves, State}
+use Rattle.cf_disk.specs.Disk.{Leaves, State, may_fail}
 use Rattle.cf_volume_points.proofs.Stages.{leaves_on, length-staged, moves_none, moves_then, stage_blocks, stage_moves}
 use Rattle.cf_volume_points.specs.Staging.{AreBlocks, Moves, StagesBlock}
 use Rattle.cf_volume_points.specs.Standing.{cluster_on}
@@ -24,13 +24,13 @@ use Rattle.cf_volume_points.specs.declared.stops.Stop.TheVariants.{Device, OutOf
 use Rattle.cf_volume_points.specs.Runs.{IsStop, Ran}
 
 pub ran_none : (s : State) → Ran 0 s s
-ran_none s = record { size = refl; powers = refl; faults = omega arith; written = omega arith }
+ran_none s = record { size = refl; powers = refl; faults = omega arith; calm = omega arith; written = omega arith }
 
 pub ran_then : (n m : ℕ) (s t u : State) → Ran n s t → Ran m t u → Ran (n + m) s u
-ran_then n m s t u p q = record { size = q.size ∙ p.size; powers = q.powers ∙ p.powers; faults = omega (arith, p.faults, q.faults); written = omega (arith, p.written, q.written) }
+ran_then n m s t u p q = record { size = q.size ∙ p.size; powers = q.powers ∙ p.powers; faults = omega (arith, p.faults, q.faults); calm = omega (arith, p.calm, q.calm); written = omega (arith, p.written, q.written) }
 
 pub ran_less : (n m : ℕ) (s t : State) → n ≤ m → Ran n s t → Ran m s t
-ran_less n m s t le p = record { size = p.size; powers = p.powers; faults = p.faults; written = omega (arith, le, p.written) }
+ran_less n m s t le p = record { size = p.size; powers = p.powers; faults = p.faults; calm = p.calm; written = omega (arith, le, p.written) }
 
 -- a list of numbers that rise has none twice
 before_rising : (low : ℕ) (bs : List ℕ) (i d : ℕ) → AreRising low bs → i < length bs → low ≤ get_or bs i d
@@ -118,10 +118,10 @@ pub all_staged : (c : Change) (row : Row) (blocks : List ℕ) (i : ℕ) (s t : S
 all_staged c row blocks i s t old mid es fs past all = subst (λ (l : List ℕ). StagesAll c row blocks l s t old mid es fs) (take_all i blocks past) all
 
 -- why a later call stopped
-pub stop_later : {T : Type 0} (r : Result T Stop) (e : Stop) (s t u : State) → IsErrAnd r (λ y. y ≡ e) → IsStop e t u → s.faults ≤ t.faults → IfErr r (λ y. IsStop y s u)
-stop_later {T} (Ok x) e s t u is stop le = absurd is
-stop_later {T} (Err y) e s t u is stop le = by y (subst (λ (z : Stop). IsStop z t u) (sym is) stop)
+pub stop_later : {T : Type 0} (r : Result T Stop) (e : Stop) (s t u : State) → IsErrAnd r (λ y. y ≡ e) → IsStop e t u → s.faults ≤ t.faults → may_fail t.armed ≤ may_fail s.armed → IfErr r (λ y. IsStop y s u)
+stop_later {T} (Ok x) e s t u is stop le calm = absurd is
+stop_later {T} (Err y) e s t u is stop le calm = by y (subst (λ (z : Stop). IsStop z t u) (sym is) stop)
   where
     by : (z : Stop) → IsStop z t u → IsStop z s u
-    by Device h = omega (arith, h, le)
+    by Device h = (omega (arith, h.0, le), omega (arith, h.1, calm))
     by OutOfMemory h = tt

@@ -7,7 +7,7 @@ use Rattle.cf_base.specs.declared.codes.Code.TheVariants.{Broken, Device, Full, 
 use Rattle.cf_base.specs.declared.codes.CallError.{CallError}
 use Rattle.cf_base.specs.declared.codes.CallError.TheVariants.{OutOfMemory, No}
 use Rattle.cf_base.specs.declared.ids.Usn.{Usn}
-use Rattle.cf_disk.specs.Disk.{State, capped, size_of}
+use Rattle.cf_disk.specs.Disk.{HasFailed, State, may_fail, size_of}
 use Rattle.cf_model.specs.Books.{Book, aux_records}
 use Rattle.cf_model.specs.Changes.{may_need_room, next_number, put_change, why_no_room}
 use Rattle.cf_model.specs.Formats.{with_record, without_record}
@@ -39,16 +39,17 @@ abbrev pub IsStopping : CallError → Bool → Type 0
 IsStopping OutOfMemory b = b ≡ true
 IsStopping (No code) b = (code ≡ Device → b ≡ true) × ((code ≡ Device → ⊥) → b ≡ false)
 
--- the device stops a call only where its count of faults rose
+-- the device stops a call only where one of its calls failed
 abbrev pub IsCause : CallError → State → State → Type 0
 IsCause OutOfMemory s t = Unit {0}
-IsCause (No code) s t = code ≡ Device → capped (s.faults + 1) ≤ t.faults
+IsCause (No code) s t = code ≡ Device → HasFailed s t
 
 -- a disk after any calls
 pub record Runs (s t : State) : Type 0 where
   pub size : size_of t ≡ size_of s
   pub powers : t.powers ≡ s.powers
   pub faults : s.faults ≤ t.faults
+  pub calm : may_fail t.armed ≤ may_fail s.armed
 
 -- Why a change was refused, or was not: in the order of the volume's refusals, which leave all as it was, or since the
 -- device failed.

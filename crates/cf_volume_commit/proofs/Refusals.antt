@@ -8,7 +8,7 @@ use Rattle.cf_base.specs.declared.codes.Code.TheVariants as code
 use Rattle.cf_base.specs.declared.codes.CallError.TheVariants as fail
 use Rattle.cf_base.specs.declared.codes.CallError.{CallError}
 use Rattle.cf_codec.specs.declared.formats.Format.{Format}
-use Rattle.cf_disk.specs.Disk.{State, capped}
+use Rattle.cf_disk.specs.Disk.{HasFailed, State}
 use Rattle.cf_volume_commit.proofs.FoundParts.{no_slot}
 use Rattle.cf_volume_commit.specs.Damages.{IsFindCause, find_error}
 use Rattle.cf_volume_commit.specs.Loaded.{IsNoVolume, fail_of}
@@ -26,7 +26,7 @@ no_volume (find.Damaged d) old new is cause = cause.1
 no_volume find.Device old new is cause = let z : fail.No code.Device ≡ fail.No code.NotAVolume = is in absurd cc
 no_volume find.OutOfMemory old new is cause = let z : fail.OutOfMemory ≡ fail.No code.NotAVolume = is in absurd cc
 
-pub device_rose : (e : FindError) (old new : State) → fail_of e ≡ fail.No code.Device → IsFindCause old new e → capped (old.faults + 1) ≤ new.faults
+pub device_rose : (e : FindError) (old new : State) → fail_of e ≡ fail.No code.Device → IsFindCause old new e → HasFailed old new
 device_rose (find.Damaged d) old new is cause = let z : fail.No code.NotAVolume ≡ fail.No code.Device = is in absurd cc
 device_rose find.Device old new is cause = cause
 device_rose find.OutOfMemory old new is cause = let z : fail.OutOfMemory ≡ fail.No code.Device = is in absurd cc

@@ -8,7 +8,7 @@ use Rattle.cf_volume_commit.specs.declared.damages.FindError.TheVariants as find
 use Rattle.cf_volume_commit.specs.Loaded.{IsNoVolume}
 use Rattle.cf_volume_image.specs.Causes.{IsFirstFault, IsImageFault, IsUnsound}
 use Rattle.cf_volume_image.specs.States.{IsContentsIn, TellsIn}
-use Rattle.cf_disk.specs.Disk.{State, capped}
+use Rattle.cf_disk.specs.Disk.{HasFailed, State}
 use Rattle.cf_journal.specs.Content.{Content}
 use Rattle.cf_journal.specs.Format.{Chosen}
 use Rattle.cf_journal.specs.Places.{IsFound, image_place, record_place}
@@ -45,7 +45,7 @@ IsDamage disk damage.Unsound = (f : Found) × IsFound f disk × IsFault f (clust
 -- why no volume is found
 abbrev pub IsFindCause : State → State → FindError → Type 0
 IsFindCause old new (find.Damaged d) = IsDamage old.seen d × IsNoVolume old.seen
-IsFindCause old new find.Device = capped (old.faults + 1) ≤ new.faults
+IsFindCause old new find.Device = HasFailed old new
 IsFindCause old new find.OutOfMemory = Unit {0}
 
 -- a record does not fit the journal, or what was found tells no volume

@@ -3,7 +3,7 @@
 ghost use Rattle.std.specs.Prelude.{◌≡◌, ◌≤◌, ◌+◌, length, All, IfErr, IfOk, OnOk, false, true};
 ghost use Rattle.cf_base.specs.declared.ids.Usn.{Usn};
 ghost use Rattle.cf_volume_commit.specs.Loaded.{first_image, known_of};
-ghost use Rattle.cf_disk.specs.Disk.{size_of, Counts};
+ghost use Rattle.cf_disk.specs.Disk.{size_of, may_fail, Counts};
 ghost use Rattle.cf_volume_image.specs.Contents.{image_of};
 ghost use Rattle.cf_journal.specs.Content.{clusters, rewritten};
 ghost use Rattle.cf_journal.specs.Settled.{IsFitSize, Settled};
@@ -58,6 +58,7 @@ fn format<D: Disk>(disk: &mut D, image: &[u8]) -> Result<Journal, Stop>
     ensures same_size { size_of (D.state disk.new) ≡ size_of (D.state disk.old) }
     ensures powers { (D.state disk.new).powers ≡ (D.state disk.old).powers }
     ensures faults { (D.state disk.old).faults ≤ (D.state disk.new).faults }
+    ensures calm { may_fail (D.state disk.new).armed ≤ may_fail (D.state disk.old).armed }
     ensures cause { IfErr result (λ e. IsStop e (D.state disk.old) (D.state disk.new)) }
 {
     match Journal::format(disk, image) {
@@ -78,6 +79,7 @@ pub fn create<D: Disk>(alloc: Global, disk: &mut D) -> Result<Parts, Stop>
     ensures same_size { size_of (D.state disk.new) ≡ size_of (D.state disk.old) }
     ensures powers { (D.state disk.new).powers ≡ (D.state disk.old).powers }
     ensures faults { (D.state disk.old).faults ≤ (D.state disk.new).faults }
+    ensures calm { may_fail (D.state disk.new).armed ≤ may_fail (D.state disk.old).armed }
     ensures cause { IfErr result (λ e. IsStop e (D.state disk.old) (D.state disk.new)) }
 {
     let clusters = clusters_of_disk(disk);

@@ -8,7 +8,7 @@ ghost use Rattle.cf_base.specs.declared.ids.Usn.{Usn};
 ghost use Rattle.cf_volume_commit.specs.Leading.{CanBeWritten, bytes_written};
 ghost use Rattle.cf_volume_commit.specs.Loaded.{Finds, HoldsImage, HoldsSecond, IsNoVolume, StandsOrWas, StandsThen, fail_of, known_of, number_after, opening_bytes, raised_image};
 ghost use Rattle.cf_clusters.specs.Roles.{Opens, committed};
-ghost use Rattle.cf_disk.specs.Disk.{size_of, capped, Counts, Only, Leaves};
+ghost use Rattle.cf_disk.specs.Disk.{size_of, capped, may_fail, Counts, HasFailed, Only, Leaves};
 ghost use Rattle.cf_volume_image.specs.ClusterLists.{clusters_in};
 ghost use Rattle.cf_volume_image.specs.Contents.{image_of, payload_of};
 ghost use Rattle.cf_volume_image.specs.Spelled.{AreRecordsFrom};
@@ -100,6 +100,7 @@ pub(crate) fn raise<D: Disk>(alloc: Global, disk: &mut D, parts: &mut Parts) -> 
     ensures same_size { size_of (D.state disk.new) ≡ size_of (D.state disk.old) }
     ensures powers { (D.state disk.new).powers ≡ (D.state disk.old).powers }
     ensures faults { (D.state disk.old).faults ≤ (D.state disk.new).faults }
+    ensures calm { may_fail (D.state disk.new).armed ≤ may_fail (D.state disk.old).armed }
     ensures cause { IfErr result (λ e. IsStop e (D.state disk.old) (D.state disk.new)) }
     ensures memory { result ≡ Err stop.OutOfMemory → disk.new ≡ disk.old }
     ensures usable { OnOk result (parts.new.journal.broken ≡ false) }
@@ -160,7 +161,7 @@ fn find<D: Disk>(alloc: Global, disk: &mut D) -> Result<Parts, CallError>
     ensures none { result ≡ Err (fail.No code.NotAVolume) → IsNoVolume (D.state disk.old).seen }
     ensures last { result ≡ Err (fail.No code.Exhausted) → (i : Image) × HoldsImage (D.state disk.old).seen i × (i.header.last.epoch ≡ most) }
     ensures reads { ReadsOnly (D.state disk.old) (D.state disk.new) }
-    ensures cause { result ≡ Err (fail.No code.Device) → capped ((D.state disk.old).faults + 1) ≤ (D.state disk.new).faults }
+    ensures cause { result ≡ Err (fail.No code.Device) → HasFailed (D.state disk.old) (D.state disk.new) }
     ensures only { IfErr result (λ e. (e ≡ fail.No code.NotAVolume) ⊎ ((e ≡ fail.No code.Exhausted) ⊎ ((e ≡ fail.No code.Device) ⊎ (e ≡ fail.OutOfMemory)))) }
 {
     one_content();
@@ -200,7 +201,8 @@ pub fn load<D: Disk>(alloc: Global, disk: &mut D) -> Result<Parts, CallError>
     ensures same_size { size_of (D.state disk.new) ≡ size_of (D.state disk.old) }
     ensures powers { (D.state disk.new).powers ≡ (D.state disk.old).powers }
     ensures faults { (D.state disk.old).faults ≤ (D.state disk.new).faults }
-    ensures cause { result ≡ Err (fail.No code.Device) → capped ((D.state disk.old).faults + 1) ≤ (D.state disk.new).faults }
+    ensures calm { may_fail (D.state disk.new).armed ≤ may_fail (D.state disk.old).armed }
+    ensures cause { result ≡ Err (fail.No code.Device) → HasFailed (D.state disk.old) (D.state disk.new) }
     ensures only { IfErr result (λ e. (e ≡ fail.No code.NotAVolume) ⊎ ((e ≡ fail.No code.Exhausted) ⊎ ((e ≡ fail.No code.Device) ⊎ (e ≡ fail.OutOfMemory)))) }
 {
     one_content();

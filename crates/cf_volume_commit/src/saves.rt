@@ -4,7 +4,7 @@ ghost use Rattle.std.specs.Prelude.{◌≡◌, ◌≤◌, map, All, false, None,
 ghost use Rattle.cf_volume_commit.specs.Differing.{IsThen, text_of};
 ghost use Rattle.cf_volume_commit.specs.Leading.{CanBeWritten, HaveStoredPins, bytes_written};
 ghost use Rattle.cf_clusters.specs.Roles.{committed};
-ghost use Rattle.cf_disk.specs.Disk.{size_of, Only, Leaves, Counts};
+ghost use Rattle.cf_disk.specs.Disk.{size_of, may_fail, Only, Leaves, Counts};
 ghost use Rattle.cf_volume_image.specs.Contents.{image_of};
 ghost use Rattle.cf_volume_image.specs.Spelled.{AreRecordsFrom};
 ghost use Rattle.cf_volume_image.specs.States.{TellsIn};
@@ -83,6 +83,7 @@ pub fn save<D: Disk>(
     ensures same_size { size_of (D.state disk.new) ≡ size_of (D.state disk.old) }
     ensures powers { (D.state disk.new).powers ≡ (D.state disk.old).powers }
     ensures faults { (D.state disk.old).faults ≤ (D.state disk.new).faults }
+    ensures calm { may_fail (D.state disk.new).armed ≤ may_fail (D.state disk.old).armed }
     ensures cause { IfErr result (λ e. IsStop e (D.state disk.old) (D.state disk.new)) }
     ensures memory { result ≡ Err stop.OutOfMemory → (journal.new ≡ journal.old) × (disk.new ≡ disk.old) }
     ensures usable { OnOk result (journal.new.broken ≡ false) }

@@ -2,7 +2,7 @@
 
 ghost use Rattle.std.specs.Prelude.{◌≡◌, ◌≤◌, ◌+◌, length, false, Err, IfErr, IfSome, OnOk, option_copied};
 ghost use Rattle.cf_volume_commit.specs.Leading.{CanBeWritten, Follows, bytes_written, text_in};
-ghost use Rattle.cf_disk.specs.Disk.{size_of, Only, Leaves, Counts};
+ghost use Rattle.cf_disk.specs.Disk.{size_of, may_fail, Only, Leaves, Counts};
 ghost use Rattle.cf_volume_image.specs.Contents.{image_of};
 ghost use Rattle.cf_journal.specs.Content.{Content, IsBeforeOrAfter, appended, clusters, rewritten};
 ghost use Rattle.cf_journal.specs.Settled.{HasRoom, IsFitSize, Settled};
@@ -32,6 +32,7 @@ fn append<D: Disk>(disk: &mut D, journal: &mut Journal, text: &[u8]) -> Result<(
     ensures same_size { size_of (D.state disk.new) ≡ size_of (D.state disk.old) }
     ensures powers { (D.state disk.new).powers ≡ (D.state disk.old).powers }
     ensures faults { (D.state disk.old).faults ≤ (D.state disk.new).faults }
+    ensures calm { may_fail (D.state disk.new).armed ≤ may_fail (D.state disk.old).armed }
     ensures cause { IfErr result (λ e. IsStop e (D.state disk.old) (D.state disk.new)) }
     ensures not_memory { result ≡ Err OutOfMemory → ⊥ }
     ensures usable { OnOk result (journal.new.broken ≡ false) }
@@ -56,6 +57,7 @@ fn rewrite<D: Disk>(disk: &mut D, journal: &mut Journal, image: &[u8]) -> Result
     ensures same_size { size_of (D.state disk.new) ≡ size_of (D.state disk.old) }
     ensures powers { (D.state disk.new).powers ≡ (D.state disk.old).powers }
     ensures faults { (D.state disk.old).faults ≤ (D.state disk.new).faults }
+    ensures calm { may_fail (D.state disk.new).armed ≤ may_fail (D.state disk.old).armed }
     ensures cause { IfErr result (λ e. IsStop e (D.state disk.old) (D.state disk.new)) }
     ensures not_memory { result ≡ Err OutOfMemory → ⊥ }
     ensures usable { OnOk result (journal.new.broken ≡ false) }
@@ -104,6 +106,7 @@ pub(crate) fn put_text<D: Disk>(
     ensures same_size { size_of (D.state disk.new) ≡ size_of (D.state disk.old) }
     ensures powers { (D.state disk.new).powers ≡ (D.state disk.old).powers }
     ensures faults { (D.state disk.old).faults ≤ (D.state disk.new).faults }
+    ensures calm { may_fail (D.state disk.new).armed ≤ may_fail (D.state disk.old).armed }
     ensures cause { IfErr result (λ e. IsStop e (D.state disk.old) (D.state disk.new)) }
     ensures memory { result ≡ Err OutOfMemory → (journal.new ≡ journal.old) × (disk.new ≡ disk.old) }
     ensures usable { OnOk result (journal.new.broken ≡ false) }

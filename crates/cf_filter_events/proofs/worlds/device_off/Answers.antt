@@ -1,5 +1,6 @@
 use Rattle.std.proofs.Common.{refl}
 use Rattle.cf_filter_events.proofs.Wholes.{off_over, off_steps}
+use Rattle.cf_filter_events.proofs.Counted.{counts_by}
 use Rattle.cf_filter_events.proofs.worlds.device_off.Goals as goal
 
 pub returns-in-Stop-clause-steps : goal.returns-in-Stop-clause-steps
@@ -21,10 +22,10 @@ pub returns-in-Restart-clause-device : goal.returns-in-Restart-clause-device
 returns-in-Restart-clause-device g c = rw c.in-Restart.is (record {})
 
 pub returns-in-Stop-clause-counts : goal.returns-in-Stop-clause-counts
-returns-in-Stop-clause-counts g c = c.stop-told.ensures.counts
+returns-in-Stop-clause-counts g c = rw c.in-Stop.is c.stop-told.ensures.counts
 
 pub returns-in-Crash-clause-counts : goal.returns-in-Crash-clause-counts
-returns-in-Crash-clause-counts g c = c.cut-told.ensures.counts
+returns-in-Crash-clause-counts g c = rw c.in-Crash.is (counts_by 0 _ _ _ c.cut-told.ensures.counts)
 
 pub returns-in-Restart-clause-counts : goal.returns-in-Restart-clause-counts
-returns-in-Restart-clause-counts g c = c.restart.ensures.counts
+returns-in-Restart-clause-counts g c = rw c.in-Restart.is (counts_by 0 _ _ _ c.restart.ensures.counts)

@@ -1,5 +1,5 @@
 use Rattle.std.proofs.Common.{refl}
-use Rattle.cf_filter_events.proofs.Counted.{shown_counts}
+use Rattle.cf_filter_events.proofs.Counted.{counts_by, cut_off, shown_counts, stays}
 use Rattle.cf_filter_events.proofs.Wholes.{on_over, on_steps}
 use Rattle.cf_filter_events.proofs.worlds.device_on.Goals as goal
 
@@ -22,10 +22,15 @@ pub returns-in-Restart-clause-device : goal.returns-in-Restart-clause-device
 returns-in-Restart-clause-device g c = rw c.in-Restart.is (record {})
 
 pub returns-in-Stop-clause-counts : goal.returns-in-Stop-clause-counts
-returns-in-Stop-clause-counts g c = c.stop-told.ensures.counts
+returns-in-Stop-clause-counts g c = rw c.in-Stop.is c.stop-told.ensures.counts
 
 pub returns-in-Crash-clause-counts : goal.returns-in-Crash-clause-counts
-returns-in-Crash-clause-counts g c = shown_counts _ _ (g.D.Disk.state c.args.running.filter.disk) (g.D.Disk.state c.cut-cut.result.disk) c.plainly.ensures refl c.cut-cut.ensures.powers.faults
+returns-in-Crash-clause-counts g c =
+    let old = g.D.Disk.state c.args.running.filter.disk in
+    let new = g.D.Disk.state c.cut-cut.result.disk in
+    rw c.in-Crash.is (counts_by 0 _ old new (shown_counts _ _ old new c.plainly.ensures refl (cut_off old new c.cut-cut.ensures.powers.faults c.cut-cut.ensures.powers.armed)))
 
 pub returns-in-Restart-clause-counts : goal.returns-in-Restart-clause-counts
-returns-in-Restart-clause-counts g c = shown_counts _ _ (g.D.Disk.state c.args.running.filter.disk) (g.D.Disk.state c.args.running.filter.disk) c.restart-told.ensures.told refl refl
+returns-in-Restart-clause-counts g c =
+    let disk = g.D.Disk.state c.args.running.filter.disk in
+    rw c.in-Restart.is (counts_by 0 _ disk disk (shown_counts _ _ disk disk c.restart-told.ensures.told refl (stays disk)))

@@ -1,6 +1,7 @@
 use Rattle.std.proofs.Common.{◌≡◌, false, rules}
 use Rattle.cf_filter_events.specs.Actors.{is_device_event}
 use Rattle.cf_filter_events.proofs.Wholes.{bears_none, none_done, off_steps}
+use Rattle.cf_filter_events.proofs.Counted.{counts_by}
 use Rattle.cf_filter_events.proofs.worlds.step_off.Goals as goal
 
 pub returns-in-Device-clause-steps : goal.returns-in-Device-clause-steps
@@ -10,7 +11,7 @@ pub returns-in-Device-clause-device : goal.returns-in-Device-clause-device
 returns-in-Device-clause-device g c = rw c.in-Device.is c.device_off.ensures.device
 
 pub returns-in-Device-clause-counts : goal.returns-in-Device-clause-counts
-returns-in-Device-clause-counts g c = c.device_off.ensures.counts
+returns-in-Device-clause-counts g c = rw c.in-Device.is c.device_off.ensures.counts
 
 pub returns-in_default : goal.returns-in_default
 returns-in_default g c =
@@ -18,5 +19,5 @@ returns-in_default g c =
     record {
       steps = off_steps g.A.Actor.acts g.D.Disk.state _ _ _ _ (none_done _ other) c.act-told.ensures.steps;
       device = bears_none _ (g.D.Disk.state c.args.cut.disk) (g.D.Disk.state c.act-told.new.self.disk) other;
-      counts = c.act-told.ensures.counts;
+      counts = counts_by _ _ _ _ c.act-told.ensures.counts;
     }

@@ -1,7 +1,7 @@
 use Rattle.std.proofs.Common.{◌≡◌, false, rules}
 use Rattle.cf_filter_events.specs.Actors.{is_device_event}
 use Rattle.cf_filter_events.proofs.Wholes.{bears_none, none_done, on_steps}
-use Rattle.cf_filter_events.proofs.Counted.{counts_always, counts_over}
+use Rattle.cf_filter_events.proofs.Counted.{counts_event, counts_over}
 use Rattle.cf_filter_events.proofs.worlds.step_on.Goals as goal
 
 pub returns-in-Device-clause-steps : goal.returns-in-Device-clause-steps
@@ -11,7 +11,7 @@ pub returns-in-Device-clause-device : goal.returns-in-Device-clause-device
 returns-in-Device-clause-device g c = rw c.in-Device.is c.device_on.ensures.device
 
 pub returns-in-Device-clause-counts : goal.returns-in-Device-clause-counts
-returns-in-Device-clause-counts g c = counts_always _ _ _ _ _ c.device_on.ensures.counts
+returns-in-Device-clause-counts g c = rw c.in-Device.is (counts_event _ _ _ _ _ _ c.device_on.ensures.counts)
 
 pub returns-in_default : goal.returns-in_default
 returns-in_default g c =
@@ -19,5 +19,5 @@ returns-in_default g c =
     record {
       steps = on_steps g.A.Actor.acts g.D.Disk.state _ _ _ _ (none_done _ other) c.act-told.ensures.steps;
       device = bears_none _ (g.D.Disk.state c.args.running.filter.disk) (g.D.Disk.state c.act-told.new.self.filter.disk) other;
-      counts = counts_over g.A.Actor.acts g.D.Disk.state _ _ _ _ c.act-told.ensures.counts;
+      counts = counts_over g.A.Actor.acts g.D.Disk.state _ _ _ _ _ c.act-told.ensures.counts;
     }

@@ -1,10 +1,9 @@
 use Rattle.std.proofs.Common.{◌≡◌, ◌∙◌, ap, subst, sym}
 use Rattle.std.specs.Prelude.{Some, option_map}
 use Rattle.cf_disk.specs.Disk.{IsUnchanged}
-use Rattle.cf_filter.proofs.Armed.{armed_runs, armed_stands, armed_stopped}
+use Rattle.cf_filter.proofs.Armed.{armed_stands, armed_stopped}
 use Rattle.cf_filter_machine.specs.Held.{Held}
 use Rattle.cf_filter_machine.specs.Sensing.{Stands, Stopped}
-use Rattle.cf_volume.specs.Calls.{Runs}
 use Rattle.cf_filter.proofs.filters.Filter.arm.Goals as goal
 
 pub returns-clause-stands : goal.returns-clause-stands
@@ -17,11 +16,6 @@ pub returns-clause-stopped : goal.returns-clause-stopped
 returns-clause-stopped g c = λ s h.
     armed_stopped g.D.Disk.state c.self.inside.machine c.arm_on.new.machine c.arm_on.ensures.same c.arm_on.ensures.known c.arm_on.ensures.desk s
     (subst (λ (w : Held g.row.D.Denot). Stopped g.D.Disk.state w s) (sym c.self.view_is) h)
-
-pub returns-clause-runs : goal.returns-clause-runs
-returns-clause-runs g c =
-    subst (λ (w : Held g.row.D.Denot). Runs (g.D.Disk.state w.disk) (g.D.Disk.state c.arm_on.new.machine.disk)) c.self.view_is
-    (armed_runs (g.D.Disk.state c.self.inside.machine.disk) (g.D.Disk.state c.arm_on.new.machine.disk) c.arm_on.ensures.same)
 
 pub returns-clause-same : goal.returns-clause-same
 returns-clause-same g c = subst (λ (w : Held g.row.D.Denot). IsUnchanged (g.D.Disk.state w.disk) (g.D.Disk.state c.arm_on.new.machine.disk)) c.self.view_is c.arm_on.ensures.same

@@ -1,4 +1,4 @@
-use Rattle.cf_filter_events.proofs.Counted.{counts_always}
+use Rattle.cf_filter_events.proofs.Counted.{counts_event}
 use Rattle.cf_filter_events.proofs.places.Acting.step.Goals as goal
 
 pub returns-in-On-clause-steps : goal.returns-in-On-clause-steps
@@ -14,4 +14,4 @@ pub returns-in-On-clause-counts : goal.returns-in-On-clause-counts
 returns-in-On-clause-counts g c = rw c.in-On.is c.step_on.ensures.counts
 
 pub returns-in-Off-clause-counts : goal.returns-in-Off-clause-counts
-returns-in-Off-clause-counts g c = rw c.in-Off.is (counts_always _ _ _ _ _ c.step_off.ensures.counts)
+returns-in-Off-clause-counts g c = rw c.in-Off.is (counts_event _ _ _ _ _ _ c.step_off.ensures.counts)

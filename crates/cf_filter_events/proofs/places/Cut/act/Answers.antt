@@ -1,5 +1,5 @@
 use Rattle.std.proofs.Common.{refl, sym, ◌∙◌}
-use Rattle.cf_filter_events.proofs.Counted.{known_same, shown_counts}
+use Rattle.cf_filter_events.proofs.Counted.{known_same, shown_counts, stays}
 use Rattle.cf_filter_events.proofs.Offs.{off_beside, off_refuses}
 use Rattle.cf_filter_events.proofs.places.Cut.act.Goals as goal
 
@@ -7,7 +7,7 @@ pub returns-then-needs_volume-clause-steps : goal.returns-then-needs_volume-clau
 returns-then-needs_volume-clause-steps g c = rw c.refused.ensures (off_refuses g.A.Actor.acts g.D.Disk.state c.args.event.now c.args.self.now c.requires.of (sym c.needs_volume.ensures ∙ c.if-needs_volume.true))
 
 pub returns-then-needs_volume-clause-counts : goal.returns-then-needs_volume-clause-counts
-returns-then-needs_volume-clause-counts g c = let disk = g.D.Disk.state c.args.self.now.disk in shown_counts _ _ disk disk c.refused.ensures refl refl
+returns-then-needs_volume-clause-counts g c = let disk = g.D.Disk.state c.args.self.now.disk in shown_counts _ _ disk disk c.refused.ensures refl (stays disk)
 
 pub returns-clause-steps : goal.returns-clause-steps
 returns-clause-steps g c =

@@ -1,5 +1,5 @@
 use Rattle.std.proofs.Common.{refl}
-use Rattle.cf_filter_events.proofs.Counted.{failed_counts, opened_counts}
+use Rattle.cf_filter_events.proofs.Counted.{failed_counts, opened_counts, ran_on}
 use Rattle.cf_filter_events.proofs.Reopening.{failed_step, opened_step}
 use Rattle.cf_filter_events.proofs.places.Cut.reopen.Goals as goal
 
@@ -15,4 +15,4 @@ pub returns-in-Ok-clause-counts : goal.returns-in-Ok-clause-counts
 returns-in-Ok-clause-counts g c = opened_counts g.A.Actor.acts g.D.Disk.state c.args.self.disk c.in-Ok.filter _ _ c.in-Ok.ensures.runs c.reopened.ensures.on c.reopened.ensures.plain
 
 pub returns-in-Err-clause-counts : goal.returns-in-Err-clause-counts
-returns-in-Err-clause-counts g c = rw c.refused_by.ensures (failed_counts c.in-Err.fail (g.D.Disk.state c.args.self.disk) (g.D.Disk.state c.in-Err.disk) c.in-Err.ensures.runs_back.faults c.in-Err.ensures.only c.in-Err.ensures.cause)
+returns-in-Err-clause-counts g c = rw c.refused_by.ensures (failed_counts c.in-Err.fail (g.D.Disk.state c.args.self.disk) (g.D.Disk.state c.in-Err.disk) (ran_on (g.D.Disk.state c.args.self.disk) (g.D.Disk.state c.in-Err.disk) c.in-Err.ensures.runs_back) c.in-Err.ensures.only c.in-Err.ensures.cause)

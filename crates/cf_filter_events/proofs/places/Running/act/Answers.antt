@@ -1,6 +1,6 @@
 use Rattle.std.proofs.Common.{refl, sym, ◌∙◌}
 use Rattle.cf_filter_events.proofs.Begun.{begun_counting, begun_steps, beside_counts, beside_steps, broken_refuses}
-use Rattle.cf_filter_events.proofs.Counted.{counts_always, shown_counts}
+use Rattle.cf_filter_events.proofs.Counted.{counts_always, shown_counts, stays}
 use Rattle.cf_filter_events.proofs.places.Running.act.Goals as goal
 
 pub returns-then-not-needs_volume-clause-steps : goal.returns-then-not-needs_volume-clause-steps
@@ -16,7 +16,7 @@ returns-then-is_broken-clause-steps g c =
 
 pub returns-then-is_broken-clause-counts : goal.returns-then-is_broken-clause-counts
 returns-then-is_broken-clause-counts g c =
-    let disk = g.D.Disk.state c.args.self.now.filter.disk in counts_always _ _ _ disk disk (shown_counts _ _ disk disk c.refused.ensures refl refl)
+    let disk = g.D.Disk.state c.args.self.now.filter.disk in counts_always _ _ _ disk disk (shown_counts _ _ disk disk c.refused.ensures refl (stays disk))
 
 pub returns-clause-steps : goal.returns-clause-steps
 returns-clause-steps g c =

@@ -25,7 +25,7 @@ returns-in_err-copy_block-clause-ran g c =
     c.loop-pair-test.true refl c.loop-pair.invariant c.copy_block.ensures.ran
 
 pub returns-in_err-copy_block-clause-cause : goal.returns-in_err-copy_block-clause-cause
-returns-in_err-copy_block-clause-cause g c = stop_later c.from_residual.result c.in_err-copy_block.field-0.0 (g.D.Disk.state c.args.disk.now) (g.D.Disk.state c.loop-pair.disk) (g.D.Disk.state c.copy_block.new.disk) c.from_residual.ensures.1 c.in_err-copy_block.ensures.cause c.loop-pair.invariant.ran.faults
+returns-in_err-copy_block-clause-cause g c = stop_later c.from_residual.result c.in_err-copy_block.field-0.0 (g.D.Disk.state c.args.disk.now) (g.D.Disk.state c.loop-pair.disk) (g.D.Disk.state c.copy_block.new.disk) c.from_residual.ensures.1 c.in_err-copy_block.ensures.cause c.loop-pair.invariant.ran.faults c.loop-pair.invariant.ran.calm
 
 pub returns-in_err-copy_block-clause-long : goal.returns-in_err-copy_block-clause-long
 returns-in_err-copy_block-clause-long g c = c.copy_block.ensures.long ∙ c.loop-pair.invariant.moves.long

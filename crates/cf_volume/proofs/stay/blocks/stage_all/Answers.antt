@@ -25,7 +25,7 @@ returns-in_err-stage_block-clause-ran g c =
     c.loop-number-test.true refl c.loop-number.invariant c.stage_block.ensures.ran
 
 pub returns-in_err-stage_block-clause-cause : goal.returns-in_err-stage_block-clause-cause
-returns-in_err-stage_block-clause-cause g c = stop_later c.from_residual.result c.in_err-stage_block.field-0.0 (g.D.Disk.state c.args.disk.now) (g.D.Disk.state c.loop-number.disk) (g.D.Disk.state c.stage_block.new.disk) c.from_residual.ensures.1 c.in_err-stage_block.ensures.cause c.loop-number.invariant.ran.faults
+returns-in_err-stage_block-clause-cause g c = stop_later c.from_residual.result c.in_err-stage_block.field-0.0 (g.D.Disk.state c.args.disk.now) (g.D.Disk.state c.loop-number.disk) (g.D.Disk.state c.stage_block.new.disk) c.from_residual.ensures.1 c.in_err-stage_block.ensures.cause c.loop-number.invariant.ran.faults c.loop-number.invariant.ran.calm
 
 pub returns-in_err-stage_block-clause-long : goal.returns-in_err-stage_block-clause-long
 returns-in_err-stage_block-clause-long g c = c.stage_block.ensures.long ∙ c.loop-number.invariant.moves.long

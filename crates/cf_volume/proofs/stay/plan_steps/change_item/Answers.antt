@@ -37,4 +37,4 @@ pub returns-in_err-settle_blocks-in-Some-clause-ran : goal.returns-in_err-settle
 returns-in_err-settle_blocks-in-Some-clause-ran g c = subst (λ (l : List ℕ). Ran (4096 * length l) (g.D.Disk.state c.args.disk.now) (g.D.Disk.state c.settle_blocks.new.disk)) c.deref.ensures.value c.settle_blocks.ensures.ran
 
 pub returns-in_err-settle_blocks-in-Some-clause-cause : goal.returns-in_err-settle_blocks-in-Some-clause-cause
-returns-in_err-settle_blocks-in-Some-clause-cause g c = stop_later c.from_residual.result c.in_err-settle_blocks-in-Some.field-0.0 (g.D.Disk.state c.args.disk.now) (g.D.Disk.state c.args.disk.now) (g.D.Disk.state c.settle_blocks.new.disk) c.from_residual.ensures.1 c.in_err-settle_blocks-in-Some.ensures.cause (omega arith)
+returns-in_err-settle_blocks-in-Some-clause-cause g c = stop_later c.from_residual.result c.in_err-settle_blocks-in-Some.field-0.0 (g.D.Disk.state c.args.disk.now) (g.D.Disk.state c.args.disk.now) (g.D.Disk.state c.settle_blocks.new.disk) c.from_residual.ensures.1 c.in_err-settle_blocks-in-Some.ensures.cause (omega arith) (omega arith)
