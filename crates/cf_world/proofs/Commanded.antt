@@ -41,6 +41,7 @@ module _ {D R A : Type 0} (state : D → Disk) (told : R → Told) (W : Acts A) 
         runs = r.runs;
         gains = r.gains;
         met = r.met;
+        armed = r.armed;
         lasts = r.lasts;
         promises = λ fresh. promised W.mode held (clusters_on (state disk).seen) trace r.left fresh runs;
         remote = leaves held trace r.left r.holds runs;

@@ -9,7 +9,7 @@ use Rattle.cf_base.specs.declared.codes.Code.TheVariants as code
 use Rattle.cf_base.specs.declared.ids.Usn.{Usn}
 use Rattle.cf_base.specs.declared.statuses.Status.{Status}
 use Rattle.cf_base.specs.declared.statuses.Status.TheVariants as status
-use Rattle.cf_disk.specs.Disk.{Holds, State as Disk, capped, part, size_of}
+use Rattle.cf_disk.specs.Disk.{HasFailed, Holds, State as Disk, may_fail, part, size_of}
 use Rattle.cf_disk.specs.Parts.{holds_part, holds_same}
 use Rattle.cf_io.specs.Moves.{IsLonger, IsQuiet, IsWhole, Rose}
 use Rattle.cf_io.specs.declared.faults.ReadError.{ReadError}
@@ -136,7 +136,7 @@ migrated old new p fair found holds rest ok = record {
 -- one that was not
 
 pub unopened_cause : (s : Status) (e : CallError) (old new : Disk) → (s ≡ status.BadImage → (e ≢ fail.No code.Device) × (e ≢ fail.OutOfMemory)) → (s ≡ status.DeviceFault → e ≡ fail.No code.Device) → (s ≡ status.BadImage) ⊎ ((s ≡ status.DeviceFault) ⊎ (s ≡ status.OutOfMemory))
-    → (e ≡ fail.No code.NotAVolume → IsNoVolume old.seen) → (e ≡ fail.No code.Exhausted → (i : Image) × HoldsImage old.seen i × (i.header.last.epoch ≡ most)) → (e ≡ fail.No code.Device → capped (old.faults + 1) ≤ new.faults)
+    → (e ≡ fail.No code.NotAVolume → IsNoVolume old.seen) → (e ≡ fail.No code.Exhausted → (i : Image) × HoldsImage old.seen i × (i.header.last.epoch ≡ most)) → (e ≡ fail.No code.Device → HasFailed old new)
     → (e ≡ fail.No code.NotAVolume) ⊎ ((e ≡ fail.No code.Exhausted) ⊎ ((e ≡ fail.No code.Device) ⊎ (e ≡ fail.OutOfMemory))) → IsUnopened old new s
 unopened_cause s e old new image device (inr (inr is)) none last cause only = subst (λ (x : Status). IsUnopened old new x) (sym is) tt
 unopened_cause s e old new image device (inr (inl is)) none last cause only = subst (λ (x : Status). IsUnopened old new x) (sym is) (cause (device is))
@@ -165,8 +165,10 @@ unopened_writes old now bytes held status.Unlawful only image size = absurd only
 unopened_writes old now bytes held status.Undecided only image size = absurd only
 unopened_writes old now bytes held status.Damaged only image size = absurd only
 
-pub later_fault : (n : ℕ) (s t : Disk) (held after : Option (List ℕ)) (end : Status) → HandsOut s t held after end → n ≤ s.faults → end ≡ status.DeviceFault → capped (n + 1) ≤ t.faults
-later_fault n s t held after end out least is = let rose = (subst (λ (x : Status). HandsOut s t held after x) is out).0 in omega (arith, rose, least)
+pub later_fault : (r s t : Disk) (held after : Option (List ℕ)) (end : Status) → HandsOut s t held after end → r.faults ≤ s.faults → may_fail s.armed ≤ may_fail r.armed → end ≡ status.DeviceFault → HasFailed r t
+later_fault r s t held after end out least calm is =
+    let failed = (subst (λ (x : Status). HandsOut s t held after x) is out).0 in
+    (omega (arith, failed.0, least), omega (arith, failed.1, calm))
 
 -- the bytes of a whole disk
 

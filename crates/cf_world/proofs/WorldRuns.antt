@@ -2,10 +2,10 @@
 use Rattle.std.proofs.Common.{◌≡◌, ◌≤◌, ◌+◌, ℕ, Bool, true, false, List, [], ◌∷◌, ◌++◌, refl, sym, subst, ◌∙◌, Result, Ok, Err}
 use Rattle.std.specs.Prelude.{Option, Some, None, IfOk, is_some}
 use Rattle.cf_filter_events.specs.Actors.{Acts}
-use Rattle.cf_filter_events.specs.Counted.{Counts}
+use Rattle.cf_filter_events.specs.Counted.{CountsOver, GoesOn}
 use Rattle.cf_filter_events.specs.Meaning.{Is}
 use Rattle.cf_filter_events.specs.Pasts.{Gains, Past, StandsFor, last_image}
-use Rattle.cf_filter_events.specs.Stepped.{StepsOver, disk_of}
+use Rattle.cf_filter_events.specs.Stepped.{Bears, StepsOver, disk_of}
 use Rattle.cf_filter_events.specs.declared.places.Acting.{Acting}
 use Rattle.cf_base.specs.declared.answers.Answer.{Answer}
 use Rattle.cf_base.specs.declared.events.Event.{Event}
@@ -16,7 +16,7 @@ use Rattle.cf_model.specs.Powers.{StandsNow}
 use Rattle.cf_model.specs.State.{State, start}
 use Rattle.cf_model.specs.Store.{Held}
 use Rattle.cf_volume_points.specs.Standing.{clusters_on}
-use Rattle.cf_world.proofs.Counted.{met_more, met_none}
+use Rattle.cf_world.proofs.Counted.{IsArmed, armed_more, armed_none, met_more, met_none}
 use Rattle.cf_world.proofs.OverPowers.{after_all, gains_then, last_then, over_push, over_runs}
 use Rattle.cf_world.specs.Led.{HasRunOn, LeadsActor, LeadsWorld, LeavesActor, met_by}
 use Rattle.cf_world.specs.Steps.{IsLawfulFrom}
@@ -29,11 +29,12 @@ module _ {D A : Type 0} (state : D → Disk) (W : Acts A) where
 
   -- one more event
 
-  world_more : (held : Held) (disk : D) (trace : List (Event × Answer)) (old new : Acting D A) (e : Event) (a : Answer) → StepsOver W.mode (Is W state) e old (Ok a) new → Counts (Is W state) old (Ok a) (state (disk_of old)) (state (disk_of new)) → LeadsWorld state W held disk trace old
+  world_more : (held : Held) (disk : D) (trace : List (Event × Answer)) (old new : Acting D A) (e : Event) (a : Answer) → StepsOver W.mode (Is W state) e old (Ok a) new → CountsOver (Is W state) e old (Ok a) (state (disk_of old)) (state (disk_of new)) → Bears e (state (disk_of old)) (state (disk_of new)) → LeadsWorld state W held disk trace old
       → LeadsWorld state W held disk (trace ++ (e, a) ∷ []) new
-  world_more held disk trace old new e a steps counts r =
+  world_more held disk trace old new e a steps counts bears r =
       let last : Option (List ℕ) = last_image None r.powers in
       let t = steps.leads (record { told = r.told; last = last }) r.left r.is in
+      let counted = counts.counts (record { told = r.told; last = last }) r.left r.is in
       let all : t.2.last ≡ last_image None (r.powers ++ t.1) = after_all StandsFor last e a t.0 t.1 t.2.last t.4 ∙ last_then None r.powers t.1 in
       record {
         left = t.0;
@@ -41,32 +42,34 @@ module _ {D A : Type 0} (state : D → Disk) (W : Acts A) where
         told = t.2.told;
         runs = over_push StandsFor W.mode None (start W.mode held (clusters_on (state disk).seen)) r.left t.0 trace r.powers t.1 e a t.2.last r.runs t.3 t.4;
         gains = gains_then r.powers t.1 (state disk).powers r.told t.2.told r.gains t.5;
-        met = met_more trace e a (state disk).faults (state (disk_of old)) (state (disk_of new)) r.met (counts.counts (record { told = r.told; last = last }) r.left r.is);
+        met = met_more trace e a (state disk).faults (state (disk_of old)) (state (disk_of new)) r.met counted;
+        armed = λ none. armed_more trace e a (state (disk_of old)) (state (disk_of new)) bears counted (r.armed none);
         is = subst (λ (o : Option (List ℕ)). Is W state (record { told = t.2.told; last = o }) new t.0) all t.6;
       }
 
-  goes : (disk : D) (first : A) (trace : List (Event × Answer)) (old new : Option (Acting D A)) (e : Event) (a : Answer) → ((x y : Acting D A) → old ≡ Some x → new ≡ Some y → StepsOver W.mode (Is W state) e x (Ok a) y) → ((x y : Acting D A) → old ≡ Some x → new ≡ Some y → Counts (Is W state) x (Ok a) (state (disk_of x)) (state (disk_of y))) → is_some new ≡ true
+  goes : (disk : D) (first : A) (trace : List (Event × Answer)) (old new : Option (Acting D A)) (e : Event) (a : Answer) → ((x y : Acting D A) → old ≡ Some x → new ≡ Some y → StepsOver W.mode (Is W state) e x (Ok a) y) → ((x y : Acting D A) → old ≡ Some x → new ≡ Some y → CountsOver (Is W state) e x (Ok a) (state (disk_of x)) (state (disk_of y))) → ((x y : Acting D A) → old ≡ Some x → new ≡ Some y → Bears e (state (disk_of x)) (state (disk_of y))) → is_some new ≡ true
       → HasRunOn state W disk first trace old → HasRunOn state W disk first (trace ++ (e, a) ∷ []) new
-  goes disk first trace None new e a steps counts there h = absurd h
-  goes disk first trace (Some x) None e a steps counts there h = let z : false ≡ true = there in absurd cc
-  goes disk first trace (Some x) (Some y) e a steps counts there h = λ held stood. world_more held disk trace x y e a (steps x y refl refl) (counts x y refl refl) (h held stood)
+  goes disk first trace None new e a steps counts bears there h = absurd h
+  goes disk first trace (Some x) None e a steps counts bears there h = let z : false ≡ true = there in absurd cc
+  goes disk first trace (Some x) (Some y) e a steps counts bears there h = λ held stood. world_more held disk trace x y e a (steps x y refl refl) (counts x y refl refl) (bears x y refl refl) (h held stood)
 
   -- the event with its answer, if there is one
-  pub acts : (r : Result Answer NoMemory) (old new : Option (Acting D A)) (e : Event) → ((x y : Acting D A) → old ≡ Some x → new ≡ Some y → StepsOver W.mode (Is W state) e x r y) → ((x y : Acting D A) → old ≡ Some x → new ≡ Some y → Counts (Is W state) x r (state (disk_of x)) (state (disk_of y))) → is_some new ≡ true
+  pub acts : (r : Result Answer NoMemory) (old new : Option (Acting D A)) (e : Event) → ((x y : Acting D A) → old ≡ Some x → new ≡ Some y → StepsOver W.mode (Is W state) e x r y) → ((x y : Acting D A) → old ≡ Some x → new ≡ Some y → CountsOver (Is W state) e x r (state (disk_of x)) (state (disk_of y))) → ((x y : Acting D A) → old ≡ Some x → new ≡ Some y → Bears e (state (disk_of x)) (state (disk_of y))) → is_some new ≡ true
       → IfOk r (λ a. (disk : D) (first : A) (trace : List (Event × Answer)) → HasRunOn state W disk first trace old → HasRunOn state W disk first (trace ++ (e, a) ∷ []) new)
-  acts (Ok a) old new e steps counts there = λ disk first trace h. goes disk first trace old new e a steps counts there h
-  acts (Err x) old new e steps counts there = tt
+  acts (Ok a) old new e steps counts bears there = λ disk first trace h. goes disk first trace old new e a steps counts bears there h
+  acts (Err x) old new e steps counts bears there = tt
 
   -- a world in which nothing has happened
-  pub begins : (disk : D) (first : A) (a : Acting D A) → ((held : Held) → W.stands first (start W.mode held (clusters_on (state disk).seen)) → (past : Past) → past.told ≡ (state disk).powers → Is W state past a (start W.mode held (clusters_on (state disk).seen))) → (state disk).faults ≤ (state (disk_of a)).faults
+  pub begins : (disk : D) (first : A) (a : Acting D A) → ((held : Held) → W.stands first (start W.mode held (clusters_on (state disk).seen)) → (past : Past) → past.told ≡ (state disk).powers → Is W state past a (start W.mode held (clusters_on (state disk).seen))) → GoesOn (state disk) (state (disk_of a))
       → HasRunOn state W disk first [] (Some a)
-  begins disk first a starts least = λ held stood. record {
+  begins disk first a starts goes = λ held stood. record {
     left = start W.mode held (clusters_on (state disk).seen);
     powers = [];
     told = (state disk).powers;
     runs = (refl, refl);
     gains = refl;
-    met = met_none (state disk).faults (state (disk_of a)).faults least;
+    met = met_none (state disk).faults (state (disk_of a)).faults goes.0;
+    armed = λ none. armed_none (state disk) (state (disk_of a)) none goes.1;
     is = starts held stood (record { told = (state disk).powers; last = None }) refl;
   }
 
@@ -82,6 +85,7 @@ module _ {D A : Type 0} (state : D → Disk) (W : Acts A) where
         runs = r.runs;
         gains = subst (λ (o : Option (List (Choice × List ℕ))). Gains r.powers (state disk).powers o) (sym (tells past r.left r.is)) r.gains;
         met = subst (λ (d : D). capped ((state disk).faults + met_by trace) ≤ (state d).faults) (sym same) r.met;
+        armed = λ none. (r.armed none).0;
         lasts = lasts past r.left r.is;
         holds = holds past r.left r.is;
       }

@@ -1,5 +1,5 @@
 -- What the trace of a world is, and what it leaves.
-use Rattle.std.specs.Prelude.{◌≡◌, ◌≤◌, ◌+◌, ℕ, List, [], ◌∷◌, Option, Some, None, cond}
+use Rattle.std.specs.Prelude.{◌≡◌, ◌≤◌, ◌+◌, ℕ, Bool, true, false, List, [], ◌∷◌, Option, Some, None, cond}
 use Rattle.cf_filter_events.specs.Actors.{Acts}
 use Rattle.cf_filter_events.specs.Counted.{meets_device}
 use Rattle.cf_filter_events.specs.Meaning.{Is}
@@ -7,11 +7,14 @@ use Rattle.cf_filter_events.specs.Pasts.{Gains, StandsFor, last_image}
 use Rattle.cf_filter_events.specs.Stepped.{disk_of}
 use Rattle.cf_filter_events.specs.declared.places.Acting.{Acting}
 use Rattle.cf_base.specs.declared.answers.Answer.{Answer}
+use Rattle.cf_base.specs.declared.events.DeviceEvent.{DeviceEvent}
+use Rattle.cf_base.specs.declared.events.DeviceEvent.TheVariants as device
 use Rattle.cf_base.specs.declared.events.Event.{Event}
+use Rattle.cf_base.specs.declared.events.Event.TheVariants as event
 use Rattle.cf_base.specs.declared.policies.Choice.{Choice}
 use Rattle.cf_base.specs.declared.policies.Mode.{Mode}
 use Rattle.cf_base.specs.declared.policies.Mode.TheVariants.{Filter, Replay}
-use Rattle.cf_disk.specs.Disk.{State as Disk, capped}
+use Rattle.cf_disk.specs.Disk.{State as Disk, capped, may_fail}
 use Rattle.cf_link.specs.Linked.{IsRemote}
 use Rattle.cf_model.specs.Lawful.{Lawful}
 use Rattle.cf_model.specs.Powers.{RunsOver, StandsNow}
@@ -27,6 +30,28 @@ use Rattle.cf_volume_points.specs.Standing.{clusters_on}
 abbrev pub met_by : List (Event × Answer) → ℕ
 met_by [] = 0
 met_by (p ∷ ps) = cond (meets_device p.1.shown) 1 0 + met_by ps
+
+-- whether the disk is armed after an event: from a stop on, until a crash
+abbrev pub armed_by : Bool → DeviceEvent → Bool
+armed_by armed (device.Stop calls) = true
+armed_by armed (device.Crash choice) = false
+armed_by armed device.Restart = armed
+
+abbrev pub armed_then : Bool → Event → Bool
+armed_then armed (event.Call c) = armed
+armed_then armed (event.Device e) = armed_by armed e
+armed_then armed (event.Peer e) = armed
+armed_then armed (event.Engine e) = armed
+armed_then armed (event.Provider e) = armed
+
+abbrev pub armed_after : Bool → List (Event × Answer) → Bool
+armed_after armed [] = armed
+armed_after armed (p ∷ ps) = armed_after (armed_then armed p.0) ps
+
+-- each answer Device comes while the disk is armed
+abbrev pub FailsArmed : Bool → List (Event × Answer) → Type 0
+FailsArmed armed [] = Unit {0}
+FailsArmed armed (p ∷ ps) = (meets_device p.1.shown ≡ true → armed ≡ true) × FailsArmed (armed_then armed p.0) ps
 
 -- Which remote of the definitions a run may begin with. In `replay` it is what the remote that is handed in holds, where that reports it,
 -- and it was asked nothing yet. In `filter` no event touches the remote, so it may be any.
@@ -52,14 +77,16 @@ LeavesRemote told Filter held clusters trace left remote = Unit {0}
 -- What a trace leaves of a disk on which it began with a new volume, and of the remote. There is one power cut of the disk for each
 -- crash, with its choice and in order, and each `resumed` opens what the image that the last of them left stands for. These are all
 -- the power cuts that the disk had, where it reports them. Of each answer Device a device call failed in its event: the count of
--- faults rose by as many at least. Whatever a crash leaves then stands for a point that a restart may open. Of the same trace all
--- holds that a user is promised of both commands, where the remote had recorded no token.
+-- faults rose by as many at least; and where the disk reported that none was armed as the run began, an answer Device comes only after a
+-- stop with no crash between. Whatever a crash leaves then stands for a point that a restart may open. Of the same trace all holds that
+-- a user is promised of both commands, where the remote had recorded no token.
 pub record LeadsDisk {D R : Type 0} (state : D → Disk) (told : R → Told) (m : Mode) (held : Held) (disk : D) (trace : List (Event × Answer)) (back : D) (after : R) : Type 0 where
   pub left : State
   pub powers : List (Choice × List ℕ)
   pub runs : RunsOver StandsFor m None (start m held (clusters_on (state disk).seen)) trace powers left
   pub gains : Gains powers (state disk).powers (state back).powers
   pub met : capped ((state disk).faults + met_by trace) ≤ (state back).faults
+  pub armed : (state disk).armed ≡ Some None → FailsArmed false trace
   pub lasts : (c : List ℕ) → (state back).may_leave c → StandsNow StandsFor left c
   pub promises : IsFresh held → Promises m held (clusters_on (state disk).seen) trace left
   pub remote : LeavesRemote told m held (clusters_on (state disk).seen) trace left after
@@ -76,6 +103,7 @@ pub record LeadsWorld {D A : Type 0} (state : D → Disk) (W : Acts A) (held : H
   pub runs : RunsOver StandsFor W.mode None (start W.mode held (clusters_on (state disk).seen)) trace powers left
   pub gains : Gains powers (state disk).powers told
   pub met : capped ((state disk).faults + met_by trace) ≤ (state (disk_of a)).faults
+  pub armed : (state disk).armed ≡ Some None → FailsArmed false trace × (may_fail (state (disk_of a)).armed ≤ cond (armed_after false trace) 1 0)
   pub is : Is W state (record { told = told; last = last_image None powers }) a left
 
 -- the remotes of the definitions that the actor stands for as the run begins
@@ -94,6 +122,7 @@ pub record LeadsActor {D A : Type 0} (state : D → Disk) (W : Acts A) (held : H
   pub runs : RunsOver StandsFor W.mode None (start W.mode held (clusters_on (state disk).seen)) trace powers left
   pub gains : Gains powers (state disk).powers (state back).powers
   pub met : capped ((state disk).faults + met_by trace) ≤ (state back).faults
+  pub armed : (state disk).armed ≡ Some None → FailsArmed false trace
   pub lasts : (c : List ℕ) → (state back).may_leave c → StandsNow StandsFor left c
   pub holds : W.holds actor left
 

@@ -4,7 +4,7 @@ use Rattle.cf_base.specs.declared.changes.Change.{Change}
 use Rattle.cf_base.specs.declared.ids.Usn.{Usn}
 use Rattle.cf_base.specs.declared.statuses.Status.{Status}
 use Rattle.cf_base.specs.declared.statuses.Status.TheVariants as status
-use Rattle.cf_disk.specs.Disk.{State as Disk, capped, size_of}
+use Rattle.cf_disk.specs.Disk.{HasFailed, State as Disk, size_of}
 use Rattle.cf_io.specs.Moves.{Adds, AddsFront}
 use Rattle.cf_journal.specs.Content.{clusters}
 use Rattle.cf_model.specs.Books.{Book}
@@ -31,7 +31,7 @@ IsRefused bytes = IsNoVolume bytes ⊎ ((i : Image) × HoldsImage bytes i × (i.
 -- why the bytes of a disk were not migrated
 abbrev pub IsUnopened : Disk → Disk → Status → Type 0
 IsUnopened old now status.BadImage = IsRefused old.seen
-IsUnopened old now status.DeviceFault = capped (old.faults + 1) ≤ now.faults
+IsUnopened old now status.DeviceFault = HasFailed old now
 IsUnopened old now status.OutOfMemory = Unit {0}
 IsUnopened old now _ = ⊥
 
@@ -53,7 +53,7 @@ IsUnread _ = ⊥
 abbrev pub HandsOut : Disk → Disk → Option (List ℕ) → Option (List ℕ) → Status → Type 0
 HandsOut old now held after status.Done = (now.seen ≡ old.seen) × Adds held after now.seen
 HandsOut old now held after status.SinkFault = (now.seen ≡ old.seen) × AddsFront held after now.seen
-HandsOut old now held after status.DeviceFault = (capped (old.faults + 1) ≤ now.faults) × Adds held after []
+HandsOut old now held after status.DeviceFault = HasFailed old now × Adds held after []
 HandsOut old now held after _ = ⊥
 
 -- What a migration leaves of a disk and a sink, by its status. The bytes are those of the source.

@@ -4,7 +4,7 @@ ghost use Rattle.std.specs.Prelude.{◌≡◌, ◌≢◌, ◌⊎◌, ◌≤◌, 
 ghost use Rattle.cf_base.specs.declared.codes.CallError.TheVariants as fails;
 ghost use Rattle.cf_base.specs.declared.codes.Code.TheVariants as code;
 ghost use Rattle.cf_base.specs.declared.statuses.Status.TheVariants as status;
-ghost use Rattle.cf_disk.specs.Disk.{capped, size_of};
+ghost use Rattle.cf_disk.specs.Disk.{HasFailed, may_fail, size_of};
 ghost use Rattle.cf_io.specs.Moves.{Adds, AddsFront, IsQuiet, IsWhole, Rose};
 ghost use Rattle.cf_io.specs.declared.faults.ReadError.TheVariants as reading;
 ghost use Rattle.cf_journal.specs.Settled.{IsFitSize};
@@ -35,7 +35,7 @@ pub(crate) fn migrate<S: Source, K: Sink, D: Disk>(
     ensures device { result ≡ Status.BadDevice → IsFit (size_of (D.state disk.old)) → ⊥ }
     ensures source_fault { result ≡ Status.SourceFault → Rose (S.faults source.old) (S.faults source.new) }
     ensures sink_fault { result ≡ Status.SinkFault → Rose (K.faults sink.old) (K.faults sink.new) }
-    ensures device_fault { result ≡ Status.DeviceFault → capped ((D.state disk.old).faults + 1) ≤ (D.state disk.new).faults }
+    ensures device_fault { result ≡ Status.DeviceFault → HasFailed (D.state disk.old) (D.state disk.new) }
     ensures unwritten { IsBeforeWriting result → sink.new ≡ sink.old }
     ensures unused { IsBeforeDevice result → disk.new ≡ disk.old }
 {
@@ -73,7 +73,7 @@ fn put<K: Sink, D: Disk>(alloc: Global, bytes: Vec<u8>, sink: &mut K, disk: &mut
     ensures unfit { (IsFit (size_of (D.state disk.old)) → ⊥) → result ≡ Status.BadDevice }
     ensures read { result ≡ Status.SourceFault → ⊥ }
     ensures sink_fault { result ≡ Status.SinkFault → Rose (K.faults sink.old) (K.faults sink.new) }
-    ensures device_fault { result ≡ Status.DeviceFault → capped ((D.state disk.old).faults + 1) ≤ (D.state disk.new).faults }
+    ensures device_fault { result ≡ Status.DeviceFault → HasFailed (D.state disk.old) (D.state disk.new) }
     ensures unwritten { IsBeforeWriting result → sink.new ≡ sink.old }
     ensures unused { IsBeforeDevice result → disk.new ≡ disk.old }
 {
@@ -100,7 +100,8 @@ fn place<D: Disk>(disk: &mut D, bytes: &[u8]) -> Result<(), DiskError>
     ensures placed { OnOk result ((D.state disk.new).seen ≡ bytes.now) }
     ensures same_size { size_of (D.state disk.new) ≡ size_of (D.state disk.old) }
     ensures faults { (D.state disk.old).faults ≤ (D.state disk.new).faults }
-    ensures cause { OnErr result (capped ((D.state disk.old).faults + 1) ≤ (D.state disk.new).faults) }
+    ensures calm { may_fail (D.state disk.new).armed ≤ may_fail (D.state disk.old).armed }
+    ensures cause { OnErr result (HasFailed (D.state disk.old) (D.state disk.new)) }
 {
     disk.write(0, bytes)?;
     disk.sync()?;
@@ -129,6 +130,7 @@ fn open<D: Disk>(alloc: Global, disk: &mut D) -> Result<(), Status>
     ensures cause { IfErr result (IsUnopened (D.state disk.old) (D.state disk.new)) }
     ensures same_size { size_of (D.state disk.new) ≡ size_of (D.state disk.old) }
     ensures faults { (D.state disk.old).faults ≤ (D.state disk.new).faults }
+    ensures calm { may_fail (D.state disk.new).armed ≤ may_fail (D.state disk.old).armed }
 {
     match load(alloc, disk) {
         Ok(parts) => {
@@ -145,10 +147,11 @@ fn rewritten<D: Disk>(alloc: Global, disk: &mut D, bytes: &[u8]) -> Result<(), S
     requires whole { length bytes.now ≡ size_of (D.state disk.old) }
     ensures migrated { OnOk result (IsMigrated bytes.now (D.state disk.new).seen) }
     ensures image { result ≡ Err status.BadImage → IsRefused bytes.now }
-    ensures device { result ≡ Err status.DeviceFault → capped ((D.state disk.old).faults + 1) ≤ (D.state disk.new).faults }
+    ensures device { result ≡ Err status.DeviceFault → HasFailed (D.state disk.old) (D.state disk.new) }
     ensures only { IfErr result IsUnopenedEnd }
     ensures same_size { size_of (D.state disk.new) ≡ size_of (D.state disk.old) }
     ensures faults { (D.state disk.old).faults ≤ (D.state disk.new).faults }
+    ensures calm { may_fail (D.state disk.new).armed ≤ may_fail (D.state disk.old).armed }
 {
     match place(disk, bytes) {
         Ok(()) => open(alloc, disk),

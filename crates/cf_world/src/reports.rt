@@ -2,7 +2,7 @@
 
 ghost use Rattle.std.specs.Prelude.{◌≡◌, ◌≤◌, ◌+◌, [], IsTrue, is_some, length, true};
 ghost use Rattle.std.specs.List.{list_all};
-ghost use Rattle.cf_disk.specs.Disk.{capped, size_of};
+ghost use Rattle.cf_disk.specs.Disk.{HasFailed, size_of};
 ghost use Rattle.cf_io.specs.Moves.{Rose};
 ghost use Rattle.cf_journal.specs.Settled.{IsFitSize};
 ghost use Rattle.cf_model.specs.Events.{is_of};
@@ -45,7 +45,7 @@ pub(crate) fn report<K: Sink, D: Disk + Drop, A: Actor + Drop>(
     ensures writes { WritesBy D.state A.acts disk actor text.now (K.held sink.old) (K.held sink.new) result.status result.disk result.actor }
     ensures only { IsPlayed result.status }
     ensures sink_fault { result.status ≡ Status.SinkFault → Rose (K.faults sink.old) (K.faults sink.new) }
-    ensures device_fault { result.status ≡ Status.DeviceFault → capped ((D.state disk).faults + 1) ≤ (D.state result.disk).faults }
+    ensures device_fault { result.status ≡ Status.DeviceFault → HasFailed (D.state disk) (D.state result.disk) }
     ensures unwritten { result.status ≡ Status.DeviceFault → sink.new ≡ sink.old }
     ensures unstarted { result.status ≡ Status.DeviceFault → result.actor ≡ actor }
 {

@@ -2,7 +2,7 @@
 
 ghost use Rattle.std.specs.Prelude.{◌≡◌, ◌≢◌, ◌⊎◌, ◌≤◌, ◌+◌, ℕ, List, string_bytes, map};
 ghost use Rattle.cf_base.specs.declared.policies.Mode.TheVariants as modes;
-ghost use Rattle.cf_disk.specs.Disk.{capped, size_of};
+ghost use Rattle.cf_disk.specs.Disk.{HasFailed, size_of};
 ghost use Rattle.cf_io.specs.Moves.{Rose, IsQuiet, IsWhole};
 ghost use Rattle.cf_cli.specs.Accounts.{AreTaken, Names};
 ghost use Rattle.cf_cli.specs.declared.commands.Command.{Command as Meant};
@@ -57,7 +57,7 @@ pub fn run<S: Source, K: Sink, D: Disk + Drop, R: Remote + Drop>(
     ensures source_fault { result.status ≡ Status.SourceFault → Rose (S.faults source.old) (S.faults source.new) }
     ensures sink_fault { result.status ≡ Status.SinkFault → Rose (K.faults sink.old) (K.faults sink.new) }
     ensures device { result.status ≡ Status.BadDevice → IsFit (size_of (D.state disk)) → ⊥ }
-    ensures device_fault { result.status ≡ Status.DeviceFault → capped ((D.state disk).faults + 1) ≤ (D.state result.disk).faults }
+    ensures device_fault { result.status ≡ Status.DeviceFault → HasFailed (D.state disk) (D.state result.disk) }
 
     // What is not touched.
     ensures remote { IsBeforeEvents result.status → result.remote ≡ remote }
@@ -92,7 +92,7 @@ fn migrated<S: Source, K: Sink, D: Disk, R: Remote>(
     ensures source_fault { result.status ≡ Status.SourceFault → Rose (S.faults source.old) (S.faults source.new) }
     ensures sink_fault { result.status ≡ Status.SinkFault → Rose (K.faults sink.old) (K.faults sink.new) }
     ensures device { result.status ≡ Status.BadDevice → IsFit (size_of (D.state disk)) → ⊥ }
-    ensures device_fault { result.status ≡ Status.DeviceFault → capped ((D.state disk).faults + 1) ≤ (D.state result.disk).faults }
+    ensures device_fault { result.status ≡ Status.DeviceFault → HasFailed (D.state disk) (D.state result.disk) }
     ensures unwritten { IsBeforeWriting result.status → sink.new ≡ sink.old }
     ensures unused { IsBeforeDevice result.status → result.disk ≡ disk }
 {
@@ -129,7 +129,7 @@ fn sourced<S: Source, K: Sink, D: Disk + Drop, R: Remote + Drop>(
     ensures source_fault { result.status ≡ Status.SourceFault → Rose (S.faults source.old) (S.faults source.new) }
     ensures sink_fault { result.status ≡ Status.SinkFault → Rose (K.faults sink.old) (K.faults sink.new) }
     ensures device { result.status ≡ Status.BadDevice → IsFit (size_of (D.state disk)) → ⊥ }
-    ensures device_fault { result.status ≡ Status.DeviceFault → capped ((D.state disk).faults + 1) ≤ (D.state result.disk).faults }
+    ensures device_fault { result.status ≡ Status.DeviceFault → HasFailed (D.state disk) (D.state result.disk) }
     ensures unwritten { IsBeforeWriting result.status → sink.new ≡ sink.old }
     ensures unused { IsBeforeDevice result.status → result.disk ≡ disk }
 {

@@ -4,7 +4,7 @@ ghost use Rattle.std.specs.Prelude.{◌≡◌, ◌≤◌, ◌+◌, ◌↔◌, Is
 ghost use Rattle.std.specs.List.{list_all};
 ghost use Rattle.cf_base.specs.declared.events.Event.{Event};
 ghost use Rattle.cf_base.specs.declared.policies.Mode.TheVariants as modes;
-ghost use Rattle.cf_disk.specs.Disk.{capped, size_of};
+ghost use Rattle.cf_disk.specs.Disk.{HasFailed, size_of};
 ghost use Rattle.cf_io.specs.Moves.{IsQuiet, Rose};
 ghost use Rattle.cf_journal.specs.Settled.{IsFitSize};
 ghost use Rattle.cf_model.specs.Events.{is_of};
@@ -46,7 +46,7 @@ pub(crate) fn scripted<K: Sink, D: Disk + Drop, R: Remote + Drop>(
     ensures bad { result.status ≡ Status.BadScript → (events : List Event) → IsScript mode text.now events → ⊥ }
     ensures device { result.status ≡ Status.BadDevice → IsFit (size_of (D.state disk)) → ⊥ }
     ensures unfit { (IsFit (size_of (D.state disk)) → ⊥) → (events : List Event) → IsScript mode text.now events → IsUnfit result.status }
-    ensures device_fault { result.status ≡ Status.DeviceFault → capped ((D.state disk).faults + 1) ≤ (D.state result.disk).faults }
+    ensures device_fault { result.status ≡ Status.DeviceFault → HasFailed (D.state disk) (D.state result.disk) }
     ensures unwritten { IsBeforeWriting result.status → sink.new ≡ sink.old }
     ensures unused { IsBeforeDevice result.status → result.disk ≡ disk }
     ensures remote { IsBeforeEvents result.status → result.remote ≡ remote }
@@ -86,7 +86,7 @@ fn started<K: Sink, D: Disk + Drop, R: Remote + Drop>(
     ensures sink_fault { result.status ≡ Status.SinkFault → Rose (K.faults sink.old) (K.faults sink.new) }
     ensures device { result.status ≡ Status.BadDevice → IsFit (size_of (D.state disk)) → ⊥ }
     ensures unfit { (IsFit (size_of (D.state disk)) → ⊥) → result.status ≡ Status.BadDevice }
-    ensures device_fault { result.status ≡ Status.DeviceFault → capped ((D.state disk).faults + 1) ≤ (D.state result.disk).faults }
+    ensures device_fault { result.status ≡ Status.DeviceFault → HasFailed (D.state disk) (D.state result.disk) }
     ensures unwritten { IsBeforeWriting result.status → sink.new ≡ sink.old }
     ensures unused { IsBeforeDevice result.status → result.disk ≡ disk }
     ensures remote { IsBeforeEvents result.status → result.remote ≡ remote }
@@ -120,7 +120,7 @@ fn replayed<K: Sink, D: Disk + Drop, R: Remote + Drop>(
     ensures writes { WritesOf D.state R.told modes.Replay disk remote text.now (K.held sink.old) (K.held sink.new) result.status result.disk result.remote }
     ensures only { IsPlayed result.status }
     ensures sink_fault { result.status ≡ Status.SinkFault → Rose (K.faults sink.old) (K.faults sink.new) }
-    ensures device_fault { result.status ≡ Status.DeviceFault → capped ((D.state disk).faults + 1) ≤ (D.state result.disk).faults }
+    ensures device_fault { result.status ≡ Status.DeviceFault → HasFailed (D.state disk) (D.state result.disk) }
     ensures unwritten { result.status ≡ Status.DeviceFault → sink.new ≡ sink.old }
     ensures unstarted { result.status ≡ Status.DeviceFault → result.remote ≡ remote }
 {
@@ -148,7 +148,7 @@ fn filtered<K: Sink, D: Disk + Drop, R: Remote + Drop>(
     ensures writes { WritesOf D.state R.told modes.Filter disk remote text.now (K.held sink.old) (K.held sink.new) result.status result.disk result.remote }
     ensures only { IsPlayed result.status }
     ensures sink_fault { result.status ≡ Status.SinkFault → Rose (K.faults sink.old) (K.faults sink.new) }
-    ensures device_fault { result.status ≡ Status.DeviceFault → capped ((D.state disk).faults + 1) ≤ (D.state result.disk).faults }
+    ensures device_fault { result.status ≡ Status.DeviceFault → HasFailed (D.state disk) (D.state result.disk) }
     ensures unwritten { result.status ≡ Status.DeviceFault → sink.new ≡ sink.old }
     ensures filter { result.remote ≡ remote }
 {

@@ -1,9 +1,9 @@
 //! The world that a script acts on.
 
 ghost use Rattle.std.specs.Prelude.{◌≡◌, ◌++◌, ◌∷◌, [], is_some, IfErr, IfOk, List, Some, true};
-ghost use Rattle.cf_filter_events.specs.Counted.{Counts};
+ghost use Rattle.cf_filter_events.specs.Counted.{CountsOver};
 ghost use Rattle.cf_filter_events.specs.Meaning.{Is};
-ghost use Rattle.cf_filter_events.specs.Stepped.{StepsOver, disk_of};
+ghost use Rattle.cf_filter_events.specs.Stepped.{Bears, StepsOver, disk_of};
 ghost use Rattle.cf_filter_events.specs.declared.places.Acting.{Acting as Hands};
 ghost use Rattle.cf_base.specs.declared.answers.Answer.{Answer as Answered};
 ghost use Rattle.cf_base.specs.declared.events.Event.{Event as Done};
@@ -108,7 +108,8 @@ fn act_on<D: Disk + Drop, A: Actor + Drop>(
     requires whole { is_some acting.old ≡ true }
     requires of { is_of A.acts.mode event.now ≡ true }
     ensures ok { (a b : Hands D A) → acting.old ≡ Some a → acting.new ≡ Some b → StepsOver A.acts.mode (Is A.acts D.state) event.now a result b }
-    ensures counts { (a b : Hands D A) → acting.old ≡ Some a → acting.new ≡ Some b → Counts (Is A.acts D.state) a result (D.state (disk_of a)) (D.state (disk_of b)) }
+    ensures counts { (a b : Hands D A) → acting.old ≡ Some a → acting.new ≡ Some b → CountsOver (Is A.acts D.state) event.now a result (D.state (disk_of a)) (D.state (disk_of b)) }
+    ensures device { (a b : Hands D A) → acting.old ≡ Some a → acting.new ≡ Some b → Bears event.now (D.state (disk_of a)) (D.state (disk_of b)) }
     ensures whole { is_some acting.new ≡ true }
 {
     let Some(begun) = acting.take() else {

@@ -6,7 +6,7 @@ use Rattle.cf_world.proofs.migrations.put.Goals as goal
 
 pub returns-in-Ok-clause-device_fault : goal.returns-in-Ok-clause-device_fault
 returns-in-Ok-clause-device_fault g c =
-    later_fault (g.D.Disk.state c.args.disk.now).faults (g.D.Disk.state c.rewritten.new.disk) (g.D.Disk.state c.hand_out.new.disk) (g.K.Sink.held c.args.sink.now) (g.K.Sink.held c.hand_out.new.sink) c.hand_out.result c.hand_out.ensures.writes c.rewritten.ensures.faults
+    later_fault (g.D.Disk.state c.args.disk.now) (g.D.Disk.state c.rewritten.new.disk) (g.D.Disk.state c.hand_out.new.disk) (g.K.Sink.held c.args.sink.now) (g.K.Sink.held c.hand_out.new.sink) c.hand_out.result c.hand_out.ensures.writes c.rewritten.ensures.faults c.rewritten.ensures.calm
 
 pub returns-in-Err-clause-writes : goal.returns-in-Err-clause-writes
 returns-in-Err-clause-writes g c =
