@@ -13,6 +13,7 @@ mod words;
 ghost use Rattle.std.specs.Prelude.{◌≡◌, IfOk};
 ghost use Rattle.cf_report.specs.Texts.{text};
 
+pub use crate::changes::{kind_word, pin_word};
 use crate::notices::push_notices;
 use crate::results::push_result;
 use cf_base::{Answer, Blob, OutOfMemory};

@@ -7,4 +7,5 @@ mod first_format;
 mod limits;
 mod openings;
 mod scripts;
+mod scrubs;
 mod steps;

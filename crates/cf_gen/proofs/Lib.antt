@@ -1,0 +1,5 @@
+pub mod Rows
+pub mod SpelledLines
+pub mod RoundsFit
+pub mod Lengths
+pub mod Counted

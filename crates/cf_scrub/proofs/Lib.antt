@@ -1,0 +1,12 @@
+pub mod BlockSteps
+pub mod Bools
+pub mod Children
+pub mod ClusterLaws
+pub mod Judged
+pub mod LastRuns
+pub mod Pushed
+pub mod RowLaws
+pub mod SetLaws
+pub mod StateLaws
+pub mod TreeLaws
+pub mod UpWays
