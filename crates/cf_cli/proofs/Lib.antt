@@ -1,1 +1,4 @@
 pub mod Meets
+pub mod TextMet
+pub mod Named
+pub mod OneCommand

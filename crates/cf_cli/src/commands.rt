@@ -1,14 +1,18 @@
 //! The commands of the program.
 
-ghost use Rattle.std.specs.Prelude.{◌≡◌, ◌≢◌, Some, string_bytes, map, IfOk, IsErrOf};
-ghost use Rattle.clap.specs.Matches.{subcommand_name_of};
+ghost use Rattle.std.specs.Prelude.{◌≡◌, ◌≢◌, ℕ, string_bytes, map, IfOk, IsErrOf};
+ghost use Rattle.clap.specs.Matches.{found_of};
+ghost use Rattle.clap.specs.Simple.{subcommand_rows_of};
 ghost use Rattle.clap.specs.Values.{kind_of};
+ghost use Rattle.clap.specs.Walk.{rows_of};
 ghost use Rattle.clap.specs.declared.error.kind.ErrorKind.TheVariants as kind;
-ghost use Rattle.cf_cli.specs.Accounts.{AreTaken, Names, name_of};
+ghost use Rattle.cf_cli.specs.Accounts.{AreTaken, HasNumber, IsMet, Names};
 ghost use Rattle.cf_cli.specs.declared.commands.Command.{Command as Meant};
+ghost use Rattle.cf_cli.specs.declared.commands.Command.TheVariants as meant;
 ghost use Rattle.cf_cli.specs.declared.commands.WordsError.TheVariants as fails;
 
 use crate::command_line::account;
+use crate::numbers::number;
 use clap::error::ErrorKind;
 use clap::{ArgMatches, Error};
 use std::alloc::{AllocError, Global};
@@ -20,6 +24,14 @@ pub enum Command {
     Replay,
     /// The same with a scripted provider and no engine.
     Filter,
+    /// Reads a script, does it with the engine, and writes the state that it leads to.
+    State,
+    /// Reads a script, does it with the engine, and writes the bytes of the device.
+    Image,
+    /// Makes the script of this number, does it with the engine, and writes a summary.
+    Gen(u32),
+    /// Reads a device's bytes, and writes what is wrong with them.
+    Scrub,
     /// Reads a device's bytes, puts their volume into format 2, and writes them.
     Migrate,
 }
@@ -41,29 +53,47 @@ impl From<AllocError> for WordsError {
     }
 }
 
-/// The command that the words after the program's name are. Refused as Usage exactly where `clap` does not take the words,
-/// but where memory runs out, which is answered as OutOfMemory.
+/// The command that the words after the program's name are. Refused as Usage exactly where `clap` does not take the words, or
+/// where the text of `gen` is no number by the rule of scripts; but where memory runs out, that is answered as OutOfMemory.
 pub fn command_of(alloc: Global, words: &[String]) -> Result<Command, WordsError>
     ensures ok { IfOk result (Names (map string_bytes words.now)) }
     ensures usage { IsErrOf result WordsError.Usage → AreTaken (map string_bytes words.now) → ⊥ }
 {
     let line = account(alloc)?;
     match line.try_get_matches_from(words) {
-        Ok(matches) => Ok(met(&matches)),
+        Ok(matches) => met(alloc, &matches),
         Err(error) => Err(fail_of(&error)),
     }
 }
 
 // The command whose name `clap` met.
-fn met(matches: &ArgMatches) -> Command
-    requires { (c : Meant) × (subcommand_name_of matches.now ≡ Some (name_of c)) }
-    ensures { subcommand_name_of matches.now ≡ Some (name_of result) }
+fn met(alloc: Global, matches: &ArgMatches) -> Result<Command, WordsError>
+    ensures ok { IfOk result (IsMet (subcommand_rows_of matches.now)) }
+    ensures usage { IsErrOf result WordsError.Usage → (c : Meant) → IsMet (subcommand_rows_of matches.now) c → ⊥ }
 {
-    match matches.subcommand_name() {
-        Some("replay") => Command::Replay,
-        Some("filter") => Command::Filter,
-        Some("migrate") => Command::Migrate,
-        _ => unreachable!(),
+    match matches.subcommand() {
+        Some(("replay", _)) => Ok(Command::Replay),
+        Some(("filter", _)) => Ok(Command::Filter),
+        Some(("state", _)) => Ok(Command::State),
+        Some(("image", _)) => Ok(Command::Image),
+        Some(("gen", found)) => numbered(alloc, found),
+        Some(("scrub", _)) => Ok(Command::Scrub),
+        Some(("migrate", _)) => Ok(Command::Migrate),
+        _ => Err(WordsError::Usage),
+    }
+}
+
+// The command `gen`, with its number.
+fn numbered(alloc: Global, found: &ArgMatches) -> Result<Command, WordsError>
+    ensures ok { IfOk result (λ c. (n : ℕ) × (c ≡ meant.Gen n) × HasNumber (meant.Gen n) (rows_of (found_of found.now))) }
+    ensures usage { IsErrOf result WordsError.Usage → (n : ℕ) → HasNumber (meant.Gen n) (rows_of (found_of found.now)) → ⊥ }
+{
+    let Some(text) = found.get_str("number") else {
+        return Err(WordsError::Usage);
+    };
+    match number(alloc, text)? {
+        Some(n) => Ok(Command::Gen(n)),
+        None => Err(WordsError::Usage),
     }
 }
 

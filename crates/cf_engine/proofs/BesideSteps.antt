@@ -15,11 +15,17 @@ use Rattle.cf_base.specs.declared.messages.Reply.{Reply}
 use Rattle.cf_base.specs.declared.notices.Notice.{Notice}
 use Rattle.cf_base.specs.declared.policies.Mode.TheVariants as mode
 use Rattle.cf_engine.specs.Actors.{Holds, Stands, Syncing, acts_of}
-use Rattle.cf_engine_steps.specs.States.{Own, with_link_of}
+use Rattle.cf_engine.proofs.PeerFaults.{peer_pays}
+use Rattle.cf_engine_steps.specs.States.{Own, faults_of, with_link_of}
+use Rattle.cf_filter_events.proofs.CallFaults.{rose_same}
+use Rattle.cf_filter_events.proofs.EventFaults.{lines_faults, result_faults}
 use Rattle.cf_filter_events.specs.Actors.{LeavesTo, StepsBeside}
+use Rattle.cf_filter_events.specs.Faulted.{FaultsTo, is_remote_fault, meets_remote}
 use Rattle.cf_filter.specs.Calling.{shows_done}
 use Rattle.cf_filter_events.specs.Answered.{answer_with, answered_by, showing}
+use Rattle.cf_link.proofs.FaultCounts.{rises_by}
 use Rattle.cf_link.proofs.Ways.{leads_ends}
+use Rattle.cf_link.specs.Faults.{RoseBy, faults_in}
 use Rattle.cf_link.specs.Linked.{Arrives, Does, DoesPeer, IsLink, lines_of, with_line}
 use Rattle.cf_link.specs.Linked as links
 use Rattle.cf_model.proofs.TraceLaws.{ended_step}
@@ -52,7 +58,8 @@ module _ {R : Type 0} (told : R → Told) where
     pub token : next ≡ tokens + 1
 
   module _ (e : Event) (a : Answer) (x y : Syncing R) (is : IsBeside e) (rest : y.engine ≡ with_link_of y.engine.agent.link x.engine)
-      (leads : (s : State) → IsLink told x.engine.agent.link s.link → x.next ≡ s.peer_tokens + 1 → Leaves e a y.engine.agent.link y.next s) where
+      (leads : (s : State) → IsLink told x.engine.agent.link s.link → x.next ≡ s.peer_tokens + 1 → Leaves e a y.engine.agent.link y.next s)
+      (pays : (s : State) → IsLink told x.engine.agent.link s.link → x.next ≡ s.peer_tokens + 1 → FaultsTo (Ok a) (faults_of told x.engine) (faults_of told y.engine)) where
     abbrev stepped : (Is : Syncing R → State → Type 0) (s : State) (l : Leaves e a y.engine.agent.link y.next s) → Is y (changed l.link l.tokens a.notes a.stray s) → LeavesTo mode.Replay Is e s (Ok a) y
     stepped Is s l h = (
       changed l.link l.tokens a.notes a.stray s,
@@ -67,10 +74,11 @@ module _ {R : Type 0} (told : R → Told) where
           let l = leads s h.held.link h.held.next in
           stepped (Stands told) s l (record { held = record { link = l.stands; next = l.token }; volatile = ap (λ (o : Own R). o.volatile) rest ∙ h.volatile });
       held = λ s m h. let l = leads s h.link h.next in stepped (Holds told) s l (record { link = l.stands; next = l.token });
+      faults = λ s h. pays s h.link h.next;
     }
 
   pub no_memory : (e : Event) (x y : Syncing R) (m : NoMemory) → StepsBeside (acts_of told) e x (Err m) y
-  no_memory e x y m = record { on = λ s k h. record {}; held = λ s k h. record {} }
+  no_memory e x y m = record { on = λ s k h. record {}; held = λ s k h. record {}; faults = λ s h. record {} }
 
   -- the link is made inline, or not
 
@@ -85,7 +93,8 @@ module _ {R : Type 0} (told : R → Told) where
   sets_link inline x y a is says = subst (λ (b : Answer). StepsBeside (acts_of told) (event.Engine (engine.Link inline)) x (Ok b) y) (sym says)
       (subst (λ (z : Syncing R). StepsBeside (acts_of told) (event.Engine (engine.Link inline)) x (Ok (answer_with shown.Done [])) z) (sym is)
       (steps_beside (event.Engine (engine.Link inline)) (answer_with shown.Done []) x (record x { engine = with_link_of (inline_on inline x.engine.agent.link) x.engine }) (record { of = refl; needs = refl }) refl
-      (λ s link next. record { link = record s.link { inline = inline }; tokens = s.peer_tokens; ends = (refl, refl); stands = link_on inline x.engine.agent.link s.link link; token = next })))
+      (λ s link next. record { link = record s.link { inline = inline }; tokens = s.peer_tokens; ends = (refl, refl); stands = link_on inline x.engine.agent.link s.link link; token = next })
+      (λ s link next. lines_faults (answer_with shown.Done []) (faults_of told x.engine) (faults_of told x.engine) refl (rose_same 0 (faults_of told x.engine) refl))))
 
   -- a message is handed to the remote
 
@@ -93,8 +102,9 @@ module _ {R : Type 0} (told : R → Told) where
     abbrev arrival : Event
     arrival = event.Engine (engine.Arrive m)
 
-    arrives_by : (r : Shown) (line : Option Notice) → Does told (arrive m) x.engine.agent.link r line y.engine.agent.link → StepsBeside (acts_of told) arrival x (Ok (answer_with r (lines_of line))) y
-    arrives_by r line does = steps_beside arrival (answer_with r (lines_of line)) x y (record { of = refl; needs = refl }) rest (λ s link next.
+    arrives_by : (r : Shown) (line : Option Notice) → Does told (arrive m) x.engine.agent.link r line y.engine.agent.link → meets_remote r ≡ false → RoseBy (faults_in (lines_of line)) (faults_of told x.engine) (faults_of told y.engine)
+        → StepsBeside (acts_of told) arrival x (Ok (answer_with r (lines_of line))) y
+    arrives_by r line does plain rose = steps_beside arrival (answer_with r (lines_of line)) x y (record { of = refl; needs = refl }) rest (λ s link next.
         let d = does.ends (begun s) link in record {
           link = d.link;
           tokens = s.peer_tokens;
@@ -102,12 +112,16 @@ module _ {R : Type 0} (told : R → Told) where
               (leads_ends (arrive m (begun s)) (told x.engine.agent.link.remote) (told y.engine.agent.link.remote) r (with_line line (with_link d.link (begun s))) d.leads);
           stands = d.stands;
           token = same ∙ next;
-        })
+        }) (λ s link next. lines_faults (answer_with r (lines_of line)) (faults_of told x.engine) (faults_of told y.engine) plain rose)
+
+    -- a link that stays as it is, and so does the remote's count
+    still : y.engine.agent.link ≡ x.engine.agent.link → RoseBy 0 (faults_of told x.engine) (faults_of told y.engine)
+    still kept = subst (λ (l : links.Linked R). RoseBy 0 (faults_of told x.engine) (told l.remote).faults) (sym kept) (rose_same 0 (faults_of told x.engine) refl)
 
     arrives_to : (r : Result (Unit {0}) CallError) (ns : List Notice) → Arrives told m x.engine.agent.link [] r y.engine.agent.link ns → StepsBeside (acts_of told) arrival x (answered_by (showing shows_done r) ns) y
     unfolding shows_done
-    arrives_to (Ok u) ns h = subst (λ (l : List Notice). StepsBeside (acts_of told) arrival x (Ok (answer_with shown.Done l)) y) (sym h.1) (arrives_by shown.Done h.0 h.2)
-    arrives_to (Err (No c)) ns h = subst (λ (l : List Notice). StepsBeside (acts_of told) arrival x (Ok (answer_with (shown.Refused c) l)) y) (sym h.1) (arrives_by (shown.Refused c) None h.3)
+    arrives_to (Ok u) ns h = subst (λ (l : List Notice). StepsBeside (acts_of told) arrival x (Ok (answer_with shown.Done l)) y) (sym h.1) (arrives_by shown.Done h.0 h.2 refl (rises_by h.0 (faults_of told x.engine) (faults_of told y.engine) h.3))
+    arrives_to (Err (No c)) ns h = subst (λ (l : List Notice). StepsBeside (acts_of told) arrival x (Ok (answer_with (shown.Refused c) l)) y) (sym h.1) (arrives_by (shown.Refused c) None h.3 (ap is_remote_fault h.0) (still h.2))
     arrives_to (Err OutOfMemory) ns h = no_memory arrival x y (record {})
 
   pub arrives : (m : ℕ) (x y : Syncing R) (r : Result (Unit {0}) CallError) (q : Result Shown CallError) (none ns : List Notice) (a : Result Answer NoMemory) → y.engine ≡ with_link_of y.engine.agent.link x.engine → y.next ≡ x.next → none ≡ []
@@ -128,7 +142,9 @@ module _ {R : Type 0} (told : R → Told) where
             (leads_ends (peer_event e (begun s)) (told x.engine.agent.link.remote) (told y.engine.agent.link.remote) a.shown (changed d.link d.tokens [] a.stray s) d.leads);
         stands = d.stands;
         token = d.next;
-      })
+      }) (λ s link next.
+      let d = does.ends (begun s) refl next link in
+      result_faults a (faults_of told x.engine) (faults_of told y.engine) d.notes (peer_pays e (begun s) (changed d.link d.tokens [] a.stray s) (told x.engine.agent.link.remote) (told y.engine.agent.link.remote) a.shown d.leads))
 
   -- the same as the code comes to them
 

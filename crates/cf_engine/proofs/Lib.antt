@@ -1,4 +1,5 @@
 pub mod BesideSteps
 pub mod Opened
+pub mod PeerFaults
 pub mod SessionSteps
 pub mod Started

@@ -1,5 +1,5 @@
 -- An event of the engine on the open volume is a step of the definitions.
-use Rattle.std.proofs.Common.{◌≡◌, ◌+◌, ◌≤◌, Bool, true, false, ℕ, List, [], refl, sym, ◌∙◌, ap, subst}
+use Rattle.std.proofs.Common.{◌≡◌, ◌+◌, Bool, true, false, ℕ, List, [], refl, sym, ◌∙◌, ap, subst}
 use Rattle.std.specs.Prelude.{Option, None, Result, Ok, Err, IfOk, is_err}
 use Rattle.cf_base.specs.declared.answers.Answer.{Answer}
 use Rattle.cf_base.specs.declared.answers.Shown.{Shown}
@@ -19,13 +19,16 @@ use Rattle.cf_engine.specs.Actors.{Holds, Stands, Syncing, acts_of}
 use Rattle.cf_engine.specs.Sessions.{StepsEngine, said}
 use Rattle.cf_engine_steps.specs.Answering.{Answers, Any}
 use Rattle.cf_engine_steps.specs.States as states
-use Rattle.cf_engine_steps.specs.States.{Means, Own, whole}
+use Rattle.cf_engine_steps.specs.States.{Means, Own, faults_of, whole}
 use Rattle.cf_filter.proofs.Called.{is_broken, noted_back, whole_again}
 use Rattle.cf_filter.specs.Calling.{Told as Said, answer_of, broken_by, is_stopped, noted}
+use Rattle.cf_filter_events.proofs.CallFaults.{rose_lines}
+use Rattle.cf_filter_events.proofs.Counted.{ran_on}
 use Rattle.cf_filter_events.proofs.Finished.{while_on}
 use Rattle.cf_filter_events.proofs.Hushed.{disk_moved, notes_told, stands_hushed, stands_noted, stop_lasts, stop_policy, stop_told}
 use Rattle.cf_filter_events.specs.Actors.{hushed}
 use Rattle.cf_filter_events.specs.Answered.{answer_with, answered_by}
+use Rattle.cf_filter_events.specs.Counted.{GoesOn}
 use Rattle.cf_filter_events.specs.Meaning.{IsBegun, IsDiskOf, IsOn, OnBy}
 use Rattle.cf_filter_events.specs.Pasts.{Past}
 use Rattle.cf_filter_events.specs.Stepped.{SteppedTo}
@@ -136,9 +139,9 @@ module _ {D R : Type 0} (state : D → Disk) (told : R → Told) where
   unfolding noted
   disk_left past x w y v t same disk moved = subst (λ (d : D). IsDiskOf past (state d) t.volume) (sym same) (disk_moved past (state x.disk) (state w.disk) v.volume t.volume disk moved)
 
-  least : (x w y : Held D) (v t : Filter) → y.disk ≡ w.disk → Moved (state (noted [] x).disk) (state w.disk) v.volume t.volume → (state x.disk).faults ≤ (state y.disk).faults
+  goes : (x w y : Held D) (v t : Filter) → y.disk ≡ w.disk → Moved (state (noted [] x).disk) (state w.disk) v.volume t.volume → GoesOn (state x.disk) (state y.disk)
   unfolding noted
-  least x w y v t same moved = subst (λ (d : D). (state x.disk).faults ≤ (state d).faults) (sym same) moved.runs.faults
+  goes x w y v t same moved = subst (λ (d : D). GoesOn (state x.disk) (state d)) (sym same) (ran_on (state x.disk) (state w.disk) moved.runs)
 
   rose : (x w y : Held D) → y.disk ≡ w.disk → Rose (state (noted [] x).disk) (state w.disk) → Rose (state x.disk) (state y.disk)
   unfolding noted
@@ -177,7 +180,11 @@ module _ {D R : Type 0} (state : D → Disk) (told : R → Told) where
           (disk_left past x w y (begun s).filter l.0.filter (same_disk false stash w y is) h.disk l.2) (means_back w (noted ns y) f l.0 (given_back false stash ns w y is back) l.3.0);
       counts = λ past s h.
           let l = part.leads (begun s) (means_begun past x (record { engine = c; next = next }) s h) (record {}) in
-          (least x w y (begun s).filter l.0.filter (same_disk false stash w y is) l.2, λ broken met. never (sym (is_broken state false (noted stash w) y is) ∙ broken));
+          (goes x w y (begun s).filter l.0.filter (same_disk false stash w y is) l.2, λ broken met. never (sym (is_broken state false (noted stash w) y is) ∙ broken));
+      faults = λ past s h.
+          let l = part.leads (begun s) (means_begun past x (record { engine = c; next = next }) s h) (record {}) in
+          let m = means_back w (noted ns y) f l.0 (given_back false stash ns w y is back) l.3.0 in
+          rose_lines ns (begun s).filter l.0.filter (faults_of told c) (faults_of told f) refl (notes_told state y ns l.0.filter m.filter) l.3.1;
     }
     session_of (Err (No k)) is part next = record {
       steps = λ past s h.
@@ -186,9 +193,13 @@ module _ {D R : Type 0} (state : D → Disk) (told : R → Told) where
           (disk_left past x w y (begun s).filter l.0.filter (same_disk true stash w y is) h.disk l.2) (stopped_back (noted [] x) w (noted ns y) f l.0 (given_back true stash ns w y is back) l.3.0);
       counts = λ past s h.
           let l = part.leads (begun s) (means_begun past x (record { engine = c; next = next }) s h) (record {}) in
-          (least x w y (begun s).filter l.0.filter (same_disk true stash w y is) l.2, λ broken met. rose x w y (same_disk true stash w y is) l.3.0.filter.1);
+          (goes x w y (begun s).filter l.0.filter (same_disk true stash w y is) l.2, λ broken met. rose x w y (same_disk true stash w y is) l.3.0.filter.1);
+      faults = λ past s h.
+          let l = part.leads (begun s) (means_begun past x (record { engine = c; next = next }) s h) (record {}) in
+          let m = stopped_back (noted [] x) w (noted ns y) f l.0 (given_back true stash ns w y is back) l.3.0 in
+          rose_lines ns (begun s).filter l.0.filter (faults_of told c) (faults_of told f) refl (stop_told state y ns l.0.filter m.filter.0) l.3.1;
     }
-    session_of (Err OutOfMemory) is part next = record { steps = λ past s h. record {}; counts = λ past s h. record {} }
+    session_of (Err OutOfMemory) is part next = record { steps = λ past s h. record {}; counts = λ past s h. record {}; faults = λ past s h. record {} }
 
   -- the same as the code comes to it
   pub session : (e : EngineEvent) (x m w y : Held D) (c f : Own R) (none stash ns : List Notice) (p r : Result Shown CallError) (q : Said Shown) (a : Result Answer NoMemory) → engine_needs e ≡ true → none ≡ [] → m ≡ noted none x → stash ≡ x.desk.notes

@@ -71,6 +71,7 @@ module _ {R : Type 0} (told : R → Told) where
     stands_on = λ x s t same h. record { held = holds_on x s t same.link same.tokens h.held; volatile = h.volatile ∙ sym same.volatile };
     stands_held = λ x s h. h.held;
     holds_on = holds_on;
+    faulted = λ x y seen call did gives. gives.engine.agent.faults;
   }
 
   pub begins : (x y : Syncing R) → y ≡ record x { engine = event_begun x.engine } → Begins (acts_of told) x y

@@ -9,6 +9,7 @@ use Rattle.cf_filter_events.specs.Pasts.{Past}
 use Rattle.cf_filter_events.specs.Stepped.{SteppedTo}
 use Rattle.cf_filter_events.proofs.Called.{comes_by}
 use Rattle.cf_filter_events.proofs.Counted.{asks_count, plainly_count}
+use Rattle.cf_filter_events.proofs.CallFaults.{plainly_faults}
 use Rattle.cf_filter_events.proofs.Finished.{Comes, IsCall, finished}
 use Rattle.cf_filter_events.proofs.Hushed.{noted_none}
 use Rattle.cf_base.specs.declared.answers.Answer.{Answer}
@@ -119,10 +120,10 @@ module _ {D A : Type 0} (answers : Answering A) (acts : Acts A) (actor : IsActor
       → ((z : State) → z.mode ≡ acts.mode → event_now e z ≡ in_filter part z) → ns ≡ [] → Asks (sense state) show part x r → w ≡ showing show r → a ≡ answered_by w ns → StepsOn acts state e (record { filter = x; actor = p }) a (record { filter = x; actor = p })
   asks_step e part show p ns x r w a call never is none asks shows tells =
       subst (λ (b : Result Answer NoMemory). StepsOn acts state e (record { filter = x; actor = p }) b (record { filter = x; actor = p })) (sym (tells ∙ ap (λ (v : Result Shown CallError). answered_by v ns) shows ∙ ap (λ (l : List Notice). answered_by (showing show r) l) none))
-      (record { steps = asks_by e part show p x r call never is asks; counts = λ past s on. asks_count state part show x r asks })
+      (record { steps = asks_by e part show p x r call never is asks; counts = λ past s on. asks_count state part show x r asks; faults = λ past s on. plainly_faults acts show p r })
 
   pub calls_plainly : {B : Type 0} (e : Event) (part : Arrow Filter Shown) (show : B → Shown) (p : A) (ns : List Notice) (x y : Held D) (r : Result B CallError) (w : Result Shown CallError) (a : Result Answer NoMemory) → IsCall acts.mode e → Preserves Hush part
       → ((z : State) → z.mode ≡ acts.mode → event_now e z ≡ in_filter part z) → ns ≡ [] → Calls (sense state) show part x r y → w ≡ showing show r → a ≡ answered_by w ns → StepsOn acts state e (record { filter = x; actor = p }) a (record { filter = y; actor = p })
   calls_plainly e part show p ns x y r w a call hush is none calls shows tells =
       subst (λ (b : Result Answer NoMemory). StepsOn acts state e (record { filter = x; actor = p }) b (record { filter = y; actor = p })) (sym (tells ∙ ap (λ (v : Result Shown CallError). answered_by v ns) shows ∙ ap (λ (l : List Notice). answered_by (showing show r) l) none))
-      (record { steps = plainly_by e part show p x y r call hush is calls; counts = plainly_count acts state part show p x y r calls })
+      (record { steps = plainly_by e part show p x y r call hush is calls; counts = plainly_count acts state part show p x y r calls; faults = λ past s on. plainly_faults acts show p r })

@@ -4,11 +4,13 @@ use Rattle.std.specs.Prelude.{Result, Ok, Err}
 use Rattle.cf_filter_events.specs.Actors.{Acts, Begins, LeavesFilter, LeavesTo, StepsBeside}
 use Rattle.cf_filter_events.specs.Answered.{answer_with}
 use Rattle.cf_filter_events.specs.Counted.{Counts, StepsOn, known_by}
+use Rattle.cf_filter_events.specs.Faulted.{Faults, local_by}
 use Rattle.cf_filter_events.specs.Meaning.{IsBegun, IsDiskOf, IsOn, OnBy}
 use Rattle.cf_filter_events.specs.Pasts.{Past}
 use Rattle.cf_filter_events.specs.Stepped.{SteppedTo, Steps}
 use Rattle.cf_filter_events.specs.declared.places.Running.{Running as Run}
-use Rattle.cf_filter_events.proofs.Counted.{begun_counts, known_same, known_steps}
+use Rattle.cf_filter_events.proofs.Counted.{begun_counts, known_same, known_steps, local_steps}
+use Rattle.cf_filter_events.proofs.EventFaults.{begun_faults}
 use Rattle.cf_filter_events.proofs.Finished.{broken_step}
 use Rattle.cf_base.specs.declared.answers.Answer.{Answer}
 use Rattle.cf_base.specs.declared.answers.Shown.TheVariants as shown
@@ -30,13 +32,19 @@ module _ {D A : Type 0} (acts : Acts A) (state : D → Disk) where
       let h : OnBy acts state false (record { filter = x; actor = p }) s = subst (λ (b : Bool). OnBy acts state b (record { filter = x; actor = p }) s) whole on.is in
       record { mode = on.mode; power = h.0; sees = begins s on.mode h.0 h.1; whole = whole; quiet = on.quiet; disk = on.disk; stands = h.2 }
 
-  pub begun_steps : (e : Event) (x : Held D) (p q : A) (y : Run D A) (b : Bool) (r a : Result Answer NoMemory) → Begins acts p q → x.desk.broken ≡ false → StepsOn acts state e (record { filter = x; actor = q }) r y → a ≡ known_by b r
+  pub begun_steps : (e : Event) (x : Held D) (p q : A) (y : Run D A) (b : Bool) (r k a : Result Answer NoMemory) → Begins acts p q → x.desk.broken ≡ false → StepsOn acts state e (record { filter = x; actor = q }) r y → k ≡ known_by b r → a ≡ local_by k
       → Steps acts.mode (IsOn acts state) e (record { filter = x; actor = p }) a y
-  begun_steps e x p q y b r a begins whole h is = record { leads = λ past s on. known_steps acts.mode (IsOn acts state past) e s y b r a is (h.steps past s (begins_event past x p q s begins whole on)) }
+  begun_steps e x p q y b r k a begins whole h is local = record {
+    leads = λ past s on. local_steps acts.mode (IsOn acts state past) e s y k a local (known_steps acts.mode (IsOn acts state past) e s y b r k is (h.steps past s (begins_event past x p q s begins whole on)));
+  }
 
-  pub begun_counting : (e : Event) (x : Held D) (p q : A) (y : Run D A) (b : Bool) (r a : Result Answer NoMemory) → Begins acts p q → x.desk.broken ≡ false → StepsOn acts state e (record { filter = x; actor = q }) r y → b ≡ y.filter.desk.broken → a ≡ known_by b r
+  pub begun_counting : (e : Event) (x : Held D) (p q : A) (y : Run D A) (b : Bool) (r k a : Result Answer NoMemory) → Begins acts p q → x.desk.broken ≡ false → StepsOn acts state e (record { filter = x; actor = q }) r y → b ≡ y.filter.desk.broken → k ≡ known_by b r → a ≡ local_by k
       → Counts (IsOn acts state) (record { filter = x; actor = p }) a (state x.disk) (state y.filter.disk)
-  begun_counting e x p q y b r a begins whole h broken is = record { counts = λ past s on. begun_counts acts state past s e (record { filter = x; actor = q }) y b r a broken is h (begins_event past x p q s begins whole on) }
+  begun_counting e x p q y b r k a begins whole h broken is local = record { counts = λ past s on. begun_counts acts state past s e (record { filter = x; actor = q }) y b r k a broken is local h (begins_event past x p q s begins whole on) }
+
+  pub begun_faulting : (e : Event) (x : Held D) (p q : A) (y : Run D A) (b : Bool) (r k a : Result Answer NoMemory) → Begins acts p q → acts.faults q ≡ acts.faults p → x.desk.broken ≡ false → StepsOn acts state e (record { filter = x; actor = q }) r y → k ≡ known_by b r → a ≡ local_by k
+      → Faults (IsOn acts state) (record { filter = x; actor = p }) a (acts.faults p) (acts.faults y.actor)
+  begun_faulting e x p q y b r k a begins same whole h is local = record { rose = λ past s on. begun_faults acts state past s e (acts.faults p) (record { filter = x; actor = q }) y b r k a same is local h (begins_event past x p q s begins whole on) }
 
   -- one after an event that met Device
   pub broken_refuses : (e : Event) (x : Run D A) → is_of acts.mode e ≡ true → needs_volume e ≡ true → x.filter.desk.broken ≡ true → Steps acts.mode (IsOn acts state) e x (Ok (answer_with (shown.Refused code.Broken) [])) x

@@ -1,5 +1,5 @@
 -- Calls without callbacks.
-use Rattle.std.proofs.Common.{◌≡◌, List, [], refl, sym, ap, subst, ◌∙◌}
+use Rattle.std.proofs.Common.{◌≡◌, List, [], sym, ap, subst, ◌∙◌}
 use Rattle.std.specs.Prelude.{Result, Ok, Err}
 use Rattle.cf_filter_events.specs.Answered.{answered_by, showing}
 use Rattle.cf_filter_events.specs.Counted.{StepsOn}
@@ -8,8 +8,9 @@ use Rattle.cf_filter_events.specs.Meaning.{IsBegun, IsDiskOf, IsOn}
 use Rattle.cf_filter_events.specs.Pasts.{Past}
 use Rattle.cf_filter_events.specs.Stepped.{SteppedTo}
 use Rattle.cf_filter_events.proofs.Counted.{calls_count}
+use Rattle.cf_filter_events.proofs.CallFaults.{IsMade, calls_faults}
 use Rattle.cf_filter_events.proofs.Finished.{Comes, IsCall, LeftTo, finished}
-use Rattle.cf_filter_events.proofs.Hushed.{disk_moved, stands_noted}
+use Rattle.cf_filter_events.proofs.Hushed.{disk_moved, is_broken, stands_noted, was_broken}
 use Rattle.cf_base.specs.declared.answers.Answer.{Answer}
 use Rattle.cf_base.specs.declared.answers.Shown.{Shown}
 use Rattle.cf_base.specs.declared.codes.CallError.{CallError}
@@ -34,14 +35,6 @@ module _ {D : Type 0} (state : D → Disk) where
   pub disk_left : (past : Past) (x y : Held D) (ns : List Notice) (v : Filter) (t : Filter) → IsDiskOf past (state x.disk) v.volume → Moved (state (noted [] x).disk) (state (noted ns y).disk) v.volume t.volume → IsDiskOf past (state y.disk) t.volume
   unfolding noted
   disk_left past x y ns v t disk moved = disk_moved past (state x.disk) (state y.disk) v.volume t.volume disk moved
-
-  pub was_broken : (x : Held D) → (noted [] x).desk.broken ≡ x.desk.broken
-  unfolding noted
-  was_broken x = refl
-
-  pub is_broken : (y : Held D) (ns : List Notice) → (noted ns y).desk.broken ≡ y.desk.broken
-  unfolding noted
-  is_broken y ns = refl
 
 module _ {D A : Type 0} (answers : Answering A) (acts : Acts A) (actor : IsActor answers acts) (state : D → Disk) where
   left_to : (r : Result Shown CallError) (p : A) (x y : Held D) (z : State) (t : Filter) → acts.sees p z → After (sense state) x r y t → LeftTo answers acts actor state r p y (with_filter t z)
@@ -73,12 +66,13 @@ module _ {D A : Type 0} (answers : Answering A) (acts : Acts A) (actor : IsActor
 
   -- the same, as a call is written
   pub calls_step : {B : Type 0} (e : Event) (part : Arrow Filter Shown) (show : B → Shown) (p : A) (none ns : List Notice) (x y : Held D) (r : Result B CallError) (w : Result Shown CallError) (a : Result Answer NoMemory)
-      → IsCall acts.mode e → ((z : State) → z.mode ≡ acts.mode → event_now e z ≡ in_filter part z) → none ≡ [] → Calls (sense state) show part (noted none x) r (noted ns y) → y.desk.notes ≡ x.desk.notes → w ≡ showing show r → a ≡ answered_by w ns
+      → IsCall acts.mode e → IsMade part → ((z : State) → z.mode ≡ acts.mode → event_now e z ≡ in_filter part z) → none ≡ [] → Calls (sense state) show part (noted none x) r (noted ns y) → y.desk.notes ≡ x.desk.notes → w ≡ showing show r → a ≡ answered_by w ns
       → StepsOn acts state e (record { filter = x; actor = p }) a (record { filter = y; actor = p })
-  calls_step {B} e part show p none ns x y r w a call is begins calls kept shows tells =
+  calls_step {B} e part show p none ns x y r w a call made is begins calls kept shows tells =
       let c = subst (λ (l : List Notice). Calls (sense state) show part (noted l x) r (noted ns y)) begins calls in
       let h : StepsOn acts state e (record { filter = x; actor = p }) (answered_by (showing show r) ns) (record { filter = y; actor = p }) = record {
         steps = calls_by e part show p ns x y r call is c kept;
         counts = calls_count acts state part show p ns x y r c;
+        faults = calls_faults acts state part show p ns x y r made c;
       } in
       subst (λ (b : Result Answer NoMemory). StepsOn acts state e (record { filter = x; actor = p }) b (record { filter = y; actor = p })) (sym (tells ∙ ap (λ (v : Result Shown CallError). answered_by v ns) shows)) h

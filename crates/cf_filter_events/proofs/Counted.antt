@@ -4,6 +4,7 @@ use Rattle.std.specs.Prelude.{◌⊎◌, IfOk, None, Option, Result, Ok, Err, So
 use Rattle.cf_filter_events.specs.Answered.{answer_with, answered_by, showing}
 use Rattle.cf_filter_events.specs.Counted.{CountsBy, CountsIf, CountsOver, CountsTo, Counts, GoesOn, StepsOn, arms, known_as, known_by, meets_device}
 use Rattle.cf_filter_events.specs.Actors.{Acts, hushed}
+use Rattle.cf_filter_events.specs.Faulted.{local_as, local_by, meets_remote}
 use Rattle.cf_filter_events.specs.Meaning.{Is, IsBegun, IsOn}
 use Rattle.cf_filter_events.specs.Pasts.{Past}
 use Rattle.cf_filter_events.specs.Stepped.{SteppedTo, actor_of, disk_of}
@@ -196,6 +197,27 @@ known_or m Is e s y b (Err k) h = h
 pub known_steps : {X : Type 0} (m : Mode) (Is : X → State → Type 0) (e : Event) (s : State) (y : X) (b : Bool) (r a : Result Answer NoMemory) → a ≡ known_by b r → SteppedTo m Is e s r y → SteppedTo m Is e s a y
 known_steps m Is e s y b r a is h = subst (λ (w : Result Answer NoMemory). SteppedTo m Is e s w y) (sym is) (known_or m Is e s y b r h)
 
+-- and where it does not report by its result that the remote failed
+
+local_step : {X : Type 0} (m : Mode) (Is : X → State → Type 0) (e : Event) (s : State) (y : X) (b : Bool) (a : Answer) → SteppedTo m Is e s (Ok a) y → SteppedTo m Is e s (local_as b a) y
+local_step m Is e s y true a h = record {}
+local_step m Is e s y false a h = h
+
+local_or : {X : Type 0} (m : Mode) (Is : X → State → Type 0) (e : Event) (s : State) (y : X) (r : Result Answer NoMemory) → SteppedTo m Is e s r y → SteppedTo m Is e s (local_by r) y
+local_or m Is e s y (Ok a) h = local_step m Is e s y (meets_remote a.shown) a h
+local_or m Is e s y (Err k) h = h
+
+pub local_steps : {X : Type 0} (m : Mode) (Is : X → State → Type 0) (e : Event) (s : State) (y : X) (r a : Result Answer NoMemory) → a ≡ local_by r → SteppedTo m Is e s r y → SteppedTo m Is e s a y
+local_steps m Is e s y r a is h = subst (λ (w : Result Answer NoMemory). SteppedTo m Is e s w y) (sym is) (local_or m Is e s y r h)
+
+local_count : (b : Bool) (a : Answer) (d e : Disk) → CountsTo (Ok a) d e → CountsTo (local_as b a) d e
+local_count true a d e h = record {}
+local_count false a d e h = h
+
+local_to : (r : Result Answer NoMemory) (d e : Disk) → CountsTo r d e → CountsTo (local_by r) d e
+local_to (Ok a) d e h = local_count (meets_remote a.shown) a d e h
+local_to (Err m) d e h = h
+
 module _ {D A : Type 0} (acts : Acts A) (state : D → Disk) where
   noted_stands : (past : Past) (p : A) (x : Held D) (s : State) → IsBegun acts state past (record { filter = x; actor = p }) s → Stands state (noted [] x) (hushed s.filter)
   noted_stands past p x s on = stands_noted state x (hushed s.filter) on.quiet on.stands
@@ -217,10 +239,12 @@ module _ {D A : Type 0} (acts : Acts A) (state : D → Disk) where
   plainly_count part show p x y r calls past s on = call_counts state part show [] x y r (hushed s.filter) calls (λ whole. on.stands)
 
   -- an event that has begun, and what is known of its answer
-  pub begun_counts : (past : Past) (s : State) (e : Event) (x y : Run D A) (b : Bool) (r a : Result Answer NoMemory) → b ≡ y.filter.desk.broken → a ≡ known_by b r → StepsOn acts state e x r y → IsBegun acts state past x s → CountsTo a (state x.filter.disk) (state y.filter.disk)
-  begun_counts past s e x y b r a broken is h on =
+  pub begun_counts : (past : Past) (s : State) (e : Event) (x y : Run D A) (b : Bool) (r k a : Result Answer NoMemory) → b ≡ y.filter.desk.broken → k ≡ known_by b r → a ≡ local_by k → StepsOn acts state e x r y → IsBegun acts state past x s
+      → CountsTo a (state x.filter.disk) (state y.filter.disk)
+  begun_counts past s e x y b r k a broken is local h on =
       let counts = subst (λ (o : Bool). CountsIf o r (state x.filter.disk) (state y.filter.disk)) (sym broken) (h.counts past s on) in
-      subst (λ (w : Result Answer NoMemory). CountsTo w (state x.filter.disk) (state y.filter.disk)) (sym is) (known_to b r (state x.filter.disk) (state y.filter.disk) counts)
+      let known = subst (λ (w : Result Answer NoMemory). CountsTo w (state x.filter.disk) (state y.filter.disk)) (sym is) (known_to b r (state x.filter.disk) (state y.filter.disk) counts) in
+      subst (λ (w : Result Answer NoMemory). CountsTo w (state x.filter.disk) (state y.filter.disk)) (sym local) (local_to k (state x.filter.disk) (state y.filter.disk) known)
 
   -- of the open volume
   pub counts_over : (e : Event) (x : Run D A) (r : Result Answer NoMemory) (d f : Disk) → Counts (IsOn acts state) x r d f → CountsOver (Is acts state) e (acting.On x) r d f

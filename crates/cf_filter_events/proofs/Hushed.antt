@@ -1,5 +1,5 @@
 -- The filter between two events, whose notes are told.
-use Rattle.std.proofs.Common.{◌≡◌, ℕ, List, [], sym, ap, subst, ◌∙◌}
+use Rattle.std.proofs.Common.{◌≡◌, ℕ, List, [], refl, sym, ap, subst, ◌∙◌}
 use Rattle.std.specs.Prelude.{◌-◌, ◌/◌}
 use Rattle.cf_filter_events.specs.Actors.{hushed}
 use Rattle.cf_filter_events.specs.Meaning.{IsDiskOf}
@@ -19,6 +19,14 @@ module _ {D : Type 0} (state : D → Disk) where
   pub noted_none : (x : Held D) → x.desk.notes ≡ [] → noted [] x ≡ x
   unfolding noted
   noted_none x quiet = ap (λ (l : List Notice). record x { desk = record x.desk { notes = l } }) (sym quiet)
+
+  pub was_broken : (x : Held D) → (noted [] x).desk.broken ≡ x.desk.broken
+  unfolding noted
+  was_broken x = refl
+
+  pub is_broken : (y : Held D) (ns : List Notice) → (noted ns y).desk.broken ≡ y.desk.broken
+  unfolding noted
+  is_broken y ns = refl
 
   pub notes_told : (y : Held D) (ns : List Notice) (f : Filter) → Stands state (noted ns y) f → f.notes ≡ ns
   unfolding noted

@@ -1,7 +1,9 @@
 pub mod Asked
 pub mod Begun
+pub mod CallFaults
 pub mod Called
 pub mod Counted
+pub mod EventFaults
 pub mod Finished
 pub mod Gained
 pub mod Hushed

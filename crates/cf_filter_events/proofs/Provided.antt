@@ -7,10 +7,11 @@ use Rattle.cf_filter_events.specs.Actors.{Acts, IsActor}
 use Rattle.cf_filter_events.specs.Meaning.{IsBegun, IsOn}
 use Rattle.cf_filter_events.specs.Pasts.{Past}
 use Rattle.cf_filter_events.specs.Stepped.{SteppedTo}
-use Rattle.cf_filter_events.proofs.Called.{disk_left, is_broken, was_broken}
+use Rattle.cf_filter_events.proofs.Called.{disk_left}
 use Rattle.cf_filter_events.proofs.Counted.{provides_count}
+use Rattle.cf_filter_events.proofs.CallFaults.{IsMade, provides_faults}
 use Rattle.cf_filter_events.proofs.Finished.{Comes, IsCall, LeftTo, finished}
-use Rattle.cf_filter_events.proofs.Hushed.{stands_noted}
+use Rattle.cf_filter_events.proofs.Hushed.{is_broken, stands_noted, was_broken}
 use Rattle.cf_base.specs.declared.answers.Answer.{Answer}
 use Rattle.cf_base.specs.declared.answers.Shown.{Shown}
 use Rattle.cf_base.specs.declared.codes.CallError.{CallError}
@@ -60,12 +61,13 @@ module _ {D A : Type 0} (answers : Answering A) (acts : Acts A) (actor : IsActor
 
   -- the same, as a call is written
   pub provides_step : {B : Type 0} (e : Event) (part : Arrow Filter Shown) (show : B → Shown) (p q : A) (none ns : List Notice) (x y : Held D) (r : Result B CallError) (w : Result Shown CallError) (a : Result Answer NoMemory)
-      → IsCall acts.mode e → ((z : State) → z.mode ≡ acts.mode → event_now e z ≡ calling part z) → none ≡ [] → Provides state answers Any show part p (noted none x) r q (noted ns y) → y.desk.notes ≡ x.desk.notes → w ≡ showing show r → a ≡ answered_by w ns
+      → IsCall acts.mode e → IsMade part → ((z : State) → z.mode ≡ acts.mode → event_now e z ≡ calling part z) → none ≡ [] → Provides state answers Any show part p (noted none x) r q (noted ns y) → y.desk.notes ≡ x.desk.notes → w ≡ showing show r → a ≡ answered_by w ns
       → StepsOn acts state e (record { filter = x; actor = p }) a (record { filter = y; actor = q })
-  provides_step {B} e part show p q none ns x y r w a call is begins calls kept shows tells =
+  provides_step {B} e part show p q none ns x y r w a call made is begins calls kept shows tells =
       let c = subst (λ (l : List Notice). Provides state answers Any show part p (noted l x) r q (noted ns y)) begins calls in
       let h : StepsOn acts state e (record { filter = x; actor = p }) (answered_by (showing show r) ns) (record { filter = y; actor = q }) = record {
         steps = provides_by e part show p q ns x y r call is c kept;
         counts = provides_count acts state answers part show p q ns x y r c;
+        faults = provides_faults answers acts actor state part show p q ns x y r made c;
       } in
       subst (λ (b : Result Answer NoMemory). StepsOn acts state e (record { filter = x; actor = p }) b (record { filter = y; actor = q })) (sym (tells ∙ ap (λ (v : Result Shown CallError). answered_by v ns) shows)) h

@@ -1,6 +1,7 @@
 -- How the disk's count of failed calls, and what is armed, go with the answers of events.
 use Rattle.std.specs.Prelude.{◌≡◌, ◌≤◌, ◌+◌, ℕ, Bool, true, false, Result, Ok, Err}
 use Rattle.cf_filter_events.specs.Actors.{Acts}
+use Rattle.cf_filter_events.specs.Faulted.{LinesTo}
 use Rattle.cf_filter_events.specs.Meaning.{IsBegun, IsOn}
 use Rattle.cf_filter_events.specs.Pasts.{Past}
 use Rattle.cf_filter_events.specs.Stepped.{SteppedTo}
@@ -63,10 +64,11 @@ abbrev pub CountsIf : Bool → Result Answer NoMemory → Disk → Disk → Type
 CountsIf broken (Ok a) d e = GoesOn d e × (broken ≡ true → meets_device a.shown ≡ true → Rose d e)
 CountsIf broken (Err m) d e = Unit {0}
 
--- an event that has begun on the open volume is a step of the definitions, with this answer; and the count
+-- an event that has begun on the open volume is a step of the definitions, with this answer; and the counts of the disk and of the remote
 pub record StepsOn {D A : Type 0} (acts : Acts A) (state : D → Disk) (e : Event) (old : Run D A) (r : Result Answer NoMemory) (new : Run D A) : Type 0 where
   pub steps : (past : Past) (s : State) → IsBegun acts state past old s → SteppedTo acts.mode (IsOn acts state past) e s r new
   pub counts : (past : Past) (s : State) → IsBegun acts state past old s → CountsIf new.filter.desk.broken r (state old.filter.disk) (state new.filter.disk)
+  pub faults : (past : Past) (s : State) → IsBegun acts state past old s → LinesTo r (acts.faults old.actor) (acts.faults new.actor)
 
 -- what is answered, by whether the filter is broken and whether the answer tells of a device call that failed
 abbrev pub known_as : Bool → Bool → Answer → Result Answer NoMemory

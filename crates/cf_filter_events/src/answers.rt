@@ -3,6 +3,7 @@
 ghost use Rattle.std.specs.Prelude.{◌≡◌, Ok, []};
 ghost use Rattle.cf_filter_events.specs.Answered.{answer_with, answered_by};
 ghost use Rattle.cf_filter_events.specs.Counted.{known_by, meets_device};
+ghost use Rattle.cf_filter_events.specs.Faulted.{local_by, meets_remote};
 ghost use Rattle.cf_base.specs.declared.answers.Shown.TheVariants as shown;
 
 use cf_base::{Answer, CallError, Code, Notes, OutOfMemory, Sequence, Shown};
@@ -41,6 +42,25 @@ pub(crate) fn known(told: Result<Answer, OutOfMemory>, broken: bool) -> Result<A
 {
     let answer = told?;
     if !broken && meets_device(&answer.shown) {
+        return Err(OutOfMemory);
+    }
+    Ok(answer)
+}
+
+// Whether an answer reports by its result that the remote failed.
+fn meets_remote(shown: &Shown) -> bool
+    ensures { result ≡ meets_remote shown.now }
+{
+    matches!(shown, Shown::Refused(Code::RemoteFault))
+}
+
+/// The answer of an event that acts on the open volume. Only an event of another device is refused as RemoteFault, and none of the
+/// others has a part that is. That is no law of the parts, so such an answer would be out of memory.
+pub(crate) fn local(told: Result<Answer, OutOfMemory>) -> Result<Answer, OutOfMemory>
+    ensures { result ≡ local_by told }
+{
+    let answer = told?;
+    if meets_remote(&answer.shown) {
         return Err(OutOfMemory);
     }
     Ok(answer)

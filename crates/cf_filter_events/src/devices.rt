@@ -24,6 +24,8 @@ impl<D: Disk, A: Actor> Running<D, A> {
         ensures steps { Steps A.acts.mode (IsOn A.acts D.state) (event.Device (device.Stop calls)) self.old (Ok result) self.new }
         ensures armed { BearsOn (device.Stop calls) (D.state self.old.filter.disk) (D.state self.new.filter.disk) }
         ensures counts { CountsBy 1 (Ok result) (D.state self.old.filter.disk) (D.state self.new.filter.disk) }
+        ensures told { result ≡ answer_with shown.Done [] }
+        ensures actor { self.new.actor ≡ self.old.actor }
     {
         self.filter.arm(calls);
         plainly(alloc, Shown::Done)
@@ -41,6 +43,7 @@ impl<D: Disk, A: Actor> Running<D, A> {
     pub(crate) fn cut(self, choice: Choice) -> Cut<D, A>
         ensures steps { StepsOver A.acts.mode (Is A.acts D.state) (event.Device (device.Crash choice)) (acting.On self) (Ok (answer_with shown.Done [])) (acting.Off result) }
         ensures powers { BearsOn (device.Crash choice) (D.state self.filter.disk) (D.state result.disk) }
+        ensures actor { result.actor ≡ self.actor }
     {
         let policy = self.filter.policy();
         let mut disk = self.filter.into_disk();

@@ -3,12 +3,13 @@
 ghost use Rattle.std.specs.Prelude.{◌≡◌, false, true};
 ghost use Rattle.cf_filter_events.specs.Actors.{is_device_event};
 ghost use Rattle.cf_filter_events.specs.Counted.{Counts, CountsTo, StepsOn};
+ghost use Rattle.cf_filter_events.specs.Faulted.{Faults};
 ghost use Rattle.cf_filter_events.specs.Meaning.{IsOff, IsOn};
 ghost use Rattle.cf_filter_events.specs.Stepped.{Steps};
 ghost use Rattle.cf_model.specs.Events.{is_of, needs_volume};
 
 use crate::actors::Actor;
-use crate::answers::{known, refused};
+use crate::answers::{known, local, refused};
 use crate::places::{Cut, Running};
 use cf_base::{Answer, Code, EngineEvent, Event, OutOfMemory};
 use cf_disk::Disk;
@@ -35,6 +36,7 @@ impl<D: Disk, A: Actor> Running<D, A> {
         requires other { is_device_event event.now ≡ false }
         ensures steps { Steps A.acts.mode (IsOn A.acts D.state) event.now self.old result self.new }
         ensures counts { Counts (IsOn A.acts D.state) self.old result (D.state self.old.filter.disk) (D.state self.new.filter.disk) }
+        ensures faults { Faults (IsOn A.acts D.state) self.old result (A.acts.faults self.old.actor) (A.acts.faults self.new.actor) }
     {
         if !needs_volume(event) {
             let told = self.actor.beside(alloc, event);
@@ -45,7 +47,7 @@ impl<D: Disk, A: Actor> Running<D, A> {
         }
         self.actor.begin();
         let told = self.act_begun(alloc, event);
-        known(told, self.filter.is_broken())
+        local(known(told, self.filter.is_broken()))
     }
 
     // An event that the actor has begun.
@@ -68,6 +70,7 @@ impl<D: Disk, A: Actor> Cut<D, A> {
         requires other { is_device_event event.now ≡ false }
         ensures steps { Steps A.acts.mode (IsOff A.acts D.state) event.now self.old result self.new }
         ensures counts { CountsTo result (D.state self.old.disk) (D.state self.new.disk) }
+        ensures faults { Faults (IsOff A.acts D.state) self.old result (A.acts.faults self.old.actor) (A.acts.faults self.new.actor) }
     {
         if needs_volume(event) {
             return Ok(refused(alloc, Code::Off));

@@ -5,6 +5,7 @@ ghost use Rattle.std.specs.Prelude.{◌≡◌, Err, IfOk, Ok, [], false, length,
 ghost use Rattle.cf_filter_events.specs.Actors.{Reopens};
 ghost use Rattle.cf_filter_events.specs.Answered.{answer_with, answered_by};
 ghost use Rattle.cf_filter_events.specs.Counted.{CountsBy, CountsTo, meets_device};
+ghost use Rattle.cf_filter_events.specs.Faulted.{FaultsTo, faults_shown};
 ghost use Rattle.cf_filter_events.specs.Meaning.{Is, IsOff};
 ghost use Rattle.cf_filter_events.specs.Stepped.{BearsOn, Steps, StepsOver, actor_of, disk_of};
 ghost use Rattle.cf_filter_events.specs.declared.places.Acting.TheVariants as acting;
@@ -33,6 +34,8 @@ impl<D: Disk, A: Actor> Cut<D, A> {
         ensures steps { Steps A.acts.mode (IsOff A.acts D.state) (event.Device (device.Stop calls)) self.old (Ok result) self.new }
         ensures armed { BearsOn (device.Stop calls) (D.state self.old.disk) (D.state self.new.disk) }
         ensures counts { CountsBy 1 (Ok result) (D.state self.old.disk) (D.state self.new.disk) }
+        ensures told { result ≡ answer_with shown.Done [] }
+        ensures actor { self.new.actor ≡ self.old.actor }
     {
         self.disk.arm(calls);
         plainly(alloc, Shown::Done)
@@ -43,6 +46,8 @@ impl<D: Disk, A: Actor> Cut<D, A> {
         ensures steps { StepsOver A.acts.mode (IsOff A.acts D.state) (event.Device (device.Crash choice)) self.old (Ok result) self.new }
         ensures powers { BearsOn (device.Crash choice) (D.state self.old.disk) (D.state self.new.disk) }
         ensures counts { CountsTo (Ok result) (D.state self.old.disk) (D.state self.new.disk) }
+        ensures told { result ≡ answer_with shown.Done [] }
+        ensures actor { self.new.actor ≡ self.old.actor }
     {
         self.disk.power(choice);
         plainly(alloc, Shown::Done)
@@ -53,6 +58,7 @@ impl<D: Disk, A: Actor> Cut<D, A> {
     pub(crate) fn restart(self, alloc: Global) -> (Acting<D, A>, Result<Answer, OutOfMemory>)
         ensures steps { StepsOver A.acts.mode (Is A.acts D.state) (event.Device device.Restart) (acting.Off self) result.1 result.0 }
         ensures counts { CountsTo result.1 (D.state self.disk) (D.state (disk_of result.0)) }
+        ensures faults { FaultsTo result.1 (A.acts.faults self.actor) (A.acts.faults (actor_of result.0)) }
     {
         if !is_fit(self.disk.size()) {
             return (Acting::Off(self), Ok(refused(alloc, Code::NotAVolume)));
@@ -64,6 +70,7 @@ impl<D: Disk, A: Actor> Cut<D, A> {
         requires { IsFitSize (size_of (D.state self.disk)) }
         ensures steps { StepsOver A.acts.mode (Is A.acts D.state) (event.Device device.Restart) (acting.Off self) result.1 result.0 }
         ensures counts { CountsTo result.1 (D.state self.disk) (D.state (disk_of result.0)) }
+        ensures faults { FaultsTo result.1 (A.acts.faults self.actor) (A.acts.faults (actor_of result.0)) }
     {
         let policy = self.policy;
         match Filter::open(alloc, self.disk, policy) {
@@ -106,7 +113,9 @@ fn reopened<D: Disk, A: Actor>(
 ) -> (Acting<D, A>, Result<Answer, OutOfMemory>)
     ensures on { result.0 ≡ acting.On (record { filter = filter; actor = actor_of result.0 }) }
     ensures opens { Reopens A.acts actor (actor_of result.0) }
+    ensures same { A.acts.faults (actor_of result.0) ≡ A.acts.faults actor }
     ensures plain { IfOk result.1 (λ a. meets_device a.shown ≡ false) }
+    ensures quiet { IfOk result.1 (λ a. faults_shown a ≡ 0) }
     ensures told { IfOk result.1 (λ a. (f : model) → Stands D.state filter f → a ≡ answer_with (shown.Resumed (length f.volume.log) (opened_of f.volume.book)) []) }
 {
     let told = resumed(alloc, &filter);
@@ -117,6 +126,7 @@ fn reopened<D: Disk, A: Actor>(
 // How many changes were kept, and the book.
 fn resumed<D: Disk>(alloc: Global, filter: &Filter<D>) -> Result<Answer, OutOfMemory>
     ensures plain { IfOk result (λ a. meets_device a.shown ≡ false) }
+    ensures quiet { IfOk result (λ a. faults_shown a ≡ 0) }
     ensures told { IfOk result (λ a. (f : model) → Stands D.state filter.now f → a ≡ answer_with (shown.Resumed (length f.volume.log) (opened_of f.volume.book)) []) }
 {
     let volume = filter.volume();

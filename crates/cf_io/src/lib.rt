@@ -7,6 +7,7 @@
 
 mod faults;
 mod memory;
+mod null_sinks;
 mod readings;
 mod sinks;
 mod sources;
@@ -14,6 +15,7 @@ mod system;
 
 pub use faults::{IoError, ReadError};
 pub use memory::{MemSink, MemSource};
+pub use null_sinks::NullSink;
 pub use readings::{read_all, read_up_to};
 pub use sinks::{Sink, write_all};
 pub use sources::Source;

@@ -12,7 +12,7 @@ fn read(alloc: Global, words: &[&str]) -> Result<Result<Command, WordsError>, Fa
     Ok(command_of(alloc, owned.as_slice()))
 }
 
-const BAD: [&[&str]; 9] = [
+const BAD: [&[&str]; 14] = [
     &[],
     &["play"],
     &["replay", "filter"],
@@ -22,6 +22,11 @@ const BAD: [&[&str]; 9] = [
     &["--version"],
     &["filter", "-h"],
     &["Filter"],
+    &["gen"],
+    &["gen", "01"],
+    &["gen", "4294967296"],
+    &["gen", "1", "2"],
+    &["scrub", "1"],
 ];
 
 #[test]
@@ -29,6 +34,16 @@ fn one_word_is_a_command(rt: HostRuntime) -> Result<(), Fail> {
     assert_eq!(rt; read(rt.alloc(), &["replay"])?, Ok(Command::Replay));
     assert_eq!(rt; read(rt.alloc(), &["filter"])?, Ok(Command::Filter));
     assert_eq!(rt; read(rt.alloc(), &["migrate"])?, Ok(Command::Migrate));
+    Ok(())
+}
+
+#[test]
+fn gen_has_a_number(rt: HostRuntime) -> Result<(), Fail> {
+    assert_eq!(rt; read(rt.alloc(), &["gen", "0"])?, Ok(Command::Gen(0)));
+    assert_eq!(rt;
+        read(rt.alloc(), &["gen", "4294967295"])?,
+        Ok(Command::Gen(4_294_967_295))
+    );
     Ok(())
 }
 

@@ -1,4 +1,4 @@
-//! Tests of the leaves: plain types, codecs, sources and sinks, words, ranges, reports and scripts.
+//! Tests of the leaves: plain types, codecs, sources and sinks, words, ranges, reports, scripts and made scripts.
 #![tactic(auto)]
 
 #[cfg(test)]
@@ -9,6 +9,8 @@ mod cli;
 mod codec;
 #[cfg(test)]
 mod io;
+#[cfg(test)]
+mod made;
 #[cfg(test)]
 mod ranges;
 #[cfg(test)]

@@ -75,5 +75,12 @@ armed_more trace e a c d bears counts h = (
   subst (λ (b : Bool). may_fail d.armed ≤ cond b 1 0) (sym (after_push false trace e a)) (armed_one (armed_after false trace) e c d h.1 bears counts.1),
 )
 
+-- a disk that reports what is armed
+pub at_most : (trace : List (Event × Answer)) (d : Disk) → IsArmed trace d → may_fail d.armed ≤ 1
+at_most trace d h = by (armed_after false trace) h.1 where
+  by : (b : Bool) → may_fail d.armed ≤ cond b 1 0 → may_fail d.armed ≤ 1
+  by true le = omega (arith, le)
+  by false le = omega (arith, le)
+
 pub armed_none : (d e : Disk) → d.armed ≡ Some None → may_fail e.armed ≤ may_fail d.armed → IsArmed [] e
 armed_none d e none calm = (record {}, omega (arith, calm, ap may_fail none))

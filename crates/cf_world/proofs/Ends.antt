@@ -7,6 +7,7 @@ use Rattle.cf_base.specs.declared.policies.Mode.{Mode}
 use Rattle.cf_base.specs.declared.statuses.Status.{Status}
 use Rattle.cf_base.specs.declared.statuses.Status.TheVariants.{Done, Usage, BadScript, SourceFault, SinkFault, BadDevice, OutOfMemory, TooLong, DeviceFault, BadImage, Unlawful, Undecided, Damaged}
 use Rattle.cf_disk.specs.Disk.{State as Disk}
+use Rattle.cf_gen.specs.declared.summaries.Counts.{Counts}
 use Rattle.cf_io.specs.Moves.{AddsFront}
 use Rattle.cf_script.specs.FailEvents.{IsCause}
 use Rattle.cf_script.specs.Script.{IsScript, lines_of}
@@ -15,7 +16,7 @@ use Rattle.cf_script.specs.declared.script_errors.ScriptError.TheVariants as fai
 use Rattle.cf_filter_events.specs.Actors.{Acts}
 use Rattle.cf_filter_events.specs.declared.places.Acting.{Acting}
 use Rattle.cf_world.specs.Led.{HasRunOn, LeavesActor}
-use Rattle.cf_world.specs.Runs.{IsRefusal, PlaysFront, PlaysLong, RefusesFront, StopsEarly, Writes, WritesRefusal, fail_line}
+use Rattle.cf_world.specs.Runs.{IsRefusal, PlaysFront, PlaysLong, RefusesFront, StopsEarly, Writes, WritesRefusal, fail_line, most_script}
 use Rattle.cf_world.specs.Steps.{AllPlayed, SomePlayed, WritesBy, early_status, play_status}
 use Rattle.cf_world.specs.declared.play_errors.PlayError.{PlayError}
 use Rattle.cf_world.specs.declared.play_errors.PlayError.TheVariants as plays
@@ -52,7 +53,7 @@ refusal_written Said Lawful Kept m text old new Damaged kept h = absurd h
 front_said : (P Q : List (Event × Answer) → Type 0) (events : List Event) (old new : Option (List ℕ)) → ((trace : List (Event × Answer)) → P trace → Q trace) → PlaysFront P events old new → PlaysFront Q events old new
 front_said P Q events old new f h = record { trace = h.trace; more = h.more; first = h.first; said = f h.trace h.said; written = h.written }
 
-long_said : (P Q : List (Event × Answer) → Type 0) (events : List Event) (old new : Option (List ℕ)) → ((trace : List (Event × Answer)) → P trace → Q trace) → PlaysLong P events old new → PlaysLong Q events old new
+pub long_said : (P Q : List (Event × Answer) → Type 0) (events : List Event) (old new : Option (List ℕ)) → ((trace : List (Event × Answer)) → P trace → Q trace) → PlaysLong P events old new → PlaysLong Q events old new
 long_said P Q events old new f h =
     record { trace = h.trace; event = h.event; answer = h.answer; more = h.more; first = h.first; said = f (h.trace ++ (h.event, h.answer) ∷ []) h.said; written = h.written; passes = h.passes }
 
@@ -81,12 +82,12 @@ module _ (P Q F G : List (Event × Answer) → Type 0) (m : Mode) (text : List �
 
 module _ {D A : Type 0} (state : D → Disk) (W : Acts A) where
   -- what was written of a script that was read, by how its events went
-  pub played_written : (disk back : D) (first actor : A) (text : List ℕ) (events : List Event) (old new : Option (List ℕ)) (w : Option (Acting D A)) (r : Result (Unit {0}) PlayError) → IsScript W.mode text events → length text ≤ 16777216 → OnOk r (AllPlayed state W disk first events old new w)
+  pub played_written : (disk back : D) (first actor : A) (text : List ℕ) (events : List Event) (old new : Option (List ℕ)) (w : Option (Acting D A)) (counts : Counts) (r : Result (Unit {0}) PlayError) → IsScript W.mode text events → length text ≤ most_script → OnOk r (AllPlayed state W disk first events old new w counts)
       → IfErr r (SomePlayed state W disk first events old new w) → ((trace : List (Event × Answer)) → HasRunOn state W disk first trace w → LeavesActor state W disk first trace back actor) → WritesBy state W disk first text old new (play_status r) back actor
-  played_written disk back first actor text events old new w (Ok u) script short all some leads =
+  played_written disk back first actor text events old new w counts (Ok u) script short all some leads =
       record { events = events; spelled = script; played = record { trace = all.trace; each = all.each; said = leads all.trace all.run; written = all.written; short = all.short } }
-  played_written disk back first actor text events old new w (Err plays.SinkFault) script short all some leads =
+  played_written disk back first actor text events old new w counts (Err plays.SinkFault) script short all some leads =
       inr (record { events = events; spelled = script; played = front_said (λ trace. HasRunOn state W disk first trace w) (λ trace. LeavesActor state W disk first trace back actor) events old new leads some })
-  played_written disk back first actor text events old new w (Err plays.OutOfMemory) script short all some leads = inr (inr (record { events = events; spelled = script; played = some }))
-  played_written disk back first actor text events old new w (Err plays.TooLong) script short all some leads =
+  played_written disk back first actor text events old new w counts (Err plays.OutOfMemory) script short all some leads = inr (inr (record { events = events; spelled = script; played = some }))
+  played_written disk back first actor text events old new w counts (Err plays.TooLong) script short all some leads =
       inr (short, record { events = events; spelled = script; played = long_said (λ trace. HasRunOn state W disk first trace w) (λ trace. LeavesActor state W disk first trace back actor) events old new leads some })

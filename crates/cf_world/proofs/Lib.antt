@@ -1,7 +1,10 @@
+pub mod Adding
 pub mod Errs
 pub mod Drafted
+pub mod RemoteCounts
 pub mod Traces
 pub mod Ends
+pub mod Concluded
 pub mod Counted
 pub mod Commanded
 pub mod ModeEvents
@@ -9,3 +12,5 @@ pub mod WorldRuns
 pub mod OverPowers
 mod OfTexts
 mod Migrated
+mod Scrubbed
+mod Imaged

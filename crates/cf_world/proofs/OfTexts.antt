@@ -13,7 +13,12 @@ use Rattle.cf_io.specs.declared.faults.ReadError.{ReadError}
 use Rattle.cf_io.specs.declared.faults.ReadError.TheVariants as reading
 use Rattle.cf_remote.specs.Told.{Told}
 use Rattle.cf_script.specs.Script.{IsScript}
-use Rattle.cf_world.specs.Runs.{IsAfterReading, IsComplete, IsFit, IsLength, IsUnfit, OfText, WritesOf}
+use Rattle.cf_world.proofs.Concluded.{unmade_as, unread_as}
+use Rattle.cf_world.specs.Outputs.{OfText, WritesAs}
+use Rattle.cf_world.specs.Runs.{IsAfterReading, IsComplete, IsFit, IsLength, IsUnfit, most_script}
+use Rattle.cf_world.specs.declared.outputs.Ending.{Ending}
+use Rattle.cf_world.specs.declared.outputs.Output.{Output}
+use Rattle.cf_world.specs.declared.outputs.Output.TheVariants as output
 use Rattle.cf_world.specs.Steps.{read_status}
 
 -- what the source has left, or a text of some length where it reports nothing
@@ -29,14 +34,10 @@ pub long_text : (n : ℕ) (left : Option (List ℕ)) → IsLonger left n → n <
 long_text n None h = rw (length-replicate {A = ℕ} (n + 1) 0) (omega arith)
 long_text n (Some left) h = h
 
-pub adds_nothing : (held : Option (List ℕ)) → Adds held held []
-adds_nothing None = tt
-adds_nothing (Some h) = ap (λ l. Some l) (sym (append-nil h))
-
 pub not_quiet : (old new : ℕ) → Rose old new → IsQuiet old new → ⊥
 not_quiet old new rose quiet = omega (arith, rose quiet.1, quiet.0)
 
-short_enough : (s : Status) (text : List ℕ) → length text ≤ 16777216 → IsAfterReading s → IsLength s text
+short_enough : (s : Status) (text : List ℕ) → length text ≤ most_script → IsAfterReading s → IsLength s text
 short_enough status.Done text short h = short
 short_enough status.BadScript text short h = short
 short_enough status.SinkFault text short h = short
@@ -51,14 +52,14 @@ short_enough status.Unlawful text short h = absurd h
 short_enough status.Undecided text short h = absurd h
 short_enough status.Damaged text short h = absurd h
 
-module _ {D R : Type 0} (state : D → Disk) (told : R → Told) (m : Mode) (disk : D) (remote : R) (old new : Option (List ℕ)) (Unwritten : Type 0) (a b c d : ℕ) where
+module _ {D R : Type 0} (state : D → Disk) (told : R → Told) (o : Output) (m : Mode) (disk : D) (remote : R) (old new : Option (List ℕ)) (Unwritten : Type 0) (a b c d : ℕ) where
   abbrev Quiet : Type 0
   Quiet = IsQuiet a b × IsQuiet c d
 
   -- the text was read
-  pub read_text : (text : List ℕ) (s : Status) (back : D) (left : R) → length text ≤ 16777216 → IsAfterReading s → WritesOf state told m disk remote text old new s back left → (s ≡ status.BadScript → (events : List Event) → IsScript m text events → ⊥)
+  pub read_text : (text : List ℕ) (s : Status) (back : D) (left : R) → length text ≤ most_script → IsAfterReading s → WritesAs state told o m disk remote text old new s back left → (s ≡ status.BadScript → (events : List Event) → IsScript m text events → ⊥)
       → ((IsFit (size_of (state disk)) → ⊥) → (events : List Event) → IsScript m text events → IsUnfit s) → (IsQuiet c d → IsFit (size_of (state disk)) → (events : List Event) → IsScript m text events → IsComplete s)
-      → OfText state told m disk remote text old new Unwritten Quiet s back left
+      → OfText state told o m disk remote text old new Unwritten Quiet s back left
   read_text text s back left short after writes bad unfit complete = record {
     writes = writes;
     lengths = short_enough s text short after;
@@ -69,13 +70,13 @@ module _ {D R : Type 0} (state : D → Disk) (told : R → Told) (m : Mode) (dis
   }
 
   -- it was not
-  pub unread_text : (left : Option (List ℕ)) (fail : ReadError) → (fail ≡ reading.TooLong → IsLonger left 16777216) → (fail ≡ reading.Fault → Rose a b) → Adds old new [] → Unwritten
-      → (text : List ℕ) × IsWhole left text × OfText state told m disk remote text old new Unwritten Quiet (read_status fail) disk remote
+  pub unread_text : (left : Option (List ℕ)) (fail : ReadError) → (fail ≡ reading.TooLong → IsLonger left most_script) → (fail ≡ reading.Fault → Rose a b) → Adds old new [] → Unwritten
+      → (text : List ℕ) × IsWhole left text × OfText state told o m disk remote text old new Unwritten Quiet (read_status fail) disk remote
   unread_text left reading.Fault long rose adds none = (
     some_text 0 left,
     whole_text 0 left,
     record {
-      writes = adds;
+      writes = unread_as state told m disk remote (some_text 0 left) old new o reading.Fault (λ e. let z : reading.Fault ≡ reading.TooLong = e in absurd cc) adds;
       lengths = tt;
       bad = λ e. let z : status.SourceFault ≡ status.BadScript = e in cc;
       unfit = λ n l events built. tt;
@@ -84,11 +85,11 @@ module _ {D R : Type 0} (state : D → Disk) (told : R → Told) (m : Mode) (dis
     },
   )
   unread_text left reading.TooLong long rose adds none =
-      let more : 16777216 < length (some_text 16777217 left) = long_text 16777216 left (long refl) in (
+      let more : most_script < length (some_text 16777217 left) = long_text most_script left (long refl) in (
         some_text 16777217 left,
         whole_text 16777217 left,
         record {
-          writes = inl (more, adds, (refl, refl));
+          writes = unread_as state told m disk remote (some_text 16777217 left) old new o reading.TooLong (λ e. more) adds;
           lengths = tt;
           bad = λ e. let z : status.TooLong ≡ status.BadScript = e in cc;
           unfit = λ n l. absurd (omega (arith, more, l));
@@ -100,7 +101,7 @@ module _ {D R : Type 0} (state : D → Disk) (told : R → Told) (m : Mode) (dis
     some_text 0 left,
     whole_text 0 left,
     record {
-      writes = inl adds;
+      writes = unread_as state told m disk remote (some_text 0 left) old new o reading.OutOfMemory (λ e. let z : reading.OutOfMemory ≡ reading.TooLong = e in absurd cc) adds;
       lengths = tt;
       bad = λ e. let z : status.OutOfMemory ≡ status.BadScript = e in cc;
       unfit = λ n l events built. tt;
@@ -108,3 +109,16 @@ module _ {D R : Type 0} (state : D → Disk) (told : R → Told) (m : Mode) (dis
       complete = λ quiet fit l events built. tt;
     },
   )
+
+-- a script that was made without the source, or was not made
+
+module _ {D R : Type 0} (state : D → Disk) (told : R → Told) (m : Mode) (disk : D) (remote : R) (old new : Option (List ℕ)) (Unwritten : Type 0) (text : List ℕ) where
+  pub unmade_text : (o : Ending) (Quiet : Type 0) → Adds old new [] → OfText state told (output.Ending o) m disk remote text old new Unwritten Quiet status.OutOfMemory disk remote
+  unmade_text o Quiet none = record {
+    writes = unmade_as state told m disk remote text old new o none;
+    lengths = tt;
+    bad = λ e. let z : status.OutOfMemory ≡ status.BadScript = e in cc;
+    unfit = λ n l events built. tt;
+    long = λ e. let z : status.OutOfMemory ≡ status.TooLong = e in cc;
+    complete = λ quiet fit l events built. tt;
+  }

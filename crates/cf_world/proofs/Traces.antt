@@ -8,6 +8,8 @@ use Rattle.std.proofs.lemmas.List.Folds.{list_all_at}
 use Rattle.cf_base.specs.declared.answers.Answer.{Answer}
 use Rattle.cf_base.specs.declared.events.Event.{Event}
 use Rattle.cf_disk.specs.Disk.{State as Disk}
+use Rattle.cf_gen.specs.Summaries.{counts_of}
+use Rattle.cf_gen.specs.declared.summaries.Counts.{Counts}
 use Rattle.cf_io.specs.Moves.{AddsFront}
 use Rattle.cf_volume_points.specs.Standing.{clusters_on}
 use Rattle.cf_report.specs.Texts.{texts, text}
@@ -80,6 +82,10 @@ played_early state W disk first all i trace w event a old new TooLong item lt pa
   written = h.1;
   passes = h.0;
 }
+
+-- and is counted
+pub counted_next : (trace : List (Event × Answer)) (event : Event) (a : Answer) (new : Counts) → new ≡ counts_of (answers_of trace ++ a ∷ []) → new ≡ counts_of (answers_of (trace ++ (event, a) ∷ []))
+counted_next trace event a new h = subst (λ (l : List Answer). new ≡ counts_of l) (sym (map-append _ trace ((event, a) ∷ []))) h
 
 -- all events are done
 pub played_all : (all rest : List Event) (trace : List (Event × Answer)) → events_of trace ++ rest ≡ all → rest ≡ [] → events_of trace ≡ all

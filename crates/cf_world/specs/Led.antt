@@ -2,9 +2,10 @@
 use Rattle.std.specs.Prelude.{◌≡◌, ◌≤◌, ◌+◌, ℕ, Bool, true, false, List, [], ◌∷◌, Option, Some, None, cond}
 use Rattle.cf_filter_events.specs.Actors.{Acts}
 use Rattle.cf_filter_events.specs.Counted.{meets_device}
+use Rattle.cf_filter_events.specs.Faulted.{faults_shown}
 use Rattle.cf_filter_events.specs.Meaning.{Is}
 use Rattle.cf_filter_events.specs.Pasts.{Gains, StandsFor, last_image}
-use Rattle.cf_filter_events.specs.Stepped.{disk_of}
+use Rattle.cf_filter_events.specs.Stepped.{actor_of, disk_of}
 use Rattle.cf_filter_events.specs.declared.places.Acting.{Acting}
 use Rattle.cf_base.specs.declared.answers.Answer.{Answer}
 use Rattle.cf_base.specs.declared.events.DeviceEvent.{DeviceEvent}
@@ -15,6 +16,7 @@ use Rattle.cf_base.specs.declared.policies.Choice.{Choice}
 use Rattle.cf_base.specs.declared.policies.Mode.{Mode}
 use Rattle.cf_base.specs.declared.policies.Mode.TheVariants.{Filter, Replay}
 use Rattle.cf_disk.specs.Disk.{State as Disk, capped, may_fail}
+use Rattle.cf_link.specs.Faults.{RoseBy}
 use Rattle.cf_link.specs.Linked.{IsRemote}
 use Rattle.cf_model.specs.Lawful.{Lawful}
 use Rattle.cf_model.specs.Powers.{RunsOver, StandsNow}
@@ -53,6 +55,11 @@ abbrev pub FailsArmed : Bool → List (Event × Answer) → Type 0
 FailsArmed armed [] = Unit {0}
 FailsArmed armed (p ∷ ps) = (meets_device p.1.shown ≡ true → armed ≡ true) × FailsArmed (armed_then armed p.0) ps
 
+-- how often the answers of a trace report that the remote failed: each line of a fault, and each result RemoteFault
+abbrev pub faults_by : List (Event × Answer) → ℕ
+faults_by [] = 0
+faults_by (p ∷ ps) = faults_shown p.1 + faults_by ps
+
 -- Which remote of the definitions a run may begin with. In `replay` it is what the remote that is handed in holds, where that reports it,
 -- and it was asked nothing yet. In `filter` no event touches the remote, so it may be any.
 abbrev pub Begins : {R : Type 0} → (R → Told) → Mode → R → Held → Type 0
@@ -78,25 +85,28 @@ LeavesRemote told Filter held clusters trace left remote = Unit {0}
 -- crash, with its choice and in order, and each `resumed` opens what the image that the last of them left stands for. These are all
 -- the power cuts that the disk had, where it reports them. Of each answer Device a device call failed in its event: the count of
 -- faults rose by as many at least; and where the disk reported that none was armed as the run began, an answer Device comes only after a
--- stop with no crash between. Whatever a crash leaves then stands for a point that a restart may open. Of the same trace all holds that
--- a user is promised of both commands, where the remote had recorded no token.
-pub record LeadsDisk {D R : Type 0} (state : D → Disk) (told : R → Told) (m : Mode) (held : Held) (disk : D) (trace : List (Event × Answer)) (back : D) (after : R) : Type 0 where
+-- stop with no crash between. Of each line of a fault and each RemoteFault the remote failed: its count of faults rose by as many at
+-- least. Whatever a crash leaves then stands for a point that a restart may open. Of the same trace all holds that a user is promised of
+-- both commands, where the remote had recorded no token.
+pub record LeadsDisk {D R : Type 0} (state : D → Disk) (told : R → Told) (m : Mode) (held : Held) (disk : D) (first : R) (trace : List (Event × Answer)) (back : D) (after : R) : Type 0 where
   pub left : State
   pub powers : List (Choice × List ℕ)
   pub runs : RunsOver StandsFor m None (start m held (clusters_on (state disk).seen)) trace powers left
   pub gains : Gains powers (state disk).powers (state back).powers
   pub met : capped ((state disk).faults + met_by trace) ≤ (state back).faults
   pub armed : (state disk).armed ≡ Some None → FailsArmed false trace
+  pub reports : (state disk).armed ≡ Some None → may_fail (state back).armed ≤ 1
+  pub faulted : RoseBy (faults_by trace) (told first).faults (told after).faults
   pub lasts : (c : List ℕ) → (state back).may_leave c → StandsNow StandsFor left c
   pub promises : IsFresh held → Promises m held (clusters_on (state disk).seen) trace left
   pub remote : LeavesRemote told m held (clusters_on (state disk).seen) trace left after
 
 -- so it is whichever remote of the definitions the run began with
 abbrev pub Leads : {D R : Type 0} → (D → Disk) → (R → Told) → Mode → D → R → List (Event × Answer) → D → R → Type 0
-Leads state told m disk first trace back remote = (held : Held) → Begins told m first held → LeadsDisk state told m held disk trace back remote
+Leads state told m disk first trace back remote = (held : Held) → Begins told m first held → LeadsDisk state told m held disk first trace back remote
 
 -- The same of a world under an actor, which stands for the state after these power cuts.
-pub record LeadsWorld {D A : Type 0} (state : D → Disk) (W : Acts A) (held : Held) (disk : D) (trace : List (Event × Answer)) (a : Acting D A) : Type 0 where
+pub record LeadsWorld {D A : Type 0} (state : D → Disk) (W : Acts A) (held : Held) (disk : D) (first : A) (trace : List (Event × Answer)) (a : Acting D A) : Type 0 where
   pub left : State
   pub powers : List (Choice × List ℕ)
   pub told : Option (List (Choice × List ℕ))
@@ -104,6 +114,7 @@ pub record LeadsWorld {D A : Type 0} (state : D → Disk) (W : Acts A) (held : H
   pub gains : Gains powers (state disk).powers told
   pub met : capped ((state disk).faults + met_by trace) ≤ (state (disk_of a)).faults
   pub armed : (state disk).armed ≡ Some None → FailsArmed false trace × (may_fail (state (disk_of a)).armed ≤ cond (armed_after false trace) 1 0)
+  pub faulted : RoseBy (faults_by trace) (W.faults first) (W.faults (actor_of a))
   pub is : Is W state (record { told = told; last = last_image None powers }) a left
 
 -- the remotes of the definitions that the actor stands for as the run begins
@@ -113,19 +124,25 @@ Stood W clusters first held = W.stands first (start W.mode held clusters)
 -- The world began on this disk with this actor, and has done these events. It is there but while an event goes on.
 abbrev pub HasRunOn : {D A : Type 0} → (D → Disk) → Acts A → D → A → List (Event × Answer) → Option (Acting D A) → Type 0
 HasRunOn state W disk first trace None = ⊥
-HasRunOn state W disk first trace (Some a) = (held : Held) → Stood W (clusters_on (state disk).seen) first held → LeadsWorld state W held disk trace a
+HasRunOn state W disk first trace (Some a) = (held : Held) → Stood W (clusters_on (state disk).seen) first held → LeadsWorld state W held disk first trace a
 
 -- What is left of disk and actor.
-pub record LeadsActor {D A : Type 0} (state : D → Disk) (W : Acts A) (held : Held) (disk : D) (trace : List (Event × Answer)) (back : D) (actor : A) : Type 0 where
+pub record LeadsActor {D A : Type 0} (state : D → Disk) (W : Acts A) (held : Held) (disk : D) (first : A) (trace : List (Event × Answer)) (back : D) (actor : A) : Type 0 where
   pub left : State
   pub powers : List (Choice × List ℕ)
   pub runs : RunsOver StandsFor W.mode None (start W.mode held (clusters_on (state disk).seen)) trace powers left
   pub gains : Gains powers (state disk).powers (state back).powers
   pub met : capped ((state disk).faults + met_by trace) ≤ (state back).faults
   pub armed : (state disk).armed ≡ Some None → FailsArmed false trace
+  pub reports : (state disk).armed ≡ Some None → may_fail (state back).armed ≤ 1
+  pub faulted : RoseBy (faults_by trace) (W.faults first) (W.faults actor)
   pub lasts : (c : List ℕ) → (state back).may_leave c → StandsNow StandsFor left c
   pub holds : W.holds actor left
 
 -- whichever remote of the definitions the actor stood for
 abbrev pub LeavesActor : {D A : Type 0} → (D → Disk) → Acts A → D → A → List (Event × Answer) → D → A → Type 0
-LeavesActor state W disk first trace back actor = (held : Held) → Stood W (clusters_on (state disk).seen) first held → LeadsActor state W held disk trace back actor
+LeavesActor state W disk first trace back actor = (held : Held) → Stood W (clusters_on (state disk).seen) first held → LeadsActor state W held disk first trace back actor
+
+-- and of the state in which the trace ends this is said
+abbrev pub LeavesText : {D A : Type 0} → (D → Disk) → Acts A → D → A → List (Event × Answer) → D → A → (State → Type 0) → Type 0
+LeavesText state W disk first trace back actor Said = (held : Held) → Stood W (clusters_on (state disk).seen) first held → (l : LeadsActor state W held disk first trace back actor) × Said l.left

@@ -22,6 +22,10 @@ use Rattle.cf_world.specs.Led.{Begins, IsLawful, Leads}
 abbrev pub IsFit : ℕ → Type 0
 IsFit n = IsFitSize n × (n % 4096 ≡ 0)
 
+-- the greatest length of a script, in bytes
+abbrev pub most_script : ℕ
+most_script = 16777216
+
 -- the greatest length of a report, in bytes
 abbrev pub most_report : ℕ
 most_report = 67108864
@@ -121,7 +125,7 @@ Writes Said Lawful Kept m text old new status.SinkFault = StopsEarly Said Kept m
 Writes Said Lawful Kept m text old new status.OutOfMemory = Adds old new [] ⊎ StopsEarly Lawful Kept m text old new
 Writes Said Lawful Kept m text old new status.Usage = Adds old new []
 Writes Said Lawful Kept m text old new status.SourceFault = Adds old new []
-Writes Said Lawful Kept m text old new status.TooLong = (16777216 < length text × Adds old new [] × Kept) ⊎ (length text ≤ 16777216 × ReportsLong Said m text old new)
+Writes Said Lawful Kept m text old new status.TooLong = (most_script < length text × Adds old new [] × Kept) ⊎ (length text ≤ most_script × ReportsLong Said m text old new)
 Writes Said Lawful Kept m text old new status.BadDevice = IsGood m text × Adds old new []
 Writes Said Lawful Kept m text old new status.DeviceFault = IsGood m text × Adds old new []
 -- these are of commands that judge images and reports
@@ -132,11 +136,11 @@ Writes Said Lawful Kept m text old new status.Damaged = ⊥
 
 -- how long a text is, by the status
 abbrev pub IsLength : Status → List ℕ → Type 0
-IsLength status.Done text = length text ≤ 16777216
-IsLength status.BadScript text = length text ≤ 16777216
-IsLength status.SinkFault text = length text ≤ 16777216
-IsLength status.BadDevice text = length text ≤ 16777216
-IsLength status.DeviceFault text = length text ≤ 16777216
+IsLength status.Done text = length text ≤ most_script
+IsLength status.BadScript text = length text ≤ most_script
+IsLength status.SinkFault text = length text ≤ most_script
+IsLength status.BadDevice text = length text ≤ most_script
+IsLength status.DeviceFault text = length text ≤ most_script
 IsLength status.TooLong text = Unit {0}
 IsLength status.OutOfMemory text = Unit {0}
 IsLength status.Usage text = Unit {0}
@@ -227,17 +231,3 @@ WritesRefusal m text old new _ = ⊥
 abbrev pub WritesOf : {D R : Type 0} → (D → Disk) → (R → Told) → Mode → D → R → List ℕ → Option (List ℕ) → Option (List ℕ) → Status → D → R → Type 0
 WritesOf state told m disk remote text old new end back left =
     Writes (λ trace. Leads state told m disk remote trace back left) (IsLawful m (Begins told m remote) (clusters_on (state disk).seen)) ((back ≡ disk) × (left ≡ remote)) m text old new end
-
--- All that holds of the text of a run, by how it ended. The run was quiet where neither source nor sink failed.
-pub record OfText {D R : Type 0} (state : D → Disk) (told : R → Told) (m : Mode) (disk : D) (remote : R) (text : List ℕ) (old new : Option (List ℕ)) (Unwritten Quiet : Type 0) (end : Status) (back : D) (left : R) : Type 0 where
-  -- what was written: at Done the texts of lawful answers, one for each event of the whole text
-  pub writes : WritesOf state told m disk remote text old new end back left
-  pub lengths : IsLength end text
-  -- no script ends as BadScript
-  pub bad : end ≡ status.BadScript → (events : List Event) → IsScript m text events → ⊥
-  -- a device that is not fit ends as BadDevice, once the text was read
-  pub unfit : (IsFit (size_of (state disk)) → ⊥) → length text ≤ 16777216 → (events : List Event) → IsScript m text events → IsUnfit end
-  -- of a text that is too long nothing is written
-  pub long : end ≡ status.TooLong → 16777216 < length text → Unwritten
-  -- a quiet run on a fit device is done, or the report is too long, memory ran out, or the device failed before the first event
-  pub complete : Quiet → IsFit (size_of (state disk)) → length text ≤ 16777216 → (events : List Event) → IsScript m text events → IsComplete end

@@ -7,6 +7,8 @@ use Rattle.cf_base.specs.declared.events.Event.{Event}
 use Rattle.cf_base.specs.declared.statuses.Status.{Status}
 use Rattle.cf_base.specs.declared.statuses.Status.TheVariants as status
 use Rattle.cf_disk.specs.Disk.{State as Disk}
+use Rattle.cf_gen.specs.Summaries.{counts_of}
+use Rattle.cf_gen.specs.declared.summaries.Counts.{Counts}
 use Rattle.cf_io.specs.Moves.{Adds, AddsFront}
 use Rattle.cf_io.specs.declared.faults.ReadError.{ReadError}
 use Rattle.cf_io.specs.declared.faults.ReadError.TheVariants as reading
@@ -69,16 +71,18 @@ IsOfSink play.TooLong = ⊥
 IsOfSink _ = Unit {0}
 
 -- Some first events were done, and the rest is still to do. Of the texts of their answers a front was written, and what follows waits.
-pub record IsUnderWay {D A : Type 0} (state : D → Disk) (W : Acts A) (disk : D) (first : A) (events rest : List Event) (waiting : List ℕ) (made : ℕ) (old now : Option (List ℕ)) (w : Option (Acting D A)) : Type 0 where
+pub record IsUnderWay {D A : Type 0} (state : D → Disk) (W : Acts A) (disk : D) (first : A) (events rest : List Event) (waiting : List ℕ) (made : ℕ) (old now : Option (List ℕ)) (w : Option (Acting D A)) (counts : Counts) : Type 0 where
   pub trace : List (Event × Answer)
   pub run : HasRunOn state W disk first trace w
+  pub counted : counts ≡ counts_of (answers_of trace)
   pub parts : events_of trace ++ rest ≡ events
   pub drafted : IsDrafted (texts (answers_of trace)) waiting made old now
 
--- All events were done, and the texts of their answers written.
-pub record AllPlayed {D A : Type 0} (state : D → Disk) (W : Acts A) (disk : D) (first : A) (events : List Event) (old new : Option (List ℕ)) (w : Option (Acting D A)) : Type 0 where
+-- All events were done, their answers counted, and the texts of these written.
+pub record AllPlayed {D A : Type 0} (state : D → Disk) (W : Acts A) (disk : D) (first : A) (events : List Event) (old new : Option (List ℕ)) (w : Option (Acting D A)) (counts : Counts) : Type 0 where
   pub trace : List (Event × Answer)
   pub run : HasRunOn state W disk first trace w
+  pub counted : counts ≡ counts_of (answers_of trace)
   pub each : events_of trace ≡ events
   pub written : Adds old new (texts (answers_of trace))
   pub short : length (texts (answers_of trace)) ≤ most_report

@@ -8,14 +8,18 @@
 //! says; what a user may rely on, `cf_model_headline`; what a run writes, `specs/Runs.antt`.
 #![tactic(auto)]
 
+mod conclusions;
 mod drafts;
+mod images;
 mod migrations;
+mod outputs;
 mod play_errors;
 mod plays;
 mod refusals;
 mod reports;
 mod runs;
 mod scripts;
+mod scrubs;
 mod worlds;
 
 pub use runs::{Finish, run};

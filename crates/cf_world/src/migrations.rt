@@ -5,21 +5,20 @@ ghost use Rattle.cf_base.specs.declared.codes.CallError.TheVariants as fails;
 ghost use Rattle.cf_base.specs.declared.codes.Code.TheVariants as code;
 ghost use Rattle.cf_base.specs.declared.statuses.Status.TheVariants as status;
 ghost use Rattle.cf_disk.specs.Disk.{HasFailed, may_fail, size_of};
-ghost use Rattle.cf_io.specs.Moves.{Adds, AddsFront, IsQuiet, IsWhole, Rose};
+ghost use Rattle.cf_io.specs.Moves.{IsQuiet, IsWhole, Rose};
 ghost use Rattle.cf_io.specs.declared.faults.ReadError.TheVariants as reading;
 ghost use Rattle.cf_journal.specs.Settled.{IsFitSize};
-ghost use Rattle.cf_world.specs.Migrations.{HandsOut, IsMigrated, IsRefused, IsUnopened, IsUnopenedEnd, IsUnread, Migrates, OfDevice};
+ghost use Rattle.cf_world.specs.Migrations.{IsMigrated, IsRefused, IsUnopened, IsUnopenedEnd, IsUnread, Migrates, OfDevice};
 ghost use Rattle.cf_world.specs.Runs.{IsBeforeDevice, IsBeforeWriting, IsFit};
 
+use crate::images::hand_out;
 use crate::scripts::is_fit;
 use cf_base::{CallError, Code, Status};
 use cf_disk::{Disk, DiskError};
-use cf_io::{ReadError, Sink, Source, read_all, write_all};
+use cf_io::{ReadError, Sink, Source, read_all};
+use cf_journal::LARGEST_SIZE;
 use cf_volume_commit::load;
 use std::alloc::Global;
-
-// The most bytes of a device.
-const MOST_DEVICE: u64 = 271_581_184;
 
 /// Reads the bytes of a device from the source, writes them to the disk and makes them durable, opens the volume there, which
 /// puts it into format 2 in the next epoch, and writes the disk's bytes to the sink.
@@ -39,7 +38,7 @@ pub(crate) fn migrate<S: Source, K: Sink, D: Disk>(
     ensures unwritten { IsBeforeWriting result → sink.new ≡ sink.old }
     ensures unused { IsBeforeDevice result → disk.new ≡ disk.old }
 {
-    let limit = disk.size().min(MOST_DEVICE) as usize;
+    let limit = disk.size().min(LARGEST_SIZE) as usize;
     match read_all(alloc, source, limit) {
         Ok(bytes) => put(alloc, bytes, sink, disk),
         Err(fail) => unread(fail, disk.size()),
@@ -156,31 +155,5 @@ fn rewritten<D: Disk>(alloc: Global, disk: &mut D, bytes: &[u8]) -> Result<(), S
     match place(disk, bytes) {
         Ok(()) => open(alloc, disk),
         Err(_error) => Err(Status::DeviceFault),
-    }
-}
-
-// Writes what the disk reads as to the sink. The bytes are used as room.
-fn hand_out<K: Sink, D: Disk>(mut bytes: Vec<u8>, sink: &mut K, disk: &mut D) -> Status
-    requires { length bytes.items ≡ size_of (D.state disk.old) }
-    ensures writes { HandsOut (D.state disk.old) (D.state disk.new) (K.held sink.old) (K.held sink.new) result }
-    ensures sink_fault { result ≡ Status.SinkFault → Rose (K.faults sink.old) (K.faults sink.new) }
-    ensures unwritten { IsBeforeWriting result → sink.new ≡ sink.old }
-{
-    let status = match disk.read(0, &mut bytes) {
-        Ok(()) => written(sink, &bytes),
-        Err(_error) => Status::DeviceFault,
-    };
-    drop(bytes);
-    status
-}
-
-fn written<K: Sink>(sink: &mut K, bytes: &[u8]) -> Status
-    ensures done { result ≡ status.Done → Adds (K.held sink.old) (K.held sink.new) bytes.now }
-    ensures front { result ≡ status.SinkFault → AddsFront (K.held sink.old) (K.held sink.new) bytes.now × Rose (K.faults sink.old) (K.faults sink.new) }
-    ensures only { (result ≡ status.Done) ⊎ (result ≡ status.SinkFault) }
-{
-    match write_all(sink, bytes) {
-        Ok(()) => Status::Done,
-        Err(_error) => Status::SinkFault,
     }
 }

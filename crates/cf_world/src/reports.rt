@@ -8,7 +8,7 @@ ghost use Rattle.cf_journal.specs.Settled.{IsFitSize};
 ghost use Rattle.cf_model.specs.Events.{is_of};
 ghost use Rattle.cf_script.specs.Script.{IsScript};
 ghost use Rattle.cf_world.specs.Led.{HasRunOn};
-ghost use Rattle.cf_world.specs.Runs.{IsOfReport, IsPlayed};
+ghost use Rattle.cf_world.specs.Runs.{IsOfReport, IsPlayed, most_script};
 ghost use Rattle.cf_world.specs.Steps.{WritesBy, play_status, start_status};
 
 use crate::play_errors::PlayError;
@@ -18,6 +18,7 @@ use crate::worlds::World;
 use cf_base::{CallError, Event, Status};
 use cf_disk::Disk;
 use cf_filter_events::Actor;
+use cf_gen::Counts;
 use cf_io::Sink;
 use std::alloc::Global;
 
@@ -38,7 +39,7 @@ pub(crate) fn report<K: Sink, D: Disk + Drop, A: Actor + Drop>(
     disk: D,
     actor: A,
 ) -> Played<D, A>
-    requires short { length text.now ≤ 16777216 }
+    requires short { length text.now ≤ most_script }
     requires script { IsScript A.acts.mode text.now events.now }
     requires of { IsTrue (list_all (is_of A.acts.mode) events.now) }
     requires fit { IsFitSize (size_of (D.state disk)) }
@@ -60,7 +61,7 @@ pub(crate) fn report<K: Sink, D: Disk + Drop, A: Actor + Drop>(
 }
 
 // A start is stopped by the device or by lack of memory alone.
-fn unstarted(fail: CallError) -> Status
+pub(crate) fn unstarted(fail: CallError) -> Status
     ensures { result ≡ start_status fail }
 {
     match fail {
@@ -77,7 +78,7 @@ fn done<K: Sink, D: Disk + Drop, A: Actor + Drop>(
     sink: &mut K,
     mut world: World<D, A>,
 ) -> Played<D, A>
-    requires short { length text.now ≤ 16777216 }
+    requires short { length text.now ≤ most_script }
     requires script { IsScript A.acts.mode text.now events.now }
     requires of { IsTrue (list_all (is_of A.acts.mode) events.now) }
     requires whole { is_some world ≡ true }
@@ -86,7 +87,8 @@ fn done<K: Sink, D: Disk + Drop, A: Actor + Drop>(
     ensures sink_fault { result.status ≡ Status.SinkFault → Rose (K.faults sink.old) (K.faults sink.new) }
 {
     let _ = text;
-    let played = play(alloc, &mut world, events, sink);
+    let mut counts = Counts::new();
+    let played = play(alloc, &mut world, events, sink, &mut counts);
     let (disk, actor) = world.finish();
     Played {
         status: status_of(played),

@@ -2,8 +2,9 @@
 
 ghost use Rattle.std.specs.Prelude.{◌≡◌, ◌++◌, ◌∷◌, [], is_some, IfErr, IfOk, List, Some, true};
 ghost use Rattle.cf_filter_events.specs.Counted.{CountsOver};
+ghost use Rattle.cf_filter_events.specs.Faulted.{Faults};
 ghost use Rattle.cf_filter_events.specs.Meaning.{Is};
-ghost use Rattle.cf_filter_events.specs.Stepped.{Bears, StepsOver, disk_of};
+ghost use Rattle.cf_filter_events.specs.Stepped.{Bears, StepsOver, actor_of, disk_of};
 ghost use Rattle.cf_filter_events.specs.declared.places.Acting.{Acting as Hands};
 ghost use Rattle.cf_base.specs.declared.answers.Answer.{Answer as Answered};
 ghost use Rattle.cf_base.specs.declared.events.Event.{Event as Done};
@@ -11,11 +12,14 @@ ghost use Rattle.cf_disk.specs.Disk.{size_of};
 ghost use Rattle.cf_journal.specs.Settled.{IsFitSize};
 ghost use Rattle.cf_model.specs.Events.{is_of};
 ghost use Rattle.cf_volume.specs.Calls.{IsCause, StopsOnly};
-ghost use Rattle.cf_world.specs.Led.{HasRunOn, LeavesActor};
+ghost use Rattle.cf_model.specs.State.{Broken};
+ghost use Rattle.cf_state.specs.Texts.{state_text, used_blocks};
+ghost use Rattle.cf_world.specs.Led.{HasRunOn, LeavesActor, LeavesText};
 
-use cf_base::{Answer, CallError, Event, OutOfMemory};
+use cf_base::{Answer, Blob, CallError, Event, OutOfMemory};
 use cf_disk::Disk;
 use cf_filter_events::{Acting, Actor};
+use cf_state::{state_text, used_blocks};
 use std::alloc::Global;
 use std::marker::Model;
 
@@ -64,6 +68,26 @@ impl<D: Disk + Drop, A: Actor + Drop> World<D, A> {
         act(alloc, &mut self.acting, event)
     }
 
+    /// The disk and the actor, and the text of the state, of which nothing is said where a device call that failed broke the volume.
+    pub(crate) fn state(self, alloc: Global) -> (D, A, Result<Blob, OutOfMemory>)
+        requires { is_some self ≡ true }
+        ensures { (disk : D) (first : A) (trace : List (Done × Answered)) → HasRunOn D.state A.acts disk first trace self
+            → LeavesText D.state A.acts disk first trace result.0 result.1 (λ s. (s.power ≡ Broken → ⊥) → IfOk result.2 (λ b. b ≡ state_text s)) }
+    {
+        let World { acting, .. } = self;
+        state_of(alloc, acting)
+    }
+
+    /// The disk and the actor, and how many blocks are used, of which nothing is said where a device call that failed broke the volume.
+    pub(crate) fn blocks(self) -> (D, A, u32)
+        requires { is_some self ≡ true }
+        ensures { (disk : D) (first : A) (trace : List (Done × Answered)) → HasRunOn D.state A.acts disk first trace self
+            → LeavesText D.state A.acts disk first trace result.0 result.1 (λ s. (s.power ≡ Broken → ⊥) → result.2 ≡ used_blocks s) }
+    {
+        let World { acting, .. } = self;
+        blocks_of(acting)
+    }
+
     /// The disk and the actor.
     pub fn finish(self) -> (D, A)
         requires { is_some self ≡ true }
@@ -81,6 +105,41 @@ fn parts_of<D: Disk + Drop, A: Actor + Drop>(acting: Option<Acting<D, A>>) -> (D
 {
     match acting {
         Some(acting) => acting.finish(),
+        None => unreachable!(),
+    }
+}
+
+// The same, and the text of the state.
+fn state_of<D: Disk + Drop, A: Actor + Drop>(
+    alloc: Global,
+    acting: Option<Acting<D, A>>,
+) -> (D, A, Result<Blob, OutOfMemory>)
+    requires { is_some acting ≡ true }
+    ensures { (disk : D) (first : A) (trace : List (Done × Answered)) → HasRunOn D.state A.acts disk first trace acting
+        → LeavesText D.state A.acts disk first trace result.0 result.1 (λ s. (s.power ≡ Broken → ⊥) → IfOk result.2 (λ b. b ≡ state_text s)) }
+{
+    match acting {
+        Some(acting) => {
+            let text = state_text(alloc, &acting);
+            let (disk, actor) = acting.finish();
+            (disk, actor, text)
+        }
+        None => unreachable!(),
+    }
+}
+
+// The same, and how many blocks are used.
+fn blocks_of<D: Disk + Drop, A: Actor + Drop>(acting: Option<Acting<D, A>>) -> (D, A, u32)
+    requires { is_some acting ≡ true }
+    ensures { (disk : D) (first : A) (trace : List (Done × Answered)) → HasRunOn D.state A.acts disk first trace acting
+        → LeavesText D.state A.acts disk first trace result.0 result.1 (λ s. (s.power ≡ Broken → ⊥) → result.2 ≡ used_blocks s) }
+{
+    match acting {
+        Some(acting) => {
+            let blocks = used_blocks(&acting);
+            let (disk, actor) = acting.finish();
+            (disk, actor, blocks)
+        }
         None => unreachable!(),
     }
 }
@@ -110,6 +169,7 @@ fn act_on<D: Disk + Drop, A: Actor + Drop>(
     ensures ok { (a b : Hands D A) → acting.old ≡ Some a → acting.new ≡ Some b → StepsOver A.acts.mode (Is A.acts D.state) event.now a result b }
     ensures counts { (a b : Hands D A) → acting.old ≡ Some a → acting.new ≡ Some b → CountsOver (Is A.acts D.state) event.now a result (D.state (disk_of a)) (D.state (disk_of b)) }
     ensures device { (a b : Hands D A) → acting.old ≡ Some a → acting.new ≡ Some b → Bears event.now (D.state (disk_of a)) (D.state (disk_of b)) }
+    ensures faults { (a b : Hands D A) → acting.old ≡ Some a → acting.new ≡ Some b → Faults (Is A.acts D.state) a result (A.acts.faults (actor_of a)) (A.acts.faults (actor_of b)) }
     ensures whole { is_some acting.new ≡ true }
 {
     let Some(begun) = acting.take() else {

@@ -8,6 +8,7 @@ use Rattle.cf_filter_events.specs.Meaning.{IsBegun, IsOn, OnBy}
 use Rattle.cf_filter_events.specs.Pasts.{Past}
 use Rattle.cf_filter_events.specs.Stepped.{SteppedTo}
 use Rattle.cf_filter_events.specs.declared.places.Running.{Running as Run}
+use Rattle.cf_filter_events.proofs.CallFaults.{rose_same}
 use Rattle.cf_filter_events.proofs.Counted.{plain_if}
 use Rattle.cf_filter_events.proofs.Finished.{while_on}
 use Rattle.cf_world_filter.specs.Scripts.{scripts}
@@ -39,11 +40,12 @@ module _ {D : Type 0} (state : D → Disk) where
   -- the same, as the code has it
   pub plans_step : (own : Bool) (op : Operation) (x : Held D) (plan left : List (Bool × Operation)) (r : Result Answer NoMemory) → IfOk r (λ a. a ≡ answer_with shown.Done []) → IfOk r (λ a. left ≡ plan ++ (own, op) ∷ [])
       → StepsOn scripts state (event.Provider (provider.Plan own op)) (record { filter = x; actor = plan }) r (record { filter = x; actor = left })
-  plans_step own op x plan left (Err m) told adds = record { steps = λ past s on. record {}; counts = λ past s on. record {} }
+  plans_step own op x plan left (Err m) told adds = record { steps = λ past s on. record {}; counts = λ past s on. record {}; faults = λ past s on. record {} }
   plans_step own op x plan left (Ok a) told adds =
       let h : StepsOn scripts state (event.Provider (provider.Plan own op)) (record { filter = x; actor = plan }) (Ok (answer_with shown.Done [])) (record { filter = x; actor = plan ++ (own, op) ∷ [] }) = record {
         steps = planned_step own op x plan;
         counts = λ past s on. plain_if (answer_with shown.Done []) x.desk.broken (state x.disk) refl;
+        faults = λ past s on. rose_same 0 0 refl;
       } in
       let to = subst (λ (l : List (Bool × Operation)). StepsOn scripts state (event.Provider (provider.Plan own op)) (record { filter = x; actor = plan }) (Ok (answer_with shown.Done [])) (record { filter = x; actor = l })) (sym adds) h in
       subst (λ (b : Answer). StepsOn scripts state (event.Provider (provider.Plan own op)) (record { filter = x; actor = plan }) (Ok b) (record { filter = x; actor = left })) (sym told) to
@@ -51,4 +53,4 @@ module _ {D : Type 0} (state : D → Disk) where
   -- where memory ran out nothing is said
   pub no_memory : (e : Event) (x y : Run D (List (Bool × Operation))) (r : Result Answer NoMemory) (m : NoMemory) → IsErrAnd r (λ z. z ≡ m) → StepsOn scripts state e x r y
   no_memory e x y (Ok a) m h = absurd h
-  no_memory e x y (Err k) m h = record { steps = λ past s is. record {}; counts = λ past s is. record {} }
+  no_memory e x y (Err k) m h = record { steps = λ past s is. record {}; counts = λ past s is. record {}; faults = λ past s is. record {} }

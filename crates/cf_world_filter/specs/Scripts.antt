@@ -16,6 +16,7 @@ pub record Sees (plan : Plan) (z : State) : Type 0 where
   pub planned : z.plan ≡ plan
   pub running : z.running ≡ nothing_yet
 
--- Between two events the plan is that of the state. While the volume is broken or off the plan is nothing to go by.
+-- Between two events the plan is that of the state. While the volume is broken or off the plan is nothing to go by. The remote is never
+-- asked.
 abbrev pub scripts : Acts Plan
-scripts = record { mode = InFilter; stands = λ plan s. s.plan ≡ plan; holds = λ plan s. Unit {0}; sees = Sees }
+scripts = record { mode = InFilter; stands = λ plan s. s.plan ≡ plan; holds = λ plan s. Unit {0}; sees = Sees; faults = λ plan. 0 }

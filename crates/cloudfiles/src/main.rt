@@ -34,16 +34,27 @@ fn outside(alloc: Global) -> Result<(MemDisk, StoreRemote), cf_base::OutOfMemory
     Ok((disk, remote))
 }
 
+/// The exit status of a run. Where the words were no command, a line on standard error says which there are.
+fn ended(rt: &HostRuntime, status: Status) -> ExitCode {
+    if status == Status::Usage {
+        // That it cannot be written changes nothing.
+        let _ = eprintln!(rt;
+            "cloudfiles: expected replay, filter, state, image, scrub, migrate, or gen and a number"
+        );
+    }
+    ExitCode::from(status.number())
+}
+
 fn main(rt: HostRuntime) -> ExitCode {
     let words = match words(&rt) {
         Ok(words) => words,
-        Err(status) => return ExitCode::from(status.number()),
+        Err(status) => return ended(&rt, status),
     };
     let Ok((disk, remote)) = outside(rt.alloc()) else {
-        return ExitCode::from(Status::OutOfMemory.number());
+        return ended(&rt, Status::OutOfMemory);
     };
     let mut source = StdSource::new(rt.reader());
     let mut sink = StdSink::new(io::writer(&rt));
     let finish = run(rt.alloc(), &words, &mut source, &mut sink, disk, remote);
-    ExitCode::from(finish.status.number())
+    ended(&rt, finish.status)
 }

@@ -1,4 +1,7 @@
-use Rattle.std.proofs.Common.{refl}
+use Rattle.std.proofs.Common.{ap, refl}
+use Rattle.std.specs.Prelude.{Ok}
+use Rattle.cf_filter_events.specs.Stepped.{disk_of}
+use Rattle.cf_filter_events.proofs.EventFaults.{shown_faults}
 use Rattle.cf_filter_events.proofs.Wholes.{off_over, off_steps}
 use Rattle.cf_filter_events.proofs.Counted.{counts_by}
 use Rattle.cf_filter_events.proofs.worlds.device_off.Goals as goal
@@ -25,7 +28,16 @@ pub returns-in-Stop-clause-counts : goal.returns-in-Stop-clause-counts
 returns-in-Stop-clause-counts g c = rw c.in-Stop.is c.stop-told.ensures.counts
 
 pub returns-in-Crash-clause-counts : goal.returns-in-Crash-clause-counts
-returns-in-Crash-clause-counts g c = rw c.in-Crash.is (counts_by 0 _ _ _ c.cut-told.ensures.counts)
+returns-in-Crash-clause-counts g c = rw c.in-Crash.is (counts_by 0 (Ok c.cut-told.result) (g.D.Disk.state c.args.cut.disk) (g.D.Disk.state c.cut-told.new.self.disk) c.cut-told.ensures.counts)
 
 pub returns-in-Restart-clause-counts : goal.returns-in-Restart-clause-counts
-returns-in-Restart-clause-counts g c = rw c.in-Restart.is (counts_by 0 _ _ _ c.restart.ensures.counts)
+returns-in-Restart-clause-counts g c = rw c.in-Restart.is (counts_by 0 c.restart.result.1 (g.D.Disk.state c.args.cut.disk) (g.D.Disk.state (disk_of c.restart.result.0)) c.restart.ensures.counts)
+
+pub returns-in-Stop-clause-faults : goal.returns-in-Stop-clause-faults
+returns-in-Stop-clause-faults g c = shown_faults _ _ _ _ c.stop-told.ensures.told refl (ap (λ p. g.A.Actor.acts.faults p) c.stop-told.ensures.actor)
+
+pub returns-in-Crash-clause-faults : goal.returns-in-Crash-clause-faults
+returns-in-Crash-clause-faults g c = shown_faults _ _ _ _ c.cut-told.ensures.told refl (ap (λ p. g.A.Actor.acts.faults p) c.cut-told.ensures.actor)
+
+pub returns-in-Restart-clause-faults : goal.returns-in-Restart-clause-faults
+returns-in-Restart-clause-faults g c = c.restart.ensures.faults

@@ -1,5 +1,7 @@
-use Rattle.std.proofs.Common.{refl}
+use Rattle.std.proofs.Common.{ap, refl}
+use Rattle.std.specs.Prelude.{Ok}
 use Rattle.cf_filter_events.proofs.Counted.{counts_by, cut_off, shown_counts, stays}
+use Rattle.cf_filter_events.proofs.EventFaults.{shown_faults}
 use Rattle.cf_filter_events.proofs.Wholes.{on_over, on_steps}
 use Rattle.cf_filter_events.proofs.worlds.device_on.Goals as goal
 
@@ -28,9 +30,18 @@ pub returns-in-Crash-clause-counts : goal.returns-in-Crash-clause-counts
 returns-in-Crash-clause-counts g c =
     let old = g.D.Disk.state c.args.running.filter.disk in
     let new = g.D.Disk.state c.cut-cut.result.disk in
-    rw c.in-Crash.is (counts_by 0 _ old new (shown_counts _ _ old new c.plainly.ensures refl (cut_off old new c.cut-cut.ensures.powers.faults c.cut-cut.ensures.powers.armed)))
+    rw c.in-Crash.is (counts_by 0 (Ok c.plainly.result) old new (shown_counts _ _ old new c.plainly.ensures refl (cut_off old new c.cut-cut.ensures.powers.faults c.cut-cut.ensures.powers.armed)))
 
 pub returns-in-Restart-clause-counts : goal.returns-in-Restart-clause-counts
 returns-in-Restart-clause-counts g c =
     let disk = g.D.Disk.state c.args.running.filter.disk in
-    rw c.in-Restart.is (counts_by 0 _ disk disk (shown_counts _ _ disk disk c.restart-told.ensures.told refl (stays disk)))
+    rw c.in-Restart.is (counts_by 0 (Ok c.restart-told.result) disk disk (shown_counts _ _ disk disk c.restart-told.ensures.told refl (stays disk)))
+
+pub returns-in-Stop-clause-faults : goal.returns-in-Stop-clause-faults
+returns-in-Stop-clause-faults g c = shown_faults _ _ _ _ c.stop-told.ensures.told refl (ap (λ p. g.A.Actor.acts.faults p) c.stop-told.ensures.actor)
+
+pub returns-in-Crash-clause-faults : goal.returns-in-Crash-clause-faults
+returns-in-Crash-clause-faults g c = shown_faults _ _ _ _ c.plainly.ensures refl (ap (λ p. g.A.Actor.acts.faults p) c.cut-cut.ensures.actor)
+
+pub returns-in-Restart-clause-faults : goal.returns-in-Restart-clause-faults
+returns-in-Restart-clause-faults g c = let n = g.A.Actor.acts.faults c.args.running.actor in shown_faults _ _ n n c.restart-told.ensures.told refl refl

@@ -4,11 +4,11 @@ use Rattle.cf_base.specs.declared.answers.Answer.{Answer}
 use Rattle.cf_base.specs.declared.events.Event.{Event}
 use Rattle.cf_volume_points.specs.Standing.{clusters_on}
 use Rattle.cf_report.specs.Texts.{text, texts}
+use Rattle.cf_world.proofs.Adding.{adds_nothing}
 use Rattle.cf_world.proofs.Drafted.{drafted_all}
 use Rattle.cf_world.proofs.Errs.{err_if}
-use Rattle.cf_world.proofs.OfTexts.{adds_nothing}
 use Rattle.cf_world.proofs.WorldRuns.{run_lawful}
-use Rattle.cf_world.proofs.Traces.{drafted_next, next_event, played_all, played_early, played_front, played_stops}
+use Rattle.cf_world.proofs.Traces.{counted_next, drafted_next, next_event, played_all, played_early, played_front, played_stops}
 use Rattle.cf_world.specs.Led.{HasRunOn}
 use Rattle.cf_world.specs.Runs.{answers_of, events_of}
 use Rattle.cf_world.specs.Steps.{AddFails, IsLawfulFrom, SomePlayed}
@@ -17,7 +17,7 @@ use Rattle.cf_world.proofs.plays.play.Goals as goal
 
 pub loop-event-init : goal.loop-event-init
 loop-event-init g c = (
-  λ disk first h. record { trace = []; run = h; parts = refl; drafted = record { front = []; parts = sym c.new-waiting.ensures.items; long = refl; short = omega arith; written = adds_nothing (g.K.Sink.held c.args.sink.now) } },
+  λ disk first h. record { trace = []; run = h; counted = c.requires.none; parts = refl; drafted = record { front = []; parts = sym c.new-waiting.ensures.items; long = refl; short = omega arith; written = adds_nothing (g.K.Sink.held c.args.sink.now) } },
   c.requires.whole,
   c.requires.of,
   omega arith,
@@ -41,7 +41,7 @@ returns-in_err-made-clause-err g c = λ disk first h.
     let all = c.args.events.now in
     let old = g.K.Sink.held c.args.sink.now in
     let new = g.K.Sink.held c.add.new.sink in
-    let run = added.2 disk first u.trace u.run in
+    let run = added.3 disk first u.trace u.run in
     let fails = c.in_err-made.ensures.err (texts (answers_of u.trace)) old u.drafted in
     let piece : c.as_slice.result.now ≡ text added.0 = c.as_slice.ensures ∙ added.1 in
     let e = c.in_err-made.field-0.0 in
@@ -64,7 +64,8 @@ loop-event-preserved g c =
           let then : List (Event × Answer) = u.trace ++ (event, added.0) ∷ [] in
           record {
             trace = then;
-            run = added.2 disk first u.trace u.run;
+            run = added.3 disk first u.trace u.run;
+            counted = counted_next u.trace event added.0 c.answer.new.counts (added.2 (answers_of u.trace) u.counted);
             parts = next_event c.args.events.now c.loop-event.event-index u.trace event added.0 c.event-item.is c.loop-event-test.true u.parts;
             drafted = drafted_next u.trace then event added.0 c.as_slice.result.now c.add.new.waiting.items c.in_ok-made.made old new refl piece (c.in_ok-made.ensures.ok (texts (answers_of u.trace)) old u.drafted);
           },
@@ -93,6 +94,7 @@ returns-clause-ok g c = λ disk first h.
     record {
       trace = u.trace;
       run = u.run;
+      counted = u.counted;
       each = played_all all (drop i all) u.trace u.parts (drop_all i all c.loop-event-test.false);
       written = drafted_all (texts (answers_of u.trace)) c.loop-event.waiting.items c.loop-event.made (g.K.Sink.held c.args.sink.now) (g.K.Sink.held c.loop-event.sink) (g.K.Sink.held c.write_all.new.sink) u.drafted written;
       short = let l = u.drafted.long in let s = u.drafted.short in omega (arith, l, s);

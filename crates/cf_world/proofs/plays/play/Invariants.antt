@@ -8,7 +8,7 @@ use Rattle.cf_world.proofs.plays.play.Given as goal
 
 abbrev pub invariant-loop-event : goal.invariant-loop-event
 invariant-loop-event g l =
-    ((disk : g.row.D.Denot) (first : g.row.A.Denot) → HasRunOn g.D.Disk.state g.A.Actor.acts disk first [] l.fn.world → IsUnderWay g.D.Disk.state g.A.Actor.acts disk first l.events (drop l.event-index l.events) l.waiting.items l.made (g.K.Sink.held l.fn.sink) (g.K.Sink.held l.sink) l.world)
+    ((disk : g.row.D.Denot) (first : g.row.A.Denot) → HasRunOn g.D.Disk.state g.A.Actor.acts disk first [] l.fn.world → IsUnderWay g.D.Disk.state g.A.Actor.acts disk first l.events (drop l.event-index l.events) l.waiting.items l.made (g.K.Sink.held l.fn.sink) (g.K.Sink.held l.sink) l.world l.counts)
     × (is_some l.world ≡ true)
     × IsTrue (list_all (is_of g.A.Actor.acts.mode) l.events)
     × (g.K.Sink.faults l.fn.sink ≤ g.K.Sink.faults l.sink)

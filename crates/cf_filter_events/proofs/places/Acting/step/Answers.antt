@@ -15,3 +15,9 @@ returns-in-On-clause-counts g c = rw c.in-On.is c.step_on.ensures.counts
 
 pub returns-in-Off-clause-counts : goal.returns-in-Off-clause-counts
 returns-in-Off-clause-counts g c = rw c.in-Off.is (counts_event _ _ _ _ _ _ c.step_off.ensures.counts)
+
+pub returns-in-On-clause-faults : goal.returns-in-On-clause-faults
+returns-in-On-clause-faults g c = rw c.in-On.is c.step_on.ensures.faults
+
+pub returns-in-Off-clause-faults : goal.returns-in-Off-clause-faults
+returns-in-Off-clause-faults g c = rw c.in-Off.is c.step_off.ensures.faults

@@ -1,5 +1,6 @@
 use Rattle.std.proofs.Common.{refl, sym, ◌∙◌}
 use Rattle.cf_filter_events.proofs.Counted.{known_same, shown_counts, stays}
+use Rattle.cf_filter_events.proofs.EventFaults.{faults_always, off_faults, shown_faults}
 use Rattle.cf_filter_events.proofs.Offs.{off_beside, off_refuses}
 use Rattle.cf_filter_events.proofs.places.Cut.act.Goals as goal
 
@@ -15,3 +16,9 @@ returns-clause-steps g c =
 
 pub returns-clause-counts : goal.returns-clause-counts
 returns-clause-counts g c = known_same _ _ (g.D.Disk.state c.args.self.now.disk) c.known.ensures
+
+pub returns-then-needs_volume-clause-faults : goal.returns-then-needs_volume-clause-faults
+returns-then-needs_volume-clause-faults g c = let n = g.A.Actor.acts.faults c.args.self.now.actor in faults_always _ _ _ n n (shown_faults _ _ n n c.refused.ensures refl refl)
+
+pub returns-clause-faults : goal.returns-clause-faults
+returns-clause-faults g c = off_faults g.A.Actor.acts g.D.Disk.state c.args.self.now c.beside-told.new.self c.args.event.now _ _ c.beside-told.ensures c.known.ensures

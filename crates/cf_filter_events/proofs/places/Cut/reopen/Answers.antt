@@ -1,5 +1,6 @@
 use Rattle.std.proofs.Common.{refl}
 use Rattle.cf_filter_events.proofs.Counted.{failed_counts, opened_counts, ran_on}
+use Rattle.cf_filter_events.proofs.EventFaults.{failed_faults, silent_faults}
 use Rattle.cf_filter_events.proofs.Reopening.{failed_step, opened_step}
 use Rattle.cf_filter_events.proofs.places.Cut.reopen.Goals as goal
 
@@ -16,3 +17,9 @@ returns-in-Ok-clause-counts g c = opened_counts g.A.Actor.acts g.D.Disk.state c.
 
 pub returns-in-Err-clause-counts : goal.returns-in-Err-clause-counts
 returns-in-Err-clause-counts g c = rw c.refused_by.ensures (failed_counts c.in-Err.fail (g.D.Disk.state c.args.self.disk) (g.D.Disk.state c.in-Err.disk) (ran_on (g.D.Disk.state c.args.self.disk) (g.D.Disk.state c.in-Err.disk) c.in-Err.ensures.runs_back) c.in-Err.ensures.only c.in-Err.ensures.cause)
+
+pub returns-in-Ok-clause-faults : goal.returns-in-Ok-clause-faults
+returns-in-Ok-clause-faults g c = silent_faults c.reopened.result.1 _ _ c.reopened.ensures.quiet c.reopened.ensures.same
+
+pub returns-in-Err-clause-faults : goal.returns-in-Err-clause-faults
+returns-in-Err-clause-faults g c = rw c.refused_by.ensures (failed_faults c.in-Err.fail (g.A.Actor.acts.faults c.args.self.actor) c.in-Err.ensures.only)

@@ -1,6 +1,10 @@
-use Rattle.std.proofs.Common.{subst}
+use Rattle.std.proofs.Common.{refl, subst}
+use Rattle.cf_filter_events.proofs.EventFaults.{shown_faults}
 use Rattle.cf_journal.specs.Settled.{IsFitSize}
 use Rattle.cf_filter_events.proofs.places.Cut.restart.Goals as goal
 
 pub reopen-requires : goal.reopen-requires
 reopen-requires g c = subst IsFitSize c.size.ensures (c.is_fit.ensures.fit c.if-not-is_fit.false)
+
+pub returns-then-not-is_fit-clause-faults : goal.returns-then-not-is_fit-clause-faults
+returns-then-not-is_fit-clause-faults g c = let n = g.A.Actor.acts.faults c.args.self.actor in shown_faults _ _ n n c.refused.ensures refl refl
