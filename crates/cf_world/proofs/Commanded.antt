@@ -82,8 +82,11 @@ module _ {D R A : Type 0} (state : D → Disk) (told : R → Told) (W : Acts A) 
         remote = leaves held trace r.left r.holds runs;
       }
 
+  leads_from : (d : D) (trace : List (Event × Answer)) → LeavesActor state W disk actor trace d after → Leads state told W.mode disk first trace d left
+  leads_from d trace h held begins = leads_at d trace held (h held (stands held begins))
+
   leads : (trace : List (Event × Answer)) → LeavesActor state W disk actor trace back after → Leads state told W.mode disk first trace back left
-  leads trace h held begins = leads_at back trace held (h held (stands held begins))
+  leads trace = leads_from back trace
 
   says : (o : Ending) (trace : List (Event × Answer)) (last : List ℕ) → SaysBy state W o disk actor back after trace last → SaysIn state told o W.mode disk first back left trace last
   unfolding leads_at
@@ -97,16 +100,24 @@ module _ {D R A : Type 0} (state : D → Disk) (told : R → Told) (W : Acts A) 
       writes_said (λ trace. LeavesActor state W disk actor trace back after) (λ trace. Leads state told W.mode disk first trace back left) (IsLawfulFrom W (clusters_on (state disk).seen) actor) (IsLawful W.mode (Begins told W.mode first) (clusters_on (state disk).seen))
       W.mode text old new leads (λ trace l held begins. l held (stands held begins)) ((back ≡ disk) × (after ≡ actor)) ((back ≡ disk) × (left ≡ first)) (λ k. (k.0, kept k.1)) end h
 
+  -- a device that failed
+
+  abbrev Before : List ℕ → Type 0
+  Before text = EndsFailed state (λ trace d. LeavesActor state W disk actor trace d after) W.mode text disk back (after ≡ actor)
+
+  abbrev After : List ℕ → Type 0
+  After text = EndsFailed state (λ trace d. Leads state told W.mode disk first trace d left) W.mode text disk back (left ≡ first)
+
+  failed : (text : List ℕ) → Before text → After text
+  failed text (inl h) = inl (h.0, kept h.1)
+  failed text (inr h) = inr (record { trace = h.trace; spelled = h.spelled; end = h.end; leads = leads_from h.end h.trace h.leads; cut = h.cut; power = h.power; failed = h.failed })
+
   -- and what is left of a script
   concluded : (o : Ending) (text : List ℕ) (old new : Option (List ℕ)) (end : Status) → ConcludesBy state W o disk actor text old new end back after → ConcludesOf state told o W.mode disk first text old new end back left
   concluded o text old new end h =
       concludes_said (SaysBy state W o disk actor back after) (SaysIn state told o W.mode disk first back left) (λ trace. LeavesActor state W disk actor trace back after) (λ trace. Leads state told W.mode disk first trace back left)
-      ((back ≡ disk) × (after ≡ actor)) ((back ≡ disk) × (left ≡ first)) (EndsFailed state disk back (after ≡ actor)) (EndsFailed state disk back (left ≡ first))
-      W.mode text old new (says o) leads (λ k. (k.0, kept k.1)) failed end h
-    where
-      failed : EndsFailed state disk back (after ≡ actor) → EndsFailed state disk back (left ≡ first)
-      failed (inl h) = inl (h.0, kept h.1)
-      failed (inr h) = inr h
+      ((back ≡ disk) × (after ≡ actor)) ((back ≡ disk) × (left ≡ first)) (Before text) (After text)
+      W.mode text old new (says o) leads (λ k. (k.0, kept k.1)) (failed text) end h
 
   pub written_as : (o : Output) (text : List ℕ) (old new : Option (List ℕ)) (end : Status) → WritesAsBy state W o disk actor text old new end back after → WritesAs state told o W.mode disk first text old new end back left
   written_as output.Report text old new end h = written text old new end h

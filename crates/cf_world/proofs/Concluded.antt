@@ -1,5 +1,5 @@
 -- What is written of what a script leaves.
-use Rattle.std.proofs.Common.{◌≡◌, ◌<◌, ◌≤◌, ℕ, List, [], length, inl, inr, refl, subst, arith}
+use Rattle.std.proofs.Common.{◌≡◌, ◌<◌, ◌≤◌, ℕ, List, [], length, inl, inr, refl, subst, sym, arith}
 use Rattle.std.specs.Prelude.{◌≢◌, IfErr, IfOk, None, Option, Result, Ok, Err}
 use Rattle.cf_base.specs.declared.answers.Answer.{Answer}
 use Rattle.cf_base.specs.declared.codes.CallError.{CallError}
@@ -81,7 +81,7 @@ module _ {D A : Type 0} (state : D → Disk) (W : Acts A) (disk back : D) (first
   puts_image d status.Done h leaves = ((state back).seen, λ held stood. let l = leaves held stood in (d, l, h.0, l.lasts (state back).seen h.0.left), h.1)
   puts_image d status.SinkFault h leaves = ((state back).seen, λ held stood. let l = leaves held stood in (d, l, h.0, l.lasts (state back).seen h.0.left), h.1)
   puts_image d status.OutOfMemory h leaves = h
-  puts_image d status.DeviceFault h leaves = h
+  puts_image d status.DeviceFault h leaves = (h.0, (d, h.1.0, leaves, h.1.1, h.1.2))
   puts_image d status.Usage h leaves = absurd h
   puts_image d status.BadScript h leaves = absurd h
   puts_image d status.SourceFault h leaves = absurd h
@@ -139,7 +139,7 @@ module _ {D A : Type 0} (state : D → Disk) (W : Acts A) (o : Ending) (disk bac
       by status.Done p = ended_by w counts (Adds old new) all p.0 p.1 p.2
       by status.SinkFault p = inr (ended_by w counts (λ last. AddsFront old new last) all p.0 p.1 p.2)
       by status.OutOfMemory p = inl p
-      by status.DeviceFault p = ((events, script), p.0, inr p.1)
+      by status.DeviceFault p = ((events, script), p.0, inr (record { trace = all.trace; spelled = subst (λ (es : List Event). IsScript W.mode text es) (sym all.each) script; end = p.1.0; leads = p.1.2; cut = p.1.1; power = p.1.3; failed = p.1.4 }))
       by status.Usage p = absurd p
       by status.BadScript p = absurd p
       by status.SourceFault p = absurd p
@@ -189,7 +189,7 @@ module _ {D R : Type 0} (state : D → Disk) (told : R → Told) (m : Mode) (dis
   refused_as output.Report s h =
       refusal_written (λ trace. Leads state told m disk remote trace disk remote) (IsLawful m (Begins told m remote) (clusters_on (state disk).seen)) ((disk ≡ disk) × (remote ≡ remote)) m text old new s (refl, refl) h
   refused_as (output.Ending o) s h =
-      refused_end (SaysIn state told o m disk remote disk remote) (λ trace. Leads state told m disk remote trace disk remote) ((disk ≡ disk) × (remote ≡ remote)) (EndsFailed state disk disk (remote ≡ remote)) m text old new s (refl, refl) h
+      refused_end (SaysIn state told o m disk remote disk remote) (λ trace. Leads state told m disk remote trace disk remote) ((disk ≡ disk) × (remote ≡ remote)) (EndsFailed state (λ trace d. Leads state told m disk remote trace d remote) m text disk disk (remote ≡ remote)) m text old new s (refl, refl) h
 
   -- a device that is not fit
   pub unfit_as : (o : Output) (back : D) (left : R) → IsGood m text → Adds old new [] → WritesAs state told o m disk remote text old new status.BadDevice back left

@@ -21,7 +21,7 @@ module _ {D : Type 0} (state : D → Disk) (old cut new : D) (left : (state old)
   pub handed_image : (held after : Option (List ℕ)) (s : Status) → HandsOut (state cut) (state new) held after s → HandsImage state old new held after s
   handed_image held after status.Done h = (cut_is, h.1)
   handed_image held after status.SinkFault h = (cut_is, h.1)
-  handed_image held after status.DeviceFault h = (h.1, (cut, h.0))
+  handed_image held after status.DeviceFault h = (h.1, (cut, powers, h.0))
   handed_image held after status.Usage h = absurd h
   handed_image held after status.BadScript h = absurd h
   handed_image held after status.SourceFault h = absurd h

@@ -7,7 +7,7 @@ use Rattle.cf_base.specs.declared.policies.Choice.TheVariants.{Keep}
 use Rattle.cf_base.specs.declared.policies.Mode.{Mode}
 use Rattle.cf_base.specs.declared.statuses.Status.{Status}
 use Rattle.cf_base.specs.declared.statuses.Status.TheVariants as status
-use Rattle.cf_disk.specs.Disk.{AddsPower, HasFailed, State as Disk, size_of}
+use Rattle.cf_disk.specs.Disk.{AddsPower, HasFailed, Powers, State as Disk, size_of}
 use Rattle.cf_filter_events.specs.Actors.{Acts}
 use Rattle.cf_filter_events.specs.Pasts.{StandsFor}
 use Rattle.cf_gen.specs.Summaries.{summary}
@@ -65,10 +65,19 @@ pub record Ended (Said : List (Event × Answer) → List ℕ → Type 0) (Writte
   pub said : Said trace last
   pub written : Written last
 
--- The device failed: before the first event, and the remote is as it came, or where its bytes were read after the last one and a power
--- cut.
-abbrev pub EndsFailed : {D : Type 0} → (D → Disk) → D → D → Type 0 → Type 0
-EndsFailed {D} state old new Kept = (HasFailed (state old) (state new) × Kept) ⊎ ((cut : D) × HasFailed (state cut) (state new))
+-- All events of a script were done, which led to a disk; its power was cut, and a call of it failed where its bytes were read then.
+pub record FailsReading {D : Type 0} (state : D → Disk) (LeadsTo : List (Event × Answer) → D → Type 0) (m : Mode) (text : List ℕ) (back : D) : Type 0 where
+  pub trace : List (Event × Answer)
+  pub spelled : IsScript m text (events_of trace)
+  pub end : D
+  pub leads : LeadsTo trace end
+  pub cut : D
+  pub power : Powers Keep (state end) (state cut)
+  pub failed : HasFailed (state cut) (state back)
+
+-- The device failed: before the first event, and the remote is as it came, or where its bytes were read behind the last one.
+abbrev pub EndsFailed : {D : Type 0} → (D → Disk) → (List (Event × Answer) → D → Type 0) → Mode → List ℕ → D → D → Type 0 → Type 0
+EndsFailed {D} state LeadsTo m text old new Kept = (HasFailed (state old) (state new) × Kept) ⊎ FailsReading state LeadsTo m text new
 
 -- What was written of a text by a command that writes no report, by the status. `Led` is said of the trace of a script whose report
 -- would be too long; nothing is written of it.
@@ -89,7 +98,7 @@ Concludes Said Led Kept Failed m text old new status.Damaged = ⊥
 
 abbrev pub ConcludesBy : {D A : Type 0} → (D → Disk) → Acts A → Ending → D → A → List ℕ → Option (List ℕ) → Option (List ℕ) → Status → D → A → Type 0
 ConcludesBy state W o disk first text old new end back actor =
-    Concludes (SaysBy state W o disk first back actor) (λ trace. LeavesActor state W disk first trace back actor) ((back ≡ disk) × (actor ≡ first)) (EndsFailed state disk back (actor ≡ first)) W.mode text old new end
+    Concludes (SaysBy state W o disk first back actor) (λ trace. LeavesActor state W disk first trace back actor) ((back ≡ disk) × (actor ≡ first)) (EndsFailed state (λ trace d. LeavesActor state W disk first trace d actor) W.mode text disk back (actor ≡ first)) W.mode text old new end
 
 -- What was written of a script that was read, under an actor.
 abbrev pub WritesAsBy : {D A : Type 0} → (D → Disk) → Acts A → Output → D → A → List ℕ → Option (List ℕ) → Option (List ℕ) → Status → D → A → Type 0
@@ -98,7 +107,7 @@ WritesAsBy state W (output.Ending o) disk first text old new end back actor = Co
 
 abbrev pub ConcludesOf : {D R : Type 0} → (D → Disk) → (R → Told) → Ending → Mode → D → R → List ℕ → Option (List ℕ) → Option (List ℕ) → Status → D → R → Type 0
 ConcludesOf state told o m disk remote text old new end back left =
-    Concludes (SaysIn state told o m disk remote back left) (λ trace. Leads state told m disk remote trace back left) ((back ≡ disk) × (left ≡ remote)) (EndsFailed state disk back (left ≡ remote)) m text old new end
+    Concludes (SaysIn state told o m disk remote back left) (λ trace. Leads state told m disk remote trace back left) ((back ≡ disk) × (left ≡ remote)) (EndsFailed state (λ trace d. Leads state told m disk remote trace d left) m text disk back (left ≡ remote)) m text old new end
 
 -- What was written of a text by a run that began on this disk with this remote, and leaves those.
 abbrev pub WritesAs : {D R : Type 0} → (D → Disk) → (R → Told) → Output → Mode → D → R → List ℕ → Option (List ℕ) → Option (List ℕ) → Status → D → R → Type 0
@@ -131,7 +140,7 @@ abbrev pub PutsEnd : {D A : Type 0} → (D → Disk) → Acts A → Ending → D
 PutsEnd {D} state W o disk first trace old new status.Done back actor = (last : List ℕ) × SaysBy state W o disk first back actor trace last × Adds old new last
 PutsEnd {D} state W o disk first trace old new status.SinkFault back actor = (last : List ℕ) × SaysBy state W o disk first back actor trace last × AddsFront old new last
 PutsEnd {D} state W o disk first trace old new status.OutOfMemory back actor = Adds old new []
-PutsEnd {D} state W o disk first trace old new status.DeviceFault back actor = Adds old new [] × ((cut : D) × HasFailed (state cut) (state back))
+PutsEnd {D} state W o disk first trace old new status.DeviceFault back actor = Adds old new [] × ((end : D) × (cut : D) × LeavesActor state W disk first trace end actor × Powers Keep (state end) (state cut) × HasFailed (state cut) (state back))
 PutsEnd {D} state W o disk first trace old new _ back actor = ⊥
 
 -- What is left of a disk whose power was cut and whose bytes were read, and what was written of them.
@@ -139,7 +148,7 @@ abbrev pub HandsImage : {D : Type 0} → (D → Disk) → D → D → Option (Li
 HandsImage {D} state old now held after status.Done = IsCut (state old) (state now) (state now).seen × Adds held after (state now).seen
 HandsImage {D} state old now held after status.SinkFault = IsCut (state old) (state now) (state now).seen × AddsFront held after (state now).seen
 HandsImage {D} state old now held after status.OutOfMemory = Adds held after []
-HandsImage {D} state old now held after status.DeviceFault = Adds held after [] × ((cut : D) × HasFailed (state cut) (state now))
+HandsImage {D} state old now held after status.DeviceFault = Adds held after [] × ((cut : D) × Powers Keep (state old) (state cut) × HasFailed (state cut) (state now))
 HandsImage {D} state old now held after _ = ⊥
 
 -- the device fails at the end only where its bytes are read
