@@ -38,15 +38,15 @@ begins_err l b a old (Err OutOfMemory) new h = h
 -- of the desk
 
 same_begun : (n : Need) (d e : Desk) (w v : Waiting) (i id : WaitId) (ns : List Notice) (b bg : Option WaitId) → d ≡ e → w ≡ v → i ≡ id → b ≡ bg → ns ≡ d.notes ++ background_lines n.item b
-    → record d { waiting = w; own = Some i; notes = ns } ≡ begun_on n.item id bg v e
+    → record d { waiting = w; own = Some i; ending = None; notes = ns } ≡ begun_on n.item id bg v e
 same_begun n d e w v i id ns b bg same p q t lines =
     let last : ns ≡ e.notes ++ background_lines n.item bg = lines ∙ (λ j. (same j).notes ++ background_lines n.item (t j)) in
-    λ j. record (same j) { waiting = p j; own = Some (q j); notes = last j }
+    λ j. record (same j) { waiting = p j; own = Some (q j); ending = None; notes = last j }
 
 pub begun_desk : (n : Need) (v : Desk → View) (d e : Desk) (m : WaitId × Moves) (w : Waiting) (ns : List Notice) → d ≡ e → ns ≡ d.notes ++ background_lines n.item m.1.background
-    → Begins (limits_by n.kind) (background_id n.background n.item d.waiting) (after_begun n (v d) d.waiting) d.waiting (Ok m) w → BeginsBy n (v e) e (Ok m) (record d { waiting = w; own = Some m.0; notes = ns })
+    → Begins (limits_by n.kind) (background_id n.background n.item d.waiting) (after_begun n (v d) d.waiting) d.waiting (Ok m) w → BeginsBy n (v e) e (Ok m) (record d { waiting = w; own = Some m.0; ending = None; notes = ns })
 begun_desk n v d e m w ns same lines h =
-    subst (λ (x : Desk). BeginsBy n (v x) x (Ok m) (record d { waiting = w; own = Some m.0; notes = ns })) same
+    subst (λ (x : Desk). BeginsBy n (v x) x (Ok m) (record d { waiting = w; own = Some m.0; ending = None; notes = ns })) same
     (h.0, h.1, h.2, same_begun n d d w (after_begun n (v d) d.waiting).1 m.0 (begun_id 0 d.waiting) ns m.1.background (background_id n.background n.item d.waiting) refl h.3 h.1 (ap (λ (x : Moves). x.background) h.2) lines)
 
 pub begun_err : (n : Need) (v : Desk → View) (d e : Desk) (f : CallError) (r : Result (WaitId × Moves) CallError) (w : Waiting) → IsErrAnd r (λ y. y ≡ f) → d ≡ e

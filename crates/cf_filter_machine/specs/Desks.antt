@@ -26,7 +26,7 @@ background_lines item (Some id) = notice.Background id item ∷ []
 
 -- a call's own wait began, and perhaps one beside it
 abbrev pub begun_on : ItemId → WaitId → Option WaitId → Waiting → Desk → Desk
-begun_on item id beside w d = record d { waiting = w; own = Some id; notes = d.notes ++ background_lines item beside }
+begun_on item id beside w d = record d { waiting = w; own = Some id; ending = None; notes = d.notes ++ background_lines item beside }
 
 -- what follows of a wait that begins on what is seen so
 abbrev pub after_begun : Need → View → Waiting → Told × Waiting

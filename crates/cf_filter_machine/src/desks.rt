@@ -222,6 +222,7 @@ impl Desk {
         let begun = start_on(&mut self.requests, self.policy, row, need)?;
         note_background(&mut self.notes, begun.1.background, need.item)?;
         self.own = Some(begun.0);
+        self.ending = None;
         Ok(begun)
     }
 
@@ -233,6 +234,7 @@ impl Desk {
         let begun = start_gone(self.alloc, &mut self.requests, need)?;
         note_background(&mut self.notes, begun.1.background, need.item)?;
         self.own = Some(begun.0);
+        self.ending = None;
         Ok(begun)
     }
 

@@ -94,9 +94,9 @@ begin_tests n s =
 abbrev pub background_line : Wait → Notice
 background_line w = notice.Background w.id w.item
 
--- the call's own wait and the one beside it
+-- the call's own wait, which has not ended yet, and the one beside it
 abbrev pub with_own : Need → Filter → Filter
-with_own n s = record s { own = Some (wait_for n s).id; notes = s.notes ++ map background_line (beside n s) }
+with_own n s = record s { own = Some (wait_for n s).id; ending = None; notes = s.notes ++ map background_line (beside n s) }
 
 abbrev pub begin_with : Need → Told × Waiting → WaitId → Arrow Filter Shown
 begin_with n r id = then_do (noted (with_own n)) (then_do (tell r) (ret (shown.Pending id)))
