@@ -64,7 +64,7 @@ given_later : (e f n : ℕ) (k : Key) → e < f → WasGiven e n k → WasGiven 
 given_later e f n k less (inl h) = inl (let z : k.epoch < e = h in omega (arith, less, z))
 given_later e f n k less (inr h) = inl (let z : k.epoch ≡ e = h.0 in omega (arith, less, z))
 
-not_new : (e n m f : ℕ) (k : Key) → f ≡ e → WasGiven e n k → key_after f (n + m) ≡ k → ⊥
+pub not_new : (e n m f : ℕ) (k : Key) → f ≡ e → WasGiven e n k → key_after f (n + m) ≡ k → ⊥
 not_new e n m f k same given z = by given where
   epochs : k.epoch ≡ e
   epochs = sym (ap (λ (x : Key). x.epoch) z) ∙ same
@@ -84,7 +84,7 @@ not_new e n m f k same given z = by given where
 
 -- each live wait was given its number
 
-abbrev AllGiven : Fact
+abbrev pub AllGiven : Fact
 AllGiven l e p log hs hn ws wn = IsFair l → All (λ w. WasGiven e wn w.id.0) ws
 
 new_given : (e n m f : ℕ) → f ≡ e → m < 2 → WasGiven e (n + 2) (key_after f (n + m))
@@ -134,19 +134,19 @@ given_runs = record {
   opens = λ l p epoch v hs hn ws wn more h fair. tt;
 }
 
-run_given : (remote : Held) (clusters : ℕ) (trace : Report) (s : State) → IsFresh remote → Runs mode.Replay (start mode.Replay remote clusters) trace s → HoldsIn AllGiven s
+pub run_given : (remote : Held) (clusters : ℕ) (trace : Report) (s : State) → IsFresh remote → Runs mode.Replay (start mode.Replay remote clusters) trace s → HoldsIn AllGiven s
 run_given remote clusters trace s fresh runs =
     (runs_keep (λ u. Invariant u × HoldsIn AllGiven u) (whole_beside AllGiven given_runs Invariant sound_whole) (start mode.Replay remote clusters) trace s runs (start_sound remote clusters fresh, λ fair. tt)).1
 
 -- a wait with this number is this read
 
-abbrev IsThe : Key → ItemId → Span → Wait → Type 0
+abbrev pub IsThe : Key → ItemId → Span → Wait → Type 0
 IsThe k item span w = w.id.0 ≡ k → (w.item ≡ item) × (w.span ≡ span)
 
-abbrev IsWait : Key → ItemId → Span → Fact
+abbrev pub IsWait : Key → ItemId → Span → Fact
 IsWait k item span l e p log hs hn ws wn = IsFair l → WasGiven e wn k × All (IsThe k item span) ws
 
-begins_other : (k : Key) (item : ItemId) (span : Span) (l : Link) (tokens : ℕ) (n : Need) (x : Filter) → (IsFair l → IsSound l tokens x) → Holds (IsWait k item span) l x
+pub begins_other : (k : Key) (item : ItemId) (span : Span) (l : Link) (tokens : ℕ) (n : Need) (x : Filter) → (IsFair l → IsSound l tokens x) → Holds (IsWait k item span) l x
     → IsWait k item span l x.volume.epoch x.volume.place x.volume.log x.handles x.handle_count (x.waiting.waits ++ wait_for n x ∷ beside n x) (x.waiting.wait_count + length (wait_for n x ∷ beside n x))
 begins_other k item span l tokens n x sound h fair =
     (given_more x.volume.epoch x.waiting.wait_count _ k (h fair).0, all_append (IsThe k item span) x.waiting.waits (wait_for n x ∷ beside n x) (h fair).1 (other (wait_for n x) 0, others (also_background n.background n.item x.waiting)))
@@ -158,7 +158,7 @@ begins_other k item span l tokens n x sound h fair =
     others true = (other (wait_after x.waiting 1 wait_kind.Background n.item None no_span) 1, tt)
     others false = tt
 
-wait_runs : (k : Key) (item : ItemId) (span : Span) → BesideRuns (IsWait k item span)
+pub wait_runs : (k : Key) (item : ItemId) (span : Span) → BesideRuns (IsWait k item span)
 wait_runs k item span = record {
   beside = record {
     puts = λ l tokens c x sound fit h. h;
@@ -176,7 +176,7 @@ wait_runs k item span = record {
 
 -- a read that waits
 
-any_kept : {S A : Type 0} (P : S → Type 0) (p : Tree S A) → Keeps P p → Leads (λ s. Unit {0}) (λ a s. P s) p
+pub any_kept : {S A : Type 0} (P : S → Type 0) (p : Tree S A) → Keeps P p → Leads (λ s. Unit {0}) (λ a s. P s) p
 any_kept P (Ret a s) h = h
 any_kept P (Step s p) h = (tt, any_kept P p h.1)
 any_kept P (Fork p q) h = (any_kept P p h.0, any_kept P q h.1)
@@ -191,30 +191,27 @@ Waits_so l item span q x = (wait : WaitId) → q ≡ shown.Pending wait → Hold
 not_pending : (l : Link) (item : ItemId) (span : Span) (x : Filter) (c : Code) → Waits_so l item span (shown.Refused c) x
 not_pending l item span x c wait z = let y : ◌≡◌ {A = Shown} (shown.Refused c) (shown.Pending wait) = z in cc
 
-begun_waits : (l : Link) (tokens : ℕ) (n : Need) (x : Filter) → (IsFair l → IsSound l tokens x) → Holds AllGiven l x → Keeps (Holds (IsWait (own_id n x).0 n.item n.span) l) (tell (waits.begun n x) (with_own n x))
-begun_waits l tokens n x sound given =
-    tell_beside (IsWait (own_id n x).0 n.item n.span) l (waits.begun n x) (with_own n x) (λ fair. (more fair, all_filter (IsThe (own_id n x).0 n.item n.span) _ (x.waiting.waits ++ wait_for n x ∷ beside n x) (all fair)))
-  where
-    same : IsFair l → x.waiting.epoch ≡ x.volume.epoch
-    same fair = (sound fair).one_epoch
+-- of the waits that a need adds only its own has its number
+pub all_new : (l : Link) (tokens : ℕ) (n : Need) (x : Filter) → (IsFair l → IsSound l tokens x) → Holds AllGiven l x → IsFair l → All (IsThe (own_id n x).0 n.item n.span) (x.waiting.waits ++ wait_for n x ∷ beside n x)
+all_new l tokens n x sound given fair = all_append (IsThe (own_id n x).0 n.item n.span) x.waiting.waits (wait_for n x ∷ beside n x) old ((λ z. (refl, refl)), others (also_background n.background n.item x.waiting)) where
+  old : All (IsThe (own_id n x).0 n.item n.span) x.waiting.waits
+  old = all_weaker (λ w. WasGiven x.volume.epoch x.waiting.wait_count w.id.0) (IsThe (own_id n x).0 n.item n.span) (λ w k z. absurd (not_new x.volume.epoch x.waiting.wait_count 0 x.waiting.epoch w.id.0 (sound fair).one_epoch k (sym z))) x.waiting.waits (given fair)
 
+  apart : (a : ℕ) → a + 1 + 1 ≡ a + 0 + 1 → ⊥
+  apart a e = omega (arith, e)
+
+  others : (b : Bool) → All (IsThe (own_id n x).0 n.item n.span) (when b (wait_after x.waiting 1 wait_kind.Background n.item None no_span ∷ []))
+  others true = ((λ z. absurd (apart x.waiting.wait_count (ap (λ (y : Key). y.number) z))), tt)
+  others false = tt
+
+pub begun_waits : (l : Link) (tokens : ℕ) (n : Need) (x : Filter) → (IsFair l → IsSound l tokens x) → Holds AllGiven l x → Keeps (Holds (IsWait (own_id n x).0 n.item n.span) l) (tell (waits.begun n x) (with_own n x))
+begun_waits l tokens n x sound given =
+    tell_beside (IsWait (own_id n x).0 n.item n.span) l (waits.begun n x) (with_own n x) (λ fair. (more fair, all_filter (IsThe (own_id n x).0 n.item n.span) _ (x.waiting.waits ++ wait_for n x ∷ beside n x) (all_new l tokens n x sound given fair)))
+  where
     more : IsFair l → WasGiven x.volume.epoch (x.waiting.wait_count + length (wait_for n x ∷ beside n x)) (own_id n x).0
-    more fair = inr (same fair, less x.waiting.wait_count (length (beside n x))) where
+    more fair = inr ((sound fair).one_epoch, less x.waiting.wait_count (length (beside n x))) where
       less : (a b : ℕ) → a + 0 + 1 ≤ a + suc b
       less a b = omega arith
-
-    old : IsFair l → All (IsThe (own_id n x).0 n.item n.span) x.waiting.waits
-    old fair = all_weaker (λ w. WasGiven x.volume.epoch x.waiting.wait_count w.id.0) (IsThe (own_id n x).0 n.item n.span) (λ w k z. absurd (not_new x.volume.epoch x.waiting.wait_count 0 x.waiting.epoch w.id.0 (same fair) k (sym z))) x.waiting.waits (given fair)
-
-    apart : (a : ℕ) → a + 1 + 1 ≡ a + 0 + 1 → ⊥
-    apart a e = omega (arith, e)
-
-    others : (b : Bool) → All (IsThe (own_id n x).0 n.item n.span) (when b (wait_after x.waiting 1 wait_kind.Background n.item None no_span ∷ []))
-    others true = ((λ z. absurd (apart x.waiting.wait_count (ap (λ (y : Key). y.number) z))), tt)
-    others false = tt
-
-    all : IsFair l → All (IsThe (own_id n x).0 n.item n.span) (x.waiting.waits ++ wait_for n x ∷ beside n x)
-    all fair = all_append (IsThe (own_id n x).0 n.item n.span) x.waiting.waits (wait_for n x ∷ beside n x) (old fair) ((λ z. (refl, refl)), others (also_background n.background n.item x.waiting))
 
 pending_is : (n : Need) (x : Filter) (l : Link) (t : Filter) (item : ItemId) (span : Span) → n.item ≡ item → n.span ≡ span → Holds (IsWait (own_id n x).0 n.item n.span) l t → Waits_so l item span (shown.Pending (own_id n x)) t
 pending_is n x l t item span e f h wait z =

@@ -22,6 +22,7 @@ use Rattle.cf_model_headline.proofs.DoneLaws.{done_is_taken}
 use Rattle.cf_model_headline.proofs.HeldLaws.{data_is_held}
 use Rattle.cf_model_headline.proofs.KeptBytesLaws.{flushed_is_kept}
 use Rattle.cf_model_headline.proofs.MarkedLaws.{marks_give, shown_by_mark}
+use Rattle.cf_model_headline.proofs.OwnLaws.{reads_in_call}
 use Rattle.cf_model_headline.proofs.ReadsAtOnceLaws.{reads_at_once}
 use Rattle.cf_model_headline.proofs.ReadsLaws.{data_is_right}
 use Rattle.cf_model_headline.proofs.RefusalLaws.{refusals_leave}
@@ -63,6 +64,7 @@ headline remote clusters report last premises runs = record {
   answers = reads_answered remote clusters report last premises.fresh premises.fair;
   data_lines = data_is_right remote clusters report last premises.fresh premises.fair runs;
   reads = reads_at_once remote clusters report last premises.fresh premises.fair runs;
+  reads_in_call = reads_in_call remote clusters report last premises.fresh premises.fair runs;
   marks = marks_give remote clusters report last premises.fresh premises.fair runs;
   not_done = not_done_is_taken remote clusters report last premises.fresh premises.fair runs;
   done = done_is_taken remote clusters report last premises.fresh premises.fair runs;

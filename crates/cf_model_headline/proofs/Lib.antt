@@ -15,6 +15,10 @@ pub mod ReadsAtOnceLaws
 pub mod StaleLaws
 pub mod DoneLaws
 pub mod AskedReads
+pub mod OwnCalls
+pub mod OwnReads
+pub mod OwnGuarded
+pub mod OwnLaws
 pub mod HeldLines
 pub mod HeldLaws
 pub mod QuietRefusals

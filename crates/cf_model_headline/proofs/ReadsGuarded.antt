@@ -54,7 +54,7 @@ use Rattle.cf_model_headline.proofs.ReadLines.{EndsMet, IsTruly, Known, Log, Rea
 use Rattle.cf_model_headline.proofs.ShownChanges.{none_in}
 
 -- a step that ends no wait of its own
-quiet_others : (d : Deed) → IsQuiet d → (x : Filter) → EndsOthers d x
+pub quiet_others : (d : Deed) → IsQuiet d → (x : Filter) → EndsOthers d x
 quiet_others Nothing q x = tt
 quiet_others (Leaves key blocks) q x = tt
 quiet_others d q x = absurd q

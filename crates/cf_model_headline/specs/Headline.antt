@@ -13,7 +13,7 @@ use Rattle.cf_model_laws.specs.Premises.{IsFair, IsFresh}
 use Rattle.cf_model_headline.specs.Dehydrated.{DehydratesExactly}
 use Rattle.cf_model_headline.specs.KeptBytes.{FlushedIsKept}
 use Rattle.cf_model_headline.specs.Marked.{InSyncByMark, MarksGiveNumbers}
-use Rattle.cf_model_headline.specs.Reads.{DataIsHeld, DataIsRight, ReadsAnswered, ReadsAtOnce}
+use Rattle.cf_model_headline.specs.Reads.{DataIsHeld, DataIsRight, ReadsAnswered, ReadsAtOnce, ReadsInCall}
 use Rattle.cf_model_headline.specs.Refusals.{RefusalsLeave}
 use Rattle.cf_model_headline.specs.Reports.{OfEach, Report, standing}
 use Rattle.cf_model_headline.specs.Resumed.{ResumesRight}
@@ -42,6 +42,7 @@ pub record Headline (remote : Held) (clusters : ℕ) (report : Report) (last : S
   pub answers : ReadsAnswered remote clusters report last
   pub data_lines : OfEach mode.Replay remote clusters report last (λ before s e a t. DataIsRight last.link.remote before s a)
   pub reads : OfEach mode.Replay remote clusters report last (λ before s e a t. ReadsAtOnce last.link.remote s e a)
+  pub reads_in_call : OfEach mode.Replay remote clusters report last (λ before s e a t. ReadsInCall last.link.remote before s e a)
   pub marks : MarksGiveNumbers report
   pub not_done : OfEach mode.Replay remote clusters report last (λ before s e a t. NotDoneIsTaken s e a)
   pub done : OfEach mode.Replay remote clusters report last (λ before s e a t. DoneIsTaken s e a)

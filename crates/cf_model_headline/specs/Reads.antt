@@ -76,6 +76,13 @@ ReadsAtOnce held s e a =
     (i : Item) (asked : Span) → Reads s e i asked → i.directory ≡ false → s.power ≡ On → misses (view_of s.filter.policy i) (wait_on i asked) ≡ false → a.shown ≢ shown.Refused code.Device
     → a.shown ≡ shown.Ended (end.Data (slice_range (content held i) asked.start (asked.start + asked.len)))
 
+-- A read that is answered with data in its own call, also where it had to wait there: the data is the span that was asked for, cut
+-- at the size, of the content of the file that it named, as the file is behind some first lines of the answer.
+abbrev pub ReadsInCall : Held → Report → State → Event → Answer → Type 0
+ReadsInCall held before s e a =
+    (i : Item) (asked : Span) (bytes : List ℕ) → Reads s e i asked → a.shown ≡ shown.Ended (end.Data bytes)
+    → (front : List Notice) × (back : List Notice) × (a.notes ≡ front ++ back) × IsSpanOf held (standing before ++ changes_in front) i.id asked bytes
+
 -- A read in this state was answered `pending`, and a later answer has a line that its wait is done, with data: it is the span
 -- that was asked for, cut at the size, of the content of the file that the read named, as it is when the line comes.
 abbrev pub AnswersRead : Held → State → Event → Answer → Report → Answer → Type 0

@@ -159,6 +159,9 @@ pending = answer_at 3 until_arrived
 abbrev pub written : State
 written = left_by (create_f ∷ open_f ∷ write_a ∷ [])
 
+abbrev pub until_written : Report
+until_written = reported (create_f ∷ open_f ∷ write_a ∷ [])
+
 -- `data` with another byte
 abbrev pub read_wrongly : Answer
 read_wrongly = with_shown (shown.Ended (end.Data (codes "b"))) no_answer

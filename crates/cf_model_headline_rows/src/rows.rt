@@ -7,13 +7,13 @@ ghost use Rattle.cf_model_headline.specs.Dehydrated.{DehydratesExactly};
 ghost use Rattle.cf_model_headline.specs.Headline.{FindsVolume};
 ghost use Rattle.cf_model_headline.specs.KeptBytes.{FlushedIsKept};
 ghost use Rattle.cf_model_headline.specs.Marked.{InSyncByMark, MarksGiveNumbers};
-ghost use Rattle.cf_model_headline.specs.Reads.{AnswersRead, DataIsHeld, DataIsRight, ReadsAtOnce};
+ghost use Rattle.cf_model_headline.specs.Reads.{AnswersRead, DataIsHeld, DataIsRight, ReadsAtOnce, ReadsInCall};
 ghost use Rattle.cf_model_headline.specs.Refusals.{RefusalsLeave};
 ghost use Rattle.cf_model_headline.specs.Reports.{standing};
 ghost use Rattle.cf_model_headline.specs.Resumed.{ResumesRight};
 ghost use Rattle.cf_model_headline.specs.Stale.{DoneIsTaken, LateIsStale, NotDoneIsTaken};
 ghost use Rattle.cf_model_headline.specs.Tokens.{OneVersionEach};
-ghost use Rattle.cf_model_headline_rows.specs.Changed.{arrived, asked, delivered, found_none, given_wrongly, in_sync, in_use, numbered, opened_again, pending, read_wrongly, refused, refused_create, refused_otherwise, resumed_as, taken, taken_over, unmarked, unrecorded, turned_away, until_arrived, uploaded, uploaded_new, written};
+ghost use Rattle.cf_model_headline_rows.specs.Changed.{arrived, asked, delivered, found_none, given_wrongly, in_sync, in_use, numbered, opened_again, pending, read_wrongly, refused, refused_create, refused_otherwise, resumed_as, taken, taken_over, unmarked, unrecorded, turned_away, until_arrived, until_written, uploaded, uploaded_new, written};
 ghost use Rattle.cf_model_headline_rows.specs.Scripts.{create_f, dehydrate_a, deliver, from_start, get_a, get_f, info_a, left_by, put_a, sync};
 
 /// The line of a Mark is left out: the log has a change that the report does not show.
@@ -116,6 +116,12 @@ pub fn a_done_upload_is_turned_away()
 #[tactic(auto, using(crate::proofs::Refuted::another_byte_read))]
 pub fn another_byte_is_read()
     ensures { ReadsAtOnce written.link.remote written get_f read_wrongly → ⊥ }
+{}
+
+/// The same, of a read that may have waited in its call.
+#[tactic(auto, using(crate::proofs::RefutedCalls::another_byte_in_call))]
+pub fn another_byte_is_read_in_its_call()
+    ensures { ReadsInCall written.link.remote until_written written get_f read_wrongly → ⊥ }
 {}
 
 /// A line that a file was taken over after its bytes were flushed, and before any upload of it.
