@@ -1,7 +1,8 @@
 -- Filters and truth values, as the laws about what a step looks at take them.
-use Rattle.std.proofs.Common.{◌≡◌, Bool, true, false, ◌&&◌, ◌||◌, not, cond, Option, Some, None, List, [], ◌∷◌, refl, sym, ap, ◌∙◌}
+use Rattle.std.proofs.Common.{◌≡◌, ℕ, Bool, true, false, ◌&&◌, ◌||◌, not, cond, Option, Some, None, List, [], ◌∷◌, length, refl, sym, ap, ◌∙◌, arith, eqb}
 use Rattle.std.specs.Prelude.{filter, find, map}
 use Rattle.std.specs.List.{AllByRecursion, list_any}
+use Rattle.std.proofs.lemmas.Bool.Decides.{nat_tests}
 use Rattle.cf_model.specs.Requests.{Live}
 
 -- booleans
@@ -112,3 +113,19 @@ find_within p q f (x ∷ xs) = one (q x) refl (find_within p q f xs) where
   one : (b : Bool) → q x ≡ b → find p xs ≡ find p (filter q xs) → cond (p x) (Some x) (find p xs) ≡ find p (cond b (x ∷ filter q xs) (filter q xs))
   one true e h = ap (λ v. cond (p x) (Some x) v) h
   one false e h = ap (λ c. cond c (Some x) (find p xs)) (unhit (p x) refl e) ∙ h
+
+-- where none passes, all are left
+
+none_pass : {A B : Type 0} (f : A → B) (g : A → Bool) (xs : List A) → map f (filter g xs) ≡ [] → filter (λ x. not (g x)) xs ≡ xs
+none_pass f g [] h = refl
+none_pass f g (x ∷ xs) h = one (g x) (none_pass f g xs) h where
+  one : (b : Bool) → (map f (filter g xs) ≡ [] → filter (λ x. not (g x)) xs ≡ xs) → map f (cond b (x ∷ filter g xs) (filter g xs)) ≡ [] → cond (not b) (x ∷ filter (λ x. not (g x)) xs) (filter (λ x. not (g x)) xs) ≡ x ∷ xs
+  one true k e = cc
+  one false k e = ap (λ l. x ∷ l) (k e)
+
+is_zero : (n : ℕ) → eqb n 0 ≡ true → n ≡ 0
+is_zero n h = grind (arith, nat_tests)
+
+pub all_left : {A B : Type 0} (f : A → B) (g : A → Bool) (xs : List A) (ys : List B) → ys ≡ map f (filter g xs) → eqb (length ys) 0 ≡ true → filter (λ x. not (g x)) xs ≡ xs
+all_left f g xs [] e h = none_pass f g xs (sym e)
+all_left f g xs (y ∷ ys) e h = let n : length (y ∷ ys) ≡ 0 = is_zero (length (y ∷ ys)) h in absurd (omega arith)

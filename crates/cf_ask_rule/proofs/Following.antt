@@ -1,13 +1,14 @@
 -- The next number of which a test holds.
-use Rattle.std.proofs.Common.{◌≡◌, ℕ, zero, suc, ◌+◌, ◌^◌, ◌<◌, ◌≤◌, ◌⊎◌, ◌≢◌, inl, inr, Bool, true, false, ◌&&◌, ◌||◌, cond, leb, Option, Some, None, List, [], ◌∷◌, ◌++◌, length, get_or, max, refl, sym, ap, subst, ◌∙◌, arith}
+use Rattle.std.proofs.Common.{◌≡◌, ℕ, zero, suc, ◌+◌, ◌-◌, ◌^◌, ◌<◌, ◌≤◌, ◌⊎◌, ◌≢◌, inl, inr, Bool, true, false, ◌&&◌, ◌||◌, cond, leb, Option, Some, None, List, [], ◌∷◌, ◌++◌, length, get_or, max, refl, sym, ap, subst, ◌∙◌, arith}
 use Rattle.std.specs.Prelude.{IfSome, map, nat_lt, nat_le}
 use Rattle.std.proofs.lemmas.Bool.{cases_lt, leb-false, leb-true}
+use Rattle.std.proofs.lemmas.List.{get_or_default}
 use Rattle.std.proofs.lemmas.List.Sorted.{IsPartitionedBy-leb}
 use Rattle.std.specs.List.Sorted.{IsNonDecreasingBy, IsPartitionPoint, IsPartitionedBy}
 use Rattle.std.proofs.lemmas.Bool.Decides.{nat_tests}
 use Rattle.cf_base.specs.declared.spans.Span.{Span}
 use Rattle.cf_ask_rule.proofs.Search.{from_low}
-use Rattle.cf_ask_rule.specs.Nexts.{IsEnd, IsFirstRun, IsNext, lacks_at}
+use Rattle.cf_ask_rule.specs.Nexts.{IsEnd, IsFirstRun, IsNext, IsPlaceBeyond, lacks_at}
 use Rattle.cf_ask_rule.specs.Sights.{flags_of}
 use Rattle.cf_ask_rule.proofs.Flags.{contains_append}
 use Rattle.cf_ask_rule.proofs.Wanting.{flag_below}
@@ -79,16 +80,44 @@ small_run low i [] d h lt = absurd (omega arith)
 small_run low zero (r ∷ rs) d h lt = h.2
 small_run low (suc i) (r ∷ rs) d h lt = small_run (r.start + r.len + 1) i rs d h.3 (omega arith)
 
-pub point_some : (from i : ℕ) (runs : List Span) (d r : Span) → IsRuns runs → i ≤ length runs → IsPartitionPoint (λ (r : Span). leb (r.start + r.len) from ≡ true) (λ (r : Span). leb (r.start + r.len) from ≡ false) runs i → i ≢ length runs
-    → r ≡ get_or runs i d → IsFirstRun runs from (Some r)
-point_some from i runs d r h le point ne e = subst (λ (x : Span). IsFirstRun runs from (Some x)) (sym e)
-    (beyond_it, small_run 0 i runs d h (omega arith), next_at 0 from i runs d h (λ k less. leb-true _ _ (point.0 k d (omega arith) less)) (omega arith) beyond_it, has_run 0 i runs d h (omega arith))
-  where
-    beyond_it : from < (get_or runs i d).start + (get_or runs i d).len
-    beyond_it = leb-false _ _ (point.1 i d (omega arith) (omega arith))
+pub place_found : (from i : ℕ) (runs : List Span) → i ≤ length runs → IsPartitionPoint (λ (r : Span). leb (r.start + r.len) from ≡ true) (λ (r : Span). leb (r.start + r.len) from ≡ false) runs i → IsPlaceBeyond from runs i
+place_found from i runs h point = record { in_range = h; by = λ k d less. leb-true _ _ (point.0 k d (omega arith) less); beyond = λ k d ge less. leb-false _ _ (point.1 k d ge less) }
 
-pub point_none : (from i : ℕ) (runs : List Span) → IsPartitionPoint (λ (r : Span). leb (r.start + r.len) from ≡ true) (λ (r : Span). leb (r.start + r.len) from ≡ false) runs i → i ≡ length runs → IsFirstRun runs from None
-point_none from i runs point e = next_none from runs (record { start = 0; len = 0 }) (λ k less. leb-true _ _ (point.0 k (record { start = 0; len = 0 }) (omega arith) (omega arith)))
+is_most : (m n : ℕ) → nat_le m n ≡ true → m ≤ n
+is_most m n h = grind (arith, nat_tests)
+
+is_more : (m n : ℕ) → nat_le m n ≡ false → n < m
+is_more m n h = grind (arith, nat_tests)
+
+-- the run at a place ends beyond a number, and the one before it does not
+pub place_near : (from i : ℕ) (runs : List Span) (d e : Span) (b c : Bool) → IsRuns runs → i < length runs → b ≡ nat_le ((get_or runs i d).start + (get_or runs i d).len) from → b ≡ false
+    → c ≡ nat_le ((get_or runs (i - 1) e).start + (get_or runs (i - 1) e).len) from → (0 < i → c ≡ true) → IsPlaceBeyond from runs i
+place_near from i runs d e b c h lt is f was t = record {
+  in_range = omega arith;
+  by = λ k x less.
+      let m : (get_or runs k e).start + (get_or runs k e).len ≤ (get_or runs (i - 1) e).start + (get_or runs (i - 1) e).len = ends_rise 0 runs h k (i - 1) e (omega arith) (omega arith) in
+      let n : (get_or runs (i - 1) e).start + (get_or runs (i - 1) e).len ≤ from = is_most _ _ (sym was ∙ t (omega arith)) in
+      let q : (get_or runs k x).start + (get_or runs k x).len ≡ (get_or runs k e).start + (get_or runs k e).len = ap (λ (r : Span). r.start + r.len) (get_or_default runs k x e (omega arith)) in
+      omega arith;
+  beyond = λ k x ge less.
+      let m : (get_or runs i d).start + (get_or runs i d).len ≤ (get_or runs k d).start + (get_or runs k d).len = ends_rise 0 runs h i k d ge less in
+      let n : from < (get_or runs i d).start + (get_or runs i d).len = is_more _ _ (sym is ∙ f) in
+      let q : (get_or runs k x).start + (get_or runs k x).len ≡ (get_or runs k d).start + (get_or runs k d).len = ap (λ (r : Span). r.start + r.len) (get_or_default runs k x d less) in
+      omega arith;
+}
+
+pub point_some : (from i : ℕ) (runs : List Span) (d r : Span) → IsRuns runs → IsPlaceBeyond from runs i → i ≢ length runs → r ≡ get_or runs i d → IsFirstRun runs from (Some r)
+point_some from i runs d r h point ne e = subst (λ (x : Span). IsFirstRun runs from (Some x)) (sym e)
+    (beyond_it, small_run 0 i runs d h lt, next_at 0 from i runs d h (λ k less. point.by k d less) lt beyond_it, has_run 0 i runs d h lt)
+  where
+    lt : i < length runs
+    lt = let le : i ≤ length runs = point.in_range in omega arith
+
+    beyond_it : from < (get_or runs i d).start + (get_or runs i d).len
+    beyond_it = point.beyond i d (omega arith) lt
+
+pub point_none : (from i : ℕ) (runs : List Span) → IsPlaceBeyond from runs i → i ≡ length runs → IsFirstRun runs from None
+point_none from i runs point e = next_none from runs (record { start = 0; len = 0 }) (λ k less. point.by k (record { start = 0; len = 0 }) (omega arith))
 
 -- the end of the run that has a position
 

@@ -1,5 +1,5 @@
 -- The next number of which a test holds.
-use Rattle.std.specs.Prelude.{◌≡◌, ℕ, ◌<◌, ◌≤◌, Bool, true, false, Option, Some, None, ◌&&◌, ◌==◌, List, max, min, ◌-◌, ◌+◌, ◌*◌, ◌/◌, ◌^◌}
+use Rattle.std.specs.Prelude.{◌≡◌, ℕ, ◌<◌, ◌≤◌, Bool, true, false, Option, Some, None, ◌&&◌, ◌==◌, List, get_or, length, max, min, ◌-◌, ◌+◌, ◌*◌, ◌/◌, ◌^◌}
 use Rattle.std.specs.List.{list_any}
 use Rattle.cf_base.specs.declared.ids.ItemId.{ItemId}
 use Rattle.cf_base.specs.declared.spans.Span.{Span}
@@ -16,6 +16,12 @@ IsNext f from None = (p : ℕ) → from ≤ p → f p ≡ false
 abbrev pub IsFirstRun : List Span → ℕ → Option Span → Type 0
 IsFirstRun runs from (Some r) = (from < r.start + r.len) × (r.start + r.len ≤ 2 ^ 40) × IsNext (contains runs) from (Some (max r.start from)) × ((p : ℕ) → r.start ≤ p → p < r.start + r.len → contains runs p ≡ true)
 IsFirstRun runs from None = IsNext (contains runs) from None
+
+-- So many runs end by a number, and the others beyond it.
+pub record IsPlaceBeyond (from : ℕ) (runs : List Span) (place : ℕ) : Type 0 where
+  pub in_range : place ≤ length runs
+  pub by : (k : ℕ) (d : Span) → k < place → (get_or runs k d).start + (get_or runs k d).len ≤ from
+  pub beyond : (k : ℕ) (d : Span) → place ≤ k → k < length runs → from < (get_or runs k d).start + (get_or runs k d).len
 
 -- From a number on up to the end the runs have all positions; it is the number itself where they have not that one.
 pub record IsEnd (runs : List Span) (at end : ℕ) : Type 0 where

@@ -10,10 +10,13 @@ ghost use Rattle.cf_ranges.specs.Positions.{IsRuns};
 
 use crate::asks::{LiveAsk, is_data, is_idle, waits_by};
 use crate::misses::{is_met, misses_span};
+use crate::searches::place_beyond;
 use crate::sights::Sight;
 use crate::waits::{LiveWait, WaitNumber, is_background, is_same_key};
 use cf_base::{Cause, Handle, ItemId, Key, OutOfMemory, Span, WaitId};
 use std::alloc::Global;
+
+const BLOCK: u64 = 4096;
 
 /// What a step does of its own.
 #[derive(Clone, Copy)]
@@ -129,44 +132,27 @@ pub fn why(item: ItemId, v: &Sight, act: Act, asks: &[LiveAsk], w: &LiveWait) ->
     }
 }
 
-/// The waits that end, and why.
-pub fn ended_by(
+/// The waits that end, and why, and those that are left.
+pub fn end_waits(
     alloc: Global,
     item: ItemId,
     v: &Sight,
     act: Act,
     asks: &[LiveAsk],
     waits: &[LiveWait],
-) -> Result<Vec<(LiveWait, Cause)>, OutOfMemory>
-    ensures { IfOk result (λ r. r.items ≡ ended_of (why item v.now (deed_of act) asks.now) waits.now) }
+) -> Result<(Vec<(LiveWait, Cause)>, Vec<LiveWait>), OutOfMemory>
+    ensures ended { IfOk result (λ r. r.0.items ≡ ended_of (why item v.now (deed_of act) asks.now) waits.now) }
+    ensures left { IfOk result (λ r. r.1.items ≡ left_of (why item v.now (deed_of act) asks.now) waits.now) }
 {
-    let mut out = Vec::new(alloc);
+    let mut ended = Vec::new(alloc);
+    let mut left = Vec::new(alloc);
     for w in waits {
-        if let Some(c) = why(item, v, act, asks, w) {
-            out.push((*w, c))?;
+        match why(item, v, act, asks, w) {
+            Some(cause) => ended.push((*w, cause))?,
+            None => left.push(*w)?,
         }
     }
-    Ok(out)
-}
-
-/// The waits that are left.
-pub fn left_by(
-    alloc: Global,
-    item: ItemId,
-    v: &Sight,
-    act: Act,
-    asks: &[LiveAsk],
-    waits: &[LiveWait],
-) -> Result<Vec<LiveWait>, OutOfMemory>
-    ensures { IfOk result (λ r. r.items ≡ left_of (why item v.now (deed_of act) asks.now) waits.now) }
-{
-    Ok(
-        waits
-            .iter()
-            .filter(|w| why(item, v, act, asks, w).is_none())
-            .copied()
-            .collect(alloc)?,
-    )
+    Ok((ended, left))
 }
 
 fn released(key: Key, blocks: Span, a: LiveAsk) -> Result<LiveAsk, OutOfMemory>
@@ -256,20 +242,31 @@ fn is_cut(item: ItemId, act: Act, a: &LiveAsk) -> bool
     }
 }
 
-/// Whether the ask is cancelled after the step.
+/// Whether the ask is cancelled after the step. What it is asked for is sought from a place of the needs on.
 pub fn is_cancelled(
     item: ItemId,
     v: &Sight,
     act: Act,
     waits: &[LiveWait],
     needs: &[Span],
+    near: usize,
     a: &LiveAsk,
 ) -> bool
     requires runs { IsRuns needs.now }
     requires wants { Wants v.now needs.now (is_wanted item v.now waits.now) }
     ensures { result ≡ is_cancelled item v.now (deed_of act) waits.now a.now }
 {
-    is_cut(item, act, a) || is_idle(item, v, waits, needs, a)
+    is_cut(item, act, a) || is_idle(item, v, waits, needs, near, a)
+}
+
+// The place of the needs at which those in the blocks of the ask begin. It is sought from another on.
+fn place_in(v: &Sight, needs: &[Span], near: usize, a: &LiveAsk) -> usize
+    requires { IsRuns needs.now }
+{
+    match a.runs() {
+        [] => near,
+        [first, ..] => place_beyond(needs, near, BLOCK * first.start.min(v.size())),
+    }
 }
 
 /// The keys of the asks that are cancelled.
@@ -286,17 +283,21 @@ pub fn cancelled_of(
     requires wants { Wants v.now needs.now (is_wanted item v.now waits.now) }
     ensures { IfOk result (λ r. r.items ≡ map (λ a. a.ask.key) (filter (is_cancelled item v.now (deed_of act) waits.now) asks.now)) }
 {
-    Ok(
-        asks.iter()
-            .filter(|a| is_cancelled(item, v, act, waits, needs, a))
-            .map(|a| a.ask().key)
-            .collect(alloc)?,
-    )
+    let mut keys = Vec::new(alloc);
+    let mut near = 0;
+    for a in asks {
+        near = place_in(v, needs, near, a);
+        if is_cancelled(item, v, act, waits, needs, near, a) {
+            keys.push(a.ask().key)?;
+        }
+    }
+    Ok(keys)
 }
 
-/// Drops the asks that are cancelled.
+/// Drops the asks that are cancelled. Their keys are known.
 pub fn drop_cancelled(
     asks: &mut Vec<LiveAsk>,
+    keys: &[Key],
     item: ItemId,
     v: &Sight,
     act: Act,
@@ -305,7 +306,11 @@ pub fn drop_cancelled(
 )
     requires runs { IsRuns needs.now }
     requires wants { Wants v.now needs.now (is_wanted item v.now waits.now) }
+    requires keys { keys.now ≡ map (λ a. a.ask.key) (filter (is_cancelled item v.now (deed_of act) waits.now) asks.old.items) }
     ensures { asks.new.items ≡ filter (λ a. not (is_cancelled item v.now (deed_of act) waits.now a)) asks.old.items }
 {
-    asks.retain(|a| !is_cancelled(item, v, act, waits, needs, a));
+    if keys.is_empty() {
+        return;
+    }
+    asks.retain(|a| !is_cancelled(item, v, act, waits, needs, 0, a));
 }

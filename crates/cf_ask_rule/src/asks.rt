@@ -166,12 +166,12 @@ impl LiveAsk {
         misses_runs(v, self.owned.runs(), w)
     }
 
-    /// Whether a byte that is among those that are needed is missing in its blocks.
-    pub fn is_wanted(&self, v: &Sight, needs: &[Span]) -> bool
+    /// Whether a byte that is among those that are needed is missing in its blocks. It is sought from a place of the needs on.
+    pub fn is_wanted(&self, v: &Sight, needs: &[Span], near: usize) -> bool
         requires { IsRuns needs.now }
         ensures { (w : ℕ → Bool) → Wants v.now needs.now w → result ≡ list_any w self.now.owned }
     {
-        is_any_wanted(v, needs, self.owned.runs())
+        is_any_wanted(v, needs, near, self.owned.runs())
     }
 }
 
@@ -280,12 +280,12 @@ pub fn waits_by(v: &Sight, a: &LiveAsk, w: &LiveWait) -> bool
     }
 }
 
-fn is_any_wanted(v: &Sight, needs: &[Span], runs: &[Span]) -> bool
+fn is_any_wanted(v: &Sight, needs: &[Span], near: usize, runs: &[Span]) -> bool
     requires { IsRuns needs.now }
     ensures { (w : ℕ → Bool) → Wants v.now needs.now w → result ≡ list_any w (places runs.now) }
 {
     for run in runs {
-        if is_run_wanted(v, needs, *run) {
+        if is_run_wanted(v, needs, near, *run) {
             return true;
         }
     }
@@ -293,12 +293,12 @@ fn is_any_wanted(v: &Sight, needs: &[Span], runs: &[Span]) -> bool
 }
 
 // Beyond the size nothing is missing.
-fn is_run_wanted(v: &Sight, needs: &[Span], run: Span) -> bool
+fn is_run_wanted(v: &Sight, needs: &[Span], near: usize, run: Span) -> bool
     requires { IsRuns needs.now }
     ensures { (w : ℕ → Bool) → Wants v.now needs.now w → result ≡ list_any w (counting run.start run.len) }
 {
     let start = run.start.min(v.size());
-    match next_missed(v, needs, BLOCK * start) {
+    match next_missed(v, needs, near, BLOCK * start) {
         Some(at) => at / BLOCK - start < run.len,
         None => false,
     }
@@ -319,34 +319,56 @@ fn has_wait(waits: &[LiveWait], id: WaitNumber) -> bool
     waits.iter().any(|w| w.id().is(id))
 }
 
-/// Whether the ask is one of the item that none of the waits waits for. These need the positions that are given.
-pub fn is_idle(item: ItemId, v: &Sight, waits: &[LiveWait], needs: &[Span], a: &LiveAsk) -> bool
+/// Whether the ask is one of the item that none of the waits waits for. These need the positions that are given, among which
+/// those of the ask are sought from a place on.
+pub fn is_idle(
+    item: ItemId,
+    v: &Sight,
+    waits: &[LiveWait],
+    needs: &[Span],
+    near: usize,
+    a: &LiveAsk,
+) -> bool
     requires runs { IsRuns needs.now }
     requires wants { Wants v.now needs.now (is_wanted item v.now waits.now) }
     ensures { result ≡ is_idle item v.now waits.now a.now }
 {
-    a.ask().item.0 == item.0 && is_idle_by(item, v, waits, needs, a)
+    a.ask().item.0 == item.0 && is_idle_by(item, v, waits, needs, near, a)
 }
 
-fn is_idle_by(item: ItemId, v: &Sight, waits: &[LiveWait], needs: &[Span], a: &LiveAsk) -> bool
+fn is_idle_by(
+    item: ItemId,
+    v: &Sight,
+    waits: &[LiveWait],
+    needs: &[Span],
+    near: usize,
+    a: &LiveAsk,
+) -> bool
     requires runs { IsRuns needs.now }
     requires wants { Wants v.now needs.now (is_wanted item v.now waits.now) }
     ensures { result ≡ is_idle_by a.now.ask.kind item v.now waits.now a.now }
 {
     match a.ask().kind {
-        AskKind::Fetch => !is_wanted_by(item, v, waits, needs, a),
-        AskKind::Validate => !is_wanted_by(item, v, waits, needs, a),
+        AskKind::Fetch => !is_wanted_by(item, v, waits, needs, near, a),
+        AskKind::Validate => !is_wanted_by(item, v, waits, needs, near, a),
         AskKind::List => !is_list_awaited(item, waits),
         AskKind::Dehydrate => !has_wait(waits, a.wait()),
     }
 }
 
-fn is_wanted_by(item: ItemId, v: &Sight, waits: &[LiveWait], needs: &[Span], a: &LiveAsk) -> bool
+fn is_wanted_by(
+    item: ItemId,
+    v: &Sight,
+    waits: &[LiveWait],
+    needs: &[Span],
+    near: usize,
+    a: &LiveAsk,
+) -> bool
     requires runs { IsRuns needs.now }
     requires wants { Wants v.now needs.now (is_wanted item v.now waits.now) }
     ensures { result ≡ list_any (is_wanted item v.now waits.now) a.now.owned }
 {
-    a.is_wanted(v, needs)
+    a.is_wanted(v, needs, near)
 }
 
 /// The runs of the blocks that asks of the item own.

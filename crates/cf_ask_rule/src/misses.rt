@@ -81,8 +81,8 @@ fn needed_below(v: &Sight, w: &LiveWait) -> Span
     }
 }
 
-/// The first position from a number on that is missing and needed.
-pub fn next_missed(v: &Sight, needs: &[Span], from: u64) -> Option<u64>
+/// The first position from a number on that is missing and needed. It is sought from a place of the needs on.
+pub fn next_missed(v: &Sight, needs: &[Span], near: usize, from: u64) -> Option<u64>
     requires runs { IsRuns needs.now }
     requires small { from ≤ 2 ^ 52 }
     ensures next { IsNext (λ p. lacks_at v.now p && contains needs.now p) from result }
@@ -90,16 +90,16 @@ pub fn next_missed(v: &Sight, needs: &[Span], from: u64) -> Option<u64>
 {
     let mut at = from;
     loop {
-        let Some(lacking) = v.next_lacking(at) else {
+        let Some(needed) = next_in(needs, near, at) else {
             return None;
         };
-        let Some(needed) = next_in(needs, lacking) else {
+        let Some(lacking) = v.next_lacking(needed) else {
             return None;
         };
-        if needed == lacking {
-            return Some(lacking);
+        if lacking == needed {
+            return Some(needed);
         }
-        at = needed;
+        at = lacking;
     }
 }
 

@@ -11,8 +11,8 @@ ghost use Rattle.cf_model.specs.Words.{counting};
 ghost use Rattle.cf_ranges.specs.Positions.{contains, IsRuns};
 
 use crate::asks::{LiveAsk, is_list, is_list_awaited, owned_of};
-use crate::misses::{needs_of, next_missed};
-use crate::searches::end_of;
+use crate::misses::next_missed;
+use crate::searches::{end_of, place_beyond};
 use crate::sights::Sight;
 use crate::waits::{LiveWait, WaitNumber, is_dehydrate_wait};
 use cf_base::{Ask, AskKind, ItemId, Key, OutOfMemory, Span};
@@ -88,14 +88,17 @@ pub fn open_blocks(
     item: ItemId,
     v: &Sight,
     waits: &[LiveWait],
+    needs: &[Span],
     asks: &[LiveAsk],
 ) -> Result<Vec<u64>, OutOfMemory>
+    requires runs { IsRuns needs.now }
+    requires wants { Wants v.now needs.now (is_wanted item v.now waits.now) }
     ensures open { IfOk result (λ r. r.items ≡ open_blocks item v.now waits.now asks.now) }
     ensures small { IfOk result (λ r. AllByRecursion (λ b. b < 2 ^ 40) r.items) }
 {
-    let needs = needs_of(alloc, item, v, waits)?;
+    let _size = v.size();
     let owned = owned_of(alloc, item, asks)?;
-    let blocks = open_in(alloc, v, &needs, &owned)?;
+    let blocks = open_in(alloc, v, needs, &owned)?;
     Ok(blocks)
 }
 
@@ -111,9 +114,13 @@ fn open_in(
 {
     let mut out = Vec::new(alloc);
     let mut next = 0;
-    while let Some(at) = next_missed(v, needs, BLOCK * next) {
+    let mut need = 0;
+    let mut own = 0;
+    while let Some(at) = next_missed(v, needs, need, BLOCK * next) {
         let block = at / BLOCK;
-        let end = end_of(owned, block);
+        need = place_beyond(needs, need, at);
+        own = place_beyond(owned, own, block);
+        let end = end_of(owned, own, block);
         if end > block {
             next = end;
         } else {
@@ -305,11 +312,14 @@ fn data_asks(
     item: ItemId,
     v: &Sight,
     waits: &[LiveWait],
+    needs: &[Span],
     asks: &[LiveAsk],
 ) -> Result<Vec<LiveAsk>, OutOfMemory>
+    requires runs { IsRuns needs.now }
+    requires wants { Wants v.now needs.now (is_wanted item v.now waits.now) }
     ensures { IfOk result (λ r. r.items ≡ map (ask_of_run item v.now.base) (runs_of v.now (open_blocks item v.now waits.now asks.now))) }
 {
-    let open = open_blocks(alloc, item, v, waits, asks)?;
+    let open = open_blocks(alloc, item, v, waits, needs, asks)?;
     let runs = open_runs(alloc, v, &open)?;
     asks_of(alloc, item, v.base(), &runs)
 }
@@ -323,17 +333,20 @@ fn open_runs(alloc: Global, v: &Sight, blocks: &[u64]) -> Result<Vec<Run>, OutOf
     Ok(runs)
 }
 
-/// The asks that are made, in order, still without keys.
+/// The asks that are made, in order, still without keys. The waits need the positions that are given.
 pub fn new_asks(
     alloc: Global,
     item: ItemId,
     v: &Sight,
     waits: &[LiveWait],
+    needs: &[Span],
     asks: &[LiveAsk],
 ) -> Result<Vec<LiveAsk>, OutOfMemory>
+    requires runs { IsRuns needs.now }
+    requires wants { Wants v.now needs.now (is_wanted item v.now waits.now) }
     ensures { IfOk result (λ r. r.items ≡ new_asks item v.now waits.now asks.now) }
 {
-    let mut all = data_asks(alloc, item, v, waits, asks)?;
+    let mut all = data_asks(alloc, item, v, waits, needs, asks)?;
     let mut lists = list_asks(alloc, item, waits, asks)?;
     let mut dehydrations = dehydrate_asks(alloc, item, waits, asks)?;
     lists.append(&mut dehydrations)?;

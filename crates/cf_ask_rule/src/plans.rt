@@ -3,7 +3,7 @@ ghost use Rattle.std.specs.Prelude.{◌≡◌, IfOk};
 ghost use Rattle.cf_ask_rule.specs.Deeds.{deed_of};
 ghost use Rattle.cf_ask_rule.specs.Plans.{plan_of};
 
-use crate::acts::{Act, asks_after, cancelled_of, drop_cancelled, ended_by, left_by};
+use crate::acts::{Act, asks_after, cancelled_of, drop_cancelled, end_waits};
 use crate::asks::LiveAsk;
 use crate::misses::needs_of;
 use crate::new_asks::new_asks;
@@ -38,15 +38,14 @@ pub fn make_plan(
     ensures made { IfOk result (λ p. p.made.items ≡ (plan_of item v.now (deed_of act) waits.now asks.items).made) }
 {
     let before = asks.as_slice();
-    let ended = ended_by(alloc, item, v, act, before, waits)?;
-    let left = left_by(alloc, item, v, act, before, waits)?;
+    let (ended, left) = end_waits(alloc, item, v, act, before, waits)?;
     let live = left.as_slice();
     let spans = needs_of(alloc, item, v, live)?;
     let needs = spans.as_slice();
     let mut kept = asks_after(alloc, act, asks)?;
     let cancelled = cancelled_of(alloc, item, v, act, live, needs, &kept)?;
-    drop_cancelled(&mut kept, item, v, act, live, needs);
-    let made = new_asks(alloc, item, v, live, &kept)?;
+    drop_cancelled(&mut kept, &cancelled, item, v, act, live, needs);
+    let made = new_asks(alloc, item, v, live, needs, &kept)?;
     Ok(Plan {
         ended,
         left,

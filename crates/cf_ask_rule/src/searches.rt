@@ -1,16 +1,55 @@
 //! The next of something, from a number on.
-ghost use Rattle.std.specs.Prelude.{◌≡◌, ℕ, Bool, cond, ◌||◌, ◌&&◌, ◌+◌, ◌≤◌, ◌^◌, nat_le, nat_lt, IfSome};
-ghost use Rattle.cf_ask_rule.specs.Nexts.{IsEnd, IsFirstRun, IsNext};
+ghost use Rattle.std.specs.Prelude.{◌≡◌, ℕ, Bool, cond, ◌||◌, ◌&&◌, ◌+◌, ◌≤◌, ◌^◌, nat_le, nat_lt, IfSome, IsTrue};
+ghost use Rattle.cf_ask_rule.specs.Nexts.{IsEnd, IsFirstRun, IsNext, IsPlaceBeyond};
 ghost use Rattle.cf_ranges.specs.Positions.{contains, IsRuns};
 
 use cf_base::Span;
 
-// The first run that ends beyond a number. By a binary search.
-fn first_beyond(runs: &[Span], from: u64) -> Option<Span>
+/// How many runs end by a number. A place is tried first, and the one after it, and then a binary search finds it.
+pub fn place_beyond(runs: &[Span], near: usize, from: u64) -> usize
+    requires { IsRuns runs.now }
+    ensures { IsPlaceBeyond from runs.now result }
+{
+    if is_place(runs, near, from) {
+        return near;
+    }
+    let after = near.saturating_add(1);
+    if is_place(runs, after, from) {
+        return after;
+    }
+    place_of(runs, from)
+}
+
+// Whether the first run that ends beyond a number stands at the place.
+fn is_place(runs: &[Span], place: usize, from: u64) -> bool
+    requires { IsRuns runs.now }
+    ensures { IsTrue result → IsPlaceBeyond from runs.now place }
+{
+    if place >= runs.len() {
+        return false;
+    }
+    if ends_by(runs[place], from) {
+        return false;
+    }
+    if place == 0 {
+        return true;
+    }
+    ends_by(runs[place - 1], from)
+}
+
+fn place_of(runs: &[Span], from: u64) -> usize
+    requires { IsRuns runs.now }
+    ensures { IsPlaceBeyond from runs.now result }
+{
+    runs.partition_point(|run| ends_by(*run, from))
+}
+
+// The first run that ends beyond a number. It is sought from a place on.
+fn first_beyond(runs: &[Span], near: usize, from: u64) -> Option<Span>
     requires { IsRuns runs.now }
     ensures { IsFirstRun runs.now from result }
 {
-    let next = runs.partition_point(|run| ends_by(*run, from));
+    let next = place_beyond(runs, near, from);
     if next == runs.len() {
         return None;
     }
@@ -23,24 +62,24 @@ fn ends_by(run: Span, at: u64) -> bool
     run.start <= at && run.len <= at - run.start
 }
 
-/// The first position from a number on that the runs have.
-pub fn next_in(runs: &[Span], from: u64) -> Option<u64>
+/// The first position from a number on that the runs have. It is sought from a place of the runs on.
+pub fn next_in(runs: &[Span], near: usize, from: u64) -> Option<u64>
     requires { IsRuns runs.now }
     ensures next { IsNext (contains runs.now) from result }
     ensures small { IfSome result (λ n. n ≤ 2 ^ 40) }
 {
-    match first_beyond(runs, from) {
+    match first_beyond(runs, near, from) {
         Some(run) => Some(run.start.max(from)),
         None => None,
     }
 }
 
-/// The end of the run that has the position, and the position where none has it.
-pub fn end_of(runs: &[Span], at: u64) -> u64
+/// The end of the run that has the position, and the position where none has it. It is sought from a place of the runs on.
+pub fn end_of(runs: &[Span], near: usize, at: u64) -> u64
     requires { IsRuns runs.now }
     ensures { IsEnd runs.now at result }
 {
-    match first_beyond(runs, at) {
+    match first_beyond(runs, near, at) {
         Some(run) => end_from(run, at),
         None => at,
     }

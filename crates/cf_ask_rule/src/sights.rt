@@ -98,8 +98,8 @@ impl Sight {
         ensures next { IsNext (lacks_at self.now) from result }
         ensures small { IfSome result (λ n. n < 2 ^ 24) }
     {
-        let absent = next_in(&self.absent, from);
-        let bare = next_in(&self.bare, from);
+        let absent = next_in(&self.absent, 0, from);
+        let bare = next_in(&self.bare, 0, from);
         below(lesser(absent, bare), self.size)
     }
 

@@ -4,12 +4,12 @@ use Rattle.cf_ranges.specs.Positions.{contains}
 use Rattle.cf_ask_rule.proofs.misses.next_missed.Given as goal
 
 -- none is missed so far
-abbrev pub invariant-loop-lacking : goal.invariant-loop-lacking
-invariant-loop-lacking l = record {
+abbrev pub invariant-loop-needed : goal.invariant-loop-needed
+invariant-loop-needed l = record {
   from : l.from ≤ l.at;
   none : (p : ℕ) → l.from ≤ p → p < l.at → (lacks_at l.v p && contains l.needs p) ≡ false;
   small : l.at ≤ 2 ^ 52;
 }
 
-abbrev pub decreases-loop-lacking : goal.decreases-loop-lacking
-decreases-loop-lacking l = 2 ^ 53 - l.at
+abbrev pub decreases-loop-needed : goal.decreases-loop-needed
+decreases-loop-needed l = 2 ^ 53 - l.at
