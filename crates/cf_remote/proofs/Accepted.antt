@@ -41,19 +41,19 @@ move_skips false false false true e h = cc
 move_skips false false false false true h = cc
 move_skips false false false false false h = (refl, refl)
 
-skipped : {A : Type 0} (b : Bool) (x : A) (o : Option A) → cond b (Some x) o ≡ None → (b ≡ false) × (o ≡ None)
+pub skipped : {A : Type 0} (b : Bool) (x : A) (o : Option A) → cond b (Some x) o ≡ None → (b ≡ false) × (o ≡ None)
 skipped true x o e = cc
 skipped false x o e = (refl, e)
 
-not_false : (b : Bool) → not b ≡ false → b ≡ true
+pub not_false : (b : Bool) → not b ≡ false → b ≡ true
 not_false true e = refl
 not_false false e = cc
 
-or_false : (a b : Bool) → (a || b) ≡ false → (a ≡ false) × (b ≡ false)
+pub or_false : (a b : Bool) → (a || b) ≡ false → (a ≡ false) × (b ≡ false)
 or_false true b e = cc
 or_false false b e = (refl, e)
 
-within : (m n : ℕ) → nat_lt m n ≡ false → n ≤ m
+pub within : (m n : ℕ) → nat_lt m n ≡ false → n ≤ m
 within m n e = grind (arith, nat_tests)
 
 pub record IsNewFile (held : Held) (parent : Rid) (name bytes : List ℕ) : Type 0 where

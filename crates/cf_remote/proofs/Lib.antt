@@ -1,10 +1,13 @@
 pub mod Accepted
 pub mod Asking
+pub mod Children
 pub mod Counted
 pub mod Doing
+pub mod FoundEntries
 pub mod Indexes
 pub mod Levels
 pub mod Lines
+pub mod ListableItems
 pub mod Listings
 pub mod Members
 pub mod Orders
@@ -18,6 +21,7 @@ pub mod RunLaws
 pub mod Searches
 pub mod ShelfChanges
 pub mod Starts
+pub mod StoreFinds
 pub mod Taken
 pub mod TokenPlaces
 pub mod Totals

@@ -25,13 +25,13 @@ use Rattle.cf_remote.proofs.Starts.{entries_are}
 both_before : (x y : ℕ) (o : Ordering) (b : Bool) → is_lt o ≡ b → is_lt (ordering_then (nat_cmp x y) o) ≡ (nat_lt x y || ((x == y) && b))
 both_before x y o b h = grind (arith, nat_tests)
 
-before_is : (xs ys : List ℕ) → is_lt (slice_cmp nat_cmp xs ys) ≡ comes_before xs ys
+pub before_is : (xs ys : List ℕ) → is_lt (slice_cmp nat_cmp xs ys) ≡ comes_before xs ys
 before_is [] [] = refl
 before_is [] (y ∷ ys) = refl
 before_is (x ∷ xs) [] = refl
 before_is (x ∷ xs) (y ∷ ys) = both_before x y (slice_cmp nat_cmp xs ys) (comes_before xs ys) (before_is xs ys)
 
-lt_from : (o : Ordering) → is_lt o ≡ true → o ≡ Less
+pub lt_from : (o : Ordering) → is_lt o ≡ true → o ≡ Less
 lt_from Less e = refl
 lt_from Equal e = cc
 lt_from Greater e = cc
@@ -40,7 +40,7 @@ before_trans : (xs ys zs : List ℕ) → comes_before xs ys ≡ true → comes_b
 before_trans xs ys zs h k =
     sym (before_is xs zs) ∙ ap is_lt (nat_list_cmp_total.trans xs ys zs (lt_from (slice_cmp nat_cmp xs ys) (before_is xs ys ∙ h)) (lt_from (slice_cmp nat_cmp ys zs) (before_is ys zs ∙ k)))
 
-before_itself : (xs : List ℕ) → comes_before xs xs ≡ true → ⊥
+pub before_itself : (xs : List ℕ) → comes_before xs xs ≡ true → ⊥
 before_itself xs h = let e : Less ≡ Equal = sym (lt_from (slice_cmp nat_cmp xs xs) (before_is xs xs ∙ h)) ∙ tied_itself nat_list_cmp_total xs in cc
 
 -- names that are not one come in order one way
@@ -55,18 +55,18 @@ before_other xs ys h k = one (slice_cmp nat_cmp xs ys) refl where
 
 -- entries in order of name
 
-abbrev Before : Entry → List Entry → Type 0
+abbrev pub Before : Entry → List Entry → Type 0
 Before e es = AllByRecursion (λ f. comes_before e.name f.name ≡ true) es
 
-abbrev Ascends : List Entry → Type 0
+abbrev pub Ascends : List Entry → Type 0
 Ascends [] = Unit {0}
 Ascends (e ∷ es) = Before e es × Ascends es
 
-abbrev In : List Entry → Entry → Type 0
+abbrev pub In : List Entry → Entry → Type 0
 In [] e = ⊥
 In (f ∷ fs) e = (e ≡ f) ⊎ In fs e
 
-before_in : (e f : Entry) (es : List Entry) → Before e es → In es f → comes_before e.name f.name ≡ true
+pub before_in : (e f : Entry) (es : List Entry) → Before e es → In es f → comes_before e.name f.name ≡ true
 before_in e f [] h k = absurd k
 before_in e f (g ∷ gs) h (inl i) = subst (λ (x : Entry). comes_before e.name x.name ≡ true) (sym i) h.0
 before_in e f (g ∷ gs) h (inr k) = before_in e f gs h.1 k
@@ -110,7 +110,7 @@ put_has e x (f ∷ fs) h = one (by_name f e) (put_has e x fs) h where
   one true rest (inr (inr k)) = inr (rest (inr k))
   one false rest k = k
 
-in_sorted : (x : Entry) (es : List Entry) → In (sorted by_name es) x → In es x
+pub in_sorted : (x : Entry) (es : List Entry) → In (sorted by_name es) x → In es x
 in_sorted x [] h = h
 in_sorted x (e ∷ es) h = elim (in_put e x (sorted by_name es) h) [ inl i ↦ inl i | inr k ↦ inr (in_sorted x es k) ]
 
@@ -149,12 +149,12 @@ sorted_ascends (e ∷ es) h = put_ascends e (sorted by_name es) (sorted_ascends 
 
 -- what is told of items
 
-told_has : (ss : List Stored) (s : Stored) → Has ss s → In (map entry_told ss) (entry_told s)
+pub told_has : (ss : List Stored) (s : Stored) → Has ss s → In (map entry_told ss) (entry_told s)
 told_has [] s h = absurd h
 told_has (t ∷ ts) s (inl e) = inl (ap entry_told e)
 told_has (t ∷ ts) s (inr k) = inr (told_has ts s k)
 
-has_told : (ss : List Stored) (e : Entry) → In (map entry_told ss) e → (s : Stored) × Has ss s × (e ≡ entry_told s)
+pub has_told : (ss : List Stored) (e : Entry) → In (map entry_told ss) e → (s : Stored) × Has ss s × (e ≡ entry_told s)
 has_told [] e h = absurd h
 has_told (t ∷ ts) e (inl i) = (t, inl refl, i)
 has_told (t ∷ ts) e (inr k) = let h = has_told ts e k in (h.0, inr h.1, h.2)
@@ -165,7 +165,7 @@ names_order s t e = rw (numbers s.parent.0 t.parent.0 e) refl where
   numbers : (x y : ℕ) → x ≡ y → nat_cmp x y ≡ Equal
   numbers x y e = grind (arith, nat_tests)
 
-told_ascends : (rid : Rid) (ss : List Stored) → Rises ss → ((s : Stored) → Has ss s → s.parent.0 ≡ rid.0) → Ascends (map entry_told ss)
+pub told_ascends : (rid : Rid) (ss : List Stored) → Rises ss → ((s : Stored) → Has ss s → s.parent.0 ≡ rid.0) → Ascends (map entry_told ss)
 told_ascends rid [] h p = tt
 told_ascends rid (s ∷ ss) h p = (
   all_in (λ f. comes_before s.name f.name ≡ true) (map entry_told ss) (λ f k.

@@ -1,6 +1,6 @@
 -- Parts of a peer event, one after the other.
-use Rattle.std.proofs.Common.{◌≡◌, inl, ℕ, ◌+◌, List, Bool, true, false, refl, sym, ap, ◌∙◌, subst}
-use Rattle.std.specs.Prelude.{Some, None, Result, Ok, Err}
+use Rattle.std.proofs.Common.{◌≡◌, inl, inr, ℕ, ◌+◌, List, Bool, true, false, refl, sym, ap, ◌∙◌, subst}
+use Rattle.std.specs.Prelude.{Option, Some, None, Result, Ok, Err, cond}
 use Rattle.std.specs.Result.{IsErrAnd}
 use Rattle.std.proofs.lemmas.Result.{err_from_is_err_and}
 use Rattle.cf_base.specs.declared.answers.Shown.{Shown}
@@ -17,11 +17,12 @@ use Rattle.cf_base.specs.declared.messages.Request.{Request}
 use Rattle.cf_model.specs.Arrows.{Arrow, choose}
 use Rattle.cf_model.specs.Peers.{if_found, in_dir, is_fit, list_of, listing, named, on_listing, refused, request_with, peer_token, send_request, stale, with_entries, with_stray, with_token_used}
 use Rattle.cf_model.specs.State.{Running, State}
-use Rattle.cf_remote.specs.LookUps.{Comes, IsListed, finish}
+use Rattle.cf_remote.specs.Entries.{FindsEntry, found_in}
+use Rattle.cf_remote.specs.LookUps.{Comes, finish}
 use Rattle.cf_remote.specs.Peers.{Begins, Leads, Stands}
-use Rattle.cf_remote.specs.Told.{Answers, Asks, Told}
-use Rattle.cf_remote.specs.declared.ask_errors.AskError.{AskError}
-use Rattle.cf_remote.specs.declared.ask_errors.AskError.TheVariants.{Fault, OutOfMemory}
+use Rattle.cf_remote.specs.Told.{Answers, Faults, Told}
+use Rattle.cf_remote.specs.declared.find_errors.FindError.{FindError}
+use Rattle.cf_remote.specs.declared.find_errors.FindError.TheVariants.{Fault, OutOfMemory, Stray}
 use Rattle.cf_remote.specs.Stops.{stop_of}
 use Rattle.cf_remote.specs.declared.stops.Plan.TheVariants as plan
 use Rattle.cf_remote.specs.declared.stops.Stop.{Stop}
@@ -110,27 +111,20 @@ module _ (f : List Entry → Arrow State Shown) (rid : Rid) (next : ℕ) (s : St
   pub listing_stray : (r : Reply) → Answers (list_of rid) r old new → is_fit (list_of rid) r ≡ false → Comes (listing rid f) f next s old (Err (stop.Stray r)) new
   listing_stray r a fit = strays r a (ap (with_entries f r) fit ∙ unfit r)
 
-  pub listing_fails : (e : AskError) → Asks (list_of rid) old (Err e) new → Comes (listing rid f) f next s old (Err (stop_of e)) new
-  listing_fails Fault h =
+  pub listing_fails : Faults old new → Comes (listing rid f) f next s old (Err stop.Fault) new
+  listing_fails h =
       let after = after_fault (list_of rid) next s old new st h in (
         with_token_used after.state,
         record { token = ap (λ (n : ℕ). n + 1) after.stands.token; held = after.stands.held; asks = after.stands.asks; honest = after.stands.honest },
         after.running,
         leads_ask (list_of rid) None next s old new (on_listing rid f) after (shown.Refused code.RemoteFault) (with_token_used after.state) new (refl, refl, refl),
       )
-  listing_fails OutOfMemory h = inl h
 
   -- memory runs out after the reply
   pub listing_lost : (r : Reply) → Answers (list_of rid) r old new → Comes (listing rid f) f next s old (Err stop.OutOfMemory) new
   listing_lost r a =
       let after = after_reply (list_of rid) r next s old new st a in
       begins_ask (list_of rid) (Some r) next s old new (on_listing rid f) after new (begins_here (on_listing rid f (Some r) after.state) new)
-
-  pub listing_ends : (r : Reply) (result : Result (List Entry) Stop) → Answers (list_of rid) r old new → is_fit (list_of rid) r ≡ true → IsListed r result
-      → Comes (listing rid f) f next s old result new
-  listing_ends r (Ok es) a fit h =
-      listed h.0 es (subst (λ (x : Reply). Answers (list_of rid) x old new) h.1 a) (sym (ap (is_fit (list_of rid)) h.1) ∙ fit)
-  listing_ends r (Err e) a fit h = subst (λ (x : Stop). Comes {A = List Entry} (listing rid f) f next s old (Err x) new) (sym h.0) (strays r a (h.1 f (is_fit (list_of rid) r)))
 
 -- a reply that is no listing
 
@@ -154,6 +148,55 @@ none_listed (reply.Refused token w version) h f true = refl
 none_listed (reply.Refused token w version) h f false = refl
 none_listed (reply.Gone key) h f true = refl
 none_listed (reply.Gone key) h f false = refl
+
+-- one name in a directory
+
+-- what a look-up is where it may end the event
+abbrev pub stopped : Result (Option Entry) FindError → Result (Option Entry) Stop
+stopped (Ok o) = Ok o
+stopped (Err e) = Err (stop_of e)
+
+abbrev pub child_part : Rid → List ℕ → (Option Entry → Arrow State Shown) → Arrow State Shown
+child_part rid name f = listing rid (λ es. f (named name es))
+
+module _ (f : Option Entry → Arrow State Shown) (rid : Rid) (name : List ℕ) (next : ℕ) (s : State) (old new : Told) (st : Stands next old s) where
+  abbrev rest : List Entry → Arrow State Shown
+  rest es = f (named name es)
+
+  child_found : (o : Option Entry) (r : Reply) → Answers (list_of rid) r old new → Ok o ≡ found_in rid name r → Comes (child_part rid name f) f next s old (Ok o) new
+  child_found o (reply.Listing key es) a h = by (is_fit (list_of rid) (reply.Listing key es)) refl h where
+    by : (b : Bool) → is_fit (list_of rid) (reply.Listing key es) ≡ b → Ok o ≡ cond b (Ok (named name es)) (Err (Stray (reply.Listing key es))) → Comes (child_part rid name f) f next s old (Ok o) new
+    by true fit e =
+        let is : o ≡ named name es = cc in
+        comes_on (listing rid rest) rest f next s old es new (Ok o) new (listed rest rid next s old new st key es a fit) (λ t u. comes_done (rest es) f next t new o (ap f (sym is)) u)
+    by false fit e = cc
+  child_found o (reply.Feed round clock es) a h = cc
+  child_found o (reply.Bytes key start bytes) a h = cc
+  child_found o (reply.Missing key) a h = cc
+  child_found o (reply.Done token r version) a h = cc
+  child_found o (reply.Void token) a h = cc
+  child_found o (reply.Refused token w version) a h = cc
+  child_found o (reply.Gone key) a h = cc
+
+  stale_is : (r : Reply) → Err (Stray r) ≡ found_in rid name r → with_entries rest r (is_fit (list_of rid) r) ≡ stale r
+  stale_is (reply.Listing key es) h = by (is_fit (list_of rid) (reply.Listing key es)) h where
+    by : (b : Bool) → Err (Stray (reply.Listing key es)) ≡ cond b (Ok (named name es)) (Err (Stray (reply.Listing key es))) → with_entries rest (reply.Listing key es) b ≡ stale (reply.Listing key es)
+    by true e = cc
+    by false e = refl
+  stale_is (reply.Feed round clock es) h = none_listed (reply.Feed round clock es) refl rest (is_fit (list_of rid) (reply.Feed round clock es))
+  stale_is (reply.Bytes key start bytes) h = none_listed (reply.Bytes key start bytes) refl rest (is_fit (list_of rid) (reply.Bytes key start bytes))
+  stale_is (reply.Missing key) h = none_listed (reply.Missing key) refl rest (is_fit (list_of rid) (reply.Missing key))
+  stale_is (reply.Done token r version) h = none_listed (reply.Done token r version) refl rest (is_fit (list_of rid) (reply.Done token r version))
+  stale_is (reply.Void token) h = none_listed (reply.Void token) refl rest (is_fit (list_of rid) (reply.Void token))
+  stale_is (reply.Refused token w version) h = none_listed (reply.Refused token w version) refl rest (is_fit (list_of rid) (reply.Refused token w version))
+  stale_is (reply.Gone key) h = none_listed (reply.Gone key) refl rest (is_fit (list_of rid) (reply.Gone key))
+
+  pub child_comes : (result : Result (Option Entry) FindError) → FindsEntry rid name old result new → Comes (child_part rid name f) f next s old (stopped result) new
+  child_comes (Ok o) h = child_found o h.0 h.1 h.2
+  child_comes (Err (Stray r)) h = comes_ended (listing rid rest) rest f next s old (stop.Stray r) new (strays rest rid next s old new st r h.0 (stale_is r h.1))
+  child_comes (Err Fault) h = comes_ended (listing rid rest) rest f next s old stop.Fault new (listing_fails rest rid next s old new st h)
+  child_comes (Err OutOfMemory) (inl same) = subst (λ (t : Told). Begins (listing rid rest s) old t) (sym same) (begins_here (listing rid rest s) old)
+  child_comes (Err OutOfMemory) (inr h) = listing_lost rest rid next s old new st h.0 h.1
 
 -- the request under the next token
 
@@ -180,34 +223,24 @@ ended_by {A} f rest more next s old r e new is h = with_stop (λ (x : Result A S
 
 -- one step of the way
 module _ (f : Entry → Arrow State Shown) (at : Entry) (name : List ℕ) where
-  abbrev pub rest_of : List Entry → Arrow State Shown
-  rest_of es = if_found f (named name es)
+  in_is : at.dir ≡ true → in_dir at (child_part at.rid name (if_found f)) ≡ child_part at.rid name (if_found f)
+  in_is e = ap (λ (d : Bool). choose d (child_part at.rid name (if_found f)) (refused code.NotDirectory)) e
 
-  in_is : at.dir ≡ true → in_dir at (listing at.rid rest_of) ≡ listing at.rid rest_of
-  in_is e = ap (λ (d : Bool). choose d (listing at.rid rest_of) (refused code.NotDirectory)) e
-
-  pub step_ended : (next : ℕ) (s : State) (old : Told) (e : Stop) (new : Told) → at.dir ≡ true → Comes {A = List Entry} (listing at.rid rest_of) rest_of next s old (Err e) new
-      → Comes {A = Entry} (in_dir at (listing at.rid rest_of)) f next s old (Err e) new
+  pub step_ended : (next : ℕ) (s : State) (old : Told) (e : Stop) (new : Told) → at.dir ≡ true → Comes {A = Option Entry} (child_part at.rid name (if_found f)) (if_found f) next s old (Err e) new
+      → Comes {A = Entry} (in_dir at (child_part at.rid name (if_found f))) f next s old (Err e) new
   step_ended next s old e new d h =
-      comes_as (in_dir at (listing at.rid rest_of)) (listing at.rid rest_of) f next s old (Err e) new (in_is d) (comes_ended (listing at.rid rest_of) rest_of f next s old e new h)
+      comes_as (in_dir at (child_part at.rid name (if_found f))) (child_part at.rid name (if_found f)) f next s old (Err e) new (in_is d) (comes_ended (child_part at.rid name (if_found f)) (if_found f) f next s old e new h)
 
-  pub step_missing : (next : ℕ) (s : State) (old : Told) (es : List Entry) (new : Told) → at.dir ≡ true → None ≡ named name es → Comes {A = List Entry} (listing at.rid rest_of) rest_of next s old (Ok es) new
-      → Comes {A = Entry} (in_dir at (listing at.rid rest_of)) f next s old (Err (stop.Refused code.NotFound)) new
-  step_missing next s old es new d n h =
-      comes_as (in_dir at (listing at.rid rest_of)) (listing at.rid rest_of) f next s old (Err (stop.Refused code.NotFound)) new (in_is d)
-      (comes_on (listing at.rid rest_of) rest_of f next s old es new (Err (stop.Refused code.NotFound)) new h
-      (λ t st. comes_refused (rest_of es) f next t new code.NotFound (ap (if_found f) (sym n)) st))
+  pub step_missing : (next : ℕ) (s : State) (old : Told) (o : Option Entry) (new : Told) → at.dir ≡ true → o ≡ None → Comes {A = Option Entry} (child_part at.rid name (if_found f)) (if_found f) next s old (Ok o) new
+      → Comes {A = Entry} (in_dir at (child_part at.rid name (if_found f))) f next s old (Err (stop.Refused code.NotFound)) new
+  step_missing next s old o new d n h =
+      comes_as (in_dir at (child_part at.rid name (if_found f))) (child_part at.rid name (if_found f)) f next s old (Err (stop.Refused code.NotFound)) new (in_is d)
+      (comes_on (child_part at.rid name (if_found f)) (if_found f) f next s old o new (Err (stop.Refused code.NotFound)) new h
+      (λ t st. comes_refused (if_found f o) f next t new code.NotFound (ap (if_found f) n) st))
 
-  pub step_lost : (next : ℕ) (s : State) (old : Told) (es : List Entry) (new : Told) → at.dir ≡ true → Comes {A = List Entry} (listing at.rid rest_of) rest_of next s old (Ok es) new
-      → Comes {A = Entry} (in_dir at (listing at.rid rest_of)) f next s old (Err stop.OutOfMemory) new
-  step_lost next s old es new d h =
-      comes_as (in_dir at (listing at.rid rest_of)) (listing at.rid rest_of) f next s old (Err stop.OutOfMemory) new (in_is d)
-      (comes_on (listing at.rid rest_of) rest_of f next s old es new (Err stop.OutOfMemory) new h
-      (λ t st. comes_lost (rest_of es) f next t new))
-
-  pub step_found : (next : ℕ) (s : State) (old : Told) (es : List Entry) (e : Entry) (new : Told) → at.dir ≡ true → Some e ≡ named name es → Comes {A = List Entry} (listing at.rid rest_of) rest_of next s old (Ok es) new
-      → Comes {A = Entry} (in_dir at (listing at.rid rest_of)) f next s old (Ok e) new
-  step_found next s old es e new d n h =
-      comes_as (in_dir at (listing at.rid rest_of)) (listing at.rid rest_of) f next s old (Ok e) new (in_is d)
-      (comes_on (listing at.rid rest_of) rest_of f next s old es new (Ok e) new h
-      (λ t st. comes_done (rest_of es) f next t new e (ap (if_found f) (sym n)) st))
+  pub step_found : (next : ℕ) (s : State) (old : Told) (o : Option Entry) (e : Entry) (new : Told) → at.dir ≡ true → o ≡ Some e → Comes {A = Option Entry} (child_part at.rid name (if_found f)) (if_found f) next s old (Ok o) new
+      → Comes {A = Entry} (in_dir at (child_part at.rid name (if_found f))) f next s old (Ok e) new
+  step_found next s old o e new d n h =
+      comes_as (in_dir at (child_part at.rid name (if_found f))) (child_part at.rid name (if_found f)) f next s old (Ok e) new (in_is d)
+      (comes_on (child_part at.rid name (if_found f)) (if_found f) f next s old o new (Ok e) new h
+      (λ t st. comes_done (if_found f o) f next t new e (ap (if_found f) n) st))

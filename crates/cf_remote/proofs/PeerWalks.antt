@@ -110,7 +110,7 @@ module _ (way : Arrow State Shown) (f : Entry × List ℕ → Arrow State Shown)
 
 -- names that are good
 
-name_short : (name : List ℕ) → is_name name ≡ true → length name ≤ 255
+pub name_short : (name : List ℕ) → is_name name ≡ true → length name ≤ 255
 name_short name h = leb-true (length name) 255 (and_parts (nat_lt 0 (length name)) (nat_le (length name) 255) (and_parts _ (list_all is_name_byte name) (and_parts _ _ (and_parts _ _ (and_parts _ _ h).0).0).0).0).1
 
 pub first_short : (n : List ℕ) (ns : List (List ℕ)) → list_all is_name (n ∷ ns) ≡ true → length n ≤ 255

@@ -35,7 +35,7 @@ is_number x y = grind (arith, nat_tests)
 pub same_place : (parent : Rid) (name : List ℕ) (s : Stored) → is_eq (against parent name s) ≡ ((s.parent.0 == parent.0) && same s.name name)
 same_place parent name s = both_equal (nat_cmp s.parent.0 parent.0) (slice_cmp nat_cmp s.name name) ∙ (λ i. is_number s.parent.0 parent.0 i && same_names s.name name i)
 
-eq_from : (o : Ordering) → is_eq o ≡ true → o ≡ Equal
+pub eq_from : (o : Ordering) → is_eq o ≡ true → o ≡ Equal
 eq_from Less e = cc
 eq_from Equal e = refl
 eq_from Greater e = cc

@@ -1,6 +1,8 @@
 pub mod Depths
+pub mod Entries
 pub mod Feeds
 pub mod Held
+pub mod Listable
 pub mod LookUps
 pub mod Order
 pub mod Peers

@@ -6,14 +6,13 @@ use Rattle.cf_base.specs.declared.answers.Shown.TheVariants as shown
 use Rattle.cf_base.specs.declared.codes.Code.TheVariants as code
 use Rattle.cf_base.specs.declared.events.PeerEvent.{PeerEvent}
 use Rattle.cf_base.specs.declared.events.PeerEvent.TheVariants as event
-use Rattle.cf_base.specs.declared.ids.Key.{Key}
 use Rattle.cf_base.specs.declared.memory.OutOfMemory.{OutOfMemory}
 use Rattle.cf_base.specs.declared.messages.Entry.{Entry}
 use Rattle.cf_base.specs.declared.messages.Reply.{Reply}
 use Rattle.cf_base.specs.declared.messages.Reply.TheVariants as reply
 use Rattle.cf_model.specs.Arrows.{Arrow, ret}
 use Rattle.cf_base.specs.declared.ids.Token.{Token}
-use Rattle.cf_model.specs.Peers.{code_of, in_dir, look, on_done, peer_event, refused, root_entry, send_request, stale, with_entries}
+use Rattle.cf_model.specs.Peers.{code_of, in_dir, look, on_done, peer_event, refused, root_entry, send_request}
 use Rattle.cf_model.specs.State.{State}
 use Rattle.cf_model.specs.Trees.{Ret}
 use Rattle.cf_model.specs.Words.{but_last, last_of}
@@ -52,11 +51,6 @@ Comes f rest next s old (Err stop.OutOfMemory) new = Begins (f s) old new
 abbrev pub DoesPart : {A B : Type 0} → ((B → Arrow State Shown) → Arrow State Shown) → (A → B) → Told → Result A Stop → Told → Type 0
 DoesPart {A} {B} part value old result new =
     (f : B → Arrow State Shown) (next : ℕ) (s : State) → Stands next old s → Comes (part f) (λ a. f (value a)) next s old result new
-
--- the entries of a listing, or a reply that is none
-abbrev pub IsListed : Reply → Result (List Entry) Stop → Type 0
-IsListed r (Ok es) = (key : Key) × (r ≡ reply.Listing key es)
-IsListed r (Err e) = (e ≡ stop.Stray r) × ((f : List Entry → Arrow State Shown) (fit : Bool) → with_entries f r fit ≡ stale r)
 
 -- what is left of an event once it has looked up its paths
 abbrev pub finish : Plan → Arrow State Shown

@@ -3,7 +3,6 @@
 use Rattle.std.specs.Prelude.{◌≡◌, ◌⊎◌, ℕ, ◌+◌, ◌≤◌, ◌-◌, ◌^◌, true, false, [], Option, Some, None, Result, Ok, Err, is_some, min}
 use Rattle.cf_base.specs.declared.answers.Answer.{Answer}
 use Rattle.cf_base.specs.declared.answers.Shown.{Shown}
-use Rattle.cf_base.specs.declared.answers.Shown.TheVariants as shown
 use Rattle.cf_base.specs.declared.memory.OutOfMemory.{OutOfMemory}
 use Rattle.cf_model.specs.Arrows.{Arrow}
 use Rattle.cf_model.specs.State.{State}

@@ -1,8 +1,9 @@
 //! The live items in order of parent and name: an index beside the items.
 
-ghost use Rattle.std.specs.Prelude.{◌≡◌, ◌<◌, ◌≤◌, ◌+◌, ◌^◌, ◌&&◌, ◌==◌, not, List, All, IfOk, filter, length, map};
+ghost use Rattle.std.specs.Prelude.{◌≡◌, ◌<◌, ◌≤◌, ◌+◌, ◌^◌, ◌&&◌, ◌==◌, not, List, All, IfOk, filter, length, map, option_copied, option_map};
 ghost use Rattle.std.specs.List.{list_any, filter_map};
 ghost use Rattle.cf_model.specs.Growth.{CountsFrom};
+ghost use Rattle.cf_model.specs.Peers.{named};
 ghost use Rattle.cf_model.specs.Store.{Stored, entry_told};
 ghost use Rattle.cf_model.specs.Words.{comes_before, same, sorted};
 ghost use Rattle.cf_remote.specs.Order.{IsIndex, IsIndexed, IsStart, children, rids_of, told_at};
@@ -66,6 +67,22 @@ fn entries_of(alloc: Global, items: &[StoredItem], rids: &[Rid]) -> Result<Vec<E
         }
     }
     Ok(entries)
+}
+
+/// The live child of a directory that has the name. By a binary search.
+pub(crate) fn child<'a>(
+    items: &'a [StoredItem],
+    by_name: &[Rid],
+    parent: Rid,
+    name: &[u8],
+) -> Option<&'a StoredItem>
+    requires { IsIndexed items.now by_name.now }
+    ensures { option_map entry_told (option_copied result) ≡ named name.now (sorted (λ e f. comes_before e.name f.name) (map entry_told (filter (λ s. s.live && (s.parent.0 == parent.0)) items.now))) }
+{
+    match search(items, by_name, parent, name) {
+        Ok(place) => find(items, by_name[place]),
+        Err(_) => None,
+    }
 }
 
 /// A live item has this parent. By two binary searches.

@@ -3,9 +3,10 @@
 ghost use Rattle.std.specs.Prelude.{◌≡◌, Some, IfOk};
 
 use crate::ask_errors::AskError;
+use crate::find_errors::FindError;
 use crate::remotes::Remote;
 use crate::store_remotes::StoreRemote;
-use cf_base::{OutOfMemory, Reply, Request};
+use cf_base::{Entry, OutOfMemory, Reply, Request, Rid};
 use std::alloc::Global;
 use std::marker::Model;
 
@@ -55,5 +56,31 @@ impl Remote for FlakyRemote {
         let reply = self.inner.ask(q)?;
         self.asks = next;
         Ok(reply)
+    }
+
+    fn find(
+        &mut self,
+        alloc: Global,
+        directory: Rid,
+        name: &[u8],
+    ) -> Result<Option<Entry>, FindError> {
+        let next = self.asks.saturating_add(1);
+        if self.fails.contains(&next) {
+            self.asks = next;
+            self.faults = self.faults.saturating_add(1);
+            return Err(FindError::Fault);
+        }
+        match self.inner.find(alloc, directory, name) {
+            Ok(found) => {
+                self.asks = next;
+                Ok(found)
+            }
+            Err(FindError::Stray(reply)) => {
+                self.asks = next;
+                Err(FindError::Stray(reply))
+            }
+            Err(FindError::Fault) => Err(FindError::Fault),
+            Err(FindError::OutOfMemory) => Err(FindError::OutOfMemory),
+        }
     }
 }

@@ -1,65 +1,28 @@
-//! What stands at the paths of a peer event: one List for each directory on the way.
+//! What stands at the paths of a peer event: one look-up for each directory on the way.
 
-ghost use Rattle.std.specs.Prelude.{◌≡◌, ◌≤◌, ℕ, List, IfOk, None, length, option_copied};
+ghost use Rattle.std.specs.Prelude.{◌≡◌, ◌≤◌, ℕ, List, IfOk, None, length};
 ghost use Rattle.cf_base.specs.declared.messages.Entry.{Entry};
 ghost use Rattle.cf_model.specs.LookUp.{bad_names, names_of};
 ghost use Rattle.cf_model.specs.Peers.{at_parent, at_path, below_root, if_found, in_dir, listing, look, named, root_entry};
-ghost use Rattle.cf_model.specs.Words.{same};
-ghost use Rattle.cf_remote.specs.LookUps.{DoesPart, IsListed, parent_of};
+ghost use Rattle.cf_remote.specs.LookUps.{DoesPart, parent_of};
 
 use crate::remotes::Remote;
 use crate::stops::Stop;
-use cf_base::{Blob, Code, Entry, Key, Reply, Request, Rid, Sequence, Version};
+use cf_base::{Blob, Code, Entry, Rid, Version};
 use cf_tree::{Names, bad_path};
-use cf_wire::{NoItems, fits};
 use std::alloc::Global;
 
-fn entries_of(reply: Reply) -> Result<Sequence<Entry>, Stop>
-    ensures { IsListed reply result }
-{
-    match reply {
-        Reply::Listing { entries, .. } => Ok(entries),
-        Reply::Feed { .. } => Err(Stop::Stray(reply)),
-        Reply::Bytes { .. } => Err(Stop::Stray(reply)),
-        Reply::Missing { .. } => Err(Stop::Stray(reply)),
-        Reply::Done { .. } => Err(Stop::Stray(reply)),
-        Reply::Void { .. } => Err(Stop::Stray(reply)),
-        Reply::Refused { .. } => Err(Stop::Stray(reply)),
-        Reply::Gone { .. } => Err(Stop::Stray(reply)),
-    }
-}
-
-/// The entries of a directory, by one request.
-pub(crate) fn listing<R: Remote>(
+/// The entry of this name in a directory, by one request.
+pub(crate) fn child<R: Remote>(
     alloc: Global,
     remote: &mut R,
-    rid: Rid,
-) -> Result<Sequence<Entry>, Stop>
-    ensures { DoesPart (listing rid) (λ es. es) (R.told remote.old) result (R.told remote.new) }
+    directory: Rid,
+    name: &[u8],
+) -> Result<Option<Entry>, Stop>
+    ensures { DoesPart (λ f. listing directory (λ es. f (named name.now es))) (λ e. e) (R.told remote.old) result (R.told remote.new) }
 {
-    let key = Key {
-        epoch: 0,
-        number: 0,
-    };
-    let q = Request::List { key, rid };
-    let reply = remote.ask(&q)?;
-    if !fits(alloc, &NoItems, Rid(0), &q, &reply)? {
-        return Err(Stop::Stray(reply));
-    }
-    entries_of(reply)
-}
-
-fn is_named(entry: &Entry, name: &[u8]) -> bool
-    ensures { result ≡ same entry.now.name name.now }
-{
-    entry.name.as_slice() == name
-}
-
-/// The entry of this name.
-pub(crate) fn child<'a>(entries: &'a [Entry], name: &[u8]) -> Option<&'a Entry>
-    ensures { option_copied result ≡ named name.now entries.now }
-{
-    entries.iter().find(|entry| is_named(entry, name))
+    let found = remote.find(alloc, directory, name)?;
+    Ok(found)
 }
 
 fn root(alloc: Global) -> Entry
@@ -77,17 +40,17 @@ fn root(alloc: Global) -> Entry
     }
 }
 
-/// The entry of this name in a directory.
+/// What stands under this name in what may be a directory.
 fn step<R: Remote>(alloc: Global, remote: &mut R, at: &Entry, name: &[u8]) -> Result<Entry, Stop>
     ensures { DoesPart (λ f. in_dir at.now (listing at.now.rid (λ es. if_found f (named name.now es)))) (λ e. e) (R.told remote.old) result (R.told remote.new) }
 {
     if !at.dir {
         return Err(Stop::Refused(Code::NotDirectory));
     }
-    let entries = listing(alloc, remote, at.rid)?;
-    match child(entries.as_slice(), name) {
+    let found = child(alloc, remote, at.rid, name)?;
+    match found {
         None => Err(Stop::Refused(Code::NotFound)),
-        Some(entry) => Ok(entry.copy()?),
+        Some(entry) => Ok(entry),
     }
 }
 

@@ -50,7 +50,7 @@ fn end(alloc: Global, next: &mut u32, stop: Stop) -> Result<Answer, OutOfMemory>
     }
 }
 
-/// Does a peer event: one List for each directory on the way of its paths, and then one request, of a `peer stat` none.
+/// Does a peer event: one look-up in each directory on the way of its paths, and then one request, of a `peer stat` none.
 /// `next` is the number of the next token of a peer, from 1 and below 4,294,967,295, and bytes to be put are fewer than
 /// 4,294,967,296. A path is refused as TooDeep where it has more than 32 names, as BadPath where one of them is no name
 /// and, but for a `peer stat`, where it is the root's; then from the left as NotDirectory or NotFound at the first name

@@ -7,7 +7,7 @@ ghost use Rattle.cf_model.specs.Numbers.{no_rid, no_version};
 ghost use Rattle.cf_model.specs.Peers.{put_over, request_with};
 ghost use Rattle.cf_remote.specs.LookUps.{EventHasRoom, PlanHasRoom, Plans, PlansAt};
 
-use crate::paths::{below_root, child, listing, look_up, parent};
+use crate::paths::{below_root, child, look_up, parent};
 use crate::remotes::Remote;
 use crate::stops::{Plan, Stop};
 use cf_base::{Blob, Code, Entry, PeerEvent, Request, Rid, Text, Token, Version};
@@ -69,15 +69,15 @@ fn plan_put<R: Remote>(
     ensures room { IfOk result PlanHasRoom }
 {
     let place = parent(alloc, remote, path.as_str())?;
-    let entries = listing(alloc, remote, place.0.rid)?;
     let name = place.1.as_bytes();
-    match child(entries.as_slice(), name) {
+    let found = child(alloc, remote, place.0.rid, name)?;
+    match found {
         None => plan_file(alloc, token, place.0.rid, name, bytes),
-        Some(entry) => plan_version(alloc, token, entry, bytes),
+        Some(entry) => plan_version(alloc, token, &entry, bytes),
     }
 }
 
-// The directory is listed, though nothing of it is needed.
+// The name is looked up, though nothing of it is needed.
 fn plan_dir<R: Remote>(
     alloc: Global,
     remote: &mut R,
@@ -89,8 +89,9 @@ fn plan_dir<R: Remote>(
 {
     let place = parent(alloc, remote, path.as_str())?;
     let parent = place.0.rid;
-    listing(alloc, remote, parent)?;
-    let name = Blob::from_slice(alloc, place.1.as_bytes())?;
+    let name = place.1.as_bytes();
+    child(alloc, remote, parent, name)?;
+    let name = Blob::from_slice(alloc, name)?;
     Ok(Plan::Send(Request::MakeDir {
         token,
         parent,

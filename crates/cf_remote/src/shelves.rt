@@ -1,14 +1,16 @@
 //! The items of the remote.
 
-ghost use Rattle.std.specs.Prelude.{◌≡◌, ◌+◌, ◌≤◌, ◌<◌, ◌^◌, ◌-◌, ◌&&◌, ◌==◌, ◌++◌, ◌∷◌, [], ℕ, List, All, IfOk, IfSome, OnOk, OnErr, None, Some, length, filter, map, not, true, false, count_by, sum_by, option_copied};
+ghost use Rattle.std.specs.Prelude.{◌≡◌, ◌+◌, ◌≤◌, ◌<◌, ◌^◌, ◌-◌, ◌&&◌, ◌==◌, ◌++◌, ◌∷◌, [], ℕ, List, All, IfOk, IfSome, OnOk, OnErr, None, Some, length, filter, map, not, true, false, count_by, sum_by, option_copied, option_map};
 ghost use Rattle.std.specs.List.{list_any};
+ghost use Rattle.cf_model.specs.Peers.{named};
 ghost use Rattle.cf_model.specs.Store.{RecordedDone, Stored, at_rid, empty_remote, entry_told, latest, recorded_at, stored_at, trimmed};
 ghost use Rattle.cf_model.specs.Words.{comes_before, part, same, says, sorted};
 ghost use Rattle.cf_remote.specs.Depths.{deepest, depth_in, is_under_in};
 ghost use Rattle.cf_remote.specs.Feeds.{feed_in};
 ghost use Rattle.cf_remote.specs.Held.{grown, held_len};
+ghost use Rattle.cf_remote.specs.Listable.{AreApart};
 
-use crate::by_name::{has_child, is_taken, listing};
+use crate::by_name::{child, has_child, is_taken, listing};
 use crate::changes::{add_item, end_item, move_item, trim_all};
 use crate::depths::{depth_of, height_of, is_under};
 use crate::feeds::feed;
@@ -49,6 +51,13 @@ impl Shelf {
         ensures small { result < 2 ^ 63 }
     {
         self.live
+    }
+
+    /// How many items there are, dead ones too.
+    pub(crate) fn len(&self) -> usize
+        ensures { result ≡ length self.now }
+    {
+        self.items.len()
     }
 
     /// How many bytes the versions have that are held.
@@ -99,6 +108,14 @@ impl Shelf {
     {
         let entries = listing(self.alloc, &self.items, &self.by_name, rid)?;
         Ok(Sequence::from_vec(entries))
+    }
+
+    /// The live child of a directory that has the name, which no other of them has.
+    pub(crate) fn child(&self, rid: Rid, name: &[u8]) -> Option<&StoredItem>
+        ensures found { option_map entry_told (option_copied result) ≡ named name.now (sorted (λ e f. comes_before e.name f.name) (map entry_told (filter (λ s. s.live && (s.parent.0 == rid.0)) self.now))) }
+        ensures apart { AreApart (sorted (λ e f. comes_before e.name f.name) (map entry_told (filter (λ s. s.live && (s.parent.0 == rid.0)) self.now))) }
+    {
+        child(&self.items, &self.by_name, rid, name)
     }
 
     /// What is told of all that changed above the clock.

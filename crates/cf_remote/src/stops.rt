@@ -4,7 +4,7 @@ ghost use Rattle.std.specs.Prelude.{◌≡◌};
 ghost use Rattle.cf_remote.specs.Stops.{stop_of};
 ghost use Rattle.cf_remote.specs.declared.stops.Stop.TheVariants as stop;
 
-use crate::ask_errors::AskError;
+use crate::find_errors::FindError;
 use cf_base::{Code, Reply, Request, Rid, Version};
 
 /// Why the look-up of a peer event ends it.
@@ -33,13 +33,14 @@ impl From<cf_base::OutOfMemory> for Stop {
     }
 }
 
-impl From<AskError> for Stop {
+impl From<FindError> for Stop {
     ghost from_gives = { λ a e. e ≡ stop_of a };
 
-    fn from(e: AskError) -> Stop {
+    fn from(e: FindError) -> Stop {
         match e {
-            AskError::Fault => Stop::Fault,
-            AskError::OutOfMemory => Stop::OutOfMemory,
+            FindError::Fault => Stop::Fault,
+            FindError::Stray(reply) => Stop::Stray(reply),
+            FindError::OutOfMemory => Stop::OutOfMemory,
         }
     }
 }

@@ -4,9 +4,10 @@ ghost use Rattle.std.specs.Prelude.{◌≡◌, [], Some, IfOk};
 ghost use Rattle.cf_model.specs.Store.{empty_remote};
 
 use crate::ask_errors::AskError;
+use crate::find_errors::FindError;
 use crate::remotes::Remote;
 use crate::stores::Store;
-use cf_base::{OutOfMemory, Reply, Request};
+use cf_base::{Entry, Key, OutOfMemory, Reply, Request, Rid};
 use std::alloc::Global;
 use std::marker::Model;
 
@@ -18,11 +19,14 @@ pub struct StoreRemote {
 }
 
 impl Model for StoreRemote {
+    ghost use Rattle.cf_remote.specs.Listable.{AreListable};
     ghost use Rattle.cf_remote.specs.Told.{Asked};
 
     ghost Value = { Asked };
 
     ghost view = { λ r. record { held = r.store; asks = r.asks } };
+
+    ghost invariant = { λ r. AreListable r.store };
 }
 
 impl StoreRemote {
@@ -42,5 +46,25 @@ impl Remote for StoreRemote {
         let reply = self.store.step(q)?;
         self.asks = self.asks.saturating_add(1);
         Ok(reply)
+    }
+
+    /// By a binary search. It makes no listing.
+    fn find(
+        &mut self,
+        _alloc: Global,
+        directory: Rid,
+        name: &[u8],
+    ) -> Result<Option<Entry>, FindError> {
+        if !self.store.is_listed(directory) {
+            self.asks = self.asks.saturating_add(1);
+            let key = Key {
+                epoch: 0,
+                number: 0,
+            };
+            return Err(FindError::Stray(Reply::Missing { key }));
+        }
+        let found = self.store.find(directory, name)?;
+        self.asks = self.asks.saturating_add(1);
+        Ok(found)
     }
 }

@@ -3,7 +3,9 @@
 ghost use Rattle.std.specs.Prelude.{◌≡◌, ◌<◌, ◌^◌, IfOk, OnOk, OnErr, None, length, option_map};
 ghost use Rattle.cf_base.specs.declared.messages.Reply.TheVariants as reply;
 ghost use Rattle.cf_base.specs.declared.messages.Request.TheVariants as request;
-ghost use Rattle.cf_model.specs.Store.{RecordedVoid, as_recorded, empty_remote, feed_of, keep_last, recorded_at, remote_step, settle, with_token};
+ghost use Rattle.cf_model.specs.Peers.{named};
+ghost use Rattle.cf_model.specs.Store.{RecordedVoid, as_recorded, empty_remote, feed_of, is_live_dir, keep_last, listing_of, recorded_at, remote_step, settle, with_token};
+ghost use Rattle.cf_remote.specs.Listable.{AreApart};
 ghost use Rattle.cf_remote.specs.Stores.{Gives};
 ghost use Rattle.cf_wire.specs.Spelled.{HasRoom, ReplyHasRoom};
 
@@ -119,6 +121,28 @@ impl Store {
         }
         let entries = with_room(self.shelf.listing(rid)?)?;
         Ok(Reply::Listing { key, entries })
+    }
+
+    /// The item is a live directory, so that a List of it is answered by a listing.
+    pub(crate) fn is_listed(&self, rid: Rid) -> bool
+        ensures { result ≡ is_live_dir self.now rid }
+    {
+        is_live_dir(&self.shelf, rid)
+    }
+
+    /// The entry of a name in the listing of a directory, where a reply has room for a listing. By a binary search.
+    pub(crate) fn find(&self, rid: Rid, name: &[u8]) -> Result<Option<Entry>, OutOfMemory>
+        ensures found { IfOk result (λ e. e ≡ named name.now (listing_of self.now rid)) }
+        ensures room { IfOk result (λ _. length self.now.items < 2 ^ 32) }
+        ensures apart { IfOk result (λ _. AreApart (listing_of self.now rid)) }
+    {
+        if self.shelf.len() > u32::MAX as usize {
+            return Err(OutOfMemory);
+        }
+        match self.shelf.child(rid, name) {
+            None => Ok(None),
+            Some(item) => Ok(Some(item.entry()?)),
+        }
     }
 
     fn fetch(
