@@ -1,19 +1,15 @@
 -- Replies that come too late, and those that do not.
-use Rattle.std.specs.Prelude.{ℕ, true, false, Some, None, ◌≡◌, ◌≢◌, ◌<◌, ◌⊎◌}
+use Rattle.std.specs.Prelude.{true, Some, None, ◌≡◌, ◌≢◌, ◌<◌}
 use Rattle.cf_base.specs.declared.answers.Answer.{Answer}
 use Rattle.cf_base.specs.declared.answers.Shown.TheVariants as shown
 use Rattle.cf_base.specs.declared.codes.Code.TheVariants as code
 use Rattle.cf_base.specs.declared.events.EngineEvent.TheVariants as engine
 use Rattle.cf_base.specs.declared.events.Event.{Event}
 use Rattle.cf_base.specs.declared.events.Event.TheVariants as event
-use Rattle.cf_base.specs.declared.ids.Rid.{Rid}
 use Rattle.cf_base.specs.declared.messages.Reply.{Reply}
 use Rattle.cf_base.specs.declared.messages.Reply.TheVariants as reply
 use Rattle.cf_base.specs.declared.notices.Frame.TheVariants as frame
-use Rattle.cf_model.specs.Books.{QueueEntry}
-use Rattle.cf_model.specs.Fits.{is_known}
-use Rattle.cf_model.specs.Messages.{entry_live, known_now, message_at}
-use Rattle.cf_model.specs.PushReplies.{is_new_entry}
+use Rattle.cf_model.specs.Messages.{entry_live, message_at}
 use Rattle.cf_model.specs.State.{On, State}
 
 -- Nothing waits for the reply any more: it is to a feed, a listing or a fetch that was asked for in an earlier epoch, or to an
@@ -46,13 +42,9 @@ IsNotDone s _ = ⊥
 abbrev pub NotDoneIsTaken : State → Event → Answer → Type 0
 NotDoneIsTaken s e a = (r : Reply) → Delivers s e r → IsNotDone s r → a.shown ≢ shown.Refused code.Stale
 
--- the upload made an item of the remote, below its root, that no item here is
-abbrev pub MakesNew : State → QueueEntry → Rid → Type 0
-MakesNew s e rid = (is_new_entry e ≡ true) × (1 < rid.0) × (is_known (known_now s) rid ≡ false)
-
--- an upload that is on its way was done: to the item of the remote that it names, or it made one
+-- an upload that is on its way was done
 abbrev pub IsDone : State → Reply → Type 0
-IsDone s (reply.Done token rid version) = (e : QueueEntry) × (entry_live s token ≡ Some e) × ((e.rid.0 ≢ 0) ⊎ MakesNew s e rid)
+IsDone s (reply.Done token rid version) = entry_live s token ≢ None
 IsDone s _ = ⊥
 
 -- Such a reply is taken too.

@@ -27,7 +27,6 @@ use Rattle.cf_base.specs.declared.waits.End.TheVariants as end
 use Rattle.cf_base.specs.declared.waits.WaitKind.TheVariants as wait_kind
 use Rattle.cf_model.specs.Books.{PutFile, QueueEntry, no_book, opened_of}
 use Rattle.cf_model.specs.Contents.{base_named}
-use Rattle.cf_model.specs.Fits.{is_known}
 use Rattle.cf_model.specs.Identities.{content, identity_of}
 use Rattle.cf_model.specs.Items.{Item, item_of, root}
 use Rattle.cf_model.specs.Kept.{heirs_of}
@@ -325,13 +324,10 @@ made_up = refl
 made_joined : uploaded_new.filter.connected ≡ true
 made_joined = refl
 
-unknown_so : is_known (known_now uploaded_new) its_file ≡ false
-unknown_so = refl
-
 pub a_done_upload_turned_away : DoneIsTaken uploaded_new (deliver 3) turned_away → ⊥
-a_done_upload_turned_away h = h its_done (3, 2, refl, done_so, made_up, made_joined) (new_upload, on_its_way, inr (refl, below, unknown_so)) refl where
-  below : 1 < 2
-  below = omega arith
+a_done_upload_turned_away h = h its_done (3, 2, refl, done_so, made_up, made_joined) live refl where
+  live : ◌≡◌ {A = Option QueueEntry} (entry_live uploaded_new first_token) None → ⊥
+  live e = let y : ◌≡◌ {A = Option QueueEntry} (Some new_upload) None = sym on_its_way ∙ e in cc
 
 pub another_byte_read : ReadsAtOnce written.link.remote written get_f read_wrongly → ⊥
 another_byte_read h = wrong (h (file_of written) (span_of 0 1) (refl, refl) refl refl refl (λ e. let y : ◌≡◌ {A = Shown} (shown.Ended (end.Data (codes "b"))) (shown.Refused code.Device) = e in cc)) where

@@ -10,15 +10,16 @@ use Rattle.cf_base.specs.declared.messages.Request.{Request}
 use Rattle.cf_base.specs.declared.messages.Request.TheVariants as request
 use Rattle.cf_base.specs.declared.messages.Why.{Why}
 use Rattle.cf_base.specs.declared.messages.Why.TheVariants as why
-use Rattle.cf_base.specs.declared.limits.TheConstants.{MOST_FILE_BYTES}
+use Rattle.cf_base.specs.declared.limits.TheConstants.{MOST_FILE_BYTES, MOST_PATH_NAMES}
 use Rattle.cf_model.specs.Books.{Action, MakeDir, MoveItem, PutFile, QueueEntry, RemoveItem}
 use Rattle.cf_model.specs.Growth.{CountsFrom, IsCounted}
 use Rattle.cf_model.specs.Numbers.{no_version, root_rid, same_key}
-use Rattle.cf_model.specs.Store.{Held, Mutation, Recorded, RecordedDone, RecordedVoid, Stored, at_rid, decide, is_live, is_live_file, keep_last, latest_at, make_dir, move_to, mutate, next_rid, passes_bytes, put_new, put_version, recorded_at, remote_step, remove_at, settle, stored_at, with_dead, with_new, with_token, with_version, why_remove}
+use Rattle.cf_model.specs.Store.{depth_of, height_of, is_taken, is_under, Held, Mutation, Recorded, RecordedDone, RecordedVoid, Stored, at_rid, decide, is_live, is_live_dir, is_live_file, keep_last, latest_at, make_dir, move_to, mutate, next_rid, passes_bytes, put_new, put_version, recorded_at, remote_step, remove_at, settle, stored_at, with_dead, with_new, with_token, with_version, why_move, why_remove, with_place}
+use Rattle.cf_model.specs.Texts.{is_name}
 use Rattle.cf_model.specs.Words.{first_of, says}
 use Rattle.cf_model.proofs.StoreLaws.{recorded-first}
 use Rattle.cf_model_laws.specs.Invariant.{Asks, Carries, DidBy, IsIn}
-use Rattle.cf_model_laws.proofs.RemoteGrowth.{dead_stays, in_version, kind_stays, step_stays}
+use Rattle.cf_model_laws.proofs.RemoteGrowth.{any_stays, dead_stays, in_at, in_version, kind_stays, step_stays}
 use Rattle.cf_model_laws.proofs.RemoteSteps.{mutated_other, none_some, other_first, same_token}
 use Rattle.cf_model_laws.proofs.RightItems.{no_way, no_way_back}
 use Rattle.cf_model_laws.proofs.SoundSettles.{right_true}
@@ -43,7 +44,7 @@ carries_asks e (request.Fetch key rid version start len) h = tt
 pub did_stays : (a : Action) (held : Held) (q : Request) (asked rid : Rid) → DidBy a held.items asked rid → DidBy a (remote_step held q).1.items asked rid
 did_stays PutFile held q asked rid h = (step_stays (λ s. s.directory ≡ false) (kind_stays false) held q rid h.0, h.1)
 did_stays MakeDir held q asked rid h = step_stays (λ s. s.directory ≡ true) (kind_stays true) held q rid h
-did_stays MoveItem held q asked rid h = h
+did_stays MoveItem held q asked rid h = (h.0, step_stays (λ s. Unit {0}) any_stays held q rid h.1)
 did_stays RemoveItem held q asked rid h = (h.0, step_stays (λ s. s.live ≡ false) dead_stays held q rid h.1)
 
 -- what is done now
@@ -93,17 +94,21 @@ new_in held parent name d versions counted =
       swap n = omega arith
 
 -- the first refusal does not hold
-first_none : (b : Bool) (w : Why) (ts : List (Bool × Why)) → first_of ((b, w) ∷ ts) ≡ None → b ≡ false
+pub first_none : (b : Bool) (w : Why) (ts : List (Bool × Why)) → first_of ((b, w) ∷ ts) ≡ None → b ≡ false
 first_none true w ts e = none_some w (sym e)
 first_none false w ts e = refl
 
-not_false : (b : Bool) → not b ≡ false → b ≡ true
+pub not_false : (b : Bool) → not b ≡ false → b ≡ true
 not_false true e = refl
 not_false false e = no_way_back e
 
 or_false : (a b : Bool) → (a || b) ≡ false → b ≡ false
 or_false true b e = no_way_back e
 or_false false b e = e
+
+or_first : (a b : Bool) → (a || b) ≡ false → a ≡ false
+or_first true b e = e
+or_first false b e = refl
 
 -- a live item of the kind that is looked for
 said : (Q : Stored → Type 0) (f : Stored → Bool) (items : List Stored) (rid : Rid) → ((s : Stored) → f s ≡ true → Q s) → says f (stored_at items rid) ≡ true → IsIn Q items rid
@@ -162,13 +167,21 @@ did_new held (request.MakeDir t parent name) e counted none c = by (same_key t.0
       (mutated_did MakeDir held t (make_dir held parent name) e.rid (recorded_at held.tokens t) free (λ _. new_in held parent name true [] counted)))
   by false z = unrecorded e.action held (remote_step held (request.MakeDir t parent name)).1 e.token e.rid none (mutated_other held t e.token (make_dir held parent name) (recorded_at held.tokens t) z)
 did_new held (request.Move t rid parent name) e counted none c = by (same_key t.0 e.token.0) refl where
+  moved : why_move held rid parent name ≡ None → IsIn (λ s. Unit {0}) (with_place held rid parent name) rid
+  moved w =
+      in_at (λ s. Unit {0}) rid (λ s. record s { parent = parent; name = name; changed = held.clock + 1 }) (λ s. refl) (λ s j. tt) held.items rid
+      (said (λ s. Unit {0}) (λ s. s.live) held.items rid (λ s _. tt)
+      (not_false (is_live held rid) (or_false (rid.0 == 1) (not (is_live held rid)) (or_first ((rid.0 == 1) || not (is_live held rid)) (not (is_live_dir held parent))
+      (first_none ((rid.0 == 1) || not (is_live held rid) || not (is_live_dir held parent)) why.NotThere
+      ((not (is_name name), why.BadName) ∷ ((parent.0 == rid.0) || is_under held parent rid, why.Loop) ∷ (nat_lt MOST_PATH_NAMES (depth_of held parent + 1 + height_of held rid), why.TooDeep) ∷ (is_taken held parent name rid, why.NameTaken) ∷ []) w)))))
+
   by : (b : Bool) → same_key t.0 e.token.0 ≡ b → Done e.action e.token e.rid (remote_step held (request.Move t rid parent name)).1
   by true z =
       let same : e.token ≡ t = sym (same_token t e.token z) in
       let free : recorded_at held.tokens t ≡ None = subst (λ (x : Token). recorded_at held.tokens x ≡ None) same none in
       subst (λ (a : Action). Done a e.token e.rid (remote_step held (request.Move t rid parent name)).1) (sym (c z).0)
       (subst (λ (x : Token). Done MoveItem x e.rid (remote_step held (request.Move t rid parent name)).1) (sym same)
-      (mutated_did MoveItem held t (move_to held rid parent name) e.rid (recorded_at held.tokens t) free (λ _. (c z).1)))
+      (mutated_did MoveItem held t (move_to held rid parent name) e.rid (recorded_at held.tokens t) free (λ w. ((c z).1, moved w))))
   by false z = unrecorded e.action held (remote_step held (request.Move t rid parent name)).1 e.token e.rid none (mutated_other held t e.token (move_to held rid parent name) (recorded_at held.tokens t) z)
 did_new held (request.Remove t rid expect) e counted none c = by (same_key t.0 e.token.0) refl where
   gone : why_remove held rid expect ≡ None → IsIn (λ s. s.live ≡ false) (with_dead held rid) rid

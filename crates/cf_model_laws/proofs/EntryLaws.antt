@@ -67,7 +67,7 @@ dir_none t = (refl, refl)
 pub none_none : HasNone no_identity
 none_none = (refl, refl)
 
-target_read : (t b : Rid) (v : Version) → t.0 < 18446744073709551616 → ◌≡◌ {A = Rid} (target_in (identity_of t b v)) t
+pub target_read : (t b : Rid) (v : Version) → t.0 < 18446744073709551616 → ◌≡◌ {A = Rid} (target_in (identity_of t b v)) t
 target_read t b v h = ap rid_at (read_back t.0 h)
 
 aimed_at : (r : Held) (d : Bool) (t b : Rid) (v : Version) → t.0 < 18446744073709551616 → IsOfKind r t d → (t.0 ≡ 1 → ⊥) → (d ≡ false → b.0 ≡ t.0) → IsAimed r d (identity_of t b v)

@@ -36,8 +36,8 @@ use Rattle.cf_model.specs.Store.{Held}
 use Rattle.cf_model.specs.Trees.{Keeps}
 use Rattle.cf_model.specs.Words.{is_empty, number_of, same}
 use Rattle.cf_model.proofs.TreeLaws.{keeps_bind, keeps_mapped}
-use Rattle.cf_model_laws.specs.Fitting.{Fits, IsCopied, IsVacant, NamesWell, NoEntry, NoMove}
-use Rattle.cf_model_laws.specs.Invariant.{HasEntry, InOrder, IsRight, SameBase, version_in, waits_on}
+use Rattle.cf_model_laws.specs.Fitting.{Fits, IsCopied, IsVacant, NamesWell, NoEntry, NoMove, AimsFree}
+use Rattle.cf_model_laws.specs.Invariant.{HasEntry, InOrder, IsRight, SameBase, version_in, waits_on, IsUnmade, target_in}
 use Rattle.cf_model_laws.specs.Premises.{IsFair}
 use Rattle.cf_model_laws.proofs.EntryLaws.{dir_identity, dir_none, entry_dir_well, file_wants, make_fits, none_none}
 use Rattle.cf_model_laws.proofs.FitEntries.{kind_stays}
@@ -103,6 +103,10 @@ fair_now l w es s h fair = subst IsFair h.link fair
 pub unmoved : (l : Link) (w : Filter) (es : List QueueEntry) (P : State → Type 0) → Feeds l w es P → (item : ItemId) (s : State) → P s → IsFair s.link → IsUnmoved item s
 unmoved l w es P feeds item s h fair i e = subst (λ (qs : List QueueEntry). NoMove qs item) (sym ((feeds.fed s h).entries ∙ feeds.none (fair_now l w es s (feeds.fed s h) fair))) tt
 
+-- so the remote made nothing for one
+pub none_made : (l : Link) (w : Filter) (es : List QueueEntry) (P : State → Type 0) → Feeds l w es P → (identity : List ℕ) (s : State) → P s → IsFair s.link → AimsFree s.link.remote s.filter.volume.book.entries identity
+none_made l w es P feeds identity s h fair = inr (subst (λ (qs : List QueueEntry). IsUnmade s.link.remote qs (target_in identity)) (sym ((feeds.fed s h).entries ∙ feeds.none (fair_now l w es s (feeds.fed s h) fair))) tt)
+
 -- a path seen after another change than a Mark, and then a Mark
 seen_and_marked : (l : Link) (w : Filter) (es : List QueueEntry) (P : State → Type 0) → Feeds l w es P → (p : SeenPath) (s : State) → (IsFair s.link → KeepsPlaced (with_seen p) s) → P s → Keeps P (and_then (try_seen p) (try_mark_now p.item) s)
 seen_and_marked l w es P feeds p s placed h =
@@ -133,10 +137,13 @@ untargeted_well r d p identity h = record {
 untarget_fits : (l : Link) (w : Filter) (es : List QueueEntry) (P : State → Type 0) → Feeds l w es P → (i : Item) (s : State) → P s → (IsFair s.link → Each i.id (λ j. j.identity ≡ i.identity) (items_now s)) → IsFair s.link
     → Fits s.link.remote s.filter (change.Rebase i.id (untargeted i.identity) (base_of i) no_usn)
 untarget_fits l w es P feeds i s h same fair = (
-  each_both i.id (λ j. j.identity ≡ i.identity) (IsRight s.link.remote (next_number s.filter.volume)) (λ j. NamesWell s.link.remote j.directory j.placeholder (untargeted i.identity))
-      (λ j e k. subst (λ (x : List ℕ). NamesWell s.link.remote j.directory j.placeholder (untargeted x)) e (untargeted_well s.link.remote j.directory j.placeholder j.identity (record { based = k.based; aimed = k.aimed; bare = k.bare; plain = k.plain })))
-      (items_now s) (same fair) (right_now P feeds.steps s h fair i.id),
-  inl (refl, each_weaker i.id (λ j. j.identity ≡ i.identity) (λ j. SameBase (untargeted i.identity) j.identity) (λ j e. subst (λ (x : List ℕ). SameBase (untargeted i.identity) x) (sym e) (untargeted_same i.identity)) (items_now s) (same fair)),
+  (
+    each_both i.id (λ j. j.identity ≡ i.identity) (IsRight s.link.remote (next_number s.filter.volume)) (λ j. NamesWell s.link.remote j.directory j.placeholder (untargeted i.identity))
+        (λ j e k. subst (λ (x : List ℕ). NamesWell s.link.remote j.directory j.placeholder (untargeted x)) e (untargeted_well s.link.remote j.directory j.placeholder j.identity (record { based = k.based; aimed = k.aimed; bare = k.bare; plain = k.plain })))
+        (items_now s) (same fair) (right_now P feeds.steps s h fair i.id),
+    inl (refl, each_weaker i.id (λ j. j.identity ≡ i.identity) (λ j. SameBase (untargeted i.identity) j.identity) (λ j e. subst (λ (x : List ℕ). SameBase (untargeted i.identity) x) (sym e) (untargeted_same i.identity)) (items_now s) (same fair)),
+  ),
+  inl (no_target i.identity),
 )
 
 untarget_at : (l : Link) (w : Filter) (es : List QueueEntry) (P : State → Type 0) → Feeds l w es P → (i : Item) (s : State) → P s → (IsFair s.link → item_of (items_now s) i.id ≡ Some i) → Keeps P (untarget i s)
@@ -235,12 +242,15 @@ adopt_in l w es P feeds e i told dir dirs = record {
     rebase_fits : (t : State) → P t → IsFair t.link → Fits t.link.remote t.filter (change.Rebase i.id (entry_identity e) 0 no_usn)
     rebase_fits t j fair =
         subst (λ (x : List ℕ). Fits t.link.remote t.filter (change.Rebase i.id x 0 no_usn)) (sym (dir_identity e dir)) (
-          each_weaker i.id (λ k. k.directory ≡ true) (λ k. NamesWell t.link.remote k.directory k.placeholder (identity_of e.rid no_rid no_version)) (λ k d. subst (λ (b : Bool). NamesWell t.link.remote b k.placeholder (identity_of e.rid no_rid no_version)) (sym d) (entry_dir_well t.link.remote e k.placeholder fair.1 (told_at t j fair) told.low dir)) (items_now t) (dirs t j fair).1,
-          inl (
-            refl,
-            each_both i.id (λ k. k.directory ≡ true) (IsRight t.link.remote (next_number t.filter.volume)) (λ k. SameBase (identity_of e.rid no_rid no_version) k.identity)
-                (λ k d r. both_none (identity_of e.rid no_rid no_version) k.identity (dir_none e.rid) (r.bare d)) (items_now t) (dirs t j fair).1 (right_now P feeds.steps t j fair i.id),
+          (
+            each_weaker i.id (λ k. k.directory ≡ true) (λ k. NamesWell t.link.remote k.directory k.placeholder (identity_of e.rid no_rid no_version)) (λ k d. subst (λ (b : Bool). NamesWell t.link.remote b k.placeholder (identity_of e.rid no_rid no_version)) (sym d) (entry_dir_well t.link.remote e k.placeholder fair.1 (told_at t j fair) told.low dir)) (items_now t) (dirs t j fair).1,
+            inl (
+              refl,
+              each_both i.id (λ k. k.directory ≡ true) (IsRight t.link.remote (next_number t.filter.volume)) (λ k. SameBase (identity_of e.rid no_rid no_version) k.identity)
+                  (λ k d r. both_none (identity_of e.rid no_rid no_version) k.identity (dir_none e.rid) (r.bare d)) (items_now t) (dirs t j fair).1 (right_now P feeds.steps t j fair i.id),
+            ),
           ),
+          none_made l w es P feeds (identity_of e.rid no_rid no_version) t j fair,
         )
 
 adopt_at : (l : Link) (w : Filter) (es : List QueueEntry) (P : State → Type 0) → Feeds l w es P → (e : Entry) (i : Item) (s : State) → IsTold l e → e.dir ≡ true → i.directory ≡ true → P s → (IsFair s.link → item_of (items_now s) i.id ≡ Some i) → Keeps P (adopt e i s)
@@ -272,7 +282,7 @@ made_stands e p s t led order some parent =
 make_after_at : (l : Link) (w : Filter) (es : List QueueEntry) (P : State → Type 0) → Feeds l w es P → (e : Entry) (p : Item) (s : State) → IsTold l e → nat_lt 0 e.parent.0 ≡ true → ParentAt p.id e.parent s → P s → Keeps P (make_after e p s)
 make_after_at l w es P feeds e p s told some parent h =
     and_then_at Whichever P feeds.steps (make_of s e p) (and_then (try_seen (seen_entry s.filter.volume.next_item e)) (try_mark_now s.filter.volume.next_item)) s tt (λ id k. k)
-    (λ fair. let m = make_fits s.link.remote s.filter.policy e fair.1 (subst (λ (k : Link). HasEntry k.remote e) (sym (feeds.fed s h).link) (told.has (fair_now l w es s (feeds.fed s h) fair))) told.low in (refl, m.0, m.1)) h
+    (λ fair. let m = make_fits s.link.remote s.filter.policy e fair.1 (subst (λ (k : Link). HasEntry k.remote e) (sym (feeds.fed s h).link) (told.has (fair_now l w es s (feeds.fed s h) fair))) told.low in ((refl, m.0, m.1), none_made l w es P feeds (entry_identity e) s h fair)) h
     (λ t j led. seen_and_marked l w es P feeds (seen_entry s.filter.volume.next_item e) t
     (λ fair item m. sees_still (seen_entry s.filter.volume.next_item e) (items_now t) (book_now t) item
     (λ own. subst (λ (x : ItemId). StandsAtPath (items_now t) x (seen_entry s.filter.volume.next_item e)) (same_item s.filter.volume.next_item item (eqb-true s.filter.volume.next_item.0 item.0 own)) (stands t led (subst IsFair led.link fair)))) j) where
@@ -355,12 +365,15 @@ take_in l w es P feeds e i told file free idle files s h there = by (is_dirty i)
   fits t j clean fair =
       let fair0 : IsFair l = fair_now l w es t (feeds.fed t j) fair in
       let wants = file_wants t.link.remote e fair.1 (subst (λ (k : Link). HasEntry k.remote e) (sym (feeds.fed t j).link) (told.has fair0)) told.low file in (
-        each_weaker i.id (λ k. (k.directory ≡ false) × (k.placeholder ≡ true)) (λ k. (length (base_named t.link.remote (entry_identity e)) ≡ e.len) × NamesWell t.link.remote k.directory k.placeholder (entry_identity e))
-            (λ k d. (wants.0, subst (λ (b : Bool). NamesWell t.link.remote b k.placeholder (entry_identity e)) (sym d.0) (subst (λ (b : Bool). NamesWell t.link.remote false b (entry_identity e)) (sym d.1) wants.1))) (items_now t) (files t j fair).1,
-        subst (λ (qs : List QueueEntry). NoEntry qs i.id) (sym ((feeds.fed t j).entries ∙ feeds.none fair0)) tt,
-        subst (λ (v : Waiting). waits_on i.id v.waits ≡ false) (sym (feeds.fed t j).waiting) (free fair0),
-        clean fair,
-        idle_later l w es i.id t (feeds.fed t j) (idle fair0),
+        (
+          each_weaker i.id (λ k. (k.directory ≡ false) × (k.placeholder ≡ true)) (λ k. (length (base_named t.link.remote (entry_identity e)) ≡ e.len) × NamesWell t.link.remote k.directory k.placeholder (entry_identity e))
+              (λ k d. (wants.0, subst (λ (b : Bool). NamesWell t.link.remote b k.placeholder (entry_identity e)) (sym d.0) (subst (λ (b : Bool). NamesWell t.link.remote false b (entry_identity e)) (sym d.1) wants.1))) (items_now t) (files t j fair).1,
+          subst (λ (qs : List QueueEntry). NoEntry qs i.id) (sym ((feeds.fed t j).entries ∙ feeds.none fair0)) tt,
+          subst (λ (v : Waiting). waits_on i.id v.waits ≡ false) (sym (feeds.fed t j).waiting) (free fair0),
+          clean fair,
+          idle_later l w es i.id t (feeds.fed t j) (idle fair0),
+        ),
+        none_made l w es P feeds (entry_identity e) t j fair,
       )
 
   by : (b : Bool) → is_dirty i ≡ b → Keeps P (and_then (only_if b (copy_off i)) (try_change (change.Take i.id (entry_identity e) e.len)) s)

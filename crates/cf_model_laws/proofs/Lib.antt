@@ -14,6 +14,7 @@ pub mod ListedLocals
 pub mod LocalLaws
 pub mod LocalSteps
 pub mod LoggedGuarded
+pub mod MadeUploads
 pub mod MarksGuarded
 pub mod MessagesGuarded
 pub mod NamedItems

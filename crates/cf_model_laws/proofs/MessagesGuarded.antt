@@ -1,7 +1,7 @@
 -- Messages, and what their replies do, in `replay`.
-use Rattle.std.proofs.Common.{◌≡◌, ◌+◌, ℕ, zero, suc, Bool, true, false, List, [], ◌∷◌, ◌++◌, refl, sym, ◌∙◌, ap, subst, arith, length, ◌⊎◌, inl, inr}
+use Rattle.std.proofs.Common.{is_some, ◌≡◌, ◌+◌, ℕ, zero, suc, Bool, true, false, List, [], ◌∷◌, ◌++◌, refl, sym, ◌∙◌, ap, subst, arith, length, ◌⊎◌, inl, inr}
 use Rattle.std.specs.Prelude.{Option, Some, None, cond, not, take, drop, unwrap_or, slice_get, nat_le, nat_lt, ◌&&◌, ◌||◌, ◌==◌}
-use Rattle.std.specs.List.{list_all}
+use Rattle.std.specs.List.{list_all, list_any}
 use Rattle.std.proofs.lemmas.Bool.{eqb-true}
 use Rattle.std.proofs.lemmas.List.{length-append}
 use Rattle.cf_base.specs.declared.ids.ItemId.{ItemId}
@@ -25,7 +25,7 @@ use Rattle.cf_model.specs.Items.{Item}
 use Rattle.cf_model.specs.Logs.{items_of}
 use Rattle.cf_model.specs.Messages.{act_on, act_unless, after_ask, after_post, answered, ask, come, come_if, come_now, counted, distrusted, entry_live, fault_line, if_kept, is_latest_round, is_old, is_stale, known_now, no_bytes, no_number, post_by, post_unless, send_now, settled_rid, take_if_any, take_reply, with_entry, with_lost, with_message, with_remote}
 use Rattle.cf_model.specs.Numbers.{same_key, no_rid}
-use Rattle.cf_model.specs.PushReplies.{take_done, take_refused, take_void}
+use Rattle.cf_model.specs.PushReplies.{take_done, take_refused, take_void, is_new_entry}
 use Rattle.cf_model.specs.Requests.{Live, is_fetch, live_of}
 use Rattle.cf_model.specs.Soundness.{Each}
 use Rattle.cf_model.specs.State.{Link, State, book_now, items_now}
@@ -34,6 +34,7 @@ use Rattle.cf_model.specs.Texts.{is_name}
 use Rattle.cf_model.specs.Trees.{AsItKeeps, Faults, Keeps, Telling, Tells, bind}
 use Rattle.cf_model.specs.Words.{is_empty, part}
 use Rattle.cf_model.proofs.StoreLaws.{step_extends}
+use Rattle.cf_model.specs.Fetching.{live_ask}
 use Rattle.cf_model_laws.specs.GivenOnce.{WasGiven}
 use Rattle.cf_model_laws.specs.Invariant.{All, Carries, HasEntry, IsGivenIn, IsLiveRight, IsMessageRight, IsSound, Names, OfRequest, TellsBytes, TellsTruth, message_in, put_bytes, Asks, IsAskedFor}
 use Rattle.cf_model_laws.specs.Premises.{IsFair}
@@ -281,6 +282,10 @@ is_nothing : (es : List QueueEntry) → is_empty es ≡ true → es ≡ []
 is_nothing [] e = refl
 is_nothing (q ∷ es) e = no_way e
 
+old_false : (a b : Bool) → (a || b) ≡ false → b ≡ false
+old_false true b e = no_way_back e
+old_false false b e = e
+
 or_false : (a b : Bool) → (not a || b) ≡ false → (a ≡ true) × (b ≡ false)
 or_false true b e = (refl, e)
 or_false false b e = no_way_back e
@@ -320,7 +325,8 @@ act_on_at P closed m q (reply.Feed round clock es) s stale told h =
     (told_all s.link (known_now s) es (λ fair. (told fair).1.1) (left_true (list_all (is_entry (known_now s)) es) (are_distinct es) (feed_fits (known_now s) (settled_rid s q) q round clock es k.0))) h
 act_on_at P closed m q (reply.Listing key es) s stale told h =
     fetching.take_listing_at P closed key es s (λ fair. (told fair).1)
-    (lows (known_now s) es (left_true (list_all (is_entry (known_now s)) es) (are_distinct es) (listing_fits (known_now s) (settled_rid s q) q key es (or_false (fits (known_now s) (settled_rid s q) q (reply.Listing key es)) (is_old s (reply.Listing key es)) stale).0))) h
+    (lows (known_now s) es (left_true (list_all (is_entry (known_now s)) es) (are_distinct es) (listing_fits (known_now s) (settled_rid s q) q key es (or_false (fits (known_now s) (settled_rid s q) q (reply.Listing key es)) (is_old s (reply.Listing key es)) stale).0)))
+    (λ fair. old_false (not (is_some (live_ask s key))) (list_any is_new_entry (book_now s).entries) (or_false (fits (known_now s) (settled_rid s q) q (reply.Listing key es)) (is_old s (reply.Listing key es)) stale).1) h
 act_on_at P closed m q (reply.Bytes key start bytes) s stale told h =
     let k = or_false (fits (known_now s) (settled_rid s q) q (reply.Bytes key start bytes)) (is_old s (reply.Bytes key start bytes)) stale in
     fetching.take_bytes_at P closed key start bytes s (bytes_fit P closed m q key start bytes s h k.0 told) h

@@ -177,7 +177,7 @@ placed_after l tokens f c x keeps seen sound fit h = record {
     new : (item : ItemId) {parent : ItemId} {name : List ℕ} {kind : Kind} {size : ℕ} {identity : List ℕ} → c ≡ change.Make item parent name kind size identity
         → MovesAt (effect x.volume.items c (next_number x.volume)) (f (book_after c x.volume.book)).entries item × (StandsAtSeen (effect x.volume.items c (next_number x.volume)) (f (book_after c x.volume.book)) item ⊎ IsUnseen (f (book_after c x.volume.book)) item)
     new item e =
-        let k = make_placed l tokens f c x keeps (seen.0 (subst IsNaming (sym e) tt)) sound item (subst (Fits l.remote x) e fit).0 h.below (ap (λ (d : Change). (book_after d x.volume.book).seen) e) in (k.0, inr k.1)
+        let k = make_placed l tokens f c x keeps (seen.0 (subst IsNaming (sym e) tt)) sound item (subst (Fits l.remote x) e fit).0.0 h.below (ap (λ (d : Change). (book_after d x.volume.book).seen) e) in (k.0, inr k.1)
 
 -- after another change neither a Mark nor a Make is the last
 pub other_placed : (f : Book → Book) (c : Change) (x : Filter) → (IsNaming c → ⊥) → ((b : Book) → (f b).seen ≡ b.seen) → AreSeenBelow x.volume.next_item.0 x.volume.book → IsPlacedAfter f c x

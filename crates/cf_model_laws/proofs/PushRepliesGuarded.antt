@@ -20,15 +20,15 @@ use Rattle.std.specs.List.{list_all}
 use Rattle.cf_base.specs.declared.ids.ItemId.{ItemId}
 use Rattle.cf_model.specs.Contents.{base_named, up_to}
 use Rattle.cf_model.specs.Identities.{base_bytes, identity_for, identity_of}
-use Rattle.cf_model.specs.Numbers.{same_key}
+use Rattle.cf_model.specs.Numbers.{same_key, no_rid, no_version}
 use Rattle.cf_model.specs.Soundness.{Each}
-use Rattle.cf_model.specs.Store.{RecordedDone, bytes_of, recorded_at}
+use Rattle.cf_model.specs.Store.{RecordedDone, bytes_of, recorded_at, Held}
 use Rattle.cf_model.specs.Trees.{Keeps}
 use Rattle.cf_model.proofs.TreeLaws.{keeps_bind}
-use Rattle.cf_model_laws.specs.Fitting.{Fits, NamesWell, NoEntry, NoMove}
-use Rattle.cf_model_laws.specs.Invariant.{All, AreApart, EntryFits, FitsBy, InOrder, IsSound, PutFits, put_bytes, DidBy, IsAskedFor, IsOfKind}
-use Rattle.cf_model_laws.specs.Premises.{IsFair}
-use Rattle.cf_model_laws.proofs.EntryLaws.{dir_well, file_well, made_named, made_read, small_rid}
+use Rattle.cf_model_laws.specs.Fitting.{Fits, NamesWell, NoEntry, NoMove, AimsFree}
+use Rattle.cf_model_laws.specs.Invariant.{All, AreApart, EntryFits, FitsBy, InOrder, IsSound, PutFits, put_bytes, DidBy, IsAskedFor, IsOfKind, IsUnmade, target_in}
+use Rattle.cf_model_laws.specs.Premises.{IsFair, IsSmall}
+use Rattle.cf_model_laws.proofs.EntryLaws.{dir_well, file_well, made_named, made_read, small_rid, target_read}
 use Rattle.cf_model_laws.proofs.FeedEntriesGuarded.{Feeding, feeding}
 use Rattle.cf_model_laws.proofs.FoundItems.{found_id}
 use Rattle.cf_model_laws.proofs.Gathered.{all_found}
@@ -37,6 +37,8 @@ use Rattle.cf_model_laws.proofs.RightItems.{no_way}
 use Rattle.cf_model_laws.proofs.SeenPaths.{led_unnamed}
 use Rattle.cf_model_laws.proofs.SkipsGuarded.{Led, Skipping, Whichever, and_then_keeps, do_led, framed, guarded_skipping, keeps_first, no_move, only_if_at, tried_at, try_mark_at, try_seen_at, cursor_stays}
 use Rattle.cf_model_laws.proofs.SoundSettles.{each_found, same_item}
+use Rattle.cf_model_laws.proofs.MadeUploads.{done_unmade}
+use Rattle.cf_model.specs.Growth.{IsCounted}
 
 pub end_entry_keeps : (P : State → Type 0) → Guarded P → (e : QueueEntry) → Preserves P (end_entry e)
 end_entry_keeps P closed e = keeps_one P (with_book (without_entry e.token)) (λ s h. closed.leaves e.token s h)
@@ -150,21 +152,24 @@ done_one MakeDir s e rid version i is low fair sound done found fit did =
 done_one MoveItem s e rid version i is low fair sound done found fit did = elim is as (λ _. DoneFits s e rid version i) [ inl z ↦ cc | inr z ↦ cc ]
 done_one RemoveItem s e rid version i is low fair sound done found fit did = elim is as (λ _. DoneFits s e rid version i) [ inl z ↦ cc | inr z ↦ cc ]
 
-pub rebase_at : (P : State → Type 0) → Guarded P → (e : QueueEntry) (rid : Rid) (version : Version) (i : Item) (s : State) → (IsFair s.link → DoneFits s e rid version i × DoneIn s e rid version × (item_of (items_now s) e.item ≡ Some i)) → P s
-    → Keeps P (rebase e (rebase_of e rid version i) s)
-rebase_at P closed e rid version i s fits h = by (why_no_rebase e (rebase_of e rid version i) s) where
+pub rebase_at : (P : State → Type 0) → Guarded P → (e : QueueEntry) (rid : Rid) (version : Version) (i : Item) (s : State) → (IsFair s.link → DoneFits s e rid version i × DoneIn s e rid version × (item_of (items_now s) e.item ≡ Some i))
+    → (IsFair s.link → AimsFree s.link.remote (without_entry e.token (book_now s)).entries (identity_for i.directory rid version)) → P s → Keeps P (rebase e (rebase_of e rid version i) s)
+rebase_at P closed e rid version i s fits free h = by (why_no_rebase e (rebase_of e rid version i) s) where
   fit : IsFair s.link → Fits s.link.remote (with_volatile (taken_from_row e) (with_book (without_entry e.token) (with_done s))).filter (rebase_of e rid version i)
   fit fair =
       let sound : IsSound s.link s.volatile.tokens s.filter = (closed.on_filter s h).sound s.filter h fair in
       let found : item_of (items_now s) e.item ≡ Some i = (fits fair).2 in
       let same : i.id.0 ≡ e.item.0 = found_id e.item (items_now s) i found in
       let again : item_of (items_now s) i.id ≡ Some i = subst (λ (x : ItemId). item_of (items_now s) x ≡ Some i) (sym (same_item i.id e.item same)) found in (
-        each_found i.id (λ j. NamesWell s.link.remote j.directory j.placeholder (identity_for i.directory rid version)) 0 s.filter.volume.next_item.0 (items_now s) i sound.now.order again (fits fair).0.0,
-        inr (
-          apart_rest (λ f. same_key f.token.0 e.token.0) i.id.0 (book_now s).entries e (sym same) (λ z. absurd (zero_not i.id.0 (found_positive e.item 0 s.filter.volume.next_item.0 (items_now s) i sound.now.order found) z)) (fits fair).1.0 sound.now.apart,
-          each_found i.id (λ j. j.directory ≡ false → ((list_all is_some j.held ≡ true) ⊎ (up_to e.number j.writes ≡ [])) × (base_named s.link.remote (identity_for i.directory rid version) ≡ put_bytes (base_bytes s.link.remote j) e.number j.writes))
-              0 s.filter.volume.next_item.0 (items_now s) i sound.now.order again (fits fair).0.1,
+        (
+          each_found i.id (λ j. NamesWell s.link.remote j.directory j.placeholder (identity_for i.directory rid version)) 0 s.filter.volume.next_item.0 (items_now s) i sound.now.order again (fits fair).0.0,
+          inr (
+            apart_rest (λ f. same_key f.token.0 e.token.0) i.id.0 (book_now s).entries e (sym same) (λ z. absurd (zero_not i.id.0 (found_positive e.item 0 s.filter.volume.next_item.0 (items_now s) i sound.now.order found) z)) (fits fair).1.0 sound.now.apart,
+            each_found i.id (λ j. j.directory ≡ false → ((list_all is_some j.held ≡ true) ⊎ (up_to e.number j.writes ≡ [])) × (base_named s.link.remote (identity_for i.directory rid version) ≡ put_bytes (base_bytes s.link.remote j) e.number j.writes))
+                0 s.filter.volume.next_item.0 (items_now s) i sound.now.order again (fits fair).0.1,
+          ),
         ),
+        free fair,
       ) where
         zero_not : (n : ℕ) → 0 < n → n ≡ 0 → ⊥
         zero_not n h e = omega (arith, h, e)
@@ -187,6 +192,29 @@ rebase_at P closed e rid version i s fits h = by (why_no_rebase e (rebase_of e r
 pub bury_new_keeps : (P : State → Type 0) → Guarded P → (x1 : QueueEntry) → (x2 : Rid) → (x3 : Version) → Preserves P (bury_new x1 x2 x3)
 bury_new_keeps P closed e rid version = keeps_then P (take e) (seq (only_if (is_new_entry e) (try_book (with_tombstone (tombstone_left e rid version)))) whatever) (take_keeps P closed e) (keeps_seq P (only_if (is_new_entry e) (try_book (with_tombstone (tombstone_left e rid version)))) whatever (keeps_only_if P (is_new_entry e) (try_book (with_tombstone (tombstone_left e rid version))) (skips_keep.try_book_keeps P closed (with_tombstone (tombstone_left e rid version)) (λ b. refl) (λ b. refl) (λ b. refl))) (whatever_keeps P closed))
 
+did_small : (a : Action) (r : Held) (asked rid : Rid) → (a ≡ PutFile) ⊎ (a ≡ MakeDir) → IsCounted r → IsSmall r → DidBy a r.items asked rid → rid.0 < 18446744073709551616
+did_small PutFile r asked rid is counted small did = small_rid r rid false counted small did.0
+did_small MakeDir r asked rid is counted small did = small_rid r rid true counted small did
+did_small MoveItem r asked rid is counted small did = elim is as (λ _. rid.0 < 18446744073709551616) [ inl z ↦ cc | inr z ↦ cc ]
+did_small RemoveItem r asked rid is counted small did = elim is as (λ _. rid.0 < 18446744073709551616) [ inl z ↦ cc | inr z ↦ cc ]
+
+-- what a Done gives aims at nothing that was made for another upload
+done_aims : (s : State) (e : QueueEntry) (rid : Rid) (version : Version) (i : Item) → (e.action ≡ PutFile) ⊎ (e.action ≡ MakeDir) → IsFair s.link → IsSound s.link s.volatile.tokens s.filter → DoneIn s e rid version
+    → AimsFree s.link.remote (without_entry e.token (book_now s)).entries (identity_for i.directory rid version)
+done_aims s e rid version i is fair sound done = inr (by i.directory) where
+  did : DidBy e.action s.link.remote.items e.rid rid
+  did = (all_found (IsAskedFor s.link.remote s.link.messages) (λ q. same_key q.token.0 e.token.0) (book_now s).entries e done.0 sound.now.asked).0.did rid version done.1
+
+  free : IsUnmade s.link.remote (without_entry e.token (book_now s)).entries rid
+  free = done_unmade s.link.remote e.token (book_now s).entries e (items_now s) rid version done.0 done.1 is did sound.now.made
+
+  small : rid.0 < 18446744073709551616
+  small = did_small e.action s.link.remote e.rid rid is sound.counted fair.1 did
+
+  by : (d : Bool) → IsUnmade s.link.remote (without_entry e.token (book_now s)).entries (target_in (identity_for d rid version))
+  by true = subst (λ (x : Rid). IsUnmade s.link.remote (without_entry e.token (book_now s)).entries x) (sym (target_read rid no_rid no_version small)) free
+  by false = subst (λ (x : Rid). IsUnmade s.link.remote (without_entry e.token (book_now s)).entries x) (sym (target_read rid rid version small)) free
+
 upload_done_at : (P : State → Type 0) → Guarded P → (e : QueueEntry) (rid : Rid) (version : Version) (s : State) → (e.action ≡ PutFile) ⊎ (e.action ≡ MakeDir) → (IsFair s.link → DoneIn s e rid version) → P s → Keeps P (done_upload e rid version s)
 upload_done_at P closed e rid version s is done h = by (item_of (items_now s) e.item) refl where
   by : (o : Option Item) → item_of (items_now s) e.item ≡ o → Keeps P (done_upload_on e rid version o s)
@@ -194,7 +222,9 @@ upload_done_at P closed e rid version s is done h = by (item_of (items_now s) e.
   by (Some i) f =
       rebase_at P closed e rid version i s
       (λ fair. let sound : IsSound s.link s.volatile.tokens s.filter = (closed.on_filter s h).sound s.filter h fair in
-      (done_one e.action s e rid version i is ((done fair).2 is) fair sound (done fair) f (all_found (EntryFits s.link.remote s.link.messages (items_now s)) (λ q. same_key q.token.0 e.token.0) (book_now s).entries e (done fair).0 sound.now.fit).0 ((all_found (IsAskedFor s.link.remote s.link.messages) (λ q. same_key q.token.0 e.token.0) (book_now s).entries e (done fair).0 sound.now.asked).0.did rid version (done fair).1), done fair, f)) h
+      (done_one e.action s e rid version i is ((done fair).2 is) fair sound (done fair) f (all_found (EntryFits s.link.remote s.link.messages (items_now s)) (λ q. same_key q.token.0 e.token.0) (book_now s).entries e (done fair).0 sound.now.fit).0 ((all_found (IsAskedFor s.link.remote s.link.messages) (λ q. same_key q.token.0 e.token.0) (book_now s).entries e (done fair).0 sound.now.asked).0.did rid version (done fair).1), done fair, f))
+      (λ fair. let sound : IsSound s.link s.volatile.tokens s.filter = (closed.on_filter s h).sound s.filter h fair in
+      done_aims s e rid version i is fair sound (done fair)) h
 
 -- the path of a Move that was done comes to be seen
 done_move_at : (P : State → Type 0) → Guarded P → (e : QueueEntry) (s : State) → e.action ≡ MoveItem → (IsFair s.link → entry_of (book_now s) e.token ≡ Some e) → P s → Keeps P (done_move e s)

@@ -21,7 +21,7 @@ use Rattle.cf_model_laws.proofs.WaitsGuarded as waits_keep
 use Rattle.cf_model.specs.Pushes.{after_hydrate, bury_unless, hydrate_first, hydrate_if, hydrate_unless, is_hydrating, is_left_out, is_tombstone_left_out, item_now, mark_item, push, push_all, push_by_case, push_here, push_item, push_lists, push_removal, push_tombstone, push_turn, push_unless, put_file, put_if, put_whole, removal_entry, request_of, upload, upload_if, upload_new, upload_now, has_entry, placed, without_place, without_rid}
 use Rattle.cf_model_laws.proofs.Guarded.{Guarded, Entering, MovesThere}
 use Rattle.cf_model.proofs.ArrowLaws.{keeps_each, keeps_reading, keeps_ret, keeps_seq, keeps_then}
-use Rattle.std.proofs.Common.{◌≡◌, ◌<◌, ◌≤◌, ℕ, Bool, true, false, List, [], ◌∷◌, refl, sym, ◌∙◌, ap, subst, arith, take, eq-eqb, inl, inr}
+use Rattle.std.proofs.Common.{◌≡◌, ◌<◌, ◌≤◌, ℕ, Bool, true, false, List, [], ◌∷◌, refl, sym, ◌∙◌, ap, subst, arith, length, take, eq-eqb, inl, inr}
 use Rattle.std.specs.List.{list_all, list_any}
 use Rattle.std.proofs.lemmas.Bool.Decides.{nat_tests}
 use Rattle.std.proofs.lemmas.Bool.{eqb-true}
@@ -38,7 +38,7 @@ use Rattle.cf_model.specs.Words.{number_of, same}
 use Rattle.cf_model.proofs.Laying.{laid-full}
 use Rattle.cf_model.proofs.TreeLaws.{keeps_bind}
 use Rattle.cf_model_laws.specs.Fitting.{Fits, NoEntry}
-use Rattle.cf_model_laws.specs.Invariant.{AllUpTo, HasNone, IsRight, IsSound, SameBase, put_bytes, IsAimed, target_in}
+use Rattle.cf_model_laws.specs.Invariant.{AllUpTo, HasNone, IsRight, IsSound, SameBase, put_bytes, IsAimed, target_in, IsUnmade}
 use Rattle.cf_model_laws.specs.Premises.{IsFair}
 use Rattle.cf_model_laws.proofs.EntryLaws.{none_none}
 use Rattle.cf_model_laws.proofs.FeedsGuarded.{first_led}
@@ -52,6 +52,7 @@ use Rattle.cf_model_laws.proofs.RightItems.{both_none, no_way, no_way_back}
 use Rattle.cf_model_laws.proofs.SkipsGuarded.{Led, Whichever, guarded_skipping, no_move, try_change_at, try_led, try_mark_now_at}
 use Rattle.cf_model_laws.proofs.SoundSettles.{each_found, found_below, neither, not_true, same_item}
 use Rattle.cf_model_laws.proofs.UploadsGuarded.{IsNewEntry, NewBy, push_at}
+use Rattle.cf_model_laws.proofs.MadeUploads.{IsAbout, aimed_under}
 
 abbrev Files : Bool → Bool → Type 0
 Files d p = (d ≡ false) × (p ≡ true)
@@ -121,8 +122,8 @@ put_facts s i sound there file placed here = (
 )
 
 new_entry : (s : State) (i : Item) (e : QueueEntry) (bytes : List ℕ) → e.item ≡ i.id → e.number ≡ i.number → item_of (items_now s) i.id ≡ Some i → IsSound s.link s.volatile.tokens s.filter → NoEntry (book_now s).entries i.id
-    → NewBy e.action s.link.remote (items_now s) e bytes → MovesThere s e → (e.action ≡ PutFile → e.rid.0 ≡ 1 → ⊥) → (e.action ≡ MakeDir → e.rid.0 ≡ 0) → IsNewEntry s e bytes
-new_entry s i e bytes item number there sound alone facts off low new = record {
+    → NewBy e.action s.link.remote (items_now s) e bytes → MovesThere s e → (e.action ≡ PutFile → e.rid.0 ≡ 1 → ⊥) → (e.action ≡ MakeDir → e.rid.0 ≡ 0) → IsAbout s.link.remote (book_now s).entries e → IsNewEntry s e bytes
+new_entry s i e bytes item number there sound alone facts off low new about = record {
   early = λ z. subst (λ (n : Usn). above (next_number s.filter.volume) n ≡ true) (sym number) (right_of s i sound there).early;
   item = subst (λ (x : ItemId). x.0 < s.filter.volume.next_item.0) (sym item) (found_below i.id 0 s.filter.volume.next_item.0 (items_now s) i sound.now.order there);
   apart = all_weaker (λ f. f.item.0 ≡ i.id.0 → ⊥) (λ f. f.item.0 ≡ e.item.0 → f.item.0 ≡ 0) (λ f g q. absurd (g (q ∙ ap (λ (x : ItemId). x.0) item))) (book_now s).entries alone;
@@ -130,6 +131,7 @@ new_entry s i e bytes item number there sound alone facts off low new = record {
   off = off;
   low = low;
   new = new;
+  about = about;
 }
 
 -- a file's target is not the root of the remote
@@ -149,6 +151,16 @@ file_low s i sound there file is = by (i.id.0 == 1) refl is where
   by true q z = no_way (sym file ∙ right.top (eqb-true i.id.0 1 q))
   by false q z = aimed right.aimed z
 
+-- it is an item of the remote that was made for no upload on its way
+file_about : (s : State) (i : Item) → IsSound s.link s.volatile.tokens s.filter → item_of (items_now s) i.id ≡ Some i → i.directory ≡ false → ((target_of i).0 ≤ length s.link.remote.items) × IsUnmade s.link.remote (book_now s).entries (target_of i)
+file_about s i sound there file = by (i.id.0 == 1) refl where
+  right : IsRight s.link.remote (next_number s.filter.volume) i
+  right = right_of s i sound there
+
+  by : (b : Bool) → (i.id.0 == 1) ≡ b → ((cond b root_rid (target_in i.identity)).0 ≤ length s.link.remote.items) × IsUnmade s.link.remote (book_now s).entries (cond b root_rid (target_in i.identity))
+  by true q = no_way (sym file ∙ right.top (eqb-true i.id.0 1 q))
+  by false q = (aimed_under s.link.remote i.directory i.identity sound.counted right.aimed, (all_found (λ x. IsUnmade s.link.remote (book_now s).entries (target_in x.identity)) (λ x. x.id.0 == i.id.0) (items_now s) i there sound.now.made.unknown).0)
+
 pub push_put_at : (P : State → Type 0) → Guarded P → Entering P → (i : Item) (s : State) → item_of (items_now s) i.id ≡ Some i → (IsFair s.link → NoEntry (book_now s).entries i.id) → (IsFair s.link → (i.directory ≡ false) × (i.placeholder ≡ true)) → list_all is_some i.held ≡ true → P s
     → Keeps P (push_item PutFile i s)
 push_put_at P closed entering i s there alone kind here h = by (is_untargeted i) where
@@ -158,17 +170,17 @@ push_put_at P closed entering i s there alone kind here h = by (is_untargeted i)
       each_found i.id (PutFacts s.link.remote i) 0 s.filter.volume.next_item.0 (items_now s) i sound.now.order there (put_facts s i sound there (kind fair).0 (kind fair).1 here)
 
   by : (b : Bool) → Keeps P (push (cond b (placed PutFile i s) (without_place (placed PutFile i s))) (request_of (cond b (placed PutFile i s) (without_place (placed PutFile i s))) (base_version i) (bytes_held i.held)) s)
-  by true = push_at P closed entering (placed PutFile i s) (base_version i) (bytes_held i.held) s refl (λ fair. new_entry s i (placed PutFile i s) (bytes_held i.held) refl refl there (sound_of P closed s h fair) (alone fair) (facts fair) (λ z. cc) (λ _. file_low s i (sound_of P closed s h fair) there (kind fair).0) (λ z. cc)) h
-  by false = push_at P closed entering (without_place (placed PutFile i s)) (base_version i) (bytes_held i.held) s refl (λ fair. new_entry s i (without_place (placed PutFile i s)) (bytes_held i.held) refl refl there (sound_of P closed s h fair) (alone fair) (facts fair) (λ z. cc) (λ _. file_low s i (sound_of P closed s h fair) there (kind fair).0) (λ z. cc)) h
+  by true = push_at P closed entering (placed PutFile i s) (base_version i) (bytes_held i.held) s refl (λ fair. new_entry s i (placed PutFile i s) (bytes_held i.held) refl refl there (sound_of P closed s h fair) (alone fair) (facts fair) (λ z. cc) (λ _. file_low s i (sound_of P closed s h fair) there (kind fair).0) (λ z. cc) (λ _. file_about s i (sound_of P closed s h fair) there (kind fair).0)) h
+  by false = push_at P closed entering (without_place (placed PutFile i s)) (base_version i) (bytes_held i.held) s refl (λ fair. new_entry s i (without_place (placed PutFile i s)) (bytes_held i.held) refl refl there (sound_of P closed s h fair) (alone fair) (facts fair) (λ z. cc) (λ _. file_low s i (sound_of P closed s h fair) there (kind fair).0) (λ z. cc) (λ _. file_about s i (sound_of P closed s h fair) there (kind fair).0)) h
 
 pub push_dir_at : (P : State → Type 0) → Guarded P → Entering P → (i : Item) (s : State) → item_of (items_now s) i.id ≡ Some i → (IsFair s.link → NoEntry (book_now s).entries i.id) → i.directory ≡ true → P s → Keeps P (push_item MakeDir i s)
 push_dir_at P closed entering i s there alone dir h =
     push_at P closed entering (without_rid (placed MakeDir i s)) (base_version i) (bytes_held i.held) s refl
-    (λ fair. new_entry s i (without_rid (placed MakeDir i s)) (bytes_held i.held) refl refl there (sound_of P closed s h fair) (alone fair) (each_found i.id (λ j. j.directory ≡ true) 0 s.filter.volume.next_item.0 (items_now s) i (sound_of P closed s h fair).now.order there dir) (λ z. cc) (λ z. cc) (λ z. refl)) h
+    (λ fair. new_entry s i (without_rid (placed MakeDir i s)) (bytes_held i.held) refl refl there (sound_of P closed s h fair) (alone fair) (each_found i.id (λ j. j.directory ≡ true) 0 s.filter.volume.next_item.0 (items_now s) i (sound_of P closed s h fair).now.order there dir) (λ z. cc) (λ z. cc) (λ z. refl) (λ z. cc)) h
 
 pub push_move_at : (P : State → Type 0) → Guarded P → Entering P → (i : Item) (s : State) → item_of (items_now s) i.id ≡ Some i → (IsFair s.link → NoEntry (book_now s).entries i.id) → stands_at_seen (items_now s) (book_now s) i ≡ false → P s → Keeps P (push_item MoveItem i s)
 push_move_at P closed entering i s there alone away h =
-    push_at P closed entering (placed MoveItem i s) (base_version i) (bytes_held i.held) s refl (λ fair. new_entry s i (placed MoveItem i s) (bytes_held i.held) refl refl there (sound_of P closed s h fair) (alone fair) tt (λ z. (i, there, both ((parent_target (items_now s) i).0 == (parent_target (items_now s) i).0) (same i.name i.name) (eq-eqb (parent_target (items_now s) i).0 (parent_target (items_now s) i).0 refl) (same_self i.name))) (λ z. cc) (λ z. cc)) h
+    push_at P closed entering (placed MoveItem i s) (base_version i) (bytes_held i.held) s refl (λ fair. new_entry s i (placed MoveItem i s) (bytes_held i.held) refl refl there (sound_of P closed s h fair) (alone fair) tt (λ z. (i, there, both ((parent_target (items_now s) i).0 == (parent_target (items_now s) i).0) (same i.name i.name) (eq-eqb (parent_target (items_now s) i).0 (parent_target (items_now s) i).0 refl) (same_self i.name))) (λ z. cc) (λ z. cc) (λ z. cc)) h
 
 pub after_hydrate_keeps : (P : State → Type 0) → Guarded P → (x1 : Shown) → Preserves P (after_hydrate x1)
 after_hydrate_keeps P closed (shown.Refused code.TooManyWaits) = skips_keep.skip_keeps P closed code.TooManyWaits
@@ -291,7 +303,7 @@ push_turn_keeps P closed entering item = record { keeps = λ s h. by (item_of (i
 pub push_removal_keeps : (P : State → Type 0) → Guarded P → Entering P → (t : Tombstone) → Preserves P (push_removal t)
 push_removal_keeps P closed entering t = record {
   keeps = λ s h. push_at P closed entering (removal_entry s t) t.version [] s refl
-      (λ fair. record { early = λ e. no_way e; item = low s.filter.volume.next_item.0 (sound_of P closed s h fair).now.more; apart = all_any (λ f. f.item.0 ≡ 0 → f.item.0 ≡ 0) (λ f e. e) (book_now s).entries; facts = tt; off = λ z. cc; low = λ z. cc; new = λ z. cc }) h;
+      (λ fair. record { early = λ e. no_way e; item = low s.filter.volume.next_item.0 (sound_of P closed s h fair).now.more; apart = all_any (λ f. f.item.0 ≡ 0 → f.item.0 ≡ 0) (λ f e. e) (book_now s).entries; facts = tt; off = λ z. cc; low = λ z. cc; new = λ z. cc; about = λ z. cc }) h;
 }
   where
     low : (n : ℕ) → 2 ≤ n → 0 < n

@@ -133,6 +133,9 @@ kind_stays d = record { trims = trims; writes = λ versions changed s h. h; move
     by true h = h
     by false h = h
 
+pub any_stays : Stays (λ s. Unit {0})
+any_stays = record { trims = λ keep s h. tt; writes = λ versions changed s h. tt; moves = λ parent name changed s h. tt; dies = λ changed s h. tt }
+
 pub dead_stays : Stays (λ s. s.live ≡ false)
 dead_stays = record { trims = trims; writes = λ versions changed s h. h; moves = λ parent name changed s h. h; dies = λ changed s h. refl } where
   trims : (keep : Option ℕ) (s : Stored) → s.live ≡ false → (trimmed keep s).live ≡ false

@@ -16,13 +16,13 @@ use Rattle.cf_model.specs.Store.{Held, bytes_of, stored_at, version_bytes}
 use Rattle.cf_model.specs.Words.{number_of}
 use Rattle.cf_model.proofs.ContentItems.{drop-more, no-version}
 use Rattle.cf_model_laws.specs.Invariant.{All, AllUpTo, HasBase, HasNone, IsRightOf, SameBase, rid_in, version_in, target_in}
-use Rattle.cf_model_laws.specs.Fitting.{Fits, Meets, NamesWell}
+use Rattle.cf_model_laws.specs.Fitting.{Aims, Fits, Meets, NamesWell}
 use Rattle.cf_model_laws.proofs.Gathered.{all_append, all_filter, all_weaker}
 
 -- what fits meets what keeps the whole sound
 
 pub fits_meets : (r : Held) (x : Filter) (c : Change) → Fits r x c → Meets r x c
-fits_meets r x (change.Make item parent name k size identity) h = h
+fits_meets r x (change.Make item parent name k size identity) h = h.0
 fits_meets r x (change.Remove item) h = h.0
 fits_meets r x (change.Move item parent name) h = h
 fits_meets r x (change.Write item at bytes) h = h
@@ -35,11 +35,31 @@ fits_meets r x (change.Mark item number) h = h.0
 fits_meets r x (change.Clear item) h = h
 fits_meets r x (change.Convert item identity) h = h
 fits_meets r x (change.Revert item) h = h
-fits_meets r x (change.Rebase item identity len at) h = h
-fits_meets r x (change.Take item identity size) h = h
+fits_meets r x (change.Rebase item identity len at) h = h.0
+fits_meets r x (change.Take item identity size) h = h.0
 fits_meets r x (change.Copy item from parent name) h = h
 fits_meets r x (change.Populated item) h = h
 fits_meets r x (change.Keep item on) h = h
+
+pub fits_aims : (r : Held) (x : Filter) (c : Change) → Fits r x c → Aims r x c
+fits_aims r x (change.Make item parent name k size identity) h = h.1
+fits_aims r x (change.Remove item) h = tt
+fits_aims r x (change.Move item parent name) h = tt
+fits_aims r x (change.Write item at bytes) h = tt
+fits_aims r x (change.Size item size) h = tt
+fits_aims r x (change.Filled item start bytes) h = tt
+fits_aims r x (change.Validated item start len) h = tt
+fits_aims r x (change.Emptied item start len) h = tt
+fits_aims r x (change.SetPin item pin) h = tt
+fits_aims r x (change.Mark item number) h = tt
+fits_aims r x (change.Clear item) h = tt
+fits_aims r x (change.Convert item identity) h = tt
+fits_aims r x (change.Revert item) h = tt
+fits_aims r x (change.Rebase item identity len at) h = h.1
+fits_aims r x (change.Take item identity size) h = h.1
+fits_aims r x (change.Copy item from parent name) h = tt
+fits_aims r x (change.Populated item) h = tt
+fits_aims r x (change.Keep item on) h = tt
 
 -- numbers
 

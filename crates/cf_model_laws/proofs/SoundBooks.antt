@@ -16,7 +16,7 @@ use Rattle.cf_model.specs.Books.{Book, QueueEntry}
 use Rattle.cf_model.specs.Items.{Item}
 use Rattle.cf_model.specs.Logs.{items_of, next_of}
 use Rattle.cf_model.specs.Missing.{Wait}
-use Rattle.cf_model.specs.Numbers.{above, usn_after}
+use Rattle.cf_model.specs.Numbers.{above, usn_after, same_key}
 use Rattle.cf_model.specs.Points.{Opens}
 use Rattle.cf_model.specs.Requests.{Live}
 use Rattle.cf_model.specs.State.{Point}
@@ -26,6 +26,7 @@ use Rattle.cf_model_laws.specs.Invariant.{All, AreApart, EntryFits, IsDurable, I
 use Rattle.cf_model_laws.proofs.Gathered.{all_append, all_filter, all_weaker}
 use Rattle.cf_model_laws.proofs.OnceLaws.{later}
 use Rattle.cf_model_laws.proofs.SoundChanges.{durable_later}
+use Rattle.cf_model_laws.proofs.MadeUploads.{IsAbout, NoRecord, made_entered, made_fewer}
 
 Log : Type 0
 Log = List (Usn × Change)
@@ -49,6 +50,9 @@ pub record EnteredWell (r : Held) (ms : List (Option Frame)) (epoch tokens : ℕ
   pub entry : IsEntryOf n next_item epoch tokens e
   pub asked : IsAskedFor r ms e
   pub apart : All (λ f. f.item.0 ≡ e.item.0 → f.item.0 ≡ 0) es
+  pub fresh : NoRecord r e
+  pub alone : All (λ f. same_key f.token.0 e.token.0 ≡ false) es
+  pub about : IsAbout r es e
 
 pub durable_entered : (r : Held) (ms : List (Option Frame)) (epoch tokens : ℕ) (n : Usn) (next_item : ℕ) (items : List Item) (es : List QueueEntry) (e : QueueEntry) → EnteredWell r ms epoch tokens n next_item items es e
     → IsDurable r ms epoch tokens n next_item items es → IsDurable r ms epoch tokens n next_item items (es ++ e ∷ [])
@@ -61,6 +65,7 @@ durable_entered r ms epoch tokens n next_item items es e well h = record {
   given = all_append (IsEntryOf n next_item epoch tokens) es (e ∷ []) h.given (well.entry, tt);
   asked = all_append (IsAskedFor r ms) es (e ∷ []) h.asked (well.asked, tt);
   apart = apart_more es e well.apart h.apart;
+  made = made_entered r items es e well.fresh well.alone well.about h.made;
 }
 
 pub durable_fewer : (r : Held) (ms : List (Option Frame)) (epoch tokens : ℕ) (n : Usn) (next_item : ℕ) (items : List Item) (p : QueueEntry → Bool) (es : List QueueEntry)
@@ -74,6 +79,7 @@ durable_fewer r ms epoch tokens n next_item items p es h = record {
   given = all_filter (IsEntryOf n next_item epoch tokens) p es h.given;
   asked = all_filter (IsAskedFor r ms) p es h.asked;
   apart = apart_fewer p es h.apart;
+  made = made_fewer r items p es h.made;
 }
 
 -- another book with these entries
@@ -131,6 +137,7 @@ durable_tokens r ms n next epoch tokens more items es k h = record {
   fit = h.fit;
   asked = h.asked;
   apart = h.apart;
+  made = h.made;
   given = all_weaker (IsEntryOf n next epoch tokens) (IsEntryOf n next epoch more) (λ q g. record { early = g.early; token = later epoch epoch tokens more q.token.0 (inr (refl, k)) g.token; own = g.own; item = g.item }) es h.given;
 }
 

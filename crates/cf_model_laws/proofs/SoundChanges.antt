@@ -16,7 +16,7 @@ use Rattle.cf_model.specs.Logs.{after_changes, items_of, next_by, next_of}
 use Rattle.cf_model.specs.Numbers.{above, no_usn, usn_after}
 use Rattle.cf_model.specs.State.{Filter, Link, Point, Volume, with_volume}
 use Rattle.cf_model.specs.Store.{Held}
-use Rattle.cf_model_laws.specs.Fitting.{Meets, Touches}
+use Rattle.cf_model_laws.specs.Fitting.{Aims, Meets, Touches}
 use Rattle.cf_model_laws.specs.Invariant.{IsDurable, IsEntryOf, IsPointRight, IsRight, IsSound, IsSoundBut, Lacks}
 use Rattle.cf_model_laws.proofs.FitAsks.{effect_lack, effect_lives}
 use Rattle.cf_model_laws.proofs.FitContents.{effect_contents}
@@ -25,6 +25,7 @@ use Rattle.cf_model_laws.proofs.FitItems.{effect_order, effect_right}
 use Rattle.cf_model_laws.proofs.Gathered.{all_weaker}
 use Rattle.cf_model_laws.proofs.OnceLaws.{later}
 use Rattle.cf_model_laws.proofs.RightItems.{above_then, stays_right}
+use Rattle.cf_model_laws.proofs.MadeUploads.{made_effect}
 
 -- numbers
 
@@ -58,6 +59,7 @@ durable_later r ms n after next epoch tokens e t items es a k h = record {
   given = all_weaker (IsEntryOf n next epoch tokens) (IsEntryOf after next e t) (entry_later n after next next epoch tokens e t a (same next) k) es h.given;
   asked = h.asked;
   apart = h.apart;
+  made = h.made;
 }
   where
     same : (m : ℕ) → m ≤ m
@@ -85,9 +87,9 @@ same_entries (change.Copy item from parent name) b = refl
 same_entries (change.Populated item) b = refl
 same_entries (change.Keep item on) b = refl
 
-durable_effect : (r : Held) (ms : List (Option Frame)) (x : Filter) (c : Change) (n after : Usn) (epoch tokens : ℕ) → above n no_usn ≡ true → above after n ≡ true → Meets r x c
+durable_effect : (r : Held) (ms : List (Option Frame)) (x : Filter) (c : Change) (n after : Usn) (epoch tokens : ℕ) → above n no_usn ≡ true → above after n ≡ true → Meets r x c → Aims r x c
     → IsDurable r ms epoch tokens n x.volume.next_item.0 x.volume.items x.volume.book.entries → IsDurable r ms epoch tokens after (max x.volume.next_item.0 (next_by c)) (effect x.volume.items c n) x.volume.book.entries
-durable_effect r ms x c n after epoch tokens some a fit h = record {
+durable_effect r ms x c n after epoch tokens some a fit aims h = record {
   contents = effect_contents r x c n fit h.right h.contents;
   right = effect_right r x c n after some a h.more fit h.right;
   order = effect_order r x c n h.more fit h.order;
@@ -96,6 +98,7 @@ durable_effect r ms x c n after epoch tokens some a fit h = record {
   given = all_weaker (IsEntryOf n x.volume.next_item.0 epoch tokens) (IsEntryOf after (max x.volume.next_item.0 (next_by c)) epoch tokens) (entry_later n after x.volume.next_item.0 (max x.volume.next_item.0 (next_by c)) epoch tokens epoch tokens a (grows x.volume.next_item.0 (next_by c)) (inr (refl, same tokens))) x.volume.book.entries h.given;
   asked = h.asked;
   apart = h.apart;
+  made = made_effect r x c n fit aims h.made;
 }
   where
     same : (m : ℕ) → m ≤ m
@@ -134,8 +137,8 @@ next_one_more (d ∷ log) n c = ap (λ (x : ℕ). max (next_by d.1) x) (next_one
 abbrev pub KeepsEntries : (Book → Book) → Type 0
 KeepsEntries f = (b : Book) → (f b).entries ≡ b.entries
 
-pub change_sound : (l : Link) (tokens : ℕ) (x : Filter) (f : Book → Book) (c : Change) → KeepsEntries f → Meets l.remote x c → IsSound l tokens x → IsSoundBut (Touches c) l tokens (with_volume (put_with_book f c x.volume) x)
-change_sound l tokens x f c keeps fit h =
+pub change_sound : (l : Link) (tokens : ℕ) (x : Filter) (f : Book → Book) (c : Change) → KeepsEntries f → Meets l.remote x c → Aims l.remote x c → IsSound l tokens x → IsSoundBut (Touches c) l tokens (with_volume (put_with_book f c x.volume) x)
+change_sound l tokens x f c keeps fit aims h =
     let v : Volume = x.volume in
     let a : above (usn_after v.epoch (v.place + 1)) (usn_after v.epoch v.place) ≡ true = next_above v.epoch v.place in
     let entries : (f (book_after c v.book)).entries ≡ v.book.entries = keeps (book_after c v.book) ∙ same_entries c v.book in
@@ -149,7 +152,7 @@ change_sound l tokens x f c keeps fit h =
         ap (λ (n : ℕ). max n (next_by c)) h.of_log.1 ∙ sym (next_one_more v.log (next_number v) c),
       );
       now = subst (λ (es : List QueueEntry). IsDurable l.remote l.messages v.epoch tokens (usn_after v.epoch (v.place + 1)) (max v.next_item.0 (next_by c)) (effect v.items c (next_number v)) es) (sym entries)
-          (durable_effect l.remote l.messages x c (next_number v) (usn_after v.epoch (v.place + 1)) v.epoch tokens (next_some v.epoch v.place) a fit h.now);
+          (durable_effect l.remote l.messages x c (next_number v) (usn_after v.epoch (v.place + 1)) v.epoch tokens (next_some v.epoch v.place) a fit aims h.now);
       kept = all_weaker (IsPointRight l.remote l.messages v.epoch tokens (next_number v) v.log) (IsPointRight l.remote l.messages v.epoch tokens (usn_after v.epoch (v.place + 1)) (v.log ++ (next_number v, c) ∷ []))
           (point_more l.remote l.messages v.epoch tokens (next_number v) (usn_after v.epoch (v.place + 1)) v.log (next_number v, c) a) v.points h.kept;
       one_epoch = h.one_epoch;

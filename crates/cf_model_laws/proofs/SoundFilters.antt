@@ -26,7 +26,7 @@ use Rattle.cf_model.specs.Waits.{Need, all_down, beside, wait_for, begin_now, be
 use Rattle.cf_base.specs.declared.notices.Notice.TheVariants as notice
 use Rattle.cf_model.proofs.ArrowLaws.{keeps_each, keeps_one}
 use Rattle.cf_model.proofs.TreeLaws.{keeps_bind}
-use Rattle.cf_model_laws.specs.Fitting.{Meets, Touches}
+use Rattle.cf_model_laws.specs.Fitting.{Aims, Meets, Touches}
 use Rattle.cf_model_laws.specs.GivenOnce.{WasGiven}
 use Rattle.cf_model_laws.specs.Invariant.{All, IsSound, IsSoundBut, IsSoundOf, NoItem}
 use Rattle.cf_model_laws.specs.Premises.{IsFair}
@@ -34,7 +34,7 @@ use Rattle.cf_model_laws.proofs.FitAsks.{LackAt, LiveAt}
 use Rattle.cf_model_laws.proofs.Gathered.{all_append, all_both, all_map, all_weaker}
 use Rattle.cf_model_laws.proofs.Guarded.{GuardedFilter}
 use Rattle.cf_model_laws.proofs.Leading.{Leads, kept_leads, leads_bind, leads_kept}
-use Rattle.cf_model_laws.proofs.RightItems.{fits_meets}
+use Rattle.cf_model_laws.proofs.RightItems.{fits_aims, fits_meets}
 use Rattle.cf_model_laws.proofs.SettledAsks.{Boxes, Settled, settled}
 use Rattle.cf_model_laws.proofs.SoundBooks.{point_sound, points_sound}
 use Rattle.cf_model_laws.proofs.SoundChanges.{KeepsEntries, change_sound, sound_but}
@@ -73,16 +73,19 @@ with_sure l tokens x h =
 
 -- a change
 
-pub changed_at : (l : Link) (tokens : ℕ) (f : Book → Book) (c : Change) (x : Filter) → KeepsEntries f → Meets l.remote x c → IsSound l tokens x → (v : Volume) → (v ≡ x.volume) ⊎ (v ≡ with_room_point x.volume)
+pub changed_at : (l : Link) (tokens : ℕ) (f : Book → Book) (c : Change) (x : Filter) → KeepsEntries f → Meets l.remote x c × Aims l.remote x c → IsSound l tokens x → (v : Volume) → (v ≡ x.volume) ⊎ (v ≡ with_room_point x.volume)
     → IsSoundBut (Touches c) l tokens (with_volume (put_with_book f c v) x)
-changed_at l tokens f c x keeps fit h v (inl e) = subst (λ (w : Volume). IsSoundBut (Touches c) l tokens (with_volume (put_with_book f c w) x)) (sym e) (change_sound l tokens x f c keeps fit h)
+changed_at l tokens f c x keeps fit h v (inl e) = subst (λ (w : Volume). IsSoundBut (Touches c) l tokens (with_volume (put_with_book f c w) x)) (sym e) (change_sound l tokens x f c keeps fit.0 fit.1 h)
 changed_at l tokens f c x keeps fit h v (inr e) =
     subst (λ (w : Volume). IsSoundBut (Touches c) l tokens (with_volume (put_with_book f c w) x)) (sym e)
-    (change_sound l tokens (with_volume (with_room_point x.volume) x) f c keeps (same_fits c fit) (with_room l tokens x h)) where
+    (change_sound l tokens (with_volume (with_room_point x.volume) x) f c keeps (same_fits c fit.0) (same_aims c fit.1) (with_room l tokens x h)) where
       same_fits : (c : Change) → Meets l.remote x c → Meets l.remote (with_volume (with_room_point x.volume) x) c
       same_fits c k = k
 
-pub change_keeps : (M : Type 0) (l : Link) (tokens : ℕ) (f : Book → Book) (c : Change) (x : Filter) → KeepsEntries f → ((id : ItemId) → Touches c id → ⊥) → (IsFair l → Meets l.remote x c) → FilterSound M l tokens x
+      same_aims : (c : Change) → Aims l.remote x c → Aims l.remote (with_volume (with_room_point x.volume) x) c
+      same_aims c k = k
+
+pub change_keeps : (M : Type 0) (l : Link) (tokens : ℕ) (f : Book → Book) (c : Change) (x : Filter) → KeepsEntries f → ((id : ItemId) → Touches c id → ⊥) → (IsFair l → Meets l.remote x c × Aims l.remote x c) → FilterSound M l tokens x
     → Keeps (FilterSound M l tokens) (change_with f c x)
 change_keeps M l tokens f c x keeps free fit h =
     kept_leads (FilterSound M l tokens) (change_with f c x)
@@ -146,7 +149,7 @@ settle_but M l tokens item d x m h = tell_keeps M l tokens (told_at item d x) x 
 none_on : (item : ItemId) (l : Link) (tokens : ℕ) (x : Filter) → IsSound l tokens x → IsSoundBut (On item) l tokens x
 none_on item l tokens x h = sound_but NoItem (On item) (λ i k. absurd k) l tokens x h
 
-touch_keeps : (M : Type 0) (l : Link) (tokens : ℕ) (f : Book → Book) (c : Change) (item : ItemId) (d : Deed) (x : Filter) → KeepsEntries f → ((id : ItemId) → Touches c id → id.0 ≡ item.0) → (IsFair l → Meets l.remote x c) → FilterSound M l tokens x
+touch_keeps : (M : Type 0) (l : Link) (tokens : ℕ) (f : Book → Book) (c : Change) (item : ItemId) (d : Deed) (x : Filter) → KeepsEntries f → ((id : ItemId) → Touches c id → id.0 ≡ item.0) → (IsFair l → Meets l.remote x c × Aims l.remote x c) → FilterSound M l tokens x
     → Keeps (FilterSound M l tokens) (then_do (change_with f c) (then_do (settle item d) done) x)
 touch_keeps M l tokens f c item d x keeps on fit h =
     kept_leads (FilterSound M l tokens) (then_do (change_with f c) (then_do (settle item d) done) x)
@@ -251,8 +254,8 @@ policy_sound l tokens x v e h = record {
 pub filter_guarded : (M : Type 0) (l : Link) (tokens : ℕ) → GuardedFilter l tokens (FilterSound M l tokens)
 filter_guarded M l tokens = record {
   sound = λ x h e. h.1 e;
-  change = λ f c x keeps seen free fit h. change_keeps M l tokens f c x keeps free (λ e. fits_meets l.remote x c (fit e)) h;
-  touch = λ f c item d x quiet keeps seen on fit h. touch_keeps M l tokens f c item d x keeps on (λ e. fits_meets l.remote x c (fit e)) h;
+  change = λ f c x keeps seen free fit h. change_keeps M l tokens f c x keeps free (λ e. (fits_meets l.remote x c (fit e), fits_aims l.remote x c (fit e))) h;
+  touch = λ f c item d x quiet keeps seen on fit h. touch_keeps M l tokens f c item d x keeps on (λ e. (fits_meets l.remote x c (fit e), fits_aims l.remote x c (fit e))) h;
   commits = record { keeps = λ x h. ((h.0, λ e. with_begun l tokens x (h.1 e)), (h.0, λ e. with_sure l tokens x (h.1 e))) };
   settled = λ item d x others h. settle_but M l tokens item d x h.0 (λ e. none_on item l tokens x (h.1 e));
   begins = begins_keep M l tokens;

@@ -36,6 +36,7 @@ use Rattle.cf_model_laws.proofs.RemoteSteps.{HasToken, recorded_new, tokens_kept
 use Rattle.cf_model_laws.proofs.RemoteGrowth.{GrowsTo, step_grows, still_bytes, still_true}
 use Rattle.cf_model_laws.proofs.RightItems.{none_named}
 use Rattle.cf_model_laws.proofs.EntriesAsked.{did_new, did_stays}
+use Rattle.cf_model_laws.proofs.MadeUploads.{made_asked}
 
 -- a remote that grows
 
@@ -116,9 +117,14 @@ durable_asked r ms epoch tokens q n next items es counted well h = record {
   more = h.more;
   fit = all_both (EntryFits r ms items) (IsEntryOf n next epoch tokens) (EntryFits (remote_step r q).1 ms items) (λ e k g. fits_asked e.action r ms epoch tokens q n e items counted well g.own h.right k) es h.fit h.given;
   given = h.given;
-  asked = all_both (IsAskedFor r ms) (IsEntryOf n next epoch tokens) (IsAskedFor (remote_step r q).1 ms) (λ e k g. entry_asked r ms epoch tokens q e counted well g.own k) es h.asked h.given;
+  asked = asked;
   apart = h.apart;
+  made = made_asked r ms q n items es counted (step_counts r q counted)
+      (all_both (IsAskedFor r ms) (IsEntryOf n next epoch tokens) (λ e. Asks e q) (λ e k g. well.asks e g.own k.sent) es h.asked h.given) asked h.right h.made;
 }
+  where
+    asked : All (IsAskedFor (remote_step r q).1 ms) es
+    asked = all_both (IsAskedFor r ms) (IsEntryOf n next epoch tokens) (IsAskedFor (remote_step r q).1 ms) (λ e k g. entry_asked r ms epoch tokens q e counted well g.own k) es h.asked h.given
 
 message_asked : (r s : Held) (ms : List (Option Frame)) (epoch keys tokens : ℕ) → Extends r s → GrowsTo r s → (m : Option Frame) → IsMessageRight r ms epoch keys tokens m → IsMessageRight s ms epoch keys tokens m
 message_asked r s ms epoch keys tokens x g (Some (frame.Request q)) h = h
@@ -238,6 +244,7 @@ durable_posted r ms f epoch tokens n next items es c h = record {
   given = h.given;
   asked = all_both (FrameCarries r items f) (IsAskedFor r ms) (IsAskedFor r (ms ++ f ∷ [])) (λ e g k. record { did = k.did; sent = all_append (OfRequest (Asks e)) ms (f ∷ []) k.sent (g.1, tt); low = k.low; new = k.new }) es c h.asked;
   apart = h.apart;
+  made = h.made;
 }
 
 pub post_sound : (But : ItemId → Type 0) (r : Held) (ms : List (Option Frame)) (tokens epoch place : ℕ) (log : List (Usn × Change)) (items : List Item) (next_item : ℕ) (points : List Point) (entries : List QueueEntry)

@@ -39,6 +39,7 @@ use Rattle.cf_model_laws.proofs.SoundLinks.{CarriesBy, FrameCarries}
 use Rattle.cf_model_laws.proofs.SkipsGuarded.{cursor_stays, leaves_early}
 use Rattle.cf_model_laws.proofs.SoundSettles.{left_true, right_true}
 use Rattle.cf_model_laws.proofs.EntriesAsked.{carries_asks}
+use Rattle.cf_model_laws.proofs.MadeUploads.{IsAbout}
 
 -- a fresh token
 
@@ -73,6 +74,7 @@ pub record IsNewEntry (s : State) (e : QueueEntry) (bytes : List ℕ) : Type 0 w
   pub off : MovesThere s e
   pub low : e.action ≡ PutFile → e.rid.0 ≡ 1 → ⊥
   pub new : e.action ≡ MakeDir → e.rid.0 ≡ 0
+  pub about : IsAbout s.link.remote (book_now s).entries e
 
 -- nothing says a word of a fresh token
 
@@ -145,6 +147,10 @@ entered s e bytes token sound new = record {
     new = new.new;
   };
   apart = new.apart;
+  fresh = λ rid version f. unrecorded s.filter.volume.epoch s.volatile.tokens s.link.remote.tokens (RecordedDone rid version) sound.recorded (subst (λ (t : Token). recorded_at s.link.remote.tokens t ≡ Some (RecordedDone rid version)) token f);
+  alone = subst (λ (t : Token). All (λ f. same_key f.token.0 t.0 ≡ false) (book_now s).entries) (sym token)
+      (all_weaker (IsEntryOf (next_number s.filter.volume) s.filter.volume.next_item.0 s.filter.volume.epoch s.volatile.tokens) (λ f. same_key f.token.0 (key_after s.filter.volume.epoch s.volatile.tokens) ≡ false) (λ f k. fresh_right s.filter.volume.epoch s.volatile.tokens f.token.0 k.token) (book_now s).entries sound.now.given);
+  about = new.about;
 }
 
 -- the request of the upload

@@ -17,7 +17,7 @@ use Rattle.cf_model.specs.Soundness.{Each}
 use Rattle.cf_model.specs.State.{Filter}
 use Rattle.cf_model.specs.Store.{Held}
 use Rattle.cf_model.specs.Words.{number_of}
-use Rattle.cf_model_laws.specs.Invariant.{All, HasBase, HasNone, IsAimed, SameBase, put_bytes, target_in, waits_on}
+use Rattle.cf_model_laws.specs.Invariant.{All, HasBase, HasNone, IsAimed, IsUnmade, SameBase, put_bytes, target_in, waits_on}
 use Rattle.cf_model_laws.specs.Marks.{IsMadeLast, StandsAtSeen}
 
 -- The identity of an item names a version that the remote has made, or none, and a target of the item's kind, or none. A directory has none, and a file that is no
@@ -70,8 +70,22 @@ IsVacant items i = (i.directory ≡ false → i.writes ≡ []) × (i.directory �
 abbrev pub NoMove : List QueueEntry → ItemId → Type 0
 NoMove es item = All (λ e. e.action ≡ MoveItem → e.item.0 ≡ item.0 → ⊥) es
 
+-- the identity aims at nothing, or at what the remote made for no upload on its way
+abbrev pub AimsFree : Held → List QueueEntry → List ℕ → Type 0
+AimsFree r es identity = ((target_in identity).0 ≡ 0) ⊎ IsUnmade r es (target_in identity)
+
+-- so it is of the identity that an item comes to have
+abbrev pub Aims : Held → Filter → Change → Type 0
+Aims r x (change.Make item parent name kind size identity) = AimsFree r x.volume.book.entries identity
+Aims r x (change.Rebase item identity len at) = AimsFree r x.volume.book.entries identity
+Aims r x (change.Take item identity size) = AimsFree r x.volume.book.entries identity
+Aims r x _ = Unit {0}
+
 -- Of a Mark, besides: its item stands at the path seen and no Move of it is on its way, or the last change made the item.
 abbrev pub Fits : Held → Filter → Change → Type 0
+Fits r x (change.Make item parent name kind size identity) = Meets r x (change.Make item parent name kind size identity) × AimsFree r x.volume.book.entries identity
+Fits r x (change.Rebase item identity len at) = Meets r x (change.Rebase item identity len at) × AimsFree r x.volume.book.entries identity
+Fits r x (change.Take item identity size) = Meets r x (change.Take item identity size) × AimsFree r x.volume.book.entries identity
 Fits r x (change.Remove item) = Meets r x (change.Remove item) × Each item (IsVacant x.volume.items) x.volume.items
 Fits r x (change.Mark item number) =
     Meets r x (change.Mark item number) × ((StandsAtSeen x.volume.items x.volume.book item × NoMove x.volume.book.entries item) ⊎ IsMadeLast x.volume.log item)

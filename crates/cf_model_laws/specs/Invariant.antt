@@ -24,6 +24,7 @@ use Rattle.cf_model.specs.Logs.{items_of, next_of}
 use Rattle.cf_model.specs.Missing.{Wait}
 use Rattle.cf_model.specs.Numbers.{above, no_key, no_usn, same_key, usn_after}
 use Rattle.cf_model.specs.Overlay.{Written, over}
+use Rattle.cf_model.specs.PushReplies.{is_new_entry}
 use Rattle.cf_model.specs.Requests.{Live, is_fetch}
 use Rattle.cf_model.specs.Soundness.{Each}
 use Rattle.cf_model.specs.State.{Filter, Link, Point, State, is_replay}
@@ -171,7 +172,7 @@ Asks e _ = Unit {0}
 abbrev pub DidBy : Action → List Stored → Rid → Rid → Type 0
 DidBy PutFile ss asked rid = IsIn (λ s. s.directory ≡ false) ss rid × ((asked.0 ≡ 0) ⊎ (rid.0 ≡ asked.0))
 DidBy MakeDir ss asked rid = IsIn (λ s. s.directory ≡ true) ss rid
-DidBy MoveItem ss asked rid = rid.0 ≡ asked.0
+DidBy MoveItem ss asked rid = (rid.0 ≡ asked.0) × IsIn (λ s. Unit {0}) ss rid
 DidBy RemoveItem ss asked rid = (rid.0 ≡ asked.0) × IsIn (λ s. s.live ≡ false) ss rid
 
 -- What was sent with the token of the upload is the upload, and so is what the remote did of it.
@@ -187,6 +188,26 @@ abbrev pub AreApart : List QueueEntry → Type 0
 AreApart [] = Unit {0}
 AreApart (e ∷ es) = All (λ f. f.item.0 ≡ e.item.0 → e.item.0 ≡ 0) es × AreApart es
 
+-- the remote made this item for the upload
+abbrev pub Made : Held → QueueEntry → Rid → Type 0
+Made r e rid = (is_new_entry e ≡ true) × ((version : Version) × (recorded_at r.tokens e.token ≡ Some (RecordedDone rid version)))
+
+-- it made this item for none of the uploads
+abbrev pub IsUnmade : Held → List QueueEntry → Rid → Type 0
+IsUnmade r es rid = All (λ e. (new : Rid) → Made r e new → new.0 ≡ rid.0 → ⊥) es
+
+-- no two have one token, and it made none for two of them
+abbrev pub AreMadeApart : Held → List QueueEntry → Type 0
+AreMadeApart r [] = Unit {0}
+AreMadeApart r (e ∷ es) = All (λ f. (same_key e.token.0 f.token.0 ≡ false) × ((rid : Rid) → Made r e rid → Made r f rid → ⊥)) es × AreMadeApart r es
+
+-- What the remote made for uploads on their way is there, below its root. No item here is it, no other upload is about it, and it was made for one.
+pub record AreMadeNew (r : Held) (items : List Item) (es : List QueueEntry) : Type 0 where
+  pub there : All (λ e. (rid : Rid) → Made r e rid → (1 < rid.0) × (rid.0 ≤ length r.items)) es
+  pub unknown : All (λ i. IsUnmade r es (target_in i.identity)) items
+  pub named : All (λ e. e.action ≡ PutFile → (e.rid.0 ≤ length r.items) × IsUnmade r es e.rid) es
+  pub apart : AreMadeApart r es
+
 abbrev pub AreTrueTo : Held → List Item → Type 0
 AreTrueTo r items = All (λ i. i.directory ≡ false → IsTrueTo r i) items
 
@@ -201,6 +222,7 @@ pub record IsDurable (r : Held) (ms : List (Option Frame)) (epoch tokens : ℕ) 
   pub given : All (IsEntryOf next next_item epoch tokens) entries
   pub asked : All (IsAskedFor r ms) entries
   pub apart : AreApart entries
+  pub made : AreMadeNew r items entries
 
 abbrev pub IsPointRight : Held → List (Option Frame) → ℕ → ℕ → Usn → List (Usn × Change) → Point → Type 0
 IsPointRight r ms epoch tokens next log p = (p.count ≤ length log) × IsDurable r ms epoch tokens next (next_of (take p.count log)) (items_of (take p.count log)) p.book.entries
