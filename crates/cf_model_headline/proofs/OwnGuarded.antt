@@ -30,7 +30,7 @@ use Rattle.cf_model_laws.specs.Premises.{IsFair}
 use Rattle.cf_model_laws.proofs.Gathered.{all_map}
 use Rattle.cf_model_laws.proofs.Guarded.{Guarded, GuardedFilter}
 use Rattle.cf_model_laws.proofs.Leading.{Leads, kept_leads, leads_bind, leads_kept, leads_weaker}
-use Rattle.cf_model_laws.proofs.RightItems.{fits_meets, no_way}
+use Rattle.cf_model_laws.proofs.RightItems.{fits_aims, fits_meets, no_way}
 use Rattle.cf_model_laws.proofs.SkipsGuarded.{keeps_both}
 use Rattle.cf_model_laws.proofs.SoundChanges.{KeepsEntries}
 use Rattle.cf_model_laws.proofs.SoundFilters.{change_leads, changed_at}
@@ -61,7 +61,7 @@ module _ (base : Log) (id : WaitId) (item : ItemId) (span : Span) where
       change_leads (Of l) (λ t. Of l t × (IsFair l → IsTruly l.remote t) × (IsFair l → All (IsThe id.0 item span) t.waiting.waits)) f c x h h h
       (λ v is. (
         put v is,
-        (λ fair. sound_truly (Touches c) l tokens (with_notes (notice.Change (next_number v) c ∷ []) (with_volume (put_with_book f c v) x)) (changed_at l tokens f c x keeps (fits_meets l.remote x c (fit fair)) (sound fair) v is)),
+        (λ fair. sound_truly (Touches c) l tokens (with_notes (notice.Change (next_number v) c ∷ []) (with_volume (put_with_book f c v) x)) (changed_at l tokens f c x keeps (fits_meets l.remote x c (fit fair), fits_aims l.remote x c (fit fair)) (sound fair) v is)),
         λ fair. (known fair).1,
       ))
     where

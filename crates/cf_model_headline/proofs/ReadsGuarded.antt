@@ -43,7 +43,7 @@ use Rattle.cf_model_laws.proofs.EventsGuarded.{call_now_keeps, other_event_keeps
 use Rattle.cf_model_laws.proofs.Gathered.{all_append, all_filter, all_map}
 use Rattle.cf_model_laws.proofs.Guarded.{Deleting, EndsOthers, Entering, Guarded, GuardedFilter, IsQuiet}
 use Rattle.cf_model_laws.proofs.Leading.{Leads, kept_leads, leads_bind, leads_kept, leads_weaker}
-use Rattle.cf_model_laws.proofs.RightItems.{fits_meets, no_way, no_way_back}
+use Rattle.cf_model_laws.proofs.RightItems.{fits_aims, fits_meets, no_way, no_way_back}
 use Rattle.cf_model_laws.proofs.SkipsGuarded.{keeps_both}
 use Rattle.cf_model_laws.proofs.SoundChanges.{KeepsEntries}
 use Rattle.cf_model_laws.proofs.SoundFilters.{change_leads, changed_at}
@@ -68,7 +68,7 @@ module _ (base : Log) (ws : List Wait) (e n : ℕ) where
       → Leads (At l) (λ u t. At l t × (IsFair l → IsTruly l.remote t)) (change_with f c x)
   changed l tokens f c x keeps fit sound h =
       change_leads (At l) (λ t. At l t × (IsFair l → IsTruly l.remote t)) f c x h h h
-      (λ v is. (put v is, λ fair. sound_truly (Touches c) l tokens (with_notes (notice.Change (next_number v) c ∷ []) (with_volume (put_with_book f c v) x)) (changed_at l tokens f c x keeps (fits_meets l.remote x c (fit fair)) (sound fair) v is)))
+      (λ v is. (put v is, λ fair. sound_truly (Touches c) l tokens (with_notes (notice.Change (next_number v) c ∷ []) (with_volume (put_with_book f c v) x)) (changed_at l tokens f c x keeps (fits_meets l.remote x c (fit fair), fits_aims l.remote x c (fit fair)) (sound fair) v is)))
     where
       put : (v : Volume) → (v ≡ x.volume) ⊎ (v ≡ with_room_point x.volume) → At l (with_notes (notice.Change (next_number v) c ∷ []) (with_volume (put_with_book f c v) x))
       put v (inl q) = subst (λ (w : Volume). At l (with_notes (notice.Change (next_number w) c ∷ []) (with_volume (put_with_book f c w) x))) (sym q)

@@ -1,5 +1,5 @@
 -- Replies that come too late, and those that do not.
-use Rattle.std.specs.Prelude.{true, Some, None, ◌≡◌, ◌≢◌, ◌<◌}
+use Rattle.std.specs.Prelude.{ℕ, true, Some, None, ◌≡◌, ◌≢◌, ◌<◌}
 use Rattle.cf_base.specs.declared.answers.Answer.{Answer}
 use Rattle.cf_base.specs.declared.answers.Shown.TheVariants as shown
 use Rattle.cf_base.specs.declared.codes.Code.TheVariants as code
