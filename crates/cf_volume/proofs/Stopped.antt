@@ -1,6 +1,6 @@
 -- Answers of calls that were stopped.
 use Rattle.std.proofs.Common.{◌≡◌, inl, refl, sym, ap, subst}
-use Rattle.std.specs.Prelude.{Err, IfErr, IsErrAnd, Ok, Result}
+use Rattle.std.specs.Prelude.{Err, IfErr, IsErrAnd, Ok, OnErr, Result}
 use Rattle.cf_base.specs.declared.changes.Change.{Change}
 use Rattle.cf_base.specs.declared.codes.Code.{Code}
 use Rattle.cf_base.specs.declared.codes.Code.TheVariants as code
@@ -26,3 +26,8 @@ handed_on {A} P (Err y) e is h = subst P (sym is) h
 pub refused_as : (e : CallError) (c : Code) → IsRefused e c → e ≡ fail.No c
 refused_as fail.OutOfMemory c h = absurd h
 refused_as (fail.No code) c h = ap fail.No h
+
+-- what holds however a call ended, holds where it failed
+pub on_err : {A E P : Type 0} → (r : Result A E) → P → OnErr r P
+on_err {A} {E} {P} (Ok a) h = tt
+on_err {A} {E} {P} (Err e) h = h

@@ -1,6 +1,6 @@
 //! Changes of a volume, and commits.
 
-ghost use Rattle.std.specs.Prelude.{◌≡◌, ◌+◌, true, false, length, IfErr, IfOk, OnOk};
+ghost use Rattle.std.specs.Prelude.{◌≡◌, ◌+◌, true, false, length, IfErr, IfOk, OnOk, OnErr};
 ghost use Rattle.cf_disk.specs.Disk.{Counts, Leaves};
 ghost use Rattle.cf_model.specs.Changes.{may_need_room, next_number};
 ghost use Rattle.cf_model.specs.Costs.{most_of_change};
@@ -11,7 +11,7 @@ ghost use Rattle.cf_volume_points.specs.Keeping.{FitsBook, IsNextId};
 ghost use Rattle.cf_volume_points.specs.Sound.{IsKeepable};
 ghost use Rattle.cf_table.specs.Changing.{Fits, item_of_change};
 ghost use Rattle.cf_volume.specs.Calls.{Answers, Breaks, IfBroken, IsCause, Runs, StopsOnly};
-ghost use Rattle.cf_volume.specs.Written.{IsAtPoint, NotesOnly, WritesAtMost, commit_bytes};
+ghost use Rattle.cf_volume.specs.Written.{IsAtPoint, NotesOnly, WritesAtMost, commit_bytes, contents_in};
 
 use crate::commits::commit_parts;
 use crate::room_commits::{accept_with_room, has_place};
@@ -40,6 +40,7 @@ impl<D: Disk> Volume<D> {
         ensures runs { Runs (D.state self.old.disk) (D.state self.new.disk) }
         ensures noted { OnOk result (IsAtPoint self.new.known) }
         ensures written { Counts (commit_bytes self.old.known) result (D.state self.old.disk) (D.state self.new.disk) }
+        ensures contents { contents_in self.new.known ≡ contents_in self.old.known }
         ensures table { self.new.known.table ≡ self.old.known.table }
         ensures records { self.new.known.records ≡ self.old.known.records }
     {
@@ -57,7 +58,7 @@ impl<D: Disk> Volume<D> {
 
     /// Adds one change, and gives its number. It is durable with the next commit. Where it needs more clusters than are
     /// free, but no more than a commit makes free, a commit comes first. Beside that it writes at most the blocks into which
-    /// it puts bytes.
+    /// it puts bytes. Where it fails, rows, records, count and epoch stay as they were.
     pub fn apply(&mut self, change: &Change) -> Result<Usn, CallError>
         requires fits { Fits change.now self.old.known.table.rows }
         requires next { IsNextId change.now self.old.known.table.next }
@@ -69,6 +70,7 @@ impl<D: Disk> Volume<D> {
         ensures noted { OnOk result (NotesOnly (item_of_change change.now) self.old.known self.new.known) }
         ensures written { (v : model) → At (D.state self.old.disk) self.old.known v → (may_need_room change.now v ≡ true → IsKeepable v) → WritesAtMost (commit_bytes self.old.known + most_of_change v.items change.now) (D.state self.old.disk) (D.state self.new.disk) }
         ensures kept_written { (v : model) → At (D.state self.old.disk) self.old.known v → may_need_room change.now v ≡ false → WritesAtMost (most_of_change v.items change.now) (D.state self.old.disk) (D.state self.new.disk) }
+        ensures stays { OnErr result (contents_in self.new.known ≡ contents_in self.old.known) }
         ensures broken { IfBroken self.old result self.new }
         ensures breaks { IfErr result (λ e. Breaks e self.new.known) }
         ensures usable { OnOk result (self.new.known.broken ≡ false) }

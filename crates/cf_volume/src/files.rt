@@ -7,6 +7,7 @@ ghost use Rattle.cf_model.specs.State.{Volume as model};
 ghost use Rattle.cf_volume_points.specs.At.{At, StandsLast};
 ghost use Rattle.cf_table.specs.Tables.{row_of};
 ghost use Rattle.cf_volume.specs.Calls.{Breaks, IfBroken, IsCause, IsHere, Runs, StopsOnly};
+ghost use Rattle.cf_volume.specs.Written.{contents_in};
 
 use crate::block_reads::read_item;
 use crate::stop_causes::fail_of;
@@ -24,6 +25,7 @@ impl<D: Disk> Volume<D> {
         ensures only { self.old.known.broken ≡ false → IfErr result StopsOnly }
         ensures crash { (v : model) → At (D.state self.old.disk) self.old.known v → Leaves (D.state self.old.disk) (D.state self.new.disk) (StandsLast v) }
         ensures known { OnOk result (self.new.known ≡ self.old.known) }
+        ensures contents { contents_in self.new.known ≡ contents_in self.old.known }
         ensures broken { IfBroken self.old result self.new }
         ensures breaks { IfErr result (λ e. Breaks e self.new.known) }
         ensures usable { OnOk result (self.new.known.broken ≡ false) }

@@ -1,6 +1,6 @@
 //! Changes of items that are not there, put: they are counted, and change no item.
 
-ghost use Rattle.std.specs.Prelude.{◌≡◌, ◌<◌, ◌+◌, ◌^◌, [], None, length, nat_lt, true, IfErr, OnOk};
+ghost use Rattle.std.specs.Prelude.{◌≡◌, ◌<◌, ◌+◌, ◌^◌, [], None, length, nat_lt, true, IfErr, OnOk, OnErr};
 ghost use Rattle.cf_volume_blocks.specs.Bytes.{puts_in};
 ghost use Rattle.cf_clusters.specs.Roles.{how_many, is_now};
 ghost use Rattle.cf_disk.specs.Disk.{size_of};
@@ -66,6 +66,7 @@ pub(crate) fn put_absent<D: Disk>(
     ensures steady { OnOk result (Steady (size_of (D.state disk.now)) (known_of parts.new)) }
     ensures cause { IfErr result (λ e. IsCause e (D.state disk.now) (D.state disk.now)) }
     ensures noted { OnOk result (NotesOnly (item_of_change change.now) (known_of parts.old) (known_of parts.new)) }
+    ensures stays { OnErr result (parts.new.contents ≡ parts.old.contents) }
     ensures broken { parts.new.broken ≡ parts.old.broken }
 {
     let _ = disk;

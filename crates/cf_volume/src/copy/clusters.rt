@@ -1,6 +1,6 @@
 //! The clusters of a file, copied into free ones.
 
-ghost use Rattle.std.specs.Prelude.{◌≡◌, ◌≤◌, ◌<◌, ◌*◌, [], ℕ, All, None, Some, length, IfErr, OnOk};
+ghost use Rattle.std.specs.Prelude.{◌≡◌, ◌≤◌, ◌<◌, ◌*◌, [], ℕ, All, None, Some, length, IfErr, OnOk, OnErr};
 ghost use Rattle.cf_clusters.specs.Area.{KeepsWhere, place};
 ghost use Rattle.cf_clusters.specs.Roles.{IsCommitted, IsUsed, how_many, is_free};
 ghost use Rattle.cf_disk.specs.Disk.{Leaves, size_of};
@@ -88,6 +88,7 @@ pub(crate) fn copy_item<D: Disk>(
     ensures crash { Leaves (D.state disk.old) (D.state disk.new) (KeepsWhere IsCommitted held.old (D.state disk.old)) }
     ensures ran { (r : Row) → row_of rows.old.rows from ≡ Some r → Ran (4096 * length r.extents) (D.state disk.old) (D.state disk.new) }
     ensures runs { Runs (D.state disk.old) (D.state disk.new) }
+    ensures stays { OnErr result (rows.new ≡ rows.old) }
     ensures cause { IfErr result (λ e. IsStop e (D.state disk.old) (D.state disk.new)) }
 {
     let mut row = planned;

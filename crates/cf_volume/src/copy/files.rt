@@ -1,6 +1,6 @@
 //! Copies of files, judged and put.
 
-ghost use Rattle.std.specs.Prelude.{◌≡◌, ◌≤◌, ◌<◌, ◌+◌, ◌*◌, All, None, Some, length, IfErr, OnOk};
+ghost use Rattle.std.specs.Prelude.{◌≡◌, ◌≤◌, ◌<◌, ◌+◌, ◌*◌, All, None, Some, length, IfErr, OnOk, OnErr};
 ghost use Rattle.cf_base.specs.declared.changes.Change.{Change};
 ghost use Rattle.cf_clusters.specs.Area.{KeepsWhere};
 ghost use Rattle.cf_clusters.specs.Roles.{IsCommitted, how_many, is_free};
@@ -64,6 +64,7 @@ fn put_copied<D: Disk>(disk: &mut D, parts: &mut Parts, from: ItemId, row: Row) 
     ensures runs { Runs (D.state disk.old) (D.state disk.new) }
     ensures cause { IfErr result (λ e. IsStop e (D.state disk.old) (D.state disk.new)) }
     ensures noted { OnOk result (parts.new.then ≡ parts.old.then) }
+    ensures stays { OnErr result (parts.new.contents ≡ parts.old.contents) }
     ensures broken { parts.new.broken ≡ parts.old.broken }
 {
     let _ = parts.contents.rows.image_len();
@@ -101,6 +102,7 @@ fn put_judged<D: Disk>(
     ensures runs { Runs (D.state disk.old) (D.state disk.new) }
     ensures cause { IfErr result (λ e. IsCause e (D.state disk.old) (D.state disk.new)) }
     ensures noted { OnOk result (parts.new.then ≡ parts.old.then) }
+    ensures stays { OnErr result (parts.new.contents ≡ parts.old.contents) }
     ensures broken { parts.new.broken ≡ parts.old.broken }
 {
     let number = row.number;
@@ -138,6 +140,7 @@ pub(crate) fn put_copy<D: Disk>(
     ensures runs { Runs (D.state disk.old) (D.state disk.new) }
     ensures cause { IfErr result (λ e. IsCause e (D.state disk.old) (D.state disk.new)) }
     ensures noted { OnOk result (NotesOnly (item_of_change change.now) (known_of parts.old) (known_of parts.new)) }
+    ensures stays { OnErr result (parts.new.contents ≡ parts.old.contents) }
     ensures broken { parts.new.broken ≡ parts.old.broken }
 {
     let last = parts.contents.last;

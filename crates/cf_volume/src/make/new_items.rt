@@ -1,6 +1,6 @@
 //! New items, judged, and those without a byte put.
 
-ghost use Rattle.std.specs.Prelude.{◌≡◌, ◌≤◌, ◌<◌, ◌+◌, ◌∷◌, [], ℕ, All, length, IfErr, IfNone, IfSome, OnOk};
+ghost use Rattle.std.specs.Prelude.{◌≡◌, ◌≤◌, ◌<◌, ◌+◌, ◌∷◌, [], ℕ, All, length, IfErr, IfNone, IfSome, OnOk, OnErr};
 ghost use Rattle.cf_base.specs.declared.changes.Change.{Change};
 ghost use Rattle.cf_disk.specs.Disk.{size_of};
 ghost use Rattle.cf_model.specs.Blocks.{puts_into};
@@ -83,6 +83,7 @@ fn put_new<D: Disk>(disk: &D, parts: &mut Parts, row: Row) -> Result<Option<Usn>
     ensures cause { IfErr result (λ e. IsCause e (D.state disk.now) (D.state disk.now)) }
     ensures steady { OnOk result (Steady (size_of (D.state disk.now)) (known_of parts.new)) }
     ensures noted { OnOk result (parts.new.then ≡ parts.old.then) }
+    ensures stays { OnErr result (parts.new.contents ≡ parts.old.contents) }
     ensures broken { parts.new.broken ≡ parts.old.broken }
 {
     let number = row.number;
@@ -110,6 +111,7 @@ pub(crate) fn put_make<D: Disk>(
     ensures cause { IfErr result (λ e. IsCause e (D.state disk.now) (D.state disk.now)) }
     ensures steady { OnOk result (Steady (size_of (D.state disk.now)) (known_of parts.new)) }
     ensures noted { OnOk result (NotesOnly (item_of_change change.now) (known_of parts.old) (known_of parts.new)) }
+    ensures stays { OnErr result (parts.new.contents ≡ parts.old.contents) }
     ensures broken { parts.new.broken ≡ parts.old.broken }
 {
     let last = parts.contents.last;

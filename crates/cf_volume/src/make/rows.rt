@@ -1,6 +1,6 @@
 //! Rows of new items, planned, and those without a byte put.
 
-ghost use Rattle.std.specs.Prelude.{◌≡◌, ◌≤◌, ◌<◌, ◌+◌, ℕ, All, true, Some, length, IfOk, MatchOption, OnOk};
+ghost use Rattle.std.specs.Prelude.{◌≡◌, ◌≤◌, ◌<◌, ◌+◌, ℕ, All, true, Some, length, IfOk, MatchOption, OnOk, OnErr};
 ghost use Rattle.cf_base.specs.declared.changes.Change.{Change};
 ghost use Rattle.cf_disk.specs.Disk.{size_of};
 ghost use Rattle.cf_model.specs.Changes.{put_change};
@@ -108,6 +108,7 @@ pub(crate) fn put_made<D: Disk>(disk: &D, parts: &mut Parts, row: Row) -> Result
     ensures at { (v : Volume) (c : Change) (i : Item) (n : ℕ) → At (D.state disk.now) (known_of parts.old) v → IsMade c v row i n → FitsTable (put_change c v).items (put_change c v).book → OnOk result (At (D.state disk.now) (known_of parts.new) (put_change c v)) }
     ensures steady { OnOk result (Steady (size_of (D.state disk.now)) (known_of parts.new)) }
     ensures noted { OnOk result (parts.new.then ≡ parts.old.then) }
+    ensures stays { OnErr result (parts.new.contents ≡ parts.old.contents) }
     ensures broken { parts.new.broken ≡ parts.old.broken }
 {
     let _ = disk;

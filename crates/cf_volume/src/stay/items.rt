@@ -1,6 +1,6 @@
 //! Changes of items that stay, from a plan to the clusters.
 
-ghost use Rattle.std.specs.Prelude.{◌≡◌, ◌<◌, ◌+◌, true, None, Some, Ok, IfErr, OnOk};
+ghost use Rattle.std.specs.Prelude.{◌≡◌, ◌<◌, ◌+◌, true, None, Some, Ok, IfErr, OnOk, OnErr};
 ghost use Rattle.cf_clusters.specs.Area.{KeepsWhere};
 ghost use Rattle.cf_clusters.specs.Roles.{IsCommitted};
 ghost use Rattle.cf_disk.specs.Disk.{Leaves, size_of};
@@ -41,6 +41,7 @@ pub(crate) fn put_stay<D: Disk>(
     ensures written { (v : Volume) → At (D.state disk.old) (known_of parts.old) v → WritesAtMost (most_of_change v.items change.now) (D.state disk.old) (D.state disk.new) }
     ensures runs { Runs (D.state disk.old) (D.state disk.new) }
     ensures cause { IfErr result (λ e. IsCause e (D.state disk.old) (D.state disk.new)) }
+    ensures stays { OnErr result (parts.new.contents ≡ parts.old.contents) }
     ensures broken { parts.new.broken ≡ parts.old.broken }
 {
     let _ = parts.contents.rows.image_len();

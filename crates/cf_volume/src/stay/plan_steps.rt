@@ -1,6 +1,6 @@
 //! Planned changes, carried out on the table and the clusters.
 
-ghost use Rattle.std.specs.Prelude.{◌≡◌, ◌≤◌, ◌<◌, ◌*◌, ℕ, None, Some, length, OnOk, IfErr};
+ghost use Rattle.std.specs.Prelude.{◌≡◌, ◌≤◌, ◌<◌, ◌*◌, ℕ, None, Some, length, OnOk, OnErr, IfErr};
 ghost use Rattle.cf_volume_blocks.specs.Bytes.{HasEnd};
 ghost use Rattle.cf_clusters.specs.Area.{KeepsWhere, place};
 ghost use Rattle.cf_clusters.specs.Roles.{IsCommitted, how_many, is_free};
@@ -39,6 +39,7 @@ pub(crate) fn change_item<D: Disk>(
     ensures carried { OnOk result (Carries change.now id planned.row planned.blocks.items (D.state disk.old) (D.state disk.new) held.old held.new rows.old rows.new) }
     ensures crash { Leaves (D.state disk.old) (D.state disk.new) (KeepsWhere IsCommitted held.old (D.state disk.old)) }
     ensures ran { Ran (4096 * length planned.blocks.items) (D.state disk.old) (D.state disk.new) }
+    ensures stays { OnErr result (rows.new ≡ rows.old) }
     ensures cause { IfErr result (λ e. IsStop e (D.state disk.old) (D.state disk.new)) }
 {
     let mut after = planned.row;

@@ -1,6 +1,6 @@
 //! Changes of items that stay, put.
 
-ghost use Rattle.std.specs.Prelude.{◌≡◌, ◌≤◌, ◌<◌, ◌*◌, true, None, Some, length, IfErr, OnOk};
+ghost use Rattle.std.specs.Prelude.{◌≡◌, ◌≤◌, ◌<◌, ◌*◌, true, None, Some, length, IfErr, OnOk, OnErr};
 ghost use Rattle.cf_volume_blocks.specs.Bytes.{HasEnd};
 ghost use Rattle.cf_clusters.specs.Area.{KeepsWhere};
 ghost use Rattle.cf_clusters.specs.Roles.{IsCommitted, how_many, is_free};
@@ -48,6 +48,7 @@ pub(crate) fn put_planned<D: Disk>(
     ensures noted { OnOk result (NotesOnly (item_of_change change.now) (known_of parts.old) (known_of parts.new)) }
     ensures ran { Ran (4096 * length planned.blocks.items) (D.state disk.old) (D.state disk.new) }
     ensures cause { IfErr result (λ e. IsStop e (D.state disk.old) (D.state disk.new)) }
+    ensures stays { OnErr result (parts.new.contents ≡ parts.old.contents) }
     ensures broken { parts.new.broken ≡ parts.old.broken }
 {
     let id = item_of(change);

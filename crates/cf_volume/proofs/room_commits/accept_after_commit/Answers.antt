@@ -1,14 +1,14 @@
-use Rattle.std.proofs.Common.{◌+◌, inr, sym, ◌∙◌, arith}
+use Rattle.std.proofs.Common.{◌+◌, inr, sym, ◌∙◌, ap, arith}
 use Rattle.cf_disk.specs.Leaving.{leaves_then}
 use Rattle.cf_model.specs.Points.{with_room_point}
 use Rattle.cf_volume_points.specs.At.{StandsEither, StandsLast}
-use Rattle.cf_volume.proofs.Stopped.{handed_on}
-use Rattle.cf_volume.proofs.WithRoom.{done_some, judged_none, judged_stop, none_waits, room_now}
+use Rattle.cf_volume.proofs.Stopped.{handed_on, on_err}
+use Rattle.cf_volume.proofs.WithRoom.{done_some, judged_none, judged_stop, kept_none, none_waits, room_now}
 use Rattle.cf_volume.specs.Calls.{StopsOnly}
 use Rattle.cf_volume.specs.Steady.{known_of}
 use Rattle.cf_model.specs.Costs.{most_of_change}
 use Rattle.cf_volume.proofs.WrittenBytes.{notes_after, writes_more, writes_then}
-use Rattle.cf_volume.specs.Written.{commit_bytes}
+use Rattle.cf_volume.specs.Written.{commit_bytes, contents_in}
 use Rattle.cf_table.specs.Changing.{item_of_change}
 use Rattle.cf_volume.proofs.room_commits.accept_after_commit.Goals as goal
 
@@ -62,3 +62,14 @@ returns-clause-written g c = λ v at keep.
 
 pub returns-then-is_some-clause-noted : goal.returns-then-is_some-clause-noted
 returns-then-is_some-clause-noted g c = notes_after (item_of_change c.args.change.now) (known_of c.args.parts.now) (known_of c.commit_parts.new.parts) (known_of c.accept.new.parts) c.in_ok-commit_parts.ensures.noted c.in_ok-accept.ensures.noted
+
+pub returns-in_err-commit_parts-clause-stays : goal.returns-in_err-commit_parts-clause-stays
+returns-in_err-commit_parts-clause-stays g c = on_err c.from_residual.result c.in_err-commit_parts.ensures.contents
+
+pub returns-in_err-accept-clause-stays : goal.returns-in_err-accept-clause-stays
+returns-in_err-accept-clause-stays g c = on_err c.from_residual-in_err-accept.result (c.in_err-accept.ensures.stays ∙ c.in_ok-commit_parts.ensures.contents)
+
+pub returns-clause-stays : goal.returns-clause-stays
+returns-clause-stays g c =
+    let same = kept_none c.commit_parts.new.disk c.accept.new.disk (known_of c.commit_parts.new.parts) (known_of c.accept.new.parts) c.in_ok-accept.field-0 (sym c.is_some.ensures ∙ c.if-is_some.false) c.in_ok-accept.ensures.kept in
+    ap contents_in same.1 ∙ c.in_ok-commit_parts.ensures.contents

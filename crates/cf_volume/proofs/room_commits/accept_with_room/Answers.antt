@@ -1,16 +1,16 @@
-use Rattle.std.proofs.Common.{◌+◌, sym, ◌∙◌, subst, arith}
+use Rattle.std.proofs.Common.{◌+◌, sym, ◌∙◌, ap, subst, arith}
 use Rattle.std.proofs.lemmas.Bool.{true≢false}
 use Rattle.cf_disk.specs.Disk.{Leaves}
 use Rattle.cf_volume_points.proofs.Saves.{untouched, untouched_either}
 use Rattle.cf_volume_points.specs.At.{StandsEither}
 use Rattle.cf_volume_points.specs.Known.{Known}
-use Rattle.cf_volume.proofs.Stopped.{handed_on}
+use Rattle.cf_volume.proofs.Stopped.{handed_on, on_err}
 use Rattle.cf_volume.proofs.WithRoom.{judged_none, kept_none, same_at}
 use Rattle.cf_volume.specs.Calls.{StopsOnly}
 use Rattle.cf_volume.specs.Steady.{known_of}
 use Rattle.cf_model.specs.Costs.{most_of_change}
 use Rattle.cf_volume.proofs.WrittenBytes.{stops_answer, writes_more}
-use Rattle.cf_volume.specs.Written.{NotesOnly, WritesAtMost, commit_bytes}
+use Rattle.cf_volume.specs.Written.{NotesOnly, WritesAtMost, commit_bytes, contents_in}
 use Rattle.cf_table.specs.Changing.{item_of_change}
 use Rattle.cf_volume.proofs.room_commits.accept_with_room.Goals as goal
 
@@ -99,3 +99,8 @@ returns-in_err-accept_after_commit-clause-why g c = λ v at keep.
     stops_answer c.args.change.now v _ _ c.from_residual-in_err-accept_after_commit.result c.from_residual-in_err-accept_after_commit.ensures.0
     (handed_on StopsOnly c.from_residual-in_err-accept_after_commit.result c.in_err-accept_after_commit.field-0.0 c.from_residual-in_err-accept_after_commit.ensures.1
     (c.in_err-accept_after_commit.ensures.only v (same_at g.D.Disk.state c.args.disk.now c.accept.new.disk (known_of c.args.parts.now) (known_of c.accept.new.parts) v same at) (keep waits.1) waits.0))
+
+pub returns-in_err-accept_after_commit-clause-stays : goal.returns-in_err-accept_after_commit-clause-stays
+returns-in_err-accept_after_commit-clause-stays g c =
+    let same = kept_none c.args.disk.now c.accept.new.disk (known_of c.args.parts.now) (known_of c.accept.new.parts) c.in_ok-accept.field-0 (sym c.is_some.ensures ∙ c.if-is_some.false) c.in_ok-accept.ensures.kept in
+    on_err c.from_residual-in_err-accept_after_commit.result (c.in_err-accept_after_commit.ensures.stays ∙ ap contents_in same.1)
