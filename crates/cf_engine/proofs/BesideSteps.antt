@@ -16,7 +16,7 @@ use Rattle.cf_base.specs.declared.notices.Notice.{Notice}
 use Rattle.cf_base.specs.declared.policies.Mode.TheVariants as mode
 use Rattle.cf_engine.specs.Actors.{Holds, Stands, Syncing, acts_of}
 use Rattle.cf_engine.proofs.PeerFaults.{peer_pays}
-use Rattle.cf_engine_steps.specs.States.{Own, faults_of, with_link_of}
+use Rattle.cf_engine_steps.specs.States.{Own, told_of, with_link_of}
 use Rattle.cf_filter_events.proofs.CallFaults.{rose_same}
 use Rattle.cf_filter_events.proofs.EventFaults.{lines_faults, result_faults}
 use Rattle.cf_filter_events.specs.Actors.{LeavesTo, StepsBeside}
@@ -25,7 +25,7 @@ use Rattle.cf_filter.specs.Calling.{shows_done}
 use Rattle.cf_filter_events.specs.Answered.{answer_with, answered_by, showing}
 use Rattle.cf_link.proofs.FaultCounts.{rises_by}
 use Rattle.cf_link.proofs.Ways.{leads_ends}
-use Rattle.cf_link.specs.Faults.{RoseBy, faults_in}
+use Rattle.cf_link.specs.Faults.{AsksFailed, faults_in}
 use Rattle.cf_link.specs.Linked.{Arrives, Does, DoesPeer, IsLink, lines_of, with_line}
 use Rattle.cf_link.specs.Linked as links
 use Rattle.cf_model.proofs.TraceLaws.{ended_step}
@@ -59,7 +59,7 @@ module _ {R : Type 0} (told : R → Told) where
 
   module _ (e : Event) (a : Answer) (x y : Syncing R) (is : IsBeside e) (rest : y.engine ≡ with_link_of y.engine.agent.link x.engine)
       (leads : (s : State) → IsLink told x.engine.agent.link s.link → x.next ≡ s.peer_tokens + 1 → Leaves e a y.engine.agent.link y.next s)
-      (pays : (s : State) → IsLink told x.engine.agent.link s.link → x.next ≡ s.peer_tokens + 1 → FaultsTo (Ok a) (faults_of told x.engine) (faults_of told y.engine)) where
+      (pays : (s : State) → IsLink told x.engine.agent.link s.link → x.next ≡ s.peer_tokens + 1 → FaultsTo (Ok a) (told_of told x.engine) (told_of told y.engine)) where
     abbrev stepped : (Is : Syncing R → State → Type 0) (s : State) (l : Leaves e a y.engine.agent.link y.next s) → Is y (changed l.link l.tokens a.notes a.stray s) → LeavesTo mode.Replay Is e s (Ok a) y
     stepped Is s l h = (
       changed l.link l.tokens a.notes a.stray s,
@@ -94,7 +94,7 @@ module _ {R : Type 0} (told : R → Told) where
       (subst (λ (z : Syncing R). StepsBeside (acts_of told) (event.Engine (engine.Link inline)) x (Ok (answer_with shown.Done [])) z) (sym is)
       (steps_beside (event.Engine (engine.Link inline)) (answer_with shown.Done []) x (record x { engine = with_link_of (inline_on inline x.engine.agent.link) x.engine }) (record { of = refl; needs = refl }) refl
       (λ s link next. record { link = record s.link { inline = inline }; tokens = s.peer_tokens; ends = (refl, refl); stands = link_on inline x.engine.agent.link s.link link; token = next })
-      (λ s link next. lines_faults (answer_with shown.Done []) (faults_of told x.engine) (faults_of told x.engine) refl (rose_same 0 (faults_of told x.engine) refl))))
+      (λ s link next. lines_faults (answer_with shown.Done []) (told_of told x.engine) (told_of told x.engine) refl (rose_same 0 (told_of told x.engine) refl))))
 
   -- a message is handed to the remote
 
@@ -102,7 +102,7 @@ module _ {R : Type 0} (told : R → Told) where
     abbrev arrival : Event
     arrival = event.Engine (engine.Arrive m)
 
-    arrives_by : (r : Shown) (line : Option Notice) → Does told (arrive m) x.engine.agent.link r line y.engine.agent.link → meets_remote r ≡ false → RoseBy (faults_in (lines_of line)) (faults_of told x.engine) (faults_of told y.engine)
+    arrives_by : (r : Shown) (line : Option Notice) → Does told (arrive m) x.engine.agent.link r line y.engine.agent.link → meets_remote r ≡ false → AsksFailed (faults_in (lines_of line)) (told_of told x.engine) (told_of told y.engine)
         → StepsBeside (acts_of told) arrival x (Ok (answer_with r (lines_of line))) y
     arrives_by r line does plain rose = steps_beside arrival (answer_with r (lines_of line)) x y (record { of = refl; needs = refl }) rest (λ s link next.
         let d = does.ends (begun s) link in record {
@@ -112,15 +112,15 @@ module _ {R : Type 0} (told : R → Told) where
               (leads_ends (arrive m (begun s)) (told x.engine.agent.link.remote) (told y.engine.agent.link.remote) r (with_line line (with_link d.link (begun s))) d.leads);
           stands = d.stands;
           token = same ∙ next;
-        }) (λ s link next. lines_faults (answer_with r (lines_of line)) (faults_of told x.engine) (faults_of told y.engine) plain rose)
+        }) (λ s link next. lines_faults (answer_with r (lines_of line)) (told_of told x.engine) (told_of told y.engine) plain rose)
 
-    -- a link that stays as it is, and so does the remote's count
-    still : y.engine.agent.link ≡ x.engine.agent.link → RoseBy 0 (faults_of told x.engine) (faults_of told y.engine)
-    still kept = subst (λ (l : links.Linked R). RoseBy 0 (faults_of told x.engine) (told l.remote).faults) (sym kept) (rose_same 0 (faults_of told x.engine) refl)
+    -- a link that stays as it is, whose remote was not asked
+    still : y.engine.agent.link ≡ x.engine.agent.link → AsksFailed 0 (told_of told x.engine) (told_of told y.engine)
+    still kept = subst (λ (l : links.Linked R). AsksFailed 0 (told_of told x.engine) (told l.remote)) (sym kept) (rose_same 0 (told_of told x.engine) refl)
 
     arrives_to : (r : Result (Unit {0}) CallError) (ns : List Notice) → Arrives told m x.engine.agent.link [] r y.engine.agent.link ns → StepsBeside (acts_of told) arrival x (answered_by (showing shows_done r) ns) y
     unfolding shows_done
-    arrives_to (Ok u) ns h = subst (λ (l : List Notice). StepsBeside (acts_of told) arrival x (Ok (answer_with shown.Done l)) y) (sym h.1) (arrives_by shown.Done h.0 h.2 refl (rises_by h.0 (faults_of told x.engine) (faults_of told y.engine) h.3))
+    arrives_to (Ok u) ns h = subst (λ (l : List Notice). StepsBeside (acts_of told) arrival x (Ok (answer_with shown.Done l)) y) (sym h.1) (arrives_by shown.Done h.0 h.2 refl (rises_by h.0 (told_of told x.engine) (told_of told y.engine) h.3))
     arrives_to (Err (No c)) ns h = subst (λ (l : List Notice). StepsBeside (acts_of told) arrival x (Ok (answer_with (shown.Refused c) l)) y) (sym h.1) (arrives_by (shown.Refused c) None h.3 (ap is_remote_fault h.0) (still h.2))
     arrives_to (Err OutOfMemory) ns h = no_memory arrival x y (record {})
 
@@ -144,7 +144,7 @@ module _ {R : Type 0} (told : R → Told) where
         token = d.next;
       }) (λ s link next.
       let d = does.ends (begun s) refl next link in
-      result_faults a (faults_of told x.engine) (faults_of told y.engine) d.notes (peer_pays e (begun s) (changed d.link d.tokens [] a.stray s) (told x.engine.agent.link.remote) (told y.engine.agent.link.remote) a.shown d.leads))
+      result_faults a (told_of told x.engine) (told_of told y.engine) d.notes (peer_pays e (begun s) (changed d.link d.tokens [] a.stray s) (told x.engine.agent.link.remote) (told y.engine.agent.link.remote) a.shown d.leads))
 
   -- the same as the code comes to them
 

@@ -1,6 +1,6 @@
--- An event of another device is refused as RemoteFault only where the remote failed.
+-- An event of another device is refused as RemoteFault exactly where one of its asks of the remote failed.
 use Rattle.std.proofs.Common.{◌≡◌, ◌≤◌, ◌+◌, ℕ, Bool, true, false, List, [], ◌∷◌, refl, sym, ap, subst, ◌∙◌, arith}
-use Rattle.std.specs.Prelude.{Option, Some, None, cond, min, nat_lt, not, length}
+use Rattle.std.specs.Prelude.{Option, Some, None, cond, nat_lt, not, length}
 use Rattle.std.specs.List.{list_all}
 use Rattle.cf_base.specs.declared.answers.Shown.{Shown}
 use Rattle.cf_base.specs.declared.answers.Shown.TheVariants as shown
@@ -18,9 +18,8 @@ use Rattle.cf_base.specs.declared.messages.Request.TheVariants as request
 use Rattle.cf_base.specs.declared.messages.Why.{Why}
 use Rattle.cf_base.specs.declared.messages.Why.TheVariants as why
 use Rattle.cf_filter_events.specs.Faulted.{meets_remote}
-use Rattle.cf_link.proofs.FaultCounts as counts
-use Rattle.cf_link.proofs.Ways.{leads_least}
-use Rattle.cf_link.specs.Faults.{RoseBy, most_faults}
+use Rattle.cf_link.proofs.FaultCounts.{failed_both, failed_none, failed_once, rose_none}
+use Rattle.cf_link.specs.Faults.{AsksFailed, Once}
 use Rattle.cf_model.specs.Arrows.{Arrow, choose, seq}
 use Rattle.cf_model.specs.LookUp.{bad_names, names_of}
 use Rattle.cf_model.specs.Messages.{after_ask, ask, counted, distrusted, with_remote}
@@ -33,47 +32,43 @@ use Rattle.cf_model.specs.Trees as trees
 use Rattle.cf_model.specs.Trees.{AsItKeeps, Ret, Telling, Tells, Tree, bind}
 use Rattle.cf_model.specs.Words.{but_last, first_of, last_of}
 use Rattle.cf_remote.specs.Peers.{IsTelling, Leads}
-use Rattle.cf_remote.specs.Told.{Told}
+use Rattle.cf_remote.specs.Told.{Counts, Told}
 
--- whichever way through the tree is gone, the count of faults rose where the result is RemoteFault
+-- whichever way through the tree is gone, one ask of it failed where the result is RemoteFault, and else none
 abbrev Pays : Tree State Shown → Type 0
-Pays p = (old new : Told) (b : Shown) (t : State) → Leads p old b t new → RoseBy (cond (meets_remote b) 1 0) old.faults new.faults
+Pays p = (old new : Told) (b : Shown) (t : State) → Leads p old b t new → AsksFailed (cond (meets_remote b) 1 0) old new
 
--- so it does from each state
+-- so it is from each state
 abbrev PaysAll : Arrow State Shown → Type 0
 PaysAll f = (s : State) → Pays (f s)
 
--- counts
+after_none : (n : ℕ) (a b c : Told) → AsksFailed 0 a b → AsksFailed n b c → AsksFailed n a c
+after_none n a b c h k = subst (λ (m : ℕ). AsksFailed m a c) (omega arith) (failed_both 0 n a b c h k)
 
-after_none : (n a b c : ℕ) → RoseBy 0 a b → RoseBy n b c → RoseBy n a c
-after_none n a b c h k = subst (λ (m : ℕ). RoseBy m a c) (omega arith) (counts.rose_both 0 n a b c h k)
-
-one_enough : (cap a b : ℕ) (is : Bool) → min (a + 1) cap ≤ b → min (a + cond is 1 0) cap ≤ b
-one_enough cap a b true h = h
-one_enough cap a b false h = omega (arith, h)
-
-one_then : (cap a b c : ℕ) → min (a + 1) cap ≤ b → min (b + 0) cap ≤ c → min (a + 1) cap ≤ c
-one_then cap a b c h k = omega (arith, h, k)
+replied : (old mid : Told) → Counts false old mid → old.faults ≤ mid.faults → AsksFailed 0 old mid
+replied old mid counts least = failed_once false old mid (record { counts = counts; rose = rose_none old.faults mid.faults least })
 
 -- a result that is not RemoteFault
 pays_ret : (a : Shown) (s : State) → meets_remote a ≡ false → Pays (Ret a s)
 pays_ret a s plain old new b t h =
     let none : meets_remote b ≡ false = ap meets_remote h.0 ∙ plain in
-    subst (λ (is : Bool). RoseBy (cond is 1 0) old.faults new.faults) (sym none) (leads_least (Ret a s) old new b t h)
+    subst (λ (u : Told). AsksFailed (cond (meets_remote b) 1 0) old u) (sym h.2) (subst (λ (is : Bool). AsksFailed (cond is 1 0) old old) (sym none) (failed_none old))
 
 pays_choose : (b : Bool) (f g : Arrow State Shown) → PaysAll f → PaysAll g → PaysAll (choose b f g)
 pays_choose true f g h k = h
 pays_choose false f g h k = k
 
--- after an ask that fails the rest is as it is, and so it is after a reply
-module _ (k : Option Reply → Arrow State Shown) (rest : (r : Reply) → PaysAll (k (Some r))) where
-  pays_told : (r : Reply × Held) (s : State) (w : Telling) (old mid new : Told) (b : Shown) (t : State) → IsTelling w old mid → Leads (bind (after_ask r s w) k) mid b t new → RoseBy (cond (meets_remote b) 1 0) old.faults new.faults
-  pays_told r s AsItKeeps old mid new b t is leads =
-      after_none (cond (meets_remote b) 1 0) old.faults mid.faults new.faults (counts.rose_none old.faults mid.faults is.1) (rest r.0 (with_remote r.1 (counted s)) mid new b t leads)
-  pays_told r s trees.Faults old mid new b t is leads =
-      one_enough most_faults old.faults new.faults (meets_remote b) (one_then most_faults old.faults mid.faults new.faults is.1 (leads_least (k None (counted s)) mid new b t leads))
-  pays_told r s (Tells other) old mid new b t is leads =
-      after_none (cond (meets_remote b) 1 0) old.faults mid.faults new.faults (counts.rose_none old.faults mid.faults is.1) (rest other (distrusted (with_remote r.1 (counted s))) mid new b t leads)
+-- where an ask fails that is the result, and after a reply the rest is as it is
+module _ (k : Option Reply → Arrow State Shown) (fails : (s : State) → (u : State) × (k None s ≡ Ret (shown.Refused code.RemoteFault) u)) (rest : (r : Reply) → PaysAll (k (Some r))) where
+  pays_fault : (s : State) (old mid new : Told) (b : Shown) (t : State) → Once true old mid → Leads (k None s) mid b t new → AsksFailed (cond (meets_remote b) 1 0) old new
+  pays_fault s old mid new b t once leads =
+      let e : (b ≡ shown.Refused code.RemoteFault) × (t ≡ (fails s).0) × (new ≡ mid) = subst (λ (p : Tree State Shown). Leads p mid b t new) (fails s).1 leads in
+      subst (λ (u : Told). AsksFailed (cond (meets_remote b) 1 0) old u) (sym e.2) (subst (λ (is : Bool). AsksFailed (cond is 1 0) old mid) (sym (ap meets_remote e.0)) (failed_once true old mid once))
+
+  pays_told : (r : Reply × Held) (s : State) (w : Telling) (old mid new : Told) (b : Shown) (t : State) → IsTelling w old mid → Leads (bind (after_ask r s w) k) mid b t new → AsksFailed (cond (meets_remote b) 1 0) old new
+  pays_told r s AsItKeeps old mid new b t is leads = after_none (cond (meets_remote b) 1 0) old mid new (replied old mid is.0 is.1) (rest r.0 (with_remote r.1 (counted s)) mid new b t leads)
+  pays_told r s trees.Faults old mid new b t is leads = pays_fault (counted s) old mid new b t (record { counts = is.0; rose = is.1 }) leads
+  pays_told r s (Tells other) old mid new b t is leads = after_none (cond (meets_remote b) 1 0) old mid new (replied old mid is.0 is.1) (rest other (distrusted (with_remote r.1 (counted s))) mid new b t leads)
 
   pays_ask : (q : Request) → PaysAll (seq (ask q) k)
   pays_ask q s old new b t h = pays_told (remote_step s.link.remote q) s h.0 old h.1 new b t h.2 h.3
@@ -92,7 +87,7 @@ pays_entries f each (reply.Refused token w version) b = λ s. pays_ret (shown.Re
 pays_entries f each (reply.Gone key) b = λ s. pays_ret (shown.Refused code.Stale) _ refl
 
 pays_listing : (rid : Rid) (f : List Entry → Arrow State Shown) → ((es : List Entry) → PaysAll (f es)) → PaysAll (listing rid f)
-pays_listing rid f each = pays_ask (on_listing rid f) (λ r. pays_entries f each r (is_fit (list_of rid) r)) (list_of rid)
+pays_listing rid f each = pays_ask (on_listing rid f) (λ s. (with_token_used s, refl)) (λ r. pays_entries f each r (is_fit (list_of rid) r)) (list_of rid)
 
 pays_in : (at : Entry) (f : Arrow State Shown) → PaysAll f → PaysAll (in_dir at f)
 pays_in at f h = pays_choose at.dir f (refused code.NotDirectory) h (λ s. pays_ret (shown.Refused code.NotDirectory) s refl)
@@ -157,7 +152,7 @@ pays_done (reply.Void token) b = λ s. pays_ret (shown.Refused code.Stale) _ ref
 pays_done (reply.Gone key) b = λ s. pays_ret (shown.Refused code.Stale) _ refl
 
 pays_send : (q : Request) → PaysAll (send_request q)
-pays_send q s = pays_ask (on_answer q) (λ r. pays_done r (is_fit q r)) q (with_token_used s)
+pays_send q s = pays_ask (on_answer q) (λ s. (s, refl)) (λ r. pays_done r (is_fit q r)) q (with_token_used s)
 
 pays_request : (q : Token → Request) → PaysAll (request_with q)
 pays_request q s = pays_send (q (peer_token s)) s
@@ -181,5 +176,5 @@ pays_event (peer.Stat path) = pays_path (names_of path) stat_at (λ e s. pays_re
 pays_event (peer.Keep count) = pays_request (λ token. request.Keep token count)
 
 -- whatever the remote did in it
-pub peer_pays : (e : PeerEvent) (s t : State) (old new : Told) (b : Shown) → Leads (peer_event e s) old b t new → RoseBy (cond (meets_remote b) 1 0) old.faults new.faults
+pub peer_pays : (e : PeerEvent) (s t : State) (old new : Told) (b : Shown) → Leads (peer_event e s) old b t new → AsksFailed (cond (meets_remote b) 1 0) old new
 peer_pays e s t old new b h = pays_event e s old new b t h

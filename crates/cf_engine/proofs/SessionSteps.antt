@@ -19,7 +19,7 @@ use Rattle.cf_engine.specs.Actors.{Holds, Stands, Syncing, acts_of}
 use Rattle.cf_engine.specs.Sessions.{StepsEngine, said}
 use Rattle.cf_engine_steps.specs.Answering.{Answers, Any}
 use Rattle.cf_engine_steps.specs.States as states
-use Rattle.cf_engine_steps.specs.States.{Means, Own, faults_of, whole}
+use Rattle.cf_engine_steps.specs.States.{Means, Own, told_of, whole}
 use Rattle.cf_filter.proofs.Called.{is_broken, noted_back, whole_again}
 use Rattle.cf_filter.specs.Calling.{Told as Said, answer_of, broken_by, is_stopped, noted}
 use Rattle.cf_filter_events.proofs.CallFaults.{rose_lines}
@@ -184,7 +184,7 @@ module _ {D R : Type 0} (state : D → Disk) (told : R → Told) where
       faults = λ past s h.
           let l = part.leads (begun s) (means_begun past x (record { engine = c; next = next }) s h) (record {}) in
           let m = means_back w (noted ns y) f l.0 (given_back false stash ns w y is back) l.3.0 in
-          rose_lines ns (begun s).filter l.0.filter (faults_of told c) (faults_of told f) refl (notes_told state y ns l.0.filter m.filter) l.3.1;
+          rose_lines ns (begun s).filter l.0.filter (told_of told c) (told_of told f) refl (notes_told state y ns l.0.filter m.filter) l.3.1;
     }
     session_of (Err (No k)) is part next = record {
       steps = λ past s h.
@@ -197,7 +197,7 @@ module _ {D R : Type 0} (state : D → Disk) (told : R → Told) where
       faults = λ past s h.
           let l = part.leads (begun s) (means_begun past x (record { engine = c; next = next }) s h) (record {}) in
           let m = stopped_back (noted [] x) w (noted ns y) f l.0 (given_back true stash ns w y is back) l.3.0 in
-          rose_lines ns (begun s).filter l.0.filter (faults_of told c) (faults_of told f) refl (stop_told state y ns l.0.filter m.filter.0) l.3.1;
+          rose_lines ns (begun s).filter l.0.filter (told_of told c) (told_of told f) refl (stop_told state y ns l.0.filter m.filter.0) l.3.1;
     }
     session_of (Err OutOfMemory) is part next = record { steps = λ past s h. record {}; counts = λ past s h. record {}; faults = λ past s h. record {} }
 

@@ -3,7 +3,7 @@ use Rattle.std.specs.Prelude.{◌≡◌, ◌+◌, ℕ, List, None, false}
 use Rattle.cf_base.specs.declared.policies.Mode.TheVariants as mode
 use Rattle.cf_engine_provider.specs.Agencies as agencies
 use Rattle.cf_engine_steps.specs.Callbacks as callbacks
-use Rattle.cf_engine_steps.specs.States.{Own, faults_of}
+use Rattle.cf_engine_steps.specs.States.{Own, told_of}
 use Rattle.cf_filter_events.specs.Actors.{Acts}
 use Rattle.cf_link.specs.Linked.{IsLink, Linked}
 use Rattle.cf_model.specs.Ports.{Act}
@@ -42,7 +42,7 @@ pub record Sees {R : Type 0} (told : R → Told) (x : Syncing R) (s : State) : T
   pub stray : s.running.stray ≡ None
 
 abbrev pub acts_of : {R : Type 0} → (R → Told) → Acts (Syncing R)
-acts_of told = record { mode = mode.Replay; stands = Stands told; holds = Holds told; sees = Sees told; faults = λ x. faults_of told x.engine }
+acts_of told = record { mode = mode.Replay; stands = Stands told; holds = Holds told; sees = Sees told; remote = λ x. told_of told x.engine }
 
 -- it answers a callback as its engine does, and uses up no token of other devices
 pub record Answers {R : Type 0} (told : R → Told) (x : Syncing R) (seen : Sight) (call : Callback) (acts : List Act) (y : Syncing R) : Type 0 where

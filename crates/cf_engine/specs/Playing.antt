@@ -70,6 +70,7 @@ module _ {R : Type 0} (told : R → Told) where
     acting = λ x t h. record { mode = h.agent.replays; power = h.on; stray = h.stray; stands = record { held = record { link = h.agent.link; next = h.next }; volatile = h.volatile } };
     stands_on = λ x s t same h. record { held = holds_on x s t same.link same.tokens h.held; volatile = h.volatile ∙ sym same.volatile };
     stands_held = λ x s h. h.held;
+    asked = λ x s h. h.link.asks;
     holds_on = holds_on;
     faulted = λ x y seen call did gives. gives.engine.agent.faults;
   }

@@ -9,9 +9,9 @@ use Rattle.cf_base.specs.declared.messages.Request.{Request}
 use Rattle.cf_base.specs.declared.notices.Notice.{Notice}
 use Rattle.cf_provider.specs.Sights.{Sight}
 use Rattle.cf_provider.specs.declared.outcomes.Callback.{Callback}
-use Rattle.cf_link.specs.Faults.{RoseBy, faults_in}
+use Rattle.cf_link.specs.Faults.{AsksFailed, faults_in}
 use Rattle.cf_link.specs.Linked.{IsLink, Linked, lines_of, with_line}
-use Rattle.cf_link.proofs.FaultCounts.{rose_both}
+use Rattle.cf_link.proofs.FaultCounts.{failed_both}
 use Rattle.cf_model.specs.Ports.{Act, Acts, HasFailed}
 use Rattle.cf_model.specs.State.{Filter, Link, State, with_link, with_notes}
 use Rattle.cf_remote.specs.Told.{Told}
@@ -88,8 +88,8 @@ module _ {R : Type 0} (told : R → Told) where
             let l = h.stops (exchanged e (way z sees).link z) g (sees_after z sees) (suits_after z sees holds) (acts_after z sees more g (subst (λ (x : List Act). Acts z.filter x g) (lines more) does))
             (not_failed e.second more (not_failed e.first (noted e.second ++ more) (subst HasFailed (lines more) failed))) in
             record { state = l.state; is = (way z sees).stops l.state l.is; filter = l.filter; sees = l.sees };
-        faults = subst (λ (x : List Act). RoseBy (faults_among x) (told p.link.remote).faults (told n.link.remote).faults) (sym (lines more))
-            (subst (λ (m : ℕ). RoseBy m (told p.link.remote).faults (told n.link.remote).faults) (sym (both_noted e.first e.second more))
-            (rose_both (faults_in (lines_of e.first) + faults_in (lines_of e.second)) (faults_among more) (told p.link.remote).faults (told k.remote).faults (told n.link.remote).faults is.faults h.faults));
+        faults = subst (λ (x : List Act). AsksFailed (faults_among x) (told p.link.remote) (told n.link.remote)) (sym (lines more))
+            (subst (λ (m : ℕ). AsksFailed m (told p.link.remote) (told n.link.remote)) (sym (both_noted e.first e.second more))
+            (failed_both (faults_in (lines_of e.first) + faults_in (lines_of e.second)) (faults_among more) (told p.link.remote) (told k.remote) (told n.link.remote) is.faults h.faults));
       };
     }

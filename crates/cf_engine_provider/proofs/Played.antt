@@ -7,8 +7,8 @@ use Rattle.cf_base.specs.declared.answers.Shown.{Shown}
 use Rattle.cf_base.specs.declared.codes.Code.{Code}
 use Rattle.cf_base.specs.declared.items.SeenPath.{SeenPath}
 use Rattle.cf_base.specs.declared.operations.Operation.{Operation}
-use Rattle.cf_link.specs.Faults.{RoseBy}
-use Rattle.cf_link.proofs.FaultCounts.{rose_none}
+use Rattle.cf_link.specs.Faults.{AsksFailed}
+use Rattle.cf_link.proofs.FaultCounts.{failed_none}
 use Rattle.cf_model.proofs.TreeLaws.{ends_mapped, ends_then, stops_first, stops_mapped, stops_then}
 use Rattle.cf_model.specs.Arrows.{Arrow, ret, seq, then_do, unit}
 use Rattle.cf_model.specs.Operations.{execute_with}
@@ -25,7 +25,7 @@ module _ {R : Type 0} (told : R → Told) where
   nothing Holds p = record {
     ends = λ z g sees holds acts fine. record { state = z; is = (refl, refl); filter = sym acts; sees = sees };
     stops = λ z g sees holds acts failed. absurd failed;
-    faults = rose_none (told p.link.remote).faults (told p.link.remote).faults (omega arith);
+    faults = failed_none (told p.link.remote);
   }
 
   -- the same part, where filters of this kind are
@@ -85,12 +85,12 @@ module _ {R : Type 0} (told : R → Told) where
   quiet true c more = omega arith
   quiet false c more = refl
 
-  skip_faults : (c : Code) (p m q : Agency R) (acts more : List Act) → Skips c p acts m → RoseBy (faults_among more) (told m.link.remote).faults (told q.link.remote).faults
-      → RoseBy (faults_among (acts ++ more)) (told p.link.remote).faults (told q.link.remote).faults
+  skip_faults : (c : Code) (p m q : Agency R) (acts more : List Act) → Skips c p acts m → AsksFailed (faults_among more) (told m.link.remote) (told q.link.remote)
+      → AsksFailed (faults_among (acts ++ more)) (told p.link.remote) (told q.link.remote)
   skip_faults c p m q acts more s h =
-      subst (λ (l : List Act). RoseBy (faults_among (l ++ more)) (told p.link.remote).faults (told q.link.remote).faults) (sym s.line)
-      (subst (λ (n : ℕ). RoseBy n (told p.link.remote).faults (told q.link.remote).faults) (quiet p.shows_skips c more)
-      (subst (λ (x : Agency R). RoseBy (faults_among more) (told x.link.remote).faults (told q.link.remote).faults) s.counted h))
+      subst (λ (l : List Act). AsksFailed (faults_among (l ++ more)) (told p.link.remote) (told q.link.remote)) (sym s.line)
+      (subst (λ (n : ℕ). AsksFailed n (told p.link.remote) (told q.link.remote)) (quiet p.shows_skips c more)
+      (subst (λ (x : Agency R). AsksFailed (faults_among more) (told x.link.remote) (told q.link.remote)) s.counted h))
 
   pub skip_then : (f : Arrow State (Unit {0})) (c : Code) (p m q : Agency R) (acts more : List Act) → Skips c p acts m → Plays told Any f m more q → Plays told Any (then_do (skip c) f) p (acts ++ more) q
   skip_then f c p m q acts more s h = record {
@@ -117,8 +117,8 @@ module _ {R : Type 0} (told : R → Told) where
       sees = sees_skipped c p q z s.counted sees;
     };
     stops = λ z g sees holds does failed. absurd (skipped_only p.shows_skips c (subst HasFailed s.line failed));
-    faults = subst (λ (l : List Act). RoseBy (faults_among l) (told p.link.remote).faults (told q.link.remote).faults) (append-nil acts)
-        (skip_faults c p q q acts [] s (rose_none (told q.link.remote).faults (told q.link.remote).faults (omega arith)));
+    faults = subst (λ (l : List Act). AsksFailed (faults_among l) (told p.link.remote) (told q.link.remote)) (append-nil acts)
+        (skip_faults c p q q acts [] s (failed_none (told q.link.remote)));
   }
 
   -- an operation
@@ -139,7 +139,7 @@ module _ {R : Type 0} (told : R → Told) where
         filter = refl;
         sees = sees_filter p z g sees;
       };
-      faults = rose_none (told p.link.remote).faults (told p.link.remote).faults (omega arith);
+      faults = failed_none (told p.link.remote);
     }
 
     pub op_then : (answer : Shown) (p q : Agency R) (more : List Act) → Plays told Any (k answer) p more q → Plays told Any (seq first k) p (Did seen op answer ∷ more) q

@@ -8,8 +8,8 @@ use Rattle.cf_base.specs.declared.notices.Frame.TheVariants as frame
 use Rattle.cf_base.specs.declared.notices.Notice.{Notice}
 use Rattle.cf_link.specs.Linked.{Does, Ended, IsLink, Linked, Posts, Rises, lines_of, posted_line, with_line}
 use Rattle.cf_link.specs.declared.posts.Posted.{Posted}
-use Rattle.cf_link.specs.Faults.{RoseBy, faults_in}
-use Rattle.cf_link.proofs.FaultCounts.{posted_quiet, rises_by, rose_both, rose_none}
+use Rattle.cf_link.specs.Faults.{AsksFailed, faults_in}
+use Rattle.cf_link.proofs.FaultCounts.{failed_both, failed_none, posted_quiet, rises_by}
 use Rattle.cf_link.proofs.Ways.{leads_ends}
 use Rattle.cf_model.proofs.TreeLaws.{ends_then, stops_then}
 use Rattle.cf_model.specs.Arrows.{unit}
@@ -53,11 +53,11 @@ module _ {R : Type 0} (told : R → Told) (q : Request) (old mid : Linked R) (po
   quiet_line : faults_in (lines_of posted.line) ≡ 0
   quiet_line = ap (λ (o : Option Notice). faults_in (lines_of o)) line_is ∙ posted_quiet (frame.Request q) posted
 
-  sent_alone : RoseBy (faults_in (lines_of posted.line) + faults_in (lines_of None)) (told old.remote).faults (told mid.remote).faults
+  sent_alone : AsksFailed (faults_in (lines_of posted.line) + faults_in (lines_of None)) (told old.remote) (told mid.remote)
   sent_alone =
       let z : faults_in (lines_of posted.line) ≡ 0 = quiet_line in
       let none : 0 ≡ faults_in (lines_of posted.line) + faults_in (lines_of None) = omega (arith, z) in
-      subst (λ (n : ℕ). RoseBy n (told old.remote).faults (told mid.remote).faults) none (subst (λ (x : R). RoseBy 0 (told old.remote).faults (told x).faults) (sym same) (rose_none (told old.remote).faults (told old.remote).faults (omega arith)))
+      subst (λ (n : ℕ). AsksFailed n (told old.remote) (told mid.remote)) none (subst (λ (x : R). AsksFailed 0 (told old.remote) (told x)) (sym same) (failed_none (told old.remote)))
 
   -- it is not kept
   pub unkept : posted.kept ≡ false → Exchanges told q old (record { first = posted.line; second = None; reply = None }) mid
@@ -86,7 +86,7 @@ module _ {R : Type 0} (told : R → Told) (q : Request) (old mid : Linked R) (po
   }
 
   -- it comes to the remote at once
-  pub at_once : (new : Linked R) (r : Option Reply) (line : Option Notice) → posted.kept ≡ true → mid.inline ≡ true → Does told (come posted.number q) mid r line new → Rises line (told mid.remote).faults (told new.remote).faults
+  pub at_once : (new : Linked R) (r : Option Reply) (line : Option Notice) → posted.kept ≡ true → mid.inline ≡ true → Does told (come posted.number q) mid r line new → Rises line (told mid.remote) (told new.remote)
       → Exchanges told q old (record { first = posted.line; second = line; reply = r }) new
   at_once new r line kept fast does rises = record {
     sends = λ s stands.
@@ -105,7 +105,7 @@ module _ {R : Type 0} (told : R → Told) (q : Request) (old mid : Linked R) (po
           stands = e.stands;
         };
     faults =
-        rose_both (faults_in (lines_of posted.line)) (faults_in (lines_of line)) (told old.remote).faults (told mid.remote).faults (told new.remote).faults
-        (subst (λ (n : ℕ). RoseBy n (told old.remote).faults (told mid.remote).faults) (sym quiet_line) (subst (λ (x : R). RoseBy 0 (told old.remote).faults (told x).faults) (sym same) (rose_none (told old.remote).faults (told old.remote).faults (omega arith))))
-        (rises_by line (told mid.remote).faults (told new.remote).faults rises);
+        failed_both (faults_in (lines_of posted.line)) (faults_in (lines_of line)) (told old.remote) (told mid.remote) (told new.remote)
+        (subst (λ (n : ℕ). AsksFailed n (told old.remote) (told mid.remote)) (sym quiet_line) (subst (λ (x : R). AsksFailed 0 (told old.remote) (told x)) (sym same) (failed_none (told old.remote))))
+        (rises_by line (told mid.remote) (told new.remote) rises);
   }

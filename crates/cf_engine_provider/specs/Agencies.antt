@@ -4,7 +4,7 @@ use Rattle.cf_base.specs.declared.codes.Code.{Code}
 use Rattle.cf_base.specs.declared.memory.OutOfMemory.{OutOfMemory as NoMemory}
 use Rattle.cf_base.specs.declared.notices.Notice.{Notice}
 use Rattle.cf_base.specs.declared.policies.Mode.TheVariants as mode
-use Rattle.cf_link.specs.Faults.{RoseBy, fault_of}
+use Rattle.cf_link.specs.Faults.{AsksFailed, fault_of}
 use Rattle.cf_link.specs.Linked.{IsLink, Linked}
 use Rattle.cf_model.specs.Arrows.{Arrow, unit}
 use Rattle.cf_model.specs.Ports.{Act, Acts, Did, Failed, HasFailed, Noted}
@@ -40,13 +40,13 @@ faults_among (Failed seen op ∷ acts) = faults_among acts
 faults_among (Noted n ∷ acts) = fault_of n + faults_among acts
 
 -- These acts are this part of an event: from each state with a filter of this kind for which the provider stands the part ends in
--- one that they lead to, and for which the provider then stands. Where one of them met the device the part stops there. For each
--- line of a fault the remote's count of faults rose. So no reply is passed off as a fault, and a remote that tells what it holds,
--- which `IsLink` says has kept its rules, gave the replies that stand among the messages.
+-- one that they lead to, and for which the provider then stands. Where one of them met the device the part stops there. Of the asks
+-- of the remote as many failed as there are lines of a fault. So no reply is passed off as a fault, and a remote that tells what it
+-- holds, which `IsLink` says has kept its rules, gave the replies that stand among the messages.
 pub record Plays {R : Type 0} (told : R → Told) (Holds : Filter → Type 0) (f : Arrow State (Unit {0})) (p : Agency R) (acts : List Act) (q : Agency R) : Type 0 where
   pub ends : (z : State) (g : Filter) → Sees told p z → Holds z.filter → Acts z.filter acts g → (HasFailed acts → ⊥) → Leaves told (Ends (f z) unit) g q
   pub stops : (z : State) (g : Filter) → Sees told p z → Holds z.filter → Acts z.filter acts g → HasFailed acts → Leaves told (Stops (f z)) g q
-  pub faults : RoseBy (faults_among acts) (told p.link.remote).faults (told q.link.remote).faults
+  pub faults : AsksFailed (faults_among acts) (told p.link.remote) (told q.link.remote)
 
 -- a filter of any kind
 abbrev pub Any : Filter → Type 0

@@ -28,7 +28,7 @@ use Rattle.cf_provider.specs.Acting.{shown_of}
 use Rattle.cf_provider.specs.Sights.{Sight}
 use Rattle.cf_provider.specs.declared.outcomes.Callback.{Callback}
 use Rattle.cf_provider.specs.declared.outcomes.Outcome.{Outcome}
-use Rattle.cf_link.specs.Faults.{RoseBy, faults_in}
+use Rattle.cf_link.specs.Faults.{AsksFailed, faults_in}
 use Rattle.cf_link.specs.Linked.{IsLink, Linked, lines_of, with_line}
 use Rattle.cf_base.specs.declared.operations.NewItem.{NewItem}
 use Rattle.cf_model.specs.Arrows.{Arrow, is_device, ret, seq, unit}
@@ -71,7 +71,7 @@ pub record Sends {R : Type 0} (told : R → Told) (q : Request) (s : State) (e :
 
 pub record Exchanges {R : Type 0} (told : R → Told) (q : Request) (old : Linked R) (e : Exchange) (new : Linked R) : Type 0 where
   pub sends : (s : State) → IsLink told old s.link → Sends told q s e new
-  pub faults : RoseBy (faults_in (lines_of e.first) + faults_in (lines_of e.second)) (told old.remote).faults (told new.remote).faults
+  pub faults : AsksFailed (faults_in (lines_of e.first) + faults_in (lines_of e.second)) (told old.remote) (told new.remote)
 
 -- The request was sent with these acts, which changed the provider so; what is left of the part is to take the reply.
 pub record Carries {R : Type 0} (told : R → Told) (Holds : Filter → Type 0) (q : Request) (p : Agency R) (r : Option Reply) (acts : List Act) (m : Agency R) : Type 0 where

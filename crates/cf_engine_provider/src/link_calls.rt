@@ -30,7 +30,7 @@ impl<R: Remote> Agent<R> {
     pub fn come(&mut self, number: u32, request: &Request) -> Result<Came, OutOfMemory>
         requires { HasRoom request.now }
         ensures does { IfOk result (λ c. Does R.told (come number request.now) self.old.link c.reply c.line self.new.link) }
-        ensures rises { IfOk result (λ c. Rises c.line (R.told self.old.link.remote).faults (R.told self.new.link.remote).faults) }
+        ensures rises { IfOk result (λ c. Rises c.line (R.told self.old.link.remote) (R.told self.new.link.remote)) }
         ensures err { IfErr result (λ _. Stopped R.told (come number request.now) self.old.link self.new.link) }
         ensures rest { self.new ≡ record self.old { link = self.new.link } }
     {

@@ -55,17 +55,17 @@ module _ {R : Type 0} (told : R → Told) where
   -- the remote's count rises with the lines of faults
 
   abbrev RoseFor : Agency R → Agency R → Filter → Filter → Type 0
-  RoseFor p q s t = Rose (told p.link.remote).faults (told q.link.remote).faults (fault_lines s) (fault_lines t)
+  RoseFor p q s t = Rose (told p.link.remote) (told q.link.remote) (fault_lines s) (fault_lines t)
 
   rose_run : (ask : Ask) (p q : Agency R) (s t : Filter) (acts : List Act) → AnswersOn (provider.Answers told) ask p s acts q → Acts s acts t → RoseFor p q s t
-  rose_run ask p q s t acts h does = record { more = faults_among acts; lines = acts_lines acts s t does; rose = h.gives.faults }
+  rose_run ask p q s t acts h does = record { more = faults_among acts; lines = acts_lines acts s t does; failed = h.gives.faults }
 
   rose_then : (p m q : Agency R) (s u t : Filter) → RoseFor p m s u → RoseFor m q u t → RoseFor p q s t
-  rose_then p m q s u t h k = rose_both (told p.link.remote).faults (told m.link.remote).faults (told q.link.remote).faults (fault_lines s) (fault_lines u) (fault_lines t) h k
+  rose_then p m q s u t h k = rose_both (told p.link.remote) (told m.link.remote) (told q.link.remote) (fault_lines s) (fault_lines u) (fault_lines t) h k
 
   rose_all : (runs : List (List Act)) (p q : Agency R) (s t : Filter) → Drained (provider.Answers told) p s runs q t → RoseFor p q s t
   rose_all [] p q s t h =
-      subst (λ (z : Agency R). RoseFor p z s t) (sym h.2) (rose_none (told p.link.remote).faults (fault_lines s) (fault_lines t) (ap fault_lines h.1))
+      subst (λ (z : Agency R). RoseFor p z s t) (sym h.2) (rose_none (told p.link.remote) (fault_lines s) (fault_lines t) (ap fault_lines h.1))
   rose_all (acts ∷ more) p q s t h = rose_then p h.6 q s h.3 t (rose_run h.0 p h.6 (with_rest h.1 s) h.3 acts h.7 h.4) (rose_all more h.6 q h.3 t h.8)
 
   rose_cut : (runs : List (List Act)) (p q : Agency R) (s t : Filter) → CutOff (provider.Answers told) p s runs q t → RoseFor p q s t

@@ -7,7 +7,7 @@ use Rattle.cf_base.specs.declared.codes.CallError.TheVariants.{No, OutOfMemory}
 use Rattle.cf_base.specs.declared.notices.Notice.TheVariants as notice
 use Rattle.cf_engine_steps.specs.Answering.{Answers, Any}
 use Rattle.cf_engine_steps.specs.Faults.{fault_lines, rose_none}
-use Rattle.cf_engine_steps.specs.States.{Own, faults_of, whole, with_skip_counted}
+use Rattle.cf_engine_steps.specs.States.{Own, told_of, whole, with_skip_counted}
 use Rattle.cf_engine_steps.specs.Lines.{with_line_if}
 use Rattle.cf_engine_steps.specs.Lines.{with_skip}
 use Rattle.cf_engine_steps.proofs.Lifting.{quiet_notes}
@@ -42,7 +42,7 @@ module _ {X R : Type 0} (S : steps.Sense X) (told : R → Told) (c : Code) (x y 
           l.2,
           (
             record { filter = l.3; on = i.on; sees = record { replays = i.sees.replays; link = i.sees.link; shows_skips = i.sees.shows_skips; skips = ap (λ (n : ℕ). n + 1) i.sees.skips }; took_done = i.took_done; first_clock = i.first_clock; volatile = i.volatile },
-            rose_none (faults_of told e) (fault_lines s.filter) (fault_lines l.0) (ap fault_lines l.1.1 ∙ quiet_skip e.agent.shows_skips c s.filter),
+            rose_none (told_of told e) (fault_lines s.filter) (fault_lines l.0) (ap fault_lines l.1.1 ∙ quiet_skip e.agent.shows_skips c s.filter),
           ),
         );
   }

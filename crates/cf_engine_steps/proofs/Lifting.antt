@@ -8,7 +8,7 @@ use Rattle.cf_base.specs.declared.notices.Notice.{Notice}
 use Rattle.cf_engine_provider.specs.Agencies.{Agency, Sees}
 use Rattle.cf_engine_steps.specs.Answering.{After, Answers, Any, On, Reads}
 use Rattle.cf_engine_steps.specs.Faults.{fault_lines, rose_none}
-use Rattle.cf_engine_steps.specs.States.{Means, Own, faults_of, whole}
+use Rattle.cf_engine_steps.specs.States.{Means, Own, told_of, whole}
 use Rattle.cf_engine_steps.specs.Quiet.{Quiet}
 use Rattle.cf_link.specs.Faults.{fault_of, faults_in}
 use Rattle.cf_link.proofs.FaultCounts.{faults_both}
@@ -39,10 +39,10 @@ mean_filter S told x y e s t h k = record {
 lift_after : {X R A : Type 0} (S : steps.Sense X) (told : R → Told) (f : Arrow Filter A) (x y : X) (e : Own R) (s : State) (t : Filter) (r : Result A CallError)
     → Quiet f → Means S told x e s → Does (f s.filter) r t → steps.After S x r y t → After (whole S told) (x, e) r (y, e) s (with_filter t s)
 lift_after S told f x y e s t (Ok a) q h d k =
-    (mean_filter S told x y e s t h k, rose_none (faults_of told e) (fault_lines s.filter) (fault_lines t) (kept_at_end (λ (z : Filter). fault_lines z ≡ fault_lines s.filter) (f s.filter) a t ((q.keeps (fault_lines s.filter)).keeps s.filter refl) d))
+    (mean_filter S told x y e s t h k, rose_none (told_of told e) (fault_lines s.filter) (fault_lines t) (kept_at_end (λ (z : Filter). fault_lines z ≡ fault_lines s.filter) (f s.filter) a t ((q.keeps (fault_lines s.filter)).keeps s.filter refl) d))
 lift_after S told f x y e s t (Err (No c)) q h d k = (
   record { filter = k; on = h.on; replays = h.sees.replays; link = h.sees.link },
-  rose_none (faults_of told e) (fault_lines s.filter) (fault_lines t) (kept_at_stop (λ (z : Filter). fault_lines z ≡ fault_lines s.filter) (f s.filter) t ((q.keeps (fault_lines s.filter)).keeps s.filter refl) d.1),
+  rose_none (told_of told e) (fault_lines s.filter) (fault_lines t) (kept_at_stop (λ (z : Filter). fault_lines z ≡ fault_lines s.filter) (f s.filter) t ((q.keeps (fault_lines s.filter)).keeps s.filter refl) d.1),
 )
 lift_after S told f x y e s t (Err OutOfMemory) q h d k = k
 

@@ -5,7 +5,7 @@ use Rattle.cf_base.specs.declared.codes.CallError.{CallError}
 use Rattle.cf_base.specs.declared.codes.CallError.TheVariants.{No, OutOfMemory}
 use Rattle.cf_engine_steps.specs.Answering.{Answers, Whole}
 use Rattle.cf_engine_steps.specs.Faults.{Rose, fault_lines, rose_none}
-use Rattle.cf_engine_steps.specs.States.{Means, Own, faults_of, whole, with_clock_of, with_skips_shown, with_took_done, with_volatile_of}
+use Rattle.cf_engine_steps.specs.States.{Means, Own, told_of, whole, with_clock_of, with_skips_shown, with_took_done, with_volatile_of}
 use Rattle.cf_model.specs.Arrows.{Arrow, noted, one, unit}
 use Rattle.cf_model.specs.Feeds.{with_clock_seen}
 use Rattle.cf_model.specs.Passes.{showing, without_done}
@@ -27,14 +27,14 @@ noted_as_one W P g x y (Err OutOfMemory) h = record { leads = λ s i p. h.leads 
 
 module _ {X R : Type 0} (S : steps.Sense X) (told : R → Told) (P : State → Type 0) (x : X) (e : Own R) where
   -- A change of the state beside the filter, for which the engine's own part stands as it was changed.
-  pub noted_own : (f : Own R) (g : State → State) → ((s : State) → (g s).filter ≡ s.filter) → ((s : State) → Means S told x e s → Means S told x f (g s)) → faults_of told f ≡ faults_of told e
+  pub noted_own : (f : Own R) (g : State → State) → ((s : State) → (g s).filter ≡ s.filter) → ((s : State) → Means S told x e s → Means S told x f (g s)) → told_of told f ≡ told_of told e
       → Answers (whole S told) P (noted g) (x, e) (Ok unit) (x, f)
   noted_own f g same means faults = record {
     leads = λ s i p. (
       g s,
       (refl, refl),
       subst (λ (t : Filter). S.moved x x s.filter t) (sym (same s)) (S.stays x s.filter i.filter),
-      (means s i, subst (λ (n : ℕ). Rose (faults_of told e) n (fault_lines s.filter) (fault_lines (g s).filter)) (sym faults) (rose_none (faults_of told e) (fault_lines s.filter) (fault_lines (g s).filter) (ap fault_lines (same s)))),
+      (means s i, subst (λ (n : Told). Rose (told_of told e) n (fault_lines s.filter) (fault_lines (g s).filter)) (sym faults) (rose_none (told_of told e) (fault_lines s.filter) (fault_lines (g s).filter) (ap fault_lines (same s)))),
     );
   }
 

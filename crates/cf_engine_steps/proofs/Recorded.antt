@@ -12,7 +12,7 @@ use Rattle.cf_engine_steps.specs.Answering.{After, Answers, Any, On}
 use Rattle.cf_engine_host.specs.BookSteps.{DropsRecord, HasNumber, put_outcome, why_full, with_book_of}
 use Rattle.cf_engine_steps.specs.Faults.{fault_lines, rose_none}
 use Rattle.cf_engine_steps.specs.Recorded.{NumberIf}
-use Rattle.cf_engine_steps.specs.States.{Own, faults_of, whole}
+use Rattle.cf_engine_steps.specs.States.{Own, told_of, whole}
 use Rattle.cf_engine_steps.proofs.Laws.{after_on, known}
 use Rattle.cf_engine_steps.proofs.Lifting.{mean_filter}
 use Rattle.cf_model.specs.Arrows.{attempt, noted, seq, unless_done}
@@ -46,7 +46,7 @@ module _ {X R : Type 0} (S : steps.Sense X) (told : R → Told) (P : Filter → 
           with_filter l.0 s,
           d.1,
           l.2,
-          (mean_filter S told x y e s l.0 i l.3, rose_none (faults_of told e) (fault_lines s.filter) (fault_lines l.0) (ap fault_lines d.0)),
+          (mean_filter S told x y e s l.0 i l.3, rose_none (told_of told e) (fault_lines s.filter) (fault_lines l.0) (ap fault_lines d.0)),
         );
   }
   put_done false is h = let z : false ≡ true = is in absurd cc
@@ -83,7 +83,7 @@ module _ {X R : Type 0} (S : steps.Sense X) (told : R → Told) (x y : X) (e : O
           with_filter l.0 s,
           (l.1.0, ap (λ (t : Filter). with_filter t s) l.1.1),
           l.2,
-          (mean_filter S told x y e s l.0 i l.3, rose_none (faults_of told e) (fault_lines s.filter) (fault_lines l.0) (ap fault_lines l.1.1)),
+          (mean_filter S told x y e s l.0 i l.3, rose_none (told_of told e) (fault_lines s.filter) (fault_lines l.0) (ap fault_lines l.1.1)),
         );
   }
   book_done P f (Err (No c)) h = record { leads = λ s i p. absurd (h.leads s.filter i.filter p).1.1 }
@@ -120,7 +120,7 @@ module _ {X R : Type 0} (S : steps.Sense X) (told : R → Told) (x y : X) (e : O
         with_filter l.0 s,
         (l.1.0, ap (λ (t : Filter). with_filter t s) same),
         l.2,
-        (mean_filter S told x y e s l.0 i l.3, rose_none (faults_of told e) (fault_lines s.filter) (fault_lines l.0) (ap fault_lines same)),
+        (mean_filter S told x y e s l.0 i l.3, rose_none (told_of told e) (fault_lines s.filter) (fault_lines l.0) (ap fault_lines same)),
       )
   resets s i (Err (No c)) h true z = absurd (h.leads s.filter i.filter (meets s.filter i.filter)).1.1
   resets s i (Err OutOfMemory) h true z = let l = h.leads s.filter i.filter (meets s.filter i.filter) in (with_filter l.0 s, record {}, l.2, l.3)

@@ -63,9 +63,9 @@ with_took_done b e = record e { took_done = b }
 abbrev pub with_clock_of : {R : Type 0} → ℕ → Own R → Own R
 with_clock_of clock e = record e { first_clock = Some (unwrap_or e.first_clock clock) }
 
--- how often the remote failed
-abbrev pub faults_of : {R : Type 0} → (R → Told) → Own R → ℕ
-faults_of told e = (told e.agent.link.remote).faults
+-- what its remote reports
+abbrev pub told_of : {R : Type 0} → (R → Told) → Own R → Told
+told_of told e = told e.agent.link.remote
 
 abbrev pub whole : {X R : Type 0} → Sense X → (R → Told) → Whole (X × Own R)
 whole S told = record {
@@ -73,11 +73,11 @@ whole S told = record {
   stopped = λ x y t. Stopped S told x.0 y.0 y.1 t;
   durable = λ x s. S.durable x.0 s.filter;
   moved = λ x y s t. S.moved x.0 y.0 s.filter t.filter;
-  counted = λ x y s t. Rose (faults_of told x.1) (faults_of told y.1) (fault_lines s.filter) (fault_lines t.filter);
+  counted = λ x y s t. Rose (told_of told x.1) (told_of told y.1) (fault_lines s.filter) (fault_lines t.filter);
   endures = λ x s h. S.endures x.0 s.filter h.filter;
   stays = λ x s h. S.stays x.0 s.filter h.filter;
   goes_on = λ x y z s t u a b. S.goes_on x.0 y.0 z.0 s.filter t.filter u.filter a b;
   stops_on = λ x y z s t u a b. record { filter = S.stops_on x.0 y.0 z.0 s.filter t.filter u.filter a b.filter; on = b.on; replays = b.replays; link = b.link };
-  counts_none = λ x s. rose_none (faults_of told x.1) (fault_lines s.filter) (fault_lines s.filter) refl;
-  counts_on = λ x y z s t u a b. rose_both (faults_of told x.1) (faults_of told y.1) (faults_of told z.1) (fault_lines s.filter) (fault_lines t.filter) (fault_lines u.filter) a b;
+  counts_none = λ x s. rose_none (told_of told x.1) (fault_lines s.filter) (fault_lines s.filter) refl;
+  counts_on = λ x y z s t u a b. rose_both (told_of told x.1) (told_of told y.1) (told_of told z.1) (fault_lines s.filter) (fault_lines t.filter) (fault_lines u.filter) a b;
 }

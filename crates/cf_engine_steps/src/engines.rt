@@ -243,7 +243,7 @@ impl<R: Remote> Engine<R> {
     pub(crate) fn come(&mut self, number: u32, request: &Request) -> Result<Came, OutOfMemory>
         requires { HasRoom request.now }
         ensures does { IfOk result (λ c. Does R.told (come number request.now) self.old.agent.link c.reply c.line self.new.agent.link) }
-        ensures rises { IfOk result (λ c. Rises c.line (R.told self.old.agent.link.remote).faults (R.told self.new.agent.link.remote).faults) }
+        ensures rises { IfOk result (λ c. Rises c.line (R.told self.old.agent.link.remote) (R.told self.new.agent.link.remote)) }
         ensures rest { self.new ≡ with_link_of self.new.agent.link self.old }
     {
         self.agent.come(number, request)

@@ -42,9 +42,9 @@ module _ {D A : Type 0} (acts : Acts A) (state : D → Disk) where
       → Counts (IsOn acts state) (record { filter = x; actor = p }) a (state x.disk) (state y.filter.disk)
   begun_counting e x p q y b r k a begins whole h broken is local = record { counts = λ past s on. begun_counts acts state past s e (record { filter = x; actor = q }) y b r k a broken is local h (begins_event past x p q s begins whole on) }
 
-  pub begun_faulting : (e : Event) (x : Held D) (p q : A) (y : Run D A) (b : Bool) (r k a : Result Answer NoMemory) → Begins acts p q → acts.faults q ≡ acts.faults p → x.desk.broken ≡ false → StepsOn acts state e (record { filter = x; actor = q }) r y → k ≡ known_by b r → a ≡ local_by k
-      → Faults (IsOn acts state) (record { filter = x; actor = p }) a (acts.faults p) (acts.faults y.actor)
-  begun_faulting e x p q y b r k a begins same whole h is local = record { rose = λ past s on. begun_faults acts state past s e (acts.faults p) (record { filter = x; actor = q }) y b r k a same is local h (begins_event past x p q s begins whole on) }
+  pub begun_faulting : (e : Event) (x : Held D) (p q : A) (y : Run D A) (b : Bool) (r k a : Result Answer NoMemory) → Begins acts p q → acts.remote q ≡ acts.remote p → x.desk.broken ≡ false → StepsOn acts state e (record { filter = x; actor = q }) r y → k ≡ known_by b r → a ≡ local_by k
+      → Faults (IsOn acts state) (record { filter = x; actor = p }) a (acts.remote p) (acts.remote y.actor)
+  begun_faulting e x p q y b r k a begins same whole h is local = record { failed = λ past s on. begun_faults acts state past s e (acts.remote p) (record { filter = x; actor = q }) y b r k a same is local h (begins_event past x p q s begins whole on) }
 
   -- one after an event that met Device
   pub broken_refuses : (e : Event) (x : Run D A) → is_of acts.mode e ≡ true → needs_volume e ≡ true → x.filter.desk.broken ≡ true → Steps acts.mode (IsOn acts state) e x (Ok (answer_with (shown.Refused code.Broken) [])) x

@@ -5,7 +5,8 @@ use Rattle.cf_filter_events.specs.Actors.{Acts, IsActor, hushed, is_device_event
 use Rattle.cf_filter_events.specs.Meaning.{Is, IsOff, IsOn, OnBy}
 use Rattle.cf_filter_events.specs.declared.places.Running.{Running as Run}
 use Rattle.cf_filter_events.specs.Pasts.{Past, StandsFor}
-use Rattle.cf_filter_events.specs.Stepped.{Bears, Steps, StepsOver}
+use Rattle.cf_filter_events.specs.Stepped.{Bears, Steps, StepsOver, actor_of}
+use Rattle.cf_filter_events.specs.declared.places.Acting.{Acting}
 use Rattle.cf_filter_events.specs.declared.places.Acting.TheVariants as acting
 use Rattle.cf_filter_events.specs.declared.places.Cut.{Cut}
 use Rattle.cf_filter_events.proofs.Hushed.{same_clusters}
@@ -98,3 +99,7 @@ module _ {D A : Type 0} (answers : Answering A) (acts : Acts A) (actor : IsActor
       by : (b : Bool) → OnBy acts state b x s → acts.holds x.actor s
       by true h = h.1
       by false h = actor.stands_held x.actor s h.1
+
+  pub hands_hold : (past : Past) (x : Acting D A) (s : State) → Is acts state past x s → acts.holds (actor_of x) s
+  hands_hold past (acting.On x) s on = on_holds past x s on
+  hands_hold past (acting.Off x) s off = off.holds

@@ -9,7 +9,7 @@ use Rattle.cf_base.specs.declared.policies.Mode.{Mode}
 use Rattle.cf_engine_host.specs.CallbackLaws.{Plays}
 use Rattle.cf_engine_host.specs.Callbacks.{Answering}
 use Rattle.cf_engine_provider.specs.Agencies.{faults_among}
-use Rattle.cf_link.specs.Faults.{RoseBy}
+use Rattle.cf_link.specs.Faults.{AsksFailed}
 use Rattle.cf_model.specs.Events.{begun}
 use Rattle.cf_model.specs.Lawful.{IsStep}
 use Rattle.cf_model.specs.Ports.{Act}
@@ -17,19 +17,21 @@ use Rattle.cf_model.specs.Restarts.{with_opened}
 use Rattle.cf_model.specs.State.{Filter, On, Point, State, with_filter}
 use Rattle.cf_provider.specs.Sights.{Sight}
 use Rattle.cf_provider.specs.declared.outcomes.Callback.{Callback}
+use Rattle.cf_remote.specs.Peers.{IsCount}
+use Rattle.cf_remote.specs.Told.{Told}
 
 -- an event begins without notes
 abbrev pub hushed : Filter → Filter
 hushed f = record f { notes = [] }
 
 -- The mode of the command, and how an actor stands for its part of a state: between two events while the volume is open and no event
--- met Device; while the volume is broken or off; and within an event. And how often the remote failed that it speaks with.
+-- met Device; while the volume is broken or off; and within an event. And what the remote reports that it speaks with.
 pub record Acts (A : Type 0) : Type 1 where
   pub mode : Mode
   pub stands : A → State → Type 0
   pub holds : A → State → Type 0
   pub sees : A → State → Type 0
-  pub faults : A → ℕ
+  pub remote : A → Told
 
 -- what an actor that acts within an event knows of the state
 pub record IsActing {A : Type 0} (acts : Acts A) (x : A) (t : State) : Type 0 where
@@ -46,16 +48,17 @@ pub record IsBeside (s t : State) : Type 0 where
   pub tokens : t.peer_tokens ≡ s.peer_tokens
 
 -- The actor plays the provider of its mode. How it stands hangs neither on the filter nor on what the running event did; while the volume
--- is broken or off it hangs on the link and on the tokens of other devices alone. For each line of a fault that it notes in a callback
--- the remote failed once more.
+-- is broken or off it hangs on the link and on the tokens of other devices alone. The state counts the asks of its remote. As many of
+-- these fail in a callback as it notes lines of a fault.
 pub record IsActor {A : Type 0} (answers : Answering A) (acts : Acts A) : Type 0 where
   pub plays : Plays answers acts.sees
   pub sees_on : (x : A) (t : State) (f : Filter) → acts.sees x t → acts.sees x (with_filter f t)
   pub acting : (x : A) (t : State) → acts.sees x t → IsActing acts x t
   pub stands_on : (x : A) (s t : State) → IsBeside s t → acts.stands x s → acts.stands x t
   pub stands_held : (x : A) (s : State) → acts.stands x s → acts.holds x s
+  pub asked : (x : A) (s : State) → acts.holds x s → IsCount (acts.remote x).asks s.link.remote_asks
   pub holds_on : (x : A) (s t : State) → t.link ≡ s.link → t.peer_tokens ≡ s.peer_tokens → acts.holds x s → acts.holds x t
-  pub faulted : (x y : A) (seen : Sight) (call : Callback) (did : List Act) → answers x seen call did y → RoseBy (faults_among did) (acts.faults x) (acts.faults y)
+  pub faulted : (x y : A) (seen : Sight) (call : Callback) (did : List Act) → answers x seen call did y → AsksFailed (faults_among did) (acts.remote x) (acts.remote y)
 
 abbrev pub is_call : Event → Bool
 is_call (event.Call c) = true
@@ -85,8 +88,9 @@ abbrev pub LeavesTo : {A : Type 0} → Mode → (A → State → Type 0) → Eve
 LeavesTo m Is e s (Ok a) new = (t : State) × IsStep m s e a t × LeavesFilter s t × Is new t
 LeavesTo m Is e s (Err k) new = Unit {0}
 
--- An event that needs no volume: it is done whatever the power is. The remote failed as often more as the answer reports, at least.
+-- An event that needs no volume: it is done whatever the power is. As many of its asks of the remote fail as the
+-- answer reports.
 pub record StepsBeside {A : Type 0} (acts : Acts A) (e : Event) (old : A) (r : Result Answer NoMemory) (new : A) : Type 0 where
   pub on : (s : State) → s.mode ≡ acts.mode → acts.stands old s → LeavesTo acts.mode acts.stands e s r new
   pub held : (s : State) → s.mode ≡ acts.mode → acts.holds old s → LeavesTo acts.mode acts.holds e s r new
-  pub faults : (s : State) → acts.holds old s → FaultsTo r (acts.faults old) (acts.faults new)
+  pub faults : (s : State) → acts.holds old s → FaultsTo r (acts.remote old) (acts.remote new)

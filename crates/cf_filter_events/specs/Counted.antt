@@ -68,7 +68,7 @@ CountsIf broken (Err m) d e = Unit {0}
 pub record StepsOn {D A : Type 0} (acts : Acts A) (state : D → Disk) (e : Event) (old : Run D A) (r : Result Answer NoMemory) (new : Run D A) : Type 0 where
   pub steps : (past : Past) (s : State) → IsBegun acts state past old s → SteppedTo acts.mode (IsOn acts state past) e s r new
   pub counts : (past : Past) (s : State) → IsBegun acts state past old s → CountsIf new.filter.desk.broken r (state old.filter.disk) (state new.filter.disk)
-  pub faults : (past : Past) (s : State) → IsBegun acts state past old s → LinesTo r (acts.faults old.actor) (acts.faults new.actor)
+  pub faults : (past : Past) (s : State) → IsBegun acts state past old s → LinesTo r (acts.remote old.actor) (acts.remote new.actor)
 
 -- what is answered, by whether the filter is broken and whether the answer tells of a device call that failed
 abbrev pub known_as : Bool → Bool → Answer → Result Answer NoMemory

@@ -1,4 +1,4 @@
--- How the remote's count of faults goes with the answers of events.
+-- How the asks of the remote that failed go with the answers of events.
 use Rattle.std.specs.Prelude.{ℕ, ◌+◌, Bool, true, false, cond, Result, Ok, Err}
 use Rattle.cf_filter_events.specs.Pasts.{Past}
 use Rattle.cf_base.specs.declared.answers.Answer.{Answer}
@@ -7,8 +7,9 @@ use Rattle.cf_base.specs.declared.answers.Shown.TheVariants as shown
 use Rattle.cf_base.specs.declared.codes.Code.{Code}
 use Rattle.cf_base.specs.declared.codes.Code.TheVariants as code
 use Rattle.cf_base.specs.declared.memory.OutOfMemory.{OutOfMemory as NoMemory}
-use Rattle.cf_link.specs.Faults.{RoseBy, faults_in}
+use Rattle.cf_link.specs.Faults.{AsksFailed, faults_in}
 use Rattle.cf_model.specs.State.{State}
+use Rattle.cf_remote.specs.Told.{Told}
 
 abbrev pub is_remote_fault : Code → Bool
 is_remote_fault code.RemoteFault = true
@@ -23,19 +24,19 @@ meets_remote _ = false
 abbrev pub faults_shown : Answer → ℕ
 faults_shown a = faults_in a.notes + cond (meets_remote a.shown) 1 0
 
--- The count rose by as many at least, or to the most that is counted. Where memory ran out nothing is said.
-abbrev pub FaultsTo : Result Answer NoMemory → ℕ → ℕ → Type 0
-FaultsTo (Ok a) before after = RoseBy (faults_shown a) before after
+-- As many of the asks that were made failed. Where memory ran out nothing is said.
+abbrev pub FaultsTo : Result Answer NoMemory → Told → Told → Type 0
+FaultsTo (Ok a) before after = AsksFailed (faults_shown a) before after
 FaultsTo (Err m) before after = Unit {0}
 
 -- the same of the lines alone
-abbrev pub LinesTo : Result Answer NoMemory → ℕ → ℕ → Type 0
-LinesTo (Ok a) before after = RoseBy (faults_in a.notes) before after
+abbrev pub LinesTo : Result Answer NoMemory → Told → Told → Type 0
+LinesTo (Ok a) before after = AsksFailed (faults_in a.notes) before after
 LinesTo (Err m) before after = Unit {0}
 
 -- in each state that the world stands for
-pub record Faults {X : Type 0} (Is : Past → X → State → Type 0) (old : X) (r : Result Answer NoMemory) (before after : ℕ) : Type 0 where
-  pub rose : (past : Past) (s : State) → Is past old s → FaultsTo r before after
+pub record Faults {X : Type 0} (Is : Past → X → State → Type 0) (old : X) (r : Result Answer NoMemory) (before after : Told) : Type 0 where
+  pub failed : (past : Past) (s : State) → Is past old s → FaultsTo r before after
 
 -- an answer that does not report by its result that the remote failed, or none
 

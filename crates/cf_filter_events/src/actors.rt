@@ -24,12 +24,12 @@ pub trait Actor: Provider {
     /// An event that needs the volume begins. The volume is open, and no event met Device. The remote is not asked.
     fn begin(&mut self)
         ensures begins { Begins acts self.old self.new }
-        ensures faults { acts.faults self.new ≡ acts.faults self.old };
+        ensures remote { acts.remote self.new ≡ acts.remote self.old };
 
     /// The volume was opened again. What was known until then is gone. The remote is not asked.
     fn reopen(&mut self)
         ensures reopens { Reopens acts self.old self.new }
-        ensures faults { acts.faults self.new ≡ acts.faults self.old };
+        ensures remote { acts.remote self.new ≡ acts.remote self.old };
 
     /// Does an event of the mode that needs no volume and is none of the device, and answers it, whether the volume is open, broken or
     /// off. Of the filter it changes the notes alone. Any other event is out of memory: it never comes here. Where memory runs out the

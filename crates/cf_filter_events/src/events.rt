@@ -36,7 +36,7 @@ impl<D: Disk, A: Actor> Running<D, A> {
         requires other { is_device_event event.now ≡ false }
         ensures steps { Steps A.acts.mode (IsOn A.acts D.state) event.now self.old result self.new }
         ensures counts { Counts (IsOn A.acts D.state) self.old result (D.state self.old.filter.disk) (D.state self.new.filter.disk) }
-        ensures faults { Faults (IsOn A.acts D.state) self.old result (A.acts.faults self.old.actor) (A.acts.faults self.new.actor) }
+        ensures faults { Faults (IsOn A.acts D.state) self.old result (A.acts.remote self.old.actor) (A.acts.remote self.new.actor) }
     {
         if !needs_volume(event) {
             let told = self.actor.beside(alloc, event);
@@ -70,7 +70,7 @@ impl<D: Disk, A: Actor> Cut<D, A> {
         requires other { is_device_event event.now ≡ false }
         ensures steps { Steps A.acts.mode (IsOff A.acts D.state) event.now self.old result self.new }
         ensures counts { CountsTo result (D.state self.old.disk) (D.state self.new.disk) }
-        ensures faults { Faults (IsOff A.acts D.state) self.old result (A.acts.faults self.old.actor) (A.acts.faults self.new.actor) }
+        ensures faults { Faults (IsOff A.acts D.state) self.old result (A.acts.remote self.old.actor) (A.acts.remote self.new.actor) }
     {
         if needs_volume(event) {
             return Ok(refused(alloc, Code::Off));

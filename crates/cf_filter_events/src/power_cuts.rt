@@ -58,7 +58,7 @@ impl<D: Disk, A: Actor> Cut<D, A> {
     pub(crate) fn restart(self, alloc: Global) -> (Acting<D, A>, Result<Answer, OutOfMemory>)
         ensures steps { StepsOver A.acts.mode (Is A.acts D.state) (event.Device device.Restart) (acting.Off self) result.1 result.0 }
         ensures counts { CountsTo result.1 (D.state self.disk) (D.state (disk_of result.0)) }
-        ensures faults { FaultsTo result.1 (A.acts.faults self.actor) (A.acts.faults (actor_of result.0)) }
+        ensures faults { FaultsTo result.1 (A.acts.remote self.actor) (A.acts.remote (actor_of result.0)) }
     {
         if !is_fit(self.disk.size()) {
             return (Acting::Off(self), Ok(refused(alloc, Code::NotAVolume)));
@@ -70,7 +70,7 @@ impl<D: Disk, A: Actor> Cut<D, A> {
         requires { IsFitSize (size_of (D.state self.disk)) }
         ensures steps { StepsOver A.acts.mode (Is A.acts D.state) (event.Device device.Restart) (acting.Off self) result.1 result.0 }
         ensures counts { CountsTo result.1 (D.state self.disk) (D.state (disk_of result.0)) }
-        ensures faults { FaultsTo result.1 (A.acts.faults self.actor) (A.acts.faults (actor_of result.0)) }
+        ensures faults { FaultsTo result.1 (A.acts.remote self.actor) (A.acts.remote (actor_of result.0)) }
     {
         let policy = self.policy;
         match Filter::open(alloc, self.disk, policy) {
@@ -113,7 +113,7 @@ fn reopened<D: Disk, A: Actor>(
 ) -> (Acting<D, A>, Result<Answer, OutOfMemory>)
     ensures on { result.0 ≡ acting.On (record { filter = filter; actor = actor_of result.0 }) }
     ensures opens { Reopens A.acts actor (actor_of result.0) }
-    ensures same { A.acts.faults (actor_of result.0) ≡ A.acts.faults actor }
+    ensures same { A.acts.remote (actor_of result.0) ≡ A.acts.remote actor }
     ensures plain { IfOk result.1 (λ a. meets_device a.shown ≡ false) }
     ensures quiet { IfOk result.1 (λ a. faults_shown a ≡ 0) }
     ensures told { IfOk result.1 (λ a. (f : model) → Stands D.state filter f → a ≡ answer_with (shown.Resumed (length f.volume.log) (opened_of f.volume.book)) []) }

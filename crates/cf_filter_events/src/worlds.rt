@@ -69,7 +69,7 @@ impl<D: Disk, A: Actor> Acting<D, A> {
         ensures steps { StepsOver A.acts.mode (Is A.acts D.state) event.now self result.1 result.0 }
         ensures device { Bears event.now (D.state (disk_of self)) (D.state (disk_of result.0)) }
         ensures counts { CountsOver (Is A.acts D.state) event.now self result.1 (D.state (disk_of self)) (D.state (disk_of result.0)) }
-        ensures faults { Faults (Is A.acts D.state) self result.1 (A.acts.faults (actor_of self)) (A.acts.faults (actor_of result.0)) }
+        ensures faults { Faults (Is A.acts D.state) self result.1 (A.acts.remote (actor_of self)) (A.acts.remote (actor_of result.0)) }
     {
         match self {
             Acting::On(running) => step_on(alloc, running, event),
@@ -103,7 +103,7 @@ fn step_on<D: Disk, A: Actor>(
     ensures steps { StepsOver A.acts.mode (Is A.acts D.state) event.now (acting.On running) result.1 result.0 }
     ensures device { Bears event.now (D.state running.filter.disk) (D.state (disk_of result.0)) }
     ensures counts { CountsOver (Is A.acts D.state) event.now (acting.On running) result.1 (D.state running.filter.disk) (D.state (disk_of result.0)) }
-    ensures faults { Faults (Is A.acts D.state) (acting.On running) result.1 (A.acts.faults running.actor) (A.acts.faults (actor_of result.0)) }
+    ensures faults { Faults (Is A.acts D.state) (acting.On running) result.1 (A.acts.remote running.actor) (A.acts.remote (actor_of result.0)) }
 {
     match event {
         Event::Device(device) => device_on(alloc, running, *device),
@@ -122,7 +122,7 @@ fn device_on<D: Disk, A: Actor>(
     ensures steps { StepsOver A.acts.mode (Is A.acts D.state) (events.Device event) (acting.On running) result.1 result.0 }
     ensures device { BearsOn event (D.state running.filter.disk) (D.state (disk_of result.0)) }
     ensures counts { CountsBy (arms_in event) result.1 (D.state running.filter.disk) (D.state (disk_of result.0)) }
-    ensures faults { FaultsTo result.1 (A.acts.faults running.actor) (A.acts.faults (actor_of result.0)) }
+    ensures faults { FaultsTo result.1 (A.acts.remote running.actor) (A.acts.remote (actor_of result.0)) }
 {
     match event {
         DeviceEvent::Stop { calls } => {
@@ -150,7 +150,7 @@ fn step_off<D: Disk, A: Actor>(
     ensures steps { StepsOver A.acts.mode (Is A.acts D.state) event.now (acting.Off cut) result.1 result.0 }
     ensures device { Bears event.now (D.state cut.disk) (D.state (disk_of result.0)) }
     ensures counts { CountsBy (arms event.now) result.1 (D.state cut.disk) (D.state (disk_of result.0)) }
-    ensures faults { Faults (Is A.acts D.state) (acting.Off cut) result.1 (A.acts.faults cut.actor) (A.acts.faults (actor_of result.0)) }
+    ensures faults { Faults (Is A.acts D.state) (acting.Off cut) result.1 (A.acts.remote cut.actor) (A.acts.remote (actor_of result.0)) }
 {
     match event {
         Event::Device(device) => device_off(alloc, cut, *device),
@@ -169,7 +169,7 @@ fn device_off<D: Disk, A: Actor>(
     ensures steps { StepsOver A.acts.mode (Is A.acts D.state) (events.Device event) (acting.Off cut) result.1 result.0 }
     ensures device { BearsOn event (D.state cut.disk) (D.state (disk_of result.0)) }
     ensures counts { CountsBy (arms_in event) result.1 (D.state cut.disk) (D.state (disk_of result.0)) }
-    ensures faults { FaultsTo result.1 (A.acts.faults cut.actor) (A.acts.faults (actor_of result.0)) }
+    ensures faults { FaultsTo result.1 (A.acts.remote cut.actor) (A.acts.remote (actor_of result.0)) }
 {
     match event {
         DeviceEvent::Stop { calls } => {

@@ -1,5 +1,5 @@
 -- A request that came to the remote did so as in the definitions.
-use Rattle.std.proofs.Common.{◌≡◌, inr, ℕ, ◌+◌, ◌≤◌, Bool, true, false, List, ◌++◌, refl, sym, ap, ◌∙◌, subst}
+use Rattle.std.proofs.Common.{◌≡◌, inr, ℕ, ◌+◌, Bool, true, false, List, ◌++◌, refl, sym, ap, ◌∙◌, subst}
 use Rattle.std.specs.Prelude.{Option, Some, None, is_some, Result, Ok, Err, IfErr}
 use Rattle.std.specs.Result.{IsErrAnd}
 use Rattle.std.proofs.lemmas.Result.{err_from_is_err_and}
@@ -12,6 +12,7 @@ use Rattle.cf_base.specs.declared.notices.Frame.{Frame}
 use Rattle.cf_base.specs.declared.notices.Frame.TheVariants as frame
 use Rattle.cf_base.specs.declared.notices.Notice.{Notice}
 use Rattle.cf_base.specs.declared.notices.Notice.TheVariants as notice
+use Rattle.cf_link.specs.Faults.{Once}
 use Rattle.cf_link.specs.Linked.{Arrives, Does, Ended, Grows, IsLink, Linked, Rises, Stopped, lines_of, with_line}
 use Rattle.cf_link.specs.Parts.{IsAsked, IsMessageLine, IsRequestAt, PostedBy, SendsFrame, linked, reply_if, with_messages}
 use Rattle.cf_link.specs.declared.posts.Posted.{Posted}
@@ -26,6 +27,7 @@ use Rattle.cf_remote.specs.Peers.{IsCount, IsHeld, Leads, Stands}
 use Rattle.cf_remote.specs.Told.{Answers, Told}
 use Rattle.cf_remote.proofs.Asking.{After, after_fault, after_reply, begins_here}
 use Rattle.cf_wire.specs.Sending.{IsNet, Kept}
+use Rattle.cf_link.proofs.FaultCounts.{once_answered, once_failed}
 use Rattle.cf_link.proofs.Ways.{begins_on, leads_begins, leads_on}
 
 -- what an ask changes of a state
@@ -53,7 +55,7 @@ kept_leads : (r : Reply) (b : Bool) (t : State) (told : Told) → Leads (if_kept
 kept_leads r true t told = (refl, refl, refl)
 kept_leads r false t told = (refl, refl, refl)
 
-rises : (line : Option Notice) (old new : ℕ) → IsMessageLine line → old ≤ new → Rises line old new
+rises : (line : Option Notice) (old new : Told) → IsMessageLine line → Once false old new → Rises line old new
 rises None old new h k = k
 rises (Some (notice.Message m)) old new h k = k
 rises (Some (notice.Change n c)) old new h k = absurd h
@@ -102,6 +104,9 @@ module _ {R : Type 0} (told : R → Told) (m : ℕ) (q : Request) (net : Kept) (
         ));
   })
 
+  pub fault_rises : (o : Option Reply) → o ≡ None → IsAsked q (told remote) (Ok o) (told mid) → Once true (told old.remote) (told mid)
+  fault_rises o e h = subst (λ (x : Linked R). Once true (told x.remote) (told mid)) same (once_failed (told remote) (told mid) (subst (λ (x : Option Reply). IsAsked q (told remote) (Ok x) (told mid)) e h))
+
   module _ (o : Option Reply) (r : Reply) (is : o ≡ Some r) (asked : IsAsked q (told remote) (Ok o) (told mid)) where
     answers : Answers q r (told remote) (told mid)
     answers = subst (λ (x : Option Reply). IsAsked q (told remote) (Ok x) (told mid)) is asked
@@ -127,8 +132,8 @@ module _ {R : Type 0} (told : R → Told) (m : ℕ) (q : Request) (net : Kept) (
                 ends_by after (reply_if p.kept r) p.line (Some r) s (after_reply q r (s.peer_tokens + 1) s (told remote) (told mid) (stands_at s k) answers) (follows s k);
           }))
 
-      pub reply_rises : IsMessageLine p.line → Rises p.line (told old.remote).faults (told mid).faults
-      reply_rises line = subst (λ (x : Linked R). Rises p.line (told x.remote).faults (told mid).faults) same (rises p.line (told remote).faults (told mid).faults line answers.never_falls)
+      pub reply_rises : IsMessageLine p.line → Rises p.line (told old.remote) (told mid)
+      reply_rises line = subst (λ (x : Linked R). Rises p.line (told x.remote) (told mid)) same (rises p.line (told remote) (told mid) line (once_answered q r (told remote) (told mid) answers))
 
     -- the remote replied, and then memory ran out
     pub reply_stops : (after : Kept) → Stopped told (come m q) old (linked after mid inline)
@@ -179,7 +184,7 @@ module _ {R : Type 0} (told : R → Told) (m : ℕ) (q : Request) (o : Option Re
   }
 
   pub arrives : (line : Option Notice) (notes after : List Notice) (u : Unit {0}) → Does told (seq (come m q) was_sent) old shown.Done line new
-      → Rises line (told old.remote).faults (told new.remote).faults → after ≡ notes ++ lines_of line → Arrives told m old notes (Ok u) new after
+      → Rises line (told old.remote) (told new.remote) → after ≡ notes ++ lines_of line → Arrives told m old notes (Ok u) new after
   arrives line notes after u d k e = (line, e, arrive_does line d, k)
 
   -- memory ran out before the line was noted

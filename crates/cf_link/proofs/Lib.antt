@@ -1,5 +1,6 @@
 pub mod Asked
 pub mod FaultCounts
+pub mod ListedAsks
 pub mod PeerLinks
 pub mod PeerWalk
 pub mod Sending

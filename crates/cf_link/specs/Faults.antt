@@ -1,7 +1,8 @@
--- How often the remote failed, by lines.
-use Rattle.std.specs.Prelude.{ℕ, List, [], ◌∷◌, ◌+◌, ◌-◌, ◌^◌, ◌≤◌, min}
+-- How often the remote failed, by lines, by its asks, and by what it counts.
+use Rattle.std.specs.Prelude.{◌≡◌, ℕ, Bool, cond, List, [], ◌∷◌, ◌+◌, ◌-◌, ◌^◌, ◌≤◌, min}
 use Rattle.cf_base.specs.declared.notices.Notice.{Notice}
 use Rattle.cf_base.specs.declared.notices.Notice.TheVariants as notice
+use Rattle.cf_remote.specs.Told.{Counts, Told}
 
 abbrev pub fault_of : Notice → ℕ
 fault_of (notice.Fault message) = 1
@@ -19,3 +20,25 @@ most_faults = 2 ^ 64 - 1
 -- the count rose by n at least, or to the most that is counted
 abbrev pub RoseBy : ℕ → ℕ → ℕ → Type 0
 RoseBy n old new = min (old + n) most_faults ≤ new
+
+-- One ask, which failed or not: it fails exactly where it is one of those that the remote reports as failing. Where it failed the
+-- count rose.
+pub record Once (failed : Bool) (old new : Told) : Type 0 where
+  pub counts : Counts failed old new
+  pub rose : RoseBy (cond failed 1 0) old.faults new.faults
+
+-- asks in turn, each of which failed or not
+abbrev pub Went : List Bool → Told → Told → Type 0
+Went [] old new = new ≡ old
+Went (failed ∷ more) old new = (mid : Told) × Once failed old mid × Went more mid new
+
+-- how many of them failed
+abbrev pub failures : List Bool → ℕ
+failures [] = 0
+failures (failed ∷ more) = cond failed 1 0 + failures more
+
+-- Asks led the remote from the one to the other, and n of them failed.
+pub record AsksFailed (n : ℕ) (old new : Told) : Type 0 where
+  pub asks : List Bool
+  pub failed : failures asks ≡ n
+  pub went : Went asks old new

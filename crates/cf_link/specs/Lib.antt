@@ -1,3 +1,4 @@
 pub mod Faults
 pub mod Linked
+pub mod Listed
 pub mod Parts

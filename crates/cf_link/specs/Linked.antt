@@ -1,5 +1,5 @@
 -- What a program has of the link, how that stands for the link of the definitions, and what its calls do.
-use Rattle.std.specs.Prelude.{◌≡◌, ◌⊎◌, ℕ, ◌+◌, ◌≤◌, ◌==◌, Bool, true, not, cond, List, [], ◌∷◌, ◌++◌, length, Option, Some, None, is_some, Result, Ok, Err}
+use Rattle.std.specs.Prelude.{◌≡◌, ◌⊎◌, ℕ, ◌+◌, ◌≤◌, ◌==◌, Bool, true, false, not, cond, List, [], ◌∷◌, ◌++◌, length, Option, Some, None, is_some, Result, Ok, Err}
 use Rattle.cf_base.specs.declared.answers.Answer.{Answer}
 use Rattle.cf_base.specs.declared.answers.Shown.{Shown}
 use Rattle.cf_base.specs.declared.answers.Shown.TheVariants as shown
@@ -12,13 +12,14 @@ use Rattle.cf_base.specs.declared.notices.Notice.{Notice}
 use Rattle.cf_base.specs.declared.notices.Notice.TheVariants as notice
 use Rattle.cf_link.specs.declared.replies.Replied.{Replied}
 use Rattle.cf_link.specs.declared.posts.Posted.{Posted}
+use Rattle.cf_link.specs.Faults.{Once}
 use Rattle.cf_model.specs.Arrows.{Arrow}
 use Rattle.cf_model.specs.Messages.{is_stale, post}
 use Rattle.cf_model.specs.Passes.{arrive, deliver_now, deliver_unless}
 use Rattle.cf_model.specs.State.{Link, State, note, with_link}
 use Rattle.cf_model.specs.Trees.{Ret}
 use Rattle.cf_remote.specs.Peers.{Begins, IsCount, IsHeld, Leads}
-use Rattle.cf_remote.specs.Told.{Told, counted}
+use Rattle.cf_remote.specs.Told.{Told}
 use Rattle.cf_wire.specs.Sending.{IsNet, Kept, sending}
 use Rattle.cf_wire.specs.declared.messages.Message.{Message}
 
@@ -64,10 +65,10 @@ abbrev pub lines_of : Option Notice → List Notice
 lines_of None = []
 lines_of (Some n) = n ∷ []
 
--- the remote's count of faults never falls, and rose where the line tells of one
-abbrev pub Rises : Option Notice → ℕ → ℕ → Type 0
-Rises (Some (notice.Fault m)) old new = counted old ≤ new
-Rises _ old new = old ≤ new
+-- the remote was asked once, and failed exactly where the line reports that
+abbrev pub Rises : Option Notice → Told → Told → Type 0
+Rises (Some (notice.Fault m)) old new = Once true old new
+Rises _ old new = Once false old new
 
 -- parts of an event
 
@@ -128,7 +129,7 @@ pub record StopsPeer {R : Type 0} (told : R → Told) (f : Arrow State Shown) (n
 
 abbrev pub Arrives : {R : Type 0} → (R → Told) → ℕ → Linked R → List Notice → Result (Unit {0}) CallError → Linked R → List Notice → Type 0
 Arrives told m old notes (Ok u) new after =
-    (line : Option Notice) × (after ≡ notes ++ lines_of line) × Does told (arrive m) old shown.Done line new × Rises line (told old.remote).faults (told new.remote).faults
+    (line : Option Notice) × (after ≡ notes ++ lines_of line) × Does told (arrive m) old shown.Done line new × Rises line (told old.remote) (told new.remote)
 Arrives told m old notes (Err (No c)) new after = (c ≡ code.NoMessage) × (after ≡ notes) × (new ≡ old) × Does told (arrive m) old (shown.Refused c) None new
 Arrives told m old notes (Err OutOfMemory) new after = (after ≡ notes) × Stopped told (arrive m) old new × Grows old.net new.net
 

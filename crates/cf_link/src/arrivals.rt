@@ -30,7 +30,7 @@ impl<R: Remote> Link<R> {
     fn hand(&mut self, number: u32, request: &Request) -> Result<Option<Notice>, OutOfMemory>
         requires { HasRoom request.now }
         ensures does { IfOk result (λ line. Does R.told (seq (come number request.now) was_sent) self.old shown.Done line self.new) }
-        ensures rises { IfOk result (λ line. Rises line (R.told self.old.remote).faults (R.told self.new.remote).faults) }
+        ensures rises { IfOk result (λ line. Rises line (R.told self.old.remote) (R.told self.new.remote)) }
         ensures inline { self.new.inline ≡ self.old.inline }
         ensures grows { IfOk result (λ _. Grows self.old.net self.new.net) }
         ensures err { IfErr result (λ _. Stopped R.told (seq (come number request.now) was_sent) self.old self.new) }

@@ -34,7 +34,7 @@ impl<R: Remote> Link<R> {
     pub fn come(&mut self, number: u32, request: &Request) -> Result<Came, OutOfMemory>
         requires { HasRoom request.now }
         ensures does { IfOk result (λ c. Does R.told (come number request.now) self.old c.reply c.line self.new) }
-        ensures rises { IfOk result (λ c. Rises c.line (R.told self.old.remote).faults (R.told self.new.remote).faults) }
+        ensures rises { IfOk result (λ c. Rises c.line (R.told self.old.remote) (R.told self.new.remote)) }
         ensures inline { self.new.inline ≡ self.old.inline }
         ensures err { IfErr result (λ _. Stopped R.told (come number request.now) self.old self.new) }
         ensures err_net { OnErr result (self.new.net ≡ self.old.net) }

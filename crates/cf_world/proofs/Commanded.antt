@@ -4,6 +4,7 @@ use Rattle.std.specs.Prelude.{None, Option}
 use Rattle.cf_filter_events.specs.Actors.{Acts}
 use Rattle.cf_base.specs.declared.answers.Answer.{Answer}
 use Rattle.cf_base.specs.declared.events.Event.{Event}
+use Rattle.cf_base.specs.declared.policies.Choice.{Choice}
 use Rattle.cf_base.specs.declared.policies.Mode.TheVariants.{Replay}
 use Rattle.cf_base.specs.declared.policies.Mode.{Mode}
 use Rattle.cf_base.specs.declared.statuses.Status.{Status}
@@ -11,7 +12,9 @@ use Rattle.cf_base.specs.declared.statuses.Status.TheVariants as status
 use Rattle.cf_disk.specs.Disk.{State as Disk}
 use Rattle.cf_link.specs.Faults.{RoseBy}
 use Rattle.cf_link.specs.Linked.{IsRemote}
+use Rattle.cf_link.specs.Listed.{Lists}
 use Rattle.cf_model.specs.Lawful.{Runs}
+use Rattle.cf_model.specs.Powers.{RunsOver}
 use Rattle.cf_model.specs.State.{State, start}
 use Rattle.cf_model.specs.Store.{Held}
 use Rattle.cf_model_headline.proofs.HeadlineLaws.{headline, promised}
@@ -20,7 +23,8 @@ use Rattle.cf_volume_points.specs.Standing.{clusters_on}
 use Rattle.cf_io.specs.Moves.{Adds, AddsFront}
 use Rattle.cf_world.proofs.Ends.{long_said, writes_said}
 use Rattle.cf_world.proofs.OverPowers.{over_runs}
-use Rattle.cf_world.specs.Led.{Begins, IsLawful, Leads, LeadsActor, LeadsDisk, LeavesActor, LeavesRemote, Stood, faults_by}
+use Rattle.cf_world.specs.Led.{Begins, IsLawful, Leads, LeadsActor, LeadsDisk, LeavesActor, LeavesRemote, Stood}
+use Rattle.cf_world.specs.RemoteFaults.{ReportsExactly, ReportsListed, faults_by}
 use Rattle.cf_world.specs.Outputs.{Concludes, ConcludesBy, ConcludesOf, Ended, EndsFailed, SaysBy, SaysIn, WritesAs, WritesAsBy}
 use Rattle.cf_world.specs.Runs.{WritesOf}
 use Rattle.cf_world.specs.Steps.{IsLawfulFrom, WritesBy}
@@ -64,7 +68,10 @@ module _ {D R A : Type 0} (state : D → Disk) (told : R → Told) (W : Acts A) 
     (leaves : (held : Held) (trace : List (Event × Answer)) (s : State) → W.holds after s → Runs W.mode (start W.mode held (clusters_on (state disk).seen)) trace s → LeavesRemote told W.mode held (clusters_on (state disk).seen) trace s left)
     (kept : after ≡ actor → left ≡ first)
     -- and its count of faults rose as the remote's did
-    (counts : (n : ℕ) → RoseBy n (W.faults actor) (W.faults after) → RoseBy n (told first).faults (told left).faults) where
+    (counts : (n : ℕ) → RoseBy n (W.remote actor).faults (W.remote after).faults → RoseBy n (told first).faults (told left).faults)
+    -- and the answers report of the one remote what they report of the other
+    (exactly : (s t : State) (trace : List (Event × Answer)) (powers : List (Choice × List ℕ)) (runs : RunsOver StandsFor W.mode None s trace powers t) → RoseBy (faults_by trace) (W.remote actor).faults (W.remote after).faults
+    → ((fails : List ℕ) → Lists fails (W.remote actor) → ReportsListed fails W.mode None s trace powers t runs) → ReportsExactly W.mode (told first) s trace powers t runs) where
   leads_at : (d : D) (trace : List (Event × Answer)) (held : Held) → LeadsActor state W held disk actor trace d after → LeadsDisk state told W.mode held disk first trace d left
   leads_at d trace held r =
       let runs = over_runs StandsFor W.mode None (start W.mode held (clusters_on (state disk).seen)) r.left trace r.powers r.runs in
@@ -77,6 +84,7 @@ module _ {D R A : Type 0} (state : D → Disk) (told : R → Told) (W : Acts A) 
         armed = r.armed;
         reports = r.reports;
         faulted = counts (faults_by trace) r.faulted;
+        exactly = exactly (start W.mode held (clusters_on (state disk).seen)) r.left trace r.powers r.runs r.faulted r.exactly;
         lasts = r.lasts;
         promises = λ fresh. promised W.mode held (clusters_on (state disk).seen) trace r.left fresh runs;
         remote = leaves held trace r.left r.holds runs;

@@ -2,7 +2,6 @@
 use Rattle.std.specs.Prelude.{◌≡◌, ◌≤◌, ◌+◌, ℕ, Bool, true, false, List, [], ◌∷◌, Option, Some, None, cond}
 use Rattle.cf_filter_events.specs.Actors.{Acts}
 use Rattle.cf_filter_events.specs.Counted.{meets_device}
-use Rattle.cf_filter_events.specs.Faulted.{faults_shown}
 use Rattle.cf_filter_events.specs.Meaning.{Is}
 use Rattle.cf_filter_events.specs.Pasts.{Gains, StandsFor, last_image}
 use Rattle.cf_filter_events.specs.Stepped.{actor_of, disk_of}
@@ -18,6 +17,7 @@ use Rattle.cf_base.specs.declared.policies.Mode.TheVariants.{Filter, Replay}
 use Rattle.cf_disk.specs.Disk.{State as Disk, capped, may_fail}
 use Rattle.cf_link.specs.Faults.{RoseBy}
 use Rattle.cf_link.specs.Linked.{IsRemote}
+use Rattle.cf_link.specs.Listed.{Lists}
 use Rattle.cf_model.specs.Lawful.{Lawful}
 use Rattle.cf_model.specs.Powers.{RunsOver, StandsNow}
 use Rattle.cf_model.specs.State.{State, start}
@@ -27,6 +27,7 @@ use Rattle.cf_model_laws.specs.Premises.{IsFresh}
 use Rattle.cf_remote.specs.Peers.{IsCount, IsHeld}
 use Rattle.cf_remote.specs.Told.{Told}
 use Rattle.cf_volume_points.specs.Standing.{clusters_on}
+use Rattle.cf_world.specs.RemoteFaults.{ReportsExactly, ReportsListed, faults_by}
 
 -- how many answers of a trace report a device call that failed
 abbrev pub met_by : List (Event × Answer) → ℕ
@@ -55,11 +56,6 @@ abbrev pub FailsArmed : Bool → List (Event × Answer) → Type 0
 FailsArmed armed [] = Unit {0}
 FailsArmed armed (p ∷ ps) = (meets_device p.1.shown ≡ true → armed ≡ true) × FailsArmed (armed_then armed p.0) ps
 
--- how often the answers of a trace report that the remote failed: each line of a fault, and each result RemoteFault
-abbrev pub faults_by : List (Event × Answer) → ℕ
-faults_by [] = 0
-faults_by (p ∷ ps) = faults_shown p.1 + faults_by ps
-
 -- Which remote of the definitions a run may begin with. In `replay` it is what the remote that is handed in holds, where that reports it,
 -- and it was asked nothing yet. In `filter` no event touches the remote, so it may be any.
 abbrev pub Begins : {R : Type 0} → (R → Told) → Mode → R → Held → Type 0
@@ -85,9 +81,10 @@ LeavesRemote told Filter held clusters trace left remote = Unit {0}
 -- crash, with its choice and in order, and each `resumed` opens what the image that the last of them left stands for. These are all
 -- the power cuts that the disk had, where it reports them. Of each answer Device a device call failed in its event: the count of
 -- faults rose by as many at least; and where the disk reported that none was armed as the run began, an answer Device comes only after a
--- stop with no crash between. Of each line of a fault and each RemoteFault the remote failed: its count of faults rose by as many at
--- least. Whatever a crash leaves then stands for a point that a restart may open. Of the same trace all holds that a user is promised of
--- both commands, where the remote had recorded no token.
+-- stop with no crash between. Of each line of a fault and each RemoteFault an ask of the remote failed: its count of faults rose by as
+-- many at least, and where it lists the asks that fail these are exactly the failures that the answers report. Whatever a crash leaves
+-- then stands for a point that a restart may open. Of the same trace all holds that a user is promised of both commands, where the remote
+-- had recorded no token.
 pub record LeadsDisk {D R : Type 0} (state : D → Disk) (told : R → Told) (m : Mode) (held : Held) (disk : D) (first : R) (trace : List (Event × Answer)) (back : D) (after : R) : Type 0 where
   pub left : State
   pub powers : List (Choice × List ℕ)
@@ -97,6 +94,7 @@ pub record LeadsDisk {D R : Type 0} (state : D → Disk) (told : R → Told) (m 
   pub armed : (state disk).armed ≡ Some None → FailsArmed false trace
   pub reports : (state disk).armed ≡ Some None → may_fail (state back).armed ≤ 1
   pub faulted : RoseBy (faults_by trace) (told first).faults (told after).faults
+  pub exactly : ReportsExactly m (told first) (start m held (clusters_on (state disk).seen)) trace powers left runs
   pub lasts : (c : List ℕ) → (state back).may_leave c → StandsNow StandsFor left c
   pub promises : IsFresh held → Promises m held (clusters_on (state disk).seen) trace left
   pub remote : LeavesRemote told m held (clusters_on (state disk).seen) trace left after
@@ -114,7 +112,8 @@ pub record LeadsWorld {D A : Type 0} (state : D → Disk) (W : Acts A) (held : H
   pub gains : Gains powers (state disk).powers told
   pub met : capped ((state disk).faults + met_by trace) ≤ (state (disk_of a)).faults
   pub armed : (state disk).armed ≡ Some None → FailsArmed false trace × (may_fail (state (disk_of a)).armed ≤ cond (armed_after false trace) 1 0)
-  pub faulted : RoseBy (faults_by trace) (W.faults first) (W.faults (actor_of a))
+  pub faulted : RoseBy (faults_by trace) (W.remote first).faults (W.remote (actor_of a)).faults
+  pub exactly : (fails : List ℕ) → Lists fails (W.remote first) → Lists fails (W.remote (actor_of a)) × ReportsListed fails W.mode None (start W.mode held (clusters_on (state disk).seen)) trace powers left runs
   pub is : Is W state (record { told = told; last = last_image None powers }) a left
 
 -- the remotes of the definitions that the actor stands for as the run begins
@@ -135,7 +134,8 @@ pub record LeadsActor {D A : Type 0} (state : D → Disk) (W : Acts A) (held : H
   pub met : capped ((state disk).faults + met_by trace) ≤ (state back).faults
   pub armed : (state disk).armed ≡ Some None → FailsArmed false trace
   pub reports : (state disk).armed ≡ Some None → may_fail (state back).armed ≤ 1
-  pub faulted : RoseBy (faults_by trace) (W.faults first) (W.faults actor)
+  pub faulted : RoseBy (faults_by trace) (W.remote first).faults (W.remote actor).faults
+  pub exactly : (fails : List ℕ) → Lists fails (W.remote first) → ReportsListed fails W.mode None (start W.mode held (clusters_on (state disk).seen)) trace powers left runs
   pub lasts : (c : List ℕ) → (state back).may_leave c → StandsNow StandsFor left c
   pub holds : W.holds actor left
 

@@ -1,3 +1,4 @@
+pub mod RemoteFaults
 pub mod Led
 pub mod Runs
 pub mod Migrations

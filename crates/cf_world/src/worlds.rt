@@ -169,7 +169,7 @@ fn act_on<D: Disk + Drop, A: Actor + Drop>(
     ensures ok { (a b : Hands D A) → acting.old ≡ Some a → acting.new ≡ Some b → StepsOver A.acts.mode (Is A.acts D.state) event.now a result b }
     ensures counts { (a b : Hands D A) → acting.old ≡ Some a → acting.new ≡ Some b → CountsOver (Is A.acts D.state) event.now a result (D.state (disk_of a)) (D.state (disk_of b)) }
     ensures device { (a b : Hands D A) → acting.old ≡ Some a → acting.new ≡ Some b → Bears event.now (D.state (disk_of a)) (D.state (disk_of b)) }
-    ensures faults { (a b : Hands D A) → acting.old ≡ Some a → acting.new ≡ Some b → Faults (Is A.acts D.state) a result (A.acts.faults (actor_of a)) (A.acts.faults (actor_of b)) }
+    ensures faults { (a b : Hands D A) → acting.old ≡ Some a → acting.new ≡ Some b → Faults (Is A.acts D.state) a result (A.acts.remote (actor_of a)) (A.acts.remote (actor_of b)) }
     ensures whole { is_some acting.new ≡ true }
 {
     let Some(begun) = acting.take() else {

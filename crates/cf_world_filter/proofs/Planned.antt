@@ -8,10 +8,9 @@ use Rattle.cf_filter_events.specs.Meaning.{IsBegun, IsOn, OnBy}
 use Rattle.cf_filter_events.specs.Pasts.{Past}
 use Rattle.cf_filter_events.specs.Stepped.{SteppedTo}
 use Rattle.cf_filter_events.specs.declared.places.Running.{Running as Run}
-use Rattle.cf_filter_events.proofs.CallFaults.{rose_same}
 use Rattle.cf_filter_events.proofs.Counted.{plain_if}
 use Rattle.cf_filter_events.proofs.Finished.{while_on}
-use Rattle.cf_world_filter.specs.Scripts.{scripts}
+use Rattle.cf_world_filter.specs.Scripts.{no_remote, scripts}
 use Rattle.cf_base.specs.declared.answers.Answer.{Answer}
 use Rattle.cf_base.specs.declared.answers.Shown.TheVariants as shown
 use Rattle.cf_base.specs.declared.events.Event.{Event}
@@ -22,6 +21,7 @@ use Rattle.cf_base.specs.declared.operations.Operation.{Operation}
 use Rattle.cf_base.specs.declared.policies.Mode.TheVariants.{Filter as InFilter}
 use Rattle.cf_disk.specs.Disk.{State as Disk}
 use Rattle.cf_filter_machine.specs.Held.{Held}
+use Rattle.cf_link.proofs.FaultCounts.{failed_none}
 use Rattle.cf_model.proofs.TraceLaws.{ended_step}
 use Rattle.cf_model.specs.Events.{begun, with_planned}
 use Rattle.cf_model.specs.State.{State}
@@ -45,7 +45,7 @@ module _ {D : Type 0} (state : D → Disk) where
       let h : StepsOn scripts state (event.Provider (provider.Plan own op)) (record { filter = x; actor = plan }) (Ok (answer_with shown.Done [])) (record { filter = x; actor = plan ++ (own, op) ∷ [] }) = record {
         steps = planned_step own op x plan;
         counts = λ past s on. plain_if (answer_with shown.Done []) x.desk.broken (state x.disk) refl;
-        faults = λ past s on. rose_same 0 0 refl;
+        faults = λ past s on. failed_none no_remote;
       } in
       let to = subst (λ (l : List (Bool × Operation)). StepsOn scripts state (event.Provider (provider.Plan own op)) (record { filter = x; actor = plan }) (Ok (answer_with shown.Done [])) (record { filter = x; actor = l })) (sym adds) h in
       subst (λ (b : Answer). StepsOn scripts state (event.Provider (provider.Plan own op)) (record { filter = x; actor = plan }) (Ok b) (record { filter = x; actor = left })) (sym told) to

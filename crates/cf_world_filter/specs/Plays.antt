@@ -1,6 +1,6 @@
 -- The scripted provider plays the provider of the definitions, and is an actor.
 use Rattle.std.proofs.Common.{◌≡◌, ◌+◌, ℕ, Bool, List, [], ◌∷◌, refl, sym, ap, subst, ◌∙◌, inl, inr, arith}
-use Rattle.cf_world_filter.specs.Scripts.{Sees, scripts}
+use Rattle.cf_world_filter.specs.Scripts.{Sees, no_remote, scripts}
 use Rattle.cf_filter_events.specs.Actors.{IsActor}
 use Rattle.cf_base.specs.declared.answers.Shown.{Shown}
 use Rattle.cf_base.specs.declared.operations.Operation.{Operation}
@@ -9,8 +9,8 @@ use Rattle.cf_base.specs.declared.waits.Ask.{Ask}
 use Rattle.cf_engine_host.specs.CallbackLaws.{Plays}
 use Rattle.cf_engine_host.specs.Callbacks.{NoneFailed}
 use Rattle.cf_engine_provider.specs.Agencies.{faults_among}
-use Rattle.cf_link.proofs.FaultCounts.{rose_none}
-use Rattle.cf_link.specs.Faults.{RoseBy}
+use Rattle.cf_link.proofs.FaultCounts.{failed_none}
+use Rattle.cf_link.specs.Faults.{AsksFailed}
 use Rattle.cf_model.proofs.TreeLaws.{ends_mapped, ends_then, stops_first, stops_mapped, stops_then}
 use Rattle.cf_model.specs.Arrows.{each, unit}
 use Rattle.cf_model.specs.Callbacks.{begin_call, call_back, carry_out, planned_on, with_operation_told, without_plan}
@@ -96,8 +96,8 @@ no_lines own (p ∷ ps) did (inr is) =
     let all : faults_among did ≡ 0 + faults_among is.1 = ap faults_among is.2 in
     omega (arith, rest, all)
 
-none_faulted : (own : Key) (ops : List (Bool × Operation)) (did : List Act) → CarriesOut own ops did → RoseBy (faults_among did) 0 0
-none_faulted own ops did is = subst (λ (n : ℕ). RoseBy n 0 0) (sym (no_lines own ops did is)) (rose_none 0 0 (omega arith))
+none_faulted : (own : Key) (ops : List (Bool × Operation)) (did : List Act) → CarriesOut own ops did → AsksFailed (faults_among did) no_remote no_remote
+none_faulted own ops did is = subst (λ (n : ℕ). AsksFailed n no_remote no_remote) (sym (no_lines own ops did is)) (failed_none no_remote)
 
 pub scripts_act : IsActor Answers scripts
 scripts_act = record {
@@ -106,6 +106,7 @@ scripts_act = record {
   acting = λ plan t h. record { mode = h.mode; power = h.power; stray = ap (λ (r : Running). r.stray) h.running; stands = h.planned };
   stands_on = λ plan s t beside h. beside.plan ∙ h;
   stands_held = λ plan s h. record {};
+  asked = λ plan s h. record {};
   holds_on = λ plan s t link tokens h. record {};
   faulted = λ plan left seen call did answered. none_faulted call.ask.key plan did answered.0;
 }

@@ -34,10 +34,10 @@ pub returns-in-Restart-clause-counts : goal.returns-in-Restart-clause-counts
 returns-in-Restart-clause-counts g c = rw c.in-Restart.is (counts_by 0 c.restart.result.1 (g.D.Disk.state c.args.cut.disk) (g.D.Disk.state (disk_of c.restart.result.0)) c.restart.ensures.counts)
 
 pub returns-in-Stop-clause-faults : goal.returns-in-Stop-clause-faults
-returns-in-Stop-clause-faults g c = shown_faults _ _ _ _ c.stop-told.ensures.told refl (ap (λ p. g.A.Actor.acts.faults p) c.stop-told.ensures.actor)
+returns-in-Stop-clause-faults g c = shown_faults _ _ _ _ c.stop-told.ensures.told refl (ap (λ p. g.A.Actor.acts.remote p) c.stop-told.ensures.actor)
 
 pub returns-in-Crash-clause-faults : goal.returns-in-Crash-clause-faults
-returns-in-Crash-clause-faults g c = shown_faults _ _ _ _ c.cut-told.ensures.told refl (ap (λ p. g.A.Actor.acts.faults p) c.cut-told.ensures.actor)
+returns-in-Crash-clause-faults g c = shown_faults _ _ _ _ c.cut-told.ensures.told refl (ap (λ p. g.A.Actor.acts.remote p) c.cut-told.ensures.actor)
 
 pub returns-in-Restart-clause-faults : goal.returns-in-Restart-clause-faults
 returns-in-Restart-clause-faults g c = c.restart.ensures.faults

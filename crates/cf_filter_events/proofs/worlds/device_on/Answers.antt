@@ -38,10 +38,10 @@ returns-in-Restart-clause-counts g c =
     rw c.in-Restart.is (counts_by 0 (Ok c.restart-told.result) disk disk (shown_counts _ _ disk disk c.restart-told.ensures.told refl (stays disk)))
 
 pub returns-in-Stop-clause-faults : goal.returns-in-Stop-clause-faults
-returns-in-Stop-clause-faults g c = shown_faults _ _ _ _ c.stop-told.ensures.told refl (ap (λ p. g.A.Actor.acts.faults p) c.stop-told.ensures.actor)
+returns-in-Stop-clause-faults g c = shown_faults _ _ _ _ c.stop-told.ensures.told refl (ap (λ p. g.A.Actor.acts.remote p) c.stop-told.ensures.actor)
 
 pub returns-in-Crash-clause-faults : goal.returns-in-Crash-clause-faults
-returns-in-Crash-clause-faults g c = shown_faults _ _ _ _ c.plainly.ensures refl (ap (λ p. g.A.Actor.acts.faults p) c.cut-cut.ensures.actor)
+returns-in-Crash-clause-faults g c = shown_faults _ _ _ _ c.plainly.ensures refl (ap (λ p. g.A.Actor.acts.remote p) c.cut-cut.ensures.actor)
 
 pub returns-in-Restart-clause-faults : goal.returns-in-Restart-clause-faults
-returns-in-Restart-clause-faults g c = let n = g.A.Actor.acts.faults c.args.running.actor in shown_faults _ _ n n c.restart-told.ensures.told refl refl
+returns-in-Restart-clause-faults g c = let n = g.A.Actor.acts.remote c.args.running.actor in shown_faults _ _ n n c.restart-told.ensures.told refl refl

@@ -18,7 +18,7 @@ pub returns-clause-counts : goal.returns-clause-counts
 returns-clause-counts g c = known_same _ _ (g.D.Disk.state c.args.self.now.disk) c.known.ensures
 
 pub returns-then-needs_volume-clause-faults : goal.returns-then-needs_volume-clause-faults
-returns-then-needs_volume-clause-faults g c = let n = g.A.Actor.acts.faults c.args.self.now.actor in faults_always _ _ _ n n (shown_faults _ _ n n c.refused.ensures refl refl)
+returns-then-needs_volume-clause-faults g c = let n = g.A.Actor.acts.remote c.args.self.now.actor in faults_always _ _ _ n n (shown_faults _ _ n n c.refused.ensures refl refl)
 
 pub returns-clause-faults : goal.returns-clause-faults
 returns-clause-faults g c = off_faults g.A.Actor.acts g.D.Disk.state c.args.self.now c.beside-told.new.self c.args.event.now _ _ c.beside-told.ensures c.known.ensures

@@ -22,4 +22,4 @@ pub returns-in-Ok-clause-faults : goal.returns-in-Ok-clause-faults
 returns-in-Ok-clause-faults g c = silent_faults c.reopened.result.1 _ _ c.reopened.ensures.quiet c.reopened.ensures.same
 
 pub returns-in-Err-clause-faults : goal.returns-in-Err-clause-faults
-returns-in-Err-clause-faults g c = rw c.refused_by.ensures (failed_faults c.in-Err.fail (g.A.Actor.acts.faults c.args.self.actor) c.in-Err.ensures.only)
+returns-in-Err-clause-faults g c = rw c.refused_by.ensures (failed_faults c.in-Err.fail (g.A.Actor.acts.remote c.args.self.actor) c.in-Err.ensures.only)

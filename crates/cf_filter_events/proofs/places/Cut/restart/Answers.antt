@@ -7,4 +7,4 @@ pub reopen-requires : goal.reopen-requires
 reopen-requires g c = subst IsFitSize c.size.ensures (c.is_fit.ensures.fit c.if-not-is_fit.false)
 
 pub returns-then-not-is_fit-clause-faults : goal.returns-then-not-is_fit-clause-faults
-returns-then-not-is_fit-clause-faults g c = let n = g.A.Actor.acts.faults c.args.self.actor in shown_faults _ _ n n c.refused.ensures refl refl
+returns-then-not-is_fit-clause-faults g c = let n = g.A.Actor.acts.remote c.args.self.actor in shown_faults _ _ n n c.refused.ensures refl refl

@@ -24,7 +24,7 @@ returns-then-is_broken-clause-counts g c =
     let disk = g.D.Disk.state c.args.self.now.filter.disk in counts_always _ _ _ disk disk (shown_counts _ _ disk disk c.refused.ensures refl (stays disk))
 
 pub returns-then-is_broken-clause-faults : goal.returns-then-is_broken-clause-faults
-returns-then-is_broken-clause-faults g c = let n = g.A.Actor.acts.faults c.args.self.now.actor in faults_always _ _ _ n n (shown_faults _ _ n n c.refused.ensures refl refl)
+returns-then-is_broken-clause-faults g c = let n = g.A.Actor.acts.remote c.args.self.now.actor in faults_always _ _ _ n n (shown_faults _ _ n n c.refused.ensures refl refl)
 
 pub returns-clause-steps : goal.returns-clause-steps
 returns-clause-steps g c =
@@ -36,4 +36,4 @@ returns-clause-counts g c =
 
 pub returns-clause-faults : goal.returns-clause-faults
 returns-clause-faults g c =
-    begun_faulting g.A.Actor.acts g.D.Disk.state c.args.event.now c.args.self.now.filter c.args.self.now.actor c.begin.new.self c.act_begun-told.new.self _ _ _ _ c.begin.ensures.begins c.begin.ensures.faults (sym c.is_broken.ensures ∙ c.if-is_broken.false) c.act_begun-told.ensures c.known-2.ensures c.local.ensures
+    begun_faulting g.A.Actor.acts g.D.Disk.state c.args.event.now c.args.self.now.filter c.args.self.now.actor c.begin.new.self c.act_begun-told.new.self _ _ _ _ c.begin.ensures.begins c.begin.ensures.remote (sym c.is_broken.ensures ∙ c.if-is_broken.false) c.act_begun-told.ensures c.known-2.ensures c.local.ensures
