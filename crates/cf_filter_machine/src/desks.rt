@@ -81,40 +81,47 @@ impl Desk {
         }
     }
 
+    /// Where its memory comes from.
     pub fn alloc(&self) -> Global {
         self.alloc
     }
 
+    /// The policy of the sync root.
     pub fn policy(&self) -> Policy
         ensures { result ≡ self.now.policy }
     {
         self.policy
     }
 
+    /// Whether a provider is connected.
     pub fn is_connected(&self) -> bool
         ensures { result ≡ self.now.connected }
     {
         self.connected
     }
 
+    /// The calls that wait, and what the provider is asked.
     pub fn requests(&self) -> &Requests
         ensures { result.now ≡ self.now.waiting }
     {
         &self.requests
     }
 
+    /// Whether a device call failed and no restart came since.
     pub fn is_broken(&self) -> bool
         ensures { result ≡ self.now.broken }
     {
         self.broken
     }
 
+    /// Another policy, from now on. Nothing else changes.
     pub fn set_policy(&mut self, policy: Policy)
         ensures { self.new ≡ record self.old { policy = policy } }
     {
         self.policy = policy;
     }
 
+    /// A provider is connected from now on, or none. Nothing else changes.
     pub fn set_connected(&mut self, on: bool)
         ensures { self.new ≡ record self.old { connected = on } }
     {

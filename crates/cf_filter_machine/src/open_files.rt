@@ -24,18 +24,21 @@ impl Model for Open {
 }
 
 impl Open {
+    /// A handle of this file.
     pub fn new(handle: Handle, item: ItemId) -> Open
         ensures { result ≡ record { handle = handle; item = item } }
     {
         Open { handle, item }
     }
 
+    /// The handle.
     pub fn handle(&self) -> Handle
         ensures { result ≡ self.now.handle }
     {
         self.handle
     }
 
+    /// The file that it is of.
     pub fn item(&self) -> ItemId
         ensures { result ≡ self.now.item }
     {

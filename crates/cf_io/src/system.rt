@@ -15,6 +15,7 @@ pub struct StdSource<T> {
 }
 
 impl<T: Read> StdSource<T> {
+    /// A source that reads from here, and has met no fault yet.
     pub fn new(reader: T) -> StdSource<T> {
         StdSource { reader, count: 0 }
     }
@@ -44,6 +45,7 @@ pub struct StdSink<T> {
 }
 
 impl<T: Write> StdSink<T> {
+    /// A sink that writes to here, and has met no fault yet.
     pub fn new(writer: T) -> StdSink<T> {
         StdSink { writer, count: 0 }
     }
