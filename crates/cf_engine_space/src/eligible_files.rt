@@ -2,72 +2,24 @@
 
 ghost use Rattle.std.specs.Prelude.{◌≡◌, ◌++◌, IfOk, None, OnOk, Some, cond, is_some, not, ◌||◌};
 ghost use Rattle.std.specs.List.{list_any};
-ghost use Rattle.cf_base.specs.Policies.{is_always_full};
 ghost use Rattle.cf_engine_space.specs.Candidates.{IsCandidate, IsCandidates, IsEligible, files_in};
-ghost use Rattle.cf_item_rules.specs.DehydrationFacts.{Tells};
 ghost use Rattle.cf_model.specs.Blocks.{blocks_held};
 ghost use Rattle.cf_model.specs.Items.{Item, size_of};
-ghost use Rattle.cf_model.specs.Verdicts.{is_kept_full, is_pinned, verdict};
+ghost use Rattle.cf_model.specs.Verdicts.{verdict};
 ghost use Rattle.cf_table.specs.Means.{Means};
 
 use crate::candidates::Candidate;
-use cf_base::{Hydration, OutOfMemory, Pin, Policy};
-use cf_filter_calls::is_used;
+use cf_base::{OutOfMemory, Policy};
+use cf_filter_calls::{facts_of, is_used};
 use cf_filter_steps::Steps;
-use cf_item_rules::{Facts, Verdict, verdict};
+use cf_item_rules::{Verdict, verdict};
 use cf_table::Row;
-
-fn is_always_full(hydration: Hydration) -> bool
-    ensures { result ≡ is_always_full hydration }
-{
-    match hydration {
-        Hydration::Partial => false,
-        Hydration::Progressive => false,
-        Hydration::Full => false,
-        Hydration::AlwaysFull => true,
-    }
-}
-
-fn is_kept_full(policy: &Policy, row: &Row) -> bool
-    ensures { (i : Item) → Means row.now i → result ≡ is_kept_full policy.now i }
-{
-    let always = is_always_full(policy.hydration);
-    always || row.keep
-}
-
-fn is_pinned(pin: Pin) -> bool
-    ensures { result ≡ is_pinned pin }
-{
-    match pin {
-        Pin::Pinned => true,
-        _ => false,
-    }
-}
-
-// What a verdict on the whole file looks at.
-fn facts_of(policy: &Policy, row: &Row, used: bool) -> Facts
-    ensures tells { (i : Item) → Means row.now i → Tells result policy.now i }
-    ensures start { result.start ≡ 0 }
-    ensures len { (i : Item) → Means row.now i → result.len ≡ size_of i }
-    ensures used { result.in_use ≡ used }
-{
-    let size = row.size as u64;
-    Facts {
-        size,
-        start: 0,
-        len: size,
-        placeholder: row.placeholder,
-        always_full: is_kept_full(policy, row),
-        pinned: is_pinned(row.pin),
-        in_sync: row.in_sync,
-        in_use: used,
-    }
-}
 
 fn may_leave(policy: &Policy, row: &Row, used: bool) -> bool
     ensures { (i : Item) → Means row.now i → result ≡ not (is_some (verdict policy.now i 0 (size_of i) used)) }
 {
-    match verdict(&facts_of(policy, row, used)) {
+    let facts = facts_of(policy, row, 0, row.size as u64, used);
+    match verdict(&facts) {
         Verdict::Allowed => true,
         _ => false,
     }

@@ -49,7 +49,8 @@ fn is_pinned(pin: Pin) -> bool
     }
 }
 
-fn facts_of(policy: &Policy, row: &Row, start: u64, len: u64, in_use: bool) -> Facts
+/// What a verdict looks at, of a range of a file and whether the file is in use.
+pub fn facts_of(policy: &Policy, row: &Row, start: u64, len: u64, in_use: bool) -> Facts
     ensures tells { (i : Item) → Means row.now i → Tells result policy.now i }
     ensures start { result.start ≡ start }
     ensures len { result.len ≡ len }

@@ -27,7 +27,7 @@ mod writes;
 
 pub use commits::flush;
 pub use creations::create;
-pub use dehydrations::{dehydrate, dehydrate_range};
+pub use dehydrations::{dehydrate, dehydrate_range, facts_of};
 pub use handles::{cancel, close, connect, open_file};
 pub use item_facts::{info, ranges};
 pub use items::is_used;
