@@ -25,7 +25,7 @@ use Rattle.cf_filter.specs.Calling.{Told as Said, answer_of, broken_by, is_stopp
 use Rattle.cf_filter_events.proofs.CallFaults.{rose_lines}
 use Rattle.cf_filter_events.proofs.Counted.{ran_on}
 use Rattle.cf_filter_events.proofs.Finished.{while_on}
-use Rattle.cf_filter_events.proofs.Hushed.{disk_moved, notes_told, stands_hushed, stands_noted, stop_lasts, stop_policy, stop_told}
+use Rattle.cf_filter_events.proofs.Hushed.{disk_moved, notes_told, stands_hushed, stands_noted, stop_lasts, stop_policy, stop_shows, stop_told}
 use Rattle.cf_filter_events.specs.Actors.{hushed}
 use Rattle.cf_filter_events.specs.Answered.{answer_with, answered_by}
 use Rattle.cf_filter_events.specs.Counted.{GoesOn}
@@ -115,7 +115,7 @@ module _ {D R : Type 0} (state : D → Disk) (told : R → Told) where
   stopped past e s t c ns x y f next needs power is quiet cut device stops disk m =
       let peers = peers_stop e s t stops in
       let holds : Holds told (record { engine = f; next = next }) (broken t) = record { link = m.link; next = next_at next s t is peers } in
-      let on : OnBy (acts_of told) state true (record { filter = y; actor = record { engine = f; next = next } }) (broken t) = (ap events.broken_by m.on, holds, stop_policy state y ns t.filter m.filter.0, stop_lasts state y ns t.filter m.filter.0) in
+      let on : OnBy (acts_of told) state true (record { filter = y; actor = record { engine = f; next = next } }) (broken t) = (ap events.broken_by m.on, holds, stop_policy state y ns t.filter m.filter.0, stop_lasts state y ns t.filter m.filter.0, stop_shows state y ns t.filter m.filter.0) in
       let says : answer_in (shown.Refused code.Device) t ≡ answer_with (shown.Refused c) ns = answer_is (shown.Refused code.Device) t ns s.peer_tokens (stop_told state y ns t.filter m.filter.0) peers ∙ ap (λ (k : Code). answer_with (shown.Refused k) ns) (sym device) in (
         broken t,
         subst (λ (b : Answer). IsStep mode.Replay s (event.Engine e) b (broken t)) says (stopped_step mode.Replay s (event.Engine e) t refl needs (while_on (engine_needs e) s.power power) stops),
@@ -161,7 +161,7 @@ module _ {D R : Type 0} (state : D → Disk) (told : R → Told) where
   stopped_back : (x w z : Held D) (f : Own R) (t : State) → z ≡ broken_by true w → states.Stopped (sense state) told x w f t → states.Stopped (sense state) told x z f t
   unfolding broken_by
   stopped_back x w z f t is m = subst (λ (v : Held D). states.Stopped (sense state) told x v f t) (sym is)
-      (record { filter = (record { notes = m.filter.0.notes; policy = m.filter.0.policy; connected = m.filter.0.connected; lasts = m.filter.0.lasts }, m.filter.1); on = m.on; replays = m.replays; link = m.link })
+      (record { filter = (record { notes = m.filter.0.notes; policy = m.filter.0.policy; connected = m.filter.0.connected; shows = m.filter.0.shows; lasts = m.filter.0.lasts }, m.filter.1); on = m.on; replays = m.replays; link = m.link })
 
   -- an event from its part
 

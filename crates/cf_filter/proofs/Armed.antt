@@ -3,6 +3,7 @@ use Rattle.std.proofs.Common.{◌≡◌, inl, sym, ◌∙◌, ap, subst, arith}
 use Rattle.cf_disk.specs.Disk.{IsUnchanged, Keeps, Leaves, State}
 use Rattle.cf_filter_machine.specs.Held.{Desk, Held}
 use Rattle.cf_filter_machine.specs.Sensing.{Stands, Stopped}
+use Rattle.cf_filter_machine.specs.Showing.{Shows}
 use Rattle.cf_model.specs.State.{Filter}
 use Rattle.cf_volume_points.proofs.Points.{Fair}
 use Rattle.cf_volume_points.proofs.Readings.{read_at}
@@ -33,5 +34,6 @@ module _ {D : Type 0} (state : D → State) (x y : Held D) (same : IsUnchanged (
     notes = ap (λ (d : Desk). d.notes) desk ∙ h.notes;
     policy = ap (λ (d : Desk). d.policy) desk ∙ h.policy;
     connected = ap (λ (d : Desk). d.connected) desk ∙ h.connected;
+    shows = subst (λ (k : Known). Shows k s.volume) (sym known) h.shows;
     lasts = λ c left. h.lasts c (same.crash c left);
   }

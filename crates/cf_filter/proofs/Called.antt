@@ -50,7 +50,7 @@ module _ {D : Type 0} (state : D → State) where
   unfolding broken_by
   broken_after {A} show (Ok (Ok a)) x y t h = whole_again y t h
   broken_after {A} show (Ok (Err c)) x y t h = whole_again y t h
-  broken_after show (Err (No c)) x y t h = (record { notes = h.0.notes; policy = h.0.policy; connected = h.0.connected; lasts = h.0.lasts }, h.1)
+  broken_after show (Err (No c)) x y t h = (record { notes = h.0.notes; policy = h.0.policy; connected = h.0.connected; shows = h.0.shows; lasts = h.0.lasts }, h.1)
   broken_after show (Err OutOfMemory) x y t h = h
 
   pub is_broken : (b : Bool) (x y : Held D) → y ≡ broken_by b x → y.desk.broken ≡ b

@@ -32,7 +32,7 @@ module _ {D A : Type 0} (state : D → State) (P : Filter → Type 0) (step : Ar
   after_broken : (r : Result A CallError) (x y : Held D) (t : Filter) → After (sense state) x (whether r) y t → After (sense state) x (whether r) (broken_by (is_err r) y) t
   unfolding broken_by
   after_broken (Ok a) x y t h = whole_again state y t h
-  after_broken (Err (No c)) x y t h = (record { notes = h.0.notes; policy = h.0.policy; connected = h.0.connected; lasts = h.0.lasts }, h.1)
+  after_broken (Err (No c)) x y t h = (record { notes = h.0.notes; policy = h.0.policy; connected = h.0.connected; shows = h.0.shows; lasts = h.0.lasts }, h.1)
   after_broken (Err OutOfMemory) x y t h = h
 
   answer_given : (r : Result A CallError) → answer_of (given_as r) ≡ r

@@ -38,13 +38,13 @@ module _ {D : Type 0} (state : D → State) where
       subst (λ (b : Bool). GoneTo state b x.desk.lost (Noted n ∷ []) x s (record x { desk = record x.desk { notes = x.desk.notes ++ n ∷ [] } }) (with_notes (n ∷ []) s)) (sym (ap (λ (d : Desk). d.broken) h.desk))
           (refl, record {}, stands_with state x (record x.desk { notes = x.desk.notes ++ n ∷ [] }) s (with_notes (n ∷ []) s) h refl (ap (λ (d : Desk). record d { notes = d.notes ++ n ∷ [] }) h.desk) (same_good s (with_notes (n ∷ []) s) refl refl refl h.good)),
     );
-    still = λ broken. record { broken = broken; disk = refl; lost = λ lost. lost; desk = λ lost. refl };
+    still = λ broken. record { broken = broken; disk = refl; known = refl; lost = λ lost. lost; desk = λ lost. refl };
   })
 
   refused_goes : (x : Held D) (seen : List SeenPath) (op : Operation) → x.desk.broken ≡ true → Goes state x (Did seen op (shown.Refused code.Broken) ∷ []) x
   refused_goes x seen op is = record {
     leads = λ s h. false_true (sym (ap (λ (d : Desk). d.broken) h.desk) ∙ is);
-    still = λ broken. record { broken = broken; disk = refl; lost = λ lost. lost; desk = λ lost. ap (λ (l : List Notice). record x.desk { notes = l }) (sym (append-nil x.desk.notes)) };
+    still = λ broken. record { broken = broken; disk = refl; known = refl; lost = λ lost. lost; desk = λ lost. ap (λ (l : List Notice). record x.desk { notes = l }) (sym (append-nil x.desk.notes)) };
   }
 
   pub did_goes : (x y : Held D) (seen : List SeenPath) (op : Operation) (answer : Shown) → x.desk.broken ≡ false → Answers (sense state) Any (execute_with (seeing seen) op) x (Ok answer) y → Goes state x (Did seen op answer ∷ []) y
@@ -61,7 +61,7 @@ module _ {D : Type 0} (state : D → State) where
   stopped_goes : (x mid : Held D) (seen : List SeenPath) (op : Operation) → x.desk.broken ≡ false → Answers (sense state) Any (execute_with (seeing seen) op) x (Err (No code.Device)) mid → Goes state x (Failed seen op ∷ []) (stopped_by false mid)
   unfolding stopped_by
   stopped_goes x mid seen op whole e = record {
-    leads = λ s h. let a = e.leads s h (record {}) in (a.0, a.2, ((a.0, a.1.1, refl), record {}, record { notes = a.3.0.notes; policy = a.3.0.policy; connected = a.3.0.connected; lasts = a.3.0.lasts }, a.3.1));
+    leads = λ s h. let a = e.leads s h (record {}) in (a.0, a.2, ((a.0, a.1.1, refl), record {}, record { notes = a.3.0.notes; policy = a.3.0.policy; connected = a.3.0.connected; shows = a.3.0.shows; lasts = a.3.0.lasts }, a.3.1));
     still = λ broken. false_true (sym whole ∙ broken);
   }
 
@@ -85,7 +85,7 @@ module _ {D : Type 0} (state : D → State) where
   unfolding stopped_by
   loses x = record {
     leads = λ s h. (s, (sense state).stays x s h, (sense state).endures x s h);
-    still = λ broken. record { broken = refl; disk = refl; lost = λ lost. refl; desk = λ kept. false_true (sym kept) };
+    still = λ broken. record { broken = refl; disk = refl; known = refl; lost = λ lost. refl; desk = λ kept. false_true (sym kept) };
   }
 
   pub lost_note : (x mid y : Held D) → mid ≡ x → y ≡ stopped_by true mid → Goes state x [] y

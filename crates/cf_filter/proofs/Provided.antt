@@ -38,7 +38,7 @@ module _ {D P : Type 0} (state : D → State) (answers : Answering P) (H : Filte
   unfolding broken_by
   back_broken show p q x y s (Ok (Ok a)) h = (h.0, h.1, h.2, h.3, h.4, h.5, h.6, whole_again state y (begin_call h.2) h.7)
   back_broken show p q x y s (Ok (Err c)) h = (h.0, h.1, h.2, h.3, h.4, h.5, h.6, whole_again state y (begin_call h.2) h.7)
-  back_broken show p q x y s (Err (No c)) h = (h.0, h.1, h.2, record { notes = h.3.notes; policy = h.3.policy; connected = h.3.connected; lasts = h.3.lasts }, h.4, h.5)
+  back_broken show p q x y s (Err (No c)) h = (h.0, h.1, h.2, record { notes = h.3.notes; policy = h.3.policy; connected = h.3.connected; shows = h.3.shows; lasts = h.3.lasts }, h.4, h.5)
   back_broken show p q x y s (Err OutOfMemory) h = h
 
   provided : {A : Type 0} (show : A → Shown) (p q : P) (x y new : Held D) (r : Result Shown CallError) (told : Told A) (answer : Result A CallError)

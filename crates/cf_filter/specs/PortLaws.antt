@@ -7,9 +7,11 @@ use Rattle.cf_filter_machine.specs.Lasting.{Lasts, Moved}
 use Rattle.cf_engine_host.specs.Callbacks.{NoneFailed}
 use Rattle.cf_filter.specs.Porting.{Goes, GoneTo, StaysBroken, notes_of}
 use Rattle.cf_filter_machine.specs.Sensing.{Rose, Stands, Stopped, rose_on, sense}
+use Rattle.cf_filter_machine.specs.Showing.{Shows}
 use Rattle.cf_model.specs.Ports.{Act, Acts, Did, Failed, HasFailed, Noted, noted_by}
 use Rattle.cf_model.specs.State.{Filter, Volume, with_notes}
 use Rattle.cf_volume.specs.Calls.{Runs}
+use Rattle.cf_volume_points.specs.Known.{Known}
 
 pub false_true : {A : Type 0} → false ≡ true → A
 false_true e = let bad : ⊥ = cc in absurd bad
@@ -80,13 +82,14 @@ module _ {D : Type 0} (state : D → State) where
   pub goes_nowhere : (x : Held D) → Goes state x [] x
   goes_nowhere x = record {
     leads = λ s h. (s, (sense state).stays x s h, subst (λ (b : Bool). GoneTo state b x.desk.lost [] x s x s) (sym (ap (λ (d : Desk). d.broken) h.desk)) (refl, record {}, h));
-    still = λ broken. record { broken = broken; disk = refl; lost = λ lost. lost; desk = λ lost. ap (λ (l : List Notice). record x.desk { notes = l }) (sym (append-nil x.desk.notes)) };
+    still = λ broken. record { broken = broken; disk = refl; known = refl; lost = λ lost. lost; desk = λ lost. ap (λ (l : List Notice). record x.desk { notes = l }) (sym (append-nil x.desk.notes)) };
   }
 
   stays_on : (x y z : Held D) (acts more : List Act) → StaysBroken x acts y → StaysBroken y more z → StaysBroken x (acts ++ more) z
   stays_on x y z acts more g h = record {
     broken = h.broken;
     disk = h.disk ∙ g.disk;
+    known = h.known ∙ g.known;
     lost = λ lost. h.lost (g.lost lost);
     desk = λ kept. by y.desk.lost refl kept;
   }
@@ -116,6 +119,7 @@ module _ {D : Type 0} (state : D → State) where
           notes = ap (λ (d : Desk). d.notes) desk ∙ ap (λ (l : List Notice). l ++ notes_of more) stopped.notes ∙ sym (ap (λ (x : Filter). x.notes) is);
           policy = ap (λ (d : Desk). d.policy) desk ∙ stopped.policy ∙ sym (ap (λ (x : Filter). x.policy) is);
           connected = ap (λ (d : Desk). d.connected) desk ∙ stopped.connected ∙ sym (ap (λ (x : Filter). x.connected) is);
+          shows = subst (λ (k : Known). Shows k (noted_by more t).volume) (sym stays.known) (subst (λ (v : Volume). Shows y.known v) (sym (ap (λ (x : Filter). x.volume) is)) stopped.shows);
           lasts = still_lasts y.disk z.disk t.volume (noted_by more t).volume stays.disk (ap (λ (x : Filter). x.volume) is) stopped.lasts;
         },
         subst (λ (d : D). Rose (state x.disk) (state d)) (sym stays.disk) rose,

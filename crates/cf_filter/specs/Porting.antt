@@ -47,6 +47,7 @@ GoneTo state true true acts x s y t = Lasts (state y.disk) t.volume
 pub record StaysBroken {D : Type 0} (x : Held D) (acts : List Act) (y : Held D) : Type 0 where
   pub broken : y.desk.broken ≡ true
   pub disk : y.disk ≡ x.disk
+  pub known : y.known ≡ x.known
   pub lost : x.desk.lost ≡ true → y.desk.lost ≡ true
   pub desk : y.desk.lost ≡ false → y.desk ≡ record x.desk { notes = x.desk.notes ++ notes_of acts }
 

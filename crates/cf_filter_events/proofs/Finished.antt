@@ -6,7 +6,7 @@ use Rattle.cf_filter_events.specs.Actors.{Acts, IsActor}
 use Rattle.cf_filter_events.specs.Meaning.{IsDiskOf, IsOn, OnBy}
 use Rattle.cf_filter_events.specs.Pasts.{Past}
 use Rattle.cf_filter_events.specs.Stepped.{SteppedTo}
-use Rattle.cf_filter_events.proofs.Hushed.{notes_told, stands_hushed, stop_lasts, stop_policy, stop_told}
+use Rattle.cf_filter_events.proofs.Hushed.{notes_told, stands_hushed, stop_lasts, stop_policy, stop_shows, stop_told}
 use Rattle.cf_base.specs.declared.answers.Answer.{Answer}
 use Rattle.cf_base.specs.declared.answers.Shown.{Shown}
 use Rattle.cf_base.specs.declared.answers.Shown.TheVariants as shown
@@ -101,7 +101,7 @@ module _ {D A : Type 0} (answers : Answering A) (acts : Acts A) (actor : IsActor
       let at = actor.acting p t d.left.1 in
       let after : (broken t).power ≡ Broken = ap broken_by at.power in
       let holds : acts.holds p (broken t) = actor.holds_on p t (broken t) refl refl (actor.stands_held p t at.stands) in
-      let on : OnBy acts state true (record { filter = y; actor = p }) (broken t) = (after, holds, stop_policy state y ns t.filter d.left.0, stop_lasts state y ns t.filter d.left.0) in
+      let on : OnBy acts state true (record { filter = y; actor = p }) (broken t) = (after, holds, stop_policy state y ns t.filter d.left.0, stop_lasts state y ns t.filter d.left.0, stop_shows state y ns t.filter d.left.0) in
       let told : answer_in (shown.Refused code.Device) t ≡ answer_with (shown.Refused c) ns = answer_is (shown.Refused code.Device) t ns (stop_told state y ns t.filter d.left.0) at.stray ∙ ap (λ (k : Code). answer_with (shown.Refused k) ns) (sym d.does.0) in (
         broken t,
         subst (λ (a : Answer). IsStep acts.mode s e a (broken t)) told (stopped_step acts.mode s e t call.of call.stops (while_on (needs_volume e) s.power power) d.does.1),

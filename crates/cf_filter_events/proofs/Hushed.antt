@@ -11,6 +11,7 @@ use Rattle.cf_journal.specs.Settled.{IsFitSize}
 use Rattle.cf_filter_machine.specs.Held.{Desk, Held}
 use Rattle.cf_filter_machine.specs.Lasting.{Lasts, Moved}
 use Rattle.cf_filter_machine.specs.Sensing.{Stands, Stopped}
+use Rattle.cf_filter_machine.specs.Showing.{Shows}
 use Rattle.cf_model.specs.State.{Filter, Volume}
 use Rattle.cf_volume_points.specs.Standing.{clusters_on}
 use Rattle.cf_filter_steps.specs.Good.{IsGood}
@@ -43,6 +44,10 @@ module _ {D : Type 0} (state : D → Disk) where
   pub stop_lasts : (y : Held D) (ns : List Notice) (f : Filter) → Stopped state (noted ns y) f → Lasts (state y.disk) f.volume
   unfolding noted
   stop_lasts y ns f h = h.lasts
+
+  pub stop_shows : (y : Held D) (ns : List Notice) (f : Filter) → Stopped state (noted ns y) f → Shows y.known f.volume
+  unfolding noted
+  stop_shows y ns f h = h.shows
 
   good_hushed : (f : Filter) → IsGood f → IsGood (hushed f)
   good_hushed f h = record { volume = h.volume; files = h.files; numbered = h.numbered; reads = h.reads }

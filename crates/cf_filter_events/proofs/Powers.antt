@@ -23,12 +23,14 @@ use Rattle.cf_journal.specs.Settled.{IsFitSize}
 use Rattle.cf_filter_machine.specs.Held.{Desk, Held}
 use Rattle.cf_filter_machine.specs.Lasting.{IsOfPoint, Lasts}
 use Rattle.cf_filter_machine.specs.Sensing.{Stands, sense}
+use Rattle.cf_filter_machine.specs.Showing.{Shows}
 use Rattle.cf_model.proofs.TraceLaws.{ended_step}
 use Rattle.cf_model.specs.Events.{begun, tree_of}
 use Rattle.cf_model.specs.Powers.{IsPower}
 use Rattle.cf_model.specs.Restarts.{crashed}
 use Rattle.cf_model.specs.State.{Broken, Filter, On, Power, State, Volume}
 use Rattle.cf_model.specs.Trees.{Ends}
+use Rattle.cf_volume_points.specs.Known.{Known}
 use Rattle.cf_volume_points.specs.Standing.{Standing}
 
 -- what a power cut left
@@ -70,7 +72,7 @@ module _ {D A : Type 0} (answers : Answering A) (acts : Acts A) (actor : IsActor
   begins_on past x s on = record { mode = on.mode; quiet = on.quiet; disk = record { fit = on.disk.fit; clusters = on.disk.clusters; powers = on.disk.powers }; is = by x.filter.desk.broken on.is }
     where
       by : (b : Bool) → OnBy acts state b x s → OnBy acts state b x (begun s)
-      by true h = (h.0, actor.holds_on x.actor s (begun s) refl refl h.1, h.2, h.3)
+      by true h = (h.0, actor.holds_on x.actor s (begun s) refl refl h.1, h.2, h.3, h.4)
       by false h = (h.0, actor.stands_on x.actor s (begun s) (record { plan = refl; link = refl; volatile = refl; tokens = refl }) h.1, h.2)
 
   pub running_step : (x : Run D A) → StepsOver acts.mode (IsOn acts state) (event.Device device.Restart) x (Ok (answer_with (shown.Refused code.Running) [])) x
@@ -90,9 +92,9 @@ module _ {D A : Type 0} (answers : Answering A) (acts : Acts A) (actor : IsActor
       by s true h = refuses_broken s h.0
       by s false h = refuses On s h.0 refl
 
-  pub stop_step : (n : ℕ) (x y : Held D) (p : A) → IsUnchanged (state x.disk) (state y.disk) → ((f : Filter) → Stands state x f → Stands state y f) → y.desk ≡ x.desk
+  pub stop_step : (n : ℕ) (x y : Held D) (p : A) → IsUnchanged (state x.disk) (state y.disk) → ((f : Filter) → Stands state x f → Stands state y f) → y.desk ≡ x.desk → y.known ≡ x.known
       → Steps acts.mode (IsOn acts state) (event.Device (device.Stop n)) (record { filter = x; actor = p }) (Ok (answer_with shown.Done [])) (record { filter = y; actor = p })
-  stop_step n x y p same stands desk = record {
+  stop_step n x y p same stands desk known = record {
     leads = λ past s on. (
       begun s,
       ended_step acts.mode s (event.Device (device.Stop n)) shown.Done (begun s) (device_of acts.mode (device.Stop n)) refl (refl, refl),
@@ -106,7 +108,7 @@ module _ {D A : Type 0} (answers : Answering A) (acts : Acts A) (actor : IsActor
   }
     where
       by : (s : State) (b : Bool) → OnBy acts state b (record { filter = x; actor = p }) s → OnBy acts state b (record { filter = y; actor = p }) (begun s)
-      by s true h = (h.0, actor.holds_on p s (begun s) refl refl h.1, ap (λ (d : Desk). d.policy) desk ∙ h.2, lasting_again (state x.disk) (state y.disk) s.filter.volume same h.3)
+      by s true h = (h.0, actor.holds_on p s (begun s) refl refl h.1, ap (λ (d : Desk). d.policy) desk ∙ h.2, lasting_again (state x.disk) (state y.disk) s.filter.volume same h.3, subst (λ (k : Known). Shows k s.filter.volume) (sym known) h.4)
       by s false h = (h.0, actor.stands_on p s (begun s) (record { plan = refl; link = refl; volatile = refl; tokens = refl }) h.1, stands (hushed s.filter) h.2)
 
   -- what the power cut leaves stands for a point

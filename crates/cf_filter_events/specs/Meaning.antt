@@ -11,6 +11,7 @@ use Rattle.cf_journal.specs.Settled.{IsFitSize}
 use Rattle.cf_filter_machine.specs.Keeping.{IsKeptPoint}
 use Rattle.cf_filter_machine.specs.Lasting.{Lasts}
 use Rattle.cf_filter_machine.specs.Sensing.{Stands}
+use Rattle.cf_filter_machine.specs.Showing.{Shows}
 use Rattle.cf_model.specs.Points.{Opens}
 use Rattle.cf_model.specs.Events.{begun}
 use Rattle.cf_model.specs.State.{Broken, Off, On, Point, State, Volume}
@@ -22,10 +23,10 @@ pub record IsDiskOf (past : Past) (d : Disk) (v : Volume) : Type 0 where
   pub clusters : v.clusters ≡ clusters_on d.seen
   pub powers : d.powers ≡ past.told
 
--- After an event that met Device only the policy stands, and what a restart may open.
+-- After an event that met Device only the policy stands, what shows of the volume, and what a restart may open.
 abbrev pub OnBy : {D A : Type 0} → Acts A → (D → Disk) → Bool → Run D A → State → Type 0
 OnBy acts state false x s = (s.power ≡ On) × acts.stands x.actor s × Stands state x.filter (hushed s.filter)
-OnBy acts state true x s = (s.power ≡ Broken) × acts.holds x.actor s × (x.filter.desk.policy ≡ s.filter.policy) × Lasts (state x.filter.disk) s.filter.volume
+OnBy acts state true x s = (s.power ≡ Broken) × acts.holds x.actor s × (x.filter.desk.policy ≡ s.filter.policy) × Lasts (state x.filter.disk) s.filter.volume × Shows x.filter.known s.filter.volume
 
 -- the volume is open
 pub record IsOn {D A : Type 0} (acts : Acts A) (state : D → Disk) (past : Past) (x : Run D A) (s : State) : Type 0 where

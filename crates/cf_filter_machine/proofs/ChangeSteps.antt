@@ -18,12 +18,14 @@ use Rattle.cf_filter_machine.proofs.BookSteps.{touched_book}
 use Rattle.cf_filter_machine.proofs.ChangesKept.{kept_change}
 use Rattle.cf_filter_machine.proofs.Keepable.{keepable}
 use Rattle.cf_filter_machine.proofs.PointSteps.{either_begun, grows_begun, last_point, now_kept, same_parts}
+use Rattle.cf_filter_machine.proofs.Shown.{shows_begun, stays_shown}
 use Rattle.cf_filter_machine.proofs.StillFiles.{still_file, still_opened, still_reads}
 use Rattle.cf_filter_machine.specs.Held.{Desk, Held, desk_of}
 use Rattle.cf_filter_machine.specs.Keeping.{HasKeptPoints, IsKeptPoint, IsKeptVolume}
 use Rattle.cf_filter_machine.specs.Lasting.{Grows, IsBetween, Lasts, Moved}
 use Rattle.cf_filter_machine.specs.Lasts.{grows_not, lasts_at}
 use Rattle.cf_filter_machine.specs.Sensing.{Stands, sense}
+use Rattle.cf_filter_machine.specs.Showing.{Shows}
 use Rattle.cf_model.specs.Arrows.{unit}
 use Rattle.cf_model.specs.Books.{Book, with_access}
 use Rattle.cf_model.specs.Changes.{change_with, may_need_room, next_number, put_after_room, put_change, put_with_book, tell_change, why_no_room}
@@ -41,6 +43,7 @@ use Rattle.cf_filter_steps.specs.Good.{IsFileIn, IsGood}
 use Rattle.cf_filter_steps.specs.Suiting.{Suits}
 use Rattle.cf_volume.specs.Calls as volume
 use Rattle.cf_volume.specs.Calls.{IsCause, OnDisk, Runs, StopsOnly}
+use Rattle.cf_volume.specs.Written.{contents_in}
 
 -- points of a longer log
 
@@ -117,6 +120,10 @@ put_stops : (f : Book → Book) (c : Change) (s : Filter) (may : Bool) → Stops
 put_stops f c s false = inl refl
 put_stops f c s true = inr (inl refl)
 
+stop_shows : (k : Known) (v : Volume) (may : Bool) → Shows k v → Shows k (stopped_at may v)
+stop_shows k v false h = h
+stop_shows k v true h = shows_begun k v h
+
 -- What a change leaves: it was put in, and the state after it is one that a filter has.
 pub record IsPut (d : State) (k : Known) (f : Book → Book) (c : Change) (s : Filter) : Type 0 where
   pub room : Bool
@@ -191,8 +198,8 @@ module _ {D : Type 0} (state : D → State) (P : Filter → Type 0) (x : Held D)
   stop_lasts s false e h i left = last_point s.volume h.points i ((calm s.volume h.volume e).now i left)
   stop_lasts s true e h i left = either_begun s.volume h.volume.now.of_log h.kept h.points i ((leaves s h).now i left)
 
-  put_stopped : (k : Known) (e : Desk) (q : CallError) → e ≡ x.desk → ((s : Filter) → Stands state x s → P s → StopsOnly q) → IsCause q (state x.disk) (state d) → Answers (sense state) P (change_with f c) x (Err q) (record { disk = d; known = k; desk = e })
-  put_stopped k e (No code) same only cause = record {
+  put_stopped : (k : Known) (e : Desk) (q : CallError) → e ≡ x.desk → contents_in k ≡ contents_in x.known → ((s : Filter) → Stands state x s → P s → StopsOnly q) → IsCause q (state x.disk) (state d) → Answers (sense state) P (change_with f c) x (Err q) (record { disk = d; known = k; desk = e })
+  put_stopped k e (No code) same still only cause = record {
     leads = λ s h p. (
       with_volume (stopped_at (may_need_room c s.volume) s.volume) s,
       (only s h p, put_stops f c s (may_need_room c s.volume)),
@@ -202,13 +209,14 @@ module _ {D : Type 0} (state : D → State) (P : Filter → Type 0) (x : Held D)
           notes = ap (λ (z : Desk). z.notes) (same ∙ h.desk);
           policy = ap (λ (z : Desk). z.policy) (same ∙ h.desk);
           connected = ap (λ (z : Desk). z.connected) (same ∙ h.desk);
+          shows = stop_shows k s.volume (may_need_room c s.volume) (stays_shown state x k s still h);
           lasts = stop_lasts s (may_need_room c s.volume) refl h;
         },
         cause (only s h p),
       ),
     );
   }
-  put_stopped k e OutOfMemory same only cause = record {
+  put_stopped k e OutOfMemory same still only cause = record {
     leads = λ s h p. (
       with_volume (stopped_at (may_need_room c s.volume) s.volume) s,
       record {},
@@ -218,11 +226,11 @@ module _ {D : Type 0} (state : D → State) (P : Filter → Type 0) (x : Held D)
   }
 
   -- the device or memory stopped it, at an exit by `?`
-  pub put_stops_by : (k : Known) (e : Desk) (q : CallError) (r : Result (Unit {0}) CallError) → IsErrAnd r (λ z. z ≡ q) → e ≡ x.desk → ((s : Filter) → Stands state x s → P s → StopsOnly q) → IsCause q (state x.disk) (state d)
+  pub put_stops_by : (k : Known) (e : Desk) (q : CallError) (r : Result (Unit {0}) CallError) → IsErrAnd r (λ z. z ≡ q) → e ≡ x.desk → contents_in k ≡ contents_in x.known → ((s : Filter) → Stands state x s → P s → StopsOnly q) → IsCause q (state x.disk) (state d)
       → Answers (sense state) P (change_with f c) x r (record { disk = d; known = k; desk = e })
-  put_stops_by k e q r is same only cause =
+  put_stops_by k e q r is same still only cause =
       let p = err_from_is_err_and r is in
-      subst (λ (z : Result (Unit {0}) CallError). Answers (sense state) P (change_with f c) x z (record { disk = d; known = k; desk = e })) (sym (p.1 ∙ ap (λ (z : CallError). Err z) p.2)) (put_stopped k e q same only cause)
+      subst (λ (z : Result (Unit {0}) CallError). Answers (sense state) P (change_with f c) x z (record { disk = d; known = k; desk = e })) (sym (p.1 ∙ ap (λ (z : CallError). Err z) p.2)) (put_stopped k e q same still only cause)
 
 -- a change that suits and finds room
 

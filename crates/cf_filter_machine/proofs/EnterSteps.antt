@@ -18,6 +18,7 @@ use Rattle.cf_filter_machine.proofs.ChangeSteps.{by_room, grows_put, later, long
 use Rattle.cf_filter_machine.proofs.EntriesKept.{book_beside, directory_first, kept_come, kept_entry, later_beside}
 use Rattle.cf_filter_machine.proofs.Rebooked.{rebooked}
 use Rattle.cf_filter_machine.proofs.PointSteps.{last_point}
+use Rattle.cf_filter_machine.proofs.Shown.{shows_at, shows_on}
 use Rattle.cf_filter_machine.proofs.StillFiles.{in_place, still_opened, still_reads, with_more}
 use Rattle.cf_filter_machine.specs.Entering.{AfterEntry, Coming, EndsBy, Enters, GoesOn, IsReadyEntry, MayEnter, is_listed}
 use Rattle.cf_filter_machine.specs.Held.{Desk, Held, desk_of}
@@ -45,6 +46,7 @@ use Rattle.cf_filter_steps.specs.Good.{IsFileIn}
 use Rattle.cf_filter_steps.specs.Listing.{HasRecordsBeside, IsEntry}
 use Rattle.cf_volume.specs.Calls as volume
 use Rattle.cf_volume.specs.Calls.{HasRecords, IsCause, OnDisk, Runs, StopsOnly}
+use Rattle.cf_volume.specs.Written.{contents_in}
 
 -- What holds of each change of such a list: it needs no cluster, and leaves the book.
 pub record IsPlain (c : Change) : Type 0 where
@@ -220,9 +222,9 @@ module _ {D : Type 0} (state : D → State) (dir : ItemId) (x : Held D) (c : Cha
     stay_lasts s h i left = last_point s.volume h.points i ((crash s.volume h.volume).now i left)
 
     -- it was not put in
-    pub entry_stopped : (k : Known) (e : Desk) (q : CallError) → e ≡ x.desk → ((s : Filter) → Coming state dir x s → P s → StopsOnly q × (may_need_room c s.volume ≡ false)) → IsCause q (state x.disk) (state d)
+    pub entry_stopped : (k : Known) (e : Desk) (q : CallError) → e ≡ x.desk → contents_in k ≡ contents_in x.known → ((s : Filter) → Coming state dir x s → P s → StopsOnly q × (may_need_room c s.volume ≡ false)) → IsCause q (state x.disk) (state d)
         → Enters state dir Q P (change_with f c) x (Err q) (record { disk = d; known = k; desk = e })
-    entry_stopped k e (No code) same only cause = record {
+    entry_stopped k e (No code) same still only cause = record {
       leads = λ s h p. (
         s,
         ((only s h p).0, stops_plain f c s (may_need_room c s.volume) (only s h p).1),
@@ -232,13 +234,14 @@ module _ {D : Type 0} (state : D → State) (dir : ItemId) (x : Held D) (c : Cha
             notes = ap (λ (z : Desk). z.notes) (same ∙ h.desk);
             policy = ap (λ (z : Desk). z.policy) (same ∙ h.desk);
             connected = ap (λ (z : Desk). z.connected) (same ∙ h.desk);
+            shows = shows_on x.known k s.volume still (shows_at (state x.disk) x.known s.volume h.volume);
             lasts = stay_lasts s h;
           },
           cause ((only s h p).0),
         ),
       );
     }
-    entry_stopped k e OutOfMemory same only cause = record { leads = λ s h p. (s, record {}, stay_moved s h, stay_lasts s h) }
+    entry_stopped k e OutOfMemory same still only cause = record { leads = λ s h p. (s, record {}, stay_moved s h, stay_lasts s h) }
 
 -- nothing was done, where memory runs out
 pub enters_lost : {D : Type 0} (state : D → State) (dir : ItemId) (Q : Held D → Filter → Type 0) (P : Filter → Type 0) (f : Arrow Filter (Unit {0})) (x : Held D) → Enters state dir Q P f x (Err OutOfMemory) x

@@ -29,6 +29,7 @@ pub mod RisingBooks
 pub mod RoomReads
 pub mod RowReads
 pub mod Seen
+pub mod Shown
 pub mod StillFiles
 pub mod TellsRows
 pub mod WithinLimits

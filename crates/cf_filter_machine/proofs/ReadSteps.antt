@@ -9,11 +9,13 @@ use Rattle.cf_disk.specs.Disk.{Leaves, State}
 use Rattle.cf_disk.specs.Leaving.{leaves_weaker}
 use Rattle.cf_filter_machine.proofs.BookSteps.{IsRebooked, grows_book}
 use Rattle.cf_filter_machine.proofs.PointSteps.{last_point}
+use Rattle.cf_filter_machine.proofs.Shown.{stays_same, stays_shown}
 use Rattle.cf_filter_machine.specs.Held.{Desk, Held, desk_of}
 use Rattle.cf_filter_machine.specs.Keeping.{HasKeptPoints, IsKeptVolume}
 use Rattle.cf_filter_machine.specs.Lasting.{IsBetween, Lasts, Moved}
 use Rattle.cf_filter_machine.specs.Lasts.{grows_not, stays_put}
 use Rattle.cf_filter_machine.specs.Sensing.{Stands, sense}
+use Rattle.cf_filter_machine.specs.Showing.{StaysBy}
 use Rattle.cf_model.specs.Arrows.{Arrow, one, unit}
 use Rattle.cf_model.specs.Books.{Book}
 use Rattle.cf_model.specs.State.{Filter, Volume}
@@ -24,6 +26,7 @@ use Rattle.cf_filter_steps.specs.Answering.{Answers}
 use Rattle.cf_filter_steps.specs.Good.{IsGood}
 use Rattle.cf_filter_steps.specs.Readings.{whether}
 use Rattle.cf_volume.specs.Calls.{IsCause, IsMemory, Runs, StopsOnly}
+use Rattle.cf_volume.specs.Written.{contents_in}
 
 module _ {D : Type 0} (state : D → State) (P : Filter → Type 0) (x : Held D) (d : D) (fair : Fair (state d)) (crash : (v : Volume) → At (state x.disk) x.known v → Leaves (state x.disk) (state d) (StandsLast v)) (runs : Runs (state x.disk) (state d)) where
   one_moved : (s : Filter) (b : Book) → Stands state x s → Moved (state x.disk) (state d) s.volume (record s.volume { book = b })
@@ -60,8 +63,8 @@ module _ {D : Type 0} (state : D → State) (P : Filter → Type 0) (x : Held D)
         );
   }
 
-  pub one_stopped : (f : Filter → Filter) (k : Known) (e : Desk) (q : CallError) → e ≡ x.desk → ((s : Filter) → Stands state x s → StopsOnly q) → IsCause q (state x.disk) (state d) → Answers (sense state) P (one f) x (Err q) (record { disk = d; known = k; desk = e })
-  one_stopped f k e (No code) same only cause = record {
+  pub one_stopped : (f : Filter → Filter) (k : Known) (e : Desk) (q : CallError) → e ≡ x.desk → ((s : Filter) → Stands state x s → StopsOnly q) → IsCause q (state x.disk) (state d) → StaysBy q x.known k → Answers (sense state) P (one f) x (Err q) (record { disk = d; known = k; desk = e })
+  one_stopped f k e (No code) same only cause still = record {
     leads = λ s h p. (
       s,
       (only s h, inl refl),
@@ -71,32 +74,33 @@ module _ {D : Type 0} (state : D → State) (P : Filter → Type 0) (x : Held D)
           notes = ap (λ (z : Desk). z.notes) (same ∙ h.desk);
           policy = ap (λ (z : Desk). z.policy) (same ∙ h.desk);
           connected = ap (λ (z : Desk). z.connected) (same ∙ h.desk);
+          shows = stays_shown state x k s still h;
           lasts = one_lasts s h;
         },
         cause (only s h),
       ),
     );
   }
-  one_stopped f k e OutOfMemory same only cause = record { leads = λ s h p. (s, record {}, one_moved s s.volume.book h, one_lasts s h) }
+  one_stopped f k e OutOfMemory same only cause still = record { leads = λ s h p. (s, record {}, one_moved s s.volume.book h, one_lasts s h) }
 
   -- out of memory, whatever became of the desk
   pub one_lost : (f : Filter → Filter) (k : Known) (e : Desk) → Answers (sense state) P (one f) x (Err OutOfMemory) (record { disk = d; known = k; desk = e })
   one_lost f k e = record { leads = λ s h p. (s, record {}, one_moved s s.volume.book h, one_lasts s h) }
 
   -- at an exit by `?`
-  pub one_stops_by : {A : Type 0} (f : Filter → Filter) (k : Known) (e : Desk) (q : CallError) (r : Result A CallError) → IsErrAnd r (λ z. z ≡ q) → e ≡ x.desk → ((s : Filter) → Stands state x s → StopsOnly q) → IsCause q (state x.disk) (state d)
+  pub one_stops_by : {A : Type 0} (f : Filter → Filter) (k : Known) (e : Desk) (q : CallError) (r : Result A CallError) → IsErrAnd r (λ z. z ≡ q) → e ≡ x.desk → ((s : Filter) → Stands state x s → StopsOnly q) → IsCause q (state x.disk) (state d) → StaysBy q x.known k
       → Answers (sense state) P (one f) x (whether r) (record { disk = d; known = k; desk = e })
-  one_stops_by {A} f k e q r is same only cause =
+  one_stops_by {A} f k e q r is same only cause still =
       let p = err_from_is_err_and r is in
-      subst (λ (z : Result A CallError). Answers (sense state) P (one f) x (whether z) (record { disk = d; known = k; desk = e })) (sym (p.1 ∙ ap (λ (z : CallError). Err z) p.2)) (one_stopped f k e q same only cause)
+      subst (λ (z : Result A CallError). Answers (sense state) P (one f) x (whether z) (record { disk = d; known = k; desk = e })) (sym (p.1 ∙ ap (λ (z : CallError). Err z) p.2)) (one_stopped f k e q same only cause still)
 
 -- of a call that reads, whatever it gives
 pub one_read : {D A : Type 0} (state : D → State) (P : Filter → Type 0) (x : Held D) (d : D) (k : Known) (e : Desk) (f : Filter → Filter) (r : Result A CallError) → Fair (state d)
     → ((v : Volume) → At (state x.disk) x.known v → Leaves (state x.disk) (state d) (StandsLast v)) → Runs (state x.disk) (state d) → e ≡ x.desk → OnOk r (k.broken ≡ false) → ((s : Filter) → Stands state x s → P s → OnOk r (At (state d) k (f s).volume))
-    → ((s : Filter) → Stands state x s → desk_of s ≡ desk_of (f s)) → ((s : Filter) → Stands state x s → IfErr r StopsOnly) → IfErr r (λ q. IsCause q (state x.disk) (state d)) → ((s : Filter) → Stands state x s → P s → IsRebooked s (f s))
+    → ((s : Filter) → Stands state x s → desk_of s ≡ desk_of (f s)) → ((s : Filter) → Stands state x s → IfErr r StopsOnly) → IfErr r (λ q. IsCause q (state x.disk) (state d)) → contents_in k ≡ contents_in x.known → ((s : Filter) → Stands state x s → P s → IsRebooked s (f s))
     → Answers (sense state) P (one f) x (whether r) (record { disk = d; known = k; desk = e })
-one_read state P x d k e f (Ok a) fair crash runs same usable at stays only cause fits = one_done state P x d fair crash runs f k e usable at (λ s h. same ∙ h.desk ∙ stays s h) fits
-one_read state P x d k e f (Err q) fair crash runs same usable at stays only cause fits = one_stopped state P x d fair crash runs f k e q same only cause
+one_read state P x d k e f (Ok a) fair crash runs same usable at stays only cause still fits = one_done state P x d fair crash runs f k e usable at (λ s h. same ∙ h.desk ∙ stays s h) fits
+one_read state P x d k e f (Err q) fair crash runs same usable at stays only cause still fits = one_stopped state P x d fair crash runs f k e q same only cause (stays_same q x.known k still)
 
 -- a step that leaves the state
 pub one_stays : {D : Type 0} (state : D → State) (P : Filter → Type 0) (f : Filter → Filter) (x y : Held D) → y ≡ x → ((s : Filter) → Stands state x s → P s → s ≡ f s) → Answers (sense state) P (one f) x (Ok unit) y

@@ -13,6 +13,7 @@ use Rattle.cf_disk.specs.Leaving.{leaves_weaker}
 use Rattle.cf_filter_machine.proofs.ChangeSteps.{grows_put, put_points, told}
 use Rattle.cf_filter_machine.proofs.PlacesKept.{every_weaker, own_above, still_above}
 use Rattle.cf_filter_machine.proofs.PointSteps.{last_point}
+use Rattle.cf_filter_machine.proofs.Shown.{stays_shown}
 use Rattle.cf_filter_machine.proofs.RemovedItems.{IsBeside, kept_without, opened_without, reads_without}
 use Rattle.cf_engine_queue.specs.Records.{IsKeepable}
 use Rattle.cf_filter_machine.specs.Held.{Desk, Held, desk_of}
@@ -21,6 +22,7 @@ use Rattle.cf_filter_machine.specs.Graves.{gone}
 use Rattle.cf_filter_machine.specs.Lasting.{Grows, IsBetween, Moved}
 use Rattle.cf_filter_machine.specs.Lasts.{grows_not}
 use Rattle.cf_filter_machine.specs.Sensing.{Stands, sense}
+use Rattle.cf_filter_machine.specs.Showing.{StaysBy}
 use Rattle.cf_model.specs.Arrows.{unit}
 use Rattle.cf_model.specs.Books.{Book, Tombstone, book_after, with_tombstone}
 use Rattle.cf_model.specs.Calls.{buried, tombstone_for}
@@ -123,8 +125,8 @@ module _ {D : Type 0} (state : D → State) (x : Held D) (id : ItemId) (bury : B
     );
   }
 
-  pub removed_stopped : (k : Known) (e : Desk) (q : CallError) → e ≡ x.desk → ((s : Filter) → Stands state x s → MayGo id i s → StopsOnly q) → IsCause q (state x.disk) (state d) → Answers (sense state) (MayGo id i) (removed bury i) x (Err q) (record { disk = d; known = k; desk = e })
-  removed_stopped k e (No code) same only cause = record {
+  pub removed_stopped : (k : Known) (e : Desk) (q : CallError) → e ≡ x.desk → ((s : Filter) → Stands state x s → MayGo id i s → StopsOnly q) → IsCause q (state x.disk) (state d) → StaysBy q x.known k → Answers (sense state) (MayGo id i) (removed bury i) x (Err q) (record { disk = d; known = k; desk = e })
+  removed_stopped k e (No code) same only cause still = record {
     leads = λ s h p. (
       s,
       (only s h p, inl refl),
@@ -134,13 +136,14 @@ module _ {D : Type 0} (state : D → State) (x : Held D) (id : ItemId) (bury : B
           notes = ap (λ (z : Desk). z.notes) (same ∙ h.desk);
           policy = ap (λ (z : Desk). z.policy) (same ∙ h.desk);
           connected = ap (λ (z : Desk). z.connected) (same ∙ h.desk);
+          shows = stays_shown state x k s still h;
           lasts = λ m left. last_point s.volume h.points m ((crash s.volume h.volume).now m left);
         },
         cause (only s h p),
       ),
     );
   }
-  removed_stopped k e OutOfMemory same only cause = record { leads = λ s h p. (s, record {}, remove_moved s s.volume (grows_not s.volume) h, λ m left. last_point s.volume h.points m ((crash s.volume h.volume).now m left)) }
+  removed_stopped k e OutOfMemory same only cause still = record { leads = λ s h p. (s, record {}, remove_moved s s.volume (grows_not s.volume) h, λ m left. last_point s.volume h.points m ((crash s.volume h.volume).now m left)) }
 
   pub removed_lost : (k : Known) (e : Desk) → Answers (sense state) (MayGo id i) (removed bury i) x (Err OutOfMemory) (record { disk = d; known = k; desk = e })
   removed_lost k e = record { leads = λ s h p. (s, record {}, remove_moved s s.volume (grows_not s.volume) h, λ m left. last_point s.volume h.points m ((crash s.volume h.volume).now m left)) }

@@ -7,4 +7,5 @@ pub mod Keeping
 pub mod Lasting
 pub mod Lasts
 pub mod Sensing
+pub mod Showing
 pub mod Telling

@@ -7,6 +7,7 @@ use Rattle.cf_filter_machine.specs.Lasts.{lasts_at, moved_on, stays_put}
 use Rattle.cf_filter_machine.specs.Held.{Desk, Held, desk_of}
 use Rattle.cf_filter_machine.specs.Keeping.{HasKeptPoints, IsKeptVolume}
 use Rattle.cf_filter_machine.specs.Lasting.{Lasts, Moved}
+use Rattle.cf_filter_machine.specs.Showing.{Shows}
 use Rattle.cf_volume.specs.Calls.{Runs}
 use Rattle.cf_model.specs.State.{Filter}
 use Rattle.cf_volume_points.proofs.Points.{Fair}
@@ -31,11 +32,12 @@ Rose d e = HasFailed d e
 pub rose_on : (c d e : State) → Runs c d → Rose d e → Rose c e
 rose_on c d e runs rose = (omega (arith, runs.faults, rose.0), omega (arith, runs.calm, rose.1))
 
--- after a device call that failed: what was told stands, and a restart opens a point of the state
+-- after a device call that failed: what was told stands, the volume shows what the state has, and a restart opens a point of it
 pub record Stopped {D : Type 0} (state : D → State) (x : Held D) (s : Filter) : Type 0 where
   pub notes : x.desk.notes ≡ s.notes
   pub policy : x.desk.policy ≡ s.policy
   pub connected : x.desk.connected ≡ s.connected
+  pub shows : Shows x.known s.volume
   pub lasts : Lasts (state x.disk) s.volume
 
 abbrev pub sense : {D : Type 0} → (D → State) → Sense (Held D)

@@ -5,6 +5,7 @@ ghost use Rattle.cf_base.specs.declared.waits.Cause.TheVariants as cause;
 ghost use Rattle.cf_disk.specs.Disk.{Leaves};
 ghost use Rattle.cf_filter_machine.specs.Desks.{ended};
 ghost use Rattle.cf_filter_machine.specs.Ends.{IsCutHere, cut_at};
+ghost use Rattle.cf_filter_machine.specs.Showing.{StaysBy};
 ghost use Rattle.cf_model.specs.Numbers.{same_key};
 ghost use Rattle.cf_model.specs.Words.{says};
 ghost use Rattle.cf_model.specs.Items.{Item, item_of};
@@ -75,6 +76,7 @@ pub(crate) fn read_here<D: Disk>(
     ensures cause { IfErr result (λ e. IsCause e (D.state volume.old.disk) (D.state volume.new.disk)) }
     ensures crash { (v : model) → At (D.state volume.old.disk) volume.old.known v → Leaves (D.state volume.old.disk) (D.state volume.new.disk) (StandsLast v) }
     ensures runs { Runs (D.state volume.old.disk) (D.state volume.new.disk) }
+    ensures stays { IfErr result (λ e. StaysBy e volume.old.known volume.new.known) }
     ensures usable { OnOk result (volume.new.known.broken ≡ false) }
 {
     let bytes = volume.bytes(item, span)?;

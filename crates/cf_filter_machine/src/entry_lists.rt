@@ -1,6 +1,6 @@
 //! Lists of entries of a directory.
 
-ghost use Rattle.std.specs.Prelude.{◌≡◌, ◌∷◌, [], All, List, false, true, None, IfErr, IfOk, OnOk};
+ghost use Rattle.std.specs.Prelude.{◌≡◌, ◌∷◌, [], All, List, false, true, None, IfErr, IfOk, OnErr, OnOk};
 ghost use Rattle.cf_base.specs.declared.answers.AuxRecord.{AuxRecord};
 ghost use Rattle.cf_base.specs.declared.changes.Change.{Change};
 ghost use Rattle.cf_base.specs.declared.ids.ItemId.{ItemId};
@@ -15,6 +15,7 @@ ghost use Rattle.cf_model.specs.Operations.{changes_with};
 ghost use Rattle.cf_model.specs.State.{Volume as model};
 ghost use Rattle.cf_volume_points.specs.At.{At, StandsLast};
 ghost use Rattle.cf_volume.specs.Calls.{HasRecords, IsCause, Runs, StopsOnly};
+ghost use Rattle.cf_volume.specs.Written.{contents_in};
 
 use crate::desks::Desk;
 use crate::limits::fits;
@@ -41,6 +42,7 @@ fn put_entry<D: Disk>(volume: &mut Volume<D>, change: &Change) -> Result<Usn, Ca
     ensures cause { IfErr result (λ e. IsCause e (D.state volume.old.disk) (D.state volume.new.disk)) }
     ensures crash { (v : model) → At (D.state volume.old.disk) volume.old.known v → Leaves (D.state volume.old.disk) (D.state volume.new.disk) (StandsLast v) }
     ensures runs { Runs (D.state volume.old.disk) (D.state volume.new.disk) }
+    ensures stays { OnErr result (contents_in volume.new.known ≡ contents_in volume.old.known) }
     ensures usable { OnOk result (volume.new.known.broken ≡ false) }
 {
     volume.last_point();

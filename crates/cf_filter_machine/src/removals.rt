@@ -5,6 +5,7 @@ ghost use Rattle.cf_base.specs.declared.codes.CallError.TheVariants as fail;
 ghost use Rattle.cf_disk.specs.Disk.{Leaves};
 ghost use Rattle.cf_engine_queue.specs.Records.{FitsUsn, IsKeepable};
 ghost use Rattle.cf_filter_machine.specs.Graves.{IsGraveOf, gone};
+ghost use Rattle.cf_filter_machine.specs.Showing.{StaysBy};
 ghost use Rattle.cf_model.specs.Books.{Tombstone, tombstone_of, tombstone_record, with_tombstone};
 ghost use Rattle.cf_model.specs.Changes.{next_number, no_places};
 ghost use Rattle.cf_model.specs.Items.{Item, item_of};
@@ -83,6 +84,7 @@ pub(crate) fn remove_item<D: Disk>(
     ensures cause { IfErr result (λ e. IsCause e (D.state volume.old.disk) (D.state volume.new.disk)) }
     ensures crash { (v : model) → At (D.state volume.old.disk) volume.old.known v → Leaves (D.state volume.old.disk) (D.state volume.new.disk) (StandsLast v) }
     ensures runs { Runs (D.state volume.old.disk) (D.state volume.new.disk) }
+    ensures stays { IfErr result (λ e. StaysBy e volume.old.known volume.new.known) }
     ensures usable { OnOk result (volume.new.known.broken ≡ false) }
 {
     volume.last_point();

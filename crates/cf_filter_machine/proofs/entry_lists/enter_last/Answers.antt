@@ -23,7 +23,7 @@ returns-in_err-number-clause-does g c = λ dir f.
     (entry_stopped g.D.Disk.state dir (held c.args.volume.now c.args.desk.now) c.args.change.now f c.put_entry.new.volume.disk
     (record { reads_one = g.met.D.Disk.reads_one c.put_entry.new.volume.disk; same_size = g.met.D.Disk.same_size c.put_entry.new.volume.disk })
     c.in_err-number.ensures.crash c.in_err-number.ensures.runs
-    (Stands g.D.Disk.state) (MayEnter f dir (c.args.change.now ∷ []) c.args.records.now) c.put_entry.new.volume.known c.args.desk.now c.in_err-number.field-0.0 refl
+    (Stands g.D.Disk.state) (MayEnter f dir (c.args.change.now ∷ []) c.args.records.now) c.put_entry.new.volume.known c.args.desk.now c.in_err-number.field-0.0 refl c.in_err-number.ensures.stays
     (λ s h p. (c.in_err-number.ensures.only s.volume h.volume p.entries.0.room h.whole, (plain c.args.change.now (listed dir c.args.change.now s.volume p.entries.0.entry)).room s.volume))
     c.in_err-number.ensures.cause)
 

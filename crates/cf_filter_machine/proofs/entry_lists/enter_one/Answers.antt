@@ -18,7 +18,7 @@ returns-in_err-number-clause-does g c = λ dir.
     (entry_stopped g.D.Disk.state dir (held c.args.volume.now c.args.desk.now) c.args.change.now same_book c.put_entry.new.volume.disk
     (record { reads_one = g.met.D.Disk.reads_one c.put_entry.new.volume.disk; same_size = g.met.D.Disk.same_size c.put_entry.new.volume.disk })
     c.in_err-number.ensures.crash c.in_err-number.ensures.runs
-    (Coming g.D.Disk.state dir) (λ s. IsReadyEntry dir c.args.change.now s.volume) c.put_entry.new.volume.known c.args.desk.now c.in_err-number.field-0.0 refl
+    (Coming g.D.Disk.state dir) (λ s. IsReadyEntry dir c.args.change.now s.volume) c.put_entry.new.volume.known c.args.desk.now c.in_err-number.field-0.0 refl c.in_err-number.ensures.stays
     (λ s h p. (c.in_err-number.ensures.only s.volume h.volume p.room h.whole, (plain c.args.change.now (listed dir c.args.change.now s.volume p.entry)).room s.volume))
     c.in_err-number.ensures.cause)
 

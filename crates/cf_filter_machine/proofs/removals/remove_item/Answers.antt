@@ -2,6 +2,8 @@ use Rattle.std.proofs.Common.{◌≤◌, ◌∙◌, List, ℕ, Option, arith, le
 use Rattle.std.specs.Prelude.{MatchOption}
 use Rattle.std.proofs.lemmas.Bool.{true≢false}
 use Rattle.cf_base.specs.declared.changes.Change.TheVariants as change
+use Rattle.cf_base.specs.declared.codes.CallError.{CallError}
+use Rattle.cf_base.specs.declared.codes.CallError.TheVariants.{OutOfMemory}
 use Rattle.cf_disk.specs.Disk.{Leaves}
 use Rattle.cf_filter_machine.specs.Graves.{IsGraveOf}
 use Rattle.cf_filter_machine.proofs.AnswerSteps.{on_ok_map}
@@ -11,6 +13,8 @@ use Rattle.cf_filter_machine.proofs.Buried.{no_grave, no_reason, none_fits, not_
 use Rattle.cf_filter_machine.proofs.ChangeSteps.{not_refused}
 use Rattle.cf_filter_machine.proofs.ReadSteps.{err_map, memory_alone, still, stops_by}
 use Rattle.cf_filter_machine.proofs.RemoveSteps.{gone_at, other_own, row_there, was_gone}
+use Rattle.cf_filter_machine.proofs.Shown.{memory_left, same_left}
+use Rattle.cf_filter_machine.specs.Showing.{StaysBy}
 use Rattle.cf_model.specs.Books.{with_tombstone}
 use Rattle.cf_model.specs.Calls.{tombstone_for}
 use Rattle.cf_model.specs.Changes.{next_number, put_change}
@@ -81,3 +85,13 @@ returns-in_err-grave-clause-runs g c = record { size = refl; powers = refl; faul
 
 pub returns-in-Some-clause-runs : goal.returns-in-Some-clause-runs
 returns-in-Some-clause-runs g c = subst (λ (z : _). Runs (g.D.Disk.state c.args.volume.now.disk) (g.D.Disk.state z)) (sym c.put_grave.ensures.disk) c.in_ok-number.ensures.runs
+
+pub returns-in_err-grave-clause-stays : goal.returns-in_err-grave-clause-stays
+returns-in_err-grave-clause-stays g c = memory_left c.from_residual.result OutOfMemory _ _ c.from_residual.ensures.1 (record {})
+
+pub returns-in_err-number-clause-stays : goal.returns-in_err-number-clause-stays
+returns-in_err-number-clause-stays g c = same_left c.from_residual-in_err-number.result _ _ c.in_err-number.ensures.stays
+
+pub returns-in-Some-clause-stays : goal.returns-in-Some-clause-stays
+returns-in-Some-clause-stays g c =
+    err_map c.put_grave.result _ (λ e. StaysBy e c.args.volume.now.known c.put_grave.new.volume.known) (λ e memory. subst (λ (q : CallError). StaysBy q c.args.volume.now.known c.put_grave.new.volume.known) (sym memory) (record {})) c.put_grave.ensures.memory

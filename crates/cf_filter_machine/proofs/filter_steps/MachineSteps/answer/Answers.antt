@@ -4,6 +4,7 @@ use Rattle.cf_filter_machine.proofs.AnswerSteps.{bytes_found, is_accessed, not_a
 use Rattle.cf_filter_machine.proofs.BookSteps.{IsRebooked, accessed_good}
 use Rattle.cf_filter_machine.proofs.DeskSteps.{desk_left, seen_at, seen_cause, seen_desk, seen_leaves, seen_runs, seen_whole}
 use Rattle.cf_filter_machine.proofs.ReadSteps.{one_done, one_stays, one_stops_by}
+use Rattle.cf_filter_machine.proofs.Shown.{seen_stays}
 use Rattle.cf_filter_machine.specs.Ends.{IsCutHere}
 use Rattle.cf_filter_machine.specs.Held.{Held, desk_of}
 use Rattle.cf_model.specs.Arrows.{one}
@@ -55,6 +56,7 @@ returns-in_err-bytes-clause-does g c =
     (accessed_now (meant c.args.need.now)) c.read_here.new.volume.known c.self.inside.desk c.in_err-bytes.field-0.0 c.from_residual-in_err-bytes.result c.from_residual-in_err-bytes.ensures.1 (seen_desk c.self.view_is)
     (λ s h. c.in_err-bytes.ensures.only (seen_whole c.self.view_is h.whole))
     (seen_cause g.D.Disk.state (g.D.Disk.state c.read_here.new.volume.disk) c.in_err-bytes.field-0.0 c.self.view_is c.in_err-bytes.ensures.cause)
+    (seen_stays c.in_err-bytes.field-0.0 c.read_here.new.volume.known c.self.view_is c.in_err-bytes.ensures.stays)
 
 pub returns-clause-does : goal.returns-clause-does
 returns-clause-does g c =

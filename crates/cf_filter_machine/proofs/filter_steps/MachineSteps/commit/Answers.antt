@@ -1,5 +1,6 @@
 use Rattle.cf_filter_machine.proofs.CommitSteps.{commit_stops, committed}
 use Rattle.cf_filter_machine.proofs.DeskSteps.{seen_at, seen_cause, seen_desk, seen_leaves, seen_runs, seen_whole}
+use Rattle.cf_filter_machine.proofs.Shown.{seen_same}
 use Rattle.cf_volume_points.specs.At.{StandsEither}
 use Rattle.cf_filter_machine.proofs.filter_steps.MachineSteps.commit.Goals as goal
 
@@ -10,6 +11,7 @@ returns-in_err-commit g c =
     (λ v at keep. seen_leaves g.D.Disk.state (g.D.Disk.state c.commit.new.self.disk) (StandsEither v) c.self.view_is (c.in_err-commit.ensures.crash v (seen_at g.D.Disk.state v c.self.view_is at) keep))
     (seen_runs g.D.Disk.state (g.D.Disk.state c.commit.new.self.disk) c.self.view_is c.in_err-commit.ensures.runs)
     c.in_err-commit.field-0.0 c.from_residual.result c.from_residual.ensures.1
+    (seen_same c.commit.new.self.known c.self.view_is c.in_err-commit.ensures.contents)
     (λ v at keep whole. c.in_err-commit.ensures.why v (seen_at g.D.Disk.state v c.self.view_is at) keep (seen_whole c.self.view_is whole))
     (seen_cause g.D.Disk.state (g.D.Disk.state c.commit.new.self.disk) c.in_err-commit.field-0.0 c.self.view_is c.in_err-commit.ensures.cause)
 

@@ -7,6 +7,7 @@ use Rattle.cf_base.specs.declared.waits.WaitKind.{WaitKind}
 use Rattle.cf_filter_machine.proofs.AnswerSteps.{bytes_found, end_desk, end_unread, ended_desk, ended_rebooked, ended_volume, read_end}
 use Rattle.cf_filter_machine.proofs.DeskSteps.{desk_exit, seen_at, seen_cause, seen_desk, seen_leaves, seen_runs, seen_whole, with_desk}
 use Rattle.cf_filter_machine.proofs.ReadSteps.{one_done, one_lost, one_stopped}
+use Rattle.cf_filter_machine.proofs.Shown.{seen_stays}
 use Rattle.cf_filter_machine.specs.Desks.{ended}
 use Rattle.cf_filter_machine.specs.Ends.{IsCutHere}
 use Rattle.cf_filter_machine.specs.Held.{Desk, Held}
@@ -59,7 +60,8 @@ returns-in_err-bytes g c =
     (λ v at. seen_leaves g.D.Disk.state (g.D.Disk.state c.read_here.new.volume.disk) (StandsLast v) c.self.view_is (c.in_err-bytes.ensures.crash v (seen_at g.D.Disk.state v c.self.view_is at)))
     (seen_runs g.D.Disk.state (g.D.Disk.state c.read_here.new.volume.disk) c.self.view_is c.in_err-bytes.ensures.runs)
     (with_ended c.args.ended.now) c.read_here.new.volume.known c.self.inside.desk c.in_err-bytes.field-0.0 (seen_desk c.self.view_is) (λ s h. c.in_err-bytes.ensures.only (seen_whole c.self.view_is h.whole))
-    (seen_cause g.D.Disk.state (g.D.Disk.state c.read_here.new.volume.disk) c.in_err-bytes.field-0.0 c.self.view_is c.in_err-bytes.ensures.cause))
+    (seen_cause g.D.Disk.state (g.D.Disk.state c.read_here.new.volume.disk) c.in_err-bytes.field-0.0 c.self.view_is c.in_err-bytes.ensures.cause)
+    (seen_stays c.in_err-bytes.field-0.0 c.read_here.new.volume.known c.self.view_is c.in_err-bytes.ensures.stays))
 
 pub returns-in_err-end : goal.returns-in_err-end
 returns-in_err-end g c =

@@ -7,6 +7,7 @@ use Rattle.cf_filter_machine.proofs.DeskSteps.{desk_exit, desk_lost, on_disk, se
 use Rattle.cf_filter_machine.proofs.Keepable.{keepable}
 use Rattle.cf_filter_machine.proofs.ReadSteps.{with_memory}
 use Rattle.cf_filter_machine.proofs.RoomReads.{fits_book}
+use Rattle.cf_filter_machine.proofs.Shown.{seen_same}
 use Rattle.cf_filter_machine.specs.Held.{Desk}
 use Rattle.cf_filter_machine.specs.Sensing.{sense}
 use Rattle.cf_model.specs.Arrows.{unit}
@@ -40,6 +41,7 @@ returns-in_err-number-clause-does g c =
     (λ v at none. seen_leaves g.D.Disk.state (g.D.Disk.state c.apply.new.self.disk) (StandsLast v) c.self.view_is (c.in_err-number.ensures.kept_crash v (seen_at g.D.Disk.state v c.self.view_is at) none))
     (seen_runs g.D.Disk.state (g.D.Disk.state c.apply.new.self.disk) c.self.view_is c.in_err-number.ensures.runs)
     c.apply.new.self.known c.self.inside.desk c.in_err-number.field-0.0 c.from_residual-in_err-number.result c.from_residual-in_err-number.ensures.1 (seen_desk c.self.view_is)
+    (seen_same c.apply.new.self.known c.self.view_is c.in_err-number.ensures.stays)
     (λ s h p. not_refused c.args.change.now s.volume c.self.inside.volume c.apply.new.self c.in_err-number.field-0.0 p.ready.room
     (c.in_err-number.ensures.why s.volume (seen_at g.D.Disk.state s.volume c.self.view_is h.volume) (λ _. keepable s.volume h.kept) (seen_whole c.self.view_is h.whole)))
     (seen_cause g.D.Disk.state (g.D.Disk.state c.apply.new.self.disk) c.in_err-number.field-0.0 c.self.view_is c.in_err-number.ensures.cause)

@@ -4,6 +4,7 @@ use Rattle.cf_base.specs.declared.codes.CallError.TheVariants.{OutOfMemory}
 use Rattle.cf_base.specs.declared.notices.Notice.TheVariants as notice
 use Rattle.cf_filter_machine.proofs.DeskSteps.{seen_at, seen_cause, seen_desk, seen_leaves, seen_runs, seen_whole}
 use Rattle.cf_filter_machine.proofs.RemoveSteps.{removed_lost, removed_stopped, removed_told}
+use Rattle.cf_filter_machine.proofs.Shown.{seen_stays}
 use Rattle.cf_filter_machine.specs.Held.{Desk}
 use Rattle.cf_filter_machine.specs.Sensing.{sense}
 use Rattle.cf_volume_points.specs.At.{StandsLast}
@@ -20,7 +21,8 @@ returns-in_err-number-clause-does g c = λ i.
     (seen_runs g.D.Disk.state (g.D.Disk.state c.remove_item.new.volume.disk) c.self.view_is c.in_err-number.ensures.runs)
     c.remove_item.new.volume.known c.self.inside.desk c.in_err-number.field-0.0 (seen_desk c.self.view_is)
     (λ s h p. c.in_err-number.ensures.only s.volume (seen_at g.D.Disk.state s.volume c.self.view_is h.volume) p.left (seen_whole c.self.view_is h.whole))
-    (seen_cause g.D.Disk.state (g.D.Disk.state c.remove_item.new.volume.disk) c.in_err-number.field-0.0 c.self.view_is c.in_err-number.ensures.cause))
+    (seen_cause g.D.Disk.state (g.D.Disk.state c.remove_item.new.volume.disk) c.in_err-number.field-0.0 c.self.view_is c.in_err-number.ensures.cause)
+    (seen_stays c.in_err-number.field-0.0 c.remove_item.new.volume.known c.self.view_is c.in_err-number.ensures.stays))
 
 pub returns-in_err-note-clause-does : goal.returns-in_err-note-clause-does
 returns-in_err-note-clause-does g c = λ i.

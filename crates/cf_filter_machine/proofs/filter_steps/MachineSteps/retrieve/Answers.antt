@@ -2,6 +2,7 @@ use Rattle.std.proofs.Common.{Option, ◌+◌, ◌∙◌, ap, refl, subst}
 use Rattle.cf_filter_machine.proofs.AnswerSteps.{bytes_told, on_ok}
 use Rattle.cf_filter_machine.proofs.DeskSteps.{desk_left, seen_at, seen_cause, seen_desk, seen_leaves, seen_runs, seen_whole}
 use Rattle.cf_filter_machine.proofs.ReadSteps.{err_map, not_rebooked, one_read}
+use Rattle.cf_filter_machine.proofs.Shown.{seen_same}
 use Rattle.cf_filter_machine.specs.Ends.{IsCutHere}
 use Rattle.cf_filter_machine.specs.Held.{Desk, Held}
 use Rattle.cf_model.specs.Arrows.{one}
@@ -31,7 +32,7 @@ returns-clause-does g c =
     (seen_runs g.D.Disk.state (g.D.Disk.state c.bytes.new.self.disk) c.self.view_is c.bytes.ensures.runs)
     (seen_desk c.self.view_is) c.bytes.ensures.usable (λ s h p. c.bytes.ensures.ok s.volume (seen_at g.D.Disk.state s.volume c.self.view_is h.volume)) (λ s h. refl)
     (λ s h. c.bytes.ensures.only (seen_whole c.self.view_is h.whole))
-    (err_map c.bytes.result _ _ (λ q why. seen_cause g.D.Disk.state (g.D.Disk.state c.bytes.new.self.disk) q c.self.view_is why) c.bytes.ensures.cause) (λ s h p. not_rebooked s h.good h.kept)
+    (err_map c.bytes.result _ _ (λ q why. seen_cause g.D.Disk.state (g.D.Disk.state c.bytes.new.self.disk) q c.self.view_is why) c.bytes.ensures.cause) (seen_same c.bytes.new.self.known c.self.view_is c.bytes.ensures.contents) (λ s h p. not_rebooked s h.good h.kept)
 
 pub returns-clause-tells : goal.returns-clause-tells
 returns-clause-tells g c =
