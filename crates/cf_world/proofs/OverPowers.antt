@@ -1,16 +1,19 @@
 -- Runs over the power cuts of a disk.
-use Rattle.std.proofs.Common.{◌≡◌, ℕ, List, [], ◌∷◌, ◌++◌, refl, sym, ap, subst, ◌∙◌}
+use Rattle.std.proofs.Common.{◌≡◌, ◌<◌, ℕ, ◌+◌, ◌-◌, ◌^◌, List, [], ◌∷◌, ◌++◌, refl, sym, ap, subst, ◌∙◌}
 use Rattle.std.specs.Prelude.{Option, Some}
-use Rattle.cf_filter_events.specs.Pasts.{Gains, last_image}
+use Rattle.cf_filter_events.specs.Faulted.{faults_shown}
+use Rattle.cf_filter_events.specs.Pasts.{Gains, StandsFor as Images, last_image}
 use Rattle.cf_base.specs.declared.answers.Answer.{Answer}
 use Rattle.cf_base.specs.declared.events.DeviceEvent.TheVariants as device
 use Rattle.cf_base.specs.declared.events.Event.{Event}
 use Rattle.cf_base.specs.declared.events.Event.TheVariants as event
 use Rattle.cf_base.specs.declared.policies.Choice.{Choice}
 use Rattle.cf_base.specs.declared.policies.Mode.{Mode}
+use Rattle.cf_link.specs.Listed.{listed}
 use Rattle.cf_model.specs.Lawful.{IsStep, Runs}
 use Rattle.cf_model.specs.Powers.{IsPower, RunsOver, StandsFor}
 use Rattle.cf_model.specs.State.{State}
+use Rattle.cf_world.specs.RemoteFaults.{ReportsListed}
 
 -- more power cuts behind those of an event
 power_more : (stands : StandsFor) (last : Option (List ℕ)) (e : Event) (a : Answer) (t : State) (powers : List (Choice × List ℕ)) (after : Option (List ℕ)) (rest more : List (Choice × List ℕ))
@@ -66,6 +69,17 @@ over_push stands m last s mid t (p ∷ ps) powers more e a after h is power = (
   power_more stands last p.0 p.1 h.0 powers h.1 h.2 more h.4,
   over_push stands m h.1 h.0 mid t ps h.2 more e a after h.5 is (subst (λ (o : Option (List ℕ)). IsPower stands o e a t more after []) (power_last stands last p.0 p.1 h.0 powers h.1 h.2 h.4) power),
 )
+
+-- one more event, of which the asks that are listed are as many as its answer reports
+pub listed_push : (fails : List ℕ) (m : Mode) (last : Option (List ℕ)) (s mid t : State) (trace : List (Event × Answer)) (powers more : List (Choice × List ℕ)) (e : Event) (a : Answer) (after : Option (List ℕ))
+    (runs : RunsOver Images m last s trace powers mid) (is : IsStep m mid e a t) (power : IsPower Images (last_image last powers) e a t more after [])
+    → ReportsListed fails m last s trace powers mid runs → (t.link.remote_asks < 2 ^ 64 - 1 → listed fails mid.link.remote_asks + faults_shown a ≡ listed fails t.link.remote_asks)
+    → ReportsListed fails m last s (trace ++ (e, a) ∷ []) (powers ++ more) t (over_push Images m last s mid t trace powers more e a after runs is power)
+unfolding over_push
+listed_push fails m last s mid t [] powers more e a after runs is power h step =
+    (subst (λ (x : State). t.link.remote_asks < 2 ^ 64 - 1 → listed fails x.link.remote_asks + faults_shown a ≡ listed fails t.link.remote_asks) runs.0 step, record {})
+listed_push fails m last s mid t (p ∷ ps) powers more e a after runs is power h step =
+    (h.0, listed_push fails m runs.1 runs.0 mid t ps runs.2 more e a after runs.5 is _ h.1 step)
 
 -- a run over power cuts is a run
 pub over_runs : (stands : StandsFor) (m : Mode) (last : Option (List ℕ)) (s t : State) (trace : List (Event × Answer)) (powers : List (Choice × List ℕ)) → RunsOver stands m last s trace powers t → Runs m s trace t

@@ -1,21 +1,13 @@
--- The answers that report that the remote failed, its count, and the asks that it lists.
-use Rattle.std.proofs.Common.{◌≡◌, ◌≤◌, ◌<◌, ℕ, ◌+◌, List, [], ◌∷◌, ◌++◌, sym, subst, arith}
-use Rattle.std.specs.Prelude.{Ok, Option, min}
+-- The answers that report that the remote failed, and its count.
+use Rattle.std.proofs.Common.{◌≡◌, ◌≤◌, ℕ, ◌+◌, List, [], ◌∷◌, ◌++◌, sym, subst, arith}
+use Rattle.std.specs.Prelude.{Ok, min}
 use Rattle.cf_filter_events.specs.Faulted.{FaultsTo, faults_shown}
-use Rattle.cf_filter_events.specs.Pasts.{StandsFor, last_image}
 use Rattle.cf_base.specs.declared.answers.Answer.{Answer}
 use Rattle.cf_base.specs.declared.events.Event.{Event}
-use Rattle.cf_base.specs.declared.policies.Choice.{Choice}
-use Rattle.cf_base.specs.declared.policies.Mode.{Mode}
 use Rattle.cf_link.proofs.FaultCounts.{failed_rose, rose_both, rose_none}
 use Rattle.cf_link.specs.Faults.{RoseBy, most_faults}
-use Rattle.cf_link.specs.Listed.{listed}
-use Rattle.cf_model.specs.Lawful.{IsStep}
-use Rattle.cf_model.specs.Powers.{IsPower, RunsOver}
-use Rattle.cf_model.specs.State.{State}
 use Rattle.cf_remote.specs.Told.{Told}
-use Rattle.cf_world.proofs.OverPowers.{over_push}
-use Rattle.cf_world.specs.RemoteFaults.{ReportsListed, faults_by}
+use Rattle.cf_world.specs.RemoteFaults.{faults_by}
 
 faults_push : (trace : List (Event × Answer)) (e : Event) (a : Answer) → faults_by (trace ++ (e, a) ∷ []) ≡ faults_by trace + faults_shown a
 faults_push [] e a = omega arith
@@ -46,15 +38,3 @@ never_faulted n m h = subst (λ (k : ℕ). RoseBy k m m) (sym (never n h)) (rose
 pub remote_count : {R : Type 0} (told : R → Told) (n : ℕ) (first had kept left : R) → had ≡ first → left ≡ kept → RoseBy n (told had).faults (told kept).faults → RoseBy n (told first).faults (told left).faults
 remote_count told n first had kept left begun ended h =
     subst (λ r. RoseBy n (told r).faults (told left).faults) begun (subst (λ r. RoseBy n (told had).faults (told r).faults) (sym ended) h)
-
--- one more event
-
-pub listed_push : (fails : List ℕ) (m : Mode) (last : Option (List ℕ)) (s mid t : State) (trace : List (Event × Answer)) (powers more : List (Choice × List ℕ)) (e : Event) (a : Answer) (after : Option (List ℕ))
-    (runs : RunsOver StandsFor m last s trace powers mid) (is : IsStep m mid e a t) (power : IsPower StandsFor (last_image last powers) e a t more after [])
-    → ReportsListed fails m last s trace powers mid runs → (t.link.remote_asks < most_faults → listed fails mid.link.remote_asks + faults_shown a ≡ listed fails t.link.remote_asks)
-    → ReportsListed fails m last s (trace ++ (e, a) ∷ []) (powers ++ more) t (over_push StandsFor m last s mid t trace powers more e a after runs is power)
-unfolding over_push
-listed_push fails m last s mid t [] powers more e a after runs is power h step =
-    (subst (λ (x : State). t.link.remote_asks < most_faults → listed fails x.link.remote_asks + faults_shown a ≡ listed fails t.link.remote_asks) runs.0 step, record {})
-listed_push fails m last s mid t (p ∷ ps) powers more e a after runs is power h step =
-    (h.0, listed_push fails m runs.1 runs.0 mid t ps runs.2 more e a after runs.5 is _ h.1 step)

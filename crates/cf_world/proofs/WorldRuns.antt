@@ -23,8 +23,8 @@ use Rattle.cf_model.specs.State.{State, start}
 use Rattle.cf_model.specs.Store.{Held}
 use Rattle.cf_volume_points.specs.Standing.{clusters_on}
 use Rattle.cf_world.proofs.Counted.{armed_more, armed_none, at_most, met_more, met_none}
-use Rattle.cf_world.proofs.OverPowers.{after_all, gains_then, last_then, over_push, over_runs}
-use Rattle.cf_world.proofs.RemoteCounts.{faulted_more, faulted_none, listed_push}
+use Rattle.cf_world.proofs.OverPowers.{after_all, gains_then, last_then, listed_push, over_push, over_runs}
+use Rattle.cf_world.proofs.RemoteCounts.{faulted_more, faulted_none}
 use Rattle.cf_world.specs.Led.{HasRunOn, LeadsActor, LeadsWorld, LeavesActor, LeavesText, met_by}
 use Rattle.cf_world.specs.RemoteFaults.{faults_by}
 use Rattle.cf_world.specs.Steps.{IsLawfulFrom}
