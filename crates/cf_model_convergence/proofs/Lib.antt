@@ -1,4 +1,5 @@
 pub mod AddingGuarded
+pub mod ApartTargets
 pub mod CountsGuarded
 pub mod EarlyCursors
 pub mod FeedTurns

@@ -21,7 +21,7 @@ use Rattle.cf_model_laws.specs.Premises.{IsFresh}
 use Rattle.cf_model_laws.proofs.ContentLaws.{run_sound}
 use Rattle.cf_model_laws.proofs.Gathered.{all_weaker}
 use Rattle.cf_model_convergence.proofs.TidyItems.{found_rid}
-use Rattle.cf_model_convergence.specs.Lasting.{AreBasesMade, AreTargetsRight, AreUploadsApart, AreUploadsDone, AtPoint, Fact, HoldsIn, IsTargetedWell}
+use Rattle.cf_model_convergence.specs.Lasting.{AreBasesMade, AreTargetsRight, AreUploadsApart, AreUploadsDone, AreUploadsNamed, AtPoint, Fact, HoldsIn, IsTargetedWell}
 
 -- what lasts is given by what is durable
 abbrev IsGiven : Fact → Type 0
@@ -66,3 +66,6 @@ bases_made remote clusters trace s runs fresh = given_holds AreBasesMade (λ r m
 
 pub uploads_apart : (remote : Held) (clusters : ℕ) (trace : List (Event × Answer)) (s : State) → Runs mode.Replay (start mode.Replay remote clusters) trace s → IsFresh remote → HoldsIn AreUploadsApart s
 uploads_apart remote clusters trace s runs fresh = given_holds AreUploadsApart (λ r ms epoch tokens n next items b h. h.apart) s (run_sound remote clusters trace s runs fresh)
+
+pub uploads_named : (remote : Held) (clusters : ℕ) (trace : List (Event × Answer)) (s : State) → Runs mode.Replay (start mode.Replay remote clusters) trace s → IsFresh remote → HoldsIn AreUploadsNamed s
+uploads_named remote clusters trace s runs fresh = given_holds AreUploadsNamed (λ r ms epoch tokens n next items b h. h.targets) s (run_sound remote clusters trace s runs fresh)

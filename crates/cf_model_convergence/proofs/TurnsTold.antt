@@ -11,7 +11,8 @@ use Rattle.cf_model.specs.Arrows.{choose, only_if, unless_done}
 use Rattle.cf_model.specs.Books.{MakeDir, MoveItem, PutFile, QueueEntry, Tombstone}
 use Rattle.cf_model.specs.Changes.{change as put, next_number, same_book}
 use Rattle.cf_model.specs.Effects.{converted, effect}
-use Rattle.cf_model.specs.Identities.{is_untargeted, no_identity, parent_target, stands_at_seen}
+use Rattle.cf_model.specs.Identities.{is_untargeted, no_identity, parent_target, stands_at_seen, target_of}
+use Rattle.std.proofs.lemmas.Bool.{eqb-true}
 use Rattle.cf_model.specs.Items.{Item, is_all_here, is_dirty, item_of}
 use Rattle.cf_model.specs.LookUp.{is_excluded}
 use Rattle.cf_model.specs.Messages.{no_number}
@@ -109,21 +110,24 @@ module _ (s : State) (h : Invariant s) (fair : IsFair s.link) (listening : IsLis
   abbrev convert : Change
   convert = change.Convert i.id no_identity
 
-  convert_fits : i.placeholder ≡ false → IsFair s.link → Fits s.link.remote s.filter convert
-  convert_fits bare f = (each_found i.id (λ j. SameBase no_identity j.identity) 0 s.filter.volume.next_item.0 (items_now s) i (h.1 f).now.order there (both_none no_identity i.identity none_none (two i.directory refl)), refl) where
+  convert_fits : i.placeholder ≡ false → (target_of i).0 ≡ 0 → IsFair s.link → Fits s.link.remote s.filter convert
+  convert_fits bare none f = (
+    (each_found i.id (λ j. SameBase no_identity j.identity) 0 s.filter.volume.next_item.0 (items_now s) i (h.1 f).now.order there (both_none no_identity i.identity none_none (two i.directory refl)), refl),
+    each_found i.id (λ j. (target_of j).0 ≡ 0) 0 s.filter.volume.next_item.0 (items_now s) i (h.1 f).now.order there none,
+  ) where
     two : (d : Bool) → i.directory ≡ d → HasNone i.identity
     two true e = right.bare e
     two false e = (right.plain e bare).0
 
-  after_told : i.placeholder ≡ false → (a : Bool) (m : State) → EndsFairly (try_change convert s) a m → EndsFairly (upload_if i.id a m) u t → IsTold s t
-  after_told bare false m first ends = subst (IsTold s) (sym ends.1) (leads_ends Any (λ done x. IsTold s x) (try_change convert s) false m (try_told_led convert s listening) first)
-  after_told bare true m first ends =
+  after_told : i.placeholder ≡ false → (target_of i).0 ≡ 0 → (a : Bool) (m : State) → EndsFairly (try_change convert s) a m → EndsFairly (upload_if i.id a m) u t → IsTold s t
+  after_told bare none false m first ends = subst (IsTold s) (sym ends.1) (leads_ends Any (λ done x. IsTold s x) (try_change convert s) false m (try_told_led convert s listening) first)
+  after_told bare none true m first ends =
       told_then s m t (leads_ends Any (λ done x. IsTold s x) (try_change convert s) true m (try_told_led convert s listening) first)
       (kept_ends (λ x. Invariant x × In m.filter x.filter) (upload_if i.id true m) u t
       (upload_now_at (λ x. Invariant x × In m.filter x.filter) (guarded_adds m.filter Invariant sound_whole.closed) (entering_adds m.filter Invariant sound_whole.entering) i.id (item_of (items_now m) i.id) m refl
       (λ f. subst (λ (es : List QueueEntry). NoEntry es i.id) (sym (led.after.entries (λ b. refl))) (lone (book_now s).entries i.id free))
       (λ k e. each_at i.id (λ x. x.placeholder ≡ true) (items_now m) k e (subst (Each i.id (λ x. x.placeholder ≡ true)) (sym led.after.items) (made (items_now s))))
-      (kept_ends Invariant (try_change convert s) true m (try_change_at Whichever Invariant (guarded_skipping Invariant sound_whole.closed) convert s tt (λ id k. k) (convert_fits bare) h) first, itself m.filter)) ends).1 where
+      (kept_ends Invariant (try_change convert s) true m (try_change_at Whichever Invariant (guarded_skipping Invariant sound_whole.closed) convert s tt (λ id k. k) (convert_fits bare none) h) first, itself m.filter)) ends).1 where
         led : Led convert s m
         led = leads_ends Any (λ done x. done ≡ true → Led convert s x) (try_change convert s) true m (try_led convert s) first refl
 
@@ -134,19 +138,19 @@ module _ (s : State) (h : Invariant s) (fair : IsFair s.link) (listening : IsLis
           turned true q z = refl
           turned false q z = no_way (sym q ∙ z)
 
-  new_told : EndsFairly (upload_new i s) u t → IsTold s t ⊎ IsSpared s i t
-  new_told ends = by i.placeholder refl ends where
+  new_told : (target_of i).0 ≡ 0 → EndsFairly (upload_new i s) u t → IsTold s t ⊎ IsSpared s i t
+  new_told none ends = by i.placeholder refl ends where
     found : (o : Option Item) → o ≡ Some i → i.placeholder ≡ true → EndsFairly (upload_now o s) u t → IsTold s t ⊎ IsSpared s i t
-    found None e placed z = let y : ◌≡◌ {A = Option Item} None (Some i) = e in absurd (none i y) where
-      none : (j : Item) → ◌≡◌ {A = Option Item} None (Some j) → ⊥
-      none j z = cc
+    found None e placed z = let y : ◌≡◌ {A = Option Item} None (Some i) = e in absurd (never i y) where
+      never : (j : Item) → ◌≡◌ {A = Option Item} None (Some j) → ⊥
+      never j z = cc
     found (Some j) e placed z = upload_told (λ _. placed) (subst (λ (k : Item). EndsFairly (upload k s) u t) (some j i e) z) where
       some : (a b : Item) → ◌≡◌ {A = Option Item} (Some a) (Some b) → a ≡ b
       some a b z = cc
 
     by : (b : Bool) → i.placeholder ≡ b → EndsFairly (bind (only_if (not b) (try_change convert) s) (upload_if i.id)) u t → IsTold s t ⊎ IsSpared s i t
     by true placed e = found (item_of (items_now s) i.id) there placed e
-    by false bare e = let k = ends_bind (try_change convert s) (upload_if i.id) u t e in inl (after_told bare k.0 k.1 k.2 k.3)
+    by false bare e = let k = ends_bind (try_change convert s) (upload_if i.id) u t e in inl (after_told bare none k.0 k.1 k.2 k.3)
 
   -- nothing but a mark is left to do
   mark_told : is_untargeted i ≡ false → stands_at_seen (items_now s) (book_now s) i ≡ true → is_dirty i ≡ false → EndsFairly (mark_item i.id s) u t → IsTold s t ⊎ IsSpared s i t
@@ -193,7 +197,7 @@ module _ (s : State) (h : Invariant s) (fair : IsFair s.link) (listening : IsLis
     two true stands aimed e = three (is_dirty i) refl aimed stands e
 
     by : (b : Bool) → is_untargeted i ≡ b → EndsFairly (choose b (upload_new i) (choose (not (stands_at_seen (items_now s) (book_now s) i)) (push_item MoveItem i) (choose (is_dirty i) (upload i) (mark_item i.id))) s) u t → IsTold s t ⊎ IsSpared s i t
-    by true bare e = new_told e
+    by true bare e = new_told (eqb-true (target_of i).0 0 bare) e
     by false aimed e = two (stands_at_seen (items_now s) (book_now s) i) refl aimed e
 
 -- no upload of an item that is not left out is on its way

@@ -10,9 +10,9 @@ use Rattle.cf_model.specs.Items.{Item}
 use Rattle.cf_model.specs.Logs.{items_of}
 use Rattle.cf_model.specs.State.{Link, Point, State, Volume}
 use Rattle.cf_model.specs.Store.{Held, RecordedDone, Stored, recorded_at, stored_at}
-use Rattle.cf_model_laws.specs.Invariant.{All, AreApart, DidBy, HasBase}
+use Rattle.cf_model_laws.specs.Invariant.{All, AreApart, DidBy, HasBase, NamesTarget}
 use Rattle.cf_model_laws.specs.Premises.{IsFair}
-use Rattle.cf_model_convergence.specs.Resting.{IsTargetRight}
+use Rattle.cf_model_convergence.specs.Resting.{AreTargetsApart, IsTargetRight}
 
 -- of the remote, the items and the book
 abbrev pub Fact : Type 1
@@ -39,6 +39,14 @@ IsTargetedWell r i = ((target_of i).0 ≡ 0) ⊎ ((s : Stored) × (stored_at r.i
 
 abbrev pub AreTargetsRight : Fact
 AreTargetsRight r items b = All (λ i. (i.id.0 ≡ 1 → ⊥) → IsTargetedWell r i) items
+
+-- no two items have one target
+abbrev pub AreTargetsAlone : Fact
+AreTargetsAlone r items b = AreTargetsApart items
+
+-- The upload of an item that is here names the item's target; that of a new file is of an item with none.
+abbrev pub AreUploadsNamed : Fact
+AreUploadsNamed r items b = All (NamesTarget items) b.entries
 
 -- A base is a version that the remote made, or there is none.
 abbrev pub AreBasesMade : Fact

@@ -8,7 +8,7 @@ ghost use Rattle.cf_model.specs.Lawful.{Runs};
 ghost use Rattle.cf_model.specs.State.{State, start};
 ghost use Rattle.cf_model.specs.Store.{Held};
 ghost use Rattle.cf_model_laws.specs.Premises.{IsFresh};
-ghost use Rattle.cf_model_convergence.specs.Lasting.{AreBasesMade, AreTargetsRight, AreUploadsApart, AreUploadsDone, HoldsIn, IsCursorEarly};
+ghost use Rattle.cf_model_convergence.specs.Lasting.{AreBasesMade, AreTargetsAlone, AreTargetsRight, AreUploadsApart, AreUploadsDone, AreUploadsNamed, HoldsIn, IsCursorEarly};
 
 /// In each state of a run the cursor is a time that the remote has had, and so it is in the book of each point that a restart may
 /// open.
@@ -21,6 +21,18 @@ pub fn a_cursor_is_never_late()
 #[tactic(auto, using(crate::proofs::RightTargets::targets_right))]
 pub fn a_target_is_of_its_items_kind()
     ensures { (remote : Held) (clusters : ℕ) (trace : List (Event × Answer)) (s : State) → Runs mode.Replay (start mode.Replay remote clusters) trace s → IsFresh remote → HoldsIn AreTargetsRight s }
+{}
+
+/// No two items have one target: one item of the remote is at most one item here.
+#[tactic(auto, using(crate::proofs::ApartTargets::targets_alone))]
+pub fn no_two_items_have_one_target()
+    ensures { (remote : Held) (clusters : ℕ) (trace : List (Event × Answer)) (s : State) → Runs mode.Replay (start mode.Replay remote clusters) trace s → IsFresh remote → HoldsIn AreTargetsAlone s }
+{}
+
+/// The upload of an item that is here names the item's target. That of a new file is of an item with no target.
+#[tactic(auto, using(crate::proofs::RightTargets::uploads_named))]
+pub fn an_upload_names_its_items_target()
+    ensures { (remote : Held) (clusters : ℕ) (trace : List (Event × Answer)) (s : State) → Runs mode.Replay (start mode.Replay remote clusters) trace s → IsFresh remote → HoldsIn AreUploadsNamed s }
 {}
 
 /// The base of an item is a version that the remote made, or there is none; and no two uploads on their way are about one item.

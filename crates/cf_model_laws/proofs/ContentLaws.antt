@@ -67,7 +67,7 @@ root_right : (r : Held) → IsRight r (usn_after 1 0) root
 root_right r = record { based = inl refl; aimed = inl refl; rises = tt; last = tt; early = refl; clean = λ e. refl; bare = λ e. (refl, refl); plain = λ e. no_way_back e; top = λ e. refl }
 
 first_durable : (r : Held) → IsDurable r [] 1 0 (usn_after 1 0) 2 (root ∷ []) []
-first_durable r = record { contents = ((λ e. no_way_back e), tt); right = (root_right r, tt); order = (low, high); more = two; fit = tt; given = tt; asked = tt; apart = tt; made = record { there = tt; unknown = (tt, tt); named = tt; apart = tt } } where
+first_durable r = record { contents = ((λ e. no_way_back e), tt); right = (root_right r, tt); order = (low, high); more = two; fit = tt; given = tt; asked = tt; apart = tt; made = record { there = tt; unknown = (tt, tt); named = tt; apart = tt }; targets = tt } where
   low : 0 < 1
   low = omega arith
 

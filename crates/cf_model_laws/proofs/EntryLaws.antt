@@ -1,7 +1,7 @@
 -- What entries of the remote give: identities that name well.
-use Rattle.std.proofs.Common.{◌≡◌, ◌⊎◌, ◌<◌, ◌≤◌, ◌+◌, ◌*◌, ◌/◌, ◌%◌, ℕ, Bool, true, false, List, [], refl, sym, ◌∙◌, ap, subst, inl, inr, arith, length}
+use Rattle.std.proofs.Common.{◌≡◌, ◌⊎◌, ◌<◌, ◌≤◌, ◌+◌, ◌*◌, ◌/◌, ◌%◌, ℕ, Bool, true, false, List, [], ◌∷◌, refl, sym, ◌∙◌, ap, subst, inl, inr, arith, length, eq-eqb}
 use Rattle.std.proofs.lemmas.Bool.{eqb-true}
-use Rattle.std.specs.Prelude.{Option, Some, cond, ◌==◌, take, unwrap_or}
+use Rattle.std.specs.Prelude.{Option, Some, None, cond, filter, is_some, not, ◌==◌, ◌&&◌, ◌||◌, take, unwrap_or}
 use Rattle.cf_base.specs.declared.ids.Rid.{Rid}
 use Rattle.cf_base.specs.declared.ids.Version.{Version}
 use Rattle.cf_base.specs.declared.items.Kind.TheVariants as kind
@@ -10,17 +10,21 @@ use Rattle.cf_base.specs.declared.policies.Policy.{Policy}
 use Rattle.cf_model.specs.Contents.{base_named}
 use Rattle.cf_model.specs.Effects.{is_directory, is_placeholder, size_made}
 use Rattle.cf_model.specs.Growth.{IsCounted}
-use Rattle.cf_model.specs.Identities.{entry_identity, identity_for, identity_of, no_identity}
+use Rattle.cf_model.specs.Identities.{by_target, entry_identity, identity_for, identity_of, no_identity}
 use Rattle.cf_model.specs.Feeds.{kind_of_entry}
-use Rattle.cf_model.specs.Fetching.{new_item_of}
+use Rattle.cf_model.specs.Fetching.{is_new, new_item_of}
+use Rattle.cf_model.specs.Fits.{are_distinct, has_rid}
+use Rattle.cf_model.specs.Items.{Item}
 use Rattle.cf_model.specs.Numbers.{no_rid, no_version}
 use Rattle.cf_model.specs.Operations.{entry_kind}
 use Rattle.cf_model.specs.Plans.{is_full_population, placeholder_dir}
 use Rattle.cf_model.specs.Store.{Held, bytes_of}
 use Rattle.cf_model.specs.Words.{in_bytes, number_of}
-use Rattle.cf_model_laws.specs.Fitting.{NamesWell}
-use Rattle.cf_model_laws.specs.Invariant.{HasBase, HasEntry, HasNone, IsAimed, IsOfKind, rid_in, target_in, version_in}
+use Rattle.cf_model_laws.specs.Fitting.{IsUnaimed, NamesWell}
+use Rattle.cf_model_laws.specs.Invariant.{All, HasBase, HasEntry, HasNone, IsAimed, IsOfKind, rid_in, target_in, version_in}
 use Rattle.cf_model_laws.specs.Premises.{IsSmall}
+use Rattle.cf_model_laws.proofs.AimedTargets.{AreOthers, named_in, unaimed_unfound}
+use Rattle.cf_model_laws.proofs.Gathered.{all_filter}
 use Rattle.cf_model_laws.proofs.OperationsGuarded.{NewFits}
 use Rattle.cf_model_laws.proofs.RemoteSteps.{kind_under}
 use Rattle.cf_model_laws.proofs.RightItems.{no_way, no_way_back, none_named}
@@ -146,3 +150,42 @@ make_fits r p e small h low = by e.dir refl where
   by : (d : Bool) → e.dir ≡ d → (length (base_named r (entry_identity e)) ≡ size_made (cond d (placeholder_dir p) kind.PlaceholderFile) (cond d 0 e.len)) × NamesWell r (is_directory (cond d (placeholder_dir p) kind.PlaceholderFile)) (is_placeholder (cond d (placeholder_dir p) kind.PlaceholderFile)) (entry_identity e)
   by true q = dir_kind r (entry_identity e) (is_full_population p.population) 0 (dir_wants r e small h low q)
   by false q = file_wants r e small h low q
+
+pub entry_small : (r : Held) (e : Entry) → IsSmall r → HasEntry r e → e.rid.0 < 18446744073709551616
+entry_small r e small h = below e.rid.0 (length r.items) h.1 small.0
+
+pub entry_target_in : (e : Entry) → e.rid.0 < 18446744073709551616 → ◌≡◌ {A = Rid} (target_in (entry_identity e)) e.rid
+entry_target_in e h = ap rid_at (entry_target e h)
+
+-- The new entries of a listing are of no item that is here, and no two are of one.
+pub others_told : (r : Held) (items : List Item) (es : List Entry) → IsSmall r → All (HasEntry r) es → are_distinct es ≡ true → AreOthers items (filter (is_new items) es)
+others_told r items [] small has apart = tt
+others_told r items (e ∷ es) small has apart = by (by_target items e.rid) refl (others_told r items es small has.1 (right (not (has_rid e.rid es)) (are_distinct es) apart)) where
+  right : (a b : Bool) → (a && b) ≡ true → b ≡ true
+  right true b z = z
+  right false b z = no_way z
+
+  left : (a b : Bool) → (not a && b) ≡ true → a ≡ false
+  left true b z = no_way z
+  left false b z = refl
+
+  same : named_in e ≡ e.rid
+  same = entry_target_in e (entry_small r e small has.0)
+
+  differ : (es : List Entry) → All (HasEntry r) es → has_rid e.rid es ≡ false → All (λ d. (named_in e).0 ≡ (named_in d).0 → (named_in d).0 ≡ 0) es
+  differ [] k z = tt
+  differ (d ∷ ds) k z = one (d.rid.0 == e.rid.0) refl z (differ ds k.1) where
+    one : (b : Bool) → (d.rid.0 == e.rid.0) ≡ b → (b || has_rid e.rid ds) ≡ false → (has_rid e.rid ds ≡ false → All (λ g. (named_in e).0 ≡ (named_in g).0 → (named_in g).0 ≡ 0) ds) → All (λ g. (named_in e).0 ≡ (named_in g).0 → (named_in g).0 ≡ 0) (d ∷ ds)
+    one true q z more = no_way_back z
+    one false q z more = (
+      λ y. no_way (sym q ∙ eq-eqb d.rid.0 e.rid.0 (ap (λ (x : Rid). x.0) (sym (entry_target_in d (entry_small r d small k.0))) ∙ sym y ∙ ap (λ (x : Rid). x.0) same)),
+      more z,
+    )
+
+  by : (o : Option Item) → by_target items e.rid ≡ o → AreOthers items (filter (is_new items) es) → AreOthers items (cond (not (is_some o)) (e ∷ filter (is_new items) es) (filter (is_new items) es))
+  by (Some i) f k = k
+  by None f k = (
+    subst (IsUnaimed items) (sym same) (unaimed_unfound items e.rid f),
+    all_filter (λ d. (named_in e).0 ≡ (named_in d).0 → (named_in d).0 ≡ 0) (is_new items) es (differ es has.1 (left (has_rid e.rid es) (are_distinct es) apart)),
+    k,
+  )

@@ -9,19 +9,18 @@ use Rattle.cf_base.specs.declared.changes.Change.TheVariants as change
 use Rattle.cf_base.specs.declared.codes.Code.{Code}
 use Rattle.cf_base.specs.declared.ids.ItemId.{ItemId}
 use Rattle.cf_base.specs.declared.ids.Rid.{Rid}
-use Rattle.cf_base.specs.declared.ids.Usn.{Usn}
 use Rattle.cf_base.specs.declared.items.SeenPath.{SeenPath}
 use Rattle.cf_base.specs.declared.messages.Entry.{Entry}
 use Rattle.cf_base.specs.declared.notices.Notice.TheVariants as notice
-use Rattle.cf_model.specs.Arrows.{Arrow, Preserves, and_then, choose, only_if, when_ok}
+use Rattle.cf_model.specs.Arrows.{Arrow, and_then, choose, only_if, when_ok}
 use Rattle.cf_model.specs.Books.{QueueEntry, book_after, with_seen}
 use Rattle.cf_model.specs.Changes.{change as put, next_number, put_with_book, same_book}
 use Rattle.cf_model.specs.Contents.{base_named}
 use Rattle.cf_model.specs.Dehydration.{in_use as is_used}
-use Rattle.cf_model.specs.Effects.{effect, made, untargeted}
+use Rattle.cf_model.specs.Effects.{effect, made, untargeted, converted}
 use Rattle.cf_model.specs.ConflictNames.{conflict_name}
 use Rattle.cf_model.specs.Feeds.{adopt, copy_off, gone, gone_unless, has_child, is_adoptable, is_newer, is_removable, kind_of_entry, make_after, make_entry, make_of, new_entry, new_over, remove_or_untarget, seen_entry, take_over, taken, turn, untarget}
-use Rattle.cf_model.specs.Identities.{base_version, entry_identity, identity_of, is_untargeted, no_identity}
+use Rattle.cf_model.specs.Identities.{base_version, entry_identity, identity_of, is_untargeted, no_identity, target_of}
 use Rattle.cf_model.specs.Items.{Item, base_of, is_dirty, item_of, pin_of}
 use Rattle.cf_model.specs.Logs.{next_by}
 use Rattle.cf_model.specs.LookUp.{child_of, children, is_child_named}
@@ -36,10 +35,10 @@ use Rattle.cf_model.specs.Store.{Held}
 use Rattle.cf_model.specs.Trees.{Keeps}
 use Rattle.cf_model.specs.Words.{is_empty, number_of, same}
 use Rattle.cf_model.proofs.TreeLaws.{keeps_bind, keeps_mapped}
-use Rattle.cf_model_laws.specs.Fitting.{Fits, IsCopied, IsVacant, NamesWell, NoEntry, NoMove, AimsFree}
-use Rattle.cf_model_laws.specs.Invariant.{HasEntry, InOrder, IsRight, SameBase, version_in, waits_on, IsUnmade, target_in}
+use Rattle.cf_model_laws.specs.Fitting.{Fits, IsCopied, IsVacant, NamesWell, NoEntry, NoMove, AimsFree, IsUnaimed, Meets}
+use Rattle.cf_model_laws.specs.Invariant.{HasEntry, InOrder, IsRight, SameBase, waits_on, IsUnmade, target_in}
 use Rattle.cf_model_laws.specs.Premises.{IsFair}
-use Rattle.cf_model_laws.proofs.EntryLaws.{dir_identity, dir_none, entry_dir_well, file_wants, make_fits, none_none}
+use Rattle.cf_model_laws.proofs.EntryLaws.{dir_identity, dir_none, entry_dir_well, file_wants, make_fits, none_none, entry_small, entry_target_in, target_read}
 use Rattle.cf_model_laws.proofs.FitEntries.{kind_stays}
 use Rattle.cf_model_laws.proofs.FitItems.{each_changed}
 use Rattle.cf_model_laws.proofs.FoundItems.{both, found_again, found_new, same_self, target_at, target_more, target_stays}
@@ -52,6 +51,8 @@ use Rattle.cf_model_laws.proofs.SkipsGuarded.{Framing, IsUnmoved, Led, Skipping,
 use Rattle.cf_model_laws.proofs.SoundChanges.{same_entries}
 use Rattle.cf_model_laws.proofs.SoundFilters.{change_leads}
 use Rattle.cf_model_laws.proofs.SoundSettles.{each_found, found_below, left_true, not_true, right_true, same_item}
+use Rattle.cf_model_laws.proofs.AimedTargets.{HasTarget, converted_target, each_copied, unaimed_kept, unaimed_none}
+use Rattle.cf_model_laws.proofs.MoveChanges.{IsMove, UnaimedAt, is_move, unaimed_frame}
 
 -- What a feed leaves as it is: the link, the waits and asks, the handles, and the uploads on their way.
 pub record Feeding (l : Link) (w : Filter) (es : List QueueEntry) (s : State) : Type 0 where
@@ -107,6 +108,9 @@ unmoved l w es P feeds item s h fair i e = subst (λ (qs : List QueueEntry). NoM
 pub none_made : (l : Link) (w : Filter) (es : List QueueEntry) (P : State → Type 0) → Feeds l w es P → (identity : List ℕ) (s : State) → P s → IsFair s.link → AimsFree s.link.remote s.filter.volume.book.entries identity
 none_made l w es P feeds identity s h fair = inr (subst (λ (qs : List QueueEntry). IsUnmade s.link.remote qs (target_in identity)) (sym ((feeds.fed s h).entries ∙ feeds.none (fair_now l w es s (feeds.fed s h) fair))) tt)
 
+pub no_entry : (l : Link) (w : Filter) (es : List QueueEntry) (P : State → Type 0) → Feeds l w es P → (item : ItemId) (s : State) → P s → IsFair s.link → NoEntry (book_now s).entries item
+no_entry l w es P feeds item s h fair = subst (λ (qs : List QueueEntry). NoEntry qs item) (sym ((feeds.fed s h).entries ∙ feeds.none (fair_now l w es s (feeds.fed s h) fair))) tt
+
 -- a path seen after another change than a Mark, and then a Mark
 seen_and_marked : (l : Link) (w : Filter) (es : List QueueEntry) (P : State → Type 0) → Feeds l w es P → (p : SeenPath) (s : State) → (IsFair s.link → KeepsPlaced (with_seen p) s) → P s → Keeps P (and_then (try_seen p) (try_mark_now p.item) s)
 seen_and_marked l w es P feeds p s placed h =
@@ -143,7 +147,7 @@ untarget_fits l w es P feeds i s h same fair = (
         (items_now s) (same fair) (right_now P feeds.steps s h fair i.id),
     inl (refl, each_weaker i.id (λ j. j.identity ≡ i.identity) (λ j. SameBase (untargeted i.identity) j.identity) (λ j e. subst (λ (x : List ℕ). SameBase (untargeted i.identity) x) (sym e) (untargeted_same i.identity)) (items_now s) (same fair)),
   ),
-  inl (no_target i.identity),
+  (inl (no_target i.identity), inr (no_entry l w es P feeds i.id s h fair, unaimed_none (items_now s) (target_in (untargeted i.identity)) (no_target i.identity))),
 )
 
 untarget_at : (l : Link) (w : Filter) (es : List QueueEntry) (P : State → Type 0) → Feeds l w es P → (i : Item) (s : State) → P s → (IsFair s.link → item_of (items_now s) i.id ≡ Some i) → Keeps P (untarget i s)
@@ -179,32 +183,6 @@ gone_at l w es P feeds i s h there = by (in_use s i.id) refl where
   by true q = h
   by false q = turn_at P (λ t. remove_or_untarget i (is_removable t i) t) s (steps (is_removable s i) refl q)
 
--- moves
-
-abbrev pub IsMove : Change → Type 0
-IsMove (change.Move item parent name) = Unit {0}
-IsMove _ = ⊥
-
-is_move : (c : Change) → IsMove c → (item : ItemId) × (parent : ItemId) × (name : List ℕ) × (c ≡ change.Move item parent name)
-is_move (change.Make item parent name kind size identity) ok = absurd ok
-is_move (change.Remove item) ok = absurd ok
-is_move (change.Move item parent name) ok = (item, parent, name, refl)
-is_move (change.Write item at bytes) ok = absurd ok
-is_move (change.Size item size) ok = absurd ok
-is_move (change.Filled item start bytes) ok = absurd ok
-is_move (change.Validated item start len) ok = absurd ok
-is_move (change.Emptied item start len) ok = absurd ok
-is_move (change.SetPin item pin) ok = absurd ok
-is_move (change.Mark item number) ok = absurd ok
-is_move (change.Clear item) ok = absurd ok
-is_move (change.Convert item identity) ok = absurd ok
-is_move (change.Revert item) ok = absurd ok
-is_move (change.Rebase item identity len number) ok = absurd ok
-is_move (change.Take item identity size) ok = absurd ok
-is_move (change.Copy item from parent name) ok = absurd ok
-is_move (change.Populated item) ok = absurd ok
-is_move (change.Keep item on) ok = absurd ok
-
 -- New
 
 -- that the items of an id are of a kind stays so
@@ -221,16 +199,10 @@ abbrev DirsAt : ItemId → State → Type 0
 DirsAt id t = IsFair t.link → (id.0 < t.filter.volume.next_item.0) × Each id (λ j. j.directory ≡ true) (items_now t)
 
 -- a local directory that becomes the one of an entry
-adopt_in : (l : Link) (w : Filter) (es : List QueueEntry) (P : State → Type 0) → Feeds l w es P → (e : Entry) (i : Item) → IsTold l e → e.dir ≡ true → ((s : State) → P s → DirsAt i.id s) → Preserves P (adopt e i)
-adopt_in l w es P feeds e i told dir dirs = record {
-  keeps = λ s h.
-      and_then_keeps P (only_if (not i.placeholder) (try_change (change.Convert i.id no_identity))) (and_then (try_change (change.Rebase i.id (entry_identity e) 0 no_usn)) (and_then (try_seen (seen_entry i.id e)) (try_mark_now i.id))) s
-      (only_if_at P (not i.placeholder) (try_change (change.Convert i.id no_identity)) s h (λ _. try_change_at Whichever P feeds.steps (change.Convert i.id no_identity) s tt (λ id k. k) (convert_fits s h) h))
-      (λ t j. and_then_at Whichever P feeds.steps (change.Rebase i.id (entry_identity e) 0 no_usn) (and_then (try_seen (seen_entry i.id e)) (try_mark_now i.id)) t tt (λ id k. k) (rebase_fits t j) j
-      (λ u k led. seen_and_marked l w es P feeds (seen_entry i.id e) u (λ fair item m. absurd (led_unnamed (change.Rebase i.id (entry_identity e) 0 no_usn) t u (λ z. z) led item m)) k));
-}
+adopt_in : (l : Link) (w : Filter) (es : List QueueEntry) (P : State → Type 0) → Feeds l w es P → (e : Entry) (i : Item) → IsTold l e → e.dir ≡ true → ((s : State) → P s → DirsAt i.id s) → (s : State) → (IsFair s.link → Each i.id (HasTarget 0) (items_now s)) → UnaimedAt e.rid s → P s → Keeps P (adopt e i s)
+adopt_in l w es P feeds e i told dir dirs s bare new h = by i.placeholder
   where
-    convert_fits : (t : State) → P t → IsFair t.link → Fits t.link.remote t.filter (change.Convert i.id no_identity)
+    convert_fits : (t : State) → P t → IsFair t.link → Meets t.link.remote t.filter (change.Convert i.id no_identity)
     convert_fits t j fair = (
       each_both i.id (λ k. k.directory ≡ true) (IsRight t.link.remote (next_number t.filter.volume)) (λ k. SameBase no_identity k.identity) (λ k d r. both_none no_identity k.identity none_none (r.bare d)) (items_now t) (dirs t j fair).1 (right_now P feeds.steps t j fair i.id),
       refl,
@@ -239,8 +211,8 @@ adopt_in l w es P feeds e i told dir dirs = record {
     told_at : (t : State) → P t → IsFair t.link → HasEntry t.link.remote e
     told_at t j fair = subst (λ (k : Link). HasEntry k.remote e) (sym (feeds.fed t j).link) (told.has (fair_now l w es t (feeds.fed t j) fair))
 
-    rebase_fits : (t : State) → P t → IsFair t.link → Fits t.link.remote t.filter (change.Rebase i.id (entry_identity e) 0 no_usn)
-    rebase_fits t j fair =
+    rebase_fits : (t : State) → P t → UnaimedAt e.rid t → IsFair t.link → Fits t.link.remote t.filter (change.Rebase i.id (entry_identity e) 0 no_usn)
+    rebase_fits t j new fair =
         subst (λ (x : List ℕ). Fits t.link.remote t.filter (change.Rebase i.id x 0 no_usn)) (sym (dir_identity e dir)) (
           (
             each_weaker i.id (λ k. k.directory ≡ true) (λ k. NamesWell t.link.remote k.directory k.placeholder (identity_of e.rid no_rid no_version)) (λ k d. subst (λ (b : Bool). NamesWell t.link.remote b k.placeholder (identity_of e.rid no_rid no_version)) (sym d) (entry_dir_well t.link.remote e k.placeholder fair.1 (told_at t j fair) told.low dir)) (items_now t) (dirs t j fair).1,
@@ -250,13 +222,28 @@ adopt_in l w es P feeds e i told dir dirs = record {
                   (λ k d r. both_none (identity_of e.rid no_rid no_version) k.identity (dir_none e.rid) (r.bare d)) (items_now t) (dirs t j fair).1 (right_now P feeds.steps t j fair i.id),
             ),
           ),
-          none_made l w es P feeds (identity_of e.rid no_rid no_version) t j fair,
+          (
+            none_made l w es P feeds (identity_of e.rid no_rid no_version) t j fair,
+            inr (no_entry l w es P feeds i.id t j fair, subst (λ (x : Rid). IsUnaimed (items_now t) x) (sym (target_read e.rid no_rid no_version (entry_small t.link.remote e fair.1 (told_at t j fair)))) (new fair)),
+          ),
         )
 
-adopt_at : (l : Link) (w : Filter) (es : List QueueEntry) (P : State → Type 0) → Feeds l w es P → (e : Entry) (i : Item) (s : State) → IsTold l e → e.dir ≡ true → i.directory ≡ true → P s → (IsFair s.link → item_of (items_now s) i.id ≡ Some i) → Keeps P (adopt e i s)
-adopt_at l w es P feeds e i s told dir local h there =
+    rest : (t : State) → P t → UnaimedAt e.rid t → Keeps P (and_then (try_change (change.Rebase i.id (entry_identity e) 0 no_usn)) (and_then (try_seen (seen_entry i.id e)) (try_mark_now i.id)) t)
+    rest t j new = and_then_at Whichever P feeds.steps (change.Rebase i.id (entry_identity e) 0 no_usn) (and_then (try_seen (seen_entry i.id e)) (try_mark_now i.id)) t tt (λ id k. k) (rebase_fits t j new) j
+        (λ u k led. seen_and_marked l w es P feeds (seen_entry i.id e) u (λ fair item m. absurd (led_unnamed (change.Rebase i.id (entry_identity e) 0 no_usn) t u (λ z. z) led item m)) k)
+
+    by : (b : Bool) → Keeps P (and_then (only_if (not b) (try_change (change.Convert i.id no_identity))) (and_then (try_change (change.Rebase i.id (entry_identity e) 0 no_usn)) (and_then (try_seen (seen_entry i.id e)) (try_mark_now i.id))) s)
+    by true = rest s h new
+    by false =
+        and_then_at Whichever P feeds.steps (change.Convert i.id no_identity) (and_then (try_change (change.Rebase i.id (entry_identity e) 0 no_usn)) (and_then (try_seen (seen_entry i.id e)) (try_mark_now i.id))) s tt (λ id k. k) (λ fair. (convert_fits s h fair, bare fair)) h
+        (λ t j led. rest t j (λ fair. subst (λ (is : List Item). IsUnaimed is e.rid) (sym led.after.items)
+        (unaimed_kept e.rid i.id _ (items_now s) (each_weaker i.id (HasTarget 0) (λ k. (target_of (converted no_identity (next_number s.filter.volume) k)).0 ≡ (target_of k).0) (λ k z. converted_target (next_number s.filter.volume) k z) (items_now s) (bare (subst IsFair led.link fair))) (new (subst IsFair led.link fair)))))
+
+adopt_at : (l : Link) (w : Filter) (es : List QueueEntry) (P : State → Type 0) → Feeds l w es P → (e : Entry) (i : Item) (s : State) → IsTold l e → e.dir ≡ true → i.directory ≡ true → (target_of i).0 ≡ 0 → UnaimedAt e.rid s → P s → (IsFair s.link → item_of (items_now s) i.id ≡ Some i) → Keeps P (adopt e i s)
+adopt_at l w es P feeds e i s told dir local bare new h there =
     keeps_first P (DirsAt i.id) (adopt e i s)
-    ((adopt_in l w es (λ t. P t × DirsAt i.id t) (feeds_framed l w es P (DirsAt i.id) feeds (kinds_frame i.id (λ d p. d ≡ true) (λ d p k. k))) e i told dir (λ t k. k.1)).keeps s
+    (adopt_in l w es (λ t. P t × DirsAt i.id t) (feeds_framed l w es P (DirsAt i.id) feeds (kinds_frame i.id (λ d p. d ≡ true) (λ d p k. k))) e i told dir (λ t k. k.1) s
+    (λ fair. each_found i.id (HasTarget 0) 0 s.filter.volume.next_item.0 (items_now s) i (feeds.steps.sound s h fair).now.order (there fair) bare) new
     (h, λ fair. (found_below i.id 0 s.filter.volume.next_item.0 (items_now s) i (feeds.steps.sound s h fair).now.order (there fair), each_found i.id (λ j. j.directory ≡ true) 0 s.filter.volume.next_item.0 (items_now s) i (feeds.steps.sound s h fair).now.order (there fair) local)))
 
 -- the parent of an entry's item
@@ -279,53 +266,43 @@ made_stands e p s t led order some parent =
       both ((target_at (items_now s ++ new ∷ []) p.id).0 == e.parent.0) (same e.name e.name) (eq-eqb (target_at (items_now s ++ new ∷ []) p.id).0 e.parent.0 (target_more (items_now s) new p.id e.parent some parent)) (same_self e.name),
     )
 
-make_after_at : (l : Link) (w : Filter) (es : List QueueEntry) (P : State → Type 0) → Feeds l w es P → (e : Entry) (p : Item) (s : State) → IsTold l e → nat_lt 0 e.parent.0 ≡ true → ParentAt p.id e.parent s → P s → Keeps P (make_after e p s)
-make_after_at l w es P feeds e p s told some parent h =
+make_after_at : (l : Link) (w : Filter) (es : List QueueEntry) (P : State → Type 0) → Feeds l w es P → (e : Entry) (p : Item) (s : State) → IsTold l e → nat_lt 0 e.parent.0 ≡ true → ParentAt p.id e.parent s → UnaimedAt e.rid s → P s → Keeps P (make_after e p s)
+make_after_at l w es P feeds e p s told some parent new h =
     and_then_at Whichever P feeds.steps (make_of s e p) (and_then (try_seen (seen_entry s.filter.volume.next_item e)) (try_mark_now s.filter.volume.next_item)) s tt (λ id k. k)
-    (λ fair. let m = make_fits s.link.remote s.filter.policy e fair.1 (subst (λ (k : Link). HasEntry k.remote e) (sym (feeds.fed s h).link) (told.has (fair_now l w es s (feeds.fed s h) fair))) told.low in ((refl, m.0, m.1), none_made l w es P feeds (entry_identity e) s h fair)) h
+    (λ fair. let has : HasEntry s.link.remote e = subst (λ (k : Link). HasEntry k.remote e) (sym (feeds.fed s h).link) (told.has (fair_now l w es s (feeds.fed s h) fair)) in
+    let m = make_fits s.link.remote s.filter.policy e fair.1 has told.low in
+    ((refl, m.0, m.1), (none_made l w es P feeds (entry_identity e) s h fair, subst (λ (x : Rid). IsUnaimed (items_now s) x) (sym (entry_target_in e (entry_small s.link.remote e fair.1 has))) (new fair)))) h
     (λ t j led. seen_and_marked l w es P feeds (seen_entry s.filter.volume.next_item e) t
     (λ fair item m. sees_still (seen_entry s.filter.volume.next_item e) (items_now t) (book_now t) item
     (λ own. subst (λ (x : ItemId). StandsAtPath (items_now t) x (seen_entry s.filter.volume.next_item e)) (same_item s.filter.volume.next_item item (eqb-true s.filter.volume.next_item.0 item.0 own)) (stands t led (subst IsFair led.link fair)))) j) where
       stands : (t : State) → Led (make_of s e p) s t → IsFair s.link → StandsAtPath (items_now t) s.filter.volume.next_item (seen_entry s.filter.volume.next_item e)
       stands t led fair = made_stands e p s t led (feeds.steps.sound s h fair).now.order some (parent fair)
 
-make_entry_at : (l : Link) (w : Filter) (es : List QueueEntry) (P : State → Type 0) → Feeds l w es P → (e : Entry) (p : Item) (s : State) → IsTold l e → nat_lt 0 e.parent.0 ≡ true → ParentAt p.id e.parent s → P s → Keeps P (make_entry e p s)
-make_entry_at l w es P feeds e p s told some parent h =
-    keeps_into P (λ t. P t × ParentAt p.id e.parent t) (λ t j. j.0) (try_clear_name p.id e.name no_item s) (when_ok false (make_after e p))
-    ((try_clear_name_keeps IsMove (λ t. P t × ParentAt p.id e.parent t) (framed IsMove P (ParentAt p.id e.parent) (fewer_changes P IsMove feeds.steps) (parent_frame p.id e.parent)) (λ a b c. tt) p.id e.name no_item).keeps s (h, parent))
+make_entry_at : (l : Link) (w : Filter) (es : List QueueEntry) (P : State → Type 0) → Feeds l w es P → (e : Entry) (p : Item) (s : State) → IsTold l e → nat_lt 0 e.parent.0 ≡ true → ParentAt p.id e.parent s → UnaimedAt e.rid s → P s → Keeps P (make_entry e p s)
+make_entry_at l w es P feeds e p s told some parent new h =
+    keeps_into P New (λ t j. j.0.0) (try_clear_name p.id e.name no_item s) (when_ok false (make_after e p))
+    ((try_clear_name_keeps IsMove New (framed IsMove (λ t. P t × ParentAt p.id e.parent t) (UnaimedAt e.rid) (framed IsMove P (ParentAt p.id e.parent) (fewer_changes P IsMove feeds.steps) (parent_frame p.id e.parent)) (unaimed_frame e.rid)) (λ a b c. tt) p.id e.name no_item).keeps s ((h, parent), new))
     (λ done t j. by done t j) where
-      by : (done : Bool) (t : State) → P t × ParentAt p.id e.parent t → Keeps P (when_ok false (make_after e p) done t)
-      by true t j = make_after_at l w es P feeds e p t told some j.1 j.0
-      by false t j = j.0
+      New : State → Type 0
+      New t = (P t × ParentAt p.id e.parent t) × UnaimedAt e.rid t
 
-pub new_at : (l : Link) (w : Filter) (es : List QueueEntry) (P : State → Type 0) → Feeds l w es P → (e : Entry) (p : Item) (s : State) → IsTold l e → nat_lt 0 e.parent.0 ≡ true → ParentAt p.id e.parent s → P s → Keeps P (new_entry e p s)
-new_at l w es P feeds e p s told some parent h = turn_at P (λ t. new_over e p (child_of (items_now t) p.id e.name) t) s (by (child_of (items_now s) p.id e.name) refl) where
+      by : (done : Bool) (t : State) → New t → Keeps P (when_ok false (make_after e p) done t)
+      by true t j = make_after_at l w es P feeds e p t told some j.0.1 j.1 j.0.0
+      by false t j = j.0.0
+
+pub new_at : (l : Link) (w : Filter) (es : List QueueEntry) (P : State → Type 0) → Feeds l w es P → (e : Entry) (p : Item) (s : State) → IsTold l e → nat_lt 0 e.parent.0 ≡ true → ParentAt p.id e.parent s → UnaimedAt e.rid s → P s → Keeps P (new_entry e p s)
+new_at l w es P feeds e p s told some parent new h = turn_at P (λ t. new_over e p (child_of (items_now t) p.id e.name) t) s (by (child_of (items_now s) p.id e.name) refl) where
   choice : (i : Item) → child_of (items_now s) p.id e.name ≡ Some i → (b : Bool) → is_adoptable e i ≡ b → Keeps P (choose b (adopt e i) (make_entry e p) s)
   choice i f true q =
       let a : (e.dir && i.directory) ≡ true = left_true (e.dir && i.directory) (is_untargeted i) q in
-      adopt_at l w es P feeds e i s told (left_true e.dir i.directory a) (right_true e.dir i.directory a) h (λ fair. found_again (is_child_named p.id e.name) 0 s.filter.volume.next_item.0 (items_now s) i (feeds.steps.sound s h fair).now.order f)
-  choice i f false q = make_entry_at l w es P feeds e p s told some parent h
+      adopt_at l w es P feeds e i s told (left_true e.dir i.directory a) (right_true e.dir i.directory a) (eqb-true (target_of i).0 0 (right_true (e.dir && i.directory) (is_untargeted i) q)) new h (λ fair. found_again (is_child_named p.id e.name) 0 s.filter.volume.next_item.0 (items_now s) i (feeds.steps.sound s h fair).now.order f)
+  choice i f false q = make_entry_at l w es P feeds e p s told some parent new h
 
   by : (o : Option Item) → child_of (items_now s) p.id e.name ≡ o → Keeps P (new_over e p o s)
-  by None f = make_entry_at l w es P feeds e p s told some parent h
+  by None f = make_entry_at l w es P feeds e p s told some parent new h
   by (Some i) f = choice i f (is_adoptable e i) refl
 
 -- Changed
-
--- what a move leaves of an item
-abbrev pub Alike : Item → Item → Type 0
-Alike i j = ((version_in j.identity).0 ≡ (version_in i.identity).0) × (j.directory ≡ i.directory) × (j.placeholder ≡ i.placeholder)
-
-pub alike_moved : (i : Item) (id : ItemId) (c : Change) (n : Usn) (items : List Item) → IsMove c → Each id (Alike i) items → Each id (Alike i) (effect items c n)
-alike_moved i id c n items ok h =
-    let m = is_move c ok in
-    subst (λ (d : Change). Each id (Alike i) (effect items d n)) (sym m.3) (each_changed id m.0 _ (λ j. Unit {0}) (Alike i) (Alike i) (λ j. refl) (λ j _ a. a) (λ j a. a) items (each_any m.0 (λ j. Unit {0}) (λ j. tt) items) h)
-
-abbrev pub AlikeAt : Item → ItemId → State → Type 0
-AlikeAt i id t = IsFair t.link → Each id (Alike i) (items_now t)
-
-pub alike_frame : (i : Item) (id : ItemId) → Framing IsMove (AlikeAt i id)
-alike_frame i id = item_frame IsMove (λ is next. Each id (Alike i) is) (λ s c n ok fit g. alike_moved i id c n (items_now s) ok g)
 
 abbrev FilesAt : ItemId → State → Type 0
 FilesAt id t = IsFair t.link → (id.0 < t.filter.volume.next_item.0) × Each id (λ j. (j.directory ≡ false) × (j.placeholder ≡ true)) (items_now t)
@@ -359,35 +336,42 @@ clean_writes (w ∷ ws) e = no_way_back e
 
 -- the newer version takes the place of the file's bytes
 take_in : (l : Link) (w : Filter) (es : List QueueEntry) (P : State → Type 0) → Feeds l w es P → (e : Entry) (i : Item) → IsTold l e → e.dir ≡ false → (IsFair l → waits_on i.id w.waiting.waits ≡ false) → (IsFair l → is_used i.id w ≡ false) → ((s : State) → P s → FilesAt i.id s)
-    → (s : State) → P s → (IsFair s.link → item_of (items_now s) i.id ≡ Some i) → Keeps P (and_then (only_if (is_dirty i) (copy_off i)) (try_change (change.Take i.id (entry_identity e) e.len)) s)
-take_in l w es P feeds e i told file free idle files s h there = by (is_dirty i) refl where
-  fits : (t : State) → P t → (IsFair t.link → Each i.id (λ k. k.writes ≡ []) (items_now t) ⊎ IsCopied t.filter.volume.log i.id) → IsFair t.link → Fits t.link.remote t.filter (change.Take i.id (entry_identity e) e.len)
-  fits t j clean fair =
+    → (s : State) → P s → (IsFair s.link → Each i.id (HasTarget e.rid.0) (items_now s)) → (IsFair s.link → item_of (items_now s) i.id ≡ Some i) → Keeps P (and_then (only_if (is_dirty i) (copy_off i)) (try_change (change.Take i.id (entry_identity e) e.len)) s)
+take_in l w es P feeds e i told file free idle files s h aimed there = by (is_dirty i) refl where
+  fits : (t : State) → P t → (IsFair t.link → Each i.id (HasTarget e.rid.0) (items_now t)) → (IsFair t.link → Each i.id (λ k. k.writes ≡ []) (items_now t) ⊎ IsCopied t.filter.volume.log i.id) → IsFair t.link → Fits t.link.remote t.filter (change.Take i.id (entry_identity e) e.len)
+  fits t j stays clean fair =
       let fair0 : IsFair l = fair_now l w es t (feeds.fed t j) fair in
-      let wants = file_wants t.link.remote e fair.1 (subst (λ (k : Link). HasEntry k.remote e) (sym (feeds.fed t j).link) (told.has fair0)) told.low file in (
+      let has : HasEntry t.link.remote e = subst (λ (k : Link). HasEntry k.remote e) (sym (feeds.fed t j).link) (told.has fair0) in
+      let wants = file_wants t.link.remote e fair.1 has told.low file in (
         (
           each_weaker i.id (λ k. (k.directory ≡ false) × (k.placeholder ≡ true)) (λ k. (length (base_named t.link.remote (entry_identity e)) ≡ e.len) × NamesWell t.link.remote k.directory k.placeholder (entry_identity e))
               (λ k d. (wants.0, subst (λ (b : Bool). NamesWell t.link.remote b k.placeholder (entry_identity e)) (sym d.0) (subst (λ (b : Bool). NamesWell t.link.remote false b (entry_identity e)) (sym d.1) wants.1))) (items_now t) (files t j fair).1,
-          subst (λ (qs : List QueueEntry). NoEntry qs i.id) (sym ((feeds.fed t j).entries ∙ feeds.none fair0)) tt,
+          no_entry l w es P feeds i.id t j fair,
           subst (λ (v : Waiting). waits_on i.id v.waits ≡ false) (sym (feeds.fed t j).waiting) (free fair0),
           clean fair,
           idle_later l w es i.id t (feeds.fed t j) (idle fair0),
         ),
-        none_made l w es P feeds (entry_identity e) t j fair,
+        (
+          none_made l w es P feeds (entry_identity e) t j fair,
+          inl (each_weaker i.id (HasTarget e.rid.0) (λ k. (target_of k).0 ≡ (target_in (entry_identity e)).0) (λ k z. z ∙ sym (ap (λ (x : Rid). x.0) (entry_target_in e (entry_small t.link.remote e fair.1 has)))) (items_now t) (stays fair)),
+        ),
       )
 
   by : (b : Bool) → is_dirty i ≡ b → Keeps P (and_then (only_if b (copy_off i)) (try_change (change.Take i.id (entry_identity e) e.len)) s)
   by true q =
       and_then_at Whichever P feeds.steps (change.Copy s.filter.volume.next_item i.id i.parent (conflict_name (items_now s) i.parent i.name)) (try_change (change.Take i.id (entry_identity e) e.len)) s tt (λ id k. k) (λ fair. refl) h
       (λ t j led. try_change_at Whichever P feeds.steps (change.Take i.id (entry_identity e) e.len) t tt (λ id k. k)
-      (fits t j (λ fair. inr (s.filter.volume.log, next_number s.filter.volume, s.filter.volume.next_item, i.parent, conflict_name (items_now s) i.parent i.name, led.after.log))) j)
+      (fits t j
+      (λ fair. let fair_s : IsFair s.link = subst IsFair led.link fair in
+      subst (Each i.id (HasTarget e.rid.0)) (sym led.after.items) (each_copied i.id (HasTarget e.rid.0) s.filter.volume.next_item i.parent _ _ _ _ (items_now s) s.filter.volume.next_item.0 refl (files s h fair_s).0 (aimed fair_s)))
+      (λ fair. inr (s.filter.volume.log, next_number s.filter.volume, s.filter.volume.next_item, i.parent, conflict_name (items_now s) i.parent i.name, led.after.log))) j)
   by false q =
       try_change_at Whichever P feeds.steps (change.Take i.id (entry_identity e) e.len) s tt (λ id k. k)
-      (fits s h (λ fair. inl (each_found i.id (λ k. k.writes ≡ []) 0 s.filter.volume.next_item.0 (items_now s) i (feeds.steps.sound s h fair).now.order (there fair) (clean_writes i.writes q)))) h
+      (fits s h aimed (λ fair. inl (each_found i.id (λ k. k.writes ≡ []) 0 s.filter.volume.next_item.0 (items_now s) i (feeds.steps.sound s h fair).now.order (there fair) (clean_writes i.writes q)))) h
 
 pub take_at : (l : Link) (w : Filter) (es : List QueueEntry) (P : State → Type 0) → Feeds l w es P → (e : Entry) (i : Item) (s : State) → IsTold l e → (is_newer i e ≡ true → IsFair l → waits_on i.id w.waiting.waits ≡ false) → (is_newer i e ≡ true → IsFair l → is_used i.id w ≡ false)
-    → (IsFair s.link → is_newer i e ≡ true → i.placeholder ≡ true) → (IsFair s.link → item_of (items_now s) i.id ≡ Some i) → P s → Keeps P (take_over e (Some i) s)
-take_at l w es P feeds e i s told free idle placed there h =
+    → (IsFair s.link → is_newer i e ≡ true → i.placeholder ≡ true) → (IsFair s.link → (target_of i).0 ≡ e.rid.0) → (IsFair s.link → item_of (items_now s) i.id ≡ Some i) → P s → Keeps P (take_over e (Some i) s)
+take_at l w es P feeds e i s told free idle placed aimed there h =
     only_if_at P (is_newer i e) (and_then (only_if (is_dirty i) (copy_off i)) (try_change (change.Take i.id (entry_identity e) e.len))) s h
     (λ q. keeps_first P (FilesAt i.id) (and_then (only_if (is_dirty i) (copy_off i)) (try_change (change.Take i.id (entry_identity e) e.len)) s)
     (take_in l w es (λ t. P t × FilesAt i.id t) (feeds_framed l w es P (FilesAt i.id) feeds (kinds_frame i.id (λ d p. (d ≡ false) × (p ≡ true)) (λ d p k. (k.0, refl)))) e i told (newer_told l e i told q) (free q) (idle q) (λ t k. k.1) s (
@@ -396,4 +380,4 @@ take_at l w es P feeds e i s told free idle placed there h =
         found_below i.id 0 s.filter.volume.next_item.0 (items_now s) i (feeds.steps.sound s h fair).now.order (there fair),
         each_found i.id (λ j. (j.directory ≡ false) × (j.placeholder ≡ true)) 0 s.filter.volume.next_item.0 (items_now s) i (feeds.steps.sound s h fair).now.order (there fair) (newer_file e i q, placed fair q),
       ),
-    ) there))
+    ) (λ fair. each_found i.id (HasTarget e.rid.0) 0 s.filter.volume.next_item.0 (items_now s) i (feeds.steps.sound s h fair).now.order (there fair) (aimed fair)) there))

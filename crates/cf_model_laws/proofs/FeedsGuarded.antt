@@ -35,7 +35,9 @@ use Rattle.cf_model_laws.proofs.RightItems.{no_way, no_way_back}
 use Rattle.cf_model_laws.proofs.SkipsGuarded.{Whichever, and_then_keeps, fewer_changes, framed, guarded_skipping, keeps_into, only_if_at, try_cursor_at, try_mark_now_at}
 use Rattle.cf_model_laws.proofs.SoundSettles.{each_found, left_true, right_true, same_item}
 use Rattle.cf_model_laws.proofs.FeedMovesGuarded.{here_ready, move_entry_at}
-use Rattle.cf_model_laws.proofs.FeedEntriesGuarded.{Feeding, feeding, Feeds, IsTold, fair_now, turn_at, gone_at, new_at, IsMove, unmoved, Alike, AlikeAt, alike_frame, newer_file, idle_first, take_at}
+use Rattle.cf_model_laws.proofs.FeedEntriesGuarded.{Feeding, feeding, Feeds, IsTold, fair_now, turn_at, gone_at, new_at, unmoved, newer_file, idle_first, take_at}
+use Rattle.cf_model_laws.proofs.MoveChanges.{IsMove, Alike, AlikeAt, alike_frame}
+use Rattle.cf_model_laws.proofs.AimedTargets.{unaimed_unfound}
 
 -- an item that is not in use is not waited for
 pub not_waited : (item : ItemId) (ws : List Wait) → All (λ v. same_key v.id.0 no_key ≡ false) ws → list_any (λ v. (v.item.0 == item.0) && not (same_key v.id.0 no_key)) ws ≡ false → waits_on item ws ≡ false
@@ -117,7 +119,8 @@ again_at l w es P feeds e i s t told idle target there h j alike = by (item_of (
   by : (o : Option Item) → item_of (items_now t) i.id ≡ o → Keeps P (take_over e o t)
   by None f = j
   by (Some k) f =
-      take_at l w es P feeds e k t told (free k f) (idle_at k f) (placed k f) (λ fair. subst (λ (x : ItemId). item_of (items_now t) x ≡ Some k) (sym (same_item k.id i.id (found_id i.id (items_now t) k f))) f) j
+      take_at l w es P feeds e k t told (free k f) (idle_at k f) (placed k f)
+      (λ fair. (each_at i.id (Alike i) (items_now t) k f (alike fair)).3 ∙ eqb-true (target_of i).0 e.rid.0 (right_true (nat_lt 0 e.rid.0) ((target_of i).0 == e.rid.0) target)) (λ fair. subst (λ (x : ItemId). item_of (items_now t) x ≡ Some k) (sym (same_item k.id i.id (found_id i.id (items_now t) k f))) f) j
 
 parent_target_of : (e : Entry) (p : Item) (items : List Item) → find (is_parent e) items ≡ Some p → has_target p e.parent ≡ true
 parent_target_of e p items up =
@@ -134,7 +137,7 @@ changed_at l w es P feeds e i p s told idle target there up h =
     (here_ready e i p s (λ fair. found_again (is_parent e) 0 s.filter.volume.next_item.0 (items_now s) p (feeds.steps.sound s h fair).now.order up) (parent_target_of e p (items_now s) up)) first)))
     (λ done t j. leads_kept P (when_ok false (and_then (take_entry e i.id) (try_mark_now i.id)) done t) (rest done t j.0 j.1))) where
       first : P s × AlikeAt i i.id s
-      first = (h, λ fair. each_found i.id (Alike i) 0 s.filter.volume.next_item.0 (items_now s) i (feeds.steps.sound s h fair).now.order (there fair) (refl, refl, refl))
+      first = (h, λ fair. each_found i.id (Alike i) 0 s.filter.volume.next_item.0 (items_now s) i (feeds.steps.sound s h fair).now.order (there fair) (refl, refl, refl, refl))
 
       rest : (done : Bool) (t : State) → P t → AlikeAt i i.id t → Keeps P (when_ok false (and_then (take_entry e i.id) (try_mark_now i.id)) done t)
       rest true t j a = and_then_keeps P (take_entry e i.id) (try_mark_now i.id) t (again_at l w es P feeds e i s t told idle target there h j a) (λ u k. try_mark_now_at Whichever P feeds.steps i.id u (λ n. tt) (unmoved l w es P feeds i.id u k) k)
@@ -150,14 +153,14 @@ changed_turn l w es P feeds e i p s told target there up h = by (is_newer i e &&
 
 take_turn_keeps : (l : Link) (w : Filter) (es : List QueueEntry) (P : State → Type 0) → Feeds l w es P → (e : Entry) → IsTold l e → Preserves P (take_turn e)
 take_turn_keeps l w es P feeds e told = record { keeps = λ s h. by s h (by_target (items_now s) e.rid) (parent_here s e) refl refl } where
-  fresh : (s : State) → P s → (b : Bool) (p : Option Item) → parent_here s e ≡ p → Keeps P (unknown b e p s)
-  fresh s h true (Some p) up =
+  fresh : (s : State) → P s → by_target (items_now s) e.rid ≡ None → (b : Bool) (p : Option Item) → parent_here s e ≡ p → Keeps P (unknown b e p s)
+  fresh s h f true (Some p) up =
       let target : has_target p e.parent ≡ true = parent_target_of e p (items_now s) up in
       new_at l w es P feeds e p s told (left_true (nat_lt 0 e.parent.0) ((target_of p).0 == e.parent.0) target)
       (λ fair. ap (λ (o : Option Item). (part target_of no_rid o).0) (found_again (is_parent e) 0 s.filter.volume.next_item.0 (items_now s) p (feeds.steps.sound s h fair).now.order up)
-      ∙ eqb-true (target_of p).0 e.parent.0 (right_true (nat_lt 0 e.parent.0) ((target_of p).0 == e.parent.0) target)) h
-  fresh s h true None up = h
-  fresh s h false p up = h
+      ∙ eqb-true (target_of p).0 e.parent.0 (right_true (nat_lt 0 e.parent.0) ((target_of p).0 == e.parent.0) target)) (λ fair. unaimed_unfound (items_now s) e.rid f) h
+  fresh s h f true None up = h
+  fresh s h f false p up = h
 
   old : (s : State) → P s → (i : Item) → by_target (items_now s) e.rid ≡ Some i → (b : Bool) (p : Option Item) → parent_here s e ≡ p → Keeps P (known b e i p s)
   old s h i f true (Some p) up = changed_turn l w es P feeds e i p s told (all_found (λ x. Unit {0}) (λ x. has_target x e.rid) (items_now s) i f (all_any (λ x. Unit {0}) (λ x. tt) (items_now s))).1 (λ fair. found_again (λ x. has_target x e.rid) 0 s.filter.volume.next_item.0 (items_now s) i (feeds.steps.sound s h fair).now.order f) up h
@@ -165,7 +168,7 @@ take_turn_keeps l w es P feeds e told = record { keeps = λ s h. by s h (by_targ
   old s h i f false p up = gone_at l w es P feeds i s h (λ fair. found_again (λ x. has_target x e.rid) 0 s.filter.volume.next_item.0 (items_now s) i (feeds.steps.sound s h fair).now.order f)
 
   by : (s : State) → P s → (o p : Option Item) → by_target (items_now s) e.rid ≡ o → parent_here s e ≡ p → Keeps P (turn_by e o p s)
-  by s h None p f up = fresh s h e.live p up
+  by s h None p f up = fresh s h f e.live p up
   by s h (Some i) p f up = old s h i f e.live p up
 
 -- the turns, and the entries that come again

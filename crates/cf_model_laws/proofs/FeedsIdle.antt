@@ -44,7 +44,8 @@ use Rattle.cf_model_laws.specs.Premises.{IsFair, IsFresh}
 use Rattle.cf_model_laws.specs.Uses.{AreIdsRising, AreReplacedIdle, Replaces}
 use Rattle.cf_model_laws.proofs.ContentLaws.{keeps_weaker, run_sound, sound_whole}
 use Rattle.cf_model_laws.proofs.EventsGuarded.{event_now_keeps}
-use Rattle.cf_model_laws.proofs.FeedEntriesGuarded.{Alike, alike_moved, turn_at}
+use Rattle.cf_model_laws.proofs.FeedEntriesGuarded.{turn_at}
+use Rattle.cf_model_laws.proofs.MoveChanges.{Alike, alike_moved}
 use Rattle.cf_model_laws.proofs.FeedsGuarded.{and_false_right, newer_alike}
 use Rattle.cf_model_laws.proofs.FitItems.{order_append, order_changed, order_filter}
 use Rattle.cf_model_laws.proofs.FoundItems.{found_again, found_id}
@@ -274,7 +275,7 @@ calm_changed w e i p s idle there h =
     (only_if_at (Calm w (Each i.id (Alike i))) (not (is_seen_so s i e)) (move_entry e i p) s first (λ _. calm_moves w (Each i.id (Alike i)) (λ item parent name items n g. alike_moved i i.id (change.Move item parent name) n items tt g) e i p s first))
     (λ done t j. rest done t j) where
       first : Calm w (Each i.id (Alike i)) s
-      first = with_items w Whatever (Each i.id (Alike i)) s (each_found i.id (Alike i) 0 s.filter.volume.next_item.0 (items_now s) i h.order there (refl, refl, refl)) h
+      first = with_items w Whatever (Each i.id (Alike i)) s (each_found i.id (Alike i) 0 s.filter.volume.next_item.0 (items_now s) i h.order there (refl, refl, refl, refl)) h
 
       free : (t : State) → Calm w (Each i.id (Alike i)) t → (k : Item) → item_of (items_now t) i.id ≡ Some k → is_newer k e ≡ true → is_used k.id w.filter ≡ false
       free t j k f q = idle_now w Whatever s i.id k.id h (and_false_right (is_newer i e) (in_use s i.id) idle (newer_alike i k e (each_at i.id (Alike i) (items_now t) k f j.items) q)) (sym (found_id i.id (items_now t) k f))

@@ -30,13 +30,14 @@ use Rattle.cf_model.specs.Trees.{Keeps}
 use Rattle.cf_model.proofs.TreeLaws.{keeps_bind, keeps_mapped}
 use Rattle.cf_model_laws.specs.Invariant.{All, HasEntry}
 use Rattle.cf_model_laws.specs.Premises.{IsFair}
-use Rattle.cf_model_laws.proofs.EntryLaws.{new_fits}
+use Rattle.cf_model_laws.proofs.EntryLaws.{new_fits, others_told}
 use Rattle.cf_model_laws.proofs.Gathered.{all_filter, all_both}
 use Rattle.cf_model_laws.proofs.OperationsGuarded.{NewFits}
 use Rattle.cf_model_laws.proofs.SkipsGuarded.{seen_below}
 use Rattle.cf_model_laws.proofs.SoundChanges.{KeepsEntries}
 use Rattle.cf_model.specs.PushReplies.{is_new_entry}
 use Rattle.std.specs.List.{list_any}
+use Rattle.cf_model.specs.Fits.{are_distinct}
 
 -- a part of the filter in the whole
 pub in_filter_at : (P : State → Type 0) (f : Arrow Filter Shown) (s : State) → Keeps (λ x. P (with_filter x s)) (f s.filter) → Keeps P (in_filter f s)
@@ -116,11 +117,11 @@ seen_from_cursor : (id : ℕ) (es : List Entry) → KeepsCursor (with_seen_from 
 seen_from_cursor id [] b = refl
 seen_from_cursor id (e ∷ es) b = seen_from_cursor (id + 1) es (with_seen (record { item = record { 0 = id }; parent = e.parent; name = e.name }) b)
 
-pub take_listing_at : (P : State → Type 0) → Guarded P → (key : Key) (es : List Entry) (s : State) → (IsFair s.link → All (HasEntry s.link.remote) es) → All (λ e. e.rid.0 ≡ 1 → ⊥) es → (IsFair s.link → list_any is_new_entry (book_now s).entries ≡ false) → P s → Keeps P (take_listing key es s)
-take_listing_at P closed key es s has low old h =
+pub take_listing_at : (P : State → Type 0) → Guarded P → (key : Key) (es : List Entry) (s : State) → (IsFair s.link → All (HasEntry s.link.remote) es) → All (λ e. e.rid.0 ≡ 1 → ⊥) es → (IsFair s.link → list_any is_new_entry (book_now s).entries ≡ false) → are_distinct es ≡ true → P s → Keeps P (take_listing key es s)
+take_listing_at P closed key es s has low old apart h =
     let news : List Entry = filter (is_new (items_now s)) es in
     keeps_bind P (in_filter (execute_with (with_seen_from s.filter.volume.next_item.0 news) (operation.Entries key (map new_item_of news) true)) s) (after_listing key)
     (in_filter_at P (execute_with (with_seen_from s.filter.volume.next_item.0 news) (operation.Entries key (map new_item_of news) true)) s
     (operations_keep.listed_at s.link s.volatile.tokens (λ x. P (with_filter x s)) (closed.on_filter s h) (with_seen_from s.filter.volume.next_item.0 news) (seen_from_keeps s.filter.volume.next_item.0 news) key news s.filter (seen_from_below s.filter.volume.next_item.0 news, seen_from_cursor s.filter.volume.next_item.0 news)
-    (λ fair. all_both (HasEntry s.link.remote) (λ e. e.rid.0 ≡ 1 → ⊥) (λ e. NewFits s.link.remote s.filter.policy (new_item_of e)) (λ e k g. new_fits s.link.remote s.filter.policy e fair.1 k g) news (all_filter (HasEntry s.link.remote) (is_new (items_now s)) es (has fair)) (all_filter (λ e. e.rid.0 ≡ 1 → ⊥) (is_new (items_now s)) es low)) old h))
+    (λ fair. all_both (HasEntry s.link.remote) (λ e. e.rid.0 ≡ 1 → ⊥) (λ e. NewFits s.link.remote s.filter.policy (new_item_of e)) (λ e k g. new_fits s.link.remote s.filter.policy e fair.1 k g) news (all_filter (HasEntry s.link.remote) (is_new (items_now s)) es (has fair)) (all_filter (λ e. e.rid.0 ≡ 1 → ⊥) (is_new (items_now s)) es low)) old (λ fair. others_told s.link.remote (items_now s) es fair.1 (has fair) apart) h))
     (λ a t j. (after_listing_keeps P closed key a).keeps t j)

@@ -74,7 +74,7 @@ apart_each id f at P same apart (i ∷ is) h = (by (i.id.0 == id.0) (λ z. eqb-t
   by true g z = absurd (apart (sym (eqb-true i.id.0 at.0 (subst (λ (x : ItemId). (x.0 == at.0) ≡ true) (same i) z)) ∙ g refl))
   by false g z = h.0 z
 
-new_apart : (new at next : ℕ) → new ≡ next → at < next → (new == at) ≡ true → ⊥
+pub new_apart : (new at next : ℕ) → new ≡ next → at < next → (new == at) ≡ true → ⊥
 new_apart new at next e h z = let y : new ≡ at = eqb-true new at z in omega (arith, e, h, y)
 
 pub record PutEntry (n : Usn) (next : ℕ) (e : QueueEntry) : Type 0 where
@@ -174,11 +174,11 @@ by_action r ms x c n MakeDir e next epoch tokens is g same free fit right h = ki
 by_action r ms x c n MoveItem e next epoch tokens is g same free fit right h = tt
 by_action r ms x c n RemoveItem e next epoch tokens is g same free fit right h = tt
 
-member_no : (id : ItemId) (es all : List QueueEntry) → (NoEntry all id → NoEntry es id) → All (λ e. NoEntry all id → e.item.0 ≡ id.0 → ⊥) es
+pub member_no : (id : ItemId) (es all : List QueueEntry) → (NoEntry all id → NoEntry es id) → All (λ e. NoEntry all id → e.item.0 ≡ id.0 → ⊥) es
 member_no id [] all k = tt
 member_no id (e ∷ es) all k = (λ n. (k n).0, member_no id es all (λ n. (k n).1))
 
-three : (P Q R S : QueueEntry → Type 0) → ((e : QueueEntry) → P e → Q e → R e → S e) → (es : List QueueEntry) → All P es → All Q es → All R es → All S es
+pub three : (P Q R S : QueueEntry → Type 0) → ((e : QueueEntry) → P e → Q e → R e → S e) → (es : List QueueEntry) → All P es → All Q es → All R es → All S es
 three P Q R S k [] a b c = tt
 three P Q R S k (e ∷ es) a b c = (k e a.0 b.0 c.0, three P Q R S k es a.1 b.1 c.1)
 

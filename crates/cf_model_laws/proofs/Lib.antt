@@ -1,3 +1,4 @@
+pub mod AimedTargets
 pub mod BesideGuarded
 pub mod CallsGuarded
 pub mod DehydrationGuarded
@@ -17,6 +18,7 @@ pub mod LoggedGuarded
 pub mod MadeUploads
 pub mod MarksGuarded
 pub mod MessagesGuarded
+pub mod MoveChanges
 pub mod NamedItems
 pub mod FitAsks
 pub mod FitContents

@@ -132,7 +132,7 @@ module _ (r : Held) (es : List QueueEntry) (there : All (IsThere r) es) where
 effect_unknown : (r : Held) (x : Filter) (c : Change) (n : Usn) → Meets r x c → Aims r x c → (es : List QueueEntry) → x.volume.book.entries ≡ es → All (IsThere r) es → All (λ i. IsUnmade r es (target_in i.identity)) x.volume.items
     → All (λ i. IsUnmade r es (target_in i.identity)) (effect x.volume.items c n)
 effect_unknown r x (change.Make item parent name kind size identity) n fit aims es is there h =
-    all_append (λ i. IsUnmade r es (target_in i.identity)) x.volume.items _ h (free r es there identity (subst (λ (qs : List QueueEntry). AimsFree r qs identity) is aims), tt)
+    all_append (λ i. IsUnmade r es (target_in i.identity)) x.volume.items _ h (free r es there identity (subst (λ (qs : List QueueEntry). AimsFree r qs identity) is aims.0), tt)
 effect_unknown r x (change.Remove item) n fit aims es is there h = all_filter (λ i. IsUnmade r es (target_in i.identity)) _ x.volume.items h
 effect_unknown r x (change.Move item parent name) n fit aims es is there h = still r es there item _ (λ i. refl) x.volume.items h
 effect_unknown r x (change.Write item at bytes) n fit aims es is there h = still r es there item _ (λ i. refl) x.volume.items h
@@ -145,8 +145,8 @@ effect_unknown r x (change.Mark item number) n fit aims es is there h = still r 
 effect_unknown r x (change.Clear item) n fit aims es is there h = still r es there item _ (λ i. refl) x.volume.items h
 effect_unknown r x (change.Convert item identity) n fit aims es is there h = given r es there item _ identity (λ i. refl) (unmade_none r es (target_in identity) fit.1 there) x.volume.items h
 effect_unknown r x (change.Revert item) n fit aims es is there h = elim fit as (λ _. All (λ i. IsUnmade r es (target_in i.identity)) (effect x.volume.items (change.Revert item) n)) [ ]
-effect_unknown r x (change.Rebase item identity len at) n fit aims es is there h = given r es there item _ identity (λ i. refl) (free r es there identity (subst (λ (qs : List QueueEntry). AimsFree r qs identity) is aims)) x.volume.items h
-effect_unknown r x (change.Take item identity size) n fit aims es is there h = given r es there item _ identity (λ i. refl) (free r es there identity (subst (λ (qs : List QueueEntry). AimsFree r qs identity) is aims)) x.volume.items h
+effect_unknown r x (change.Rebase item identity len at) n fit aims es is there h = given r es there item _ identity (λ i. refl) (free r es there identity (subst (λ (qs : List QueueEntry). AimsFree r qs identity) is aims.0)) x.volume.items h
+effect_unknown r x (change.Take item identity size) n fit aims es is there h = given r es there item _ identity (λ i. refl) (free r es there identity (subst (λ (qs : List QueueEntry). AimsFree r qs identity) is aims.0)) x.volume.items h
 effect_unknown r x (change.Copy item from parent name) n fit aims es is there h = all_append (λ i. IsUnmade r es (target_in i.identity)) x.volume.items _ h (copied_unknown r es there item parent name _ n (item_of x.volume.items from))
 effect_unknown r x (change.Populated item) n fit aims es is there h = still r es there item _ (λ i. refl) x.volume.items h
 effect_unknown r x (change.Keep item on) n fit aims es is there h = still r es there item _ (λ i. refl) x.volume.items h
@@ -342,21 +342,22 @@ made_rest r token (q ∷ es) e rid f m h = by (same_key q.token.0 token.0) f (ma
   by true f g = let z : q ≡ e = cc in others es h.0 (subst (λ (x : QueueEntry). Made r x rid) (sym z) m)
   by false f g = (first es f h.0, g f m h.1)
 
+-- what the upload of a file of the remote did is that file
+pub done_named : (r : Held) (e : QueueEntry) (rid : Rid) → e.action ≡ PutFile → is_new_entry e ≡ false → DidBy e.action r.items e.rid rid → rid ≡ e.rid
+done_named r e rid put new did = same_rid rid e.rid (names (subst (λ (a : Action). DidBy a r.items e.rid rid) put did).1) where
+  names : (e.rid.0 ≡ 0) ⊎ (rid.0 ≡ e.rid.0) → rid.0 ≡ e.rid.0
+  names (inl z) = no_way_back (sym (eq-eqb e.rid.0 0 z) ∙ sym (ap (λ (a : Action). is_new_by a e.rid) put) ∙ new)
+  names (inr z) = z
+
 -- So what an upload did is for none of the others: it was made for it, or is the item that it names.
 pub done_unmade : (r : Held) (token : Token) (es : List QueueEntry) (e : QueueEntry) (items : List Item) (rid : Rid) (version : Version) → find (λ f. same_key f.token.0 token.0) es ≡ Some e → recorded_at r.tokens e.token ≡ Some (RecordedDone rid version)
     → (e.action ≡ PutFile) ⊎ (e.action ≡ MakeDir) → DidBy e.action r.items e.rid rid → AreMadeNew r items es → IsUnmade r (filter (λ f. not (same_key f.token.0 token.0)) es) rid
 done_unmade r token es e items rid version found done is did h = by (is_new_entry e) refl where
-  old : e.action ≡ PutFile → is_new_entry e ≡ false → rid ≡ e.rid
-  old put new = same_rid rid e.rid (names (subst (λ (a : Action). DidBy a r.items e.rid rid) put did).1) where
-    names : (e.rid.0 ≡ 0) ⊎ (rid.0 ≡ e.rid.0) → rid.0 ≡ e.rid.0
-    names (inl z) = no_way_back (sym (eq-eqb e.rid.0 0 z) ∙ sym (ap (λ (a : Action). is_new_by a e.rid) put) ∙ new)
-    names (inr z) = z
-
   by : (b : Bool) → is_new_entry e ≡ b → IsUnmade r (filter (λ f. not (same_key f.token.0 token.0)) es) rid
   by true new = made_rest r token es e rid found (new, (version, done)) h.apart
   by false new = kind is where
     kind : (e.action ≡ PutFile) ⊎ (e.action ≡ MakeDir) → IsUnmade r (filter (λ f. not (same_key f.token.0 token.0)) es) rid
     kind (inl put) =
-        subst (λ (x : Rid). IsUnmade r (filter (λ f. not (same_key f.token.0 token.0)) es) x) (sym (old put new))
+        subst (λ (x : Rid). IsUnmade r (filter (λ f. not (same_key f.token.0 token.0)) es) x) (sym (done_named r e rid put new did))
         (unmade_fewer r (λ f. not (same_key f.token.0 token.0)) es e.rid ((all_found (IsAbout r es) (λ f. same_key f.token.0 token.0) es e found h.named).0 put).1)
     kind (inr dir) = no_way (sym new ∙ ap (λ (a : Action). is_new_by a e.rid) dir)

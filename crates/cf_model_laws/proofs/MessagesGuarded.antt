@@ -326,7 +326,8 @@ act_on_at P closed m q (reply.Feed round clock es) s stale told h =
 act_on_at P closed m q (reply.Listing key es) s stale told h =
     fetching.take_listing_at P closed key es s (λ fair. (told fair).1)
     (lows (known_now s) es (left_true (list_all (is_entry (known_now s)) es) (are_distinct es) (listing_fits (known_now s) (settled_rid s q) q key es (or_false (fits (known_now s) (settled_rid s q) q (reply.Listing key es)) (is_old s (reply.Listing key es)) stale).0)))
-    (λ fair. old_false (not (is_some (live_ask s key))) (list_any is_new_entry (book_now s).entries) (or_false (fits (known_now s) (settled_rid s q) q (reply.Listing key es)) (is_old s (reply.Listing key es)) stale).1) h
+    (λ fair. old_false (not (is_some (live_ask s key))) (list_any is_new_entry (book_now s).entries) (or_false (fits (known_now s) (settled_rid s q) q (reply.Listing key es)) (is_old s (reply.Listing key es)) stale).1)
+    (right_true (list_all (is_entry (known_now s)) es) (are_distinct es) (listing_fits (known_now s) (settled_rid s q) q key es (or_false (fits (known_now s) (settled_rid s q) q (reply.Listing key es)) (is_old s (reply.Listing key es)) stale).0)) h
 act_on_at P closed m q (reply.Bytes key start bytes) s stale told h =
     let k = or_false (fits (known_now s) (settled_rid s q) q (reply.Bytes key start bytes)) (is_old s (reply.Bytes key start bytes)) stale in
     fetching.take_bytes_at P closed key start bytes s (bytes_fit P closed m q key start bytes s h k.0 told) h

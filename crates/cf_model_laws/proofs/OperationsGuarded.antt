@@ -41,7 +41,7 @@ use Rattle.cf_model.specs.Store.{Held}
 use Rattle.cf_model.specs.Trees.{Keeps}
 use Rattle.cf_model.specs.Verdicts.{is_bad_range, is_kept_full, is_pinned, verdict}
 use Rattle.cf_model.proofs.TreeLaws.{keeps_bind}
-use Rattle.cf_model_laws.specs.Fitting.{NamesWell}
+use Rattle.cf_model_laws.specs.Fitting.{NamesWell, IsUnaimed}
 use Rattle.cf_model_laws.specs.Invariant.{All, InOrder, target_in}
 use Rattle.cf_model_laws.specs.Premises.{IsFair}
 use Rattle.cf_model_laws.proofs.FitItems.{each_append}
@@ -55,6 +55,8 @@ use Rattle.std.proofs.lemmas.Bool.{eqb-true}
 use Rattle.cf_model_laws.proofs.MadeUploads.{unmade_old}
 use Rattle.cf_model.specs.PushReplies.{is_new_entry}
 use Rattle.std.specs.List.{list_any}
+use Rattle.cf_model_laws.proofs.AimedTargets.{AreOthers, below_root, named_in, others_after, unaimed_more, unaimed_still}
+use Rattle.cf_base.specs.declared.ids.Rid.{Rid}
 
 pub checked_keeps : (l : Link) (tokens : ℕ) (P : Filter → Type 0) → GuardedFilter l tokens P → (x1 : (Filter → List (Bool × Code))) → (x2 : Arrow Filter Shown) → (Preserves P (x2)) → Preserves P (checked x1 x2)
 checked_keeps l tokens P closed tests f f_keeps = record { keeps = λ s i_. ((keeps_unless P shown.Refused (first_of (tests s)) f f_keeps)).keeps s i_ }
@@ -139,17 +141,17 @@ shift k n = omega arith
 
 -- the changes of the entries, each as it comes, and then the last
 listing_in : (l : Link) (tokens : ℕ) (P : Filter → Type 0) → GuardedFilter l tokens P → (f : Book → Book) → KeepsEntries f → (p : Policy) (parent : ItemId) (es : List Entry) (item : ℕ) (n : Usn) (x : Filter)
-    → SeesFrom f (item + length es) → (IsFair l → All (λ e. NewFits l.remote p (new_item_of e)) es) → (IsFair l → x.volume.next_item.0 ≡ item) → (IsFair l → list_any is_new_entry x.volume.book.entries ≡ false) → next_number x.volume ≡ n → P x
+    → SeesFrom f (item + length es) → (IsFair l → All (λ e. NewFits l.remote p (new_item_of e)) es) → (IsFair l → x.volume.next_item.0 ≡ item) → (IsFair l → list_any is_new_entry x.volume.book.entries ≡ false) → (IsFair l → AreOthers x.volume.items es) → next_number x.volume ≡ n → P x
     → Keeps P (changes_with f (entry_changes p parent item n (map new_item_of es) ++ change.Populated parent ∷ []) x)
-listing_in l tokens P closed f keeps p parent [] item n x sees fit next old number h = closed.change f (change.Populated parent) x keeps (λ fair. ((λ z. absurd z), (λ k. sees.0 (max x.volume.next_item.0 2) x.volume.book (room x.volume.next_item.0 item (next fair)) k), sees.1)) (λ id k. k) (λ fair. tt) h where
+listing_in l tokens P closed f keeps p parent [] item n x sees fit next old new number h = closed.change f (change.Populated parent) x keeps (λ fair. ((λ z. absurd z), (λ k. sees.0 (max x.volume.next_item.0 2) x.volume.book (room x.volume.next_item.0 item (next fair)) k), sees.1)) (λ id k. k) (λ fair. tt) h where
   room : (m k : ℕ) → m ≡ k → k + 0 ≤ max m 2
   room m k e = omega (arith, e)
-listing_in l tokens P closed f keeps p parent (e ∷ es) item n x sees fit next old number h =
+listing_in l tokens P closed f keeps p parent (e ∷ es) item n x sees fit next old new number h =
     let q : NewItem = new_item_of e in
     let make : Change = change.Make (record { 0 = item }) parent q.name (entry_kind p q.dir) (cond q.dir 0 q.size) q.identity in
     let mark : Change = change.Mark (record { 0 = item }) n in
     keeps_led P (λ u t. After same_book make x t) (change make x) (λ _ t. changes_with f (mark ∷ (entry_changes p parent (item + 1) (record n { place = n.place + 2 }) (map new_item_of es) ++ change.Populated parent ∷ [])) t)
-    (closed.change same_book make x (λ b. refl) (λ fair. ((λ z b. refl), (λ k. k), λ b. refl)) (λ id k. k) (λ fair. ((sym (next fair), (fit fair).0.0, (fit fair).0.1), inr (unmade_old l.remote x.volume.book.entries (target_in q.identity) (old fair)))) h) (change_after same_book make x)
+    (closed.change same_book make x (λ b. refl) (λ fair. ((λ z b. refl), (λ k. k), λ b. refl)) (λ id k. k) (λ fair. ((sym (next fair), (fit fair).0.0, (fit fair).0.1), (inr (unmade_old l.remote x.volume.book.entries (target_in q.identity) (old fair)), (new fair).0))) h) (change_after same_book make x)
     (λ u t j a.
     more_in P f mark (change.Populated parent) (entry_changes p parent (item + 1) (record n { place = n.place + 2 }) (map new_item_of es)) t
     (keeps_led P (λ u y. After same_book mark t y) (change mark t) (λ _ y. changes_with f (entry_changes p parent (item + 1) (record n { place = n.place + 2 }) (map new_item_of es) ++ change.Populated parent ∷ []) y)
@@ -165,6 +167,13 @@ listing_in l tokens P closed f keeps p parent (e ∷ es) item n x sees fit next 
     (λ v y k b. listing_in l tokens P closed f keeps p parent es (item + 1) (record n { place = n.place + 2 }) y (subst (SeesFrom f) (shift item (length es)) sees) (λ fair. (fit fair).1)
     (λ fair. next_kept y.volume.next_item.0 t.volume.next_item.0 (item + 1) b.next (a.next ∙ next_made x.volume.next_item.0 item (next fair)) (closed.sound t j fair).now.more)
     (λ fair. ap (λ (qs : List QueueEntry). list_any is_new_entry qs) (b.entries (λ d. refl) ∙ a.entries (λ d. refl)) ∙ old fair)
+    (λ fair. others_after x.volume.items y.volume.items (λ d. (named_in e).0 ≡ (named_in d).0 → (named_in d).0 ≡ 0)
+    (λ d k g. subst (λ (is : List Item). IsUnaimed is (named_in d)) (sym b.items)
+    (unaimed_still (named_in d) (record { 0 = item }) _ t.volume.items (λ i. refl)
+    (subst (λ (is : List Item). IsUnaimed is (named_in d)) (sym a.items)
+    (unaimed_more x.volume.items (made (record { 0 = item }) parent q.name (entry_kind p q.dir) (cond q.dir 0 q.size) q.identity (pin_of x.volume.items parent) (next_number x.volume)) (named_in d)
+    (λ z. k (ap (λ (r : Rid). r.0) (sym (below_root item (named_in e) (subst (λ (m : ℕ). 2 ≤ m) (next fair) (closed.sound x h fair).now.more))) ∙ z)) g))))
+    es (new fair).1 (new fair).2)
     (ap (λ (d : ℕ). usn_after d y.volume.place) (b.epoch ∙ a.epoch) ∙ number_after n x.volume.epoch x.volume.place t.volume.place y.volume.place number a.place b.place) k)))
 
 -- the changes leave what waits and is asked
@@ -182,11 +191,11 @@ listing_ends a w v same found list b e = inner (sym found ∙ ap (λ (u : Waitin
   inner z = let y : a ≡ b = cc in subst (λ (c : Live). is_list c.ask.kind ≡ true) y list
 
 pub listing_at : (l : Link) (tokens : ℕ) (P : Filter → Type 0) → GuardedFilter l tokens P → (f : Book → Book) → KeepsEntries f → (a : Live) (es : List Entry) (x : Filter) → live_of x.waiting.asks a.ask.key ≡ Some a
-    → SeesFrom f (x.volume.next_item.0 + length es) → (IsFair l → All (λ e. NewFits l.remote x.policy (new_item_of e)) es) → (IsFair l → list_any is_new_entry x.volume.book.entries ≡ false) → P x → Keeps P (entries f a (map new_item_of es) true x)
-listing_at l tokens P closed f keeps a es x live sees fit old h =
+    → SeesFrom f (x.volume.next_item.0 + length es) → (IsFair l → All (λ e. NewFits l.remote x.policy (new_item_of e)) es) → (IsFair l → list_any is_new_entry x.volume.book.entries ≡ false) → (IsFair l → AreOthers x.volume.items es) → P x → Keeps P (entries f a (map new_item_of es) true x)
+listing_at l tokens P closed f keeps a es x live sees fit old new h =
     checked_at P (entries_tests f a (map new_item_of es) (list_changes a (map new_item_of es) x)) (then_do (changes_with f (list_changes a (map new_item_of es) x)) (then_do (settle a.ask.item (entries_deed a true)) done)) x h
     (λ e. keeps_led P (λ u t. t.waiting ≡ x.waiting) (changes_with f (list_changes a (map new_item_of es) x) x) (λ _ t. then_do (settle a.ask.item (entries_deed a true)) done t)
-    (listing_in l tokens P closed f keeps x.policy a.ask.item es x.volume.next_item.0 (next_number x.volume) x sees fit (λ fair. refl) old refl h)
+    (listing_in l tokens P closed f keeps x.policy a.ask.item es x.volume.next_item.0 (next_number x.volume) x sees fit (λ fair. refl) old new refl h)
     (waiting_stays f (list_changes a (map new_item_of es) x) x)
     (λ u t j w. keeps_bind P (settle a.ask.item (entries_deed a true) t) (λ _ y. done y)
     (closed.settled a.ask.item (entries_deed a true) t (inr (listing_ends a x.waiting t.waiting w live (not_false (is_list a.ask.kind) (head_false (entries_tests f a (map new_item_of es) (list_changes a (map new_item_of es) x) x) e)))) j) (λ v y k. k)))
@@ -262,8 +271,8 @@ pub no_entries_op_keeps : (l : Link) (tokens : ℕ) (P : Filter → Type 0) → 
 no_entries_op_keeps l tokens P closed key = record { keeps = λ x h. on_key l tokens P same_book (operation.Entries key [] false) x h (λ a e. (no_listing_keeps l tokens P closed same_book a []).keeps x h) }
 
 pub listed_at : (l : Link) (tokens : ℕ) (P : Filter → Type 0) → GuardedFilter l tokens P → (f : Book → Book) → KeepsEntries f → (key : Key) (es : List Entry) (x : Filter)
-    → SeesFrom f (x.volume.next_item.0 + length es) → (IsFair l → All (λ e. NewFits l.remote x.policy (new_item_of e)) es) → (IsFair l → list_any is_new_entry x.volume.book.entries ≡ false) → P x → Keeps P (execute_with f (operation.Entries key (map new_item_of es) true) x)
-listed_at l tokens P closed f keeps key es x sees fit old h = on_key l tokens P f (operation.Entries key (map new_item_of es) true) x h (λ a e. listing_at l tokens P closed f keeps a es x (subst (λ (k : Key). live_of x.waiting.asks k ≡ Some a) (sym (live_key x.waiting.asks key a e)) e) sees fit old h)
+    → SeesFrom f (x.volume.next_item.0 + length es) → (IsFair l → All (λ e. NewFits l.remote x.policy (new_item_of e)) es) → (IsFair l → list_any is_new_entry x.volume.book.entries ≡ false) → (IsFair l → AreOthers x.volume.items es) → P x → Keeps P (execute_with f (operation.Entries key (map new_item_of es) true) x)
+listed_at l tokens P closed f keeps key es x sees fit old new h = on_key l tokens P f (operation.Entries key (map new_item_of es) true) x h (λ a e. listing_at l tokens P closed f keeps a es x (subst (λ (k : Key). live_of x.waiting.asks k ≡ Some a) (sym (live_key x.waiting.asks key a e)) e) sees fit old new h)
 
 pub consented_keeps : (l : Link) (tokens : ℕ) (P : Filter → Type 0) → GuardedFilter l tokens P → (key : Key) → Preserves P (execute (operation.AckDehydrate key true))
 consented_keeps l tokens P closed key = record { keeps = λ x h. on_key l tokens P same_book (operation.AckDehydrate key true) x h (λ a e. (consents_keep l tokens P closed a).keeps x h) }

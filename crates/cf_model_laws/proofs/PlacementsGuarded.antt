@@ -32,8 +32,9 @@ use Rattle.cf_model.specs.Words.{first_of, when}
 use Rattle.cf_model.proofs.ContentItems.{no-identity}
 use Rattle.cf_model.proofs.TreeLaws.{keeps_bind}
 use Rattle.cf_model_laws.specs.Fitting.{NamesWell}
-use Rattle.cf_model_laws.specs.Invariant.{All}
+use Rattle.cf_model_laws.specs.Invariant.{All, target_in}
 use Rattle.cf_model_laws.proofs.Plainly.{IsPlain, checked_at, plains_keep}
+use Rattle.cf_model_laws.proofs.AimedTargets.{unaimed_none}
 
 -- a new file or directory
 
@@ -50,7 +51,7 @@ made_at l tokens P closed k zero_size p x h = by (is_some (child_of x.volume.ite
       (λ e. keeps_bind P (changes (change.Make x.volume.next_item p.parent.id p.name k 0 [] ∷ []) x) (λ _ t. ret (shown.Item x.volume.next_item) t)
       (keeps_bind P (put (change.Make x.volume.next_item p.parent.id p.name k 0 []) x) (λ _ t. ret unit t)
       (closed.change same_book (change.Make x.volume.next_item p.parent.id p.name k 0 []) x (λ b. refl) (λ fair. ((λ z b. refl), (λ k. k), λ b. refl)) (λ id k. k)
-      (λ fair. ((refl, ap (λ (bs : List ℕ). length bs) (no-identity l.remote) ∙ sym zero_size, no_base l.remote _ _), inl refl)) h) (λ u t j. j))
+      (λ fair. ((refl, ap (λ (bs : List ℕ). length bs) (no-identity l.remote) ∙ sym zero_size, no_base l.remote _ _), (inl refl, unaimed_none x.volume.items (target_in []) refl))) h) (λ u t j. j))
       (λ u t j. j))
 
 create_file_at : (l : Link) (tokens : ℕ) (P : Filter → Type 0) → GuardedFilter l tokens P → (p : Place) → Preserves P (create_at NewFile p)

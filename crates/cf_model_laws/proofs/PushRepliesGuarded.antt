@@ -12,33 +12,34 @@ use Rattle.cf_model.specs.Items.{Item, item_of}
 use Rattle.cf_model.specs.Skips.{do_change, in_book, in_volatile, is_cursor, is_there, skip, to_conflict, try_book, try_mark, try_seen, why_no_record, with_volatile, with_book}
 use Rattle.cf_model.specs.State.{State, book_now, items_now}
 use Rattle.cf_model_laws.proofs.StepsGuarded as skips_keep
-use Rattle.cf_model.specs.PushReplies.{bury_new, by_why, cursor_reset_if, done_by, done_move, done_removal, done_upload, done_upload_on, drop_if, end_and_close, end_entry, end_tombstone, entry_seen, held_and_closed, is_new_entry, is_removal, item_of_entry, lost_place, move_away, name_taken, name_taken_again, name_taken_by, not_empty, not_empty_by, not_in_row, nothing_further, rebase, rebase_of, rebase_unless, reset_cursor, reset_if, see_and_mark, take, take_done, take_refused, take_void, taken_from_row, tombstone_left, was_directory, was_name_taken, was_not_empty, whatever, why_no_rebase, with_done, with_not_empty, with_taken_name}
+use Rattle.cf_model.specs.PushReplies.{bury_new, by_why, cursor_reset_if, done_by, done_move, done_removal, done_upload, done_upload_on, drop_if, end_and_close, end_entry, end_tombstone, entry_seen, held_and_closed, is_new_entry, is_removal, item_of_entry, lost_place, move_away, name_taken, name_taken_again, name_taken_by, not_empty, not_empty_by, not_in_row, nothing_further, rebase, rebase_of, rebase_unless, reset_cursor, reset_if, see_and_mark, take, take_done, take_refused, take_void, taken_from_row, tombstone_left, was_directory, was_name_taken, was_not_empty, whatever, why_no_rebase, with_done, with_not_empty, with_taken_name, is_new_by}
 use Rattle.cf_model_laws.proofs.Guarded.{Guarded, KeepsPlaced}
 use Rattle.cf_model.proofs.ArrowLaws.{keeps_noted, keeps_only_if, keeps_reading, keeps_ret, keeps_seq, keeps_then, keeps_one}
 use Rattle.std.proofs.Common.{◌≡◌, ◌⊎◌, ◌<◌, ℕ, List, [], ◌∷◌, refl, sym, ◌∙◌, ap, subst, inl, inr, arith, Bool, true, false}
 use Rattle.std.specs.List.{list_all}
 use Rattle.cf_base.specs.declared.ids.ItemId.{ItemId}
 use Rattle.cf_model.specs.Contents.{base_named, up_to}
-use Rattle.cf_model.specs.Identities.{base_bytes, identity_for, identity_of}
+use Rattle.cf_model.specs.Identities.{base_bytes, identity_for, identity_of, target_of}
 use Rattle.cf_model.specs.Numbers.{same_key, no_rid, no_version}
 use Rattle.cf_model.specs.Soundness.{Each}
 use Rattle.cf_model.specs.Store.{RecordedDone, bytes_of, recorded_at, Held}
 use Rattle.cf_model.specs.Trees.{Keeps}
 use Rattle.cf_model.proofs.TreeLaws.{keeps_bind}
-use Rattle.cf_model_laws.specs.Fitting.{Fits, NamesWell, NoEntry, NoMove, AimsFree}
-use Rattle.cf_model_laws.specs.Invariant.{All, AreApart, EntryFits, FitsBy, InOrder, IsSound, PutFits, put_bytes, DidBy, IsAskedFor, IsOfKind, IsUnmade, target_in}
+use Rattle.cf_model_laws.specs.Fitting.{Fits, NamesWell, NoEntry, NoMove, AimsFree, AimsAlone, IsUnaimed}
+use Rattle.cf_model_laws.specs.Invariant.{All, AreApart, EntryFits, FitsBy, InOrder, IsSound, PutFits, put_bytes, DidBy, IsAskedFor, IsOfKind, IsUnmade, target_in, NamesTarget}
 use Rattle.cf_model_laws.specs.Premises.{IsFair, IsSmall}
 use Rattle.cf_model_laws.proofs.EntryLaws.{dir_well, file_well, made_named, made_read, small_rid, target_read}
 use Rattle.cf_model_laws.proofs.FeedEntriesGuarded.{Feeding, feeding}
 use Rattle.cf_model_laws.proofs.FoundItems.{found_id}
-use Rattle.cf_model_laws.proofs.Gathered.{all_found}
+use Rattle.cf_model_laws.proofs.Gathered.{all_found, each_weaker}
 use Rattle.cf_model_laws.proofs.Plainly.{keeps_led}
 use Rattle.cf_model_laws.proofs.RightItems.{no_way}
 use Rattle.cf_model_laws.proofs.SeenPaths.{led_unnamed}
 use Rattle.cf_model_laws.proofs.SkipsGuarded.{Led, Skipping, Whichever, and_then_keeps, do_led, framed, guarded_skipping, keeps_first, no_move, only_if_at, tried_at, try_mark_at, try_seen_at, cursor_stays}
 use Rattle.cf_model_laws.proofs.SoundSettles.{each_found, same_item}
-use Rattle.cf_model_laws.proofs.MadeUploads.{done_unmade}
+use Rattle.cf_model_laws.proofs.MadeUploads.{done_unmade, done_named}
 use Rattle.cf_model.specs.Growth.{IsCounted}
+use Rattle.cf_model_laws.proofs.AimedTargets.{unaimed_made}
 
 pub end_entry_keeps : (P : State → Type 0) → Guarded P → (e : QueueEntry) → Preserves P (end_entry e)
 end_entry_keeps P closed e = keeps_one P (with_book (without_entry e.token)) (λ s h. closed.leaves e.token s h)
@@ -153,7 +154,7 @@ done_one MoveItem s e rid version i is low fair sound done found fit did = elim 
 done_one RemoveItem s e rid version i is low fair sound done found fit did = elim is as (λ _. DoneFits s e rid version i) [ inl z ↦ cc | inr z ↦ cc ]
 
 pub rebase_at : (P : State → Type 0) → Guarded P → (e : QueueEntry) (rid : Rid) (version : Version) (i : Item) (s : State) → (IsFair s.link → DoneFits s e rid version i × DoneIn s e rid version × (item_of (items_now s) e.item ≡ Some i))
-    → (IsFair s.link → AimsFree s.link.remote (without_entry e.token (book_now s)).entries (identity_for i.directory rid version)) → P s → Keeps P (rebase e (rebase_of e rid version i) s)
+    → (IsFair s.link → AimsFree s.link.remote (without_entry e.token (book_now s)).entries (identity_for i.directory rid version) × AimsAlone (without_entry e.token (book_now s)).entries (items_now s) i.id (identity_for i.directory rid version)) → P s → Keeps P (rebase e (rebase_of e rid version i) s)
 rebase_at P closed e rid version i s fits free h = by (why_no_rebase e (rebase_of e rid version i) s) where
   fit : IsFair s.link → Fits s.link.remote (with_volatile (taken_from_row e) (with_book (without_entry e.token) (with_done s))).filter (rebase_of e rid version i)
   fit fair =
@@ -198,10 +199,10 @@ did_small MakeDir r asked rid is counted small did = small_rid r rid true counte
 did_small MoveItem r asked rid is counted small did = elim is as (λ _. rid.0 < 18446744073709551616) [ inl z ↦ cc | inr z ↦ cc ]
 did_small RemoveItem r asked rid is counted small did = elim is as (λ _. rid.0 < 18446744073709551616) [ inl z ↦ cc | inr z ↦ cc ]
 
--- what a Done gives aims at nothing that was made for another upload
-done_aims : (s : State) (e : QueueEntry) (rid : Rid) (version : Version) (i : Item) → (e.action ≡ PutFile) ⊎ (e.action ≡ MakeDir) → IsFair s.link → IsSound s.link s.volatile.tokens s.filter → DoneIn s e rid version
-    → AimsFree s.link.remote (without_entry e.token (book_now s)).entries (identity_for i.directory rid version)
-done_aims s e rid version i is fair sound done = inr (by i.directory) where
+-- what a Done gives aims at nothing that was made for another upload, and at no target of another item
+done_aims : (s : State) (e : QueueEntry) (rid : Rid) (version : Version) (i : Item) → (e.action ≡ PutFile) ⊎ (e.action ≡ MakeDir) → IsFair s.link → IsSound s.link s.volatile.tokens s.filter → DoneIn s e rid version → item_of (items_now s) e.item ≡ Some i
+    → AimsFree s.link.remote (without_entry e.token (book_now s)).entries (identity_for i.directory rid version) × AimsAlone (without_entry e.token (book_now s)).entries (items_now s) i.id (identity_for i.directory rid version)
+done_aims s e rid version i is fair sound done found = (inr (subst (λ (x : Rid). IsUnmade s.link.remote (without_entry e.token (book_now s)).entries x) (sym (read i.directory)) free), by (is_new_entry e) refl) where
   did : DidBy e.action s.link.remote.items e.rid rid
   did = (all_found (IsAskedFor s.link.remote s.link.messages) (λ q. same_key q.token.0 e.token.0) (book_now s).entries e done.0 sound.now.asked).0.did rid version done.1
 
@@ -211,9 +212,38 @@ done_aims s e rid version i is fair sound done = inr (by i.directory) where
   small : rid.0 < 18446744073709551616
   small = did_small e.action s.link.remote e.rid rid is sound.counted fair.1 did
 
-  by : (d : Bool) → IsUnmade s.link.remote (without_entry e.token (book_now s)).entries (target_in (identity_for d rid version))
-  by true = subst (λ (x : Rid). IsUnmade s.link.remote (without_entry e.token (book_now s)).entries x) (sym (target_read rid no_rid no_version small)) free
-  by false = subst (λ (x : Rid). IsUnmade s.link.remote (without_entry e.token (book_now s)).entries x) (sym (target_read rid rid version small)) free
+  read : (d : Bool) → ◌≡◌ {A = Rid} (target_in (identity_for d rid version)) rid
+  read true = target_read rid no_rid no_version small
+  read false = target_read rid rid version small
+
+  same : ◌≡◌ {A = ItemId} i.id e.item
+  same = same_item i.id e.item (found_id e.item (items_now s) i found)
+
+  zero_not : (n : ℕ) → 0 < n → n ≡ 0 → ⊥
+  zero_not n h e = omega (arith, h, e)
+
+  old : (a : Action) → e.action ≡ a → (a ≡ PutFile) ⊎ (a ≡ MakeDir) → is_new_entry e ≡ false → e.action ≡ PutFile
+  old PutFile q k new = q
+  old MakeDir q k new = no_way (sym new ∙ ap (λ (a : Action). is_new_by a e.rid) q)
+  old MoveItem q k new = elim k as (λ _. e.action ≡ PutFile) [ inl z ↦ cc | inr z ↦ cc ]
+  old RemoveItem q k new = elim k as (λ _. e.action ≡ PutFile) [ inl z ↦ cc | inr z ↦ cc ]
+
+  other : (a : Action) → a ≡ PutFile → a ≡ MakeDir → ⊥
+  other a p q = let z : ◌≡◌ {A = Action} PutFile MakeDir = sym p ∙ q in cc
+
+  named : e.action ≡ PutFile → Each i.id (λ j. (target_of j).0 ≡ e.rid.0) (items_now s)
+  named put = subst (λ (x : ItemId). Each x (λ j. (target_of j).0 ≡ e.rid.0) (items_now s)) (sym same)
+      ((all_found (NamesTarget (items_now s)) (λ q. same_key q.token.0 e.token.0) (book_now s).entries e done.0 sound.now.targets).0 (other e.action put))
+
+  by : (b : Bool) → is_new_entry e ≡ b → AimsAlone (without_entry e.token (book_now s)).entries (items_now s) i.id (identity_for i.directory rid version)
+  by true new = inr (
+    apart_rest (λ f. same_key f.token.0 e.token.0) i.id.0 (book_now s).entries e (ap (λ (x : ItemId). x.0) (sym same)) (λ z. absurd (zero_not i.id.0 (found_positive e.item 0 s.filter.volume.next_item.0 (items_now s) i sound.now.order found) z)) done.0 sound.now.apart,
+    subst (λ (x : Rid). IsUnaimed (items_now s) x) (sym (read i.directory)) (unaimed_made s.link.remote (items_now s) (λ f. same_key f.token.0 e.token.0) (book_now s).entries e rid done.0 (new, (version, done.1)) sound.now.made),
+  )
+  by false new =
+      let put : e.action ≡ PutFile = old e.action refl is new in
+      inl (each_weaker i.id (λ j. (target_of j).0 ≡ e.rid.0) (λ j. (target_of j).0 ≡ (target_in (identity_for i.directory rid version)).0)
+      (λ j z. z ∙ ap (λ (x : Rid). x.0) (sym (done_named s.link.remote e rid put new did)) ∙ ap (λ (x : Rid). x.0) (sym (read i.directory))) (items_now s) (named put))
 
 upload_done_at : (P : State → Type 0) → Guarded P → (e : QueueEntry) (rid : Rid) (version : Version) (s : State) → (e.action ≡ PutFile) ⊎ (e.action ≡ MakeDir) → (IsFair s.link → DoneIn s e rid version) → P s → Keeps P (done_upload e rid version s)
 upload_done_at P closed e rid version s is done h = by (item_of (items_now s) e.item) refl where
@@ -224,7 +254,7 @@ upload_done_at P closed e rid version s is done h = by (item_of (items_now s) e.
       (λ fair. let sound : IsSound s.link s.volatile.tokens s.filter = (closed.on_filter s h).sound s.filter h fair in
       (done_one e.action s e rid version i is ((done fair).2 is) fair sound (done fair) f (all_found (EntryFits s.link.remote s.link.messages (items_now s)) (λ q. same_key q.token.0 e.token.0) (book_now s).entries e (done fair).0 sound.now.fit).0 ((all_found (IsAskedFor s.link.remote s.link.messages) (λ q. same_key q.token.0 e.token.0) (book_now s).entries e (done fair).0 sound.now.asked).0.did rid version (done fair).1), done fair, f))
       (λ fair. let sound : IsSound s.link s.volatile.tokens s.filter = (closed.on_filter s h).sound s.filter h fair in
-      done_aims s e rid version i is fair sound (done fair)) h
+      done_aims s e rid version i is fair sound (done fair) f) h
 
 -- the path of a Move that was done comes to be seen
 done_move_at : (P : State → Type 0) → Guarded P → (e : QueueEntry) (s : State) → e.action ≡ MoveItem → (IsFair s.link → entry_of (book_now s) e.token ≡ Some e) → P s → Keeps P (done_move e s)

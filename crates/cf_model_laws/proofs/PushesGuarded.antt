@@ -50,9 +50,10 @@ use Rattle.cf_model_laws.proofs.Plainly.{keeps_led}
 use Rattle.cf_model_laws.proofs.PushRepliesGuarded.{each_at}
 use Rattle.cf_model_laws.proofs.RightItems.{both_none, no_way, no_way_back}
 use Rattle.cf_model_laws.proofs.SkipsGuarded.{Led, Whichever, guarded_skipping, no_move, try_change_at, try_led, try_mark_now_at}
-use Rattle.cf_model_laws.proofs.SoundSettles.{each_found, found_below, neither, not_true, same_item}
+use Rattle.cf_model_laws.proofs.SoundSettles.{each_found, found_below, neither, not_true, same_item, each_past}
 use Rattle.cf_model_laws.proofs.UploadsGuarded.{IsNewEntry, NewBy, push_at}
 use Rattle.cf_model_laws.proofs.MadeUploads.{IsAbout, aimed_under}
+use Rattle.cf_base.specs.declared.ids.Rid.{Rid}
 
 abbrev Files : Bool → Bool → Type 0
 Files d p = (d ≡ false) × (p ≡ true)
@@ -122,8 +123,9 @@ put_facts s i sound there file placed here = (
 )
 
 new_entry : (s : State) (i : Item) (e : QueueEntry) (bytes : List ℕ) → e.item ≡ i.id → e.number ≡ i.number → item_of (items_now s) i.id ≡ Some i → IsSound s.link s.volatile.tokens s.filter → NoEntry (book_now s).entries i.id
-    → NewBy e.action s.link.remote (items_now s) e bytes → MovesThere s e → (e.action ≡ PutFile → e.rid.0 ≡ 1 → ⊥) → (e.action ≡ MakeDir → e.rid.0 ≡ 0) → IsAbout s.link.remote (book_now s).entries e → IsNewEntry s e bytes
-new_entry s i e bytes item number there sound alone facts off low new about = record {
+    → NewBy e.action s.link.remote (items_now s) e bytes → MovesThere s e → (e.action ≡ PutFile → e.rid.0 ≡ 1 → ⊥) → (e.action ≡ MakeDir → e.rid.0 ≡ 0) → IsAbout s.link.remote (book_now s).entries e
+    → ((e.action ≡ MakeDir → ⊥) → e.rid ≡ target_of i) → IsNewEntry s e bytes
+new_entry s i e bytes item number there sound alone facts off low new about named = record {
   early = λ z. subst (λ (n : Usn). above (next_number s.filter.volume) n ≡ true) (sym number) (right_of s i sound there).early;
   item = subst (λ (x : ItemId). x.0 < s.filter.volume.next_item.0) (sym item) (found_below i.id 0 s.filter.volume.next_item.0 (items_now s) i sound.now.order there);
   apart = all_weaker (λ f. f.item.0 ≡ i.id.0 → ⊥) (λ f. f.item.0 ≡ e.item.0 → f.item.0 ≡ 0) (λ f g q. absurd (g (q ∙ ap (λ (x : ItemId). x.0) item))) (book_now s).entries alone;
@@ -132,6 +134,8 @@ new_entry s i e bytes item number there sound alone facts off low new about = re
   low = low;
   new = new;
   about = about;
+  named = λ other. subst (λ (x : ItemId). Each x (λ j. (target_of j).0 ≡ e.rid.0) (items_now s)) (sym item)
+      (each_found i.id (λ j. (target_of j).0 ≡ e.rid.0) 0 s.filter.volume.next_item.0 (items_now s) i sound.now.order there (ap (λ (r : Rid). r.0) (sym (named other))));
 }
 
 -- a file's target is not the root of the remote
@@ -170,17 +174,17 @@ push_put_at P closed entering i s there alone kind here h = by (is_untargeted i)
       each_found i.id (PutFacts s.link.remote i) 0 s.filter.volume.next_item.0 (items_now s) i sound.now.order there (put_facts s i sound there (kind fair).0 (kind fair).1 here)
 
   by : (b : Bool) → Keeps P (push (cond b (placed PutFile i s) (without_place (placed PutFile i s))) (request_of (cond b (placed PutFile i s) (without_place (placed PutFile i s))) (base_version i) (bytes_held i.held)) s)
-  by true = push_at P closed entering (placed PutFile i s) (base_version i) (bytes_held i.held) s refl (λ fair. new_entry s i (placed PutFile i s) (bytes_held i.held) refl refl there (sound_of P closed s h fair) (alone fair) (facts fair) (λ z. cc) (λ _. file_low s i (sound_of P closed s h fair) there (kind fair).0) (λ z. cc) (λ _. file_about s i (sound_of P closed s h fair) there (kind fair).0)) h
-  by false = push_at P closed entering (without_place (placed PutFile i s)) (base_version i) (bytes_held i.held) s refl (λ fair. new_entry s i (without_place (placed PutFile i s)) (bytes_held i.held) refl refl there (sound_of P closed s h fair) (alone fair) (facts fair) (λ z. cc) (λ _. file_low s i (sound_of P closed s h fair) there (kind fair).0) (λ z. cc) (λ _. file_about s i (sound_of P closed s h fair) there (kind fair).0)) h
+  by true = push_at P closed entering (placed PutFile i s) (base_version i) (bytes_held i.held) s refl (λ fair. new_entry s i (placed PutFile i s) (bytes_held i.held) refl refl there (sound_of P closed s h fair) (alone fair) (facts fair) (λ z. cc) (λ _. file_low s i (sound_of P closed s h fair) there (kind fair).0) (λ z. cc) (λ _. file_about s i (sound_of P closed s h fair) there (kind fair).0) (λ _. refl)) h
+  by false = push_at P closed entering (without_place (placed PutFile i s)) (base_version i) (bytes_held i.held) s refl (λ fair. new_entry s i (without_place (placed PutFile i s)) (bytes_held i.held) refl refl there (sound_of P closed s h fair) (alone fair) (facts fair) (λ z. cc) (λ _. file_low s i (sound_of P closed s h fair) there (kind fair).0) (λ z. cc) (λ _. file_about s i (sound_of P closed s h fair) there (kind fair).0) (λ _. refl)) h
 
 pub push_dir_at : (P : State → Type 0) → Guarded P → Entering P → (i : Item) (s : State) → item_of (items_now s) i.id ≡ Some i → (IsFair s.link → NoEntry (book_now s).entries i.id) → i.directory ≡ true → P s → Keeps P (push_item MakeDir i s)
 push_dir_at P closed entering i s there alone dir h =
     push_at P closed entering (without_rid (placed MakeDir i s)) (base_version i) (bytes_held i.held) s refl
-    (λ fair. new_entry s i (without_rid (placed MakeDir i s)) (bytes_held i.held) refl refl there (sound_of P closed s h fair) (alone fair) (each_found i.id (λ j. j.directory ≡ true) 0 s.filter.volume.next_item.0 (items_now s) i (sound_of P closed s h fair).now.order there dir) (λ z. cc) (λ z. cc) (λ z. refl) (λ z. cc)) h
+    (λ fair. new_entry s i (without_rid (placed MakeDir i s)) (bytes_held i.held) refl refl there (sound_of P closed s h fair) (alone fair) (each_found i.id (λ j. j.directory ≡ true) 0 s.filter.volume.next_item.0 (items_now s) i (sound_of P closed s h fair).now.order there dir) (λ z. cc) (λ z. cc) (λ z. refl) (λ z. cc) (λ other. absurd (other refl))) h
 
 pub push_move_at : (P : State → Type 0) → Guarded P → Entering P → (i : Item) (s : State) → item_of (items_now s) i.id ≡ Some i → (IsFair s.link → NoEntry (book_now s).entries i.id) → stands_at_seen (items_now s) (book_now s) i ≡ false → P s → Keeps P (push_item MoveItem i s)
 push_move_at P closed entering i s there alone away h =
-    push_at P closed entering (placed MoveItem i s) (base_version i) (bytes_held i.held) s refl (λ fair. new_entry s i (placed MoveItem i s) (bytes_held i.held) refl refl there (sound_of P closed s h fair) (alone fair) tt (λ z. (i, there, both ((parent_target (items_now s) i).0 == (parent_target (items_now s) i).0) (same i.name i.name) (eq-eqb (parent_target (items_now s) i).0 (parent_target (items_now s) i).0 refl) (same_self i.name))) (λ z. cc) (λ z. cc) (λ z. cc)) h
+    push_at P closed entering (placed MoveItem i s) (base_version i) (bytes_held i.held) s refl (λ fair. new_entry s i (placed MoveItem i s) (bytes_held i.held) refl refl there (sound_of P closed s h fair) (alone fair) tt (λ z. (i, there, both ((parent_target (items_now s) i).0 == (parent_target (items_now s) i).0) (same i.name i.name) (eq-eqb (parent_target (items_now s) i).0 (parent_target (items_now s) i).0 refl) (same_self i.name))) (λ z. cc) (λ z. cc) (λ z. cc) (λ _. refl)) h
 
 pub after_hydrate_keeps : (P : State → Type 0) → Guarded P → (x1 : Shown) → Preserves P (after_hydrate x1)
 after_hydrate_keeps P closed (shown.Refused code.TooManyWaits) = skips_keep.skip_keeps P closed code.TooManyWaits
@@ -236,13 +240,16 @@ upload_now_at P closed entering item (Some j) s e alone placed h =
       same : ◌≡◌ {A = ItemId} j.id item
       same = same_item j.id item (found_id item (items_now s) j e)
 
-upload_new_at : (P : State → Type 0) → Guarded P → Entering P → (i : Item) (s : State) → item_of (items_now s) i.id ≡ Some i → (IsFair s.link → NoEntry (book_now s).entries i.id) → P s → Keeps P (upload_new i s)
-upload_new_at P closed entering i s there alone h = by i.placeholder refl where
+upload_new_at : (P : State → Type 0) → Guarded P → Entering P → (i : Item) (s : State) → item_of (items_now s) i.id ≡ Some i → (IsFair s.link → NoEntry (book_now s).entries i.id) → (target_of i).0 ≡ 0 → P s → Keeps P (upload_new i s)
+upload_new_at P closed entering i s there alone none h = by i.placeholder refl where
   of : (j : Item) → ◌≡◌ {A = Option Item} (Some i) (Some j) → i ≡ j
   of j e = cc
 
   fits : i.placeholder ≡ false → IsFair s.link → Fits s.link.remote s.filter (change.Convert i.id no_identity)
-  fits bare fair = (each_found i.id (λ j. SameBase no_identity j.identity) 0 s.filter.volume.next_item.0 (items_now s) i (sound_of P closed s h fair).now.order there (both_none no_identity i.identity none_none (two i.directory refl)), refl) where
+  fits bare fair = (
+    (each_found i.id (λ j. SameBase no_identity j.identity) 0 s.filter.volume.next_item.0 (items_now s) i (sound_of P closed s h fair).now.order there (both_none no_identity i.identity none_none (two i.directory refl)), refl),
+    each_found i.id (λ j. (target_of j).0 ≡ 0) 0 s.filter.volume.next_item.0 (items_now s) i (sound_of P closed s h fair).now.order there none,
+  ) where
     right : IsRight s.link.remote (next_number s.filter.volume) i
     right = right_of s i (sound_of P closed s h fair) there
 
@@ -285,7 +292,7 @@ push_by_case_at P closed entering i s there alone h = by (is_untargeted i) refl 
   two false q e = three (is_dirty i) e
 
   by : (b : Bool) → is_untargeted i ≡ b → Keeps P (choose b (upload_new i) (choose (not (stands_at_seen (items_now s) (book_now s) i)) (push_item MoveItem i) (choose (is_dirty i) (upload i) (mark_item i.id))) s)
-  by true e = upload_new_at P closed entering i s there alone h
+  by true e = upload_new_at P closed entering i s there alone (eqb-true (target_of i).0 0 e) h
   by false e = two (not (stands_at_seen (items_now s) (book_now s) i)) refl e
 
 pub push_turn_keeps : (P : State → Type 0) → Guarded P → Entering P → (item : ItemId) → Preserves P (push_turn item)
@@ -303,11 +310,14 @@ push_turn_keeps P closed entering item = record { keeps = λ s h. by (item_of (i
 pub push_removal_keeps : (P : State → Type 0) → Guarded P → Entering P → (t : Tombstone) → Preserves P (push_removal t)
 push_removal_keeps P closed entering t = record {
   keeps = λ s h. push_at P closed entering (removal_entry s t) t.version [] s refl
-      (λ fair. record { early = λ e. no_way e; item = low s.filter.volume.next_item.0 (sound_of P closed s h fair).now.more; apart = all_any (λ f. f.item.0 ≡ 0 → f.item.0 ≡ 0) (λ f e. e) (book_now s).entries; facts = tt; off = λ z. cc; low = λ z. cc; new = λ z. cc; about = λ z. cc }) h;
+      (λ fair. record { early = λ e. no_way e; item = low s.filter.volume.next_item.0 (sound_of P closed s h fair).now.more; apart = all_any (λ f. f.item.0 ≡ 0 → f.item.0 ≡ 0) (λ f e. e) (book_now s).entries; facts = tt; off = λ z. cc; low = λ z. cc; new = λ z. cc; about = λ z. cc; named = λ _. each_past (record { 0 = 0 }) (λ i. (target_of i).0 ≡ t.rid.0) 0 s.filter.volume.next_item.0 (items_now s) (none 0) (sound_of P closed s h fair).now.order }) h;
 }
   where
     low : (n : ℕ) → 2 ≤ n → 0 < n
     low n h = omega (arith, h)
+
+    none : (n : ℕ) → n ≤ n
+    none n = omega arith
 
 bury_unless_keeps : (P : State → Type 0) → Guarded P → Entering P → (t : Tombstone) (b : Bool) → Preserves P (bury_unless t b)
 bury_unless_keeps P closed entering t true = keeps_ret P unit

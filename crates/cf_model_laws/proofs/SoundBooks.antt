@@ -22,7 +22,7 @@ use Rattle.cf_model.specs.Requests.{Live}
 use Rattle.cf_model.specs.State.{Point}
 use Rattle.cf_model.specs.Store.{Held}
 use Rattle.cf_model_laws.specs.GivenOnce.{WasGiven}
-use Rattle.cf_model_laws.specs.Invariant.{All, AreApart, EntryFits, IsDurable, IsEntryOf, IsGivenIn, IsMessageRight, IsPointRight, IsSoundOf, NoItem, IsAskedFor}
+use Rattle.cf_model_laws.specs.Invariant.{All, AreApart, EntryFits, IsDurable, IsEntryOf, IsGivenIn, IsMessageRight, IsPointRight, IsSoundOf, NoItem, IsAskedFor, NamesTarget}
 use Rattle.cf_model_laws.proofs.Gathered.{all_append, all_filter, all_weaker}
 use Rattle.cf_model_laws.proofs.OnceLaws.{later}
 use Rattle.cf_model_laws.proofs.SoundChanges.{durable_later}
@@ -53,6 +53,7 @@ pub record EnteredWell (r : Held) (ms : List (Option Frame)) (epoch tokens : ℕ
   pub fresh : NoRecord r e
   pub alone : All (λ f. same_key f.token.0 e.token.0 ≡ false) es
   pub about : IsAbout r es e
+  pub named : NamesTarget items e
 
 pub durable_entered : (r : Held) (ms : List (Option Frame)) (epoch tokens : ℕ) (n : Usn) (next_item : ℕ) (items : List Item) (es : List QueueEntry) (e : QueueEntry) → EnteredWell r ms epoch tokens n next_item items es e
     → IsDurable r ms epoch tokens n next_item items es → IsDurable r ms epoch tokens n next_item items (es ++ e ∷ [])
@@ -66,6 +67,7 @@ durable_entered r ms epoch tokens n next_item items es e well h = record {
   asked = all_append (IsAskedFor r ms) es (e ∷ []) h.asked (well.asked, tt);
   apart = apart_more es e well.apart h.apart;
   made = made_entered r items es e well.fresh well.alone well.about h.made;
+  targets = all_append (NamesTarget items) es (e ∷ []) h.targets (well.named, tt);
 }
 
 pub durable_fewer : (r : Held) (ms : List (Option Frame)) (epoch tokens : ℕ) (n : Usn) (next_item : ℕ) (items : List Item) (p : QueueEntry → Bool) (es : List QueueEntry)
@@ -80,6 +82,7 @@ durable_fewer r ms epoch tokens n next_item items p es h = record {
   asked = all_filter (IsAskedFor r ms) p es h.asked;
   apart = apart_fewer p es h.apart;
   made = made_fewer r items p es h.made;
+  targets = all_filter (NamesTarget items) p es h.targets;
 }
 
 -- another book with these entries
@@ -138,6 +141,7 @@ durable_tokens r ms n next epoch tokens more items es k h = record {
   asked = h.asked;
   apart = h.apart;
   made = h.made;
+  targets = h.targets;
   given = all_weaker (IsEntryOf n next epoch tokens) (IsEntryOf n next epoch more) (λ q g. record { early = g.early; token = later epoch epoch tokens more q.token.0 (inr (refl, k)) g.token; own = g.own; item = g.item }) es h.given;
 }
 

@@ -25,6 +25,7 @@ use Rattle.cf_model_laws.proofs.FitItems.{effect_order, effect_right}
 use Rattle.cf_model_laws.proofs.Gathered.{all_weaker}
 use Rattle.cf_model_laws.proofs.OnceLaws.{later}
 use Rattle.cf_model_laws.proofs.RightItems.{above_then, stays_right}
+use Rattle.cf_model_laws.proofs.AimedTargets.{targets_effect}
 use Rattle.cf_model_laws.proofs.MadeUploads.{made_effect}
 
 -- numbers
@@ -60,6 +61,7 @@ durable_later r ms n after next epoch tokens e t items es a k h = record {
   asked = h.asked;
   apart = h.apart;
   made = h.made;
+  targets = h.targets;
 }
   where
     same : (m : ℕ) → m ≤ m
@@ -99,6 +101,7 @@ durable_effect r ms x c n after epoch tokens some a fit aims h = record {
   asked = h.asked;
   apart = h.apart;
   made = made_effect r x c n fit aims h.made;
+  targets = targets_effect r x c n epoch tokens fit aims h.given h.targets;
 }
   where
     same : (m : ℕ) → m ≤ m

@@ -121,6 +121,7 @@ durable_asked r ms epoch tokens q n next items es counted well h = record {
   apart = h.apart;
   made = made_asked r ms q n items es counted (step_counts r q counted)
       (all_both (IsAskedFor r ms) (IsEntryOf n next epoch tokens) (λ e. Asks e q) (λ e k g. well.asks e g.own k.sent) es h.asked h.given) asked h.right h.made;
+  targets = h.targets;
 }
   where
     asked : All (IsAskedFor (remote_step r q).1 ms) es
@@ -245,6 +246,7 @@ durable_posted r ms f epoch tokens n next items es c h = record {
   asked = all_both (FrameCarries r items f) (IsAskedFor r ms) (IsAskedFor r (ms ++ f ∷ [])) (λ e g k. record { did = k.did; sent = all_append (OfRequest (Asks e)) ms (f ∷ []) k.sent (g.1, tt); low = k.low; new = k.new }) es c h.asked;
   apart = h.apart;
   made = h.made;
+  targets = h.targets;
 }
 
 pub post_sound : (But : ItemId → Type 0) (r : Held) (ms : List (Option Frame)) (tokens epoch place : ℕ) (log : List (Usn × Change)) (items : List Item) (next_item : ℕ) (points : List Point) (entries : List QueueEntry)

@@ -96,7 +96,7 @@ item_at n = record { 0 = n }
 pub same_item : (a b : ItemId) → a.0 ≡ b.0 → a ≡ b
 same_item a b e = ap item_at e
 
-each_past : (id : ItemId) (P : Item → Type 0) (low next : ℕ) (items : List Item) → id.0 ≤ low → InOrder low next items → Each id P items
+pub each_past : (id : ItemId) (P : Item → Type 0) (low next : ℕ) (items : List Item) → id.0 ≤ low → InOrder low next items → Each id P items
 each_past id P low next [] small h = tt
 each_past id P low next (i ∷ is) small h =
     (λ e. absurd (apart i.id.0 id.0 low h.0 small (eqb-true i.id.0 id.0 e)), each_past id P i.id.0 next is (more id.0 low i.id.0 small h.0) h.1) where

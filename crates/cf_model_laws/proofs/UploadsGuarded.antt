@@ -29,7 +29,7 @@ use Rattle.cf_model.specs.State.{State, book_now, in_filter, in_volume, items_no
 use Rattle.cf_model.specs.Store.{Held, Recorded, RecordedDone, recorded_at}
 use Rattle.cf_model.specs.Trees.{Keeps, bind}
 use Rattle.cf_model_laws.specs.GivenOnce.{WasGiven}
-use Rattle.cf_model_laws.specs.Invariant.{All, Carries, FitsBy, IsEntryOf, IsGivenIn, IsMessageRight, IsSound, Names, OfRequest, PutFits, is_put, put_bytes, Asks}
+use Rattle.cf_model_laws.specs.Invariant.{All, Carries, FitsBy, IsEntryOf, IsGivenIn, IsMessageRight, IsSound, Names, OfRequest, PutFits, is_put, put_bytes, Asks, NamesTarget}
 use Rattle.cf_model_laws.specs.Premises.{IsFair}
 use Rattle.cf_model_laws.proofs.Gathered.{all_any, all_append, all_weaker, each_weaker}
 use Rattle.cf_model_laws.proofs.Guarded.{EnteredIn, Entering, Guarded, MovesThere, PostedIn}
@@ -75,6 +75,7 @@ pub record IsNewEntry (s : State) (e : QueueEntry) (bytes : List ℕ) : Type 0 w
   pub low : e.action ≡ PutFile → e.rid.0 ≡ 1 → ⊥
   pub new : e.action ≡ MakeDir → e.rid.0 ≡ 0
   pub about : IsAbout s.link.remote (book_now s).entries e
+  pub named : NamesTarget (items_now s) e
 
 -- nothing says a word of a fresh token
 
@@ -151,6 +152,7 @@ entered s e bytes token sound new = record {
   alone = subst (λ (t : Token). All (λ f. same_key f.token.0 t.0 ≡ false) (book_now s).entries) (sym token)
       (all_weaker (IsEntryOf (next_number s.filter.volume) s.filter.volume.next_item.0 s.filter.volume.epoch s.volatile.tokens) (λ f. same_key f.token.0 (key_after s.filter.volume.epoch s.volatile.tokens) ≡ false) (λ f k. fresh_right s.filter.volume.epoch s.volatile.tokens f.token.0 k.token) (book_now s).entries sound.now.given);
   about = new.about;
+  named = new.named;
 }
 
 -- the request of the upload

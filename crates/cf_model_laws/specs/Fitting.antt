@@ -4,12 +4,13 @@ use Rattle.std.specs.List.{list_all}
 use Rattle.cf_base.specs.declared.changes.Change.{Change}
 use Rattle.cf_base.specs.declared.changes.Change.TheVariants as change
 use Rattle.cf_base.specs.declared.ids.ItemId.{ItemId}
+use Rattle.cf_base.specs.declared.ids.Rid.{Rid}
 use Rattle.cf_base.specs.declared.ids.Usn.{Usn}
 use Rattle.cf_model.specs.Books.{MoveItem, QueueEntry}
 use Rattle.cf_model.specs.Contents.{base_named, up_to}
 use Rattle.cf_model.specs.Dehydration.{in_use}
 use Rattle.cf_model.specs.Effects.{is_directory, is_placeholder, size_made}
-use Rattle.cf_model.specs.Identities.{base_bytes, is_untargeted}
+use Rattle.cf_model.specs.Identities.{base_bytes, is_untargeted, target_of}
 use Rattle.cf_model.specs.Items.{Item}
 use Rattle.cf_model.specs.LookUp.{children}
 use Rattle.cf_model.specs.Numbers.{no_usn}
@@ -74,18 +75,28 @@ NoMove es item = All (λ e. e.action ≡ MoveItem → e.item.0 ≡ item.0 → �
 abbrev pub AimsFree : Held → List QueueEntry → List ℕ → Type 0
 AimsFree r es identity = ((target_in identity).0 ≡ 0) ⊎ IsUnmade r es (target_in identity)
 
+-- no item has the target, if it is one
+abbrev pub IsUnaimed : List Item → Rid → Type 0
+IsUnaimed items rid = All (λ i. (target_of i).0 ≡ rid.0 → rid.0 ≡ 0) items
+
+-- The item keeps its target; or no upload of it is on its way, and no item has the target that it comes to have.
+abbrev pub AimsAlone : List QueueEntry → List Item → ItemId → List ℕ → Type 0
+AimsAlone es items item identity = Each item (λ i. (target_of i).0 ≡ (target_in identity).0) items ⊎ (NoEntry es item × IsUnaimed items (target_in identity))
+
 -- so it is of the identity that an item comes to have
 abbrev pub Aims : Held → Filter → Change → Type 0
-Aims r x (change.Make item parent name kind size identity) = AimsFree r x.volume.book.entries identity
-Aims r x (change.Rebase item identity len at) = AimsFree r x.volume.book.entries identity
-Aims r x (change.Take item identity size) = AimsFree r x.volume.book.entries identity
+Aims r x (change.Make item parent name kind size identity) = AimsFree r x.volume.book.entries identity × IsUnaimed x.volume.items (target_in identity)
+Aims r x (change.Rebase item identity len at) = AimsFree r x.volume.book.entries identity × AimsAlone x.volume.book.entries x.volume.items item identity
+Aims r x (change.Take item identity size) = AimsFree r x.volume.book.entries identity × AimsAlone x.volume.book.entries x.volume.items item identity
+Aims r x (change.Convert item identity) = Each item (λ i. (target_of i).0 ≡ 0) x.volume.items
 Aims r x _ = Unit {0}
 
 -- Of a Mark, besides: its item stands at the path seen and no Move of it is on its way, or the last change made the item.
 abbrev pub Fits : Held → Filter → Change → Type 0
-Fits r x (change.Make item parent name kind size identity) = Meets r x (change.Make item parent name kind size identity) × AimsFree r x.volume.book.entries identity
-Fits r x (change.Rebase item identity len at) = Meets r x (change.Rebase item identity len at) × AimsFree r x.volume.book.entries identity
-Fits r x (change.Take item identity size) = Meets r x (change.Take item identity size) × AimsFree r x.volume.book.entries identity
+Fits r x (change.Make item parent name kind size identity) = Meets r x (change.Make item parent name kind size identity) × Aims r x (change.Make item parent name kind size identity)
+Fits r x (change.Rebase item identity len at) = Meets r x (change.Rebase item identity len at) × Aims r x (change.Rebase item identity len at)
+Fits r x (change.Take item identity size) = Meets r x (change.Take item identity size) × Aims r x (change.Take item identity size)
+Fits r x (change.Convert item identity) = Meets r x (change.Convert item identity) × Aims r x (change.Convert item identity)
 Fits r x (change.Remove item) = Meets r x (change.Remove item) × Each item (IsVacant x.volume.items) x.volume.items
 Fits r x (change.Mark item number) =
     Meets r x (change.Mark item number) × ((StandsAtSeen x.volume.items x.volume.book item × NoMove x.volume.book.entries item) ⊎ IsMadeLast x.volume.log item)

@@ -18,7 +18,7 @@ use Rattle.cf_base.specs.declared.waits.Ask.{Ask}
 use Rattle.cf_model.specs.Books.{Action, MakeDir, MoveItem, PutFile, QueueEntry, RemoveItem}
 use Rattle.cf_model.specs.Contents.{IsTrueTo, RisesFrom, up_to}
 use Rattle.cf_model.specs.Growth.{IsCounted}
-use Rattle.cf_model.specs.Identities.{base_bytes}
+use Rattle.cf_model.specs.Identities.{base_bytes, target_of}
 use Rattle.cf_model.specs.Items.{Item}
 use Rattle.cf_model.specs.Logs.{items_of, next_of}
 use Rattle.cf_model.specs.Missing.{Wait}
@@ -208,6 +208,10 @@ pub record AreMadeNew (r : Held) (items : List Item) (es : List QueueEntry) : Ty
   pub named : All (λ e. e.action ≡ PutFile → (e.rid.0 ≤ length r.items) × IsUnmade r es e.rid) es
   pub apart : AreMadeApart r es
 
+-- The upload of an item that is here names the item's target; that of a new file is of an item with none.
+abbrev pub NamesTarget : List Item → QueueEntry → Type 0
+NamesTarget items e = (e.action ≡ MakeDir → ⊥) → Each e.item (λ i. (target_of i).0 ≡ e.rid.0) items
+
 abbrev pub AreTrueTo : Held → List Item → Type 0
 AreTrueTo r items = All (λ i. i.directory ≡ false → IsTrueTo r i) items
 
@@ -223,6 +227,7 @@ pub record IsDurable (r : Held) (ms : List (Option Frame)) (epoch tokens : ℕ) 
   pub asked : All (IsAskedFor r ms) entries
   pub apart : AreApart entries
   pub made : AreMadeNew r items entries
+  pub targets : All (NamesTarget items) entries
 
 abbrev pub IsPointRight : Held → List (Option Frame) → ℕ → ℕ → Usn → List (Usn × Change) → Point → Type 0
 IsPointRight r ms epoch tokens next log p = (p.count ≤ length log) × IsDurable r ms epoch tokens next (next_of (take p.count log)) (items_of (take p.count log)) p.book.entries
