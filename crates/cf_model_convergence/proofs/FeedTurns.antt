@@ -26,7 +26,7 @@ use Rattle.cf_model_laws.proofs.FoundItems.{found_again, same_self}
 use Rattle.cf_model_laws.proofs.RightItems.{no_way}
 use Rattle.cf_model_laws.proofs.SeenPaths.{seen_put}
 use Rattle.cf_model_convergence.specs.Telling.{EndsFairly, IsListening, IsTold}
-use Rattle.cf_model_convergence.specs.Turns.{IsTakenIn, IsTurnOf}
+use Rattle.cf_model_convergence.specs.Turns.{IsTakenIn, IsTurnOf, SeesOnly}
 use Rattle.cf_model_convergence.proofs.PushesTold.{skip_told}
 use Rattle.cf_model_convergence.proofs.TurnsGrow.{Clean, Grows, Same, change_grows, change_told, free_grows, if_grows, if_same, mark_grows, mark_same, move_grows, names_same, seen_grows, state_grows, then_clean, then_grows, told_on}
 use Rattle.cf_model_convergence.proofs.TurnsTold.{ends_bind}
@@ -42,10 +42,10 @@ first_told c g grows s done t listening ends = by x.0 x.1 x.3 (change_told c s x
   by true m e z = told_on g grows s m done t z e
   by false m e z = subst (IsTold s) (sym e.1) z
 
-seen_mark_grows : (p : SeenPath) (item : ItemId) → Grows (and_then (try_seen p) (try_mark_now item))
+pub seen_mark_grows : (p : SeenPath) (item : ItemId) → Grows (and_then (try_seen p) (try_mark_now item))
 seen_mark_grows p item = then_grows (try_seen p) (try_mark_now item) (seen_grows p) (mark_grows item)
 
-rebase_grows : (e : Entry) (i : Item) → Grows (and_then (try_change (change.Rebase i.id (entry_identity e) 0 no_usn)) (and_then (try_seen (seen_entry i.id e)) (try_mark_now i.id)))
+pub rebase_grows : (e : Entry) (i : Item) → Grows (and_then (try_change (change.Rebase i.id (entry_identity e) 0 no_usn)) (and_then (try_seen (seen_entry i.id e)) (try_mark_now i.id)))
 rebase_grows e i = then_grows (try_change (change.Rebase i.id (entry_identity e) 0 no_usn)) (and_then (try_seen (seen_entry i.id e)) (try_mark_now i.id)) (change_grows (change.Rebase i.id (entry_identity e) 0 no_usn)) (seen_mark_grows (seen_entry i.id e) i.id)
 
 adopt_told : (e : Entry) (i : Item) (s : State) (done : Bool) (t : State) → IsListening s → EndsFairly (adopt e i s) done t → IsTold s t
@@ -54,7 +54,7 @@ adopt_told e i s done t listening ends = by (not i.placeholder) ends where
   by true z = first_told (change.Convert i.id no_identity) (and_then (try_change (change.Rebase i.id (entry_identity e) 0 no_usn)) (and_then (try_seen (seen_entry i.id e)) (try_mark_now i.id))) (rebase_grows e i) s done t listening z
   by false z = first_told (change.Rebase i.id (entry_identity e) 0 no_usn) (and_then (try_seen (seen_entry i.id e)) (try_mark_now i.id)) (seen_mark_grows (seen_entry i.id e) i.id) s done t listening z
 
-after_grows : (e : Entry) (p : Item) → Grows (make_after e p)
+pub after_grows : (e : Entry) (p : Item) → Grows (make_after e p)
 after_grows e p = state_grows (λ s. and_then (try_change (make_of s e p)) (and_then (try_seen (seen_entry s.filter.volume.next_item e)) (try_mark_now s.filter.volume.next_item)))
     (λ s. then_grows (try_change (make_of s e p)) (and_then (try_seen (seen_entry s.filter.volume.next_item e)) (try_mark_now s.filter.volume.next_item)) (change_grows (make_of s e p)) (seen_mark_grows (seen_entry s.filter.volume.next_item e) s.filter.volume.next_item))
 
@@ -138,7 +138,7 @@ module _ (e : Entry) (i p : Item) where
   abbrev Sees : State → State → Type 0
   Sees s t = SeesAt e i s t
 
-  place_grows : Grows In_place
+  pub place_grows : Grows In_place
   place_grows = then_grows (move_in e i p) (try_seen (seen_entry i.id e)) (move_grows e i p) (seen_grows (seen_entry i.id e))
 
   place_clean : Clean In_place Sees
@@ -202,23 +202,23 @@ module _ (e : Entry) (i p : Item) where
         (if_grows (is_newer j e) (and_then (only_if (is_dirty j) (copy_off j)) (try_change (change.Take j.id (entry_identity e) e.len)))
         (then_grows (only_if (is_dirty j) (copy_off j)) (try_change (change.Take j.id (entry_identity e) e.len)) (if_grows (is_dirty j) (copy_off j) (copy_grows j)) (change_grows (change.Take j.id (entry_identity e) e.len)))) w
 
-  taking_grows : Grows Taking
+  pub taking_grows : Grows Taking
   taking_grows = then_grows (take_entry e i.id) (try_mark_now i.id) take_grows (mark_grows i.id)
 
-  path_seen : (s : State) → is_seen_so (with_book (with_seen (seen_entry i.id e)) s) i e ≡ true
+  pub path_seen : (s : State) → is_seen_so (with_book (with_seen (seen_entry i.id e)) s) i e ≡ true
   path_seen s = ap (λ (o : Option SeenPath). says (is_path_of e) o) (seen_put (seen_entry i.id e) (book_now s)) ∙ both (e.parent.0 == e.parent.0) (same e.name e.name) (eq-eqb e.parent.0 e.parent.0 refl) (same_self e.name) where
     both : (a b : Bool) → a ≡ true → b ≡ true → (a && b) ≡ true
     both true b x z = z
     both false b x z = no_way x
 
   abbrev Ends : State → State → Type 0
-  Ends a u = item_of (items_now a) i.id ≡ Some i → IsTakenIn e i a u
+  Ends a u = item_of (items_now a) i.id ≡ Some i → IsTakenIn e i a u × SeesOnly e i a u
 
-  steps_told : (s : State) (done : Bool) (t : State) → item_of (items_now s) i.id ≡ Some i → IsListening s → EndsFairly (changed_steps e i p s) done t → IsTold s t ⊎ IsTakenIn e i s t
+  steps_told : (s : State) (done : Bool) (t : State) → item_of (items_now s) i.id ≡ Some i → IsListening s → EndsFairly (changed_steps e i p s) done t → IsTold s t ⊎ (IsTakenIn e i s t × SeesOnly e i s t)
   steps_told s done t there listening ends = by (is_seen_so s i e) refl ends where
-    so : is_seen_so s i e ≡ true → IsTold s t ⊎ ((done ≡ true) × NotNewer s t) → IsTold s t ⊎ IsTakenIn e i s t
+    so : is_seen_so s i e ≡ true → IsTold s t ⊎ ((done ≡ true) × NotNewer s t) → IsTold s t ⊎ (IsTakenIn e i s t × SeesOnly e i s t)
     so q (inl z) = inl z
-    so q (inr z) = inr (record { items = ap items_now z.1.0; seen = subst (λ (y : State). is_seen_so y i e ≡ true) (sym z.1.0) q; version = z.1.1 there })
+    so q (inr z) = inr (record { items = ap items_now z.1.0; seen = subst (λ (y : State). is_seen_so y i e ≡ true) (sym z.1.0) q; version = z.1.1 there }, inl z.1.0)
 
     absent : (a : State) → is_there i.id a ≡ false → item_of (items_now a) i.id ≡ Some i → ⊥
     absent a q f = no_way (sym q ∙ ap (λ (o : Option Item). is_some o) f)
@@ -230,37 +230,37 @@ module _ (e : Entry) (i p : Item) where
 
       joined : IsTold n u ⊎ ((d ≡ true) × NotNewer n u) → IsTold a u ⊎ ((d ≡ true) × Ends a u)
       joined (inl k) = inl (record { lines = k.lines; noted = k.noted; loud = k.loud })
-      joined (inr k) = inr (k.0, λ f. record { items = ap items_now k.1.0; seen = subst (λ (y : State). is_seen_so y i e ≡ true) (sym k.1.0) (path_seen a); version = k.1.1 f })
+      joined (inr k) = inr (k.0, λ f. (record { items = ap items_now k.1.0; seen = subst (λ (y : State). is_seen_so y i e ≡ true) (sym k.1.0) (path_seen a); version = k.1.1 f }, inr k.1.0))
     later a m (inr sees) l d u z = away (taking_clean a d u l (subst (λ (y : State). EndsFairly (Taking y) d u) sees.1 z)) where
       away : IsTold a u ⊎ ((d ≡ true) × NotNewer a u) → IsTold a u ⊎ ((d ≡ true) × Ends a u)
       away (inl k) = inl k
       away (inr k) = inr (k.0, λ f. absurd (absent a sees.0 f))
 
-    last : IsTold s t ⊎ ((done ≡ true) × Ends s t) → IsTold s t ⊎ IsTakenIn e i s t
+    last : IsTold s t ⊎ ((done ≡ true) × Ends s t) → IsTold s t ⊎ (IsTakenIn e i s t × SeesOnly e i s t)
     last (inl z) = inl z
     last (inr z) = inr (z.1 there)
 
-    by : (b : Bool) → is_seen_so s i e ≡ b → EndsFairly (and_then (only_if (not b) (move_entry e i p)) Taking s) done t → IsTold s t ⊎ IsTakenIn e i s t
+    by : (b : Bool) → is_seen_so s i e ≡ b → EndsFairly (and_then (only_if (not b) (move_entry e i p)) Taking s) done t → IsTold s t ⊎ (IsTakenIn e i s t × SeesOnly e i s t)
     by true q z = so q (taking_clean s done t listening z)
     by false q z = last (then_clean (move_entry e i p) Taking Sees Ends move_clean taking_grows later s done t listening z)
 
 -- the cases of an entry
 
 changed_told : (e : Entry) (i p : Item) (s : State) (postponed : Bool) (t : State) → item_of (items_now s) i.id ≡ Some i → IsListening s → EndsFairly (changed_entry e i p s) postponed t
-    → IsTold s t ⊎ ((postponed ≡ true) × (t ≡ s) × (in_use s i.id ≡ true)) ⊎ ((postponed ≡ false) × IsTakenIn e i s t)
+    → IsTold s t ⊎ ((postponed ≡ true) × (t ≡ s) × (in_use s i.id ≡ true)) ⊎ ((postponed ≡ false) × IsTakenIn e i s t × SeesOnly e i s t)
 changed_told e i p s postponed t there listening ends = by (is_newer i e && in_use s i.id) refl ends where
   used : (a b : Bool) → (a && b) ≡ true → b ≡ true
   used true b e = e
   used false b e = no_way e
 
-  by : (b : Bool) → (is_newer i e && in_use s i.id) ≡ b → EndsFairly (changed_unless e i p b s) postponed t → IsTold s t ⊎ ((postponed ≡ true) × (t ≡ s) × (in_use s i.id ≡ true)) ⊎ ((postponed ≡ false) × IsTakenIn e i s t)
+  by : (b : Bool) → (is_newer i e && in_use s i.id) ≡ b → EndsFairly (changed_unless e i p b s) postponed t → IsTold s t ⊎ ((postponed ≡ true) × (t ≡ s) × (in_use s i.id ≡ true)) ⊎ ((postponed ≡ false) × IsTakenIn e i s t × SeesOnly e i s t)
   by true q z = inr (inl (z.0, z.1, used (is_newer i e) (in_use s i.id) q))
   by false q z = done (turned (changed_steps e i p) s postponed t z) where
-    done : ((d : Bool) × EndsFairly (changed_steps e i p s) d t × (postponed ≡ false)) → IsTold s t ⊎ ((postponed ≡ true) × (t ≡ s) × (in_use s i.id ≡ true)) ⊎ ((postponed ≡ false) × IsTakenIn e i s t)
+    done : ((d : Bool) × EndsFairly (changed_steps e i p s) d t × (postponed ≡ false)) → IsTold s t ⊎ ((postponed ≡ true) × (t ≡ s) × (in_use s i.id ≡ true)) ⊎ ((postponed ≡ false) × IsTakenIn e i s t × SeesOnly e i s t)
     done x = also (steps_told e i p s x.0 t there listening x.1) where
-      also : IsTold s t ⊎ IsTakenIn e i s t → IsTold s t ⊎ ((postponed ≡ true) × (t ≡ s) × (in_use s i.id ≡ true)) ⊎ ((postponed ≡ false) × IsTakenIn e i s t)
+      also : IsTold s t ⊎ (IsTakenIn e i s t × SeesOnly e i s t) → IsTold s t ⊎ ((postponed ≡ true) × (t ≡ s) × (in_use s i.id ≡ true)) ⊎ ((postponed ≡ false) × IsTakenIn e i s t × SeesOnly e i s t)
       also (inl k) = inl k
-      also (inr k) = inr (inr (x.2, k))
+      also (inr k) = inr (inr (x.2, k.0, k.1))
 
 pub turn_told : (e : Entry) (s : State) (postponed : Bool) (t : State) → Invariant s → IsFair s.link → IsListening s → EndsFairly (take_turn e s) postponed t → IsTold s t ⊎ IsTurnOf e s postponed t
 turn_told e s postponed t h fair listening ends = by (by_target (items_now s) e.rid) (parent_here s e) refl refl ends where
@@ -276,10 +276,10 @@ turn_told e s postponed t h fair listening ends = by (by_target (items_now s) e.
   went i f (inl k) = inl k
   went i f (inr k) = inr (inl (k.0, k.1, i, f, k.2))
 
-  changed : (i : Item) → by_target (items_now s) e.rid ≡ Some i → e.live ≡ true → IsTold s t ⊎ ((postponed ≡ true) × (t ≡ s) × (in_use s i.id ≡ true)) ⊎ ((postponed ≡ false) × IsTakenIn e i s t) → IsTold s t ⊎ IsTurnOf e s postponed t
+  changed : (i : Item) → by_target (items_now s) e.rid ≡ Some i → e.live ≡ true → IsTold s t ⊎ ((postponed ≡ true) × (t ≡ s) × (in_use s i.id ≡ true)) ⊎ ((postponed ≡ false) × IsTakenIn e i s t × SeesOnly e i s t) → IsTold s t ⊎ IsTurnOf e s postponed t
   changed i f live (inl k) = inl k
   changed i f live (inr (inl k)) = inr (inl (k.0, k.1, i, f, k.2))
-  changed i f live (inr (inr k)) = inr (inr (inr (k.0, live, i, f, k.1)))
+  changed i f live (inr (inr k)) = inr (inr (inr (k.0, live, i, f, k.1, k.2)))
 
   old : (i : Item) → by_target (items_now s) e.rid ≡ Some i → (b : Bool) (o : Option Item) → e.live ≡ b → EndsFairly (known b e i o s) postponed t → IsTold s t ⊎ IsTurnOf e s postponed t
   old i f true (Some p) live z = changed i f live (changed_told e i p s postponed t (there i f) listening z)

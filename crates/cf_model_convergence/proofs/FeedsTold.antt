@@ -22,14 +22,19 @@ use Rattle.cf_model_convergence.proofs.TidyItems.{below_next, each_found}
 
 -- members
 
-among_left : {A : Type 0} (x : A) (xs ys : List A) → Among x xs → Among x (xs ++ ys)
+pub among_left : {A : Type 0} (x : A) (xs ys : List A) → Among x xs → Among x (xs ++ ys)
 among_left x [] ys h = absurd h
 among_left x (y ∷ xs) ys (inl e) = inl e
 among_left x (y ∷ xs) ys (inr h) = inr (among_left x xs ys h)
 
-among_right : {A : Type 0} (x : A) (xs ys : List A) → Among x ys → Among x (xs ++ ys)
+pub among_right : {A : Type 0} (x : A) (xs ys : List A) → Among x ys → Among x (xs ++ ys)
 among_right x [] ys h = h
 among_right x (y ∷ xs) ys h = inr (among_right x xs ys h)
+
+pub all_among : {A : Type 0} (P : A → Type 0) (xs : List A) (x : A) → Among x xs → All P xs → P x
+all_among P [] x a h = absurd a
+all_among P (y ∷ ys) x (inl e) h = subst P e h.0
+all_among P (y ∷ ys) x (inr a) h = all_among P ys x a h.1
 
 pub among_map : {A B : Type 0} (f : A → B) (x : A) (xs : List A) → Among x xs → Among (f x) (map f xs)
 among_map f x [] h = absurd h

@@ -3,8 +3,10 @@ pub mod ApartTargets
 pub mod CountsGuarded
 pub mod EarlyCursors
 pub mod FeedTurns
+pub mod FeedsGrow
 pub mod FeedsOrder
 pub mod FeedsTold
+pub mod FeedsTurned
 pub mod ItemsPushed
 pub mod LastingGuarded
 pub mod LateChanges

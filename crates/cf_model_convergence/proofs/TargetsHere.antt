@@ -15,13 +15,9 @@ use Rattle.cf_model_laws.proofs.RightItems.{no_way}
 use Rattle.cf_model_laws.proofs.SoundSettles.{left_true, right_true}
 use Rattle.cf_model_convergence.specs.Feeds.{Among}
 use Rattle.cf_model_convergence.specs.Resting.{AreAllTargets, AreTargetsApart, IsAtRest}
+use Rattle.cf_model_convergence.proofs.FeedsTold.{all_among}
 use Rattle.cf_model_convergence.proofs.RestingMatches.{rest_matches}
 use Rattle.cf_model_convergence.proofs.SettledItems.{all_settled}
-
-all_among : (P : Item → Type 0) (items : List Item) (i : Item) → Among i items → All P items → P i
-all_among P [] i a h = absurd a
-all_among P (j ∷ items) i (inl e) h = subst P e h.0
-all_among P (j ∷ items) i (inr a) h = all_among P items i a h.1
 
 module _ (rid : Rid) where
   target_is : (i : Item) → has_target i rid ≡ true → (target_of i).0 ≡ rid.0

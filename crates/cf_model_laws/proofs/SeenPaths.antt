@@ -58,7 +58,8 @@ find_left test out (x ∷ xs) k = by (out x) refl (find_left test out xs k) wher
 abbrev first_seen : SeenPath → SeenPath → Bool
 first_seen x y = nat_lt x.item.0 y.item.0
 
-seen_past : (p : SeenPath) (b : Book) (id : ItemId) → (p.item.0 == id.0) ≡ false → seen_of (with_seen p b) id ≡ seen_of b id
+-- the path of another item
+pub seen_past : (p : SeenPath) (b : Book) (id : ItemId) → (p.item.0 == id.0) ≡ false → seen_of (with_seen p b) id ≡ seen_of b id
 seen_past p b id e =
     find_past (λ q. q.item.0 == id.0) first_seen p (without_seen p.item b.seen) e
     ∙ find_left (λ q. q.item.0 == id.0) (λ q. q.item.0 == p.item.0) b.seen (λ q z. subst (λ (n : ℕ). (n == id.0) ≡ false) (sym (eqb-true q.item.0 p.item.0 z)) e)
