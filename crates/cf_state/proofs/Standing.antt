@@ -1,5 +1,6 @@
 -- What is known of a world is what its states say.
-use Rattle.std.proofs.Common.{◌≡◌, sym, ◌∙◌, ap, ℕ, Bool, true, false, List, length, Result, IfOk}
+use Rattle.std.proofs.Common.{◌≡◌, ◌⊎◌, ◌≤◌, inl, inr, sym, ◌∙◌, ap, arith, ℕ, Bool, true, false, List, length, min, Result, IfOk}
+use Rattle.std.specs.Prelude.{◌-◌, ◌/◌}
 use Rattle.std.proofs.lemmas.Result.{IfOk-weaker}
 use Rattle.cf_base.specs.declared.memory.OutOfMemory.{OutOfMemory as NoMemory}
 use Rattle.cf_disk.specs.Disk.{State as Disk}
@@ -7,52 +8,61 @@ use Rattle.cf_filter_events.specs.Actors.{Acts}
 use Rattle.cf_filter_events.specs.Meaning.{IsOn, OnBy}
 use Rattle.cf_filter_events.specs.Pasts.{Past}
 use Rattle.cf_filter_events.specs.declared.places.Running.{Running as Run}
-use Rattle.cf_clusters.specs.Roles.{how_many, is_now}
+use Rattle.cf_filter_machine.proofs.Shown.{shows_at}
+use Rattle.cf_filter_machine.specs.Showing.{Shows}
+use Rattle.cf_model.specs.Blocks.{blocks_used}
 use Rattle.cf_model.specs.Items.{Item}
-use Rattle.cf_model.specs.State.{Broken, On, Power, State}
+use Rattle.cf_model.specs.State.{Broken, On, Power, State, Volume}
 use Rattle.cf_state.specs.Texts.{state_text, state_value, used_blocks, used_in}
 use Rattle.cf_state_rows.specs.Values.{line_of, volume_value}
 use Rattle.cf_table.specs.Tables.{MeansAll}
-use Rattle.cf_volume_points.proofs.Counted.{used_now}
-use Rattle.cf_volume_points.proofs.ItemChanges.{rows_mean}
-use Rattle.cf_volume_points.specs.At.{At}
-use Rattle.cf_volume_points.specs.Standing.{cluster_on}
+use Rattle.cf_volume_points.specs.Clusters.{clusters_in_rows}
 
--- an open volume that is not broken is at the volume of the state
-record IsAt {D A : Type 0} (state : D → Disk) (x : Run D A) (s : State) : Type 0 where
-  pub power : s.power ≡ On
-  pub volume : At (state x.filter.disk) x.filter.known s.filter.volume
+-- an open volume shows what the state has, broken or not
+record IsShown {D A : Type 0} (x : Run D A) (s : State) : Type 0 where
+  pub power : (s.power ≡ On) ⊎ (s.power ≡ Broken)
+  pub volume : Shows x.filter.known s.filter.volume
 
-by_break : {D A : Type 0} (acts : Acts A) (state : D → Disk) (x : Run D A) (s : State) (b : Bool) → OnBy acts state b x s → (s.power ≡ Broken → ⊥) → IsAt state x s
-by_break acts state x s false h whole = record { power = h.0; volume = h.2.volume }
-by_break acts state x s true h whole = absurd (whole h.0)
+by_break : {D A : Type 0} (acts : Acts A) (state : D → Disk) (x : Run D A) (s : State) (b : Bool) → OnBy acts state b x s → IsShown x s
+by_break acts state x s false h = record { power = inl h.0; volume = shows_at (state x.filter.disk) x.filter.known s.filter.volume h.2.volume }
+by_break acts state x s true h = record { power = inr h.0; volume = h.4 }
 
-whole_at : {D A : Type 0} (acts : Acts A) (state : D → Disk) (past : Past) (x : Run D A) (s : State) → IsOn acts state past x s → (s.power ≡ Broken → ⊥) → IsAt state x s
-whole_at acts state past x s h whole = by_break acts state x s x.filter.desk.broken h.is whole
+shown_on : {D A : Type 0} (acts : Acts A) (state : D → Disk) (past : Past) (x : Run D A) (s : State) → IsOn acts state past x s → IsShown x s
+shown_on acts state past x s h = by_break acts state x s x.filter.desk.broken h.is
 
-text_at : {D A : Type 0} (state : D → Disk) (x : Run D A) (s : State) (count epoch : ℕ) (r : Result (List ℕ) NoMemory)
+open_value : (p : Power) (v : Volume) → (p ≡ On) ⊎ (p ≡ Broken) → state_value p v ≡ volume_value (length v.log) v.epoch v.items
+open_value p v (inl on) = ap (λ (q : Power). state_value q v) on
+open_value p v (inr broken) = ap (λ (q : Power). state_value q v) broken
+
+open_used : (p : Power) (v : Volume) → (p ≡ On) ⊎ (p ≡ Broken) → used_in p v ≡ blocks_used v.items
+open_used p v (inl on) = ap (λ (q : Power). used_in q v) on
+open_used p v (inr broken) = ap (λ (q : Power). used_in q v) broken
+
+text_at : {D A : Type 0} (x : Run D A) (s : State) (count epoch : ℕ) (r : Result (List ℕ) NoMemory)
     → count ≡ x.filter.known.count → epoch ≡ x.filter.known.epoch
     → ((items : List Item) → MeansAll x.filter.known.table.rows items → IfOk r (λ b. b ≡ line_of (volume_value count epoch items)))
-    → IsAt state x s → IfOk r (λ b. b ≡ state_text s)
-text_at state x s count epoch r counted now told at =
-    let known = at.volume.now in
-    let length_is : count ≡ length s.filter.volume.log = counted ∙ known.count in
-    let epoch_is : epoch ≡ s.filter.volume.epoch = now ∙ known.epoch in
-    let shown : volume_value count epoch s.filter.volume.items ≡ state_value s.power s.filter.volume =
-    (λ j. volume_value (length_is j) (epoch_is j) s.filter.volume.items) ∙ sym (ap (λ (p : Power). state_value p s.filter.volume) at.power) in
-    IfOk-weaker r _ _ (λ b e. e ∙ ap line_of shown)
-    (told s.filter.volume.items (rows_mean (cluster_on (state x.filter.disk).seen) s.filter.volume.book x.filter.known.table.rows s.filter.volume.items known.rows))
+    → IsShown x s → IfOk r (λ b. b ≡ state_text s)
+text_at x s count epoch r counted now told shown =
+    let length_is : count ≡ length s.filter.volume.log = counted ∙ shown.volume.count in
+    let epoch_is : epoch ≡ s.filter.volume.epoch = now ∙ shown.volume.epoch in
+    let value : volume_value count epoch s.filter.volume.items ≡ state_value s.power s.filter.volume =
+    (λ j. volume_value (length_is j) (epoch_is j) s.filter.volume.items) ∙ sym (open_value s.power s.filter.volume shown.power) in
+    IfOk-weaker r _ _ (λ b e. e ∙ ap line_of value) (told s.filter.volume.items shown.volume.rows)
 
 pub text_on : {D A : Type 0} (acts : Acts A) (state : D → Disk) (past : Past) (x : Run D A) (s : State) (count epoch : ℕ) (r : Result (List ℕ) NoMemory)
     → count ≡ x.filter.known.count → epoch ≡ x.filter.known.epoch
     → ((items : List Item) → MeansAll x.filter.known.table.rows items → IfOk r (λ b. b ≡ line_of (volume_value count epoch items)))
-    → IsOn acts state past x s → (s.power ≡ Broken → ⊥) → IfOk r (λ b. b ≡ state_text s)
-text_on acts state past x s count epoch r counted now told h whole = text_at state x s count epoch r counted now told (whole_at acts state past x s h whole)
+    → IsOn acts state past x s → IfOk r (λ b. b ≡ state_text s)
+text_on acts state past x s count epoch r counted now told h = text_at x s count epoch r counted now told (shown_on acts state past x s h)
 
-pub used_on : {D A : Type 0} (acts : Acts A) (state : D → Disk) (past : Past) (x : Run D A) (s : State) (n : ℕ) → n ≡ how_many is_now x.filter.known.uses
-    → IsOn acts state past x s → (s.power ≡ Broken → ⊥) → n ≡ used_blocks s
-used_on acts state past x s n counted h whole =
-    let at = whole_at acts state past x s h whole in
-    let known = at.volume.now in
-    counted ∙ sym (used_now (cluster_on (state x.filter.disk).seen) s.filter.volume.book x.filter.known.table.rows s.filter.volume.items x.filter.known.uses known.rows known.owns)
-    ∙ sym (ap (λ (p : Power). used_in p s.filter.volume) at.power)
+-- no disk has so many clusters that a smaller number is told
+few_clusters : (size clusters used : ℕ) → size ≤ 271581184 → clusters ≡ (size - 3145728) / 4096 → used ≤ clusters → min used 4294967295 ≡ used
+few_clusters size clusters used fit is few = omega (arith, fit, is, few)
+
+pub used_on : {D A : Type 0} (acts : Acts A) (state : D → Disk) (past : Past) (x : Run D A) (s : State) (n : ℕ) → n ≡ min (length (clusters_in_rows x.filter.known.table.rows)) 4294967295
+    → IsOn acts state past x s → n ≡ used_blocks s
+used_on acts state past x s n counted h =
+    let shown = shown_on acts state past x s h in
+    counted ∙ ap (λ (k : ℕ). min k 4294967295) shown.volume.blocks
+    ∙ few_clusters (length (state x.filter.disk).seen) s.filter.volume.clusters (blocks_used s.filter.volume.items) h.disk.fit.1 h.disk.clusters shown.volume.few
+    ∙ sym (open_used s.power s.filter.volume shown.power)

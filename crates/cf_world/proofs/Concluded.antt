@@ -15,7 +15,7 @@ use Rattle.cf_filter_events.specs.declared.places.Acting.{Acting}
 use Rattle.cf_gen.specs.Summaries.{counts_of, summary}
 use Rattle.cf_gen.specs.declared.summaries.Counts.{Counts}
 use Rattle.cf_io.specs.Moves.{Adds, AddsFront, Rose}
-use Rattle.cf_model.specs.State.{Broken, State}
+use Rattle.cf_model.specs.State.{State}
 use Rattle.cf_script.specs.Script.{IsScript}
 use Rattle.cf_state.specs.Texts.{state_text, used_blocks}
 use Rattle.cf_volume.specs.Calls.{IsCause, StopsOnly}
@@ -43,9 +43,9 @@ made_is (Ok x) Is last is h = let e : x ≡ last = (let z : ◌≡◌ {A = Resul
 made_is (Err m) Is last is h = let z : ◌≡◌ {A = Result (List ℕ) NoMemory} (Err m) (Ok last) = is in absurd cc
 
 module _ {D A : Type 0} (state : D → Disk) (W : Acts A) (disk back : D) (first actor : A) (trace : List (Event × Answer)) (old new : Option (List ℕ)) where
-  pub puts_state : (made : Result (List ℕ) NoMemory) (s : Status) → PutsText made old new s → LeavesText state W disk first trace back actor (λ t. (t.power ≡ Broken → ⊥) → IfOk made (λ b. b ≡ state_text t)) → PutsEnd state W ending.State disk first trace old new s back actor
-  puts_state made status.Done p leaves = (p.0, λ held stood. let l = leaves held stood in (l.0, λ whole. made_is made (λ b. b ≡ state_text l.0.left) p.0 p.1 (l.1 whole)), p.2)
-  puts_state made status.SinkFault p leaves = (p.0, λ held stood. let l = leaves held stood in (l.0, λ whole. made_is made (λ b. b ≡ state_text l.0.left) p.0 p.1 (l.1 whole)), p.2)
+  pub puts_state : (made : Result (List ℕ) NoMemory) (s : Status) → PutsText made old new s → LeavesText state W disk first trace back actor (λ t. IfOk made (λ b. b ≡ state_text t)) → PutsEnd state W ending.State disk first trace old new s back actor
+  puts_state made status.Done p leaves = (p.0, λ held stood. let l = leaves held stood in (l.0, made_is made (λ b. b ≡ state_text l.0.left) p.0 p.1 l.1), p.2)
+  puts_state made status.SinkFault p leaves = (p.0, λ held stood. let l = leaves held stood in (l.0, made_is made (λ b. b ≡ state_text l.0.left) p.0 p.1 l.1), p.2)
   puts_state made status.OutOfMemory p leaves = p
   puts_state made status.Usage p leaves = absurd p
   puts_state made status.BadScript p leaves = absurd p
@@ -61,9 +61,9 @@ module _ {D A : Type 0} (state : D → Disk) (W : Acts A) (disk back : D) (first
   summed : (made : Result (List ℕ) NoMemory) (blocks : ℕ) (t : State) (last : List ℕ) → made ≡ Ok last → IfOk made (λ b. b ≡ summary trace blocks) → blocks ≡ used_blocks t → last ≡ summary trace (used_blocks t)
   summed made blocks t last is sums used = subst (λ (n : ℕ). last ≡ summary trace n) used (made_is made (λ b. b ≡ summary trace blocks) last is sums)
 
-  pub puts_summary : (made : Result (List ℕ) NoMemory) (blocks : ℕ) (s : Status) → PutsText made old new s → IfOk made (λ b. b ≡ summary trace blocks) → LeavesText state W disk first trace back actor (λ t. (t.power ≡ Broken → ⊥) → blocks ≡ used_blocks t) → PutsEnd state W ending.Summary disk first trace old new s back actor
-  puts_summary made blocks status.Done p sums leaves = (p.0, λ held stood. let l = leaves held stood in (l.0, λ whole. summed made blocks l.0.left p.0 p.1 sums (l.1 whole)), p.2)
-  puts_summary made blocks status.SinkFault p sums leaves = (p.0, λ held stood. let l = leaves held stood in (l.0, λ whole. summed made blocks l.0.left p.0 p.1 sums (l.1 whole)), p.2)
+  pub puts_summary : (made : Result (List ℕ) NoMemory) (blocks : ℕ) (s : Status) → PutsText made old new s → IfOk made (λ b. b ≡ summary trace blocks) → LeavesText state W disk first trace back actor (λ t. blocks ≡ used_blocks t) → PutsEnd state W ending.Summary disk first trace old new s back actor
+  puts_summary made blocks status.Done p sums leaves = (p.0, λ held stood. let l = leaves held stood in (l.0, summed made blocks l.0.left p.0 p.1 sums l.1), p.2)
+  puts_summary made blocks status.SinkFault p sums leaves = (p.0, λ held stood. let l = leaves held stood in (l.0, summed made blocks l.0.left p.0 p.1 sums l.1), p.2)
   puts_summary made blocks status.OutOfMemory p sums leaves = p
   puts_summary made blocks status.Usage p sums leaves = absurd p
   puts_summary made blocks status.BadScript p sums leaves = absurd p

@@ -13,7 +13,7 @@ use Rattle.cf_filter_events.specs.Pasts.{StandsFor}
 use Rattle.cf_gen.specs.Summaries.{summary}
 use Rattle.cf_io.specs.Moves.{Adds, AddsFront}
 use Rattle.cf_model.specs.Powers.{StandsNow}
-use Rattle.cf_model.specs.State.{Broken, State}
+use Rattle.cf_model.specs.State.{State}
 use Rattle.cf_model.specs.Store.{Held}
 use Rattle.cf_remote.specs.Told.{Told}
 use Rattle.cf_report.specs.Texts.{texts}
@@ -36,11 +36,10 @@ pub record IsCut (old new : Disk) (bytes : List ℕ) : Type 0 where
   pub only : (c : List ℕ) → new.may_leave c → c ≡ bytes
   pub powers : AddsPower Keep bytes old.powers new.powers
 
--- What is said of the text that is written at the end, where each disk that is handed back leads to a state. That the volume is
--- broken is said of no text.
+-- What is said of the text that is written at the end, where each disk that is handed back leads to a state.
 abbrev pub SaysOf : {D : Type 0} → (D → Disk) → (LeadsTo : D → Type 0) → ((d : D) → LeadsTo d → State) → Ending → List (Event × Answer) → D → List ℕ → Type 0
-SaysOf {D} state LeadsTo end ending.State trace back last = (l : LeadsTo back) × (((end back l).power ≡ Broken → ⊥) → last ≡ state_text (end back l))
-SaysOf {D} state LeadsTo end ending.Summary trace back last = (l : LeadsTo back) × (((end back l).power ≡ Broken → ⊥) → last ≡ summary trace (used_blocks (end back l)))
+SaysOf {D} state LeadsTo end ending.State trace back last = (l : LeadsTo back) × (last ≡ state_text (end back l))
+SaysOf {D} state LeadsTo end ending.Summary trace back last = (l : LeadsTo back) × (last ≡ summary trace (used_blocks (end back l)))
 SaysOf {D} state LeadsTo end ending.Image trace back last = (d : D) × (l : LeadsTo d) × IsCut (state d) (state back) last × StandsNow StandsFor (end d l) last
 
 -- of what is left of disk and actor, whichever remote of the definitions the actor stood for

@@ -12,7 +12,6 @@ ghost use Rattle.cf_disk.specs.Disk.{size_of};
 ghost use Rattle.cf_journal.specs.Settled.{IsFitSize};
 ghost use Rattle.cf_model.specs.Events.{is_of};
 ghost use Rattle.cf_volume.specs.Calls.{IsCause, StopsOnly};
-ghost use Rattle.cf_model.specs.State.{Broken};
 ghost use Rattle.cf_state.specs.Texts.{state_text, used_blocks};
 ghost use Rattle.cf_world.specs.Led.{HasRunOn, LeavesActor, LeavesText};
 
@@ -68,21 +67,21 @@ impl<D: Disk + Drop, A: Actor + Drop> World<D, A> {
         act(alloc, &mut self.acting, event)
     }
 
-    /// The disk and the actor, and the text of the state, of which nothing is said where a device call that failed broke the volume.
+    /// The disk and the actor, and the text of the state.
     pub(crate) fn state(self, alloc: Global) -> (D, A, Result<Blob, OutOfMemory>)
         requires { is_some self ≡ true }
         ensures { (disk : D) (first : A) (trace : List (Done × Answered)) → HasRunOn D.state A.acts disk first trace self
-            → LeavesText D.state A.acts disk first trace result.0 result.1 (λ s. (s.power ≡ Broken → ⊥) → IfOk result.2 (λ b. b ≡ state_text s)) }
+            → LeavesText D.state A.acts disk first trace result.0 result.1 (λ s. IfOk result.2 (λ b. b ≡ state_text s)) }
     {
         let World { acting, .. } = self;
         state_of(alloc, acting)
     }
 
-    /// The disk and the actor, and how many blocks are used, of which nothing is said where a device call that failed broke the volume.
+    /// The disk and the actor, and how many blocks are used.
     pub(crate) fn blocks(self) -> (D, A, u32)
         requires { is_some self ≡ true }
         ensures { (disk : D) (first : A) (trace : List (Done × Answered)) → HasRunOn D.state A.acts disk first trace self
-            → LeavesText D.state A.acts disk first trace result.0 result.1 (λ s. (s.power ≡ Broken → ⊥) → result.2 ≡ used_blocks s) }
+            → LeavesText D.state A.acts disk first trace result.0 result.1 (λ s. result.2 ≡ used_blocks s) }
     {
         let World { acting, .. } = self;
         blocks_of(acting)
@@ -116,7 +115,7 @@ fn state_of<D: Disk + Drop, A: Actor + Drop>(
 ) -> (D, A, Result<Blob, OutOfMemory>)
     requires { is_some acting ≡ true }
     ensures { (disk : D) (first : A) (trace : List (Done × Answered)) → HasRunOn D.state A.acts disk first trace acting
-        → LeavesText D.state A.acts disk first trace result.0 result.1 (λ s. (s.power ≡ Broken → ⊥) → IfOk result.2 (λ b. b ≡ state_text s)) }
+        → LeavesText D.state A.acts disk first trace result.0 result.1 (λ s. IfOk result.2 (λ b. b ≡ state_text s)) }
 {
     match acting {
         Some(acting) => {
@@ -132,7 +131,7 @@ fn state_of<D: Disk + Drop, A: Actor + Drop>(
 fn blocks_of<D: Disk + Drop, A: Actor + Drop>(acting: Option<Acting<D, A>>) -> (D, A, u32)
     requires { is_some acting ≡ true }
     ensures { (disk : D) (first : A) (trace : List (Done × Answered)) → HasRunOn D.state A.acts disk first trace acting
-        → LeavesText D.state A.acts disk first trace result.0 result.1 (λ s. (s.power ≡ Broken → ⊥) → result.2 ≡ used_blocks s) }
+        → LeavesText D.state A.acts disk first trace result.0 result.1 (λ s. result.2 ≡ used_blocks s) }
 {
     match acting {
         Some(acting) => {

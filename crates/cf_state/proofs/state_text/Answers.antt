@@ -7,9 +7,9 @@ use Rattle.cf_volume_points.specs.Known.{Known}
 use Rattle.cf_state.proofs.state_text.Goals as goal
 
 pub returns-in-On : goal.returns-in-On
-returns-in-On g c = λ past s is whole.
+returns-in-On g c = λ past s is.
     let table = c.rows.ensures ∙ ap (λ (k : Known). k.table) c.volume-volume.ensures.known in
     text_on g.A.Actor.acts g.D.Disk.state past c.in-On.running s c.count.result c.epoch.result c.volume_line.result
     (c.count.ensures ∙ ap (λ (k : Known). k.count) c.volume-volume.ensures.known) (c.epoch.ensures ∙ ap (λ (k : Known). k.epoch) c.volume-volume.ensures.known)
     (λ items m. c.volume_line.ensures items (subst (λ (t : Table). MeansAll t.rows items) (sym table) m))
-    (subst (λ (x : Acting _ _). Is g.A.Actor.acts g.D.Disk.state past x s) c.in-On.is is) whole
+    (subst (λ (x : Acting _ _). Is g.A.Actor.acts g.D.Disk.state past x s) c.in-On.is is)

@@ -1,12 +1,15 @@
-use Rattle.std.proofs.Common.{◌∙◌, ap, subst}
-use Rattle.cf_clusters.specs.Roles.{how_many, is_now}
+use Rattle.std.proofs.Common.{◌∙◌, List, ap, length, min, subst}
 use Rattle.cf_filter_events.specs.Meaning.{Is}
 use Rattle.cf_filter_events.specs.declared.places.Acting.{Acting}
 use Rattle.cf_state.proofs.Standing.{used_on}
+use Rattle.cf_table.specs.Tables.{Table}
+use Rattle.cf_table.specs.declared.rows.Row.{Row}
+use Rattle.cf_volume_points.specs.Clusters.{clusters_in_rows}
 use Rattle.cf_volume_points.specs.Known.{Known}
 use Rattle.cf_state.proofs.used_blocks.Goals as goal
 
 pub returns-in-On : goal.returns-in-On
-returns-in-On g c = λ past s is whole.
-    used_on g.A.Actor.acts g.D.Disk.state past c.in-On.running s c.used.result (c.used.ensures ∙ ap (λ (k : Known). how_many is_now k.uses) c.volume.ensures.known)
-    (subst (λ (x : Acting _ _). Is g.A.Actor.acts g.D.Disk.state past x s) c.in-On.is is) whole
+returns-in-On g c = λ past s is.
+    let rows = c.as_slice.ensures.value ∙ ap (λ (t : Table). t.rows) (c.rows.ensures ∙ ap (λ (k : Known). k.table) c.volume.ensures.known) in
+    used_on g.A.Actor.acts g.D.Disk.state past c.in-On.running s c.clusters_in.result (c.clusters_in.ensures ∙ ap (λ (rs : List Row). min (length (clusters_in_rows rs)) 4294967295) rows)
+    (subst (λ (x : Acting _ _). Is g.A.Actor.acts g.D.Disk.state past x s) c.in-On.is is)
