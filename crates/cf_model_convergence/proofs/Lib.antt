@@ -19,6 +19,7 @@ pub mod RestingMatches
 pub mod RightTargets
 pub mod RoundsTaken
 pub mod SettledItems
+pub mod SettlesTold
 pub mod TakenKnown
 pub mod TargetsHere
 pub mod TidyDepths

@@ -82,7 +82,7 @@ skip_told false c s u shows same = no_way shows
 
 -- replies
 
-abbrev is_decided : Reply → Bool
+abbrev pub is_decided : Reply → Bool
 is_decided (reply.Done token rid version) = true
 is_decided (reply.Refused token w version) = true
 is_decided _ = false
@@ -115,14 +115,14 @@ step_decided RemoveItem held e expect bytes none = mutated_decided held e.token 
 
 -- the request comes to the remote, and its reply is taken
 
-abbrev HasNumbers : State → Type 0
+abbrev pub HasNumbers : State → Type 0
 HasNumbers t = no_number t ≡ false
 
-numbers_used : {A : Type 0} (s t : State) → t ≡ s → no_number s ≡ true → HasNumbers t → A
+pub numbers_used : {A : Type 0} (s t : State) → t ≡ s → no_number s ≡ true → HasNumbers t → A
 numbers_used s t e used left = no_way (sym (subst (λ (x : State). no_number x ≡ false) e left) ∙ used)
 
 -- a reply that decides was sent: it is reported, whatever becomes of it
-reply_told : (m : ℕ) (q : Request) (r : Reply) (s : State) (u : Unit {0}) (t : State) → is_decided r ≡ true → (IsFair s.link → ToldAt s m q r) → Keeps Invariant (bind (answered m (Some r) s) (take_if_any q)) → EndsFairly (bind (answered m (Some r) s) (take_if_any q)) u t → HasNumbers t → IsTold s t
+pub reply_told : (m : ℕ) (q : Request) (r : Reply) (s : State) (u : Unit {0}) (t : State) → is_decided r ≡ true → (IsFair s.link → ToldAt s m q r) → Keeps Invariant (bind (answered m (Some r) s) (take_if_any q)) → EndsFairly (bind (answered m (Some r) s) (take_if_any q)) u t → HasNumbers t → IsTold s t
 reply_told m q r s u t decided told kept ends left = by (no_number s) refl kept ends where
   sent : State
   sent = with_message (frame.Reply m r) s
@@ -140,6 +140,15 @@ reply_told m q r s u t decided told kept ends left = by (no_number s) refl kept 
   by true used k e = numbers_used s t e.1 used left
   by false used k e = two (no_bytes (frame.Reply m r) s) k e
 
+-- the remote's answer is a reply to the request that was posted
+pub told_at_once : (q : Request) (s : State) → Invariant s → IsFair (with_remote (remote_step s.link.remote q).1 (counted (with_message (frame.Request q) s))).link
+    → ToldAt (with_remote (remote_step s.link.remote q).1 (counted (with_message (frame.Request q) s))) (length (with_message (frame.Request q) s).link.messages) q (remote_step s.link.remote q).0
+told_at_once q s h fair = (
+  last_message s.link.messages (frame.Request q),
+  tells_truth s.link.remote q (h.1 (fair.0, small_before s.link.remote q fair.1)).counted,
+  still_bytes s.link.remote (remote_step s.link.remote q).1 q (remote_step s.link.remote q).0 (step_extends s.link.remote q) (tells_bytes s.link.remote q),
+)
+
 -- the request is sent, under a token that has no record
 
 module _ (a : Action) (e : QueueEntry) (expect : Version) (bytes : List ℕ) where
@@ -149,19 +158,11 @@ module _ (a : Action) (e : QueueEntry) (expect : Version) (bytes : List ℕ) whe
   abbrev posted : State → State
   posted s = with_message (frame.Request asked) s
 
-  told_now : (s : State) → Invariant s → IsFair (with_remote (remote_step s.link.remote asked).1 (counted (posted s))).link
-      → ToldAt (with_remote (remote_step s.link.remote asked).1 (counted (posted s))) (length (posted s).link.messages) asked (remote_step s.link.remote asked).0
-  told_now s h fair = (
-    last_message s.link.messages (frame.Request asked),
-    tells_truth s.link.remote asked (h.1 (fair.0, small_before s.link.remote asked fair.1)).counted,
-    still_bytes s.link.remote (remote_step s.link.remote asked).1 asked (remote_step s.link.remote asked).0 (step_extends s.link.remote asked) (tells_bytes s.link.remote asked),
-  )
-
   come_told : (s : State) (u : Unit {0}) (t : State) (b : Bool) → b ≡ true → Invariant s → recorded_at s.link.remote.tokens e.token ≡ None → Keeps Invariant (come_if asked b (posted s)) → EndsFairly (come_if asked b (posted s)) u t → HasNumbers t → IsTold (posted s) t
   come_told s u t false inline h none kept ends left = no_way inline
   come_told s u t true inline h none kept (inl ends) left =
       let k : IsTold (with_remote (remote_step s.link.remote asked).1 (counted (posted s))) t =
-      reply_told (length (posted s).link.messages) asked (remote_step s.link.remote asked).0 (with_remote (remote_step s.link.remote asked).1 (counted (posted s))) u t (step_decided a s.link.remote e expect bytes none) (told_now s h) (kept AsItKeeps) ends left in
+      reply_told (length (posted s).link.messages) asked (remote_step s.link.remote asked).0 (with_remote (remote_step s.link.remote asked).1 (counted (posted s))) u t (step_decided a s.link.remote e expect bytes none) (told_at_once asked s h) (kept AsItKeeps) ends left in
       record { lines = k.lines; noted = k.noted; loud = k.loud }
   come_told s u t true inline h none kept (inr ends) left = subst (IsTold (posted s)) (sym ends.1) (told_one (posted s) (fault_line (length (posted s).link.messages) (counted (posted s))) (notice.Fault (length (posted s).link.messages)) refl refl)
 

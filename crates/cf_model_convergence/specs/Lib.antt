@@ -8,6 +8,7 @@ pub mod Ready
 pub mod Resting
 pub mod Rounds
 pub mod Scripts
+pub mod Settles
 pub mod Telling
 pub mod Tidy
 pub mod Turns

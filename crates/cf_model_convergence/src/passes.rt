@@ -1,6 +1,6 @@
 //! Passes, and what they report.
 
-ghost use Rattle.std.specs.Prelude.{◌≡◌, ◌⊎◌, ℕ, List, false, true};
+ghost use Rattle.std.specs.Prelude.{◌≡◌, ◌⊎◌, ℕ, List, [], false, true};
 ghost use Rattle.cf_base.specs.declared.answers.Answer.{Answer};
 ghost use Rattle.cf_base.specs.declared.events.Event.{Event};
 ghost use Rattle.cf_base.specs.declared.ids.ItemId.{ItemId};
@@ -9,7 +9,7 @@ ghost use Rattle.cf_model.specs.Books.{Action, Tombstone};
 ghost use Rattle.cf_model.specs.Items.{Item};
 ghost use Rattle.cf_model.specs.Lawful.{Runs};
 ghost use Rattle.cf_model.specs.Messages.{no_number};
-ghost use Rattle.cf_model.specs.Passes.{pass, sync_passes};
+ghost use Rattle.cf_model.specs.Passes.{pass, settle_all, sync_passes};
 ghost use Rattle.cf_model.specs.Pushes.{is_tombstone_left_out, push_all, push_item, push_removal, push_tombstone, push_turn};
 ghost use Rattle.cf_model.specs.Settled.{is_settled};
 ghost use Rattle.cf_model.specs.State.{State, start};
@@ -19,6 +19,7 @@ ghost use Rattle.cf_model_laws.specs.Invariant.{Invariant};
 ghost use Rattle.cf_model_laws.specs.Premises.{IsFair, IsFresh};
 ghost use Rattle.cf_model_convergence.specs.Adding.{AddsTo};
 ghost use Rattle.cf_model_convergence.specs.Ready.{IsReady};
+ghost use Rattle.cf_model_convergence.specs.Settles.{IsSettledTo};
 ghost use Rattle.cf_model_convergence.specs.Telling.{AreWhole, EndsFairly, IsIdle, IsListening, IsPushable, IsTold, IsTurned};
 
 /// A pass takes nothing from the notes or the log. As long as it has added no line of a change, the log and the items are as they
@@ -27,6 +28,14 @@ ghost use Rattle.cf_model_convergence.specs.Telling.{AreWhole, EndsFairly, IsIdl
 pub fn a_pass_only_adds()
     ensures one { (remote : Held) (clusters : ℕ) (trace : List (Event × Answer)) (s : State) → Runs mode.Replay (start mode.Replay remote clusters) trace s → IsFresh remote → Keeps (AddsTo s) (pass s) }
     ensures all { (remote : Held) (clusters : ℕ) (trace : List (Event × Answer)) (s : State) → Runs mode.Replay (start mode.Replay remote clusters) trace s → IsFresh remote → Keeps (AddsTo s) (sync_passes s) }
+{}
+
+/// A pass asks first what became of each upload on its way. Over a link that answers at once a line reports that one was done, or
+/// trouble; or none is on its way any more. Then of the filter only the uploads and the notes are others, and of the remote the
+/// records of tokens.
+#[tactic(auto, using(crate::proofs::SettlesTold::settles_told))]
+pub fn settled_uploads_are_told_or_gone()
+    ensures { (s : State) (u : Unit {0}) (t : State) → Invariant s → IsFair s.link → IsListening s → EndsFairly (settle_all s) u t → no_number t ≡ false → IsTold s t ⊎ IsSettledTo [] s t }
 {}
 
 /// An upload that a pass sends over a link that answers at once is reported, where the remote keeps its rules or fails, and numbers of

@@ -45,19 +45,19 @@ sound_of P closed s h fair = (closed.on_filter s h).sound s.filter h fair
 
 -- requests that say nothing of uploads
 
-settle_posted : (s : State) (token : Token) → WasGiven s.filter.volume.epoch s.volatile.tokens token.0 → PostedIn s (Some (frame.Request (request.Settle token)))
+pub settle_posted : (s : State) (token : Token) → WasGiven s.filter.volume.epoch s.volatile.tokens token.0 → PostedIn s (Some (frame.Request (request.Settle token)))
 settle_posted s token given = plain_posted (request.Settle token) s (λ t b. tt) given (all_any (λ a. is_fetch a.ask.kind ≡ true → Names s.link.remote (items_now s) a.ask (request.Settle token)) (λ a f. tt) s.filter.waiting.asks)
 
-feed_posted : (s : State) (round : Round) (after : ℕ) → PostedIn s (Some (frame.Request (request.Feed round after)))
+pub feed_posted : (s : State) (round : Round) (after : ℕ) → PostedIn s (Some (frame.Request (request.Feed round after)))
 feed_posted s round after = plain_posted (request.Feed round after) s (λ t b. tt) tt (all_any (λ a. is_fetch a.ask.kind ≡ true → Names s.link.remote (items_now s) a.ask (request.Feed round after)) (λ a f. tt) s.filter.waiting.asks)
 
-abbrev Whatever : Bool → Bool → Type 0
+abbrev pub Whatever : Bool → Bool → Type 0
 Whatever d p = Unit {0}
 
-abbrev Entries : List QueueEntry → State → Type 0
+abbrev pub Entries : List QueueEntry → State → Type 0
 Entries es s = FrameIn ⊥ no_item Whatever es s
 
-settle_list : (P : State → Type 0) → Guarded P → (es : List QueueEntry) (s : State) → P s × Entries es s → Keeps P (each settle_entry es s)
+pub settle_list : (P : State → Type 0) → Guarded P → (es : List QueueEntry) (s : State) → P s × Entries es s → Keeps P (each settle_entry es s)
 settle_list P closed [] s h = h.0
 settle_list P closed (e ∷ es) s h =
     kept_leads P (each settle_entry (e ∷ es) s)
@@ -65,15 +65,15 @@ settle_list P closed (e ∷ es) s h =
     (first_led P (Entries (e ∷ es)) (settle_entry e s) (send_now_at (λ t. P t × Entries (e ∷ es) t) (guarded_framed ⊥ no_item Whatever (λ d p k. tt) (e ∷ es) P closed) (request.Settle e.token) s (λ fair. settle_posted s e.token (h.1.1 fair).0) h))
     (λ u t k. leads_kept P (each settle_entry es t) (settle_list P closed es t (k.0, (k.1.0, λ fair. (k.1.1 fair).1)))))
 
-settle_all_keeps : (P : State → Type 0) → Guarded P → Preserves P settle_all
+pub settle_all_keeps : (P : State → Type 0) → Guarded P → Preserves P settle_all
 settle_all_keeps P closed = record {
   keeps = λ s h. settle_list P closed (book_now s).entries s (h, (λ u. absurd u, λ fair. all_weaker (IsEntryOf (next_number s.filter.volume) s.filter.volume.next_item.0 s.filter.volume.epoch s.volatile.tokens) (λ e. WasGiven s.filter.volume.epoch s.volatile.tokens e.token.0) (λ e k. k.token) (book_now s).entries (sound_of P closed s h fair).now.given));
 }
 
-try_round_keeps : (P : State → Type 0) → Guarded P → Preserves P try_round
+pub try_round_keeps : (P : State → Type 0) → Guarded P → Preserves P try_round
 try_round_keeps P closed = record { keeps = λ s h. tried_at Whichever P (guarded_skipping P closed) why_no_round (one (with_volatile with_round)) s h (h, closed.keeps_volatile_with_round s h) }
 
-send_feed_keeps : (P : State → Type 0) → Guarded P → Preserves P send_feed
+pub send_feed_keeps : (P : State → Type 0) → Guarded P → Preserves P send_feed
 send_feed_keeps P closed = record { keeps = λ s h. send_now_at P closed (feed_of s) s (λ fair. feed_posted s (record { 0 = record { epoch = s.filter.volume.epoch; number = s.volatile.rounds } }) (book_now s).cursor) h }
 
 pub feed_if_keeps : (P : State → Type 0) → Guarded P → (x1 : Bool) → Preserves P (feed_if x1)

@@ -53,7 +53,7 @@ fresh_left epoch n k h = by (same_key (key_after epoch n) k) refl where
   by true e = absurd (new_key epoch n k h e)
   by false e = refl
 
-swapped : (a b : Key) → same_key a b ≡ same_key b a
+pub swapped : (a b : Key) → same_key a b ≡ same_key b a
 swapped a b = grind (arith, nat_tests)
 
 fresh_right : (epoch n : ℕ) (k : Key) → WasGiven epoch n k → same_key k (key_after epoch n) ≡ false
