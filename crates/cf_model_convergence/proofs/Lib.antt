@@ -2,6 +2,7 @@ pub mod AddingGuarded
 pub mod ApartTargets
 pub mod CountsGuarded
 pub mod EarlyCursors
+pub mod FeedAsked
 pub mod FeedTurns
 pub mod FeedsGrow
 pub mod FeedsOrder

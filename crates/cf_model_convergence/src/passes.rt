@@ -1,6 +1,6 @@
 //! Passes, and what they report.
 
-ghost use Rattle.std.specs.Prelude.{◌≡◌, ◌⊎◌, ℕ, List, [], false, true};
+ghost use Rattle.std.specs.Prelude.{◌≡◌, ◌⊎◌, ◌≤◌, ℕ, List, [], false, true};
 ghost use Rattle.cf_base.specs.declared.answers.Answer.{Answer};
 ghost use Rattle.cf_base.specs.declared.events.Event.{Event};
 ghost use Rattle.cf_base.specs.declared.ids.ItemId.{ItemId};
@@ -9,17 +9,18 @@ ghost use Rattle.cf_model.specs.Books.{Action, Tombstone};
 ghost use Rattle.cf_model.specs.Items.{Item};
 ghost use Rattle.cf_model.specs.Lawful.{Runs};
 ghost use Rattle.cf_model.specs.Messages.{no_number};
-ghost use Rattle.cf_model.specs.Passes.{pass, settle_all, sync_passes};
+ghost use Rattle.cf_model.specs.Passes.{ask_feed, pass, settle_all, sync_passes};
 ghost use Rattle.cf_model.specs.Pushes.{is_tombstone_left_out, push_all, push_item, push_removal, push_tombstone, push_turn};
 ghost use Rattle.cf_model.specs.Settled.{is_settled};
-ghost use Rattle.cf_model.specs.State.{State, start};
+ghost use Rattle.cf_model.specs.State.{State, book_now, start};
 ghost use Rattle.cf_model.specs.Store.{Held};
 ghost use Rattle.cf_model.specs.Trees.{Keeps};
 ghost use Rattle.cf_model_laws.specs.Invariant.{Invariant};
 ghost use Rattle.cf_model_laws.specs.Premises.{IsFair, IsFresh};
 ghost use Rattle.cf_model_convergence.specs.Adding.{AddsTo};
 ghost use Rattle.cf_model_convergence.specs.Ready.{IsReady};
-ghost use Rattle.cf_model_convergence.specs.Settles.{IsSettledTo};
+ghost use Rattle.cf_model_convergence.specs.Settles.{IsFed, IsSettledTo};
+ghost use Rattle.cf_model_convergence.specs.Tidy.{IsTidy};
 ghost use Rattle.cf_model_convergence.specs.Telling.{AreWhole, EndsFairly, IsIdle, IsListening, IsPushable, IsTold, IsTurned};
 
 /// A pass takes nothing from the notes or the log. As long as it has added no line of a change, the log and the items are as they
@@ -36,6 +37,14 @@ pub fn a_pass_only_adds()
 #[tactic(auto, using(crate::proofs::SettlesTold::settles_told))]
 pub fn settled_uploads_are_told_or_gone()
     ensures { (s : State) (u : Unit {0}) (t : State) → Invariant s → IsFair s.link → IsListening s → EndsFairly (settle_all s) u t → no_number t ≡ false → IsTold s t ⊎ IsSettledTo [] s t }
+{}
+
+/// Then it asks a feed. Over such a link of a tidy remote, with no upload on its way and a cursor that is no later than the remote, a line reports
+/// a change, a step that was left out or trouble; or the feed is taken in: each of its entries is postponed as its item is in use, of no
+/// case, or taken in, and nothing is held back.
+#[tactic(auto, using(crate::proofs::FeedAsked::feed_told))]
+pub fn a_feed_is_told_or_taken_in()
+    ensures { (s : State) (u : Unit {0}) (t : State) → Invariant s → IsFair s.link → IsListening s → IsTidy s.link.remote → (book_now s).entries ≡ [] → (book_now s).cursor ≤ s.link.remote.clock → EndsFairly (ask_feed s) u t → no_number t ≡ false → IsTold s t ⊎ IsFed s t }
 {}
 
 /// An upload that a pass sends over a link that answers at once is reported, where the remote keeps its rules or fails, and numbers of
