@@ -1,5 +1,5 @@
 -- A feed is asked for over a link that answers at once: it is reported, or it is taken in.
-use Rattle.std.proofs.Common.{◌≡◌, ◌⊎◌, ◌≤◌, ◌+◌, ℕ, Bool, true, false, List, [], ◌∷◌, refl, sym, ◌∙◌, subst, inl, inr, arith, length}
+use Rattle.std.proofs.Common.{◌≡◌, ◌⊎◌, ◌≤◌, ◌+◌, ℕ, Bool, true, false, List, [], ◌∷◌, refl, sym, ◌∙◌, ap, subst, inl, inr, arith, length}
 use Rattle.std.specs.Prelude.{Option, Some, None, cond, not, ◌&&◌, ◌==◌}
 use Rattle.std.proofs.lemmas.Bool.{eqb-true}
 use Rattle.std.proofs.lemmas.List.{append_assoc}
@@ -12,8 +12,9 @@ use Rattle.cf_base.specs.declared.notices.Frame.TheVariants as frame
 use Rattle.cf_base.specs.declared.notices.Notice.{Notice}
 use Rattle.cf_base.specs.declared.notices.Notice.TheVariants as notice
 use Rattle.cf_model.specs.Arrows.{one, only_if, unless_done}
-use Rattle.cf_model.specs.Books.{with_cursor}
-use Rattle.cf_model.specs.Feeds.{Fed, all_released, all_turns, apply_entries, cursor_if, end_feed, is_seen_so, is_whole, with_clock_seen}
+use Rattle.cf_model.specs.Books.{seen_of, with_cursor}
+use Rattle.cf_base.specs.declared.ids.ItemId.{ItemId}
+use Rattle.cf_model.specs.Feeds.{Fed, all_released, all_turns, apply_entries, cursor_if, end_feed, is_listing, is_seen_so, is_whole, with_clock_seen}
 use Rattle.cf_model.specs.Fits.{are_distinct}
 use Rattle.cf_model.specs.Identities.{target_of}
 use Rattle.cf_model.specs.Items.{Item}
@@ -36,13 +37,13 @@ use Rattle.cf_model_laws.proofs.Gathered.{all_weaker}
 use Rattle.cf_model_laws.proofs.MessagesGuarded.{reply_posted}
 use Rattle.cf_model_laws.proofs.PassesGuarded.{feed_posted}
 use Rattle.cf_model_laws.proofs.RightItems.{no_way}
-use Rattle.cf_model_laws.proofs.SoundSettles.{right_true}
+use Rattle.cf_model_laws.proofs.SoundSettles.{left_true, not_true, right_true}
 use Rattle.cf_model_convergence.specs.Resting.{IsTargetOf}
 use Rattle.cf_model_convergence.specs.Rounds.{AwaitsFeed}
 use Rattle.cf_model_convergence.specs.Settles.{IsFed}
 use Rattle.cf_model_convergence.specs.Telling.{EndsFairly, IsListening, IsTold}
 use Rattle.cf_model_convergence.specs.Tidy.{IsTidy}
-use Rattle.cf_model_convergence.specs.Turns.{AreTurned, IsLeftBy, with_paths}
+use Rattle.cf_model_convergence.specs.Turns.{AreTurned, IsLeftBy, IsOfNone, with_paths}
 use Rattle.cf_model_convergence.proofs.AddingGuarded.{In, itself}
 use Rattle.cf_model_convergence.proofs.FeedsTold.{fits_known}
 use Rattle.cf_model_convergence.proofs.FeedsTurned.{turns_told}
@@ -87,16 +88,16 @@ end_grows : (clock skips : ℕ) (f : Fed) → Grows (end_feed clock skips f)
 end_grows clock skips f w = record { keeps = λ t j. (cursor_grows clock (is_whole skips f (with_clock_seen clock (with_volatile all_released t))) w).keeps (with_clock_seen clock (with_volatile all_released t)) j }
 
 -- the cursor stays, becomes the clock, or there is the line that it was left out
-end_left : (clock : ℕ) (b : Bool) (m : State) (u : Unit {0}) (t : State) → IsListening m → EndsFairly (cursor_if clock b m) u t → IsTold m t ⊎ (t ≡ m) ⊎ (t ≡ with_book (with_cursor clock) m)
+end_left : (clock : ℕ) (b : Bool) (m : State) (u : Unit {0}) (t : State) → IsListening m → EndsFairly (cursor_if clock b m) u t → IsTold m t ⊎ (t ≡ m) ⊎ ((b ≡ true) × (t ≡ with_book (with_cursor clock) m))
 end_left clock false m u t listening ends = inr (inl ends.1)
 end_left clock true m u t listening ends =
     let k = ends_bind (try_cursor clock m) whatever u t ends in
-    subst (λ (x : State). IsTold m x ⊎ (x ≡ m) ⊎ (x ≡ with_book (with_cursor clock) m)) (sym k.3.1) (by (not (is_cursor clock m)) k.0 k.1 k.2) where
-      stored : (o : Option Code) (d : Bool) (x : State) → EndsFairly (bind (unless_done (in_book (with_cursor clock)) o m) left_out) d x → IsTold m x ⊎ (x ≡ m) ⊎ (x ≡ with_book (with_cursor clock) m)
-      stored None d x z = inr (inr z.1)
+    subst (λ (x : State). IsTold m x ⊎ (x ≡ m) ⊎ ((true ≡ true) × (x ≡ with_book (with_cursor clock) m))) (sym k.3.1) (by (not (is_cursor clock m)) k.0 k.1 k.2) where
+      stored : (o : Option Code) (d : Bool) (x : State) → EndsFairly (bind (unless_done (in_book (with_cursor clock)) o m) left_out) d x → IsTold m x ⊎ (x ≡ m) ⊎ ((true ≡ true) × (x ≡ with_book (with_cursor clock) m))
+      stored None d x z = inr (inr (refl, z.1))
       stored (Some c) d x z = inl (subst (IsTold m) (sym z.1) (skip_told m.running.shows_skips c m (record m { running = record m.running { skips = m.running.skips + 1 } }) listening.shows refl))
 
-      by : (b : Bool) (d : Bool) (x : State) → EndsFairly (only_if b (try_book (with_cursor clock)) m) d x → IsTold m x ⊎ (x ≡ m) ⊎ (x ≡ with_book (with_cursor clock) m)
+      by : (b : Bool) (d : Bool) (x : State) → EndsFairly (only_if b (try_book (with_cursor clock)) m) d x → IsTold m x ⊎ (x ≡ m) ⊎ ((true ≡ true) × (x ≡ with_book (with_cursor clock) m))
       by true d x z = stored (why_no_record (with_cursor clock) m) d x z
       by false d x z = inr (inl z.1)
 
@@ -148,15 +149,20 @@ module _ (s : State) (h : Invariant s) (fair : IsFair s.link) (listening : IsLis
   distinct : are_distinct listed ≡ true
   distinct = right_true _ (are_distinct listed) (fits_known s.link.remote (book_now s).cursor [] tidy tt)
 
-  left_so : (ps : List SeenPath) (t : State) → items_now t ≡ items_now s → ((e : Entry) (i : Item) → is_seen_so (with_paths ps taken) i e ≡ true → is_seen_so t i e ≡ true) → (e : Entry) → IsLeftBy e taken (with_paths ps taken) → IsLeftBy e s t
-  left_so ps t items seen e (inl k) = inl k
-  left_so ps t items seen e (inr (inl k)) = inr (inl k)
-  left_so ps t items seen e (inr (inr k)) = inr (inr (k.0, k.1, k.2, record { items = items; seen = seen e k.1 k.3.seen; version = k.3.version }))
+  abbrev Turned : Bool → List SeenPath → Type 0
+  Turned b ps =
+      All (λ e. IsLeftBy b e taken (with_paths ps taken)) listed × ((id : ItemId) → IsOfNone listed (items_now s) id → seen_of (book_now (with_paths ps taken)) id ≡ seen_of (book_now s) id)
 
-  stays_fed : (ps : List SeenPath) → All (λ e. IsLeftBy e taken (with_paths ps taken)) listed → IsFed s (ended ps)
-  stays_fed ps k = record {
+  left_so : (b : Bool) (ps : List SeenPath) (t : State) → items_now t ≡ items_now s → ((e : Entry) (i : Item) → is_seen_so (with_paths ps taken) i e ≡ true → is_seen_so t i e ≡ true) → (e : Entry) → IsLeftBy b e taken (with_paths ps taken) → IsLeftBy b e s t
+  left_so b ps t items seen e (inl k) = inl k
+  left_so b ps t items seen e (inr (inl k)) = inr (inl k)
+  left_so b ps t items seen e (inr (inr k)) = inr (inr (k.0, k.1, k.2, record { items = items; seen = seen e k.1 k.3.seen; version = k.3.version }))
+
+  stays_fed : (b : Bool) (ps : List SeenPath) → Turned b ps → IsFed s (ended ps)
+  stays_fed b ps k = record {
     paths = ps;
     filter = refl;
+    postponed = b;
     cursor = inl refl;
     remote = refl;
     inline = refl;
@@ -164,29 +170,35 @@ module _ (s : State) (h : Invariant s) (fair : IsFair s.link) (listening : IsLis
     shows = refl;
     items_free = refl;
     tombstones_free = refl;
-    entries = all_weaker (λ e. IsLeftBy e taken (with_paths ps taken)) (λ e. IsLeftBy e s (ended ps)) (left_so ps (ended ps) refl (λ e i z. z)) listed k;
+    entries = all_weaker (λ e. IsLeftBy b e taken (with_paths ps taken)) (λ e. IsLeftBy b e s (ended ps)) (left_so b ps (ended ps) refl (λ e i z. z)) listed k.0;
+    others = k.1;
   }
 
-  moves_fed : (ps : List SeenPath) → All (λ e. IsLeftBy e taken (with_paths ps taken)) listed → IsFed s (with_book (with_cursor clock) (ended ps))
-  moves_fed ps k = record {
+  moves_fed : (b : Bool) (ps : List SeenPath) → b ≡ false → Turned b ps → IsFed s (with_book (with_cursor clock) (ended ps))
+  moves_fed b ps none k = record {
     paths = ps;
     filter = refl;
-    cursor = inr refl;
+    postponed = b;
+    cursor = inr (none, refl);
     remote = refl;
     inline = refl;
     honest = refl;
     shows = refl;
     items_free = refl;
     tombstones_free = refl;
-    entries = all_weaker (λ e. IsLeftBy e taken (with_paths ps taken)) (λ e. IsLeftBy e s (with_book (with_cursor clock) (ended ps))) (left_so ps (with_book (with_cursor clock) (ended ps)) refl (λ e i z. z)) listed k;
+    entries = all_weaker (λ e. IsLeftBy b e taken (with_paths ps taken)) (λ e. IsLeftBy b e s (with_book (with_cursor clock) (ended ps))) (left_so b ps (with_book (with_cursor clock) (ended ps)) refl (λ e i z. z)) listed k.0;
+    others = k.1;
   }
 
-  finished : (f : Fed) (ps : List SeenPath) (u : Unit {0}) (t : State) → All (λ e. IsLeftBy e taken (with_paths ps taken)) listed → EndsFairly (end_feed clock taken.running.skips f (with_paths ps taken)) u t → IsTold s t ⊎ IsFed s t
+  whole_none : (f : Fed) (x : State) → is_whole taken.running.skips f x ≡ true → f.postponed ≡ false
+  whole_none f x z = not_true f.postponed (left_true (not f.postponed) (x.running.skips == taken.running.skips) (left_true (not f.postponed && (x.running.skips == taken.running.skips)) (not (is_listing x)) z))
+
+  finished : (f : Fed) (ps : List SeenPath) (u : Unit {0}) (t : State) → Turned f.postponed ps → EndsFairly (end_feed clock taken.running.skips f (with_paths ps taken)) u t → IsTold s t ⊎ IsFed s t
   finished f ps u t k ends = by (end_left clock (is_whole taken.running.skips f (ended ps)) (ended ps) u t (record { inline = listening.inline; shows = listening.shows }) ends) where
-    by : IsTold (ended ps) t ⊎ (t ≡ ended ps) ⊎ (t ≡ with_book (with_cursor clock) (ended ps)) → IsTold s t ⊎ IsFed s t
+    by : IsTold (ended ps) t ⊎ (t ≡ ended ps) ⊎ ((is_whole taken.running.skips f (ended ps) ≡ true) × (t ≡ with_book (with_cursor clock) (ended ps))) → IsTold s t ⊎ IsFed s t
     by (inl z) = inl (told_after s (ended ps) t both_lines (append_assoc s.filter.notes lines (notice.Message (record { message = next_message came; frame = frame.Reply number answer; lost = false }) ∷ [])) z)
-    by (inr (inl z)) = inr (subst (IsFed s) (sym z) (stays_fed ps k))
-    by (inr (inr z)) = inr (subst (IsFed s) (sym z) (moves_fed ps k))
+    by (inr (inl z)) = inr (subst (IsFed s) (sym z) (stays_fed f.postponed ps k))
+    by (inr (inr z)) = inr (subst (IsFed s) (sym z.1) (moves_fed f.postponed ps (whole_none f (ended ps) z.0) k))
 
   told_all : (t : State) → IsTold taken t → IsTold s t
   told_all t z = told_after s taken t both_lines (append_assoc s.filter.notes lines (notice.Message (record { message = next_message came; frame = frame.Reply number answer; lost = false }) ∷ [])) z
@@ -197,9 +209,11 @@ module _ (s : State) (h : Invariant s) (fair : IsFair s.link) (listening : IsLis
     x : (f : Fed) × (m : State) × EndsFairly (all_turns listed taken) f m × EndsFairly (end_feed clock taken.running.skips f m) u t
     x = ends_bind (all_turns listed taken) (end_feed clock taken.running.skips) u t ends
 
-    by : (f : Fed) (m : State) → IsTold taken m ⊎ AreTurned listed taken m → EndsFairly (end_feed clock taken.running.skips f m) u t → IsTold s t ⊎ IsFed s t
+    by : (f : Fed) (m : State) → IsTold taken m ⊎ AreTurned listed f.postponed taken m → EndsFairly (end_feed clock taken.running.skips f m) u t → IsTold s t ⊎ IsFed s t
     by f m (inl z) e = inl (told_all t (told_then taken m t z (kept_ends (λ y. In m.filter y.filter) (end_feed clock taken.running.skips f m) u t ((end_grows clock taken.running.skips f m.filter).keeps m (itself m.filter)) e)))
-    by f m (inr z) e = finished f z.paths u t (subst (λ (y : State). All (λ d. IsLeftBy d taken y) listed) z.same z.entries) (subst (λ (y : State). EndsFairly (end_feed clock taken.running.skips f y) u t) z.same e)
+    by f m (inr z) e =
+        finished f z.paths u t (subst (λ (y : State). All (λ d. IsLeftBy f.postponed d taken y) listed) z.same z.entries, λ id no. ap (λ (y : State). seen_of (book_now y) id) (sym z.same) ∙ z.others id no)
+        (subst (λ (y : State). EndsFairly (end_feed clock taken.running.skips f y) u t) z.same e)
 
   answer_taken : Invariant came → (u : Unit {0}) (t : State) → EndsFairly (bind (answered number (Some answer) came) (take_if_any query)) u t → no_number t ≡ false → IsTold s t ⊎ IsFed s t
   answer_taken kept u t ends left = by (no_number came) refl ends where

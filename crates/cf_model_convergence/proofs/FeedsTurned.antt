@@ -5,7 +5,7 @@ use Rattle.std.proofs.lemmas.Bool.{eqb-true}
 use Rattle.cf_base.specs.declared.ids.ItemId.{ItemId}
 use Rattle.cf_base.specs.declared.items.SeenPath.{SeenPath}
 use Rattle.cf_base.specs.declared.messages.Entry.{Entry}
-use Rattle.cf_model.specs.Books.{with_seen}
+use Rattle.cf_model.specs.Books.{seen_of, with_seen}
 use Rattle.cf_model.specs.Feeds.{Fed, all_turns, depth_of_entry, first_turn, first_turn_by, in_turn, is_later, is_path_of, is_seen_so, second_turn, second_turns, seen_entry, take_turn, turns, with_turn}
 use Rattle.cf_model.specs.Fits.{are_distinct, has_rid}
 use Rattle.cf_model.specs.Identities.{by_target, has_target, target_of}
@@ -22,7 +22,7 @@ use Rattle.cf_model_laws.proofs.SeenPaths.{seen_past}
 use Rattle.cf_model_laws.proofs.SoundSettles.{left_true, not_true, right_true, same_item}
 use Rattle.cf_model_convergence.specs.Feeds.{Among}
 use Rattle.cf_model_convergence.specs.Telling.{EndsFairly, IsListening, IsTold}
-use Rattle.cf_model_convergence.specs.Turns.{AreTurned, IsLeftBy, IsTakenIn, IsTurnOf, SeesOnly, with_paths}
+use Rattle.cf_model_convergence.specs.Turns.{AreTurned, IsLeftBy, IsOfNone, IsTakenIn, IsTurnOf, SeesOnly, with_paths}
 use Rattle.cf_model_convergence.proofs.FeedTurns.{path_seen, turn_told}
 use Rattle.cf_model_convergence.proofs.FeedsTold.{all_among, among_left, among_right}
 use Rattle.cf_model_convergence.proofs.FeedsGrow.{first_grows, second_grows, seconds_grow, turns_grow}
@@ -96,12 +96,22 @@ module _ (s : State) (h : Invariant s) (fair : IsFair s.link) (listening : IsLis
   abbrev at : List SeenPath → State
   at ps = with_paths ps s
 
-  abbrev Left : List SeenPath → Entry → Type 0
-  Left ps e = IsLeftBy e s (at ps)
+  abbrev Left : Bool → List SeenPath → Entry → Type 0
+  Left b ps e = IsLeftBy b e s (at ps)
 
-  -- what was left so stays so
+  weaker : (b c : Bool) (ps : List SeenPath) (d : Entry) → (b ≡ true → c ≡ true) → Left b ps d → Left c ps d
+  weaker b c ps d k (inl l) = inl (k l.0, l.1, l.2, l.3)
+  weaker b c ps d k (inr l) = inr l
+
+  -- what was left so stays so, and the paths of other items stay
   abbrev Keeps : List SeenPath → List SeenPath → Type 0
-  Keeps ps qs = (d : Entry) → One all d → Left ps d → Left qs d
+  Keeps ps qs = ((b : Bool) (d : Entry) → One all d → Left b ps d → Left b qs d) × ((id : ItemId) → IsOfNone all (items_now s) id → seen_of (book_now (at qs)) id ≡ seen_of (book_now (at ps)) id)
+
+  itself : (ps : List SeenPath) → Keeps ps ps
+  itself ps = ((λ b d one l. l), λ id no. refl)
+
+  after : (ps qs rs : List SeenPath) → Keeps ps qs → Keeps qs rs → Keeps ps rs
+  after ps qs rs a c = ((λ b d one l. c.0 b d one (a.0 b d one l)), λ id no. c.1 id no ∙ a.1 id no)
 
   -- the paths seen, with that of the entry's item
   abbrev more : Entry → Item → List SeenPath → List SeenPath
@@ -128,87 +138,118 @@ module _ (s : State) (h : Invariant s) (fair : IsFair s.link) (listening : IsLis
     by false q = ap (λ (o : Option SeenPath). says (is_path_of d) o) (seen_past (seen_entry i.id e) (book_now (at ps)) j.id q) ∙ seen
 
   left_kept : (e : Entry) (i : Item) (ps : List SeenPath) → by_target (items_now s) e.rid ≡ Some i → Among e all → Keeps ps (more e i ps)
-  left_kept e i ps f mem d one (inl k) = inl k
-  left_kept e i ps f mem d one (inr (inl k)) = inr (inl k)
-  left_kept e i ps f mem d one (inr (inr k)) = inr (inr (k.0, k.1, k.2, record { items = refl; seen = seen_kept e i ps f mem d k.1 one k.2 k.3.seen; version = k.3.version }))
+  left_kept e i ps f mem = (kept, λ id no. seen_past (seen_entry i.id e) (book_now (at ps)) id (no e mem i f)) where
+    kept : (b : Bool) (d : Entry) → One all d → Left b ps d → Left b (more e i ps) d
+    kept b d one (inl k) = inl k
+    kept b d one (inr (inl k)) = inr (inl k)
+    kept b d one (inr (inr k)) = inr (inr (k.0, k.1, k.2, record { items = refl; seen = seen_kept e i ps f mem d k.1 one k.2 k.3.seen; version = k.3.version }))
 
-  abbrev Step : Entry → List SeenPath → State → Type 0
-  Step e ps t = (qs : List SeenPath) × (t ≡ at qs) × Left qs e × Keeps ps qs
+  abbrev Turn : Entry → List SeenPath → Bool → State → Type 0
+  Turn e ps postponed t = (qs : List SeenPath) × (t ≡ at qs) × Left postponed qs e × Keeps ps qs
 
-  turn_left : (e : Entry) → Among e all → (ps : List SeenPath) (postponed : Bool) (t : State) → EndsFairly (take_turn e (at ps)) postponed t → IsTold s t ⊎ Step e ps t
+  turn_left : (e : Entry) → Among e all → (ps : List SeenPath) (postponed : Bool) (t : State) → EndsFairly (take_turn e (at ps)) postponed t → IsTold s t ⊎ Turn e ps postponed t
   turn_left e mem ps postponed t ends = by (turn_told e (at ps) postponed t h fair (record { inline = listening.inline; shows = listening.shows }) ends) where
-    taken : (i : Item) → by_target (items_now s) e.rid ≡ Some i → e.live ≡ true → IsTakenIn e i (at ps) t → SeesOnly e i (at ps) t → Step e ps t
-    taken i f live k (inl z) = (ps, z, inr (inr (live, i, f, record { items = refl; seen = subst (λ (y : State). is_seen_so y i e ≡ true) z k.seen; version = k.version })), λ d one l. l)
+    taken : (i : Item) → by_target (items_now s) e.rid ≡ Some i → e.live ≡ true → IsTakenIn e i (at ps) t → SeesOnly e i (at ps) t → Turn e ps postponed t
+    taken i f live k (inl z) = (ps, z, inr (inr (live, i, f, record { items = refl; seen = subst (λ (y : State). is_seen_so y i e ≡ true) z k.seen; version = k.version })), itself ps)
     taken i f live k (inr z) = (more e i ps, z, inr (inr (live, i, f, record { items = refl; seen = path_seen e i i (at ps); version = k.version })), left_kept e i ps f mem)
 
-    by : IsTold (at ps) t ⊎ IsTurnOf e (at ps) postponed t → IsTold s t ⊎ Step e ps t
+    by : IsTold (at ps) t ⊎ IsTurnOf e (at ps) postponed t → IsTold s t ⊎ Turn e ps postponed t
     by (inl k) = inl (record { lines = k.lines; noted = k.noted; loud = k.loud })
-    by (inr (inl k)) = inr (ps, k.1, inl (k.2, k.3, k.4), λ d one l. l)
-    by (inr (inr (inl k))) = inr (ps, k.1, inr (inl (k.2, k.3)), λ d one l. l)
+    by (inr (inl k)) = inr (ps, k.1, inl (k.0, k.2, k.3, k.4), itself ps)
+    by (inr (inr (inl k))) = inr (ps, k.1, inr (inl (k.2, k.3)), itself ps)
     by (inr (inr (inr k))) = inr (taken k.2 k.3 k.1 k.4 k.5)
 
-  -- the turn, and what it notes
-  noted_left : (e : Entry) → Among e all → (ps : List SeenPath) (g r : Fed) (t : State) → EndsFairly (bind (take_turn e (at ps)) (with_turn g)) r t → (IsTold s t ⊎ Step e ps t) × (r.later ≡ g.later)
+  -- the turn, and what it notes: a postponement stays noted
+  abbrev Grows_to : Fed → Fed → Type 0
+  Grows_to g r = g.postponed ≡ true → r.postponed ≡ true
+
+  abbrev Step : Entry → List SeenPath → Fed → Fed → State → Type 0
+  Step e ps g r t = (qs : List SeenPath) × (t ≡ at qs) × Left r.postponed qs e × Keeps ps qs
+
+  noted_left : (e : Entry) → Among e all → (ps : List SeenPath) (g r : Fed) (t : State) → EndsFairly (bind (take_turn e (at ps)) (with_turn g)) r t → (IsTold s t ⊎ Step e ps g r t) × (r.later ≡ g.later) × Grows_to g r
   noted_left e mem ps g r t ends =
       let x = ends_bind (take_turn e (at ps)) (with_turn g) r t ends in
-      (subst (λ (y : State). IsTold s y ⊎ Step e ps y) (sym x.3.1) (turn_left e mem ps x.0 x.1 x.2), ap (λ (y : Fed). y.later) x.3.0)
+      (by x.0 x.1 x.3 (turn_left e mem ps x.0 x.1 x.2), ap (λ (y : Fed). y.later) x.3.0, λ z. subst (λ (y : Fed). y.postponed ≡ true) (sym x.3.0) (left_or g.postponed x.0 z)) where
+        left_or : (a b : Bool) → a ≡ true → (a || b) ≡ true
+        left_or true b z = refl
+        left_or false b z = no_way z
 
-  abbrev Second : List Entry → List SeenPath → State → Type 0
-  Second list ps t = (qs : List SeenPath) × (t ≡ at qs) × Keeps ps qs × All (Left qs) list
+        right_or : (a b : Bool) → b ≡ true → (a || b) ≡ true
+        right_or true b z = refl
+        right_or false b z = z
 
-  second_left : (list : List Entry) (g : Fed) (ps : List SeenPath) (f : Fed) (t : State) → All (IsOf all) list → EndsFairly (turns second_turn list g (at ps)) f t → IsTold s t ⊎ Second list ps t
-  second_left [] g ps f t of ends = inr (ps, ends.1, (λ d one l. l), tt)
+        by : (p : Bool) (m : State) → EndsFairly (with_turn g p m) r t → IsTold s m ⊎ Turn e ps p m → IsTold s t ⊎ Step e ps g r t
+        by p m z (inl k) = inl (subst (IsTold s) (sym z.1) k)
+        by p m z (inr k) = inr (k.0, z.1 ∙ k.1, weaker p r.postponed k.0 e (λ y. subst (λ (x : Fed). x.postponed ≡ true) (sym z.0) (right_or g.postponed p y)) k.2, k.3)
+
+  abbrev Second : List Entry → List SeenPath → Fed → Fed → State → Type 0
+  Second list ps g f t = (qs : List SeenPath) × (t ≡ at qs) × Keeps ps qs × All (Left f.postponed qs) list × Grows_to g f
+
+  second_left : (list : List Entry) (g : Fed) (ps : List SeenPath) (f : Fed) (t : State) → All (IsOf all) list → EndsFairly (turns second_turn list g (at ps)) f t → IsTold s t ⊎ Second list ps g f t
+  second_left [] g ps f t of ends = inr (ps, ends.1, itself ps, tt, λ z. subst (λ (x : Fed). x.postponed ≡ true) (sym ends.0) z)
   second_left (e ∷ es) g ps f t of ends =
       let x = ends_bind (second_turn e g (at ps)) (turns second_turn es) f t ends in
-      by x.0 x.1 (noted_left e of.0.1 ps g x.0 x.1 x.2).0 x.3 (λ qs z. second_left es x.0 qs f t of.1 z) where
-        by : (r : Fed) (m : State) → IsTold s m ⊎ Step e ps m → EndsFairly (turns second_turn es r m) f t → ((qs : List SeenPath) → EndsFairly (turns second_turn es r (at qs)) f t → IsTold s t ⊎ Second es qs t) → IsTold s t ⊎ Second (e ∷ es) ps t
-        by r m (inl k) z on = inl (told_on (turns second_turn es r) (turns_grow second_turn second_grows es r) s m f t k z)
-        by r m (inr k) z on = also (on k.0 (subst (λ (y : State). EndsFairly (turns second_turn es r y) f t) k.1 z)) where
-          also : IsTold s t ⊎ Second es k.0 t → IsTold s t ⊎ Second (e ∷ es) ps t
+      let y = noted_left e of.0.1 ps g x.0 x.1 x.2 in
+      by x.0 x.1 y.2 y.0 x.3 (λ qs z. second_left es x.0 qs f t of.1 z) where
+        by : (r : Fed) (m : State) → Grows_to g r → IsTold s m ⊎ Step e ps g r m → EndsFairly (turns second_turn es r m) f t → ((qs : List SeenPath) → EndsFairly (turns second_turn es r (at qs)) f t → IsTold s t ⊎ Second es qs r f t) → IsTold s t ⊎ Second (e ∷ es) ps g f t
+        by r m grows (inl k) z on = inl (told_on (turns second_turn es r) (turns_grow second_turn second_grows es r) s m f t k z)
+        by r m grows (inr k) z on = also (on k.0 (subst (λ (y : State). EndsFairly (turns second_turn es r y) f t) k.1 z)) where
+          also : IsTold s t ⊎ Second es k.0 r f t → IsTold s t ⊎ Second (e ∷ es) ps g f t
           also (inl w) = inl w
-          also (inr w) = inr (w.0, w.1, (λ d one l. w.2 d one (k.3 d one l)), (w.2 e of.0.0 k.2, w.3))
+          also (inr w) = inr (w.0, w.1, after ps k.0 w.0 k.3 w.2, (weaker r.postponed f.postponed w.0 e w.4 (w.2.0 r.postponed e of.0.0 k.2), w.3), λ y. w.4 (grows y))
 
   -- each was left so, or comes again
   abbrev First : List Entry → Fed → List SeenPath → Fed → State → Type 0
   First list g ps f t =
-      (qs : List SeenPath) × (t ≡ at qs) × Keeps ps qs × All (λ d. Left qs d ⊎ Among d f.later) list × (All (IsOf all) g.later → All (IsOf all) f.later) × ((d : Entry) → Among d g.later → Among d f.later)
+      (qs : List SeenPath) × (t ≡ at qs) × Keeps ps qs × All (λ d. Left f.postponed qs d ⊎ Among d f.later) list × (All (IsOf all) g.later → All (IsOf all) f.later) × ((d : Entry) → Among d g.later → Among d f.later) × Grows_to g f
 
   first_left : (list : List Entry) (g : Fed) (ps : List SeenPath) (f : Fed) (t : State) → All (IsOf all) list → EndsFairly (turns first_turn list g (at ps)) f t → IsTold s t ⊎ First list g ps f t
-  first_left [] g ps f t of ends = inr (ps, ends.1, (λ d one l. l), tt, subst (λ (x : Fed). All (IsOf all) g.later → All (IsOf all) x.later) (sym ends.0) (λ k. k), λ d a. subst (λ (x : Fed). Among d x.later) (sym ends.0) a)
+  first_left [] g ps f t of ends =
+      inr (
+        ps,
+        ends.1,
+        itself ps,
+        tt,
+        subst (λ (x : Fed). All (IsOf all) g.later → All (IsOf all) x.later) (sym ends.0) (λ k. k),
+        (λ d a. subst (λ (x : Fed). Among d x.later) (sym ends.0) a),
+        λ z. subst (λ (x : Fed). x.postponed ≡ true) (sym ends.0) z,
+      )
   first_left (e ∷ es) g ps f t of ends =
       let x = ends_bind (first_turn e g (at ps)) (turns first_turn es) f t ends in
       by (is_later (at ps) e) x.0 x.1 x.2 x.3 (λ qs z. first_left es x.0 qs f t of.1 z) where
-        again : (r : Fed) → r.later ≡ g.later ++ e ∷ [] → IsTold s t ⊎ First es r ps f t → IsTold s t ⊎ First (e ∷ es) g ps f t
-        again r z (inl w) = inl w
-        again r z (inr w) =
+        again : (r : Fed) → r.later ≡ g.later ++ e ∷ [] → Grows_to g r → IsTold s t ⊎ First es r ps f t → IsTold s t ⊎ First (e ∷ es) g ps f t
+        again r z grows (inl w) = inl w
+        again r z grows (inr w) =
             inr (
               w.0,
               w.1,
               w.2,
               (inr (w.5 e (subst (Among e) (sym z) (among_right e g.later (e ∷ []) (inl refl)))), w.3),
               (λ k. w.4 (subst (All (IsOf all)) (sym z) (all_append (IsOf all) g.later (e ∷ []) k (of.0, tt)))),
-              λ d a. w.5 d (subst (Among d) (sym z) (among_left d g.later (e ∷ []) a)),
+              (λ d a. w.5 d (subst (Among d) (sym z) (among_left d g.later (e ∷ []) a))),
+              λ y. w.6 (grows y),
             )
 
-        now : (r : Fed) (m : State) → r.later ≡ g.later → IsTold s m ⊎ Step e ps m → EndsFairly (turns first_turn es r m) f t → ((qs : List SeenPath) → EndsFairly (turns first_turn es r (at qs)) f t → IsTold s t ⊎ First es r qs f t) → IsTold s t ⊎ First (e ∷ es) g ps f t
-        now r m same (inl k) z on = inl (told_on (turns first_turn es r) (turns_grow first_turn first_grows es r) s m f t k z)
-        now r m same (inr k) z on = also (on k.0 (subst (λ (y : State). EndsFairly (turns first_turn es r y) f t) k.1 z)) where
+        now : (r : Fed) (m : State) → r.later ≡ g.later → Grows_to g r → IsTold s m ⊎ Step e ps g r m → EndsFairly (turns first_turn es r m) f t → ((qs : List SeenPath) → EndsFairly (turns first_turn es r (at qs)) f t → IsTold s t ⊎ First es r qs f t) → IsTold s t ⊎ First (e ∷ es) g ps f t
+        now r m same grows (inl k) z on = inl (told_on (turns first_turn es r) (turns_grow first_turn first_grows es r) s m f t k z)
+        now r m same grows (inr k) z on = also (on k.0 (subst (λ (y : State). EndsFairly (turns first_turn es r y) f t) k.1 z)) where
           also : IsTold s t ⊎ First es r k.0 f t → IsTold s t ⊎ First (e ∷ es) g ps f t
           also (inl w) = inl w
           also (inr w) = inr (
             w.0,
             w.1,
-            (λ d one l. w.2 d one (k.3 d one l)),
-            (inl (w.2 e of.0.0 k.2), w.3),
+            after ps k.0 w.0 k.3 w.2,
+            (inl (weaker r.postponed f.postponed w.0 e w.6 (w.2.0 r.postponed e of.0.0 k.2)), w.3),
             (λ a. w.4 (subst (All (IsOf all)) (sym same) a)),
-            λ d a. w.5 d (subst (Among d) (sym same) a),
+            (λ d a. w.5 d (subst (Among d) (sym same) a)),
+            λ y. w.6 (grows y),
           )
 
         by : (b : Bool) (r : Fed) (m : State) → EndsFairly (first_turn_by b e g (at ps)) r m → EndsFairly (turns first_turn es r m) f t → ((qs : List SeenPath) → EndsFairly (turns first_turn es r (at qs)) f t → IsTold s t ⊎ First es r qs f t) → IsTold s t ⊎ First (e ∷ es) g ps f t
-        by true r m z k on = again r (ap (λ (y : Fed). y.later) z.0) (on ps (subst (λ (y : State). EndsFairly (turns first_turn es r y) f t) z.1 k))
-        by false r m z k on = let y = noted_left e of.0.1 ps g r m z in now r m y.1 y.0 k on
+        by true r m z k on = again r (ap (λ (y : Fed). y.later) z.0) (λ y. subst (λ (x : Fed). x.postponed ≡ true) (sym z.0) y) (on ps (subst (λ (y : State). EndsFairly (turns first_turn es r y) f t) z.1 k))
+        by false r m z k on = let y = noted_left e of.0.1 ps g r m z in now r m y.1 y.2 y.0 k on
 
-pub turns_told : (es : List Entry) (s : State) (f : Fed) (t : State) → Invariant s → IsFair s.link → IsListening s → are_distinct es ≡ true → EndsFairly (all_turns es s) f t → IsTold s t ⊎ AreTurned es s t
+pub turns_told : (es : List Entry) (s : State) (f : Fed) (t : State) → Invariant s → IsFair s.link → IsListening s → are_distinct es ≡ true → EndsFairly (all_turns es s) f t → IsTold s t ⊎ AreTurned es f.postponed s t
 turns_told es s f t h fair listening apart ends = first x.0 x.1 (first_left s h fair listening es (in_turn (items_now s) es) start (book_now s).seen x.0 x.1 (all_turned (IsOf es) (items_now s) es (distinct_ones es apart)) x.2) x.3 where
   start : Fed
   start = record { postponed = false; later = [] }
@@ -216,14 +257,22 @@ turns_told es s f t h fair listening apart ends = first x.0 x.1 (first_left s h 
   x : (g : Fed) × (m : State) × EndsFairly (turns first_turn (in_turn (items_now s) es) start s) g m × EndsFairly (second_turns g m) f t
   x = ends_bind (turns first_turn (in_turn (items_now s) es) start s) second_turns f t ends
 
-  last : (g : Fed) (qs : List SeenPath) → All (λ d. IsLeftBy d s (with_paths qs s) ⊎ Among d g.later) (in_turn (items_now s) es) → IsTold s t ⊎ Second s h fair listening es g.later qs t → IsTold s t ⊎ AreTurned es s t
-  last g qs k (inl z) = inl z
-  last g qs k (inr z) =
-      inr (record { paths = z.0; same = z.1; entries = subst (λ (y : State). All (λ e. IsLeftBy e s y) es) (sym z.1) (turned_all (λ e. IsLeftBy e s (with_paths z.0 s)) (items_now s) es (all_both (IsOf es) (λ d. IsLeftBy d s (with_paths qs s) ⊎ Among d g.later) (λ e. IsLeftBy e s (with_paths z.0 s)) one (in_turn (items_now s) es) (all_turned (IsOf es) (items_now s) es (distinct_ones es apart)) k)) }) where
-        one : (d : Entry) → IsOf es d → IsLeftBy d s (with_paths qs s) ⊎ Among d g.later → IsLeftBy d s (with_paths z.0 s)
-        one d of (inl l) = z.2 d of.0 l
-        one d of (inr a) = all_among (λ e. IsLeftBy e s (with_paths z.0 s)) g.later d a z.3
+  last : (g : Fed) (qs : List SeenPath) → All (λ d. IsLeftBy g.postponed d s (with_paths qs s) ⊎ Among d g.later) (in_turn (items_now s) es) → Keeps s h fair listening es (book_now s).seen qs → IsTold s t ⊎ Second s h fair listening es g.later qs g f t → IsTold s t ⊎ AreTurned es f.postponed s t
+  last g qs k kept (inl z) = inl z
+  last g qs k kept (inr z) =
+      inr (record {
+        paths = z.0;
+        same = z.1;
+        entries = subst (λ (y : State). All (λ e. IsLeftBy f.postponed e s y) es) (sym z.1)
+            (turned_all (λ e. IsLeftBy f.postponed e s (with_paths z.0 s)) (items_now s) es
+            (all_both (IsOf es) (λ d. IsLeftBy g.postponed d s (with_paths qs s) ⊎ Among d g.later) (λ e. IsLeftBy f.postponed e s (with_paths z.0 s)) one (in_turn (items_now s) es) (all_turned (IsOf es) (items_now s) es (distinct_ones es apart)) k));
+        others = λ id no. ap (λ (y : State). seen_of (book_now y) id) z.1 ∙ z.2.1 id no ∙ kept.1 id no;
+      }
+      ) where
+        one : (d : Entry) → IsOf es d → IsLeftBy g.postponed d s (with_paths qs s) ⊎ Among d g.later → IsLeftBy f.postponed d s (with_paths z.0 s)
+        one d of (inl l) = weaker s h fair listening es g.postponed f.postponed z.0 d z.4 (z.2.0 g.postponed d of.0 l)
+        one d of (inr a) = all_among (λ e. IsLeftBy f.postponed e s (with_paths z.0 s)) g.later d a z.3
 
-  first : (g : Fed) (m : State) → IsTold s m ⊎ First s h fair listening es (in_turn (items_now s) es) start (book_now s).seen g m → EndsFairly (second_turns g m) f t → IsTold s t ⊎ AreTurned es s t
+  first : (g : Fed) (m : State) → IsTold s m ⊎ First s h fair listening es (in_turn (items_now s) es) start (book_now s).seen g m → EndsFairly (second_turns g m) f t → IsTold s t ⊎ AreTurned es f.postponed s t
   first g m (inl k) z = inl (told_on (second_turns g) (seconds_grow g) s m f t k z)
-  first g m (inr k) z = last g k.0 k.3 (second_left s h fair listening es g.later g k.0 f t (k.4 tt) (subst (λ (y : State). EndsFairly (second_turns g y) f t) k.1 z))
+  first g m (inr k) z = last g k.0 k.3 k.2 (second_left s h fair listening es g.later g k.0 f t (k.4 tt) (subst (λ (y : State). EndsFairly (second_turns g y) f t) k.1 z))

@@ -200,9 +200,9 @@ module _ (s : State) (h : Invariant s) (fair : IsFair s.link) (ready : IsReady s
     one_root = λ i below e. one i (targeted i below) e;
     there = λ i below some. there i some (targeted i below);
     right = λ i r below target. right i r target (targeted i below);
-    passed = λ i r below target early. ready.known i r below target;
+    passed = ready.passed;
     rested = λ i below out idle2. rests (length (item_line (items_now s) i.id)) i (all_under (length (item_line (items_now s) i.id))) below out;
-    ahead = λ i r below out idle2 target late. ready.known i r below target;
+    ahead = λ i r below out idle2 target late. ready.ahead i r below idle2 target late;
     idle = ready.idle;
     buried = buried;
   }

@@ -22,10 +22,11 @@ pub fn an_entry_at_its_turn_is_told_or_taken_in()
 {}
 
 /// All turns of a feed that reports no item twice: a line reports a change or a step that was left out; or nothing but paths seen is
-/// another afterwards. Then the item of each entry is in use; or no item is its, and it is dead or its parent is not here; or it is taken in.
+/// another afterwards, and of the entries' items alone. Then the item of each entry is in use, and an entry was postponed; or no item is its, and
+/// it is dead or its parent is not here; or it is taken in.
 #[tactic(auto, using(crate::proofs::FeedsTurned::turns_told))]
 pub fn all_turns_are_told_or_take_all_in()
-    ensures { (es : List Entry) (s : State) (f : Fed) (t : State) → Invariant s → IsFair s.link → IsListening s → are_distinct es ≡ true → EndsFairly (all_turns es s) f t → IsTold s t ⊎ AreTurned es s t }
+    ensures { (es : List Entry) (s : State) (f : Fed) (t : State) → Invariant s → IsFair s.link → IsListening s → are_distinct es ≡ true → EndsFairly (all_turns es s) f t → IsTold s t ⊎ AreTurned es f.postponed s t }
 {}
 
 /// What is taken in of an item that the remote has so is known: the target is live, a file has its latest version, and the path seen is
