@@ -15,6 +15,7 @@ pub mod Lines
 pub mod PassesAdd
 pub mod PushesIdle
 pub mod PushesTold
+pub mod QuietPasses
 pub mod ReadyRests
 pub mod RestingMatches
 pub mod RightTargets

@@ -29,11 +29,11 @@ use Rattle.cf_model_convergence.proofs.TurnsTold.{ends_bind, tombstone_told, tur
 
 -- what comes later has no fewer messages, and its lines behind those of before
 module _ (rest : Arrow State (Unit {0})) (keeps : (P : State → Type 0) → Guarded P → Entering P → Preserves P rest) where
-  adds_later : (m : State) (u : Unit {0}) (t : State) → Invariant m → EndsFairly (rest m) u t → In m.filter t.filter
+  pub adds_later : (m : State) (u : Unit {0}) (t : State) → Invariant m → EndsFairly (rest m) u t → In m.filter t.filter
   adds_later m u t h ends =
       (kept_ends (λ x. Invariant x × In m.filter x.filter) (rest m) u t ((keeps (λ x. Invariant x × In m.filter x.filter) (guarded_adds m.filter Invariant sound_whole.closed) (entering_adds m.filter Invariant sound_whole.entering)).keeps m (h, itself m.filter)) ends).1
 
-  numbers_left : (m : State) (u : Unit {0}) (t : State) → Invariant m → EndsFairly (rest m) u t → no_number t ≡ false → no_number m ≡ false
+  pub numbers_left : (m : State) (u : Unit {0}) (t : State) → Invariant m → EndsFairly (rest m) u t → no_number t ≡ false → no_number m ≡ false
   numbers_left m u t h ends left = by (no_number m) refl where
     more : Many (length m.link.messages) t
     more =

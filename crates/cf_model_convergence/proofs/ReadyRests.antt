@@ -37,7 +37,7 @@ use Rattle.cf_model_convergence.proofs.RestingMatches.{rest_settled}
 use Rattle.cf_model_convergence.proofs.RightTargets.{aimed_right}
 
 -- the rids of a remote begin at 1
-nothing : (items : List Stored) (n : ℕ) → CountsFrom n items → (x : Rid) (r : Stored) → x.0 ≡ 0 → stored_at items x ≡ Some r → 1 ≤ n → ⊥
+pub nothing : (items : List Stored) (n : ℕ) → CountsFrom n items → (x : Rid) (r : Stored) → x.0 ≡ 0 → stored_at items x ≡ Some r → 1 ≤ n → ⊥
 nothing [] n c x r z e k = let y : ◌≡◌ {A = Option Stored} None (Some r) = e in cc
 nothing (s ∷ items) n c x r z e k = by (s.rid.0 == x.0) refl e (λ w. nothing items (n + 1) c.1 x r z w (up n k)) where
   up : (n : ℕ) → 1 ≤ n → 1 ≤ n + 1

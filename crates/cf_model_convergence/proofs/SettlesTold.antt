@@ -59,8 +59,8 @@ module _ (e : QueueEntry) (s : State) where
   abbrev freed : Held → State
   freed held = with_volatile (taken_from_row e) (with_book (without_entry e.token) (sent held))
 
-  settled_to : (held : Held) → held.items ≡ s.link.remote.items → held.clock ≡ s.link.remote.clock → IsSettledTo (without_entry e.token (book_now s)).entries s (freed held)
-  settled_to held items clock = record { filter = refl; running = refl; inline = refl; honest = refl; items = items; clock = clock }
+  settled_to : (held : Held) → held ≡ record s.link.remote { tokens = held.tokens } → IsSettledTo (without_entry e.token (book_now s)).entries s (freed held)
+  settled_to held remote = record { filter = refl; running = refl; inline = refl; honest = refl; remote = remote }
 
   not_old : (held : Held) → entry_of (book_now s) e.token ≡ Some e → is_stale asked (reply.Void e.token) (sent held) ≡ false
   not_old held live = by (same_key e.token.0 e.token.0) (entry_of (book_now s) e.token) (same_key-refl e.token.0) live where
@@ -71,14 +71,14 @@ module _ (e : QueueEntry) (s : State) where
       none x z = cc
     by false o p q = no_way p
 
-  void_left : (held : Held) → held.items ≡ s.link.remote.items → held.clock ≡ s.link.remote.clock → entry_of (book_now s) e.token ≡ Some e → (u : Unit {0}) (t : State)
+  void_left : (held : Held) → held ≡ record s.link.remote { tokens = held.tokens } → entry_of (book_now s) e.token ≡ Some e → (u : Unit {0}) (t : State)
       → EndsFairly (bind (answered number (Some (reply.Void e.token)) (came held)) (take_if_any asked)) u t → no_number t ≡ false → IsTold s t ⊎ IsSettledTo (without_entry e.token (book_now s)).entries s t
-  void_left held items clock live u t ends left = by (no_number (came held)) refl ends where
+  void_left held remote live u t ends left = by (no_number (came held)) refl ends where
     acted : EndsFairly (act_unless (reply.Void e.token) (is_stale asked (reply.Void e.token) (sent held)) (sent held)) u t → IsSettledTo (without_entry e.token (book_now s)).entries s t
     acted z =
         let k : EndsFairly (act_on (reply.Void e.token) (sent held)) u t = subst (λ (b : Bool). EndsFairly (act_unless (reply.Void e.token) b (sent held)) u t) (not_old held live) z in
         let w : EndsFairly (take_void e (sent held)) u t = subst (λ (o : Option QueueEntry). EndsFairly (with_entry take_void o (sent held)) u t) live k in
-        subst (IsSettledTo (without_entry e.token (book_now s)).entries s) (sym w.1) (settled_to held items clock)
+        subst (IsSettledTo (without_entry e.token (book_now s)).entries s) (sym w.1) (settled_to held remote)
 
     two : (b : Bool) → EndsFairly (bind (bind (post_by (frame.Reply number (reply.Void e.token)) b (came held)) (if_kept (reply.Void e.token))) (take_if_any asked)) u t → IsTold s t ⊎ IsSettledTo (without_entry e.token (book_now s)).entries s t
     two true z =
@@ -100,8 +100,8 @@ module _ (e : QueueEntry) (s : State) where
   -- what was done is reported as done
   answer_left : (o : Option Recorded) → recorded_at s.link.remote.tokens e.token ≡ o → Invariant s → entry_of (book_now s) e.token ≡ Some e → (u : Unit {0}) (t : State)
       → Keeps Invariant (bind (answered number (Some (settle s.link.remote e.token o).0) (came (settle s.link.remote e.token o).1)) (take_if_any asked)) → Answered o u t → no_number t ≡ false → Left t
-  answer_left None f h live u t kept ends left = void_left (settle s.link.remote e.token None).1 refl refl live u t ends left
-  answer_left (Some RecordedVoid) f h live u t kept ends left = void_left s.link.remote refl refl live u t ends left
+  answer_left None f h live u t kept ends left = void_left (settle s.link.remote e.token None).1 refl live u t ends left
+  answer_left (Some RecordedVoid) f h live u t kept ends left = void_left s.link.remote refl live u t ends left
   answer_left (Some (RecordedDone rid version)) f h live u t kept ends left =
       inl (told_after s posted t (notice.Message (record { message = next_message s; frame = frame.Request asked; lost = false }) ∷ []) refl (again told)) where
         same : (settle s.link.remote e.token (recorded_at s.link.remote.tokens e.token)) ≡ (reply.Done e.token rid version, s.link.remote)
@@ -160,8 +160,7 @@ settled_then es fs s m t h k = record {
   running = k.running ∙ h.running;
   inline = k.inline ∙ h.inline;
   honest = k.honest ∙ h.honest;
-  items = k.items ∙ h.items;
-  clock = k.clock ∙ h.clock;
+  remote = k.remote ∙ ap (λ (r : Held). record r { tokens = t.link.remote.tokens }) h.remote;
 }
 
 none_settled : (s : State) → (book_now s).entries ≡ [] → IsSettledTo [] s s
@@ -170,17 +169,16 @@ none_settled s none = record {
   running = refl;
   inline = refl;
   honest = refl;
-  items = refl;
-  clock = refl;
+  remote = refl;
 }
 
 -- the remote stays fair
-fair_still : (es : List QueueEntry) (s m : State) → IsSettledTo es s m → IsFair s.link → IsFair m.link
+pub fair_still : (es : List QueueEntry) (s m : State) → IsSettledTo es s m → IsFair s.link → IsFair m.link
 fair_still es s m h fair = (
   h.honest ∙ fair.0,
   (
-    subst (λ (items : List Stored). length items < 18446744073709551616) (sym h.items) fair.1.0,
-    λ rid version bytes z. fair.1.1 rid version bytes (subst (λ (items : List Stored). version_bytes (stored_at items rid) version.0 ≡ Some bytes) h.items z),
+    subst (λ (items : List Stored). length items < 18446744073709551616) (sym (ap (λ (r : Held). r.items) h.remote)) fair.1.0,
+    λ rid version bytes z. fair.1.1 rid version bytes (subst (λ (items : List Stored). version_bytes (stored_at items rid) version.0 ≡ Some bytes) (ap (λ (r : Held). r.items) h.remote) z),
   ),
 )
 

@@ -1,4 +1,5 @@
 pub mod Adding
+pub mod Agreeing
 pub mod Feeds
 pub mod Lapses
 pub mod Lasting

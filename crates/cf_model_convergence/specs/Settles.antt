@@ -14,8 +14,7 @@ pub record IsSettledTo (es : List QueueEntry) (s t : State) : Type 0 where
   pub running : t.running ≡ s.running
   pub inline : t.link.inline ≡ s.link.inline
   pub honest : t.link.honest ≡ s.link.honest
-  pub items : t.link.remote.items ≡ s.link.remote.items
-  pub clock : t.link.remote.clock ≡ s.link.remote.clock
+  pub remote : t.link.remote ≡ record s.link.remote { tokens = t.link.remote.tokens }
 
 -- A feed of all that was changed after the cursor was taken in. Of the filter only paths seen of the entries' items, the cursor and the notes are
 -- others. The cursor stays, or nothing was postponed and it became the remote's clock. Nothing is held back.

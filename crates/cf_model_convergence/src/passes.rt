@@ -18,6 +18,7 @@ ghost use Rattle.cf_model.specs.Trees.{Keeps};
 ghost use Rattle.cf_model_laws.specs.Invariant.{Invariant};
 ghost use Rattle.cf_model_laws.specs.Premises.{IsFair, IsFresh};
 ghost use Rattle.cf_model_convergence.specs.Adding.{AddsTo};
+ghost use Rattle.cf_model_convergence.specs.Agreeing.{IsAgreed};
 ghost use Rattle.cf_model_convergence.specs.Ready.{IsReady};
 ghost use Rattle.cf_model_convergence.specs.Settles.{IsFed, IsSettledTo};
 ghost use Rattle.cf_model_convergence.specs.Tidy.{IsTidy};
@@ -76,4 +77,12 @@ pub fn uploads_are_told_or_none_is_left()
 #[tactic(auto, using(crate::proofs::ReadyRests::ready_settled))]
 pub fn untold_uploads_leave_a_settled_state()
     ensures { (s : State) (u : Unit {0}) (t : State) → Invariant s → IsFair s.link → IsListening s → AreWhole s → IsReady s → EndsFairly (push_all s) u t → no_number t ≡ false → IsTold s t ⊎ (is_settled false t ≡ true) }
+{}
+
+/// A whole pass over a link that answers at once, from a state that agrees with the remote as far as the cursor goes, where no file lacks a
+/// byte: a line reports a change, an upload that was done or refused, a step that was left out or trouble; or the state is settled
+/// afterwards.
+#[tactic(auto, using(crate::proofs::QuietPasses::pass_settles))]
+pub fn an_untold_pass_leaves_a_settled_state()
+    ensures { (s : State) (u : Unit {0}) (t : State) → Invariant s → IsFair s.link → IsListening s → IsAgreed s → EndsFairly (pass s) u t → no_number t ≡ false → IsTold s t ⊎ (is_settled false t ≡ true) }
 {}
