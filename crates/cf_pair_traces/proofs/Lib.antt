@@ -1,0 +1,2 @@
+pub mod OneRemote
+pub mod EqualTrees
