@@ -1,0 +1,3 @@
+pub mod LineReads
+pub mod LinesRead
+pub mod OneReading

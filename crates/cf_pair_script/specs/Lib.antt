@@ -1,0 +1,2 @@
+pub mod PairScript
+pub mod Causes
