@@ -1,0 +1,7 @@
+//! The comparison of the trees of two devices, in whatever order they are listed.
+#![tactic(auto)]
+
+mod comparisons;
+mod orders;
+
+pub use comparisons::compare;
