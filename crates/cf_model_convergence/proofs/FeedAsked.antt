@@ -75,7 +75,7 @@ of_kind r tidy n i right x found = by (i.id.0 == 1) refl found where
   by true q f = dir (stored_at r.items root_rid) f tidy.root ∙ sym (right.top (eqb-true i.id.0 1 q))
   by false q f = aimed right.aimed f
 
-kinds_right : (s : State) → Invariant s → IsFair s.link → IsTidy s.link.remote → All (λ i. (x : Stored) → IsTargetOf s i x → x.directory ≡ i.directory) (items_now s)
+pub kinds_right : (s : State) → Invariant s → IsFair s.link → IsTidy s.link.remote → All (λ i. (x : Stored) → IsTargetOf s i x → x.directory ≡ i.directory) (items_now s)
 kinds_right s h fair tidy = all_weaker (IsRight s.link.remote (next_number s.filter.volume)) (λ i. (x : Stored) → IsTargetOf s i x → x.directory ≡ i.directory) (λ i k. of_kind s.link.remote tidy (next_number s.filter.volume) i k) (items_now s) (h.1 fair).now.right
 
 -- the end of a feed

@@ -2,6 +2,8 @@ pub mod AddingGuarded
 pub mod ApartTargets
 pub mod CountsGuarded
 pub mod EarlyCursors
+pub mod FedHere
+pub mod FedKnown
 pub mod FeedAsked
 pub mod FeedTurns
 pub mod FeedsGrow

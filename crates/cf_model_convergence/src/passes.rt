@@ -18,7 +18,7 @@ ghost use Rattle.cf_model.specs.Trees.{Keeps};
 ghost use Rattle.cf_model_laws.specs.Invariant.{Invariant};
 ghost use Rattle.cf_model_laws.specs.Premises.{IsFair, IsFresh};
 ghost use Rattle.cf_model_convergence.specs.Adding.{AddsTo};
-ghost use Rattle.cf_model_convergence.specs.Agreeing.{IsAgreed};
+ghost use Rattle.cf_model_convergence.specs.Agreeing.{IsAgreed, IsPassedHere, IsKeptUp};
 ghost use Rattle.cf_model_convergence.specs.Ready.{IsReady};
 ghost use Rattle.cf_model_convergence.specs.Settles.{IsFed, IsSettledTo};
 ghost use Rattle.cf_model_convergence.specs.Tidy.{IsTidy};
@@ -79,10 +79,18 @@ pub fn untold_uploads_leave_a_settled_state()
     ensures { (s : State) (u : Unit {0}) (t : State) → Invariant s → IsFair s.link → IsListening s → AreWhole s → IsReady s → EndsFairly (push_all s) u t → no_number t ≡ false → IsTold s t ⊎ (is_settled false t ≡ true) }
 {}
 
-/// A whole pass over a link that answers at once, from a state that agrees with the remote as far as the cursor goes, where no file lacks a
+/// A pass over a link that answers at once, from a state that agrees with the remote as far as the cursor goes, where no file lacks a
 /// byte: a line reports a change, an upload that was done or refused, a step that was left out or trouble; or the state is settled
-/// afterwards.
-#[tactic(auto, using(crate::proofs::QuietPasses::pass_settles))]
+/// afterwards. It is settled as a whole where each live item of the remote that the cursor has passed is here, and each directory is populated.
+#[tactic(auto, using(crate::proofs::QuietPasses::pass_settles, crate::proofs::QuietPasses::pass_settles_all))]
 pub fn an_untold_pass_leaves_a_settled_state()
-    ensures { (s : State) (u : Unit {0}) (t : State) → Invariant s → IsFair s.link → IsListening s → IsAgreed s → EndsFairly (pass s) u t → no_number t ≡ false → IsTold s t ⊎ (is_settled false t ≡ true) }
+    ensures local { (s : State) (u : Unit {0}) (t : State) → Invariant s → IsFair s.link → IsListening s → IsAgreed s → EndsFairly (pass s) u t → no_number t ≡ false → IsTold s t ⊎ (is_settled false t ≡ true) }
+    ensures whole { (s : State) (u : Unit {0}) (t : State) → Invariant s → IsFair s.link → IsListening s → IsAgreed s → IsPassedHere s → EndsFairly (pass s) u t → no_number t ≡ false → IsTold s t ⊎ (is_settled true t ≡ true) }
+{}
+
+/// In a run over a remote that was handed in tidy the rest of that agreement is enough: items are trees, no parent is in use, what the
+/// cursor has passed is known, and no file lacks a byte.
+#[tactic(auto, using(crate::proofs::QuietPasses::run_settles))]
+pub fn an_untold_pass_of_a_run_leaves_a_settled_state()
+    ensures { (remote : Held) (clusters : ℕ) (trace : List (Event × Answer)) (s : State) (u : Unit {0}) (t : State) → Runs mode.Replay (start mode.Replay remote clusters) trace s → IsFresh remote → IsTidy remote → IsFair s.link → IsListening s → IsKeptUp s → EndsFairly (pass s) u t → no_number t ≡ false → IsTold s t ⊎ (is_settled false t ≡ true) }
 {}
