@@ -11,6 +11,7 @@ pub mod FeedsOrder
 pub mod FeedsTold
 pub mod FeedsTurned
 pub mod ItemsPushed
+pub mod LastPasses
 pub mod LastingGuarded
 pub mod LateChanges
 pub mod Lines

@@ -94,3 +94,9 @@ pub fn an_untold_pass_leaves_a_settled_state()
 pub fn an_untold_pass_of_a_run_leaves_a_settled_state()
     ensures { (remote : Held) (clusters : ℕ) (trace : List (Event × Answer)) (s : State) (u : Unit {0}) (t : State) → Runs mode.Replay (start mode.Replay remote clusters) trace s → IsFresh remote → IsTidy remote → IsFair s.link → IsListening s → IsKeptUp s → EndsFairly (pass s) u t → no_number t ≡ false → IsTold s t ⊎ (is_settled false t ≡ true) }
 {}
+
+/// The passes of a `sync` end with a whole pass, and up to it nothing is taken from the notes or the log.
+#[tactic(auto, using(crate::proofs::LastPasses::sync_ends))]
+pub fn a_sync_ends_with_a_whole_pass()
+    ensures { (s : State) (u : Unit {0}) (t : State) → Invariant s → EndsFairly (sync_passes s) u t → (m : State) × (v : Unit {0}) × Invariant m × AddsTo s m × EndsFairly (pass m) v t }
+{}
