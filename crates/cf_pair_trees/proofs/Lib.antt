@@ -1,2 +1,3 @@
 pub mod SortedRows
 pub mod SameTrees
+pub mod OneComparison

@@ -2,6 +2,8 @@
 #![tactic(auto)]
 
 mod comparisons;
+mod laws;
 mod orders;
 
 pub use comparisons::compare;
+pub use laws::one_comparison;
