@@ -1,0 +1,4 @@
+//! Worked rows of two devices on one remote, computed by the definitions.
+#![tactic(auto)]
+
+pub mod rows;

@@ -1,0 +1,30 @@
+//! Two devices that share an empty remote. Each device's first token is the same one.
+
+ghost use Rattle.std.specs.Prelude.{◌≡◌, [], ◌∷◌, ◌++◌};
+ghost use Rattle.cf_pair_rows.specs.Scripts.{alike, conflict, dir_d, file_n, kept_n, left_by, new_d, new_file, tokens_of_both};
+ghost use Rattle.cf_pair_traces.specs.Pairs.{path_rows};
+
+/// A file that the first device made and uploaded comes to the second.
+pub fn a_file_comes_to_the_other_device()
+    ensures first { path_rows (left_by new_file).first ≡ file_n ∷ [] }
+    ensures second { path_rows (left_by new_file).second ≡ file_n ∷ [] }
+{}
+
+/// A directory that the second device made is missing at the first, until both have synced.
+pub fn a_new_directory_is_missing_until_both_have_synced()
+    ensures before { path_rows (left_by (new_file ++ new_d)).first ≡ file_n ∷ [] }
+    ensures first { path_rows (left_by alike).first ≡ file_n ∷ dir_d ∷ [] }
+    ensures second { path_rows (left_by alike).second ≡ file_n ∷ dir_d ∷ [] }
+{}
+
+/// Where both devices make a file of one name, that of the second, which syncs later, is kept under another name, and both end
+/// alike.
+pub fn a_conflict_keeps_both_files()
+    ensures first { path_rows (left_by conflict).first ≡ file_n ∷ kept_n ∷ [] }
+    ensures second { path_rows (left_by conflict).second ≡ kept_n ∷ file_n ∷ [] }
+{}
+
+/// The first token of both devices is 1.1. At the remote that of the second has another epoch, so both uploads are done.
+pub fn the_first_tokens_of_both_are_done()
+    ensures { (left_by alike).held.tokens ≡ tokens_of_both }
+{}
