@@ -10,6 +10,7 @@ pub mod FeedsGrow
 pub mod FeedsOrder
 pub mod FeedsTold
 pub mod FeedsTurned
+pub mod FewPasses
 pub mod ItemsPushed
 pub mod LastPasses
 pub mod LastingGuarded

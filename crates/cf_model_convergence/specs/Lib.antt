@@ -1,5 +1,6 @@
 pub mod Adding
 pub mod Agreeing
+pub mod Counting
 pub mod Feeds
 pub mod Lapses
 pub mod Lasting

@@ -1,6 +1,6 @@
 //! Passes, and what they report.
 
-ghost use Rattle.std.specs.Prelude.{◌≡◌, ◌⊎◌, ◌≤◌, ℕ, List, [], false, true};
+ghost use Rattle.std.specs.Prelude.{◌≡◌, ◌⊎◌, ◌≤◌, ◌+◌, ◌*◌, ℕ, List, [], false, true};
 ghost use Rattle.cf_base.specs.declared.answers.Answer.{Answer};
 ghost use Rattle.cf_base.specs.declared.events.Event.{Event};
 ghost use Rattle.cf_base.specs.declared.ids.ItemId.{ItemId};
@@ -9,7 +9,7 @@ ghost use Rattle.cf_model.specs.Books.{Action, Tombstone};
 ghost use Rattle.cf_model.specs.Items.{Item};
 ghost use Rattle.cf_model.specs.Lawful.{Runs};
 ghost use Rattle.cf_model.specs.Messages.{no_number};
-ghost use Rattle.cf_model.specs.Passes.{ask_feed, pass, settle_all, sync_passes};
+ghost use Rattle.cf_model.specs.Passes.{ask_feed, pass, settle_all, sync_passes, things};
 ghost use Rattle.cf_model.specs.Pushes.{is_tombstone_left_out, push_all, push_item, push_removal, push_tombstone, push_turn};
 ghost use Rattle.cf_model.specs.Settled.{is_settled};
 ghost use Rattle.cf_model.specs.State.{State, book_now, start};
@@ -19,6 +19,7 @@ ghost use Rattle.cf_model_laws.specs.Invariant.{Invariant};
 ghost use Rattle.cf_model_laws.specs.Premises.{IsFair, IsFresh};
 ghost use Rattle.cf_model_convergence.specs.Adding.{AddsTo};
 ghost use Rattle.cf_model_convergence.specs.Agreeing.{IsAgreed, IsPassedHere, IsKeptUp};
+ghost use Rattle.cf_model_convergence.specs.Counting.{ArePasses};
 ghost use Rattle.cf_model_convergence.specs.Ready.{IsReady};
 ghost use Rattle.cf_model_convergence.specs.Settles.{IsFed, IsSettledTo};
 ghost use Rattle.cf_model_convergence.specs.Tidy.{IsTidy};
@@ -99,4 +100,11 @@ pub fn an_untold_pass_of_a_run_leaves_a_settled_state()
 #[tactic(auto, using(crate::proofs::LastPasses::sync_ends))]
 pub fn a_sync_ends_with_a_whole_pass()
     ensures { (s : State) (u : Unit {0}) (t : State) → Invariant s → EndsFairly (sync_passes s) u t → (m : State) × (v : Unit {0}) × Invariant m × AddsTo s m × EndsFairly (pass m) v t }
+{}
+
+/// A `sync` over a link that answers at once ends: it makes at most 16 passes for each item and tombstone, for each of 100,000 times of the
+/// remote, and for 4 more.
+#[tactic(auto, using(crate::proofs::FewPasses::sync_few))]
+pub fn a_sync_makes_few_passes()
+    ensures { (s : State) (u : Unit {0}) (t : State) → s.link.inline ≡ true → EndsFairly (sync_passes s) u t → (n : ℕ) × ArePasses n s t × (n ≤ 16 * (things s + 100000 + 4)) }
 {}
