@@ -1,5 +1,5 @@
 -- A pass that reports nothing leaves a settled state.
-use Rattle.std.proofs.Common.{◌≡◌, ◌⊎◌, ℕ, true, false, List, [], sym, ◌∙◌, ap, subst, inl, inr}
+use Rattle.std.proofs.Common.{◌≡◌, ◌⊎◌, ℕ, true, false, List, [], sym, ◌∙◌, ap, subst, inl, inr, ◌∷◌, ◌++◌}
 use Rattle.cf_base.specs.declared.answers.Answer.{Answer}
 use Rattle.cf_base.specs.declared.events.Event.{Event}
 use Rattle.cf_base.specs.declared.policies.Mode.TheVariants as mode
@@ -23,7 +23,7 @@ use Rattle.cf_model_laws.proofs.PushesGuarded.{push_all_keeps}
 use Rattle.cf_model_convergence.specs.Agreeing.{IsAgreed, IsPassedHere, IsKeptUp}
 use Rattle.cf_model_convergence.specs.Resting.{IsKnown}
 use Rattle.cf_model_convergence.specs.Settles.{IsFed, IsSettledTo}
-use Rattle.cf_model_convergence.specs.Telling.{EndsFairly, IsListening, IsTold}
+use Rattle.cf_model_convergence.specs.Telling.{EndsFairly, IsListening, IsTold, is_loud}
 use Rattle.cf_model_convergence.specs.Tidy.{IsTidy, IsTidyItem}
 use Rattle.cf_model_convergence.proofs.AddingGuarded.{In}
 use Rattle.cf_model_convergence.proofs.FeedAsked.{feed_told}
@@ -37,6 +37,9 @@ use Rattle.cf_model_convergence.proofs.ApartTargets.{targets_alone}
 use Rattle.cf_model_convergence.proofs.TurnsTold.{ends_bind}
 use Rattle.cf_model_convergence.proofs.FedKnown.{fed_ready, fed_whole}
 use Rattle.cf_model_convergence.proofs.FedHere.{all_targets}
+use Rattle.std.specs.List.{list_any}
+use Rattle.cf_base.specs.declared.notices.Notice.{Notice}
+use Rattle.cf_model_laws.proofs.RightItems.{no_way}
 
 -- uploads are settled
 
@@ -147,3 +150,27 @@ pub run_settles : (remote : Held) (clusters : ℕ) (trace : List (Event × Answe
     → EndsFairly (pass s) u t → no_number t ≡ false → IsTold s t ⊎ (is_settled false t ≡ true)
 run_settles remote clusters trace s u t runs fresh tidy fair listening k ends left =
     pass_settles s u t (run_sound remote clusters trace s runs fresh) fair listening (kept_agreed remote clusters trace s runs fresh tidy fair k) ends left
+
+-- by its lines
+
+cancelled : (xs ys zs : List Notice) → xs ++ ys ≡ xs ++ zs → ys ≡ zs
+cancelled [] ys zs e = e
+cancelled (x ∷ xs) ys zs e = cancelled xs ys zs (tail (xs ++ ys) (xs ++ zs) e) where
+  tail : (us vs : List Notice) → ◌≡◌ {A = List Notice} (x ∷ us) (x ∷ vs) → us ≡ vs
+  tail us vs z = cc
+
+-- where none of the lines is loud, none was told
+untold : (s t : State) (lines : List Notice) → t.filter.notes ≡ s.filter.notes ++ lines → list_any is_loud lines ≡ false → IsTold s t → ⊥
+untold s t lines e quiet told = no_way (sym quiet ∙ subst (λ (ns : List Notice). list_any is_loud ns ≡ true) (cancelled s.filter.notes told.lines lines (sym told.noted ∙ e)) told.loud)
+
+pub quiet_settles : (s : State) (u : Unit {0}) (t : State) (lines : List Notice) → Invariant s → IsFair s.link → IsListening s → IsAgreed s → EndsFairly (pass s) u t → no_number t ≡ false → t.filter.notes ≡ s.filter.notes ++ lines → list_any is_loud lines ≡ false → is_settled false t ≡ true
+quiet_settles s u t lines h fair listening agreed ends left e quiet = by (pass_settles s u t h fair listening agreed ends left) where
+  by : IsTold s t ⊎ (is_settled false t ≡ true) → is_settled false t ≡ true
+  by (inl k) = absurd (untold s t lines e quiet k)
+  by (inr k) = k
+
+pub quiet_settles_all : (s : State) (u : Unit {0}) (t : State) (lines : List Notice) → Invariant s → IsFair s.link → IsListening s → IsAgreed s → IsPassedHere s → EndsFairly (pass s) u t → no_number t ≡ false → t.filter.notes ≡ s.filter.notes ++ lines → list_any is_loud lines ≡ false → is_settled true t ≡ true
+quiet_settles_all s u t lines h fair listening agreed all ends left e quiet = by (pass_settles_all s u t h fair listening agreed all ends left) where
+  by : IsTold s t ⊎ (is_settled true t ≡ true) → is_settled true t ≡ true
+  by (inl k) = absurd (untold s t lines e quiet k)
+  by (inr k) = k

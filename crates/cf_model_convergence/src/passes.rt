@@ -1,9 +1,11 @@
 //! Passes, and what they report.
 
-ghost use Rattle.std.specs.Prelude.{◌≡◌, ◌⊎◌, ◌≤◌, ◌+◌, ◌*◌, ℕ, List, [], false, true};
+ghost use Rattle.std.specs.Prelude.{◌≡◌, ◌⊎◌, ◌≤◌, ◌+◌, ◌*◌, ◌++◌, ℕ, List, [], false, true};
+ghost use Rattle.std.specs.List.{list_any};
 ghost use Rattle.cf_base.specs.declared.answers.Answer.{Answer};
 ghost use Rattle.cf_base.specs.declared.events.Event.{Event};
 ghost use Rattle.cf_base.specs.declared.ids.ItemId.{ItemId};
+ghost use Rattle.cf_base.specs.declared.notices.Notice.{Notice};
 ghost use Rattle.cf_base.specs.declared.policies.Mode.TheVariants as mode;
 ghost use Rattle.cf_model.specs.Books.{Action, Tombstone};
 ghost use Rattle.cf_model.specs.Items.{Item};
@@ -23,7 +25,7 @@ ghost use Rattle.cf_model_convergence.specs.Counting.{ArePasses};
 ghost use Rattle.cf_model_convergence.specs.Ready.{IsReady};
 ghost use Rattle.cf_model_convergence.specs.Settles.{IsFed, IsSettledTo};
 ghost use Rattle.cf_model_convergence.specs.Tidy.{IsTidy};
-ghost use Rattle.cf_model_convergence.specs.Telling.{AreWhole, EndsFairly, IsIdle, IsListening, IsPushable, IsTold, IsTurned};
+ghost use Rattle.cf_model_convergence.specs.Telling.{AreWhole, EndsFairly, IsIdle, IsListening, IsPushable, IsTold, IsTurned, is_loud};
 
 /// A pass takes nothing from the notes or the log. As long as it has added no line of a change, the log and the items are as they
 /// were. So it is of the passes of a `sync` together.
@@ -87,6 +89,14 @@ pub fn untold_uploads_leave_a_settled_state()
 pub fn an_untold_pass_leaves_a_settled_state()
     ensures local { (s : State) (u : Unit {0}) (t : State) → Invariant s → IsFair s.link → IsListening s → IsAgreed s → EndsFairly (pass s) u t → no_number t ≡ false → IsTold s t ⊎ (is_settled false t ≡ true) }
     ensures whole { (s : State) (u : Unit {0}) (t : State) → Invariant s → IsFair s.link → IsListening s → IsAgreed s → IsPassedHere s → EndsFairly (pass s) u t → no_number t ≡ false → IsTold s t ⊎ (is_settled true t ≡ true) }
+{}
+
+/// So it is of a pass by its lines: where none of them is of a change, of an upload that was done or refused, of a step that was left
+/// out, or of trouble, the state is settled afterwards.
+#[tactic(auto, using(crate::proofs::QuietPasses::quiet_settles, crate::proofs::QuietPasses::quiet_settles_all))]
+pub fn a_quiet_pass_leaves_a_settled_state()
+    ensures local { (s : State) (u : Unit {0}) (t : State) (lines : List Notice) → Invariant s → IsFair s.link → IsListening s → IsAgreed s → EndsFairly (pass s) u t → no_number t ≡ false → t.filter.notes ≡ s.filter.notes ++ lines → list_any is_loud lines ≡ false → is_settled false t ≡ true }
+    ensures whole { (s : State) (u : Unit {0}) (t : State) (lines : List Notice) → Invariant s → IsFair s.link → IsListening s → IsAgreed s → IsPassedHere s → EndsFairly (pass s) u t → no_number t ≡ false → t.filter.notes ≡ s.filter.notes ++ lines → list_any is_loud lines ≡ false → is_settled true t ≡ true }
 {}
 
 /// In a run over a remote that was handed in tidy the rest of that agreement is enough: items are trees, no parent is in use, what the
