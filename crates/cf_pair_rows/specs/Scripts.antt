@@ -1,5 +1,5 @@
 -- Small scripts of two devices over an empty remote, and what they leave.
-use Rattle.std.specs.Prelude.{ℕ, true, false, List, [], ◌∷◌, ◌++◌, codes}
+use Rattle.std.specs.Prelude.{◌≡◌, ℕ, true, false, List, [], ◌∷◌, ◌++◌, codes}
 use Rattle.cf_base.specs.declared.calls.Call.TheVariants as call
 use Rattle.cf_base.specs.declared.events.EngineEvent.TheVariants as engine
 use Rattle.cf_base.specs.declared.events.Event.{Event}
@@ -13,6 +13,10 @@ use Rattle.cf_model.specs.State.{State}
 use Rattle.cf_model.specs.Store.{Recorded, RecordedDone, empty_remote}
 use Rattle.cf_model.specs.Trees.{plainly}
 use Rattle.cf_pair_compare.specs.declared.path_rows.PathRow.{PathRow}
+use Rattle.cf_pair_events.specs.OfDevices.{is_of_device}
+use Rattle.cf_pair_events.specs.declared.answers.PairAnswer.{PairAnswer}
+use Rattle.cf_pair_events.specs.declared.answers.PairAnswer.TheVariants as answer
+use Rattle.cf_pair_events.specs.declared.comparisons.Comparison.TheVariants as comparison
 use Rattle.cf_pair_events.specs.declared.events.PairEvent.{PairEvent}
 use Rattle.cf_pair_events.specs.declared.events.PairEvent.TheVariants as pair
 use Rattle.cf_pair_model.specs.Seen.{held_seen}
@@ -28,6 +32,26 @@ acted p pair.Compare = p
 abbrev pub played : Pair → List PairEvent → Pair
 played p [] = p
 played p (e ∷ es) = played (acted p e) es
+
+-- its answer; a comparison is not played
+abbrev pub answered : Pair → PairEvent → PairAnswer
+answered p (pair.Of d e) = answer.Event (on_event plainly (facing (held_seen d p.held) (state_of d p)) e).1
+answered p (pair.Peer e) = answer.Event (on_event plainly (facing p.held p.third) (event.Peer e)).1
+answered p pair.Compare = answer.Comparison comparison.Equal
+
+abbrev pub reported : Pair → List PairEvent → List (PairEvent × PairAnswer)
+reported p [] = []
+reported p (e ∷ es) = (e, answered p e) ∷ reported (acted p e) es
+
+-- an event that a device may have, or one of a third device
+abbrev pub IsPlayable : PairEvent → Type 0
+IsPlayable (pair.Of d e) = is_of_device e ≡ true
+IsPlayable (pair.Peer e) = Unit {0}
+IsPlayable pair.Compare = ⊥
+
+abbrev pub ArePlayable : List PairEvent → Type 0
+ArePlayable [] = Unit {0}
+ArePlayable (e ∷ es) = IsPlayable e × ArePlayable es
 
 abbrev pub left_by : List PairEvent → Pair
 left_by events = played (start_pair empty_remote 15616 15616) events

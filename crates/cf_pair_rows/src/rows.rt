@@ -1,8 +1,15 @@
 //! Two devices that share an empty remote. Each device's first token is the same one.
 
-ghost use Rattle.std.specs.Prelude.{◌≡◌, [], ◌∷◌, ◌++◌};
-ghost use Rattle.cf_pair_rows.specs.Scripts.{alike, conflict, dir_d, file_n, kept_n, left_by, new_d, new_file, tokens_of_both};
-ghost use Rattle.cf_pair_traces.specs.Pairs.{path_rows};
+ghost use Rattle.std.specs.Prelude.{◌≡◌, List, [], ◌∷◌, ◌++◌};
+ghost use Rattle.cf_pair_events.specs.declared.events.PairEvent.{PairEvent};
+ghost use Rattle.cf_pair_rows.specs.Scripts.{ArePlayable, alike, conflict, dir_d, file_n, kept_n, left_by, new_d, new_file, played, reported, tokens_of_both};
+ghost use Rattle.cf_pair_traces.specs.Pairs.{Pair, PairRuns, path_rows};
+
+/// What is played here is a lawful trace, with the answers that are given where all goes as usual.
+#[tactic(auto, using(crate::proofs::Played::played_lawfully))]
+pub fn what_is_played_is_lawful()
+    ensures { (p : Pair) (events : List PairEvent) → ArePlayable events → PairRuns p (reported p events) (played p events) }
+{}
 
 /// A file that the first device made and uploaded comes to the second.
 pub fn a_file_comes_to_the_other_device()
