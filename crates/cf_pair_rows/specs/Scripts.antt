@@ -90,6 +90,10 @@ file_n = record { path = codes "/n"; kind = kind.PlaceholderFile; identity = ide
 abbrev pub dir_d : PathRow
 dir_d = record { path = codes "/d"; kind = kind.PlaceholderDir; identity = identity_for true (record { 0 = 3 }) (record { 0 = 0 }); dirty = false }
 
+-- a directory of a device that the remote does not have yet
+abbrev pub plain_d : PathRow
+plain_d = record { path = codes "/d"; kind = kind.Dir; identity = []; dirty = false }
+
 -- both devices make a file of one name, and sync in turn
 abbrev pub conflict : List PairEvent
 conflict =
