@@ -29,7 +29,7 @@ use Rattle.cf_model_convergence.specs.Matching.{IsBelow}
 use Rattle.cf_model_convergence.specs.Ready.{IsReady}
 use Rattle.cf_model_convergence.specs.Resting.{AreTargetsApart, IsKnown, IsTargetOf, IsTargetRight}
 use Rattle.cf_model_convergence.specs.Settles.{IsFed}
-use Rattle.cf_model_convergence.specs.Telling.{AreWhole}
+use Rattle.cf_model_convergence.specs.Telling.{AreWhole, IsToUpload}
 use Rattle.cf_model_convergence.specs.Tidy.{IsLower, IsTidy}
 use Rattle.cf_model_convergence.specs.Turns.{IsLeftBy, IsOfNone}
 use Rattle.cf_model_convergence.proofs.FeedsTold.{all_among, tells_all, tells_now}
@@ -195,7 +195,7 @@ module _ (s : State) (h : Invariant s) (fair : IsFair s.link) (none : (book_now 
       ahead i r below target idle (inr z) = known_now i r below target z (λ p busy. no_way (sym idle ∙ busy))
 
   pub fed_whole : AreWhole m
-  fed_whole = subst (All (λ i. i.directory ≡ false → is_all_here i ≡ true)) (sym alike) agreed.whole
+  fed_whole = subst (All (λ i. i.directory ≡ false → IsToUpload i → is_all_here i ≡ true)) (sym alike) agreed.whole
 
   fed_fair : IsFair m.link
   fed_fair = (fed.honest ∙ fair.0, subst IsSmall (sym fed.remote) fair.1)

@@ -21,7 +21,7 @@ use Rattle.cf_model_laws.proofs.Guarded.{Entering, Guarded}
 use Rattle.cf_model_laws.proofs.PushesGuarded.{push_tombstone_keeps, push_turn_keeps}
 use Rattle.cf_model_laws.proofs.RightItems.{no_way}
 use Rattle.cf_model_convergence.specs.Resting.{IsRested}
-use Rattle.cf_model_convergence.specs.Telling.{AreWhole, EndsFairly, IsIdle, IsListening, IsTold, IsTurned}
+use Rattle.cf_model_convergence.specs.Telling.{AreWhole, EndsFairly, IsIdle, IsListening, IsToUpload, IsTold, IsTurned}
 use Rattle.cf_model_convergence.proofs.AddingGuarded.{In, entering_adds, guarded_adds, itself}
 use Rattle.cf_model_convergence.proofs.CountsGuarded.{Many, entering_counts, guarded_counts}
 use Rattle.cf_model_convergence.proofs.PushesTold.{kept_ends, told_then}
@@ -86,8 +86,8 @@ turn_step item s u t h fair listening whole ends left = by (turn_told item s u t
   by (inl k) = inl k
   by (inr (inl k)) = inr (k.1, λ i e. absurd (none i (sym k.0 ∙ e)))
   by (inr (inr k)) = spared k.2 where
-    spared : ((k.0.directory ≡ false) × (is_all_here k.0 ≡ false)) ⊎ ((t ≡ s) × ((is_left_out s k.0 ≡ true) ⊎ IsRested s k.0)) → IsTold s t ⊎ ((t ≡ s) × Rests s item)
-    spared (inl z) = no_way (sym z.1 ∙ (all_found (λ i. i.directory ≡ false → is_all_here i ≡ true) (λ i. i.id.0 == item.0) (items_now s) k.0 k.1 whole).0 z.0)
+    spared : ((k.0.directory ≡ false) × (is_all_here k.0 ≡ false) × IsToUpload k.0) ⊎ ((t ≡ s) × ((is_left_out s k.0 ≡ true) ⊎ IsRested s k.0)) → IsTold s t ⊎ ((t ≡ s) × Rests s item)
+    spared (inl z) = no_way (sym z.1 ∙ (all_found (λ i. i.directory ≡ false → IsToUpload i → is_all_here i ≡ true) (λ i. i.id.0 == item.0) (items_now s) k.0 k.1 whole).0 z.0 z.2)
     spared (inr z) = inr (z.0, λ i e. subst (λ (j : Item). (is_left_out s j ≡ true) ⊎ IsRested s j) (some k.0 i (sym k.1 ∙ e)) z.1)
 
 tombstone_step : (x : Tombstone) (s : State) (u : Unit {0}) (t : State) → Invariant s → IsFair s.link → IsListening s → Unit {0} → EndsFairly (push_tombstone x s) u t → no_number t ≡ false → IsTold s t ⊎ ((t ≡ s) × (is_tombstone_left_out s x ≡ true))

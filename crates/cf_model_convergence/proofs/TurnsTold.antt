@@ -37,7 +37,7 @@ use Rattle.cf_model_laws.proofs.RightItems.{both_none, no_way, no_way_back}
 use Rattle.cf_model_laws.proofs.SkipsGuarded.{Any, Led, Whichever, guarded_skipping, try_change_at, try_led}
 use Rattle.cf_model_laws.proofs.SoundFilters.{change_leads}
 use Rattle.cf_model_laws.proofs.SoundSettles.{each_found, same_item}
-use Rattle.cf_model_convergence.specs.Telling.{EndsFairly, IsListening, IsSpared, IsTold, IsTurned}
+use Rattle.cf_model_convergence.specs.Telling.{EndsFairly, IsListening, IsSpared, IsToUpload, IsTold, IsTurned}
 use Rattle.cf_model_convergence.proofs.AddingGuarded.{In, entering_adds, guarded_adds, itself}
 use Rattle.cf_model_convergence.proofs.ItemsPushed.{item_told, removal_told}
 use Rattle.cf_model_convergence.proofs.PushesTold.{kept_ends, skip_told, told_then}
@@ -96,11 +96,11 @@ module _ (s : State) (h : Invariant s) (fair : IsFair s.link) (listening : IsLis
         some : (a b : Item) → ◌≡◌ {A = Option Item} (Some a) (Some b) → a ≡ b
         some a b z = cc
 
-  upload_told : (i.directory ≡ false → i.placeholder ≡ true) → EndsFairly (upload i s) u t → IsTold s t ⊎ IsSpared s i t
-  upload_told placed ends = by i.directory refl ends where
+  upload_told : (i.directory ≡ false → i.placeholder ≡ true) → IsToUpload i → EndsFairly (upload i s) u t → IsTold s t ⊎ IsSpared s i t
+  upload_told placed needed ends = by i.directory refl ends where
     hydrated : (b : Bool) → is_all_here i ≡ b → i.directory ≡ false → EndsFairly (bind (hydrate_if i.id b s) (λ _ x. put_whole (item_of (items_now x) i.id) x)) u t → IsTold s t ⊎ IsSpared s i t
     hydrated true here file e = inl (whole_told (item_of (items_now s) i.id) there file (placed file) here e)
-    hydrated false here file e = inr (inl (file, here))
+    hydrated false here file e = inr (inl (file, here, needed))
 
     by : (b : Bool) → i.directory ≡ b → EndsFairly (choose b (push_item MakeDir i) (put_file i) s) u t → IsTold s t ⊎ IsSpared s i t
     by true dir e = inl (item_told MakeDir i s u t h fair listening (there, free, dir) e left)
@@ -138,13 +138,13 @@ module _ (s : State) (h : Invariant s) (fair : IsFair s.link) (listening : IsLis
           turned true q z = refl
           turned false q z = no_way (sym q ∙ z)
 
-  new_told : (target_of i).0 ≡ 0 → EndsFairly (upload_new i s) u t → IsTold s t ⊎ IsSpared s i t
-  new_told none ends = by i.placeholder refl ends where
+  new_told : (target_of i).0 ≡ 0 → is_untargeted i ≡ true → EndsFairly (upload_new i s) u t → IsTold s t ⊎ IsSpared s i t
+  new_told none new ends = by i.placeholder refl ends where
     found : (o : Option Item) → o ≡ Some i → i.placeholder ≡ true → EndsFairly (upload_now o s) u t → IsTold s t ⊎ IsSpared s i t
     found None e placed z = let y : ◌≡◌ {A = Option Item} None (Some i) = e in absurd (never i y) where
       never : (j : Item) → ◌≡◌ {A = Option Item} None (Some j) → ⊥
       never j z = cc
-    found (Some j) e placed z = upload_told (λ _. placed) (subst (λ (k : Item). EndsFairly (upload k s) u t) (some j i e) z) where
+    found (Some j) e placed z = upload_told (λ _. placed) (inl new) (subst (λ (k : Item). EndsFairly (upload k s) u t) (some j i e) z) where
       some : (a b : Item) → ◌≡◌ {A = Option Item} (Some a) (Some b) → a ≡ b
       some a b z = cc
 
@@ -189,7 +189,7 @@ module _ (s : State) (h : Invariant s) (fair : IsFair s.link) (listening : IsLis
   case_told : EndsFairly (push_by_case i s) u t → IsTold s t ⊎ IsSpared s i t
   case_told ends = by (is_untargeted i) refl ends where
     three : (b : Bool) → is_dirty i ≡ b → is_untargeted i ≡ false → stands_at_seen (items_now s) (book_now s) i ≡ true → EndsFairly (choose b (upload i) (mark_item i.id) s) u t → IsTold s t ⊎ IsSpared s i t
-    three true dirty aimed stands e = upload_told (λ file. targeted s.link.remote (next_number s.filter.volume) i right aimed file) e
+    three true dirty aimed stands e = upload_told (λ file. targeted s.link.remote (next_number s.filter.volume) i right aimed file) (inr dirty) e
     three false clean aimed stands e = mark_told aimed stands clean e
 
     two : (b : Bool) → stands_at_seen (items_now s) (book_now s) i ≡ b → is_untargeted i ≡ false → EndsFairly (choose (not b) (push_item MoveItem i) (choose (is_dirty i) (upload i) (mark_item i.id)) s) u t → IsTold s t ⊎ IsSpared s i t
@@ -197,7 +197,7 @@ module _ (s : State) (h : Invariant s) (fair : IsFair s.link) (listening : IsLis
     two true stands aimed e = three (is_dirty i) refl aimed stands e
 
     by : (b : Bool) → is_untargeted i ≡ b → EndsFairly (choose b (upload_new i) (choose (not (stands_at_seen (items_now s) (book_now s) i)) (push_item MoveItem i) (choose (is_dirty i) (upload i) (mark_item i.id))) s) u t → IsTold s t ⊎ IsSpared s i t
-    by true bare e = new_told (eqb-true (target_of i).0 0 bare) e
+    by true bare e = new_told (eqb-true (target_of i).0 0 bare) bare e
     by false aimed e = two (stands_at_seen (items_now s) (book_now s) i) refl aimed e
 
 -- no upload of an item that is not left out is on its way

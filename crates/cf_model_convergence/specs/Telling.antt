@@ -4,8 +4,8 @@ use Rattle.std.specs.List.{list_any}
 use Rattle.cf_base.specs.declared.ids.ItemId.{ItemId}
 use Rattle.cf_base.specs.declared.notices.Notice.{Notice}
 use Rattle.cf_model.specs.Books.{Action, MakeDir, MoveItem, PutFile, RemoveItem}
-use Rattle.cf_model.specs.Identities.{stands_at_seen}
-use Rattle.cf_model.specs.Items.{Item, is_all_here, item_of}
+use Rattle.cf_model.specs.Identities.{is_untargeted, stands_at_seen}
+use Rattle.cf_model.specs.Items.{Item, is_all_here, is_dirty, item_of}
 use Rattle.cf_model.specs.Pushes.{has_entry, is_left_out, is_tombstone_left_out}
 use Rattle.cf_model.specs.State.{State, book_now, items_now}
 use Rattle.cf_model.specs.Trees.{AsItKeeps, Asked, Faults, Fork, Ret, Step, Tree}
@@ -42,18 +42,22 @@ IsPushable MakeDir s i = (item_of (items_now s) i.id ≡ Some i) × (has_entry s
 IsPushable MoveItem s i = (item_of (items_now s) i.id ≡ Some i) × (has_entry s i.id ≡ false) × (stands_at_seen (items_now s) (book_now s) i ≡ false)
 IsPushable RemoveItem s i = ⊥
 
--- A pass does nothing for the item: it is a file that lacks a byte, which is asked for; or the state stays, and the item is left out
+-- it is no item of the remote yet, or has local writes
+abbrev pub IsToUpload : Item → Type 0
+IsToUpload i = (is_untargeted i ≡ true) ⊎ (is_dirty i ≡ true)
+
+-- A pass does nothing for the item: it is a file to be uploaded that lacks a byte, which is asked for; or the state stays, and the item is left out
 -- or rests.
 abbrev pub IsSpared : State → Item → State → Type 0
-IsSpared s i t = ((i.directory ≡ false) × (is_all_here i ≡ false)) ⊎ ((t ≡ s) × ((is_left_out s i ≡ true) ⊎ IsRested s i))
+IsSpared s i t = ((i.directory ≡ false) × (is_all_here i ≡ false) × IsToUpload i) ⊎ ((t ≡ s) × ((is_left_out s i ≡ true) ⊎ IsRested s i))
 
 -- what a pass leaves of an item that it does nothing for: it is not there, or it is spared
 abbrev pub IsTurned : State → ItemId → State → Type 0
 IsTurned s item t = ((item_of (items_now s) item ≡ None) × (t ≡ s)) ⊎ ((i : Item) × (item_of (items_now s) item ≡ Some i) × IsSpared s i t)
 
--- No file lacks a byte.
+-- No file that is to be uploaded lacks a byte.
 abbrev pub AreWhole : State → Type 0
-AreWhole s = All (λ i. i.directory ≡ false → is_all_here i ≡ true) (items_now s)
+AreWhole s = All (λ i. i.directory ≡ false → IsToUpload i → is_all_here i ≡ true) (items_now s)
 
 -- The state stays. Each tombstone is left out, and so is each item that does not rest.
 pub record IsIdle (s t : State) : Type 0 where

@@ -60,7 +60,7 @@ pub fn an_upload_is_told()
 {}
 
 /// An item at its turn in a pass: a line reports an upload, a change or a step that was left out, or nothing is done for it. Then it is
-/// a file that lacks a byte, or the state stays and the item is left out or rests: it has a target, stands at the path seen, is clean and
+/// a file to be uploaded that lacks a byte, or the state stays and the item is left out or rests: it has a target, stands at the path seen, is clean and
 /// in sync. A tombstone at its turn is reported so, or the state stays and it is left out.
 #[tactic(auto, using(crate::proofs::TurnsTold::turn_told, crate::proofs::TurnsTold::tombstone_told))]
 pub fn an_item_at_its_turn_is_told_or_rests()
@@ -68,22 +68,23 @@ pub fn an_item_at_its_turn_is_told_or_rests()
     ensures tombstone { (x : Tombstone) (s : State) (u : Unit {0}) (t : State) → Invariant s → IsFair s.link → IsListening s → EndsFairly (push_tombstone x s) u t → no_number t ≡ false → IsTold s t ⊎ ((t ≡ s) × (is_tombstone_left_out s x ≡ true)) }
 {}
 
-/// The uploads of a pass, where no file lacks a byte: a line reports one, a change or a step that was left out; or the state
+/// The uploads of a pass, where no file that is to be uploaded lacks a byte: a line reports one, a change or a step that was left out; or the state
 /// stays, each tombstone is left out, and each item is left out or rests.
 #[tactic(auto, using(crate::proofs::PushesIdle::pushes_told))]
 pub fn uploads_are_told_or_none_is_left()
     ensures { (s : State) (u : Unit {0}) (t : State) → Invariant s → IsFair s.link → IsListening s → AreWhole s → EndsFairly (push_all s) u t → no_number t ≡ false → IsTold s t ⊎ IsIdle s t }
 {}
 
-/// So where all that the remote reported is known, and no file lacks a byte, the uploads of a pass are reported, or the state is settled after
+/// So where all that the remote reported is known, and no file that is to be uploaded lacks a byte, the uploads of a pass are reported, or the
+/// state is settled after
 /// them.
 #[tactic(auto, using(crate::proofs::ReadyRests::ready_settled))]
 pub fn untold_uploads_leave_a_settled_state()
     ensures { (s : State) (u : Unit {0}) (t : State) → Invariant s → IsFair s.link → IsListening s → AreWhole s → IsReady s → EndsFairly (push_all s) u t → no_number t ≡ false → IsTold s t ⊎ (is_settled false t ≡ true) }
 {}
 
-/// A pass over a link that answers at once, from a state that agrees with the remote as far as the cursor goes, where no file lacks a
-/// byte: a line reports a change, an upload that was done or refused, a step that was left out or trouble; or the state is settled
+/// A pass over a link that answers at once, from a state that agrees with the remote as far as the cursor goes, where no file that is to
+/// be uploaded lacks a byte: a line reports a change, an upload that was done or refused, a step that was left out or trouble; or the state is settled
 /// afterwards. It is settled as a whole where each live item of the remote that the cursor has passed is here, and each directory is populated.
 #[tactic(auto, using(crate::proofs::QuietPasses::pass_settles, crate::proofs::QuietPasses::pass_settles_all))]
 pub fn an_untold_pass_leaves_a_settled_state()
@@ -100,7 +101,8 @@ pub fn a_quiet_pass_leaves_a_settled_state()
 {}
 
 /// In a run over a remote that was handed in tidy the rest of that agreement is enough: items are trees, no parent is in use, what the
-/// cursor has passed is known, and no file lacks a byte.
+/// cursor has passed is known, and no file that is to be uploaded
+/// lacks a byte.
 #[tactic(auto, using(crate::proofs::QuietPasses::run_settles))]
 pub fn an_untold_pass_of_a_run_leaves_a_settled_state()
     ensures { (remote : Held) (clusters : ℕ) (trace : List (Event × Answer)) (s : State) (u : Unit {0}) (t : State) → Runs mode.Replay (start mode.Replay remote clusters) trace s → IsFresh remote → IsTidy remote → IsFair s.link → IsListening s → IsKeptUp s → EndsFairly (pass s) u t → no_number t ≡ false → IsTold s t ⊎ (is_settled false t ≡ true) }
