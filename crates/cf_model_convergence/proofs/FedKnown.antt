@@ -1,6 +1,6 @@
 -- A feed that is taken in: what is known of the items' targets is right.
 use Rattle.std.proofs.Common.{◌≡◌, ◌⊎◌, ◌<◌, ◌≤◌, ℕ, Bool, true, false, List, [], ◌∷◌, refl, sym, ◌∙◌, ap, subst, inl, inr, arith}
-use Rattle.std.specs.Prelude.{Option, Some, None, cond, find, nat_lt, ◌==◌}
+use Rattle.std.specs.Prelude.{Option, Some, None, cond, find, nat_lt, ◌==◌, ◌&&◌}
 use Rattle.std.proofs.lemmas.Bool.{eqb-true}
 use Rattle.std.proofs.lemmas.Bool.Decides.{nat_tests}
 use Rattle.cf_base.specs.declared.ids.ItemId.{ItemId}
@@ -19,7 +19,7 @@ use Rattle.cf_model_laws.specs.Invariant.{All, HasBase, Invariant, IsRight}
 use Rattle.cf_model_laws.specs.Premises.{IsFair, IsSmall}
 use Rattle.cf_model_laws.proofs.AimedTargets.{unaimed_unfound}
 use Rattle.cf_model_laws.proofs.FoundItems.{found_again}
-use Rattle.cf_model_laws.proofs.Gathered.{all_any, all_found}
+use Rattle.cf_model_laws.proofs.Gathered.{all_any, all_found, all_weaker}
 use Rattle.cf_model_laws.proofs.RightItems.{no_way}
 use Rattle.cf_model_laws.proofs.SoundSettles.{right_true, same_item}
 use Rattle.cf_model_convergence.specs.Agreeing.{IsAgreed}
@@ -38,6 +38,9 @@ use Rattle.cf_model_convergence.proofs.ReadyRests.{nothing}
 use Rattle.cf_model_convergence.proofs.RightTargets.{aimed_right}
 use Rattle.cf_model_convergence.proofs.TakenKnown.{taken_known}
 use Rattle.cf_model_convergence.proofs.TidyItems.{found_rid}
+use Rattle.std.specs.List.{list_any}
+use Rattle.cf_model.specs.Requests.{is_hydrate_wait}
+use Rattle.cf_model.specs.Pushes.{is_hydrating}
 
 -- one item has the target
 
@@ -194,8 +197,13 @@ module _ (s : State) (h : Invariant s) (fair : IsFair s.link) (none : (book_now 
       ahead i r below target idle (inl z) = known_still i r below target z
       ahead i r below target idle (inr z) = known_now i r below target z (λ p busy. no_way (sym idle ∙ busy))
 
+  waited : (id : ItemId) → is_hydrating id m ≡ is_hydrating id s
+  waited id = ap (λ (f : Filter). list_any (λ w. is_hydrate_wait w.kind && (w.item.0 == id.0)) f.waiting.waits) fed.filter
+
   pub fed_whole : AreWhole m
-  fed_whole = subst (All (λ i. i.directory ≡ false → IsToUpload i → is_all_here i ≡ true)) (sym alike) agreed.whole
+  fed_whole = subst (All (λ i. i.directory ≡ false → IsToUpload i → (is_all_here i ≡ true) ⊎ (is_hydrating i.id m ≡ true))) (sym alike)
+      (all_weaker (λ i. i.directory ≡ false → IsToUpload i → (is_all_here i ≡ true) ⊎ (is_hydrating i.id s ≡ true)) (λ i. i.directory ≡ false → IsToUpload i → (is_all_here i ≡ true) ⊎ (is_hydrating i.id m ≡ true))
+      (λ i k file needed. subst (λ (b : Bool). (is_all_here i ≡ true) ⊎ (b ≡ true)) (sym (waited i.id)) (k file needed)) (items_now s) agreed.whole)
 
   fed_fair : IsFair m.link
   fed_fair = (fed.honest ∙ fair.0, subst IsSmall (sym fed.remote) fair.1)

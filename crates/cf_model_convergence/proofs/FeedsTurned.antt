@@ -12,7 +12,7 @@ use Rattle.cf_model.specs.Identities.{by_target, has_target, target_of}
 use Rattle.cf_model.specs.Items.{Item, item_of}
 use Rattle.cf_model.specs.State.{State, book_now, items_now}
 use Rattle.cf_model.specs.Trees.{bind}
-use Rattle.cf_model.specs.Words.{put_in, says, sorted}
+use Rattle.cf_model.specs.Words.{says, sorted}
 use Rattle.cf_model_laws.specs.Invariant.{All, Invariant}
 use Rattle.cf_model_laws.specs.Premises.{IsFair}
 use Rattle.cf_model_laws.proofs.FoundItems.{found_again}
@@ -26,22 +26,11 @@ use Rattle.cf_model_convergence.specs.Turns.{AreTurned, IsLeftBy, IsOfNone, IsTa
 use Rattle.cf_model_convergence.proofs.FeedTurns.{path_seen, turn_told}
 use Rattle.cf_model_convergence.proofs.FeedsTold.{all_among, among_left, among_right}
 use Rattle.cf_model_convergence.proofs.FeedsGrow.{first_grows, second_grows, seconds_grow, turns_grow}
+use Rattle.cf_model_convergence.proofs.PushesIdle.{sorted_apart}
 use Rattle.cf_model_convergence.proofs.TurnsGrow.{told_on}
 use Rattle.cf_model_convergence.proofs.TurnsTold.{ends_bind}
 
 -- lists
-
--- what holds of a sorted list holds of the list
-unput : {A : Type 0} (P : A → Type 0) (before : A → A → Bool) (x : A) (xs : List A) → All P (put_in before x xs) → P x × All P xs
-unput P before x [] h = (h.0, tt)
-unput P before x (y ∷ ys) h = by (before y x) h (unput P before x ys) where
-  by : (b : Bool) → All P (cond b (y ∷ put_in before x ys) (x ∷ y ∷ ys)) → (All P (put_in before x ys) → P x × All P ys) → P x × All P (y ∷ ys)
-  by true k g = let r = g k.1 in (r.0, (k.0, r.1))
-  by false k g = (k.0, k.1)
-
-unsorted : {A : Type 0} (P : A → Type 0) (before : A → A → Bool) (xs : List A) → All P (sorted before xs) → All P xs
-unsorted P before [] h = tt
-unsorted P before (x ∷ xs) h = let r = unput P before x (sorted before xs) h in (r.0, unsorted P before xs r.1)
 
 halves : {A : Type 0} (P : A → Type 0) (xs ys : List A) → All P (xs ++ ys) → All P xs × All P ys
 halves P [] ys h = (tt, h)
@@ -60,7 +49,7 @@ deeper items d e = nat_lt (depth_of_entry items e) (depth_of_entry items d)
 
 turned_all : (P : Entry → Type 0) (items : List Item) (es : List Entry) → All P (in_turn items es) → All P es
 turned_all P items es h =
-    let r = halves P (sorted (deeper items) (filter (λ e. not e.live) es)) (filter (λ e. e.live) es) h in joined P es (unsorted P (deeper items) (filter (λ e. not e.live) es) r.0) r.1
+    let r = halves P (sorted (deeper items) (filter (λ e. not e.live) es)) (filter (λ e. e.live) es) h in joined P es (sorted_apart P (deeper items) (filter (λ e. not e.live) es) r.0) r.1
 
 all_turned : (P : Entry → Type 0) (items : List Item) (es : List Entry) → All P es → All P (in_turn items es)
 all_turned P items es h = all_append P (sorted (deeper items) (filter (λ e. not e.live) es)) (filter (λ e. e.live) es) (all_sorted P (deeper items) (filter (λ e. not e.live) es) (all_filter P (λ e. not e.live) es h)) (all_filter P (λ e. e.live) es h)

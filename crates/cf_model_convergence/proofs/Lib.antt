@@ -11,6 +11,7 @@ pub mod FeedsOrder
 pub mod FeedsTold
 pub mod FeedsTurned
 pub mod FewPasses
+pub mod FirstStates
 pub mod ItemsPushed
 pub mod LastPasses
 pub mod LastingGuarded

@@ -9,7 +9,7 @@ use Rattle.cf_model.specs.Items.{Item, is_all_here, item_of}
 use Rattle.cf_model.specs.LookUp.{by_depth, depth_at}
 use Rattle.cf_model.specs.Messages.{no_number}
 use Rattle.cf_model.specs.Numbers.{most}
-use Rattle.cf_model.specs.Pushes.{is_left_out, is_tombstone_left_out, push_all, push_tombstone, push_turn}
+use Rattle.cf_model.specs.Pushes.{is_tombstone_left_out, push_all, push_tombstone, push_turn, is_hydrating}
 use Rattle.cf_model.specs.State.{State, book_now, items_now}
 use Rattle.cf_model.specs.Words.{put_in, sorted}
 use Rattle.cf_model.proofs.ArrowLaws.{keeps_each}
@@ -20,8 +20,7 @@ use Rattle.cf_model_laws.proofs.Gathered.{all_found}
 use Rattle.cf_model_laws.proofs.Guarded.{Entering, Guarded}
 use Rattle.cf_model_laws.proofs.PushesGuarded.{push_tombstone_keeps, push_turn_keeps}
 use Rattle.cf_model_laws.proofs.RightItems.{no_way}
-use Rattle.cf_model_convergence.specs.Resting.{IsRested}
-use Rattle.cf_model_convergence.specs.Telling.{AreWhole, EndsFairly, IsIdle, IsListening, IsToUpload, IsTold, IsTurned}
+use Rattle.cf_model_convergence.specs.Telling.{AreWhole, EndsFairly, IsAside, IsIdle, IsListening, IsToUpload, IsTold, IsTurned}
 use Rattle.cf_model_convergence.proofs.AddingGuarded.{In, entering_adds, guarded_adds, itself}
 use Rattle.cf_model_convergence.proofs.CountsGuarded.{Many, entering_counts, guarded_counts}
 use Rattle.cf_model_convergence.proofs.PushesTold.{kept_ends, told_then}
@@ -72,7 +71,7 @@ module _ (X : Type 0) (f : X → Arrow State (Unit {0})) (keeps : (P : State →
 -- items
 
 abbrev Rests : State → ItemId → Type 0
-Rests s item = (i : Item) → item_of (items_now s) item ≡ Some i → (is_left_out s i ≡ true) ⊎ IsRested s i
+Rests s item = (i : Item) → item_of (items_now s) item ≡ Some i → IsAside s i
 
 some : (a b : Item) → ◌≡◌ {A = Option Item} (Some a) (Some b) → a ≡ b
 some a b z = cc
@@ -80,29 +79,34 @@ some a b z = cc
 none : (j : Item) → ◌≡◌ {A = Option Item} None (Some j) → ⊥
 none j z = cc
 
+-- it lacks a byte and is not waited for, which no file does
+lacking : {A : Type 0} {a b : Bool} → a ≡ false → b ≡ false → (a ≡ true) ⊎ (b ≡ true) → A
+lacking p q (inl z) = no_way (sym p ∙ z)
+lacking p q (inr z) = no_way (sym q ∙ z)
+
 turn_step : (item : ItemId) (s : State) (u : Unit {0}) (t : State) → Invariant s → IsFair s.link → IsListening s → AreWhole s → EndsFairly (push_turn item s) u t → no_number t ≡ false → IsTold s t ⊎ ((t ≡ s) × Rests s item)
 turn_step item s u t h fair listening whole ends left = by (turn_told item s u t h fair listening ends left) where
   by : IsTold s t ⊎ IsTurned s item t → IsTold s t ⊎ ((t ≡ s) × Rests s item)
   by (inl k) = inl k
   by (inr (inl k)) = inr (k.1, λ i e. absurd (none i (sym k.0 ∙ e)))
   by (inr (inr k)) = spared k.2 where
-    spared : ((k.0.directory ≡ false) × (is_all_here k.0 ≡ false) × IsToUpload k.0) ⊎ ((t ≡ s) × ((is_left_out s k.0 ≡ true) ⊎ IsRested s k.0)) → IsTold s t ⊎ ((t ≡ s) × Rests s item)
-    spared (inl z) = no_way (sym z.1 ∙ (all_found (λ i. i.directory ≡ false → IsToUpload i → is_all_here i ≡ true) (λ i. i.id.0 == item.0) (items_now s) k.0 k.1 whole).0 z.0 z.2)
-    spared (inr z) = inr (z.0, λ i e. subst (λ (j : Item). (is_left_out s j ≡ true) ⊎ IsRested s j) (some k.0 i (sym k.1 ∙ e)) z.1)
+    spared : ((k.0.directory ≡ false) × (is_all_here k.0 ≡ false) × IsToUpload k.0 × (is_hydrating k.0.id s ≡ false)) ⊎ ((t ≡ s) × IsAside s k.0) → IsTold s t ⊎ ((t ≡ s) × Rests s item)
+    spared (inl z) = lacking z.1 z.3 ((all_found (λ i. i.directory ≡ false → IsToUpload i → (is_all_here i ≡ true) ⊎ (is_hydrating i.id s ≡ true)) (λ i. i.id.0 == item.0) (items_now s) k.0 k.1 whole).0 z.0 z.2)
+    spared (inr z) = inr (z.0, λ i e. subst (IsAside s) (some k.0 i (sym k.1 ∙ e)) z.1)
 
 tombstone_step : (x : Tombstone) (s : State) (u : Unit {0}) (t : State) → Invariant s → IsFair s.link → IsListening s → Unit {0} → EndsFairly (push_tombstone x s) u t → no_number t ≡ false → IsTold s t ⊎ ((t ≡ s) × (is_tombstone_left_out s x ≡ true))
 tombstone_step x s u t h fair listening has ends left = tombstone_told x s u t h fair listening ends left
 
--- of the items in another order
+-- what holds of a sorted list holds of the list
 
-put_apart : (P : Item → Type 0) (before : Item → Item → Bool) (x : Item) (ys : List Item) → All P (put_in before x ys) → P x × All P ys
+put_apart : {A : Type 0} (P : A → Type 0) (before : A → A → Bool) (x : A) (ys : List A) → All P (put_in before x ys) → P x × All P ys
 put_apart P before x [] h = h
 put_apart P before x (y ∷ ys) h = by (before y x) h (put_apart P before x ys) where
   by : (b : Bool) → All P (cond b (y ∷ put_in before x ys) (x ∷ y ∷ ys)) → (All P (put_in before x ys) → P x × All P ys) → P x × All P (y ∷ ys)
   by true k more = ((more k.1).0, (k.0, (more k.1).1))
   by false k more = k
 
-sorted_apart : (P : Item → Type 0) (before : Item → Item → Bool) (xs : List Item) → All P (sorted before xs) → All P xs
+pub sorted_apart : {A : Type 0} (P : A → Type 0) (before : A → A → Bool) (xs : List A) → All P (sorted before xs) → All P xs
 sorted_apart P before [] h = h
 sorted_apart P before (x ∷ xs) h = let k = put_apart P before x (sorted before xs) h in (k.0, sorted_apart P before xs k.1)
 

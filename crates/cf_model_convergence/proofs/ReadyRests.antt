@@ -13,9 +13,9 @@ use Rattle.cf_model.specs.Identities.{is_untargeted, parent_target, target_of}
 use Rattle.cf_model.specs.Items.{Item, item_of, pin_of}
 use Rattle.cf_model.specs.LookUp.{is_excluded, is_excluded_pin, item_line}
 use Rattle.cf_model.specs.Messages.{no_number}
-use Rattle.cf_model.specs.Numbers.{no_rid, root_rid, same_usn}
+use Rattle.cf_model.specs.Numbers.{no_rid, root_rid, same_usn, no_key, same_key}
 use Rattle.cf_model.specs.PushReplies.{has_item, has_number}
-use Rattle.cf_model.specs.Pushes.{has_entry, has_rid_entry, is_left_out, is_tombstone_left_out, push_all}
+use Rattle.cf_model.specs.Pushes.{has_entry, has_rid_entry, is_left_out, is_tombstone_left_out, push_all, is_hydrating}
 use Rattle.cf_model.specs.Settled.{is_settled}
 use Rattle.cf_model.specs.State.{State, book_now, items_now}
 use Rattle.cf_model.specs.Store.{Stored, stored_at}
@@ -31,11 +31,14 @@ use Rattle.cf_model_convergence.specs.Lasting.{IsTargetedWell}
 use Rattle.cf_model_convergence.specs.Matching.{IsBelow}
 use Rattle.cf_model_convergence.specs.Ready.{IsReady}
 use Rattle.cf_model_convergence.specs.Resting.{AreAllTargets, IsAtRest, IsRested, IsTargetOf, IsTargetRight}
-use Rattle.cf_model_convergence.specs.Telling.{AreWhole, EndsFairly, IsIdle, IsListening, IsTold}
+use Rattle.cf_model_convergence.specs.Telling.{AreWhole, EndsFairly, IsAside, IsIdle, IsListening, IsTold}
 use Rattle.cf_model_convergence.proofs.PushesIdle.{pushes_told}
 use Rattle.cf_model_convergence.proofs.RestingMatches.{rest_settled}
 use Rattle.cf_model_convergence.proofs.RightTargets.{aimed_right}
 use Rattle.cf_model_convergence.proofs.TargetsHere.{rest_whole}
+use Rattle.cf_model.specs.Requests.{is_hydrate_wait}
+use Rattle.cf_model.specs.Skips.{in_use}
+use Rattle.cf_model.specs.Missing.{Wait}
 
 -- the rids of a remote begin at 1
 pub nothing : (items : List Stored) (n : ℕ) → CountsFrom n items → (x : Rid) (r : Stored) → x.0 ≡ 0 → stored_at items x ≡ Some r → 1 ≤ n → ⊥
@@ -89,8 +92,8 @@ module _ (s : State) (h : Invariant s) (fair : IsFair s.link) (ready : IsReady s
   found : All (λ i. item_of (items_now s) i.id ≡ Some i) (items_now s)
   found = all_weaker (λ i. (item_of (items_now s) i.id ≡ Some i) × (0 < i.id.0)) (λ i. item_of (items_now s) i.id ≡ Some i) (λ i k. k.0) (items_now s) (found_all 0 s.filter.volume.next_item.0 (items_now s) (h.1 fair).now.order)
 
-  judged : (i : Item) → IsBelow s i → (is_left_out s i ≡ true) ⊎ IsRested s i
-  judged i below = (all_found (λ j. (k : Item) → item_of (items_now s) j.id ≡ Some k → (is_left_out s k ≡ true) ⊎ IsRested s k) (λ j. j.id.0 == i.id.0) (items_now s) i below.0 idle.items).0 i below.0
+  judged : (i : Item) → IsBelow s i → IsAside s i
+  judged i below = (all_found (λ j. (k : Item) → item_of (items_now s) j.id ≡ Some k → IsAside s k) (λ j. j.id.0 == i.id.0) (items_now s) i below.0 idle.items).0 i below.0
 
   -- no upload is on its way, and nothing is held back
   no_entry : (item : ItemId) → has_entry s item ≡ false
@@ -129,11 +132,28 @@ module _ (s : State) (h : Invariant s) (fair : IsFair s.link) (ready : IsReady s
       differ : (n : ℕ) → n ≡ 1 → (n == 1) ≡ false → ⊥
       differ n z q = grind (arith, nat_tests, z, q)
 
-  rests : (n : ℕ) (i : Item) → length (item_line (items_now s) i.id) ≤ n → IsBelow s i → is_excluded (items_now s) i.id ≡ false → IsRested s i
-  rests zero i few below out = absurd (none (length (item_line (items_now s) i.id)) few (ap (λ (ks : List ℕ). length ks) (ready.tree i below).2)) where
+  -- what is waited for is in use
+  busy : (item : ItemId) → is_hydrating item s ≡ true → in_use s item ≡ true
+  busy item e = either_true (list_any (λ o. o.item.0 == item.0) s.filter.handles) (list_any (λ w. (w.item.0 == item.0) && not (same_key w.id.0 no_key)) s.filter.waiting.waits) (any s.filter.waiting.waits (h.1 fair).numbered e) where
+    either_true : (a b : Bool) → b ≡ true → (a || b) ≡ true
+    either_true true b z = refl
+    either_true false b z = z
+
+    any : (ws : List Wait) → All (λ w. same_key w.id.0 no_key ≡ false) ws → list_any (λ w. is_hydrate_wait w.kind && (w.item.0 == item.0)) ws ≡ true → list_any (λ w. (w.item.0 == item.0) && not (same_key w.id.0 no_key)) ws ≡ true
+    any [] k z = z
+    any (w ∷ ws) k z = one (is_hydrate_wait w.kind) (w.item.0 == item.0) (same_key w.id.0 no_key) k.0 z (any ws k.1) where
+      one : (a b c : Bool) → c ≡ false → ((a && b) || list_any (λ v. is_hydrate_wait v.kind && (v.item.0 == item.0)) ws) ≡ true → (list_any (λ v. is_hydrate_wait v.kind && (v.item.0 == item.0)) ws ≡ true → list_any (λ v. (v.item.0 == item.0) && not (same_key v.id.0 no_key)) ws ≡ true)
+          → ((b && not c) || list_any (λ v. (v.item.0 == item.0) && not (same_key v.id.0 no_key)) ws) ≡ true
+      one a true true q z more = no_way_back q
+      one a true false q z more = refl
+      one true false c q z more = more z
+      one false false c q z more = more z
+
+  rests : (n : ℕ) (i : Item) → length (item_line (items_now s) i.id) ≤ n → IsBelow s i → is_excluded (items_now s) i.id ≡ false → in_use s i.id ≡ false → IsRested s i
+  rests zero i few below out unused = absurd (none (length (item_line (items_now s) i.id)) few (ap (λ (ks : List ℕ). length ks) (ready.tree i below).2)) where
     none : (k : ℕ) {m : ℕ} → k ≤ 0 → k ≡ suc m → ⊥
     none k {m} a b = omega (arith, a, b)
-  rests (suc n) i few below out = by (judged i below) (λ p below2 few2 out2. rests n p few2 below2 out2) where
+  rests (suc n) i few below out unused = by (judged i below) (λ p below2 few2 out2 unused2. rests n p few2 below2 out2 unused2) where
     up : (p : Item) × (item_of (items_now s) i.parent ≡ Some p) × (item_line (items_now s) i.id ≡ i.id.0 ∷ item_line (items_now s) p.id)
     up = ready.tree i below
 
@@ -151,10 +171,11 @@ module _ (s : State) (h : Invariant s) (fair : IsFair s.link) (ready : IsReady s
         any_tail (λ k. is_excluded_pin (pin_of (items_now s) (record { 0 = k }))) 1 i.id.0 (item_line (items_now s) up.0.id)
         (subst (λ (ks : List ℕ). list_any (λ k. is_excluded_pin (pin_of (items_now s) (record { 0 = k }))) (1 ∷ ks) ≡ false) up.2 out)
 
-    by : (is_left_out s i ≡ true) ⊎ IsRested s i → ((p : Item) → IsBelow s p → length (item_line (items_now s) p.id) ≤ n → is_excluded (items_now s) p.id ≡ false → IsRested s p) → IsRested s i
-    by (inr k) more = k
+    by : IsAside s i → ((p : Item) → IsBelow s p → length (item_line (items_now s) p.id) ≤ n → is_excluded (items_now s) p.id ≡ false → in_use s p.id ≡ false → IsRested s p) → IsRested s i
+    by (inr (inl k)) more = k
+    by (inr (inr k)) more = no_way (sym unused ∙ busy i.id k)
     by (inl e) more =
-        no_way (sym (target_some up.0 (λ low. (more up.0 (parent_found, low) few_up out_up).target))
+        no_way (sym (target_some up.0 (λ low. (more up.0 (parent_found, low) few_up out_up (ready.idle i up.0 below up.1)).target))
         ∙ sym (ap (λ (o : Option Item). (part target_of no_rid o).0 == 0) up.1) ∙ bare_parent i below out e)
 
   all_under : (n : ℕ) → n ≤ n
@@ -202,7 +223,7 @@ module _ (s : State) (h : Invariant s) (fair : IsFair s.link) (ready : IsReady s
     there = λ i below some. there i some (targeted i below);
     right = λ i r below target. right i r target (targeted i below);
     passed = ready.passed;
-    rested = λ i below out idle2. rests (length (item_line (items_now s) i.id)) i (all_under (length (item_line (items_now s) i.id))) below out;
+    rested = λ i below out idle2. rests (length (item_line (items_now s) i.id)) i (all_under (length (item_line (items_now s) i.id))) below out idle2;
     ahead = λ i r below out idle2 target late. ready.ahead i r below idle2 target late;
     idle = ready.idle;
     buried = buried;

@@ -18,7 +18,7 @@ use Rattle.cf_model.specs.LookUp.{is_excluded}
 use Rattle.cf_model.specs.Messages.{no_number}
 use Rattle.cf_model.specs.Numbers.{no_usn, same_usn}
 use Rattle.cf_model.specs.PushReplies.{has_item, whatever}
-use Rattle.cf_model.specs.Pushes.{bury_unless, has_entry, hydrate_if, is_left_out, is_tombstone_left_out, mark_item, push_by_case, push_here, push_item, push_tombstone, push_turn, push_unless, put_file, put_if, put_whole, upload, upload_if, upload_new, upload_now}
+use Rattle.cf_model.specs.Pushes.{bury_unless, has_entry, hydrate_if, is_left_out, is_tombstone_left_out, mark_item, push_by_case, push_here, push_item, push_tombstone, push_turn, push_unless, put_file, put_if, put_whole, upload, upload_if, upload_new, upload_now, hydrate_unless, is_hydrating}
 use Rattle.cf_model.specs.Skips.{do_change, left_out, may_mark, mark_if, try_change, why_no_change}
 use Rattle.cf_model.specs.Soundness.{Each}
 use Rattle.cf_model.specs.State.{State, book_now, items_now, with_filter}
@@ -98,9 +98,14 @@ module _ (s : State) (h : Invariant s) (fair : IsFair s.link) (listening : IsLis
 
   upload_told : (i.directory ≡ false → i.placeholder ≡ true) → IsToUpload i → EndsFairly (upload i s) u t → IsTold s t ⊎ IsSpared s i t
   upload_told placed needed ends = by i.directory refl ends where
+    waited : (c : Bool) → is_hydrating i.id s ≡ c → is_all_here i ≡ false → i.directory ≡ false → EndsFairly (bind (hydrate_unless i.id c s) (λ _ x. put_whole (item_of (items_now x) i.id) x)) u t → IsTold s t ⊎ IsSpared s i t
+    waited true w here file e =
+        inr (inr ((subst (λ (b : Bool). EndsFairly (put_if i b s) u t) here (subst (λ (o : Option Item). EndsFairly (put_whole o s) u t) there e)).1, inr (inr w)))
+    waited false w here file e = inr (inl (file, here, needed, w))
+
     hydrated : (b : Bool) → is_all_here i ≡ b → i.directory ≡ false → EndsFairly (bind (hydrate_if i.id b s) (λ _ x. put_whole (item_of (items_now x) i.id) x)) u t → IsTold s t ⊎ IsSpared s i t
     hydrated true here file e = inl (whole_told (item_of (items_now s) i.id) there file (placed file) here e)
-    hydrated false here file e = inr (inl (file, here, needed))
+    hydrated false here file e = waited (is_hydrating i.id s) refl here file e
 
     by : (b : Bool) → i.directory ≡ b → EndsFairly (choose b (push_item MakeDir i) (put_file i) s) u t → IsTold s t ⊎ IsSpared s i t
     by true dir e = inl (item_told MakeDir i s u t h fair listening (there, free, dir) e left)
@@ -184,7 +189,7 @@ module _ (s : State) (h : Invariant s) (fair : IsFair s.link) (listening : IsLis
     by true may e =
         let k = ends_bind (try_change (change.Mark i.id number) s) whatever u t e in
         inl (subst (IsTold s) (sym k.3.1) (leads_ends Any (λ done x. IsTold s x) (try_change (change.Mark i.id number) s) k.0 k.1 (try_told_led (change.Mark i.id number) s listening) k.2))
-    by false may e = inr (inr (e.1, inr (record { target = aimed; stands = stands; clean = clean; in_sync = rested may })))
+    by false may e = inr (inr (e.1, inr (inl (record { target = aimed; stands = stands; clean = clean; in_sync = rested may }))))
 
   case_told : EndsFairly (push_by_case i s) u t → IsTold s t ⊎ IsSpared s i t
   case_told ends = by (is_untargeted i) refl ends where

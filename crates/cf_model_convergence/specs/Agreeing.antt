@@ -15,7 +15,7 @@ use Rattle.cf_model_convergence.specs.Telling.{AreWhole}
 use Rattle.cf_model_convergence.specs.Tidy.{IsLower, IsTidy}
 
 -- Items are trees, no parent is in use, and no two items have one target. The cursor is no later than the remote, and of a target that
--- it has passed what is known is right. No file that is to be uploaded lacks a byte.
+-- it has passed what is known is right. No file that is to be uploaded lacks a byte, but where it is waited for to be hydrated.
 pub record IsAgreed (s : State) : Type 0 where
   pub tidy : IsTidy s.link.remote
   pub early : (book_now s).cursor ≤ s.link.remote.clock

@@ -6,7 +6,7 @@ use Rattle.cf_base.specs.declared.notices.Notice.{Notice}
 use Rattle.cf_model.specs.Books.{Action, MakeDir, MoveItem, PutFile, RemoveItem}
 use Rattle.cf_model.specs.Identities.{is_untargeted, stands_at_seen}
 use Rattle.cf_model.specs.Items.{Item, is_all_here, is_dirty, item_of}
-use Rattle.cf_model.specs.Pushes.{has_entry, is_left_out, is_tombstone_left_out}
+use Rattle.cf_model.specs.Pushes.{has_entry, is_hydrating, is_left_out, is_tombstone_left_out}
 use Rattle.cf_model.specs.State.{State, book_now, items_now}
 use Rattle.cf_model.specs.Trees.{AsItKeeps, Asked, Faults, Fork, Ret, Step, Tree}
 use Rattle.cf_model_laws.specs.Invariant.{All}
@@ -46,21 +46,26 @@ IsPushable RemoveItem s i = ⊥
 abbrev pub IsToUpload : Item → Type 0
 IsToUpload i = (is_untargeted i ≡ true) ⊎ (is_dirty i ≡ true)
 
--- A pass does nothing for the item: it is a file to be uploaded that lacks a byte, which is asked for; or the state stays, and the item is left out
--- or rests.
+-- The item is left out, rests, or is waited for to be hydrated.
+abbrev pub IsAside : State → Item → Type 0
+IsAside s i = (is_left_out s i ≡ true) ⊎ IsRested s i ⊎ (is_hydrating i.id s ≡ true)
+
+-- A pass does nothing for the item: it is a file to be uploaded that lacks a byte, which is asked for now; or the state stays, and the item is
+-- left out, rests or is waited for.
 abbrev pub IsSpared : State → Item → State → Type 0
-IsSpared s i t = ((i.directory ≡ false) × (is_all_here i ≡ false) × IsToUpload i) ⊎ ((t ≡ s) × ((is_left_out s i ≡ true) ⊎ IsRested s i))
+IsSpared s i t =
+    ((i.directory ≡ false) × (is_all_here i ≡ false) × IsToUpload i × (is_hydrating i.id s ≡ false)) ⊎ ((t ≡ s) × IsAside s i)
 
 -- what a pass leaves of an item that it does nothing for: it is not there, or it is spared
 abbrev pub IsTurned : State → ItemId → State → Type 0
 IsTurned s item t = ((item_of (items_now s) item ≡ None) × (t ≡ s)) ⊎ ((i : Item) × (item_of (items_now s) item ≡ Some i) × IsSpared s i t)
 
--- No file that is to be uploaded lacks a byte.
+-- No file that is to be uploaded lacks a byte, but where it is waited for to be hydrated.
 abbrev pub AreWhole : State → Type 0
-AreWhole s = All (λ i. i.directory ≡ false → IsToUpload i → is_all_here i ≡ true) (items_now s)
+AreWhole s = All (λ i. i.directory ≡ false → IsToUpload i → (is_all_here i ≡ true) ⊎ (is_hydrating i.id s ≡ true)) (items_now s)
 
--- The state stays. Each tombstone is left out, and so is each item that does not rest.
+-- The state stays. Each tombstone is left out, and each item is left out, rests, or is waited for.
 pub record IsIdle (s t : State) : Type 0 where
   pub same : t ≡ s
   pub tombstones : All (λ x. is_tombstone_left_out s x ≡ true) (book_now s).tombstones
-  pub items : All (λ i. (j : Item) → item_of (items_now s) i.id ≡ Some j → (is_left_out s j ≡ true) ⊎ IsRested s j) (items_now s)
+  pub items : All (λ i. (j : Item) → item_of (items_now s) i.id ≡ Some j → IsAside s j) (items_now s)

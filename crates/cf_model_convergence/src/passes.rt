@@ -43,66 +43,67 @@ pub fn settled_uploads_are_told_or_gone()
     ensures { (s : State) (u : Unit {0}) (t : State) → Invariant s → IsFair s.link → IsListening s → EndsFairly (settle_all s) u t → no_number t ≡ false → IsTold s t ⊎ IsSettledTo [] s t }
 {}
 
-/// Then it asks a feed. Over such a link of a tidy remote, with no upload on its way and a cursor that is no later than the remote, a line reports
-/// a change, a step that was left out or trouble; or the feed is taken in: each of its entries is postponed as its item is in use, of no
-/// case, or taken in, and nothing is held back.
+/// Then it asks a feed. Over such a link of a tidy remote, with no upload on its way and a cursor that is no later than the
+/// remote, a line reports a change, a step that was left out or trouble; or the feed is taken in: each of its entries is
+/// postponed as its item is in use, of no case, or taken in, and nothing is held back.
 #[tactic(auto, using(crate::proofs::FeedAsked::feed_told))]
 pub fn a_feed_is_told_or_taken_in()
     ensures { (s : State) (u : Unit {0}) (t : State) → Invariant s → IsFair s.link → IsListening s → IsTidy s.link.remote → (book_now s).entries ≡ [] → (book_now s).cursor ≤ s.link.remote.clock → EndsFairly (ask_feed s) u t → no_number t ≡ false → IsTold s t ⊎ IsFed s t }
 {}
 
-/// An upload that a pass sends over a link that answers at once is reported, where the remote keeps its rules or fails, and numbers of
-/// messages are left: it is done or refused, or there is a line of trouble. So is the removal of a tombstone's item.
+/// An upload that a pass sends over a link that answers at once is reported, where the remote keeps its rules or fails, and
+/// numbers of messages are left: it is done or refused, or there is a line of trouble. So is the removal of a tombstone's item.
 #[tactic(auto, using(crate::proofs::ItemsPushed::item_told, crate::proofs::ItemsPushed::removal_told))]
 pub fn an_upload_is_told()
     ensures item { (a : Action) (i : Item) (s : State) (u : Unit {0}) (t : State) → Invariant s → IsFair s.link → IsListening s → IsPushable a s i → EndsFairly (push_item a i s) u t → no_number t ≡ false → IsTold s t }
     ensures removal { (x : Tombstone) (s : State) (u : Unit {0}) (t : State) → Invariant s → IsFair s.link → IsListening s → EndsFairly (push_removal x s) u t → no_number t ≡ false → IsTold s t }
 {}
 
-/// An item at its turn in a pass: a line reports an upload, a change or a step that was left out, or nothing is done for it. Then it is
-/// a file to be uploaded that lacks a byte, or the state stays and the item is left out or rests: it has a target, stands at the path seen, is clean and
-/// in sync. A tombstone at its turn is reported so, or the state stays and it is left out.
+/// An item at its turn in a pass: a line reports an upload, a change or a step that was left out, or nothing is done for it. Then
+/// it is a file to be uploaded that lacks a byte and is asked for now, or the state stays and the item is left out, is waited for
+/// to be hydrated, or rests: it has a target, stands at the path seen, is clean and in sync. A tombstone at its turn is reported
+/// so, or the state stays and it is left out.
 #[tactic(auto, using(crate::proofs::TurnsTold::turn_told, crate::proofs::TurnsTold::tombstone_told))]
 pub fn an_item_at_its_turn_is_told_or_rests()
     ensures item { (item : ItemId) (s : State) (u : Unit {0}) (t : State) → Invariant s → IsFair s.link → IsListening s → EndsFairly (push_turn item s) u t → no_number t ≡ false → IsTold s t ⊎ IsTurned s item t }
     ensures tombstone { (x : Tombstone) (s : State) (u : Unit {0}) (t : State) → Invariant s → IsFair s.link → IsListening s → EndsFairly (push_tombstone x s) u t → no_number t ≡ false → IsTold s t ⊎ ((t ≡ s) × (is_tombstone_left_out s x ≡ true)) }
 {}
 
-/// The uploads of a pass, where no file that is to be uploaded lacks a byte: a line reports one, a change or a step that was left out; or the state
-/// stays, each tombstone is left out, and each item is left out or rests.
+/// The uploads of a pass, where no file that is to be uploaded lacks a byte, but where it is waited for to be hydrated: a line
+/// reports one, a change or a step that was left out; or the state stays, each tombstone is left out, and each item is left out,
+/// is waited for, or rests.
 #[tactic(auto, using(crate::proofs::PushesIdle::pushes_told))]
 pub fn uploads_are_told_or_none_is_left()
     ensures { (s : State) (u : Unit {0}) (t : State) → Invariant s → IsFair s.link → IsListening s → AreWhole s → EndsFairly (push_all s) u t → no_number t ≡ false → IsTold s t ⊎ IsIdle s t }
 {}
 
-/// So where all that the remote reported is known, and no file that is to be uploaded lacks a byte, the uploads of a pass are reported, or the
-/// state is settled after
-/// them.
+/// So where all that the remote reported is known, and no file that is to be uploaded lacks a byte, the uploads of a pass are
+/// reported, or the state is settled after them.
 #[tactic(auto, using(crate::proofs::ReadyRests::ready_settled))]
 pub fn untold_uploads_leave_a_settled_state()
     ensures { (s : State) (u : Unit {0}) (t : State) → Invariant s → IsFair s.link → IsListening s → AreWhole s → IsReady s → EndsFairly (push_all s) u t → no_number t ≡ false → IsTold s t ⊎ (is_settled false t ≡ true) }
 {}
 
-/// A pass over a link that answers at once, from a state that agrees with the remote as far as the cursor goes, where no file that is to
-/// be uploaded lacks a byte: a line reports a change, an upload that was done or refused, a step that was left out or trouble; or the state is settled
-/// afterwards. It is settled as a whole where each live item of the remote that the cursor has passed is here, and each directory is populated.
+/// A pass over a link that answers at once, from a state that agrees with the remote as far as the cursor goes, where no file
+/// that is to be uploaded lacks a byte that is not waited for: a line reports a change, an upload that was done or refused, a
+/// step that was left out or trouble; or the state is settled afterwards. It is settled as a whole where each live item of the
+/// remote that the cursor has passed is here, and each directory is populated.
 #[tactic(auto, using(crate::proofs::QuietPasses::pass_settles, crate::proofs::QuietPasses::pass_settles_all))]
 pub fn an_untold_pass_leaves_a_settled_state()
     ensures local { (s : State) (u : Unit {0}) (t : State) → Invariant s → IsFair s.link → IsListening s → IsAgreed s → EndsFairly (pass s) u t → no_number t ≡ false → IsTold s t ⊎ (is_settled false t ≡ true) }
     ensures whole { (s : State) (u : Unit {0}) (t : State) → Invariant s → IsFair s.link → IsListening s → IsAgreed s → IsPassedHere s → EndsFairly (pass s) u t → no_number t ≡ false → IsTold s t ⊎ (is_settled true t ≡ true) }
 {}
 
-/// So it is of a pass by its lines: where none of them is of a change, of an upload that was done or refused, of a step that was left
-/// out, or of trouble, the state is settled afterwards.
+/// So it is of a pass by its lines: where none of them is of a change, of an upload that was done or refused, of a step that was
+/// left out, or of trouble, the state is settled afterwards.
 #[tactic(auto, using(crate::proofs::QuietPasses::quiet_settles, crate::proofs::QuietPasses::quiet_settles_all))]
 pub fn a_quiet_pass_leaves_a_settled_state()
     ensures local { (s : State) (u : Unit {0}) (t : State) (lines : List Notice) → Invariant s → IsFair s.link → IsListening s → IsAgreed s → EndsFairly (pass s) u t → no_number t ≡ false → t.filter.notes ≡ s.filter.notes ++ lines → list_any is_loud lines ≡ false → is_settled false t ≡ true }
     ensures whole { (s : State) (u : Unit {0}) (t : State) (lines : List Notice) → Invariant s → IsFair s.link → IsListening s → IsAgreed s → IsPassedHere s → EndsFairly (pass s) u t → no_number t ≡ false → t.filter.notes ≡ s.filter.notes ++ lines → list_any is_loud lines ≡ false → is_settled true t ≡ true }
 {}
 
-/// In a run over a remote that was handed in tidy the rest of that agreement is enough: items are trees, no parent is in use, what the
-/// cursor has passed is known, and no file that is to be uploaded
-/// lacks a byte.
+/// In a run over a remote that was handed in tidy the rest of that agreement is enough: items are trees, no parent is in use,
+/// what the cursor has passed is known, and no file that is to be uploaded lacks a byte that is not waited for.
 #[tactic(auto, using(crate::proofs::QuietPasses::run_settles))]
 pub fn an_untold_pass_of_a_run_leaves_a_settled_state()
     ensures { (remote : Held) (clusters : ℕ) (trace : List (Event × Answer)) (s : State) (u : Unit {0}) (t : State) → Runs mode.Replay (start mode.Replay remote clusters) trace s → IsFresh remote → IsTidy remote → IsFair s.link → IsListening s → IsKeptUp s → EndsFairly (pass s) u t → no_number t ≡ false → IsTold s t ⊎ (is_settled false t ≡ true) }
@@ -114,9 +115,16 @@ pub fn a_sync_ends_with_a_whole_pass()
     ensures { (s : State) (u : Unit {0}) (t : State) → Invariant s → EndsFairly (sync_passes s) u t → (m : State) × (v : Unit {0}) × Invariant m × AddsTo s m × EndsFairly (pass m) v t }
 {}
 
-/// A `sync` over a link that answers at once ends: it makes at most 16 passes for each item and tombstone, for each of 100,000 times of the
-/// remote, and for 4 more.
+/// A `sync` over a link that answers at once ends: it makes at most 16 passes for each item and tombstone, for each of 100,000
+/// times of the remote, and for 4 more.
 #[tactic(auto, using(crate::proofs::FewPasses::sync_few))]
 pub fn a_sync_makes_few_passes()
     ensures { (s : State) (u : Unit {0}) (t : State) → s.link.inline ≡ true → EndsFairly (sync_passes s) u t → (n : ℕ) × ArePasses n s t × (n ≤ 16 * (things s + 100000 + 4)) }
+{}
+
+/// A new volume agrees so with a tidy remote, of which all is ahead of its cursor.
+#[tactic(auto, using(crate::proofs::FirstStates::first_agrees, crate::proofs::FirstStates::first_here))]
+pub fn a_new_volume_agrees()
+    ensures agrees { (remote : Held) (clusters : ℕ) → IsTidy remote → IsAgreed (start mode.Replay remote clusters) }
+    ensures here { (remote : Held) (clusters : ℕ) → IsTidy remote → IsPassedHere (start mode.Replay remote clusters) }
 {}
