@@ -33,6 +33,23 @@ module _ {A : Type 0} (key : A → Key) where
   pub place_is : (n : ℕ) (xs : List A) (p : ℕ) → p ≤ length xs → IsPartitionPoint (λ (x : A). ltb (key x).number n ≡ true) (λ (x : A). ltb (key x).number n ≡ false) xs p → IsPlaceBy key n xs p
   place_is n xs p le h = record { in_range = le; before = λ k d lt. ltb-true _ _ (h.0 k d (omega arith) lt); from = λ k d ge lt. ltb-false _ _ (h.1 k d ge lt) }
 
+  numbers_from : (epoch low high : ℕ) (xs : List A) (n p : ℕ) (d : A) → RisesTo key epoch low high xs → p < length xs → (key (get_or xs p d)).number ≡ n → IsPlaceBy key n xs p
+  numbers_from epoch low high xs n p d h lt is = record {
+    in_range = omega arith;
+    before = λ k e l. rises_strictly epoch low high xs k p e d h l lt is;
+    from = λ k e ge l. let m : (key (get_or xs p e)).number ≤ (key (get_or xs k e)).number = numbers_rise epoch low high xs h p k e ge l in let q : (key (get_or xs p e)).number ≡ n = ap (λ (x : A). (key x).number) (get_or_default xs p e d lt) ∙ is in omega arith;
+  } where
+    rises_strictly : (epoch low high : ℕ) (xs : List A) (k p : ℕ) (e d : A) → RisesTo key epoch low high xs → k < p → p < length xs → (key (get_or xs p d)).number ≡ n → (key (get_or xs k e)).number < n
+    rises_strictly epoch low high [] k p e d h l lt is = absurd (omega arith)
+    rises_strictly epoch low high (x ∷ xs) zero zero e d h l lt is = absurd (omega arith)
+    rises_strictly epoch low high (x ∷ xs) zero (suc p) e d h l lt is = let m : (key x).number < (key (get_or xs p d)).number = number_from epoch (key x).number high p xs d h.2 (omega arith) in omega arith
+    rises_strictly epoch low high (x ∷ xs) (suc k) zero e d h l lt is = absurd (omega arith)
+    rises_strictly epoch low high (x ∷ xs) (suc k) (suc p) e d h l lt is = rises_strictly epoch (key x).number high xs k p e d h.2 (omega arith) (omega arith) is
+
+  -- the place at which the number stands
+  pub place_there : (n : ℕ) (xs : List A) (p : ℕ) (d : A) → IsRising key xs → p < length xs → (key (get_or xs p d)).number ≡ n → IsPlaceBy key n xs p
+  place_there n xs p d r lt is = numbers_from r.0 0 r.1 xs n p d r.2 lt is
+
   place_tail : (n : ℕ) (x : A) (xs : List A) (p : ℕ) → IsPlaceBy key n (x ∷ xs) (suc p) → IsPlaceBy key n xs p
   place_tail n x xs p h = record {
     in_range = omega (arith, h.in_range);

@@ -11,7 +11,9 @@ ghost use Rattle.cf_waits.specs.Rising.{IsRising, ask_key};
 ghost use Rattle.cf_waits.specs.Steps.{is_gone};
 ghost use Rattle.cf_waits.specs.Told.{first_key, owns_by};
 
-use crate::ask_lists::{ask_at, change_ask, find_ask, has_key, take_ask};
+use crate::ask_lists::{
+    ask_there, change_ask, find_ask, has_key, owns_by, place_from, take_ask, told_of,
+};
 use crate::entries::{Entry, add_entry, entries_on, remove_entry};
 use cf_ask_rule::{LiveAsk, WaitNumber, is_dehydrate, is_list, is_same_key};
 use cf_base::{Ask, ItemId, Key, OutOfMemory, Span};
@@ -223,24 +225,7 @@ fn base_of(tick: u64) -> u64
     if tick < LATE { 0 } else { tick - 60 }
 }
 
-fn told_of(ask: Option<&LiveAsk>) -> Option<(Ask, WaitNumber)>
-    ensures { result ≡ option_map (λ a. (a.ask, a.wait)) (option_copied ask.entry) }
-{
-    match ask {
-        Some(a) => Some((a.ask(), a.wait())),
-        None => None,
-    }
-}
-
-fn owns_by(ask: Option<&LiveAsk>, blocks: Span) -> bool
-    ensures { result ≡ owns_by (counting blocks.start blocks.len) (option_copied ask.entry) }
-{
-    match ask {
-        Some(a) => a.has_all(blocks),
-        None => false,
-    }
-}
-
+// The asks on one item mostly stand side by side, so the place after the last found is tried first.
 fn found_of(
     alloc: Global,
     asks: &[LiveAsk],
@@ -250,11 +235,14 @@ fn found_of(
     requires { IsRising ask_key asks.now }
     ensures { IfOk result (λ v. v.items ≡ map (aged_at tick) (found_of ask_key asks.now entries.now)) }
 {
-    let mut out = Vec::new(alloc);
+    let mut out = Vec::with_capacity(alloc, entries.len())?;
+    let mut next = 0;
     for e in entries {
-        if let Some(a) = ask_at(asks, e.number) {
+        let place = place_from(asks, next, e.number);
+        if let Some(a) = ask_there(asks, place, e.number) {
             out.push(a.copy_at(tick.saturating_sub(a.ticks()))?)?;
         }
+        next = place.saturating_add(1);
     }
     Ok(out)
 }

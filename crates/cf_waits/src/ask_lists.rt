@@ -1,14 +1,17 @@
 //! Asks in order of their keys. Each is found by a binary search.
-ghost use Rattle.std.specs.Prelude.{◌≡◌, ◌≤◌, ◌==◌, ◌<◌, cond, filter, find, length, map, not, None, option_copied, Some};
+ghost use Rattle.std.specs.Prelude.{◌≡◌, ◌≤◌, ◌==◌, ◌<◌, cond, filter, find, length, map, not, None, option_copied, Some, IsTrue};
 ghost use Rattle.std.specs.List.{list_any};
 ghost use Rattle.std.specs.Vec.{vec_capacity, vec_len};
+ghost use Rattle.std.specs.Option.{option_map};
 ghost use Rattle.cf_model.specs.Numbers.{same_key};
 ghost use Rattle.cf_model.specs.Requests.{live_of};
+ghost use Rattle.cf_model.specs.Words.{counting};
 ghost use Rattle.cf_waits.specs.Books.{IsPlaceBy, at_number, if_key, SetsLive};
 ghost use Rattle.cf_waits.specs.Rising.{IsRising, ask_key};
+ghost use Rattle.cf_waits.specs.Told.{owns_by};
 
-use cf_ask_rule::{LiveAsk, is_same_key};
-use cf_base::Key;
+use cf_ask_rule::{LiveAsk, WaitNumber, is_same_key};
+use cf_base::{Ask, Key, Span};
 
 fn place_of(asks: &[LiveAsk], number: u64) -> usize
     requires { IsRising ask_key asks.now }
@@ -22,7 +25,36 @@ pub(crate) fn ask_at(asks: &[LiveAsk], number: u64) -> Option<&LiveAsk>
     requires { IsRising ask_key asks.now }
     ensures { option_copied result ≡ at_number ask_key number asks.now }
 {
-    let place = place_of(asks, number);
+    ask_there(asks, place_of(asks, number), number)
+}
+
+/// How many asks have lesser numbers. A place at which the number may be is tried before the binary search.
+pub(crate) fn place_from(asks: &[LiveAsk], place: usize, number: u64) -> usize
+    requires { IsRising ask_key asks.now }
+    ensures { IsPlaceBy ask_key number asks.now result }
+{
+    if is_at(asks, place, number) {
+        return place;
+    }
+    place_of(asks, number)
+}
+
+fn is_at(asks: &[LiveAsk], place: usize, number: u64) -> bool
+    requires { IsRising ask_key asks.now }
+    ensures { IsTrue result → IsPlaceBy ask_key number asks.now place }
+{
+    if place >= asks.len() {
+        return false;
+    }
+    asks[place].ask().key.number as u64 == number
+}
+
+/// The ask of a number of the epoch. So many asks have lesser numbers.
+pub(crate) fn ask_there(asks: &[LiveAsk], place: usize, number: u64) -> Option<&LiveAsk>
+    requires rising { IsRising ask_key asks.now }
+    requires place { IsPlaceBy ask_key number asks.now place }
+    ensures { option_copied result ≡ at_number ask_key number asks.now }
+{
     if place == asks.len() {
         return None;
     }
@@ -57,6 +89,26 @@ fn ask_by(at: Option<&LiveAsk>, key: Key) -> Option<&LiveAsk>
             None
         },
         None => None,
+    }
+}
+
+/// What a live ask asks, and the wait that it has.
+pub(crate) fn told_of(ask: Option<&LiveAsk>) -> Option<(Ask, WaitNumber)>
+    ensures { result ≡ option_map (λ a. (a.ask, a.wait)) (option_copied ask.entry) }
+{
+    match ask {
+        Some(a) => Some((a.ask(), a.wait())),
+        None => None,
+    }
+}
+
+/// Whether a live ask owns each of the blocks.
+pub(crate) fn owns_by(ask: Option<&LiveAsk>, blocks: Span) -> bool
+    ensures { result ≡ owns_by (counting blocks.start blocks.len) (option_copied ask.entry) }
+{
+    match ask {
+        Some(a) => a.has_all(blocks),
+        None => false,
     }
 }
 

@@ -110,7 +110,7 @@ impl Requests {
         ensures { IfOk result (λ s. carried s (with_waits begun.now self.now) ≡ step_of item (shown v.now) (deed_of act) (with_waits begun.now self.now)) }
     {
         let sight = Sight::new(self.alloc, v)?;
-        let live = self.waits.on(self.alloc, item)?;
+        let live = self.waits.on(self.alloc, item, begun.len())?;
         let waits = with_begun(live, begun)?;
         let asks = self.asks.near(self.alloc, item, named_by(act))?;
         let plan = make_plan(self.alloc, item, &sight, act, &waits, asks)?;

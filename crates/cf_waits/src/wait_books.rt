@@ -11,7 +11,7 @@ ghost use Rattle.cf_waits.specs.Rising.{IsRising, wait_key};
 ghost use Rattle.cf_waits.specs.Told.{is_wait_by, wait_of};
 
 use crate::entries::{Entry, add_entry, entries_on, remove_entry};
-use crate::wait_lists::{find_wait, take_wait, wait_at};
+use crate::wait_lists::{find_wait, place_from, take_wait, wait_at, wait_there};
 use cf_ask_rule::{
     LiveWait, WaitNumber, is_background, is_dehydrate_wait, is_hydrate_wait, is_list_wait,
 };
@@ -129,11 +129,16 @@ impl WaitBook {
         find_wait(&self.waits, wait)
     }
 
-    /// The waits on an item, in order of number.
-    pub(crate) fn on(&self, alloc: Global, item: ItemId) -> Result<Vec<LiveWait>, OutOfMemory>
+    /// The waits on an item, in order of number, with room for so many more.
+    pub(crate) fn on(
+        &self,
+        alloc: Global,
+        item: ItemId,
+        more: usize,
+    ) -> Result<Vec<LiveWait>, OutOfMemory>
         ensures { IfOk result (λ v. v.items ≡ filter (is_on item) self.now.waits) }
     {
-        found_of(alloc, &self.waits, entries_on(&self.index, item))
+        found_of(alloc, &self.waits, entries_on(&self.index, item), more)
     }
 
     /// Whether a wait on the item is live.
@@ -165,19 +170,24 @@ impl WaitBook {
     }
 }
 
+// The waits on one item mostly stand side by side, so the place after the last found is tried first.
 fn found_of(
     alloc: Global,
     waits: &[LiveWait],
     entries: &[Entry],
+    more: usize,
 ) -> Result<Vec<LiveWait>, OutOfMemory>
     requires { IsRising wait_key waits.now }
     ensures { IfOk result (λ v. v.items ≡ found_of wait_key waits.now entries.now) }
 {
-    let mut out = Vec::new(alloc);
+    let mut out = Vec::with_capacity(alloc, entries.len().saturating_add(more))?;
+    let mut next = 0;
     for e in entries {
-        if let Some(w) = wait_at(waits, e.number) {
+        let place = place_from(waits, next, e.number);
+        if let Some(w) = wait_there(waits, place, e.number) {
             out.push(w)?;
         }
+        next = place.saturating_add(1);
     }
     Ok(out)
 }

@@ -1,5 +1,5 @@
 //! Waits in order of their numbers. Each is found by a binary search.
-ghost use Rattle.std.specs.Prelude.{◌≡◌, ◌≤◌, ◌==◌, cond, filter, find, not, None, Some};
+ghost use Rattle.std.specs.Prelude.{◌≡◌, ◌≤◌, ◌==◌, cond, filter, find, not, None, Some, IsTrue};
 ghost use Rattle.std.specs.Vec.{vec_capacity, vec_len};
 ghost use Rattle.cf_model.specs.Numbers.{same_key};
 ghost use Rattle.cf_waits.specs.Books.{IsPlaceBy, at_number, if_key};
@@ -21,7 +21,36 @@ pub(crate) fn wait_at(waits: &[LiveWait], number: u64) -> Option<LiveWait>
     requires { IsRising wait_key waits.now }
     ensures { result ≡ at_number wait_key number waits.now }
 {
-    let place = place_of(waits, number);
+    wait_there(waits, place_of(waits, number), number)
+}
+
+/// How many waits have lesser numbers. A place at which the number may be is tried before the binary search.
+pub(crate) fn place_from(waits: &[LiveWait], place: usize, number: u64) -> usize
+    requires { IsRising wait_key waits.now }
+    ensures { IsPlaceBy wait_key number waits.now result }
+{
+    if is_at(waits, place, number) {
+        return place;
+    }
+    place_of(waits, number)
+}
+
+fn is_at(waits: &[LiveWait], place: usize, number: u64) -> bool
+    requires { IsRising wait_key waits.now }
+    ensures { IsTrue result → IsPlaceBy wait_key number waits.now place }
+{
+    if place >= waits.len() {
+        return false;
+    }
+    waits[place].id().number() == number
+}
+
+/// The wait of a number of the epoch. So many waits have lesser numbers.
+pub(crate) fn wait_there(waits: &[LiveWait], place: usize, number: u64) -> Option<LiveWait>
+    requires rising { IsRising wait_key waits.now }
+    requires place { IsPlaceBy wait_key number waits.now place }
+    ensures { result ≡ at_number wait_key number waits.now }
+{
     if place == waits.len() {
         return None;
     }
