@@ -157,7 +157,7 @@ impl RangeSet {
         missing_in(self.alloc, &self.runs, span)
     }
 
-    /// Whether a block of 4,096 positions has one of the set.
+    /// Whether a block of 4,096 positions has one of the set. By a binary search.
     #[tactic(auto, using(crate::proofs::Blocks::touches_means))]
     pub fn touches(&self, block: u64) -> bool
         requires { block < 2 ^ 40 }

@@ -1,5 +1,5 @@
 //! Lists of maximal runs in order.
-ghost use Rattle.std.specs.Prelude.{◌≡◌, ℕ, ◌+◌, ◌^◌, ◌≤◌, ◌<◌, ◌++◌, ◌↔◌, [], OnOk, IfOk, IsTrue};
+ghost use Rattle.std.specs.Prelude.{◌≡◌, ℕ, ◌+◌, ◌-◌, ◌^◌, ◌≤◌, ◌<◌, ◌++◌, ◌||◌, ◌↔◌, [], nat_lt, OnOk, IfOk, IsTrue};
 ghost use Rattle.cf_ranges.specs.Positions.{contains, IsRuns, touches};
 ghost use Rattle.cf_ranges.specs.Steps.{added, piece, cut_of, missing_of, blocks_from};
 
@@ -36,18 +36,25 @@ pub(crate) fn has(runs: &[Span], at: u64) -> bool
     at - run.start < run.len
 }
 
-#[tactic(auto, using(crate::proofs::Sets::small_runs))]
+// Only the last run that begins by the end of the block may reach into it.
 pub(crate) fn touches(runs: &[Span], block: u64) -> bool
     requires runs { IsRuns runs.now }
     requires block { block < 2 ^ 40 }
     ensures { result ≡ touches runs.now block }
 {
-    for run in runs {
-        if run.start < BLOCK * block + BLOCK && BLOCK * block < run.start + run.len {
-            return true;
-        }
+    let start = BLOCK * block;
+    let last = start + (BLOCK - 1);
+    let next = runs.partition_point(|run| run.start <= last);
+    if next == 0 {
+        return false;
     }
-    false
+    reaches(runs[next - 1], start)
+}
+
+fn reaches(run: Span, start: u64) -> bool
+    ensures { result ≡ (nat_lt start run.start || nat_lt (start - run.start) run.len) }
+{
+    start < run.start || start - run.start < run.len
 }
 
 pub(crate) fn blocks(runs: &[Span]) -> u64
