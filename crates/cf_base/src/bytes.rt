@@ -34,6 +34,7 @@ impl Blob {
         Blob { bytes }
     }
 
+    /// The bytes, for a look.
     pub fn as_slice(&self) -> &[u8]
         ensures { result.now ≡ self.now }
     {
@@ -69,6 +70,7 @@ impl Text {
         Ok(Text { text })
     }
 
+    /// The text, for a look.
     pub fn as_str(&self) -> &str
         ensures { result.now ≡ self.now }
     {

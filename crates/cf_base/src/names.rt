@@ -73,6 +73,7 @@ impl Name {
         Ok(Name { bytes })
     }
 
+    /// The name's bytes, in UTF-8.
     pub fn as_slice(&self) -> &[u8]
         ensures { result.now ≡ self.now }
     {
@@ -119,6 +120,7 @@ impl Identity {
         Ok(Identity { bytes })
     }
 
+    /// The identity's bytes.
     pub fn as_slice(&self) -> &[u8]
         ensures { result.now ≡ self.now }
     {
