@@ -12,7 +12,7 @@ ghost use Rattle.cf_cli.specs.declared.commands.Command.TheVariants as meant;
 ghost use Rattle.cf_cli.specs.declared.commands.WordsError.TheVariants as fails;
 
 use crate::command_line::account;
-use crate::numbers::number;
+use cf_script::number;
 use clap::error::ErrorKind;
 use clap::{ArgMatches, Error};
 use std::alloc::{AllocError, Global};
@@ -91,9 +91,10 @@ fn numbered(alloc: Global, found: &ArgMatches) -> Result<Command, WordsError>
     let Some(text) = found.get_str("number") else {
         return Err(WordsError::Usage);
     };
-    match number(alloc, text)? {
-        Some(n) => Ok(Command::Gen(n)),
-        None => Err(WordsError::Usage),
+    match number(alloc, text) {
+        Ok(Some(n)) => Ok(Command::Gen(n)),
+        Ok(None) => Err(WordsError::Usage),
+        Err(_) => Err(WordsError::OutOfMemory),
     }
 }
 

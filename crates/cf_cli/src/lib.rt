@@ -7,7 +7,6 @@
 mod command_line;
 mod commands;
 mod laws;
-mod numbers;
 
 pub use commands::{Command, WordsError, command_of};
 pub use laws::{

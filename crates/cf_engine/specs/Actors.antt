@@ -21,6 +21,10 @@ pub record Syncing (R : Type 0) : Type 0 where
 abbrev pub new_engine : {R : Type 0} → Linked R → Syncing R
 new_engine l = record { engine = record { agent = record { link = l; shows_skips = false; skips = 0 }; took_done = false; first_clock = None; volatile = fresh }; next = 1 }
 
+-- this remote in the place of the link's
+abbrev pub with_remote : {R : Type 0} → R → Syncing R → Syncing R
+with_remote remote x = record x { engine = record x.engine { agent = record x.engine.agent { link = record x.engine.agent.link { remote = remote } } } }
+
 -- while the volume is broken or off: the messages, the remote, and the tokens of other devices
 pub record Holds {R : Type 0} (told : R → Told) (x : Syncing R) (s : State) : Type 0 where
   pub link : IsLink told x.engine.agent.link s.link

@@ -2,7 +2,7 @@
 
 ghost use Rattle.std.specs.Prelude.{◌≡◌, ℕ};
 ghost use Rattle.cf_base.specs.declared.policies.Mode.TheVariants as mode;
-ghost use Rattle.cf_engine.specs.Actors.{acts_of, new_engine};
+ghost use Rattle.cf_engine.specs.Actors.{acts_of, new_engine, with_remote};
 ghost use Rattle.cf_link.specs.Linked.{IsRemote};
 ghost use Rattle.cf_model.specs.State.{State, start};
 ghost use Rattle.cf_model.specs.Store.{Held};
@@ -52,6 +52,15 @@ impl<R: Remote> SyncActor<R> {
             engine: Engine::new(alloc, link),
             next: 1,
         }
+    }
+
+    /// Puts this remote in the place of the link's, which it gives back. All else stays. So one remote can be moved to the device that
+    /// acts, where several devices share it.
+    pub fn exchange_remote(&mut self, remote: R) -> R
+        ensures new { self.new ≡ with_remote remote self.old }
+        ensures back { result ≡ self.old.engine.agent.link.remote }
+    {
+        self.engine.exchange_remote(remote)
     }
 
     /// The link.

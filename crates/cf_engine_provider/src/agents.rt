@@ -68,6 +68,14 @@ impl<R: Remote> Agent<R> {
         &self.link
     }
 
+    /// Puts this remote in the place of the link's, which it gives back.
+    pub fn exchange_remote(&mut self, remote: R) -> R
+        ensures new { self.new ≡ record self.old { link = record self.old.link { remote = remote } } }
+        ensures back { result ≡ self.old.link.remote }
+    {
+        self.link.exchange_remote(remote)
+    }
+
     /// The link.
     pub fn into_link(self) -> Link<R>
         ensures { result ≡ self.link }

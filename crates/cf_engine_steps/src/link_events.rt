@@ -48,6 +48,14 @@ impl<R: Remote> Engine<R> {
         self.volatile.forget();
     }
 
+    /// Puts this remote in the place of the link's, which it gives back. All else stays.
+    pub fn exchange_remote(&mut self, remote: R) -> R
+        ensures new { self.new ≡ record self.old { agent = record self.old.agent { link = record self.old.agent.link { remote = remote } } } }
+        ensures back { result ≡ self.old.agent.link.remote }
+    {
+        self.agent.exchange_remote(remote)
+    }
+
     /// The link, with its messages and its remote. All else is gone.
     pub fn into_link(self) -> Link<R>
         ensures { result ≡ self.agent.link }

@@ -47,6 +47,11 @@ abbrev pub actor_of : {D A : Type 0} → Acting D A → A
 actor_of (acting.On x) = x.actor
 actor_of (acting.Off x) = x.actor
 
+-- the same world with another actor
+abbrev pub with_actor : {D A B : Type 0} → B → Acting D A → Acting D B
+with_actor actor (acting.On x) = acting.On (record { filter = x.filter; actor = actor })
+with_actor actor (acting.Off x) = acting.Off (record { disk = x.disk; policy = x.policy; actor = actor })
+
 -- What an event of the device does to the disk: a stop arms it with its number, and a crash is one power cut with its choice.
 abbrev pub BearsOn : DeviceEvent → Disk → Disk → Type 0
 BearsOn (device.Stop calls) old new = new.armed ≡ option_map (λ _. Some calls) old.armed

@@ -1,5 +1,8 @@
 //! Where the volume is.
 
+ghost use Rattle.std.specs.Prelude.{◌≡◌};
+ghost use Rattle.cf_filter_events.specs.Stepped.{actor_of, with_actor};
+
 use cf_base::Policy;
 use cf_disk::Disk;
 use cf_filter::Filter;
@@ -24,4 +27,46 @@ pub struct Cut<D: Disk, A> {
 pub enum Acting<D: Disk, A> {
     On(Running<D, A>),
     Off(Cut<D, A>),
+}
+
+impl<D: Disk, A> Acting<D, A> {
+    /// The actor, and the world without it.
+    pub fn apart(self) -> (Acting<D, ()>, A)
+        ensures rest { result.0 ≡ with_actor () self }
+        ensures actor { result.1 ≡ actor_of self }
+    {
+        match self {
+            Acting::On(Running { filter, actor }) => {
+                (Acting::On(Running { filter, actor: () }), actor)
+            }
+            Acting::Off(Cut {
+                disk,
+                policy,
+                actor,
+            }) => {
+                let rest = Cut {
+                    disk,
+                    policy,
+                    actor: (),
+                };
+                (Acting::Off(rest), actor)
+            }
+        }
+    }
+}
+
+impl<D: Disk> Acting<D, ()> {
+    /// The same world with this actor.
+    pub fn with_actor<A>(self, actor: A) -> Acting<D, A>
+        ensures { result ≡ with_actor actor self }
+    {
+        match self {
+            Acting::On(Running { filter, .. }) => Acting::On(Running { filter, actor }),
+            Acting::Off(Cut { disk, policy, .. }) => Acting::Off(Cut {
+                disk,
+                policy,
+                actor,
+            }),
+        }
+    }
 }

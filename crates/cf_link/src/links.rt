@@ -15,6 +15,7 @@ use cf_remote::{Remote, peer};
 use cf_wire::Net;
 use std::alloc::Global;
 use std::marker::Model;
+use std::mem;
 
 /// The messages by number, the remote, and whether the link is inline: then a request comes to the remote at once, and its
 /// reply is taken at once.
@@ -75,6 +76,14 @@ impl<R: Remote> Link<R> {
         ensures inline { self.new.inline ≡ self.old.inline }
     {
         peer(self.alloc, &mut self.remote, next, e)
+    }
+
+    /// Puts this remote in the place of the link's, which it gives back. The messages stay, and so does whether the link is inline.
+    pub fn exchange_remote(&mut self, remote: R) -> R
+        ensures new { self.new ≡ record self.old { remote = remote } }
+        ensures back { result ≡ self.old.remote }
+    {
+        mem::replace(&mut self.remote, remote)
     }
 
     /// The remote.

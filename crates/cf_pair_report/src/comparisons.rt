@@ -4,9 +4,9 @@ ghost use Rattle.std.specs.Prelude.{◌≡◌, IfOk};
 ghost use Rattle.cf_pair_report.specs.Texts.{comparison_line};
 ghost use Rattle.cf_pair_events.specs.declared.comparisons.Comparison.TheVariants as shown;
 
-use crate::paths::push_path;
 use cf_base::{Answer, Blob, Code, OutOfMemory, Sequence, Shown, Text};
 use cf_pair_events::Comparison;
+use cf_report::push_name;
 use std::alloc::Global;
 
 fn equal_line(alloc: Global) -> Result<Blob, OutOfMemory>
@@ -19,7 +19,7 @@ fn unequal_line(alloc: Global, path: &Text) -> Result<Blob, OutOfMemory>
     ensures { IfOk result (λ b. b ≡ comparison_line (shown.Unequal path.now)) }
 {
     let mut out = Vec::from_slice(alloc, b"= unequal ".as_slice())?;
-    push_path(&mut out, path.as_str().as_bytes())?;
+    push_name(&mut out, path.as_str().as_bytes())?;
     out.push(b'\n')?;
     Ok(Blob::from_vec(out))
 }

@@ -2,7 +2,6 @@
 #![tactic(auto)]
 
 mod comparisons;
-mod paths;
 mod texts;
 
 pub use texts::text;

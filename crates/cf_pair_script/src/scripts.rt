@@ -1,47 +1,17 @@
 //! Scripts of two devices.
 
-ghost use Rattle.std.specs.Prelude.{◌≡◌, ◌<◌, ◌^◌, ◌==◌, List, ◌∷◌, length, position, IfOk, IfErr, MatchResult};
+ghost use Rattle.std.specs.Prelude.{◌≡◌, ◌<◌, ◌^◌, List, length, IfOk, IfErr, MatchResult};
 ghost use Rattle.cf_pair_events.specs.declared.events.PairEvent.{PairEvent};
 ghost use Rattle.cf_pair_script.specs.Causes.{IsCause};
 ghost use Rattle.cf_pair_script.specs.PairScript.{IsScript};
-ghost use Rattle.cf_script.specs.Script.{is_event_line, lines_of};
+ghost use Rattle.cf_script.specs.Script.{lines_of};
 ghost use Rattle.cf_script.specs.declared.script_errors.ScriptError.TheVariants as fails;
 
 use crate::lines::event_of_line;
 use cf_base::Sequence;
 use cf_pair_events::PairEvent;
-use cf_script::ScriptError;
+use cf_script::{MOST_EVENTS, ScriptError, is_event_line, next_line};
 use std::alloc::Global;
-
-/// The most events that a script has, those of both devices together.
-const MOST_EVENTS: usize = 100_000;
-
-fn line_end(text: &[u8]) -> Option<usize>
-    ensures { result ≡ position (λ b. b == 10) text.now }
-{
-    text.iter().position(|b| *b == b'\n')
-}
-
-/// The first line, and what stands after it.
-fn next_line(text: &[u8]) -> (&[u8], &[u8])
-    requires { 0 < length text.now }
-    ensures line { lines_of text.now ≡ result.0.now ∷ lines_of result.1.now }
-    ensures shorter { length result.1.now < length text.now }
-{
-    match line_end(text) {
-        Some(end) => (&text[..end], &text[end + 1..]),
-        None => (text, &[]),
-    }
-}
-
-fn is_event_line(line: &[u8]) -> bool
-    ensures { result ≡ is_event_line line.now }
-{
-    match line {
-        [] => false,
-        [first, ..] => *first != b'#',
-    }
-}
 
 fn read_lines(alloc: Global, text: &[u8]) -> Result<Vec<PairEvent>, ScriptError>
     requires { length text.now < 2 ^ 32 }

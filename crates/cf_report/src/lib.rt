@@ -16,6 +16,7 @@ ghost use Rattle.cf_report.specs.Texts.{text};
 pub use crate::changes::{kind_word, pin_word};
 use crate::notices::push_notices;
 use crate::results::push_result;
+pub use crate::words::push_name;
 use cf_base::{Answer, Blob, OutOfMemory};
 use std::alloc::Global;
 

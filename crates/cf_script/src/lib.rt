@@ -26,6 +26,7 @@ mod texts;
 
 pub use laws::{all_of_the_mode, can_spell, one_event, one_reading, reads_back};
 pub use lines::event_of_line;
+pub use numbers::number;
 pub use prints::print;
 pub use script_errors::ScriptError;
-pub use scripts::read;
+pub use scripts::{MOST_EVENTS, is_event_line, next_line, read};

@@ -13,7 +13,7 @@ use cf_base::{Event, Mode, Sequence};
 use std::alloc::Global;
 
 /// The most events that a script has.
-const MOST_EVENTS: usize = 100_000;
+pub const MOST_EVENTS: usize = 100_000;
 
 fn line_end(text: &[u8]) -> Option<usize>
     ensures { result ≡ position (λ b. b == 10) text.now }
@@ -21,8 +21,8 @@ fn line_end(text: &[u8]) -> Option<usize>
     text.iter().position(|b| *b == b'\n')
 }
 
-/// The first line, and what stands after it.
-fn next_line(text: &[u8]) -> (&[u8], &[u8])
+/// The first line of a text that is not empty, without its end, and what stands after it.
+pub fn next_line(text: &[u8]) -> (&[u8], &[u8])
     requires { 0 < length text.now }
     ensures line { lines_of text.now ≡ result.0.now ∷ lines_of result.1.now }
     ensures shorter { length result.1.now < length text.now }
@@ -33,7 +33,8 @@ fn next_line(text: &[u8]) -> (&[u8], &[u8])
     }
 }
 
-fn is_event_line(line: &[u8]) -> bool
+/// Whether a line has an event: it is neither empty nor a comment.
+pub fn is_event_line(line: &[u8]) -> bool
     ensures { result ≡ is_event_line line.now }
 {
     match line {
