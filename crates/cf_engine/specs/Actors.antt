@@ -3,7 +3,7 @@ use Rattle.std.specs.Prelude.{◌≡◌, ◌+◌, ℕ, List, None, false}
 use Rattle.cf_base.specs.declared.policies.Mode.TheVariants as mode
 use Rattle.cf_engine_provider.specs.Agencies as agencies
 use Rattle.cf_engine_steps.specs.Callbacks as callbacks
-use Rattle.cf_engine_steps.specs.States.{Own, told_of}
+use Rattle.cf_engine_steps.specs.States.{Own, own_to, told_of}
 use Rattle.cf_filter_events.specs.Actors.{Acts}
 use Rattle.cf_link.specs.Linked.{IsLink, Linked}
 use Rattle.cf_model.specs.Ports.{Act}
@@ -21,9 +21,9 @@ pub record Syncing (R : Type 0) : Type 0 where
 abbrev pub new_engine : {R : Type 0} → Linked R → Syncing R
 new_engine l = record { engine = record { agent = record { link = l; shows_skips = false; skips = 0 }; took_done = false; first_clock = None; volatile = fresh }; next = 1 }
 
--- this remote in the place of the link's
-abbrev pub with_remote : {R : Type 0} → R → Syncing R → Syncing R
-with_remote remote x = record x { engine = record x.engine { agent = record x.engine.agent { link = record x.engine.agent.link { remote = remote } } } }
+-- the same with another remote
+abbrev pub with_remote : {R S : Type 0} → S → Syncing R → Syncing S
+with_remote remote x = record { engine = own_to remote x.engine; next = x.next }
 
 -- while the volume is broken or off: the messages, the remote, and the tokens of other devices
 pub record Holds {R : Type 0} (told : R → Told) (x : Syncing R) (s : State) : Type 0 where

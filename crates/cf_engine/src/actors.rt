@@ -54,13 +54,15 @@ impl<R: Remote> SyncActor<R> {
         }
     }
 
-    /// Puts this remote in the place of the link's, which it gives back. All else stays. So one remote can be moved to the device that
-    /// acts, where several devices share it.
-    pub fn exchange_remote(&mut self, remote: R) -> R
-        ensures new { self.new ≡ with_remote remote self.old }
-        ensures back { result ≡ self.old.engine.agent.link.remote }
+    /// The same engine with another remote, of any kind, and the remote that it had. All else stays. So one remote can be moved to
+    /// the device that acts, where several devices share it.
+    pub fn with_remote<S: Remote>(self, remote: S) -> (SyncActor<S>, R)
+        ensures actor { result.0 ≡ with_remote remote self }
+        ensures back { result.1 ≡ self.engine.agent.link.remote }
     {
-        self.engine.exchange_remote(remote)
+        let SyncActor { engine, next } = self;
+        let (engine, former) = engine.with_remote(remote);
+        (SyncActor { engine, next }, former)
     }
 
     /// The link.

@@ -5,7 +5,7 @@ use Rattle.cf_base.specs.declared.memory.OutOfMemory.{OutOfMemory as NoMemory}
 use Rattle.cf_base.specs.declared.notices.Notice.{Notice}
 use Rattle.cf_base.specs.declared.policies.Mode.TheVariants as mode
 use Rattle.cf_link.specs.Faults.{AsksFailed, fault_of}
-use Rattle.cf_link.specs.Linked.{IsLink, Linked}
+use Rattle.cf_link.specs.Linked.{IsLink, Linked, linked_to}
 use Rattle.cf_model.specs.Arrows.{Arrow, unit}
 use Rattle.cf_model.specs.Ports.{Act, Acts, Did, Failed, HasFailed, Noted}
 use Rattle.cf_model.specs.State.{Filter, State}
@@ -17,6 +17,10 @@ pub record Agency (R : Type 0) : Type 0 where
   pub link : Linked R
   pub shows_skips : Bool
   pub skips : ℕ
+
+-- the same provider with another remote
+abbrev pub agency_to : {R S : Type 0} → S → Agency R → Agency S
+agency_to remote p = record { link = linked_to remote p.link; shows_skips = p.shows_skips; skips = p.skips }
 
 -- it stands for a state in the command replay
 pub record Sees {R : Type 0} (told : R → Told) (p : Agency R) (z : State) : Type 0 where

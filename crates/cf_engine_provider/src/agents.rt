@@ -1,6 +1,7 @@
 //! The provider.
 
 ghost use Rattle.std.specs.Prelude.{◌≡◌, ◌+◌, OnErr, OnOk};
+ghost use Rattle.cf_engine_provider.specs.Agencies.{agency_to};
 
 use cf_base::{OutOfMemory, no_such_state};
 use cf_link::Link;
@@ -68,12 +69,25 @@ impl<R: Remote> Agent<R> {
         &self.link
     }
 
-    /// Puts this remote in the place of the link's, which it gives back.
-    pub fn exchange_remote(&mut self, remote: R) -> R
-        ensures new { self.new ≡ record self.old { link = record self.old.link { remote = remote } } }
-        ensures back { result ≡ self.old.link.remote }
+    /// The same provider with another remote, of any kind, and the remote that it had. All else stays.
+    pub fn with_remote<S: Remote>(self, remote: S) -> (Agent<S>, R)
+        ensures agent { result.0 ≡ agency_to remote self }
+        ensures back { result.1 ≡ self.link.remote }
     {
-        self.link.exchange_remote(remote)
+        let Agent {
+            alloc,
+            link,
+            shows_skips,
+            skips,
+        } = self;
+        let (link, former) = link.with_remote(remote);
+        let agent = Agent {
+            alloc,
+            link,
+            shows_skips,
+            skips,
+        };
+        (agent, former)
     }
 
     /// The link.

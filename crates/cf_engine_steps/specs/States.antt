@@ -2,7 +2,7 @@
 use Rattle.std.proofs.Common.{◌≡◌, ℕ, ◌+◌, Bool, true, false, refl}
 use Rattle.std.specs.Prelude.{Option, Some, None, unwrap_or}
 use Rattle.cf_base.specs.declared.policies.Mode.TheVariants as mode
-use Rattle.cf_engine_provider.specs.Agencies.{Agency, Sees}
+use Rattle.cf_engine_provider.specs.Agencies.{Agency, Sees, agency_to}
 use Rattle.cf_engine_steps.specs.Answering.{Whole}
 use Rattle.cf_engine_steps.specs.Faults.{Rose, fault_lines, rose_both, rose_none}
 use Rattle.cf_link.specs.Linked.{IsLink, Linked}
@@ -32,6 +32,10 @@ pub record Stopped {X R : Type 0} (S : Sense X) (told : R → Told) (x y : X) (f
   pub on : t.power ≡ On
   pub replays : t.mode ≡ mode.Replay
   pub link : IsLink told f.agent.link t.link
+
+-- the same engine with another remote
+abbrev pub own_to : {R S : Type 0} → S → Own R → Own S
+own_to remote e = record { agent = agency_to remote e.agent; took_done = e.took_done; first_clock = e.first_clock; volatile = e.volatile }
 
 -- with another link, and with one step more that was left out
 

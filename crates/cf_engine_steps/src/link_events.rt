@@ -2,7 +2,7 @@
 //! part also while the volume is broken or off, and outlives it.
 
 ghost use Rattle.std.specs.Prelude.{◌≡◌, ◌<◌, ◌-◌, ◌^◌, IfErr, IfOk};
-ghost use Rattle.cf_engine_steps.specs.States.{with_link_of};
+ghost use Rattle.cf_engine_steps.specs.States.{own_to, with_link_of};
 ghost use Rattle.cf_link.specs.Linked.{Arrives, DoesPeer, StopsPeer};
 ghost use Rattle.cf_model.specs.Peers.{peer_event};
 ghost use Rattle.cf_model.specs.State.{fresh};
@@ -48,12 +48,25 @@ impl<R: Remote> Engine<R> {
         self.volatile.forget();
     }
 
-    /// Puts this remote in the place of the link's, which it gives back. All else stays.
-    pub fn exchange_remote(&mut self, remote: R) -> R
-        ensures new { self.new ≡ record self.old { agent = record self.old.agent { link = record self.old.agent.link { remote = remote } } } }
-        ensures back { result ≡ self.old.agent.link.remote }
+    /// The same engine with another remote, of any kind, and the remote that it had. All else stays.
+    pub fn with_remote<S: Remote>(self, remote: S) -> (Engine<S>, R)
+        ensures engine { result.0 ≡ own_to remote self }
+        ensures back { result.1 ≡ self.agent.link.remote }
     {
-        self.agent.exchange_remote(remote)
+        let Engine {
+            agent,
+            took_done,
+            first_clock,
+            volatile,
+        } = self;
+        let (agent, former) = agent.with_remote(remote);
+        let engine = Engine {
+            agent,
+            took_done,
+            first_clock,
+            volatile,
+        };
+        (engine, former)
     }
 
     /// The link, with its messages and its remote. All else is gone.

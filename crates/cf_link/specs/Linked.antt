@@ -29,6 +29,10 @@ pub record Linked (R : Type 0) : Type 0 where
   pub remote : R
   pub inline : Bool
 
+-- the same link to another remote
+abbrev pub linked_to : {R S : Type 0} → S → Linked R → Linked S
+linked_to remote l = record { net = l.net; remote = remote; inline = l.inline }
+
 -- The link of the definitions has the same messages, and what this remote reports. A remote that tells what it holds has kept its
 -- rules so far.
 pub record IsLink {R : Type 0} (told : R → Told) (l : Linked R) (link : Link) : Type 0 where

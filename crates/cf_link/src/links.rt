@@ -1,7 +1,7 @@
 //! The link itself.
 
 ghost use Rattle.std.specs.Prelude.{◌≡◌, ◌<◌, ◌-◌, ◌^◌, IfErr, IfOk, true};
-ghost use Rattle.cf_link.specs.Linked.{DoesPeer, IsLink, StopsPeer};
+ghost use Rattle.cf_link.specs.Linked.{DoesPeer, IsLink, StopsPeer, linked_to};
 ghost use Rattle.cf_model.specs.Peers.{peer_event};
 ghost use Rattle.cf_model.specs.State as state;
 ghost use Rattle.cf_model.specs.State.{new_link};
@@ -15,7 +15,6 @@ use cf_remote::{Remote, peer};
 use cf_wire::Net;
 use std::alloc::Global;
 use std::marker::Model;
-use std::mem;
 
 /// The messages by number, the remote, and whether the link is inline: then a request comes to the remote at once, and its
 /// reply is taken at once.
@@ -78,12 +77,25 @@ impl<R: Remote> Link<R> {
         peer(self.alloc, &mut self.remote, next, e)
     }
 
-    /// Puts this remote in the place of the link's, which it gives back. The messages stay, and so does whether the link is inline.
-    pub fn exchange_remote(&mut self, remote: R) -> R
-        ensures new { self.new ≡ record self.old { remote = remote } }
-        ensures back { result ≡ self.old.remote }
+    /// The same link to another remote, of any kind, and the remote that it had. The messages stay, and so does whether the link is
+    /// inline.
+    pub fn with_remote<S: Remote>(self, remote: S) -> (Link<S>, R)
+        ensures link { result.0 ≡ linked_to remote self }
+        ensures back { result.1 ≡ self.remote }
     {
-        mem::replace(&mut self.remote, remote)
+        let Link {
+            alloc,
+            net,
+            remote: former,
+            inline,
+        } = self;
+        let link = Link {
+            alloc,
+            net,
+            remote,
+            inline,
+        };
+        (link, former)
     }
 
     /// The remote.
