@@ -1,6 +1,6 @@
 -- An event of another device is refused as RemoteFault exactly where one of its asks of the remote failed.
 use Rattle.std.proofs.Common.{◌≡◌, ◌≤◌, ◌+◌, ℕ, Bool, true, false, List, [], ◌∷◌, refl, sym, ap, subst, ◌∙◌, arith}
-use Rattle.std.specs.Prelude.{Option, Some, None, cond, nat_lt, not, length}
+use Rattle.std.specs.Prelude.{Option, Some, None, cond, is_some, nat_lt, not, length}
 use Rattle.std.specs.List.{list_all}
 use Rattle.cf_base.specs.declared.answers.Shown.{Shown}
 use Rattle.cf_base.specs.declared.answers.Shown.TheVariants as shown
@@ -45,8 +45,11 @@ PaysAll f = (s : State) → Pays (f s)
 after_none : (n : ℕ) (a b c : Told) → AsksFailed 0 a b → AsksFailed n b c → AsksFailed n a c
 after_none n a b c h k = subst (λ (m : ℕ). AsksFailed m a c) (omega arith) (failed_both 0 n a b c h k)
 
-replied : (old mid : Told) → Counts false old mid → old.faults ≤ mid.faults → AsksFailed 0 old mid
-replied old mid counts least = failed_once false old mid (record { counts = counts; rose = rose_none old.faults mid.faults least })
+replied : (old mid : Told) → Counts false old mid → old.faults ≤ mid.faults → is_some mid.held ≡ is_some old.held → AsksFailed 0 old mid
+replied old mid counts least tells = failed_once false old mid (record { counts = counts; rose = rose_none old.faults mid.faults least; tells = tells })
+
+tells_alike : (a b : Option Held) → a ≡ b → is_some a ≡ is_some b
+tells_alike a b e = ap (λ (o : Option Held). is_some o) e
 
 -- a result that is not RemoteFault
 pays_ret : (a : Shown) (s : State) → meets_remote a ≡ false → Pays (Ret a s)
@@ -66,9 +69,9 @@ module _ (k : Option Reply → Arrow State Shown) (fails : (s : State) → (u : 
       subst (λ (u : Told). AsksFailed (cond (meets_remote b) 1 0) old u) (sym e.2) (subst (λ (is : Bool). AsksFailed (cond is 1 0) old mid) (sym (ap meets_remote e.0)) (failed_once true old mid once))
 
   pays_told : (r : Reply × Held) (s : State) (w : Telling) (old mid new : Told) (b : Shown) (t : State) → IsTelling w old mid → Leads (bind (after_ask r s w) k) mid b t new → AsksFailed (cond (meets_remote b) 1 0) old new
-  pays_told r s AsItKeeps old mid new b t is leads = after_none (cond (meets_remote b) 1 0) old mid new (replied old mid is.0 is.1) (rest r.0 (with_remote r.1 (counted s)) mid new b t leads)
-  pays_told r s trees.Faults old mid new b t is leads = pays_fault (counted s) old mid new b t (record { counts = is.0; rose = is.1 }) leads
-  pays_told r s (Tells other) old mid new b t is leads = after_none (cond (meets_remote b) 1 0) old mid new (replied old mid is.0 is.1) (rest other (distrusted (with_remote r.1 (counted s))) mid new b t leads)
+  pays_told r s AsItKeeps old mid new b t is leads = after_none (cond (meets_remote b) 1 0) old mid new (replied old mid is.0 is.1 is.2) (rest r.0 (with_remote r.1 (counted s)) mid new b t leads)
+  pays_told r s trees.Faults old mid new b t is leads = pays_fault (counted s) old mid new b t (record { counts = is.0; rose = is.1; tells = tells_alike mid.held old.held is.2 }) leads
+  pays_told r s (Tells other) old mid new b t is leads = after_none (cond (meets_remote b) 1 0) old mid new (replied old mid is.0 is.1 (tells_alike mid.held old.held (is.3 ∙ sym is.2))) (rest other (distrusted (with_remote r.1 (counted s))) mid new b t leads)
 
   pays_ask : (q : Request) → PaysAll (seq (ask q) k)
   pays_ask q s old new b t h = pays_told (remote_step s.link.remote q) s h.0 old h.1 new b t h.2 h.3

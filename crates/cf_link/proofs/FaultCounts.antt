@@ -1,6 +1,6 @@
 -- Lines of faults, the asks that failed, and how the remote's count rises.
-use Rattle.std.proofs.Common.{◌≡◌, ◌≤◌, ℕ, ◌+◌, Bool, true, false, not, cond, ◌==◌, refl, ap, subst, List, [], ◌∷◌, ◌++◌, arith}
-use Rattle.std.specs.Prelude.{Option, Some, None, min}
+use Rattle.std.proofs.Common.{◌≡◌, ◌≤◌, ℕ, ◌+◌, Bool, true, false, not, cond, ◌==◌, refl, ap, subst, ◌∙◌, List, [], ◌∷◌, ◌++◌, arith}
+use Rattle.std.specs.Prelude.{Option, Some, None, is_some, min}
 use Rattle.cf_base.specs.declared.messages.Request.{Request}
 use Rattle.cf_base.specs.declared.messages.Reply.{Reply}
 use Rattle.cf_base.specs.declared.notices.Frame.{Frame}
@@ -10,7 +10,8 @@ use Rattle.cf_base.specs.declared.notices.Sent.{Sent}
 use Rattle.cf_link.specs.Faults.{AsksFailed, Once, RoseBy, Went, failures, faults_in, most_faults}
 use Rattle.cf_link.specs.Linked.{Rises, lines_of, posted_line}
 use Rattle.cf_link.specs.declared.posts.Posted.{Posted}
-use Rattle.cf_remote.specs.Told.{Answers, Faults, Told}
+use Rattle.cf_model.specs.Store.{Held}
+use Rattle.cf_remote.specs.Told.{Answers, Faults, Replies, Told}
 
 none_by : (cap a b : ℕ) → a ≤ b → min (a + 0) cap ≤ b
 none_by cap a b h = omega (arith, h)
@@ -59,12 +60,25 @@ went_rose (failed ∷ more) old new h = rose_both (cond failed 1 0) (failures mo
 pub failed_rose : (n : ℕ) (old new : Told) → AsksFailed n old new → RoseBy n old.faults new.faults
 failed_rose n old new h = subst (λ (k : ℕ). RoseBy k old.faults new.faults) h.failed (went_rose h.asks old new h.went)
 
+-- and the remote goes on with what it reports
+
+went_tells : (asks : List Bool) (old new : Told) → Went asks old new → is_some new.held ≡ is_some old.held
+went_tells [] old new h = ap (λ (t : Told). is_some t.held) h
+went_tells (failed ∷ more) old new h = went_tells more h.0 new h.2 ∙ h.1.tells
+
+pub failed_tells : (n : ℕ) (old new : Told) → AsksFailed n old new → is_some new.held ≡ is_some old.held
+failed_tells n old new h = went_tells h.asks old new h.went
+
+replies_tell : (q : Request) (r : Reply) (old new : Option Held) → Replies q r old new → is_some new ≡ is_some old
+replies_tell q r None new h = ap (λ (o : Option Held). is_some o) h
+replies_tell q r (Some held) new h = ap (λ (o : Option Held). is_some o) h.1
+
 -- an ask by its result
 pub once_answered : (q : Request) (r : Reply) (old new : Told) → Answers q r old new → Once false old new
-once_answered q r old new h = record { counts = h.counts; rose = rose_none old.faults new.faults h.never_falls }
+once_answered q r old new h = record { counts = h.counts; rose = rose_none old.faults new.faults h.never_falls; tells = replies_tell q r old.held new.held h.replies }
 
 pub once_failed : (old new : Told) → Faults old new → Once true old new
-once_failed old new h = record { counts = h.counts; rose = h.rose }
+once_failed old new h = record { counts = h.counts; rose = h.rose; tells = ap (λ (o : Option Held). is_some o) h.held }
 
 pub faults_both : (ns ms : List Notice) → faults_in (ns ++ ms) ≡ faults_in ns + faults_in ms
 faults_both [] ms = omega arith

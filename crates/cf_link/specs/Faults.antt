@@ -1,5 +1,5 @@
 -- How often the remote failed, by lines, by its asks, and by what it counts.
-use Rattle.std.specs.Prelude.{◌≡◌, ℕ, Bool, cond, List, [], ◌∷◌, ◌+◌, ◌-◌, ◌^◌, ◌≤◌, min}
+use Rattle.std.specs.Prelude.{◌≡◌, ℕ, Bool, cond, List, [], ◌∷◌, ◌+◌, ◌-◌, ◌^◌, ◌≤◌, is_some, min}
 use Rattle.cf_base.specs.declared.notices.Notice.{Notice}
 use Rattle.cf_base.specs.declared.notices.Notice.TheVariants as notice
 use Rattle.cf_remote.specs.Told.{Counts, Told}
@@ -22,10 +22,11 @@ abbrev pub RoseBy : ℕ → ℕ → ℕ → Type 0
 RoseBy n old new = min (old + n) most_faults ≤ new
 
 -- One ask, which failed or not: it fails exactly where it is one of those that the remote reports as failing. Where it failed the
--- count rose.
+-- count rose. A remote that reports what it holds goes on with that, and no other begins.
 pub record Once (failed : Bool) (old new : Told) : Type 0 where
   pub counts : Counts failed old new
   pub rose : RoseBy (cond failed 1 0) old.faults new.faults
+  pub tells : is_some new.held ≡ is_some old.held
 
 -- asks in turn, each of which failed or not
 abbrev pub Went : List Bool → Told → Told → Type 0
