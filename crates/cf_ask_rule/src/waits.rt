@@ -1,5 +1,6 @@
 //! Calls that wait.
 ghost use Rattle.std.specs.Prelude.{◌≡◌, ◌<◌, IfNone, IfSome};
+ghost use Rattle.cf_base.specs.declared.limits.TheConstants.{MOST_NUMBER};
 ghost use Rattle.cf_model.specs.Numbers.{same_key};
 ghost use Rattle.cf_model.specs.Requests.{is_background, is_dehydrate_wait, is_hydrate_wait, is_list_wait};
 
@@ -58,7 +59,7 @@ impl WaitNumber {
     /// The wait of this number, or nothing where it is past the last.
     pub fn id(&self) -> Option<WaitId>
         ensures some { IfSome result (λ id. id ≡ self.now) }
-        ensures none { IfNone result (4294967295 < self.now.0.number) }
+        ensures none { IfNone result (MOST_NUMBER < self.now.0.number) }
     {
         if self.number > u32::MAX as u64 {
             return None;
@@ -205,7 +206,7 @@ impl LiveWait {
     /// The wait that is told, or nothing where its number is past the last.
     pub fn told(&self) -> Option<Wait>
         ensures some { IfSome result (λ w. w ≡ self.now) }
-        ensures none { IfNone result (4294967295 < self.now.id.0.number) }
+        ensures none { IfNone result (MOST_NUMBER < self.now.id.0.number) }
     {
         let id = self.id.id()?;
         Some(Wait {

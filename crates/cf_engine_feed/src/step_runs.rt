@@ -7,7 +7,6 @@ ghost use Rattle.cf_engine_feed.specs.Named.{item_of_step};
 ghost use Rattle.cf_engine_feed_plan.specs.Turns.{copy_now, do_step, do_steps};
 ghost use Rattle.cf_engine_steps.specs.Answering.{Answers, Any};
 ghost use Rattle.cf_engine_steps.specs.States.{whole};
-ghost use Rattle.cf_model.specs.Given.{named_by};
 
 use crate::indexes::Targets;
 use crate::targets::{refresh, target_at};
@@ -61,38 +60,12 @@ fn do_step<S: EngineHost, R: Remote>(
     }
 }
 
-// The item that a change names.
-fn named_by(change: &Change) -> ItemId
-    ensures { result ≡ named_by change.now }
-{
-    match change {
-        Change::Make { item, .. } => *item,
-        Change::Remove { item, .. } => *item,
-        Change::Move { item, .. } => *item,
-        Change::Write { item, .. } => *item,
-        Change::Size { item, .. } => *item,
-        Change::Filled { item, .. } => *item,
-        Change::Validated { item, .. } => *item,
-        Change::Emptied { item, .. } => *item,
-        Change::SetPin { item, .. } => *item,
-        Change::Mark { item, .. } => *item,
-        Change::Clear { item, .. } => *item,
-        Change::Convert { item, .. } => *item,
-        Change::Revert { item, .. } => *item,
-        Change::Rebase { item, .. } => *item,
-        Change::Take { item, .. } => *item,
-        Change::Copy { item, .. } => *item,
-        Change::Populated { item, .. } => *item,
-        Change::Keep { item, .. } => *item,
-    }
-}
-
 // The item that a step names.
 fn item_of(next: ItemId, step: &Step) -> ItemId
     ensures { result ≡ item_of_step next step.now }
 {
     match step {
-        Step::Apply(change) => named_by(change),
+        Step::Apply(change) => cf_table::item_of(change),
         Step::Mark(item) => *item,
         Step::Seen(path) => path.item,
         Step::CopyOff(_) => next,

@@ -13,9 +13,7 @@ ghost use Rattle.cf_tree.specs.Trees.{RiseFrom};
 use crate::indexes::{SEVERAL, Targets};
 use cf_base::{ItemId, OutOfMemory, Rid, no_such_state};
 use cf_engine_queue::numbers_of;
-use cf_table::{Row, Rows};
-
-const ROOT: ItemId = ItemId(1);
+use cf_table::{ROOT, Row, Rows};
 
 const ROOT_RID: u64 = 1;
 

@@ -1,72 +1,14 @@
-//! The way up from an item.
+//! What is below an item.
 
-ghost use Rattle.std.specs.Prelude.{◌≡◌, ◌==◌, ◌≤◌, ◌||◌, List, length};
-ghost use Rattle.std.specs.List.{list_any};
+ghost use Rattle.std.specs.Prelude.{◌≡◌, ◌||◌, List};
 ghost use Rattle.cf_model.specs.Feeds.{is_under};
 ghost use Rattle.cf_model.specs.Items.{Item};
-ghost use Rattle.cf_model.specs.LookUp.{depth_at};
-ghost use Rattle.cf_table.specs.Tables.{MeansAll, row_of};
-ghost use Rattle.cf_tree.specs.Lines.{line_in, parent_in};
+ghost use Rattle.cf_table.specs.Tables.{MeansAll};
 ghost use Rattle.cf_tree.specs.Trees.{IsTree};
 
 use cf_base::ItemId;
 use cf_table::Rows;
-
-pub(crate) const ROOT: ItemId = ItemId(1);
-
-/// No path has more names.
-pub(crate) const MOST_NAMES: usize = 32;
-
-/// How a line goes up from an item to the root.
-#[derive(Clone, Copy)]
-struct Line {
-    /// How many names lead to the item.
-    depth: usize,
-    /// Whether it begins at the other item or comes by it. The root is on no line.
-    passes: bool,
-}
-
-// The parent of an item, unless that is the root or not there.
-fn parent_of(rows: &Rows, at: ItemId) -> Option<ItemId>
-    ensures { result ≡ parent_in (row_of rows.now.rows at) }
-{
-    let row = rows.get(at)?;
-    if row.id == ROOT {
-        return None;
-    }
-    Some(row.parent)
-}
-
-// The line from an item, of which no more than `most` names are gone, and whether it comes by another item.
-fn line_of(rows: &Rows, id: ItemId, other: ItemId, most: usize) -> Line
-    ensures depth { result.depth ≡ length (line_in most rows.now.rows id) }
-    ensures passes { result.passes ≡ list_any (λ k. k == other.0) (line_in most rows.now.rows id) }
-    ensures few { result.depth ≤ most }
-{
-    let mut at = id;
-    let mut passes = false;
-    for depth in 0..most {
-        match parent_of(rows, at) {
-            Some(parent) => {
-                passes = passes || at == other;
-                at = parent;
-            }
-            None => return Line { depth, passes },
-        }
-    }
-    Line {
-        depth: most,
-        passes,
-    }
-}
-
-/// How many names lead to an item.
-pub(crate) fn depth_of(rows: &Rows, id: ItemId) -> usize
-    ensures value { (items : List Item) → MeansAll rows.now.rows items → IsTree items → result ≡ depth_at items id }
-    ensures few { result ≤ 32 }
-{
-    line_of(rows, id, id, MOST_NAMES).depth
-}
+use cf_tree::{MOST_NAMES, line_of};
 
 /// Whether the item is the other or below it.
 pub(crate) fn is_under(rows: &Rows, id: ItemId, top: ItemId) -> bool
@@ -75,6 +17,5 @@ pub(crate) fn is_under(rows: &Rows, id: ItemId, top: ItemId) -> bool
     if id == top {
         return true;
     }
-    let line = line_of(rows, id, top, MOST_NAMES);
-    line.passes
+    line_of(rows, id, top, MOST_NAMES).passes
 }

@@ -12,14 +12,14 @@ ghost use Rattle.cf_table.specs.Means.{Means};
 ghost use Rattle.cf_table.specs.Tables.{MeansAll};
 ghost use Rattle.cf_tree.specs.Trees.{IsTree};
 
-use crate::ancestors::{ROOT, is_under};
+use crate::ancestors::is_under;
 use crate::entry_steps::Step;
 use crate::gone_entries::push_change;
 use crate::identities::{entry_identity, is_older};
 use crate::names::{name_of, off};
 use crate::new_entries::seen_entry;
 use cf_base::{Change, Entry, ItemId, Name, OutOfMemory, SeenPath, Sequence};
-use cf_table::{Row, Rows};
+use cf_table::{ROOT, Row, Rows};
 use cf_tree::conflict_name;
 use std::alloc::Global;
 

@@ -10,13 +10,12 @@ ghost use Rattle.cf_table.specs.Means.{Means};
 ghost use Rattle.cf_table.specs.Tables.{MeansAll};
 ghost use Rattle.cf_tree.specs.Trees.{IsTree};
 
-use crate::ancestors::ROOT;
 use crate::entry_steps::Step;
 use crate::gone_entries::push_change;
 use crate::identities::{entry_identity, has_no_target, no_identity};
 use crate::names::{name_of, off};
 use cf_base::{Change, Entry, ItemId, Kind, OutOfMemory, Policy, Population, SeenPath, Sequence};
-use cf_table::{NO_USN, Row, Rows};
+use cf_table::{NO_USN, ROOT, Row, Rows};
 use std::alloc::Global;
 
 /// No item has this id.

@@ -12,9 +12,9 @@ ghost use Rattle.cf_engine_feed_plan.specs.Premises.{id_of};
 ghost use Rattle.cf_table.specs.Tables.{MeansAll};
 ghost use Rattle.cf_tree.specs.Trees.{IsTree};
 
-use crate::ancestors::{MOST_NAMES, depth_of};
 use cf_base::{Entry, ItemId, OutOfMemory};
 use cf_table::Rows;
+use cf_tree::{MOST_NAMES, depth_of};
 use std::alloc::Global;
 
 /// A dead entry by its place. Its rank is the less, the deeper its local item stands.

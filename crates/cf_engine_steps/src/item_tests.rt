@@ -14,9 +14,6 @@ use cf_tree::depth_of;
 
 const MOST_NAMES: usize = MOST_PATH_NAMES as usize;
 
-/// The root of the volume.
-pub(crate) const ROOT: ItemId = ItemId(1);
-
 /// How many bytes of an identity name its target.
 const TARGET_BYTES: usize = 8;
 

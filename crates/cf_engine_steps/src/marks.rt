@@ -13,13 +13,12 @@ ghost use Rattle.cf_model.specs.Words.{same};
 use crate::book_reads::seen;
 use crate::changes::try_change;
 use crate::engines::Engine;
-use crate::item_tests::ROOT;
 use cf_base::{CallError, Change, ItemId, OutOfMemory, Rid, SeenPath, Usn, no_such_state};
 use cf_engine_host::EngineHost;
 use cf_engine_queue::numbers_of;
 use cf_filter_steps::Steps;
 use cf_remote::Remote;
-use cf_table::{NO_USN, Row, same_usn};
+use cf_table::{NO_USN, ROOT, Row, same_usn};
 
 /// The root of the remote.
 const ROOT_RID: Rid = Rid(1);

@@ -11,7 +11,6 @@ ghost use Rattle.cf_model.specs.Skips.{try_change};
 ghost use Rattle.cf_model.specs.Words.{is_empty};
 
 use crate::engines::Engine;
-use crate::item_tests::ROOT;
 use crate::paths_seen::is_here;
 use crate::skips::leave_out;
 use cf_base::{CallError, Code, ItemId, OutOfMemory, no_such_state};
@@ -19,6 +18,7 @@ use cf_engine_host::EngineHost;
 use cf_filter_calls::is_used;
 use cf_filter_steps::Steps;
 use cf_remote::Remote;
+use cf_table::ROOT;
 
 fn is_any(ids: &[ItemId]) -> bool
     ensures { result ≡ not (is_empty ids.now) }

@@ -4,10 +4,11 @@ ghost use Rattle.std.specs.Prelude.{IfOk};
 ghost use Rattle.cf_base.specs.declared.changes.Change.TheVariants as change;
 ghost use Rattle.cf_engine_steps.specs.Suited.{IsSuited, MoveChecked, MoveIf};
 
-use crate::item_tests::{ROOT, is_open_directory};
+use crate::item_tests::is_open_directory;
 use crate::paths_seen::is_here;
 use cf_base::{CallError, Code, ItemId, Name, OutOfMemory, is_name, no_such_state};
 use cf_filter_steps::Steps;
+use cf_table::ROOT;
 use cf_tree::check_move;
 
 // Whether the item is there and not the root, and the directory is open.

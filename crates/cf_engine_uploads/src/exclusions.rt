@@ -9,10 +9,9 @@ ghost use Rattle.cf_table.specs.Tables.{MeansAll, row_of};
 ghost use Rattle.cf_tree.specs.Lines.{line_in, parent_in};
 ghost use Rattle.cf_tree.specs.Trees.{IsTree};
 
-use crate::item_reads::ROOT;
 use cf_base::limits::MOST_PATH_NAMES;
 use cf_base::{ItemId, Pin};
-use cf_table::Rows;
+use cf_table::{ROOT, Rows};
 
 const MOST_NAMES: usize = MOST_PATH_NAMES as usize;
 

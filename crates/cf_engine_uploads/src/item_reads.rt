@@ -14,10 +14,7 @@ use cf_engine_host::EngineHost;
 use cf_engine_queue::numbers_of;
 use cf_engine_steps::seen;
 use cf_filter_steps::Steps;
-use cf_table::Row;
-
-/// The root of the volume.
-pub(crate) const ROOT: ItemId = ItemId(1);
+use cf_table::{ROOT, Row};
 
 /// The root of the remote.
 const ROOT_RID: Rid = Rid(1);

@@ -8,7 +8,6 @@ ghost use Rattle.cf_model.specs.Arrows.{each};
 ghost use Rattle.cf_engine_uploads.specs.Turns.{push_one, push_with};
 ghost use Rattle.cf_model.specs.Pushes.{push_all, push_lists, push_turn};
 
-use crate::item_reads::ROOT;
 use crate::removals::push_tombstone;
 use crate::senders::Sender;
 use crate::turns::push_turn;
@@ -18,6 +17,7 @@ use cf_engine_queue::Tombstone;
 use cf_engine_steps::{Engine, queue};
 use cf_filter_steps::Steps;
 use cf_remote::Remote;
+use cf_table::ROOT;
 use cf_tree::tree_of;
 
 fn push_tombstones<S: EngineHost, R: Remote, T: Sender>(

@@ -10,6 +10,7 @@ use Rattle.cf_base.specs.declared.codes.Code.{Code}
 use Rattle.cf_base.specs.declared.codes.Code.TheVariants as code
 use Rattle.cf_base.specs.declared.ids.ItemId.{ItemId}
 use Rattle.cf_base.specs.declared.ids.Usn.{Usn}
+use Rattle.cf_base.specs.declared.limits.TheConstants.{MOST_FILE_BYTES, MOST_NUMBER}
 use Rattle.cf_base.specs.declared.operations.NewItem.{NewItem}
 use Rattle.cf_base.specs.declared.policies.Policy.{Policy}
 use Rattle.cf_base.specs.declared.waits.Ask.{Ask}
@@ -35,7 +36,7 @@ abbrev pub has_long_identity : List NewItem → Bool
 has_long_identity list = list_any (λ e. nat_lt 4096 (length e.identity)) list
 
 abbrev pub has_large : List NewItem → Bool
-has_large list = list_any (λ e. not e.dir && nat_lt 16777216 e.size) list
+has_large list = list_any (λ e. not e.dir && nat_lt MOST_FILE_BYTES e.size) list
 
 abbrev pub has_bytes_to_fetch : Policy → List NewItem → Bool
 has_bytes_to_fetch p list = list_any (λ e. not e.dir && is_always_full p.hydration && nat_lt 0 e.size) list
@@ -64,7 +65,7 @@ list_refusal dir list s = first_of (list_tests dir list s)
 
 -- The number of the next entry, which is at most the last that there is.
 abbrev pub number_past : Bool → Usn → Usn
-number_past mark n = record n { place = min (n.place + cond mark 2 1) 4294967295 }
+number_past mark n = record n { place = min (n.place + cond mark 2 1) MOST_NUMBER }
 
 -- under the ids and numbers from these on; at last the directory's entries have come
 abbrev pub listed_changes : Policy → ItemId → ℕ → Usn → List NewItem → List Change

@@ -24,12 +24,10 @@ use cf_base::{
     Ask, AuxRecord, CallError, Cause, Change, Code, ItemId, NewItem, OutOfMemory, Shown, Usn,
 };
 use cf_filter_steps::{Room, Steps};
-use cf_table::{NO_USN, Rows};
+use cf_table::{NO_USN, ROOT, Rows};
 
 /// The most names that lead to an item.
 const MOST_NAMES: usize = 32;
-
-const ROOT: ItemId = ItemId(1);
 
 // The directory of an item, unless that is the root or not there.
 fn parent_of(rows: &Rows, at: ItemId) -> Option<ItemId>

@@ -5,6 +5,7 @@ ghost use Rattle.std.specs.List.{list_any};
 ghost use Rattle.cf_base.specs.Names.{is_name as is_base_name};
 ghost use Rattle.cf_base.specs.Policies.{is_always_full};
 ghost use Rattle.cf_base.specs.declared.changes.Change.TheVariants as change;
+ghost use Rattle.cf_base.specs.declared.limits.TheConstants.{MOST_FILE_BYTES};
 ghost use Rattle.cf_filter_calls.specs.Entering.{are_names, entry_code, has_bytes_to_fetch, has_large, has_long_identity, listed_changes, number_past};
 ghost use Rattle.cf_model.specs.Operations.{entry_kind, is_twice};
 ghost use Rattle.cf_model.specs.Texts.{is_name};
@@ -90,7 +91,7 @@ fn has_long_identity(list: &[NewItem]) -> bool
 }
 
 fn is_large(entry: &NewItem) -> bool
-    ensures { result ≡ (not entry.now.dir && nat_lt 16777216 entry.now.size) }
+    ensures { result ≡ (not entry.now.dir && nat_lt MOST_FILE_BYTES entry.now.size) }
 {
     !entry.dir && entry.size > MOST_BYTES
 }

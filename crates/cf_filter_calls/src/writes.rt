@@ -1,6 +1,7 @@
 //! Writes and sizes of open files.
 
 ghost use Rattle.std.specs.Prelude.{◌≡◌, ◌+◌, nat_lt};
+ghost use Rattle.cf_base.specs.declared.limits.TheConstants.{MOST_FILE_BYTES};
 ghost use Rattle.cf_filter_calls.specs.Handles.{PutsIn, put_in, sized_already};
 ghost use Rattle.cf_model.specs.Calls.{has_size, set_size, size_item, write, write_item, write_now};
 ghost use Rattle.cf_filter_steps.specs.Answering.{Answers, Any, Reads};
@@ -17,7 +18,7 @@ const MOST_BYTES: u64 = 16_777_216;
 
 // Whether a span ends past the greatest file.
 fn is_too_far(at: u64, len: u64) -> bool
-    ensures { result ≡ nat_lt 16777216 (at + len) }
+    ensures { result ≡ nat_lt MOST_FILE_BYTES (at + len) }
 {
     at > MOST_BYTES || len > MOST_BYTES - at
 }

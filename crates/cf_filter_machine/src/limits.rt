@@ -8,8 +8,8 @@ ghost use Rattle.cf_table.specs.Tables.{row_of};
 
 use cf_base::{Change, ItemId};
 use cf_disk::Disk;
-use cf_table::{Row, Rows};
-use cf_volume::{MOST_IDENTITY, MOST_NAME, MOST_SIZE, Volume, fits_row, item_of};
+use cf_table::{Row, Rows, item_of};
+use cf_volume::{MOST_IDENTITY, MOST_NAME, MOST_SIZE, Volume, fits_row};
 
 /// How many bytes at the front of an identity name its target.
 const TARGET: usize = 8;

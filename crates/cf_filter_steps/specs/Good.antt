@@ -1,6 +1,7 @@
 -- What holds of every filter that a program has: its items form a tree, and each of them is sound and within the limits.
 use Rattle.std.specs.Prelude.{◌≡◌, ◌<◌, ◌≤◌, ◌==◌, false, true, List, [], ◌∷◌, MatchOption, length}
 use Rattle.cf_base.specs.declared.ids.ItemId.{ItemId}
+use Rattle.cf_base.specs.declared.limits.TheConstants.{MOST_FILE_BYTES, MOST_ITEMS}
 use Rattle.cf_base.specs.declared.waits.WaitKind.{WaitKind}
 use Rattle.cf_base.specs.declared.waits.WaitKind.TheVariants as wait_kind
 use Rattle.cf_model.specs.Texts.{is_name}
@@ -20,8 +21,8 @@ Every P (x ∷ xs) = P x × Every P xs
 
 -- an item within the limits
 pub record IsSmall (i : Item) : Type 0 where
-  pub size : length i.held ≤ 16777216
-  pub base : base_of i ≤ 16777216
+  pub size : length i.held ≤ MOST_FILE_BYTES
+  pub base : base_of i ≤ MOST_FILE_BYTES
   pub identity : length i.identity ≤ 65535
   pub name : (i.id.0 == 1) ≡ false → is_name i.name ≡ true
 
@@ -34,7 +35,7 @@ pub record IsGoodVolume (v : Volume) : Type 0 where
   pub below : Every (λ i. i.id.0 < v.next_item.0) v.items
   pub pins : Every (λ i. IsStored i.pin) v.items
   -- there are not too many items, and their table is not too long
-  pub few : length v.items ≤ 10000
+  pub few : length v.items ≤ MOST_ITEMS
   pub short : image_len v.items v.book ≤ most_image
 
 -- a file is there with this id

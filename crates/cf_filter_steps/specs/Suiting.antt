@@ -1,6 +1,7 @@
 -- What a change meets, besides room for it.
 use Rattle.std.specs.Prelude.{◌≡◌, ◌<◌, ◌≤◌, ◌==◌, ℕ, false, true, List, [], ◌∷◌, length, None, MatchOption, is_some}
 use Rattle.std.specs.List.{list_all}
+use Rattle.cf_base.specs.declared.limits.TheConstants.{MOST_FILE_BYTES}
 use Rattle.cf_model.specs.Texts.{is_name}
 use Rattle.cf_base.specs.declared.changes.Change.{Change}
 use Rattle.cf_base.specs.declared.changes.Change.TheVariants as change
@@ -33,7 +34,7 @@ Plants _ items next = Unit {0}
 
 -- The change has the size that a table has room for; whether there is an id for a new item is a matter of room.
 abbrev pub FitsTable : Change → Book → List Item → Type 0
-FitsTable (change.Make item parent name kind size identity) b items = (length name ≤ 255) × (length identity ≤ 65535) × (size ≤ 16777216)
+FitsTable (change.Make item parent name kind size identity) b items = (length name ≤ 255) × (length identity ≤ 65535) × (size ≤ MOST_FILE_BYTES)
 FitsTable (change.Copy item from parent name) b items = (length name ≤ 255) × MatchOption (item_of items from) ⊥ (λ i. 8 ≤ length i.identity)
 FitsTable c b items = ItemsFit c b items
 

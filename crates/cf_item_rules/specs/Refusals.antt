@@ -5,6 +5,7 @@ use Rattle.cf_base.specs.declared.codes.Code.{Code}
 use Rattle.cf_base.specs.declared.codes.Code.TheVariants as code
 use Rattle.cf_base.specs.declared.ids.ItemId.{ItemId}
 use Rattle.cf_base.specs.declared.ids.Usn.{Usn}
+use Rattle.cf_base.specs.declared.limits.TheConstants.{MOST_FILE_BYTES}
 use Rattle.cf_base.specs.declared.policies.Policy.{Policy}
 use Rattle.cf_model.specs.Numbers.{is_no_usn, same_usn}
 use Rattle.cf_table.specs.Tables.{is_child_row}
@@ -19,7 +20,7 @@ long_identity identity = (nat_lt 4096 (length identity), code.IdentityTooLong)
 abbrev pub creation_tests : Policy → Creation → List (Bool × Code)
 creation_tests p File = []
 creation_tests p Dir = []
-creation_tests p (Placeholder size identity mark) = long_identity identity ∷ (nat_lt 16777216 size, code.TooLarge) ∷ (is_always_full p.hydration && nat_lt 0 size, code.PolicyDenied) ∷ []
+creation_tests p (Placeholder size identity mark) = long_identity identity ∷ (nat_lt MOST_FILE_BYTES size, code.TooLarge) ∷ (is_always_full p.hydration && nat_lt 0 size, code.PolicyDenied) ∷ []
 creation_tests p (PlaceholderDir identity mark) = long_identity identity ∷ []
 
 abbrev pub create_tests : List Row → Policy → ItemId → List ℕ → Creation → List (Bool × Code)
@@ -41,7 +42,7 @@ rebase_tests r identity = not_placeholder r ∷ long_identity identity ∷ []
 abbrev pub take_tests : Policy → Row → List ℕ → ℕ → Bool → List (Bool × Code)
 take_tests p r identity size in_use =
     (r.dir, code.IsDirectory) ∷ not_placeholder r ∷ long_identity identity ∷ (is_always_full p.hydration || r.keep, code.PolicyDenied)
-    ∷ (not r.in_sync, code.NotInSync) ∷ (in_use, code.InUse) ∷ (nat_lt 16777216 size, code.TooLarge) ∷ []
+    ∷ (not r.in_sync, code.NotInSync) ∷ (in_use, code.InUse) ∷ (nat_lt MOST_FILE_BYTES size, code.TooLarge) ∷ []
 
 abbrev pub mark_tests : Row → Usn → List (Bool × Code)
 mark_tests r n = not_placeholder r ∷ (not (is_no_usn n || same_usn n r.number), code.UsnMismatch r.number) ∷ []

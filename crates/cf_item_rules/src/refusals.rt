@@ -3,6 +3,7 @@
 ghost use Rattle.std.specs.Prelude.{◌≡◌, ◌&&◌, ◌∷◌, [], length, nat_lt};
 ghost use Rattle.std.specs.Result.{result_err};
 ghost use Rattle.cf_base.specs.Policies.{is_always_full};
+ghost use Rattle.cf_base.specs.declared.limits.TheConstants.{MOST_FILE_BYTES};
 ghost use Rattle.cf_model.specs.Words.{first_of};
 ghost use Rattle.cf_item_rules.specs.Refusals.{convert_tests, create_tests, creation_tests, keep_tests, mark_tests, rebase_tests, revert_tests, take_tests, unmark_tests};
 
@@ -59,7 +60,7 @@ fn refuse_creation(policy: &Policy, what: &Creation) -> Result<(), Code>
 }
 
 fn refuse_file(policy: &Policy, size: u64, identity: &Identity) -> Result<(), Code>
-    ensures { result_err result ≡ first_of ((nat_lt 4096 (length identity.now), Code.IdentityTooLong) ∷ (nat_lt 16777216 size, Code.TooLarge) ∷ (is_always_full policy.now.hydration && nat_lt 0 size, Code.PolicyDenied) ∷ []) }
+    ensures { result_err result ≡ first_of ((nat_lt 4096 (length identity.now), Code.IdentityTooLong) ∷ (nat_lt MOST_FILE_BYTES size, Code.TooLarge) ∷ (is_always_full policy.now.hydration && nat_lt 0 size, Code.PolicyDenied) ∷ []) }
 {
     if is_too_long(identity) {
         return Err(Code::IdentityTooLong);

@@ -1,6 +1,7 @@
 //! One image into a slot.
 
 ghost use Rattle.std.specs.Prelude.{◌≡◌, ◌<◌, ◌≤◌, ◌+◌, ℕ, length, get_or, OnOk};
+ghost use Rattle.cf_base.specs.declared.limits.TheConstants.{MOST_IMAGE_BYTES};
 ghost use Rattle.cf_disk.specs.Disk.{size_of, Only, Leaves, Counts, Rises};
 ghost use Rattle.cf_journal.specs.Format.{base, other};
 ghost use Rattle.cf_journal.specs.Content.{Content, IsBeforeOrAfter, IsFresh, rewritten};
@@ -21,7 +22,7 @@ pub(crate) fn install<D: Disk>(
     image: &[u8],
 ) -> Result<(), DiskError>
     requires size { IsFitSize (size_of (D.state disk.old)) }
-    requires short { length image.now ≤ 1306624 }
+    requires short { length image.now ≤ MOST_IMAGE_BYTES }
     requires positive { 0 < generation }
     ensures installed { OnOk result (Installs (other side) generation image.now (D.state disk.old).seen (D.state disk.new).seen) }
     ensures durable { OnOk result (Only (D.state disk.new).seen (D.state disk.new)) }

@@ -1,6 +1,7 @@
 //! A journal and its calls.
 
 ghost use Rattle.std.specs.Prelude.{◌<◌};
+ghost use Rattle.cf_base.specs.declared.limits.TheConstants.{MOST_IMAGE_BYTES};
 ghost use Rattle.cf_journal.specs.Format.{journal_len};
 
 use crate::failures::JournalError;
@@ -118,7 +119,7 @@ impl Journal {
     /// Puts an image of format 2 in place of the content, of whichever format that is, and makes it durable. Broken where an
     /// earlier call failed; then nothing is done. Failed where a call of the disk failed; then open the disk again.
     pub fn rewrite<D: Disk>(&mut self, disk: &mut D, image: &[u8]) -> Result<(), JournalError>
-        requires short { length image.now ≤ 1306624 }
+        requires short { length image.now ≤ MOST_IMAGE_BYTES }
         requires size { IsFitSize (size_of (D.state disk.old)) }
 
         ensures ok { (x : Content) → Settled self.old (D.state disk.old) x → OnOk result (Settled self.new (D.state disk.new) (rewritten image.now)) }
@@ -154,7 +155,7 @@ impl Journal {
 
     /// Makes a volume with this image and no record, whatever the disk held. Failed where a call of the disk failed.
     pub fn format<D: Disk>(disk: &mut D, image: &[u8]) -> Result<Journal, JournalError>
-        requires short { length image.now ≤ 1306624 }
+        requires short { length image.now ≤ MOST_IMAGE_BYTES }
         requires size { IsFitSize (size_of (D.state disk.old)) }
         ensures ok { IfOk result (λ j. Settled j (D.state disk.new) (rewritten image.now)) }
         ensures durable { OnOk result (Only (D.state disk.new).seen (D.state disk.new)) }

@@ -2,6 +2,7 @@
 
 ghost use Rattle.std.specs.Prelude.{◌≡◌, ◌≢◌, ◌⊎◌, ◌+◌, ◌-◌, ◌<◌, ◌≤◌, ◌∷◌, [], ◌++◌, List, ℕ, length, take, get_or, OnOk};
 ghost use Rattle.std.specs.Int.{w32, to_be_bytes};
+ghost use Rattle.cf_base.specs.declared.limits.TheConstants.{MOST_IMAGE_BYTES};
 ghost use Rattle.cf_disk.specs.Disk.{State, size_of, part, Holds, SameBut, Near, Only, Leaves, Counts, Rises};
 ghost use Rattle.cf_journal.specs.Content.{NearTwo, clusters};
 ghost use Rattle.cf_journal.specs.Steps.{IsClosing, Closes, Stages, Records};
@@ -78,7 +79,7 @@ pub(crate) fn stage<D: Disk>(
 ) -> Result<(), DiskError>
     requires room { at + 1572864 ≤ size_of (D.state disk.old) }
     requires header { length header.now ≡ 27 }
-    requires short { length image.now ≤ 1306624 }
+    requires short { length image.now ≤ MOST_IMAGE_BYTES }
     requires size { size_of (D.state disk.old) ≤ 271581184 }
     ensures staged { OnOk result (Stages at header.now image.now (D.state disk.old).seen (D.state disk.new).seen) }
     ensures durable { OnOk result (Only (D.state disk.new).seen (D.state disk.new)) }

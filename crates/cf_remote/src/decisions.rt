@@ -79,7 +79,7 @@ pub(crate) fn latest_of(shelf: &Shelf, rid: Rid) -> Version
 /// One more live item, of which so many bytes are held, would be too much.
 #[tactic(auto, using(crate::proofs::Quotas::quota_bytes, crate::proofs::Quotas::quota_items))]
 fn is_full(shelf: &Shelf, len: u64) -> bool
-    requires { len ≤ 16777216 }
+    requires { len ≤ MOST_FILE_BYTES }
     ensures { (s : Stored) → s.live ≡ true → held_len s ≡ len → result ≡ (passes_bytes (shelf.now ++ s ∷ []) || passes_items (shelf.now ++ s ∷ [])) }
 {
     shelf.held() + len > MOST_HELD_BYTES || shelf.live() + 1 > MOST_LIVE

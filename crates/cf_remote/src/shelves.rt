@@ -2,6 +2,7 @@
 
 ghost use Rattle.std.specs.Prelude.{◌≡◌, ◌+◌, ◌≤◌, ◌<◌, ◌^◌, ◌-◌, ◌&&◌, ◌==◌, ◌++◌, ◌∷◌, [], ℕ, List, All, IfOk, IfSome, OnOk, OnErr, None, Some, length, filter, map, not, true, false, count_by, sum_by, option_copied, option_map};
 ghost use Rattle.std.specs.List.{list_any};
+ghost use Rattle.cf_base.specs.declared.limits.TheConstants.{MOST_FILE_BYTES};
 ghost use Rattle.cf_model.specs.Peers.{named};
 ghost use Rattle.cf_model.specs.Store.{RecordedDone, Stored, at_rid, empty_remote, entry_told, latest, recorded_at, stored_at, trimmed};
 ghost use Rattle.cf_model.specs.Words.{comes_before, part, same, says, sorted};
@@ -152,7 +153,7 @@ impl Shelf {
 
     /// How many bytes are held once a file has one more version of `len` bytes, of which `keep` are held.
     pub(crate) fn held_with(&self, rid: Rid, len: u64, keep: Option<u32>) -> u64
-        requires { len ≤ 16777216 }
+        requires { len ≤ MOST_FILE_BYTES }
         ensures { (bytes : List ℕ) (clock : ℕ) → length bytes ≡ len → result ≡ sum_by held_len (at_rid rid (grown keep bytes clock) self.now) }
     {
         match find(&self.items, rid) {
@@ -222,7 +223,7 @@ impl Shelf {
         token: Token,
     ) -> Result<Version, OutOfMemory>
         requires there { says (λ s. s.live) (stored_at self.old rid) ≡ true }
-        requires small { length bytes ≤ 16777216 }
+        requires small { length bytes ≤ MOST_FILE_BYTES }
         requires fits { sum_by held_len (at_rid rid (grown keep bytes changed) self.old) ≤ 536870912 }
         requires new { recorded_at tokens.old token ≡ None }
         ensures ok { OnOk result (self.new ≡ at_rid rid (grown keep bytes changed) self.old) }

@@ -17,18 +17,16 @@ use crate::ways::is_in_tree;
 use cf_base::limits::{MOST_IMAGE_BYTES, MOST_ITEMS};
 use cf_base::{ItemId, OutOfMemory};
 use cf_codec::Format;
-use cf_table::{Row, Rows};
+use cf_table::{ROOT, Row, Rows};
 use cf_volume_image::Contents;
 use std::alloc::Global;
-
-const ROOT: ItemId = ItemId(1);
 
 const MOST_FIRST_IMAGE_BYTES: u64 = 1_044_480;
 
 // The most bytes of an image in format 2 that is within the limit of the format: format 1 spells no clock and no last access
 // of a row, which take eight bytes each.
 fn most_bytes(format: Format, rows: usize) -> u64
-    requires { rows ≤ 10000 }
+    requires { rows ≤ MOST_ITEMS }
     ensures { result ≡ most_image_of format rows }
 {
     match format {

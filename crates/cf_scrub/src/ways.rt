@@ -6,9 +6,7 @@ ghost use Rattle.cf_table.specs.Spelling.{row_value};
 ghost use Rattle.cf_volume_image.specs.Trees.{is_root};
 
 use cf_base::ItemId;
-use cf_table::{Row, Rows};
-
-const ROOT: ItemId = ItemId(1);
+use cf_table::{ROOT, Row, Rows};
 
 const MOST_STEPS: u32 = 32;
 

@@ -23,7 +23,7 @@ pub mod RowOfItem
 pub mod RowTaken
 pub mod RunsOf
 pub mod Searched
-pub mod Stays
+pub mod StayingRows
 pub mod TableLens
 pub mod TableMeans
 pub mod Taken

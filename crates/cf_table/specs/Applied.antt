@@ -5,6 +5,7 @@ use Rattle.cf_base.specs.declared.changes.Change.TheVariants as change
 use Rattle.cf_base.specs.declared.ids.ItemId.{ItemId}
 use Rattle.cf_base.specs.declared.ids.Usn.{Usn}
 use Rattle.cf_base.specs.declared.items.Pin.{Pin}
+use Rattle.cf_base.specs.declared.limits.TheConstants.{MOST_FILE_BYTES}
 use Rattle.cf_model.specs.Effects.{converted, got, kept, left_out, marked, moved, pinned, populated, rebased, reverted, sized, took, unmarked, validated_in, wrote}
 use Rattle.cf_model.specs.Items.{Item}
 use Rattle.cf_ranges.specs.Pairs.{Puts}
@@ -38,8 +39,8 @@ abbrev pub FitsRow : Change → Row → Type 0
 FitsRow (change.Make item parent name kind size identity) row = ⊥
 FitsRow (change.Remove item) row = ⊥
 FitsRow (change.Move item parent name) row = length name ≤ 255
-FitsRow (change.Write item at bytes) row = at + length bytes ≤ 16777216
-FitsRow (change.Size item size) row = size ≤ 16777216
+FitsRow (change.Write item at bytes) row = at + length bytes ≤ MOST_FILE_BYTES
+FitsRow (change.Size item size) row = size ≤ MOST_FILE_BYTES
 FitsRow (change.Filled item start bytes) row = start + length bytes ≤ 2 ^ 40
 FitsRow (change.Validated item start len) row = start + len ≤ 2 ^ 40
 FitsRow (change.Emptied item start len) row = start + len ≤ 2 ^ 40
@@ -48,8 +49,8 @@ FitsRow (change.Mark item number) row = Unit {0}
 FitsRow (change.Clear item) row = Unit {0}
 FitsRow (change.Convert item identity) row = length identity ≤ 65535
 FitsRow (change.Revert item) row = Unit {0}
-FitsRow (change.Rebase item identity len at) row = (length identity ≤ 65535) × (len ≤ 16777216) × (is_rebase_point at row ≡ true)
-FitsRow (change.Take item identity size) row = (length identity ≤ 65535) × (size ≤ 16777216)
+FitsRow (change.Rebase item identity len at) row = (length identity ≤ 65535) × (len ≤ MOST_FILE_BYTES) × (is_rebase_point at row ≡ true)
+FitsRow (change.Take item identity size) row = (length identity ≤ 65535) × (size ≤ MOST_FILE_BYTES)
 FitsRow (change.Copy item from parent name) row = ⊥
 FitsRow (change.Populated item) row = Unit {0}
 FitsRow (change.Keep item on) row = Unit {0}

@@ -6,6 +6,7 @@ use Rattle.cf_base.specs.declared.ids.ItemId.{ItemId}
 use Rattle.cf_base.specs.declared.ids.Usn.{Usn}
 use Rattle.cf_base.specs.declared.items.Pin.{Pin}
 use Rattle.cf_base.specs.declared.items.Pin.TheVariants as pin
+use Rattle.cf_base.specs.declared.limits.TheConstants.{MOST_FILE_BYTES}
 use Rattle.cf_model.specs.Books.{Book, anchor_of}
 use Rattle.cf_model.specs.Items.{Item, item_of}
 use Rattle.cf_model.specs.Numbers.{no_usn, same_usn}
@@ -52,7 +53,7 @@ stays _ = true
 -- The table has room for the change: names up to 255 bytes, identities up to 65,535, files up to 16,777,216, spans up to
 -- 2 ^ 40. The identity of what is copied has a place for its target.
 abbrev pub Fits : Change → List Row → Type 0
-Fits (change.Make item parent name kind size identity) rows = IsNewItem item rows × (length name ≤ 255) × (length identity ≤ 65535) × (size ≤ 16777216)
+Fits (change.Make item parent name kind size identity) rows = IsNewItem item rows × (length name ≤ 255) × (length identity ≤ 65535) × (size ≤ MOST_FILE_BYTES)
 Fits (change.Copy item from parent name) rows = IsNewItem item rows × (length name ≤ 255) × MatchOption (row_of rows from) ⊥ (λ r. 8 ≤ length r.identity)
 Fits (change.Remove item) rows = Unit {0}
 Fits c rows = FitsRows c rows
@@ -93,8 +94,8 @@ abbrev pub FitsItem : Change → Book → Item → Type 0
 FitsItem (change.Make item parent name kind size identity) b i = ⊥
 FitsItem (change.Remove item) b i = ⊥
 FitsItem (change.Move item parent name) b i = length name ≤ 255
-FitsItem (change.Write item at bytes) b i = at + length bytes ≤ 16777216
-FitsItem (change.Size item size) b i = size ≤ 16777216
+FitsItem (change.Write item at bytes) b i = at + length bytes ≤ MOST_FILE_BYTES
+FitsItem (change.Size item size) b i = size ≤ MOST_FILE_BYTES
 FitsItem (change.Filled item start bytes) b i = start + length bytes ≤ 2 ^ 40
 FitsItem (change.Validated item start len) b i = start + len ≤ 2 ^ 40
 FitsItem (change.Emptied item start len) b i = start + len ≤ 2 ^ 40
@@ -103,8 +104,8 @@ FitsItem (change.Mark item number) b i = Unit {0}
 FitsItem (change.Clear item) b i = Unit {0}
 FitsItem (change.Convert item identity) b i = length identity ≤ 65535
 FitsItem (change.Revert item) b i = Unit {0}
-FitsItem (change.Rebase item identity len at) b i = (length identity ≤ 65535) × (len ≤ 16777216) × ((same_usn at no_usn || same_usn at (anchor_of b i.id) || same_usn at i.number) ≡ true)
-FitsItem (change.Take item identity size) b i = (length identity ≤ 65535) × (size ≤ 16777216)
+FitsItem (change.Rebase item identity len at) b i = (length identity ≤ 65535) × (len ≤ MOST_FILE_BYTES) × ((same_usn at no_usn || same_usn at (anchor_of b i.id) || same_usn at i.number) ≡ true)
+FitsItem (change.Take item identity size) b i = (length identity ≤ 65535) × (size ≤ MOST_FILE_BYTES)
 FitsItem (change.Copy item from parent name) b i = ⊥
 FitsItem (change.Populated item) b i = Unit {0}
 FitsItem (change.Keep item on) b i = Unit {0}
@@ -116,7 +117,7 @@ abbrev pub FitsItems : Change → Book → List Item → Type 0
 FitsItems c b items = All (λ i. i.id.0 ≡ (item_of_change c).0 → FitsItem c b i) items
 
 abbrev pub ItemsFit : Change → Book → List Item → Type 0
-ItemsFit (change.Make item parent name kind size identity) b items = IsNewAmong item items × (length name ≤ 255) × (length identity ≤ 65535) × (size ≤ 16777216)
+ItemsFit (change.Make item parent name kind size identity) b items = IsNewAmong item items × (length name ≤ 255) × (length identity ≤ 65535) × (size ≤ MOST_FILE_BYTES)
 ItemsFit (change.Copy item from parent name) b items = IsNewAmong item items × (length name ≤ 255) × MatchOption (item_of items from) ⊥ (λ i. 8 ≤ length i.identity)
 ItemsFit (change.Remove item) b items = Unit {0}
 ItemsFit c b items = FitsItems c b items

@@ -1,6 +1,7 @@
 //! Changes of a row by what happens to the bytes of its file.
 
 ghost use Rattle.std.specs.Prelude.{◌≡◌, ◌+◌, ◌^◌, ◌≤◌, ◌<◌, ℕ, List, length, OnOk, OnErr};
+ghost use Rattle.cf_base.specs.declared.limits.TheConstants.{MOST_FILE_BYTES};
 ghost use Rattle.cf_model.specs.Effects.{got, left_out, sized, validated_in, wrote};
 ghost use Rattle.cf_model.specs.Items.{Item};
 ghost use Rattle.cf_table.specs.Means.{IsLater, KeepsRest, KeepsTexts, Means, StaysBefore};
@@ -14,7 +15,7 @@ impl Row {
     /// A local write of `len` bytes at a place, ending by 16,777,216, with zeros from the old end to its start. Without
     /// memory the row is as before.
     pub fn write(&mut self, at: u64, len: u64, number: Usn) -> Result<(), OutOfMemory>
-        requires fits { at + len ≤ 16777216 }
+        requires fits { at + len ≤ MOST_FILE_BYTES }
         requires later { IsLater number self.old }
         ensures ok { OnOk result ((i : Item) (bytes : List ℕ) → length bytes ≡ len → Means self.old i → Means self.new (wrote at bytes number i)) }
         ensures err { OnErr result (self.new ≡ self.old) }
@@ -44,7 +45,7 @@ impl Row {
 
     /// A local cut, or growth by zeros, to a size of at most 16,777,216. Without memory the row is as before.
     pub fn set_size(&mut self, size: u32, number: Usn) -> Result<(), OutOfMemory>
-        requires fits { size ≤ 16777216 }
+        requires fits { size ≤ MOST_FILE_BYTES }
         requires later { IsLater number self.old }
         ensures ok { OnOk result ((i : Item) → Means self.old i → Means self.new (sized size number i)) }
         ensures err { OnErr result (self.new ≡ self.old) }

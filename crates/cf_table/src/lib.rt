@@ -13,6 +13,7 @@ mod entries;
 mod failures;
 mod heads;
 mod indexed_rows;
+mod kinds;
 mod laws;
 mod lookups;
 mod mark_changes;
@@ -31,6 +32,7 @@ mod usns;
 mod volume_changes;
 
 pub use failures::RowError;
+pub use kinds::{item_of, stays};
 pub use laws::{
     a_change_fits_rows_by_items, a_number_after_the_last_is_next, extents_are_blocks,
     image_len_is_length, look_ups_find_items, new_rows_are_of_the_root, row_is_of_item,
@@ -38,6 +40,6 @@ pub use laws::{
 };
 pub use new_rows::Place;
 pub use read_laws::{format_2_spells_all, one_row_in_a_text};
-pub use rows::{NO_USN, Row};
+pub use rows::{NO_USN, ROOT, Row};
 pub use tables::Rows;
 pub use usns::{is_above, same_usn};

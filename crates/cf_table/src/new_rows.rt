@@ -6,7 +6,7 @@ ghost use Rattle.cf_model.specs.Items.{Item, root};
 ghost use Rattle.cf_model.specs.Numbers.{above, no_usn};
 ghost use Rattle.cf_table.specs.Means.{IsFresh, Means, starts_dirty};
 
-use crate::rows::{NO_USN, Row};
+use crate::rows::{NO_USN, ROOT, Row};
 use cf_base::{Blob, Identity, ItemId, Kind, OutOfMemory, Pin, Usn};
 use cf_ranges::{ExtentMap, RangeSet};
 use std::alloc::Global;
@@ -89,7 +89,7 @@ impl Row {
         ensures fresh { IfOk result IsFresh }
     {
         let place = Place {
-            id: ItemId(1),
+            id: ROOT,
             parent: ItemId(0),
             name: Blob::from_slice(alloc, &[])?,
             pin: Pin::Unspecified,

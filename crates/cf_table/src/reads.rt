@@ -11,7 +11,7 @@ ghost use Rattle.cf_table.specs.Tables.{RisesFrom};
 use crate::failures::RowError;
 use crate::heads::{Head, read_head};
 use crate::plain_fields::{read_1, read_2, read_4, read_bytes};
-use crate::rows::Row;
+use crate::rows::{ROOT, Row};
 use crate::set_reads::{Sets, read_sets};
 use crate::tables::Rows;
 use cf_base::{Blob, Identity, ItemId, OutOfMemory};
@@ -94,7 +94,7 @@ fn no_rows(alloc: Global, next: ItemId) -> Result<Rows, OutOfMemory>
     ensures next { IfOk result (λ t. t.next ≡ next) }
 {
     let mut rows = Rows::new(alloc)?;
-    rows.remove_row(ItemId(1));
+    rows.remove_row(ROOT);
     rows.set_next(next);
     Ok(rows)
 }

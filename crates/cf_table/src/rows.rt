@@ -45,6 +45,9 @@ pub struct Row {
     pub extents: ExtentMap,
 }
 
+/// The root of a volume.
+pub const ROOT: ItemId = ItemId(1);
+
 /// The number before all others.
 pub const NO_USN: Usn = Usn { epoch: 0, place: 0 };
 

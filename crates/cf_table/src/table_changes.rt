@@ -12,46 +12,13 @@ ghost use Rattle.cf_table.specs.Tables.{MeansAll, RisesFrom, row_of};
 ghost use Rattle.cf_table.specs.declared.rows.Row.{Row};
 
 use crate::indexed_rows::{change_indexed, push_indexed};
+use crate::kinds::{item_of, stays};
 use crate::new_rows::Place;
 use crate::row_lists::{find_row, pin_of};
 use crate::rows::Row;
 use crate::tables::Rows;
 use cf_base::{Blob, Change, Identity, ItemId, Kind, Name, OutOfMemory, Pin, Usn};
 use std::alloc::Global;
-
-fn item_of(change: &Change) -> ItemId
-    ensures { result ≡ item_of_change change.now }
-{
-    match change {
-        Change::Make { item, .. } => *item,
-        Change::Remove { item, .. } => *item,
-        Change::Move { item, .. } => *item,
-        Change::Write { item, .. } => *item,
-        Change::Size { item, .. } => *item,
-        Change::Filled { item, .. } => *item,
-        Change::Validated { item, .. } => *item,
-        Change::Emptied { item, .. } => *item,
-        Change::SetPin { item, .. } => *item,
-        Change::Mark { item, .. } => *item,
-        Change::Clear { item, .. } => *item,
-        Change::Convert { item, .. } => *item,
-        Change::Revert { item, .. } => *item,
-        Change::Rebase { item, .. } => *item,
-        Change::Take { item, .. } => *item,
-        Change::Copy { item, .. } => *item,
-        Change::Populated { item, .. } => *item,
-        Change::Keep { item, .. } => *item,
-    }
-}
-
-fn stays(change: &Change) -> bool
-    ensures { result ≡ stays change.now }
-{
-    !matches!(
-        change,
-        Change::Make { .. } | Change::Remove { .. } | Change::Copy { .. }
-    )
-}
 
 fn pin_for(rows: &[Row], change: &Change) -> Pin
     requires { RisesFrom 0 rows.now }

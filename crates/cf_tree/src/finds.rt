@@ -10,10 +10,9 @@ ghost use Rattle.cf_tree.specs.Answers.{found, IsAnswer, placed};
 ghost use Rattle.cf_tree.specs.Steps.{closed, place_of_names, step_in, told, walk_in};
 ghost use Rattle.cf_tree.specs.Trees.{IsTree};
 
-use crate::lines::ROOT;
 use crate::names::{Names, bad_path, name_of};
 use cf_base::{CallError, Code, ItemId, Name};
-use cf_table::Rows;
+use cf_table::{ROOT, Rows};
 use std::alloc::Global;
 
 /// Refused where no name is looked up in the item.

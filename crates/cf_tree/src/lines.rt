@@ -10,13 +10,11 @@ ghost use Rattle.cf_tree.specs.Trees.{IsTree};
 
 use crate::names::MOST_NAMES;
 use cf_base::ItemId;
-use cf_table::Rows;
-
-pub(crate) const ROOT: ItemId = ItemId(1);
+use cf_table::{ROOT, Rows};
 
 /// How a line goes up from an item to the root.
 #[derive(Clone, Copy)]
-pub(crate) struct Line {
+pub struct Line {
     /// How many names lead to the item.
     pub depth: usize,
     /// Whether it begins at the other item or comes by it. The root is on no line.
@@ -24,7 +22,7 @@ pub(crate) struct Line {
 }
 
 /// The parent of an item, unless that is the root or not there.
-pub(crate) fn parent_of(rows: &Rows, at: ItemId) -> Option<ItemId>
+pub fn parent_of(rows: &Rows, at: ItemId) -> Option<ItemId>
     ensures { result ≡ parent_in (row_of rows.now.rows at) }
 {
     let row = rows.get(at)?;
@@ -35,7 +33,7 @@ pub(crate) fn parent_of(rows: &Rows, at: ItemId) -> Option<ItemId>
 }
 
 /// The line from an item, of which no more than `most` names are gone, and whether it comes by another item.
-pub(crate) fn line_of(rows: &Rows, id: ItemId, other: ItemId, most: usize) -> Line
+pub fn line_of(rows: &Rows, id: ItemId, other: ItemId, most: usize) -> Line
     ensures depth { result.depth ≡ length (line_in most rows.now.rows id) }
     ensures passes { result.passes ≡ list_any (λ k. k == other.0) (line_in most rows.now.rows id) }
     ensures small { result.depth ≤ most }

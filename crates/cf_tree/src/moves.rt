@@ -10,10 +10,10 @@ ghost use Rattle.cf_tree.specs.Levels.{level_at};
 ghost use Rattle.cf_tree.specs.Trees.{IsTree};
 
 use crate::levels::level_at;
-use crate::lines::{ROOT, depth_of, line_of};
+use crate::lines::{depth_of, line_of};
 use crate::names::MOST_NAMES;
 use cf_base::{CallError, Code, ItemId, Name, OutOfMemory};
-use cf_table::Rows;
+use cf_table::{ROOT, Rows};
 use std::alloc::Global;
 
 // Whether items stand so many names below this one.

@@ -14,7 +14,7 @@ use std::alloc::Global;
 use std::marker::Model;
 
 /// No path has more names.
-pub(crate) const MOST_NAMES: usize = 32;
+pub const MOST_NAMES: usize = 32;
 
 /// No name has more bytes.
 pub(crate) const MOST_NAME_BYTES: usize = 255;

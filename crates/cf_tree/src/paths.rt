@@ -8,10 +8,9 @@ ghost use Rattle.cf_table.specs.Tables.{MeansAll};
 ghost use Rattle.cf_tree.specs.Lines.{path_in};
 ghost use Rattle.cf_tree.specs.Trees.{AreOpen, HaveNames, IsTree};
 
-use crate::lines::ROOT;
 use crate::names::MOST_NAMES;
 use cf_base::{ItemId, OutOfMemory, Text};
-use cf_table::Rows;
+use cf_table::{ROOT, Rows};
 use std::alloc::Global;
 
 // Adds a slash and the name. What is no text is left out.

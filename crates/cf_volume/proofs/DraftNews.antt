@@ -24,7 +24,7 @@ use Rattle.cf_volume_points.proofs.NewItems.{none_before}
 use Rattle.cf_volume_points.specs.Known.{or_now}
 use Rattle.cf_volume_points.specs.Standing.{IsBookOf}
 use Rattle.cf_ranges.specs.Positions.{IsBelow, touched}
-use Rattle.cf_table.proofs.Stays.{untargeted_len}
+use Rattle.cf_table.proofs.StayingRows.{untargeted_len}
 use Rattle.cf_table.specs.Applied.{IsSpellable}
 use Rattle.cf_table.specs.Means.{Means}
 use Rattle.cf_table.specs.Tables.{IsStored, IsTableRow, RisesFrom, with_row}

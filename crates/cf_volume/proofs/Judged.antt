@@ -33,7 +33,7 @@ use Rattle.cf_volume_points.specs.Lengths.{len_with}
 use Rattle.cf_volume_points.specs.Sound.{len_now}
 use Rattle.cf_volume_points.specs.Standing.{cluster_on}
 use Rattle.cf_ranges.specs.Positions.{IsBelow, touched}
-use Rattle.cf_table.proofs.Stays.{effect_is}
+use Rattle.cf_table.proofs.StayingRows.{effect_is}
 use Rattle.cf_table.specs.Applied.{item_effect}
 use Rattle.cf_table.specs.Changing.{item_of_change, pin_for, stays}
 use Rattle.cf_table.specs.Means.{Means}

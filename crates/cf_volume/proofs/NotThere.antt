@@ -34,7 +34,7 @@ use Rattle.cf_volume_points.specs.Known.{Known}
 use Rattle.cf_volume_points.specs.Standing.{IsBookOf, cluster_on}
 use Rattle.cf_table.proofs.Lengths.{rows_are_items}
 use Rattle.cf_table.proofs.NextChange.{next_goes_on}
-use Rattle.cf_table.proofs.Stays.{effect_is}
+use Rattle.cf_table.proofs.StayingRows.{effect_is}
 use Rattle.cf_table.specs.Applied.{item_effect}
 use Rattle.cf_table.specs.Changing.{item_of_change, pin_for, stays}
 use Rattle.cf_table.specs.Means.{Means}

@@ -3,6 +3,7 @@ use Rattle.std.specs.Prelude.{◌≡◌, ◌+◌, ◌*◌, ◌||◌, ◌++◌, �
 use Rattle.cf_base.specs.declared.changes.Change.{Change}
 use Rattle.cf_base.specs.declared.changes.Change.TheVariants as change
 use Rattle.cf_base.specs.declared.ids.ItemId.{ItemId}
+use Rattle.cf_base.specs.declared.limits.TheConstants.{MOST_IMAGE_BYTES, MOST_ITEMS}
 use Rattle.cf_volume_image.specs.Contents.{image_of}
 use Rattle.cf_volume_image.specs.declared.contents.Contents.{Contents}
 use Rattle.cf_model.specs.Blocks.{blocks_holding, held_of, puts_into}
@@ -53,4 +54,4 @@ pub record IsCopied (c : Change) (v : Volume) (row : Row) (i : Item) (from : Ite
 abbrev pub TestsRow : Contents → Row → Bool → Type 0
 TestsRow c row result =
     (n : ℕ) → IsBelow row.here (4096 * n)
-    → result ≡ (nat_lt 10000 (length c.rows.rows + 1) || nat_lt 1306624 (min (length (spell_image (image_of c))) 18446744073709551615 + len_with row (touched row.here 0 n)))
+    → result ≡ (nat_lt MOST_ITEMS (length c.rows.rows + 1) || nat_lt MOST_IMAGE_BYTES (min (length (spell_image (image_of c))) 18446744073709551615 + len_with row (touched row.here 0 n)))

@@ -3,6 +3,7 @@ use Rattle.std.specs.Prelude.{◌≡◌, ◌≤◌, ◌<◌, ◌&&◌, ◌||◌,
 use Rattle.cf_base.specs.declared.answers.AuxRecord.{AuxRecord}
 use Rattle.cf_base.specs.declared.changes.Change.{Change}
 use Rattle.cf_base.specs.declared.changes.Change.TheVariants as change
+use Rattle.cf_base.specs.declared.limits.TheConstants.{MOST_FILE_BYTES}
 use Rattle.cf_model.specs.Books.{Book, aux_records}
 use Rattle.cf_model.specs.Changes.{lacks_numbers, no_blocks, no_table, put_change, put_changes}
 use Rattle.cf_model.specs.Formats.{with_records}
@@ -18,7 +19,7 @@ use Rattle.cf_volume.specs.declared.room.changes.Room.{Room}
 -- What a change of a list meets in the items before it: it fits the table, whose book names a removed item by its key. A new
 -- item has an id above all others; whether that is one of an item is a matter of room.
 abbrev pub FitsAmong : Change → Book → List Item → Type 0
-FitsAmong (change.Make item parent name kind size identity) b items = All (λ i. i.id.0 < item.0) items × (length name ≤ 255) × (length identity ≤ 65535) × (size ≤ 16777216)
+FitsAmong (change.Make item parent name kind size identity) b items = All (λ i. i.id.0 < item.0) items × (length name ≤ 255) × (length identity ≤ 65535) × (size ≤ MOST_FILE_BYTES)
 FitsAmong (change.Copy item from parent name) b items = All (λ i. i.id.0 < item.0) items × (length name ≤ 255) × MatchOption (item_of items from) ⊥ (λ i. 8 ≤ length i.identity)
 FitsAmong (change.Remove item) b items = Unit {0}
 FitsAmong c b items = FitsItems c b items

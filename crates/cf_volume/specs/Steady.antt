@@ -1,5 +1,6 @@
 -- What the parts of a volume know of it, and what holds of them until a call breaks it.
 use Rattle.std.specs.Prelude.{◌≡◌, ◌≤◌, ◌<◌, ◌+◌, ◌-◌, ◌*◌, ◌/◌, ℕ, Bool, false, All, length, min, nat_lt}
+use Rattle.cf_base.specs.declared.limits.TheConstants.{MOST_IMAGE_BYTES}
 use Rattle.cf_volume_image.specs.Contents.{image_of}
 use Rattle.cf_volume_image.specs.declared.contents.Contents.{Contents}
 use Rattle.cf_journal.specs.Settled.{IsFitSize}
@@ -47,4 +48,4 @@ pub record Steady (size : ℕ) (k : Known) : Type 0 where
 abbrev pub TestsLength : Contents → Row → Row → Bool → Type 0
 TestsLength c old new result =
     (n m : ℕ) → IsBelow old.here (4096 * n) → IsBelow new.here (4096 * m)
-    → result ≡ nat_lt (1306624 + len_with old (touched old.here 0 n)) (min (length (spell_image (image_of c))) 18446744073709551615 + len_with new (touched new.here 0 m))
+    → result ≡ nat_lt (MOST_IMAGE_BYTES + len_with old (touched old.here 0 n)) (min (length (spell_image (image_of c))) 18446744073709551615 + len_with new (touched new.here 0 m))

@@ -17,13 +17,10 @@ use crate::stop_causes::fail_of;
 use crate::written_rows::can_be_written;
 use cf_base::{CallError, Code, ItemId, OutOfMemory};
 use cf_disk::Disk;
-use cf_table::Rows;
+use cf_table::{ROOT, Rows};
 use cf_volume_commit::{Earlier, save};
 use cf_volume_image::AuxRecords;
 use std::alloc::Global;
-
-/// The item that is always there.
-const ROOT: ItemId = ItemId(1);
 
 /// A table without a row.
 pub(crate) fn no_rows(alloc: Global) -> Result<Rows, OutOfMemory>

@@ -28,7 +28,6 @@ mod stop_causes;
 mod volumes;
 mod written_rows;
 
-pub use kinds::item_of;
 pub use room::changes::Room;
 pub use room::records::are_short;
 pub use stay::limits::{MOST_IDENTITY, MOST_NAME, MOST_SIZE, fits_row};

@@ -1,6 +1,7 @@
 //! Changes of items that are not there, put: they are counted, and change no item.
 
 ghost use Rattle.std.specs.Prelude.{◌≡◌, ◌<◌, ◌+◌, ◌^◌, [], None, length, nat_lt, true, IfErr, OnOk, OnErr};
+ghost use Rattle.cf_base.specs.declared.limits.TheConstants.{MOST_NUMBER};
 ghost use Rattle.cf_volume_blocks.specs.Bytes.{puts_in};
 ghost use Rattle.cf_clusters.specs.Roles.{how_many, is_now};
 ghost use Rattle.cf_disk.specs.Disk.{size_of};
@@ -59,7 +60,7 @@ pub(crate) fn put_absent<D: Disk>(
     requires kind { stays change.now ≡ true }
     requires none { row_of parts.old.contents.rows.rows (item_of_change change.now) ≡ None }
     requires steady { Steady (size_of (D.state disk.now)) (known_of parts.old) }
-    requires place { parts.old.contents.last.place < 4294967295 }
+    requires place { parts.old.contents.last.place < MOST_NUMBER }
     requires count { parts.old.contents.count < 18446744073709551615 }
     ensures put { (v : Volume) → At (D.state disk.now) (known_of parts.old) v → IsPut change.now v (D.state disk.now) (D.state disk.now) (known_of parts.new) result }
     ensures kept { IsKept disk.now (known_of parts.old) result disk.now (known_of parts.new) }

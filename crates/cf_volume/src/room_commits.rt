@@ -1,6 +1,7 @@
 //! Changes put by their kind, with a commit before one that needs room.
 
 ghost use Rattle.std.specs.Prelude.{◌≡◌, ◌≤◌, ◌<◌, ◌+◌, ◌∷◌, [], None, false, true, IfErr, IfOk, IsFalse, IsTrue, OnOk, OnErr};
+ghost use Rattle.cf_base.specs.declared.limits.TheConstants.{MOST_NUMBER};
 ghost use Rattle.cf_disk.specs.Disk.{Leaves, size_of};
 ghost use Rattle.cf_model.specs.Changes.{may_need_room, put_change, why_no_room};
 ghost use Rattle.cf_model.specs.Costs.{most_of_change};
@@ -18,7 +19,6 @@ ghost use Rattle.cf_volume.specs.Written.{NotesOnly, WritesAtMost, commit_bytes}
 
 use crate::commits::commit_parts;
 use crate::copy::files::put_copy;
-use crate::kinds::item_of;
 use crate::make::new_items::put_make;
 use crate::parts::Parts;
 use crate::record_changes::put_absent;
@@ -27,6 +27,7 @@ use crate::row_notes::is_there;
 use crate::stay::items::put_stay;
 use cf_base::{CallError, Change, Code, Usn};
 use cf_disk::Disk;
+use cf_table::item_of;
 use cf_volume_image::Contents;
 
 /// The greatest place of an epoch.
@@ -34,8 +35,8 @@ const MOST: u32 = 4_294_967_295;
 
 /// Whether a place is left for one more change.
 pub(crate) fn has_place(contents: &Contents) -> bool
-    ensures yes { IsTrue result → contents.now.last.place < 4294967295 }
-    ensures no { IsFalse result → 4294967295 ≤ contents.now.last.place }
+    ensures yes { IsTrue result → contents.now.last.place < MOST_NUMBER }
+    ensures no { IsFalse result → MOST_NUMBER ≤ contents.now.last.place }
 {
     contents.last.place < MOST
 }
@@ -49,7 +50,7 @@ fn put_in_place<D: Disk>(
     requires kind { stays change.now ≡ true }
     requires steady { Steady (size_of (D.state disk.old)) (known_of parts.old) }
     requires fits { Fits change.now parts.old.contents.rows.rows }
-    requires place { parts.old.contents.last.place < 4294967295 }
+    requires place { parts.old.contents.last.place < MOST_NUMBER }
     requires count { parts.old.contents.count < 18446744073709551615 }
     ensures judged { (v : Volume) → At (D.state disk.old) (known_of parts.old) v → IsJudged change.now v result }
     ensures done { (v : Volume) → At (D.state disk.old) (known_of parts.old) v → IsDone change.now v (D.state disk.new) (known_of parts.new) result }
@@ -80,7 +81,7 @@ fn accept<D: Disk>(
     requires steady { Steady (size_of (D.state disk.old)) (known_of parts.old) }
     requires fits { Fits change.now parts.old.contents.rows.rows }
     requires next { IsNextId change.now parts.old.contents.rows.next }
-    requires place { parts.old.contents.last.place < 4294967295 }
+    requires place { parts.old.contents.last.place < MOST_NUMBER }
     requires count { parts.old.contents.count < 18446744073709551615 }
     ensures judged { (v : Volume) → At (D.state disk.old) (known_of parts.old) v → IsJudged change.now v result }
     ensures done { (v : Volume) → At (D.state disk.old) (known_of parts.old) v → FitsBook change.now v.book → IsDone change.now v (D.state disk.new) (known_of parts.new) result }
@@ -111,7 +112,7 @@ fn accept_after_commit<D: Disk>(
     requires steady { Steady (size_of (D.state disk.old)) (known_of parts.old) }
     requires fits { Fits change.now parts.old.contents.rows.rows }
     requires next { IsNextId change.now parts.old.contents.rows.next }
-    requires place { parts.old.contents.last.place < 4294967295 }
+    requires place { parts.old.contents.last.place < MOST_NUMBER }
     requires count { parts.old.contents.count < 18446744073709551615 }
     ensures only { (v : Volume) → At (D.state disk.old) (known_of parts.old) v → IsKeepable v → why_no_room (change.now ∷ []) v ≡ None → IfErr result StopsOnly }
     ensures done { (v : Volume) → At (D.state disk.old) (known_of parts.old) v → IsKeepable v → FitsBook change.now v.book → OnOk result (At (D.state disk.new) (known_of parts.new) (put_change change.now (with_room_point v))) }
@@ -141,7 +142,7 @@ pub(crate) fn accept_with_room<D: Disk>(
     requires steady { Steady (size_of (D.state disk.old)) (known_of parts.old) }
     requires fits { Fits change.now parts.old.contents.rows.rows }
     requires next { IsNextId change.now parts.old.contents.rows.next }
-    requires place { parts.old.contents.last.place < 4294967295 }
+    requires place { parts.old.contents.last.place < MOST_NUMBER }
     ensures why { (v : Volume) → At (D.state disk.old) (known_of parts.old) v → (may_need_room change.now v ≡ true → IsKeepable v) → Answers change.now v (record { disk = disk.old; known = known_of parts.old }) result (record { disk = disk.new; known = known_of parts.new }) }
     ensures number { IfOk result (λ n. n ≡ usn_after parts.old.contents.last.epoch parts.old.contents.last.place) }
     ensures done { (v : Volume) → At (D.state disk.old) (known_of parts.old) v → FitsBook change.now v.book → (may_need_room change.now v ≡ true → IsKeepable v) → OnOk result (Applied (D.state disk.new) (known_of parts.new) change.now v) }

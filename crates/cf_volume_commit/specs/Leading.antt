@@ -1,5 +1,6 @@
 -- A text put into a journal: a payload behind the others, or an image in place of all.
 use Rattle.std.specs.Prelude.{ℕ, Bool, true, List, length, Option, Some, None, MatchOption, All, cond, nat_lt, ◌≤◌, ◌+◌}
+use Rattle.cf_base.specs.declared.limits.TheConstants.{MOST_ITEMS}
 use Rattle.cf_codec.specs.declared.formats.Format.{Format}
 use Rattle.cf_codec.specs.declared.formats.Format.TheVariants.{First, Second}
 use Rattle.cf_volume_image.specs.Contents.{image_of}
@@ -21,7 +22,7 @@ HaveStoredPins rows = All (λ r. IsStored r.pin) rows
 -- what can be written as an image
 pub record CanBeWritten (c : Contents) : Type 0 where
   pub room : All HasRoom c.rows.rows
-  pub few : length c.rows.rows ≤ 10000
+  pub few : length c.rows.rows ≤ MOST_ITEMS
   pub short : length (spell_image (image_of c)) ≤ most_image
 
 -- the text is that of a payload that leads from the image of the last point to this one

@@ -2,6 +2,7 @@
 
 ghost use Rattle.std.specs.Prelude.{◌≡◌, ◌≤◌, ◌+◌, length, All, IfErr, IfOk, OnOk, false, true};
 ghost use Rattle.cf_base.specs.declared.ids.Usn.{Usn};
+ghost use Rattle.cf_base.specs.declared.limits.TheConstants.{MOST_IMAGE_BYTES};
 ghost use Rattle.cf_volume_commit.specs.Loaded.{first_image, known_of};
 ghost use Rattle.cf_disk.specs.Disk.{size_of, may_fail, Counts};
 ghost use Rattle.cf_volume_image.specs.Contents.{image_of};
@@ -50,7 +51,7 @@ fn nothing(alloc: Global) -> Result<Contents, OutOfMemory>
 
 // Formats the disk with an image of these bytes.
 fn format<D: Disk>(disk: &mut D, image: &[u8]) -> Result<Journal, Stop>
-    requires short { length image.now ≤ 1306624 }
+    requires short { length image.now ≤ MOST_IMAGE_BYTES }
     requires size { IsFitSize (size_of (D.state disk.old)) }
     ensures ok { IfOk result (λ j. Settled j (D.state disk.new) (rewritten image.now)) }
     ensures rest { OnOk result (clusters (D.state disk.new).seen ≡ clusters (D.state disk.old).seen) }

@@ -1,6 +1,7 @@
 //! A text put into a journal.
 
 ghost use Rattle.std.specs.Prelude.{◌≡◌, ◌≤◌, ◌+◌, length, false, Err, IfErr, IfSome, OnOk, option_copied};
+ghost use Rattle.cf_base.specs.declared.limits.TheConstants.{MOST_IMAGE_BYTES};
 ghost use Rattle.cf_volume_commit.specs.Leading.{CanBeWritten, Follows, bytes_written, text_in};
 ghost use Rattle.cf_disk.specs.Disk.{size_of, may_fail, Only, Leaves, Counts};
 ghost use Rattle.cf_volume_image.specs.Contents.{image_of};
@@ -45,7 +46,7 @@ fn append<D: Disk>(disk: &mut D, journal: &mut Journal, text: &[u8]) -> Result<(
 
 // Puts an image in place of all.
 fn rewrite<D: Disk>(disk: &mut D, journal: &mut Journal, image: &[u8]) -> Result<(), Stop>
-    requires short { length image.now ≤ 1306624 }
+    requires short { length image.now ≤ MOST_IMAGE_BYTES }
     requires size { IsFitSize (size_of (D.state disk.old)) }
     requires usable { journal.old.broken ≡ false }
     ensures ok { (x : Content) → Settled journal.old (D.state disk.old) x → OnOk result (Settled journal.new (D.state disk.new) (rewritten image.now)) }

@@ -2,6 +2,7 @@
 use Rattle.std.specs.Prelude.{true, false, [], length, None, unwrap_or, ◌≡◌, ◌≢◌, ◌≤◌, ◌<◌}
 use Rattle.cf_base.specs.declared.ids.ItemId.{ItemId}
 use Rattle.cf_base.specs.declared.ids.Usn.{Usn}
+use Rattle.cf_base.specs.declared.limits.TheConstants.{MOST_FILE_BYTES}
 use Rattle.cf_model.specs.Numbers.{above}
 use Rattle.cf_model.specs.Texts.{is_name}
 use Rattle.cf_ranges.specs.Positions.{IsBelow}
@@ -15,7 +16,7 @@ abbrev pub HasSoundName : Row → Type 0
 HasSoundName r = (r.id.0 ≡ 1 → r.name ≡ []) × (r.id.0 ≢ 1 → is_name r.name ≡ true)
 
 abbrev pub AreSmall : Row → Type 0
-AreSmall r = (length r.identity ≤ 4096) × (r.size ≤ 16777216) × (unwrap_or r.base 0 ≤ 16777216)
+AreSmall r = (length r.identity ≤ 4096) × (r.size ≤ MOST_FILE_BYTES) × (unwrap_or r.base 0 ≤ MOST_FILE_BYTES)
 
 pub record HasSoundSets (r : Row) : Type 0 where
   pub in_size : IsBelow r.here r.size

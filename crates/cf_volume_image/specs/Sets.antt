@@ -1,5 +1,6 @@
 -- Sets of places, as their maximal runs.
 use Rattle.std.specs.Prelude.{ℕ, true, false, List, [], is_some, ◌+◌, ◌/◌, ◌≤◌, ◌<◌, ◌≡◌, ◌∷◌}
+use Rattle.cf_base.specs.declared.limits.TheConstants.{MOST_FILE_BYTES}
 use Rattle.cf_base.specs.declared.spans.Span.{Span}
 use Rattle.cf_ranges.specs.Pairs.{cluster_at}
 use Rattle.cf_ranges.specs.Positions.{HasBlock, IsBelow, contains}
@@ -33,4 +34,4 @@ HaveBytes (p ∷ ps) runs = HasBlock runs p.0 × HaveBytes ps runs
 -- places of files are below 16,777,216
 abbrev pub AllBelow : List Row → Type 0
 AllBelow [] = Unit {0}
-AllBelow (r ∷ rs) = IsBelow r.here 16777216 × AllBelow rs
+AllBelow (r ∷ rs) = IsBelow r.here MOST_FILE_BYTES × AllBelow rs

@@ -2,6 +2,7 @@
 use Rattle.std.specs.Prelude.{ℕ, zero, suc, Bool, true, not, List, [], length, None, Some, ◌||◌, ◌&&◌, ◌==◌, ◌≡◌, ◌≢◌, ◌≤◌, ◌+◌, ◌*◌, ◌/◌, ◌∷◌}
 use Rattle.std.specs.List.{list_any}
 use Rattle.cf_base.specs.declared.ids.ItemId.{ItemId}
+use Rattle.cf_base.specs.declared.limits.TheConstants.{MOST_ITEMS}
 use Rattle.cf_codec.specs.declared.formats.Format.{Format}
 use Rattle.cf_codec.specs.declared.formats.Format.TheVariants.{First, Second}
 use Rattle.cf_model.specs.FirstPlaces as first
@@ -78,7 +79,7 @@ pub record IsSoundIn (f : Format) (clusters : ℕ) (i : Image) : Type 0 where
   pub named : are_named i.rows ≡ true
   pub blocks : AllHoldBytes i.rows
   pub apart : are_apart clusters (clusters_of i.rows) ≡ true
-  pub few : length i.rows ≤ 10000
+  pub few : length i.rows ≤ MOST_ITEMS
   pub short : length (spell_image_in f i) ≤ most_image_in f
 
 -- in format 2, which is written

@@ -2,6 +2,7 @@
 
 ghost use Rattle.std.specs.Prelude.{◌≡◌, ◌≤◌, ◌<◌, ℕ, List, is_some, true};
 ghost use Rattle.std.specs.Bool.{Decides};
+ghost use Rattle.cf_base.specs.declared.limits.TheConstants.{MOST_FILE_BYTES};
 ghost use Rattle.cf_volume_image.specs.Sets.{HasBlocks, HasBlocksOf, HaveBytes};
 ghost use Rattle.cf_ranges.specs.Positions.{IsBelow, IsRuns};
 
@@ -25,7 +26,7 @@ fn has_blocks(extents: &ExtentMap, from: u32, to: u32) -> bool
 // Whether there is a cluster for each block that has a place of the set. Places are below 16,777,216.
 fn has_blocks_of(extents: &ExtentMap, runs: &[Span]) -> bool
     requires runs { IsRuns runs.now }
-    requires small { IsBelow runs.now 16777216 }
+    requires small { IsBelow runs.now MOST_FILE_BYTES }
     ensures { Decides result (HasBlocksOf extents.now runs.now) }
 {
     for run in runs {
@@ -52,7 +53,7 @@ fn have_bytes(pairs: &[(u32, u32)], here: &RangeSet) -> bool
 
 /// Whether there is a cluster just for each block that has a place of the set. Places are below 16,777,216.
 pub(crate) fn are_blocks_of(extents: &ExtentMap, here: &RangeSet) -> bool
-    requires { IsBelow here.now 16777216 }
+    requires { IsBelow here.now MOST_FILE_BYTES }
     ensures { Decides result (HasBlocksOf extents.now here.now × HaveBytes extents.now here.now) }
 {
     has_blocks_of(extents, here.runs()) && have_bytes(extents.pairs(), here)

@@ -2,6 +2,7 @@
 
 ghost use Rattle.std.specs.Prelude.{◌≡◌, ◌≤◌, ℕ, List, IfOk, length, map};
 ghost use Rattle.std.specs.Bool.{Decides};
+ghost use Rattle.cf_base.specs.declared.limits.TheConstants.{MOST_ITEMS};
 ghost use Rattle.cf_model.specs.Standing.{AreSound};
 ghost use Rattle.cf_model.specs.Formats.{Header};
 ghost use Rattle.cf_table.specs.Spelling.{row_value};
@@ -52,7 +53,7 @@ fn hold_bytes(rows: &[Row]) -> bool
 // The most bytes of an image in format 2 that is within the limit of the format: format 1 spells no clock and no last access
 // of a row, which take eight bytes each.
 fn most_bytes(format: Format, rows: usize) -> u64
-    requires { rows ≤ 10000 }
+    requires { rows ≤ MOST_ITEMS }
     ensures { result ≡ most_image_of format rows }
 {
     match format {
@@ -62,7 +63,7 @@ fn most_bytes(format: Format, rows: usize) -> u64
 }
 
 fn is_small(contents: &Contents, format: Format) -> bool
-    ensures { Decides result ((length contents.now.rows.rows ≤ 10000) × (length (spell_image_in format (image_of contents.now)) ≤ most_image_in format)) }
+    ensures { Decides result ((length contents.now.rows.rows ≤ MOST_ITEMS) × (length (spell_image_in format (image_of contents.now)) ≤ most_image_in format)) }
 {
     let rows = contents.rows.as_slice().len();
     if rows > MOST_ROWS {

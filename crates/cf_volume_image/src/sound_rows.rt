@@ -11,14 +11,12 @@ ghost use Rattle.cf_ranges.specs.Positions.{IsBelow};
 
 use crate::sets::{has_all, has_span, is_below};
 use cf_base::{CallError, Code, ItemId, Name, OutOfMemory, Usn};
-use cf_table::{NO_USN, Row};
+use cf_table::{NO_USN, ROOT, Row};
 use std::alloc::Global;
 
 const MOST_IDENTITY_BYTES: usize = 4096;
 
 const MOST_FILE_BYTES: u32 = 16_777_216;
-
-const ROOT: ItemId = ItemId(1);
 
 fn is_above(number: Usn, other: Usn) -> bool
     ensures { result ≡ above number other }

@@ -10,12 +10,10 @@ ghost use Rattle.cf_volume_image.specs.Sound.{reaches_root, takes_children};
 ghost use Rattle.cf_volume_image.specs.Trees.{is_named, is_placed, is_root, is_tree, parent_of};
 
 use cf_base::ItemId;
-use cf_table::{Row, Rows};
+use cf_table::{ROOT, Row, Rows};
 
 // What the root names as its parent.
 const NO_ITEM: ItemId = ItemId(0);
-
-const ROOT: ItemId = ItemId(1);
 
 const MOST_STEPS: u32 = 32;
 

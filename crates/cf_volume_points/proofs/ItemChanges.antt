@@ -36,7 +36,7 @@ use Rattle.cf_volume_points.proofs.Points.{Fair, kept_staged}
 use Rattle.cf_volume_points.proofs.RowChanges.{rest_of, times_with, with_holds}
 use Rattle.cf_ranges.specs.Pairs.{IsRising}
 use Rattle.cf_ranges.specs.Positions.{IsRuns, touches}
-use Rattle.cf_table.proofs.Stays.{effect_is}
+use Rattle.cf_table.proofs.StayingRows.{effect_is}
 use Rattle.cf_table.specs.Applied.{item_effect}
 use Rattle.cf_table.specs.Changing.{item_of_change, pin_for, stays}
 use Rattle.cf_table.specs.Means.{Means}

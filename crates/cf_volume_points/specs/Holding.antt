@@ -1,5 +1,6 @@
 -- The state now: rows that mean the items, whose clusters hold the bytes.
 use Rattle.std.specs.Prelude.{◌≡◌, ◌≤◌, ◌+◌, ℕ, List, [], ◌∷◌, length, map}
+use Rattle.cf_base.specs.declared.limits.TheConstants.{MOST_ITEMS}
 use Rattle.cf_clusters.specs.Roles.{how_many, is_free}
 use Rattle.cf_disk.specs.Disk.{State}
 use Rattle.cf_model.specs.Blocks.{blocks_holding, blocks_used}
@@ -33,7 +34,7 @@ HoldRows cluster b (r ∷ rs) (i ∷ is) = HoldsRow cluster b r i × HoldRows cl
 
 -- there are not too many items, and their image is not too long
 pub record FitsTable (items : List Item) (b : Book) : Type 0 where
-  pub few : length items ≤ 10000
+  pub few : length items ≤ MOST_ITEMS
   pub short : image_len items b ≤ most_image
 
 -- What is known is the volume now, and the clusters of the rows are those that the state holds. The used clusters are

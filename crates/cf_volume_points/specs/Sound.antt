@@ -2,6 +2,7 @@
 use Rattle.std.specs.Prelude.{◌≡◌, ◌≤◌, ◌<◌, ◌+◌, ◌-◌, ◌/◌, ℕ, [], Some, length, map, sum_by, All}
 use Rattle.cf_base.specs.declared.ids.ItemId.{ItemId}
 use Rattle.cf_base.specs.declared.ids.Usn.{Usn}
+use Rattle.cf_base.specs.declared.limits.TheConstants.{MOST_IMAGE_BYTES, MOST_ITEMS}
 use Rattle.cf_journal.specs.Settled.{IsFitSize}
 use Rattle.cf_model.specs.Formats.{Header, Image}
 use Rattle.cf_model.specs.Images.{aux_len}
@@ -34,8 +35,8 @@ pub record Sound (size : ℕ) (k : Known) : Type 0 where
   pub kept : AreTableRows k.table.rows
   pub room : All HasRoom k.table.rows
   pub inside : All (λ j. j < length k.uses) (clusters_in_rows k.table.rows)
-  pub few : length k.table.rows ≤ 10000
-  pub short : len_now k ≤ 1306624
+  pub few : length k.table.rows ≤ MOST_ITEMS
+  pub short : len_now k ≤ MOST_IMAGE_BYTES
 
 -- the greatest number that was given
 abbrev pub last_number : Volume → Usn

@@ -2,6 +2,7 @@
 
 ghost use Rattle.std.specs.Prelude.{◌≡◌, ◌≤◌, ◌<◌, ◌+◌, ◌*◌, All, None, Some, length, IfErr, OnOk, OnErr};
 ghost use Rattle.cf_base.specs.declared.changes.Change.{Change};
+ghost use Rattle.cf_base.specs.declared.limits.TheConstants.{MOST_NUMBER};
 ghost use Rattle.cf_clusters.specs.Area.{KeepsWhere};
 ghost use Rattle.cf_clusters.specs.Roles.{IsCommitted, how_many, is_free};
 ghost use Rattle.cf_disk.specs.Disk.{Leaves, size_of};
@@ -55,7 +56,7 @@ fn put_copied<D: Disk>(disk: &mut D, parts: &mut Parts, from: ItemId, row: Row) 
     requires spellable { IsSpellable row }
     requires fresh { IsFresh row }
     requires number { row.number ≡ usn_after parts.old.contents.last.epoch parts.old.contents.last.place }
-    requires place { parts.old.contents.last.place < 4294967295 }
+    requires place { parts.old.contents.last.place < MOST_NUMBER }
     requires count { parts.old.contents.count < 18446744073709551615 }
     ensures at { (v : Volume) (c : Change) (i : Item) → At (D.state disk.old) (known_of parts.old) v → IsCopied c v row i from → FitsTable (put_change c v).items (put_change c v).book → OnOk result (At (D.state disk.new) (known_of parts.new) (put_change c v)) }
     ensures steady { OnOk result (Steady (size_of (D.state disk.new)) (known_of parts.new)) }
@@ -92,7 +93,7 @@ fn put_judged<D: Disk>(
     requires spellable { IsSpellable row }
     requires fresh { IsFresh row }
     requires number { row.number ≡ usn_after parts.old.contents.last.epoch parts.old.contents.last.place }
-    requires place { parts.old.contents.last.place < 4294967295 }
+    requires place { parts.old.contents.last.place < MOST_NUMBER }
     requires count { parts.old.contents.count < 18446744073709551615 }
     ensures put { (v : Volume) (c : Change) (i : Item) → At (D.state disk.old) (known_of parts.old) v → IsCopied c v row i from → IsPut c v (D.state disk.old) (D.state disk.new) (known_of parts.new) result }
     ensures kept { IsKept disk.old (known_of parts.old) result disk.new (known_of parts.new) }
@@ -130,7 +131,7 @@ pub(crate) fn put_copy<D: Disk>(
     requires steady { Steady (size_of (D.state disk.old)) (known_of parts.old) }
     requires fits { Fits change.now parts.old.contents.rows.rows }
     requires next { IsNextId change.now parts.old.contents.rows.next }
-    requires place { parts.old.contents.last.place < 4294967295 }
+    requires place { parts.old.contents.last.place < MOST_NUMBER }
     requires count { parts.old.contents.count < 18446744073709551615 }
     ensures put { (v : Volume) → At (D.state disk.old) (known_of parts.old) v → IsPut change.now v (D.state disk.old) (D.state disk.new) (known_of parts.new) result }
     ensures kept { IsKept disk.old (known_of parts.old) result disk.new (known_of parts.new) }

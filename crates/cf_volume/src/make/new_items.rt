@@ -2,6 +2,7 @@
 
 ghost use Rattle.std.specs.Prelude.{◌≡◌, ◌≤◌, ◌<◌, ◌+◌, ◌∷◌, [], ℕ, All, length, IfErr, IfNone, IfSome, OnOk, OnErr};
 ghost use Rattle.cf_base.specs.declared.changes.Change.{Change};
+ghost use Rattle.cf_base.specs.declared.limits.TheConstants.{MOST_NUMBER};
 ghost use Rattle.cf_disk.specs.Disk.{size_of};
 ghost use Rattle.cf_model.specs.Blocks.{puts_into};
 ghost use Rattle.cf_model.specs.Changes.{put_change, why_no_room};
@@ -50,7 +51,7 @@ pub(crate) fn refusal_of_new<D: Disk>(
     requires new { All (λ r. r.id.0 < row.now.id.0) parts.now.contents.rows.rows }
     requires id { row.now.id.0 < 18446744073709551615 }
     requires anchor { row.now.anchor ≡ no_usn }
-    requires place { parts.now.contents.last.place < 4294967295 }
+    requires place { parts.now.contents.last.place < MOST_NUMBER }
     ensures why { (v : Volume) (c : Change) (i : Item) → At (D.state disk.now) (known_of parts.now) v → Arrives c v row.now i → length (puts_into v.items c) ≡ blocks → why_no_room (c ∷ []) v ≡ result }
     ensures fits { IfNone result ((v : Volume) (c : Change) (i : Item) → At (D.state disk.now) (known_of parts.now) v → Arrives c v row.now i → FitsTable (put_change c v).items (put_change c v).book) }
     ensures only { IfSome result IsFullness }
@@ -76,7 +77,7 @@ fn put_new<D: Disk>(disk: &D, parts: &mut Parts, row: Row) -> Result<Option<Usn>
     requires spellable { IsSpellable row }
     requires fresh { IsFresh row }
     requires number { row.number ≡ record { epoch = parts.old.contents.last.epoch; place = parts.old.contents.last.place + 1 } }
-    requires place { parts.old.contents.last.place < 4294967295 }
+    requires place { parts.old.contents.last.place < MOST_NUMBER }
     requires count { parts.old.contents.count < 18446744073709551615 }
     ensures put { (v : Volume) (c : Change) (i : Item) (n : ℕ) → At (D.state disk.now) (known_of parts.old) v → IsMade c v row i n → IsPut c v (D.state disk.now) (D.state disk.now) (known_of parts.new) result }
     ensures kept { IsKept disk.now (known_of parts.old) result disk.now (known_of parts.new) }
@@ -104,7 +105,7 @@ pub(crate) fn put_make<D: Disk>(
     requires steady { Steady (size_of (D.state disk.now)) (known_of parts.old) }
     requires fits { Fits change.now parts.old.contents.rows.rows }
     requires next { IsNextId change.now parts.old.contents.rows.next }
-    requires place { parts.old.contents.last.place < 4294967295 }
+    requires place { parts.old.contents.last.place < MOST_NUMBER }
     requires count { parts.old.contents.count < 18446744073709551615 }
     ensures put { (v : Volume) → At (D.state disk.now) (known_of parts.old) v → IsPut change.now v (D.state disk.now) (D.state disk.now) (known_of parts.new) result }
     ensures kept { IsKept disk.now (known_of parts.old) result disk.now (known_of parts.new) }

@@ -2,6 +2,7 @@
 
 ghost use Rattle.std.specs.Prelude.{◌≡◌, ◌≤◌, ◌<◌, ◌+◌, ℕ, All, true, Some, length, IfOk, MatchOption, OnOk, OnErr};
 ghost use Rattle.cf_base.specs.declared.changes.Change.{Change};
+ghost use Rattle.cf_base.specs.declared.limits.TheConstants.{MOST_FILE_BYTES, MOST_NUMBER};
 ghost use Rattle.cf_disk.specs.Disk.{size_of};
 ghost use Rattle.cf_model.specs.Changes.{put_change};
 ghost use Rattle.cf_model.specs.Effects.{copied, made};
@@ -58,7 +59,7 @@ pub(crate) fn plan_made(
     identity: &Identity,
     number: Usn,
 ) -> Result<Row, OutOfMemory>
-    requires size { size ≤ 16777216 }
+    requires size { size ≤ MOST_FILE_BYTES }
     requires after { above number no_usn ≡ true }
     ensures means { IfOk result (λ r. Means r (made item parent name.now kind size identity.now (pin_at rows.now.rows parent) number)) }
     ensures fresh { IfOk result IsFresh }
@@ -103,7 +104,7 @@ pub(crate) fn put_made<D: Disk>(disk: &D, parts: &mut Parts, row: Row) -> Result
     requires spellable { IsSpellable row }
     requires fresh { IsFresh row }
     requires number { row.number ≡ record { epoch = parts.old.contents.last.epoch; place = parts.old.contents.last.place + 1 } }
-    requires place { parts.old.contents.last.place < 4294967295 }
+    requires place { parts.old.contents.last.place < MOST_NUMBER }
     requires count { parts.old.contents.count < 18446744073709551615 }
     ensures at { (v : Volume) (c : Change) (i : Item) (n : ℕ) → At (D.state disk.now) (known_of parts.old) v → IsMade c v row i n → FitsTable (put_change c v).items (put_change c v).book → OnOk result (At (D.state disk.now) (known_of parts.new) (put_change c v)) }
     ensures steady { OnOk result (Steady (size_of (D.state disk.now)) (known_of parts.new)) }

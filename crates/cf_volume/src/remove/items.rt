@@ -2,6 +2,7 @@
 
 ghost use Rattle.std.specs.Prelude.{◌≡◌, ◌≤◌, ◌<◌, ◌+◌, ◌^◌, ◌∷◌, [], None, Some, length, IfErr, IfOk, OnOk, OnErr};
 ghost use Rattle.cf_base.specs.declared.codes.CallError.TheVariants as fail;
+ghost use Rattle.cf_base.specs.declared.limits.TheConstants.{MOST_NUMBER};
 ghost use Rattle.cf_disk.specs.Disk.{size_of};
 ghost use Rattle.cf_model.specs.Changes.{why_no_room};
 ghost use Rattle.cf_model.specs.Numbers.{usn_after};
@@ -14,13 +15,13 @@ ghost use Rattle.cf_volume.specs.Keys.{IsRemove, seen_key};
 ghost use Rattle.cf_volume.specs.Steady.{Steady, known_of};
 ghost use Rattle.cf_volume.specs.Written.{NotesOnly};
 
-use crate::kinds::item_of;
 use crate::parts::Parts;
 use crate::record_notes::note_record;
 use crate::remove::rows::remove_item;
 use crate::row_notes::note_row;
 use cf_base::{Blob, CallError, Change, ItemId, OutOfMemory, Usn};
 use cf_disk::Disk;
+use cf_table::item_of;
 use std::alloc::Global;
 
 /// The key of the record of an item's path seen.
@@ -43,7 +44,7 @@ pub(crate) fn put_remove<D: Disk>(
 ) -> Result<Option<Usn>, CallError>
     requires kind { IsRemove change.now }
     requires steady { Steady (size_of (D.state disk.now)) (known_of parts.old) }
-    requires place { parts.old.contents.last.place < 4294967295 }
+    requires place { parts.old.contents.last.place < MOST_NUMBER }
     requires count { parts.old.contents.count < 18446744073709551615 }
     ensures put { (v : Volume) → At (D.state disk.now) (known_of parts.old) v → FitsBook change.now v.book → IsPut change.now v (D.state disk.now) (D.state disk.now) (known_of parts.new) result }
     ensures why { (v : Volume) → At (D.state disk.now) (known_of parts.old) v → why_no_room (change.now ∷ []) v ≡ None }

@@ -1,6 +1,7 @@
 //! Changes drafted: what each would make of a table.
 
 ghost use Rattle.std.specs.Prelude.{◌≡◌, ◌≤◌, ◌<◌, ◌^◌, length, true, IsTrue, OnOk};
+ghost use Rattle.cf_base.specs.declared.limits.TheConstants.{MOST_NUMBER};
 ghost use Rattle.cf_model.specs.Numbers.{above, no_usn};
 ghost use Rattle.cf_model.specs.State.{Volume};
 ghost use Rattle.cf_table.specs.Changing.{stays};
@@ -11,7 +12,6 @@ ghost use Rattle.cf_volume.specs.Keys.{IsRemove};
 ghost use Rattle.cf_volume.specs.NewRows.{IsCopy, IsMake};
 
 use crate::aux_puts::len_at;
-use crate::kinds::item_of;
 use crate::make::rows::place_of;
 use crate::record_changes::clusters_asked;
 use crate::remove::items::seen_key;
@@ -21,7 +21,7 @@ use crate::room::drafts::{
 use crate::stay::clusters::plan_item;
 use crate::stay::limits::{MOST_SIZE, fits_row, is_later, is_spellable};
 use cf_base::{Change, ItemId, OutOfMemory, Pin, Usn};
-use cf_table::Row;
+use cf_table::{Row, item_of};
 use cf_volume_image::Contents;
 use std::alloc::Global;
 
@@ -37,7 +37,7 @@ const NO_SIZES: Sizes = Sizes {
 
 /// A place has room in its field.
 pub(crate) fn tell_place(number: Usn)
-    ensures { number.place ≤ 4294967295 }
+    ensures { number.place ≤ MOST_NUMBER }
 {
     let _ = number;
 }

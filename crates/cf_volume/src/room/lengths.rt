@@ -1,6 +1,7 @@
 //! How long the table is after a change.
 
 ghost use Rattle.std.specs.Prelude.{◌≡◌, ◌<◌, ◌+◌, ◌*◌, ◌^◌, ℕ, length, min, nat_lt};
+ghost use Rattle.cf_base.specs.declared.limits.TheConstants.{MOST_IMAGE_BYTES};
 ghost use Rattle.cf_volume_image.specs.Contents.{image_of};
 ghost use Rattle.cf_model.specs.Formats.{spell_image};
 ghost use Rattle.cf_volume_points.specs.Lengths.{len_with};
@@ -29,7 +30,7 @@ pub(crate) fn len_of(row: &Row) -> u128
 pub(crate) fn is_too_long(contents: &Contents, old: u128, new: u128) -> bool
     requires old { old < 2 ^ 80 }
     requires new { new < 2 ^ 80 }
-    ensures { result ≡ nat_lt (1306624 + old) (min (length (spell_image (image_of contents.now))) 18446744073709551615 + new) }
+    ensures { result ≡ nat_lt (MOST_IMAGE_BYTES + old) (min (length (spell_image (image_of contents.now))) 18446744073709551615 + new) }
 {
     contents.image_len() as u128 + new > MOST_IMAGE + old
 }

@@ -2,6 +2,7 @@
 
 ghost use Rattle.std.specs.Prelude.{◌≡◌, ◌+◌, ◌∷◌, [], ◌&&◌, ◌||◌, ◌==◌, List, cond, not, false, true, nat_lt, IfOk};
 ghost use Rattle.cf_base.specs.declared.changes.Change.{Change};
+ghost use Rattle.cf_base.specs.declared.limits.TheConstants.{MOST_IMAGE_BYTES, MOST_ITEMS};
 ghost use Rattle.cf_model.specs.Images.{never_longer};
 ghost use Rattle.cf_model.specs.Numbers.{above, no_usn, usn_after};
 ghost use Rattle.cf_model.specs.State.{Volume};
@@ -72,7 +73,7 @@ fn never_longer(change: &Change) -> bool
 
 /// Whether a table has too many rows or bytes that has and would get some, of which others would go again.
 pub(crate) fn is_long(more: Sizes, less: Sizes) -> Result<bool, OutOfMemory>
-    ensures { IfOk result (λ b. b ≡ (nat_lt (10000 + less.items) more.items || nat_lt (1306624 + less.bytes) more.bytes)) }
+    ensures { IfOk result (λ b. b ≡ (nat_lt (MOST_ITEMS + less.items) more.items || nat_lt (MOST_IMAGE_BYTES + less.bytes) more.bytes)) }
 {
     let rows = sum(MOST_ROWS, less.items)?;
     let bytes = sum(MOST_IMAGE, less.bytes)?;

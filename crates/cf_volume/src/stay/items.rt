@@ -1,6 +1,7 @@
 //! Changes of items that stay, from a plan to the clusters.
 
 ghost use Rattle.std.specs.Prelude.{◌≡◌, ◌<◌, ◌+◌, true, None, Some, Ok, IfErr, OnOk, OnErr};
+ghost use Rattle.cf_base.specs.declared.limits.TheConstants.{MOST_NUMBER};
 ghost use Rattle.cf_clusters.specs.Area.{KeepsWhere};
 ghost use Rattle.cf_clusters.specs.Roles.{IsCommitted};
 ghost use Rattle.cf_disk.specs.Disk.{Leaves, size_of};
@@ -31,7 +32,7 @@ pub(crate) fn put_stay<D: Disk>(
     requires steady { Steady (size_of (D.state disk.old)) (known_of parts.old) }
     requires there { row_of parts.old.contents.rows.rows (item_of_change change.now) ≡ None → ⊥ }
     requires fits { Fits change.now parts.old.contents.rows.rows }
-    requires place { parts.old.contents.last.place < 4294967295 }
+    requires place { parts.old.contents.last.place < MOST_NUMBER }
     requires count { parts.old.contents.count < 18446744073709551615 }
     ensures put { (v : Volume) → At (D.state disk.old) (known_of parts.old) v → IsPut change.now v (D.state disk.old) (D.state disk.new) (known_of parts.new) result }
     ensures kept { IsKept disk.old (known_of parts.old) result disk.new (known_of parts.new) }

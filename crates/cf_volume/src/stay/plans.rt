@@ -1,6 +1,7 @@
 //! Changes of items that stay, planned and judged.
 
 ghost use Rattle.std.specs.Prelude.{◌≡◌, ◌≤◌, ◌<◌, ◌+◌, ◌∷◌, [], None, Some, length, nat_lt, true, IfNone, IfOk, IfSome};
+ghost use Rattle.cf_base.specs.declared.limits.TheConstants.{MOST_NUMBER};
 ghost use Rattle.cf_clusters.specs.Roles.{how_many, is_now};
 ghost use Rattle.cf_model.specs.Changes.{put_change, why_no_room};
 ghost use Rattle.cf_model.specs.Numbers.{usn_after};
@@ -14,14 +15,14 @@ ghost use Rattle.cf_volume.specs.Calls.{IsFullness};
 ghost use Rattle.cf_volume.specs.Laid.{Plans};
 ghost use Rattle.cf_volume.specs.Steady.{TestsLength, known_of};
 
-use crate::kinds::{item_of, pin_for};
+use crate::kinds::pin_for;
 use crate::parts::Parts;
 use crate::room::lengths::{is_too_long, len_of};
 use crate::stay::clusters::{Planned, plan_item};
 use cf_base::{Change, Code, OutOfMemory, Usn};
 use cf_clusters::Data;
 use cf_disk::Disk;
-use cf_table::Rows;
+use cf_table::{Rows, item_of};
 use cf_volume_image::Contents;
 use std::alloc::Global;
 
@@ -72,7 +73,7 @@ pub(crate) fn refusal_of<D: Disk>(
     planned: &Planned,
 ) -> Option<Code>
     requires kind { stays change.now ≡ true }
-    requires place { parts.now.contents.last.place < 4294967295 }
+    requires place { parts.now.contents.last.place < MOST_NUMBER }
     requires there { row_of parts.now.contents.rows.rows (item_of_change change.now) ≡ None → ⊥ }
     requires plan { (r : Row) → row_of parts.now.contents.rows.rows (item_of_change change.now) ≡ Some r → Plans change.now (pin_for change.now parts.now.contents.rows.rows) (usn_after parts.now.contents.last.epoch parts.now.contents.last.place) r planned.now.row planned.now.blocks.items }
     ensures why { (v : Volume) → At (D.state disk.now) (known_of parts.now) v → why_no_room (change.now ∷ []) v ≡ result }

@@ -1,6 +1,7 @@
 //! Changes of items that stay, put.
 
 ghost use Rattle.std.specs.Prelude.{◌≡◌, ◌≤◌, ◌<◌, ◌*◌, true, None, Some, length, IfErr, OnOk, OnErr};
+ghost use Rattle.cf_base.specs.declared.limits.TheConstants.{MOST_NUMBER};
 ghost use Rattle.cf_volume_blocks.specs.Bytes.{HasEnd};
 ghost use Rattle.cf_clusters.specs.Area.{KeepsWhere};
 ghost use Rattle.cf_clusters.specs.Roles.{IsCommitted, how_many, is_free};
@@ -18,13 +19,13 @@ ghost use Rattle.cf_volume.specs.Laid.{Plans};
 ghost use Rattle.cf_volume.specs.Steady.{Steady, known_of};
 ghost use Rattle.cf_volume.specs.Written.{NotesOnly};
 
-use crate::kinds::item_of;
 use crate::parts::Parts;
 use crate::row_notes::note_row;
 use crate::stay::clusters::Planned;
 use crate::stay::plan_steps::change_item;
 use cf_base::Change;
 use cf_disk::Disk;
+use cf_table::item_of;
 use cf_volume_points::Stop;
 
 /// Puts a planned change of an item that stays. The clusters that it needs are free, and there is a number for it.
@@ -40,7 +41,7 @@ pub(crate) fn put_planned<D: Disk>(
     requires plan { (r : Row) → row_of parts.old.contents.rows.rows (item_of_change change.now) ≡ Some r → Plans change.now (pin_for change.now parts.old.contents.rows.rows) (usn_after parts.old.contents.last.epoch parts.old.contents.last.place) r planned.row planned.blocks.items }
     requires end { HasEnd change.now }
     requires free { length planned.blocks.items ≤ how_many is_free parts.old.held }
-    requires place { parts.old.contents.last.place < 4294967295 }
+    requires place { parts.old.contents.last.place < MOST_NUMBER }
     requires count { parts.old.contents.count < 18446744073709551615 }
     ensures at { (v : Volume) → At (D.state disk.old) (known_of parts.old) v → FitsTable (put_change change.now v).items (put_change change.now v).book → OnOk result (At (D.state disk.new) (known_of parts.new) (put_change change.now v)) }
     ensures steady { OnOk result (Steady (size_of (D.state disk.new)) (known_of parts.new)) }

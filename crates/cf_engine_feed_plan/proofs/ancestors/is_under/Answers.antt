@@ -10,5 +10,5 @@ returns-then-eq c = λ items m t. sym (ap (λ (b : Bool). b || list_any (λ k. e
 
 pub returns : goal.returns
 returns c = λ items m t.
-    c.line_of-line.ensures.passes ∙ ap (λ (l : List ℕ). list_any (λ k. eqb k c.args.top.0) l) (line_is 32 c.args.rows.now.rows items c.args.id m t (omega arith))
+    c.line_of.ensures.passes ∙ ap (λ (l : List ℕ). list_any (λ k. eqb k c.args.top.0) l) (line_is 32 c.args.rows.now.rows items c.args.id m t (omega arith))
     ∙ sym (ap (λ (b : Bool). b || list_any (λ k. eqb k c.args.top.0) (item_line items c.args.id)) (sym c.eq.ensures ∙ c.if-eq.false))

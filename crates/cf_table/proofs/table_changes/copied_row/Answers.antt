@@ -5,7 +5,7 @@ use Rattle.cf_base.specs.declared.ids.Usn.{Usn}
 use Rattle.cf_model.specs.Effects.{untargeted}
 use Rattle.cf_table.specs.Applied.{IsSpellable}
 use Rattle.cf_table.specs.declared.rows.Row.{Row}
-use Rattle.cf_table.proofs.Stays.{untargeted_len}
+use Rattle.cf_table.proofs.StayingRows.{untargeted_len}
 use Rattle.cf_table.proofs.table_changes.copied_row.Goals as goal
 
 spellable : {E : Type 0} (r : Result Row E) (id : ItemId) (name identity : List ℕ) (number : Usn) → length name ≤ 255 → length identity ≤ 65535 → IfOk r (λ x. (x.id ≡ id) × (x.name ≡ name) × (x.identity ≡ identity) × (x.number ≡ number)) → IfOk r IsSpellable

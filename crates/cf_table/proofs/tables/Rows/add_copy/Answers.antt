@@ -2,7 +2,7 @@ use Rattle.std.proofs.Common.{◌≤◌, ◌<◌, ◌∙◌, List, ap, get_or, l
 use Rattle.cf_table.specs.Means.{Means}
 use Rattle.cf_table.specs.Tables.{IsRowAt, IsRowGap, RisesFrom, Table, pin_at}
 use Rattle.cf_table.specs.declared.rows.Row.{Row}
-use Rattle.cf_table.proofs.Stays.{copy_joins, no_source, source_is}
+use Rattle.cf_table.proofs.StayingRows.{copy_joins, no_source, source_is}
 use Rattle.cf_table.proofs.TableLens.{kept_at}
 use Rattle.cf_table.proofs.TableMeans.{on_ok_map}
 use Rattle.cf_table.proofs.NextChange.{below_pushed, next_pushed}

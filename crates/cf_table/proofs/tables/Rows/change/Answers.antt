@@ -5,7 +5,7 @@ use Rattle.cf_table.specs.Changing.{AreBelow, pin_for}
 use Rattle.cf_table.specs.Means.{KeepsRest}
 use Rattle.cf_table.specs.Tables.{IsRowAt, IsRowGap, RisesFrom, SetsAt, SetsRow, Table}
 use Rattle.cf_table.specs.declared.rows.Row.{Row}
-use Rattle.cf_table.proofs.Stays.{changed_by, left_by, leaves_is, unchanged_by}
+use Rattle.cf_table.proofs.StayingRows.{changed_by, left_by, leaves_is, unchanged_by}
 use Rattle.cf_table.proofs.TableMeans.{sets_none}
 use Rattle.cf_table.proofs.NextChange.{below_changed, next_changed}
 use Rattle.cf_table.proofs.tables.Rows.change.Goals as goal

@@ -1,7 +1,7 @@
 use Rattle.std.proofs.Common.{◌∙◌, List, ap}
 use Rattle.cf_table.specs.Tables.{Table, pin_at}
 use Rattle.cf_table.specs.declared.rows.Row.{Row}
-use Rattle.cf_table.proofs.Stays.{made_joins}
+use Rattle.cf_table.proofs.StayingRows.{made_joins}
 use Rattle.cf_table.proofs.TableMeans.{on_ok_map}
 use Rattle.cf_table.proofs.NextChange.{below_pushed, next_pushed}
 use Rattle.cf_table.proofs.tables.Rows.make.Goals as goal
