@@ -3,7 +3,6 @@ use Rattle.std.specs.Prelude.{◌≡◌, ◌≢◌, ◌⊎◌, ℕ, ◌+◌, ◌
 use Rattle.std.specs.Fmt.{decimal}
 use Rattle.cf_base.specs.declared.answers.Answer.{Answer}
 use Rattle.cf_base.specs.declared.events.Event.{Event}
-use Rattle.cf_base.specs.declared.limits.TheConstants.{MOST_FILE_BYTES}
 use Rattle.cf_base.specs.declared.policies.Mode.{Mode}
 use Rattle.cf_base.specs.declared.statuses.Status.{Status}
 use Rattle.cf_base.specs.declared.statuses.Status.TheVariants as status
@@ -25,7 +24,7 @@ IsFit n = IsFitSize n × (n % 4096 ≡ 0)
 
 -- the greatest length of a script, in bytes
 abbrev pub most_script : ℕ
-most_script = MOST_FILE_BYTES
+most_script = 16777216
 
 -- the greatest length of a report, in bytes
 abbrev pub most_report : ℕ
