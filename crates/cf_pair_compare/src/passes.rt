@@ -22,12 +22,10 @@ fn earlier<'a>(a: &'a PathRow, b: &'a PathRow) -> &'a PathRow
 }
 
 /// A row of the first path, by its bytes, that only one list has, that differs in kind or identity, or at which one has a
-/// dirty file; none where the lists are equal. Each list has a path at most once, and they stand in the order of their bytes. It
+/// dirty file; none where the lists are equal. So it is where each list has a path at most once, in the order of their bytes. It
 /// takes time by the sum of the lengths, and no memory.
 pub fn first_unequal<'a>(first: &'a [PathRow], second: &'a [PathRow]) -> Option<&'a PathRow>
-    requires first { Rises first.now }
-    requires second { Rises second.now }
-    ensures { IsFirst first.now second.now (path_told (option_copied result)) }
+    ensures { Rises first.now → Rises second.now → IsFirst first.now second.now (path_told (option_copied result)) }
 {
     let mut ours = first;
     let mut theirs = second;

@@ -11,9 +11,7 @@ use cf_pair_events::Comparison;
 
 /// By one pass over rows in order of path.
 fn comparison(first: &[PathRow], second: &[PathRow]) -> Result<Comparison, OutOfMemory>
-    requires first { Rises first.now }
-    requires second { Rises second.now }
-    ensures { IfOk result (IsComparison first.now second.now) }
+    ensures { Rises first.now → Rises second.now → IfOk result (IsComparison first.now second.now) }
 {
     match first_unequal(first, second) {
         None => Ok(Comparison::Equal),
@@ -25,11 +23,10 @@ fn comparison(first: &[PathRow], second: &[PathRow]) -> Result<Comparison, OutOf
 }
 
 /// Equal where both lists have the same paths, each with the same kind and identity, and no dirty file; else the first path, by its
-/// bytes, at which they do not agree. Each list has a path at most once, in any order. It takes n log n steps for n rows.
+/// bytes, at which they do not agree. So it is where each list has a path at most once, in any order. It takes n log n steps for n
+/// rows.
 pub fn compare(mut first: Vec<PathRow>, mut second: Vec<PathRow>) -> Result<Comparison, OutOfMemory>
-    requires first { AreApart first.items }
-    requires second { AreApart second.items }
-    ensures { IfOk result (IsComparison first.items second.items) }
+    ensures { AreApart first.items → AreApart second.items → IfOk result (IsComparison first.items second.items) }
 {
     sort(&mut first);
     sort(&mut second);
