@@ -119,7 +119,7 @@ impl<R: Remote> Actor for SyncActor<R> {
     fn beside(&mut self, alloc: Global, event: &Event) -> Result<Answer, OutOfMemory> {
         match event {
             Event::Engine(event) => self.do_beside(alloc, *event),
-            Event::Peer(event) => self.do_peer(event),
+            Event::Peer(event) => self.peer(event),
             _ => Err(no_such_state()),
         }
     }

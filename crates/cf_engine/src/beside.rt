@@ -28,8 +28,9 @@ fn has_room(event: &PeerEvent) -> bool
 }
 
 impl<R: Remote> SyncActor<R> {
-    /// An event of another device. A script has fewer events than there are tokens: the last one is answered as out of memory.
-    pub(crate) fn do_peer(&mut self, event: &PeerEvent) -> Result<Answer, OutOfMemory>
+    /// An event of another device, as `Actor::beside` does it. A script has fewer events than there are tokens: the last one is
+    /// answered as out of memory.
+    pub fn peer(&mut self, event: &PeerEvent) -> Result<Answer, OutOfMemory>
         ensures { StepsBeside (acts_of R.told) (events.Peer event.now) self.old result self.new }
     {
         if self.next == 0 || self.next >= MOST_NUMBER || !has_room(event) {

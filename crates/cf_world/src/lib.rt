@@ -23,5 +23,10 @@ mod scripts;
 mod scrubs;
 mod worlds;
 
-pub use runs::{Finish, run};
+pub use drafts::add;
+pub use play_errors::PlayError;
+pub use refusals::{early, write_fail};
+pub use reports::{status_of, unstarted};
+pub use runs::{Finish, MOST_SCRIPT_BYTES, run, unscripted};
+pub use scripts::is_fit;
 pub use worlds::World;

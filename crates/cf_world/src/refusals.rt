@@ -35,7 +35,8 @@ pub(crate) fn refuse<K: Sink>(
     }
 }
 
-fn write_fail<K: Sink>(alloc: Global, fail: ScriptError, sink: &mut K) -> Result<(), PlayError>
+/// Writes the line of a script that is not read, which is none where memory ran out.
+pub fn write_fail<K: Sink>(alloc: Global, fail: ScriptError, sink: &mut K) -> Result<(), PlayError>
     ensures ok { OnOk result (Adds (K.held sink.old) (K.held sink.new) (fail_line fail)) }
     ensures err { OnErr result (AddsFront (K.held sink.old) (K.held sink.new) (fail_line fail)) }
     ensures only { IfErr result (λ e. e ≢ PlayError.TooLong) }
@@ -57,7 +58,8 @@ fn fail_text(alloc: Global, fail: ScriptError) -> Result<String, AllocError>
     }
 }
 
-pub(crate) fn early(fail: PlayError) -> Status
+/// The status of a run that ends early.
+pub fn early(fail: PlayError) -> Status
     ensures { result ≡ early_status fail }
 {
     match fail {

@@ -60,8 +60,8 @@ pub(crate) fn report<K: Sink, D: Disk + Drop, A: Actor + Drop>(
     }
 }
 
-// A start is stopped by the device or by lack of memory alone.
-pub(crate) fn unstarted(fail: CallError) -> Status
+/// The status of a run whose start is stopped, which is by the device or by lack of memory alone.
+pub fn unstarted(fail: CallError) -> Status
     ensures { result ≡ start_status fail }
 {
     match fail {
@@ -97,7 +97,8 @@ fn done<K: Sink, D: Disk + Drop, A: Actor + Drop>(
     }
 }
 
-fn status_of(played: Result<(), PlayError>) -> Status
+/// The status of a run whose events were done, or not.
+pub fn status_of(played: Result<(), PlayError>) -> Status
     ensures { result ≡ play_status played }
 {
     match played {

@@ -29,7 +29,7 @@ use cf_remote::Remote;
 use std::alloc::Global;
 
 /// The most bytes that a script has.
-const MOST_SCRIPT_BYTES: usize = 16_777_216;
+pub const MOST_SCRIPT_BYTES: usize = 16_777_216;
 
 /// How a run ended, and the device and the remote that it leaves.
 #[derive(Drop)]
@@ -274,7 +274,8 @@ fn left<S: Source, K: Sink, D: Disk + Drop, R: Remote + Drop>(
     )
 }
 
-fn unscripted(fail: ReadError) -> Status
+/// The status of a run whose source was not read.
+pub fn unscripted(fail: ReadError) -> Status
     ensures { result ≡ read_status fail }
 {
     match fail {

@@ -75,7 +75,8 @@ pub(crate) fn scripted<K: Sink, D: Disk + Drop, R: Remote + Drop>(
     }
 }
 
-pub(crate) fn is_fit(size: u64) -> bool
+/// Whether a device may have this size, in bytes.
+pub fn is_fit(size: u64) -> bool
     ensures { IsTrue result ↔ IsFit size }
 {
     LEAST_SIZE <= size && size <= LARGEST_SIZE && size % BLOCK_BYTES == 0
