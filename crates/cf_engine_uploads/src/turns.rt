@@ -7,7 +7,7 @@ ghost use Rattle.cf_engine_uploads.specs.Turns.{IsCase, IsLeftOut, PlansTurn, is
 ghost use Rattle.cf_model.specs.Pushes.{push_turn};
 
 use crate::exclusions::is_excluded;
-use crate::item_reads::{NO_RID, ROOT, parent_target, stands_at_seen, target_of};
+use crate::item_reads::{NO_RID, parent_target, stands_at_seen, target_of};
 use crate::items::{mark_item, upload, upload_new};
 use crate::senders::Sender;
 use crate::uploads::push_place;
@@ -17,7 +17,7 @@ use cf_engine_queue::Action;
 use cf_engine_steps::{Engine, has_entry};
 use cf_filter_steps::Steps;
 use cf_remote::Remote;
-use cf_table::Row;
+use cf_table::{ROOT, Row};
 
 /// What is done with an item at its turn.
 #[derive(Clone, Copy)]
