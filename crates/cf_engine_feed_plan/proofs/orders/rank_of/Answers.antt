@@ -6,4 +6,4 @@ pub returns-in-None : goal.returns-in-None
 returns-in-None c = λ items e m t h. rank_none items e (sym c.in-None.is ∙ h)
 
 pub returns-in-Some : goal.returns-in-Some
-returns-in-Some c = λ items e m t h. rank_some items e c.in-Some.id c.depth_of.result (sym c.in-Some.is ∙ h) (c.depth_of.ensures.value items m t)
+returns-in-Some c = λ items e m t h. rank_some items e c.in-Some.id c.depth_of.result (sym c.in-Some.is ∙ h) (c.depth_of.ensures.depth items m t)
