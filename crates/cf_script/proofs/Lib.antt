@@ -9,6 +9,7 @@ pub mod FirstWords
 pub mod LinesRead
 pub mod KeyOnce
 pub mod EventOnce
+pub mod FixedWords
 pub mod OneReading
 pub mod Bytes
 pub mod WordTexts
