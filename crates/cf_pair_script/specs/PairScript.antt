@@ -11,6 +11,7 @@ use Rattle.cf_pair_model.specs.declared.devices.Device.{Device}
 use Rattle.cf_pair_model.specs.declared.devices.Device.TheVariants as device
 use Rattle.cf_script.specs.Script as script
 use Rattle.cf_script.specs.Script.{event_lines, lines_of}
+use Rattle.cf_script.specs.declared.scripts.TheConstants.{MOST_EVENTS}
 
 -- the device whose digit this is
 abbrev pub named : ℕ → Option Device
@@ -61,4 +62,4 @@ AreEvents (line ∷ lines) [] = ⊥
 
 -- the text spells the events
 abbrev pub IsScript : List ℕ → List PairEvent → Type 0
-IsScript text events = AreEvents (event_lines (lines_of text)) events × (length events ≤ 100000)
+IsScript text events = AreEvents (event_lines (lines_of text)) events × (length events ≤ MOST_EVENTS)

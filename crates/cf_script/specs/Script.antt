@@ -5,6 +5,7 @@ use Rattle.std.specs.Str.{IsUtf8}
 use Rattle.cf_base.specs.declared.events.Event.{Event}
 use Rattle.cf_base.specs.declared.policies.Mode.{Mode}
 use Rattle.cf_script.specs.Forms.{AreWords}
+use Rattle.cf_script.specs.declared.scripts.TheConstants.{MOST_EVENTS}
 
 -- the lines of a text: each ends with byte 10, which the last may lack
 abbrev pub lines_of : List ℕ → List (List ℕ)
@@ -42,4 +43,4 @@ AreEvents mode (line ∷ lines) [] = ⊥
 
 -- the text spells the events
 abbrev pub IsScript : Mode → List ℕ → List Event → Type 0
-IsScript mode text events = AreEvents mode (event_lines (lines_of text)) events × (length events ≤ 100000)
+IsScript mode text events = AreEvents mode (event_lines (lines_of text)) events × (length events ≤ MOST_EVENTS)

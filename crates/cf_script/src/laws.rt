@@ -7,6 +7,7 @@ ghost use Rattle.std.specs.List.{list_all};
 ghost use Rattle.cf_script.specs.Fits.{CanSpell, CanSpellAll, is_of};
 ghost use Rattle.cf_script.specs.Printed.{printed};
 ghost use Rattle.cf_script.specs.Script.{Spells, IsScript};
+ghost use Rattle.cf_script.specs.declared.scripts.TheConstants.{MOST_EVENTS};
 
 /// A line spells one event at most.
 #[tactic(auto, using(crate::proofs::OneReading::line_once))]
@@ -23,7 +24,7 @@ pub fn one_reading()
 /// What is written for events that can be spelled spells them.
 #[tactic(auto, using(crate::proofs::SpelledBack::script_back))]
 pub fn reads_back()
-    ensures { (mode : Mode) (events : List Event) → CanSpellAll mode events → length events ≤ 100000 → IsScript mode (printed events) events }
+    ensures { (mode : Mode) (events : List Event) → CanSpellAll mode events → length events ≤ MOST_EVENTS → IsScript mode (printed events) events }
 {}
 
 /// What a line spells is an event that can be spelled.
