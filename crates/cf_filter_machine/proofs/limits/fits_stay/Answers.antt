@@ -10,4 +10,4 @@ use Rattle.cf_filter_machine.proofs.limits.fits_stay.Goals as goal
 pub returns : goal.returns
 returns c = λ hit.
     all_by_own (FitsRow c.args.change.now) (item_of_change c.args.change.now) 0 c.args.rows.now.rows c.image_len.ensures.rises
-    (subst (λ (o : Option Row). MatchOption o (Unit {0}) (FitsRow c.args.change.now)) (c.get.ensures ∙ ap (row_of c.args.rows.now.rows) c.item_of.ensures) (c.fits_own.ensures hit))
+    (subst (λ (o : Option Row). MatchOption o (Unit {0}) (FitsRow c.args.change.now)) (c.get.ensures ∙ ap (row_of c.args.rows.now.rows) c.item_of.ensures.of) (c.fits_own.ensures hit))

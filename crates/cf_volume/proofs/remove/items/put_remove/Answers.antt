@@ -24,7 +24,7 @@ returns-clause-put g c = λ v at book.
     (c.remove.ensures ∙ ap (λ (l : List ℕ). without_record l c.args.parts.now.contents.records) second) c.in_ok-note_row.ensures.ok
     (subst (λ (l : List ℕ). NotesKey l c.args.parts.now.contents.records c.args.parts.now.then.records c.note_record.new.before c.args.parts.now.then.made c.note_record.new.made) first c.in_ok-note_record.ensures)
     (usn_after c.args.parts.now.contents.last.epoch c.args.parts.now.contents.last.place) refl c.requires.place v
-    (record { reads_one = g.met.D.Disk.reads_one c.args.disk.now; same_size = g.met.D.Disk.same_size c.args.disk.now }) at c.args.change.now c.requires.kind c.item_of-id.ensures book
+    (record { reads_one = g.met.D.Disk.reads_one c.args.disk.now; same_size = g.met.D.Disk.same_size c.args.disk.now }) at c.args.change.now c.requires.kind c.item_of-id.ensures.of book
 
 pub returns-clause-steady : goal.returns-clause-steady
 returns-clause-steady g c =
@@ -40,4 +40,4 @@ returns-clause-why g c = λ v at. gone_why (g.D.Disk.state c.args.disk.now) (kno
 
 pub returns-clause-noted : goal.returns-clause-noted
 returns-clause-noted g c = notes_one (item_of_change c.args.change.now) c.args.parts.now.then.next c.args.parts.now.contents.rows.rows c.args.parts.now.then.rows.rows c.note_row.new.before.rows
-    (subst (λ (n : ItemId). Notes n c.args.parts.now.then.next c.args.parts.now.contents.rows.rows c.args.parts.now.then.rows.rows c.note_row.new.before.rows) c.item_of-id.ensures c.in_ok-note_row.ensures.ok)
+    (subst (λ (n : ItemId). Notes n c.args.parts.now.then.next c.args.parts.now.contents.rows.rows c.args.parts.now.then.rows.rows c.note_row.new.before.rows) c.item_of-id.ensures.of c.in_ok-note_row.ensures.ok)

@@ -17,7 +17,7 @@ returns c = λ w drafts n_is fits book.
     let id = c.item_of-id.result in
     let first = c.leave_record_out.ensures.same in
     let then' = c.leave_out.ensures.same in
-    let is = is_remove c.args.change.now id c.requires.kind c.item_of-id.ensures in
+    let is = is_remove c.args.change.now id c.requires.kind c.item_of-id.ensures.of in
     let sizes : AreSizesOf (or_now (row_of c.args.draft.now.changed.rows id) (cond (is_gone c.args.draft.now.gone.items id) None (row_of c.args.contents.now.rows.rows id))) c.sizes_in-gone.result =
     subst (λ (o : Option Row). AreSizesOf o c.sizes_in-gone.result) (λ j. or_now (row_of (first.0 j).rows id) (cond (is_gone (first.1 j).items id) None (row_of c.args.contents.now.rows.rows id))) c.sizes_in-gone.ensures in
     subst (λ (ch : Change). (0 ≡ length (puts_into w.items ch)) × Drafts c.args.contents.now c.remove_row.new.draft (put_change ch w)) (sym is) (

@@ -11,19 +11,19 @@ use Rattle.cf_volume.proofs.room.draft_steps.draft_stay.Goals as goal
 
 pub returns-in-None : goal.returns-in-None
 returns-in-None c = λ w drafts n_is fits book.
-    let none : row_in c.args.draft.now c.args.contents.now.rows.rows (item_of_change c.args.change.now) ≡ None = ap (λ (id : ItemId). row_in c.args.draft.now c.args.contents.now.rows.rows id) (sym c.item_of.ensures) ∙ sym c.in-None.ensures.value in (
+    let none : row_in c.args.draft.now c.args.contents.now.rows.rows (item_of_change c.args.change.now) ≡ None = ap (λ (id : ItemId). row_in c.args.draft.now c.args.contents.now.rows.rows id) (sym c.item_of.ensures.of) ∙ sym c.in-None.ensures.value in (
       c.clusters_asked.ensures.asked ∙ none_asks c.args.contents.now c.args.draft.now w c.args.change.now drafts c.requires.kind none,
       none_drafts c.args.contents.now c.args.draft.now w c.args.change.now drafts c.requires.kind none,
     )
 
 pub returns-then-not-fits_row : goal.returns-then-not-fits_row
 returns-then-not-fits_row c = λ w drafts n_is fits book.
-    let found : row_in c.args.draft.now c.args.contents.now.rows.rows (item_of_change c.args.change.now) ≡ Some c.in-Some.row.now = ap (λ (id : ItemId). row_in c.args.draft.now c.args.contents.now.rows.rows id) (sym c.item_of.ensures) ∙ sym c.in-Some.ensures.value in
+    let found : row_in c.args.draft.now c.args.contents.now.rows.rows (item_of_change c.args.change.now) ≡ Some c.in-Some.row.now = ap (λ (id : ItemId). row_in c.args.draft.now c.args.contents.now.rows.rows id) (sym c.item_of.ensures.of) ∙ sym c.in-Some.ensures.value in
     not_yes c.fits_row.result c.if-not-fits_row.true (c.fits_row.ensures.1 (stay_fits c.args.contents.now c.args.draft.now w c.args.change.now c.in-Some.row.now c.args.number drafts c.requires.kind fits c.tell_at.ensures found n_is))
 
 pub returns-in_ok-draft_row-in-Some : goal.returns-in_ok-draft_row-in-Some
 returns-in_ok-draft_row-in-Some c = λ w drafts n_is fits book.
-    let found : row_in c.args.draft.now c.args.contents.now.rows.rows (item_of_change c.args.change.now) ≡ Some c.in-Some.row.now = ap (λ (id : ItemId). row_in c.args.draft.now c.args.contents.now.rows.rows id) (sym c.item_of.ensures) ∙ sym c.in-Some.ensures.value in
+    let found : row_in c.args.draft.now c.args.contents.now.rows.rows (item_of_change c.args.change.now) ≡ Some c.in-Some.row.now = ap (λ (id : ItemId). row_in c.args.draft.now c.args.contents.now.rows.rows id) (sym c.item_of.ensures.of) ∙ sym c.in-Some.ensures.value in
     let same = c.leave_out.ensures.same in
     let plan = c.in_ok-planned-in-Some.ensures in
     let rises : RisesFrom 0 c.args.draft.now.changed.rows = subst (λ (t : Table). RisesFrom 0 t.rows) same.0 c.draft_row.ensures.rises in
