@@ -35,7 +35,7 @@ filter_noticed Q q l tokens P closed = record {
       (keeps_bind Q (change_with f c x) (λ _ t. then_do (settle item d) done t) ((q.change f c).keeps x h.1) (λ a t j. keeps_bind Q (settle item d t) (λ _ y. done y) ((q.settled item d).keeps t j) (λ b y m. m)));
   commits = record { keeps = λ x h. keeps_both P Q (in_volume commit x) (closed.commits.keeps x h.0) (q.commits.keeps x h.1) };
   settled = λ item d x others h. keeps_both P Q (settle item d x) (closed.settled item d x others h.0) ((q.settled item d).keeps x h.1);
-  begins = λ n. record { keeps = λ x h. keeps_both P Q (reading (begun n) (begin_now n) x) ((closed.begins n).keeps x h.0) ((q.begins n).keeps x h.1) };
+  begins = λ n x fit h. keeps_both P Q (reading (begun n) (begin_now n) x) (closed.begins n x fit h.0) ((q.begins n).keeps x h.1);
   downs = record { keeps = λ x h. keeps_both P Q (reading all_down tell x) (closed.downs.keeps x h.0) (q.downs.keeps x h.1) };
   keeps_accessed = λ item x h. (closed.keeps_accessed item x h.0, q.keeps_accessed item x h.1);
   keeps_accessed_now = λ n x h. (closed.keeps_accessed_now n x h.0, q.keeps_accessed_now n x h.1);
@@ -43,7 +43,7 @@ filter_noticed Q q l tokens P closed = record {
   keeps_begin_call = λ x h. (closed.keeps_begin_call x h.0, q.keeps_begin_call x h.1);
   keeps_connected_again = λ x h. (closed.keeps_connected_again x h.0, q.keeps_connected_again x h.1);
   keeps_disconnected = λ x h. (closed.keeps_disconnected x h.0, q.keeps_disconnected x h.1);
-  keeps_with_handle = λ item x h. (closed.keeps_with_handle item x h.0, q.keeps_with_handle item x h.1);
+  keeps_with_handle = λ item x fit h. (closed.keeps_with_handle item x fit h.0, q.keeps_with_handle item x h.1);
   keeps_with_policy = λ p v x h. (closed.keeps_with_policy p v x h.0, q.keeps_with_policy p x h.1);
   keeps_with_time = λ n x h. (closed.keeps_with_time n x h.0, q.keeps_with_time n x h.1);
   keeps_without_handle = λ handle x h. (closed.keeps_without_handle handle x h.0, q.keeps_without_handle handle x h.1);
@@ -98,7 +98,7 @@ module _ (Q : Filter → Type 0) (q : Noticed Q) (P : State → Type 0) where
 
   pub deleting_noticed : Deleting P → Deleting Both
   deleting_noticed deleting = record {
-    deletes = λ f item s keeps seen cursor idle h. keeps_both (λ x. P (with_filter x s)) Q (change_with f (change.Remove item) s.filter) (deleting.deletes f item s keeps seen cursor idle h.0) ((q.closed.change f (change.Remove item)).keeps s.filter h.1);
+    deletes = λ f item s keeps seen cursor idle leaf h. keeps_both (λ x. P (with_filter x s)) Q (change_with f (change.Remove item) s.filter) (deleting.deletes f item s keeps seen cursor idle leaf h.0) ((q.closed.change f (change.Remove item)).keeps s.filter h.1);
   }
 
   -- an event other than those of the device

@@ -137,10 +137,8 @@ module _ (base : Log) (ws : List Wait) (e n : ℕ) where
         (λ u t k. leads_kept (At l) (then_do (settle item d) done t) (keeps_bind (At l) (settle item d t) (λ _ y. done y) (settles base ws e n (IsFair l) l.remote item d t (quiet_others d quiet t) k.1 k.0) (λ b y m. m)))));
     commits = record { keeps = λ x h. keeps_both P (At l) (in_volume commit x) (closed.commits.keeps x h.0) (h.1, h.1) };
     settled = λ item d x others h. keeps_both P (At l) (settle item d x) (closed.settled item d x others h.0) (settles base ws e n (IsFair l) l.remote item d x others (λ fair. sound_truly NoItem l tokens x (closed.sound x h.0 fair)) h.1);
-    begins = λ need. record {
-      keeps = λ x h. keeps_both P (At l) (reading (begun need) (begin_now need) x) ((closed.begins need).keeps x h.0)
-          (keeps_bind (At l) (tell (begun need x) (with_own need x)) (λ _ t. Ret (shown.Pending (own_id need x)) t) (begins_reading l tokens need x (closed.sound x h.0) h.1) (λ a t j. j));
-    };
+    begins = λ need x fit h. keeps_both P (At l) (reading (begun need) (begin_now need) x) (closed.begins need x fit h.0)
+        (keeps_bind (At l) (tell (begun need x) (with_own need x)) (λ _ t. Ret (shown.Pending (own_id need x)) t) (begins_reading l tokens need x (closed.sound x h.0) h.1) (λ a t j. j));
     downs = record { keeps = λ x h. keeps_both P (At l) (reading all_down tell x) (closed.downs.keeps x h.0) (downs_reading l tokens x (closed.sound x h.0) h.1) };
     keeps_accessed = λ item x h. (closed.keeps_accessed item x h.0, h.1);
     keeps_accessed_now = λ need x h. (closed.keeps_accessed_now need x h.0, accesses l need.item (is_access need.kind cause.Met) x h.1);
@@ -148,7 +146,7 @@ module _ (base : Log) (ws : List Wait) (e n : ℕ) where
     keeps_begin_call = λ x h. (closed.keeps_begin_call x h.0, h.1);
     keeps_connected_again = λ x h. (closed.keeps_connected_again x h.0, h.1);
     keeps_disconnected = λ x h. (closed.keeps_disconnected x h.0, h.1);
-    keeps_with_handle = λ item x h. (closed.keeps_with_handle item x h.0, h.1);
+    keeps_with_handle = λ item x fit h. (closed.keeps_with_handle item x fit h.0, h.1);
     keeps_with_policy = λ p v x h. (closed.keeps_with_policy p v x h.0, h.1);
     keeps_with_time = λ ticks x h. (closed.keeps_with_time ticks x h.0, h.1);
     keeps_without_handle = λ handle x h. (closed.keeps_without_handle handle x h.0, h.1);
@@ -220,7 +218,7 @@ module _ (base : Log) (ws : List Wait) (e n : ℕ) where
 
     deleting_reading : Deleting P → Deleting Both
     deleting_reading deleting = record {
-      deletes = λ f item s keeps seen cursor idle h. keeps_both (λ x. P (with_filter x s)) (At s.link) (change_with f (change.Remove item) s.filter) (deleting.deletes f item s keeps seen cursor idle h.0) (removing s f item h.1);
+      deletes = λ f item s keeps seen cursor idle leaf h. keeps_both (λ x. P (with_filter x s)) (At s.link) (change_with f (change.Remove item) s.filter) (deleting.deletes f item s keeps seen cursor idle leaf h.0) (removing s f item h.1);
     }
 
     -- an event other than those of the device

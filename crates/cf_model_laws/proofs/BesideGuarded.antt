@@ -31,9 +31,10 @@ use Rattle.cf_model.specs.Waits.{Need, all_down, begin_now, begun, beside, own_i
 use Rattle.cf_model.proofs.ArrowLaws.{keeps_each, keeps_one, keeps_then}
 use Rattle.cf_model.proofs.StoreLaws.{step_extends}
 use Rattle.cf_model.proofs.TreeLaws.{keeps_bind}
-use Rattle.cf_model_laws.specs.Fitting.{Fits}
+use Rattle.cf_model_laws.specs.Fitting.{Fits, IsLeaf}
 use Rattle.cf_model_laws.specs.Invariant.{IsSound}
 use Rattle.cf_model_laws.specs.Premises.{IsFair}
+use Rattle.cf_model_laws.specs.Seats.{IsSeated, NeedsWell}
 use Rattle.cf_model_laws.proofs.ContentLaws.{next_epoch}
 use Rattle.cf_model_laws.proofs.EventsGuarded.{Whole}
 use Rattle.cf_model_laws.proofs.Guarded.{Entering, Guarded, GuardedFilter}
@@ -64,6 +65,32 @@ pub record Beside (F : Fact) : Type 0 where
   pub stops : (l : Link) (e p : ℕ) (log : List (Usn × Change)) (hs : List Open) (hn : ℕ) (ws : List Wait) (wn : ℕ) → F l e p log hs hn ws wn → F l e p log hs hn [] wn
   pub grows : (l k : Link) (e p : ℕ) (log : List (Usn × Change)) (hs : List Open) (hn : ℕ) (ws : List Wait) (wn : ℕ) → (IsFair k → IsFair l × Extends l.remote k.remote) → F l e p log hs hn ws wn → F k e p log hs hn ws wn
 
+-- and where so much is known of the filter, and of what a step meets
+pub record Knowing (K : Filter → Type 0) (F : Fact) : Type 0 where
+  pub puts : (l : Link) (tokens : ℕ) (c : Change) (x : Filter) → (IsFair l → IsSound l tokens x) → (IsFair l → Fits l.remote x c) → (IsFair l → K x) → Holds F l x → HoldsAfter F l c x
+  pub ends : (l : Link) (e p : ℕ) (log : List (Usn × Change)) (hs : List Open) (hn : ℕ) (ws : List Wait) (wn : ℕ) (stays : Wait → Bool) → F l e p log hs hn ws wn → F l e p log hs hn (filter stays ws) wn
+  pub begins : (l : Link) (tokens : ℕ) (n : Need) (x : Filter) → (IsFair l → IsSound l tokens x) → (IsFair l → NeedsWell n x) → Holds F l x
+      → F l x.volume.epoch x.volume.place x.volume.log x.handles x.handle_count (x.waiting.waits ++ wait_for n x ∷ beside n x) (x.waiting.wait_count + length (wait_for n x ∷ beside n x))
+  pub opens : (l : Link) (tokens : ℕ) (item : ItemId) (x : Filter) → (IsFair l → IsSound l tokens x) → (IsFair l → IsSeated x.volume.items item false) → Holds F l x
+      → F l x.volume.epoch x.volume.place x.volume.log (x.handles ++ record { handle = next_handle x; item = item } ∷ []) (x.handle_count + 1) x.waiting.waits x.waiting.wait_count
+  pub closes : (l : Link) (e p : ℕ) (log : List (Usn × Change)) (hs : List Open) (hn : ℕ) (ws : List Wait) (wn : ℕ) (stays : Open → Bool) → F l e p log hs hn ws wn → F l e p log (filter stays hs) hn ws wn
+  pub stops : (l : Link) (e p : ℕ) (log : List (Usn × Change)) (hs : List Open) (hn : ℕ) (ws : List Wait) (wn : ℕ) → F l e p log hs hn ws wn → F l e p log hs hn [] wn
+  pub grows : (l k : Link) (e p : ℕ) (log : List (Usn × Change)) (hs : List Open) (hn : ℕ) (ws : List Wait) (wn : ℕ) → (IsFair k → IsFair l × Extends l.remote k.remote) → F l e p log hs hn ws wn → F k e p log hs hn ws wn
+
+abbrev Whatever : Filter → Type 0
+Whatever x = Unit {0}
+
+knowing : (F : Fact) → Beside F → Knowing Whatever F
+knowing F b = record {
+  puts = λ l tokens c x sound fit known h. b.puts l tokens c x sound fit h;
+  ends = b.ends;
+  begins = λ l tokens n x sound fit h. b.begins l tokens n x sound h;
+  opens = λ l tokens item x sound fit h. b.opens l item x h;
+  closes = b.closes;
+  stops = b.stops;
+  grows = b.grows;
+}
+
 -- a change
 
 changed_beside : (F : Fact) (l : Link) (f : Book → Book) (c : Change) (x : Filter) → Holds F l x → HoldsAfter F l c x → Keeps (Holds F l) (change_with f c x)
@@ -88,8 +115,8 @@ pub tell_beside : (F : Fact) (l : Link) (r : Told × Waiting) (x : Filter) → H
 tell_beside F l r x h =
     (keeps_then (Holds F l) (each end_wait r.0.ended) (noted (with_asks_told r.0)) (keeps_each (Holds F l) end_wait r.0.ended (λ e. keeps_one (Holds F l) (with_ended e) (λ y j. ended_beside F l e y j))) (record { keeps = λ y j. j })).keeps (with_waiting r.1 x) h
 
-settle_beside : (F : Fact) → Beside F → (l : Link) (item : ItemId) (d : Deed) (x : Filter) → Holds F l x → Keeps (Holds F l) (settle item d x)
-settle_beside F b l item d x h = tell_beside F l (told_at item d x) x (b.ends l x.volume.epoch x.volume.place x.volume.log x.handles x.handle_count x.waiting.waits x.waiting.wait_count _ h)
+settle_beside : (K : Filter → Type 0) (F : Fact) → Knowing K F → (l : Link) (item : ItemId) (d : Deed) (x : Filter) → Holds F l x → Keeps (Holds F l) (settle item d x)
+settle_beside K F b l item d x h = tell_beside F l (told_at item d x) x (b.ends l x.volume.epoch x.volume.place x.volume.log x.handles x.handle_count x.waiting.waits x.waiting.wait_count _ h)
 
 accessed_beside : (F : Fact) (l : Link) (item : ItemId) (is : Bool) (x : Filter) → Holds F l x → Holds F l (if is then accessed item x else x)
 accessed_beside F l item true x h = h
@@ -97,19 +124,17 @@ accessed_beside F l item false x h = h
 
 -- the filter
 
-filter_beside : (F : Fact) → Beside F → (l : Link) (tokens : ℕ) (P : Filter → Type 0) → GuardedFilter l tokens P → GuardedFilter l tokens (λ x. P x × Holds F l x)
-filter_beside F b l tokens P closed = record {
+filter_beside : (K : Filter → Type 0) (F : Fact) → Knowing K F → (l : Link) (tokens : ℕ) (P : Filter → Type 0) → ((x : Filter) → P x → IsFair l → K x) → GuardedFilter l tokens P → GuardedFilter l tokens (λ x. P x × Holds F l x)
+filter_beside K F b l tokens P knows closed = record {
   sound = λ x h fair. closed.sound x h.0 fair;
-  change = λ f c x keeps seen free fit h. keeps_both P (Holds F l) (change_with f c x) (closed.change f c x keeps seen free fit h.0) (changed_beside F l f c x h.1 (b.puts l tokens c x (closed.sound x h.0) fit h.1));
+  change = λ f c x keeps seen free fit h. keeps_both P (Holds F l) (change_with f c x) (closed.change f c x keeps seen free fit h.0) (changed_beside F l f c x h.1 (b.puts l tokens c x (closed.sound x h.0) fit (knows x h.0) h.1));
   touch = λ f c item d x quiet keeps seen on fit h. keeps_both P (Holds F l) (then_do (change_with f c) (then_do (settle item d) done) x) (closed.touch f c item d x quiet keeps seen on fit h.0)
-      (keeps_bind (Holds F l) (change_with f c x) (λ _ t. then_do (settle item d) done t) (changed_beside F l f c x h.1 (b.puts l tokens c x (closed.sound x h.0) fit h.1)) (λ a t j. keeps_bind (Holds F l) (settle item d t) (λ _ y. done y) (settle_beside F b l item d t j) (λ a y m. m)));
+      (keeps_bind (Holds F l) (change_with f c x) (λ _ t. then_do (settle item d) done t) (changed_beside F l f c x h.1 (b.puts l tokens c x (closed.sound x h.0) fit (knows x h.0) h.1)) (λ a t j. keeps_bind (Holds F l) (settle item d t) (λ _ y. done y) (settle_beside K F b l item d t j) (λ a y m. m)));
   commits = record { keeps = λ x h. keeps_both P (Holds F l) (in_volume commit x) (closed.commits.keeps x h.0) (h.1, h.1) };
-  settled = λ item d x others h. keeps_both P (Holds F l) (settle item d x) (closed.settled item d x others h.0) (settle_beside F b l item d x h.1);
-  begins = λ n. record {
-    keeps = λ x h. keeps_both P (Holds F l) (reading (begun n) (begin_now n) x) ((closed.begins n).keeps x h.0)
-        (keeps_bind (Holds F l) (tell (begun n x) (with_own n x)) (λ _ t. Ret (shown.Pending (own_id n x)) t)
-        (tell_beside F l (begun n x) (with_own n x) (b.ends l x.volume.epoch x.volume.place x.volume.log x.handles x.handle_count (x.waiting.waits ++ wait_for n x ∷ beside n x) (x.waiting.wait_count + length (wait_for n x ∷ beside n x)) _ (b.begins l tokens n x (closed.sound x h.0) h.1))) (λ a t j. j));
-  };
+  settled = λ item d x others h. keeps_both P (Holds F l) (settle item d x) (closed.settled item d x others h.0) (settle_beside K F b l item d x h.1);
+  begins = λ n x fit h. keeps_both P (Holds F l) (reading (begun n) (begin_now n) x) (closed.begins n x fit h.0)
+      (keeps_bind (Holds F l) (tell (begun n x) (with_own n x)) (λ _ t. Ret (shown.Pending (own_id n x)) t)
+      (tell_beside F l (begun n x) (with_own n x) (b.ends l x.volume.epoch x.volume.place x.volume.log x.handles x.handle_count (x.waiting.waits ++ wait_for n x ∷ beside n x) (x.waiting.wait_count + length (wait_for n x ∷ beside n x)) _ (b.begins l tokens n x (closed.sound x h.0) fit h.1))) (λ a t j. j));
   downs = record { keeps = λ x h. keeps_both P (Holds F l) (reading all_down tell x) (closed.downs.keeps x h.0) (tell_beside F l (all_down x) x (b.stops l x.volume.epoch x.volume.place x.volume.log x.handles x.handle_count x.waiting.waits x.waiting.wait_count h.1)) };
   keeps_accessed = λ item x h. (closed.keeps_accessed item x h.0, h.1);
   keeps_accessed_now = λ n x h. (closed.keeps_accessed_now n x h.0, accessed_beside F l n.item (is_access n.kind cause.Met) x h.1);
@@ -117,7 +142,7 @@ filter_beside F b l tokens P closed = record {
   keeps_begin_call = λ x h. (closed.keeps_begin_call x h.0, h.1);
   keeps_connected_again = λ x h. (closed.keeps_connected_again x h.0, h.1);
   keeps_disconnected = λ x h. (closed.keeps_disconnected x h.0, h.1);
-  keeps_with_handle = λ item x h. (closed.keeps_with_handle item x h.0, b.opens l item x h.1);
+  keeps_with_handle = λ item x fit h. (closed.keeps_with_handle item x fit h.0, b.opens l tokens item x (closed.sound x h.0) fit h.1);
   keeps_with_policy = λ p v x h. (closed.keeps_with_policy p v x h.0, h.1);
   keeps_with_time = λ n x h. (closed.keeps_with_time n x h.0, h.1);
   keeps_without_handle = λ handle x h. (closed.keeps_without_handle handle x h.0, b.closes l x.volume.epoch x.volume.place x.volume.log x.handles x.handle_count x.waiting.waits x.waiting.wait_count _ h.1);
@@ -133,15 +158,15 @@ line_beside F true c s h = h
 line_beside F false c s h = h
 
 -- in a link of the same remote that is as fair
-linked : (F : Fact) → Beside F → (l k : Link) (x : Filter) → (IsFair k → IsFair l) → k.remote ≡ l.remote → Holds F l x → Holds F k x
-linked F b l k x fair same h =
+linked : (K : Filter → Type 0) (F : Fact) → Knowing K F → (l k : Link) (x : Filter) → (IsFair k → IsFair l) → k.remote ≡ l.remote → Holds F l x → Holds F k x
+linked K F b l k x fair same h =
     b.grows l k x.volume.epoch x.volume.place x.volume.log x.handles x.handle_count x.waiting.waits x.waiting.wait_count (λ z. (fair z, subst (λ (r : Held). Extends l.remote r) (sym same) (record { versions = λ rid version bytes e. e; tokens = λ token r e. e }))) h
 
-pub guarded_beside : (F : Fact) → Beside F → (P : State → Type 0) → Guarded P → Guarded (λ s. P s × HoldsIn F s)
-guarded_beside F b P closed = record {
+pub guarded_knowing : (K : Filter → Type 0) (F : Fact) → Knowing K F → (P : State → Type 0) → ((s : State) → P s → IsFair s.link → K s.filter) → Guarded P → Guarded (λ s. P s × HoldsIn F s)
+guarded_knowing K F b P knows closed = record {
   replay = λ s h. closed.replay s h.0;
-  on_filter = λ s h. filter_beside F b s.link s.volatile.tokens (λ x. P (with_filter x s)) (closed.on_filter s h.0);
-  keeps_counted = λ s h. (closed.keeps_counted s h.0, linked F b s.link _ s.filter (λ fair. fair) refl h.1);
+  on_filter = λ s h. filter_beside K F b s.link s.volatile.tokens (λ x. P (with_filter x s)) (λ x k fair. knows (with_filter x s) k fair) (closed.on_filter s h.0);
+  keeps_counted = λ s h. (closed.keeps_counted s h.0, linked K F b s.link _ s.filter (λ fair. fair) refl h.1);
   asked = λ q s well h. (
     closed.asked q s well h.0,
     b.grows s.link _ s.filter.volume.epoch s.filter.volume.place s.filter.volume.log s.filter.handles s.filter.handle_count s.filter.waiting.waits s.filter.waiting.wait_count (λ fair. ((fair.0, small_before s.link.remote q fair.1), step_extends s.link.remote q)) h.1,
@@ -150,8 +175,8 @@ guarded_beside F b P closed = record {
     closed.told held s h.0,
     b.grows s.link _ s.filter.volume.epoch s.filter.volume.place s.filter.volume.log s.filter.handles s.filter.handle_count s.filter.waiting.waits s.filter.waiting.wait_count (λ fair. no_way fair.0) h.1,
   );
-  posts = λ f s well h. (closed.posts f s well h.0, linked F b s.link _ s.filter (λ fair. fair) refl h.1);
-  loses = λ f s h. (closed.loses f s h.0, linked F b s.link _ s.filter (λ fair. fair) refl h.1);
+  posts = λ f s well h. (closed.posts f s well h.0, linked K F b s.link _ s.filter (λ fair. fair) refl h.1);
+  loses = λ f s h. (closed.loses f s h.0, linked K F b s.link _ s.filter (λ fair. fair) refl h.1);
   books = λ f s keeps placed h. (closed.books f s keeps placed h.0, h.1);
   moved = λ e s is live h. (closed.moved e s is live h.0, h.1);
   leaves = λ token s h. (closed.leaves token s h.0, h.1);
@@ -169,12 +194,15 @@ guarded_beside F b P closed = record {
   keeps_volatile_with_token = λ s h. (closed.keeps_volatile_with_token s h.0, h.1);
   keeps_with_clock_seen = λ clock s h. (closed.keeps_with_clock_seen clock s h.0, h.1);
   keeps_with_done = λ s h. (closed.keeps_with_done s h.0, h.1);
-  keeps_with_inline = λ inline s h. (closed.keeps_with_inline inline s h.0, linked F b s.link _ s.filter (λ fair. fair) refl h.1);
+  keeps_with_inline = λ inline s h. (closed.keeps_with_inline inline s h.0, linked K F b s.link _ s.filter (λ fair. fair) refl h.1);
   keeps_with_outbox = λ a rest s e h. (closed.keeps_with_outbox a rest s e h.0, h.1);
   keeps_with_stray = λ r s h. (closed.keeps_with_stray r s h.0, h.1);
   keeps_with_token_used = λ s h. (closed.keeps_with_token_used s h.0, h.1);
   keeps_without_done = λ s h. (closed.keeps_without_done s h.0, h.1);
 }
+
+pub guarded_beside : (F : Fact) → Beside F → (P : State → Type 0) → Guarded P → Guarded (λ s. P s × HoldsIn F s)
+guarded_beside F b P closed = guarded_knowing Whatever F (knowing F b) P (λ s h fair. tt) closed
 
 pub entering_beside : (F : Fact) (P : State → Type 0) → Entering P → Entering (λ s. P s × HoldsIn F s)
 entering_beside F P entering = record { enters = λ e s well h. (entering.enters e s well h.0, h.1) }
@@ -186,13 +214,19 @@ pub record BesideRuns (F : Fact) : Type 0 where
   pub crashes : (l : Link) (e p : ℕ) (log : List (Usn × Change)) (hs : List Open) (hn : ℕ) (ws : List Wait) (wn : ℕ) → F l e p log hs hn ws wn → F l e p log [] hn [] wn
   pub opens : (l : Link) (p : Point) (epoch : ℕ) (v : Volume) (hs : List Open) (hn : ℕ) (ws : List Wait) (wn : ℕ) → v.epoch < epoch → F l v.epoch v.place v.log hs hn ws wn → F l epoch 0 (take p.count v.log) [] 0 [] 0
 
-pub whole_beside : (F : Fact) → BesideRuns F → (P : State → Type 0) → Whole P → Whole (λ s. P s × HoldsIn F s)
-whole_beside F b P whole = record {
-  closed = guarded_beside F b.beside P whole.closed;
+pub record KnowingRuns (K : Filter → Type 0) (F : Fact) : Type 0 where
+  pub knowing : Knowing K F
+  pub removes : (l : Link) (tokens : ℕ) (item : ItemId) (x : Filter) → (IsFair l → IsSound l tokens x) → in_use item x ≡ false → (IsFair l → IsLeaf x.volume.items item) → Holds F l x → HoldsAfter F l (change.Remove item) x
+  pub crashes : (l : Link) (e p : ℕ) (log : List (Usn × Change)) (hs : List Open) (hn : ℕ) (ws : List Wait) (wn : ℕ) → F l e p log hs hn ws wn → F l e p log [] hn [] wn
+  pub opens : (l : Link) (p : Point) (epoch : ℕ) (v : Volume) (hs : List Open) (hn : ℕ) (ws : List Wait) (wn : ℕ) → v.epoch < epoch → F l v.epoch v.place v.log hs hn ws wn → F l epoch 0 (take p.count v.log) [] 0 [] 0
+
+pub whole_knowing : (K : Filter → Type 0) (F : Fact) → KnowingRuns K F → (P : State → Type 0) → ((s : State) → P s → IsFair s.link → K s.filter) → Whole P → Whole (λ s. P s × HoldsIn F s)
+whole_knowing K F b P knows whole = record {
+  closed = guarded_knowing K F b.knowing P knows whole.closed;
   entering = entering_beside F P whole.entering;
   deleting = record {
-    deletes = λ f item s keeps seen cursor idle h. keeps_both (λ x. P (with_filter x s)) (Holds F s.link) (change_with f (change.Remove item) s.filter) (whole.deleting.deletes f item s keeps seen cursor idle h.0)
-        (changed_beside F s.link f (change.Remove item) s.filter h.1 (b.removes s.link s.volatile.tokens item s.filter ((whole.closed.on_filter s h.0).sound s.filter h.0) idle h.1));
+    deletes = λ f item s keeps seen cursor idle leaf h. keeps_both (λ x. P (with_filter x s)) (Holds F s.link) (change_with f (change.Remove item) s.filter) (whole.deleting.deletes f item s keeps seen cursor idle leaf h.0)
+        (changed_beside F s.link f (change.Remove item) s.filter h.1 (b.removes s.link s.volatile.tokens item s.filter ((whole.closed.on_filter s h.0).sound s.filter h.0) idle leaf h.1));
   };
   begins = λ s h. (whole.begins s h.0, h.1);
   breaks = λ s h. (whole.breaks s h.0, h.1);
@@ -200,3 +234,7 @@ whole_beside F b P whole = record {
   fails = λ s h. (whole.fails s h.0, h.1);
   opens = λ p skipped s is h. (whole.opens p skipped s is h.0, b.opens s.link p (epoch_after skipped s) s.filter.volume s.filter.handles s.filter.handle_count s.filter.waiting.waits s.filter.waiting.wait_count (next_epoch s.filter.volume.epoch skipped) h.1);
 }
+
+pub whole_beside : (F : Fact) → BesideRuns F → (P : State → Type 0) → Whole P → Whole (λ s. P s × HoldsIn F s)
+whole_beside F b P whole =
+    whole_knowing Whatever F (record { knowing = knowing F b.beside; removes = λ l tokens item x sound idle leaf h. b.removes l tokens item x sound idle h; crashes = b.crashes; opens = b.opens }) P (λ s h fair. tt) whole

@@ -26,7 +26,7 @@ use Rattle.cf_model.specs.Store.{bytes_of}
 use Rattle.cf_model.specs.Trees.{Keeps, Ret, Tree, bind}
 use Rattle.cf_model.proofs.TreeLaws.{keeps_bind}
 use Rattle.cf_model_laws.specs.GivenOnce.{WasGiven}
-use Rattle.cf_model_laws.specs.Invariant.{All, Carries, IsGivenIn, IsRight, IsSound, Names, OfRequest}
+use Rattle.cf_model_laws.specs.Invariant.{All, Carries, IsGivenIn, IsRight, IsSound, Names}
 use Rattle.cf_model_laws.specs.Premises.{IsFair}
 use Rattle.cf_model_laws.proofs.FetchingGuarded.{consents_op_keeps, in_filter_at}
 use Rattle.cf_model_laws.proofs.FitAsks.{LiveAt}

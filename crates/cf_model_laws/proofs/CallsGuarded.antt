@@ -17,18 +17,38 @@ use Rattle.cf_model.specs.Requests.{Nothing}
 use Rattle.cf_model.specs.Books.{with_access, Book, with_tombstone}
 use Rattle.cf_model.specs.Changes.{change_with, changes}
 use Rattle.cf_model.specs.Images.{runs_of}
-use Rattle.cf_model.specs.Items.{Item}
+use Rattle.cf_model.specs.Items.{Item, item_of}
+use Rattle.std.specs.Prelude.{Some}
+use Rattle.std.proofs.Common.{inl}
+use Rattle.cf_model_laws.specs.Premises.{IsFair}
 use Rattle.cf_model.specs.LookUp.{Place}
 use Rattle.cf_model.specs.Operations.{done}
 use Rattle.cf_model.specs.Points.{commit}
-use Rattle.cf_model.specs.Settling.{accessed}
 use Rattle.cf_model.specs.State.{Filter, in_volume, is_replay, Link}
-use Rattle.cf_model.specs.Waits.{on_ok}
+use Rattle.cf_model.specs.Waits.{on_handle, on_ok, on_open, opened_by}
+use Rattle.std.specs.Prelude.{Option, None}
+use Rattle.cf_model.specs.State.{Open}
+use Rattle.std.specs.Prelude.{Result, Ok, Err, nat_lt, ◌==◌}
+use Rattle.std.proofs.Common.{inr, sym}
+use Rattle.cf_base.specs.declared.codes.Code.{Code}
+use Rattle.cf_base.specs.declared.codes.Code.TheVariants as code
+use Rattle.cf_base.specs.declared.limits.TheConstants.{MOST_PATH_NAMES}
+use Rattle.cf_model.specs.Arrows.{unit}
+use Rattle.cf_model.specs.Changes.{change, same_book}
+use Rattle.cf_model.specs.Calls.{test_of}
+use Rattle.cf_model.specs.Feeds.{is_under}
+use Rattle.cf_model.specs.LookUp.{child_of, children, depth_at, find_below, find_place, height_at, move_refused}
+use Rattle.cf_model.specs.Words.{first_of, is_empty, says}
+use Rattle.cf_model_laws.specs.Fitting.{Fits, IsLeaf}
+use Rattle.cf_model_laws.specs.Seats.{IsOpenOn, IsSeated}
+use Rattle.cf_model_laws.proofs.FoundItems.{IsChild, found_child, place_seated}
+use Rattle.cf_model_laws.proofs.RightItems.{no_way}
+use Rattle.cf_model_laws.proofs.SoundSettles.{each_found}
 use Rattle.cf_model_laws.proofs.OperationsGuarded as operations_keep
 use Rattle.cf_model_laws.proofs.WaitsGuarded as waits_keep
-use Rattle.cf_model.specs.Calls.{below_at, blocks_now, buried, changing, class_flags, count_now, delete, delete_item, delete_now, delete_tests, df, flush, has_size, info, info_item, info_of, move_of, next_handle, number_at, number_next, number_of, open_file, open_item, open_tests, opened_as, pin_item, pins_at, place_at, policy_tests, ranges, ranges_item, rename, rename_item, rename_tests, rename_to, room_tests, set_pin, set_policy, set_size, show_count, show_number, size_item, size_now, size_tests, used, used_item, used_now, with_handle, with_policy, write, write_item, write_now, write_tests, tombstone_for, stands_there}
+use Rattle.cf_model.specs.Calls.{blocks_now, buried, changing, class_flags, count_now, delete, delete_item, delete_now, delete_tests, df, flush, has_size, info, info_item, info_of, move_of, next_handle, number_at, number_next, number_of, open_file, open_item, open_tests, opened_as, pin_item, pins_at, policy_tests, ranges, ranges_item, rename, rename_item, rename_tests, rename_to, room_tests, set_pin, set_policy, set_size, show_count, show_number, size_item, size_now, size_tests, used, used_item, used_now, with_policy, write, write_item, write_now, write_tests, tombstone_for, stands_there}
 use Rattle.cf_model_laws.proofs.Guarded.{GuardedFilter, KeepsCursor}
-use Rattle.cf_model.proofs.ArrowLaws.{keeps_noted, keeps_reading, keeps_ret, keeps_then}
+use Rattle.cf_model.proofs.ArrowLaws.{keeps_reading, keeps_ret, keeps_then}
 use Rattle.std.proofs.Common.{◌≡◌, ◌+◌, ◌∷◌, refl, List, [], ℕ, Bool, true, false}
 use Rattle.cf_base.specs.Policies.{is_allowed, is_always_full, is_partial}
 use Rattle.cf_base.specs.declared.policies.Mode.TheVariants as mode
@@ -46,14 +66,11 @@ use Rattle.cf_model_laws.proofs.RightItems.{no_way}
 use Rattle.cf_model_laws.proofs.SoundChanges.{KeepsEntries}
 use Rattle.cf_model_laws.proofs.SoundSettles.{not_false, not_true, right_true}
 
-pub opened_as_keeps : (l : Link) (tokens : ℕ) (P : Filter → Type 0) → GuardedFilter l tokens P → (x1 : ItemId) → (x2 : Handle) → Preserves P (opened_as x1 x2)
-opened_as_keeps l tokens P closed item h = keeps_then P (noted (with_handle item)) (ret (shown.Opened h)) (keeps_noted P (with_handle item) (closed.keeps_with_handle item)) (keeps_ret P (shown.Opened h))
-
-pub open_item_keeps : (l : Link) (tokens : ℕ) (P : Filter → Type 0) → GuardedFilter l tokens P → (x1 : Item) → Preserves P (open_item x1)
-open_item_keeps l tokens P closed i = operations_keep.checked_keeps l tokens P closed open_tests (reading next_handle (opened_as i.id)) (keeps_reading P next_handle (opened_as i.id) (opened_as_keeps l tokens P closed i.id))
+open_item_at : (l : Link) (tokens : ℕ) (P : Filter → Type 0) → GuardedFilter l tokens P → (i : Item) (x : Filter) → (IsFair l → (item_of x.volume.items i.id ≡ Some i) × (i.directory ≡ false)) → P x → Keeps P (open_item i x)
+open_item_at l tokens P closed i x there h = checked_at P open_tests (reading next_handle (opened_as i.id)) x h (λ e. closed.keeps_with_handle i.id x (λ fair. inl (i, (there fair).0, (there fair).1)) h)
 
 pub open_file_keeps : (l : Link) (tokens : ℕ) (P : Filter → Type 0) → GuardedFilter l tokens P → (x1 : List ℕ) → Preserves P (open_file x1)
-open_file_keeps l tokens P closed path = waits_keep.on_file_keeps l tokens P closed path open_item (open_item_keeps l tokens P closed)
+open_file_keeps l tokens P closed path = waits_keep.on_file_at l tokens P closed path open_item (open_item_at l tokens P closed)
 
 pub changing_keeps : (l : Link) (tokens : ℕ) (P : Filter → Type 0) → GuardedFilter l tokens P → (cs : List Change) → All IsPlain cs → (answer : Arrow Filter Shown) → Preserves P answer → Preserves P (changing cs answer)
 changing_keeps l tokens P closed cs plain answer answer_keeps = operations_keep.checked_keeps l tokens P closed (room_tests cs) (then_do (changes cs) answer) (keeps_then P (changes cs) answer (plains_keep l tokens P closed cs plain) answer_keeps)
@@ -68,24 +85,31 @@ number_of_keeps l tokens P closed item = keeps_reading P (number_at item) show_n
 access_same : (item : ItemId) → KeepsEntries (with_access item)
 access_same item b = refl
 
-pub write_item_keeps : (l : Link) (tokens : ℕ) (P : Filter → Type 0) → GuardedFilter l tokens P → (at : ℕ) (bytes : List ℕ) (item : ItemId) → Preserves P (write_item at bytes item)
-write_item_keeps l tokens P closed at [] item = operations_keep.done_keeps l tokens P closed
-write_item_keeps l tokens P closed at (b ∷ bs) item =
-    operations_keep.checked_keeps l tokens P closed (write_tests (at + length (b ∷ bs)) (change.Write item at (b ∷ bs) ∷ [])) (write_now item (change.Write item at (b ∷ bs)))
-    (record { keeps = λ x h. closed.touch (with_access item) (change.Write item at (b ∷ bs)) item Nothing x tt (access_same item) (λ fair. ((λ z. absurd z), (λ k. k), λ b. refl)) (λ id k. k) (λ fair. tt) h })
+-- on the file of a handle, which is open
+on_handle_at : (P : Filter → Type 0) → (h : Handle) (f : ItemId → Arrow Filter Shown) → ((item : ItemId) (x : Filter) → IsOpenOn x item → P x → Keeps P (f item x)) → Preserves P (on_handle h f)
+on_handle_at P h f k = record { keeps = λ x j. by x j (opened_by h x) refl } where
+  by : (x : Filter) → P x → (o : Option Open) → opened_by h x ≡ o → Keeps P (on_open f o x)
+  by x j None e = j
+  by x j (Some o) e = k o.item x (h, o, e, refl) j
+
+write_item_at : (l : Link) (tokens : ℕ) (P : Filter → Type 0) → GuardedFilter l tokens P → (at : ℕ) (bytes : List ℕ) (item : ItemId) (x : Filter) → IsOpenOn x item → P x → Keeps P (write_item at bytes item x)
+write_item_at l tokens P closed at [] item x used h = h
+write_item_at l tokens P closed at (b ∷ bs) item x used h =
+    checked_at P (write_tests (at + length (b ∷ bs)) (change.Write item at (b ∷ bs) ∷ [])) (write_now item (change.Write item at (b ∷ bs))) x h
+    (λ e. closed.touch (with_access item) (change.Write item at (b ∷ bs)) item Nothing x tt (access_same item) (λ fair. ((λ z. absurd z), (λ k. k), λ b. refl)) (λ id k. k) (λ fair. used) h)
 
 pub write_keeps : (l : Link) (tokens : ℕ) (P : Filter → Type 0) → GuardedFilter l tokens P → (x1 : Handle) → (x2 : ℕ) → (x3 : List ℕ) → Preserves P (write x1 x2 x3)
-write_keeps l tokens P closed h at bytes = waits_keep.on_handle_keeps l tokens P closed h (write_item at bytes) (write_item_keeps l tokens P closed at bytes)
+write_keeps l tokens P closed h at bytes = on_handle_at P h (write_item at bytes) (write_item_at l tokens P closed at bytes)
 
-pub size_now_keeps : (l : Link) (tokens : ℕ) (P : Filter → Type 0) → GuardedFilter l tokens P → (item : ItemId) (n : ℕ) (b : Bool) → Preserves P (size_now item n b)
-size_now_keeps l tokens P closed item n true = keeps_then P (noted (accessed item)) done (keeps_noted P (accessed item) (closed.keeps_accessed item)) (operations_keep.done_keeps l tokens P closed)
-size_now_keeps l tokens P closed item n false = record { keeps = λ x h. closed.touch (with_access item) (change.Size item n) item Nothing x tt (access_same item) (λ fair. ((λ z. absurd z), (λ k. k), λ b. refl)) (λ id k. k) (λ fair. tt) h }
+size_now_at : (l : Link) (tokens : ℕ) (P : Filter → Type 0) → GuardedFilter l tokens P → (item : ItemId) (n : ℕ) (b : Bool) (x : Filter) → IsOpenOn x item → P x → Keeps P (size_now item n b x)
+size_now_at l tokens P closed item n true x used h = closed.keeps_accessed item x h
+size_now_at l tokens P closed item n false x used h = closed.touch (with_access item) (change.Size item n) item Nothing x tt (access_same item) (λ fair. ((λ z. absurd z), (λ k. k), λ b. refl)) (λ id k. k) (λ fair. used) h
 
-pub size_item_keeps : (l : Link) (tokens : ℕ) (P : Filter → Type 0) → GuardedFilter l tokens P → (x1 : ℕ) → (x2 : ItemId) → Preserves P (size_item x1 x2)
-size_item_keeps l tokens P closed n item = operations_keep.checked_keeps l tokens P closed (size_tests item n) (reading (has_size item n) (size_now item n)) (keeps_reading P (has_size item n) (size_now item n) (size_now_keeps l tokens P closed item n))
+size_item_at : (l : Link) (tokens : ℕ) (P : Filter → Type 0) → GuardedFilter l tokens P → (n : ℕ) (item : ItemId) (x : Filter) → IsOpenOn x item → P x → Keeps P (size_item n item x)
+size_item_at l tokens P closed n item x used h = checked_at P (size_tests item n) (reading (has_size item n) (size_now item n)) x h (λ e. size_now_at l tokens P closed item n (has_size item n x) x used h)
 
 pub set_size_keeps : (l : Link) (tokens : ℕ) (P : Filter → Type 0) → GuardedFilter l tokens P → (x1 : Handle) → (x2 : ℕ) → Preserves P (set_size x1 x2)
-set_size_keeps l tokens P closed h n = waits_keep.on_handle_keeps l tokens P closed h (size_item n) (size_item_keeps l tokens P closed n)
+set_size_keeps l tokens P closed h n = on_handle_at P h (size_item n) (size_item_at l tokens P closed n)
 
 pub show_count_keeps : (l : Link) (tokens : ℕ) (P : Filter → Type 0) → GuardedFilter l tokens P → (x1 : ℕ) → Preserves P (show_count x1)
 show_count_keeps l tokens P closed n = keeps_ret P (shown.Count n)
@@ -115,35 +139,67 @@ buried_cursor true i n book = by (is_untargeted i) where
   by false = refl
 
 -- the removal that an application asks for
-abbrev pub Removing : (Filter → Type 0) → Type 0
-Removing P = (f : Book → Book) (item : ItemId) (x : Filter) → KeepsEntries f → ((b : Book) → (f b).seen ≡ b.seen) → KeepsCursor f → in_use item x ≡ false → P x → Keeps P (change_with f (change.Remove item) x)
+abbrev pub Removing : Link → (Filter → Type 0) → Type 0
+Removing l P = (f : Book → Book) (item : ItemId) (x : Filter) → KeepsEntries f → ((b : Book) → (f b).seen ≡ b.seen) → KeepsCursor f → in_use item x ≡ false → (IsFair l → IsLeaf x.volume.items item) → P x → Keeps P (change_with f (change.Remove item) x)
 
-delete_now_at : (P : Filter → Type 0) → Removing P → (m : Mode) (i : Item) (number : Usn) (x : Filter) → in_use i.id x ≡ false → P x → Keeps P (delete_now m i number x)
-delete_now_at P removes m i number x idle h = keeps_bind P (change_with (buried (is_replay m) i number) (change.Remove i.id) x) (λ _ t. ret (shown.Done) t) (removes (buried (is_replay m) i number) i.id x (buried_same (is_replay m) i number) (buried_seen (is_replay m) i number) (buried_cursor (is_replay m) i number) idle h) (λ a t j. j)
+delete_now_at : (l : Link) (P : Filter → Type 0) → Removing l P → (m : Mode) (i : Item) (number : Usn) (x : Filter) → in_use i.id x ≡ false → (IsFair l → IsLeaf x.volume.items i.id) → P x → Keeps P (delete_now m i number x)
+delete_now_at l P removes m i number x idle leaf h =
+    keeps_bind P (change_with (buried (is_replay m) i number) (change.Remove i.id) x) (λ _ t. ret (shown.Done) t)
+    (removes (buried (is_replay m) i number) i.id x (buried_same (is_replay m) i number) (buried_seen (is_replay m) i number) (buried_cursor (is_replay m) i number) idle leaf h) (λ a t j. j)
 
-delete_item_keeps : (P : Filter → Type 0) → Removing P → (m : Mode) (i : Item) → Preserves P (delete_item m i)
-delete_item_keeps P removes m i = record {
-  keeps = λ x h. checked_at P (delete_tests i) (reading number_next (delete_now m i)) x h
-      (λ e. delete_now_at P removes m i (number_next x) x (head_false (tail_of (tail_of (delete_tests i x))) (tail_none (tail_of (delete_tests i x)) (tail_none (delete_tests i x) e))) h);
-}
+none_below : {A : Type 0} (xs : List A) → not (is_empty xs) ≡ false → xs ≡ []
+none_below [] e = refl
+none_below (x ∷ xs) e = no_way (sym e)
 
-pub delete_keeps : (l : Link) (tokens : ℕ) (P : Filter → Type 0) → GuardedFilter l tokens P → Removing P → (m : Mode) (path : List ℕ) → Preserves P (delete m path)
-delete_keeps l tokens P closed removes m path = keeps_reading P (below_at path) (on_ok (delete_item m)) (waits_keep.on_ok_keeps l tokens P closed (delete_item m) (delete_item_keeps P removes m))
+delete_item_at : (l : Link) (tokens : ℕ) (P : Filter → Type 0) → GuardedFilter l tokens P → Removing l P → (m : Mode) (i : Item) (x : Filter) → (IsFair l → IsChild x.volume.items i) → P x → Keeps P (delete_item m i x)
+delete_item_at l tokens P closed removes m i x child h =
+    checked_at P (delete_tests i) (reading number_next (delete_now m i)) x h (λ e.
+    let rest = tail_none (delete_tests i x) e in
+    delete_now_at l P removes m i (number_next x) x (head_false (tail_of (tail_of (delete_tests i x))) (tail_none (tail_of (delete_tests i x)) rest))
+    (λ fair. (
+      each_found i.id (λ j. j.directory ≡ true → children x.volume.items j.id ≡ []) 0 x.volume.next_item.0 x.volume.items i (closed.sound x h fair).now.order (child fair).0
+          (λ d. none_below (children x.volume.items i.id) (head_false (tail_of (delete_tests i x)) rest)),
+      inr (i, (child fair).0, (child fair).1),
+    )) h)
 
-plain_moves : (i : Item) (p : Place) (b : Bool) → All IsPlain (when b (change.Move i.id p.parent.id p.name ∷ []))
-plain_moves i p true = (record { fits = λ r x. tt; free = λ id k. k }, tt)
-plain_moves i p false = tt
+pub delete_keeps : (l : Link) (tokens : ℕ) (P : Filter → Type 0) → GuardedFilter l tokens P → Removing l P → (m : Mode) (path : List ℕ) → Preserves P (delete m path)
+delete_keeps l tokens P closed removes m path = record { keeps = λ x h. by x h (find_below x.volume.items path) refl } where
+  by : (x : Filter) → P x → (o : Result Item Code) → find_below x.volume.items path ≡ o → Keeps P (on_ok (delete_item m) o x)
+  by x h (Err c) e = h
+  by x h (Ok i) e = delete_item_at l tokens P closed removes m i x (λ fair. found_child path i x.volume.next_item.0 x.volume.items (closed.sound x h fair).now.order e) h
 
-pub rename_to_keeps : (l : Link) (tokens : ℕ) (P : Filter → Type 0) → GuardedFilter l tokens P → (i : Item) (p : Place) → Preserves P (rename_to i p)
-rename_to_keeps l tokens P closed i p =
-    operations_keep.checked_keeps l tokens P closed (rename_tests i p) (changing (move_of i p) done)
-    (changing_keeps l tokens P closed (move_of i p) (plain_moves i p (not (stands_there i p))) done (operations_keep.done_keeps l tokens P closed))
+-- a move to a place, which was tested
+no_test : (o : Option Code) → first_of (test_of o) ≡ None → o ≡ None
+no_test None e = refl
+no_test (Some c) e = e
 
-pub rename_item_keeps : (l : Link) (tokens : ℕ) (P : Filter → Type 0) → GuardedFilter l tokens P → (x1 : List ℕ) → (x2 : Item) → Preserves P (rename_item x1 x2)
-rename_item_keeps l tokens P closed to i = keeps_reading P (place_at to) (on_ok (rename_to i)) (waits_keep.on_ok_keeps l tokens P closed (rename_to i) (rename_to_keeps l tokens P closed i))
+move_at : (l : Link) (tokens : ℕ) (P : Filter → Type 0) → GuardedFilter l tokens P → (i : Item) (p : Place) (b : Bool) (x : Filter) → (IsFair l → Fits l.remote x (change.Move i.id p.parent.id p.name)) → P x
+    → Keeps P (changes (when b (change.Move i.id p.parent.id p.name ∷ [])) x)
+move_at l tokens P closed i p false x fit h = h
+move_at l tokens P closed i p true x fit h =
+    keeps_bind P (change (change.Move i.id p.parent.id p.name) x) (λ _ t. ret unit t) (closed.change same_book (change.Move i.id p.parent.id p.name) x (λ b. refl) (λ fair. ((λ z b. refl), (λ k. k), λ b. refl)) (λ id k. k) fit h) (λ a t j. j)
+
+rename_to_at : (l : Link) (tokens : ℕ) (P : Filter → Type 0) → GuardedFilter l tokens P → (i : Item) (p : Place) (x : Filter) → (IsFair l → IsChild x.volume.items i) → (IsFair l → IsSeated x.volume.items p.parent.id true) → P x → Keeps P (rename_to i p x)
+rename_to_at l tokens P closed i p x child seat h = checked_at P (rename_tests i p) (changing (move_of i p) done) x h (λ e.
+    let refused = (is_under x.volume.items p.parent.id i.id, code.IntoItself)
+    ∷ (nat_lt MOST_PATH_NAMES (depth_at x.volume.items p.parent.id + 1 + height_at x.volume.items i.id), code.TooDeep)
+    ∷ (says (λ j. not (j.id.0 == i.id.0)) (child_of x.volume.items p.parent.id p.name), code.Exists) ∷ [] in
+    checked_at P (room_tests (move_of i p)) (then_do (changes (move_of i p)) done) x h (λ q.
+    keeps_bind P (changes (move_of i p) x) (λ _ t. done t)
+    (move_at l tokens P closed i p (not (stands_there i p)) x
+    (λ fair. inr (seat fair, head_false refused (no_test (move_refused x.volume.items i.id p.parent.id p.name) e), inr (i, (child fair).0, (child fair).1))) h) (λ a t j. j)))
+
+rename_item_at : (l : Link) (tokens : ℕ) (P : Filter → Type 0) → GuardedFilter l tokens P → (to : List ℕ) (i : Item) (x : Filter) → (IsFair l → IsChild x.volume.items i) → P x → Keeps P (rename_item to i x)
+rename_item_at l tokens P closed to i x child h = by (find_place x.volume.items to) refl where
+  by : (o : Result Place Code) → find_place x.volume.items to ≡ o → Keeps P (on_ok (rename_to i) o x)
+  by (Err c) e = h
+  by (Ok p) e = rename_to_at l tokens P closed i p x child (λ fair. place_seated to p x.volume.next_item.0 x.volume.items (closed.sound x h fair).now.order e) h
 
 pub rename_keeps : (l : Link) (tokens : ℕ) (P : Filter → Type 0) → GuardedFilter l tokens P → (x1 : List ℕ) → (x2 : List ℕ) → Preserves P (rename x1 x2)
-rename_keeps l tokens P closed from to = keeps_reading P (below_at from) (on_ok (rename_item to)) (waits_keep.on_ok_keeps l tokens P closed (rename_item to) (rename_item_keeps l tokens P closed to))
+rename_keeps l tokens P closed from to = record { keeps = λ x h. by x h (find_below x.volume.items from) refl } where
+  by : (x : Filter) → P x → (o : Result Item Code) → find_below x.volume.items from ≡ o → Keeps P (on_ok (rename_item to) o x)
+  by x h (Err c) e = h
+  by x h (Ok i) e = rename_item_at l tokens P closed to i x (λ fair. found_child from i x.volume.next_item.0 x.volume.items (closed.sound x h fair).now.order e) h
 
 plain_pin : (id : ItemId) (p : Pin) (b : Bool) → All IsPlain (when b (change.SetPin id p ∷ []))
 plain_pin id p true = (record { fits = λ r x. tt; free = λ id k. k }, tt)

@@ -23,10 +23,15 @@ use Rattle.cf_model_laws.specs.Premises.{IsFair}
 use Rattle.cf_base.specs.declared.codes.Code.TheVariants as code
 use Rattle.cf_model_laws.proofs.FoundItems.{found_there}
 use Rattle.cf_model_laws.proofs.Plainly.{checked_at}
-use Rattle.cf_model_laws.proofs.SoundSettles.{each_found}
+use Rattle.cf_model_laws.proofs.SoundSettles.{each_found, or_right}
+use Rattle.std.proofs.Common.{◌+◌, [], ◌∷◌, zero, suc, inr}
+use Rattle.std.specs.Prelude.{drop, is_some, take, ◌||◌}
+use Rattle.std.specs.List.{list_any}
+use Rattle.cf_model_laws.specs.Seats.{NeedsWell}
+use Rattle.cf_model_laws.proofs.RightItems.{no_way}
 
-pub ask_consent_keeps : (l : Link) (tokens : ℕ) (P : Filter → Type 0) → GuardedFilter l tokens P → (x1 : Need) → Preserves P (ask_consent x1)
-ask_consent_keeps l tokens P closed n = operations_keep.checked_keeps l tokens P closed (ask_tests n) (reading (begun n) (begin_now n)) (closed.begins n)
+ask_consent_at : (l : Link) (tokens : ℕ) (P : Filter → Type 0) → GuardedFilter l tokens P → (n : Need) (x : Filter) → (IsFair l → NeedsWell n x) → P x → Keeps P (ask_consent n x)
+ask_consent_at l tokens P closed n x fit h = checked_at P (ask_tests n) (reading (begun n) (begin_now n)) x h (λ e. closed.begins n x fit h)
 
 pub emptied_keeps : (l : Link) (tokens : ℕ) (P : Filter → Type 0) → GuardedFilter l tokens P → Preserves P (emptied)
 emptied_keeps l tokens P closed = keeps_ret P (shown.Ended end.Emptied)
@@ -37,25 +42,48 @@ empty_at l tokens P closed i start len x fit h =
     checked_at P empty_tests (then_do (volume.change (change.Emptied i.id start len)) emptied) x h
     (λ e. keeps_bind P (volume.change (change.Emptied i.id start len) x) (λ _ t. emptied t) (closed.change same_book (change.Emptied i.id start len) x (λ b. refl) (λ fair. ((λ z b. refl), (λ k. k), λ b. refl)) (λ id k. k) fit h) (λ u t j. j))
 
-provided_at : (l : Link) (tokens : ℕ) (P : Filter → Type 0) → GuardedFilter l tokens P → (i : Item) (start len : ℕ) (b : Bool) (x : Filter) → (IsFair l → Each i.id (λ i. i.in_sync ≡ true) x.volume.items) → P x → Keeps P (with_provider i start len b x)
-provided_at l tokens P closed i start len true x fit h = (ask_consent_keeps l tokens P closed (consent_need i start len)).keeps x h
-provided_at l tokens P closed i start len false x fit h = empty_at l tokens P closed i start len x fit h
-
-range_at : (l : Link) (tokens : ℕ) (P : Filter → Type 0) → GuardedFilter l tokens P → (i : Item) (start len : ℕ) (b : Bool) (x : Filter) → (IsFair l → Each i.id (λ i. i.in_sync ≡ true) x.volume.items) → P x → Keeps P (choose b (reading is_connected (with_provider i start len)) emptied x)
-range_at l tokens P closed i start len true x fit h = provided_at l tokens P closed i start len x.connected x fit h
-range_at l tokens P closed i start len false x fit h = h
-
-verdict_at_keeps : (l : Link) (tokens : ℕ) (P : Filter → Type 0) → GuardedFilter l tokens P → (i : Item) (start len : ℕ) (refusal : Option Code) (x : Filter) → (refusal ≡ None → IsFair l → Each i.id (λ i. i.in_sync ≡ true) x.volume.items) → P x → Keeps P (after_verdict i start len refusal x)
-verdict_at_keeps l tokens P closed i start len (Some c) x fit h = h
-verdict_at_keeps l tokens P closed i start len None x fit h = range_at l tokens P closed i start (min len (size_of i - start)) (has_bytes i start (min len (size_of i - start))) x (fit refl) h
-
 -- an item that is found under its id
 abbrev pub IsThere : Item → Filter → Type 0
 IsThere i x = item_of x.volume.items i.id ≡ Some i
 
+-- a byte of a part is one of the whole
+
+any_drop : (n : ℕ) (hs : List (Option ℕ)) → list_any is_some (drop n hs) ≡ true → list_any is_some hs ≡ true
+any_drop zero hs h = h
+any_drop (suc n) [] h = h
+any_drop (suc n) (b ∷ bs) h = or_right (is_some b) (list_any is_some bs) (any_drop n bs h)
+
+any_take : (n : ℕ) (hs : List (Option ℕ)) → list_any is_some (take n hs) ≡ true → list_any is_some hs ≡ true
+any_take zero hs h = no_way h
+any_take (suc n) [] h = h
+any_take (suc n) (b ∷ bs) h = by (is_some b) (any_take n bs) h where
+  by : (c : Bool) → (list_any is_some (take n bs) ≡ true → list_any is_some bs ≡ true) → (c || list_any is_some (take n bs)) ≡ true → (c || list_any is_some bs) ≡ true
+  by true k e = refl
+  by false k e = k e
+
+-- consent is asked for an item of which a byte is here
+consent_well : (i : Item) (start len : ℕ) (x : Filter) → IsThere i x → has_bytes i start len ≡ true → NeedsWell (consent_need i start len) x
+consent_well i start len x there e = record { on = inr (refl, inr (i, there, any_drop start i.held (any_take (start + len - start) (drop start i.held) e))); alone = λ z. refl }
+
+provided_at : (l : Link) (tokens : ℕ) (P : Filter → Type 0) → GuardedFilter l tokens P → (i : Item) (start len : ℕ) (b : Bool) (x : Filter) → (IsFair l → NeedsWell (consent_need i start len) x)
+    → (IsFair l → Each i.id (λ i. i.in_sync ≡ true) x.volume.items) → P x → Keeps P (with_provider i start len b x)
+provided_at l tokens P closed i start len true x well fit h = ask_consent_at l tokens P closed (consent_need i start len) x well h
+provided_at l tokens P closed i start len false x well fit h = empty_at l tokens P closed i start len x fit h
+
+range_at : (l : Link) (tokens : ℕ) (P : Filter → Type 0) → GuardedFilter l tokens P → (i : Item) (start len : ℕ) (b : Bool) (x : Filter) → (b ≡ true → IsFair l → NeedsWell (consent_need i start len) x)
+    → (IsFair l → Each i.id (λ i. i.in_sync ≡ true) x.volume.items) → P x → Keeps P (choose b (reading is_connected (with_provider i start len)) emptied x)
+range_at l tokens P closed i start len true x well fit h = provided_at l tokens P closed i start len x.connected x (well refl) fit h
+range_at l tokens P closed i start len false x well fit h = h
+
+verdict_at_keeps : (l : Link) (tokens : ℕ) (P : Filter → Type 0) → GuardedFilter l tokens P → (i : Item) (start len : ℕ) (refusal : Option Code) (x : Filter) → (IsFair l → IsThere i x)
+    → (refusal ≡ None → IsFair l → Each i.id (λ i. i.in_sync ≡ true) x.volume.items) → P x → Keeps P (after_verdict i start len refusal x)
+verdict_at_keeps l tokens P closed i start len (Some c) x there fit h = h
+verdict_at_keeps l tokens P closed i start len None x there fit h =
+    range_at l tokens P closed i start (min len (size_of i - start)) (has_bytes i start (min len (size_of i - start))) x (λ e fair. consent_well i start (min len (size_of i - start)) x (there fair) e) (fit refl) h
+
 pub dehydrate_item_at : (l : Link) (tokens : ℕ) (P : Filter → Type 0) → GuardedFilter l tokens P → (i : Item) (start len : ℕ) (x : Filter) → (IsFair l → IsThere i x) → P x → Keeps P (dehydrate_item i start len x)
 dehydrate_item_at l tokens P closed i start len x there h =
-    verdict_at_keeps l tokens P closed i start len (verdict_at i start len x) x
+    verdict_at_keeps l tokens P closed i start len (verdict_at i start len x) x there
     (λ e fair. each_found i.id (λ i. i.in_sync ≡ true) 0 x.volume.next_item.0 x.volume.items i (closed.sound x h fair).now.order (there fair) (operations_keep.verdict_in_sync x.policy i start len (in_use i.id x) e)) h
 
 pub dehydrate_range_at : (l : Link) (tokens : ℕ) (P : Filter → Type 0) → GuardedFilter l tokens P → (range : Option (ℕ × ℕ)) (i : Item) (x : Filter) → (IsFair l → IsThere i x) → P x → Keeps P (dehydrate_range range i x)

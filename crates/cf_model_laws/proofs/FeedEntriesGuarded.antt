@@ -52,7 +52,7 @@ use Rattle.cf_model_laws.proofs.SoundChanges.{same_entries}
 use Rattle.cf_model_laws.proofs.SoundFilters.{change_leads}
 use Rattle.cf_model_laws.proofs.SoundSettles.{each_found, found_below, left_true, not_true, right_true, same_item}
 use Rattle.cf_model_laws.proofs.AimedTargets.{HasTarget, converted_target, each_copied, unaimed_kept, unaimed_none}
-use Rattle.cf_model_laws.proofs.MoveChanges.{IsMove, UnaimedAt, is_move, unaimed_frame}
+use Rattle.cf_model_laws.proofs.MoveChanges.{IsMove, SeatAt, UnaimedAt, is_move, seat_frame, unaimed_frame}
 
 -- What a feed leaves as it is: the link, the waits and asks, the handles, and the uploads on their way.
 pub record Feeding (l : Link) (w : Filter) (es : List QueueEntry) (s : State) : Type 0 where
@@ -96,6 +96,7 @@ pub record IsTold (l : Link) (e : Entry) : Type 0 where
   pub has : IsFair l → HasEntry l.remote e
   pub dir : e.dir ≡ true → e.version.0 ≡ 0
   pub low : e.rid.0 ≡ 1 → ⊥
+  pub apart : e.rid.0 ≡ e.parent.0 → ⊥
 
 pub fair_now : (l : Link) (w : Filter) (es : List QueueEntry) (s : State) → Feeding l w es s → IsFair s.link → IsFair l
 fair_now l w es s h fair = subst IsFair h.link fair
@@ -173,10 +174,10 @@ vacant_item s i e = by i.directory e where
   by true e = (λ z. no_way_back z, λ z. none_there (children (items_now s) i.id) e)
   by false e = (λ z. none_there i.writes e, λ z. no_way z)
 
-pub gone_at : (l : Link) (w : Filter) (es : List QueueEntry) (P : State → Type 0) → Feeds l w es P → (i : Item) (s : State) → P s → (IsFair s.link → item_of (items_now s) i.id ≡ Some i) → Keeps P (gone i s)
-gone_at l w es P feeds i s h there = by (in_use s i.id) refl where
+pub gone_at : (l : Link) (w : Filter) (es : List QueueEntry) (P : State → Type 0) → Feeds l w es P → (i : Item) (s : State) → (i.id.0 ≡ 1 → ⊥) → P s → (IsFair s.link → item_of (items_now s) i.id ≡ Some i) → Keeps P (gone i s)
+gone_at l w es P feeds i s below h there = by (in_use s i.id) refl where
   steps : (b : Bool) → is_removable s i ≡ b → in_use s i.id ≡ false → Keeps P (remove_or_untarget i b s)
-  steps true q idle = try_change_at Whichever P feeds.steps (change.Remove i.id) s tt (λ id k. k) (λ fair. (idle, each_found i.id (IsVacant (items_now s)) 0 s.filter.volume.next_item.0 (items_now s) i (feeds.steps.sound s h fair).now.order (there fair) (vacant_item s i q))) h
+  steps true q idle = try_change_at Whichever P feeds.steps (change.Remove i.id) s tt (λ id k. k) (λ fair. (idle, each_found i.id (IsVacant (items_now s)) 0 s.filter.volume.next_item.0 (items_now s) i (feeds.steps.sound s h fair).now.order (there fair) (vacant_item s i q), inl below)) h
   steps false q idle = untarget_at l w es P feeds i s h there
 
   by : (b : Bool) → in_use s i.id ≡ b → Keeps P (gone_unless i b s)
@@ -266,40 +267,41 @@ made_stands e p s t led order some parent =
       both ((target_at (items_now s ++ new ∷ []) p.id).0 == e.parent.0) (same e.name e.name) (eq-eqb (target_at (items_now s ++ new ∷ []) p.id).0 e.parent.0 (target_more (items_now s) new p.id e.parent some parent)) (same_self e.name),
     )
 
-make_after_at : (l : Link) (w : Filter) (es : List QueueEntry) (P : State → Type 0) → Feeds l w es P → (e : Entry) (p : Item) (s : State) → IsTold l e → nat_lt 0 e.parent.0 ≡ true → ParentAt p.id e.parent s → UnaimedAt e.rid s → P s → Keeps P (make_after e p s)
-make_after_at l w es P feeds e p s told some parent new h =
+make_after_at : (l : Link) (w : Filter) (es : List QueueEntry) (P : State → Type 0) → Feeds l w es P → (e : Entry) (p : Item) (s : State) → IsTold l e → nat_lt 0 e.parent.0 ≡ true → ParentAt p.id e.parent s → UnaimedAt e.rid s → SeatAt p.id s → P s → Keeps P (make_after e p s)
+make_after_at l w es P feeds e p s told some parent new seat h =
     and_then_at Whichever P feeds.steps (make_of s e p) (and_then (try_seen (seen_entry s.filter.volume.next_item e)) (try_mark_now s.filter.volume.next_item)) s tt (λ id k. k)
     (λ fair. let has : HasEntry s.link.remote e = subst (λ (k : Link). HasEntry k.remote e) (sym (feeds.fed s h).link) (told.has (fair_now l w es s (feeds.fed s h) fair)) in
     let m = make_fits s.link.remote s.filter.policy e fair.1 has told.low in
-    ((refl, m.0, m.1), (none_made l w es P feeds (entry_identity e) s h fair, subst (λ (x : Rid). IsUnaimed (items_now s) x) (sym (entry_target_in e (entry_small s.link.remote e fair.1 has))) (new fair)))) h
+    ((refl, m.0, m.1), (none_made l w es P feeds (entry_identity e) s h fair, subst (λ (x : Rid). IsUnaimed (items_now s) x) (sym (entry_target_in e (entry_small s.link.remote e fair.1 has))) (new fair)), inl (seat fair))) h
     (λ t j led. seen_and_marked l w es P feeds (seen_entry s.filter.volume.next_item e) t
     (λ fair item m. sees_still (seen_entry s.filter.volume.next_item e) (items_now t) (book_now t) item
     (λ own. subst (λ (x : ItemId). StandsAtPath (items_now t) x (seen_entry s.filter.volume.next_item e)) (same_item s.filter.volume.next_item item (eqb-true s.filter.volume.next_item.0 item.0 own)) (stands t led (subst IsFair led.link fair)))) j) where
       stands : (t : State) → Led (make_of s e p) s t → IsFair s.link → StandsAtPath (items_now t) s.filter.volume.next_item (seen_entry s.filter.volume.next_item e)
       stands t led fair = made_stands e p s t led (feeds.steps.sound s h fair).now.order some (parent fair)
 
-make_entry_at : (l : Link) (w : Filter) (es : List QueueEntry) (P : State → Type 0) → Feeds l w es P → (e : Entry) (p : Item) (s : State) → IsTold l e → nat_lt 0 e.parent.0 ≡ true → ParentAt p.id e.parent s → UnaimedAt e.rid s → P s → Keeps P (make_entry e p s)
-make_entry_at l w es P feeds e p s told some parent new h =
-    keeps_into P New (λ t j. j.0.0) (try_clear_name p.id e.name no_item s) (when_ok false (make_after e p))
-    ((try_clear_name_keeps IsMove New (framed IsMove (λ t. P t × ParentAt p.id e.parent t) (UnaimedAt e.rid) (framed IsMove P (ParentAt p.id e.parent) (fewer_changes P IsMove feeds.steps) (parent_frame p.id e.parent)) (unaimed_frame e.rid)) (λ a b c. tt) p.id e.name no_item).keeps s ((h, parent), new))
+make_entry_at : (l : Link) (w : Filter) (es : List QueueEntry) (P : State → Type 0) → Feeds l w es P → (e : Entry) (p : Item) (s : State) → IsTold l e → nat_lt 0 e.parent.0 ≡ true → ParentAt p.id e.parent s → UnaimedAt e.rid s → SeatAt p.id s → P s → Keeps P (make_entry e p s)
+make_entry_at l w es P feeds e p s told some parent new seat h =
+    keeps_into P New (λ t j. j.0.0.0) (try_clear_name p.id e.name no_item s) (when_ok false (make_after e p))
+    ((try_clear_name_keeps IsMove New (framed IsMove (λ t. (P t × ParentAt p.id e.parent t) × UnaimedAt e.rid t) (SeatAt p.id) (framed IsMove (λ t. P t × ParentAt p.id e.parent t) (UnaimedAt e.rid) (framed IsMove P (ParentAt p.id e.parent) (fewer_changes P IsMove feeds.steps) (parent_frame p.id e.parent)) (unaimed_frame e.rid))
+    (seat_frame p.id)) (λ a b c. tt) p.id e.name no_item).keeps s (((h, parent), new), seat))
     (λ done t j. by done t j) where
       New : State → Type 0
-      New t = (P t × ParentAt p.id e.parent t) × UnaimedAt e.rid t
+      New t = ((P t × ParentAt p.id e.parent t) × UnaimedAt e.rid t) × SeatAt p.id t
 
       by : (done : Bool) (t : State) → New t → Keeps P (when_ok false (make_after e p) done t)
-      by true t j = make_after_at l w es P feeds e p t told some j.0.1 j.1 j.0.0
-      by false t j = j.0.0
+      by true t j = make_after_at l w es P feeds e p t told some j.0.0.1 j.0.1 j.1 j.0.0.0
+      by false t j = j.0.0.0
 
-pub new_at : (l : Link) (w : Filter) (es : List QueueEntry) (P : State → Type 0) → Feeds l w es P → (e : Entry) (p : Item) (s : State) → IsTold l e → nat_lt 0 e.parent.0 ≡ true → ParentAt p.id e.parent s → UnaimedAt e.rid s → P s → Keeps P (new_entry e p s)
-new_at l w es P feeds e p s told some parent new h = turn_at P (λ t. new_over e p (child_of (items_now t) p.id e.name) t) s (by (child_of (items_now s) p.id e.name) refl) where
+pub new_at : (l : Link) (w : Filter) (es : List QueueEntry) (P : State → Type 0) → Feeds l w es P → (e : Entry) (p : Item) (s : State) → IsTold l e → nat_lt 0 e.parent.0 ≡ true → ParentAt p.id e.parent s → UnaimedAt e.rid s → SeatAt p.id s → P s → Keeps P (new_entry e p s)
+new_at l w es P feeds e p s told some parent new seat h = turn_at P (λ t. new_over e p (child_of (items_now t) p.id e.name) t) s (by (child_of (items_now s) p.id e.name) refl) where
   choice : (i : Item) → child_of (items_now s) p.id e.name ≡ Some i → (b : Bool) → is_adoptable e i ≡ b → Keeps P (choose b (adopt e i) (make_entry e p) s)
   choice i f true q =
       let a : (e.dir && i.directory) ≡ true = left_true (e.dir && i.directory) (is_untargeted i) q in
       adopt_at l w es P feeds e i s told (left_true e.dir i.directory a) (right_true e.dir i.directory a) (eqb-true (target_of i).0 0 (right_true (e.dir && i.directory) (is_untargeted i) q)) new h (λ fair. found_again (is_child_named p.id e.name) 0 s.filter.volume.next_item.0 (items_now s) i (feeds.steps.sound s h fair).now.order f)
-  choice i f false q = make_entry_at l w es P feeds e p s told some parent new h
+  choice i f false q = make_entry_at l w es P feeds e p s told some parent new seat h
 
   by : (o : Option Item) → child_of (items_now s) p.id e.name ≡ o → Keeps P (new_over e p o s)
-  by None f = make_entry_at l w es P feeds e p s told some parent new h
+  by None f = make_entry_at l w es P feeds e p s told some parent new seat h
   by (Some i) f = choice i f (is_adoptable e i) refl
 
 -- Changed
@@ -335,9 +337,9 @@ clean_writes [] e = refl
 clean_writes (w ∷ ws) e = no_way_back e
 
 -- the newer version takes the place of the file's bytes
-take_in : (l : Link) (w : Filter) (es : List QueueEntry) (P : State → Type 0) → Feeds l w es P → (e : Entry) (i : Item) → IsTold l e → e.dir ≡ false → (IsFair l → waits_on i.id w.waiting.waits ≡ false) → (IsFair l → is_used i.id w ≡ false) → ((s : State) → P s → FilesAt i.id s)
+take_in : (l : Link) (w : Filter) (es : List QueueEntry) (P : State → Type 0) → Feeds l w es P → (e : Entry) (i : Item) → IsTold l e → e.dir ≡ false → i.directory ≡ false → (IsFair l → waits_on i.id w.waiting.waits ≡ false) → (IsFair l → is_used i.id w ≡ false) → ((s : State) → P s → FilesAt i.id s)
     → (s : State) → P s → (IsFair s.link → Each i.id (HasTarget e.rid.0) (items_now s)) → (IsFair s.link → item_of (items_now s) i.id ≡ Some i) → Keeps P (and_then (only_if (is_dirty i) (copy_off i)) (try_change (change.Take i.id (entry_identity e) e.len)) s)
-take_in l w es P feeds e i told file free idle files s h aimed there = by (is_dirty i) refl where
+take_in l w es P feeds e i told file local free idle files s h aimed there = by (is_dirty i) refl where
   fits : (t : State) → P t → (IsFair t.link → Each i.id (HasTarget e.rid.0) (items_now t)) → (IsFair t.link → Each i.id (λ k. k.writes ≡ []) (items_now t) ⊎ IsCopied t.filter.volume.log i.id) → IsFair t.link → Fits t.link.remote t.filter (change.Take i.id (entry_identity e) e.len)
   fits t j stays clean fair =
       let fair0 : IsFair l = fair_now l w es t (feeds.fed t j) fair in
@@ -359,7 +361,8 @@ take_in l w es P feeds e i told file free idle files s h aimed there = by (is_di
 
   by : (b : Bool) → is_dirty i ≡ b → Keeps P (and_then (only_if b (copy_off i)) (try_change (change.Take i.id (entry_identity e) e.len)) s)
   by true q =
-      and_then_at Whichever P feeds.steps (change.Copy s.filter.volume.next_item i.id i.parent (conflict_name (items_now s) i.parent i.name)) (try_change (change.Take i.id (entry_identity e) e.len)) s tt (λ id k. k) (λ fair. refl) h
+      and_then_at Whichever P feeds.steps (change.Copy s.filter.volume.next_item i.id i.parent (conflict_name (items_now s) i.parent i.name)) (try_change (change.Take i.id (entry_identity e) e.len)) s tt (λ id k. k)
+      (λ fair. (refl, each_found i.id (λ j. (j.parent.0 ≡ i.parent.0) × (j.directory ≡ false)) 0 s.filter.volume.next_item.0 (items_now s) i (feeds.steps.sound s h fair).now.order (there fair) (refl, local))) h
       (λ t j led. try_change_at Whichever P feeds.steps (change.Take i.id (entry_identity e) e.len) t tt (λ id k. k)
       (fits t j
       (λ fair. let fair_s : IsFair s.link = subst IsFair led.link fair in
@@ -374,7 +377,7 @@ pub take_at : (l : Link) (w : Filter) (es : List QueueEntry) (P : State → Type
 take_at l w es P feeds e i s told free idle placed aimed there h =
     only_if_at P (is_newer i e) (and_then (only_if (is_dirty i) (copy_off i)) (try_change (change.Take i.id (entry_identity e) e.len))) s h
     (λ q. keeps_first P (FilesAt i.id) (and_then (only_if (is_dirty i) (copy_off i)) (try_change (change.Take i.id (entry_identity e) e.len)) s)
-    (take_in l w es (λ t. P t × FilesAt i.id t) (feeds_framed l w es P (FilesAt i.id) feeds (kinds_frame i.id (λ d p. (d ≡ false) × (p ≡ true)) (λ d p k. (k.0, refl)))) e i told (newer_told l e i told q) (free q) (idle q) (λ t k. k.1) s (
+    (take_in l w es (λ t. P t × FilesAt i.id t) (feeds_framed l w es P (FilesAt i.id) feeds (kinds_frame i.id (λ d p. (d ≡ false) × (p ≡ true)) (λ d p k. (k.0, refl)))) e i told (newer_told l e i told q) (newer_file e i q) (free q) (idle q) (λ t k. k.1) s (
       h,
       λ fair. (
         found_below i.id 0 s.filter.volume.next_item.0 (items_now s) i (feeds.steps.sound s h fair).now.order (there fair),

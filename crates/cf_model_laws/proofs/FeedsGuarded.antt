@@ -1,5 +1,5 @@
 -- What a feed keeps in `replay`.
-use Rattle.std.proofs.Common.{◌≤◌, ◌≡◌, ℕ, Bool, true, false, List, [], ◌∷◌, refl, sym, ◌∙◌, ap, subst, arith}
+use Rattle.std.proofs.Common.{◌≤◌, ◌≡◌, ℕ, Bool, true, false, List, [], ◌∷◌, refl, sym, ◌∙◌, ap, subst, inl, arith, eq-eqb}
 use Rattle.std.specs.Prelude.{Option, Some, None, cond, not, filter, find, nat_lt, take, ◌&&◌, ◌||◌, ◌==◌}
 use Rattle.std.specs.List.{list_any}
 use Rattle.std.proofs.lemmas.Bool.{eqb-true}
@@ -32,11 +32,13 @@ use Rattle.cf_model_laws.proofs.Guarded.{Guarded}
 use Rattle.cf_model_laws.proofs.Leading.{Leads, kept_leads, leads_bind, leads_kept, leads_weaker}
 use Rattle.cf_model_laws.proofs.PushRepliesGuarded.{each_at}
 use Rattle.cf_model_laws.proofs.RightItems.{no_way, no_way_back}
-use Rattle.cf_model_laws.proofs.SkipsGuarded.{Whichever, and_then_keeps, fewer_changes, framed, guarded_skipping, keeps_into, only_if_at, try_cursor_at, try_mark_now_at}
+use Rattle.cf_model_laws.proofs.SkipsGuarded.{Whichever, and_then_keeps, fewer_changes, framed, guarded_skipping, keeps_first, keeps_into, only_if_at, try_cursor_at, try_mark_now_at}
 use Rattle.cf_model_laws.proofs.SoundSettles.{each_found, left_true, right_true, same_item}
 use Rattle.cf_model_laws.proofs.FeedMovesGuarded.{here_ready, move_entry_at}
 use Rattle.cf_model_laws.proofs.FeedEntriesGuarded.{Feeding, feeding, Feeds, IsTold, fair_now, turn_at, gone_at, new_at, unmoved, newer_file, idle_first, take_at}
-use Rattle.cf_model_laws.proofs.MoveChanges.{IsMove, Alike, AlikeAt, alike_frame}
+use Rattle.cf_model_laws.proofs.MoveChanges.{IsMove, Alike, AlikeAt, SeatAt, alike_frame, seat_frame}
+use Rattle.cf_model_laws.specs.Seats.{IsSeated}
+use Rattle.cf_model_laws.specs.Invariant.{InOrder}
 use Rattle.cf_model_laws.proofs.AimedTargets.{unaimed_unfound}
 
 -- an item that is not in use is not waited for
@@ -126,6 +128,21 @@ parent_target_of : (e : Entry) (p : Item) (items : List Item) → find (is_paren
 parent_target_of e p items up =
     left_true (has_target p e.parent) p.directory (left_true (has_target p e.parent && p.directory) p.populated (all_found (λ x. Unit {0}) (is_parent e) items p up (all_any (λ x. Unit {0}) (λ x. tt) items)).1)
 
+-- the item of an entry is not the root, nor its parent
+target_low : (e : Entry) (i : Item) → (e.rid.0 ≡ 1 → ⊥) → has_target i e.rid ≡ true → i.id.0 ≡ 1 → ⊥
+target_low e i low target top = low (sym (eqb-true (target_of i).0 e.rid.0 (right_true (nat_lt 0 e.rid.0) ((target_of i).0 == e.rid.0) target)) ∙ ap (λ (b : Bool). (cond b root_rid (record { 0 = number_of (take 8 i.identity) })).0) (eq-eqb i.id.0 1 top))
+
+apart_from : (e : Entry) (i p : Item) (items : List Item) → (e.rid.0 ≡ e.parent.0 → ⊥) → has_target i e.rid ≡ true → has_target p e.parent ≡ true → item_of items i.id ≡ Some i → item_of items p.id ≡ Some p → p.id.0 ≡ i.id.0 → ⊥
+apart_from e i p items apart a b own up z =
+    apart (sym (eqb-true (target_of i).0 e.rid.0 (right_true (nat_lt 0 e.rid.0) ((target_of i).0 == e.rid.0) a)) ∙ ap (λ (x : Item). (target_of x).0) (same (sym own ∙ ap (λ (x : ItemId). item_of items x) (sym (same_item p.id i.id z)) ∙ up))
+    ∙ eqb-true (target_of p).0 e.parent.0 (right_true (nat_lt 0 e.parent.0) ((target_of p).0 == e.parent.0) b)) where
+      same : ◌≡◌ {A = Option Item} (Some i) (Some p) → i ≡ p
+      same e = cc
+
+parent_seated : (e : Entry) (p : Item) (items : List Item) (next : ℕ) → InOrder 0 next items → find (is_parent e) items ≡ Some p → IsSeated items p.id true
+parent_seated e p items next order up =
+    inl (p, found_again (is_parent e) 0 next items p order up, right_true (has_target p e.parent) p.directory (left_true (has_target p e.parent && p.directory) p.populated (all_found (λ x. Unit {0}) (is_parent e) items p up (all_any (λ x. Unit {0}) (λ x. tt) items)).1))
+
 changed_at : (l : Link) (w : Filter) (es : List QueueEntry) (P : State → Type 0) → Feeds l w es P → (e : Entry) (i p : Item) (s : State) → IsTold l e → (is_newer i e && in_use s i.id) ≡ false → has_target i e.rid ≡ true → (IsFair s.link → item_of (items_now s) i.id ≡ Some i) → parent_here s e ≡ Some p → P s
     → Keeps P (changed_steps e i p s)
 changed_at l w es P feeds e i p s told idle target there up h =
@@ -133,9 +150,15 @@ changed_at l w es P feeds e i p s told idle target there up h =
     (leads_bind P (λ a t. P t × AlikeAt i i.id t) (λ b t. P t) (only_if (not (is_seen_so s i e)) (move_entry e i p) s) (when_ok false (and_then (take_entry e i.id) (try_mark_now i.id)))
     (first_led P (AlikeAt i i.id) (only_if (not (is_seen_so s i e)) (move_entry e i p) s)
     (only_if_at (λ t. P t × AlikeAt i i.id t) (not (is_seen_so s i e)) (move_entry e i p) s first
-    (λ _. move_entry_at IsMove (λ t. P t × AlikeAt i i.id t) (framed IsMove P (AlikeAt i i.id) (fewer_changes P IsMove feeds.steps) (alike_frame i i.id)) (λ a b c. tt) e i p s
-    (here_ready e i p s (λ fair. found_again (is_parent e) 0 s.filter.volume.next_item.0 (items_now s) p (feeds.steps.sound s h fair).now.order up) (parent_target_of e p (items_now s) up)) first)))
+    (λ _. keeps_first (λ t. P t × AlikeAt i i.id t) (SeatAt p.id) (move_entry e i p s)
+    (move_entry_at IsMove (λ t. (P t × AlikeAt i i.id t) × SeatAt p.id t) (framed IsMove (λ t. P t × AlikeAt i i.id t) (SeatAt p.id) (framed IsMove P (AlikeAt i i.id) (fewer_changes P IsMove feeds.steps) (alike_frame i i.id)) (seat_frame p.id)) (λ a b c. tt) e i p s
+    (target_low e i told.low target) (λ t k fair. apart_now (subst IsFair (sym (feeds.fed s h).link) (fair_now l w es t (feeds.fed t k.0.0) fair))) (λ t k. k.1)
+    (here_ready e i p s (λ fair. found_again (is_parent e) 0 s.filter.volume.next_item.0 (items_now s) p (feeds.steps.sound s h fair).now.order up) (parent_target_of e p (items_now s) up)) (first, λ fair. parent_seated e p (items_now s) s.filter.volume.next_item.0 (feeds.steps.sound s h fair).now.order up)))))
     (λ done t j. leads_kept P (when_ok false (and_then (take_entry e i.id) (try_mark_now i.id)) done t) (rest done t j.0 j.1))) where
+      apart_now : IsFair s.link → p.id.0 ≡ i.id.0 → ⊥
+      apart_now fair =
+          apart_from e i p (items_now s) told.apart target (parent_target_of e p (items_now s) up) (there fair) (found_again (is_parent e) 0 s.filter.volume.next_item.0 (items_now s) p (feeds.steps.sound s h fair).now.order up)
+
       first : P s × AlikeAt i i.id s
       first = (h, λ fair. each_found i.id (Alike i) 0 s.filter.volume.next_item.0 (items_now s) i (feeds.steps.sound s h fair).now.order (there fair) (refl, refl, refl, refl))
 
@@ -158,14 +181,15 @@ take_turn_keeps l w es P feeds e told = record { keeps = λ s h. by s h (by_targ
       let target : has_target p e.parent ≡ true = parent_target_of e p (items_now s) up in
       new_at l w es P feeds e p s told (left_true (nat_lt 0 e.parent.0) ((target_of p).0 == e.parent.0) target)
       (λ fair. ap (λ (o : Option Item). (part target_of no_rid o).0) (found_again (is_parent e) 0 s.filter.volume.next_item.0 (items_now s) p (feeds.steps.sound s h fair).now.order up)
-      ∙ eqb-true (target_of p).0 e.parent.0 (right_true (nat_lt 0 e.parent.0) ((target_of p).0 == e.parent.0) target)) (λ fair. unaimed_unfound (items_now s) e.rid f) h
+      ∙ eqb-true (target_of p).0 e.parent.0 (right_true (nat_lt 0 e.parent.0) ((target_of p).0 == e.parent.0) target)) (λ fair. unaimed_unfound (items_now s) e.rid f)
+      (λ fair. parent_seated e p (items_now s) s.filter.volume.next_item.0 (feeds.steps.sound s h fair).now.order up) h
   fresh s h f true None up = h
   fresh s h f false p up = h
 
   old : (s : State) → P s → (i : Item) → by_target (items_now s) e.rid ≡ Some i → (b : Bool) (p : Option Item) → parent_here s e ≡ p → Keeps P (known b e i p s)
   old s h i f true (Some p) up = changed_turn l w es P feeds e i p s told (all_found (λ x. Unit {0}) (λ x. has_target x e.rid) (items_now s) i f (all_any (λ x. Unit {0}) (λ x. tt) (items_now s))).1 (λ fair. found_again (λ x. has_target x e.rid) 0 s.filter.volume.next_item.0 (items_now s) i (feeds.steps.sound s h fair).now.order f) up h
-  old s h i f true None up = gone_at l w es P feeds i s h (λ fair. found_again (λ x. has_target x e.rid) 0 s.filter.volume.next_item.0 (items_now s) i (feeds.steps.sound s h fair).now.order f)
-  old s h i f false p up = gone_at l w es P feeds i s h (λ fair. found_again (λ x. has_target x e.rid) 0 s.filter.volume.next_item.0 (items_now s) i (feeds.steps.sound s h fair).now.order f)
+  old s h i f true None up = gone_at l w es P feeds i s (target_low e i told.low (all_found (λ x. Unit {0}) (λ x. has_target x e.rid) (items_now s) i f (all_any (λ x. Unit {0}) (λ x. tt) (items_now s))).1) h (λ fair. found_again (λ x. has_target x e.rid) 0 s.filter.volume.next_item.0 (items_now s) i (feeds.steps.sound s h fair).now.order f)
+  old s h i f false p up = gone_at l w es P feeds i s (target_low e i told.low (all_found (λ x. Unit {0}) (λ x. has_target x e.rid) (items_now s) i f (all_any (λ x. Unit {0}) (λ x. tt) (items_now s))).1) h (λ fair. found_again (λ x. has_target x e.rid) 0 s.filter.volume.next_item.0 (items_now s) i (feeds.steps.sound s h fair).now.order f)
 
   by : (s : State) → P s → (o p : Option Item) → by_target (items_now s) e.rid ≡ o → parent_here s e ≡ p → Keeps P (turn_by e o p s)
   by s h None p f up = fresh s h f e.live p up

@@ -1,6 +1,6 @@
 -- What a look-up finds is found again under its id.
-use Rattle.std.proofs.Common.{◌≡◌, ◌<◌, ℕ, Bool, true, false, List, [], ◌∷◌, ◌++◌, refl, sym, subst, arith, eq-eqb}
-use Rattle.std.specs.Prelude.{Option, Some, None, Result, Ok, Err, cond, nat_lt, not, find, ◌&&◌, ◌==◌}
+use Rattle.std.proofs.Common.{◌≡◌, ◌<◌, ℕ, Bool, true, false, List, [], ◌∷◌, ◌++◌, refl, sym, subst, inl, inr, arith, eq-eqb}
+use Rattle.std.specs.Prelude.{Option, Some, None, Result, Ok, Err, cond, nat_lt, not, find, ◌≤◌, ◌&&◌, ◌==◌}
 use Rattle.std.proofs.lemmas.Bool.{eqb-true}
 use Rattle.std.proofs.lemmas.Bool.Decides.{nat_tests}
 use Rattle.cf_base.specs.declared.codes.Code.{Code}
@@ -10,10 +10,12 @@ use Rattle.cf_base.specs.declared.ids.Rid.{Rid}
 use Rattle.cf_model.specs.Effects.{changed}
 use Rattle.cf_model.specs.Identities.{target_of}
 use Rattle.cf_model.specs.Items.{Item, item_of}
-use Rattle.cf_model.specs.LookUp.{bad_names, child_of, find_path, is_child_named, names_of, refused_or, root_of, walk}
+use Rattle.cf_model.specs.LookUp.{Place, bad_names, child_of, find_below, find_names, find_path, find_place, is_child_named, names_of, place_in, place_of, refused_or, root_of, walk}
 use Rattle.cf_model.specs.Numbers.{no_rid}
-use Rattle.cf_model.specs.Words.{part, same}
+use Rattle.cf_model.specs.Words.{but_last, last_of, part, same}
 use Rattle.cf_model_laws.specs.Invariant.{InOrder}
+use Rattle.cf_model_laws.specs.Seats.{IsSeated}
+use Rattle.cf_model_laws.proofs.Gathered.{all_any, all_found}
 use Rattle.cf_model_laws.proofs.RightItems.{no_way}
 
 -- an item behind a bound is not at its front
@@ -122,3 +124,116 @@ found_there path i next items h e = by (bad_names (names_of path)) e where
     bad : (c : Code) → ◌≡◌ {A = Result Item Code} (Err c) (Ok i) → ⊥
     bad c e = cc
   by None e = walk_there next items (root_of items) (names_of path) i h (root_there next items h) e
+
+-- a directory too, but for the root
+
+walk_seated : (next : ℕ) (items : List Item) (at : Item) (names : List (List ℕ)) (i : Item) → InOrder 0 next items → IsSeated items at.id at.directory → walk items at names ≡ Ok i → IsSeated items i.id i.directory
+walk_seated next items at [] i h t e = let z : at ≡ i = cc in subst (λ (x : Item). IsSeated items x.id x.directory) z t
+walk_seated next items at (n ∷ ns) i h t e = one (not at.directory) (not at.populated) (child_of items at.id n) refl e (λ k. walk_seated next items k ns i h) where
+  bad : (c : Code) → ◌≡◌ {A = Result Item Code} (Err c) (Ok i) → ⊥
+  bad c e = cc
+
+  one : (a b : Bool) (o : Option Item) → child_of items at.id n ≡ o
+      → cond a (Err code.NotDirectory) (cond b (Err code.NotPopulated) (elim o as (λ _. Result Item Code) [ None ↦ Err code.NotFound | Some k ↦ walk items k ns ])) ≡ Ok i
+      → ((k : Item) → IsSeated items k.id k.directory → walk items k ns ≡ Ok i → IsSeated items i.id i.directory) → IsSeated items i.id i.directory
+  one true b o q e g = absurd (bad code.NotDirectory e)
+  one false true o q e g = absurd (bad code.NotPopulated e)
+  one false false None q e g = absurd (bad code.NotFound e)
+  one false false (Some k) q e g = g k (inl (k, found_again (is_child_named at.id n) 0 next items k h q, refl)) e
+
+root_seated : (items : List Item) → IsSeated items (root_of items).id (root_of items).directory
+root_seated [] = inr (refl, refl)
+root_seated (i ∷ is) = inl (i, rw (eq-eqb i.id.0 i.id.0 refl) refl, refl)
+
+pub walked_seated : (i : Item) (names : List (List ℕ)) (next : ℕ) (items : List Item) → InOrder 0 next items → walk items (root_of items) names ≡ Ok i → IsSeated items i.id i.directory
+walked_seated i names next items h e = walk_seated next items (root_of items) names i h (root_seated items) e
+
+pub found_seated : (path : List ℕ) (i : Item) (next : ℕ) (items : List Item) → InOrder 0 next items → find_path items path ≡ Ok i → IsSeated items i.id i.directory
+found_seated path i next items h e = by (bad_names (names_of path)) e where
+  bad : (c : Code) → ◌≡◌ {A = Result Item Code} (Err c) (Ok i) → ⊥
+  bad c e = cc
+
+  by : (o : Option Code) → refused_or o (walk items (root_of items) (names_of path)) ≡ Ok i → IsSeated items i.id i.directory
+  by (Some c) e = absurd (bad c e)
+  by None e = walked_seated i (names_of path) next items h e
+
+-- what stands below the root has a parent
+
+abbrev pub IsChild : List Item → Item → Type 0
+IsChild items i = (item_of items i.id ≡ Some i) × (1 ≤ i.parent.0)
+
+child_up : (next : ℕ) (items : List Item) (at : Item) (n : List ℕ) (k : Item) → InOrder 0 next items → 1 ≤ at.id.0 → child_of items at.id n ≡ Some k → IsChild items k
+child_up next items at n k h low q =
+    let own : is_child_named at.id n k ≡ true = (all_found (λ j. Unit {0}) (is_child_named at.id n) items k q (all_any (λ j. Unit {0}) (λ j. tt) items)).1 in
+    (found_again (is_child_named at.id n) 0 next items k h q, up at.id.0 k.parent.0 low (eqb-true k.parent.0 at.id.0 (first (k.parent.0 == at.id.0) (same k.name n) own))) where
+      first : (a b : Bool) → (a && b) ≡ true → a ≡ true
+      first true b z = refl
+      first false b z = z
+
+      up : (a b : ℕ) → 1 ≤ a → b ≡ a → 1 ≤ b
+      up a b l z = omega (arith, l, z)
+
+walk_down : (items : List Item) (at : Item) (n : List ℕ) (ns : List (List ℕ)) (i : Item) → ((k : Item) → child_of items at.id n ≡ Some k → walk items k ns ≡ Ok i → IsChild items i) → walk items at (n ∷ ns) ≡ Ok i → IsChild items i
+walk_down items at n ns i more e = one (not at.directory) (not at.populated) (child_of items at.id n) refl e where
+  bad : (c : Code) → ◌≡◌ {A = Result Item Code} (Err c) (Ok i) → ⊥
+  bad c e = cc
+
+  one : (a b : Bool) (o : Option Item) → child_of items at.id n ≡ o
+      → cond a (Err code.NotDirectory) (cond b (Err code.NotPopulated) (elim o as (λ _. Result Item Code) [ None ↦ Err code.NotFound | Some k ↦ walk items k ns ])) ≡ Ok i → IsChild items i
+  one true b o q e = absurd (bad code.NotDirectory e)
+  one false true o q e = absurd (bad code.NotPopulated e)
+  one false false None q e = absurd (bad code.NotFound e)
+  one false false (Some k) q e = more k q e
+
+walk_child : (next : ℕ) (items : List Item) (at : Item) (n : List ℕ) (ns : List (List ℕ)) (i : Item) → InOrder 0 next items → 1 ≤ at.id.0 → walk items at (n ∷ ns) ≡ Ok i → IsChild items i
+walk_child next items at n [] i h low e = walk_down items at n [] i (λ k q z. let y : k ≡ i = cc in subst (IsChild items) y (child_up next items at n k h low q)) e
+walk_child next items at n (m ∷ ms) i h low e = walk_down items at n (m ∷ ms) i (λ k q z. walk_child next items k m ms i h (found_above (is_child_named at.id n) 0 next items k h q) z) e
+
+root_low : (next : ℕ) (items : List Item) → InOrder 0 next items → 1 ≤ (root_of items).id.0
+root_low next [] h = omega arith
+root_low next (i ∷ is) h = h.0
+
+pub found_child : (path : List ℕ) (i : Item) (next : ℕ) (items : List Item) → InOrder 0 next items → find_below items path ≡ Ok i → IsChild items i
+found_child path i next items h e = by (names_of path) e where
+  bad : (c : Code) → ◌≡◌ {A = Result Item Code} (Err c) (Ok i) → ⊥
+  bad c e = cc
+
+  named : (n : List ℕ) (ns : List (List ℕ)) (o : Option Code) → refused_or o (walk items (root_of items) (n ∷ ns)) ≡ Ok i → IsChild items i
+  named n ns (Some c) e = absurd (bad c e)
+  named n ns None e = walk_child next items (root_of items) n ns i h (root_low next items h) e
+
+  by : (names : List (List ℕ)) → (elim names as (λ _. Result Item Code) [ [] ↦ Err code.BadPath | n ∷ ns ↦ find_names items (n ∷ ns) ]) ≡ Ok i → IsChild items i
+  by [] e = absurd (bad code.BadPath e)
+  by (n ∷ ns) e = named n ns (bad_names (n ∷ ns)) e
+
+-- the directory of a place is here
+
+in_place : (name : List ℕ) (r : Result Item Code) (p : Place) → place_in name r ≡ Ok p → (r ≡ Ok p.parent) × (p.parent.directory ≡ true)
+in_place name (Err c) p e = absurd (bad e) where
+  bad : ◌≡◌ {A = Result Place Code} (Err c) (Ok p) → ⊥
+  bad e = cc
+in_place name (Ok q) p e = by q.directory q.populated refl e where
+  bad : (c : Code) → ◌≡◌ {A = Result Place Code} (Err c) (Ok p) → ⊥
+  bad c e = cc
+
+  by : (a b : Bool) → q.directory ≡ a → cond (not a) (Err code.NotDirectory) (cond (not b) (Err code.NotPopulated) (Ok (record { parent = q; name = name }))) ≡ Ok p → (◌≡◌ {A = Result Item Code} (Ok q) (Ok p.parent)) × (p.parent.directory ≡ true)
+  by false b z e = absurd (bad code.NotDirectory e)
+  by true false z e = absurd (bad code.NotPopulated e)
+  by true true z e =
+      let y : record { parent = q; name = name } ≡ p = cc in
+      (subst (λ (x : Place). ◌≡◌ {A = Result Item Code} (Ok q) (Ok x.parent)) y refl, subst (λ (x : Place). x.parent.directory ≡ true) y z)
+
+pub place_seated : (path : List ℕ) (p : Place) (next : ℕ) (items : List Item) → InOrder 0 next items → find_place items path ≡ Ok p → IsSeated items p.parent.id true
+place_seated path p next items h e = by (names_of path) e where
+  bad : (c : Code) → ◌≡◌ {A = Result Place Code} (Err c) (Ok p) → ⊥
+  bad c e = cc
+
+  named : (n : List ℕ) (ns : List (List ℕ)) (o : Option Code) → refused_or o (place_in (last_of n ns) (walk items (root_of items) (but_last n ns))) ≡ Ok p → IsSeated items p.parent.id true
+  named n ns (Some c) e = absurd (bad c e)
+  named n ns None e =
+      let k = in_place (last_of n ns) (walk items (root_of items) (but_last n ns)) p e in
+      subst (IsSeated items p.parent.id) k.1 (walked_seated p.parent (but_last n ns) next items h k.0)
+
+  by : (names : List (List ℕ)) → place_of items names ≡ Ok p → IsSeated items p.parent.id true
+  by [] e = absurd (bad code.BadPath e)
+  by (n ∷ ns) e = named n ns (bad_names (n ∷ ns)) e

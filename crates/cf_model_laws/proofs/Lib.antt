@@ -44,6 +44,7 @@ pub mod PushesGuarded
 pub mod RemoteGrowth
 pub mod RemoteSteps
 pub mod RightItems
+pub mod SeatLaws
 pub mod SeenPaths
 pub mod SettledAsks
 pub mod SkipsGuarded

@@ -2,7 +2,6 @@
 use Rattle.std.proofs.Common.{◌≡◌, ◌⊎◌, ◌<◌, ◌≤◌, ◌+◌, ℕ, Bool, true, false, List, [], ◌∷◌, ◌++◌, refl, sym, ◌∙◌, ap, subst, inl, inr, arith, length, eq-eqb}
 use Rattle.std.specs.Prelude.{Option, Some, None, cond, filter, find, not, suc, nat_le, nat_lt, ◌&&◌, ◌||◌, ◌==◌}
 use Rattle.std.specs.List.{list_any}
-use Rattle.std.proofs.lemmas.Bool.{eqb-true}
 use Rattle.cf_base.specs.declared.changes.Change.{Change}
 use Rattle.cf_base.specs.declared.changes.Change.TheVariants as change
 use Rattle.cf_base.specs.declared.ids.ItemId.{ItemId}
@@ -27,7 +26,7 @@ use Rattle.cf_model.specs.State.{Filter}
 use Rattle.cf_model.specs.Store.{Held, Mutation, Stored, depth_of, is_live_dir, is_taken, passes_bytes, passes_items, stored_at, with_new, Recorded, RecordedDone, RecordedVoid, decide, keep_last, make_dir, move_to, mutate, put_new, put_version, recorded_at, remote_step, remove_at, settle, with_token}
 use Rattle.cf_model.proofs.StoreLaws.{recorded-first, same_key-refl, step_extends}
 use Rattle.cf_model_laws.specs.Fitting.{Aims, AimsFree, Meets}
-use Rattle.cf_model_laws.specs.Invariant.{All, AreMadeApart, AreMadeNew, Asks, DidBy, IsAimed, IsAskedFor, IsEntryOf, IsRight, IsUnmade, Made, OfRequest, target_in}
+use Rattle.cf_model_laws.specs.Invariant.{All, AreMadeApart, AreMadeNew, Asks, DidBy, IsAimed, IsAskedFor, IsRight, IsUnmade, Made, target_in}
 use Rattle.cf_model.specs.Texts.{is_name}
 use Rattle.cf_model.specs.Words.{says}
 use Rattle.cf_model_laws.proofs.EntriesAsked.{first_none, not_false}

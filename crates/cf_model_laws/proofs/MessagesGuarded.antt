@@ -1,4 +1,5 @@
 -- Messages, and what their replies do, in `replay`.
+use Rattle.std.proofs.Common.{eq-eqb}
 use Rattle.std.proofs.Common.{is_some, ◌≡◌, ◌+◌, ℕ, zero, suc, Bool, true, false, List, [], ◌∷◌, ◌++◌, refl, sym, ◌∙◌, ap, subst, arith, length, ◌⊎◌, inl, inr}
 use Rattle.std.specs.Prelude.{Option, Some, None, cond, not, take, drop, unwrap_or, slice_get, nat_le, nat_lt, ◌&&◌, ◌||◌, ◌==◌}
 use Rattle.std.specs.List.{list_all, list_any}
@@ -190,6 +191,15 @@ entry_low ks x e z = by x.rid.0 z (left_true (nat_lt 1 x.rid.0) (not (x.rid.0 ==
       by : (n : ℕ) → n ≡ 1 → nat_lt 1 n ≡ true → ⊥
       by n z e = grind (arith, nat_tests, z, e)
 
+-- nor is it its own parent
+entry_apart : (ks : List Known) (e : Entry) → is_entry ks e ≡ true → e.rid.0 ≡ e.parent.0 → ⊥
+entry_apart ks e h z = no_way (sym (ap (λ (b : Bool). not b) (eq-eqb e.rid.0 e.parent.0 z)) ∙ apart) where
+  rest : Bool
+  rest = cond e.dir ((e.version.0 == 0) && (e.len == 0)) (nat_le 1 e.version.0 && nat_le e.len 16777216)
+
+  apart : not (e.rid.0 == e.parent.0) ≡ true
+  apart = right_true (nat_lt 1 e.rid.0) (not (e.rid.0 == e.parent.0)) (left_true (nat_lt 1 e.rid.0 && not (e.rid.0 == e.parent.0)) (is_name e.name) (left_true (nat_lt 1 e.rid.0 && not (e.rid.0 == e.parent.0) && is_name e.name) (is_of_kind ks e) (left_true (nat_lt 1 e.rid.0 && not (e.rid.0 == e.parent.0) && is_name e.name && is_of_kind ks e) rest h)))
+
 lows : (ks : List Known) (es : List Entry) → list_all (is_entry ks) es ≡ true → All (λ e. e.rid.0 ≡ 1 → ⊥) es
 lows ks [] e = tt
 lows ks (x ∷ es) e = (entry_low ks x (left_true (is_entry ks x) (list_all (is_entry ks) es) e), lows ks es (right_true (is_entry ks x) (list_all (is_entry ks) es) e))
@@ -197,7 +207,7 @@ lows ks (x ∷ es) e = (entry_low ks x (left_true (is_entry ks x) (list_all (is_
 told_all : (l : Link) (ks : List Known) (es : List Entry) → (IsFair l → All (HasEntry l.remote) es) → list_all (is_entry ks) es ≡ true → All (IsTold l) es
 told_all l ks [] has e = tt
 told_all l ks (x ∷ es) has e = (
-  record { has = λ fair. (has fair).0; low = entry_low ks x (left_true (is_entry ks x) (list_all (is_entry ks) es) e); dir = λ d. version_zero x (right_true (nat_lt 1 x.rid.0 && not (x.rid.0 == x.parent.0) && is_name x.name && is_of_kind ks x) (cond x.dir ((x.version.0 == 0) && (x.len == 0)) (nat_le 1 x.version.0 && nat_le x.len 16777216)) (left_true (is_entry ks x) (list_all (is_entry ks) es) e)) d },
+  record { has = λ fair. (has fair).0; apart = entry_apart ks x (left_true (is_entry ks x) (list_all (is_entry ks) es) e); low = entry_low ks x (left_true (is_entry ks x) (list_all (is_entry ks) es) e); dir = λ d. version_zero x (right_true (nat_lt 1 x.rid.0 && not (x.rid.0 == x.parent.0) && is_name x.name && is_of_kind ks x) (cond x.dir ((x.version.0 == 0) && (x.len == 0)) (nat_le 1 x.version.0 && nat_le x.len 16777216)) (left_true (is_entry ks x) (list_all (is_entry ks) es) e)) d },
   told_all l ks es (λ fair. (has fair).1) (right_true (is_entry ks x) (list_all (is_entry ks) es) e),
 ) where
   version_zero : (x : Entry) → cond x.dir ((x.version.0 == 0) && (x.len == 0)) (nat_le 1 x.version.0 && nat_le x.len 16777216) ≡ true → x.dir ≡ true → x.version.0 ≡ 0

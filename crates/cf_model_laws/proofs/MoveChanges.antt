@@ -1,5 +1,5 @@
 -- The changes that are moves, and what they leave of the items.
-use Rattle.std.proofs.Common.{◌≡◌, ℕ, List, refl, sym, subst}
+use Rattle.std.proofs.Common.{◌≡◌, ℕ, true, List, refl, sym, subst}
 use Rattle.cf_base.specs.declared.changes.Change.{Change}
 use Rattle.cf_base.specs.declared.changes.Change.TheVariants as change
 use Rattle.cf_base.specs.declared.ids.ItemId.{ItemId}
@@ -13,6 +13,8 @@ use Rattle.cf_model.specs.State.{State, items_now}
 use Rattle.cf_model_laws.specs.Fitting.{IsUnaimed}
 use Rattle.cf_model_laws.specs.Invariant.{version_in}
 use Rattle.cf_model_laws.specs.Premises.{IsFair}
+use Rattle.cf_model_laws.specs.Seats.{IsSeated}
+use Rattle.cf_model_laws.proofs.SeatLaws.{seated_changed}
 use Rattle.cf_model_laws.proofs.AimedTargets.{unaimed_still}
 use Rattle.cf_model_laws.proofs.FitItems.{each_changed}
 use Rattle.cf_model_laws.proofs.Gathered.{each_any}
@@ -41,6 +43,15 @@ is_move (change.Take item identity size) ok = absurd ok
 is_move (change.Copy item from parent name) ok = absurd ok
 is_move (change.Populated item) ok = absurd ok
 is_move (change.Keep item on) ok = absurd ok
+
+-- the directory is here
+abbrev pub SeatAt : ItemId → State → Type 0
+SeatAt id t = IsFair t.link → IsSeated (items_now t) id true
+
+pub seat_frame : (id : ItemId) → Framing IsMove (SeatAt id)
+seat_frame id = item_frame IsMove (λ is next. IsSeated is id true)
+    (λ s c n ok fit g. let m = is_move c ok in
+    subst (λ (d : Change). IsSeated (effect (items_now s) d n) id true) (sym m.3) (seated_changed m.0 _ (λ i. refl) (λ i. refl) (items_now s) id true g))
 
 -- no item here has the target
 abbrev pub UnaimedAt : Rid → State → Type 0

@@ -8,7 +8,12 @@ use Rattle.cf_model.specs.Arrows.{Arrow, ret, then_do, unit, Preserves}
 use Rattle.cf_model.specs.Requests.{Nothing}
 use Rattle.cf_model.specs.Changes.{changes, same_book, change, change as put, next_number}
 use Rattle.cf_model.specs.Items.{Item}
-use Rattle.cf_model.specs.LookUp.{Place, child_of}
+use Rattle.cf_model.specs.LookUp.{Place, child_of, find_place}
+use Rattle.std.specs.Prelude.{Result, Ok, Err}
+use Rattle.cf_model.specs.Arrows.{reading}
+use Rattle.cf_model_laws.specs.Premises.{IsFair}
+use Rattle.cf_model_laws.specs.Seats.{IsSeated}
+use Rattle.cf_model_laws.proofs.FoundItems.{place_seated}
 use Rattle.cf_model.specs.Operations.{done}
 use Rattle.cf_model.specs.Plans.{NewDir, NewFile, make_and_mark, plan, planned}
 use Rattle.cf_model.specs.State.{Filter, Link}
@@ -18,7 +23,7 @@ use Rattle.cf_model_laws.proofs.OperationsGuarded as operations_keep
 use Rattle.cf_model_laws.proofs.WaitsGuarded as waits_keep
 use Rattle.cf_model.specs.Placements.{asking, asking_tests, create, create_at, keep_full, keep_item, make_planned, settle_changed}
 use Rattle.cf_model_laws.proofs.Guarded.{GuardedFilter, settled_on}
-use Rattle.cf_model.proofs.ArrowLaws.{keeps_reading, keeps_ret, keeps_then}
+use Rattle.cf_model.proofs.ArrowLaws.{keeps_ret, keeps_then}
 use Rattle.std.proofs.Common.{◌≡◌, ◌∷◌, refl, sym, ◌∙◌, ap, inl, List, [], ℕ, Bool, true, false}
 use Rattle.cf_base.specs.declared.changes.Change.TheVariants as change
 use Rattle.cf_base.specs.declared.codes.Code.{Code}
@@ -41,9 +46,9 @@ use Rattle.cf_model_laws.proofs.AimedTargets.{unaimed_none}
 no_base : (r : Held) (d p : Bool) → NamesWell r d p []
 no_base r d p = record { based = inl refl; aimed = inl refl; bare = λ e. (refl, refl); plain = λ e f. ((refl, refl), refl) }
 
-made_at : (l : Link) (tokens : ℕ) (P : Filter → Type 0) → GuardedFilter l tokens P → (k : Kind) → size_made k 0 ≡ 0 → (p : Place) (x : Filter) → P x
+made_at : (l : Link) (tokens : ℕ) (P : Filter → Type 0) → GuardedFilter l tokens P → (k : Kind) → size_made k 0 ≡ 0 → (p : Place) (x : Filter) → (IsFair l → IsSeated x.volume.items p.parent.id true) → P x
     → Keeps P (on_ok make_planned (plan ((is_some (child_of x.volume.items p.parent.id p.name), code.Exists) ∷ []) (make_and_mark x.volume.next_item (next_number x.volume) p.parent.id p.name k 0 [] false)) x)
-made_at l tokens P closed k zero_size p x h = by (is_some (child_of x.volume.items p.parent.id p.name)) where
+made_at l tokens P closed k zero_size p x seat h = by (is_some (child_of x.volume.items p.parent.id p.name)) where
   by : (b : Bool) → Keeps P (on_ok make_planned (planned (cond b (Some code.Exists) None) (change.Make x.volume.next_item p.parent.id p.name k 0 [] ∷ [])) x)
   by true = h
   by false =
@@ -51,20 +56,22 @@ made_at l tokens P closed k zero_size p x h = by (is_some (child_of x.volume.ite
       (λ e. keeps_bind P (changes (change.Make x.volume.next_item p.parent.id p.name k 0 [] ∷ []) x) (λ _ t. ret (shown.Item x.volume.next_item) t)
       (keeps_bind P (put (change.Make x.volume.next_item p.parent.id p.name k 0 []) x) (λ _ t. ret unit t)
       (closed.change same_book (change.Make x.volume.next_item p.parent.id p.name k 0 []) x (λ b. refl) (λ fair. ((λ z b. refl), (λ k. k), λ b. refl)) (λ id k. k)
-      (λ fair. ((refl, ap (λ (bs : List ℕ). length bs) (no-identity l.remote) ∙ sym zero_size, no_base l.remote _ _), (inl refl, unaimed_none x.volume.items (target_in []) refl))) h) (λ u t j. j))
+      (λ fair. ((refl, ap (λ (bs : List ℕ). length bs) (no-identity l.remote) ∙ sym zero_size, no_base l.remote _ _), (inl refl, unaimed_none x.volume.items (target_in []) refl), inl (seat fair))) h) (λ u t j. j))
       (λ u t j. j))
 
-create_file_at : (l : Link) (tokens : ℕ) (P : Filter → Type 0) → GuardedFilter l tokens P → (p : Place) → Preserves P (create_at NewFile p)
-create_file_at l tokens P closed p = record { keeps = λ x h. made_at l tokens P closed kind.File refl p x h }
-
-create_dir_at : (l : Link) (tokens : ℕ) (P : Filter → Type 0) → GuardedFilter l tokens P → (p : Place) → Preserves P (create_at NewDir p)
-create_dir_at l tokens P closed p = record { keeps = λ x h. made_at l tokens P closed kind.Dir refl p x h }
+-- at a place that is found
+at_place : (l : Link) (tokens : ℕ) (P : Filter → Type 0) → GuardedFilter l tokens P → (path : List ℕ) (f : Place → Arrow Filter Shown) → ((p : Place) (x : Filter) → (IsFair l → IsSeated x.volume.items p.parent.id true) → P x → Keeps P (f p x))
+    → Preserves P (reading (place_at path) (on_ok f))
+at_place l tokens P closed path f k = record { keeps = λ x h. by x h (find_place x.volume.items path) refl } where
+  by : (x : Filter) → P x → (o : Result Place Code) → find_place x.volume.items path ≡ o → Keeps P (on_ok f o x)
+  by x h (Err c) e = h
+  by x h (Ok p) e = k p x (λ fair. place_seated path p x.volume.next_item.0 x.volume.items (closed.sound x h fair).now.order e) h
 
 pub create_file_keeps : (l : Link) (tokens : ℕ) (P : Filter → Type 0) → GuardedFilter l tokens P → (path : List ℕ) → Preserves P (create path NewFile)
-create_file_keeps l tokens P closed path = keeps_reading P (place_at path) (on_ok (create_at NewFile)) (waits_keep.on_ok_keeps l tokens P closed (create_at NewFile) (create_file_at l tokens P closed))
+create_file_keeps l tokens P closed path = at_place l tokens P closed path (create_at NewFile) (made_at l tokens P closed kind.File refl)
 
 pub create_dir_keeps : (l : Link) (tokens : ℕ) (P : Filter → Type 0) → GuardedFilter l tokens P → (path : List ℕ) → Preserves P (create path NewDir)
-create_dir_keeps l tokens P closed path = keeps_reading P (place_at path) (on_ok (create_at NewDir)) (waits_keep.on_ok_keeps l tokens P closed (create_at NewDir) (create_dir_at l tokens P closed))
+create_dir_keeps l tokens P closed path = at_place l tokens P closed path (create_at NewDir) (made_at l tokens P closed kind.Dir refl)
 
 pub settle_changed_keeps : (l : Link) (tokens : ℕ) (P : Filter → Type 0) → GuardedFilter l tokens P → (x1 : ItemId) → (x2 : List Change) → Preserves P (settle_changed x1 x2)
 settle_changed_keeps l tokens P closed item [] = keeps_ret P unit

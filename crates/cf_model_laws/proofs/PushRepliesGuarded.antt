@@ -303,12 +303,16 @@ drop_if_keeps P closed false e = keeps_ret P unit
 pub lost_place_keeps : (P : State → Type 0) → Guarded P → (x1 : QueueEntry) → Preserves P (lost_place x1)
 lost_place_keeps P closed e = keeps_then P (in_volatile (not_in_row e)) (then_do reset_cursor (drop_if (is_removal e) e)) (keeps_noted P (with_volatile (not_in_row e)) (closed.keeps_volatile_not_in_row e)) (keeps_then P reset_cursor (drop_if (is_removal e) e) (reset_cursor_keeps P closed) (drop_if_keeps P closed (is_removal e) e))
 
-pub move_away_keeps : (P : State → Type 0) → Guarded P → (x1 : Option Item) → Preserves P (move_away x1)
-move_away_keeps P closed None = keeps_ret P unit
-move_away_keeps P closed (Some i) = keeps_seq P (to_conflict i) whatever (skips_keep.to_conflict_keeps P closed i) (whatever_keeps P closed)
+move_away_at : (P : State → Type 0) → Guarded P → (e : QueueEntry) (s : State) → P s → Keeps P (reading (item_of_entry e) move_away s)
+move_away_at P closed e s h = by (item_of (items_now s) e.item) refl where
+  by : (o : Option Item) → item_of (items_now s) e.item ≡ o → Keeps P (move_away o s)
+  by None q = h
+  by (Some i) q =
+      keeps_bind P (to_conflict i s) whatever
+      (skips_keep.to_conflict_at P closed i s (λ fair. subst (λ (x : ItemId). item_of (items_now s) x ≡ Some i) (sym (same_item i.id e.item (found_id e.item (items_now s) i q))) q) h) (λ a t j. j)
 
 pub name_taken_again_keeps : (P : State → Type 0) → Guarded P → (x1 : QueueEntry) → Preserves P (name_taken_again x1)
-name_taken_again_keeps P closed e = keeps_then P (in_volatile (not_in_row e)) (reading (item_of_entry e) move_away) (keeps_noted P (with_volatile (not_in_row e)) (closed.keeps_volatile_not_in_row e)) (keeps_reading P (item_of_entry e) move_away (move_away_keeps P closed))
+name_taken_again_keeps P closed e = keeps_then P (in_volatile (not_in_row e)) (reading (item_of_entry e) move_away) (keeps_noted P (with_volatile (not_in_row e)) (closed.keeps_volatile_not_in_row e)) (record { keeps = move_away_at P closed e })
 
 pub name_taken_by_keeps : (P : State → Type 0) → Guarded P → (x1 : QueueEntry) → (x2 : Bool) → Preserves P (name_taken_by x1 x2)
 name_taken_by_keeps P closed e true = name_taken_again_keeps P closed e

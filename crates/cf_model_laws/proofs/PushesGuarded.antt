@@ -20,7 +20,7 @@ use Rattle.cf_model_laws.proofs.StepsGuarded as skips_keep
 use Rattle.cf_model_laws.proofs.WaitsGuarded as waits_keep
 use Rattle.cf_model.specs.Pushes.{after_hydrate, bury_unless, hydrate_first, hydrate_if, hydrate_unless, is_hydrating, is_left_out, is_tombstone_left_out, item_now, mark_item, push, push_all, push_by_case, push_here, push_item, push_lists, push_removal, push_tombstone, push_turn, push_unless, put_file, put_if, put_whole, removal_entry, request_of, upload, upload_if, upload_new, upload_now, has_entry, placed, without_place, without_rid}
 use Rattle.cf_model_laws.proofs.Guarded.{Guarded, Entering, MovesThere}
-use Rattle.cf_model.proofs.ArrowLaws.{keeps_each, keeps_reading, keeps_ret, keeps_seq, keeps_then}
+use Rattle.cf_model.proofs.ArrowLaws.{keeps_each, keeps_reading, keeps_ret, keeps_then}
 use Rattle.std.proofs.Common.{◌≡◌, ◌<◌, ◌≤◌, ℕ, Bool, true, false, List, [], ◌∷◌, refl, sym, ◌∙◌, ap, subst, arith, length, take, eq-eqb, inl, inr}
 use Rattle.std.specs.List.{list_all, list_any}
 use Rattle.std.proofs.lemmas.Bool.Decides.{nat_tests}
@@ -192,23 +192,29 @@ after_hydrate_keeps P closed (shown.Refused code.TooManyAsks) = skips_keep.skip_
 after_hydrate_keeps P closed (shown.Refused code.Exhausted) = skips_keep.skip_keeps P closed code.Exhausted
 after_hydrate_keeps P closed _ = keeps_ret P unit
 
-pub hydrate_unless_keeps : (P : State → Type 0) → Guarded P → (x1 : ItemId) → (x2 : Bool) → Preserves P (hydrate_unless x1 x2)
-hydrate_unless_keeps P closed item true = keeps_ret P unit
-hydrate_unless_keeps P closed item false = keeps_seq P (calling (hydrate_file item)) after_hydrate (callbacks_keep.calling_keeps P closed (hydrate_file item) (λ t1 i2. (waits_keep.hydrate_file_keeps t1.link t1.volatile.tokens (λ x. P (with_filter x t1)) (closed.on_filter t1 i2) item))) (after_hydrate_keeps P closed)
+-- the file is here
+abbrev IsFileHere : Item → State → Type 0
+IsFileHere i s = IsFair s.link → (item_of (items_now s) i.id ≡ Some i) × (i.directory ≡ false)
 
-pub hydrate_if_keeps : (P : State → Type 0) → Guarded P → (x1 : ItemId) → (x2 : Bool) → Preserves P (hydrate_if x1 x2)
-hydrate_if_keeps P closed item true = keeps_ret P unit
-hydrate_if_keeps P closed item false = keeps_reading P (is_hydrating item) (hydrate_unless item) (hydrate_unless_keeps P closed item)
+hydrate_unless_at : (P : State → Type 0) → Guarded P → (i : Item) (b : Bool) (s : State) → IsFileHere i s → P s → Keeps P (hydrate_unless i.id b s)
+hydrate_unless_at P closed i true s there h = h
+hydrate_unless_at P closed i false s there h =
+    keeps_bind P (calling (hydrate_file i.id) s) after_hydrate
+    (callbacks_keep.calling_at P closed (hydrate_file i.id) s (waits_keep.hydrate_file_at s.link s.volatile.tokens (λ x. P (with_filter x s)) (closed.on_filter s h) i s.filter there h)) (λ a t k. (after_hydrate_keeps P closed a).keeps t k)
 
-pub hydrate_first_keeps : (P : State → Type 0) → Guarded P → (x1 : Item) → Preserves P (hydrate_first x1)
-hydrate_first_keeps P closed i = hydrate_if_keeps P closed i.id (is_all_here i)
+hydrate_if_at : (P : State → Type 0) → Guarded P → (i : Item) (b : Bool) (s : State) → IsFileHere i s → P s → Keeps P (hydrate_if i.id b s)
+hydrate_if_at P closed i true s there h = h
+hydrate_if_at P closed i false s there h = hydrate_unless_at P closed i (is_hydrating i.id s) s there h
+
+pub hydrate_first_at : (P : State → Type 0) → Guarded P → (i : Item) (s : State) → IsFileHere i s → P s → Keeps P (hydrate_first i s)
+hydrate_first_at P closed i s there h = hydrate_if_at P closed i (is_all_here i) s there h
 
 -- a file is uploaded, after it was hydrated
 pub put_file_at : (P : State → Type 0) → Guarded P → Entering P → (i : Item) (s : State) → item_of (items_now s) i.id ≡ Some i → (IsFair s.link → NoEntry (book_now s).entries i.id) → (IsFair s.link → (i.directory ≡ false) × (i.placeholder ≡ true)) → P s → Keeps P (put_file i s)
 put_file_at P closed entering i s there alone kind h =
     kept_leads P (put_file i s)
     (leads_bind P (λ u t. P t × FrameIn (Unit {0}) i.id Files [] t) (λ u t. P t) (hydrate_first i s) (λ u t. reading (item_now i.id) put_whole t)
-    (first_led P (FrameIn (Unit {0}) i.id Files []) (hydrate_first i s) ((hydrate_first_keeps (λ t. P t × FrameIn (Unit {0}) i.id Files [] t) (guarded_framed (Unit {0}) i.id Files (λ d p k. (k.0, refl)) [] P closed) i).keeps s (h, (first, λ fair. tt))))
+    (first_led P (FrameIn (Unit {0}) i.id Files []) (hydrate_first i s) (hydrate_first_at (λ t. P t × FrameIn (Unit {0}) i.id Files [] t) (guarded_framed (Unit {0}) i.id Files (λ d p k. (k.0, refl)) [] P closed) i s (λ fair. (there, (kind fair).0)) (h, (first, λ fair. tt))))
     (λ u t k. leads_kept P (put_whole (item_of (items_now t) i.id) t) (by (item_of (items_now t) i.id) t refl k))) where
       first : Unit {0} → IsFair s.link → (i.id.0 < s.filter.volume.next_item.0) × Each i.id (λ j. Files j.directory j.placeholder) (items_now s) × NoEntry (book_now s).entries i.id
       first u fair =

@@ -24,9 +24,9 @@ use Rattle.cf_model_laws.proofs.Gathered.{all_append, all_filter, all_weaker}
 pub fits_meets : (r : Held) (x : Filter) (c : Change) → Fits r x c → Meets r x c
 fits_meets r x (change.Make item parent name k size identity) h = h.0
 fits_meets r x (change.Remove item) h = h.0
-fits_meets r x (change.Move item parent name) h = h
-fits_meets r x (change.Write item at bytes) h = h
-fits_meets r x (change.Size item size) h = h
+fits_meets r x (change.Move item parent name) h = tt
+fits_meets r x (change.Write item at bytes) h = tt
+fits_meets r x (change.Size item size) h = tt
 fits_meets r x (change.Filled item start bytes) h = h
 fits_meets r x (change.Validated item start len) h = h
 fits_meets r x (change.Emptied item start len) h = h
@@ -37,7 +37,7 @@ fits_meets r x (change.Convert item identity) h = h.0
 fits_meets r x (change.Revert item) h = h
 fits_meets r x (change.Rebase item identity len at) h = h.0
 fits_meets r x (change.Take item identity size) h = h.0
-fits_meets r x (change.Copy item from parent name) h = h
+fits_meets r x (change.Copy item from parent name) h = h.0
 fits_meets r x (change.Populated item) h = h
 fits_meets r x (change.Keep item on) h = h
 

@@ -18,14 +18,18 @@ use Rattle.cf_model.specs.Items.{Item, is_dirty, item_of}
 use Rattle.cf_model.specs.Logs.{next_by}
 use Rattle.cf_model.specs.Numbers.{same_usn}
 use Rattle.cf_model.specs.Overlay.{Written}
-use Rattle.cf_model.specs.Skips.{do_change, in_book, is_cursor, is_markable, is_there, left_out, may_mark, move_off, not_done, number_of_item, occupant, skip, skip_line, skipped, to_conflict, tried, try_book, try_change, try_clear_name, try_cursor, try_mark, try_mark_now, try_seen, why_no_change, why_no_record, with_book}
+use Rattle.cf_model.specs.Skips.{do_change, in_book, is_cursor, is_markable, is_there, left_out, may_mark, move_off, not_done, number_of_item, skip, skip_line, skipped, to_conflict, tried, try_book, try_change, try_clear_name, try_cursor, try_mark, try_mark_now, try_seen, why_no_change, why_no_record, with_book}
 use Rattle.cf_model.specs.State.{State, Volume, book_now, items_now, with_filter}
 use Rattle.cf_model.specs.Points.{with_room_point}
 use Rattle.cf_model.specs.Trees.{Asked, Fork, Keeps, Ret, Step, Tree, bind}
 use Rattle.cf_model.specs.Words.{is_empty, says}
-use Rattle.cf_model.proofs.ArrowLaws.{keeps_noted, keeps_reading, keeps_ret, keeps_seq}
+use Rattle.cf_model.proofs.ArrowLaws.{keeps_noted, keeps_ret, keeps_seq}
 use Rattle.cf_model.proofs.TreeLaws.{keeps_bind, keeps_mapped}
-use Rattle.cf_model_laws.specs.Fitting.{Fits, NoEntry, NoMove, Touches}
+use Rattle.cf_model.specs.LookUp.{child_of, is_child_named}
+use Rattle.cf_model.specs.Skips.{if_other}
+use Rattle.cf_model.specs.Words.{part}
+use Rattle.cf_model_laws.specs.Fitting.{Fits, NoEntry, NoMove, Stands, Touches}
+use Rattle.cf_model_laws.proofs.FoundItems.{found_again}
 use Rattle.cf_model_laws.specs.Invariant.{All, InOrder, IsSound}
 use Rattle.cf_model_laws.specs.Premises.{IsFair}
 use Rattle.cf_model_laws.proofs.Gathered.{all_filter, all_put_in, all_weaker}
@@ -268,15 +272,25 @@ try_mark_now_at Ok P closed item s ok unmoved h = try_mark_at Ok P closed item (
 
 -- moves
 
-pub move_keeps : (Ok : Change → Type 0) (P : State → Type 0) → Skipping Ok P → ((item parent : ItemId) (name : List ℕ) → Ok (change.Move item parent name)) → (item parent : ItemId) (name : List ℕ) → Preserves P (try_change (change.Move item parent name))
-move_keeps Ok P closed ok item parent name = record { keeps = λ s h. try_change_at Ok P closed (change.Move item parent name) s (ok item parent name) (λ id k. k) (λ fair. tt) h }
+-- where an item stays in its directory, or comes to stand in another that is here
+pub move_at : (Ok : Change → Type 0) (P : State → Type 0) → Skipping Ok P → ((item parent : ItemId) (name : List ℕ) → Ok (change.Move item parent name)) → (item parent : ItemId) (name : List ℕ) (s : State)
+    → (IsFair s.link → Stands s.filter (change.Move item parent name)) → P s → Keeps P (try_change (change.Move item parent name) s)
+move_at Ok P closed ok item parent name s stands h = try_change_at Ok P closed (change.Move item parent name) s (ok item parent name) (λ id k. k) stands h
 
-pub to_conflict_keeps : (Ok : Change → Type 0) (P : State → Type 0) → Skipping Ok P → ((item parent : ItemId) (name : List ℕ) → Ok (change.Move item parent name)) → (i : Item) → Preserves P (to_conflict i)
-to_conflict_keeps Ok P closed ok i = record { keeps = λ s h. (move_keeps Ok P closed ok i.id i.parent (conflict_name (items_now s) i.parent i.name)).keeps s h }
+-- an item that is found has one parent
+stays_in : (Ok : Change → Type 0) (P : State → Type 0) → Skipping Ok P → (i : Item) (name : List ℕ) (s : State) → (IsFair s.link → item_of (items_now s) i.id ≡ Some i) → P s → IsFair s.link → Stands s.filter (change.Move i.id i.parent name)
+stays_in Ok P closed i name s there h fair = inl (each_found i.id (λ j. j.parent.0 ≡ i.parent.0) 0 s.filter.volume.next_item.0 (items_now s) i (closed.sound s h fair).now.order (there fair) refl)
 
-move_off_keeps : (Ok : Change → Type 0) (P : State → Type 0) → Skipping Ok P → ((item parent : ItemId) (name : List ℕ) → Ok (change.Move item parent name)) → (o : Option Item) → Preserves P (move_off o)
-move_off_keeps Ok P closed ok None = keeps_ret P true
-move_off_keeps Ok P closed ok (Some i) = to_conflict_keeps Ok P closed ok i
+pub to_conflict_at : (Ok : Change → Type 0) (P : State → Type 0) → Skipping Ok P → ((item parent : ItemId) (name : List ℕ) → Ok (change.Move item parent name)) → (i : Item) (s : State) → (IsFair s.link → item_of (items_now s) i.id ≡ Some i) → P s
+    → Keeps P (to_conflict i s)
+to_conflict_at Ok P closed ok i s there h = move_at Ok P closed ok i.id i.parent (conflict_name (items_now s) i.parent i.name) s (stays_in Ok P closed i (conflict_name (items_now s) i.parent i.name) s there h) h
 
 pub try_clear_name_keeps : (Ok : Change → Type 0) (P : State → Type 0) → Skipping Ok P → ((item parent : ItemId) (name : List ℕ) → Ok (change.Move item parent name)) → (parent : ItemId) (name : List ℕ) (but : ItemId) → Preserves P (try_clear_name parent name but)
-try_clear_name_keeps Ok P closed ok parent name but = keeps_reading P (occupant parent name but) move_off (move_off_keeps Ok P closed ok)
+try_clear_name_keeps Ok P closed ok parent name but = record { keeps = λ s h. by s h (child_of (items_now s) parent name) refl } where
+  other : (s : State) → P s → (i : Item) → child_of (items_now s) parent name ≡ Some i → (b : Bool) → Keeps P (move_off (elim b as (λ _. Option Item) [ true ↦ None | false ↦ Some i ]) s)
+  other s h i e true = h
+  other s h i e false = to_conflict_at Ok P closed ok i s (λ fair. found_again (is_child_named parent name) 0 s.filter.volume.next_item.0 (items_now s) i (closed.sound s h fair).now.order e) h
+
+  by : (s : State) → P s → (o : Option Item) → child_of (items_now s) parent name ≡ o → Keeps P (move_off (part (if_other but) None o) s)
+  by s h None e = h
+  by s h (Some i) e = other s h i e (i.id.0 == but.0)

@@ -186,7 +186,7 @@ sound_guarded = record {
 }
 
 pub sound_deletes : Deleting Invariant
-sound_deletes = record { deletes = λ f item s keeps seen cursor idle h. change_keeps (is_replay s.mode ≡ true) s.link s.volatile.tokens f (change.Remove item) s.filter keeps (λ id k. k) (λ fair. (idle, tt)) h }
+sound_deletes = record { deletes = λ f item s keeps seen cursor idle leaf h. change_keeps (is_replay s.mode ≡ true) s.link s.volatile.tokens f (change.Remove item) s.filter keeps (λ id k. k) (λ fair. (idle, tt)) h }
 
 pub sound_enters : Entering Invariant
 sound_enters = record {

@@ -1,12 +1,14 @@
 -- The engine's single steps, of what keeps all of the machine.
-use Rattle.std.specs.Prelude.{◌≡◌}
+use Rattle.std.specs.Prelude.{Some, ◌≡◌}
 use Rattle.cf_base.specs.declared.codes.Code.{Code}
 use Rattle.cf_model.specs.Arrows.{Preserves}
 use Rattle.cf_model.specs.Books.{Book}
-use Rattle.cf_model.specs.Items.{Item}
+use Rattle.cf_model.specs.Items.{Item, item_of}
 use Rattle.cf_model.specs.Skips.{in_book, skip, to_conflict, try_book, with_book}
-use Rattle.cf_model.specs.State.{State}
+use Rattle.cf_model.specs.State.{State, items_now}
+use Rattle.cf_model.specs.Trees.{Keeps}
 use Rattle.cf_model.proofs.ArrowLaws.{keeps_one}
+use Rattle.cf_model_laws.specs.Premises.{IsFair}
 use Rattle.cf_model_laws.proofs.Guarded.{Guarded, KeepsCursor, KeepsEarly}
 use Rattle.cf_model_laws.proofs.SkipsGuarded as steps
 use Rattle.cf_model_laws.proofs.SkipsGuarded.{Whichever, guarded_skipping, leaves_early}
@@ -21,5 +23,5 @@ in_book_keeps P closed f keeps seen early = keeps_one P (with_book f) (λ s h. c
 pub try_book_keeps : (P : State → Type 0) → Guarded P → (f : Book → Book) → KeepsEntries f → ((b : Book) → (f b).seen ≡ b.seen) → KeepsCursor f → Preserves P (try_book f)
 try_book_keeps P closed f keeps seen cursor = steps.try_book_keeps Whichever P (guarded_skipping P closed) f keeps seen cursor
 
-pub to_conflict_keeps : (P : State → Type 0) → Guarded P → (i : Item) → Preserves P (to_conflict i)
-to_conflict_keeps P closed i = steps.to_conflict_keeps Whichever P (guarded_skipping P closed) (λ a b c. tt) i
+pub to_conflict_at : (P : State → Type 0) → Guarded P → (i : Item) (s : State) → (IsFair s.link → item_of (items_now s) i.id ≡ Some i) → P s → Keeps P (to_conflict i s)
+to_conflict_at P closed i s there h = steps.to_conflict_at Whichever P (guarded_skipping P closed) (λ a b c. tt) i s there h

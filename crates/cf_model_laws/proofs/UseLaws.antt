@@ -90,14 +90,14 @@ apart_any f id (x ∷ xs) h = by ((f x).0 == id.0) refl h (apart_any f id xs) wh
   by true q e g = no_way_back e
   by false q e g = ((λ z. no_way (sym q ∙ eq-eqb (f x).0 id.0 (sym z))), g e)
 
-abbrev Apart : Change → Filter → Type 0
+abbrev pub Apart : Change → Filter → Type 0
 Apart c x = All (λ o. Replaces c o.item → ⊥) x.handles × All (λ w. Replaces c w.item → ⊥) x.waiting.waits
 
 or_left_false : (a b : Bool) → (a || b) ≡ false → a ≡ false
 or_left_false true b e = no_way_back e
 or_left_false false b e = refl
 
-idle_apart : (item : ItemId) (x : Filter) → All (λ w. same_key w.id.0 no_key ≡ false) x.waiting.waits → in_use item x ≡ false → All (λ o. item.0 ≡ o.item.0 → ⊥) x.handles × All (λ w. item.0 ≡ w.item.0 → ⊥) x.waiting.waits
+pub idle_apart : (item : ItemId) (x : Filter) → All (λ w. same_key w.id.0 no_key ≡ false) x.waiting.waits → in_use item x ≡ false → All (λ o. item.0 ≡ o.item.0 → ⊥) x.handles × All (λ w. item.0 ≡ w.item.0 → ⊥) x.waiting.waits
 idle_apart item x numbered idle = (
   apart_any (λ o. o.item) item x.handles (or_left_false (list_any (λ o. o.item.0 == item.0) x.handles) (is_busy_beside item (record { 0 = no_key }) x.waiting) idle),
   apart_any (λ w. w.item) item x.waiting.waits (not_waited item x.waiting.waits numbered (or_right_false (list_any (λ o. o.item.0 == item.0) x.handles) (is_busy_beside item (record { 0 = no_key }) x.waiting) idle)),
@@ -106,7 +106,7 @@ idle_apart item x numbered idle = (
 plainly_apart : (c : Change) (x : Filter) → ((id : ItemId) → Replaces c id → ⊥) → Apart c x
 plainly_apart c x k = (all_any (λ o. Replaces c o.item → ⊥) (λ o. k o.item) x.handles, all_any (λ w. Replaces c w.item → ⊥) (λ w. k w.item) x.waiting.waits)
 
-apart : (r : Held) (x : Filter) (c : Change) → All (λ w. same_key w.id.0 no_key ≡ false) x.waiting.waits → Meets r x c → Apart c x
+pub apart : (r : Held) (x : Filter) (c : Change) → All (λ w. same_key w.id.0 no_key ≡ false) x.waiting.waits → Meets r x c → Apart c x
 apart r x (change.Make item parent name k size identity) numbered fit = plainly_apart (change.Make item parent name k size identity) x (λ id z. z)
 apart r x (change.Remove item) numbered fit = idle_apart item x numbered fit
 apart r x (change.Move item parent name) numbered fit = plainly_apart (change.Move item parent name) x (λ id z. z)

@@ -10,6 +10,7 @@ use Rattle.cf_model.specs.Books.{MoveItem, QueueEntry}
 use Rattle.cf_model.specs.Contents.{base_named, up_to}
 use Rattle.cf_model.specs.Dehydration.{in_use}
 use Rattle.cf_model.specs.Effects.{is_directory, is_placeholder, size_made}
+use Rattle.cf_model.specs.Feeds.{is_under}
 use Rattle.cf_model.specs.Identities.{base_bytes, is_untargeted, target_of}
 use Rattle.cf_model.specs.Items.{Item}
 use Rattle.cf_model.specs.LookUp.{children}
@@ -20,6 +21,7 @@ use Rattle.cf_model.specs.Store.{Held}
 use Rattle.cf_model.specs.Words.{number_of}
 use Rattle.cf_model_laws.specs.Invariant.{All, HasBase, HasNone, IsAimed, IsUnmade, SameBase, put_bytes, target_in, waits_on}
 use Rattle.cf_model_laws.specs.Marks.{IsMadeLast, StandsAtSeen}
+use Rattle.cf_model_laws.specs.Seats.{IsBelowRoot, IsListed, IsOpenOn, IsSeated}
 
 -- The identity of an item names a version that the remote has made, or none, and a target of the item's kind, or none. A directory has none, and a file that is no
 -- placeholder has neither a base nor a target.
@@ -91,13 +93,30 @@ Aims r x (change.Take item identity size) = AimsFree r x.volume.book.entries ide
 Aims r x (change.Convert item identity) = Each item (λ i. (target_of i).0 ≡ 0) x.volume.items
 Aims r x _ = Unit {0}
 
--- Of a Mark, besides: its item stands at the path seen and no Move of it is on its way, or the last change made the item.
+-- An item comes to stand in a directory that is here, or whose entries are asked for; a copy, and an item that only gets another name, in that where it stands. No item comes under itself.
+abbrev pub Stands : Filter → Change → Type 0
+Stands x (change.Make item parent name kind size identity) = IsSeated x.volume.items parent true ⊎ IsListed x parent
+Stands x (change.Move item parent name) =
+    Each item (λ i. i.parent.0 ≡ parent.0) x.volume.items ⊎ (IsSeated x.volume.items parent true × (is_under x.volume.items parent item ≡ false) × IsBelowRoot x.volume.items item)
+Stands x (change.Copy item from parent name) = Each from (λ i. (i.parent.0 ≡ parent.0) × (i.directory ≡ false)) x.volume.items
+Stands x _ = Unit {0}
+
+-- an item below the root that has no child
+abbrev pub IsLeaf : List Item → ItemId → Type 0
+IsLeaf items item = Each item (λ i. i.directory ≡ true → children items i.id ≡ []) items × IsBelowRoot items item
+
+-- Of a write or a size: a handle is open on the file. Of a Mark, besides: its item stands at the path seen and no Move of it is on its way, or the last change made the item.
 abbrev pub Fits : Held → Filter → Change → Type 0
-Fits r x (change.Make item parent name kind size identity) = Meets r x (change.Make item parent name kind size identity) × Aims r x (change.Make item parent name kind size identity)
+Fits r x (change.Make item parent name kind size identity) =
+    Meets r x (change.Make item parent name kind size identity) × Aims r x (change.Make item parent name kind size identity) × Stands x (change.Make item parent name kind size identity)
+Fits r x (change.Move item parent name) = Stands x (change.Move item parent name)
+Fits r x (change.Copy item from parent name) = Meets r x (change.Copy item from parent name) × Stands x (change.Copy item from parent name)
 Fits r x (change.Rebase item identity len at) = Meets r x (change.Rebase item identity len at) × Aims r x (change.Rebase item identity len at)
 Fits r x (change.Take item identity size) = Meets r x (change.Take item identity size) × Aims r x (change.Take item identity size)
+Fits r x (change.Write item at bytes) = IsOpenOn x item
+Fits r x (change.Size item size) = IsOpenOn x item
 Fits r x (change.Convert item identity) = Meets r x (change.Convert item identity) × Aims r x (change.Convert item identity)
-Fits r x (change.Remove item) = Meets r x (change.Remove item) × Each item (IsVacant x.volume.items) x.volume.items
+Fits r x (change.Remove item) = Meets r x (change.Remove item) × Each item (IsVacant x.volume.items) x.volume.items × IsBelowRoot x.volume.items item
 Fits r x (change.Mark item number) =
     Meets r x (change.Mark item number) × ((StandsAtSeen x.volume.items x.volume.book item × NoMove x.volume.book.entries item) ⊎ IsMadeLast x.volume.log item)
 Fits r x c = Meets r x c

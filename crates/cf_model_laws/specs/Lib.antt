@@ -9,5 +9,6 @@ pub mod Logged
 pub mod Marks
 pub mod Openings
 pub mod Premises
+pub mod Seats
 pub mod Contents
 pub mod Uses
