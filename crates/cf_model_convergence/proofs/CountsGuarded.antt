@@ -30,7 +30,7 @@ filter_beside l tokens C P c closed = record {
   touch = λ f d item e x quiet keeps seen on fit h. keeps_both P (λ x. C) (then_do (change_with f d) (then_do (settle item e) done) x) (closed.touch f d item e x quiet keeps seen on fit h.0) (always C c (then_do (change_with f d) (then_do (settle item e) done) x));
   commits = record { keeps = λ x h. keeps_both P (λ x. C) (in_volume commit x) (closed.commits.keeps x h.0) (always C c (in_volume commit x)) };
   settled = λ item d x others h. keeps_both P (λ x. C) (settle item d x) (closed.settled item d x others h.0) (always C c (settle item d x));
-  begins = λ n. record { keeps = λ x h. keeps_both P (λ x. C) (reading (begun n) (begin_now n) x) ((closed.begins n).keeps x h.0) (always C c (reading (begun n) (begin_now n) x)) };
+  begins = λ n x fit h. keeps_both P (λ x. C) (reading (begun n) (begin_now n) x) (closed.begins n x fit h.0) (always C c (reading (begun n) (begin_now n) x));
   downs = record { keeps = λ x h. keeps_both P (λ x. C) (reading all_down tell x) (closed.downs.keeps x h.0) (always C c (reading all_down tell x)) };
   keeps_accessed = λ item x h. (closed.keeps_accessed item x h.0, c);
   keeps_accessed_now = λ n x h. (closed.keeps_accessed_now n x h.0, c);
@@ -38,7 +38,7 @@ filter_beside l tokens C P c closed = record {
   keeps_begin_call = λ x h. (closed.keeps_begin_call x h.0, c);
   keeps_connected_again = λ x h. (closed.keeps_connected_again x h.0, c);
   keeps_disconnected = λ x h. (closed.keeps_disconnected x h.0, c);
-  keeps_with_handle = λ item x h. (closed.keeps_with_handle item x h.0, c);
+  keeps_with_handle = λ item x fit h. (closed.keeps_with_handle item x fit h.0, c);
   keeps_with_policy = λ p v x h. (closed.keeps_with_policy p v x h.0, c);
   keeps_with_time = λ n x h. (closed.keeps_with_time n x h.0, c);
   keeps_without_handle = λ handle x h. (closed.keeps_without_handle handle x h.0, c);

@@ -3,11 +3,9 @@ use Rattle.std.proofs.Common.{◌≡◌, ◌⊎◌, ◌<◌, ◌≤◌, ℕ, zer
 use Rattle.std.specs.Prelude.{Option, Some, None, cond, find, nat_lt, ◌&&◌, ◌==◌}
 use Rattle.std.proofs.lemmas.Bool.{eqb-true}
 use Rattle.cf_base.specs.declared.ids.Rid.{Rid}
-use Rattle.cf_base.specs.declared.policies.Mode.TheVariants as mode
 use Rattle.cf_model.specs.Feeds.{is_parent, parent_here}
 use Rattle.cf_model.specs.Numbers.{root_rid}
 use Rattle.cf_model.specs.Words.{says}
-use Rattle.cf_model.specs.Dehydration.{in_use as is_used}
 use Rattle.cf_model.specs.Identities.{by_target, has_target, target_of}
 use Rattle.cf_model.specs.Items.{Item}
 use Rattle.cf_model.specs.State.{Filter, State, book_now, items_now}

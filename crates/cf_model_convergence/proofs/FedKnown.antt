@@ -6,7 +6,6 @@ use Rattle.std.proofs.lemmas.Bool.Decides.{nat_tests}
 use Rattle.cf_base.specs.declared.ids.ItemId.{ItemId}
 use Rattle.cf_base.specs.declared.ids.Rid.{Rid}
 use Rattle.cf_base.specs.declared.messages.Entry.{Entry}
-use Rattle.cf_base.specs.declared.policies.Mode.TheVariants as mode
 use Rattle.cf_model.specs.Changes.{next_number}
 use Rattle.cf_model.specs.Dehydration.{in_use as is_used}
 use Rattle.cf_model.specs.Identities.{by_target, has_target, target_of}

@@ -1,5 +1,9 @@
 pub mod AddingGuarded
 pub mod ApartTargets
+pub mod BareItems
+pub mod ClimbLaws
+pub mod ListsWaited
+pub mod PlacedItems
 pub mod CountsGuarded
 pub mod EarlyCursors
 pub mod FedHere
@@ -32,5 +36,6 @@ pub mod TargetsHere
 pub mod TidyDepths
 pub mod TidyItems
 pub mod TidyRemotes
+pub mod TreeChanges
 pub mod TurnsTold
 pub mod TurnsGrow

@@ -9,7 +9,6 @@ use Rattle.cf_base.specs.declared.ids.Version.{Version}
 use Rattle.cf_base.specs.declared.messages.Reply.{Reply}
 use Rattle.cf_base.specs.declared.messages.Reply.TheVariants as reply
 use Rattle.cf_base.specs.declared.messages.Request.{Request}
-use Rattle.cf_base.specs.declared.messages.Request.TheVariants as request
 use Rattle.cf_base.specs.declared.messages.Why.{Why}
 use Rattle.cf_base.specs.declared.notices.Frame.TheVariants as frame
 use Rattle.cf_base.specs.declared.notices.Notice.{Notice}

@@ -5,7 +5,6 @@ use Rattle.cf_base.specs.declared.events.Event.{Event}
 use Rattle.cf_base.specs.declared.policies.Mode.TheVariants as mode
 use Rattle.cf_model.specs.Arrows.{then_do}
 use Rattle.cf_model.specs.Lawful.{Runs}
-use Rattle.cf_model.specs.Dehydration.{in_use as is_used}
 use Rattle.cf_model.specs.Messages.{no_number}
 use Rattle.cf_model.specs.Passes.{ask_feed, pass, settle_all}
 use Rattle.cf_model.specs.Pushes.{push_all}
@@ -29,11 +28,13 @@ use Rattle.cf_model_convergence.proofs.AddingGuarded.{In}
 use Rattle.cf_model_convergence.proofs.FeedAsked.{feed_told}
 use Rattle.cf_model_convergence.proofs.PushesIdle.{adds_later, numbers_left}
 use Rattle.cf_model_convergence.proofs.PushesTold.{kept_ends, told_after, told_then}
-use Rattle.cf_model_convergence.proofs.ReadyRests.{nothing, ready_settled, ready_whole}
+use Rattle.cf_model_convergence.proofs.ReadyRests.{ready_settled, ready_whole}
 use Rattle.cf_model_convergence.proofs.SettlesTold.{fair_still, settles_told}
 use Rattle.cf_model_convergence.proofs.TidyRemotes.{run_tidy}
 use Rattle.cf_model_convergence.proofs.EarlyCursors.{cursor_early}
 use Rattle.cf_model_convergence.proofs.ApartTargets.{targets_alone}
+use Rattle.cf_model_convergence.specs.Trees.{NoneLists}
+use Rattle.cf_model_convergence.proofs.PlacedItems.{placed_idle, placed_tree, run_placed}
 use Rattle.cf_model_convergence.proofs.TurnsTold.{ends_bind}
 use Rattle.cf_model_convergence.proofs.FedKnown.{fed_ready, fed_whole}
 use Rattle.cf_model_convergence.proofs.FedHere.{all_targets}
@@ -135,21 +136,21 @@ pass_settles_all s u t h fair listening agreed all ends left =
 
 -- in a run
 
-kept_agreed : (remote : Held) (clusters : ℕ) (trace : List (Event × Answer)) (s : State) → Runs mode.Replay (start mode.Replay remote clusters) trace s → IsFresh remote → IsTidy remote → IsFair s.link → IsKeptUp s → IsAgreed s
-kept_agreed remote clusters trace s runs fresh tidy fair k = record {
+kept_agreed : (remote : Held) (clusters : ℕ) (trace : List (Event × Answer)) (s : State) → Runs mode.Replay (start mode.Replay remote clusters) trace s → IsFresh remote → IsTidy remote → IsFair s.link → NoneLists s → IsKeptUp s → IsAgreed s
+kept_agreed remote clusters trace s runs fresh tidy fair none k = record {
   tidy = run_tidy mode.Replay remote clusters trace s runs tidy;
   early = (cursor_early remote clusters trace s runs fresh fair).0;
   alone = (targets_alone remote clusters trace s runs fresh fair).0;
-  tree = k.tree;
-  idle = k.idle;
+  tree = placed_tree s (run_placed remote clusters trace s runs fresh) fair;
+  idle = placed_idle s (run_placed remote clusters trace s runs fresh) fair none;
   passed = k.passed;
   whole = k.whole;
 }
 
-pub run_settles : (remote : Held) (clusters : ℕ) (trace : List (Event × Answer)) (s : State) (u : Unit {0}) (t : State) → Runs mode.Replay (start mode.Replay remote clusters) trace s → IsFresh remote → IsTidy remote → IsFair s.link → IsListening s → IsKeptUp s
+pub run_settles : (remote : Held) (clusters : ℕ) (trace : List (Event × Answer)) (s : State) (u : Unit {0}) (t : State) → Runs mode.Replay (start mode.Replay remote clusters) trace s → IsFresh remote → IsTidy remote → IsFair s.link → IsListening s → NoneLists s → IsKeptUp s
     → EndsFairly (pass s) u t → no_number t ≡ false → IsTold s t ⊎ (is_settled false t ≡ true)
-run_settles remote clusters trace s u t runs fresh tidy fair listening k ends left =
-    pass_settles s u t (run_sound remote clusters trace s runs fresh) fair listening (kept_agreed remote clusters trace s runs fresh tidy fair k) ends left
+run_settles remote clusters trace s u t runs fresh tidy fair listening none k ends left =
+    pass_settles s u t (run_sound remote clusters trace s runs fresh) fair listening (kept_agreed remote clusters trace s runs fresh tidy fair none k) ends left
 
 -- by its lines
 

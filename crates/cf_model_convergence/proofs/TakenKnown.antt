@@ -1,17 +1,15 @@
 -- What is taken in of an item that the remote has so is known.
-use Rattle.std.proofs.Common.{◌≡◌, ◌⊎◌, ◌<◌, ◌≤◌, ◌+◌, ℕ, zero, suc, Bool, true, false, List, [], ◌∷◌, refl, sym, ◌∙◌, ap, subst, inl, inr, arith, length}
+use Rattle.std.proofs.Common.{◌≡◌, ◌<◌, ◌≤◌, ℕ, zero, suc, Bool, true, false, List, [], ◌∷◌, refl, sym, ◌∙◌, ap, inl, inr, arith, length}
 use Rattle.std.specs.Prelude.{Option, Some, None, not, nat_lt, slice_get, ◌&&◌, ◌==◌}
 use Rattle.std.proofs.lemmas.Bool.{eqb-true}
 use Rattle.std.proofs.lemmas.Bool.Decides.{nat_tests}
-use Rattle.cf_base.specs.declared.ids.Rid.{Rid}
 use Rattle.cf_base.specs.declared.items.SeenPath.{SeenPath}
 use Rattle.cf_base.specs.declared.messages.Entry.{Entry}
-use Rattle.cf_model.specs.Books.{seen_of}
-use Rattle.cf_model.specs.Feeds.{is_newer, is_path_of}
+use Rattle.cf_model.specs.Feeds.{is_path_of}
 use Rattle.cf_model.specs.Identities.{base_rid, base_version}
 use Rattle.cf_model.specs.Items.{Item}
 use Rattle.cf_model.specs.State.{State, book_now}
-use Rattle.cf_model.specs.Store.{Held, Stored, bytes_of, entry_told, latest, stored_at, version_bytes}
+use Rattle.cf_model.specs.Store.{Held, Stored, entry_told, latest, stored_at, version_bytes}
 use Rattle.cf_model.specs.Words.{same, says}
 use Rattle.cf_model_laws.specs.Invariant.{HasBase}
 use Rattle.cf_model_laws.proofs.RightItems.{no_way, no_way_back}

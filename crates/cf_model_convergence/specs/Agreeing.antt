@@ -31,9 +31,7 @@ pub record IsPassedHere (s : State) : Type 0 where
   pub populated : All (λ i. i.directory ≡ true → i.populated ≡ true) (items_now s)
   pub here : All (λ r. IsLower r → r.live ≡ true → r.changed ≤ (book_now s).cursor → (i : Item) × Among i (items_now s) × (has_target i r.rid ≡ true)) s.link.remote.items
 
--- what IsAgreed has besides what each state of a run has
+-- what IsAgreed has besides what each state of a run has in which no list call waits
 pub record IsKeptUp (s : State) : Type 0 where
-  pub tree : (i : Item) → IsBelow s i → (p : Item) × (item_of (items_now s) i.parent ≡ Some p) × (item_line (items_now s) i.id ≡ i.id.0 ∷ item_line (items_now s) p.id)
-  pub idle : (i p : Item) → IsBelow s i → item_of (items_now s) i.parent ≡ Some p → in_use s p.id ≡ false
   pub passed : (i : Item) (r : Stored) → IsBelow s i → IsTargetOf s i r → r.changed ≤ (book_now s).cursor → IsKnown (book_now s) i r
   pub whole : AreWhole s

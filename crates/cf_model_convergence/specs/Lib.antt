@@ -13,4 +13,5 @@ pub mod Scripts
 pub mod Settles
 pub mod Telling
 pub mod Tidy
+pub mod Trees
 pub mod Turns

@@ -7,4 +7,5 @@ pub mod passes;
 pub mod remotes;
 pub mod rounds;
 pub mod settled;
+pub mod trees;
 pub mod turns;

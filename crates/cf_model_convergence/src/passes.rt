@@ -25,6 +25,7 @@ ghost use Rattle.cf_model_convergence.specs.Counting.{ArePasses};
 ghost use Rattle.cf_model_convergence.specs.Ready.{IsReady};
 ghost use Rattle.cf_model_convergence.specs.Settles.{IsFed, IsSettledTo};
 ghost use Rattle.cf_model_convergence.specs.Tidy.{IsTidy};
+ghost use Rattle.cf_model_convergence.specs.Trees.{NoneLists};
 ghost use Rattle.cf_model_convergence.specs.Telling.{AreWhole, EndsFairly, IsIdle, IsListening, IsPushable, IsTold, IsTurned, is_loud};
 
 /// A pass takes nothing from the notes or the log. As long as it has added no line of a change, the log and the items are as they
@@ -102,11 +103,11 @@ pub fn a_quiet_pass_leaves_a_settled_state()
     ensures whole { (s : State) (u : Unit {0}) (t : State) (lines : List Notice) → Invariant s → IsFair s.link → IsListening s → IsAgreed s → IsPassedHere s → EndsFairly (pass s) u t → no_number t ≡ false → t.filter.notes ≡ s.filter.notes ++ lines → list_any is_loud lines ≡ false → is_settled true t ≡ true }
 {}
 
-/// In a run over a remote that was handed in tidy the rest of that agreement is enough: items are trees, no parent is in use,
-/// what the cursor has passed is known, and no file that is to be uploaded lacks a byte that is not waited for.
+/// In a run over a remote that was handed in tidy, where no list call waits, the rest of that agreement is enough: what the cursor
+/// has passed is known, and no file that is to be uploaded lacks a byte that is not waited for.
 #[tactic(auto, using(crate::proofs::QuietPasses::run_settles))]
 pub fn an_untold_pass_of_a_run_leaves_a_settled_state()
-    ensures { (remote : Held) (clusters : ℕ) (trace : List (Event × Answer)) (s : State) (u : Unit {0}) (t : State) → Runs mode.Replay (start mode.Replay remote clusters) trace s → IsFresh remote → IsTidy remote → IsFair s.link → IsListening s → IsKeptUp s → EndsFairly (pass s) u t → no_number t ≡ false → IsTold s t ⊎ (is_settled false t ≡ true) }
+    ensures { (remote : Held) (clusters : ℕ) (trace : List (Event × Answer)) (s : State) (u : Unit {0}) (t : State) → Runs mode.Replay (start mode.Replay remote clusters) trace s → IsFresh remote → IsTidy remote → IsFair s.link → IsListening s → NoneLists s → IsKeptUp s → EndsFairly (pass s) u t → no_number t ≡ false → IsTold s t ⊎ (is_settled false t ≡ true) }
 {}
 
 /// The passes of a `sync` end with a whole pass, and up to it nothing is taken from the notes or the log.
