@@ -1,0 +1,90 @@
+-- What a restart may end with, and a crash.
+use Rattle.std.proofs.Common.{◌≡◌, ◌⊎◌, ℕ, suc, Bool, true, false, List, [], ◌∷◌, length, nat_lt, reverse, refl, sym, ◌∙◌, ap, subst, inl, inr}
+use Rattle.std.proofs.lemmas.List.{length-reverse}
+use Rattle.cf_base.specs.declared.answers.Shown.{Shown}
+use Rattle.cf_base.specs.declared.answers.Shown.TheVariants as shown
+use Rattle.cf_base.specs.declared.codes.Code.TheVariants as code
+use Rattle.cf_model.specs.Arrows.{Arrow, choose, noted, ret, then_do}
+use Rattle.cf_model.specs.Books.{Book}
+use Rattle.cf_model.specs.Numbers.{most}
+use Rattle.cf_model.specs.Points.{ArePoints, HasPoints}
+use Rattle.cf_model.specs.Restarts.{crash, crashed, epoch_after, one_of, open_point, open_points, open_skipping, points_at, restart, restart_by, resumed, with_opened}
+use Rattle.cf_model.specs.State.{Broken, Off, On, Point, Power, State}
+use Rattle.cf_model.specs.Trees.{Ends}
+use Rattle.cf_model.specs.Words.{counting}
+use Rattle.cf_check_ways.specs.Ways.{Alike, BothResumed, IsSure, SameEnd, fixed_state, of_state}
+use Rattle.cf_check_ways.proofs.Sure.{plain_quiet, sure_noted, sure_ret, sure_then}
+
+pub crash_sure : IsSure of_state crash
+crash_sure = sure_then of_state (noted crashed) (ret shown.Done) (sure_noted of_state crashed (plain_quiet of_state crashed (λ s. refl) (λ s. refl) (λ s. refl))) (sure_ret of_state shown.Done)
+
+-- a restart over a volume that was off
+
+ends_one_of : {X : Type 0} (f : X → Arrow State Shown) (x : X) (xs : List X) (s : State) (a : Shown) (t : State) → Ends (one_of f x xs s) a t → (y : X) × Ends (f y s) a t
+ends_one_of f x [] s a t h = (x, h)
+ends_one_of f x (y ∷ ys) s a t (inl h) = (x, h)
+ends_one_of f x (y ∷ ys) s a t (inr h) = ends_one_of f y ys s a t h
+
+-- the epochs are used up, or the point was opened
+opened_in : (p : Point) (epoch : ℕ) (s : State) (a : Shown) (t : State) (none : Bool) → Ends (choose none (ret (shown.Refused code.Exhausted)) (then_do (noted (with_opened p epoch)) (ret (resumed p))) s) a t
+    → ((none ≡ true) × (a ≡ shown.Refused code.Exhausted) × (t ≡ s)) ⊎ ((none ≡ false) × (a ≡ resumed p) × (t ≡ with_opened p epoch s))
+opened_in p epoch s a t true h = inl (refl, h.0, h.1)
+opened_in p epoch s a t false h = inr (refl, h.0, h.1)
+
+abbrev Opened : State → Shown → State → Type 0
+Opened s a t = ((nat_lt most (epoch_after 0 s) ≡ true) × (a ≡ shown.Refused code.Exhausted) × (t ≡ s))
+    ⊎ ((nat_lt most (epoch_after 0 s) ≡ false) × ((p : Point) × (a ≡ resumed p) × (t ≡ with_opened p (epoch_after 0 s) s)))
+
+opened_at_point : (s : State) (p : Point) (a : Shown) (t : State) → s.failed_opens ≡ 0 → Ends (open_point p s) a t → Opened s a t
+opened_at_point s p a t none h =
+    let first : Ends (one_of (open_skipping p) 0 [] s) a t = subst (λ (n : ℕ). Ends (one_of (open_skipping p) 0 (counting 1 n) s) a t) none h in
+    elim (opened_in p (epoch_after 0 s) s a t (nat_lt most (epoch_after 0 s)) first) as (λ _. Opened s a t) [ inl x ↦ inl x | inr x ↦ inr (x.0, (p, x.1, x.2)) ]
+
+opened_of_points : (s : State) (ps : List Point) (a : Shown) (t : State) → (ps ≡ [] → ⊥) → s.failed_opens ≡ 0 → Ends (open_points ps s) a t → Opened s a t
+opened_of_points s [] a t some none h = absurd (some refl)
+opened_of_points s (p ∷ ps) a t some none h = let x = ends_one_of open_point p ps s a t h in opened_at_point s x.0 a t none x.1
+
+no_longer_empty : (p : Point) (ps : List Point) → reverse (p ∷ ps) ≡ [] → ⊥
+no_longer_empty p ps e = let n : length (reverse (p ∷ ps)) ≡ length (p ∷ ps) = length-reverse (p ∷ ps) in let z : 0 ≡ suc (length ps) = sym (ap (λ (xs : List Point). length xs) e) ∙ n in absurd cc
+
+some_points : (n : ℕ) (ps : List Point) → ArePoints n ps → reverse ps ≡ [] → ⊥
+some_points n [] h e = h
+some_points n (p ∷ ps) h e = no_longer_empty p ps e
+
+-- at points of one count and one book both are alike
+abbrev of_count : ℕ → Book → Point
+of_count count book = record { sure = true; count = count; book = book }
+
+pub same_opened : (s o : State) (a b : Shown) (t u : State) → Alike of_state s o → (r : BothResumed s o a b t u) → r.point.count ≡ r.other.count → r.point.book ≡ r.other.book → SameEnd of_state a t b u
+same_opened s o a b t u e r counts books = (
+  r.resumes ∙ ap (λ (n : ℕ). resumed (of_count n r.point.book)) counts ∙ ap (λ (k : Book). resumed (of_count r.other.count k)) books ∙ sym r.resumes_too,
+  ap fixed_state r.left
+      ∙ ap (λ (n : ℕ). fixed_state (with_opened (of_count n r.point.book) (epoch_after 0 s) s)) counts
+      ∙ ap (λ (k : Book). fixed_state (with_opened (of_count r.other.count k) (epoch_after 0 s) s)) books
+      ∙ ap (λ (x : State). fixed_state (with_opened (of_count r.other.count r.other.book) (epoch_after 0 x) x)) e
+      ∙ ap fixed_state (sym r.left_too),
+)
+
+both_opened : (s o : State) (a b : Shown) (t u : State) → Alike of_state s o → Opened s a t → Opened o b u → SameEnd of_state a t b u ⊎ BothResumed s o a b t u
+both_opened s o a b t u e (inl x) (inl y) = inl (x.1 ∙ sym y.1, ap fixed_state x.2 ∙ e ∙ ap fixed_state (sym y.2))
+both_opened s o a b t u e (inl x) (inr y) = let z : true ≡ false = sym x.0 ∙ ap (λ (k : State). nat_lt most (epoch_after 0 k)) e ∙ y.0 in absurd cc
+both_opened s o a b t u e (inr x) (inl y) = let z : false ≡ true = sym x.0 ∙ ap (λ (k : State). nat_lt most (epoch_after 0 k)) e ∙ y.0 in absurd cc
+both_opened s o a b t u e (inr x) (inr y) = inr (record { point = x.1.0; other = y.1.0; resumes = x.1.1; resumes_too = y.1.1; left = x.1.2; left_too = y.1.2 })
+
+-- two restarts, where none failed since the last opening
+pub restart_one : (s o : State) → Alike of_state s o → s.failed_opens ≡ 0 → HasPoints s.filter.volume → HasPoints o.filter.volume → (a b : Shown) (t u : State)
+    → Ends (restart s) a t → Ends (restart o) b u → SameEnd of_state a t b u ⊎ BothResumed s o a b t u
+restart_one s o e none has has_too a b t u h k = by s.power o.power (ap (λ (x : State). x.power) e) h k
+  where
+    by : (w v : Power) → w ≡ v → Ends (restart_by w s) a t → Ends (restart_by v o) b u → SameEnd of_state a t b u ⊎ BothResumed s o a b t u
+    by Off Off same h k =
+        both_opened s o a b t u e (opened_of_points s (points_at s) a t (some_points (length s.filter.volume.log) s.filter.volume.points has) none h)
+        (opened_of_points o (points_at o) b u (some_points (length o.filter.volume.log) o.filter.volume.points has_too) (sym (ap (λ (x : State). x.failed_opens) e) ∙ none) k)
+    by On On same h k = inl (h.0 ∙ sym k.0, ap fixed_state h.1 ∙ e ∙ ap fixed_state (sym k.1))
+    by Broken Broken same h k = inl (h.0 ∙ sym k.0, ap fixed_state h.1 ∙ e ∙ ap fixed_state (sym k.1))
+    by Off On same h k = let z : Off ≡ On = same in absurd cc
+    by Off Broken same h k = let z : Off ≡ Broken = same in absurd cc
+    by On Off same h k = let z : On ≡ Off = same in absurd cc
+    by On Broken same h k = let z : On ≡ Broken = same in absurd cc
+    by Broken On same h k = let z : Broken ≡ On = same in absurd cc
+    by Broken Off same h k = let z : Broken ≡ Off = same in absurd cc

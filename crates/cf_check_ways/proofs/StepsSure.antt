@@ -1,0 +1,132 @@
+-- Two answers to one event from alike states.
+use Rattle.std.proofs.Common.{◌≡◌, ◌⊎◌, ℕ, zero, suc, Bool, true, false, List, [], ◌∷◌, refl, sym, ◌∙◌, ap, subst, inl, inr}
+use Rattle.std.specs.Prelude.{Option, Some, None}
+use Rattle.cf_base.specs.declared.answers.Answer.{Answer}
+use Rattle.cf_base.specs.declared.answers.Shown.{Shown}
+use Rattle.cf_base.specs.declared.answers.Shown.TheVariants as shown
+use Rattle.cf_base.specs.declared.codes.Code.{Code}
+use Rattle.cf_base.specs.declared.codes.Code.TheVariants as code
+use Rattle.cf_base.specs.declared.events.DeviceEvent.TheVariants as device
+use Rattle.cf_base.specs.declared.events.Event.{Event}
+use Rattle.cf_base.specs.declared.events.Event.TheVariants as event
+use Rattle.cf_base.specs.declared.events.PeerEvent.{PeerEvent}
+use Rattle.cf_base.specs.declared.policies.Mode.{Mode}
+use Rattle.cf_model.specs.Events.{answer_in, answered, begun, choices_in, event_now, may_stop, needs_volume, no_volume, outcome, refusal, tree_of}
+use Rattle.cf_model.specs.Lawful.{IsStep}
+use Rattle.cf_model.specs.Points.{HasPoints}
+use Rattle.cf_model.specs.State.{State}
+use Rattle.cf_model.specs.Trees.{AsItKeeps, Asked, Choices, Ends, Fork, Ret, Step, Telling, Tree, play, walk}
+use Rattle.cf_model.proofs.MessagesKeep.{asked_keeps}
+use Rattle.cf_model.proofs.PeersKeep.{peer_event_keeps}
+use Rattle.cf_model.proofs.TreeLaws.{kept_at_end}
+use Rattle.cf_check_ways.specs.Ways.{Alike, AnswersAlike, BothResumed, IsSure, OneFailed, Parted, SameEnd, fixed_state, is_good, of_state}
+use Rattle.cf_check_ways.proofs.EngineEventsSure.{engine_event_sure}
+use Rattle.cf_check_ways.proofs.EventsSure.{call_now_sure, provider_event_sure}
+use Rattle.cf_check_ways.proofs.PeersSure.{peer_event_sure}
+use Rattle.cf_check_ways.proofs.RestartsSure.{crash_sure, restart_one}
+use Rattle.cf_check_ways.proofs.Sure.{sure_ret}
+
+-- by choices that do not stop it an event ends
+
+walk_ends : {S A : Type 0} (stop : Option ℕ) (forks : List Bool) (ts : List Telling) (p : Tree S A) (a : A) (t : S) → ◌≡◌ {A = Option A × S} (walk stop forks ts p) (Some a, t) → Ends p a t
+walk_ends {S} {A} stop forks ts (Ret b s) a t h = (some_inj (sym (ap (λ (x : Option A × S). x.0) h)), sym (ap (λ (x : Option A × S). x.1) h))
+  where
+    some_inj : Some a ≡ Some b → a ≡ b
+    some_inj e = cc
+walk_ends None forks ts (Step s p) a t h = walk_ends None forks ts p a t h
+walk_ends {S} {A} (Some zero) forks ts (Step s p) a t h = let z : ◌≡◌ {A = Option A} None (Some a) = ap (λ (x : Option A × S). x.0) h in absurd cc
+walk_ends (Some (suc n)) forks ts (Step s p) a t h = walk_ends (Some n) forks ts p a t h
+walk_ends stop [] ts (Fork p q) a t h = inl (walk_ends stop [] ts p a t h)
+walk_ends stop (false ∷ forks) ts (Fork p q) a t h = inl (walk_ends stop forks ts p a t h)
+walk_ends stop (true ∷ forks) ts (Fork p q) a t h = inr (walk_ends stop forks ts q a t h)
+walk_ends stop forks [] (Asked k) a t h = (AsItKeeps, walk_ends stop forks [] (k AsItKeeps) a t h)
+walk_ends stop forks (x ∷ ts) (Asked k) a t h = (x, walk_ends stop forks ts (k x) a t h)
+
+-- what a step is: a refusal for want of the volume, an end, or a stop
+
+abbrev Stopped : Answer → Type 0
+Stopped a = a.shown ≡ shown.Refused code.Device
+
+abbrev Ended : State → Event → Answer → State → Type 0
+Ended s e a t = (r : Shown) × Ends (tree_of e s) r t × (a ≡ answer_in r t)
+
+abbrev StepOf : Option Code → State → Event → Answer → State → Type 0
+StepOf (Some c) s e a t = (a ≡ refusal c) × (t ≡ s)
+StepOf None s e a t = Ended s e a t ⊎ Stopped a
+
+outcome_of : (s : State) (e : Event) (a : Answer) (t : State) (x : Option Shown) (u : State) → ((r : Shown) → x ≡ Some r → Ends (tree_of e s) r u) → ◌≡◌ {A = State × Answer} (outcome (x, u)) (t, a) → StepOf None s e a t
+outcome_of s e a t (Some r) u ends h =
+    let is : u ≡ t = ap (λ (z : State × Answer). z.0) h in
+    let told : answer_in r u ≡ a = ap (λ (z : State × Answer). z.1) h in
+    inl (r, subst (λ (z : State). Ends (tree_of e s) r z) is (ends r refl), sym told ∙ ap (answer_in r) is)
+outcome_of s e a t None u ends h = inr (sym (ap (λ (z : State × Answer). z.1.shown) h))
+
+parts_of : (why : Option Code) (c : Choices) (s : State) (e : Event) (a : Answer) (t : State) → ◌≡◌ {A = State × Answer} (answered why c s e) (t, a) → StepOf why s e a t
+parts_of (Some r) c s e a t h = (sym (ap (λ (z : State × Answer). z.1) h), sym (ap (λ (z : State × Answer). z.0) h))
+parts_of None c s e a t h =
+    let d : Choices = choices_in (may_stop e) c in
+    let p : Option Shown × State = play d (tree_of e s) in
+    outcome_of s e a t p.0 p.1 (λ r is. walk_ends d.stop d.forks d.tellings (tree_of e s) r p.1 (ap (λ (x : Option Shown). (x, p.1)) is)) h
+
+step_of : (m : Mode) (s : State) (e : Event) (a : Answer) (t : State) → IsStep m s e a t → StepOf (no_volume (needs_volume e) s.power) s e a t
+step_of m s e a t h = parts_of (no_volume (needs_volume e) s.power) h.1 s e a t h.2
+
+-- trees of one event from alike states
+
+begun_alike : (s o : State) → Alike of_state s o → Alike of_state (begun s) (begun o)
+begun_alike s o e = ap (λ (x : State). fixed_state (begun x)) e
+
+-- the answers, where the ends are alike
+answers_as_ends : (s o : State) (r q : Shown) (t u : State) → SameEnd of_state r t q u ⊎ Parted t.filter.notes u.filter.notes → AnswersAlike s o (answer_in r t) t (answer_in q u) u
+answers_as_ends s o r q t u (inl same) = inl (ap (λ (x : Shown). answer_in x t) same.0 ∙ ap (λ (x : State). answer_in q x) same.1, same.1)
+answers_as_ends s o r q t u (inr apart) = inr (inl apart)
+
+of_sure : (s o : State) (e : Event) → IsSure of_state (event_now e) → Alike of_state s o → (r q : Shown) (t u : State) → Ends (tree_of e s) r t → Ends (tree_of e o) q u → is_good t ≡ true → is_good u ≡ true
+    → AnswersAlike s o (answer_in r t) t (answer_in q u) u
+of_sure s o e sure alike r q t u h k good well = answers_as_ends s o r q t u (sure.one (begun s) (begun o) (begun_alike s o alike) r q t u h k good well)
+
+peer_quiet : (e : PeerEvent) (s : State) (r : Shown) (t : State) → Ends (tree_of (event.Peer e) s) r t → t.filter.notes ≡ []
+peer_quiet e s r t h =
+    kept_at_end (λ x. x.filter.notes ≡ []) (tree_of (event.Peer e) s) r t
+    ((peer_event_keeps (λ x. x.filter.notes ≡ []) (asked_keeps (λ x. x.filter.notes ≡ []) (λ x n. n) (λ held x n. n) (λ x n. n)) (λ x n. n) (λ y x n. n) e).keeps (begun s) refl) h
+
+of_peer : (s o : State) (e : PeerEvent) → Alike of_state s o → (r q : Shown) (t u : State) → Ends (tree_of (event.Peer e) s) r t → Ends (tree_of (event.Peer e) o) q u → is_good t ≡ true → is_good u ≡ true
+    → AnswersAlike s o (answer_in r t) t (answer_in q u) u
+of_peer s o e alike r q t u h k good well = by ((peer_event_sure e).one (begun s) (begun o) (begun_alike s o alike) r q t u h k good well)
+  where
+    by : SameEnd of_state r t q u ⊎ (Parted t.filter.notes u.filter.notes ⊎ OneFailed r q) → AnswersAlike s o (answer_in r t) t (answer_in q u) u
+    by (inl same) = answers_as_ends s o r q t u (inl same)
+    by (inr (inl apart)) = inr (inl apart)
+    by (inr (inr one)) = inr (inr (inl (peer_quiet e s r t h ∙ sym (peer_quiet e o q u k), one)))
+
+of_restart : (s o : State) → Alike of_state s o → s.failed_opens ≡ 0 → HasPoints s.filter.volume → HasPoints o.filter.volume → (r q : Shown) (t u : State)
+    → Ends (tree_of (event.Device device.Restart) s) r t → Ends (tree_of (event.Device device.Restart) o) q u → AnswersAlike s o (answer_in r t) t (answer_in q u) u
+of_restart s o alike none has has_too r q t u h k = by (restart_one (begun s) (begun o) (begun_alike s o alike) none has has_too r q t u h k)
+  where
+    by : SameEnd of_state r t q u ⊎ BothResumed (begun s) (begun o) r q t u → AnswersAlike s o (answer_in r t) t (answer_in q u) u
+    by (inl same) = answers_as_ends s o r q t u (inl same)
+    by (inr both) = inr (inr (inr both))
+
+both_ended : (s o : State) (e : Event) → Alike of_state s o → s.failed_opens ≡ 0 → HasPoints s.filter.volume → HasPoints o.filter.volume → (r q : Shown) (t u : State)
+    → Ends (tree_of e s) r t → Ends (tree_of e o) q u → is_good t ≡ true → is_good u ≡ true → AnswersAlike s o (answer_in r t) t (answer_in q u) u
+both_ended s o (event.Call c) alike none has has_too r q t u h k good well = of_sure s o (event.Call c) (call_now_sure c) alike r q t u h k good well
+both_ended s o (event.Device (device.Stop n)) alike none has has_too r q t u h k good well = of_sure s o (event.Device (device.Stop n)) (sure_ret of_state shown.Done) alike r q t u h k good well
+both_ended s o (event.Device (device.Crash c)) alike none has has_too r q t u h k good well = of_sure s o (event.Device (device.Crash c)) crash_sure alike r q t u h k good well
+both_ended s o (event.Device device.Restart) alike none has has_too r q t u h k good well = of_restart s o alike none has has_too r q t u h k
+both_ended s o (event.Peer p) alike none has has_too r q t u h k good well = of_peer s o p alike r q t u h k good well
+both_ended s o (event.Engine g) alike none has has_too r q t u h k good well = of_sure s o (event.Engine g) (engine_event_sure g) alike r q t u h k good well
+both_ended s o (event.Provider p) alike none has has_too r q t u h k good well = of_sure s o (event.Provider p) (provider_event_sure p) alike r q t u h k good well
+
+-- two answers to one event from alike states, neither of which is that of a device that failed
+pub steps_alike : (m : Mode) (s o : State) (e : Event) (a b : Answer) (t u : State) → Alike of_state s o → s.failed_opens ≡ 0 → HasPoints s.filter.volume → HasPoints o.filter.volume
+    → IsStep m s e a t → IsStep m o e b u → is_good t ≡ true → is_good u ≡ true → (Stopped a → ⊥) → (Stopped b → ⊥) → AnswersAlike s o a t b u
+steps_alike m s o e a b t u alike none has has_too h k good well runs runs_too =
+    by (no_volume (needs_volume e) s.power) (step_of m s e a t h) (subst (λ (w : Option Code). StepOf w o e b u) (sym (ap (λ (x : State). no_volume (needs_volume e) x.power) alike)) (step_of m o e b u k))
+  where
+    by : (why : Option Code) → StepOf why s e a t → StepOf why o e b u → AnswersAlike s o a t b u
+    by (Some c) x y = inl (x.0 ∙ sym y.0, ap fixed_state x.1 ∙ alike ∙ ap fixed_state (sym y.1))
+    by None (inr stop) y = absurd (runs stop)
+    by None x (inr stop) = absurd (runs_too stop)
+    by None (inl x) (inl y) =
+        subst (λ (z : Answer). AnswersAlike s o z t b u) (sym x.2)
+        (subst (λ (z : Answer). AnswersAlike s o (answer_in x.0 t) t z u) (sym y.2) (both_ended s o e alike none has has_too x.0 y.0 t u x.1 y.1 good well))

@@ -1,0 +1,164 @@
+-- The words that join parts: of sure parts they make sure ones.
+use Rattle.std.proofs.Common.{◌≡◌, ◌⊎◌, Bool, true, false, List, [], ◌∷◌, ◌++◌, refl, sym, ◌∙◌, ap, subst, inl, inr, append_assoc, append-nil}
+use Rattle.std.specs.Prelude.{Option, Some, None}
+use Rattle.cf_base.specs.declared.codes.Code.{Code}
+use Rattle.cf_base.specs.declared.notices.Notice.{Notice}
+use Rattle.cf_model.specs.Arrows.{Arrow, and_then, attempt, choose, each, noted, one, one_or, only_if, reading, ret, seq, then_do, unit, unless, unless_done, when_ok}
+use Rattle.cf_model.specs.Trees.{Asked, Ends, Fork, Ret, Step, Tree, bind, mapped}
+use Rattle.cf_check_ways.specs.Ways.{FailedIn, Grown, IsPlain, IsSure, Parted, Reads, SameEnd, View}
+
+-- ends of the first part and of the rest
+
+pub ends_split : {S A B : Type 0} (p : Tree S A) (g : A → S → Tree S B) (b : B) (t : S) → Ends (bind p g) b t → (a : A) × (m : S) × Ends p a m × Ends (g a m) b t
+ends_split (Ret a s) g b t h = (a, s, (refl, refl), h)
+ends_split (Step s p) g b t h = ends_split p g b t h
+ends_split (Fork p q) g b t (inl h) = let x = ends_split p g b t h in (x.0, x.1, inl x.2, x.3)
+ends_split (Fork p q) g b t (inr h) = let x = ends_split q g b t h in (x.0, x.1, inr x.2, x.3)
+ends_split (Asked k) g b t h = let x = ends_split (k h.0) g b t h.1 in (x.0, x.1, (h.0, x.2), x.3)
+
+pub ends_of_mapped : {S T A : Type 0} (f : S → T) (p : Tree S A) (a : A) (t : T) → Ends (mapped f p) a t → (u : S) × Ends p a u × (t ≡ f u)
+ends_of_mapped f (Ret a s) b t h = (s, (h.0, refl), h.1)
+ends_of_mapped f (Step s p) b t h = ends_of_mapped f p b t h
+ends_of_mapped f (Fork p q) b t (inl h) = let x = ends_of_mapped f p b t h in (x.0, inl x.1, x.2)
+ends_of_mapped f (Fork p q) b t (inr h) = let x = ends_of_mapped f q b t h in (x.0, inr x.1, x.2)
+ends_of_mapped f (Asked k) b t h = let x = ends_of_mapped f (k h.0) b t h.1 in (x.0, (h.0, x.1), x.2)
+
+-- what happened grows
+
+pub grown_none : {S : Type 0} (v : View S) (s : S) → Grown v s s
+grown_none v s = record { notes = ([], sym (append-nil (v.notes s))); good = λ h. h }
+
+pub grown_more : {S : Type 0} (v : View S) (s m t : S) → Grown v s m → Grown v m t → Grown v s t
+grown_more v s m t g h =
+    record {
+      notes = (g.notes.0 ++ h.notes.0, h.notes.1 ∙ ap (λ (xs : List Notice). xs ++ h.notes.0) g.notes.1 ∙ append_assoc (v.notes s) g.notes.0 h.notes.0);
+      good = λ x. g.good (h.good x);
+    }
+
+longer : (xs more ys : List Notice) (before : List Notice) (n : Notice) (after : List Notice) → ys ≡ xs ++ more → xs ≡ before ++ n ∷ after → ys ≡ before ++ n ∷ (after ++ more)
+longer xs more ys before n after e d = e ∙ ap (λ (zs : List Notice). zs ++ more) d ∙ append_assoc before (n ∷ after) more
+
+failed_later : (x y x' y' more more' : List Notice) → x' ≡ x ++ more → y' ≡ y ++ more' → FailedIn x y → FailedIn x' y'
+failed_later x y x' y' more more' e d f =
+    record {
+      before = f.before;
+      message = f.message;
+      number = f.number;
+      reply = f.reply;
+      lost = f.lost;
+      after = f.after ++ more;
+      others = f.others ++ more';
+      first_is = longer x more x' f.before _ f.after e f.first_is;
+      second_is = longer y more' y' f.before _ f.others d f.second_is;
+    }
+
+-- once parted they stay so
+pub parted_later : {S : Type 0} (v : View S) (m t n u : S) → Grown v m t → Grown v n u → Parted (v.notes m) (v.notes n) → Parted (v.notes t) (v.notes u)
+parted_later v m t n u g h (inl f) = inl (failed_later (v.notes m) (v.notes n) (v.notes t) (v.notes u) g.notes.0 h.notes.0 g.notes.1 h.notes.1 f)
+parted_later v m t n u g h (inr f) = inr (failed_later (v.notes n) (v.notes m) (v.notes u) (v.notes t) h.notes.0 g.notes.0 h.notes.1 g.notes.1 f)
+
+-- the words
+
+pub sure_ret : {S A : Type 0} (v : View S) (a : A) → IsSure v (ret a)
+sure_ret v a = record {
+  grows = λ s b t h. subst (λ (x : _). Grown v s x) (sym h.1) (grown_none v s);
+  one = λ s o e b c t u h k _ _. inl (h.0 ∙ sym k.0, ap v.fixed h.1 ∙ e ∙ ap v.fixed (sym k.1));
+}
+
+pub sure_seq : {S A B : Type 0} (v : View S) (f : Arrow S A) (g : A → Arrow S B) → IsSure v f → ((a : A) → IsSure v (g a)) → IsSure v (seq f g)
+sure_seq {S} {A} {B} v f g first rest = record {
+  grows = λ s b t h. let x = ends_split (f s) g b t h in grown_more v s x.1 t (first.grows s x.0 x.1 x.2) ((rest x.0).grows x.1 b t x.3);
+  one = λ s o e b c t u h k good well.
+      let x = ends_split (f s) g b t h in
+      let y = ends_split (f o) g c u k in
+      let later : Grown v x.1 t = (rest x.0).grows x.1 b t x.3 in
+      let late : Grown v y.1 u = (rest y.0).grows y.1 c u y.3 in
+      joined x.0 y.0 x.1 y.1 b c t u x.3 y.3 later late good well (first.one s o e x.0 y.0 x.1 y.1 x.2 y.2 (later.good good) (late.good well));
+}
+  where
+    joined : (a a' : A) (m n : S) (b c : B) (t u : S) → Ends (g a m) b t → Ends (g a' n) c u → Grown v m t → Grown v n u → v.good t ≡ true → v.good u ≡ true
+        → SameEnd v a m a' n ⊎ Parted (v.notes m) (v.notes n) → SameEnd v b t c u ⊎ Parted (v.notes t) (v.notes u)
+    joined a a' m n b c t u h k later late good well (inl same) = (rest a).one m n same.1 b c t u h (subst (λ (x : A). Ends (g x n) c u) (sym same.0) k) good well
+    joined a a' m n b c t u h k later late good well (inr apart) = inr (parted_later v m t n u later late apart)
+
+pub sure_then : {S A B : Type 0} (v : View S) (f : Arrow S A) (g : Arrow S B) → IsSure v f → IsSure v g → IsSure v (then_do f g)
+sure_then v f g first rest = sure_seq v f (λ _. g) first (λ a. rest)
+
+pub sure_reading : {S A X : Type 0} (v : View S) (get : S → X) (f : X → Arrow S A) → Reads v get → ((x : X) → IsSure v (f x)) → IsSure v (reading get f)
+sure_reading {S} {A} {X} v get f reads rest = record {
+  grows = λ s a t h. (rest (get s)).grows s a t h;
+  one = λ s o e a b t u h k good well. (rest (get s)).one s o e a b t u h (subst (λ (x : X). Ends (f x o) b u) (sym (reads s o e)) k) good well;
+}
+
+pub sure_noted : {S : Type 0} (v : View S) (f : S → S) → IsPlain v f → IsSure v (noted f)
+sure_noted v f plain = record {
+  grows = λ s a t h. subst (λ (x : _). Grown v s x) (sym h.1) (plain.grows s);
+  one = λ s o e a b t u h k good well. inl (h.0 ∙ sym k.0, ap v.fixed h.1 ∙ plain.alike s o e ∙ ap v.fixed (sym k.1));
+}
+
+pub sure_one : {S : Type 0} (v : View S) (f : S → S) → IsPlain v f → IsSure v (one f)
+sure_one v f plain = record { grows = (sure_noted v f plain).grows; one = (sure_noted v f plain).one }
+
+pub sure_one_or : {S : Type 0} (v : View S) (stop f : S → S) → IsPlain v f → IsSure v (one_or stop f)
+sure_one_or v stop f plain = record { grows = (sure_noted v f plain).grows; one = (sure_noted v f plain).one }
+
+pub sure_choose : {S A : Type 0} (v : View S) (b : Bool) (f g : Arrow S A) → IsSure v f → IsSure v g → IsSure v (choose b f g)
+sure_choose v true f g h k = h
+sure_choose v false f g h k = k
+
+pub sure_unless : {S A : Type 0} (v : View S) (refused : Code → A) (c : Option Code) (f : Arrow S A) → IsSure v f → IsSure v (unless refused c f)
+sure_unless v refused None f h = h
+sure_unless v refused (Some c) f h = sure_ret v (refused c)
+
+pub sure_when_ok : {S A : Type 0} (v : View S) (a : A) (f : Arrow S A) (b : Bool) → IsSure v f → IsSure v (when_ok a f b)
+sure_when_ok v a f true h = h
+sure_when_ok v a f false h = sure_ret v a
+
+pub sure_each : {S X : Type 0} (v : View S) (f : X → Arrow S (Unit {0})) (xs : List X) → ((x : X) → IsSure v (f x)) → IsSure v (each f xs)
+sure_each v f [] h = sure_ret v unit
+sure_each v f (x ∷ xs) h = sure_then v (f x) (each f xs) (h x) (sure_each v f xs h)
+
+pub sure_only_if : {S : Type 0} (v : View S) (b : Bool) (f : Arrow S Bool) → IsSure v f → IsSure v (only_if b f)
+sure_only_if v true f h = h
+sure_only_if v false f h = sure_ret v true
+
+pub sure_and_then : {S : Type 0} (v : View S) (f g : Arrow S Bool) → IsSure v f → IsSure v g → IsSure v (and_then f g)
+sure_and_then v f g h k = sure_seq v f (when_ok false g) h (λ a. sure_when_ok v false g a k)
+
+sure_unless_done : {S : Type 0} (v : View S) (f : Arrow S (Unit {0})) (c : Option Code) → IsSure v f → IsSure v (unless_done f c)
+sure_unless_done v f None h = sure_seq v f (λ _. ret None) h (λ a. sure_ret v None)
+sure_unless_done v f (Some c) h = sure_ret v (Some c)
+
+pub sure_attempt : {S : Type 0} (v : View S) (why : S → Option Code) (f : Arrow S (Unit {0})) → Reads v why → IsSure v f → IsSure v (attempt why f)
+sure_attempt v why f reads h = sure_reading v why (unless_done f) reads (λ c. sure_unless_done v f c h)
+
+-- what changes nothing but what is fixed, and notes nothing
+pub plain_quiet : {S : Type 0} (v : View S) (f : S → S) → ((s : S) → v.fixed (f s) ≡ v.fixed (f (v.fixed s))) → ((s : S) → v.notes (f s) ≡ v.notes s) → ((s : S) → v.good (f s) ≡ v.good s) → IsPlain v f
+plain_quiet v f fixed notes good = record {
+  grows = λ s. record { notes = ([], notes s ∙ sym (append-nil (v.notes s))); good = λ h. sym (good s) ∙ h };
+  alike = λ s o e. fixed s ∙ ap (λ (x : _). v.fixed (f x)) e ∙ sym (fixed o);
+}
+
+-- what notes lines
+pub plain_noting : {S : Type 0} (v : View S) (f : S → S) (more : S → List Notice) → ((s : S) → v.fixed (f s) ≡ v.fixed (f (v.fixed s))) → ((s : S) → v.notes (f s) ≡ v.notes s ++ more s) → ((s : S) → v.good (f s) ≡ v.good s) → IsPlain v f
+plain_noting v f more fixed notes good = record {
+  grows = λ s. record { notes = (more s, notes s); good = λ h. sym (good s) ∙ h };
+  alike = λ s o e. fixed s ∙ ap (λ (x : _). v.fixed (f x)) e ∙ sym (fixed o);
+}
+
+-- what is read is read of what is fixed
+pub reads_fixed : {S X : Type 0} (v : View S) (get : S → X) → ((s : S) → get s ≡ get (v.fixed s)) → Reads v get
+reads_fixed v get is = λ s o e. is s ∙ ap get e ∙ sym (is o)
+
+-- a part that hangs on what is read of the state
+pub sure_at : {S A X : Type 0} (v : View S) (f : Arrow S A) (get : S → X) (g : X → Arrow S A) → ((s : S) → f s ≡ g (get s) s) → Reads v get → ((x : X) → IsSure v (g x)) → IsSure v f
+sure_at {S} {A} {X} v f get g is reads rest = record {
+  grows = λ s a t h. (rest (get s)).grows s a t (subst (λ (p : Tree S A). Ends p a t) (is s) h);
+  one = λ s o e a b t u h k good well.
+      (rest (get s)).one s o e a b t u (subst (λ (p : Tree S A). Ends p a t) (is s) h)
+      (subst (λ (x : X). Ends (g x o) b u) (sym (reads s o e)) (subst (λ (p : Tree S A). Ends p b u) (is o) k)) good well;
+}
+
+-- a part that hangs on what is fixed of the state
+pub sure_fixed : {S A : Type 0} (v : View S) (f : Arrow S A) (g : S → Arrow S A) → ((s : S) → f s ≡ g (v.fixed s) s) → ((x : S) → IsSure v (g x)) → IsSure v f
+sure_fixed v f g is rest = sure_at v f v.fixed g is (λ s o e. e) rest

@@ -1,0 +1,135 @@
+-- Two ways through what an event does, from states that are alike: how they may differ.
+--
+-- What a report does not fix is left out of what is alike: the points that a restart may open, and how often the remote was
+-- asked. Where the remote broke its rules, or numbers of messages are used up, nothing is said.
+use Rattle.std.specs.Prelude.{◌≡◌, ◌⊎◌, ℕ, Bool, true, false, List, [], ◌∷◌, ◌++◌, length, nat_lt, ◌&&◌}
+use Rattle.cf_base.specs.declared.answers.Answer.{Answer}
+use Rattle.cf_base.specs.declared.answers.Shown.{Shown}
+use Rattle.cf_base.specs.declared.answers.Shown.TheVariants as shown
+use Rattle.cf_base.specs.declared.codes.Code.{Code}
+use Rattle.cf_base.specs.declared.codes.Code.TheVariants as code
+use Rattle.cf_base.specs.declared.messages.Reply.{Reply}
+use Rattle.cf_base.specs.declared.notices.Frame.TheVariants as frame
+use Rattle.cf_base.specs.declared.notices.Notice.{Notice}
+use Rattle.cf_base.specs.declared.notices.Notice.TheVariants as notice
+use Rattle.cf_model.specs.Arrows.{Arrow}
+use Rattle.cf_model.specs.Events.{begun}
+use Rattle.cf_model.specs.Numbers.{most}
+use Rattle.cf_model.specs.Restarts.{epoch_after, resumed, with_opened}
+use Rattle.cf_model.specs.State.{Filter, Point, State, Volume}
+use Rattle.cf_model.specs.Trees.{Ends}
+
+-- What is looked at of a state: what of it is fixed, what happened so far, and whether something is said of it.
+pub record View (S : Type 0) : Type 0 where
+  pub fixed : S → S
+  pub notes : S → List Notice
+  pub good : S → Bool
+
+-- the volume without its points
+abbrev pub without_points : Volume → Volume
+without_points v = record v { points = []; items_then = []; put_since = 0 }
+
+abbrev pub of_volume : View Volume
+of_volume = record { fixed = without_points; notes = λ v. []; good = λ v. true }
+
+abbrev pub fixed_filter : Filter → Filter
+fixed_filter f = record f { volume = without_points f.volume }
+
+abbrev pub of_filter : View Filter
+of_filter = record { fixed = fixed_filter; notes = λ f. f.notes; good = λ f. true }
+
+-- the state without points and the count of asks
+abbrev pub fixed_state : State → State
+fixed_state s = record s { filter = fixed_filter s.filter; link = record s.link { remote_asks = 0 } }
+
+-- the remote kept its rules or failed, and there are numbers of messages left
+abbrev pub is_good : State → Bool
+is_good s = s.link.honest && nat_lt (length s.link.messages) most
+
+abbrev pub of_state : View State
+of_state = record { fixed = fixed_state; notes = λ s. s.filter.notes; good = is_good }
+
+abbrev pub Alike : {S : Type 0} → View S → S → S → Type 0
+Alike v s t = v.fixed s ≡ v.fixed t
+
+-- What happened before the one state happened before the other, and what is said of the other is said of the one.
+pub record Grown {S : Type 0} (v : View S) (s t : S) : Type 0 where
+  pub notes : (more : List Notice) × (v.notes t ≡ v.notes s ++ more)
+  pub good : v.good t ≡ true → v.good s ≡ true
+
+-- After the same lines the remote failed on a message in the first, and its reply to that message was noted in the second.
+pub record FailedIn (first second : List Notice) : Type 0 where
+  pub before : List Notice
+  pub message : ℕ
+  pub number : ℕ
+  pub reply : Reply
+  pub lost : Bool
+  pub after : List Notice
+  pub others : List Notice
+  pub first_is : first ≡ before ++ notice.Fault message ∷ after
+  pub second_is : second ≡ before ++ notice.Message (record { message = number; frame = frame.Reply message reply; lost = lost }) ∷ others
+
+abbrev pub Parted : List Notice → List Notice → Type 0
+Parted one other = FailedIn one other ⊎ FailedIn other one
+
+abbrev pub SameEnd : {S A : Type 0} → View S → A → S → A → S → Type 0
+SameEnd v a s b t = (a ≡ b) × Alike v s t
+
+-- Its ends from states that are alike have the same result and are alike, or the one has a line of a fault where the other has
+-- the reply. What happened before it stays in what happened.
+pub record IsSure {S A : Type 0} (v : View S) (f : Arrow S A) : Type 0 where
+  pub grows : (s : S) (a : A) (t : S) → Ends (f s) a t → Grown v s t
+  pub one : (s o : S) → Alike v s o → (a b : A) (t u : S) → Ends (f s) a t → Ends (f o) b u → v.good t ≡ true → v.good u ≡ true
+      → SameEnd v a t b u ⊎ Parted (v.notes t) (v.notes u)
+
+-- What is read of alike states is the same.
+abbrev pub Reads : {S X : Type 0} → View S → (S → X) → Type 0
+Reads {S} v get = (s o : S) → Alike v s o → get s ≡ get o
+
+-- Alike states become alike ones.
+pub record IsPlain {S : Type 0} (v : View S) (f : S → S) : Type 0 where
+  pub grows : (s : S) → Grown v s (f s)
+  pub alike : (s o : S) → Alike v s o → Alike v (f s) (f o)
+
+-- Events of another device have no lines of messages: where the remote fails in one, this is its result.
+
+abbrev pub is_fault_code : Code → Bool
+is_fault_code code.RemoteFault = true
+is_fault_code _ = false
+
+abbrev pub is_fault : Shown → Bool
+is_fault (shown.Refused c) = is_fault_code c
+is_fault _ = false
+
+-- what such an event may answer
+abbrev pub is_of_peer : Shown → Bool
+is_of_peer (shown.Refused c) = true
+is_of_peer (shown.Remote rid version) = true
+is_of_peer _ = false
+
+-- one of them is RemoteFault and the other is not
+abbrev pub OneFailed : Shown → Shown → Type 0
+OneFailed a b = (is_of_peer a ≡ true) × (is_of_peer b ≡ true) × (((is_fault a ≡ true) × (is_fault b ≡ false)) ⊎ ((is_fault b ≡ true) × (is_fault a ≡ false)))
+
+-- A part of such an event: as a sure one, but that one way may have RemoteFault where the other has not; and it says what state
+-- a failing remote leaves.
+pub record IsSureOfPeer (left : State → State) (f : Arrow State Shown) : Type 0 where
+  pub grows : (s : State) (a : Shown) (t : State) → Ends (f s) a t → Grown of_state s t
+  pub answers : (s : State) (a : Shown) (t : State) → Ends (f s) a t → is_of_peer a ≡ true
+  pub fails : (s : State) (a : Shown) (t : State) → Ends (f s) a t → is_good t ≡ true → is_fault a ≡ true → Alike of_state t (left s)
+  pub one : (s o : State) → Alike of_state s o → (a b : Shown) (t u : State) → Ends (f s) a t → Ends (f o) b u → is_good t ≡ true → is_good u ≡ true
+      → SameEnd of_state a t b u ⊎ (Parted t.filter.notes u.filter.notes ⊎ OneFailed a b)
+
+-- Two restarts from alike states resumed: each at a point of its own, in the same epoch.
+pub record BothResumed (s o : State) (a b : Shown) (t u : State) : Type 0 where
+  pub point : Point
+  pub other : Point
+  pub resumes : a ≡ resumed point
+  pub resumes_too : b ≡ resumed other
+  pub left : t ≡ with_opened point (epoch_after 0 s) s
+  pub left_too : u ≡ with_opened other (epoch_after 0 o) o
+
+-- Answers to one event from alike states are the same and leave alike states; or they part where the remote failed in one; or
+-- both are of restarts that resumed.
+abbrev pub AnswersAlike : State → State → Answer → State → Answer → State → Type 0
+AnswersAlike s o a t b u = ((a ≡ b) × Alike of_state t u) ⊎ (Parted a.notes b.notes ⊎ ((a.notes ≡ b.notes) × OneFailed a.shown b.shown) ⊎ BothResumed (begun s) (begun o) a.shown b.shown t u)

@@ -1,0 +1,36 @@
+//! Laws of two ways through one event.
+
+ghost use Rattle.std.specs.Prelude.{◌≡◌, true};
+ghost use Rattle.cf_base.specs.declared.answers.Answer.{Answer};
+ghost use Rattle.cf_base.specs.declared.answers.Shown.{Shown};
+ghost use Rattle.cf_base.specs.declared.answers.Shown.TheVariants as shown;
+ghost use Rattle.cf_base.specs.declared.codes.Code.TheVariants as code;
+ghost use Rattle.cf_base.specs.declared.events.Event.{Event};
+ghost use Rattle.cf_base.specs.declared.policies.Mode.{Mode};
+ghost use Rattle.cf_check_ways.specs.Ways.{Alike, AnswersAlike, BothResumed, IsSure, SameEnd, is_good, of_state};
+ghost use Rattle.cf_model.specs.Arrows.{Arrow, seq};
+ghost use Rattle.cf_model.specs.Lawful.{IsStep};
+ghost use Rattle.cf_model.specs.Points.{HasPoints};
+ghost use Rattle.cf_model.specs.State.{State};
+
+/// One part after another is sure where both are.
+#[tactic(auto, using(crate::proofs::Sure::sure_seq))]
+pub fn parts_of_sure_parts_are_sure()
+    ensures { (f : Arrow State Shown) (g : Shown → Arrow State Shown) → IsSure of_state f → ((a : Shown) → IsSure of_state (g a)) → IsSure of_state (seq f g) }
+{}
+
+/// Two answers to one event from alike states, where neither is that of a device that failed, are the same and leave alike
+/// states; or the remote failed in the one where it replied in the other; or both are of restarts that resumed. This is said of
+/// a remote that keeps its rules or fails, as long as messages get numbers.
+pub fn answers_to_one_event_are_alike()
+    ensures { (m : Mode) (s o : State) (e : Event) (a b : Answer) (t u : State) → Alike of_state s o → s.failed_opens ≡ 0
+        → HasPoints s.filter.volume → HasPoints o.filter.volume → IsStep m s e a t → IsStep m o e b u → is_good t ≡ true → is_good u ≡ true
+        → (a.shown ≡ shown.Refused code.Device → ⊥) → (b.shown ≡ shown.Refused code.Device → ⊥) → AnswersAlike s o a t b u }
+{}
+
+/// Restarts from alike states that opened points of one count with one book have the same result and leave alike states.
+#[tactic(auto, using(crate::proofs::RestartsSure::same_opened))]
+pub fn restarts_at_one_point_are_alike()
+    ensures { (s o : State) (a b : Shown) (t u : State) → Alike of_state s o → (r : BothResumed s o a b t u)
+        → r.point.count ≡ r.other.count → r.point.book ≡ r.other.book → SameEnd of_state a t b u }
+{}

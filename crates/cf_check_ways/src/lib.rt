@@ -1,0 +1,12 @@
+//! Why a report can be judged: what an event is answered, and what it leaves, is fixed by the state before it, but for what its
+//! answer shows: where the remote failed, where the device did, and what a restart opened.
+//!
+//! Two ways through what an event does are compared, from states that are alike. `specs/Ways.antt` has what that means. The
+//! proofs go through the definitions one by one, as those of the model's other laws do.
+#![tactic(auto)]
+
+mod laws;
+
+pub use laws::{
+    answers_to_one_event_are_alike, parts_of_sure_parts_are_sure, restarts_at_one_point_are_alike,
+};
