@@ -8,7 +8,7 @@ use Rattle.cf_model.specs.Arrows.{Arrow, choose, noted, ret, then_do}
 use Rattle.cf_model.specs.Books.{Book}
 use Rattle.cf_model.specs.Numbers.{most}
 use Rattle.cf_model.specs.Points.{ArePoints, HasPoints}
-use Rattle.cf_model.specs.Restarts.{crash, crashed, epoch_after, one_of, open_point, open_points, open_skipping, points_at, restart, restart_by, resumed, with_opened}
+use Rattle.cf_model.specs.Restarts.{crash, crashed, epoch_after, more_epochs, open_in, one_of, open_point, open_points, open_skipping, points_at, restart, restart_by, resumed, with_opened}
 use Rattle.cf_model.specs.State.{Broken, Off, On, Point, Power, State}
 use Rattle.cf_model.specs.Trees.{Ends}
 use Rattle.cf_model.specs.Words.{counting}
@@ -16,7 +16,7 @@ use Rattle.cf_check_ways.specs.Ways.{Alike, BothResumed, IsSure, SameEnd, fixed_
 use Rattle.cf_check_ways.proofs.Sure.{plain_quiet, sure_noted, sure_ret, sure_then}
 
 pub crash_sure : IsSure of_state crash
-crash_sure = sure_then of_state (noted crashed) (ret shown.Done) (sure_noted of_state crashed (plain_quiet of_state crashed (λ s. refl) (λ s. refl) (λ s. refl))) (sure_ret of_state shown.Done)
+crash_sure = sure_then of_state (noted crashed) (ret shown.Done) (sure_noted of_state crashed (plain_quiet of_state crashed (λ s. refl) (λ s. refl) (λ s. refl) (λ s. refl))) (sure_ret of_state shown.Done)
 
 -- a restart over a volume that was off
 
@@ -88,3 +88,23 @@ restart_one s o e none has has_too a b t u h k = by s.power o.power (ap (λ (x :
     by On Broken same h k = let z : On ≡ Broken = same in absurd cc
     by Broken On same h k = let z : Broken ≡ On = same in absurd cc
     by Broken Off same h k = let z : Broken ≡ Off = same in absurd cc
+
+-- a restart sends nothing
+
+opened_sends : (p : Point) (epoch : ℕ) (s : State) (a : Shown) (t : State) → Ends (open_in p epoch s) a t → t.link ≡ s.link
+opened_sends p epoch s a t h = elim (opened_in p epoch s a t (nat_lt most epoch) h) as (λ _. t.link ≡ s.link) [ inl x ↦ ap (λ (z : State). z.link) x.2 | inr x ↦ ap (λ (z : State). z.link) x.2 ]
+
+points_send : (ps : List Point) (s : State) (a : Shown) (t : State) → Ends (open_points ps s) a t → t.link ≡ s.link
+points_send [] s a t h = ap (λ (z : State). z.link) h.1
+points_send (p ∷ ps) s a t h =
+    let x = ends_one_of open_point p ps s a t h in
+    let y = ends_one_of (open_skipping x.0) 0 (more_epochs s) s a t x.1 in
+    opened_sends x.0 (epoch_after y.0 s) s a t y.1
+
+pub restart_sends : (s : State) (a : Shown) (t : State) → Ends (restart s) a t → t.link ≡ s.link
+restart_sends s a t h = by s.power h
+  where
+    by : (w : Power) → Ends (restart_by w s) a t → t.link ≡ s.link
+    by Off h = points_send (points_at s) s a t h
+    by On h = ap (λ (z : State). z.link) h.1
+    by Broken h = ap (λ (z : State). z.link) h.1

@@ -1,5 +1,5 @@
 -- Two answers to one event from alike states.
-use Rattle.std.proofs.Common.{◌≡◌, ◌⊎◌, ℕ, zero, suc, Bool, true, false, List, [], ◌∷◌, refl, sym, ◌∙◌, ap, subst, inl, inr}
+use Rattle.std.proofs.Common.{◌≡◌, ◌⊎◌, ℕ, zero, suc, Bool, true, false, List, [], ◌∷◌, refl, sym, ◌∙◌, ap, subst, inl, inr, ◌≤◌, ◌+◌, arith, length}
 use Rattle.std.specs.Prelude.{Option, Some, None}
 use Rattle.cf_base.specs.declared.answers.Answer.{Answer}
 use Rattle.cf_base.specs.declared.answers.Shown.{Shown}
@@ -10,20 +10,21 @@ use Rattle.cf_base.specs.declared.events.DeviceEvent.TheVariants as device
 use Rattle.cf_base.specs.declared.events.Event.{Event}
 use Rattle.cf_base.specs.declared.events.Event.TheVariants as event
 use Rattle.cf_base.specs.declared.events.PeerEvent.{PeerEvent}
+use Rattle.cf_base.specs.declared.notices.Notice.{Notice}
 use Rattle.cf_base.specs.declared.policies.Mode.{Mode}
 use Rattle.cf_model.specs.Events.{answer_in, answered, begun, choices_in, event_now, may_stop, needs_volume, no_volume, outcome, refusal, tree_of}
 use Rattle.cf_model.specs.Lawful.{IsStep}
 use Rattle.cf_model.specs.Points.{HasPoints}
-use Rattle.cf_model.specs.State.{State}
+use Rattle.cf_model.specs.State.{Link, State}
 use Rattle.cf_model.specs.Trees.{AsItKeeps, Asked, Choices, Ends, Fork, Ret, Step, Telling, Tree, play, walk}
 use Rattle.cf_model.proofs.MessagesKeep.{asked_keeps}
 use Rattle.cf_model.proofs.PeersKeep.{peer_event_keeps}
 use Rattle.cf_model.proofs.TreeLaws.{kept_at_end}
-use Rattle.cf_check_ways.specs.Ways.{Alike, AnswersAlike, BothResumed, IsSure, OneFailed, Parted, SameEnd, fixed_state, is_good, of_state}
+use Rattle.cf_check_ways.specs.Ways.{Grown, Alike, AnswersAlike, BothResumed, IsSure, OneFailed, Parted, SameEnd, fixed_state, is_good, of_state}
 use Rattle.cf_check_ways.proofs.EngineEventsSure.{engine_event_sure}
 use Rattle.cf_check_ways.proofs.EventsSure.{call_now_sure, provider_event_sure}
 use Rattle.cf_check_ways.proofs.PeersSure.{peer_event_sure}
-use Rattle.cf_check_ways.proofs.RestartsSure.{crash_sure, restart_one}
+use Rattle.cf_check_ways.proofs.RestartsSure.{crash_sure, restart_one, restart_sends}
 use Rattle.cf_check_ways.proofs.Sure.{sure_ret}
 
 -- by choices that do not stop it an event ends
@@ -105,7 +106,7 @@ of_restart s o alike none has has_too r q t u h k = by (restart_one (begun s) (b
   where
     by : SameEnd of_state r t q u ⊎ BothResumed (begun s) (begun o) r q t u → AnswersAlike s o (answer_in r t) t (answer_in q u) u
     by (inl same) = answers_as_ends s o r q t u (inl same)
-    by (inr both) = inr (inr (inr both))
+    by (inr both) = inr (inr (inr (refl, refl, both)))
 
 both_ended : (s o : State) (e : Event) → Alike of_state s o → s.failed_opens ≡ 0 → HasPoints s.filter.volume → HasPoints o.filter.volume → (r q : Shown) (t u : State)
     → Ends (tree_of e s) r t → Ends (tree_of e o) q u → is_good t ≡ true → is_good u ≡ true → AnswersAlike s o (answer_in r t) t (answer_in q u) u
@@ -130,3 +131,28 @@ steps_alike m s o e a b t u alike none has has_too h k good well runs runs_too =
     by None (inl x) (inl y) =
         subst (λ (z : Answer). AnswersAlike s o z t b u) (sym x.2)
         (subst (λ (z : Answer). AnswersAlike s o (answer_in x.0 t) t z u) (sym y.2) (both_ended s o e alike none has has_too x.0 y.0 t u x.1 y.1 good well))
+
+-- each new message has a line
+
+counted_of : (s t : State) → Grown of_state (begun s) t → length t.link.messages ≤ length s.link.messages + length t.filter.notes
+counted_of s t g = let same : length t.filter.notes ≡ length g.notes.0 = ap (λ (ns : List Notice). length ns) g.notes.1 in let le : length t.link.messages ≤ length s.link.messages + length g.notes.0 = g.counted in omega (arith, same, le)
+
+sent_nothing : (s t : State) → t.link ≡ s.link → length t.link.messages ≤ length s.link.messages + length t.filter.notes
+sent_nothing s t e = let same : length t.link.messages ≡ length s.link.messages = ap (λ (l : Link). length l.messages) e in omega (arith, same)
+
+ended_count : (s : State) (e : Event) (r : Shown) (t : State) → Ends (tree_of e s) r t → length t.link.messages ≤ length s.link.messages + length t.filter.notes
+ended_count s (event.Call c) r t h = counted_of s t ((call_now_sure c).grows (begun s) r t h)
+ended_count s (event.Device (device.Stop n)) r t h = counted_of s t ((sure_ret of_state shown.Done).grows (begun s) r t h)
+ended_count s (event.Device (device.Crash c)) r t h = counted_of s t (crash_sure.grows (begun s) r t h)
+ended_count s (event.Device device.Restart) r t h = sent_nothing s t (restart_sends (begun s) r t h)
+ended_count s (event.Peer p) r t h = counted_of s t ((peer_event_sure p).grows (begun s) r t h)
+ended_count s (event.Engine g) r t h = counted_of s t ((engine_event_sure g).grows (begun s) r t h)
+ended_count s (event.Provider p) r t h = counted_of s t ((provider_event_sure p).grows (begun s) r t h)
+
+pub step_count : (m : Mode) (s : State) (e : Event) (a : Answer) (t : State) → IsStep m s e a t → (Stopped a → ⊥) → length t.link.messages ≤ length s.link.messages + length a.notes
+step_count m s e a t h runs = by (no_volume (needs_volume e) s.power) (step_of m s e a t h)
+  where
+    by : (why : Option Code) → StepOf why s e a t → length t.link.messages ≤ length s.link.messages + length a.notes
+    by (Some c) x = let same : length t.link.messages ≡ length s.link.messages = ap (λ (z : State). length z.link.messages) x.1 in omega (arith, same)
+    by None (inr stop) = absurd (runs stop)
+    by None (inl x) = subst (λ (z : Answer). length t.link.messages ≤ length s.link.messages + length z.notes) (sym x.2) (ended_count s e x.0 t x.1)

@@ -2,7 +2,7 @@
 --
 -- What a report does not fix is left out of what is alike: the points that a restart may open, and how often the remote was
 -- asked. Where the remote broke its rules, or numbers of messages are used up, nothing is said.
-use Rattle.std.specs.Prelude.{◌≡◌, ◌⊎◌, ℕ, Bool, true, false, List, [], ◌∷◌, ◌++◌, length, nat_lt, ◌&&◌}
+use Rattle.std.specs.Prelude.{◌≡◌, ◌⊎◌, ◌≤◌, ◌+◌, ℕ, Bool, true, false, List, [], ◌∷◌, ◌++◌, length, nat_lt, ◌&&◌}
 use Rattle.cf_base.specs.declared.answers.Answer.{Answer}
 use Rattle.cf_base.specs.declared.answers.Shown.{Shown}
 use Rattle.cf_base.specs.declared.answers.Shown.TheVariants as shown
@@ -13,16 +13,18 @@ use Rattle.cf_base.specs.declared.notices.Frame.TheVariants as frame
 use Rattle.cf_base.specs.declared.notices.Notice.{Notice}
 use Rattle.cf_base.specs.declared.notices.Notice.TheVariants as notice
 use Rattle.cf_model.specs.Arrows.{Arrow}
-use Rattle.cf_model.specs.Events.{begun}
+use Rattle.cf_model.specs.Events.{answer_in, begun}
 use Rattle.cf_model.specs.Numbers.{most}
 use Rattle.cf_model.specs.Restarts.{epoch_after, resumed, with_opened}
 use Rattle.cf_model.specs.State.{Filter, Point, State, Volume}
 use Rattle.cf_model.specs.Trees.{Ends}
 
--- What is looked at of a state: what of it is fixed, what happened so far, and whether something is said of it.
+-- What is looked at of a state: what of it is fixed, what happened so far, how many messages there are, and whether something is
+-- said of it.
 pub record View (S : Type 0) : Type 0 where
   pub fixed : S → S
   pub notes : S → List Notice
+  pub count : S → ℕ
   pub good : S → Bool
 
 -- the volume without its points
@@ -30,13 +32,13 @@ abbrev pub without_points : Volume → Volume
 without_points v = record v { points = []; items_then = []; put_since = 0 }
 
 abbrev pub of_volume : View Volume
-of_volume = record { fixed = without_points; notes = λ v. []; good = λ v. true }
+of_volume = record { fixed = without_points; notes = λ v. []; count = λ v. 0; good = λ v. true }
 
 abbrev pub fixed_filter : Filter → Filter
 fixed_filter f = record f { volume = without_points f.volume }
 
 abbrev pub of_filter : View Filter
-of_filter = record { fixed = fixed_filter; notes = λ f. f.notes; good = λ f. true }
+of_filter = record { fixed = fixed_filter; notes = λ f. f.notes; count = λ f. 0; good = λ f. true }
 
 -- the state without points and the count of asks
 abbrev pub fixed_state : State → State
@@ -47,14 +49,16 @@ abbrev pub is_good : State → Bool
 is_good s = s.link.honest && nat_lt (length s.link.messages) most
 
 abbrev pub of_state : View State
-of_state = record { fixed = fixed_state; notes = λ s. s.filter.notes; good = is_good }
+of_state = record { fixed = fixed_state; notes = λ s. s.filter.notes; count = λ s. length s.link.messages; good = is_good }
 
 abbrev pub Alike : {S : Type 0} → View S → S → S → Type 0
 Alike v s t = v.fixed s ≡ v.fixed t
 
--- What happened before the one state happened before the other, and what is said of the other is said of the one.
+-- What happened before the one state happened before the other, and each new message is one of what happened since; what is said
+-- of the other is said of the one.
 pub record Grown {S : Type 0} (v : View S) (s t : S) : Type 0 where
   pub notes : (more : List Notice) × (v.notes t ≡ v.notes s ++ more)
+  pub counted : v.count t ≤ v.count s + length notes.0
   pub good : v.good t ≡ true → v.good s ≡ true
 
 -- After the same lines the remote failed on a message in the first, and its reply to that message was noted in the second.
@@ -132,4 +136,4 @@ pub record BothResumed (s o : State) (a b : Shown) (t u : State) : Type 0 where
 -- Answers to one event from alike states are the same and leave alike states; or they part where the remote failed in one; or
 -- both are of restarts that resumed.
 abbrev pub AnswersAlike : State → State → Answer → State → Answer → State → Type 0
-AnswersAlike s o a t b u = ((a ≡ b) × Alike of_state t u) ⊎ (Parted a.notes b.notes ⊎ ((a.notes ≡ b.notes) × OneFailed a.shown b.shown) ⊎ BothResumed (begun s) (begun o) a.shown b.shown t u)
+AnswersAlike s o a t b u = ((a ≡ b) × Alike of_state t u) ⊎ (Parted a.notes b.notes ⊎ ((a.notes ≡ b.notes) × OneFailed a.shown b.shown) ⊎ ((a ≡ answer_in a.shown t) × (b ≡ answer_in b.shown u) × BothResumed (begun s) (begun o) a.shown b.shown t u))

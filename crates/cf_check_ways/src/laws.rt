@@ -1,6 +1,6 @@
 //! Laws of two ways through one event.
 
-ghost use Rattle.std.specs.Prelude.{◌≡◌, true};
+ghost use Rattle.std.specs.Prelude.{◌≡◌, ◌≤◌, ◌+◌, length, true};
 ghost use Rattle.cf_base.specs.declared.answers.Answer.{Answer};
 ghost use Rattle.cf_base.specs.declared.answers.Shown.{Shown};
 ghost use Rattle.cf_base.specs.declared.answers.Shown.TheVariants as shown;
@@ -33,4 +33,10 @@ pub fn answers_to_one_event_are_alike()
 pub fn restarts_at_one_point_are_alike()
     ensures { (s o : State) (a b : Shown) (t u : State) → Alike of_state s o → (r : BothResumed s o a b t u)
         → r.point.count ≡ r.other.count → r.point.book ≡ r.other.book → SameEnd of_state a t b u }
+{}
+
+/// Each message that an event sends or gets has a line of its own in the answer, where the device did not fail.
+pub fn each_message_has_a_line()
+    ensures { (m : Mode) (s : State) (e : Event) (a : Answer) (t : State) → IsStep m s e a t → (a.shown ≡ shown.Refused code.Device → ⊥)
+        → length t.link.messages ≤ length s.link.messages + length a.notes }
 {}
