@@ -1,1 +1,2 @@
+pub mod Absences
 pub mod Lanes

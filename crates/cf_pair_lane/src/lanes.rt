@@ -42,6 +42,20 @@ impl<R: Remote> Lane<R> {
         }
     }
 
+    /// The device whose lane it is.
+    pub fn device(&self) -> Device
+        ensures { result ≡ self.now.device }
+    {
+        self.device
+    }
+
+    /// How many requests did not come to the remote, because the device cannot give their token.
+    pub fn refused(&self) -> u64
+        ensures { result ≡ self.now.faults }
+    {
+        self.faults
+    }
+
     /// The remote, as it stands on its own side.
     pub fn into_inner(self) -> R
         ensures { result ≡ self.inner }

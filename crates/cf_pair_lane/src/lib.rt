@@ -4,8 +4,10 @@
 //! second device raises the epoch of each token by `LANE_EPOCHS` on its way out, and lowers it again in replies.
 #![tactic(auto)]
 
+mod absences;
 mod crossings;
 mod lanes;
 mod sending;
 
+pub use absences::Away;
 pub use lanes::Lane;
