@@ -77,18 +77,18 @@ after_reply q s = with_remote (remote_step s.link.remote q).1 (counted s)
 abbrev after_other : Request → State → State
 after_other q s = distrusted (after_reply q s)
 
-pub quiet : (s t : State) → t.filter.notes ≡ s.filter.notes → length t.link.messages ≡ length s.link.messages → (is_good t ≡ true → is_good s ≡ true) → Grown of_state s t
-quiet s t same count good = record { notes = ([], same ∙ sym (append-nil s.filter.notes)); counted = omega (arith, count); good = good }
+pub quiet : (s t : State) → t.filter.notes ≡ s.filter.notes → length t.link.messages ≡ length s.link.messages → t.failed_opens ≡ s.failed_opens → (is_good t ≡ true → is_good s ≡ true) → Grown of_state s t
+quiet s t same count fails good = record { notes = ([], same ∙ sym (append-nil s.filter.notes)); counted = omega (arith, count); opens = fails; good = good }
 
 no_other : (q : Request) (s : State) (r : Reply) (m : ℕ) (a : Option Reply) (t : State) → Ends (answered m (Some r) (after_other q s)) a t → is_good t ≡ true → ⊥
 no_other q s r m a t h good = let z : false ≡ true = ((answered_sure m (Some r)).grows (after_other q s) a t h).good good in absurd cc
 
 come_grows : (m : ℕ) (q : Request) (s : State) (a : Option Reply) (t : State) (x : Telling) → Ends (seq (λ z. after_ask (remote_step z.link.remote q) z x) (answered m) s) a t → Grown of_state s t
 come_grows m q s a t AsItKeeps h =
-    grown_more of_state s (after_reply q s) t (quiet s (after_reply q s) refl refl (λ g. g)) ((answered_sure m (Some (remote_step s.link.remote q).0)).grows (after_reply q s) a t h)
-come_grows m q s a t Faults h = grown_more of_state s (counted s) t (quiet s (counted s) refl refl (λ g. g)) ((answered_sure m None).grows (counted s) a t h)
+    grown_more of_state s (after_reply q s) t (quiet s (after_reply q s) refl refl refl (λ g. g)) ((answered_sure m (Some (remote_step s.link.remote q).0)).grows (after_reply q s) a t h)
+come_grows m q s a t Faults h = grown_more of_state s (counted s) t (quiet s (counted s) refl refl refl (λ g. g)) ((answered_sure m None).grows (counted s) a t h)
 come_grows m q s a t (Tells other) h =
-    grown_more of_state s (after_other q s) t (quiet s (after_other q s) refl refl (λ g. let z : false ≡ true = g in absurd cc)) ((answered_sure m (Some other)).grows (after_other q s) a t h)
+    grown_more of_state s (after_other q s) t (quiet s (after_other q s) refl refl refl (λ g. let z : false ≡ true = g in absurd cc)) ((answered_sure m (Some other)).grows (after_other q s) a t h)
 
 -- the one failed and the other replied
 failed_here : (m : ℕ) (r : Reply) (s o n : State) (a b : Option Reply) (t u : State) → s.filter.notes ≡ o.filter.notes → n.filter.notes ≡ o.filter.notes

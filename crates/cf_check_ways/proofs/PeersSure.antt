@@ -70,13 +70,13 @@ peer_fixed left f g is rest = record {
 }
 
 stray_sure : (r : Reply) (c : Code) → IsSure of_state (then_do (noted (with_stray r)) (refused c))
-stray_sure r c = sure_then of_state (noted (with_stray r)) (refused c) (sure_noted of_state (with_stray r) (plain_quiet of_state (with_stray r) (λ s. refl) (λ s. refl) (λ s. refl) (λ s. refl))) (sure_ret of_state (shown.Refused c))
+stray_sure r c = sure_then of_state (noted (with_stray r)) (refused c) (sure_noted of_state (with_stray r) (plain_quiet of_state (with_stray r) (λ s. refl) (λ s. refl) (λ s. refl) (λ s. refl) (λ s. refl))) (sure_ret of_state (shown.Refused c))
 
 stale_sure : (r : Reply) → IsSureOfPeer with_token_used (stale r)
 stale_sure r =
     peer_of_sure with_token_used (stale r)
-    (sure_then of_state (noted (with_stray r)) (failed code.Stale) (sure_noted of_state (with_stray r) (plain_quiet of_state (with_stray r) (λ s. refl) (λ s. refl) (λ s. refl) (λ s. refl)))
-    (sure_then of_state (noted with_token_used) (ret (shown.Refused code.Stale)) (sure_noted of_state with_token_used (plain_quiet of_state with_token_used (λ s. refl) (λ s. refl) (λ s. refl) (λ s. refl))) (sure_ret of_state (shown.Refused code.Stale))))
+    (sure_then of_state (noted (with_stray r)) (failed code.Stale) (sure_noted of_state (with_stray r) (plain_quiet of_state (with_stray r) (λ s. refl) (λ s. refl) (λ s. refl) (λ s. refl) (λ s. refl)))
+    (sure_then of_state (noted with_token_used) (ret (shown.Refused code.Stale)) (sure_noted of_state with_token_used (plain_quiet of_state with_token_used (λ s. refl) (λ s. refl) (λ s. refl) (λ s. refl) (λ s. refl))) (sure_ret of_state (shown.Refused code.Stale))))
     (λ s a t h. others h.0 (refl, refl))
 
 with_entries_sure : (f : List Entry → Arrow State Shown) → ((es : List Entry) → IsSureOfPeer with_token_used (f es)) → (r : Reply) (fit : Bool) → IsSureOfPeer with_token_used (with_entries f r fit)
@@ -111,11 +111,11 @@ peer_seq left moves q g used ends uses is_used rest fails_later = record {
     no_other s r a t h good = let z : false ≡ true = ((rest r).grows (distrusted (after_reply q s)) a t h).good good in absurd cc
 
     grows : (s : State) (a : Shown) (t : State) (x : Telling) → Ends (Asked_at g q s x) a t → Grown of_state s t
-    grows s a t AsItKeeps h = grown_more of_state s (after_reply q s) t (quiet s (after_reply q s) refl refl (λ z. z)) ((rest (remote_step s.link.remote q).0).grows (after_reply q s) a t h)
+    grows s a t AsItKeeps h = grown_more of_state s (after_reply q s) t (quiet s (after_reply q s) refl refl refl (λ z. z)) ((rest (remote_step s.link.remote q).0).grows (after_reply q s) a t h)
     grows s a t Faults h =
-        grown_more of_state s (counted s) t (quiet s (counted s) refl refl (λ z. z)) (subst (λ (y : State). Grown of_state (counted s) y) (sym (ends (counted s) a t h).1) (uses (counted s)))
+        grown_more of_state s (counted s) t (quiet s (counted s) refl refl refl (λ z. z)) (subst (λ (y : State). Grown of_state (counted s) y) (sym (ends (counted s) a t h).1) (uses (counted s)))
     grows s a t (Tells other) h =
-        grown_more of_state s (distrusted (after_reply q s)) t (quiet s (distrusted (after_reply q s)) refl refl (λ y. let z : false ≡ true = y in absurd cc)) ((rest other).grows (distrusted (after_reply q s)) a t h)
+        grown_more of_state s (distrusted (after_reply q s)) t (quiet s (distrusted (after_reply q s)) refl refl refl (λ y. let z : false ≡ true = y in absurd cc)) ((rest other).grows (distrusted (after_reply q s)) a t h)
 
     answers : (s : State) (a : Shown) (t : State) (x : Telling) → Ends (Asked_at g q s x) a t → is_of_peer a ≡ true
     answers s a t AsItKeeps h = (rest (remote_step s.link.remote q).0).answers (after_reply q s) a t h
@@ -151,7 +151,7 @@ peer_seq left moves q g used ends uses is_used rest fails_later = record {
         elim (beside o s (sym e) b a u t k h good (is_fault a) refl) as (λ _. SameEnd of_state a t b u ⊎ (Parted t.filter.notes u.filter.notes ⊎ OneFailed a b)) [ inl z ↦ inl (sym z.0, sym z.1) | inr z ↦ inr (inr (z.1, z.0, inr (z.2, z.3))) ]
 
 used_grows : (s : State) → Grown of_state s (with_token_used s)
-used_grows s = quiet s (with_token_used s) refl refl (λ z. z)
+used_grows s = quiet s (with_token_used s) refl refl refl (λ z. z)
 
 -- a listing leaves the remote as it is
 listing_sure : (rid : Rid) (f : List Entry → Arrow State Shown) → ((es : List Entry) → IsSureOfPeer with_token_used (f es)) → IsSureOfPeer with_token_used (listing rid f)
@@ -225,7 +225,7 @@ never_done r _ s a t h = others h.0 (refl, refl)
 
 answer_sure : (q : Request) → IsSureOfPeer (λ s. s) (seq (ask q) (on_answer q))
 answer_sure q =
-    peer_seq (λ s. s) (λ s o e. e) q (on_answer q) (λ s. s) (λ s a t h. h) (λ s. quiet s s refl refl (λ z. z)) (λ s. refl)
+    peer_seq (λ s. s) (λ s o e. e) q (on_answer q) (λ s. s) (λ s a t h. h) (λ s. quiet s s refl refl refl (λ z. z)) (λ s. refl)
     (λ r. peer_of_sure (λ s. s) (on_done r (is_fit q r)) (on_done_sure r (is_fit q r)) (never_done r (is_fit q r)))
     (λ s r a t h good is. let z : false ≡ true = sym (never_done r (is_fit q r) (after_reply q s) a t h).0 ∙ is in absurd cc)
 

@@ -16,7 +16,7 @@ use Rattle.cf_check_ways.specs.Ways.{Alike, BothResumed, IsSure, SameEnd, fixed_
 use Rattle.cf_check_ways.proofs.Sure.{plain_quiet, sure_noted, sure_ret, sure_then}
 
 pub crash_sure : IsSure of_state crash
-crash_sure = sure_then of_state (noted crashed) (ret shown.Done) (sure_noted of_state crashed (plain_quiet of_state crashed (λ s. refl) (λ s. refl) (λ s. refl) (λ s. refl))) (sure_ret of_state shown.Done)
+crash_sure = sure_then of_state (noted crashed) (ret shown.Done) (sure_noted of_state crashed (plain_quiet of_state crashed (λ s. refl) (λ s. refl) (λ s. refl) (λ s. refl) (λ s. refl))) (sure_ret of_state shown.Done)
 
 -- a restart over a volume that was off
 
@@ -108,3 +108,24 @@ restart_sends s a t h = by s.power h
     by Off h = points_send (points_at s) s a t h
     by On h = ap (λ (z : State). z.link) h.1
     by Broken h = ap (λ (z : State). z.link) h.1
+
+-- after a restart no opening has failed, where none had before
+
+opened_afresh : (p : Point) (epoch : ℕ) (s : State) (a : Shown) (t : State) → s.failed_opens ≡ 0 → Ends (open_in p epoch s) a t → t.failed_opens ≡ 0
+opened_afresh p epoch s a t none h =
+    elim (opened_in p epoch s a t (nat_lt most epoch) h) as (λ _. t.failed_opens ≡ 0) [ inl x ↦ ap (λ (z : State). z.failed_opens) x.2 ∙ none | inr x ↦ ap (λ (z : State). z.failed_opens) x.2 ]
+
+points_afresh : (ps : List Point) (s : State) (a : Shown) (t : State) → s.failed_opens ≡ 0 → Ends (open_points ps s) a t → t.failed_opens ≡ 0
+points_afresh [] s a t none h = ap (λ (z : State). z.failed_opens) h.1 ∙ none
+points_afresh (p ∷ ps) s a t none h =
+    let x = ends_one_of open_point p ps s a t h in
+    let y = ends_one_of (open_skipping x.0) 0 (more_epochs s) s a t x.1 in
+    opened_afresh x.0 (epoch_after y.0 s) s a t none y.1
+
+pub restart_afresh : (s : State) (a : Shown) (t : State) → s.failed_opens ≡ 0 → Ends (restart s) a t → t.failed_opens ≡ 0
+restart_afresh s a t none h = by s.power h
+  where
+    by : (w : Power) → Ends (restart_by w s) a t → t.failed_opens ≡ 0
+    by Off h = points_afresh (points_at s) s a t none h
+    by On h = ap (λ (z : State). z.failed_opens) h.1 ∙ none
+    by Broken h = ap (λ (z : State). z.failed_opens) h.1 ∙ none

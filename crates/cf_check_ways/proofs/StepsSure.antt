@@ -24,7 +24,7 @@ use Rattle.cf_check_ways.specs.Ways.{Grown, Alike, AnswersAlike, BothResumed, Is
 use Rattle.cf_check_ways.proofs.EngineEventsSure.{engine_event_sure}
 use Rattle.cf_check_ways.proofs.EventsSure.{call_now_sure, provider_event_sure}
 use Rattle.cf_check_ways.proofs.PeersSure.{peer_event_sure}
-use Rattle.cf_check_ways.proofs.RestartsSure.{crash_sure, restart_one, restart_sends}
+use Rattle.cf_check_ways.proofs.RestartsSure.{crash_sure, restart_afresh, restart_one, restart_sends}
 use Rattle.cf_check_ways.proofs.Sure.{sure_ret}
 
 -- by choices that do not stop it an event ends
@@ -156,3 +156,22 @@ step_count m s e a t h runs = by (no_volume (needs_volume e) s.power) (step_of m
     by (Some c) x = let same : length t.link.messages ≡ length s.link.messages = ap (λ (z : State). length z.link.messages) x.1 in omega (arith, same)
     by None (inr stop) = absurd (runs stop)
     by None (inl x) = subst (λ (z : Answer). length t.link.messages ≤ length s.link.messages + length z.notes) (sym x.2) (ended_count s e x.0 t x.1)
+
+-- no opening fails
+
+ended_afresh : (s : State) (e : Event) (r : Shown) (t : State) → s.failed_opens ≡ 0 → Ends (tree_of e s) r t → t.failed_opens ≡ 0
+ended_afresh s (event.Call c) r t none h = ((call_now_sure c).grows (begun s) r t h).opens ∙ none
+ended_afresh s (event.Device (device.Stop n)) r t none h = ((sure_ret of_state shown.Done).grows (begun s) r t h).opens ∙ none
+ended_afresh s (event.Device (device.Crash c)) r t none h = (crash_sure.grows (begun s) r t h).opens ∙ none
+ended_afresh s (event.Device device.Restart) r t none h = restart_afresh (begun s) r t none h
+ended_afresh s (event.Peer p) r t none h = ((peer_event_sure p).grows (begun s) r t h).opens ∙ none
+ended_afresh s (event.Engine g) r t none h = ((engine_event_sure g).grows (begun s) r t h).opens ∙ none
+ended_afresh s (event.Provider p) r t none h = ((provider_event_sure p).grows (begun s) r t h).opens ∙ none
+
+pub step_afresh : (m : Mode) (s : State) (e : Event) (a : Answer) (t : State) → IsStep m s e a t → (Stopped a → ⊥) → s.failed_opens ≡ 0 → t.failed_opens ≡ 0
+step_afresh m s e a t h runs none = by (no_volume (needs_volume e) s.power) (step_of m s e a t h)
+  where
+    by : (why : Option Code) → StepOf why s e a t → t.failed_opens ≡ 0
+    by (Some c) x = ap (λ (z : State). z.failed_opens) x.1 ∙ none
+    by None (inr stop) = absurd (runs stop)
+    by None (inl x) = ended_afresh s e x.0 t none x.1

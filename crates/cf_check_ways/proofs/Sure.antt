@@ -26,7 +26,7 @@ ends_of_mapped f (Asked k) b t h = let x = ends_of_mapped f (k h.0) b t h.1 in (
 -- what happened grows
 
 pub grown_none : {S : Type 0} (v : View S) (s : S) → Grown v s s
-grown_none v s = record { notes = ([], sym (append-nil (v.notes s))); counted = omega arith; good = λ h. h }
+grown_none v s = record { notes = ([], sym (append-nil (v.notes s))); counted = omega arith; opens = refl; good = λ h. h }
 
 both_counted : (s m t : ℕ) (xs ys : List Notice) → m ≤ s + length xs → t ≤ m + length ys → t ≤ s + length (xs ++ ys)
 both_counted s m t xs ys a b = let e : length (xs ++ ys) ≡ length xs + length ys = length-append xs ys in omega (arith, a, b, e)
@@ -36,6 +36,7 @@ grown_more v s m t g h =
     record {
       notes = (g.notes.0 ++ h.notes.0, h.notes.1 ∙ ap (λ (xs : List Notice). xs ++ h.notes.0) g.notes.1 ∙ append_assoc (v.notes s) g.notes.0 h.notes.0);
       counted = both_counted (v.count s) (v.count m) (v.count t) g.notes.0 h.notes.0 g.counted h.counted;
+      opens = h.opens ∙ g.opens;
       good = λ x. g.good (h.good x);
     }
 
@@ -140,16 +141,16 @@ no_more : (t s n : ℕ) → t ≡ s → t ≤ s + n
 no_more t s n e = omega (arith, e)
 
 -- what changes nothing but what is fixed, and notes nothing
-pub plain_quiet : {S : Type 0} (v : View S) (f : S → S) → ((s : S) → v.fixed (f s) ≡ v.fixed (f (v.fixed s))) → ((s : S) → v.notes (f s) ≡ v.notes s) → ((s : S) → v.good (f s) ≡ v.good s) → ((s : S) → v.count (f s) ≡ v.count s) → IsPlain v f
-plain_quiet v f fixed notes good count = record {
-  grows = λ s. record { notes = ([], notes s ∙ sym (append-nil (v.notes s))); counted = no_more (v.count (f s)) (v.count s) 0 (count s); good = λ h. sym (good s) ∙ h };
+pub plain_quiet : {S : Type 0} (v : View S) (f : S → S) → ((s : S) → v.fixed (f s) ≡ v.fixed (f (v.fixed s))) → ((s : S) → v.notes (f s) ≡ v.notes s) → ((s : S) → v.good (f s) ≡ v.good s) → ((s : S) → v.count (f s) ≡ v.count s) → ((s : S) → v.fails (f s) ≡ v.fails s) → IsPlain v f
+plain_quiet v f fixed notes good count fails = record {
+  grows = λ s. record { notes = ([], notes s ∙ sym (append-nil (v.notes s))); counted = no_more (v.count (f s)) (v.count s) 0 (count s); opens = fails s; good = λ h. sym (good s) ∙ h };
   alike = λ s o e. fixed s ∙ ap (λ (x : _). v.fixed (f x)) e ∙ sym (fixed o);
 }
 
 -- what notes lines
-pub plain_noting : {S : Type 0} (v : View S) (f : S → S) (more : S → List Notice) → ((s : S) → v.fixed (f s) ≡ v.fixed (f (v.fixed s))) → ((s : S) → v.notes (f s) ≡ v.notes s ++ more s) → ((s : S) → v.good (f s) ≡ v.good s) → ((s : S) → v.count (f s) ≡ v.count s) → IsPlain v f
-plain_noting v f more fixed notes good count = record {
-  grows = λ s. record { notes = (more s, notes s); counted = no_more (v.count (f s)) (v.count s) (length (more s)) (count s); good = λ h. sym (good s) ∙ h };
+pub plain_noting : {S : Type 0} (v : View S) (f : S → S) (more : S → List Notice) → ((s : S) → v.fixed (f s) ≡ v.fixed (f (v.fixed s))) → ((s : S) → v.notes (f s) ≡ v.notes s ++ more s) → ((s : S) → v.good (f s) ≡ v.good s) → ((s : S) → v.count (f s) ≡ v.count s) → ((s : S) → v.fails (f s) ≡ v.fails s) → IsPlain v f
+plain_noting v f more fixed notes good count fails = record {
+  grows = λ s. record { notes = (more s, notes s); counted = no_more (v.count (f s)) (v.count s) (length (more s)) (count s); opens = fails s; good = λ h. sym (good s) ∙ h };
   alike = λ s o e. fixed s ∙ ap (λ (x : _). v.fixed (f x)) e ∙ sym (fixed o);
 }
 

@@ -36,7 +36,7 @@ put_ends f c v w n true (inr (e, d)) = (e, ap without_points d)
 
 apply_sure : (f : Book → Book) (c : Change) → IsSure of_volume (apply f c)
 apply_sure f c = record {
-  grows = λ v n w h. record { notes = ([], refl); counted = omega arith; good = λ g. g };
+  grows = λ v n w h. record { notes = ([], refl); counted = omega arith; opens = refl; good = λ g. g };
   one = λ v o e n m w u h k _ _.
       let x = put_ends f c v w n (may_need_room c v) h in
       let y = put_ends f c o u m (may_need_room c o) k in
@@ -54,7 +54,7 @@ not_parted (inr f) = none_before f.before _ f.after f.first_is
 -- a part of the volume in the filter
 pub sure_in_volume : {A : Type 0} (f : Arrow Volume A) → IsSure of_volume f → IsSure of_filter (in_volume f)
 sure_in_volume {A} f sure = record {
-  grows = λ s a t h. let x = ends_of_mapped (λ (w : Volume). with_volume w s) (f s.volume) a t h in subst (λ (y : Filter). Grown of_filter s y) (sym x.2) (record { notes = ([], sym (append-nil s.notes)); counted = omega arith; good = λ g. g });
+  grows = λ s a t h. let x = ends_of_mapped (λ (w : Volume). with_volume w s) (f s.volume) a t h in subst (λ (y : Filter). Grown of_filter s y) (sym x.2) (record { notes = ([], sym (append-nil s.notes)); counted = omega arith; opens = refl; good = λ g. g });
   one = λ s o e a b t u h k _ _.
       let x = ends_of_mapped (λ (w : Volume). with_volume w s) (f s.volume) a t h in
       let y = ends_of_mapped (λ (w : Volume). with_volume w o) (f o.volume) b u k in
@@ -70,7 +70,7 @@ pub sure_in_filter : {A : Type 0} (f : Arrow Filter A) → IsSure of_filter f �
 sure_in_filter {A} f sure = record {
   grows = λ s a t h.
       let x = ends_of_mapped (λ (g : Filter). with_filter g s) (f s.filter) a t h in
-      subst (λ (y : State). Grown of_state s y) (sym x.2) (record { notes = (sure.grows s.filter a x.0 x.1).notes; counted = omega arith; good = λ g. g });
+      subst (λ (y : State). Grown of_state s y) (sym x.2) (record { notes = (sure.grows s.filter a x.0 x.1).notes; counted = omega arith; opens = refl; good = λ g. g });
   one = λ s o e a b t u h k _ _.
       let x = ends_of_mapped (λ (g : Filter). with_filter g s) (f s.filter) a t h in
       let y = ends_of_mapped (λ (g : Filter). with_filter g o) (f o.filter) b u k in
@@ -87,38 +87,38 @@ sure_in_filter {A} f sure = record {
 pub change_sure : (f : Book → Book) (c : Change) → IsSure of_filter (change_with f c)
 change_sure f c =
     sure_seq of_filter (in_volume (apply f c)) (tell_change c) (sure_in_volume (apply f c) (apply_sure f c))
-    (λ n. sure_noted of_filter (with_notes (notice.Change n c ∷ [])) (plain_noting of_filter (with_notes (notice.Change n c ∷ [])) (λ _. notice.Change n c ∷ []) (λ s. refl) (λ s. refl) (λ s. refl) (λ s. refl)))
+    (λ n. sure_noted of_filter (with_notes (notice.Change n c ∷ [])) (plain_noting of_filter (with_notes (notice.Change n c ∷ [])) (λ _. notice.Change n c ∷ []) (λ s. refl) (λ s. refl) (λ s. refl) (λ s. refl) (λ s. refl)))
 
 pub commit_sure : IsSure of_filter (in_volume commit)
-commit_sure = sure_in_volume commit (sure_one_or of_volume with_point_begun with_sure_point (plain_quiet of_volume with_sure_point (λ s. refl) (λ s. refl) (λ s. refl) (λ s. refl)))
+commit_sure = sure_in_volume commit (sure_one_or of_volume with_point_begun with_sure_point (plain_quiet of_volume with_sure_point (λ s. refl) (λ s. refl) (λ s. refl) (λ s. refl) (λ s. refl)))
 
 -- what the ask rule tells
 
 with_waiting_plain : (w : Waiting) → IsPlain of_filter (with_waiting w)
-with_waiting_plain w = plain_quiet of_filter (with_waiting w) (λ s. refl) (λ s. refl) (λ s. refl) (λ s. refl)
+with_waiting_plain w = plain_quiet of_filter (with_waiting w) (λ s. refl) (λ s. refl) (λ s. refl) (λ s. refl) (λ s. refl)
 
 with_asks_told_plain : (t : Told) → IsPlain of_filter (with_asks_told t)
-with_asks_told_plain t = plain_noting of_filter (with_asks_told t) (λ s. map cancel_line t.cancelled ++ map ask_line t.made) (λ s. refl) (λ s. append_assoc s.notes (map cancel_line t.cancelled) (map ask_line t.made)) (λ s. refl) (λ s. refl)
+with_asks_told_plain t = plain_noting of_filter (with_asks_told t) (λ s. map cancel_line t.cancelled ++ map ask_line t.made) (λ s. refl) (λ s. append_assoc s.notes (map cancel_line t.cancelled) (map ask_line t.made)) (λ s. refl) (λ s. refl) (λ s. refl)
 
 accessed_plain : (item : ItemId) → IsPlain of_filter (accessed item)
-accessed_plain item = plain_quiet of_filter (accessed item) (λ s. refl) (λ s. refl) (λ s. refl) (λ s. refl)
+accessed_plain item = plain_quiet of_filter (accessed item) (λ s. refl) (λ s. refl) (λ s. refl) (λ s. refl) (λ s. refl)
 
 plain_after : (f g : Filter → Filter) → IsPlain of_filter f → IsPlain of_filter g → IsPlain of_filter (λ s. g (f s))
 plain_after f g first next = record {
   grows = λ s.
       let a = first.grows s in
       let b = next.grows (f s) in
-      record { notes = (a.notes.0 ++ b.notes.0, b.notes.1 ∙ ap (λ (xs : List Notice). xs ++ b.notes.0) a.notes.1 ∙ append_assoc s.notes a.notes.0 b.notes.0); counted = omega arith; good = λ h. h };
+      record { notes = (a.notes.0 ++ b.notes.0, b.notes.1 ∙ ap (λ (xs : List Notice). xs ++ b.notes.0) a.notes.1 ∙ append_assoc s.notes a.notes.0 b.notes.0); counted = omega arith; opens = refl; good = λ h. h };
   alike = λ s o e. next.alike (f s) (f o) (first.alike s o e);
 }
 
 pub accessed_if_plain : (b : Bool) (item : ItemId) → IsPlain of_filter (λ s. if b then accessed item s else s)
 accessed_if_plain true item = accessed_plain item
-accessed_if_plain false item = plain_quiet of_filter (λ s. s) (λ s. refl) (λ s. refl) (λ s. refl) (λ s. refl)
+accessed_if_plain false item = plain_quiet of_filter (λ s. s) (λ s. refl) (λ s. refl) (λ s. refl) (λ s. refl) (λ s. refl)
 
 tell_end_plain : (id : WaitId) (e : End) (own : Bool) → IsPlain of_filter (tell_end id e own)
-tell_end_plain id e true = plain_quiet of_filter (tell_end id e true) (λ s. refl) (λ s. refl) (λ s. refl) (λ s. refl)
-tell_end_plain id e false = plain_noting of_filter (tell_end id e false) (λ s. notice.Done id e ∷ []) (λ s. refl) (λ s. refl) (λ s. refl) (λ s. refl)
+tell_end_plain id e true = plain_quiet of_filter (tell_end id e true) (λ s. refl) (λ s. refl) (λ s. refl) (λ s. refl) (λ s. refl)
+tell_end_plain id e false = plain_noting of_filter (tell_end id e false) (λ s. notice.Done id e ∷ []) (λ s. refl) (λ s. refl) (λ s. refl) (λ s. refl) (λ s. refl)
 
 with_ended_plain : (e : Wait × Cause) → IsPlain of_filter (with_ended e)
 with_ended_plain e = record {
@@ -147,7 +147,7 @@ pub downs_sure : IsSure of_filter (reading all_down tell)
 downs_sure = sure_reading of_filter all_down tell (reads_fixed of_filter all_down (λ s. refl)) tell_sure
 
 with_own_plain : (n : Need) → IsPlain of_filter (with_own n)
-with_own_plain n = plain_noting of_filter (with_own n) (λ s. map background_line (beside n s)) (λ s. refl) (λ s. refl) (λ s. refl) (λ s. refl)
+with_own_plain n = plain_noting of_filter (with_own n) (λ s. map background_line (beside n s)) (λ s. refl) (λ s. refl) (λ s. refl) (λ s. refl) (λ s. refl)
 
 begin_now_sure : (n : Need) (r : Told × Waiting) → IsSure of_filter (begin_now n r)
 begin_now_sure n r =

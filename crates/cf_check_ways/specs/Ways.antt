@@ -19,12 +19,13 @@ use Rattle.cf_model.specs.Restarts.{epoch_after, resumed, with_opened}
 use Rattle.cf_model.specs.State.{Filter, Point, State, Volume}
 use Rattle.cf_model.specs.Trees.{Ends}
 
--- What is looked at of a state: what of it is fixed, what happened so far, how many messages there are, and whether something is
--- said of it.
+-- What is looked at of a state: what of it is fixed, what happened so far, how many messages there are, how many openings failed
+-- since the last one, and whether something is said of it.
 pub record View (S : Type 0) : Type 0 where
   pub fixed : S → S
   pub notes : S → List Notice
   pub count : S → ℕ
+  pub fails : S → ℕ
   pub good : S → Bool
 
 -- the volume without its points
@@ -32,13 +33,13 @@ abbrev pub without_points : Volume → Volume
 without_points v = record v { points = []; items_then = []; put_since = 0 }
 
 abbrev pub of_volume : View Volume
-of_volume = record { fixed = without_points; notes = λ v. []; count = λ v. 0; good = λ v. true }
+of_volume = record { fixed = without_points; notes = λ v. []; count = λ v. 0; fails = λ v. 0; good = λ v. true }
 
 abbrev pub fixed_filter : Filter → Filter
 fixed_filter f = record f { volume = without_points f.volume }
 
 abbrev pub of_filter : View Filter
-of_filter = record { fixed = fixed_filter; notes = λ f. f.notes; count = λ f. 0; good = λ f. true }
+of_filter = record { fixed = fixed_filter; notes = λ f. f.notes; count = λ f. 0; fails = λ f. 0; good = λ f. true }
 
 -- the state without points and the count of asks
 abbrev pub fixed_state : State → State
@@ -49,16 +50,17 @@ abbrev pub is_good : State → Bool
 is_good s = s.link.honest && nat_lt (length s.link.messages) most
 
 abbrev pub of_state : View State
-of_state = record { fixed = fixed_state; notes = λ s. s.filter.notes; count = λ s. length s.link.messages; good = is_good }
+of_state = record { fixed = fixed_state; notes = λ s. s.filter.notes; count = λ s. length s.link.messages; fails = λ s. s.failed_opens; good = is_good }
 
 abbrev pub Alike : {S : Type 0} → View S → S → S → Type 0
 Alike v s t = v.fixed s ≡ v.fixed t
 
--- What happened before the one state happened before the other, and each new message is one of what happened since; what is said
--- of the other is said of the one.
+-- What happened before the one state happened before the other, and each new message is one of what happened since; no opening
+-- failed; what is said of the other is said of the one.
 pub record Grown {S : Type 0} (v : View S) (s t : S) : Type 0 where
   pub notes : (more : List Notice) × (v.notes t ≡ v.notes s ++ more)
   pub counted : v.count t ≤ v.count s + length notes.0
+  pub opens : v.fails t ≡ v.fails s
   pub good : v.good t ≡ true → v.good s ≡ true
 
 -- After the same lines the remote failed on a message in the first, and its reply to that message was noted in the second.

@@ -40,3 +40,9 @@ pub fn each_message_has_a_line()
     ensures { (m : Mode) (s : State) (e : Event) (a : Answer) (t : State) → IsStep m s e a t → (a.shown ≡ shown.Refused code.Device → ⊥)
         → length t.link.messages ≤ length s.link.messages + length a.notes }
 {}
+
+/// Where no answer was that of a device that failed, no opening has failed since the last one.
+pub fn no_opening_failed()
+    ensures { (m : Mode) (s : State) (e : Event) (a : Answer) (t : State) → IsStep m s e a t → (a.shown ≡ shown.Refused code.Device → ⊥)
+        → s.failed_opens ≡ 0 → t.failed_opens ≡ 0 }
+{}
