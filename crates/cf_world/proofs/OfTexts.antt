@@ -37,7 +37,7 @@ long_text n (Some left) h = h
 pub not_quiet : (old new : ℕ) → Rose old new → IsQuiet old new → ⊥
 not_quiet old new rose quiet = omega (arith, rose quiet.1, quiet.0)
 
-short_enough : (s : Status) (text : List ℕ) → length text ≤ most_script → IsAfterReading s → IsLength s text
+pub short_enough : (s : Status) (text : List ℕ) → length text ≤ most_script → IsAfterReading s → IsLength s text
 short_enough status.Done text short h = short
 short_enough status.BadScript text short h = short
 short_enough status.SinkFault text short h = short

@@ -16,7 +16,7 @@ use Rattle.cf_model.specs.State.{State}
 use Rattle.cf_world.specs.RemoteFaults.{ReportsListed}
 
 -- more power cuts behind those of an event
-power_more : (stands : StandsFor) (last : Option (List ℕ)) (e : Event) (a : Answer) (t : State) (powers : List (Choice × List ℕ)) (after : Option (List ℕ)) (rest more : List (Choice × List ℕ))
+pub power_more : (stands : StandsFor) (last : Option (List ℕ)) (e : Event) (a : Answer) (t : State) (powers : List (Choice × List ℕ)) (after : Option (List ℕ)) (rest more : List (Choice × List ℕ))
     → IsPower stands last e a t powers after rest → IsPower stands last e a t (powers ++ more) after (rest ++ more)
 power_more stands last (event.Device (device.Crash choice)) a t [] after rest more h = absurd h
 power_more stands last (event.Device (device.Crash choice)) a t (w ∷ ws) after rest more h = (h.0, h.1, ap (λ (l : List (Choice × List ℕ)). l ++ more) h.2)
@@ -27,11 +27,11 @@ power_more stands last (event.Peer e) a t powers after rest more h = (h.0, ap (�
 power_more stands last (event.Engine e) a t powers after rest more h = (h.0, ap (λ (l : List (Choice × List ℕ)). l ++ more) h.1)
 power_more stands last (event.Provider e) a t powers after rest more h = (h.0, ap (λ (l : List (Choice × List ℕ)). l ++ more) h.1)
 
-same_last : (last after : Option (List ℕ)) (powers rest : List (Choice × List ℕ)) → after ≡ last → rest ≡ powers → last_image last powers ≡ last_image after rest
+pub same_last : (last after : Option (List ℕ)) (powers rest : List (Choice × List ℕ)) → after ≡ last → rest ≡ powers → last_image last powers ≡ last_image after rest
 same_last last after powers rest o l = sym (ap (λ (r : List (Choice × List ℕ)). last_image after r) l ∙ ap (λ (i : Option (List ℕ)). last_image i powers) o)
 
 -- the image that is the last after an event and the rest is that of all
-power_last : (stands : StandsFor) (last : Option (List ℕ)) (e : Event) (a : Answer) (t : State) (powers : List (Choice × List ℕ)) (after : Option (List ℕ)) (rest : List (Choice × List ℕ))
+pub power_last : (stands : StandsFor) (last : Option (List ℕ)) (e : Event) (a : Answer) (t : State) (powers : List (Choice × List ℕ)) (after : Option (List ℕ)) (rest : List (Choice × List ℕ))
     → IsPower stands last e a t powers after rest → last_image last powers ≡ last_image after rest
 power_last stands last (event.Device (device.Crash choice)) a t [] after rest h = absurd h
 power_last stands last (event.Device (device.Crash choice)) a t (w ∷ ws) after rest h = same_last (Some w.1) after ws rest h.1 h.2
