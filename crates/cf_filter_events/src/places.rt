@@ -2,6 +2,7 @@
 
 ghost use Rattle.std.specs.Prelude.{◌≡◌};
 ghost use Rattle.cf_filter_events.specs.Stepped.{actor_of, with_actor};
+ghost use Rattle.cf_model.specs.Arrows.{unit};
 
 use cf_base::Policy;
 use cf_disk::Disk;
@@ -32,18 +33,20 @@ pub enum Acting<D: Disk, A> {
 impl<D: Disk, A> Acting<D, A> {
     /// The actor, and the world without it.
     pub fn apart(self) -> (Acting<D, ()>, A)
-        ensures rest { result.0 ≡ with_actor () self }
+        ensures rest { result.0 ≡ with_actor unit self }
         ensures actor { result.1 ≡ actor_of self }
     {
         match self {
             Acting::On(Running { filter, actor }) => {
                 (Acting::On(Running { filter, actor: () }), actor)
             }
-            Acting::Off(Cut {
-                disk,
-                policy,
-                actor,
-            }) => {
+            Acting::Off(
+                Cut {
+                    disk,
+                    policy,
+                    actor,
+                },
+            ) => {
                 let rest = Cut {
                     disk,
                     policy,
