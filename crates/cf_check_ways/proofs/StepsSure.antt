@@ -78,13 +78,13 @@ begun_alike : (s o : State) → Alike of_state s o → Alike of_state (begun s) 
 begun_alike s o e = ap (λ (x : State). fixed_state (begun x)) e
 
 -- the answers, where the ends are alike
-answers_as_ends : (s o : State) (r q : Shown) (t u : State) → SameEnd of_state r t q u ⊎ Parted t.filter.notes u.filter.notes → AnswersAlike s o (answer_in r t) t (answer_in q u) u
-answers_as_ends s o r q t u (inl same) = inl (ap (λ (x : Shown). answer_in x t) same.0 ∙ ap (λ (x : State). answer_in q x) same.1, same.1)
-answers_as_ends s o r q t u (inr apart) = inr (inl apart)
+answers_as_ends : (s o : State) (e : Event) (r q : Shown) (t u : State) → SameEnd of_state r t q u ⊎ Parted t.filter.notes u.filter.notes → AnswersAlike s o e (answer_in r t) t (answer_in q u) u
+answers_as_ends s o e r q t u (inl same) = inl (ap (λ (x : Shown). answer_in x t) same.0 ∙ ap (λ (x : State). answer_in q x) same.1, same.1)
+answers_as_ends s o e r q t u (inr apart) = inr (inl apart)
 
 of_sure : (s o : State) (e : Event) → IsSure of_state (event_now e) → Alike of_state s o → (r q : Shown) (t u : State) → Ends (tree_of e s) r t → Ends (tree_of e o) q u → is_good t ≡ true → is_good u ≡ true
-    → AnswersAlike s o (answer_in r t) t (answer_in q u) u
-of_sure s o e sure alike r q t u h k good well = answers_as_ends s o r q t u (sure.one (begun s) (begun o) (begun_alike s o alike) r q t u h k good well)
+    → AnswersAlike s o e (answer_in r t) t (answer_in q u) u
+of_sure s o e sure alike r q t u h k good well = answers_as_ends s o e r q t u (sure.one (begun s) (begun o) (begun_alike s o alike) r q t u h k good well)
 
 peer_quiet : (e : PeerEvent) (s : State) (r : Shown) (t : State) → Ends (tree_of (event.Peer e) s) r t → t.filter.notes ≡ []
 peer_quiet e s r t h =
@@ -92,24 +92,24 @@ peer_quiet e s r t h =
     ((peer_event_keeps (λ x. x.filter.notes ≡ []) (asked_keeps (λ x. x.filter.notes ≡ []) (λ x n. n) (λ held x n. n) (λ x n. n)) (λ x n. n) (λ y x n. n) e).keeps (begun s) refl) h
 
 of_peer : (s o : State) (e : PeerEvent) → Alike of_state s o → (r q : Shown) (t u : State) → Ends (tree_of (event.Peer e) s) r t → Ends (tree_of (event.Peer e) o) q u → is_good t ≡ true → is_good u ≡ true
-    → AnswersAlike s o (answer_in r t) t (answer_in q u) u
+    → AnswersAlike s o (event.Peer e) (answer_in r t) t (answer_in q u) u
 of_peer s o e alike r q t u h k good well = by ((peer_event_sure e).one (begun s) (begun o) (begun_alike s o alike) r q t u h k good well)
   where
-    by : SameEnd of_state r t q u ⊎ (Parted t.filter.notes u.filter.notes ⊎ OneFailed r q) → AnswersAlike s o (answer_in r t) t (answer_in q u) u
-    by (inl same) = answers_as_ends s o r q t u (inl same)
+    by : SameEnd of_state r t q u ⊎ (Parted t.filter.notes u.filter.notes ⊎ OneFailed r q) → AnswersAlike s o (event.Peer e) (answer_in r t) t (answer_in q u) u
+    by (inl same) = answers_as_ends s o (event.Peer e) r q t u (inl same)
     by (inr (inl apart)) = inr (inl apart)
     by (inr (inr one)) = inr (inr (inl (peer_quiet e s r t h ∙ sym (peer_quiet e o q u k), one)))
 
 of_restart : (s o : State) → Alike of_state s o → s.failed_opens ≡ 0 → HasPoints s.filter.volume → HasPoints o.filter.volume → (r q : Shown) (t u : State)
-    → Ends (tree_of (event.Device device.Restart) s) r t → Ends (tree_of (event.Device device.Restart) o) q u → AnswersAlike s o (answer_in r t) t (answer_in q u) u
+    → Ends (tree_of (event.Device device.Restart) s) r t → Ends (tree_of (event.Device device.Restart) o) q u → AnswersAlike s o (event.Device device.Restart) (answer_in r t) t (answer_in q u) u
 of_restart s o alike none has has_too r q t u h k = by (restart_one (begun s) (begun o) (begun_alike s o alike) none has has_too r q t u h k)
   where
-    by : SameEnd of_state r t q u ⊎ BothResumed (begun s) (begun o) r q t u → AnswersAlike s o (answer_in r t) t (answer_in q u) u
-    by (inl same) = answers_as_ends s o r q t u (inl same)
-    by (inr both) = inr (inr (inr (refl, refl, both)))
+    by : SameEnd of_state r t q u ⊎ BothResumed (begun s) (begun o) r q t u → AnswersAlike s o (event.Device device.Restart) (answer_in r t) t (answer_in q u) u
+    by (inl same) = answers_as_ends s o (event.Device device.Restart) r q t u (inl same)
+    by (inr both) = inr (inr (inr (refl, refl, refl, both)))
 
 both_ended : (s o : State) (e : Event) → Alike of_state s o → s.failed_opens ≡ 0 → HasPoints s.filter.volume → HasPoints o.filter.volume → (r q : Shown) (t u : State)
-    → Ends (tree_of e s) r t → Ends (tree_of e o) q u → is_good t ≡ true → is_good u ≡ true → AnswersAlike s o (answer_in r t) t (answer_in q u) u
+    → Ends (tree_of e s) r t → Ends (tree_of e o) q u → is_good t ≡ true → is_good u ≡ true → AnswersAlike s o e (answer_in r t) t (answer_in q u) u
 both_ended s o (event.Call c) alike none has has_too r q t u h k good well = of_sure s o (event.Call c) (call_now_sure c) alike r q t u h k good well
 both_ended s o (event.Device (device.Stop n)) alike none has has_too r q t u h k good well = of_sure s o (event.Device (device.Stop n)) (sure_ret of_state shown.Done) alike r q t u h k good well
 both_ended s o (event.Device (device.Crash c)) alike none has has_too r q t u h k good well = of_sure s o (event.Device (device.Crash c)) crash_sure alike r q t u h k good well
@@ -120,17 +120,17 @@ both_ended s o (event.Provider p) alike none has has_too r q t u h k good well =
 
 -- two answers to one event from alike states, neither of which is that of a device that failed
 pub steps_alike : (m : Mode) (s o : State) (e : Event) (a b : Answer) (t u : State) → Alike of_state s o → s.failed_opens ≡ 0 → HasPoints s.filter.volume → HasPoints o.filter.volume
-    → IsStep m s e a t → IsStep m o e b u → is_good t ≡ true → is_good u ≡ true → (Stopped a → ⊥) → (Stopped b → ⊥) → AnswersAlike s o a t b u
+    → IsStep m s e a t → IsStep m o e b u → is_good t ≡ true → is_good u ≡ true → (Stopped a → ⊥) → (Stopped b → ⊥) → AnswersAlike s o e a t b u
 steps_alike m s o e a b t u alike none has has_too h k good well runs runs_too =
     by (no_volume (needs_volume e) s.power) (step_of m s e a t h) (subst (λ (w : Option Code). StepOf w o e b u) (sym (ap (λ (x : State). no_volume (needs_volume e) x.power) alike)) (step_of m o e b u k))
   where
-    by : (why : Option Code) → StepOf why s e a t → StepOf why o e b u → AnswersAlike s o a t b u
+    by : (why : Option Code) → StepOf why s e a t → StepOf why o e b u → AnswersAlike s o e a t b u
     by (Some c) x y = inl (x.0 ∙ sym y.0, ap fixed_state x.1 ∙ alike ∙ ap fixed_state (sym y.1))
     by None (inr stop) y = absurd (runs stop)
     by None x (inr stop) = absurd (runs_too stop)
     by None (inl x) (inl y) =
-        subst (λ (z : Answer). AnswersAlike s o z t b u) (sym x.2)
-        (subst (λ (z : Answer). AnswersAlike s o (answer_in x.0 t) t z u) (sym y.2) (both_ended s o e alike none has has_too x.0 y.0 t u x.1 y.1 good well))
+        subst (λ (z : Answer). AnswersAlike s o e z t b u) (sym x.2)
+        (subst (λ (z : Answer). AnswersAlike s o e (answer_in x.0 t) t z u) (sym y.2) (both_ended s o e alike none has has_too x.0 y.0 t u x.1 y.1 good well))
 
 -- each new message has a line
 

@@ -8,6 +8,9 @@ use Rattle.cf_base.specs.declared.answers.Shown.{Shown}
 use Rattle.cf_base.specs.declared.answers.Shown.TheVariants as shown
 use Rattle.cf_base.specs.declared.codes.Code.{Code}
 use Rattle.cf_base.specs.declared.codes.Code.TheVariants as code
+use Rattle.cf_base.specs.declared.events.DeviceEvent.TheVariants as device
+use Rattle.cf_base.specs.declared.events.Event.{Event}
+use Rattle.cf_base.specs.declared.events.Event.TheVariants as event
 use Rattle.cf_base.specs.declared.messages.Reply.{Reply}
 use Rattle.cf_base.specs.declared.notices.Frame.TheVariants as frame
 use Rattle.cf_base.specs.declared.notices.Notice.{Notice}
@@ -136,6 +139,10 @@ pub record BothResumed (s o : State) (a b : Shown) (t u : State) : Type 0 where
   pub left_too : u ≡ with_opened other (epoch_after 0 o) o
 
 -- Answers to one event from alike states are the same and leave alike states; or they part where the remote failed in one; or
--- both are of restarts that resumed.
-abbrev pub AnswersAlike : State → State → Answer → State → Answer → State → Type 0
-AnswersAlike s o a t b u = ((a ≡ b) × Alike of_state t u) ⊎ (Parted a.notes b.notes ⊎ ((a.notes ≡ b.notes) × OneFailed a.shown b.shown) ⊎ ((a ≡ answer_in a.shown t) × (b ≡ answer_in b.shown u) × BothResumed (begun s) (begun o) a.shown b.shown t u))
+-- the event is a restart, and both resumed.
+abbrev pub AnswersAlike : State → State → Event → Answer → State → Answer → State → Type 0
+AnswersAlike s o e a t b u =
+    ((a ≡ b) × Alike of_state t u)
+    ⊎ (Parted a.notes b.notes
+    ⊎ (((a.notes ≡ b.notes) × OneFailed a.shown b.shown)
+    ⊎ ((e ≡ event.Device device.Restart) × (a ≡ answer_in a.shown t) × (b ≡ answer_in b.shown u) × BothResumed (begun s) (begun o) a.shown b.shown t u)))

@@ -25,7 +25,7 @@ pub fn parts_of_sure_parts_are_sure()
 pub fn answers_to_one_event_are_alike()
     ensures { (m : Mode) (s o : State) (e : Event) (a b : Answer) (t u : State) → Alike of_state s o → s.failed_opens ≡ 0
         → HasPoints s.filter.volume → HasPoints o.filter.volume → IsStep m s e a t → IsStep m o e b u → is_good t ≡ true → is_good u ≡ true
-        → (a.shown ≡ shown.Refused code.Device → ⊥) → (b.shown ≡ shown.Refused code.Device → ⊥) → AnswersAlike s o a t b u }
+        → (a.shown ≡ shown.Refused code.Device → ⊥) → (b.shown ≡ shown.Refused code.Device → ⊥) → AnswersAlike s o e a t b u }
 {}
 
 /// Restarts from alike states that opened points of one count with one book have the same result and leave alike states.
