@@ -1,0 +1,4 @@
+pub mod Accepting
+pub mod Decisions
+pub mod NextSteps
+pub mod SameRuns
