@@ -1,0 +1,41 @@
+-- Small scripts with their reports.
+use Rattle.std.specs.Prelude.{ℕ, List, [], ◌∷◌, ◌++◌, codes}
+use Rattle.cf_base.specs.declared.calls.Call.TheVariants as call
+use Rattle.cf_base.specs.declared.events.DeviceEvent.TheVariants as device
+use Rattle.cf_base.specs.declared.events.EngineEvent.TheVariants as engine
+use Rattle.cf_base.specs.declared.events.Event.{Event}
+use Rattle.cf_base.specs.declared.events.Event.TheVariants as event
+use Rattle.cf_base.specs.declared.events.PeerEvent.TheVariants as peer
+use Rattle.cf_base.specs.declared.policies.Choice.TheVariants as crash
+use Rattle.cf_check_model.specs.Rows.{line}
+
+-- a file is made and flushed, the power is cut, and the volume is opened again
+abbrev pub flushed : List Event
+flushed =
+    event.Call (call.Create (codes "/n"))
+    ∷ event.Call call.Flush
+    ∷ event.Call (call.Mkdir (codes "/d"))
+    ∷ event.Device (device.Crash crash.Drop)
+    ∷ event.Device device.Restart
+    ∷ []
+
+abbrev pub before_restart : List ℕ
+before_restart =
+    line (codes "- change 1.1 make 2 1 n file 0 -")
+    ++ line (codes "= ok 2")
+    ++ line (codes "= ok 1")
+    ++ line (codes "- change 1.2 make 3 1 d dir 0 -")
+    ++ line (codes "= ok 3")
+    ++ line (codes "= ok")
+
+-- a request of a sync fails
+abbrev pub failing : List Event
+failing = event.Peer (peer.MakeDir (codes "/d")) ∷ event.Engine engine.Sync ∷ event.Peer (peer.Stat (codes "/d")) ∷ []
+
+abbrev pub failing_report : List ℕ
+failing_report =
+    line (codes "= ok 2 0")
+    ++ line (codes "- sent 1 feed")
+    ++ line (codes "- fault 1")
+    ++ line (codes "= ok 0")
+    ++ line (codes "= refused RemoteFault")
