@@ -82,7 +82,7 @@ agent_at P closed a s boxed h = by a.kind (item_of (items_now s) a.item) refl wh
   by ask_kind.List None f = h
   by ask_kind.Dehydrate o f = (consents_op_keeps P closed a.key).keeps s h
 
-call_back_at : (P : State → Type 0) → Guarded P → (a : Ask) (s : State) → (IsFair s.link → WasBoxed s a) → P s → Keeps P (call_back a s)
+pub call_back_at : (P : State → Type 0) → Guarded P → (a : Ask) (s : State) → (IsFair s.link → WasBoxed s a) → P s → Keeps P (call_back a s)
 call_back_at P closed a s boxed h = by s.mode (closed.replay s h) where
   by : (m : Mode) → is_replay m ≡ true → Keeps P (provider m a s)
   by mode.Replay e = agent_at P closed a s boxed h
@@ -90,7 +90,7 @@ call_back_at P closed a s boxed h = by s.mode (closed.replay s h) where
 
 -- the outbox
 
-was_boxed : (P : State → Type 0) → Guarded P → (a : Ask) (rest : List Ask) (s : State) → s.filter.outbox ≡ a ∷ rest → P s → IsFair s.link → WasBoxed (with_outbox rest s) a
+pub was_boxed : (P : State → Type 0) → Guarded P → (a : Ask) (rest : List Ask) (s : State) → s.filter.outbox ≡ a ∷ rest → P s → IsFair s.link → WasBoxed (with_outbox rest s) a
 was_boxed P closed a rest s e h fair =
     let sound : IsSound s.link s.volatile.tokens s.filter = (closed.on_filter s h).sound s.filter h fair in
     record {
@@ -102,7 +102,7 @@ was_boxed P closed a rest s e h fair =
     head : (C : Ask → Type 0) → All C (a ∷ rest) → C a
     head C k = k.0
 
-drained_keeps : (P : State → Type 0) → Guarded P → (n : ℕ) → Preserves P (drained n)
+pub drained_keeps : (P : State → Type 0) → Guarded P → (n : ℕ) → Preserves P (drained n)
 drained_keeps P closed zero = record { keeps = λ s h. h }
 drained_keeps P closed (suc n) = record { keeps = λ s h. popped s h s.filter.outbox refl (drained_keeps P closed n) } where
   popped : (s : State) → P s → (asks : List Ask) → s.filter.outbox ≡ asks → Preserves P (drained n)

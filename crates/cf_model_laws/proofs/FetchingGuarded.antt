@@ -49,7 +49,7 @@ op_keeps P closed op k = record { keeps = λ s h. keeps_bind P (in_filter (execu
 pub consents_op_keeps : (P : State → Type 0) → Guarded P → (key : Key) → Preserves P (do_op (operation.AckDehydrate key true))
 consents_op_keeps P closed key = op_keeps P closed (operation.AckDehydrate key true) (λ s h. operations_keep.consented_keeps s.link s.volatile.tokens (λ x. P (with_filter x s)) (closed.on_filter s h) key)
 
-refuse_op_keeps : (P : State → Type 0) → Guarded P → (key : Key) (span : Span) (status : ℕ) → Preserves P (do_op (operation.Refuse key span status))
+pub refuse_op_keeps : (P : State → Type 0) → Guarded P → (key : Key) (span : Span) (status : ℕ) → Preserves P (do_op (operation.Refuse key span status))
 refuse_op_keeps P closed key span status = op_keeps P closed (operation.Refuse key span status) (λ s h. operations_keep.refused_op_keeps s.link s.volatile.tokens (λ x. P (with_filter x s)) (closed.on_filter s h) key span status)
 
 pub nothing_more_keeps : (P : State → Type 0) → Guarded P → (x1 : Shown) → Preserves P (nothing_more x1)

@@ -55,7 +55,7 @@ use Rattle.cf_model_laws.proofs.UploadsGuarded.{IsNewEntry, NewBy, push_at}
 use Rattle.cf_model_laws.proofs.MadeUploads.{IsAbout, aimed_under}
 use Rattle.cf_base.specs.declared.ids.Rid.{Rid}
 
-abbrev Files : Bool → Bool → Type 0
+abbrev pub Files : Bool → Bool → Type 0
 Files d p = (d ≡ false) × (p ≡ true)
 
 -- what is known of an item that is pushed
@@ -193,10 +193,10 @@ after_hydrate_keeps P closed (shown.Refused code.Exhausted) = skips_keep.skip_ke
 after_hydrate_keeps P closed _ = keeps_ret P unit
 
 -- the file is here
-abbrev IsFileHere : Item → State → Type 0
+abbrev pub IsFileHere : Item → State → Type 0
 IsFileHere i s = IsFair s.link → (item_of (items_now s) i.id ≡ Some i) × (i.directory ≡ false)
 
-hydrate_unless_at : (P : State → Type 0) → Guarded P → (i : Item) (b : Bool) (s : State) → IsFileHere i s → P s → Keeps P (hydrate_unless i.id b s)
+pub hydrate_unless_at : (P : State → Type 0) → Guarded P → (i : Item) (b : Bool) (s : State) → IsFileHere i s → P s → Keeps P (hydrate_unless i.id b s)
 hydrate_unless_at P closed i true s there h = h
 hydrate_unless_at P closed i false s there h =
     keeps_bind P (calling (hydrate_file i.id) s) after_hydrate
@@ -209,29 +209,30 @@ hydrate_if_at P closed i false s there h = hydrate_unless_at P closed i (is_hydr
 pub hydrate_first_at : (P : State → Type 0) → Guarded P → (i : Item) (s : State) → IsFileHere i s → P s → Keeps P (hydrate_first i s)
 hydrate_first_at P closed i s there h = hydrate_if_at P closed i (is_all_here i) s there h
 
+-- what is here of the file is uploaded where nothing is missing
+pub put_whole_at : (P : State → Type 0) → Guarded P → Entering P → (i : Item) (t : State) → FrameIn (Unit {0}) i.id Files [] t → (o : Option Item) → item_of (items_now t) i.id ≡ o → P t → Keeps P (put_whole o t)
+put_whole_at P closed entering i t frame None e k = k
+put_whole_at P closed entering i t frame (Some j) e k = whole (list_all is_some j.held) refl where
+  same : ◌≡◌ {A = ItemId} j.id i.id
+  same = same_item j.id i.id (found_id i.id (items_now t) j e)
+
+  whole : (b : Bool) → list_all is_some j.held ≡ b → Keeps P (put_if j b t)
+  whole false q = k
+  whole true q =
+      push_put_at P closed entering j t (subst (λ (x : ItemId). item_of (items_now t) x ≡ Some j) (sym same) e) (λ fair. subst (NoEntry (book_now t).entries) (sym same) (frame.0 tt fair).2)
+      (λ fair. each_at i.id (λ j. Files j.directory j.placeholder) (items_now t) j e (frame.0 tt fair).1) q k
+
 -- a file is uploaded, after it was hydrated
 pub put_file_at : (P : State → Type 0) → Guarded P → Entering P → (i : Item) (s : State) → item_of (items_now s) i.id ≡ Some i → (IsFair s.link → NoEntry (book_now s).entries i.id) → (IsFair s.link → (i.directory ≡ false) × (i.placeholder ≡ true)) → P s → Keeps P (put_file i s)
 put_file_at P closed entering i s there alone kind h =
     kept_leads P (put_file i s)
     (leads_bind P (λ u t. P t × FrameIn (Unit {0}) i.id Files [] t) (λ u t. P t) (hydrate_first i s) (λ u t. reading (item_now i.id) put_whole t)
     (first_led P (FrameIn (Unit {0}) i.id Files []) (hydrate_first i s) (hydrate_first_at (λ t. P t × FrameIn (Unit {0}) i.id Files [] t) (guarded_framed (Unit {0}) i.id Files (λ d p k. (k.0, refl)) [] P closed) i s (λ fair. (there, (kind fair).0)) (h, (first, λ fair. tt))))
-    (λ u t k. leads_kept P (put_whole (item_of (items_now t) i.id) t) (by (item_of (items_now t) i.id) t refl k))) where
+    (λ u t k. leads_kept P (put_whole (item_of (items_now t) i.id) t) (put_whole_at P closed entering i t k.1 (item_of (items_now t) i.id) refl k.0))) where
       first : Unit {0} → IsFair s.link → (i.id.0 < s.filter.volume.next_item.0) × Each i.id (λ j. Files j.directory j.placeholder) (items_now s) × NoEntry (book_now s).entries i.id
       first u fair =
           let sound : IsSound s.link s.volatile.tokens s.filter = sound_of P closed s h fair in
           (found_below i.id 0 s.filter.volume.next_item.0 (items_now s) i sound.now.order there, each_found i.id (λ j. Files j.directory j.placeholder) 0 s.filter.volume.next_item.0 (items_now s) i sound.now.order there (kind fair), alone fair)
-
-      by : (o : Option Item) (t : State) → item_of (items_now t) i.id ≡ o → P t × FrameIn (Unit {0}) i.id Files [] t → Keeps P (put_whole o t)
-      by None t e k = k.0
-      by (Some j) t e k = whole (list_all is_some j.held) refl where
-        same : ◌≡◌ {A = ItemId} j.id i.id
-        same = same_item j.id i.id (found_id i.id (items_now t) j e)
-
-        whole : (b : Bool) → list_all is_some j.held ≡ b → Keeps P (put_if j b t)
-        whole false q = k.0
-        whole true q =
-            push_put_at P closed entering j t (subst (λ (x : ItemId). item_of (items_now t) x ≡ Some j) (sym same) e) (λ fair. subst (NoEntry (book_now t).entries) (sym same) (k.1.0 tt fair).2)
-            (λ fair. each_at i.id (λ j. Files j.directory j.placeholder) (items_now t) j e (k.1.0 tt fair).1) q k.0
 
 pub upload_at : (P : State → Type 0) → Guarded P → Entering P → (i : Item) (s : State) → item_of (items_now s) i.id ≡ Some i → (IsFair s.link → NoEntry (book_now s).entries i.id) → (IsFair s.link → i.directory ≡ false → i.placeholder ≡ true) → P s → Keeps P (upload i s)
 upload_at P closed entering i s there alone placed h = by i.directory refl where
