@@ -199,10 +199,10 @@ module _ (s : State) (h : Invariant s) (fair : IsFair s.link) (none : (book_now 
   waited : (id : ItemId) → is_hydrating id m ≡ is_hydrating id s
   waited id = ap (λ (f : Filter). list_any (λ w. is_hydrate_wait w.kind && (w.item.0 == id.0)) f.waiting.waits) fed.filter
 
-  pub fed_whole : AreWhole m
-  fed_whole = subst (All (λ i. i.directory ≡ false → IsToUpload i → (is_all_here i ≡ true) ⊎ (is_hydrating i.id m ≡ true))) (sym alike)
+  pub fed_whole : AreWhole s → AreWhole m
+  fed_whole whole = subst (All (λ i. i.directory ≡ false → IsToUpload i → (is_all_here i ≡ true) ⊎ (is_hydrating i.id m ≡ true))) (sym alike)
       (all_weaker (λ i. i.directory ≡ false → IsToUpload i → (is_all_here i ≡ true) ⊎ (is_hydrating i.id s ≡ true)) (λ i. i.directory ≡ false → IsToUpload i → (is_all_here i ≡ true) ⊎ (is_hydrating i.id m ≡ true))
-      (λ i k file needed. subst (λ (b : Bool). (is_all_here i ≡ true) ⊎ (b ≡ true)) (sym (waited i.id)) (k file needed)) (items_now s) agreed.whole)
+      (λ i k file needed. subst (λ (b : Bool). (is_all_here i ≡ true) ⊎ (b ≡ true)) (sym (waited i.id)) (k file needed)) (items_now s) whole)
 
   fed_fair : IsFair m.link
   fed_fair = (fed.honest ∙ fair.0, subst IsSmall (sym fed.remote) fair.1)

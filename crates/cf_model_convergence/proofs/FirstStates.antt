@@ -11,6 +11,7 @@ use Rattle.cf_model_laws.proofs.RightItems.{no_way_back}
 use Rattle.cf_model_convergence.specs.Agreeing.{IsAgreed, IsPassedHere}
 use Rattle.cf_model_convergence.specs.Feeds.{Among}
 use Rattle.cf_model_convergence.specs.Matching.{IsBelow}
+use Rattle.cf_model_convergence.specs.Telling.{AreWhole}
 use Rattle.cf_model_convergence.specs.Tidy.{IsLower, IsTidy, IsTidyItem}
 
 none_below : (remote : Held) (clusters : ℕ) (i : Item) → IsBelow (start mode.Replay remote clusters) i → ⊥
@@ -34,8 +35,10 @@ first_agrees remote clusters tidy = record {
   tree = λ i b. absurd (none_below remote clusters i b);
   idle = λ i p b up. absurd (none_below remote clusters i b);
   passed = λ i r b target early. absurd (none_below remote clusters i b);
-  whole = ((λ file. no_way_back file), tt);
 }
+
+pub first_whole : (remote : Held) (clusters : ℕ) → AreWhole (start mode.Replay remote clusters)
+first_whole remote clusters = ((λ file. no_way_back file), tt)
 
 pub first_here : (remote : Held) (clusters : ℕ) → IsTidy remote → IsPassedHere (start mode.Replay remote clusters)
 first_here remote clusters tidy = record {

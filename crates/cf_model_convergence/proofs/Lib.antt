@@ -14,14 +14,19 @@ pub mod FeedsGrow
 pub mod FeedsOrder
 pub mod FeedsTold
 pub mod FeedsTurned
+pub mod FetchesCalm
 pub mod FewPasses
 pub mod FirstStates
+pub mod HeardLines
+pub mod HydratesCalm
 pub mod ItemsPushed
 pub mod LastPasses
 pub mod LastingGuarded
 pub mod LateChanges
 pub mod Lines
 pub mod PassesAdd
+pub mod PassesCalm
+pub mod PushesCalm
 pub mod PushesIdle
 pub mod PushesTold
 pub mod QuietPasses
@@ -39,3 +44,4 @@ pub mod TidyRemotes
 pub mod TreeChanges
 pub mod TurnsTold
 pub mod TurnsGrow
+pub mod WaitsCalm

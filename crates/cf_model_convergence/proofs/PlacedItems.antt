@@ -291,16 +291,18 @@ module _ (s : State) (h : IsPlacedIn s) (fair : IsFair s.link) where
     by true q = absurd (at seat (eqb-true id.0 p.id.0 q))
     by false q = refl
 
-  pub placed_idle : NoneLists s → (i p : Item) → IsBelow s i → item_of (items_now s) i.parent ≡ Some p → in_use s p.id ≡ false
-  placed_idle none i p below up = both_false _ _ (no_handle s.filter.handles opened) (no_wait s.filter.waiting.waits waited none) where
+  pub placed_dirs : (i p : Item) → IsBelow s i → item_of (items_now s) i.parent ≡ Some p → p.directory ≡ true
+  placed_dirs i p below up = ap (λ (j : Item). j.directory) (sym (same u.0 (sym u.1 ∙ up))) ∙ u.2 where
     u : (q : Item) × (item_of (items_now s) i.parent ≡ Some q) × (q.directory ≡ true)
     u = (all_found (IsUnder (items_now s)) (λ j. j.id.0 == i.id.0) (items_now s) i below.0 trees.under).0 below.1
 
     same : (q : Item) → ◌≡◌ {A = Option Item} (Some q) (Some p) → q ≡ p
     same q e = cc
 
+  pub placed_idle : NoneLists s → (i p : Item) → IsBelow s i → item_of (items_now s) i.parent ≡ Some p → in_use s p.id ≡ false
+  placed_idle none i p below up = both_false _ _ (no_handle s.filter.handles opened) (no_wait s.filter.waiting.waits waited none) where
     dir : p.directory ≡ true
-    dir = ap (λ (j : Item). j.directory) (sym (same u.0 (sym u.1 ∙ up))) ∙ u.2
+    dir = placed_dirs i p below up
 
     there : item_of (items_now s) p.id ≡ Some p
     there = subst (λ (x : ItemId). item_of (items_now s) x ≡ Some p) (sym (same_item p.id i.parent (found_id i.parent (items_now s) p up))) up

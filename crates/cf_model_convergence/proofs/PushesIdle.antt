@@ -54,7 +54,7 @@ module _ (X : Type 0) (f : X → Arrow State (Unit {0})) (keeps : (P : State →
   keeps_all : (xs : List X) (P : State → Type 0) → Guarded P → Entering P → Preserves P (each f xs)
   keeps_all xs P closed entering = keeps_each P f xs (keeps P closed entering)
 
-  each_told : (xs : List X) (s : State) (u : Unit {0}) (t : State) → Invariant s → IsFair s.link → IsListening s → H s → EndsFairly (each f xs s) u t → no_number t ≡ false → IsTold s t ⊎ ((t ≡ s) × All (C s) xs)
+  pub each_told : (xs : List X) (s : State) (u : Unit {0}) (t : State) → Invariant s → IsFair s.link → IsListening s → H s → EndsFairly (each f xs s) u t → no_number t ≡ false → IsTold s t ⊎ ((t ≡ s) × All (C s) xs)
   each_told [] s u t h fair listening has ends left = inr (ends.1, tt)
   each_told (x ∷ xs) s u t h fair listening has ends left =
       let k = ends_bind (f x s) (λ _ m. each f xs m) u t ends in
@@ -94,7 +94,7 @@ turn_step item s u t h fair listening whole ends left = by (turn_told item s u t
     spared (inl z) = lacking z.1 z.3 ((all_found (λ i. i.directory ≡ false → IsToUpload i → (is_all_here i ≡ true) ⊎ (is_hydrating i.id s ≡ true)) (λ i. i.id.0 == item.0) (items_now s) k.0 k.1 whole).0 z.0 z.2)
     spared (inr z) = inr (z.0, λ i e. subst (IsAside s) (some k.0 i (sym k.1 ∙ e)) z.1)
 
-tombstone_step : (x : Tombstone) (s : State) (u : Unit {0}) (t : State) → Invariant s → IsFair s.link → IsListening s → Unit {0} → EndsFairly (push_tombstone x s) u t → no_number t ≡ false → IsTold s t ⊎ ((t ≡ s) × (is_tombstone_left_out s x ≡ true))
+pub tombstone_step : (x : Tombstone) (s : State) (u : Unit {0}) (t : State) → Invariant s → IsFair s.link → IsListening s → Unit {0} → EndsFairly (push_tombstone x s) u t → no_number t ≡ false → IsTold s t ⊎ ((t ≡ s) × (is_tombstone_left_out s x ≡ true))
 tombstone_step x s u t h fair listening has ends left = tombstone_told x s u t h fair listening ends left
 
 -- what holds of a sorted list holds of the list
@@ -110,7 +110,7 @@ pub sorted_apart : {A : Type 0} (P : A → Type 0) (before : A → A → Bool) (
 sorted_apart P before [] h = h
 sorted_apart P before (x ∷ xs) h = let k = put_apart P before x (sorted before xs) h in (k.0, sorted_apart P before xs k.1)
 
-of_ids : (P : ItemId → Type 0) (xs : List Item) → All P (map (λ i. i.id) xs) → All (λ i. P i.id) xs
+pub of_ids : (P : ItemId → Type 0) (xs : List Item) → All P (map (λ i. i.id) xs) → All (λ i. P i.id) xs
 of_ids P [] h = tt
 of_ids P (x ∷ xs) h = (h.0, of_ids P xs h.1)
 

@@ -22,7 +22,7 @@ use Rattle.cf_model_laws.proofs.PushesGuarded.{push_all_keeps}
 use Rattle.cf_model_convergence.specs.Agreeing.{IsAgreed, IsPassedHere, IsKeptUp}
 use Rattle.cf_model_convergence.specs.Resting.{IsKnown}
 use Rattle.cf_model_convergence.specs.Settles.{IsFed, IsSettledTo}
-use Rattle.cf_model_convergence.specs.Telling.{EndsFairly, IsListening, IsTold, is_loud}
+use Rattle.cf_model_convergence.specs.Telling.{AreWhole, EndsFairly, IsListening, IsTold, is_loud}
 use Rattle.cf_model_convergence.specs.Tidy.{IsTidy, IsTidyItem}
 use Rattle.cf_model_convergence.proofs.AddingGuarded.{In}
 use Rattle.cf_model_convergence.proofs.FeedAsked.{feed_told}
@@ -44,7 +44,7 @@ use Rattle.cf_model_laws.proofs.RightItems.{no_way}
 
 -- uploads are settled
 
-agreed_settled : (s m : State) → IsSettledTo [] s m → IsAgreed s → IsAgreed m
+pub agreed_settled : (s m : State) → IsSettledTo [] s m → IsAgreed s → IsAgreed m
 agreed_settled s m k h =
     subst (λ (r : Held). IsAgreed (record m { link = record m.link { remote = r } })) (sym k.remote) (subst (λ (f : Filter). IsAgreed (record m { filter = f; link = record m.link { remote = remote } })) (sym k.filter) first) where
       remote : Held
@@ -58,7 +58,6 @@ agreed_settled s m k h =
         tree = h.tree;
         idle = h.idle;
         passed = λ i r below target early. let x : IsKnown (book_now s) i r = h.passed i r below target early in record { live = x.live; version = x.version; seen = x.seen };
-        whole = h.whole;
       }
 
 -- the pass
@@ -116,27 +115,30 @@ pass_ends Q s u t last h fair listening agreed ends left = settled (settles_told
       let none : (book_now x.1).entries ≡ [] = ap (λ (g : Filter). g.volume.book.entries) k.filter in
       asks f l k none (feed_told x.1 y.0 y.1 hm f l a.tidy none a.early y.2 left_n)
 
-pub pass_settles : (s : State) (u : Unit {0}) (t : State) → Invariant s → IsFair s.link → IsListening s → IsAgreed s → EndsFairly (pass s) u t → no_number t ≡ false → IsTold s t ⊎ (is_settled false t ≡ true)
-pass_settles s u t h fair listening agreed ends left =
+whole_settled : (s m : State) → IsSettledTo [] s m → AreWhole s → AreWhole m
+whole_settled s m k h = subst (λ (f : Filter). AreWhole (record m { filter = f })) (sym k.filter) h
+
+pub pass_settles : (s : State) (u : Unit {0}) (t : State) → Invariant s → IsFair s.link → IsListening s → IsAgreed s → AreWhole s → EndsFairly (pass s) u t → no_number t ≡ false → IsTold s t ⊎ (is_settled false t ≡ true)
+pass_settles s u t h fair listening agreed whole ends left =
     pass_ends (λ x. is_settled false x ≡ true) s u t
-    (λ m n hm hn f g l none k fed z. let a : IsAgreed m = agreed_settled s m k agreed in ready_settled n u t hn g l (fed_whole m hm f none a n fed) (fed_ready m hm f none a n fed) z left)
+    (λ m n hm hn f g l none k fed z. let a : IsAgreed m = agreed_settled s m k agreed in ready_settled n u t hn g l (fed_whole m hm f none a n fed (whole_settled s m k whole)) (fed_ready m hm f none a n fed) z left)
     h fair listening agreed ends left
 
-here_settled : (s m : State) → IsSettledTo [] s m → IsPassedHere s → IsPassedHere m
+pub here_settled : (s m : State) → IsSettledTo [] s m → IsPassedHere s → IsPassedHere m
 here_settled s m k h =
     subst (λ (r : Held). IsPassedHere (record m { link = record m.link { remote = r } })) (sym k.remote)
     (subst (λ (f : Filter). IsPassedHere (record m { filter = f; link = record m.link { remote = record s.link.remote { tokens = m.link.remote.tokens } } })) (sym k.filter) (record { top = h.top; populated = h.populated; here = h.here }))
 
-pub pass_settles_all : (s : State) (u : Unit {0}) (t : State) → Invariant s → IsFair s.link → IsListening s → IsAgreed s → IsPassedHere s → EndsFairly (pass s) u t → no_number t ≡ false → IsTold s t ⊎ (is_settled true t ≡ true)
-pass_settles_all s u t h fair listening agreed all ends left =
+pub pass_settles_all : (s : State) (u : Unit {0}) (t : State) → Invariant s → IsFair s.link → IsListening s → IsAgreed s → AreWhole s → IsPassedHere s → EndsFairly (pass s) u t → no_number t ≡ false → IsTold s t ⊎ (is_settled true t ≡ true)
+pass_settles_all s u t h fair listening agreed whole all ends left =
     pass_ends (λ x. is_settled true x ≡ true) s u t
     (λ m n hm hn f g l none k fed z. let a : IsAgreed m = agreed_settled s m k agreed in
-    ready_whole n u t hn g l (fed_whole m hm f none a n fed) (fed_ready m hm f none a n fed) (all_targets m hm f a (here_settled s m k all) n fed) z left)
+    ready_whole n u t hn g l (fed_whole m hm f none a n fed (whole_settled s m k whole)) (fed_ready m hm f none a n fed) (all_targets m hm f a (here_settled s m k all) n fed) z left)
     h fair listening agreed ends left
 
 -- in a run
 
-kept_agreed : (remote : Held) (clusters : ℕ) (trace : List (Event × Answer)) (s : State) → Runs mode.Replay (start mode.Replay remote clusters) trace s → IsFresh remote → IsTidy remote → IsFair s.link → NoneLists s → IsKeptUp s → IsAgreed s
+pub kept_agreed : (remote : Held) (clusters : ℕ) (trace : List (Event × Answer)) (s : State) → Runs mode.Replay (start mode.Replay remote clusters) trace s → IsFresh remote → IsTidy remote → IsFair s.link → NoneLists s → IsKeptUp s → IsAgreed s
 kept_agreed remote clusters trace s runs fresh tidy fair none k = record {
   tidy = run_tidy mode.Replay remote clusters trace s runs tidy;
   early = (cursor_early remote clusters trace s runs fresh fair).0;
@@ -144,13 +146,12 @@ kept_agreed remote clusters trace s runs fresh tidy fair none k = record {
   tree = placed_tree s (run_placed remote clusters trace s runs fresh) fair;
   idle = placed_idle s (run_placed remote clusters trace s runs fresh) fair none;
   passed = k.passed;
-  whole = k.whole;
 }
 
-pub run_settles : (remote : Held) (clusters : ℕ) (trace : List (Event × Answer)) (s : State) (u : Unit {0}) (t : State) → Runs mode.Replay (start mode.Replay remote clusters) trace s → IsFresh remote → IsTidy remote → IsFair s.link → IsListening s → NoneLists s → IsKeptUp s
+pub run_settles : (remote : Held) (clusters : ℕ) (trace : List (Event × Answer)) (s : State) (u : Unit {0}) (t : State) → Runs mode.Replay (start mode.Replay remote clusters) trace s → IsFresh remote → IsTidy remote → IsFair s.link → IsListening s → NoneLists s → IsKeptUp s → AreWhole s
     → EndsFairly (pass s) u t → no_number t ≡ false → IsTold s t ⊎ (is_settled false t ≡ true)
-run_settles remote clusters trace s u t runs fresh tidy fair listening none k ends left =
-    pass_settles s u t (run_sound remote clusters trace s runs fresh) fair listening (kept_agreed remote clusters trace s runs fresh tidy fair none k) ends left
+run_settles remote clusters trace s u t runs fresh tidy fair listening none k whole ends left =
+    pass_settles s u t (run_sound remote clusters trace s runs fresh) fair listening (kept_agreed remote clusters trace s runs fresh tidy fair none k) whole ends left
 
 -- by its lines
 
@@ -164,14 +165,14 @@ cancelled (x ∷ xs) ys zs e = cancelled xs ys zs (tail (xs ++ ys) (xs ++ zs) e)
 untold : (s t : State) (lines : List Notice) → t.filter.notes ≡ s.filter.notes ++ lines → list_any is_loud lines ≡ false → IsTold s t → ⊥
 untold s t lines e quiet told = no_way (sym quiet ∙ subst (λ (ns : List Notice). list_any is_loud ns ≡ true) (cancelled s.filter.notes told.lines lines (sym told.noted ∙ e)) told.loud)
 
-pub quiet_settles : (s : State) (u : Unit {0}) (t : State) (lines : List Notice) → Invariant s → IsFair s.link → IsListening s → IsAgreed s → EndsFairly (pass s) u t → no_number t ≡ false → t.filter.notes ≡ s.filter.notes ++ lines → list_any is_loud lines ≡ false → is_settled false t ≡ true
-quiet_settles s u t lines h fair listening agreed ends left e quiet = by (pass_settles s u t h fair listening agreed ends left) where
+pub quiet_settles : (s : State) (u : Unit {0}) (t : State) (lines : List Notice) → Invariant s → IsFair s.link → IsListening s → IsAgreed s → AreWhole s → EndsFairly (pass s) u t → no_number t ≡ false → t.filter.notes ≡ s.filter.notes ++ lines → list_any is_loud lines ≡ false → is_settled false t ≡ true
+quiet_settles s u t lines h fair listening agreed whole ends left e quiet = by (pass_settles s u t h fair listening agreed whole ends left) where
   by : IsTold s t ⊎ (is_settled false t ≡ true) → is_settled false t ≡ true
   by (inl k) = absurd (untold s t lines e quiet k)
   by (inr k) = k
 
-pub quiet_settles_all : (s : State) (u : Unit {0}) (t : State) (lines : List Notice) → Invariant s → IsFair s.link → IsListening s → IsAgreed s → IsPassedHere s → EndsFairly (pass s) u t → no_number t ≡ false → t.filter.notes ≡ s.filter.notes ++ lines → list_any is_loud lines ≡ false → is_settled true t ≡ true
-quiet_settles_all s u t lines h fair listening agreed all ends left e quiet = by (pass_settles_all s u t h fair listening agreed all ends left) where
+pub quiet_settles_all : (s : State) (u : Unit {0}) (t : State) (lines : List Notice) → Invariant s → IsFair s.link → IsListening s → IsAgreed s → AreWhole s → IsPassedHere s → EndsFairly (pass s) u t → no_number t ≡ false → t.filter.notes ≡ s.filter.notes ++ lines → list_any is_loud lines ≡ false → is_settled true t ≡ true
+quiet_settles_all s u t lines h fair listening agreed whole all ends left e quiet = by (pass_settles_all s u t h fair listening agreed whole all ends left) where
   by : IsTold s t ⊎ (is_settled true t ≡ true) → is_settled true t ≡ true
   by (inl k) = absurd (untold s t lines e quiet k)
   by (inr k) = k

@@ -214,7 +214,7 @@ module _ (s : State) (h : Invariant s) (fair : IsFair s.link) (ready : IsReady s
   targeted : (i : Item) → IsBelow s i → IsTargetedWell s.link.remote i
   targeted i below = aimed_right s.link.remote i (all_found (IsRight s.link.remote (next_number s.filter.volume)) (λ j. j.id.0 == i.id.0) (items_now s) i below.0 (h.1 fair).now.right).0.aimed below.1
 
-  at_rest : IsAtRest s
+  pub at_rest : IsAtRest s
   at_rest = record {
     tidy = ready.tidy;
     found = found;

@@ -37,7 +37,7 @@ use Rattle.cf_model_laws.proofs.RightItems.{both_none, no_way, no_way_back}
 use Rattle.cf_model_laws.proofs.SkipsGuarded.{Any, Led, Whichever, guarded_skipping, try_change_at, try_led}
 use Rattle.cf_model_laws.proofs.SoundFilters.{change_leads}
 use Rattle.cf_model_laws.proofs.SoundSettles.{each_found, same_item}
-use Rattle.cf_model_convergence.specs.Telling.{EndsFairly, IsListening, IsSpared, IsToUpload, IsTold, IsTurned}
+use Rattle.cf_model_convergence.specs.Telling.{EndsFairly, IsListening, IsSpared, IsToUpload, IsTold, IsTurned, IsAside}
 use Rattle.cf_model_convergence.proofs.AddingGuarded.{In, entering_adds, guarded_adds, itself}
 use Rattle.cf_model_convergence.proofs.ItemsPushed.{item_told, removal_told}
 use Rattle.cf_model_convergence.proofs.PushesTold.{kept_ends, skip_told, told_then}
@@ -77,7 +77,12 @@ try_told_led c s listening = by (why_no_change c s) where
 
 -- one item
 
-module _ (s : State) (h : Invariant s) (fair : IsFair s.link) (listening : IsListening s) (i : Item) (there : item_of (items_now s) i.id ≡ Some i) (free : has_entry s i.id ≡ false) (u : Unit {0}) (t : State) (left : no_number t ≡ false) where
+module _ (s : State) (h : Invariant s) (fair : IsFair s.link) (listening : IsListening s) (i : Item) (there : item_of (items_now s) i.id ≡ Some i) (free : has_entry s i.id ≡ false) (u : Unit {0}) (t : State) (left : no_number t ≡ false)
+    (R : Type 0) (lack : (i.directory ≡ false → i.placeholder ≡ true) → i.directory ≡ false → is_all_here i ≡ false → IsToUpload i → is_hydrating i.id s ≡ false → EndsFairly (bind (hydrate_unless i.id false s) (λ _ x. put_whole (item_of (items_now x) i.id) x)) u t → R) where
+  -- what is said where bytes lack, or the state stays
+  abbrev Spared : Type 0
+  Spared = R ⊎ ((t ≡ s) × IsAside s i)
+
   right : IsRight s.link.remote (next_number s.filter.volume) i
   right = right_of s i (h.1 fair) there
 
@@ -96,18 +101,18 @@ module _ (s : State) (h : Invariant s) (fair : IsFair s.link) (listening : IsLis
         some : (a b : Item) → ◌≡◌ {A = Option Item} (Some a) (Some b) → a ≡ b
         some a b z = cc
 
-  upload_told : (i.directory ≡ false → i.placeholder ≡ true) → IsToUpload i → EndsFairly (upload i s) u t → IsTold s t ⊎ IsSpared s i t
+  upload_told : (i.directory ≡ false → i.placeholder ≡ true) → IsToUpload i → EndsFairly (upload i s) u t → IsTold s t ⊎ Spared
   upload_told placed needed ends = by i.directory refl ends where
-    waited : (c : Bool) → is_hydrating i.id s ≡ c → is_all_here i ≡ false → i.directory ≡ false → EndsFairly (bind (hydrate_unless i.id c s) (λ _ x. put_whole (item_of (items_now x) i.id) x)) u t → IsTold s t ⊎ IsSpared s i t
+    waited : (c : Bool) → is_hydrating i.id s ≡ c → is_all_here i ≡ false → i.directory ≡ false → EndsFairly (bind (hydrate_unless i.id c s) (λ _ x. put_whole (item_of (items_now x) i.id) x)) u t → IsTold s t ⊎ Spared
     waited true w here file e =
         inr (inr ((subst (λ (b : Bool). EndsFairly (put_if i b s) u t) here (subst (λ (o : Option Item). EndsFairly (put_whole o s) u t) there e)).1, inr (inr w)))
-    waited false w here file e = inr (inl (file, here, needed, w))
+    waited false w here file e = inr (inl (lack placed file here needed w e))
 
-    hydrated : (b : Bool) → is_all_here i ≡ b → i.directory ≡ false → EndsFairly (bind (hydrate_if i.id b s) (λ _ x. put_whole (item_of (items_now x) i.id) x)) u t → IsTold s t ⊎ IsSpared s i t
+    hydrated : (b : Bool) → is_all_here i ≡ b → i.directory ≡ false → EndsFairly (bind (hydrate_if i.id b s) (λ _ x. put_whole (item_of (items_now x) i.id) x)) u t → IsTold s t ⊎ Spared
     hydrated true here file e = inl (whole_told (item_of (items_now s) i.id) there file (placed file) here e)
     hydrated false here file e = waited (is_hydrating i.id s) refl here file e
 
-    by : (b : Bool) → i.directory ≡ b → EndsFairly (choose b (push_item MakeDir i) (put_file i) s) u t → IsTold s t ⊎ IsSpared s i t
+    by : (b : Bool) → i.directory ≡ b → EndsFairly (choose b (push_item MakeDir i) (put_file i) s) u t → IsTold s t ⊎ Spared
     by true dir e = inl (item_told MakeDir i s u t h fair listening (there, free, dir) e left)
     by false file e = hydrated (is_all_here i) refl file e
 
@@ -143,9 +148,9 @@ module _ (s : State) (h : Invariant s) (fair : IsFair s.link) (listening : IsLis
           turned true q z = refl
           turned false q z = no_way (sym q ∙ z)
 
-  new_told : (target_of i).0 ≡ 0 → is_untargeted i ≡ true → EndsFairly (upload_new i s) u t → IsTold s t ⊎ IsSpared s i t
+  new_told : (target_of i).0 ≡ 0 → is_untargeted i ≡ true → EndsFairly (upload_new i s) u t → IsTold s t ⊎ Spared
   new_told none new ends = by i.placeholder refl ends where
-    found : (o : Option Item) → o ≡ Some i → i.placeholder ≡ true → EndsFairly (upload_now o s) u t → IsTold s t ⊎ IsSpared s i t
+    found : (o : Option Item) → o ≡ Some i → i.placeholder ≡ true → EndsFairly (upload_now o s) u t → IsTold s t ⊎ Spared
     found None e placed z = let y : ◌≡◌ {A = Option Item} None (Some i) = e in absurd (never i y) where
       never : (j : Item) → ◌≡◌ {A = Option Item} None (Some j) → ⊥
       never j z = cc
@@ -153,12 +158,12 @@ module _ (s : State) (h : Invariant s) (fair : IsFair s.link) (listening : IsLis
       some : (a b : Item) → ◌≡◌ {A = Option Item} (Some a) (Some b) → a ≡ b
       some a b z = cc
 
-    by : (b : Bool) → i.placeholder ≡ b → EndsFairly (bind (only_if (not b) (try_change convert) s) (upload_if i.id)) u t → IsTold s t ⊎ IsSpared s i t
+    by : (b : Bool) → i.placeholder ≡ b → EndsFairly (bind (only_if (not b) (try_change convert) s) (upload_if i.id)) u t → IsTold s t ⊎ Spared
     by true placed e = found (item_of (items_now s) i.id) there placed e
     by false bare e = let k = ends_bind (try_change convert s) (upload_if i.id) u t e in inl (after_told bare none k.0 k.1 k.2 k.3)
 
   -- nothing but a mark is left to do
-  mark_told : is_untargeted i ≡ false → stands_at_seen (items_now s) (book_now s) i ≡ true → is_dirty i ≡ false → EndsFairly (mark_item i.id s) u t → IsTold s t ⊎ IsSpared s i t
+  mark_told : is_untargeted i ≡ false → stands_at_seen (items_now s) (book_now s) i ≡ true → is_dirty i ≡ false → EndsFairly (mark_item i.id s) u t → IsTold s t ⊎ Spared
   mark_told aimed stands clean ends = by (says (may_mark (items_now s) (book_now s) number) (item_of (items_now s) i.id)) refl ends where
     number : Usn
     number = part (λ j. j.number) no_usn (item_of (items_now s) i.id)
@@ -185,28 +190,28 @@ module _ (s : State) (h : Invariant s) (fair : IsFair s.link) (listening : IsLis
         last (same_usn i.number number) i.in_sync (is_dirty i) (is_untargeted i) (stands_at_seen (items_now s) (book_now s) i) (subst (λ (n : Usn). same_usn i.number n ≡ true) (sym own) (same i.number)) clean aimed stands
         (sym (ap (λ (o : Option Item). says (may_mark (items_now s) (book_now s) number) o) there) ∙ e)
 
-    by : (b : Bool) → says (may_mark (items_now s) (book_now s) number) (item_of (items_now s) i.id) ≡ b → EndsFairly (bind (mark_if i.id number b s) whatever) u t → IsTold s t ⊎ IsSpared s i t
+    by : (b : Bool) → says (may_mark (items_now s) (book_now s) number) (item_of (items_now s) i.id) ≡ b → EndsFairly (bind (mark_if i.id number b s) whatever) u t → IsTold s t ⊎ Spared
     by true may e =
         let k = ends_bind (try_change (change.Mark i.id number) s) whatever u t e in
         inl (subst (IsTold s) (sym k.3.1) (leads_ends Any (λ done x. IsTold s x) (try_change (change.Mark i.id number) s) k.0 k.1 (try_told_led (change.Mark i.id number) s listening) k.2))
     by false may e = inr (inr (e.1, inr (inl (record { target = aimed; stands = stands; clean = clean; in_sync = rested may }))))
 
-  case_told : EndsFairly (push_by_case i s) u t → IsTold s t ⊎ IsSpared s i t
+  pub case_told : EndsFairly (push_by_case i s) u t → IsTold s t ⊎ Spared
   case_told ends = by (is_untargeted i) refl ends where
-    three : (b : Bool) → is_dirty i ≡ b → is_untargeted i ≡ false → stands_at_seen (items_now s) (book_now s) i ≡ true → EndsFairly (choose b (upload i) (mark_item i.id) s) u t → IsTold s t ⊎ IsSpared s i t
+    three : (b : Bool) → is_dirty i ≡ b → is_untargeted i ≡ false → stands_at_seen (items_now s) (book_now s) i ≡ true → EndsFairly (choose b (upload i) (mark_item i.id) s) u t → IsTold s t ⊎ Spared
     three true dirty aimed stands e = upload_told (λ file. targeted s.link.remote (next_number s.filter.volume) i right aimed file) (inr dirty) e
     three false clean aimed stands e = mark_told aimed stands clean e
 
-    two : (b : Bool) → stands_at_seen (items_now s) (book_now s) i ≡ b → is_untargeted i ≡ false → EndsFairly (choose (not b) (push_item MoveItem i) (choose (is_dirty i) (upload i) (mark_item i.id)) s) u t → IsTold s t ⊎ IsSpared s i t
+    two : (b : Bool) → stands_at_seen (items_now s) (book_now s) i ≡ b → is_untargeted i ≡ false → EndsFairly (choose (not b) (push_item MoveItem i) (choose (is_dirty i) (upload i) (mark_item i.id)) s) u t → IsTold s t ⊎ Spared
     two false away aimed e = inl (item_told MoveItem i s u t h fair listening (there, free, away) e left)
     two true stands aimed e = three (is_dirty i) refl aimed stands e
 
-    by : (b : Bool) → is_untargeted i ≡ b → EndsFairly (choose b (upload_new i) (choose (not (stands_at_seen (items_now s) (book_now s) i)) (push_item MoveItem i) (choose (is_dirty i) (upload i) (mark_item i.id))) s) u t → IsTold s t ⊎ IsSpared s i t
+    by : (b : Bool) → is_untargeted i ≡ b → EndsFairly (choose b (upload_new i) (choose (not (stands_at_seen (items_now s) (book_now s) i)) (push_item MoveItem i) (choose (is_dirty i) (upload i) (mark_item i.id))) s) u t → IsTold s t ⊎ Spared
     by true bare e = new_told (eqb-true (target_of i).0 0 bare) bare e
     by false aimed e = two (stands_at_seen (items_now s) (book_now s) i) refl aimed e
 
 -- no upload of an item that is not left out is on its way
-no_entry : (s : State) (i : Item) → is_left_out s i ≡ false → has_entry s i.id ≡ false
+pub no_entry : (s : State) (i : Item) → is_left_out s i ≡ false → has_entry s i.id ≡ false
 no_entry s i e = second (i.id.0 == 1) (has_entry s i.id) (first ((i.id.0 == 1) || has_entry s i.id) (has_item s.volatile.held_items i.id)
     (first ((i.id.0 == 1) || has_entry s i.id || has_item s.volatile.held_items i.id) (is_excluded (items_now s) i.id) (first ((i.id.0 == 1) || has_entry s i.id || has_item s.volatile.held_items i.id || is_excluded (items_now s) i.id) ((parent_target (items_now s) i).0 == 0) e))) where
       first : (a b : Bool) → (a || b) ≡ false → a ≡ false
@@ -231,7 +236,7 @@ turn_told item s u t h fair listening ends left = by (item_of (items_now s) item
 
   two : (i : Item) → item_of (items_now s) item ≡ Some i → (b : Bool) → is_left_out s i ≡ b → EndsFairly (push_unless i b s) u t → IsTold s t ⊎ IsSpared s i t
   two i e true q z = inr (inr (z.1, inl q))
-  two i e false q z = case_told s h fair listening i (subst (λ (x : ItemId). item_of (items_now s) x ≡ Some i) (sym (same_item i.id item (found_id item (items_now s) i e))) e) (no_entry s i q) u t left z
+  two i e false q z = case_told s h fair listening i (subst (λ (x : ItemId). item_of (items_now s) x ≡ Some i) (sym (same_item i.id item (found_id item (items_now s) i e))) e) (no_entry s i q) u t left ((i.directory ≡ false) × (is_all_here i ≡ false) × IsToUpload i × (is_hydrating i.id s ≡ false)) (λ placed file here needed idle e. (file, here, needed, idle)) z
 
   by : (o : Option Item) → item_of (items_now s) item ≡ o → EndsFairly (push_here o s) u t → IsTold s t ⊎ IsTurned s item t
   by None e z = inr (inl (e, z.1))

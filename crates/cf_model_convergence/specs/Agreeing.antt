@@ -11,11 +11,10 @@ use Rattle.cf_model_laws.specs.Invariant.{All}
 use Rattle.cf_model_convergence.specs.Feeds.{Among}
 use Rattle.cf_model_convergence.specs.Matching.{IsBelow}
 use Rattle.cf_model_convergence.specs.Resting.{AreTargetsApart, IsKnown, IsTargetOf}
-use Rattle.cf_model_convergence.specs.Telling.{AreWhole}
 use Rattle.cf_model_convergence.specs.Tidy.{IsLower, IsTidy}
 
 -- Items are trees, no parent is in use, and no two items have one target. The cursor is no later than the remote, and of a target that
--- it has passed what is known is right. No file that is to be uploaded lacks a byte, but where it is waited for to be hydrated.
+-- it has passed what is known is right.
 pub record IsAgreed (s : State) : Type 0 where
   pub tidy : IsTidy s.link.remote
   pub early : (book_now s).cursor ≤ s.link.remote.clock
@@ -23,7 +22,6 @@ pub record IsAgreed (s : State) : Type 0 where
   pub tree : (i : Item) → IsBelow s i → (p : Item) × (item_of (items_now s) i.parent ≡ Some p) × (item_line (items_now s) i.id ≡ i.id.0 ∷ item_line (items_now s) p.id)
   pub idle : (i p : Item) → IsBelow s i → item_of (items_now s) i.parent ≡ Some p → in_use s p.id ≡ false
   pub passed : (i : Item) (r : Stored) → IsBelow s i → IsTargetOf s i r → r.changed ≤ (book_now s).cursor → IsKnown (book_now s) i r
-  pub whole : AreWhole s
 
 -- The root is here, each directory is populated, and each live item of the remote that the cursor has passed is an item here.
 pub record IsPassedHere (s : State) : Type 0 where
@@ -34,4 +32,3 @@ pub record IsPassedHere (s : State) : Type 0 where
 -- what IsAgreed has besides what each state of a run has in which no list call waits
 pub record IsKeptUp (s : State) : Type 0 where
   pub passed : (i : Item) (r : Stored) → IsBelow s i → IsTargetOf s i r → r.changed ≤ (book_now s).cursor → IsKnown (book_now s) i r
-  pub whole : AreWhole s

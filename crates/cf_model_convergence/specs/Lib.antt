@@ -2,6 +2,7 @@ pub mod Adding
 pub mod Agreeing
 pub mod Counting
 pub mod Feeds
+pub mod Hearing
 pub mod Lapses
 pub mod Lasting
 pub mod Matching

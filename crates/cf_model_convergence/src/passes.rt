@@ -1,6 +1,6 @@
 //! Passes, and what they report.
 
-ghost use Rattle.std.specs.Prelude.{◌≡◌, ◌⊎◌, ◌≤◌, ◌+◌, ◌*◌, ◌++◌, ℕ, List, [], false, true};
+ghost use Rattle.std.specs.Prelude.{◌≡◌, ◌⊎◌, ◌≤◌, ◌+◌, ◌*◌, ◌++◌, ℕ, List, Some, [], false, true};
 ghost use Rattle.std.specs.List.{list_any};
 ghost use Rattle.cf_base.specs.declared.answers.Answer.{Answer};
 ghost use Rattle.cf_base.specs.declared.events.Event.{Event};
@@ -8,13 +8,13 @@ ghost use Rattle.cf_base.specs.declared.ids.ItemId.{ItemId};
 ghost use Rattle.cf_base.specs.declared.notices.Notice.{Notice};
 ghost use Rattle.cf_base.specs.declared.policies.Mode.TheVariants as mode;
 ghost use Rattle.cf_model.specs.Books.{Action, Tombstone};
-ghost use Rattle.cf_model.specs.Items.{Item};
+ghost use Rattle.cf_model.specs.Items.{Item, is_all_here, item_of};
 ghost use Rattle.cf_model.specs.Lawful.{Runs};
 ghost use Rattle.cf_model.specs.Messages.{no_number};
 ghost use Rattle.cf_model.specs.Passes.{ask_feed, pass, settle_all, sync_passes, things};
-ghost use Rattle.cf_model.specs.Pushes.{is_tombstone_left_out, push_all, push_item, push_removal, push_tombstone, push_turn};
+ghost use Rattle.cf_model.specs.Pushes.{hydrate_unless, is_hydrating, is_tombstone_left_out, push_all, push_item, push_removal, push_tombstone, push_turn};
 ghost use Rattle.cf_model.specs.Settled.{is_settled};
-ghost use Rattle.cf_model.specs.State.{State, book_now, start};
+ghost use Rattle.cf_model.specs.State.{State, book_now, items_now, start};
 ghost use Rattle.cf_model.specs.Store.{Held};
 ghost use Rattle.cf_model.specs.Trees.{Keeps};
 ghost use Rattle.cf_model_laws.specs.Invariant.{Invariant};
@@ -22,6 +22,7 @@ ghost use Rattle.cf_model_laws.specs.Premises.{IsFair, IsFresh};
 ghost use Rattle.cf_model_convergence.specs.Adding.{AddsTo};
 ghost use Rattle.cf_model_convergence.specs.Agreeing.{IsAgreed, IsPassedHere, IsKeptUp};
 ghost use Rattle.cf_model_convergence.specs.Counting.{ArePasses};
+ghost use Rattle.cf_model_convergence.specs.Hearing.{AreDirs, IsCalm, IsHeard, IsOpenTo};
 ghost use Rattle.cf_model_convergence.specs.Ready.{IsReady};
 ghost use Rattle.cf_model_convergence.specs.Settles.{IsFed, IsSettledTo};
 ghost use Rattle.cf_model_convergence.specs.Tidy.{IsTidy};
@@ -91,23 +92,47 @@ pub fn untold_uploads_leave_a_settled_state()
 /// remote that the cursor has passed is here, and each directory is populated.
 #[tactic(auto, using(crate::proofs::QuietPasses::pass_settles, crate::proofs::QuietPasses::pass_settles_all))]
 pub fn an_untold_pass_leaves_a_settled_state()
-    ensures local { (s : State) (u : Unit {0}) (t : State) → Invariant s → IsFair s.link → IsListening s → IsAgreed s → EndsFairly (pass s) u t → no_number t ≡ false → IsTold s t ⊎ (is_settled false t ≡ true) }
-    ensures whole { (s : State) (u : Unit {0}) (t : State) → Invariant s → IsFair s.link → IsListening s → IsAgreed s → IsPassedHere s → EndsFairly (pass s) u t → no_number t ≡ false → IsTold s t ⊎ (is_settled true t ≡ true) }
+    ensures local { (s : State) (u : Unit {0}) (t : State) → Invariant s → IsFair s.link → IsListening s → IsAgreed s → AreWhole s → EndsFairly (pass s) u t → no_number t ≡ false → IsTold s t ⊎ (is_settled false t ≡ true) }
+    ensures whole { (s : State) (u : Unit {0}) (t : State) → Invariant s → IsFair s.link → IsListening s → IsAgreed s → AreWhole s → IsPassedHere s → EndsFairly (pass s) u t → no_number t ≡ false → IsTold s t ⊎ (is_settled true t ≡ true) }
 {}
 
 /// So it is of a pass by its lines: where none of them is of a change, of an upload that was done or refused, of a step that was
 /// left out, or of trouble, the state is settled afterwards.
 #[tactic(auto, using(crate::proofs::QuietPasses::quiet_settles, crate::proofs::QuietPasses::quiet_settles_all))]
 pub fn a_quiet_pass_leaves_a_settled_state()
-    ensures local { (s : State) (u : Unit {0}) (t : State) (lines : List Notice) → Invariant s → IsFair s.link → IsListening s → IsAgreed s → EndsFairly (pass s) u t → no_number t ≡ false → t.filter.notes ≡ s.filter.notes ++ lines → list_any is_loud lines ≡ false → is_settled false t ≡ true }
-    ensures whole { (s : State) (u : Unit {0}) (t : State) (lines : List Notice) → Invariant s → IsFair s.link → IsListening s → IsAgreed s → IsPassedHere s → EndsFairly (pass s) u t → no_number t ≡ false → t.filter.notes ≡ s.filter.notes ++ lines → list_any is_loud lines ≡ false → is_settled true t ≡ true }
+    ensures local { (s : State) (u : Unit {0}) (t : State) (lines : List Notice) → Invariant s → IsFair s.link → IsListening s → IsAgreed s → AreWhole s → EndsFairly (pass s) u t → no_number t ≡ false → t.filter.notes ≡ s.filter.notes ++ lines → list_any is_loud lines ≡ false → is_settled false t ≡ true }
+    ensures whole { (s : State) (u : Unit {0}) (t : State) (lines : List Notice) → Invariant s → IsFair s.link → IsListening s → IsAgreed s → AreWhole s → IsPassedHere s → EndsFairly (pass s) u t → no_number t ≡ false → t.filter.notes ≡ s.filter.notes ++ lines → list_any is_loud lines ≡ false → is_settled true t ≡ true }
 {}
 
 /// In a run over a remote that was handed in tidy, where no list call waits, the rest of that agreement is enough: what the cursor
-/// has passed is known, and no file that is to be uploaded lacks a byte that is not waited for.
+/// has passed is known. There, too, no file that is to be uploaded may lack a byte that is not waited for.
 #[tactic(auto, using(crate::proofs::QuietPasses::run_settles))]
 pub fn an_untold_pass_of_a_run_leaves_a_settled_state()
-    ensures { (remote : Held) (clusters : ℕ) (trace : List (Event × Answer)) (s : State) (u : Unit {0}) (t : State) → Runs mode.Replay (start mode.Replay remote clusters) trace s → IsFresh remote → IsTidy remote → IsFair s.link → IsListening s → NoneLists s → IsKeptUp s → EndsFairly (pass s) u t → no_number t ≡ false → IsTold s t ⊎ (is_settled false t ≡ true) }
+    ensures { (remote : Held) (clusters : ℕ) (trace : List (Event × Answer)) (s : State) (u : Unit {0}) (t : State) → Runs mode.Replay (start mode.Replay remote clusters) trace s → IsFresh remote → IsTidy remote → IsFair s.link → IsListening s → NoneLists s → IsKeptUp s → AreWhole s → EndsFairly (pass s) u t → no_number t ≡ false → IsTold s t ⊎ (is_settled false t ≡ true) }
+{}
+
+/// A file that lacks bytes is hydrated before it is uploaded. Over a link that answers at once, with a provider connected, where no
+/// list call and no dehydration waits: a line reports a change, a step that was left out, trouble, or a reply that there are no
+/// such bytes; or the file is waited for then, and of all else only what is asked and waited for, the callbacks, the notes, the
+/// accesses and the numbers of messages are others.
+#[tactic(auto, using(crate::proofs::HydratesCalm::hydrate_calm))]
+pub fn a_hydration_is_heard_or_waited_for()
+    ensures { (i : Item) (s : State) → Invariant s → IsFair s.link → IsListening s → IsOpenTo s → item_of (items_now s) i.id ≡ Some i → i.directory ≡ false → is_all_here i ≡ false → (u : Unit {0}) (t : State) → EndsFairly (hydrate_unless i.id false s) u t → IsHeard s t ⊎ (IsCalm s t × (is_hydrating i.id t ≡ true) × IsOpenTo t) }
+{}
+
+/// So whatever the files lack, a pass there is heard of by such a line, or the state is settled afterwards: it is settled as a whole
+/// where each live item of the remote that the cursor has passed is here, and each directory is populated.
+#[tactic(auto, using(crate::proofs::PassesCalm::pass_calm, crate::proofs::PassesCalm::pass_calm_all))]
+pub fn an_unheard_pass_leaves_a_settled_state()
+    ensures local { (s : State) (u : Unit {0}) (t : State) → Invariant s → IsFair s.link → IsListening s → IsOpenTo s → AreDirs s → IsAgreed s → EndsFairly (pass s) u t → no_number t ≡ false → IsHeard s t ⊎ (is_settled false t ≡ true) }
+    ensures whole { (s : State) (u : Unit {0}) (t : State) → Invariant s → IsFair s.link → IsListening s → IsOpenTo s → AreDirs s → IsAgreed s → IsPassedHere s → EndsFairly (pass s) u t → no_number t ≡ false → IsHeard s t ⊎ (is_settled true t ≡ true) }
+{}
+
+/// In a run over a remote that was handed in tidy, it is enough of that agreement that what the cursor has passed is known. That
+/// premise is left, and that no list call and no dehydration waits.
+#[tactic(auto, using(crate::proofs::PassesCalm::run_calm))]
+pub fn an_unheard_pass_of_a_run_leaves_a_settled_state()
+    ensures { (remote : Held) (clusters : ℕ) (trace : List (Event × Answer)) (s : State) (u : Unit {0}) (t : State) → Runs mode.Replay (start mode.Replay remote clusters) trace s → IsFresh remote → IsTidy remote → IsFair s.link → IsListening s → IsOpenTo s → IsKeptUp s → EndsFairly (pass s) u t → no_number t ≡ false → IsHeard s t ⊎ (is_settled false t ≡ true) }
 {}
 
 /// The passes of a `sync` end with a whole pass, and up to it nothing is taken from the notes or the log.
@@ -123,9 +148,10 @@ pub fn a_sync_makes_few_passes()
     ensures { (s : State) (u : Unit {0}) (t : State) → s.link.inline ≡ true → EndsFairly (sync_passes s) u t → (n : ℕ) × ArePasses n s t × (n ≤ 16 * (things s + 100000 + 4)) }
 {}
 
-/// A new volume agrees so with a tidy remote, of which all is ahead of its cursor.
-#[tactic(auto, using(crate::proofs::FirstStates::first_agrees, crate::proofs::FirstStates::first_here))]
+/// A new volume agrees so with a tidy remote, of which all is ahead of its cursor. It has no file.
+#[tactic(auto, using(crate::proofs::FirstStates::first_agrees, crate::proofs::FirstStates::first_here, crate::proofs::FirstStates::first_whole))]
 pub fn a_new_volume_agrees()
     ensures agrees { (remote : Held) (clusters : ℕ) → IsTidy remote → IsAgreed (start mode.Replay remote clusters) }
     ensures here { (remote : Held) (clusters : ℕ) → IsTidy remote → IsPassedHere (start mode.Replay remote clusters) }
+    ensures whole { (remote : Held) (clusters : ℕ) → AreWhole (start mode.Replay remote clusters) }
 {}
