@@ -16,12 +16,12 @@ use Rattle.cf_model.specs.Points.{commit}
 use Rattle.cf_model.specs.PushReplies.{take_done, take_refused, take_void}
 use Rattle.cf_model.specs.State.{State, in_filter, in_volume}
 use Rattle.cf_model.specs.Store.{remote_step}
-use Rattle.cf_model.specs.Trees.{AsItKeeps, Ends, Faults, Telling, Tells}
+use Rattle.cf_model.specs.Trees.{Stops, AsItKeeps, Ends, Faults, Telling, Tells}
 use Rattle.cf_model.specs.Messages.{act_on, act_unless, after_ask, after_post, answered, come, come_if, come_now, counted, distrusted, entry_live, failed, fault_line, if_kept, is_inline, is_stale, is_upload, next_message, no_bytes, no_number, post, post_by, post_unless, send, send_now, take_if_any, take_reply, was_kept, with_entry, with_lost, with_message, with_remote}
 use Rattle.cf_model.specs.Feeds.{apply_feed}
 use Rattle.cf_model.specs.Fetching.{take_bytes, take_gone, take_listing, take_missing}
 use Rattle.cf_check_ways.specs.Ways.{Alike, FailedIn, Grown, IsSure, Parted, SameEnd, fixed_state, is_good, of_state}
-use Rattle.cf_check_ways.proofs.Sure.{grown_more, reads_fixed, sure_choose, sure_fixed, sure_one, sure_reading, sure_ret, sure_seq, sure_then}
+use Rattle.cf_check_ways.proofs.Sure.{front_here, grown_more, reads_fixed, sure_choose, sure_fixed, sure_one, sure_reading, sure_ret, sure_seq, sure_then}
 use Rattle.cf_check_ways.proofs.VolumeSteps.{commit_sure, sure_in_filter}
 use Rattle.cf_check_ways.proofs.StateSteps.{fault_line_plain, with_lost_plain, with_message_plain}
 use Rattle.cf_check_ways.proofs.FeedsSure as feeds_sure
@@ -121,10 +121,35 @@ come_one m q s o e a b t u Faults AsItKeeps h k good well =
 come_one m q s o e a b t u AsItKeeps Faults h k good well =
     inr (inr (failed_here m (remote_step s.link.remote q).0 o s (after_reply q s) b a u t (sym (ap (λ (z : State). z.filter.notes) e)) refl k h good))
 
+-- where the device stops it nothing was noted yet
+
+quiet_stop : (m : ℕ) (r : Option Reply) (s t : State) → Stops (answered m r s) t → t ≡ s
+quiet_stop m None s t (inl e) = e
+quiet_stop m None s t (inr h) = absurd h
+quiet_stop m (Some r) s t h = by (no_number s) (no_bytes (frame.Reply m r) s) refl h
+  where
+    by : (full bytes : Bool) → no_bytes (frame.Reply m r) s ≡ bytes → Stops (seq (post_unless (frame.Reply m r) full) (if_kept r) s) t → t ≡ s
+    by true bytes how g = absurd g
+    by false true how g = let k : Stops (seq (post_by (frame.Reply m r) true) (if_kept r) s) t = subst (λ (b : Bool). Stops (seq (post_by (frame.Reply m r) b) (if_kept r) s) t) how g in elim k as (λ _. t ≡ s) [ inl e ↦ e | inr x ↦ absurd x ]
+    by false false how g = let k : Stops (seq (post_by (frame.Reply m r) false) (if_kept r) s) t = subst (λ (b : Bool). Stops (seq (post_by (frame.Reply m r) b) (if_kept r) s) t) how g in elim k as (λ _. t ≡ s) [ inl e ↦ e | inr x ↦ absurd x ]
+
+come_halts : (m : ℕ) (q : Request) (s t : State) (x : Telling) → Stops (seq (λ z. after_ask (remote_step z.link.remote q) z x) (answered m) s) t → Grown of_state s t × (t.filter.notes ≡ s.filter.notes)
+come_halts m q s t AsItKeeps h =
+    let e : t ≡ after_reply q s = quiet_stop m (Some (remote_step s.link.remote q).0) (after_reply q s) t h in
+    (subst (λ (z : State). Grown of_state s z) (sym e) (quiet s (after_reply q s) refl refl refl (λ g. g)), ap (λ (z : State). z.filter.notes) e)
+come_halts m q s t Faults h =
+    let e : t ≡ counted s = quiet_stop m None (counted s) t h in
+    (subst (λ (z : State). Grown of_state s z) (sym e) (quiet s (counted s) refl refl refl (λ g. g)), ap (λ (z : State). z.filter.notes) e)
+come_halts m q s t (Tells other) h =
+    let e : t ≡ after_other q s = quiet_stop m (Some other) (after_other q s) t h in
+    (subst (λ (z : State). Grown of_state s z) (sym e) (quiet s (after_other q s) refl refl refl (λ g. let z : false ≡ true = g in absurd cc)), ap (λ (z : State). z.filter.notes) e)
+
 pub come_sure : (m : ℕ) (q : Request) → IsSure of_state (come m q)
 come_sure m q = record {
   grows = λ s a t h. come_grows m q s a t h.0 h.1;
   one = λ s o e a b t u h k good well. come_one m q s o e a b t u h.0 k.0 h.1 k.1 good well;
+  halts = λ s t h. (come_halts m q s t h.0 h.1).0;
+  stop = λ s o e t b u h k good well. inl (front_here of_state t s o u (come_halts m q s t h.0 h.1).1 e (come_grows m q o b u k.0 k.1));
 }
 
 pub with_entry_sure : (x1 : (QueueEntry → Arrow State (Unit {0}))) → ((z0_0 : QueueEntry) → IsSure of_state (x1 z0_0)) → (x2 : Option QueueEntry) → IsSure of_state (with_entry x1 x2)

@@ -12,15 +12,15 @@ use Rattle.cf_base.specs.declared.events.Event.TheVariants as event
 use Rattle.cf_base.specs.declared.events.PeerEvent.{PeerEvent}
 use Rattle.cf_base.specs.declared.notices.Notice.{Notice}
 use Rattle.cf_base.specs.declared.policies.Mode.{Mode}
-use Rattle.cf_model.specs.Events.{answer_in, answered, begun, choices_in, event_now, may_stop, needs_volume, no_volume, outcome, refusal, tree_of}
+use Rattle.cf_model.specs.Events.{answer_in, answered, begun, broken, choices_in, event_now, may_stop, needs_volume, no_volume, outcome, refusal, tree_of}
 use Rattle.cf_model.specs.Lawful.{IsStep}
 use Rattle.cf_model.specs.Points.{HasPoints}
 use Rattle.cf_model.specs.State.{Link, State}
-use Rattle.cf_model.specs.Trees.{AsItKeeps, Asked, Choices, Ends, Fork, Ret, Step, Telling, Tree, play, walk}
+use Rattle.cf_model.specs.Trees.{Stops, AsItKeeps, Asked, Choices, Ends, Fork, Ret, Step, Telling, Tree, play, walk}
 use Rattle.cf_model.proofs.MessagesKeep.{asked_keeps}
 use Rattle.cf_model.proofs.PeersKeep.{peer_event_keeps}
 use Rattle.cf_model.proofs.TreeLaws.{kept_at_end}
-use Rattle.cf_check_ways.specs.Ways.{Grown, Alike, AnswersAlike, BothResumed, IsSure, OneFailed, Parted, SameEnd, fixed_state, is_good, of_state}
+use Rattle.cf_check_ways.specs.Ways.{IsFront, Grown, Alike, AnswersAlike, BothResumed, IsSure, OneFailed, Parted, SameEnd, fixed_state, is_good, of_state}
 use Rattle.cf_check_ways.proofs.EngineEventsSure.{engine_event_sure}
 use Rattle.cf_check_ways.proofs.EventsSure.{call_now_sure, provider_event_sure}
 use Rattle.cf_check_ways.proofs.PeersSure.{peer_event_sure}
@@ -43,6 +43,29 @@ walk_ends stop (true ∷ forks) ts (Fork p q) a t h = inr (walk_ends stop forks 
 walk_ends stop forks [] (Asked k) a t h = (AsItKeeps, walk_ends stop forks [] (k AsItKeeps) a t h)
 walk_ends stop forks (x ∷ ts) (Asked k) a t h = (x, walk_ends stop forks ts (k x) a t h)
 
+-- by choices that stop it it leaves the state of a stop
+
+walk_stops : {S A : Type 0} (stop : Option ℕ) (forks : List Bool) (ts : List Telling) (p : Tree S A) (t : S) → ◌≡◌ {A = Option A × S} (walk stop forks ts p) (None, t) → Stops p t
+walk_stops {S} {A} stop forks ts (Ret b s) t h = let z : ◌≡◌ {A = Option A} (Some b) None = ap (λ (x : Option A × S). x.0) h in absurd cc
+walk_stops None forks ts (Step s p) t h = inr (walk_stops None forks ts p t h)
+walk_stops {S} {A} (Some zero) forks ts (Step s p) t h = inl (sym (ap (λ (x : Option A × S). x.1) h))
+walk_stops (Some (suc n)) forks ts (Step s p) t h = inr (walk_stops (Some n) forks ts p t h)
+walk_stops stop [] ts (Fork p q) t h = inl (walk_stops stop [] ts p t h)
+walk_stops stop (false ∷ forks) ts (Fork p q) t h = inl (walk_stops stop forks ts p t h)
+walk_stops stop (true ∷ forks) ts (Fork p q) t h = inr (walk_stops stop forks ts q t h)
+walk_stops stop forks [] (Asked k) t h = (AsItKeeps, walk_stops stop forks [] (k AsItKeeps) t h)
+walk_stops stop forks (x ∷ ts) (Asked k) t h = (x, walk_stops stop forks ts (k x) t h)
+
+-- without a stop there is a result
+never_stops : {S A : Type 0} (forks : List Bool) (ts : List Telling) (p : Tree S A) (t : S) → ◌≡◌ {A = Option A × S} (walk None forks ts p) (None, t) → ⊥
+never_stops {S} {A} forks ts (Ret b s) t h = let z : ◌≡◌ {A = Option A} (Some b) None = ap (λ (x : Option A × S). x.0) h in absurd cc
+never_stops forks ts (Step s p) t h = never_stops forks ts p t h
+never_stops [] ts (Fork p q) t h = never_stops [] ts p t h
+never_stops (false ∷ forks) ts (Fork p q) t h = never_stops forks ts p t h
+never_stops (true ∷ forks) ts (Fork p q) t h = never_stops forks ts q t h
+never_stops forks [] (Asked k) t h = never_stops forks [] (k AsItKeeps) t h
+never_stops forks (x ∷ ts) (Asked k) t h = never_stops forks ts (k x) t h
+
 -- what a step is: a refusal for want of the volume, an end, or a stop
 
 abbrev Stopped : Answer → Type 0
@@ -51,23 +74,34 @@ Stopped a = a.shown ≡ shown.Refused code.Device
 abbrev Ended : State → Event → Answer → State → Type 0
 Ended s e a t = (r : Shown) × Ends (tree_of e s) r t × (a ≡ answer_in r t)
 
+-- the device cut the event off, which may be
+abbrev CutOff : State → Event → Answer → State → Type 0
+CutOff s e a t = (may_stop e ≡ true) × (u : State) × Stops (tree_of e s) u × (t ≡ broken u) × (a ≡ answer_in (shown.Refused code.Device) u)
+
+cut_is_stopped : (s : State) (e : Event) (a : Answer) (t : State) → CutOff s e a t → Stopped a
+cut_is_stopped s e a t c = ap (λ (x : Answer). x.shown) c.4
+
 abbrev StepOf : Option Code → State → Event → Answer → State → Type 0
 StepOf (Some c) s e a t = (a ≡ refusal c) × (t ≡ s)
-StepOf None s e a t = Ended s e a t ⊎ Stopped a
+StepOf None s e a t = Ended s e a t ⊎ CutOff s e a t
 
-outcome_of : (s : State) (e : Event) (a : Answer) (t : State) (x : Option Shown) (u : State) → ((r : Shown) → x ≡ Some r → Ends (tree_of e s) r u) → ◌≡◌ {A = State × Answer} (outcome (x, u)) (t, a) → StepOf None s e a t
-outcome_of s e a t (Some r) u ends h =
+outcome_of : (s : State) (e : Event) (a : Answer) (t : State) (x : Option Shown) (u : State) → ((r : Shown) → x ≡ Some r → Ends (tree_of e s) r u) → (x ≡ None → (may_stop e ≡ true) × Stops (tree_of e s) u) → ◌≡◌ {A = State × Answer} (outcome (x, u)) (t, a) → StepOf None s e a t
+outcome_of s e a t (Some r) u ends cut h =
     let is : u ≡ t = ap (λ (z : State × Answer). z.0) h in
     let told : answer_in r u ≡ a = ap (λ (z : State × Answer). z.1) h in
     inl (r, subst (λ (z : State). Ends (tree_of e s) r z) is (ends r refl), sym told ∙ ap (answer_in r) is)
-outcome_of s e a t None u ends h = inr (sym (ap (λ (z : State × Answer). z.1.shown) h))
+outcome_of s e a t None u ends cut h = let c = cut refl in inr (c.0, u, c.1, sym (ap (λ (z : State × Answer). z.0) h), sym (ap (λ (z : State × Answer). z.1) h))
+
+cut_by : (c : Choices) (s : State) (e : Event) (u : State) (may : Bool) → may_stop e ≡ may → ◌≡◌ {A = Option Shown × State} (play (choices_in (may_stop e) c) (tree_of e s)) (None, u) → (may_stop e ≡ true) × Stops (tree_of e s) u
+cut_by c s e u true is h = (is, walk_stops (choices_in (may_stop e) c).stop (choices_in (may_stop e) c).forks (choices_in (may_stop e) c).tellings (tree_of e s) u h)
+cut_by c s e u false is h = absurd (never_stops c.forks c.tellings (tree_of e s) u (subst (λ (b : Bool). ◌≡◌ {A = Option Shown × State} (play (choices_in b c) (tree_of e s)) (None, u)) is h))
 
 parts_of : (why : Option Code) (c : Choices) (s : State) (e : Event) (a : Answer) (t : State) → ◌≡◌ {A = State × Answer} (answered why c s e) (t, a) → StepOf why s e a t
 parts_of (Some r) c s e a t h = (sym (ap (λ (z : State × Answer). z.1) h), sym (ap (λ (z : State × Answer). z.0) h))
 parts_of None c s e a t h =
     let d : Choices = choices_in (may_stop e) c in
     let p : Option Shown × State = play d (tree_of e s) in
-    outcome_of s e a t p.0 p.1 (λ r is. walk_ends d.stop d.forks d.tellings (tree_of e s) r p.1 (ap (λ (x : Option Shown). (x, p.1)) is)) h
+    outcome_of s e a t p.0 p.1 (λ r is. walk_ends d.stop d.forks d.tellings (tree_of e s) r p.1 (ap (λ (x : Option Shown). (x, p.1)) is)) (λ is. cut_by c s e p.1 (may_stop e) refl (ap (λ (x : Option Shown). (x, p.1)) is)) h
 
 step_of : (m : Mode) (s : State) (e : Event) (a : Answer) (t : State) → IsStep m s e a t → StepOf (no_volume (needs_volume e) s.power) s e a t
 step_of m s e a t h = parts_of (no_volume (needs_volume e) s.power) h.1 s e a t h.2
@@ -126,8 +160,8 @@ steps_alike m s o e a b t u alike none has has_too h k good well runs runs_too =
   where
     by : (why : Option Code) → StepOf why s e a t → StepOf why o e b u → AnswersAlike s o e a t b u
     by (Some c) x y = inl (x.0 ∙ sym y.0, ap fixed_state x.1 ∙ alike ∙ ap fixed_state (sym y.1))
-    by None (inr stop) y = absurd (runs stop)
-    by None x (inr stop) = absurd (runs_too stop)
+    by None (inr stop) y = absurd (runs (cut_is_stopped s e a t stop))
+    by None x (inr stop) = absurd (runs_too (cut_is_stopped o e b u stop))
     by None (inl x) (inl y) =
         subst (λ (z : Answer). AnswersAlike s o e z t b u) (sym x.2)
         (subst (λ (z : Answer). AnswersAlike s o e (answer_in x.0 t) t z u) (sym y.2) (both_ended s o e alike none has has_too x.0 y.0 t u x.1 y.1 good well))
@@ -154,7 +188,7 @@ step_count m s e a t h runs = by (no_volume (needs_volume e) s.power) (step_of m
   where
     by : (why : Option Code) → StepOf why s e a t → length t.link.messages ≤ length s.link.messages + length a.notes
     by (Some c) x = let same : length t.link.messages ≡ length s.link.messages = ap (λ (z : State). length z.link.messages) x.1 in omega (arith, same)
-    by None (inr stop) = absurd (runs stop)
+    by None (inr stop) = absurd (runs (cut_is_stopped s e a t stop))
     by None (inl x) = subst (λ (z : Answer). length t.link.messages ≤ length s.link.messages + length z.notes) (sym x.2) (ended_count s e x.0 t x.1)
 
 -- no opening fails
@@ -173,5 +207,41 @@ step_afresh m s e a t h runs none = by (no_volume (needs_volume e) s.power) (ste
   where
     by : (why : Option Code) → StepOf why s e a t → t.failed_opens ≡ 0
     by (Some c) x = ap (λ (z : State). z.failed_opens) x.1 ∙ none
-    by None (inr stop) = absurd (runs stop)
+    by None (inr stop) = absurd (runs (cut_is_stopped s e a t stop))
     by None (inl x) = ended_afresh s e x.0 t none x.1
+
+-- what an answer shows that the device cut off
+
+shown_by : (s o : State) (e : Event) → IsSure of_state (event_now e) → Alike of_state s o → (v : State) (q : Shown) (u : State) → Stops (tree_of e s) v → Ends (tree_of e o) q u → is_good v ≡ true → is_good u ≡ true
+    → IsFront v.filter.notes u.filter.notes ⊎ Parted v.filter.notes u.filter.notes
+shown_by s o e sure alike v q u h k good well = sure.stop (begun s) (begun o) (begun_alike s o alike) v q u h k good well
+
+cut_shows : (s o : State) (e : Event) → (e ≡ event.Device device.Restart → ⊥) → may_stop e ≡ true → Alike of_state s o → (v : State) (q : Shown) (u : State) → Stops (tree_of e s) v → Ends (tree_of e o) q u
+    → is_good v ≡ true → is_good u ≡ true → IsFront v.filter.notes u.filter.notes ⊎ Parted v.filter.notes u.filter.notes
+cut_shows s o (event.Call c) other may alike v q u h k good well = shown_by s o (event.Call c) (call_now_sure c) alike v q u h k good well
+cut_shows s o (event.Device (device.Stop n)) other may alike v q u h k good well = absurd h
+cut_shows s o (event.Device (device.Crash c)) other may alike v q u h k good well = shown_by s o (event.Device (device.Crash c)) crash_sure alike v q u h k good well
+cut_shows s o (event.Device device.Restart) other may alike v q u h k good well = absurd (other refl)
+cut_shows s o (event.Peer p) other may alike v q u h k good well = let z : false ≡ true = may in absurd cc
+cut_shows s o (event.Engine g) other may alike v q u h k good well = shown_by s o (event.Engine g) (engine_event_sure g) alike v q u h k good well
+cut_shows s o (event.Provider p) other may alike v q u h k good well = shown_by s o (event.Provider p) (provider_event_sure p) alike v q u h k good well
+
+-- the lines of an answer that the device cut off are a front of those of another answer that it did not cut off, but for faults
+pub cut_off_shows : (m : Mode) (s o : State) (e : Event) (a b : Answer) (t u : State) → Alike of_state s o → s.failed_opens ≡ 0 → HasPoints s.filter.volume → HasPoints o.filter.volume
+    → IsStep m s e a t → IsStep m o e b u → is_good t ≡ true → is_good u ≡ true → (e ≡ event.Device device.Restart → ⊥) → (Stopped b → ⊥)
+    → AnswersAlike s o e a t b u ⊎ (Stopped a × (IsFront a.notes b.notes ⊎ Parted a.notes b.notes))
+cut_off_shows m s o e a b t u alike none has has_too h k good well other runs =
+    by (no_volume (needs_volume e) s.power) (step_of m s e a t h) (subst (λ (w : Option Code). StepOf w o e b u) (sym (ap (λ (x : State). no_volume (needs_volume e) x.power) alike)) (step_of m o e b u k))
+  where
+    by : (why : Option Code) → StepOf why s e a t → StepOf why o e b u → AnswersAlike s o e a t b u ⊎ (Stopped a × (IsFront a.notes b.notes ⊎ Parted a.notes b.notes))
+    by (Some c) x y = inl (inl (x.0 ∙ sym y.0, ap fixed_state x.1 ∙ alike ∙ ap fixed_state (sym y.1)))
+    by None x (inr stop) = absurd (runs (cut_is_stopped o e b u stop))
+    by None (inl x) (inl y) =
+        inl (subst (λ (z : Answer). AnswersAlike s o e z t b u) (sym x.2) (subst (λ (z : Answer). AnswersAlike s o e (answer_in x.0 t) t z u) (sym y.2) (both_ended s o e alike none has has_too x.0 y.0 t u x.1 y.1 good well)))
+    by None (inr x) (inl y) =
+        let good' : is_good x.1 ≡ true = ap is_good (sym x.3) ∙ good in
+        let shows : IsFront x.1.filter.notes u.filter.notes ⊎ Parted x.1.filter.notes u.filter.notes = cut_shows s o e other x.0 alike x.1 y.0 u x.2 y.1 good' well in
+        inr (
+          cut_is_stopped s e a t x,
+          subst (λ (z : Answer). IsFront z.notes b.notes ⊎ Parted z.notes b.notes) (sym x.4) (subst (λ (z : Answer). IsFront x.1.filter.notes z.notes ⊎ Parted x.1.filter.notes z.notes) (sym y.2) shows),
+        )

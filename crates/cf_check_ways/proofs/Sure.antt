@@ -4,8 +4,8 @@ use Rattle.std.specs.Prelude.{Option, Some, None}
 use Rattle.cf_base.specs.declared.codes.Code.{Code}
 use Rattle.cf_base.specs.declared.notices.Notice.{Notice}
 use Rattle.cf_model.specs.Arrows.{Arrow, and_then, attempt, choose, each, noted, one, one_or, only_if, reading, ret, seq, then_do, unit, unless, unless_done, when_ok}
-use Rattle.cf_model.specs.Trees.{Asked, Ends, Fork, Ret, Step, Tree, bind, mapped}
-use Rattle.cf_check_ways.specs.Ways.{FailedIn, Grown, IsPlain, IsSure, Parted, Reads, SameEnd, View}
+use Rattle.cf_model.specs.Trees.{Asked, Stops, Ends, Fork, Ret, Step, Tree, bind, mapped}
+use Rattle.cf_check_ways.specs.Ways.{Alike, FailedIn, Grown, IsFront, IsPlain, IsSure, Parted, Reads, SameEnd, View}
 
 -- ends of the first part and of the rest
 
@@ -62,12 +62,43 @@ pub parted_later : {S : Type 0} (v : View S) (m t n u : S) → Grown v m t → G
 parted_later v m t n u g h (inl f) = inl (failed_later (v.notes m) (v.notes n) (v.notes t) (v.notes u) g.notes.0 h.notes.0 g.notes.1 h.notes.1 f)
 parted_later v m t n u g h (inr f) = inr (failed_later (v.notes n) (v.notes m) (v.notes u) (v.notes t) h.notes.0 g.notes.0 h.notes.1 g.notes.1 f)
 
+pub stops_split : {S A B : Type 0} (p : Tree S A) (g : A → S → Tree S B) (t : S) → Stops (bind p g) t → Stops p t ⊎ ((a : A) × (m : S) × Ends p a m × Stops (g a m) t)
+stops_split (Ret a s) g t h = inr (a, s, (refl, refl), h)
+stops_split (Step s p) g t (inl e) = inl (inl e)
+stops_split {S} {A} {B} (Step s p) g t (inr h) = elim (stops_split p g t h) as (λ _. Stops (Step s p) t ⊎ ((a : A) × (m : S) × Ends (Step s p) a m × Stops (g a m) t)) [ inl x ↦ inl (inr x) | inr x ↦ inr x ]
+stops_split {S} {A} {B} (Fork p q) g t (inl h) = elim (stops_split p g t h) as (λ _. Stops (Fork p q) t ⊎ ((a : A) × (m : S) × Ends (Fork p q) a m × Stops (g a m) t)) [ inl x ↦ inl (inl x) | inr x ↦ inr (x.0, x.1, inl x.2, x.3) ]
+stops_split {S} {A} {B} (Fork p q) g t (inr h) = elim (stops_split q g t h) as (λ _. Stops (Fork p q) t ⊎ ((a : A) × (m : S) × Ends (Fork p q) a m × Stops (g a m) t)) [ inl x ↦ inl (inr x) | inr x ↦ inr (x.0, x.1, inr x.2, x.3) ]
+stops_split {S} {A} {B} (Asked k) g t h =
+    elim (stops_split (k h.0) g t h.1) as (λ _. Stops (Asked k) t ⊎ ((a : A) × (m : S) × Ends (Asked k) a m × Stops (g a m) t)) [ inl x ↦ inl (h.0, x) | inr x ↦ inr (x.0, x.1, (h.0, x.2), x.3) ]
+
+pub stops_of_mapped : {S T A : Type 0} (f : S → T) (p : Tree S A) (t : T) → Stops (mapped f p) t → (u : S) × Stops p u × (t ≡ f u)
+stops_of_mapped {S} {T} {A} f (Ret a s) t h = absurd h
+stops_of_mapped f (Step s p) t (inl e) = (s, inl refl, e)
+stops_of_mapped f (Step s p) t (inr h) = let x = stops_of_mapped f p t h in (x.0, inr x.1, x.2)
+stops_of_mapped f (Fork p q) t (inl h) = let x = stops_of_mapped f p t h in (x.0, inl x.1, x.2)
+stops_of_mapped f (Fork p q) t (inr h) = let x = stops_of_mapped f q t h in (x.0, inr x.1, x.2)
+stops_of_mapped f (Asked k) t h = let x = stops_of_mapped f (k h.0) t h.1 in (x.0, (h.0, x.1), x.2)
+
+-- what happened before alike states is the same
+pub told_alike : {S : Type 0} (v : View S) (s o : S) → Alike v s o → v.notes s ≡ v.notes o
+told_alike v s o e = sym (v.told s) ∙ ap v.notes e ∙ v.told o
+
+-- a front of what is the front of more
+pub front_grows : {S : Type 0} (v : View S) (t m u : S) → IsFront (v.notes t) (v.notes m) → Grown v m u → IsFront (v.notes t) (v.notes u)
+front_grows v t m u f g = (f.0 ++ g.notes.0, g.notes.1 ∙ ap (λ (xs : List Notice). xs ++ g.notes.0) f.1 ∙ append_assoc (v.notes t) f.0 g.notes.0)
+
+-- nothing happened, and more happens in the other
+pub front_here : {S : Type 0} (v : View S) (t s o u : S) → v.notes t ≡ v.notes s → Alike v s o → Grown v o u → IsFront (v.notes t) (v.notes u)
+front_here v t s o u same e g = (g.notes.0, g.notes.1 ∙ ap (λ (xs : List Notice). xs ++ g.notes.0) (sym (told_alike v s o e) ∙ sym same))
+
 -- the words
 
 pub sure_ret : {S A : Type 0} (v : View S) (a : A) → IsSure v (ret a)
 sure_ret v a = record {
   grows = λ s b t h. subst (λ (x : _). Grown v s x) (sym h.1) (grown_none v s);
   one = λ s o e b c t u h k _ _. inl (h.0 ∙ sym k.0, ap v.fixed h.1 ∙ e ∙ ap v.fixed (sym k.1));
+  halts = λ s t h. absurd h;
+  stop = λ s o e t b u h k _ _. absurd h;
 }
 
 pub sure_seq : {S A B : Type 0} (v : View S) (f : Arrow S A) (g : A → Arrow S B) → IsSure v f → ((a : A) → IsSure v (g a)) → IsSure v (seq f g)
@@ -79,8 +110,27 @@ sure_seq {S} {A} {B} v f g first rest = record {
       let later : Grown v x.1 t = (rest x.0).grows x.1 b t x.3 in
       let late : Grown v y.1 u = (rest y.0).grows y.1 c u y.3 in
       joined x.0 y.0 x.1 y.1 b c t u x.3 y.3 later late good well (first.one s o e x.0 y.0 x.1 y.1 x.2 y.2 (later.good good) (late.good well));
+  halts = λ s t h. elim (stops_split (f s) g t h) as (λ _. Grown v s t) [ inl x ↦ first.halts s t x | inr x ↦ grown_more v s x.1 t (first.grows s x.0 x.1 x.2) ((rest x.0).halts x.1 t x.3) ];
+  stop = λ s o e t b u h k good well.
+      let y = ends_split (f o) g b u k in
+      let late : Grown v y.1 u = (rest y.0).grows y.1 b u y.3 in
+      elim (stops_split (f s) g t h) as (λ _. IsFront (v.notes t) (v.notes u) ⊎ Parted (v.notes t) (v.notes u)) [
+        | inl x ↦ stopped t y.1 u late (first.stop s o e t y.0 y.1 x y.2 good (late.good well))
+        | inr x ↦
+            let later : Grown v x.1 t = (rest x.0).halts x.1 t x.3 in
+            halted x.0 y.0 x.1 y.1 t b u x.3 y.3 later late good well (first.one s o e x.0 y.0 x.1 y.1 x.2 y.2 (later.good good) (late.good well))
+      ];
 }
   where
+    stopped : (t n u : S) → Grown v n u → IsFront (v.notes t) (v.notes n) ⊎ Parted (v.notes t) (v.notes n) → IsFront (v.notes t) (v.notes u) ⊎ Parted (v.notes t) (v.notes u)
+    stopped t n u late (inl front) = inl (front_grows v t n u front late)
+    stopped t n u late (inr apart) = inr (parted_later v t t n u (grown_none v t) late apart)
+
+    halted : (a a' : A) (m n t : S) (b : B) (u : S) → Stops (g a m) t → Ends (g a' n) b u → Grown v m t → Grown v n u → v.good t ≡ true → v.good u ≡ true → SameEnd v a m a' n ⊎ Parted (v.notes m) (v.notes n)
+        → IsFront (v.notes t) (v.notes u) ⊎ Parted (v.notes t) (v.notes u)
+    halted a a' m n t b u h k later late good well (inl same) = (rest a).stop m n same.1 t b u h (subst (λ (x : A). Ends (g x n) b u) (sym same.0) k) good well
+    halted a a' m n t b u h k later late good well (inr apart) = inr (parted_later v m t n u later late apart)
+
     joined : (a a' : A) (m n : S) (b c : B) (t u : S) → Ends (g a m) b t → Ends (g a' n) c u → Grown v m t → Grown v n u → v.good t ≡ true → v.good u ≡ true
         → SameEnd v a m a' n ⊎ Parted (v.notes m) (v.notes n) → SameEnd v b t c u ⊎ Parted (v.notes t) (v.notes u)
     joined a a' m n b c t u h k later late good well (inl same) = (rest a).one m n same.1 b c t u h (subst (λ (x : A). Ends (g x n) c u) (sym same.0) k) good well
@@ -93,19 +143,33 @@ pub sure_reading : {S A X : Type 0} (v : View S) (get : S → X) (f : X → Arro
 sure_reading {S} {A} {X} v get f reads rest = record {
   grows = λ s a t h. (rest (get s)).grows s a t h;
   one = λ s o e a b t u h k good well. (rest (get s)).one s o e a b t u h (subst (λ (x : X). Ends (f x o) b u) (sym (reads s o e)) k) good well;
+  halts = λ s t h. (rest (get s)).halts s t h;
+  stop = λ s o e t b u h k good well. (rest (get s)).stop s o e t b u h (subst (λ (x : X). Ends (f x o) b u) (sym (reads s o e)) k) good well;
 }
 
 pub sure_noted : {S : Type 0} (v : View S) (f : S → S) → IsPlain v f → IsSure v (noted f)
 sure_noted v f plain = record {
   grows = λ s a t h. subst (λ (x : _). Grown v s x) (sym h.1) (plain.grows s);
   one = λ s o e a b t u h k good well. inl (h.0 ∙ sym k.0, ap v.fixed h.1 ∙ plain.alike s o e ∙ ap v.fixed (sym k.1));
+  halts = λ s t h. absurd h;
+  stop = λ s o e t b u h k _ _. absurd h;
+}
+
+-- a stop in one step leaves a state in which as much has happened as before
+stopped_in : {S : Type 0} (stop f : S → S) (s t : S) → Stops (one_or stop f s) t → t ≡ stop s
+stopped_in stop f s t (inl e) = e
+stopped_in stop f s t (inr h) = absurd h
+
+pub sure_one_or : {S : Type 0} (v : View S) (stop f : S → S) → ((s : S) → Grown v s (stop s)) → ((s : S) → v.notes (stop s) ≡ v.notes s) → IsPlain v f → IsSure v (one_or stop f)
+sure_one_or {S} v stop f quiet same plain = record {
+  grows = (sure_noted v f plain).grows;
+  one = (sure_noted v f plain).one;
+  halts = λ s t h. subst (λ (x : S). Grown v s x) (sym (stopped_in stop f s t h)) (quiet s);
+  stop = λ s o e t b u h k _ _. inl (front_here v t s o u (ap v.notes (stopped_in stop f s t h) ∙ same s) e ((sure_noted v f plain).grows o b u k));
 }
 
 pub sure_one : {S : Type 0} (v : View S) (f : S → S) → IsPlain v f → IsSure v (one f)
-sure_one v f plain = record { grows = (sure_noted v f plain).grows; one = (sure_noted v f plain).one }
-
-pub sure_one_or : {S : Type 0} (v : View S) (stop f : S → S) → IsPlain v f → IsSure v (one_or stop f)
-sure_one_or v stop f plain = record { grows = (sure_noted v f plain).grows; one = (sure_noted v f plain).one }
+sure_one v f plain = let x = sure_one_or v (λ s. s) f (grown_none v) (λ s. refl) plain in record { grows = x.grows; one = x.one; halts = x.halts; stop = x.stop }
 
 pub sure_choose : {S A : Type 0} (v : View S) (b : Bool) (f g : Arrow S A) → IsSure v f → IsSure v g → IsSure v (choose b f g)
 sure_choose v true f g h k = h
@@ -164,6 +228,10 @@ sure_at {S} {A} {X} v f get g is reads rest = record {
   grows = λ s a t h. (rest (get s)).grows s a t (subst (λ (p : Tree S A). Ends p a t) (is s) h);
   one = λ s o e a b t u h k good well.
       (rest (get s)).one s o e a b t u (subst (λ (p : Tree S A). Ends p a t) (is s) h)
+      (subst (λ (x : X). Ends (g x o) b u) (sym (reads s o e)) (subst (λ (p : Tree S A). Ends p b u) (is o) k)) good well;
+  halts = λ s t h. (rest (get s)).halts s t (subst (λ (p : Tree S A). Stops p t) (is s) h);
+  stop = λ s o e t b u h k good well.
+      (rest (get s)).stop s o e t b u (subst (λ (p : Tree S A). Stops p t) (is s) h)
       (subst (λ (x : X). Ends (g x o) b u) (sym (reads s o e)) (subst (λ (p : Tree S A). Ends p b u) (is o) k)) good well;
 }
 

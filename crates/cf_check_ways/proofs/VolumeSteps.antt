@@ -20,8 +20,8 @@ use Rattle.cf_model.specs.Settling.{accessed, accessed_by, ask_line, cancel_line
 use Rattle.cf_model.specs.State.{Filter, State, Volume, in_filter, in_volume, with_filter, with_notes, with_volume}
 use Rattle.cf_model.specs.Trees.{Ends}
 use Rattle.cf_model.specs.Waits.{Need, all_down, background_line, begin_now, begin_with, begun, beside, own_id, with_own}
-use Rattle.cf_check_ways.specs.Ways.{Alike, Grown, IsPlain, IsSure, Parted, SameEnd, fixed_filter, fixed_state, of_filter, of_state, of_volume, without_points}
-use Rattle.cf_check_ways.proofs.Sure.{ends_of_mapped, plain_noting, plain_quiet, reads_fixed, sure_each, sure_noted, sure_one, sure_one_or, sure_reading, sure_ret, sure_seq, sure_then}
+use Rattle.cf_check_ways.specs.Ways.{Alike, Grown, IsFront, IsPlain, IsSure, Parted, SameEnd, fixed_filter, fixed_state, of_filter, of_state, of_volume, without_points}
+use Rattle.cf_check_ways.proofs.Sure.{ends_of_mapped, front_here, stops_of_mapped, plain_noting, plain_quiet, reads_fixed, sure_each, sure_noted, sure_one, sure_one_or, sure_reading, sure_ret, sure_seq, sure_then}
 
 -- a change, with or without a commit for room before it
 
@@ -41,6 +41,8 @@ apply_sure f c = record {
       let x = put_ends f c v w n (may_need_room c v) h in
       let y = put_ends f c o u m (may_need_room c o) k in
       inl (x.0 ∙ ap next_number e ∙ sym y.0, x.1 ∙ ap (λ (z : Volume). without_points (put_with_book f c z)) e ∙ sym y.1);
+  halts = λ v t h. record { notes = ([], refl); counted = omega arith; opens = refl; good = λ g. g };
+  stop = λ v o e t m u h k _ _. inl ([], refl);
 }
 
 none_before : (before : List Notice) (n : Notice) (after : List Notice) → [] ≡ before ++ n ∷ after → ⊥
@@ -59,8 +61,16 @@ sure_in_volume {A} f sure = record {
       let x = ends_of_mapped (λ (w : Volume). with_volume w s) (f s.volume) a t h in
       let y = ends_of_mapped (λ (w : Volume). with_volume w o) (f o.volume) b u k in
       inl (together s o e a b t u x.0 y.0 x.2 y.2 (sure.one s.volume o.volume (ap (λ (z : Filter). z.volume) e) a b x.0 y.0 x.1 y.1 refl refl));
+  halts = λ s t h. halted s t (stops_of_mapped (λ (w : Volume). with_volume w s) (f s.volume) t h).0 (stops_of_mapped (λ (w : Volume). with_volume w s) (f s.volume) t h).2;
+  stop = λ s o e t b u h k _ _.
+      let x = stops_of_mapped (λ (w : Volume). with_volume w s) (f s.volume) t h in
+      let y = ends_of_mapped (λ (w : Volume). with_volume w o) (f o.volume) b u k in
+      inl (front_here of_filter t s o u (ap (λ (z : Filter). z.notes) x.2) e (halted o u y.0 y.2));
 }
   where
+    halted : (s t : Filter) (w : Volume) → t ≡ with_volume w s → Grown of_filter s t
+    halted s t w is = subst (λ (y : Filter). Grown of_filter s y) (sym is) (record { notes = ([], sym (append-nil s.notes)); counted = omega arith; opens = refl; good = λ g. g })
+
     together : (s o : Filter) → Alike of_filter s o → (a b : A) (t u : Filter) (w z : Volume) → t ≡ with_volume w s → u ≡ with_volume z o → SameEnd of_volume a w b z ⊎ Parted [] [] → SameEnd of_filter a t b u
     together s o e a b t u w z d g (inl same) =
         (same.0, ap fixed_filter d ∙ ap (λ (x : Volume). record (fixed_filter s) { volume = x }) same.1 ∙ ap (λ (x : Filter). record x { volume = without_points z }) e ∙ ap fixed_filter (sym g))
@@ -75,8 +85,19 @@ sure_in_filter {A} f sure = record {
       let x = ends_of_mapped (λ (g : Filter). with_filter g s) (f s.filter) a t h in
       let y = ends_of_mapped (λ (g : Filter). with_filter g o) (f o.filter) b u k in
       together s o e a b t u x.0 y.0 x.2 y.2 (sure.one s.filter o.filter (ap (λ (z : State). z.filter) e) a b x.0 y.0 x.1 y.1 refl refl);
+  halts = λ s t h.
+      let x = stops_of_mapped (λ (g : Filter). with_filter g s) (f s.filter) t h in
+      subst (λ (y : State). Grown of_state s y) (sym x.2) (record { notes = (sure.halts s.filter x.0 x.1).notes; counted = omega arith; opens = refl; good = λ g. g });
+  stop = λ s o e t b u h k _ _.
+      let x = stops_of_mapped (λ (g : Filter). with_filter g s) (f s.filter) t h in
+      let y = ends_of_mapped (λ (g : Filter). with_filter g o) (f o.filter) b u k in
+      shown s o t u x.0 y.0 x.2 y.2 (sure.stop s.filter o.filter (ap (λ (z : State). z.filter) e) x.0 b y.0 x.1 y.1 refl refl);
 }
   where
+    shown : (s o t u : State) (w z : Filter) → t ≡ with_filter w s → u ≡ with_filter z o → IsFront w.notes z.notes ⊎ Parted w.notes z.notes → IsFront t.filter.notes u.filter.notes ⊎ Parted t.filter.notes u.filter.notes
+    shown s o t u w z d g h =
+        subst (λ (x : State). IsFront x.filter.notes u.filter.notes ⊎ Parted x.filter.notes u.filter.notes) (sym d) (subst (λ (x : State). IsFront w.notes x.filter.notes ⊎ Parted w.notes x.filter.notes) (sym g) h)
+
     together : (s o : State) → Alike of_state s o → (a b : A) (t u : State) (w z : Filter) → t ≡ with_filter w s → u ≡ with_filter z o
         → SameEnd of_filter a w b z ⊎ Parted w.notes z.notes → SameEnd of_state a t b u ⊎ Parted t.filter.notes u.filter.notes
     together s o e a b t u w z d g (inl same) =
@@ -90,7 +111,7 @@ change_sure f c =
     (λ n. sure_noted of_filter (with_notes (notice.Change n c ∷ [])) (plain_noting of_filter (with_notes (notice.Change n c ∷ [])) (λ _. notice.Change n c ∷ []) (λ s. refl) (λ s. refl) (λ s. refl) (λ s. refl) (λ s. refl)))
 
 pub commit_sure : IsSure of_filter (in_volume commit)
-commit_sure = sure_in_volume commit (sure_one_or of_volume with_point_begun with_sure_point (plain_quiet of_volume with_sure_point (λ s. refl) (λ s. refl) (λ s. refl) (λ s. refl) (λ s. refl)))
+commit_sure = sure_in_volume commit (sure_one_or of_volume with_point_begun with_sure_point (λ v. record { notes = ([], refl); counted = omega arith; opens = refl; good = λ g. g }) (λ v. refl) (plain_quiet of_volume with_sure_point (λ s. refl) (λ s. refl) (λ s. refl) (λ s. refl) (λ s. refl)))
 
 -- what the ask rule tells
 

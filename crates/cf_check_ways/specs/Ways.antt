@@ -2,7 +2,7 @@
 --
 -- What a report does not fix is left out of what is alike: the points that a restart may open, and how often the remote was
 -- asked. Where the remote broke its rules, or numbers of messages are used up, nothing is said.
-use Rattle.std.specs.Prelude.{◌≡◌, ◌⊎◌, ◌≤◌, ◌+◌, ℕ, Bool, true, false, List, [], ◌∷◌, ◌++◌, length, nat_lt, ◌&&◌}
+use Rattle.std.specs.Prelude.{refl, ◌≡◌, ◌⊎◌, ◌≤◌, ◌+◌, ℕ, Bool, true, false, List, [], ◌∷◌, ◌++◌, length, nat_lt, ◌&&◌}
 use Rattle.cf_base.specs.declared.answers.Answer.{Answer}
 use Rattle.cf_base.specs.declared.answers.Shown.{Shown}
 use Rattle.cf_base.specs.declared.answers.Shown.TheVariants as shown
@@ -20,7 +20,7 @@ use Rattle.cf_model.specs.Events.{answer_in, begun}
 use Rattle.cf_model.specs.Numbers.{most}
 use Rattle.cf_model.specs.Restarts.{epoch_after, resumed, with_opened}
 use Rattle.cf_model.specs.State.{Filter, Point, State, Volume}
-use Rattle.cf_model.specs.Trees.{Ends}
+use Rattle.cf_model.specs.Trees.{Ends, Stops}
 
 -- What is looked at of a state: what of it is fixed, what happened so far, how many messages there are, how many openings failed
 -- since the last one, and whether something is said of it.
@@ -30,19 +30,20 @@ pub record View (S : Type 0) : Type 0 where
   pub count : S → ℕ
   pub fails : S → ℕ
   pub good : S → Bool
+  pub told : (s : S) → notes (fixed s) ≡ notes s
 
 -- the volume without its points
 abbrev pub without_points : Volume → Volume
 without_points v = record v { points = []; items_then = []; put_since = 0 }
 
 abbrev pub of_volume : View Volume
-of_volume = record { fixed = without_points; notes = λ v. []; count = λ v. 0; fails = λ v. 0; good = λ v. true }
+of_volume = record { fixed = without_points; notes = λ v. []; count = λ v. 0; fails = λ v. 0; good = λ v. true; told = λ v. refl }
 
 abbrev pub fixed_filter : Filter → Filter
 fixed_filter f = record f { volume = without_points f.volume }
 
 abbrev pub of_filter : View Filter
-of_filter = record { fixed = fixed_filter; notes = λ f. f.notes; count = λ f. 0; fails = λ f. 0; good = λ f. true }
+of_filter = record { fixed = fixed_filter; notes = λ f. f.notes; count = λ f. 0; fails = λ f. 0; good = λ f. true; told = λ f. refl }
 
 -- the state without points and the count of asks
 abbrev pub fixed_state : State → State
@@ -53,7 +54,7 @@ abbrev pub is_good : State → Bool
 is_good s = s.link.honest && nat_lt (length s.link.messages) most
 
 abbrev pub of_state : View State
-of_state = record { fixed = fixed_state; notes = λ s. s.filter.notes; count = λ s. length s.link.messages; fails = λ s. s.failed_opens; good = is_good }
+of_state = record { fixed = fixed_state; notes = λ s. s.filter.notes; count = λ s. length s.link.messages; fails = λ s. s.failed_opens; good = is_good; told = λ s. refl }
 
 abbrev pub Alike : {S : Type 0} → View S → S → S → Type 0
 Alike v s t = v.fixed s ≡ v.fixed t
@@ -84,12 +85,20 @@ Parted one other = FailedIn one other ⊎ FailedIn other one
 abbrev pub SameEnd : {S A : Type 0} → View S → A → S → A → S → Type 0
 SameEnd v a s b t = (a ≡ b) × Alike v s t
 
+-- what happened before the one happened before the other
+abbrev pub IsFront : List Notice → List Notice → Type 0
+IsFront one other = (more : List Notice) × (other ≡ one ++ more)
+
 -- Its ends from states that are alike have the same result and are alike, or the one has a line of a fault where the other has
--- the reply. What happened before it stays in what happened.
+-- the reply. What happened before it stays in what happened. Where the device stops it, what happened is a front of what happens
+-- in the other, or they part so.
 pub record IsSure {S A : Type 0} (v : View S) (f : Arrow S A) : Type 0 where
   pub grows : (s : S) (a : A) (t : S) → Ends (f s) a t → Grown v s t
   pub one : (s o : S) → Alike v s o → (a b : A) (t u : S) → Ends (f s) a t → Ends (f o) b u → v.good t ≡ true → v.good u ≡ true
       → SameEnd v a t b u ⊎ Parted (v.notes t) (v.notes u)
+  pub halts : (s t : S) → Stops (f s) t → Grown v s t
+  pub stop : (s o : S) → Alike v s o → (t : S) (b : A) (u : S) → Stops (f s) t → Ends (f o) b u → v.good t ≡ true → v.good u ≡ true
+      → IsFront (v.notes t) (v.notes u) ⊎ Parted (v.notes t) (v.notes u)
 
 -- What is read of alike states is the same.
 abbrev pub Reads : {S X : Type 0} → View S → (S → X) → Type 0

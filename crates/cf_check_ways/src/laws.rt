@@ -1,13 +1,15 @@
 //! Laws of two ways through one event.
 
-ghost use Rattle.std.specs.Prelude.{◌≡◌, ◌≤◌, ◌+◌, length, true};
+ghost use Rattle.std.specs.Prelude.{◌≡◌, ◌⊎◌, ◌≤◌, ◌+◌, length, true};
 ghost use Rattle.cf_base.specs.declared.answers.Answer.{Answer};
 ghost use Rattle.cf_base.specs.declared.answers.Shown.{Shown};
 ghost use Rattle.cf_base.specs.declared.answers.Shown.TheVariants as shown;
 ghost use Rattle.cf_base.specs.declared.codes.Code.TheVariants as code;
+ghost use Rattle.cf_base.specs.declared.events.DeviceEvent.TheVariants as device;
 ghost use Rattle.cf_base.specs.declared.events.Event.{Event};
+ghost use Rattle.cf_base.specs.declared.events.Event.TheVariants as event;
 ghost use Rattle.cf_base.specs.declared.policies.Mode.{Mode};
-ghost use Rattle.cf_check_ways.specs.Ways.{Alike, AnswersAlike, BothResumed, IsSure, SameEnd, is_good, of_state};
+ghost use Rattle.cf_check_ways.specs.Ways.{Alike, AnswersAlike, BothResumed, IsFront, IsSure, Parted, SameEnd, is_good, of_state};
 ghost use Rattle.cf_model.specs.Arrows.{Arrow, seq};
 ghost use Rattle.cf_model.specs.Lawful.{IsStep};
 ghost use Rattle.cf_model.specs.Points.{HasPoints};
@@ -45,4 +47,13 @@ pub fn each_message_has_a_line()
 pub fn no_opening_failed()
     ensures { (m : Mode) (s : State) (e : Event) (a : Answer) (t : State) → IsStep m s e a t → (a.shown ≡ shown.Refused code.Device → ⊥)
         → s.failed_opens ≡ 0 → t.failed_opens ≡ 0 }
+{}
+
+/// The lines of an answer that the device cut off are a front of those of another answer from an alike state, but where the
+/// remote failed in one of them. Restarts apart.
+pub fn a_cut_off_answer_shows_a_front()
+    ensures { (m : Mode) (s o : State) (e : Event) (a b : Answer) (t u : State) → Alike of_state s o → s.failed_opens ≡ 0
+        → HasPoints s.filter.volume → HasPoints o.filter.volume → IsStep m s e a t → IsStep m o e b u → is_good t ≡ true → is_good u ≡ true
+        → (e ≡ event.Device device.Restart → ⊥) → (b.shown ≡ shown.Refused code.Device → ⊥)
+        → AnswersAlike s o e a t b u ⊎ ((a.shown ≡ shown.Refused code.Device) × (IsFront a.notes b.notes ⊎ Parted a.notes b.notes)) }
 {}
