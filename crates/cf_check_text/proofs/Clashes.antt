@@ -51,7 +51,7 @@ pub meet_less : (xs ys more others : List ℕ) → Meet (xs ++ more) (ys ++ othe
 meet_less xs ys more others m = (m.0, (more ++ m.1.0, m.1.1 ∙ append_assoc xs more m.1.0), (others ++ m.2.0, m.2.1 ∙ append_assoc ys others m.2.0))
 
 -- a line of a fault is not one of a message
-fault_or_message : (m : ℕ) (s : Sent) → clash (notice_line (notice.Fault m)) (notice_line (notice.Message s)) ≡ true
+pub fault_or_message : (m : ℕ) (s : Sent) → clash (notice_line (notice.Fault m)) (notice_line (notice.Message s)) ≡ true
 fault_or_message m s = by s.lost
   where
     by : (lost : Bool) → clash (notice_line (notice.Fault m)) (notice_line (notice.Message (record s { lost = lost }))) ≡ true

@@ -30,7 +30,7 @@ few_messages s (p ∷ ps) t h none =
     let all : length (text p.1 ++ texts (map answer_of ps)) ≡ length (text p.1) + length (texts (map answer_of ps)) = length-append (text p.1) (texts (map answer_of ps)) in
     omega (arith, one, bytes, rest, all)
 
-numbered : (honest : Bool) (n limit : ℕ) → honest ≡ true → n < limit → (honest && nat_lt n limit) ≡ true
+pub numbered : (honest : Bool) (n limit : ℕ) → honest ≡ true → n < limit → (honest && nat_lt n limit) ≡ true
 numbered honest n limit e lt = rw e (lt-ltb n limit lt)
 
 -- in an accepted run there are numbers of messages left

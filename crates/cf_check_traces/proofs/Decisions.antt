@@ -46,11 +46,11 @@ same_code : (c : Code) → is_fault_code c ≡ is_remote_fault c
 same_code code.RemoteFault = refl
 same_code _ = refl
 
-the_fault : (a : Shown) → is_fault a ≡ true → a ≡ shown.Refused code.RemoteFault
+pub the_fault : (a : Shown) → is_fault a ≡ true → a ≡ shown.Refused code.RemoteFault
 the_fault (shown.Refused code.RemoteFault) h = refl
 the_fault _ h = let z : false ≡ true = h in absurd cc
 
-fault_alone : (b : Shown) → is_of_peer b ≡ true → is_fault b ≡ false → Meet (result_line (shown.Refused code.RemoteFault)) (result_line b) → ⊥
+pub fault_alone : (b : Shown) → is_of_peer b ≡ true → is_fault b ≡ false → Meet (result_line (shown.Refused code.RemoteFault)) (result_line b) → ⊥
 fault_alone (shown.Refused c) of other m = fault_or_refusal c (sym (same_code c) ∙ other) m
 fault_alone (shown.Remote rid version) of other m = fault_or_answer rid version m
 fault_alone _ of other m = let z : false ≡ true = of in absurd cc

@@ -1,4 +1,6 @@
 pub mod Accepting
 pub mod Decisions
+pub mod NextOnes
 pub mod NextSteps
 pub mod SameRuns
+pub mod Testing

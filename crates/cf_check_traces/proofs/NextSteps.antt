@@ -24,7 +24,7 @@ use Rattle.cf_check_traces.specs.Decided.{IsStopped, MeetsFaults, NoneStopped, O
 use Rattle.cf_check_traces.proofs.Accepting.{good_after}
 use Rattle.cf_check_traces.proofs.SameRuns.{Front, front_of, none_before, none_last, same_runs, steady}
 
-begins_less : (rest front more : List ℕ) → Begins rest (front ++ more) → Begins rest front
+pub begins_less : (rest front more : List ℕ) → Begins rest (front ++ more) → Begins rest front
 begins_less rest front more b = (more ++ b.0, b.1 ∙ append_assoc front more b.0)
 
 line_first : (before : List Notice) (n : Notice) (after : List Notice) (more : List ℕ) → flat_map notice_line (before ++ n ∷ after) ++ more ≡ (flat_map notice_line before ++ notice_line n) ++ (flat_map notice_line after ++ more)
@@ -39,7 +39,7 @@ begins_line b rest before n after is h =
     (subst (λ (xs : List ℕ). Begins rest xs) (ap (λ (ns : List Notice). flat_map notice_line ns ++ result_line b.shown) is ∙ line_first before n after (result_line b.shown)) h)
 
 -- what is told of faults tells the two answers apart
-no_part : (a b : Answer) (rest : List ℕ) → MeetsFaults a rest → Begins rest (text b) → Parted a.notes b.notes → ⊥
+pub no_part : (a b : Answer) (rest : List ℕ) → MeetsFaults a rest → Begins rest (text b) → Parted a.notes b.notes → ⊥
 no_part a b rest meets h (inl f) =
     meets.no_reply f.before f.after f.message f.number f.reply f.lost f.first_is
     (begins_line b rest f.before (notice.Message (record { message = f.number; frame = frame.Reply f.message f.reply; lost = f.lost })) f.others f.second_is h)
@@ -49,9 +49,9 @@ no_part a b rest meets h (inr f) =
 not_one : (x y : Bool) → x ≡ y → (x ≡ true) × (y ≡ false) → ⊥
 not_one x y e h = let z : true ≡ false = sym h.0 ∙ e ∙ h.1 in absurd cc
 
-no_one : (a b : Answer) (rest : List ℕ) → MeetsFaults a rest → Begins rest (text b) → a.notes ≡ b.notes → OneFailed a.shown b.shown → ⊥
+pub no_one : (a b : Answer) (rest : List ℕ) → MeetsFaults a rest → Begins rest (text b) → a.notes ≡ b.notes → OneFailed a.shown b.shown → ⊥
 no_one a b rest meets h same one =
-    let equal : is_fault a.shown ≡ is_fault b.shown = meets.result b (subst (λ (ns : List Notice). Begins rest (flat_map notice_line ns ++ result_line b.shown)) (sym same) h) in
+    let equal : is_fault a.shown ≡ is_fault b.shown = meets.result b one.1 (subst (λ (ns : List Notice). Begins rest (flat_map notice_line ns ++ result_line b.shown)) (sym same) h) in
     elim one.2 as (λ _. ⊥) [ inl x ↦ not_one (is_fault a.shown) (is_fault b.shown) equal x | inr x ↦ not_one (is_fault b.shown) (is_fault a.shown) (sym equal) x ]
 
 no_answer : (s o : State) (e : Event) (a b : Answer) (t u : State) (rest : List ℕ) → (e ≡ event.Device device.Restart → ⊥) → MeetsFaults a rest → (Begins rest (text a) → ⊥) → Begins rest (text b) → AnswersAlike s o e a t b u → ⊥
@@ -61,7 +61,7 @@ no_answer s o e a b t u rest other meets wrong h (inr (inr (inl x))) = no_one a 
 no_answer s o e a b t u rest other meets wrong h (inr (inr (inr x))) = other x.0
 
 -- how the report goes on after an accepted front
-goes_on : (report rest : List ℕ) (trace front : List (Event × Answer)) (p : Event × Answer) → report ≡ texts (map answer_of trace) ++ rest → trace ≡ front → Begins report (texts (map answer_of (front ++ p ∷ []))) → Begins rest (text p.1)
+pub goes_on : (report rest : List ℕ) (trace front : List (Event × Answer)) (p : Event × Answer) → report ≡ texts (map answer_of trace) ++ rest → trace ≡ front → Begins report (texts (map answer_of (front ++ p ∷ []))) → Begins rest (text p.1)
 goes_on report rest trace front p is same b =
     begins_less rest (text p.1) [] (
       b.0,

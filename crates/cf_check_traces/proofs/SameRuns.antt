@@ -50,7 +50,7 @@ events_front (suc n) (x ∷ front) back (y ∷ es) long e =
     let long' : length front ≡ n = let z : suc (length front) ≡ suc n = long in omega (arith, z) in
     ap (λ (k : Event). k ∷ front) heads ∙ ap (λ (ks : List Event). y ∷ ks) (events_front n front back es long' tails)
 
-last_event : (front other : List Event) (x y : Event) → front ≡ other → front ++ x ∷ [] ≡ other ++ y ∷ [] → x ≡ y
+pub last_event : (front other : List Event) (x y : Event) → front ≡ other → front ++ x ∷ [] ≡ other ++ y ∷ [] → x ≡ y
 last_event front other x y same e = by other (subst (λ (fs : List Event). fs ++ x ∷ [] ≡ other ++ y ∷ []) same e)
   where
     by : (fs : List Event) → fs ++ x ∷ [] ≡ fs ++ y ∷ [] → x ≡ y

@@ -1,5 +1,5 @@
 -- What a report decides of an event, from a state that is known but for what no report fixes.
-use Rattle.std.specs.Prelude.{◌≡◌, ◌⊎◌, ◌≤◌, ℕ, Bool, List, [], ◌∷◌, ◌++◌}
+use Rattle.std.specs.Prelude.{◌≡◌, ◌⊎◌, ◌≤◌, ℕ, Bool, true, List, [], ◌∷◌, ◌++◌}
 use Rattle.std.specs.List.{flat_map}
 use Rattle.cf_base.specs.declared.answers.Answer.{Answer}
 use Rattle.cf_base.specs.declared.answers.Shown.TheVariants as shown
@@ -13,7 +13,7 @@ use Rattle.cf_base.specs.declared.notices.Notice.{Notice}
 use Rattle.cf_base.specs.declared.notices.Notice.TheVariants as notice
 use Rattle.cf_check_model.specs.Judging.{MayResume}
 use Rattle.cf_check_model.specs.Reports.{Begins}
-use Rattle.cf_check_ways.specs.Ways.{Alike, BothResumed, is_fault, of_state}
+use Rattle.cf_check_ways.specs.Ways.{Alike, BothResumed, is_fault, is_of_peer, of_state}
 use Rattle.cf_model.specs.Events.{answer_in, begun}
 use Rattle.cf_model.specs.Points.{HasPoints}
 use Rattle.cf_model.specs.State.{State, book_now}
@@ -55,4 +55,4 @@ pub record MeetsFaults (a : Answer) (rest : List ℕ) : Type 0 where
   pub no_fault : (before after : List Notice) (m n : ℕ) (r : Reply) (lost : Bool)
       → a.notes ≡ before ++ notice.Message (record { message = n; frame = frame.Reply m r; lost = lost }) ∷ after
       → Begins rest (flat_map notice_line before ++ notice_line (notice.Fault m)) → ⊥
-  pub result : (b : Answer) → Begins rest (flat_map notice_line a.notes ++ result_line b.shown) → is_fault a.shown ≡ is_fault b.shown
+  pub result : (b : Answer) → is_of_peer b.shown ≡ true → Begins rest (flat_map notice_line a.notes ++ result_line b.shown) → is_fault a.shown ≡ is_fault b.shown

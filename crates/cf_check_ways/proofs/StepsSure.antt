@@ -245,3 +245,24 @@ cut_off_shows m s o e a b t u alike none has has_too h k good well other runs =
           cut_is_stopped s e a t x,
           subst (λ (z : Answer). IsFront z.notes b.notes ⊎ Parted z.notes b.notes) (sym x.4) (subst (λ (z : Answer). IsFront x.1.filter.notes z.notes ⊎ Parted x.1.filter.notes z.notes) (sym y.2) shows),
         )
+
+-- the same where the device cut the event off
+
+cut_count : (s : State) (e : Event) → (e ≡ event.Device device.Restart → ⊥) → may_stop e ≡ true → (u : State) → Stops (tree_of e s) u → length u.link.messages ≤ length s.link.messages + length u.filter.notes
+cut_count s (event.Call c) other may u h = counted_of s u ((call_now_sure c).halts (begun s) u h)
+cut_count s (event.Device (device.Stop n)) other may u h = absurd h
+cut_count s (event.Device (device.Crash c)) other may u h = counted_of s u (crash_sure.halts (begun s) u h)
+cut_count s (event.Device device.Restart) other may u h = absurd (other refl)
+cut_count s (event.Peer p) other may u h = let z : false ≡ true = may in absurd cc
+cut_count s (event.Engine g) other may u h = counted_of s u ((engine_event_sure g).halts (begun s) u h)
+cut_count s (event.Provider p) other may u h = counted_of s u ((provider_event_sure p).halts (begun s) u h)
+
+pub any_step_count : (m : Mode) (s : State) (e : Event) (a : Answer) (t : State) → IsStep m s e a t → (e ≡ event.Device device.Restart → ⊥) → length t.link.messages ≤ length s.link.messages + length a.notes
+any_step_count m s e a t h other = by (no_volume (needs_volume e) s.power) (step_of m s e a t h)
+  where
+    by : (why : Option Code) → StepOf why s e a t → length t.link.messages ≤ length s.link.messages + length a.notes
+    by (Some c) x = let same : length t.link.messages ≡ length s.link.messages = ap (λ (z : State). length z.link.messages) x.1 in omega (arith, same)
+    by None (inl x) = subst (λ (z : Answer). length t.link.messages ≤ length s.link.messages + length z.notes) (sym x.2) (ended_count s e x.0 t x.1)
+    by None (inr x) =
+        subst (λ (z : Answer). length t.link.messages ≤ length s.link.messages + length z.notes) (sym x.4)
+            (subst (λ (z : State). length z.link.messages ≤ length s.link.messages + length x.1.filter.notes) (sym x.3) (cut_count s e other x.0 x.1 x.2))

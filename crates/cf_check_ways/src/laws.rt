@@ -57,3 +57,9 @@ pub fn a_cut_off_answer_shows_a_front()
         → (e ≡ event.Device device.Restart → ⊥) → (b.shown ≡ shown.Refused code.Device → ⊥)
         → AnswersAlike s o e a t b u ⊎ ((a.shown ≡ shown.Refused code.Device) × (IsFront a.notes b.notes ⊎ Parted a.notes b.notes)) }
 {}
+
+/// The same of every event that is no restart, also where the device failed.
+pub fn each_message_of_a_cut_off_event_has_a_line()
+    ensures { (m : Mode) (s : State) (e : Event) (a : Answer) (t : State) → IsStep m s e a t → (e ≡ event.Device device.Restart → ⊥)
+        → length t.link.messages ≤ length s.link.messages + length a.notes }
+{}

@@ -1,0 +1,132 @@
+-- One step of a run that is followed: with the next event nothing else is accepted.
+use Rattle.std.proofs.Common.{◌≡◌, ◌⊎◌, ◌≤◌, ◌<◌, ◌+◌, ◌&&◌, ℕ, suc, Bool, true, false, nat_lt, List, [], ◌∷◌, ◌++◌, length, map, take, refl, sym, ◌∙◌, ap, subst, arith, inl, inr, length-append, length-take-le}
+use Rattle.std.specs.Prelude.{Some, slice_get}
+use Rattle.std.specs.List.{list_all}
+use Rattle.std.proofs.lemmas.List.{length-map, map-append}
+use Rattle.std.proofs.lemmas.List.Folds.{list_all-append}
+use Rattle.cf_base.specs.declared.answers.Answer.{Answer}
+use Rattle.cf_base.specs.declared.answers.Shown.{Shown}
+use Rattle.cf_base.specs.declared.events.DeviceEvent.TheVariants as device
+use Rattle.cf_base.specs.declared.events.Event.{Event}
+use Rattle.cf_base.specs.declared.events.Event.TheVariants as event
+use Rattle.cf_base.specs.declared.notices.Notice.{Notice}
+use Rattle.cf_base.specs.declared.policies.Mode.TheVariants as mode
+use Rattle.cf_model.specs.Lawful.{IsStep, Runs}
+use Rattle.cf_model.specs.Numbers.{most}
+use Rattle.cf_model.specs.State.{State, start}
+use Rattle.cf_model.specs.Store.{empty_remote}
+use Rattle.cf_report.specs.Texts.{result_line, text, texts}
+use Rattle.cf_check_model.specs.Judging.{Accepted, answer_of, event_of}
+use Rattle.cf_check_model.specs.Reports.{Begins, device_line, result_lines}
+use Rattle.cf_check_model.proofs.Fronts.{texts_join}
+use Rattle.cf_check_text.specs.Clean.{clean_notice, clean_shown, is_clean}
+use Rattle.cf_check_text.proofs.CleanWords.{left_of}
+use Rattle.cf_check_text.proofs.Lines.{notices_fit, result_of}
+use Rattle.cf_check_ways.specs.Ways.{Alike, AnswersAlike, IsFront, OneFailed, Parted, is_good, of_state}
+use Rattle.cf_check_ways.proofs.StepsSure.{any_step_count, cut_off_shows, steps_alike}
+use Rattle.cf_check_traces.specs.Decided.{IsSteady, IsStopped, MeetsFaults, NoneStopped}
+use Rattle.cf_check_traces.specs.Tests.{is_device}
+use Rattle.cf_check_traces.proofs.Accepting.{LastOf, few_messages, last_of, numbered}
+use Rattle.cf_check_traces.proofs.NextSteps.{goes_on, no_one, no_part}
+use Rattle.cf_check_traces.proofs.SameRuns.{Front, front_of, last_event, steady}
+use Rattle.cf_check_traces.proofs.Testing.{not_stopped, stopped_so}
+
+-- What is known of a run that is followed through the first n events of a script, and of how the report goes on.
+pub record IsFollowed (events : List Event) (report : List ℕ) (clusters n : ℕ) (trace : List (Event × Answer)) (s : State) (rest : List ℕ) : Type 0 where
+  pub there : n ≤ length events
+  pub events_are : map event_of trace ≡ take n events
+  pub lawful : Runs mode.Replay (start mode.Replay empty_remote clusters) trace s
+  pub kept : s.link.honest ≡ true
+  pub text_is : report ≡ texts (map answer_of trace) ++ rest
+  pub none : NoneStopped trace
+  -- no other run of so many events is accepted
+  pub only : (more : List (Event × Answer)) (u : State) → Accepted events report clusters n more u → (more ≡ trace) × Alike of_state s u
+
+-- an answer that the judge's run gives to the next event
+pub record IsNext (s : State) (e : Event) (a : Answer) (t : State) (rest : List ℕ) : Type 0 where
+  pub step : IsStep mode.Replay s e a t
+  pub good : is_good t ≡ true
+  pub runs : IsStopped a → ⊥
+  pub clean : is_clean a ≡ true
+  pub meets : MeetsFaults a rest
+  pub result : slice_get (result_lines rest) 0 ≡ Some device_line → ⊥
+  pub other : e ≡ event.Device device.Restart → ⊥
+
+-- with these messages there are numbers left
+good_last : (limit : ℕ) (report : List ℕ) (clusters : ℕ) (front : List (Event × Answer)) (e : Event) (b : Answer) (mid u : State) → Runs mode.Replay (start mode.Replay empty_remote clusters) front mid → NoneStopped front → IsStep mode.Replay mid e b u
+    → (e ≡ event.Device device.Restart → ⊥) → u.link.honest ≡ true → Begins report (texts (map answer_of (front ++ (e, b) ∷ []))) → length report < limit → (u.link.honest && nat_lt (length u.link.messages) limit) ≡ true
+good_last limit report clusters front e b mid u runs none step other kept begun short =
+    let few : length mid.link.messages ≤ 0 + length (texts (map answer_of front)) = few_messages (start mode.Replay empty_remote clusters) front mid runs none in
+    let one : length u.link.messages ≤ length mid.link.messages + length b.notes = any_step_count mode.Replay mid e b u step other in
+    let bytes : length b.notes ≤ length (text b) = notices_fit b in
+    let whole : length report ≡ length (texts (map answer_of (front ++ (e, b) ∷ []))) + length begun.0 = ap (λ (xs : List ℕ). length xs) begun.1 ∙ length-append (texts (map answer_of (front ++ (e, b) ∷ []))) begun.0 in
+    let parts : length (texts (map answer_of (front ++ (e, b) ∷ []))) ≡ length (texts (map answer_of front)) + length (text b ++ []) = ap (λ (xs : List ℕ). length xs) (texts_join front ((e, b) ∷ [])) ∙ length-append (texts (map answer_of front)) (text b ++ []) in
+    let last : length (text b ++ []) ≡ length (text b) + 0 = length-append (text b) [] in
+    let lt : length u.link.messages < limit = omega (arith, few, one, bytes, whole, parts, last, short) in
+    numbered u.link.honest (length u.link.messages) limit kept lt
+
+front_clean : (xs ys : List Notice) → IsFront xs ys → list_all clean_notice ys ≡ true → list_all clean_notice xs ≡ true
+front_clean xs ys f h = left_of (list_all clean_notice xs) (list_all clean_notice f.0) (sym (list_all-append clean_notice xs f.0) ∙ ap (λ (ns : List Notice). list_all clean_notice ns) (sym f.1) ∙ h)
+
+turned_one : (a b : Shown) → OneFailed a b → OneFailed b a
+turned_one a b one = (one.1, one.0, elim one.2 as (λ _. _) [ inl x ↦ inr x | inr x ↦ inl x ])
+
+turned_part : (xs ys : List Notice) → Parted xs ys → Parted ys xs
+turned_part xs ys (inl f) = inr f
+turned_part xs ys (inr f) = inl f
+
+module _ (events : List Event) (report : List ℕ) (clusters : ℕ) (short : length report < most) where
+  -- an answer of another run, which no device cut off
+  ended_same : (s o : State) (e : Event) (a b : Answer) (t u : State) (rest : List ℕ) → Alike of_state s o → IsSteady s → IsSteady o → IsNext s e a t rest → IsStep mode.Replay o e b u → is_good u ≡ true → (IsStopped b → ⊥) → Begins rest (text b)
+      → (b ≡ a) × Alike of_state t u
+  ended_same s o e a b t u rest alike steady steady_too next step well runs begun = by (steps_alike mode.Replay s o e a b t u alike steady.opens steady.points steady_too.points next.step step next.good well next.runs runs)
+    where
+      by : AnswersAlike s o e a t b u → (b ≡ a) × Alike of_state t u
+      by (inl same) = (sym same.0, same.1)
+      by (inr (inl apart)) = absurd (no_part a b rest next.meets begun apart)
+      by (inr (inr (inl x))) = absurd (no_one a b rest next.meets begun x.0 x.1)
+      by (inr (inr (inr x))) = absurd (next.other x.0)
+
+  -- one that a device cut off is told by its line
+  cut_is_told : (s o : State) (e : Event) (a b : Answer) (t u : State) (rest : List ℕ) → Alike of_state o s → IsSteady s → IsSteady o → IsNext s e a t rest → IsStep mode.Replay o e b u → is_good u ≡ true → IsStopped b → Begins rest (text b) → ⊥
+  cut_is_told s o e a b t u rest alike steady steady_too next step well stop begun = by (cut_off_shows mode.Replay o s e b a u t alike steady_too.opens steady_too.points steady.points step next.step well next.good next.other next.runs)
+    where
+      told : IsFront b.notes a.notes → ⊥
+      told front =
+          let notes : list_all clean_notice b.notes ≡ true = front_clean b.notes a.notes front (left_of (list_all clean_notice a.notes) (clean_shown a.shown) next.clean) in
+          let clean : is_clean b ≡ true = rw notes (ap clean_shown stop) in
+          next.result (ap (λ (xs : List ℕ). slice_get (result_lines xs) 0) begun.1 ∙ result_of b begun.0 clean ∙ ap (λ (x : Shown). Some (result_line x)) stop)
+
+      by : AnswersAlike o s e b u a t ⊎ (IsStopped b × (IsFront b.notes a.notes ⊎ Parted b.notes a.notes)) → ⊥
+      by (inl (inl same)) = next.runs (subst IsStopped same.0 stop)
+      by (inl (inr (inl apart))) = no_part a b rest next.meets begun (turned_part b.notes a.notes apart)
+      by (inl (inr (inr (inl x)))) = no_one a b rest next.meets begun (sym x.0) (turned_one b.shown a.shown x.1)
+      by (inl (inr (inr (inr x)))) = next.other x.0
+      by (inr (h, inl front)) = told front
+      by (inr (h, inr apart)) = no_part a b rest next.meets begun (turned_part b.notes a.notes apart)
+
+  last_same : (s o : State) (e : Event) (a b : Answer) (t u : State) (rest : List ℕ) → Alike of_state s o → IsSteady s → IsSteady o → IsNext s e a t rest → IsStep mode.Replay o e b u → is_good u ≡ true → Begins rest (text b)
+      → (cut : Bool) → is_device b.shown ≡ cut → (b ≡ a) × Alike of_state t u
+  last_same s o e a b t u rest alike steady steady_too next step well begun true is = absurd (cut_is_told s o e a b t u rest (sym alike) steady steady_too next step well (stopped_so b is) begun)
+  last_same s o e a b t u rest alike steady steady_too next step well begun false is = ended_same s o e a b t u rest alike steady steady_too next step well (not_stopped b is) begun
+
+  -- no other run of one event more is accepted
+  pub only_next : (n : ℕ) (trace : List (Event × Answer)) (s : State) (rest : List ℕ) → IsFollowed events report clusters n trace s rest → n < length events → (e : Event) → take (suc n) events ≡ take n events ++ e ∷ []
+      → (a : Answer) (t : State) → IsNext s e a t rest → (more : List (Event × Answer)) (u : State) → Accepted events report clusters (suc n) more u → (more ≡ trace ++ (e, a) ∷ []) × Alike of_state t u
+  only_next n trace s rest f below e is_e a t next more u acc =
+      let l : LastOf more n = last_of more n (sym (length-map more event_of) ∙ ap (λ (es : List Event). length es) acc.events_are ∙ length-take-le (suc n) events acc.there) in
+      let acc' : Accepted events report clusters (suc n) (l.front ++ l.last ∷ []) u = subst (λ (xs : List (Event × Answer)). Accepted events report clusters (suc n) xs u) l.is acc in
+      let g : Front events report clusters n l.front l.last u = front_of events report clusters n l.front l.last u l.long acc' in
+      let same = f.only l.front g.mid g.accepted in
+      let event_is : l.last.0 ≡ e = last_event (map event_of l.front) (take n events) l.last.0 e g.accepted.events_are (sym (map-append event_of l.front (l.last ∷ [])) ∙ acc'.events_are ∙ is_e) in
+      let begun : Begins rest (text l.last.1) = goes_on report rest trace l.front l.last f.text_is (sym same.0) acc'.front in
+      let none : NoneStopped l.front = subst NoneStopped (sym same.0) f.none in
+      let step : IsStep mode.Replay g.mid e l.last.1 u = subst (λ (z : Event). IsStep mode.Replay g.mid z l.last.1 u) event_is g.step in
+      let begun_all : Begins report (texts (map answer_of (l.front ++ (e, l.last.1) ∷ []))) = subst (λ (z : Event). Begins report (texts (map answer_of (l.front ++ (z, l.last.1) ∷ [])))) event_is acc'.front in
+      let well : is_good u ≡ true = good_last most report clusters l.front e l.last.1 g.mid u g.runs none step next.other acc.kept begun_all short in
+      let steady_s : IsSteady s = steady events report clusters short trace s f.lawful f.none in
+      let steady_o : IsSteady g.mid = steady events report clusters short l.front g.mid g.runs none in
+      let last = last_same s g.mid e a l.last.1 t u rest same.1 steady_s steady_o next step well begun (is_device l.last.1.shown) refl in (
+        l.is ∙ ap (λ (fs : List (Event × Answer)). fs ++ l.last ∷ []) same.0 ∙ ap (λ (z : Event). trace ++ (z, l.last.1) ∷ []) event_is ∙ ap (λ (z : Answer). trace ++ (e, z) ∷ []) last.0,
+        last.1,
+      )

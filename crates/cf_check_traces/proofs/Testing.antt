@@ -1,0 +1,146 @@
+-- What the tests of a report tell.
+use Rattle.std.proofs.Common.{◌≡◌, ◌⊎◌, ◌&&◌, ◌==◌, not, ℕ, Bool, true, false, cond, List, [], ◌∷◌, ◌++◌, codes, drop, length, refl, sym, ◌∙◌, ap, subst, inl, inr, append_assoc}
+use Rattle.std.specs.List.{flat_map}
+use Rattle.std.proofs.lemmas.Bool.{eq-eqb, eqb-true}
+use Rattle.cf_base.specs.declared.answers.Answer.{Answer}
+use Rattle.cf_base.specs.declared.answers.Shown.{Shown}
+use Rattle.cf_base.specs.declared.answers.Shown.TheVariants as shown
+use Rattle.cf_base.specs.declared.codes.Code.TheVariants as code
+use Rattle.cf_base.specs.declared.notices.Frame.TheVariants as frame
+use Rattle.cf_base.specs.declared.notices.Notice.{Notice}
+use Rattle.cf_base.specs.declared.notices.Notice.TheVariants as notice
+use Rattle.cf_base.specs.declared.notices.Sent.{Sent}
+use Rattle.cf_report.specs.Texts.{notice_line, result_line}
+use Rattle.cf_check_model.specs.Reports.{Begins}
+use Rattle.cf_check_text.proofs.Clashes.{clash_no_meet, fault_or_message}
+use Rattle.cf_check_ways.specs.Ways.{is_fault, is_of_peer}
+use Rattle.cf_check_traces.specs.Decided.{IsStopped, MeetsFaults}
+use Rattle.cf_check_traces.specs.Tests.{begins, differs_plainly, fault_line_of_peer, is_device, meets_faults, meets_lines, meets_result, same_flag}
+use Rattle.cf_check_traces.proofs.Decisions.{fault_alone, the_fault}
+
+both : (a b : Bool) → (a && b) ≡ true → (a ≡ true) × (b ≡ true)
+both true b e = (refl, e)
+both false b e = let z : false ≡ true = e in absurd cc
+
+-- the test says that the text begins so
+
+pub begins_so : (front text : List ℕ) → begins front text ≡ true → Begins text front
+begins_so [] text h = (text, refl)
+begins_so (b ∷ bs) [] h = let z : false ≡ true = h in absurd cc
+begins_so (b ∷ bs) (c ∷ cs) h =
+    let x = both (b == c) (begins bs cs) h in
+    let rest = begins_so bs cs x.1 in
+    (rest.0, ap (λ (y : ℕ). y ∷ cs) (sym (eqb-true b c x.0)) ∙ ap (λ (ys : List ℕ). b ∷ ys) rest.1)
+
+pub begins_test : (front rest : List ℕ) → begins front (front ++ rest) ≡ true
+begins_test [] rest = refl
+begins_test (b ∷ bs) rest = rw (eq-eqb b b refl) (begins_test bs rest)
+
+pub begins_is : (front text : List ℕ) → Begins text front → begins front text ≡ true
+begins_is front text b = ap (begins front) b.1 ∙ begins_test front b.0
+
+dropped : (front rest : List ℕ) → drop (length front) (front ++ rest) ≡ rest
+dropped [] rest = refl
+dropped (b ∷ bs) rest = dropped bs rest
+
+-- a text that begins with the first and then the second goes on with the second after the first
+after_front : (front next text : List ℕ) → Begins text (front ++ next) → (begins front text ≡ true) × Begins (drop (length front) text) next
+after_front front next text b =
+    let is : text ≡ front ++ (next ++ b.0) = b.1 ∙ append_assoc front next b.0 in
+    (ap (begins front) is ∙ begins_test front (next ++ b.0), (b.0, ap (drop (length front)) is ∙ dropped front (next ++ b.0)))
+
+-- lines
+
+message : (s : Sent) → (begins (codes "- sent ") (notice_line (notice.Message s)) ≡ true) ⊎ (begins (codes "- lost ") (notice_line (notice.Message s)) ≡ true)
+message s = by s.lost
+  where
+    by : (lost : Bool) → (begins (codes "- sent ") (notice_line (notice.Message (record s { lost = lost }))) ≡ true) ⊎ (begins (codes "- lost ") (notice_line (notice.Message (record s { lost = lost }))) ≡ true)
+    by true = inr refl
+    by false = inl refl
+
+longer : (front whole text : List ℕ) → begins front whole ≡ true → Begins text whole → begins front text ≡ true
+longer front whole text h b =
+    let x = begins_so front whole h in begins_is front text (x.0 ++ b.0, b.1 ∙ ap (λ (ys : List ℕ). ys ++ b.0) x.1 ∙ append_assoc front x.0 b.0)
+
+not_here : (a b : Bool) → (not a && not b) ≡ true → (a ≡ true) ⊎ (b ≡ true) → ⊥
+not_here true b h k = let z : false ≡ true = h in absurd cc
+not_here false true h k = let z : false ≡ true = h in absurd cc
+not_here false false h (inl e) = let z : false ≡ true = e in absurd cc
+not_here false false h (inr e) = let z : false ≡ true = e in absurd cc
+
+fault_then : (m : ℕ) (s : Sent) (rest : List ℕ) (here : Bool) (more : Bool) → begins (notice_line (notice.Fault m)) rest ≡ here → cond here more (differs_plainly (notice.Fault m) rest) ≡ true → Begins rest (notice_line (notice.Message s)) → ⊥
+fault_then m s rest true more is h b = clash_no_meet (notice_line (notice.Fault m)) (notice_line (notice.Message s)) (fault_or_message m s) (rest, begins_so (notice_line (notice.Fault m)) rest is, b)
+fault_then m s rest false more is h b =
+    not_here (begins (codes "- sent ") rest) (begins (codes "- lost ") rest) h
+    (elim (message s) as (λ _. (begins (codes "- sent ") rest ≡ true) ⊎ (begins (codes "- lost ") rest ≡ true)) [ inl x ↦ inl (longer (codes "- sent ") (notice_line (notice.Message s)) rest x b) | inr x ↦ inr (longer (codes "- lost ") (notice_line (notice.Message s)) rest x b) ])
+
+message_then : (m : ℕ) (s : Sent) (rest : List ℕ) (here : Bool) (more : Bool) → begins (notice_line (notice.Message s)) rest ≡ here → cond here more (differs_plainly (notice.Message s) rest) ≡ true → Begins rest (notice_line (notice.Fault m)) → ⊥
+message_then m s rest true more is h b = clash_no_meet (notice_line (notice.Fault m)) (notice_line (notice.Message s)) (fault_or_message m s) (rest, b, begins_so (notice_line (notice.Message s)) rest is)
+message_then m s rest false more is h b =
+    let fault : begins (codes "- fault ") rest ≡ true = longer (codes "- fault ") (notice_line (notice.Fault m)) rest refl b in
+    let z : not true ≡ true = ap not (sym fault) ∙ h in
+    let bad : false ≡ true = z in absurd cc
+
+-- past the lines that both have
+past : (n : Notice) (ns : List Notice) (rest next : List ℕ) → meets_lines (n ∷ ns) rest ≡ true → Begins rest (notice_line n ++ next) → (meets_lines ns (drop (length (notice_line n)) rest) ≡ true) × Begins (drop (length (notice_line n)) rest) next
+past n ns rest next h b =
+    let x = after_front (notice_line n) next rest b in
+    (sym (ap (λ (c : Bool). cond c (meets_lines ns (drop (length (notice_line n)) rest)) (differs_plainly n rest)) x.0) ∙ h, x.1)
+
+no_message : (before after : List Notice) (m : ℕ) (s : Sent) (rest : List ℕ) → meets_lines (before ++ notice.Fault m ∷ after) rest ≡ true → Begins rest (flat_map notice_line before ++ notice_line (notice.Message s)) → ⊥
+no_message [] after m s rest h b = fault_then m s rest (begins (notice_line (notice.Fault m)) rest) (meets_lines after (drop (length (notice_line (notice.Fault m))) rest)) refl h b
+no_message (n ∷ before) after m s rest h b =
+    let b' : Begins rest (notice_line n ++ (flat_map notice_line before ++ notice_line (notice.Message s))) = (b.0, b.1 ∙ ap (λ (ys : List ℕ). ys ++ b.0) (append_assoc (notice_line n) (flat_map notice_line before) (notice_line (notice.Message s)))) in
+    let x = past n (before ++ notice.Fault m ∷ after) rest (flat_map notice_line before ++ notice_line (notice.Message s)) h b' in
+    no_message before after m s (drop (length (notice_line n)) rest) x.0 x.1
+
+no_failure : (before after : List Notice) (m : ℕ) (s : Sent) (rest : List ℕ) → meets_lines (before ++ notice.Message s ∷ after) rest ≡ true → Begins rest (flat_map notice_line before ++ notice_line (notice.Fault m)) → ⊥
+no_failure [] after m s rest h b = message_then m s rest (begins (notice_line (notice.Message s)) rest) (meets_lines after (drop (length (notice_line (notice.Message s))) rest)) refl h b
+no_failure (n ∷ before) after m s rest h b =
+    let b' : Begins rest (notice_line n ++ (flat_map notice_line before ++ notice_line (notice.Fault m))) = (b.0, b.1 ∙ ap (λ (ys : List ℕ). ys ++ b.0) (append_assoc (notice_line n) (flat_map notice_line before) (notice_line (notice.Fault m)))) in
+    let x = past n (before ++ notice.Message s ∷ after) rest (flat_map notice_line before ++ notice_line (notice.Fault m)) h b' in
+    no_failure before after m s (drop (length (notice_line n)) rest) x.0 x.1
+
+-- results
+
+same_so : (a b : Bool) → same_flag a b ≡ true → a ≡ b
+same_so true b h = sym h
+same_so false true h = let z : false ≡ true = h in absurd cc
+same_so false false h = refl
+
+told_result : (a b : Shown) (rest : List ℕ) → is_fault a ≡ begins fault_line_of_peer rest → is_of_peer b ≡ true → Begins rest (result_line b) → (fault : Bool) → is_fault b ≡ fault → is_fault a ≡ is_fault b
+told_result a b rest same of h true is =
+    same ∙ begins_is fault_line_of_peer rest (subst (λ (x : Shown). Begins rest (result_line x)) (the_fault b is) h) ∙ sym is
+told_result a b rest same of h false is = by (begins fault_line_of_peer rest) refl
+  where
+    by : (here : Bool) → begins fault_line_of_peer rest ≡ here → is_fault a ≡ is_fault b
+    by true e = absurd (fault_alone b of is (rest, begins_so fault_line_of_peer rest e, h))
+    by false e = same ∙ e ∙ sym is
+
+result_so : (a b : Answer) (rest : List ℕ) → meets_result a rest ≡ true → is_of_peer b.shown ≡ true → Begins rest (flat_map notice_line a.notes ++ result_line b.shown) → is_fault a.shown ≡ is_fault b.shown
+result_so a b rest h of begun =
+    let lines : List ℕ = flat_map notice_line a.notes in
+    let x = after_front lines (result_line b.shown) rest begun in
+    let test : same_flag (is_fault a.shown) (begins fault_line_of_peer (drop (length lines) rest)) ≡ true = sym (ap (λ (c : Bool). cond c (same_flag (is_fault a.shown) (begins fault_line_of_peer (drop (length lines) rest))) true) x.0) ∙ h in
+    told_result a.shown b.shown (drop (length lines) rest) (same_so (is_fault a.shown) (begins fault_line_of_peer (drop (length lines) rest)) test) of x.1 (is_fault b.shown) refl
+
+-- an answer that passes the test meets the faults that the report tells
+pub meets_so : (a : Answer) (rest : List ℕ) → meets_faults a rest ≡ true → MeetsFaults a rest
+meets_so a rest h =
+    let x = both (meets_lines a.notes rest) (meets_result a rest) h in record {
+      no_reply = λ before after m n r lost is b. no_message before after m (record { message = n; frame = frame.Reply m r; lost = lost }) rest (subst (λ (ns : List Notice). meets_lines ns rest ≡ true) is x.0) b;
+      no_fault = λ before after m n r lost is b. no_failure before after m (record { message = n; frame = frame.Reply m r; lost = lost }) rest (subst (λ (ns : List Notice). meets_lines ns rest ≡ true) is x.0) b;
+      result = λ b of begun. result_so a b rest x.1 of begun;
+    }
+
+-- whether an answer is that of a device that failed
+
+pub stopped_so : (a : Answer) → is_device a.shown ≡ true → IsStopped a
+stopped_so a h = the_device a.shown h
+  where
+    the_device : (s : Shown) → is_device s ≡ true → s ≡ shown.Refused code.Device
+    the_device (shown.Refused code.Device) h = refl
+    the_device _ h = let z : false ≡ true = h in absurd cc
+
+pub not_stopped : (a : Answer) → is_device a.shown ≡ false → IsStopped a → ⊥
+not_stopped a h is = let z : true ≡ false = sym (ap is_device is) ∙ h in absurd cc

@@ -1,0 +1,54 @@
+-- Tests of how a report goes on, beside an answer.
+use Rattle.std.specs.Prelude.{ℕ, Bool, true, false, not, cond, List, [], ◌∷◌, ◌==◌, ◌&&◌, codes, drop, length}
+use Rattle.std.specs.List.{flat_map}
+use Rattle.cf_base.specs.declared.answers.Answer.{Answer}
+use Rattle.cf_base.specs.declared.answers.Shown.{Shown}
+use Rattle.cf_base.specs.declared.answers.Shown.TheVariants as shown
+use Rattle.cf_base.specs.declared.codes.Code.{Code}
+use Rattle.cf_base.specs.declared.codes.Code.TheVariants as code
+use Rattle.cf_base.specs.declared.notices.Notice.{Notice}
+use Rattle.cf_base.specs.declared.notices.Notice.TheVariants as notice
+use Rattle.cf_check_ways.specs.Ways.{is_fault}
+use Rattle.cf_report.specs.Texts.{notice_line, result_line}
+
+-- the text begins with these bytes
+abbrev pub begins : List ℕ → List ℕ → Bool
+begins [] text = true
+begins (b ∷ bs) [] = false
+begins (b ∷ bs) (c ∷ cs) = (b == c) && begins bs cs
+
+-- where the report does not go on with the line, it does not go on with the other way that the remote may have taken
+abbrev pub differs_plainly : Notice → List ℕ → Bool
+differs_plainly (notice.Fault m) rest = not (begins (codes "- sent ") rest) && not (begins (codes "- lost ") rest)
+differs_plainly (notice.Message s) rest = not (begins (codes "- fault ") rest)
+differs_plainly _ rest = true
+
+abbrev pub meets_lines : List Notice → List ℕ → Bool
+meets_lines [] rest = true
+meets_lines (n ∷ ns) rest = cond (begins (notice_line n) rest) (meets_lines ns (drop (length (notice_line n)) rest)) (differs_plainly n rest)
+
+abbrev pub same_flag : Bool → Bool → Bool
+same_flag true b = b
+same_flag false b = not b
+
+abbrev pub fault_line_of_peer : List ℕ
+fault_line_of_peer = result_line (shown.Refused code.RemoteFault)
+
+-- after the lines of the answer the report goes on with RemoteFault where the answer is it, and only there
+abbrev pub meets_result : Answer → List ℕ → Bool
+meets_result a rest =
+    cond (begins (flat_map notice_line a.notes) rest)
+    (same_flag (is_fault a.shown) (begins fault_line_of_peer (drop (length (flat_map notice_line a.notes)) rest)))
+    true
+
+abbrev pub meets_faults : Answer → List ℕ → Bool
+meets_faults a rest = meets_lines a.notes rest && meets_result a rest
+
+-- the result is that of a device that failed
+abbrev pub is_device_code : Code → Bool
+is_device_code code.Device = true
+is_device_code _ = false
+
+abbrev pub is_device : Shown → Bool
+is_device (shown.Refused c) = is_device_code c
+is_device _ = false
