@@ -17,3 +17,4 @@ mod targets;
 mod turn_lists;
 
 pub use feeds::apply_feed;
+pub use targets::walk_item;

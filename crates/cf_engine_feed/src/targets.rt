@@ -44,8 +44,9 @@ fn is_parent_of(row: &Row, rid: Rid) -> Result<bool, OutOfMemory>
     Ok(same && row.dir && row.populated)
 }
 
-// The first item by id that the item of the remote is, row by row.
-fn walk_item(rows: &[Row], rid: Rid) -> Result<Option<ItemId>, OutOfMemory>
+/// The first item by id that the item of the remote is, row by row. It takes time by the rows, and no memory: it is out of memory only where
+/// no engine gave an identity.
+pub fn walk_item(rows: &[Row], rid: Rid) -> Result<Option<ItemId>, OutOfMemory>
     ensures { IfOk result (IsFirst (λ i. has_target i rid) rows.now) }
 {
     for row in rows {

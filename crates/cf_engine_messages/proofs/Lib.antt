@@ -1,4 +1,5 @@
 pub mod Entered
+pub mod KnownItems
 pub mod Operated
 pub mod PathRecords
 pub mod RepliesTaken

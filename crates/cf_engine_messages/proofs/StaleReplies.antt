@@ -1,6 +1,7 @@
 -- Whether a reply is stale, by what is read of the filter and of the engine's own.
 use Rattle.std.proofs.Common.{◌≡◌, ℕ, Bool, true, false, not, List, [], ◌&&◌, ◌||◌, ◌==◌, refl, sym, ◌∙◌, ap, subst}
 use Rattle.std.specs.Prelude.{Result, Ok, Err, IfOk, Option, Some, None, is_some, nat_le, option_map}
+use Rattle.cf_base.specs.declared.ids.ItemId.{ItemId}
 use Rattle.cf_base.specs.declared.ids.Key.{Key}
 use Rattle.cf_base.specs.declared.ids.Rid.{Rid}
 use Rattle.cf_base.specs.declared.ids.Round.{Round}
@@ -12,8 +13,10 @@ use Rattle.cf_base.specs.declared.messages.Reply.TheVariants as reply
 use Rattle.cf_base.specs.declared.messages.Request.{Request}
 use Rattle.cf_base.specs.declared.messages.Request.TheVariants as request
 use Rattle.cf_base.specs.declared.waits.Ask.{Ask}
+use Rattle.cf_engine_feed.specs.Targets.{IsFirst}
 use Rattle.cf_engine_host.specs.Readings.{epoch_of}
-use Rattle.cf_engine_messages.specs.Staleness.{fits_in, fits_with, is_ended_in, is_feed_over, is_idle_in, is_old_now, is_unlisted_in, needs_items, rid_under, settled_token}
+use Rattle.cf_engine_messages.specs.Staleness.{fits_in, fits_with, has_entries, is_ended_in, is_feed_over, is_here, is_idle_in, is_old_now, is_one_of, is_unlisted_in, made_item, rid_under, settled_token}
+use Rattle.cf_engine_messages.proofs.KnownItems.{found_is_known}
 use Rattle.cf_engine_messages.proofs.Unread.{unread}
 use Rattle.cf_engine_provider.specs.Listings.{AreAlike, known_in}
 use Rattle.cf_engine_provider.proofs.FitsAlike.{fits_alike}
@@ -22,6 +25,7 @@ use Rattle.cf_engine_steps.specs.BookReads.{cursor_in, entry_in, has_entries_in,
 use Rattle.cf_engine_steps.specs.States.{Own, whole}
 use Rattle.cf_model.specs.Books.{QueueEntry}
 use Rattle.cf_model.specs.Fits.{Known, fits}
+use Rattle.cf_model.specs.Identities.{has_target}
 use Rattle.cf_model.specs.Items.{Item}
 use Rattle.cf_model.specs.Messages.{is_old, is_stale, known_now, settled_rid}
 use Rattle.cf_model.specs.Numbers.{no_rid}
@@ -67,8 +71,24 @@ module _ {X : Type 0} (S : steps.Sense X) (x : X) where
     pub by_items : steps.Reads S steps.Any (fits_with rid q r) x b → steps.Reads S steps.Any (fits_in q r) x b
     by_items reads = record { is = λ s m a. reads.is s m a ∙ about s m }
 
-    pub without_items : (c : Bool) → c ≡ needs_items q rid r → c ≡ false → b ≡ fits [] rid q r → steps.Reads S steps.Any (fits_in q r) x b
-    without_items c needs none fit = record { is = λ s m a. fit ∙ unread [] (known_in s.volume.items) rid q r (sym needs ∙ none) ∙ about s m }
+  -- replies without entries
+
+  pub here_some : (t : Table) (made : Option Rid) (rid : Rid) (found : Option ItemId) (b : Bool) → HasRows S x t → IsFirst (λ i. has_target i rid) t.rows found → b ≡ is_some found → made ≡ Some rid → steps.Reads S steps.Any (is_here made) x b
+  here_some t made rid found b rows first told is = record {
+    is = λ s m a. told ∙ ap is_some (first s.volume.items (rows.rows s m)) ∙ found_is_known s.volume.items rid ∙ ap (is_one_of (known_in s.volume.items)) (sym is);
+  }
+
+  pub here_none : (made : Option Rid) → made ≡ None → steps.Reads S steps.Any (is_here made) x false
+  here_none made is = record { is = λ s m a. ap (is_one_of (known_in s.volume.items)) (sym is) }
+
+  module _ (rid : Rid) (q : Request) (r : Reply) (b : Bool) (bare : has_entries r ≡ false) (fit : b ≡ fits [] rid q r) where
+    pub unfit_too : b ≡ false → steps.Reads S steps.Any (fits_with rid q r) x false
+    unfit_too miss = record { is = λ s m a. sym (unread (known_in s.volume.items) rid q r bare ∙ ap (λ (c : Bool). c && not (is_here (made_item q rid r) s)) (sym fit ∙ miss)) }
+
+    pub fits_unless : (made : Option Rid) (here : Bool) → b ≡ true → made ≡ made_item q rid r → steps.Reads S steps.Any (is_here made) x here → steps.Reads S steps.Any (fits_with rid q r) x (not here)
+    fits_unless made here hit is reads = record {
+      is = λ s m a. ap not (reads.is s m a ∙ ap (λ (o : Option Rid). is_here o s) is) ∙ sym (unread (known_in s.volume.items) rid q r bare ∙ ap (λ (c : Bool). c && not (is_here (made_item q rid r) s)) (sym fit ∙ hit));
+    }
 
   -- asks and uploads
 

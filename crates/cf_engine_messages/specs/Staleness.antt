@@ -1,5 +1,5 @@
 -- What is read to tell whether a reply is stale.
-use Rattle.std.specs.Prelude.{◌==◌, ◌&&◌, ◌||◌, ℕ, Bool, true, false, not, Option, Some, None, is_some, nat_le}
+use Rattle.std.specs.Prelude.{◌==◌, ◌&&◌, ◌||◌, ℕ, Bool, true, false, not, cond, List, Option, Some, None, is_some, nat_le}
 use Rattle.std.specs.List.{list_any}
 use Rattle.cf_base.specs.declared.ids.Key.{Key}
 use Rattle.cf_base.specs.declared.ids.Rid.{Rid}
@@ -10,7 +10,7 @@ use Rattle.cf_base.specs.declared.messages.Request.{Request}
 use Rattle.cf_base.specs.declared.messages.Request.TheVariants as request
 use Rattle.cf_engine_provider.specs.Listings.{known_in}
 use Rattle.cf_model.specs.Books.{entry_of}
-use Rattle.cf_model.specs.Fits.{fits}
+use Rattle.cf_model.specs.Fits.{Known, fits, is_known}
 use Rattle.cf_model.specs.Messages.{is_old}
 use Rattle.cf_model.specs.Numbers.{no_rid}
 use Rattle.cf_model.specs.PushReplies.{is_new_entry}
@@ -45,12 +45,25 @@ is_new (request.Settle token) settled = settled.0 == 0
 is_new (request.Keep token count) settled = false
 is_new _ settled = true
 
--- the items that are here can tell that the reply does not fit
-abbrev pub needs_items : Request → Rid → Reply → Bool
-needs_items q settled (reply.Feed round clock es) = true
-needs_items q settled (reply.Listing key es) = true
-needs_items q settled (reply.Done token rid version) = is_new q settled
-needs_items q settled _ = false
+-- the reply has entries, which may be of items that are here
+abbrev pub has_entries : Reply → Bool
+has_entries (reply.Feed round clock es) = true
+has_entries (reply.Listing key es) = true
+has_entries _ = false
+
+-- the item that an upload made anew
+abbrev pub made_item : Request → Rid → Reply → Option Rid
+made_item q settled (reply.Done token rid version) = cond (is_new q settled) (Some rid) None
+made_item q settled _ = None
+
+-- one of the known items is this one, if there is one
+abbrev pub is_one_of : List Known → Option Rid → Bool
+is_one_of ks None = false
+is_one_of ks (Some rid) = is_known ks rid
+
+-- a local item is this item of the remote, if there is one
+abbrev pub is_here : Option Rid → Filter → Bool
+is_here made s = is_one_of (known_in s.volume.items) made
 
 -- no ask with the key is live
 abbrev pub is_idle_in : Key → Filter → Bool

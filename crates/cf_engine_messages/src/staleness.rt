@@ -1,15 +1,16 @@
 //! Whether a reply is stale.
 
-ghost use Rattle.std.specs.Prelude.{◌≡◌, ◌||◌, IfOk, List};
+ghost use Rattle.std.specs.Prelude.{◌≡◌, ◌||◌, IfOk, List, false};
 ghost use Rattle.cf_base.specs.declared.messages.Entry.{Entry};
 ghost use Rattle.cf_base.specs.declared.messages.Reply.TheVariants as reply;
-ghost use Rattle.cf_engine_messages.specs.Staleness.{fits_in, fits_with, is_ended_in, is_feed_over, is_idle_in, is_new, is_old_now, is_unlisted_in, needs_items, rid_under, settled_token};
+ghost use Rattle.cf_engine_messages.specs.Staleness.{fits_in, fits_with, has_entries, is_ended_in, is_feed_over, is_here, is_idle_in, is_new, is_old_now, is_unlisted_in, made_item, rid_under, settled_token};
 ghost use Rattle.cf_engine_steps.specs.Answering.{Any, Reads};
 ghost use Rattle.cf_engine_steps.specs.States.{whole};
 ghost use Rattle.cf_model.specs.Messages.{is_stale};
 ghost use Rattle.cf_filter_steps.specs.Answering.{Any as AnyFilter, Reads as FilterReads};
 
 use cf_base::{Key, OutOfMemory, Reply, Request, Rid, Round, Token};
+use cf_engine_feed::walk_item;
 use cf_engine_host::EngineHost;
 use cf_engine_provider::locals_of;
 use cf_engine_steps::{Engine, cursor, has_entries, has_new_entry, live_entry};
@@ -54,20 +55,46 @@ fn is_new(request: &Request, settled: Rid) -> bool
     }
 }
 
-// Whether the items that are here can tell that the reply does not fit: of a feed and of a listing, and of the item that an upload made.
-fn needs_items(request: &Request, settled: Rid, reply: &Reply) -> bool
-    ensures { result ≡ needs_items request.now settled reply.now }
+// Whether the reply has entries, which may be of items that are here.
+fn has_reply_entries(reply: &Reply) -> bool
+    ensures { result ≡ has_entries reply.now }
 {
     match reply {
         Reply::Feed { .. } => true,
         Reply::Listing { .. } => true,
-        Reply::Done { .. } => is_new(request, settled),
         _ => false,
     }
 }
 
-// It takes time by the items.
-fn fits_items<S: EngineHost>(
+// The item that an upload made anew, by its reply.
+fn made_item(request: &Request, settled: Rid, reply: &Reply) -> Option<Rid>
+    ensures { result ≡ made_item request.now settled reply.now }
+{
+    match reply {
+        Reply::Done { rid, .. } => {
+            if is_new(request, settled) {
+                Some(*rid)
+            } else {
+                None
+            }
+        }
+        _ => None,
+    }
+}
+
+// Whether a local item is this item of the remote, if there is one. It takes time by the items.
+fn is_here<S: EngineHost>(s: &S, made: Option<Rid>) -> Result<bool, OutOfMemory>
+    ensures { IfOk result (λ x. FilterReads S.sense AnyFilter (is_here made) s.now x) }
+{
+    let Some(rid) = made else {
+        return Ok(false);
+    };
+    let found = walk_item(s.rows().as_slice(), rid)?;
+    Ok(found.is_some())
+}
+
+// Whether a reply with entries fits. It takes time by the items, as sorting does at most.
+fn entries_fit<S: EngineHost>(
     s: &S,
     settled: Rid,
     request: &Request,
@@ -80,16 +107,33 @@ fn fits_items<S: EngineHost>(
     Ok(fitting)
 }
 
+// Whether a reply without entries fits: all that the items can tell is that an upload made none of those that are here.
+fn other_fits<S: EngineHost>(
+    s: &S,
+    settled: Rid,
+    request: &Request,
+    reply: &Reply,
+) -> Result<bool, OutOfMemory>
+    requires { has_entries reply.now ≡ false }
+    ensures { IfOk result (λ x. FilterReads S.sense AnyFilter (fits_with settled request.now reply.now) s.now x) }
+{
+    let fitting = fits(s.alloc(), &NoItems, settled, request, reply)?;
+    if !fitting {
+        return Ok(false);
+    }
+    let here = is_here(s, made_item(request, settled, reply))?;
+    Ok(!here)
+}
+
 // Whether the reply fits the request.
 fn reply_fits<S: EngineHost>(s: &S, request: &Request, reply: &Reply) -> Result<bool, OutOfMemory>
     ensures { IfOk result (λ x. FilterReads S.sense AnyFilter (fits_in request.now reply.now) s.now x) }
 {
     let settled = rid_under(s, settled_token(request))?;
-    if needs_items(request, settled, reply) {
-        return fits_items(s, settled, request, reply);
+    if has_reply_entries(reply) {
+        return entries_fit(s, settled, request, reply);
     }
-    let fitting = fits(s.alloc(), &NoItems, settled, request, reply)?;
-    Ok(fitting)
+    other_fits(s, settled, request, reply)
 }
 
 // Whether no ask with the key is live.
@@ -174,7 +218,7 @@ fn either(unfit: bool, old: bool) -> bool
 /// Whether a reply does not fit the request that it answers, or nothing waits for it any more: its key or token is not live; it is a
 /// listing while an item that is new to the remote is on its way there; or it is a feed that is not of the latest round, whose round was
 /// closed, that is older than the cursor, or that came while an upload was on its way. It takes time by the entries of the reply as sorting
-/// does at most; of a feed, of a listing and of the item that an upload made also by the items.
+/// does at most; of a feed and of a listing also by the items so, and of the item that an upload made by the items.
 pub fn is_stale<S: EngineHost, R: Remote>(
     s: &S,
     e: &Engine<R>,
