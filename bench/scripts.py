@@ -2,6 +2,12 @@
 
 BLOCK = 4096
 FILES = 200
+DIGITS = "0123456789abcdefghijklmnopqrstuvwxyz"
+
+
+def short(n):
+    """The name of file n, in three digits, so that a volume has room for 9,999 files that have identities and paths seen."""
+    return DIGITS[n // 1296] + DIGITS[n // 36 % 36] + DIGITS[n % 36]
 
 
 # Scripts of `replay`
@@ -56,18 +62,30 @@ def mirrored(count):
     yield "sync"
 
 
+def created(count):
+    """`count` new files that are synced."""
+    yield from (f"create /{short(n)}" for n in range(count))
+    yield "sync"
+
+
+def renamed(count):
+    """`count` files that are synced, moved, and synced."""
+    yield from created(count)
+    yield from (f"rename /{short(n)} /{short(n)}x" for n in range(count))
+    yield "sync"
+
+
 def fed(count):
     """`count` files that another device put, synced, and changed by it, and synced."""
-    yield from (f"peer put /file-{n} {n % 256:02x}" for n in range(count))
+    yield from (f"peer put /{short(n)} {n % 256:02x}" for n in range(count))
     yield "sync"
-    yield from (f"peer put /file-{n} {n % 256:02x}00" for n in range(count))
+    yield from (f"peer put /{short(n)} {n % 256:02x}00" for n in range(count))
     yield "sync"
 
 
 def idle(count):
     """60 syncs with nothing to do over `count` files."""
-    yield from (f"create /file-{n}" for n in range(count))
-    yield "sync"
+    yield from created(count)
     yield from ("sync" for _ in range(60))
 
 
@@ -204,8 +222,10 @@ CASES = [
     ("replay", large, 16_000_000),
     ("replay", put_back, 16_777_216),
     ("replay", mirrored, 8_000),
-    ("replay", fed, 8_000),
-    ("replay", idle, 8_000),
+    ("replay", created, 9_999),
+    ("replay", renamed, 9_999),
+    ("replay", fed, 9_999),
+    ("replay", idle, 9_999),
     ("replay", waiting, 1_024),
     ("replay", apart, 1_024),
     ("filter", users, 90_000),
