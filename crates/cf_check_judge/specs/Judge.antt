@@ -12,11 +12,14 @@ use Rattle.cf_base.specs.declared.events.EngineEvent.TheVariants as engine
 use Rattle.cf_base.specs.declared.events.Event.{Event}
 use Rattle.cf_base.specs.declared.events.Event.TheVariants as event
 use Rattle.cf_base.specs.declared.policies.Mode.TheVariants as mode
+use Rattle.cf_check_traces.specs.Tests.{begins, is_device, meets_faults}
+use Rattle.cf_check_text.specs.Clean.{is_clean}
+use Rattle.cf_check_ways.specs.Ways.{is_good}
 use Rattle.cf_check_judge.specs.Books.{same_books, same_bytes}
 use Rattle.cf_check_model.specs.Reports.{device_line, lines_of, result_lines}
 use Rattle.cf_check_model.specs.declared.verdicts.Verdict.{Verdict}
 use Rattle.cf_check_model.specs.declared.verdicts.Verdict.TheVariants.{Lawful, Unlawful, Undecided}
-use Rattle.cf_model.specs.Events.{begun, on_event}
+use Rattle.cf_model.specs.Events.{begun, is_of, on_event}
 use Rattle.cf_model.specs.Numbers.{most}
 use Rattle.cf_model.specs.Restarts.{epoch_after, resumed, with_opened}
 use Rattle.cf_model.specs.State.{Off, Point, Power, State, start}
@@ -26,11 +29,6 @@ use Rattle.cf_model.specs.Words.{counting, is_empty}
 use Rattle.cf_report.specs.Texts.{result_line, text}
 
 -- texts
-
-abbrev pub begins : List ℕ → List ℕ → Bool
-begins [] text = true
-begins (b ∷ bs) [] = false
-begins (b ∷ bs) (c ∷ cs) = (b == c) && begins bs cs
 
 abbrev pub is_line : List ℕ → Option (List ℕ) → Bool
 is_line expected None = false
@@ -122,11 +120,12 @@ is_told rest p = begins (result_line (resumed p)) rest
 abbrev pub told_points : List ℕ → Followed → List Point
 told_points rest f = filter (is_told rest) (points_known f)
 
--- one step of the judge: it goes on, or it says where the report goes wrong, or that nothing can be said
+-- one step of the judge: it goes on, or it says where the report goes wrong, or that nothing can be said, or it gives up
 pub data Judged : Type 0 where
   GoesOn : Followed → List ℕ → Judged
   Wrong : Judged
   Open : Judged
+  Lost : Judged
 
 abbrev pub opened : List ℕ → Followed → Point → Judged
 opened rest f p =
@@ -147,27 +146,50 @@ abbrev pub opens_volume : Event → State → Bool
 opens_volume (event.Device device.Restart) s = is_off s.power && not (nat_lt most (epoch_after 0 s))
 opens_volume _ s = false
 
-abbrev pub matched : Bool → List ℕ → Answer → Followed → Judged
-matched true rest a f = GoesOn f (drop (length (text a)) rest)
-matched false rest a f = Wrong
+-- What is tested of an answer before the report is held against it. It passes in every run that keeps to what the report tells;
+-- where it did not, the judge gives up.
+abbrev pub may_judge : State → Answer → List ℕ → Bool
+may_judge t a rest = is_good t && not (is_device a.shown) && is_clean a && meets_faults a rest
 
--- an event that is no restart of a volume that is off
+abbrev pub matched : (tested same : Bool) → List ℕ → Answer → Followed → Judged
+matched false same rest a f = Lost
+matched true true rest a f = GoesOn f (drop (length (text a)) rest)
+matched true false rest a f = Wrong
+
+-- the event, with what the report tells of the remote
+abbrev pub event_told : Event → List ℕ → State → State × Answer
+event_told e rest s = on_event (with_room_at (tellings_for e rest) []) s e
+
+-- an event that opens no volume
 abbrev pub followed : Event → List ℕ → Followed → Judged
 followed e rest f =
-    let tellings : List Telling = tellings_for e rest in
-    let r : State × Answer = on_event (with_room_at tellings []) f.state e in
-    matched (begins (text r.1) rest) rest r.1 (record { state = r.0; rooms = kept_points f.state r.0 f.rooms ++ room_points f.state r.0 e tellings })
+    let r : State × Answer = event_told e rest f.state in
+    matched (may_judge r.0 r.1 rest) (begins (text r.1) rest) rest r.1 (record { state = r.0; rooms = kept_points f.state r.0 f.rooms ++ room_points f.state r.0 e (tellings_for e rest) })
 
--- an event, by how the report goes on
+abbrev pub step_by : (device of opens : Bool) → Event → List ℕ → Followed → Judged
+step_by true of opens e rest f = Open
+step_by false false opens e rest f = Wrong
+step_by false true true e rest f = opened_from rest f (told_points rest f)
+step_by false true false e rest f = followed e rest f
+
+-- an event, by how the report goes on; one of a provider has no lawful answer here
 abbrev pub judge_step : Event → List ℕ → Followed → Judged
-judge_step e rest f =
-    cond (is_line device_line (first_result rest)) Open
-    (cond (opens_volume e f.state) (opened_from rest f (told_points rest f)) (followed e rest f))
+judge_step e rest f = step_by (is_line device_line (first_result rest)) (is_of mode.Replay e) (opens_volume e f.state) e rest f
 
--- the whole: so many events are done
-abbrev pub judge_from : ℕ → List Event → List ℕ → Followed → Verdict
-judge_from done [] rest f = cond (is_empty rest) Lawful (Unlawful done)
-judge_from done (e ∷ es) rest f = elim (judge_step e rest f) as (λ _. Verdict) [ GoesOn g more ↦ judge_from (done + 1) es more g | Wrong ↦ Unlawful (done + 1) | Open ↦ Undecided (done + 1) ]
+abbrev pub at_end : Bool → ℕ → Verdict
+at_end true done = Lawful
+at_end false done = Unlawful done
 
-abbrev pub judge : List Event → List ℕ → ℕ → Verdict
+-- the whole: so many events are done; none where the judge gives up
+abbrev pub judge_from : ℕ → List Event → List ℕ → Followed → Option Verdict
+judge_from done [] rest f = Some (at_end (is_empty rest) done)
+judge_from done (e ∷ es) rest f =
+    elim (judge_step e rest f) as (λ _. Option Verdict) [
+      | GoesOn g more ↦ judge_from (done + 1) es more g
+      | Wrong ↦ Some (Unlawful (done + 1))
+      | Open ↦ Some (Undecided (done + 1))
+      | Lost ↦ None
+    ]
+
+abbrev pub judge : List Event → List ℕ → ℕ → Option Verdict
 judge events report clusters = judge_from 0 events report (record { state = start mode.Replay empty_remote clusters; rooms = [] })

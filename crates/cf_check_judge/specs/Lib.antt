@@ -1,3 +1,4 @@
 pub mod Books
 pub mod Judge
 pub mod Rows
+pub mod Scripts

@@ -1,9 +1,12 @@
 //! A judge of a report, as definitions that compute: it follows one run, event by event, by what the report tells of what the
-//! rules leave open.
+//! rules leave open. What verdict it gives is right; it gives none where an answer of its own run fails a test, which shows that
+//! it lost the report's way.
 #![tactic(auto)]
 
+mod laws;
 mod rows;
 
+pub use laws::the_judge_is_right_without_restarts;
 pub use rows::{
     a_changed_report_is_found, a_failed_device_is_told, a_failing_remote_is_followed,
     a_lawful_report_is_found, a_restart_is_followed,

@@ -1,6 +1,6 @@
 //! Worked reports.
 
-ghost use Rattle.std.specs.Prelude.{◌≡◌, ◌++◌, codes};
+ghost use Rattle.std.specs.Prelude.{◌≡◌, ◌++◌, Some, codes};
 ghost use Rattle.cf_check_judge.specs.Judge.{judge};
 ghost use Rattle.cf_check_judge.specs.Rows.{before_restart, failing, failing_report, flushed};
 ghost use Rattle.cf_check_model.specs.Reports.{device_line};
@@ -9,28 +9,28 @@ ghost use Rattle.cf_check_model.specs.declared.verdicts.Verdict.TheVariants.{Law
 
 /// The report of a script is lawful.
 pub fn a_lawful_report_is_found()
-    ensures { judge inline_read read_report 15616 ≡ Lawful }
+    ensures { judge inline_read read_report 15616 ≡ Some Lawful }
 {}
 
 /// A report with another last line, one that lacks it, and one with a line more are unlawful at the last event.
 pub fn a_changed_report_is_found()
-    ensures changed { judge inline_read changed_report 15616 ≡ Unlawful 4 }
-    ensures cut { judge inline_read before_last 15616 ≡ Unlawful 4 }
-    ensures longer { judge inline_read (read_report ++ line (codes "= ok")) 15616 ≡ Unlawful 4 }
+    ensures changed { judge inline_read changed_report 15616 ≡ Some (Unlawful 4) }
+    ensures cut { judge inline_read before_last 15616 ≡ Some (Unlawful 4) }
+    ensures longer { judge inline_read (read_report ++ line (codes "= ok")) 15616 ≡ Some (Unlawful 4) }
 {}
 
 /// From the answer of a device that failed on nothing is said.
 pub fn a_failed_device_is_told()
-    ensures { judge inline_read (before_last ++ device_line) 15616 ≡ Undecided 4 }
+    ensures { judge inline_read (before_last ++ device_line) 15616 ≡ Some (Undecided 4) }
 {}
 
 /// A restart keeps what was flushed, and may keep no more where no commit was made for it.
 pub fn a_restart_is_followed()
-    ensures kept { judge flushed (before_restart ++ line (codes "= resumed 1")) 15616 ≡ Lawful }
-    ensures more { judge flushed (before_restart ++ line (codes "= resumed 2")) 15616 ≡ Unlawful 5 }
+    ensures kept { judge flushed (before_restart ++ line (codes "= resumed 1")) 15616 ≡ Some Lawful }
+    ensures more { judge flushed (before_restart ++ line (codes "= resumed 2")) 15616 ≡ Some (Unlawful 5) }
 {}
 
 /// Where the report tells that the remote failed, it did.
 pub fn a_failing_remote_is_followed()
-    ensures { judge failing failing_report 15616 ≡ Lawful }
+    ensures { judge failing failing_report 15616 ≡ Some Lawful }
 {}
