@@ -36,6 +36,7 @@ pub mod RightTargets
 pub mod RoundsTaken
 pub mod SettledItems
 pub mod SettlesTold
+pub mod SyncsCalm
 pub mod TakenKnown
 pub mod TargetsHere
 pub mod TidyDepths

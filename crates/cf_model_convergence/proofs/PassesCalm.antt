@@ -42,11 +42,11 @@ use Rattle.cf_model_convergence.proofs.PlacedItems.{placed_dirs}
 use Rattle.cf_model_convergence.proofs.PushesCalm.{calm_settled, calm_whole}
 use Rattle.cf_model_convergence.proofs.QuietPasses.{agreed_settled, here_settled, kept_agreed}
 
-heard_before : (s m t : State) → In s.filter m.filter → IsHeard m t → IsHeard s t
+pub heard_before : (s m t : State) → In s.filter m.filter → IsHeard m t → IsHeard s t
 heard_before s m t k z = heard_after s m t k.lines k.noted z
 
 -- whatever holds where the uploads behind the feed report nothing
-pass_heard : (Q : State → Type 0) (s : State) (u : Unit {0}) (t : State)
+pub pass_heard : (Q : State → Type 0) (s : State) (u : Unit {0}) (t : State)
     → ((m n : State) → Invariant m → Invariant n → IsFair m.link → IsFair n.link → IsListening n → (book_now m).entries ≡ [] → IsSettledTo [] s m → IsFed m n → EndsFairly (push_all n) u t → IsHeard n t ⊎ Q t)
     → Invariant s → IsFair s.link → IsListening s → IsAgreed s → EndsFairly (pass s) u t → no_number t ≡ false → IsHeard s t ⊎ Q t
 pass_heard Q s u t last h fair listening agreed ends left = settled (settles_told s x.0 x.1 h fair listening x.2 left_m) where
@@ -97,16 +97,16 @@ pass_heard Q s u t last h fair listening agreed ends left = settled (settles_tol
 
 -- what hydrations need stays
 
-open_settled : (s m : State) → IsSettledTo [] s m → IsOpenTo s → IsOpenTo m
+pub open_settled : (s m : State) → IsSettledTo [] s m → IsOpenTo s → IsOpenTo m
 open_settled s m k h = subst (λ (f : Filter). IsOpenTo (record m { filter = f })) (sym k.filter) (record { connected = h.connected; waits = h.waits; boxed = h.boxed })
 
-open_fed : (m n : State) → IsFed m n → IsOpenTo m → IsOpenTo n
+pub open_fed : (m n : State) → IsFed m n → IsOpenTo m → IsOpenTo n
 open_fed m n k h = subst (λ (f : Filter). IsOpenTo (record n { filter = f })) (sym k.filter) (record { connected = h.connected; waits = h.waits; boxed = h.boxed })
 
-dirs_alike : (s n : State) → items_now n ≡ items_now s → AreDirs s → AreDirs n
+pub dirs_alike : (s n : State) → items_now n ≡ items_now s → AreDirs s → AreDirs n
 dirs_alike s n e h i p below up = h i p (subst (λ (is : List Item). item_of is i.id ≡ Some i) e below.0, below.1) (subst (λ (is : List Item). item_of is i.parent ≡ Some p) e up)
 
-same_items : (s m n : State) → IsSettledTo [] s m → IsFed m n → items_now n ≡ items_now s
+pub same_items : (s m n : State) → IsSettledTo [] s m → IsFed m n → items_now n ≡ items_now s
 same_items s m n k fed = ap (λ (f : Filter). f.volume.items) fed.filter ∙ ap (λ (f : Filter). f.volume.items) k.filter
 
 pub pass_calm : (s : State) (u : Unit {0}) (t : State) → Invariant s → IsFair s.link → IsListening s → IsOpenTo s → AreDirs s → IsAgreed s → EndsFairly (pass s) u t → no_number t ≡ false → IsHeard s t ⊎ (is_settled false t ≡ true)

@@ -92,10 +92,10 @@ aside_later s t i k (inl e) = inl (left_later s t i k e)
 aside_later s t i k (inr (inl e)) = inr (inl (record { target = e.target; stands = stands_later s t i k e.stands; clean = e.clean; in_sync = e.in_sync }))
 aside_later s t i k (inr (inr e)) = inr (inr (k.hydrating i.id e))
 
-fair_calm : (s t : State) → IsCalm s t → IsFair s.link → IsFair t.link
+pub fair_calm : (s t : State) → IsCalm s t → IsFair s.link → IsFair t.link
 fair_calm s t k fair = (k.honest ∙ fair.0, subst IsSmall (sym k.remote) fair.1)
 
-listens_calm : (s t : State) → IsCalm s t → IsListening s → IsListening t
+pub listens_calm : (s t : State) → IsCalm s t → IsListening s → IsListening t
 listens_calm s t k l = record { inline = k.inline ∙ l.inline; shows = k.shows ∙ l.shows }
 
 -- one item
@@ -205,6 +205,7 @@ turns_calm (id ∷ ids) s u t h fair listening ready ends left = by (turn_calm i
 
 pub record IsIdleTo (s t : State) : Type 0 where
   pub calm : IsCalm s t
+  pub ready : IsOpenTo t
   pub idle : IsIdle t t
 
 pub pushes_calm : (s : State) (u : Unit {0}) (t : State) → Invariant s → IsFair s.link → IsListening s → IsOpenTo s → EndsFairly (push_all s) u t → HasNumbers t → IsHeard s t ⊎ IsIdleTo s t
@@ -229,6 +230,7 @@ pushes_calm s u t h fair listening ready ends left =
       idle c (inl z) = inl z
       idle c (inr z) = inr (record {
         calm = z.calm;
+        ready = z.ready;
         idle = record {
           same = refl;
           tombstones = subst (All (λ x. is_tombstone_left_out t x ≡ true)) (sym z.calm.tombstones) (all_weaker (λ x. is_tombstone_left_out s x ≡ true) (λ x. is_tombstone_left_out t x ≡ true) (λ x y. buried_later s t x z.calm y) ts c);
@@ -244,7 +246,7 @@ pushes_calm s u t h fair listening ready ends left =
 
 -- what was ready still is
 
-ready_calm : (s t : State) → IsCalm s t → AreDirs s → IsReady s → IsReady t
+pub ready_calm : (s t : State) → IsCalm s t → AreDirs s → IsReady s → IsReady t
 ready_calm s t k dirs r = record {
   tidy = subst IsTidy (sym k.remote) r.tidy;
   tree = λ i below. subst (λ (is : List Item). (p : Item) × (item_of is i.parent ≡ Some p) × (item_line is i.id ≡ i.id.0 ∷ item_line is p.id)) (sym k.items) (r.tree i (under i below));
@@ -280,7 +282,7 @@ ready_calm s t k dirs r = record {
 
 -- so a pass that is not heard of leaves a settled state, behind its feed
 
-rest_at : (s : State) (u : Unit {0}) (t : State) → Invariant s → IsFair s.link → AreDirs s → IsReady s → EndsFairly (push_all s) u t → IsIdleTo s t → IsAtRest t
+pub rest_at : (s : State) (u : Unit {0}) (t : State) → Invariant s → IsFair s.link → AreDirs s → IsReady s → EndsFairly (push_all s) u t → IsIdleTo s t → IsAtRest t
 rest_at s u t h fair dirs ready ends k =
     at_rest t (kept_ends Invariant (push_all s) u t ((push_all_keeps Invariant sound_whole.closed sound_whole.entering).keeps s h) ends) (fair_calm s t k.calm fair) (ready_calm s t k.calm dirs ready) t k.idle
 
@@ -290,15 +292,15 @@ calm_settled s u t h fair listening free dirs ready ends left = by (pushes_calm 
   by (inl k) = inl k
   by (inr k) = inr (rest_settled t (rest_at s u t h fair dirs ready ends k))
 
+pub calm_targets : (s t : State) → IsCalm s t → AreAllTargets s → AreAllTargets t
+calm_targets s t k all = record {
+  apart = subst AreTargetsApart (sym k.items) all.apart;
+  some = subst (λ (h : Held). All (λ r. r.live ≡ true → (i : Item) × Among i (items_now t) × (has_target i r.rid ≡ true)) h.items) (sym k.remote)
+      (subst (λ (is : List Item). All (λ r. r.live ≡ true → (i : Item) × Among i is × (has_target i r.rid ≡ true)) s.link.remote.items) (sym k.items) all.some);
+}
+
 pub calm_whole : (s : State) (u : Unit {0}) (t : State) → Invariant s → IsFair s.link → IsListening s → IsOpenTo s → AreDirs s → IsReady s → AreAllTargets s → EndsFairly (push_all s) u t → HasNumbers t → IsHeard s t ⊎ (is_settled true t ≡ true)
 calm_whole s u t h fair listening free dirs ready all ends left = by (pushes_calm s u t h fair listening free ends left) where
-  targets : IsCalm s t → AreAllTargets t
-  targets k = record {
-    apart = subst AreTargetsApart (sym k.items) all.apart;
-    some = subst (λ (h : Held). All (λ r. r.live ≡ true → (i : Item) × Among i (items_now t) × (has_target i r.rid ≡ true)) h.items) (sym k.remote)
-        (subst (λ (is : List Item). All (λ r. r.live ≡ true → (i : Item) × Among i is × (has_target i r.rid ≡ true)) s.link.remote.items) (sym k.items) all.some);
-  }
-
   by : IsHeard s t ⊎ IsIdleTo s t → IsHeard s t ⊎ (is_settled true t ≡ true)
   by (inl k) = inl k
-  by (inr k) = inr (rest_whole t (rest_at s u t h fair dirs ready ends k) (targets k.calm))
+  by (inr k) = inr (rest_whole t (rest_at s u t h fair dirs ready ends k) (calm_targets s t k.calm all))

@@ -13,6 +13,7 @@ use Rattle.cf_model.specs.Pushes.{is_hydrating}
 use Rattle.cf_model.specs.Requests.{is_dehydrate, is_dehydrate_wait, is_list, is_list_wait}
 use Rattle.cf_model.specs.Skips.{in_use}
 use Rattle.cf_model.specs.State.{State, book_now, items_now}
+use Rattle.cf_model.specs.Trees.{AsItKeeps, Faults, Telling, Tells}
 use Rattle.cf_model_laws.specs.Invariant.{All}
 use Rattle.cf_model_convergence.specs.Matching.{IsBelow}
 use Rattle.cf_model_convergence.specs.Telling.{is_loud}
@@ -36,11 +37,19 @@ pub record IsHeard (s t : State) : Type 0 where
 abbrev pub IsPlainAsk : Ask → Type 0
 IsPlainAsk a = (is_list a.kind ≡ false) × (is_dehydrate a.kind ≡ false)
 
+-- no list call and no dehydration waits
+abbrev pub ArePlainWaits : State → Type 0
+ArePlainWaits s = All (λ w. (is_list_wait w.kind ≡ false) × (is_dehydrate_wait w.kind ≡ false)) s.filter.waiting.waits
+
 -- A provider is connected. No list call and no dehydration waits, and no callback of one is still to be called.
 pub record IsOpenTo (s : State) : Type 0 where
   pub connected : s.filter.connected ≡ true
-  pub waits : All (λ w. (is_list_wait w.kind ≡ false) × (is_dehydrate_wait w.kind ≡ false)) s.filter.waiting.waits
+  pub waits : ArePlainWaits s
   pub boxed : All IsPlainAsk s.filter.outbox
+
+-- at each ask the remote keeps its rules or fails
+abbrev pub AreHonest : List Telling → Type 0
+AreHonest ts = All (λ t. elim t as (λ _. Type 0) [ AsItKeeps ↦ Unit {0} | Faults ↦ Unit {0} | Tells r ↦ ⊥ ]) ts
 
 -- whatever stands in an item stands in a directory
 abbrev pub AreDirs : State → Type 0

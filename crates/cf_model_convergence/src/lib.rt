@@ -7,5 +7,6 @@ pub mod passes;
 pub mod remotes;
 pub mod rounds;
 pub mod settled;
+pub mod syncs;
 pub mod trees;
 pub mod turns;

@@ -1,0 +1,34 @@
+//! Whole events of `sync`.
+
+ghost use Rattle.std.specs.Prelude.{◌≡◌, ℕ, List, false, true};
+ghost use Rattle.std.specs.List.{list_any};
+ghost use Rattle.cf_base.specs.declared.answers.Answer.{Answer};
+ghost use Rattle.cf_base.specs.declared.answers.Shown.TheVariants as shown;
+ghost use Rattle.cf_base.specs.declared.events.EngineEvent.TheVariants as engine;
+ghost use Rattle.cf_base.specs.declared.events.Event.{Event};
+ghost use Rattle.cf_base.specs.declared.events.Event.TheVariants as event;
+ghost use Rattle.cf_base.specs.declared.policies.Mode.TheVariants as mode;
+ghost use Rattle.cf_model.specs.Events.{on_event};
+ghost use Rattle.cf_model.specs.Lawful.{Runs};
+ghost use Rattle.cf_model.specs.Messages.{no_number};
+ghost use Rattle.cf_model.specs.Settled.{is_settled};
+ghost use Rattle.cf_model.specs.State.{State, start};
+ghost use Rattle.cf_model.specs.Store.{Held};
+ghost use Rattle.cf_model.specs.Trees.{Choices};
+ghost use Rattle.cf_model_laws.specs.Keys.{AreKeysWithin};
+ghost use Rattle.cf_model_laws.specs.Premises.{IsFair, IsFresh};
+ghost use Rattle.cf_model_convergence.specs.Agreeing.{IsKeptUp, IsPassedHere};
+ghost use Rattle.cf_model_convergence.specs.Hearing.{AreHonest, ArePlainWaits, is_heard};
+ghost use Rattle.cf_model_convergence.specs.Quiet.{is_count};
+ghost use Rattle.cf_model_convergence.specs.Tidy.{IsTidy};
+
+/// A `sync` in a run whose answer is a count and has no line of a change, of an upload that was done or refused, of a step that was
+/// left out, of trouble, or of a reply that there are no such bytes: the state that it leaves is settled, and the count is 0. So it is
+/// over a remote that was handed in tidy and a link that answers at once, where the remote keeps its rules or fails, keys and numbers
+/// of messages are left, no list call and no dehydration waits, and what the cursor has passed is known, as it is afterwards again. The
+/// state is settled as a whole where each live item of the remote that the cursor has passed is here, and each directory is populated.
+#[tactic(auto, using(crate::proofs::SyncsCalm::run_silent, crate::proofs::SyncsCalm::run_silent_all))]
+pub fn a_silent_sync_leaves_a_settled_state()
+    ensures local { (remote : Held) (clusters : ℕ) (trace : List (Event × Answer)) (s : State) (c : Choices) (t : State) (a : Answer) → Runs mode.Replay (start mode.Replay remote clusters) trace s → IsFresh remote → IsTidy remote → IsFair s.link → s.link.inline ≡ true → AreKeysWithin s.filter → ArePlainWaits s → IsKeptUp s → AreHonest c.tellings → on_event c s (event.Engine engine.Sync) ≡ (t, a) → is_count a.shown ≡ true → list_any is_heard a.notes ≡ false → no_number t ≡ false → (is_settled false t ≡ true) × (a.shown ≡ shown.Count 0) × IsKeptUp t }
+    ensures whole { (remote : Held) (clusters : ℕ) (trace : List (Event × Answer)) (s : State) (c : Choices) (t : State) (a : Answer) → Runs mode.Replay (start mode.Replay remote clusters) trace s → IsFresh remote → IsTidy remote → IsFair s.link → s.link.inline ≡ true → AreKeysWithin s.filter → ArePlainWaits s → IsKeptUp s → IsPassedHere s → AreHonest c.tellings → on_event c s (event.Engine engine.Sync) ≡ (t, a) → is_count a.shown ≡ true → list_any is_heard a.notes ≡ false → no_number t ≡ false → (is_settled true t ≡ true) × IsPassedHere t }
+{}
