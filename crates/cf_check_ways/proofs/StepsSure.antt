@@ -265,4 +265,4 @@ any_step_count m s e a t h other = by (no_volume (needs_volume e) s.power) (step
     by None (inl x) = subst (λ (z : Answer). length t.link.messages ≤ length s.link.messages + length z.notes) (sym x.2) (ended_count s e x.0 t x.1)
     by None (inr x) =
         subst (λ (z : Answer). length t.link.messages ≤ length s.link.messages + length z.notes) (sym x.4)
-            (subst (λ (z : State). length z.link.messages ≤ length s.link.messages + length x.1.filter.notes) (sym x.3) (cut_count s e other x.0 x.1 x.2))
+        (subst (λ (z : State). length z.link.messages ≤ length s.link.messages + length x.1.filter.notes) (sym x.3) (cut_count s e other x.0 x.1 x.2))
