@@ -1,0 +1,7 @@
+//! When no commit for room is made: where all that a log ever needed fits into the clusters. Then a restart may open the points of
+//! flushes and uploads alone.
+#![tactic(auto)]
+
+mod laws;
+
+pub use laws::what_fits_needs_no_room;
