@@ -1,4 +1,5 @@
 pub mod Actors
 pub mod Engines
+pub mod Openings
 pub mod Playing
 pub mod Sessions

@@ -8,9 +8,10 @@ ghost use Rattle.cf_base.specs.declared.events.EngineEvent.TheVariants as engine
 ghost use Rattle.cf_base.specs.declared.events.Event.TheVariants as events;
 ghost use Rattle.cf_base.specs.declared.ids.Usn.{Usn};
 ghost use Rattle.cf_base.specs.declared.policies.Mode.TheVariants as mode;
-ghost use Rattle.cf_disk.specs.Disk.{size_of};
+ghost use Rattle.cf_disk.specs.Disk.{Leaves, size_of};
 ghost use Rattle.cf_engine.specs.Actors.{new_engine};
 ghost use Rattle.cf_engine.specs.Engines.{Does, IsSyncing, on_volume};
+ghost use Rattle.cf_engine.specs.Openings.{FitsKnown, IsOfEngine};
 ghost use Rattle.cf_filter_events.specs.Actors.{is_device_event};
 ghost use Rattle.cf_filter_events.specs.Pasts.{Past, StandsFor};
 ghost use Rattle.cf_filter_events.specs.Stepped.{BearsOn};
@@ -19,17 +20,21 @@ ghost use Rattle.cf_journal.specs.Settled.{IsFitSize};
 ghost use Rattle.cf_link.specs.Linked.{IsLink};
 ghost use Rattle.cf_model.specs.Books.{Book};
 ghost use Rattle.cf_model.specs.Events.{is_of};
+ghost use Rattle.cf_model.specs.Formats.{Image};
 ghost use Rattle.cf_model.specs.Powers.{StandsNow};
 ghost use Rattle.cf_model.specs.Numbers.{most};
 ghost use Rattle.cf_model.specs.State.{Link as link_model, State, new_volume};
-ghost use Rattle.cf_volume.specs.Calls.{IsCause, IsRefused, StopsOnly};
+ghost use Rattle.cf_volume.specs.Calls.{IsCause, IsMemory, IsRefused, StopsOnly};
+ghost use Rattle.cf_volume_commit.specs.Loaded.{HoldsImage, StandsOrWas};
 ghost use Rattle.cf_volume_points.specs.Standing.{Standing, clusters_on, opened};
 
 use crate::actors::SyncActor;
-use cf_base::{Answer, Call, CallError, EngineEvent, Event, OutOfMemory, Policy};
+use crate::openings::fits_engine;
+use cf_base::{Answer, Call, CallError, Code, EngineEvent, Event, OutOfMemory, Policy};
 use cf_disk::Disk;
 use cf_filter::Filter;
 use cf_filter_events::Running;
+use cf_journal::one_content;
 use cf_link::Link;
 use cf_remote::Remote;
 use std::alloc::Global;
@@ -71,6 +76,26 @@ fn on_filter<D: Disk, R: Remote>(
     }
 }
 
+// An engine on a filter that was just opened. Refused as NotAVolume exactly where no engine left its volume.
+fn on_opened<D: Disk, R: Remote>(
+    alloc: Global,
+    filter: Filter<D>,
+    link: Link<R>,
+) -> Result<SyncEngine<D, R>, (D, Link<R>, CallError)>
+    ensures ok { IfOk result (λ e. e ≡ record { filter = filter; actor = new_engine link }) }
+    ensures fits { IfOk result (λ e. FitsKnown filter.known) }
+    ensures unfit { IfErr result (λ e. IsRefused e.2 NotAVolume → FitsKnown filter.known → ⊥) }
+    ensures disk { IfErr result (λ e. e.0 ≡ filter.disk) }
+    ensures back { IfErr result (λ e. e.1 ≡ link) }
+    ensures only { IfErr result (λ e. IsMemory e.2 ⊎ IsRefused e.2 NotAVolume) }
+{
+    match fits_engine(alloc, filter.rows(), filter.volume().records()) {
+        Ok(true) => Ok(on_filter(alloc, filter, link)),
+        Ok(false) => Err((filter.into_disk(), link, CallError::No(Code::NotAVolume))),
+        Err(OutOfMemory) => Err((filter.into_disk(), link, CallError::OutOfMemory)),
+    }
+}
+
 impl<D: Disk, R: Remote> SyncEngine<D, R> {
     /// Makes a volume on a disk of a fit size, whatever that held, and opens it under this policy, which is one of `replay`, with this
     /// link. Refused as Device where a call of the disk failed, and as out of memory; then disk and link come back.
@@ -93,9 +118,15 @@ impl<D: Disk, R: Remote> SyncEngine<D, R> {
     }
 
     /// Opens the volume on a disk of a fit size under this policy, which is one of `replay`, with this link: nothing is open, nothing
-    /// waits, and the engine knows nothing that is not on the volume. Refused as NotAVolume exactly where the disk holds no volume, as
-    /// Exhausted exactly where its epoch is the last, as Device where a call of the disk failed, and as out of memory; then disk and
-    /// link come back.
+    /// waits, and the engine knows nothing that is not on the volume. Refused as NotAVolume exactly where the disk holds no volume, or one
+    /// that no engine leaves, as Exhausted exactly where its epoch is the last, as Device where a call of the disk failed, and as out of
+    /// memory; then disk and link come back.
+    ///
+    /// An engine leaves identities that are empty or of 24 bytes, and auxiliary records that each say something of a book. What an upload
+    /// of a file or of a directory is about was given an id, and if it is still here, it is a placeholder of that kind, whose anchor is
+    /// the upload's number. Where this does not hold the epoch on the disk has risen by one before the refusal.
+    ///
+    /// A crash at any moment leaves what it might have left before, or the same changes and book, with the epoch as it was or raised.
     pub fn open(
         alloc: Global,
         disk: D,
@@ -104,14 +135,18 @@ impl<D: Disk, R: Remote> SyncEngine<D, R> {
     ) -> Result<SyncEngine<D, R>, (D, Link<R>, CallError)>
         requires { IsFitSize (size_of (D.state disk)) }
         ensures ok { (l : link_model) (epoch : ℕ) (log : List (Usn × Change)) (b : Book) → IsLink R.told link l → Standing epoch (D.state disk).seen log b → IsKeptVolume (opened (epoch + 1) log b 0) → IfOk result (λ e. (past : Past) → past.told ≡ (D.state disk).powers → IsSyncing D.state R.told past e (on_volume policy l (opened (epoch + 1) log b (clusters_on (D.state disk).seen)))) }
-        ensures none { (epoch : ℕ) (log : List (Usn × Change)) (b : Book) → Standing epoch (D.state disk).seen log b → IfErr result (λ e. IsRefused e.2 NotAVolume → ⊥) }
+        ensures found { IfOk result (λ e. (i : Image) × HoldsImage (D.state disk).seen i × IsOfEngine i) }
+        ensures absent { IfErr result (λ e. IsRefused e.2 NotAVolume → (i : Image) → HoldsImage (D.state disk).seen i → IsOfEngine i → ⊥) }
+        ensures none { (epoch : ℕ) (log : List (Usn × Change)) (b : Book) (stands : Standing epoch (D.state disk).seen log b) → IsOfEngine stands.image → IfErr result (λ e. IsRefused e.2 NotAVolume → ⊥) }
         ensures last { (epoch : ℕ) (log : List (Usn × Change)) (b : Book) → Standing epoch (D.state disk).seen log b → IfErr result (λ e. IsRefused e.2 Exhausted → epoch ≡ most) }
+        ensures crash { (epoch : ℕ) (log : List (Usn × Change)) (b : Book) → Standing epoch (D.state disk).seen log b → IfErr result (λ e. Leaves (D.state disk) (D.state e.0) (StandsOrWas epoch log b (D.state disk))) }
         ensures back { IfErr result (λ e. e.1 ≡ link) }
         ensures only { IfErr result (λ e. StopsOnly e.2 ⊎ (IsRefused e.2 NotAVolume ⊎ IsRefused e.2 Exhausted)) }
         ensures cause { IfErr result (λ e. IsCause e.2 (D.state disk) (D.state e.0)) }
     {
+        one_content();
         match Filter::open(alloc, disk, policy) {
-            Ok(filter) => Ok(on_filter(alloc, filter, link)),
+            Ok(filter) => on_opened(alloc, filter, link),
             Err((disk, error)) => Err((disk, link, error)),
         }
     }

@@ -5,12 +5,14 @@
 //! An event of the engine is one session of notes on the filter: what it does is one step of the definitions with the answer that it
 //! gives, also where the device stopped it.
 //!
-//! `SyncEngine` is the same on a disk, as a library that a cloud client links: the calls of an application, and those of the engine.
+//! `SyncEngine` is the same on a disk, as a library that a cloud client links: the calls of an application, and those of the engine. It opens
+//! only what an engine leaves, as specs/Openings has it; the world opens what its own run left, and asks for nothing more.
 #![tactic(auto)]
 
 mod actors;
 mod beside;
 mod engines;
+mod openings;
 mod sessions;
 
 pub use actors::SyncActor;
