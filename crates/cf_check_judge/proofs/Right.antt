@@ -9,8 +9,9 @@ use Rattle.cf_base.specs.declared.answers.Answer.{Answer}
 use Rattle.cf_base.specs.declared.events.DeviceEvent.TheVariants as device
 use Rattle.cf_base.specs.declared.events.Event.{Event}
 use Rattle.cf_base.specs.declared.events.Event.TheVariants as event
+use Rattle.cf_base.specs.declared.events.PeerEvent.{PeerEvent}
 use Rattle.cf_base.specs.declared.policies.Mode.TheVariants as mode
-use Rattle.cf_model.specs.Events.{is_of}
+use Rattle.cf_model.specs.Events.{is_of, on_event}
 use Rattle.cf_model.specs.Lawful.{Runs}
 use Rattle.cf_model.specs.Numbers.{most}
 use Rattle.cf_model.specs.State.{State, start}
@@ -25,16 +26,16 @@ use Rattle.cf_check_model.specs.declared.verdicts.Verdict.TheVariants.{Unlawful,
 use Rattle.cf_check_model.proofs.Fronts.{texts_join}
 use Rattle.cf_check_text.specs.Clean.{is_clean}
 use Rattle.cf_check_text.proofs.Lines.{next_result}
-use Rattle.cf_check_ways.specs.Ways.{Alike, fixed_state, is_good, of_state}
-use Rattle.cf_check_traces.specs.Decided.{IsStopped, NoneStopped}
-use Rattle.cf_check_traces.specs.Tests.{begins, is_device, meets_faults}
+use Rattle.cf_check_ways.specs.Ways.{is_fault, Alike, fixed_state, is_good, of_state}
+use Rattle.cf_check_traces.specs.Decided.{IsStopped, MeetsResult, NoneStopped}
+use Rattle.cf_check_traces.specs.Tests.{begins, is_device, meets_alone, meets_lines}
 use Rattle.cf_check_traces.proofs.Accepting.{LastOf, last_of}
 use Rattle.cf_check_traces.proofs.NextOnes.{IsFollowed, IsNext, only_next}
 use Rattle.cf_check_traces.proofs.NextSteps.{goes_on}
 use Rattle.cf_check_traces.proofs.SameRuns.{Front, front_of, last_event}
-use Rattle.cf_check_traces.proofs.Testing.{begins_is, begins_so, meets_so, not_stopped}
+use Rattle.cf_check_traces.proofs.Testing.{alone_so, alone_unasked, begins_is, begins_so, meets_so, not_stopped}
 use Rattle.cf_check_judge.specs.Books.{same_bytes}
-use Rattle.cf_check_judge.specs.Judge.{Followed, matched, GoesOn, Judged, Lost, Open, Wrong, at_end, event_told, first_result, is_line, judge, judge_from, may_judge, opens_volume, step_by}
+use Rattle.cf_check_judge.specs.Judge.{asks_nothing, is_peer_fault, telling_of, Followed, matched, GoesOn, Judged, Lost, Open, Wrong, at_end, event_told, first_result, is_line, judge, judge_from, may_judge, opens_volume, step_by}
 use Rattle.cf_check_judge.specs.Scripts.{is_restart, opens_nothing}
 use Rattle.cf_check_judge.proofs.Verdicts.{empty_verdict, lawful_verdict, open_verdict, wrong_verdict}
 
@@ -80,6 +81,29 @@ last_test f es e h = let k = both (list_all f es) (list_all f (e ∷ [])) (sym (
 none_more : (trace : List (Event × Answer)) (e : Event) (a : Answer) → NoneStopped trace → (IsStopped a → ⊥) → NoneStopped (trace ++ (e, a) ∷ [])
 none_more [] e a none runs = (runs, record {})
 none_more (p ∷ ps) e a none runs = (none.0, none_more ps e a none.1 runs)
+
+-- no answer parts by RemoteFault from the judge's
+
+asked : (told fault : Bool) → (told && not fault) ≡ true → (told ≡ true) × (fault ≡ false)
+asked true false h = (refl, refl)
+asked true true h = let z : false ≡ true = h in absurd cc
+asked false fault h = let z : false ≡ true = h in absurd cc
+
+peer_alone : (p : PeerEvent) (s : State) (rest : List ℕ) (unasked : Bool) → asks_nothing (event_told (event.Peer p) rest s).1 rest ≡ unasked → meets_alone (event.Peer p) (event_told (event.Peer p) rest s).1 rest unasked ≡ true
+    → MeetsResult s (event.Peer p) (event_told (event.Peer p) rest s).1 rest
+peer_alone p s rest true is h =
+    let a : Answer = (event_told (event.Peer p) rest s).1 in
+    let x = asked (is_peer_fault rest) (is_fault a.shown) is in
+    alone_unasked s p a (event_told (event.Peer p) rest s).0 rest
+    (ap (λ (b : Bool). on_event (record { stop = None; forks = []; tellings = telling_of b ∷ [] }) s (event.Peer p)) (sym x.0)) x.1
+peer_alone p s rest false is h = alone_so s (event.Peer p) (event_told (event.Peer p) rest s).1 rest h
+
+alone_of : (e : Event) (s : State) (rest : List ℕ) → meets_alone e (event_told e rest s).1 rest (asks_nothing (event_told e rest s).1 rest) ≡ true → MeetsResult s e (event_told e rest s).1 rest
+alone_of (event.Peer p) s rest h = peer_alone p s rest (asks_nothing (event_told (event.Peer p) rest s).1 rest) refl h
+alone_of (event.Call c) s rest h = λ peer. let z : false ≡ true = peer in absurd cc
+alone_of (event.Device d) s rest h = λ peer. let z : false ≡ true = peer in absurd cc
+alone_of (event.Engine g) s rest h = λ peer. let z : false ≡ true = peer in absurd cc
+alone_of (event.Provider p) s rest h = λ peer. let z : false ≡ true = peer in absurd cc
 
 -- the run that the judge follows, and what is settled so far
 
@@ -156,11 +180,12 @@ module _ (events : List Event) (report : List ℕ) (clusters : ℕ) (short : len
       (ap (λ (xs : List Event). list_all (λ x. not (is_restart x)) xs) (sym (next_taken done e es trace s rest at)) ∙ all_taken (λ x. not (is_restart x)) (suc done) events opens)
 
   next_of : (done : ℕ) (e : Event) (es : List Event) (trace : List (Event × Answer)) (s : State) (rest : List ℕ) → IsAt done (e ∷ es) trace s rest → is_of mode.Replay e ≡ true → (first_result rest ≡ Some device_line → ⊥)
-      → may_judge (event_told e rest s).0 (event_told e rest s).1 rest ≡ true → IsNext s e (event_told e rest s).1 (event_told e rest s).0 rest
+      → may_judge (event_told e rest s).0 e (event_told e rest s).1 rest ≡ true → IsNext s e (event_told e rest s).1 (event_told e rest s).0 rest
   next_of done e es trace s rest at of other may =
       let t : State = (event_told e rest s).0 in
       let a : Answer = (event_told e rest s).1 in
-      let x = both (is_good t && not (is_device a.shown) && is_clean a) (meets_faults a rest) may in
+      let w = both (is_good t && not (is_device a.shown) && is_clean a && meets_lines a.notes rest) (meets_alone e a rest (asks_nothing a rest)) may in
+      let x = both (is_good t && not (is_device a.shown) && is_clean a) (meets_lines a.notes rest) w.0 in
       let y = both (is_good t && not (is_device a.shown)) (is_clean a) x.0 in
       let z = both (is_good t) (not (is_device a.shown)) y.0 in
       record {
@@ -169,6 +194,7 @@ module _ (events : List Event) (report : List ℕ) (clusters : ℕ) (short : len
         runs = not_stopped a (unless (is_device a.shown) z.1);
         clean = y.1;
         meets = meets_so a rest x.1;
+        alone = alone_of e s rest w.1;
         result = other;
         other = λ is. never is;
       }
@@ -298,7 +324,7 @@ module _ (events : List Event) (report : List ℕ) (clusters : ℕ) (short : len
       some_is x y e = cc
 
   by_test : (done : ℕ) (e : Event) (es : List Event) (trace : List (Event × Answer)) (f : Followed) (rest : List ℕ) (v : Verdict) → Rest es → IsAt done (e ∷ es) trace f.state rest → is_of mode.Replay e ≡ true → (first_result rest ≡ Some device_line → ⊥)
-      → (g : Followed) → g.state ≡ (event_told e rest f.state).0 → (may : Bool) → may_judge (event_told e rest f.state).0 (event_told e rest f.state).1 rest ≡ may
+      → (g : Followed) → g.state ≡ (event_told e rest f.state).0 → (may : Bool) → may_judge (event_told e rest f.state).0 e (event_told e rest f.state).1 rest ≡ may
       → verdict_of done es (matched may (begins (text (event_told e rest f.state).1) rest) rest (event_told e rest f.state).1 g) ≡ Some v → IsVerdict events report clusters v
   by_test done e es trace f rest v more at of other g is false may h = let z : None ≡ Some v = h in absurd cc
   by_test done e es trace f rest v more at of other g is true may h =
@@ -328,7 +354,7 @@ module _ (events : List Event) (report : List ℕ) (clusters : ℕ) (short : len
       some_is x y e = cc
   by_kind done e es trace f rest v more at false true true line is none h = let z : true ≡ false = none in absurd cc
   by_kind done e es trace f rest v more at false true false line is none h =
-      by_test done e es trace f rest v more at is (line_not device_line (first_result rest) line) _ refl (may_judge (event_told e rest f.state).0 (event_told e rest f.state).1 rest) refl h
+      by_test done e es trace f rest v more at is (line_not device_line (first_result rest) line) _ refl (may_judge (event_told e rest f.state).0 e (event_told e rest f.state).1 rest) refl h
 
   right_from : (es : List Event) → Rest es
   right_from [] done trace f rest v at h =

@@ -12,9 +12,9 @@ use Rattle.cf_base.specs.declared.events.EngineEvent.TheVariants as engine
 use Rattle.cf_base.specs.declared.events.Event.{Event}
 use Rattle.cf_base.specs.declared.events.Event.TheVariants as event
 use Rattle.cf_base.specs.declared.policies.Mode.TheVariants as mode
-use Rattle.cf_check_traces.specs.Tests.{begins, is_device, meets_faults}
+use Rattle.cf_check_traces.specs.Tests.{begins, is_device, meets_alone, meets_lines}
 use Rattle.cf_check_text.specs.Clean.{is_clean}
-use Rattle.cf_check_ways.specs.Ways.{is_good}
+use Rattle.cf_check_ways.specs.Ways.{is_fault, is_good}
 use Rattle.cf_check_judge.specs.Books.{same_books, same_bytes}
 use Rattle.cf_check_model.specs.Reports.{device_line, lines_of, result_lines}
 use Rattle.cf_check_model.specs.declared.verdicts.Verdict.{Verdict}
@@ -146,10 +146,14 @@ abbrev pub opens_volume : Event → State → Bool
 opens_volume (event.Device device.Restart) s = is_off s.power && not (nat_lt most (epoch_after 0 s))
 opens_volume _ s = false
 
+-- the report says that the remote failed another device, and this one's event did not ask it
+abbrev pub asks_nothing : Answer → List ℕ → Bool
+asks_nothing a rest = is_peer_fault rest && not (is_fault a.shown)
+
 -- What is tested of an answer before the report is held against it. It passes in every run that keeps to what the report tells;
 -- where it did not, the judge gives up.
-abbrev pub may_judge : State → Answer → List ℕ → Bool
-may_judge t a rest = is_good t && not (is_device a.shown) && is_clean a && meets_faults a rest
+abbrev pub may_judge : State → Event → Answer → List ℕ → Bool
+may_judge t e a rest = is_good t && not (is_device a.shown) && is_clean a && meets_lines a.notes rest && meets_alone e a rest (asks_nothing a rest)
 
 abbrev pub matched : (tested same : Bool) → List ℕ → Answer → Followed → Judged
 matched false same rest a f = Lost
@@ -164,7 +168,7 @@ event_told e rest s = on_event (with_room_at (tellings_for e rest) []) s e
 abbrev pub followed : Event → List ℕ → Followed → Judged
 followed e rest f =
     let r : State × Answer = event_told e rest f.state in
-    matched (may_judge r.0 r.1 rest) (begins (text r.1) rest) rest r.1 (record { state = r.0; rooms = kept_points f.state r.0 f.rooms ++ room_points f.state r.0 e (tellings_for e rest) })
+    matched (may_judge r.0 e r.1 rest) (begins (text r.1) rest) rest r.1 (record { state = r.0; rooms = kept_points f.state r.0 f.rooms ++ room_points f.state r.0 e (tellings_for e rest) })
 
 abbrev pub step_by : (device of opens : Bool) → Event → List ℕ → Followed → Judged
 step_by true of opens e rest f = Open

@@ -39,3 +39,10 @@ failing_report =
     ++ line (codes "- fault 1")
     ++ line (codes "= ok 0")
     ++ line (codes "= refused RemoteFault")
+
+-- events that ask no remote
+abbrev pub bad_path : List Event
+bad_path = event.Peer (peer.MakeDir (codes "/")) ∷ []
+
+abbrev pub flush_alone : List Event
+flush_alone = event.Call call.Flush ∷ []

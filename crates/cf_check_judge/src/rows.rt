@@ -2,7 +2,7 @@
 
 ghost use Rattle.std.specs.Prelude.{◌≡◌, ◌++◌, Some, codes};
 ghost use Rattle.cf_check_judge.specs.Judge.{judge};
-ghost use Rattle.cf_check_judge.specs.Rows.{before_restart, failing, failing_report, flushed};
+ghost use Rattle.cf_check_judge.specs.Rows.{bad_path, before_restart, failing, failing_report, flush_alone, flushed};
 ghost use Rattle.cf_check_model.specs.Reports.{device_line};
 ghost use Rattle.cf_check_model.specs.Rows.{before_last, changed_report, inline_read, line, read_report};
 ghost use Rattle.cf_check_model.specs.declared.verdicts.Verdict.TheVariants.{Lawful, Unlawful, Undecided};
@@ -33,4 +33,10 @@ pub fn a_restart_is_followed()
 /// Where the report tells that the remote failed, it did.
 pub fn a_failing_remote_is_followed()
     ensures { judge failing failing_report 15616 ≡ Some Lawful }
+{}
+
+/// RemoteFault is no lawful answer to an event that asks no remote.
+pub fn a_fault_that_cannot_be_is_found()
+    ensures path { judge bad_path (line (codes "= refused RemoteFault")) 15616 ≡ Some (Unlawful 1) }
+    ensures flush { judge flush_alone (line (codes "= refused RemoteFault")) 15616 ≡ Some (Unlawful 1) }
 {}

@@ -77,7 +77,7 @@ resumed_texts s o a b t u told told_too r m =
 pub decided : (s o : State) (e : Event) (a b : Answer) (t u : State) → AnswersAlike s o e a t b u → Meet (text a) (text b) → IsDecided s o e a t b u
 decided s o e a b t u (inl same) m = inl same
 decided s o e a b t u (inr (inl apart)) m = absurd (parted_texts a b apart m)
-decided s o e a b t u (inr (inr (inl x))) m = absurd (one_failed_texts a b x.0 x.1 m)
+decided s o e a b t u (inr (inr (inl x))) m = absurd (one_failed_texts a b x.1 x.2 m)
 decided s o e a b t u (inr (inr (inr x))) m = inr (x.0, x.1, x.2, (x.3, resumed_texts s o a b t u x.1 x.2 x.3 m))
 
 pub step_decided : (m : Mode) (s o : State) (e : Event) (a b : Answer) (t u : State) → Alike of_state s o → IsSteady s → IsSteady o → IsStep m s e a t → IsStep m o e b u

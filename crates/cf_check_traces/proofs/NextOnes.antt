@@ -24,10 +24,10 @@ use Rattle.cf_check_text.proofs.CleanWords.{left_of}
 use Rattle.cf_check_text.proofs.Lines.{notices_fit, result_of}
 use Rattle.cf_check_ways.specs.Ways.{Alike, AnswersAlike, IsFront, OneFailed, Parted, is_good, of_state}
 use Rattle.cf_check_ways.proofs.StepsSure.{any_step_count, cut_off_shows, steps_alike}
-use Rattle.cf_check_traces.specs.Decided.{IsSteady, IsStopped, MeetsFaults, NoneStopped}
+use Rattle.cf_check_traces.specs.Decided.{IsSteady, IsStopped, MeetsFaults, MeetsResult, NoneStopped}
 use Rattle.cf_check_traces.specs.Tests.{is_device}
 use Rattle.cf_check_traces.proofs.Accepting.{LastOf, few_messages, last_of, numbered}
-use Rattle.cf_check_traces.proofs.NextSteps.{goes_on, no_one, no_part}
+use Rattle.cf_check_traces.proofs.NextSteps.{goes_on, no_part}
 use Rattle.cf_check_traces.proofs.SameRuns.{Front, front_of, last_event, steady}
 use Rattle.cf_check_traces.proofs.Testing.{not_stopped, stopped_so}
 
@@ -49,6 +49,7 @@ pub record IsNext (s : State) (e : Event) (a : Answer) (t : State) (rest : List 
   pub runs : IsStopped a → ⊥
   pub clean : is_clean a ≡ true
   pub meets : MeetsFaults a rest
+  pub alone : MeetsResult s e a rest
   pub result : slice_get (result_lines rest) 0 ≡ Some device_line → ⊥
   pub other : e ≡ event.Device device.Restart → ⊥
 
@@ -84,7 +85,7 @@ module _ (events : List Event) (report : List ℕ) (clusters : ℕ) (short : len
       by : AnswersAlike s o e a t b u → (b ≡ a) × Alike of_state t u
       by (inl same) = (sym same.0, same.1)
       by (inr (inl apart)) = absurd (no_part a b rest next.meets begun apart)
-      by (inr (inr (inl x))) = absurd (no_one a b rest next.meets begun x.0 x.1)
+      by (inr (inr (inl x))) = absurd (next.alone x.0 o b u alike step x.1 begun x.2)
       by (inr (inr (inr x))) = absurd (next.other x.0)
 
   -- one that a device cut off is told by its line
@@ -100,7 +101,7 @@ module _ (events : List Event) (report : List ℕ) (clusters : ℕ) (short : len
       by : AnswersAlike o s e b u a t ⊎ (IsStopped b × (IsFront b.notes a.notes ⊎ Parted b.notes a.notes)) → ⊥
       by (inl (inl same)) = next.runs (subst IsStopped same.0 stop)
       by (inl (inr (inl apart))) = no_part a b rest next.meets begun (turned_part b.notes a.notes apart)
-      by (inl (inr (inr (inl x)))) = no_one a b rest next.meets begun (sym x.0) (turned_one b.shown a.shown x.1)
+      by (inl (inr (inr (inl x)))) = next.alone x.0 o b u (sym alike) step (sym x.1) begun (turned_one b.shown a.shown x.2)
       by (inl (inr (inr (inr x)))) = next.other x.0
       by (inr (h, inl front)) = told front
       by (inr (h, inr apart)) = no_part a b rest next.meets begun (turned_part b.notes a.notes apart)

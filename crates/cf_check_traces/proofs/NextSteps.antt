@@ -1,5 +1,5 @@
 -- What is not accepted: one step from an accepted state tells.
-use Rattle.std.proofs.Common.{◌≡◌, ◌<◌, ℕ, suc, Bool, true, false, List, [], ◌∷◌, ◌++◌, length, map, sym, ◌∙◌, ap, subst, inl, inr, append_assoc}
+use Rattle.std.proofs.Common.{◌≡◌, ◌<◌, ℕ, suc, true, List, [], ◌∷◌, ◌++◌, length, map, sym, ◌∙◌, ap, subst, inl, inr, append_assoc}
 use Rattle.std.specs.List.{flat_map}
 use Rattle.std.proofs.lemmas.Grind.{flat_map-append}
 use Rattle.cf_base.specs.declared.answers.Answer.{Answer}
@@ -18,9 +18,9 @@ use Rattle.cf_check_model.specs.Judging.{Accepted, answer_of}
 use Rattle.cf_check_model.specs.Reports.{Begins}
 use Rattle.cf_check_model.proofs.Fronts.{texts_join}
 use Rattle.cf_check_text.proofs.Clashes.{cancel}
-use Rattle.cf_check_ways.specs.Ways.{AnswersAlike, OneFailed, Parted, is_fault, is_good}
+use Rattle.cf_check_ways.specs.Ways.{Alike, of_state, AnswersAlike, Parted, is_good}
 use Rattle.cf_check_ways.proofs.StepsSure.{steps_alike}
-use Rattle.cf_check_traces.specs.Decided.{IsStopped, MeetsFaults, NoneStopped, OpeningsAgree}
+use Rattle.cf_check_traces.specs.Decided.{IsStopped, MeetsFaults, MeetsResult, NoneStopped, OpeningsAgree}
 use Rattle.cf_check_traces.proofs.Accepting.{good_after}
 use Rattle.cf_check_traces.proofs.SameRuns.{Front, front_of, none_before, none_last, same_runs, steady}
 
@@ -46,19 +46,11 @@ no_part a b rest meets h (inl f) =
 no_part a b rest meets h (inr f) =
     meets.no_fault f.before f.others f.message f.number f.reply f.lost f.second_is (begins_line b rest f.before (notice.Fault f.message) f.after f.first_is h)
 
-not_one : (x y : Bool) → x ≡ y → (x ≡ true) × (y ≡ false) → ⊥
-not_one x y e h = let z : true ≡ false = sym h.0 ∙ e ∙ h.1 in absurd cc
-
-pub no_one : (a b : Answer) (rest : List ℕ) → MeetsFaults a rest → Begins rest (text b) → a.notes ≡ b.notes → OneFailed a.shown b.shown → ⊥
-no_one a b rest meets h same one =
-    let equal : is_fault a.shown ≡ is_fault b.shown = meets.result b one.1 (subst (λ (ns : List Notice). Begins rest (flat_map notice_line ns ++ result_line b.shown)) (sym same) h) in
-    elim one.2 as (λ _. ⊥) [ inl x ↦ not_one (is_fault a.shown) (is_fault b.shown) equal x | inr x ↦ not_one (is_fault b.shown) (is_fault a.shown) (sym equal) x ]
-
-no_answer : (s o : State) (e : Event) (a b : Answer) (t u : State) (rest : List ℕ) → (e ≡ event.Device device.Restart → ⊥) → MeetsFaults a rest → (Begins rest (text a) → ⊥) → Begins rest (text b) → AnswersAlike s o e a t b u → ⊥
-no_answer s o e a b t u rest other meets wrong h (inl same) = wrong (subst (λ (x : Answer). Begins rest (text x)) (sym same.0) h)
-no_answer s o e a b t u rest other meets wrong h (inr (inl apart)) = no_part a b rest meets h apart
-no_answer s o e a b t u rest other meets wrong h (inr (inr (inl x))) = no_one a b rest meets h x.0 x.1
-no_answer s o e a b t u rest other meets wrong h (inr (inr (inr x))) = other x.0
+no_answer : (s o : State) (e : Event) (a b : Answer) (t u : State) (rest : List ℕ) → (e ≡ event.Device device.Restart → ⊥) → MeetsFaults a rest → MeetsResult s e a rest → Alike of_state s o → IsStep mode.Replay o e b u → (Begins rest (text a) → ⊥) → Begins rest (text b) → AnswersAlike s o e a t b u → ⊥
+no_answer s o e a b t u rest other meets alone alike step wrong h (inl same) = wrong (subst (λ (x : Answer). Begins rest (text x)) (sym same.0) h)
+no_answer s o e a b t u rest other meets alone alike step wrong h (inr (inl apart)) = no_part a b rest meets h apart
+no_answer s o e a b t u rest other meets alone alike step wrong h (inr (inr (inl x))) = alone x.0 o b u alike step x.1 h x.2
+no_answer s o e a b t u rest other meets alone alike step wrong h (inr (inr (inr x))) = other x.0
 
 -- how the report goes on after an accepted front
 pub goes_on : (report rest : List ℕ) (trace front : List (Event × Answer)) (p : Event × Answer) → report ≡ texts (map answer_of trace) ++ rest → trace ≡ front → Begins report (texts (map answer_of (front ++ p ∷ []))) → Begins rest (text p.1)
@@ -74,12 +66,12 @@ goes_on report rest trace front p is same b =
 -- report tells, is not how the report goes on.
 pub not_accepted : (events : List Event) (report rest : List ℕ) (clusters n : ℕ) → length report < most → OpeningsAgree events report clusters n
     → (trace : List (Event × Answer)) (s : State) → Accepted events report clusters n trace s → NoneStopped trace → report ≡ texts (map answer_of trace) ++ rest
-    → (e : Event) (a : Answer) (t : State) → IsStep mode.Replay s e a t → is_good t ≡ true → (IsStopped a → ⊥) → (e ≡ event.Device device.Restart → ⊥) → MeetsFaults a rest → (Begins rest (text a) → ⊥)
+    → (e : Event) (a : Answer) (t : State) → IsStep mode.Replay s e a t → is_good t ≡ true → (IsStopped a → ⊥) → (e ≡ event.Device device.Restart → ⊥) → MeetsFaults a rest → MeetsResult s e a rest → (Begins rest (text a) → ⊥)
     → (front : List (Event × Answer)) (b : Answer) (u : State) → length front ≡ n → NoneStopped (front ++ (e, b) ∷ []) → Accepted events report clusters (suc n) (front ++ (e, b) ∷ []) u → ⊥
-not_accepted events report rest clusters n short agree trace s acc none is e a t step good runs other meets wrong front b u long none_too acc_too =
+not_accepted events report rest clusters n short agree trace s acc none is e a t step good runs other meets alone wrong front b u long none_too acc_too =
     let f : Front events report clusters n front (e, b) u = front_of events report clusters n front (e, b) u long acc_too in
     let same = same_runs events report clusters short n trace front s f.mid acc f.accepted none (none_before front (e, b) none_too) agree in
-    no_answer s f.mid e a b t u rest other meets wrong (goes_on report rest trace front (e, b) is same.0 acc_too.front)
+    no_answer s f.mid e a b t u rest other meets alone same.1 f.step wrong (goes_on report rest trace front (e, b) is same.0 acc_too.front)
     (steps_alike mode.Replay s f.mid e a b t u same.1 (steady events report clusters short trace s acc.lawful none).opens (steady events report clusters short trace s acc.lawful none).points
     (steady events report clusters short front f.mid f.runs (none_before front (e, b) none_too)).points step f.step good
     (good_after most report clusters (front ++ (e, b) ∷ []) u acc_too.lawful none_too acc_too.kept acc_too.front short) runs (none_last front (e, b) none_too))

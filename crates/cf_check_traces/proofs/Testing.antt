@@ -9,13 +9,22 @@ use Rattle.cf_base.specs.declared.codes.Code.TheVariants as code
 use Rattle.cf_base.specs.declared.notices.Frame.TheVariants as frame
 use Rattle.cf_base.specs.declared.notices.Notice.{Notice}
 use Rattle.cf_base.specs.declared.notices.Notice.TheVariants as notice
+use Rattle.cf_base.specs.declared.events.Event.{Event}
+use Rattle.cf_base.specs.declared.events.Event.TheVariants as event
+use Rattle.cf_base.specs.declared.events.PeerEvent.{PeerEvent}
 use Rattle.cf_base.specs.declared.notices.Sent.{Sent}
+use Rattle.std.specs.Prelude.{None}
+use Rattle.cf_base.specs.declared.policies.Mode.TheVariants as mode
+use Rattle.cf_model.specs.Events.{on_event}
+use Rattle.cf_model.specs.State.{State}
+use Rattle.cf_model.specs.Trees.{Faults}
+use Rattle.cf_check_ways.proofs.FirstAsks.{never_asks}
 use Rattle.cf_report.specs.Texts.{notice_line, result_line}
 use Rattle.cf_check_model.specs.Reports.{Begins}
 use Rattle.cf_check_text.proofs.Clashes.{clash_no_meet, fault_or_message}
 use Rattle.cf_check_ways.specs.Ways.{is_fault, is_of_peer}
-use Rattle.cf_check_traces.specs.Decided.{IsStopped, MeetsFaults}
-use Rattle.cf_check_traces.specs.Tests.{begins, differs_plainly, fault_line_of_peer, is_device, meets_faults, meets_lines, meets_result, same_flag}
+use Rattle.cf_check_traces.specs.Decided.{IsStopped, MeetsFaults, MeetsResult}
+use Rattle.cf_check_traces.specs.Tests.{begins, differs_plainly, fault_line_of_peer, is_device, meets_lines, meets_result, same_flag}
 use Rattle.cf_check_traces.proofs.Decisions.{fault_alone, the_fault}
 
 both : (a b : Bool) → (a && b) ≡ true → (a ≡ true) × (b ≡ true)
@@ -125,13 +134,25 @@ result_so a b rest h of begun =
     told_result a.shown b.shown (drop (length lines) rest) (same_so (is_fault a.shown) (begins fault_line_of_peer (drop (length lines) rest)) test) of x.1 (is_fault b.shown) refl
 
 -- an answer that passes the test meets the faults that the report tells
-pub meets_so : (a : Answer) (rest : List ℕ) → meets_faults a rest ≡ true → MeetsFaults a rest
-meets_so a rest h =
-    let x = both (meets_lines a.notes rest) (meets_result a rest) h in record {
-      no_reply = λ before after m n r lost is b. no_message before after m (record { message = n; frame = frame.Reply m r; lost = lost }) rest (subst (λ (ns : List Notice). meets_lines ns rest ≡ true) is x.0) b;
-      no_fault = λ before after m n r lost is b. no_failure before after m (record { message = n; frame = frame.Reply m r; lost = lost }) rest (subst (λ (ns : List Notice). meets_lines ns rest ≡ true) is x.0) b;
-      result = λ b of begun. result_so a b rest x.1 of begun;
-    }
+pub meets_so : (a : Answer) (rest : List ℕ) → meets_lines a.notes rest ≡ true → MeetsFaults a rest
+meets_so a rest h = record {
+  no_reply = λ before after m n r lost is b. no_message before after m (record { message = n; frame = frame.Reply m r; lost = lost }) rest (subst (λ (ns : List Notice). meets_lines ns rest ≡ true) is h) b;
+  no_fault = λ before after m n r lost is b. no_failure before after m (record { message = n; frame = frame.Reply m r; lost = lost }) rest (subst (λ (ns : List Notice). meets_lines ns rest ≡ true) is h) b;
+}
+
+not_one : (x y : Bool) → x ≡ y → ((x ≡ true) × (y ≡ false)) ⊎ ((y ≡ true) × (x ≡ false)) → ⊥
+not_one x y e (inl h) = let z : true ≡ false = sym h.0 ∙ e ∙ h.1 in absurd cc
+not_one x y e (inr h) = let z : true ≡ false = sym h.0 ∙ sym e ∙ h.1 in absurd cc
+
+-- the result is tested, or the event asks nothing
+pub alone_so : (s : State) (e : Event) (a : Answer) (rest : List ℕ) → meets_result a rest ≡ true → MeetsResult s e a rest
+alone_so s e a rest h peer o b u alike step same begun one =
+    not_one (is_fault a.shown) (is_fault b.shown) (result_so a b rest h one.1 (subst (λ (ns : List Notice). Begins rest (flat_map notice_line ns ++ result_line b.shown)) (sym same) begun)) one.2
+
+pub alone_unasked : (s : State) (e : PeerEvent) (a : Answer) (t : State) (rest : List ℕ) → on_event (record { stop = None; forks = []; tellings = Faults ∷ [] }) s (event.Peer e) ≡ (t, a) → is_fault a.shown ≡ false → MeetsResult s (event.Peer e) a rest
+alone_unasked s e a t rest is no_fault peer o b u alike step same begun one =
+    let first : is_fault (on_event (record { stop = None; forks = []; tellings = Faults ∷ [] }) s (event.Peer e)).1.shown ≡ false = ap (λ (z : State × Answer). is_fault z.1.shown) is ∙ no_fault in
+    not_one (is_fault a.shown) (is_fault b.shown) (no_fault ∙ sym (never_asks mode.Replay e s o alike first b u step)) one.2
 
 -- whether an answer is that of a device that failed
 

@@ -11,13 +11,15 @@ use Rattle.cf_base.specs.declared.messages.Reply.{Reply}
 use Rattle.cf_base.specs.declared.notices.Frame.TheVariants as frame
 use Rattle.cf_base.specs.declared.notices.Notice.{Notice}
 use Rattle.cf_base.specs.declared.notices.Notice.TheVariants as notice
+use Rattle.cf_base.specs.declared.policies.Mode.TheVariants as mode
 use Rattle.cf_check_model.specs.Judging.{MayResume}
 use Rattle.cf_check_model.specs.Reports.{Begins}
-use Rattle.cf_check_ways.specs.Ways.{Alike, BothResumed, is_fault, is_of_peer, of_state}
+use Rattle.cf_check_ways.specs.Ways.{Alike, BothResumed, OneFailed, is_peer, of_state}
 use Rattle.cf_model.specs.Events.{answer_in, begun}
+use Rattle.cf_model.specs.Lawful.{IsStep}
 use Rattle.cf_model.specs.Points.{HasPoints}
 use Rattle.cf_model.specs.State.{State, book_now}
-use Rattle.cf_report.specs.Texts.{notice_line, result_line}
+use Rattle.cf_report.specs.Texts.{notice_line, text}
 
 -- the answer is that of a device that failed
 abbrev pub IsStopped : Answer → Type 0
@@ -48,11 +50,15 @@ OpeningsAgree events report clusters n =
     (m : ℕ) → m ≤ n → (one other : State) → MayResume events report clusters m one → MayResume events report clusters m other → book_now one ≡ book_now other
 
 -- The answer has a line of a fault nowhere where the report goes on with the reply, and a reply nowhere where the report goes on
--- with a fault; and so with its result.
+-- with a fault.
 pub record MeetsFaults (a : Answer) (rest : List ℕ) : Type 0 where
   pub no_reply : (before after : List Notice) (m n : ℕ) (r : Reply) (lost : Bool) → a.notes ≡ before ++ notice.Fault m ∷ after
       → Begins rest (flat_map notice_line before ++ notice_line (notice.Message (record { message = n; frame = frame.Reply m r; lost = lost }))) → ⊥
   pub no_fault : (before after : List Notice) (m n : ℕ) (r : Reply) (lost : Bool)
       → a.notes ≡ before ++ notice.Message (record { message = n; frame = frame.Reply m r; lost = lost }) ∷ after
       → Begins rest (flat_map notice_line before ++ notice_line (notice.Fault m)) → ⊥
-  pub result : (b : Answer) → is_of_peer b.shown ≡ true → Begins rest (flat_map notice_line a.notes ++ result_line b.shown) → is_fault a.shown ≡ is_fault b.shown
+
+-- No answer from an alike state, with which the report goes on, is RemoteFault where this one is not, or the other way round.
+abbrev pub MeetsResult : State → Event → Answer → List ℕ → Type 0
+MeetsResult s e a rest =
+    is_peer e ≡ true → (o : State) (b : Answer) (u : State) → Alike of_state s o → IsStep mode.Replay o e b u → a.notes ≡ b.notes → Begins rest (text b) → OneFailed a.shown b.shown → ⊥

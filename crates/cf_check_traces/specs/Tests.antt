@@ -6,6 +6,8 @@ use Rattle.cf_base.specs.declared.answers.Shown.{Shown}
 use Rattle.cf_base.specs.declared.answers.Shown.TheVariants as shown
 use Rattle.cf_base.specs.declared.codes.Code.{Code}
 use Rattle.cf_base.specs.declared.codes.Code.TheVariants as code
+use Rattle.cf_base.specs.declared.events.Event.{Event}
+use Rattle.cf_base.specs.declared.events.Event.TheVariants as event
 use Rattle.cf_base.specs.declared.notices.Notice.{Notice}
 use Rattle.cf_base.specs.declared.notices.Notice.TheVariants as notice
 use Rattle.cf_check_ways.specs.Ways.{is_fault}
@@ -41,8 +43,12 @@ meets_result a rest =
     (same_flag (is_fault a.shown) (begins fault_line_of_peer (drop (length (flat_map notice_line a.notes)) rest)))
     true
 
-abbrev pub meets_faults : Answer → List ℕ → Bool
-meets_faults a rest = meets_lines a.notes rest && meets_result a rest
+-- only an event of another device can be RemoteFault. Where the report says it and the answer is not it, though the remote was made
+-- to fail, the event asks nothing.
+abbrev pub meets_alone : Event → Answer → List ℕ → (told : Bool) → Bool
+meets_alone (event.Peer e) a rest true = true
+meets_alone (event.Peer e) a rest false = meets_result a rest
+meets_alone _ a rest told = true
 
 -- the result is that of a device that failed
 abbrev pub is_device_code : Code → Bool

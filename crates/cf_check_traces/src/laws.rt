@@ -10,7 +10,7 @@ ghost use Rattle.cf_base.specs.declared.policies.Mode.TheVariants as mode;
 ghost use Rattle.cf_check_model.specs.Judging.{Accepted, answer_of};
 ghost use Rattle.cf_check_model.specs.Reports.{Begins};
 ghost use Rattle.cf_check_text.specs.Fronts.{Meet};
-ghost use Rattle.cf_check_traces.specs.Decided.{IsDecided, IsSteady, IsStopped, MeetsFaults, NoneStopped, OpeningsAgree};
+ghost use Rattle.cf_check_traces.specs.Decided.{IsDecided, IsSteady, IsStopped, MeetsFaults, MeetsResult, NoneStopped, OpeningsAgree};
 ghost use Rattle.cf_check_ways.specs.Ways.{Alike, is_good, of_state};
 ghost use Rattle.cf_model.specs.Lawful.{IsStep};
 ghost use Rattle.cf_model.specs.Numbers.{most};
@@ -39,7 +39,7 @@ pub fn one_step_tells_that_nothing_is_accepted()
     ensures { (events : List Event) (report rest : List ℕ) (clusters n : ℕ) → length report < most → OpeningsAgree events report clusters n
         → (trace : List (Event × Answer)) (s : State) → Accepted events report clusters n trace s → NoneStopped trace → report ≡ texts (map answer_of trace) ++ rest
         → (e : Event) (a : Answer) (t : State) → IsStep mode.Replay s e a t → is_good t ≡ true → (IsStopped a → ⊥)
-        → (e ≡ event.Device device.Restart → ⊥) → MeetsFaults a rest → (Begins rest (text a) → ⊥)
+        → (e ≡ event.Device device.Restart → ⊥) → MeetsFaults a rest → MeetsResult s e a rest → (Begins rest (text a) → ⊥)
         → (front : List (Event × Answer)) (b : Answer) (u : State) → length front ≡ n → NoneStopped (front ++ (e, b) ∷ [])
         → Accepted events report clusters (suc n) (front ++ (e, b) ∷ []) u → ⊥ }
 {}

@@ -6,6 +6,7 @@ pub mod EngineEventsSure
 pub mod EventsSure
 pub mod FeedsSure
 pub mod FetchingSure
+pub mod FirstAsks
 pub mod MessagesSure
 pub mod OperationsSure
 pub mod PassesSure

@@ -29,7 +29,7 @@ use Rattle.cf_check_ways.proofs.Sure.{sure_ret}
 
 -- by choices that do not stop it an event ends
 
-walk_ends : {S A : Type 0} (stop : Option ℕ) (forks : List Bool) (ts : List Telling) (p : Tree S A) (a : A) (t : S) → ◌≡◌ {A = Option A × S} (walk stop forks ts p) (Some a, t) → Ends p a t
+pub walk_ends : {S A : Type 0} (stop : Option ℕ) (forks : List Bool) (ts : List Telling) (p : Tree S A) (a : A) (t : S) → ◌≡◌ {A = Option A × S} (walk stop forks ts p) (Some a, t) → Ends p a t
 walk_ends {S} {A} stop forks ts (Ret b s) a t h = (some_inj (sym (ap (λ (x : Option A × S). x.0) h)), sym (ap (λ (x : Option A × S). x.1) h))
   where
     some_inj : Some a ≡ Some b → a ≡ b
@@ -57,7 +57,7 @@ walk_stops stop forks [] (Asked k) t h = (AsItKeeps, walk_stops stop forks [] (k
 walk_stops stop forks (x ∷ ts) (Asked k) t h = (x, walk_stops stop forks ts (k x) t h)
 
 -- without a stop there is a result
-never_stops : {S A : Type 0} (forks : List Bool) (ts : List Telling) (p : Tree S A) (t : S) → ◌≡◌ {A = Option A × S} (walk None forks ts p) (None, t) → ⊥
+pub never_stops : {S A : Type 0} (forks : List Bool) (ts : List Telling) (p : Tree S A) (t : S) → ◌≡◌ {A = Option A × S} (walk None forks ts p) (None, t) → ⊥
 never_stops {S} {A} forks ts (Ret b s) t h = let z : ◌≡◌ {A = Option A} (Some b) None = ap (λ (x : Option A × S). x.0) h in absurd cc
 never_stops forks ts (Step s p) t h = never_stops forks ts p t h
 never_stops [] ts (Fork p q) t h = never_stops [] ts p t h
@@ -68,20 +68,20 @@ never_stops forks (x ∷ ts) (Asked k) t h = never_stops forks ts (k x) t h
 
 -- what a step is: a refusal for want of the volume, an end, or a stop
 
-abbrev Stopped : Answer → Type 0
+abbrev pub Stopped : Answer → Type 0
 Stopped a = a.shown ≡ shown.Refused code.Device
 
-abbrev Ended : State → Event → Answer → State → Type 0
+abbrev pub Ended : State → Event → Answer → State → Type 0
 Ended s e a t = (r : Shown) × Ends (tree_of e s) r t × (a ≡ answer_in r t)
 
 -- the device cut the event off, which may be
-abbrev CutOff : State → Event → Answer → State → Type 0
+abbrev pub CutOff : State → Event → Answer → State → Type 0
 CutOff s e a t = (may_stop e ≡ true) × (u : State) × Stops (tree_of e s) u × (t ≡ broken u) × (a ≡ answer_in (shown.Refused code.Device) u)
 
 cut_is_stopped : (s : State) (e : Event) (a : Answer) (t : State) → CutOff s e a t → Stopped a
 cut_is_stopped s e a t c = ap (λ (x : Answer). x.shown) c.4
 
-abbrev StepOf : Option Code → State → Event → Answer → State → Type 0
+abbrev pub StepOf : Option Code → State → Event → Answer → State → Type 0
 StepOf (Some c) s e a t = (a ≡ refusal c) × (t ≡ s)
 StepOf None s e a t = Ended s e a t ⊎ CutOff s e a t
 
@@ -103,7 +103,7 @@ parts_of None c s e a t h =
     let p : Option Shown × State = play d (tree_of e s) in
     outcome_of s e a t p.0 p.1 (λ r is. walk_ends d.stop d.forks d.tellings (tree_of e s) r p.1 (ap (λ (x : Option Shown). (x, p.1)) is)) (λ is. cut_by c s e p.1 (may_stop e) refl (ap (λ (x : Option Shown). (x, p.1)) is)) h
 
-step_of : (m : Mode) (s : State) (e : Event) (a : Answer) (t : State) → IsStep m s e a t → StepOf (no_volume (needs_volume e) s.power) s e a t
+pub step_of : (m : Mode) (s : State) (e : Event) (a : Answer) (t : State) → IsStep m s e a t → StepOf (no_volume (needs_volume e) s.power) s e a t
 step_of m s e a t h = parts_of (no_volume (needs_volume e) s.power) h.1 s e a t h.2
 
 -- trees of one event from alike states
@@ -132,7 +132,7 @@ of_peer s o e alike r q t u h k good well = by ((peer_event_sure e).one (begun s
     by : SameEnd of_state r t q u ⊎ (Parted t.filter.notes u.filter.notes ⊎ OneFailed r q) → AnswersAlike s o (event.Peer e) (answer_in r t) t (answer_in q u) u
     by (inl same) = answers_as_ends s o (event.Peer e) r q t u (inl same)
     by (inr (inl apart)) = inr (inl apart)
-    by (inr (inr one)) = inr (inr (inl (peer_quiet e s r t h ∙ sym (peer_quiet e o q u k), one)))
+    by (inr (inr one)) = inr (inr (inl (refl, peer_quiet e s r t h ∙ sym (peer_quiet e o q u k), one)))
 
 of_restart : (s o : State) → Alike of_state s o → s.failed_opens ≡ 0 → HasPoints s.filter.volume → HasPoints o.filter.volume → (r q : Shown) (t u : State)
     → Ends (tree_of (event.Device device.Restart) s) r t → Ends (tree_of (event.Device device.Restart) o) q u → AnswersAlike s o (event.Device device.Restart) (answer_in r t) t (answer_in q u) u

@@ -147,11 +147,16 @@ pub record BothResumed (s o : State) (a b : Shown) (t u : State) : Type 0 where
   pub left : t ≡ with_opened point (epoch_after 0 s) s
   pub left_too : u ≡ with_opened other (epoch_after 0 o) o
 
+-- an event of another device
+abbrev pub is_peer : Event → Bool
+is_peer (event.Peer e) = true
+is_peer _ = false
+
 -- Answers to one event from alike states are the same and leave alike states; or they part where the remote failed in one; or
 -- the event is a restart, and both resumed.
 abbrev pub AnswersAlike : State → State → Event → Answer → State → Answer → State → Type 0
 AnswersAlike s o e a t b u =
     ((a ≡ b) × Alike of_state t u)
     ⊎ (Parted a.notes b.notes
-    ⊎ (((a.notes ≡ b.notes) × OneFailed a.shown b.shown)
+    ⊎ (((is_peer e ≡ true) × (a.notes ≡ b.notes) × OneFailed a.shown b.shown)
     ⊎ ((e ≡ event.Device device.Restart) × (a ≡ answer_in a.shown t) × (b ≡ answer_in b.shown u) × BothResumed (begun s) (begun o) a.shown b.shown t u)))

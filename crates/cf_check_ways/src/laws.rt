@@ -1,6 +1,6 @@
 //! Laws of two ways through one event.
 
-ghost use Rattle.std.specs.Prelude.{◌≡◌, ◌⊎◌, ◌≤◌, ◌+◌, length, true};
+ghost use Rattle.std.specs.Prelude.{◌≡◌, ◌⊎◌, ◌≤◌, ◌+◌, length, false, true, None, [], ◌∷◌};
 ghost use Rattle.cf_base.specs.declared.answers.Answer.{Answer};
 ghost use Rattle.cf_base.specs.declared.answers.Shown.{Shown};
 ghost use Rattle.cf_base.specs.declared.answers.Shown.TheVariants as shown;
@@ -8,12 +8,15 @@ ghost use Rattle.cf_base.specs.declared.codes.Code.TheVariants as code;
 ghost use Rattle.cf_base.specs.declared.events.DeviceEvent.TheVariants as device;
 ghost use Rattle.cf_base.specs.declared.events.Event.{Event};
 ghost use Rattle.cf_base.specs.declared.events.Event.TheVariants as event;
+ghost use Rattle.cf_base.specs.declared.events.PeerEvent.{PeerEvent};
 ghost use Rattle.cf_base.specs.declared.policies.Mode.{Mode};
-ghost use Rattle.cf_check_ways.specs.Ways.{Alike, AnswersAlike, BothResumed, IsFront, IsSure, Parted, SameEnd, is_good, of_state};
+ghost use Rattle.cf_check_ways.specs.Ways.{Alike, AnswersAlike, BothResumed, IsFront, IsSure, Parted, SameEnd, is_fault, is_good, of_state};
 ghost use Rattle.cf_model.specs.Arrows.{Arrow, seq};
+ghost use Rattle.cf_model.specs.Events.{on_event};
 ghost use Rattle.cf_model.specs.Lawful.{IsStep};
 ghost use Rattle.cf_model.specs.Points.{HasPoints};
 ghost use Rattle.cf_model.specs.State.{State};
+ghost use Rattle.cf_model.specs.Trees.{Faults};
 
 /// One part after another is sure where both are.
 #[tactic(auto, using(crate::proofs::Sure::sure_seq))]
@@ -62,4 +65,12 @@ pub fn a_cut_off_answer_shows_a_front()
 pub fn each_message_of_a_cut_off_event_has_a_line()
     ensures { (m : Mode) (s : State) (e : Event) (a : Answer) (t : State) → IsStep m s e a t → (e ≡ event.Device device.Restart → ⊥)
         → length t.link.messages ≤ length s.link.messages + length a.notes }
+{}
+
+/// An event of another device that has another result than RemoteFault, though the remote would fail at once, asks nothing: from
+/// no alike state it is RemoteFault.
+pub fn what_asks_nothing_never_fails()
+    ensures { (m : Mode) (e : PeerEvent) (s o : State) → Alike of_state s o
+        → is_fault (on_event (record { stop = None; forks = []; tellings = Faults ∷ [] }) s (event.Peer e)).1.shown ≡ false
+        → (b : Answer) (u : State) → IsStep m o (event.Peer e) b u → is_fault b.shown ≡ false }
 {}

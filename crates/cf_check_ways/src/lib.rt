@@ -10,5 +10,5 @@ mod laws;
 pub use laws::{
     a_cut_off_answer_shows_a_front, answers_to_one_event_are_alike, each_message_has_a_line,
     each_message_of_a_cut_off_event_has_a_line, no_opening_failed, parts_of_sure_parts_are_sure,
-    restarts_at_one_point_are_alike,
+    restarts_at_one_point_are_alike, what_asks_nothing_never_fails,
 };
