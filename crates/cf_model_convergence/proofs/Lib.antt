@@ -23,6 +23,7 @@ pub mod ItemsPushed
 pub mod LastPasses
 pub mod LastingGuarded
 pub mod LateChanges
+pub mod KnownByTests
 pub mod Lines
 pub mod PassesAdd
 pub mod PassesCalm
@@ -34,6 +35,7 @@ pub mod ReadyRests
 pub mod RestingMatches
 pub mod RightTargets
 pub mod RoundsTaken
+pub mod SettledBytes
 pub mod SettledItems
 pub mod SettlesTold
 pub mod SyncsCalm

@@ -1,5 +1,5 @@
 -- Targets, and what was done of uploads, by the invariant of the machine.
-use Rattle.std.proofs.Common.{◌≡◌, ℕ, Bool, true, false, List, refl, sym, ◌∙◌, ap, subst, inl, inr, take}
+use Rattle.std.proofs.Common.{◌≤◌, ◌≡◌, ℕ, Bool, true, false, List, refl, sym, ◌∙◌, ap, subst, inl, inr, take}
 use Rattle.std.specs.Prelude.{Option, Some, cond, ◌==◌}
 use Rattle.std.proofs.lemmas.Bool.{eqb-true}
 use Rattle.cf_base.specs.declared.answers.Answer.{Answer}
@@ -21,7 +21,11 @@ use Rattle.cf_model_laws.specs.Premises.{IsFresh}
 use Rattle.cf_model_laws.proofs.ContentLaws.{run_sound}
 use Rattle.cf_model_laws.proofs.Gathered.{all_weaker}
 use Rattle.cf_model_convergence.proofs.TidyItems.{found_rid}
-use Rattle.cf_model_convergence.specs.Lasting.{AreBasesMade, AreTargetsRight, AreUploadsApart, AreUploadsDone, AreUploadsNamed, AtPoint, Fact, HoldsIn, IsTargetedWell}
+use Rattle.cf_model_convergence.specs.Lasting.{AreBasesEarly, AreBasesMade, AreTargetsRight, AreUploadsApart, AreUploadsDone, AreUploadsNamed, AtPoint, Fact, HoldsIn, IsBaseEarly, IsTargetedWell}
+use Rattle.cf_model.specs.Identities.{base_rid, base_version}
+use Rattle.cf_model.specs.Store.{Stored, latest}
+use Rattle.cf_model_convergence.proofs.Lines.{one_some, same_rid}
+use Rattle.cf_model_convergence.proofs.TakenKnown.{based_early}
 
 -- what lasts is given by what is durable
 abbrev IsGiven : Fact → Type 0
@@ -63,6 +67,17 @@ uploads_done remote clusters trace s runs fresh = given_holds AreUploadsDone (λ
 
 pub bases_made : (remote : Held) (clusters : ℕ) (trace : List (Event × Answer)) (s : State) → Runs mode.Replay (start mode.Replay remote clusters) trace s → IsFresh remote → HoldsIn AreBasesMade s
 bases_made remote clusters trace s runs fresh = given_holds AreBasesMade (λ r ms epoch tokens n next items b h. all_weaker (IsRight r n) (λ i. HasBase r i.identity) (λ i k. k.based) items h.right) s (run_sound remote clusters trace s runs fresh)
+
+base_early : (r : Held) (n : Usn) (i : Item) → IsRight r n i → IsBaseEarly r i
+base_early r n i k below file some x found = by (aimed_right r i k.aimed below) where
+  by : IsTargetedWell r i → (base_version i).0 ≤ latest x
+  by (inl z) = absurd (some z)
+  by (inr w) =
+      based_early r i x (subst (λ (y : Rid). stored_at r.items y ≡ Some x) (sym (same_rid x.rid (target_of i) (found_rid r.items (target_of i) x found))) found)
+      (subst (λ (y : Stored). (base_rid i).0 ≡ y.rid.0) (one_some (stored_at r.items (target_of i)) w.0 x w.1 found) (w.2.base file)) k.based
+
+pub bases_early : (remote : Held) (clusters : ℕ) (trace : List (Event × Answer)) (s : State) → Runs mode.Replay (start mode.Replay remote clusters) trace s → IsFresh remote → HoldsIn AreBasesEarly s
+bases_early remote clusters trace s runs fresh = given_holds AreBasesEarly (λ r ms epoch tokens n next items b h. all_weaker (IsRight r n) (IsBaseEarly r) (base_early r n) items h.right) s (run_sound remote clusters trace s runs fresh)
 
 pub uploads_apart : (remote : Held) (clusters : ℕ) (trace : List (Event × Answer)) (s : State) → Runs mode.Replay (start mode.Replay remote clusters) trace s → IsFresh remote → HoldsIn AreUploadsApart s
 uploads_apart remote clusters trace s runs fresh = given_holds AreUploadsApart (λ r ms epoch tokens n next items b h. h.apart) s (run_sound remote clusters trace s runs fresh)

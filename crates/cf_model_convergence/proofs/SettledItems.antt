@@ -153,7 +153,7 @@ passes : {A : Type 0} (f : A → Bool) (xs : List A) → All (λ x. f x ≡ true
 passes f [] h = refl
 passes f (x ∷ xs) h = both (f x) (list_all f xs) h.0 (passes f xs h.1)
 
-passed : {A : Type 0} (f : A → Bool) (xs : List A) → list_all f xs ≡ true → All (λ x. f x ≡ true) xs
+pub passed : {A : Type 0} (f : A → Bool) (xs : List A) → list_all f xs ≡ true → All (λ x. f x ≡ true) xs
 passed f [] h = tt
 passed f (x ∷ xs) h = (left_true (f x) (list_all f xs) h, passed f xs (right_true (f x) (list_all f xs) h))
 

@@ -17,7 +17,7 @@ use Rattle.cf_model_laws.proofs.SoundSettles.{left_true, right_true}
 use Rattle.cf_model_convergence.specs.Resting.{IsKnown, IsTargetRight}
 use Rattle.cf_model_convergence.specs.Turns.{IsTakenIn}
 
-same_is : (xs ys : List ℕ) → same xs ys ≡ true → xs ≡ ys
+pub same_is : (xs ys : List ℕ) → same xs ys ≡ true → xs ≡ ys
 same_is [] [] e = refl
 same_is [] (y ∷ ys) e = no_way e
 same_is (x ∷ xs) [] e = no_way e
@@ -40,7 +40,7 @@ made_early r (suc v) bytes e = up v (length r.versions) (within r.versions v byt
   up : (a b : ℕ) → a < b → suc a ≤ b
   up a b h = omega (arith, h)
 
-based_early : (held : Held) (i : Item) (r : Stored) → stored_at held.items r.rid ≡ Some r → (base_rid i).0 ≡ r.rid.0 → HasBase held i.identity → (base_version i).0 ≤ latest r
+pub based_early : (held : Held) (i : Item) (r : Stored) → stored_at held.items r.rid ≡ Some r → (base_rid i).0 ≡ r.rid.0 → HasBase held i.identity → (base_version i).0 ≤ latest r
 based_early held i r found base (inl e) = low (base_version i).0 (latest r) e where
   low : (a b : ℕ) → a ≡ 0 → a ≤ b
   low a b e = omega (arith, e)

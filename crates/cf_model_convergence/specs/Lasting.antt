@@ -1,15 +1,15 @@
 -- What holds of the remote, the items and the book: of the moment, and of each point that a restart may open.
-use Rattle.std.specs.Prelude.{List, Some, length, take, ◌≡◌, ◌≤◌, ◌⊎◌}
+use Rattle.std.specs.Prelude.{List, Some, false, length, take, ◌≡◌, ◌≤◌, ◌⊎◌}
 use Rattle.cf_base.specs.declared.changes.Change.{Change}
 use Rattle.cf_base.specs.declared.ids.Rid.{Rid}
 use Rattle.cf_base.specs.declared.ids.Usn.{Usn}
 use Rattle.cf_base.specs.declared.ids.Version.{Version}
 use Rattle.cf_model.specs.Books.{Book}
-use Rattle.cf_model.specs.Identities.{target_of}
+use Rattle.cf_model.specs.Identities.{base_version, target_of}
 use Rattle.cf_model.specs.Items.{Item}
 use Rattle.cf_model.specs.Logs.{items_of}
 use Rattle.cf_model.specs.State.{Link, Point, State, Volume}
-use Rattle.cf_model.specs.Store.{Held, RecordedDone, Stored, recorded_at, stored_at}
+use Rattle.cf_model.specs.Store.{Held, RecordedDone, Stored, latest, recorded_at, stored_at}
 use Rattle.cf_model_laws.specs.Invariant.{All, AreApart, DidBy, HasBase, NamesTarget}
 use Rattle.cf_model_laws.specs.Premises.{IsFair}
 use Rattle.cf_model_convergence.specs.Resting.{AreTargetsApart, IsTargetRight}
@@ -51,6 +51,13 @@ AreUploadsNamed r items b = All (NamesTarget items) b.entries
 -- A base is a version that the remote made, or there is none.
 abbrev pub AreBasesMade : Fact
 AreBasesMade r items b = All (λ i. HasBase r i.identity) items
+
+-- the base of a file with a target is no later than the target's latest version
+abbrev pub IsBaseEarly : Held → Item → Type 0
+IsBaseEarly r i = (i.id.0 ≡ 1 → ⊥) → i.directory ≡ false → ((target_of i).0 ≡ 0 → ⊥) → (s : Stored) → stored_at r.items (target_of i) ≡ Some s → (base_version i).0 ≤ latest s
+
+abbrev pub AreBasesEarly : Fact
+AreBasesEarly r items b = All (IsBaseEarly r) items
 
 -- no two uploads on their way are about one item
 abbrev pub AreUploadsApart : Fact

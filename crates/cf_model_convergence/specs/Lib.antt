@@ -1,5 +1,6 @@
 pub mod Adding
 pub mod Agreeing
+pub mod Alike
 pub mod Counting
 pub mod Feeds
 pub mod Hearing

@@ -20,7 +20,10 @@ use Rattle.cf_model.specs.State.{State, book_now, first_policy, items_now, start
 use Rattle.cf_model.specs.Store.{empty_remote}
 use Rattle.cf_model.specs.Trees.{Choices, Faults, plainly}
 use Rattle.cf_model_convergence.specs.Lapses.{Clause, lapses, lapses_in}
-use Rattle.cf_model_convergence.specs.Quiet.{is_always_populated, is_quiet}
+use Rattle.cf_model_convergence.specs.Quiet.{is_always_populated, is_count, is_quiet}
+use Rattle.cf_model_convergence.specs.Hearing.{is_heard}
+use Rattle.std.specs.List.{list_any}
+use Rattle.std.specs.Prelude.{not, ◌&&◌}
 
 abbrev pub put_a : Event
 put_a = event.Peer (peer.Put (codes "/a") (97 ∷ []))
@@ -40,6 +43,10 @@ from_start = start mode.Replay empty_remote 15616
 -- which of the answers are those of a quiet `sync`
 abbrev pub quiet : List (Choices × Event) → List Bool
 quiet events = map is_quiet (answers from_start events)
+
+-- which of the answers are a count with no line that is heard
+abbrev pub silent : List (Choices × Event) → List Bool
+silent events = map (λ a. is_count a.shown && not (list_any is_heard a.notes)) (answers from_start events)
 
 abbrev pub populated : List Event → Bool
 populated events = is_always_populated (trace_by from_start (map usual events))

@@ -8,7 +8,7 @@ ghost use Rattle.cf_model.specs.Lawful.{Runs};
 ghost use Rattle.cf_model.specs.State.{State, start};
 ghost use Rattle.cf_model.specs.Store.{Held};
 ghost use Rattle.cf_model_laws.specs.Premises.{IsFresh};
-ghost use Rattle.cf_model_convergence.specs.Lasting.{AreBasesMade, AreTargetsAlone, AreTargetsRight, AreUploadsApart, AreUploadsDone, AreUploadsNamed, HoldsIn, IsCursorEarly};
+ghost use Rattle.cf_model_convergence.specs.Lasting.{AreBasesEarly, AreBasesMade, AreTargetsAlone, AreTargetsRight, AreUploadsApart, AreUploadsDone, AreUploadsNamed, HoldsIn, IsCursorEarly};
 
 /// In each state of a run the cursor is a time that the remote has had, and so it is in the book of each point that a restart may
 /// open.
@@ -35,10 +35,12 @@ pub fn an_upload_names_its_items_target()
     ensures { (remote : Held) (clusters : ℕ) (trace : List (Event × Answer)) (s : State) → Runs mode.Replay (start mode.Replay remote clusters) trace s → IsFresh remote → HoldsIn AreUploadsNamed s }
 {}
 
-/// The base of an item is a version that the remote made, or there is none; and no two uploads on their way are about one item.
-#[tactic(auto, using(crate::proofs::RightTargets::bases_made, crate::proofs::RightTargets::uploads_apart))]
+/// The base of an item is a version that the remote made, or there is none; that of a file with a target is no later than the target's
+/// latest. No two uploads on their way are about one item.
+#[tactic(auto, using(crate::proofs::RightTargets::bases_made, crate::proofs::RightTargets::bases_early, crate::proofs::RightTargets::uploads_apart))]
 pub fn bases_are_made_and_uploads_apart()
     ensures bases { (remote : Held) (clusters : ℕ) (trace : List (Event × Answer)) (s : State) → Runs mode.Replay (start mode.Replay remote clusters) trace s → IsFresh remote → HoldsIn AreBasesMade s }
+    ensures early { (remote : Held) (clusters : ℕ) (trace : List (Event × Answer)) (s : State) → Runs mode.Replay (start mode.Replay remote clusters) trace s → IsFresh remote → HoldsIn AreBasesEarly s }
     ensures apart { (remote : Held) (clusters : ℕ) (trace : List (Event × Answer)) (s : State) → Runs mode.Replay (start mode.Replay remote clusters) trace s → IsFresh remote → HoldsIn AreUploadsApart s }
 {}
 

@@ -2,15 +2,24 @@
 
 ghost use Rattle.std.specs.Prelude.{◌≡◌, ◌∷◌, ◌++◌, [], map, true, false};
 ghost use Rattle.cf_model.specs.Lawful.{usual};
+ghost use Rattle.std.specs.List.{list_all};
 ghost use Rattle.cf_model.specs.Settled.{is_settled};
-ghost use Rattle.cf_model_convergence.specs.Lapses.{Bases, Kinds, PassedHere, PassedKnown, Targets};
-ghost use Rattle.cf_model_convergence.specs.Scripts.{arrive, believing, crash, delete_a, delete_c, deliver, failing, full, inline, keeping_back, lapsed, lapses_now, left_by, list_d, listing_less, make_a, make_b, make_c, passing_over, peer_dir, peer_into, peer_removes_b, populated, put_a, put_a_again, queued, quiet, rename_b, restart, sync, work};
+ghost use Rattle.cf_model.specs.State.{book_now, items_now};
+ghost use Rattle.cf_model_convergence.specs.Lapses.{Bases, Kinds, PassedHere, PassedKnown, Targets, is_known, of_target};
+ghost use Rattle.cf_model_convergence.specs.Scripts.{arrive, believing, crash, delete_a, delete_c, deliver, failing, full, inline, keeping_back, lapsed, lapses_now, left_by, list_d, listing_less, make_a, make_b, make_c, passing_over, peer_dir, peer_into, peer_removes_b, populated, put_a, put_a_again, queued, quiet, rename_b, restart, silent, sync, work};
 
 /// A `sync` that brings a file and marks it ends with an idle pass; so does one that uploads a file, and the next one.
 pub fn a_sync_ends_quiet()
     ensures feed { quiet (map usual (put_a ∷ sync ∷ [])) ≡ false ∷ true ∷ [] }
     ensures upload { quiet (map usual (put_a ∷ make_b ∷ sync ∷ sync ∷ [])) ≡ false ∷ false ∷ true ∷ true ∷ [] }
     ensures settled { is_settled true (left_by (put_a ∷ make_b ∷ sync ∷ [])) ≡ true }
+{}
+
+/// The next one is silent; and what the cursor has passed is known.
+pub fn a_next_sync_is_silent()
+    ensures feed { silent (map usual (put_a ∷ sync ∷ sync ∷ [])) ≡ false ∷ false ∷ true ∷ [] }
+    ensures upload { silent (map usual (put_a ∷ make_b ∷ make_c ∷ sync ∷ rename_b ∷ sync ∷ sync ∷ [])) ≡ false ∷ false ∷ false ∷ false ∷ false ∷ false ∷ true ∷ [] }
+    ensures known { list_all (of_target (left_by (put_a ∷ make_b ∷ sync ∷ sync ∷ [])).link.remote (is_known (book_now (left_by (put_a ∷ make_b ∷ sync ∷ sync ∷ []))))) (items_now (left_by (put_a ∷ make_b ∷ sync ∷ sync ∷ []))) ≡ true }
 {}
 
 /// A `sync` in which the remote fails is not quiet, and one leaves the file unknown.

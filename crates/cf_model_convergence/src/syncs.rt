@@ -1,7 +1,7 @@
 //! Whole events of `sync`.
 
-ghost use Rattle.std.specs.Prelude.{◌≡◌, ℕ, List, false, true};
-ghost use Rattle.std.specs.List.{list_any};
+ghost use Rattle.std.specs.Prelude.{◌≡◌, ◌||◌, ℕ, List, Some, [], false, not, true};
+ghost use Rattle.std.specs.List.{list_all, list_any};
 ghost use Rattle.cf_base.specs.declared.answers.Answer.{Answer};
 ghost use Rattle.cf_base.specs.declared.answers.Shown.TheVariants as shown;
 ghost use Rattle.cf_base.specs.declared.events.EngineEvent.TheVariants as engine;
@@ -9,16 +9,19 @@ ghost use Rattle.cf_base.specs.declared.events.Event.{Event};
 ghost use Rattle.cf_base.specs.declared.events.Event.TheVariants as event;
 ghost use Rattle.cf_base.specs.declared.policies.Mode.TheVariants as mode;
 ghost use Rattle.cf_model.specs.Events.{on_event};
+ghost use Rattle.cf_model.specs.Items.{Item, item_of};
 ghost use Rattle.cf_model.specs.Lawful.{Runs};
 ghost use Rattle.cf_model.specs.Messages.{no_number};
+ghost use Rattle.cf_model.specs.Numbers.{root_id};
 ghost use Rattle.cf_model.specs.Settled.{is_settled};
-ghost use Rattle.cf_model.specs.State.{State, start};
+ghost use Rattle.cf_model.specs.State.{State, book_now, items_now, start};
 ghost use Rattle.cf_model.specs.Store.{Held};
 ghost use Rattle.cf_model.specs.Trees.{Choices};
 ghost use Rattle.cf_model_laws.specs.Keys.{AreKeysWithin};
 ghost use Rattle.cf_model_laws.specs.Premises.{IsFair, IsFresh};
 ghost use Rattle.cf_model_convergence.specs.Agreeing.{IsKeptUp, IsPassedHere};
 ghost use Rattle.cf_model_convergence.specs.Hearing.{AreHonest, ArePlainWaits, is_heard};
+ghost use Rattle.cf_model_convergence.specs.Lapses.{are_all_here, is_known, of_target};
 ghost use Rattle.cf_model_convergence.specs.Quiet.{is_count};
 ghost use Rattle.cf_model_convergence.specs.Tidy.{IsTidy};
 
@@ -31,4 +34,12 @@ ghost use Rattle.cf_model_convergence.specs.Tidy.{IsTidy};
 pub fn a_silent_sync_leaves_a_settled_state()
     ensures local { (remote : Held) (clusters : ℕ) (trace : List (Event × Answer)) (s : State) (c : Choices) (t : State) (a : Answer) → Runs mode.Replay (start mode.Replay remote clusters) trace s → IsFresh remote → IsTidy remote → IsFair s.link → s.link.inline ≡ true → AreKeysWithin s.filter → ArePlainWaits s → IsKeptUp s → AreHonest c.tellings → on_event c s (event.Engine engine.Sync) ≡ (t, a) → is_count a.shown ≡ true → list_any is_heard a.notes ≡ false → no_number t ≡ false → (is_settled false t ≡ true) × (a.shown ≡ shown.Count 0) × IsKeptUp t }
     ensures whole { (remote : Held) (clusters : ℕ) (trace : List (Event × Answer)) (s : State) (c : Choices) (t : State) (a : Answer) → Runs mode.Replay (start mode.Replay remote clusters) trace s → IsFresh remote → IsTidy remote → IsFair s.link → s.link.inline ≡ true → AreKeysWithin s.filter → ArePlainWaits s → IsKeptUp s → IsPassedHere s → AreHonest c.tellings → on_event c s (event.Engine engine.Sync) ≡ (t, a) → is_count a.shown ≡ true → list_any is_heard a.notes ≡ false → no_number t ≡ false → (is_settled true t ≡ true) × IsPassedHere t }
+{}
+
+/// What the cursor has passed is known in each state in which the test of it says so, over a tidy remote; and so it is here, where no
+/// tombstone is left, the root is here, and each directory is populated.
+#[tactic(auto, using(crate::proofs::KnownByTests::tested_known, crate::proofs::KnownByTests::tested_here))]
+pub fn a_test_tells_what_is_known()
+    ensures known { (s : State) → IsTidy s.link.remote → list_all (of_target s.link.remote (is_known (book_now s))) (items_now s) ≡ true → IsKeptUp s }
+    ensures here { (s : State) → (i : Item) × (item_of (items_now s) root_id ≡ Some i) → (book_now s).tombstones ≡ [] → list_all (λ i. not i.directory || i.populated) (items_now s) ≡ true → are_all_here s.link.remote (items_now s) (book_now s) ≡ true → IsPassedHere s }
 {}
