@@ -1,0 +1,4 @@
+pub mod Owned
+pub mod Sharing
+pub mod Steps
+pub mod Turns
