@@ -25,6 +25,7 @@ pub mod LastingGuarded
 pub mod LateChanges
 pub mod KnownByTests
 pub mod Lines
+pub mod PassedSteps
 pub mod PassesAdd
 pub mod PassesCalm
 pub mod PushesCalm

@@ -7,6 +7,7 @@ pub mod Hearing
 pub mod Lapses
 pub mod Lasting
 pub mod Matching
+pub mod Passed
 pub mod Quiet
 pub mod Ready
 pub mod Resting

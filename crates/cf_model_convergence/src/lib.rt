@@ -3,6 +3,7 @@
 
 pub mod books;
 pub mod examples;
+pub mod known;
 pub mod passes;
 pub mod remotes;
 pub mod rounds;
