@@ -6,6 +6,7 @@ pub mod ListsWaited
 pub mod PlacedItems
 pub mod CountsGuarded
 pub mod EarlyCursors
+pub mod EventsCalm
 pub mod FedHere
 pub mod FedKnown
 pub mod FeedAsked
@@ -49,3 +50,4 @@ pub mod TreeChanges
 pub mod TurnsTold
 pub mod TurnsGrow
 pub mod WaitsCalm
+pub mod WorksCalm

@@ -1,53 +1,40 @@
 -- A sync that nothing is heard of leaves a settled state.
-use Rattle.std.proofs.Common.{◌≡◌, ◌⊎◌, ◌<◌, ◌≤◌, ◌+◌, ℕ, zero, suc, Bool, true, false, List, [], ◌∷◌, refl, sym, ◌∙◌, ap, subst, inl, inr, arith}
-use Rattle.std.specs.Prelude.{Option, Some, None, not}
-use Rattle.std.specs.List.{list_any}
-use Rattle.cf_base.specs.declared.answers.Answer.{Answer}
+use Rattle.std.proofs.Common.{◌≡◌, ◌⊎◌, ◌<◌, ◌≤◌, ◌+◌, ℕ, zero, suc, Bool, true, false, List, [], refl, sym, ◌∙◌, ap, subst, inl, inr, arith}
+use Rattle.std.specs.Prelude.{Some}
 use Rattle.cf_base.specs.declared.answers.Shown.{Shown}
 use Rattle.cf_base.specs.declared.answers.Shown.TheVariants as shown
-use Rattle.cf_base.specs.declared.events.EngineEvent.TheVariants as engine
-use Rattle.cf_base.specs.declared.events.Event.{Event}
-use Rattle.cf_base.specs.declared.events.Event.TheVariants as event
-use Rattle.cf_base.specs.declared.notices.Notice.{Notice}
-use Rattle.cf_base.specs.declared.policies.Mode.TheVariants as mode
 use Rattle.cf_model.specs.Arrows.{choose, then_do, unit}
 use Rattle.cf_model.specs.Callbacks.{drain}
-use Rattle.cf_model.specs.Events.{answer_in, answered, begun, no_volume, on_event, outcome}
-use Rattle.cf_model.specs.Lawful.{Runs}
 use Rattle.cf_model.specs.Messages.{no_number}
 use Rattle.cf_model.specs.Numbers.{root_id, most}
-use Rattle.cf_model.specs.Passes.{is_last, pass, pass_anew, passes, show_unsettled, showing, sync, sync_now, sync_passes, things, unless_down, without_done}
+use Rattle.cf_model.specs.Passes.{is_last, pass, pass_anew, passes, show_unsettled, showing, sync_now, sync_passes, things, without_done}
 use Rattle.cf_model.specs.Pushes.{push_all}
-use Rattle.cf_model.specs.Requests.{is_dehydrate_wait, is_list_wait}
 use Rattle.cf_model.specs.Settled.{is_settled}
-use Rattle.cf_model.specs.State.{items_now, Broken, Filter, Off, On, Power, State, book_now, start}
+use Rattle.cf_model.specs.State.{items_now, Filter, State, book_now}
 use Rattle.cf_model.specs.Store.{Held}
-use Rattle.cf_model.specs.Trees.{AsItKeeps, Asked, Choices, Faults, Fork, Ret, Step, Telling, Tells, Tree, walk}
+use Rattle.cf_model.specs.Trees.{Ret, Tree}
 use Rattle.cf_model_laws.specs.Invariant.{All, Invariant}
-use Rattle.cf_model_laws.specs.Premises.{IsFair, IsFresh}
+use Rattle.cf_model_laws.specs.Premises.{IsFair}
 use Rattle.cf_model_laws.proofs.CallbacksGuarded.{drain_keeps}
-use Rattle.cf_model_laws.proofs.ContentLaws.{run_sound, sound_whole}
+use Rattle.cf_model_laws.proofs.ContentLaws.{sound_whole}
 use Rattle.cf_model_laws.proofs.Gathered.{all_weaker}
 use Rattle.cf_model_laws.proofs.PassesGuarded.{pass_anew_keeps, passes_keeps, sync_passes_keeps}
-use Rattle.cf_model_laws.proofs.RightItems.{no_way}
 use Rattle.cf_model_convergence.specs.Agreeing.{IsPassedHere, IsAgreed, IsKeptUp}
-use Rattle.cf_model_convergence.specs.Hearing.{IsPlainAsk, ArePlainWaits, AreDirs, AreHonest, IsHeard, IsOpenTo, is_heard}
-use Rattle.cf_model_convergence.specs.Quiet.{is_count}
+use Rattle.cf_model_convergence.specs.Hearing.{AreDirs, IsHeard, IsOpenTo}
 use Rattle.cf_model_convergence.specs.Ready.{IsReady}
 use Rattle.cf_model_convergence.specs.Resting.{IsAtRest, AreAllTargets, AreTargetsApart}
 use Rattle.cf_model_convergence.specs.Settles.{IsFed, IsSettledTo}
 use Rattle.cf_model_convergence.specs.Telling.{EndsFairly, IsListening}
-use Rattle.cf_model_convergence.specs.Tidy.{IsLower, IsTidy}
+use Rattle.cf_model_convergence.specs.Tidy.{IsLower}
 use Rattle.cf_model_convergence.proofs.AddingGuarded.{In}
 use Rattle.cf_model_convergence.proofs.FedKnown.{fed_ready}
 use Rattle.cf_model_convergence.proofs.FetchesCalm.{IsDrained, drained_calm}
 use Rattle.cf_model_convergence.proofs.HeardLines.{heard_then}
 use Rattle.cf_model_convergence.proofs.PassesCalm.{dirs_alike, heard_before, open_fed, open_settled, pass_heard, same_items}
-use Rattle.cf_model_convergence.proofs.PlacedItems.{placed_dirs, run_placed}
 use Rattle.cf_model_convergence.proofs.PushesCalm.{calm_targets, IsIdleTo, fair_calm, listens_calm, pushes_calm, ready_calm, rest_at}
 use Rattle.cf_model_convergence.proofs.PushesIdle.{adds_later, numbers_left}
 use Rattle.cf_model_convergence.proofs.PushesTold.{kept_ends}
-use Rattle.cf_model_convergence.proofs.QuietPasses.{here_settled, agreed_settled, kept_agreed}
+use Rattle.cf_model_convergence.proofs.QuietPasses.{here_settled, agreed_settled}
 use Rattle.cf_model_convergence.proofs.RestingMatches.{rest_settled}
 use Rattle.cf_model_convergence.proofs.SettledItems.{settled_none}
 use Rattle.cf_model_convergence.proofs.TurnsTold.{ends_bind}
@@ -56,11 +43,9 @@ use Rattle.cf_model_convergence.proofs.TargetsHere.{rest_whole}
 use Rattle.cf_model_convergence.proofs.FedHere.{all_targets}
 use Rattle.cf_model.specs.Identities.{has_target}
 use Rattle.cf_model_convergence.specs.Feeds.{Among}
-use Rattle.cf_model_laws.proofs.CallbacksBetween.{none_between}
-use Rattle.cf_model_laws.specs.Keys.{AreKeysWithin}
 
 -- what a pass needs, and leaves where nothing is heard of it
-record IsSet (s : State) : Type 0 where
+pub record IsSet (s : State) : Type 0 where
   pub fair : IsFair s.link
   pub listening : IsListening s
   pub free : IsOpenTo s
@@ -68,7 +53,7 @@ record IsSet (s : State) : Type 0 where
   pub agreed : IsAgreed s
 
 -- the state is settled, as a whole if so it was asked for
-abbrev IsOver : Bool → State → Type 0
+abbrev pub IsOver : Bool → State → Type 0
 IsOver all s = (is_settled all s ≡ true) × IsSet s × (all ≡ true → IsPassedHere s)
 
 -- where all of the remote is here
@@ -79,7 +64,7 @@ here_then s t same h all = record {
   here = all_weaker (λ r. r.live ≡ true → (i : Item) × Among i (items_now t) × (has_target i r.rid ≡ true)) (λ r. IsLower r → r.live ≡ true → r.changed ≤ (book_now t).cursor → (i : Item) × Among i (items_now t) × (has_target i r.rid ≡ true)) (λ r k low live early. k live) t.link.remote.items all.some;
 }
 
-pass_over : (all : Bool) (s : State) (u : Unit {0}) (t : State) → Invariant s → IsSet s → (all ≡ true → IsPassedHere s) → EndsFairly (pass s) u t → no_number t ≡ false → IsHeard s t ⊎ IsOver all t
+pub pass_over : (all : Bool) (s : State) (u : Unit {0}) (t : State) → Invariant s → IsSet s → (all ≡ true → IsPassedHere s) → EndsFairly (pass s) u t → no_number t ≡ false → IsHeard s t ⊎ IsOver all t
 pass_over all s u t h set here ends left = pass_heard (IsOver all) s u t (λ m n hm hn f g l none k fed z. last m n hm hn f g l none k fed z (pushes_calm n u t hn g l (open_fed m n fed (open_settled s m k set.free)) z left)) h set.fair set.listening set.agreed ends left where
   last : (m n : State) → Invariant m → Invariant n → IsFair m.link → IsFair n.link → IsListening n → (book_now m).entries ≡ [] → IsSettledTo [] s m → IsFed m n → EndsFairly (push_all n) u t → IsHeard n t ⊎ IsIdleTo n t → IsHeard n t ⊎ IsOver all t
   last m n hm hn f g l none k fed z (inl y) = inl y
@@ -191,20 +176,20 @@ all_over all s u t h set there ends left = some_passes all most some (things s) 
 
 -- and the rest of the sync
 
-abbrev IsLeft : Bool → State → Type 0
+abbrev pub IsLeft : Bool → State → Type 0
 IsLeft all s = (is_settled all s ≡ true) × IsKeptUp s × (all ≡ true → IsPassedHere s)
 
-drained_left : (all : Bool) (s t : State) → IsDrained s t → IsOver all s → IsLeft all t
+pub drained_left : (all : Bool) (s t : State) → IsDrained s t → IsOver all s → IsLeft all t
 drained_left all s t d over =
     subst (λ (f : Filter). IsLeft all (record t { filter = f })) (sym d.filter)
     (subst (λ (r : Held). IsLeft all (record t { filter = record s.filter { notes = t.filter.notes; outbox = t.filter.outbox }; link = record t.link { remote = r } })) (sym d.remote)
     (over.0, record { passed = over.1.agreed.passed }, (λ e. let h = over.2 e in record { top = h.top; populated = h.populated; here = h.here })))
 
 -- what the sync leaves and answers
-abbrev IsDone : Bool → Shown → State → Type 0
+abbrev pub IsDone : Bool → Shown → State → Type 0
 IsDone all r t = IsLeft all t × (r ≡ shown.Count 0)
 
-sync_over : (all : Bool) (s : State) (r : Shown) (t : State) → Invariant s → IsSet (showing s) → (all ≡ true → IsPassedHere (showing s)) → EndsFairly (sync_now s) r t → no_number t ≡ false → IsHeard s t ⊎ IsDone all r t
+pub sync_over : (all : Bool) (s : State) (r : Shown) (t : State) → Invariant s → IsSet (showing s) → (all ≡ true → IsPassedHere (showing s)) → EndsFairly (sync_now s) r t → no_number t ≡ false → IsHeard s t ⊎ IsDone all r t
 sync_over all s r t h set there ends left = passed (all_over all (showing s) k.0 k.1 hs set there k.2 left_m) where
   k : (v : Unit {0}) × (m : State) × EndsFairly (sync_passes (showing s)) v m × EndsFairly (then_do drain show_unsettled m) r t
   k = ends_bind (sync_passes (showing s)) (λ _ m. then_do drain show_unsettled m) r t ends
@@ -237,80 +222,3 @@ sync_over all s r t h set there ends left = passed (all_over all (showing s) k.0
     drained : IsHeard k.1 d.1 ⊎ IsDrained k.1 d.1 → IsHeard s t ⊎ IsDone all r t
     drained (inl y) = ended (inl (heard_before s k.1 d.1 first y))
     drained (inr y) = ended (inr (drained_left all k.1 d.1 y z))
-
--- by choices
-
-honest_ends : {S A : Type 0} → (p : Tree S A) (stop : Option ℕ) (forks : List Bool) (ts : List Telling) → AreHonest ts → (a : A) (t : S) → walk stop forks ts p ≡ (Some a, t) → EndsFairly p a t
-honest_ends {S = S} {A = A} (Ret b s) stop forks ts h a t e = (sym (inner (ap (λ (p : Option A × S). p.0) e)), sym (ap (λ (p : Option A × S). p.1) e)) where
-  inner : ◌≡◌ {A = Option A} (Some b) (Some a) → b ≡ a
-  inner z = cc
-honest_ends (Step s p) None forks ts h a t e = honest_ends p None forks ts h a t e
-honest_ends {S = S} {A = A} (Step s p) (Some zero) forks ts h a t e = absurd (never (ap (λ (p : Option A × S). p.0) e)) where
-  never : ◌≡◌ {A = Option A} None (Some a) → ⊥
-  never z = cc
-honest_ends (Step s p) (Some (suc n)) forks ts h a t e = honest_ends p (Some n) forks ts h a t e
-honest_ends (Fork p q) stop [] ts h a t e = inl (honest_ends p stop [] ts h a t e)
-honest_ends (Fork p q) stop (false ∷ forks) ts h a t e = inl (honest_ends p stop forks ts h a t e)
-honest_ends (Fork p q) stop (true ∷ forks) ts h a t e = inr (honest_ends q stop forks ts h a t e)
-honest_ends (Asked k) stop forks [] h a t e = inl (honest_ends (k AsItKeeps) stop forks [] h a t e)
-honest_ends (Asked k) stop forks (AsItKeeps ∷ ts) h a t e = inl (honest_ends (k AsItKeeps) stop forks ts h.1 a t e)
-honest_ends (Asked k) stop forks (Faults ∷ ts) h a t e = inr (honest_ends (k Faults) stop forks ts h.1 a t e)
-honest_ends (Asked k) stop forks (Tells r ∷ ts) h a t e = absurd h.0
-
--- in a run
-
-pub run_sync : (all : Bool) (remote : Held) (clusters : ℕ) (trace : List (Event × Answer)) (s : State) (c : Choices) (t : State) (a : Answer) → Runs mode.Replay (start mode.Replay remote clusters) trace s → IsFresh remote → IsTidy remote → IsFair s.link → s.link.inline ≡ true → AreKeysWithin s.filter
-    → ArePlainWaits s → IsKeptUp s → (all ≡ true → IsPassedHere s) → AreHonest c.tellings → on_event c s (event.Engine engine.Sync) ≡ (t, a) → is_count a.shown ≡ true → list_any is_heard a.notes ≡ false → no_number t ≡ false → IsDone all a.shown t
-run_sync all remote clusters trace s c t a runs fresh tidy fair inline keys waits k there honest did counted quiet left = by s.power refl did where
-  h : Invariant (begun s)
-  h = sound_whole.begins s (run_sound remote clusters trace s runs fresh)
-
-  agreed : IsAgreed s
-  agreed = kept_agreed remote clusters trace s runs fresh tidy fair (all_weaker (λ w. (is_list_wait w.kind ≡ false) × (is_dehydrate_wait w.kind ≡ false)) (λ w. is_list_wait w.kind ≡ false) (λ w z. z.0) s.filter.waiting.waits waits) k
-
-  set : s.power ≡ On → s.filter.connected ≡ true → IsSet (showing (begun s))
-  set on up = record {
-    fair = fair;
-    listening = record { inline = inline; shows = refl };
-    free = record { connected = up; waits = waits; boxed = subst (All IsPlainAsk) (sym (none_between mode.Replay remote clusters trace s runs fresh on keys)) tt };
-    dirs = placed_dirs s (run_placed remote clusters trace s runs fresh) fair;
-    agreed = record { tidy = agreed.tidy; early = agreed.early; alone = agreed.alone; tree = agreed.tree; idle = agreed.idle; passed = agreed.passed };
-  }
-
-  is_counted : Answer → Type 0
-  is_counted b = is_count b.shown ≡ true
-
-  over : s.power ≡ On → (r : Shown) (x : State) → walk c.stop c.forks c.tellings (sync (begun s)) ≡ (Some r, x) → ◌≡◌ {A = State × Answer} (x, answer_in r x) (t, a) → IsDone all a.shown t
-  over on r x way same = up s.filter.connected refl (honest_ends (sync (begun s)) c.stop c.forks c.tellings honest r x way) where
-    here : x ≡ t
-    here = ap (λ (p : State × Answer). p.0) same
-
-    told : answer_in r x ≡ a
-    told = ap (λ (p : State × Answer). p.1) same
-
-    done : IsHeard (begun s) x ⊎ IsDone all r x → IsDone all a.shown t
-    done (inl z) = no_way (sym quiet ∙ subst (λ (ns : List Notice). list_any is_heard ns ≡ true) (sym z.noted ∙ ap (λ (b : Answer). b.notes) told) z.heard)
-    done (inr z) = (subst (IsLeft all) here z.0, sym (ap (λ (b : Answer). b.shown) told) ∙ z.1)
-
-    up : (b : Bool) → s.filter.connected ≡ b → EndsFairly (unless_down sync_now (not b) (begun s)) r x → IsDone all a.shown t
-    up true q e = done (sync_over all (begun s) r x h (set on q) (λ z. let w = there z in record { top = w.top; populated = w.populated; here = w.here }) e (subst (λ (y : State). no_number y ≡ false) (sym here) left))
-    up false q e = no_way (subst (λ (y : Shown). is_count y ≡ true) e.0 (subst is_counted (sym told) counted))
-
-  played : s.power ≡ On → (w : Option Shown × State) → walk c.stop c.forks c.tellings (sync (begun s)) ≡ w → outcome w ≡ (t, a) → IsDone all a.shown t
-  played on (Some r, x) way same = over on r x way same
-  played on (None, x) way same = no_way (subst is_counted (sym (ap (λ (p : State × Answer). p.1) same)) counted)
-
-  by : (p : Power) → s.power ≡ p → answered (no_volume true p) c s (event.Engine engine.Sync) ≡ (t, a) → IsDone all a.shown t
-  by On q e = played q (walk c.stop c.forks c.tellings (sync (begun s))) refl e
-  by Broken q e = no_way (subst is_counted (sym (ap (λ (p : State × Answer). p.1) e)) counted)
-  by Off q e = no_way (subst is_counted (sym (ap (λ (p : State × Answer). p.1) e)) counted)
-
-pub run_silent : (remote : Held) (clusters : ℕ) (trace : List (Event × Answer)) (s : State) (c : Choices) (t : State) (a : Answer) → Runs mode.Replay (start mode.Replay remote clusters) trace s → IsFresh remote → IsTidy remote → IsFair s.link → s.link.inline ≡ true → AreKeysWithin s.filter
-    → ArePlainWaits s → IsKeptUp s → AreHonest c.tellings → on_event c s (event.Engine engine.Sync) ≡ (t, a) → is_count a.shown ≡ true → list_any is_heard a.notes ≡ false → no_number t ≡ false → (is_settled false t ≡ true) × (a.shown ≡ shown.Count 0) × IsKeptUp t
-run_silent remote clusters trace s c t a runs fresh tidy fair inline keys waits k honest did counted quiet left =
-    let w = run_sync false remote clusters trace s c t a runs fresh tidy fair inline keys waits k (λ z. no_way z) honest did counted quiet left in (w.0.0, w.1, w.0.1)
-
-pub run_silent_all : (remote : Held) (clusters : ℕ) (trace : List (Event × Answer)) (s : State) (c : Choices) (t : State) (a : Answer) → Runs mode.Replay (start mode.Replay remote clusters) trace s → IsFresh remote → IsTidy remote → IsFair s.link → s.link.inline ≡ true → AreKeysWithin s.filter
-    → ArePlainWaits s → IsKeptUp s → IsPassedHere s → AreHonest c.tellings → on_event c s (event.Engine engine.Sync) ≡ (t, a) → is_count a.shown ≡ true → list_any is_heard a.notes ≡ false → no_number t ≡ false → (is_settled true t ≡ true) × IsPassedHere t
-run_silent_all remote clusters trace s c t a runs fresh tidy fair inline keys waits k there honest did counted quiet left =
-    let w = run_sync true remote clusters trace s c t a runs fresh tidy fair inline keys waits k (λ z. there) honest did counted quiet left in (w.0.0, w.0.2 refl)

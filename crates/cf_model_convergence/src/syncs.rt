@@ -1,4 +1,4 @@
-//! Whole events of `sync`.
+//! Whole events of `sync` and `work`.
 
 ghost use Rattle.std.specs.Prelude.{◌≡◌, ◌||◌, ℕ, List, Some, [], false, not, true};
 ghost use Rattle.std.specs.List.{list_all, list_any};
@@ -22,7 +22,7 @@ ghost use Rattle.cf_model_laws.specs.Premises.{IsFair, IsFresh};
 ghost use Rattle.cf_model_convergence.specs.Agreeing.{IsKeptUp, IsPassedHere};
 ghost use Rattle.cf_model_convergence.specs.Hearing.{AreHonest, ArePlainWaits, is_heard};
 ghost use Rattle.cf_model_convergence.specs.Lapses.{are_all_here, is_known, of_target};
-ghost use Rattle.cf_model_convergence.specs.Quiet.{is_count};
+ghost use Rattle.cf_model_convergence.specs.Quiet.{is_accepted, is_count};
 ghost use Rattle.cf_model_convergence.specs.Tidy.{IsTidy};
 
 /// A `sync` in a run whose answer is a count and has no line of a change, of an upload that was done or refused, of a step that was
@@ -30,10 +30,17 @@ ghost use Rattle.cf_model_convergence.specs.Tidy.{IsTidy};
 /// over a remote that was handed in tidy and a link that answers at once, where the remote keeps its rules or fails, keys and numbers
 /// of messages are left, no list call and no dehydration waits, and what the cursor has passed is known, as it is afterwards again. The
 /// state is settled as a whole where each live item of the remote that the cursor has passed is here, and each directory is populated.
-#[tactic(auto, using(crate::proofs::SyncsCalm::run_silent, crate::proofs::SyncsCalm::run_silent_all))]
+#[tactic(auto, using(crate::proofs::WorksCalm::run_silent, crate::proofs::WorksCalm::run_silent_all))]
 pub fn a_silent_sync_leaves_a_settled_state()
     ensures local { (remote : Held) (clusters : ℕ) (trace : List (Event × Answer)) (s : State) (c : Choices) (t : State) (a : Answer) → Runs mode.Replay (start mode.Replay remote clusters) trace s → IsFresh remote → IsTidy remote → IsFair s.link → s.link.inline ≡ true → AreKeysWithin s.filter → ArePlainWaits s → IsKeptUp s → AreHonest c.tellings → on_event c s (event.Engine engine.Sync) ≡ (t, a) → is_count a.shown ≡ true → list_any is_heard a.notes ≡ false → no_number t ≡ false → (is_settled false t ≡ true) × (a.shown ≡ shown.Count 0) × IsKeptUp t }
     ensures whole { (remote : Held) (clusters : ℕ) (trace : List (Event × Answer)) (s : State) (c : Choices) (t : State) (a : Answer) → Runs mode.Replay (start mode.Replay remote clusters) trace s → IsFresh remote → IsTidy remote → IsFair s.link → s.link.inline ≡ true → AreKeysWithin s.filter → ArePlainWaits s → IsKeptUp s → IsPassedHere s → AreHonest c.tellings → on_event c s (event.Engine engine.Sync) ≡ (t, a) → is_count a.shown ≡ true → list_any is_heard a.notes ≡ false → no_number t ≡ false → (is_settled true t ≡ true) × IsPassedHere t }
+{}
+
+/// So it is of a `work` event that is accepted.
+#[tactic(auto, using(crate::proofs::WorksCalm::work_silent, crate::proofs::WorksCalm::work_silent_all))]
+pub fn a_silent_work_leaves_a_settled_state()
+    ensures local { (remote : Held) (clusters : ℕ) (trace : List (Event × Answer)) (s : State) (c : Choices) (t : State) (a : Answer) → Runs mode.Replay (start mode.Replay remote clusters) trace s → IsFresh remote → IsTidy remote → IsFair s.link → s.link.inline ≡ true → AreKeysWithin s.filter → ArePlainWaits s → IsKeptUp s → AreHonest c.tellings → on_event c s (event.Engine engine.Work) ≡ (t, a) → is_accepted a.shown ≡ true → list_any is_heard a.notes ≡ false → no_number t ≡ false → (is_settled false t ≡ true) × IsKeptUp t }
+    ensures whole { (remote : Held) (clusters : ℕ) (trace : List (Event × Answer)) (s : State) (c : Choices) (t : State) (a : Answer) → Runs mode.Replay (start mode.Replay remote clusters) trace s → IsFresh remote → IsTidy remote → IsFair s.link → s.link.inline ≡ true → AreKeysWithin s.filter → ArePlainWaits s → IsKeptUp s → IsPassedHere s → AreHonest c.tellings → on_event c s (event.Engine engine.Work) ≡ (t, a) → is_accepted a.shown ≡ true → list_any is_heard a.notes ≡ false → no_number t ≡ false → (is_settled true t ≡ true) × IsPassedHere t }
 {}
 
 /// What the cursor has passed is known in each state in which the test of it says so, over a tidy remote; and so it is here, where no

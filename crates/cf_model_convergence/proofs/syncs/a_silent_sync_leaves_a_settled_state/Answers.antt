@@ -1,5 +1,5 @@
 -- A search does not find the lemmas, which are the clauses.
-use Rattle.cf_model_convergence.proofs.SyncsCalm.{run_silent, run_silent_all}
+use Rattle.cf_model_convergence.proofs.WorksCalm.{run_silent, run_silent_all}
 use Rattle.cf_model_convergence.proofs.syncs.a_silent_sync_leaves_a_settled_state.Goals as goal
 
 pub returns-clause-local : goal.returns-clause-local
