@@ -1,8 +1,8 @@
--- The verdict of the judge is right, of scripts without restarts.
-use Rattle.std.proofs.Common.{◌≡◌, ◌⊎◌, ◌≤◌, ◌<◌, ◌+◌, ◌&&◌, ◌==◌, not, ℕ, zero, suc, Bool, true, false, List, [], ◌∷◌, ◌++◌, drop, length, map, take, refl, sym, ◌∙◌, ap, subst, arith, inl, inr, append_assoc, append-nil, length-append, length-take-le}
-use Rattle.std.specs.Prelude.{Option, Some, None, slice_get}
+-- The verdict of the judge is right.
+use Rattle.std.proofs.Common.{◌≡◌, ◌⊎◌, ◌≤◌, ◌<◌, ◌+◌, ◌&&◌, ◌==◌, not, ℕ, zero, suc, Bool, true, false, List, [], ◌∷◌, ◌++◌, drop, length, map, take, refl, sym, ◌∙◌, ap, subst, arith, inl, inr, append_assoc, append-nil, length-append, length-take-le, ◌||◌}
+use Rattle.std.specs.Prelude.{Option, Some, None, slice_get, nat_le}
 use Rattle.std.specs.List.{list_all}
-use Rattle.std.proofs.lemmas.Bool.{eq-eqb, eqb-true}
+use Rattle.std.proofs.lemmas.Bool.{eq-eqb, eqb-true, leb-true}
 use Rattle.std.proofs.lemmas.List.{length-map, map-append}
 use Rattle.std.proofs.lemmas.List.Folds.{list_all-append}
 use Rattle.cf_base.specs.declared.answers.Answer.{Answer}
@@ -26,17 +26,17 @@ use Rattle.cf_check_model.specs.declared.verdicts.Verdict.TheVariants.{Unlawful,
 use Rattle.cf_check_model.proofs.Fronts.{texts_join}
 use Rattle.cf_check_text.specs.Clean.{is_clean}
 use Rattle.cf_check_text.proofs.Lines.{next_result}
-use Rattle.cf_check_ways.specs.Ways.{is_fault, Alike, fixed_state, is_good, of_state}
+use Rattle.cf_check_room.specs.Weights.{weight}
+use Rattle.cf_check_ways.specs.Ways.{AllSure, core_of, sures, is_fault, Alike, fixed_state, is_good, of_state}
 use Rattle.cf_check_traces.specs.Decided.{IsStopped, MeetsResult, NoneStopped}
-use Rattle.cf_check_traces.specs.Tests.{begins, is_device, meets_alone, meets_lines}
+use Rattle.cf_check_traces.specs.Tests.{is_restart, begins, is_device, meets_alone, meets_lines}
 use Rattle.cf_check_traces.proofs.Accepting.{LastOf, last_of}
-use Rattle.cf_check_traces.proofs.NextOnes.{IsFollowed, IsNext, only_next}
+use Rattle.cf_check_traces.proofs.NextOnes.{IsFollowed, IsNext, only_next, own_tight}
 use Rattle.cf_check_traces.proofs.NextSteps.{goes_on}
 use Rattle.cf_check_traces.proofs.SameRuns.{Front, front_of, last_event}
 use Rattle.cf_check_traces.proofs.Testing.{alone_so, alone_unasked, begins_is, begins_so, meets_so, not_stopped}
-use Rattle.cf_check_judge.specs.Books.{same_bytes}
-use Rattle.cf_check_judge.specs.Judge.{asks_nothing, is_peer_fault, telling_of, Followed, matched, GoesOn, Judged, Lost, Open, Wrong, at_end, event_told, first_result, is_line, judge, judge_from, may_judge, opens_volume, step_by}
-use Rattle.cf_check_judge.specs.Scripts.{is_restart, opens_nothing}
+use Rattle.cf_check_judge.specs.Bytes.{same_bytes}
+use Rattle.cf_check_judge.specs.Judge.{asks_nothing, is_peer_fault, telling_of, matched, GoesOn, Judged, Lost, Open, Wrong, at_end, event_told, first_result, is_line, judge, judge_from, may_follow, may_judge, step_by}
 use Rattle.cf_check_judge.proofs.Verdicts.{empty_verdict, lawful_verdict, open_verdict, wrong_verdict}
 
 -- tests of bytes
@@ -107,20 +107,13 @@ alone_of (event.Provider p) s rest h = λ peer. let z : false ≡ true = peer in
 
 -- the run that the judge follows, and what is settled so far
 
-module _ (events : List Event) (report : List ℕ) (clusters : ℕ) (short : length report < most) (opens : opens_nothing events ≡ true) where
+module _ (events : List Event) (report : List ℕ) (clusters : ℕ) (short : length report < most) where
   record IsAt (done : ℕ) (es : List Event) (trace : List (Event × Answer)) (s : State) (rest : List ℕ) : Type 0 where
     split : events ≡ take done events ++ es
     run : IsFollowed events report clusters done trace s rest
     clean : list_all is_clean (map answer_of trace) ≡ true
     settled : (m : ℕ) → m ≤ done → IsUndecided events report clusters m → ⊥
     before : (k : ℕ) → done ≡ suc k → accepts events report clusters k
-
-  no_restart : (m : ℕ) → IsAmbiguous events report clusters m → ⊥
-  no_restart m x =
-      let acc = x.2.5 in
-      let test : list_all (λ e. not (is_restart e)) (map event_of x.2.0 ++ event.Device device.Restart ∷ []) ≡ true
-      = ap (λ (es : List Event). list_all (λ e. not (is_restart e)) es) (sym (map-append event_of x.2.0 ((event.Device device.Restart, x.2.1) ∷ [])) ∙ acc.events_are) ∙ all_taken (λ e. not (is_restart e)) m events opens in
-      let z : false ≡ true = last_test (λ e. not (is_restart e)) (map event_of x.2.0) (event.Device device.Restart) test in absurd cc
 
   -- the next result line of the report
   told_next : (done : ℕ) (es : List Event) (trace : List (Event × Answer)) (s : State) (rest : List ℕ) → IsAt done es trace s rest → slice_get (result_lines report) done ≡ first_result rest
@@ -157,9 +150,9 @@ module _ (events : List Event) (report : List ℕ) (clusters : ℕ) (short : len
   open_next : (done : ℕ) (e : Event) (es : List Event) (trace : List (Event × Answer)) (s : State) (rest : List ℕ) → IsAt done (e ∷ es) trace s rest → first_result rest ≡ Some device_line → IsUndecided events report clusters (suc done)
   open_next done e es trace s rest at line = let below = left done e es trace s rest at in (below, inl ((trace, s, taken done (e ∷ es) trace s rest at below), told_next done (e ∷ es) trace s rest at ∙ line))
 
-  closed_next : (done : ℕ) (es : List Event) (trace : List (Event × Answer)) (s : State) (rest : List ℕ) → IsAt done es trace s rest → (first_result rest ≡ Some device_line → ⊥) → (m : ℕ) → m ≤ suc done → IsUndecided events report clusters m → ⊥
-  closed_next done es trace s rest at other zero le h = h
-  closed_next done es trace s rest at other (suc m) le h = by (at_or_below m done (omega (arith, le))) h
+  closed_next : (done : ℕ) (es : List Event) (trace : List (Event × Answer)) (s : State) (rest : List ℕ) → IsAt done es trace s rest → (first_result rest ≡ Some device_line → ⊥) → (IsAmbiguous events report clusters (suc done) → ⊥) → (m : ℕ) → m ≤ suc done → IsUndecided events report clusters m → ⊥
+  closed_next done es trace s rest at other one zero le h = h
+  closed_next done es trace s rest at other one (suc m) le h = by (at_or_below m done (omega (arith, le))) h
     where
       at_or_below : (x y : ℕ) → x ≤ y → (suc x ≤ y) ⊎ (x ≡ y)
       at_or_below zero zero k = inr refl
@@ -170,18 +163,23 @@ module _ (events : List Event) (report : List ℕ) (clusters : ℕ) (short : len
       by : (suc m ≤ done) ⊎ (m ≡ done) → IsUndecided events report clusters (suc m) → ⊥
       by (inl k) x = at.settled (suc m) k x
       by (inr k) (below, inl x) = other (sym (told_next done es trace s rest at) ∙ subst (λ (z : ℕ). DeviceFails report z) k x.1)
-      by (inr k) (below, inr x) = no_restart (suc m) x
+      by (inr k) (below, inr x) = one (subst (λ (z : ℕ). IsAmbiguous events report clusters (suc z)) k x)
 
   -- the answer of the judge's run
 
-  quiet_event : (done : ℕ) (e : Event) (es : List Event) (trace : List (Event × Answer)) (s : State) (rest : List ℕ) → IsAt done (e ∷ es) trace s rest → not (is_restart e) ≡ true
-  quiet_event done e es trace s rest at =
-      last_test (λ x. not (is_restart x)) (take done events) e
-      (ap (λ (xs : List Event). list_all (λ x. not (is_restart x)) xs) (sym (next_taken done e es trace s rest at)) ∙ all_taken (λ x. not (is_restart x)) (suc done) events opens)
+  -- where nothing more is accepted, or one thing alone, no restart is ambiguous
+  not_ambiguous : (n : ℕ) → (accepts events report clusters n → ⊥) → IsAmbiguous events report clusters n → ⊥
+  not_ambiguous n no_more x = no_more (x.2.0 ++ (event.Device device.Restart, x.2.1) ∷ [], x.0, x.2.5)
 
-  next_of : (done : ℕ) (e : Event) (es : List Event) (trace : List (Event × Answer)) (s : State) (rest : List ℕ) → IsAt done (e ∷ es) trace s rest → is_of mode.Replay e ≡ true → (first_result rest ≡ Some device_line → ⊥)
-      → may_judge (event_told e rest s).0 e (event_told e rest s).1 rest ≡ true → IsNext s e (event_told e rest s).1 (event_told e rest s).0 rest
-  next_of done e es trace s rest at of other may =
+  one_book : (n : ℕ) (t : State) → ((more : List (Event × Answer)) (u : State) → Accepted events report clusters n more u → Alike of_state t u) → IsAmbiguous events report clusters n → ⊥
+  one_book n t alone x =
+      let left_one : Alike of_state t x.0 = alone (x.2.0 ++ (event.Device device.Restart, x.2.1) ∷ []) x.0 x.2.5 in
+      let left_other : Alike of_state t x.1 = alone (x.3.0 ++ (event.Device device.Restart, x.3.1) ∷ []) x.1 x.3.5 in
+      x.4 (sym (ap (λ (z : State). z.filter.volume.book) left_one) ∙ ap (λ (z : State). z.filter.volume.book) left_other)
+
+  next_of : (done : ℕ) (e : Event) (es : List Event) (trace : List (Event × Answer)) (s : State) (rest : List ℕ) → IsAt done (e ∷ es) trace s rest → is_of mode.Replay e ≡ true → (first_result rest ≡ Some device_line → ⊥) → may_follow clusters e s ≡ true
+      → may_judge (event_told e rest s).0 e (event_told e rest s).1 rest ≡ true → IsNext clusters s e (event_told e rest s).1 (event_told e rest s).0 rest
+  next_of done e es trace s rest at of other follows may =
       let t : State = (event_told e rest s).0 in
       let a : Answer = (event_told e rest s).1 in
       let w = both (is_good t && not (is_device a.shown) && is_clean a && meets_lines a.notes rest) (meets_alone e a rest (asks_nothing a rest)) may in
@@ -196,19 +194,19 @@ module _ (events : List Event) (report : List ℕ) (clusters : ℕ) (short : len
         meets = meets_so a rest x.1;
         alone = alone_of e s rest w.1;
         result = other;
-        other = λ is. never is;
+        opening = λ is. fits is;
       }
     where
       unless : (b : Bool) → not b ≡ true → b ≡ false
       unless true h = let z : false ≡ true = h in absurd cc
       unless false h = refl
 
-      never : e ≡ event.Device device.Restart → ⊥
-      never is = let z : false ≡ true = sym (ap (λ (x : Event). not (is_restart x)) is) ∙ quiet_event done e es trace s rest at in absurd cc
+      fits : e ≡ event.Device device.Restart → weight s.filter.volume.log ≤ clusters
+      fits is = let test : nat_le (weight s.filter.volume.log) clusters ≡ true = sym (ap (λ (b : Bool). not b || nat_le (weight s.filter.volume.log) clusters) (ap is_restart is)) ∙ follows in leb-true (weight s.filter.volume.log) clusters test
 
   -- the judge goes on
   goes_next : (done : ℕ) (e : Event) (es : List Event) (trace : List (Event × Answer)) (s : State) (rest : List ℕ) → IsAt done (e ∷ es) trace s rest → (first_result rest ≡ Some device_line → ⊥)
-      → (a : Answer) (t : State) → IsNext s e a t rest → begins (text a) rest ≡ true → IsAt (suc done) es (trace ++ (e, a) ∷ []) t (drop (length (text a)) rest)
+      → (a : Answer) (t : State) → IsNext clusters s e a t rest → begins (text a) rest ≡ true → IsAt (suc done) es (trace ++ (e, a) ∷ []) t (drop (length (text a)) rest)
   goes_next done e es trace s rest at other a t next so =
       let below = left done e es trace s rest at in
       let took = next_taken done e es trace s rest at in
@@ -226,10 +224,11 @@ module _ (events : List Event) (report : List ℕ) (clusters : ℕ) (short : len
           text_is = at.run.text_is ∙ ap (λ (xs : List ℕ). texts (map answer_of trace) ++ xs) more.1 ∙ sym (append_assoc (texts (map answer_of trace)) (text a) more.0)
               ∙ ap (λ (xs : List ℕ). xs ++ more.0) (sym joined) ∙ ap (λ (xs : List ℕ). texts (map answer_of (trace ++ (e, a) ∷ [])) ++ xs) (sym rest_is);
           none = none_more trace e a at.run.none next.runs;
-          only = λ others u acc. only_next events report clusters short done trace s rest at.run below e took a t next others u acc;
+          only = λ others u acc. let x = only_next events report clusters short done trace s rest at.run below e took a t next others u acc in (x.0, x.1);
+          tight = λ light. (own_tight events report clusters short done trace s rest at.run e a t next light, λ others u acc. let x = (only_next events report clusters short done trace s rest at.run below e took a t next others u acc).2 light in (x.1, x.2));
         };
         clean = ap (λ (xs : List Answer). list_all is_clean xs) (map-append answer_of trace ((e, a) ∷ [])) ∙ list_all-append is_clean (map answer_of trace) (a ∷ []) ∙ all_clean at.clean next.clean;
-        settled = closed_next done (e ∷ es) trace s rest at other;
+        settled = closed_next done (e ∷ es) trace s rest at other (one_book (suc done) t (λ others u acc. (only_next events report clusters short done trace s rest at.run below e took a t next others u acc).1));
         before = λ k is. subst (λ (z : ℕ). accepts events report clusters z) (let z : suc done ≡ suc k = is in omega (arith, z)) (trace, s, taken done (e ∷ es) trace s rest at below);
       }
     where
@@ -241,7 +240,7 @@ module _ (events : List Event) (report : List ℕ) (clusters : ℕ) (short : len
       all_clean x y = rw x (rw y refl)
 
   -- the report does not go on with it
-  wrong_next : (done : ℕ) (e : Event) (es : List Event) (trace : List (Event × Answer)) (s : State) (rest : List ℕ) → IsAt done (e ∷ es) trace s rest → (a : Answer) (t : State) → IsNext s e a t rest → begins (text a) rest ≡ false
+  wrong_next : (done : ℕ) (e : Event) (es : List Event) (trace : List (Event × Answer)) (s : State) (rest : List ℕ) → IsAt done (e ∷ es) trace s rest → (a : Answer) (t : State) → IsNext clusters s e a t rest → begins (text a) rest ≡ false
       → accepts events report clusters (suc done) → ⊥
   wrong_next done e es trace s rest at a t next differs (others, u, acc) =
       let below = left done e es trace s rest at in
@@ -296,82 +295,75 @@ module _ (events : List Event) (report : List ℕ) (clusters : ℕ) (short : len
   -- the whole, by how each step goes
 
   abbrev verdict_of : ℕ → List Event → Judged → Option Verdict
-  verdict_of done es j = elim j as (λ _. Option Verdict) [ GoesOn g more ↦ judge_from (done + 1) es more g | Wrong ↦ Some (Unlawful (done + 1)) | Open ↦ Some (Undecided (done + 1)) | Lost ↦ None ]
+  verdict_of done es j = elim j as (λ _. Option Verdict) [ GoesOn g more ↦ judge_from clusters (done + 1) es more g | Wrong ↦ Some (Unlawful (done + 1)) | Open ↦ Some (Undecided (done + 1)) | Lost ↦ None ]
 
   abbrev Rest : List Event → Type 0
-  Rest es = (done : ℕ) (trace : List (Event × Answer)) (f : Followed) (rest : List ℕ) (v : Verdict) → IsAt done es trace f.state rest → judge_from done es rest f ≡ Some v → IsVerdict events report clusters v
+  Rest es = (done : ℕ) (trace : List (Event × Answer)) (f : State) (rest : List ℕ) (v : Verdict) → IsAt done es trace f rest → judge_from clusters done es rest f ≡ Some v → IsVerdict events report clusters v
 
   one_more : (n : ℕ) → n + 1 ≡ suc n
   one_more n = omega arith
 
-  by_same : (done : ℕ) (e : Event) (es : List Event) (trace : List (Event × Answer)) (f : Followed) (rest : List ℕ) (v : Verdict) → Rest es → IsAt done (e ∷ es) trace f.state rest → (first_result rest ≡ Some device_line → ⊥)
-      → (g : Followed) → g.state ≡ (event_told e rest f.state).0 → IsNext f.state e (event_told e rest f.state).1 (event_told e rest f.state).0 rest → (same : Bool) → begins (text (event_told e rest f.state).1) rest ≡ same
-      → verdict_of done es (matched true same rest (event_told e rest f.state).1 g) ≡ Some v → IsVerdict events report clusters v
+  by_same : (done : ℕ) (e : Event) (es : List Event) (trace : List (Event × Answer)) (f : State) (rest : List ℕ) (v : Verdict) → Rest es → IsAt done (e ∷ es) trace f rest → (first_result rest ≡ Some device_line → ⊥)
+      → (g : State) → g ≡ (event_told e rest f).0 → IsNext clusters f e (event_told e rest f).1 (event_told e rest f).0 rest → (same : Bool) → begins (text (event_told e rest f).1) rest ≡ same
+      → verdict_of done es (matched true same rest (event_told e rest f).1 g) ≡ Some v → IsVerdict events report clusters v
   by_same done e es trace f rest v more at other g is next true so h =
-      let a : Answer = (event_told e rest f.state).1 in
-      let at' : IsAt (suc done) es (trace ++ (e, a) ∷ []) (event_told e rest f.state).0 (drop (length (text a)) rest) = goes_next done e es trace f.state rest at other a (event_told e rest f.state).0 next so in
-      let at'' : IsAt (done + 1) es (trace ++ (e, a) ∷ []) g.state (drop (length (text a)) rest)
-      = subst (λ (k : ℕ). IsAt k es (trace ++ (e, a) ∷ []) g.state (drop (length (text a)) rest)) (sym (one_more done)) (subst (λ (s : State). IsAt (suc done) es (trace ++ (e, a) ∷ []) s (drop (length (text a)) rest)) (sym is) at') in
+      let a : Answer = (event_told e rest f).1 in
+      let at' : IsAt (suc done) es (trace ++ (e, a) ∷ []) (event_told e rest f).0 (drop (length (text a)) rest) = goes_next done e es trace f rest at other a (event_told e rest f).0 next so in
+      let at'' : IsAt (done + 1) es (trace ++ (e, a) ∷ []) g (drop (length (text a)) rest)
+      = subst (λ (k : ℕ). IsAt k es (trace ++ (e, a) ∷ []) g (drop (length (text a)) rest)) (sym (one_more done)) (subst (λ (s : State). IsAt (suc done) es (trace ++ (e, a) ∷ []) s (drop (length (text a)) rest)) (sym is) at') in
       more (done + 1) (trace ++ (e, a) ∷ []) g (drop (length (text a)) rest) v at'' h
   by_same done e es trace f rest v more at other g is next false so h =
-      let below = left done e es trace f.state rest at in
+      let below = left done e es trace f rest at in
       let told : Unlawful (suc done) ≡ v = ap (λ (k : ℕ). Unlawful k) (sym (one_more done)) ∙ some_is (Unlawful (done + 1)) v h in
       subst (λ (w : Verdict). IsVerdict events report clusters w) told
-      (wrong_verdict events report clusters done below (trace, f.state, taken done (e ∷ es) trace f.state rest at below) (wrong_next done e es trace f.state rest at (event_told e rest f.state).1 (event_told e rest f.state).0 next so)
-      (closed_next done (e ∷ es) trace f.state rest at other))
+      (wrong_verdict events report clusters done below (trace, f, taken done (e ∷ es) trace f rest at below) (wrong_next done e es trace f rest at (event_told e rest f).1 (event_told e rest f).0 next so)
+      (closed_next done (e ∷ es) trace f rest at other (not_ambiguous (suc done) (wrong_next done e es trace f rest at (event_told e rest f).1 (event_told e rest f).0 next so))))
     where
       some_is : (x y : Verdict) → Some x ≡ Some y → x ≡ y
       some_is x y e = cc
 
-  by_test : (done : ℕ) (e : Event) (es : List Event) (trace : List (Event × Answer)) (f : Followed) (rest : List ℕ) (v : Verdict) → Rest es → IsAt done (e ∷ es) trace f.state rest → is_of mode.Replay e ≡ true → (first_result rest ≡ Some device_line → ⊥)
-      → (g : Followed) → g.state ≡ (event_told e rest f.state).0 → (may : Bool) → may_judge (event_told e rest f.state).0 e (event_told e rest f.state).1 rest ≡ may
-      → verdict_of done es (matched may (begins (text (event_told e rest f.state).1) rest) rest (event_told e rest f.state).1 g) ≡ Some v → IsVerdict events report clusters v
-  by_test done e es trace f rest v more at of other g is false may h = let z : None ≡ Some v = h in absurd cc
-  by_test done e es trace f rest v more at of other g is true may h =
-      by_same done e es trace f rest v more at other g is (next_of done e es trace f.state rest at of other may) (begins (text (event_told e rest f.state).1) rest) refl h
+  by_test : (done : ℕ) (e : Event) (es : List Event) (trace : List (Event × Answer)) (f : State) (rest : List ℕ) (v : Verdict) → Rest es → IsAt done (e ∷ es) trace f rest → is_of mode.Replay e ≡ true → (first_result rest ≡ Some device_line → ⊥) → may_follow clusters e f ≡ true
+      → (g : State) → g ≡ (event_told e rest f).0 → (may : Bool) → may_judge (event_told e rest f).0 e (event_told e rest f).1 rest ≡ may
+      → verdict_of done es (matched may (begins (text (event_told e rest f).1) rest) rest (event_told e rest f).1 g) ≡ Some v → IsVerdict events report clusters v
+  by_test done e es trace f rest v more at of other follows g is false may h = let z : None ≡ Some v = h in absurd cc
+  by_test done e es trace f rest v more at of other follows g is true may h =
+      by_same done e es trace f rest v more at other g is (next_of done e es trace f rest at of other follows may) (begins (text (event_told e rest f).1) rest) refl h
 
-  no_opening : (e : Event) (s : State) → not (is_restart e) ≡ true → opens_volume e s ≡ false
-  no_opening (event.Device device.Restart) s h = let z : false ≡ true = h in absurd cc
-  no_opening _ s h = refl
-
-  by_kind : (done : ℕ) (e : Event) (es : List Event) (trace : List (Event × Answer)) (f : Followed) (rest : List ℕ) (v : Verdict) → Rest es → IsAt done (e ∷ es) trace f.state rest
-      → (line of opens : Bool) → is_line device_line (first_result rest) ≡ line → is_of mode.Replay e ≡ of → opens ≡ false → verdict_of done es (step_by line of opens e rest f) ≡ Some v → IsVerdict events report clusters v
-  by_kind done e es trace f rest v more at true of opens line is none h =
-      let unsaid = open_next done e es trace f.state rest at (line_so device_line (first_result rest) line) in
+  by_kind : (done : ℕ) (e : Event) (es : List Event) (trace : List (Event × Answer)) (f : State) (rest : List ℕ) (v : Verdict) → Rest es → IsAt done (e ∷ es) trace f rest
+      → (line of follows : Bool) → is_line device_line (first_result rest) ≡ line → is_of mode.Replay e ≡ of → may_follow clusters e f ≡ follows → verdict_of done es (step_by line of follows e rest f) ≡ Some v → IsVerdict events report clusters v
+  by_kind done e es trace f rest v more at true of follows line is may h =
+      let unsaid = open_next done e es trace f rest at (line_so device_line (first_result rest) line) in
       let told : Undecided (suc done) ≡ v = ap (λ (k : ℕ). Undecided k) (sym (one_more done)) ∙ some_is (Undecided (done + 1)) v h in
       subst (λ (w : Verdict). IsVerdict events report clusters w) told (open_verdict events report clusters done unsaid at.settled)
     where
       some_is : (x y : Verdict) → Some x ≡ Some y → x ≡ y
       some_is x y e = cc
-  by_kind done e es trace f rest v more at false false opens line is none h =
-      let below = left done e es trace f.state rest at in
+  by_kind done e es trace f rest v more at false false follows line is may h =
+      let below = left done e es trace f rest at in
       let told : Unlawful (suc done) ≡ v = ap (λ (k : ℕ). Unlawful k) (sym (one_more done)) ∙ some_is (Unlawful (done + 1)) v h in
       subst (λ (w : Verdict). IsVerdict events report clusters w) told
-      (wrong_verdict events report clusters done below (trace, f.state, taken done (e ∷ es) trace f.state rest at below) (foreign_next done e es trace f.state rest at is)
-      (closed_next done (e ∷ es) trace f.state rest at (line_not device_line (first_result rest) line)))
+      (wrong_verdict events report clusters done below (trace, f, taken done (e ∷ es) trace f rest at below) (foreign_next done e es trace f rest at is)
+      (closed_next done (e ∷ es) trace f rest at (line_not device_line (first_result rest) line) (not_ambiguous (suc done) (foreign_next done e es trace f rest at is))))
     where
       some_is : (x y : Verdict) → Some x ≡ Some y → x ≡ y
       some_is x y e = cc
-  by_kind done e es trace f rest v more at false true true line is none h = let z : true ≡ false = none in absurd cc
-  by_kind done e es trace f rest v more at false true false line is none h =
-      by_test done e es trace f rest v more at is (line_not device_line (first_result rest) line) _ refl (may_judge (event_told e rest f.state).0 e (event_told e rest f.state).1 rest) refl h
+  by_kind done e es trace f rest v more at false true false line is may h = let z : None ≡ Some v = h in absurd cc
+  by_kind done e es trace f rest v more at false true true line is may h =
+      by_test done e es trace f rest v more at is (line_not device_line (first_result rest) line) may _ refl (may_judge (event_told e rest f).0 e (event_told e rest f).1 rest) refl h
 
   right_from : (es : List Event) → Rest es
   right_from [] done trace f rest v at h =
-      subst (λ (w : Verdict). IsVerdict events report clusters w) (some_is (at_end (is_empty rest) done) v h) (at_the_end done trace f.state rest at (is_empty rest) refl)
+      subst (λ (w : Verdict). IsVerdict events report clusters w) (some_is (at_end (is_empty rest) done) v h) (at_the_end done trace f rest at (is_empty rest) refl)
     where
       some_is : (x y : Verdict) → Some x ≡ Some y → x ≡ y
       some_is x y e = cc
   right_from (e ∷ es) done trace f rest v at h =
-      by_kind done e es trace f rest v (right_from es) at (is_line device_line (first_result rest)) (is_of mode.Replay e) (opens_volume e f.state) refl refl (no_opening e f.state (quiet_event done e es trace f.state rest at)) h
-
-  abbrev first_state : Followed
-  first_state = record { state = start mode.Replay empty_remote clusters; rooms = [] }
+      by_kind done e es trace f rest v (right_from es) at (is_line device_line (first_result rest)) (is_of mode.Replay e) (may_follow clusters e f) refl refl refl h
 
   at_start : IsAt 0 events [] (start mode.Replay empty_remote clusters) report
   at_start = record {
     split = refl;
-    run = record { there = omega arith; events_are = refl; lawful = refl; kept = refl; text_is = refl; none = record {}; only = λ more u acc. (no_events more acc.events_are, alike_start more u acc) };
+    run = record { there = omega arith; events_are = refl; lawful = refl; kept = refl; text_is = refl; none = record {}; only = λ more u acc. (no_events more acc.events_are, ap fixed_state (starts more u acc)); tight = λ light. (refl, λ more u acc. (ap (λ (z : State). sures (core_of z.filter.volume)) (starts more u acc), subst (λ (z : State). AllSure (core_of z.filter.volume)) (starts more u acc) refl)) };
     clean = refl;
     settled = λ m le h. none m le h;
     before = λ k is. let z : 0 ≡ suc k = is in absurd cc;
@@ -385,9 +377,9 @@ module _ (events : List Event) (report : List ℕ) (clusters : ℕ) (short : len
       no_events [] e = refl
       no_events (p ∷ ps) e = let z : p.0 ∷ map event_of ps ≡ [] = e in absurd cc
 
-      alike_start : (more : List (Event × Answer)) (u : State) → Accepted events report clusters 0 more u → Alike of_state (start mode.Replay empty_remote clusters) u
-      alike_start more u acc = let runs : Runs mode.Replay (start mode.Replay empty_remote clusters) [] u = subst (λ (xs : List (Event × Answer)). Runs mode.Replay (start mode.Replay empty_remote clusters) xs u) (no_events more acc.events_are) acc.lawful in ap fixed_state (sym runs)
+      starts : (more : List (Event × Answer)) (u : State) → Accepted events report clusters 0 more u → start mode.Replay empty_remote clusters ≡ u
+      starts more u acc = let runs : Runs mode.Replay (start mode.Replay empty_remote clusters) [] u = subst (λ (xs : List (Event × Answer)). Runs mode.Replay (start mode.Replay empty_remote clusters) xs u) (no_events more acc.events_are) acc.lawful in sym runs
 
   -- whatever verdict the judge gives is right
   pub judge_is_right : (v : Verdict) → judge events report clusters ≡ Some v → IsVerdict events report clusters v
-  judge_is_right v h = right_from events 0 [] first_state report v at_start h
+  judge_is_right v h = right_from events 0 [] (start mode.Replay empty_remote clusters) report v at_start h

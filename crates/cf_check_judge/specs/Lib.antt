@@ -1,4 +1,3 @@
-pub mod Books
+pub mod Bytes
 pub mod Judge
 pub mod Rows
-pub mod Scripts

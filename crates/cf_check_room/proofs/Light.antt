@@ -38,7 +38,7 @@ begins_below : (items : List Item) (more : List (Usn × Change)) → blocks_used
 begins_below items [] = omega arith
 begins_below items (d ∷ more) = omega arith
 
-peak_more : (items : List Item) (log more : List (Usn × Change)) → peak_from items log ≤ peak_from items (log ++ more)
+pub peak_more : (items : List Item) (log more : List (Usn × Change)) → peak_from items log ≤ peak_from items (log ++ more)
 peak_more items [] more = begins_below items more
 peak_more items (d ∷ log) more = both_above (blocks_used items) (peak_from (effect items d.1 d.0) log) (peak_from (effect items d.1 d.0) (log ++ more)) (peak_more (effect items d.1 d.0) log more)
 
@@ -52,11 +52,11 @@ puts_more items (d ∷ log) n c =
     (puts_more (effect items d.1 d.0) log n c)
 
 -- What the volume keeps of the last point and since it weighs no more than its log.
-record IsWeighed (clusters : ℕ) (v : Volume) : Type 0 where
-  holds : v.clusters ≡ clusters
-  items : v.items ≡ items_of v.log
-  then_ : blocks_used v.items_then ≤ peak v.log
-  since : v.put_since ≤ puts v.log
+pub record IsWeighed (clusters : ℕ) (v : Volume) : Type 0 where
+  pub holds : v.clusters ≡ clusters
+  pub items : v.items ≡ items_of v.log
+  pub then_ : blocks_used v.items_then ≤ peak v.log
+  pub since : v.put_since ≤ puts v.log
 
 now_below : (v : Volume) → v.items ≡ items_of v.log → blocks_used v.items ≤ peak v.log
 now_below v e = subst (λ (is : List Item). blocks_used is ≤ peak v.log) (sym e) (ends_below (root ∷ []) v.log)
@@ -64,7 +64,7 @@ now_below v e = subst (λ (is : List Item). blocks_used is ≤ peak v.log) (sym 
 nothing_since : (n : ℕ) → 0 ≤ n
 nothing_since n = omega arith
 
-put_weighed : (clusters : ℕ) (f : Book → Book) (c : Change) (v : Volume) → IsWeighed clusters v → IsWeighed clusters (put_with_book f c v)
+pub put_weighed : (clusters : ℕ) (f : Book → Book) (c : Change) (v : Volume) → IsWeighed clusters v → IsWeighed clusters (put_with_book f c v)
 put_weighed clusters f c v w = record {
   holds = w.holds;
   items = ap (λ (is : List Item). effect is c (next_number v)) w.items ∙ sym (items_more (root ∷ []) v.log (next_number v) c);
@@ -76,7 +76,7 @@ put_weighed clusters f c v w = record {
       omega (arith, a, b, same);
 }
 
-pointed : (clusters : ℕ) (v : Volume) (points : List Point) → IsWeighed clusters v → IsWeighed clusters (record v { points = points; items_then = v.items; put_since = 0 })
+pub pointed : (clusters : ℕ) (v : Volume) (points : List Point) → IsWeighed clusters v → IsWeighed clusters (record v { points = points; items_then = v.items; put_since = 0 })
 pointed clusters v points w = record { holds = w.holds; items = w.items; then_ = now_below v w.items; since = nothing_since (puts v.log) }
 
 weighed_closed : (clusters : ℕ) → ClosedVolume (IsWeighed clusters)
@@ -89,13 +89,13 @@ weighed_closed clusters = record {
   opens = λ p epoch v is later w. record { holds = w.holds; items = refl; then_ = ends_below (root ∷ []) (take p.count v.log); since = nothing_since (puts (take p.count v.log)) };
 }
 
-weighed : (m : Mode) (remote : Held) (clusters : ℕ) (trace : List (Event × Answer)) (t : State) → Runs m (start m remote clusters) trace t → IsWeighed clusters t.filter.volume
+pub weighed : (m : Mode) (remote : Held) (clusters : ℕ) (trace : List (Event × Answer)) (t : State) → Runs m (start m remote clusters) trace t → IsWeighed clusters t.filter.volume
 weighed m remote clusters trace t runs =
     runs_keep_volume (IsWeighed clusters) (weighed_closed clusters) m (start m remote clusters) trace t runs (record { holds = refl; items = refl; then_ = omega arith; since = omega arith })
 
 -- what does not pass
 
-no_pass : (clusters : ℕ) (items : List Item) (n : ℕ) → blocks_used items + n ≤ clusters → passes_clusters clusters items n ≡ false
+pub no_pass : (clusters : ℕ) (items : List Item) (n : ℕ) → blocks_used items + n ≤ clusters → passes_clusters clusters items n ≡ false
 no_pass clusters items zero h = refl
 no_pass clusters items (suc n) h = by (nat_lt clusters (blocks_used items + suc n)) refl
   where
@@ -103,16 +103,21 @@ no_pass clusters items (suc n) h = by (nat_lt clusters (blocks_used items + suc 
     by false e = e
     by true e = let lt : clusters < blocks_used items + suc n = ltb-true clusters (blocks_used items + suc n) e in absurd (omega (arith, lt, h))
 
-and_false : (a b : Bool) → b ≡ false → (a && b) ≡ false
+pub and_false : (a b : Bool) → b ≡ false → (a && b) ≡ false
 and_false true b e = e
 and_false false b e = refl
 
--- a change that with all before it weighs no more than the clusters needs no room
-pub light_needs_none : (m : Mode) (remote : Held) (clusters : ℕ) (trace : List (Event × Answer)) (t : State) → Runs m (start m remote clusters) trace t → (c : Change) (n : Usn) → weight (t.filter.volume.log ++ (n, c) ∷ []) ≤ clusters
-    → may_need_room c t.filter.volume ≡ false
-light_needs_none m remote clusters trace t runs c n light =
-    let v : Volume = t.filter.volume in
-    let w : IsWeighed clusters v = weighed m remote clusters trace t runs in
+-- a longer log weighs no less
+puts_longer : (items : List Item) (log more : List (Usn × Change)) → puts_from items log ≤ puts_from items (log ++ more)
+puts_longer items [] more = nothing_since (puts_from items more)
+puts_longer items (d ∷ log) more = let h : puts_from (effect items d.1 d.0) log ≤ puts_from (effect items d.1 d.0) (log ++ more) = puts_longer (effect items d.1 d.0) log more in omega (arith, h)
+
+pub weight_longer : (log more : List (Usn × Change)) → weight log ≤ weight (log ++ more)
+weight_longer log more = let a : peak log ≤ peak (log ++ more) = peak_more (root ∷ []) log more in let b : puts log ≤ puts (log ++ more) = puts_longer (root ∷ []) log more in omega (arith, a, b)
+
+-- in a volume that is weighed so
+pub weighed_needs_none : (clusters : ℕ) (v : Volume) → IsWeighed clusters v → (c : Change) (n : Usn) → weight (v.log ++ (n, c) ∷ []) ≤ clusters → may_need_room c v ≡ false
+weighed_needs_none clusters v w c n light =
     let a : blocks_used v.items_then ≤ peak v.log = w.then_ in
     let b : v.put_since ≤ puts v.log = w.since in
     let more : peak v.log ≤ peak (v.log ++ (n, c) ∷ []) = peak_more (root ∷ []) v.log ((n, c) ∷ []) in
@@ -121,3 +126,8 @@ light_needs_none m remote clusters trace t runs c n light =
     let holds : v.clusters ≡ clusters = w.holds in
     and_false (nat_lt 0 (length (puts_into v.items c))) (passes_clusters v.clusters v.items_then (v.put_since + length (puts_into v.items c)))
     (no_pass v.clusters v.items_then (v.put_since + length (puts_into v.items c)) (omega (arith, a, b, more, put, same, holds, light)))
+
+-- a change that with all before it weighs no more than the clusters needs no room
+pub light_needs_none : (m : Mode) (remote : Held) (clusters : ℕ) (trace : List (Event × Answer)) (t : State) → Runs m (start m remote clusters) trace t → (c : Change) (n : Usn) → weight (t.filter.volume.log ++ (n, c) ∷ []) ≤ clusters
+    → may_need_room c t.filter.volume ≡ false
+light_needs_none m remote clusters trace t runs c n light = weighed_needs_none clusters t.filter.volume (weighed m remote clusters trace t runs) c n light

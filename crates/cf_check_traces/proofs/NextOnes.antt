@@ -22,10 +22,12 @@ use Rattle.cf_check_model.proofs.Fronts.{texts_join}
 use Rattle.cf_check_text.specs.Clean.{clean_notice, clean_shown, is_clean}
 use Rattle.cf_check_text.proofs.CleanWords.{left_of}
 use Rattle.cf_check_text.proofs.Lines.{notices_fit, result_of}
-use Rattle.cf_check_ways.specs.Ways.{Alike, AnswersAlike, IsFront, OneFailed, Parted, is_good, of_state}
-use Rattle.cf_check_ways.proofs.StepsSure.{any_step_count, cut_off_shows, steps_alike}
+use Rattle.cf_check_room.specs.Weights.{weight}
+use Rattle.cf_check_room.proofs.Light.{weight_longer, weighed}
+use Rattle.cf_check_ways.specs.Ways.{AllSure, BecomesSure, core_of, sures, Alike, AnswersAlike, IsFront, OneFailed, Parted, is_good, of_state}
+use Rattle.cf_check_ways.proofs.StepsSure.{any_step_count, cut_off_shows, restart_told, restarts_alike, step_rooms, steps_alike, steps_keep}
 use Rattle.cf_check_traces.specs.Decided.{IsSteady, IsStopped, MeetsFaults, MeetsResult, NoneStopped}
-use Rattle.cf_check_traces.specs.Tests.{is_device}
+use Rattle.cf_check_traces.specs.Tests.{is_device, is_restart}
 use Rattle.cf_check_traces.proofs.Accepting.{LastOf, few_messages, last_of, numbered}
 use Rattle.cf_check_traces.proofs.NextSteps.{goes_on, no_part}
 use Rattle.cf_check_traces.proofs.SameRuns.{Front, front_of, last_event, steady}
@@ -41,9 +43,12 @@ pub record IsFollowed (events : List Event) (report : List ℕ) (clusters n : �
   pub none : NoneStopped trace
   -- no other run of so many events is accepted
   pub only : (more : List (Event × Answer)) (u : State) → Accepted events report clusters n more u → (more ≡ trace) × Alike of_state s u
+  -- where the log weighs no more than the clusters, no commit for room was made in it, nor in another
+  pub tight : weight s.filter.volume.log ≤ clusters
+      → AllSure (core_of s.filter.volume) × ((more : List (Event × Answer)) (u : State) → Accepted events report clusters n more u → (sures (core_of s.filter.volume) ≡ sures (core_of u.filter.volume)) × AllSure (core_of u.filter.volume))
 
 -- an answer that the judge's run gives to the next event
-pub record IsNext (s : State) (e : Event) (a : Answer) (t : State) (rest : List ℕ) : Type 0 where
+pub record IsNext (clusters : ℕ) (s : State) (e : Event) (a : Answer) (t : State) (rest : List ℕ) : Type 0 where
   pub step : IsStep mode.Replay s e a t
   pub good : is_good t ≡ true
   pub runs : IsStopped a → ⊥
@@ -51,7 +56,7 @@ pub record IsNext (s : State) (e : Event) (a : Answer) (t : State) (rest : List 
   pub meets : MeetsFaults a rest
   pub alone : MeetsResult s e a rest
   pub result : slice_get (result_lines rest) 0 ≡ Some device_line → ⊥
-  pub other : e ≡ event.Device device.Restart → ⊥
+  pub opening : e ≡ event.Device device.Restart → weight s.filter.volume.log ≤ clusters
 
 -- with these messages there are numbers left
 good_last : (limit : ℕ) (report : List ℕ) (clusters : ℕ) (front : List (Event × Answer)) (e : Event) (b : Answer) (mid u : State) → Runs mode.Replay (start mode.Replay empty_remote clusters) front mid → NoneStopped front → IsStep mode.Replay mid e b u
@@ -66,6 +71,15 @@ good_last limit report clusters front e b mid u runs none step other kept begun 
     let lt : length u.link.messages < limit = omega (arith, few, one, bytes, whole, parts, last, short) in
     numbered u.link.honest (length u.link.messages) limit kept lt
 
+-- restarts
+
+restart_is : (e : Event) → is_restart e ≡ true → e ≡ event.Device device.Restart
+restart_is (event.Device device.Restart) h = refl
+restart_is _ h = let z : false ≡ true = h in absurd cc
+
+restart_not : (e : Event) → is_restart e ≡ false → e ≡ event.Device device.Restart → ⊥
+restart_not e is h = let z : true ≡ false = sym (ap is_restart h) ∙ is in absurd cc
+
 front_clean : (xs ys : List Notice) → IsFront xs ys → list_all clean_notice ys ≡ true → list_all clean_notice xs ≡ true
 front_clean xs ys f h = left_of (list_all clean_notice xs) (list_all clean_notice f.0) (sym (list_all-append clean_notice xs f.0) ∙ ap (λ (ns : List Notice). list_all clean_notice ns) (sym f.1) ∙ h)
 
@@ -78,19 +92,19 @@ turned_part xs ys (inr f) = inl f
 
 module _ (events : List Event) (report : List ℕ) (clusters : ℕ) (short : length report < most) where
   -- an answer of another run, which no device cut off
-  ended_same : (s o : State) (e : Event) (a b : Answer) (t u : State) (rest : List ℕ) → Alike of_state s o → IsSteady s → IsSteady o → IsNext s e a t rest → IsStep mode.Replay o e b u → is_good u ≡ true → (IsStopped b → ⊥) → Begins rest (text b)
+  ended_same : (s o : State) (e : Event) (a b : Answer) (t u : State) (rest : List ℕ) → Alike of_state s o → IsSteady s → IsSteady o → IsNext clusters s e a t rest → (e ≡ event.Device device.Restart → ⊥) → IsStep mode.Replay o e b u → is_good u ≡ true → (IsStopped b → ⊥) → Begins rest (text b)
       → (b ≡ a) × Alike of_state t u
-  ended_same s o e a b t u rest alike steady steady_too next step well runs begun = by (steps_alike mode.Replay s o e a b t u alike steady.opens steady.points steady_too.points next.step step next.good well next.runs runs)
+  ended_same s o e a b t u rest alike steady steady_too next other step well runs begun = by (steps_alike mode.Replay s o e a b t u alike steady.opens steady.points steady_too.points next.step step next.good well next.runs runs)
     where
       by : AnswersAlike s o e a t b u → (b ≡ a) × Alike of_state t u
       by (inl same) = (sym same.0, same.1)
       by (inr (inl apart)) = absurd (no_part a b rest next.meets begun apart)
       by (inr (inr (inl x))) = absurd (next.alone x.0 o b u alike step x.1 begun x.2)
-      by (inr (inr (inr x))) = absurd (next.other x.0)
+      by (inr (inr (inr x))) = absurd (other x.0)
 
   -- one that a device cut off is told by its line
-  cut_is_told : (s o : State) (e : Event) (a b : Answer) (t u : State) (rest : List ℕ) → Alike of_state o s → IsSteady s → IsSteady o → IsNext s e a t rest → IsStep mode.Replay o e b u → is_good u ≡ true → IsStopped b → Begins rest (text b) → ⊥
-  cut_is_told s o e a b t u rest alike steady steady_too next step well stop begun = by (cut_off_shows mode.Replay o s e b a u t alike steady_too.opens steady_too.points steady.points step next.step well next.good next.other next.runs)
+  cut_is_told : (s o : State) (e : Event) (a b : Answer) (t u : State) (rest : List ℕ) → Alike of_state o s → IsSteady s → IsSteady o → IsNext clusters s e a t rest → (e ≡ event.Device device.Restart → ⊥) → IsStep mode.Replay o e b u → is_good u ≡ true → IsStopped b → Begins rest (text b) → ⊥
+  cut_is_told s o e a b t u rest alike steady steady_too next other step well stop begun = by (cut_off_shows mode.Replay o s e b a u t alike steady_too.opens steady_too.points steady.points step next.step well next.good other next.runs)
     where
       told : IsFront b.notes a.notes → ⊥
       told front =
@@ -102,18 +116,70 @@ module _ (events : List Event) (report : List ℕ) (clusters : ℕ) (short : len
       by (inl (inl same)) = next.runs (subst IsStopped same.0 stop)
       by (inl (inr (inl apart))) = no_part a b rest next.meets begun (turned_part b.notes a.notes apart)
       by (inl (inr (inr (inl x)))) = next.alone x.0 o b u (sym alike) step (sym x.1) begun (turned_one b.shown a.shown x.2)
-      by (inl (inr (inr (inr x)))) = next.other x.0
+      by (inl (inr (inr (inr x)))) = other x.0
       by (inr (h, inl front)) = told front
       by (inr (h, inr apart)) = no_part a b rest next.meets begun (turned_part b.notes a.notes apart)
 
-  last_same : (s o : State) (e : Event) (a b : Answer) (t u : State) (rest : List ℕ) → Alike of_state s o → IsSteady s → IsSteady o → IsNext s e a t rest → IsStep mode.Replay o e b u → is_good u ≡ true → Begins rest (text b)
+  last_same : (s o : State) (e : Event) (a b : Answer) (t u : State) (rest : List ℕ) → Alike of_state s o → IsSteady s → IsSteady o → IsNext clusters s e a t rest → (e ≡ event.Device device.Restart → ⊥) → IsStep mode.Replay o e b u → is_good u ≡ true → Begins rest (text b)
       → (cut : Bool) → is_device b.shown ≡ cut → (b ≡ a) × Alike of_state t u
-  last_same s o e a b t u rest alike steady steady_too next step well begun true is = absurd (cut_is_told s o e a b t u rest (sym alike) steady steady_too next step well (stopped_so b is) begun)
-  last_same s o e a b t u rest alike steady steady_too next step well begun false is = ended_same s o e a b t u rest alike steady steady_too next step well (not_stopped b is) begun
+  last_same s o e a b t u rest alike steady steady_too next other step well begun true is = absurd (cut_is_told s o e a b t u rest (sym alike) steady steady_too next other step well (stopped_so b is) begun)
+  last_same s o e a b t u rest alike steady steady_too next other step well begun false is = ended_same s o e a b t u rest alike steady steady_too next other step well (not_stopped b is) begun
+
+  -- the points after the next event
+
+  lighter : (s t : State) → BecomesSure (core_of s.filter.volume) (core_of t.filter.volume) → weight t.filter.volume.log ≤ clusters → weight s.filter.volume.log ≤ clusters
+  lighter s t b light =
+      let same : weight t.filter.volume.log ≡ weight (s.filter.volume.log ++ b.longer.0) = ap weight b.longer.1 in
+      let less : weight s.filter.volume.log ≤ weight (s.filter.volume.log ++ b.longer.0) = weight_longer s.filter.volume.log b.longer.0 in
+      omega (arith, light, same, less)
+
+  still_tight : (trace : List (Event × Answer)) (s t : State) → Runs mode.Replay (start mode.Replay empty_remote clusters) trace s → BecomesSure (core_of s.filter.volume) (core_of t.filter.volume) → weight t.filter.volume.log ≤ clusters → AllSure (core_of s.filter.volume) → AllSure (core_of t.filter.volume)
+  still_tight trace s t runs b light all =
+      let w = weighed mode.Replay empty_remote clusters trace s runs in
+      let holds : s.filter.volume.clusters ≡ clusters = w.holds in
+      b.sure (record { items = w.items; then_ = w.then_; since = w.since }) (omega (arith, light, holds)) all
+
+  -- of an event that is no restart
+  tight_next : (n : ℕ) (trace front : List (Event × Answer)) (s o : State) (rest : List ℕ) → IsFollowed events report clusters n trace s rest → Accepted events report clusters n front o → (e : Event) (a b : Answer) (t u : State) → IsNext clusters s e a t rest
+      → (e ≡ event.Device device.Restart → ⊥) → IsStep mode.Replay o e b u → is_good u ≡ true → b ≡ a → Alike of_state s o → Alike of_state t u → Begins rest (text b) → weight t.filter.volume.log ≤ clusters
+      → AllSure (core_of t.filter.volume) × (sures (core_of t.filter.volume) ≡ sures (core_of u.filter.volume)) × AllSure (core_of u.filter.volume)
+  tight_next n trace front s o rest f acc e a b t u next other step well same_answer alike after begun light =
+      let runs : IsStopped b → ⊥ = λ h. next.runs (subst IsStopped same_answer h) in
+      let rooms = step_rooms mode.Replay s e a t next.step next.runs other in
+      let rooms_too = step_rooms mode.Replay o e b u step runs other in
+      let before = f.tight (lighter s t rooms light) in
+      let there = before.1 front o acc in
+      let log : weight t.filter.volume.log ≡ weight u.filter.volume.log = ap (λ (z : State). weight z.filter.volume.log) after in (
+        still_tight trace s t f.lawful rooms light before.0,
+        by (steps_keep mode.Replay s o e a b t u other alike there.0 next.step step next.good well next.runs runs),
+        still_tight front o u acc.lawful rooms_too (omega (arith, light, log)) there.1,
+      )
+    where
+      by : (sures (core_of t.filter.volume) ≡ sures (core_of u.filter.volume)) ⊎ Parted a.notes b.notes → sures (core_of t.filter.volume) ≡ sures (core_of u.filter.volume)
+      by (inl same) = same
+      by (inr apart) = absurd (no_part a b rest next.meets begun apart)
+
+  -- of a restart
+  restart_next : (n : ℕ) (trace front : List (Event × Answer)) (s o : State) (rest : List ℕ) → IsFollowed events report clusters n trace s rest → Accepted events report clusters n front o → IsSteady s → IsSteady o → (a b : Answer) (t u : State)
+      → IsNext clusters s (event.Device device.Restart) a t rest → IsStep mode.Replay o (event.Device device.Restart) b u → Alike of_state s o → Begins rest (text b) → (cut : Bool) → is_device b.shown ≡ cut
+      → (b ≡ a) × Alike of_state t u × AllSure (core_of t.filter.volume) × (sures (core_of t.filter.volume) ≡ sures (core_of u.filter.volume)) × AllSure (core_of u.filter.volume)
+  restart_next n trace front s o rest f acc steady steady_too a b t u next step alike begun true is =
+      let stop : IsStopped b = stopped_so b is in
+      let none : b.notes ≡ [] = restart_told mode.Replay o b u step in
+      let clean : is_clean b ≡ true = rw none (ap clean_shown stop) in
+      absurd (next.result (ap (λ (xs : List ℕ). slice_get (result_lines xs) 0) begun.1 ∙ result_of b begun.0 clean ∙ ap (λ (x : Shown). Some (result_line x)) stop))
+  restart_next n trace front s o rest f acc steady steady_too a b t u next step alike begun false is =
+      let before = f.tight (next.opening refl) in
+      let there = before.1 front o acc in
+      let x = restarts_alike mode.Replay s o a b t u alike steady.opens steady.points steady_too.points before.0 there.1 there.0 next.step step next.runs (not_stopped b is) in
+      (sym x.0, x.1, x.3, x.2, x.4)
 
   -- no other run of one event more is accepted
+
   pub only_next : (n : ℕ) (trace : List (Event × Answer)) (s : State) (rest : List ℕ) → IsFollowed events report clusters n trace s rest → n < length events → (e : Event) → take (suc n) events ≡ take n events ++ e ∷ []
-      → (a : Answer) (t : State) → IsNext s e a t rest → (more : List (Event × Answer)) (u : State) → Accepted events report clusters (suc n) more u → (more ≡ trace ++ (e, a) ∷ []) × Alike of_state t u
+      → (a : Answer) (t : State) → IsNext clusters s e a t rest → (more : List (Event × Answer)) (u : State) → Accepted events report clusters (suc n) more u
+      → (more ≡ trace ++ (e, a) ∷ []) × Alike of_state t u
+      × (weight t.filter.volume.log ≤ clusters → AllSure (core_of t.filter.volume) × (sures (core_of t.filter.volume) ≡ sures (core_of u.filter.volume)) × AllSure (core_of u.filter.volume))
   only_next n trace s rest f below e is_e a t next more u acc =
       let l : LastOf more n = last_of more n (sym (length-map more event_of) ∙ ap (λ (es : List Event). length es) acc.events_are ∙ length-take-le (suc n) events acc.there) in
       let acc' : Accepted events report clusters (suc n) (l.front ++ l.last ∷ []) u = subst (λ (xs : List (Event × Answer)). Accepted events report clusters (suc n) xs u) l.is acc in
@@ -124,10 +190,41 @@ module _ (events : List Event) (report : List ℕ) (clusters : ℕ) (short : len
       let none : NoneStopped l.front = subst NoneStopped (sym same.0) f.none in
       let step : IsStep mode.Replay g.mid e l.last.1 u = subst (λ (z : Event). IsStep mode.Replay g.mid z l.last.1 u) event_is g.step in
       let begun_all : Begins report (texts (map answer_of (l.front ++ (e, l.last.1) ∷ []))) = subst (λ (z : Event). Begins report (texts (map answer_of (l.front ++ (z, l.last.1) ∷ [])))) event_is acc'.front in
-      let well : is_good u ≡ true = good_last most report clusters l.front e l.last.1 g.mid u g.runs none step next.other acc.kept begun_all short in
       let steady_s : IsSteady s = steady events report clusters short trace s f.lawful f.none in
       let steady_o : IsSteady g.mid = steady events report clusters short l.front g.mid g.runs none in
-      let last = last_same s g.mid e a l.last.1 t u rest same.1 steady_s steady_o next step well begun (is_device l.last.1.shown) refl in (
-        l.is ∙ ap (λ (fs : List (Event × Answer)). fs ++ l.last ∷ []) same.0 ∙ ap (λ (z : Event). trace ++ (z, l.last.1) ∷ []) event_is ∙ ap (λ (z : Answer). trace ++ (e, z) ∷ []) last.0,
-        last.1,
+      let both = by l.front l.last.1 g.mid g.accepted g.runs none step begun_all begun steady_s steady_o same.1 (is_restart e) refl in (
+        l.is ∙ ap (λ (fs : List (Event × Answer)). fs ++ l.last ∷ []) same.0 ∙ ap (λ (z : Event). trace ++ (z, l.last.1) ∷ []) event_is ∙ ap (λ (z : Answer). trace ++ (e, z) ∷ []) both.0,
+        both.1,
+        both.2,
       )
+    where
+      by : (front : List (Event × Answer)) (b : Answer) (o : State) → Accepted events report clusters n front o → Runs mode.Replay (start mode.Replay empty_remote clusters) front o → NoneStopped front → IsStep mode.Replay o e b u
+          → Begins report (texts (map answer_of (front ++ (e, b) ∷ []))) → Begins rest (text b) → IsSteady s → IsSteady o → Alike of_state s o → (restart : Bool) → is_restart e ≡ restart
+          → (b ≡ a) × Alike of_state t u × (weight t.filter.volume.log ≤ clusters → AllSure (core_of t.filter.volume) × (sures (core_of t.filter.volume) ≡ sures (core_of u.filter.volume)) × AllSure (core_of u.filter.volume))
+      by front b o acc_o runs none step begun_all begun steady_s steady_o alike true is =
+          let restart : e ≡ event.Device device.Restart = restart_is e is in
+          let next' : IsNext clusters s (event.Device device.Restart) a t rest = subst (λ (z : Event). IsNext clusters s z a t rest) restart next in
+          let x = restart_next n trace front s o rest f acc_o steady_s steady_o a b t u next' (subst (λ (z : Event). IsStep mode.Replay o z b u) restart step) alike begun (is_device b.shown) refl in
+          (x.0, x.1, λ light. (x.2, x.3, x.4))
+      by front b o acc_o runs none step begun_all begun steady_s steady_o alike false is =
+          let other : e ≡ event.Device device.Restart → ⊥ = λ h. restart_not e is h in
+          let well : is_good u ≡ true = good_last most report clusters front e b o u runs none step other acc.kept begun_all short in
+          let x = last_same s o e a b t u rest alike steady_s steady_o next other step well begun (is_device b.shown) refl in
+          (x.0, x.1, λ light. tight_next n trace front s o rest f acc_o e a b t u next other step well x.0 alike x.1 begun light)
+
+  -- the points of the followed run itself
+  pub own_tight : (n : ℕ) (trace : List (Event × Answer)) (s : State) (rest : List ℕ) → IsFollowed events report clusters n trace s rest → (e : Event) (a : Answer) (t : State) → IsNext clusters s e a t rest → weight t.filter.volume.log ≤ clusters
+      → AllSure (core_of t.filter.volume)
+  own_tight n trace s rest f e a t next light = by (is_restart e) refl
+    where
+      by : (restart : Bool) → is_restart e ≡ restart → AllSure (core_of t.filter.volume)
+      by true is =
+          let restart : e ≡ event.Device device.Restart = restart_is e is in
+          let all : AllSure (core_of s.filter.volume) = (f.tight (next.opening restart)).0 in
+          let now : IsSteady s = steady events report clusters short trace s f.lawful f.none in
+          let step : IsStep mode.Replay s (event.Device device.Restart) a t = subst (λ (z : Event). IsStep mode.Replay s z a t) restart next.step in
+          (restarts_alike mode.Replay s s a a t t refl now.opens now.points now.points all all refl step step next.runs next.runs).3
+      by false is =
+          let other : e ≡ event.Device device.Restart → ⊥ = λ h. restart_not e is h in
+          let rooms = step_rooms mode.Replay s e a t next.step next.runs other in
+          still_tight trace s t f.lawful rooms light (f.tight (lighter s t rooms light)).0

@@ -6,6 +6,7 @@ use Rattle.cf_base.specs.declared.answers.Shown.{Shown}
 use Rattle.cf_base.specs.declared.answers.Shown.TheVariants as shown
 use Rattle.cf_base.specs.declared.codes.Code.{Code}
 use Rattle.cf_base.specs.declared.codes.Code.TheVariants as code
+use Rattle.cf_base.specs.declared.events.DeviceEvent.TheVariants as device
 use Rattle.cf_base.specs.declared.events.Event.{Event}
 use Rattle.cf_base.specs.declared.events.Event.TheVariants as event
 use Rattle.cf_base.specs.declared.notices.Notice.{Notice}
@@ -58,3 +59,7 @@ is_device_code _ = false
 abbrev pub is_device : Shown → Bool
 is_device (shown.Refused c) = is_device_code c
 is_device _ = false
+
+abbrev pub is_restart : Event → Bool
+is_restart (event.Device device.Restart) = true
+is_restart _ = false

@@ -28,7 +28,7 @@ pub carry_out_sure : (x1 : Key) → (x2 : Bool × Operation) → IsSure of_state
 carry_out_sure own p = sure_seq of_state (in_filter (execute (planned_on own p))) note_operation (sure_in_filter (execute (planned_on own p)) (operations_sure.execute_sure (planned_on own p))) (note_operation_sure)
 
 pub carry_out_all_sure : (x1 : Key) → (x2 : List (Bool × Operation)) → IsSure of_state (carry_out_all x1 x2)
-carry_out_all_sure own ops = sure_then of_state (noted without_plan) (each (carry_out own) ops) (sure_noted of_state without_plan (plain_quiet of_state without_plan (λ s. refl) (λ s. refl) (λ s. refl) (λ s. refl) (λ s. refl))) (sure_each of_state (carry_out own) ops (carry_out_sure own))
+carry_out_all_sure own ops = sure_then of_state (noted without_plan) (each (carry_out own) ops) (sure_noted of_state without_plan (plain_quiet of_state without_plan (λ s. refl) (λ s. refl) (λ s. refl) (λ s. refl) (λ s. refl) (λ s. refl))) (sure_each of_state (carry_out own) ops (carry_out_sure own))
 
 pub scripted_sure : (x1 : Ask) → IsSure of_state (scripted x1)
 scripted_sure a = sure_reading of_state plan_of (carry_out_all a.key) (reads_fixed of_state plan_of (λ s. refl)) (carry_out_all_sure a.key)
@@ -51,7 +51,7 @@ popped_sure n k [] = sure_fixed of_state (popped n []) (λ x. ret (record {})) (
 popped_sure n k (a ∷ rest) =
     sure_fixed of_state (popped n (a ∷ rest)) (λ x. then_do (noted (with_outbox rest)) (then_do (call_back a) (drained n))) (λ s. refl)
     (λ x. sure_then of_state (noted (with_outbox rest)) (then_do (call_back a) (drained n))
-    (sure_noted of_state (with_outbox rest) (plain_quiet of_state (with_outbox rest) (λ s. refl) (λ s. refl) (λ s. refl) (λ s. refl) (λ s. refl)))
+    (sure_noted of_state (with_outbox rest) (plain_quiet of_state (with_outbox rest) (λ s. refl) (λ s. refl) (λ s. refl) (λ s. refl) (λ s. refl) (λ s. refl)))
     (sure_then of_state (call_back a) (drained n) (call_back_sure a) k))
 
 pub drained_sure : (n : ℕ) → IsSure of_state (drained n)
@@ -65,7 +65,7 @@ same_result _ s = refl
 pub finish_sure : (answer : Shown) → IsSure of_filter (finish answer)
 finish_sure answer =
     sure_at of_filter (finish answer) (result_of answer) (λ r. then_do (noted begin_call) (ret r)) (λ s. refl) (reads_fixed of_filter (result_of answer) (same_result answer))
-    (λ r. sure_then of_filter (noted begin_call) (ret r) (sure_noted of_filter begin_call (plain_quiet of_filter begin_call (λ s. refl) (λ s. refl) (λ s. refl) (λ s. refl) (λ s. refl))) (sure_ret of_filter r))
+    (λ r. sure_then of_filter (noted begin_call) (ret r) (sure_noted of_filter begin_call (plain_quiet of_filter begin_call (λ s. refl) (λ s. refl) (λ s. refl) (λ s. refl) (λ s. refl) (λ s. refl))) (sure_ret of_filter r))
 
 pub drain_sure : IsSure of_state (drain)
 drain_sure = drained_sure most

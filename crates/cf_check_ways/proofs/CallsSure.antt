@@ -34,7 +34,7 @@ use Rattle.cf_check_ways.proofs.OperationsSure as operations_sure
 use Rattle.cf_check_ways.proofs.WaitsSure as waits_sure
 
 pub opened_as_sure : (x1 : ItemId) → (x2 : Handle) → IsSure of_filter (opened_as x1 x2)
-opened_as_sure item h = sure_then of_filter (noted (with_handle item)) (ret (shown.Opened h)) (sure_noted of_filter (with_handle item) (plain_quiet of_filter (with_handle item) (λ s. refl) (λ s. refl) (λ s. refl) (λ s. refl) (λ s. refl))) (sure_ret of_filter (shown.Opened h))
+opened_as_sure item h = sure_then of_filter (noted (with_handle item)) (ret (shown.Opened h)) (sure_noted of_filter (with_handle item) (plain_quiet of_filter (with_handle item) (λ s. refl) (λ s. refl) (λ s. refl) (λ s. refl) (λ s. refl) (λ s. refl))) (sure_ret of_filter (shown.Opened h))
 
 pub open_item_sure : (x1 : Item) → IsSure of_filter (open_item x1)
 open_item_sure i = operations_sure.checked_sure open_tests (reading next_handle (opened_as i.id)) (reads_fixed of_filter open_tests (λ s. refl)) (sure_reading of_filter next_handle (opened_as i.id) (reads_fixed of_filter next_handle (λ s. refl)) (opened_as_sure i.id))
@@ -62,7 +62,7 @@ pub write_sure : (x1 : Handle) → (x2 : ℕ) → (x3 : List ℕ) → IsSure of_
 write_sure h at bytes = waits_sure.on_handle_sure h (write_item at bytes) (write_item_sure at bytes)
 
 pub size_now_sure : (x1 : ItemId) → (x2 : ℕ) → (x3 : Bool) → IsSure of_filter (size_now x1 x2 x3)
-size_now_sure item n true = sure_then of_filter (noted (accessed item)) done (sure_noted of_filter (accessed item) (plain_quiet of_filter (accessed item) (λ s. refl) (λ s. refl) (λ s. refl) (λ s. refl) (λ s. refl))) (operations_sure.done_sure)
+size_now_sure item n true = sure_then of_filter (noted (accessed item)) done (sure_noted of_filter (accessed item) (plain_quiet of_filter (accessed item) (λ s. refl) (λ s. refl) (λ s. refl) (λ s. refl) (λ s. refl) (λ s. refl))) (operations_sure.done_sure)
 size_now_sure item n false = write_now_sure item (change.Size item n)
 
 pub size_item_sure : (x1 : ℕ) → (x2 : ItemId) → IsSure of_filter (size_item x1 x2)
@@ -126,4 +126,4 @@ pub df_sure : IsSure of_filter (df)
 df_sure = sure_reading of_filter blocks_now ret (reads_fixed of_filter blocks_now (λ s. refl)) (sure_ret of_filter)
 
 pub set_policy_sure : (x1 : Mode) → (x2 : Policy) → IsSure of_filter (set_policy x1 x2)
-set_policy_sure m p = operations_sure.checked_sure (policy_tests m p) (then_do (noted (with_policy p)) done) (reads_fixed of_filter (policy_tests m p) (λ s. refl)) (sure_then of_filter (noted (with_policy p)) done (sure_noted of_filter (with_policy p) (plain_quiet of_filter (with_policy p) (λ s. refl) (λ s. refl) (λ s. refl) (λ s. refl) (λ s. refl))) (operations_sure.done_sure))
+set_policy_sure m p = operations_sure.checked_sure (policy_tests m p) (then_do (noted (with_policy p)) done) (reads_fixed of_filter (policy_tests m p) (λ s. refl)) (sure_then of_filter (noted (with_policy p)) done (sure_noted of_filter (with_policy p) (plain_quiet of_filter (with_policy p) (λ s. refl) (λ s. refl) (λ s. refl) (λ s. refl) (λ s. refl) (λ s. refl))) (operations_sure.done_sure))

@@ -12,7 +12,7 @@ use Rattle.cf_check_ways.proofs.PassesSure as passes_sure
 use Rattle.cf_check_ways.proofs.SpaceSure as space_sure
 
 pub set_link_sure : (x1 : Bool) → IsSure of_state (set_link x1)
-set_link_sure inline = sure_then of_state (noted (with_inline inline)) (ret shown.Done) (sure_noted of_state (with_inline inline) (plain_quiet of_state (with_inline inline) (λ s. refl) (λ s. refl) (λ s. refl) (λ s. refl) (λ s. refl))) (sure_ret of_state shown.Done)
+set_link_sure inline = sure_then of_state (noted (with_inline inline)) (ret shown.Done) (sure_noted of_state (with_inline inline) (plain_quiet of_state (with_inline inline) (λ s. refl) (λ s. refl) (λ s. refl) (λ s. refl) (λ s. refl) (λ s. refl))) (sure_ret of_state shown.Done)
 
 pub engine_event_sure : (x1 : EngineEvent) → IsSure of_state (engine_event x1)
 engine_event_sure (engine.Link inline) = set_link_sure inline

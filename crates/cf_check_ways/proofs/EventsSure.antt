@@ -67,4 +67,4 @@ provider_event_sure (provider.Update path identity size) = sure_in_filter (updat
 provider_event_sure (provider.Mark path number) = callbacks_sure.calling_sure (mark path number) (placements_sure.mark_sure path number)
 provider_event_sure (provider.Unmark path) = sure_in_filter (unmark path) (placements_sure.unmark_sure path)
 provider_event_sure (provider.Do operation) = callbacks_sure.calling_sure (execute operation) (operations_sure.execute_sure operation)
-provider_event_sure (provider.Plan own operation) = sure_then of_state (noted (with_planned own operation)) (ret shown.Done) (sure_noted of_state (with_planned own operation) (plain_quiet of_state (with_planned own operation) (λ s. refl) (λ s. refl) (λ s. refl) (λ s. refl) (λ s. refl))) (sure_ret of_state shown.Done)
+provider_event_sure (provider.Plan own operation) = sure_then of_state (noted (with_planned own operation)) (ret shown.Done) (sure_noted of_state (with_planned own operation) (plain_quiet of_state (with_planned own operation) (λ s. refl) (λ s. refl) (λ s. refl) (λ s. refl) (λ s. refl) (λ s. refl))) (sure_ret of_state shown.Done)

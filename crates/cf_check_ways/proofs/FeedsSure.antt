@@ -132,7 +132,7 @@ cursor_if_sure clock false = sure_ret of_state unit
 cursor_if_sure clock true = sure_seq of_state (try_cursor clock) whatever (skips_sure.try_cursor_sure clock) (push_replies_sure.whatever_sure)
 
 pub end_feed_sure : (x1 : ℕ) → (x2 : ℕ) → (x3 : Fed) → IsSure of_state (end_feed x1 x2 x3)
-end_feed_sure clock skips f = sure_then of_state (in_volatile all_released) (then_do (noted (with_clock_seen clock)) (reading (is_whole skips f) (cursor_if clock))) (sure_noted of_state (with_volatile all_released) (volatile_plain all_released)) (sure_then of_state (noted (with_clock_seen clock)) (reading (is_whole skips f) (cursor_if clock)) (sure_noted of_state (with_clock_seen clock) (plain_quiet of_state (with_clock_seen clock) (λ s. refl) (λ s. refl) (λ s. refl) (λ s. refl) (λ s. refl))) (sure_reading of_state (is_whole skips f) (cursor_if clock) (reads_fixed of_state (is_whole skips f) (λ s. refl)) (cursor_if_sure clock)))
+end_feed_sure clock skips f = sure_then of_state (in_volatile all_released) (then_do (noted (with_clock_seen clock)) (reading (is_whole skips f) (cursor_if clock))) (sure_noted of_state (with_volatile all_released) (volatile_plain all_released)) (sure_then of_state (noted (with_clock_seen clock)) (reading (is_whole skips f) (cursor_if clock)) (sure_noted of_state (with_clock_seen clock) (plain_quiet of_state (with_clock_seen clock) (λ s. refl) (λ s. refl) (λ s. refl) (λ s. refl) (λ s. refl) (λ s. refl))) (sure_reading of_state (is_whole skips f) (cursor_if clock) (reads_fixed of_state (is_whole skips f) (λ s. refl)) (cursor_if_sure clock)))
 
 pub apply_entries_sure : (x1 : ℕ) → (x2 : List Entry) → IsSure of_state (apply_entries x1 x2)
 apply_entries_sure clock es = sure_fixed of_state (apply_entries clock es) (λ x. seq (all_turns es) (end_feed clock x.running.skips)) (λ s. refl) (λ x. sure_seq of_state (all_turns es) (end_feed clock x.running.skips) (all_turns_sure es) (end_feed_sure clock x.running.skips))

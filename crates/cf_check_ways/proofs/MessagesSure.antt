@@ -20,8 +20,8 @@ use Rattle.cf_model.specs.Trees.{Stops, AsItKeeps, Ends, Faults, Telling, Tells}
 use Rattle.cf_model.specs.Messages.{act_on, act_unless, after_ask, after_post, answered, come, come_if, come_now, counted, distrusted, entry_live, failed, fault_line, if_kept, is_inline, is_stale, is_upload, next_message, no_bytes, no_number, post, post_by, post_unless, send, send_now, take_if_any, take_reply, was_kept, with_entry, with_lost, with_message, with_remote}
 use Rattle.cf_model.specs.Feeds.{apply_feed}
 use Rattle.cf_model.specs.Fetching.{take_bytes, take_gone, take_listing, take_missing}
-use Rattle.cf_check_ways.specs.Ways.{Alike, FailedIn, Grown, IsSure, Parted, SameEnd, fixed_state, is_good, of_state}
-use Rattle.cf_check_ways.proofs.Sure.{front_here, grown_more, reads_fixed, sure_choose, sure_fixed, sure_one, sure_reading, sure_ret, sure_seq, sure_then}
+use Rattle.cf_check_ways.specs.Ways.{core_of, sures, Alike, FailedIn, Grown, IsSure, Parted, SameEnd, fixed_state, is_good, of_state}
+use Rattle.cf_check_ways.proofs.Sure.{becomes_same, front_here, grown_more, reads_fixed, sure_choose, sure_fixed, sure_one, sure_reading, sure_ret, sure_seq, sure_then}
 use Rattle.cf_check_ways.proofs.VolumeSteps.{commit_sure, sure_in_filter}
 use Rattle.cf_check_ways.proofs.StateSteps.{fault_line_plain, with_lost_plain, with_message_plain}
 use Rattle.cf_check_ways.proofs.FeedsSure as feeds_sure
@@ -144,10 +144,28 @@ come_halts m q s t (Tells other) h =
     let e : t ≡ after_other q s = quiet_stop m (Some other) (after_other q s) t h in
     (subst (λ (z : State). Grown of_state s z) (sym e) (quiet s (after_other q s) refl refl refl (λ g. let z : false ≡ true = g in absurd cc)), ap (λ (z : State). z.filter.notes) e)
 
+-- what commits are made of stays
+
+answered_core : (m : ℕ) (r : Option Reply) (s : State) (a : Option Reply) (t : State) → Ends (answered m r s) a t → core_of t.filter.volume ≡ core_of s.filter.volume
+answered_core m None s a t h = ap (λ (z : State). core_of z.filter.volume) h.1
+answered_core m (Some r) s a t h = by (no_number s) (no_bytes (frame.Reply m r) s) refl h
+  where
+    by : (full bytes : Bool) → no_bytes (frame.Reply m r) s ≡ bytes → Ends (seq (post_unless (frame.Reply m r) full) (if_kept r) s) a t → core_of t.filter.volume ≡ core_of s.filter.volume
+    by true bytes how g = ap (λ (z : State). core_of z.filter.volume) g.1
+    by false true how g = let k : Ends (seq (post_by (frame.Reply m r) true) (if_kept r) s) a t = subst (λ (b : Bool). Ends (seq (post_by (frame.Reply m r) b) (if_kept r) s) a t) how g in ap (λ (z : State). core_of z.filter.volume) k.1
+    by false false how g = let k : Ends (seq (post_by (frame.Reply m r) false) (if_kept r) s) a t = subst (λ (b : Bool). Ends (seq (post_by (frame.Reply m r) b) (if_kept r) s) a t) how g in ap (λ (z : State). core_of z.filter.volume) k.1
+
+come_core : (m : ℕ) (q : Request) (s : State) (a : Option Reply) (t : State) (x : Telling) → Ends (seq (λ z. after_ask (remote_step z.link.remote q) z x) (answered m) s) a t → core_of t.filter.volume ≡ core_of s.filter.volume
+come_core m q s a t AsItKeeps h = answered_core m (Some (remote_step s.link.remote q).0) (after_reply q s) a t h
+come_core m q s a t Faults h = answered_core m None (counted s) a t h
+come_core m q s a t (Tells other) h = answered_core m (Some other) (after_other q s) a t h
+
 pub come_sure : (m : ℕ) (q : Request) → IsSure of_state (come m q)
 come_sure m q = record {
   grows = λ s a t h. come_grows m q s a t h.0 h.1;
   one = λ s o e a b t u h k good well. come_one m q s o e a b t u h.0 k.0 h.1 k.1 good well;
+  rooms = λ s a t h. becomes_same (core_of s.filter.volume) (core_of t.filter.volume) (come_core m q s a t h.0 h.1);
+  keeps = λ s o e same a b t u h k _ _. inl (ap sures (come_core m q s a t h.0 h.1) ∙ same ∙ ap sures (sym (come_core m q o b u k.0 k.1)));
   halts = λ s t h. (come_halts m q s t h.0 h.1).0;
   stop = λ s o e t b u h k good well. inl (front_here of_state t s o u (come_halts m q s t h.0 h.1).1 e (come_grows m q o b u k.0 k.1));
 }

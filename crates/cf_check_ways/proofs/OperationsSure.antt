@@ -43,7 +43,7 @@ pub refuse_sure : (x1 : Live) → (x2 : Span) → (x3 : ℕ) → IsSure of_filte
 refuse_sure a asked status = checked_sure (refuse_tests a asked) (then_do (settle a.ask.item (Fails a.ask.key (blocks_of asked.start asked.len) (cause.Failed status))) done) (reads_fixed of_filter (refuse_tests a asked) (λ s. refl)) (sure_then of_filter (settle a.ask.item (Fails a.ask.key (blocks_of asked.start asked.len) (cause.Failed status))) done (settle_sure a.ask.item (Fails a.ask.key (blocks_of asked.start asked.len) (cause.Failed status))) (done_sure))
 
 pub retrieve_by_sure : (x1 : Live) → (x2 : List (Option ℕ)) → IsSure of_filter (retrieve_by x1 x2)
-retrieve_by_sure a held = sure_then of_filter (one as_it_is) (then_do (settle a.ask.item (Leaves a.ask.key [])) (ret (shown.Retrieved (bytes_held held)))) (sure_one of_filter as_it_is (plain_quiet of_filter as_it_is (λ s. refl) (λ s. refl) (λ s. refl) (λ s. refl) (λ s. refl))) (sure_then of_filter (settle a.ask.item (Leaves a.ask.key [])) (ret (shown.Retrieved (bytes_held held))) (settle_sure a.ask.item (Leaves a.ask.key [])) (sure_ret of_filter (shown.Retrieved (bytes_held held))))
+retrieve_by_sure a held = sure_then of_filter (one as_it_is) (then_do (settle a.ask.item (Leaves a.ask.key [])) (ret (shown.Retrieved (bytes_held held)))) (sure_one of_filter as_it_is (plain_quiet of_filter as_it_is (λ s. refl) (λ s. refl) (λ s. refl) (λ s. refl) (λ s. refl) (λ s. refl))) (sure_then of_filter (settle a.ask.item (Leaves a.ask.key [])) (ret (shown.Retrieved (bytes_held held))) (settle_sure a.ask.item (Leaves a.ask.key [])) (sure_ret of_filter (shown.Retrieved (bytes_held held))))
 
 pub retrieve_sure : (x1 : Live) → (x2 : Span) → IsSure of_filter (retrieve x1 x2)
 retrieve_sure a asked = checked_sure (retrieve_tests a asked) (reading (held_in a asked) (retrieve_by a)) (reads_fixed of_filter (retrieve_tests a asked) (λ s. refl)) (sure_reading of_filter (held_in a asked) (retrieve_by a) (reads_fixed of_filter (held_in a asked) (λ s. refl)) (retrieve_by_sure a))

@@ -56,13 +56,13 @@ pub connected_sure : (x1 : Arrow State Shown) → (IsSure of_state (x1)) → IsS
 connected_sure f f_sure = sure_reading of_state is_down (unless_down f) (reads_fixed of_state is_down (λ s. refl)) (unless_down_sure f f_sure)
 
 pub work_now_sure : IsSure of_state (work_now)
-work_now_sure = sure_then of_state (noted showing) (then_do pass (then_do drain (ret shown.Done))) (sure_noted of_state showing (plain_quiet of_state showing (λ s. refl) (λ s. refl) (λ s. refl) (λ s. refl) (λ s. refl))) (sure_then of_state pass (then_do drain (ret shown.Done)) (pass_sure) (sure_then of_state drain (ret shown.Done) (callbacks_sure.drain_sure) (sure_ret of_state shown.Done)))
+work_now_sure = sure_then of_state (noted showing) (then_do pass (then_do drain (ret shown.Done))) (sure_noted of_state showing (plain_quiet of_state showing (λ s. refl) (λ s. refl) (λ s. refl) (λ s. refl) (λ s. refl) (λ s. refl))) (sure_then of_state pass (then_do drain (ret shown.Done)) (pass_sure) (sure_then of_state drain (ret shown.Done) (callbacks_sure.drain_sure) (sure_ret of_state shown.Done)))
 
 pub work_sure : IsSure of_state (work)
 work_sure = connected_sure work_now (work_now_sure)
 
 pub pass_anew_sure : IsSure of_state (pass_anew)
-pass_anew_sure = sure_fixed of_state pass_anew (λ x. then_do (noted without_done) pass) (λ s. refl) (λ x. sure_then of_state (noted without_done) pass (sure_noted of_state without_done (plain_quiet of_state without_done (λ s. refl) (λ s. refl) (λ s. refl) (λ s. refl) (λ s. refl))) pass_sure)
+pass_anew_sure = sure_fixed of_state pass_anew (λ x. then_do (noted without_done) pass) (λ s. refl) (λ x. sure_then of_state (noted without_done) pass (sure_noted of_state without_done (plain_quiet of_state without_done (λ s. refl) (λ s. refl) (λ s. refl) (λ s. refl) (λ s. refl) (λ s. refl))) pass_sure)
 
 abbrev again : ℕ → ℕ → ℕ → Bool → Arrow State (Unit {0})
 again fuel l made last t = elim last as (λ _. Tree State (Unit {0})) [ true ↦ Ret unit t | false ↦ passes fuel l (made + 1) t ]
@@ -85,7 +85,7 @@ pub show_unsettled_sure : IsSure of_state (show_unsettled)
 show_unsettled_sure = sure_fixed of_state show_unsettled (λ x. ret (shown.Count (unsettled x))) (λ s. refl) (λ x. sure_ret of_state (shown.Count (unsettled x)))
 
 pub sync_now_sure : IsSure of_state (sync_now)
-sync_now_sure = sure_then of_state (noted showing) (then_do sync_passes (then_do drain show_unsettled)) (sure_noted of_state showing (plain_quiet of_state showing (λ s. refl) (λ s. refl) (λ s. refl) (λ s. refl) (λ s. refl))) (sure_then of_state sync_passes (then_do drain show_unsettled) (sync_passes_sure) (sure_then of_state drain show_unsettled (callbacks_sure.drain_sure) (show_unsettled_sure)))
+sync_now_sure = sure_then of_state (noted showing) (then_do sync_passes (then_do drain show_unsettled)) (sure_noted of_state showing (plain_quiet of_state showing (λ s. refl) (λ s. refl) (λ s. refl) (λ s. refl) (λ s. refl) (λ s. refl))) (sure_then of_state sync_passes (then_do drain show_unsettled) (sync_passes_sure) (sure_then of_state drain show_unsettled (callbacks_sure.drain_sure) (show_unsettled_sure)))
 
 pub sync_sure : IsSure of_state (sync)
 sync_sure = connected_sure sync_now (sync_now_sure)
@@ -106,7 +106,7 @@ arrive_sure m = sure_fixed of_state (arrive m) (λ x. arrive_frame m (message_at
 
 pub deliver_unless_sure : (x1 : Reply) → (x2 : Bool) → IsSure of_state (deliver_unless x1 x2)
 deliver_unless_sure r true = sure_ret of_state (shown.Refused code.Stale)
-deliver_unless_sure r false = sure_then of_state (noted showing) (then_do (act_on r) (then_do drain (ret shown.Done))) (sure_noted of_state showing (plain_quiet of_state showing (λ s. refl) (λ s. refl) (λ s. refl) (λ s. refl) (λ s. refl))) (sure_then of_state (act_on r) (then_do drain (ret shown.Done)) (messages_sure.act_on_sure r) (sure_then of_state drain (ret shown.Done) (callbacks_sure.drain_sure) (sure_ret of_state shown.Done)))
+deliver_unless_sure r false = sure_then of_state (noted showing) (then_do (act_on r) (then_do drain (ret shown.Done))) (sure_noted of_state showing (plain_quiet of_state showing (λ s. refl) (λ s. refl) (λ s. refl) (λ s. refl) (λ s. refl) (λ s. refl))) (sure_then of_state (act_on r) (then_do drain (ret shown.Done)) (messages_sure.act_on_sure r) (sure_then of_state drain (ret shown.Done) (callbacks_sure.drain_sure) (sure_ret of_state shown.Done)))
 
 pub deliver_reply_sure : (x1 : Reply) → (x2 : Option Frame) → IsSure of_state (deliver_reply x1 x2)
 deliver_reply_sure r (Some (frame.Request q)) = sure_reading of_state (is_stale q r) (deliver_unless r) (reads_fixed of_state (is_stale q r) (λ s. refl)) (deliver_unless_sure r)

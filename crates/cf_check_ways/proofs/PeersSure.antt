@@ -70,13 +70,13 @@ peer_fixed left f g is rest = record {
 }
 
 stray_sure : (r : Reply) (c : Code) → IsSure of_state (then_do (noted (with_stray r)) (refused c))
-stray_sure r c = sure_then of_state (noted (with_stray r)) (refused c) (sure_noted of_state (with_stray r) (plain_quiet of_state (with_stray r) (λ s. refl) (λ s. refl) (λ s. refl) (λ s. refl) (λ s. refl))) (sure_ret of_state (shown.Refused c))
+stray_sure r c = sure_then of_state (noted (with_stray r)) (refused c) (sure_noted of_state (with_stray r) (plain_quiet of_state (with_stray r) (λ s. refl) (λ s. refl) (λ s. refl) (λ s. refl) (λ s. refl) (λ s. refl))) (sure_ret of_state (shown.Refused c))
 
 stale_sure : (r : Reply) → IsSureOfPeer with_token_used (stale r)
 stale_sure r =
     peer_of_sure with_token_used (stale r)
-    (sure_then of_state (noted (with_stray r)) (failed code.Stale) (sure_noted of_state (with_stray r) (plain_quiet of_state (with_stray r) (λ s. refl) (λ s. refl) (λ s. refl) (λ s. refl) (λ s. refl)))
-    (sure_then of_state (noted with_token_used) (ret (shown.Refused code.Stale)) (sure_noted of_state with_token_used (plain_quiet of_state with_token_used (λ s. refl) (λ s. refl) (λ s. refl) (λ s. refl) (λ s. refl))) (sure_ret of_state (shown.Refused code.Stale))))
+    (sure_then of_state (noted (with_stray r)) (failed code.Stale) (sure_noted of_state (with_stray r) (plain_quiet of_state (with_stray r) (λ s. refl) (λ s. refl) (λ s. refl) (λ s. refl) (λ s. refl) (λ s. refl)))
+    (sure_then of_state (noted with_token_used) (ret (shown.Refused code.Stale)) (sure_noted of_state with_token_used (plain_quiet of_state with_token_used (λ s. refl) (λ s. refl) (λ s. refl) (λ s. refl) (λ s. refl) (λ s. refl))) (sure_ret of_state (shown.Refused code.Stale))))
     (λ s a t h. others h.0 (refl, refl))
 
 with_entries_sure : (f : List Entry → Arrow State Shown) → ((es : List Entry) → IsSureOfPeer with_token_used (f es)) → (r : Reply) (fit : Bool) → IsSureOfPeer with_token_used (with_entries f r fit)

@@ -25,7 +25,7 @@ pub end_and_close_sure : (x1 : QueueEntry) → IsSure of_state (end_and_close x1
 end_and_close_sure e = sure_then of_state (end_entry e) (in_volatile (taken_from_row e)) (end_entry_sure e) (sure_noted of_state (with_volatile (taken_from_row e)) (volatile_plain (taken_from_row e)))
 
 pub take_sure : (x1 : QueueEntry) → IsSure of_state (take x1)
-take_sure e = sure_fixed of_state (take e) (λ x. then_do (noted with_done) (end_and_close e)) (λ s. refl) (λ x. sure_then of_state (noted with_done) (end_and_close e) (sure_noted of_state with_done (plain_quiet of_state with_done (λ s. refl) (λ s. refl) (λ s. refl) (λ s. refl) (λ s. refl))) (end_and_close_sure e))
+take_sure e = sure_fixed of_state (take e) (λ x. then_do (noted with_done) (end_and_close e)) (λ s. refl) (λ x. sure_then of_state (noted with_done) (end_and_close e) (sure_noted of_state with_done (plain_quiet of_state with_done (λ s. refl) (λ s. refl) (λ s. refl) (λ s. refl) (λ s. refl) (λ s. refl))) (end_and_close_sure e))
 
 pub whatever_sure : (x1 : Bool) → IsSure of_state (whatever x1)
 whatever_sure done = sure_ret of_state unit

@@ -1,5 +1,6 @@
 -- What a restart may end with, and a crash.
-use Rattle.std.proofs.Common.{◌≡◌, ◌⊎◌, ℕ, suc, Bool, true, false, List, [], ◌∷◌, length, nat_lt, reverse, refl, sym, ◌∙◌, ap, subst, inl, inr}
+use Rattle.std.proofs.Common.{◌≡◌, ◌⊎◌, ℕ, suc, Bool, true, false, List, [], ◌∷◌, length, nat_lt, reverse, refl, sym, ◌∙◌, ap, subst, inl, inr, ◌&&◌, filter}
+use Rattle.std.specs.List.{list_all}
 use Rattle.std.proofs.lemmas.List.{length-reverse}
 use Rattle.cf_base.specs.declared.answers.Shown.{Shown}
 use Rattle.cf_base.specs.declared.answers.Shown.TheVariants as shown
@@ -10,13 +11,13 @@ use Rattle.cf_model.specs.Numbers.{most}
 use Rattle.cf_model.specs.Points.{ArePoints, HasPoints}
 use Rattle.cf_model.specs.Restarts.{crash, crashed, epoch_after, more_epochs, open_in, one_of, open_point, open_points, open_skipping, points_at, restart, restart_by, resumed, with_opened}
 use Rattle.cf_model.specs.State.{Broken, Off, On, Point, Power, State}
-use Rattle.cf_model.specs.Trees.{Ends}
+use Rattle.cf_model.specs.Trees.{Ends, Stops}
 use Rattle.cf_model.specs.Words.{counting}
-use Rattle.cf_check_ways.specs.Ways.{Alike, BothResumed, IsSure, SameEnd, fixed_state, of_state}
+use Rattle.cf_check_ways.specs.Ways.{AllSure, core_of, sures, Alike, BothResumed, IsSure, SameEnd, fixed_state, of_state}
 use Rattle.cf_check_ways.proofs.Sure.{plain_quiet, sure_noted, sure_ret, sure_then}
 
 pub crash_sure : IsSure of_state crash
-crash_sure = sure_then of_state (noted crashed) (ret shown.Done) (sure_noted of_state crashed (plain_quiet of_state crashed (λ s. refl) (λ s. refl) (λ s. refl) (λ s. refl) (λ s. refl))) (sure_ret of_state shown.Done)
+crash_sure = sure_then of_state (noted crashed) (ret shown.Done) (sure_noted of_state crashed (plain_quiet of_state crashed (λ s. refl) (λ s. refl) (λ s. refl) (λ s. refl) (λ s. refl) (λ s. refl))) (sure_ret of_state shown.Done)
 
 -- a restart over a volume that was off
 
@@ -129,3 +130,121 @@ restart_afresh s a t none h = by s.power h
     by Off h = points_afresh (points_at s) s a t none h
     by On h = ap (λ (z : State). z.failed_opens) h.1 ∙ none
     by Broken h = ap (λ (z : State). z.failed_opens) h.1 ∙ none
+
+-- where one point alone may be opened
+
+one_point : (n : ℕ) (ps : List Point) → ArePoints n ps → list_all (λ p. p.sure) ps ≡ true → (p : Point) × (ps ≡ p ∷ [])
+one_point n [] has all = absurd has
+one_point n (p ∷ []) has all = (p, refl)
+one_point n (p ∷ q ∷ ps) has all = let z : false ≡ true = sym (ap (λ (b : Bool). b && list_all (λ x. x.sure) (q ∷ ps)) has.0) ∙ all in absurd cc
+
+-- opened at this point, or the epochs are used up
+abbrev Opened' : State → Point → Shown → State → Type 0
+Opened' s p a t = ((nat_lt most (epoch_after 0 s) ≡ true) × (a ≡ shown.Refused code.Exhausted) × (t ≡ s))
+    ⊎ ((nat_lt most (epoch_after 0 s) ≡ false) × (a ≡ resumed p) × (t ≡ with_opened p (epoch_after 0 s) s))
+
+opened_here : (s : State) (p : Point) (a : Shown) (t : State) → s.failed_opens ≡ 0 → Ends (open_point p s) a t → Opened' s p a t
+opened_here s p a t none h =
+    let first : Ends (one_of (open_skipping p) 0 [] s) a t = subst (λ (n : ℕ). Ends (one_of (open_skipping p) 0 (counting 1 n) s) a t) none h in
+    opened_in p (epoch_after 0 s) s a t (nat_lt most (epoch_after 0 s)) first
+
+kept_one : (p : Point) → list_all (λ x. x.sure) (p ∷ []) ≡ true → filter (λ x. x.sure) (p ∷ []) ≡ p ∷ []
+kept_one p all = by p.sure refl all
+  where
+    by : (b : Bool) → p.sure ≡ b → (b && true) ≡ true → filter (λ x. x.sure) (p ∷ []) ≡ p ∷ []
+    by true e h = rw e refl
+    by false e h = let z : false ≡ true = h in absurd cc
+
+head_is : (p q : Point) → p ∷ [] ≡ q ∷ [] → p ≡ q
+head_is p q e = cc
+
+-- two restarts from alike states whose points are those of flushes and uploads, and the same
+pub restart_single : (s o : State) → Alike of_state s o → s.failed_opens ≡ 0 → HasPoints s.filter.volume → HasPoints o.filter.volume → AllSure (core_of s.filter.volume) → AllSure (core_of o.filter.volume)
+    → sures (core_of s.filter.volume) ≡ sures (core_of o.filter.volume) → (a b : Shown) (t u : State) → Ends (restart s) a t → Ends (restart o) b u
+    → SameEnd of_state a t b u × (sures (core_of t.filter.volume) ≡ sures (core_of u.filter.volume)) × AllSure (core_of t.filter.volume) × AllSure (core_of u.filter.volume)
+restart_single s o e none has has_too all all_too same a b t u h k = by s.power o.power (ap (λ (x : State). x.power) e) h k
+  where
+    unchanged : (a ≡ b) → t ≡ s → u ≡ o → SameEnd of_state a t b u × (sures (core_of t.filter.volume) ≡ sures (core_of u.filter.volume)) × AllSure (core_of t.filter.volume) × AllSure (core_of u.filter.volume)
+    unchanged d g i = (
+      (d, ap fixed_state g ∙ e ∙ ap fixed_state (sym i)),
+      ap (λ (x : State). sures (core_of x.filter.volume)) g ∙ same ∙ ap (λ (x : State). sures (core_of x.filter.volume)) (sym i),
+      subst (λ (x : State). AllSure (core_of x.filter.volume)) (sym g) all,
+      subst (λ (x : State). AllSure (core_of x.filter.volume)) (sym i) all_too,
+    )
+
+    at : (p q : Point) → p ≡ q → Opened' s p a t → Opened' o q b u → SameEnd of_state a t b u × (sures (core_of t.filter.volume) ≡ sures (core_of u.filter.volume)) × AllSure (core_of t.filter.volume) × AllSure (core_of u.filter.volume)
+    at p q pq (inl x) (inl y) = unchanged (x.1 ∙ sym y.1) x.2 y.2
+    at p q pq (inl x) (inr y) = let z : true ≡ false = sym x.0 ∙ ap (λ (w : State). nat_lt most (epoch_after 0 w)) e ∙ y.0 in absurd cc
+    at p q pq (inr x) (inl y) = let z : false ≡ true = sym x.0 ∙ ap (λ (w : State). nat_lt most (epoch_after 0 w)) e ∙ y.0 in absurd cc
+    at p q pq (inr x) (inr y) = (
+      (
+        x.1 ∙ ap resumed pq ∙ sym y.1,
+        ap fixed_state x.2 ∙ ap (λ (w : Point). fixed_state (with_opened w (epoch_after 0 s) s)) pq ∙ ap (λ (w : State). fixed_state (with_opened (of_count q.count q.book) (epoch_after 0 w) w)) e ∙ ap fixed_state (sym y.2),
+      ),
+      ap (λ (w : State). sures (core_of w.filter.volume)) x.2 ∙ ap (λ (w : Point). of_count w.count w.book ∷ []) pq ∙ ap (λ (w : State). sures (core_of w.filter.volume)) (sym y.2),
+      subst (λ (w : State). AllSure (core_of w.filter.volume)) (sym x.2) refl,
+      subst (λ (w : State). AllSure (core_of w.filter.volume)) (sym y.2) refl,
+    )
+
+    opened : Ends (open_points (points_at s) s) a t → Ends (open_points (points_at o) o) b u → SameEnd of_state a t b u × (sures (core_of t.filter.volume) ≡ sures (core_of u.filter.volume)) × AllSure (core_of t.filter.volume) × AllSure (core_of u.filter.volume)
+    opened h k =
+        let x = one_point (length s.filter.volume.log) s.filter.volume.points has all in
+        let y = one_point (length o.filter.volume.log) o.filter.volume.points has_too all_too in
+        let x_sure : list_all (λ p. p.sure) (x.0 ∷ []) ≡ true = subst (λ (ps : List Point). list_all (λ p. p.sure) ps ≡ true) x.1 all in
+        let y_sure : list_all (λ p. p.sure) (y.0 ∷ []) ≡ true = subst (λ (ps : List Point). list_all (λ p. p.sure) ps ≡ true) y.1 all_too in
+        let lists : x.0 ∷ [] ≡ y.0 ∷ []
+        = sym (kept_one x.0 x_sure) ∙ ap (λ (ps : List Point). filter (λ p. p.sure) ps) (sym x.1) ∙ same ∙ ap (λ (ps : List Point). filter (λ p. p.sure) ps) y.1 ∙ kept_one y.0 y_sure in
+        at x.0 y.0 (head_is x.0 y.0 lists)
+        (opened_here s x.0 a t none (subst (λ (ps : List Point). Ends (open_points (reverse ps) s) a t) x.1 h))
+        (opened_here o y.0 b u (sym (ap (λ (w : State). w.failed_opens) e) ∙ none) (subst (λ (ps : List Point). Ends (open_points (reverse ps) o) b u) y.1 k))
+
+    by : (w v : Power) → w ≡ v → Ends (restart_by w s) a t → Ends (restart_by v o) b u → SameEnd of_state a t b u × (sures (core_of t.filter.volume) ≡ sures (core_of u.filter.volume)) × AllSure (core_of t.filter.volume) × AllSure (core_of u.filter.volume)
+    by Off Off z h k = opened h k
+    by On On z h k = unchanged (h.0 ∙ sym k.0) h.1 k.1
+    by Broken Broken z h k = unchanged (h.0 ∙ sym k.0) h.1 k.1
+    by Off On z h k = let y : Off ≡ On = z in absurd cc
+    by Off Broken z h k = let y : Off ≡ Broken = z in absurd cc
+    by On Off z h k = let y : On ≡ Off = z in absurd cc
+    by On Broken z h k = let y : On ≡ Broken = z in absurd cc
+    by Broken On z h k = let y : Broken ≡ On = z in absurd cc
+    by Broken Off z h k = let y : Broken ≡ Off = z in absurd cc
+
+-- a restart that the device stops tells nothing
+
+points_run : (ps : List Point) (s t : State) → Stops (open_points ps s) t → ⊥
+points_run [] s t h = h
+points_run (p ∷ ps) s t h = none open_point p ps (λ q. λ g. none (open_skipping q) 0 (more_epochs s) (λ n. λ k. in_run q (epoch_after n s) (nat_lt most (epoch_after n s)) k) g) h
+  where
+    none : {X : Type 0} (f : X → Arrow State Shown) (x : X) (xs : List X) → ((y : X) → Stops (f y s) t → ⊥) → Stops (one_of f x xs s) t → ⊥
+    none f x [] each h = each x h
+    none f x (y ∷ ys) each (inl h) = each x h
+    none f x (y ∷ ys) each (inr h) = none f y ys each h
+
+    in_run : (q : Point) (epoch : ℕ) (full : Bool) → Stops (choose full (ret (shown.Refused code.Exhausted)) (then_do (noted (with_opened q epoch)) (ret (resumed q))) s) t → ⊥
+    in_run q epoch true h = h
+    in_run q epoch false h = h
+
+pub restart_quiet : (s t : State) → Stops (restart s) t → t.filter.notes ≡ s.filter.notes
+restart_quiet s t h = by s.power h
+  where
+    by : (w : Power) → Stops (restart_by w s) t → t.filter.notes ≡ s.filter.notes
+    by Off (inl e) = ap (λ (z : State). z.filter.notes) e
+    by Off (inr h) = absurd (points_run (points_at s) s t h)
+    by On h = absurd h
+    by Broken h = absurd h
+
+-- nor does one that ends
+points_lines : (ps : List Point) (s : State) (a : Shown) (t : State) → s.filter.notes ≡ [] → Ends (open_points ps s) a t → t.filter.notes ≡ []
+points_lines [] s a t none h = ap (λ (z : State). z.filter.notes) h.1 ∙ none
+points_lines (p ∷ ps) s a t none h =
+    let x = ends_one_of open_point p ps s a t h in
+    let y = ends_one_of (open_skipping x.0) 0 (more_epochs s) s a t x.1 in
+    elim (opened_in x.0 (epoch_after y.0 s) s a t (nat_lt most (epoch_after y.0 s)) y.1) as (λ _. t.filter.notes ≡ []) [ inl z ↦ ap (λ (w : State). w.filter.notes) z.2 ∙ none | inr z ↦ ap (λ (w : State). w.filter.notes) z.2 ]
+
+pub restart_lines : (s : State) (a : Shown) (t : State) → s.filter.notes ≡ [] → Ends (restart s) a t → t.filter.notes ≡ []
+restart_lines s a t none h = by s.power h
+  where
+    by : (w : Power) → Ends (restart_by w s) a t → t.filter.notes ≡ []
+    by Off h = points_lines (points_at s) s a t none h
+    by On h = ap (λ (z : State). z.filter.notes) h.1 ∙ none
+    by Broken h = ap (λ (z : State). z.filter.notes) h.1 ∙ none

@@ -38,7 +38,7 @@ pub try_change_sure : (x1 : Change) → IsSure of_state (try_change x1)
 try_change_sure c = tried_sure (why_no_change c) (do_change c) (reads_fixed of_state (why_no_change c) (λ s. refl)) (do_change_sure c)
 
 pub in_book_sure : (x1 : (Book → Book)) → IsSure of_state (in_book x1)
-in_book_sure f = sure_one of_state (with_book f) (plain_quiet of_state (with_book f) (λ s. refl) (λ s. refl) (λ s. refl) (λ s. refl) (λ s. refl))
+in_book_sure f = sure_one of_state (with_book f) (plain_quiet of_state (with_book f) (λ s. refl) (λ s. refl) (λ s. refl) (λ s. refl) (λ s. refl) (λ s. refl))
 
 pub try_book_sure : (x1 : (Book → Book)) → IsSure of_state (try_book x1)
 try_book_sure f = tried_sure (why_no_record f) (in_book f) (reads_fixed of_state (why_no_record f) (λ s. refl)) (in_book_sure f)

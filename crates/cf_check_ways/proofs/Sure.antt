@@ -5,7 +5,9 @@ use Rattle.cf_base.specs.declared.codes.Code.{Code}
 use Rattle.cf_base.specs.declared.notices.Notice.{Notice}
 use Rattle.cf_model.specs.Arrows.{Arrow, and_then, attempt, choose, each, noted, one, one_or, only_if, reading, ret, seq, then_do, unit, unless, unless_done, when_ok}
 use Rattle.cf_model.specs.Trees.{Asked, Stops, Ends, Fork, Ret, Step, Tree, bind, mapped}
-use Rattle.cf_check_ways.specs.Ways.{Alike, FailedIn, Grown, IsFront, IsPlain, IsSure, Parted, Reads, SameEnd, View}
+use Rattle.cf_check_room.specs.Weights.{weight}
+use Rattle.cf_check_room.proofs.Light.{weight_longer}
+use Rattle.cf_check_ways.specs.Ways.{BecomesSure, Core, sures, Alike, FailedIn, Grown, IsFront, IsPlain, IsSure, Parted, Reads, SameEnd, View}
 
 -- ends of the first part and of the rest
 
@@ -91,6 +93,26 @@ front_grows v t m u f g = (f.0 ++ g.notes.0, g.notes.1 ∙ ap (λ (xs : List Not
 pub front_here : {S : Type 0} (v : View S) (t s o u : S) → v.notes t ≡ v.notes s → Alike v s o → Grown v o u → IsFront (v.notes t) (v.notes u)
 front_here v t s o u same e g = (g.notes.0, g.notes.1 ∙ ap (λ (xs : List Notice). xs ++ g.notes.0) (sym (told_alike v s o e) ∙ sym same))
 
+-- what commits are made of
+
+pub becomes_none : (c : Core) → BecomesSure c c
+becomes_none c = record { holds = refl; longer = ([], sym (append-nil c.log)); weighs = λ w. w; sure = λ w light all. all }
+
+pub becomes_same : (a b : Core) → b ≡ a → BecomesSure a b
+becomes_same a b e = subst (λ (x : Core). BecomesSure a x) (sym e) (becomes_none a)
+
+pub becomes_more : (a b c : Core) → BecomesSure a b → BecomesSure b c → BecomesSure a c
+becomes_more a b c f g = record {
+  holds = g.holds ∙ f.holds;
+  longer = (f.longer.0 ++ g.longer.0, g.longer.1 ∙ ap (λ (xs : List _). xs ++ g.longer.0) f.longer.1 ∙ append_assoc a.log f.longer.0 g.longer.0);
+  weighs = λ w. g.weighs (f.weighs w);
+  sure = λ w light all.
+      let less : weight b.log ≤ weight (b.log ++ g.longer.0) = weight_longer b.log g.longer.0 in
+      let same : weight c.log ≡ weight (b.log ++ g.longer.0) = ap weight g.longer.1 in
+      let holds : b.clusters ≡ a.clusters = f.holds in
+      g.sure (f.weighs w) (omega (arith, light, holds)) (f.sure w (omega (arith, light, less, same)) all);
+}
+
 -- the words
 
 pub sure_ret : {S A : Type 0} (v : View S) (a : A) → IsSure v (ret a)
@@ -99,6 +121,8 @@ sure_ret v a = record {
   one = λ s o e b c t u h k _ _. inl (h.0 ∙ sym k.0, ap v.fixed h.1 ∙ e ∙ ap v.fixed (sym k.1));
   halts = λ s t h. absurd h;
   stop = λ s o e t b u h k _ _. absurd h;
+  rooms = λ s b t h. becomes_same (v.core s) (v.core t) (ap v.core h.1);
+  keeps = λ s o e same b c t u h k _ _. inl (ap (λ (x : _). sures (v.core x)) h.1 ∙ same ∙ ap (λ (x : _). sures (v.core x)) (sym k.1));
 }
 
 pub sure_seq : {S A B : Type 0} (v : View S) (f : Arrow S A) (g : A → Arrow S B) → IsSure v f → ((a : A) → IsSure v (g a)) → IsSure v (seq f g)
@@ -110,6 +134,13 @@ sure_seq {S} {A} {B} v f g first rest = record {
       let later : Grown v x.1 t = (rest x.0).grows x.1 b t x.3 in
       let late : Grown v y.1 u = (rest y.0).grows y.1 c u y.3 in
       joined x.0 y.0 x.1 y.1 b c t u x.3 y.3 later late good well (first.one s o e x.0 y.0 x.1 y.1 x.2 y.2 (later.good good) (late.good well));
+  rooms = λ s b t h. let x = ends_split (f s) g b t h in becomes_more (v.core s) (v.core x.1) (v.core t) (first.rooms s x.0 x.1 x.2) ((rest x.0).rooms x.1 b t x.3);
+  keeps = λ s o e same b c t u h k good well.
+      let x = ends_split (f s) g b t h in
+      let y = ends_split (f o) g c u k in
+      let later : Grown v x.1 t = (rest x.0).grows x.1 b t x.3 in
+      let late : Grown v y.1 u = (rest y.0).grows y.1 c u y.3 in
+      kept x.0 y.0 x.1 y.1 b c t u x.3 y.3 later late good well (first.one s o e x.0 y.0 x.1 y.1 x.2 y.2 (later.good good) (late.good well)) (first.keeps s o e same x.0 y.0 x.1 y.1 x.2 y.2 (later.good good) (late.good well));
   halts = λ s t h. elim (stops_split (f s) g t h) as (λ _. Grown v s t) [ inl x ↦ first.halts s t x | inr x ↦ grown_more v s x.1 t (first.grows s x.0 x.1 x.2) ((rest x.0).halts x.1 t x.3) ];
   stop = λ s o e t b u h k good well.
       let y = ends_split (f o) g b u k in
@@ -122,6 +153,12 @@ sure_seq {S} {A} {B} v f g first rest = record {
       ];
 }
   where
+    kept : (a a' : A) (m n : S) (b c : B) (t u : S) → Ends (g a m) b t → Ends (g a' n) c u → Grown v m t → Grown v n u → v.good t ≡ true → v.good u ≡ true
+        → SameEnd v a m a' n ⊎ Parted (v.notes m) (v.notes n) → (sures (v.core m) ≡ sures (v.core n)) ⊎ Parted (v.notes m) (v.notes n) → (sures (v.core t) ≡ sures (v.core u)) ⊎ Parted (v.notes t) (v.notes u)
+    kept a a' m n b c t u h k later late good well (inl same) (inl sure) = (rest a).keeps m n same.1 sure b c t u h (subst (λ (x : A). Ends (g x n) c u) (sym same.0) k) good well
+    kept a a' m n b c t u h k later late good well (inl same) (inr apart) = inr (parted_later v m t n u later late apart)
+    kept a a' m n b c t u h k later late good well (inr apart) sure = inr (parted_later v m t n u later late apart)
+
     stopped : (t n u : S) → Grown v n u → IsFront (v.notes t) (v.notes n) ⊎ Parted (v.notes t) (v.notes n) → IsFront (v.notes t) (v.notes u) ⊎ Parted (v.notes t) (v.notes u)
     stopped t n u late (inl front) = inl (front_grows v t n u front late)
     stopped t n u late (inr apart) = inr (parted_later v t t n u (grown_none v t) late apart)
@@ -143,6 +180,8 @@ pub sure_reading : {S A X : Type 0} (v : View S) (get : S → X) (f : X → Arro
 sure_reading {S} {A} {X} v get f reads rest = record {
   grows = λ s a t h. (rest (get s)).grows s a t h;
   one = λ s o e a b t u h k good well. (rest (get s)).one s o e a b t u h (subst (λ (x : X). Ends (f x o) b u) (sym (reads s o e)) k) good well;
+  rooms = λ s a t h. (rest (get s)).rooms s a t h;
+  keeps = λ s o e same a b t u h k good well. (rest (get s)).keeps s o e same a b t u h (subst (λ (x : X). Ends (f x o) b u) (sym (reads s o e)) k) good well;
   halts = λ s t h. (rest (get s)).halts s t h;
   stop = λ s o e t b u h k good well. (rest (get s)).stop s o e t b u h (subst (λ (x : X). Ends (f x o) b u) (sym (reads s o e)) k) good well;
 }
@@ -153,6 +192,8 @@ sure_noted v f plain = record {
   one = λ s o e a b t u h k good well. inl (h.0 ∙ sym k.0, ap v.fixed h.1 ∙ plain.alike s o e ∙ ap v.fixed (sym k.1));
   halts = λ s t h. absurd h;
   stop = λ s o e t b u h k _ _. absurd h;
+  rooms = λ s a t h. becomes_same (v.core s) (v.core t) (ap v.core h.1 ∙ plain.core s);
+  keeps = λ s o e same a b t u h k _ _. inl (ap sures (ap v.core h.1 ∙ plain.core s) ∙ same ∙ ap sures (sym (plain.core o) ∙ ap v.core (sym k.1)));
 }
 
 -- a stop in one step leaves a state in which as much has happened as before
@@ -166,10 +207,12 @@ sure_one_or {S} v stop f quiet same plain = record {
   one = (sure_noted v f plain).one;
   halts = λ s t h. subst (λ (x : S). Grown v s x) (sym (stopped_in stop f s t h)) (quiet s);
   stop = λ s o e t b u h k _ _. inl (front_here v t s o u (ap v.notes (stopped_in stop f s t h) ∙ same s) e ((sure_noted v f plain).grows o b u k));
+  rooms = (sure_noted v f plain).rooms;
+  keeps = (sure_noted v f plain).keeps;
 }
 
 pub sure_one : {S : Type 0} (v : View S) (f : S → S) → IsPlain v f → IsSure v (one f)
-sure_one v f plain = let x = sure_one_or v (λ s. s) f (grown_none v) (λ s. refl) plain in record { grows = x.grows; one = x.one; halts = x.halts; stop = x.stop }
+sure_one v f plain = let x = sure_one_or v (λ s. s) f (grown_none v) (λ s. refl) plain in record { grows = x.grows; one = x.one; halts = x.halts; stop = x.stop; rooms = x.rooms; keeps = x.keeps }
 
 pub sure_choose : {S A : Type 0} (v : View S) (b : Bool) (f g : Arrow S A) → IsSure v f → IsSure v g → IsSure v (choose b f g)
 sure_choose v true f g h k = h
@@ -205,17 +248,19 @@ no_more : (t s n : ℕ) → t ≡ s → t ≤ s + n
 no_more t s n e = omega (arith, e)
 
 -- what changes nothing but what is fixed, and notes nothing
-pub plain_quiet : {S : Type 0} (v : View S) (f : S → S) → ((s : S) → v.fixed (f s) ≡ v.fixed (f (v.fixed s))) → ((s : S) → v.notes (f s) ≡ v.notes s) → ((s : S) → v.good (f s) ≡ v.good s) → ((s : S) → v.count (f s) ≡ v.count s) → ((s : S) → v.fails (f s) ≡ v.fails s) → IsPlain v f
-plain_quiet v f fixed notes good count fails = record {
+pub plain_quiet : {S : Type 0} (v : View S) (f : S → S) → ((s : S) → v.fixed (f s) ≡ v.fixed (f (v.fixed s))) → ((s : S) → v.notes (f s) ≡ v.notes s) → ((s : S) → v.good (f s) ≡ v.good s) → ((s : S) → v.count (f s) ≡ v.count s) → ((s : S) → v.fails (f s) ≡ v.fails s) → ((s : S) → v.core (f s) ≡ v.core s) → IsPlain v f
+plain_quiet v f fixed notes good count fails core = record {
   grows = λ s. record { notes = ([], notes s ∙ sym (append-nil (v.notes s))); counted = no_more (v.count (f s)) (v.count s) 0 (count s); opens = fails s; good = λ h. sym (good s) ∙ h };
   alike = λ s o e. fixed s ∙ ap (λ (x : _). v.fixed (f x)) e ∙ sym (fixed o);
+  core = core;
 }
 
 -- what notes lines
-pub plain_noting : {S : Type 0} (v : View S) (f : S → S) (more : S → List Notice) → ((s : S) → v.fixed (f s) ≡ v.fixed (f (v.fixed s))) → ((s : S) → v.notes (f s) ≡ v.notes s ++ more s) → ((s : S) → v.good (f s) ≡ v.good s) → ((s : S) → v.count (f s) ≡ v.count s) → ((s : S) → v.fails (f s) ≡ v.fails s) → IsPlain v f
-plain_noting v f more fixed notes good count fails = record {
+pub plain_noting : {S : Type 0} (v : View S) (f : S → S) (more : S → List Notice) → ((s : S) → v.fixed (f s) ≡ v.fixed (f (v.fixed s))) → ((s : S) → v.notes (f s) ≡ v.notes s ++ more s) → ((s : S) → v.good (f s) ≡ v.good s) → ((s : S) → v.count (f s) ≡ v.count s) → ((s : S) → v.fails (f s) ≡ v.fails s) → ((s : S) → v.core (f s) ≡ v.core s) → IsPlain v f
+plain_noting v f more fixed notes good count fails core = record {
   grows = λ s. record { notes = (more s, notes s); counted = no_more (v.count (f s)) (v.count s) (length (more s)) (count s); opens = fails s; good = λ h. sym (good s) ∙ h };
   alike = λ s o e. fixed s ∙ ap (λ (x : _). v.fixed (f x)) e ∙ sym (fixed o);
+  core = core;
 }
 
 -- what is read is read of what is fixed
@@ -228,6 +273,10 @@ sure_at {S} {A} {X} v f get g is reads rest = record {
   grows = λ s a t h. (rest (get s)).grows s a t (subst (λ (p : Tree S A). Ends p a t) (is s) h);
   one = λ s o e a b t u h k good well.
       (rest (get s)).one s o e a b t u (subst (λ (p : Tree S A). Ends p a t) (is s) h)
+      (subst (λ (x : X). Ends (g x o) b u) (sym (reads s o e)) (subst (λ (p : Tree S A). Ends p b u) (is o) k)) good well;
+  rooms = λ s a t h. (rest (get s)).rooms s a t (subst (λ (p : Tree S A). Ends p a t) (is s) h);
+  keeps = λ s o e same a b t u h k good well.
+      (rest (get s)).keeps s o e same a b t u (subst (λ (p : Tree S A). Ends p a t) (is s) h)
       (subst (λ (x : X). Ends (g x o) b u) (sym (reads s o e)) (subst (λ (p : Tree S A). Ends p b u) (is o) k)) good well;
   halts = λ s t h. (rest (get s)).halts s t (subst (λ (p : Tree S A). Stops p t) (is s) h);
   stop = λ s o e t b u h k good well.

@@ -105,7 +105,7 @@ pub end_handle_sure : (x1 : Handle) → (x2 : ItemId) → (x3 : Bool) → IsSure
 end_handle_sure h item last = settle_sure item (Closes h last)
 
 pub close_item_sure : (x1 : Handle) → (x2 : ItemId) → IsSure of_filter (close_item x1 x2)
-close_item_sure h item = sure_then of_filter (noted (without_handle h)) (then_do (reading (is_last item) (end_handle h item)) done) (sure_noted of_filter (without_handle h) (plain_quiet of_filter (without_handle h) (λ s. refl) (λ s. refl) (λ s. refl) (λ s. refl) (λ s. refl))) (sure_then of_filter (reading (is_last item) (end_handle h item)) done (sure_reading of_filter (is_last item) (end_handle h item) (reads_fixed of_filter (is_last item) (λ s. refl)) (end_handle_sure h item)) (operations_sure.done_sure))
+close_item_sure h item = sure_then of_filter (noted (without_handle h)) (then_do (reading (is_last item) (end_handle h item)) done) (sure_noted of_filter (without_handle h) (plain_quiet of_filter (without_handle h) (λ s. refl) (λ s. refl) (λ s. refl) (λ s. refl) (λ s. refl) (λ s. refl))) (sure_then of_filter (reading (is_last item) (end_handle h item)) done (sure_reading of_filter (is_last item) (end_handle h item) (reads_fixed of_filter (is_last item) (λ s. refl)) (end_handle_sure h item)) (operations_sure.done_sure))
 
 pub close_sure : (x1 : Handle) → IsSure of_filter (close x1)
 close_sure h = on_handle_sure h (close_item h) (close_item_sure h)
@@ -118,8 +118,8 @@ pub expire_sure : (x1 : Key) → IsSure of_filter (expire x1)
 expire_sure key = sure_reading of_filter (still_live key) (expire_live key) (reads_fixed of_filter (still_live key) (λ s. refl)) (expire_live_sure key)
 
 pub tick_sure : (x1 : ℕ) → IsSure of_filter (tick x1)
-tick_sure n = sure_then of_filter (noted (with_time n)) (then_do (reading expired_keys (each expire)) done) (sure_noted of_filter (with_time n) (plain_quiet of_filter (with_time n) (λ s. refl) (λ s. refl) (λ s. refl) (λ s. refl) (λ s. refl))) (sure_then of_filter (reading expired_keys (each expire)) done (sure_reading of_filter expired_keys (each expire) (reads_fixed of_filter expired_keys (λ s. refl)) (λ z1. sure_each of_filter expire z1 (expire_sure))) (operations_sure.done_sure))
+tick_sure n = sure_then of_filter (noted (with_time n)) (then_do (reading expired_keys (each expire)) done) (sure_noted of_filter (with_time n) (plain_quiet of_filter (with_time n) (λ s. refl) (λ s. refl) (λ s. refl) (λ s. refl) (λ s. refl) (λ s. refl))) (sure_then of_filter (reading expired_keys (each expire)) done (sure_reading of_filter expired_keys (each expire) (reads_fixed of_filter expired_keys (λ s. refl)) (λ z1. sure_each of_filter expire z1 (expire_sure))) (operations_sure.done_sure))
 
 pub connect_sure : (x1 : Bool) → IsSure of_filter (connect x1)
-connect_sure true = sure_then of_filter (noted connected_again) done (sure_noted of_filter connected_again (plain_quiet of_filter connected_again (λ s. refl) (λ s. refl) (λ s. refl) (λ s. refl) (λ s. refl))) (operations_sure.done_sure)
-connect_sure false = sure_then of_filter (noted disconnected) (then_do (reading all_down tell) done) (sure_noted of_filter disconnected (plain_quiet of_filter disconnected (λ s. refl) (λ s. refl) (λ s. refl) (λ s. refl) (λ s. refl))) (sure_then of_filter (reading all_down tell) done downs_sure (operations_sure.done_sure))
+connect_sure true = sure_then of_filter (noted connected_again) done (sure_noted of_filter connected_again (plain_quiet of_filter connected_again (λ s. refl) (λ s. refl) (λ s. refl) (λ s. refl) (λ s. refl) (λ s. refl))) (operations_sure.done_sure)
+connect_sure false = sure_then of_filter (noted disconnected) (then_do (reading all_down tell) done) (sure_noted of_filter disconnected (plain_quiet of_filter disconnected (λ s. refl) (λ s. refl) (λ s. refl) (λ s. refl) (λ s. refl) (λ s. refl))) (sure_then of_filter (reading all_down tell) done downs_sure (operations_sure.done_sure))

@@ -2,8 +2,11 @@
 --
 -- What a report does not fix is left out of what is alike: the points that a restart may open, and how often the remote was
 -- asked. Where the remote broke its rules, or numbers of messages are used up, nothing is said.
-use Rattle.std.specs.Prelude.{refl, ◌≡◌, ◌⊎◌, ◌≤◌, ◌+◌, ℕ, Bool, true, false, List, [], ◌∷◌, ◌++◌, length, nat_lt, ◌&&◌}
+use Rattle.std.specs.Prelude.{refl, ◌≡◌, ◌⊎◌, ◌≤◌, ◌+◌, ℕ, Bool, true, false, List, [], ◌∷◌, ◌++◌, length, nat_lt, ◌&&◌, filter}
+use Rattle.std.specs.List.{list_all}
 use Rattle.cf_base.specs.declared.answers.Answer.{Answer}
+use Rattle.cf_base.specs.declared.changes.Change.{Change}
+use Rattle.cf_base.specs.declared.ids.Usn.{Usn}
 use Rattle.cf_base.specs.declared.answers.Shown.{Shown}
 use Rattle.cf_base.specs.declared.answers.Shown.TheVariants as shown
 use Rattle.cf_base.specs.declared.codes.Code.{Code}
@@ -16,11 +19,47 @@ use Rattle.cf_base.specs.declared.notices.Frame.TheVariants as frame
 use Rattle.cf_base.specs.declared.notices.Notice.{Notice}
 use Rattle.cf_base.specs.declared.notices.Notice.TheVariants as notice
 use Rattle.cf_model.specs.Arrows.{Arrow}
+use Rattle.cf_model.specs.Blocks.{blocks_used}
+use Rattle.cf_model.specs.Items.{Item}
+use Rattle.cf_model.specs.Logs.{items_of}
+use Rattle.cf_check_room.specs.Weights.{peak, puts, weight}
 use Rattle.cf_model.specs.Events.{answer_in, begun}
 use Rattle.cf_model.specs.Numbers.{most}
 use Rattle.cf_model.specs.Restarts.{epoch_after, resumed, with_opened}
 use Rattle.cf_model.specs.State.{Filter, Point, State, Volume}
 use Rattle.cf_model.specs.Trees.{Ends, Stops}
+
+-- What commits are made of: the changes, the items, the points, and what is kept since the last.
+pub record Core : Type 0 where
+  pub clusters : ℕ
+  pub log : List (Usn × Change)
+  pub items : List Item
+  pub items_then : List Item
+  pub put_since : ℕ
+  pub points : List Point
+
+abbrev pub core_of : Volume → Core
+core_of v = record { clusters = v.clusters; log = v.log; items = v.items; items_then = v.items_then; put_since = v.put_since; points = v.points }
+
+-- the points of flushes and uploads
+abbrev pub sures : Core → List Point
+sures c = filter (λ p. p.sure) c.points
+
+abbrev pub AllSure : Core → Type 0
+AllSure c = list_all (λ p. p.sure) c.points ≡ true
+
+-- What is kept since the last point weighs no more than the log.
+pub record Weighs (c : Core) : Type 0 where
+  pub items : c.items ≡ items_of c.log
+  pub then_ : blocks_used c.items_then ≤ peak c.log
+  pub since : c.put_since ≤ puts c.log
+
+-- The one becomes the other by changes and commits. Where the log weighs no more than the clusters, none is made for room.
+pub record BecomesSure (a b : Core) : Type 0 where
+  pub holds : b.clusters ≡ a.clusters
+  pub longer : (more : List (Usn × Change)) × (b.log ≡ a.log ++ more)
+  pub weighs : Weighs a → Weighs b
+  pub sure : Weighs a → weight b.log ≤ a.clusters → AllSure a → AllSure b
 
 -- What is looked at of a state: what of it is fixed, what happened so far, how many messages there are, how many openings failed
 -- since the last one, and whether something is said of it.
@@ -30,6 +69,7 @@ pub record View (S : Type 0) : Type 0 where
   pub count : S → ℕ
   pub fails : S → ℕ
   pub good : S → Bool
+  pub core : S → Core
   pub told : (s : S) → notes (fixed s) ≡ notes s
 
 -- the volume without its points
@@ -37,13 +77,13 @@ abbrev pub without_points : Volume → Volume
 without_points v = record v { points = []; items_then = []; put_since = 0 }
 
 abbrev pub of_volume : View Volume
-of_volume = record { fixed = without_points; notes = λ v. []; count = λ v. 0; fails = λ v. 0; good = λ v. true; told = λ v. refl }
+of_volume = record { fixed = without_points; notes = λ v. []; count = λ v. 0; fails = λ v. 0; good = λ v. true; core = core_of; told = λ v. refl }
 
 abbrev pub fixed_filter : Filter → Filter
 fixed_filter f = record f { volume = without_points f.volume }
 
 abbrev pub of_filter : View Filter
-of_filter = record { fixed = fixed_filter; notes = λ f. f.notes; count = λ f. 0; fails = λ f. 0; good = λ f. true; told = λ f. refl }
+of_filter = record { fixed = fixed_filter; notes = λ f. f.notes; count = λ f. 0; fails = λ f. 0; good = λ f. true; core = λ f. core_of f.volume; told = λ f. refl }
 
 -- the state without points and the count of asks
 abbrev pub fixed_state : State → State
@@ -54,7 +94,7 @@ abbrev pub is_good : State → Bool
 is_good s = s.link.honest && nat_lt (length s.link.messages) most
 
 abbrev pub of_state : View State
-of_state = record { fixed = fixed_state; notes = λ s. s.filter.notes; count = λ s. length s.link.messages; fails = λ s. s.failed_opens; good = is_good; told = λ s. refl }
+of_state = record { fixed = fixed_state; notes = λ s. s.filter.notes; count = λ s. length s.link.messages; fails = λ s. s.failed_opens; good = is_good; core = λ s. core_of s.filter.volume; told = λ s. refl }
 
 abbrev pub Alike : {S : Type 0} → View S → S → S → Type 0
 Alike v s t = v.fixed s ≡ v.fixed t
@@ -91,7 +131,7 @@ IsFront one other = (more : List Notice) × (other ≡ one ++ more)
 
 -- Its ends from states that are alike have the same result and are alike, or the one has a line of a fault where the other has
 -- the reply. What happened before it stays in what happened. Where the device stops it, what happened is a front of what happens
--- in the other, or they part so.
+-- in the other, or they part so. Where the points of flushes and uploads are the same before, they are after.
 pub record IsSure {S A : Type 0} (v : View S) (f : Arrow S A) : Type 0 where
   pub grows : (s : S) (a : A) (t : S) → Ends (f s) a t → Grown v s t
   pub one : (s o : S) → Alike v s o → (a b : A) (t u : S) → Ends (f s) a t → Ends (f o) b u → v.good t ≡ true → v.good u ≡ true
@@ -99,6 +139,9 @@ pub record IsSure {S A : Type 0} (v : View S) (f : Arrow S A) : Type 0 where
   pub halts : (s t : S) → Stops (f s) t → Grown v s t
   pub stop : (s o : S) → Alike v s o → (t : S) (b : A) (u : S) → Stops (f s) t → Ends (f o) b u → v.good t ≡ true → v.good u ≡ true
       → IsFront (v.notes t) (v.notes u) ⊎ Parted (v.notes t) (v.notes u)
+  pub rooms : (s : S) (a : A) (t : S) → Ends (f s) a t → BecomesSure (v.core s) (v.core t)
+  pub keeps : (s o : S) → Alike v s o → sures (v.core s) ≡ sures (v.core o) → (a b : A) (t u : S) → Ends (f s) a t → Ends (f o) b u → v.good t ≡ true → v.good u ≡ true
+      → (sures (v.core t) ≡ sures (v.core u)) ⊎ Parted (v.notes t) (v.notes u)
 
 -- What is read of alike states is the same.
 abbrev pub Reads : {S X : Type 0} → View S → (S → X) → Type 0
@@ -108,6 +151,7 @@ Reads {S} v get = (s o : S) → Alike v s o → get s ≡ get o
 pub record IsPlain {S : Type 0} (v : View S) (f : S → S) : Type 0 where
   pub grows : (s : S) → Grown v s (f s)
   pub alike : (s o : S) → Alike v s o → Alike v (f s) (f o)
+  pub core : (s : S) → v.core (f s) ≡ v.core s
 
 -- Events of another device have no lines of messages: where the remote fails in one, this is its result.
 
