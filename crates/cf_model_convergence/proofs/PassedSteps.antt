@@ -19,18 +19,18 @@ use Rattle.cf_model.specs.Identities.{base_version, target_of}
 use Rattle.cf_model.specs.Items.{Item, item_of, pin_of}
 use Rattle.cf_model.specs.Soundness.{Each}
 use Rattle.cf_model.specs.State.{State, book_now, items_now}
-use Rattle.cf_model.specs.Store.{Held, Stored, entry_told, remote_step, stored_at}
+use Rattle.cf_model.specs.Store.{Held, Stored, entry_told, feed_of, remote_step, stored_at}
 use Rattle.cf_model.specs.Words.{number_of}
 use Rattle.cf_model_laws.specs.Invariant.{All, target_in}
 use Rattle.cf_model_laws.proofs.FitItems.{all_changed}
 use Rattle.cf_model_laws.proofs.Gathered.{all_append, all_filter, all_found, all_weaker, each_any}
 use Rattle.cf_model_laws.proofs.SeenPaths.{seen_past}
 use Rattle.cf_model_convergence.specs.Agreeing.{IsKeptUp}
-use Rattle.cf_model_convergence.specs.Feeds.{Among, IsLateOrSame}
-use Rattle.cf_model_convergence.specs.Passed.{ArePassedRight, AreTargetsLower, IsDoneAs, IsPassedRight, NamesRight, TellsBetween}
+use Rattle.cf_model_convergence.specs.Feeds.{Among, AreAsTheyWere, IsAsItWas, IsLateOrSame, TellsNow}
+use Rattle.cf_model_convergence.specs.Passed.{ArePassedRight, AreTargetsLower, IsDoneAs, IsPassedRight, IsToldOrLate, NamesRight, TellsBetween}
 use Rattle.cf_model_convergence.specs.Resting.{IsKnown}
 use Rattle.cf_model_convergence.specs.Tidy.{IsLower, IsTidy, IsTidyItem}
-use Rattle.cf_model_convergence.proofs.FeedsTold.{all_among}
+use Rattle.cf_model_convergence.proofs.FeedsTold.{all_among, tells_all, tells_now}
 use Rattle.cf_model_convergence.proofs.LateChanges.{late_or_same}
 use Rattle.cf_model_convergence.proofs.Lines.{one_some, same_rid}
 use Rattle.cf_model_convergence.proofs.ReadyRests.{nothing}
@@ -184,6 +184,29 @@ module _ (r : Held) (b : Book) (clock : ℕ) (es : List Entry) (tells : TellsBet
 
 pub raised_right : (r : Held) (b : Book) (items : List Item) (clock : ℕ) (es : List Entry) → AreTargetsLower items → TellsBetween r b.cursor clock es → All (λ e. All (IsDoneAs b e) items) es → ArePassedRight r items b → ArePassedRight r items (with_cursor clock b)
 raised_right r b items clock es lower tells done h = raised_all r b clock es tells items lower done h
+
+-- what a feed told is told so later too
+pub told_between : (first : Held) (after : ℕ) (r : Held) → IsTidy first → AreAsTheyWere first first.clock r → TellsBetween r after first.clock (feed_of first after)
+told_between first after r tidy h = all_weaker (IsAsItWas first first.clock) (λ x. IsLower x → after < x.changed → x.changed ≤ first.clock → Among (entry_told x) (feed_of first after)) one r.items h.items where
+  never : (a n : ℕ) → a < n → n ≤ a → ⊥
+  never a n h k = omega (arith, h, k)
+
+  one : (x : Stored) → IsAsItWas first first.clock x → IsLower x → after < x.changed → x.changed ≤ first.clock → Among (entry_told x) (feed_of first after)
+  one x (inl z) lower late early = absurd (never first.clock x.changed z early)
+  one x (inr z) lower late early =
+      subst (λ (e : Entry). Among e (feed_of first after)) z.2
+      ((all_found (λ y. IsLower y → after < y.changed → Among (entry_told y) (feed_of first after)) (λ y. y.rid.0 == x.rid.0) first.items z.0 z.1 (tells_all first after tidy).each).0
+      (λ e. lower (sym (found_rid first.items x.rid z.0 z.1) ∙ e)) (subst (λ (n : ℕ). after < n) (sym (ap (λ (e : Entry). e.changed) z.2)) late))
+
+pub told_or_late : (first : Held) (after : ℕ) (r : Held) → IsTidy first → AreAsTheyWere first first.clock r → All (IsToldOrLate r first.clock) (feed_of first after)
+told_or_late first after r tidy h = all_weaker (TellsNow first after) (IsToldOrLate r first.clock) one (feed_of first after) (tells_now first after tidy) where
+  one : (e : Entry) → TellsNow first after e → IsToldOrLate r first.clock e
+  one e told x found = by (all_found (IsAsItWas first first.clock) (λ y. y.rid.0 == e.rid.0) r.items x found h.items).0 where
+    by : IsAsItWas first first.clock x → (first.clock < x.changed) ⊎ (e ≡ entry_told x)
+    by (inl late) = inl late
+    by (inr z) =
+        let same : z.0 ≡ told.0 = one_some (stored_at first.items e.rid) z.0 told.0 (subst (λ (y : Rid). stored_at first.items y ≡ Some z.0) (same_rid x.rid e.rid (found_rid r.items e.rid x found)) z.1) told.1 in
+        inr (told.2 ∙ ap (λ (y : Stored). entry_told y) (sym same) ∙ z.2)
 
 -- of the moment
 

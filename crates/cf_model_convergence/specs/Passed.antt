@@ -1,5 +1,5 @@
 -- What the cursor has passed is known rightly: of the remote, the items and the book.
-use Rattle.std.specs.Prelude.{ℕ, List, Some, false, take, true, ◌<◌, ◌≡◌, ◌≤◌}
+use Rattle.std.specs.Prelude.{ℕ, List, Some, false, take, true, ◌<◌, ◌≡◌, ◌≤◌, ◌⊎◌}
 use Rattle.cf_base.specs.declared.changes.Change.{Change}
 use Rattle.cf_base.specs.declared.changes.Change.TheVariants as change
 use Rattle.cf_base.specs.declared.ids.Usn.{Usn}
@@ -46,3 +46,7 @@ IsDoneAs b e i =
 -- the entries tell each item below the root, as it is, that was changed after the one time and no later than the other
 abbrev pub TellsBetween : Held → ℕ → ℕ → List Entry → Type 0
 TellsBetween r after clock es = All (λ x. IsLower x → after < x.changed → x.changed ≤ clock → Among (entry_told x) es) r.items
+
+-- the entry tells its item as it is, or that was changed after the time
+abbrev pub IsToldOrLate : Held → ℕ → Entry → Type 0
+IsToldOrLate r clock e = (x : Stored) → stored_at r.items e.rid ≡ Some x → (clock < x.changed) ⊎ (e ≡ entry_told x)

@@ -12,10 +12,11 @@ ghost use Rattle.cf_model.specs.Growth.{IsCounted};
 ghost use Rattle.cf_model.specs.Items.{Item};
 ghost use Rattle.cf_model.specs.Soundness.{Each};
 ghost use Rattle.cf_model.specs.State.{State, book_now, items_now};
-ghost use Rattle.cf_model.specs.Store.{Held, remote_step};
+ghost use Rattle.cf_model.specs.Store.{Held, feed_of, remote_step};
 ghost use Rattle.cf_model_laws.specs.Invariant.{All};
 ghost use Rattle.cf_model_convergence.specs.Agreeing.{IsKeptUp};
-ghost use Rattle.cf_model_convergence.specs.Passed.{ArePassedRight, AreTargetsLower, IsDoneAs, IsPassedRight, NamesRight, TellsBetween};
+ghost use Rattle.cf_model_convergence.specs.Feeds.{AreAsTheyWere};
+ghost use Rattle.cf_model_convergence.specs.Passed.{ArePassedRight, AreTargetsLower, IsDoneAs, IsPassedRight, IsToldOrLate, NamesRight, TellsBetween};
 ghost use Rattle.cf_model_convergence.specs.Tidy.{IsTidy};
 
 /// What the cursor has passed stays rightly known while the remote is asked, by whomever. So it does over each change, where that of
@@ -28,6 +29,15 @@ pub fn what_is_known_stays_so()
     ensures seen { (r : Held) (b : Book) (p : SeenPath) (items : List Item) → Each p.item (IsPassedRight r (with_seen p b)) items → ArePassedRight r items b → ArePassedRight r items (with_seen p b) }
     ensures reset { (r : Held) (b : Book) (items : List Item) → IsTidy r → AreTargetsLower items → ArePassedRight r items (with_cursor 0 b) }
     ensures now { (s : State) → ArePassedRight s.link.remote (items_now s) (book_now s) → IsKeptUp s }
+{}
+
+/// What a feed of a tidy remote told, which reported all that was changed after a time, it tells of the remote later on too: each
+/// item that was changed after that time, and not since the feed, has its entry; and each entry tells its item as it is, or that was
+/// changed since.
+#[tactic(auto, using(crate::proofs::PassedSteps::told_between, crate::proofs::PassedSteps::told_or_late))]
+pub fn a_feed_tells_later_what_it_told()
+    ensures all { (first : Held) (after : ℕ) (r : Held) → IsTidy first → AreAsTheyWere first first.clock r → TellsBetween r after first.clock (feed_of first after) }
+    ensures now { (first : Held) (after : ℕ) (r : Held) → IsTidy first → AreAsTheyWere first first.clock r → All (IsToldOrLate r first.clock) (feed_of first after) }
 {}
 
 /// The cursor may rise to a feed's clock where the feed tells each item that was changed since, as it is, and each item of an entry is
