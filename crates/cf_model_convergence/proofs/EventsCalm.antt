@@ -34,7 +34,7 @@ use Rattle.cf_base.specs.declared.codes.Code.{Code}
 use Rattle.cf_base.specs.declared.codes.Code.TheVariants as code
 use Rattle.cf_model.specs.Events.{tree_of}
 use Rattle.cf_model.specs.Passes.{connected}
-use Rattle.cf_model_convergence.proofs.SyncsCalm.{IsSet}
+use Rattle.cf_model_convergence.proofs.PassesCalm.{IsSet}
 
 -- by choices
 

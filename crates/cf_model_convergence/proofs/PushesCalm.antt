@@ -9,7 +9,6 @@ use Rattle.cf_model.specs.Identities.{has_target, stands_at_seen, target_of}
 use Rattle.cf_model.specs.Items.{Item, is_all_here, item_of}
 use Rattle.cf_model.specs.LookUp.{by_depth, depth_at, item_line}
 use Rattle.cf_model.specs.Pushes.{has_entry, hydrate_unless, is_hydrating, is_left_out, is_tombstone_left_out, push_all, push_here, push_tombstone, push_turn, push_unless, put_if, put_whole}
-use Rattle.cf_model.specs.Settled.{is_settled}
 use Rattle.cf_model.specs.Skips.{in_use}
 use Rattle.cf_model.specs.State.{State, Volatile, book_now, items_now}
 use Rattle.cf_model.specs.Store.{Held, Stored, stored_at}
@@ -38,8 +37,6 @@ use Rattle.cf_model_convergence.proofs.HydratesCalm.{hydrate_calm}
 use Rattle.cf_model_convergence.proofs.PushesIdle.{adds_later, each_told, numbers_left, sorted_apart, of_ids, tombstone_step}
 use Rattle.cf_model_convergence.proofs.PushesTold.{HasNumbers, kept_ends}
 use Rattle.cf_model_convergence.proofs.ReadyRests.{at_rest}
-use Rattle.cf_model_convergence.proofs.RestingMatches.{rest_settled}
-use Rattle.cf_model_convergence.proofs.TargetsHere.{rest_whole}
 use Rattle.cf_model_convergence.proofs.TurnsTold.{case_told, ends_bind, no_entry}
 
 -- calm states
@@ -280,17 +277,11 @@ ready_calm s t k dirs r = record {
       by (inl z) = sym z ∙ r.idle i p below up
       by (inr z) = sym (dirs i p below up) ∙ ap (λ (j : Item). j.directory) (some p z.0 (sym (subst (λ (x : ItemId). item_of (items_now s) x ≡ Some p) (sym (same_item p.id i.parent (found_id i.parent (items_now s) p up))) up) ∙ z.1)) ∙ z.2
 
--- so a pass that is not heard of leaves a settled state, behind its feed
+-- so nothing is left to do where the uploads behind a feed are not heard of
 
 pub rest_at : (s : State) (u : Unit {0}) (t : State) → Invariant s → IsFair s.link → AreDirs s → IsReady s → EndsFairly (push_all s) u t → IsIdleTo s t → IsAtRest t
 rest_at s u t h fair dirs ready ends k =
     at_rest t (kept_ends Invariant (push_all s) u t ((push_all_keeps Invariant sound_whole.closed sound_whole.entering).keeps s h) ends) (fair_calm s t k.calm fair) (ready_calm s t k.calm dirs ready) t k.idle
-
-pub calm_settled : (s : State) (u : Unit {0}) (t : State) → Invariant s → IsFair s.link → IsListening s → IsOpenTo s → AreDirs s → IsReady s → EndsFairly (push_all s) u t → HasNumbers t → IsHeard s t ⊎ (is_settled false t ≡ true)
-calm_settled s u t h fair listening free dirs ready ends left = by (pushes_calm s u t h fair listening free ends left) where
-  by : IsHeard s t ⊎ IsIdleTo s t → IsHeard s t ⊎ (is_settled false t ≡ true)
-  by (inl k) = inl k
-  by (inr k) = inr (rest_settled t (rest_at s u t h fair dirs ready ends k))
 
 pub calm_targets : (s t : State) → IsCalm s t → AreAllTargets s → AreAllTargets t
 calm_targets s t k all = record {
@@ -298,9 +289,3 @@ calm_targets s t k all = record {
   some = subst (λ (h : Held). All (λ r. r.live ≡ true → (i : Item) × Among i (items_now t) × (has_target i r.rid ≡ true)) h.items) (sym k.remote)
       (subst (λ (is : List Item). All (λ r. r.live ≡ true → (i : Item) × Among i is × (has_target i r.rid ≡ true)) s.link.remote.items) (sym k.items) all.some);
 }
-
-pub calm_whole : (s : State) (u : Unit {0}) (t : State) → Invariant s → IsFair s.link → IsListening s → IsOpenTo s → AreDirs s → IsReady s → AreAllTargets s → EndsFairly (push_all s) u t → HasNumbers t → IsHeard s t ⊎ (is_settled true t ≡ true)
-calm_whole s u t h fair listening free dirs ready all ends left = by (pushes_calm s u t h fair listening free ends left) where
-  by : IsHeard s t ⊎ IsIdleTo s t → IsHeard s t ⊎ (is_settled true t ≡ true)
-  by (inl k) = inl k
-  by (inr k) = inr (rest_whole t (rest_at s u t h fair dirs ready ends k) (calm_targets s t k.calm all))

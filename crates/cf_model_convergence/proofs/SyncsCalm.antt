@@ -1,118 +1,31 @@
 -- A sync that nothing is heard of leaves a settled state.
-use Rattle.std.proofs.Common.{◌≡◌, ◌⊎◌, ◌<◌, ◌≤◌, ◌+◌, ℕ, zero, suc, Bool, true, false, List, [], refl, sym, ◌∙◌, ap, subst, inl, inr, arith}
-use Rattle.std.specs.Prelude.{Some}
+use Rattle.std.proofs.Common.{◌≡◌, ◌⊎◌, ◌<◌, ◌+◌, ℕ, zero, suc, Bool, true, false, sym, ◌∙◌, ap, subst, inl, inr, arith}
 use Rattle.cf_base.specs.declared.answers.Shown.{Shown}
 use Rattle.cf_base.specs.declared.answers.Shown.TheVariants as shown
 use Rattle.cf_model.specs.Arrows.{choose, then_do, unit}
 use Rattle.cf_model.specs.Callbacks.{drain}
 use Rattle.cf_model.specs.Messages.{no_number}
-use Rattle.cf_model.specs.Numbers.{root_id, most}
+use Rattle.cf_model.specs.Numbers.{most}
 use Rattle.cf_model.specs.Passes.{is_last, pass, pass_anew, passes, show_unsettled, showing, sync_now, sync_passes, things, without_done}
-use Rattle.cf_model.specs.Pushes.{push_all}
 use Rattle.cf_model.specs.Settled.{is_settled}
-use Rattle.cf_model.specs.State.{items_now, Filter, State, book_now}
+use Rattle.cf_model.specs.State.{Filter, State}
 use Rattle.cf_model.specs.Store.{Held}
 use Rattle.cf_model.specs.Trees.{Ret, Tree}
-use Rattle.cf_model_laws.specs.Invariant.{All, Invariant}
-use Rattle.cf_model_laws.specs.Premises.{IsFair}
+use Rattle.cf_model_laws.specs.Invariant.{Invariant}
 use Rattle.cf_model_laws.proofs.CallbacksGuarded.{drain_keeps}
 use Rattle.cf_model_laws.proofs.ContentLaws.{sound_whole}
-use Rattle.cf_model_laws.proofs.Gathered.{all_weaker}
 use Rattle.cf_model_laws.proofs.PassesGuarded.{pass_anew_keeps, passes_keeps, sync_passes_keeps}
-use Rattle.cf_model_convergence.specs.Agreeing.{IsPassedHere, IsAgreed, IsKeptUp}
-use Rattle.cf_model_convergence.specs.Hearing.{AreDirs, IsHeard, IsOpenTo}
-use Rattle.cf_model_convergence.specs.Ready.{IsReady}
-use Rattle.cf_model_convergence.specs.Resting.{IsAtRest, AreAllTargets, AreTargetsApart}
-use Rattle.cf_model_convergence.specs.Settles.{IsFed, IsSettledTo}
-use Rattle.cf_model_convergence.specs.Telling.{EndsFairly, IsListening}
-use Rattle.cf_model_convergence.specs.Tidy.{IsLower}
+use Rattle.cf_model_convergence.specs.Agreeing.{IsPassedHere, IsKeptUp}
+use Rattle.cf_model_convergence.specs.Hearing.{IsHeard}
+use Rattle.cf_model_convergence.specs.Telling.{EndsFairly}
 use Rattle.cf_model_convergence.proofs.AddingGuarded.{In}
-use Rattle.cf_model_convergence.proofs.FedKnown.{fed_ready}
 use Rattle.cf_model_convergence.proofs.FetchesCalm.{IsDrained, drained_calm}
 use Rattle.cf_model_convergence.proofs.HeardLines.{heard_then}
-use Rattle.cf_model_convergence.proofs.PassesCalm.{dirs_alike, heard_before, open_fed, open_settled, pass_heard, same_items}
-use Rattle.cf_model_convergence.proofs.PushesCalm.{calm_targets, IsIdleTo, fair_calm, listens_calm, pushes_calm, ready_calm, rest_at}
+use Rattle.cf_model_convergence.proofs.PassesCalm.{IsOver, IsSet, heard_before, pass_over}
 use Rattle.cf_model_convergence.proofs.PushesIdle.{adds_later, numbers_left}
 use Rattle.cf_model_convergence.proofs.PushesTold.{kept_ends}
-use Rattle.cf_model_convergence.proofs.QuietPasses.{here_settled, agreed_settled}
-use Rattle.cf_model_convergence.proofs.RestingMatches.{rest_settled}
 use Rattle.cf_model_convergence.proofs.SettledItems.{settled_none}
 use Rattle.cf_model_convergence.proofs.TurnsTold.{ends_bind}
-use Rattle.cf_model.specs.Items.{item_of, Item}
-use Rattle.cf_model_convergence.proofs.TargetsHere.{rest_whole}
-use Rattle.cf_model_convergence.proofs.FedHere.{all_targets}
-use Rattle.cf_model.specs.Identities.{has_target}
-use Rattle.cf_model_convergence.specs.Feeds.{Among}
-
--- what a pass needs, and leaves where nothing is heard of it
-pub record IsSet (s : State) : Type 0 where
-  pub fair : IsFair s.link
-  pub listening : IsListening s
-  pub free : IsOpenTo s
-  pub dirs : AreDirs s
-  pub agreed : IsAgreed s
-
--- the state is settled, as a whole if so it was asked for
-abbrev pub IsOver : Bool → State → Type 0
-IsOver all s = (is_settled all s ≡ true) × IsSet s × (all ≡ true → IsPassedHere s)
-
--- where all of the remote is here
-here_then : (s t : State) → items_now t ≡ items_now s → IsPassedHere s → AreAllTargets t → IsPassedHere t
-here_then s t same h all = record {
-  top = subst (λ (is : List Item). (i : Item) × (item_of is root_id ≡ Some i)) (sym same) h.top;
-  populated = subst (All (λ i. i.directory ≡ true → i.populated ≡ true)) (sym same) h.populated;
-  here = all_weaker (λ r. r.live ≡ true → (i : Item) × Among i (items_now t) × (has_target i r.rid ≡ true)) (λ r. IsLower r → r.live ≡ true → r.changed ≤ (book_now t).cursor → (i : Item) × Among i (items_now t) × (has_target i r.rid ≡ true)) (λ r k low live early. k live) t.link.remote.items all.some;
-}
-
-pub pass_over : (all : Bool) (s : State) (u : Unit {0}) (t : State) → Invariant s → IsSet s → (all ≡ true → IsPassedHere s) → EndsFairly (pass s) u t → no_number t ≡ false → IsHeard s t ⊎ IsOver all t
-pass_over all s u t h set here ends left = pass_heard (IsOver all) s u t (λ m n hm hn f g l none k fed z. last m n hm hn f g l none k fed z (pushes_calm n u t hn g l (open_fed m n fed (open_settled s m k set.free)) z left)) h set.fair set.listening set.agreed ends left where
-  last : (m n : State) → Invariant m → Invariant n → IsFair m.link → IsFair n.link → IsListening n → (book_now m).entries ≡ [] → IsSettledTo [] s m → IsFed m n → EndsFairly (push_all n) u t → IsHeard n t ⊎ IsIdleTo n t → IsHeard n t ⊎ IsOver all t
-  last m n hm hn f g l none k fed z (inl y) = inl y
-  last m n hm hn f g l none k fed z (inr y) = inr (
-    settled all refl,
-    record {
-      fair = fair_calm n t y.calm g;
-      listening = listens_calm n t y.calm l;
-      free = y.ready;
-      dirs = dirs_alike n t y.calm.items dirs;
-      agreed = record {
-        tidy = after.tidy;
-        early = subst (λ (r : Held). (book_now t).cursor ≤ r.clock) (sym (y.calm.remote ∙ fed.remote)) (subst (λ (c : ℕ). c ≤ m.link.remote.clock) (sym y.calm.cursor) (below fed.cursor));
-        alone = subst AreTargetsApart (sym (y.calm.items ∙ ap (λ (f : Filter). f.volume.items) fed.filter)) a.alone;
-        tree = after.tree;
-        idle = after.idle;
-        passed = after.passed;
-      };
-    },
-    (λ e. here_then s t (y.calm.items ∙ same_items s m n k fed) (here e) (targets e)),
-  ) where
-    a : IsAgreed m
-    a = agreed_settled s m k set.agreed
-
-    dirs : AreDirs n
-    dirs = dirs_alike s n (same_items s m n k fed) set.dirs
-
-    ready : IsReady n
-    ready = fed_ready m hm f none a n fed
-
-    after : IsReady t
-    after = ready_calm n t y.calm dirs ready
-
-    rest : IsAtRest t
-    rest = rest_at n u t hn g dirs ready z y
-
-    targets : all ≡ true → AreAllTargets t
-    targets e = calm_targets n t y.calm (all_targets m hm f a (here_settled s m k (here e)) n fed)
-
-    settled : (b : Bool) → all ≡ b → is_settled all t ≡ true
-    settled true e = subst (λ (c : Bool). is_settled c t ≡ true) (sym e) (rest_whole t rest (targets e))
-    settled false e = subst (λ (c : Bool). is_settled c t ≡ true) (sym e) (rest_settled t rest)
-
-    below : ((book_now n).cursor ≡ (book_now m).cursor) ⊎ ((fed.postponed ≡ false) × ((book_now n).cursor ≡ m.link.remote.clock)) → (book_now n).cursor ≤ m.link.remote.clock
-    below (inl e) = subst (λ (c : ℕ). c ≤ m.link.remote.clock) (sym e) a.early
-    below (inr e) = subst (λ (c : ℕ). c ≤ m.link.remote.clock) (sym e.1) (same m.link.remote.clock) where
-      same : (n : ℕ) → n ≤ n
-      same n = omega arith
 
 -- one pass after another
 

@@ -32,7 +32,7 @@ use Rattle.cf_model_convergence.specs.Tidy.{IsTidy}
 use Rattle.cf_model_convergence.proofs.AddingGuarded.{In}
 use Rattle.cf_model_convergence.proofs.FetchesCalm.{IsDrained, drained_calm}
 use Rattle.cf_model_convergence.proofs.HeardLines.{heard_then}
-use Rattle.cf_model_convergence.proofs.PassesCalm.{heard_before}
+use Rattle.cf_model_convergence.proofs.PassesCalm.{IsOver, IsSet, heard_before, pass_over}
 use Rattle.cf_model_convergence.proofs.PushesIdle.{adds_later, numbers_left}
 use Rattle.cf_model_convergence.proofs.PushesTold.{kept_ends}
 use Rattle.cf_model_convergence.proofs.TurnsTold.{ends_bind}
@@ -41,7 +41,7 @@ use Rattle.cf_model.specs.Passes.{work_now}
 use Rattle.cf_model.specs.Arrows.{ret}
 use Rattle.cf_model_laws.proofs.PassesGuarded.{pass_keeps}
 use Rattle.cf_model_convergence.specs.Quiet.{is_accepted}
-use Rattle.cf_model_convergence.proofs.SyncsCalm.{IsLeft, IsOver, IsSet, IsDone, drained_left, pass_over, sync_over}
+use Rattle.cf_model_convergence.proofs.SyncsCalm.{IsLeft, IsDone, drained_left, sync_over}
 use Rattle.cf_model_convergence.proofs.EventsCalm.{run_event}
 
 work_over : (all : Bool) (s : State) (r : Shown) (t : State) → Invariant s → IsSet (showing s) → (all ≡ true → IsPassedHere (showing s)) → EndsFairly (work_now s) r t → no_number t ≡ false → IsHeard s t ⊎ IsLeft all t
