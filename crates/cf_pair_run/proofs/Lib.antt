@@ -1,0 +1,8 @@
+pub mod Agreed
+pub mod Endings
+pub mod OverCuts
+pub mod PairTexts
+pub mod PairTraces
+pub mod Playable
+pub mod ReadTexts
+pub mod WorldRuns
