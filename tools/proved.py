@@ -1,8 +1,10 @@
 #!/usr/bin/env python3
-"""The proved program: found, taken from what an earlier gate proved on this machine, or proved.
+"""A proved program: found, taken from what an earlier gate proved on this machine, or proved.
 
-    tools/proved.py find     prints the path of the proved program of exactly these files, or ends with 1. It proves nothing
-    tools/proved.py prove    proves it on all processors, with a line on standard error for each crate that is done
+    tools/proved.py find [NAME]     prints the path of the proved program of exactly these files, or ends with 1. It proves nothing
+    tools/proved.py prove [NAME]    proves it on all processors, with a line on standard error for each crate that is done
+
+The program is cloudfiles, or cloudpair where that is the name.
 
 What is found lies in target/, which git ignores. Some toolchains keep what `rt ci` proved by the checksums of all that it read;
 with the others each library that it proved lies in its crate's out/. So the program that is taken was proved from these very files.
@@ -22,15 +24,17 @@ import time
 sys.dont_write_bytecode = True
 TOP = pathlib.Path(__file__).resolve().parent.parent
 TARGET = TOP / "target"
-PROGRAM = TARGET / "cloudfiles"
-STAMP = TARGET / "cloudfiles.sum"
+NAMES = ("cloudfiles", "cloudpair")
+NAME = sys.argv[2] if len(sys.argv) == 3 else NAMES[0]
+PROGRAM = TARGET / NAME
+STAMP = TARGET / f"{NAME}.sum"
 PARTS = ("src", "specs", "proofs")
 # The share of a crate of which no seconds are known.
 USUAL = 60
 
 
 def say(words):
-    print(f"cloudfiles: {words}", file=sys.stderr, flush=True)
+    print(f"{NAME}: {words}", file=sys.stderr, flush=True)
 
 
 def below(name, uses, found):
@@ -50,7 +54,7 @@ def crates():
         name, colon, libraries = line.split("#")[0].partition(":")
         if colon:
             uses[name.split()[0]] = libraries.split()
-    return below("cloudfiles", uses, [])
+    return below(NAME, uses, [])
 
 
 def files(names):
@@ -97,9 +101,9 @@ def newest(paths):
 
 def made_in(top, names):
     """The program that `rt ci` made in this folder, where each library below it was proved after the last change of its files."""
-    program = top / "crates/cloudfiles/out/cloudfiles"
+    program = top / f"crates/{NAME}/out/{NAME}"
     made = {name: top / f"crates/{name}/out/rlib/{name}.rlib/format" for name in names}
-    made["cloudfiles"] = program
+    made[NAME] = program
     if not all(it.exists() for it in made.values()):
         return None
     of = lambda name: [it for part in PARTS for it in (top / "crates" / name / part).rglob("*") if it.is_file()]
@@ -134,7 +138,7 @@ def take(names):
             return False
         if not crate.is_program:
             kept.is_built(crate)
-    return put(TOP / "crates/cloudfiles/out/cloudfiles", names)
+    return put(TOP / f"crates/{NAME}/out/{NAME}", names)
 
 
 def find(names):
@@ -157,7 +161,7 @@ def seconds():
 
 def copied(names):
     """A copy of the crates, without their tests and edits. It lies outside this repository, because `rt ci` runs at the top of one."""
-    place = pathlib.Path(tempfile.mkdtemp(prefix="cloudfiles-prove-"))
+    place = pathlib.Path(tempfile.mkdtemp(prefix=f"{NAME}-prove-"))
     for name in names:
         for part in (*PARTS, "args", "stdin", "stdout"):
             old, new = TOP / "crates" / name / part, place / "crates" / name / part
@@ -204,14 +208,14 @@ def prove(names):
 
 
 def main(words):
-    if words not in (["find"], ["prove"]):
+    if words[:1] not in (["find"], ["prove"]) or len(words) > 2 or NAME not in NAMES:
         sys.exit(__doc__)
     names = crates()
-    if words == ["prove"] and not shutil.which("rt"):
+    if words[0] == "prove" and not shutil.which("rt"):
         say("the toolchain (rt) is not here")
         return 1
     TARGET.mkdir(exist_ok=True)
-    if not (find(names) or words == ["prove"] and prove(names)):
+    if not (find(names) or words[0] == "prove" and prove(names)):
         return 1
     print(PROGRAM)
     return 0
