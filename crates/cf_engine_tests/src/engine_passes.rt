@@ -114,7 +114,10 @@ fn format(alloc: Global, disk: MemDisk) -> Result<Filter<MemDisk>, CallError> {
 
 // A new file, and the engine as its provider.
 fn begins(filter: &mut Filter<MemDisk>, notes: &mut Notes) -> Result<(), CallError> {
-    filter.create("/f", &Creation::File, notes)?;
+    let kind = Creation::File;
+    let made = filter.create("/f", &kind, notes);
+    drop(kind);
+    made?;
     filter.connect(true, notes)
 }
 

@@ -14,6 +14,7 @@ const ROOT: ItemId = ItemId(1);
 const NO_ITEM: ItemId = ItemId(9);
 
 fn call(alloc: Global, kind: AskKind, item: ItemId) -> Result<Callback, OutOfMemory> {
+    let identity = Identity::new(alloc, b"")?;
     Ok(Callback {
         ask: Ask {
             key: Key {
@@ -24,21 +25,42 @@ fn call(alloc: Global, kind: AskKind, item: ItemId) -> Result<Callback, OutOfMem
             item,
             span: Span { start: 0, len: 4 },
         },
-        identity: Identity::new(alloc, b"")?,
+        identity,
         base: 0,
     })
 }
 
-// What the engine does where it is asked this, with a remote of nothing.
-fn answered(alloc: Global, kind: AskKind, item: ItemId) -> Result<Recorder, OutOfMemory> {
+fn agent(alloc: Global) -> Result<Agent<StoreRemote>, OutOfMemory> {
     let remote = StoreRemote::new(alloc)?;
     let link = Link::new(alloc, remote);
-    let mut agent = Agent::new(alloc, link, true);
+    Ok(Agent::new(alloc, link, true))
+}
+
+fn answer(
+    alloc: Global,
+    kind: AskKind,
+    item: ItemId,
+    port: &mut Recorder,
+) -> Result<(), OutOfMemory> {
+    let call = call(alloc, kind, item)?;
+    let mut agent = agent(alloc)?;
+    let done = agent.on_callback(&call, port);
+    drop(call);
+    drop(agent);
+    done
+}
+
+// What the engine does where it is asked this, with a remote of nothing.
+fn answered(alloc: Global, kind: AskKind, item: ItemId) -> Result<Recorder, OutOfMemory> {
     let rows = Rows::new(alloc)?;
     let mut port = Recorder::new(alloc, rows);
-    let call = call(alloc, kind, item)?;
-    agent.on_callback(&call, &mut port)?;
-    Ok(port)
+    match answer(alloc, kind, item, &mut port) {
+        Ok(()) => Ok(port),
+        Err(error) => {
+            drop(port);
+            Err(error)
+        }
+    }
 }
 
 fn is_message(kept: Option<&Kept>, number: u32) -> bool {
@@ -60,28 +82,43 @@ fn are_lines(acts: &[Kept]) -> bool {
     acts.len() == 2 && is_message(acts.get(0), 1) && is_message(acts.get(1), 2)
 }
 
+fn consents(alloc: Global) -> Result<bool, OutOfMemory> {
+    let port = answered(alloc, AskKind::Dehydrate, ROOT)?;
+    let is_so = port.acts().len() == 1 && is_consent(port.acts().get(0));
+    drop(port);
+    Ok(is_so)
+}
+
+fn does_nothing(alloc: Global, kind: AskKind) -> Result<bool, OutOfMemory> {
+    let port = answered(alloc, kind, NO_ITEM)?;
+    let is_so = port.acts().is_empty();
+    drop(port);
+    Ok(is_so)
+}
+
+fn has_lines_alone(alloc: Global, kind: AskKind) -> Result<bool, OutOfMemory> {
+    let port = answered(alloc, kind, ROOT)?;
+    let is_so = are_lines(port.acts());
+    drop(port);
+    Ok(is_so)
+}
+
 #[test]
 fn a_dehydration_is_consented_to(rt: HostRuntime) -> Result<(), TestFail> {
-    let port = answered(rt.alloc(), AskKind::Dehydrate, ROOT)?;
-    assert!(rt; port.acts().len() == 1);
-    assert!(rt; is_consent(port.acts().get(0)));
+    assert!(rt; consents(rt.alloc())?);
     Ok(())
 }
 
 #[test]
 fn nothing_is_sent_about_an_item_that_is_gone(rt: HostRuntime) -> Result<(), TestFail> {
-    let fetched = answered(rt.alloc(), AskKind::Fetch, NO_ITEM)?;
-    assert!(rt; fetched.acts().len() == 0);
-    let listed = answered(rt.alloc(), AskKind::List, NO_ITEM)?;
-    assert!(rt; listed.acts().len() == 0);
+    assert!(rt; does_nothing(rt.alloc(), AskKind::Fetch)?);
+    assert!(rt; does_nothing(rt.alloc(), AskKind::List)?);
     Ok(())
 }
 
 #[test]
 fn a_reply_to_an_ask_that_is_dead_has_its_line_alone(rt: HostRuntime) -> Result<(), TestFail> {
-    let fetched = answered(rt.alloc(), AskKind::Fetch, ROOT)?;
-    assert!(rt; are_lines(fetched.acts()));
-    let listed = answered(rt.alloc(), AskKind::List, ROOT)?;
-    assert!(rt; are_lines(listed.acts()));
+    assert!(rt; has_lines_alone(rt.alloc(), AskKind::Fetch)?);
+    assert!(rt; has_lines_alone(rt.alloc(), AskKind::List)?);
     Ok(())
 }

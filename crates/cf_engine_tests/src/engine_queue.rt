@@ -10,6 +10,8 @@ const MOVE: [u8; 34] = [
     1, 110,
 ];
 
+const CURSOR: [u8; 8] = [0, 0, 0, 0, 0, 0, 1, 2];
+
 fn number(place: u32) -> Usn {
     Usn { epoch: 1, place }
 }
@@ -46,44 +48,60 @@ fn aux_record(alloc: Global, key: &[u8], value: &[u8]) -> Result<AuxRecord, OutO
 }
 
 fn is_refused(alloc: Global, key: &[u8], value: &[u8]) -> Result<bool, OutOfMemory> {
-    let mut records = Vec::new(alloc);
-    records.push(aux_record(alloc, key, value)?)?;
-    Ok(Queue::load(alloc, records.as_slice()).is_err())
+    let one = aux_record(alloc, key, value)?;
+    let loaded = Queue::load(alloc, std::slice::from_ref(&one));
+    drop(one);
+    let is_so = loaded.is_err();
+    drop(loaded);
+    Ok(is_so)
+}
+
+fn is_spelled(record: &AuxRecord, key: &[u8], value: &[u8]) -> bool {
+    record.key.as_slice() == key && record.value.as_slice() == value
+}
+
+fn cursor_is_spelled(alloc: Global) -> Result<bool, OutOfMemory> {
+    let spelled = spell_cursor(alloc, 258)?;
+    let is_so = is_spelled(&spelled, b"c", &CURSOR)
+        && read_cursor(spelled.value.as_slice()) == Ok(258);
+    drop(spelled);
+    Ok(is_so)
+}
+
+fn entry_is_spelled(alloc: Global) -> Result<bool, OutOfMemory> {
+    let entry = entry(alloc, 3)?;
+    let spelled = entry.spell(alloc);
+    drop(entry);
+    let spelled = spelled?;
+    let is_so = is_spelled(&spelled, &[113, 0, 0, 0, 1, 0, 0, 0, 3], &MOVE);
+    drop(spelled);
+    Ok(is_so)
 }
 
 #[test]
-fn a_cursor(rt: HostRuntime) -> Result<(), Fail> {
-    let spelled = spell_cursor(rt.alloc(), 258)?;
-    assert_eq!(rt; spelled.key.as_slice(), b"c".as_slice());
-    assert_eq!(rt;
-        spelled.value.as_slice(),
-        [0, 0, 0, 0, 0, 0, 1, 2].as_slice()
-    );
-    assert!(rt; read_cursor(spelled.value.as_slice()) == Ok(258));
+fn records_are_spelled(rt: HostRuntime) -> Result<(), Fail> {
+    assert!(rt; cursor_is_spelled(rt.alloc())?);
+    assert!(rt; entry_is_spelled(rt.alloc())?);
     Ok(())
 }
 
-#[test]
-fn an_entry(rt: HostRuntime) -> Result<(), Fail> {
-    let spelled = entry(rt.alloc(), 3)?.spell(rt.alloc())?;
-    assert_eq!(rt;
-        spelled.key.as_slice(),
-        [113, 0, 0, 0, 1, 0, 0, 0, 3].as_slice()
-    );
-    assert_eq!(rt; spelled.value.as_slice(), MOVE.as_slice());
-    Ok(())
+// Whether an entry and a tombstone are there after they were put in, and not after they were taken out.
+fn holds(alloc: Global, queue: &mut Queue) -> Result<bool, OutOfMemory> {
+    queue.add(entry(alloc, 3)?)?;
+    queue.bury(tombstone(9))?;
+    let held = queue.live(token(3)).is_some() && queue.drop_tombstone(number(9)).is_some();
+    let ended = queue.end(token(3));
+    let is_so = held && ended.is_some() && queue.live(token(3)).is_none();
+    drop(ended);
+    Ok(is_so)
 }
 
 #[test]
 fn a_queue(rt: HostRuntime) -> Result<(), Fail> {
-    let alloc = rt.alloc();
-    let mut queue = Queue::new(alloc);
-    queue.add(entry(alloc, 3)?)?;
-    queue.bury(tombstone(9))?;
-    assert!(rt; queue.live(token(3)).is_some());
-    assert!(rt; queue.drop_tombstone(number(9)).is_some());
-    assert!(rt; queue.end(token(3)).is_some());
-    assert!(rt; queue.live(token(3)).is_none());
+    let mut queue = Queue::new(rt.alloc());
+    let held = holds(rt.alloc(), &mut queue);
+    drop(queue);
+    assert!(rt; held?);
     Ok(())
 }
 
@@ -93,6 +111,6 @@ fn bad_records(rt: HostRuntime) -> Result<(), Fail> {
     assert!(rt; is_refused(alloc, b"", b"")?);
     assert!(rt; is_refused(alloc, b"x", b"")?);
     assert!(rt; is_refused(alloc, b"c", &[1])?);
-    assert!(rt; is_refused(alloc, b"cc", &[0, 0, 0, 0, 0, 0, 1, 2])?);
+    assert!(rt; is_refused(alloc, b"cc", &CURSOR)?);
     Ok(())
 }

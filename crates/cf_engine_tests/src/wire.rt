@@ -1,7 +1,7 @@
 //! What no clause says: that the calls succeed where there is memory, and some frames from outside.
 
-ghost use Rattle.std.specs.Prelude.{◌≡◌, ◌≤◌, length, IfOk};
-ghost use Rattle.cf_wire.specs.Spelled.{HasRoom, ReplyHasRoom};
+ghost use Rattle.std.specs.Prelude.{◌≤◌, length, IfOk};
+ghost use Rattle.cf_wire.specs.Spelled.{HasRoom, HaveRoom, ReplyHasRoom};
 
 use cf_base::{
     Blob, Entry, Key, OutOfMemory, Reply, Request, Rid, Round, Sequence, Token, Version, Why,
@@ -31,15 +31,23 @@ const BYTES: [u8; 22] = [
 const SETTLE: [u8; 9] = [8, 0, 0, 0, 1, 0, 0, 0, 1];
 
 fn request_fail(alloc: Global, bytes: &[u8]) -> Option<WireError> {
-    match read_request(alloc, bytes) {
-        Ok(_) => None,
+    let read = read_request(alloc, bytes);
+    match read {
+        Ok(request) => {
+            drop(request);
+            None
+        }
         Err(fail) => Some(fail),
     }
 }
 
 fn reply_fail(alloc: Global, bytes: &[u8]) -> Option<WireError> {
-    match read_reply(alloc, bytes) {
-        Ok(_) => None,
+    let read = read_reply(alloc, bytes);
+    match read {
+        Ok(reply) => {
+            drop(reply);
+            None
+        }
         Err(fail) => Some(fail),
     }
 }
@@ -50,41 +58,69 @@ fn with_a_zero(alloc: Global, bytes: &[u8]) -> Result<Blob, OutOfMemory> {
     Ok(Blob::from_vec(longer))
 }
 
-// The request is read again, each front of its frame lacks bytes, and one byte more is one too many.
-fn assert_request(rt: &impl Abort, alloc: Global, request: &Request) -> Result<(), Fail>
-    requires { HasRoom request.now }
-{
-    let frame = spell_request(alloc, request)?;
-    let bytes = frame.as_slice();
-    let again = read_request(alloc, bytes)?;
-    let first = format!(in alloc; "{request:?}")?;
-    let second = format!(in alloc; "{again:?}")?;
-    assert_eq!(rt; first.as_str(), second.as_str());
-    for n in 0..bytes.len() {
-        assert!(rt; matches!(request_fail(alloc, &bytes[..n]), Some(WireError::Short(_))));
+// Which of the two a frame is.
+#[derive(Clone, Copy)]
+enum Frame {
+    Request,
+    Reply,
+}
+
+fn fail_of(alloc: Global, frame: Frame, bytes: &[u8]) -> Option<WireError> {
+    match frame {
+        Frame::Request => request_fail(alloc, bytes),
+        Frame::Reply => reply_fail(alloc, bytes),
     }
+}
+
+// One byte more is one too many.
+fn ends_there(alloc: Global, frame: Frame, bytes: &[u8]) -> Result<bool, OutOfMemory> {
     let longer = with_a_zero(alloc, bytes)?;
-    let fail = request_fail(alloc, longer.as_slice());
-    assert!(rt; fail == Some(WireError::BadField(bytes.len())));
+    let fail = fail_of(alloc, frame, longer.as_slice());
+    drop(longer);
+    Ok(fail == Some(WireError::BadField(bytes.len())))
+}
+
+// The frame is read, each front of it lacks bytes, and it ends there.
+fn assert_read(rt: &impl Abort, alloc: Global, frame: Frame, bytes: &[u8]) -> Result<(), Fail> {
+    assert!(rt; fail_of(alloc, frame, bytes).is_none());
+    for n in 0..bytes.len() {
+        assert!(rt;
+            matches!(
+                fail_of(alloc, frame, &bytes[..n]),
+                Some(WireError::Short(_))
+            )
+        );
+    }
+    assert!(rt; ends_there(alloc, frame, bytes)?);
     Ok(())
 }
 
-fn assert_reply(rt: &impl Abort, alloc: Global, reply: &Reply) -> Result<(), Fail>
-    requires { ReplyHasRoom reply.now }
+fn assert_frame(
+    rt: &impl Abort,
+    alloc: Global,
+    frame: Frame,
+    spelled: Result<Blob, OutOfMemory>,
+) -> Result<(), Fail> {
+    let spelled = spelled?;
+    let done = assert_read(rt, alloc, frame, spelled.as_slice());
+    drop(spelled);
+    done
+}
+
+fn assert_request(rt: &impl Abort, alloc: Global, request: Request) -> Result<(), Fail>
+    requires { HasRoom request }
 {
-    let frame = spell_reply(alloc, reply)?;
-    let bytes = frame.as_slice();
-    let again = read_reply(alloc, bytes)?;
-    let first = format!(in alloc; "{reply:?}")?;
-    let second = format!(in alloc; "{again:?}")?;
-    assert_eq!(rt; first.as_str(), second.as_str());
-    for n in 0..bytes.len() {
-        assert!(rt; matches!(reply_fail(alloc, &bytes[..n]), Some(WireError::Short(_))));
-    }
-    let longer = with_a_zero(alloc, bytes)?;
-    let fail = reply_fail(alloc, longer.as_slice());
-    assert!(rt; fail == Some(WireError::BadField(bytes.len())));
-    Ok(())
+    let spelled = spell_request(alloc, &request);
+    drop(request);
+    assert_frame(rt, alloc, Frame::Request, spelled)
+}
+
+fn assert_reply(rt: &impl Abort, alloc: Global, reply: Reply) -> Result<(), Fail>
+    requires { ReplyHasRoom reply }
+{
+    let spelled = spell_reply(alloc, &reply);
+    drop(reply);
+    assert_frame(rt, alloc, Frame::Reply, spelled)
 }
 
 fn text(alloc: Global, bytes: &[u8; 5]) -> Result<Blob, OutOfMemory>
@@ -109,75 +145,96 @@ fn entry(alloc: Global, rid: u64) -> Result<Entry, OutOfMemory>
     })
 }
 
+fn fetch() -> Request
+    ensures { HasRoom result }
+{
+    Request::Fetch {
+        key: KEY,
+        rid: Rid(2),
+        version: Version(1),
+        start: 0,
+        len: 5,
+    }
+}
+
 #[test]
 fn requests_of_numbers(rt: HostRuntime) -> Result<(), Fail> {
     let alloc = rt.alloc();
     let token = Token(KEY);
     let rid = Rid(2);
     let round = Round(KEY);
-    assert_request(&rt, alloc, &Request::Feed { round, after: 7 })?;
-    assert_request(&rt, alloc, &Request::List { key: KEY, rid })?;
-    let fetch = Request::Fetch {
-        key: KEY,
-        rid,
-        version: Version(1),
-        start: 0,
-        len: 5,
-    };
-    assert_request(&rt, alloc, &fetch)?;
-    assert_eq!(rt; spell_request(alloc, &fetch)?.as_slice(), FETCH.as_slice());
     let expect = Version(1);
-    assert_request(&rt, alloc, &Request::Remove { token, rid, expect })?;
-    assert_request(&rt, alloc, &Request::Settle { token })?;
-    assert_eq!(rt;
-        spell_request(alloc, &Request::Settle { token })?.as_slice(),
-        SETTLE.as_slice()
-    );
-    assert_request(&rt, alloc, &Request::Keep { token, count: 3 })
+    assert_request(&rt, alloc, Request::Feed { round, after: 7 })?;
+    assert_request(&rt, alloc, Request::List { key: KEY, rid })?;
+    assert_request(&rt, alloc, fetch())?;
+    assert_request(&rt, alloc, Request::Remove { token, rid, expect })?;
+    assert_request(&rt, alloc, Request::Settle { token })?;
+    assert_request(&rt, alloc, Request::Keep { token, count: 3 })
+}
+
+fn is_spelled(alloc: Global, request: Request, bytes: &[u8]) -> Result<bool, OutOfMemory>
+    requires { HasRoom request }
+{
+    let spelled = spell_request(alloc, &request);
+    drop(request);
+    let spelled = spelled?;
+    Ok(spelled.as_slice() == bytes)
+}
+
+#[test]
+fn frames_from_outside(rt: HostRuntime) -> Result<(), Fail> {
+    let alloc = rt.alloc();
+    let token = Token(KEY);
+    assert!(rt; is_spelled(alloc, fetch(), &FETCH)?);
+    assert!(rt; is_spelled(alloc, Request::Settle { token }, &SETTLE)?);
+    assert!(rt; bytes_are_spelled(alloc)?);
+    Ok(())
 }
 
 #[test]
 fn requests_with_texts(rt: HostRuntime) -> Result<(), Fail> {
     let alloc = rt.alloc();
-    let token = Token(KEY);
-    let parent = Rid(1);
+    assert_request(&rt, alloc, make_dir(alloc)?)?;
+    assert_request(&rt, alloc, move_item(alloc)?)?;
+    assert_request(&rt, alloc, put(alloc)?)
+}
+
+fn make_dir(alloc: Global) -> Result<Request, OutOfMemory>
+    ensures { IfOk result HasRoom }
+{
     let name = text(alloc, b"notes")?;
-    assert_request(
-        &rt,
-        alloc,
-        &Request::MakeDir {
-            token,
-            parent,
-            name,
-        },
-    )?;
+    Ok(Request::MakeDir {
+        token: Token(KEY),
+        parent: Rid(1),
+        name,
+    })
+}
+
+fn move_item(alloc: Global) -> Result<Request, OutOfMemory>
+    ensures { IfOk result HasRoom }
+{
     let name = text(alloc, b"notes")?;
-    let rid = Rid(2);
-    assert_request(
-        &rt,
-        alloc,
-        &Request::Move {
-            token,
-            rid,
-            parent,
-            name,
-        },
-    )?;
+    Ok(Request::Move {
+        token: Token(KEY),
+        rid: Rid(2),
+        parent: Rid(1),
+        name,
+    })
+}
+
+fn put(alloc: Global) -> Result<Request, OutOfMemory>
+    ensures { IfOk result HasRoom }
+{
     let name = text(alloc, b"notes")?;
     let bytes = text(alloc, b"hello")?;
-    let expect = Version(0);
-    assert_request(
-        &rt,
-        alloc,
-        &Request::Put {
-            token,
-            rid,
-            expect,
-            parent,
-            name,
-            bytes,
-        },
-    )
+    Ok(Request::Put {
+        token: Token(KEY),
+        rid: Rid(2),
+        expect: Version(0),
+        parent: Rid(1),
+        name,
+        bytes,
+    })
 }
 
 #[test]
@@ -185,50 +242,96 @@ fn replies_of_numbers(rt: HostRuntime) -> Result<(), Fail> {
     let alloc = rt.alloc();
     let token = Token(KEY);
     let version = Version(4);
-    assert_reply(&rt, alloc, &Reply::Missing { key: KEY })?;
-    assert_reply(&rt, alloc, &Reply::Gone { key: KEY })?;
-    assert_reply(&rt, alloc, &Reply::Void { token })?;
     let rid = Rid(2);
-    let done = Reply::Done {
-        token,
-        rid,
-        version,
-    };
-    assert_reply(&rt, alloc, &done)?;
     let why = Why::TooLarge;
-    let refused = Reply::Refused {
-        token,
-        why,
-        version,
-    };
-    assert_reply(&rt, alloc, &refused)?;
+    assert_reply(&rt, alloc, Reply::Missing { key: KEY })?;
+    assert_reply(&rt, alloc, Reply::Gone { key: KEY })?;
+    assert_reply(&rt, alloc, Reply::Void { token })?;
+    assert_reply(
+        &rt,
+        alloc,
+        Reply::Done {
+            token,
+            rid,
+            version,
+        },
+    )?;
+    assert_reply(
+        &rt,
+        alloc,
+        Reply::Refused {
+            token,
+            why,
+            version,
+        },
+    )
+}
+
+fn bytes(alloc: Global) -> Result<Reply, OutOfMemory>
+    ensures { IfOk result ReplyHasRoom }
+{
     let bytes = text(alloc, b"hello")?;
-    let read = Reply::Bytes {
+    Ok(Reply::Bytes {
         key: KEY,
         start: 0,
         bytes,
-    };
-    assert_reply(&rt, alloc, &read)?;
-    assert_eq!(rt; spell_reply(alloc, &read)?.as_slice(), BYTES.as_slice());
-    Ok(())
+    })
+}
+
+fn bytes_are_spelled(alloc: Global) -> Result<bool, OutOfMemory> {
+    let reply = bytes(alloc)?;
+    let spelled = spell_reply(alloc, &reply);
+    drop(reply);
+    let spelled = spelled?;
+    Ok(spelled.as_slice() == BYTES.as_slice())
+}
+
+#[test]
+fn replies_with_bytes(rt: HostRuntime) -> Result<(), Fail> {
+    let alloc = rt.alloc();
+    assert_reply(&rt, alloc, bytes(alloc)?)
+}
+
+fn one(alloc: Global) -> Result<Sequence<Entry>, OutOfMemory>
+    ensures { IfOk result HaveRoom }
+{
+    let mut entries = Sequence::new(alloc);
+    entries.push(entry(alloc, 2)?)?;
+    Ok(entries)
+}
+
+fn two(alloc: Global) -> Result<Sequence<Entry>, OutOfMemory>
+    ensures { IfOk result HaveRoom }
+{
+    let mut entries = Sequence::new(alloc);
+    entries.push(entry(alloc, 2)?)?;
+    entries.push(entry(alloc, 3)?)?;
+    Ok(entries)
+}
+
+fn listing(entries: Sequence<Entry>) -> Reply
+    requires { HaveRoom entries }
+    ensures { ReplyHasRoom result }
+{
+    Reply::Listing { key: KEY, entries }
+}
+
+fn feed(entries: Sequence<Entry>) -> Reply
+    requires { HaveRoom entries }
+    ensures { ReplyHasRoom result }
+{
+    Reply::Feed {
+        round: Round(KEY),
+        clock: 9,
+        entries,
+    }
 }
 
 #[test]
 fn replies_with_entries(rt: HostRuntime) -> Result<(), Fail> {
     let alloc = rt.alloc();
-    let mut entries = Sequence::new(alloc);
-    entries.push(entry(alloc, 2)?)?;
-    entries.push(entry(alloc, 3)?)?;
-    assert_reply(&rt, alloc, &Reply::Listing { key: KEY, entries })?;
-    let mut entries = Sequence::new(alloc);
-    entries.push(entry(alloc, 2)?)?;
-    let round = Round(KEY);
-    let feed = Reply::Feed {
-        round,
-        clock: 9,
-        entries,
-    };
-    assert_reply(&rt, alloc, &feed)
+    assert_reply(&rt, alloc, listing(two(alloc)?))?;
+    assert_reply(&rt, alloc, feed(one(alloc)?))
 }
 
 #[test]
@@ -237,8 +340,7 @@ fn the_first_fault_is_named(rt: HostRuntime) -> Result<(), Fail> {
     assert!(rt; request_fail(alloc, b"") == Some(WireError::Short(0)));
     assert!(rt; request_fail(alloc, &SETTLE[..5]) == Some(WireError::Short(5)));
     assert!(rt; request_fail(alloc, &SETTLE[..7]) == Some(WireError::Short(5)));
-    let longer = with_a_zero(alloc, &SETTLE)?;
-    assert!(rt; request_fail(alloc, longer.as_slice()) == Some(WireError::BadField(9)));
+    assert!(rt; ends_there(alloc, Frame::Request, &SETTLE)?);
     let mut other = SETTLE;
     other[0] = 40;
     assert!(rt; request_fail(alloc, &other) == Some(WireError::BadField(0)));
@@ -246,54 +348,65 @@ fn the_first_fault_is_named(rt: HostRuntime) -> Result<(), Fail> {
     Ok(())
 }
 
-#[test]
-fn messages_have_numbers(rt: HostRuntime) -> Result<(), Fail> {
-    let alloc = rt.alloc();
-    let mut net = Net::new(alloc);
-    let frame = Blob::from_slice(alloc, &SETTLE)?;
-    let sent = net.send(Message {
-        answers: None,
-        frame,
-    })?;
-    assert!(rt;
+// Whether the next message gets this number, and is kept.
+fn sends(
+    alloc: Global,
+    net: &mut Net,
+    answers: Option<u32>,
+    bytes: &[u8],
+    number: u32,
+) -> Result<bool, OutOfMemory> {
+    let frame = Blob::from_slice(alloc, bytes)?;
+    let sent = net.send(Message { answers, frame })?;
+    Ok(
         sent == Sent {
-            number: 1,
-            lost: false
-        }
-    );
-    let frame = Blob::from_slice(alloc, &BYTES)?;
-    let sent = net.send(Message {
-        answers: Some(1),
-        frame,
-    })?;
-    assert!(rt;
-        sent == Sent {
-            number: 2,
-            lost: false
-        }
-    );
-    let second = net.get(2).ok_or("it was kept")?;
-    assert!(rt; second.answers == Some(1));
-    assert_eq!(rt; second.frame.as_slice(), BYTES.as_slice());
+            number,
+            lost: false,
+        },
+    )
+}
+
+fn is_kept(net: &Net, number: u32, answers: Option<u32>, bytes: &[u8]) -> bool {
+    match net.get(number) {
+        Some(message) => message.answers == answers && message.frame.as_slice() == bytes,
+        None => false,
+    }
+}
+
+fn numbers_messages(rt: &impl Abort, alloc: Global, net: &mut Net) -> Result<(), Fail> {
+    assert!(rt; sends(alloc, net, None, &SETTLE, 1)?);
+    assert!(rt; sends(alloc, net, Some(1), &BYTES, 2)?);
+    assert!(rt; is_kept(net, 2, Some(1), &BYTES));
     assert!(rt; net.get(0).is_none() && net.get(3).is_none());
     Ok(())
 }
 
 #[test]
+fn messages_have_numbers(rt: HostRuntime) -> Result<(), Fail> {
+    let alloc = rt.alloc();
+    let mut net = Net::new(alloc);
+    let done = numbers_messages(&rt, alloc, &mut net);
+    drop(net);
+    done
+}
+
+fn fits_list(alloc: Global, reply: Reply) -> Result<bool, OutOfMemory> {
+    let list = Request::List {
+        key: KEY,
+        rid: Rid(1),
+    };
+    let fitting = fits(alloc, &NoItems, Rid(0), &list, &reply);
+    drop(list);
+    drop(reply);
+    fitting
+}
+
+#[test]
 fn a_reply_fits_its_request(rt: HostRuntime) -> Result<(), Fail> {
     let alloc = rt.alloc();
-    let key = KEY;
-    let list = Request::List { key, rid: Rid(1) };
-    let mut entries = Sequence::new(alloc);
-    entries.push(entry(alloc, 2)?)?;
-    let one = Reply::Listing { key, entries };
-    assert!(rt; fits(alloc, &NoItems, Rid(0), &list, &one)?);
-    let mut entries = Sequence::new(alloc);
-    entries.push(entry(alloc, 2)?)?;
-    entries.push(entry(alloc, 3)?)?;
-    let twice = Reply::Listing { key, entries };
-    assert!(rt; !fits(alloc, &NoItems, Rid(0), &list, &twice)?);
-    assert!(rt; fits(alloc, &NoItems, Rid(0), &list, &Reply::Missing { key })?);
-    assert!(rt; !fits(alloc, &NoItems, Rid(0), &list, &Reply::Gone { key })?);
+    assert!(rt; fits_list(alloc, listing(one(alloc)?))?);
+    assert!(rt; !fits_list(alloc, listing(two(alloc)?))?);
+    assert!(rt; fits_list(alloc, Reply::Missing { key: KEY })?);
+    assert!(rt; !fits_list(alloc, Reply::Gone { key: KEY })?);
     Ok(())
 }

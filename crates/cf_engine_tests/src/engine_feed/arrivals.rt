@@ -1,6 +1,6 @@
 //! Entries that have no item here.
 
-use super::entries::{UNKNOWN, dead, directory, file, turn};
+use super::entries::{UNKNOWN, dead, directory, file, turned};
 use super::listed::{
     is_convert, is_make, is_mark, is_move, is_nothing, is_rebase, is_seen, listed,
 };
@@ -11,21 +11,25 @@ use std::alloc::Global;
 use std::test::Fail;
 
 fn dead_is_nothing(alloc: Global) -> Result<bool, OutOfMemory> {
-    let rows = table(alloc)?;
     let entry = dead(alloc, 9, false)?;
-    let turn = turn(alloc, &rows, &UNKNOWN, &entry)?;
-    Ok(is_nothing(&turn))
+    let rows = table(alloc)?;
+    let turn = turned(alloc, rows, &UNKNOWN, entry)?;
+    let is_so = is_nothing(&turn);
+    drop(turn);
+    Ok(is_so)
 }
 
 fn without_parent_is_nothing(alloc: Global) -> Result<bool, OutOfMemory> {
-    let rows = table(alloc)?;
     let entry = file(alloc, 9, 8, b"n", 1)?;
     let known = Known {
         parent: None,
         ..UNKNOWN
     };
-    let turn = turn(alloc, &rows, &known, &entry)?;
-    Ok(is_nothing(&turn))
+    let rows = table(alloc)?;
+    let turn = turned(alloc, rows, &known, entry)?;
+    let is_so = is_nothing(&turn);
+    drop(turn);
+    Ok(is_so)
 }
 
 #[test]
@@ -50,10 +54,12 @@ fn makes_file(turn: &Turn) -> bool {
 }
 
 fn file_is_made(alloc: Global) -> Result<bool, OutOfMemory> {
-    let rows = table(alloc)?;
     let entry = file(alloc, 9, 1, b"n", 3)?;
-    let turn = turn(alloc, &rows, &UNKNOWN, &entry)?;
-    Ok(makes_file(&turn))
+    let rows = table(alloc)?;
+    let turn = turned(alloc, rows, &UNKNOWN, entry)?;
+    let is_so = makes_file(&turn);
+    drop(turn);
+    Ok(is_so)
 }
 
 #[test]
@@ -75,10 +81,12 @@ fn moves_off(turn: &Turn) -> bool {
 }
 
 fn name_is_freed(alloc: Global) -> Result<bool, OutOfMemory> {
-    let rows = table(alloc)?;
     let entry = file(alloc, 9, 1, b"d", 3)?;
-    let turn = turn(alloc, &rows, &UNKNOWN, &entry)?;
-    Ok(moves_off(&turn))
+    let rows = table(alloc)?;
+    let turn = turned(alloc, rows, &UNKNOWN, entry)?;
+    let is_so = moves_off(&turn);
+    drop(turn);
+    Ok(is_so)
 }
 
 #[test]
@@ -97,11 +105,13 @@ fn adopts(turn: &Turn, known: &Identity) -> bool {
 }
 
 fn local_is_adopted(alloc: Global) -> Result<bool, OutOfMemory> {
-    let rows = table(alloc)?;
     let entry = directory(alloc, 9, 1, b"l")?;
     let known = identity(alloc, 9, 0, 0)?;
-    let turn = turn(alloc, &rows, &UNKNOWN, &entry)?;
-    Ok(adopts(&turn, &known))
+    let rows = table(alloc)?;
+    let turn = turned(alloc, rows, &UNKNOWN, entry)?;
+    let is_so = adopts(&turn, &known);
+    drop(turn);
+    Ok(is_so)
 }
 
 #[test]
@@ -123,11 +133,13 @@ fn converts(turn: &Turn, known: &Identity) -> bool {
 }
 
 fn plain_is_converted(alloc: Global) -> Result<bool, OutOfMemory> {
-    let rows = table_with_plain(alloc)?;
     let entry = directory(alloc, 9, 1, b"l")?;
     let known = identity(alloc, 9, 0, 0)?;
-    let turn = turn(alloc, &rows, &UNKNOWN, &entry)?;
-    Ok(converts(&turn, &known))
+    let rows = table_with_plain(alloc)?;
+    let turn = turned(alloc, rows, &UNKNOWN, entry)?;
+    let is_so = converts(&turn, &known);
+    drop(turn);
+    Ok(is_so)
 }
 
 #[test]

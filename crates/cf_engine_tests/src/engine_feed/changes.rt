@@ -1,6 +1,6 @@
 //! Items that are at another path, or have a newer version.
 
-use super::entries::{at, directory, file, path, seen_at, turn, used};
+use super::entries::{at, directory, file, path, seen_at, turn, turned, used};
 use super::listed::{is_copy_off, is_mark, is_move, is_postponed, is_seen, is_take, listed};
 use super::tables::{identity, table, table_with_inner, table_with_kept, table_with_writes};
 use cf_base::{CallError as Refusal, Change, Identity, ItemId, OutOfMemory};
@@ -22,10 +22,12 @@ fn moves_over(turn: &Turn) -> bool {
 }
 
 fn file_is_moved(alloc: Global) -> Result<bool, OutOfMemory> {
-    let rows = table(alloc)?;
     let entry = file(alloc, 3, 1, b"l", 1)?;
-    let turn = turn(alloc, &rows, &at(3, 1), &entry)?;
-    Ok(moves_over(&turn))
+    let rows = table(alloc)?;
+    let turn = turned(alloc, rows, &at(3, 1), entry)?;
+    let is_so = moves_over(&turn);
+    drop(turn);
+    Ok(is_so)
 }
 
 #[test]
@@ -42,11 +44,13 @@ fn marks_alone(turn: &Turn) -> bool {
 }
 
 fn seen_file_stays(alloc: Global) -> Result<bool, Refusal> {
-    let rows = table(alloc)?;
     let entry = file(alloc, 3, 1, b"l", 1)?;
     let seen = path(alloc, 3, 1, b"l")?;
-    let turn = turn(alloc, &rows, &seen_at(3, 1, &seen), &entry)?;
-    Ok(marks_alone(&turn))
+    let rows = table(alloc)?;
+    let turn = turned(alloc, rows, &seen_at(3, 1, &seen), entry)?;
+    let is_so = marks_alone(&turn);
+    drop(turn);
+    Ok(is_so)
 }
 
 #[test]
@@ -71,17 +75,25 @@ fn newer_turn(alloc: Global, rows: &Rows) -> Result<Turn, Refusal> {
 }
 
 fn newer_is_taken(alloc: Global) -> Result<bool, Refusal> {
-    let rows = table(alloc)?;
     let version = identity(alloc, 3, 3, 2)?;
-    let turn = newer_turn(alloc, &rows)?;
-    Ok(takes(&turn, &version))
+    let rows = table(alloc)?;
+    let turn = newer_turn(alloc, &rows);
+    drop(rows);
+    let turn = turn?;
+    let is_so = takes(&turn, &version);
+    drop(turn);
+    Ok(is_so)
 }
 
 fn newer_is_taken_by_kept(alloc: Global) -> Result<bool, Refusal> {
-    let rows = table_with_kept(alloc)?;
     let version = identity(alloc, 3, 3, 2)?;
-    let turn = newer_turn(alloc, &rows)?;
-    Ok(takes(&turn, &version))
+    let rows = table_with_kept(alloc)?;
+    let turn = newer_turn(alloc, &rows);
+    drop(rows);
+    let turn = turn?;
+    let is_so = takes(&turn, &version);
+    drop(turn);
+    Ok(is_so)
 }
 
 #[test]
@@ -97,10 +109,12 @@ fn a_kept_file_takes_a_newer_version(rt: HostRuntime) -> Result<(), Fail> {
 }
 
 fn newer_waits(alloc: Global) -> Result<bool, OutOfMemory> {
-    let rows = table(alloc)?;
     let entry = file(alloc, 3, 2, b"f", 2)?;
-    let turn = turn(alloc, &rows, &used(3, 2), &entry)?;
-    Ok(is_postponed(&turn))
+    let rows = table(alloc)?;
+    let turn = turned(alloc, rows, &used(3, 2), entry)?;
+    let is_so = is_postponed(&turn);
+    drop(turn);
+    Ok(is_so)
 }
 
 #[test]
@@ -119,10 +133,14 @@ fn copies_first(turn: &Turn, version: &Identity) -> bool {
 }
 
 fn writes_are_copied(alloc: Global) -> Result<bool, Refusal> {
-    let rows = table_with_writes(alloc)?;
     let version = identity(alloc, 3, 3, 2)?;
-    let turn = newer_turn(alloc, &rows)?;
-    Ok(copies_first(&turn, &version))
+    let rows = table_with_writes(alloc)?;
+    let turn = newer_turn(alloc, &rows);
+    drop(rows);
+    let turn = turn?;
+    let is_so = copies_first(&turn, &version);
+    drop(turn);
+    Ok(is_so)
 }
 
 #[test]
@@ -144,11 +162,13 @@ fn moves_and_takes(turn: &Turn, version: &Identity) -> bool {
 }
 
 fn newer_moves(alloc: Global) -> Result<bool, OutOfMemory> {
-    let rows = table(alloc)?;
     let entry = file(alloc, 3, 1, b"n", 2)?;
     let version = identity(alloc, 3, 3, 2)?;
-    let turn = turn(alloc, &rows, &at(3, 1), &entry)?;
-    Ok(moves_and_takes(&turn, &version))
+    let rows = table(alloc)?;
+    let turn = turned(alloc, rows, &at(3, 1), entry)?;
+    let is_so = moves_and_takes(&turn, &version);
+    drop(turn);
+    Ok(is_so)
 }
 
 #[test]
@@ -170,10 +190,12 @@ fn lifts(turn: &Turn) -> bool {
 }
 
 fn parent_is_lifted(alloc: Global) -> Result<bool, OutOfMemory> {
-    let rows = table_with_inner(alloc)?;
     let entry = directory(alloc, 2, 5, b"d")?;
-    let turn = turn(alloc, &rows, &at(2, 5), &entry)?;
-    Ok(lifts(&turn))
+    let rows = table_with_inner(alloc)?;
+    let turn = turned(alloc, rows, &at(2, 5), entry)?;
+    let is_so = lifts(&turn);
+    drop(turn);
+    Ok(is_so)
 }
 
 #[test]
@@ -201,16 +223,24 @@ fn is_copy(change: &Change) -> bool {
 
 fn copy_is_named(alloc: Global) -> Result<bool, OutOfMemory> {
     let rows = table(alloc)?;
-    match copy_off(alloc, &rows, ItemId(3))? {
-        None => Ok(false),
-        Some(change) => Ok(is_copy(&change)),
-    }
+    let change = copy_off(alloc, &rows, ItemId(3));
+    drop(rows);
+    let Some(change) = change? else {
+        return Ok(false);
+    };
+    let is_so = is_copy(&change);
+    drop(change);
+    Ok(is_so)
 }
 
 fn copy_of_none(alloc: Global) -> Result<bool, OutOfMemory> {
     let rows = table(alloc)?;
-    let change = copy_off(alloc, &rows, ItemId(9))?;
-    Ok(change.is_none())
+    let change = copy_off(alloc, &rows, ItemId(9));
+    drop(rows);
+    let change = change?;
+    let is_none = change.is_none();
+    drop(change);
+    Ok(is_none)
 }
 
 #[test]

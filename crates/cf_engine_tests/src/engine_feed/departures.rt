@@ -1,6 +1,6 @@
 //! Items that are gone from the remote.
 
-use super::entries::{at, dead, last_turn, turn, used};
+use super::entries::{at, dead, turned, turned_last, used};
 use super::listed::{is_clear, is_later, is_postponed, is_rebase, is_remove, listed};
 use super::tables::{identity, table, table_with_kept, table_with_writes};
 use cf_base::{Identity, OutOfMemory};
@@ -16,17 +16,21 @@ fn removes(turn: &Turn) -> bool {
 }
 
 fn clean_file_is_removed(alloc: Global) -> Result<bool, OutOfMemory> {
-    let rows = table(alloc)?;
     let entry = dead(alloc, 3, false)?;
-    let turn = turn(alloc, &rows, &at(3, 2), &entry)?;
-    Ok(removes(&turn))
+    let rows = table(alloc)?;
+    let turn = turned(alloc, rows, &at(3, 2), entry)?;
+    let is_so = removes(&turn);
+    drop(turn);
+    Ok(is_so)
 }
 
 fn kept_file_is_removed(alloc: Global) -> Result<bool, OutOfMemory> {
-    let rows = table_with_kept(alloc)?;
     let entry = dead(alloc, 3, false)?;
-    let turn = turn(alloc, &rows, &at(3, 2), &entry)?;
-    Ok(removes(&turn))
+    let rows = table_with_kept(alloc)?;
+    let turn = turned(alloc, rows, &at(3, 2), entry)?;
+    let is_so = removes(&turn);
+    drop(turn);
+    Ok(is_so)
 }
 
 #[test]
@@ -42,10 +46,12 @@ fn kept_files_that_are_gone_are_removed(rt: HostRuntime) -> Result<(), Fail> {
 }
 
 fn used_file_waits(alloc: Global) -> Result<bool, OutOfMemory> {
-    let rows = table(alloc)?;
     let entry = dead(alloc, 3, false)?;
-    let turn = turn(alloc, &rows, &used(3, 2), &entry)?;
-    Ok(is_postponed(&turn))
+    let rows = table(alloc)?;
+    let turn = turned(alloc, rows, &used(3, 2), entry)?;
+    let is_so = is_postponed(&turn);
+    drop(turn);
+    Ok(is_so)
 }
 
 #[test]
@@ -62,15 +68,17 @@ fn lets_go(turn: &Turn, id: u64, known: &Identity) -> bool {
 }
 
 fn written_file_stays(alloc: Global) -> Result<bool, OutOfMemory> {
-    let rows = table_with_writes(alloc)?;
     let entry = dead(alloc, 3, false)?;
     let local = identity(alloc, 0, 3, 1)?;
     let known = Known {
         parent: None,
         ..at(3, 2)
     };
-    let turn = turn(alloc, &rows, &known, &entry)?;
-    Ok(lets_go(&turn, 3, &local))
+    let rows = table_with_writes(alloc)?;
+    let turn = turned(alloc, rows, &known, entry)?;
+    let is_so = lets_go(&turn, 3, &local);
+    drop(turn);
+    Ok(is_so)
 }
 
 #[test]
@@ -80,18 +88,22 @@ fn local_writes_stay(rt: HostRuntime) -> Result<(), Fail> {
 }
 
 fn directory_comes_again(alloc: Global) -> Result<bool, OutOfMemory> {
-    let rows = table(alloc)?;
     let entry = dead(alloc, 2, true)?;
-    let turn = turn(alloc, &rows, &at(2, 1), &entry)?;
-    Ok(is_later(&turn))
+    let rows = table(alloc)?;
+    let turn = turned(alloc, rows, &at(2, 1), entry)?;
+    let is_so = is_later(&turn);
+    drop(turn);
+    Ok(is_so)
 }
 
 fn directory_stays_at_last(alloc: Global) -> Result<bool, OutOfMemory> {
-    let rows = table(alloc)?;
     let entry = dead(alloc, 2, true)?;
     let local = identity(alloc, 0, 0, 0)?;
-    let turn = last_turn(alloc, &rows, &at(2, 1), &entry)?;
-    Ok(lets_go(&turn, 2, &local))
+    let rows = table(alloc)?;
+    let turn = turned_last(alloc, rows, &at(2, 1), entry)?;
+    let is_so = lets_go(&turn, 2, &local);
+    drop(turn);
+    Ok(is_so)
 }
 
 #[test]

@@ -124,12 +124,28 @@ pub(super) fn turn(
     steps(alloc, rows, &POLICY, known, entry, false)
 }
 
-/// What comes of a dead directory at its second turn.
-pub(super) fn last_turn(
+/// The same, and lets entry and rows go.
+pub(super) fn turned(
     alloc: Global,
-    rows: &Rows,
+    rows: Rows,
     known: &Known,
-    entry: &Entry,
+    entry: Entry,
 ) -> Result<Turn, OutOfMemory> {
-    steps(alloc, rows, &POLICY, known, entry, true)
+    let turn = turn(alloc, &rows, known, &entry);
+    drop(entry);
+    drop(rows);
+    turn
+}
+
+/// What comes of a dead directory at its second turn; it lets entry and rows go.
+pub(super) fn turned_last(
+    alloc: Global,
+    rows: Rows,
+    known: &Known,
+    entry: Entry,
+) -> Result<Turn, OutOfMemory> {
+    let turn = steps(alloc, &rows, &POLICY, known, &entry, true);
+    drop(entry);
+    drop(rows);
+    turn
 }

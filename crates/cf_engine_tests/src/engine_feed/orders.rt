@@ -19,14 +19,12 @@ fn push_dead(alloc: Global, feed: &mut Vec<Entry>, rid: u64, dir: bool) -> Resul
     Ok(())
 }
 
-fn mixed_feed(alloc: Global) -> Result<Vec<Entry>, OutOfMemory> {
-    let mut feed = Vec::new(alloc);
-    push_live(alloc, &mut feed, 9)?;
-    push_dead(alloc, &mut feed, 8, false)?;
-    push_dead(alloc, &mut feed, 2, true)?;
-    push_live(alloc, &mut feed, 7)?;
-    push_dead(alloc, &mut feed, 3, false)?;
-    Ok(feed)
+fn mixed_feed(alloc: Global, feed: &mut Vec<Entry>) -> Result<(), OutOfMemory> {
+    push_live(alloc, feed, 9)?;
+    push_dead(alloc, feed, 8, false)?;
+    push_dead(alloc, feed, 2, true)?;
+    push_live(alloc, feed, 7)?;
+    push_dead(alloc, feed, 3, false)
 }
 
 fn is_order(
@@ -36,14 +34,23 @@ fn is_order(
     places: &[usize],
 ) -> Result<bool, OutOfMemory> {
     let rows = table(alloc)?;
-    let order = order(alloc, &rows, feed, known)?;
+    let order = order(alloc, &rows, feed, known);
+    drop(rows);
+    let order = order?;
     Ok(order.as_slice() == places)
 }
 
-fn dead_come_first(alloc: Global) -> Result<bool, OutOfMemory> {
-    let feed = mixed_feed(alloc)?;
+fn is_mixed_order(alloc: Global, feed: &mut Vec<Entry>) -> Result<bool, OutOfMemory> {
+    mixed_feed(alloc, feed)?;
     let known = [None, None, Some(ItemId(2)), None, Some(ItemId(3))];
     is_order(alloc, feed.as_slice(), &known, &[4, 2, 1, 0, 3])
+}
+
+fn dead_come_first(alloc: Global) -> Result<bool, OutOfMemory> {
+    let mut feed = Vec::new(alloc);
+    let is_so = is_mixed_order(alloc, &mut feed);
+    drop(feed);
+    is_so
 }
 
 #[test]
@@ -53,23 +60,28 @@ fn dead_entries_come_first(rt: HostRuntime) -> Result<(), Fail> {
 }
 
 // It names the remote's 3 four times, and its 2 twice.
-fn doubled_feed(alloc: Global) -> Result<Vec<Entry>, OutOfMemory> {
-    let mut feed = Vec::new(alloc);
-    push_live(alloc, &mut feed, 3)?;
-    push_dead(alloc, &mut feed, 2, true)?;
-    push_dead(alloc, &mut feed, 3, false)?;
-    push_live(alloc, &mut feed, 2)?;
-    push_dead(alloc, &mut feed, 3, false)?;
-    push_live(alloc, &mut feed, 3)?;
-    Ok(feed)
+fn doubled_feed(alloc: Global, feed: &mut Vec<Entry>) -> Result<(), OutOfMemory> {
+    push_live(alloc, feed, 3)?;
+    push_dead(alloc, feed, 2, true)?;
+    push_dead(alloc, feed, 3, false)?;
+    push_live(alloc, feed, 2)?;
+    push_dead(alloc, feed, 3, false)?;
+    push_live(alloc, feed, 3)
 }
 
-fn doubled_come_each(alloc: Global) -> Result<bool, OutOfMemory> {
-    let feed = doubled_feed(alloc)?;
+fn is_doubled_order(alloc: Global, feed: &mut Vec<Entry>) -> Result<bool, OutOfMemory> {
+    doubled_feed(alloc, feed)?;
     let file = Some(ItemId(3));
     let dir = Some(ItemId(2));
     let known = [file, dir, file, dir, file, file];
     is_order(alloc, feed.as_slice(), &known, &[2, 4, 1, 0, 3, 5])
+}
+
+fn doubled_come_each(alloc: Global) -> Result<bool, OutOfMemory> {
+    let mut feed = Vec::new(alloc);
+    let is_so = is_doubled_order(alloc, &mut feed);
+    drop(feed);
+    is_so
 }
 
 #[test]

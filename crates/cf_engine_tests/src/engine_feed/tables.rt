@@ -81,48 +81,75 @@ fn put_directory(
     put(rows, row)
 }
 
+fn put_file(alloc: Global, rows: &mut Rows, dirty: bool, keep: bool) -> Result<(), OutOfMemory> {
+    let mut row = file(alloc)?;
+    row.dirty = dirty;
+    row.keep = keep;
+    put(rows, row)
+}
+
+fn fill(alloc: Global, rows: &mut Rows) -> Result<(), OutOfMemory> {
+    put_directory(alloc, rows, 2, 1, b"d", 2)?;
+    put_file(alloc, rows, false, false)?;
+    put_directory(alloc, rows, 4, 1, b"l", 0)?;
+    rows.set_next(ItemId(5));
+    Ok(())
+}
+
+// The rows, where they were filled.
+fn filled_or_none(rows: Rows, filled: Result<(), OutOfMemory>) -> Result<Rows, OutOfMemory> {
+    match filled {
+        Ok(()) => Ok(rows),
+        Err(error) => {
+            drop(rows);
+            Err(error)
+        }
+    }
+}
+
 /// `/d` is the remote's 2, `/d/f` its 3, and `/l` is none of it. Here they are 2, 3 and 4.
 pub(super) fn table(alloc: Global) -> Result<Rows, OutOfMemory> {
     let mut rows = Rows::new(alloc)?;
-    let file = file(alloc)?;
-    put_directory(alloc, &mut rows, 2, 1, b"d", 2)?;
-    put(&mut rows, file)?;
-    put_directory(alloc, &mut rows, 4, 1, b"l", 0)?;
-    rows.set_next(ItemId(5));
-    Ok(rows)
+    let filled = fill(alloc, &mut rows);
+    filled_or_none(rows, filled)
 }
 
 /// Where `/d/f` has local writes.
 pub(super) fn table_with_writes(alloc: Global) -> Result<Rows, OutOfMemory> {
     let mut rows = table(alloc)?;
-    let mut row = file(alloc)?;
-    row.dirty = true;
-    put(&mut rows, row)?;
-    Ok(rows)
+    let filled = put_file(alloc, &mut rows, true, false);
+    filled_or_none(rows, filled)
 }
 
 /// Where `/d/f` is kept full.
 pub(super) fn table_with_kept(alloc: Global) -> Result<Rows, OutOfMemory> {
     let mut rows = table(alloc)?;
-    let mut row = file(alloc)?;
-    row.keep = true;
-    put(&mut rows, row)?;
-    Ok(rows)
+    let filled = put_file(alloc, &mut rows, false, true);
+    filled_or_none(rows, filled)
+}
+
+fn put_plain(alloc: Global, rows: &mut Rows) -> Result<(), OutOfMemory> {
+    let identity = Identity::new(alloc, b"")?;
+    let row = item(alloc, 4, 1, b"l", Kind::Dir, identity)?;
+    put(rows, row)
 }
 
 /// Where `/l` is no placeholder.
 pub(super) fn table_with_plain(alloc: Global) -> Result<Rows, OutOfMemory> {
     let mut rows = table(alloc)?;
-    let identity = Identity::new(alloc, b"")?;
-    let row = item(alloc, 4, 1, b"l", Kind::Dir, identity)?;
-    put(&mut rows, row)?;
-    Ok(rows)
+    let filled = put_plain(alloc, &mut rows);
+    filled_or_none(rows, filled)
+}
+
+fn put_inner(alloc: Global, rows: &mut Rows) -> Result<(), OutOfMemory> {
+    put_directory(alloc, rows, 5, 2, b"l", 5)?;
+    rows.set_next(ItemId(6));
+    Ok(())
 }
 
 /// Where `/d/l` is the remote's 5, and 5 here.
 pub(super) fn table_with_inner(alloc: Global) -> Result<Rows, OutOfMemory> {
     let mut rows = table(alloc)?;
-    put_directory(alloc, &mut rows, 5, 2, b"l", 5)?;
-    rows.set_next(ItemId(6));
-    Ok(rows)
+    let filled = put_inner(alloc, &mut rows);
+    filled_or_none(rows, filled)
 }

@@ -5,6 +5,7 @@ use super::told::{refuses, strays, tells};
 use cf_base::{Code, OutOfMemory};
 use cf_remote::{FlakyRemote, StoreRemote};
 use std::alloc::Global;
+use std::process::Abort;
 use std::test::Fail;
 
 const DEEP: &str = "/1/2/3/4/5/6/7/8/9/0/1/2/3/4/5/6/7/8/9/0/1/2/3/4/5/6/7/8/9/0/1/2/3";
@@ -17,7 +18,9 @@ fn misses(
     cause: Code,
 ) -> Result<bool, OutOfMemory> {
     let told = stat(alloc, remote, 4, path)?;
-    Ok(refuses(&told, cause, 4))
+    let is_so = refuses(&told, cause, 4);
+    drop(told);
+    Ok(is_so)
 }
 
 // A file with these bytes is refused so at a path.
@@ -28,50 +31,72 @@ fn takes_no_file(
     cause: Code,
 ) -> Result<bool, OutOfMemory> {
     let told = put(alloc, remote, 4, path, b"a")?;
-    Ok(refuses(&told, cause, 4))
+    let is_so = refuses(&told, cause, 4);
+    drop(told);
+    Ok(is_so)
 }
 
 fn makes_no_root(alloc: Global, remote: &mut StoreRemote) -> Result<bool, OutOfMemory> {
     let told = make_dir(alloc, remote, 4, "/")?;
-    Ok(refuses(&told, Code::BadPath, 4))
+    let is_so = refuses(&told, Code::BadPath, 4);
+    drop(told);
+    Ok(is_so)
+}
+
+fn leads_nowhere(rt: &impl Abort, alloc: Global, remote: &mut StoreRemote) -> Result<(), Fail> {
+    assert!(rt; misses(alloc, remote, "/x", Code::NotFound)?);
+    assert!(rt; misses(alloc, remote, "/a/b", Code::NotDirectory)?);
+    assert!(rt; misses(alloc, remote, DEEP, Code::TooDeep)?);
+    assert!(rt; takes_no_file(alloc, remote, "/a:b", Code::BadPath)?);
+    assert!(rt; makes_no_root(alloc, remote)?);
+    assert!(rt; takes_no_file(alloc, remote, "/d", Code::IsDirectory)?);
+    Ok(())
 }
 
 #[test]
 fn a_path_leads_nowhere(rt: HostRuntime) -> Result<(), Fail> {
     let alloc = rt.alloc();
     let mut remote = stocked(alloc)?;
-    assert!(rt; misses(alloc, &mut remote, "/x", Code::NotFound)?);
-    assert!(rt; misses(alloc, &mut remote, "/a/b", Code::NotDirectory)?);
-    assert!(rt; misses(alloc, &mut remote, DEEP, Code::TooDeep)?);
-    assert!(rt; takes_no_file(alloc, &mut remote, "/a:b", Code::BadPath)?);
-    assert!(rt; makes_no_root(alloc, &mut remote)?);
-    assert!(rt; takes_no_file(alloc, &mut remote, "/d", Code::IsDirectory)?);
-    Ok(())
+    let done = leads_nowhere(&rt, alloc, &mut remote);
+    drop(remote);
+    done
 }
 
 fn makes_none_twice(alloc: Global, remote: &mut StoreRemote) -> Result<bool, OutOfMemory> {
     let told = make_dir(alloc, remote, 4, "/d")?;
-    Ok(refuses(&told, Code::Exists, 5))
+    let is_so = refuses(&told, Code::Exists, 5);
+    drop(told);
+    Ok(is_so)
 }
 
 fn removes_no_full_one(alloc: Global, remote: &mut StoreRemote) -> Result<bool, OutOfMemory> {
     let told = remove(alloc, remote, 5, "/d")?;
-    Ok(refuses(&told, Code::NotEmpty, 6))
+    let is_so = refuses(&told, Code::NotEmpty, 6);
+    drop(told);
+    Ok(is_so)
 }
 
 fn moves_none_into_itself(alloc: Global, remote: &mut StoreRemote) -> Result<bool, OutOfMemory> {
     let told = move_to(alloc, remote, 6, "/d", "/d/e")?;
-    Ok(refuses(&told, Code::IntoItself, 7))
+    let is_so = refuses(&told, Code::IntoItself, 7);
+    drop(told);
+    Ok(is_so)
+}
+
+fn refuses_changes(rt: &impl Abort, alloc: Global, remote: &mut StoreRemote) -> Result<(), Fail> {
+    assert!(rt; makes_none_twice(alloc, remote)?);
+    assert!(rt; removes_no_full_one(alloc, remote)?);
+    assert!(rt; moves_none_into_itself(alloc, remote)?);
+    Ok(())
 }
 
 #[test]
 fn the_remote_refuses(rt: HostRuntime) -> Result<(), Fail> {
     let alloc = rt.alloc();
     let mut remote = stocked(alloc)?;
-    assert!(rt; makes_none_twice(alloc, &mut remote)?);
-    assert!(rt; removes_no_full_one(alloc, &mut remote)?);
-    assert!(rt; moves_none_into_itself(alloc, &mut remote)?);
-    Ok(())
+    let done = refuses_changes(&rt, alloc, &mut remote);
+    drop(remote);
+    done
 }
 
 // The first ask of all fails, and the third.
@@ -82,33 +107,47 @@ fn flaky(alloc: Global) -> Result<FlakyRemote, OutOfMemory> {
 
 fn fails_to_list(alloc: Global, remote: &mut FlakyRemote) -> Result<bool, OutOfMemory> {
     let told = put(alloc, remote, 1, "/a", b"a")?;
-    Ok(refuses(&told, Code::RemoteFault, 2))
+    let is_so = refuses(&told, Code::RemoteFault, 2);
+    drop(told);
+    Ok(is_so)
 }
 
 fn fails_to_put(alloc: Global, remote: &mut FlakyRemote) -> Result<bool, OutOfMemory> {
     let told = put(alloc, remote, 2, "/a", b"a")?;
-    Ok(refuses(&told, Code::RemoteFault, 3))
+    let is_so = refuses(&told, Code::RemoteFault, 3);
+    drop(told);
+    Ok(is_so)
 }
 
 fn puts_at_last(alloc: Global, remote: &mut FlakyRemote) -> Result<bool, OutOfMemory> {
     let told = put(alloc, remote, 3, "/a", b"a")?;
-    Ok(tells(&told, 2, 1, 4))
+    let is_so = tells(&told, 2, 1, 4);
+    drop(told);
+    Ok(is_so)
+}
+
+fn uses_tokens_up(rt: &impl Abort, alloc: Global, remote: &mut FlakyRemote) -> Result<(), Fail> {
+    assert!(rt; fails_to_list(alloc, remote)?);
+    assert!(rt; fails_to_put(alloc, remote)?);
+    assert!(rt; puts_at_last(alloc, remote)?);
+    Ok(())
 }
 
 #[test]
 fn a_fault_uses_a_token_up(rt: HostRuntime) -> Result<(), Fail> {
     let alloc = rt.alloc();
     let mut remote = flaky(alloc)?;
-    assert!(rt; fails_to_list(alloc, &mut remote)?);
-    assert!(rt; fails_to_put(alloc, &mut remote)?);
-    assert!(rt; puts_at_last(alloc, &mut remote)?);
-    Ok(())
+    let done = uses_tokens_up(&rt, alloc, &mut remote);
+    drop(remote);
+    done
 }
 
 fn keeps_a_stray(alloc: Global) -> Result<bool, OutOfMemory> {
     let mut remote = Bare {};
     let told = stat(alloc, &mut remote, 1, "/a")?;
-    Ok(refuses(&told, Code::Stale, 2) && strays(&told))
+    let is_so = refuses(&told, Code::Stale, 2) && strays(&told);
+    drop(told);
+    Ok(is_so)
 }
 
 #[test]

@@ -48,7 +48,9 @@ pub(crate) fn does<R: Remote>(
     requires room { EventHasRoom e }
 {
     let mut after = next;
-    let answer = peer(alloc, remote, &mut after, &e)?;
+    let answer = peer(alloc, remote, &mut after, &e);
+    drop(e);
+    let answer = answer?;
     Ok((answer, after))
 }
 
@@ -135,25 +137,37 @@ pub(crate) fn keep<R: Remote>(
 }
 
 fn put_file(alloc: Global, remote: &mut StoreRemote) -> Result<(), OutOfMemory> {
-    put(alloc, remote, 1, "/a", b"hello")?;
+    let told = put(alloc, remote, 1, "/a", b"hello")?;
+    drop(told);
     Ok(())
 }
 
 fn put_directory(alloc: Global, remote: &mut StoreRemote) -> Result<(), OutOfMemory> {
-    make_dir(alloc, remote, 2, "/d")?;
+    let told = make_dir(alloc, remote, 2, "/d")?;
+    drop(told);
     Ok(())
 }
 
 fn put_file_below(alloc: Global, remote: &mut StoreRemote) -> Result<(), OutOfMemory> {
-    put(alloc, remote, 3, "/d/f", b"a")?;
+    let told = put(alloc, remote, 3, "/d/f", b"a")?;
+    drop(told);
     Ok(())
+}
+
+fn stock(alloc: Global, remote: &mut StoreRemote) -> Result<(), OutOfMemory> {
+    put_file(alloc, remote)?;
+    put_directory(alloc, remote)?;
+    put_file_below(alloc, remote)
 }
 
 // A file `/a`, and a directory `/d` with a file `f`.
 pub(crate) fn stocked(alloc: Global) -> Result<StoreRemote, OutOfMemory> {
     let mut remote = StoreRemote::new(alloc)?;
-    put_file(alloc, &mut remote)?;
-    put_directory(alloc, &mut remote)?;
-    put_file_below(alloc, &mut remote)?;
-    Ok(remote)
+    match stock(alloc, &mut remote) {
+        Ok(()) => Ok(remote),
+        Err(error) => {
+            drop(remote);
+            Err(error)
+        }
+    }
 }

@@ -5,6 +5,7 @@ ghost use Rattle.std.specs.Prelude.{◌<◌, ◌^◌, length};
 use cf_base::{Blob, Key, Reply, Request, Rid, Token, Version, Why};
 use cf_remote::{AskError, FlakyRemote, Remote, StoreRemote};
 use std::alloc::Global;
+use std::process::Abort;
 use std::test::Fail;
 
 const KEY: Key = Key {
@@ -27,15 +28,19 @@ fn put<R: Remote>(
 ) -> Result<Reply, AskError>
     requires { length bytes.now < 2 ^ 32 }
 {
+    let name = Blob::from_slice(alloc, b"a")?;
+    let bytes = Blob::from_slice(alloc, bytes)?;
     let q = Request::Put {
         token: token(number),
         rid: Rid(rid),
         expect: Version(expect),
         parent: Rid(1),
-        name: Blob::from_slice(alloc, b"a")?,
-        bytes: Blob::from_slice(alloc, bytes)?,
+        name,
+        bytes,
     };
-    remote.ask(&q)
+    let reply = remote.ask(&q);
+    drop(q);
+    reply
 }
 
 fn fetch<R: Remote>(remote: &mut R, version: u64) -> Result<Reply, AskError> {
@@ -46,7 +51,9 @@ fn fetch<R: Remote>(remote: &mut R, version: u64) -> Result<Reply, AskError> {
         start: 0,
         len: 2,
     };
-    remote.ask(&q)
+    let reply = remote.ask(&q);
+    drop(q);
+    reply
 }
 
 fn is_done(reply: &Reply, rid: u64, version: u64) -> bool {
@@ -76,27 +83,39 @@ fn tells(reply: &Reply, expected: &[u8]) -> bool {
 
 fn makes_a_file(alloc: Global, remote: &mut StoreRemote) -> Result<bool, AskError> {
     let reply = put(alloc, remote, 1, 0, 0, b"aa")?;
-    Ok(is_done(&reply, 2, 1))
+    let is_so = is_done(&reply, 2, 1);
+    drop(reply);
+    Ok(is_so)
 }
 
 fn makes_a_version(alloc: Global, remote: &mut StoreRemote) -> Result<bool, AskError> {
     let reply = put(alloc, remote, 2, 2, 1, b"bb")?;
-    Ok(is_done(&reply, 2, 2))
+    let is_so = is_done(&reply, 2, 2);
+    drop(reply);
+    Ok(is_so)
 }
 
 fn makes_none_of_the_first(alloc: Global, remote: &mut StoreRemote) -> Result<bool, AskError> {
     let reply = put(alloc, remote, 3, 2, 1, b"cc")?;
-    Ok(is_refused(&reply, Why::Conflict))
+    let is_so = is_refused(&reply, Why::Conflict);
+    drop(reply);
+    Ok(is_so)
+}
+
+fn makes_versions(rt: &impl Abort, alloc: Global, remote: &mut StoreRemote) -> Result<(), Fail> {
+    assert!(rt; makes_a_file(alloc, remote)?);
+    assert!(rt; makes_a_version(alloc, remote)?);
+    assert!(rt; makes_none_of_the_first(alloc, remote)?);
+    Ok(())
 }
 
 #[test]
 fn versions_are_made(rt: HostRuntime) -> Result<(), Fail> {
     let alloc = rt.alloc();
     let mut remote = StoreRemote::new(alloc)?;
-    assert!(rt; makes_a_file(alloc, &mut remote)?);
-    assert!(rt; makes_a_version(alloc, &mut remote)?);
-    assert!(rt; makes_none_of_the_first(alloc, &mut remote)?);
-    Ok(())
+    let done = makes_versions(&rt, alloc, &mut remote);
+    drop(remote);
+    done
 }
 
 fn keep_the_last(remote: &mut StoreRemote) -> Result<(), AskError> {
@@ -104,41 +123,65 @@ fn keep_the_last(remote: &mut StoreRemote) -> Result<(), AskError> {
         token: token(3),
         count: 1,
     };
-    remote.ask(&keep)?;
+    let reply = remote.ask(&keep);
+    drop(keep);
+    let reply = reply?;
+    drop(reply);
     Ok(())
+}
+
+fn keep_versions(alloc: Global, remote: &mut StoreRemote) -> Result<(), AskError> {
+    makes_a_file(alloc, remote)?;
+    makes_a_version(alloc, remote)?;
+    keep_the_last(remote)
 }
 
 // Two versions of a file, of which the last is held.
 fn kept(alloc: Global) -> Result<StoreRemote, AskError> {
     let mut remote = StoreRemote::new(alloc)?;
-    makes_a_file(alloc, &mut remote)?;
-    makes_a_version(alloc, &mut remote)?;
-    keep_the_last(&mut remote)?;
-    Ok(remote)
+    match keep_versions(alloc, &mut remote) {
+        Ok(()) => Ok(remote),
+        Err(error) => {
+            drop(remote);
+            Err(error)
+        }
+    }
 }
 
 fn lost_the_first(remote: &mut StoreRemote) -> Result<bool, AskError> {
     let reply = fetch(remote, 1)?;
-    Ok(matches!(reply, Reply::Gone { .. }))
+    let is_so = matches!(reply, Reply::Gone { .. });
+    drop(reply);
+    Ok(is_so)
 }
 
 fn holds_the_last<R: Remote>(remote: &mut R) -> Result<bool, AskError> {
     let reply = fetch(remote, 2)?;
-    Ok(tells(&reply, b"bb"))
+    let is_so = tells(&reply, b"bb");
+    drop(reply);
+    Ok(is_so)
 }
 
 fn misses_the_next(remote: &mut StoreRemote) -> Result<bool, AskError> {
     let reply = fetch(remote, 3)?;
-    Ok(matches!(reply, Reply::Missing { .. }))
+    let is_so = matches!(reply, Reply::Missing { .. });
+    drop(reply);
+    Ok(is_so)
+}
+
+fn holds_one_version(rt: &impl Abort, remote: &mut StoreRemote) -> Result<(), Fail> {
+    assert!(rt; lost_the_first(remote)?);
+    assert!(rt; holds_the_last(remote)?);
+    assert!(rt; misses_the_next(remote)?);
+    Ok(())
 }
 
 #[test]
 fn the_last_version_is_held(rt: HostRuntime) -> Result<(), Fail> {
     let mut remote = kept(rt.alloc())?;
-    assert!(rt; lost_the_first(&mut remote)?);
-    assert!(rt; holds_the_last(&mut remote)?);
-    assert!(rt; misses_the_next(&mut remote)?);
-    Ok(())
+    let done = holds_one_version(&rt, &mut remote);
+    drop(remote);
+    done
 }
 
 // The second ask fails.
@@ -151,11 +194,17 @@ fn fails(remote: &mut FlakyRemote) -> bool {
     matches!(fetch(remote, 2), Err(AskError::Fault))
 }
 
+fn fails_once(rt: &impl Abort, remote: &mut FlakyRemote) -> Result<(), Fail> {
+    assert!(rt; holds_the_last(remote)?);
+    assert!(rt; fails(remote));
+    assert!(rt; holds_the_last(remote)?);
+    Ok(())
+}
+
 #[test]
 fn a_listed_call_fails(rt: HostRuntime) -> Result<(), Fail> {
     let mut remote = flaky(rt.alloc())?;
-    assert!(rt; holds_the_last(&mut remote)?);
-    assert!(rt; fails(&mut remote));
-    assert!(rt; holds_the_last(&mut remote)?);
-    Ok(())
+    let done = fails_once(&rt, &mut remote);
+    drop(remote);
+    done
 }
