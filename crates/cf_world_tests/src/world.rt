@@ -4,6 +4,7 @@ mod client;
 mod faults;
 mod lengths;
 mod migrations;
+mod openings;
 mod remotes;
 mod sinks;
 mod stops;
