@@ -7,7 +7,7 @@ use Rattle.cf_base.specs.declared.events.Event.{Event}
 use Rattle.cf_base.specs.declared.events.Event.TheVariants as event
 use Rattle.cf_base.specs.declared.events.PeerEvent.TheVariants as peer
 use Rattle.cf_base.specs.declared.policies.Choice.TheVariants as crash
-use Rattle.cf_check_model.specs.Rows.{line}
+use Rattle.cf_check_model.specs.Rows.{first_handle, line}
 
 -- a file is made and flushed, the power is cut, and the volume is opened again
 abbrev pub flushed : List Event
@@ -46,3 +46,48 @@ bad_path = event.Peer (peer.MakeDir (codes "/")) ∷ []
 
 abbrev pub flush_alone : List Event
 flush_alone = event.Call call.Flush ∷ []
+
+-- what was made since the last flush is not there after a restart
+abbrev pub unflushed : List Event
+unflushed = event.Call (call.Create (codes "/n")) ∷ event.Device (device.Crash crash.Keep) ∷ event.Device device.Restart ∷ []
+
+abbrev pub before_opening : List ℕ
+before_opening = line (codes "- change 1.1 make 2 1 n file 0 -") ++ line (codes "= ok 2") ++ line (codes "= ok")
+
+-- a volume of one cluster, in which a write may need a commit for room
+abbrev pub written : List Event
+written =
+    event.Call (call.Create (codes "/n"))
+    ∷ event.Call (call.Open (codes "/n"))
+    ∷ event.Call (call.Write first_handle 0 (codes "a"))
+    ∷ event.Device (device.Crash crash.Drop)
+    ∷ event.Device device.Restart
+    ∷ []
+
+abbrev pub written_report : List ℕ
+written_report =
+    line (codes "- change 1.1 make 2 1 n file 0 -")
+    ++ line (codes "= ok 2")
+    ++ line (codes "= ok 1.1")
+    ++ line (codes "- change 1.2 write 2 0 1")
+    ++ line (codes "= ok")
+    ++ line (codes "= ok")
+    ++ line (codes "= resumed 0")
+
+-- the second request of a sync fails
+abbrev pub upload_fails : List Event
+upload_fails = event.Call (call.Mkdir (codes "/d")) ∷ event.Engine engine.Work ∷ []
+
+abbrev pub upload_report : List ℕ
+upload_report =
+    line (codes "- change 1.1 make 2 1 d dir 0 -")
+    ++ line (codes "= ok 2")
+    ++ line (codes "- sent 1 feed")
+    ++ line (codes "- sent 2 reply 1")
+    ++ line (codes "- change 1.2 convert 2 000000000000000000000000000000000000000000000000")
+    ++ line (codes "- sent 3 mkdir")
+    ++ line (codes "- fault 3")
+    ++ line (codes "= ok")
+
+abbrev pub restart_alone : List Event
+restart_alone = event.Device device.Restart ∷ []

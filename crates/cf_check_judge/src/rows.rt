@@ -1,8 +1,8 @@
 //! Worked reports.
 
-ghost use Rattle.std.specs.Prelude.{◌≡◌, ◌++◌, Some, codes};
+ghost use Rattle.std.specs.Prelude.{◌≡◌, ◌++◌, None, Some, codes};
 ghost use Rattle.cf_check_judge.specs.Judge.{judge};
-ghost use Rattle.cf_check_judge.specs.Rows.{bad_path, before_restart, failing, failing_report, flush_alone, flushed};
+ghost use Rattle.cf_check_judge.specs.Rows.{bad_path, before_opening, before_restart, failing, failing_report, flush_alone, flushed, restart_alone, unflushed, upload_fails, upload_report, written, written_report};
 ghost use Rattle.cf_check_model.specs.Reports.{device_line};
 ghost use Rattle.cf_check_model.specs.Rows.{before_last, changed_report, inline_read, line, read_report};
 ghost use Rattle.cf_check_model.specs.declared.verdicts.Verdict.TheVariants.{Lawful, Unlawful, Undecided};
@@ -39,4 +39,22 @@ pub fn a_failing_remote_is_followed()
 pub fn a_fault_that_cannot_be_is_found()
     ensures path { judge bad_path (line (codes "= refused RemoteFault")) 15616 ≡ Some (Unlawful 1) }
     ensures flush { judge flush_alone (line (codes "= refused RemoteFault")) 15616 ≡ Some (Unlawful 1) }
+{}
+
+/// A restart of a running volume is refused, and what was not flushed is gone after one of a volume that was off.
+pub fn what_was_not_flushed_is_gone()
+    ensures running { judge restart_alone (line (codes "= refused Running")) 15616 ≡ Some Lawful }
+    ensures gone { judge unflushed (before_opening ++ line (codes "= resumed 0")) 15616 ≡ Some Lawful }
+    ensures there { judge unflushed (before_opening ++ line (codes "= resumed 1")) 15616 ≡ Some (Unlawful 3) }
+    ensures flushed { judge flushed (before_restart ++ line (codes "= resumed 0")) 15616 ≡ Some (Unlawful 5) }
+{}
+
+/// Where a commit for room may have been made, the judge gives up at a restart.
+pub fn the_judge_gives_up_where_room_was_short()
+    ensures { judge written written_report 1 ≡ None }
+{}
+
+/// A request in the middle of an event fails.
+pub fn a_failing_upload_is_followed()
+    ensures { judge upload_fails upload_report 15616 ≡ Some Lawful }
 {}
