@@ -91,3 +91,20 @@ upload_report =
 
 abbrev pub restart_alone : List Event
 restart_alone = event.Device device.Restart ∷ []
+
+-- a failure without a request
+abbrev pub early_fault : List ℕ
+early_fault =
+    line (codes "- change 1.1 make 2 1 d dir 0 -")
+    ++ line (codes "= ok 2")
+    ++ line (codes "- fault 1")
+    ++ line (codes "= ok")
+
+-- a request that is told as another's failure
+abbrev pub later_fault : List ℕ
+later_fault =
+    line (codes "- change 1.1 make 2 1 d dir 0 -")
+    ++ line (codes "= ok 2")
+    ++ line (codes "- sent 1 feed")
+    ++ line (codes "- fault 2")
+    ++ line (codes "= ok")

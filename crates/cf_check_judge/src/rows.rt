@@ -2,7 +2,7 @@
 
 ghost use Rattle.std.specs.Prelude.{◌≡◌, ◌++◌, None, Some, codes};
 ghost use Rattle.cf_check_judge.specs.Judge.{judge};
-ghost use Rattle.cf_check_judge.specs.Rows.{bad_path, before_opening, before_restart, failing, failing_report, flush_alone, flushed, restart_alone, unflushed, upload_fails, upload_report, written, written_report};
+ghost use Rattle.cf_check_judge.specs.Rows.{bad_path, before_opening, before_restart, early_fault, failing, failing_report, flush_alone, flushed, later_fault, restart_alone, unflushed, upload_fails, upload_report, written, written_report};
 ghost use Rattle.cf_check_model.specs.Reports.{device_line};
 ghost use Rattle.cf_check_model.specs.Rows.{before_last, changed_report, inline_read, line, read_report};
 ghost use Rattle.cf_check_model.specs.declared.verdicts.Verdict.TheVariants.{Lawful, Unlawful, Undecided};
@@ -57,4 +57,10 @@ pub fn the_judge_gives_up_where_room_was_short()
 /// A request in the middle of an event fails.
 pub fn a_failing_upload_is_followed()
     ensures { judge upload_fails upload_report 15616 ≡ Some Lawful }
+{}
+
+/// A failure that no request had is found.
+pub fn a_failure_without_a_request_is_found()
+    ensures early { judge upload_fails early_fault 15616 ≡ Some (Unlawful 2) }
+    ensures other { judge upload_fails later_fault 15616 ≡ Some (Unlawful 2) }
 {}

@@ -12,6 +12,7 @@ use Rattle.cf_base.specs.declared.notices.Notice.TheVariants as notice
 use Rattle.cf_base.specs.declared.events.Event.{Event}
 use Rattle.cf_base.specs.declared.events.Event.TheVariants as event
 use Rattle.cf_base.specs.declared.events.PeerEvent.{PeerEvent}
+use Rattle.cf_base.specs.declared.messages.Reply.{Reply}
 use Rattle.cf_base.specs.declared.notices.Sent.{Sent}
 use Rattle.std.specs.Prelude.{None}
 use Rattle.cf_base.specs.declared.policies.Mode.TheVariants as mode
@@ -83,9 +84,16 @@ fault_then m s rest false more is h b =
     not_here (begins (codes "- sent ") rest) (begins (codes "- lost ") rest) h
     (elim (message s) as (λ _. (begins (codes "- sent ") rest ≡ true) ⊎ (begins (codes "- lost ") rest ≡ true)) [ inl x ↦ inl (longer (codes "- sent ") (notice_line (notice.Message s)) rest x b) | inr x ↦ inr (longer (codes "- lost ") (notice_line (notice.Message s)) rest x b) ])
 
-message_then : (m : ℕ) (s : Sent) (rest : List ℕ) (here : Bool) (more : Bool) → begins (notice_line (notice.Message s)) rest ≡ here → cond here more (differs_plainly (notice.Message s) rest) ≡ true → Begins rest (notice_line (notice.Fault m)) → ⊥
-message_then m s rest true more is h b = clash_no_meet (notice_line (notice.Fault m)) (notice_line (notice.Message s)) (fault_or_message m s) (rest, b, begins_so (notice_line (notice.Message s)) rest is)
-message_then m s rest false more is h b =
+-- a reply to request m, as message k
+abbrev reply_of : ℕ → ℕ → Reply → Bool → Sent
+reply_of k m r lost = record { message = k; frame = frame.Reply m r; lost = lost }
+
+abbrev reply_line : ℕ → ℕ → Reply → Bool → Notice
+reply_line k m r lost = notice.Message (reply_of k m r lost)
+
+message_then : (m : ℕ) (k : ℕ) (r : Reply) (lost : Bool) (rest : List ℕ) (here : Bool) (more : Bool) → begins (notice_line (reply_line k m r lost)) rest ≡ here → cond here more (differs_plainly (reply_line k m r lost) rest) ≡ true → Begins rest (notice_line (notice.Fault m)) → ⊥
+message_then m k r lost rest true more is h b = clash_no_meet (notice_line (notice.Fault m)) (notice_line (reply_line k m r lost)) (fault_or_message m (reply_of k m r lost)) (rest, b, begins_so (notice_line (reply_line k m r lost)) rest is)
+message_then m k r lost rest false more is h b =
     let fault : begins (codes "- fault ") rest ≡ true = longer (codes "- fault ") (notice_line (notice.Fault m)) rest refl b in
     let z : not true ≡ true = ap not (sym fault) ∙ h in
     let bad : false ≡ true = z in absurd cc
@@ -103,12 +111,12 @@ no_message (n ∷ before) after m s rest h b =
     let x = past n (before ++ notice.Fault m ∷ after) rest (flat_map notice_line before ++ notice_line (notice.Message s)) h b' in
     no_message before after m s (drop (length (notice_line n)) rest) x.0 x.1
 
-no_failure : (before after : List Notice) (m : ℕ) (s : Sent) (rest : List ℕ) → meets_lines (before ++ notice.Message s ∷ after) rest ≡ true → Begins rest (flat_map notice_line before ++ notice_line (notice.Fault m)) → ⊥
-no_failure [] after m s rest h b = message_then m s rest (begins (notice_line (notice.Message s)) rest) (meets_lines after (drop (length (notice_line (notice.Message s))) rest)) refl h b
-no_failure (n ∷ before) after m s rest h b =
+no_failure : (before after : List Notice) (m : ℕ) (k : ℕ) (r : Reply) (lost : Bool) (rest : List ℕ) → meets_lines (before ++ reply_line k m r lost ∷ after) rest ≡ true → Begins rest (flat_map notice_line before ++ notice_line (notice.Fault m)) → ⊥
+no_failure [] after m k r lost rest h b = message_then m k r lost rest (begins (notice_line (reply_line k m r lost)) rest) (meets_lines after (drop (length (notice_line (reply_line k m r lost))) rest)) refl h b
+no_failure (n ∷ before) after m k r lost rest h b =
     let b' : Begins rest (notice_line n ++ (flat_map notice_line before ++ notice_line (notice.Fault m))) = (b.0, b.1 ∙ ap (λ (ys : List ℕ). ys ++ b.0) (append_assoc (notice_line n) (flat_map notice_line before) (notice_line (notice.Fault m)))) in
-    let x = past n (before ++ notice.Message s ∷ after) rest (flat_map notice_line before ++ notice_line (notice.Fault m)) h b' in
-    no_failure before after m s (drop (length (notice_line n)) rest) x.0 x.1
+    let x = past n (before ++ reply_line k m r lost ∷ after) rest (flat_map notice_line before ++ notice_line (notice.Fault m)) h b' in
+    no_failure before after m k r lost (drop (length (notice_line n)) rest) x.0 x.1
 
 -- results
 
@@ -137,7 +145,7 @@ result_so a b rest h of begun =
 pub meets_so : (a : Answer) (rest : List ℕ) → meets_lines a.notes rest ≡ true → MeetsFaults a rest
 meets_so a rest h = record {
   no_reply = λ before after m n r lost is b. no_message before after m (record { message = n; frame = frame.Reply m r; lost = lost }) rest (subst (λ (ns : List Notice). meets_lines ns rest ≡ true) is h) b;
-  no_fault = λ before after m n r lost is b. no_failure before after m (record { message = n; frame = frame.Reply m r; lost = lost }) rest (subst (λ (ns : List Notice). meets_lines ns rest ≡ true) is h) b;
+  no_fault = λ before after m n r lost is b. no_failure before after m n r lost rest (subst (λ (ns : List Notice). meets_lines ns rest ≡ true) is h) b;
 }
 
 not_one : (x y : Bool) → x ≡ y → ((x ≡ true) × (y ≡ false)) ⊎ ((y ≡ true) × (x ≡ false)) → ⊥

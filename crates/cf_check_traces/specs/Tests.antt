@@ -1,5 +1,5 @@
 -- Tests of how a report goes on, beside an answer.
-use Rattle.std.specs.Prelude.{ℕ, Bool, true, false, not, cond, List, [], ◌∷◌, ◌==◌, ◌&&◌, codes, drop, length}
+use Rattle.std.specs.Prelude.{ℕ, Bool, true, false, not, cond, List, [], ◌∷◌, ◌==◌, ◌&&◌, ◌||◌, codes, drop, length}
 use Rattle.std.specs.List.{flat_map}
 use Rattle.cf_base.specs.declared.answers.Answer.{Answer}
 use Rattle.cf_base.specs.declared.answers.Shown.{Shown}
@@ -9,6 +9,8 @@ use Rattle.cf_base.specs.declared.codes.Code.TheVariants as code
 use Rattle.cf_base.specs.declared.events.DeviceEvent.TheVariants as device
 use Rattle.cf_base.specs.declared.events.Event.{Event}
 use Rattle.cf_base.specs.declared.events.Event.TheVariants as event
+use Rattle.cf_base.specs.declared.notices.Frame.{Frame}
+use Rattle.cf_base.specs.declared.notices.Frame.TheVariants as frame
 use Rattle.cf_base.specs.declared.notices.Notice.{Notice}
 use Rattle.cf_base.specs.declared.notices.Notice.TheVariants as notice
 use Rattle.cf_check_ways.specs.Ways.{is_fault}
@@ -20,10 +22,15 @@ begins [] text = true
 begins (b ∷ bs) [] = false
 begins (b ∷ bs) (c ∷ cs) = (b == c) && begins bs cs
 
+-- no reply: its request has no line yet, so nothing has failed
+abbrev pub is_request : Frame → Bool
+is_request (frame.Request k) = true
+is_request (frame.Reply m r) = false
+
 -- where the report does not go on with the line, it does not go on with the other way that the remote may have taken
 abbrev pub differs_plainly : Notice → List ℕ → Bool
 differs_plainly (notice.Fault m) rest = not (begins (codes "- sent ") rest) && not (begins (codes "- lost ") rest)
-differs_plainly (notice.Message s) rest = not (begins (codes "- fault ") rest)
+differs_plainly (notice.Message s) rest = is_request s.frame || not (begins (codes "- fault ") rest)
 differs_plainly _ rest = true
 
 abbrev pub meets_lines : List Notice → List ℕ → Bool
