@@ -1,3 +1,4 @@
 pub mod Bytes
 pub mod Judge
+pub mod Own
 pub mod Rows

@@ -1,10 +1,12 @@
 //! Worked reports.
 
-ghost use Rattle.std.specs.Prelude.{◌≡◌, ◌++◌, None, Some, codes};
+ghost use Rattle.std.specs.Prelude.{◌≡◌, ◌++◌, ◌∷◌, List, [], None, Some, codes};
 ghost use Rattle.cf_check_judge.specs.Judge.{judge};
+ghost use Rattle.cf_check_judge.specs.Own.{fails_second, of_calls, of_device, of_engine, of_link, of_link_later, of_more_calls, own_verdict};
 ghost use Rattle.cf_check_judge.specs.Rows.{bad_path, before_opening, before_restart, early_fault, failing, failing_report, flush_alone, flushed, later_fault, restart_alone, unflushed, upload_fails, upload_report, written, written_report};
 ghost use Rattle.cf_check_model.specs.Reports.{device_line};
 ghost use Rattle.cf_check_model.specs.Rows.{before_last, changed_report, inline_read, line, read_report};
+ghost use Rattle.cf_model.specs.Trees.{Faults};
 ghost use Rattle.cf_check_model.specs.declared.verdicts.Verdict.TheVariants.{Lawful, Unlawful, Undecided};
 
 /// The report of a script is lawful.
@@ -63,4 +65,26 @@ pub fn a_failing_upload_is_followed()
 pub fn a_failure_without_a_request_is_found()
     ensures early { judge upload_fails early_fault 15616 ≡ Some (Unlawful 2) }
     ensures other { judge upload_fails later_fault 15616 ≡ Some (Unlawful 2) }
+{}
+
+/// The reports of runs of the definitions are lawful, and the judge gives up on none of them.
+pub fn own_reports_are_found_lawful()
+    ensures calls { own_verdict [] of_calls ≡ Some Lawful }
+    ensures engine { own_verdict [] of_engine ≡ Some Lawful }
+    ensures link { own_verdict [] of_link ≡ Some Lawful }
+    ensures link_later { own_verdict [] of_link_later ≡ Some Lawful }
+    ensures more_calls { own_verdict [] of_more_calls ≡ Some Lawful }
+    ensures device { own_verdict [] of_device ≡ Some Lawful }
+{}
+
+/// So are those of runs in which the remote fails.
+pub fn own_reports_of_failing_remotes_are_found_lawful()
+    ensures engine { own_verdict (Faults ∷ []) of_engine ≡ Some Lawful }
+    ensures engine_later { own_verdict fails_second of_engine ≡ Some Lawful }
+    ensures link { own_verdict (Faults ∷ []) of_link ≡ Some Lawful }
+    ensures link_later { own_verdict (Faults ∷ []) of_link_later ≡ Some Lawful }
+    ensures link_second { own_verdict fails_second of_link_later ≡ Some Lawful }
+    ensures more_calls { own_verdict (Faults ∷ []) of_more_calls ≡ Some Lawful }
+    ensures more_calls_second { own_verdict fails_second of_more_calls ≡ Some Lawful }
+    ensures device { own_verdict fails_second of_device ≡ Some Lawful }
 {}
