@@ -4,13 +4,11 @@
 -- may open one point alone.
 use Rattle.std.specs.Prelude.{ℕ, Bool, true, false, not, List, [], ◌∷◌, ◌+◌, ◌&&◌, ◌==◌, Option, Some, None, cond, codes, drop, length, slice_get, nat_le, ◌||◌}
 use Rattle.cf_base.specs.declared.answers.Answer.{Answer}
-use Rattle.cf_base.specs.declared.answers.Shown.TheVariants as shown
-use Rattle.cf_base.specs.declared.codes.Code.TheVariants as code
 use Rattle.cf_base.specs.declared.events.EngineEvent.TheVariants as engine
 use Rattle.cf_base.specs.declared.events.Event.{Event}
 use Rattle.cf_base.specs.declared.events.Event.TheVariants as event
 use Rattle.cf_base.specs.declared.policies.Mode.TheVariants as mode
-use Rattle.cf_check_traces.specs.Tests.{begins, is_device, is_restart, meets_alone, meets_lines}
+use Rattle.cf_check_traces.specs.Tests.{begins, fault_line_of_peer, is_device, is_restart, meets_alone, meets_lines}
 use Rattle.cf_check_text.specs.Clean.{is_clean}
 use Rattle.cf_check_ways.specs.Ways.{is_fault, is_good}
 use Rattle.cf_check_judge.specs.Bytes.{same_bytes}
@@ -23,7 +21,7 @@ use Rattle.cf_model.specs.State.{State, start}
 use Rattle.cf_model.specs.Store.{empty_remote}
 use Rattle.cf_model.specs.Trees.{AsItKeeps, Choices, Faults, Telling}
 use Rattle.cf_model.specs.Words.{is_empty}
-use Rattle.cf_report.specs.Texts.{result_line, text}
+use Rattle.cf_report.specs.Texts.{text}
 
 -- texts
 
@@ -67,7 +65,7 @@ tellings_in [] = []
 tellings_in (line ∷ lines) = cond (is_request_line line) (telling_of (is_fault_next lines) ∷ tellings_in lines) (tellings_in lines)
 
 abbrev pub is_peer_fault : List ℕ → Bool
-is_peer_fault rest = is_line (result_line (shown.Refused code.RemoteFault)) (first_result rest)
+is_peer_fault rest = begins fault_line_of_peer rest
 
 abbrev pub tellings_for : Event → List ℕ → List Telling
 tellings_for (event.Peer e) rest = telling_of (is_peer_fault rest) ∷ []

@@ -108,3 +108,11 @@ later_fault =
     ++ line (codes "- sent 1 feed")
     ++ line (codes "- fault 2")
     ++ line (codes "= ok")
+
+-- a line that an event of another device does not have
+abbrev pub make_alone : List Event
+make_alone = event.Peer (peer.MakeDir (codes "/d")) ∷ []
+
+-- a report that ends in the line of a failure
+abbrev pub cut_at_fault : List ℕ
+cut_at_fault = line (codes "= ok 2 0") ++ line (codes "- sent 1 feed") ++ codes "- fault 1"

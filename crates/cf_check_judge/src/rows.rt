@@ -3,7 +3,7 @@
 ghost use Rattle.std.specs.Prelude.{◌≡◌, ◌++◌, ◌∷◌, List, [], None, Some, codes};
 ghost use Rattle.cf_check_judge.specs.Judge.{judge};
 ghost use Rattle.cf_check_judge.specs.Own.{fails_second, of_calls, of_device, of_engine, of_link, of_link_later, of_more_calls, own_verdict};
-ghost use Rattle.cf_check_judge.specs.Rows.{bad_path, before_opening, before_restart, early_fault, failing, failing_report, flush_alone, flushed, later_fault, restart_alone, unflushed, upload_fails, upload_report, written, written_report};
+ghost use Rattle.cf_check_judge.specs.Rows.{bad_path, before_opening, before_restart, cut_at_fault, early_fault, failing, failing_report, flush_alone, flushed, later_fault, make_alone, restart_alone, unflushed, upload_fails, upload_report, written, written_report};
 ghost use Rattle.cf_check_model.specs.Reports.{device_line};
 ghost use Rattle.cf_check_model.specs.Rows.{before_last, changed_report, inline_read, line, read_report};
 ghost use Rattle.cf_model.specs.Trees.{Faults};
@@ -87,4 +87,10 @@ pub fn own_reports_of_failing_remotes_are_found_lawful()
     ensures more_calls { own_verdict (Faults ∷ []) of_more_calls ≡ Some Lawful }
     ensures more_calls_second { own_verdict fails_second of_more_calls ≡ Some Lawful }
     ensures device { own_verdict fails_second of_device ≡ Some Lawful }
+{}
+
+/// A line before the result of another device is found, and a report that ends in the line of a failure.
+pub fn a_line_too_many_is_found()
+    ensures peer { judge make_alone (line (codes "- fault 1") ++ line (codes "= refused RemoteFault")) 15616 ≡ Some (Unlawful 1) }
+    ensures cut { judge failing cut_at_fault 15616 ≡ Some (Unlawful 2) }
 {}
