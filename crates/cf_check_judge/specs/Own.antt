@@ -114,3 +114,19 @@ of_more_calls =
     ∷ event.Device device.Restart
     ∷ event.Engine engine.Sync
     ∷ []
+
+-- a held reply that comes under an inline link
+abbrev pub of_reply_later : List Event
+of_reply_later =
+    event.Engine (engine.Link false)
+    ∷ event.Call (call.Mkdir (codes "/d"))
+    ∷ event.Call (call.Create (codes "/f"))
+    ∷ event.Engine engine.Work
+    ∷ event.Engine (engine.Deliver 1)
+    ∷ event.Engine (engine.Arrive 1)
+    ∷ event.Engine (engine.Link true)
+    ∷ event.Engine (engine.Deliver 2)
+    ∷ event.Engine (engine.Arrive 2)
+    ∷ event.Engine (engine.Arrive 3)
+    ∷ event.Engine engine.Work
+    ∷ []

@@ -2,7 +2,7 @@
 
 ghost use Rattle.std.specs.Prelude.{◌≡◌, ◌++◌, ◌∷◌, List, [], None, Some, codes};
 ghost use Rattle.cf_check_judge.specs.Judge.{judge};
-ghost use Rattle.cf_check_judge.specs.Own.{fails_second, of_calls, of_device, of_engine, of_link, of_link_later, of_more_calls, own_verdict};
+ghost use Rattle.cf_check_judge.specs.Own.{fails_second, of_calls, of_device, of_engine, of_link, of_link_later, of_more_calls, of_reply_later, own_verdict};
 ghost use Rattle.cf_check_judge.specs.Rows.{bad_path, before_opening, before_restart, cut_at_fault, early_fault, failing, failing_report, flush_alone, flushed, later_fault, make_alone, restart_alone, unflushed, upload_fails, upload_report, written, written_report};
 ghost use Rattle.cf_check_model.specs.Reports.{device_line};
 ghost use Rattle.cf_check_model.specs.Rows.{before_last, changed_report, inline_read, line, read_report};
@@ -74,6 +74,7 @@ pub fn own_reports_are_found_lawful()
     ensures link { own_verdict [] of_link ≡ Some Lawful }
     ensures link_later { own_verdict [] of_link_later ≡ Some Lawful }
     ensures more_calls { own_verdict [] of_more_calls ≡ Some Lawful }
+    ensures reply_later { own_verdict [] of_reply_later ≡ Some Lawful }
     ensures device { own_verdict [] of_device ≡ Some Lawful }
 {}
 
@@ -86,6 +87,8 @@ pub fn own_reports_of_failing_remotes_are_found_lawful()
     ensures link_second { own_verdict fails_second of_link_later ≡ Some Lawful }
     ensures more_calls { own_verdict (Faults ∷ []) of_more_calls ≡ Some Lawful }
     ensures more_calls_second { own_verdict fails_second of_more_calls ≡ Some Lawful }
+    ensures reply_later { own_verdict (Faults ∷ []) of_reply_later ≡ Some Lawful }
+    ensures reply_second { own_verdict fails_second of_reply_later ≡ Some Lawful }
     ensures device { own_verdict fails_second of_device ≡ Some Lawful }
 {}
 
