@@ -3,7 +3,7 @@
 
 The table is filled up to a number of bytes by files with long names, in a directory that is excluded from uploads. Then comes a sync, or
 a listing, that needs more: with no room at all first, then with one byte more each time, until nothing is left out. So each change and
-each record of it is refused for room in its turn. At the end one of those files is deleted, and another sync has to bring all about. Where
+each record of it is refused for room in its turn. Once the remote is full, too. At the end one of those files is deleted, and another sync has to bring all about. Where
 other lines came than before, the bytes that a power cut leaves have to be judged clean. With another program that has the same command
 line the two reports have to be the same. `--every N` takes each Nth number of bytes. Prints which lines came with how much room, and what does not hold, and ends with status
 1 where there was something.
@@ -16,6 +16,8 @@ import sys
 # The most bytes of a volume's image, and those of its header, of a row and of an auxiliary record besides texts.
 IMAGE, HEADER, ROW, RECORD = 1_306_624, 41, 74, 3
 NAME = 255
+# The most items of the remote, the root counted.
+REMOTE = 10_000
 
 # What stands before the table is full, what is done with little room, and the bytes of the image by then: those of the rows with their
 # texts, of runs and of records.
@@ -126,6 +128,19 @@ class Tries:
                 print(f"{name}, from {begin} bytes on: {last}")
                 return
 
+    def remote(self):
+        """A file that finds no room in the remote, which has as many items as it may, until one of them is removed."""
+        items = [f"peer put /d/{n} -" for n in range(REMOTE - 2)]
+        script = ["policy partial full", "peer mkdir /d", *items, "create /n", "sync", "peer remove /d/0", "sync"]
+        source = "\n".join(script).encode() + b"\n"
+        ran = run(self.program, "replay", source)
+        self.runs += 1
+        events = answers(ran.stdout)
+        if len(events) != len(script) or "- skipped Quota" not in events[-3] or events[-1][-1] != "= ok 0":
+            self.complain(f"a full remote: {events[-3:]}")
+        if self.other and run(self.other, "replay", source).stdout != ran.stdout:
+            self.complain("a full remote: the other program's report differs")
+
 
 def main():
     parser = argparse.ArgumentParser(description=__doc__, formatter_class=argparse.RawDescriptionHelpFormatter)
@@ -137,6 +152,8 @@ def main():
     tries = Tries(chosen.program, chosen.other)
     for name in [chosen.only] if chosen.only else CASES:
         tries.case(name, chosen.every)
+    if not chosen.only:
+        tries.remote()
     print(f"{tries.runs} runs, {tries.wrong} wrong")
     sys.exit(1 if tries.wrong else 0)
 
