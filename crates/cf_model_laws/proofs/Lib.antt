@@ -17,6 +17,7 @@ pub mod LocalSteps
 pub mod LoggedGuarded
 pub mod MadeUploads
 pub mod MarksGuarded
+pub mod DoneNames
 pub mod MessagesGuarded
 pub mod MoveChanges
 pub mod NamedItems

@@ -1,6 +1,6 @@
 -- Messages, and what their replies do, in `replay`.
 use Rattle.std.proofs.Common.{eq-eqb}
-use Rattle.std.proofs.Common.{is_some, ◌≡◌, ◌+◌, ℕ, zero, suc, Bool, true, false, List, [], ◌∷◌, ◌++◌, refl, sym, ◌∙◌, ap, subst, arith, length, ◌⊎◌, inl, inr}
+use Rattle.std.proofs.Common.{is_some, ◌≡◌, ◌+◌, ℕ, zero, suc, Bool, true, false, List, [], ◌∷◌, ◌++◌, refl, sym, ◌∙◌, ap, subst, arith, length, ◌⊎◌}
 use Rattle.std.specs.Prelude.{Option, Some, None, cond, not, take, drop, unwrap_or, slice_get, nat_le, nat_lt, ◌&&◌, ◌||◌, ◌==◌}
 use Rattle.std.specs.List.{list_all, list_any}
 use Rattle.std.proofs.lemmas.Bool.{eqb-true}
@@ -20,12 +20,12 @@ use Rattle.cf_base.specs.declared.notices.Frame.{Frame}
 use Rattle.cf_base.specs.declared.notices.Frame.TheVariants as frame
 use Rattle.cf_model.specs.Arrows.{Preserves}
 use Rattle.cf_model.specs.Books.{Action, MakeDir, MoveItem, PutFile, QueueEntry, RemoveItem, entry_of}
-use Rattle.cf_model.specs.Fits.{Known, are_distinct, are_entries, fits, is_entry, is_of_kind, done_fits, is_known, is_listing}
+use Rattle.cf_model.specs.Fits.{Known, are_distinct, are_entries, fits, is_entry, is_of_kind, is_listing}
 use Rattle.cf_model.specs.Identities.{base_bytes}
 use Rattle.cf_model.specs.Items.{Item}
 use Rattle.cf_model.specs.Logs.{items_of}
 use Rattle.cf_model.specs.Messages.{act_on, act_unless, after_ask, after_post, answered, ask, come, come_if, come_now, counted, distrusted, entry_live, fault_line, if_kept, is_latest_round, is_old, is_stale, known_now, no_bytes, no_number, post_by, post_unless, send_now, settled_rid, take_if_any, take_reply, with_entry, with_lost, with_message, with_remote}
-use Rattle.cf_model.specs.Numbers.{same_key, no_rid}
+use Rattle.cf_model.specs.Numbers.{same_key}
 use Rattle.cf_model.specs.PushReplies.{take_done, take_refused, take_void, is_new_entry}
 use Rattle.cf_model.specs.Requests.{Live, is_fetch, live_of}
 use Rattle.cf_model.specs.Soundness.{Each}
@@ -56,6 +56,7 @@ use Rattle.cf_model_laws.proofs.SoundSettles.{left_true, not_false, right_true}
 use Rattle.cf_model_laws.proofs.SoundStates.{small_before}
 use Rattle.cf_model_laws.proofs.EntriesAsked.{carries_asks}
 use Rattle.std.proofs.lemmas.Bool.Decides.{nat_tests}
+use Rattle.cf_model_laws.proofs.DoneNames.{done_low}
 
 -- what the remote is asked
 
@@ -235,58 +236,6 @@ listing_fits ks st (request.Move t rid parent name) key es e = no_way e
 listing_fits ks st (request.Remove t rid expect) key es e = no_way e
 listing_fits ks st (request.Settle t) key es e = no_way e
 listing_fits ks st (request.Keep t count) key es e = no_way e
-
--- a Done that fits names no root
-
-own_key : (s : State) (t token : Token) (e : QueueEntry) → entry_live s token ≡ Some e → same_key t.0 token.0 ≡ true → same_key t.0 e.token.0 ≡ true
-own_key s t token e live k =
-    let same : e.token ≡ token = same_token e.token token (all_found (λ q. Unit {0}) (λ q. same_key q.token.0 token.0) (book_now s).entries e live (all_any (λ q. Unit {0}) (λ q. tt) (book_now s).entries)).1 in
-    subst (λ (x : Token). same_key t.0 x.0 ≡ true) (sym same) k
-
-low_told : (ks : List Known) (asked told : Rid) → done_fits ks asked told ≡ true → (asked.0 ≡ 1 → ⊥) → told.0 ≡ 1 → ⊥
-low_told ks asked told e low z = by (asked.0 == 0) e where
-  small : (n : ℕ) → n ≡ 1 → nat_lt 1 n ≡ true → ⊥
-  small n z e = grind (arith, nat_tests, z, e)
-
-  by : (b : Bool) → cond b (nat_lt 1 told.0 && not (is_known ks told)) (asked.0 == told.0) ≡ true → ⊥
-  by true k = small told.0 z (left_true (nat_lt 1 told.0) (not (is_known ks told)) k)
-  by false k = low (eqb-true asked.0 told.0 k ∙ z)
-
-zero_low : (n : ℕ) → n ≡ 0 → n ≡ 1 → ⊥
-zero_low n a b = omega (arith, a, b)
-
-entry_rid_low : (r : Held) (ms : List (Option Frame)) (e : QueueEntry) → IsAskedFor r ms e → (e.action ≡ PutFile) ⊎ (e.action ≡ MakeDir) → e.rid.0 ≡ 1 → ⊥
-entry_rid_low r ms e asked (inl is) z = asked.low is z
-entry_rid_low r ms e asked (inr is) z = zero_low e.rid.0 (asked.new is) z
-
-no_move_up : (a : Action) → (a ≡ PutFile) ⊎ (a ≡ MakeDir) → a ≡ MoveItem → ⊥
-no_move_up a (inl is) z = let y : ◌≡◌ {A = Action} PutFile MoveItem = sym is ∙ z in cc
-no_move_up a (inr is) z = let y : ◌≡◌ {A = Action} MakeDir MoveItem = sym is ∙ z in cc
-
-no_removal_up : (a : Action) → (a ≡ PutFile) ⊎ (a ≡ MakeDir) → a ≡ RemoveItem → ⊥
-no_removal_up a (inl is) z = let y : ◌≡◌ {A = Action} PutFile RemoveItem = sym is ∙ z in cc
-no_removal_up a (inr is) z = let y : ◌≡◌ {A = Action} MakeDir RemoveItem = sym is ∙ z in cc
-
-done_low : (s : State) (q : Request) (token : Token) (rid : Rid) (version : Version) (e : QueueEntry) → fits (known_now s) (settled_rid s q) q (reply.Done token rid version) ≡ true → entry_live s token ≡ Some e → Asks e q → IsAskedFor s.link.remote s.link.messages e
-    → (e.action ≡ PutFile) ⊎ (e.action ≡ MakeDir) → rid.0 ≡ 1 → ⊥
-done_low s (request.Feed round after) token rid version e fit live asks asked is = no_way fit
-done_low s (request.List key r) token rid version e fit live asks asked is = no_way fit
-done_low s (request.Fetch key r v start len) token rid version e fit live asks asked is = no_way fit
-done_low s (request.Put t r expect parent name bytes) token rid version e fit live asks asked is =
-    let own : same_key t.0 e.token.0 ≡ true = own_key s t token e live (left_true (same_key t.0 token.0) (done_fits (known_now s) r rid) fit) in
-    low_told (known_now s) r rid (right_true (same_key t.0 token.0) (done_fits (known_now s) r rid) fit) (λ z. entry_rid_low s.link.remote s.link.messages e asked is (sym (asks own).1 ∙ z))
-done_low s (request.MakeDir t parent name) token rid version e fit live asks asked is =
-    low_told (known_now s) (record { 0 = 0 }) rid (right_true (same_key t.0 token.0) (done_fits (known_now s) (record { 0 = 0 }) rid) fit) (λ z. zero_low 0 refl z)
-done_low s (request.Move t r parent name) token rid version e fit live asks asked is =
-    absurd (no_move_up e.action is (asks (own_key s t token e live (left_true (same_key t.0 token.0) (done_fits (known_now s) r rid) fit))).0)
-done_low s (request.Remove t r expect) token rid version e fit live asks asked is =
-    absurd (no_removal_up e.action is (asks (own_key s t token e live (left_true (same_key t.0 token.0) (done_fits (known_now s) r rid) fit))).0)
-done_low s (request.Keep t count) token rid version e fit live asks asked is =
-    no_way (sym asks ∙ own_key s t token e live (left_true (same_key t.0 token.0) (done_fits (known_now s) (record { 0 = 1 }) rid) fit))
-done_low s (request.Settle t) token rid version e fit live asks asked is =
-    low_told (known_now s) (part (λ q. q.rid) no_rid (entry_live s t)) rid (right_true (same_key t.0 token.0) (done_fits (known_now s) (part (λ q. q.rid) no_rid (entry_live s t)) rid) fit)
-    (λ z. entry_rid_low s.link.remote s.link.messages e asked is
-    (sym (ap (λ (o : Option QueueEntry). (part (λ q. q.rid) no_rid o).0) (ap (entry_live s) (same_token t token (left_true (same_key t.0 token.0) (done_fits (known_now s) (part (λ q. q.rid) no_rid (entry_live s t)) rid) fit)) ∙ live)) ∙ z))
 
 is_nothing : (es : List QueueEntry) → is_empty es ≡ true → es ≡ []
 is_nothing [] e = refl
