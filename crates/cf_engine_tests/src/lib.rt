@@ -12,6 +12,8 @@ mod engine_queue;
 #[cfg(test)]
 mod link;
 #[cfg(test)]
+mod message_numbers;
+#[cfg(test)]
 mod remote;
 #[cfg(test)]
 mod wire;

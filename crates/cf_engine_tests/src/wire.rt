@@ -6,10 +6,7 @@ ghost use Rattle.cf_wire.specs.Spelled.{HasRoom, HaveRoom, ReplyHasRoom};
 use cf_base::{
     Blob, Entry, Key, OutOfMemory, Reply, Request, Rid, Round, Sequence, Token, Version, Why,
 };
-use cf_wire::{
-    Message, Net, NoItems, Sent, WireError, fits, read_reply, read_request, spell_reply,
-    spell_request,
-};
+use cf_wire::{NoItems, WireError, fits, read_reply, read_request, spell_reply, spell_request};
 use std::alloc::Global;
 use std::process::Abort;
 use std::test::Fail;
@@ -24,11 +21,11 @@ const FETCH: [u8; 33] = [
     5,
 ];
 
-const BYTES: [u8; 22] = [
+pub(crate) const BYTES: [u8; 22] = [
     67, 0, 0, 0, 1, 0, 0, 0, 1, 0, 0, 0, 0, 0, 0, 0, 5, 104, 101, 108, 108, 111,
 ];
 
-const SETTLE: [u8; 9] = [8, 0, 0, 0, 1, 0, 0, 0, 1];
+pub(crate) const SETTLE: [u8; 9] = [8, 0, 0, 0, 1, 0, 0, 0, 1];
 
 fn request_fail(alloc: Global, bytes: &[u8]) -> Option<WireError> {
     let read = read_request(alloc, bytes);
@@ -346,48 +343,6 @@ fn the_first_fault_is_named(rt: HostRuntime) -> Result<(), Fail> {
     assert!(rt; request_fail(alloc, &other) == Some(WireError::BadField(0)));
     assert!(rt; reply_fail(alloc, &SETTLE) == Some(WireError::BadField(0)));
     Ok(())
-}
-
-// Whether the next message gets this number, and is kept.
-fn sends(
-    alloc: Global,
-    net: &mut Net,
-    answers: Option<u32>,
-    bytes: &[u8],
-    number: u32,
-) -> Result<bool, OutOfMemory> {
-    let frame = Blob::from_slice(alloc, bytes)?;
-    let sent = net.send(Message { answers, frame })?;
-    Ok(
-        sent == Sent {
-            number,
-            lost: false,
-        },
-    )
-}
-
-fn is_kept(net: &Net, number: u32, answers: Option<u32>, bytes: &[u8]) -> bool {
-    match net.get(number) {
-        Some(message) => message.answers == answers && message.frame.as_slice() == bytes,
-        None => false,
-    }
-}
-
-fn numbers_messages(rt: &impl Abort, alloc: Global, net: &mut Net) -> Result<(), Fail> {
-    assert!(rt; sends(alloc, net, None, &SETTLE, 1)?);
-    assert!(rt; sends(alloc, net, Some(1), &BYTES, 2)?);
-    assert!(rt; is_kept(net, 2, Some(1), &BYTES));
-    assert!(rt; net.get(0).is_none() && net.get(3).is_none());
-    Ok(())
-}
-
-#[test]
-fn messages_have_numbers(rt: HostRuntime) -> Result<(), Fail> {
-    let alloc = rt.alloc();
-    let mut net = Net::new(alloc);
-    let done = numbers_messages(&rt, alloc, &mut net);
-    drop(net);
-    done
 }
 
 fn fits_list(alloc: Global, reply: Reply) -> Result<bool, OutOfMemory> {
