@@ -4,5 +4,4 @@ pub mod OverCuts
 pub mod PairTexts
 pub mod PairTraces
 pub mod Playable
-pub mod ReadTexts
 pub mod WorldRuns

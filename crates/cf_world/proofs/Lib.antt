@@ -10,7 +10,7 @@ pub mod Commanded
 pub mod ModeEvents
 pub mod WorldRuns
 pub mod OverPowers
-mod OfTexts
+pub mod OfTexts
 mod Migrated
 mod Scrubbed
 mod Imaged
