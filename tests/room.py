@@ -1,12 +1,12 @@
 #!/usr/bin/env python3
 """room.py PROGRAM [OTHER]     each step of the engine that a full table refuses, in scripts of `replay`.
 
-The table is filled up to a number of bytes by files with long names, in a directory that is excluded from uploads. Then comes a sync, or
-a listing, that needs more: with no room at all first, then with one byte more each time, until nothing is left out. So each change and
-each record of it is refused for room in its turn. Once the remote is full, too. At the end one of those files is deleted, and another sync has to bring all about. Where
-other lines came than before, the bytes that a power cut leaves have to be judged clean. With another program that has the same command
-line the two reports have to be the same. `--every N` takes each Nth number of bytes. Prints which lines came with how much room, and what does not hold, and ends with status
-1 where there was something.
+The table is filled up to a number of bytes by files with long names, in a directory that is excluded from uploads. Then comes a sync,
+or a listing, that needs more: with no room at all first, then with one byte more each time, until nothing is left out. So each change
+and each record of it is refused for room in its turn. Once the remote is full, too. At the end one of those files is deleted, and
+another sync has to bring all about. Where other lines came than before, the bytes that a power cut leaves have to be judged clean. With
+another program that has the same command line the two reports have to be the same. `--every N` takes each Nth number of bytes. Prints
+which lines came with how much room, and what does not hold, and ends with status 1 where there was something.
 """
 import argparse
 import itertools

@@ -1,7 +1,6 @@
 //! What is said of a report.
 
 /// What is said of a report. Events count from 1.
-#[derive(Clone, Copy, Debug, PartialEq, Eq)]
 pub enum Verdict {
     /// The whole report is that of lawful answers, one for each event of the script.
     Lawful,
