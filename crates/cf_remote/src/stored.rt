@@ -1,6 +1,7 @@
 //! One item of the remote.
 
 ghost use Rattle.std.specs.Prelude.{◌≡◌, ◌+◌, ◌-◌, ◌<◌, ◌≤◌, ◌^◌, ◌∷◌, [], ℕ, List, All, length, drop, max, sum_by, IfOk, OnErr, OnOk, None, Some, nat_le, option_copied, true, false};
+ghost use Rattle.cf_base.specs.declared.limits.TheConstants.{MOST_FILE_BYTES};
 ghost use Rattle.cf_model.specs.Store.{RecordedDone, Stored, bytes_told, entry_told, latest, recorded_at, trimmed, version_bytes};
 ghost use Rattle.cf_remote.specs.Held.{grown, held_len, least_kept};
 
@@ -28,7 +29,7 @@ impl Model for StoredItem {
 
     ghost view = { λ s. record { rid = s.rid; parent = s.parent; name = s.name; directory = s.directory; live = s.live; versions = s.versions.items; least = s.least; changed = s.changed } };
 
-    ghost invariant = { λ s. (1 ≤ s.least) × (s.least ≤ length s.versions.items + 1) × All (λ v. length v ≤ 16777216) s.versions.items × (length s.name ≤ 255) };
+    ghost invariant = { λ s. (1 ≤ s.least) × (s.least ≤ length s.versions.items + 1) × All (λ v. length v ≤ MOST_FILE_BYTES) s.versions.items × (length s.name ≤ 255) };
 }
 
 impl StoredItem {
@@ -65,7 +66,7 @@ impl StoredItem {
         changed: u64,
     ) -> Result<StoredItem, OutOfMemory>
         requires name { length name ≤ 255 }
-        requires small { length bytes ≤ 16777216 }
+        requires small { length bytes ≤ MOST_FILE_BYTES }
         ensures { IfOk result (λ s. s ≡ record { rid = rid; parent = parent; name = name; directory = false; live = true; versions = bytes ∷ []; least = 1; changed = changed }) }
     {
         let mut versions = Vec::new(alloc);
@@ -280,7 +281,7 @@ impl StoredItem {
         tokens: &mut Tokens,
         token: Token,
     ) -> Result<Version, OutOfMemory>
-        requires small { length bytes ≤ 16777216 }
+        requires small { length bytes ≤ MOST_FILE_BYTES }
         requires new { recorded_at tokens.old token ≡ None }
         ensures ok { OnOk result (self.new ≡ grown keep bytes changed self.old) }
         ensures version { IfOk result (λ v. v.0 ≡ latest self.old + 1) }

@@ -1,5 +1,6 @@
 //! Waits that begin.
 ghost use Rattle.std.specs.Prelude.{◌≡◌, ℕ, cond, false, None, Some, IfOk, OnErr, OnOk, ◌+◌, ◌++◌, ◌≤◌};
+ghost use Rattle.cf_base.specs.declared.limits.TheConstants.{MOST_NUMBER};
 ghost use Rattle.cf_base.specs.declared.waits.WaitKind.TheVariants as wait_kind;
 ghost use Rattle.cf_model.specs.Missing.{no_span};
 ghost use Rattle.cf_model.specs.Requests.{also_background, no_numbers, with_waits};
@@ -43,7 +44,7 @@ impl Requests {
         requires planned { IsPlanned step (with_waits begun.now self.old) }
         requires next { AreNext begun.now self.old }
         requires numbers { no_numbers (carried step (with_waits begun.now self.old)).1 ≡ false }
-        requires count { self.old.wait_count + 1 + cond beside 1 0 ≤ 4294967295 }
+        requires count { self.old.wait_count + 1 + cond beside 1 0 ≤ MOST_NUMBER }
         ensures id { IfOk result (λ m. m.0 ≡ begun_id 0 self.old) }
         ensures moves { IfOk result (λ m. m.1 ≡ moved_of (cond beside (Some (begun_id 1 self.old)) None) (carried step (with_waits begun.now self.old)).0) }
         ensures ok { OnOk result (self.new ≡ (carried step (with_waits begun.now self.old)).1) }
@@ -65,7 +66,7 @@ impl Requests {
 }
 
 fn wait_id(epoch: u32, number: u64) -> WaitId
-    requires { number ≤ 4294967295 }
+    requires { number ≤ MOST_NUMBER }
     ensures { result ≡ record { 0 = record { epoch = epoch; number = number } } }
 {
     WaitId(Key {
@@ -76,7 +77,7 @@ fn wait_id(epoch: u32, number: u64) -> WaitId
 
 // The number after the call's own, for the background wait where there is one.
 fn background_id(beside: bool, epoch: u32, first: u64) -> Option<WaitId>
-    requires { first + cond beside 1 0 ≤ 4294967295 }
+    requires { first + cond beside 1 0 ≤ MOST_NUMBER }
     ensures { result ≡ cond beside (Some (record { 0 = record { epoch = epoch; number = first + 1 } })) None }
 {
     if beside {

@@ -1,6 +1,7 @@
 //! Limits on what waits and is asked after a step.
 ghost use Rattle.std.specs.Prelude.{◌≡◌, ℕ, not, [], ◌∷◌, count_by, nat_lt, ◌+◌, ◌&&◌, ◌≤◌};
 ghost use Rattle.cf_base.specs.declared.codes.Code.TheVariants as code;
+ghost use Rattle.cf_base.specs.declared.limits.TheConstants.{MOST_NUMBER};
 ghost use Rattle.cf_model.specs.Requests.{no_numbers, too_many_asks, too_many_waits, with_waits};
 ghost use Rattle.cf_model.specs.Words.{first_of};
 ghost use Rattle.cf_waits.specs.Books.{is_plain_ask, is_plain_wait};
@@ -165,8 +166,8 @@ fn first_limit(waits: bool, asks: bool, numbers: bool) -> Option<Code>
 
 // Whether a count would be past the greatest number with so many more.
 fn passes_most(count: u64, more: usize) -> bool
-    requires { count ≤ 4294967295 }
-    ensures { result ≡ nat_lt 4294967295 (count + more) }
+    requires { count ≤ MOST_NUMBER }
+    ensures { result ≡ nat_lt MOST_NUMBER (count + more) }
 {
     more as u64 > MOST - count
 }

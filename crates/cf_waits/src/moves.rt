@@ -1,5 +1,6 @@
 //! What a step tells.
 ghost use Rattle.std.specs.Prelude.{◌≡◌, IfOk, OnOk, map, length, ◌+◌, ◌≤◌};
+ghost use Rattle.cf_base.specs.declared.limits.TheConstants.{MOST_NUMBER};
 ghost use Rattle.cf_model.specs.Asks.{with_keys};
 
 use cf_ask_rule::{LiveAsk, LiveWait, Wait};
@@ -51,7 +52,7 @@ pub(crate) fn with_keys(
     key_count: u64,
     made: &[LiveAsk],
 ) -> Result<Vec<LiveAsk>, OutOfMemory>
-    requires { key_count + length made.now ≤ 4294967295 }
+    requires { key_count + length made.now ≤ MOST_NUMBER }
     ensures { IfOk result (λ v. v.items ≡ with_keys epoch key_count made.now) }
 {
     let mut out = Vec::new(alloc);

@@ -4,6 +4,7 @@ ghost use Rattle.std.specs.List.{AllByRecursion};
 ghost use Rattle.cf_ask_rule.specs.Deeds.{deed_of};
 ghost use Rattle.cf_ask_rule.specs.Near.{is_on};
 ghost use Rattle.cf_ask_rule.specs.Sights.{shown};
+ghost use Rattle.cf_base.specs.declared.limits.TheConstants.{MOST_NUMBER};
 ghost use Rattle.cf_model.specs.Asks.{downed, step_of};
 ghost use Rattle.cf_base.specs.declared.waits.Cause.TheVariants as cause;
 ghost use Rattle.cf_model.specs.Requests.{no_numbers, none_waiting, too_many_asks, with_waits};
@@ -35,6 +36,7 @@ pub struct Requests {
 }
 
 impl Model for Requests {
+    ghost use Rattle.cf_base.specs.declared.limits.TheConstants.{MOST_NUMBER};
     ghost use Rattle.std.specs.Prelude.{◌≤◌};
     ghost use Rattle.cf_model.specs.Requests.{Waiting};
     ghost use Rattle.cf_waits.specs.Sound.{IsSound};
@@ -43,7 +45,7 @@ impl Model for Requests {
 
     ghost view = { λ r. record { epoch = r.epoch; waits = r.waits.waits; asks = r.asks.asks; wait_count = r.wait_count; key_count = r.key_count } };
 
-    ghost invariant = { λ r. (r.wait_count ≤ 4294967295) × (r.key_count ≤ 4294967295) × IsSound (record { epoch = r.epoch; waits = r.waits.waits; asks = r.asks.asks; wait_count = r.wait_count; key_count = r.key_count }) };
+    ghost invariant = { λ r. (r.wait_count ≤ MOST_NUMBER) × (r.key_count ≤ MOST_NUMBER) × IsSound (record { epoch = r.epoch; waits = r.waits.waits; asks = r.asks.asks; wait_count = r.wait_count; key_count = r.key_count }) };
 }
 
 /// A step that was worked out and is not done yet: what it changes.
@@ -189,8 +191,8 @@ impl Requests {
         requires next { AreNext begun.now self.old }
         requires begins { AllByRecursion (λ a. a.ticks ≡ 0) made.items }
         requires sound { IsSound (turned begun.now ended.now cancelled.now dropped changed made.items self.old) }
-        requires waits { self.old.wait_count + length begun.now ≤ 4294967295 }
-        requires keys { self.old.key_count + length made.items ≤ 4294967295 }
+        requires waits { self.old.wait_count + length begun.now ≤ MOST_NUMBER }
+        requires keys { self.old.key_count + length made.items ≤ MOST_NUMBER }
         ensures ok { OnOk result (self.new ≡ turned begun.now ended.now cancelled.now dropped changed made.items self.old) }
         ensures err { OnErr result (self.new ≡ self.old) }
     {
