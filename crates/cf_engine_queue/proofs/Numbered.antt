@@ -1,21 +1,10 @@
 -- The numbers of an identity, from its bytes.
-use Rattle.std.proofs.Common.{◌≡◌, ◌≢◌, ◌==◌, true, false, ◌<◌, ◌+◌, ◌*◌, ◌/◌, ◌%◌, ℕ, List, ◌++◌, length, inl, inr, sym, ◌∙◌, ap, subst, arith}
+use Rattle.std.proofs.Common.{◌≡◌, ◌≢◌, ◌==◌, true, false, ◌<◌, ℕ, List, ◌++◌, length, inl, inr, sym, ◌∙◌, ap, subst}
 use Rattle.std.specs.Prelude.{Option, Some, None, MatchOption}
 use Rattle.cf_engine_queue.specs.Identities.{IsOurs, numbers_of}
 use Rattle.cf_engine_queue.specs.declared.identities.Numbers.{Numbers}
-use Rattle.cf_model.specs.Words.{in_bytes, number_of}
-
-read_back : (n : ℕ) → n < 18446744073709551616 → number_of (in_bytes 8 n) ≡ n
-read_back n h =
-    let e7 : 0 + n / 72057594037927936 % 256 ≡ n / 72057594037927936 = omega (arith, h) in
-    let e6 : n / 72057594037927936 * 256 + n / 281474976710656 % 256 ≡ n / 281474976710656 = omega arith in
-    let e5 : n / 281474976710656 * 256 + n / 1099511627776 % 256 ≡ n / 1099511627776 = omega arith in
-    let e4 : n / 1099511627776 * 256 + n / 4294967296 % 256 ≡ n / 4294967296 = omega arith in
-    let e3 : n / 4294967296 * 256 + n / 16777216 % 256 ≡ n / 16777216 = omega arith in
-    let e2 : n / 16777216 * 256 + n / 65536 % 256 ≡ n / 65536 = omega arith in
-    let e1 : n / 65536 * 256 + n / 256 % 256 ≡ n / 256 = omega arith in
-    let e0 : n / 256 * 256 + n / 1 % 256 ≡ n = omega arith in
-    rw e7 (rw e6 (rw e5 (rw e4 (rw e3 (rw e2 (rw e1 e0))))))
+use Rattle.cf_model.specs.Words.{in_bytes}
+use Rattle.cf_model.proofs.ReplyLaws.{read_back}
 
 abbrev IsRead : List ℕ → Numbers → Type 0
 IsRead bytes n = (n.target < 18446744073709551616) × (n.base < 18446744073709551616) × (n.version < 18446744073709551616) × (bytes ≡ in_bytes 8 n.target ++ in_bytes 8 n.base ++ in_bytes 8 n.version)

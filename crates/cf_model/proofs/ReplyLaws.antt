@@ -121,10 +121,10 @@ put_names held token rid expect parent name bytes c none = by (rid.0 == 0) where
   by true = decided (put_new held parent name bytes) (of-new (put_new held parent name bytes).refusal)
   by false = decided (put_version held rid expect bytes) (of-version (why_version held rid expect bytes) refl)
 
--- identities are read back
+-- numbers and identities are read back
 
-read-back : (n : ℕ) → n < 18446744073709551616 → number_of (in_bytes 8 n) ≡ n
-read-back n h =
+pub read_back : (n : ℕ) → n < 18446744073709551616 → number_of (in_bytes 8 n) ≡ n
+read_back n h =
     let e7 : 0 + n / 72057594037927936 % 256 ≡ n / 72057594037927936 = omega (arith, h) in
     let e6 : n / 72057594037927936 * 256 + n / 281474976710656 % 256 ≡ n / 281474976710656 = omega arith in
     let e5 : n / 281474976710656 * 256 + n / 1099511627776 % 256 ≡ n / 1099511627776 = omega arith in
@@ -138,5 +138,5 @@ read-back n h =
 pub base_read : (r : Held) (target rid : Rid) (version : Version) → rid.0 < 18446744073709551616 → version.0 < 18446744073709551616
     → base_named r (identity_of target rid version) ≡ unwrap_or (bytes_of r rid version) []
 base_read r target rid version h k =
-    ap (λ (b : ℕ). unwrap_or (bytes_of r (record { 0 = b }) (record { 0 = number_of (in_bytes 8 version.0) })) []) (read-back rid.0 h)
-    ∙ ap (λ (v : ℕ). unwrap_or (bytes_of r rid (record { 0 = v })) []) (read-back version.0 k)
+    ap (λ (b : ℕ). unwrap_or (bytes_of r (record { 0 = b }) (record { 0 = number_of (in_bytes 8 version.0) })) []) (read_back rid.0 h)
+    ∙ ap (λ (v : ℕ). unwrap_or (bytes_of r rid (record { 0 = v })) []) (read_back version.0 k)
