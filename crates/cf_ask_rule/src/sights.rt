@@ -1,5 +1,5 @@
 //! A view, made ready for many questions.
-ghost use Rattle.std.specs.Prelude.{◌≡◌, ℕ, not, ◌+◌, ◌-◌, ◌||◌, ◌^◌, ◌<◌, ◌≤◌, IfOk, IfSome, length, max, min, nat_lt};
+ghost use Rattle.std.specs.Prelude.{◌≡◌, ℕ, not, ◌+◌, ◌||◌, ◌^◌, ◌<◌, ◌≤◌, IfOk, IfSome, length, max, min};
 ghost use Rattle.cf_model.specs.Missing.{any_between};
 ghost use Rattle.cf_ranges.specs.Positions.{contains, IsRuns};
 ghost use Rattle.cf_ask_rule.specs.Nexts.{IsNext, lacks_at};
@@ -8,6 +8,7 @@ ghost use Rattle.cf_ask_rule.specs.Sights.{is_lacking, meets, shown};
 use crate::searches::{below, lesser, next_in};
 use crate::views::View;
 use cf_base::{OutOfMemory, Span};
+use cf_ranges::reaches;
 use std::alloc::Global;
 use std::marker::Model;
 
@@ -168,10 +169,4 @@ fn meets(runs: &[Span], start: u64, end: u64) -> bool
         return false;
     }
     reaches(runs[next - 1], start)
-}
-
-fn reaches(run: Span, start: u64) -> bool
-    ensures { result ≡ (nat_lt start run.start || nat_lt (start - run.start) run.len) }
-{
-    start < run.start || start - run.start < run.len
 }

@@ -16,3 +16,4 @@ pub use claims::{Claim, Claims, Spent};
 pub use extent_maps::ExtentMap;
 pub use laws::{claim_splits, one_list_of_pairs, one_list_of_runs, others_stay, taken_is_apart};
 pub use range_sets::RangeSet;
+pub use run_lists::reaches;

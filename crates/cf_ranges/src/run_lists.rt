@@ -51,7 +51,8 @@ pub(crate) fn touches(runs: &[Span], block: u64) -> bool
     reaches(runs[next - 1], start)
 }
 
-fn reaches(run: Span, start: u64) -> bool
+/// Whether the run, which is not empty, has the position or a later one.
+pub fn reaches(run: Span, start: u64) -> bool
     ensures { result ≡ (nat_lt start run.start || nat_lt (start - run.start) run.len) }
 {
     start < run.start || start - run.start < run.len
