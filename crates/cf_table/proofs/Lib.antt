@@ -1,4 +1,5 @@
 pub mod Above
+pub mod Bounded
 pub mod ByteMeans
 pub mod ChildrenOf
 pub mod EachOf

@@ -3,7 +3,9 @@ pub mod Booked
 pub mod Changing
 pub mod Faults
 pub mod Index
+pub mod Kinds
 pub mod Means
 pub mod Reading
 pub mod Spelling
 pub mod Tables
+pub mod Targets

@@ -1,10 +1,12 @@
-//! Kinds of changes.
+//! Kinds of changes and of items.
 
 ghost use Rattle.std.specs.Prelude.{◌≡◌};
 ghost use Rattle.cf_model.specs.Given.{named_by};
 ghost use Rattle.cf_table.specs.Changing.{item_of_change, stays};
+ghost use Rattle.cf_table.specs.Kinds.{kind_in};
 
-use cf_base::{Change, ItemId};
+use crate::rows::Row;
+use cf_base::{Change, ItemId, Kind};
 
 /// The item that the change is of.
 pub fn item_of(change: &Change) -> ItemId
@@ -41,4 +43,19 @@ pub fn stays(change: &Change) -> bool
         change,
         Change::Make { .. } | Change::Remove { .. } | Change::Copy { .. }
     )
+}
+
+/// The kind of the row's item.
+pub fn kind_of(row: &Row) -> Kind
+    ensures { result ≡ kind_in row.now }
+{
+    if row.dir && !row.populated {
+        return Kind::UnpopulatedDir;
+    }
+    match (row.dir, row.placeholder) {
+        (true, true) => Kind::PlaceholderDir,
+        (true, false) => Kind::Dir,
+        (false, true) => Kind::PlaceholderFile,
+        (false, false) => Kind::File,
+    }
 }

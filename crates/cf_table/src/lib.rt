@@ -28,11 +28,12 @@ mod set_reads;
 mod spelling;
 mod table_changes;
 mod tables;
+mod targets;
 mod usns;
 mod volume_changes;
 
 pub use failures::RowError;
-pub use kinds::{item_of, stays};
+pub use kinds::{item_of, kind_of, stays};
 pub use laws::{
     a_change_fits_rows_by_items, a_number_after_the_last_is_next, extents_are_blocks,
     image_len_is_length, look_ups_find_items, new_rows_are_of_the_root, row_is_of_item,

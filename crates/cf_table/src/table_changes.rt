@@ -17,6 +17,7 @@ use crate::new_rows::Place;
 use crate::row_lists::{find_row, pin_of};
 use crate::rows::Row;
 use crate::tables::Rows;
+use crate::targets::raised;
 use cf_base::{Blob, Change, Identity, ItemId, Kind, Name, OutOfMemory, Pin, Usn};
 use std::alloc::Global;
 
@@ -176,8 +177,10 @@ impl Rows {
         ensures err { OnErr result (self.new ≡ self.old) }
     {
         let next = self.next.0.max(row.id.0 + 1);
+        let bound = raised(self.bound, &row.identity);
         self.len = push_indexed(self.alloc, &mut self.rows, &mut self.index, row, self.len)?;
         self.next = ItemId(next);
+        self.bound = bound;
         Ok(())
     }
 
@@ -207,6 +210,7 @@ impl Rows {
                     pin,
                     number,
                 )?;
+                self.bound = raised(self.bound, &self.rows[place].identity);
                 Ok(())
             }
             Err(_) => Ok(()),

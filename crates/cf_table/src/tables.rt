@@ -1,8 +1,9 @@
 //! The rows of a volume.
 
-ghost use Rattle.std.specs.Prelude.{◌≡◌, ◌<◌, ◌∷◌, [], All, min, true, OnOk, OnErr, IfOk, MatchOption, None, option_copied};
+ghost use Rattle.std.specs.Prelude.{◌≡◌, ◌<◌, ◌∷◌, [], All, List, min, true, OnOk, OnErr, IfOk, MatchOption, None, option_copied};
 ghost use Rattle.cf_base.specs.declared.ids.Usn.{Usn};
-ghost use Rattle.cf_model.specs.Items.{root};
+ghost use Rattle.cf_model.specs.Identities.{target_of};
+ghost use Rattle.cf_model.specs.Items.{Item, root};
 ghost use Rattle.cf_model.specs.Numbers.{above, no_usn};
 ghost use Rattle.cf_ranges.specs.Pairs.{cluster_at};
 ghost use Rattle.cf_table.specs.Applied.{SetsAnchor, SetsExtent, Touches, IsSpellable};
@@ -13,8 +14,9 @@ ghost use Rattle.cf_table.specs.Tables.{AreTableRows, MeansAll, RisesFrom, row_o
 use crate::entries::Entry;
 use crate::indexed_rows::{push_indexed, put_indexed, remove_indexed};
 use crate::row_lists::{anchor_at, extent_at, find_row, touch_at};
-use crate::rows::Row;
-use cf_base::{ItemId, OutOfMemory};
+use crate::rows::{ROOT, Row};
+use crate::targets::raised;
+use cf_base::{ItemId, OutOfMemory, Rid};
 use std::alloc::Global;
 use std::marker::Model;
 
@@ -25,18 +27,20 @@ pub struct Rows {
     pub(crate) index: Vec<Entry>,
     pub(crate) next: ItemId,
     pub(crate) len: u128,
+    // No identity of a row begins with a greater number, and it is at least 1. None where that is not known.
+    pub(crate) bound: Option<u64>,
     pub(crate) alloc: Global,
 }
 
 impl Model for Rows {
-    ghost use Rattle.cf_table.specs.Index.{IsIndexed};
     ghost use Rattle.cf_table.specs.Tables.{Table};
+    ghost use Rattle.cf_table.specs.Targets.{AreKept};
 
     ghost Value = { Table };
 
     ghost view = { λ t. record { rows = t.rows.items; next = t.next } };
 
-    ghost invariant = { λ t. IsIndexed t.rows.items t.index.items t.len };
+    ghost invariant = { λ t. AreKept t.rows.items t.index.items t.len t.bound };
 }
 
 impl Rows {
@@ -57,6 +61,7 @@ impl Rows {
             index,
             next: ItemId(2),
             len,
+            bound: Some(ROOT.0),
             alloc,
         })
     }
@@ -68,6 +73,18 @@ impl Rows {
         match find_row(&self.rows, id.0) {
             Ok(place) => Some(&self.rows[place]),
             Err(_) => None,
+        }
+    }
+
+    /// Whether each item's target, the item of the remote that its identity names, comes before this one. It takes no walk over the
+    /// rows, and may be false also where it is so: it is true of an item of the remote that is greater than each that a row
+    /// ever named, where identities are those of an engine.
+    pub fn is_above_targets(&self, rid: Rid) -> bool
+        ensures { result ≡ true → (items : List Item) → MeansAll self.now.rows items → All (λ i. (target_of i).0 < rid.0) items }
+    {
+        match self.bound {
+            Some(bound) => bound < rid.0,
+            None => false,
         }
     }
 
@@ -94,7 +111,9 @@ impl Rows {
         ensures ok { OnOk result (self.new ≡ record self.old { rows = with_row row self.old.rows }) }
         ensures err { OnErr result (self.new ≡ self.old) }
     {
+        let bound = raised(self.bound, &row.identity);
         self.len = put_indexed(self.alloc, &mut self.rows, &mut self.index, row, self.len)?;
+        self.bound = bound;
         Ok(())
     }
 

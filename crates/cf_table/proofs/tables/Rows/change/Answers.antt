@@ -7,19 +7,20 @@ use Rattle.cf_table.specs.Tables.{IsRowAt, IsRowGap, RisesFrom, SetsAt, SetsRow,
 use Rattle.cf_table.specs.declared.rows.Row.{Row}
 use Rattle.cf_table.proofs.StayingRows.{changed_by, left_by, leaves_is, unchanged_by}
 use Rattle.cf_table.proofs.TableMeans.{sets_none}
+use Rattle.cf_table.proofs.Bounded.{changed_bounded}
 use Rattle.cf_table.proofs.NextChange.{below_changed, next_changed}
 use Rattle.cf_table.proofs.tables.Rows.change.Goals as goal
 
 pub returns-in_ok-self-inside-in-Ok-clause-ok : goal.returns-in_ok-self-inside-in-Ok-clause-ok
 returns-in_ok-self-inside-in-Ok-clause-ok c = λ items m.
     changed_by c.args.change.now c.args.number c.args.id c.pin_for-pin.result c.in-Ok.place c.args.self.now.rows c.change_indexed.new.rows.items items c.requires.id c.requires.kind (c.pin_for-pin.ensures ∙ ap (λ (l : List Row). pin_for c.args.change.now l) (c.deref.ensures.value ∙ ap (λ (t : Table). t.rows) c.self.view_is))
-    (subst (λ (l : List Row). RisesFrom 0 l) (ap (λ (t : Table). t.rows) c.self.view_is) c.self.invariant.table.rises) (subst (λ (l : List Row). IsRowAt l c.args.id.0 c.in-Ok.place) (c.deref-2.ensures.value ∙ ap (λ (t : Table). t.rows) c.self.view_is) c.in-Ok.ensures.found)
+    (subst (λ (l : List Row). RisesFrom 0 l) (ap (λ (t : Table). t.rows) c.self.view_is) c.self.invariant.indexed.table.rises) (subst (λ (l : List Row). IsRowAt l c.args.id.0 c.in-Ok.place) (c.deref-2.ensures.value ∙ ap (λ (t : Table). t.rows) c.self.view_is) c.in-Ok.ensures.found)
     (subst (λ (l : List Row). SetsAt (Steps c.args.change.now c.pin_for-pin.result c.args.number) c.in-Ok.place l c.change_indexed.new.rows.items) (ap (λ (t : Table). t.rows) c.self.view_is) c.in_ok-self-inside-in-Ok.ensures.sets) m
 
 pub returns-in_ok-self-inside-in-Ok-clause-rest : goal.returns-in_ok-self-inside-in-Ok-clause-rest
 returns-in_ok-self-inside-in-Ok-clause-rest c =
     left_by c.args.change.now c.args.number c.args.id c.pin_for-pin.result c.in-Ok.place c.args.self.now.rows c.change_indexed.new.rows.items c.requires.id c.requires.kind
-    (subst (λ (l : List Row). RisesFrom 0 l) (ap (λ (t : Table). t.rows) c.self.view_is) c.self.invariant.table.rises) (subst (λ (l : List Row). IsRowAt l c.args.id.0 c.in-Ok.place) (c.deref-2.ensures.value ∙ ap (λ (t : Table). t.rows) c.self.view_is) c.in-Ok.ensures.found)
+    (subst (λ (l : List Row). RisesFrom 0 l) (ap (λ (t : Table). t.rows) c.self.view_is) c.self.invariant.indexed.table.rises) (subst (λ (l : List Row). IsRowAt l c.args.id.0 c.in-Ok.place) (c.deref-2.ensures.value ∙ ap (λ (t : Table). t.rows) c.self.view_is) c.in-Ok.ensures.found)
     (subst (λ (l : List Row). SetsAt (Steps c.args.change.now c.pin_for-pin.result c.args.number) c.in-Ok.place l c.change_indexed.new.rows.items) (ap (λ (t : Table). t.rows) c.self.view_is) c.in_ok-self-inside-in-Ok.ensures.sets)
 
 pub returns-in-Err-clause-ok : goal.returns-in-Err-clause-ok
@@ -42,3 +43,13 @@ returns-in_ok-self-inside-in-Ok-clause-below c = λ a.
     below_changed c.args.change.now c.pin_for-pin.result c.args.number c.self.inside.next c.in-Ok.place c.self.inside.rows.items c.change_indexed.new.rows.items
     (subst (λ (l : List Row). IsRowAt l c.args.id.0 c.in-Ok.place) c.deref-2.ensures.value c.in-Ok.ensures.found).in_range c.in_ok-self-inside-in-Ok.ensures.sets
     (subst (λ (t : Table). AreBelow t) (sym c.self.view_is) a)
+
+pub invariant_of-self-in-Ok : goal.invariant_of-self-in-Ok
+invariant_of-self-in-Ok c =
+    let sets : SetsAt (Steps c.args.change.now c.pin_for-pin.result c.args.number) c.in-Ok.place c.self.inside.rows.items c.change_indexed.new.rows.items = c.in_ok-self-inside-in-Ok.ensures.sets in
+    record {
+      indexed = c.in_ok-self-inside-in-Ok.ensures.indexed;
+      bounded = changed_bounded c.self.inside.bound c.raised-self-inside.result c.in-Ok.place c.self.inside.rows.items c.change_indexed.new.rows.items sets.0 c.index.result.now c.raised-self-inside.ensures.before
+          (subst (λ (l : List Row). IsRowAt l c.args.id.0 c.in-Ok.place) c.deref-2.ensures.value c.in-Ok.ensures.found).in_range sets.2 c.index.ensures c.raised-self-inside.ensures.covers c.self.invariant.bounded;
+      root = c.raised-self-inside.ensures.root c.self.invariant.root;
+    }

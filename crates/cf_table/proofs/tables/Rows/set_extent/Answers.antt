@@ -6,18 +6,18 @@ use Rattle.cf_table.specs.Tables.{IsRowAt, IsRowGap, RisesFrom, SetsRow, Table}
 use Rattle.cf_table.specs.declared.rows.Row.{Row}
 use Rattle.cf_table.proofs.TableMeans.{extent_before, extent_none, on_ok_map, sets_none, sets_row}
 use Rattle.cf_table.specs.Index.{entry_of}
-use Rattle.cf_table.proofs.Indexed.{maybe_set_indexed}
+use Rattle.cf_table.proofs.Bounded.{maybe_set_kept}
 use Rattle.cf_table.proofs.tables.Rows.set_extent.Goals as goal
 
 pub returns-in-Ok-clause-before : goal.returns-in-Ok-clause-before
 returns-in-Ok-clause-before c =
-    extent_before c.extent_at.result c.args.block c.args.id c.in-Ok.place c.args.self.now.rows (subst (λ (l : List Row). RisesFrom 0 l) (ap (λ (t : Table). t.rows) c.self.view_is) c.self.invariant.table.rises) (subst (λ (l : List Row). IsRowAt l c.args.id.0 c.in-Ok.place) (c.deref.ensures.value ∙ ap (λ (t : Table). t.rows) c.self.view_is) c.in-Ok.ensures.found)
+    extent_before c.extent_at.result c.args.block c.args.id c.in-Ok.place c.args.self.now.rows (subst (λ (l : List Row). RisesFrom 0 l) (ap (λ (t : Table). t.rows) c.self.view_is) c.self.invariant.indexed.table.rises) (subst (λ (l : List Row). IsRowAt l c.args.id.0 c.in-Ok.place) (c.deref.ensures.value ∙ ap (λ (t : Table). t.rows) c.self.view_is) c.in-Ok.ensures.found)
     (subst (λ (l : List Row). (d : Row) → IfOk c.extent_at.result (λ b. b ≡ cluster_at (get_or l c.in-Ok.place d).extents c.args.block)) (ap (λ (t : Table). t.rows) c.self.view_is) c.extent_at.ensures.before)
 
 pub returns-in-Ok-clause-ok : goal.returns-in-Ok-clause-ok
 returns-in-Ok-clause-ok c =
     on_ok_map c.extent_at.result _ _ (λ sets. subst (λ (l : List Row). SetsRow (SetsExtent c.args.block c.args.cluster) c.args.id l c.extent_at.new.rows.items) (ap (λ (t : Table). t.rows) c.self.view_is)
-    (sets_row (SetsExtent c.args.block c.args.cluster) (λ r s p. ap (λ (x : Row). x.id.0) p.rest) c.args.id c.in-Ok.place c.self.inside.rows.items c.extent_at.new.rows.items c.self.invariant.table.rises (subst (λ (l : List Row). IsRowAt l c.args.id.0 c.in-Ok.place) c.deref.ensures.value c.in-Ok.ensures.found) sets))
+    (sets_row (SetsExtent c.args.block c.args.cluster) (λ r s p. ap (λ (x : Row). x.id.0) p.rest) c.args.id c.in-Ok.place c.self.inside.rows.items c.extent_at.new.rows.items c.self.invariant.indexed.table.rises (subst (λ (l : List Row). IsRowAt l c.args.id.0 c.in-Ok.place) c.deref.ensures.value c.in-Ok.ensures.found) sets))
     c.extent_at.ensures.sets
 
 pub returns-in-Err-clause-before : goal.returns-in-Err-clause-before
@@ -28,5 +28,5 @@ returns-in-Err-clause-ok c = sets_none (SetsExtent c.args.block c.args.cluster) 
 
 pub invariant_of-self : goal.invariant_of-self
 invariant_of-self c =
-    maybe_set_indexed c.extent_at.result (SetsExtent c.args.block c.args.cluster) (λ r s p. ap entry_of p.rest) c.in-Ok.place c.self.inside.len c.extent_at.new.len c.self.inside.rows.items c.extent_at.new.rows.items c.self.inside.index.items c.self.invariant
+    maybe_set_kept c.extent_at.result (SetsExtent c.args.block c.args.cluster) (λ r s p. ap entry_of p.rest) (λ r s p. ap (λ (x : Row). x.identity) p.rest) c.in-Ok.place c.self.inside.len c.extent_at.new.len c.self.inside.rows.items c.extent_at.new.rows.items c.self.inside.index.items c.self.inside.bound c.self.invariant
     (subst (λ (l : List Row). c.in-Ok.place < length l) c.deref.ensures.value c.in-Ok.ensures.found.in_range) c.extent_at.ensures.sets c.extent_at.ensures.err c.extent_at.ensures.table

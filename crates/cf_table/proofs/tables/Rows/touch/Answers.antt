@@ -4,13 +4,13 @@ use Rattle.cf_table.specs.Tables.{IsRowAt, IsRowGap, SetsRow, Table}
 use Rattle.cf_table.specs.declared.rows.Row.{Row}
 use Rattle.cf_table.proofs.TableMeans.{sets_none, sets_row}
 use Rattle.cf_table.specs.Index.{entry_of}
-use Rattle.cf_table.proofs.Indexed.{set_indexed}
+use Rattle.cf_table.proofs.Bounded.{set_kept}
 use Rattle.cf_table.proofs.tables.Rows.touch.Goals as goal
 
 pub returns-in-Ok-clause-sets : goal.returns-in-Ok-clause-sets
 returns-in-Ok-clause-sets c =
     subst (λ (l : List Row). SetsRow (Touches c.args.clock) c.args.id l c.touch_at.new.rows.items) (ap (λ (t : Table). t.rows) c.self.view_is)
-    (sets_row (Touches c.args.clock) (λ r s p. ap (λ (x : Row). x.id.0) p.rest) c.args.id c.in-Ok.place c.self.inside.rows.items c.touch_at.new.rows.items c.self.invariant.table.rises (subst (λ (l : List Row). IsRowAt l c.args.id.0 c.in-Ok.place) c.deref.ensures.value c.in-Ok.ensures.found)
+    (sets_row (Touches c.args.clock) (λ r s p. ap (λ (x : Row). x.id.0) p.rest) c.args.id c.in-Ok.place c.self.inside.rows.items c.touch_at.new.rows.items c.self.invariant.indexed.table.rises (subst (λ (l : List Row). IsRowAt l c.args.id.0 c.in-Ok.place) c.deref.ensures.value c.in-Ok.ensures.found)
     c.touch_at.ensures.sets)
 
 pub returns-in-Err-clause-sets : goal.returns-in-Err-clause-sets
@@ -18,5 +18,5 @@ returns-in-Err-clause-sets c = sets_none (Touches c.args.clock) c.args.id c.in-E
 
 pub invariant_of-self : goal.invariant_of-self
 invariant_of-self c =
-    set_indexed (Touches c.args.clock) (λ r s p. ap entry_of p.rest) c.in-Ok.place c.self.inside.len c.self.inside.len c.self.inside.rows.items c.touch_at.new.rows.items c.self.inside.index.items c.self.invariant
-    (subst (λ (l : List Row). c.in-Ok.place < length l) c.deref.ensures.value c.in-Ok.ensures.found.in_range) c.touch_at.ensures.sets (c.touch_at.ensures.table c.self.inside.len c.self.invariant.table)
+    set_kept (Touches c.args.clock) (λ r s p. ap entry_of p.rest) (λ r s p. ap (λ (x : Row). x.identity) p.rest) c.in-Ok.place c.self.inside.len c.self.inside.len c.self.inside.rows.items c.touch_at.new.rows.items c.self.inside.index.items c.self.inside.bound c.self.invariant
+    (subst (λ (l : List Row). c.in-Ok.place < length l) c.deref.ensures.value c.in-Ok.ensures.found.in_range) c.touch_at.ensures.sets (c.touch_at.ensures.table c.self.inside.len c.self.invariant.indexed.table)
