@@ -11,30 +11,15 @@ ghost use Rattle.cf_table.specs.Tables.{MeansAll};
 ghost use Rattle.cf_tree.specs.Trees.{RiseFrom};
 
 use crate::indexes::{SEVERAL, Targets};
-use cf_base::{ItemId, OutOfMemory, Rid, no_such_state};
-use cf_engine_queue::numbers_of;
-use cf_table::{ROOT, Row, Rows};
-
-const ROOT_RID: u64 = 1;
-
-// The item of the remote that the row's item is, 0 for none. An identity that no engine gave, which no item has, is out of memory.
-fn target_of(row: &Row) -> Result<u64, OutOfMemory>
-    ensures { IfOk result (λ r. (i : Item) → Means row.now i → r ≡ (target_of i).0) }
-{
-    if row.id.0 == ROOT.0 {
-        return Ok(ROOT_RID);
-    }
-    let Some(numbers) = numbers_of(&row.identity) else {
-        return Err(no_such_state());
-    };
-    Ok(numbers.target)
-}
+use cf_base::{ItemId, OutOfMemory, Rid};
+use cf_engine_steps::target_of;
+use cf_table::{Row, Rows};
 
 fn has_target(row: &Row, rid: Rid) -> Result<bool, OutOfMemory>
     ensures { IfOk result (λ b. (i : Item) → Means row.now i → b ≡ has_target i rid) }
 {
     let target = target_of(row)?;
-    Ok(0 < rid.0 && target == rid.0)
+    Ok(0 < rid.0 && target.0 == rid.0)
 }
 
 fn is_parent_of(row: &Row, rid: Rid) -> Result<bool, OutOfMemory>
@@ -150,7 +135,7 @@ pub(crate) fn target_at(rows: &Rows, item: ItemId) -> Result<u64, OutOfMemory>
     match rows.get(item) {
         Some(row) => {
             let rid = target_of(row)?;
-            Ok(rid)
+            Ok(rid.0)
         }
         None => Ok(0),
     }
@@ -162,7 +147,7 @@ pub(crate) fn fill(rows: &[Row], targets: &mut Targets) -> Result<(), OutOfMemor
 {
     for row in rows {
         let rid = target_of(row)?;
-        targets.enter(row.id, rid)?;
+        targets.enter(row.id, rid.0)?;
     }
     Ok(())
 }

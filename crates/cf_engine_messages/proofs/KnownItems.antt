@@ -1,7 +1,8 @@
 -- An item of the remote is known exactly where a local item is found that is it.
-use Rattle.std.proofs.Common.{◌≡◌, ℕ, zero, suc, Bool, true, false, not, cond, List, [], ◌∷◌, ◌&&◌, ◌||◌, ◌==◌, Option, Some, is_some, nat_lt, arith, refl, sym, ◌∙◌, ap}
+use Rattle.std.proofs.Common.{◌≡◌, ◌<◌, ℕ, zero, suc, Bool, true, false, not, cond, List, [], ◌∷◌, ◌&&◌, ◌||◌, ◌==◌, Option, Some, is_some, nat_lt, arith, refl, sym, ◌∙◌, ap}
 use Rattle.std.proofs.lemmas.Bool.{eqb-true, lt-ltb, ne_eqb}
-use Rattle.std.specs.Prelude.{filter, find, map}
+use Rattle.std.proofs.lemmas.List.Elements.{All-head, All-tail}
+use Rattle.std.specs.Prelude.{All, filter, find, map}
 use Rattle.cf_base.specs.declared.ids.Rid.{Rid}
 use Rattle.cf_engine_feed_plan.specs.Premises.{id_of}
 use Rattle.cf_engine_provider.specs.Listings.{known_in}
@@ -34,3 +35,17 @@ found_is_known (i ∷ is) rid =
     ∙ ap (λ (b : Bool). has_target i rid || b) (found_is_known is rid)
     ∙ same_test (target_of i).0 rid.0 (is_untargeted i) (is_known (known_in is) rid) refl
     ∙ sym (known_or (is_untargeted i) i (filter (λ x. not (is_untargeted x)) is) rid)
+
+-- an item that is later than each target is not known
+
+neither : (u b k : Bool) → b ≡ false → k ≡ false → cond u k (b || k) ≡ false
+neither true b k e h = h
+neither false b k e h = ap (λ (c : Bool). c || k) e ∙ h
+
+pub above_unknown : (items : List Item) (rid : Rid) → All (λ i. (target_of i).0 < rid.0) items → is_known (known_in items) rid ≡ false
+above_unknown [] rid above = refl
+above_unknown (i ∷ is) rid above =
+    known_or (is_untargeted i) i (filter (λ x. not (is_untargeted x)) is) rid
+    ∙ neither (is_untargeted i) ((target_of i).0 == rid.0) (is_known (known_in is) rid)
+    (ne_eqb (target_of i).0 rid.0 (λ same. omega (arith, same, All-head (λ x. (target_of x).0 < rid.0) i is above)))
+    (above_unknown is rid (All-tail (λ x. (target_of x).0 < rid.0) i is above))

@@ -1,6 +1,6 @@
 -- Whether a reply is stale, by what is read of the filter and of the engine's own.
-use Rattle.std.proofs.Common.{◌≡◌, ℕ, Bool, true, false, not, List, [], ◌&&◌, ◌||◌, ◌==◌, refl, sym, ◌∙◌, ap, subst}
-use Rattle.std.specs.Prelude.{Result, Ok, Err, IfOk, Option, Some, None, is_some, nat_le, option_map}
+use Rattle.std.proofs.Common.{◌≡◌, ◌<◌, ℕ, Bool, true, false, not, List, [], ◌&&◌, ◌||◌, ◌==◌, refl, sym, ◌∙◌, ap, subst}
+use Rattle.std.specs.Prelude.{All, Result, Ok, Err, IfOk, Option, Some, None, is_some, nat_le, option_map}
 use Rattle.cf_base.specs.declared.ids.ItemId.{ItemId}
 use Rattle.cf_base.specs.declared.ids.Key.{Key}
 use Rattle.cf_base.specs.declared.ids.Rid.{Rid}
@@ -16,7 +16,7 @@ use Rattle.cf_base.specs.declared.waits.Ask.{Ask}
 use Rattle.cf_engine_feed.specs.Targets.{IsFirst}
 use Rattle.cf_engine_host.specs.Readings.{epoch_of}
 use Rattle.cf_engine_messages.specs.Staleness.{fits_in, fits_with, has_entries, is_ended_in, is_feed_over, is_here, is_idle_in, is_old_now, is_one_of, is_unlisted_in, made_item, rid_under, settled_token}
-use Rattle.cf_engine_messages.proofs.KnownItems.{found_is_known}
+use Rattle.cf_engine_messages.proofs.KnownItems.{above_unknown, found_is_known}
 use Rattle.cf_engine_messages.proofs.Unread.{unread}
 use Rattle.cf_engine_provider.specs.Listings.{AreAlike, known_in}
 use Rattle.cf_engine_provider.proofs.FitsAlike.{fits_alike}
@@ -25,7 +25,7 @@ use Rattle.cf_engine_steps.specs.BookReads.{cursor_in, entry_in, has_entries_in,
 use Rattle.cf_engine_steps.specs.States.{Own, whole}
 use Rattle.cf_model.specs.Books.{QueueEntry}
 use Rattle.cf_model.specs.Fits.{Known, fits}
-use Rattle.cf_model.specs.Identities.{has_target}
+use Rattle.cf_model.specs.Identities.{has_target, target_of}
 use Rattle.cf_model.specs.Items.{Item}
 use Rattle.cf_model.specs.Messages.{is_old, is_stale, known_now, settled_rid}
 use Rattle.cf_model.specs.Numbers.{no_rid}
@@ -76,6 +76,11 @@ module _ {X : Type 0} (S : steps.Sense X) (x : X) where
   pub here_some : (t : Table) (made : Option Rid) (rid : Rid) (found : Option ItemId) (b : Bool) → HasRows S x t → IsFirst (λ i. has_target i rid) t.rows found → b ≡ is_some found → made ≡ Some rid → steps.Reads S steps.Any (is_here made) x b
   here_some t made rid found b rows first told is = record {
     is = λ s m a. told ∙ ap is_some (first s.volume.items (rows.rows s m)) ∙ found_is_known s.volume.items rid ∙ ap (is_one_of (known_in s.volume.items)) (sym is);
+  }
+
+  pub here_above : (t : Table) (made : Option Rid) (rid : Rid) → HasRows S x t → ((items : List Item) → MeansAll t.rows items → All (λ i. (target_of i).0 < rid.0) items) → made ≡ Some rid → steps.Reads S steps.Any (is_here made) x false
+  here_above t made rid rows above is = record {
+    is = λ s m a. sym (above_unknown s.volume.items rid (above s.volume.items (rows.rows s m))) ∙ ap (is_one_of (known_in s.volume.items)) (sym is);
   }
 
   pub here_none : (made : Option Rid) → made ≡ None → steps.Reads S steps.Any (is_here made) x false

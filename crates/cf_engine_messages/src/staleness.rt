@@ -82,13 +82,17 @@ fn made_item(request: &Request, settled: Rid, reply: &Reply) -> Option<Rid>
     }
 }
 
-// Whether a local item is this item of the remote, if there is one. It takes time by the items.
+// Whether a local item is this item of the remote, if there is one. It takes time by the items where it is no later than each of their
+// targets: a remote that counts its items gives a later one.
 fn is_here<S: EngineHost>(s: &S, made: Option<Rid>) -> Result<bool, OutOfMemory>
     ensures { IfOk result (λ x. FilterReads S.sense AnyFilter (is_here made) s.now x) }
 {
     let Some(rid) = made else {
         return Ok(false);
     };
+    if s.rows().is_above_targets(rid) {
+        return Ok(false);
+    }
     let found = walk_item(s.rows().as_slice(), rid)?;
     Ok(found.is_some())
 }

@@ -24,4 +24,4 @@ mod requests;
 pub use agents::Agent;
 pub use entries::{new_items, paths_from, unknown};
 pub use list_views::{Found, find};
-pub use locals::{Locals, locals_of};
+pub use locals::{Locals, locals_of, target_of};

@@ -104,7 +104,7 @@ impl LocalItems for Locals {
 
 /// The item of the remote that the row's item is; that of the root is the root. 0 stands for none. Nothing where no engine gave the
 /// identity.
-pub(crate) fn target_of(row: &Row) -> Option<Rid>
+pub fn target_of(row: &Row) -> Option<Rid>
     ensures { MatchOption result ((i : Item) → Means row.now i → HasOurs i → ⊥) (λ r. (i : Item) → Means row.now i → r ≡ target_of i) }
 {
     if row.id.0 == 1 {

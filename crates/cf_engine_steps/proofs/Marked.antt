@@ -1,14 +1,12 @@
 -- Items that are marked, by what was tested of them.
-use Rattle.std.proofs.Common.{◌≡◌, Bool, true, false, not, List, refl, sym, ◌∙◌, ap, ℕ}
-use Rattle.std.specs.Prelude.{Result, Ok, Option, Some, None, cond, take, ◌==◌, ◌&&◌}
+use Rattle.std.proofs.Common.{◌≡◌, Bool, true, false, not, refl, sym, ◌∙◌, ap}
+use Rattle.std.specs.Prelude.{Result, Ok, Option, Some, None, ◌==◌, ◌&&◌}
 use Rattle.cf_base.specs.declared.changes.Change.TheVariants as change
 use Rattle.cf_base.specs.declared.codes.CallError.{CallError}
 use Rattle.cf_base.specs.declared.ids.ItemId.{ItemId}
 use Rattle.cf_base.specs.declared.ids.Rid.{Rid}
 use Rattle.cf_base.specs.declared.ids.Usn.{Usn}
 use Rattle.cf_base.specs.declared.items.SeenPath.{SeenPath}
-use Rattle.cf_engine_queue.specs.Identities as queue
-use Rattle.cf_engine_queue.specs.declared.identities.Numbers.{Numbers}
 use Rattle.cf_engine_steps.specs.Answering.{Answers, Any}
 use Rattle.cf_engine_steps.specs.BookReads.{seen_in}
 use Rattle.cf_engine_steps.specs.Marks.{IsParentTarget, IsTarget, StandsIf, is_markable_at, number_at}
@@ -20,29 +18,16 @@ use Rattle.cf_filter_steps.specs.Answering as steps
 use Rattle.cf_filter_steps.specs.Finding.{HasRows}
 use Rattle.cf_model.specs.Identities.{is_untargeted, stands_at_path, stands_at_seen, target_of}
 use Rattle.cf_model.specs.Items.{Item, is_dirty, item_of}
-use Rattle.cf_model.specs.Numbers.{no_rid, no_usn, root_rid, same_usn}
+use Rattle.cf_model.specs.Numbers.{no_rid, no_usn, same_usn}
 use Rattle.cf_model.specs.Skips.{is_markable, mark_if, may_mark, number_of_item, try_change, try_mark, try_mark_now}
 use Rattle.cf_model.specs.State.{Filter}
-use Rattle.cf_model.specs.Words.{number_of, part, same, says}
+use Rattle.cf_model.specs.Words.{part, same, says}
 use Rattle.cf_remote.specs.Told.{Told}
 use Rattle.cf_table.specs.Means.{Means}
 use Rattle.cf_table.specs.Tables.{Table, row_of}
 use Rattle.cf_table.specs.declared.rows.Row.{Row}
 
 -- targets
-
-cond_is : (b c : Bool) (x y : Rid) → b ≡ c → cond b x y ≡ cond c x y
-cond_is b c x y e = ap (λ (d : Bool). cond d x y) e
-
-pub root_target : (row : Row) → (row.id.0 == 1) ≡ true → IsTarget row root_rid
-root_target row e = record { is = λ i m. sym (cond_is (i.id.0 == 1) true root_rid _ (ap (λ (k : ItemId). k.0 == 1) (sym m.id) ∙ e)) }
-
-pub other_target : (row : Row) (n : Numbers) → (row.id.0 == 1) ≡ false → n ≡ queue.numbers_of row.identity → IsTarget row (record { 0 = n.target })
-other_target row n e is = record {
-  is = λ i m.
-      ap (λ (k : Numbers). record { 0 = k.target }) is ∙ ap (λ (l : List ℕ). record { 0 = number_of (take 8 l) }) m.identity
-      ∙ sym (cond_is (i.id.0 == 1) false root_rid _ (ap (λ (k : ItemId). k.0 == 1) (sym m.id) ∙ e));
-}
 
 module _ {X : Type 0} (S : steps.Sense X) (x : X) (t : Table) (row : Row) (rows : HasRows S x t) where
   pub target_above : (parent : Row) (target : Rid) → row_of t.rows row.parent ≡ Some parent → IsTarget parent target → IsParentTarget S row x target

@@ -1,30 +1,22 @@
 //! Marks.
 
-ghost use Rattle.std.specs.Prelude.{◌≡◌, ◌==◌, ◌&&◌, IfOk, not};
+ghost use Rattle.std.specs.Prelude.{◌≡◌, ◌&&◌, IfOk, not};
 ghost use Rattle.cf_base.specs.declared.changes.Change.TheVariants as change;
 ghost use Rattle.cf_engine_steps.specs.Answering.{Answers, Any};
-ghost use Rattle.cf_engine_steps.specs.Marks.{IsParentTarget, IsTarget, StandsIf, is_markable_at, number_at};
+ghost use Rattle.cf_engine_steps.specs.Marks.{is_markable_at, number_at};
 ghost use Rattle.cf_engine_steps.specs.States.{whole};
 ghost use Rattle.cf_filter_steps.specs.Answering.{Any as AnyFilter, Reads as FilterReads};
 ghost use Rattle.cf_model.specs.Numbers.{same_usn};
 ghost use Rattle.cf_model.specs.Skips.{try_change, try_mark, try_mark_now};
-ghost use Rattle.cf_model.specs.Words.{same};
 
-use crate::book_reads::seen;
 use crate::changes::try_change;
 use crate::engines::Engine;
-use cf_base::{CallError, Change, ItemId, OutOfMemory, Rid, SeenPath, Usn, no_such_state};
+use crate::targets::{NO_RID, stands_at_seen, target_of};
+use cf_base::{CallError, Change, ItemId, OutOfMemory, Usn};
 use cf_engine_host::EngineHost;
-use cf_engine_queue::numbers_of;
 use cf_filter_steps::Steps;
 use cf_remote::Remote;
-use cf_table::{NO_USN, ROOT, Row, same_usn};
-
-/// The root of the remote.
-const ROOT_RID: Rid = Rid(1);
-
-/// No item of the remote.
-const NO_RID: Rid = Rid(0);
+use cf_table::{NO_USN, Row, same_usn};
 
 /// Marks an item as in sync at this number, with its line, or leaves that out where it finds no room. Whether it was marked. An item
 /// that is not there, or that is no placeholder, is never to be marked: then it is out of memory, and all is as before. A stop of the
@@ -39,52 +31,6 @@ pub fn mark<S: EngineHost, R: Remote>(
 {
     let change = Change::Mark { item, number };
     try_change(s, e, &change)
-}
-
-// The item of the remote that a local one is. An identity that no engine gave is out of memory.
-fn target_of(row: &Row) -> Result<Rid, OutOfMemory>
-    ensures { IfOk result (IsTarget row.now) }
-{
-    if row.id.0 == ROOT.0 {
-        return Ok(ROOT_RID);
-    }
-    match numbers_of(&row.identity) {
-        Some(numbers) => Ok(Rid(numbers.target)),
-        None => Err(no_such_state()),
-    }
-}
-
-// The item of the remote that the parent of a local one is, 0 for none.
-fn parent_target<S: Steps>(s: &S, row: &Row) -> Result<Rid, OutOfMemory>
-    ensures { IfOk result (IsParentTarget S.sense row.now s.now) }
-{
-    match s.rows().get(row.parent) {
-        Some(parent) => target_of(parent),
-        None => Ok(NO_RID),
-    }
-}
-
-fn has_name(row: &Row, path: &SeenPath) -> bool
-    ensures { result ≡ same row.now.name path.now.name }
-{
-    row.name.as_slice() == path.name.as_slice()
-}
-
-fn is_at(row: &Row, parent: Rid, path: &SeenPath) -> bool
-    ensures { result ≡ ((parent.0 == path.now.parent.0) && same row.now.name path.now.name) }
-{
-    parent.0 == path.parent.0 && has_name(row, path)
-}
-
-// Whether the item stands at the path at which it was seen.
-fn stands_at_seen<S: EngineHost>(s: &S, row: &Row) -> Result<bool, OutOfMemory>
-    ensures { IfOk result (StandsIf S.sense row.now s.now) }
-{
-    let parent = parent_target(s, row)?;
-    match seen(s, row.id)? {
-        Some(path) => Ok(is_at(row, parent, &path)),
-        None => Ok(false),
-    }
 }
 
 // Whether the item has the number, is not in sync, and has no local writes that the base has not taken in.

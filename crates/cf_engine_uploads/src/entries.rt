@@ -5,9 +5,10 @@ ghost use Rattle.cf_engine_queue.specs.Books.{action_of, entry_value};
 ghost use Rattle.cf_engine_uploads.specs.Entries.{Drafts, IsEntry, IsPlaced};
 ghost use Rattle.cf_model.specs.Pushes.{without_place, without_rid};
 
-use crate::item_reads::{NO_RID, base_version, parent_target, target_of};
+use crate::item_reads::base_version;
 use cf_base::{Blob, ItemId, OutOfMemory, Rid, Token, Version, no_such_state};
 use cf_engine_queue::{Action, QueueEntry};
+use cf_engine_steps::{NO_RID, parent_target, target_of};
 use cf_filter_steps::Steps;
 use cf_table::Row;
 use std::alloc::Global;

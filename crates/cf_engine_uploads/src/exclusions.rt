@@ -5,13 +5,14 @@ ghost use Rattle.std.specs.List.{list_any};
 ghost use Rattle.cf_engine_uploads.specs.Exclusions.{is_stored_in};
 ghost use Rattle.cf_model.specs.Items.{Item};
 ghost use Rattle.cf_model.specs.LookUp.{is_excluded, is_excluded_pin};
-ghost use Rattle.cf_table.specs.Tables.{MeansAll, row_of};
-ghost use Rattle.cf_tree.specs.Lines.{line_in, parent_in};
+ghost use Rattle.cf_table.specs.Tables.{MeansAll};
+ghost use Rattle.cf_tree.specs.Lines.{line_in};
 ghost use Rattle.cf_tree.specs.Trees.{IsTree};
 
 use cf_base::limits::MOST_PATH_NAMES;
 use cf_base::{ItemId, Pin};
 use cf_table::{ROOT, Rows};
+use cf_tree::parent_of;
 
 const MOST_NAMES: usize = MOST_PATH_NAMES as usize;
 
@@ -32,17 +33,6 @@ fn is_stored(rows: &Rows, id: ItemId) -> bool
         Some(row) => is_excluded_pin(row.pin),
         None => false,
     }
-}
-
-// The parent of an item, unless that is the root or not there.
-fn parent_of(rows: &Rows, at: ItemId) -> Option<ItemId>
-    ensures { result ≡ parent_in (row_of rows.now.rows at) }
-{
-    let row = rows.get(at)?;
-    if row.id == ROOT {
-        return None;
-    }
-    Some(row.parent)
 }
 
 // Whether the item or one above it is stored as excluded, the root left out.

@@ -1,80 +1,24 @@
 //! What is read of an item before it is uploaded.
 
-ghost use Rattle.std.specs.Prelude.{◌≡◌, ◌==◌, ◌&&◌, IfOk, OnOk};
-ghost use Rattle.cf_engine_steps.specs.Marks.{IsParentTarget, IsTarget, StandsIf};
+ghost use Rattle.std.specs.Prelude.{◌≡◌, IfOk, OnOk};
 ghost use Rattle.cf_engine_uploads.specs.Reads.{IsBaseVersion, IsPlaceholder, is_there_at, is_whole_at};
 ghost use Rattle.cf_filter_calls.specs.Planned.{ReadsAt, has_entries, stands_for};
 ghost use Rattle.cf_filter_steps.specs.Answering.{Any as AnyFilter, Reads as FilterReads};
 ghost use Rattle.cf_model.specs.Items.{Item, is_all_here, size_of};
-ghost use Rattle.cf_model.specs.Words.{same};
 ghost use Rattle.cf_table.specs.Means.{Means};
 
-use cf_base::{ItemId, OutOfMemory, Rid, SeenPath, Version, no_such_state};
-use cf_engine_host::EngineHost;
+use cf_base::{ItemId, OutOfMemory, Version, no_such_state};
 use cf_engine_queue::numbers_of;
-use cf_engine_steps::seen;
 use cf_filter_steps::Steps;
-use cf_table::{ROOT, Row};
+use cf_table::Row;
 
-/// The root of the remote.
-const ROOT_RID: Rid = Rid(1);
-
-/// No item of the remote.
-pub(crate) const NO_RID: Rid = Rid(0);
-
-/// The item of the remote that a local one is, 0 for none. An identity that no engine gave is out of memory.
-pub(crate) fn target_of(row: &Row) -> Result<Rid, OutOfMemory>
-    ensures { IfOk result (IsTarget row.now) }
-{
-    if row.id.0 == ROOT.0 {
-        return Ok(ROOT_RID);
-    }
-    match numbers_of(&row.identity) {
-        Some(numbers) => Ok(Rid(numbers.target)),
-        None => Err(no_such_state()),
-    }
-}
-
-/// The version of its base, 0 for none. As `target_of`.
+/// The version of the base of the row's item, 0 for none. An identity that no engine gave is out of memory.
 pub(crate) fn base_version(row: &Row) -> Result<Version, OutOfMemory>
     ensures { IfOk result (IsBaseVersion row.now) }
 {
     match numbers_of(&row.identity) {
         Some(numbers) => Ok(Version(numbers.version)),
         None => Err(no_such_state()),
-    }
-}
-
-/// The item of the remote that its parent is, 0 for none. As `target_of`.
-pub(crate) fn parent_target<S: Steps>(s: &S, row: &Row) -> Result<Rid, OutOfMemory>
-    ensures { IfOk result (IsParentTarget S.sense row.now s.now) }
-{
-    match s.rows().get(row.parent) {
-        Some(parent) => target_of(parent),
-        None => Ok(NO_RID),
-    }
-}
-
-fn has_name(row: &Row, path: &SeenPath) -> bool
-    ensures { result ≡ same row.now.name path.now.name }
-{
-    row.name.as_slice() == path.name.as_slice()
-}
-
-fn is_at(row: &Row, parent: Rid, path: &SeenPath) -> bool
-    ensures { result ≡ ((parent.0 == path.now.parent.0) && same row.now.name path.now.name) }
-{
-    parent.0 == path.parent.0 && has_name(row, path)
-}
-
-/// Whether the item stands at the path at which it was seen.
-pub(crate) fn stands_at_seen<S: EngineHost>(s: &S, row: &Row) -> Result<bool, OutOfMemory>
-    ensures { IfOk result (StandsIf S.sense row.now s.now) }
-{
-    let parent = parent_target(s, row)?;
-    match seen(s, row.id)? {
-        Some(path) => Ok(is_at(row, parent, &path)),
-        None => Ok(false),
     }
 }
 

@@ -7,14 +7,13 @@ ghost use Rattle.cf_engine_uploads.specs.Turns.{IsCase, IsLeftOut, PlansTurn, is
 ghost use Rattle.cf_model.specs.Pushes.{push_turn};
 
 use crate::exclusions::is_excluded;
-use crate::item_reads::{NO_RID, parent_target, stands_at_seen, target_of};
 use crate::items::{mark_item, upload, upload_new};
 use crate::senders::Sender;
 use crate::uploads::push_place;
 use cf_base::{CallError, ItemId, OutOfMemory};
 use cf_engine_host::EngineHost;
 use cf_engine_queue::Action;
-use cf_engine_steps::{Engine, has_entry};
+use cf_engine_steps::{Engine, NO_RID, has_entry, parent_target, stands_at_seen, target_of};
 use cf_filter_steps::Steps;
 use cf_remote::Remote;
 use cf_table::{ROOT, Row};

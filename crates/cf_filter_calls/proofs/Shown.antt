@@ -10,7 +10,7 @@ use Rattle.cf_base.specs.declared.items.Kind.{Kind}
 use Rattle.cf_base.specs.declared.policies.Class.{Class}
 use Rattle.cf_base.specs.declared.policies.Class.TheVariants as class
 use Rattle.cf_base.specs.declared.spans.Span.{Span}
-use Rattle.cf_filter_calls.specs.Told.{IsShown, kind_by}
+use Rattle.cf_filter_calls.specs.Told.{IsShown}
 use Rattle.cf_model.specs.Arrows.{ret}
 use Rattle.cf_model.specs.Calls.{class_flags, info_of}
 use Rattle.cf_model.specs.Images.{runs_of}
@@ -24,6 +24,7 @@ use Rattle.cf_ranges.proofs.One.{one_list}
 use Rattle.cf_filter_steps.specs.Answering.{After, Answers, IsAt, Sense}
 use Rattle.cf_filter_steps.specs.Finding.{HasRows}
 use Rattle.cf_filter_steps.specs.Good.{IsSmall}
+use Rattle.cf_table.specs.Kinds.{kind_by}
 use Rattle.cf_table.specs.Means.{Means}
 use Rattle.cf_table.specs.Tables.{Table, row_of}
 use Rattle.cf_table.specs.declared.rows.Row.{Row}

@@ -1,13 +1,11 @@
 -- Why a policy is refused, and what is told of an item.
-use Rattle.std.specs.Prelude.{◌≡◌, Bool, [], ◌∷◌, Option, Result, Ok, Err, cond, ◌&&◌}
+use Rattle.std.specs.Prelude.{◌≡◌, Bool, [], ◌∷◌, Option, Result, Ok, Err, ◌&&◌}
 use Rattle.cf_base.specs.declared.answers.Shown.{Shown}
 use Rattle.cf_base.specs.declared.codes.Code.{Code}
 use Rattle.cf_base.specs.declared.codes.Code.TheVariants as code
 use Rattle.cf_base.specs.declared.codes.CallError.{CallError}
 use Rattle.cf_base.specs.declared.codes.CallError.TheVariants.{OutOfMemory, No}
 use Rattle.cf_base.specs.declared.ids.ItemId.{ItemId}
-use Rattle.cf_base.specs.declared.items.Kind.{Kind}
-use Rattle.cf_base.specs.declared.items.Kind.TheVariants as kind
 use Rattle.cf_base.specs.declared.policies.Mode.{Mode}
 use Rattle.cf_base.specs.declared.policies.Policy.{Policy}
 use Rattle.cf_model.specs.Arrows.{Arrow, reading, ret}
@@ -25,9 +23,6 @@ policy_refusal m p s = first_of (policy_tests m p s)
 -- the last access of the item with this id
 abbrev pub used_by : ItemId → Arrow Filter Shown
 used_by id = reading (used_now id) ret
-
-abbrev pub kind_by : Bool → Bool → Bool → Kind
-kind_by directory populated placeholder = cond directory (cond populated (cond placeholder kind.PlaceholderDir kind.Dir) kind.UnpopulatedDir) (cond placeholder kind.PlaceholderFile kind.File)
 
 -- this is told, or there was no memory
 abbrev pub IsShown : Shown → Result Shown CallError → Type 0

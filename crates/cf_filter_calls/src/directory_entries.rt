@@ -1,6 +1,6 @@
 //! Entries of a directory, which a provider gives to a list ask.
 
-ghost use Rattle.std.specs.Prelude.{◌≡◌, IfOk, List, [], ◌∷◌, length, not};
+ghost use Rattle.std.specs.Prelude.{◌≡◌, IfOk, List, [], ◌∷◌, not};
 ghost use Rattle.cf_base.specs.declared.answers.AuxRecord.{AuxRecord};
 ghost use Rattle.cf_base.specs.declared.codes.Code.TheVariants as code;
 ghost use Rattle.cf_base.specs.declared.ids.Key.{Key};
@@ -14,8 +14,6 @@ ghost use Rattle.cf_model.specs.Requests.{Live};
 ghost use Rattle.cf_model.specs.Words.{first_of, is_empty};
 ghost use Rattle.cf_filter_steps.specs.Answering.{Answers, Any, Reads};
 ghost use Rattle.cf_filter_steps.specs.Listing.{Listing, ReadyListed};
-ghost use Rattle.cf_table.specs.Tables.{row_of};
-ghost use Rattle.cf_tree.specs.Lines.{line_in, parent_in};
 
 use crate::consents::{finish, finish_now};
 use crate::items::is_unlisted;
@@ -24,35 +22,11 @@ use cf_base::{
     Ask, AuxRecord, CallError, Cause, Change, Code, ItemId, NewItem, OutOfMemory, Shown, Usn,
 };
 use cf_filter_steps::{Room, Steps};
-use cf_table::{NO_USN, ROOT, Rows};
+use cf_table::NO_USN;
+use cf_tree::line_of;
 
 /// The most names that lead to an item.
 const MOST_NAMES: usize = 32;
-
-// The directory of an item, unless that is the root or not there.
-fn parent_of(rows: &Rows, at: ItemId) -> Option<ItemId>
-    ensures { result ≡ parent_in (row_of rows.now.rows at) }
-{
-    let row = rows.get(at)?;
-    if row.id == ROOT {
-        return None;
-    }
-    Some(row.parent)
-}
-
-// How many names lead to an item, of which no more than 32 are counted.
-fn depth_of(rows: &Rows, id: ItemId) -> usize
-    ensures { result ≡ length (line_in 32 rows.now.rows id) }
-{
-    let mut at = id;
-    for depth in 0..MOST_NAMES {
-        match parent_of(rows, at) {
-            Some(parent) => at = parent,
-            None => return depth,
-        }
-    }
-    MOST_NAMES
-}
 
 fn is_any(list: &[NewItem]) -> bool
     ensures { result ≡ not (is_empty list.now) }
@@ -68,7 +42,7 @@ fn is_too_deep<S: Steps>(s: &S, dir: ItemId, list: &[NewItem]) -> bool
     ensures { Reads S.sense Any (is_too_deep dir list.now) s.now result }
 {
     if is_any(list) {
-        depth_of(s.rows(), dir) >= MOST_NAMES
+        line_of(s.rows(), dir, dir, MOST_NAMES).depth >= MOST_NAMES
     } else {
         false
     }

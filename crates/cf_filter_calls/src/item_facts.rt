@@ -2,7 +2,7 @@
 
 ghost use Rattle.std.specs.Prelude.{◌≡◌, ◌≤◌, ◌^◌, ℕ, Bool, List, length};
 ghost use Rattle.cf_base.specs.declared.answers.Shown.TheVariants as shown;
-ghost use Rattle.cf_filter_calls.specs.Told.{IsShown, kind_by};
+ghost use Rattle.cf_filter_calls.specs.Told.{IsShown};
 ghost use Rattle.cf_model.specs.Calls.{class_flags, info, info_item, info_of, ranges, ranges_item};
 ghost use Rattle.cf_model.specs.Images.{runs_of};
 ghost use Rattle.cf_model.specs.Items.{Item};
@@ -14,25 +14,11 @@ ghost use Rattle.cf_filter_steps.specs.Good.{IsSmall};
 ghost use Rattle.cf_table.specs.Means.{Means};
 
 use crate::items::is_directory;
-use cf_base::{CallError, Class, Code, ItemId, Kind, Sequence, Shown};
+use cf_base::{CallError, Class, Code, ItemId, Sequence, Shown};
 use cf_filter_steps::{Steps, find_at};
 use cf_ranges::RangeSet;
-use cf_table::Row;
+use cf_table::{Row, kind_of};
 use std::alloc::Global;
-
-fn kind_by(dir: bool, populated: bool, placeholder: bool) -> Kind
-    ensures { result ≡ kind_by dir populated placeholder }
-{
-    if dir && !populated {
-        return Kind::UnpopulatedDir;
-    }
-    match (dir, placeholder) {
-        (true, true) => Kind::PlaceholderDir,
-        (true, false) => Kind::Dir,
-        (false, true) => Kind::PlaceholderFile,
-        (false, false) => Kind::File,
-    }
-}
 
 fn show_info(row: &Row) -> Result<Shown, CallError>
     ensures { (i : Item) → Means row.now i → IsShown (info_of i) result }
@@ -40,7 +26,7 @@ fn show_info(row: &Row) -> Result<Shown, CallError>
     let identity = row.identity.copy()?;
     Ok(Shown::Info {
         item: row.id,
-        kind: kind_by(row.dir, row.populated, row.placeholder),
+        kind: kind_of(row),
         size: row.size as u64,
         pin: row.pin,
         in_sync: row.in_sync,

@@ -5,9 +5,10 @@ use Rattle.cf_base.specs.declared.ids.ItemId.{ItemId}
 use Rattle.cf_model.specs.Items.{Item, item_of}
 use Rattle.cf_model.specs.State.{State, items_now}
 use Rattle.cf_pair_paths.specs.PathsByRows as table
-use Rattle.cf_pair_paths.specs.PathsByRows.{is_below_root, kind_by, path_row_in, path_rows_in}
+use Rattle.cf_pair_paths.specs.PathsByRows.{is_below_root, path_row_in, path_rows_in}
 use Rattle.cf_pair_traces.specs.Pairs as pairs
 use Rattle.cf_pair_traces.specs.Pairs.{path_row, path_rows}
+use Rattle.cf_table.specs.Kinds.{kind_by}
 use Rattle.cf_table.specs.Means.{Means}
 use Rattle.cf_table.specs.Tables.{MeansAll, row_of}
 use Rattle.cf_table.specs.declared.rows.Row.{Row}

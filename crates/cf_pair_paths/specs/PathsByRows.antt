@@ -1,8 +1,7 @@
 -- What stands at each path, as the code has it: by rows.
 use Rattle.std.specs.Prelude.{ℕ, zero, suc, Bool, not, cond, filter, map, List, [], ◌∷◌, ◌++◌, ◌==◌, ◌&&◌, Option, Some, None}
-use Rattle.cf_base.specs.declared.items.Kind.{Kind}
-use Rattle.cf_base.specs.declared.items.Kind.TheVariants as kind
 use Rattle.cf_pair_compare.specs.declared.path_rows.PathRow.{PathRow}
+use Rattle.cf_table.specs.Kinds.{kind_in}
 use Rattle.cf_table.specs.Tables.{row_of}
 use Rattle.cf_table.specs.declared.rows.Row.{Row}
 
@@ -11,12 +10,6 @@ abbrev pub path_in : ℕ → List Row → Option Row → List ℕ
 path_in zero rows r = []
 path_in (suc fuel) rows None = []
 path_in (suc fuel) rows (Some r) = cond (r.id.0 == 1) [] (path_in fuel rows (row_of rows r.parent) ++ 47 ∷ r.name)
-
-abbrev pub kind_by : Bool → Bool → Bool → Kind
-kind_by directory populated placeholder = cond directory (cond populated (cond placeholder kind.PlaceholderDir kind.Dir) kind.UnpopulatedDir) (cond placeholder kind.PlaceholderFile kind.File)
-
-abbrev pub kind_in : Row → Kind
-kind_in r = kind_by r.dir r.populated r.placeholder
 
 abbrev pub is_below_root : Row → Bool
 is_below_root r = not (r.id.0 == 1)

@@ -3,7 +3,6 @@
 //! `path_rows` gives what the definitions say of each state whose items the rows mean. In such a state no path stands twice.
 #![tactic(auto)]
 
-mod kinds;
 mod laws;
 mod listings;
 mod paths;

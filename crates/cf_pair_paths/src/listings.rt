@@ -6,11 +6,10 @@ ghost use Rattle.cf_pair_paths.specs.PathsByRows.{is_below_root, path_row_in, pa
 ghost use Rattle.cf_pair_traces.specs.Pairs.{path_rows};
 ghost use Rattle.cf_table.specs.Tables.{MeansAll};
 
-use crate::kinds::kind_in;
 use crate::paths::path_of;
 use cf_base::OutOfMemory;
 use cf_pair_compare::PathRow;
-use cf_table::{ROOT, Row, Rows};
+use cf_table::{ROOT, Row, Rows, kind_of};
 use std::alloc::Global;
 
 fn is_below_root(row: &Row) -> bool
@@ -24,7 +23,7 @@ fn path_row(alloc: Global, rows: &Rows, row: &Row) -> Result<PathRow, OutOfMemor
 {
     Ok(PathRow {
         path: path_of(alloc, rows, row)?,
-        kind: kind_in(row),
+        kind: kind_of(row),
         identity: row.identity.copy()?,
         dirty: !row.dir && row.dirty,
     })

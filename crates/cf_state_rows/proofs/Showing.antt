@@ -6,9 +6,10 @@ use Rattle.cf_base.specs.declared.spans.Span.{Span}
 use Rattle.cf_model.specs.Images.{runs_of}
 use Rattle.cf_model.specs.Items.{Item, here_flags}
 use Rattle.cf_ranges.proofs.One.{one_list}
-use Rattle.cf_state_rows.specs.Rows.{kind_by, row_facts}
+use Rattle.cf_state_rows.specs.Rows.{row_facts}
 use Rattle.cf_state_rows.specs.Values.{Facts, document, facts_of, facts_value, run_value}
 use Rattle.cf_table.proofs.RunsOf.{held_flags, length_held, runs_of_contain, runs_of_runs}
+use Rattle.cf_table.specs.Kinds.{kind_by}
 use Rattle.cf_table.specs.Means.{Means}
 use Rattle.cf_table.specs.Tables.{AreTableRows, IsTableRow, MeansAll}
 use Rattle.cf_table.specs.declared.rows.Row.{Row}

@@ -1,15 +1,11 @@
 -- What is shown of a row, and the members that are put for it.
-use Rattle.std.specs.Prelude.{ℕ, Bool, List, codes, cond, map}
+use Rattle.std.specs.Prelude.{ℕ, List, codes, map}
 use Rattle.serde_json.specs.Data.{Members, boolean, put, string}
-use Rattle.cf_base.specs.declared.items.Kind.{Kind}
-use Rattle.cf_base.specs.declared.items.Kind.TheVariants as kind
 use Rattle.cf_report.specs.Changes.{kind_word, pin_word}
 use Rattle.cf_report.specs.Words.{bytes_text, usn_text}
 use Rattle.cf_state_rows.specs.Values.{Facts, count_value, facts_value, list_value, run_value}
+use Rattle.cf_table.specs.Kinds.{kind_in}
 use Rattle.cf_table.specs.declared.rows.Row.{Row}
-
-abbrev pub kind_by : Bool → Bool → Bool → Kind
-kind_by directory populated placeholder = cond directory (cond populated (cond placeholder kind.PlaceholderDir kind.Dir) kind.UnpopulatedDir) (cond placeholder kind.PlaceholderFile kind.File)
 
 abbrev pub row_facts : Row → Facts
 row_facts r = record {
@@ -17,7 +13,7 @@ row_facts r = record {
   id = r.id;
   identity = r.identity;
   in_sync = r.in_sync;
-  kind = kind_by r.dir r.populated r.placeholder;
+  kind = kind_in r;
   name = r.name;
   number = r.number;
   parent = r.parent;

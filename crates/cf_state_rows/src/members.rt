@@ -1,14 +1,14 @@
 //! Rows as objects.
 
 ghost use Rattle.std.specs.Prelude.{◌≡◌, ◌++◌, map, IfOk, OnOk};
-ghost use Rattle.cf_state_rows.specs.Rows.{kind_by, row_facts, with_first, with_last, with_middle};
+ghost use Rattle.cf_state_rows.specs.Rows.{row_facts, with_first, with_last, with_middle};
 ghost use Rattle.cf_state_rows.specs.Values.{facts_value, list_value, run_value};
 ghost use Rattle.serde_json.specs.View.{members_view, view};
 
 use crate::texts::{bytes_value, name_value, usn_value};
-use cf_base::{Kind, OutOfMemory, Span};
+use cf_base::{OutOfMemory, Span};
 use cf_report::{kind_word, pin_word};
-use cf_table::Row;
+use cf_table::{Row, kind_of};
 use serde_json::{Map, Value, json, push, put};
 use std::alloc::Global;
 
@@ -40,20 +40,6 @@ fn runs_value(alloc: Global, runs: &[Span]) -> Result<Value, OutOfMemory>
     }
 }
 
-fn kind_by(dir: bool, populated: bool, placeholder: bool) -> Kind
-    ensures { result ≡ kind_by dir populated placeholder }
-{
-    if dir && !populated {
-        return Kind::UnpopulatedDir;
-    }
-    match (dir, placeholder) {
-        (true, true) => Kind::PlaceholderDir,
-        (true, false) => Kind::Dir,
-        (false, true) => Kind::PlaceholderFile,
-        (false, false) => Kind::File,
-    }
-}
-
 fn put_last(alloc: Global, members: &mut Map<String, Value>, row: &Row) -> Result<(), OutOfMemory>
     ensures { OnOk result (members_view members.new.entries ≡ with_last (row_facts row.now) (members_view members.old.entries)) }
 {
@@ -68,7 +54,7 @@ fn put_last(alloc: Global, members: &mut Map<String, Value>, row: &Row) -> Resul
 fn put_middle(alloc: Global, members: &mut Map<String, Value>, row: &Row) -> Result<(), OutOfMemory>
     ensures { OnOk result (members_view members.new.entries ≡ with_middle (row_facts row.now) (members_view members.old.entries)) }
 {
-    let kind = kind_by(row.dir, row.populated, row.placeholder);
+    let kind = kind_of(row);
     put(
         members,
         alloc,

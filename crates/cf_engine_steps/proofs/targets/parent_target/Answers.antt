@@ -3,7 +3,7 @@ use Rattle.std.specs.Prelude.{option_copied}
 use Rattle.cf_engine_steps.specs.Marks.{IsParentTarget, IsTarget}
 use Rattle.cf_filter_steps.proofs.Laws.{ok_map}
 use Rattle.cf_engine_steps.proofs.Marked.{none_above, target_above}
-use Rattle.cf_engine_steps.proofs.marks.parent_target.Goals as goal
+use Rattle.cf_engine_steps.proofs.targets.parent_target.Goals as goal
 
 pub returns-in-Some : goal.returns-in-Some
 returns-in-Some g c = ok_map c.target_of.result (IsTarget c.in-Some.parent.now) (IsParentTarget g.S.Steps.sense c.args.row.now c.args.s.now)
