@@ -26,10 +26,10 @@ use Rattle.cf_model.specs.Skips.{in_book, is_cursor, left_out, try_book, try_cur
 use Rattle.cf_model.specs.State.{State, book_now, items_now}
 use Rattle.cf_model.specs.Store as store
 use Rattle.cf_model.specs.Store.{Held, Stored, remote_step, stored_at}
-use Rattle.cf_model.specs.Trees.{bind}
+use Rattle.cf_model.specs.Trees.{bind, Ends, AsItKeeps, Faults, Tells}
 use Rattle.cf_model.specs.Words.{says}
 use Rattle.cf_model.specs.Changes.{next_number}
-use Rattle.cf_model.proofs.TreeLaws.{keeps_bind}
+use Rattle.cf_model.proofs.TreeLaws.{keeps_bind, kept_at_end}
 use Rattle.cf_model_laws.specs.Invariant.{All, Invariant, IsAimed, IsRight, target_in}
 use Rattle.cf_model_laws.specs.Premises.{IsFair}
 use Rattle.cf_model_laws.proofs.ContentLaws.{sound_whole}
@@ -41,18 +41,19 @@ use Rattle.cf_model_laws.proofs.SoundSettles.{left_true, not_true, right_true}
 use Rattle.cf_model_convergence.specs.Resting.{IsTargetOf}
 use Rattle.cf_model_convergence.specs.Rounds.{AwaitsFeed}
 use Rattle.cf_model_convergence.specs.Settles.{IsFed}
-use Rattle.cf_model_convergence.specs.Telling.{EndsFairly, IsListening, IsTold}
+use Rattle.cf_model_convergence.specs.Telling.{IsListening, IsTold}
 use Rattle.cf_model_convergence.specs.Tidy.{IsTidy}
 use Rattle.cf_model_convergence.specs.Turns.{AreTurned, IsLeftBy, IsOfNone, with_paths}
-use Rattle.cf_model_convergence.proofs.AddingGuarded.{In, itself}
 use Rattle.cf_model_convergence.proofs.FeedsTold.{fits_known}
 use Rattle.cf_model_convergence.proofs.FeedsTurned.{turns_told}
 use Rattle.cf_model_convergence.proofs.Lines.{one_some}
-use Rattle.cf_model_convergence.proofs.PushesTold.{kept_ends, numbers_used, skip_told, told_after, told_at_once, told_one, told_then}
+use Rattle.cf_model_convergence.proofs.PushesTold.{numbers_used, skip_told, told_after, told_at_once, told_one, told_then}
 use Rattle.cf_model_convergence.proofs.RoundsTaken.{reply_taken}
 use Rattle.cf_model_convergence.proofs.TidyItems.{below_next}
 use Rattle.cf_model_convergence.proofs.TurnsGrow.{Grows, book_grows, if_grows}
 use Rattle.cf_model_convergence.proofs.TurnsTold.{ends_bind}
+use Rattle.cf_model_convergence.proofs.SinceGuarded.{Follows, itself_follows}
+use Rattle.cf_model_convergence.proofs.UnfairReplies.{unfair_told}
 
 -- items are of the kinds of their targets
 
@@ -82,22 +83,22 @@ kinds_right s h fair tidy = all_weaker (IsRight s.link.remote (next_number s.fil
 
 cursor_grows : (clock : ℕ) (b : Bool) → Grows (cursor_if clock b)
 cursor_grows clock false w = record { keeps = λ t j. j }
-cursor_grows clock true w = record { keeps = λ t j. keeps_bind (λ x. In w x.filter) (try_cursor clock t) whatever ((if_grows (not (is_cursor clock t)) (try_book (with_cursor clock)) (book_grows (with_cursor clock)) w).keeps t j) (λ done x k. k) }
+cursor_grows clock true w = record { keeps = λ t j. keeps_bind (Follows w) (try_cursor clock t) whatever ((if_grows (not (is_cursor clock t)) (try_book (with_cursor clock)) (book_grows (with_cursor clock)) w).keeps t j) (λ done x k. k) }
 
 end_grows : (clock skips : ℕ) (f : Fed) → Grows (end_feed clock skips f)
-end_grows clock skips f w = record { keeps = λ t j. (cursor_grows clock (is_whole skips f (with_clock_seen clock (with_volatile all_released t))) w).keeps (with_clock_seen clock (with_volatile all_released t)) j }
+end_grows clock skips f w = record { keeps = λ t j. (cursor_grows clock (is_whole skips f (with_clock_seen clock (with_volatile all_released t))) w).keeps (with_clock_seen clock (with_volatile all_released t)) (record { adds = j.adds; unfair = j.unfair }) }
 
 -- the cursor stays, becomes the clock, or there is the line that it was left out
-end_left : (clock : ℕ) (b : Bool) (m : State) (u : Unit {0}) (t : State) → IsListening m → EndsFairly (cursor_if clock b m) u t → IsTold m t ⊎ (t ≡ m) ⊎ ((b ≡ true) × (t ≡ with_book (with_cursor clock) m))
+end_left : (clock : ℕ) (b : Bool) (m : State) (u : Unit {0}) (t : State) → IsListening m → Ends (cursor_if clock b m) u t → IsTold m t ⊎ (t ≡ m) ⊎ ((b ≡ true) × (t ≡ with_book (with_cursor clock) m))
 end_left clock false m u t listening ends = inr (inl ends.1)
 end_left clock true m u t listening ends =
     let k = ends_bind (try_cursor clock m) whatever u t ends in
     subst (λ (x : State). IsTold m x ⊎ (x ≡ m) ⊎ ((true ≡ true) × (x ≡ with_book (with_cursor clock) m))) (sym k.3.1) (by (not (is_cursor clock m)) k.0 k.1 k.2) where
-      stored : (o : Option Code) (d : Bool) (x : State) → EndsFairly (bind (unless_done (in_book (with_cursor clock)) o m) left_out) d x → IsTold m x ⊎ (x ≡ m) ⊎ ((true ≡ true) × (x ≡ with_book (with_cursor clock) m))
+      stored : (o : Option Code) (d : Bool) (x : State) → Ends (bind (unless_done (in_book (with_cursor clock)) o m) left_out) d x → IsTold m x ⊎ (x ≡ m) ⊎ ((true ≡ true) × (x ≡ with_book (with_cursor clock) m))
       stored None d x z = inr (inr (refl, z.1))
       stored (Some c) d x z = inl (subst (IsTold m) (sym z.1) (skip_told m.running.shows_skips c m (record m { running = record m.running { skips = m.running.skips + 1 } }) listening.shows refl))
 
-      by : (b : Bool) (d : Bool) (x : State) → EndsFairly (only_if b (try_book (with_cursor clock)) m) d x → IsTold m x ⊎ (x ≡ m) ⊎ ((true ≡ true) × (x ≡ with_book (with_cursor clock) m))
+      by : (b : Bool) (d : Bool) (x : State) → Ends (only_if b (try_book (with_cursor clock)) m) d x → IsTold m x ⊎ (x ≡ m) ⊎ ((true ≡ true) × (x ≡ with_book (with_cursor clock) m))
       by true d x z = stored (why_no_record (with_cursor clock) m) d x z
       by false d x z = inr (inl z.1)
 
@@ -193,7 +194,7 @@ module _ (s : State) (h : Invariant s) (fair : IsFair s.link) (listening : IsLis
   whole_none : (f : Fed) (x : State) → is_whole taken.running.skips f x ≡ true → f.postponed ≡ false
   whole_none f x z = not_true f.postponed (left_true (not f.postponed) (x.running.skips == taken.running.skips) (left_true (not f.postponed && (x.running.skips == taken.running.skips)) (not (is_listing x)) z))
 
-  finished : (f : Fed) (ps : List SeenPath) (u : Unit {0}) (t : State) → Turned f.postponed ps → EndsFairly (end_feed clock taken.running.skips f (with_paths ps taken)) u t → IsTold s t ⊎ IsFed s t
+  finished : (f : Fed) (ps : List SeenPath) (u : Unit {0}) (t : State) → Turned f.postponed ps → Ends (end_feed clock taken.running.skips f (with_paths ps taken)) u t → IsTold s t ⊎ IsFed s t
   finished f ps u t k ends = by (end_left clock (is_whole taken.running.skips f (ended ps)) (ended ps) u t (record { inline = listening.inline; shows = listening.shows }) ends) where
     by : IsTold (ended ps) t ⊎ (t ≡ ended ps) ⊎ ((is_whole taken.running.skips f (ended ps) ≡ true) × (t ≡ with_book (with_cursor clock) (ended ps))) → IsTold s t ⊎ IsFed s t
     by (inl z) = inl (told_after s (ended ps) t both_lines (append_assoc s.filter.notes lines (notice.Message (record { message = next_message came; frame = frame.Reply number answer; lost = false }) ∷ [])) z)
@@ -204,49 +205,50 @@ module _ (s : State) (h : Invariant s) (fair : IsFair s.link) (listening : IsLis
   told_all t z = told_after s taken t both_lines (append_assoc s.filter.notes lines (notice.Message (record { message = next_message came; frame = frame.Reply number answer; lost = false }) ∷ [])) z
 
   -- the reply is taken
-  applied : Invariant taken → (u : Unit {0}) (t : State) → EndsFairly (apply_entries clock listed taken) u t → IsTold s t ⊎ IsFed s t
+  applied : Invariant taken → (u : Unit {0}) (t : State) → Ends (apply_entries clock listed taken) u t → IsTold s t ⊎ IsFed s t
   applied kept u t ends = by x.0 x.1 (turns_told listed taken x.0 x.1 kept fair (record { inline = listening.inline; shows = listening.shows }) distinct x.2) x.3 where
-    x : (f : Fed) × (m : State) × EndsFairly (all_turns listed taken) f m × EndsFairly (end_feed clock taken.running.skips f m) u t
+    x : (f : Fed) × (m : State) × Ends (all_turns listed taken) f m × Ends (end_feed clock taken.running.skips f m) u t
     x = ends_bind (all_turns listed taken) (end_feed clock taken.running.skips) u t ends
 
-    by : (f : Fed) (m : State) → IsTold taken m ⊎ AreTurned listed f.postponed taken m → EndsFairly (end_feed clock taken.running.skips f m) u t → IsTold s t ⊎ IsFed s t
-    by f m (inl z) e = inl (told_all t (told_then taken m t z (kept_ends (λ y. In m.filter y.filter) (end_feed clock taken.running.skips f m) u t ((end_grows clock taken.running.skips f m.filter).keeps m (itself m.filter)) e)))
+    by : (f : Fed) (m : State) → IsTold taken m ⊎ AreTurned listed f.postponed taken m → Ends (end_feed clock taken.running.skips f m) u t → IsTold s t ⊎ IsFed s t
+    by f m (inl z) e = inl (told_all t (told_then taken m t z (kept_at_end (Follows m) (end_feed clock taken.running.skips f m) u t ((end_grows clock taken.running.skips f m).keeps m (itself_follows m)) e)))
     by f m (inr z) e =
         finished f z.paths u t (subst (λ (y : State). All (λ d. IsLeftBy f.postponed d taken y) listed) z.same z.entries, λ id no. ap (λ (y : State). seen_of (book_now y) id) (sym z.same) ∙ z.others id no)
-        (subst (λ (y : State). EndsFairly (end_feed clock taken.running.skips f y) u t) z.same e)
+        (subst (λ (y : State). Ends (end_feed clock taken.running.skips f y) u t) z.same e)
 
-  answer_taken : Invariant came → (u : Unit {0}) (t : State) → EndsFairly (bind (answered number (Some answer) came) (take_if_any query)) u t → no_number t ≡ false → IsTold s t ⊎ IsFed s t
+  answer_taken : Invariant came → (u : Unit {0}) (t : State) → Ends (bind (answered number (Some answer) came) (take_if_any query)) u t → no_number t ≡ false → IsTold s t ⊎ IsFed s t
   answer_taken kept u t ends left = by (no_number came) refl ends where
     closed : Invariant taken
     closed = sound_whole.closed.keeps_volatile_round_closed sent (sound_whole.closed.posts (frame.Reply number answer) came (λ f. reply_posted number query answer came (told_at_once query drawn (sound_whole.closed.keeps_volatile_with_round s h) f)) kept)
 
-    acted : EndsFairly (act_unless answer (is_stale query answer sent) sent) u t → IsTold s t ⊎ IsFed s t
-    acted z = applied closed u t (subst (λ (b : Bool). EndsFairly (act_unless answer b sent) u t) (reply_taken sent awaits) z)
+    acted : Ends (act_unless answer (is_stale query answer sent) sent) u t → IsTold s t ⊎ IsFed s t
+    acted z = applied closed u t (subst (λ (b : Bool). Ends (act_unless answer b sent) u t) (reply_taken sent awaits) z)
 
-    two : (b : Bool) → EndsFairly (bind (bind (post_by (frame.Reply number answer) b came) (if_kept answer)) (take_if_any query)) u t → IsTold s t ⊎ IsFed s t
+    two : (b : Bool) → Ends (bind (bind (post_by (frame.Reply number answer) b came) (if_kept answer)) (take_if_any query)) u t → IsTold s t ⊎ IsFed s t
     two true z =
         inl (subst (IsTold s) (sym z.1)
         (told_after s posted (with_lost (frame.Reply number answer) came) lines refl
         (told_one posted (with_lost (frame.Reply number answer) came) (notice.Message (record { message = next_message came; frame = frame.Reply number answer; lost = true })) refl refl)))
     two false z = acted z
 
-    by : (b : Bool) → no_number came ≡ b → EndsFairly (bind (bind (post_unless (frame.Reply number answer) b came) (if_kept answer)) (take_if_any query)) u t → IsTold s t ⊎ IsFed s t
+    by : (b : Bool) → no_number came ≡ b → Ends (bind (bind (post_unless (frame.Reply number answer) b came) (if_kept answer)) (take_if_any query)) u t → IsTold s t ⊎ IsFed s t
     by true used z = numbers_used came t z.1 used left
     by false used z = two (no_bytes (frame.Reply number answer) came) z
 
-  come_taken : (b : Bool) → b ≡ true → (u : Unit {0}) (t : State) → Invariant came → EndsFairly (come_if query b posted) u t → no_number t ≡ false → IsTold s t ⊎ IsFed s t
+  come_taken : (b : Bool) → b ≡ true → (u : Unit {0}) (t : State) → Invariant came → Ends (come_if query b posted) u t → no_number t ≡ false → IsTold s t ⊎ IsFed s t
   come_taken false inline u t kept ends left = no_way inline
-  come_taken true inline u t kept (inl ends) left = answer_taken kept u t ends left
-  come_taken true inline u t kept (inr ends) left =
+  come_taken true inline u t kept (AsItKeeps, ends) left = answer_taken kept u t ends left
+  come_taken true inline u t kept (Tells other, ends) left = inl (told_after s posted t lines refl (unfair_told query number other s.link.remote posted u t h.0 ends))
+  come_taken true inline u t kept (Faults, ends) left =
       inl (told_after s posted t lines refl (subst (IsTold posted) (sym ends.1) (told_one posted (fault_line number (counted posted)) (notice.Fault number) refl refl)))
 
-  sent_taken : (u : Unit {0}) (t : State) → Invariant came → EndsFairly (send_now query drawn) u t → no_number t ≡ false → IsTold s t ⊎ IsFed s t
+  sent_taken : (u : Unit {0}) (t : State) → Invariant came → Ends (send_now query drawn) u t → no_number t ≡ false → IsTold s t ⊎ IsFed s t
   sent_taken u t kept ends left = by (no_number drawn) refl ends where
-    two : (b : Bool) → EndsFairly (bind (post_by (frame.Request query) b drawn) (after_post query)) u t → IsTold s t ⊎ IsFed s t
+    two : (b : Bool) → Ends (bind (post_by (frame.Request query) b drawn) (after_post query)) u t → IsTold s t ⊎ IsFed s t
     two true z = inl (subst (IsTold s) (sym z.1) (told_one s (with_lost (frame.Request query) drawn) (notice.Message (record { message = next_message s; frame = frame.Request query; lost = true })) refl refl))
     two false z = come_taken s.link.inline listening.inline u t kept z left
 
-    by : (b : Bool) → no_number drawn ≡ b → EndsFairly (bind (post_unless (frame.Request query) b drawn) (after_post query)) u t → IsTold s t ⊎ IsFed s t
+    by : (b : Bool) → no_number drawn ≡ b → Ends (bind (post_unless (frame.Request query) b drawn) (after_post query)) u t → IsTold s t ⊎ IsFed s t
     by true used z = numbers_used drawn t z.1 used left
     by false used z = two (no_bytes (frame.Request query) drawn) z
 
@@ -254,11 +256,11 @@ module _ (s : State) (h : Invariant s) (fair : IsFair s.link) (listening : IsLis
   came_kept : Invariant came
   came_kept = sound_whole.closed.keeps_counted posted (sound_whole.closed.posts (frame.Request query) drawn (λ f. feed_posted drawn (record { 0 = record { epoch = drawn.filter.volume.epoch; number = drawn.volatile.rounds } }) (book_now drawn).cursor) (sound_whole.closed.keeps_volatile_with_round s h))
 
-  asked : (u : Unit {0}) (t : State) → EndsFairly (ask_feed s) u t → no_number t ≡ false → IsTold s t ⊎ IsFed s t
+  asked : (u : Unit {0}) (t : State) → Ends (ask_feed s) u t → no_number t ≡ false → IsTold s t ⊎ IsFed s t
   asked u t ends left = by (why_no_round s) ends where
-    by : (o : Option Code) → EndsFairly (bind (bind (unless_done (one (with_volatile with_round)) o s) left_out) feed_if) u t → IsTold s t ⊎ IsFed s t
+    by : (o : Option Code) → Ends (bind (bind (unless_done (one (with_volatile with_round)) o s) left_out) feed_if) u t → IsTold s t ⊎ IsFed s t
     by None z = sent_taken u t came_kept z left
     by (Some c) z = inl (subst (IsTold s) (sym z.1) (skip_told s.running.shows_skips c s (record s { running = record s.running { skips = s.running.skips + 1 } }) listening.shows refl))
 
-pub feed_told : (s : State) (u : Unit {0}) (t : State) → Invariant s → IsFair s.link → IsListening s → IsTidy s.link.remote → (book_now s).entries ≡ [] → (book_now s).cursor ≤ s.link.remote.clock → EndsFairly (ask_feed s) u t → no_number t ≡ false → IsTold s t ⊎ IsFed s t
+pub feed_told : (s : State) (u : Unit {0}) (t : State) → Invariant s → IsFair s.link → IsListening s → IsTidy s.link.remote → (book_now s).entries ≡ [] → (book_now s).cursor ≤ s.link.remote.clock → Ends (ask_feed s) u t → no_number t ≡ false → IsTold s t ⊎ IsFed s t
 feed_told s u t h fair listening tidy none early ends left = asked s h fair listening tidy none early u t ends left

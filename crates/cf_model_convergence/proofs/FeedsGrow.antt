@@ -13,12 +13,12 @@ use Rattle.cf_model.specs.Numbers.{no_item, no_usn}
 use Rattle.cf_model.specs.Skips.{in_use, try_change, try_clear_name, try_mark_now, try_seen}
 use Rattle.cf_model.specs.State.{State, items_now}
 use Rattle.cf_model.proofs.TreeLaws.{keeps_bind}
-use Rattle.cf_model_convergence.proofs.AddingGuarded.{In}
 use Rattle.cf_model_convergence.proofs.FeedTurns.{after_grows, place_grows, rebase_grows, taking_grows}
 use Rattle.cf_model_convergence.proofs.TurnsGrow.{Grows, change_grows, free_grows, if_grows, names_grow, state_grows, then_grows}
+use Rattle.cf_model_convergence.proofs.SinceGuarded.{Follows}
 
 seq_grows : {A B : Type 0} (f : Arrow State A) (g : A → Arrow State B) → Grows f → ((a : A) → Grows (g a)) → Grows (seq f g)
-seq_grows f g a b w = record { keeps = λ s h. keeps_bind (λ x. In w x.filter) (f s) g ((a w).keeps s h) (λ r t j. (b r w).keeps t j) }
+seq_grows f g a b w = record { keeps = λ s h. keeps_bind (Follows w) (f s) g ((a w).keeps s h) (λ r t j. (b r w).keeps t j) }
 
 turn_grows : (f : Arrow State Bool) → Grows f → Grows (turn f)
 turn_grows f a = seq_grows f taken a (λ done w. record { keeps = λ s h. h })

@@ -11,7 +11,7 @@ use Rattle.cf_model.specs.Fits.{are_distinct, has_rid}
 use Rattle.cf_model.specs.Identities.{by_target, has_target, target_of}
 use Rattle.cf_model.specs.Items.{Item, item_of}
 use Rattle.cf_model.specs.State.{State, book_now, items_now}
-use Rattle.cf_model.specs.Trees.{bind}
+use Rattle.cf_model.specs.Trees.{bind, Ends}
 use Rattle.cf_model.specs.Words.{says, sorted}
 use Rattle.cf_model_laws.specs.Invariant.{All, Invariant}
 use Rattle.cf_model_laws.specs.Premises.{IsFair}
@@ -21,7 +21,7 @@ use Rattle.cf_model_laws.proofs.RightItems.{no_way, no_way_back}
 use Rattle.cf_model_laws.proofs.SeenPaths.{seen_past}
 use Rattle.cf_model_laws.proofs.SoundSettles.{left_true, not_true, right_true, same_item}
 use Rattle.cf_model_convergence.specs.Feeds.{Among}
-use Rattle.cf_model_convergence.specs.Telling.{EndsFairly, IsListening, IsTold}
+use Rattle.cf_model_convergence.specs.Telling.{IsListening, IsTold}
 use Rattle.cf_model_convergence.specs.Turns.{AreTurned, IsLeftBy, IsOfNone, IsTakenIn, IsTurnOf, SeesOnly, with_paths}
 use Rattle.cf_model_convergence.proofs.FeedTurns.{path_seen, turn_told}
 use Rattle.cf_model_convergence.proofs.FeedsTold.{all_among, among_left, among_right}
@@ -136,7 +136,7 @@ module _ (s : State) (h : Invariant s) (fair : IsFair s.link) (listening : IsLis
   abbrev Turn : Entry → List SeenPath → Bool → State → Type 0
   Turn e ps postponed t = (qs : List SeenPath) × (t ≡ at qs) × Left postponed qs e × Keeps ps qs
 
-  turn_left : (e : Entry) → Among e all → (ps : List SeenPath) (postponed : Bool) (t : State) → EndsFairly (take_turn e (at ps)) postponed t → IsTold s t ⊎ Turn e ps postponed t
+  turn_left : (e : Entry) → Among e all → (ps : List SeenPath) (postponed : Bool) (t : State) → Ends (take_turn e (at ps)) postponed t → IsTold s t ⊎ Turn e ps postponed t
   turn_left e mem ps postponed t ends = by (turn_told e (at ps) postponed t h fair (record { inline = listening.inline; shows = listening.shows }) ends) where
     taken : (i : Item) → by_target (items_now s) e.rid ≡ Some i → e.live ≡ true → IsTakenIn e i (at ps) t → SeesOnly e i (at ps) t → Turn e ps postponed t
     taken i f live k (inl z) = (ps, z, inr (inr (live, i, f, record { items = refl; seen = subst (λ (y : State). is_seen_so y i e ≡ true) z k.seen; version = k.version })), itself ps)
@@ -155,7 +155,7 @@ module _ (s : State) (h : Invariant s) (fair : IsFair s.link) (listening : IsLis
   abbrev Step : Entry → List SeenPath → Fed → Fed → State → Type 0
   Step e ps g r t = (qs : List SeenPath) × (t ≡ at qs) × Left r.postponed qs e × Keeps ps qs
 
-  noted_left : (e : Entry) → Among e all → (ps : List SeenPath) (g r : Fed) (t : State) → EndsFairly (bind (take_turn e (at ps)) (with_turn g)) r t → (IsTold s t ⊎ Step e ps g r t) × (r.later ≡ g.later) × Grows_to g r
+  noted_left : (e : Entry) → Among e all → (ps : List SeenPath) (g r : Fed) (t : State) → Ends (bind (take_turn e (at ps)) (with_turn g)) r t → (IsTold s t ⊎ Step e ps g r t) × (r.later ≡ g.later) × Grows_to g r
   noted_left e mem ps g r t ends =
       let x = ends_bind (take_turn e (at ps)) (with_turn g) r t ends in
       (by x.0 x.1 x.3 (turn_left e mem ps x.0 x.1 x.2), ap (λ (y : Fed). y.later) x.3.0, λ z. subst (λ (y : Fed). y.postponed ≡ true) (sym x.3.0) (left_or g.postponed x.0 z)) where
@@ -167,22 +167,22 @@ module _ (s : State) (h : Invariant s) (fair : IsFair s.link) (listening : IsLis
         right_or true b z = refl
         right_or false b z = z
 
-        by : (p : Bool) (m : State) → EndsFairly (with_turn g p m) r t → IsTold s m ⊎ Turn e ps p m → IsTold s t ⊎ Step e ps g r t
+        by : (p : Bool) (m : State) → Ends (with_turn g p m) r t → IsTold s m ⊎ Turn e ps p m → IsTold s t ⊎ Step e ps g r t
         by p m z (inl k) = inl (subst (IsTold s) (sym z.1) k)
         by p m z (inr k) = inr (k.0, z.1 ∙ k.1, weaker p r.postponed k.0 e (λ y. subst (λ (x : Fed). x.postponed ≡ true) (sym z.0) (right_or g.postponed p y)) k.2, k.3)
 
   abbrev Second : List Entry → List SeenPath → Fed → Fed → State → Type 0
   Second list ps g f t = (qs : List SeenPath) × (t ≡ at qs) × Keeps ps qs × All (Left f.postponed qs) list × Grows_to g f
 
-  second_left : (list : List Entry) (g : Fed) (ps : List SeenPath) (f : Fed) (t : State) → All (IsOf all) list → EndsFairly (turns second_turn list g (at ps)) f t → IsTold s t ⊎ Second list ps g f t
+  second_left : (list : List Entry) (g : Fed) (ps : List SeenPath) (f : Fed) (t : State) → All (IsOf all) list → Ends (turns second_turn list g (at ps)) f t → IsTold s t ⊎ Second list ps g f t
   second_left [] g ps f t of ends = inr (ps, ends.1, itself ps, tt, λ z. subst (λ (x : Fed). x.postponed ≡ true) (sym ends.0) z)
   second_left (e ∷ es) g ps f t of ends =
       let x = ends_bind (second_turn e g (at ps)) (turns second_turn es) f t ends in
       let y = noted_left e of.0.1 ps g x.0 x.1 x.2 in
       by x.0 x.1 y.2 y.0 x.3 (λ qs z. second_left es x.0 qs f t of.1 z) where
-        by : (r : Fed) (m : State) → Grows_to g r → IsTold s m ⊎ Step e ps g r m → EndsFairly (turns second_turn es r m) f t → ((qs : List SeenPath) → EndsFairly (turns second_turn es r (at qs)) f t → IsTold s t ⊎ Second es qs r f t) → IsTold s t ⊎ Second (e ∷ es) ps g f t
+        by : (r : Fed) (m : State) → Grows_to g r → IsTold s m ⊎ Step e ps g r m → Ends (turns second_turn es r m) f t → ((qs : List SeenPath) → Ends (turns second_turn es r (at qs)) f t → IsTold s t ⊎ Second es qs r f t) → IsTold s t ⊎ Second (e ∷ es) ps g f t
         by r m grows (inl k) z on = inl (told_on (turns second_turn es r) (turns_grow second_turn second_grows es r) s m f t k z)
-        by r m grows (inr k) z on = also (on k.0 (subst (λ (y : State). EndsFairly (turns second_turn es r y) f t) k.1 z)) where
+        by r m grows (inr k) z on = also (on k.0 (subst (λ (y : State). Ends (turns second_turn es r y) f t) k.1 z)) where
           also : IsTold s t ⊎ Second es k.0 r f t → IsTold s t ⊎ Second (e ∷ es) ps g f t
           also (inl w) = inl w
           also (inr w) = inr (w.0, w.1, after ps k.0 w.0 k.3 w.2, (weaker r.postponed f.postponed w.0 e w.4 (w.2.0 r.postponed e of.0.0 k.2), w.3), λ y. w.4 (grows y))
@@ -192,7 +192,7 @@ module _ (s : State) (h : Invariant s) (fair : IsFair s.link) (listening : IsLis
   First list g ps f t =
       (qs : List SeenPath) × (t ≡ at qs) × Keeps ps qs × All (λ d. Left f.postponed qs d ⊎ Among d f.later) list × (All (IsOf all) g.later → All (IsOf all) f.later) × ((d : Entry) → Among d g.later → Among d f.later) × Grows_to g f
 
-  first_left : (list : List Entry) (g : Fed) (ps : List SeenPath) (f : Fed) (t : State) → All (IsOf all) list → EndsFairly (turns first_turn list g (at ps)) f t → IsTold s t ⊎ First list g ps f t
+  first_left : (list : List Entry) (g : Fed) (ps : List SeenPath) (f : Fed) (t : State) → All (IsOf all) list → Ends (turns first_turn list g (at ps)) f t → IsTold s t ⊎ First list g ps f t
   first_left [] g ps f t of ends =
       inr (
         ps,
@@ -219,9 +219,9 @@ module _ (s : State) (h : Invariant s) (fair : IsFair s.link) (listening : IsLis
               λ y. w.6 (grows y),
             )
 
-        now : (r : Fed) (m : State) → r.later ≡ g.later → Grows_to g r → IsTold s m ⊎ Step e ps g r m → EndsFairly (turns first_turn es r m) f t → ((qs : List SeenPath) → EndsFairly (turns first_turn es r (at qs)) f t → IsTold s t ⊎ First es r qs f t) → IsTold s t ⊎ First (e ∷ es) g ps f t
+        now : (r : Fed) (m : State) → r.later ≡ g.later → Grows_to g r → IsTold s m ⊎ Step e ps g r m → Ends (turns first_turn es r m) f t → ((qs : List SeenPath) → Ends (turns first_turn es r (at qs)) f t → IsTold s t ⊎ First es r qs f t) → IsTold s t ⊎ First (e ∷ es) g ps f t
         now r m same grows (inl k) z on = inl (told_on (turns first_turn es r) (turns_grow first_turn first_grows es r) s m f t k z)
-        now r m same grows (inr k) z on = also (on k.0 (subst (λ (y : State). EndsFairly (turns first_turn es r y) f t) k.1 z)) where
+        now r m same grows (inr k) z on = also (on k.0 (subst (λ (y : State). Ends (turns first_turn es r y) f t) k.1 z)) where
           also : IsTold s t ⊎ First es r k.0 f t → IsTold s t ⊎ First (e ∷ es) g ps f t
           also (inl w) = inl w
           also (inr w) = inr (
@@ -234,16 +234,16 @@ module _ (s : State) (h : Invariant s) (fair : IsFair s.link) (listening : IsLis
             λ y. w.6 (grows y),
           )
 
-        by : (b : Bool) (r : Fed) (m : State) → EndsFairly (first_turn_by b e g (at ps)) r m → EndsFairly (turns first_turn es r m) f t → ((qs : List SeenPath) → EndsFairly (turns first_turn es r (at qs)) f t → IsTold s t ⊎ First es r qs f t) → IsTold s t ⊎ First (e ∷ es) g ps f t
-        by true r m z k on = again r (ap (λ (y : Fed). y.later) z.0) (λ y. subst (λ (x : Fed). x.postponed ≡ true) (sym z.0) y) (on ps (subst (λ (y : State). EndsFairly (turns first_turn es r y) f t) z.1 k))
+        by : (b : Bool) (r : Fed) (m : State) → Ends (first_turn_by b e g (at ps)) r m → Ends (turns first_turn es r m) f t → ((qs : List SeenPath) → Ends (turns first_turn es r (at qs)) f t → IsTold s t ⊎ First es r qs f t) → IsTold s t ⊎ First (e ∷ es) g ps f t
+        by true r m z k on = again r (ap (λ (y : Fed). y.later) z.0) (λ y. subst (λ (x : Fed). x.postponed ≡ true) (sym z.0) y) (on ps (subst (λ (y : State). Ends (turns first_turn es r y) f t) z.1 k))
         by false r m z k on = let y = noted_left e of.0.1 ps g r m z in now r m y.1 y.2 y.0 k on
 
-pub turns_told : (es : List Entry) (s : State) (f : Fed) (t : State) → Invariant s → IsFair s.link → IsListening s → are_distinct es ≡ true → EndsFairly (all_turns es s) f t → IsTold s t ⊎ AreTurned es f.postponed s t
+pub turns_told : (es : List Entry) (s : State) (f : Fed) (t : State) → Invariant s → IsFair s.link → IsListening s → are_distinct es ≡ true → Ends (all_turns es s) f t → IsTold s t ⊎ AreTurned es f.postponed s t
 turns_told es s f t h fair listening apart ends = first x.0 x.1 (first_left s h fair listening es (in_turn (items_now s) es) start (book_now s).seen x.0 x.1 (all_turned (IsOf es) (items_now s) es (distinct_ones es apart)) x.2) x.3 where
   start : Fed
   start = record { postponed = false; later = [] }
 
-  x : (g : Fed) × (m : State) × EndsFairly (turns first_turn (in_turn (items_now s) es) start s) g m × EndsFairly (second_turns g m) f t
+  x : (g : Fed) × (m : State) × Ends (turns first_turn (in_turn (items_now s) es) start s) g m × Ends (second_turns g m) f t
   x = ends_bind (turns first_turn (in_turn (items_now s) es) start s) second_turns f t ends
 
   last : (g : Fed) (qs : List SeenPath) → All (λ d. IsLeftBy g.postponed d s (with_paths qs s) ⊎ Among d g.later) (in_turn (items_now s) es) → Keeps s h fair listening es (book_now s).seen qs → IsTold s t ⊎ Second s h fair listening es g.later qs g f t → IsTold s t ⊎ AreTurned es f.postponed s t
@@ -262,6 +262,6 @@ turns_told es s f t h fair listening apart ends = first x.0 x.1 (first_left s h 
         one d of (inl l) = weaker s h fair listening es g.postponed f.postponed z.0 d z.4 (z.2.0 g.postponed d of.0 l)
         one d of (inr a) = all_among (λ e. IsLeftBy f.postponed e s (with_paths z.0 s)) g.later d a z.3
 
-  first : (g : Fed) (m : State) → IsTold s m ⊎ First s h fair listening es (in_turn (items_now s) es) start (book_now s).seen g m → EndsFairly (second_turns g m) f t → IsTold s t ⊎ AreTurned es f.postponed s t
+  first : (g : Fed) (m : State) → IsTold s m ⊎ First s h fair listening es (in_turn (items_now s) es) start (book_now s).seen g m → Ends (second_turns g m) f t → IsTold s t ⊎ AreTurned es f.postponed s t
   first g m (inl k) z = inl (told_on (second_turns g) (seconds_grow g) s m f t k z)
-  first g m (inr k) z = last g k.0 k.3 k.2 (second_left s h fair listening es g.later g k.0 f t (k.4 tt) (subst (λ (y : State). EndsFairly (second_turns g y) f t) k.1 z))
+  first g m (inr k) z = last g k.0 k.3 k.2 (second_left s h fair listening es g.later g k.0 f t (k.4 tt) (subst (λ (y : State). Ends (second_turns g y) f t) k.1 z))

@@ -6,10 +6,9 @@ use Rattle.cf_model.specs.Arrows.{choose, unit}
 use Rattle.cf_model.specs.Numbers.{most}
 use Rattle.cf_model.specs.Passes.{did_nothing, is_last, most_passes, pass, pass_anew, passes, sync_passes, things}
 use Rattle.cf_model.specs.State.{State}
-use Rattle.cf_model.specs.Trees.{Ret, Tree}
+use Rattle.cf_model.specs.Trees.{Ret, Tree, Ends}
 use Rattle.cf_model_laws.proofs.RightItems.{no_way_back}
 use Rattle.cf_model_convergence.specs.Counting.{ArePasses}
-use Rattle.cf_model_convergence.specs.Telling.{EndsFairly}
 use Rattle.cf_model_convergence.proofs.TurnsTold.{ends_bind}
 
 abbrev most_made : ℕ → ℕ
@@ -34,7 +33,7 @@ fewer l made s m e = below (unwrap_or m.running.first_clock 0) (second (did_noth
 abbrev AreFew : ℕ → ℕ → State → State → Type 0
 AreFew l made s t = (n : ℕ) × ArePasses n s t × (made + n ≤ most_made l)
 
-few_passes : (fuel l made : ℕ) (s : State) (u : Unit {0}) (t : State) → made < most_made l → EndsFairly (passes fuel l made s) u t → AreFew l made s t
+few_passes : (fuel l made : ℕ) (s : State) (u : Unit {0}) (t : State) → made < most_made l → Ends (passes fuel l made s) u t → AreFew l made s t
 few_passes zero l made s u t small ends = (0, ends.1, none made (most_made l) small) where
   none : (a b : ℕ) → a < b → a + 0 ≤ b
   none a b z = omega (arith, z)
@@ -47,14 +46,14 @@ few_passes (suc fuel) l made s u t small ends =
       more : (a n b : ℕ) → a + 1 + n ≤ b → a + suc n ≤ b
       more a n b z = omega (arith, z)
 
-      by : (v : Unit {0}) (m : State) → EndsFairly (pass_anew s) v m → (b : Bool) → is_last l made s m ≡ b → EndsFairly (elim b as (λ _. Tree State (Unit {0})) [ true ↦ Ret unit m | false ↦ passes fuel l (made + 1) m ]) u t
-          → (made + 1 < most_made l → EndsFairly (passes fuel l (made + 1) m) u t → AreFew l (made + 1) m t) → AreFew l made s t
+      by : (v : Unit {0}) (m : State) → Ends (pass_anew s) v m → (b : Bool) → is_last l made s m ≡ b → Ends (elim b as (λ _. Tree State (Unit {0})) [ true ↦ Ret unit m | false ↦ passes fuel l (made + 1) m ]) u t
+          → (made + 1 < most_made l → Ends (passes fuel l (made + 1) m) u t → AreFew l (made + 1) m t) → AreFew l made s t
       by v m z true q e rest = (1, (m, v, z, e.1), one made (most_made l) small)
       by v m z false q e rest = let w = rest (fewer l made s m q) e in (suc w.0, (m, v, z, w.1), more made w.0 (most_made l) w.2)
 
-pub sync_few : (s : State) (u : Unit {0}) (t : State) → s.link.inline ≡ true → EndsFairly (sync_passes s) u t → (n : ℕ) × ArePasses n s t × (n ≤ 16 * (things s + 100000 + 4))
+pub sync_few : (s : State) (u : Unit {0}) (t : State) → s.link.inline ≡ true → Ends (sync_passes s) u t → (n : ℕ) × ArePasses n s t × (n ≤ 16 * (things s + 100000 + 4))
 sync_few s u t inline ends =
-    let w = few_passes most (things s) 0 s u t (some (things s)) (subst (λ (b : Bool). EndsFairly (choose b (passes most (things s) 0) pass s) u t) inline ends) in (w.0, w.1, all w.0 (most_made (things s)) w.2) where
+    let w = few_passes most (things s) 0 s u t (some (things s)) (subst (λ (b : Bool). Ends (choose b (passes most (things s) 0) pass s) u t) inline ends) in (w.0, w.1, all w.0 (most_made (things s)) w.2) where
       some : (l : ℕ) → 0 < 16 * (l + 100000 + 4)
       some l = omega arith
 

@@ -1,5 +1,5 @@
 -- Lines that are heard, and notes that go on.
-use Rattle.std.proofs.Common.{◌≡◌, Bool, true, false, List, [], ◌∷◌, ◌++◌, refl, sym, ◌∙◌, ap, subst, inl, inr}
+use Rattle.std.proofs.Common.{◌≡◌, Bool, true, false, List, [], ◌∷◌, ◌++◌, refl, sym, ◌∙◌, ap, subst, inl, inr, ◌⊎◌}
 use Rattle.std.specs.Prelude.{◌||◌, if◌then◌else◌}
 use Rattle.std.specs.List.{list_any}
 use Rattle.std.proofs.lemmas.List.{append-nil, append_assoc}
@@ -13,12 +13,12 @@ use Rattle.cf_model.specs.Settling.{accessed, end_of, end_wait, is_access, is_ow
 use Rattle.cf_base.specs.declared.ids.WaitId.{WaitId}
 use Rattle.cf_base.specs.declared.waits.End.{End}
 use Rattle.cf_model.specs.State.{Filter, State}
-use Rattle.cf_model.specs.Trees.{AsItKeeps, Asked, Faults, Fork, Ret, Step, Tree, mapped}
+use Rattle.cf_model.specs.Trees.{AsItKeeps, Asked, Faults, Fork, Ret, Step, Tree, mapped, Ends}
 use Rattle.cf_model_laws.proofs.RightItems.{no_way}
 use Rattle.cf_model_convergence.specs.Hearing.{IsHeard, is_heard}
-use Rattle.cf_model_convergence.specs.Telling.{EndsFairly, IsTold, is_loud}
-use Rattle.cf_model_convergence.proofs.AddingGuarded.{In}
+use Rattle.cf_model_convergence.specs.Telling.{IsTold, IsUnfair, is_loud}
 use Rattle.cf_model_convergence.proofs.TurnsTold.{ends_bind}
+use Rattle.cf_model_convergence.proofs.SinceGuarded.{Follows}
 
 -- lines that are heard
 
@@ -59,29 +59,37 @@ any_heard (n ∷ ns) e = by (is_loud n) refl e (any_heard ns) where
   by false q z more = rest (is_heard n) (more z)
 
 pub heard_of : (s t : State) → IsTold s t → IsHeard s t
-heard_of s t h = record { lines = h.lines; noted = h.noted; heard = any_heard h.lines h.loud }
+heard_of s t h = record { lines = h.lines; noted = h.noted; heard = by h.loud } where
+  by : (list_any is_loud h.lines ≡ true) ⊎ IsUnfair t → (list_any is_heard h.lines ≡ true) ⊎ IsUnfair t
+  by (inl e) = inl (any_heard h.lines e)
+  by (inr e) = inr e
 
-pub heard_then : (s m t : State) → IsHeard s m → In m.filter t.filter → IsHeard s t
-heard_then s m t h k = record { lines = h.lines ++ k.lines; noted = k.noted ∙ ap (λ (ns : List Notice). ns ++ k.lines) h.noted ∙ append_assoc s.filter.notes h.lines k.lines; heard = any_left is_heard h.lines k.lines h.heard }
+pub heard_then : (s m t : State) → IsHeard s m → Follows m t → IsHeard s t
+heard_then s m t h k = record { lines = h.lines ++ k.adds.lines; noted = k.adds.noted ∙ ap (λ (ns : List Notice). ns ++ k.adds.lines) h.noted ∙ append_assoc s.filter.notes h.lines k.adds.lines; heard = by h.heard } where
+  by : (list_any is_heard h.lines ≡ true) ⊎ IsUnfair m → (list_any is_heard (h.lines ++ k.adds.lines) ≡ true) ⊎ IsUnfair t
+  by (inl e) = inl (any_left is_heard h.lines k.adds.lines e)
+  by (inr e) = inr (k.unfair e)
 
 pub heard_after : (s m t : State) (ns : List Notice) → m.filter.notes ≡ s.filter.notes ++ ns → IsHeard m t → IsHeard s t
-heard_after s m t ns e h = record { lines = ns ++ h.lines; noted = h.noted ∙ ap (λ (xs : List Notice). xs ++ h.lines) e ∙ append_assoc s.filter.notes ns h.lines; heard = any_right is_heard ns h.lines h.heard }
+heard_after s m t ns e h = record { lines = ns ++ h.lines; noted = h.noted ∙ ap (λ (xs : List Notice). xs ++ h.lines) e ∙ append_assoc s.filter.notes ns h.lines; heard = by h.heard } where
+  by : (list_any is_heard h.lines ≡ true) ⊎ IsUnfair t → (list_any is_heard (ns ++ h.lines) ≡ true) ⊎ IsUnfair t
+  by (inl e) = inl (any_right is_heard ns h.lines e)
+  by (inr e) = inr e
 
 pub one_heard : (s t : State) (n : Notice) → t.filter.notes ≡ s.filter.notes ++ n ∷ [] → is_heard n ≡ true → IsHeard s t
-one_heard s t n e loud = record { lines = n ∷ []; noted = e; heard = by (is_heard n) loud } where
+one_heard s t n e loud = record { lines = n ∷ []; noted = e; heard = inl (by (is_heard n) loud) } where
   by : (b : Bool) → b ≡ true → (b || false) ≡ true
   by true z = refl
   by false z = no_way z
 
 -- a part of the filter
 
-pub ends_mapped : {S T A : Type 0} (f : S → T) (p : Tree S A) (a : A) (t : T) → EndsFairly (mapped f p) a t → (s : S) × EndsFairly p a s × (t ≡ f s)
+pub ends_mapped : {S T A : Type 0} (f : S → T) (p : Tree S A) (a : A) (t : T) → Ends (mapped f p) a t → (s : S) × Ends p a s × (t ≡ f s)
 ends_mapped f (Ret b s) a t e = (s, (e.0, refl), e.1)
 ends_mapped f (Step s p) a t e = ends_mapped f p a t e
 ends_mapped f (Fork p q) a t (inl e) = let k = ends_mapped f p a t e in (k.0, inl k.1, k.2)
 ends_mapped f (Fork p q) a t (inr e) = let k = ends_mapped f q a t e in (k.0, inr k.1, k.2)
-ends_mapped f (Asked k) a t (inl e) = let j = ends_mapped f (k AsItKeeps) a t e in (j.0, inl j.1, j.2)
-ends_mapped f (Asked k) a t (inr e) = let j = ends_mapped f (k Faults) a t e in (j.0, inr j.1, j.2)
+ends_mapped f (Asked k) a t e = let j = ends_mapped f (k e.0) a t e.1 in (j.0, (e.0, j.1), j.2)
 
 -- the notes go on behind those of before
 abbrev pub GoesOn : Filter → Filter → Type 0
@@ -103,11 +111,11 @@ ended_goes e x = accesses (is_access e.0.kind e.1) (tell_end e.0.id (end_of x.vo
   accesses true y k = k
   accesses false y k = k
 
-each_goes : (es : List (Wait × Cause)) (x : Filter) (u : Unit {0}) (y : Filter) → EndsFairly (each end_wait es x) u y → GoesOn x y
+each_goes : (es : List (Wait × Cause)) (x : Filter) (u : Unit {0}) (y : Filter) → Ends (each end_wait es x) u y → GoesOn x y
 each_goes [] x u y e = subst (GoesOn x) (sym e.1) (goes_same x)
 each_goes (d ∷ es) x u y e = goes_more x (with_ended d x) y (ended_goes d x) (each_goes es (with_ended d x) u y e)
 
-pub tell_goes : (r : Told × Waiting) (x : Filter) (u : Unit {0}) (y : Filter) → EndsFairly (tell r x) u y → GoesOn x y
+pub tell_goes : (r : Told × Waiting) (x : Filter) (u : Unit {0}) (y : Filter) → Ends (tell r x) u y → GoesOn x y
 tell_goes r x u y e =
     let k = ends_bind (each end_wait r.0.ended (with_waiting r.1 x)) (λ _ z. Ret (record {}) (with_asks_told r.0 z)) u y e in
     goes_more x k.1 y (each_goes r.0.ended (with_waiting r.1 x) k.0 k.1 k.2) (subst (GoesOn k.1) (sym k.3.1) (_, append_assoc k.1.notes _ _))

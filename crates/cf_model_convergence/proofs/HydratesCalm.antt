@@ -22,7 +22,7 @@ use Rattle.cf_model.specs.Pushes.{after_hydrate, hydrate_unless}
 use Rattle.cf_model.specs.Requests.{is_busy_beside}
 use Rattle.cf_model.specs.Skips.{in_use, skip}
 use Rattle.cf_model.specs.State.{Open, Running, in_filter, with_filter}
-use Rattle.cf_model.specs.Trees.{Keeps}
+use Rattle.cf_model.specs.Trees.{Keeps, Ends}
 use Rattle.cf_model_laws.proofs.CallbacksGuarded.{calling_at}
 use Rattle.cf_model_laws.proofs.ContentLaws.{sound_whole}
 use Rattle.cf_model_laws.proofs.FetchingGuarded.{in_filter_at}
@@ -30,10 +30,10 @@ use Rattle.cf_model_laws.proofs.Guarded.{Guarded}
 use Rattle.cf_model_laws.proofs.PushesGuarded.{after_hydrate_keeps}
 use Rattle.cf_model_laws.proofs.WaitsGuarded.{hydrate_file_at}
 use Rattle.cf_model_convergence.specs.Telling.{IsTold}
-use Rattle.cf_model_convergence.proofs.AddingGuarded.{In, guarded_adds, itself}
+use Rattle.cf_model_convergence.proofs.AddingGuarded.{itself}
 use Rattle.cf_model_convergence.proofs.FetchesCalm.{IsDrained, drained_calm}
 use Rattle.cf_model_convergence.proofs.HeardLines.{ends_mapped, heard_after, heard_of, heard_then}
-use Rattle.cf_model_convergence.proofs.PushesTold.{kept_ends, skip_told}
+use Rattle.cf_model_convergence.proofs.PushesTold.{skip_told}
 use Rattle.cf_model.specs.Asks.{left_of, why, or_met}
 use Rattle.cf_model.specs.Items.{Item, is_all_here, item_of}
 use Rattle.cf_model.specs.Missing.{View, Wait, absent_flags, is_met, lacking, misses, no_span, view_of}
@@ -45,19 +45,21 @@ use Rattle.cf_model.specs.State.{Filter, State, items_now}
 use Rattle.cf_model.specs.Trees.{Ret}
 use Rattle.cf_model.specs.Waits.{Need, begin_tests, begun, hydrate_file, is_met_now, own_id, plain_need, wait_for, with_own, begin_now, answer_or_begin}
 use Rattle.cf_model.specs.Words.{first_of, part}
+use Rattle.cf_model.proofs.TreeLaws.{kept_at_end}
 use Rattle.cf_model_laws.specs.Invariant.{All, Invariant}
 use Rattle.cf_model_laws.specs.Premises.{IsFair}
 use Rattle.cf_model_laws.proofs.Gathered.{all_append, all_filter, all_map}
 use Rattle.cf_model_laws.proofs.RightItems.{no_way}
 use Rattle.cf_model_laws.proofs.SoundSettles.{left_true, no_cause, or_right, right_true, same_item}
 use Rattle.cf_model_convergence.specs.Hearing.{IsCalm, IsHeard, IsOpenTo, IsPlainAsk}
-use Rattle.cf_model_convergence.specs.Telling.{EndsFairly, IsListening}
+use Rattle.cf_model_convergence.specs.Telling.{IsListening}
 use Rattle.cf_model_convergence.proofs.TurnsTold.{ends_bind}
 use Rattle.cf_model_convergence.proofs.WaitsCalm.{IsPlainWait, IsSameBut, ends_same, keyed_plain, lacks_some, last_left, new_plain, some_missed, stays_any, was_any}
+use Rattle.cf_model_convergence.proofs.SinceGuarded.{Follows, Since, since_follows, since_guarded, since_start}
 
 -- the hydration of a file that lacks a byte
 
-skip_line_told : (c : Code) (m : State) (u : Unit {0}) (t : State) → m.running.shows_skips ≡ true → EndsFairly (skip c m) u t → IsTold m t
+skip_line_told : (c : Code) (m : State) (u : Unit {0}) (t : State) → m.running.shows_skips ≡ true → Ends (skip c m) u t → IsTold m t
 skip_line_told c m u t shows e = subst (IsTold m) (sym e.1) (skip_told m.running.shows_skips c m (record m { running = record m.running { skips = m.running.skips + 1 } }) shows refl)
 
 abbrev IsSkipCode : Code → Type 0
@@ -117,9 +119,9 @@ module _ (i : Item) (s : State) (h : Invariant s) (fair : IsFair s.link) (listen
   record IsBegun (y : Filter) : Type 0 where
     pub same : IsSameBut (with_asks_told (begun need x).0 (with_waiting (begun need x).1 (with_own need x))) y
 
-  part_ends : (r : Shown) (y : Filter) → EndsFairly (hydrate_file i.id x) r y → ((c : Code) × (r ≡ shown.Refused c) × IsSkipCode c × (y ≡ x)) ⊎ ((r ≡ shown.Pending (own_id need x)) × IsBegun y)
+  part_ends : (r : Shown) (y : Filter) → Ends (hydrate_file i.id x) r y → ((c : Code) × (r ≡ shown.Refused c) × IsSkipCode c × (y ≡ x)) ⊎ ((r ≡ shown.Pending (own_id need x)) × IsBegun y)
   part_ends r y e = met (is_met_now need x) unmet e where
-    begins : EndsFairly (begin_now need (begun need x) x) r y → (r ≡ shown.Pending (own_id need x)) × IsBegun y
+    begins : Ends (begin_now need (begun need x) x) r y → (r ≡ shown.Pending (own_id need x)) × IsBegun y
     begins f =
         let k = ends_bind (tell (begun need x) (with_own need x)) (λ _ z. Ret (shown.Pending (own_id need x)) z) r y f in
         let j = ends_bind (each end_wait (begun need x).0.ended (with_waiting (begun need x).1 (with_own need x))) (λ _ z. Ret (record {}) (with_asks_told (begun need x).0 z)) k.0 k.1 k.2 in
@@ -142,11 +144,11 @@ module _ (i : Item) (s : State) (h : Invariant s) (fair : IsFair s.link) (listen
           },
         )
 
-    tested : (o : Option Code) → first_of (begin_tests need x) ≡ o → EndsFairly (unless shown.Refused o (λ z. begin_now need (begun need z) z) x) r y → ((c : Code) × (r ≡ shown.Refused c) × IsSkipCode c × (y ≡ x)) ⊎ ((r ≡ shown.Pending (own_id need x)) × IsBegun y)
+    tested : (o : Option Code) → first_of (begin_tests need x) ≡ o → Ends (unless shown.Refused o (λ z. begin_now need (begun need z) z) x) r y → ((c : Code) × (r ≡ shown.Refused c) × IsSkipCode c × (y ≡ x)) ⊎ ((r ≡ shown.Pending (own_id need x)) × IsBegun y)
     tested None q f = inr (begins f)
     tested (Some c) q f = inl (c, f.0, first_code (not x.connected) _ _ _ (ap (λ (b : Bool). not b) ready.connected) (Some c) q c refl, f.1)
 
-    met : (b : Bool) → b ≡ false → EndsFairly (answer_or_begin need b x) r y → ((c : Code) × (r ≡ shown.Refused c) × IsSkipCode c × (y ≡ x)) ⊎ ((r ≡ shown.Pending (own_id need x)) × IsBegun y)
+    met : (b : Bool) → b ≡ false → Ends (answer_or_begin need b x) r y → ((c : Code) × (r ≡ shown.Refused c) × IsSkipCode c × (y ≡ x)) ⊎ ((r ≡ shown.Pending (own_id need x)) × IsBegun y)
     met true z f = no_way (sym z)
     met false z f = tested (first_of (begin_tests need x)) refl f
 
@@ -254,49 +256,49 @@ module _ (i : Item) (s : State) (h : Invariant s) (fair : IsFair s.link) (listen
         },
       )
 
-  after_pending : (id : WaitId) (o : Option End) (m : State) (u : Unit {0}) (t : State) → EndsFairly (after_hydrate (end_or_pending id o) m) u t → t ≡ m
+  after_pending : (id : WaitId) (o : Option End) (m : State) (u : Unit {0}) (t : State) → Ends (after_hydrate (end_or_pending id o) m) u t → t ≡ m
   after_pending id None m u t e = e.1
   after_pending id (Some d) m u t e = e.1
 
-  skipped_told : (c : Code) (m : State) (u : Unit {0}) (t : State) → IsSkipCode c → m.running.shows_skips ≡ true → EndsFairly (after_hydrate (shown.Refused c) m) u t → IsTold m t
-  skipped_told c m u t (inl z) shows e = skip_line_told code.TooManyWaits m u t shows (subst (λ (k : Code). EndsFairly (after_hydrate (shown.Refused k) m) u t) z e)
-  skipped_told c m u t (inr (inl z)) shows e = skip_line_told code.TooManyAsks m u t shows (subst (λ (k : Code). EndsFairly (after_hydrate (shown.Refused k) m) u t) z e)
-  skipped_told c m u t (inr (inr z)) shows e = skip_line_told code.Exhausted m u t shows (subst (λ (k : Code). EndsFairly (after_hydrate (shown.Refused k) m) u t) z e)
+  skipped_told : (c : Code) (m : State) (u : Unit {0}) (t : State) → IsSkipCode c → m.running.shows_skips ≡ true → Ends (after_hydrate (shown.Refused c) m) u t → IsTold m t
+  skipped_told c m u t (inl z) shows e = skip_line_told code.TooManyWaits m u t shows (subst (λ (k : Code). Ends (after_hydrate (shown.Refused k) m) u t) z e)
+  skipped_told c m u t (inr (inl z)) shows e = skip_line_told code.TooManyAsks m u t shows (subst (λ (k : Code). Ends (after_hydrate (shown.Refused k) m) u t) z e)
+  skipped_told c m u t (inr (inr z)) shows e = skip_line_told code.Exhausted m u t shows (subst (λ (k : Code). Ends (after_hydrate (shown.Refused k) m) u t) z e)
 
-  pub hydrate_calm : (u : Unit {0}) (t : State) → EndsFairly (hydrate_unless i.id false s) u t → IsHeard s t ⊎ (IsCalm s t × (is_hydrating i.id t ≡ true) × IsOpenTo t)
+  pub hydrate_calm : (u : Unit {0}) (t : State) → Ends (hydrate_unless i.id false s) u t → IsHeard s t ⊎ (IsCalm s t × (is_hydrating i.id t ≡ true) × IsOpenTo t)
   hydrate_calm u t ends = by (part_ends q.0 w.0 w.1) where
-    k : (a : Shown) × (m : State) × EndsFairly (call s) a m × EndsFairly (after_hydrate a m) u t
+    k : (a : Shown) × (m : State) × Ends (call s) a m × Ends (after_hydrate a m) u t
     k = ends_bind (call s) after_hydrate u t ends
 
-    q : (r : Shown) × (m : State) × EndsFairly (in_filter (hydrate_file i.id) s) r m × EndsFairly (finish_call r m) k.0 k.1
+    q : (r : Shown) × (m : State) × Ends (in_filter (hydrate_file i.id) s) r m × Ends (finish_call r m) k.0 k.1
     q = ends_bind (in_filter (hydrate_file i.id) s) finish_call k.0 k.1 k.2
 
-    w : (y : Filter) × EndsFairly (hydrate_file i.id x) q.0 y × (q.1 ≡ with_filter y s)
+    w : (y : Filter) × Ends (hydrate_file i.id x) q.0 y × (q.1 ≡ with_filter y s)
     w = ends_mapped (λ z. with_filter z s) (hydrate_file i.id x) q.0 q.1 q.2
 
-    d : (v : Unit {0}) × (m : State) × EndsFairly (drain q.1) v m × EndsFairly (in_filter (finish q.0) m) k.0 k.1
+    d : (v : Unit {0}) × (m : State) × Ends (drain q.1) v m × Ends (in_filter (finish q.0) m) k.0 k.1
     d = ends_bind (drain q.1) (λ _ z. in_filter (finish q.0) z) k.0 k.1 q.3
 
     -- the call adds to the notes
-    hm : Invariant k.1 × In x k.1.filter
-    hm = kept_ends (λ z. Invariant z × In x z.filter) (call s) k.0 k.1 (call_keeps (λ z. Invariant z × In x z.filter) (guarded_adds x Invariant sound_whole.closed) (h, itself x)) k.2
+    hm : Since s k.1
+    hm = kept_at_end (Since s) (call s) k.0 k.1 (call_keeps (Since s) (since_guarded s) (since_start s h)) k.2
 
-    ht : In k.1.filter t.filter
-    ht = (kept_ends (λ z. Invariant z × In k.1.filter z.filter) (after_hydrate k.0 k.1) u t ((after_hydrate_keeps (λ z. Invariant z × In k.1.filter z.filter) (guarded_adds k.1.filter Invariant sound_whole.closed) k.0).keeps k.1 (hm.0, itself k.1.filter)) k.3).1
+    ht : Follows k.1 t
+    ht = since_follows k.1 t (kept_at_end (Since k.1) (after_hydrate k.0 k.1) u t ((after_hydrate_keeps (Since k.1) (since_guarded k.1) k.0).keeps k.1 (since_start k.1 hm.0.0)) k.3)
 
-    hq : Invariant q.1 × In x q.1.filter
-    hq = kept_ends (λ z. Invariant z × In x z.filter) (in_filter (hydrate_file i.id) s) q.0 q.1 (part_keeps (λ z. Invariant z × In x z.filter) (guarded_adds x Invariant sound_whole.closed) (h, itself x)) q.2
+    hq : Since s q.1
+    hq = kept_at_end (Since s) (in_filter (hydrate_file i.id) s) q.0 q.1 (part_keeps (Since s) (since_guarded s) (since_start s h)) q.2
 
     drained_now : All IsPlainAsk q.1.filter.outbox → IsHeard q.1 d.1 ⊎ IsDrained q.1 d.1
     drained_now plain =
-        drained_calm most q.1 d.0 d.1 hq.0 (subst (λ (z : State). IsFair z.link) (sym w.2) fair)
+        drained_calm most q.1 d.0 d.1 hq.0.0 (subst (λ (z : State). IsFair z.link) (sym w.2) fair)
         (record { inline = ap (λ (z : State). z.link.inline) w.2 ∙ listening.inline; shows = ap (λ (z : State). z.running.shows_skips) w.2 ∙ listening.shows }) plain d.2
 
-    to_k : In d.1.filter k.1.filter
-    to_k = subst (λ (z : State). In d.1.filter z.filter) (sym d.3.1) (itself d.1.filter)
+    to_k : Follows d.1 k.1
+    to_k = subst (Follows d.1) (sym d.3.1) (record { adds = itself d.1.filter; unfair = λ e. e })
 
     heard_all : IsHeard q.1 d.1 → IsHeard s t
-    heard_all z = heard_after s q.1 t hq.1.lines hq.1.noted (heard_then q.1 k.1 t (heard_then q.1 d.1 k.1 z to_k) ht)
+    heard_all z = heard_after s q.1 t hq.0.1.lines hq.0.1.noted (heard_then q.1 k.1 t (heard_then q.1 d.1 k.1 z to_k) ht)
 
     shows_k : IsDrained q.1 d.1 → k.1.running.shows_skips ≡ true
     shows_k z = ap (λ (v : State). v.running.shows_skips) d.3.1 ∙ ap (λ (r : Running). r.shows_skips) z.running ∙ ap (λ (v : State). v.running.shows_skips) w.2 ∙ listening.shows
@@ -304,14 +306,14 @@ module _ (i : Item) (s : State) (h : Invariant s) (fair : IsFair s.link) (listen
     refused : (c : Code) → q.0 ≡ shown.Refused c → IsSkipCode c → IsHeard q.1 d.1 ⊎ IsDrained q.1 d.1 → IsHeard s t
     refused c is skips (inl z) = heard_all z
     refused c is skips (inr z) =
-        heard_after s k.1 t hm.1.lines hm.1.noted
-        (heard_of k.1 t (skipped_told c k.1 u t skips (shows_k z) (subst (λ (a : Shown). EndsFairly (after_hydrate a k.1) u t) (d.3.0 ∙ ap (λ (r : Shown). result_of r d.1.filter) is) k.3)))
+        heard_after s k.1 t hm.0.1.lines hm.0.1.noted
+        (heard_of k.1 t (skipped_told c k.1 u t skips (shows_k z) (subst (λ (a : Shown). Ends (after_hydrate a k.1) u t) (d.3.0 ∙ ap (λ (r : Shown). result_of r d.1.filter) is) k.3)))
 
     pending : q.0 ≡ shown.Pending (own_id need x) → (b : IsBegun w.0) → IsHeard q.1 d.1 ⊎ IsDrained q.1 d.1 → IsHeard s t ⊎ (IsCalm s t × (is_hydrating i.id t ≡ true) × IsOpenTo t)
     pending is b (inl z) = inl (heard_all z)
     pending is b (inr z) =
         inr (over w.0 b d.1 t (subst (λ (v : State). IsDrained v d.1) w.2 z)
-        (after_pending (own_id need x) d.1.filter.ending k.1 u t (subst (λ (a : Shown). EndsFairly (after_hydrate a k.1) u t) (d.3.0 ∙ ap (λ (r : Shown). result_of r d.1.filter) is) k.3) ∙ d.3.1))
+        (after_pending (own_id need x) d.1.filter.ending k.1 u t (subst (λ (a : Shown). Ends (after_hydrate a k.1) u t) (d.3.0 ∙ ap (λ (r : Shown). result_of r d.1.filter) is) k.3) ∙ d.3.1))
 
     by : ((c : Code) × (q.0 ≡ shown.Refused c) × IsSkipCode c × (w.0 ≡ x)) ⊎ ((q.0 ≡ shown.Pending (own_id need x)) × IsBegun w.0) → IsHeard s t ⊎ (IsCalm s t × (is_hydrating i.id t ≡ true) × IsOpenTo t)
     by (inl z) = inl (refused z.0 z.1 z.2 (drained_now (subst (λ (v : State). All IsPlainAsk v.filter.outbox) (sym w.2) (subst (λ (g : Filter). All IsPlainAsk g.outbox) (sym z.3) ready.boxed))))

@@ -4,9 +4,9 @@ pub mod BareItems
 pub mod ClimbLaws
 pub mod ListsWaited
 pub mod PlacedItems
-pub mod CountsGuarded
 pub mod EarlyCursors
 pub mod EventsCalm
+pub mod FairBefore
 pub mod FedHere
 pub mod FedKnown
 pub mod FeedAsked
@@ -26,6 +26,7 @@ pub mod LastingGuarded
 pub mod LateChanges
 pub mod KnownByTests
 pub mod Lines
+pub mod LinkGuarded
 pub mod PassedSteps
 pub mod PassesAdd
 pub mod PassesCalm
@@ -40,6 +41,7 @@ pub mod RoundsTaken
 pub mod SettledBytes
 pub mod SettledItems
 pub mod SettlesTold
+pub mod SinceGuarded
 pub mod SyncsCalm
 pub mod TakenKnown
 pub mod TargetsHere
@@ -49,5 +51,6 @@ pub mod TidyRemotes
 pub mod TreeChanges
 pub mod TurnsTold
 pub mod TurnsGrow
+pub mod UnfairReplies
 pub mod WaitsCalm
 pub mod WorksCalm

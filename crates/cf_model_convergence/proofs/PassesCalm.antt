@@ -12,7 +12,7 @@ use Rattle.cf_model.specs.Pushes.{push_all}
 use Rattle.cf_model.specs.Settled.{is_settled}
 use Rattle.cf_model.specs.State.{Filter, Running, State, book_now, start, items_now}
 use Rattle.cf_model.specs.Store.{Held}
-use Rattle.cf_model.specs.Trees.{bind}
+use Rattle.cf_model.specs.Trees.{bind, Ends}
 use Rattle.cf_model.proofs.ArrowLaws.{keeps_then}
 use Rattle.cf_model_laws.proofs.RightItems.{no_way}
 use Rattle.cf_model_laws.specs.Invariant.{Invariant, All}
@@ -23,12 +23,10 @@ use Rattle.cf_model_laws.proofs.PassesGuarded.{ask_feed_keeps, settle_all_keeps}
 use Rattle.cf_model_laws.proofs.PushesGuarded.{push_all_keeps}
 use Rattle.cf_model_convergence.specs.Agreeing.{IsAgreed, IsPassedHere, IsKeptUp}
 use Rattle.cf_model_convergence.specs.Settles.{IsFed, IsSettledTo}
-use Rattle.cf_model_convergence.specs.Telling.{EndsFairly, IsListening, IsTold}
+use Rattle.cf_model_convergence.specs.Telling.{IsListening, IsTold}
 use Rattle.cf_model_convergence.specs.Tidy.{IsTidy, IsLower}
-use Rattle.cf_model_convergence.proofs.AddingGuarded.{In}
 use Rattle.cf_model_convergence.proofs.FeedAsked.{feed_told}
 use Rattle.cf_model_convergence.proofs.PushesIdle.{adds_later, numbers_left}
-use Rattle.cf_model_convergence.proofs.PushesTold.{kept_ends}
 use Rattle.cf_model_convergence.proofs.SettlesTold.{fair_still, settles_told}
 use Rattle.cf_model_convergence.proofs.PlacedItems.{run_placed, placed_dirs}
 use Rattle.cf_model_convergence.proofs.TurnsTold.{ends_bind}
@@ -46,27 +44,29 @@ use Rattle.cf_model_convergence.specs.Resting.{IsAtRest, AreAllTargets, AreTarge
 use Rattle.cf_model_convergence.proofs.RestingMatches.{rest_settled}
 use Rattle.cf_model_convergence.proofs.TargetsHere.{rest_whole}
 use Rattle.cf_model.specs.Identities.{has_target}
+use Rattle.cf_model.proofs.TreeLaws.{kept_at_end}
 use Rattle.cf_model_convergence.specs.Feeds.{Among}
+use Rattle.cf_model_convergence.proofs.SinceGuarded.{Follows}
 
-pub heard_before : (s m t : State) → In s.filter m.filter → IsHeard m t → IsHeard s t
-heard_before s m t k z = heard_after s m t k.lines k.noted z
+pub heard_before : (s m t : State) → Follows s m → IsHeard m t → IsHeard s t
+heard_before s m t k z = heard_after s m t k.adds.lines k.adds.noted z
 
 -- whatever holds where the uploads behind the feed report nothing
 pass_heard : (Q : State → Type 0) (s : State) (u : Unit {0}) (t : State)
-    → ((m n : State) → Invariant m → Invariant n → IsFair m.link → IsFair n.link → IsListening n → (book_now m).entries ≡ [] → IsSettledTo [] s m → IsFed m n → EndsFairly (push_all n) u t → IsHeard n t ⊎ Q t)
-    → Invariant s → IsFair s.link → IsListening s → IsAgreed s → EndsFairly (pass s) u t → no_number t ≡ false → IsHeard s t ⊎ Q t
+    → ((m n : State) → Invariant m → Invariant n → IsFair m.link → IsFair n.link → IsListening n → (book_now m).entries ≡ [] → IsSettledTo [] s m → IsFed m n → Ends (push_all n) u t → IsHeard n t ⊎ Q t)
+    → Invariant s → IsFair s.link → IsListening s → IsAgreed s → Ends (pass s) u t → no_number t ≡ false → IsHeard s t ⊎ Q t
 pass_heard Q s u t last h fair listening agreed ends left = settled (settles_told s x.0 x.1 h fair listening x.2 left_m) where
-  x : (v : Unit {0}) × (m : State) × EndsFairly (settle_all s) v m × EndsFairly (bind (ask_feed m) (λ _ n. push_all n)) u t
+  x : (v : Unit {0}) × (m : State) × Ends (settle_all s) v m × Ends (bind (ask_feed m) (λ _ n. push_all n)) u t
   x = ends_bind (settle_all s) (λ _ m. then_do ask_feed push_all m) u t ends
 
-  y : (v : Unit {0}) × (n : State) × EndsFairly (ask_feed x.1) v n × EndsFairly (push_all n) u t
+  y : (v : Unit {0}) × (n : State) × Ends (ask_feed x.1) v n × Ends (push_all n) u t
   y = ends_bind (ask_feed x.1) (λ _ n. push_all n) u t x.3
 
   hm : Invariant x.1
-  hm = kept_ends Invariant (settle_all s) x.0 x.1 ((settle_all_keeps Invariant sound_whole.closed).keeps s h) x.2
+  hm = kept_at_end Invariant (settle_all s) x.0 x.1 ((settle_all_keeps Invariant sound_whole.closed).keeps s h) x.2
 
   hn : Invariant y.1
-  hn = kept_ends Invariant (ask_feed x.1) y.0 y.1 ((ask_feed_keeps Invariant sound_whole.closed).keeps x.1 hm) y.2
+  hn = kept_at_end Invariant (ask_feed x.1) y.0 y.1 ((ask_feed_keeps Invariant sound_whole.closed).keeps x.1 hm) y.2
 
   left_n : no_number y.1 ≡ false
   left_n = numbers_left push_all push_all_keeps y.1 u t hn y.3 left
@@ -74,13 +74,13 @@ pass_heard Q s u t last h fair listening agreed ends left = settled (settles_tol
   left_m : no_number x.1 ≡ false
   left_m = numbers_left ask_feed (λ P closed entering. ask_feed_keeps P closed) x.1 y.0 y.1 hm y.2 left_n
 
-  first : In s.filter x.1.filter
+  first : Follows s x.1
   first = adds_later settle_all (λ P closed entering. settle_all_keeps P closed) s x.0 x.1 h x.2
 
-  second : In x.1.filter y.1.filter
+  second : Follows x.1 y.1
   second = adds_later ask_feed (λ P closed entering. ask_feed_keeps P closed) x.1 y.0 y.1 hm y.2
 
-  rest : In y.1.filter t.filter
+  rest : Follows y.1 t
   rest = adds_later push_all push_all_keeps y.1 u t hn y.3
 
   asks : IsFair x.1.link → IsListening x.1 → IsSettledTo [] s x.1 → (book_now x.1).entries ≡ [] → IsTold x.1 y.1 ⊎ IsFed x.1 y.1 → IsHeard s t ⊎ Q t
@@ -92,7 +92,7 @@ pass_heard Q s u t last h fair listening agreed ends left = settled (settles_tol
 
   settled : IsTold s x.1 ⊎ IsSettledTo [] s x.1 → IsHeard s t ⊎ Q t
   settled (inl k) = inl (heard_then s x.1 t (heard_of s x.1 k) after) where
-    after : In x.1.filter t.filter
+    after : Follows x.1 t
     after = adds_later (then_do ask_feed push_all) (λ P closed entering. keeps_then P ask_feed push_all (ask_feed_keeps P closed) (push_all_keeps P closed entering)) x.1 u t hm x.3
   settled (inr k) =
       let f : IsFair x.1.link = fair_still [] s x.1 k fair in
@@ -135,9 +135,9 @@ here_then s t same h all = record {
   here = all_weaker (λ r. r.live ≡ true → (i : Item) × Among i (items_now t) × (has_target i r.rid ≡ true)) (λ r. IsLower r → r.live ≡ true → r.changed ≤ (book_now t).cursor → (i : Item) × Among i (items_now t) × (has_target i r.rid ≡ true)) (λ r k low live early. k live) t.link.remote.items all.some;
 }
 
-pub pass_over : (all : Bool) (s : State) (u : Unit {0}) (t : State) → Invariant s → IsSet s → (all ≡ true → IsPassedHere s) → EndsFairly (pass s) u t → no_number t ≡ false → IsHeard s t ⊎ IsOver all t
+pub pass_over : (all : Bool) (s : State) (u : Unit {0}) (t : State) → Invariant s → IsSet s → (all ≡ true → IsPassedHere s) → Ends (pass s) u t → no_number t ≡ false → IsHeard s t ⊎ IsOver all t
 pass_over all s u t h set here ends left = pass_heard (IsOver all) s u t (λ m n hm hn f g l none k fed z. last m n hm hn f g l none k fed z (pushes_calm n u t hn g l (open_fed m n fed (open_settled s m k set.free)) z left)) h set.fair set.listening set.agreed ends left where
-  last : (m n : State) → Invariant m → Invariant n → IsFair m.link → IsFair n.link → IsListening n → (book_now m).entries ≡ [] → IsSettledTo [] s m → IsFed m n → EndsFairly (push_all n) u t → IsHeard n t ⊎ IsIdleTo n t → IsHeard n t ⊎ IsOver all t
+  last : (m n : State) → Invariant m → Invariant n → IsFair m.link → IsFair n.link → IsListening n → (book_now m).entries ≡ [] → IsSettledTo [] s m → IsFed m n → Ends (push_all n) u t → IsHeard n t ⊎ IsIdleTo n t → IsHeard n t ⊎ IsOver all t
   last m n hm hn f g l none k fed z (inl y) = inl y
   last m n hm hn f g l none k fed z (inr y) = inr (
     settled all refl,
@@ -185,13 +185,13 @@ pass_over all s u t h set here ends left = pass_heard (IsOver all) s u t (λ m n
       same : (n : ℕ) → n ≤ n
       same n = omega arith
 
-pub pass_calm : (s : State) (u : Unit {0}) (t : State) → Invariant s → IsFair s.link → IsListening s → IsOpenTo s → AreDirs s → IsAgreed s → EndsFairly (pass s) u t → no_number t ≡ false → IsHeard s t ⊎ (is_settled false t ≡ true)
+pub pass_calm : (s : State) (u : Unit {0}) (t : State) → Invariant s → IsFair s.link → IsListening s → IsOpenTo s → AreDirs s → IsAgreed s → Ends (pass s) u t → no_number t ≡ false → IsHeard s t ⊎ (is_settled false t ≡ true)
 pass_calm s u t h fair listening ready dirs agreed ends left = by (pass_over false s u t h (record { fair = fair; listening = listening; free = ready; dirs = dirs; agreed = agreed }) (λ z. no_way z) ends left) where
   by : IsHeard s t ⊎ IsOver false t → IsHeard s t ⊎ (is_settled false t ≡ true)
   by (inl z) = inl z
   by (inr z) = inr z.0
 
-pub pass_calm_all : (s : State) (u : Unit {0}) (t : State) → Invariant s → IsFair s.link → IsListening s → IsOpenTo s → AreDirs s → IsAgreed s → IsPassedHere s → EndsFairly (pass s) u t → no_number t ≡ false → IsHeard s t ⊎ (is_settled true t ≡ true)
+pub pass_calm_all : (s : State) (u : Unit {0}) (t : State) → Invariant s → IsFair s.link → IsListening s → IsOpenTo s → AreDirs s → IsAgreed s → IsPassedHere s → Ends (pass s) u t → no_number t ≡ false → IsHeard s t ⊎ (is_settled true t ≡ true)
 pass_calm_all s u t h fair listening ready dirs agreed all ends left = by (pass_over true s u t h (record { fair = fair; listening = listening; free = ready; dirs = dirs; agreed = agreed }) (λ z. all) ends left) where
   by : IsHeard s t ⊎ IsOver true t → IsHeard s t ⊎ (is_settled true t ≡ true)
   by (inl z) = inl z
@@ -200,7 +200,7 @@ pass_calm_all s u t h fair listening ready dirs agreed all ends left = by (pass_
 -- in a run
 
 pub run_calm : (remote : Held) (clusters : ℕ) (trace : List (Event × Answer)) (s : State) (u : Unit {0}) (t : State) → Runs mode.Replay (start mode.Replay remote clusters) trace s → IsFresh remote → IsTidy remote → IsFair s.link → IsListening s
-    → IsOpenTo s → IsKeptUp s → EndsFairly (pass s) u t → no_number t ≡ false → IsHeard s t ⊎ (is_settled false t ≡ true)
+    → IsOpenTo s → IsKeptUp s → Ends (pass s) u t → no_number t ≡ false → IsHeard s t ⊎ (is_settled false t ≡ true)
 run_calm remote clusters trace s u t runs fresh tidy fair listening ready k ends left =
     pass_calm s u t (run_sound remote clusters trace s runs fresh) fair listening ready (placed_dirs s (run_placed remote clusters trace s runs fresh) fair)
     (kept_agreed remote clusters trace s runs fresh tidy fair (all_weaker (λ w. (is_list_wait w.kind ≡ false) × (is_dehydrate_wait w.kind ≡ false)) (λ w. is_list_wait w.kind ≡ false) (λ w z. z.0) s.filter.waiting.waits ready.waits) k) ends left

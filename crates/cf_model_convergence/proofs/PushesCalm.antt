@@ -12,8 +12,9 @@ use Rattle.cf_model.specs.Pushes.{has_entry, hydrate_unless, is_hydrating, is_le
 use Rattle.cf_model.specs.Skips.{in_use}
 use Rattle.cf_model.specs.State.{State, Volatile, book_now, items_now}
 use Rattle.cf_model.specs.Store.{Held, Stored, stored_at}
-use Rattle.cf_model.specs.Trees.{bind}
+use Rattle.cf_model.specs.Trees.{bind, Ends}
 use Rattle.cf_model.proofs.ArrowLaws.{keeps_each}
+use Rattle.cf_model.proofs.TreeLaws.{kept_at_end}
 use Rattle.cf_model_laws.specs.Invariant.{All, Invariant}
 use Rattle.cf_model_laws.specs.Premises.{IsFair, IsSmall}
 use Rattle.cf_model_laws.proofs.ContentLaws.{sound_whole}
@@ -30,14 +31,14 @@ use Rattle.cf_model_convergence.specs.Matching.{IsBelow}
 use Rattle.cf_model_convergence.specs.Tidy.{IsTidy}
 use Rattle.cf_model_convergence.specs.Ready.{IsReady}
 use Rattle.cf_model_convergence.specs.Resting.{AreAllTargets, AreTargetsApart, IsAtRest, IsKnown, IsTargetOf}
-use Rattle.cf_model_convergence.specs.Telling.{EndsFairly, IsAside, IsIdle, IsListening, IsToUpload, IsTold}
-use Rattle.cf_model_convergence.proofs.AddingGuarded.{In, entering_adds, guarded_adds, itself}
+use Rattle.cf_model_convergence.specs.Telling.{IsAside, IsIdle, IsListening, IsToUpload, IsTold}
 use Rattle.cf_model_convergence.proofs.HeardLines.{heard_after, heard_of, heard_then}
 use Rattle.cf_model_convergence.proofs.HydratesCalm.{hydrate_calm}
 use Rattle.cf_model_convergence.proofs.PushesIdle.{adds_later, each_told, numbers_left, sorted_apart, of_ids, tombstone_step}
-use Rattle.cf_model_convergence.proofs.PushesTold.{HasNumbers, kept_ends}
+use Rattle.cf_model_convergence.proofs.PushesTold.{HasNumbers}
 use Rattle.cf_model_convergence.proofs.ReadyRests.{at_rest}
 use Rattle.cf_model_convergence.proofs.TurnsTold.{case_told, ends_bind, no_entry}
+use Rattle.cf_model_convergence.proofs.SinceGuarded.{Follows, Since, since_entering, since_follows, since_guarded, since_start}
 
 -- calm states
 
@@ -109,15 +110,15 @@ record IsTurnedTo (s : State) (item : ItemId) (t : State) : Type 0 where
   pub ready : IsOpenTo t
   pub rests : (j : Item) → item_of (items_now s) item ≡ Some j → IsAside t j
 
-turn_calm : (item : ItemId) (s : State) (u : Unit {0}) (t : State) → Invariant s → IsFair s.link → IsListening s → IsOpenTo s → EndsFairly (push_turn item s) u t → HasNumbers t → IsHeard s t ⊎ IsTurnedTo s item t
+turn_calm : (item : ItemId) (s : State) (u : Unit {0}) (t : State) → Invariant s → IsFair s.link → IsListening s → IsOpenTo s → Ends (push_turn item s) u t → HasNumbers t → IsHeard s t ⊎ IsTurnedTo s item t
 turn_calm item s u t h fair listening ready ends left = by (item_of (items_now s) item) refl ends where
   still : (i : Item) → item_of (items_now s) item ≡ Some i → (t ≡ s) × IsAside s i → IsHeard s t ⊎ IsTurnedTo s item t
   still i e k = inr (subst (IsTurnedTo s item) (sym k.0) (record { calm = calm_self s; ready = ready; rests = λ j q. subst (IsAside s) (some i j (sym e ∙ q)) k.1 }))
 
   lacking : (i : Item) → item_of (items_now s) item ≡ Some i → item_of (items_now s) i.id ≡ Some i → has_entry s i.id ≡ false → (i.directory ≡ false → i.placeholder ≡ true) → i.directory ≡ false → is_all_here i ≡ false → IsToUpload i → is_hydrating i.id s ≡ false
-      → EndsFairly (bind (hydrate_unless i.id false s) (λ _ x. put_whole (item_of (items_now x) i.id) x)) u t → IsHeard s t ⊎ IsTurnedTo s item t
+      → Ends (bind (hydrate_unless i.id false s) (λ _ x. put_whole (item_of (items_now x) i.id) x)) u t → IsHeard s t ⊎ IsTurnedTo s item t
   lacking i e there free placed file here needed idle z = hydrated (hydrate_calm i s h fair listening ready there file here k.0 k.1 k.2) where
-    k : (v : Unit {0}) × (m : State) × EndsFairly (hydrate_unless i.id false s) v m × EndsFairly (put_whole (item_of (items_now m) i.id) m) u t
+    k : (v : Unit {0}) × (m : State) × Ends (hydrate_unless i.id false s) v m × Ends (put_whole (item_of (items_now m) i.id) m) u t
     k = ends_bind (hydrate_unless i.id false s) (λ _ x. put_whole (item_of (items_now x) i.id) x) u t z
 
     Frames : State → Type 0
@@ -130,12 +131,12 @@ turn_calm item s u t h fair listening ready ends left = by (item_of (items_now s
     )
 
     hm : Frames k.1
-    hm = kept_ends Frames (hydrate_unless i.id false s) k.0 k.1 (hydrate_unless_at Frames (guarded_framed (Unit {0}) i.id Files (λ d p q. (q.0, refl)) [] Invariant sound_whole.closed) i false s (λ f. (there, file)) (h, first)) k.2
+    hm = kept_at_end Frames (hydrate_unless i.id false s) k.0 k.1 (hydrate_unless_at Frames (guarded_framed (Unit {0}) i.id Files (λ d p q. (q.0, refl)) [] Invariant sound_whole.closed) i false s (λ f. (there, file)) (h, first)) k.2
 
-    adds : In k.1.filter t.filter
+    adds : Follows k.1 t
     adds =
-        (kept_ends (λ x. Invariant x × In k.1.filter x.filter) (put_whole (item_of (items_now k.1) i.id) k.1) u t
-        (put_whole_at (λ x. Invariant x × In k.1.filter x.filter) (guarded_adds k.1.filter Invariant sound_whole.closed) (entering_adds k.1.filter Invariant sound_whole.entering) i k.1 hm.1 (item_of (items_now k.1) i.id) refl (hm.0, itself k.1.filter)) k.3).1
+        since_follows k.1 t (kept_at_end (Since k.1) (put_whole (item_of (items_now k.1) i.id) k.1) u t
+        (put_whole_at (Since k.1) (since_guarded k.1) (since_entering k.1) i k.1 hm.1 (item_of (items_now k.1) i.id) refl (since_start k.1 hm.0)) k.3)
 
     hydrated : IsHeard s k.1 ⊎ (IsCalm s k.1 × (is_hydrating i.id k.1 ≡ true) × IsOpenTo k.1) → IsHeard s t ⊎ IsTurnedTo s item t
     hydrated (inl y) = inl (heard_then s k.1 t y adds)
@@ -144,9 +145,9 @@ turn_calm item s u t h fair listening ready ends left = by (item_of (items_now s
       found = subst (λ (is : List Item). item_of is i.id ≡ Some i) (sym y.0.items) there
 
       same : t ≡ k.1
-      same = (subst (λ (b : Bool). EndsFairly (put_if i b k.1) u t) here (subst (λ (o : Option Item). EndsFairly (put_whole o k.1) u t) found k.3)).1
+      same = (subst (λ (b : Bool). Ends (put_if i b k.1) u t) here (subst (λ (o : Option Item). Ends (put_whole o k.1) u t) found k.3)).1
 
-  two : (i : Item) → item_of (items_now s) item ≡ Some i → (b : Bool) → is_left_out s i ≡ b → EndsFairly (push_unless i b s) u t → IsHeard s t ⊎ IsTurnedTo s item t
+  two : (i : Item) → item_of (items_now s) item ≡ Some i → (b : Bool) → is_left_out s i ≡ b → Ends (push_unless i b s) u t → IsHeard s t ⊎ IsTurnedTo s item t
   two i e true q z = still i e (z.1, inl q)
   two i e false q z = judged (case_told s h fair listening i there (no_entry s i q) u t left (IsHeard s t ⊎ IsTurnedTo s item t) (lacking i e there (no_entry s i q)) z) where
     there : item_of (items_now s) i.id ≡ Some i
@@ -157,7 +158,7 @@ turn_calm item s u t h fair listening ready ends left = by (item_of (items_now s
     judged (inr (inl k)) = k
     judged (inr (inr k)) = still i e k
 
-  by : (o : Option Item) → item_of (items_now s) item ≡ o → EndsFairly (push_here o s) u t → IsHeard s t ⊎ IsTurnedTo s item t
+  by : (o : Option Item) → item_of (items_now s) item ≡ o → Ends (push_here o s) u t → IsHeard s t ⊎ IsTurnedTo s item t
   by None e z = inr (subst (IsTurnedTo s item) (sym z.1) (record { calm = calm_self s; ready = ready; rests = λ j q. absurd (none j (sym e ∙ q)) }))
   by (Some i) e z = two i e (is_left_out s i) refl z
 
@@ -168,26 +169,26 @@ record AreTurnedTo (s : State) (ids : List ItemId) (t : State) : Type 0 where
   pub ready : IsOpenTo t
   pub rests : All (λ id. (j : Item) → item_of (items_now s) id ≡ Some j → IsAside t j) ids
 
-turns_calm : (ids : List ItemId) (s : State) (u : Unit {0}) (t : State) → Invariant s → IsFair s.link → IsListening s → IsOpenTo s → EndsFairly (each push_turn ids s) u t → HasNumbers t → IsHeard s t ⊎ AreTurnedTo s ids t
+turns_calm : (ids : List ItemId) (s : State) (u : Unit {0}) (t : State) → Invariant s → IsFair s.link → IsListening s → IsOpenTo s → Ends (each push_turn ids s) u t → HasNumbers t → IsHeard s t ⊎ AreTurnedTo s ids t
 turns_calm [] s u t h fair listening ready ends left = inr (subst (AreTurnedTo s []) (sym ends.1) (record { calm = calm_self s; ready = ready; rests = tt }))
 turns_calm (id ∷ ids) s u t h fair listening ready ends left = by (turn_calm id s k.0 k.1 h fair listening ready k.2 left_m) (λ f l r. turns_calm ids k.1 u t hm f l r k.3 left) where
-  k : (v : Unit {0}) × (m : State) × EndsFairly (push_turn id s) v m × EndsFairly (each push_turn ids m) u t
+  k : (v : Unit {0}) × (m : State) × Ends (push_turn id s) v m × Ends (each push_turn ids m) u t
   k = ends_bind (push_turn id s) (λ _ m. each push_turn ids m) u t ends
 
   keeps_rest : (P : State → Type 0) → Guarded P → Entering P → Preserves P (each push_turn ids)
   keeps_rest P closed entering = keeps_each P push_turn ids (push_turn_keeps P closed entering)
 
   hm : Invariant k.1
-  hm = kept_ends Invariant (push_turn id s) k.0 k.1 ((push_turn_keeps Invariant sound_whole.closed sound_whole.entering id).keeps s h) k.2
+  hm = kept_at_end Invariant (push_turn id s) k.0 k.1 ((push_turn_keeps Invariant sound_whole.closed sound_whole.entering id).keeps s h) k.2
 
   left_m : HasNumbers k.1
   left_m = numbers_left (each push_turn ids) keeps_rest k.1 u t hm k.3 left
 
-  first : In s.filter k.1.filter
+  first : Follows s k.1
   first = adds_later (push_turn id) (λ P closed entering. push_turn_keeps P closed entering id) s k.0 k.1 h k.2
 
   joined : IsTurnedTo s id k.1 → IsHeard k.1 t ⊎ AreTurnedTo k.1 ids t → IsHeard s t ⊎ AreTurnedTo s (id ∷ ids) t
-  joined y (inl z) = inl (heard_after s k.1 t first.lines first.noted z)
+  joined y (inl z) = inl (heard_after s k.1 t first.adds.lines first.adds.noted z)
   joined y (inr z) = inr (record {
     calm = calm_then s k.1 t y.calm z.calm;
     ready = z.ready;
@@ -205,7 +206,7 @@ pub record IsIdleTo (s t : State) : Type 0 where
   pub ready : IsOpenTo t
   pub idle : IsIdle t t
 
-pub pushes_calm : (s : State) (u : Unit {0}) (t : State) → Invariant s → IsFair s.link → IsListening s → IsOpenTo s → EndsFairly (push_all s) u t → HasNumbers t → IsHeard s t ⊎ IsIdleTo s t
+pub pushes_calm : (s : State) (u : Unit {0}) (t : State) → Invariant s → IsFair s.link → IsListening s → IsOpenTo s → Ends (push_all s) u t → HasNumbers t → IsHeard s t ⊎ IsIdleTo s t
 pushes_calm s u t h fair listening ready ends left =
     by k.1 hm k.3 (each_told Tombstone push_tombstone push_tombstone_keeps (λ x. Unit {0}) (λ x y. is_tombstone_left_out x y ≡ true) tombstone_step ts s k.0 k.1 h fair listening tt k.2 (numbers_left (each push_turn ids) keeps_turns k.1 u t hm k.3 left)) where
       ts : List Tombstone
@@ -214,11 +215,11 @@ pushes_calm s u t h fair listening ready ends left =
       ids : List ItemId
       ids = map (λ i. i.id) (by_depth (items_now s) (items_now s))
 
-      k : (v : Unit {0}) × (m : State) × EndsFairly (each push_tombstone ts s) v m × EndsFairly (each push_turn ids m) u t
+      k : (v : Unit {0}) × (m : State) × Ends (each push_tombstone ts s) v m × Ends (each push_turn ids m) u t
       k = ends_bind (each push_tombstone ts s) (λ _ m. each push_turn ids m) u t ends
 
       hm : Invariant k.1
-      hm = kept_ends Invariant (each push_tombstone ts s) k.0 k.1 ((keeps_each Invariant push_tombstone ts (push_tombstone_keeps Invariant sound_whole.closed sound_whole.entering)).keeps s h) k.2
+      hm = kept_at_end Invariant (each push_tombstone ts s) k.0 k.1 ((keeps_each Invariant push_tombstone ts (push_tombstone_keeps Invariant sound_whole.closed sound_whole.entering)).keeps s h) k.2
 
       keeps_turns : (P : State → Type 0) → Guarded P → Entering P → Preserves P (each push_turn ids)
       keeps_turns P closed entering = keeps_each P push_turn ids (push_turn_keeps P closed entering)
@@ -237,9 +238,9 @@ pushes_calm s u t h fair listening ready ends left =
         };
       })
 
-      by : (m : State) → Invariant m → EndsFairly (each push_turn ids m) u t → IsTold s m ⊎ ((m ≡ s) × All (λ x. is_tombstone_left_out s x ≡ true) ts) → IsHeard s t ⊎ IsIdleTo s t
+      by : (m : State) → Invariant m → Ends (each push_turn ids m) u t → IsTold s m ⊎ ((m ≡ s) × All (λ x. is_tombstone_left_out s x ≡ true) ts) → IsHeard s t ⊎ IsIdleTo s t
       by m hm e (inl told) = inl (heard_then s m t (heard_of s m told) (adds_later (each push_turn ids) keeps_turns m u t hm e))
-      by m hm e (inr z) = idle z.1 (turns_calm ids s u t h fair listening ready (subst (λ (y : State). EndsFairly (each push_turn ids y) u t) z.0 e) left)
+      by m hm e (inr z) = idle z.1 (turns_calm ids s u t h fair listening ready (subst (λ (y : State). Ends (each push_turn ids y) u t) z.0 e) left)
 
 -- what was ready still is
 
@@ -279,9 +280,9 @@ ready_calm s t k dirs r = record {
 
 -- so nothing is left to do where the uploads behind a feed are not heard of
 
-pub rest_at : (s : State) (u : Unit {0}) (t : State) → Invariant s → IsFair s.link → AreDirs s → IsReady s → EndsFairly (push_all s) u t → IsIdleTo s t → IsAtRest t
+pub rest_at : (s : State) (u : Unit {0}) (t : State) → Invariant s → IsFair s.link → AreDirs s → IsReady s → Ends (push_all s) u t → IsIdleTo s t → IsAtRest t
 rest_at s u t h fair dirs ready ends k =
-    at_rest t (kept_ends Invariant (push_all s) u t ((push_all_keeps Invariant sound_whole.closed sound_whole.entering).keeps s h) ends) (fair_calm s t k.calm fair) (ready_calm s t k.calm dirs ready) t k.idle
+    at_rest t (kept_at_end Invariant (push_all s) u t ((push_all_keeps Invariant sound_whole.closed sound_whole.entering).keeps s h) ends) (fair_calm s t k.calm fair) (ready_calm s t k.calm dirs ready) t k.idle
 
 pub calm_targets : (s t : State) → IsCalm s t → AreAllTargets s → AreAllTargets t
 calm_targets s t k all = record {

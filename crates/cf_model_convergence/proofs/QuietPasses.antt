@@ -11,8 +11,9 @@ use Rattle.cf_model.specs.Pushes.{push_all}
 use Rattle.cf_model.specs.Settled.{is_settled}
 use Rattle.cf_model.specs.State.{Filter, Running, State, book_now, start}
 use Rattle.cf_model.specs.Store.{Held}
-use Rattle.cf_model.specs.Trees.{bind}
+use Rattle.cf_model.specs.Trees.{bind, Ends}
 use Rattle.cf_model.proofs.ArrowLaws.{keeps_then}
+use Rattle.cf_model.proofs.TreeLaws.{kept_at_end}
 use Rattle.cf_model_laws.specs.Invariant.{Invariant}
 use Rattle.cf_model_laws.specs.Premises.{IsFair, IsFresh, IsSmall}
 use Rattle.cf_model_laws.proofs.ContentLaws.{run_sound, sound_whole}
@@ -22,12 +23,11 @@ use Rattle.cf_model_laws.proofs.PushesGuarded.{push_all_keeps}
 use Rattle.cf_model_convergence.specs.Agreeing.{IsAgreed, IsPassedHere, IsKeptUp}
 use Rattle.cf_model_convergence.specs.Resting.{IsKnown}
 use Rattle.cf_model_convergence.specs.Settles.{IsFed, IsSettledTo}
-use Rattle.cf_model_convergence.specs.Telling.{AreWhole, EndsFairly, IsListening, IsTold, is_loud}
+use Rattle.cf_model_convergence.specs.Telling.{AreWhole, IsListening, IsTold, is_loud}
 use Rattle.cf_model_convergence.specs.Tidy.{IsTidy, IsTidyItem}
-use Rattle.cf_model_convergence.proofs.AddingGuarded.{In}
 use Rattle.cf_model_convergence.proofs.FeedAsked.{feed_told}
 use Rattle.cf_model_convergence.proofs.PushesIdle.{adds_later, numbers_left}
-use Rattle.cf_model_convergence.proofs.PushesTold.{kept_ends, told_after, told_then}
+use Rattle.cf_model_convergence.proofs.PushesTold.{told_after, told_then}
 use Rattle.cf_model_convergence.proofs.ReadyRests.{ready_settled, ready_whole}
 use Rattle.cf_model_convergence.proofs.SettlesTold.{fair_still, settles_told}
 use Rattle.cf_model_convergence.proofs.TidyRemotes.{run_tidy}
@@ -41,6 +41,7 @@ use Rattle.cf_model_convergence.proofs.FedHere.{all_targets}
 use Rattle.std.specs.List.{list_any}
 use Rattle.cf_base.specs.declared.notices.Notice.{Notice}
 use Rattle.cf_model_laws.proofs.RightItems.{no_way}
+use Rattle.cf_model_convergence.proofs.SinceGuarded.{Follows}
 
 -- uploads are settled
 
@@ -62,25 +63,25 @@ agreed_settled s m k h =
 
 -- the pass
 
-told_before : (s m t : State) → In s.filter m.filter → IsTold m t → IsTold s t
-told_before s m t k z = told_after s m t k.lines k.noted z
+told_before : (s m t : State) → Follows s m → IsTold m t → IsTold s t
+told_before s m t k z = told_after s m t k.adds.lines k.adds.noted z
 
 -- whatever holds where the uploads behind the feed report nothing
 pass_ends : (Q : State → Type 0) (s : State) (u : Unit {0}) (t : State)
-    → ((m n : State) → Invariant m → Invariant n → IsFair m.link → IsFair n.link → IsListening n → (book_now m).entries ≡ [] → IsSettledTo [] s m → IsFed m n → EndsFairly (push_all n) u t → IsTold n t ⊎ Q t)
-    → Invariant s → IsFair s.link → IsListening s → IsAgreed s → EndsFairly (pass s) u t → no_number t ≡ false → IsTold s t ⊎ Q t
+    → ((m n : State) → Invariant m → Invariant n → IsFair m.link → IsFair n.link → IsListening n → (book_now m).entries ≡ [] → IsSettledTo [] s m → IsFed m n → Ends (push_all n) u t → IsTold n t ⊎ Q t)
+    → Invariant s → IsFair s.link → IsListening s → IsAgreed s → Ends (pass s) u t → no_number t ≡ false → IsTold s t ⊎ Q t
 pass_ends Q s u t last h fair listening agreed ends left = settled (settles_told s x.0 x.1 h fair listening x.2 left_m) where
-  x : (v : Unit {0}) × (m : State) × EndsFairly (settle_all s) v m × EndsFairly (bind (ask_feed m) (λ _ n. push_all n)) u t
+  x : (v : Unit {0}) × (m : State) × Ends (settle_all s) v m × Ends (bind (ask_feed m) (λ _ n. push_all n)) u t
   x = ends_bind (settle_all s) (λ _ m. then_do ask_feed push_all m) u t ends
 
-  y : (v : Unit {0}) × (n : State) × EndsFairly (ask_feed x.1) v n × EndsFairly (push_all n) u t
+  y : (v : Unit {0}) × (n : State) × Ends (ask_feed x.1) v n × Ends (push_all n) u t
   y = ends_bind (ask_feed x.1) (λ _ n. push_all n) u t x.3
 
   hm : Invariant x.1
-  hm = kept_ends Invariant (settle_all s) x.0 x.1 ((settle_all_keeps Invariant sound_whole.closed).keeps s h) x.2
+  hm = kept_at_end Invariant (settle_all s) x.0 x.1 ((settle_all_keeps Invariant sound_whole.closed).keeps s h) x.2
 
   hn : Invariant y.1
-  hn = kept_ends Invariant (ask_feed x.1) y.0 y.1 ((ask_feed_keeps Invariant sound_whole.closed).keeps x.1 hm) y.2
+  hn = kept_at_end Invariant (ask_feed x.1) y.0 y.1 ((ask_feed_keeps Invariant sound_whole.closed).keeps x.1 hm) y.2
 
   left_n : no_number y.1 ≡ false
   left_n = numbers_left push_all push_all_keeps y.1 u t hn y.3 left
@@ -88,13 +89,13 @@ pass_ends Q s u t last h fair listening agreed ends left = settled (settles_told
   left_m : no_number x.1 ≡ false
   left_m = numbers_left ask_feed (λ P closed entering. ask_feed_keeps P closed) x.1 y.0 y.1 hm y.2 left_n
 
-  first : In s.filter x.1.filter
+  first : Follows s x.1
   first = adds_later settle_all (λ P closed entering. settle_all_keeps P closed) s x.0 x.1 h x.2
 
-  second : In x.1.filter y.1.filter
+  second : Follows x.1 y.1
   second = adds_later ask_feed (λ P closed entering. ask_feed_keeps P closed) x.1 y.0 y.1 hm y.2
 
-  rest : In y.1.filter t.filter
+  rest : Follows y.1 t
   rest = adds_later push_all push_all_keeps y.1 u t hn y.3
 
   asks : IsFair x.1.link → IsListening x.1 → IsSettledTo [] s x.1 → (book_now x.1).entries ≡ [] → IsTold x.1 y.1 ⊎ IsFed x.1 y.1 → IsTold s t ⊎ Q t
@@ -106,7 +107,7 @@ pass_ends Q s u t last h fair listening agreed ends left = settled (settles_told
 
   settled : IsTold s x.1 ⊎ IsSettledTo [] s x.1 → IsTold s t ⊎ Q t
   settled (inl k) = inl (told_then s x.1 t k after) where
-    after : In x.1.filter t.filter
+    after : Follows x.1 t
     after = adds_later (then_do ask_feed push_all) (λ P closed entering. keeps_then P ask_feed push_all (ask_feed_keeps P closed) (push_all_keeps P closed entering)) x.1 u t hm x.3
   settled (inr k) =
       let f : IsFair x.1.link = fair_still [] s x.1 k fair in
@@ -118,7 +119,7 @@ pass_ends Q s u t last h fair listening agreed ends left = settled (settles_told
 whole_settled : (s m : State) → IsSettledTo [] s m → AreWhole s → AreWhole m
 whole_settled s m k h = subst (λ (f : Filter). AreWhole (record m { filter = f })) (sym k.filter) h
 
-pub pass_settles : (s : State) (u : Unit {0}) (t : State) → Invariant s → IsFair s.link → IsListening s → IsAgreed s → AreWhole s → EndsFairly (pass s) u t → no_number t ≡ false → IsTold s t ⊎ (is_settled false t ≡ true)
+pub pass_settles : (s : State) (u : Unit {0}) (t : State) → Invariant s → IsFair s.link → IsListening s → IsAgreed s → AreWhole s → Ends (pass s) u t → no_number t ≡ false → IsTold s t ⊎ (is_settled false t ≡ true)
 pass_settles s u t h fair listening agreed whole ends left =
     pass_ends (λ x. is_settled false x ≡ true) s u t
     (λ m n hm hn f g l none k fed z. let a : IsAgreed m = agreed_settled s m k agreed in ready_settled n u t hn g l (fed_whole m hm f none a n fed (whole_settled s m k whole)) (fed_ready m hm f none a n fed) z left)
@@ -129,7 +130,7 @@ here_settled s m k h =
     subst (λ (r : Held). IsPassedHere (record m { link = record m.link { remote = r } })) (sym k.remote)
     (subst (λ (f : Filter). IsPassedHere (record m { filter = f; link = record m.link { remote = record s.link.remote { tokens = m.link.remote.tokens } } })) (sym k.filter) (record { top = h.top; populated = h.populated; here = h.here }))
 
-pub pass_settles_all : (s : State) (u : Unit {0}) (t : State) → Invariant s → IsFair s.link → IsListening s → IsAgreed s → AreWhole s → IsPassedHere s → EndsFairly (pass s) u t → no_number t ≡ false → IsTold s t ⊎ (is_settled true t ≡ true)
+pub pass_settles_all : (s : State) (u : Unit {0}) (t : State) → Invariant s → IsFair s.link → IsListening s → IsAgreed s → AreWhole s → IsPassedHere s → Ends (pass s) u t → no_number t ≡ false → IsTold s t ⊎ (is_settled true t ≡ true)
 pass_settles_all s u t h fair listening agreed whole all ends left =
     pass_ends (λ x. is_settled true x ≡ true) s u t
     (λ m n hm hn f g l none k fed z. let a : IsAgreed m = agreed_settled s m k agreed in
@@ -149,7 +150,7 @@ kept_agreed remote clusters trace s runs fresh tidy fair none k = record {
 }
 
 pub run_settles : (remote : Held) (clusters : ℕ) (trace : List (Event × Answer)) (s : State) (u : Unit {0}) (t : State) → Runs mode.Replay (start mode.Replay remote clusters) trace s → IsFresh remote → IsTidy remote → IsFair s.link → IsListening s → NoneLists s → IsKeptUp s → AreWhole s
-    → EndsFairly (pass s) u t → no_number t ≡ false → IsTold s t ⊎ (is_settled false t ≡ true)
+    → Ends (pass s) u t → no_number t ≡ false → IsTold s t ⊎ (is_settled false t ≡ true)
 run_settles remote clusters trace s u t runs fresh tidy fair listening none k whole ends left =
     pass_settles s u t (run_sound remote clusters trace s runs fresh) fair listening (kept_agreed remote clusters trace s runs fresh tidy fair none k) whole ends left
 
@@ -162,17 +163,20 @@ cancelled (x ∷ xs) ys zs e = cancelled xs ys zs (tail (xs ++ ys) (xs ++ zs) e)
   tail us vs z = cc
 
 -- where none of the lines is loud, none was told
-untold : (s t : State) (lines : List Notice) → t.filter.notes ≡ s.filter.notes ++ lines → list_any is_loud lines ≡ false → IsTold s t → ⊥
-untold s t lines e quiet told = no_way (sym quiet ∙ subst (λ (ns : List Notice). list_any is_loud ns ≡ true) (cancelled s.filter.notes told.lines lines (sym told.noted ∙ e)) told.loud)
+untold : (s t : State) (lines : List Notice) → IsFair t.link → t.filter.notes ≡ s.filter.notes ++ lines → list_any is_loud lines ≡ false → IsTold s t → ⊥
+untold s t lines fair e quiet told = elim told.loud as (λ _. ⊥) [
+  | inl z ↦ no_way (sym quiet ∙ subst (λ (ns : List Notice). list_any is_loud ns ≡ true) (cancelled s.filter.notes told.lines lines (sym told.noted ∙ e)) z)
+  | inr z ↦ no_way (sym z ∙ fair.0)
+]
 
-pub quiet_settles : (s : State) (u : Unit {0}) (t : State) (lines : List Notice) → Invariant s → IsFair s.link → IsListening s → IsAgreed s → AreWhole s → EndsFairly (pass s) u t → no_number t ≡ false → t.filter.notes ≡ s.filter.notes ++ lines → list_any is_loud lines ≡ false → is_settled false t ≡ true
-quiet_settles s u t lines h fair listening agreed whole ends left e quiet = by (pass_settles s u t h fair listening agreed whole ends left) where
+pub quiet_settles : (s : State) (u : Unit {0}) (t : State) (lines : List Notice) → Invariant s → IsFair s.link → IsListening s → IsAgreed s → AreWhole s → Ends (pass s) u t → no_number t ≡ false → IsFair t.link → t.filter.notes ≡ s.filter.notes ++ lines → list_any is_loud lines ≡ false → is_settled false t ≡ true
+quiet_settles s u t lines h fair listening agreed whole ends left stays e quiet = by (pass_settles s u t h fair listening agreed whole ends left) where
   by : IsTold s t ⊎ (is_settled false t ≡ true) → is_settled false t ≡ true
-  by (inl k) = absurd (untold s t lines e quiet k)
+  by (inl k) = absurd (untold s t lines stays e quiet k)
   by (inr k) = k
 
-pub quiet_settles_all : (s : State) (u : Unit {0}) (t : State) (lines : List Notice) → Invariant s → IsFair s.link → IsListening s → IsAgreed s → AreWhole s → IsPassedHere s → EndsFairly (pass s) u t → no_number t ≡ false → t.filter.notes ≡ s.filter.notes ++ lines → list_any is_loud lines ≡ false → is_settled true t ≡ true
-quiet_settles_all s u t lines h fair listening agreed whole all ends left e quiet = by (pass_settles_all s u t h fair listening agreed whole all ends left) where
+pub quiet_settles_all : (s : State) (u : Unit {0}) (t : State) (lines : List Notice) → Invariant s → IsFair s.link → IsListening s → IsAgreed s → AreWhole s → IsPassedHere s → Ends (pass s) u t → no_number t ≡ false → IsFair t.link → t.filter.notes ≡ s.filter.notes ++ lines → list_any is_loud lines ≡ false → is_settled true t ≡ true
+quiet_settles_all s u t lines h fair listening agreed whole all ends left stays e quiet = by (pass_settles_all s u t h fair listening agreed whole all ends left) where
   by : IsTold s t ⊎ (is_settled true t ≡ true) → is_settled true t ≡ true
-  by (inl k) = absurd (untold s t lines e quiet k)
+  by (inl k) = absurd (untold s t lines stays e quiet k)
   by (inr k) = k

@@ -31,7 +31,7 @@ use Rattle.cf_model_convergence.specs.Lasting.{IsTargetedWell}
 use Rattle.cf_model_convergence.specs.Matching.{IsBelow}
 use Rattle.cf_model_convergence.specs.Ready.{IsReady}
 use Rattle.cf_model_convergence.specs.Resting.{AreAllTargets, IsAtRest, IsRested, IsTargetOf, IsTargetRight}
-use Rattle.cf_model_convergence.specs.Telling.{AreWhole, EndsFairly, IsAside, IsIdle, IsListening, IsTold}
+use Rattle.cf_model_convergence.specs.Telling.{AreWhole, IsAside, IsIdle, IsListening, IsTold}
 use Rattle.cf_model_convergence.proofs.PushesIdle.{pushes_told}
 use Rattle.cf_model_convergence.proofs.RestingMatches.{rest_settled}
 use Rattle.cf_model_convergence.proofs.RightTargets.{aimed_right}
@@ -39,6 +39,7 @@ use Rattle.cf_model_convergence.proofs.TargetsHere.{rest_whole}
 use Rattle.cf_model.specs.Requests.{is_hydrate_wait}
 use Rattle.cf_model.specs.Skips.{in_use}
 use Rattle.cf_model.specs.Missing.{Wait}
+use Rattle.cf_model.specs.Trees.{Ends}
 
 -- the rids of a remote begin at 1
 pub nothing : (items : List Stored) (n : ℕ) → CountsFrom n items → (x : Rid) (r : Stored) → x.0 ≡ 0 → stored_at items x ≡ Some r → 1 ≤ n → ⊥
@@ -254,13 +255,13 @@ module _ (s : State) (h : Invariant s) (fair : IsFair s.link) (ready : IsReady s
           low : (n : ℕ) → n ≤ n
           low n = omega arith
 
-pub ready_settled : (s : State) (u : Unit {0}) (t : State) → Invariant s → IsFair s.link → IsListening s → AreWhole s → IsReady s → EndsFairly (push_all s) u t → no_number t ≡ false → IsTold s t ⊎ (is_settled false t ≡ true)
+pub ready_settled : (s : State) (u : Unit {0}) (t : State) → Invariant s → IsFair s.link → IsListening s → AreWhole s → IsReady s → Ends (push_all s) u t → no_number t ≡ false → IsTold s t ⊎ (is_settled false t ≡ true)
 ready_settled s u t h fair listening whole ready ends left = by (pushes_told s u t h fair listening whole ends left) where
   by : IsTold s t ⊎ IsIdle s t → IsTold s t ⊎ (is_settled false t ≡ true)
   by (inl k) = inl k
   by (inr k) = inr (subst (λ (x : State). is_settled false x ≡ true) (sym k.same) (rest_settled s (at_rest s h fair ready t k)))
 
-pub ready_whole : (s : State) (u : Unit {0}) (t : State) → Invariant s → IsFair s.link → IsListening s → AreWhole s → IsReady s → AreAllTargets s → EndsFairly (push_all s) u t → no_number t ≡ false → IsTold s t ⊎ (is_settled true t ≡ true)
+pub ready_whole : (s : State) (u : Unit {0}) (t : State) → Invariant s → IsFair s.link → IsListening s → AreWhole s → IsReady s → AreAllTargets s → Ends (push_all s) u t → no_number t ≡ false → IsTold s t ⊎ (is_settled true t ≡ true)
 ready_whole s u t h fair listening whole ready all ends left = by (pushes_told s u t h fair listening whole ends left) where
   by : IsTold s t ⊎ IsIdle s t → IsTold s t ⊎ (is_settled true t ≡ true)
   by (inl k) = inl k

@@ -14,45 +14,49 @@ use Rattle.cf_model.specs.ConflictNames.{conflict_name}
 use Rattle.cf_model.specs.Feeds.{free_parent, is_under, move_in, name_in_root, stands_in}
 use Rattle.cf_model.specs.Items.{Item, item_of}
 use Rattle.cf_model.specs.Numbers.{root_id}
-use Rattle.cf_model.specs.Skips.{do_change, in_book, is_markable, is_there, number_of_item, left_out, move_off, occupant, try_book, try_change, try_clear_name, try_mark_now, try_seen, why_no_change, why_no_record, tried}
+use Rattle.cf_model.specs.Skips.{do_change, in_book, is_markable, is_there, number_of_item, left_out, move_off, occupant, try_book, try_change, try_clear_name, try_mark_now, try_seen, why_no_change, why_no_record, tried, skip_line}
 use Rattle.cf_model.specs.State.{Filter, State, items_now, with_filter}
-use Rattle.cf_model.specs.Trees.{Keeps, Ret, bind}
+use Rattle.cf_model.specs.Trees.{Keeps, Ret, bind, Ends}
 use Rattle.cf_model.specs.Words.{says}
-use Rattle.cf_model.proofs.TreeLaws.{keeps_bind, keeps_mapped}
-use Rattle.cf_model_convergence.specs.Telling.{EndsFairly, IsListening, IsTold}
-use Rattle.cf_model_convergence.proofs.AddingGuarded.{In, change_adds, itself, line_adds}
-use Rattle.cf_model_convergence.proofs.PushesTold.{kept_ends, told_then}
+use Rattle.cf_model.proofs.TreeLaws.{keeps_bind, keeps_mapped, kept_at_end}
+use Rattle.cf_model_convergence.specs.Telling.{IsListening, IsTold}
+use Rattle.cf_model_convergence.proofs.AddingGuarded.{In, change_adds, line_adds}
+use Rattle.cf_model_convergence.proofs.PushesTold.{told_then}
 use Rattle.cf_model_convergence.proofs.TurnsTold.{ends_bind, leads_ends, try_told_led}
 use Rattle.cf_model_laws.proofs.SkipsGuarded.{Any}
+use Rattle.cf_model_convergence.proofs.SinceGuarded.{Follows, itself_follows}
 
 -- lines only come
+line_follows : (w : State) (b : Bool) (c : Code) (s : State) → Follows w s → Follows w (skip_line b c s)
+line_follows w true c s h = record { adds = line_adds w.filter true c s h.adds; unfair = h.unfair }
+line_follows w false c s h = h
 
 abbrev pub Grows : {A : Type 0} → Arrow State A → Type 0
-Grows f = (w : Filter) → Preserves (λ t. In w t.filter) f
+Grows f = (w : State) → Preserves (Follows w) f
 
 tried_grows : (why : State → Option Code) (f : Arrow State (Unit {0})) → Grows f → Grows (tried why f)
 tried_grows why f g w = record { keeps = λ s h. by s h (why s) } where
-  line : (o : Option Code) (t : State) → In w t.filter → Keeps (λ x. In w x.filter) (left_out o t)
+  line : (o : Option Code) (t : State) → Follows w t → Keeps (Follows w) (left_out o t)
   line None t j = j
-  line (Some c) t j = line_adds w t.running.shows_skips c (record t { running = record t.running { skips = t.running.skips + 1 } }) j
+  line (Some c) t j = line_follows w t.running.shows_skips c (record t { running = record t.running { skips = t.running.skips + 1 } }) (record { adds = j.adds; unfair = j.unfair })
 
-  by : (s : State) → In w s.filter → (o : Option Code) → Keeps (λ x. In w x.filter) (bind (unless_done f o s) left_out)
-  by s h None = keeps_bind (λ x. In w x.filter) (bind (f s) (λ _ t. Ret None t)) left_out (keeps_bind (λ x. In w x.filter) (f s) (λ _ t. Ret None t) ((g w).keeps s h) (λ a t j. j)) (λ o t j. line o t j)
+  by : (s : State) → Follows w s → (o : Option Code) → Keeps (Follows w) (bind (unless_done f o s) left_out)
+  by s h None = keeps_bind (Follows w) (bind (f s) (λ _ t. Ret None t)) left_out (keeps_bind (Follows w) (f s) (λ _ t. Ret None t) ((g w).keeps s h) (λ a t j. j)) (λ o t j. line o t j)
   by s h (Some c) = line (Some c) s h
 
 pub change_grows : (c : Change) → Grows (try_change c)
-change_grows c = tried_grows (why_no_change c) (do_change c) (λ w. record { keeps = λ s h. keeps_mapped (λ x. In w x) (λ t. In w t.filter) (λ x. with_filter x s) (put c s.filter) (λ x j. j) (change_adds w same_book c s.filter h) })
+change_grows c = tried_grows (why_no_change c) (do_change c) (λ w. record { keeps = λ s h. keeps_mapped (In w.filter) (Follows w) (λ x. with_filter x s) (put c s.filter) (λ x j. record { adds = j; unfair = h.unfair }) (change_adds w.filter same_book c s.filter h.adds) })
 
 pub book_grows : (f : Book → Book) → Grows (try_book f)
-book_grows f = tried_grows (why_no_record f) (in_book f) (λ w. record { keeps = λ s h. (h, h) })
+book_grows f = tried_grows (why_no_record f) (in_book f) (λ w. record { keeps = λ s h. (h, record { adds = h.adds; unfair = h.unfair }) })
 
 pub if_grows : (b : Bool) (f : Arrow State Bool) → Grows f → Grows (only_if b f)
 if_grows true f g w = g w
 if_grows false f g w = record { keeps = λ s h. h }
 
 pub then_grows : (f g : Arrow State Bool) → Grows f → Grows g → Grows (and_then f g)
-then_grows f g a b w = record { keeps = λ s h. keeps_bind (λ x. In w x.filter) (f s) (when_ok false g) ((a w).keeps s h) (λ done t j. by done t j) } where
-  by : (done : Bool) (t : State) → In w t.filter → Keeps (λ x. In w x.filter) (when_ok false g done t)
+then_grows f g a b w = record { keeps = λ s h. keeps_bind (Follows w) (f s) (when_ok false g) ((a w).keeps s h) (λ done t j. by done t j) } where
+  by : (done : Bool) (t : State) → Follows w t → Keeps (Follows w) (when_ok false g done t)
   by true t j = (b w).keeps t j
   by false t j = j
 
@@ -85,30 +89,30 @@ move_grows e i p w = record {
 -- what is not reported
 
 abbrev pub Clean : Arrow State Bool → (State → State → Type 0) → Type 0
-Clean f R = (s : State) (done : Bool) (t : State) → IsListening s → EndsFairly (f s) done t → IsTold s t ⊎ ((done ≡ true) × R s t)
+Clean f R = (s : State) (done : Bool) (t : State) → IsListening s → Ends (f s) done t → IsTold s t ⊎ ((done ≡ true) × R s t)
 
 abbrev pub Same : State → State → Type 0
 Same s t = t ≡ s
 
-pub change_told : (c : Change) (s : State) (done : Bool) (t : State) → IsListening s → EndsFairly (try_change c s) done t → IsTold s t
+pub change_told : (c : Change) (s : State) (done : Bool) (t : State) → IsListening s → Ends (try_change c s) done t → IsTold s t
 change_told c s done t listening e = leads_ends Any (λ d x. IsTold s x) (try_change c s) done t (try_told_led c s listening) e
 
 -- what is reported stays so, whatever comes later
-pub told_on : {A : Type 0} (f : Arrow State A) → Grows f → (s m : State) (a : A) (t : State) → IsTold s m → EndsFairly (f m) a t → IsTold s t
-told_on f grows s m a t told e = told_then s m t told (kept_ends (λ x. In m.filter x.filter) (f m) a t ((grows m.filter).keeps m (itself m.filter)) e)
+pub told_on : {A : Type 0} (f : Arrow State A) → Grows f → (s m : State) (a : A) (t : State) → IsTold s m → Ends (f m) a t → IsTold s t
+told_on f grows s m a t told e = told_then s m t told (kept_at_end (Follows m) (f m) a t ((grows m).keeps m (itself_follows m)) e)
 
-pub then_clean : (f g : Arrow State Bool) (R S : State → State → Type 0) → Clean f R → Grows g → ((s m : State) → R s m → IsListening s → (done : Bool) (t : State) → EndsFairly (g m) done t → IsTold s t ⊎ ((done ≡ true) × S s t)) → Clean (and_then f g) S
+pub then_clean : (f g : Arrow State Bool) (R S : State → State → Type 0) → Clean f R → Grows g → ((s m : State) → R s m → IsListening s → (done : Bool) (t : State) → Ends (g m) done t → IsTold s t ⊎ ((done ≡ true) × S s t)) → Clean (and_then f g) S
 then_clean f g R S first grows k s done t listening ends = by x.0 x.1 x.3 (first s x.0 x.1 listening x.2) where
-  x : (a : Bool) × (m : State) × EndsFairly (f s) a m × EndsFairly (when_ok false g a m) done t
+  x : (a : Bool) × (m : State) × Ends (f s) a m × Ends (when_ok false g a m) done t
   x = ends_bind (f s) (when_ok false g) done t ends
 
-  told : (a : Bool) (m : State) → EndsFairly (when_ok false g a m) done t → IsTold s m → IsTold s t
+  told : (a : Bool) (m : State) → Ends (when_ok false g a m) done t → IsTold s m → IsTold s t
   told true m e z = told_on g grows s m done t z e
   told false m e z = subst (IsTold s) (sym e.1) z
 
-  by : (a : Bool) (m : State) → EndsFairly (when_ok false g a m) done t → IsTold s m ⊎ ((a ≡ true) × R s m) → IsTold s t ⊎ ((done ≡ true) × S s t)
+  by : (a : Bool) (m : State) → Ends (when_ok false g a m) done t → IsTold s m ⊎ ((a ≡ true) × R s m) → IsTold s t ⊎ ((done ≡ true) × S s t)
   by a m e (inl z) = inl (told a m e z)
-  by a m e (inr z) = k s m z.1 listening done t (subst (λ (b : Bool). EndsFairly (when_ok false g b m) done t) z.0 e)
+  by a m e (inr z) = k s m z.1 listening done t (subst (λ (b : Bool). Ends (when_ok false g b m) done t) z.0 e)
 
 pub if_same : (b : Bool) (c : Change) → Clean (only_if b (try_change c)) (λ s t. (t ≡ s) × (b ≡ false))
 if_same true c s done t listening e = inl (change_told c s done t listening e)
@@ -116,12 +120,12 @@ if_same false c s done t listening e = inr (e.0, (e.1, refl))
 
 pub names_same : (parent : ItemId) (name : List _) (but : ItemId) → Clean (try_clear_name parent name but) Same
 names_same parent name but s done t listening e = by (occupant parent name but s) e where
-  by : (o : Option Item) → EndsFairly (move_off o s) done t → IsTold s t ⊎ ((done ≡ true) × Same s t)
+  by : (o : Option Item) → Ends (move_off o s) done t → IsTold s t ⊎ ((done ≡ true) × Same s t)
   by None z = inr z
   by (Some i) z = inl (change_told (change.Move i.id i.parent (conflict_name (items_now s) i.parent i.name)) s done t listening z)
 
 pub mark_same : (item : ItemId) → Clean (try_mark_now item) Same
 mark_same item s done t listening e = by (is_markable item (number_of_item item s) s) e where
-  by : (b : Bool) → EndsFairly (only_if b (try_change (change.Mark item (number_of_item item s))) s) done t → IsTold s t ⊎ ((done ≡ true) × Same s t)
+  by : (b : Bool) → Ends (only_if b (try_change (change.Mark item (number_of_item item s))) s) done t → IsTold s t ⊎ ((done ≡ true) × Same s t)
   by true z = inl (change_told (change.Mark item (number_of_item item s)) s done t listening z)
   by false z = inr z

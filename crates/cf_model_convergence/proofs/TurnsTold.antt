@@ -22,8 +22,9 @@ use Rattle.cf_model.specs.Pushes.{bury_unless, has_entry, hydrate_if, is_left_ou
 use Rattle.cf_model.specs.Skips.{do_change, left_out, may_mark, mark_if, try_change, why_no_change}
 use Rattle.cf_model.specs.Soundness.{Each}
 use Rattle.cf_model.specs.State.{State, book_now, items_now, with_filter}
-use Rattle.cf_model.specs.Trees.{AsItKeeps, Asked, Faults, Fork, Ret, Step, Tree, bind}
+use Rattle.cf_model.specs.Trees.{AsItKeeps, Asked, Faults, Fork, Ret, Step, Tree, bind, Ends}
 use Rattle.cf_model.specs.Words.{part, says}
+use Rattle.cf_model.proofs.TreeLaws.{kept_at_end}
 use Rattle.cf_model_laws.specs.Fitting.{Fits, NoEntry}
 use Rattle.cf_model_laws.specs.Invariant.{HasNone, Invariant, IsRight, SameBase}
 use Rattle.cf_model_laws.specs.Premises.{IsFair}
@@ -37,35 +38,33 @@ use Rattle.cf_model_laws.proofs.RightItems.{both_none, no_way, no_way_back}
 use Rattle.cf_model_laws.proofs.SkipsGuarded.{Any, Led, Whichever, guarded_skipping, try_change_at, try_led}
 use Rattle.cf_model_laws.proofs.SoundFilters.{change_leads}
 use Rattle.cf_model_laws.proofs.SoundSettles.{each_found, same_item}
-use Rattle.cf_model_convergence.specs.Telling.{EndsFairly, IsListening, IsSpared, IsToUpload, IsTold, IsTurned, IsAside}
-use Rattle.cf_model_convergence.proofs.AddingGuarded.{In, entering_adds, guarded_adds, itself}
+use Rattle.cf_model_convergence.specs.Telling.{IsListening, IsSpared, IsToUpload, IsTold, IsTurned, IsAside}
 use Rattle.cf_model_convergence.proofs.ItemsPushed.{item_told, removal_told}
-use Rattle.cf_model_convergence.proofs.PushesTold.{kept_ends, skip_told, told_then}
+use Rattle.cf_model_convergence.proofs.PushesTold.{skip_told, told_then}
+use Rattle.cf_model_convergence.proofs.SinceGuarded.{Since, since_entering, since_follows, since_guarded, since_start}
 
 -- ends
 
-pub leads_ends : {S A : Type 0} (I : S → Type 0) (Q : A → S → Type 0) (p : Tree S A) (a : A) (t : S) → Leads I Q p → EndsFairly p a t → Q a t
+pub leads_ends : {S A : Type 0} (I : S → Type 0) (Q : A → S → Type 0) (p : Tree S A) (a : A) (t : S) → Leads I Q p → Ends p a t → Q a t
 leads_ends I Q (Ret b s) a t h e = subst (λ (x : _). Q a x) (sym e.1) (subst (λ (x : _). Q x s) (sym e.0) h)
 leads_ends I Q (Step s p) a t h e = leads_ends I Q p a t h.1 e
 leads_ends I Q (Fork p q) a t h (inl e) = leads_ends I Q p a t h.0 e
 leads_ends I Q (Fork p q) a t h (inr e) = leads_ends I Q q a t h.1 e
-leads_ends I Q (Asked k) a t h (inl e) = leads_ends I Q (k AsItKeeps) a t (h AsItKeeps) e
-leads_ends I Q (Asked k) a t h (inr e) = leads_ends I Q (k Faults) a t (h Faults) e
+leads_ends I Q (Asked k) a t h e = leads_ends I Q (k e.0) a t (h e.0) e.1
 
-pub ends_bind : {S A B : Type 0} (p : Tree S A) (g : A → S → Tree S B) (b : B) (t : S) → EndsFairly (bind p g) b t → (a : A) × (m : S) × EndsFairly p a m × EndsFairly (g a m) b t
+pub ends_bind : {S A B : Type 0} (p : Tree S A) (g : A → S → Tree S B) (b : B) (t : S) → Ends (bind p g) b t → (a : A) × (m : S) × Ends p a m × Ends (g a m) b t
 ends_bind (Ret a s) g b t e = (a, s, (refl, refl), e)
 ends_bind (Step s p) g b t e = ends_bind p g b t e
 ends_bind (Fork p q) g b t (inl e) = let k = ends_bind p g b t e in (k.0, k.1, inl k.2, k.3)
 ends_bind (Fork p q) g b t (inr e) = let k = ends_bind q g b t e in (k.0, k.1, inr k.2, k.3)
-ends_bind (Asked k) g b t (inl e) = let j = ends_bind (k AsItKeeps) g b t e in (j.0, j.1, inl j.2, j.3)
-ends_bind (Asked k) g b t (inr e) = let j = ends_bind (k Faults) g b t e in (j.0, j.1, inr j.2, j.3)
+ends_bind (Asked k) g b t e = let j = ends_bind (k e.0) g b t e.1 in (j.0, j.1, (e.0, j.2), j.3)
 
 -- a change is reported, or that it is left out
 
 change_led : (c : Change) (s : State) → Leads Any (λ u t. IsTold s t) (do_change c s)
 change_led c s =
     leads_mapped Any (λ u x. IsTold s (with_filter x s)) Any (λ u t. IsTold s t) (λ x. with_filter x s) (put c s.filter) (λ x k. tt) (λ u x k. k)
-    (change_leads Any (λ x. IsTold s (with_filter x s)) same_book c s.filter tt tt tt (λ v is. record { lines = notice.Change (next_number v) c ∷ []; noted = refl; loud = refl }))
+    (change_leads Any (λ x. IsTold s (with_filter x s)) same_book c s.filter tt tt tt (λ v is. record { lines = notice.Change (next_number v) c ∷ []; noted = refl; loud = inl refl }))
 
 pub try_told_led : (c : Change) (s : State) → IsListening s → Leads Any (λ done t. IsTold s t) (try_change c s)
 try_told_led c s listening = by (why_no_change c s) where
@@ -78,7 +77,7 @@ try_told_led c s listening = by (why_no_change c s) where
 -- one item
 
 module _ (s : State) (h : Invariant s) (fair : IsFair s.link) (listening : IsListening s) (i : Item) (there : item_of (items_now s) i.id ≡ Some i) (free : has_entry s i.id ≡ false) (u : Unit {0}) (t : State) (left : no_number t ≡ false)
-    (R : Type 0) (lack : (i.directory ≡ false → i.placeholder ≡ true) → i.directory ≡ false → is_all_here i ≡ false → IsToUpload i → is_hydrating i.id s ≡ false → EndsFairly (bind (hydrate_unless i.id false s) (λ _ x. put_whole (item_of (items_now x) i.id) x)) u t → R) where
+    (R : Type 0) (lack : (i.directory ≡ false → i.placeholder ≡ true) → i.directory ≡ false → is_all_here i ≡ false → IsToUpload i → is_hydrating i.id s ≡ false → Ends (bind (hydrate_unless i.id false s) (λ _ x. put_whole (item_of (items_now x) i.id) x)) u t → R) where
   -- what is said where bytes lack, or the state stays
   abbrev Spared : Type 0
   Spared = R ⊎ ((t ≡ s) × IsAside s i)
@@ -90,29 +89,29 @@ module _ (s : State) (h : Invariant s) (fair : IsFair s.link) (listening : IsLis
   same_found : (o : Option Item) → item_of (items_now s) i.id ≡ o → o ≡ Some i
   same_found o e = sym e ∙ there
 
-  whole_told : (o : Option Item) → o ≡ Some i → i.directory ≡ false → i.placeholder ≡ true → is_all_here i ≡ true → EndsFairly (put_whole o s) u t → IsTold s t
+  whole_told : (o : Option Item) → o ≡ Some i → i.directory ≡ false → i.placeholder ≡ true → is_all_here i ≡ true → Ends (put_whole o s) u t → IsTold s t
   whole_told None e file placed here ends = let z : ◌≡◌ {A = Option Item} None (Some i) = e in absurd (none i z) where
     none : (j : Item) → ◌≡◌ {A = Option Item} None (Some j) → ⊥
     none j z = cc
   whole_told (Some j) e file placed here ends =
       let same : j ≡ i = some j i e in
       item_told PutFile i s u t h fair listening (there, free, file, placed, here)
-      (subst (λ (b : Bool). EndsFairly (put_if i b s) u t) here (subst (λ (k : Item). EndsFairly (put_if k (is_all_here k) s) u t) same ends)) left where
+      (subst (λ (b : Bool). Ends (put_if i b s) u t) here (subst (λ (k : Item). Ends (put_if k (is_all_here k) s) u t) same ends)) left where
         some : (a b : Item) → ◌≡◌ {A = Option Item} (Some a) (Some b) → a ≡ b
         some a b z = cc
 
-  upload_told : (i.directory ≡ false → i.placeholder ≡ true) → IsToUpload i → EndsFairly (upload i s) u t → IsTold s t ⊎ Spared
+  upload_told : (i.directory ≡ false → i.placeholder ≡ true) → IsToUpload i → Ends (upload i s) u t → IsTold s t ⊎ Spared
   upload_told placed needed ends = by i.directory refl ends where
-    waited : (c : Bool) → is_hydrating i.id s ≡ c → is_all_here i ≡ false → i.directory ≡ false → EndsFairly (bind (hydrate_unless i.id c s) (λ _ x. put_whole (item_of (items_now x) i.id) x)) u t → IsTold s t ⊎ Spared
+    waited : (c : Bool) → is_hydrating i.id s ≡ c → is_all_here i ≡ false → i.directory ≡ false → Ends (bind (hydrate_unless i.id c s) (λ _ x. put_whole (item_of (items_now x) i.id) x)) u t → IsTold s t ⊎ Spared
     waited true w here file e =
-        inr (inr ((subst (λ (b : Bool). EndsFairly (put_if i b s) u t) here (subst (λ (o : Option Item). EndsFairly (put_whole o s) u t) there e)).1, inr (inr w)))
+        inr (inr ((subst (λ (b : Bool). Ends (put_if i b s) u t) here (subst (λ (o : Option Item). Ends (put_whole o s) u t) there e)).1, inr (inr w)))
     waited false w here file e = inr (inl (lack placed file here needed w e))
 
-    hydrated : (b : Bool) → is_all_here i ≡ b → i.directory ≡ false → EndsFairly (bind (hydrate_if i.id b s) (λ _ x. put_whole (item_of (items_now x) i.id) x)) u t → IsTold s t ⊎ Spared
+    hydrated : (b : Bool) → is_all_here i ≡ b → i.directory ≡ false → Ends (bind (hydrate_if i.id b s) (λ _ x. put_whole (item_of (items_now x) i.id) x)) u t → IsTold s t ⊎ Spared
     hydrated true here file e = inl (whole_told (item_of (items_now s) i.id) there file (placed file) here e)
     hydrated false here file e = waited (is_hydrating i.id s) refl here file e
 
-    by : (b : Bool) → i.directory ≡ b → EndsFairly (choose b (push_item MakeDir i) (put_file i) s) u t → IsTold s t ⊎ Spared
+    by : (b : Bool) → i.directory ≡ b → Ends (choose b (push_item MakeDir i) (put_file i) s) u t → IsTold s t ⊎ Spared
     by true dir e = inl (item_told MakeDir i s u t h fair listening (there, free, dir) e left)
     by false file e = hydrated (is_all_here i) refl file e
 
@@ -129,15 +128,15 @@ module _ (s : State) (h : Invariant s) (fair : IsFair s.link) (listening : IsLis
     two true e = right.bare e
     two false e = (right.plain e bare).0
 
-  after_told : i.placeholder ≡ false → (target_of i).0 ≡ 0 → (a : Bool) (m : State) → EndsFairly (try_change convert s) a m → EndsFairly (upload_if i.id a m) u t → IsTold s t
+  after_told : i.placeholder ≡ false → (target_of i).0 ≡ 0 → (a : Bool) (m : State) → Ends (try_change convert s) a m → Ends (upload_if i.id a m) u t → IsTold s t
   after_told bare none false m first ends = subst (IsTold s) (sym ends.1) (leads_ends Any (λ done x. IsTold s x) (try_change convert s) false m (try_told_led convert s listening) first)
   after_told bare none true m first ends =
       told_then s m t (leads_ends Any (λ done x. IsTold s x) (try_change convert s) true m (try_told_led convert s listening) first)
-      (kept_ends (λ x. Invariant x × In m.filter x.filter) (upload_if i.id true m) u t
-      (upload_now_at (λ x. Invariant x × In m.filter x.filter) (guarded_adds m.filter Invariant sound_whole.closed) (entering_adds m.filter Invariant sound_whole.entering) i.id (item_of (items_now m) i.id) m refl
+      (since_follows m t (kept_at_end (Since m) (upload_if i.id true m) u t
+      (upload_now_at (Since m) (since_guarded m) (since_entering m) i.id (item_of (items_now m) i.id) m refl
       (λ f. subst (λ (es : List QueueEntry). NoEntry es i.id) (sym (led.after.entries (λ b. refl))) (lone (book_now s).entries i.id free))
       (λ k e. each_at i.id (λ x. x.placeholder ≡ true) (items_now m) k e (subst (Each i.id (λ x. x.placeholder ≡ true)) (sym led.after.items) (made (items_now s))))
-      (kept_ends Invariant (try_change convert s) true m (try_change_at Whichever Invariant (guarded_skipping Invariant sound_whole.closed) convert s tt (λ id k. k) (convert_fits bare none) h) first, itself m.filter)) ends).1 where
+      (since_start m (kept_at_end Invariant (try_change convert s) true m (try_change_at Whichever Invariant (guarded_skipping Invariant sound_whole.closed) convert s tt (λ id k. k) (convert_fits bare none) h) first))) ends)) where
         led : Led convert s m
         led = leads_ends Any (λ done x. done ≡ true → Led convert s x) (try_change convert s) true m (try_led convert s) first refl
 
@@ -148,22 +147,22 @@ module _ (s : State) (h : Invariant s) (fair : IsFair s.link) (listening : IsLis
           turned true q z = refl
           turned false q z = no_way (sym q ∙ z)
 
-  new_told : (target_of i).0 ≡ 0 → is_untargeted i ≡ true → EndsFairly (upload_new i s) u t → IsTold s t ⊎ Spared
+  new_told : (target_of i).0 ≡ 0 → is_untargeted i ≡ true → Ends (upload_new i s) u t → IsTold s t ⊎ Spared
   new_told none new ends = by i.placeholder refl ends where
-    found : (o : Option Item) → o ≡ Some i → i.placeholder ≡ true → EndsFairly (upload_now o s) u t → IsTold s t ⊎ Spared
+    found : (o : Option Item) → o ≡ Some i → i.placeholder ≡ true → Ends (upload_now o s) u t → IsTold s t ⊎ Spared
     found None e placed z = let y : ◌≡◌ {A = Option Item} None (Some i) = e in absurd (never i y) where
       never : (j : Item) → ◌≡◌ {A = Option Item} None (Some j) → ⊥
       never j z = cc
-    found (Some j) e placed z = upload_told (λ _. placed) (inl new) (subst (λ (k : Item). EndsFairly (upload k s) u t) (some j i e) z) where
+    found (Some j) e placed z = upload_told (λ _. placed) (inl new) (subst (λ (k : Item). Ends (upload k s) u t) (some j i e) z) where
       some : (a b : Item) → ◌≡◌ {A = Option Item} (Some a) (Some b) → a ≡ b
       some a b z = cc
 
-    by : (b : Bool) → i.placeholder ≡ b → EndsFairly (bind (only_if (not b) (try_change convert) s) (upload_if i.id)) u t → IsTold s t ⊎ Spared
+    by : (b : Bool) → i.placeholder ≡ b → Ends (bind (only_if (not b) (try_change convert) s) (upload_if i.id)) u t → IsTold s t ⊎ Spared
     by true placed e = found (item_of (items_now s) i.id) there placed e
     by false bare e = let k = ends_bind (try_change convert s) (upload_if i.id) u t e in inl (after_told bare none k.0 k.1 k.2 k.3)
 
   -- nothing but a mark is left to do
-  mark_told : is_untargeted i ≡ false → stands_at_seen (items_now s) (book_now s) i ≡ true → is_dirty i ≡ false → EndsFairly (mark_item i.id s) u t → IsTold s t ⊎ Spared
+  mark_told : is_untargeted i ≡ false → stands_at_seen (items_now s) (book_now s) i ≡ true → is_dirty i ≡ false → Ends (mark_item i.id s) u t → IsTold s t ⊎ Spared
   mark_told aimed stands clean ends = by (says (may_mark (items_now s) (book_now s) number) (item_of (items_now s) i.id)) refl ends where
     number : Usn
     number = part (λ j. j.number) no_usn (item_of (items_now s) i.id)
@@ -190,23 +189,23 @@ module _ (s : State) (h : Invariant s) (fair : IsFair s.link) (listening : IsLis
         last (same_usn i.number number) i.in_sync (is_dirty i) (is_untargeted i) (stands_at_seen (items_now s) (book_now s) i) (subst (λ (n : Usn). same_usn i.number n ≡ true) (sym own) (same i.number)) clean aimed stands
         (sym (ap (λ (o : Option Item). says (may_mark (items_now s) (book_now s) number) o) there) ∙ e)
 
-    by : (b : Bool) → says (may_mark (items_now s) (book_now s) number) (item_of (items_now s) i.id) ≡ b → EndsFairly (bind (mark_if i.id number b s) whatever) u t → IsTold s t ⊎ Spared
+    by : (b : Bool) → says (may_mark (items_now s) (book_now s) number) (item_of (items_now s) i.id) ≡ b → Ends (bind (mark_if i.id number b s) whatever) u t → IsTold s t ⊎ Spared
     by true may e =
         let k = ends_bind (try_change (change.Mark i.id number) s) whatever u t e in
         inl (subst (IsTold s) (sym k.3.1) (leads_ends Any (λ done x. IsTold s x) (try_change (change.Mark i.id number) s) k.0 k.1 (try_told_led (change.Mark i.id number) s listening) k.2))
     by false may e = inr (inr (e.1, inr (inl (record { target = aimed; stands = stands; clean = clean; in_sync = rested may }))))
 
-  pub case_told : EndsFairly (push_by_case i s) u t → IsTold s t ⊎ Spared
+  pub case_told : Ends (push_by_case i s) u t → IsTold s t ⊎ Spared
   case_told ends = by (is_untargeted i) refl ends where
-    three : (b : Bool) → is_dirty i ≡ b → is_untargeted i ≡ false → stands_at_seen (items_now s) (book_now s) i ≡ true → EndsFairly (choose b (upload i) (mark_item i.id) s) u t → IsTold s t ⊎ Spared
+    three : (b : Bool) → is_dirty i ≡ b → is_untargeted i ≡ false → stands_at_seen (items_now s) (book_now s) i ≡ true → Ends (choose b (upload i) (mark_item i.id) s) u t → IsTold s t ⊎ Spared
     three true dirty aimed stands e = upload_told (λ file. targeted s.link.remote (next_number s.filter.volume) i right aimed file) (inr dirty) e
     three false clean aimed stands e = mark_told aimed stands clean e
 
-    two : (b : Bool) → stands_at_seen (items_now s) (book_now s) i ≡ b → is_untargeted i ≡ false → EndsFairly (choose (not b) (push_item MoveItem i) (choose (is_dirty i) (upload i) (mark_item i.id)) s) u t → IsTold s t ⊎ Spared
+    two : (b : Bool) → stands_at_seen (items_now s) (book_now s) i ≡ b → is_untargeted i ≡ false → Ends (choose (not b) (push_item MoveItem i) (choose (is_dirty i) (upload i) (mark_item i.id)) s) u t → IsTold s t ⊎ Spared
     two false away aimed e = inl (item_told MoveItem i s u t h fair listening (there, free, away) e left)
     two true stands aimed e = three (is_dirty i) refl aimed stands e
 
-    by : (b : Bool) → is_untargeted i ≡ b → EndsFairly (choose b (upload_new i) (choose (not (stands_at_seen (items_now s) (book_now s) i)) (push_item MoveItem i) (choose (is_dirty i) (upload i) (mark_item i.id))) s) u t → IsTold s t ⊎ Spared
+    by : (b : Bool) → is_untargeted i ≡ b → Ends (choose b (upload_new i) (choose (not (stands_at_seen (items_now s) (book_now s) i)) (push_item MoveItem i) (choose (is_dirty i) (upload i) (mark_item i.id))) s) u t → IsTold s t ⊎ Spared
     by true bare e = new_told (eqb-true (target_of i).0 0 bare) bare e
     by false aimed e = two (stands_at_seen (items_now s) (book_now s) i) refl aimed e
 
@@ -222,7 +221,7 @@ no_entry s i e = second (i.id.0 == 1) (has_entry s i.id) (first ((i.id.0 == 1) |
       second true b z = no_way_back z
       second false b z = z
 
-pub turn_told : (item : ItemId) (s : State) (u : Unit {0}) (t : State) → Invariant s → IsFair s.link → IsListening s → EndsFairly (push_turn item s) u t → no_number t ≡ false → IsTold s t ⊎ IsTurned s item t
+pub turn_told : (item : ItemId) (s : State) (u : Unit {0}) (t : State) → Invariant s → IsFair s.link → IsListening s → Ends (push_turn item s) u t → no_number t ≡ false → IsTold s t ⊎ IsTurned s item t
 turn_told item s u t h fair listening ends left = by (item_of (items_now s) item) refl ends where
   some : (a b : Item) → ◌≡◌ {A = Option Item} (Some a) (Some b) → a ≡ b
   some a b z = cc
@@ -234,17 +233,17 @@ turn_told item s u t h fair listening ends left = by (item_of (items_now s) item
   spared i e (inl k) = inl k
   spared i e (inr k) = inr (inr (i, e, k))
 
-  two : (i : Item) → item_of (items_now s) item ≡ Some i → (b : Bool) → is_left_out s i ≡ b → EndsFairly (push_unless i b s) u t → IsTold s t ⊎ IsSpared s i t
+  two : (i : Item) → item_of (items_now s) item ≡ Some i → (b : Bool) → is_left_out s i ≡ b → Ends (push_unless i b s) u t → IsTold s t ⊎ IsSpared s i t
   two i e true q z = inr (inr (z.1, inl q))
   two i e false q z = case_told s h fair listening i (subst (λ (x : ItemId). item_of (items_now s) x ≡ Some i) (sym (same_item i.id item (found_id item (items_now s) i e))) e) (no_entry s i q) u t left ((i.directory ≡ false) × (is_all_here i ≡ false) × IsToUpload i × (is_hydrating i.id s ≡ false)) (λ placed file here needed idle e. (file, here, needed, idle)) z
 
-  by : (o : Option Item) → item_of (items_now s) item ≡ o → EndsFairly (push_here o s) u t → IsTold s t ⊎ IsTurned s item t
+  by : (o : Option Item) → item_of (items_now s) item ≡ o → Ends (push_here o s) u t → IsTold s t ⊎ IsTurned s item t
   by None e z = inr (inl (e, z.1))
   by (Some i) e z = spared i e (two i e (is_left_out s i) refl z)
 
 -- a tombstone at its turn
-pub tombstone_told : (x : Tombstone) (s : State) (u : Unit {0}) (t : State) → Invariant s → IsFair s.link → IsListening s → EndsFairly (push_tombstone x s) u t → no_number t ≡ false → IsTold s t ⊎ ((t ≡ s) × (is_tombstone_left_out s x ≡ true))
+pub tombstone_told : (x : Tombstone) (s : State) (u : Unit {0}) (t : State) → Invariant s → IsFair s.link → IsListening s → Ends (push_tombstone x s) u t → no_number t ≡ false → IsTold s t ⊎ ((t ≡ s) × (is_tombstone_left_out s x ≡ true))
 tombstone_told x s u t h fair listening ends left = by (is_tombstone_left_out s x) refl ends where
-  by : (b : Bool) → is_tombstone_left_out s x ≡ b → EndsFairly (bury_unless x b s) u t → IsTold s t ⊎ ((t ≡ s) × (is_tombstone_left_out s x ≡ true))
+  by : (b : Bool) → is_tombstone_left_out s x ≡ b → Ends (bury_unless x b s) u t → IsTold s t ⊎ ((t ≡ s) × (is_tombstone_left_out s x ≡ true))
   by true q e = inr (e.1, q)
   by false q e = inl (removal_told x s u t h fair listening e left)

@@ -15,12 +15,12 @@ use Rattle.cf_model.specs.Requests.{Live, is_dehydrate, is_dehydrate_wait, is_li
 use Rattle.cf_model.specs.Settling.{accessed, end_of, end_wait, is_access, is_own, tell_end, with_ended}
 use Rattle.cf_model.specs.State.{Filter}
 use Rattle.cf_model.specs.Words.{when}
+use Rattle.cf_model.specs.Trees.{Ends}
 use Rattle.cf_model_laws.specs.Invariant.{All}
 use Rattle.cf_model_laws.proofs.Gathered.{all_any, all_append, all_map, all_passed}
 use Rattle.cf_model_laws.proofs.RightItems.{no_way}
 use Rattle.cf_model_laws.proofs.SoundSettles.{or_right}
 use Rattle.cf_model_convergence.specs.Hearing.{IsPlainAsk}
-use Rattle.cf_model_convergence.specs.Telling.{EndsFairly}
 use Rattle.cf_model_convergence.specs.Trees.{is_listing_on}
 
 -- what a wait finds missing
@@ -143,6 +143,6 @@ ended_same e w x h = accesses (is_access e.0.kind e.1) (tell_end e.0.id (end_of 
   accesses true y k = record { items = k.items; cursor = k.cursor; entries = k.entries; seen = k.seen; tombstones = k.tombstones; handles = k.handles; connected = k.connected; waiting = k.waiting; outbox = k.outbox }
   accesses false y k = k
 
-pub ends_same : (es : List (Wait × Cause)) (w x : Filter) (u : Unit {0}) (y : Filter) → IsSameBut w x → EndsFairly (each end_wait es x) u y → IsSameBut w y
+pub ends_same : (es : List (Wait × Cause)) (w x : Filter) (u : Unit {0}) (y : Filter) → IsSameBut w x → Ends (each end_wait es x) u y → IsSameBut w y
 ends_same [] w x u y h e = subst (IsSameBut w) (sym e.1) h
 ends_same (d ∷ es) w x u y h e = ends_same es w (with_ended d x) u y (ended_same d w x h) e

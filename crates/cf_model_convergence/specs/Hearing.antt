@@ -13,10 +13,9 @@ use Rattle.cf_model.specs.Pushes.{is_hydrating}
 use Rattle.cf_model.specs.Requests.{is_dehydrate, is_dehydrate_wait, is_list, is_list_wait}
 use Rattle.cf_model.specs.Skips.{in_use}
 use Rattle.cf_model.specs.State.{State, book_now, items_now}
-use Rattle.cf_model.specs.Trees.{AsItKeeps, Faults, Telling, Tells}
 use Rattle.cf_model_laws.specs.Invariant.{All}
 use Rattle.cf_model_convergence.specs.Matching.{IsBelow}
-use Rattle.cf_model_convergence.specs.Telling.{is_loud}
+use Rattle.cf_model_convergence.specs.Telling.{IsUnfair, is_loud}
 
 abbrev pub is_missing : Frame → Bool
 is_missing (frame.Reply answers (reply.Missing key)) = true
@@ -27,11 +26,11 @@ abbrev pub is_heard : Notice → Bool
 is_heard (notice.Message m) = is_loud (notice.Message m) || is_missing m.frame
 is_heard n = is_loud n
 
--- such a line came
+-- such a line came, or the remote did not keep its rules
 pub record IsHeard (s t : State) : Type 0 where
   pub lines : List Notice
   pub noted : t.filter.notes ≡ s.filter.notes ++ lines
-  pub heard : list_any is_heard lines ≡ true
+  pub heard : (list_any is_heard lines ≡ true) ⊎ IsUnfair t
 
 -- An ask for bytes, and a call that waits for bytes.
 abbrev pub IsPlainAsk : Ask → Type 0
@@ -46,10 +45,6 @@ pub record IsOpenTo (s : State) : Type 0 where
   pub connected : s.filter.connected ≡ true
   pub waits : ArePlainWaits s
   pub boxed : All IsPlainAsk s.filter.outbox
-
--- at each ask the remote keeps its rules or fails
-abbrev pub AreHonest : List Telling → Type 0
-AreHonest ts = All (λ t. elim t as (λ _. Type 0) [ AsItKeeps ↦ Unit {0} | Faults ↦ Unit {0} | Tells r ↦ ⊥ ]) ts
 
 -- whatever stands in an item stands in a directory
 abbrev pub AreDirs : State → Type 0

@@ -8,27 +8,23 @@ use Rattle.cf_model.specs.Identities.{is_untargeted, stands_at_seen}
 use Rattle.cf_model.specs.Items.{Item, is_all_here, is_dirty, item_of}
 use Rattle.cf_model.specs.Pushes.{has_entry, is_hydrating, is_left_out, is_tombstone_left_out}
 use Rattle.cf_model.specs.State.{State, book_now, items_now}
-use Rattle.cf_model.specs.Trees.{AsItKeeps, Asked, Faults, Fork, Ret, Step, Tree}
 use Rattle.cf_model_laws.specs.Invariant.{All}
 use Rattle.cf_model_convergence.specs.Quiet.{is_act, is_trouble}
 use Rattle.cf_model_convergence.specs.Resting.{IsRested}
 
--- It may end with this result and this state, where the remote keeps its rules or fails.
-abbrev pub EndsFairly : {S A : Type 0} → Tree S A → A → S → Type 0
-EndsFairly (Ret a s) b t = (b ≡ a) × (t ≡ s)
-EndsFairly (Step s p) b t = EndsFairly p b t
-EndsFairly (Fork p q) b t = EndsFairly p b t ⊎ EndsFairly q b t
-EndsFairly (Asked k) b t = EndsFairly (k AsItKeeps) b t ⊎ EndsFairly (k Faults) b t
+-- the remote did not keep its rules
+abbrev pub IsUnfair : State → Type 0
+IsUnfair t = t.link.honest ≡ false
 
 -- a line that no quiet part has: of trouble, a change, an upload that was done, or one that was refused
 abbrev pub is_loud : Notice → Bool
 is_loud n = is_trouble n || is_act n
 
--- such a line came
+-- such a line came, or the remote did not keep its rules
 pub record IsTold (s t : State) : Type 0 where
   pub lines : List Notice
   pub noted : t.filter.notes ≡ s.filter.notes ++ lines
-  pub loud : list_any is_loud lines ≡ true
+  pub loud : (list_any is_loud lines ≡ true) ⊎ IsUnfair t
 
 -- requests come to the remote at once, and steps that are left out have their lines
 pub record IsListening (s : State) : Type 0 where

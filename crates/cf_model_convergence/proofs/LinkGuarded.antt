@@ -1,8 +1,11 @@
--- Messages never become fewer.
+-- What is kept of the link while the machine goes on in `replay`: messages never become fewer, and a remote that did not keep its rules
+-- stays one.
 use Rattle.std.proofs.Common.{◌≡◌, ◌≤◌, ◌+◌, ℕ, Bool, true, false, [], ◌∷◌, ◌++◌, arith, length}
 use Rattle.std.specs.Prelude.{Option, Some, None}
 use Rattle.std.proofs.lemmas.List.{length-append}
+use Rattle.cf_base.specs.declared.changes.Change.TheVariants as change
 use Rattle.cf_base.specs.declared.codes.Code.{Code}
+use Rattle.cf_base.specs.declared.messages.Request.{Request}
 use Rattle.cf_base.specs.declared.notices.Frame.{Frame}
 use Rattle.cf_model.specs.Arrows.{reading, then_do}
 use Rattle.cf_model.specs.Changes.{change_with}
@@ -11,8 +14,10 @@ use Rattle.cf_model.specs.Points.{commit}
 use Rattle.cf_model.specs.Settling.{settle, tell}
 use Rattle.cf_model.specs.Skips.{skip_line}
 use Rattle.cf_model.specs.State.{Filter, Link, State, in_volume, with_filter}
+use Rattle.cf_model.specs.Store.{Held, remote_step}
 use Rattle.cf_model.specs.Trees.{Asked, Fork, Keeps, Ret, Step, Tree}
 use Rattle.cf_model.specs.Waits.{all_down, begin_now, begun}
+use Rattle.cf_model_laws.proofs.EventsGuarded.{Whole}
 use Rattle.cf_model_laws.proofs.Guarded.{Entering, Guarded, GuardedFilter}
 use Rattle.cf_model_laws.proofs.SkipsGuarded.{keeps_both}
 
@@ -44,34 +49,37 @@ filter_beside l tokens C P c closed = record {
   keeps_without_handle = λ handle x h. (closed.keeps_without_handle handle x h.0, c);
 }
 
-module _ (n : ℕ) where
-  abbrev pub Many : State → Type 0
-  Many s = n ≤ length s.link.messages
+-- what keeps it, of the link
+pub record OfLink (C : Link → Type 0) : Type 0 where
+  pub counts : (l : Link) → C l → C (record l { remote_asks = l.remote_asks + 1 })
+  pub asks : (l : Link) (q : Request) → C l → C (record l { remote_asks = l.remote_asks + 1; remote = (remote_step l.remote q).1 })
+  pub distrusts : (l : Link) (r : Held) → C l → C (record l { remote_asks = l.remote_asks + 1; remote = r; honest = false })
+  pub posts : (l : Link) (f : Option Frame) (n : ℕ) → C l → C (record l { messages = l.messages ++ f ∷ []; kept_bytes = n })
+  pub inlines : (l : Link) (b : Bool) → C l → C (record l { inline = b })
 
-  longer : (s : State) (f : Option Frame) → Many s → n ≤ length (s.link.messages ++ f ∷ [])
-  longer s f h = more n (length s.link.messages) (length (s.link.messages ++ f ∷ [])) h (length-append s.link.messages (f ∷ [])) where
-    more : (a b c : ℕ) → a ≤ b → c ≡ b + 1 → a ≤ c
-    more a b c h e = omega (arith, h, e)
+module _ (C : Link → Type 0) (of : OfLink C) where
+  abbrev Kept : State → Type 0
+  Kept s = C s.link
 
-  line_counts : (b : Bool) (c : Code) (s : State) → Many s → Many (skip_line b c s)
-  line_counts true c s h = h
-  line_counts false c s h = h
+  line_linked : (b : Bool) (c : Code) (s : State) → Kept s → Kept (skip_line b c s)
+  line_linked true c s h = h
+  line_linked false c s h = h
 
-  pub guarded_counts : (P : State → Type 0) → Guarded P → Guarded (λ s. P s × Many s)
-  guarded_counts P closed = record {
+  pub guarded_link : (P : State → Type 0) → Guarded P → Guarded (λ s. P s × C s.link)
+  guarded_link P closed = record {
     replay = λ s h. closed.replay s h.0;
-    on_filter = λ s h. filter_beside s.link s.volatile.tokens (Many s) (λ x. P (with_filter x s)) h.1 (closed.on_filter s h.0);
-    keeps_counted = λ s h. (closed.keeps_counted s h.0, h.1);
-    asked = λ q s well h. (closed.asked q s well h.0, h.1);
-    told = λ held s h. (closed.told held s h.0, h.1);
-    posts = λ f s well h. (closed.posts f s well h.0, longer s (Some f) h.1);
-    loses = λ f s h. (closed.loses f s h.0, longer s None h.1);
+    on_filter = λ s h. filter_beside s.link s.volatile.tokens (C s.link) (λ x. P (with_filter x s)) h.1 (closed.on_filter s h.0);
+    keeps_counted = λ s h. (closed.keeps_counted s h.0, of.counts s.link h.1);
+    asked = λ q s well h. (closed.asked q s well h.0, of.asks s.link q h.1);
+    told = λ held s h. (closed.told held s h.0, of.distrusts s.link held h.1);
+    posts = λ f s well h. (closed.posts f s well h.0, of.posts s.link (Some f) _ h.1);
+    loses = λ f s h. (closed.loses f s h.0, of.posts s.link None s.link.kept_bytes h.1);
     books = λ f s keeps placed h. (closed.books f s keeps placed h.0, h.1);
     moved = λ e s is live h. (closed.moved e s is live h.0, h.1);
     leaves = λ token s h. (closed.leaves token s h.0, h.1);
     keeps_fault_line = λ m s h. (closed.keeps_fault_line m s h.0, h.1);
     keeps_showing = λ s h. (closed.keeps_showing s h.0, h.1);
-    keeps_skipped = λ c s h. (closed.keeps_skipped c s h.0, line_counts s.running.shows_skips c (record s { running = record s.running { skips = s.running.skips + 1 } }) h.1);
+    keeps_skipped = λ c s h. (closed.keeps_skipped c s h.0, line_linked s.running.shows_skips c (record s { running = record s.running { skips = s.running.skips + 1 } }) h.1);
     keeps_volatile_all_released = λ s h. (closed.keeps_volatile_all_released s h.0, h.1);
     keeps_volatile_held_and_closed = λ e s h. (closed.keeps_volatile_held_and_closed e s h.0, h.1);
     keeps_volatile_not_in_row = λ e s h. (closed.keeps_volatile_not_in_row e s h.0, h.1);
@@ -83,12 +91,41 @@ module _ (n : ℕ) where
     keeps_volatile_with_token = λ s h. (closed.keeps_volatile_with_token s h.0, h.1);
     keeps_with_clock_seen = λ clock s h. (closed.keeps_with_clock_seen clock s h.0, h.1);
     keeps_with_done = λ s h. (closed.keeps_with_done s h.0, h.1);
-    keeps_with_inline = λ inline s h. (closed.keeps_with_inline inline s h.0, h.1);
+    keeps_with_inline = λ inline s h. (closed.keeps_with_inline inline s h.0, of.inlines s.link inline h.1);
     keeps_with_outbox = λ a rest s e h. (closed.keeps_with_outbox a rest s e h.0, h.1);
     keeps_with_stray = λ r s h. (closed.keeps_with_stray r s h.0, h.1);
     keeps_with_token_used = λ s h. (closed.keeps_with_token_used s h.0, h.1);
     keeps_without_done = λ s h. (closed.keeps_without_done s h.0, h.1);
   }
 
-  pub entering_counts : (P : State → Type 0) → Entering P → Entering (λ s. P s × Many s)
-  entering_counts P entering = record { enters = λ e s well h. (entering.enters e s well h.0, h.1) }
+  pub entering_link : (P : State → Type 0) → Entering P → Entering (λ s. P s × C s.link)
+  entering_link P entering = record { enters = λ e s well h. (entering.enters e s well h.0, h.1) }
+
+  pub whole_link : (P : State → Type 0) → Whole P → Whole (λ s. P s × C s.link)
+  whole_link P whole = record {
+    closed = guarded_link P whole.closed;
+    entering = entering_link P whole.entering;
+    deleting = record { deletes = λ f item s keeps seen cursor idle leaf h. keeps_both (λ x. P (with_filter x s)) (λ x. C s.link) (change_with f (change.Remove item) s.filter) (whole.deleting.deletes f item s keeps seen cursor idle leaf h.0) (always (C s.link) h.1 (change_with f (change.Remove item) s.filter)) };
+    begins = λ s h. (whole.begins s h.0, h.1);
+    breaks = λ s h. (whole.breaks s h.0, h.1);
+    crashes = λ s h. (whole.crashes s h.0, h.1);
+    fails = λ s h. (whole.fails s h.0, h.1);
+    opens = λ p skipped s is h. (whole.opens p skipped s is h.0, h.1);
+  }
+
+-- the number of messages
+
+abbrev pub Many : ℕ → Link → Type 0
+Many n l = n ≤ length l.messages
+
+pub many_of : (n : ℕ) → OfLink (Many n)
+many_of n = record {
+  counts = λ l h. h;
+  asks = λ l q h. h;
+  distrusts = λ l r h. h;
+  posts = λ l f k h. more n (length l.messages) (length (l.messages ++ f ∷ [])) h (length-append l.messages (f ∷ []));
+  inlines = λ l b h. h;
+}
+  where
+    more : (a b c : ℕ) → a ≤ b → c ≡ b + 1 → a ≤ c
+    more a b c h e = omega (arith, h, e)
