@@ -9,13 +9,12 @@ ghost use Rattle.cf_model.specs.Pushes.{push_removal, push_tombstone};
 ghost use Rattle.cf_model.specs.Words.{says};
 
 use crate::entries::Draft;
-use crate::item_reads::NO_RID;
 use crate::senders::Sender;
 use crate::uploads::push_draft;
 use cf_base::{Blob, CallError, Code, ItemId, OutOfMemory, Rid, Token};
 use cf_engine_host::EngineHost;
 use cf_engine_queue::{Action, QueueEntry, Tombstone};
-use cf_engine_steps::{Engine, has_target_entry, next_token, skip, tombstone};
+use cf_engine_steps::{Engine, NO_RID, has_target_entry, next_token, skip, tombstone};
 use cf_remote::Remote;
 use std::alloc::Global;
 
