@@ -1,0 +1,4 @@
+pub mod Agreement
+pub mod Paths
+pub mod Twins
+pub mod SettledRows
