@@ -13,7 +13,7 @@ use Rattle.cf_model.specs.Settling.{accessed, end_of, end_wait, is_access, is_ow
 use Rattle.cf_base.specs.declared.ids.WaitId.{WaitId}
 use Rattle.cf_base.specs.declared.waits.End.{End}
 use Rattle.cf_model.specs.State.{Filter, State}
-use Rattle.cf_model.specs.Trees.{AsItKeeps, Asked, Faults, Fork, Ret, Step, Tree, mapped, Ends}
+use Rattle.cf_model.specs.Trees.{Asked, Fork, Ret, Step, Tree, mapped, Ends}
 use Rattle.cf_model_laws.proofs.RightItems.{no_way}
 use Rattle.cf_model_convergence.specs.Hearing.{IsHeard, is_heard}
 use Rattle.cf_model_convergence.specs.Telling.{IsTold, IsUnfair, is_loud}

@@ -24,7 +24,6 @@ use Rattle.cf_model.specs.Skips.{in_use, skip}
 use Rattle.cf_model.specs.State.{Open, Running, in_filter, with_filter}
 use Rattle.cf_model.specs.Trees.{Keeps, Ends}
 use Rattle.cf_model_laws.proofs.CallbacksGuarded.{calling_at}
-use Rattle.cf_model_laws.proofs.ContentLaws.{sound_whole}
 use Rattle.cf_model_laws.proofs.FetchingGuarded.{in_filter_at}
 use Rattle.cf_model_laws.proofs.Guarded.{Guarded}
 use Rattle.cf_model_laws.proofs.PushesGuarded.{after_hydrate_keeps}

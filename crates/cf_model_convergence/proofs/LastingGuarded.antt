@@ -112,7 +112,7 @@ module _ (D : Fact) (lasting : Lasting D) where
         (keeps_bind (InFilter l) (change_with f c x) (λ _ t. then_do (settle item d) done t) (changed f c x keeps seen fit h) (λ a t j. keeps_bind (InFilter l) (settle item d t) (λ _ y. done y) (tell_frame (Lasts D l) (book_lasts l) (told_at item d t) t j) (λ b y m. m)));
     commits = record { keeps = λ x h. keeps_both P (InFilter l) (in_volume commit x) (closed.commits.keeps x h.0) (begun_lasts l tokens x (closed.sound x h.0) h.1, λ fair. ((h.1 fair).0, (point_lasts l.remote true x.volume (closed.sound x h.0 fair).of_log.0 (h.1 fair).0, tt))) };
     settled = λ item d x others h. keeps_both P (InFilter l) (settle item d x) (closed.settled item d x others h.0) (tell_frame (Lasts D l) (book_lasts l) (told_at item d x) x h.1);
-    begins = λ n x fit h. keeps_both P (InFilter l) (reading (waiting_begun n) (begin_now n) x) (closed.begins n x fit h.0) (keeps_bind (InFilter l) (tell (waiting_begun n x) (with_own n x)) (λ _ t. Ret (shown.Pending (own_id n x)) t) (tell_frame (Lasts D l) (book_lasts l) (waiting_begun n x) (with_own n x) h.1) (λ a t j. j));
+    begins = λ n x fit unmet h. keeps_both P (InFilter l) (reading (waiting_begun n) (begin_now n) x) (closed.begins n x fit unmet h.0) (keeps_bind (InFilter l) (tell (waiting_begun n x) (with_own n x)) (λ _ t. Ret (shown.Pending (own_id n x)) t) (tell_frame (Lasts D l) (book_lasts l) (waiting_begun n x) (with_own n x) h.1) (λ a t j. j));
     downs = record { keeps = λ x h. keeps_both P (InFilter l) (reading all_down tell x) (closed.downs.keeps x h.0) (tell_frame (Lasts D l) (book_lasts l) (all_down x) x h.1) };
     keeps_accessed = λ item x h. (closed.keeps_accessed item x h.0, book_lasts l x.volume (with_access item x.volume.book) (record { cursor = refl; entries = refl; seen = refl; tombstones = refl }) h.1);
     keeps_accessed_now = λ n x h. (closed.keeps_accessed_now n x h.0, access_frame (Lasts D l) (book_lasts l) n.item (is_access n.kind cause.Met) x h.1);
@@ -121,7 +121,6 @@ module _ (D : Fact) (lasting : Lasting D) where
     keeps_connected_again = λ x h. (closed.keeps_connected_again x h.0, h.1);
     keeps_disconnected = λ x h. (closed.keeps_disconnected x h.0, h.1);
     keeps_with_handle = λ item x fit h. (closed.keeps_with_handle item x fit h.0, h.1);
-    keeps_with_policy = λ p v x h. (closed.keeps_with_policy p v x h.0, h.1);
     keeps_with_time = λ n x h. (closed.keeps_with_time n x h.0, book_lasts l x.volume (with_ticks n x.volume.book) (record { cursor = refl; entries = refl; seen = refl; tombstones = refl }) h.1);
     keeps_without_handle = λ handle x h. (closed.keeps_without_handle handle x h.0, h.1);
   }
@@ -207,6 +206,7 @@ module _ (D : Fact) (lasting : Lasting D) where
       deletes = λ f item s keeps seen cursor idle leaf h. keeps_both (λ x. P (with_filter x s)) (InFilter s.link) (change_with f (change.Remove item) s.filter) (whole.deleting.deletes f item s keeps seen cursor idle leaf h.0)
           (change_lasts s.link s.volatile.tokens f (change.Remove item) s.filter (sound s h.0).1 (λ fair. lasting.removes s.link s.volatile.tokens f item s.filter keeps seen cursor fair ((sound s h.0).1 fair) (h.1 fair).0) h.1);
     };
+    ruling = record { rules = λ p s v h. (whole.ruling.rules p s v h.0, h.1) };
     begins = λ s h. (whole.begins s h.0, h.1);
     breaks = λ s h. (whole.breaks s h.0, h.1);
     crashes = λ s h. (whole.crashes s h.0, h.1);

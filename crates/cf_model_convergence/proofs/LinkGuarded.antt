@@ -35,7 +35,7 @@ filter_beside l tokens C P c closed = record {
   touch = λ f d item e x quiet keeps seen on fit h. keeps_both P (λ x. C) (then_do (change_with f d) (then_do (settle item e) done) x) (closed.touch f d item e x quiet keeps seen on fit h.0) (always C c (then_do (change_with f d) (then_do (settle item e) done) x));
   commits = record { keeps = λ x h. keeps_both P (λ x. C) (in_volume commit x) (closed.commits.keeps x h.0) (always C c (in_volume commit x)) };
   settled = λ item d x others h. keeps_both P (λ x. C) (settle item d x) (closed.settled item d x others h.0) (always C c (settle item d x));
-  begins = λ n x fit h. keeps_both P (λ x. C) (reading (begun n) (begin_now n) x) (closed.begins n x fit h.0) (always C c (reading (begun n) (begin_now n) x));
+  begins = λ n x fit unmet h. keeps_both P (λ x. C) (reading (begun n) (begin_now n) x) (closed.begins n x fit unmet h.0) (always C c (reading (begun n) (begin_now n) x));
   downs = record { keeps = λ x h. keeps_both P (λ x. C) (reading all_down tell x) (closed.downs.keeps x h.0) (always C c (reading all_down tell x)) };
   keeps_accessed = λ item x h. (closed.keeps_accessed item x h.0, c);
   keeps_accessed_now = λ n x h. (closed.keeps_accessed_now n x h.0, c);
@@ -44,7 +44,6 @@ filter_beside l tokens C P c closed = record {
   keeps_connected_again = λ x h. (closed.keeps_connected_again x h.0, c);
   keeps_disconnected = λ x h. (closed.keeps_disconnected x h.0, c);
   keeps_with_handle = λ item x fit h. (closed.keeps_with_handle item x fit h.0, c);
-  keeps_with_policy = λ p v x h. (closed.keeps_with_policy p v x h.0, c);
   keeps_with_time = λ n x h. (closed.keeps_with_time n x h.0, c);
   keeps_without_handle = λ handle x h. (closed.keeps_without_handle handle x h.0, c);
 }
@@ -106,6 +105,7 @@ module _ (C : Link → Type 0) (of : OfLink C) where
     closed = guarded_link P whole.closed;
     entering = entering_link P whole.entering;
     deleting = record { deletes = λ f item s keeps seen cursor idle leaf h. keeps_both (λ x. P (with_filter x s)) (λ x. C s.link) (change_with f (change.Remove item) s.filter) (whole.deleting.deletes f item s keeps seen cursor idle leaf h.0) (always (C s.link) h.1 (change_with f (change.Remove item) s.filter)) };
+    ruling = record { rules = λ p s v h. (whole.ruling.rules p s v h.0, h.1) };
     begins = λ s h. (whole.begins s h.0, h.1);
     breaks = λ s h. (whole.breaks s h.0, h.1);
     crashes = λ s h. (whole.crashes s h.0, h.1);

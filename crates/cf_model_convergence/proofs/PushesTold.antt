@@ -21,7 +21,7 @@ use Rattle.cf_model.specs.Pushes.{anchored, push, request_by, send_if, with_toke
 use Rattle.cf_model.specs.Skips.{in_book, left_out, skip_line, try_book, why_no_record, with_book, with_volatile}
 use Rattle.cf_model.specs.State.{State, in_filter, in_volume, with_filter, with_volume}
 use Rattle.cf_model.specs.Store.{Held, Mutation, Recorded, decide, make_dir, move_to, mutate, put_new, put_version, recorded_at, remote_step, remove_at}
-use Rattle.cf_model.specs.Trees.{AsItKeeps, Asked, Faults, Fork, Keeps, Ret, Step, Tree, bind, Ends, Tells}
+use Rattle.cf_model.specs.Trees.{AsItKeeps, Faults, Keeps, bind, Ends, Tells}
 use Rattle.cf_model_laws.specs.Invariant.{Invariant}
 use Rattle.cf_model_laws.specs.Premises.{IsFair}
 use Rattle.cf_model_laws.proofs.ContentLaws.{sound_whole}

@@ -1,5 +1,5 @@
 -- What came since a state: nothing goes from the notes or the log, and a remote that did not keep its rules stays one.
-use Rattle.std.proofs.Common.{◌≡◌, Bool, false, refl}
+use Rattle.std.proofs.Common.{◌≡◌, false, refl}
 use Rattle.cf_model.specs.State.{Link, State}
 use Rattle.cf_model_laws.specs.Invariant.{Invariant}
 use Rattle.cf_model_laws.proofs.ContentLaws.{sound_whole}

@@ -15,7 +15,7 @@ use Rattle.cf_model.specs.Feeds.{free_parent, is_under, move_in, name_in_root, s
 use Rattle.cf_model.specs.Items.{Item, item_of}
 use Rattle.cf_model.specs.Numbers.{root_id}
 use Rattle.cf_model.specs.Skips.{do_change, in_book, is_markable, is_there, number_of_item, left_out, move_off, occupant, try_book, try_change, try_clear_name, try_mark_now, try_seen, why_no_change, why_no_record, tried, skip_line}
-use Rattle.cf_model.specs.State.{Filter, State, items_now, with_filter}
+use Rattle.cf_model.specs.State.{State, items_now, with_filter}
 use Rattle.cf_model.specs.Trees.{Keeps, Ret, bind, Ends}
 use Rattle.cf_model.specs.Words.{says}
 use Rattle.cf_model.proofs.TreeLaws.{keeps_bind, keeps_mapped, kept_at_end}

@@ -22,7 +22,7 @@ use Rattle.cf_model.specs.Pushes.{bury_unless, has_entry, hydrate_if, is_left_ou
 use Rattle.cf_model.specs.Skips.{do_change, left_out, may_mark, mark_if, try_change, why_no_change}
 use Rattle.cf_model.specs.Soundness.{Each}
 use Rattle.cf_model.specs.State.{State, book_now, items_now, with_filter}
-use Rattle.cf_model.specs.Trees.{AsItKeeps, Asked, Faults, Fork, Ret, Step, Tree, bind, Ends}
+use Rattle.cf_model.specs.Trees.{Asked, Fork, Ret, Step, Tree, bind, Ends}
 use Rattle.cf_model.specs.Words.{part, says}
 use Rattle.cf_model.proofs.TreeLaws.{kept_at_end}
 use Rattle.cf_model_laws.specs.Fitting.{Fits, NoEntry}

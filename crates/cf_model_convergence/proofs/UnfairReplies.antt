@@ -1,5 +1,5 @@
 -- A reply that the remote's rules do not give: whatever becomes of it, the remote did not keep them.
-use Rattle.std.proofs.Common.{◌≡◌, ◌⊎◌, ℕ, Bool, true, false, refl, sym, ◌∙◌, inr}
+use Rattle.std.proofs.Common.{◌≡◌, ℕ, Bool, true, false, refl, sym, ◌∙◌, inr}
 use Rattle.std.specs.Prelude.{Some}
 use Rattle.cf_base.specs.declared.messages.Reply.{Reply}
 use Rattle.cf_base.specs.declared.messages.Request.{Request}

@@ -13,8 +13,7 @@ use Rattle.cf_base.specs.declared.notices.Frame.{Frame}
 use Rattle.cf_base.specs.declared.notices.Frame.TheVariants as frame
 use Rattle.cf_base.specs.declared.notices.Notice.{Notice}
 use Rattle.cf_base.specs.declared.notices.Notice.TheVariants as notice
-use Rattle.cf_base.specs.declared.policies.Population.{Population}
-use Rattle.cf_base.specs.declared.policies.Population.TheVariants as population
+use Rattle.cf_model.specs.Plans.{is_full_population}
 
 -- messages
 
@@ -80,18 +79,13 @@ is_quiet a = is_count a.shown && not (list_any is_trouble a.notes) && ends_idle 
 
 -- policies
 
-abbrev pub is_full : Population → Bool
-is_full population.Partial = false
-is_full population.Full = true
-is_full population.AlwaysFull = false
-
 abbrev pub is_accepted : Shown → Bool
 is_accepted shown.Done = true
 is_accepted _ = false
 
 -- a policy by which directories are populated when they are listed was accepted
 abbrev pub allows_unpopulated : Event × Answer → Bool
-allows_unpopulated (event.Call (call.Policy p), a) = is_full p.population && is_accepted a.shown
+allows_unpopulated (event.Call (call.Policy p), a) = is_full_population p.population && is_accepted a.shown
 allows_unpopulated (e, a) = false
 
 -- each directory is populated from its start

@@ -102,7 +102,7 @@ module _ (base : Log) (id : WaitId) (item : ItemId) (span : Span) where
         (λ u t k. leads_kept (Of l) (then_do (settle i d) done t) (keeps_bind (Of l) (settle i d t) (λ _ y. done y) (settles base id item span (IsFair l) l.remote i d t (quiet_others d quiet t) k.1 k.2 k.0) (λ b y m. m)))));
     commits = record { keeps = λ x h. keeps_both P (Of l) (in_volume commit x) (closed.commits.keeps x h.0) (h.1, h.1) };
     settled = λ i d x others h. keeps_both P (Of l) (settle i d x) (closed.settled i d x others h.0) (settles base id item span (IsFair l) l.remote i d x others (λ fair. sound_truly NoItem l tokens x (closed.sound x h.0 fair)) (λ fair. (knows x h.0 fair).1) h.1);
-    begins = λ need x fit h. keeps_both P (Of l) (reading (begun need) (begin_now need) x) (closed.begins need x fit h.0)
+    begins = λ need x fit unmet h. keeps_both P (Of l) (reading (begun need) (begin_now need) x) (closed.begins need x fit unmet h.0)
         (keeps_bind (Of l) (tell (begun need x) (with_own need x)) (λ _ t. Ret (shown.Pending (own_id need x)) t) (begins_other_own l tokens need x (closed.sound x h.0) (knows x h.0) h.1) (λ a t j. j));
     downs = record { keeps = λ x h. keeps_both P (Of l) (reading all_down tell x) (closed.downs.keeps x h.0) (downs_own l tokens x (closed.sound x h.0) (knows x h.0) h.1) };
     keeps_accessed = λ i x h. (closed.keeps_accessed i x h.0, h.1);
@@ -112,7 +112,6 @@ module _ (base : Log) (id : WaitId) (item : ItemId) (span : Span) where
     keeps_connected_again = λ x h. (closed.keeps_connected_again x h.0, h.1);
     keeps_disconnected = λ x h. (closed.keeps_disconnected x h.0, h.1);
     keeps_with_handle = λ i x fit h. (closed.keeps_with_handle i x fit h.0, h.1);
-    keeps_with_policy = λ p v x h. (closed.keeps_with_policy p v x h.0, h.1);
     keeps_with_time = λ ticks x h. (closed.keeps_with_time ticks x h.0, h.1);
     keeps_without_handle = λ handle x h. (closed.keeps_without_handle handle x h.0, h.1);
   }

@@ -37,7 +37,7 @@ use Rattle.cf_model_laws.specs.Premises.{IsFair}
 use Rattle.cf_model_laws.specs.Seats.{IsSeated, NeedsWell}
 use Rattle.cf_model_laws.proofs.ContentLaws.{next_epoch}
 use Rattle.cf_model_laws.proofs.EventsGuarded.{Whole}
-use Rattle.cf_model_laws.proofs.Guarded.{Entering, Guarded, GuardedFilter}
+use Rattle.cf_model_laws.proofs.Guarded.{Entering, Guarded, GuardedFilter, Ruling}
 use Rattle.cf_model_laws.proofs.Leading.{kept_leads}
 use Rattle.cf_model_laws.proofs.RightItems.{no_way}
 use Rattle.cf_model_laws.proofs.SkipsGuarded.{keeps_both}
@@ -132,7 +132,7 @@ filter_beside K F b l tokens P knows closed = record {
       (keeps_bind (Holds F l) (change_with f c x) (λ _ t. then_do (settle item d) done t) (changed_beside F l f c x h.1 (b.puts l tokens c x (closed.sound x h.0) fit (knows x h.0) h.1)) (λ a t j. keeps_bind (Holds F l) (settle item d t) (λ _ y. done y) (settle_beside K F b l item d t j) (λ a y m. m)));
   commits = record { keeps = λ x h. keeps_both P (Holds F l) (in_volume commit x) (closed.commits.keeps x h.0) (h.1, h.1) };
   settled = λ item d x others h. keeps_both P (Holds F l) (settle item d x) (closed.settled item d x others h.0) (settle_beside K F b l item d x h.1);
-  begins = λ n x fit h. keeps_both P (Holds F l) (reading (begun n) (begin_now n) x) (closed.begins n x fit h.0)
+  begins = λ n x fit unmet h. keeps_both P (Holds F l) (reading (begun n) (begin_now n) x) (closed.begins n x fit unmet h.0)
       (keeps_bind (Holds F l) (tell (begun n x) (with_own n x)) (λ _ t. Ret (shown.Pending (own_id n x)) t)
       (tell_beside F l (begun n x) (with_own n x) (b.ends l x.volume.epoch x.volume.place x.volume.log x.handles x.handle_count (x.waiting.waits ++ wait_for n x ∷ beside n x) (x.waiting.wait_count + length (wait_for n x ∷ beside n x)) _ (b.begins l tokens n x (closed.sound x h.0) fit h.1))) (λ a t j. j));
   downs = record { keeps = λ x h. keeps_both P (Holds F l) (reading all_down tell x) (closed.downs.keeps x h.0) (tell_beside F l (all_down x) x (b.stops l x.volume.epoch x.volume.place x.volume.log x.handles x.handle_count x.waiting.waits x.waiting.wait_count h.1)) };
@@ -143,7 +143,6 @@ filter_beside K F b l tokens P knows closed = record {
   keeps_connected_again = λ x h. (closed.keeps_connected_again x h.0, h.1);
   keeps_disconnected = λ x h. (closed.keeps_disconnected x h.0, h.1);
   keeps_with_handle = λ item x fit h. (closed.keeps_with_handle item x fit h.0, b.opens l tokens item x (closed.sound x h.0) fit h.1);
-  keeps_with_policy = λ p v x h. (closed.keeps_with_policy p v x h.0, h.1);
   keeps_with_time = λ n x h. (closed.keeps_with_time n x h.0, h.1);
   keeps_without_handle = λ handle x h. (closed.keeps_without_handle handle x h.0, b.closes l x.volume.epoch x.volume.place x.volume.log x.handles x.handle_count x.waiting.waits x.waiting.wait_count _ h.1);
 }
@@ -207,6 +206,9 @@ guarded_beside F b P closed = guarded_knowing Whatever F (knowing F b) P (λ s h
 pub entering_beside : (F : Fact) (P : State → Type 0) → Entering P → Entering (λ s. P s × HoldsIn F s)
 entering_beside F P entering = record { enters = λ e s well h. (entering.enters e s well h.0, h.1) }
 
+pub ruling_beside : (F : Fact) (P : State → Type 0) → Ruling P → Ruling (λ s. P s × HoldsIn F s)
+ruling_beside F P ruling = record { rules = λ p s v h. (ruling.rules p s v h.0, h.1) }
+
 -- what keeps it over whole runs
 pub record BesideRuns (F : Fact) : Type 0 where
   pub beside : Beside F
@@ -228,6 +230,7 @@ whole_knowing K F b P knows whole = record {
     deletes = λ f item s keeps seen cursor idle leaf h. keeps_both (λ x. P (with_filter x s)) (Holds F s.link) (change_with f (change.Remove item) s.filter) (whole.deleting.deletes f item s keeps seen cursor idle leaf h.0)
         (changed_beside F s.link f (change.Remove item) s.filter h.1 (b.removes s.link s.volatile.tokens item s.filter ((whole.closed.on_filter s h.0).sound s.filter h.0) idle leaf h.1));
   };
+  ruling = ruling_beside F P whole.ruling;
   begins = λ s h. (whole.begins s h.0, h.1);
   breaks = λ s h. (whole.breaks s h.0, h.1);
   crashes = λ s h. (whole.crashes s h.0, b.crashes s.link s.filter.volume.epoch s.filter.volume.place s.filter.volume.log s.filter.handles s.filter.handle_count s.filter.waiting.waits s.filter.waiting.wait_count h.1);

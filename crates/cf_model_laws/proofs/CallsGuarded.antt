@@ -250,6 +250,6 @@ unvalidated mode.Replay p e h =
       by false true z e = cc
       by false false z e = refl
 
-pub set_policy_keeps : (l : Link) (tokens : ℕ) (P : Filter → Type 0) → GuardedFilter l tokens P → (m : Mode) (p : Policy) → is_replay m ≡ true → Preserves P (set_policy m p)
-set_policy_keeps l tokens P closed m p replay =
-    record { keeps = λ x h. checked_at P (policy_tests m p) (then_do (noted (with_policy p)) done) x h (λ e. closed.keeps_with_policy p (unvalidated m p replay (not_false (is_allowed m p) (head_false (policy_tests m p x) e))) x h) }
+pub set_policy_keeps : (P : Filter → Type 0) (m : Mode) (p : Policy) → is_replay m ≡ true → (p.validate ≡ false → (x : Filter) → P x → P (with_policy p x)) → Preserves P (set_policy m p)
+set_policy_keeps P m p replay rules =
+    record { keeps = λ x h. checked_at P (policy_tests m p) (then_do (noted (with_policy p)) done) x h (λ e. rules (unvalidated m p replay (not_false (is_allowed m p) (head_false (policy_tests m p x) e))) x h) }

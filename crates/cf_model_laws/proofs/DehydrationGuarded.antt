@@ -9,7 +9,7 @@ use Rattle.cf_model.specs.Changes.{same_book, change}
 use Rattle.cf_model.specs.Changes as volume
 use Rattle.cf_model.specs.Items.{Item, size_of, item_of}
 use Rattle.cf_model.specs.State.{Filter, Link}
-use Rattle.cf_model.specs.Waits.{Need, begin_now, begun, but_directory, on_ok, refused}
+use Rattle.cf_model.specs.Waits.{Need, begin_now, begun, but_directory, on_ok, refused, is_met_now}
 use Rattle.cf_model_laws.proofs.OperationsGuarded as operations_keep
 use Rattle.cf_model.specs.Dehydration.{after_verdict, ask_consent, ask_tests, consent_need, dehydrate, dehydrate_item, dehydrate_range, emptied, empty_now, empty_tests, has_bytes, is_connected, verdict_at, with_provider, in_use}
 use Rattle.cf_model_laws.proofs.Guarded.{GuardedFilter}
@@ -30,8 +30,8 @@ use Rattle.std.specs.List.{list_any}
 use Rattle.cf_model_laws.specs.Seats.{NeedsWell}
 use Rattle.cf_model_laws.proofs.RightItems.{no_way}
 
-ask_consent_at : (l : Link) (tokens : ℕ) (P : Filter → Type 0) → GuardedFilter l tokens P → (n : Need) (x : Filter) → (IsFair l → NeedsWell n x) → P x → Keeps P (ask_consent n x)
-ask_consent_at l tokens P closed n x fit h = checked_at P (ask_tests n) (reading (begun n) (begin_now n)) x h (λ e. closed.begins n x fit h)
+ask_consent_at : (l : Link) (tokens : ℕ) (P : Filter → Type 0) → GuardedFilter l tokens P → (n : Need) (x : Filter) → (IsFair l → NeedsWell n x) → is_met_now n x ≡ false → P x → Keeps P (ask_consent n x)
+ask_consent_at l tokens P closed n x fit unmet h = checked_at P (ask_tests n) (reading (begun n) (begin_now n)) x h (λ e. closed.begins n x fit unmet h)
 
 pub emptied_keeps : (l : Link) (tokens : ℕ) (P : Filter → Type 0) → GuardedFilter l tokens P → Preserves P (emptied)
 emptied_keeps l tokens P closed = keeps_ret P (shown.Ended end.Emptied)
@@ -67,7 +67,7 @@ consent_well i start len x there e = record { on = inr (refl, inr (i, there, any
 
 provided_at : (l : Link) (tokens : ℕ) (P : Filter → Type 0) → GuardedFilter l tokens P → (i : Item) (start len : ℕ) (b : Bool) (x : Filter) → (IsFair l → NeedsWell (consent_need i start len) x)
     → (IsFair l → Each i.id (λ i. i.in_sync ≡ true) x.volume.items) → P x → Keeps P (with_provider i start len b x)
-provided_at l tokens P closed i start len true x well fit h = ask_consent_at l tokens P closed (consent_need i start len) x well h
+provided_at l tokens P closed i start len true x well fit h = ask_consent_at l tokens P closed (consent_need i start len) x well refl h
 provided_at l tokens P closed i start len false x well fit h = empty_at l tokens P closed i start len x fit h
 
 range_at : (l : Link) (tokens : ℕ) (P : Filter → Type 0) → GuardedFilter l tokens P → (i : Item) (start len : ℕ) (b : Bool) (x : Filter) → (b ≡ true → IsFair l → NeedsWell (consent_need i start len) x)

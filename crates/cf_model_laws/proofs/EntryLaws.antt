@@ -20,12 +20,12 @@ use Rattle.cf_model.specs.Operations.{entry_kind}
 use Rattle.cf_model.specs.Plans.{is_full_population, placeholder_dir}
 use Rattle.cf_model.specs.Store.{Held, bytes_of}
 use Rattle.cf_model.specs.Words.{in_bytes, number_of}
-use Rattle.cf_model_laws.specs.Fitting.{IsUnaimed, NamesWell}
+use Rattle.cf_model_laws.specs.Fitting.{IsUnaimed, NamesWell, Populates}
 use Rattle.cf_model_laws.specs.Invariant.{All, HasBase, HasEntry, HasNone, IsAimed, IsOfKind, rid_in, target_in, version_in}
 use Rattle.cf_model_laws.specs.Premises.{IsSmall}
 use Rattle.cf_model_laws.proofs.AimedTargets.{AreOthers, named_in, unaimed_unfound}
 use Rattle.cf_model_laws.proofs.Gathered.{all_filter}
-use Rattle.cf_model_laws.proofs.OperationsGuarded.{NewFits}
+use Rattle.cf_model_laws.proofs.OperationsGuarded.{NewFits, dir_populates}
 use Rattle.cf_model_laws.proofs.RemoteSteps.{kind_under}
 use Rattle.cf_model_laws.proofs.RightItems.{no_way, no_way_back, none_named}
 
@@ -138,6 +138,12 @@ some_target r e small h = subst (λ (n : ℕ). (n == 0) ≡ false) (sym (entry_t
     one : (b : Bool) → (n == 0) ≡ b → b ≡ false
     one true q = let z : n ≡ 0 = eqb-true n 0 q in absurd (omega (arith, z, h))
     one false q = refl
+
+pub entry_populates : (p : Policy) (e : Entry) → Populates p (kind_of_entry p e)
+entry_populates p e = by e.dir where
+  by : (d : Bool) → Populates p (cond d (placeholder_dir p) kind.PlaceholderFile)
+  by true = dir_populates p
+  by false = tt
 
 pub new_fits : (r : Held) (p : Policy) (e : Entry) → IsSmall r → HasEntry r e → (e.rid.0 ≡ 1 → ⊥) → NewFits r p (new_item_of e)
 new_fits r p e small h low = let k = by e.dir refl in (k.0, k.1, some_target r e small h) where

@@ -15,7 +15,7 @@ use Rattle.cf_model.specs.Missing.{span_of}
 use Rattle.cf_model.specs.Plans.{NewDir, NewFile}
 use Rattle.cf_model.specs.State.{State, with_filter, Point, is_replay}
 use Rattle.cf_model.specs.Waits.{cancel, close, connect, get, hydrate, list, read, tick}
-use Rattle.cf_model_laws.specs.Uses.{is_other, is_removal}
+use Rattle.cf_model_laws.specs.Uses.{is_other, is_removal, is_ruling}
 use Rattle.cf_model_laws.proofs.CallbacksGuarded as callbacks_keep
 use Rattle.cf_model_laws.proofs.CallsGuarded as calls_keep
 use Rattle.cf_model_laws.proofs.DehydrationGuarded as dehydration_keep
@@ -24,7 +24,7 @@ use Rattle.cf_model_laws.proofs.PeersGuarded as peers_keep
 use Rattle.cf_model_laws.proofs.PlacementsGuarded as placements_keep
 use Rattle.cf_model_laws.proofs.WaitsGuarded as waits_keep
 use Rattle.cf_model.specs.Events.{call_in, call_now, device_event, event_now, answered, begun, broken, choices_in, is_of, may_stop, needs_volume, no_volume, outcome, tree_of}
-use Rattle.cf_model_laws.proofs.Guarded.{Deleting, Entering, Guarded}
+use Rattle.cf_model_laws.proofs.Guarded.{Deleting, Entering, Guarded, Ruling}
 use Rattle.cf_model.proofs.ArrowLaws.{keeps_lifted, keeps_ret}
 use Rattle.std.proofs.Common.{◌≡◌, ℕ, Bool, true, List, [], ◌∷◌, refl, sym, ◌∙◌, ap, subst}
 use Rattle.std.specs.Prelude.{Option, Some, None, not}
@@ -46,40 +46,41 @@ pub record Whole (P : State → Type 0) : Type 0 where
   pub closed : Guarded P
   pub entering : Entering P
   pub deleting : Deleting P
+  pub ruling : Ruling P
   pub begins : (s : State) → P s → P (begun s)
   pub breaks : (s : State) → P s → P (broken s)
   pub crashes : (s : State) → P s → P (crashed s)
   pub fails : (s : State) → P s → P (failed_open s)
   pub opens : (p : Point) (skipped : ℕ) (s : State) → Opens s.filter.volume.points p → P s → P (with_opened p (epoch_after skipped s) s)
 
-call_in_keeps : (P : State → Type 0) → Guarded P → (m : Mode) → is_replay m ≡ true → (c : Call) → (is_removal c ≡ true → Deleting P) → Preserves P (call_in m c)
-call_in_keeps P closed m is (call.Open path) deleting = keeps_lifted P (λ s. s.filter) with_filter (open_file path) (λ t i. i) (λ t1 i2. (calls_keep.open_file_keeps t1.link t1.volatile.tokens (λ x. P (with_filter x t1)) (closed.on_filter t1 i2) path))
-call_in_keeps P closed m is (call.Close handle) deleting = callbacks_keep.calling_keeps P closed (close handle) (λ t1 i2. (waits_keep.close_keeps t1.link t1.volatile.tokens (λ x. P (with_filter x t1)) (closed.on_filter t1 i2) handle))
-call_in_keeps P closed m is (call.Cancel wait) deleting = callbacks_keep.calling_keeps P closed (cancel wait) (λ t1 i2. (waits_keep.cancel_keeps t1.link t1.volatile.tokens (λ x. P (with_filter x t1)) (closed.on_filter t1 i2) wait))
-call_in_keeps P closed m is (call.Tick ticks) deleting = callbacks_keep.calling_keeps P closed (tick ticks) (λ t1 i2. (waits_keep.tick_keeps t1.link t1.volatile.tokens (λ x. P (with_filter x t1)) (closed.on_filter t1 i2) ticks))
-call_in_keeps P closed m is (call.Read handle offset len) deleting = callbacks_keep.calling_keeps P closed (read handle (span_of offset len)) (λ t1 i2. (waits_keep.read_keeps t1.link t1.volatile.tokens (λ x. P (with_filter x t1)) (closed.on_filter t1 i2) handle (span_of offset len)))
-call_in_keeps P closed m is (call.Get path offset len) deleting = callbacks_keep.calling_keeps P closed (get path (span_of offset len)) (λ t1 i2. (waits_keep.get_keeps t1.link t1.volatile.tokens (λ x. P (with_filter x t1)) (closed.on_filter t1 i2) path (span_of offset len)))
-call_in_keeps P closed m is (call.Write handle offset bytes) deleting = callbacks_keep.calling_keeps P closed (write handle offset bytes) (λ t1 i2. (calls_keep.write_keeps t1.link t1.volatile.tokens (λ x. P (with_filter x t1)) (closed.on_filter t1 i2) handle offset bytes))
-call_in_keeps P closed m is (call.Size handle size) deleting = callbacks_keep.calling_keeps P closed (set_size handle size) (λ t1 i2. (calls_keep.set_size_keeps t1.link t1.volatile.tokens (λ x. P (with_filter x t1)) (closed.on_filter t1 i2) handle size))
-call_in_keeps P closed m is call.Flush deleting = keeps_lifted P (λ s. s.filter) with_filter flush (λ t i. i) (λ t1 i2. (calls_keep.flush_keeps t1.link t1.volatile.tokens (λ x. P (with_filter x t1)) (closed.on_filter t1 i2)))
-call_in_keeps P closed m is (call.Create path) deleting = keeps_lifted P (λ s. s.filter) with_filter (create path NewFile) (λ t i. i) (λ t1 i2. (placements_keep.create_file_keeps t1.link t1.volatile.tokens (λ x. P (with_filter x t1)) (closed.on_filter t1 i2) path))
-call_in_keeps P closed m is (call.Mkdir path) deleting = keeps_lifted P (λ s. s.filter) with_filter (create path NewDir) (λ t i. i) (λ t1 i2. (placements_keep.create_dir_keeps t1.link t1.volatile.tokens (λ x. P (with_filter x t1)) (closed.on_filter t1 i2) path))
-call_in_keeps P closed m is (call.Delete path) deleting = keeps_lifted P (λ s. s.filter) with_filter (delete m path) (λ t i. i) (λ t1 i2. (calls_keep.delete_keeps t1.link t1.volatile.tokens (λ x. P (with_filter x t1)) (closed.on_filter t1 i2) (λ f item x keeps seen cursor idle leaf h. (deleting refl).deletes f item (with_filter x t1) keeps seen cursor idle leaf h) m path))
-call_in_keeps P closed m is (call.Rename from to) deleting = keeps_lifted P (λ s. s.filter) with_filter (rename from to) (λ t i. i) (λ t1 i2. (calls_keep.rename_keeps t1.link t1.volatile.tokens (λ x. P (with_filter x t1)) (closed.on_filter t1 i2) from to))
-call_in_keeps P closed m is (call.List path) deleting = callbacks_keep.calling_keeps P closed (list path) (λ t1 i2. (waits_keep.list_keeps t1.link t1.volatile.tokens (λ x. P (with_filter x t1)) (closed.on_filter t1 i2) path))
-call_in_keeps P closed m is (call.Pin path pin reach) deleting = keeps_lifted P (λ s. s.filter) with_filter (set_pin path pin reach) (λ t i. i) (λ t1 i2. (calls_keep.set_pin_keeps t1.link t1.volatile.tokens (λ x. P (with_filter x t1)) (closed.on_filter t1 i2) path pin reach))
-call_in_keeps P closed m is (call.Hydrate path) deleting = callbacks_keep.calling_keeps P closed (hydrate path) (λ t1 i2. (waits_keep.hydrate_keeps t1.link t1.volatile.tokens (λ x. P (with_filter x t1)) (closed.on_filter t1 i2) path))
-call_in_keeps P closed m is (call.Dehydrate path range) deleting = callbacks_keep.calling_keeps P closed (dehydrate path range) (λ t1 i2. (dehydration_keep.dehydrate_keeps t1.link t1.volatile.tokens (λ x. P (with_filter x t1)) (closed.on_filter t1 i2) path range))
-call_in_keeps P closed m is (call.Info path) deleting = keeps_lifted P (λ s. s.filter) with_filter (info path) (λ t i. i) (λ t1 i2. (calls_keep.info_keeps t1.link t1.volatile.tokens (λ x. P (with_filter x t1)) (closed.on_filter t1 i2) path))
-call_in_keeps P closed m is (call.Ranges path class) deleting = keeps_lifted P (λ s. s.filter) with_filter (ranges path class) (λ t i. i) (λ t1 i2. (calls_keep.ranges_keeps t1.link t1.volatile.tokens (λ x. P (with_filter x t1)) (closed.on_filter t1 i2) path class))
-call_in_keeps P closed m is call.Df deleting = keeps_lifted P (λ s. s.filter) with_filter df (λ t i. i) (λ t1 i2. (calls_keep.df_keeps t1.link t1.volatile.tokens (λ x. P (with_filter x t1)) (closed.on_filter t1 i2)))
-call_in_keeps P closed m is (call.Policy policy) deleting = keeps_lifted P (λ s. s.filter) with_filter (set_policy m policy) (λ t i. i) (λ t1 i2. (calls_keep.set_policy_keeps t1.link t1.volatile.tokens (λ x. P (with_filter x t1)) (closed.on_filter t1 i2) m policy is))
-call_in_keeps P closed m is (call.Keep path on) deleting = callbacks_keep.calling_keeps P closed (keep_full path on) (λ t1 i2. (placements_keep.keep_full_keeps t1.link t1.volatile.tokens (λ x. P (with_filter x t1)) (closed.on_filter t1 i2) path on))
-call_in_keeps P closed m is (call.Used path) deleting = keeps_lifted P (λ s. s.filter) with_filter (used path) (λ t i. i) (λ t1 i2. (calls_keep.used_keeps t1.link t1.volatile.tokens (λ x. P (with_filter x t1)) (closed.on_filter t1 i2) path))
-call_in_keeps P closed m is (call.Connect on) deleting = keeps_lifted P (λ s. s.filter) with_filter (connect on) (λ t i. i) (λ t1 i2. (waits_keep.connect_keeps t1.link t1.volatile.tokens (λ x. P (with_filter x t1)) (closed.on_filter t1 i2) on))
+call_in_keeps : (P : State → Type 0) → Guarded P → (m : Mode) → is_replay m ≡ true → (c : Call) → (is_removal c ≡ true → Deleting P) → (is_ruling c ≡ true → Ruling P) → Preserves P (call_in m c)
+call_in_keeps P closed m is (call.Open path) deleting ruling = keeps_lifted P (λ s. s.filter) with_filter (open_file path) (λ t i. i) (λ t1 i2. (calls_keep.open_file_keeps t1.link t1.volatile.tokens (λ x. P (with_filter x t1)) (closed.on_filter t1 i2) path))
+call_in_keeps P closed m is (call.Close handle) deleting ruling = callbacks_keep.calling_keeps P closed (close handle) (λ t1 i2. (waits_keep.close_keeps t1.link t1.volatile.tokens (λ x. P (with_filter x t1)) (closed.on_filter t1 i2) handle))
+call_in_keeps P closed m is (call.Cancel wait) deleting ruling = callbacks_keep.calling_keeps P closed (cancel wait) (λ t1 i2. (waits_keep.cancel_keeps t1.link t1.volatile.tokens (λ x. P (with_filter x t1)) (closed.on_filter t1 i2) wait))
+call_in_keeps P closed m is (call.Tick ticks) deleting ruling = callbacks_keep.calling_keeps P closed (tick ticks) (λ t1 i2. (waits_keep.tick_keeps t1.link t1.volatile.tokens (λ x. P (with_filter x t1)) (closed.on_filter t1 i2) ticks))
+call_in_keeps P closed m is (call.Read handle offset len) deleting ruling = callbacks_keep.calling_keeps P closed (read handle (span_of offset len)) (λ t1 i2. (waits_keep.read_keeps t1.link t1.volatile.tokens (λ x. P (with_filter x t1)) (closed.on_filter t1 i2) handle (span_of offset len)))
+call_in_keeps P closed m is (call.Get path offset len) deleting ruling = callbacks_keep.calling_keeps P closed (get path (span_of offset len)) (λ t1 i2. (waits_keep.get_keeps t1.link t1.volatile.tokens (λ x. P (with_filter x t1)) (closed.on_filter t1 i2) path (span_of offset len)))
+call_in_keeps P closed m is (call.Write handle offset bytes) deleting ruling = callbacks_keep.calling_keeps P closed (write handle offset bytes) (λ t1 i2. (calls_keep.write_keeps t1.link t1.volatile.tokens (λ x. P (with_filter x t1)) (closed.on_filter t1 i2) handle offset bytes))
+call_in_keeps P closed m is (call.Size handle size) deleting ruling = callbacks_keep.calling_keeps P closed (set_size handle size) (λ t1 i2. (calls_keep.set_size_keeps t1.link t1.volatile.tokens (λ x. P (with_filter x t1)) (closed.on_filter t1 i2) handle size))
+call_in_keeps P closed m is call.Flush deleting ruling = keeps_lifted P (λ s. s.filter) with_filter flush (λ t i. i) (λ t1 i2. (calls_keep.flush_keeps t1.link t1.volatile.tokens (λ x. P (with_filter x t1)) (closed.on_filter t1 i2)))
+call_in_keeps P closed m is (call.Create path) deleting ruling = keeps_lifted P (λ s. s.filter) with_filter (create path NewFile) (λ t i. i) (λ t1 i2. (placements_keep.create_file_keeps t1.link t1.volatile.tokens (λ x. P (with_filter x t1)) (closed.on_filter t1 i2) path))
+call_in_keeps P closed m is (call.Mkdir path) deleting ruling = keeps_lifted P (λ s. s.filter) with_filter (create path NewDir) (λ t i. i) (λ t1 i2. (placements_keep.create_dir_keeps t1.link t1.volatile.tokens (λ x. P (with_filter x t1)) (closed.on_filter t1 i2) path))
+call_in_keeps P closed m is (call.Delete path) deleting ruling = keeps_lifted P (λ s. s.filter) with_filter (delete m path) (λ t i. i) (λ t1 i2. (calls_keep.delete_keeps t1.link t1.volatile.tokens (λ x. P (with_filter x t1)) (closed.on_filter t1 i2) (λ f item x keeps seen cursor idle leaf h. (deleting refl).deletes f item (with_filter x t1) keeps seen cursor idle leaf h) m path))
+call_in_keeps P closed m is (call.Rename from to) deleting ruling = keeps_lifted P (λ s. s.filter) with_filter (rename from to) (λ t i. i) (λ t1 i2. (calls_keep.rename_keeps t1.link t1.volatile.tokens (λ x. P (with_filter x t1)) (closed.on_filter t1 i2) from to))
+call_in_keeps P closed m is (call.List path) deleting ruling = callbacks_keep.calling_keeps P closed (list path) (λ t1 i2. (waits_keep.list_keeps t1.link t1.volatile.tokens (λ x. P (with_filter x t1)) (closed.on_filter t1 i2) path))
+call_in_keeps P closed m is (call.Pin path pin reach) deleting ruling = keeps_lifted P (λ s. s.filter) with_filter (set_pin path pin reach) (λ t i. i) (λ t1 i2. (calls_keep.set_pin_keeps t1.link t1.volatile.tokens (λ x. P (with_filter x t1)) (closed.on_filter t1 i2) path pin reach))
+call_in_keeps P closed m is (call.Hydrate path) deleting ruling = callbacks_keep.calling_keeps P closed (hydrate path) (λ t1 i2. (waits_keep.hydrate_keeps t1.link t1.volatile.tokens (λ x. P (with_filter x t1)) (closed.on_filter t1 i2) path))
+call_in_keeps P closed m is (call.Dehydrate path range) deleting ruling = callbacks_keep.calling_keeps P closed (dehydrate path range) (λ t1 i2. (dehydration_keep.dehydrate_keeps t1.link t1.volatile.tokens (λ x. P (with_filter x t1)) (closed.on_filter t1 i2) path range))
+call_in_keeps P closed m is (call.Info path) deleting ruling = keeps_lifted P (λ s. s.filter) with_filter (info path) (λ t i. i) (λ t1 i2. (calls_keep.info_keeps t1.link t1.volatile.tokens (λ x. P (with_filter x t1)) (closed.on_filter t1 i2) path))
+call_in_keeps P closed m is (call.Ranges path class) deleting ruling = keeps_lifted P (λ s. s.filter) with_filter (ranges path class) (λ t i. i) (λ t1 i2. (calls_keep.ranges_keeps t1.link t1.volatile.tokens (λ x. P (with_filter x t1)) (closed.on_filter t1 i2) path class))
+call_in_keeps P closed m is call.Df deleting ruling = keeps_lifted P (λ s. s.filter) with_filter df (λ t i. i) (λ t1 i2. (calls_keep.df_keeps t1.link t1.volatile.tokens (λ x. P (with_filter x t1)) (closed.on_filter t1 i2)))
+call_in_keeps P closed m is (call.Policy policy) deleting ruling = keeps_lifted P (λ s. s.filter) with_filter (set_policy m policy) (λ t i. i) (λ t1 i2. (calls_keep.set_policy_keeps (λ x. P (with_filter x t1)) m policy is (λ v x h. (ruling refl).rules policy (with_filter x t1) v h)))
+call_in_keeps P closed m is (call.Keep path on) deleting ruling = callbacks_keep.calling_keeps P closed (keep_full path on) (λ t1 i2. (placements_keep.keep_full_keeps t1.link t1.volatile.tokens (λ x. P (with_filter x t1)) (closed.on_filter t1 i2) path on))
+call_in_keeps P closed m is (call.Used path) deleting ruling = keeps_lifted P (λ s. s.filter) with_filter (used path) (λ t i. i) (λ t1 i2. (calls_keep.used_keeps t1.link t1.volatile.tokens (λ x. P (with_filter x t1)) (closed.on_filter t1 i2) path))
+call_in_keeps P closed m is (call.Connect on) deleting ruling = keeps_lifted P (λ s. s.filter) with_filter (connect on) (λ t i. i) (λ t1 i2. (waits_keep.connect_keeps t1.link t1.volatile.tokens (λ x. P (with_filter x t1)) (closed.on_filter t1 i2) on))
 
-pub call_now_keeps : (P : State → Type 0) → Guarded P → (c : Call) → (is_removal c ≡ true → Deleting P) → Preserves P (call_now c)
-call_now_keeps P closed c deleting = record { keeps = λ s h. (call_in_keeps P closed s.mode (closed.replay s h) c deleting).keeps s h }
+pub call_now_keeps : (P : State → Type 0) → Guarded P → (c : Call) → (is_removal c ≡ true → Deleting P) → (is_ruling c ≡ true → Ruling P) → Preserves P (call_now c)
+call_now_keeps P closed c deleting ruling = record { keeps = λ s h. (call_in_keeps P closed s.mode (closed.replay s h) c deleting ruling).keeps s h }
 
 opening : (P : State → Type 0) → Whole P → (s : State) → P s → Opening P (λ r t. P t) s
 opening P whole s h = record { opens = λ p skipped is small. whole.opens p skipped s is h; refused = λ r none. h; fails = whole.fails s h }
@@ -90,19 +91,19 @@ device_event_keeps P whole (device.Crash choice) = record { keeps = λ s h. whol
 device_event_keeps P whole device.Restart = record { keeps = λ s h. kept_leads P (restart_by s.power s) (restart_leads P (λ r t. P t) s (opening P whole s h) s.power) }
 
 pub event_now_keeps : (P : State → Type 0) → Whole P → (e : Event) → is_of mode.Replay e ≡ true → Preserves P (event_now e)
-event_now_keeps P whole (event.Call c) is = call_now_keeps P whole.closed c (λ _. whole.deleting)
+event_now_keeps P whole (event.Call c) is = call_now_keeps P whole.closed c (λ _. whole.deleting) (λ _. whole.ruling)
 event_now_keeps P whole (event.Device e) is = device_event_keeps P whole e
 event_now_keeps P whole (event.Peer e) is = peers_keep.peer_event_keeps P whole.closed e
 event_now_keeps P whole (event.Engine e) is = engine_events_keep.engine_event_keeps P whole.closed whole.entering e
 event_now_keeps P whole (event.Provider e) is = no_way is
 
 -- an event other than a removal and those of the device needs less
-pub other_event_keeps : (P : State → Type 0) → Guarded P → Entering P → (e : Event) → is_of mode.Replay e ≡ true → is_other e ≡ true → Preserves P (event_now e)
-other_event_keeps P closed entering (event.Call c) is other = call_now_keeps P closed c (λ z. no_way (sym (ap (λ (b : Bool). not b) z) ∙ other))
-other_event_keeps P closed entering (event.Device e) is other = no_way other
-other_event_keeps P closed entering (event.Peer e) is other = peers_keep.peer_event_keeps P closed e
-other_event_keeps P closed entering (event.Engine e) is other = engine_events_keep.engine_event_keeps P closed entering e
-other_event_keeps P closed entering (event.Provider e) is other = no_way is
+pub other_event_keeps : (P : State → Type 0) → Guarded P → Entering P → Ruling P → (e : Event) → is_of mode.Replay e ≡ true → is_other e ≡ true → Preserves P (event_now e)
+other_event_keeps P closed entering ruling (event.Call c) is other = call_now_keeps P closed c (λ z. no_way (sym (ap (λ (b : Bool). not b) z) ∙ other)) (λ _. ruling)
+other_event_keeps P closed entering ruling (event.Device e) is other = no_way other
+other_event_keeps P closed entering ruling (event.Peer e) is other = peers_keep.peer_event_keeps P closed e
+other_event_keeps P closed entering ruling (event.Engine e) is other = engine_events_keep.engine_event_keeps P closed entering e
+other_event_keeps P closed entering ruling (event.Provider e) is other = no_way is
 
 -- an event, whatever is chosen of what the rules leave open
 

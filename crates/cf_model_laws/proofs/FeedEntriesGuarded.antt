@@ -38,7 +38,7 @@ use Rattle.cf_model.proofs.TreeLaws.{keeps_bind, keeps_mapped}
 use Rattle.cf_model_laws.specs.Fitting.{Fits, IsCopied, IsVacant, NamesWell, NoEntry, NoMove, AimsFree, IsUnaimed, Meets}
 use Rattle.cf_model_laws.specs.Invariant.{HasEntry, InOrder, IsRight, SameBase, waits_on, IsUnmade, target_in}
 use Rattle.cf_model_laws.specs.Premises.{IsFair}
-use Rattle.cf_model_laws.proofs.EntryLaws.{dir_identity, dir_none, entry_dir_well, file_wants, make_fits, none_none, entry_small, entry_target_in, target_read}
+use Rattle.cf_model_laws.proofs.EntryLaws.{dir_identity, dir_none, entry_dir_well, file_wants, make_fits, none_none, entry_small, entry_target_in, target_read, entry_populates}
 use Rattle.cf_model_laws.proofs.FitEntries.{kind_stays}
 use Rattle.cf_model_laws.proofs.FitItems.{each_changed}
 use Rattle.cf_model_laws.proofs.FoundItems.{both, found_again, found_new, same_self, target_at, target_more, target_stays}
@@ -272,7 +272,7 @@ make_after_at l w es P feeds e p s told some parent new seat h =
     and_then_at Whichever P feeds.steps (make_of s e p) (and_then (try_seen (seen_entry s.filter.volume.next_item e)) (try_mark_now s.filter.volume.next_item)) s tt (λ id k. k)
     (λ fair. let has : HasEntry s.link.remote e = subst (λ (k : Link). HasEntry k.remote e) (sym (feeds.fed s h).link) (told.has (fair_now l w es s (feeds.fed s h) fair)) in
     let m = make_fits s.link.remote s.filter.policy e fair.1 has told.low in
-    ((refl, m.0, m.1), (none_made l w es P feeds (entry_identity e) s h fair, subst (λ (x : Rid). IsUnaimed (items_now s) x) (sym (entry_target_in e (entry_small s.link.remote e fair.1 has))) (new fair)), inl (seat fair))) h
+    ((refl, m.0, m.1), (none_made l w es P feeds (entry_identity e) s h fair, subst (λ (x : Rid). IsUnaimed (items_now s) x) (sym (entry_target_in e (entry_small s.link.remote e fair.1 has))) (new fair)), inl (seat fair), entry_populates s.filter.policy e)) h
     (λ t j led. seen_and_marked l w es P feeds (seen_entry s.filter.volume.next_item e) t
     (λ fair item m. sees_still (seen_entry s.filter.volume.next_item e) (items_now t) (book_now t) item
     (λ own. subst (λ (x : ItemId). StandsAtPath (items_now t) x (seen_entry s.filter.volume.next_item e)) (same_item s.filter.volume.next_item item (eqb-true s.filter.volume.next_item.0 item.0 own)) (stands t led (subst IsFair led.link fair)))) j) where

@@ -40,7 +40,7 @@ use Rattle.cf_model.specs.Skips.{skipped, with_book, with_volatile}
 use Rattle.cf_model.specs.State.{Filter, Link, State, book_now, in_volume, is_replay, items_now, with_filter}
 use Rattle.cf_model.specs.Store.{Held, remote_step}
 use Rattle.cf_model.specs.Trees.{Keeps}
-use Rattle.cf_model.specs.Waits.{Need, accessed_now, all_down, begin_now, begun, connected_again, disconnected, with_time, without_handle}
+use Rattle.cf_model.specs.Waits.{Need, accessed_now, all_down, begin_now, begun, connected_again, disconnected, is_met_now, with_time, without_handle}
 use Rattle.cf_model_laws.specs.Fitting.{Fits, IsLeaf, IsNaming, Touches}
 use Rattle.cf_model_laws.specs.Invariant.{All, IsSound}
 use Rattle.cf_model_laws.specs.Marks.{IsMadeLast, IsMarkedLast, IsUnseen, StandsAtSeen}
@@ -120,7 +120,7 @@ pub record GuardedFilter (l : Link) (tokens : ℕ) (P : Filter → Type 0) : Typ
       → Keeps P (then_do (change_with f c) (then_do (settle item d) done) x)
   pub commits : Preserves P (in_volume commit)
   pub settled : (item : ItemId) (d : Deed) (x : Filter) → EndsOthers d x → P x → Keeps P (settle item d x)
-  pub begins : (n : Need) (x : Filter) → (IsFair l → NeedsWell n x) → P x → Keeps P (reading (begun n) (begin_now n) x)
+  pub begins : (n : Need) (x : Filter) → (IsFair l → NeedsWell n x) → is_met_now n x ≡ false → P x → Keeps P (reading (begun n) (begin_now n) x)
   pub downs : Preserves P (reading all_down tell)
   pub keeps_accessed : (x1 : ItemId) → (s : Filter) → P s → P (accessed x1 s)
   pub keeps_accessed_now : (x1 : Need) → (s : Filter) → P s → P (accessed_now x1 s)
@@ -129,7 +129,6 @@ pub record GuardedFilter (l : Link) (tokens : ℕ) (P : Filter → Type 0) : Typ
   pub keeps_connected_again : (s : Filter) → P s → P (connected_again s)
   pub keeps_disconnected : (s : Filter) → P s → P (disconnected s)
   pub keeps_with_handle : (x1 : ItemId) → (s : Filter) → (IsFair l → IsSeated s.volume.items x1 false) → P s → P (with_handle x1 s)
-  pub keeps_with_policy : (x1 : Policy) → x1.validate ≡ false → (s : Filter) → P s → P (with_policy x1 s)
   pub keeps_with_time : (x1 : ℕ) → (s : Filter) → P s → P (with_time x1 s)
   pub keeps_without_handle : (x1 : Handle) → (s : Filter) → P s → P (without_handle x1 s)
 
@@ -182,6 +181,10 @@ pub record Guarded (P : State → Type 0) : Type 0 where
 pub record Deleting (P : State → Type 0) : Type 0 where
   pub deletes : (f : Book → Book) (item : ItemId) (s : State) → KeepsEntries f → ((b : Book) → (f b).seen ≡ b.seen) → KeepsCursor f → in_use item s.filter ≡ false → (IsFair s.link → IsLeaf (items_now s) item) → P s
       → Keeps (λ x. P (with_filter x s)) (change_with f (change.Remove item) s.filter)
+
+-- and by a policy that an application sets
+pub record Ruling (P : State → Type 0) : Type 0 where
+  pub rules : (p : Policy) (s : State) → p.validate ≡ false → P s → P (with_filter (with_policy p s.filter) s)
 
 -- and by an upload that is entered
 pub record Entering (P : State → Type 0) : Type 0 where

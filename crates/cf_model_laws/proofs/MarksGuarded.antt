@@ -118,7 +118,7 @@ filter_placed l tokens P closed = record {
       (λ a t j. keeps_bind (InFilter l) (settle item d t) (λ _ y. done y) (tell_frame (Placed l) (placed_book l) (told_at item d t) t j) (λ b y m. m)));
   commits = record { keeps = λ x h. keeps_both P (InFilter l) (in_volume commit x) (closed.commits.keeps x h.0) (point_begun l tokens x (closed.sound x h.0) h.1, λ fair. ((h.1 fair).0, (point_placed true x.volume (closed.sound x h.0 fair).of_log (h.1 fair).0, tt))) };
   settled = λ item d x others h. keeps_both P (InFilter l) (settle item d x) (closed.settled item d x others h.0) (tell_frame (Placed l) (placed_book l) (told_at item d x) x h.1);
-  begins = λ n x fit h. keeps_both P (InFilter l) (reading (waiting_begun n) (begin_now n) x) (closed.begins n x fit h.0) (keeps_bind (InFilter l) (tell (waiting_begun n x) (with_own n x)) (λ _ t. Ret (shown.Pending (own_id n x)) t) (tell_frame (Placed l) (placed_book l) (waiting_begun n x) (with_own n x) h.1) (λ a t j. j));
+  begins = λ n x fit unmet h. keeps_both P (InFilter l) (reading (waiting_begun n) (begin_now n) x) (closed.begins n x fit unmet h.0) (keeps_bind (InFilter l) (tell (waiting_begun n x) (with_own n x)) (λ _ t. Ret (shown.Pending (own_id n x)) t) (tell_frame (Placed l) (placed_book l) (waiting_begun n x) (with_own n x) h.1) (λ a t j. j));
   downs = record { keeps = λ x h. keeps_both P (InFilter l) (reading all_down tell x) (closed.downs.keeps x h.0) (tell_frame (Placed l) (placed_book l) (all_down x) x h.1) };
   keeps_accessed = λ item x h. (closed.keeps_accessed item x h.0, placed_book l x.volume (with_access item x.volume.book) (record { cursor = refl; entries = refl; seen = refl; tombstones = refl }) h.1);
   keeps_accessed_now = λ n x h. (closed.keeps_accessed_now n x h.0, access_frame (Placed l) (placed_book l) n.item (is_access n.kind cause.Met) x h.1);
@@ -127,7 +127,6 @@ filter_placed l tokens P closed = record {
   keeps_connected_again = λ x h. (closed.keeps_connected_again x h.0, h.1);
   keeps_disconnected = λ x h. (closed.keeps_disconnected x h.0, h.1);
   keeps_with_handle = λ item x fit h. (closed.keeps_with_handle item x fit h.0, h.1);
-  keeps_with_policy = λ p v x h. (closed.keeps_with_policy p v x h.0, h.1);
   keeps_with_time = λ n x h. (closed.keeps_with_time n x h.0, placed_book l x.volume (with_ticks n x.volume.book) (record { cursor = refl; entries = refl; seen = refl; tombstones = refl }) h.1);
   keeps_without_handle = λ handle x h. (closed.keeps_without_handle handle x h.0, h.1);
 }
@@ -240,6 +239,7 @@ placed_whole = record {
     deletes = λ f item s keeps seen cursor idle leaf h. keeps_both (λ x. Invariant (with_filter x s)) (InFilter s.link) (change_with f (change.Remove item) s.filter) (sound_whole.deleting.deletes f item s keeps seen cursor idle leaf h.0)
         (placed_change s.link s.volatile.tokens f (change.Remove item) s.filter h.0.1 (λ fair. other_placed f (change.Remove item) s.filter (λ z. z) seen (h.1 fair).0.below) h.1);
   };
+  ruling = record { rules = λ p s v h. (sound_whole.ruling.rules p s v h.0, h.1) };
   begins = λ s h. (sound_whole.begins s h.0, h.1);
   breaks = λ s h. (sound_whole.breaks s h.0, h.1);
   crashes = λ s h. (sound_whole.crashes s h.0, h.1);

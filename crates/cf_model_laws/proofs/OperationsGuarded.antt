@@ -35,13 +35,13 @@ use Rattle.cf_model.specs.Effects.{is_directory, is_placeholder, made, size_made
 use Rattle.cf_model.specs.Fetching.{new_item_of}
 use Rattle.cf_model.specs.Identities.{base_bytes, is_untargeted}
 use Rattle.cf_model.specs.Numbers.{root_rid, same_key, usn_after}
-use Rattle.cf_model.specs.Plans.{is_full_population}
+use Rattle.cf_model.specs.Plans.{is_full_population, placeholder_dir}
 use Rattle.cf_model.specs.Soundness.{Each}
 use Rattle.cf_model.specs.Store.{Held}
 use Rattle.cf_model.specs.Trees.{Keeps}
 use Rattle.cf_model.specs.Verdicts.{is_bad_range, is_kept_full, is_pinned, verdict}
 use Rattle.cf_model.proofs.TreeLaws.{keeps_bind}
-use Rattle.cf_model_laws.specs.Fitting.{NamesWell, IsUnaimed}
+use Rattle.cf_model_laws.specs.Fitting.{NamesWell, IsUnaimed, Populates}
 use Rattle.cf_model_laws.specs.Invariant.{All, InOrder, target_in}
 use Rattle.cf_model_laws.specs.Seats.{IsListed}
 use Rattle.cf_model_laws.specs.Premises.{IsFair}
@@ -109,6 +109,17 @@ clean_made p true n = by (is_full_population p.population) where
   by true = refl
   by false = refl
 
+pub dir_populates : (p : Policy) → Populates p (placeholder_dir p)
+dir_populates p = by (is_full_population p.population) refl where
+  by : (b : Bool) → is_full_population p.population ≡ b → Populates p (cond b kind.UnpopulatedDir kind.PlaceholderDir)
+  by true q = q
+  by false q = tt
+
+-- what is made of an entry is populated, but under FULL population
+pub kind_populates : (p : Policy) (directory : Bool) → Populates p (entry_kind p directory)
+kind_populates p true = dir_populates p
+kind_populates p false = tt
+
 next_made : (n m : ℕ) → n ≡ m → max n (m + 1) ≡ m + 1
 next_made n m e = omega (arith, e)
 
@@ -145,17 +156,17 @@ still_listed parent x y same h = (h.0, subst (λ (w : Waiting). live_of w.asks h
 
 -- the changes of the entries, each as it comes, and then the last
 listing_in : (l : Link) (tokens : ℕ) (P : Filter → Type 0) → GuardedFilter l tokens P → (f : Book → Book) → KeepsEntries f → (p : Policy) (parent : ItemId) (es : List Entry) (item : ℕ) (n : Usn) (x : Filter)
-    → SeesFrom f (item + length es) → (IsFair l → All (λ e. NewFits l.remote p (new_item_of e)) es) → (IsFair l → x.volume.next_item.0 ≡ item) → (IsFair l → list_any is_new_entry x.volume.book.entries ≡ false) → (IsFair l → AreOthers x.volume.items es) → next_number x.volume ≡ n → IsListed x parent → P x
+    → SeesFrom f (item + length es) → (IsFair l → All (λ e. NewFits l.remote p (new_item_of e)) es) → (IsFair l → x.volume.next_item.0 ≡ item) → (IsFair l → list_any is_new_entry x.volume.book.entries ≡ false) → (IsFair l → AreOthers x.volume.items es) → next_number x.volume ≡ n → x.policy ≡ p → IsListed x parent → P x
     → Keeps P (changes_with f (entry_changes p parent item n (map new_item_of es) ++ change.Populated parent ∷ []) x)
-listing_in l tokens P closed f keeps p parent [] item n x sees fit next old new number listed h = closed.change f (change.Populated parent) x keeps (λ fair. ((λ z. absurd z), (λ k. sees.0 (max x.volume.next_item.0 2) x.volume.book (room x.volume.next_item.0 item (next fair)) k), sees.1)) (λ id k. k) (λ fair. tt) h where
+listing_in l tokens P closed f keeps p parent [] item n x sees fit next old new number policy listed h = closed.change f (change.Populated parent) x keeps (λ fair. ((λ z. absurd z), (λ k. sees.0 (max x.volume.next_item.0 2) x.volume.book (room x.volume.next_item.0 item (next fair)) k), sees.1)) (λ id k. k) (λ fair. tt) h where
   room : (m k : ℕ) → m ≡ k → k + 0 ≤ max m 2
   room m k e = omega (arith, e)
-listing_in l tokens P closed f keeps p parent (e ∷ es) item n x sees fit next old new number listed h =
+listing_in l tokens P closed f keeps p parent (e ∷ es) item n x sees fit next old new number policy listed h =
     let q : NewItem = new_item_of e in
     let make : Change = change.Make (record { 0 = item }) parent q.name (entry_kind p q.dir) (cond q.dir 0 q.size) q.identity in
     let mark : Change = change.Mark (record { 0 = item }) n in
     keeps_led P (λ u t. After same_book make x t) (change make x) (λ _ t. changes_with f (mark ∷ (entry_changes p parent (item + 1) (record n { place = n.place + 2 }) (map new_item_of es) ++ change.Populated parent ∷ [])) t)
-    (closed.change same_book make x (λ b. refl) (λ fair. ((λ z b. refl), (λ k. k), λ b. refl)) (λ id k. k) (λ fair. ((sym (next fair), (fit fair).0.0, (fit fair).0.1), (inr (unmade_old l.remote x.volume.book.entries (target_in q.identity) (old fair)), (new fair).0), inr listed)) h) (change_after same_book make x)
+    (closed.change same_book make x (λ b. refl) (λ fair. ((λ z b. refl), (λ k. k), λ b. refl)) (λ id k. k) (λ fair. ((sym (next fair), (fit fair).0.0, (fit fair).0.1), (inr (unmade_old l.remote x.volume.book.entries (target_in q.identity) (old fair)), (new fair).0), inr listed, subst (λ (o : Policy). Populates o (entry_kind p q.dir)) (sym policy) (kind_populates p q.dir))) h) (change_after same_book make x)
     (λ u t j a.
     more_in P f mark (change.Populated parent) (entry_changes p parent (item + 1) (record n { place = n.place + 2 }) (map new_item_of es)) t
     (keeps_led P (λ u y. After same_book mark t y) (change mark t) (λ _ y. changes_with f (entry_changes p parent (item + 1) (record n { place = n.place + 2 }) (map new_item_of es) ++ change.Populated parent ∷ []) y)
@@ -179,7 +190,7 @@ listing_in l tokens P closed f keeps p parent (e ∷ es) item n x sees fit next 
     (λ z. k (ap (λ (r : Rid). r.0) (sym (below_root item (named_in e) (subst (λ (m : ℕ). 2 ≤ m) (next fair) (closed.sound x h fair).now.more))) ∙ z)) g))))
     es (new fair).1 (new fair).2)
     (ap (λ (d : ℕ). usn_after d y.volume.place) (b.epoch ∙ a.epoch) ∙ number_after n x.volume.epoch x.volume.place t.volume.place y.volume.place number a.place b.place)
-    (still_listed parent x y (b.waiting ∙ a.waiting) listed) k)))
+    (b.policy ∙ a.policy ∙ policy) (still_listed parent x y (b.waiting ∙ a.waiting) listed) k)))
 
 -- the changes leave what waits and is asked
 waiting_stays : (f : Book → Book) (cs : List Change) (x : Filter) → Leads (λ s. Unit {0}) (λ u t. t.waiting ≡ x.waiting) (changes_with f cs x)
@@ -200,7 +211,7 @@ pub listing_at : (l : Link) (tokens : ℕ) (P : Filter → Type 0) → GuardedFi
 listing_at l tokens P closed f keeps a es x live sees fit old new h =
     checked_at P (entries_tests f a (map new_item_of es) (list_changes a (map new_item_of es) x)) (then_do (changes_with f (list_changes a (map new_item_of es) x)) (then_do (settle a.ask.item (entries_deed a true)) done)) x h
     (λ e. keeps_led P (λ u t. t.waiting ≡ x.waiting) (changes_with f (list_changes a (map new_item_of es) x) x) (λ _ t. then_do (settle a.ask.item (entries_deed a true)) done t)
-    (listing_in l tokens P closed f keeps x.policy a.ask.item es x.volume.next_item.0 (next_number x.volume) x sees fit (λ fair. refl) old new refl
+    (listing_in l tokens P closed f keeps x.policy a.ask.item es x.volume.next_item.0 (next_number x.volume) x sees fit (λ fair. refl) old new refl refl
     (a, live, not_false (is_list a.ask.kind) (head_false (entries_tests f a (map new_item_of es) (list_changes a (map new_item_of es) x) x) e), refl) h)
     (waiting_stays f (list_changes a (map new_item_of es) x) x)
     (λ u t j w. keeps_bind P (settle a.ask.item (entries_deed a true) t) (λ _ y. done y)

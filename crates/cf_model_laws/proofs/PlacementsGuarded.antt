@@ -36,19 +36,20 @@ use Rattle.cf_model.specs.Trees.{Keeps}
 use Rattle.cf_model.specs.Words.{first_of, when}
 use Rattle.cf_model.proofs.ContentItems.{no-identity}
 use Rattle.cf_model.proofs.TreeLaws.{keeps_bind}
-use Rattle.cf_model_laws.specs.Fitting.{NamesWell}
+use Rattle.cf_model_laws.specs.Fitting.{NamesWell, Populates}
 use Rattle.cf_model_laws.specs.Invariant.{All, target_in}
 use Rattle.cf_model_laws.proofs.Plainly.{IsPlain, checked_at, plains_keep}
 use Rattle.cf_model_laws.proofs.AimedTargets.{unaimed_none}
+use Rattle.cf_base.specs.declared.policies.Policy.{Policy}
 
 -- a new file or directory
 
 no_base : (r : Held) (d p : Bool) → NamesWell r d p []
 no_base r d p = record { based = inl refl; aimed = inl refl; bare = λ e. (refl, refl); plain = λ e f. ((refl, refl), refl) }
 
-made_at : (l : Link) (tokens : ℕ) (P : Filter → Type 0) → GuardedFilter l tokens P → (k : Kind) → size_made k 0 ≡ 0 → (p : Place) (x : Filter) → (IsFair l → IsSeated x.volume.items p.parent.id true) → P x
+made_at : (l : Link) (tokens : ℕ) (P : Filter → Type 0) → GuardedFilter l tokens P → (k : Kind) → size_made k 0 ≡ 0 → ((pol : Policy) → Populates pol k) → (p : Place) (x : Filter) → (IsFair l → IsSeated x.volume.items p.parent.id true) → P x
     → Keeps P (on_ok make_planned (plan ((is_some (child_of x.volume.items p.parent.id p.name), code.Exists) ∷ []) (make_and_mark x.volume.next_item (next_number x.volume) p.parent.id p.name k 0 [] false)) x)
-made_at l tokens P closed k zero_size p x seat h = by (is_some (child_of x.volume.items p.parent.id p.name)) where
+made_at l tokens P closed k zero_size populates p x seat h = by (is_some (child_of x.volume.items p.parent.id p.name)) where
   by : (b : Bool) → Keeps P (on_ok make_planned (planned (cond b (Some code.Exists) None) (change.Make x.volume.next_item p.parent.id p.name k 0 [] ∷ [])) x)
   by true = h
   by false =
@@ -56,7 +57,7 @@ made_at l tokens P closed k zero_size p x seat h = by (is_some (child_of x.volum
       (λ e. keeps_bind P (changes (change.Make x.volume.next_item p.parent.id p.name k 0 [] ∷ []) x) (λ _ t. ret (shown.Item x.volume.next_item) t)
       (keeps_bind P (put (change.Make x.volume.next_item p.parent.id p.name k 0 []) x) (λ _ t. ret unit t)
       (closed.change same_book (change.Make x.volume.next_item p.parent.id p.name k 0 []) x (λ b. refl) (λ fair. ((λ z b. refl), (λ k. k), λ b. refl)) (λ id k. k)
-      (λ fair. ((refl, ap (λ (bs : List ℕ). length bs) (no-identity l.remote) ∙ sym zero_size, no_base l.remote _ _), (inl refl, unaimed_none x.volume.items (target_in []) refl), inl (seat fair))) h) (λ u t j. j))
+      (λ fair. ((refl, ap (λ (bs : List ℕ). length bs) (no-identity l.remote) ∙ sym zero_size, no_base l.remote _ _), (inl refl, unaimed_none x.volume.items (target_in []) refl), inl (seat fair), populates x.policy)) h) (λ u t j. j))
       (λ u t j. j))
 
 -- at a place that is found
@@ -68,10 +69,10 @@ at_place l tokens P closed path f k = record { keeps = λ x h. by x h (find_plac
   by x h (Ok p) e = k p x (λ fair. place_seated path p x.volume.next_item.0 x.volume.items (closed.sound x h fair).now.order e) h
 
 pub create_file_keeps : (l : Link) (tokens : ℕ) (P : Filter → Type 0) → GuardedFilter l tokens P → (path : List ℕ) → Preserves P (create path NewFile)
-create_file_keeps l tokens P closed path = at_place l tokens P closed path (create_at NewFile) (made_at l tokens P closed kind.File refl)
+create_file_keeps l tokens P closed path = at_place l tokens P closed path (create_at NewFile) (made_at l tokens P closed kind.File refl (λ pol. tt))
 
 pub create_dir_keeps : (l : Link) (tokens : ℕ) (P : Filter → Type 0) → GuardedFilter l tokens P → (path : List ℕ) → Preserves P (create path NewDir)
-create_dir_keeps l tokens P closed path = at_place l tokens P closed path (create_at NewDir) (made_at l tokens P closed kind.Dir refl)
+create_dir_keeps l tokens P closed path = at_place l tokens P closed path (create_at NewDir) (made_at l tokens P closed kind.Dir refl (λ pol. tt))
 
 pub settle_changed_keeps : (l : Link) (tokens : ℕ) (P : Filter → Type 0) → GuardedFilter l tokens P → (x1 : ItemId) → (x2 : List Change) → Preserves P (settle_changed x1 x2)
 settle_changed_keeps l tokens P closed item [] = keeps_ret P unit

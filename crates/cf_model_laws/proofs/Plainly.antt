@@ -81,13 +81,14 @@ pub record After (f : Book → Book) (c : Change) (x t : Filter) : Type 0 where
   pub place : t.volume.place ≡ x.volume.place + 1
   pub entries : KeepsEntries f → t.volume.book.entries ≡ x.volume.book.entries
   pub waiting : t.waiting ≡ x.waiting
+  pub policy : t.policy ≡ x.policy
 
 after_changed : (f : Book → Book) (c : Change) (x : Filter) (v : Volume) → (v ≡ x.volume) ⊎ (v ≡ with_room_point x.volume) → After f c x (with_volume (put_with_book f c v) x)
-after_changed f c x v (inl e) = subst (λ (w : Volume). After f c x (with_volume (put_with_book f c w) x)) (sym e) (record { items = refl; log = refl; next = refl; epoch = refl; place = refl; entries = λ k. k _ ∙ same_entries c x.volume.book; waiting = refl })
-after_changed f c x v (inr e) = subst (λ (w : Volume). After f c x (with_volume (put_with_book f c w) x)) (sym e) (record { items = refl; log = refl; next = refl; epoch = refl; place = refl; entries = λ k. k _ ∙ same_entries c x.volume.book; waiting = refl })
+after_changed f c x v (inl e) = subst (λ (w : Volume). After f c x (with_volume (put_with_book f c w) x)) (sym e) (record { items = refl; log = refl; next = refl; epoch = refl; place = refl; entries = λ k. k _ ∙ same_entries c x.volume.book; waiting = refl; policy = refl })
+after_changed f c x v (inr e) = subst (λ (w : Volume). After f c x (with_volume (put_with_book f c w) x)) (sym e) (record { items = refl; log = refl; next = refl; epoch = refl; place = refl; entries = λ k. k _ ∙ same_entries c x.volume.book; waiting = refl; policy = refl })
 
-noted_after : (f : Book → Book) (c : Change) (x y t : Filter) → t.volume ≡ y.volume → t.waiting ≡ y.waiting → After f c x y → After f c x t
-noted_after f c x y t e w h = record {
+noted_after : (f : Book → Book) (c : Change) (x y t : Filter) → t.volume ≡ y.volume → t.waiting ≡ y.waiting → t.policy ≡ y.policy → After f c x y → After f c x t
+noted_after f c x y t e w p h = record {
   items = ap (λ (v : Volume). v.items) e ∙ h.items;
   log = ap (λ (v : Volume). v.log) e ∙ h.log;
   next = ap (λ (v : Volume). v.next_item.0) e ∙ h.next;
@@ -95,13 +96,14 @@ noted_after f c x y t e w h = record {
   place = ap (λ (v : Volume). v.place) e ∙ h.place;
   entries = λ k. ap (λ (v : Volume). v.book.entries) e ∙ h.entries k;
   waiting = w ∙ h.waiting;
+  policy = p ∙ h.policy;
 }
 
 abbrev Any : Filter → Type 0
 Any x = Unit {0}
 
 pub change_after : (f : Book → Book) (c : Change) (x : Filter) → Leads Any (λ u t. After f c x t) (change_with f c x)
-change_after f c x = change_leads Any (After f c x) f c x tt tt tt (λ v is. noted_after f c x (with_volume (put_with_book f c v) x) _ refl refl (after_changed f c x v is))
+change_after f c x = change_leads Any (After f c x) f c x tt tt tt (λ v is. noted_after f c x (with_volume (put_with_book f c v) x) _ refl refl refl (after_changed f c x v is))
 
 -- both what is kept and what is led to
 pub kept_with : {S A : Type 0} (P : S → Type 0) (Q : A → S → Type 0) (p : Tree S A) → Keeps P p → Leads (λ s. Unit {0}) Q p → Leads P (λ a s. P s × Q a s) p

@@ -233,7 +233,7 @@ now_keeps : (M : Type 0) (l : Link) (tokens : ℕ) (item : ItemId) (is : Bool) (
 now_keeps M l tokens item true x h = h
 now_keeps M l tokens item false x h = h
 
-policy_sound : (l : Link) (tokens : ℕ) (x : Filter) (v : Bool) → v ≡ false → IsSound l tokens x
+pub policy_sound : (l : Link) (tokens : ℕ) (x : Filter) (v : Bool) → v ≡ false → IsSound l tokens x
     → IsSoundOf NoItem l.remote l.messages tokens x.volume.epoch x.volume.place x.volume.log x.volume.items x.volume.next_item.0 x.volume.points x.volume.book.entries x.waiting.epoch x.waiting.waits x.waiting.asks x.waiting.key_count x.outbox v
 policy_sound l tokens x v e h = record {
   counted = h.counted;
@@ -258,7 +258,7 @@ filter_guarded M l tokens = record {
   touch = λ f c item d x quiet keeps seen on fit h. touch_keeps M l tokens f c item d x keeps on (λ e. (fits_meets l.remote x c (fit e), fits_aims l.remote x c (fit e))) h;
   commits = record { keeps = λ x h. ((h.0, λ e. with_begun l tokens x (h.1 e)), (h.0, λ e. with_sure l tokens x (h.1 e))) };
   settled = λ item d x others h. settle_but M l tokens item d x h.0 (λ e. none_on item l tokens x (h.1 e));
-  begins = λ n x fit h. (begins_keep M l tokens n).keeps x h;
+  begins = λ n x fit unmet h. (begins_keep M l tokens n).keeps x h;
   downs = record { keeps = λ x h. tell_keeps M l tokens (all_down x) x h.0 (λ e. (downed_sound l tokens x (h.1 e), (tt, tt))) };
   keeps_accessed = λ item x h. h;
   keeps_accessed_now = λ n x h. now_keeps M l tokens n.item (is_access n.kind cause.Met) x h;
@@ -267,7 +267,6 @@ filter_guarded M l tokens = record {
   keeps_connected_again = λ x h. h;
   keeps_disconnected = λ x h. h;
   keeps_with_handle = λ item x fit h. h;
-  keeps_with_policy = λ p v x h. (h.0, λ e. policy_sound l tokens x p.validate v (h.1 e));
   keeps_with_time = λ n x h. (h.0, λ e. timed l tokens n x (h.1 e));
   keeps_without_handle = λ handle x h. h;
 }

@@ -70,8 +70,8 @@ on_open_keeps l tokens P closed f f_keeps (Some o) = f_keeps o.item
 pub on_handle_keeps : (l : Link) (tokens : ℕ) (P : Filter → Type 0) → GuardedFilter l tokens P → (x1 : Handle) → (x2 : (ItemId → Arrow Filter Shown)) → ((z1_0 : ItemId) → Preserves P (x2 z1_0)) → Preserves P (on_handle x1 x2)
 on_handle_keeps l tokens P closed h f f_keeps = keeps_reading P (opened_by h) (on_open f) (on_open_keeps l tokens P closed f f_keeps)
 
-pub begin_at : (l : Link) (tokens : ℕ) (P : Filter → Type 0) → GuardedFilter l tokens P → (n : Need) (x : Filter) → (IsFair l → NeedsWell n x) → P x → Keeps P (begin n x)
-begin_at l tokens P closed n x fit h = checked_at P (begin_tests n) (reading (begun n) (begin_now n)) x h (λ e. closed.begins n x fit h)
+pub begin_at : (l : Link) (tokens : ℕ) (P : Filter → Type 0) → GuardedFilter l tokens P → (n : Need) (x : Filter) → (IsFair l → NeedsWell n x) → is_met_now n x ≡ false → P x → Keeps P (begin n x)
+begin_at l tokens P closed n x fit unmet h = checked_at P (begin_tests n) (reading (begun n) (begin_now n)) x h (λ e. closed.begins n x fit unmet h)
 
 pub answer_with_keeps : (l : Link) (tokens : ℕ) (P : Filter → Type 0) → GuardedFilter l tokens P → (x1 : Need) → (x2 : Shown) → Preserves P (answer_with x1 x2)
 answer_with_keeps l tokens P closed n answer = keeps_then P (one (accessed_now n)) (ret answer) (keeps_one P (accessed_now n) (closed.keeps_accessed_now n)) (keeps_ret P answer)
@@ -80,10 +80,10 @@ pub answer_now_keeps : (l : Link) (tokens : ℕ) (P : Filter → Type 0) → Gua
 answer_now_keeps l tokens P closed n = keeps_reading P (end_now n) (answer_with n) (answer_with_keeps l tokens P closed n)
 
 pub need_at : (l : Link) (tokens : ℕ) (P : Filter → Type 0) → GuardedFilter l tokens P → (n : Need) (x : Filter) → (IsFair l → NeedsWell n x) → P x → Keeps P (need n x)
-need_at l tokens P closed n x fit h = by (is_met_now n x) where
-  by : (b : Bool) → Keeps P (answer_or_begin n b x)
-  by true = (answer_now_keeps l tokens P closed n).keeps x h
-  by false = begin_at l tokens P closed n x fit h
+need_at l tokens P closed n x fit h = by (is_met_now n x) refl where
+  by : (b : Bool) → is_met_now n x ≡ b → Keeps P (answer_or_begin n b x)
+  by true e = (answer_now_keeps l tokens P closed n).keeps x h
+  by false e = begin_at l tokens P closed n x fit e h
 
 -- what a file that is here needs
 file_needs : (n : Need) (i : Item) (x : Filter) → n.item ≡ i.id → is_list_wait n.kind ≡ false → (item_of x.volume.items i.id ≡ Some i) × (i.directory ≡ false) → NeedsWell n x

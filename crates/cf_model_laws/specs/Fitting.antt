@@ -6,6 +6,9 @@ use Rattle.cf_base.specs.declared.changes.Change.TheVariants as change
 use Rattle.cf_base.specs.declared.ids.ItemId.{ItemId}
 use Rattle.cf_base.specs.declared.ids.Rid.{Rid}
 use Rattle.cf_base.specs.declared.ids.Usn.{Usn}
+use Rattle.cf_base.specs.declared.items.Kind.{Kind}
+use Rattle.cf_base.specs.declared.items.Kind.TheVariants as kind
+use Rattle.cf_base.specs.declared.policies.Policy.{Policy}
 use Rattle.cf_model.specs.Books.{MoveItem, QueueEntry}
 use Rattle.cf_model.specs.Contents.{base_named, up_to}
 use Rattle.cf_model.specs.Dehydration.{in_use}
@@ -15,6 +18,7 @@ use Rattle.cf_model.specs.Identities.{base_bytes, is_untargeted, target_of}
 use Rattle.cf_model.specs.Items.{Item}
 use Rattle.cf_model.specs.LookUp.{children}
 use Rattle.cf_model.specs.Numbers.{no_usn}
+use Rattle.cf_model.specs.Plans.{is_full_population}
 use Rattle.cf_model.specs.Soundness.{Each}
 use Rattle.cf_model.specs.State.{Filter}
 use Rattle.cf_model.specs.Store.{Held}
@@ -101,6 +105,11 @@ Stands x (change.Move item parent name) =
 Stands x (change.Copy item from parent name) = Each from (λ i. (i.parent.0 ≡ parent.0) × (i.directory ≡ false)) x.volume.items
 Stands x _ = Unit {0}
 
+-- A directory of which no entries are here yet is made under FULL population alone.
+abbrev pub Populates : Policy → Kind → Type 0
+Populates p kind.UnpopulatedDir = is_full_population p.population ≡ true
+Populates p _ = Unit {0}
+
 -- an item below the root that has no child
 abbrev pub IsLeaf : List Item → ItemId → Type 0
 IsLeaf items item = Each item (λ i. i.directory ≡ true → children items i.id ≡ []) items × IsBelowRoot items item
@@ -108,7 +117,7 @@ IsLeaf items item = Each item (λ i. i.directory ≡ true → children items i.i
 -- Of a write or a size: a handle is open on the file. Of a Mark, besides: its item stands at the path seen and no Move of it is on its way, or the last change made the item.
 abbrev pub Fits : Held → Filter → Change → Type 0
 Fits r x (change.Make item parent name kind size identity) =
-    Meets r x (change.Make item parent name kind size identity) × Aims r x (change.Make item parent name kind size identity) × Stands x (change.Make item parent name kind size identity)
+    Meets r x (change.Make item parent name kind size identity) × Aims r x (change.Make item parent name kind size identity) × Stands x (change.Make item parent name kind size identity) × Populates x.policy kind
 Fits r x (change.Move item parent name) = Stands x (change.Move item parent name)
 Fits r x (change.Copy item from parent name) = Meets r x (change.Copy item from parent name) × Stands x (change.Copy item from parent name)
 Fits r x (change.Rebase item identity len at) = Meets r x (change.Rebase item identity len at) × Aims r x (change.Rebase item identity len at)

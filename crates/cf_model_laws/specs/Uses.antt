@@ -23,7 +23,12 @@ abbrev pub is_removal : Call → Bool
 is_removal (call.Delete path) = true
 is_removal _ = false
 
--- an event other than that, and than those of the device
+-- an application sets the policy
+abbrev pub is_ruling : Call → Bool
+is_ruling (call.Policy p) = true
+is_ruling _ = false
+
+-- an event other than a removal, and than those of the device
 abbrev pub is_other : Event → Bool
 is_other (event.Call c) = not (is_removal c)
 is_other (event.Device e) = false
