@@ -2,6 +2,7 @@
 #![tactic(auto)]
 
 mod pairs;
+pub mod rows;
 mod states;
 
 pub use pairs::settled_pairs_compare_equal;
