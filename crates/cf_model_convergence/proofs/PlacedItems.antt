@@ -59,10 +59,10 @@ none_any : {A : Type 0} (f : A → Bool) (xs : List A) → All (λ x. f x ≡ fa
 none_any f [] h = refl
 none_any f (x ∷ xs) h = rw h.0 (none_any f xs h.1)
 
-at_now : (P : List Item → Type 0) (log : List (Usn × Change)) → AtAll P log → P (items_of log)
+pub at_now : (P : List Item → Type 0) (log : List (Usn × Change)) → AtAll P log → P (items_of log)
 at_now P log h = subst (λ (l : List (Usn × Change)). P (items_of l)) (take-length log) (h (length log) (no_more (length log)))
 
-at_more : (P : List Item → Type 0) (log : List (Usn × Change)) (c : Usn × Change) → AtAll P log → P (items_of (log ++ c ∷ [])) → AtAll P (log ++ c ∷ [])
+pub at_more : (P : List Item → Type 0) (log : List (Usn × Change)) (c : Usn × Change) → AtAll P log → P (items_of (log ++ c ∷ [])) → AtAll P (log ++ c ∷ [])
 at_more P log c h last n l = by (cases_lt (length log) n) where
   full : (a b m : ℕ) → a < b → b ≤ m → m ≡ a + 1 → m ≤ b
   full a b m x y z = omega (arith, x, y, z)
@@ -71,7 +71,7 @@ at_more P log c h last n l = by (cases_lt (length log) n) where
   by (inl k) = subst (λ (cs : List (Usn × Change)). P (items_of cs)) (sym (take_all n (log ++ c ∷ []) (full (length log) n (length (log ++ c ∷ [])) k l (length-append log (c ∷ []))))) last
   by (inr k) = subst (λ (cs : List (Usn × Change)). P (items_of cs)) (sym (take-append-le n log (c ∷ []) k)) (h n k)
 
-at_front : (P : List Item → Type 0) (m : ℕ) (log : List (Usn × Change)) → AtAll P log → AtAll P (take m log)
+pub at_front : (P : List Item → Type 0) (m : ℕ) (log : List (Usn × Change)) → AtAll P log → AtAll P (take m log)
 at_front P m log h n l = by (cases_lt (length log) m) where
   under : (a b : ℕ) → a < b → a ≤ b
   under a b k = omega (arith, k)
@@ -214,7 +214,7 @@ placed_knowing = record {
       (effect_trees l.remote x c (next_number x.volume) s.now.more s.now.order (listed_now l tokens x s (h fair) (known fair)) (fit fair) (trees_now l tokens x s (h fair)))
       (effect_bare l.remote x c (next_number x.volume) s.now.order (used_now l tokens x s (h fair)) (fit fair) (bare_now l tokens x s (h fair)));
   ends = λ l e p log hs hn ws wn stays h fair. let k = h fair in record { trees = k.trees; bare = k.bare; opened = k.opened; waited = all_filter (λ w. IsSeated (items_of log) w.item (is_list_wait w.kind)) stays ws k.waited };
-  begins = λ l tokens n x sound fit h fair. placed_begins l tokens x (sound fair) (h fair) n (fit fair);
+  begins = λ l tokens n x sound fit unmet known h fair. placed_begins l tokens x (sound fair) (h fair) n (fit fair);
   opens = λ l tokens item x sound fit h fair.
       let k = h fair in
       record {
@@ -248,7 +248,7 @@ placed_whole = whole_knowing ListsOf Placed placed_runs (Kept AreListsWaited lis
 first_trees : AreTrees (root ∷ [])
 first_trees = record { top = (root, refl, refl, refl); under = ((λ below. absurd (below refl)), tt); reached = ((0, refl), tt) }
 
-at_first : (P : List Item → Type 0) → P (root ∷ []) → AtAll P []
+pub at_first : (P : List Item → Type 0) → P (root ∷ []) → AtAll P []
 at_first P h n l = by n where
   by : (n : ℕ) → P (items_of (take n []))
   by zero = h
@@ -268,13 +268,13 @@ lists_waited remote clusters trace s runs fresh = (run_placed remote clusters tr
 -- so items are trees
 
 module _ (s : State) (h : IsPlacedIn s) (fair : IsFair s.link) where
-  trees : AreTrees (items_now s)
-  trees = trees_now s.link s.volatile.tokens s.filter (h.0.0.1 fair) (h.1 fair)
+  pub placed_trees : AreTrees (items_now s)
+  placed_trees = trees_now s.link s.volatile.tokens s.filter (h.0.0.1 fair) (h.1 fair)
 
   pub placed_tree : (i : Item) → IsBelow s i → (p : Item) × (item_of (items_now s) i.parent ≡ Some p) × (item_line (items_now s) i.id ≡ i.id.0 ∷ item_line (items_now s) p.id)
   placed_tree i below =
-      let u = (all_found (IsUnder (items_now s)) (λ j. j.id.0 == i.id.0) (items_now s) i below.0 trees.under).0 below.1 in
-      let r = (all_found (λ j. (n : ℕ) × Climbs (items_now s) n j.id) (λ j. j.id.0 == i.id.0) (items_now s) i below.0 trees.reached).0 in
+      let u = (all_found (IsUnder (items_now s)) (λ j. j.id.0 == i.id.0) (items_now s) i below.0 placed_trees.under).0 below.1 in
+      let r = (all_found (λ j. (n : ℕ) × Climbs (items_now s) n j.id) (λ j. j.id.0 == i.id.0) (items_now s) i below.0 placed_trees.reached).0 in
       (u.0, u.1, line_parent (items_now s) r.0 i u.0 below.0 below.1 u.1 r.1)
 
   -- and where no list call waits no directory is in use
@@ -294,7 +294,7 @@ module _ (s : State) (h : IsPlacedIn s) (fair : IsFair s.link) where
   pub placed_dirs : (i p : Item) → IsBelow s i → item_of (items_now s) i.parent ≡ Some p → p.directory ≡ true
   placed_dirs i p below up = ap (λ (j : Item). j.directory) (sym (same u.0 (sym u.1 ∙ up))) ∙ u.2 where
     u : (q : Item) × (item_of (items_now s) i.parent ≡ Some q) × (q.directory ≡ true)
-    u = (all_found (IsUnder (items_now s)) (λ j. j.id.0 == i.id.0) (items_now s) i below.0 trees.under).0 below.1
+    u = (all_found (IsUnder (items_now s)) (λ j. j.id.0 == i.id.0) (items_now s) i below.0 placed_trees.under).0 below.1
 
     same : (q : Item) → ◌≡◌ {A = Option Item} (Some q) (Some p) → q ≡ p
     same q e = cc

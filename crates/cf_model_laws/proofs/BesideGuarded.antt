@@ -27,7 +27,7 @@ use Rattle.cf_model.specs.Skips.{skip_line}
 use Rattle.cf_model.specs.State.{Filter, Link, Open, Point, State, Volume, in_volume, with_filter}
 use Rattle.cf_model.specs.Store.{Held}
 use Rattle.cf_model.specs.Trees.{Keeps, Ret}
-use Rattle.cf_model.specs.Waits.{Need, all_down, begin_now, begun, beside, own_id, wait_for, with_own}
+use Rattle.cf_model.specs.Waits.{Need, all_down, begin_now, begun, beside, own_id, wait_for, with_own, is_met_now}
 use Rattle.cf_model.proofs.ArrowLaws.{keeps_each, keeps_one, keeps_then}
 use Rattle.cf_model.proofs.StoreLaws.{step_extends}
 use Rattle.cf_model.proofs.TreeLaws.{keeps_bind}
@@ -36,7 +36,7 @@ use Rattle.cf_model_laws.specs.Invariant.{IsSound}
 use Rattle.cf_model_laws.specs.Premises.{IsFair}
 use Rattle.cf_model_laws.specs.Seats.{IsSeated, NeedsWell}
 use Rattle.cf_model_laws.proofs.ContentLaws.{next_epoch}
-use Rattle.cf_model_laws.proofs.EventsGuarded.{Whole}
+use Rattle.cf_model_laws.proofs.EventsGuarded.{Unruled, Whole, unruled, with_ruling}
 use Rattle.cf_model_laws.proofs.Guarded.{Entering, Guarded, GuardedFilter, Ruling}
 use Rattle.cf_model_laws.proofs.Leading.{kept_leads}
 use Rattle.cf_model_laws.proofs.RightItems.{no_way}
@@ -69,7 +69,7 @@ pub record Beside (F : Fact) : Type 0 where
 pub record Knowing (K : Filter → Type 0) (F : Fact) : Type 0 where
   pub puts : (l : Link) (tokens : ℕ) (c : Change) (x : Filter) → (IsFair l → IsSound l tokens x) → (IsFair l → Fits l.remote x c) → (IsFair l → K x) → Holds F l x → HoldsAfter F l c x
   pub ends : (l : Link) (e p : ℕ) (log : List (Usn × Change)) (hs : List Open) (hn : ℕ) (ws : List Wait) (wn : ℕ) (stays : Wait → Bool) → F l e p log hs hn ws wn → F l e p log hs hn (filter stays ws) wn
-  pub begins : (l : Link) (tokens : ℕ) (n : Need) (x : Filter) → (IsFair l → IsSound l tokens x) → (IsFair l → NeedsWell n x) → Holds F l x
+  pub begins : (l : Link) (tokens : ℕ) (n : Need) (x : Filter) → (IsFair l → IsSound l tokens x) → (IsFair l → NeedsWell n x) → is_met_now n x ≡ false → (IsFair l → K x) → Holds F l x
       → F l x.volume.epoch x.volume.place x.volume.log x.handles x.handle_count (x.waiting.waits ++ wait_for n x ∷ beside n x) (x.waiting.wait_count + length (wait_for n x ∷ beside n x))
   pub opens : (l : Link) (tokens : ℕ) (item : ItemId) (x : Filter) → (IsFair l → IsSound l tokens x) → (IsFair l → IsSeated x.volume.items item false) → Holds F l x
       → F l x.volume.epoch x.volume.place x.volume.log (x.handles ++ record { handle = next_handle x; item = item } ∷ []) (x.handle_count + 1) x.waiting.waits x.waiting.wait_count
@@ -84,7 +84,7 @@ knowing : (F : Fact) → Beside F → Knowing Whatever F
 knowing F b = record {
   puts = λ l tokens c x sound fit known h. b.puts l tokens c x sound fit h;
   ends = b.ends;
-  begins = λ l tokens n x sound fit h. b.begins l tokens n x sound h;
+  begins = λ l tokens n x sound fit unmet known h. b.begins l tokens n x sound h;
   opens = λ l tokens item x sound fit h. b.opens l item x h;
   closes = b.closes;
   stops = b.stops;
@@ -134,7 +134,7 @@ filter_beside K F b l tokens P knows closed = record {
   settled = λ item d x others h. keeps_both P (Holds F l) (settle item d x) (closed.settled item d x others h.0) (settle_beside K F b l item d x h.1);
   begins = λ n x fit unmet h. keeps_both P (Holds F l) (reading (begun n) (begin_now n) x) (closed.begins n x fit unmet h.0)
       (keeps_bind (Holds F l) (tell (begun n x) (with_own n x)) (λ _ t. Ret (shown.Pending (own_id n x)) t)
-      (tell_beside F l (begun n x) (with_own n x) (b.ends l x.volume.epoch x.volume.place x.volume.log x.handles x.handle_count (x.waiting.waits ++ wait_for n x ∷ beside n x) (x.waiting.wait_count + length (wait_for n x ∷ beside n x)) _ (b.begins l tokens n x (closed.sound x h.0) fit h.1))) (λ a t j. j));
+      (tell_beside F l (begun n x) (with_own n x) (b.ends l x.volume.epoch x.volume.place x.volume.log x.handles x.handle_count (x.waiting.waits ++ wait_for n x ∷ beside n x) (x.waiting.wait_count + length (wait_for n x ∷ beside n x)) _ (b.begins l tokens n x (closed.sound x h.0) fit unmet (knows x h.0) h.1))) (λ a t j. j));
   downs = record { keeps = λ x h. keeps_both P (Holds F l) (reading all_down tell x) (closed.downs.keeps x h.0) (tell_beside F l (all_down x) x (b.stops l x.volume.epoch x.volume.place x.volume.log x.handles x.handle_count x.waiting.waits x.waiting.wait_count h.1)) };
   keeps_accessed = λ item x h. (closed.keeps_accessed item x h.0, h.1);
   keeps_accessed_now = λ n x h. (closed.keeps_accessed_now n x h.0, accessed_beside F l n.item (is_access n.kind cause.Met) x h.1);
@@ -222,21 +222,23 @@ pub record KnowingRuns (K : Filter → Type 0) (F : Fact) : Type 0 where
   pub crashes : (l : Link) (e p : ℕ) (log : List (Usn × Change)) (hs : List Open) (hn : ℕ) (ws : List Wait) (wn : ℕ) → F l e p log hs hn ws wn → F l e p log [] hn [] wn
   pub opens : (l : Link) (p : Point) (epoch : ℕ) (v : Volume) (hs : List Open) (hn : ℕ) (ws : List Wait) (wn : ℕ) → v.epoch < epoch → F l v.epoch v.place v.log hs hn ws wn → F l epoch 0 (take p.count v.log) [] 0 [] 0
 
-pub whole_knowing : (K : Filter → Type 0) (F : Fact) → KnowingRuns K F → (P : State → Type 0) → ((s : State) → P s → IsFair s.link → K s.filter) → Whole P → Whole (λ s. P s × HoldsIn F s)
-whole_knowing K F b P knows whole = record {
-  closed = guarded_knowing K F b.knowing P knows whole.closed;
-  entering = entering_beside F P whole.entering;
+pub unruled_knowing : (K : Filter → Type 0) (F : Fact) → KnowingRuns K F → (P : State → Type 0) → ((s : State) → P s → IsFair s.link → K s.filter) → Unruled P → Unruled (λ s. P s × HoldsIn F s)
+unruled_knowing K F b P knows rest = record {
+  closed = guarded_knowing K F b.knowing P knows rest.closed;
+  entering = entering_beside F P rest.entering;
   deleting = record {
-    deletes = λ f item s keeps seen cursor idle leaf h. keeps_both (λ x. P (with_filter x s)) (Holds F s.link) (change_with f (change.Remove item) s.filter) (whole.deleting.deletes f item s keeps seen cursor idle leaf h.0)
-        (changed_beside F s.link f (change.Remove item) s.filter h.1 (b.removes s.link s.volatile.tokens item s.filter ((whole.closed.on_filter s h.0).sound s.filter h.0) idle leaf h.1));
+    deletes = λ f item s keeps seen cursor idle leaf h. keeps_both (λ x. P (with_filter x s)) (Holds F s.link) (change_with f (change.Remove item) s.filter) (rest.deleting.deletes f item s keeps seen cursor idle leaf h.0)
+        (changed_beside F s.link f (change.Remove item) s.filter h.1 (b.removes s.link s.volatile.tokens item s.filter ((rest.closed.on_filter s h.0).sound s.filter h.0) idle leaf h.1));
   };
-  ruling = ruling_beside F P whole.ruling;
-  begins = λ s h. (whole.begins s h.0, h.1);
-  breaks = λ s h. (whole.breaks s h.0, h.1);
-  crashes = λ s h. (whole.crashes s h.0, b.crashes s.link s.filter.volume.epoch s.filter.volume.place s.filter.volume.log s.filter.handles s.filter.handle_count s.filter.waiting.waits s.filter.waiting.wait_count h.1);
-  fails = λ s h. (whole.fails s h.0, h.1);
-  opens = λ p skipped s is h. (whole.opens p skipped s is h.0, b.opens s.link p (epoch_after skipped s) s.filter.volume s.filter.handles s.filter.handle_count s.filter.waiting.waits s.filter.waiting.wait_count (next_epoch s.filter.volume.epoch skipped) h.1);
+  begins = λ s h. (rest.begins s h.0, h.1);
+  breaks = λ s h. (rest.breaks s h.0, h.1);
+  crashes = λ s h. (rest.crashes s h.0, b.crashes s.link s.filter.volume.epoch s.filter.volume.place s.filter.volume.log s.filter.handles s.filter.handle_count s.filter.waiting.waits s.filter.waiting.wait_count h.1);
+  fails = λ s h. (rest.fails s h.0, h.1);
+  opens = λ p skipped s is h. (rest.opens p skipped s is h.0, b.opens s.link p (epoch_after skipped s) s.filter.volume s.filter.handles s.filter.handle_count s.filter.waiting.waits s.filter.waiting.wait_count (next_epoch s.filter.volume.epoch skipped) h.1);
 }
+
+pub whole_knowing : (K : Filter → Type 0) (F : Fact) → KnowingRuns K F → (P : State → Type 0) → ((s : State) → P s → IsFair s.link → K s.filter) → Whole P → Whole (λ s. P s × HoldsIn F s)
+whole_knowing K F b P knows whole = with_ruling (λ s. P s × HoldsIn F s) (unruled_knowing K F b P knows (unruled P whole)) (ruling_beside F P whole.ruling)
 
 pub whole_beside : (F : Fact) → BesideRuns F → (P : State → Type 0) → Whole P → Whole (λ s. P s × HoldsIn F s)
 whole_beside F b P whole =

@@ -15,7 +15,7 @@ use Rattle.cf_model.specs.Missing.{span_of}
 use Rattle.cf_model.specs.Plans.{NewDir, NewFile}
 use Rattle.cf_model.specs.State.{State, with_filter, Point, is_replay}
 use Rattle.cf_model.specs.Waits.{cancel, close, connect, get, hydrate, list, read, tick}
-use Rattle.cf_model_laws.specs.Uses.{is_other, is_removal, is_ruling}
+use Rattle.cf_model_laws.specs.Uses.{is_other, is_removal, is_ruling, sets_policy}
 use Rattle.cf_model_laws.proofs.CallbacksGuarded as callbacks_keep
 use Rattle.cf_model_laws.proofs.CallsGuarded as calls_keep
 use Rattle.cf_model_laws.proofs.DehydrationGuarded as dehydration_keep
@@ -32,16 +32,27 @@ use Rattle.cf_base.specs.declared.answers.Answer.{Answer}
 use Rattle.cf_base.specs.declared.answers.Shown.{Shown}
 use Rattle.cf_base.specs.declared.codes.Code.{Code}
 use Rattle.cf_base.specs.declared.policies.Mode.TheVariants as mode
-use Rattle.cf_model.specs.Lawful.{Runs}
+use Rattle.cf_model.specs.Lawful.{IsStep, Runs}
 use Rattle.cf_model.specs.Points.{Opens}
 use Rattle.cf_model.specs.Restarts.{crashed, epoch_after, failed_open, restart_by, with_opened}
-use Rattle.cf_model.specs.Trees.{Choices, play}
+use Rattle.cf_model.specs.Trees.{Choices, Keeps, play}
 use Rattle.cf_model.proofs.TreeLaws.{kept_by_walk}
 use Rattle.cf_model_laws.proofs.Leading.{kept_leads}
 use Rattle.cf_model_laws.proofs.OpeningLaws.{Opening, restart_leads}
 use Rattle.cf_model_laws.proofs.RightItems.{no_way}
 
--- What the rest of an event keeps.
+-- What the rest of an event keeps, which sets no policy.
+pub record Unruled (P : State → Type 0) : Type 0 where
+  pub closed : Guarded P
+  pub entering : Entering P
+  pub deleting : Deleting P
+  pub begins : (s : State) → P s → P (begun s)
+  pub breaks : (s : State) → P s → P (broken s)
+  pub crashes : (s : State) → P s → P (crashed s)
+  pub fails : (s : State) → P s → P (failed_open s)
+  pub opens : (p : Point) (skipped : ℕ) (s : State) → Opens s.filter.volume.points p → P s → P (with_opened p (epoch_after skipped s) s)
+
+-- and of any
 pub record Whole (P : State → Type 0) : Type 0 where
   pub closed : Guarded P
   pub entering : Entering P
@@ -52,6 +63,12 @@ pub record Whole (P : State → Type 0) : Type 0 where
   pub crashes : (s : State) → P s → P (crashed s)
   pub fails : (s : State) → P s → P (failed_open s)
   pub opens : (p : Point) (skipped : ℕ) (s : State) → Opens s.filter.volume.points p → P s → P (with_opened p (epoch_after skipped s) s)
+
+pub unruled : (P : State → Type 0) → Whole P → Unruled P
+unruled P whole = record { closed = whole.closed; entering = whole.entering; deleting = whole.deleting; begins = whole.begins; breaks = whole.breaks; crashes = whole.crashes; fails = whole.fails; opens = whole.opens }
+
+pub with_ruling : (P : State → Type 0) → Unruled P → Ruling P → Whole P
+with_ruling P rest ruling = record { closed = rest.closed; entering = rest.entering; deleting = rest.deleting; ruling = ruling; begins = rest.begins; breaks = rest.breaks; crashes = rest.crashes; fails = rest.fails; opens = rest.opens }
 
 call_in_keeps : (P : State → Type 0) → Guarded P → (m : Mode) → is_replay m ≡ true → (c : Call) → (is_removal c ≡ true → Deleting P) → (is_ruling c ≡ true → Ruling P) → Preserves P (call_in m c)
 call_in_keeps P closed m is (call.Open path) deleting ruling = keeps_lifted P (λ s. s.filter) with_filter (open_file path) (λ t i. i) (λ t1 i2. (calls_keep.open_file_keeps t1.link t1.volatile.tokens (λ x. P (with_filter x t1)) (closed.on_filter t1 i2) path))
@@ -82,20 +99,23 @@ call_in_keeps P closed m is (call.Connect on) deleting ruling = keeps_lifted P (
 pub call_now_keeps : (P : State → Type 0) → Guarded P → (c : Call) → (is_removal c ≡ true → Deleting P) → (is_ruling c ≡ true → Ruling P) → Preserves P (call_now c)
 call_now_keeps P closed c deleting ruling = record { keeps = λ s h. (call_in_keeps P closed s.mode (closed.replay s h) c deleting ruling).keeps s h }
 
-opening : (P : State → Type 0) → Whole P → (s : State) → P s → Opening P (λ r t. P t) s
-opening P whole s h = record { opens = λ p skipped is small. whole.opens p skipped s is h; refused = λ r none. h; fails = whole.fails s h }
+opening : (P : State → Type 0) → Unruled P → (s : State) → P s → Opening P (λ r t. P t) s
+opening P rest s h = record { opens = λ p skipped is small. rest.opens p skipped s is h; refused = λ r none. h; fails = rest.fails s h }
 
-device_event_keeps : (P : State → Type 0) → Whole P → (e : DeviceEvent) → Preserves P (device_event e)
-device_event_keeps P whole (device.Stop calls) = keeps_ret P shown.Done
-device_event_keeps P whole (device.Crash choice) = record { keeps = λ s h. whole.crashes s h }
-device_event_keeps P whole device.Restart = record { keeps = λ s h. kept_leads P (restart_by s.power s) (restart_leads P (λ r t. P t) s (opening P whole s h) s.power) }
+device_event_keeps : (P : State → Type 0) → Unruled P → (e : DeviceEvent) → Preserves P (device_event e)
+device_event_keeps P rest (device.Stop calls) = keeps_ret P shown.Done
+device_event_keeps P rest (device.Crash choice) = record { keeps = λ s h. rest.crashes s h }
+device_event_keeps P rest device.Restart = record { keeps = λ s h. kept_leads P (restart_by s.power s) (restart_leads P (λ r t. P t) s (opening P rest s h) s.power) }
+
+unruled_event_keeps : (P : State → Type 0) → Unruled P → (e : Event) → is_of mode.Replay e ≡ true → (sets_policy e ≡ true → Ruling P) → Preserves P (event_now e)
+unruled_event_keeps P rest (event.Call c) is ruling = call_now_keeps P rest.closed c (λ _. rest.deleting) ruling
+unruled_event_keeps P rest (event.Device e) is ruling = device_event_keeps P rest e
+unruled_event_keeps P rest (event.Peer e) is ruling = peers_keep.peer_event_keeps P rest.closed e
+unruled_event_keeps P rest (event.Engine e) is ruling = engine_events_keep.engine_event_keeps P rest.closed rest.entering e
+unruled_event_keeps P rest (event.Provider e) is ruling = no_way is
 
 pub event_now_keeps : (P : State → Type 0) → Whole P → (e : Event) → is_of mode.Replay e ≡ true → Preserves P (event_now e)
-event_now_keeps P whole (event.Call c) is = call_now_keeps P whole.closed c (λ _. whole.deleting) (λ _. whole.ruling)
-event_now_keeps P whole (event.Device e) is = device_event_keeps P whole e
-event_now_keeps P whole (event.Peer e) is = peers_keep.peer_event_keeps P whole.closed e
-event_now_keeps P whole (event.Engine e) is = engine_events_keep.engine_event_keeps P whole.closed whole.entering e
-event_now_keeps P whole (event.Provider e) is = no_way is
+event_now_keeps P whole e is = unruled_event_keeps P (unruled P whole) e is (λ _. whole.ruling)
 
 -- an event other than a removal and those of the device needs less
 pub other_event_keeps : (P : State → Type 0) → Guarded P → Entering P → Ruling P → (e : Event) → is_of mode.Replay e ≡ true → is_other e ≡ true → Preserves P (event_now e)
@@ -111,14 +131,17 @@ outcome_keeps : (P : State → Type 0) → ((s : State) → P s → P (broken s)
 outcome_keeps P breaks (Some r, s) h = h
 outcome_keeps P breaks (None, s) h = breaks s h
 
-answered_keeps : (P : State → Type 0) → Whole P → (why : Option Code) (c : Choices) (s : State) (e : Event) → is_of mode.Replay e ≡ true → P s → P (answered why c s e).0
-answered_keeps P whole (Some r) c s e is h = h
-answered_keeps P whole None c s e is h =
-    let d : Choices = choices_in (may_stop e) c in
-    outcome_keeps P whole.breaks (play d (tree_of e s)) (kept_by_walk P d.stop d.forks d.tellings (tree_of e s) ((event_now_keeps P whole e is).keeps (begun s) (whole.begins s h)))
+answered_by : (P : State → Type 0) → ((s : State) → P s → P (broken s)) → (why : Option Code) (c : Choices) (s : State) (e : Event) → P s → Keeps P (tree_of e s) → P (answered why c s e).0
+answered_by P breaks (Some r) c s e h k = h
+answered_by P breaks None c s e h k = let d : Choices = choices_in (may_stop e) c in outcome_keeps P breaks (play d (tree_of e s)) (kept_by_walk P d.stop d.forks d.tellings (tree_of e s) k)
+
+-- an event of a run, by what its part keeps
+pub step_by : (P : State → Type 0) → ((s : State) → P s → P (broken s)) → (s : State) (e : Event) (a : Answer) (t : State) → IsStep mode.Replay s e a t → P s → Keeps P (tree_of e s) → P t
+step_by P breaks s e a t is h k = subst (λ (x : State × Answer). P x.0) is.2 (answered_by P breaks (no_volume (needs_volume e) s.power) is.1 s e h k)
+
+pub step_keeps : (P : State → Type 0) → Unruled P → (s : State) (e : Event) (a : Answer) (t : State) → IsStep mode.Replay s e a t → (sets_policy e ≡ true → Ruling P) → P s → P t
+step_keeps P rest s e a t is ruling h = step_by P rest.breaks s e a t is h ((unruled_event_keeps P rest e is.0 ruling).keeps (begun s) (rest.begins s h))
 
 pub runs_keep : (P : State → Type 0) → Whole P → (s : State) (trace : List (Event × Answer)) (t : State) → Runs mode.Replay s trace t → P s → P t
 runs_keep P whole s [] t h i = subst P (sym h) i
-runs_keep P whole s (p ∷ ps) t h i =
-    let mid : P h.0 = subst (λ (x : State × Answer). P x.0) h.1.2 (answered_keeps P whole (no_volume (needs_volume p.0) s.power) h.1.1 s p.0 h.1.0 i) in
-    runs_keep P whole h.0 ps t h.2 mid
+runs_keep P whole s (p ∷ ps) t h i = runs_keep P whole h.0 ps t h.2 (step_keeps P (unruled P whole) s p.0 p.1 h.0 h.1 (λ _. whole.ruling) i)

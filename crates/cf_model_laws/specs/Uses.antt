@@ -28,6 +28,10 @@ abbrev pub is_ruling : Call → Bool
 is_ruling (call.Policy p) = true
 is_ruling _ = false
 
+abbrev pub sets_policy : Event → Bool
+sets_policy (event.Call c) = is_ruling c
+sets_policy _ = false
+
 -- an event other than a removal, and than those of the device
 abbrev pub is_other : Event → Bool
 is_other (event.Call c) = not (is_removal c)

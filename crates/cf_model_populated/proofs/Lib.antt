@@ -1,0 +1,4 @@
+pub mod PolicyGuarded
+pub mod PopulatedItems
+pub mod PopulatedRuns
+pub mod PopulatedSyncs

@@ -1,0 +1,5 @@
+//! Directories that are populated from their start: laws over the definitions.
+#![tactic(auto)]
+
+pub mod directories;
+pub mod syncs;
