@@ -18,6 +18,11 @@ use Rattle.cf_volume.specs.Calls.{IsCause, IsFullness, IsKept, IsPut, IsRefused,
 pub not_device : (c : Code) → IsFullness c → c ≡ code.Device → ⊥
 not_device c full is = subst IsFullness is full
 
+-- a stop is that of the device, or no memory was left
+pub failed_stop : (s : Stop) (e : CallError) → e ≡ fail_of s → StopsOnly e
+failed_stop Device e is = subst StopsOnly (sym is) refl
+failed_stop OutOfMemory e is = subst StopsOnly (sym is) tt
+
 -- the error of a call is handed on
 pub handed_on : {A : Type 0} → (P : CallError → Type 0) (r : Result A CallError) (e : CallError) → IsErrAnd r (λ y. y ≡ e) → P e → IfErr r P
 handed_on {A} P (Ok a) e is h = tt

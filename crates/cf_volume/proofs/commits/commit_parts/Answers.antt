@@ -6,7 +6,11 @@ use Rattle.cf_volume_points.specs.Known.{Known}
 use Rattle.cf_volume.proofs.Committed.{commit_leaves, commit_room, commit_sure, committed_is, committed_steady, is_writable, not_yes}
 use Rattle.cf_volume.specs.Notes.{NotesNothing}
 use Rattle.cf_volume.specs.Steady.{Steady, known_of}
+use Rattle.cf_volume.proofs.Stopped.{failed_stop}
 use Rattle.cf_volume.proofs.commits.commit_parts.Goals as goal
+
+pub returns-in-Err-clause-only : goal.returns-in-Err-clause-only
+returns-in-Err-clause-only g c = λ v at. failed_stop c.in-Err.stop c.fail_of.result c.fail_of.ensures
 
 pub returns-then-not-can_be_written-clause-only : goal.returns-then-not-can_be_written-clause-only
 returns-then-not-can_be_written-clause-only g c = λ v at.
