@@ -1,2 +1,3 @@
 pub mod ApartRows
+pub mod OrderlyTrees
 pub mod PathsAlike

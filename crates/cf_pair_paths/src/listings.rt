@@ -1,6 +1,6 @@
 //! What stands at each path.
 
-ghost use Rattle.std.specs.Prelude.{◌≡◌, IfOk, not};
+ghost use Rattle.std.specs.Prelude.{◌≡◌, IfOk};
 ghost use Rattle.cf_model.specs.State.{State, items_now};
 ghost use Rattle.cf_pair_paths.specs.PathsByRows.{is_below_root, path_row_in, path_rows_in};
 ghost use Rattle.cf_pair_traces.specs.Pairs.{path_rows};

@@ -22,13 +22,14 @@ use Rattle.cf_model_convergence.proofs.Lines.{same_rid}
 use Rattle.cf_model_convergence.proofs.TidyItems.{found_rid}
 use Rattle.cf_pair_compare.specs.First.{AgreeAt, AreAlike, IsFirst, row_at}
 use Rattle.cf_pair_compare.specs.declared.path_rows.PathRow.{PathRow}
+use Rattle.cf_pair_events.specs.declared.answers.PairAnswer.TheVariants as answer
 use Rattle.cf_pair_events.specs.declared.comparisons.Comparison.{Comparison}
 use Rattle.cf_pair_events.specs.declared.comparisons.Comparison.TheVariants as comparison
 use Rattle.cf_pair_model.specs.Seen.{held_seen}
 use Rattle.cf_pair_model.specs.declared.devices.Device.TheVariants as device
 use Rattle.cf_pair_traces.proofs.EqualTrees.{contents_agree}
 use Rattle.cf_pair_traces.specs.Pairs.{Compares, ComparesBy, Pair, facing, no_comparison, path_row, path_rows}
-use Rattle.cf_pair_settled.specs.Settled.{IsOrderly, is_settled_on, is_settled_whole}
+use Rattle.cf_pair_settled.specs.Settled.{AreSettled, IsOrderly, SaysEqual, is_settled_whole}
 use Rattle.cf_pair_settled.proofs.Agreement.{HasLike, HasLikeFor, agree}
 use Rattle.cf_pair_settled.proofs.Paths.{joined, names_alike, next_names, path_joined, same_list}
 use Rattle.cf_pair_settled.proofs.Twins.{Shows, like, shown_here, shows}
@@ -124,12 +125,18 @@ contents_equal s t path i j same o q ours theirs on ri rj di dj =
 -- two that share a remote
 
 -- it is so whatever the remote holds
-pub facing_orderly : (held : Held) (s : State) → IsOrderly s → IsOrderly (facing held s)
-facing_orderly held s o = record { found = o.found; trees = o.trees; apart = o.apart; named = o.named }
+facing_orderly : (held : Held) (s : State) → IsOrderly s → IsOrderly (facing held s)
+facing_orderly held s o = record { found = o.found; trees = o.trees; apart = o.apart; plain = o.plain; spelled = o.spelled }
 
-pub pair_says_equal : (p : Pair) → IsOrderly p.first → IsOrderly p.second → is_settled_on device.First p ≡ true → is_settled_on device.Second p ≡ true → no_comparison p.first.power p.second.power ≡ None → Compares p.first p.second comparison.Equal
-pair_says_equal p o q ours theirs on = says_equal (facing p.held p.first) (facing (held_seen device.Second p.held) p.second) refl (facing_orderly p.held p.first o) (facing_orderly (held_seen device.Second p.held) p.second q) ours theirs on
+module _ (p : Pair) (o : IsOrderly p.first) (q : IsOrderly p.second) where
+  first_orderly : IsOrderly (facing p.held p.first)
+  first_orderly = facing_orderly p.held p.first o
 
-pub pair_says_only_equal : (p : Pair) (c : Comparison) → IsOrderly p.first → IsOrderly p.second → is_settled_on device.First p ≡ true → is_settled_on device.Second p ≡ true → no_comparison p.first.power p.second.power ≡ None → Compares p.first p.second c → c ≡ comparison.Equal
-pair_says_only_equal p c o q ours theirs on h =
-    says_only_equal (facing p.held p.first) (facing (held_seen device.Second p.held) p.second) c refl (facing_orderly p.held p.first o) (facing_orderly (held_seen device.Second p.held) p.second q) ours theirs on h
+  second_orderly : IsOrderly (facing (held_seen device.Second p.held) p.second)
+  second_orderly = facing_orderly (held_seen device.Second p.held) p.second q
+
+  pub pair_says_equal : AreSettled p → no_comparison p.first.power p.second.power ≡ None → Compares p.first p.second comparison.Equal
+  pair_says_equal settled on = says_equal (facing p.held p.first) (facing (held_seen device.Second p.held) p.second) refl first_orderly second_orderly settled.0 settled.1 on
+
+  pub pair_says_only : (c : Comparison) → Compares p.first p.second c → SaysEqual (answer.Comparison c) p
+  pair_says_only c h = λ settled spelled on. says_only_equal (facing p.held p.first) (facing (held_seen device.Second p.held) p.second) c refl first_orderly second_orderly settled.0 settled.1 on h

@@ -30,7 +30,7 @@ use Rattle.cf_model_convergence.proofs.SettledBytes.{settled_like}
 use Rattle.cf_model_convergence.proofs.SettledItems.{passed}
 use Rattle.cf_model_convergence.proofs.TakenKnown.{same_is}
 use Rattle.cf_model_convergence.proofs.TidyItems.{found_rid}
-use Rattle.cf_pair_settled.specs.Settled.{IsOrderly, has_no_base, is_filled, is_free, is_named, is_settled_whole}
+use Rattle.cf_pair_settled.specs.Settled.{IsOrderly, has_no_base, is_filled, is_free, is_settled_whole, is_spelled}
 use Rattle.cf_pair_settled.proofs.Paths.{no_names, same_list}
 
 -- tests
@@ -60,12 +60,8 @@ pub record IsSpelled (i : Item) : Type 0 where
   pub bare : i.directory ≡ true → ((base_rid i).0 ≡ 0) × ((base_version i).0 ≡ 0)
 
 -- an item with a target is a placeholder with its identity
-targeted : (i : Item) → (i.id.0 ≡ 1 → ⊥) → is_named i ≡ true → nat_lt 0 (target_of i).0 ≡ true → IsSpelled i
-targeted i below e some = by i.placeholder refl e where
-  none : (identity : List ℕ) → is_empty identity ≡ true → identity ≡ []
-  none [] z = refl
-  none (x ∷ xs) z = no_way z
-
+targeted : (i : Item) → (i.id.0 ≡ 1 → ⊥) → (i.placeholder ≡ false → i.identity ≡ []) → is_spelled i ≡ true → nat_lt 0 (target_of i).0 ≡ true → IsSpelled i
+targeted i below plain e some = by i.placeholder refl e where
   no_target : i.identity ≡ [] → (target_of i).0 ≡ 0
   no_target z = one (i.id.0 == 1) refl where
     one : (b : Bool) → (i.id.0 == 1) ≡ b → (target_of i).0 ≡ 0
@@ -76,13 +72,13 @@ targeted i below e some = by i.placeholder refl e where
   based false q z = no_way z
   based true q z = (eqb-true (base_rid i).0 0 (left_true ((base_rid i).0 == 0) ((base_version i).0 == 0) q), eqb-true (base_version i).0 0 (right_true ((base_rid i).0 == 0) ((base_version i).0 == 0) q))
 
-  by : (b : Bool) → i.placeholder ≡ b → cond b (same i.identity (identity_of (target_of i) (base_rid i) (base_version i)) && (not i.directory || has_no_base i)) (is_empty i.identity) ≡ true → IsSpelled i
+  by : (b : Bool) → i.placeholder ≡ b → (not b || (same i.identity (identity_of (target_of i) (base_rid i) (base_version i)) && (not i.directory || has_no_base i))) ≡ true → IsSpelled i
   by true p q = record {
     placeholder = p;
     identity = same_is i.identity (identity_of (target_of i) (base_rid i) (base_version i)) (left_true (same i.identity (identity_of (target_of i) (base_rid i) (base_version i))) (not i.directory || has_no_base i) q);
     bare = based i.directory (right_true (same i.identity (identity_of (target_of i) (base_rid i) (base_version i))) (not i.directory || has_no_base i) q);
   }
-  by false p q = no_way (sym (ap (λ (n : ℕ). nat_lt 0 n) (no_target (none i.identity q))) ∙ some)
+  by false p q = no_way (sym (ap (λ (n : ℕ). nat_lt 0 n) (no_target (plain p))) ∙ some)
 
 -- What stands for an item of the remote: its path, its kind and its identity are fixed by that.
 pub record Shows (s : State) (r : Stored) (i : Item) : Type 0 where
@@ -125,8 +121,11 @@ module _ (s : State) (o : IsOrderly s) (whole : is_settled_whole s ≡ true) whe
   full : (i : Item) → Stands i → i.directory ≡ true → i.populated ≡ true
   full i there dir = second (not i.directory) i.populated ((all_found (λ j. is_filled j ≡ true) (λ j. j.id.0 == i.id.0) (items_now s) i there (passed is_filled (items_now s) (right_true (is_settled true s && list_all (is_free s) (items_now s)) (list_all is_filled (items_now s)) whole))).0) (λ z. no_way (sym (ap (λ (b : Bool). not b) dir) ∙ z))
 
-  named : (i : Item) → Stands i → is_named i ≡ true
-  named i there = (all_found (λ j. is_named j ≡ true) (λ j. j.id.0 == i.id.0) (items_now s) i there (passed is_named (items_now s) o.named)).0
+  is_plain : (i : Item) → Stands i → i.placeholder ≡ false → i.identity ≡ []
+  is_plain i there = (all_found (λ j. j.placeholder ≡ false → j.identity ≡ []) (λ j. j.id.0 == i.id.0) (items_now s) i there o.plain).0
+
+  own_spelled : (i : Item) → Stands i → is_spelled i ≡ true
+  own_spelled i there = (all_found (λ j. is_spelled j ≡ true) (λ j. j.id.0 == i.id.0) (items_now s) i there (passed is_spelled (items_now s) o.spelled)).0
 
   pub like : (i : Item) → IsBelow s i → IsLikeTarget s i
   like i below = settled_like s i settled_here below (not_excluded i below.0) (not_in_use i below.0)
@@ -161,7 +160,7 @@ module _ (s : State) (o : IsOrderly s) (whole : is_settled_whole s ≡ true) whe
     r = (like i below).stored
 
     sp : IsSpelled i
-    sp = targeted i below.1 (named i below.0) some
+    sp = targeted i below.1 (is_plain i below.0) (own_spelled i below.0) some
 
     target : (target_of i).0 ≡ r.rid.0
     target = sym (found_rid s.link.remote.items (target_of i) r (like i below).found)
