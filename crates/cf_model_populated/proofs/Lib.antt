@@ -1,3 +1,4 @@
+pub mod AccountedSteps
 pub mod PolicyGuarded
 pub mod PopulatedItems
 pub mod PopulatedRuns

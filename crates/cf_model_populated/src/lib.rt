@@ -2,4 +2,5 @@
 #![tactic(auto)]
 
 pub mod directories;
+pub mod passed;
 pub mod syncs;
