@@ -3,7 +3,6 @@
 use Rattle.std.proofs.Common.{◌≡◌, ◌≤◌, ◌+◌, ℕ, Bool, true, false, [], ◌∷◌, ◌++◌, arith, length}
 use Rattle.std.specs.Prelude.{Option, Some, None}
 use Rattle.std.proofs.lemmas.List.{length-append}
-use Rattle.cf_base.specs.declared.changes.Change.TheVariants as change
 use Rattle.cf_base.specs.declared.codes.Code.{Code}
 use Rattle.cf_base.specs.declared.messages.Request.{Request}
 use Rattle.cf_base.specs.declared.notices.Frame.{Frame}
@@ -17,7 +16,6 @@ use Rattle.cf_model.specs.State.{Filter, Link, State, in_volume, with_filter}
 use Rattle.cf_model.specs.Store.{Held, remote_step}
 use Rattle.cf_model.specs.Trees.{Asked, Fork, Keeps, Ret, Step, Tree}
 use Rattle.cf_model.specs.Waits.{all_down, begin_now, begun}
-use Rattle.cf_model_laws.proofs.EventsGuarded.{Whole}
 use Rattle.cf_model_laws.proofs.Guarded.{Entering, Guarded, GuardedFilter}
 use Rattle.cf_model_laws.proofs.SkipsGuarded.{keeps_both}
 
@@ -99,19 +97,6 @@ module _ (C : Link → Type 0) (of : OfLink C) where
 
   pub entering_link : (P : State → Type 0) → Entering P → Entering (λ s. P s × C s.link)
   entering_link P entering = record { enters = λ e s well h. (entering.enters e s well h.0, h.1) }
-
-  pub whole_link : (P : State → Type 0) → Whole P → Whole (λ s. P s × C s.link)
-  whole_link P whole = record {
-    closed = guarded_link P whole.closed;
-    entering = entering_link P whole.entering;
-    deleting = record { deletes = λ f item s keeps seen cursor idle leaf h. keeps_both (λ x. P (with_filter x s)) (λ x. C s.link) (change_with f (change.Remove item) s.filter) (whole.deleting.deletes f item s keeps seen cursor idle leaf h.0) (always (C s.link) h.1 (change_with f (change.Remove item) s.filter)) };
-    ruling = record { rules = λ p s v h. (whole.ruling.rules p s v h.0, h.1) };
-    begins = λ s h. (whole.begins s h.0, h.1);
-    breaks = λ s h. (whole.breaks s h.0, h.1);
-    crashes = λ s h. (whole.crashes s h.0, h.1);
-    fails = λ s h. (whole.fails s h.0, h.1);
-    opens = λ p skipped s is h. (whole.opens p skipped s is h.0, h.1);
-  }
 
 -- the number of messages
 

@@ -51,7 +51,8 @@ use Rattle.cf_model_laws.proofs.WaitsGuarded as waits_keep
 use Rattle.cf_model_headline.specs.Reads.{IsIn, IsSpanOf, Reads, ReadsAnswered}
 use Rattle.cf_model_headline.specs.Reports.{Report, changes_in, standing}
 use Rattle.cf_model_headline.proofs.ReadsAtOnceLaws.{led_ends}
-use Rattle.cf_model_headline.proofs.ReadsLaws.{data_in_event, fair_before}
+use Rattle.cf_model_headline.proofs.ReadsLaws.{data_in_event}
+use Rattle.cf_model_laws.proofs.FairBefore.{fair_before}
 use Rattle.cf_model_headline.proofs.StepCases.{IsCase, IsOver, step_case}
 
 -- numbers that were given are not given again

@@ -63,7 +63,7 @@ use Rattle.cf_model_headline.proofs.OwnGuarded.{OfState, guarded_own}
 use Rattle.cf_model_headline.proofs.OwnReads.{At, begins_own, plainly_begun}
 use Rattle.cf_model_headline.proofs.ReadLines.{IsRight, IsTruly, Log, sound_truly}
 use Rattle.cf_model_headline.proofs.ReadsAtOnceLaws.{led_ends}
-use Rattle.cf_model_headline.proofs.ReadsLaws.{fair_before}
+use Rattle.cf_model_laws.proofs.FairBefore.{fair_before}
 use Rattle.cf_model_headline.proofs.StandingLaws.{shows_all}
 use Rattle.cf_model_headline.proofs.StepCases.{IsCase, IsOver, step_case}
 

@@ -42,7 +42,7 @@ use Rattle.cf_model_laws.proofs.LoggedGuarded.{content_grows}
 use Rattle.cf_model_laws.proofs.RightItems.{no_way}
 use Rattle.cf_model_headline.specs.Reads.{Reads, ReadsAtOnce, wait_on}
 use Rattle.cf_model_headline.specs.Reports.{OfEach, Report}
-use Rattle.cf_model_headline.proofs.ReadsLaws.{fair_before}
+use Rattle.cf_model_laws.proofs.FairBefore.{fair_before}
 use Rattle.cf_model_headline.proofs.StepCases.{IsCase, IsOver, step_case}
 
 abbrev Any : {S : Type 0} → S → Type 0

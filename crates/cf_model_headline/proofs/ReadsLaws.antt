@@ -24,9 +24,9 @@ use Rattle.cf_model.proofs.TreeLaws.{kept_at_end, kept_at_stop}
 use Rattle.cf_model_laws.specs.GivenOnce.{IsGiven, Waits}
 use Rattle.cf_model_laws.specs.Invariant.{All, Invariant}
 use Rattle.cf_model_laws.specs.Premises.{IsFair, IsFresh}
-use Rattle.cf_model_laws.proofs.BesideGuarded.{BesideRuns, Fact, HoldsIn, whole_beside}
 use Rattle.cf_model_laws.proofs.ContentLaws.{run_sound, sound_whole}
 use Rattle.cf_model_laws.proofs.EventsGuarded.{runs_keep}
+use Rattle.cf_model_laws.proofs.FairBefore.{fair_before}
 use Rattle.cf_model_laws.proofs.Gathered.{all_weaker}
 use Rattle.cf_model_laws.proofs.Leading.{Ended, led}
 use Rattle.cf_model_laws.proofs.LoggedGuarded.{content_grows}
@@ -40,30 +40,6 @@ use Rattle.cf_model_headline.proofs.ReadLines.{EachLine, Known, LineRight, Log, 
 use Rattle.cf_model_headline.proofs.ReadsGuarded.{event_reads}
 use Rattle.cf_model_headline.proofs.StandingLaws.{shows_all}
 use Rattle.cf_model_headline.proofs.StepCases.{IsCase, IsOver, step_case}
-
--- a remote that kept its rules so far did so before
-
-abbrev WasFair : State → Fact
-WasFair s l e p log hs hn ws wn = IsFair l → IsFair s.link
-
-fair_runs : (s : State) → BesideRuns (WasFair s)
-fair_runs s = record {
-  beside = record {
-    puts = λ l tokens c x sound fit h. h;
-    ends = λ l e p log hs hn ws wn stays h. h;
-    begins = λ l tokens n x sound h. h;
-    opens = λ l item x h. h;
-    closes = λ l e p log hs hn ws wn stays h. h;
-    stops = λ l e p log hs hn ws wn h. h;
-    grows = λ l k e p log hs hn ws wn fair h z. h (fair z).0;
-  };
-  removes = λ l tokens item x sound idle h. h;
-  crashes = λ l e p log hs hn ws wn h. h;
-  opens = λ l p epoch v hs hn ws wn more h. h;
-}
-
-pub fair_before : (s : State) (trace : Report) (t : State) → Invariant s → Runs mode.Replay s trace t → IsFair t.link → IsFair s.link
-fair_before s trace t sound runs = (runs_keep (λ u. Invariant u × HoldsIn (WasFair s) u) (whole_beside (WasFair s) (fair_runs s) Invariant sound_whole) s trace t runs (sound, λ z. z)).1
 
 -- an event of the device has no lines
 

@@ -55,7 +55,7 @@ use Rattle.cf_model_laws.proofs.RightItems.{no_way}
 use Rattle.cf_model_headline.specs.Reports.{OfEach, Report}
 use Rattle.cf_model_headline.specs.Stale.{Delivers, IsLate, IsNotDone, LateIsStale, NotDoneIsTaken}
 use Rattle.cf_model_headline.proofs.ReadsAtOnceLaws.{led_ends}
-use Rattle.cf_model_headline.proofs.ReadsLaws.{fair_before}
+use Rattle.cf_model_laws.proofs.FairBefore.{fair_before}
 use Rattle.cf_model_headline.proofs.StepCases.{IsCase, IsOver, step_case}
 
 -- each live ask is of the epoch of the waits

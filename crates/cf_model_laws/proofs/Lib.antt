@@ -26,6 +26,7 @@ pub mod FitContents
 pub mod FitEntries
 pub mod FitItems
 pub mod FoundItems
+pub mod FairBefore
 pub mod FramesGuarded
 pub mod Gathered
 pub mod Guarded
