@@ -34,6 +34,8 @@ use Rattle.cf_model_laws.proofs.RightItems.{no_way_back}
 use Rattle.cf_model_laws.proofs.SkipsGuarded.{keeps_both}
 use Rattle.cf_model_laws.proofs.SoundFilters.{change_leads}
 use Rattle.cf_model_convergence.specs.Adding.{Adds, is_change}
+use Rattle.cf_model_laws.proofs.SinceKept.{moved_weaker, on_filter_weaker, record_weaker}
+use Rattle.cf_model_laws.specs.Taken.{Knowledge}
 
 any_left : (f : Notice → Bool) (xs ys : List Notice) → list_any f (xs ++ ys) ≡ false → list_any f xs ≡ false
 any_left f [] ys e = refl
@@ -100,11 +102,11 @@ module _ (w : Filter) where
         asks : (y : Filter) → In y → In (with_asks_told r.0 y)
         asks y j = more_lines (map ask_line r.0.made) (y.notes ++ map cancel_line r.0.cancelled) y.volume.log y.volume.items (more_lines (map cancel_line r.0.cancelled) y.notes y.volume.log y.volume.items j)
 
-  filter_adds : (l : Link) (tokens : _) (P : Filter → Type 0) → GuardedFilter l tokens P → GuardedFilter l tokens (λ x. P x × In x)
+  filter_adds : {On : Knowledge} (l : Link) (tokens : _) (P : Filter → Type 0) → GuardedFilter On l tokens P → GuardedFilter On l tokens (λ x. P x × In x)
   filter_adds l tokens P closed = record {
     sound = λ x h fair. closed.sound x h.0 fair;
-    change = λ f c x keeps seen free fit h. keeps_both P In (change_with f c x) (closed.change f c x keeps seen free fit h.0) (change_adds f c x h.1);
-    touch = λ f c item d x quiet keeps seen on fit h. keeps_both P In (then_do (change_with f c) (then_do (settle item d) done) x) (closed.touch f c item d x quiet keeps seen on fit h.0)
+    change = λ f c x keeps seen free fit known h. keeps_both P In (change_with f c x) (closed.change f c x keeps seen free fit known h.0) (change_adds f c x h.1);
+    touch = λ f c item d x quiet keeps seen on fit known h. keeps_both P In (then_do (change_with f c) (then_do (settle item d) done) x) (closed.touch f c item d x quiet keeps seen on fit known h.0)
         (keeps_bind In (change_with f c x) (λ _ t. then_do (settle item d) done t) (change_adds f c x h.1) (λ a t j. keeps_bind In (settle item d t) (λ _ y. done y) (tell_adds (told_at item d t) t j) (λ b y m. m)));
     commits = record { keeps = λ x h. keeps_both P In (in_volume commit x) (closed.commits.keeps x h.0) (h.1, h.1) };
     settled = λ item d x others h. keeps_both P In (settle item d x) (closed.settled item d x others h.0) (tell_adds (told_at item d x) x h.1);
@@ -129,14 +131,14 @@ module _ (w : Filter) where
   pub guarded_adds : (P : State → Type 0) → Guarded P → Guarded (λ s. P s × In s.filter)
   guarded_adds P closed = record {
     replay = λ s h. closed.replay s h.0;
-    on_filter = λ s h. filter_adds s.link s.volatile.tokens (λ x. P (with_filter x s)) (closed.on_filter s h.0);
+    on_filter = λ s h. filter_adds s.link s.volatile.tokens (λ x. P (with_filter x s)) (on_filter_weaker P (λ t. P t × In t.filter) (λ t k. k.0) s.link s.volatile.tokens _ (closed.on_filter s h.0));
     keeps_counted = λ s h. (closed.keeps_counted s h.0, h.1);
     asked = λ q s well h. (closed.asked q s well h.0, h.1);
     told = λ held s h. (closed.told held s h.0, h.1);
-    posts = λ f s well h. (closed.posts f s well h.0, more_lines _ s.filter.notes s.filter.volume.log (items_now s) h.1);
+    posts = λ f s well now h. (closed.posts f s well now h.0, more_lines _ s.filter.notes s.filter.volume.log (items_now s) h.1);
     loses = λ f s h. (closed.loses f s h.0, more_lines _ s.filter.notes s.filter.volume.log (items_now s) h.1);
-    books = λ f s keeps placed h. (closed.books f s keeps placed h.0, h.1);
-    moved = λ e s is live h. (closed.moved e s is live h.0, h.1);
+    books = λ f s keeps placed known h. (closed.books f s keeps placed (λ fair. record_weaker P (λ t. P t × In t.filter) (λ t k. k.0) f s (known fair)) h.0, h.1);
+    moved = λ e s is live known h. (closed.moved e s is live (λ fair. moved_weaker P (λ t. P t × In t.filter) (λ t k. k.0) e s (known fair)) h.0, h.1);
     leaves = λ token s h. (closed.leaves token s h.0, h.1);
     keeps_fault_line = λ m s h. (closed.keeps_fault_line m s h.0, more_lines (notice.Fault m ∷ []) s.filter.notes s.filter.volume.log (items_now s) h.1);
     keeps_showing = λ s h. (closed.keeps_showing s h.0, h.1);

@@ -134,7 +134,7 @@ effect_apart r x (change.Copy item from parent name) n large order fit aims h = 
 effect_apart r x (change.Populated item) n large order fit aims h = still item _ x.volume.items (λ i. refl) h
 effect_apart r x (change.Keep item on) n large order fit aims h = still item _ x.volume.items (λ i. refl) h
 
-alone_lasting : Lasting AreTargetsAlone
+pub alone_lasting : Lasting AreTargetsAlone
 alone_lasting = record {
   changes = λ l tokens f c x keeps seen fit fair sound h. effect_apart l.remote x c (next_number x.volume) sound.now.more sound.now.order (fits_meets l.remote x c fit) (fits_aims l.remote x c fit) h;
   removes = λ l tokens f item x keeps seen cursor fair sound h. apart_filter _ x.volume.items h;

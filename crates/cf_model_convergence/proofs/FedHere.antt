@@ -10,13 +10,12 @@ use Rattle.cf_model.specs.Identities.{by_target, has_target, target_of}
 use Rattle.cf_model.specs.Items.{Item}
 use Rattle.cf_model.specs.State.{Filter, State, book_now, items_now}
 use Rattle.cf_model.specs.Store.{Held, Stored, entry_told, feed_of, stored_at}
-use Rattle.cf_model_laws.specs.Invariant.{All, Invariant, target_in}
+use Rattle.cf_model_laws.specs.Invariant.{All, Invariant, target_in, Among}
 use Rattle.cf_model_laws.specs.Premises.{IsFair}
 use Rattle.cf_model_laws.proofs.Gathered.{all_any, all_both, all_found}
 use Rattle.cf_model_laws.proofs.RightItems.{no_way}
 use Rattle.cf_model_laws.proofs.SoundSettles.{left_true, right_true}
 use Rattle.cf_model_convergence.specs.Agreeing.{IsAgreed, IsPassedHere}
-use Rattle.cf_model_convergence.specs.Feeds.{Among}
 use Rattle.cf_model_convergence.specs.Resting.{AreAllTargets, AreTargetsApart, IsTargetOf}
 use Rattle.cf_model_convergence.specs.Settles.{IsFed}
 use Rattle.cf_model_convergence.specs.Tidy.{IsLower, IsReached, IsTidyItem, Reaches}

@@ -14,7 +14,7 @@ use Rattle.cf_model.specs.LookUp.{item_line}
 use Rattle.cf_model.specs.Skips.{in_use}
 use Rattle.cf_model.specs.State.{Filter, State, book_now, items_now}
 use Rattle.cf_model.specs.Store.{Held, Stored, entry_told, feed_of, stored_at}
-use Rattle.cf_model_laws.specs.Invariant.{All, HasBase, Invariant, IsRight}
+use Rattle.cf_model_laws.specs.Invariant.{All, HasBase, Invariant, IsRight, Among}
 use Rattle.cf_model_laws.specs.Premises.{IsFair, IsSmall}
 use Rattle.cf_model_laws.proofs.AimedTargets.{unaimed_unfound}
 use Rattle.cf_model_laws.proofs.FoundItems.{found_again}
@@ -22,7 +22,7 @@ use Rattle.cf_model_laws.proofs.Gathered.{all_any, all_found, all_weaker}
 use Rattle.cf_model_laws.proofs.RightItems.{no_way}
 use Rattle.cf_model_laws.proofs.SoundSettles.{right_true, same_item}
 use Rattle.cf_model_convergence.specs.Agreeing.{IsAgreed}
-use Rattle.cf_model_convergence.specs.Feeds.{Among, TellsNow}
+use Rattle.cf_model_convergence.specs.Feeds.{TellsNow}
 use Rattle.cf_model_convergence.specs.Lasting.{IsTargetedWell}
 use Rattle.cf_model_convergence.specs.Matching.{IsBelow}
 use Rattle.cf_model_convergence.specs.Ready.{IsReady}

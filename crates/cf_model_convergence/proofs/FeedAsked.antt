@@ -54,6 +54,7 @@ use Rattle.cf_model_convergence.proofs.TurnsGrow.{Grows, book_grows, if_grows}
 use Rattle.cf_model_convergence.proofs.TurnsTold.{ends_bind}
 use Rattle.cf_model_convergence.proofs.SinceGuarded.{Follows, itself_follows}
 use Rattle.cf_model_convergence.proofs.UnfairReplies.{unfair_told}
+use Rattle.cf_model_laws.proofs.SoundStates.{posted_sound}
 
 -- items are of the kinds of their targets
 
@@ -219,7 +220,7 @@ module _ (s : State) (h : Invariant s) (fair : IsFair s.link) (listening : IsLis
   answer_taken : Invariant came → (u : Unit {0}) (t : State) → Ends (bind (answered number (Some answer) came) (take_if_any query)) u t → no_number t ≡ false → IsTold s t ⊎ IsFed s t
   answer_taken kept u t ends left = by (no_number came) refl ends where
     closed : Invariant taken
-    closed = sound_whole.closed.keeps_volatile_round_closed sent (sound_whole.closed.posts (frame.Reply number answer) came (λ f. reply_posted number query answer came (told_at_once query drawn (sound_whole.closed.keeps_volatile_with_round s h) f)) kept)
+    closed = sound_whole.closed.keeps_volatile_round_closed sent (posted_sound (frame.Reply number answer) came (λ f. reply_posted number query answer came (told_at_once query drawn (sound_whole.closed.keeps_volatile_with_round s h) f)) kept)
 
     acted : Ends (act_unless answer (is_stale query answer sent) sent) u t → IsTold s t ⊎ IsFed s t
     acted z = applied closed u t (subst (λ (b : Bool). Ends (act_unless answer b sent) u t) (reply_taken sent awaits) z)
@@ -254,7 +255,7 @@ module _ (s : State) (h : Invariant s) (fair : IsFair s.link) (listening : IsLis
 
   -- the remote stays as it is
   came_kept : Invariant came
-  came_kept = sound_whole.closed.keeps_counted posted (sound_whole.closed.posts (frame.Request query) drawn (λ f. feed_posted drawn (record { 0 = record { epoch = drawn.filter.volume.epoch; number = drawn.volatile.rounds } }) (book_now drawn).cursor) (sound_whole.closed.keeps_volatile_with_round s h))
+  came_kept = sound_whole.closed.keeps_counted posted (posted_sound (frame.Request query) drawn (λ f. feed_posted drawn (record { 0 = record { epoch = drawn.filter.volume.epoch; number = drawn.volatile.rounds } }) (book_now drawn).cursor) (sound_whole.closed.keeps_volatile_with_round s h))
 
   asked : (u : Unit {0}) (t : State) → Ends (ask_feed s) u t → no_number t ≡ false → IsTold s t ⊎ IsFed s t
   asked u t ends left = by (why_no_round s) ends where

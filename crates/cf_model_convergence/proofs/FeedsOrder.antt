@@ -8,12 +8,12 @@ use Rattle.cf_base.specs.declared.ids.Rid.{Rid}
 use Rattle.cf_base.specs.declared.limits.TheConstants.{MOST_PATH_NAMES}
 use Rattle.cf_model.specs.Store.{Held, Stored, depth_of, entry_told, feed_of, stored_at}
 use Rattle.cf_model.specs.Words.{counting}
-use Rattle.cf_model_laws.specs.Invariant.{All}
+use Rattle.cf_model_laws.specs.Invariant.{All, Among}
 use Rattle.cf_model_laws.proofs.FoundItems.{both}
 use Rattle.cf_model_laws.proofs.Gathered.{all_found, all_passed, all_weaker}
 use Rattle.cf_model_laws.proofs.RightItems.{no_way}
 use Rattle.cf_model_laws.proofs.SoundSettles.{left_true, not_true}
-use Rattle.cf_model_convergence.specs.Feeds.{Among, AreParentsFirst, HasParent}
+use Rattle.cf_model_convergence.specs.Feeds.{AreParentsFirst, HasParent}
 use Rattle.cf_model_convergence.specs.Tidy.{IsLower, IsReached, IsTidy, Reaches}
 use Rattle.cf_model_convergence.proofs.FeedsTold.{Tells, among_filter, among_map, depth_is, live_at, seen, tells_seen, told, was_changed}
 use Rattle.cf_model_convergence.proofs.Lines.{few, line_length, one_some, unlike}

@@ -10,12 +10,12 @@ use Rattle.cf_model.specs.Growth.{CountsFrom}
 use Rattle.cf_model.specs.Store.{Held, Stored, depth_of, entry_told, feed_of, latest, len_of, stored_at}
 use Rattle.cf_model.specs.Texts.{is_name}
 use Rattle.cf_model.specs.Words.{counting, last_of}
-use Rattle.cf_model_laws.specs.Invariant.{All}
+use Rattle.cf_model_laws.specs.Invariant.{All, Among}
 use Rattle.cf_model_laws.proofs.FoundItems.{both}
 use Rattle.cf_model_laws.proofs.Gathered.{all_append, all_both, all_filter, all_flat, all_map, all_passed, all_weaker}
 use Rattle.cf_model_laws.proofs.RightItems.{no_way, no_way_back}
 use Rattle.cf_model_laws.proofs.SoundSettles.{left_true, not_true, right_true}
-use Rattle.cf_model_convergence.specs.Feeds.{Among, AreKindsOf, TellsAll, TellsNow}
+use Rattle.cf_model_convergence.specs.Feeds.{AreKindsOf, TellsAll, TellsNow}
 use Rattle.cf_model_convergence.specs.Tidy.{HasVersions, IsLower, IsPlacedAt, IsReached, IsTidy, IsTidyItem, Reaches}
 use Rattle.cf_model_convergence.proofs.Lines.{few, line_length, one_some, unlike}
 use Rattle.cf_model_convergence.proofs.TidyItems.{below_next, each_found}

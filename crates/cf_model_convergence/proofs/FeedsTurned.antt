@@ -13,14 +13,13 @@ use Rattle.cf_model.specs.Items.{Item, item_of}
 use Rattle.cf_model.specs.State.{State, book_now, items_now}
 use Rattle.cf_model.specs.Trees.{bind, Ends}
 use Rattle.cf_model.specs.Words.{says, sorted}
-use Rattle.cf_model_laws.specs.Invariant.{All, Invariant}
+use Rattle.cf_model_laws.specs.Invariant.{All, Invariant, Among}
 use Rattle.cf_model_laws.specs.Premises.{IsFair}
 use Rattle.cf_model_laws.proofs.FoundItems.{found_again}
 use Rattle.cf_model_laws.proofs.Gathered.{all_any, all_append, all_both, all_filter, all_found, all_sorted, all_weaker}
 use Rattle.cf_model_laws.proofs.RightItems.{no_way, no_way_back}
 use Rattle.cf_model_laws.proofs.SeenPaths.{seen_past}
 use Rattle.cf_model_laws.proofs.SoundSettles.{left_true, not_true, right_true, same_item}
-use Rattle.cf_model_convergence.specs.Feeds.{Among}
 use Rattle.cf_model_convergence.specs.Telling.{IsListening, IsTold}
 use Rattle.cf_model_convergence.specs.Turns.{AreTurned, IsLeftBy, IsOfNone, IsTakenIn, IsTurnOf, SeesOnly, with_paths}
 use Rattle.cf_model_convergence.proofs.FeedTurns.{path_seen, turn_told}
@@ -47,11 +46,11 @@ joined P (e ∷ es) h k = by e.live h k (joined P es) where
 abbrev deeper : List Item → Entry → Entry → Bool
 deeper items d e = nat_lt (depth_of_entry items e) (depth_of_entry items d)
 
-turned_all : (P : Entry → Type 0) (items : List Item) (es : List Entry) → All P (in_turn items es) → All P es
+pub turned_all : (P : Entry → Type 0) (items : List Item) (es : List Entry) → All P (in_turn items es) → All P es
 turned_all P items es h =
     let r = halves P (sorted (deeper items) (filter (λ e. not e.live) es)) (filter (λ e. e.live) es) h in joined P es (sorted_apart P (deeper items) (filter (λ e. not e.live) es) r.0) r.1
 
-all_turned : (P : Entry → Type 0) (items : List Item) (es : List Entry) → All P es → All P (in_turn items es)
+pub all_turned : (P : Entry → Type 0) (items : List Item) (es : List Entry) → All P es → All P (in_turn items es)
 all_turned P items es h = all_append P (sorted (deeper items) (filter (λ e. not e.live) es)) (filter (λ e. e.live) es) (all_sorted P (deeper items) (filter (λ e. not e.live) es) (all_filter P (λ e. not e.live) es h)) (all_filter P (λ e. e.live) es h)
 
 -- entries of one item are one

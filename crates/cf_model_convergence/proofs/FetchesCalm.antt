@@ -52,7 +52,7 @@ use Rattle.cf_model_laws.specs.Invariant.{Invariant}
 use Rattle.cf_model_laws.specs.Premises.{IsFair}
 use Rattle.cf_model_laws.proofs.CallbacksGuarded.{call_back_at, drained_keeps, was_boxed}
 use Rattle.cf_model_laws.proofs.ContentLaws.{sound_whole}
-use Rattle.cf_model_laws.proofs.MessagesGuarded.{ToldAt, reply_posted, take_reply_at}
+use Rattle.cf_model_laws.proofs.MessagesGuarded.{last_message, reply_posted, take_reply_at}
 use Rattle.cf_model_laws.proofs.RightItems.{no_way}
 use Rattle.cf_model_laws.proofs.SkipsGuarded.{Any}
 use Rattle.cf_model_laws.proofs.SoundFilters.{change_leads}
@@ -67,6 +67,8 @@ use Rattle.cf_model_convergence.proofs.TurnsTold.{ends_bind, leads_ends}
 use Rattle.cf_model_convergence.proofs.HeardLines.{GoesOn, any_left, ends_mapped, heard_after, heard_of, heard_then, one_heard, tell_goes}
 use Rattle.cf_model_convergence.proofs.SinceGuarded.{Follows, Since, since_follows, since_guarded, since_start}
 use Rattle.cf_model_convergence.proofs.UnfairReplies.{unfair_told}
+use Rattle.cf_model_laws.proofs.SoundStates.{posted_sound}
+use Rattle.cf_model_laws.specs.Taken.{ToldAt}
 
 -- what is heard of bytes that come
 
@@ -193,7 +195,7 @@ module _ (a : Ask) (i : Item) (s : State) (h : Invariant s) (fair : IsFair s.lin
       heard_after s came t first_lines refl
       (heard_then came (sent r) t (one_heard came (sent r) (notice.Message (record { message = next_message came; frame = frame.Reply number r; lost = false })) refl loud)
       (since_follows (sent r) t (kept_at_end (Since (sent r)) (take_reply query r (sent r)) u t
-      (take_reply_at (Since (sent r)) (since_guarded (sent r)) number query r (sent r) told (since_start (sent r) (sound_whole.closed.posts (frame.Reply number r) came (λ f. reply_posted number query r came (at_once f)) hc))) e))) where
+      (take_reply_at (Since (sent r)) (since_guarded (sent r)) number query r (sent r) told (length (sent r).link.messages, last_message came.link.messages (frame.Reply number r)) (since_start (sent r) (posted_sound (frame.Reply number r) came (λ f. reply_posted number query r came (at_once f)) hc))) e))) where
         at_once : IsFair came.link → ToldAt came number query r
         at_once f = subst (ToldAt came number query) (sym is) (told_at_once query s h f)
 
@@ -229,7 +231,7 @@ module _ (a : Ask) (i : Item) (s : State) (h : Invariant s) (fair : IsFair s.lin
     two : (b : Bool) → Keeps Invariant (bind (bind (post_by (frame.Reply number answer) b came) (if_kept answer)) (take_if_any query)) → Ends (bind (bind (post_by (frame.Reply number answer) b came) (if_kept answer)) (take_if_any query)) u t
         → IsHeard s t ⊎ IsSteady s t
     two true k e = inl (heard_after s came t first_lines refl (one_heard came t (notice.Message (record { message = next_message came; frame = frame.Reply number answer; lost = true })) (ap (λ (x : State). x.filter.notes) e.1) refl))
-    two false k e = reply_calm answer refl k.0 (sound_whole.closed.posts (frame.Reply number answer) came (λ f. reply_posted number query answer came (told_at_once query s h f)) k.0) e
+    two false k e = reply_calm answer refl k.0 (posted_sound (frame.Reply number answer) came (λ f. reply_posted number query answer came (told_at_once query s h f)) k.0) e
 
     by : (b : Bool) → no_number came ≡ b → Keeps Invariant (bind (bind (post_unless (frame.Reply number answer) b came) (if_kept answer)) (take_if_any query)) → Ends (bind (bind (post_unless (frame.Reply number answer) b came) (if_kept answer)) (take_if_any query)) u t
         → IsHeard s t ⊎ IsSteady s t

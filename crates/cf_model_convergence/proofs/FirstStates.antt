@@ -9,10 +9,10 @@ use Rattle.cf_model.specs.Store.{Held}
 use Rattle.cf_model_laws.proofs.Gathered.{all_weaker}
 use Rattle.cf_model_laws.proofs.RightItems.{no_way_back}
 use Rattle.cf_model_convergence.specs.Agreeing.{IsAgreed, IsPassedHere}
-use Rattle.cf_model_convergence.specs.Feeds.{Among}
 use Rattle.cf_model_convergence.specs.Matching.{IsBelow}
 use Rattle.cf_model_convergence.specs.Telling.{AreWhole}
 use Rattle.cf_model_convergence.specs.Tidy.{IsLower, IsTidy, IsTidyItem}
+use Rattle.cf_model_laws.specs.Invariant.{Among}
 
 none_below : (remote : Held) (clusters : ℕ) (i : Item) → IsBelow (start mode.Replay remote clusters) i → ⊥
 none_below remote clusters i b = by (1 == i.id.0) b.0 where

@@ -12,12 +12,11 @@ use Rattle.cf_model.specs.Numbers.{root_id}
 use Rattle.cf_model.specs.State.{State, book_now, items_now}
 use Rattle.cf_model.specs.Store.{Stored, latest, stored_at}
 use Rattle.cf_model.specs.Words.{part, same, says}
-use Rattle.cf_model_laws.specs.Invariant.{All}
+use Rattle.cf_model_laws.specs.Invariant.{All, Among}
 use Rattle.cf_model_laws.proofs.Gathered.{all_found, all_weaker}
 use Rattle.cf_model_laws.proofs.RightItems.{no_way}
 use Rattle.cf_model_laws.proofs.SoundSettles.{left_true, right_true}
 use Rattle.cf_model_convergence.specs.Agreeing.{IsKeptUp, IsPassedHere}
-use Rattle.cf_model_convergence.specs.Feeds.{Among}
 use Rattle.cf_model_convergence.specs.Lapses.{are_all_here, is_here, is_known, is_seen_right, of_target}
 use Rattle.cf_model_convergence.specs.Matching.{IsBelow}
 use Rattle.cf_model_convergence.specs.Resting.{IsKnown, IsTargetOf}

@@ -43,13 +43,15 @@ use Rattle.cf_model_laws.proofs.ContentLaws.{sound_whole, start_sound}
 use Rattle.cf_model_laws.proofs.EventsGuarded.{Whole, runs_keep}
 use Rattle.cf_model_laws.proofs.FramesGuarded.{SameRecords, access_frame, tell_frame}
 use Rattle.cf_model_laws.proofs.Gathered.{all_weaker}
-use Rattle.cf_model_laws.proofs.Guarded.{Guarded, GuardedFilter, KeepsBelow, KeepsCursor, KeepsEarly, KeepsPlaced, KeepsSeenBy, MovesThere, EnteredIn}
+use Rattle.cf_model_laws.proofs.Guarded.{Guarded, GuardedFilter, KeepsBelow, KeepsCursor, KeepsEarly, KeepsPlaced, KeepsSeenBy, MovesThere, AskedIn, EnteredIn, IsMovedBy, IsRecordBy}
 use Rattle.cf_model_laws.proofs.Leading.{kept_leads}
 use Rattle.cf_model_laws.proofs.RightItems.{no_way}
 use Rattle.cf_model_laws.proofs.SkipsGuarded.{keeps_both}
 use Rattle.cf_model_laws.proofs.SoundChanges.{KeepsEntries}
 use Rattle.cf_model_laws.proofs.SoundFilters.{change_leads}
 use Rattle.cf_model_laws.proofs.SoundStates.{small_before}
+use Rattle.cf_model_laws.proofs.SinceKept.{moved_weaker, on_filter_weaker, record_weaker}
+use Rattle.cf_model_laws.specs.Taken.{IsChangeBy, Since}
 
 -- what keeps it, over a remote that keeps its rules
 pub record Lasting (D : Fact) : Type 0 where
@@ -67,26 +69,26 @@ pub record Lasting (D : Fact) : Type 0 where
 no_more : (n : ℕ) → n ≤ n
 no_more n = omega arith
 
-module _ (D : Fact) (lasting : Lasting D) where
+module _ (D : Fact) where
   -- points
 
-  point_lasts : (r : Held) (sure : Bool) (v : Volume) → v.items ≡ items_of v.log → D r v.items v.book → AtPoint D r v.log (point_now sure v)
+  pub point_lasts : (r : Held) (sure : Bool) (v : Volume) → v.items ≡ items_of v.log → D r v.items v.book → AtPoint D r v.log (point_now sure v)
   point_lasts r sure v of_log h = (no_more (length v.log), subst (λ (log : List (Usn × Change)). D r (items_of log) v.book) (sym (take-length v.log)) (subst (λ (items : List Item). D r items v.book) of_log h))
 
-  points_more : (r : Held) (log : List (Usn × Change)) (c : Usn × Change) (ps : List Point) → All (AtPoint D r log) ps → All (AtPoint D r (log ++ c ∷ [])) ps
+  pub points_more : (r : Held) (log : List (Usn × Change)) (c : Usn × Change) (ps : List Point) → All (AtPoint D r log) ps → All (AtPoint D r (log ++ c ∷ [])) ps
   points_more r log c ps h =
       all_weaker (AtPoint D r log) (AtPoint D r (log ++ c ∷ []))
       (λ p k. (longer p.count (length log) (length (log ++ c ∷ [])) k.0 (length-append log (c ∷ [])), subst (λ (l : List (Usn × Change)). D r (items_of l) p.book) (sym (take-append-le p.count log (c ∷ []) k.0)) k.1)) ps h where
         longer : (a n m : ℕ) → a ≤ n → m ≡ n + 1 → a ≤ m
         longer a n m h e = omega (arith, h, e)
 
-  abbrev InFilter : Link → Filter → Type 0
+  abbrev pub InFilter : Link → Filter → Type 0
   InFilter l x = Lasts D l x.volume
 
-  abbrev AfterChange : Link → (Book → Book) → Change → Filter → Type 0
+  abbrev pub AfterChange : Link → (Book → Book) → Change → Filter → Type 0
   AfterChange l f c x = IsFair l → D l.remote (effect x.volume.items c (next_number x.volume)) (f (book_after c x.volume.book))
 
-  put_lasts : (l : Link) (tokens : ℕ) (f : Book → Book) (c : Change) (x : Filter) (v : Volume) → (v ≡ x.volume) ⊎ (v ≡ with_room_point x.volume) → (IsFair l → IsSound l tokens x) → AfterChange l f c x → InFilter l x → Lasts D l (put_with_book f c v)
+  pub put_lasts : (l : Link) (tokens : ℕ) (f : Book → Book) (c : Change) (x : Filter) (v : Volume) → (v ≡ x.volume) ⊎ (v ≡ with_room_point x.volume) → (IsFair l → IsSound l tokens x) → AfterChange l f c x → InFilter l x → Lasts D l (put_with_book f c v)
   put_lasts l tokens f c x v is sound after h = by is where
     by : (v ≡ x.volume) ⊎ (v ≡ with_room_point x.volume) → Lasts D l (put_with_book f c v)
     by (inl e) = subst (λ (w : Volume). Lasts D l (put_with_book f c w)) (sym e) (λ fair. (after fair, points_more l.remote x.volume.log (next_number x.volume, c) x.volume.points (h fair).1))
@@ -94,39 +96,80 @@ module _ (D : Fact) (lasting : Lasting D) where
         subst (λ (w : Volume). Lasts D l (put_with_book f c w)) (sym e)
         (λ fair. (after fair, points_more l.remote x.volume.log (next_number x.volume, c) (point_now false x.volume ∷ x.volume.points) (point_lasts l.remote false x.volume (sound fair).of_log.0 (h fair).0, (h fair).1)))
 
-  begun_lasts : (l : Link) (tokens : ℕ) (x : Filter) → (IsFair l → IsSound l tokens x) → InFilter l x → Lasts D l (with_point_begun x.volume)
+  pub begun_lasts : (l : Link) (tokens : ℕ) (x : Filter) → (IsFair l → IsSound l tokens x) → InFilter l x → Lasts D l (with_point_begun x.volume)
   begun_lasts l tokens x sound h fair = ((h fair).0, (point_lasts l.remote false x.volume (sound fair).of_log.0 (h fair).0, (h fair).1))
 
-  change_lasts : (l : Link) (tokens : ℕ) (f : Book → Book) (c : Change) (x : Filter) → (IsFair l → IsSound l tokens x) → AfterChange l f c x → InFilter l x → Keeps (InFilter l) (change_with f c x)
+  pub change_lasts : (l : Link) (tokens : ℕ) (f : Book → Book) (c : Change) (x : Filter) → (IsFair l → IsSound l tokens x) → AfterChange l f c x → InFilter l x → Keeps (InFilter l) (change_with f c x)
   change_lasts l tokens f c x sound after h =
       kept_leads (InFilter l) (change_with f c x) (change_leads (InFilter l) (InFilter l) f c x h (begun_lasts l tokens x sound h) (begun_lasts l tokens x sound h) (λ v is. put_lasts l tokens f c x v is sound after h))
+
+  pub opened : (P : Point → Type 0) (ps : List Point) (p : Point) → Opens ps p → All P ps → P p
+  opened P [] p is h = elim is as (λ _. P p) [ ]
+  opened P (q ∷ ps) p (inl e) h = subst P (sym e) h.0
+  opened P (q ∷ ps) p (inr is) h = opened P ps p is h.1
+
+  pub opened_lasts : (p : Point) (skipped : ℕ) (s : State) → Opens s.filter.volume.points p → HoldsIn D s → HoldsIn D (with_opened p (epoch_after skipped s) s)
+  opened_lasts p skipped s is h fair = (k.1, ((shorter p.count (length (take p.count log)) (length-take-le p.count log k.0), subst (λ (l : List (Usn × Change)). D s.link.remote (items_of l) p.book) (sym (all_taken (take p.count log) p.count (length-take-le p.count log k.0))) k.1), tt)) where
+    log : List (Usn × Change)
+    log = s.filter.volume.log
+
+    k : AtPoint D s.link.remote log p
+    k = opened (AtPoint D s.link.remote log) s.filter.volume.points p is (h fair).1
+
+    shorter : (n m : ℕ) → m ≡ n → n ≤ m
+    shorter n m e = omega (arith, e)
+
+    all_taken : (l : List (Usn × Change)) (n : ℕ) → length l ≡ n → take n l ≡ l
+    all_taken l n e = subst (λ (m : ℕ). take m l ≡ l) e (take-length l)
+
+-- the same, where more is known: what holds beside it, and what the step rests on
+pub record LastingOver (D : Fact) (P : State → Type 0) : Type 0 where
+  pub changes : (s : State) (f : Book → Book) (c : Change) (x : Filter) → KeepsEntries f → KeepsSeenBy f c x → Fits s.link.remote x c → IsFair s.link → IsChangeBy (Since (λ t. P t × HoldsIn D t) s.link) x f c → IsSound s.link s.volatile.tokens x → P (with_filter x s)
+      → D s.link.remote x.volume.items x.volume.book → D s.link.remote (effect x.volume.items c (next_number x.volume)) (f (book_after c x.volume.book))
+  pub removes : (l : Link) (tokens : ℕ) (f : Book → Book) (item : ItemId) (x : Filter) → KeepsEntries f → ((b : Book) → (f b).seen ≡ b.seen) → KeepsCursor f → IsFair l → IsSound l tokens x → D l.remote x.volume.items x.volume.book
+      → D l.remote (effect x.volume.items (change.Remove item) (next_number x.volume)) (f (book_after (change.Remove item) x.volume.book))
+  pub alike : (r : Held) (items : List Item) (b d : Book) → SameRecords b d → D r items b → D r items d
+  pub records : (f : Book → Book) (s : State) → KeepsEntries f → KeepsPlaced f s × KeepsBelow f s × KeepsEarly f s → IsFair s.link → IsRecordBy (λ t. P t × HoldsIn D t) f s → IsSound s.link s.volatile.tokens s.filter → P s → D s.link.remote (items_now s) (book_now s)
+      → D s.link.remote (items_now s) (f (book_now s))
+  pub sees : (e : QueueEntry) (s : State) → e.action ≡ MoveItem → entry_of (book_now s) e.token ≡ Some e → IsFair s.link → IsMovedBy (λ t. P t × HoldsIn D t) e s → IsSound s.link s.volatile.tokens s.filter → D s.link.remote (items_now s) (book_now s)
+      → D s.link.remote (items_now s) (with_seen (entry_seen e) (without_entry e.token (book_now s)))
+  pub leaves : (token : Token) (r : Held) (items : List Item) (b : Book) → D r items b → D r items (without_entry token b)
+  pub enters : (e : QueueEntry) (s : State) → EnteredIn s e × MovesThere s e → D s.link.remote (items_now s) (book_now s) → D s.link.remote (items_now s) (with_entry e (book_now s))
+  pub asked : (s : State) (q : Request) → IsFair s.link → IsSound s.link s.volatile.tokens s.filter → AskedIn s q → P s → LastsIn D s.link.remote s.filter.volume → LastsIn D (remote_step s.link.remote q).1 s.filter.volume
+
+module _ (D : Fact) (P : State → Type 0) (lasting : LastingOver D P) where
+  abbrev Both : State → Type 0
+  Both s = P s × HoldsIn D s
 
   book_lasts : (l : Link) (v : Volume) (b : Book) → SameRecords v.book b → Lasts D l v → Lasts D l (record v { book = b })
   book_lasts l v b same h fair = (lasting.alike l.remote v.items v.book b same (h fair).0, (h fair).1)
 
-  filter_lasts : (l : Link) (tokens : ℕ) (P : Filter → Type 0) → GuardedFilter l tokens P → GuardedFilter l tokens (λ x. P x × InFilter l x)
-  filter_lasts l tokens P closed = record {
+  abbrev At : State → Filter → Type 0
+  At s x = P (with_filter x s)
+
+  filter_lasts : (s : State) → GuardedFilter (Since Both s.link) s.link s.volatile.tokens (At s) → GuardedFilter (Since Both s.link) s.link s.volatile.tokens (λ x. At s x × InFilter D s.link x)
+  filter_lasts s closed = record {
     sound = λ x h fair. closed.sound x h.0 fair;
-    change = λ f c x keeps seen free fit h. keeps_both P (InFilter l) (change_with f c x) (closed.change f c x keeps seen free fit h.0) (changed f c x keeps seen fit h);
-    touch = λ f c item d x quiet keeps seen on fit h. keeps_both P (InFilter l) (then_do (change_with f c) (then_do (settle item d) done) x) (closed.touch f c item d x quiet keeps seen on fit h.0)
-        (keeps_bind (InFilter l) (change_with f c x) (λ _ t. then_do (settle item d) done t) (changed f c x keeps seen fit h) (λ a t j. keeps_bind (InFilter l) (settle item d t) (λ _ y. done y) (tell_frame (Lasts D l) (book_lasts l) (told_at item d t) t j) (λ b y m. m)));
-    commits = record { keeps = λ x h. keeps_both P (InFilter l) (in_volume commit x) (closed.commits.keeps x h.0) (begun_lasts l tokens x (closed.sound x h.0) h.1, λ fair. ((h.1 fair).0, (point_lasts l.remote true x.volume (closed.sound x h.0 fair).of_log.0 (h.1 fair).0, tt))) };
-    settled = λ item d x others h. keeps_both P (InFilter l) (settle item d x) (closed.settled item d x others h.0) (tell_frame (Lasts D l) (book_lasts l) (told_at item d x) x h.1);
-    begins = λ n x fit unmet h. keeps_both P (InFilter l) (reading (waiting_begun n) (begin_now n) x) (closed.begins n x fit unmet h.0) (keeps_bind (InFilter l) (tell (waiting_begun n x) (with_own n x)) (λ _ t. Ret (shown.Pending (own_id n x)) t) (tell_frame (Lasts D l) (book_lasts l) (waiting_begun n x) (with_own n x) h.1) (λ a t j. j));
-    downs = record { keeps = λ x h. keeps_both P (InFilter l) (reading all_down tell x) (closed.downs.keeps x h.0) (tell_frame (Lasts D l) (book_lasts l) (all_down x) x h.1) };
-    keeps_accessed = λ item x h. (closed.keeps_accessed item x h.0, book_lasts l x.volume (with_access item x.volume.book) (record { cursor = refl; entries = refl; seen = refl; tombstones = refl }) h.1);
-    keeps_accessed_now = λ n x h. (closed.keeps_accessed_now n x h.0, access_frame (Lasts D l) (book_lasts l) n.item (is_access n.kind cause.Met) x h.1);
+    change = λ f c x keeps seen free fit known h. keeps_both (At s) (InFilter D s.link) (change_with f c x) (closed.change f c x keeps seen free fit known h.0) (changed f c x keeps seen fit known h);
+    touch = λ f c item d x quiet keeps seen on fit known h. keeps_both (At s) (InFilter D s.link) (then_do (change_with f c) (then_do (settle item d) done) x) (closed.touch f c item d x quiet keeps seen on fit known h.0)
+        (keeps_bind (InFilter D s.link) (change_with f c x) (λ _ t. then_do (settle item d) done t) (changed f c x keeps seen fit known h) (λ a t j. keeps_bind (InFilter D s.link) (settle item d t) (λ _ y. done y) (tell_frame (Lasts D s.link) (book_lasts s.link) (told_at item d t) t j) (λ b y m. m)));
+    commits = record { keeps = λ x h. keeps_both (At s) (InFilter D s.link) (in_volume commit x) (closed.commits.keeps x h.0) (begun_lasts D s.link s.volatile.tokens x (closed.sound x h.0) h.1, λ fair. ((h.1 fair).0, (point_lasts D s.link.remote true x.volume (closed.sound x h.0 fair).of_log.0 (h.1 fair).0, tt))) };
+    settled = λ item d x others h. keeps_both (At s) (InFilter D s.link) (settle item d x) (closed.settled item d x others h.0) (tell_frame (Lasts D s.link) (book_lasts s.link) (told_at item d x) x h.1);
+    begins = λ n x fit unmet h. keeps_both (At s) (InFilter D s.link) (reading (waiting_begun n) (begin_now n) x) (closed.begins n x fit unmet h.0) (keeps_bind (InFilter D s.link) (tell (waiting_begun n x) (with_own n x)) (λ _ t. Ret (shown.Pending (own_id n x)) t) (tell_frame (Lasts D s.link) (book_lasts s.link) (waiting_begun n x) (with_own n x) h.1) (λ a t j. j));
+    downs = record { keeps = λ x h. keeps_both (At s) (InFilter D s.link) (reading all_down tell x) (closed.downs.keeps x h.0) (tell_frame (Lasts D s.link) (book_lasts s.link) (all_down x) x h.1) };
+    keeps_accessed = λ item x h. (closed.keeps_accessed item x h.0, book_lasts s.link x.volume (with_access item x.volume.book) (record { cursor = refl; entries = refl; seen = refl; tombstones = refl }) h.1);
+    keeps_accessed_now = λ n x h. (closed.keeps_accessed_now n x h.0, access_frame (Lasts D s.link) (book_lasts s.link) n.item (is_access n.kind cause.Met) x h.1);
     keeps_as_it_is = λ x h. (closed.keeps_as_it_is x h.0, h.1);
     keeps_begin_call = λ x h. (closed.keeps_begin_call x h.0, h.1);
     keeps_connected_again = λ x h. (closed.keeps_connected_again x h.0, h.1);
     keeps_disconnected = λ x h. (closed.keeps_disconnected x h.0, h.1);
     keeps_with_handle = λ item x fit h. (closed.keeps_with_handle item x fit h.0, h.1);
-    keeps_with_time = λ n x h. (closed.keeps_with_time n x h.0, book_lasts l x.volume (with_ticks n x.volume.book) (record { cursor = refl; entries = refl; seen = refl; tombstones = refl }) h.1);
+    keeps_with_time = λ n x h. (closed.keeps_with_time n x h.0, book_lasts s.link x.volume (with_ticks n x.volume.book) (record { cursor = refl; entries = refl; seen = refl; tombstones = refl }) h.1);
     keeps_without_handle = λ handle x h. (closed.keeps_without_handle handle x h.0, h.1);
   }
     where
-      changed : (f : Book → Book) (c : Change) (x : Filter) → KeepsEntries f → (IsFair l → KeepsSeenBy f c x) → (IsFair l → Fits l.remote x c) → P x × InFilter l x → Keeps (InFilter l) (change_with f c x)
-      changed f c x keeps seen fit h = change_lasts l tokens f c x (closed.sound x h.0) (λ fair. lasting.changes l tokens f c x keeps (seen fair) (fit fair) fair (closed.sound x h.0 fair) (h.1 fair).0) h.1
+      changed : (f : Book → Book) (c : Change) (x : Filter) → KeepsEntries f → (IsFair s.link → KeepsSeenBy f c x) → (IsFair s.link → Fits s.link.remote x c) → (IsFair s.link → IsChangeBy (Since Both s.link) x f c) → At s x × InFilter D s.link x → Keeps (InFilter D s.link) (change_with f c x)
+      changed f c x keeps seen fit known h = change_lasts D s.link s.volatile.tokens f c x (closed.sound x h.0) (λ fair. lasting.changes s f c x keeps (seen fair) (fit fair) fair (known fair) (closed.sound x h.0 fair) h.0 (h.1 fair).0) h.1
 
   -- records
 
@@ -134,27 +177,22 @@ module _ (D : Fact) (lasting : Lasting D) where
   line_lasts true c s h = h
   line_lasts false c s h = h
 
-  asked_lasts : (s : State) (q : Request) → (IsFair s.link → IsCounted s.link.remote) → HoldsIn D s → IsFair (record s.link { remote_asks = s.link.remote_asks + 1; remote = (remote_step s.link.remote q).1 }) → LastsIn D (remote_step s.link.remote q).1 s.filter.volume
-  asked_lasts s q counted h fair = (
-    lasting.grows s.link.remote q (items_now s) (book_now s) (counted before) (h before).0,
-    all_weaker (AtPoint D s.link.remote s.filter.volume.log) (AtPoint D (remote_step s.link.remote q).1 s.filter.volume.log)
-        (λ p k. (k.0, lasting.grows s.link.remote q (items_of (take p.count s.filter.volume.log)) p.book (counted before) k.1)) s.filter.volume.points (h before).1,
-  )
-    where
-      before : IsFair s.link
-      before = (fair.0, small_before s.link.remote q fair.1)
+  asked_lasts : (s : State) (q : Request) → (IsFair s.link → IsSound s.link s.volatile.tokens s.filter) → (IsFair s.link → AskedIn s q) → P s → HoldsIn D s → IsFair (record s.link { remote_asks = s.link.remote_asks + 1; remote = (remote_step s.link.remote q).1 }) → LastsIn D (remote_step s.link.remote q).1 s.filter.volume
+  asked_lasts s q sound well h k fair = lasting.asked s q before (sound before) (well before) h (k before) where
+    before : IsFair s.link
+    before = (fair.0, small_before s.link.remote q fair.1)
 
-  guarded_lasting : (P : State → Type 0) → Guarded P → Guarded (λ s. P s × HoldsIn D s)
-  guarded_lasting P closed = record {
+  pub guarded_over : Guarded P → Guarded Both
+  guarded_over closed = record {
     replay = λ s h. closed.replay s h.0;
-    on_filter = λ s h. filter_lasts s.link s.volatile.tokens (λ x. P (with_filter x s)) (closed.on_filter s h.0);
+    on_filter = λ s h. filter_lasts s (on_filter_weaker P Both (λ t k. k.0) s.link s.volatile.tokens (At s) (closed.on_filter s h.0));
     keeps_counted = λ s h. (closed.keeps_counted s h.0, h.1);
-    asked = λ q s well h. (closed.asked q s well h.0, λ fair. asked_lasts s q (λ k. ((closed.on_filter s h.0).sound s.filter h.0 k).counted) h.1 fair);
+    asked = λ q s well h. (closed.asked q s well h.0, asked_lasts s q ((closed.on_filter s h.0).sound s.filter h.0) well h.0 h.1);
     told = λ held s h. (closed.told held s h.0, λ fair. no_way fair.0);
-    posts = λ f s well h. (closed.posts f s well h.0, h.1);
+    posts = λ f s well now h. (closed.posts f s well now h.0, h.1);
     loses = λ f s h. (closed.loses f s h.0, h.1);
-    books = λ f s keeps placed h. (closed.books f s keeps placed h.0, λ fair. (lasting.records f s keeps (placed fair) (h.1 fair).0, (h.1 fair).1));
-    moved = λ e s is live h. (closed.moved e s is live h.0, λ fair. (lasting.sees e s is (live fair) ((closed.on_filter s h.0).sound s.filter h.0 fair) (h.1 fair).0, (h.1 fair).1));
+    books = λ f s keeps placed known h. (closed.books f s keeps placed (λ fair. record_weaker P Both (λ t k. k.0) f s (known fair)) h.0, λ fair. (lasting.records f s keeps (placed fair) fair (known fair) ((closed.on_filter s h.0).sound s.filter h.0 fair) h.0 (h.1 fair).0, (h.1 fair).1));
+    moved = λ e s is live known h. (closed.moved e s is live (λ fair. moved_weaker P Both (λ t k. k.0) e s (known fair)) h.0, λ fair. (lasting.sees e s is (live fair) fair (known fair) ((closed.on_filter s h.0).sound s.filter h.0 fair) (h.1 fair).0, (h.1 fair).1));
     leaves = λ token s h. (closed.leaves token s h.0, λ fair. (lasting.leaves token s.link.remote (items_now s) (book_now s) (h.1 fair).0, (h.1 fair).1));
     keeps_fault_line = λ m s h. (closed.keeps_fault_line m s h.0, h.1);
     keeps_showing = λ s h. (closed.keeps_showing s h.0, h.1);
@@ -179,42 +217,51 @@ module _ (D : Fact) (lasting : Lasting D) where
 
   -- runs
 
-  opened : (P : Point → Type 0) (ps : List Point) (p : Point) → Opens ps p → All P ps → P p
-  opened P [] p is h = elim is as (λ _. P p) [ ]
-  opened P (q ∷ ps) p (inl e) h = subst P (sym e) h.0
-  opened P (q ∷ ps) p (inr is) h = opened P ps p is h.1
-
-  opened_lasts : (p : Point) (skipped : ℕ) (s : State) → Opens s.filter.volume.points p → HoldsIn D s → HoldsIn D (with_opened p (epoch_after skipped s) s)
-  opened_lasts p skipped s is h fair = (k.1, ((shorter p.count (length (take p.count log)) (length-take-le p.count log k.0), subst (λ (l : List (Usn × Change)). D s.link.remote (items_of l) p.book) (sym (all_taken (take p.count log) p.count (length-take-le p.count log k.0))) k.1), tt)) where
-    log : List (Usn × Change)
-    log = s.filter.volume.log
-
-    k : AtPoint D s.link.remote log p
-    k = opened (AtPoint D s.link.remote log) s.filter.volume.points p is (h fair).1
-
-    shorter : (n m : ℕ) → m ≡ n → n ≤ m
-    shorter n m e = omega (arith, e)
-
-    all_taken : (l : List (Usn × Change)) (n : ℕ) → length l ≡ n → take n l ≡ l
-    all_taken l n e = subst (λ (m : ℕ). take m l ≡ l) e (take-length l)
-
-  whole_lasting : (P : State → Type 0) → Whole P → ((s : State) → P s → Invariant s) → Whole (λ s. P s × HoldsIn D s)
-  whole_lasting P whole sound = record {
-    closed = guarded_lasting P whole.closed;
+  pub whole_over : Whole P → ((s : State) → P s → Invariant s) → Whole Both
+  whole_over whole sound = record {
+    closed = guarded_over whole.closed;
     entering = record { enters = λ e s well h. (whole.entering.enters e s well h.0, λ fair. (lasting.enters e s (well fair) (h.1 fair).0, (h.1 fair).1)) };
     deleting = record {
-      deletes = λ f item s keeps seen cursor idle leaf h. keeps_both (λ x. P (with_filter x s)) (InFilter s.link) (change_with f (change.Remove item) s.filter) (whole.deleting.deletes f item s keeps seen cursor idle leaf h.0)
-          (change_lasts s.link s.volatile.tokens f (change.Remove item) s.filter (sound s h.0).1 (λ fair. lasting.removes s.link s.volatile.tokens f item s.filter keeps seen cursor fair ((sound s h.0).1 fair) (h.1 fair).0) h.1);
+      deletes = λ f item s keeps seen cursor idle leaf h. keeps_both (λ x. P (with_filter x s)) (InFilter D s.link) (change_with f (change.Remove item) s.filter) (whole.deleting.deletes f item s keeps seen cursor idle leaf h.0)
+          (change_lasts D s.link s.volatile.tokens f (change.Remove item) s.filter (sound s h.0).1 (λ fair. lasting.removes s.link s.volatile.tokens f item s.filter keeps seen cursor fair ((sound s h.0).1 fair) (h.1 fair).0) h.1);
     };
     ruling = record { rules = λ p s v h. (whole.ruling.rules p s v h.0, h.1) };
     begins = λ s h. (whole.begins s h.0, h.1);
     breaks = λ s h. (whole.breaks s h.0, h.1);
     crashes = λ s h. (whole.crashes s h.0, h.1);
     fails = λ s h. (whole.fails s h.0, h.1);
-    opens = λ p skipped s is h. (whole.opens p skipped s is h.0, opened_lasts p skipped s is h.1);
+    opens = λ p skipped s is h. (whole.opens p skipped s is h.0, opened_lasts D p skipped s is h.1);
   }
+
+-- what lasts needs no more
+module _ (D : Fact) (lasting : Lasting D) where
+  over_any : (P : State → Type 0) → LastingOver D P
+  over_any P = record {
+    changes = λ s f c x keeps seen fit fair known sound h k. lasting.changes s.link s.volatile.tokens f c x keeps seen fit fair sound k;
+    removes = lasting.removes;
+    alike = lasting.alike;
+    records = λ f s keeps placed fair known sound h k. lasting.records f s keeps placed k;
+    sees = λ e s is live fair known sound k. lasting.sees e s is live sound k;
+    leaves = lasting.leaves;
+    enters = lasting.enters;
+    asked = λ s q fair sound well h k. (
+      lasting.grows s.link.remote q (items_now s) (book_now s) sound.counted k.0,
+      all_weaker (AtPoint D s.link.remote s.filter.volume.log) (AtPoint D (remote_step s.link.remote q).1 s.filter.volume.log)
+          (λ p j. (j.0, lasting.grows s.link.remote q (items_of (take p.count s.filter.volume.log)) p.book sound.counted j.1)) s.filter.volume.points k.1,
+    );
+  }
+
+  pub guarded_lasting : (P : State → Type 0) → Guarded P → Guarded (λ s. P s × HoldsIn D s)
+  guarded_lasting P closed = guarded_over D P (over_any P) closed
+
+  pub whole_lasting : (P : State → Type 0) → Whole P → ((s : State) → P s → Invariant s) → Whole (λ s. P s × HoldsIn D s)
+  whole_lasting P whole sound = whole_over D P (over_any P) whole sound
+
+-- in a new volume
+pub start_lasts : (D : Fact) (remote : Held) (clusters : ℕ) → D remote (root ∷ []) no_book → HoldsIn D (start mode.Replay remote clusters)
+start_lasts D remote clusters first fair = (first, ((no_more 0, first), tt))
 
 -- so it is in each state of a run from a remote in which it holds of a new volume
 pub run_lasts : (D : Fact) → Lasting D → (remote : Held) (clusters : ℕ) (trace : List (Event × Answer)) (s : State) → Runs mode.Replay (start mode.Replay remote clusters) trace s → IsFresh remote → D remote (root ∷ []) no_book → HoldsIn D s
 run_lasts D lasting remote clusters trace s runs fresh first =
-    (runs_keep (λ t. Invariant t × HoldsIn D t) (whole_lasting D lasting Invariant sound_whole (λ t h. h)) (start mode.Replay remote clusters) trace s runs (start_sound remote clusters fresh, λ fair. (first, ((no_more 0, first), tt)))).1
+    (runs_keep (λ t. Invariant t × HoldsIn D t) (whole_lasting D lasting Invariant sound_whole (λ t h. h)) (start mode.Replay remote clusters) trace s runs (start_sound remote clusters fresh, start_lasts D remote clusters first)).1

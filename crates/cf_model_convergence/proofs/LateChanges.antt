@@ -30,7 +30,7 @@ trim_told (Some n) s = by s.directory where
   by true = refl
   by false = refl
 
-trim_changed : (keep : Option ℕ) (s : Stored) → (trimmed keep s).changed ≡ s.changed
+pub trim_changed : (keep : Option ℕ) (s : Stored) → (trimmed keep s).changed ≡ s.changed
 trim_changed None s = refl
 trim_changed (Some n) s = by s.directory where
   by : (b : Bool) → (cond b s (record s { least = max s.least (latest s + 1 - n) })).changed ≡ s.changed

@@ -2,6 +2,7 @@ pub mod AddingGuarded
 pub mod ApartTargets
 pub mod BareItems
 pub mod ClimbLaws
+pub mod EffectItems
 pub mod ListsWaited
 pub mod PlacedItems
 pub mod EarlyCursors

@@ -18,6 +18,8 @@ use Rattle.cf_model.specs.Trees.{Asked, Fork, Keeps, Ret, Step, Tree}
 use Rattle.cf_model.specs.Waits.{all_down, begin_now, begun}
 use Rattle.cf_model_laws.proofs.Guarded.{Entering, Guarded, GuardedFilter}
 use Rattle.cf_model_laws.proofs.SkipsGuarded.{keeps_both}
+use Rattle.cf_model_laws.proofs.SinceKept.{moved_weaker, on_filter_weaker, record_weaker}
+use Rattle.cf_model_laws.specs.Taken.{Knowledge}
 
 always : {S A : Type 0} (C : Type 0) → C → (p : Tree S A) → Keeps (λ s. C) p
 always C h (Ret a s) = h
@@ -26,11 +28,11 @@ always C h (Fork p q) = (always C h p, always C h q)
 always C h (Asked k) = λ x. always C h (k x)
 
 -- what does not speak of the filter
-filter_beside : (l : Link) (tokens : ℕ) (C : Type 0) (P : Filter → Type 0) → C → GuardedFilter l tokens P → GuardedFilter l tokens (λ x. P x × C)
+filter_beside : {On : Knowledge} (l : Link) (tokens : ℕ) (C : Type 0) (P : Filter → Type 0) → C → GuardedFilter On l tokens P → GuardedFilter On l tokens (λ x. P x × C)
 filter_beside l tokens C P c closed = record {
   sound = λ x h fair. closed.sound x h.0 fair;
-  change = λ f d x keeps seen free fit h. keeps_both P (λ x. C) (change_with f d x) (closed.change f d x keeps seen free fit h.0) (always C c (change_with f d x));
-  touch = λ f d item e x quiet keeps seen on fit h. keeps_both P (λ x. C) (then_do (change_with f d) (then_do (settle item e) done) x) (closed.touch f d item e x quiet keeps seen on fit h.0) (always C c (then_do (change_with f d) (then_do (settle item e) done) x));
+  change = λ f d x keeps seen free fit known h. keeps_both P (λ x. C) (change_with f d x) (closed.change f d x keeps seen free fit known h.0) (always C c (change_with f d x));
+  touch = λ f d item e x quiet keeps seen on fit known h. keeps_both P (λ x. C) (then_do (change_with f d) (then_do (settle item e) done) x) (closed.touch f d item e x quiet keeps seen on fit known h.0) (always C c (then_do (change_with f d) (then_do (settle item e) done) x));
   commits = record { keeps = λ x h. keeps_both P (λ x. C) (in_volume commit x) (closed.commits.keeps x h.0) (always C c (in_volume commit x)) };
   settled = λ item d x others h. keeps_both P (λ x. C) (settle item d x) (closed.settled item d x others h.0) (always C c (settle item d x));
   begins = λ n x fit unmet h. keeps_both P (λ x. C) (reading (begun n) (begin_now n) x) (closed.begins n x fit unmet h.0) (always C c (reading (begun n) (begin_now n) x));
@@ -65,14 +67,14 @@ module _ (C : Link → Type 0) (of : OfLink C) where
   pub guarded_link : (P : State → Type 0) → Guarded P → Guarded (λ s. P s × C s.link)
   guarded_link P closed = record {
     replay = λ s h. closed.replay s h.0;
-    on_filter = λ s h. filter_beside s.link s.volatile.tokens (C s.link) (λ x. P (with_filter x s)) h.1 (closed.on_filter s h.0);
+    on_filter = λ s h. filter_beside s.link s.volatile.tokens (C s.link) (λ x. P (with_filter x s)) h.1 (on_filter_weaker P (λ t. P t × C t.link) (λ t k. k.0) s.link s.volatile.tokens _ (closed.on_filter s h.0));
     keeps_counted = λ s h. (closed.keeps_counted s h.0, of.counts s.link h.1);
     asked = λ q s well h. (closed.asked q s well h.0, of.asks s.link q h.1);
     told = λ held s h. (closed.told held s h.0, of.distrusts s.link held h.1);
-    posts = λ f s well h. (closed.posts f s well h.0, of.posts s.link (Some f) _ h.1);
+    posts = λ f s well now h. (closed.posts f s well now h.0, of.posts s.link (Some f) _ h.1);
     loses = λ f s h. (closed.loses f s h.0, of.posts s.link None s.link.kept_bytes h.1);
-    books = λ f s keeps placed h. (closed.books f s keeps placed h.0, h.1);
-    moved = λ e s is live h. (closed.moved e s is live h.0, h.1);
+    books = λ f s keeps placed known h. (closed.books f s keeps placed (λ fair. record_weaker P (λ t. P t × C t.link) (λ t k. k.0) f s (known fair)) h.0, h.1);
+    moved = λ e s is live known h. (closed.moved e s is live (λ fair. moved_weaker P (λ t. P t × C t.link) (λ t k. k.0) e s (known fair)) h.0, h.1);
     leaves = λ token s h. (closed.leaves token s h.0, h.1);
     keeps_fault_line = λ m s h. (closed.keeps_fault_line m s h.0, h.1);
     keeps_showing = λ s h. (closed.keeps_showing s h.0, h.1);

@@ -1,35 +1,33 @@
 -- What keeps it that what the cursor has passed is known rightly.
-use Rattle.std.proofs.Common.{◌≡◌, ◌⊎◌, ◌<◌, ◌≤◌, ℕ, Bool, true, false, List, [], ◌∷◌, ◌++◌, refl, sym, ◌∙◌, ap, subst, inl, inr, arith, append-nil, take, eq-eqb}
-use Rattle.std.specs.Prelude.{Option, Some, None, cond, nat_le, ◌==◌}
+use Rattle.std.proofs.Common.{◌≡◌, ◌⊎◌, ◌<◌, ◌≤◌, ℕ, Bool, true, false, List, [], ◌∷◌, refl, sym, ◌∙◌, ap, subst, inl, inr, arith, take, eq-eqb}
+use Rattle.std.specs.Prelude.{Some, cond, nat_le, ◌==◌}
 use Rattle.std.proofs.lemmas.Bool.Decides.{nat_tests}
 use Rattle.std.proofs.lemmas.Bool.{eqb-true}
 use Rattle.cf_base.specs.declared.changes.Change.{Change}
-use Rattle.cf_base.specs.declared.changes.Change.TheVariants as change
 use Rattle.cf_base.specs.declared.ids.ItemId.{ItemId}
 use Rattle.cf_base.specs.declared.ids.Rid.{Rid}
 use Rattle.cf_base.specs.declared.ids.Usn.{Usn}
-use Rattle.cf_base.specs.declared.items.Pin.{Pin}
 use Rattle.cf_base.specs.declared.items.SeenPath.{SeenPath}
 use Rattle.cf_base.specs.declared.messages.Entry.{Entry}
 use Rattle.cf_base.specs.declared.messages.Request.{Request}
 use Rattle.cf_model.specs.Books.{Book, seen_of, with_cursor, with_seen}
-use Rattle.cf_model.specs.Effects.{changed, converted, copied, copies, effect, made}
+use Rattle.cf_model.specs.Effects.{changed, effect}
 use Rattle.cf_model.specs.Growth.{IsCounted}
 use Rattle.cf_model.specs.Identities.{base_version, target_of}
-use Rattle.cf_model.specs.Items.{Item, item_of, pin_of}
+use Rattle.cf_model.specs.Items.{Item}
 use Rattle.cf_model.specs.Soundness.{Each}
 use Rattle.cf_model.specs.State.{State, book_now, items_now}
 use Rattle.cf_model.specs.Store.{Held, Stored, entry_told, feed_of, remote_step, stored_at}
 use Rattle.cf_model.specs.Words.{number_of}
-use Rattle.cf_model_laws.specs.Invariant.{All, target_in}
-use Rattle.cf_model_laws.proofs.FitItems.{all_changed}
-use Rattle.cf_model_laws.proofs.Gathered.{all_append, all_filter, all_found, all_weaker, each_any}
+use Rattle.cf_model_laws.specs.Invariant.{All, target_in, Among}
+use Rattle.cf_model_laws.proofs.Gathered.{all_found, all_weaker}
 use Rattle.cf_model_laws.proofs.SeenPaths.{seen_past}
 use Rattle.cf_model_convergence.specs.Agreeing.{IsKeptUp}
-use Rattle.cf_model_convergence.specs.Feeds.{Among, AreAsTheyWere, IsAsItWas, IsLateOrSame, TellsNow}
+use Rattle.cf_model_convergence.specs.Feeds.{AreAsTheyWere, IsAsItWas, IsLateOrSame, TellsNow}
 use Rattle.cf_model_convergence.specs.Passed.{ArePassedRight, AreTargetsLower, IsDoneAs, IsPassedRight, IsToldOrLate, NamesRight, TellsBetween}
 use Rattle.cf_model_convergence.specs.Resting.{IsKnown}
 use Rattle.cf_model_convergence.specs.Tidy.{IsLower, IsTidy, IsTidyItem}
+use Rattle.cf_model_convergence.proofs.EffectItems.{effect_all}
 use Rattle.cf_model_convergence.proofs.FeedsTold.{all_among, tells_all, tells_now}
 use Rattle.cf_model_convergence.proofs.LateChanges.{late_or_same}
 use Rattle.cf_model_convergence.proofs.Lines.{one_some, same_rid}
@@ -90,43 +88,15 @@ alike r b i j id kind identity k below x found passed =
     version : (base_version i).0 ≡ (base_version j).0
     version = ap (λ (y : List ℕ). (base_version (record i { identity = y })).0) identity
 
-still : (r : Held) (b : Book) (item : ItemId) (f : Item → Item) → ((i : Item) → (i.id ≡ (f i).id) × (i.directory ≡ (f i).directory) × (i.identity ≡ (f i).identity)) → (items : List Item) → ArePassedRight r items b → ArePassedRight r (changed item f items) b
-still r b item f same items h =
-    all_changed item f (λ i. Unit {0}) (IsPassedRight r b) (IsPassedRight r b) (λ i _ k. let z = same i in alike r b i (f i) z.0 z.1 z.2 k) (λ i k. k) items (each_any item (λ i. Unit {0}) (λ i. tt) items) h
-
-named : (r : Held) (b : Book) (item : ItemId) (f : Item → Item) (items : List Item) → Each item (λ i. IsPassedRight r b (f i)) items → ArePassedRight r items b → ArePassedRight r (changed item f items) b
-named r b item f items c h = all_changed item f (λ i. IsPassedRight r b (f i)) (IsPassedRight r b) (IsPassedRight r b) (λ i k _. k) (λ i k. k) items c h
-
 -- an item with no target
-free_right : (r : Held) (b : Book) (i : Item) → IsCounted r → number_of (take 8 i.identity) ≡ 0 → IsPassedRight r b i
+pub free_right : (r : Held) (b : Book) (i : Item) → IsCounted r → number_of (take 8 i.identity) ≡ 0 → IsPassedRight r b i
 free_right r b i counted none below x found passed = absurd (nothing r.items 1 counted (target_of i) x (by (i.id.0 == 1) refl) found (least 1)) where
   by : (c : Bool) → (i.id.0 == 1) ≡ c → (cond c (record { 0 = 1 }) (target_in i.identity)).0 ≡ 0
   by true q = absurd (below (eqb-true i.id.0 1 q))
   by false q = none
 
-copies_right : (r : Held) (b : Book) (id parent : ItemId) (name : List ℕ) (pin : Pin) (n : Usn) (items : List Item) (o : Option Item) → IsCounted r → ArePassedRight r items b → ArePassedRight r (items ++ copies id parent name pin n o) b
-copies_right r b id parent name pin n items None counted h = subst (λ (is : List Item). ArePassedRight r is b) (sym (append-nil items)) h
-copies_right r b id parent name pin n items (Some i) counted h = all_append (IsPassedRight r b) items (copied id parent name pin n i ∷ []) h (free_right r b (copied id parent name pin n i) counted refl, tt)
-
 pub effect_right : (r : Held) (b : Book) (items : List Item) (c : Change) (n : Usn) → IsCounted r → NamesRight r b items c n → ArePassedRight r items b → ArePassedRight r (effect items c n) b
-effect_right r b items (change.Make item parent name kind size identity) n counted fit h = all_append (IsPassedRight r b) items (made item parent name kind size identity (pin_of items parent) n ∷ []) h (fit, tt)
-effect_right r b items (change.Remove item) n counted fit h = all_filter (IsPassedRight r b) _ items h
-effect_right r b items (change.Move item parent name) n counted fit h = still r b item _ (λ i. (refl, refl, refl)) items h
-effect_right r b items (change.Write item at bytes) n counted fit h = still r b item _ (λ i. (refl, refl, refl)) items h
-effect_right r b items (change.Size item size) n counted fit h = still r b item _ (λ i. (refl, refl, refl)) items h
-effect_right r b items (change.Filled item start bytes) n counted fit h = still r b item _ (λ i. (refl, refl, refl)) items h
-effect_right r b items (change.Validated item start len) n counted fit h = still r b item _ (λ i. (refl, refl, refl)) items h
-effect_right r b items (change.Emptied item start len) n counted fit h = still r b item _ (λ i. (refl, refl, refl)) items h
-effect_right r b items (change.SetPin item pin) n counted fit h = still r b item _ (λ i. (refl, refl, refl)) items h
-effect_right r b items (change.Mark item number) n counted fit h = still r b item _ (λ i. (refl, refl, refl)) items h
-effect_right r b items (change.Clear item) n counted fit h = still r b item _ (λ i. (refl, refl, refl)) items h
-effect_right r b items (change.Convert item identity) n counted fit h = named r b item _ items (each_any item (λ i. IsPassedRight r b (converted identity n i)) (λ i. free_right r b (converted identity n i) counted fit) items) h
-effect_right r b items (change.Revert item) n counted fit h = absurd fit
-effect_right r b items (change.Rebase item identity len at) n counted fit h = named r b item _ items fit h
-effect_right r b items (change.Take item identity size) n counted fit h = named r b item _ items fit h
-effect_right r b items (change.Copy item from parent name) n counted fit h = copies_right r b item parent name (pin_of items parent) n items (item_of items from) counted h
-effect_right r b items (change.Populated item) n counted fit h = still r b item _ (λ i. (refl, refl, refl)) items h
-effect_right r b items (change.Keep item on) n counted fit h = still r b item _ (λ i. (refl, refl, refl)) items h
+effect_right r b items c n counted fit h = effect_all (IsPassedRight r b) (alike r b) (λ i none. free_right r b i counted none) items c n fit h
 
 -- the book
 

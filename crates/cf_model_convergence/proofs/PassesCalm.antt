@@ -15,7 +15,7 @@ use Rattle.cf_model.specs.Store.{Held}
 use Rattle.cf_model.specs.Trees.{bind, Ends}
 use Rattle.cf_model.proofs.ArrowLaws.{keeps_then}
 use Rattle.cf_model_laws.proofs.RightItems.{no_way}
-use Rattle.cf_model_laws.specs.Invariant.{Invariant, All}
+use Rattle.cf_model_laws.specs.Invariant.{Invariant, All, Among}
 use Rattle.cf_model_laws.specs.Premises.{IsFair, IsFresh, IsSmall}
 use Rattle.cf_model_laws.proofs.ContentLaws.{run_sound, sound_whole}
 use Rattle.cf_model_laws.proofs.Gathered.{all_weaker}
@@ -45,7 +45,6 @@ use Rattle.cf_model_convergence.proofs.RestingMatches.{rest_settled}
 use Rattle.cf_model_convergence.proofs.TargetsHere.{rest_whole}
 use Rattle.cf_model.specs.Identities.{has_target}
 use Rattle.cf_model.proofs.TreeLaws.{kept_at_end}
-use Rattle.cf_model_convergence.specs.Feeds.{Among}
 use Rattle.cf_model_convergence.proofs.SinceGuarded.{Follows}
 
 pub heard_before : (s m t : State) → Follows s m → IsHeard m t → IsHeard s t

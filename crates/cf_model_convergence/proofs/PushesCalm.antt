@@ -15,7 +15,7 @@ use Rattle.cf_model.specs.Store.{Held, Stored, stored_at}
 use Rattle.cf_model.specs.Trees.{bind, Ends}
 use Rattle.cf_model.proofs.ArrowLaws.{keeps_each}
 use Rattle.cf_model.proofs.TreeLaws.{kept_at_end}
-use Rattle.cf_model_laws.specs.Invariant.{All, Invariant}
+use Rattle.cf_model_laws.specs.Invariant.{All, Invariant, Among}
 use Rattle.cf_model_laws.specs.Premises.{IsFair, IsSmall}
 use Rattle.cf_model_laws.proofs.ContentLaws.{sound_whole}
 use Rattle.cf_model_laws.proofs.FoundItems.{found_id}
@@ -26,7 +26,6 @@ use Rattle.cf_model_laws.proofs.PushesGuarded.{Files, hydrate_unless_at, lone, p
 use Rattle.cf_model_laws.proofs.RightItems.{no_way}
 use Rattle.cf_model_laws.proofs.SoundSettles.{each_found, found_below, same_item}
 use Rattle.cf_model_convergence.specs.Hearing.{AreDirs, IsCalm, IsHeard, IsOpenTo}
-use Rattle.cf_model_convergence.specs.Feeds.{Among}
 use Rattle.cf_model_convergence.specs.Matching.{IsBelow}
 use Rattle.cf_model_convergence.specs.Tidy.{IsTidy}
 use Rattle.cf_model_convergence.specs.Ready.{IsReady}

@@ -24,19 +24,19 @@ use Rattle.cf_model.specs.Store.{Held, Mutation, Recorded, decide, make_dir, mov
 use Rattle.cf_model.specs.Trees.{AsItKeeps, Faults, Keeps, bind, Ends, Tells}
 use Rattle.cf_model_laws.specs.Invariant.{Invariant}
 use Rattle.cf_model_laws.specs.Premises.{IsFair}
-use Rattle.cf_model_laws.proofs.ContentLaws.{sound_whole}
-use Rattle.cf_model_laws.proofs.MessagesGuarded.{ToldAt, last_message, reply_posted, take_reply_at}
+use Rattle.cf_model_laws.proofs.MessagesGuarded.{last_message, reply_posted, take_reply_at}
 use Rattle.cf_model_laws.proofs.RemoteGrowth.{still_bytes}
 use Rattle.cf_model_laws.proofs.RemoteSteps.{tells_bytes, tells_truth}
 use Rattle.cf_model_laws.proofs.RightItems.{no_way}
 use Rattle.cf_model_laws.proofs.SoundLinks.{message_longer}
-use Rattle.cf_model_laws.proofs.SoundStates.{small_before}
+use Rattle.cf_model_laws.proofs.SoundStates.{small_before, posted_sound}
 use Rattle.cf_model_laws.proofs.UploadsGuarded.{upload_sends}
 use Rattle.cf_model_convergence.specs.Telling.{IsListening, IsTold, IsUnfair, is_loud}
 use Rattle.cf_model.proofs.StoreLaws.{step_extends}
 use Rattle.cf_model.proofs.TreeLaws.{kept_at_end}
 use Rattle.cf_model_convergence.proofs.SinceGuarded.{Follows, Since, since_follows, since_guarded, since_start}
 use Rattle.cf_model_convergence.proofs.UnfairReplies.{unfair_told}
+use Rattle.cf_model_laws.specs.Taken.{ToldAt}
 
 -- lines
 
@@ -131,7 +131,7 @@ reply_told m q r s u t decided told kept ends left = by (no_number s) refl kept 
   two false k e =
       told_then s sent t (told_one s sent (notice.Message (record { message = next_message s; frame = frame.Reply m r; lost = false })) refl (decided_loud (next_message s) m r decided))
       (since_follows sent t (kept_at_end (Since sent) (take_reply q r sent) u t
-      (take_reply_at (Since sent) (since_guarded sent) m q r sent after (since_start sent (sound_whole.closed.posts (frame.Reply m r) s (λ fair. reply_posted m q r s (told fair)) k.0))) e)) where
+      (take_reply_at (Since sent) (since_guarded sent) m q r sent after (length sent.link.messages, last_message s.link.messages (frame.Reply m r)) (since_start sent (posted_sound (frame.Reply m r) s (λ fair. reply_posted m q r s (told fair)) k.0))) e)) where
         after : IsFair sent.link → ToldAt sent m q r
         after fair = (message_longer s.link.messages (Some (frame.Reply m r) ∷ []) m (frame.Request q) (told fair).0, (told fair).1, (told fair).2)
 

@@ -68,7 +68,7 @@ uploads_done remote clusters trace s runs fresh = given_holds AreUploadsDone (λ
 pub bases_made : (remote : Held) (clusters : ℕ) (trace : List (Event × Answer)) (s : State) → Runs mode.Replay (start mode.Replay remote clusters) trace s → IsFresh remote → HoldsIn AreBasesMade s
 bases_made remote clusters trace s runs fresh = given_holds AreBasesMade (λ r ms epoch tokens n next items b h. all_weaker (IsRight r n) (λ i. HasBase r i.identity) (λ i k. k.based) items h.right) s (run_sound remote clusters trace s runs fresh)
 
-base_early : (r : Held) (n : Usn) (i : Item) → IsRight r n i → IsBaseEarly r i
+pub base_early : (r : Held) (n : Usn) (i : Item) → IsRight r n i → IsBaseEarly r i
 base_early r n i k below file some x found = by (aimed_right r i k.aimed below) where
   by : IsTargetedWell r i → (base_version i).0 ≤ latest x
   by (inl z) = absurd (some z)

@@ -26,7 +26,7 @@ use Rattle.cf_model_laws.specs.Invariant.{All, AreMadeApart, Invariant, IsEntryO
 use Rattle.cf_model_laws.specs.Premises.{IsFair}
 use Rattle.cf_model_laws.proofs.ContentLaws.{sound_whole}
 use Rattle.cf_model_laws.proofs.Gathered.{all_found, all_weaker}
-use Rattle.cf_model_laws.proofs.MessagesGuarded.{ToldAt, send_now_at}
+use Rattle.cf_model_laws.proofs.MessagesGuarded.{send_now_at}
 use Rattle.cf_model_laws.proofs.FramesGuarded.{guarded_framed}
 use Rattle.cf_model_laws.proofs.PassesGuarded.{Entries, Whatever, settle_list, settle_posted}
 use Rattle.cf_model_laws.proofs.RightItems.{no_way, no_way_back}
@@ -37,6 +37,7 @@ use Rattle.cf_model_convergence.proofs.PushesTold.{numbers_used, reply_told, tol
 use Rattle.cf_model_convergence.proofs.TurnsTold.{ends_bind}
 use Rattle.cf_model_convergence.proofs.SinceGuarded.{Since, since_follows, since_guarded, since_start}
 use Rattle.cf_model_convergence.proofs.UnfairReplies.{unfair_told}
+use Rattle.cf_model_laws.specs.Taken.{ToldAt}
 
 -- one upload
 
@@ -130,7 +131,7 @@ module _ (e : QueueEntry) (s : State) where
   given_of : Invariant s → entry_of (book_now s) e.token ≡ Some e → Keeps Invariant (settle_entry e s)
   given_of h live =
       send_now_at Invariant sound_whole.closed asked s
-      (λ fair. settle_posted s e.token (all_found (IsEntryOf (next_number s.filter.volume) s.filter.volume.next_item.0 s.filter.volume.epoch s.volatile.tokens) (λ f. same_key f.token.0 e.token.0) (book_now s).entries e live (h.1 fair).now.given).0.token) h
+      (λ fair. settle_posted s e.token (all_found (IsEntryOf (next_number s.filter.volume) s.filter.volume.next_item.0 s.filter.volume.epoch s.volatile.tokens) (λ f. same_key f.token.0 e.token.0) (book_now s).entries e live (h.1 fair).now.given).0.token) (λ fair. tt) h
 
   entry_left : Invariant s → IsListening s → entry_of (book_now s) e.token ≡ Some e → (u : Unit {0}) (t : State) → Ends (settle_entry e s) u t → no_number t ≡ false → Left t
   entry_left h listening live u t ends left = by (no_number s) refl (given_of h live) ends where
@@ -201,7 +202,7 @@ With w es x = Since w x × Entries es x
 settle_keeps : (w : State) (e : QueueEntry) (es : List QueueEntry) (s : State) → With w (e ∷ es) s → Keeps (With w (e ∷ es)) (settle_entry e s)
 settle_keeps w e es s h =
     send_now_at (With w (e ∷ es)) (guarded_framed ⊥ no_item Whatever (λ d p k. tt) (e ∷ es) (Since w) (since_guarded w)) (request.Settle e.token) s
-    (λ fair. settle_posted s e.token (h.1.1 fair).0) h
+    (λ fair. settle_posted s e.token (h.1.1 fair).0) (λ fair. tt) h
 
 each_left : (es : List QueueEntry) (s : State) (u : Unit {0}) (t : State) → (book_now s).entries ≡ es → Invariant s → IsFair s.link → IsListening s → Entries es s → Ends (each settle_entry es s) u t → no_number t ≡ false → IsTold s t ⊎ IsSettledTo [] s t
 each_left [] s u t is h fair listening given ends left = inr (subst (IsSettledTo [] s) (sym ends.1) (none_settled s is))

@@ -9,11 +9,10 @@ use Rattle.cf_model.specs.Items.{Item}
 use Rattle.cf_model.specs.Settled.{has_one_local, is_settled}
 use Rattle.cf_model.specs.State.{State, items_now}
 use Rattle.cf_model.specs.Store.{Stored}
-use Rattle.cf_model_laws.specs.Invariant.{All}
+use Rattle.cf_model_laws.specs.Invariant.{All, Among}
 use Rattle.cf_model_laws.proofs.Gathered.{all_weaker}
 use Rattle.cf_model_laws.proofs.RightItems.{no_way}
 use Rattle.cf_model_laws.proofs.SoundSettles.{left_true, right_true}
-use Rattle.cf_model_convergence.specs.Feeds.{Among}
 use Rattle.cf_model_convergence.specs.Resting.{AreAllTargets, AreTargetsApart, IsAtRest}
 use Rattle.cf_model_convergence.proofs.FeedsTold.{all_among}
 use Rattle.cf_model_convergence.proofs.RestingMatches.{rest_matches}

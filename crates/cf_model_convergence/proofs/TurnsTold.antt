@@ -35,7 +35,7 @@ use Rattle.cf_model_laws.proofs.Leading.{Leads, leads_bind, leads_mapped}
 use Rattle.cf_model_laws.proofs.PushRepliesGuarded.{each_at}
 use Rattle.cf_model_laws.proofs.PushesGuarded.{lone, right_of, targeted, upload_now_at}
 use Rattle.cf_model_laws.proofs.RightItems.{both_none, no_way, no_way_back}
-use Rattle.cf_model_laws.proofs.SkipsGuarded.{Any, Led, Whichever, guarded_skipping, try_change_at, try_led}
+use Rattle.cf_model_laws.proofs.SkipsGuarded.{Any, Led, Unnamed, guarded_skipping, try_change_at, try_led}
 use Rattle.cf_model_laws.proofs.SoundFilters.{change_leads}
 use Rattle.cf_model_laws.proofs.SoundSettles.{each_found, same_item}
 use Rattle.cf_model_convergence.specs.Telling.{IsListening, IsSpared, IsToUpload, IsTold, IsTurned, IsAside}
@@ -136,7 +136,7 @@ module _ (s : State) (h : Invariant s) (fair : IsFair s.link) (listening : IsLis
       (upload_now_at (Since m) (since_guarded m) (since_entering m) i.id (item_of (items_now m) i.id) m refl
       (λ f. subst (λ (es : List QueueEntry). NoEntry es i.id) (sym (led.after.entries (λ b. refl))) (lone (book_now s).entries i.id free))
       (λ k e. each_at i.id (λ x. x.placeholder ≡ true) (items_now m) k e (subst (Each i.id (λ x. x.placeholder ≡ true)) (sym led.after.items) (made (items_now s))))
-      (since_start m (kept_at_end Invariant (try_change convert s) true m (try_change_at Whichever Invariant (guarded_skipping Invariant sound_whole.closed) convert s tt (λ id k. k) (convert_fits bare none) h) first))) ends)) where
+      (since_start m (kept_at_end Invariant (try_change convert s) true m (try_change_at Unnamed Invariant (guarded_skipping Invariant sound_whole.closed) convert s refl (λ id k. k) (convert_fits bare none) h) first))) ends)) where
         led : Led convert s m
         led = leads_ends Any (λ done x. done ≡ true → Led convert s x) (try_change convert s) true m (try_led convert s) first refl
 

@@ -1,5 +1,5 @@
 -- A reply that the remote's rules do not give: whatever becomes of it, the remote did not keep them.
-use Rattle.std.proofs.Common.{◌≡◌, ℕ, Bool, true, false, refl, sym, ◌∙◌, inr}
+use Rattle.std.proofs.Common.{◌≡◌, ℕ, Bool, true, false, refl, sym, ◌∙◌, inr, length}
 use Rattle.std.specs.Prelude.{Some}
 use Rattle.cf_base.specs.declared.messages.Reply.{Reply}
 use Rattle.cf_base.specs.declared.messages.Request.{Request}
@@ -11,7 +11,7 @@ use Rattle.cf_model.specs.Trees.{Ends, Keeps, bind}
 use Rattle.cf_model.proofs.TreeLaws.{kept_at_end}
 use Rattle.cf_model_laws.specs.Premises.{IsFair}
 use Rattle.cf_model_laws.proofs.Guarded.{Guarded}
-use Rattle.cf_model_laws.proofs.MessagesGuarded.{take_reply_at}
+use Rattle.cf_model_laws.proofs.MessagesGuarded.{last_message, take_reply_at}
 use Rattle.cf_model_laws.proofs.RightItems.{no_way}
 use Rattle.cf_model_convergence.specs.Telling.{IsTold, IsUnfair}
 use Rattle.cf_model_convergence.proofs.SinceGuarded.{Follows, Since, since_follows, since_guarded, since_start}
@@ -22,7 +22,7 @@ module _ (P : State → Type 0) (closed : Guarded P) (n : ℕ) (q : Request) (ot
 
   two : (b : Bool) → Keeps P (bind (bind (post_by (frame.Reply n other) b d) (if_kept other)) (take_if_any q))
   two true = (h, closed.loses (frame.Reply n other) d h)
-  two false = (h, take_reply_at P closed n q other (with_message (frame.Reply n other) d) (λ fair. never fair) (closed.posts (frame.Reply n other) d (λ fair. never fair) h))
+  two false = (h, take_reply_at P closed n q other (with_message (frame.Reply n other) d) (λ fair. never fair) (length (with_message (frame.Reply n other) d).link.messages, last_message d.link.messages (frame.Reply n other)) (closed.posts (frame.Reply n other) d (λ fair. never fair) (λ fair. never fair) h))
 
   unfair_keeps : Keeps P (bind (answered n (Some other) d) (take_if_any q))
   unfair_keeps = by (no_number d) where

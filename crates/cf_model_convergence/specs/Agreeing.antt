@@ -7,8 +7,7 @@ use Rattle.cf_model.specs.Numbers.{root_id}
 use Rattle.cf_model.specs.Skips.{in_use}
 use Rattle.cf_model.specs.State.{State, book_now, items_now}
 use Rattle.cf_model.specs.Store.{Stored}
-use Rattle.cf_model_laws.specs.Invariant.{All}
-use Rattle.cf_model_convergence.specs.Feeds.{Among}
+use Rattle.cf_model_laws.specs.Invariant.{All, Among}
 use Rattle.cf_model_convergence.specs.Matching.{IsBelow}
 use Rattle.cf_model_convergence.specs.Resting.{AreTargetsApart, IsKnown, IsTargetOf}
 use Rattle.cf_model_convergence.specs.Tidy.{IsLower, IsTidy}

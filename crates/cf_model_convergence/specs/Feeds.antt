@@ -4,12 +4,8 @@ use Rattle.cf_base.specs.declared.messages.Entry.{Entry}
 use Rattle.cf_model.specs.Fits.{Known}
 use Rattle.cf_model.specs.Growth.{IsCounted}
 use Rattle.cf_model.specs.Store.{Held, Stored, entry_told, stored_at}
-use Rattle.cf_model_laws.specs.Invariant.{All}
+use Rattle.cf_model_laws.specs.Invariant.{All, Among}
 use Rattle.cf_model_convergence.specs.Tidy.{IsLower}
-
-abbrev pub Among : {A : Type 0} → A → List A → Type 0
-Among x [] = ⊥
-Among x (y ∷ ys) = (y ≡ x) ⊎ Among x ys
 
 -- the entry tells an item below the root as it is, which was changed after the clock
 abbrev pub TellsNow : Held → ℕ → Entry → Type 0

@@ -12,9 +12,8 @@ use Rattle.cf_model.specs.Items.{Item, pin_of}
 use Rattle.cf_model.specs.Soundness.{Each}
 use Rattle.cf_model.specs.Store.{Held, Stored, entry_told, stored_at}
 use Rattle.cf_model.specs.Words.{number_of}
-use Rattle.cf_model_laws.specs.Invariant.{All}
+use Rattle.cf_model_laws.specs.Invariant.{All, Among}
 use Rattle.cf_model_convergence.specs.Lasting.{Fact}
-use Rattle.cf_model_convergence.specs.Feeds.{Among}
 use Rattle.cf_model_convergence.specs.Resting.{IsKnown}
 use Rattle.cf_model_convergence.specs.Tidy.{IsLower}
 
@@ -24,14 +23,17 @@ IsPassedRight r b i = (i.id.0 ≡ 1 → ⊥) → (x : Stored) → stored_at r.it
 abbrev pub ArePassedRight : Fact
 ArePassedRight r items b = All (IsPassedRight r b) items
 
--- so it is of an item that the change gives a target or a base, if it does
+-- The property is of an item that the change gives a target or a base, if it does; and it gives none a target by a Convert.
+abbrev pub NamesAs : (Item → Type 0) → List Item → Change → Usn → Type 0
+NamesAs Q items (change.Make item parent name kind size identity) n = Q (made item parent name kind size identity (pin_of items parent) n)
+NamesAs Q items (change.Convert item identity) n = number_of (take 8 identity) ≡ 0
+NamesAs Q items (change.Revert item) n = ⊥
+NamesAs Q items (change.Rebase item identity len at) n = Each item (λ i. Q (rebased identity len at i)) items
+NamesAs Q items (change.Take item identity size) n = Each item (λ i. Q (took identity size n i)) items
+NamesAs Q items c n = Unit {0}
+
 abbrev pub NamesRight : Held → Book → List Item → Change → Usn → Type 0
-NamesRight r b items (change.Make item parent name kind size identity) n = IsPassedRight r b (made item parent name kind size identity (pin_of items parent) n)
-NamesRight r b items (change.Convert item identity) n = number_of (take 8 identity) ≡ 0
-NamesRight r b items (change.Revert item) n = ⊥
-NamesRight r b items (change.Rebase item identity len at) n = Each item (λ i. IsPassedRight r b (rebased identity len at i)) items
-NamesRight r b items (change.Take item identity size) n = Each item (λ i. IsPassedRight r b (took identity size n i)) items
-NamesRight r b items c n = Unit {0}
+NamesRight r b items c n = NamesAs (IsPassedRight r b) items c n
 
 -- no item below the root is the remote's root
 abbrev pub AreTargetsLower : List Item → Type 0

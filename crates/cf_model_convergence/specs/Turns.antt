@@ -9,8 +9,7 @@ use Rattle.cf_model.specs.Identities.{by_target}
 use Rattle.cf_model.specs.Items.{Item}
 use Rattle.cf_model.specs.Skips.{in_use, with_book}
 use Rattle.cf_model.specs.State.{State, book_now, items_now}
-use Rattle.cf_model_laws.specs.Invariant.{All}
-use Rattle.cf_model_convergence.specs.Feeds.{Among}
+use Rattle.cf_model_laws.specs.Invariant.{All, Among}
 
 -- The items are as they were, the entry's path is the one seen of the item, and its version is not newer than a file's base.
 pub record IsTakenIn (e : Entry) (i : Item) (s t : State) : Type 0 where

@@ -26,12 +26,14 @@ use Rattle.cf_model_laws.proofs.Guarded.{Deleting, Entering, Guarded, GuardedFil
 use Rattle.cf_model_laws.proofs.SkipsGuarded.{keeps_both}
 use Rattle.cf_model_headline.proofs.ShownChanges.{Noticed}
 use Rattle.std.specs.Prelude.{ℕ, ◌+◌}
+use Rattle.cf_model_laws.proofs.SinceKept.{moved_weaker, on_filter_weaker, record_weaker}
+use Rattle.cf_model_laws.specs.Taken.{Knowledge}
 
-filter_noticed : (Q : Filter → Type 0) → ClosedFilter Q → (l : Link) (tokens : ℕ) (P : Filter → Type 0) → GuardedFilter l tokens P → GuardedFilter l tokens (λ x. P x × Q x)
+filter_noticed : (Q : Filter → Type 0) → ClosedFilter Q → {On : Knowledge} (l : Link) (tokens : ℕ) (P : Filter → Type 0) → GuardedFilter On l tokens P → GuardedFilter On l tokens (λ x. P x × Q x)
 filter_noticed Q q l tokens P closed = record {
   sound = λ x h fair. closed.sound x h.0 fair;
-  change = λ f c x keeps seen free fit h. keeps_both P Q (change_with f c x) (closed.change f c x keeps seen free fit h.0) ((q.change f c).keeps x h.1);
-  touch = λ f c item d x quiet keeps seen on fit h. keeps_both P Q (then_do (change_with f c) (then_do (settle item d) done) x) (closed.touch f c item d x quiet keeps seen on fit h.0)
+  change = λ f c x keeps seen free fit known h. keeps_both P Q (change_with f c x) (closed.change f c x keeps seen free fit known h.0) ((q.change f c).keeps x h.1);
+  touch = λ f c item d x quiet keeps seen on fit known h. keeps_both P Q (then_do (change_with f c) (then_do (settle item d) done) x) (closed.touch f c item d x quiet keeps seen on fit known h.0)
       (keeps_bind Q (change_with f c x) (λ _ t. then_do (settle item d) done t) ((q.change f c).keeps x h.1) (λ a t j. keeps_bind Q (settle item d t) (λ _ y. done y) ((q.settled item d).keeps t j) (λ b y m. m)));
   commits = record { keeps = λ x h. keeps_both P Q (in_volume commit x) (closed.commits.keeps x h.0) (q.commits.keeps x h.1) };
   settled = λ item d x others h. keeps_both P Q (settle item d x) (closed.settled item d x others h.0) ((q.settled item d).keeps x h.1);
@@ -62,14 +64,14 @@ module _ (Q : Filter → Type 0) (q : Noticed Q) (P : State → Type 0) where
   pub guarded_noticed : Guarded P → Guarded Both
   guarded_noticed closed = record {
     replay = λ s h. closed.replay s h.0;
-    on_filter = λ s h. filter_noticed Q q.closed s.link s.volatile.tokens (λ x. P (with_filter x s)) (closed.on_filter s h.0);
+    on_filter = λ s h. filter_noticed Q q.closed s.link s.volatile.tokens (λ x. P (with_filter x s)) (on_filter_weaker P Both (λ t k. k.0) s.link s.volatile.tokens _ (closed.on_filter s h.0));
     keeps_counted = λ s h. (closed.keeps_counted s h.0, h.1);
     asked = λ r s well h. (closed.asked r s well h.0, h.1);
     told = λ held s h. (closed.told held s h.0, h.1);
-    posts = λ f s well h. (closed.posts f s well h.0, q.notes (notice.Message _) s.filter refl refl h.1);
+    posts = λ f s well now h. (closed.posts f s well now h.0, q.notes (notice.Message _) s.filter refl refl h.1);
     loses = λ f s h. (closed.loses f s h.0, q.notes (notice.Message _) s.filter refl refl h.1);
-    books = λ f s keeps placed h. (closed.books f s keeps placed h.0, book_noticed Q q f s h.1);
-    moved = λ e s is live h. (closed.moved e s is live h.0, book_noticed Q q (with_seen (entry_seen e)) (with_volatile (taken_from_row e) (with_book (without_entry e.token) s)) (book_noticed Q q (without_entry e.token) s h.1));
+    books = λ f s keeps placed known h. (closed.books f s keeps placed (λ fair. record_weaker P Both (λ t k. k.0) f s (known fair)) h.0, book_noticed Q q f s h.1);
+    moved = λ e s is live known h. (closed.moved e s is live (λ fair. moved_weaker P Both (λ t k. k.0) e s (known fair)) h.0, book_noticed Q q (with_seen (entry_seen e)) (with_volatile (taken_from_row e) (with_book (without_entry e.token) s)) (book_noticed Q q (without_entry e.token) s h.1));
     leaves = λ token s h. (closed.leaves token s h.0, book_noticed Q q (without_entry token) s h.1);
     keeps_fault_line = λ m s h. (closed.keeps_fault_line m s h.0, q.notes (notice.Fault m) s.filter refl refl h.1);
     keeps_showing = λ s h. (closed.keeps_showing s h.0, h.1);

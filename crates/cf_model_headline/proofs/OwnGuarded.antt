@@ -46,6 +46,8 @@ use Rattle.cf_model_laws.proofs.BesideGuarded.{HoldsIn}
 use Rattle.cf_model_headline.proofs.AskedReads.{IsThe, IsWait, not_new}
 use Rattle.cf_model_headline.proofs.OwnReads.{At, Knows, OwnOf, all_the, begins_own, changing, growing, plainly, settles, told, under}
 use Rattle.cf_model_headline.proofs.ReadsGuarded.{quiet_others}
+use Rattle.cf_model_laws.proofs.SinceKept.{moved_weaker, on_filter_weaker, record_weaker}
+use Rattle.cf_model_laws.specs.Taken.{Knowledge}
 
 module _ (base : Log) (id : WaitId) (item : ItemId) (span : Span) where
   abbrev Of : Link → Filter → Type 0
@@ -91,12 +93,12 @@ module _ (base : Log) (id : WaitId) (item : ItemId) (span : Span) where
       not_down : cause.Down ≡ cause.Met → ⊥
       not_down z = let y : ◌≡◌ {A = Cause} cause.Down cause.Met = z in cc
 
-  filter_own : (l : Link) (tokens : ℕ) (P : Filter → Type 0) → ((x : Filter) → P x → Known l x) → GuardedFilter l tokens P → GuardedFilter l tokens (λ x. P x × Of l x)
+  filter_own : {On : Knowledge} (l : Link) (tokens : ℕ) (P : Filter → Type 0) → ((x : Filter) → P x → Known l x) → GuardedFilter On l tokens P → GuardedFilter On l tokens (λ x. P x × Of l x)
   filter_own l tokens P knows closed = record {
     sound = λ x h fair. closed.sound x h.0 fair;
-    change = λ f c x keeps seen free fit h. keeps_both P (Of l) (change_with f c x) (closed.change f c x keeps seen free fit h.0)
+    change = λ f c x keeps seen free fit known h. keeps_both P (Of l) (change_with f c x) (closed.change f c x keeps seen free fit known h.0)
         (kept_leads (Of l) (change_with f c x) (leads_weaker (Of l) (λ u t. Of l t × (IsFair l → IsTruly l.remote t) × (IsFair l → All (IsThe id.0 item span) t.waiting.waits)) (λ u t. Of l t) (change_with f c x) (λ u t k. k.0) (changed l tokens f c x keeps fit (closed.sound x h.0) (knows x h.0) h.1)));
-    touch = λ f c i d x quiet keeps seen on fit h. keeps_both P (Of l) (then_do (change_with f c) (then_do (settle i d) done) x) (closed.touch f c i d x quiet keeps seen on fit h.0)
+    touch = λ f c i d x quiet keeps seen on fit known h. keeps_both P (Of l) (then_do (change_with f c) (then_do (settle i d) done) x) (closed.touch f c i d x quiet keeps seen on fit known h.0)
         (kept_leads (Of l) (then_do (change_with f c) (then_do (settle i d) done) x)
         (leads_bind (Of l) (λ u t. Of l t × (IsFair l → IsTruly l.remote t) × (IsFair l → All (IsThe id.0 item span) t.waiting.waits)) (λ u t. Of l t) (change_with f c x) (λ _ t. then_do (settle i d) done t) (changed l tokens f c x keeps fit (closed.sound x h.0) (knows x h.0) h.1)
         (λ u t k. leads_kept (Of l) (then_do (settle i d) done t) (keeps_bind (Of l) (settle i d t) (λ _ y. done y) (settles base id item span (IsFair l) l.remote i d t (quiet_others d quiet t) k.1 k.2 k.0) (λ b y m. m)))));
@@ -142,14 +144,14 @@ module _ (base : Log) (id : WaitId) (item : ItemId) (span : Span) where
   pub guarded_own : (P : State → Type 0) → ((s : State) → P s → HoldsIn (IsWait id.0 item span) s) → Guarded P → Guarded (λ s. P s × OfState s)
   guarded_own P knows closed = record {
     replay = λ s h. closed.replay s h.0;
-    on_filter = λ s h. filter_own s.link s.volatile.tokens (λ x. P (with_filter x s)) (λ x k. knows (with_filter x s) k) (closed.on_filter s h.0);
+    on_filter = λ s h. filter_own s.link s.volatile.tokens (λ x. P (with_filter x s)) (λ x k. knows (with_filter x s) k) (on_filter_weaker P (λ t. P t × OfState t) (λ t k. k.0) s.link s.volatile.tokens _ (closed.on_filter s h.0));
     keeps_counted = λ s h. (closed.keeps_counted s h.0, h.1);
     asked = λ q s well h. (closed.asked q s well h.0, grown s.link (with_remote (remote_step s.link.remote q).1 (counted s)).link s.filter (λ fair. ((fair.0, small_before s.link.remote q fair.1), step_extends s.link.remote q)) h.1);
     told = λ held s h. (closed.told held s h.0, grown s.link (distrusted (with_remote held (counted s))).link s.filter (λ fair. no_way fair.0) h.1);
-    posts = λ f s well h. (closed.posts f s well h.0, noted s.link (notice.Message _) s.filter refl h.1);
+    posts = λ f s well now h. (closed.posts f s well now h.0, noted s.link (notice.Message _) s.filter refl h.1);
     loses = λ f s h. (closed.loses f s h.0, noted s.link (notice.Message _) s.filter refl h.1);
-    books = λ f s keeps placed h. (closed.books f s keeps placed h.0, h.1);
-    moved = λ e s is live h. (closed.moved e s is live h.0, h.1);
+    books = λ f s keeps placed known h. (closed.books f s keeps placed (λ fair. record_weaker P (λ t. P t × OfState t) (λ t k. k.0) f s (known fair)) h.0, h.1);
+    moved = λ e s is live known h. (closed.moved e s is live (λ fair. moved_weaker P (λ t. P t × OfState t) (λ t k. k.0) e s (known fair)) h.0, h.1);
     leaves = λ token s h. (closed.leaves token s h.0, h.1);
     keeps_fault_line = λ m s h. (closed.keeps_fault_line m s h.0, noted s.link (notice.Fault m) s.filter refl h.1);
     keeps_showing = λ s h. (closed.keeps_showing s h.0, h.1);

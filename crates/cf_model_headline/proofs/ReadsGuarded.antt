@@ -52,6 +52,8 @@ use Rattle.cf_model_headline.specs.Reads.{data_shown}
 use Rattle.cf_model_headline.specs.Reports.{changes_in, is_device}
 use Rattle.cf_model_headline.proofs.ReadLines.{EndsMet, IsTruly, Known, Log, Reading, ReadingOf, all_ended, all_lines, changing, growing, plainly, settles, sound_truly, step_ends, told}
 use Rattle.cf_model_headline.proofs.ShownChanges.{none_in}
+use Rattle.cf_model_laws.proofs.SinceKept.{moved_weaker, on_filter_weaker, record_weaker}
+use Rattle.cf_model_laws.specs.Taken.{Knowledge}
 
 -- a step that ends no wait of its own
 pub quiet_others : (d : Deed) → IsQuiet d → (x : Filter) → EndsOthers d x
@@ -126,12 +128,12 @@ module _ (base : Log) (ws : List Wait) (e n : ℕ) where
   accesses l item true x h = h
   accesses l item false x h = h
 
-  filter_reading : (l : Link) (tokens : ℕ) (P : Filter → Type 0) → GuardedFilter l tokens P → GuardedFilter l tokens (λ x. P x × At l x)
+  filter_reading : {On : Knowledge} (l : Link) (tokens : ℕ) (P : Filter → Type 0) → GuardedFilter On l tokens P → GuardedFilter On l tokens (λ x. P x × At l x)
   filter_reading l tokens P closed = record {
     sound = λ x h fair. closed.sound x h.0 fair;
-    change = λ f c x keeps seen free fit h. keeps_both P (At l) (change_with f c x) (closed.change f c x keeps seen free fit h.0)
+    change = λ f c x keeps seen free fit known h. keeps_both P (At l) (change_with f c x) (closed.change f c x keeps seen free fit known h.0)
         (kept_leads (At l) (change_with f c x) (leads_weaker (At l) (λ u t. At l t × (IsFair l → IsTruly l.remote t)) (λ u t. At l t) (change_with f c x) (λ u t k. k.0) (changed l tokens f c x keeps fit (closed.sound x h.0) h.1)));
-    touch = λ f c item d x quiet keeps seen on fit h. keeps_both P (At l) (then_do (change_with f c) (then_do (settle item d) done) x) (closed.touch f c item d x quiet keeps seen on fit h.0)
+    touch = λ f c item d x quiet keeps seen on fit known h. keeps_both P (At l) (then_do (change_with f c) (then_do (settle item d) done) x) (closed.touch f c item d x quiet keeps seen on fit known h.0)
         (kept_leads (At l) (then_do (change_with f c) (then_do (settle item d) done) x)
         (leads_bind (At l) (λ u t. At l t × (IsFair l → IsTruly l.remote t)) (λ u t. At l t) (change_with f c x) (λ _ t. then_do (settle item d) done t) (changed l tokens f c x keeps fit (closed.sound x h.0) h.1)
         (λ u t k. leads_kept (At l) (then_do (settle item d) done t) (keeps_bind (At l) (settle item d t) (λ _ y. done y) (settles base ws e n (IsFair l) l.remote item d t (quiet_others d quiet t) k.1 k.0) (λ b y m. m)))));
@@ -174,14 +176,14 @@ module _ (base : Log) (ws : List Wait) (e n : ℕ) where
     pub guarded_reading : Guarded P → Guarded Both
     guarded_reading closed = record {
       replay = λ s h. closed.replay s h.0;
-      on_filter = λ s h. filter_reading s.link s.volatile.tokens (λ x. P (with_filter x s)) (closed.on_filter s h.0);
+      on_filter = λ s h. filter_reading s.link s.volatile.tokens (λ x. P (with_filter x s)) (on_filter_weaker P Both (λ t k. k.0) s.link s.volatile.tokens _ (closed.on_filter s h.0));
       keeps_counted = λ s h. (closed.keeps_counted s h.0, h.1);
       asked = λ q s well h. (closed.asked q s well h.0, grown s.link (with_remote (remote_step s.link.remote q).1 (counted s)).link s.filter (λ fair. ((fair.0, small_before s.link.remote q fair.1), step_extends s.link.remote q)) h.1);
       told = λ held s h. (closed.told held s h.0, grown s.link (distrusted (with_remote held (counted s))).link s.filter (λ fair. no_way fair.0) h.1);
-      posts = λ f s well h. (closed.posts f s well h.0, noted s.link (notice.Message _) s.filter refl refl h.1);
+      posts = λ f s well now h. (closed.posts f s well now h.0, noted s.link (notice.Message _) s.filter refl refl h.1);
       loses = λ f s h. (closed.loses f s h.0, noted s.link (notice.Message _) s.filter refl refl h.1);
-      books = λ f s keeps placed h. (closed.books f s keeps placed h.0, h.1);
-      moved = λ e s is live h. (closed.moved e s is live h.0, h.1);
+      books = λ f s keeps placed known h. (closed.books f s keeps placed (λ fair. record_weaker P Both (λ t k. k.0) f s (known fair)) h.0, h.1);
+      moved = λ e s is live known h. (closed.moved e s is live (λ fair. moved_weaker P Both (λ t k. k.0) e s (known fair)) h.0, h.1);
       leaves = λ token s h. (closed.leaves token s h.0, h.1);
       keeps_fault_line = λ m s h. (closed.keeps_fault_line m s h.0, noted s.link (notice.Fault m) s.filter refl refl h.1);
       keeps_showing = λ s h. (closed.keeps_showing s h.0, h.1);

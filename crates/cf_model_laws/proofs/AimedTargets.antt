@@ -35,6 +35,13 @@ pub retargeted : (b : Bool) (old new : Rid) (t : ℕ) → (cond b root_rid old).
 retargeted true old new t a k = k
 retargeted false old new t a k = sym a ∙ k
 
+-- an item with no target comes to have one
+pub newly_aimed : (b : Bool) (old new : Rid) → (cond b root_rid old).0 ≡ 0 → (cond b root_rid new).0 ≡ new.0
+newly_aimed true old new h = absurd (never h) where
+  never : ◌≡◌ {A = ℕ} 1 0 → ⊥
+  never z = omega (arith, z)
+newly_aimed false old new h = refl
+
 -- an item below the root has the target that its identity names
 pub below_root : (id : ℕ) (rid : Rid) → 2 ≤ id → cond (id == 1) root_rid rid ≡ rid
 below_root id rid h = by (id == 1) refl where

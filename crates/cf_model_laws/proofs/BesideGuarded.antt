@@ -43,6 +43,8 @@ use Rattle.cf_model_laws.proofs.RightItems.{no_way}
 use Rattle.cf_model_laws.proofs.SkipsGuarded.{keeps_both}
 use Rattle.cf_model_laws.proofs.SoundFilters.{change_leads}
 use Rattle.cf_model_laws.proofs.SoundStates.{small_before}
+use Rattle.cf_model_laws.proofs.SinceKept.{moved_weaker, on_filter_weaker, record_weaker}
+use Rattle.cf_model_laws.specs.Taken.{Knowledge}
 
 -- of the link, the epoch and its last place, the log, the handles and how many were given, the waits and how many were
 abbrev pub Fact : Type 1
@@ -124,11 +126,11 @@ accessed_beside F l item false x h = h
 
 -- the filter
 
-filter_beside : (K : Filter → Type 0) (F : Fact) → Knowing K F → (l : Link) (tokens : ℕ) (P : Filter → Type 0) → ((x : Filter) → P x → IsFair l → K x) → GuardedFilter l tokens P → GuardedFilter l tokens (λ x. P x × Holds F l x)
+filter_beside : (K : Filter → Type 0) (F : Fact) → Knowing K F → {On : Knowledge} (l : Link) (tokens : ℕ) (P : Filter → Type 0) → ((x : Filter) → P x → IsFair l → K x) → GuardedFilter On l tokens P → GuardedFilter On l tokens (λ x. P x × Holds F l x)
 filter_beside K F b l tokens P knows closed = record {
   sound = λ x h fair. closed.sound x h.0 fair;
-  change = λ f c x keeps seen free fit h. keeps_both P (Holds F l) (change_with f c x) (closed.change f c x keeps seen free fit h.0) (changed_beside F l f c x h.1 (b.puts l tokens c x (closed.sound x h.0) fit (knows x h.0) h.1));
-  touch = λ f c item d x quiet keeps seen on fit h. keeps_both P (Holds F l) (then_do (change_with f c) (then_do (settle item d) done) x) (closed.touch f c item d x quiet keeps seen on fit h.0)
+  change = λ f c x keeps seen free fit known h. keeps_both P (Holds F l) (change_with f c x) (closed.change f c x keeps seen free fit known h.0) (changed_beside F l f c x h.1 (b.puts l tokens c x (closed.sound x h.0) fit (knows x h.0) h.1));
+  touch = λ f c item d x quiet keeps seen on fit known h. keeps_both P (Holds F l) (then_do (change_with f c) (then_do (settle item d) done) x) (closed.touch f c item d x quiet keeps seen on fit known h.0)
       (keeps_bind (Holds F l) (change_with f c x) (λ _ t. then_do (settle item d) done t) (changed_beside F l f c x h.1 (b.puts l tokens c x (closed.sound x h.0) fit (knows x h.0) h.1)) (λ a t j. keeps_bind (Holds F l) (settle item d t) (λ _ y. done y) (settle_beside K F b l item d t j) (λ a y m. m)));
   commits = record { keeps = λ x h. keeps_both P (Holds F l) (in_volume commit x) (closed.commits.keeps x h.0) (h.1, h.1) };
   settled = λ item d x others h. keeps_both P (Holds F l) (settle item d x) (closed.settled item d x others h.0) (settle_beside K F b l item d x h.1);
@@ -164,7 +166,7 @@ linked K F b l k x fair same h =
 pub guarded_knowing : (K : Filter → Type 0) (F : Fact) → Knowing K F → (P : State → Type 0) → ((s : State) → P s → IsFair s.link → K s.filter) → Guarded P → Guarded (λ s. P s × HoldsIn F s)
 guarded_knowing K F b P knows closed = record {
   replay = λ s h. closed.replay s h.0;
-  on_filter = λ s h. filter_beside K F b s.link s.volatile.tokens (λ x. P (with_filter x s)) (λ x k fair. knows (with_filter x s) k fair) (closed.on_filter s h.0);
+  on_filter = λ s h. filter_beside K F b s.link s.volatile.tokens (λ x. P (with_filter x s)) (λ x k fair. knows (with_filter x s) k fair) (on_filter_weaker P (λ t. P t × HoldsIn F t) (λ t k. k.0) s.link s.volatile.tokens _ (closed.on_filter s h.0));
   keeps_counted = λ s h. (closed.keeps_counted s h.0, linked K F b s.link _ s.filter (λ fair. fair) refl h.1);
   asked = λ q s well h. (
     closed.asked q s well h.0,
@@ -174,10 +176,10 @@ guarded_knowing K F b P knows closed = record {
     closed.told held s h.0,
     b.grows s.link _ s.filter.volume.epoch s.filter.volume.place s.filter.volume.log s.filter.handles s.filter.handle_count s.filter.waiting.waits s.filter.waiting.wait_count (λ fair. no_way fair.0) h.1,
   );
-  posts = λ f s well h. (closed.posts f s well h.0, linked K F b s.link _ s.filter (λ fair. fair) refl h.1);
+  posts = λ f s well now h. (closed.posts f s well now h.0, linked K F b s.link _ s.filter (λ fair. fair) refl h.1);
   loses = λ f s h. (closed.loses f s h.0, linked K F b s.link _ s.filter (λ fair. fair) refl h.1);
-  books = λ f s keeps placed h. (closed.books f s keeps placed h.0, h.1);
-  moved = λ e s is live h. (closed.moved e s is live h.0, h.1);
+  books = λ f s keeps placed known h. (closed.books f s keeps placed (λ fair. record_weaker P (λ t. P t × HoldsIn F t) (λ t k. k.0) f s (known fair)) h.0, h.1);
+  moved = λ e s is live known h. (closed.moved e s is live (λ fair. moved_weaker P (λ t. P t × HoldsIn F t) (λ t k. k.0) e s (known fair)) h.0, h.1);
   leaves = λ token s h. (closed.leaves token s h.0, h.1);
   keeps_fault_line = λ m s h. (closed.keeps_fault_line m s h.0, h.1);
   keeps_showing = λ s h. (closed.keeps_showing s h.0, h.1);

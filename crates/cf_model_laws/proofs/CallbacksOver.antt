@@ -161,7 +161,7 @@ delivered_over m answers q p s t r at asked h o e = by (is_stale q p s) refl e w
   by true k i = subst Outs (sym i.1) o
   by false k i =
       drained_over (act_on p) (ret shown.Done) (showing s) t r
-      (acts_at Beside beside.closed answers q p (showing s) k (λ fair. told_by s m answers q p (sound_of Beside beside.closed s h fair) (sym (is_message s m) ∙ at) (sym (is_message s answers) ∙ asked)) (beside.closed.keeps_showing s h))
+      (acts_at Beside beside.closed answers q p (showing s) k (λ fair. told_by s m answers q p (sound_of Beside beside.closed s h fair) (sym (is_message s m) ∙ at) (sym (is_message s answers) ∙ asked)) (m, sym (is_message s m) ∙ at) (beside.closed.keeps_showing s h))
       (λ x y z j. j.1) i
 
 replied_over : (m answers : ℕ) (p : Reply) (f : Option Frame) (s t : State) (r : Shown) → message_at s m ≡ Some (frame.Reply answers p) → message_at s answers ≡ f → Beside s → Outs s → Ends (deliver_reply p f s) r t → Outs t

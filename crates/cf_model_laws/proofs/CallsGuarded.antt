@@ -65,20 +65,21 @@ use Rattle.cf_model_laws.proofs.Plainly.{IsPlain, checked_at, head_false, plains
 use Rattle.cf_model_laws.proofs.RightItems.{no_way}
 use Rattle.cf_model_laws.proofs.SoundChanges.{KeepsEntries}
 use Rattle.cf_model_laws.proofs.SoundSettles.{not_false, not_true, right_true}
+use Rattle.cf_model_laws.specs.Taken.{Knowledge}
 
-open_item_at : (l : Link) (tokens : ℕ) (P : Filter → Type 0) → GuardedFilter l tokens P → (i : Item) (x : Filter) → (IsFair l → (item_of x.volume.items i.id ≡ Some i) × (i.directory ≡ false)) → P x → Keeps P (open_item i x)
+open_item_at : {On : Knowledge} (l : Link) (tokens : ℕ) (P : Filter → Type 0) → GuardedFilter On l tokens P → (i : Item) (x : Filter) → (IsFair l → (item_of x.volume.items i.id ≡ Some i) × (i.directory ≡ false)) → P x → Keeps P (open_item i x)
 open_item_at l tokens P closed i x there h = checked_at P open_tests (reading next_handle (opened_as i.id)) x h (λ e. closed.keeps_with_handle i.id x (λ fair. inl (i, (there fair).0, (there fair).1)) h)
 
-pub open_file_keeps : (l : Link) (tokens : ℕ) (P : Filter → Type 0) → GuardedFilter l tokens P → (x1 : List ℕ) → Preserves P (open_file x1)
+pub open_file_keeps : {On : Knowledge} (l : Link) (tokens : ℕ) (P : Filter → Type 0) → GuardedFilter On l tokens P → (x1 : List ℕ) → Preserves P (open_file x1)
 open_file_keeps l tokens P closed path = waits_keep.on_file_at l tokens P closed path open_item (open_item_at l tokens P closed)
 
-pub changing_keeps : (l : Link) (tokens : ℕ) (P : Filter → Type 0) → GuardedFilter l tokens P → (cs : List Change) → All IsPlain cs → (answer : Arrow Filter Shown) → Preserves P answer → Preserves P (changing cs answer)
+pub changing_keeps : {On : Knowledge} (l : Link) (tokens : ℕ) (P : Filter → Type 0) → GuardedFilter On l tokens P → (cs : List Change) → All IsPlain cs → (answer : Arrow Filter Shown) → Preserves P answer → Preserves P (changing cs answer)
 changing_keeps l tokens P closed cs plain answer answer_keeps = operations_keep.checked_keeps l tokens P closed (room_tests cs) (then_do (changes cs) answer) (keeps_then P (changes cs) answer (plains_keep l tokens P closed cs plain) answer_keeps)
 
-pub show_number_keeps : (l : Link) (tokens : ℕ) (P : Filter → Type 0) → GuardedFilter l tokens P → (x1 : Usn) → Preserves P (show_number x1)
+pub show_number_keeps : {On : Knowledge} (l : Link) (tokens : ℕ) (P : Filter → Type 0) → GuardedFilter On l tokens P → (x1 : Usn) → Preserves P (show_number x1)
 show_number_keeps l tokens P closed n = keeps_ret P (shown.Number n)
 
-pub number_of_keeps : (l : Link) (tokens : ℕ) (P : Filter → Type 0) → GuardedFilter l tokens P → (x1 : ItemId) → Preserves P (number_of x1)
+pub number_of_keeps : {On : Knowledge} (l : Link) (tokens : ℕ) (P : Filter → Type 0) → GuardedFilter On l tokens P → (x1 : ItemId) → Preserves P (number_of x1)
 number_of_keeps l tokens P closed item = keeps_reading P (number_at item) show_number (show_number_keeps l tokens P closed)
 
 -- a write or a size, and what follows
@@ -92,29 +93,29 @@ on_handle_at P h f k = record { keeps = λ x j. by x j (opened_by h x) refl } wh
   by x j None e = j
   by x j (Some o) e = k o.item x (h, o, e, refl) j
 
-write_item_at : (l : Link) (tokens : ℕ) (P : Filter → Type 0) → GuardedFilter l tokens P → (at : ℕ) (bytes : List ℕ) (item : ItemId) (x : Filter) → IsOpenOn x item → P x → Keeps P (write_item at bytes item x)
+write_item_at : {On : Knowledge} (l : Link) (tokens : ℕ) (P : Filter → Type 0) → GuardedFilter On l tokens P → (at : ℕ) (bytes : List ℕ) (item : ItemId) (x : Filter) → IsOpenOn x item → P x → Keeps P (write_item at bytes item x)
 write_item_at l tokens P closed at [] item x used h = h
 write_item_at l tokens P closed at (b ∷ bs) item x used h =
     checked_at P (write_tests (at + length (b ∷ bs)) (change.Write item at (b ∷ bs) ∷ [])) (write_now item (change.Write item at (b ∷ bs))) x h
-    (λ e. closed.touch (with_access item) (change.Write item at (b ∷ bs)) item Nothing x tt (access_same item) (λ fair. ((λ z. absurd z), (λ k. k), λ b. refl)) (λ id k. k) (λ fair. used) h)
+    (λ e. closed.touch (with_access item) (change.Write item at (b ∷ bs)) item Nothing x tt (access_same item) (λ fair. ((λ z. absurd z), (λ k. k), λ b. refl)) (λ id k. k) (λ fair. used) (λ fair. (tt, inl (λ b. refl))) h)
 
-pub write_keeps : (l : Link) (tokens : ℕ) (P : Filter → Type 0) → GuardedFilter l tokens P → (x1 : Handle) → (x2 : ℕ) → (x3 : List ℕ) → Preserves P (write x1 x2 x3)
+pub write_keeps : {On : Knowledge} (l : Link) (tokens : ℕ) (P : Filter → Type 0) → GuardedFilter On l tokens P → (x1 : Handle) → (x2 : ℕ) → (x3 : List ℕ) → Preserves P (write x1 x2 x3)
 write_keeps l tokens P closed h at bytes = on_handle_at P h (write_item at bytes) (write_item_at l tokens P closed at bytes)
 
-size_now_at : (l : Link) (tokens : ℕ) (P : Filter → Type 0) → GuardedFilter l tokens P → (item : ItemId) (n : ℕ) (b : Bool) (x : Filter) → IsOpenOn x item → P x → Keeps P (size_now item n b x)
+size_now_at : {On : Knowledge} (l : Link) (tokens : ℕ) (P : Filter → Type 0) → GuardedFilter On l tokens P → (item : ItemId) (n : ℕ) (b : Bool) (x : Filter) → IsOpenOn x item → P x → Keeps P (size_now item n b x)
 size_now_at l tokens P closed item n true x used h = closed.keeps_accessed item x h
-size_now_at l tokens P closed item n false x used h = closed.touch (with_access item) (change.Size item n) item Nothing x tt (access_same item) (λ fair. ((λ z. absurd z), (λ k. k), λ b. refl)) (λ id k. k) (λ fair. used) h
+size_now_at l tokens P closed item n false x used h = closed.touch (with_access item) (change.Size item n) item Nothing x tt (access_same item) (λ fair. ((λ z. absurd z), (λ k. k), λ b. refl)) (λ id k. k) (λ fair. used) (λ fair. (tt, inl (λ b. refl))) h
 
-size_item_at : (l : Link) (tokens : ℕ) (P : Filter → Type 0) → GuardedFilter l tokens P → (n : ℕ) (item : ItemId) (x : Filter) → IsOpenOn x item → P x → Keeps P (size_item n item x)
+size_item_at : {On : Knowledge} (l : Link) (tokens : ℕ) (P : Filter → Type 0) → GuardedFilter On l tokens P → (n : ℕ) (item : ItemId) (x : Filter) → IsOpenOn x item → P x → Keeps P (size_item n item x)
 size_item_at l tokens P closed n item x used h = checked_at P (size_tests item n) (reading (has_size item n) (size_now item n)) x h (λ e. size_now_at l tokens P closed item n (has_size item n x) x used h)
 
-pub set_size_keeps : (l : Link) (tokens : ℕ) (P : Filter → Type 0) → GuardedFilter l tokens P → (x1 : Handle) → (x2 : ℕ) → Preserves P (set_size x1 x2)
+pub set_size_keeps : {On : Knowledge} (l : Link) (tokens : ℕ) (P : Filter → Type 0) → GuardedFilter On l tokens P → (x1 : Handle) → (x2 : ℕ) → Preserves P (set_size x1 x2)
 set_size_keeps l tokens P closed h n = on_handle_at P h (size_item n) (size_item_at l tokens P closed n)
 
-pub show_count_keeps : (l : Link) (tokens : ℕ) (P : Filter → Type 0) → GuardedFilter l tokens P → (x1 : ℕ) → Preserves P (show_count x1)
+pub show_count_keeps : {On : Knowledge} (l : Link) (tokens : ℕ) (P : Filter → Type 0) → GuardedFilter On l tokens P → (x1 : ℕ) → Preserves P (show_count x1)
 show_count_keeps l tokens P closed n = keeps_ret P (shown.Count n)
 
-pub flush_keeps : (l : Link) (tokens : ℕ) (P : Filter → Type 0) → GuardedFilter l tokens P → Preserves P (flush)
+pub flush_keeps : {On : Knowledge} (l : Link) (tokens : ℕ) (P : Filter → Type 0) → GuardedFilter On l tokens P → Preserves P (flush)
 flush_keeps l tokens P closed = keeps_then P (in_volume commit) (reading count_now show_count) closed.commits (keeps_reading P count_now show_count (show_count_keeps l tokens P closed))
 
 buried_same : (b : Bool) (i : Item) (n : Usn) → KeepsEntries (buried b i n)
@@ -151,7 +152,7 @@ none_below : {A : Type 0} (xs : List A) → not (is_empty xs) ≡ false → xs �
 none_below [] e = refl
 none_below (x ∷ xs) e = no_way (sym e)
 
-delete_item_at : (l : Link) (tokens : ℕ) (P : Filter → Type 0) → GuardedFilter l tokens P → Removing l P → (m : Mode) (i : Item) (x : Filter) → (IsFair l → IsChild x.volume.items i) → P x → Keeps P (delete_item m i x)
+delete_item_at : {On : Knowledge} (l : Link) (tokens : ℕ) (P : Filter → Type 0) → GuardedFilter On l tokens P → Removing l P → (m : Mode) (i : Item) (x : Filter) → (IsFair l → IsChild x.volume.items i) → P x → Keeps P (delete_item m i x)
 delete_item_at l tokens P closed removes m i x child h =
     checked_at P (delete_tests i) (reading number_next (delete_now m i)) x h (λ e.
     let rest = tail_none (delete_tests i x) e in
@@ -162,7 +163,7 @@ delete_item_at l tokens P closed removes m i x child h =
       inr (i, (child fair).0, (child fair).1),
     )) h)
 
-pub delete_keeps : (l : Link) (tokens : ℕ) (P : Filter → Type 0) → GuardedFilter l tokens P → Removing l P → (m : Mode) (path : List ℕ) → Preserves P (delete m path)
+pub delete_keeps : {On : Knowledge} (l : Link) (tokens : ℕ) (P : Filter → Type 0) → GuardedFilter On l tokens P → Removing l P → (m : Mode) (path : List ℕ) → Preserves P (delete m path)
 delete_keeps l tokens P closed removes m path = record { keeps = λ x h. by x h (find_below x.volume.items path) refl } where
   by : (x : Filter) → P x → (o : Result Item Code) → find_below x.volume.items path ≡ o → Keeps P (on_ok (delete_item m) o x)
   by x h (Err c) e = h
@@ -173,13 +174,13 @@ no_test : (o : Option Code) → first_of (test_of o) ≡ None → o ≡ None
 no_test None e = refl
 no_test (Some c) e = e
 
-move_at : (l : Link) (tokens : ℕ) (P : Filter → Type 0) → GuardedFilter l tokens P → (i : Item) (p : Place) (b : Bool) (x : Filter) → (IsFair l → Fits l.remote x (change.Move i.id p.parent.id p.name)) → P x
+move_at : {On : Knowledge} (l : Link) (tokens : ℕ) (P : Filter → Type 0) → GuardedFilter On l tokens P → (i : Item) (p : Place) (b : Bool) (x : Filter) → (IsFair l → Fits l.remote x (change.Move i.id p.parent.id p.name)) → P x
     → Keeps P (changes (when b (change.Move i.id p.parent.id p.name ∷ [])) x)
 move_at l tokens P closed i p false x fit h = h
 move_at l tokens P closed i p true x fit h =
-    keeps_bind P (change (change.Move i.id p.parent.id p.name) x) (λ _ t. ret unit t) (closed.change same_book (change.Move i.id p.parent.id p.name) x (λ b. refl) (λ fair. ((λ z b. refl), (λ k. k), λ b. refl)) (λ id k. k) fit h) (λ a t j. j)
+    keeps_bind P (change (change.Move i.id p.parent.id p.name) x) (λ _ t. ret unit t) (closed.change same_book (change.Move i.id p.parent.id p.name) x (λ b. refl) (λ fair. ((λ z b. refl), (λ k. k), λ b. refl)) (λ id k. k) fit (λ fair. (tt, inl (λ b. refl))) h) (λ a t j. j)
 
-rename_to_at : (l : Link) (tokens : ℕ) (P : Filter → Type 0) → GuardedFilter l tokens P → (i : Item) (p : Place) (x : Filter) → (IsFair l → IsChild x.volume.items i) → (IsFair l → IsSeated x.volume.items p.parent.id true) → P x → Keeps P (rename_to i p x)
+rename_to_at : {On : Knowledge} (l : Link) (tokens : ℕ) (P : Filter → Type 0) → GuardedFilter On l tokens P → (i : Item) (p : Place) (x : Filter) → (IsFair l → IsChild x.volume.items i) → (IsFair l → IsSeated x.volume.items p.parent.id true) → P x → Keeps P (rename_to i p x)
 rename_to_at l tokens P closed i p x child seat h = checked_at P (rename_tests i p) (changing (move_of i p) done) x h (λ e.
     let refused = (is_under x.volume.items p.parent.id i.id, code.IntoItself)
     ∷ (nat_lt MOST_PATH_NAMES (depth_at x.volume.items p.parent.id + 1 + height_at x.volume.items i.id), code.TooDeep)
@@ -189,20 +190,20 @@ rename_to_at l tokens P closed i p x child seat h = checked_at P (rename_tests i
     (move_at l tokens P closed i p (not (stands_there i p)) x
     (λ fair. inr (seat fair, head_false refused (no_test (move_refused x.volume.items i.id p.parent.id p.name) e), inr (i, (child fair).0, (child fair).1))) h) (λ a t j. j)))
 
-rename_item_at : (l : Link) (tokens : ℕ) (P : Filter → Type 0) → GuardedFilter l tokens P → (to : List ℕ) (i : Item) (x : Filter) → (IsFair l → IsChild x.volume.items i) → P x → Keeps P (rename_item to i x)
+rename_item_at : {On : Knowledge} (l : Link) (tokens : ℕ) (P : Filter → Type 0) → GuardedFilter On l tokens P → (to : List ℕ) (i : Item) (x : Filter) → (IsFair l → IsChild x.volume.items i) → P x → Keeps P (rename_item to i x)
 rename_item_at l tokens P closed to i x child h = by (find_place x.volume.items to) refl where
   by : (o : Result Place Code) → find_place x.volume.items to ≡ o → Keeps P (on_ok (rename_to i) o x)
   by (Err c) e = h
   by (Ok p) e = rename_to_at l tokens P closed i p x child (λ fair. place_seated to p x.volume.next_item.0 x.volume.items (closed.sound x h fair).now.order e) h
 
-pub rename_keeps : (l : Link) (tokens : ℕ) (P : Filter → Type 0) → GuardedFilter l tokens P → (x1 : List ℕ) → (x2 : List ℕ) → Preserves P (rename x1 x2)
+pub rename_keeps : {On : Knowledge} (l : Link) (tokens : ℕ) (P : Filter → Type 0) → GuardedFilter On l tokens P → (x1 : List ℕ) → (x2 : List ℕ) → Preserves P (rename x1 x2)
 rename_keeps l tokens P closed from to = record { keeps = λ x h. by x h (find_below x.volume.items from) refl } where
   by : (x : Filter) → P x → (o : Result Item Code) → find_below x.volume.items from ≡ o → Keeps P (on_ok (rename_item to) o x)
   by x h (Err c) e = h
   by x h (Ok i) e = rename_item_at l tokens P closed to i x (λ fair. found_child from i x.volume.next_item.0 x.volume.items (closed.sound x h fair).now.order e) h
 
 plain_pin : (id : ItemId) (p : Pin) (b : Bool) → All IsPlain (when b (change.SetPin id p ∷ []))
-plain_pin id p true = (record { fits = λ r x. tt; free = λ id k. k }, tt)
+plain_pin id p true = (record { fits = λ r x. tt; free = λ id k. k; unnamed = tt }, tt)
 plain_pin id p false = tt
 
 plain_pins : (asked : Pin) (items is : List Item) → All IsPlain (pin_changes asked items is)
@@ -211,32 +212,32 @@ plain_pins asked items (i ∷ is) =
     all_append IsPlain (when (not (same_pin (stored_pin asked items i) i.pin)) (change.SetPin i.id (stored_pin asked items i) ∷ [])) (pin_changes asked (changed i.id (pinned (stored_pin asked items i)) items) is)
     (plain_pin i.id (stored_pin asked items i) (not (same_pin (stored_pin asked items i) i.pin))) (plain_pins asked (changed i.id (pinned (stored_pin asked items i)) items) is)
 
-pub pin_item_keeps : (l : Link) (tokens : ℕ) (P : Filter → Type 0) → GuardedFilter l tokens P → (pin : Pin) (reach : Reach) (i : Item) → Preserves P (pin_item pin reach i)
+pub pin_item_keeps : {On : Knowledge} (l : Link) (tokens : ℕ) (P : Filter → Type 0) → GuardedFilter On l tokens P → (pin : Pin) (reach : Reach) (i : Item) → Preserves P (pin_item pin reach i)
 pin_item_keeps l tokens P closed pin reach i =
     record { keeps = λ x h. (changing_keeps l tokens P closed (pins_at i pin reach x) (plain_pins pin x.volume.items (reached x.volume.items i reach)) done (operations_keep.done_keeps l tokens P closed)).keeps x h }
 
-pub set_pin_keeps : (l : Link) (tokens : ℕ) (P : Filter → Type 0) → GuardedFilter l tokens P → (x1 : List ℕ) → (x2 : Pin) → (x3 : Reach) → Preserves P (set_pin x1 x2 x3)
+pub set_pin_keeps : {On : Knowledge} (l : Link) (tokens : ℕ) (P : Filter → Type 0) → GuardedFilter On l tokens P → (x1 : List ℕ) → (x2 : Pin) → (x3 : Reach) → Preserves P (set_pin x1 x2 x3)
 set_pin_keeps l tokens P closed path pin reach = waits_keep.on_path_keeps l tokens P closed path (pin_item pin reach) (pin_item_keeps l tokens P closed pin reach)
 
-pub info_item_keeps : (l : Link) (tokens : ℕ) (P : Filter → Type 0) → GuardedFilter l tokens P → (x1 : Item) → Preserves P (info_item x1)
+pub info_item_keeps : {On : Knowledge} (l : Link) (tokens : ℕ) (P : Filter → Type 0) → GuardedFilter On l tokens P → (x1 : Item) → Preserves P (info_item x1)
 info_item_keeps l tokens P closed i = keeps_ret P (info_of i)
 
-pub info_keeps : (l : Link) (tokens : ℕ) (P : Filter → Type 0) → GuardedFilter l tokens P → (x1 : List ℕ) → Preserves P (info x1)
+pub info_keeps : {On : Knowledge} (l : Link) (tokens : ℕ) (P : Filter → Type 0) → GuardedFilter On l tokens P → (x1 : List ℕ) → Preserves P (info x1)
 info_keeps l tokens P closed path = waits_keep.on_path_keeps l tokens P closed path info_item (info_item_keeps l tokens P closed)
 
-pub ranges_item_keeps : (l : Link) (tokens : ℕ) (P : Filter → Type 0) → GuardedFilter l tokens P → (x1 : Class) → (x2 : Item) → Preserves P (ranges_item x1 x2)
+pub ranges_item_keeps : {On : Knowledge} (l : Link) (tokens : ℕ) (P : Filter → Type 0) → GuardedFilter On l tokens P → (x1 : Class) → (x2 : Item) → Preserves P (ranges_item x1 x2)
 ranges_item_keeps l tokens P closed c i = keeps_ret P (shown.Ranges (runs_of (class_flags c i)))
 
-pub ranges_keeps : (l : Link) (tokens : ℕ) (P : Filter → Type 0) → GuardedFilter l tokens P → (x1 : List ℕ) → (x2 : Class) → Preserves P (ranges x1 x2)
+pub ranges_keeps : {On : Knowledge} (l : Link) (tokens : ℕ) (P : Filter → Type 0) → GuardedFilter On l tokens P → (x1 : List ℕ) → (x2 : Class) → Preserves P (ranges x1 x2)
 ranges_keeps l tokens P closed path c = waits_keep.on_file_keeps l tokens P closed path (ranges_item c) (ranges_item_keeps l tokens P closed c)
 
-pub used_item_keeps : (l : Link) (tokens : ℕ) (P : Filter → Type 0) → GuardedFilter l tokens P → (x1 : Item) → Preserves P (used_item x1)
+pub used_item_keeps : {On : Knowledge} (l : Link) (tokens : ℕ) (P : Filter → Type 0) → GuardedFilter On l tokens P → (x1 : Item) → Preserves P (used_item x1)
 used_item_keeps l tokens P closed i = keeps_reading P (used_now i.id) ret (keeps_ret P)
 
-pub used_keeps : (l : Link) (tokens : ℕ) (P : Filter → Type 0) → GuardedFilter l tokens P → (x1 : List ℕ) → Preserves P (used x1)
+pub used_keeps : {On : Knowledge} (l : Link) (tokens : ℕ) (P : Filter → Type 0) → GuardedFilter On l tokens P → (x1 : List ℕ) → Preserves P (used x1)
 used_keeps l tokens P closed path = waits_keep.on_file_keeps l tokens P closed path used_item (used_item_keeps l tokens P closed)
 
-pub df_keeps : (l : Link) (tokens : ℕ) (P : Filter → Type 0) → GuardedFilter l tokens P → Preserves P (df)
+pub df_keeps : {On : Knowledge} (l : Link) (tokens : ℕ) (P : Filter → Type 0) → GuardedFilter On l tokens P → Preserves P (df)
 df_keeps l tokens P closed = keeps_reading P blocks_now ret (keeps_ret P)
 
 unvalidated : (m : Mode) (p : Policy) → is_replay m ≡ true → is_allowed m p ≡ true → p.validate ≡ false

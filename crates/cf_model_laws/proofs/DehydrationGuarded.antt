@@ -14,7 +14,7 @@ use Rattle.cf_model_laws.proofs.OperationsGuarded as operations_keep
 use Rattle.cf_model.specs.Dehydration.{after_verdict, ask_consent, ask_tests, consent_need, dehydrate, dehydrate_item, dehydrate_range, emptied, empty_now, empty_tests, has_bytes, is_connected, verdict_at, with_provider, in_use}
 use Rattle.cf_model_laws.proofs.Guarded.{GuardedFilter}
 use Rattle.cf_model.proofs.ArrowLaws.{keeps_ret}
-use Rattle.std.proofs.Common.{◌≡◌, refl, List, ℕ, Bool, true, false, min, ◌-◌}
+use Rattle.std.proofs.Common.{◌≡◌, refl, List, ℕ, Bool, true, false, min, ◌-◌, inl}
 use Rattle.cf_model.specs.Trees.{Keeps}
 use Rattle.cf_model.proofs.TreeLaws.{keeps_bind}
 use Rattle.cf_model.specs.LookUp.{find_path}
@@ -29,18 +29,19 @@ use Rattle.std.specs.Prelude.{drop, is_some, take, ◌||◌}
 use Rattle.std.specs.List.{list_any}
 use Rattle.cf_model_laws.specs.Seats.{NeedsWell}
 use Rattle.cf_model_laws.proofs.RightItems.{no_way}
+use Rattle.cf_model_laws.specs.Taken.{Knowledge}
 
-ask_consent_at : (l : Link) (tokens : ℕ) (P : Filter → Type 0) → GuardedFilter l tokens P → (n : Need) (x : Filter) → (IsFair l → NeedsWell n x) → is_met_now n x ≡ false → P x → Keeps P (ask_consent n x)
+ask_consent_at : {On : Knowledge} (l : Link) (tokens : ℕ) (P : Filter → Type 0) → GuardedFilter On l tokens P → (n : Need) (x : Filter) → (IsFair l → NeedsWell n x) → is_met_now n x ≡ false → P x → Keeps P (ask_consent n x)
 ask_consent_at l tokens P closed n x fit unmet h = checked_at P (ask_tests n) (reading (begun n) (begin_now n)) x h (λ e. closed.begins n x fit unmet h)
 
-pub emptied_keeps : (l : Link) (tokens : ℕ) (P : Filter → Type 0) → GuardedFilter l tokens P → Preserves P (emptied)
+pub emptied_keeps : {On : Knowledge} (l : Link) (tokens : ℕ) (P : Filter → Type 0) → GuardedFilter On l tokens P → Preserves P (emptied)
 emptied_keeps l tokens P closed = keeps_ret P (shown.Ended end.Emptied)
 
 -- the file is one of the items, and in sync
-pub empty_at : (l : Link) (tokens : ℕ) (P : Filter → Type 0) → GuardedFilter l tokens P → (i : Item) (start len : ℕ) (x : Filter) → (IsFair l → Each i.id (λ i. i.in_sync ≡ true) x.volume.items) → P x → Keeps P (empty_now i start len x)
+pub empty_at : {On : Knowledge} (l : Link) (tokens : ℕ) (P : Filter → Type 0) → GuardedFilter On l tokens P → (i : Item) (start len : ℕ) (x : Filter) → (IsFair l → Each i.id (λ i. i.in_sync ≡ true) x.volume.items) → P x → Keeps P (empty_now i start len x)
 empty_at l tokens P closed i start len x fit h =
     checked_at P empty_tests (then_do (volume.change (change.Emptied i.id start len)) emptied) x h
-    (λ e. keeps_bind P (volume.change (change.Emptied i.id start len) x) (λ _ t. emptied t) (closed.change same_book (change.Emptied i.id start len) x (λ b. refl) (λ fair. ((λ z b. refl), (λ k. k), λ b. refl)) (λ id k. k) fit h) (λ u t j. j))
+    (λ e. keeps_bind P (volume.change (change.Emptied i.id start len) x) (λ _ t. emptied t) (closed.change same_book (change.Emptied i.id start len) x (λ b. refl) (λ fair. ((λ z b. refl), (λ k. k), λ b. refl)) (λ id k. k) fit (λ fair. (tt, inl (λ b. refl))) h) (λ u t j. j))
 
 -- an item that is found under its id
 abbrev pub IsThere : Item → Filter → Type 0
@@ -65,32 +66,32 @@ any_take (suc n) (b ∷ bs) h = by (is_some b) (any_take n bs) h where
 consent_well : (i : Item) (start len : ℕ) (x : Filter) → IsThere i x → has_bytes i start len ≡ true → NeedsWell (consent_need i start len) x
 consent_well i start len x there e = record { on = inr (refl, inr (i, there, any_drop start i.held (any_take (start + len - start) (drop start i.held) e))); alone = λ z. refl }
 
-provided_at : (l : Link) (tokens : ℕ) (P : Filter → Type 0) → GuardedFilter l tokens P → (i : Item) (start len : ℕ) (b : Bool) (x : Filter) → (IsFair l → NeedsWell (consent_need i start len) x)
+provided_at : {On : Knowledge} (l : Link) (tokens : ℕ) (P : Filter → Type 0) → GuardedFilter On l tokens P → (i : Item) (start len : ℕ) (b : Bool) (x : Filter) → (IsFair l → NeedsWell (consent_need i start len) x)
     → (IsFair l → Each i.id (λ i. i.in_sync ≡ true) x.volume.items) → P x → Keeps P (with_provider i start len b x)
 provided_at l tokens P closed i start len true x well fit h = ask_consent_at l tokens P closed (consent_need i start len) x well refl h
 provided_at l tokens P closed i start len false x well fit h = empty_at l tokens P closed i start len x fit h
 
-range_at : (l : Link) (tokens : ℕ) (P : Filter → Type 0) → GuardedFilter l tokens P → (i : Item) (start len : ℕ) (b : Bool) (x : Filter) → (b ≡ true → IsFair l → NeedsWell (consent_need i start len) x)
+range_at : {On : Knowledge} (l : Link) (tokens : ℕ) (P : Filter → Type 0) → GuardedFilter On l tokens P → (i : Item) (start len : ℕ) (b : Bool) (x : Filter) → (b ≡ true → IsFair l → NeedsWell (consent_need i start len) x)
     → (IsFair l → Each i.id (λ i. i.in_sync ≡ true) x.volume.items) → P x → Keeps P (choose b (reading is_connected (with_provider i start len)) emptied x)
 range_at l tokens P closed i start len true x well fit h = provided_at l tokens P closed i start len x.connected x (well refl) fit h
 range_at l tokens P closed i start len false x well fit h = h
 
-verdict_at_keeps : (l : Link) (tokens : ℕ) (P : Filter → Type 0) → GuardedFilter l tokens P → (i : Item) (start len : ℕ) (refusal : Option Code) (x : Filter) → (IsFair l → IsThere i x)
+verdict_at_keeps : {On : Knowledge} (l : Link) (tokens : ℕ) (P : Filter → Type 0) → GuardedFilter On l tokens P → (i : Item) (start len : ℕ) (refusal : Option Code) (x : Filter) → (IsFair l → IsThere i x)
     → (refusal ≡ None → IsFair l → Each i.id (λ i. i.in_sync ≡ true) x.volume.items) → P x → Keeps P (after_verdict i start len refusal x)
 verdict_at_keeps l tokens P closed i start len (Some c) x there fit h = h
 verdict_at_keeps l tokens P closed i start len None x there fit h =
     range_at l tokens P closed i start (min len (size_of i - start)) (has_bytes i start (min len (size_of i - start))) x (λ e fair. consent_well i start (min len (size_of i - start)) x (there fair) e) (fit refl) h
 
-pub dehydrate_item_at : (l : Link) (tokens : ℕ) (P : Filter → Type 0) → GuardedFilter l tokens P → (i : Item) (start len : ℕ) (x : Filter) → (IsFair l → IsThere i x) → P x → Keeps P (dehydrate_item i start len x)
+pub dehydrate_item_at : {On : Knowledge} (l : Link) (tokens : ℕ) (P : Filter → Type 0) → GuardedFilter On l tokens P → (i : Item) (start len : ℕ) (x : Filter) → (IsFair l → IsThere i x) → P x → Keeps P (dehydrate_item i start len x)
 dehydrate_item_at l tokens P closed i start len x there h =
     verdict_at_keeps l tokens P closed i start len (verdict_at i start len x) x there
     (λ e fair. each_found i.id (λ i. i.in_sync ≡ true) 0 x.volume.next_item.0 x.volume.items i (closed.sound x h fair).now.order (there fair) (operations_keep.verdict_in_sync x.policy i start len (in_use i.id x) e)) h
 
-pub dehydrate_range_at : (l : Link) (tokens : ℕ) (P : Filter → Type 0) → GuardedFilter l tokens P → (range : Option (ℕ × ℕ)) (i : Item) (x : Filter) → (IsFair l → IsThere i x) → P x → Keeps P (dehydrate_range range i x)
+pub dehydrate_range_at : {On : Knowledge} (l : Link) (tokens : ℕ) (P : Filter → Type 0) → GuardedFilter On l tokens P → (range : Option (ℕ × ℕ)) (i : Item) (x : Filter) → (IsFair l → IsThere i x) → P x → Keeps P (dehydrate_range range i x)
 dehydrate_range_at l tokens P closed None i x there h = dehydrate_item_at l tokens P closed i 0 (size_of i) x there h
 dehydrate_range_at l tokens P closed (Some r) i x there h = dehydrate_item_at l tokens P closed i r.0 r.1 x there h
 
-pub dehydrate_keeps : (l : Link) (tokens : ℕ) (P : Filter → Type 0) → GuardedFilter l tokens P → (path : List ℕ) (range : Option (ℕ × ℕ)) → Preserves P (dehydrate path range)
+pub dehydrate_keeps : {On : Knowledge} (l : Link) (tokens : ℕ) (P : Filter → Type 0) → GuardedFilter On l tokens P → (path : List ℕ) (range : Option (ℕ × ℕ)) → Preserves P (dehydrate path range)
 dehydrate_keeps l tokens P closed path range = record { keeps = λ x h. by x h (find_path x.volume.items path) refl } where
   dir : (i : Item) (x : Filter) → P x → (b : Bool) → (b ≡ false → IsFair l → IsThere i x) → Keeps P (choose b (refused code.IsDirectory) (dehydrate_range range i) x)
   dir i x h true there = h

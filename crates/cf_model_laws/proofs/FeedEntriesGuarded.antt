@@ -6,18 +6,16 @@ use Rattle.std.proofs.lemmas.Bool.{eqb-true}
 use Rattle.std.proofs.lemmas.Bool.Decides.{nat_tests}
 use Rattle.cf_base.specs.declared.changes.Change.{Change}
 use Rattle.cf_base.specs.declared.changes.Change.TheVariants as change
-use Rattle.cf_base.specs.declared.codes.Code.{Code}
 use Rattle.cf_base.specs.declared.ids.ItemId.{ItemId}
 use Rattle.cf_base.specs.declared.ids.Rid.{Rid}
 use Rattle.cf_base.specs.declared.items.SeenPath.{SeenPath}
 use Rattle.cf_base.specs.declared.messages.Entry.{Entry}
-use Rattle.cf_base.specs.declared.notices.Notice.TheVariants as notice
 use Rattle.cf_model.specs.Arrows.{Arrow, and_then, choose, only_if, when_ok}
-use Rattle.cf_model.specs.Books.{QueueEntry, book_after, with_seen}
-use Rattle.cf_model.specs.Changes.{change as put, next_number, put_with_book, same_book}
+use Rattle.cf_model.specs.Books.{QueueEntry, with_seen}
+use Rattle.cf_model.specs.Changes.{next_number}
 use Rattle.cf_model.specs.Contents.{base_named}
 use Rattle.cf_model.specs.Dehydration.{in_use as is_used}
-use Rattle.cf_model.specs.Effects.{effect, made, untargeted, converted}
+use Rattle.cf_model.specs.Effects.{effect, made, rebased, untargeted, converted}
 use Rattle.cf_model.specs.ConflictNames.{conflict_name}
 use Rattle.cf_model.specs.Feeds.{adopt, copy_off, gone, gone_unless, has_child, is_adoptable, is_newer, is_removable, kind_of_entry, make_after, make_entry, make_of, new_entry, new_over, remove_or_untarget, seen_entry, take_over, taken, turn, untarget}
 use Rattle.cf_model.specs.Identities.{base_version, entry_identity, identity_of, is_untargeted, no_identity, target_of}
@@ -27,100 +25,42 @@ use Rattle.cf_model.specs.LookUp.{child_of, children, is_child_named}
 use Rattle.cf_model.specs.Numbers.{no_item, no_key, no_rid, no_usn, no_version}
 use Rattle.cf_model.specs.Overlay.{Written}
 use Rattle.cf_model.specs.Requests.{Waiting, is_busy_beside}
-use Rattle.cf_model.specs.Skips.{do_change, in_use, skip_line, try_change, try_clear_name, try_mark_now, try_seen}
+use Rattle.cf_model.specs.Skips.{in_use, try_change, try_clear_name, try_mark_now, try_seen}
 use Rattle.cf_model.specs.Soundness.{Each}
-use Rattle.cf_model.specs.State.{Filter, Link, Open, State, Volume, book_now, items_now, with_filter, with_notes, with_volume}
-use Rattle.cf_model.specs.Points.{with_point_begun, with_room_point}
+use Rattle.cf_model.specs.State.{Filter, Link, Open, State, book_now, items_now}
 use Rattle.cf_model.specs.Store.{Held}
 use Rattle.cf_model.specs.Trees.{Keeps}
 use Rattle.cf_model.specs.Words.{is_empty, number_of, same}
-use Rattle.cf_model.proofs.TreeLaws.{keeps_bind, keeps_mapped}
-use Rattle.cf_model_laws.specs.Fitting.{Fits, IsCopied, IsVacant, NamesWell, NoEntry, NoMove, AimsFree, IsUnaimed, Meets}
-use Rattle.cf_model_laws.specs.Invariant.{HasEntry, InOrder, IsRight, SameBase, waits_on, IsUnmade, target_in}
+use Rattle.cf_model.proofs.TreeLaws.{keeps_bind}
+use Rattle.cf_model_laws.specs.Fitting.{Fits, IsCopied, IsVacant, NamesWell, IsUnaimed, Meets}
+use Rattle.cf_model_laws.specs.Invariant.{HasEntry, InOrder, IsRight, IsSound, SameBase, waits_on, target_in}
 use Rattle.cf_model_laws.specs.Premises.{IsFair}
+use Rattle.cf_model_laws.specs.Taken.{IsNamedBy, IsSeenBy}
 use Rattle.cf_model_laws.proofs.EntryLaws.{dir_identity, dir_none, entry_dir_well, file_wants, make_fits, none_none, entry_small, entry_target_in, target_read, entry_populates}
 use Rattle.cf_model_laws.proofs.FitEntries.{kind_stays}
-use Rattle.cf_model_laws.proofs.FitItems.{each_changed}
+use Rattle.cf_model_laws.proofs.FitItems.{each_append, each_changed, each_made}
 use Rattle.cf_model_laws.proofs.FoundItems.{both, found_again, found_new, same_self, target_at, target_more, target_stays}
 use Rattle.cf_model_laws.proofs.Gathered.{each_all, each_any, each_both, each_weaker}
 use Rattle.cf_model_laws.proofs.Guarded.{KeepsPlaced, StandsAtPath}
-use Rattle.cf_model_laws.proofs.Leading.{kept_leads}
 use Rattle.cf_model_laws.proofs.RightItems.{both_none, fits_meets, no_way, no_way_back, same_based, same_none, untargeted_same}
 use Rattle.cf_model_laws.proofs.SeenPaths.{led_unnamed, sees_still}
-use Rattle.cf_model_laws.proofs.SkipsGuarded.{Framing, IsUnmoved, Led, Skipping, Whichever, and_then_at, and_then_keeps, fewer_changes, framed, item_frame, keeps_first, keeps_into, only_if_at, try_change_at, try_clear_name_keeps, try_mark_now_at, try_seen_at}
-use Rattle.cf_model_laws.proofs.SoundChanges.{same_entries}
-use Rattle.cf_model_laws.proofs.SoundFilters.{change_leads}
+use Rattle.cf_model_laws.proofs.SkipsGuarded.{Framing, Led, Skipping, Whichever, and_then_at, any_frame, and_then_keeps, fewer_changes, framed, item_frame, keeps_first, keeps_into, only_if_at, try_change_at, try_clear_name_keeps, try_mark_now_at, try_seen_at}
 use Rattle.cf_model_laws.proofs.SoundSettles.{each_found, found_below, left_true, not_true, right_true, same_item}
-use Rattle.cf_model_laws.proofs.AimedTargets.{HasTarget, converted_target, each_copied, unaimed_kept, unaimed_none}
+use Rattle.cf_model_laws.proofs.AimedTargets.{HasTarget, below_root, converted_target, newly_aimed, each_copied, unaimed_kept, unaimed_none}
 use Rattle.cf_model_laws.proofs.MoveChanges.{IsMove, SeatAt, UnaimedAt, is_move, seat_frame, unaimed_frame}
+use Rattle.cf_model_laws.proofs.OperationsGuarded.{each_new}
+use Rattle.cf_model_laws.proofs.FeedFrames.{Feeding, Feeds, IsTold, fair_now, moves_named, no_entry, none_made, unmoved}
 
--- What a feed leaves as it is: the link, the waits and asks, the handles, and the uploads on their way.
-pub record Feeding (l : Link) (w : Filter) (es : List QueueEntry) (s : State) : Type 0 where
-  pub link : s.link ≡ l
-  pub waiting : s.filter.waiting ≡ w.waiting
-  pub handles : s.filter.handles ≡ w.handles
-  pub entries : (book_now s).entries ≡ es
-
-fed_by : (l : Link) (w : Filter) (es : List QueueEntry) (s : State) (v : Volume) → v.book.entries ≡ (book_now s).entries → Feeding l w es s → Feeding l w es (with_filter (with_volume v s.filter) s)
-fed_by l w es s v e h = record { link = h.link; waiting = h.waiting; handles = h.handles; entries = e ∙ h.entries }
-
-fed_change : (l : Link) (w : Filter) (es : List QueueEntry) (c : Change) (s : State) → Feeding l w es s → Keeps (Feeding l w es) (do_change c s)
-fed_change l w es c s h =
-    keeps_mapped (λ x. Feeding l w es (with_filter x s)) (Feeding l w es) (λ x. with_filter x s) (put c s.filter) (λ x j. j)
-    (kept_leads (λ x. Feeding l w es (with_filter x s)) (put c s.filter)
-    (change_leads (λ x. Feeding l w es (with_filter x s)) (λ x. Feeding l w es (with_filter x s)) same_book c s.filter h (fed_by l w es s (with_point_begun s.filter.volume) refl h) (fed_by l w es s (with_room_point s.filter.volume) refl h)
-    (λ v is. by v is))) where
-      by : (v : Volume) → (v ≡ s.filter.volume) ⊎ (v ≡ with_room_point s.filter.volume) → Feeding l w es (with_filter (with_notes (notice.Change (next_number v) c ∷ []) (with_volume (put_with_book same_book c v) s.filter)) s)
-      by v (inl e) = record { link = h.link; waiting = h.waiting; handles = h.handles; entries = ap (λ (u : Volume). (book_after c u.book).entries) e ∙ same_entries c s.filter.volume.book ∙ h.entries }
-      by v (inr e) = record { link = h.link; waiting = h.waiting; handles = h.handles; entries = ap (λ (u : Volume). (book_after c u.book).entries) e ∙ same_entries c s.filter.volume.book ∙ h.entries }
-
-fed_line : (l : Link) (w : Filter) (es : List QueueEntry) (b : Bool) (c : Code) (s : State) → Feeding l w es s → Feeding l w es (skip_line b c s)
-fed_line l w es true c s h = record { link = h.link; waiting = h.waiting; handles = h.handles; entries = h.entries }
-fed_line l w es false c s h = h
-
-pub feeding : (l : Link) (w : Filter) (es : List QueueEntry) → Framing Whichever (Feeding l w es)
-feeding l w es = record {
-  change = λ c s ok fit h. fed_change l w es c s h;
-  books = λ f s keeps h. record { link = h.link; waiting = h.waiting; handles = h.handles; entries = keeps (book_now s) ∙ h.entries };
-  skips = λ c s h. fed_line l w es s.running.shows_skips c (record s { running = record s.running { skips = s.running.skips + 1 } }) (record { link = h.link; waiting = h.waiting; handles = h.handles; entries = h.entries });
-}
-
--- what a feed needs: no upload is on its way
-pub record Feeds (l : Link) (w : Filter) (es : List QueueEntry) (P : State → Type 0) : Type 0 where
-  pub steps : Skipping Whichever P
-  pub fed : (s : State) → P s → Feeding l w es s
-  pub none : IsFair l → es ≡ []
-
--- an entry that was told
-pub record IsTold (l : Link) (e : Entry) : Type 0 where
-  pub has : IsFair l → HasEntry l.remote e
-  pub dir : e.dir ≡ true → e.version.0 ≡ 0
-  pub low : e.rid.0 ≡ 1 → ⊥
-  pub apart : e.rid.0 ≡ e.parent.0 → ⊥
-
-pub fair_now : (l : Link) (w : Filter) (es : List QueueEntry) (s : State) → Feeding l w es s → IsFair s.link → IsFair l
-fair_now l w es s h fair = subst IsFair h.link fair
-
--- no upload is on its way
-pub unmoved : (l : Link) (w : Filter) (es : List QueueEntry) (P : State → Type 0) → Feeds l w es P → (item : ItemId) (s : State) → P s → IsFair s.link → IsUnmoved item s
-unmoved l w es P feeds item s h fair i e = subst (λ (qs : List QueueEntry). NoMove qs item) (sym ((feeds.fed s h).entries ∙ feeds.none (fair_now l w es s (feeds.fed s h) fair))) tt
-
--- so the remote made nothing for one
-pub none_made : (l : Link) (w : Filter) (es : List QueueEntry) (P : State → Type 0) → Feeds l w es P → (identity : List ℕ) (s : State) → P s → IsFair s.link → AimsFree s.link.remote s.filter.volume.book.entries identity
-none_made l w es P feeds identity s h fair = inr (subst (λ (qs : List QueueEntry). IsUnmade s.link.remote qs (target_in identity)) (sym ((feeds.fed s h).entries ∙ feeds.none (fair_now l w es s (feeds.fed s h) fair))) tt)
-
-pub no_entry : (l : Link) (w : Filter) (es : List QueueEntry) (P : State → Type 0) → Feeds l w es P → (item : ItemId) (s : State) → P s → IsFair s.link → NoEntry (book_now s).entries item
-no_entry l w es P feeds item s h fair = subst (λ (qs : List QueueEntry). NoEntry qs item) (sym ((feeds.fed s h).entries ∙ feeds.none (fair_now l w es s (feeds.fed s h) fair))) tt
+-- the item, if it is below the root, has the entry's target
+abbrev pub Aimed : Entry → Item → Type 0
+Aimed e i = (i.id.0 ≡ 1 → ⊥) → (target_of i).0 ≡ e.rid.0
 
 -- a path seen after another change than a Mark, and then a Mark
-seen_and_marked : (l : Link) (w : Filter) (es : List QueueEntry) (P : State → Type 0) → Feeds l w es P → (p : SeenPath) (s : State) → (IsFair s.link → KeepsPlaced (with_seen p) s) → P s → Keeps P (and_then (try_seen p) (try_mark_now p.item) s)
-seen_and_marked l w es P feeds p s placed h =
-    and_then_keeps P (try_seen p) (try_mark_now p.item) s (try_seen_at Whichever P feeds.steps p s placed h) (λ t j. try_mark_now_at Whichever P feeds.steps p.item t (λ n. tt) (unmoved l w es P feeds p.item t j) j)
+seen_and_marked : {On : Entry → Type 0} (l : Link) (w : Filter) (es : List QueueEntry) (P : State → Type 0) → Feeds On l w es P → (p : SeenPath) (s : State) → (IsFair s.link → KeepsPlaced (with_seen p) s) → (IsFair s.link → IsSeenBy On (items_now s) p) → P s → Keeps P (and_then (try_seen p) (try_mark_now p.item) s)
+seen_and_marked l w es P feeds p s placed told h =
+    and_then_keeps P (try_seen p) (try_mark_now p.item) s (try_seen_at (IsNamedBy _ _) P feeds.steps p s placed told h) (λ t j. try_mark_now_at (IsNamedBy _ _) P feeds.steps p.item t (λ n. tt) (unmoved l w es P feeds p.item t j) j)
 
-move_ok : (item parent : ItemId) (name : List ℕ) → Whichever (change.Move item parent name)
-move_ok item parent name = tt
-
-right_now : (P : State → Type 0) → Skipping Whichever P → (s : State) → P s → IsFair s.link → (id : ItemId) → Each id (IsRight s.link.remote (next_number s.filter.volume)) (items_now s)
+right_now : {On : Entry → Type 0} {Ok : Change → Type 0} (P : State → Type 0) → Skipping On Ok P → (s : State) → P s → IsFair s.link → (id : ItemId) → Each id (IsRight s.link.remote (next_number s.filter.volume)) (items_now s)
 right_now P steps s h fair id = each_all id (IsRight s.link.remote (next_number s.filter.volume)) (IsRight s.link.remote (next_number s.filter.volume)) (λ i k. k) (items_now s) (steps.sound s h fair).now.right
 
 pub turn_at : (P : State → Type 0) (f : Arrow State Bool) (s : State) → Keeps P (f s) → Keeps P (turn f s)
@@ -139,7 +79,7 @@ untargeted_well r d p identity h = record {
   plain = λ e f. (same_none (untargeted identity) identity (untargeted_same identity) (h.plain e f).0, no_target identity);
 }
 
-untarget_fits : (l : Link) (w : Filter) (es : List QueueEntry) (P : State → Type 0) → Feeds l w es P → (i : Item) (s : State) → P s → (IsFair s.link → Each i.id (λ j. j.identity ≡ i.identity) (items_now s)) → IsFair s.link
+untarget_fits : {On : Entry → Type 0} (l : Link) (w : Filter) (es : List QueueEntry) (P : State → Type 0) → Feeds On l w es P → (i : Item) (s : State) → P s → (IsFair s.link → Each i.id (λ j. j.identity ≡ i.identity) (items_now s)) → IsFair s.link
     → Fits s.link.remote s.filter (change.Rebase i.id (untargeted i.identity) (base_of i) no_usn)
 untarget_fits l w es P feeds i s h same fair = (
   (
@@ -151,18 +91,18 @@ untarget_fits l w es P feeds i s h same fair = (
   (inl (no_target i.identity), inr (no_entry l w es P feeds i.id s h fair, unaimed_none (items_now s) (target_in (untargeted i.identity)) (no_target i.identity))),
 )
 
-untarget_at : (l : Link) (w : Filter) (es : List QueueEntry) (P : State → Type 0) → Feeds l w es P → (i : Item) (s : State) → P s → (IsFair s.link → item_of (items_now s) i.id ≡ Some i) → Keeps P (untarget i s)
+untarget_at : {On : Entry → Type 0} (l : Link) (w : Filter) (es : List QueueEntry) (P : State → Type 0) → Feeds On l w es P → (i : Item) (s : State) → P s → (IsFair s.link → item_of (items_now s) i.id ≡ Some i) → Keeps P (untarget i s)
 untarget_at l w es P feeds i s h there = by i.in_sync where
   now : (IsFair s.link → Each i.id (λ j. j.identity ≡ i.identity) (items_now s))
   now fair = each_found i.id (λ j. j.identity ≡ i.identity) 0 s.filter.volume.next_item.0 (items_now s) i (feeds.steps.sound s h fair).now.order (there fair) refl
 
   by : (b : Bool) → Keeps P (and_then (only_if b (try_change (change.Clear i.id))) (try_change (change.Rebase i.id (untargeted i.identity) (base_of i) no_usn)) s)
   by true =
-      and_then_at Whichever P feeds.steps (change.Clear i.id) (try_change (change.Rebase i.id (untargeted i.identity) (base_of i) no_usn)) s tt (λ id k. k) (λ fair. tt) h
-      (λ t j led. try_change_at Whichever P feeds.steps (change.Rebase i.id (untargeted i.identity) (base_of i) no_usn) t tt (λ id k. k)
+      and_then_at (IsNamedBy _ _) P feeds.steps (change.Clear i.id) (try_change (change.Rebase i.id (untargeted i.identity) (base_of i) no_usn)) s tt (λ id k. k) (λ fair. tt) h
+      (λ t j led. try_change_at (IsNamedBy _ _) P feeds.steps (change.Rebase i.id (untargeted i.identity) (base_of i) no_usn) t (inl (no_target i.identity)) (λ id k. k)
       (untarget_fits l w es P feeds i t j (λ fair. subst (λ (is : List Item). Each i.id (λ k. k.identity ≡ i.identity) is) (sym led.after.items)
       (each_changed i.id i.id _ (λ k. Unit {0}) (λ k. k.identity ≡ i.identity) (λ k. k.identity ≡ i.identity) (λ k. refl) (λ k _ e. e) (λ k e. e) (items_now s) (each_any i.id (λ k. Unit {0}) (λ k. tt) (items_now s)) (now (subst IsFair led.link fair))))) j)
-  by false = try_change_at Whichever P feeds.steps (change.Rebase i.id (untargeted i.identity) (base_of i) no_usn) s tt (λ id k. k) (untarget_fits l w es P feeds i s h now) h
+  by false = try_change_at (IsNamedBy _ _) P feeds.steps (change.Rebase i.id (untargeted i.identity) (base_of i) no_usn) s (inl (no_target i.identity)) (λ id k. k) (untarget_fits l w es P feeds i s h now) h
 
 none_there : {A : Type 0} (xs : List A) → not (not (is_empty xs)) ≡ true → xs ≡ []
 none_there [] e = refl
@@ -174,10 +114,10 @@ vacant_item s i e = by i.directory e where
   by true e = (λ z. no_way_back z, λ z. none_there (children (items_now s) i.id) e)
   by false e = (λ z. none_there i.writes e, λ z. no_way z)
 
-pub gone_at : (l : Link) (w : Filter) (es : List QueueEntry) (P : State → Type 0) → Feeds l w es P → (i : Item) (s : State) → (i.id.0 ≡ 1 → ⊥) → P s → (IsFair s.link → item_of (items_now s) i.id ≡ Some i) → Keeps P (gone i s)
+pub gone_at : {On : Entry → Type 0} (l : Link) (w : Filter) (es : List QueueEntry) (P : State → Type 0) → Feeds On l w es P → (i : Item) (s : State) → (i.id.0 ≡ 1 → ⊥) → P s → (IsFair s.link → item_of (items_now s) i.id ≡ Some i) → Keeps P (gone i s)
 gone_at l w es P feeds i s below h there = by (in_use s i.id) refl where
   steps : (b : Bool) → is_removable s i ≡ b → in_use s i.id ≡ false → Keeps P (remove_or_untarget i b s)
-  steps true q idle = try_change_at Whichever P feeds.steps (change.Remove i.id) s tt (λ id k. k) (λ fair. (idle, each_found i.id (IsVacant (items_now s)) 0 s.filter.volume.next_item.0 (items_now s) i (feeds.steps.sound s h fair).now.order (there fair) (vacant_item s i q), inl below)) h
+  steps true q idle = try_change_at (IsNamedBy _ _) P feeds.steps (change.Remove i.id) s tt (λ id k. k) (λ fair. (idle, each_found i.id (IsVacant (items_now s)) 0 s.filter.volume.next_item.0 (items_now s) i (feeds.steps.sound s h fair).now.order (there fair) (vacant_item s i q), inl below)) h
   steps false q idle = untarget_at l w es P feeds i s h there
 
   by : (b : Bool) → in_use s i.id ≡ b → Keeps P (gone_unless i b s)
@@ -193,15 +133,15 @@ kinds_frame id R k = item_frame Whichever (λ is next. (id.0 < next) × Each id 
       more : (a b c : ℕ) → a < b → a < max b c
       more a b c h = omega (arith, h)
 
-feeds_framed : (l : Link) (w : Filter) (es : List QueueEntry) (P F : State → Type 0) → Feeds l w es P → Framing Whichever F → Feeds l w es (λ s. P s × F s)
-feeds_framed l w es P F feeds frame = record { steps = framed Whichever P F feeds.steps frame; fed = λ s h. feeds.fed s h.0; none = feeds.none }
+feeds_framed : {On : Entry → Type 0} (l : Link) (w : Filter) (es : List QueueEntry) (P F : State → Type 0) → Feeds On l w es P → Framing Whichever F → Feeds On l w es (λ s. P s × F s)
+feeds_framed l w es P F feeds frame = record { steps = framed (IsNamedBy _ _) P F feeds.steps (any_frame (IsNamedBy _ _) F frame); fed = λ s h. feeds.fed s h.0; none = feeds.none }
 
 abbrev DirsAt : ItemId → State → Type 0
 DirsAt id t = IsFair t.link → (id.0 < t.filter.volume.next_item.0) × Each id (λ j. j.directory ≡ true) (items_now t)
 
 -- a local directory that becomes the one of an entry
-adopt_in : (l : Link) (w : Filter) (es : List QueueEntry) (P : State → Type 0) → Feeds l w es P → (e : Entry) (i : Item) → IsTold l e → e.dir ≡ true → ((s : State) → P s → DirsAt i.id s) → (s : State) → (IsFair s.link → Each i.id (HasTarget 0) (items_now s)) → UnaimedAt e.rid s → P s → Keeps P (adopt e i s)
-adopt_in l w es P feeds e i told dir dirs s bare new h = by i.placeholder
+adopt_in : {On : Entry → Type 0} (l : Link) (w : Filter) (es : List QueueEntry) (P : State → Type 0) → Feeds On l w es P → (e : Entry) (i : Item) → IsTold On l e → e.dir ≡ true → ((s : State) → P s → DirsAt i.id s) → (s : State) → (IsFair s.link → Each i.id (HasTarget 0) (items_now s)) → UnaimedAt e.rid s → P s → Keeps P (adopt e i s)
+adopt_in {On} l w es P feeds e i told dir dirs s bare new h = by i.placeholder
   where
     convert_fits : (t : State) → P t → IsFair t.link → Meets t.link.remote t.filter (change.Convert i.id no_identity)
     convert_fits t j fair = (
@@ -229,18 +169,34 @@ adopt_in l w es P feeds e i told dir dirs s bare new h = by i.placeholder
           ),
         )
 
-    rest : (t : State) → P t → UnaimedAt e.rid t → Keeps P (and_then (try_change (change.Rebase i.id (entry_identity e) 0 no_usn)) (and_then (try_seen (seen_entry i.id e)) (try_mark_now i.id)) t)
-    rest t j new = and_then_at Whichever P feeds.steps (change.Rebase i.id (entry_identity e) 0 no_usn) (and_then (try_seen (seen_entry i.id e)) (try_mark_now i.id)) t tt (λ id k. k) (rebase_fits t j new) j
-        (λ u k led. seen_and_marked l w es P feeds (seen_entry i.id e) u (λ fair item m. absurd (led_unnamed (change.Rebase i.id (entry_identity e) 0 no_usn) t u (λ z. z) led item m)) k)
+    -- the directory comes to have the entry's target
+    adopted : (t u : State) → Led (change.Rebase i.id (entry_identity e) 0 no_usn) t u → P t → (IsFair t.link → Each i.id (HasTarget 0) (items_now t)) → IsFair u.link → IsSeenBy On (items_now u) (seen_entry i.id e)
+    adopted t u led j empty fair =
+        let fair_t : IsFair t.link = subst IsFair led.link fair in (
+          e,
+          told.on,
+          subst (Each i.id (Aimed e)) (sym led.after.items)
+              (each_made i.id (rebased (entry_identity e) 0 no_usn) (HasTarget 0) (Aimed e)
+              (λ k z _. newly_aimed (k.id.0 == 1) (target_in k.identity) (target_in (entry_identity e)) z ∙ ap (λ (x : Rid). x.0) (entry_target_in e (entry_small t.link.remote e fair_t.1 (told_at t j fair_t)))) (items_now t) (empty fair_t)),
+          refl,
+          refl,
+        )
+
+    rest : (t : State) → P t → (IsFair t.link → Each i.id (HasTarget 0) (items_now t)) → UnaimedAt e.rid t → Keeps P (and_then (try_change (change.Rebase i.id (entry_identity e) 0 no_usn)) (and_then (try_seen (seen_entry i.id e)) (try_mark_now i.id)) t)
+    rest t j empty new = and_then_at (IsNamedBy _ _) P feeds.steps (change.Rebase i.id (entry_identity e) 0 no_usn) (and_then (try_seen (seen_entry i.id e)) (try_mark_now i.id)) t (inr (e, told.on, refl)) (λ id k. k) (rebase_fits t j new) j
+        (λ u k led. seen_and_marked l w es P feeds (seen_entry i.id e) u (λ fair item m. absurd (led_unnamed (change.Rebase i.id (entry_identity e) 0 no_usn) t u (λ z. z) led item m)) (adopted t u led j empty) k)
 
     by : (b : Bool) → Keeps P (and_then (only_if (not b) (try_change (change.Convert i.id no_identity))) (and_then (try_change (change.Rebase i.id (entry_identity e) 0 no_usn)) (and_then (try_seen (seen_entry i.id e)) (try_mark_now i.id))) s)
-    by true = rest s h new
+    by true = rest s h bare new
     by false =
-        and_then_at Whichever P feeds.steps (change.Convert i.id no_identity) (and_then (try_change (change.Rebase i.id (entry_identity e) 0 no_usn)) (and_then (try_seen (seen_entry i.id e)) (try_mark_now i.id))) s tt (λ id k. k) (λ fair. (convert_fits s h fair, bare fair)) h
-        (λ t j led. rest t j (λ fair. subst (λ (is : List Item). IsUnaimed is e.rid) (sym led.after.items)
+        and_then_at (IsNamedBy _ _) P feeds.steps (change.Convert i.id no_identity) (and_then (try_change (change.Rebase i.id (entry_identity e) 0 no_usn)) (and_then (try_seen (seen_entry i.id e)) (try_mark_now i.id))) s refl (λ id k. k) (λ fair. (convert_fits s h fair, bare fair)) h
+        (λ t j led. rest t j
+        (λ fair. subst (Each i.id (HasTarget 0)) (sym led.after.items)
+        (each_made i.id (converted no_identity (next_number s.filter.volume)) (HasTarget 0) (HasTarget 0) (λ k z. converted_target (next_number s.filter.volume) k z ∙ z) (items_now s) (bare (subst IsFair led.link fair))))
+        (λ fair. subst (λ (is : List Item). IsUnaimed is e.rid) (sym led.after.items)
         (unaimed_kept e.rid i.id _ (items_now s) (each_weaker i.id (HasTarget 0) (λ k. (target_of (converted no_identity (next_number s.filter.volume) k)).0 ≡ (target_of k).0) (λ k z. converted_target (next_number s.filter.volume) k z) (items_now s) (bare (subst IsFair led.link fair))) (new (subst IsFair led.link fair)))))
 
-adopt_at : (l : Link) (w : Filter) (es : List QueueEntry) (P : State → Type 0) → Feeds l w es P → (e : Entry) (i : Item) (s : State) → IsTold l e → e.dir ≡ true → i.directory ≡ true → (target_of i).0 ≡ 0 → UnaimedAt e.rid s → P s → (IsFair s.link → item_of (items_now s) i.id ≡ Some i) → Keeps P (adopt e i s)
+adopt_at : {On : Entry → Type 0} (l : Link) (w : Filter) (es : List QueueEntry) (P : State → Type 0) → Feeds On l w es P → (e : Entry) (i : Item) (s : State) → IsTold On l e → e.dir ≡ true → i.directory ≡ true → (target_of i).0 ≡ 0 → UnaimedAt e.rid s → P s → (IsFair s.link → item_of (items_now s) i.id ≡ Some i) → Keeps P (adopt e i s)
 adopt_at l w es P feeds e i s told dir local bare new h there =
     keeps_first P (DirsAt i.id) (adopt e i s)
     (adopt_in l w es (λ t. P t × DirsAt i.id t) (feeds_framed l w es P (DirsAt i.id) feeds (kinds_frame i.id (λ d p. d ≡ true) (λ d p k. k))) e i told dir (λ t k. k.1) s
@@ -267,22 +223,36 @@ made_stands e p s t led order some parent =
       both ((target_at (items_now s ++ new ∷ []) p.id).0 == e.parent.0) (same e.name e.name) (eq-eqb (target_at (items_now s ++ new ∷ []) p.id).0 e.parent.0 (target_more (items_now s) new p.id e.parent some parent)) (same_self e.name),
     )
 
-make_after_at : (l : Link) (w : Filter) (es : List QueueEntry) (P : State → Type 0) → Feeds l w es P → (e : Entry) (p : Item) (s : State) → IsTold l e → nat_lt 0 e.parent.0 ≡ true → ParentAt p.id e.parent s → UnaimedAt e.rid s → SeatAt p.id s → P s → Keeps P (make_after e p s)
-make_after_at l w es P feeds e p s told some parent new seat h =
-    and_then_at Whichever P feeds.steps (make_of s e p) (and_then (try_seen (seen_entry s.filter.volume.next_item e)) (try_mark_now s.filter.volume.next_item)) s tt (λ id k. k)
+make_after_at : {On : Entry → Type 0} (l : Link) (w : Filter) (es : List QueueEntry) (P : State → Type 0) → Feeds On l w es P → (e : Entry) (p : Item) (s : State) → IsTold On l e → nat_lt 0 e.parent.0 ≡ true → ParentAt p.id e.parent s → UnaimedAt e.rid s → SeatAt p.id s → P s → Keeps P (make_after e p s)
+make_after_at {On} l w es P feeds e p s told some parent new seat h =
+    and_then_at (IsNamedBy _ _) P feeds.steps (make_of s e p) (and_then (try_seen (seen_entry s.filter.volume.next_item e)) (try_mark_now s.filter.volume.next_item)) s (inr (e, told.on, refl)) (λ id k. k)
     (λ fair. let has : HasEntry s.link.remote e = subst (λ (k : Link). HasEntry k.remote e) (sym (feeds.fed s h).link) (told.has (fair_now l w es s (feeds.fed s h) fair)) in
     let m = make_fits s.link.remote s.filter.policy e fair.1 has told.low in
     ((refl, m.0, m.1), (none_made l w es P feeds (entry_identity e) s h fair, subst (λ (x : Rid). IsUnaimed (items_now s) x) (sym (entry_target_in e (entry_small s.link.remote e fair.1 has))) (new fair)), inl (seat fair), entry_populates s.filter.policy e)) h
     (λ t j led. seen_and_marked l w es P feeds (seen_entry s.filter.volume.next_item e) t
     (λ fair item m. sees_still (seen_entry s.filter.volume.next_item e) (items_now t) (book_now t) item
-    (λ own. subst (λ (x : ItemId). StandsAtPath (items_now t) x (seen_entry s.filter.volume.next_item e)) (same_item s.filter.volume.next_item item (eqb-true s.filter.volume.next_item.0 item.0 own)) (stands t led (subst IsFair led.link fair)))) j) where
+    (λ own. subst (λ (x : ItemId). StandsAtPath (items_now t) x (seen_entry s.filter.volume.next_item e)) (same_item s.filter.volume.next_item item (eqb-true s.filter.volume.next_item.0 item.0 own)) (stands t led (subst IsFair led.link fair)))) (made_seen t led) j) where
+      made_seen : (t : State) → Led (make_of s e p) s t → IsFair t.link → IsSeenBy On (items_now t) (seen_entry s.filter.volume.next_item e)
+      made_seen t led fair =
+          let fair_s : IsFair s.link = subst IsFair led.link fair in
+          let sound : IsSound s.link s.volatile.tokens s.filter = feeds.steps.sound s h fair_s in
+          let has : HasEntry s.link.remote e = subst (λ (k : Link). HasEntry k.remote e) (sym (feeds.fed s h).link) (told.has (fair_now l w es s (feeds.fed s h) fair_s)) in (
+            e,
+            told.on,
+            subst (Each s.filter.volume.next_item (Aimed e)) (sym led.after.items)
+                (each_append s.filter.volume.next_item (Aimed e) (items_now s) _ (each_new s.filter.volume.next_item (Aimed e) 0 s.filter.volume.next_item.0 (items_now s) refl sound.now.order)
+                (λ z _. ap (λ (x : Rid). x.0) (below_root s.filter.volume.next_item.0 (target_in (entry_identity e)) sound.now.more ∙ entry_target_in e (entry_small s.link.remote e fair_s.1 has)))),
+            refl,
+            refl,
+          )
+
       stands : (t : State) → Led (make_of s e p) s t → IsFair s.link → StandsAtPath (items_now t) s.filter.volume.next_item (seen_entry s.filter.volume.next_item e)
       stands t led fair = made_stands e p s t led (feeds.steps.sound s h fair).now.order some (parent fair)
 
-make_entry_at : (l : Link) (w : Filter) (es : List QueueEntry) (P : State → Type 0) → Feeds l w es P → (e : Entry) (p : Item) (s : State) → IsTold l e → nat_lt 0 e.parent.0 ≡ true → ParentAt p.id e.parent s → UnaimedAt e.rid s → SeatAt p.id s → P s → Keeps P (make_entry e p s)
+make_entry_at : {On : Entry → Type 0} (l : Link) (w : Filter) (es : List QueueEntry) (P : State → Type 0) → Feeds On l w es P → (e : Entry) (p : Item) (s : State) → IsTold On l e → nat_lt 0 e.parent.0 ≡ true → ParentAt p.id e.parent s → UnaimedAt e.rid s → SeatAt p.id s → P s → Keeps P (make_entry e p s)
 make_entry_at l w es P feeds e p s told some parent new seat h =
     keeps_into P New (λ t j. j.0.0.0) (try_clear_name p.id e.name no_item s) (when_ok false (make_after e p))
-    ((try_clear_name_keeps IsMove New (framed IsMove (λ t. (P t × ParentAt p.id e.parent t) × UnaimedAt e.rid t) (SeatAt p.id) (framed IsMove (λ t. P t × ParentAt p.id e.parent t) (UnaimedAt e.rid) (framed IsMove P (ParentAt p.id e.parent) (fewer_changes P IsMove feeds.steps) (parent_frame p.id e.parent)) (unaimed_frame e.rid))
+    ((try_clear_name_keeps IsMove New (framed IsMove (λ t. (P t × ParentAt p.id e.parent t) × UnaimedAt e.rid t) (SeatAt p.id) (framed IsMove (λ t. P t × ParentAt p.id e.parent t) (UnaimedAt e.rid) (framed IsMove P (ParentAt p.id e.parent) (fewer_changes P (IsNamedBy _ _) IsMove (moves_named _) feeds.steps) (parent_frame p.id e.parent)) (unaimed_frame e.rid))
     (seat_frame p.id)) (λ a b c. tt) p.id e.name no_item).keeps s (((h, parent), new), seat))
     (λ done t j. by done t j) where
       New : State → Type 0
@@ -292,7 +262,7 @@ make_entry_at l w es P feeds e p s told some parent new seat h =
       by true t j = make_after_at l w es P feeds e p t told some j.0.0.1 j.0.1 j.1 j.0.0.0
       by false t j = j.0.0.0
 
-pub new_at : (l : Link) (w : Filter) (es : List QueueEntry) (P : State → Type 0) → Feeds l w es P → (e : Entry) (p : Item) (s : State) → IsTold l e → nat_lt 0 e.parent.0 ≡ true → ParentAt p.id e.parent s → UnaimedAt e.rid s → SeatAt p.id s → P s → Keeps P (new_entry e p s)
+pub new_at : {On : Entry → Type 0} (l : Link) (w : Filter) (es : List QueueEntry) (P : State → Type 0) → Feeds On l w es P → (e : Entry) (p : Item) (s : State) → IsTold On l e → nat_lt 0 e.parent.0 ≡ true → ParentAt p.id e.parent s → UnaimedAt e.rid s → SeatAt p.id s → P s → Keeps P (new_entry e p s)
 new_at l w es P feeds e p s told some parent new seat h = turn_at P (λ t. new_over e p (child_of (items_now t) p.id e.name) t) s (by (child_of (items_now s) p.id e.name) refl) where
   choice : (i : Item) → child_of (items_now s) p.id e.name ≡ Some i → (b : Bool) → is_adoptable e i ≡ b → Keeps P (choose b (adopt e i) (make_entry e p) s)
   choice i f true q =
@@ -312,7 +282,7 @@ FilesAt id t = IsFair t.link → (id.0 < t.filter.volume.next_item.0) × Each id
 pub newer_file : (e : Entry) (i : Item) → is_newer i e ≡ true → i.directory ≡ false
 newer_file e i q = not_true i.directory (left_true (not i.directory) (nat_lt (base_version i).0 e.version.0) q)
 
-newer_told : (l : Link) (e : Entry) (i : Item) → IsTold l e → is_newer i e ≡ true → e.dir ≡ false
+newer_told : {On : Entry → Type 0} (l : Link) (e : Entry) (i : Item) → IsTold On l e → is_newer i e ≡ true → e.dir ≡ false
 newer_told l e i told q = by e.dir refl where
   below : (n : ℕ) → nat_lt n 0 ≡ true → ⊥
   below n z = grind (arith, nat_tests, z)
@@ -337,7 +307,7 @@ clean_writes [] e = refl
 clean_writes (w ∷ ws) e = no_way_back e
 
 -- the newer version takes the place of the file's bytes
-take_in : (l : Link) (w : Filter) (es : List QueueEntry) (P : State → Type 0) → Feeds l w es P → (e : Entry) (i : Item) → IsTold l e → e.dir ≡ false → i.directory ≡ false → (IsFair l → waits_on i.id w.waiting.waits ≡ false) → (IsFair l → is_used i.id w ≡ false) → ((s : State) → P s → FilesAt i.id s)
+take_in : {On : Entry → Type 0} (l : Link) (w : Filter) (es : List QueueEntry) (P : State → Type 0) → Feeds On l w es P → (e : Entry) (i : Item) → IsTold On l e → e.dir ≡ false → i.directory ≡ false → (IsFair l → waits_on i.id w.waiting.waits ≡ false) → (IsFair l → is_used i.id w ≡ false) → ((s : State) → P s → FilesAt i.id s)
     → (s : State) → P s → (IsFair s.link → Each i.id (HasTarget e.rid.0) (items_now s)) → (IsFair s.link → item_of (items_now s) i.id ≡ Some i) → Keeps P (and_then (only_if (is_dirty i) (copy_off i)) (try_change (change.Take i.id (entry_identity e) e.len)) s)
 take_in l w es P feeds e i told file local free idle files s h aimed there = by (is_dirty i) refl where
   fits : (t : State) → P t → (IsFair t.link → Each i.id (HasTarget e.rid.0) (items_now t)) → (IsFair t.link → Each i.id (λ k. k.writes ≡ []) (items_now t) ⊎ IsCopied t.filter.volume.log i.id) → IsFair t.link → Fits t.link.remote t.filter (change.Take i.id (entry_identity e) e.len)
@@ -361,18 +331,18 @@ take_in l w es P feeds e i told file local free idle files s h aimed there = by 
 
   by : (b : Bool) → is_dirty i ≡ b → Keeps P (and_then (only_if b (copy_off i)) (try_change (change.Take i.id (entry_identity e) e.len)) s)
   by true q =
-      and_then_at Whichever P feeds.steps (change.Copy s.filter.volume.next_item i.id i.parent (conflict_name (items_now s) i.parent i.name)) (try_change (change.Take i.id (entry_identity e) e.len)) s tt (λ id k. k)
+      and_then_at (IsNamedBy _ _) P feeds.steps (change.Copy s.filter.volume.next_item i.id i.parent (conflict_name (items_now s) i.parent i.name)) (try_change (change.Take i.id (entry_identity e) e.len)) s tt (λ id k. k)
       (λ fair. (refl, each_found i.id (λ j. (j.parent.0 ≡ i.parent.0) × (j.directory ≡ false)) 0 s.filter.volume.next_item.0 (items_now s) i (feeds.steps.sound s h fair).now.order (there fair) (refl, local))) h
-      (λ t j led. try_change_at Whichever P feeds.steps (change.Take i.id (entry_identity e) e.len) t tt (λ id k. k)
+      (λ t j led. try_change_at (IsNamedBy _ _) P feeds.steps (change.Take i.id (entry_identity e) e.len) t (inr (e, told.on, refl)) (λ id k. k)
       (fits t j
       (λ fair. let fair_s : IsFair s.link = subst IsFair led.link fair in
       subst (Each i.id (HasTarget e.rid.0)) (sym led.after.items) (each_copied i.id (HasTarget e.rid.0) s.filter.volume.next_item i.parent _ _ _ _ (items_now s) s.filter.volume.next_item.0 refl (files s h fair_s).0 (aimed fair_s)))
       (λ fair. inr (s.filter.volume.log, next_number s.filter.volume, s.filter.volume.next_item, i.parent, conflict_name (items_now s) i.parent i.name, led.after.log))) j)
   by false q =
-      try_change_at Whichever P feeds.steps (change.Take i.id (entry_identity e) e.len) s tt (λ id k. k)
+      try_change_at (IsNamedBy _ _) P feeds.steps (change.Take i.id (entry_identity e) e.len) s (inr (e, told.on, refl)) (λ id k. k)
       (fits s h aimed (λ fair. inl (each_found i.id (λ k. k.writes ≡ []) 0 s.filter.volume.next_item.0 (items_now s) i (feeds.steps.sound s h fair).now.order (there fair) (clean_writes i.writes q)))) h
 
-pub take_at : (l : Link) (w : Filter) (es : List QueueEntry) (P : State → Type 0) → Feeds l w es P → (e : Entry) (i : Item) (s : State) → IsTold l e → (is_newer i e ≡ true → IsFair l → waits_on i.id w.waiting.waits ≡ false) → (is_newer i e ≡ true → IsFair l → is_used i.id w ≡ false)
+pub take_at : {On : Entry → Type 0} (l : Link) (w : Filter) (es : List QueueEntry) (P : State → Type 0) → Feeds On l w es P → (e : Entry) (i : Item) (s : State) → IsTold On l e → (is_newer i e ≡ true → IsFair l → waits_on i.id w.waiting.waits ≡ false) → (is_newer i e ≡ true → IsFair l → is_used i.id w ≡ false)
     → (IsFair s.link → is_newer i e ≡ true → i.placeholder ≡ true) → (IsFair s.link → (target_of i).0 ≡ e.rid.0) → (IsFair s.link → item_of (items_now s) i.id ≡ Some i) → P s → Keeps P (take_over e (Some i) s)
 take_at l w es P feeds e i s told free idle placed aimed there h =
     only_if_at P (is_newer i e) (and_then (only_if (is_dirty i) (copy_off i)) (try_change (change.Take i.id (entry_identity e) e.len))) s h

@@ -24,6 +24,7 @@ use Rattle.cf_model.specs.Words.{part, same, says}
 use Rattle.cf_model_laws.specs.Premises.{IsFair}
 use Rattle.cf_model_laws.specs.Fitting.{Stands}
 use Rattle.cf_model_laws.specs.Seats.{IsSeated}
+use Rattle.cf_model_laws.specs.Taken.{IsSeenBy}
 use Rattle.cf_model_laws.proofs.FoundItems.{both, found_id}
 use Rattle.cf_model_laws.proofs.MoveChanges.{SeatAt}
 use Rattle.cf_model_laws.proofs.SeatLaws.{found_changed}
@@ -135,15 +136,15 @@ not_above p items below = by (1 == p.id.0) refl where
   by true q = absurd (below (sym (eqb-true 1 p.id.0 q)))
   by false q = subst (λ (l : List ℕ). list_any (λ k. k == p.id.0) l ≡ false) (sym (root_first (length items) items)) refl
 
-pub move_entry_at : (Ok : Change → Type 0) (P : State → Type 0) → Skipping Ok P → ((item parent : ItemId) (name : List ℕ) → Ok (change.Move item parent name)) → (e : Entry) (i p : Item) (s : State) → (i.id.0 ≡ 1 → ⊥) → ((t : State) → P t → IsFair t.link → p.id.0 ≡ i.id.0 → ⊥)
-    → ((t : State) → P t → SeatAt p.id t) → IsReady e i p s → P s → Keeps P (move_entry e i p s)
-move_entry_at Ok P steps ok e i p s below apart seat ready h =
+pub move_entry_at : {On : Entry → Type 0} (Ok : Change → Type 0) (P : State → Type 0) → Skipping On Ok P → ((item parent : ItemId) (name : List ℕ) → Ok (change.Move item parent name)) → (e : Entry) (i p : Item) (s : State) → (i.id.0 ≡ 1 → ⊥) → ((t : State) → P t → IsFair t.link → p.id.0 ≡ i.id.0 → ⊥)
+    → ((t : State) → P t → SeatAt p.id t) → ((t : State) → P t → IsFair t.link → IsSeenBy On (items_now t) (seen_entry i.id e)) → IsReady e i p s → P s → Keeps P (move_entry e i p s)
+move_entry_at Ok P steps ok e i p s below apart seat told ready h =
     and_then_led P (IsReady e i p) (try_clear_name p.id e.name i.id) (and_then (free_parent i p) (and_then (move_in e i p) (try_seen (seen_entry i.id e)))) s ((try_clear_name_keeps Ok P steps ok p.id e.name i.id).keeps s h) (clear_ready e i p s ready)
     (λ t j a. and_then_led P (λ u. IsReady e i p u × IsFree i p u) (free_parent i p) (and_then (move_in e i p) (try_seen (seen_entry i.id e))) t (parent_freed t j (is_under (items_now t) p.id i.id) refl) (freed_ready t j a (is_under (items_now t) p.id i.id) refl)
     (λ u k b. and_then_led P (λ v. IsFair v.link → KeepsPlaced (with_seen (seen_entry i.id e)) v) (move_in e i p) (try_seen (seen_entry i.id e)) u
     (only_if_at P (not (says (stands_in p e.name) (item_of (items_now u) i.id))) (try_change (change.Move i.id p.id e.name)) u k (λ _. move_at Ok P steps ok i.id p.id e.name u (λ fair. inr (seat u k fair, b.1 fair, inl below)) k))
     (in_ready e i p (not (says (stands_in p e.name) (item_of (items_now u) i.id))) u refl b.0)
-    (λ v m c. try_seen_at Ok P steps (seen_entry i.id e) v c m))) where
+    (λ v m c. try_seen_at Ok P steps (seen_entry i.id e) v c (told v m) m))) where
       -- the parent is no root where it is freed
       here : (t : State) → P t → is_under (items_now t) p.id i.id ≡ true → IsFair t.link → (q : Item) × (item_of (items_now t) p.id ≡ Some q)
       here t j under fair = by (seat t j fair) where

@@ -1,5 +1,5 @@
 -- What a feed keeps in `replay`.
-use Rattle.std.proofs.Common.{◌≤◌, ◌≡◌, ℕ, Bool, true, false, List, [], ◌∷◌, refl, sym, ◌∙◌, ap, subst, inl, arith, eq-eqb}
+use Rattle.std.proofs.Common.{◌≤◌, ◌≡◌, ℕ, Bool, true, false, List, [], ◌∷◌, refl, sym, ◌∙◌, ap, subst, inl, arith, eq-eqb, inr, ◌+◌}
 use Rattle.std.specs.Prelude.{Option, Some, None, cond, not, filter, find, nat_lt, take, ◌&&◌, ◌||◌, ◌==◌}
 use Rattle.std.specs.List.{list_any}
 use Rattle.std.proofs.lemmas.Bool.{eqb-true}
@@ -8,38 +8,45 @@ use Rattle.cf_base.specs.declared.ids.ItemId.{ItemId}
 use Rattle.cf_base.specs.declared.ids.Usn.{Usn}
 use Rattle.cf_base.specs.declared.messages.Entry.{Entry}
 use Rattle.cf_model.specs.Arrows.{Arrow, Preserves, and_then, only_if, seq, when_ok}
-use Rattle.cf_model.specs.Books.{QueueEntry}
-use Rattle.cf_model.specs.Changes.{next_number}
+use Rattle.cf_model.specs.Books.{QueueEntry, with_cursor}
+use Rattle.cf_model.specs.Changes.{change as put, next_number}
 use Rattle.cf_model.specs.Dehydration.{in_use as is_used}
-use Rattle.cf_model.specs.Feeds.{Fed, depth_of_entry, all_released, all_turns, apply_entries, apply_feed, changed_entry, changed_steps, changed_unless, cursor_if, end_feed, first_turn, first_turn_by, in_turn, is_later, is_newer, is_parent, is_seen_so, is_whole, known, move_entry, parent_here, second_turn, second_turns, take_entry, take_over, take_turn, turn_by, turns, unknown, with_clock_seen, with_turn}
+use Rattle.cf_model.specs.Feeds.{Fed, depth_of_entry, all_released, all_turns, apply_feed, changed_entry, changed_steps, changed_unless, cursor_if, end_feed, first_turn, first_turn_by, in_turn, is_later, is_newer, is_parent, is_seen_so, is_whole, known, move_entry, parent_here, second_turn, second_turns, take_entry, take_over, take_turn, turn_by, turns, unknown, with_clock_seen, with_turn}
 use Rattle.cf_model.specs.Identities.{by_target, has_target, target_of}
 use Rattle.cf_model.specs.Items.{Item, item_of}
 use Rattle.cf_model.specs.Missing.{Wait}
 use Rattle.cf_model.specs.Numbers.{no_key, no_rid, root_rid, same_key}
 use Rattle.cf_model.specs.PushReplies.{round_closed, whatever}
 use Rattle.cf_model.specs.Requests.{Waiting, is_busy_beside}
-use Rattle.cf_model.specs.Skips.{in_use, try_cursor, try_mark_now, with_volatile}
-use Rattle.cf_model.specs.State.{Filter, Link, State, book_now, items_now}
+use Rattle.cf_model.specs.Skips.{in_book, in_use, is_cursor, skip_line, try_book, try_cursor, try_mark_now, why_no_record, with_volatile}
+use Rattle.cf_model.specs.State.{Filter, Link, State, book_now, items_now, with_filter}
 use Rattle.cf_model.specs.Store.{Held}
-use Rattle.cf_model.specs.Trees.{Asked, Fork, Keeps, Ret, Step, Tree}
+use Rattle.cf_model.specs.Trees.{Asked, Ends, Fork, Keeps, Ret, Step, Tree, bind, mapped}
 use Rattle.cf_model.specs.Words.{number_of, part, sorted}
 use Rattle.cf_model.proofs.TreeLaws.{keeps_bind}
 use Rattle.cf_model_laws.specs.Invariant.{All, IsRight, version_in, waits_on}
 use Rattle.cf_model_laws.specs.Premises.{IsFair}
 use Rattle.cf_model_laws.proofs.FoundItems.{found_again, found_id}
-use Rattle.cf_model_laws.proofs.Gathered.{all_any, all_append, all_filter, all_found, all_sorted}
-use Rattle.cf_model_laws.proofs.Guarded.{Guarded}
+use Rattle.cf_model_laws.proofs.Gathered.{all_any, all_append, all_filter, all_found, all_sorted, each_weaker}
+use Rattle.cf_model_laws.proofs.Guarded.{Guarded, IsFedTo}
 use Rattle.cf_model_laws.proofs.Leading.{Leads, kept_leads, leads_bind, leads_kept, leads_weaker}
 use Rattle.cf_model_laws.proofs.PushRepliesGuarded.{each_at}
 use Rattle.cf_model_laws.proofs.RightItems.{no_way, no_way_back}
-use Rattle.cf_model_laws.proofs.SkipsGuarded.{Whichever, and_then_keeps, fewer_changes, framed, guarded_skipping, keeps_first, keeps_into, only_if_at, try_cursor_at, try_mark_now_at}
+use Rattle.cf_model_laws.proofs.SkipsGuarded.{Framing, Skipping, Unnamed, Whichever, and_then_keeps, both_frames, fewer_changes, framed, guarded_skipping, heard_skipping, keeps_first, leaves_early, only_if_at, tried_at, try_mark_now_at}
 use Rattle.cf_model_laws.proofs.SoundSettles.{each_found, left_true, right_true, same_item}
 use Rattle.cf_model_laws.proofs.FeedMovesGuarded.{here_ready, move_entry_at}
-use Rattle.cf_model_laws.proofs.FeedEntriesGuarded.{Feeding, feeding, Feeds, IsTold, fair_now, turn_at, gone_at, new_at, unmoved, newer_file, idle_first, take_at}
+use Rattle.cf_model_laws.proofs.FeedFrames.{Feeding, feeding, Feeds, IsTold, fair_now, unmoved, moves_named}
+use Rattle.cf_model_laws.proofs.FeedEntriesGuarded.{turn_at, gone_at, new_at, newer_file, idle_first, take_at}
 use Rattle.cf_model_laws.proofs.MoveChanges.{IsMove, Alike, AlikeAt, SeatAt, alike_frame, seat_frame}
 use Rattle.cf_model_laws.specs.Seats.{IsSeated}
 use Rattle.cf_model_laws.specs.Invariant.{InOrder}
 use Rattle.cf_model_laws.proofs.AimedTargets.{unaimed_unfound}
+use Rattle.cf_base.specs.declared.codes.Code.{Code}
+use Rattle.cf_base.specs.declared.ids.Round.{Round}
+use Rattle.cf_base.specs.declared.messages.Request.{Request}
+use Rattle.cf_base.specs.declared.messages.Reply.TheVariants as reply
+use Rattle.cf_model.specs.Messages.{is_stale}
+use Rattle.cf_model_laws.specs.Taken.{Heard, IsNamedBy, IsPosted, Since, ToldAt}
 
 -- an item that is not in use is not waited for
 pub not_waited : (item : ItemId) (ws : List Wait) → All (λ v. same_key v.id.0 no_key ≡ false) ws → list_any (λ v. (v.item.0 == item.0) && not (same_key v.id.0 no_key)) ws ≡ false → waits_on item ws ≡ false
@@ -91,7 +98,7 @@ pub newer_alike : (i k : Item) (e : Entry) → Alike i k → is_newer k e ≡ tr
 newer_alike i k e a q = subst (λ (n : ℕ). (not i.directory && nat_lt n e.version.0) ≡ true) a.0 (subst (λ (d : Bool). (not d && nat_lt (version_in k.identity).0 e.version.0) ≡ true) a.1 q)
 
 -- where the item is found again it is alike, and so may be taken over
-again_at : (l : Link) (w : Filter) (es : List QueueEntry) (P : State → Type 0) → Feeds l w es P → (e : Entry) (i : Item) (s t : State) → IsTold l e → (is_newer i e && in_use s i.id) ≡ false → has_target i e.rid ≡ true → (IsFair s.link → item_of (items_now s) i.id ≡ Some i)
+again_at : {On : Entry → Type 0} (l : Link) (w : Filter) (es : List QueueEntry) (P : State → Type 0) → Feeds On l w es P → (e : Entry) (i : Item) (s t : State) → IsTold On l e → (is_newer i e && in_use s i.id) ≡ false → has_target i e.rid ≡ true → (IsFair s.link → item_of (items_now s) i.id ≡ Some i)
     → P s → P t → AlikeAt i i.id t → Keeps P (take_entry e i.id t)
 again_at l w es P feeds e i s t told idle target there h j alike = by (item_of (items_now t) i.id) refl where
   fair_of : (u : State) → P u → IsFair l → IsFair u.link
@@ -143,7 +150,7 @@ parent_seated : (e : Entry) (p : Item) (items : List Item) (next : ℕ) → InOr
 parent_seated e p items next order up =
     inl (p, found_again (is_parent e) 0 next items p order up, right_true (has_target p e.parent) p.directory (left_true (has_target p e.parent && p.directory) p.populated (all_found (λ x. Unit {0}) (is_parent e) items p up (all_any (λ x. Unit {0}) (λ x. tt) items)).1))
 
-changed_at : (l : Link) (w : Filter) (es : List QueueEntry) (P : State → Type 0) → Feeds l w es P → (e : Entry) (i p : Item) (s : State) → IsTold l e → (is_newer i e && in_use s i.id) ≡ false → has_target i e.rid ≡ true → (IsFair s.link → item_of (items_now s) i.id ≡ Some i) → parent_here s e ≡ Some p → P s
+changed_at : {On : Entry → Type 0} (l : Link) (w : Filter) (es : List QueueEntry) (P : State → Type 0) → Feeds On l w es P → (e : Entry) (i p : Item) (s : State) → IsTold On l e → (is_newer i e && in_use s i.id) ≡ false → has_target i e.rid ≡ true → (IsFair s.link → item_of (items_now s) i.id ≡ Some i) → parent_here s e ≡ Some p → P s
     → Keeps P (changed_steps e i p s)
 changed_at l w es P feeds e i p s told idle target there up h =
     kept_leads P (changed_steps e i p s)
@@ -151,8 +158,8 @@ changed_at l w es P feeds e i p s told idle target there up h =
     (first_led P (AlikeAt i i.id) (only_if (not (is_seen_so s i e)) (move_entry e i p) s)
     (only_if_at (λ t. P t × AlikeAt i i.id t) (not (is_seen_so s i e)) (move_entry e i p) s first
     (λ _. keeps_first (λ t. P t × AlikeAt i i.id t) (SeatAt p.id) (move_entry e i p s)
-    (move_entry_at IsMove (λ t. (P t × AlikeAt i i.id t) × SeatAt p.id t) (framed IsMove (λ t. P t × AlikeAt i i.id t) (SeatAt p.id) (framed IsMove P (AlikeAt i i.id) (fewer_changes P IsMove feeds.steps) (alike_frame i i.id)) (seat_frame p.id)) (λ a b c. tt) e i p s
-    (target_low e i told.low target) (λ t k fair. apart_now (subst IsFair (sym (feeds.fed s h).link) (fair_now l w es t (feeds.fed t k.0.0) fair))) (λ t k. k.1)
+    (move_entry_at IsMove (λ t. (P t × AlikeAt i i.id t) × SeatAt p.id t) (framed IsMove (λ t. P t × AlikeAt i i.id t) (SeatAt p.id) (framed IsMove P (AlikeAt i i.id) (fewer_changes P (IsNamedBy _ _) IsMove (moves_named _) feeds.steps) (alike_frame i i.id)) (seat_frame p.id)) (λ a b c. tt) e i p s
+    (target_low e i told.low target) (λ t k fair. apart_now (subst IsFair (sym (feeds.fed s h).link) (fair_now l w es t (feeds.fed t k.0.0) fair))) (λ t k. k.1) (λ t k fair. (e, told.on, each_weaker i.id (Alike i) (λ j. (j.id.0 ≡ 1 → ⊥) → (target_of j).0 ≡ e.rid.0) (λ j a _. a.3 ∙ eqb-true (target_of i).0 e.rid.0 (right_true (nat_lt 0 e.rid.0) ((target_of i).0 == e.rid.0) target)) (items_now t) (k.0.1 fair), refl, refl))
     (here_ready e i p s (λ fair. found_again (is_parent e) 0 s.filter.volume.next_item.0 (items_now s) p (feeds.steps.sound s h fair).now.order up) (parent_target_of e p (items_now s) up)) (first, λ fair. parent_seated e p (items_now s) s.filter.volume.next_item.0 (feeds.steps.sound s h fair).now.order up)))))
     (λ done t j. leads_kept P (when_ok false (and_then (take_entry e i.id) (try_mark_now i.id)) done t) (rest done t j.0 j.1))) where
       apart_now : IsFair s.link → p.id.0 ≡ i.id.0 → ⊥
@@ -163,10 +170,10 @@ changed_at l w es P feeds e i p s told idle target there up h =
       first = (h, λ fair. each_found i.id (Alike i) 0 s.filter.volume.next_item.0 (items_now s) i (feeds.steps.sound s h fair).now.order (there fair) (refl, refl, refl, refl))
 
       rest : (done : Bool) (t : State) → P t → AlikeAt i i.id t → Keeps P (when_ok false (and_then (take_entry e i.id) (try_mark_now i.id)) done t)
-      rest true t j a = and_then_keeps P (take_entry e i.id) (try_mark_now i.id) t (again_at l w es P feeds e i s t told idle target there h j a) (λ u k. try_mark_now_at Whichever P feeds.steps i.id u (λ n. tt) (unmoved l w es P feeds i.id u k) k)
+      rest true t j a = and_then_keeps P (take_entry e i.id) (try_mark_now i.id) t (again_at l w es P feeds e i s t told idle target there h j a) (λ u k. try_mark_now_at (IsNamedBy _ _) P feeds.steps i.id u (λ n. tt) (unmoved l w es P feeds i.id u k) k)
       rest false t j a = j
 
-changed_turn : (l : Link) (w : Filter) (es : List QueueEntry) (P : State → Type 0) → Feeds l w es P → (e : Entry) (i p : Item) (s : State) → IsTold l e → has_target i e.rid ≡ true → (IsFair s.link → item_of (items_now s) i.id ≡ Some i) → parent_here s e ≡ Some p → P s → Keeps P (changed_entry e i p s)
+changed_turn : {On : Entry → Type 0} (l : Link) (w : Filter) (es : List QueueEntry) (P : State → Type 0) → Feeds On l w es P → (e : Entry) (i p : Item) (s : State) → IsTold On l e → has_target i e.rid ≡ true → (IsFair s.link → item_of (items_now s) i.id ≡ Some i) → parent_here s e ≡ Some p → P s → Keeps P (changed_entry e i p s)
 changed_turn l w es P feeds e i p s told target there up h = by (is_newer i e && in_use s i.id) refl where
   by : (b : Bool) → (is_newer i e && in_use s i.id) ≡ b → Keeps P (changed_unless e i p b s)
   by true q = h
@@ -174,7 +181,7 @@ changed_turn l w es P feeds e i p s told target there up h = by (is_newer i e &&
 
 -- all entries
 
-take_turn_keeps : (l : Link) (w : Filter) (es : List QueueEntry) (P : State → Type 0) → Feeds l w es P → (e : Entry) → IsTold l e → Preserves P (take_turn e)
+pub take_turn_keeps : {On : Entry → Type 0} (l : Link) (w : Filter) (es : List QueueEntry) (P : State → Type 0) → Feeds On l w es P → (e : Entry) → IsTold On l e → Preserves P (take_turn e)
 take_turn_keeps l w es P feeds e told = record { keeps = λ s h. by s h (by_target (items_now s) e.rid) (parent_here s e) refl refl } where
   fresh : (s : State) → P s → by_target (items_now s) e.rid ≡ None → (b : Bool) (p : Option Item) → parent_here s e ≡ p → Keeps P (unknown b e p s)
   fresh s h f true (Some p) up =
@@ -197,56 +204,112 @@ take_turn_keeps l w es P feeds e told = record { keeps = λ s h. by s h (by_targ
 
 -- the turns, and the entries that come again
 
-abbrev Turned : Link → (State → Type 0) → Fed → State → Type 0
-Turned l P f s = P s × All (IsTold l) f.later
+abbrev Turned : (Entry → Type 0) → Link → (State → Type 0) → Fed → State → Type 0
+Turned On l P f s = P s × All (IsTold On l) f.later
 
-take_turn_led : (l : Link) (w : Filter) (es : List QueueEntry) (P : State → Type 0) → Feeds l w es P → (e : Entry) (f : Fed) (s : State) → IsTold l e → All (IsTold l) f.later → P s → Leads P (Turned l P) (seq (take_turn e) (with_turn f) s)
-take_turn_led l w es P feeds e f s told all h =
-    leads_bind P (λ b t. P t) (Turned l P) (take_turn e s) (with_turn f) (leads_kept P (take_turn e s) ((take_turn_keeps l w es P feeds e told).keeps s h)) (λ b t j. (j, all))
+take_turn_led : {On : Entry → Type 0} (l : Link) (w : Filter) (es : List QueueEntry) (P : State → Type 0) → Feeds On l w es P → (e : Entry) (f : Fed) (s : State) → IsTold On l e → All (IsTold On l) f.later → P s → Leads P (Turned On l P) (seq (take_turn e) (with_turn f) s)
+take_turn_led {On} l w es P feeds e f s told all h =
+    leads_bind P (λ b t. P t) (Turned On l P) (take_turn e s) (with_turn f) (leads_kept P (take_turn e s) ((take_turn_keeps l w es P feeds e told).keeps s h)) (λ b t j. (j, all))
 
-first_turn_led : (l : Link) (w : Filter) (es : List QueueEntry) (P : State → Type 0) → Feeds l w es P → (e : Entry) (f : Fed) (s : State) → IsTold l e → All (IsTold l) f.later → P s → Leads P (Turned l P) (first_turn e f s)
-first_turn_led l w es P feeds e f s told all h = by (is_later s e) where
-  by : (b : Bool) → Leads P (Turned l P) (first_turn_by b e f s)
-  by true = (h, all_append (IsTold l) f.later (e ∷ []) all (told, tt))
+first_turn_led : {On : Entry → Type 0} (l : Link) (w : Filter) (es : List QueueEntry) (P : State → Type 0) → Feeds On l w es P → (e : Entry) (f : Fed) (s : State) → IsTold On l e → All (IsTold On l) f.later → P s → Leads P (Turned On l P) (first_turn e f s)
+first_turn_led {On} l w es P feeds e f s told all h = by (is_later s e) where
+  by : (b : Bool) → Leads P (Turned On l P) (first_turn_by b e f s)
+  by true = (h, all_append (IsTold On l) f.later (e ∷ []) all (told, tt))
   by false = take_turn_led l w es P feeds e f s told all h
 
-turns_led : (l : Link) (P : State → Type 0) (f : Entry → Fed → Arrow State Fed) → ((e : Entry) (g : Fed) (s : State) → IsTold l e → All (IsTold l) g.later → P s → Leads P (Turned l P) (f e g s)) → (list : List Entry) (g : Fed) (s : State) → All (IsTold l) list → All (IsTold l) g.later → P s
-    → Leads P (Turned l P) (turns f list g s)
-turns_led l P f k [] g s told all h = (h, all)
-turns_led l P f k (e ∷ list) g s told all h = leads_bind P (Turned l P) (Turned l P) (f e g s) (turns f list) (k e g s told.0 all h) (λ g2 t j. turns_led l P f k list g2 t told.1 j.1 j.0)
+turns_led : {On : Entry → Type 0} (l : Link) (P : State → Type 0) (f : Entry → Fed → Arrow State Fed) → ((e : Entry) (g : Fed) (s : State) → IsTold On l e → All (IsTold On l) g.later → P s → Leads P (Turned On l P) (f e g s)) → (list : List Entry) (g : Fed) (s : State) → All (IsTold On l) list → All (IsTold On l) g.later → P s
+    → Leads P (Turned On l P) (turns f list g s)
+turns_led {On} l P f k [] g s told all h = (h, all)
+turns_led {On} l P f k (e ∷ list) g s told all h = leads_bind P (Turned On l P) (Turned On l P) (f e g s) (turns f list) (k e g s told.0 all h) (λ g2 t j. turns_led l P f k list g2 t told.1 j.1 j.0)
 
-all_turns_keep : (l : Link) (w : Filter) (es : List QueueEntry) (P : State → Type 0) → Feeds l w es P → (list : List Entry) → All (IsTold l) list → Preserves P (all_turns list)
-all_turns_keep l w es P feeds list told = record {
+all_turns_keep : {On : Entry → Type 0} (l : Link) (w : Filter) (es : List QueueEntry) (P : State → Type 0) → Feeds On l w es P → (list : List Entry) → All (IsTold On l) list → Preserves P (all_turns list)
+all_turns_keep {On} l w es P feeds list told = record {
   keeps = λ s h.
       kept_leads P (all_turns list s)
-      (leads_bind P (Turned l P) (λ f t. P t) (turns first_turn (in_turn (items_now s) list) (record { postponed = false; later = [] }) s) second_turns
+      (leads_bind P (Turned On l P) (λ f t. P t) (turns first_turn (in_turn (items_now s) list) (record { postponed = false; later = [] }) s) second_turns
       (turns_led l P first_turn (first_turn_led l w es P feeds) (in_turn (items_now s) list) (record { postponed = false; later = [] }) s (in_turn_told s) tt h)
-      (λ f t j. leads_weaker P (Turned l P) (λ g u. P u) (turns second_turn f.later f t) (λ g u k. k.0) (turns_led l P second_turn (take_turn_led l w es P feeds) f.later f t j.1 j.1 j.0)));
+      (λ f t j. leads_weaker P (Turned On l P) (λ g u. P u) (turns second_turn f.later f t) (λ g u k. k.0) (turns_led l P second_turn (take_turn_led l w es P feeds) f.later f t j.1 j.1 j.0)));
 }
   where
-    in_turn_told : (s : State) → All (IsTold l) (in_turn (items_now s) list)
+    in_turn_told : (s : State) → All (IsTold On l) (in_turn (items_now s) list)
     in_turn_told s =
-        all_append (IsTold l) (sorted (λ d e. nat_lt (depth_of_entry (items_now s) e) (depth_of_entry (items_now s) d)) (filter (λ e. not e.live) list)) (filter (λ e. e.live) list)
-        (all_sorted (IsTold l) (λ d e. nat_lt (depth_of_entry (items_now s) e) (depth_of_entry (items_now s) d)) (filter (λ e. not e.live) list) (all_filter (IsTold l) (λ e. not e.live) list told)) (all_filter (IsTold l) (λ e. e.live) list told)
+        all_append (IsTold On l) (sorted (λ d e. nat_lt (depth_of_entry (items_now s) e) (depth_of_entry (items_now s) d)) (filter (λ e. not e.live) list)) (filter (λ e. e.live) list)
+        (all_sorted (IsTold On l) (λ d e. nat_lt (depth_of_entry (items_now s) e) (depth_of_entry (items_now s) d)) (filter (λ e. not e.live) list) (all_filter (IsTold On l) (λ e. not e.live) list told)) (all_filter (IsTold On l) (λ e. e.live) list told)
 
-cursor_if_at : (P : State → Type 0) → Guarded P → (clock : ℕ) (b : Bool) (s : State) → (IsFair s.link → clock ≤ s.link.remote.clock) → P s → Keeps P (cursor_if clock b s)
-cursor_if_at P closed clock false s early h = h
-cursor_if_at P closed clock true s early h = keeps_bind P (try_cursor clock s) whatever (try_cursor_at Whichever P (guarded_skipping P closed) clock s early h) (λ b t j. j)
+-- the feed that counted is done
+cursor_if_at : (P : State → Type 0) → Guarded P → (clock : ℕ) (b : Bool) (s : State) → (IsFair s.link → clock ≤ s.link.remote.clock) → (b ≡ true → IsFair s.link → IsFedTo P clock s) → P s → Keeps P (cursor_if clock b s)
+cursor_if_at P closed clock false s early fed h = h
+cursor_if_at P closed clock true s early fed h =
+    keeps_bind P (try_cursor clock s) whatever
+    (only_if_at P (not (is_cursor clock s)) (try_book (with_cursor clock)) s h
+    (λ _. tried_at Unnamed P (guarded_skipping P closed) (why_no_record (with_cursor clock)) (in_book (with_cursor clock)) s h
+    (h, closed.books (with_cursor clock) s (λ b. refl) (λ fair. leaves_early (with_cursor clock) s (λ b. refl) (inr (early fair))) (λ fair. inr (inr (inr (clock, (λ b. refl), fed refl fair)))) h))) (λ b t j. j)
 
-end_feed_at : (P : State → Type 0) → Guarded P → (clock skips : ℕ) (f : Fed) (s : State) → (IsFair s.link → clock ≤ s.link.remote.clock) → P s → Keeps P (end_feed clock skips f s)
-end_feed_at P closed clock skips f s early h =
+end_feed_at : (P : State → Type 0) → Guarded P → (clock skips : ℕ) (f : Fed) (s : State) → (IsFair s.link → clock ≤ s.link.remote.clock)
+    → (is_whole skips f (with_clock_seen clock (with_volatile all_released s)) ≡ true → IsFair s.link → IsFedTo P clock (with_clock_seen clock (with_volatile all_released s))) → P s → Keeps P (end_feed clock skips f s)
+end_feed_at P closed clock skips f s early fed h =
     let t : State = with_clock_seen clock (with_volatile all_released s) in
-    cursor_if_at P closed clock (is_whole skips f t) t early (closed.keeps_with_clock_seen clock (with_volatile all_released s) (closed.keeps_volatile_all_released s h))
+    cursor_if_at P closed clock (is_whole skips f t) t early fed (closed.keeps_with_clock_seen clock (with_volatile all_released s) (closed.keeps_volatile_all_released s h))
 
--- a feed that was told, while no upload is on its way
-apply_entries_at : (P : State → Type 0) → Guarded P → (clock : ℕ) (list : List Entry) (s : State) → (IsFair s.link → (book_now s).entries ≡ []) → (IsFair s.link → clock ≤ s.link.remote.clock) → All (IsTold s.link) list → P s → Keeps P (apply_entries clock list s)
-apply_entries_at P closed clock list s none early told h =
-    keeps_into P Fed_ (λ t k. k.0) (all_turns list s) (end_feed clock s.running.skips)
-    ((all_turns_keep s.link s.filter (book_now s).entries Fed_
-    (record { steps = framed Whichever P (Feeding s.link s.filter (book_now s).entries) (guarded_skipping P closed) (feeding s.link s.filter (book_now s).entries); fed = λ t k. k.1; none = none }) list told).keeps s (h, record { link = refl; waiting = refl; handles = refl; entries = refl }))
-    (λ f t j. end_feed_at P closed clock s.running.skips f t (subst (λ (l : Link). IsFair l → clock ≤ l.remote.clock) (sym j.1.link) early) j.0) where
+-- what is kept of the first part, which ends so, is more
+keeps_ends : {S A B : Type 0} (P Q : S → Type 0) → ((s : S) → Q s → P s) → (p : Tree S A) (g : A → S → Tree S B) → Keeps Q p → ((a : A) (s : S) → Q s → Ends p a s → Keeps P (g a s)) → Keeps P (bind p g)
+keeps_ends P Q less (Ret a s) g h k = k a s h (refl, refl)
+keeps_ends P Q less (Step s p) g h k = (less s h.0, keeps_ends P Q less p g h.1 k)
+keeps_ends P Q less (Fork p q) g h k = (keeps_ends P Q less p g h.0 (λ a s j e. k a s j (inl e)), keeps_ends P Q less q g h.1 (λ a s j e. k a s j (inr e)))
+keeps_ends P Q less (Asked f) g h k = λ x. keeps_ends P Q less (f x) g (h x) (λ a s j e. k a s j (x, e))
+
+abbrev IsClosed : State → Type 0
+IsClosed s = s.volatile.round_open ≡ false
+
+closed_frame : Framing Whichever IsClosed
+closed_frame = record { change = λ c s ok fit h. stays (put c s.filter) s h; books = λ f s keeps cursor h. h; skips = λ c s h. line s.running.shows_skips c (record s { running = record s.running { skips = s.running.skips + 1 } }) h } where
+  stays : (p : Tree Filter (Unit {0})) (s : State) → IsClosed s → Keeps IsClosed (mapped (λ x. with_filter x s) p)
+  stays (Ret a x) s h = h
+  stays (Step x p) s h = (h, stays p s h)
+  stays (Fork p q) s h = (stays p s h, stays q s h)
+  stays (Asked k) s h = λ x. stays (k x) s h
+
+  line : (b : Bool) (c : Code) (s : State) → IsClosed s → IsClosed (skip_line b c s)
+  line true c s h = h
+  line false c s h = h
+
+-- A feed that counts, while no upload is on its way. Its round is closed first.
+pub apply_feed_at : (P : State → Type 0) → Guarded P → (m : ℕ) (q : Request) (round : Round) (clock : ℕ) (list : List Entry) (s : State) → is_stale q (reply.Feed round clock list) s ≡ false → (IsFair s.link → ToldAt s m q (reply.Feed round clock list))
+    → IsPosted s m (reply.Feed round clock list) → (IsFair s.link → (book_now s).entries ≡ []) → (IsFair s.link → clock ≤ s.link.remote.clock) → All (IsTold (Heard true s) s.link) list → P s → Keeps P (apply_feed clock list s)
+apply_feed_at P closed m q round clock list s counts heard posted none early told h =
+    keeps_ends P Fed_ (λ t k. k.0) (all_turns list first) (end_feed clock first.running.skips)
+    ((all_turns_keep s.link s.filter (book_now s).entries Fed_ (record { steps = steps; fed = λ t k. k.1.0; none = none }) list told).keeps first (closed.keeps_volatile_round_closed s h, (record { link = refl; waiting = refl; handles = refl; entries = refl; cursor = refl }, refl)))
+    (λ f t j e. end_feed_at P closed clock first.running.skips f t (subst (λ (l : Link). IsFair l → clock ≤ l.remote.clock) (sym j.1.0.link) early) (done f t j e) j.0) where
+      first : State
+      first = with_volatile round_closed s
+
       Fed_ : State → Type 0
-      Fed_ t = P t × Feeding s.link s.filter (book_now s).entries t
+      Fed_ t = P t × (Feeding s.link s.filter (book_now s).entries t × IsClosed t)
 
-pub apply_feed_at : (P : State → Type 0) → Guarded P → (clock : ℕ) (list : List Entry) (s : State) → (IsFair s.link → (book_now s).entries ≡ []) → (IsFair s.link → clock ≤ s.link.remote.clock) → All (IsTold s.link) list → P s → Keeps P (apply_feed clock list s)
-apply_feed_at P closed clock list s none early told h = apply_entries_at P closed clock list (with_volatile round_closed s) none early told (closed.keeps_volatile_round_closed s h)
+      known : (t : State) → P t → Feeding s.link s.filter (book_now s).entries t × IsClosed t → (e : Entry) → Heard true s e → Since P t.link true (book_now t).cursor e
+      known t j k e on = (s, h, on, k.0.link, k.0.cursor)
+
+      steps : Skipping (Heard true s) (IsNamedBy (Heard true s) (Heard true s)) Fed_
+      steps = heard_skipping P (λ t. Feeding s.link s.filter (book_now s).entries t × IsClosed t) (Heard true s) closed (both_frames (Feeding s.link s.filter (book_now s).entries) IsClosed (feeding s.link s.filter (book_now s).entries) closed_frame) known
+
+      done : (f : Fed) (t : State) → Fed_ t → Ends (all_turns list first) f t → is_whole first.running.skips f (with_clock_seen clock (with_volatile all_released t)) ≡ true → IsFair t.link → IsFedTo P clock (with_clock_seen clock (with_volatile all_released t))
+      done f t j e whole fair = record {
+        first = s;
+        kept = h;
+        message = m;
+        request = q;
+        round = round;
+        entries = list;
+        counts = counts;
+        told = heard;
+        posted = posted;
+        link = j.1.0.link;
+        cursor = j.1.0.cursor;
+        none = j.1.0.entries ∙ none (subst IsFair j.1.0.link fair);
+        closed = j.1.1;
+        turned = t;
+        fed = f;
+        ends = e;
+        same = refl;
+        whole = whole;
+      }

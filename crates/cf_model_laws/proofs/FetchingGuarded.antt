@@ -13,7 +13,7 @@ use Rattle.cf_base.specs.declared.spans.Span.{Span}
 use Rattle.cf_base.specs.declared.waits.AskKind.{AskKind}
 use Rattle.cf_base.specs.declared.waits.AskKind.TheVariants as ask_kind
 use Rattle.cf_model.specs.Arrows.{unit, Preserves, Arrow}
-use Rattle.cf_model.specs.Requests.{Live, is_fetch, live_of}
+use Rattle.cf_model.specs.Requests.{Live, is_fetch, live_of, is_list}
 use Rattle.cf_model.specs.Operations.{execute, execute_with}
 use Rattle.cf_model.specs.Skips.{skip}
 use Rattle.cf_model.specs.State.{State, in_filter, items_now, with_filter, Filter, book_now}
@@ -22,22 +22,24 @@ use Rattle.cf_model_laws.proofs.StepsGuarded as skips_keep
 use Rattle.cf_model.specs.Fetching.{after_listing, after_transfer, do_op, is_new, live_ask, new_item_of, no_entries, nothing_more, refuse_by_kind, refuse_for, refuse_live, span_at, take_bytes, take_gone, take_listing, take_missing, with_seen_from}
 use Rattle.cf_model_laws.proofs.Guarded.{Guarded, KeepsCursor, AreSeenBelow}
 use Rattle.cf_model.proofs.ArrowLaws.{keeps_ret, keeps_then}
-use Rattle.std.proofs.Common.{◌≡◌, ◌<◌, ◌≤◌, ℕ, ◌+◌, suc, List, [], ◌∷◌, refl, true, false, arith}
+use Rattle.std.proofs.Common.{◌≡◌, ◌<◌, ◌≤◌, ℕ, ◌+◌, suc, List, [], ◌∷◌, refl, true, false, arith, ap}
 use Rattle.cf_model.specs.Books.{with_seen, Book}
-use Rattle.cf_model.specs.Identities.{base_bytes}
+use Rattle.cf_model.specs.Identities.{base_bytes, entry_identity}
 use Rattle.cf_model.specs.Soundness.{Each}
 use Rattle.cf_model.specs.Trees.{Keeps}
 use Rattle.cf_model.proofs.TreeLaws.{keeps_bind, keeps_mapped}
-use Rattle.cf_model_laws.specs.Invariant.{All, HasEntry}
+use Rattle.cf_model_laws.specs.Invariant.{All, HasEntry, target_in}
 use Rattle.cf_model_laws.specs.Premises.{IsFair}
-use Rattle.cf_model_laws.proofs.EntryLaws.{new_fits, others_told}
-use Rattle.cf_model_laws.proofs.Gathered.{all_filter, all_both}
+use Rattle.cf_model_laws.proofs.EntryLaws.{new_fits, others_told, entry_small, entry_target_in}
+use Rattle.cf_model_laws.proofs.Gathered.{all_filter, all_both, all_weaker}
 use Rattle.cf_model_laws.proofs.OperationsGuarded.{NewFits}
 use Rattle.cf_model_laws.proofs.SkipsGuarded.{seen_below}
 use Rattle.cf_model_laws.proofs.SoundChanges.{KeepsEntries}
 use Rattle.cf_model.specs.PushReplies.{is_new_entry}
 use Rattle.std.specs.List.{list_any}
 use Rattle.cf_model.specs.Fits.{are_distinct}
+use Rattle.cf_model_laws.specs.Taken.{Heard, Since}
+use Rattle.cf_base.specs.declared.ids.Rid.{Rid}
 
 -- a part of the filter in the whole
 pub in_filter_at : (P : State → Type 0) (f : Arrow Filter Shown) (s : State) → Keeps (λ x. P (with_filter x s)) (f s.filter) → Keeps P (in_filter f s)
@@ -117,11 +119,22 @@ seen_from_cursor : (id : ℕ) (es : List Entry) → KeepsCursor (with_seen_from 
 seen_from_cursor id [] b = refl
 seen_from_cursor id (e ∷ es) b = seen_from_cursor (id + 1) es (with_seen (record { item = record { 0 = id }; parent = e.parent; name = e.name }) b)
 
-pub take_listing_at : (P : State → Type 0) → Guarded P → (key : Key) (es : List Entry) (s : State) → (IsFair s.link → All (HasEntry s.link.remote) es) → All (λ e. e.rid.0 ≡ 1 → ⊥) es → (IsFair s.link → list_any is_new_entry (book_now s).entries ≡ false) → are_distinct es ≡ true → P s → Keeps P (take_listing key es s)
-take_listing_at P closed key es s has low old apart h =
+pub take_listing_at : (P : State → Type 0) → Guarded P → (key : Key) (es : List Entry) (s : State) → ((a : Live) → live_of s.filter.waiting.asks key ≡ Some a → is_list a.ask.kind ≡ true → All (Heard false s) es) → (IsFair s.link → All (HasEntry s.link.remote) es) → All (λ e. e.rid.0 ≡ 1 → ⊥) es → (IsFair s.link → list_any is_new_entry (book_now s).entries ≡ false) → are_distinct es ≡ true → P s → Keeps P (take_listing key es s)
+take_listing_at P closed key es s heard has low old apart h =
     let news : List Entry = filter (is_new (items_now s)) es in
     keeps_bind P (in_filter (execute_with (with_seen_from s.filter.volume.next_item.0 news) (operation.Entries key (map new_item_of news) true)) s) (after_listing key)
     (in_filter_at P (execute_with (with_seen_from s.filter.volume.next_item.0 news) (operation.Entries key (map new_item_of news) true)) s
-    (operations_keep.listed_at s.link s.volatile.tokens (λ x. P (with_filter x s)) (closed.on_filter s h) (with_seen_from s.filter.volume.next_item.0 news) (seen_from_keeps s.filter.volume.next_item.0 news) key news s.filter (seen_from_below s.filter.volume.next_item.0 news, seen_from_cursor s.filter.volume.next_item.0 news)
+    (operations_keep.listed_at s.link s.volatile.tokens (λ x. P (with_filter x s)) (closed.on_filter s h) (with_seen_from s.filter.volume.next_item.0 news) (seen_from_keeps s.filter.volume.next_item.0 news) key news s.filter (λ b. refl)
+    (λ a live kind fair. record {
+      at = none s.filter.volume.next_item.0;
+      parts = refl;
+      made = tt;
+      left = all_filter (Since P s.link false (book_now s).cursor) (is_new (items_now s)) es (all_weaker (Heard false s) (Since P s.link false (book_now s).cursor) (λ e k. (s, h, k, refl, refl)) es (heard a live kind));
+      small = all_filter (λ e. (target_in (entry_identity e)).0 ≡ e.rid.0) (is_new (items_now s)) es (all_weaker (HasEntry s.link.remote) (λ e. (target_in (entry_identity e)).0 ≡ e.rid.0) (λ e k. ap (λ (r : Rid). r.0) (entry_target_in e (entry_small s.link.remote e fair.1 k))) es (has fair));
+    })
+    (seen_from_below s.filter.volume.next_item.0 news, seen_from_cursor s.filter.volume.next_item.0 news)
     (λ fair. all_both (HasEntry s.link.remote) (λ e. e.rid.0 ≡ 1 → ⊥) (λ e. NewFits s.link.remote s.filter.policy (new_item_of e)) (λ e k g. new_fits s.link.remote s.filter.policy e fair.1 k g) news (all_filter (HasEntry s.link.remote) (is_new (items_now s)) es (has fair)) (all_filter (λ e. e.rid.0 ≡ 1 → ⊥) (is_new (items_now s)) es low)) old (λ fair. others_told s.link.remote (items_now s) es fair.1 (has fair) apart) h))
     (λ a t j. (after_listing_keeps P closed key a).keeps t j)
+  where
+    none : (n : ℕ) → n + 0 ≡ n
+    none n = omega arith

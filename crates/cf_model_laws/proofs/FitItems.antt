@@ -1,5 +1,5 @@
 -- What a change that fits keeps of all items.
-use Rattle.std.proofs.Common.{◌≡◌, ◌<◌, ◌≤◌, ◌+◌, ℕ, Bool, true, false, List, [], ◌∷◌, ◌++◌, refl, sym, subst, arith, length, max}
+use Rattle.std.proofs.Common.{◌≡◌, ◌<◌, ◌≤◌, ◌+◌, ℕ, Bool, true, false, List, [], ◌∷◌, ◌++◌, refl, sym, subst, arith, length, max, ◌∙◌}
 use Rattle.std.specs.Prelude.{Option, Some, None, cond, filter, ◌==◌}
 use Rattle.cf_base.specs.declared.changes.Change.{Change}
 use Rattle.cf_base.specs.declared.changes.Change.TheVariants as change
@@ -37,6 +37,17 @@ each_changed at id f C P Q same k m (i ∷ is) c h = (by (i.id.0 == id.0) c.0, e
   by : (b : Bool) → (b ≡ true → C i) → ((cond b (f i) i).id.0 == at.0) ≡ true → Q (cond b (f i) i)
   by true g e = k i (g refl) (h.0 (subst (λ (x : ItemId). (x.0 == at.0) ≡ true) (same i) e))
   by false g e = m i (h.0 e)
+
+-- what the change makes of the item itself
+pub each_made : (id : ItemId) (f : Item → Item) (C Q : Item → Type 0) → ((i : Item) → C i → Q (f i)) → (items : List Item) → Each id C items → Each id Q (changed id f items)
+each_made id f C Q k [] c = tt
+each_made id f C Q k (i ∷ is) c = (by (i.id.0 == id.0) refl, each_made id f C Q k is c.1) where
+  never : {A : Type 0} → false ≡ true → A
+  never z = cc
+
+  by : (b : Bool) → (i.id.0 == id.0) ≡ b → ((cond b (f i) i).id.0 == id.0) ≡ true → Q (cond b (f i) i)
+  by true q e = k i (c.0 q)
+  by false q e = never (sym q ∙ e)
 
 pub each_append : (at : ItemId) (P : Item → Type 0) (items : List Item) (x : Item) → Each at P items → ((x.id.0 == at.0) ≡ true → P x) → Each at P (items ++ x ∷ [])
 each_append at P [] x h k = (k, tt)

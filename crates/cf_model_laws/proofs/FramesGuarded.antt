@@ -41,6 +41,8 @@ use Rattle.cf_model_laws.proofs.SkipsGuarded.{keeps_both}
 use Rattle.cf_model_laws.proofs.SoundChanges.{KeepsEntries, same_entries}
 use Rattle.cf_model_laws.proofs.SoundFilters.{change_leads}
 use Rattle.cf_model_laws.proofs.SoundStates.{small_before}
+use Rattle.cf_model_laws.specs.Taken.{Knowledge}
+use Rattle.cf_model_laws.proofs.SinceKept.{moved_weaker, on_filter_weaker, record_weaker}
 
 -- the items of an id are of a kind, and no upload of it is on its way; and these tokens were given; all where the remote
 -- kept its rules
@@ -105,11 +107,11 @@ frame_book Used id R es l tokens v b e h = (λ u fair. let g = h.0 u fair in (g.
 told_frame : (Used : Type 0) (id : ItemId) (R : Bool → Bool → Type 0) (es : List QueueEntry) (l : Link) (tokens : ℕ) (v : Volume) (b : Book) → SameRecords v.book b → Frame Used id R es l tokens v → Frame Used id R es l tokens (record v { book = b })
 told_frame Used id R es l tokens v b same h = frame_book Used id R es l tokens v b same.entries h
 
-filter_framed : (Used : Type 0) (id : ItemId) (R : Bool → Bool → Type 0) → ((d p : Bool) → R d p → R d true) → (es : List QueueEntry) (l : Link) (tokens : ℕ) (P : Filter → Type 0) → GuardedFilter l tokens P → GuardedFilter l tokens (λ x. P x × InFilter Used id R es l tokens x)
+filter_framed : (Used : Type 0) (id : ItemId) (R : Bool → Bool → Type 0) → ((d p : Bool) → R d p → R d true) → (es : List QueueEntry) {On : Knowledge} (l : Link) (tokens : ℕ) (P : Filter → Type 0) → GuardedFilter On l tokens P → GuardedFilter On l tokens (λ x. P x × InFilter Used id R es l tokens x)
 filter_framed Used id R k es l tokens P closed = record {
   sound = λ x h fair. closed.sound x h.0 fair;
-  change = λ f c x keeps seen free fit h. keeps_both P (InFilter Used id R es l tokens) (change_with f c x) (closed.change f c x keeps seen free fit h.0) (frame_change Used id R k es l tokens f c x keeps fit h.1);
-  touch = λ f c item d x quiet keeps seen on fit h. keeps_both P (InFilter Used id R es l tokens) (then_do (change_with f c) (then_do (settle item d) done) x) (closed.touch f c item d x quiet keeps seen on fit h.0)
+  change = λ f c x keeps seen free fit known h. keeps_both P (InFilter Used id R es l tokens) (change_with f c x) (closed.change f c x keeps seen free fit known h.0) (frame_change Used id R k es l tokens f c x keeps fit h.1);
+  touch = λ f c item d x quiet keeps seen on fit known h. keeps_both P (InFilter Used id R es l tokens) (then_do (change_with f c) (then_do (settle item d) done) x) (closed.touch f c item d x quiet keeps seen on fit known h.0)
       (keeps_bind (InFilter Used id R es l tokens) (change_with f c x) (λ _ t. then_do (settle item d) done t) (frame_change Used id R k es l tokens f c x keeps fit h.1) (λ a t j. keeps_bind (InFilter Used id R es l tokens) (settle item d t) (λ _ y. done y) (tell_frame (Frame Used id R es l tokens) (told_frame Used id R es l tokens) (told_at item d t) t j) (λ b y m. m)));
   commits = record { keeps = λ x h. keeps_both P (InFilter Used id R es l tokens) (in_volume commit x) (closed.commits.keeps x h.0) (h.1, h.1) };
   settled = λ item d x others h. keeps_both P (InFilter Used id R es l tokens) (settle item d x) (closed.settled item d x others h.0) (tell_frame (Frame Used id R es l tokens) (told_frame Used id R es l tokens) (told_at item d x) x h.1);
@@ -160,14 +162,14 @@ more n = omega arith
 pub guarded_framed : (Used : Type 0) (id : ItemId) (R : Bool → Bool → Type 0) → ((d p : Bool) → R d p → R d true) → (es : List QueueEntry) (P : State → Type 0) → Guarded P → Guarded (λ s. P s × FrameIn Used id R es s)
 guarded_framed Used id R k es P closed = record {
   replay = λ s h. closed.replay s h.0;
-  on_filter = λ s h. filter_framed Used id R k es s.link s.volatile.tokens (λ x. P (with_filter x s)) (closed.on_filter s h.0);
+  on_filter = λ s h. filter_framed Used id R k es s.link s.volatile.tokens (λ x. P (with_filter x s)) (on_filter_weaker P (λ t. P t × FrameIn Used id R es t) (λ t k. k.0) s.link s.volatile.tokens _ (closed.on_filter s h.0));
   keeps_counted = λ s h. (closed.keeps_counted s h.0, h.1);
   asked = λ q s well h. (closed.asked q s well h.0, (λ u fair. h.1.0 u (fair.0, small_before s.link.remote q fair.1), λ fair. h.1.1 (fair.0, small_before s.link.remote q fair.1)));
   told = λ held s h. (closed.told held s h.0, (λ u fair. no_way fair.0, λ fair. no_way fair.0));
-  posts = λ f s well h. (closed.posts f s well h.0, h.1);
+  posts = λ f s well now h. (closed.posts f s well now h.0, h.1);
   loses = λ f s h. (closed.loses f s h.0, h.1);
-  books = λ f s keeps placed h. (closed.books f s keeps placed h.0, frame_book Used id R es s.link s.volatile.tokens s.filter.volume (f s.filter.volume.book) (keeps s.filter.volume.book) h.1);
-  moved = λ e s is live h. (closed.moved e s is live h.0, same_framed Used id R es s.link s.volatile.tokens _ (with_book (without_entry e.token) s).filter.volume (row_tokens e (round_closed s.volatile)) (left_framed Used id R es e.token s h.1));
+  books = λ f s keeps placed known h. (closed.books f s keeps placed (λ fair. record_weaker P (λ t. P t × FrameIn Used id R es t) (λ t k. k.0) f s (known fair)) h.0, frame_book Used id R es s.link s.volatile.tokens s.filter.volume (f s.filter.volume.book) (keeps s.filter.volume.book) h.1);
+  moved = λ e s is live known h. (closed.moved e s is live (λ fair. moved_weaker P (λ t. P t × FrameIn Used id R es t) (λ t k. k.0) e s (known fair)) h.0, same_framed Used id R es s.link s.volatile.tokens _ (with_book (without_entry e.token) s).filter.volume (row_tokens e (round_closed s.volatile)) (left_framed Used id R es e.token s h.1));
   leaves = λ token s h. (closed.leaves token s h.0, left_framed Used id R es token s h.1);
   keeps_fault_line = λ m s h. (closed.keeps_fault_line m s h.0, h.1);
   keeps_showing = λ s h. (closed.keeps_showing s h.0, h.1);

@@ -1,16 +1,21 @@
 -- Lists of which each member has a property.
-use Rattle.std.proofs.Common.{◌≡◌, Bool, true, false, List, [], ◌∷◌, ◌++◌, refl, subst}
+use Rattle.std.proofs.Common.{◌≡◌, Bool, true, false, List, [], ◌∷◌, ◌++◌, refl, subst, inl, inr}
 use Rattle.std.specs.Prelude.{map, filter, cond, Some, find}
 use Rattle.std.specs.List.{flat_map}
 use Rattle.cf_base.specs.declared.ids.ItemId.{ItemId}
 use Rattle.cf_model.specs.Items.{Item}
 use Rattle.cf_model.specs.Soundness.{Each}
 use Rattle.cf_model.specs.Words.{put_in, sorted}
-use Rattle.cf_model_laws.specs.Invariant.{All}
+use Rattle.cf_model_laws.specs.Invariant.{All, Among}
 
 pub all_weaker : {A : Type 0} (P Q : A → Type 0) → ((x : A) → P x → Q x) → (xs : List A) → All P xs → All Q xs
 all_weaker P Q k [] h = tt
 all_weaker P Q k (x ∷ xs) h = (k x h.0, all_weaker P Q k xs h.1)
+
+-- each is one of them
+pub all_in : {A : Type 0} (xs : List A) → All (λ x. Among x xs) xs
+all_in [] = tt
+all_in (x ∷ xs) = (inl refl, all_weaker (λ y. Among y xs) (λ y. Among y (x ∷ xs)) (λ y k. inr k) xs (all_in xs))
 
 pub all_append : {A : Type 0} (P : A → Type 0) (xs ys : List A) → All P xs → All P ys → All P (xs ++ ys)
 all_append P [] ys h k = k

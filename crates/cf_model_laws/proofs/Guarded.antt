@@ -1,33 +1,38 @@
 -- What a property must be kept by, to be kept by the whole machine in `replay`: each step that is not made of others, with
 -- what it meets.
-use Rattle.std.specs.Prelude.{ℕ, Bool, true, false, List, Option, Some, max, ◌≡◌, ◌⊎◌, ◌<◌, ◌∷◌, ◌≤◌}
+use Rattle.std.specs.Prelude.{ℕ, Bool, true, false, List, [], Option, None, Some, max, ◌≡◌, ◌⊎◌, ◌<◌, ◌∷◌, ◌≤◌}
 use Rattle.cf_base.specs.declared.changes.Change.{Change}
 use Rattle.cf_base.specs.declared.changes.Change.TheVariants as change
 use Rattle.cf_base.specs.declared.codes.Code.{Code}
 use Rattle.cf_base.specs.declared.ids.Handle.{Handle}
 use Rattle.cf_base.specs.declared.ids.ItemId.{ItemId}
+use Rattle.cf_base.specs.declared.ids.Round.{Round}
 use Rattle.cf_base.specs.declared.ids.Token.{Token}
 use Rattle.cf_base.specs.declared.ids.Usn.{Usn}
 use Rattle.cf_base.specs.declared.items.SeenPath.{SeenPath}
+use Rattle.cf_base.specs.declared.messages.Entry.{Entry}
 use Rattle.cf_base.specs.declared.messages.Reply.{Reply}
+use Rattle.cf_base.specs.declared.messages.Reply.TheVariants as reply
 use Rattle.cf_base.specs.declared.messages.Request.{Request}
+use Rattle.cf_base.specs.declared.messages.Request.TheVariants as request
 use Rattle.cf_base.specs.declared.notices.Frame.{Frame}
+use Rattle.cf_base.specs.declared.notices.Frame.TheVariants as frame
 use Rattle.cf_base.specs.declared.policies.Policy.{Policy}
 use Rattle.cf_base.specs.declared.waits.Ask.{Ask}
 use Rattle.cf_base.specs.declared.waits.Cause.{Cause}
 use Rattle.cf_base.specs.declared.waits.Cause.TheVariants as cause
 use Rattle.cf_model.specs.Arrows.{Preserves, reading, then_do}
-use Rattle.cf_model.specs.Books.{Book, MoveItem, QueueEntry, book_after, entry_of, with_entry, with_seen, without_entry}
+use Rattle.cf_model.specs.Books.{Book, MoveItem, QueueEntry, book_after, entry_of, with_cursor, with_entry, with_seen, without_entry}
 use Rattle.cf_model.specs.Callbacks.{begin_call, with_outbox}
 use Rattle.cf_model.specs.Calls.{with_handle, with_policy}
 use Rattle.cf_model.specs.Changes.{change_with, next_number}
 use Rattle.cf_model.specs.Dehydration.{in_use}
 use Rattle.cf_model.specs.EngineEvents.{with_inline}
-use Rattle.cf_model.specs.Feeds.{all_released, with_clock_seen}
+use Rattle.cf_model.specs.Feeds.{Fed, all_released, all_turns, is_whole, with_clock_seen}
 use Rattle.cf_model.specs.Identities.{stands_at_path}
 use Rattle.cf_model.specs.Items.{Item, item_of}
 use Rattle.cf_model.specs.Logs.{next_by}
-use Rattle.cf_model.specs.Messages.{counted, distrusted, fault_line, with_lost, with_message, with_remote}
+use Rattle.cf_model.specs.Messages.{counted, distrusted, fault_line, is_stale, with_lost, with_message, with_remote}
 use Rattle.cf_model.specs.Operations.{as_it_is, done}
 use Rattle.cf_model.specs.Passes.{showing, with_round, without_done}
 use Rattle.cf_model.specs.Peers.{with_stray, with_token_used}
@@ -39,13 +44,15 @@ use Rattle.cf_model.specs.Settling.{accessed, settle, tell}
 use Rattle.cf_model.specs.Skips.{skipped, with_book, with_volatile}
 use Rattle.cf_model.specs.State.{Filter, Link, State, book_now, in_volume, is_replay, items_now, with_filter}
 use Rattle.cf_model.specs.Store.{Held, remote_step}
-use Rattle.cf_model.specs.Trees.{Keeps}
+use Rattle.cf_model.specs.Trees.{Ends, Keeps}
 use Rattle.cf_model.specs.Waits.{Need, accessed_now, all_down, begin_now, begun, connected_again, disconnected, is_met_now, with_time, without_handle}
 use Rattle.cf_model_laws.specs.Fitting.{Fits, IsLeaf, IsNaming, Touches}
-use Rattle.cf_model_laws.specs.Invariant.{All, IsSound}
+use Rattle.cf_model_laws.specs.GivenOnce.{WasGiven}
+use Rattle.cf_model_laws.specs.Invariant.{All, IsSound, message_in}
 use Rattle.cf_model_laws.specs.Marks.{IsMadeLast, IsMarkedLast, IsUnseen, StandsAtSeen}
 use Rattle.cf_model_laws.specs.Premises.{IsFair}
 use Rattle.cf_model_laws.specs.Seats.{IsSeated, NeedsWell}
+use Rattle.cf_model_laws.specs.Taken.{AnswersNow, IsChangeBy, IsPosted, IsSeenBy, Knowledge, Since, ToldAt}
 use Rattle.cf_model_laws.proofs.SoundBooks.{EnteredWell}
 use Rattle.cf_model_laws.proofs.SoundChanges.{KeepsEntries}
 use Rattle.cf_model_laws.proofs.SoundLinks.{AskedWell, PostedWell}
@@ -112,11 +119,11 @@ IsQuiet Nothing = Unit {0}
 IsQuiet (Leaves key blocks) = Unit {0}
 IsQuiet _ = ⊥
 
--- of the filter, beside this link and so many tokens
-pub record GuardedFilter (l : Link) (tokens : ℕ) (P : Filter → Type 0) : Type 0 where
+-- of the filter, beside this link and so many tokens, where so much is known of entries
+pub record GuardedFilter (On : Knowledge) (l : Link) (tokens : ℕ) (P : Filter → Type 0) : Type 0 where
   pub sound : (x : Filter) → P x → IsFair l → IsSound l tokens x
-  pub change : (f : Book → Book) (c : Change) (x : Filter) → KeepsEntries f → (IsFair l → KeepsSeenBy f c x) → ((id : ItemId) → Touches c id → ⊥) → (IsFair l → Fits l.remote x c) → P x → Keeps P (change_with f c x)
-  pub touch : (f : Book → Book) (c : Change) (item : ItemId) (d : Deed) (x : Filter) → IsQuiet d → KeepsEntries f → (IsFair l → KeepsSeenBy f c x) → ((id : ItemId) → Touches c id → id.0 ≡ item.0) → (IsFair l → Fits l.remote x c) → P x
+  pub change : (f : Book → Book) (c : Change) (x : Filter) → KeepsEntries f → (IsFair l → KeepsSeenBy f c x) → ((id : ItemId) → Touches c id → ⊥) → (IsFair l → Fits l.remote x c) → (IsFair l → IsChangeBy On x f c) → P x → Keeps P (change_with f c x)
+  pub touch : (f : Book → Book) (c : Change) (item : ItemId) (d : Deed) (x : Filter) → IsQuiet d → KeepsEntries f → (IsFair l → KeepsSeenBy f c x) → ((id : ItemId) → Touches c id → id.0 ≡ item.0) → (IsFair l → Fits l.remote x c) → (IsFair l → IsChangeBy On x f c) → P x
       → Keeps P (then_do (change_with f c) (then_do (settle item d) done) x)
   pub commits : Preserves P (in_volume commit)
   pub settled : (item : ItemId) (d : Deed) (x : Filter) → EndsOthers d x → P x → Keeps P (settle item d x)
@@ -135,6 +142,16 @@ pub record GuardedFilter (l : Link) (tokens : ℕ) (P : Filter → Type 0) : Typ
 abbrev pub AskedIn : State → Request → Type 0
 AskedIn s q = AskedWell s.link.messages s.filter.volume.epoch s.volatile.tokens q
 
+-- A Feed is of the latest round, which is open, and asks after the cursor. The key of a List was given. A reply to one of these is
+-- what the remote would reply now.
+abbrev pub PostedNow : State → Option Frame → Type 0
+PostedNow s (Some (frame.Request (request.Feed round after))) =
+    (round.0 ≡ record { epoch = s.filter.volume.epoch; number = s.volatile.rounds }) × (after ≡ (book_now s).cursor) × (s.volatile.round_open ≡ true)
+PostedNow s (Some (frame.Request (request.List key rid))) = WasGiven s.filter.volume.epoch s.filter.waiting.key_count key
+PostedNow s (Some (frame.Request q)) = Unit {0}
+PostedNow s (Some (frame.Reply answers a)) = (q : Request) × (message_in s.link.messages answers ≡ Some (frame.Request q)) × AnswersNow s.link.remote q a
+PostedNow s None = Unit {0}
+
 abbrev pub PostedIn : State → Option Frame → Type 0
 PostedIn s f = PostedWell s.link.remote s.link.messages s.volatile.tokens s.filter.volume.epoch s.filter.volume.log (items_now s) s.filter.volume.points (book_now s).entries s.filter.waiting.asks s.filter.waiting.key_count f
 
@@ -142,20 +159,55 @@ abbrev pub EnteredIn : State → QueueEntry → Type 0
 EnteredIn s e = EnteredWell s.link.remote s.link.messages s.filter.volume.epoch s.volatile.tokens (next_number s.filter.volume) s.filter.volume.next_item.0 (items_now s) (book_now s).entries e
 
 -- what a step does of its own, wherever it is done
-pub settled_on : (l : Link) (tokens : ℕ) (P : Filter → Type 0) → GuardedFilter l tokens P → (item : ItemId) (d : Deed) → ((x : Filter) → EndsOthers d x) → Preserves P (settle item d)
+pub settled_on : {On : Knowledge} (l : Link) (tokens : ℕ) (P : Filter → Type 0) → GuardedFilter On l tokens P → (item : ItemId) (d : Deed) → ((x : Filter) → EndsOthers d x) → Preserves P (settle item d)
 settled_on l tokens P closed item d others = record { keeps = λ x h. closed.settled item d x (others x) h }
+
+-- All entries of a feed that counted in an earlier state had their turns, and it is whole: nothing was postponed or left out, and no list
+-- ask is live. The link and the cursor are as they were, the round is closed, and no upload is on its way.
+pub record IsFedTo (P : State → Type 0) (clock : ℕ) (s : State) : Type 0 where
+  pub first : State
+  pub kept : P first
+  pub message : ℕ
+  pub request : Request
+  pub round : Round
+  pub entries : List Entry
+  pub counts : is_stale request (reply.Feed round clock entries) first ≡ false
+  pub told : IsFair first.link → ToldAt first message request (reply.Feed round clock entries)
+  pub posted : IsPosted first message (reply.Feed round clock entries)
+  pub link : s.link ≡ first.link
+  pub cursor : (book_now s).cursor ≡ (book_now first).cursor
+  pub none : (book_now s).entries ≡ []
+  pub closed : s.volatile.round_open ≡ false
+  pub turned : State
+  pub fed : Fed
+  pub ends : Ends (all_turns entries (with_volatile round_closed first)) fed turned
+  pub same : s ≡ with_clock_seen clock (with_volatile all_released turned)
+  pub whole : is_whole first.running.skips fed s ≡ true
+
+-- a Done that counted in an earlier state is of the item of the upload
+abbrev pub IsMovedBy : (State → Type 0) → QueueEntry → State → Type 0
+IsMovedBy P e s = (d : Entry) × Since P s.link true (book_now s).cursor d × (d.rid.0 ≡ e.rid.0)
+
+-- What a record of the book does: it leaves the paths seen and the cursor; the path of an entry that was told comes to be seen; once the
+-- round is closed, the cursor goes back to 0; or a feed that was taken is done, and the cursor comes to be its clock.
+abbrev pub IsRecordBy : (State → Type 0) → (Book → Book) → State → Type 0
+IsRecordBy P f s =
+    (((b : Book) → (f b).seen ≡ b.seen) × KeepsCursor f)
+    ⊎ ((p : SeenPath) × ((b : Book) → f b ≡ with_seen p b) × IsSeenBy (Since P s.link true (book_now s).cursor) (items_now s) p)
+    ⊎ (((b : Book) → f b ≡ with_cursor 0 b) × (s.volatile.round_open ≡ false))
+    ⊎ ((clock : ℕ) × ((b : Book) → f b ≡ with_cursor clock b) × IsFedTo P clock s)
 
 -- of the whole
 pub record Guarded (P : State → Type 0) : Type 0 where
   pub replay : (s : State) → P s → is_replay s.mode ≡ true
-  pub on_filter : (s : State) → P s → GuardedFilter s.link s.volatile.tokens (λ x. P (with_filter x s))
+  pub on_filter : (s : State) → P s → GuardedFilter (Since P s.link) s.link s.volatile.tokens (λ x. P (with_filter x s))
   pub keeps_counted : (s : State) → P s → P (counted s)
   pub asked : (q : Request) (s : State) → (IsFair s.link → AskedIn s q) → P s → P (with_remote (remote_step s.link.remote q).1 (counted s))
   pub told : (held : Held) (s : State) → P s → P (distrusted (with_remote held (counted s)))
-  pub posts : (f : Frame) (s : State) → (IsFair s.link → PostedIn s (Some f)) → P s → P (with_message f s)
+  pub posts : (f : Frame) (s : State) → (IsFair s.link → PostedIn s (Some f)) → (IsFair s.link → PostedNow s (Some f)) → P s → P (with_message f s)
   pub loses : (f : Frame) (s : State) → P s → P (with_lost f s)
-  pub books : (f : Book → Book) (s : State) → KeepsEntries f → (IsFair s.link → KeepsPlaced f s × KeepsBelow f s × KeepsEarly f s) → P s → P (with_book f s)
-  pub moved : (e : QueueEntry) (s : State) → e.action ≡ MoveItem → (IsFair s.link → entry_of (book_now s) e.token ≡ Some e) → P s → P (after_move e s)
+  pub books : (f : Book → Book) (s : State) → KeepsEntries f → (IsFair s.link → KeepsPlaced f s × KeepsBelow f s × KeepsEarly f s) → (IsFair s.link → IsRecordBy P f s) → P s → P (with_book f s)
+  pub moved : (e : QueueEntry) (s : State) → e.action ≡ MoveItem → (IsFair s.link → entry_of (book_now s) e.token ≡ Some e) → (IsFair s.link → IsMovedBy P e s) → P s → P (after_move e s)
   pub leaves : (token : Token) (s : State) → P s → P (with_book (without_entry token) s)
   pub keeps_fault_line : (x1 : ℕ) → (s : State) → P s → P (fault_line x1 s)
   pub keeps_showing : (s : State) → P s → P (showing s)

@@ -7,6 +7,7 @@ pub mod EntriesAsked
 pub mod EntryLaws
 pub mod CallbacksGuarded
 pub mod FeedEntriesGuarded
+pub mod FeedFrames
 pub mod FeedMovesGuarded
 pub mod FeedsGuarded
 pub mod FeedsIdle
@@ -49,6 +50,7 @@ pub mod RightItems
 pub mod SeatLaws
 pub mod SeenPaths
 pub mod SettledAsks
+pub mod SinceKept
 pub mod SkipsGuarded
 pub mod SoundBooks
 pub mod SoundChanges

@@ -52,15 +52,17 @@ use Rattle.cf_model_laws.proofs.SoundFilters.{change_leads}
 use Rattle.cf_model_laws.proofs.SoundSettles.{same_item}
 use Rattle.cf_model_laws.proofs.SoundStates.{small_before}
 use Rattle.cf_model_laws.proofs.NamedItems.{IsPlaced, IsPlacedAfter, MovesAt, other_placed, placed_after, rebooked}
+use Rattle.cf_model_laws.specs.Taken.{Knowledge}
+use Rattle.cf_model_laws.proofs.SinceKept.{moved_weaker, on_filter_weaker, record_weaker}
 
 -- and so it was at each point that a restart may open
-abbrev IsPointPlaced : List (Usn × Change) → Point → Type 0
+abbrev pub IsPointPlaced : List (Usn × Change) → Point → Type 0
 IsPointPlaced log p = (p.count ≤ length log) × IsPlaced (take p.count log) (items_of (take p.count log)) (next_of (take p.count log)) p.book
 
-abbrev ArePlaced : Volume → Type 0
+abbrev pub ArePlaced : Volume → Type 0
 ArePlaced v = IsPlaced v.log v.items v.next_item.0 v.book × All (IsPointPlaced v.log) v.points
 
-abbrev Placed : Link → Volume → Type 0
+abbrev pub Placed : Link → Volume → Type 0
 Placed l v = IsFair l → ArePlaced v
 
 -- points
@@ -109,11 +111,11 @@ placed_book l v b same h fair = (
   (h fair).1,
 )
 
-filter_placed : (l : Link) (tokens : ℕ) (P : Filter → Type 0) → GuardedFilter l tokens P → GuardedFilter l tokens (λ x. P x × InFilter l x)
+filter_placed : {On : Knowledge} (l : Link) (tokens : ℕ) (P : Filter → Type 0) → GuardedFilter On l tokens P → GuardedFilter On l tokens (λ x. P x × InFilter l x)
 filter_placed l tokens P closed = record {
   sound = λ x h fair. closed.sound x h.0 fair;
-  change = λ f c x keeps seen free fit h. keeps_both P (InFilter l) (change_with f c x) (closed.change f c x keeps seen free fit h.0) (placed_change l tokens f c x (closed.sound x h.0) (λ fair. placed_after l tokens f c x keeps (seen fair) (closed.sound x h.0 fair) (fit fair) (h.1 fair).0) h.1);
-  touch = λ f c item d x quiet keeps seen on fit h. keeps_both P (InFilter l) (then_do (change_with f c) (then_do (settle item d) done) x) (closed.touch f c item d x quiet keeps seen on fit h.0)
+  change = λ f c x keeps seen free fit known h. keeps_both P (InFilter l) (change_with f c x) (closed.change f c x keeps seen free fit known h.0) (placed_change l tokens f c x (closed.sound x h.0) (λ fair. placed_after l tokens f c x keeps (seen fair) (closed.sound x h.0 fair) (fit fair) (h.1 fair).0) h.1);
+  touch = λ f c item d x quiet keeps seen on fit known h. keeps_both P (InFilter l) (then_do (change_with f c) (then_do (settle item d) done) x) (closed.touch f c item d x quiet keeps seen on fit known h.0)
       (keeps_bind (InFilter l) (change_with f c x) (λ _ t. then_do (settle item d) done t) (placed_change l tokens f c x (closed.sound x h.0) (λ fair. placed_after l tokens f c x keeps (seen fair) (closed.sound x h.0 fair) (fit fair) (h.1 fair).0) h.1)
       (λ a t j. keeps_bind (InFilter l) (settle item d t) (λ _ y. done y) (tell_frame (Placed l) (placed_book l) (told_at item d t) t j) (λ b y m. m)));
   commits = record { keeps = λ x h. keeps_both P (InFilter l) (in_volume commit x) (closed.commits.keeps x h.0) (point_begun l tokens x (closed.sound x h.0) h.1, λ fair. ((h.1 fair).0, (point_placed true x.volume (closed.sound x h.0 fair).of_log (h.1 fair).0, tt))) };
@@ -133,7 +135,7 @@ filter_placed l tokens P closed = record {
 
 -- records
 
-abbrev PlacedIn : State → Type 0
+abbrev pub PlacedIn : State → Type 0
 PlacedIn s = Placed s.link s.filter.volume
 
 placed_line : (b : Bool) (c : Code) (s : State) → PlacedIn s → PlacedIn (skip_line b c s)
@@ -180,14 +182,14 @@ entered_placed e s there h =
 guarded_placed : (P : State → Type 0) → Guarded P → Guarded (λ s. P s × PlacedIn s)
 guarded_placed P closed = record {
   replay = λ s h. closed.replay s h.0;
-  on_filter = λ s h. filter_placed s.link s.volatile.tokens (λ x. P (with_filter x s)) (closed.on_filter s h.0);
+  on_filter = λ s h. filter_placed s.link s.volatile.tokens (λ x. P (with_filter x s)) (on_filter_weaker P (λ t. P t × PlacedIn t) (λ t k. k.0) s.link s.volatile.tokens _ (closed.on_filter s h.0));
   keeps_counted = λ s h. (closed.keeps_counted s h.0, h.1);
   asked = λ q s well h. (closed.asked q s well h.0, λ fair. h.1 (fair.0, small_before s.link.remote q fair.1));
   told = λ held s h. (closed.told held s h.0, λ fair. no_way fair.0);
-  posts = λ f s well h. (closed.posts f s well h.0, h.1);
+  posts = λ f s well now h. (closed.posts f s well now h.0, h.1);
   loses = λ f s h. (closed.loses f s h.0, h.1);
-  books = λ f s keeps placed h. (closed.books f s keeps placed h.0, book_placed f s keeps placed h.1);
-  moved = λ e s is live h. (closed.moved e s is live h.0, moved_placed e s (λ fair. (closed.on_filter s h.0).sound s.filter h.0 fair) is live h.1);
+  books = λ f s keeps placed known h. (closed.books f s keeps placed (λ fair. record_weaker P (λ t. P t × PlacedIn t) (λ t k. k.0) f s (known fair)) h.0, book_placed f s keeps placed h.1);
+  moved = λ e s is live known h. (closed.moved e s is live (λ fair. moved_weaker P (λ t. P t × PlacedIn t) (λ t k. k.0) e s (known fair)) h.0, moved_placed e s (λ fair. (closed.on_filter s h.0).sound s.filter h.0 fair) is live h.1);
   leaves = λ token s h. (closed.leaves token s h.0, left_placed token s h.1);
   keeps_fault_line = λ m s h. (closed.keeps_fault_line m s h.0, h.1);
   keeps_showing = λ s h. (closed.keeps_showing s h.0, h.1);
@@ -231,7 +233,7 @@ opened_placed p skipped s is h fair = (k.1, ((shorter p.count (length (take p.co
   all_taken : (l : List (Usn × Change)) (n : ℕ) → length l ≡ n → take n l ≡ l
   all_taken l n e = subst (λ (m : ℕ). take m l ≡ l) e (take-length l)
 
-placed_whole : Whole (λ s. Invariant s × PlacedIn s)
+pub placed_whole : Whole (λ s. Invariant s × PlacedIn s)
 placed_whole = record {
   closed = guarded_placed Invariant sound_whole.closed;
   entering = record { enters = λ e s well h. (sound_whole.entering.enters e s well h.0, entered_placed e s (λ fair. (well fair).1) h.1) };
@@ -260,7 +262,7 @@ first_placed items = record { marked = λ front item m. absurd (none front item 
   no_make item [] n parent name kind size identity e = none_there (n, change.Make item parent name kind size identity) [] e
   no_make item (c ∷ front) n parent name kind size identity e = none_there c (front ++ (n, change.Make item parent name kind size identity) ∷ []) e
 
-start_placed : (remote : Held) (clusters : ℕ) → PlacedIn (start mode.Replay remote clusters)
+pub start_placed : (remote : Held) (clusters : ℕ) → PlacedIn (start mode.Replay remote clusters)
 start_placed remote clusters fair = (first_placed (root ∷ []), ((no_more 0, first_placed (items_of [])), tt))
 
 states_placed : (remote : Held) (clusters : ℕ) (trace : List (Event × Answer)) (s : State) (e : Event) → Runs mode.Replay (start mode.Replay remote clusters) trace s → IsFresh remote → is_of mode.Replay e ≡ true → Keeps (λ t. Invariant t × PlacedIn t) (tree_of e s)

@@ -31,9 +31,9 @@ use Rattle.cf_base.specs.declared.items.Kind.TheVariants as kind
 use Rattle.cf_base.specs.declared.messages.Entry.{Entry}
 use Rattle.cf_base.specs.declared.policies.Policy.{Policy}
 use Rattle.cf_model.specs.Contents.{base_named}
-use Rattle.cf_model.specs.Effects.{is_directory, is_placeholder, made, size_made, writes_made}
-use Rattle.cf_model.specs.Fetching.{new_item_of}
-use Rattle.cf_model.specs.Identities.{base_bytes, is_untargeted}
+use Rattle.cf_model.specs.Effects.{is_directory, is_placeholder, made, size_made, writes_made, changed, effect}
+use Rattle.cf_model.specs.Fetching.{new_item_of, with_seen_from}
+use Rattle.cf_model.specs.Identities.{base_bytes, is_untargeted, entry_identity, target_of}
 use Rattle.cf_model.specs.Numbers.{root_rid, same_key, usn_after}
 use Rattle.cf_model.specs.Plans.{is_full_population, placeholder_dir}
 use Rattle.cf_model.specs.Soundness.{Each}
@@ -45,8 +45,8 @@ use Rattle.cf_model_laws.specs.Fitting.{NamesWell, IsUnaimed, Populates}
 use Rattle.cf_model_laws.specs.Invariant.{All, InOrder, target_in}
 use Rattle.cf_model_laws.specs.Seats.{IsListed}
 use Rattle.cf_model_laws.specs.Premises.{IsFair}
-use Rattle.cf_model_laws.proofs.FitItems.{each_append}
-use Rattle.cf_model_laws.proofs.Gathered.{all_any, all_found}
+use Rattle.cf_model_laws.proofs.FitItems.{each_append, each_changed}
+use Rattle.cf_model_laws.proofs.Gathered.{all_any, all_found, each_any}
 use Rattle.cf_model_laws.proofs.Leading.{Leads, leads_bind, leads_weaker}
 use Rattle.cf_model_laws.proofs.Plainly.{After, change_after, checked_at, head_false, keeps_led, tail_none, tail_of}
 use Rattle.cf_model_laws.proofs.RightItems.{no_way}
@@ -57,23 +57,25 @@ use Rattle.cf_model_laws.proofs.MadeUploads.{unmade_old}
 use Rattle.cf_model.specs.PushReplies.{is_new_entry}
 use Rattle.std.specs.List.{list_any}
 use Rattle.cf_model_laws.proofs.AimedTargets.{AreOthers, below_root, named_in, others_after, unaimed_more, unaimed_still}
+use Rattle.cf_model_laws.specs.Taken.{Knowledge, AreListedBy}
 use Rattle.cf_base.specs.declared.ids.Rid.{Rid}
+use Rattle.std.proofs.lemmas.List.{append-nil, append_assoc, length-append}
 
-pub checked_keeps : (l : Link) (tokens : ℕ) (P : Filter → Type 0) → GuardedFilter l tokens P → (x1 : (Filter → List (Bool × Code))) → (x2 : Arrow Filter Shown) → (Preserves P (x2)) → Preserves P (checked x1 x2)
+pub checked_keeps : {On : Knowledge} (l : Link) (tokens : ℕ) (P : Filter → Type 0) → GuardedFilter On l tokens P → (x1 : (Filter → List (Bool × Code))) → (x2 : Arrow Filter Shown) → (Preserves P (x2)) → Preserves P (checked x1 x2)
 checked_keeps l tokens P closed tests f f_keeps = record { keeps = λ s i_. ((keeps_unless P shown.Refused (first_of (tests s)) f f_keeps)).keeps s i_ }
 
-pub done_keeps : (l : Link) (tokens : ℕ) (P : Filter → Type 0) → GuardedFilter l tokens P → Preserves P (done)
+pub done_keeps : {On : Knowledge} (l : Link) (tokens : ℕ) (P : Filter → Type 0) → GuardedFilter On l tokens P → Preserves P (done)
 done_keeps l tokens P closed = keeps_ret P shown.Done
 
 -- a fill of the bytes of the base
-pub transfer_at : (l : Link) (tokens : ℕ) (P : Filter → Type 0) → GuardedFilter l tokens P → (a : Live) (at : ℕ) (bytes : List ℕ) (x : Filter)
+pub transfer_at : {On : Knowledge} (l : Link) (tokens : ℕ) (P : Filter → Type 0) → GuardedFilter On l tokens P → (a : Live) (at : ℕ) (bytes : List ℕ) (x : Filter)
     → (IsFair l → is_fetch a.ask.kind ≡ true → Each a.ask.item (λ i. take (length bytes) (drop at (base_bytes l.remote i)) ≡ bytes) x.volume.items) → P x → Keeps P (transfer a at bytes x)
 transfer_at l tokens P closed a at bytes x fit h =
     let c : Change = change.Filled a.ask.item at bytes in
     checked_at P (transfer_tests a c at (length bytes)) (transfer_by a c (blocks_of at (length bytes))) x h
-    (λ e. closed.touch same_book c a.ask.item (Leaves a.ask.key (blocks_of at (length bytes))) x tt (λ b. refl) (λ fair. ((λ z b. refl), (λ k. k), λ b. refl)) (λ id k. k) (λ fair. fit fair (not_false (is_fetch a.ask.kind) (head_false (transfer_tests a c at (length bytes) x) e))) h)
+    (λ e. closed.touch same_book c a.ask.item (Leaves a.ask.key (blocks_of at (length bytes))) x tt (λ b. refl) (λ fair. ((λ z b. refl), (λ k. k), λ b. refl)) (λ id k. k) (λ fair. fit fair (not_false (is_fetch a.ask.kind) (head_false (transfer_tests a c at (length bytes) x) e))) (λ fair. (tt, inl (λ b. refl))) h)
 
-pub refuse_keeps : (l : Link) (tokens : ℕ) (P : Filter → Type 0) → GuardedFilter l tokens P → (x1 : Live) → (x2 : Span) → (x3 : ℕ) → Preserves P (refuse x1 x2 x3)
+pub refuse_keeps : {On : Knowledge} (l : Link) (tokens : ℕ) (P : Filter → Type 0) → GuardedFilter On l tokens P → (x1 : Live) → (x2 : Span) → (x3 : ℕ) → Preserves P (refuse x1 x2 x3)
 refuse_keeps l tokens P closed a asked status = checked_keeps l tokens P closed (refuse_tests a asked) (then_do (settle a.ask.item (Fails a.ask.key (blocks_of asked.start asked.len) (cause.Failed status))) done) (keeps_then P (settle a.ask.item (Fails a.ask.key (blocks_of asked.start asked.len) (cause.Failed status))) done (settled_on l tokens P closed a.ask.item (Fails a.ask.key (blocks_of asked.start asked.len) (cause.Failed status)) (λ x. refl)) (done_keeps l tokens P closed))
 
 -- entries
@@ -154,19 +156,75 @@ shift k n = omega arith
 still_listed : (parent : ItemId) (x y : Filter) → y.waiting ≡ x.waiting → IsListed x parent → IsListed y parent
 still_listed parent x y same h = (h.0, subst (λ (w : Waiting). live_of w.asks h.0.ask.key ≡ Some h.0) (sym same) h.1, h.2, h.3)
 
+-- the items that are made come to have the targets of the entries
+
+listed_more : (On : Entry → Type 0) (items : List Item) (new : Item) (id : ℕ) (es : List Entry) → id + length es ≡ new.id.0 → AreListedBy On items id es → AreListedBy On (items ++ new ∷ []) id es
+listed_more On items new id [] e h = tt
+listed_more On items new id (d ∷ es) e h =
+    (h.0, each_append (record { 0 = id }) (λ i. (target_of i).0 ≡ d.rid.0) items new h.1 (λ q. absurd (past id (length es) new.id.0 e (eqb-true new.id.0 id q))), listed_more On items new (id + 1) es (sym (shift id (length es)) ∙ e) h.2) where
+      past : (a n m : ℕ) → a + suc n ≡ m → m ≡ a → ⊥
+      past a n m h k = omega (arith, h, k)
+
+listed_still : (On : Entry → Type 0) (item : ItemId) (f : Item → Item) → ((i : Item) → (f i).id ≡ i.id) → ((i : Item) → target_of (f i) ≡ target_of i) → (items : List Item) (id : ℕ) (es : List Entry) → AreListedBy On items id es → AreListedBy On (changed item f items) id es
+listed_still On item f same like items id [] h = tt
+listed_still On item f same like items id (d ∷ es) h = (
+  h.0,
+  each_changed (record { 0 = id }) item f (λ i. Unit {0}) (λ i. (target_of i).0 ≡ d.rid.0) (λ i. (target_of i).0 ≡ d.rid.0) same (λ i _ k. ap (λ (r : Rid). r.0) (like i) ∙ k) (λ i k. k) items (each_any item (λ i. Unit {0}) (λ i. tt) items) h.1,
+  listed_still On item f same like items (id + 1) es h.2,
+)
+
+listed_last : (On : Entry → Type 0) (items : List Item) (id : ℕ) (es : List Entry) (d : Entry) → AreListedBy On items id es → On d → Each (record { 0 = id + length es }) (λ i. (target_of i).0 ≡ d.rid.0) items → AreListedBy On items id (es ++ d ∷ [])
+listed_last On items id [] d h on last = (on, subst (λ (n : ℕ). Each (record { 0 = n }) (λ i. (target_of i).0 ≡ d.rid.0) items) (none id) last, tt) where
+  none : (n : ℕ) → n + 0 ≡ n
+  none n = omega arith
+listed_last On items id (e ∷ es) d h on last = (h.0, h.1, listed_last On items (id + 1) es d h.2 on (subst (λ (n : ℕ). Each (record { 0 = n }) (λ i. (target_of i).0 ≡ d.rid.0) items) (shift id (length es)) last))
+
+-- What is known of a listing: these of its entries are made, and those are left. All are told.
+pub record Listing (On : Entry → Type 0) (items : List Item) (start item : ℕ) (gone rest all : List Entry) : Type 0 where
+  pub at : start + length gone ≡ item
+  pub parts : all ≡ gone ++ rest
+  pub made : AreListedBy On items start gone
+  pub left : All On rest
+  pub small : All (λ e. (target_in (entry_identity e)).0 ≡ e.rid.0) rest
+
+listing_all : (On : Entry → Type 0) (items : List Item) (start item : ℕ) (gone all : List Entry) → Listing On items start item gone [] all → AreListedBy On items start all
+listing_all On items start item gone all h = subst (AreListedBy On items start) (sym (h.parts ∙ append-nil gone)) h.made
+
+listing_next : (On : Entry → Type 0) (items after : List Item) (start item : ℕ) (gone rest all : List Entry) (e : Entry) → AreListedBy On after start gone → Each (record { 0 = item }) (λ i. (target_of i).0 ≡ e.rid.0) after
+    → Listing On items start item gone (e ∷ rest) all → Listing On after start (item + 1) (gone ++ e ∷ []) rest all
+listing_next On items after start item gone rest all e made last h = record {
+  at = ap (λ (n : ℕ). start + n) (length-append gone (e ∷ [])) ∙ more start (length gone) item h.at;
+  parts = h.parts ∙ sym (append_assoc gone (e ∷ []) rest);
+  made = listed_last On after start gone e made h.left.0 (subst (λ (n : ℕ). Each (record { 0 = n }) (λ i. (target_of i).0 ≡ e.rid.0) after) (sym h.at) last);
+  left = h.left.1;
+  small = h.small.1;
+}
+  where
+    more : (a n m : ℕ) → a + n ≡ m → a + (n + 1) ≡ m + 1
+    more a n m h = omega (arith, h)
+
+listing_step : (On : Entry → Type 0) (items : List Item) (new : Item) (f : Item → Item) → ((i : Item) → (f i).id ≡ i.id) → ((i : Item) → target_of (f i) ≡ target_of i) → (start item next : ℕ) (gone rest all : List Entry) (e : Entry) → new.id.0 ≡ item → (target_of new).0 ≡ e.rid.0
+    → next ≡ item → InOrder 0 next items → Listing On items start item gone (e ∷ rest) all → Listing On (changed (record { 0 = item }) f (items ++ new ∷ [])) start (item + 1) (gone ++ e ∷ []) rest all
+listing_step On items new f same like start item next gone rest all e id target is order h =
+    listing_next On items (changed (record { 0 = item }) f (items ++ new ∷ [])) start item gone rest all e
+    (listed_still On (record { 0 = item }) f same like (items ++ new ∷ []) start gone (listed_more On items new start gone (h.at ∙ sym id) h.made))
+    (each_changed (record { 0 = item }) (record { 0 = item }) f (λ i. Unit {0}) (λ i. (target_of i).0 ≡ e.rid.0) (λ i. (target_of i).0 ≡ e.rid.0) same (λ i _ k. ap (λ (r : Rid). r.0) (like i) ∙ k) (λ i k. k) (items ++ new ∷ [])
+    (each_any (record { 0 = item }) (λ i. Unit {0}) (λ i. tt) (items ++ new ∷ []))
+    (each_append (record { 0 = item }) (λ i. (target_of i).0 ≡ e.rid.0) items new (each_new (record { 0 = item }) (λ i. (target_of i).0 ≡ e.rid.0) 0 next items is order) (λ _. target))) h
+
 -- the changes of the entries, each as it comes, and then the last
-listing_in : (l : Link) (tokens : ℕ) (P : Filter → Type 0) → GuardedFilter l tokens P → (f : Book → Book) → KeepsEntries f → (p : Policy) (parent : ItemId) (es : List Entry) (item : ℕ) (n : Usn) (x : Filter)
+listing_in : {On : Knowledge} (l : Link) (tokens : ℕ) (P : Filter → Type 0) → GuardedFilter On l tokens P → (f : Book → Book) → KeepsEntries f → (p : Policy) (parent : ItemId) (start : ℕ) (gone all : List Entry) (es : List Entry) (item : ℕ) (n : Usn) (x : Filter) → ((b : Book) → f b ≡ with_seen_from start all b) → (IsFair l → Listing (On false x.volume.book.cursor) x.volume.items start item gone es all)
     → SeesFrom f (item + length es) → (IsFair l → All (λ e. NewFits l.remote p (new_item_of e)) es) → (IsFair l → x.volume.next_item.0 ≡ item) → (IsFair l → list_any is_new_entry x.volume.book.entries ≡ false) → (IsFair l → AreOthers x.volume.items es) → next_number x.volume ≡ n → x.policy ≡ p → IsListed x parent → P x
     → Keeps P (changes_with f (entry_changes p parent item n (map new_item_of es) ++ change.Populated parent ∷ []) x)
-listing_in l tokens P closed f keeps p parent [] item n x sees fit next old new number policy listed h = closed.change f (change.Populated parent) x keeps (λ fair. ((λ z. absurd z), (λ k. sees.0 (max x.volume.next_item.0 2) x.volume.book (room x.volume.next_item.0 item (next fair)) k), sees.1)) (λ id k. k) (λ fair. tt) h where
+listing_in {On} l tokens P closed f keeps p parent start gone all [] item n x is list sees fit next old new number policy listed h = closed.change f (change.Populated parent) x keeps (λ fair. ((λ z. absurd z), (λ k. sees.0 (max x.volume.next_item.0 2) x.volume.book (room x.volume.next_item.0 item (next fair)) k), sees.1)) (λ id k. k) (λ fair. tt) (λ fair. (tt, inr (start, all, is, listing_all (On false x.volume.book.cursor) x.volume.items start item gone all (list fair), parent, refl))) h where
   room : (m k : ℕ) → m ≡ k → k + 0 ≤ max m 2
   room m k e = omega (arith, e)
-listing_in l tokens P closed f keeps p parent (e ∷ es) item n x sees fit next old new number policy listed h =
+listing_in {On} l tokens P closed f keeps p parent start gone all (e ∷ es) item n x is list sees fit next old new number policy listed h =
     let q : NewItem = new_item_of e in
     let make : Change = change.Make (record { 0 = item }) parent q.name (entry_kind p q.dir) (cond q.dir 0 q.size) q.identity in
     let mark : Change = change.Mark (record { 0 = item }) n in
     keeps_led P (λ u t. After same_book make x t) (change make x) (λ _ t. changes_with f (mark ∷ (entry_changes p parent (item + 1) (record n { place = n.place + 2 }) (map new_item_of es) ++ change.Populated parent ∷ [])) t)
-    (closed.change same_book make x (λ b. refl) (λ fair. ((λ z b. refl), (λ k. k), λ b. refl)) (λ id k. k) (λ fair. ((sym (next fair), (fit fair).0.0, (fit fair).0.1), (inr (unmade_old l.remote x.volume.book.entries (target_in q.identity) (old fair)), (new fair).0), inr listed, subst (λ (o : Policy). Populates o (entry_kind p q.dir)) (sym policy) (kind_populates p q.dir))) h) (change_after same_book make x)
+    (closed.change same_book make x (λ b. refl) (λ fair. ((λ z b. refl), (λ k. k), λ b. refl)) (λ id k. k) (λ fair. ((sym (next fair), (fit fair).0.0, (fit fair).0.1), (inr (unmade_old l.remote x.volume.book.entries (target_in q.identity) (old fair)), (new fair).0), inr listed, subst (λ (o : Policy). Populates o (entry_kind p q.dir)) (sym policy) (kind_populates p q.dir))) (λ fair. (inr (e, (list fair).left.0, refl), inl (λ b. refl))) h) (change_after same_book make x)
     (λ u t j a.
     more_in P f mark (change.Populated parent) (entry_changes p parent (item + 1) (record n { place = n.place + 2 }) (map new_item_of es)) t
     (keeps_led P (λ u y. After same_book mark t y) (change mark t) (λ _ y. changes_with f (entry_changes p parent (item + 1) (record n { place = n.place + 2 }) (map new_item_of es) ++ change.Populated parent ∷ []) y)
@@ -177,9 +235,15 @@ listing_in l tokens P closed f keeps p parent (e ∷ es) item n x sees fit next 
           (each_new (record { 0 = item }) (IsUnmarked n) 0 x.volume.next_item.0 x.volume.items (next fair) (closed.sound x h fair).now.order)
           (λ _. (clean_made p q.dir (next_number x.volume), sym number, targeted (item == 1) q.identity (fit fair).0.2))),
       inr (x.volume.log, next_number x.volume, parent, q.name, entry_kind p q.dir, cond q.dir 0 q.size, q.identity, a.log),
-    )) j)
+    )) (λ fair. (tt, inl (λ b. refl))) j)
     (change_after same_book mark t)
-    (λ v y k b. listing_in l tokens P closed f keeps p parent es (item + 1) (record n { place = n.place + 2 }) y (subst (SeesFrom f) (shift item (length es)) sees) (λ fair. (fit fair).1)
+    (λ v y k b. listing_in l tokens P closed f keeps p parent start (gone ++ e ∷ []) all es (item + 1) (record n { place = n.place + 2 }) y is
+    (λ fair. subst (λ (c : ℕ). Listing (On false c) y.volume.items start (item + 1) (gone ++ e ∷ []) es all) (sym (b.cursor (λ d. refl) ∙ a.cursor (λ d. refl)))
+    (subst (λ (is : List Item). Listing (On false x.volume.book.cursor) is start (item + 1) (gone ++ e ∷ []) es all) (sym b.items)
+    (subst (λ (is : List Item). Listing (On false x.volume.book.cursor) (effect is mark (next_number t.volume)) start (item + 1) (gone ++ e ∷ []) es all) (sym a.items)
+    (listing_step (On false x.volume.book.cursor) x.volume.items (made (record { 0 = item }) parent q.name (entry_kind p q.dir) (cond q.dir 0 q.size) q.identity (pin_of x.volume.items parent) (next_number x.volume)) _ (λ i. refl) (λ i. refl) start item x.volume.next_item.0 gone es all e refl
+    (ap (λ (r : Rid). r.0) (below_root item (named_in e) (subst (λ (m : ℕ). 2 ≤ m) (next fair) (closed.sound x h fair).now.more)) ∙ (list fair).small.0) (next fair) (closed.sound x h fair).now.order (list fair)))))
+    (subst (SeesFrom f) (shift item (length es)) sees) (λ fair. (fit fair).1)
     (λ fair. next_kept y.volume.next_item.0 t.volume.next_item.0 (item + 1) b.next (a.next ∙ next_made x.volume.next_item.0 item (next fair)) (closed.sound t j fair).now.more)
     (λ fair. ap (λ (qs : List QueueEntry). list_any is_new_entry qs) (b.entries (λ d. refl) ∙ a.entries (λ d. refl)) ∙ old fair)
     (λ fair. others_after x.volume.items y.volume.items (λ d. (named_in e).0 ≡ (named_in d).0 → (named_in d).0 ≡ 0)
@@ -206,19 +270,19 @@ listing_ends a w v same found list b e = inner (sym found ∙ ap (λ (u : Waitin
   inner : ◌≡◌ {A = Option Live} (Some a) (Some b) → is_list b.ask.kind ≡ true
   inner z = let y : a ≡ b = cc in subst (λ (c : Live). is_list c.ask.kind ≡ true) y list
 
-pub listing_at : (l : Link) (tokens : ℕ) (P : Filter → Type 0) → GuardedFilter l tokens P → (f : Book → Book) → KeepsEntries f → (a : Live) (es : List Entry) (x : Filter) → live_of x.waiting.asks a.ask.key ≡ Some a
+pub listing_at : {On : Knowledge} (l : Link) (tokens : ℕ) (P : Filter → Type 0) → GuardedFilter On l tokens P → (f : Book → Book) → KeepsEntries f → (a : Live) (es : List Entry) (x : Filter) → live_of x.waiting.asks a.ask.key ≡ Some a → ((b : Book) → f b ≡ with_seen_from x.volume.next_item.0 es b) → (is_list a.ask.kind ≡ true → IsFair l → Listing (On false x.volume.book.cursor) x.volume.items x.volume.next_item.0 x.volume.next_item.0 [] es es)
     → SeesFrom f (x.volume.next_item.0 + length es) → (IsFair l → All (λ e. NewFits l.remote x.policy (new_item_of e)) es) → (IsFair l → list_any is_new_entry x.volume.book.entries ≡ false) → (IsFair l → AreOthers x.volume.items es) → P x → Keeps P (entries f a (map new_item_of es) true x)
-listing_at l tokens P closed f keeps a es x live sees fit old new h =
+listing_at l tokens P closed f keeps a es x live is list sees fit old new h =
     checked_at P (entries_tests f a (map new_item_of es) (list_changes a (map new_item_of es) x)) (then_do (changes_with f (list_changes a (map new_item_of es) x)) (then_do (settle a.ask.item (entries_deed a true)) done)) x h
     (λ e. keeps_led P (λ u t. t.waiting ≡ x.waiting) (changes_with f (list_changes a (map new_item_of es) x) x) (λ _ t. then_do (settle a.ask.item (entries_deed a true)) done t)
-    (listing_in l tokens P closed f keeps x.policy a.ask.item es x.volume.next_item.0 (next_number x.volume) x sees fit (λ fair. refl) old new refl refl
+    (listing_in l tokens P closed f keeps x.policy a.ask.item x.volume.next_item.0 [] es es x.volume.next_item.0 (next_number x.volume) x is (list (not_false (is_list a.ask.kind) (head_false (entries_tests f a (map new_item_of es) (list_changes a (map new_item_of es) x) x) e))) sees fit (λ fair. refl) old new refl refl
     (a, live, not_false (is_list a.ask.kind) (head_false (entries_tests f a (map new_item_of es) (list_changes a (map new_item_of es) x) x) e), refl) h)
     (waiting_stays f (list_changes a (map new_item_of es) x) x)
     (λ u t j w. keeps_bind P (settle a.ask.item (entries_deed a true) t) (λ _ y. done y)
     (closed.settled a.ask.item (entries_deed a true) t (inr (listing_ends a x.waiting t.waiting w live (not_false (is_list a.ask.kind) (head_false (entries_tests f a (map new_item_of es) (list_changes a (map new_item_of es) x) x) e)))) j) (λ v y k. k)))
 
 -- no entries
-pub no_listing_keeps : (l : Link) (tokens : ℕ) (P : Filter → Type 0) → GuardedFilter l tokens P → (f : Book → Book) (a : Live) (list : List NewItem) → Preserves P (entries f a list false)
+pub no_listing_keeps : {On : Knowledge} (l : Link) (tokens : ℕ) (P : Filter → Type 0) → GuardedFilter On l tokens P → (f : Book → Book) (a : Live) (list : List NewItem) → Preserves P (entries f a list false)
 no_listing_keeps l tokens P closed f a list =
     record {
       keeps = λ x h. checked_at P (entries_tests f a list []) (then_do (changes_with f []) (then_do (settle a.ask.item (entries_deed a false)) done)) x h
@@ -236,23 +300,23 @@ allowed_in_sync p i start len busy e =
 pub verdict_in_sync : (p : Policy) (i : Item) (start len : ℕ) (busy : Bool) → verdict p i start len busy ≡ None → i.in_sync ≡ true
 verdict_in_sync p i start len busy e = allowed_in_sync p i start len busy e
 
-consent_fits : (l : Link) (tokens : ℕ) (P : Filter → Type 0) → GuardedFilter l tokens P → (a : Live) (x : Filter) → P x → second_verdict a x ≡ None → IsFair l → Each a.ask.item (λ i. i.in_sync ≡ true) x.volume.items
+consent_fits : {On : Knowledge} (l : Link) (tokens : ℕ) (P : Filter → Type 0) → GuardedFilter On l tokens P → (a : Live) (x : Filter) → P x → second_verdict a x ≡ None → IsFair l → Each a.ask.item (λ i. i.in_sync ≡ true) x.volume.items
 consent_fits l tokens P closed a x h e fair = by (item_of x.volume.items a.ask.item) refl e where
   by : (o : Option Item) → item_of x.volume.items a.ask.item ≡ o → part (λ i. verdict x.policy i a.ask.span.start a.ask.span.len (in_use_beside a.ask.item a.wait x)) None o ≡ None → Each a.ask.item (λ i. i.in_sync ≡ true) x.volume.items
   by None q e = each_none a.ask.item (λ i. i.in_sync ≡ true) x.volume.items q
   by (Some i) q e = each_found a.ask.item (λ i. i.in_sync ≡ true) 0 x.volume.next_item.0 x.volume.items i (closed.sound x h fair).now.order q (allowed_in_sync x.policy i a.ask.span.start a.ask.span.len (in_use_beside a.ask.item a.wait x) e)
 
-consent_at : (l : Link) (tokens : ℕ) (P : Filter → Type 0) → GuardedFilter l tokens P → (a : Live) (refusal : Option Code) (x : Filter) → second_verdict a x ≡ refusal → P x → Keeps P (consent_by a true refusal x)
+consent_at : {On : Knowledge} (l : Link) (tokens : ℕ) (P : Filter → Type 0) → GuardedFilter On l tokens P → (a : Live) (refusal : Option Code) (x : Filter) → second_verdict a x ≡ refusal → P x → Keeps P (consent_by a true refusal x)
 consent_at l tokens P closed a None x e h =
     checked_at P (consent_tests a (dehydration a ∷ [])) (then_do (changes (dehydration a ∷ [])) (then_do (settle a.ask.item (consent_deed a true None)) done)) x h
     (λ q. keeps_bind P (changes (dehydration a ∷ []) x) (λ _ t. then_do (settle a.ask.item (consent_deed a true None)) done t)
-    (keeps_bind P (change (dehydration a) x) (λ _ t. ret unit t) (closed.change same_book (dehydration a) x (λ b. refl) (λ fair. ((λ z b. refl), (λ k. k), λ b. refl)) (λ id k. k) (λ fair. consent_fits l tokens P closed a x h e fair) h) (λ u t j. j))
+    (keeps_bind P (change (dehydration a) x) (λ _ t. ret unit t) (closed.change same_book (dehydration a) x (λ b. refl) (λ fair. ((λ z b. refl), (λ k. k), λ b. refl)) (λ id k. k) (λ fair. consent_fits l tokens P closed a x h e fair) (λ fair. (tt, inl (λ b. refl))) h) (λ u t j. j))
     (λ u t j. keeps_bind P (settle a.ask.item (consent_deed a true None) t) (λ _ y. done y) (closed.settled a.ask.item (consent_deed a true None) t (inl refl) j) (λ v y k. k)))
 consent_at l tokens P closed a (Some c) x e h =
     checked_at P (consent_tests a []) (then_do (changes []) (then_do (settle a.ask.item (consent_deed a true (Some c))) done)) x h
     (λ q. keeps_bind P (settle a.ask.item (consent_deed a true (Some c)) x) (λ _ y. done y) (closed.settled a.ask.item (consent_deed a true (Some c)) x (inl refl) h) (λ v y k. k))
 
-pub consents_keep : (l : Link) (tokens : ℕ) (P : Filter → Type 0) → GuardedFilter l tokens P → (a : Live) → Preserves P (ack_dehydrate a true)
+pub consents_keep : {On : Knowledge} (l : Link) (tokens : ℕ) (P : Filter → Type 0) → GuardedFilter On l tokens P → (a : Live) → Preserves P (ack_dehydrate a true)
 consents_keep l tokens P closed a = record { keeps = λ x h. consent_at l tokens P closed a (second_verdict a x) x refl h }
 
 -- an operation of the engine
@@ -276,20 +340,21 @@ on_key l tokens P f op x h k = by (live_of x.waiting.asks (key_of op)) refl wher
   by None e = h
   by (Some a) e = k a e
 
-pub fetched_at : (l : Link) (tokens : ℕ) (P : Filter → Type 0) → GuardedFilter l tokens P → (key : Key) (at : ℕ) (bytes : List ℕ) (x : Filter)
+pub fetched_at : {On : Knowledge} (l : Link) (tokens : ℕ) (P : Filter → Type 0) → GuardedFilter On l tokens P → (key : Key) (at : ℕ) (bytes : List ℕ) (x : Filter)
     → ((a : Live) → live_of x.waiting.asks key ≡ Some a → IsFair l → is_fetch a.ask.kind ≡ true → Each a.ask.item (λ i. take (length bytes) (drop at (base_bytes l.remote i)) ≡ bytes) x.volume.items) → P x
     → Keeps P (execute (operation.Transfer key at bytes) x)
 fetched_at l tokens P closed key at bytes x fit h = on_key l tokens P same_book (operation.Transfer key at bytes) x h (λ a e. transfer_at l tokens P closed a at bytes x (fit a e) h)
 
-pub refused_op_keeps : (l : Link) (tokens : ℕ) (P : Filter → Type 0) → GuardedFilter l tokens P → (key : Key) (asked : Span) (status : ℕ) → Preserves P (execute (operation.Refuse key asked status))
+pub refused_op_keeps : {On : Knowledge} (l : Link) (tokens : ℕ) (P : Filter → Type 0) → GuardedFilter On l tokens P → (key : Key) (asked : Span) (status : ℕ) → Preserves P (execute (operation.Refuse key asked status))
 refused_op_keeps l tokens P closed key asked status = record { keeps = λ x h. on_key l tokens P same_book (operation.Refuse key asked status) x h (λ a e. (refuse_keeps l tokens P closed a asked status).keeps x h) }
 
-pub no_entries_op_keeps : (l : Link) (tokens : ℕ) (P : Filter → Type 0) → GuardedFilter l tokens P → (key : Key) → Preserves P (execute (operation.Entries key [] false))
+pub no_entries_op_keeps : {On : Knowledge} (l : Link) (tokens : ℕ) (P : Filter → Type 0) → GuardedFilter On l tokens P → (key : Key) → Preserves P (execute (operation.Entries key [] false))
 no_entries_op_keeps l tokens P closed key = record { keeps = λ x h. on_key l tokens P same_book (operation.Entries key [] false) x h (λ a e. (no_listing_keeps l tokens P closed same_book a []).keeps x h) }
 
-pub listed_at : (l : Link) (tokens : ℕ) (P : Filter → Type 0) → GuardedFilter l tokens P → (f : Book → Book) → KeepsEntries f → (key : Key) (es : List Entry) (x : Filter)
+pub listed_at : {On : Knowledge} (l : Link) (tokens : ℕ) (P : Filter → Type 0) → GuardedFilter On l tokens P → (f : Book → Book) → KeepsEntries f → (key : Key) (es : List Entry) (x : Filter) → ((b : Book) → f b ≡ with_seen_from x.volume.next_item.0 es b)
+    → ((a : Live) → live_of x.waiting.asks key ≡ Some a → is_list a.ask.kind ≡ true → IsFair l → Listing (On false x.volume.book.cursor) x.volume.items x.volume.next_item.0 x.volume.next_item.0 [] es es)
     → SeesFrom f (x.volume.next_item.0 + length es) → (IsFair l → All (λ e. NewFits l.remote x.policy (new_item_of e)) es) → (IsFair l → list_any is_new_entry x.volume.book.entries ≡ false) → (IsFair l → AreOthers x.volume.items es) → P x → Keeps P (execute_with f (operation.Entries key (map new_item_of es) true) x)
-listed_at l tokens P closed f keeps key es x sees fit old new h = on_key l tokens P f (operation.Entries key (map new_item_of es) true) x h (λ a e. listing_at l tokens P closed f keeps a es x (subst (λ (k : Key). live_of x.waiting.asks k ≡ Some a) (sym (live_key x.waiting.asks key a e)) e) sees fit old new h)
+listed_at l tokens P closed f keeps key es x is list sees fit old new h = on_key l tokens P f (operation.Entries key (map new_item_of es) true) x h (λ a e. listing_at l tokens P closed f keeps a es x (subst (λ (k : Key). live_of x.waiting.asks k ≡ Some a) (sym (live_key x.waiting.asks key a e)) e) is (list a e) sees fit old new h)
 
-pub consented_keeps : (l : Link) (tokens : ℕ) (P : Filter → Type 0) → GuardedFilter l tokens P → (key : Key) → Preserves P (execute (operation.AckDehydrate key true))
+pub consented_keeps : {On : Knowledge} (l : Link) (tokens : ℕ) (P : Filter → Type 0) → GuardedFilter On l tokens P → (key : Key) → Preserves P (execute (operation.AckDehydrate key true))
 consented_keeps l tokens P closed key = record { keeps = λ x h. on_key l tokens P same_book (operation.AckDehydrate key true) x h (λ a e. (consents_keep l tokens P closed a).keeps x h) }

@@ -30,16 +30,18 @@ use Rattle.cf_model_laws.proofs.Guarded.{Guarded, GuardedFilter}
 use Rattle.cf_model_laws.proofs.SkipsGuarded.{keeps_both}
 use Rattle.cf_model_laws.proofs.OutboxEvents.{filter_event_keeps, filter_runs_keep}
 use Rattle.cf_model_laws.proofs.OutboxFacts.{BoxingRuns, Fact, Holds, filter_closed}
+use Rattle.cf_model_laws.specs.Taken.{Knowledge}
+use Rattle.cf_model_laws.proofs.SinceKept.{moved_weaker, on_filter_weaker, record_weaker}
 
 module _ (F : Fact) (b : BoxingRuns F) where
   abbrev In : State → Type 0
   In s = Holds F s.filter
 
-  filter_beside : (l : Link) (tokens : ℕ) (P : Filter → Type 0) → GuardedFilter l tokens P → GuardedFilter l tokens (λ x. P x × Holds F x)
+  filter_beside : {On : Knowledge} (l : Link) (tokens : ℕ) (P : Filter → Type 0) → GuardedFilter On l tokens P → GuardedFilter On l tokens (λ x. P x × Holds F x)
   filter_beside l tokens P closed = record {
     sound = λ x h fair. closed.sound x h.0 fair;
-    change = λ f d x keeps seen free fit h. keeps_both P (Holds F) (change_with f d x) (closed.change f d x keeps seen free fit h.0) (((filter_closed F b.boxing).change f d).keeps x h.1);
-    touch = λ f d item e x quiet keeps seen on fit h. keeps_both P (Holds F) (then_do (change_with f d) (then_do (settle item e) done) x) (closed.touch f d item e x quiet keeps seen on fit h.0)
+    change = λ f d x keeps seen free fit known h. keeps_both P (Holds F) (change_with f d x) (closed.change f d x keeps seen free fit known h.0) (((filter_closed F b.boxing).change f d).keeps x h.1);
+    touch = λ f d item e x quiet keeps seen on fit known h. keeps_both P (Holds F) (then_do (change_with f d) (then_do (settle item e) done) x) (closed.touch f d item e x quiet keeps seen on fit known h.0)
         ((keeps_then (Holds F) (change_with f d) (then_do (settle item e) done) ((filter_closed F b.boxing).change f d) (keeps_then (Holds F) (settle item e) done ((filter_closed F b.boxing).settled item e) (record { keeps = λ y k. k }))).keeps x h.1);
     commits = record { keeps = λ x h. keeps_both P (Holds F) (in_volume commit x) (closed.commits.keeps x h.0) ((filter_closed F b.boxing).commits.keeps x h.1) };
     settled = λ item d x others h. keeps_both P (Holds F) (settle item d x) (closed.settled item d x others h.0) (((filter_closed F b.boxing).settled item d).keeps x h.1);
@@ -63,14 +65,14 @@ module _ (F : Fact) (b : BoxingRuns F) where
   guarded_beside : (P : State → Type 0) → Guarded P → Guarded (λ s. P s × In s)
   guarded_beside P closed = record {
     replay = λ s h. closed.replay s h.0;
-    on_filter = λ s h. filter_beside s.link s.volatile.tokens (λ x. P (with_filter x s)) (closed.on_filter s h.0);
+    on_filter = λ s h. filter_beside s.link s.volatile.tokens (λ x. P (with_filter x s)) (on_filter_weaker P (λ t. P t × In t) (λ t k. k.0) s.link s.volatile.tokens _ (closed.on_filter s h.0));
     keeps_counted = λ s h. (closed.keeps_counted s h.0, h.1);
     asked = λ q s well h. (closed.asked q s well h.0, h.1);
     told = λ held s h. (closed.told held s h.0, h.1);
-    posts = λ f s well h. (closed.posts f s well h.0, h.1);
+    posts = λ f s well now h. (closed.posts f s well now h.0, h.1);
     loses = λ f s h. (closed.loses f s h.0, h.1);
-    books = λ f s keeps placed h. (closed.books f s keeps placed h.0, h.1);
-    moved = λ e s is live h. (closed.moved e s is live h.0, h.1);
+    books = λ f s keeps placed known h. (closed.books f s keeps placed (λ fair. record_weaker P (λ t. P t × In t) (λ t k. k.0) f s (known fair)) h.0, h.1);
+    moved = λ e s is live known h. (closed.moved e s is live (λ fair. moved_weaker P (λ t. P t × In t) (λ t k. k.0) e s (known fair)) h.0, h.1);
     leaves = λ token s h. (closed.leaves token s h.0, h.1);
     keeps_fault_line = λ m s h. (closed.keeps_fault_line m s h.0, h.1);
     keeps_showing = λ s h. (closed.keeps_showing s h.0, h.1);

@@ -7,20 +7,20 @@ use Rattle.cf_base.specs.declared.messages.Reply.{Reply}
 use Rattle.cf_base.specs.declared.messages.Request.TheVariants as request
 use Rattle.cf_base.specs.declared.notices.Frame.{Frame}
 use Rattle.cf_base.specs.declared.notices.Frame.TheVariants as frame
-use Rattle.cf_model.specs.Arrows.{Arrow, noted, one, ret, then_do, unit, Preserves, each, reading, seq}
+use Rattle.cf_model.specs.Arrows.{Arrow, noted, one, ret, then_do, unit, Preserves, each, reading, seq, unless_done}
 use Rattle.cf_model.specs.Books.{QueueEntry}
 use Rattle.cf_model.specs.Callbacks.{drain}
 use Rattle.cf_model.specs.Messages.{act_on, come, is_stale, message_at}
 use Rattle.cf_model.specs.Numbers.{most, no_item}
 use Rattle.cf_model.specs.Pushes.{push_all}
-use Rattle.cf_model.specs.Skips.{with_volatile}
+use Rattle.cf_model.specs.Skips.{with_volatile, left_out}
 use Rattle.cf_model.specs.State.{State, book_now, items_now}
-use Rattle.cf_model.specs.Trees.{Tree, Ret, Keeps}
+use Rattle.cf_model.specs.Trees.{Tree, Ret, Keeps, bind}
 use Rattle.cf_model_laws.proofs.CallbacksGuarded as callbacks_keep
 use Rattle.cf_model_laws.proofs.PushesGuarded as pushes_keep
-use Rattle.cf_model.specs.Passes.{arrive, arrive_frame, ask_feed, connected, deliver, deliver_frame, deliver_now, deliver_reply, deliver_unless, feed_if, feed_of, is_down, is_last, pass, pass_anew, passes, send_feed, settle_all, settle_entry, show_unsettled, showing, sync, sync_now, sync_passes, things, try_round, unless_down, unsettled, was_sent, why_no_round, with_round, without_done, work, work_now}
+use Rattle.cf_model.specs.Passes.{arrive, arrive_frame, ask_feed, connected, deliver, deliver_frame, deliver_now, deliver_reply, deliver_unless, feed_if, feed_of, is_down, is_last, pass, pass_anew, passes, settle_all, settle_entry, show_unsettled, showing, sync, sync_now, sync_passes, things, unless_down, unsettled, was_sent, why_no_round, with_round, without_done, work, work_now}
 use Rattle.cf_model_laws.proofs.Guarded.{Guarded, Entering, PostedIn}
-use Rattle.cf_model.proofs.ArrowLaws.{keeps_choose, keeps_noted, keeps_reading, keeps_ret, keeps_seq, keeps_then}
+use Rattle.cf_model.proofs.ArrowLaws.{keeps_choose, keeps_noted, keeps_reading, keeps_ret, keeps_then}
 use Rattle.cf_model.proofs.TreeLaws.{keeps_bind}
 use Rattle.std.proofs.Common.{◌≡◌, ℕ, zero, suc, Bool, true, false, List, [], ◌∷◌, refl, sym, ◌∙◌, subst}
 use Rattle.cf_base.specs.declared.ids.Round.{Round}
@@ -37,8 +37,9 @@ use Rattle.cf_model_laws.proofs.FeedsGuarded.{first_led}
 use Rattle.cf_model_laws.proofs.FramesGuarded.{FrameIn, guarded_framed}
 use Rattle.cf_model_laws.proofs.Gathered.{all_any, all_weaker}
 use Rattle.cf_model_laws.proofs.Leading.{kept_leads, leads_bind, leads_kept}
-use Rattle.cf_model_laws.proofs.MessagesGuarded.{Come, ToldAt, acts_at, come_led, send_now_at}
-use Rattle.cf_model_laws.proofs.SkipsGuarded.{Whichever, guarded_skipping, tried_at}
+use Rattle.cf_model_laws.proofs.MessagesGuarded.{Come, acts_at, come_led, send_now_at}
+use Rattle.cf_model_laws.specs.Taken.{ToldAt}
+use Rattle.cf_base.specs.declared.codes.Code.{Code}
 
 pub sound_of : (P : State → Type 0) → Guarded P → (s : State) → P s → IsFair s.link → IsSound s.link s.volatile.tokens s.filter
 sound_of P closed s h fair = (closed.on_filter s h).sound s.filter h fair
@@ -62,7 +63,7 @@ settle_list P closed [] s h = h.0
 settle_list P closed (e ∷ es) s h =
     kept_leads P (each settle_entry (e ∷ es) s)
     (leads_bind P (λ u t. P t × Entries (e ∷ es) t) (λ u t. P t) (settle_entry e s) (λ u t. each settle_entry es t)
-    (first_led P (Entries (e ∷ es)) (settle_entry e s) (send_now_at (λ t. P t × Entries (e ∷ es) t) (guarded_framed ⊥ no_item Whatever (λ d p k. tt) (e ∷ es) P closed) (request.Settle e.token) s (λ fair. settle_posted s e.token (h.1.1 fair).0) h))
+    (first_led P (Entries (e ∷ es)) (settle_entry e s) (send_now_at (λ t. P t × Entries (e ∷ es) t) (guarded_framed ⊥ no_item Whatever (λ d p k. tt) (e ∷ es) P closed) (request.Settle e.token) s (λ fair. settle_posted s e.token (h.1.1 fair).0) (λ fair. tt) h))
     (λ u t k. leads_kept P (each settle_entry es t) (settle_list P closed es t (k.0, (k.1.0, λ fair. (k.1.1 fair).1)))))
 
 pub settle_all_keeps : (P : State → Type 0) → Guarded P → Preserves P settle_all
@@ -70,18 +71,17 @@ settle_all_keeps P closed = record {
   keeps = λ s h. settle_list P closed (book_now s).entries s (h, (λ u. absurd u, λ fair. all_weaker (IsEntryOf (next_number s.filter.volume) s.filter.volume.next_item.0 s.filter.volume.epoch s.volatile.tokens) (λ e. WasGiven s.filter.volume.epoch s.volatile.tokens e.token.0) (λ e k. k.token) (book_now s).entries (sound_of P closed s h fair).now.given));
 }
 
-pub try_round_keeps : (P : State → Type 0) → Guarded P → Preserves P try_round
-try_round_keeps P closed = record { keeps = λ s h. tried_at Whichever P (guarded_skipping P closed) why_no_round (one (with_volatile with_round)) s h (h, closed.keeps_volatile_with_round s h) }
-
-pub send_feed_keeps : (P : State → Type 0) → Guarded P → Preserves P send_feed
-send_feed_keeps P closed = record { keeps = λ s h. send_now_at P closed (feed_of s) s (λ fair. feed_posted s (record { 0 = record { epoch = s.filter.volume.epoch; number = s.volatile.rounds } }) (book_now s).cursor) h }
-
-pub feed_if_keeps : (P : State → Type 0) → Guarded P → (x1 : Bool) → Preserves P (feed_if x1)
-feed_if_keeps P closed true = send_feed_keeps P closed
-feed_if_keeps P closed false = keeps_ret P unit
-
-pub ask_feed_keeps : (P : State → Type 0) → Guarded P → Preserves P (ask_feed)
-ask_feed_keeps P closed = keeps_seq P try_round feed_if (try_round_keeps P closed) (feed_if_keeps P closed)
+-- a round is drawn, and its feed is asked for
+pub ask_feed_keeps : (P : State → Type 0) → Guarded P → Preserves P ask_feed
+ask_feed_keeps P closed = record { keeps = λ s h. by s h (why_no_round s) } where
+  by : (s : State) → P s → (o : Option Code) → Keeps P (bind (bind (unless_done (one (with_volatile with_round)) o s) left_out) feed_if)
+  by s h None =
+      let drawn : P (with_volatile with_round s) = closed.keeps_volatile_with_round s h in (
+        h,
+        send_now_at P closed (feed_of (with_volatile with_round s)) (with_volatile with_round s)
+            (λ fair. feed_posted (with_volatile with_round s) (record { 0 = record { epoch = s.filter.volume.epoch; number = s.volatile.rounds + 1 } }) (book_now s).cursor) (λ fair. (refl, refl, refl)) drawn,
+      )
+  by s h (Some c) = closed.keeps_skipped c s h
 
 pub pass_keeps : (P : State → Type 0) → Guarded P → Entering P → Preserves P (pass)
 pass_keeps P closed entering = keeps_then P settle_all (then_do ask_feed push_all) (settle_all_keeps P closed) (keeps_then P ask_feed push_all (ask_feed_keeps P closed) (pushes_keep.push_all_keeps P closed entering))
@@ -163,7 +163,7 @@ deliver_at P closed m answers q r s at asked h = by (is_stale q r s) refl where
   by true e = h
   by false e =
       keeps_bind P (act_on r (showing s)) (λ _ t. then_do drain (ret shown.Done) t)
-      (acts_at P closed answers q r (showing s) e (λ fair. told_by s m answers q r (sound_of P closed s h fair) at asked) (closed.keeps_showing s h))
+      (acts_at P closed answers q r (showing s) e (λ fair. told_by s m answers q r (sound_of P closed s h fair) at asked) (m, at) (closed.keeps_showing s h))
       (λ a t j. (keeps_then P drain (ret shown.Done) (callbacks_keep.drain_keeps P closed) (keeps_ret P shown.Done)).keeps t j)
 
 deliver_reply_at : (P : State → Type 0) → Guarded P → (m answers : ℕ) (r : Reply) (o : Option Frame) (s : State) → message_in s.link.messages m ≡ Some (frame.Reply answers r) → message_in s.link.messages answers ≡ o → P s → Keeps P (deliver_reply r o s)

@@ -7,7 +7,7 @@ use Rattle.cf_base.specs.declared.changes.Change.{Change}
 use Rattle.cf_base.specs.declared.codes.Code.{Code}
 use Rattle.cf_base.specs.declared.ids.ItemId.{ItemId}
 use Rattle.cf_model.specs.Arrows.{Arrow, Preserves, each, unless}
-use Rattle.cf_model.specs.Books.{Book}
+use Rattle.cf_model.specs.Books.{Book, book_after}
 use Rattle.cf_model.specs.Changes.{change, change_with, changes, next_number, put_with_book, same_book}
 use Rattle.cf_model.specs.Effects.{effect}
 use Rattle.cf_model.specs.Logs.{next_by}
@@ -20,20 +20,23 @@ use Rattle.cf_model.specs.Words.{first_of}
 use Rattle.cf_model.proofs.TreeLaws.{keeps_bind}
 use Rattle.cf_model_laws.specs.Fitting.{Fits, Touches}
 use Rattle.cf_model_laws.specs.Invariant.{All}
-use Rattle.cf_model_laws.proofs.Guarded.{GuardedFilter}
+use Rattle.cf_model_laws.proofs.Guarded.{GuardedFilter, KeepsCursor}
 use Rattle.cf_model_laws.proofs.Leading.{Leads}
-use Rattle.cf_model_laws.proofs.SoundChanges.{KeepsEntries, same_entries}
+use Rattle.cf_model_laws.proofs.SoundChanges.{KeepsEntries, same_entries, same_cursor}
 use Rattle.cf_model_laws.proofs.SoundFilters.{change_leads}
+use Rattle.cf_model_laws.specs.Taken.{Knowledge, IsNamedBy, Nothing}
+use Rattle.cf_model_laws.proofs.SinceKept.{unnamed_change}
 
--- a change that fits wherever it is made, and brings no bytes
+-- a change that fits wherever it is made, and brings neither bytes nor a target
 pub record IsPlain (c : Change) : Type 0 where
   pub fits : (r : Held) (x : Filter) → Fits r x c
   pub free : (id : ItemId) → Touches c id → ⊥
+  pub unnamed : IsNamedBy Nothing Nothing c
 
-pub plain_keeps : (l : Link) (tokens : ℕ) (P : Filter → Type 0) → GuardedFilter l tokens P → (c : Change) → IsPlain c → Preserves P (change c)
-plain_keeps l tokens P closed c plain = record { keeps = λ x h. closed.change same_book c x (λ b. refl) (λ fair. ((λ z b. refl), (λ k. k), λ b. refl)) plain.free (λ e. plain.fits l.remote x) h }
+pub plain_keeps : {On : Knowledge} (l : Link) (tokens : ℕ) (P : Filter → Type 0) → GuardedFilter On l tokens P → (c : Change) → IsPlain c → Preserves P (change c)
+plain_keeps {On} l tokens P closed c plain = record { keeps = λ x h. closed.change same_book c x (λ b. refl) (λ fair. ((λ z b. refl), (λ k. k), λ b. refl)) plain.free (λ e. plain.fits l.remote x) (λ e. unnamed_change On x c plain.unnamed) h }
 
-pub plains_keep : (l : Link) (tokens : ℕ) (P : Filter → Type 0) → GuardedFilter l tokens P → (cs : List Change) → All IsPlain cs → Preserves P (changes cs)
+pub plains_keep : {On : Knowledge} (l : Link) (tokens : ℕ) (P : Filter → Type 0) → GuardedFilter On l tokens P → (cs : List Change) → All IsPlain cs → Preserves P (changes cs)
 plains_keep l tokens P closed [] h = record { keeps = λ x k. k }
 plains_keep l tokens P closed (c ∷ cs) h = record {
   keeps = λ x k. keeps_bind P (change c x) (λ _ t. each change cs t) ((plain_keeps l tokens P closed c h.0).keeps x k) (λ a t j. (plains_keep l tokens P closed cs h.1).keeps t j);
@@ -80,12 +83,14 @@ pub record After (f : Book → Book) (c : Change) (x t : Filter) : Type 0 where
   pub epoch : t.volume.epoch ≡ x.volume.epoch
   pub place : t.volume.place ≡ x.volume.place + 1
   pub entries : KeepsEntries f → t.volume.book.entries ≡ x.volume.book.entries
+  pub cursor : KeepsCursor f → t.volume.book.cursor ≡ x.volume.book.cursor
+  pub book : t.volume.book ≡ f (book_after c x.volume.book)
   pub waiting : t.waiting ≡ x.waiting
   pub policy : t.policy ≡ x.policy
 
 after_changed : (f : Book → Book) (c : Change) (x : Filter) (v : Volume) → (v ≡ x.volume) ⊎ (v ≡ with_room_point x.volume) → After f c x (with_volume (put_with_book f c v) x)
-after_changed f c x v (inl e) = subst (λ (w : Volume). After f c x (with_volume (put_with_book f c w) x)) (sym e) (record { items = refl; log = refl; next = refl; epoch = refl; place = refl; entries = λ k. k _ ∙ same_entries c x.volume.book; waiting = refl; policy = refl })
-after_changed f c x v (inr e) = subst (λ (w : Volume). After f c x (with_volume (put_with_book f c w) x)) (sym e) (record { items = refl; log = refl; next = refl; epoch = refl; place = refl; entries = λ k. k _ ∙ same_entries c x.volume.book; waiting = refl; policy = refl })
+after_changed f c x v (inl e) = subst (λ (w : Volume). After f c x (with_volume (put_with_book f c w) x)) (sym e) (record { items = refl; log = refl; next = refl; epoch = refl; place = refl; entries = λ k. k _ ∙ same_entries c x.volume.book; cursor = λ k. k _ ∙ same_cursor c x.volume.book; book = refl; waiting = refl; policy = refl })
+after_changed f c x v (inr e) = subst (λ (w : Volume). After f c x (with_volume (put_with_book f c w) x)) (sym e) (record { items = refl; log = refl; next = refl; epoch = refl; place = refl; entries = λ k. k _ ∙ same_entries c x.volume.book; cursor = λ k. k _ ∙ same_cursor c x.volume.book; book = refl; waiting = refl; policy = refl })
 
 noted_after : (f : Book → Book) (c : Change) (x y t : Filter) → t.volume ≡ y.volume → t.waiting ≡ y.waiting → t.policy ≡ y.policy → After f c x y → After f c x t
 noted_after f c x y t e w p h = record {
@@ -95,6 +100,8 @@ noted_after f c x y t e w p h = record {
   epoch = ap (λ (v : Volume). v.epoch) e ∙ h.epoch;
   place = ap (λ (v : Volume). v.place) e ∙ h.place;
   entries = λ k. ap (λ (v : Volume). v.book.entries) e ∙ h.entries k;
+  cursor = λ k. ap (λ (v : Volume). v.book.cursor) e ∙ h.cursor k;
+  book = ap (λ (v : Volume). v.book) e ∙ h.book;
   waiting = w ∙ h.waiting;
   policy = p ∙ h.policy;
 }

@@ -6,21 +6,21 @@ use Rattle.cf_base.specs.declared.ids.Rid.{Rid}
 use Rattle.cf_base.specs.declared.ids.Version.{Version}
 use Rattle.cf_base.specs.declared.messages.Why.{Why}
 use Rattle.cf_base.specs.declared.messages.Why.TheVariants as why
-use Rattle.cf_model.specs.Arrows.{Arrow, and_then, only_if, reading, seq, then_do, unit, Preserves}
+use Rattle.cf_model.specs.Arrows.{Arrow, and_then, only_if, reading, seq, unit, Preserves}
 use Rattle.cf_model.specs.Books.{Action, MakeDir, MoveItem, PutFile, QueueEntry, RemoveItem, with_cursor, with_seen, with_tombstone, without_entry, without_tombstone, entry_of}
-use Rattle.cf_model.specs.Items.{Item, item_of}
+use Rattle.cf_model.specs.Items.{Item, item_of, size_of}
 use Rattle.cf_model.specs.Skips.{do_change, in_book, in_volatile, is_cursor, is_there, skip, to_conflict, try_book, try_mark, try_seen, why_no_record, with_volatile, with_book}
-use Rattle.cf_model.specs.State.{State, book_now, items_now}
+use Rattle.cf_model.specs.State.{State, book_now, items_now, Volatile, Link}
 use Rattle.cf_model_laws.proofs.StepsGuarded as skips_keep
-use Rattle.cf_model.specs.PushReplies.{bury_new, by_why, cursor_reset_if, done_by, done_move, done_removal, done_upload, done_upload_on, drop_if, end_and_close, end_entry, end_tombstone, entry_seen, held_and_closed, is_new_entry, is_removal, item_of_entry, lost_place, move_away, name_taken, name_taken_again, name_taken_by, not_empty, not_empty_by, not_in_row, nothing_further, rebase, rebase_of, rebase_unless, reset_cursor, reset_if, see_and_mark, take, take_done, take_refused, take_void, taken_from_row, tombstone_left, was_directory, was_name_taken, was_not_empty, whatever, why_no_rebase, with_done, with_not_empty, with_taken_name, is_new_by}
-use Rattle.cf_model_laws.proofs.Guarded.{Guarded, KeepsPlaced}
+use Rattle.cf_model.specs.PushReplies.{bury_new, by_why, cursor_reset_if, done_by, done_move, done_removal, done_upload, done_upload_on, drop_if, end_and_close, end_entry, end_tombstone, entry_seen, held_and_closed, is_new_entry, is_removal, item_of_entry, lost_place, move_away, name_taken, name_taken_again, name_taken_by, not_empty, not_empty_by, not_in_row, nothing_further, rebase, rebase_of, rebase_unless, reset_cursor, reset_if, see_and_mark, take, take_done, take_refused, take_void, taken_from_row, tombstone_left, was_directory, was_name_taken, was_not_empty, whatever, why_no_rebase, with_done, with_taken_name, is_new_by, held_back, round_closed, without_item, without_number}
+use Rattle.cf_model_laws.proofs.Guarded.{Guarded, KeepsPlaced, IsMovedBy}
 use Rattle.cf_model.proofs.ArrowLaws.{keeps_noted, keeps_only_if, keeps_reading, keeps_ret, keeps_seq, keeps_then, keeps_one}
 use Rattle.std.proofs.Common.{◌≡◌, ◌⊎◌, ◌<◌, ℕ, List, [], ◌∷◌, refl, sym, ◌∙◌, ap, subst, inl, inr, arith, Bool, true, false}
 use Rattle.std.specs.List.{list_all}
 use Rattle.cf_base.specs.declared.ids.ItemId.{ItemId}
 use Rattle.cf_model.specs.Contents.{base_named, up_to}
 use Rattle.cf_model.specs.Identities.{base_bytes, identity_for, identity_of, target_of}
-use Rattle.cf_model.specs.Numbers.{same_key, no_rid, no_version}
+use Rattle.cf_model.specs.Numbers.{same_key, no_rid, no_version, root_rid}
 use Rattle.cf_model.specs.Soundness.{Each}
 use Rattle.cf_model.specs.Store.{RecordedDone, bytes_of, recorded_at, Held}
 use Rattle.cf_model.specs.Trees.{Keeps}
@@ -29,17 +29,23 @@ use Rattle.cf_model_laws.specs.Fitting.{Fits, NamesWell, NoEntry, NoMove, AimsFr
 use Rattle.cf_model_laws.specs.Invariant.{All, AreApart, EntryFits, FitsBy, InOrder, IsSound, PutFits, put_bytes, DidBy, IsAskedFor, IsOfKind, IsUnmade, target_in, NamesTarget}
 use Rattle.cf_model_laws.specs.Premises.{IsFair, IsSmall}
 use Rattle.cf_model_laws.proofs.EntryLaws.{dir_well, file_well, made_named, made_read, small_rid, target_read}
-use Rattle.cf_model_laws.proofs.FeedEntriesGuarded.{Feeding, feeding}
+use Rattle.cf_model_laws.proofs.FeedFrames.{Feeding, feeding}
 use Rattle.cf_model_laws.proofs.FoundItems.{found_id}
-use Rattle.cf_model_laws.proofs.Gathered.{all_found, each_weaker}
+use Rattle.cf_model_laws.proofs.Gathered.{all_found, each_weaker, each_any}
 use Rattle.cf_model_laws.proofs.Plainly.{keeps_led}
 use Rattle.cf_model_laws.proofs.RightItems.{no_way}
 use Rattle.cf_model_laws.proofs.SeenPaths.{led_unnamed}
-use Rattle.cf_model_laws.proofs.SkipsGuarded.{Led, Skipping, Whichever, and_then_keeps, do_led, framed, guarded_skipping, keeps_first, no_move, only_if_at, tried_at, try_mark_at, try_seen_at, cursor_stays}
+use Rattle.cf_model_laws.proofs.SkipsGuarded.{Led, Skipping, and_then_keeps, do_led, keeps_first, no_move, only_if_at, tried_at, try_mark_at, try_seen_at, change_by, heard_skipping, keeps_into, leaves_early}
 use Rattle.cf_model_laws.proofs.SoundSettles.{each_found, same_item}
 use Rattle.cf_model_laws.proofs.MadeUploads.{done_unmade, done_named}
 use Rattle.cf_model.specs.Growth.{IsCounted}
 use Rattle.cf_model_laws.proofs.AimedTargets.{unaimed_made}
+use Rattle.cf_model_laws.specs.Taken.{Heard, IsNamedBy, IsSeenBy, Since}
+use Rattle.cf_model_laws.proofs.FitItems.{each_made}
+use Rattle.cf_base.specs.declared.messages.Entry.{Entry}
+use Rattle.std.proofs.lemmas.Bool.{eqb-true}
+use Rattle.cf_model.specs.Effects.{effect, rebased}
+use Rattle.cf_model.specs.Changes.{next_number}
 
 pub end_entry_keeps : (P : State → Type 0) → Guarded P → (e : QueueEntry) → Preserves P (end_entry e)
 end_entry_keeps P closed e = keeps_one P (with_book (without_entry e.token)) (λ s h. closed.leaves e.token s h)
@@ -97,16 +103,17 @@ apart_rest p id (q ∷ es) e is some f h = by (p q) f (apart_rest p id es e is s
 abbrev Marking : (State → Type 0) → State → State → Type 0
 Marking P s t = P t × Feeding s.link s.filter (book_now s).entries t
 
-marking : (P : State → Type 0) → Guarded P → (s : State) → Skipping Whichever (Marking P s)
-marking P closed s = framed Whichever P (Feeding s.link s.filter (book_now s).entries) (guarded_skipping P closed) (feeding s.link s.filter (book_now s).entries)
+marking : (P : State → Type 0) → Guarded P → (s : State) → Skipping (Since P s.link true (book_now s).cursor) (IsNamedBy (Since P s.link true (book_now s).cursor) (Since P s.link true (book_now s).cursor)) (Marking P s)
+marking P closed s = heard_skipping P (Feeding s.link s.filter (book_now s).entries) (Since P s.link true (book_now s).cursor) closed (feeding s.link s.filter (book_now s).entries)
+    (λ t j k e on. subst (λ (n : ℕ). Since P t.link true n e) (sym k.cursor) (subst (λ (l : Link). Since P l true (book_now s).cursor e) (sym k.link) on))
 
 mark_after : (P : State → Type 0) → Guarded P → (e : QueueEntry) (f : Arrow State Bool) (s : State) → (IsFair s.link → (e.item.0 ≡ 0 → ⊥) → NoEntry (book_now s).entries e.item) → (Marking P s s → Keeps (Marking P s) (f s)) → P s
     → Keeps P (seq (and_then f (try_mark e.item e.number)) whatever s)
 mark_after P closed e f s alone k h =
     keeps_first P (Feeding s.link s.filter (book_now s).entries) (seq (and_then f (try_mark e.item e.number)) whatever s)
     (keeps_bind (Marking P s) (and_then f (try_mark e.item e.number) s) whatever
-    (and_then_keeps (Marking P s) f (try_mark e.item e.number) s (k (h, record { link = refl; waiting = refl; handles = refl; entries = refl }))
-    (λ t j. try_mark_at Whichever (Marking P s) (marking P closed s) e.item e.number t tt (λ fair i found. unmoved t j fair i found) j))
+    (and_then_keeps (Marking P s) f (try_mark e.item e.number) s (k (h, record { link = refl; waiting = refl; handles = refl; entries = refl; cursor = refl }))
+    (λ t j. try_mark_at (IsNamedBy (Since P s.link true (book_now s).cursor) (Since P s.link true (book_now s).cursor)) (Marking P s) (marking P closed s) e.item e.number t tt (λ fair i found. unmoved t j fair i found) j))
     (λ b t j. j)) where
       zero_not : (n m : ℕ) → 0 < n → n ≡ m → m ≡ 0 → ⊥
       zero_not n m a b c = omega (arith, a, b, c)
@@ -118,10 +125,10 @@ mark_after P closed e f s alone k h =
           (λ z. zero_not i.id.0 e.item.0 (found_positive e.item 0 t.filter.volume.next_item.0 (items_now t) i ((closed.on_filter t j.0).sound t.filter j.0 fair).now.order found) (found_id e.item (items_now t) i found) z)))
 
 -- a new item's path comes to be seen after another change than a Mark
-see_and_mark_at : (P : State → Type 0) → Guarded P → (e : QueueEntry) (s : State) → (IsFair s.link → (e.item.0 ≡ 0 → ⊥) → NoEntry (book_now s).entries e.item) → KeepsPlaced (with_seen (entry_seen e)) s → P s → Keeps P (see_and_mark e s)
-see_and_mark_at P closed e s alone placed h =
+see_and_mark_at : (P : State → Type 0) → Guarded P → (e : QueueEntry) (s : State) → (IsFair s.link → (e.item.0 ≡ 0 → ⊥) → NoEntry (book_now s).entries e.item) → KeepsPlaced (with_seen (entry_seen e)) s → (IsFair s.link → IsSeenBy (Since P s.link true (book_now s).cursor) (items_now s) (entry_seen e)) → P s → Keeps P (see_and_mark e s)
+see_and_mark_at P closed e s alone placed told h =
     mark_after P closed e (only_if (is_new_entry e) (try_seen (entry_seen e))) s alone
-    (λ q. only_if_at (Marking P s) (is_new_entry e) (try_seen (entry_seen e)) s q (λ _. try_seen_at Whichever (Marking P s) (marking P closed s) (entry_seen e) s (λ fair. placed) q)) h
+    (λ q. only_if_at (Marking P s) (is_new_entry e) (try_seen (entry_seen e)) s q (λ _. try_seen_at (IsNamedBy (Since P s.link true (book_now s).cursor) (Since P s.link true (book_now s).cursor)) (Marking P s) (marking P closed s) (entry_seen e) s (λ fair. placed) told q)) h
 
 -- once its entry is gone, none is about its item
 alone_after : (s : State) (e : QueueEntry) → entry_of (book_now s) e.token ≡ Some e → IsSound s.link s.volatile.tokens s.filter → (e.item.0 ≡ 0 → ⊥) → NoEntry (without_entry e.token (book_now s)).entries e.item
@@ -154,8 +161,9 @@ done_one MoveItem s e rid version i is low fair sound done found fit did = elim 
 done_one RemoveItem s e rid version i is low fair sound done found fit did = elim is as (λ _. DoneFits s e rid version i) [ inl z ↦ cc | inr z ↦ cc ]
 
 pub rebase_at : (P : State → Type 0) → Guarded P → (e : QueueEntry) (rid : Rid) (version : Version) (i : Item) (s : State) → (IsFair s.link → DoneFits s e rid version i × DoneIn s e rid version × (item_of (items_now s) e.item ≡ Some i))
-    → (IsFair s.link → AimsFree s.link.remote (without_entry e.token (book_now s)).entries (identity_for i.directory rid version) × AimsAlone (without_entry e.token (book_now s)).entries (items_now s) i.id (identity_for i.directory rid version)) → P s → Keeps P (rebase e (rebase_of e rid version i) s)
-rebase_at P closed e rid version i s fits free h = by (why_no_rebase e (rebase_of e rid version i) s) where
+    → (IsFair s.link → AimsFree s.link.remote (without_entry e.token (book_now s)).entries (identity_for i.directory rid version) × AimsAlone (without_entry e.token (book_now s)).entries (items_now s) i.id (identity_for i.directory rid version)) → ((d : Entry) → d.rid ≡ rid → Heard true s d) → (IsFair s.link → (target_in (identity_for i.directory rid version)).0 ≡ rid.0) → P s
+    → Keeps P (rebase e (rebase_of e rid version i) s)
+rebase_at P closed e rid version i s fits free heard aims h = by (why_no_rebase e (rebase_of e rid version i) s) where
   fit : IsFair s.link → Fits s.link.remote (with_volatile (taken_from_row e) (with_book (without_entry e.token) (with_done s))).filter (rebase_of e rid version i)
   fit fair =
       let sound : IsSound s.link s.volatile.tokens s.filter = (closed.on_filter s h).sound s.filter h fair in
@@ -175,6 +183,26 @@ rebase_at P closed e rid version i s fits free h = by (why_no_rebase e (rebase_o
         zero_not : (n : ℕ) → 0 < n → n ≡ 0 → ⊥
         zero_not n h e = omega (arith, h, e)
 
+  -- what the Done tells
+  entry : Entry
+  entry = record { rid = rid; parent = e.parent; name = e.name; dir = i.directory; live = true; version = version; len = 0; changed = 0 }
+
+  rebased_aim : (b : Bool) (k : Item) → (k.id.0 == 1) ≡ b → (k.id.0 ≡ 1 → ⊥) → (cond b root_rid (target_in (identity_for i.directory rid version))).0 ≡ (target_in (identity_for i.directory rid version)).0
+  rebased_aim true k q below = absurd (below (eqb-true k.id.0 1 q))
+  rebased_aim false k q below = refl
+
+  seen_told : (t : State) → Led (rebase_of e rid version i) (with_volatile (taken_from_row e) (with_book (without_entry e.token) (with_done s))) t → IsFair t.link → IsSeenBy (Since P t.link true (book_now t).cursor) (items_now t) (entry_seen e)
+  seen_told t led fair =
+      let fair_s : IsFair s.link = subst IsFair led.link fair in (
+        entry,
+        (s, h, heard entry refl, led.link, led.after.cursor (λ b. refl)),
+        subst (Each e.item (λ k. (k.id.0 ≡ 1 → ⊥) → (target_of k).0 ≡ rid.0)) (sym led.after.items)
+            (subst (λ (x : ItemId). Each x (λ k. (k.id.0 ≡ 1 → ⊥) → (target_of k).0 ≡ rid.0) (effect (items_now s) (rebase_of e rid version i) (next_number s.filter.volume))) (same_item i.id e.item (found_id e.item (items_now s) i (fits fair_s).2))
+            (each_made i.id (rebased (identity_for i.directory rid version) (size_of i) e.number) (λ k. Unit {0}) (λ k. (k.id.0 ≡ 1 → ⊥) → (target_of k).0 ≡ rid.0) (λ k _ below. rebased_aim (k.id.0 == 1) k refl below ∙ aims fair_s) (items_now s) (each_any i.id (λ k. Unit {0}) (λ k. tt) (items_now s)))),
+        refl,
+        refl,
+      )
+
   by : (o : Option Code) → Keeps P (rebase_unless e (rebase_of e rid version i) o s)
   by (Some c) = (skips_keep.skip_keeps P closed c).keeps s h
   by None =
@@ -182,12 +210,12 @@ rebase_at P closed e rid version i s fits free h = by (why_no_rebase e (rebase_o
       let two : P (with_volatile (taken_from_row e) (with_book (without_entry e.token) (with_done s))) = closed.keeps_volatile_taken_from_row e (with_book (without_entry e.token) (with_done s)) (closed.leaves e.token (with_done s) one) in (
         one,
         keeps_led P (λ u t. Led (rebase_of e rid version i) (with_volatile (taken_from_row e) (with_book (without_entry e.token) (with_done s))) t) (do_change (rebase_of e rid version i) (with_volatile (taken_from_row e) (with_book (without_entry e.token) (with_done s)))) (λ _ t. see_and_mark e t)
-            ((guarded_skipping P closed).change (rebase_of e rid version i) (with_volatile (taken_from_row e) (with_book (without_entry e.token) (with_done s))) tt (λ id k. k) fit two)
+            (change_by P closed (rebase_of e rid version i) (with_volatile (taken_from_row e) (with_book (without_entry e.token) (with_done s))) (inr (entry, (s, h, heard entry refl, refl, refl), refl)) (λ id k. k) fit two)
             (do_led (rebase_of e rid version i) (with_volatile (taken_from_row e) (with_book (without_entry e.token) (with_done s))))
             (λ u t j led. see_and_mark_at P closed e t
             (λ fair some. let fair_s : IsFair s.link = subst IsFair led.link fair in
             subst (λ (es : List QueueEntry). NoEntry es e.item) (sym (led.after.entries (λ b. refl))) (alone_after s e (fits fair_s).1.0 ((closed.on_filter s h).sound s.filter h fair_s) some))
-            (λ item m. absurd (led_unnamed (rebase_of e rid version i) (with_volatile (taken_from_row e) (with_book (without_entry e.token) (with_done s))) t (λ z. z) led item m)) j),
+            (λ item m. absurd (led_unnamed (rebase_of e rid version i) (with_volatile (taken_from_row e) (with_book (without_entry e.token) (with_done s))) t (λ z. z) led item m)) (seen_told t led) j),
       )
 
 pub bury_new_keeps : (P : State → Type 0) → Guarded P → (x1 : QueueEntry) → (x2 : Rid) → (x3 : Version) → Preserves P (bury_new x1 x2 x3)
@@ -245,8 +273,17 @@ done_aims s e rid version i is fair sound done found = (inr (subst (λ (x : Rid)
       inl (each_weaker i.id (λ j. (target_of j).0 ≡ e.rid.0) (λ j. (target_of j).0 ≡ (target_in (identity_for i.directory rid version)).0)
       (λ j z. z ∙ ap (λ (x : Rid). x.0) (sym (done_named s.link.remote e rid put new did)) ∙ ap (λ (x : Rid). x.0) (sym (read i.directory))) (items_now s) (named put))
 
-upload_done_at : (P : State → Type 0) → Guarded P → (e : QueueEntry) (rid : Rid) (version : Version) (s : State) → (e.action ≡ PutFile) ⊎ (e.action ≡ MakeDir) → (IsFair s.link → DoneIn s e rid version) → P s → Keeps P (done_upload e rid version s)
-upload_done_at P closed e rid version s is done h = by (item_of (items_now s) e.item) refl where
+done_target : (s : State) (e : QueueEntry) (rid : Rid) (version : Version) (d : Bool) → (e.action ≡ PutFile) ⊎ (e.action ≡ MakeDir) → IsFair s.link → IsSound s.link s.volatile.tokens s.filter → DoneIn s e rid version → (target_in (identity_for d rid version)).0 ≡ rid.0
+done_target s e rid version d is fair sound done = read d where
+  small : rid.0 < 18446744073709551616
+  small = did_small e.action s.link.remote e.rid rid is sound.counted fair.1 ((all_found (IsAskedFor s.link.remote s.link.messages) (λ q. same_key q.token.0 e.token.0) (book_now s).entries e done.0 sound.now.asked).0.did rid version done.1)
+
+  read : (d : Bool) → (target_in (identity_for d rid version)).0 ≡ rid.0
+  read true = ap (λ (r : Rid). r.0) (target_read rid no_rid no_version small)
+  read false = ap (λ (r : Rid). r.0) (target_read rid rid version small)
+
+upload_done_at : (P : State → Type 0) → Guarded P → (e : QueueEntry) (rid : Rid) (version : Version) (s : State) → (e.action ≡ PutFile) ⊎ (e.action ≡ MakeDir) → ((d : Entry) → d.rid ≡ rid → Heard true s d) → (IsFair s.link → DoneIn s e rid version) → P s → Keeps P (done_upload e rid version s)
+upload_done_at P closed e rid version s is heard done h = by (item_of (items_now s) e.item) refl where
   by : (o : Option Item) → item_of (items_now s) e.item ≡ o → Keeps P (done_upload_on e rid version o s)
   by None f = (bury_new_keeps P closed e rid version).keeps s h
   by (Some i) f =
@@ -254,11 +291,12 @@ upload_done_at P closed e rid version s is done h = by (item_of (items_now s) e.
       (λ fair. let sound : IsSound s.link s.volatile.tokens s.filter = (closed.on_filter s h).sound s.filter h fair in
       (done_one e.action s e rid version i is ((done fair).2 is) fair sound (done fair) f (all_found (EntryFits s.link.remote s.link.messages (items_now s)) (λ q. same_key q.token.0 e.token.0) (book_now s).entries e (done fair).0 sound.now.fit).0 ((all_found (IsAskedFor s.link.remote s.link.messages) (λ q. same_key q.token.0 e.token.0) (book_now s).entries e (done fair).0 sound.now.asked).0.did rid version (done fair).1), done fair, f))
       (λ fair. let sound : IsSound s.link s.volatile.tokens s.filter = (closed.on_filter s h).sound s.filter h fair in
-      done_aims s e rid version i is fair sound (done fair) f) h
+      done_aims s e rid version i is fair sound (done fair) f) heard
+      (λ fair. done_target s e rid version i.directory is fair ((closed.on_filter s h).sound s.filter h fair) (done fair)) h
 
 -- the path of a Move that was done comes to be seen
-done_move_at : (P : State → Type 0) → Guarded P → (e : QueueEntry) (s : State) → e.action ≡ MoveItem → (IsFair s.link → entry_of (book_now s) e.token ≡ Some e) → P s → Keeps P (done_move e s)
-done_move_at P closed e s is live h = (one, mark_after P closed e (try_seen (entry_seen e)) taken (λ fair some. alone_after s e (live fair) ((closed.on_filter s h).sound s.filter h fair) some) (λ q. sees (is_there e.item taken) q) two) where
+done_move_at : (P : State → Type 0) → Guarded P → (e : QueueEntry) (s : State) → e.action ≡ MoveItem → (IsFair s.link → entry_of (book_now s) e.token ≡ Some e) → (IsFair s.link → IsMovedBy P e s) → P s → Keeps P (done_move e s)
+done_move_at P closed e s is live told h = (one, mark_after P closed e (try_seen (entry_seen e)) taken (λ fair some. alone_after s e (live fair) ((closed.on_filter s h).sound s.filter h fair) some) (λ q. sees (is_there e.item taken) q) two) where
   taken : State
   taken = with_volatile (taken_from_row e) (with_book (without_entry e.token) (with_done s))
 
@@ -271,37 +309,64 @@ done_move_at P closed e s is live h = (one, mark_after P closed e (try_seen (ent
   sees : (b : Bool) → Marking P taken taken → Keeps (Marking P taken) (only_if b (try_book (with_seen (entry_seen e))) taken)
   sees b q =
       only_if_at (Marking P taken) b (try_book (with_seen (entry_seen e))) taken q
-      (λ _. tried_at Whichever (Marking P taken) (marking P closed taken) (why_no_record (with_seen (entry_seen e))) (in_book (with_seen (entry_seen e))) taken q
-      (q, (closed.moved e (with_done s) is live one, record { link = refl; waiting = refl; handles = refl; entries = refl })))
+      (λ _. tried_at (IsNamedBy (Since P taken.link true (book_now taken).cursor) (Since P taken.link true (book_now taken).cursor)) (Marking P taken) (marking P closed taken) (why_no_record (with_seen (entry_seen e))) (in_book (with_seen (entry_seen e))) taken q
+      (q, (closed.moved e (with_done s) is live told one, record { link = refl; waiting = refl; handles = refl; entries = refl; cursor = refl })))
 
-pub cursor_reset_if_keeps : (P : State → Type 0) → Guarded P → (x1 : Bool) → Preserves P (cursor_reset_if x1)
-cursor_reset_if_keeps P closed true = keeps_ret P unit
-cursor_reset_if_keeps P closed false = skips_keep.in_book_keeps P closed (with_cursor 0) (λ b. refl) (λ b. refl) (λ s. inl (none (book_now s).cursor)) where
+-- once the round is closed the cursor may go back
+
+abbrev pub IsShut : State → Type 0
+IsShut s = s.volatile.round_open ≡ false
+
+row_open : (e : QueueEntry) (v : Volatile) → (not_in_row e v).round_open ≡ v.round_open
+row_open e v = by (is_removal e) where
+  by : (b : Bool) → (cond b (record v { not_empty = without_number e.number v.not_empty }) (record v { taken_names = without_item e.item v.taken_names })).round_open ≡ v.round_open
+  by true = refl
+  by false = refl
+
+back_open : (e : QueueEntry) (v : Volatile) → (held_back e v).round_open ≡ v.round_open
+back_open e v = by (is_removal e) where
+  by : (b : Bool) → (cond b (record v { held_tombstones = e.number ∷ v.held_tombstones }) (record v { held_items = e.item ∷ v.held_items })).round_open ≡ v.round_open
+  by true = refl
+  by false = refl
+
+pub reset_cursor_at : (P : State → Type 0) → Guarded P → (s : State) → IsShut s → P s → Keeps (λ t. P t × IsShut t) (reset_cursor s)
+reset_cursor_at P closed s shut h = by (is_cursor 0 s) where
   none : (n : ℕ) → 0 ≤ n
   none n = omega arith
 
-pub reset_cursor_keeps : (P : State → Type 0) → Guarded P → Preserves P (reset_cursor)
-reset_cursor_keeps P closed = keeps_reading P (is_cursor 0) cursor_reset_if (cursor_reset_if_keeps P closed)
+  by : (b : Bool) → Keeps (λ t. P t × IsShut t) (cursor_reset_if b s)
+  by true = (h, shut)
+  by false = ((h, shut), (closed.books (with_cursor 0) s (λ b. refl) (λ fair. leaves_early (with_cursor 0) s (λ b. refl) (inl (none (book_now s).cursor))) (λ fair. inr (inr (inl ((λ b. refl), shut)))) h, shut))
 
-pub reset_if_keeps : (P : State → Type 0) → Guarded P → (x1 : Bool) → Preserves P (reset_if x1)
-reset_if_keeps P closed true = reset_cursor_keeps P closed
-reset_if_keeps P closed false = keeps_ret P unit
+reset_if_at : (P : State → Type 0) → Guarded P → (b : Bool) (s : State) → IsShut s → P s → Keeps P (reset_if b s)
+reset_if_at P closed true s shut h = keeps_first P IsShut (reset_cursor s) (reset_cursor_at P closed s shut h)
+reset_if_at P closed false s shut h = h
 
-pub end_tombstone_keeps : (P : State → Type 0) → Guarded P → (x1 : QueueEntry) → (x2 : Bool) → Preserves P (end_tombstone x1 x2)
-end_tombstone_keeps P closed e directory = keeps_then P (reset_if directory) (in_book (without_tombstone e.number)) (reset_if_keeps P closed directory) (skips_keep.in_book_keeps P closed (without_tombstone e.number) (λ b. refl) (λ b. refl) (λ s. cursor_stays (without_tombstone e.number) s (λ b. refl)))
+end_tombstone_at : (P : State → Type 0) → Guarded P → (e : QueueEntry) (directory : Bool) (s : State) → IsShut s → P s → Keeps P (end_tombstone e directory s)
+end_tombstone_at P closed e directory s shut h = keeps_bind P (reset_if directory s) (λ _ t. in_book (without_tombstone e.number) t) (reset_if_at P closed directory s shut h) (λ u t j. (skips_keep.in_book_keeps P closed (without_tombstone e.number) (λ b. refl) (λ b. refl) (λ b. refl)).keeps t j)
 
-pub done_removal_keeps : (P : State → Type 0) → Guarded P → (x1 : QueueEntry) → Preserves P (done_removal x1)
-done_removal_keeps P closed e = keeps_then P (take e) (reading (was_directory e) (end_tombstone e)) (take_keeps P closed e) (keeps_reading P (was_directory e) (end_tombstone e) (end_tombstone_keeps P closed e))
+done_removal_at : (P : State → Type 0) → Guarded P → (e : QueueEntry) (s : State) → P s → Keeps P (done_removal e s)
+done_removal_at P closed e s h = (one, end_tombstone_at P closed e (was_directory e taken) taken (row_open e (round_closed s.volatile)) two) where
+  taken : State
+  taken = with_volatile (taken_from_row e) (with_book (without_entry e.token) (with_done s))
+
+  one : P (with_done s)
+  one = closed.keeps_with_done s h
+
+  two : P taken
+  two = closed.keeps_volatile_taken_from_row e (with_book (without_entry e.token) (with_done s)) (closed.leaves e.token (with_done s) one)
 
 pub take_void_keeps : (P : State → Type 0) → Guarded P → (x1 : QueueEntry) → Preserves P (take_void x1)
 take_void_keeps P closed e = end_and_close_keeps P closed e
 
 pub drop_if_keeps : (P : State → Type 0) → Guarded P → (x1 : Bool) → (x2 : QueueEntry) → Preserves P (drop_if x1 x2)
-drop_if_keeps P closed true e = skips_keep.in_book_keeps P closed (without_tombstone e.number) (λ b. refl) (λ b. refl) (λ s. cursor_stays (without_tombstone e.number) s (λ b. refl))
+drop_if_keeps P closed true e = skips_keep.in_book_keeps P closed (without_tombstone e.number) (λ b. refl) (λ b. refl) (λ b. refl)
 drop_if_keeps P closed false e = keeps_ret P unit
 
-pub lost_place_keeps : (P : State → Type 0) → Guarded P → (x1 : QueueEntry) → Preserves P (lost_place x1)
-lost_place_keeps P closed e = keeps_then P (in_volatile (not_in_row e)) (then_do reset_cursor (drop_if (is_removal e) e)) (keeps_noted P (with_volatile (not_in_row e)) (closed.keeps_volatile_not_in_row e)) (keeps_then P reset_cursor (drop_if (is_removal e) e) (reset_cursor_keeps P closed) (drop_if_keeps P closed (is_removal e) e))
+lost_place_at : (P : State → Type 0) → Guarded P → (e : QueueEntry) (s : State) → IsShut s → P s → Keeps P (lost_place e s)
+lost_place_at P closed e s shut h =
+    keeps_into P (λ t. P t × IsShut t) (λ t k. k.0) (reset_cursor (with_volatile (not_in_row e) s)) (λ _ t. drop_if (is_removal e) e t) (reset_cursor_at P closed (with_volatile (not_in_row e) s) (row_open e s.volatile ∙ shut) (closed.keeps_volatile_not_in_row e s h))
+    (λ u t j. (drop_if_keeps P closed (is_removal e) e).keeps t j.0)
 
 move_away_at : (P : State → Type 0) → Guarded P → (e : QueueEntry) (s : State) → P s → Keeps P (reading (item_of_entry e) move_away s)
 move_away_at P closed e s h = by (item_of (items_now s) e.item) refl where
@@ -318,9 +383,9 @@ pub name_taken_by_keeps : (P : State → Type 0) → Guarded P → (x1 : QueueEn
 name_taken_by_keeps P closed e true = name_taken_again_keeps P closed e
 name_taken_by_keeps P closed e false = keeps_noted P (with_volatile (with_taken_name e.item)) (closed.keeps_volatile_with_taken_name e.item)
 
-pub not_empty_by_keeps : (P : State → Type 0) → Guarded P → (x1 : QueueEntry) → (x2 : Bool) → Preserves P (not_empty_by x1 x2)
-not_empty_by_keeps P closed e true = lost_place_keeps P closed e
-not_empty_by_keeps P closed e false = keeps_noted P (with_volatile (with_not_empty e.number)) (closed.keeps_volatile_with_not_empty e.number)
+not_empty_by_at : (P : State → Type 0) → Guarded P → (e : QueueEntry) (b : Bool) (s : State) → IsShut s → P s → Keeps P (not_empty_by e b s)
+not_empty_by_at P closed e true s shut h = lost_place_at P closed e s shut h
+not_empty_by_at P closed e false s shut h = closed.keeps_volatile_with_not_empty e.number s h
 
 pub nothing_further_keeps : (P : State → Type 0) → Guarded P → (x1 : QueueEntry) → Preserves P (nothing_further x1)
 nothing_further_keeps P closed e = keeps_noted P (with_volatile (not_in_row e)) (closed.keeps_volatile_not_in_row e)
@@ -329,28 +394,37 @@ pub name_taken_keeps : (P : State → Type 0) → Guarded P → (x1 : Bool) → 
 name_taken_keeps P closed true e = nothing_further_keeps P closed e
 name_taken_keeps P closed false e = keeps_reading P (was_name_taken e.item) (name_taken_by e) (name_taken_by_keeps P closed e)
 
-pub not_empty_keeps : (P : State → Type 0) → Guarded P → (x1 : Bool) → (x2 : QueueEntry) → Preserves P (not_empty x1 x2)
-not_empty_keeps P closed true e = keeps_reading P (was_not_empty e.number) (not_empty_by e) (not_empty_by_keeps P closed e)
-not_empty_keeps P closed false e = nothing_further_keeps P closed e
+not_empty_at : (P : State → Type 0) → Guarded P → (removal : Bool) (e : QueueEntry) (s : State) → IsShut s → P s → Keeps P (not_empty removal e s)
+not_empty_at P closed true e s shut h = not_empty_by_at P closed e (was_not_empty e.number s) s shut h
+not_empty_at P closed false e s shut h = (nothing_further_keeps P closed e).keeps s h
 
-pub by_why_keeps : (P : State → Type 0) → Guarded P → (x1 : Why) → (x2 : QueueEntry) → Preserves P (by_why x1 x2)
-by_why_keeps P closed why.Conflict e = lost_place_keeps P closed e
-by_why_keeps P closed why.NotThere e = lost_place_keeps P closed e
-by_why_keeps P closed why.NameTaken e = name_taken_keeps P closed (is_removal e) e
-by_why_keeps P closed why.NotEmpty e = not_empty_keeps P closed (is_removal e) e
-by_why_keeps P closed why.Quota e = keeps_then P (nothing_further e) (skip code.Quota) (nothing_further_keeps P closed e) (skips_keep.skip_keeps P closed code.Quota)
-by_why_keeps P closed why.Loop e = nothing_further_keeps P closed e
-by_why_keeps P closed why.BadName e = nothing_further_keeps P closed e
-by_why_keeps P closed why.TooDeep e = nothing_further_keeps P closed e
-by_why_keeps P closed why.TooLarge e = nothing_further_keeps P closed e
+by_why_at : (P : State → Type 0) → Guarded P → (w : Why) (e : QueueEntry) (s : State) → IsShut s → P s → Keeps P (by_why w e s)
+by_why_at P closed why.Conflict e s shut h = lost_place_at P closed e s shut h
+by_why_at P closed why.NotThere e s shut h = lost_place_at P closed e s shut h
+by_why_at P closed why.NameTaken e s shut h = (name_taken_keeps P closed (is_removal e) e).keeps s h
+by_why_at P closed why.NotEmpty e s shut h = not_empty_at P closed (is_removal e) e s shut h
+by_why_at P closed why.Quota e s shut h = (keeps_then P (nothing_further e) (skip code.Quota) (nothing_further_keeps P closed e) (skips_keep.skip_keeps P closed code.Quota)).keeps s h
+by_why_at P closed why.Loop e s shut h = (nothing_further_keeps P closed e).keeps s h
+by_why_at P closed why.BadName e s shut h = (nothing_further_keeps P closed e).keeps s h
+by_why_at P closed why.TooDeep e s shut h = (nothing_further_keeps P closed e).keeps s h
+by_why_at P closed why.TooLarge e s shut h = (nothing_further_keeps P closed e).keeps s h
 
 pub take_refused_keeps : (P : State → Type 0) → Guarded P → (x1 : QueueEntry) → (x2 : Why) → Preserves P (take_refused x1 x2)
-take_refused_keeps P closed e w = keeps_then P (end_entry e) (then_do (in_volatile (held_and_closed e)) (by_why w e)) (end_entry_keeps P closed e) (keeps_then P (in_volatile (held_and_closed e)) (by_why w e) (keeps_noted P (with_volatile (held_and_closed e)) (closed.keeps_volatile_held_and_closed e)) (by_why_keeps P closed w e))
+take_refused_keeps P closed e w = record {
+  keeps = λ s h. (h, by_why_at P closed w e (with_volatile (held_and_closed e) (with_book (without_entry e.token) s)) (back_open e (round_closed s.volatile)) (closed.keeps_volatile_held_and_closed e (with_book (without_entry e.token) s) (closed.leaves e.token s h)));
+}
 
-pub take_done_at : (P : State → Type 0) → Guarded P → (e : QueueEntry) (rid : Rid) (version : Version) (s : State) → (IsFair s.link → DoneIn s e rid version) → P s → Keeps P (take_done e rid version s)
-take_done_at P closed e rid version s done h = by e.action refl where
+pub take_done_at : (P : State → Type 0) → Guarded P → (e : QueueEntry) (rid : Rid) (version : Version) (s : State) → ((d : Entry) → d.rid ≡ rid → Heard true s d) → (IsFair s.link → DoneIn s e rid version) → P s → Keeps P (take_done e rid version s)
+take_done_at P closed e rid version s heard done h = by e.action refl where
+  moved : e.action ≡ MoveItem → IsFair s.link → IsMovedBy P e s
+  moved q fair =
+      let entry : Entry = record { rid = rid; parent = e.parent; name = e.name; dir = true; live = true; version = version; len = 0; changed = 0 } in
+      let sound : IsSound s.link s.volatile.tokens s.filter = (closed.on_filter s h).sound s.filter h fair in
+      let did : DidBy e.action s.link.remote.items e.rid rid = (all_found (IsAskedFor s.link.remote s.link.messages) (λ f. same_key f.token.0 e.token.0) (book_now s).entries e (done fair).0 sound.now.asked).0.did rid version (done fair).1 in
+      (entry, (s, h, heard entry refl, refl, refl), (subst (λ (a : Action). DidBy a s.link.remote.items e.rid rid) q did).0)
+
   by : (a : Action) → e.action ≡ a → Keeps P (done_by a e rid version s)
-  by PutFile q = upload_done_at P closed e rid version s (inl q) done h
-  by MakeDir q = upload_done_at P closed e rid version s (inr q) done h
-  by MoveItem q = done_move_at P closed e s q (λ fair. (done fair).0) h
-  by RemoveItem q = (done_removal_keeps P closed e).keeps s h
+  by PutFile q = upload_done_at P closed e rid version s (inl q) heard done h
+  by MakeDir q = upload_done_at P closed e rid version s (inr q) heard done h
+  by MoveItem q = done_move_at P closed e s q (λ fair. (done fair).0) (λ fair. moved q fair) h
+  by RemoveItem q = done_removal_at P closed e s h

@@ -49,7 +49,7 @@ use Rattle.cf_model_laws.proofs.Leading.{kept_leads, leads_bind, leads_kept}
 use Rattle.cf_model_laws.proofs.Plainly.{keeps_led}
 use Rattle.cf_model_laws.proofs.PushRepliesGuarded.{each_at}
 use Rattle.cf_model_laws.proofs.RightItems.{both_none, no_way, no_way_back}
-use Rattle.cf_model_laws.proofs.SkipsGuarded.{Led, Whichever, guarded_skipping, no_move, try_change_at, try_led, try_mark_now_at}
+use Rattle.cf_model_laws.proofs.SkipsGuarded.{Led, Unnamed, guarded_skipping, no_move, try_change_at, try_led, try_mark_now_at}
 use Rattle.cf_model_laws.proofs.SoundSettles.{each_found, found_below, neither, not_true, same_item, each_past}
 use Rattle.cf_model_laws.proofs.UploadsGuarded.{IsNewEntry, NewBy, push_at}
 use Rattle.cf_model_laws.proofs.MadeUploads.{IsAbout, aimed_under}
@@ -283,10 +283,10 @@ upload_new_at P closed entering i s there alone none h = by i.placeholder refl w
   by true e = upload_now_at P closed entering i.id (item_of (items_now s) i.id) s refl alone (λ j q. subst (λ (x : Item). x.placeholder ≡ true) (of j (sym there ∙ q)) e) h
   by false e =
       keeps_led P (λ done t. done ≡ true → Led (change.Convert i.id no_identity) s t) (try_change (change.Convert i.id no_identity) s) (λ done t. upload_if i.id done t)
-      (try_change_at Whichever P (guarded_skipping P closed) (change.Convert i.id no_identity) s tt (λ id k. k) (fits e) h) (try_led (change.Convert i.id no_identity) s) then_upload
+      (try_change_at Unnamed P (guarded_skipping P closed) (change.Convert i.id no_identity) s refl (λ id k. k) (fits e) h) (try_led (change.Convert i.id no_identity) s) then_upload
 
 mark_item_at : (P : State → Type 0) → Guarded P → (item : ItemId) (s : State) → (IsFair s.link → NoEntry (book_now s).entries item) → P s → Keeps P (mark_item item s)
-mark_item_at P closed item s alone h = keeps_bind P (try_mark_now item s) whatever (try_mark_now_at Whichever P (guarded_skipping P closed) item s (λ n. tt) (λ fair i e. no_move (book_now s).entries item (alone fair)) h) (λ b t j. j)
+mark_item_at P closed item s alone h = keeps_bind P (try_mark_now item s) whatever (try_mark_now_at Unnamed P (guarded_skipping P closed) item s (λ n. tt) (λ fair i e. no_move (book_now s).entries item (alone fair)) h) (λ b t j. j)
 
 push_by_case_at : (P : State → Type 0) → Guarded P → Entering P → (i : Item) (s : State) → item_of (items_now s) i.id ≡ Some i → (IsFair s.link → NoEntry (book_now s).entries i.id) → P s → Keeps P (push_by_case i s)
 push_by_case_at P closed entering i s there alone h = by (is_untargeted i) refl where

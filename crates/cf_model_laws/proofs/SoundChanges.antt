@@ -69,6 +69,27 @@ durable_later r ms n after next epoch tokens e t items es a k h = record {
 
 -- one more change
 
+-- nor does the cursor
+pub same_cursor : (c : Change) (b : Book) → (book_after c b).cursor ≡ b.cursor
+same_cursor (change.Make item parent name kind size identity) b = refl
+same_cursor (change.Remove item) b = refl
+same_cursor (change.Move item parent name) b = refl
+same_cursor (change.Write item at bytes) b = refl
+same_cursor (change.Size item size) b = refl
+same_cursor (change.Filled item start bytes) b = refl
+same_cursor (change.Validated item start len) b = refl
+same_cursor (change.Emptied item start len) b = refl
+same_cursor (change.SetPin item pin) b = refl
+same_cursor (change.Mark item number) b = refl
+same_cursor (change.Clear item) b = refl
+same_cursor (change.Convert item identity) b = refl
+same_cursor (change.Revert item) b = refl
+same_cursor (change.Rebase item identity len number) b = refl
+same_cursor (change.Take item identity size) b = refl
+same_cursor (change.Copy item from parent name) b = refl
+same_cursor (change.Populated item) b = refl
+same_cursor (change.Keep item on) b = refl
+
 pub same_entries : (c : Change) (b : Book) → (book_after c b).entries ≡ b.entries
 same_entries (change.Make item parent name kind size identity) b = refl
 same_entries (change.Remove item) b = refl

@@ -39,6 +39,7 @@ use Rattle.cf_model_laws.proofs.SettledAsks.{Boxes, Settled, settled}
 use Rattle.cf_model_laws.proofs.SoundBooks.{point_sound, points_sound}
 use Rattle.cf_model_laws.proofs.SoundChanges.{KeepsEntries, change_sound, sound_but}
 use Rattle.cf_model_laws.proofs.SoundSettles.{any_longer}
+use Rattle.cf_model_laws.specs.Taken.{Knowledge}
 
 -- the invariant of a filter, beside a premise on the rest
 abbrev pub FilterSound : Type 0 → Link → ℕ → Filter → Type 0
@@ -251,11 +252,11 @@ policy_sound l tokens x v e h = record {
   unvalidated = e;
 }
 
-pub filter_guarded : (M : Type 0) (l : Link) (tokens : ℕ) → GuardedFilter l tokens (FilterSound M l tokens)
+pub filter_guarded : (M : Type 0) {On : Knowledge} (l : Link) (tokens : ℕ) → GuardedFilter On l tokens (FilterSound M l tokens)
 filter_guarded M l tokens = record {
   sound = λ x h e. h.1 e;
-  change = λ f c x keeps seen free fit h. change_keeps M l tokens f c x keeps free (λ e. (fits_meets l.remote x c (fit e), fits_aims l.remote x c (fit e))) h;
-  touch = λ f c item d x quiet keeps seen on fit h. touch_keeps M l tokens f c item d x keeps on (λ e. (fits_meets l.remote x c (fit e), fits_aims l.remote x c (fit e))) h;
+  change = λ f c x keeps seen free fit known h. change_keeps M l tokens f c x keeps free (λ e. (fits_meets l.remote x c (fit e), fits_aims l.remote x c (fit e))) h;
+  touch = λ f c item d x quiet keeps seen on fit known h. touch_keeps M l tokens f c item d x keeps on (λ e. (fits_meets l.remote x c (fit e), fits_aims l.remote x c (fit e))) h;
   commits = record { keeps = λ x h. ((h.0, λ e. with_begun l tokens x (h.1 e)), (h.0, λ e. with_sure l tokens x (h.1 e))) };
   settled = λ item d x others h. settle_but M l tokens item d x h.0 (λ e. none_on item l tokens x (h.1 e));
   begins = λ n x fit unmet h. (begins_keep M l tokens n).keeps x h;

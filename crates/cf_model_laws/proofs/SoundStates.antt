@@ -31,6 +31,7 @@ use Rattle.cf_model_laws.proofs.RightItems.{no_way}
 use Rattle.cf_model_laws.proofs.SoundBooks.{book_sound, durable_entered, durable_fewer, tokens_sound}
 use Rattle.cf_model_laws.proofs.SoundFilters.{change_keeps, filter_guarded}
 use Rattle.cf_model_laws.proofs.SoundLinks.{CarriesBy, FrameCarries, ask_sound, post_sound}
+use Rattle.cf_model.specs.Messages.{with_message}
 
 -- a remote that became no larger than it may was no larger before
 pub small_before : (r : Held) (q : Request) → IsSmall (remote_step r q).1 → IsSmall r
@@ -143,6 +144,9 @@ left_state token s h = (
 more_tokens : (n : ℕ) → n ≤ n + 1
 more_tokens n = omega arith
 
+pub posted_sound : (f : Frame) (s : State) → (IsFair s.link → PostedIn s (Some f)) → Invariant s → Invariant (with_message f s)
+posted_sound f s well h = (h.0, λ fair. post_state (Some f) s (well fair) (h.1 fair))
+
 pub sound_guarded : Guarded Invariant
 sound_guarded = record {
   replay = λ s h. h.0;
@@ -150,14 +154,14 @@ sound_guarded = record {
   keeps_counted = λ s h. h;
   asked = λ q s well h. (h.0, λ fair. asked_state q s well h.1 fair);
   told = λ held s h. (h.0, λ fair. no_way fair.0);
-  posts = λ f s well h. (h.0, λ fair. post_state (Some f) s (well fair) (h.1 fair));
+  posts = λ f s well now h. posted_sound f s well h;
   loses = λ f s h. (h.0, λ fair. post_state None s (lost_well s) (h.1 fair));
-  books = λ f s keeps placed h. (
+  books = λ f s keeps placed known h. (
     h.0,
     λ fair. entries_state s (f s.filter.volume.book).entries
         (λ d. subst (λ (es : List QueueEntry). IsDurable s.link.remote s.link.messages s.filter.volume.epoch s.volatile.tokens (next_number s.filter.volume) s.filter.volume.next_item.0 s.filter.volume.items es) (sym (keeps s.filter.volume.book)) d) (h.1 fair),
   );
-  moved = λ e s is live h. volatile_state (with_book (without_entry e.token) s) (taken_from_row e s.volatile) (row_tokens e (round_closed s.volatile)) (left_state e.token s h);
+  moved = λ e s is live known h. volatile_state (with_book (without_entry e.token) s) (taken_from_row e s.volatile) (row_tokens e (round_closed s.volatile)) (left_state e.token s h);
   leaves = left_state;
   keeps_fault_line = λ m s h. h;
   keeps_showing = λ s h. h;

@@ -32,7 +32,7 @@ use Rattle.cf_model_laws.specs.GivenOnce.{WasGiven}
 use Rattle.cf_model_laws.specs.Invariant.{All, Carries, FitsBy, IsEntryOf, IsGivenIn, IsMessageRight, IsSound, Names, OfRequest, PutFits, is_put, put_bytes, Asks, NamesTarget}
 use Rattle.cf_model_laws.specs.Premises.{IsFair}
 use Rattle.cf_model_laws.proofs.Gathered.{all_any, all_append, all_weaker, each_weaker}
-use Rattle.cf_model_laws.proofs.Guarded.{EnteredIn, Entering, Guarded, MovesThere, PostedIn}
+use Rattle.cf_model_laws.proofs.Guarded.{EnteredIn, Entering, Guarded, MovesThere, PostedIn, PostedNow}
 use Rattle.cf_model_laws.proofs.MessagesGuarded.{anyhow, send_now_at}
 use Rattle.cf_model_laws.proofs.RightItems.{no_way, no_way_back}
 use Rattle.cf_model_laws.proofs.SoundLinks.{CarriesBy, FrameCarries}
@@ -238,6 +238,12 @@ all_taken : {A : Type 0} (xs : List A) → take (length xs) xs ≡ xs
 all_taken [] = refl
 all_taken (x ∷ xs) = ap (λ ys. x ∷ ys) (all_taken xs)
 
+upload_now : (a : Action) (s : State) (e : QueueEntry) (expect : Version) (bytes : List ℕ) → PostedNow (Sending e s) (Some (frame.Request (request_by a e expect bytes)))
+upload_now PutFile s e expect bytes = tt
+upload_now MakeDir s e expect bytes = tt
+upload_now MoveItem s e expect bytes = tt
+upload_now RemoveItem s e expect bytes = tt
+
 upload_posted : (s : State) (e : QueueEntry) (expect : Version) (bytes : List ℕ) → e.token ≡ next_token s → IsSound s.link s.volatile.tokens s.filter → IsNewEntry s e bytes → PostedIn (Sending e s) (Some (frame.Request (request_of e expect bytes)))
 upload_posted s e expect bytes token sound new =
     let now : All (FrameCarries s.link.remote (items_now s) (Some (frame.Request (request_of e expect bytes)))) (anchored e (with_entry e (book_now s))).entries =
@@ -258,13 +264,13 @@ push_at P closed entering e expect bytes s token new h = by (why_no_token s) whe
   stored = entering.enters e (with_volatile with_token s) (λ fair. (entered s e bytes token ((closed.on_filter s h).sound s.filter h fair) (new fair), (new fair).off)) drawn
 
   noted : P (with_book (anchored e) (with_book (with_entry e) (with_volatile with_token s)))
-  noted = closed.books (anchored e) (with_book (with_entry e) (with_volatile with_token s)) (anchored_entries e) (λ fair. leaves_early (anchored e) (with_book (with_entry e) (with_volatile with_token s)) (anchored_seen e) (cursor_stays (anchored e) (with_book (with_entry e) (with_volatile with_token s)) (anchored_cursor e))) stored
+  noted = closed.books (anchored e) (with_book (with_entry e) (with_volatile with_token s)) (anchored_entries e) (λ fair. leaves_early (anchored e) (with_book (with_entry e) (with_volatile with_token s)) (anchored_seen e) (cursor_stays (anchored e) (with_book (with_entry e) (with_volatile with_token s)) (anchored_cursor e))) (λ fair. inl (anchored_seen e, anchored_cursor e)) stored
 
   sent : Keeps P (send (request_of e expect bytes) (with_book (anchored e) (with_book (with_entry e) (with_volatile with_token s))))
   sent =
       let c = (closed.on_filter (with_book (anchored e) (with_book (with_entry e) (with_volatile with_token s))) noted).commits.keeps (with_book (anchored e) (with_book (with_entry e) (with_volatile with_token s))).filter noted in
       subst (λ (b : Bool). Keeps P (choose b (then_do (in_filter (in_volume commit)) (send_now (request_of e expect bytes))) (send_now (request_of e expect bytes)) (with_book (anchored e) (with_book (with_entry e) (with_volatile with_token s))))) (sym (upload_sends e.action e expect bytes))
-      (c.0, send_now_at P closed (request_of e expect bytes) (Sending e s) (λ fair. upload_posted s e expect bytes token ((closed.on_filter s h).sound s.filter h fair) (new fair)) c.1)
+      (c.0, send_now_at P closed (request_of e expect bytes) (Sending e s) (λ fair. upload_posted s e expect bytes token ((closed.on_filter s h).sound s.filter h fair) (new fair)) (λ fair. upload_now e.action s e expect bytes) c.1)
 
   two : (o : Option Code) → Keeps P (bind (bind (unless_done (in_book (with_entry e)) o (with_volatile with_token s)) left_out) (send_if e (request_of e expect bytes)))
   two None = (drawn, (stored, sent))

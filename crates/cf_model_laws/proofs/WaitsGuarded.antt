@@ -30,22 +30,23 @@ use Rattle.cf_model_laws.specs.Seats.{IsSeated, NeedsWell}
 use Rattle.cf_model_laws.proofs.FoundItems.{found_seated, found_there}
 use Rattle.cf_model_laws.proofs.Plainly.{checked_at}
 use Rattle.cf_model_laws.proofs.RightItems.{no_way}
+use Rattle.cf_model_laws.specs.Taken.{Knowledge}
 use Rattle.cf_model.proofs.ArrowLaws.{keeps_choose, keeps_each, keeps_noted, keeps_one, keeps_reading, keeps_ret, keeps_then}
 
-pub on_ok_keeps : {X : Type 0} → (l : Link) (tokens : ℕ) (P : Filter → Type 0) → GuardedFilter l tokens P → (x1 : (X → Arrow Filter Shown)) → ((z0_0 : X) → Preserves P (x1 z0_0)) → (x2 : Result X Code) → Preserves P (on_ok x1 x2)
+pub on_ok_keeps : {X : Type 0} → {On : Knowledge} (l : Link) (tokens : ℕ) (P : Filter → Type 0) → GuardedFilter On l tokens P → (x1 : (X → Arrow Filter Shown)) → ((z0_0 : X) → Preserves P (x1 z0_0)) → (x2 : Result X Code) → Preserves P (on_ok x1 x2)
 on_ok_keeps l tokens P closed f f_keeps (Ok x) = f_keeps x
 on_ok_keeps l tokens P closed f f_keeps (Err c) = keeps_ret P (shown.Refused c)
 
-pub on_path_keeps : (l : Link) (tokens : ℕ) (P : Filter → Type 0) → GuardedFilter l tokens P → (x1 : List ℕ) → (x2 : (Item → Arrow Filter Shown)) → ((z1_0 : Item) → Preserves P (x2 z1_0)) → Preserves P (on_path x1 x2)
+pub on_path_keeps : {On : Knowledge} (l : Link) (tokens : ℕ) (P : Filter → Type 0) → GuardedFilter On l tokens P → (x1 : List ℕ) → (x2 : (Item → Arrow Filter Shown)) → ((z1_0 : Item) → Preserves P (x2 z1_0)) → Preserves P (on_path x1 x2)
 on_path_keeps l tokens P closed path f f_keeps = keeps_reading P (at_path path) (on_ok f) (on_ok_keeps l tokens P closed f f_keeps)
 
-pub refused_keeps : (l : Link) (tokens : ℕ) (P : Filter → Type 0) → GuardedFilter l tokens P → (x1 : Code) → Preserves P (refused x1)
+pub refused_keeps : {On : Knowledge} (l : Link) (tokens : ℕ) (P : Filter → Type 0) → GuardedFilter On l tokens P → (x1 : Code) → Preserves P (refused x1)
 refused_keeps l tokens P closed c = keeps_ret P (shown.Refused c)
 
-pub but_directory_keeps : (l : Link) (tokens : ℕ) (P : Filter → Type 0) → GuardedFilter l tokens P → (x1 : (Item → Arrow Filter Shown)) → ((z0_0 : Item) → Preserves P (x1 z0_0)) → (x2 : Item) → Preserves P (but_directory x1 x2)
+pub but_directory_keeps : {On : Knowledge} (l : Link) (tokens : ℕ) (P : Filter → Type 0) → GuardedFilter On l tokens P → (x1 : (Item → Arrow Filter Shown)) → ((z0_0 : Item) → Preserves P (x1 z0_0)) → (x2 : Item) → Preserves P (but_directory x1 x2)
 but_directory_keeps l tokens P closed f f_keeps i = keeps_choose P i.directory (refused code.IsDirectory) (f i) (refused_keeps l tokens P closed code.IsDirectory) (f_keeps i)
 
-pub on_file_keeps : (l : Link) (tokens : ℕ) (P : Filter → Type 0) → GuardedFilter l tokens P → (x1 : List ℕ) → (x2 : (Item → Arrow Filter Shown)) → ((z1_0 : Item) → Preserves P (x2 z1_0)) → Preserves P (on_file x1 x2)
+pub on_file_keeps : {On : Knowledge} (l : Link) (tokens : ℕ) (P : Filter → Type 0) → GuardedFilter On l tokens P → (x1 : List ℕ) → (x2 : (Item → Arrow Filter Shown)) → ((z1_0 : Item) → Preserves P (x2 z1_0)) → Preserves P (on_file x1 x2)
 on_file_keeps l tokens P closed path f f_keeps = on_path_keeps l tokens P closed path (but_directory f) (but_directory_keeps l tokens P closed f f_keeps)
 
 -- a path leads to an item, which is known
@@ -56,30 +57,30 @@ on_path_at P path f k = record { keeps = λ x h. by x h (find_path x.volume.item
   by x h (Ok i) e = k i x e h
 
 -- and to a file that is here
-pub on_file_at : (l : Link) (tokens : ℕ) (P : Filter → Type 0) → GuardedFilter l tokens P → (path : List ℕ) (f : Item → Arrow Filter Shown)
+pub on_file_at : {On : Knowledge} (l : Link) (tokens : ℕ) (P : Filter → Type 0) → GuardedFilter On l tokens P → (path : List ℕ) (f : Item → Arrow Filter Shown)
     → ((i : Item) (x : Filter) → (IsFair l → (item_of x.volume.items i.id ≡ Some i) × (i.directory ≡ false)) → P x → Keeps P (f i x)) → Preserves P (on_file path f)
 on_file_at l tokens P closed path f k = on_path_at P path (but_directory f) (λ i x e h. by i x e h i.directory refl) where
   by : (i : Item) (x : Filter) → find_path x.volume.items path ≡ Ok i → P x → (b : Bool) → i.directory ≡ b → Keeps P (choose b (refused code.IsDirectory) (f i) x)
   by i x e h true q = h
   by i x e h false q = k i x (λ fair. (found_there path i x.volume.next_item.0 x.volume.items (closed.sound x h fair).now.order e q, q)) h
 
-pub on_open_keeps : (l : Link) (tokens : ℕ) (P : Filter → Type 0) → GuardedFilter l tokens P → (x1 : (ItemId → Arrow Filter Shown)) → ((z0_0 : ItemId) → Preserves P (x1 z0_0)) → (x2 : Option Open) → Preserves P (on_open x1 x2)
+pub on_open_keeps : {On : Knowledge} (l : Link) (tokens : ℕ) (P : Filter → Type 0) → GuardedFilter On l tokens P → (x1 : (ItemId → Arrow Filter Shown)) → ((z0_0 : ItemId) → Preserves P (x1 z0_0)) → (x2 : Option Open) → Preserves P (on_open x1 x2)
 on_open_keeps l tokens P closed f f_keeps None = refused_keeps l tokens P closed code.NoHandle
 on_open_keeps l tokens P closed f f_keeps (Some o) = f_keeps o.item
 
-pub on_handle_keeps : (l : Link) (tokens : ℕ) (P : Filter → Type 0) → GuardedFilter l tokens P → (x1 : Handle) → (x2 : (ItemId → Arrow Filter Shown)) → ((z1_0 : ItemId) → Preserves P (x2 z1_0)) → Preserves P (on_handle x1 x2)
+pub on_handle_keeps : {On : Knowledge} (l : Link) (tokens : ℕ) (P : Filter → Type 0) → GuardedFilter On l tokens P → (x1 : Handle) → (x2 : (ItemId → Arrow Filter Shown)) → ((z1_0 : ItemId) → Preserves P (x2 z1_0)) → Preserves P (on_handle x1 x2)
 on_handle_keeps l tokens P closed h f f_keeps = keeps_reading P (opened_by h) (on_open f) (on_open_keeps l tokens P closed f f_keeps)
 
-pub begin_at : (l : Link) (tokens : ℕ) (P : Filter → Type 0) → GuardedFilter l tokens P → (n : Need) (x : Filter) → (IsFair l → NeedsWell n x) → is_met_now n x ≡ false → P x → Keeps P (begin n x)
+pub begin_at : {On : Knowledge} (l : Link) (tokens : ℕ) (P : Filter → Type 0) → GuardedFilter On l tokens P → (n : Need) (x : Filter) → (IsFair l → NeedsWell n x) → is_met_now n x ≡ false → P x → Keeps P (begin n x)
 begin_at l tokens P closed n x fit unmet h = checked_at P (begin_tests n) (reading (begun n) (begin_now n)) x h (λ e. closed.begins n x fit unmet h)
 
-pub answer_with_keeps : (l : Link) (tokens : ℕ) (P : Filter → Type 0) → GuardedFilter l tokens P → (x1 : Need) → (x2 : Shown) → Preserves P (answer_with x1 x2)
+pub answer_with_keeps : {On : Knowledge} (l : Link) (tokens : ℕ) (P : Filter → Type 0) → GuardedFilter On l tokens P → (x1 : Need) → (x2 : Shown) → Preserves P (answer_with x1 x2)
 answer_with_keeps l tokens P closed n answer = keeps_then P (one (accessed_now n)) (ret answer) (keeps_one P (accessed_now n) (closed.keeps_accessed_now n)) (keeps_ret P answer)
 
-pub answer_now_keeps : (l : Link) (tokens : ℕ) (P : Filter → Type 0) → GuardedFilter l tokens P → (x1 : Need) → Preserves P (answer_now x1)
+pub answer_now_keeps : {On : Knowledge} (l : Link) (tokens : ℕ) (P : Filter → Type 0) → GuardedFilter On l tokens P → (x1 : Need) → Preserves P (answer_now x1)
 answer_now_keeps l tokens P closed n = keeps_reading P (end_now n) (answer_with n) (answer_with_keeps l tokens P closed n)
 
-pub need_at : (l : Link) (tokens : ℕ) (P : Filter → Type 0) → GuardedFilter l tokens P → (n : Need) (x : Filter) → (IsFair l → NeedsWell n x) → P x → Keeps P (need n x)
+pub need_at : {On : Knowledge} (l : Link) (tokens : ℕ) (P : Filter → Type 0) → GuardedFilter On l tokens P → (n : Need) (x : Filter) → (IsFair l → NeedsWell n x) → P x → Keeps P (need n x)
 need_at l tokens P closed n x fit h = by (is_met_now n x) refl where
   by : (b : Bool) → is_met_now n x ≡ b → Keeps P (answer_or_begin n b x)
   by true e = (answer_now_keeps l tokens P closed n).keeps x h
@@ -92,17 +93,17 @@ file_needs n i x item kind there = record {
   alone = λ z. kind;
 }
 
-pub read_keeps : (l : Link) (tokens : ℕ) (P : Filter → Type 0) → GuardedFilter l tokens P → (x1 : Handle) → (x2 : Span) → Preserves P (read x1 x2)
+pub read_keeps : {On : Knowledge} (l : Link) (tokens : ℕ) (P : Filter → Type 0) → GuardedFilter On l tokens P → (x1 : Handle) → (x2 : Span) → Preserves P (read x1 x2)
 read_keeps l tokens P closed h asked = record { keeps = λ x k. by x k (opened_by h x) refl } where
   by : (x : Filter) → P x → (o : Option Open) → opened_by h x ≡ o → Keeps P (on_open (read_item h asked) o x)
   by x k None e = k
   by x k (Some o) e = need_at l tokens P closed (read_need h asked o.item (wants_rest x)) x (λ fair. record { on = inr (refl, inl (h, o, e, refl)); alone = λ z. refl }) k
 
-pub get_keeps : (l : Link) (tokens : ℕ) (P : Filter → Type 0) → GuardedFilter l tokens P → (x1 : List ℕ) → (x2 : Span) → Preserves P (get x1 x2)
+pub get_keeps : {On : Knowledge} (l : Link) (tokens : ℕ) (P : Filter → Type 0) → GuardedFilter On l tokens P → (x1 : List ℕ) → (x2 : Span) → Preserves P (get x1 x2)
 get_keeps l tokens P closed path asked =
     on_file_at l tokens P closed path (get_item asked) (λ i x there h. need_at l tokens P closed (plain_need wait_kind.Read i.id asked) x (λ fair. file_needs (plain_need wait_kind.Read i.id asked) i x refl refl (there fair)) h)
 
-pub list_keeps : (l : Link) (tokens : ℕ) (P : Filter → Type 0) → GuardedFilter l tokens P → (x1 : List ℕ) → Preserves P (list x1)
+pub list_keeps : {On : Knowledge} (l : Link) (tokens : ℕ) (P : Filter → Type 0) → GuardedFilter On l tokens P → (x1 : List ℕ) → Preserves P (list x1)
 list_keeps l tokens P closed path = on_path_at P path list_item (λ i x e h. by i x e h i.directory refl) where
   by : (i : Item) (x : Filter) → find_path x.volume.items path ≡ Ok i → P x → (b : Bool) → i.directory ≡ b → Keeps P (choose b (need (plain_need wait_kind.List i.id no_span)) (refused code.NotDirectory) x)
   by i x e h true q =
@@ -110,43 +111,43 @@ list_keeps l tokens P closed path = on_path_at P path list_item (λ i x e h. by 
       (λ fair. record { on = inl (subst (IsSeated x.volume.items i.id) q (found_seated path i x.volume.next_item.0 x.volume.items (closed.sound x h fair).now.order e)); alone = λ z. no_way z }) h
   by i x e h false q = h
 
-pub hydrate_file_at : (l : Link) (tokens : ℕ) (P : Filter → Type 0) → GuardedFilter l tokens P → (i : Item) (x : Filter) → (IsFair l → (item_of x.volume.items i.id ≡ Some i) × (i.directory ≡ false)) → P x → Keeps P (hydrate_file i.id x)
+pub hydrate_file_at : {On : Knowledge} (l : Link) (tokens : ℕ) (P : Filter → Type 0) → GuardedFilter On l tokens P → (i : Item) (x : Filter) → (IsFair l → (item_of x.volume.items i.id ≡ Some i) × (i.directory ≡ false)) → P x → Keeps P (hydrate_file i.id x)
 hydrate_file_at l tokens P closed i x there h = need_at l tokens P closed (plain_need wait_kind.Hydrate i.id no_span) x (λ fair. file_needs (plain_need wait_kind.Hydrate i.id no_span) i x refl refl (there fair)) h
 
-hydrate_item_at : (l : Link) (tokens : ℕ) (P : Filter → Type 0) → GuardedFilter l tokens P → (i : Item) (b : Bool) (x : Filter) → (IsFair l → (item_of x.volume.items i.id ≡ Some i) × (i.directory ≡ false)) → P x
+hydrate_item_at : {On : Knowledge} (l : Link) (tokens : ℕ) (P : Filter → Type 0) → GuardedFilter On l tokens P → (i : Item) (b : Bool) (x : Filter) → (IsFair l → (item_of x.volume.items i.id ≡ Some i) × (i.directory ≡ false)) → P x
     → Keeps P (choose b (hydrate_file i.id) (refused code.NotPlaceholder) x)
 hydrate_item_at l tokens P closed i true x there h = hydrate_file_at l tokens P closed i x there h
 hydrate_item_at l tokens P closed i false x there h = h
 
-pub hydrate_keeps : (l : Link) (tokens : ℕ) (P : Filter → Type 0) → GuardedFilter l tokens P → (x1 : List ℕ) → Preserves P (hydrate x1)
+pub hydrate_keeps : {On : Knowledge} (l : Link) (tokens : ℕ) (P : Filter → Type 0) → GuardedFilter On l tokens P → (x1 : List ℕ) → Preserves P (hydrate x1)
 hydrate_keeps l tokens P closed path = on_file_at l tokens P closed path hydrate_item (λ i x there h. hydrate_item_at l tokens P closed i i.placeholder x there h)
 
-pub cancel_wait_keeps : (l : Link) (tokens : ℕ) (P : Filter → Type 0) → GuardedFilter l tokens P → (x1 : WaitId) → (x2 : Option Wait) → Preserves P (cancel_wait x1 x2)
+pub cancel_wait_keeps : {On : Knowledge} (l : Link) (tokens : ℕ) (P : Filter → Type 0) → GuardedFilter On l tokens P → (x1 : WaitId) → (x2 : Option Wait) → Preserves P (cancel_wait x1 x2)
 cancel_wait_keeps l tokens P closed id None = refused_keeps l tokens P closed code.NoWait
 cancel_wait_keeps l tokens P closed id (Some w) = keeps_then P (settle w.item (Cancels id)) done (settled_on l tokens P closed w.item (Cancels id) (λ x. tt)) (operations_keep.done_keeps l tokens P closed)
 
-pub cancel_keeps : (l : Link) (tokens : ℕ) (P : Filter → Type 0) → GuardedFilter l tokens P → (x1 : WaitId) → Preserves P (cancel x1)
+pub cancel_keeps : {On : Knowledge} (l : Link) (tokens : ℕ) (P : Filter → Type 0) → GuardedFilter On l tokens P → (x1 : WaitId) → Preserves P (cancel x1)
 cancel_keeps l tokens P closed id = keeps_reading P (waiting_by id) (cancel_wait id) (cancel_wait_keeps l tokens P closed id)
 
-pub end_handle_keeps : (l : Link) (tokens : ℕ) (P : Filter → Type 0) → GuardedFilter l tokens P → (x1 : Handle) → (x2 : ItemId) → (x3 : Bool) → Preserves P (end_handle x1 x2 x3)
+pub end_handle_keeps : {On : Knowledge} (l : Link) (tokens : ℕ) (P : Filter → Type 0) → GuardedFilter On l tokens P → (x1 : Handle) → (x2 : ItemId) → (x3 : Bool) → Preserves P (end_handle x1 x2 x3)
 end_handle_keeps l tokens P closed h item last = settled_on l tokens P closed item (Closes h last) (λ x. tt)
 
-pub close_item_keeps : (l : Link) (tokens : ℕ) (P : Filter → Type 0) → GuardedFilter l tokens P → (x1 : Handle) → (x2 : ItemId) → Preserves P (close_item x1 x2)
+pub close_item_keeps : {On : Knowledge} (l : Link) (tokens : ℕ) (P : Filter → Type 0) → GuardedFilter On l tokens P → (x1 : Handle) → (x2 : ItemId) → Preserves P (close_item x1 x2)
 close_item_keeps l tokens P closed h item = keeps_then P (noted (without_handle h)) (then_do (reading (is_last item) (end_handle h item)) done) (keeps_noted P (without_handle h) (closed.keeps_without_handle h)) (keeps_then P (reading (is_last item) (end_handle h item)) done (keeps_reading P (is_last item) (end_handle h item) (end_handle_keeps l tokens P closed h item)) (operations_keep.done_keeps l tokens P closed))
 
-pub close_keeps : (l : Link) (tokens : ℕ) (P : Filter → Type 0) → GuardedFilter l tokens P → (x1 : Handle) → Preserves P (close x1)
+pub close_keeps : {On : Knowledge} (l : Link) (tokens : ℕ) (P : Filter → Type 0) → GuardedFilter On l tokens P → (x1 : Handle) → Preserves P (close x1)
 close_keeps l tokens P closed h = on_handle_keeps l tokens P closed h (close_item h) (close_item_keeps l tokens P closed h)
 
-pub expire_live_keeps : (l : Link) (tokens : ℕ) (P : Filter → Type 0) → GuardedFilter l tokens P → (x1 : Key) → (x2 : Option Live) → Preserves P (expire_live x1 x2)
+pub expire_live_keeps : {On : Knowledge} (l : Link) (tokens : ℕ) (P : Filter → Type 0) → GuardedFilter On l tokens P → (x1 : Key) → (x2 : Option Live) → Preserves P (expire_live x1 x2)
 expire_live_keeps l tokens P closed key None = keeps_ret P (record {})
 expire_live_keeps l tokens P closed key (Some a) = settled_on l tokens P closed a.ask.item (Expires key) (λ x. tt)
 
-pub expire_keeps : (l : Link) (tokens : ℕ) (P : Filter → Type 0) → GuardedFilter l tokens P → (x1 : Key) → Preserves P (expire x1)
+pub expire_keeps : {On : Knowledge} (l : Link) (tokens : ℕ) (P : Filter → Type 0) → GuardedFilter On l tokens P → (x1 : Key) → Preserves P (expire x1)
 expire_keeps l tokens P closed key = keeps_reading P (still_live key) (expire_live key) (expire_live_keeps l tokens P closed key)
 
-pub tick_keeps : (l : Link) (tokens : ℕ) (P : Filter → Type 0) → GuardedFilter l tokens P → (x1 : ℕ) → Preserves P (tick x1)
+pub tick_keeps : {On : Knowledge} (l : Link) (tokens : ℕ) (P : Filter → Type 0) → GuardedFilter On l tokens P → (x1 : ℕ) → Preserves P (tick x1)
 tick_keeps l tokens P closed n = keeps_then P (noted (with_time n)) (then_do (reading expired_keys (each expire)) done) (keeps_noted P (with_time n) (closed.keeps_with_time n)) (keeps_then P (reading expired_keys (each expire)) done (keeps_reading P expired_keys (each expire) (λ z1. keeps_each P expire z1 (expire_keeps l tokens P closed))) (operations_keep.done_keeps l tokens P closed))
 
-pub connect_keeps : (l : Link) (tokens : ℕ) (P : Filter → Type 0) → GuardedFilter l tokens P → (x1 : Bool) → Preserves P (connect x1)
+pub connect_keeps : {On : Knowledge} (l : Link) (tokens : ℕ) (P : Filter → Type 0) → GuardedFilter On l tokens P → (x1 : Bool) → Preserves P (connect x1)
 connect_keeps l tokens P closed true = keeps_then P (noted connected_again) done (keeps_noted P connected_again (closed.keeps_connected_again)) (operations_keep.done_keeps l tokens P closed)
 connect_keeps l tokens P closed false = keeps_then P (noted disconnected) (then_do (reading all_down tell) done) (keeps_noted P disconnected (closed.keeps_disconnected)) (keeps_then P (reading all_down tell) done closed.downs (operations_keep.done_keeps l tokens P closed))

@@ -10,5 +10,6 @@ pub mod Marks
 pub mod Openings
 pub mod Premises
 pub mod Seats
+pub mod Taken
 pub mod Contents
 pub mod Uses

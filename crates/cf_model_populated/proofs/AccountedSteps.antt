@@ -20,11 +20,11 @@ use Rattle.cf_model.specs.Soundness.{Each}
 use Rattle.cf_model.specs.State.{State, book_now, items_now}
 use Rattle.cf_model.specs.Store.{Held, Stored, entry_told, remote_step, stored_at}
 use Rattle.cf_model.specs.Words.{put_in}
-use Rattle.cf_model_laws.specs.Invariant.{All}
+use Rattle.cf_model_laws.specs.Invariant.{All, Among}
 use Rattle.cf_model_laws.proofs.Gathered.{all_both, all_found, all_weaker}
 use Rattle.cf_model_laws.proofs.RightItems.{no_way_back}
 use Rattle.cf_model_laws.proofs.SoundSettles.{right_true}
-use Rattle.cf_model_convergence.specs.Feeds.{Among, IsLateOrSame}
+use Rattle.cf_model_convergence.specs.Feeds.{IsLateOrSame}
 use Rattle.cf_model_convergence.specs.Passed.{TellsBetween}
 use Rattle.cf_model_convergence.specs.Tidy.{IsLower, IsTidy, IsTidyItem}
 use Rattle.cf_model_convergence.proofs.FedKnown.{early_or_late}

@@ -28,8 +28,10 @@ use Rattle.cf_model.proofs.TreeLaws.{keeps_bind}
 use Rattle.cf_model_laws.proofs.EventsGuarded.{Unruled}
 use Rattle.cf_model_laws.proofs.Guarded.{Guarded, GuardedFilter}
 use Rattle.cf_model_laws.proofs.Leading.{kept_leads}
+use Rattle.cf_model_laws.proofs.SinceKept.{moved_weaker, on_filter_weaker, record_weaker}
 use Rattle.cf_model_laws.proofs.SkipsGuarded.{keeps_both}
 use Rattle.cf_model_laws.proofs.SoundFilters.{change_leads}
+use Rattle.cf_model_laws.specs.Taken.{Knowledge}
 
 module _ (Q : Policy → Type 0) where
   abbrev Ruled : Filter → Type 0
@@ -51,11 +53,11 @@ module _ (Q : Policy → Type 0) where
   tell_ruled : (r : Told × Waiting) (x : Filter) → Ruled x → Keeps Ruled (tell r x)
   tell_ruled r x h = (keeps_then Ruled (each end_wait r.0.ended) (noted (with_asks_told r.0)) (keeps_each Ruled end_wait r.0.ended (λ e. keeps_one Ruled (with_ended e) (λ y j. ended_ruled e y j))) (record { keeps = λ y j. j })).keeps (with_waiting r.1 x) h
 
-  filter_ruled : (l : Link) (tokens : ℕ) (P : Filter → Type 0) → GuardedFilter l tokens P → GuardedFilter l tokens (λ x. P x × Ruled x)
+  filter_ruled : {On : Knowledge} (l : Link) (tokens : ℕ) (P : Filter → Type 0) → GuardedFilter On l tokens P → GuardedFilter On l tokens (λ x. P x × Ruled x)
   filter_ruled l tokens P closed = record {
     sound = λ x h fair. closed.sound x h.0 fair;
-    change = λ f c x keeps seen free fit h. keeps_both P Ruled (change_with f c x) (closed.change f c x keeps seen free fit h.0) (change_ruled f c x h.1);
-    touch = λ f c item d x quiet keeps seen on fit h. keeps_both P Ruled (then_do (change_with f c) (then_do (settle item d) done) x) (closed.touch f c item d x quiet keeps seen on fit h.0)
+    change = λ f c x keeps seen free fit known h. keeps_both P Ruled (change_with f c x) (closed.change f c x keeps seen free fit known h.0) (change_ruled f c x h.1);
+    touch = λ f c item d x quiet keeps seen on fit known h. keeps_both P Ruled (then_do (change_with f c) (then_do (settle item d) done) x) (closed.touch f c item d x quiet keeps seen on fit known h.0)
         (keeps_bind Ruled (change_with f c x) (λ _ t. then_do (settle item d) done t) (change_ruled f c x h.1) (λ a t j. keeps_bind Ruled (settle item d t) (λ _ y. done y) (tell_ruled (told_at item d t) t j) (λ b y m. m)));
     commits = record { keeps = λ x h. keeps_both P Ruled (in_volume commit x) (closed.commits.keeps x h.0) (h.1, h.1) };
     settled = λ item d x others h. keeps_both P Ruled (settle item d x) (closed.settled item d x others h.0) (tell_ruled (told_at item d x) x h.1);
@@ -83,14 +85,14 @@ module _ (Q : Policy → Type 0) where
   guarded_ruled : (P : State → Type 0) → Guarded P → Guarded (λ s. P s × RuledIn s)
   guarded_ruled P closed = record {
     replay = λ s h. closed.replay s h.0;
-    on_filter = λ s h. filter_ruled s.link s.volatile.tokens (λ x. P (with_filter x s)) (closed.on_filter s h.0);
+    on_filter = λ s h. filter_ruled s.link s.volatile.tokens (λ x. P (with_filter x s)) (on_filter_weaker P (λ t. P t × RuledIn t) (λ t k. k.0) s.link s.volatile.tokens _ (closed.on_filter s h.0));
     keeps_counted = λ s h. (closed.keeps_counted s h.0, h.1);
     asked = λ q s well h. (closed.asked q s well h.0, h.1);
     told = λ held s h. (closed.told held s h.0, h.1);
-    posts = λ f s well h. (closed.posts f s well h.0, h.1);
+    posts = λ f s well now h. (closed.posts f s well now h.0, h.1);
     loses = λ f s h. (closed.loses f s h.0, h.1);
-    books = λ f s keeps placed h. (closed.books f s keeps placed h.0, h.1);
-    moved = λ e s is live h. (closed.moved e s is live h.0, h.1);
+    books = λ f s keeps placed known h. (closed.books f s keeps placed (λ fair. record_weaker P (λ t. P t × RuledIn t) (λ t k. k.0) f s (known fair)) h.0, h.1);
+    moved = λ e s is live known h. (closed.moved e s is live (λ fair. moved_weaker P (λ t. P t × RuledIn t) (λ t k. k.0) e s (known fair)) h.0, h.1);
     leaves = λ token s h. (closed.leaves token s h.0, h.1);
     keeps_fault_line = λ m s h. (closed.keeps_fault_line m s h.0, h.1);
     keeps_showing = λ s h. (closed.keeps_showing s h.0, h.1);

@@ -12,8 +12,7 @@ use Rattle.cf_model.specs.Items.{Item}
 use Rattle.cf_model.specs.Numbers.{same_usn}
 use Rattle.cf_model.specs.Soundness.{Each}
 use Rattle.cf_model.specs.Store.{Held, Stored, stored_at}
-use Rattle.cf_model_laws.specs.Invariant.{All}
-use Rattle.cf_model_convergence.specs.Feeds.{Among}
+use Rattle.cf_model_laws.specs.Invariant.{All, Among}
 use Rattle.cf_model_convergence.specs.Lasting.{Fact}
 use Rattle.cf_model_convergence.specs.Tidy.{IsLower}
 

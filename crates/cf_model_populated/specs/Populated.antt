@@ -4,8 +4,7 @@ use Rattle.cf_model.specs.Items.{Item}
 use Rattle.cf_model.specs.Identities.{has_target}
 use Rattle.cf_model.specs.Requests.{is_dehydrate_wait, is_list}
 use Rattle.cf_model.specs.State.{State, book_now, items_now}
-use Rattle.cf_model_laws.specs.Invariant.{All}
-use Rattle.cf_model_convergence.specs.Feeds.{Among}
+use Rattle.cf_model_laws.specs.Invariant.{All, Among}
 use Rattle.cf_model_convergence.specs.Lasting.{Fact}
 use Rattle.cf_model_convergence.specs.Tidy.{IsLower}
 use Rattle.cf_model_convergence.specs.Trees.{NoneLists}

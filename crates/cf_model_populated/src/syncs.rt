@@ -15,24 +15,23 @@ ghost use Rattle.cf_model.specs.State.{State, start};
 ghost use Rattle.cf_model.specs.Store.{Held};
 ghost use Rattle.cf_model_laws.specs.Keys.{AreKeysWithin};
 ghost use Rattle.cf_model_laws.specs.Premises.{IsFair, IsFresh};
-ghost use Rattle.cf_model_convergence.specs.Agreeing.{IsKeptUp};
 ghost use Rattle.cf_model_convergence.specs.Hearing.{is_heard};
 ghost use Rattle.cf_model_convergence.specs.Quiet.{is_accepted, is_always_populated, is_count};
 ghost use Rattle.cf_model_convergence.specs.Tidy.{IsTidy};
 ghost use Rattle.cf_model_populated.specs.Populated.{ArePassedHere, NoneDehydrates};
 
 /// In a run in which no policy of FULL population was accepted, a silent `sync` leaves a settled state, as it does elsewhere: no list
-/// call can wait there, and each directory is populated. What is left to ask of the state before is that no dehydration waits, and that
-/// what the cursor has passed is known; and is here, for the state to be settled as a whole.
+/// call can wait there, and each directory is populated. What is left to ask of the state before is that no dehydration waits; and, for
+/// the state to be settled as a whole, that what the cursor has passed is here.
 #[tactic(auto, using(crate::proofs::PopulatedSyncs::sync_settles, crate::proofs::PopulatedSyncs::sync_settles_all))]
 pub fn a_silent_sync_settles_what_is_populated()
-    ensures local { (remote : Held) (clusters : ℕ) (trace : List (Event × Answer)) (s : State) (a : Answer) (t : State) → Runs mode.Replay (start mode.Replay remote clusters) trace s → IsFresh remote → IsTidy remote → is_always_populated trace ≡ true → s.link.inline ≡ true → AreKeysWithin s.filter → NoneDehydrates s → IsKeptUp s → IsStep mode.Replay s (event.Engine engine.Sync) a t → IsFair t.link → is_count a.shown ≡ true → list_any is_heard a.notes ≡ false → no_number t ≡ false → (is_settled false t ≡ true) × (a.shown ≡ shown.Count 0) × IsKeptUp t }
-    ensures whole { (remote : Held) (clusters : ℕ) (trace : List (Event × Answer)) (s : State) (a : Answer) (t : State) → Runs mode.Replay (start mode.Replay remote clusters) trace s → IsFresh remote → IsTidy remote → is_always_populated trace ≡ true → s.link.inline ≡ true → AreKeysWithin s.filter → NoneDehydrates s → IsKeptUp s → ArePassedHere s → IsStep mode.Replay s (event.Engine engine.Sync) a t → IsFair t.link → is_count a.shown ≡ true → list_any is_heard a.notes ≡ false → no_number t ≡ false → (is_settled true t ≡ true) × ArePassedHere t }
+    ensures local { (remote : Held) (clusters : ℕ) (trace : List (Event × Answer)) (s : State) (a : Answer) (t : State) → Runs mode.Replay (start mode.Replay remote clusters) trace s → IsFresh remote → IsTidy remote → is_always_populated trace ≡ true → s.link.inline ≡ true → AreKeysWithin s.filter → NoneDehydrates s → IsStep mode.Replay s (event.Engine engine.Sync) a t → IsFair t.link → is_count a.shown ≡ true → list_any is_heard a.notes ≡ false → no_number t ≡ false → (is_settled false t ≡ true) × (a.shown ≡ shown.Count 0) }
+    ensures whole { (remote : Held) (clusters : ℕ) (trace : List (Event × Answer)) (s : State) (a : Answer) (t : State) → Runs mode.Replay (start mode.Replay remote clusters) trace s → IsFresh remote → IsTidy remote → is_always_populated trace ≡ true → s.link.inline ≡ true → AreKeysWithin s.filter → NoneDehydrates s → ArePassedHere s → IsStep mode.Replay s (event.Engine engine.Sync) a t → IsFair t.link → is_count a.shown ≡ true → list_any is_heard a.notes ≡ false → no_number t ≡ false → (is_settled true t ≡ true) × ArePassedHere t }
 {}
 
 /// So does a silent `work` event.
 #[tactic(auto, using(crate::proofs::PopulatedSyncs::work_settles, crate::proofs::PopulatedSyncs::work_settles_all))]
 pub fn a_silent_work_settles_what_is_populated()
-    ensures local { (remote : Held) (clusters : ℕ) (trace : List (Event × Answer)) (s : State) (a : Answer) (t : State) → Runs mode.Replay (start mode.Replay remote clusters) trace s → IsFresh remote → IsTidy remote → is_always_populated trace ≡ true → s.link.inline ≡ true → AreKeysWithin s.filter → NoneDehydrates s → IsKeptUp s → IsStep mode.Replay s (event.Engine engine.Work) a t → IsFair t.link → is_accepted a.shown ≡ true → list_any is_heard a.notes ≡ false → no_number t ≡ false → (is_settled false t ≡ true) × IsKeptUp t }
-    ensures whole { (remote : Held) (clusters : ℕ) (trace : List (Event × Answer)) (s : State) (a : Answer) (t : State) → Runs mode.Replay (start mode.Replay remote clusters) trace s → IsFresh remote → IsTidy remote → is_always_populated trace ≡ true → s.link.inline ≡ true → AreKeysWithin s.filter → NoneDehydrates s → IsKeptUp s → ArePassedHere s → IsStep mode.Replay s (event.Engine engine.Work) a t → IsFair t.link → is_accepted a.shown ≡ true → list_any is_heard a.notes ≡ false → no_number t ≡ false → (is_settled true t ≡ true) × ArePassedHere t }
+    ensures local { (remote : Held) (clusters : ℕ) (trace : List (Event × Answer)) (s : State) (a : Answer) (t : State) → Runs mode.Replay (start mode.Replay remote clusters) trace s → IsFresh remote → IsTidy remote → is_always_populated trace ≡ true → s.link.inline ≡ true → AreKeysWithin s.filter → NoneDehydrates s → IsStep mode.Replay s (event.Engine engine.Work) a t → IsFair t.link → is_accepted a.shown ≡ true → list_any is_heard a.notes ≡ false → no_number t ≡ false → is_settled false t ≡ true }
+    ensures whole { (remote : Held) (clusters : ℕ) (trace : List (Event × Answer)) (s : State) (a : Answer) (t : State) → Runs mode.Replay (start mode.Replay remote clusters) trace s → IsFresh remote → IsTidy remote → is_always_populated trace ≡ true → s.link.inline ≡ true → AreKeysWithin s.filter → NoneDehydrates s → ArePassedHere s → IsStep mode.Replay s (event.Engine engine.Work) a t → IsFair t.link → is_accepted a.shown ≡ true → list_any is_heard a.notes ≡ false → no_number t ≡ false → (is_settled true t ≡ true) × ArePassedHere t }
 {}

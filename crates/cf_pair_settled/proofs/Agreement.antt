@@ -2,9 +2,8 @@
 use Rattle.std.proofs.Common.{◌≡◌, inl, inr, ℕ, ◌≤◌, Bool, true, false, cond, List, [], ◌∷◌, refl, sym, ap, ◌∙◌, subst, arith}
 use Rattle.std.specs.Prelude.{Option, Some, None, bytes_eq, sum_by}
 use Rattle.std.proofs.lemmas.List.Sums.{sum_by-cons}
-use Rattle.cf_model_laws.specs.Invariant.{All}
+use Rattle.cf_model_laws.specs.Invariant.{All, Among}
 use Rattle.cf_model_laws.proofs.Gathered.{all_any, all_found}
-use Rattle.cf_model_convergence.specs.Feeds.{Among}
 use Rattle.cf_model_convergence.proofs.FedKnown.{find_among}
 use Rattle.cf_model_convergence.proofs.FeedsTold.{all_among}
 use Rattle.cf_pair_compare.specs.First.{Agree, AgreeAt, AreAlike, row_at}

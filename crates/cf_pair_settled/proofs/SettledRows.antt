@@ -10,11 +10,10 @@ use Rattle.cf_model.specs.Overlay.{over}
 use Rattle.cf_model.specs.Settled.{local_names, remote_names}
 use Rattle.cf_model.specs.State.{State, items_now}
 use Rattle.cf_model.specs.Store.{Held, Stored, stored_at, version_bytes}
-use Rattle.cf_model_laws.specs.Invariant.{All}
+use Rattle.cf_model_laws.specs.Invariant.{All, Among}
 use Rattle.cf_model_laws.proofs.Gathered.{all_map, all_passed}
 use Rattle.cf_model_laws.proofs.RightItems.{no_way}
 use Rattle.cf_model_convergence.specs.Alike.{IsLikeTarget}
-use Rattle.cf_model_convergence.specs.Feeds.{Among}
 use Rattle.cf_model_convergence.specs.Matching.{IsBelow}
 use Rattle.cf_model_convergence.proofs.FedKnown.{find_among}
 use Rattle.cf_model_convergence.proofs.FeedsTold.{among_filter, among_map}

@@ -16,12 +16,11 @@ use Rattle.cf_model.specs.State.{State, book_now, items_now}
 use Rattle.cf_model.specs.Store.{Stored, latest, stored_at}
 use Rattle.cf_model.specs.Words.{in_bytes, is_empty, number_of, same, says}
 use Rattle.std.specs.Bool.{beq}
-use Rattle.cf_model_laws.specs.Invariant.{All}
+use Rattle.cf_model_laws.specs.Invariant.{All, Among}
 use Rattle.cf_model_laws.proofs.Gathered.{all_found}
 use Rattle.cf_model_laws.proofs.RightItems.{no_way}
 use Rattle.cf_model_laws.proofs.SoundSettles.{left_true, right_true}
 use Rattle.cf_model_convergence.specs.Alike.{IsLikeTarget}
-use Rattle.cf_model_convergence.specs.Feeds.{Among}
 use Rattle.cf_model_convergence.specs.Matching.{IsBelow}
 use Rattle.cf_model_convergence.proofs.FeedsTold.{all_among}
 use Rattle.cf_model_convergence.proofs.KnownByTests.{neither, second}

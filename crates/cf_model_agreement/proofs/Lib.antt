@@ -1,0 +1,17 @@
+pub mod CursorsRaised
+pub mod EntriesHeard
+pub mod FeedsDone
+pub mod FeedsRight
+pub mod FiltersTrue
+pub mod KnownFacts
+pub mod KnownGuarded
+pub mod KnownSteps
+pub mod KnownSyncs
+pub mod MessagesTrue
+pub mod PlainEntries
+pub mod RecordedLate
+pub mod RunsTrue
+pub mod TruthGuarded
+pub mod TurnSteps
+pub mod TurnsDone
+pub mod TurnsFramed

@@ -1,0 +1,3 @@
+pub mod Messages
+pub mod Turned
+pub mod Known
