@@ -18,6 +18,7 @@ use Rattle.cf_model.specs.Powers.{RunsOver}
 use Rattle.cf_model.specs.State.{State, start}
 use Rattle.cf_model.specs.Store.{Held}
 use Rattle.cf_model_headline.proofs.HeadlineLaws.{headline, promised}
+use Rattle.cf_model_settling.proofs.Settled.{each_settles}
 use Rattle.cf_remote.specs.Told.{Told}
 use Rattle.cf_volume_points.specs.Standing.{clusters_on}
 use Rattle.cf_io.specs.Moves.{Adds, AddsFront}
@@ -36,7 +37,7 @@ use Rattle.cf_filter_events.specs.Pasts.{StandsFor}
 
 -- what a run of `replay` leaves of the remote, where the last state's link has what that reports
 pub replay_leaves : {R : Type 0} (told : R → Told) (held : Held) (clusters : ℕ) (trace : List (Event × Answer)) (s : State) (left : R) → IsRemote (told left) s.link → Runs Replay (start Replay held clusters) trace s → LeavesRemote told Replay held clusters trace s left
-replay_leaves told held clusters trace s left holds runs = record { holds = holds; headline = λ premises. headline held clusters trace s premises runs }
+replay_leaves told held clusters trace s left holds runs = record { holds = holds; headline = λ premises. headline held clusters trace s premises runs; settles = λ premises tidy. each_settles held clusters trace s runs premises.fresh tidy premises.fair }
 
 -- what is left of a script says as much of another trace
 module _ (P Q : List (Event × Answer) → List ℕ → Type 0) (F G : List (Event × Answer) → Type 0) (K L X Y : Type 0) (m : Mode) (text : List ℕ) (old new : Option (List ℕ)) (said : (trace : List (Event × Answer)) (last : List ℕ) → P trace last → Q trace last) (led : (trace : List (Event × Answer)) → F trace → G trace) (kept : K → L) (failed : X → Y) where

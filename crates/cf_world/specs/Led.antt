@@ -22,8 +22,11 @@ use Rattle.cf_model.specs.Lawful.{Lawful}
 use Rattle.cf_model.specs.Powers.{RunsOver, StandsNow}
 use Rattle.cf_model.specs.State.{State, start}
 use Rattle.cf_model.specs.Store.{Held}
+use Rattle.cf_model_convergence.specs.Tidy.{IsTidy}
 use Rattle.cf_model_headline.specs.Headline.{Headline, Premises, Promises}
+use Rattle.cf_model_headline.specs.Reports.{OfEach}
 use Rattle.cf_model_laws.specs.Premises.{IsFresh}
+use Rattle.cf_model_settling.specs.Settling.{SettlesIfSilent}
 use Rattle.cf_remote.specs.Peers.{IsCount, IsHeld}
 use Rattle.cf_remote.specs.Told.{Told}
 use Rattle.cf_volume_points.specs.Standing.{clusters_on}
@@ -72,6 +75,8 @@ pub record RemoteLeft {R : Type 0} (told : R → Told) (held : Held) (clusters :
   pub holds : IsRemote (told remote) left.link
   -- what a user may rely on, over a remote that kept its rules
   pub headline : Premises held left → Headline held clusters trace left
+  -- and that both sides agree after each silent `sync` and `work`, where its items were a tree with names when it was handed in
+  pub settles : Premises held left → IsTidy held → OfEach Replay held clusters trace left (λ before s e a t. SettlesIfSilent before s e a t)
 
 abbrev pub LeavesRemote : {R : Type 0} → (R → Told) → Mode → Held → ℕ → List (Event × Answer) → State → R → Type 0
 LeavesRemote told Replay held clusters trace left remote = RemoteLeft told held clusters trace left remote

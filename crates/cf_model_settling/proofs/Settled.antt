@@ -1,0 +1,54 @@
+-- After each silent `sync` and `work` of a report both sides agree.
+use Rattle.std.proofs.Common.{◌≡◌, ◌∷◌, ℕ, false, inl, inr, [], refl, subst, true}
+use Rattle.cf_base.specs.declared.answers.Answer.{Answer}
+use Rattle.cf_base.specs.declared.answers.Shown.TheVariants as shown
+use Rattle.cf_base.specs.declared.events.EngineEvent.TheVariants as engine
+use Rattle.cf_base.specs.declared.events.Event.{Event}
+use Rattle.cf_base.specs.declared.events.Event.TheVariants as event
+use Rattle.cf_base.specs.declared.policies.Mode.TheVariants as mode
+use Rattle.cf_model.specs.Lawful.{IsStep, Runs}
+use Rattle.cf_model.specs.Requests.{is_dehydrate_wait, is_list_wait}
+use Rattle.cf_model.specs.Settled.{is_settled}
+use Rattle.cf_model.specs.State.{State, start}
+use Rattle.cf_model.specs.Store.{Held}
+use Rattle.cf_model_agreement.proofs.KnownSyncs.{sync_silent, work_silent}
+use Rattle.cf_model_convergence.specs.Hearing.{ArePlainWaits}
+use Rattle.cf_model_convergence.specs.Quiet.{is_accepted, is_count}
+use Rattle.cf_model_convergence.specs.Tidy.{IsTidy}
+use Rattle.cf_model_convergence.specs.Trees.{NoneLists}
+use Rattle.cf_model_convergence.proofs.FairBefore.{step_fair}
+use Rattle.cf_model_headline.specs.Reports.{OfEach, Report}
+use Rattle.cf_model_laws.specs.Invariant.{Invariant}
+use Rattle.cf_model_laws.specs.Premises.{IsFair, IsFresh}
+use Rattle.cf_model_laws.proofs.ContentLaws.{run_sound, sound_whole}
+use Rattle.cf_model_laws.proofs.EventsGuarded.{runs_keep}
+use Rattle.cf_model_laws.proofs.FairBefore.{fair_before}
+use Rattle.cf_model_laws.proofs.Gathered.{all_both}
+use Rattle.cf_model_populated.proofs.PopulatedRuns.{none_listed}
+use Rattle.cf_model_settling.specs.Settling.{IsReady, IsSilent, SettlesIfSilent}
+
+module _ (remote : Held) (clusters : ℕ) (fresh : IsFresh remote) (tidy : IsTidy remote) (before : Report) (s : State) (a : Answer) (t : State) (runs : Runs mode.Replay (start mode.Replay remote clusters) before s) where
+  plain : IsFair s.link → IsReady before s t → ArePlainWaits s
+  plain fair ready =
+      let none : NoneLists s = elim ready.lists [ inl always ↦ (none_listed remote clusters before s runs fresh fair always).0 | inr h ↦ h ] in
+      all_both (λ w. is_list_wait w.kind ≡ false) (λ w. is_dehydrate_wait w.kind ≡ false) (λ w. (is_list_wait w.kind ≡ false) × (is_dehydrate_wait w.kind ≡ false)) (λ w x y. (x, y)) s.filter.waiting.waits none ready.dehydrations
+
+  sync_here : IsStep mode.Replay s (event.Engine engine.Sync) a t → IsFair s.link → IsFair t.link → is_count a.shown ≡ true → IsSilent a → IsReady before s t → (is_settled false t ≡ true) × (a.shown ≡ shown.Count 0)
+  sync_here step was fair counted silent ready = sync_silent remote clusters before s a t runs fresh tidy ready.inline ready.keys (plain was ready) step fair counted silent ready.numbers
+
+  work_here : IsStep mode.Replay s (event.Engine engine.Work) a t → IsFair s.link → IsFair t.link → is_accepted a.shown ≡ true → IsSilent a → IsReady before s t → is_settled false t ≡ true
+  work_here step was fair accepted silent ready = work_silent remote clusters before s a t runs fresh tidy ready.inline ready.keys (plain was ready) step fair accepted silent ready.numbers
+
+  pub settles_here : (e : Event) → IsStep mode.Replay s e a t → IsFair s.link → IsFair t.link → SettlesIfSilent before s e a t
+  settles_here e step was fair = record {
+    sync = λ is counted silent ready. sync_here (subst (λ (d : Event). IsStep mode.Replay s d a t) is step) was fair counted silent ready;
+    work = λ is accepted silent ready. work_here (subst (λ (d : Event). IsStep mode.Replay s d a t) is step) was fair accepted silent ready;
+  }
+
+pub each_settles : (remote : Held) (clusters : ℕ) (report : Report) (last : State) → Runs mode.Replay (start mode.Replay remote clusters) report last → IsFresh remote → IsTidy remote → IsFair last.link
+    → OfEach mode.Replay remote clusters report last (λ before s e a t. SettlesIfSilent before s e a t)
+each_settles remote clusters report last whole fresh tidy fair before rest s e a t is runs step later =
+    let sound : Invariant s = run_sound remote clusters before s runs fresh in
+    let next : Invariant t = runs_keep Invariant sound_whole s ((e, a) ∷ []) t (t, step, refl) sound in
+    let now : IsFair t.link = fair_before t rest last next later fair in
+    settles_here remote clusters fresh tidy before s a t runs e step (step_fair s e a t step sound now) now
