@@ -2,3 +2,4 @@ pub mod Bytes
 pub mod Judge
 pub mod Own
 pub mod Rows
+pub mod Settled

@@ -27,36 +27,12 @@ use Rattle.cf_check_room.proofs.Light.{weight_longer, weighed}
 use Rattle.cf_check_ways.specs.Ways.{AllSure, BecomesSure, core_of, sures, Alike, AnswersAlike, IsFront, OneFailed, Parted, is_good, of_state}
 use Rattle.cf_check_ways.proofs.StepsSure.{any_step_count, cut_off_shows, restart_told, restarts_alike, step_rooms, steps_alike, steps_keep}
 use Rattle.cf_check_traces.specs.Decided.{IsSteady, IsStopped, MeetsFaults, MeetsResult, NoneStopped}
+use Rattle.cf_check_traces.specs.Followed.{IsFollowed, IsNext}
 use Rattle.cf_check_traces.specs.Tests.{is_device, is_restart}
 use Rattle.cf_check_traces.proofs.Accepting.{LastOf, few_messages, last_of, numbered}
 use Rattle.cf_check_traces.proofs.NextSteps.{goes_on, no_part}
 use Rattle.cf_check_traces.proofs.SameRuns.{Front, front_of, last_event, steady}
 use Rattle.cf_check_traces.proofs.Testing.{not_stopped, stopped_so}
-
--- What is known of a run that is followed through the first n events of a script, and of how the report goes on.
-pub record IsFollowed (events : List Event) (report : List ℕ) (clusters n : ℕ) (trace : List (Event × Answer)) (s : State) (rest : List ℕ) : Type 0 where
-  pub there : n ≤ length events
-  pub events_are : map event_of trace ≡ take n events
-  pub lawful : Runs mode.Replay (start mode.Replay empty_remote clusters) trace s
-  pub kept : s.link.honest ≡ true
-  pub text_is : report ≡ texts (map answer_of trace) ++ rest
-  pub none : NoneStopped trace
-  -- no other run of so many events is accepted
-  pub only : (more : List (Event × Answer)) (u : State) → Accepted events report clusters n more u → (more ≡ trace) × Alike of_state s u
-  -- where the log weighs no more than the clusters, no commit for room was made in it, nor in another
-  pub tight : weight s.filter.volume.log ≤ clusters
-      → AllSure (core_of s.filter.volume) × ((more : List (Event × Answer)) (u : State) → Accepted events report clusters n more u → (sures (core_of s.filter.volume) ≡ sures (core_of u.filter.volume)) × AllSure (core_of u.filter.volume))
-
--- an answer that the judge's run gives to the next event
-pub record IsNext (clusters : ℕ) (s : State) (e : Event) (a : Answer) (t : State) (rest : List ℕ) : Type 0 where
-  pub step : IsStep mode.Replay s e a t
-  pub good : is_good t ≡ true
-  pub runs : IsStopped a → ⊥
-  pub clean : is_clean a ≡ true
-  pub meets : MeetsFaults a rest
-  pub alone : MeetsResult s e a rest
-  pub result : slice_get (result_lines rest) 0 ≡ Some device_line → ⊥
-  pub opening : e ≡ event.Device device.Restart → weight s.filter.volume.log ≤ clusters
 
 -- with these messages there are numbers left
 good_last : (limit : ℕ) (report : List ℕ) (clusters : ℕ) (front : List (Event × Answer)) (e : Event) (b : Answer) (mid u : State) → Runs mode.Replay (start mode.Replay empty_remote clusters) front mid → NoneStopped front → IsStep mode.Replay mid e b u

@@ -1,0 +1,4 @@
+pub mod Alls
+pub mod Alone
+pub mod FirstLines
+pub mod Texts

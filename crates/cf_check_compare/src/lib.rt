@@ -1,0 +1,16 @@
+//! An answer held against the report that should go on with it, and what the report tells of a remote that failed.
+//!
+//! What `compare` promises is what a judge of the report builds on. Nothing is promised of `tellings`: wrong ones can lead a run away
+//! from the report, and that is seen by the tests of `compare`.
+#![tactic(auto)]
+
+mod answers;
+mod comparisons;
+mod events;
+mod lines;
+mod told_faults;
+
+pub use comparisons::{Comparison, compare};
+pub use events::{is_foreign, is_restart};
+pub use lines::{after, fails_next};
+pub use told_faults::tellings;

@@ -1,0 +1,264 @@
+-- What the changes of a log cost bounds what it weighs, where each item that is made has a greater number than all before it.
+use Rattle.std.proofs.Common.{◌≡◌, ◌≤◌, ◌<◌, ◌+◌, ◌-◌, ◌/◌, ◌^◌, ◌&&◌, not, ℕ, zero, suc, Bool, true, false, cond, filter, List, [], ◌∷◌, ◌++◌, length, max, min, nat_lt, refl, sym, ◌∙◌, ap, subst, arith, append-nil}
+use Rattle.std.specs.Prelude.{Option, Some, None, sum_by, ◌==◌}
+use Rattle.std.proofs.lemmas.Bool.{eqb-true, ltb-true}
+use Rattle.std.proofs.lemmas.List.Sums.{sum_by-append, sum_by-cons}
+use Rattle.cf_base.specs.declared.changes.Change.{Change}
+use Rattle.cf_base.specs.declared.changes.Change.TheVariants as change
+use Rattle.cf_base.specs.declared.ids.ItemId.{ItemId}
+use Rattle.cf_base.specs.declared.ids.Usn.{Usn}
+use Rattle.cf_base.specs.declared.items.Pin.{Pin}
+use Rattle.cf_base.specs.declared.items.Pin.TheVariants as pin
+use Rattle.cf_check_room.specs.Weights.{peak_from, puts_from, weight}
+use Rattle.cf_check_weights.proofs.Blocks.{counting_length, held_after, none_here}
+use Rattle.cf_check_weights.specs.Costs.{blocks_to, cost_of, made_by}
+use Rattle.cf_check_weights.specs.Weighed.{greater, last_weight, makes_above, most_weight, next_weight, nothing, rises_from, weights_from}
+use Rattle.cf_check_weights.specs.declared.weights.Weight.{Weight}
+use Rattle.cf_model.specs.Blocks.{blocks_held, blocks_of, blocks_used, held_of, lacks_in, puts_into, size_at}
+use Rattle.cf_model.specs.Effects.{changed, copied, copies, effect, made, size_made, without}
+use Rattle.cf_model.specs.Items.{Item, item_of, pin_of, root}
+use Rattle.cf_model.specs.Words.{part}
+use Rattle.cf_table.specs.Applied.{item_effect}
+use Rattle.cf_volume_blocks.specs.Bytes.{puts_in}
+
+-- the items stand in order of their numbers, from low on, and none is above the greatest
+abbrev IsRising : ℕ → List Item → ℕ → Type 0
+IsRising low [] g = Unit {0}
+IsRising low (i ∷ is) g = (low ≤ i.id.0) × (i.id.0 ≤ g) × IsRising (i.id.0 + 1) is g
+
+abbrev used : Item → ℕ
+used i = blocks_held i.held
+
+rising_lower : (low high : ℕ) (items : List Item) (g : ℕ) → low ≤ high → IsRising high items g → IsRising low items g
+rising_lower low high [] g le r = record {}
+rising_lower low high (i ∷ is) g le r = let at : high ≤ i.id.0 = r.0 in (omega (arith, le, at), r.1, r.2)
+
+rising_higher : (low : ℕ) (items : List Item) (g h : ℕ) → g ≤ h → IsRising low items g → IsRising low items h
+rising_higher low [] g h le r = record {}
+rising_higher low (i ∷ is) g h le r = let at : i.id.0 ≤ g = r.1 in (r.0, omega (arith, le, at), rising_higher (i.id.0 + 1) is g h le r.2)
+
+rising_more : (low : ℕ) (items : List Item) (i : Item) (g : ℕ) → low ≤ g + 1 → g < i.id.0 → IsRising low items g → IsRising low (items ++ i ∷ []) i.id.0
+rising_more low [] i g le lt r = (omega (arith, le, lt), omega arith, record {})
+rising_more low (x ∷ xs) i g le lt r = let at : x.id.0 ≤ g = r.1 in (r.0, omega (arith, at, lt), rising_more (x.id.0 + 1) xs i g (omega (arith, at)) lt r.2)
+
+rising_changed : (low : ℕ) (key : ItemId) (f : Item → Item) (items : List Item) (g : ℕ) → ((i : Item) → (f i).id ≡ i.id) → IsRising low items g → IsRising low (changed key f items) g
+rising_changed low key f [] g same r = record {}
+rising_changed low key f (x ∷ xs) g same r = by (x.id.0 == key.0) (rising_changed (x.id.0 + 1) key f xs g same r.2)
+  where
+    by : (t : Bool) → IsRising (x.id.0 + 1) (changed key f xs) g → IsRising low (cond t (f x) x ∷ changed key f xs) g
+    by false rest = (r.0, r.1, rest)
+    by true rest = subst (λ (k : ItemId). (low ≤ k.0) × (k.0 ≤ g) × IsRising (k.0 + 1) (changed key f xs) g) (sym (same x)) (r.0, r.1, rest)
+
+rising_without : (low : ℕ) (key : ItemId) (items : List Item) (g : ℕ) → IsRising low items g → IsRising low (without key items) g
+rising_without low key [] g r = record {}
+rising_without low key (x ∷ xs) g r = by (x.id.0 == key.0) (rising_without (x.id.0 + 1) key xs g r.2)
+  where
+    by : (t : Bool) → IsRising (x.id.0 + 1) (without key xs) g → IsRising low (cond (not t) (x ∷ without key xs) (without key xs)) g
+    by true rest = let at : low ≤ x.id.0 = r.0 in rising_lower low (x.id.0 + 1) (without key xs) g (omega (arith, at)) rest
+    by false rest = (r.0, r.1, rest)
+
+-- sums
+
+-- items above a number have none with it
+apart : (key : ItemId) (f : Item → Item) (low : ℕ) (items : List Item) (g : ℕ) → key.0 < low → IsRising low items g → changed key f items ≡ items
+apart key f low [] g lt r = refl
+apart key f low (x ∷ xs) g lt r = let le : low ≤ x.id.0 = r.0 in by (x.id.0 == key.0) refl (apart key f (x.id.0 + 1) xs g (omega (arith, le, lt)) r.2)
+  where
+    by : (t : Bool) → (x.id.0 == key.0) ≡ t → changed key f xs ≡ xs → cond t (f x) x ∷ changed key f xs ≡ x ∷ xs
+    by true e rest = let at : x.id.0 ≡ key.0 = eqb-true x.id.0 key.0 e in let le : low ≤ x.id.0 = r.0 in absurd (omega (arith, at, le, lt))
+    by false e rest = ap (λ (is : List Item). x ∷ is) rest
+
+-- the item of a number becomes greater by so many at most
+sum_changed : (key : ItemId) (f : Item → Item) (more low : ℕ) (items : List Item) (g : ℕ) → IsRising low items g → ((i : Item) → item_of items key ≡ Some i → used (f i) ≤ used i + more) → sum_by used (changed key f items) ≤ sum_by used items + more
+sum_changed key f more low [] g r few = omega arith
+sum_changed key f more low (x ∷ xs) g r few = by (x.id.0 == key.0) refl few (λ h. sum_changed key f more (x.id.0 + 1) xs g r.2 h)
+  where
+    whole : sum_by used (x ∷ xs) ≡ used x + sum_by used xs
+    whole = sum_by-cons used x xs
+
+    by : (t : Bool) → (x.id.0 == key.0) ≡ t → ((i : Item) → cond t (Some x) (item_of xs key) ≡ Some i → used (f i) ≤ used i + more) → (((i : Item) → item_of xs key ≡ Some i → used (f i) ≤ used i + more) → sum_by used (changed key f xs) ≤ sum_by used xs + more) → sum_by used (cond t (f x) x ∷ changed key f xs) ≤ sum_by used (x ∷ xs) + more
+    by true e h later =
+        let at : x.id.0 ≡ key.0 = eqb-true x.id.0 key.0 e in
+        let rest : sum_by used (changed key f xs) ≡ sum_by used xs = ap (λ (is : List Item). sum_by used is) (apart key f (x.id.0 + 1) xs g (omega (arith, at)) r.2) in
+        let first : used (f x) ≤ used x + more = h x refl in
+        let new : sum_by used (f x ∷ changed key f xs) ≡ used (f x) + sum_by used (changed key f xs) = sum_by-cons used (f x) (changed key f xs) in
+        omega (arith, rest, first, new, whole)
+    by false e h later =
+        let rest : sum_by used (changed key f xs) ≤ sum_by used xs + more = later h in
+        let new : sum_by used (x ∷ changed key f xs) ≡ used x + sum_by used (changed key f xs) = sum_by-cons used x (changed key f xs) in
+        omega (arith, rest, new, whole)
+
+sum_without : (key : ItemId) (items : List Item) → sum_by used (without key items) ≤ sum_by used items
+sum_without key [] = omega arith
+sum_without key (x ∷ xs) = by (x.id.0 == key.0) (sum_without key xs)
+  where
+    whole : sum_by used (x ∷ xs) ≡ used x + sum_by used xs
+    whole = sum_by-cons used x xs
+
+    by : (t : Bool) → sum_by used (without key xs) ≤ sum_by used xs → sum_by used (cond (not t) (x ∷ without key xs) (without key xs)) ≤ sum_by used (x ∷ xs)
+    by true rest = omega (arith, rest, whole)
+    by false rest = let new : sum_by used (x ∷ without key xs) ≡ used x + sum_by used (without key xs) = sum_by-cons used x (without key xs) in omega (arith, rest, new, whole)
+
+sum_has : (key : ItemId) (items : List Item) (o : Option Item) → item_of items key ≡ o → blocks_held (part (λ i. i.held) [] o) ≤ sum_by used items
+sum_has key [] o e = subst (λ (z : Option Item). blocks_held (part (λ i. i.held) [] z) ≤ 0) e (omega arith)
+sum_has key (x ∷ xs) o e = by (x.id.0 == key.0) e (λ k. sum_has key xs o k)
+  where
+    whole : sum_by used (x ∷ xs) ≡ used x + sum_by used xs
+    whole = sum_by-cons used x xs
+
+    by : (t : Bool) → cond t (Some x) (item_of xs key) ≡ o → (item_of xs key ≡ o → blocks_held (part (λ i. i.held) [] o) ≤ sum_by used xs) → blocks_held (part (λ i. i.held) [] o) ≤ sum_by used (x ∷ xs)
+    by true k later = subst (λ (z : Option Item). blocks_held (part (λ i. i.held) [] z) ≤ sum_by used (x ∷ xs)) k (omega (arith, whole))
+    by false k later = let rest : blocks_held (part (λ i. i.held) [] o) ≤ sum_by used xs = later k in omega (arith, rest, whole)
+
+-- one change
+
+-- of an item that stays
+stays : (c : Change) (key : ItemId) (f : Item → Item) (p : Pin) (n : Usn) (items : List Item) (g : ℕ) → IsRising 0 items g → ((i : Item) → f i ≡ item_effect c p n i) → ((i : Item) → item_of items key ≡ Some i → length (puts_in c i.held) ≡ length (puts_into items c)) → blocks_used (changed key f items) ≤ blocks_used items + length (puts_into items c)
+stays c key f p n items g r same puts =
+    sum_changed key f (length (puts_into items c)) 0 items g r
+    (λ i at.
+    let h : blocks_held (item_effect c p n i).held ≤ blocks_held i.held + length (puts_in c i.held) = held_after c i p n in
+    let e : used (f i) ≡ blocks_held (item_effect c p n i).held = ap (λ (x : Item). used x) (same i) in
+    let k : length (puts_in c i.held) ≡ length (puts_into items c) = puts i at in
+    omega (arith, h, e, k))
+
+held_is : (items : List Item) (key : ItemId) (i : Item) → item_of items key ≡ Some i → held_of items key ≡ i.held
+held_is items key i e = ap (λ (o : Option Item). part (λ x. x.held) [] o) e
+
+-- a change uses no more blocks than it puts bytes into
+uses_more : (items : List Item) (g : ℕ) (c : Change) (n : Usn) → IsRising 0 items g → blocks_used (effect items c n) ≤ blocks_used items + length (puts_into items c)
+uses_more items g (change.Make item parent name kind size identity) n r =
+    let new : Item = made item parent name kind size identity (pin_of items parent) n in
+    let e : sum_by used (items ++ new ∷ []) ≡ sum_by used items + sum_by used (new ∷ []) = sum_by-append used items (new ∷ []) in
+    let k : sum_by used (new ∷ []) ≡ used new + 0 = sum_by-cons used new [] in
+    let z : used new ≡ 0 = none_here (size_made kind size) in
+    omega (arith, e, k, z)
+uses_more items g (change.Remove item) n r = let h = sum_without item items in omega (arith, h)
+uses_more items g (change.Copy item from parent name) n r = by (item_of items from) refl
+  where
+    by : (o : Option Item) → item_of items from ≡ o → sum_by used (items ++ copies item parent name (pin_of items parent) n o) ≤ sum_by used items + blocks_held (part (λ i. i.held) [] (item_of items from))
+    by None e = let k : sum_by used (items ++ []) ≡ sum_by used items + 0 = sum_by-append used items [] in omega (arith, k)
+    by (Some i) e =
+        let new : List Item = copies item parent name (pin_of items parent) n (Some i) in
+        let k : sum_by used (items ++ new) ≡ sum_by used items + sum_by used new = sum_by-append used items new in
+        let one : sum_by used new ≡ used i + 0 = sum_by-cons used (copied item parent name (pin_of items parent) n i) [] in
+        let h : blocks_held (part (λ x. x.held) [] (item_of items from)) ≡ used i = ap (λ (o : Option Item). blocks_held (part (λ x. x.held) [] o)) e in
+        omega (arith, k, one, h)
+uses_more items g (change.Move item parent name) n r = stays (change.Move item parent name) item _ (pin_of items parent) n items g r (λ i. refl) (λ i e. refl)
+uses_more items g (change.Write item at bytes) n r = stays (change.Write item at bytes) item _ pin.Unpinned n items g r (λ i. refl) (λ i e. ap (λ (h : List (Option ℕ)). length (puts_in (change.Write item at bytes) h)) (sym (held_is items item i e)))
+uses_more items g (change.Size item size) n r = stays (change.Size item size) item _ pin.Unpinned n items g r (λ i. refl) (λ i e. ap (λ (h : List (Option ℕ)). length (puts_in (change.Size item size) h)) (sym (held_is items item i e)))
+uses_more items g (change.Filled item start bytes) n r = stays (change.Filled item start bytes) item _ pin.Unpinned n items g r (λ i. refl) (λ i e. ap (λ (h : List (Option ℕ)). length (puts_in (change.Filled item start bytes) h)) (sym (held_is items item i e)))
+uses_more items g (change.Validated item start len) n r = stays (change.Validated item start len) item _ pin.Unpinned n items g r (λ i. refl) (λ i e. refl)
+uses_more items g (change.Emptied item start len) n r = stays (change.Emptied item start len) item _ pin.Unpinned n items g r (λ i. refl) (λ i e. refl)
+uses_more items g (change.SetPin item p) n r = stays (change.SetPin item p) item _ pin.Unpinned n items g r (λ i. refl) (λ i e. refl)
+uses_more items g (change.Mark item number) n r = stays (change.Mark item number) item _ pin.Unpinned n items g r (λ i. refl) (λ i e. refl)
+uses_more items g (change.Clear item) n r = stays (change.Clear item) item _ pin.Unpinned n items g r (λ i. refl) (λ i e. refl)
+uses_more items g (change.Convert item identity) n r = stays (change.Convert item identity) item _ pin.Unpinned n items g r (λ i. refl) (λ i e. refl)
+uses_more items g (change.Revert item) n r = stays (change.Revert item) item _ pin.Unpinned n items g r (λ i. refl) (λ i e. refl)
+uses_more items g (change.Rebase item identity len at) n r = stays (change.Rebase item identity len at) item _ pin.Unpinned n items g r (λ i. refl) (λ i e. refl)
+uses_more items g (change.Take item identity size) n r = stays (change.Take item identity size) item _ pin.Unpinned n items g r (λ i. refl) (λ i e. refl)
+uses_more items g (change.Populated item) n r = stays (change.Populated item) item _ pin.Unpinned n items g r (λ i. refl) (λ i e. refl)
+uses_more items g (change.Keep item on) n r = stays (change.Keep item on) item _ pin.Unpinned n items g r (λ i. refl) (λ i e. refl)
+
+-- and it puts bytes into no more than it costs
+
+span_blocks : (start n : ℕ) → length (blocks_of start n) ≤ (start + n + 4095) / 4096 - start / 4096
+span_blocks start zero = omega arith
+span_blocks start (suc n) = let e = counting_length (start / 4096) ((start + n) / 4096 + 1 - start / 4096) in omega (arith, e)
+
+-- of a growth
+grown_blocks : (from size n : ℕ) → n ≡ size - from → length (blocks_of from n) ≤ (size + 0 + 4095) / 4096
+grown_blocks from size zero e = omega arith
+grown_blocks from size (suc n) e = let h = span_blocks from (suc n) in let k : from + suc n ≡ size = omega (arith, e) in let l : (from + suc n + 4095) / 4096 ≡ (size + 0 + 4095) / 4096 = omega (arith, k) in omega (arith, h, l)
+
+fewer : {X : Type 0} (p : X → Bool) (xs : List X) → length (filter p xs) ≤ length xs
+fewer p [] = omega arith
+fewer {X} p (x ∷ xs) = by (p x) (fewer p xs)
+  where
+    by : (t : Bool) → length (filter p xs) ≤ length xs → length (cond t (x ∷ filter p xs) (filter p xs)) ≤ length (x ∷ xs)
+    by true h = omega (arith, h)
+    by false h = omega (arith, h)
+
+puts_few : (items : List Item) (c : Change) (w : ℕ) → blocks_used items ≤ w → length (puts_into items c) ≤ cost_of w c
+puts_few items (change.Write item at bytes) w le =
+    let from : ℕ = min at (size_at items item) in
+    let h : length (blocks_of from (at + length bytes - from)) ≤ (from + (at + length bytes - from) + 4095) / 4096 - from / 4096 = span_blocks from (at + length bytes - from) in
+    let low : from ≤ at = omega arith in
+    let e : from + (at + length bytes - from) ≡ at + length bytes = omega (arith, low) in
+    let k : (from + (at + length bytes - from) + 4095) / 4096 ≡ (at + length bytes + 4095) / 4096 = ap (λ (x : ℕ). (x + 4095) / 4096) e in
+    omega (arith, h, k)
+puts_few items (change.Size item size) w le = grown_blocks (size_at items item) size (size - size_at items item) refl
+puts_few items (change.Filled item start bytes) w le =
+    let h = fewer (lacks_in start (start + length bytes) (held_of items item)) (blocks_of start (length bytes)) in
+    let k = span_blocks start (length bytes) in
+    omega (arith, h, k)
+puts_few items (change.Copy item from parent name) w le = let h = sum_has from items (item_of items from) refl in omega (arith, h, le)
+puts_few items _ w le = omega arith
+
+-- the items stay in order
+stays_rising : (items : List Item) (g : ℕ) (c : Change) (n : Usn) → IsRising 0 items g → makes_above g c ≡ true → IsRising 0 (effect items c n) (greater g (made_by c))
+stays_rising items g (change.Make item parent name kind size identity) n r above =
+    let lt : g < item.0 = ltb-true g item.0 above in
+    let e : max item.0 g ≡ item.0 = omega (arith, lt) in
+    subst (λ (k : ℕ). IsRising 0 (effect items (change.Make item parent name kind size identity) n) k) (sym e) (rising_more 0 items (made item parent name kind size identity (pin_of items parent) n) g (omega arith) lt r)
+stays_rising items g (change.Copy item from parent name) n r above = by (item_of items from)
+  where
+    lt : g < item.0
+    lt = ltb-true g item.0 above
+
+    by : (o : Option Item) → IsRising 0 (items ++ copies item parent name (pin_of items parent) n o) (max item.0 g)
+    by None = subst (λ (is : List Item). IsRising 0 is (max item.0 g)) (sym (append-nil items)) (rising_higher 0 items g (max item.0 g) (omega arith) r)
+    by (Some i) = let e : max item.0 g ≡ item.0 = omega (arith, lt) in subst (λ (k : ℕ). IsRising 0 (items ++ copies item parent name (pin_of items parent) n (Some i)) k) (sym e) (rising_more 0 items (copied item parent name (pin_of items parent) n i) g (omega arith) lt r)
+stays_rising items g (change.Remove item) n r above = rising_without 0 item items g r
+stays_rising items g (change.Move item parent name) n r above = rising_changed 0 item _ items g (λ i. refl) r
+stays_rising items g (change.Write item at bytes) n r above = rising_changed 0 item _ items g (λ i. refl) r
+stays_rising items g (change.Size item size) n r above = rising_changed 0 item _ items g (λ i. refl) r
+stays_rising items g (change.Filled item start bytes) n r above = rising_changed 0 item _ items g (λ i. refl) r
+stays_rising items g (change.Validated item start len) n r above = rising_changed 0 item _ items g (λ i. refl) r
+stays_rising items g (change.Emptied item start len) n r above = rising_changed 0 item _ items g (λ i. refl) r
+stays_rising items g (change.SetPin item p) n r above = rising_changed 0 item _ items g (λ i. refl) r
+stays_rising items g (change.Mark item number) n r above = rising_changed 0 item _ items g (λ i. refl) r
+stays_rising items g (change.Clear item) n r above = rising_changed 0 item _ items g (λ i. refl) r
+stays_rising items g (change.Convert item identity) n r above = rising_changed 0 item _ items g (λ i. refl) r
+stays_rising items g (change.Revert item) n r above = rising_changed 0 item _ items g (λ i. refl) r
+stays_rising items g (change.Rebase item identity len at) n r above = rising_changed 0 item _ items g (λ i. refl) r
+stays_rising items g (change.Take item identity size) n r above = rising_changed 0 item _ items g (λ i. refl) r
+stays_rising items g (change.Populated item) n r above = rising_changed 0 item _ items g (λ i. refl) r
+stays_rising items g (change.Keep item on) n r above = rising_changed 0 item _ items g (λ i. refl) r
+
+-- a log
+
+both : (a b : Bool) → (a && b) ≡ true → (a ≡ true) × (b ≡ true)
+both true b e = (refl, e)
+both false b e = let z : false ≡ true = e in absurd cc
+
+-- sums do not fall
+least : (w : Weight) (log : List (Usn × Change)) → w.total ≤ most_weight → w.total ≤ (last_weight w (weights_from w log)).total
+least w [] le = omega arith
+least w (c ∷ cs) le = let h = least (next_weight w c.1) cs (omega arith) in omega (arith, h, le)
+
+-- the blocks that the items use are never more than the sum, nor are those into which the changes put bytes
+bounds : (items : List Item) (w : Weight) (log : List (Usn × Change)) → IsRising 0 items w.greatest → rises_from w.greatest log ≡ true → blocks_used items ≤ w.total → w.total ≤ most_weight → (last_weight w (weights_from w log)).total < most_weight
+    → (w.total + puts_from items log ≤ (last_weight w (weights_from w log)).total) × (peak_from items log ≤ (last_weight w (weights_from w log)).total)
+bounds items w [] r rises le small few = (omega arith, le)
+bounds items w (c ∷ cs) r rises le small few =
+    let x = both (makes_above w.greatest c.1) (rises_from (greater w.greatest (made_by c.1)) cs) rises in
+    let next : Weight = next_weight w c.1 in
+    let last : ℕ = (last_weight next (weights_from next cs)).total in
+    let low : next.total ≤ last = least next cs (omega arith) in
+    let some : last < most_weight = few in
+    let puts : length (puts_into items c.1) ≤ cost_of w.total c.1 = puts_few items c.1 w.total le in
+    let sum : next.total ≡ w.total + cost_of w.total c.1 = omega (arith, low, some) in
+    let more : blocks_used (effect items c.1 c.0) ≤ blocks_used items + length (puts_into items c.1) = uses_more items w.greatest c.1 c.0 r in
+    let h = bounds (effect items c.1 c.0) next cs (stays_rising items w.greatest c.1 c.0 r x.0) x.1 (omega (arith, more, puts, sum, le)) (omega arith) few in
+    let one : next.total + puts_from (effect items c.1 c.0) cs ≤ last = h.0 in
+    let two : peak_from (effect items c.1 c.0) cs ≤ last = h.1 in
+    (omega (arith, one, puts, sum), omega (arith, two, low, sum, le))
+
+-- a log whose changes cost no more than half of the clusters weighs no more than these
+pub light : (log : List (Usn × Change)) (clusters : ℕ) → rises_from 1 log ≡ true → clusters < 2 ^ 32 → (last_weight nothing (weights_from nothing log)).total ≤ clusters / 2 → weight log ≤ clusters
+light log clusters rises small le =
+    let h = bounds (root ∷ []) nothing log (omega arith, omega arith, record {}) rises (omega arith) (omega arith) (omega (arith, small, le)) in
+    let one : 0 + puts_from (root ∷ []) log ≤ (last_weight nothing (weights_from nothing log)).total = h.0 in
+    let two : peak_from (root ∷ []) log ≤ (last_weight nothing (weights_from nothing log)).total = h.1 in
+    omega (arith, one, two, le)
