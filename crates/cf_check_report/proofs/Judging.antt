@@ -1,0 +1,146 @@
+-- What is said of the report at an event.
+use Rattle.std.proofs.Common.{◌⊎◌, inl, inr, ◌≡◌, ◌≤◌, ◌<◌, ◌+◌, ◌^◌, ◌-◌, ℕ, suc, Bool, true, false, List, [], ◌∷◌, ◌++◌, length, refl, sym, ◌∙◌, ap, subst, arith}
+use Rattle.std.specs.Prelude.{Err, IfOk, Ok, Result, drop, not}
+use Rattle.cf_base.specs.declared.answers.Answer.{Answer}
+use Rattle.cf_base.specs.declared.changes.Change.{Change}
+use Rattle.cf_base.specs.declared.events.Event.{Event}
+use Rattle.cf_base.specs.declared.ids.Usn.{Usn}
+use Rattle.cf_base.specs.declared.memory.OutOfMemory.{OutOfMemory as NoMemory}
+use Rattle.cf_base.specs.declared.policies.Mode.TheVariants as mode
+use Rattle.cf_check_compare.specs.Passed.{IsComparison, is_passed}
+use Rattle.cf_check_compare.specs.declared.comparisons.Comparison.TheVariants.{Differs, GoesOn, Lost}
+use Rattle.cf_check_compare.specs.declared.comparisons.Comparison.{Comparison}
+use Rattle.cf_check_judge.proofs.Following.{at_start, at_the_end, foreign_is, goes_next, line_not, open_is, wrong_is}
+use Rattle.cf_check_judge.specs.Settled.{IsAt}
+use Rattle.cf_check_judge.specs.Judge.{at_end, first_result, is_line}
+use Rattle.cf_check_model.specs.Judging.{IsVerdict}
+use Rattle.cf_check_model.specs.Reports.{device_line}
+use Rattle.cf_check_model.specs.declared.verdicts.Verdict.TheVariants.{Unlawful, Undecided}
+use Rattle.cf_check_room.specs.Weights.{weight}
+use Rattle.cf_check_traces.specs.Followed.{IsNext}
+use Rattle.cf_check_traces.specs.Tests.{begins, is_restart}
+use Rattle.cf_check_weights.specs.Weighed.{IsWeighed, Weighed}
+use Rattle.cf_check_report.proofs.Answering.{next_of}
+use Rattle.cf_check_report.specs.declared.check_errors.CheckError.{CheckError}
+use Rattle.cf_check_report.specs.Following.{Follows, IsTaken, JudgedTo, MayOpen, judged_by}
+use Rattle.cf_check_report.specs.Playing.{PlayedTo, Plays}
+use Rattle.cf_check_report.specs.declared.judgements.Judge.{Judge}
+use Rattle.cf_check_report.specs.declared.judgements.Judged.{Judged}
+use Rattle.cf_check_report.specs.declared.judgements.Judged.TheVariants as judged
+use Rattle.cf_model.specs.Events.{is_of}
+use Rattle.cf_model.specs.Lawful.{IsStep, Runs}
+use Rattle.cf_model.specs.Numbers.{most}
+use Rattle.cf_model.specs.State.{State, start}
+use Rattle.cf_model.specs.Store.{empty_remote}
+use Rattle.cf_model.specs.Words.{is_empty}
+use Rattle.cf_model_headline.proofs.StandingLaws.{IsReady, run_ready, start_ready, step_stands}
+use Rattle.cf_model_headline.specs.Reports.{after_answer}
+use Rattle.cf_report.specs.Texts.{text}
+
+-- each state of a run is one in which the changes of an answer are told
+ready : (clusters : ℕ) (trace : List (Event × Answer)) (s : State) → Runs mode.Replay (start mode.Replay empty_remote clusters) trace s → IsReady mode.Replay s
+ready clusters trace s runs = run_ready mode.Replay (start mode.Replay empty_remote clusters) trace s (start_ready mode.Replay empty_remote clusters ((refl, record {}), refl)) runs
+
+module _ {D : Type 0} (Stands : D → State → Type 0) (events : List Event) (report : List ℕ) (clusters done : ℕ) (e : Event) (es : List Event) (rest : List ℕ) (short : length report < 2 ^ 31) where
+  few : length report < most
+  few = omega (arith, short)
+
+  -- before its answer is known
+
+  pub opens : (j : Judge D) → Follows Stands events report clusters done (e ∷ es) rest j → is_line device_line (first_result rest) ≡ true → IsVerdict events report clusters (Undecided (suc done))
+  opens j h line = open_is events report clusters few done e es h.trace h.state rest h.at line
+
+  pub is_wrong : (j : Judge D) → Follows Stands events report clusters done (e ∷ es) rest j → is_line device_line (first_result rest) ≡ false → not (is_of mode.Replay e) ≡ true → IsVerdict events report clusters (Unlawful (suc done))
+  is_wrong j h line foreign = foreign_is events report clusters few done e es h.trace h.state rest h.at line (by (is_of mode.Replay e) foreign)
+    where
+      by : (b : Bool) → not b ≡ true → b ≡ false
+      by true k = let z : false ≡ true = k in absurd cc
+      by false k = refl
+
+  -- by its answer
+
+  module _ (a : Answer) (old new : Judge D) (line : is_line device_line (first_result rest) ≡ false) (may : MayOpen e old) (plays : Plays Stands e old.device (Ok a) new.device) (same : new.clusters ≡ old.clusters) (weighs : (log : List (Usn × Change)) → IsWeighed old.weights log → IsWeighed new.weights (after_answer log e a))
+      (h : Follows Stands events report clusters done (e ∷ es) rest old) where
+    abbrev played : PlayedTo Stands e h.state (Ok a) new.device
+    played = plays.leads h.state h.stands
+
+    abbrev t : State
+    t = played.0
+
+    light : is_restart e ≡ true → weight h.state.filter.volume.log ≤ clusters
+    light is = let le : weight h.state.filter.volume.log ≤ old.clusters = may is h.state.filter.volume.log h.weighed in let k : old.clusters ≡ clusters = h.clusters_are in omega (arith, le, k)
+
+    next : is_passed e a rest ≡ true → length (text a) < 2 ^ 31 → IsNext clusters h.state e a t rest
+    next passed small = next_of events report clusters short done e es h.trace h.state rest h.at line a t played.1 played.2 passed small light
+
+    goes_on : (n : ℕ) → IsComparison e a rest (GoesOn n) → Follows Stands events report clusters (suc done) es (drop n rest) new
+    goes_on n (passed, (meets, long, small, so)) = record {
+      trace = h.trace ++ (e, a) ∷ [];
+      state = t;
+      clusters_are = same ∙ h.clusters_are;
+      at = subst (λ (k : ℕ). IsAt events report clusters (suc done) es (h.trace ++ (e, a) ∷ []) t (drop k rest)) (sym long)
+          (goes_next events report clusters few done e es h.trace h.state rest h.at (line_not device_line (first_result rest) line) a t (next passed (omega (arith, long, small))) so);
+      stands = played.3;
+      weighed = subst (λ (l : List (Usn × Change)). IsWeighed new.weights l) (sym (step_stands mode.Replay h.state e a t (ready clusters h.trace h.state h.at.run.lawful) played.1)) (weighs h.state.filter.volume.log h.weighed);
+    }
+
+    by_comparison : (c : Comparison) (j : Judged) → IsComparison e a rest c → judged_by c ≡ Ok j → JudgedTo Stands events report clusters done es rest (Ok j) new
+    by_comparison (GoesOn n) (judged.GoesOn m) is told = let same : n ≡ m = cc in subst (λ (k : ℕ). Follows Stands events report clusters (suc done) es (drop k rest) new) same (goes_on n is)
+    by_comparison Differs judged.Wrong (passed, (meets, small, differs)) told = wrong_is events report clusters few done e es h.trace h.state rest h.at line a t (next passed small) differs
+    by_comparison (GoesOn n) judged.Wrong is told = absurd cc
+    by_comparison (GoesOn n) judged.Open is told = absurd cc
+    by_comparison Differs (judged.GoesOn m) is told = absurd cc
+    by_comparison Differs judged.Open is told = absurd cc
+    by_comparison Lost j is told = absurd cc
+
+  -- the report beside the answer
+  pub taken : (a : Answer) (old mid new : Judge D) (j : Judged) → is_line device_line (first_result rest) ≡ false → MayOpen e old → Plays Stands e old.device (Ok a) mid.device → mid.weights ≡ old.weights → mid.clusters ≡ old.clusters → IsTaken e a rest mid.weights new.weights j → new.device ≡ mid.device → new.clusters ≡ mid.clusters
+      → Follows Stands events report clusters done (e ∷ es) rest old → JudgedTo Stands events report clusters done es rest (Ok j) new
+  taken a old mid new j line may plays weights clusters_are is device same h =
+      by_comparison a old new line may (subst (λ (d : D). Plays Stands e old.device (Ok a) d) (sym device) plays) (same ∙ clusters_are)
+      (λ log w. is.0 log (subst (λ (x : Weighed). IsWeighed x log) (sym weights) w)) h is.1.0 j is.1.1 is.1.2
+
+-- it is followed from the start of the report on
+pub followed : {D : Type 0} (Stands : D → State → Type 0) (events : List Event) (report : List ℕ) (clusters : ℕ) (j : Judge D) → length report < 2 ^ 31 → j.clusters ≡ clusters → Stands j.device (start mode.Replay empty_remote clusters) → IsWeighed j.weights [] → Follows Stands events report clusters 0 events report j
+followed Stands events report clusters j short same stands weighed = record {
+  trace = [];
+  state = start mode.Replay empty_remote clusters;
+  clusters_are = same;
+  at = at_start events report clusters (omega (arith, short));
+  stands = stands;
+  weighed = weighed;
+}
+
+-- and at its end
+pub ended : {D : Type 0} (Stands : D → State → Type 0) (events : List Event) (report : List ℕ) (clusters done : ℕ) (rest : List ℕ) (j : Judge D) → length report < 2 ^ 31 → Follows Stands events report clusters done [] rest j → IsVerdict events report clusters (at_end (is_empty rest) done)
+ended Stands events report clusters done rest j short h = at_the_end events report clusters (omega (arith, short)) done h.trace h.state rest h.at (is_empty rest) refl
+
+-- in code
+
+-- without memory the device did not answer
+pub unplayed : {D : Type 0} (Stands : D → State → Type 0) (e : Event) (old new : D) (m : NoMemory) → Plays Stands e old (Err m) new
+unplayed Stands e old new m = record { leads = λ s stands. record {} }
+
+pub told_taken : (e : Event) (a : Answer) (rest : List ℕ) (old new : Weighed) (c : Comparison) (r : Result Judged CheckError) → r ≡ judged_by c → IsComparison e a rest c → ((log : List (Usn × Change)) → IsWeighed old log → IsWeighed new (after_answer log e a)) → IfOk r (IsTaken e a rest old new)
+told_taken e a rest old new c (Ok j) told is weighs = (weighs, (c, is, sym told))
+told_taken e a rest old new c (Err f) told is weighs = tt
+
+pub by_result : {D : Type 0} (Stands : D → State → Type 0) (events : List Event) (report : List ℕ) (clusters done : ℕ) (e : Event) (es : List Event) (rest : List ℕ) (a : Answer) (old mid new : Judge D) (r : Result Judged CheckError) → length report < 2 ^ 31 → is_line device_line (first_result rest) ≡ false → MayOpen e old → Plays Stands e old.device (Ok a) mid.device → mid.weights ≡ old.weights → mid.clusters ≡ old.clusters
+    → IfOk r (IsTaken e a rest mid.weights new.weights) → new.device ≡ mid.device → new.clusters ≡ mid.clusters → Follows Stands events report clusters done (e ∷ es) rest old → JudgedTo Stands events report clusters done es rest r new
+by_result Stands events report clusters done e es rest a old mid new (Ok j) short line may plays weights clusters_are is device same h = taken Stands events report clusters done e es rest short a old mid new j line may plays weights clusters_are is device same h
+by_result Stands events report clusters done e es rest a old mid new (Err f) short line may plays weights clusters_are is device same h = record {}
+
+-- in the loop
+
+pub judged_wrong : {D : Type 0} (Stands : D → State → Type 0) (events : List Event) (report : List ℕ) (clusters done n : ℕ) (es : List Event) (rest : List ℕ) (new : Judge D) (r : Result Judged CheckError) (j : Judged) → r ≡ Ok j → j ≡ judged.Wrong → n ≡ done → JudgedTo Stands events report clusters done es rest r new → IsVerdict events report clusters (Unlawful (n + 1))
+judged_wrong Stands events report clusters done n es rest new r j is wrong at h =
+    subst (λ (k : ℕ). IsVerdict events report clusters (Unlawful k)) (let e : suc done ≡ n + 1 = omega (arith, at) in e) (subst (λ (x : Result Judged CheckError). JudgedTo Stands events report clusters done es rest x new) (is ∙ ap (λ (x : Judged). Ok x) wrong) h)
+
+pub judged_open : {D : Type 0} (Stands : D → State → Type 0) (events : List Event) (report : List ℕ) (clusters done n : ℕ) (es : List Event) (rest : List ℕ) (new : Judge D) (r : Result Judged CheckError) (j : Judged) → r ≡ Ok j → j ≡ judged.Open → n ≡ done → JudgedTo Stands events report clusters done es rest r new → IsVerdict events report clusters (Undecided (n + 1))
+judged_open Stands events report clusters done n es rest new r j is told at h =
+    subst (λ (k : ℕ). IsVerdict events report clusters (Undecided k)) (let e : suc done ≡ n + 1 = omega (arith, at) in e) (subst (λ (x : Result Judged CheckError). JudgedTo Stands events report clusters done es rest x new) (is ∙ ap (λ (x : Judged). Ok x) told) h)
+
+pub judged_on : {D : Type 0} (Stands : D → State → Type 0) (events : List Event) (report : List ℕ) (clusters done len : ℕ) (es : List Event) (rest after : List ℕ) (new : Judge D) (r : Result Judged CheckError) (j : Judged) → r ≡ Ok j → j ≡ judged.GoesOn len → after ≡ drop len rest → JudgedTo Stands events report clusters done es rest r new → Follows Stands events report clusters (done + 1) es after new
+judged_on Stands events report clusters done len es rest after new r j is on from h =
+    subst (λ (k : ℕ). Follows Stands events report clusters k es after new) (let e : suc done ≡ done + 1 = omega arith in e)
+    (subst (λ (xs : List ℕ). Follows Stands events report clusters (suc done) es xs new) (sym from) (subst (λ (x : Result Judged CheckError). JudgedTo Stands events report clusters done es rest x new) (is ∙ ap (λ (x : Judged). Ok x) on) h))

@@ -1,0 +1,52 @@
+-- A device whose run is followed beside a report, and what is said of the report at an event.
+use Rattle.std.specs.Prelude.{◌≡◌, ◌≤◌, ℕ, suc, true, List, [], ◌∷◌, drop, Result, Ok, Err}
+use Rattle.cf_base.specs.declared.answers.Answer.{Answer}
+use Rattle.cf_base.specs.declared.changes.Change.{Change}
+use Rattle.cf_base.specs.declared.events.Event.{Event}
+use Rattle.cf_base.specs.declared.ids.Usn.{Usn}
+use Rattle.cf_check_compare.specs.Passed.{IsComparison}
+use Rattle.cf_check_compare.specs.declared.comparisons.Comparison.{Comparison}
+use Rattle.cf_check_compare.specs.declared.comparisons.Comparison.TheVariants as compared
+use Rattle.cf_check_judge.specs.Settled.{IsAt}
+use Rattle.cf_check_model.specs.Judging.{IsVerdict}
+use Rattle.cf_check_model.specs.declared.verdicts.Verdict.TheVariants.{Unlawful, Undecided}
+use Rattle.cf_check_report.specs.declared.check_errors.CheckError.{CheckError}
+use Rattle.cf_check_report.specs.declared.judgements.Judged.{Judged}
+use Rattle.cf_check_report.specs.declared.judgements.Judged.TheVariants.{GoesOn, Open, Wrong}
+use Rattle.cf_check_report.specs.declared.judgements.Judge.{Judge}
+use Rattle.cf_check_report.specs.declared.check_errors.CheckError.TheVariants.{NotFollowed}
+use Rattle.cf_check_room.specs.Weights.{weight}
+use Rattle.cf_check_traces.specs.Tests.{is_restart}
+use Rattle.cf_check_weights.specs.Weighed.{IsWeighed, Weighed}
+use Rattle.cf_model.specs.State.{State}
+use Rattle.cf_model_headline.specs.Reports.{after_answer}
+
+-- The device has done the first events, and stands for a state of a run that is followed beside the report.
+pub record Follows {D : Type 0} (Stands : D → State → Type 0) (events : List Event) (report : List ℕ) (clusters done : ℕ) (es : List Event) (rest : List ℕ) (j : Judge D) : Type 0 where
+  pub trace : List (Event × Answer)
+  pub state : State
+  pub clusters_are : j.clusters ≡ clusters
+  pub at : IsAt events report clusters done es trace state rest
+  pub stands : Stands j.device state
+  pub weighed : IsWeighed j.weights state.filter.volume.log
+
+-- what is said at the next event: the run is followed with it, or this is the right verdict
+abbrev pub JudgedTo : {D : Type 0} → (D → State → Type 0) → List Event → List ℕ → ℕ → ℕ → List Event → List ℕ → Result Judged CheckError → Judge D → Type 0
+JudgedTo Stands events report clusters done es rest (Ok (GoesOn n)) j = Follows Stands events report clusters (suc done) es (drop n rest) j
+JudgedTo Stands events report clusters done es rest (Ok Wrong) j = IsVerdict events report clusters (Unlawful (suc done))
+JudgedTo Stands events report clusters done es rest (Ok Open) j = IsVerdict events report clusters (Undecided (suc done))
+JudgedTo Stands events report clusters done es rest (Err e) j = Unit {0}
+
+-- a restart is done where the log surely weighs no more than the clusters
+abbrev pub MayOpen : {D : Type 0} → Event → Judge D → Type 0
+MayOpen e j = is_restart e ≡ true → (log : List (Usn × Change)) → IsWeighed j.weights log → weight log ≤ j.clusters
+
+-- what a comparison says of the report
+abbrev pub judged_by : Comparison → Result Judged CheckError
+judged_by (compared.GoesOn n) = Ok (GoesOn n)
+judged_by compared.Differs = Ok Wrong
+judged_by compared.Lost = Err NotFollowed
+
+-- The answer is weighed, and so the report goes on beside it.
+abbrev pub IsTaken : Event → Answer → List ℕ → Weighed → Weighed → Judged → Type 0
+IsTaken e a rest old new j = ((log : List (Usn × Change)) → IsWeighed old log → IsWeighed new (after_answer log e a)) × ((c : Comparison) × IsComparison e a rest c × (judged_by c ≡ Ok j))

@@ -1,0 +1,147 @@
+//! One event of a report.
+
+ghost use Rattle.std.specs.Prelude.{◌≡◌, ◌<◌, ◌∷◌, ◌^◌, IfOk, List, ℕ, false, length, true};
+ghost use Rattle.cf_base.specs.declared.events.Event.{Event as Done};
+ghost use Rattle.cf_base.specs.declared.policies.Mode.TheVariants as mode;
+ghost use Rattle.cf_check_judge.specs.Judge.{first_result, is_line};
+ghost use Rattle.cf_check_model.specs.Reports.{device_line};
+ghost use Rattle.cf_check_report.specs.Following.{Follows, IsTaken, JudgedTo, MayOpen, judged_by};
+ghost use Rattle.cf_check_report.specs.Playing.{Plays};
+ghost use Rattle.cf_model.specs.Events.{is_of};
+
+use crate::check_errors::CheckError;
+use crate::devices::Device;
+use crate::weighing::weigh;
+use cf_base::{Answer, Event, OutOfMemory};
+use cf_check_compare::{Comparison, compare, fails_next, is_foreign, is_restart, tellings};
+use cf_check_weights::Weights;
+use std::alloc::Global;
+
+/// What is said of a report at one of its events.
+#[derive(Clone, Copy)]
+pub(crate) enum Judged {
+    /// It goes on with a lawful answer, which has so many bytes.
+    GoesOn(usize),
+    /// No lawful answer goes on so.
+    Wrong,
+    /// It goes on with the answer of a device that failed.
+    Open,
+}
+
+/// A device that is followed beside a report, the weight of its log, and its clusters.
+#[derive(Drop)]
+pub(crate) struct Judge<D> {
+    pub(crate) device: D,
+    pub(crate) weights: Weights,
+    pub(crate) clusters: u32,
+}
+
+// What is said by a comparison.
+fn judgement_of(compared: Comparison) -> Result<Judged, CheckError>
+    ensures { result ≡ judged_by compared }
+{
+    match compared {
+        Comparison::GoesOn(len) => Ok(Judged::GoesOn(len)),
+        Comparison::Differs => Ok(Judged::Wrong),
+        Comparison::Lost => Err(CheckError::NotFollowed),
+    }
+}
+
+// Weighs an answer, and holds it against the report.
+fn take(
+    weights: &mut Weights,
+    alloc: Global,
+    event: &Event,
+    answer: &Answer,
+    rest: &[u8],
+) -> Result<Judged, CheckError>
+    ensures { IfOk result (IsTaken event.now answer.now rest.now weights.old weights.new) }
+{
+    weigh(weights, event, answer)?;
+    let compared = compare(alloc, event, answer, rest)?;
+    judgement_of(compared)
+}
+
+impl<D: Device> Judge<D> {
+    // Does an event by what the report tells of the remote.
+    fn play(
+        self,
+        alloc: Global,
+        event: &Event,
+        rest: &[u8],
+    ) -> (Judge<D>, Result<Answer, OutOfMemory>)
+        requires { is_of mode.Replay event.now ≡ true }
+        ensures plays { Plays D.stands event.now self.device result.1 result.0.device }
+        ensures weights { result.0.weights ≡ self.weights }
+        ensures clusters { result.0.clusters ≡ self.clusters }
+    {
+        let fails = match tellings(alloc, event, rest) {
+            Ok(fails) => fails,
+            Err(fail) => return (self, Err(fail)),
+        };
+        let Judge {
+            device,
+            weights,
+            clusters,
+        } = self;
+        let (device, told) = device.step(alloc, event, fails);
+        let left = Judge {
+            device,
+            weights,
+            clusters,
+        };
+        (left, told)
+    }
+
+    // Does an event of `replay`, and holds its answer against the report.
+    fn follow(
+        self,
+        alloc: Global,
+        event: &Event,
+        rest: &[u8],
+    ) -> (Judge<D>, Result<Judged, CheckError>)
+        requires of { is_of mode.Replay event.now ≡ true }
+        requires runs { is_line device_line (first_result rest.now) ≡ false }
+        ensures { (events es : List Done) (report : List ℕ) (clusters done : ℕ) → length report < 2 ^ 31 → MayOpen event.now self
+            → Follows D.stands events report clusters done (event.now ∷ es) rest.now self → JudgedTo D.stands events report clusters done es rest.now result.1 result.0 }
+    {
+        let (mut left, told) = self.play(alloc, event, rest);
+        match told {
+            Ok(answer) => {
+                let judged = take(&mut left.weights, alloc, event, &answer, rest);
+                drop(answer);
+                (left, judged)
+            }
+            Err(fail) => (left, Err(CheckError::from(fail))),
+        }
+    }
+
+    // Whether the event is no restart, or one that can be followed.
+    fn may_open(&self, event: &Event) -> bool
+        ensures { result ≡ true → MayOpen event.now self.now }
+    {
+        !is_restart(event) || self.weights.fit(self.clusters)
+    }
+
+    /// Judges how the report goes on at an event.
+    pub(crate) fn judge(
+        self,
+        alloc: Global,
+        event: &Event,
+        rest: &[u8],
+    ) -> (Judge<D>, Result<Judged, CheckError>)
+        ensures { (events es : List Done) (report : List ℕ) (clusters done : ℕ) → length report < 2 ^ 31
+            → Follows D.stands events report clusters done (event.now ∷ es) rest.now self → JudgedTo D.stands events report clusters done es rest.now result.1 result.0 }
+    {
+        if fails_next(rest) {
+            return (self, Ok(Judged::Open));
+        }
+        if is_foreign(event) {
+            return (self, Ok(Judged::Wrong));
+        }
+        if !self.may_open(event) {
+            return (self, Err(CheckError::NotFollowed));
+        }
+        self.follow(alloc, event, rest)
+    }
+}

@@ -1,0 +1,16 @@
+//! A report is judged beside a device that does the events of its script again: each of its answers is held against how the report goes on.
+//!
+//! `judge` promises that the verdict is right whatever lawful answers a device may have given, and not only those of this one. It needs of
+//! the device that its answers are lawful over a remote that kept its rules. It gives no verdict where it lost the report's way, which
+//! `CheckError::NotFollowed` explains.
+#![tactic(auto)]
+
+mod check_errors;
+mod devices;
+mod judgements;
+mod reports;
+mod weighing;
+
+pub use check_errors::CheckError;
+pub use devices::Device;
+pub use reports::judge;
