@@ -10,6 +10,7 @@ use Rattle.cf_pair_events.specs.declared.answers.PairAnswer.{PairAnswer}
 use Rattle.cf_pair_events.specs.declared.events.PairEvent.{PairEvent}
 use Rattle.cf_pair_model.specs.declared.devices.Device.TheVariants as device
 use Rattle.cf_pair_run.specs.Led.{RunsOver}
+use Rattle.cf_pair_settled.specs.Settled.{SaysEqual}
 use Rattle.cf_pair_traces.specs.Pairs.{IsPairStep, Pair, PairRuns}
 use Rattle.cf_pair_world.specs.Owned.{PowerBy, own}
 use Rattle.cf_world.proofs.OverPowers.{power_last, power_more, same_last}
@@ -31,7 +32,7 @@ alone last o t powers more after none h =
 
 -- one more event
 pub over_push : (a b : Option (List ℕ)) (p mid q : Pair) (trace : List (PairEvent × PairAnswer)) (cuts more cut other : List (Choice × List ℕ)) (e : PairEvent) (x : PairAnswer) (c d : Option (List ℕ))
-    → RunsOver a b p trace cuts more mid → IsPairStep mid e x q → PowerBy (last_image a cuts) (own device.First e x) q.first cut c [] → PowerBy (last_image b more) (own device.Second e x) q.second other d []
+    → RunsOver a b p trace cuts more mid → IsPairStep mid e x q × SaysEqual x mid → PowerBy (last_image a cuts) (own device.First e x) q.first cut c [] → PowerBy (last_image b more) (own device.Second e x) q.second other d []
     → RunsOver a b p (trace ++ (e, x) ∷ []) (cuts ++ cut) (more ++ other) q
 over_push a b p mid q [] cuts more cut other e x c d h is first second = (
   q,
@@ -39,7 +40,7 @@ over_push a b p mid q [] cuts more cut other e x c d h is first second = (
   d,
   [],
   [],
-  subst (λ (y : Pair). IsPairStep y e x q) h.0 is,
+  subst (λ (y : Pair). IsPairStep y e x q × SaysEqual x y) h.0 is,
   alone a (own device.First e x) q.first cuts cut c h.1 first,
   alone b (own device.Second e x) q.second more other d h.2 second,
   (refl, refl, refl),
@@ -61,4 +62,4 @@ over_push a b p mid q (y ∷ ys) cuts more cut other e x c d h is first second =
 -- a run over power cuts is a run
 pub over_runs : (a b : Option (List ℕ)) (p q : Pair) (trace : List (PairEvent × PairAnswer)) (cuts more : List (Choice × List ℕ)) → RunsOver a b p trace cuts more q → PairRuns p trace q
 over_runs a b p q [] cuts more h = h.0
-over_runs a b p q (x ∷ xs) cuts more h = (h.0, h.5, over_runs h.1 h.2 h.0 q xs h.3 h.4 h.8)
+over_runs a b p q (x ∷ xs) cuts more h = (h.0, h.5.0, over_runs h.1 h.2 h.0 q xs h.3 h.4 h.8)

@@ -106,7 +106,7 @@ module _ {D R : Type 0} (state : D → Disk) (told : R → Told) (first second :
         first_told = s.first_then.told;
         second_told = s.second_then.told;
         runs =
-            over_push None None (began held) r.left s.left trace r.first_powers r.second_powers s.first_owns.powers s.second_owns.powers e a s.first_then.last s.second_then.last r.runs s.step
+            over_push None None (began held) r.left s.left trace r.first_powers r.second_powers s.first_owns.powers s.second_owns.powers e a s.first_then.last s.second_then.last r.runs (s.step, s.settled)
             s.first_owns.power s.second_owns.power;
         first_led =
             subst (λ (xs : List (Event × Answer)). LedDisk (state first) (state (disk_of new.first)) s.first_then.told (r.first_powers ++ s.first_owns.powers) xs) (sym (events_push device.First trace e a))

@@ -21,6 +21,7 @@ use Rattle.cf_pair_events.specs.declared.comparisons.Comparison.TheVariants as c
 use Rattle.cf_pair_events.specs.declared.events.PairEvent.{PairEvent}
 use Rattle.cf_pair_model.specs.declared.devices.Device.{Device}
 use Rattle.cf_pair_model.specs.declared.devices.Device.TheVariants as device
+use Rattle.cf_pair_settled.specs.Settled.{SaysEqual}
 use Rattle.cf_pair_traces.specs.Pairs.{IsPairStep, Pair, PairRuns, path_row, path_rows, start_pair}
 use Rattle.cf_pair_world.specs.Owned.{PowerBy, faults_of, own}
 use Rattle.cf_pair_world.specs.Sharing.{Shares}
@@ -45,13 +46,13 @@ abbrev pub faults_by : List (PairEvent × PairAnswer) → ℕ
 faults_by [] = 0
 faults_by (x ∷ xs) = faults_of x.1 + faults_by xs
 
--- As PairRuns; besides, each device has one power cut of its disk for each of its crashes, with its choice and in order, and each
--- `resumed` of it opens what the image that the last of them left stands for.
+-- As PairRuns, and a comparison of settled devices says equal. Besides, each device has one power cut of its disk for each of its
+-- crashes, with its choice and in order, and each `resumed` of it opens what the image that the last of them left stands for.
 abbrev pub RunsOver : Option (List ℕ) → Option (List ℕ) → Pair → List (PairEvent × PairAnswer) → List (Choice × List ℕ) → List (Choice × List ℕ) → Pair → Type 0
 RunsOver a b p [] cuts more q = (q ≡ p) × (cuts ≡ []) × (more ≡ [])
 RunsOver a b p (x ∷ xs) cuts more q =
     (mid : Pair) × (c : Option (List ℕ)) × (d : Option (List ℕ)) × (rest : List (Choice × List ℕ)) × (others : List (Choice × List ℕ))
-    × IsPairStep p x.0 x.1 mid × PowerBy a (own device.First x.0 x.1) mid.first cuts c rest × PowerBy b (own device.Second x.0 x.1) mid.second more d others × RunsOver c d mid xs rest others q
+    × (IsPairStep p x.0 x.1 mid × SaysEqual x.1 p) × PowerBy a (own device.First x.0 x.1) mid.first cuts c rest × PowerBy b (own device.Second x.0 x.1) mid.second more d others × RunsOver c d mid xs rest others q
 
 -- what two devices have where a comparison says equal
 

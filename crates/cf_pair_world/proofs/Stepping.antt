@@ -24,6 +24,7 @@ use Rattle.cf_pair_lane.specs.declared.absences.Away.{Away}
 use Rattle.cf_pair_model.specs.Seen.{held_seen}
 use Rattle.cf_pair_model.specs.declared.devices.Device.TheVariants as device
 use Rattle.cf_pair_traces.specs.Pairs.{Compares, Pair}
+use Rattle.cf_pair_world.proofs.Comparing.{says_equal}
 use Rattle.cf_pair_world.specs.Owned.{Owned}
 use Rattle.cf_pair_world.specs.Sharing.{Shares, Trusts, resting}
 use Rattle.cf_pair_world.specs.Steps.{SteppedBy, Steps, answered_by}
@@ -58,6 +59,7 @@ module _ {D R : Type 0} (state : D → Disk) (told : R → Told) (old : PairWorl
         first_then = t.then;
         second_then = second;
         step = (of, t.left, t.step, refl);
+        settled = record {};
         shares = record {
           first_is = t.is;
           second_is = h.second_is;
@@ -86,6 +88,7 @@ module _ {D R : Type 0} (state : D → Disk) (told : R → Told) (old : PairWorl
         first_then = first;
         second_then = t.then;
         step = (of, t.left, t.step, refl);
+        settled = record {};
         shares = record {
           first_is = h.first_is;
           second_is = t.is;
@@ -114,6 +117,7 @@ module _ {D R : Type 0} (state : D → Disk) (told : R → Told) (old : PairWorl
         first_then = first;
         second_then = second;
         step = (t.left, t.step, refl);
+        settled = record {};
         shares = record {
           first_is = h.first_is;
           second_is = h.second_is;
@@ -141,6 +145,7 @@ module _ {D R : Type 0} (state : D → Disk) (told : R → Told) (old : PairWorl
       first_then = first;
       second_then = second;
       step = (compares first second p.first p.second h.first_is h.second_is, refl);
+      settled = says_equal state first second old.first old.second p c h.first_is h.second_is (compares first second p.first p.second h.first_is h.second_is);
       shares = h;
       first_owns = none_owned state p.first first (disk_of old.first);
       second_owns = none_owned state p.second second (disk_of old.second);
