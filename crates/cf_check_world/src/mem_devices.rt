@@ -1,0 +1,123 @@
+//! A device in memory.
+
+ghost use Rattle.std.specs.Prelude.{◌≡◌, ◌≤◌, IfOk, None, Some, true};
+ghost use Rattle.cf_base.specs.declared.policies.Mode.TheVariants as mode;
+ghost use Rattle.cf_check_report.specs.Playing.{Plays};
+ghost use Rattle.cf_check_world.specs.Devices.{Stands, calm, is_stop};
+ghost use Rattle.cf_disk.specs.Disk.{size_of};
+ghost use Rattle.cf_disk.specs.MemState.{mem_state};
+ghost use Rattle.cf_journal.specs.Settled.{IsFitSize};
+ghost use Rattle.cf_model.specs.Events.{is_of};
+ghost use Rattle.cf_model.specs.State.{start};
+ghost use Rattle.cf_model.specs.Store.{empty_remote};
+ghost use Rattle.cf_volume.specs.Calls.{IsMemory};
+ghost use Rattle.cf_volume_points.specs.Standing.{clusters_on};
+
+use crate::told_remotes::ToldRemote;
+use cf_base::limits::BLOCK_BYTES;
+use cf_base::{Answer, CallError, DeviceEvent, Event, OutOfMemory};
+use cf_check_report::Device;
+use cf_disk::MemDisk;
+use cf_engine::SyncActor;
+use cf_filter_events::Acting;
+use cf_journal::LEAST_SIZE;
+use cf_pair_lane::Away;
+use std::alloc::Global;
+
+/// A device in memory with its engine and its remote.
+#[derive(Drop)]
+pub struct MemDevice {
+    pub(crate) acting: Acting<MemDisk, SyncActor<ToldRemote>>,
+}
+
+// A disk for so many clusters, of which no call fails.
+fn new_disk(alloc: Global, clusters: u32) -> Result<MemDisk, OutOfMemory>
+    requires { clusters ≤ 65536 }
+    ensures fit { IfOk result (λ d. IsFitSize (size_of (mem_state d))) }
+    ensures clusters { IfOk result (λ d. clusters_on (mem_state d).seen ≡ clusters) }
+    ensures calm { IfOk result (λ d. (mem_state d).armed ≡ Some None) }
+{
+    MemDisk::new(alloc, LEAST_SIZE + u64::from(clusters) * BLOCK_BYTES)
+}
+
+// Why no device was made. A disk that is not armed does not fail.
+fn unmade(fail: CallError) -> OutOfMemory
+    requires { IsMemory fail }
+{
+    match fail {
+        CallError::No(_code) => unreachable!(),
+        CallError::OutOfMemory => OutOfMemory,
+    }
+}
+
+// The event that is done in the place of one that arms the device. What the number is changes no answer, and with the greatest one the
+// device does not fail, so that the report alone says where one did.
+fn calm() -> Event
+    ensures { result ≡ calm }
+{
+    Event::Device(DeviceEvent::Stop { calls: u32::MAX })
+}
+
+fn is_stop(event: &Event) -> bool
+    ensures { result ≡ is_stop event.now }
+{
+    match event {
+        Event::Device(DeviceEvent::Stop { .. }) => true,
+        _ => false,
+    }
+}
+
+impl MemDevice {
+    /// A device that was just made, with so many clusters, at most 65,536, beside an empty remote of which no ask fails.
+    pub fn start(alloc: Global, clusters: u32) -> Result<MemDevice, OutOfMemory>
+        requires { clusters ≤ 65536 }
+        ensures { IfOk result (λ d. Stands d (start mode.Replay empty_remote clusters)) }
+    {
+        let remote = ToldRemote::new(alloc)?;
+        let disk = new_disk(alloc, clusters)?;
+        match Acting::start(alloc, disk, SyncActor::new(alloc, remote)) {
+            Ok(acting) => Ok(MemDevice { acting }),
+            Err((disk, actor, fail)) => {
+                drop(disk);
+                drop(actor);
+                Err(unmade(fail))
+            }
+        }
+    }
+
+    // Does an event as it is.
+    fn act(
+        self,
+        alloc: Global,
+        event: &Event,
+        fails: Vec<bool>,
+    ) -> (MemDevice, Result<Answer, OutOfMemory>)
+        requires { is_of mode.Replay event.now ≡ true }
+        ensures { Plays Stands event.now self result.1 result.0 }
+    {
+        let (volume, actor) = self.acting.apart();
+        let (actor, remote) = actor.with_remote(Away);
+        let (actor, _away) = actor.with_remote(remote.with_tellings(fails));
+        let (acting, told) = volume.with_actor(actor).step(alloc, event);
+        (MemDevice { acting }, told)
+    }
+}
+
+impl Device for MemDevice {
+    ghost use Rattle.cf_check_world.specs.Devices.{Stands};
+
+    ghost stands = { Stands };
+
+    fn step(
+        self,
+        alloc: Global,
+        event: &Event,
+        fails: Vec<bool>,
+    ) -> (MemDevice, Result<Answer, OutOfMemory>) {
+        if is_stop(event) {
+            self.act(alloc, &calm(), fails)
+        } else {
+            self.act(alloc, event, fails)
+        }
+    }
+}
