@@ -12,7 +12,8 @@ const FAULT: &[u8] = b"- fault ";
 const SENT: &[u8] = b"- sent ";
 
 /// Which of the requests of an event failed, in turn, as the report that goes on with its answer tells it. Under an inline link each request
-/// that was sent comes to the remote at once, and it failed where the next line says so. Fails where there is no memory for them.
+/// that was sent comes to the remote at once, and it failed where the next line says so. Fails where there is no memory for them. No clause
+/// says what it gives: where it is wrong a judge gives no verdict, and never a wrong one.
 pub fn tellings(alloc: Global, event: &Event, rest: &[u8]) -> Result<Vec<bool>, OutOfMemory> {
     match event {
         Event::Peer(_) => one(alloc, rest.starts_with(PEER_FAULT)),

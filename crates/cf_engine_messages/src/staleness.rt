@@ -82,7 +82,7 @@ fn made_item(request: &Request, settled: Rid, reply: &Reply) -> Option<Rid>
     }
 }
 
-// Whether a local item is this item of the remote, if there is one. It takes time by the items where it is no later than each of their
+// Whether a local item is this item of the remote, if there is one. It takes time by the items where it may not be later than each of their
 // targets: a remote that counts its items gives a later one.
 fn is_here<S: EngineHost>(s: &S, made: Option<Rid>) -> Result<bool, OutOfMemory>
     ensures { IfOk result (λ x. FilterReads S.sense AnyFilter (is_here made) s.now x) }

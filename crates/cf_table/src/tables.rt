@@ -77,8 +77,7 @@ impl Rows {
     }
 
     /// Whether each item's target, the item of the remote that its identity names, comes before this one. It takes no walk over the
-    /// rows, and may be false also where it is so: it is true of an item of the remote that is greater than each that a row
-    /// ever named, where identities are those of an engine.
+    /// rows, and may be false also where it is so: targets that rows named before count too.
     pub fn is_above_targets(&self, rid: Rid) -> bool
         ensures { result ≡ true → (items : List Item) → MeansAll self.now.rows items → All (λ i. (target_of i).0 < rid.0) items }
     {
