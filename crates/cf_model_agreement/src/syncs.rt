@@ -23,8 +23,8 @@ ghost use Rattle.cf_model_convergence.specs.Tidy.{IsTidy};
 /// A `sync` in a run whose answer is a count and has no line of a change, of an upload that was done or refused, of a step that was
 /// left out, of trouble, or of a reply that there are no such bytes: the state that it leaves is settled, and the count is 0. So it is
 /// over a remote that was handed in tidy and a link that answers at once, where the remote has kept its rules or failed so far, keys and
-/// numbers of messages are left, and no list call and no dehydration waits. The state is settled as a whole where each live item of the
-/// remote that the cursor has passed is here, and each directory is populated.
+/// numbers of messages are left, no list call waits, and a live ask is for each dehydration that does. The state is settled as a whole
+/// where each live item of the remote that the cursor has passed is here, and each directory is populated.
 #[tactic(auto, using(crate::proofs::KnownSyncs::sync_silent, crate::proofs::KnownSyncs::sync_silent_all))]
 pub fn a_silent_sync_settles()
     ensures local { (remote : Held) (clusters : ℕ) (trace : List (Event × Answer)) (s : State) (a : Answer) (t : State) → Runs mode.Replay (start mode.Replay remote clusters) trace s → IsFresh remote → IsTidy remote → s.link.inline ≡ true → AreKeysWithin s.filter → ArePlainWaits s → IsStep mode.Replay s (event.Engine engine.Sync) a t → IsFair t.link → is_count a.shown ≡ true → list_any is_heard a.notes ≡ false → no_number t ≡ false → (is_settled false t ≡ true) × (a.shown ≡ shown.Count 0) }

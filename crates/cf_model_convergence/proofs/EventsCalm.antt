@@ -12,7 +12,7 @@ use Rattle.cf_model.specs.Events.{answer_in, answered, begun, choices_in, may_st
 use Rattle.cf_model.specs.Lawful.{IsStep, Runs}
 use Rattle.cf_model.specs.Messages.{no_number}
 use Rattle.cf_model.specs.Passes.{showing, unless_down}
-use Rattle.cf_model.specs.Requests.{is_dehydrate_wait, is_list_wait}
+use Rattle.cf_model.specs.Requests.{is_list_wait}
 use Rattle.cf_model.specs.State.{Broken, Off, On, Power, State, start}
 use Rattle.cf_model.specs.Store.{Held}
 use Rattle.cf_model.specs.Trees.{AsItKeeps, Asked, Choices, Ends, Fork, Ret, Step, Telling, Tree, walk}
@@ -22,7 +22,7 @@ use Rattle.cf_model_laws.proofs.ContentLaws.{run_sound, sound_whole}
 use Rattle.cf_model_laws.proofs.Gathered.{all_weaker}
 use Rattle.cf_model_laws.proofs.RightItems.{no_way}
 use Rattle.cf_model_convergence.specs.Agreeing.{IsAgreed, IsKeptUp}
-use Rattle.cf_model_convergence.specs.Hearing.{IsPlainAsk, ArePlainWaits, IsHeard, is_heard}
+use Rattle.cf_model_convergence.specs.Hearing.{ArePlainWaits, IsHeard, IsPlainAsk, IsPlainWait, is_heard}
 use Rattle.cf_model_convergence.specs.Tidy.{IsTidy}
 use Rattle.cf_model_convergence.proofs.PlacedItems.{placed_dirs, run_placed}
 use Rattle.cf_model_convergence.proofs.QuietPasses.{kept_agreed}
@@ -76,7 +76,7 @@ run_event f ok refuses E remote clusters trace s each runs given e a t step fair
   was_fair = step_fair s e a t step (run_sound remote clusters trace s runs given.0) fair
 
   agreed : IsAgreed s
-  agreed = kept_agreed remote clusters trace s runs given.0 given.1 was_fair (all_weaker (λ w. (is_list_wait w.kind ≡ false) × (is_dehydrate_wait w.kind ≡ false)) (λ w. is_list_wait w.kind ≡ false) (λ w z. z.0) s.filter.waiting.waits given.4) given.5
+  agreed = kept_agreed remote clusters trace s runs given.0 given.1 was_fair (all_weaker (IsPlainWait s.filter.waiting.asks) (λ w. is_list_wait w.kind ≡ false) (λ w z. z.0) s.filter.waiting.waits given.4) given.5
 
   set : s.power ≡ On → s.filter.connected ≡ true → IsSet (showing (begun s))
   set on up = record {

@@ -50,10 +50,10 @@ use Rattle.cf_model_laws.specs.Premises.{IsFair}
 use Rattle.cf_model_laws.proofs.Gathered.{all_append, all_filter, all_map}
 use Rattle.cf_model_laws.proofs.RightItems.{no_way}
 use Rattle.cf_model_laws.proofs.SoundSettles.{left_true, no_cause, or_right, right_true, same_item}
-use Rattle.cf_model_convergence.specs.Hearing.{IsCalm, IsHeard, IsOpenTo, IsPlainAsk}
+use Rattle.cf_model_convergence.specs.Hearing.{IsCalm, IsHeard, IsOpenTo, IsPlainAsk, IsPlainWait}
 use Rattle.cf_model_convergence.specs.Telling.{IsListening}
 use Rattle.cf_model_convergence.proofs.TurnsTold.{ends_bind}
-use Rattle.cf_model_convergence.proofs.WaitsCalm.{IsPlainWait, IsSameBut, ends_same, keyed_plain, lacks_some, last_left, new_plain, some_missed, stays_any, was_any}
+use Rattle.cf_model_convergence.proofs.WaitsCalm.{IsSameBut, ends_same, kept_asks, kept_plain, keyed_plain, lacks_some, last_left, more_plain, new_plain, some_missed, stays_any, was_any}
 use Rattle.cf_model_convergence.proofs.SinceGuarded.{Follows, Since, since_follows, since_guarded, since_start}
 
 -- the hydration of a file that lacks a byte
@@ -217,15 +217,18 @@ module _ (i : Item) (s : State) (h : Invariant s) (fair : IsFair s.link) (listen
       by true q z = inl (rw q refl)
       by false q z = waited (was_any left (λ v. (v.item.0 == id.0) && not (same_key v.id.0 no_key)) own x.waiting.waits (subst (λ (ws : List Wait). list_any (λ v. (v.item.0 == id.0) && not (same_key v.id.0 no_key)) ws ≡ true) waits_now z))
 
-    plain_waits : All IsPlainWait y.waiting.waits
-    plain_waits = subst (All IsPlainWait) (sym waits_now) (all_filter IsPlainWait _ (x.waiting.waits ++ own ∷ []) (all_append IsPlainWait x.waiting.waits (own ∷ []) ready.waits ((refl, refl), tt)))
+    now_plain : All (IsPlainWait (kept_asks i.id (view_at x i.id) now x.waiting.asks)) now
+    now_plain = kept_plain i.id (view_at x i.id) now x.waiting.asks (all_filter (IsPlainWait x.waiting.asks) _ (x.waiting.waits ++ own ∷ []) (all_append (IsPlainWait x.waiting.asks) x.waiting.waits (own ∷ []) ready.waits ((refl, λ z. no_way z), tt)))
+
+    plain_waits : All (IsPlainWait y.waiting.asks) y.waiting.waits
+    plain_waits = subst (λ (w : Waiting). All (IsPlainWait w.asks) w.waits) (sym b.same.waiting) (more_plain (kept_asks i.id (view_at x i.id) now x.waiting.asks) (begun need x).0.made now now_plain)
 
     plain_boxed : All IsPlainAsk y.outbox
     plain_boxed =
         subst (All IsPlainAsk) (sym b.same.outbox)
         (all_append IsPlainAsk x.outbox (map (λ a. a.ask) (begun need x).0.made) ready.boxed
         (all_map (λ a. IsPlainAsk a.ask) IsPlainAsk (λ a. a.ask) (λ a k. k) (begun need x).0.made
-        (keyed_plain x.waiting.epoch x.waiting.key_count _ (new_plain i.id (view_at x i.id) now _ (subst (All IsPlainWait) waits_now plain_waits)))))
+        (keyed_plain x.waiting.epoch x.waiting.key_count _ (new_plain i.id (view_at x i.id) now _ now_plain))))
 
     -- the state once the callbacks are over, with nothing heard
     over : (m t : State) → IsDrained ended m → t ≡ with_filter (begin_call m.filter) m → IsCalm s t × (is_hydrating i.id t ≡ true) × IsOpenTo t
@@ -250,7 +253,7 @@ module _ (i : Item) (s : State) (h : Invariant s) (fair : IsFair s.link) (listen
         subst (λ (g : Filter). list_any (λ v. is_hydrate_wait v.kind && (v.item.0 == i.id.0)) g.waiting.waits ≡ true) (sym f) (waits_own y b),
         record {
           connected = ap (λ (g : Filter). g.connected) f ∙ b.same.connected ∙ ready.connected;
-          waits = subst (λ (g : Filter). All IsPlainWait g.waiting.waits) (sym f) plain_waits;
+          waits = subst (λ (g : Filter). All (IsPlainWait g.waiting.asks) g.waiting.waits) (sym f) plain_waits;
           boxed = d.boxed;
         },
       )

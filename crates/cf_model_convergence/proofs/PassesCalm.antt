@@ -33,8 +33,8 @@ use Rattle.cf_model_convergence.proofs.TurnsTold.{ends_bind}
 use Rattle.cf_model_convergence.proofs.FedKnown.{fed_ready}
 use Rattle.cf_model_convergence.proofs.FedHere.{all_targets}
 use Rattle.cf_model.specs.Items.{Item, item_of}
-use Rattle.cf_model.specs.Requests.{is_dehydrate_wait, is_list_wait}
-use Rattle.cf_model_convergence.specs.Hearing.{AreDirs, IsHeard, IsOpenTo}
+use Rattle.cf_model.specs.Requests.{is_list_wait}
+use Rattle.cf_model_convergence.specs.Hearing.{AreDirs, IsHeard, IsOpenTo, IsPlainWait}
 use Rattle.cf_model_convergence.proofs.HeardLines.{heard_after, heard_of, heard_then}
 use Rattle.cf_model_convergence.proofs.PushesCalm.{calm_targets, IsIdleTo, fair_calm, listens_calm, pushes_calm, ready_calm, rest_at}
 use Rattle.cf_model_convergence.proofs.QuietPasses.{agreed_settled, here_settled, kept_agreed}
@@ -202,4 +202,4 @@ pub run_calm : (remote : Held) (clusters : ℕ) (trace : List (Event × Answer))
     → IsOpenTo s → IsKeptUp s → Ends (pass s) u t → no_number t ≡ false → IsHeard s t ⊎ (is_settled false t ≡ true)
 run_calm remote clusters trace s u t runs fresh tidy fair listening ready k ends left =
     pass_calm s u t (run_sound remote clusters trace s runs fresh) fair listening ready (placed_dirs s (run_placed remote clusters trace s runs fresh) fair)
-    (kept_agreed remote clusters trace s runs fresh tidy fair (all_weaker (λ w. (is_list_wait w.kind ≡ false) × (is_dehydrate_wait w.kind ≡ false)) (λ w. is_list_wait w.kind ≡ false) (λ w z. z.0) s.filter.waiting.waits ready.waits) k) ends left
+    (kept_agreed remote clusters trace s runs fresh tidy fair (all_weaker (IsPlainWait s.filter.waiting.asks) (λ w. is_list_wait w.kind ≡ false) (λ w z. z.0) s.filter.waiting.waits ready.waits) k) ends left

@@ -1,5 +1,5 @@
 -- What a pass reports that hydrates files too, and what it leaves where it reports nothing.
-use Rattle.std.specs.Prelude.{Bool, true, false, List, Some, ◌||◌, ◌++◌, ◌≡◌, ◌⊎◌}
+use Rattle.std.specs.Prelude.{Bool, true, false, List, Some, ◌&&◌, ◌||◌, ◌++◌, ◌≡◌, ◌⊎◌}
 use Rattle.std.specs.List.{list_any}
 use Rattle.cf_base.specs.declared.ids.ItemId.{ItemId}
 use Rattle.cf_base.specs.declared.messages.Reply.TheVariants as reply
@@ -9,8 +9,10 @@ use Rattle.cf_base.specs.declared.notices.Notice.{Notice}
 use Rattle.cf_base.specs.declared.notices.Notice.TheVariants as notice
 use Rattle.cf_base.specs.declared.waits.Ask.{Ask}
 use Rattle.cf_model.specs.Items.{Item, item_of}
+use Rattle.cf_model.specs.Missing.{Wait}
+use Rattle.cf_model.specs.Numbers.{same_key}
 use Rattle.cf_model.specs.Pushes.{is_hydrating}
-use Rattle.cf_model.specs.Requests.{is_dehydrate, is_dehydrate_wait, is_list, is_list_wait}
+use Rattle.cf_model.specs.Requests.{Live, is_dehydrate, is_dehydrate_wait, is_list, is_list_wait}
 use Rattle.cf_model.specs.Skips.{in_use}
 use Rattle.cf_model.specs.State.{State, book_now, items_now}
 use Rattle.cf_model_laws.specs.Invariant.{All}
@@ -36,11 +38,18 @@ pub record IsHeard (s t : State) : Type 0 where
 abbrev pub IsPlainAsk : Ask → Type 0
 IsPlainAsk a = (is_list a.kind ≡ false) × (is_dehydrate a.kind ≡ false)
 
--- no list call and no dehydration waits
-abbrev pub ArePlainWaits : State → Type 0
-ArePlainWaits s = All (λ w. (is_list_wait w.kind ≡ false) × (is_dehydrate_wait w.kind ≡ false)) s.filter.waiting.waits
+-- a live ask is for the dehydration that waits
+abbrev pub is_asked_for : List Live → Wait → Bool
+is_asked_for asks w = list_any (λ a. is_dehydrate a.ask.kind && same_key a.wait.0 w.id.0) asks
 
--- A provider is connected. No list call and no dehydration waits, and no callback of one is still to be called.
+abbrev pub IsPlainWait : List Live → Wait → Type 0
+IsPlainWait asks w = (is_list_wait w.kind ≡ false) × (is_dehydrate_wait w.kind ≡ true → is_asked_for asks w ≡ true)
+
+-- no list call waits, and a live ask is for each dehydration that does
+abbrev pub ArePlainWaits : State → Type 0
+ArePlainWaits s = All (IsPlainWait s.filter.waiting.asks) s.filter.waiting.waits
+
+-- A provider is connected. No list call waits, and a live ask is for each dehydration that does; no callback of such an ask is still to be called.
 pub record IsOpenTo (s : State) : Type 0 where
   pub connected : s.filter.connected ≡ true
   pub waits : ArePlainWaits s

@@ -113,8 +113,8 @@ pub fn an_untold_pass_of_a_run_leaves_a_settled_state()
 {}
 
 /// A file that lacks bytes is hydrated before it is uploaded. Over a link that answers at once, with a provider connected, where no
-/// list call and no dehydration waits: a line reports a change, a step that was left out, trouble, or a reply that there are no
-/// such bytes; or the file is waited for then, and of all else only what is asked and waited for, the callbacks, the notes, the
+/// list call waits and a live ask is for each dehydration that does: a line reports a change, a step that was left out, trouble, or a
+/// reply that there are no such bytes; or the file is waited for then, and of all else only what is asked and waited for, the callbacks, the notes, the
 /// accesses and the numbers of messages are others.
 #[tactic(auto, using(crate::proofs::HydratesCalm::hydrate_calm))]
 pub fn a_hydration_is_heard_or_waited_for()
@@ -130,7 +130,7 @@ pub fn an_unheard_pass_leaves_a_settled_state()
 {}
 
 /// In a run over a remote that was handed in tidy, it is enough of that agreement that what the cursor has passed is known. That
-/// premise is left, and that no list call and no dehydration waits.
+/// premise is left, and that no list call waits and a live ask is for each dehydration that does.
 #[tactic(auto, using(crate::proofs::PassesCalm::run_calm))]
 pub fn an_unheard_pass_of_a_run_leaves_a_settled_state()
     ensures { (remote : Held) (clusters : ℕ) (trace : List (Event × Answer)) (s : State) (u : Unit {0}) (t : State) → Runs mode.Replay (start mode.Replay remote clusters) trace s → IsFresh remote → IsTidy remote → IsFair s.link → IsListening s → IsOpenTo s → IsKeptUp s → Ends (pass s) u t → no_number t ≡ false → IsHeard s t ⊎ (is_settled false t ≡ true) }

@@ -5,6 +5,7 @@ use Rattle.cf_model.specs.Identities.{has_target}
 use Rattle.cf_model.specs.Requests.{is_dehydrate_wait, is_list}
 use Rattle.cf_model.specs.State.{State, book_now, items_now}
 use Rattle.cf_model_laws.specs.Invariant.{All, Among}
+use Rattle.cf_model_convergence.specs.Hearing.{is_asked_for}
 use Rattle.cf_model_convergence.specs.Lasting.{Fact}
 use Rattle.cf_model_convergence.specs.Tidy.{IsLower}
 use Rattle.cf_model_convergence.specs.Trees.{NoneLists}
@@ -20,9 +21,9 @@ ArePopulated r items b = All IsPopulated items
 abbrev pub AreUnlisted : State → Type 0
 AreUnlisted s = NoneLists s × All (λ a. is_list a.ask.kind ≡ false) s.filter.waiting.asks
 
--- no dehydration waits
-abbrev pub NoneDehydrates : State → Type 0
-NoneDehydrates s = All (λ w. is_dehydrate_wait w.kind ≡ false) s.filter.waiting.waits
+-- a live ask is for each dehydration that waits
+abbrev pub AreDehydratesAsked : State → Type 0
+AreDehydratesAsked s = All (λ w. is_dehydrate_wait w.kind ≡ true → is_asked_for s.filter.waiting.asks w ≡ true) s.filter.waiting.waits
 
 -- each live item of the remote that the cursor has passed is an item here
 abbrev pub ArePassedHere : State → Type 0

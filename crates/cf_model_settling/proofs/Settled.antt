@@ -12,7 +12,7 @@ use Rattle.cf_model.specs.Settled.{is_settled}
 use Rattle.cf_model.specs.State.{State, start}
 use Rattle.cf_model.specs.Store.{Held}
 use Rattle.cf_model_agreement.proofs.KnownSyncs.{sync_silent, work_silent}
-use Rattle.cf_model_convergence.specs.Hearing.{ArePlainWaits}
+use Rattle.cf_model_convergence.specs.Hearing.{ArePlainWaits, IsPlainWait, is_asked_for}
 use Rattle.cf_model_convergence.specs.Quiet.{is_accepted, is_count}
 use Rattle.cf_model_convergence.specs.Tidy.{IsTidy}
 use Rattle.cf_model_convergence.specs.Trees.{NoneLists}
@@ -31,7 +31,7 @@ module _ (remote : Held) (clusters : ℕ) (fresh : IsFresh remote) (tidy : IsTid
   plain : IsFair s.link → IsReady before s t → ArePlainWaits s
   plain fair ready =
       let none : NoneLists s = elim ready.lists [ inl always ↦ (none_listed remote clusters before s runs fresh fair always).0 | inr h ↦ h ] in
-      all_both (λ w. is_list_wait w.kind ≡ false) (λ w. is_dehydrate_wait w.kind ≡ false) (λ w. (is_list_wait w.kind ≡ false) × (is_dehydrate_wait w.kind ≡ false)) (λ w x y. (x, y)) s.filter.waiting.waits none ready.dehydrations
+      all_both (λ w. is_list_wait w.kind ≡ false) (λ w. is_dehydrate_wait w.kind ≡ true → is_asked_for s.filter.waiting.asks w ≡ true) (IsPlainWait s.filter.waiting.asks) (λ w x y. (x, y)) s.filter.waiting.waits none ready.dehydrations
 
   sync_here : IsStep mode.Replay s (event.Engine engine.Sync) a t → IsFair s.link → IsFair t.link → is_count a.shown ≡ true → IsSilent a → IsReady before s t → (is_settled false t ≡ true) × (a.shown ≡ shown.Count 0)
   sync_here step was fair counted silent ready = sync_silent remote clusters before s a t runs fresh tidy ready.inline ready.keys (plain was ready) step fair counted silent ready.numbers
