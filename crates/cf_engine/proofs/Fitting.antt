@@ -10,7 +10,6 @@ use Rattle.cf_base.specs.declared.ids.ItemId.{ItemId}
 use Rattle.cf_base.specs.declared.ids.Usn.{Usn}
 use Rattle.cf_disk.specs.Disk.{State}
 use Rattle.cf_engine.specs.Openings.{FitsEngine, FitsKnown, IsOfEngine}
-use Rattle.cf_journal.specs.Content.{Content, Stands}
 use Rattle.cf_model.specs.Books.{Book}
 use Rattle.cf_model.specs.Formats.{Image}
 use Rattle.cf_model.specs.Numbers.{most}
@@ -18,10 +17,9 @@ use Rattle.cf_model.specs.Rows.{Row}
 use Rattle.cf_volume.specs.Calls.{IsCause, IsMemory, IsRefused, StopsOnly}
 use Rattle.cf_volume.specs.Openings.{IsOpenedFrom}
 use Rattle.cf_volume_commit.specs.Loaded.{HoldsImage}
-use Rattle.cf_volume_image.proofs.Told.{one_state_in}
-use Rattle.cf_volume_image.specs.States.{IsContentsIn}
+use Rattle.cf_volume_commit.proofs.FoundParts.{OneContent, one_image}
 use Rattle.cf_volume_points.specs.Known.{Known}
-use Rattle.cf_volume_points.specs.Standing.{Standing, clusters_on}
+use Rattle.cf_volume_points.specs.Standing.{Standing}
 
 pub image_fits : (i : Image) (k : Known) → IsOpenedFrom i k → FitsKnown k → IsOfEngine i
 image_fits i k o f =
@@ -34,16 +32,6 @@ known_fits i k o f =
     let by_next : FitsEngine k.table.next i.rows i.records = subst (λ (n : ItemId). FitsEngine n i.rows i.records) (sym o.next) f in
     let by_records : FitsEngine k.table.next i.rows k.records = subst (λ (rs : List AuxRecord). FitsEngine k.table.next i.rows rs) (sym o.records) by_next in
     subst (λ (rs : List Row). FitsEngine k.table.next rs k.records) (sym o.rows) by_records
-
--- a disk holds one image
-
-abbrev pub OneContent : Type 0
-OneContent = (disk : List ℕ) (x y : Content) → Stands disk x → Stands disk y → x ≡ y
-
-one_image : OneContent → (disk : List ℕ) (i j : Image) → HoldsImage disk i → HoldsImage disk j → i ≡ j
-one_image one disk i j g h =
-    one_state_in h.content.format h.content.image h.content.payloads (clusters_on disk) i j
-    (subst (λ (x : Content). IsContentsIn x.format x.image x.payloads (clusters_on disk) i) (one disk g.content h.content g.holds h.holds) g.told) h.told
 
 abbrev pub IsFound : List ℕ → Known → Type 0
 IsFound disk k = (i : Image) × HoldsImage disk i × (i.header.last.epoch < most) × IsOpenedFrom i k

@@ -39,7 +39,9 @@ use Rattle.cf_table.specs.declared.rows.Row.{Row}
 abbrev pub OneContent : Type 0
 OneContent = (disk : List ℕ) (x y : Content) → Stands disk x → Stands disk y → x ≡ y
 
-one_image : OneContent → (disk : List ℕ) (i j : Image) → HoldsImage disk i → HoldsImage disk j → i ≡ j
+-- a disk holds one image
+
+pub one_image : OneContent → (disk : List ℕ) (i j : Image) → HoldsImage disk i → HoldsImage disk j → i ≡ j
 one_image one disk i j g h =
     one_state_in h.content.format h.content.image h.content.payloads (clusters_on disk) i j
     (subst (λ (x : Content). IsContentsIn x.format x.image x.payloads (clusters_on disk) i) (one disk g.content h.content g.holds h.holds) g.told) h.told
