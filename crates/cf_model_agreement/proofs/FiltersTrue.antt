@@ -91,7 +91,7 @@ module _ (l : Link) (n : ℕ) (awaited : Bool) where
       let e : ℕ = x.volume.epoch in let c : ℕ = x.volume.book.cursor in
       within l n awaited e c (tidy_of l n awaited x h) (settle item d x) (((filter_closed (Told l n awaited e c) (boxing l n awaited e c)).settled item d).keeps x (outof l n awaited x h)) (tell_frame (At l n awaited e c) (at_book l n awaited e c) (told_at item d x) x (λ fair. (refl, refl)))
 
-  begin_true : (m : Need) (x : Filter) → In l n awaited x → Keeps (In l n awaited) (reading (begun m) (begin_now m) x)
+  pub begin_true : (m : Need) (x : Filter) → In l n awaited x → Keeps (In l n awaited) (reading (begun m) (begin_now m) x)
   begin_true m x h =
       let e : ℕ = x.volume.epoch in let c : ℕ = x.volume.book.cursor in
       within l n awaited e c (tidy_of l n awaited x h) (reading (begun m) (begin_now m) x) (((filter_closed (Told l n awaited e c) (boxing l n awaited e c)).begins m).keeps x (outof l n awaited x h))
@@ -114,14 +114,13 @@ module _ (l : Link) (n : ℕ) (awaited : Bool) where
         (keeps_bind (In l n awaited) (change_with f c x) (λ _ t. then_do (settle item d) done t) (changed f c x seen h.1) (λ a t j. keeps_bind (In l n awaited) (settle item d t) (λ _ y. done y) (settle_true item d t j) (λ b y m. m)));
     commits = record { keeps = λ x h. keeps_both P (In l n awaited) (in_volume commit x) (closed.commits.keeps x h.0) (h.1, h.1) };
     settled = λ item d x others h. keeps_both P (In l n awaited) (settle item d x) (closed.settled item d x others h.0) (settle_true item d x h.1);
-    begins = λ m x fit unmet h. keeps_both P (In l n awaited) (reading (begun m) (begin_now m) x) (closed.begins m x fit unmet h.0) (begin_true m x h.1);
+    begins = λ m x plain fit unmet h. keeps_both P (In l n awaited) (reading (begun m) (begin_now m) x) (closed.begins m x plain fit unmet h.0) (begin_true m x h.1);
     downs = record { keeps = λ x h. keeps_both P (In l n awaited) (reading all_down tell x) (closed.downs.keeps x h.0) (down_true x h.1) };
     keeps_accessed = λ item x h. (closed.keeps_accessed item x h.0, h.1);
     keeps_accessed_now = λ m x h. (closed.keeps_accessed_now m x h.0, accessed_true m.item (is_access m.kind cause.Met) x h.1);
     keeps_as_it_is = λ x h. (closed.keeps_as_it_is x h.0, h.1);
     keeps_begin_call = λ x h. (closed.keeps_begin_call x h.0, h.1);
     keeps_connected_again = λ x h. (closed.keeps_connected_again x h.0, h.1);
-    keeps_disconnected = λ x h. (closed.keeps_disconnected x h.0, h.1);
     keeps_with_handle = λ item x fit h. (closed.keeps_with_handle item x fit h.0, h.1);
     keeps_with_time = λ m x h. (closed.keeps_with_time m x h.0, timed m x h.1);
     keeps_without_handle = λ handle x h. (closed.keeps_without_handle handle x h.0, h.1);

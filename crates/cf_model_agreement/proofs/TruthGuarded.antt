@@ -47,7 +47,9 @@ use Rattle.cf_model_laws.proofs.SoundSettles.{not_true, right_true}
 use Rattle.cf_model.specs.Restarts.{epoch_after, with_opened}
 use Rattle.cf_model_laws.proofs.OnceLaws.{later}
 use Rattle.cf_model_laws.proofs.EventsGuarded.{Whole}
-use Rattle.cf_model_agreement.proofs.FiltersTrue.{In, change_true, filter_true}
+use Rattle.cf_model_agreement.proofs.FiltersTrue.{In, begin_true, change_true, filter_true}
+use Rattle.cf_model.specs.Arrows.{reading}
+use Rattle.cf_model.specs.Waits.{begin_now, begun as wait_begun}
 
 -- the whole
 
@@ -317,7 +319,6 @@ module _ (P : State → Type 0) (closed : Guarded P) (early : (s : State) → P 
     keeps_volatile_with_token = λ s h. (closed.keeps_volatile_with_token s h.0, h.1);
     keeps_with_clock_seen = λ clock s h. (closed.keeps_with_clock_seen clock s h.0, h.1);
     keeps_with_done = λ s h. (closed.keeps_with_done s h.0, h.1);
-    keeps_with_inline = λ inline s h. (closed.keeps_with_inline inline s h.0, h.1);
     keeps_with_outbox = λ a rest s e h. (closed.keeps_with_outbox a rest s e h.0, h.1);
     keeps_with_stray = λ r s h. (closed.keeps_with_stray r s h.0, h.1);
     keeps_with_token_used = λ s h. (closed.keeps_with_token_used s h.0, h.1);
@@ -345,6 +346,11 @@ whole_true P whole early sound = record {
   deleting = record {
     deletes = λ f item s keeps seen cursor idle leaf h. keeps_both (λ x. P (with_filter x s)) (In s.link s.volatile.rounds s.volatile.round_open) (change_with f (change.Remove item) s.filter) (whole.deleting.deletes f item s keeps seen cursor idle leaf h.0)
         (change_true s.link s.volatile.rounds s.volatile.round_open f (change.Remove item) s.filter (λ fair. cursor) h.1);
+  };
+  commanding = record {
+    waits = λ s n x fit unmet h. keeps_both (λ y. P (with_filter y s)) (In s.link s.volatile.rounds s.volatile.round_open) (reading (wait_begun n) (begin_now n) x) (whole.commanding.waits s n x fit unmet h.0) (begin_true s.link s.volatile.rounds s.volatile.round_open n x h.1);
+    disconnects = λ s h. (whole.commanding.disconnects s h.0, h.1);
+    inlines = λ inline s h. (whole.commanding.inlines inline s h.0, h.1);
   };
   ruling = record { rules = λ p s v h. (whole.ruling.rules p s v h.0, h.1) };
   begins = λ s h. (whole.begins s h.0, h.1);

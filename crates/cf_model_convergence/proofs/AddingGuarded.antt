@@ -110,7 +110,7 @@ module _ (w : Filter) where
         (keeps_bind In (change_with f c x) (λ _ t. then_do (settle item d) done t) (change_adds f c x h.1) (λ a t j. keeps_bind In (settle item d t) (λ _ y. done y) (tell_adds (told_at item d t) t j) (λ b y m. m)));
     commits = record { keeps = λ x h. keeps_both P In (in_volume commit x) (closed.commits.keeps x h.0) (h.1, h.1) };
     settled = λ item d x others h. keeps_both P In (settle item d x) (closed.settled item d x others h.0) (tell_adds (told_at item d x) x h.1);
-    begins = λ n x fit unmet h. keeps_both P In (reading (begun n) (begin_now n) x) (closed.begins n x fit unmet h.0)
+    begins = λ n x plain fit unmet h. keeps_both P In (reading (begun n) (begin_now n) x) (closed.begins n x plain fit unmet h.0)
         (keeps_bind In (tell (begun n x) (with_own n x)) (λ _ t. Ret (shown.Pending (own_id n x)) t) (tell_adds (begun n x) (with_own n x) (more_lines (map background_line (beside n x)) x.notes x.volume.log x.volume.items h.1)) (λ a t j. j));
     downs = record { keeps = λ x h. keeps_both P In (reading all_down tell x) (closed.downs.keeps x h.0) (tell_adds (all_down x) x h.1) };
     keeps_accessed = λ item x h. (closed.keeps_accessed item x h.0, h.1);
@@ -118,7 +118,6 @@ module _ (w : Filter) where
     keeps_as_it_is = λ x h. (closed.keeps_as_it_is x h.0, h.1);
     keeps_begin_call = λ x h. (closed.keeps_begin_call x h.0, h.1);
     keeps_connected_again = λ x h. (closed.keeps_connected_again x h.0, h.1);
-    keeps_disconnected = λ x h. (closed.keeps_disconnected x h.0, h.1);
     keeps_with_handle = λ item x fit h. (closed.keeps_with_handle item x fit h.0, h.1);
     keeps_with_time = λ n x h. (closed.keeps_with_time n x h.0, h.1);
     keeps_without_handle = λ handle x h. (closed.keeps_without_handle handle x h.0, h.1);
@@ -154,7 +153,6 @@ module _ (w : Filter) where
     keeps_volatile_with_token = λ s h. (closed.keeps_volatile_with_token s h.0, h.1);
     keeps_with_clock_seen = λ clock s h. (closed.keeps_with_clock_seen clock s h.0, h.1);
     keeps_with_done = λ s h. (closed.keeps_with_done s h.0, h.1);
-    keeps_with_inline = λ inline s h. (closed.keeps_with_inline inline s h.0, h.1);
     keeps_with_outbox = λ a rest s e h. (closed.keeps_with_outbox a rest s e h.0, h.1);
     keeps_with_stray = λ r s h. (closed.keeps_with_stray r s h.0, h.1);
     keeps_with_token_used = λ s h. (closed.keeps_with_token_used s h.0, h.1);

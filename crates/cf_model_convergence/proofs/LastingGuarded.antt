@@ -33,7 +33,7 @@ use Rattle.cf_model.specs.Skips.{skip_line}
 use Rattle.cf_model.specs.State.{Filter, Link, Point, State, Volume, book_now, in_volume, items_now, start, with_filter}
 use Rattle.cf_model.specs.Store.{Held, remote_step}
 use Rattle.cf_model.specs.Trees.{Keeps, Ret}
-use Rattle.cf_model.specs.Waits.{all_down, begin_now, begun as waiting_begun, own_id, with_own}
+use Rattle.cf_model.specs.Waits.{Need, all_down, begin_now, begun as waiting_begun, own_id, with_own}
 use Rattle.cf_model.proofs.TreeLaws.{keeps_bind}
 use Rattle.cf_model_laws.specs.Fitting.{Fits}
 use Rattle.cf_model_laws.specs.Invariant.{All, Invariant, IsSound}
@@ -147,6 +147,9 @@ module _ (D : Fact) (P : State → Type 0) (lasting : LastingOver D P) where
   abbrev At : State → Filter → Type 0
   At s x = P (with_filter x s)
 
+  begin_lasts : (l : Link) (n : Need) (x : Filter) → InFilter D l x → Keeps (InFilter D l) (reading (waiting_begun n) (begin_now n) x)
+  begin_lasts l n x h = keeps_bind (InFilter D l) (tell (waiting_begun n x) (with_own n x)) (λ _ t. Ret (shown.Pending (own_id n x)) t) (tell_frame (Lasts D l) (book_lasts l) (waiting_begun n x) (with_own n x) h) (λ a t j. j)
+
   filter_lasts : (s : State) → GuardedFilter (Since Both s.link) s.link s.volatile.tokens (At s) → GuardedFilter (Since Both s.link) s.link s.volatile.tokens (λ x. At s x × InFilter D s.link x)
   filter_lasts s closed = record {
     sound = λ x h fair. closed.sound x h.0 fair;
@@ -155,14 +158,13 @@ module _ (D : Fact) (P : State → Type 0) (lasting : LastingOver D P) where
         (keeps_bind (InFilter D s.link) (change_with f c x) (λ _ t. then_do (settle item d) done t) (changed f c x keeps seen fit known h) (λ a t j. keeps_bind (InFilter D s.link) (settle item d t) (λ _ y. done y) (tell_frame (Lasts D s.link) (book_lasts s.link) (told_at item d t) t j) (λ b y m. m)));
     commits = record { keeps = λ x h. keeps_both (At s) (InFilter D s.link) (in_volume commit x) (closed.commits.keeps x h.0) (begun_lasts D s.link s.volatile.tokens x (closed.sound x h.0) h.1, λ fair. ((h.1 fair).0, (point_lasts D s.link.remote true x.volume (closed.sound x h.0 fair).of_log.0 (h.1 fair).0, tt))) };
     settled = λ item d x others h. keeps_both (At s) (InFilter D s.link) (settle item d x) (closed.settled item d x others h.0) (tell_frame (Lasts D s.link) (book_lasts s.link) (told_at item d x) x h.1);
-    begins = λ n x fit unmet h. keeps_both (At s) (InFilter D s.link) (reading (waiting_begun n) (begin_now n) x) (closed.begins n x fit unmet h.0) (keeps_bind (InFilter D s.link) (tell (waiting_begun n x) (with_own n x)) (λ _ t. Ret (shown.Pending (own_id n x)) t) (tell_frame (Lasts D s.link) (book_lasts s.link) (waiting_begun n x) (with_own n x) h.1) (λ a t j. j));
+    begins = λ n x plain fit unmet h. keeps_both (At s) (InFilter D s.link) (reading (waiting_begun n) (begin_now n) x) (closed.begins n x plain fit unmet h.0) (begin_lasts s.link n x h.1);
     downs = record { keeps = λ x h. keeps_both (At s) (InFilter D s.link) (reading all_down tell x) (closed.downs.keeps x h.0) (tell_frame (Lasts D s.link) (book_lasts s.link) (all_down x) x h.1) };
     keeps_accessed = λ item x h. (closed.keeps_accessed item x h.0, book_lasts s.link x.volume (with_access item x.volume.book) (record { cursor = refl; entries = refl; seen = refl; tombstones = refl }) h.1);
     keeps_accessed_now = λ n x h. (closed.keeps_accessed_now n x h.0, access_frame (Lasts D s.link) (book_lasts s.link) n.item (is_access n.kind cause.Met) x h.1);
     keeps_as_it_is = λ x h. (closed.keeps_as_it_is x h.0, h.1);
     keeps_begin_call = λ x h. (closed.keeps_begin_call x h.0, h.1);
     keeps_connected_again = λ x h. (closed.keeps_connected_again x h.0, h.1);
-    keeps_disconnected = λ x h. (closed.keeps_disconnected x h.0, h.1);
     keeps_with_handle = λ item x fit h. (closed.keeps_with_handle item x fit h.0, h.1);
     keeps_with_time = λ n x h. (closed.keeps_with_time n x h.0, book_lasts s.link x.volume (with_ticks n x.volume.book) (record { cursor = refl; entries = refl; seen = refl; tombstones = refl }) h.1);
     keeps_without_handle = λ handle x h. (closed.keeps_without_handle handle x h.0, h.1);
@@ -208,7 +210,6 @@ module _ (D : Fact) (P : State → Type 0) (lasting : LastingOver D P) where
     keeps_volatile_with_token = λ s h. (closed.keeps_volatile_with_token s h.0, h.1);
     keeps_with_clock_seen = λ clock s h. (closed.keeps_with_clock_seen clock s h.0, h.1);
     keeps_with_done = λ s h. (closed.keeps_with_done s h.0, h.1);
-    keeps_with_inline = λ inline s h. (closed.keeps_with_inline inline s h.0, h.1);
     keeps_with_outbox = λ a rest s e h. (closed.keeps_with_outbox a rest s e h.0, h.1);
     keeps_with_stray = λ r s h. (closed.keeps_with_stray r s h.0, h.1);
     keeps_with_token_used = λ s h. (closed.keeps_with_token_used s h.0, h.1);
@@ -224,6 +225,11 @@ module _ (D : Fact) (P : State → Type 0) (lasting : LastingOver D P) where
     deleting = record {
       deletes = λ f item s keeps seen cursor idle leaf h. keeps_both (λ x. P (with_filter x s)) (InFilter D s.link) (change_with f (change.Remove item) s.filter) (whole.deleting.deletes f item s keeps seen cursor idle leaf h.0)
           (change_lasts D s.link s.volatile.tokens f (change.Remove item) s.filter (sound s h.0).1 (λ fair. lasting.removes s.link s.volatile.tokens f item s.filter keeps seen cursor fair ((sound s h.0).1 fair) (h.1 fair).0) h.1);
+    };
+    commanding = record {
+      waits = λ s n x fit unmet h. keeps_both (At s) (InFilter D s.link) (reading (waiting_begun n) (begin_now n) x) (whole.commanding.waits s n x fit unmet h.0) (begin_lasts s.link n x h.1);
+      disconnects = λ s h. (whole.commanding.disconnects s h.0, h.1);
+      inlines = λ inline s h. (whole.commanding.inlines inline s h.0, h.1);
     };
     ruling = record { rules = λ p s v h. (whole.ruling.rules p s v h.0, h.1) };
     begins = λ s h. (whole.begins s h.0, h.1);

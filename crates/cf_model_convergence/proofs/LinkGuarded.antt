@@ -35,14 +35,13 @@ filter_beside l tokens C P c closed = record {
   touch = λ f d item e x quiet keeps seen on fit known h. keeps_both P (λ x. C) (then_do (change_with f d) (then_do (settle item e) done) x) (closed.touch f d item e x quiet keeps seen on fit known h.0) (always C c (then_do (change_with f d) (then_do (settle item e) done) x));
   commits = record { keeps = λ x h. keeps_both P (λ x. C) (in_volume commit x) (closed.commits.keeps x h.0) (always C c (in_volume commit x)) };
   settled = λ item d x others h. keeps_both P (λ x. C) (settle item d x) (closed.settled item d x others h.0) (always C c (settle item d x));
-  begins = λ n x fit unmet h. keeps_both P (λ x. C) (reading (begun n) (begin_now n) x) (closed.begins n x fit unmet h.0) (always C c (reading (begun n) (begin_now n) x));
+  begins = λ n x plain fit unmet h. keeps_both P (λ x. C) (reading (begun n) (begin_now n) x) (closed.begins n x plain fit unmet h.0) (always C c (reading (begun n) (begin_now n) x));
   downs = record { keeps = λ x h. keeps_both P (λ x. C) (reading all_down tell x) (closed.downs.keeps x h.0) (always C c (reading all_down tell x)) };
   keeps_accessed = λ item x h. (closed.keeps_accessed item x h.0, c);
   keeps_accessed_now = λ n x h. (closed.keeps_accessed_now n x h.0, c);
   keeps_as_it_is = λ x h. (closed.keeps_as_it_is x h.0, c);
   keeps_begin_call = λ x h. (closed.keeps_begin_call x h.0, c);
   keeps_connected_again = λ x h. (closed.keeps_connected_again x h.0, c);
-  keeps_disconnected = λ x h. (closed.keeps_disconnected x h.0, c);
   keeps_with_handle = λ item x fit h. (closed.keeps_with_handle item x fit h.0, c);
   keeps_with_time = λ n x h. (closed.keeps_with_time n x h.0, c);
   keeps_without_handle = λ handle x h. (closed.keeps_without_handle handle x h.0, c);
@@ -54,7 +53,6 @@ pub record OfLink (C : Link → Type 0) : Type 0 where
   pub asks : (l : Link) (q : Request) → C l → C (record l { remote_asks = l.remote_asks + 1; remote = (remote_step l.remote q).1 })
   pub distrusts : (l : Link) (r : Held) → C l → C (record l { remote_asks = l.remote_asks + 1; remote = r; honest = false })
   pub posts : (l : Link) (f : Option Frame) (n : ℕ) → C l → C (record l { messages = l.messages ++ f ∷ []; kept_bytes = n })
-  pub inlines : (l : Link) (b : Bool) → C l → C (record l { inline = b })
 
 module _ (C : Link → Type 0) (of : OfLink C) where
   abbrev Kept : State → Type 0
@@ -90,7 +88,6 @@ module _ (C : Link → Type 0) (of : OfLink C) where
     keeps_volatile_with_token = λ s h. (closed.keeps_volatile_with_token s h.0, h.1);
     keeps_with_clock_seen = λ clock s h. (closed.keeps_with_clock_seen clock s h.0, h.1);
     keeps_with_done = λ s h. (closed.keeps_with_done s h.0, h.1);
-    keeps_with_inline = λ inline s h. (closed.keeps_with_inline inline s h.0, of.inlines s.link inline h.1);
     keeps_with_outbox = λ a rest s e h. (closed.keeps_with_outbox a rest s e h.0, h.1);
     keeps_with_stray = λ r s h. (closed.keeps_with_stray r s h.0, h.1);
     keeps_with_token_used = λ s h. (closed.keeps_with_token_used s h.0, h.1);
@@ -111,7 +108,6 @@ many_of n = record {
   asks = λ l q h. h;
   distrusts = λ l r h. h;
   posts = λ l f k h. more n (length l.messages) (length (l.messages ++ f ∷ [])) h (length-append l.messages (f ∷ []));
-  inlines = λ l b h. h;
 }
   where
     more : (a b c : ℕ) → a ≤ b → c ≡ b + 1 → a ≤ c

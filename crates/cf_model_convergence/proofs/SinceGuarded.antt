@@ -25,7 +25,6 @@ module _ (w : State) where
     asks = λ l q h. h;
     distrusts = λ l r h e. refl;
     posts = λ l f n h. h;
-    inlines = λ l b h. h;
   }
 
   -- beside the invariant

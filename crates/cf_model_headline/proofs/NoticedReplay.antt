@@ -22,7 +22,7 @@ use Rattle.cf_model.specs.Events.{event_now, is_of}
 use Rattle.cf_model_laws.proofs.RightItems.{no_way, no_way_back}
 use Rattle.cf_model_laws.proofs.EventsGuarded.{call_now_keeps, other_event_keeps}
 use Rattle.cf_model_headline.specs.Reports.{is_device}
-use Rattle.cf_model_laws.proofs.Guarded.{Deleting, Entering, Guarded, GuardedFilter, Ruling}
+use Rattle.cf_model_laws.proofs.Guarded.{Commanding, Deleting, Entering, Guarded, GuardedFilter, Ruling}
 use Rattle.cf_model_laws.proofs.SkipsGuarded.{keeps_both}
 use Rattle.cf_model_headline.proofs.ShownChanges.{Noticed}
 use Rattle.std.specs.Prelude.{ℕ, ◌+◌}
@@ -37,14 +37,13 @@ filter_noticed Q q l tokens P closed = record {
       (keeps_bind Q (change_with f c x) (λ _ t. then_do (settle item d) done t) ((q.change f c).keeps x h.1) (λ a t j. keeps_bind Q (settle item d t) (λ _ y. done y) ((q.settled item d).keeps t j) (λ b y m. m)));
   commits = record { keeps = λ x h. keeps_both P Q (in_volume commit x) (closed.commits.keeps x h.0) (q.commits.keeps x h.1) };
   settled = λ item d x others h. keeps_both P Q (settle item d x) (closed.settled item d x others h.0) ((q.settled item d).keeps x h.1);
-  begins = λ n x fit unmet h. keeps_both P Q (reading (begun n) (begin_now n) x) (closed.begins n x fit unmet h.0) ((q.begins n).keeps x h.1);
+  begins = λ n x plain fit unmet h. keeps_both P Q (reading (begun n) (begin_now n) x) (closed.begins n x plain fit unmet h.0) ((q.begins n).keeps x h.1);
   downs = record { keeps = λ x h. keeps_both P Q (reading all_down tell x) (closed.downs.keeps x h.0) (q.downs.keeps x h.1) };
   keeps_accessed = λ item x h. (closed.keeps_accessed item x h.0, q.keeps_accessed item x h.1);
   keeps_accessed_now = λ n x h. (closed.keeps_accessed_now n x h.0, q.keeps_accessed_now n x h.1);
   keeps_as_it_is = λ x h. (closed.keeps_as_it_is x h.0, q.keeps_as_it_is x h.1);
   keeps_begin_call = λ x h. (closed.keeps_begin_call x h.0, q.keeps_begin_call x h.1);
   keeps_connected_again = λ x h. (closed.keeps_connected_again x h.0, q.keeps_connected_again x h.1);
-  keeps_disconnected = λ x h. (closed.keeps_disconnected x h.0, q.keeps_disconnected x h.1);
   keeps_with_handle = λ item x fit h. (closed.keeps_with_handle item x fit h.0, q.keeps_with_handle item x h.1);
   keeps_with_time = λ n x h. (closed.keeps_with_time n x h.0, q.keeps_with_time n x h.1);
   keeps_without_handle = λ handle x h. (closed.keeps_without_handle handle x h.0, q.keeps_without_handle handle x h.1);
@@ -87,7 +86,6 @@ module _ (Q : Filter → Type 0) (q : Noticed Q) (P : State → Type 0) where
     keeps_volatile_with_token = λ s h. (closed.keeps_volatile_with_token s h.0, h.1);
     keeps_with_clock_seen = λ clock s h. (closed.keeps_with_clock_seen clock s h.0, h.1);
     keeps_with_done = λ s h. (closed.keeps_with_done s h.0, h.1);
-    keeps_with_inline = λ inline s h. (closed.keeps_with_inline inline s h.0, h.1);
     keeps_with_outbox = λ a rest s e h. (closed.keeps_with_outbox a rest s e h.0, q.boxes rest s.filter h.1);
     keeps_with_stray = λ r s h. (closed.keeps_with_stray r s h.0, h.1);
     keeps_with_token_used = λ s h. (closed.keeps_with_token_used s h.0, h.1);
@@ -102,13 +100,20 @@ module _ (Q : Filter → Type 0) (q : Noticed Q) (P : State → Type 0) where
     deletes = λ f item s keeps seen cursor idle leaf h. keeps_both (λ x. P (with_filter x s)) Q (change_with f (change.Remove item) s.filter) (deleting.deletes f item s keeps seen cursor idle leaf h.0) ((q.closed.change f (change.Remove item)).keeps s.filter h.1);
   }
 
+  pub commanding_noticed : Commanding P → Commanding Both
+  commanding_noticed commanding = record {
+    waits = λ s n x fit unmet h. keeps_both (λ y. P (with_filter y s)) Q (reading (begun n) (begin_now n) x) (commanding.waits s n x fit unmet h.0) ((q.closed.begins n).keeps x h.1);
+    disconnects = λ s h. (commanding.disconnects s h.0, q.closed.keeps_disconnected s.filter h.1);
+    inlines = λ inline s h. (commanding.inlines inline s h.0, h.1);
+  }
+
   pub ruling_noticed : Ruling P → Ruling Both
   ruling_noticed ruling = record { rules = λ p s v h. (ruling.rules p s v h.0, q.closed.keeps_with_policy p s.filter h.1) }
 
   -- an event other than those of the device
-  pub replay_event_keeps : Guarded P → Entering P → Deleting P → Ruling P → (e : Event) → is_of mode.Replay e ≡ true → is_device e ≡ false → Preserves Both (event_now e)
-  replay_event_keeps closed entering deleting ruling (event.Call c) is off = call_now_keeps Both (guarded_noticed closed) c (λ _. deleting_noticed deleting) (λ _. ruling_noticed ruling)
-  replay_event_keeps closed entering deleting ruling (event.Device e) is off = no_way_back off
-  replay_event_keeps closed entering deleting ruling (event.Peer e) is off = other_event_keeps Both (guarded_noticed closed) (entering_noticed entering) (ruling_noticed ruling) (event.Peer e) is refl
-  replay_event_keeps closed entering deleting ruling (event.Engine e) is off = other_event_keeps Both (guarded_noticed closed) (entering_noticed entering) (ruling_noticed ruling) (event.Engine e) is refl
-  replay_event_keeps closed entering deleting ruling (event.Provider e) is off = no_way is
+  pub replay_event_keeps : Guarded P → Entering P → Deleting P → Commanding P → Ruling P → (e : Event) → is_of mode.Replay e ≡ true → is_device e ≡ false → Preserves Both (event_now e)
+  replay_event_keeps closed entering deleting commanding ruling (event.Call c) is off = call_now_keeps Both (guarded_noticed closed) (commanding_noticed commanding) c (λ _. deleting_noticed deleting) (λ _. ruling_noticed ruling)
+  replay_event_keeps closed entering deleting commanding ruling (event.Device e) is off = no_way_back off
+  replay_event_keeps closed entering deleting commanding ruling (event.Peer e) is off = other_event_keeps Both (guarded_noticed closed) (entering_noticed entering) (commanding_noticed commanding) (ruling_noticed ruling) (event.Peer e) is refl
+  replay_event_keeps closed entering deleting commanding ruling (event.Engine e) is off = other_event_keeps Both (guarded_noticed closed) (entering_noticed entering) (commanding_noticed commanding) (ruling_noticed ruling) (event.Engine e) is refl
+  replay_event_keeps closed entering deleting commanding ruling (event.Provider e) is off = no_way is

@@ -103,8 +103,8 @@ module _ (base : Log) (id : WaitId) (item : ItemId) (span : Span) where
         (leads_bind (Of l) (λ u t. Of l t × (IsFair l → IsTruly l.remote t) × (IsFair l → All (IsThe id.0 item span) t.waiting.waits)) (λ u t. Of l t) (change_with f c x) (λ _ t. then_do (settle i d) done t) (changed l tokens f c x keeps fit (closed.sound x h.0) (knows x h.0) h.1)
         (λ u t k. leads_kept (Of l) (then_do (settle i d) done t) (keeps_bind (Of l) (settle i d t) (λ _ y. done y) (settles base id item span (IsFair l) l.remote i d t (quiet_others d quiet t) k.1 k.2 k.0) (λ b y m. m)))));
     commits = record { keeps = λ x h. keeps_both P (Of l) (in_volume commit x) (closed.commits.keeps x h.0) (h.1, h.1) };
-    settled = λ i d x others h. keeps_both P (Of l) (settle i d x) (closed.settled i d x others h.0) (settles base id item span (IsFair l) l.remote i d x others (λ fair. sound_truly NoItem l tokens x (closed.sound x h.0 fair)) (λ fair. (knows x h.0 fair).1) h.1);
-    begins = λ need x fit unmet h. keeps_both P (Of l) (reading (begun need) (begin_now need) x) (closed.begins need x fit unmet h.0)
+    settled = λ i d x others h. keeps_both P (Of l) (settle i d x) (closed.settled i d x others h.0) (settles base id item span (IsFair l) l.remote i d x others.0 (λ fair. sound_truly NoItem l tokens x (closed.sound x h.0 fair)) (λ fair. (knows x h.0 fair).1) h.1);
+    begins = λ need x plain fit unmet h. keeps_both P (Of l) (reading (begun need) (begin_now need) x) (closed.begins need x plain fit unmet h.0)
         (keeps_bind (Of l) (tell (begun need x) (with_own need x)) (λ _ t. Ret (shown.Pending (own_id need x)) t) (begins_other_own l tokens need x (closed.sound x h.0) (knows x h.0) h.1) (λ a t j. j));
     downs = record { keeps = λ x h. keeps_both P (Of l) (reading all_down tell x) (closed.downs.keeps x h.0) (downs_own l tokens x (closed.sound x h.0) (knows x h.0) h.1) };
     keeps_accessed = λ i x h. (closed.keeps_accessed i x h.0, h.1);
@@ -112,7 +112,6 @@ module _ (base : Log) (id : WaitId) (item : ItemId) (span : Span) where
     keeps_as_it_is = λ x h. (closed.keeps_as_it_is x h.0, h.1);
     keeps_begin_call = λ x h. (closed.keeps_begin_call x h.0, record { shown = h.1.shown; bytes_right = λ fair is bytes shows. absurd (no_ending bytes shows) });
     keeps_connected_again = λ x h. (closed.keeps_connected_again x h.0, h.1);
-    keeps_disconnected = λ x h. (closed.keeps_disconnected x h.0, h.1);
     keeps_with_handle = λ i x fit h. (closed.keeps_with_handle i x fit h.0, h.1);
     keeps_with_time = λ ticks x h. (closed.keeps_with_time ticks x h.0, h.1);
     keeps_without_handle = λ handle x h. (closed.keeps_without_handle handle x h.0, h.1);
@@ -167,7 +166,6 @@ module _ (base : Log) (id : WaitId) (item : ItemId) (span : Span) where
     keeps_volatile_with_token = λ s h. (closed.keeps_volatile_with_token s h.0, h.1);
     keeps_with_clock_seen = λ clock s h. (closed.keeps_with_clock_seen clock s h.0, h.1);
     keeps_with_done = λ s h. (closed.keeps_with_done s h.0, h.1);
-    keeps_with_inline = λ inline s h. (closed.keeps_with_inline inline s h.0, h.1);
     keeps_with_outbox = λ a rest s e h. (closed.keeps_with_outbox a rest s e h.0, h.1);
     keeps_with_stray = λ r s h. (closed.keeps_with_stray r s h.0, h.1);
     keeps_with_token_used = λ s h. (closed.keeps_with_token_used s h.0, h.1);

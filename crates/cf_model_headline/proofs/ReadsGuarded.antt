@@ -41,7 +41,7 @@ use Rattle.cf_model_laws.specs.Invariant.{All, IsSound, NoItem}
 use Rattle.cf_model_laws.specs.Premises.{IsFair}
 use Rattle.cf_model_laws.proofs.EventsGuarded.{call_now_keeps, other_event_keeps}
 use Rattle.cf_model_laws.proofs.Gathered.{all_append, all_filter, all_map}
-use Rattle.cf_model_laws.proofs.Guarded.{Deleting, EndsOthers, Entering, Guarded, GuardedFilter, IsQuiet, Ruling}
+use Rattle.cf_model_laws.proofs.Guarded.{Commanding, Deleting, EndsOthers, Entering, Guarded, GuardedFilter, IsQuiet, Ruling}
 use Rattle.cf_model_laws.proofs.Leading.{Leads, kept_leads, leads_bind, leads_kept, leads_weaker}
 use Rattle.cf_model_laws.proofs.RightItems.{fits_aims, fits_meets, no_way, no_way_back}
 use Rattle.cf_model_laws.proofs.SkipsGuarded.{keeps_both}
@@ -124,6 +124,9 @@ module _ (base : Log) (ws : List Wait) (e n : ℕ) where
       not_down : cause.Down ≡ cause.Met → ⊥
       not_down z = let y : ◌≡◌ {A = Cause} cause.Down cause.Met = z in cc
 
+  begin_reading : (l : Link) (tokens : ℕ) (need : Need) (x : Filter) → (IsFair l → IsSound l tokens x) → At l x → Keeps (At l) (reading (begun need) (begin_now need) x)
+  begin_reading l tokens need x sound h = keeps_bind (At l) (tell (begun need x) (with_own need x)) (λ _ t. Ret (shown.Pending (own_id need x)) t) (begins_reading l tokens need x sound h) (λ a t j. j)
+
   accesses : (l : Link) (item : ItemId) (is : Bool) (x : Filter) → At l x → At l (if is then accessed item x else x)
   accesses l item true x h = h
   accesses l item false x h = h
@@ -138,16 +141,14 @@ module _ (base : Log) (ws : List Wait) (e n : ℕ) where
         (leads_bind (At l) (λ u t. At l t × (IsFair l → IsTruly l.remote t)) (λ u t. At l t) (change_with f c x) (λ _ t. then_do (settle item d) done t) (changed l tokens f c x keeps fit (closed.sound x h.0) h.1)
         (λ u t k. leads_kept (At l) (then_do (settle item d) done t) (keeps_bind (At l) (settle item d t) (λ _ y. done y) (settles base ws e n (IsFair l) l.remote item d t (quiet_others d quiet t) k.1 k.0) (λ b y m. m)))));
     commits = record { keeps = λ x h. keeps_both P (At l) (in_volume commit x) (closed.commits.keeps x h.0) (h.1, h.1) };
-    settled = λ item d x others h. keeps_both P (At l) (settle item d x) (closed.settled item d x others h.0) (settles base ws e n (IsFair l) l.remote item d x others (λ fair. sound_truly NoItem l tokens x (closed.sound x h.0 fair)) h.1);
-    begins = λ need x fit unmet h. keeps_both P (At l) (reading (begun need) (begin_now need) x) (closed.begins need x fit unmet h.0)
-        (keeps_bind (At l) (tell (begun need x) (with_own need x)) (λ _ t. Ret (shown.Pending (own_id need x)) t) (begins_reading l tokens need x (closed.sound x h.0) h.1) (λ a t j. j));
+    settled = λ item d x others h. keeps_both P (At l) (settle item d x) (closed.settled item d x others h.0) (settles base ws e n (IsFair l) l.remote item d x others.0 (λ fair. sound_truly NoItem l tokens x (closed.sound x h.0 fair)) h.1);
+    begins = λ need x plain fit unmet h. keeps_both P (At l) (reading (begun need) (begin_now need) x) (closed.begins need x plain fit unmet h.0) (begin_reading l tokens need x (closed.sound x h.0) h.1);
     downs = record { keeps = λ x h. keeps_both P (At l) (reading all_down tell x) (closed.downs.keeps x h.0) (downs_reading l tokens x (closed.sound x h.0) h.1) };
     keeps_accessed = λ item x h. (closed.keeps_accessed item x h.0, h.1);
     keeps_accessed_now = λ need x h. (closed.keeps_accessed_now need x h.0, accesses l need.item (is_access need.kind cause.Met) x h.1);
     keeps_as_it_is = λ x h. (closed.keeps_as_it_is x h.0, h.1);
     keeps_begin_call = λ x h. (closed.keeps_begin_call x h.0, h.1);
     keeps_connected_again = λ x h. (closed.keeps_connected_again x h.0, h.1);
-    keeps_disconnected = λ x h. (closed.keeps_disconnected x h.0, h.1);
     keeps_with_handle = λ item x fit h. (closed.keeps_with_handle item x fit h.0, h.1);
     keeps_with_time = λ ticks x h. (closed.keeps_with_time ticks x h.0, h.1);
     keeps_without_handle = λ handle x h. (closed.keeps_without_handle handle x h.0, h.1);
@@ -199,7 +200,6 @@ module _ (base : Log) (ws : List Wait) (e n : ℕ) where
       keeps_volatile_with_token = λ s h. (closed.keeps_volatile_with_token s h.0, h.1);
       keeps_with_clock_seen = λ clock s h. (closed.keeps_with_clock_seen clock s h.0, h.1);
       keeps_with_done = λ s h. (closed.keeps_with_done s h.0, h.1);
-      keeps_with_inline = λ inline s h. (closed.keeps_with_inline inline s h.0, h.1);
       keeps_with_outbox = λ a rest s e h. (closed.keeps_with_outbox a rest s e h.0, h.1);
       keeps_with_stray = λ r s h. (closed.keeps_with_stray r s h.0, h.1);
       keeps_with_token_used = λ s h. (closed.keeps_with_token_used s h.0, h.1);
@@ -222,13 +222,20 @@ module _ (base : Log) (ws : List Wait) (e n : ℕ) where
       deletes = λ f item s keeps seen cursor idle leaf h. keeps_both (λ x. P (with_filter x s)) (At s.link) (change_with f (change.Remove item) s.filter) (deleting.deletes f item s keeps seen cursor idle leaf h.0) (removing s f item h.1);
     }
 
+    commanding_reading : Guarded P → Commanding P → Commanding Both
+    commanding_reading closed commanding = record {
+      waits = λ s need x fit unmet h. keeps_both (λ y. P (with_filter y s)) (At s.link) (reading (begun need) (begin_now need) x) (commanding.waits s need x fit unmet h.0) (begin_reading s.link s.volatile.tokens need x ((closed.on_filter (with_filter x s) h.0).sound x h.0) h.1);
+      disconnects = λ s h. (commanding.disconnects s h.0, h.1);
+      inlines = λ inline s h. (commanding.inlines inline s h.0, h.1);
+    }
+
     ruling_reading : Ruling P → Ruling Both
     ruling_reading ruling = record { rules = λ p s v h. (ruling.rules p s v h.0, h.1) }
 
     -- an event other than those of the device
-    pub event_reads : Guarded P → Entering P → Deleting P → Ruling P → (v : Event) → is_of mode.Replay v ≡ true → is_device v ≡ false → Preserves Both (event_now v)
-    event_reads closed entering deleting ruling (event.Call c) is off = call_now_keeps Both (guarded_reading closed) c (λ _. deleting_reading deleting) (λ _. ruling_reading ruling)
-    event_reads closed entering deleting ruling (event.Device d) is off = no_way_back off
-    event_reads closed entering deleting ruling (event.Peer p) is off = other_event_keeps Both (guarded_reading closed) (entering_reading entering) (ruling_reading ruling) (event.Peer p) is refl
-    event_reads closed entering deleting ruling (event.Engine g) is off = other_event_keeps Both (guarded_reading closed) (entering_reading entering) (ruling_reading ruling) (event.Engine g) is refl
-    event_reads closed entering deleting ruling (event.Provider p) is off = no_way is
+    pub event_reads : Guarded P → Entering P → Deleting P → Commanding P → Ruling P → (v : Event) → is_of mode.Replay v ≡ true → is_device v ≡ false → Preserves Both (event_now v)
+    event_reads closed entering deleting commanding ruling (event.Call c) is off = call_now_keeps Both (guarded_reading closed) (commanding_reading closed commanding) c (λ _. deleting_reading deleting) (λ _. ruling_reading ruling)
+    event_reads closed entering deleting commanding ruling (event.Device d) is off = no_way_back off
+    event_reads closed entering deleting commanding ruling (event.Peer p) is off = other_event_keeps Both (guarded_reading closed) (entering_reading entering) (commanding_reading closed commanding) (ruling_reading ruling) (event.Peer p) is refl
+    event_reads closed entering deleting commanding ruling (event.Engine g) is off = other_event_keeps Both (guarded_reading closed) (entering_reading entering) (commanding_reading closed commanding) (ruling_reading ruling) (event.Engine g) is refl
+    event_reads closed entering deleting commanding ruling (event.Provider p) is off = no_way is

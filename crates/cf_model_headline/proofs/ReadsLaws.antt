@@ -122,7 +122,7 @@ data_in_event remote clusters last fresh fair before rest s e a t runs is on fro
   Goal = (w : Wait) × IsIn w s.filter.waiting.waits × (w.id ≡ id) × IsSpanOf last.link.remote (standing before ++ changes_in front) w.item w.span bytes
 
   kept : is_device e ≡ false → Keeps (λ u. Invariant u × ReadingIn s u) (tree_of e s)
-  kept off = (event_reads s.filter.volume.log s.filter.waiting.waits s.filter.volume.epoch s.filter.waiting.wait_count Invariant sound_whole.closed sound_whole.entering sound_whole.deleting sound_whole.ruling e is.0 off).keeps (begun s)
+  kept off = (event_reads s.filter.volume.log s.filter.waiting.waits s.filter.volume.epoch s.filter.waiting.wait_count Invariant sound_whole.closed sound_whole.entering sound_whole.deleting sound_whole.commanding sound_whole.ruling e is.0 off).keeps (begun s)
       (sound_whole.begins s sound, begun_reading s (started_in_epoch mode.Replay remote clusters before s runs))
 
   log : s.filter.volume.log ≡ standing before

@@ -40,7 +40,7 @@ IsReady mode.Filter s = s.mode ≡ mode.Filter
 
 -- a fact on the filter is kept by an event other than those of the device
 pub event_keeps : (Q : Filter → Type 0) → Noticed Q → (m : Mode) (e : Event) (s : State) → is_of m e ≡ true → is_device e ≡ false → IsReady m s → Q (begun s).filter → Keeps (λ t. IsReady m t × Q t.filter) (tree_of e s)
-event_keeps Q q mode.Replay e s is off ready h = (in_replay.replay_event_keeps Q q Invariant sound_whole.closed sound_whole.entering sound_whole.deleting sound_whole.ruling e is off).keeps (begun s) (sound_whole.begins s ready, h)
+event_keeps Q q mode.Replay e s is off ready h = (in_replay.replay_event_keeps Q q Invariant sound_whole.closed sound_whole.entering sound_whole.deleting sound_whole.commanding sound_whole.ruling e is off).keeps (begun s) (sound_whole.begins s ready, h)
 event_keeps Q q mode.Filter e s is off ready h = (in_filter.filter_event_keeps Q q e is off).keeps (begun s) (ready, h)
 
 -- one event

@@ -37,7 +37,7 @@ use Rattle.cf_model_laws.specs.Premises.{IsFair}
 use Rattle.cf_model_laws.specs.Seats.{IsSeated, NeedsWell}
 use Rattle.cf_model_laws.proofs.ContentLaws.{next_epoch}
 use Rattle.cf_model_laws.proofs.EventsGuarded.{Unruled, Whole, unruled, with_ruling}
-use Rattle.cf_model_laws.proofs.Guarded.{Entering, Guarded, GuardedFilter, Ruling}
+use Rattle.cf_model_laws.proofs.Guarded.{Commanding, Entering, Guarded, GuardedFilter, Ruling}
 use Rattle.cf_model_laws.proofs.Leading.{kept_leads}
 use Rattle.cf_model_laws.proofs.RightItems.{no_way}
 use Rattle.cf_model_laws.proofs.SkipsGuarded.{keeps_both}
@@ -120,6 +120,11 @@ tell_beside F l r x h =
 settle_beside : (K : Filter → Type 0) (F : Fact) → Knowing K F → (l : Link) (item : ItemId) (d : Deed) (x : Filter) → Holds F l x → Keeps (Holds F l) (settle item d x)
 settle_beside K F b l item d x h = tell_beside F l (told_at item d x) x (b.ends l x.volume.epoch x.volume.place x.volume.log x.handles x.handle_count x.waiting.waits x.waiting.wait_count _ h)
 
+begins_beside : (K : Filter → Type 0) (F : Fact) → Knowing K F → (l : Link) (tokens : ℕ) (n : Need) (x : Filter) → (IsFair l → IsSound l tokens x) → (IsFair l → NeedsWell n x) → is_met_now n x ≡ false → (IsFair l → K x) → Holds F l x → Keeps (Holds F l) (reading (begun n) (begin_now n) x)
+begins_beside K F b l tokens n x sound fit unmet known h =
+    keeps_bind (Holds F l) (tell (begun n x) (with_own n x)) (λ _ t. Ret (shown.Pending (own_id n x)) t)
+    (tell_beside F l (begun n x) (with_own n x) (b.ends l x.volume.epoch x.volume.place x.volume.log x.handles x.handle_count (x.waiting.waits ++ wait_for n x ∷ beside n x) (x.waiting.wait_count + length (wait_for n x ∷ beside n x)) _ (b.begins l tokens n x sound fit unmet known h))) (λ a t j. j)
+
 accessed_beside : (F : Fact) (l : Link) (item : ItemId) (is : Bool) (x : Filter) → Holds F l x → Holds F l (if is then accessed item x else x)
 accessed_beside F l item true x h = h
 accessed_beside F l item false x h = h
@@ -134,16 +139,13 @@ filter_beside K F b l tokens P knows closed = record {
       (keeps_bind (Holds F l) (change_with f c x) (λ _ t. then_do (settle item d) done t) (changed_beside F l f c x h.1 (b.puts l tokens c x (closed.sound x h.0) fit (knows x h.0) h.1)) (λ a t j. keeps_bind (Holds F l) (settle item d t) (λ _ y. done y) (settle_beside K F b l item d t j) (λ a y m. m)));
   commits = record { keeps = λ x h. keeps_both P (Holds F l) (in_volume commit x) (closed.commits.keeps x h.0) (h.1, h.1) };
   settled = λ item d x others h. keeps_both P (Holds F l) (settle item d x) (closed.settled item d x others h.0) (settle_beside K F b l item d x h.1);
-  begins = λ n x fit unmet h. keeps_both P (Holds F l) (reading (begun n) (begin_now n) x) (closed.begins n x fit unmet h.0)
-      (keeps_bind (Holds F l) (tell (begun n x) (with_own n x)) (λ _ t. Ret (shown.Pending (own_id n x)) t)
-      (tell_beside F l (begun n x) (with_own n x) (b.ends l x.volume.epoch x.volume.place x.volume.log x.handles x.handle_count (x.waiting.waits ++ wait_for n x ∷ beside n x) (x.waiting.wait_count + length (wait_for n x ∷ beside n x)) _ (b.begins l tokens n x (closed.sound x h.0) fit unmet (knows x h.0) h.1))) (λ a t j. j));
+  begins = λ n x plain fit unmet h. keeps_both P (Holds F l) (reading (begun n) (begin_now n) x) (closed.begins n x plain fit unmet h.0) (begins_beside K F b l tokens n x (closed.sound x h.0) fit unmet (knows x h.0) h.1);
   downs = record { keeps = λ x h. keeps_both P (Holds F l) (reading all_down tell x) (closed.downs.keeps x h.0) (tell_beside F l (all_down x) x (b.stops l x.volume.epoch x.volume.place x.volume.log x.handles x.handle_count x.waiting.waits x.waiting.wait_count h.1)) };
   keeps_accessed = λ item x h. (closed.keeps_accessed item x h.0, h.1);
   keeps_accessed_now = λ n x h. (closed.keeps_accessed_now n x h.0, accessed_beside F l n.item (is_access n.kind cause.Met) x h.1);
   keeps_as_it_is = λ x h. (closed.keeps_as_it_is x h.0, h.1);
   keeps_begin_call = λ x h. (closed.keeps_begin_call x h.0, h.1);
   keeps_connected_again = λ x h. (closed.keeps_connected_again x h.0, h.1);
-  keeps_disconnected = λ x h. (closed.keeps_disconnected x h.0, h.1);
   keeps_with_handle = λ item x fit h. (closed.keeps_with_handle item x fit h.0, b.opens l tokens item x (closed.sound x h.0) fit h.1);
   keeps_with_time = λ n x h. (closed.keeps_with_time n x h.0, h.1);
   keeps_without_handle = λ handle x h. (closed.keeps_without_handle handle x h.0, b.closes l x.volume.epoch x.volume.place x.volume.log x.handles x.handle_count x.waiting.waits x.waiting.wait_count _ h.1);
@@ -195,7 +197,6 @@ guarded_knowing K F b P knows closed = record {
   keeps_volatile_with_token = λ s h. (closed.keeps_volatile_with_token s h.0, h.1);
   keeps_with_clock_seen = λ clock s h. (closed.keeps_with_clock_seen clock s h.0, h.1);
   keeps_with_done = λ s h. (closed.keeps_with_done s h.0, h.1);
-  keeps_with_inline = λ inline s h. (closed.keeps_with_inline inline s h.0, linked K F b s.link _ s.filter (λ fair. fair) refl h.1);
   keeps_with_outbox = λ a rest s e h. (closed.keeps_with_outbox a rest s e h.0, h.1);
   keeps_with_stray = λ r s h. (closed.keeps_with_stray r s h.0, h.1);
   keeps_with_token_used = λ s h. (closed.keeps_with_token_used s h.0, h.1);
@@ -204,6 +205,17 @@ guarded_knowing K F b P knows closed = record {
 
 pub guarded_beside : (F : Fact) → Beside F → (P : State → Type 0) → Guarded P → Guarded (λ s. P s × HoldsIn F s)
 guarded_beside F b P closed = guarded_knowing Whatever F (knowing F b) P (λ s h fair. tt) closed
+
+pub commanding_knowing : (K : Filter → Type 0) (F : Fact) → Knowing K F → (P : State → Type 0) → ((s : State) → P s → IsFair s.link → K s.filter) → Guarded P → Commanding P → Commanding (λ s. P s × HoldsIn F s)
+commanding_knowing K F b P knows closed commanding = record {
+  waits = λ s n x fit unmet h. keeps_both (λ y. P (with_filter y s)) (Holds F s.link) (reading (begun n) (begin_now n) x) (commanding.waits s n x fit unmet h.0)
+      (begins_beside K F b s.link s.volatile.tokens n x ((closed.on_filter (with_filter x s) h.0).sound x h.0) fit unmet (knows (with_filter x s) h.0) h.1);
+  disconnects = λ s h. (commanding.disconnects s h.0, h.1);
+  inlines = λ inline s h. (commanding.inlines inline s h.0, linked K F b s.link _ s.filter (λ fair. fair) refl h.1);
+}
+
+pub commanding_beside : (F : Fact) → Beside F → (P : State → Type 0) → Guarded P → Commanding P → Commanding (λ s. P s × HoldsIn F s)
+commanding_beside F b P closed commanding = commanding_knowing Whatever F (knowing F b) P (λ s h fair. tt) closed commanding
 
 pub entering_beside : (F : Fact) (P : State → Type 0) → Entering P → Entering (λ s. P s × HoldsIn F s)
 entering_beside F P entering = record { enters = λ e s well h. (entering.enters e s well h.0, h.1) }
@@ -232,6 +244,7 @@ unruled_knowing K F b P knows rest = record {
     deletes = λ f item s keeps seen cursor idle leaf h. keeps_both (λ x. P (with_filter x s)) (Holds F s.link) (change_with f (change.Remove item) s.filter) (rest.deleting.deletes f item s keeps seen cursor idle leaf h.0)
         (changed_beside F s.link f (change.Remove item) s.filter h.1 (b.removes s.link s.volatile.tokens item s.filter ((rest.closed.on_filter s h.0).sound s.filter h.0) idle leaf h.1));
   };
+  commanding = commanding_knowing K F b.knowing P knows rest.closed rest.commanding;
   begins = λ s h. (rest.begins s h.0, h.1);
   breaks = λ s h. (rest.breaks s h.0, h.1);
   crashes = λ s h. (rest.crashes s h.0, b.crashes s.link s.filter.volume.epoch s.filter.volume.place s.filter.volume.log s.filter.handles s.filter.handle_count s.filter.waiting.waits s.filter.waiting.wait_count h.1);

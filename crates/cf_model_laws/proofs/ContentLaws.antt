@@ -22,7 +22,7 @@ use Rattle.cf_model_laws.proofs.Gathered.{all_found, all_weaker}
 use Rattle.cf_model_laws.proofs.ReadLaws.{read_right, true_right}
 use Rattle.cf_model_laws.proofs.RightItems.{no_way_back}
 use Rattle.cf_model_laws.proofs.SoundBooks.{opened_sound}
-use Rattle.cf_model_laws.proofs.SoundStates.{sound_deletes, sound_enters, sound_guarded}
+use Rattle.cf_model_laws.proofs.SoundStates.{sound_commands, sound_deletes, sound_enters, sound_guarded}
 use Rattle.cf_model_laws.proofs.SoundFilters.{policy_sound}
 
 pub next_epoch : (epoch skipped : ℕ) → epoch < epoch + 1 + skipped
@@ -50,6 +50,7 @@ sound_whole = record {
   closed = sound_guarded;
   entering = sound_enters;
   deleting = sound_deletes;
+  commanding = sound_commands;
   ruling = record { rules = λ p s v h. (h.0, λ fair. policy_sound s.link s.volatile.tokens s.filter p.validate v (h.1 fair)) };
   begins = λ s h. h;
   breaks = λ s h. h;

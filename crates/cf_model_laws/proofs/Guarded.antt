@@ -1,11 +1,13 @@
 -- What a property must be kept by, to be kept by the whole machine in `replay`: each step that is not made of others, with
 -- what it meets.
 use Rattle.std.specs.Prelude.{ℕ, Bool, true, false, List, [], Option, None, Some, max, ◌≡◌, ◌⊎◌, ◌<◌, ◌∷◌, ◌≤◌}
+use Rattle.std.proofs.Common.{◌∙◌, ap, sym}
 use Rattle.cf_base.specs.declared.changes.Change.{Change}
 use Rattle.cf_base.specs.declared.changes.Change.TheVariants as change
 use Rattle.cf_base.specs.declared.codes.Code.{Code}
 use Rattle.cf_base.specs.declared.ids.Handle.{Handle}
 use Rattle.cf_base.specs.declared.ids.ItemId.{ItemId}
+use Rattle.cf_base.specs.declared.ids.Key.{Key}
 use Rattle.cf_base.specs.declared.ids.Round.{Round}
 use Rattle.cf_base.specs.declared.ids.Token.{Token}
 use Rattle.cf_base.specs.declared.ids.Usn.{Usn}
@@ -39,7 +41,7 @@ use Rattle.cf_model.specs.Peers.{with_stray, with_token_used}
 use Rattle.cf_model.specs.Points.{commit}
 use Rattle.cf_model.specs.PushReplies.{entry_seen, held_and_closed, not_in_row, round_closed, taken_from_row, with_done, with_not_empty, with_taken_name}
 use Rattle.cf_model.specs.Pushes.{with_token}
-use Rattle.cf_model.specs.Requests.{Deed, Fails, Finishes, Leaves, Live, Nothing, is_list, live_of}
+use Rattle.cf_model.specs.Requests.{Deed, Expires, Fails, Finishes, Leaves, Live, Nothing, is_dehydrate_wait, is_list, is_list_wait, live_of}
 use Rattle.cf_model.specs.Settling.{accessed, settle, tell}
 use Rattle.cf_model.specs.Skips.{skipped, with_book, with_volatile}
 use Rattle.cf_model.specs.State.{Filter, Link, State, book_now, in_volume, is_replay, items_now, with_filter}
@@ -113,6 +115,29 @@ EndsOthers (Fails key blocks c) x = is_other_cause c ≡ true
 EndsOthers (Finishes key c) x = (is_other_cause c ≡ true) ⊎ ((a : Live) → live_of x.waiting.asks key ≡ Some a → is_list a.ask.kind ≡ true)
 EndsOthers _ x = Unit {0}
 
+-- the ask of the key, if it is live, is of the item
+abbrev pub IsAskOn : ItemId → Key → Filter → Type 0
+IsAskOn item key x = (a : Live) → live_of x.waiting.asks key ≡ Some a → a.ask.item.0 ≡ item.0
+
+-- an ask that the step ends is of the item
+abbrev pub EndsOn : ItemId → Deed → Filter → Type 0
+EndsOn item (Expires key) x = IsAskOn item key x
+EndsOn item (Finishes key c) x = IsAskOn item key x
+EndsOn item _ x = Unit {0}
+
+abbrev pub EndsWell : ItemId → Deed → Filter → Type 0
+EndsWell item d x = EndsOthers d x × EndsOn item d x
+
+-- the ask of a key is one
+pub one_ask : (key : Key) (a : Live) (x : Filter) → live_of x.waiting.asks key ≡ Some a → IsAskOn a.ask.item key x
+one_ask key a x is b e = inner (sym is ∙ e) where
+  inner : ◌≡◌ {A = Option Live} (Some a) (Some b) → b.ask.item.0 ≡ a.ask.item.0
+  inner z = let y : b ≡ a = cc in ap (λ (c : Live). c.ask.item.0) y
+
+-- what is needed is neither a list nor a dehydration
+abbrev pub IsPlainNeed : Need → Type 0
+IsPlainNeed n = (is_list_wait n.kind ≡ false) × (is_dehydrate_wait n.kind ≡ false)
+
 -- it ends none at all
 abbrev pub IsQuiet : Deed → Type 0
 IsQuiet Nothing = Unit {0}
@@ -126,15 +151,14 @@ pub record GuardedFilter (On : Knowledge) (l : Link) (tokens : ℕ) (P : Filter 
   pub touch : (f : Book → Book) (c : Change) (item : ItemId) (d : Deed) (x : Filter) → IsQuiet d → KeepsEntries f → (IsFair l → KeepsSeenBy f c x) → ((id : ItemId) → Touches c id → id.0 ≡ item.0) → (IsFair l → Fits l.remote x c) → (IsFair l → IsChangeBy On x f c) → P x
       → Keeps P (then_do (change_with f c) (then_do (settle item d) done) x)
   pub commits : Preserves P (in_volume commit)
-  pub settled : (item : ItemId) (d : Deed) (x : Filter) → EndsOthers d x → P x → Keeps P (settle item d x)
-  pub begins : (n : Need) (x : Filter) → (IsFair l → NeedsWell n x) → is_met_now n x ≡ false → P x → Keeps P (reading (begun n) (begin_now n) x)
+  pub settled : (item : ItemId) (d : Deed) (x : Filter) → EndsWell item d x → P x → Keeps P (settle item d x)
+  pub begins : (n : Need) (x : Filter) → IsPlainNeed n → (IsFair l → NeedsWell n x) → is_met_now n x ≡ false → P x → Keeps P (reading (begun n) (begin_now n) x)
   pub downs : Preserves P (reading all_down tell)
   pub keeps_accessed : (x1 : ItemId) → (s : Filter) → P s → P (accessed x1 s)
   pub keeps_accessed_now : (x1 : Need) → (s : Filter) → P s → P (accessed_now x1 s)
   pub keeps_as_it_is : (s : Filter) → P s → P (as_it_is s)
   pub keeps_begin_call : (s : Filter) → P s → P (begin_call s)
   pub keeps_connected_again : (s : Filter) → P s → P (connected_again s)
-  pub keeps_disconnected : (s : Filter) → P s → P (disconnected s)
   pub keeps_with_handle : (x1 : ItemId) → (s : Filter) → (IsFair l → IsSeated s.volume.items x1 false) → P s → P (with_handle x1 s)
   pub keeps_with_time : (x1 : ℕ) → (s : Filter) → P s → P (with_time x1 s)
   pub keeps_without_handle : (x1 : Handle) → (s : Filter) → P s → P (without_handle x1 s)
@@ -159,7 +183,7 @@ abbrev pub EnteredIn : State → QueueEntry → Type 0
 EnteredIn s e = EnteredWell s.link.remote s.link.messages s.filter.volume.epoch s.volatile.tokens (next_number s.filter.volume) s.filter.volume.next_item.0 (items_now s) (book_now s).entries e
 
 -- what a step does of its own, wherever it is done
-pub settled_on : {On : Knowledge} (l : Link) (tokens : ℕ) (P : Filter → Type 0) → GuardedFilter On l tokens P → (item : ItemId) (d : Deed) → ((x : Filter) → EndsOthers d x) → Preserves P (settle item d)
+pub settled_on : {On : Knowledge} (l : Link) (tokens : ℕ) (P : Filter → Type 0) → GuardedFilter On l tokens P → (item : ItemId) (d : Deed) → ((x : Filter) → EndsWell item d x) → Preserves P (settle item d)
 settled_on l tokens P closed item d others = record { keeps = λ x h. closed.settled item d x (others x) h }
 
 -- All entries of a feed that counted in an earlier state had their turns, and it is whole: nothing was postponed or left out, and no list
@@ -223,7 +247,6 @@ pub record Guarded (P : State → Type 0) : Type 0 where
   pub keeps_volatile_with_token : (s : State) → P s → P (with_volatile with_token s)
   pub keeps_with_clock_seen : (x1 : ℕ) → (s : State) → P s → P (with_clock_seen x1 s)
   pub keeps_with_done : (s : State) → P s → P (with_done s)
-  pub keeps_with_inline : (x1 : Bool) → (s : State) → P s → P (with_inline x1 s)
   pub keeps_with_outbox : (x1 : Ask) (x2 : List Ask) → (s : State) → s.filter.outbox ≡ x1 ∷ x2 → P s → P (with_outbox x2 s)
   pub keeps_with_stray : (x1 : Reply) → (s : State) → P s → P (with_stray x1 s)
   pub keeps_with_token_used : (s : State) → P s → P (with_token_used s)
@@ -237,6 +260,16 @@ pub record Deleting (P : State → Type 0) : Type 0 where
 -- and by a policy that an application sets
 pub record Ruling (P : State → Type 0) : Type 0 where
   pub rules : (p : Policy) (s : State) → p.validate ≡ false → P s → P (with_filter (with_policy p s.filter) s)
+
+-- a wait of any kind begins
+abbrev pub AreWaitsKept : Link → (Filter → Type 0) → Type 0
+AreWaitsKept l P = (n : Need) (x : Filter) → (IsFair l → NeedsWell n x) → is_met_now n x ≡ false → P x → Keeps P (reading (begun n) (begin_now n) x)
+
+-- and by what no pass does: a list call or a dehydration waits, the provider goes, and the link is set
+pub record Commanding (P : State → Type 0) : Type 0 where
+  pub waits : (s : State) → AreWaitsKept s.link (λ x. P (with_filter x s))
+  pub disconnects : (s : State) → P s → P (with_filter (disconnected s.filter) s)
+  pub inlines : (inline : Bool) (s : State) → P s → P (with_inline inline s)
 
 -- and by an upload that is entered
 pub record Entering (P : State → Type 0) : Type 0 where

@@ -33,7 +33,7 @@ use Rattle.cf_model.specs.Skips.{skip_line, with_book}
 use Rattle.cf_model.specs.State.{Filter, Link, Point, State, Volume, book_now, in_volume, items_now, start, with_filter}
 use Rattle.cf_model.specs.Store.{Held}
 use Rattle.cf_model.specs.Trees.{Keeps, Ret}
-use Rattle.cf_model.specs.Waits.{all_down, begin_now, begun as waiting_begun, own_id, with_own}
+use Rattle.cf_model.specs.Waits.{Need, all_down, begin_now, begun as waiting_begun, own_id, with_own}
 use Rattle.cf_model.proofs.TreeLaws.{keeps_bind}
 use Rattle.cf_model_laws.specs.Invariant.{All, Invariant, IsEntryOf, IsSound}
 use Rattle.cf_model_laws.specs.Marks.{IsMadeAtSeen, IsMarkedAtSeen, IsMarkedLast}
@@ -111,6 +111,9 @@ placed_book l v b same h fair = (
   (h fair).1,
 )
 
+begins_placed : (l : Link) (n : Need) (x : Filter) → InFilter l x → Keeps (InFilter l) (reading (waiting_begun n) (begin_now n) x)
+begins_placed l n x h = keeps_bind (InFilter l) (tell (waiting_begun n x) (with_own n x)) (λ _ t. Ret (shown.Pending (own_id n x)) t) (tell_frame (Placed l) (placed_book l) (waiting_begun n x) (with_own n x) h) (λ a t j. j)
+
 filter_placed : {On : Knowledge} (l : Link) (tokens : ℕ) (P : Filter → Type 0) → GuardedFilter On l tokens P → GuardedFilter On l tokens (λ x. P x × InFilter l x)
 filter_placed l tokens P closed = record {
   sound = λ x h fair. closed.sound x h.0 fair;
@@ -120,14 +123,13 @@ filter_placed l tokens P closed = record {
       (λ a t j. keeps_bind (InFilter l) (settle item d t) (λ _ y. done y) (tell_frame (Placed l) (placed_book l) (told_at item d t) t j) (λ b y m. m)));
   commits = record { keeps = λ x h. keeps_both P (InFilter l) (in_volume commit x) (closed.commits.keeps x h.0) (point_begun l tokens x (closed.sound x h.0) h.1, λ fair. ((h.1 fair).0, (point_placed true x.volume (closed.sound x h.0 fair).of_log (h.1 fair).0, tt))) };
   settled = λ item d x others h. keeps_both P (InFilter l) (settle item d x) (closed.settled item d x others h.0) (tell_frame (Placed l) (placed_book l) (told_at item d x) x h.1);
-  begins = λ n x fit unmet h. keeps_both P (InFilter l) (reading (waiting_begun n) (begin_now n) x) (closed.begins n x fit unmet h.0) (keeps_bind (InFilter l) (tell (waiting_begun n x) (with_own n x)) (λ _ t. Ret (shown.Pending (own_id n x)) t) (tell_frame (Placed l) (placed_book l) (waiting_begun n x) (with_own n x) h.1) (λ a t j. j));
+  begins = λ n x plain fit unmet h. keeps_both P (InFilter l) (reading (waiting_begun n) (begin_now n) x) (closed.begins n x plain fit unmet h.0) (begins_placed l n x h.1);
   downs = record { keeps = λ x h. keeps_both P (InFilter l) (reading all_down tell x) (closed.downs.keeps x h.0) (tell_frame (Placed l) (placed_book l) (all_down x) x h.1) };
   keeps_accessed = λ item x h. (closed.keeps_accessed item x h.0, placed_book l x.volume (with_access item x.volume.book) (record { cursor = refl; entries = refl; seen = refl; tombstones = refl }) h.1);
   keeps_accessed_now = λ n x h. (closed.keeps_accessed_now n x h.0, access_frame (Placed l) (placed_book l) n.item (is_access n.kind cause.Met) x h.1);
   keeps_as_it_is = λ x h. (closed.keeps_as_it_is x h.0, h.1);
   keeps_begin_call = λ x h. (closed.keeps_begin_call x h.0, h.1);
   keeps_connected_again = λ x h. (closed.keeps_connected_again x h.0, h.1);
-  keeps_disconnected = λ x h. (closed.keeps_disconnected x h.0, h.1);
   keeps_with_handle = λ item x fit h. (closed.keeps_with_handle item x fit h.0, h.1);
   keeps_with_time = λ n x h. (closed.keeps_with_time n x h.0, placed_book l x.volume (with_ticks n x.volume.book) (record { cursor = refl; entries = refl; seen = refl; tombstones = refl }) h.1);
   keeps_without_handle = λ handle x h. (closed.keeps_without_handle handle x h.0, h.1);
@@ -205,7 +207,6 @@ guarded_placed P closed = record {
   keeps_volatile_with_token = λ s h. (closed.keeps_volatile_with_token s h.0, h.1);
   keeps_with_clock_seen = λ clock s h. (closed.keeps_with_clock_seen clock s h.0, h.1);
   keeps_with_done = λ s h. (closed.keeps_with_done s h.0, h.1);
-  keeps_with_inline = λ inline s h. (closed.keeps_with_inline inline s h.0, h.1);
   keeps_with_outbox = λ a rest s e h. (closed.keeps_with_outbox a rest s e h.0, h.1);
   keeps_with_stray = λ r s h. (closed.keeps_with_stray r s h.0, h.1);
   keeps_with_token_used = λ s h. (closed.keeps_with_token_used s h.0, h.1);
@@ -240,6 +241,11 @@ placed_whole = record {
   deleting = record {
     deletes = λ f item s keeps seen cursor idle leaf h. keeps_both (λ x. Invariant (with_filter x s)) (InFilter s.link) (change_with f (change.Remove item) s.filter) (sound_whole.deleting.deletes f item s keeps seen cursor idle leaf h.0)
         (placed_change s.link s.volatile.tokens f (change.Remove item) s.filter h.0.1 (λ fair. other_placed f (change.Remove item) s.filter (λ z. z) seen (h.1 fair).0.below) h.1);
+  };
+  commanding = record {
+    waits = λ s n x fit unmet h. keeps_both (λ y. Invariant (with_filter y s)) (InFilter s.link) (reading (waiting_begun n) (begin_now n) x) (sound_whole.commanding.waits s n x fit unmet h.0) (begins_placed s.link n x h.1);
+    disconnects = λ s h. (sound_whole.commanding.disconnects s h.0, h.1);
+    inlines = λ inline s h. (sound_whole.commanding.inlines inline s h.0, h.1);
   };
   ruling = record { rules = λ p s v h. (sound_whole.ruling.rules p s v h.0, h.1) };
   begins = λ s h. (sound_whole.begins s h.0, h.1);

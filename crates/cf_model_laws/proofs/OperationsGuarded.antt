@@ -20,8 +20,8 @@ use Rattle.cf_model.specs.Items.{Item, item_of, pin_of, size_of}
 use Rattle.cf_model.specs.Settling.{settle}
 use Rattle.cf_model.specs.State.{Filter, Link}
 use Rattle.cf_model.specs.Words.{first_of, number_of, part}
-use Rattle.cf_model.specs.Operations.{ack_dehydrate, changes_with, checked, consent_by, consent_deed, consent_tests, done, entries, entries_deed, entries_tests, execute, execute_with, key_of, on_ask, on_live, refuse, refuse_tests, second_verdict, transfer, transfer_by, transfer_tests, entry_changes, entry_kind, list_changes, dehydration, in_use_beside}
-use Rattle.cf_model_laws.proofs.Guarded.{AreSeenBelow, GuardedFilter, KeepsCursor, settled_on}
+use Rattle.cf_model.specs.Operations.{changes_with, checked, consent_by, consent_deed, consent_tests, done, entries, entries_deed, entries_tests, execute, execute_with, key_of, on_ask, on_live, refuse, refuse_tests, second_verdict, transfer, transfer_by, transfer_tests, entry_changes, entry_kind, list_changes, dehydration, in_use_beside}
+use Rattle.cf_model_laws.proofs.Guarded.{AreSeenBelow, GuardedFilter, IsAskOn, KeepsCursor, one_ask, settled_on}
 use Rattle.cf_model.proofs.ArrowLaws.{keeps_ret, keeps_then, keeps_unless}
 use Rattle.std.proofs.Common.{◌≡◌, ◌<◌, ◌≤◌, ◌+◌, ◌∷◌, ◌++◌, refl, sym, ◌∙◌, ap, subst, inl, inr, max, arith, List, [], ℕ, suc, Bool, true, false}
 use Rattle.cf_base.specs.declared.ids.ItemId.{ItemId}
@@ -76,7 +76,7 @@ transfer_at l tokens P closed a at bytes x fit h =
     (λ e. closed.touch same_book c a.ask.item (Leaves a.ask.key (blocks_of at (length bytes))) x tt (λ b. refl) (λ fair. ((λ z b. refl), (λ k. k), λ b. refl)) (λ id k. k) (λ fair. fit fair (not_false (is_fetch a.ask.kind) (head_false (transfer_tests a c at (length bytes) x) e))) (λ fair. (tt, inl (λ b. refl))) h)
 
 pub refuse_keeps : {On : Knowledge} (l : Link) (tokens : ℕ) (P : Filter → Type 0) → GuardedFilter On l tokens P → (x1 : Live) → (x2 : Span) → (x3 : ℕ) → Preserves P (refuse x1 x2 x3)
-refuse_keeps l tokens P closed a asked status = checked_keeps l tokens P closed (refuse_tests a asked) (then_do (settle a.ask.item (Fails a.ask.key (blocks_of asked.start asked.len) (cause.Failed status))) done) (keeps_then P (settle a.ask.item (Fails a.ask.key (blocks_of asked.start asked.len) (cause.Failed status))) done (settled_on l tokens P closed a.ask.item (Fails a.ask.key (blocks_of asked.start asked.len) (cause.Failed status)) (λ x. refl)) (done_keeps l tokens P closed))
+refuse_keeps l tokens P closed a asked status = checked_keeps l tokens P closed (refuse_tests a asked) (then_do (settle a.ask.item (Fails a.ask.key (blocks_of asked.start asked.len) (cause.Failed status))) done) (keeps_then P (settle a.ask.item (Fails a.ask.key (blocks_of asked.start asked.len) (cause.Failed status))) done (settled_on l tokens P closed a.ask.item (Fails a.ask.key (blocks_of asked.start asked.len) (cause.Failed status)) (λ x. (refl, tt))) (done_keeps l tokens P closed))
 
 -- entries
 
@@ -270,6 +270,10 @@ listing_ends a w v same found list b e = inner (sym found ∙ ap (λ (u : Waitin
   inner : ◌≡◌ {A = Option Live} (Some a) (Some b) → is_list b.ask.kind ≡ true
   inner z = let y : a ≡ b = cc in subst (λ (c : Live). is_list c.ask.kind ≡ true) y list
 
+-- and it is of its item
+ask_ends : (a : Live) (x t : Filter) → t.waiting ≡ x.waiting → live_of x.waiting.asks a.ask.key ≡ Some a → IsAskOn a.ask.item a.ask.key t
+ask_ends a x t same found = one_ask a.ask.key a t (subst (λ (w : Waiting). live_of w.asks a.ask.key ≡ Some a) (sym same) found)
+
 pub listing_at : {On : Knowledge} (l : Link) (tokens : ℕ) (P : Filter → Type 0) → GuardedFilter On l tokens P → (f : Book → Book) → KeepsEntries f → (a : Live) (es : List Entry) (x : Filter) → live_of x.waiting.asks a.ask.key ≡ Some a → ((b : Book) → f b ≡ with_seen_from x.volume.next_item.0 es b) → (is_list a.ask.kind ≡ true → IsFair l → Listing (On false x.volume.book.cursor) x.volume.items x.volume.next_item.0 x.volume.next_item.0 [] es es)
     → SeesFrom f (x.volume.next_item.0 + length es) → (IsFair l → All (λ e. NewFits l.remote x.policy (new_item_of e)) es) → (IsFair l → list_any is_new_entry x.volume.book.entries ≡ false) → (IsFair l → AreOthers x.volume.items es) → P x → Keeps P (entries f a (map new_item_of es) true x)
 listing_at l tokens P closed f keeps a es x live is list sees fit old new h =
@@ -279,15 +283,13 @@ listing_at l tokens P closed f keeps a es x live is list sees fit old new h =
     (a, live, not_false (is_list a.ask.kind) (head_false (entries_tests f a (map new_item_of es) (list_changes a (map new_item_of es) x) x) e), refl) h)
     (waiting_stays f (list_changes a (map new_item_of es) x) x)
     (λ u t j w. keeps_bind P (settle a.ask.item (entries_deed a true) t) (λ _ y. done y)
-    (closed.settled a.ask.item (entries_deed a true) t (inr (listing_ends a x.waiting t.waiting w live (not_false (is_list a.ask.kind) (head_false (entries_tests f a (map new_item_of es) (list_changes a (map new_item_of es) x) x) e)))) j) (λ v y k. k)))
+    (closed.settled a.ask.item (entries_deed a true) t (inr (listing_ends a x.waiting t.waiting w live (not_false (is_list a.ask.kind) (head_false (entries_tests f a (map new_item_of es) (list_changes a (map new_item_of es) x) x) e))), ask_ends a x t w live) j) (λ v y k. k)))
 
 -- no entries
-pub no_listing_keeps : {On : Knowledge} (l : Link) (tokens : ℕ) (P : Filter → Type 0) → GuardedFilter On l tokens P → (f : Book → Book) (a : Live) (list : List NewItem) → Preserves P (entries f a list false)
-no_listing_keeps l tokens P closed f a list =
-    record {
-      keeps = λ x h. checked_at P (entries_tests f a list []) (then_do (changes_with f []) (then_do (settle a.ask.item (entries_deed a false)) done)) x h
-          (λ e. keeps_bind P (settle a.ask.item (entries_deed a false) x) (λ _ y. done y) (closed.settled a.ask.item (entries_deed a false) x (inl refl) h) (λ v y k. k));
-    }
+no_listing_at : {On : Knowledge} (l : Link) (tokens : ℕ) (P : Filter → Type 0) → GuardedFilter On l tokens P → (f : Book → Book) (a : Live) (list : List NewItem) (x : Filter) → live_of x.waiting.asks a.ask.key ≡ Some a → P x → Keeps P (entries f a list false x)
+no_listing_at l tokens P closed f a list x live h =
+    checked_at P (entries_tests f a list []) (then_do (changes_with f []) (then_do (settle a.ask.item (entries_deed a false)) done)) x h
+    (λ e. keeps_bind P (settle a.ask.item (entries_deed a false) x) (λ _ y. done y) (closed.settled a.ask.item (entries_deed a false) x (inl refl, ask_ends a x x refl live) h) (λ v y k. k))
 
 -- consent
 
@@ -306,18 +308,19 @@ consent_fits l tokens P closed a x h e fair = by (item_of x.volume.items a.ask.i
   by None q e = each_none a.ask.item (λ i. i.in_sync ≡ true) x.volume.items q
   by (Some i) q e = each_found a.ask.item (λ i. i.in_sync ≡ true) 0 x.volume.next_item.0 x.volume.items i (closed.sound x h fair).now.order q (allowed_in_sync x.policy i a.ask.span.start a.ask.span.len (in_use_beside a.ask.item a.wait x) e)
 
-consent_at : {On : Knowledge} (l : Link) (tokens : ℕ) (P : Filter → Type 0) → GuardedFilter On l tokens P → (a : Live) (refusal : Option Code) (x : Filter) → second_verdict a x ≡ refusal → P x → Keeps P (consent_by a true refusal x)
-consent_at l tokens P closed a None x e h =
-    checked_at P (consent_tests a (dehydration a ∷ [])) (then_do (changes (dehydration a ∷ [])) (then_do (settle a.ask.item (consent_deed a true None)) done)) x h
-    (λ q. keeps_bind P (changes (dehydration a ∷ []) x) (λ _ t. then_do (settle a.ask.item (consent_deed a true None)) done t)
-    (keeps_bind P (change (dehydration a) x) (λ _ t. ret unit t) (closed.change same_book (dehydration a) x (λ b. refl) (λ fair. ((λ z b. refl), (λ k. k), λ b. refl)) (λ id k. k) (λ fair. consent_fits l tokens P closed a x h e fair) (λ fair. (tt, inl (λ b. refl))) h) (λ u t j. j))
-    (λ u t j. keeps_bind P (settle a.ask.item (consent_deed a true None) t) (λ _ y. done y) (closed.settled a.ask.item (consent_deed a true None) t (inl refl) j) (λ v y k. k)))
-consent_at l tokens P closed a (Some c) x e h =
-    checked_at P (consent_tests a []) (then_do (changes []) (then_do (settle a.ask.item (consent_deed a true (Some c))) done)) x h
-    (λ q. keeps_bind P (settle a.ask.item (consent_deed a true (Some c)) x) (λ _ y. done y) (closed.settled a.ask.item (consent_deed a true (Some c)) x (inl refl) h) (λ v y k. k))
+emptied_waits : (a : Live) (x : Filter) → Leads (λ s. Unit {0}) (λ u t. t.waiting ≡ x.waiting) (changes (dehydration a ∷ []) x)
+emptied_waits a x = leads_bind (λ s. Unit {0}) (λ u t. After same_book (dehydration a) x t) (λ u t. t.waiting ≡ x.waiting) (change (dehydration a) x) (λ _ t. ret unit t) (change_after same_book (dehydration a) x) (λ u t k. k.waiting)
 
-pub consents_keep : {On : Knowledge} (l : Link) (tokens : ℕ) (P : Filter → Type 0) → GuardedFilter On l tokens P → (a : Live) → Preserves P (ack_dehydrate a true)
-consents_keep l tokens P closed a = record { keeps = λ x h. consent_at l tokens P closed a (second_verdict a x) x refl h }
+consent_at : {On : Knowledge} (l : Link) (tokens : ℕ) (P : Filter → Type 0) → GuardedFilter On l tokens P → (a : Live) (refusal : Option Code) (x : Filter) → live_of x.waiting.asks a.ask.key ≡ Some a → second_verdict a x ≡ refusal → P x → Keeps P (consent_by a true refusal x)
+consent_at l tokens P closed a None x live e h =
+    checked_at P (consent_tests a (dehydration a ∷ [])) (then_do (changes (dehydration a ∷ [])) (then_do (settle a.ask.item (consent_deed a true None)) done)) x h
+    (λ q. keeps_led P (λ u t. t.waiting ≡ x.waiting) (changes (dehydration a ∷ []) x) (λ _ t. then_do (settle a.ask.item (consent_deed a true None)) done t)
+    (keeps_bind P (change (dehydration a) x) (λ _ t. ret unit t) (closed.change same_book (dehydration a) x (λ b. refl) (λ fair. ((λ z b. refl), (λ k. k), λ b. refl)) (λ id k. k) (λ fair. consent_fits l tokens P closed a x h e fair) (λ fair. (tt, inl (λ b. refl))) h) (λ u t j. j))
+    (emptied_waits a x)
+    (λ u t j w. keeps_bind P (settle a.ask.item (consent_deed a true None) t) (λ _ y. done y) (closed.settled a.ask.item (consent_deed a true None) t (inl refl, ask_ends a x t w live) j) (λ v y k. k)))
+consent_at l tokens P closed a (Some c) x live e h =
+    checked_at P (consent_tests a []) (then_do (changes []) (then_do (settle a.ask.item (consent_deed a true (Some c))) done)) x h
+    (λ q. keeps_bind P (settle a.ask.item (consent_deed a true (Some c)) x) (λ _ y. done y) (closed.settled a.ask.item (consent_deed a true (Some c)) x (inl refl, ask_ends a x x refl live) h) (λ v y k. k))
 
 -- an operation of the engine
 
@@ -334,6 +337,9 @@ keys_same a b h = by (a.epoch == b.epoch) (a.number == b.number) refl refl h whe
 live_key : (asks : List Live) (key : Key) (a : Live) → live_of asks key ≡ Some a → a.ask.key ≡ key
 live_key asks key a e = keys_same a.ask.key key (all_found (λ (b : Live). Unit {0}) (λ (b : Live). same_key b.ask.key key) asks a e (all_any (λ (b : Live). Unit {0}) (λ b. tt) asks)).1
 
+live_same : (x : Filter) (key : Key) (a : Live) → live_of x.waiting.asks key ≡ Some a → live_of x.waiting.asks a.ask.key ≡ Some a
+live_same x key a e = subst (λ (k : Key). live_of x.waiting.asks k ≡ Some a) (sym (live_key x.waiting.asks key a e)) e
+
 on_key : (l : Link) (tokens : ℕ) (P : Filter → Type 0) (f : Book → Book) (op : Operation) (x : Filter) → P x → ((a : Live) → live_of x.waiting.asks (key_of op) ≡ Some a → Keeps P (on_ask f op a x)) → Keeps P (execute_with f op x)
 on_key l tokens P f op x h k = by (live_of x.waiting.asks (key_of op)) refl where
   by : (o : Option Live) → live_of x.waiting.asks (key_of op) ≡ o → Keeps P (on_live f op o x)
@@ -349,12 +355,12 @@ pub refused_op_keeps : {On : Knowledge} (l : Link) (tokens : ℕ) (P : Filter �
 refused_op_keeps l tokens P closed key asked status = record { keeps = λ x h. on_key l tokens P same_book (operation.Refuse key asked status) x h (λ a e. (refuse_keeps l tokens P closed a asked status).keeps x h) }
 
 pub no_entries_op_keeps : {On : Knowledge} (l : Link) (tokens : ℕ) (P : Filter → Type 0) → GuardedFilter On l tokens P → (key : Key) → Preserves P (execute (operation.Entries key [] false))
-no_entries_op_keeps l tokens P closed key = record { keeps = λ x h. on_key l tokens P same_book (operation.Entries key [] false) x h (λ a e. (no_listing_keeps l tokens P closed same_book a []).keeps x h) }
+no_entries_op_keeps l tokens P closed key = record { keeps = λ x h. on_key l tokens P same_book (operation.Entries key [] false) x h (λ a e. no_listing_at l tokens P closed same_book a [] x (live_same x key a e) h) }
 
 pub listed_at : {On : Knowledge} (l : Link) (tokens : ℕ) (P : Filter → Type 0) → GuardedFilter On l tokens P → (f : Book → Book) → KeepsEntries f → (key : Key) (es : List Entry) (x : Filter) → ((b : Book) → f b ≡ with_seen_from x.volume.next_item.0 es b)
     → ((a : Live) → live_of x.waiting.asks key ≡ Some a → is_list a.ask.kind ≡ true → IsFair l → Listing (On false x.volume.book.cursor) x.volume.items x.volume.next_item.0 x.volume.next_item.0 [] es es)
     → SeesFrom f (x.volume.next_item.0 + length es) → (IsFair l → All (λ e. NewFits l.remote x.policy (new_item_of e)) es) → (IsFair l → list_any is_new_entry x.volume.book.entries ≡ false) → (IsFair l → AreOthers x.volume.items es) → P x → Keeps P (execute_with f (operation.Entries key (map new_item_of es) true) x)
-listed_at l tokens P closed f keeps key es x is list sees fit old new h = on_key l tokens P f (operation.Entries key (map new_item_of es) true) x h (λ a e. listing_at l tokens P closed f keeps a es x (subst (λ (k : Key). live_of x.waiting.asks k ≡ Some a) (sym (live_key x.waiting.asks key a e)) e) is (list a e) sees fit old new h)
+listed_at l tokens P closed f keeps key es x is list sees fit old new h = on_key l tokens P f (operation.Entries key (map new_item_of es) true) x h (λ a e. listing_at l tokens P closed f keeps a es x (live_same x key a e) is (list a e) sees fit old new h)
 
 pub consented_keeps : {On : Knowledge} (l : Link) (tokens : ℕ) (P : Filter → Type 0) → GuardedFilter On l tokens P → (key : Key) → Preserves P (execute (operation.AckDehydrate key true))
-consented_keeps l tokens P closed key = record { keeps = λ x h. on_key l tokens P same_book (operation.AckDehydrate key true) x h (λ a e. (consents_keep l tokens P closed a).keeps x h) }
+consented_keeps l tokens P closed key = record { keeps = λ x h. on_key l tokens P same_book (operation.AckDehydrate key true) x h (λ a e. consent_at l tokens P closed a (second_verdict a x) x (live_same x key a e) refl h) }

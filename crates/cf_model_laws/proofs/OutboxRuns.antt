@@ -45,14 +45,13 @@ module _ (F : Fact) (b : BoxingRuns F) where
         ((keeps_then (Holds F) (change_with f d) (then_do (settle item e) done) ((filter_closed F b.boxing).change f d) (keeps_then (Holds F) (settle item e) done ((filter_closed F b.boxing).settled item e) (record { keeps = λ y k. k }))).keeps x h.1);
     commits = record { keeps = λ x h. keeps_both P (Holds F) (in_volume commit x) (closed.commits.keeps x h.0) ((filter_closed F b.boxing).commits.keeps x h.1) };
     settled = λ item d x others h. keeps_both P (Holds F) (settle item d x) (closed.settled item d x others h.0) (((filter_closed F b.boxing).settled item d).keeps x h.1);
-    begins = λ n x fit unmet h. keeps_both P (Holds F) (reading (wait_begun n) (begin_now n) x) (closed.begins n x fit unmet h.0) (((filter_closed F b.boxing).begins n).keeps x h.1);
+    begins = λ n x plain fit unmet h. keeps_both P (Holds F) (reading (wait_begun n) (begin_now n) x) (closed.begins n x plain fit unmet h.0) (((filter_closed F b.boxing).begins n).keeps x h.1);
     downs = record { keeps = λ x h. keeps_both P (Holds F) (reading all_down tell x) (closed.downs.keeps x h.0) ((filter_closed F b.boxing).downs.keeps x h.1) };
     keeps_accessed = λ item x h. (closed.keeps_accessed item x h.0, h.1);
     keeps_accessed_now = λ n x h. (closed.keeps_accessed_now n x h.0, (filter_closed F b.boxing).keeps_accessed_now n x h.1);
     keeps_as_it_is = λ x h. (closed.keeps_as_it_is x h.0, h.1);
     keeps_begin_call = λ x h. (closed.keeps_begin_call x h.0, h.1);
     keeps_connected_again = λ x h. (closed.keeps_connected_again x h.0, h.1);
-    keeps_disconnected = λ x h. (closed.keeps_disconnected x h.0, h.1);
     keeps_with_handle = λ item x fit h. (closed.keeps_with_handle item x fit h.0, h.1);
     keeps_with_time = λ n x h. (closed.keeps_with_time n x h.0, b.boxing.ticks x.outbox x.waiting n h.1);
     keeps_without_handle = λ handle x h. (closed.keeps_without_handle handle x h.0, h.1);
@@ -88,7 +87,6 @@ module _ (F : Fact) (b : BoxingRuns F) where
     keeps_volatile_with_token = λ s h. (closed.keeps_volatile_with_token s h.0, h.1);
     keeps_with_clock_seen = λ clock s h. (closed.keeps_with_clock_seen clock s h.0, h.1);
     keeps_with_done = λ s h. (closed.keeps_with_done s h.0, h.1);
-    keeps_with_inline = λ inline s h. (closed.keeps_with_inline inline s h.0, h.1);
     keeps_with_outbox = λ a rest s e h. (closed.keeps_with_outbox a rest s e h.0, b.boxing.pops a rest s.filter.waiting (subst (λ (o : List Ask). F o s.filter.waiting) e h.1));
     keeps_with_stray = λ r s h. (closed.keeps_with_stray r s h.0, h.1);
     keeps_with_token_used = λ s h. (closed.keeps_with_token_used s h.0, h.1);
@@ -101,6 +99,11 @@ module _ (F : Fact) (b : BoxingRuns F) where
     entering = record { enters = λ e s well h. (whole.entering.enters e s well h.0, h.1) };
     deleting = record {
       deletes = λ f item s keeps seen cursor idle leaf h. keeps_both (λ x. P (with_filter x s)) (Holds F) (change_with f (change.Remove item) s.filter) (whole.deleting.deletes f item s keeps seen cursor idle leaf h.0) (((filter_closed F b.boxing).change f (change.Remove item)).keeps s.filter h.1);
+    };
+    commanding = record {
+      waits = λ s n x fit unmet h. keeps_both (λ y. P (with_filter y s)) (Holds F) (reading (wait_begun n) (begin_now n) x) (whole.commanding.waits s n x fit unmet h.0) (((filter_closed F b.boxing).begins n).keeps x h.1);
+      disconnects = λ s h. (whole.commanding.disconnects s h.0, h.1);
+      inlines = λ inline s h. (whole.commanding.inlines inline s h.0, h.1);
     };
     ruling = record { rules = λ p s v h. (whole.ruling.rules p s v h.0, h.1) };
     begins = λ s h. (whole.begins s h.0, h.1);

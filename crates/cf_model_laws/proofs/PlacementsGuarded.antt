@@ -77,7 +77,7 @@ create_dir_keeps l tokens P closed path = at_place l tokens P closed path (creat
 
 pub settle_changed_keeps : {On : Knowledge} (l : Link) (tokens : ℕ) (P : Filter → Type 0) → GuardedFilter On l tokens P → (x1 : ItemId) → (x2 : List Change) → Preserves P (settle_changed x1 x2)
 settle_changed_keeps l tokens P closed item [] = keeps_ret P unit
-settle_changed_keeps l tokens P closed item (c ∷ cs) = settled_on l tokens P closed item Nothing (λ x. tt)
+settle_changed_keeps l tokens P closed item (c ∷ cs) = settled_on l tokens P closed item Nothing (λ x. (tt, tt))
 
 pub asking_keeps : {On : Knowledge} (l : Link) (tokens : ℕ) (P : Filter → Type 0) → GuardedFilter On l tokens P → (item : ItemId) (answer : Arrow Filter Shown) → Preserves P answer → (cs : List Change) → All IsPlain cs → Preserves P (asking item answer cs)
 asking_keeps l tokens P closed item answer answer_keeps cs plain =

@@ -65,7 +65,6 @@ filter_weaker On Un less l tokens P closed = record {
   keeps_as_it_is = closed.keeps_as_it_is;
   keeps_begin_call = closed.keeps_begin_call;
   keeps_connected_again = closed.keeps_connected_again;
-  keeps_disconnected = closed.keeps_disconnected;
   keeps_with_handle = closed.keeps_with_handle;
   keeps_with_time = closed.keeps_with_time;
   keeps_without_handle = closed.keeps_without_handle;

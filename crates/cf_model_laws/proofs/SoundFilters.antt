@@ -187,7 +187,7 @@ new_waits l tokens n x h = record {
     beside_numbered true = (new_number x.waiting.epoch (x.waiting.wait_count + 1), tt)
     beside_numbered false = tt
 
-begins_keep : (M : Type 0) (l : Link) (tokens : ℕ) (n : Need) → Preserves (FilterSound M l tokens) (reading (begun n) (begin_now n))
+pub begins_keep : (M : Type 0) (l : Link) (tokens : ℕ) (n : Need) → Preserves (FilterSound M l tokens) (reading (begun n) (begin_now n))
 begins_keep M l tokens n = record {
   keeps = λ x h.
       keeps_bind (FilterSound M l tokens) (tell (begun n x) (with_own n x)) (λ _ t. Ret (shown.Pending (own_id n x)) t)
@@ -259,14 +259,13 @@ filter_guarded M l tokens = record {
   touch = λ f c item d x quiet keeps seen on fit known h. touch_keeps M l tokens f c item d x keeps on (λ e. (fits_meets l.remote x c (fit e), fits_aims l.remote x c (fit e))) h;
   commits = record { keeps = λ x h. ((h.0, λ e. with_begun l tokens x (h.1 e)), (h.0, λ e. with_sure l tokens x (h.1 e))) };
   settled = λ item d x others h. settle_but M l tokens item d x h.0 (λ e. none_on item l tokens x (h.1 e));
-  begins = λ n x fit unmet h. (begins_keep M l tokens n).keeps x h;
+  begins = λ n x plain fit unmet h. (begins_keep M l tokens n).keeps x h;
   downs = record { keeps = λ x h. tell_keeps M l tokens (all_down x) x h.0 (λ e. (downed_sound l tokens x (h.1 e), (tt, tt))) };
   keeps_accessed = λ item x h. h;
   keeps_accessed_now = λ n x h. now_keeps M l tokens n.item (is_access n.kind cause.Met) x h;
   keeps_as_it_is = λ x h. h;
   keeps_begin_call = λ x h. h;
   keeps_connected_again = λ x h. h;
-  keeps_disconnected = λ x h. h;
   keeps_with_handle = λ item x fit h. h;
   keeps_with_time = λ n x h. (h.0, λ e. timed l tokens n x (h.1 e));
   keeps_without_handle = λ handle x h. h;

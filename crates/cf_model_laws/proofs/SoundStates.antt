@@ -25,11 +25,11 @@ use Rattle.cf_model_laws.specs.Invariant.{All, Invariant, IsDurable, IsSound, Is
 use Rattle.cf_model_laws.specs.Premises.{IsFair, IsSmall}
 use Rattle.cf_model_laws.proofs.FitAsks.{LiveAt}
 use Rattle.cf_model_laws.proofs.Gathered.{all_any, all_weaker}
-use Rattle.cf_model_laws.proofs.Guarded.{AskedIn, Deleting, Entering, Guarded, PostedIn}
+use Rattle.cf_model_laws.proofs.Guarded.{AskedIn, Commanding, Deleting, Entering, Guarded, PostedIn}
 use Rattle.cf_model_laws.proofs.RemoteSteps.{items_grow}
 use Rattle.cf_model_laws.proofs.RightItems.{no_way}
 use Rattle.cf_model_laws.proofs.SoundBooks.{book_sound, durable_entered, durable_fewer, tokens_sound}
-use Rattle.cf_model_laws.proofs.SoundFilters.{change_keeps, filter_guarded}
+use Rattle.cf_model_laws.proofs.SoundFilters.{begins_keep, change_keeps, filter_guarded}
 use Rattle.cf_model_laws.proofs.SoundLinks.{CarriesBy, FrameCarries, ask_sound, post_sound}
 use Rattle.cf_model.specs.Messages.{with_message}
 
@@ -182,7 +182,6 @@ sound_guarded = record {
   );
   keeps_with_clock_seen = λ clock s h. h;
   keeps_with_done = λ s h. h;
-  keeps_with_inline = λ inline s h. h;
   keeps_with_outbox = λ a rest s e h. (h.0, λ fair. outbox_state s a rest e (h.1 fair));
   keeps_with_stray = λ r s h. h;
   keeps_with_token_used = λ s h. h;
@@ -191,6 +190,13 @@ sound_guarded = record {
 
 pub sound_deletes : Deleting Invariant
 sound_deletes = record { deletes = λ f item s keeps seen cursor idle leaf h. change_keeps (is_replay s.mode ≡ true) s.link s.volatile.tokens f (change.Remove item) s.filter keeps (λ id k. k) (λ fair. (idle, tt)) h }
+
+pub sound_commands : Commanding Invariant
+sound_commands = record {
+  waits = λ s n x fit unmet h. (begins_keep (is_replay s.mode ≡ true) s.link s.volatile.tokens n).keeps x h;
+  disconnects = λ s h. h;
+  inlines = λ inline s h. h;
+}
 
 pub sound_enters : Entering Invariant
 sound_enters = record {

@@ -34,14 +34,14 @@ use Rattle.cf_model_laws.specs.Invariant.{All, Invariant, IsSound}
 use Rattle.cf_model_laws.specs.Logged.{EachMade}
 use Rattle.cf_model_laws.specs.Premises.{IsFair, IsFresh}
 use Rattle.cf_model_laws.specs.Uses.{AreRemovalsVacant, AreUsesLeft, IsRemovalVacant, Replaces, is_other}
-use Rattle.cf_model_laws.proofs.BesideGuarded.{Beside, BesideRuns, Fact, Holds, HoldsAfter, HoldsIn, entering_beside, guarded_beside, whole_beside, ruling_beside}
+use Rattle.cf_model_laws.proofs.BesideGuarded.{Beside, BesideRuns, Fact, Holds, HoldsAfter, HoldsIn, commanding_beside, entering_beside, guarded_beside, whole_beside, ruling_beside}
 use Rattle.cf_model_laws.proofs.ContentLaws.{keeps_weaker, run_sound, sound_whole}
 use Rattle.cf_model_laws.proofs.EventsGuarded.{event_now_keeps, other_event_keeps, runs_keep}
 use Rattle.cf_model_laws.proofs.FeedsGuarded.{not_waited, or_right_false}
 use Rattle.cf_model_laws.proofs.Gathered.{all_any, all_append, all_both, all_filter}
 use Rattle.cf_model_laws.proofs.LoggedGuarded.{made_more}
 use Rattle.cf_model_laws.proofs.RightItems.{fits_meets, no_way, no_way_back}
-use Rattle.cf_model_laws.proofs.SoundStates.{sound_enters, sound_guarded}
+use Rattle.cf_model_laws.proofs.SoundStates.{sound_commands, sound_enters, sound_guarded}
 
 -- what was given before is not given next
 
@@ -280,5 +280,5 @@ removals_vacant remote clusters trace s e runs fresh is other =
     let b : Beside (Vacant s.filter.volume.log) = vacant_beside s.filter.volume.log in
     let first : HoldsIn (Vacant s.filter.volume.log) s = (ap (λ (cs : List (Usn × Change)). s.filter.volume.log ++ cs) (none_since s.filter.volume.log) ∙ append-nil s.filter.volume.log, λ fair. subst (EachMade IsRemovalVacant s.filter.volume.log) (sym (none_since s.filter.volume.log)) tt) in
     keeps_weaker (λ u. Invariant u × HoldsIn (Vacant s.filter.volume.log) u) (AreRemovalsVacant s) (λ u h. h.1.1) (tree_of e s)
-    ((other_event_keeps (λ u. Invariant u × HoldsIn (Vacant s.filter.volume.log) u) (guarded_beside (Vacant s.filter.volume.log) b Invariant sound_guarded) (entering_beside (Vacant s.filter.volume.log) Invariant sound_enters) (ruling_beside (Vacant s.filter.volume.log) Invariant sound_whole.ruling) e is other).keeps (begun s)
+    ((other_event_keeps (λ u. Invariant u × HoldsIn (Vacant s.filter.volume.log) u) (guarded_beside (Vacant s.filter.volume.log) b Invariant sound_guarded) (entering_beside (Vacant s.filter.volume.log) Invariant sound_enters) (commanding_beside (Vacant s.filter.volume.log) b Invariant sound_guarded sound_commands) (ruling_beside (Vacant s.filter.volume.log) Invariant sound_whole.ruling) e is other).keeps (begun s)
     (sound_whole.begins s (run_sound remote clusters trace s runs fresh), first))

@@ -19,7 +19,7 @@ use Rattle.cf_model.specs.Settling.{settle, tell}
 use Rattle.cf_model.specs.State.{Filter, Open, Link}
 use Rattle.cf_model_laws.proofs.OperationsGuarded as operations_keep
 use Rattle.cf_model.specs.Waits.{Need, accessed_now, all_down, answer_now, answer_or_begin, answer_with, at_path, begin, begin_now, begin_tests, begun, but_directory, cancel, cancel_wait, close, close_item, connect, connected_again, disconnected, end_handle, end_now, expire, expire_live, expired_keys, get, get_item, hydrate, hydrate_file, hydrate_item, is_last, is_met_now, list, list_item, need, on_file, on_handle, on_ok, on_open, on_path, opened_by, plain_need, read, read_item, read_need, refused, still_live, tick, waiting_by, wants_rest, with_time, without_handle}
-use Rattle.cf_model_laws.proofs.Guarded.{GuardedFilter, settled_on}
+use Rattle.cf_model_laws.proofs.Guarded.{AreWaitsKept, GuardedFilter, IsPlainNeed, one_ask, settled_on}
 use Rattle.std.proofs.Common.{◌≡◌, ◌∙◌, refl, sym, subst, inl, inr}
 use Rattle.cf_model.specs.Items.{item_of}
 use Rattle.cf_model.specs.LookUp.{find_path}
@@ -71,8 +71,8 @@ on_open_keeps l tokens P closed f f_keeps (Some o) = f_keeps o.item
 pub on_handle_keeps : {On : Knowledge} (l : Link) (tokens : ℕ) (P : Filter → Type 0) → GuardedFilter On l tokens P → (x1 : Handle) → (x2 : (ItemId → Arrow Filter Shown)) → ((z1_0 : ItemId) → Preserves P (x2 z1_0)) → Preserves P (on_handle x1 x2)
 on_handle_keeps l tokens P closed h f f_keeps = keeps_reading P (opened_by h) (on_open f) (on_open_keeps l tokens P closed f f_keeps)
 
-pub begin_at : {On : Knowledge} (l : Link) (tokens : ℕ) (P : Filter → Type 0) → GuardedFilter On l tokens P → (n : Need) (x : Filter) → (IsFair l → NeedsWell n x) → is_met_now n x ≡ false → P x → Keeps P (begin n x)
-begin_at l tokens P closed n x fit unmet h = checked_at P (begin_tests n) (reading (begun n) (begin_now n)) x h (λ e. closed.begins n x fit unmet h)
+pub begin_at : (P : Filter → Type 0) (n : Need) (x : Filter) → (P x → Keeps P (reading (begun n) (begin_now n) x)) → P x → Keeps P (begin n x)
+begin_at P n x begins h = checked_at P (begin_tests n) (reading (begun n) (begin_now n)) x h (λ e. begins h)
 
 pub answer_with_keeps : {On : Knowledge} (l : Link) (tokens : ℕ) (P : Filter → Type 0) → GuardedFilter On l tokens P → (x1 : Need) → (x2 : Shown) → Preserves P (answer_with x1 x2)
 answer_with_keeps l tokens P closed n answer = keeps_then P (one (accessed_now n)) (ret answer) (keeps_one P (accessed_now n) (closed.keeps_accessed_now n)) (keeps_ret P answer)
@@ -80,11 +80,14 @@ answer_with_keeps l tokens P closed n answer = keeps_then P (one (accessed_now n
 pub answer_now_keeps : {On : Knowledge} (l : Link) (tokens : ℕ) (P : Filter → Type 0) → GuardedFilter On l tokens P → (x1 : Need) → Preserves P (answer_now x1)
 answer_now_keeps l tokens P closed n = keeps_reading P (end_now n) (answer_with n) (answer_with_keeps l tokens P closed n)
 
-pub need_at : {On : Knowledge} (l : Link) (tokens : ℕ) (P : Filter → Type 0) → GuardedFilter On l tokens P → (n : Need) (x : Filter) → (IsFair l → NeedsWell n x) → P x → Keeps P (need n x)
-need_at l tokens P closed n x fit h = by (is_met_now n x) refl where
+need_by : {On : Knowledge} (l : Link) (tokens : ℕ) (P : Filter → Type 0) → GuardedFilter On l tokens P → (n : Need) (x : Filter) → (is_met_now n x ≡ false → P x → Keeps P (reading (begun n) (begin_now n) x)) → P x → Keeps P (need n x)
+need_by l tokens P closed n x begins h = by (is_met_now n x) refl where
   by : (b : Bool) → is_met_now n x ≡ b → Keeps P (answer_or_begin n b x)
   by true e = (answer_now_keeps l tokens P closed n).keeps x h
-  by false e = begin_at l tokens P closed n x fit e h
+  by false e = begin_at P n x (begins e) h
+
+pub need_at : {On : Knowledge} (l : Link) (tokens : ℕ) (P : Filter → Type 0) → GuardedFilter On l tokens P → (n : Need) (x : Filter) → IsPlainNeed n → (IsFair l → NeedsWell n x) → P x → Keeps P (need n x)
+need_at l tokens P closed n x plain fit h = need_by l tokens P closed n x (λ e k. closed.begins n x plain fit e k) h
 
 -- what a file that is here needs
 file_needs : (n : Need) (i : Item) (x : Filter) → n.item ≡ i.id → is_list_wait n.kind ≡ false → (item_of x.volume.items i.id ≡ Some i) × (i.directory ≡ false) → NeedsWell n x
@@ -97,22 +100,22 @@ pub read_keeps : {On : Knowledge} (l : Link) (tokens : ℕ) (P : Filter → Type
 read_keeps l tokens P closed h asked = record { keeps = λ x k. by x k (opened_by h x) refl } where
   by : (x : Filter) → P x → (o : Option Open) → opened_by h x ≡ o → Keeps P (on_open (read_item h asked) o x)
   by x k None e = k
-  by x k (Some o) e = need_at l tokens P closed (read_need h asked o.item (wants_rest x)) x (λ fair. record { on = inr (refl, inl (h, o, e, refl)); alone = λ z. refl }) k
+  by x k (Some o) e = need_at l tokens P closed (read_need h asked o.item (wants_rest x)) x (refl, refl) (λ fair. record { on = inr (refl, inl (h, o, e, refl)); alone = λ z. refl }) k
 
 pub get_keeps : {On : Knowledge} (l : Link) (tokens : ℕ) (P : Filter → Type 0) → GuardedFilter On l tokens P → (x1 : List ℕ) → (x2 : Span) → Preserves P (get x1 x2)
 get_keeps l tokens P closed path asked =
-    on_file_at l tokens P closed path (get_item asked) (λ i x there h. need_at l tokens P closed (plain_need wait_kind.Read i.id asked) x (λ fair. file_needs (plain_need wait_kind.Read i.id asked) i x refl refl (there fair)) h)
+    on_file_at l tokens P closed path (get_item asked) (λ i x there h. need_at l tokens P closed (plain_need wait_kind.Read i.id asked) x (refl, refl) (λ fair. file_needs (plain_need wait_kind.Read i.id asked) i x refl refl (there fair)) h)
 
-pub list_keeps : {On : Knowledge} (l : Link) (tokens : ℕ) (P : Filter → Type 0) → GuardedFilter On l tokens P → (x1 : List ℕ) → Preserves P (list x1)
-list_keeps l tokens P closed path = on_path_at P path list_item (λ i x e h. by i x e h i.directory refl) where
+pub list_keeps : {On : Knowledge} (l : Link) (tokens : ℕ) (P : Filter → Type 0) → GuardedFilter On l tokens P → AreWaitsKept l P → (x1 : List ℕ) → Preserves P (list x1)
+list_keeps l tokens P closed waits path = on_path_at P path list_item (λ i x e h. by i x e h i.directory refl) where
   by : (i : Item) (x : Filter) → find_path x.volume.items path ≡ Ok i → P x → (b : Bool) → i.directory ≡ b → Keeps P (choose b (need (plain_need wait_kind.List i.id no_span)) (refused code.NotDirectory) x)
   by i x e h true q =
-      need_at l tokens P closed (plain_need wait_kind.List i.id no_span) x
-      (λ fair. record { on = inl (subst (IsSeated x.volume.items i.id) q (found_seated path i x.volume.next_item.0 x.volume.items (closed.sound x h fair).now.order e)); alone = λ z. no_way z }) h
+      need_by l tokens P closed (plain_need wait_kind.List i.id no_span) x
+      (waits (plain_need wait_kind.List i.id no_span) x (λ fair. record { on = inl (subst (IsSeated x.volume.items i.id) q (found_seated path i x.volume.next_item.0 x.volume.items (closed.sound x h fair).now.order e)); alone = λ z. no_way z })) h
   by i x e h false q = h
 
 pub hydrate_file_at : {On : Knowledge} (l : Link) (tokens : ℕ) (P : Filter → Type 0) → GuardedFilter On l tokens P → (i : Item) (x : Filter) → (IsFair l → (item_of x.volume.items i.id ≡ Some i) × (i.directory ≡ false)) → P x → Keeps P (hydrate_file i.id x)
-hydrate_file_at l tokens P closed i x there h = need_at l tokens P closed (plain_need wait_kind.Hydrate i.id no_span) x (λ fair. file_needs (plain_need wait_kind.Hydrate i.id no_span) i x refl refl (there fair)) h
+hydrate_file_at l tokens P closed i x there h = need_at l tokens P closed (plain_need wait_kind.Hydrate i.id no_span) x (refl, refl) (λ fair. file_needs (plain_need wait_kind.Hydrate i.id no_span) i x refl refl (there fair)) h
 
 hydrate_item_at : {On : Knowledge} (l : Link) (tokens : ℕ) (P : Filter → Type 0) → GuardedFilter On l tokens P → (i : Item) (b : Bool) (x : Filter) → (IsFair l → (item_of x.volume.items i.id ≡ Some i) × (i.directory ≡ false)) → P x
     → Keeps P (choose b (hydrate_file i.id) (refused code.NotPlaceholder) x)
@@ -124,13 +127,13 @@ hydrate_keeps l tokens P closed path = on_file_at l tokens P closed path hydrate
 
 pub cancel_wait_keeps : {On : Knowledge} (l : Link) (tokens : ℕ) (P : Filter → Type 0) → GuardedFilter On l tokens P → (x1 : WaitId) → (x2 : Option Wait) → Preserves P (cancel_wait x1 x2)
 cancel_wait_keeps l tokens P closed id None = refused_keeps l tokens P closed code.NoWait
-cancel_wait_keeps l tokens P closed id (Some w) = keeps_then P (settle w.item (Cancels id)) done (settled_on l tokens P closed w.item (Cancels id) (λ x. tt)) (operations_keep.done_keeps l tokens P closed)
+cancel_wait_keeps l tokens P closed id (Some w) = keeps_then P (settle w.item (Cancels id)) done (settled_on l tokens P closed w.item (Cancels id) (λ x. (tt, tt))) (operations_keep.done_keeps l tokens P closed)
 
 pub cancel_keeps : {On : Knowledge} (l : Link) (tokens : ℕ) (P : Filter → Type 0) → GuardedFilter On l tokens P → (x1 : WaitId) → Preserves P (cancel x1)
 cancel_keeps l tokens P closed id = keeps_reading P (waiting_by id) (cancel_wait id) (cancel_wait_keeps l tokens P closed id)
 
 pub end_handle_keeps : {On : Knowledge} (l : Link) (tokens : ℕ) (P : Filter → Type 0) → GuardedFilter On l tokens P → (x1 : Handle) → (x2 : ItemId) → (x3 : Bool) → Preserves P (end_handle x1 x2 x3)
-end_handle_keeps l tokens P closed h item last = settled_on l tokens P closed item (Closes h last) (λ x. tt)
+end_handle_keeps l tokens P closed h item last = settled_on l tokens P closed item (Closes h last) (λ x. (tt, tt))
 
 pub close_item_keeps : {On : Knowledge} (l : Link) (tokens : ℕ) (P : Filter → Type 0) → GuardedFilter On l tokens P → (x1 : Handle) → (x2 : ItemId) → Preserves P (close_item x1 x2)
 close_item_keeps l tokens P closed h item = keeps_then P (noted (without_handle h)) (then_do (reading (is_last item) (end_handle h item)) done) (keeps_noted P (without_handle h) (closed.keeps_without_handle h)) (keeps_then P (reading (is_last item) (end_handle h item)) done (keeps_reading P (is_last item) (end_handle h item) (end_handle_keeps l tokens P closed h item)) (operations_keep.done_keeps l tokens P closed))
@@ -138,16 +141,16 @@ close_item_keeps l tokens P closed h item = keeps_then P (noted (without_handle 
 pub close_keeps : {On : Knowledge} (l : Link) (tokens : ℕ) (P : Filter → Type 0) → GuardedFilter On l tokens P → (x1 : Handle) → Preserves P (close x1)
 close_keeps l tokens P closed h = on_handle_keeps l tokens P closed h (close_item h) (close_item_keeps l tokens P closed h)
 
-pub expire_live_keeps : {On : Knowledge} (l : Link) (tokens : ℕ) (P : Filter → Type 0) → GuardedFilter On l tokens P → (x1 : Key) → (x2 : Option Live) → Preserves P (expire_live x1 x2)
-expire_live_keeps l tokens P closed key None = keeps_ret P (record {})
-expire_live_keeps l tokens P closed key (Some a) = settled_on l tokens P closed a.ask.item (Expires key) (λ x. tt)
+expire_live_at : {On : Knowledge} (l : Link) (tokens : ℕ) (P : Filter → Type 0) → GuardedFilter On l tokens P → (key : Key) (o : Option Live) (x : Filter) → still_live key x ≡ o → P x → Keeps P (expire_live key o x)
+expire_live_at l tokens P closed key None x e h = h
+expire_live_at l tokens P closed key (Some a) x e h = closed.settled a.ask.item (Expires key) x (tt, one_ask key a x e) h
 
 pub expire_keeps : {On : Knowledge} (l : Link) (tokens : ℕ) (P : Filter → Type 0) → GuardedFilter On l tokens P → (x1 : Key) → Preserves P (expire x1)
-expire_keeps l tokens P closed key = keeps_reading P (still_live key) (expire_live key) (expire_live_keeps l tokens P closed key)
+expire_keeps l tokens P closed key = record { keeps = λ x h. expire_live_at l tokens P closed key (still_live key x) x refl h }
 
 pub tick_keeps : {On : Knowledge} (l : Link) (tokens : ℕ) (P : Filter → Type 0) → GuardedFilter On l tokens P → (x1 : ℕ) → Preserves P (tick x1)
 tick_keeps l tokens P closed n = keeps_then P (noted (with_time n)) (then_do (reading expired_keys (each expire)) done) (keeps_noted P (with_time n) (closed.keeps_with_time n)) (keeps_then P (reading expired_keys (each expire)) done (keeps_reading P expired_keys (each expire) (λ z1. keeps_each P expire z1 (expire_keeps l tokens P closed))) (operations_keep.done_keeps l tokens P closed))
 
-pub connect_keeps : {On : Knowledge} (l : Link) (tokens : ℕ) (P : Filter → Type 0) → GuardedFilter On l tokens P → (x1 : Bool) → Preserves P (connect x1)
-connect_keeps l tokens P closed true = keeps_then P (noted connected_again) done (keeps_noted P connected_again (closed.keeps_connected_again)) (operations_keep.done_keeps l tokens P closed)
-connect_keeps l tokens P closed false = keeps_then P (noted disconnected) (then_do (reading all_down tell) done) (keeps_noted P disconnected (closed.keeps_disconnected)) (keeps_then P (reading all_down tell) done closed.downs (operations_keep.done_keeps l tokens P closed))
+pub connect_keeps : {On : Knowledge} (l : Link) (tokens : ℕ) (P : Filter → Type 0) → GuardedFilter On l tokens P → ((x : Filter) → P x → P (disconnected x)) → (x1 : Bool) → Preserves P (connect x1)
+connect_keeps l tokens P closed disconnects true = keeps_then P (noted connected_again) done (keeps_noted P connected_again (closed.keeps_connected_again)) (operations_keep.done_keeps l tokens P closed)
+connect_keeps l tokens P closed disconnects false = keeps_then P (noted disconnected) (then_do (reading all_down tell) done) (keeps_noted P disconnected disconnects) (keeps_then P (reading all_down tell) done closed.downs (operations_keep.done_keeps l tokens P closed))

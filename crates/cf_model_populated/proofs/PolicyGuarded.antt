@@ -22,7 +22,7 @@ use Rattle.cf_model.specs.Settling.{accessed, end_of, end_wait, is_access, is_ow
 use Rattle.cf_model.specs.Skips.{skip_line}
 use Rattle.cf_model.specs.State.{Filter, Link, State, in_volume, with_filter}
 use Rattle.cf_model.specs.Trees.{Keeps, Ret}
-use Rattle.cf_model.specs.Waits.{all_down, begin_now, begun, own_id, with_own}
+use Rattle.cf_model.specs.Waits.{Need, all_down, begin_now, begun, own_id, with_own}
 use Rattle.cf_model.proofs.ArrowLaws.{keeps_each, keeps_one, keeps_then}
 use Rattle.cf_model.proofs.TreeLaws.{keeps_bind}
 use Rattle.cf_model_laws.proofs.EventsGuarded.{Unruled}
@@ -53,6 +53,9 @@ module _ (Q : Policy → Type 0) where
   tell_ruled : (r : Told × Waiting) (x : Filter) → Ruled x → Keeps Ruled (tell r x)
   tell_ruled r x h = (keeps_then Ruled (each end_wait r.0.ended) (noted (with_asks_told r.0)) (keeps_each Ruled end_wait r.0.ended (λ e. keeps_one Ruled (with_ended e) (λ y j. ended_ruled e y j))) (record { keeps = λ y j. j })).keeps (with_waiting r.1 x) h
 
+  begin_ruled : (n : Need) (x : Filter) → Ruled x → Keeps Ruled (reading (begun n) (begin_now n) x)
+  begin_ruled n x h = keeps_bind Ruled (tell (begun n x) (with_own n x)) (λ _ t. Ret (shown.Pending (own_id n x)) t) (tell_ruled (begun n x) (with_own n x) h) (λ a t j. j)
+
   filter_ruled : {On : Knowledge} (l : Link) (tokens : ℕ) (P : Filter → Type 0) → GuardedFilter On l tokens P → GuardedFilter On l tokens (λ x. P x × Ruled x)
   filter_ruled l tokens P closed = record {
     sound = λ x h fair. closed.sound x h.0 fair;
@@ -61,15 +64,13 @@ module _ (Q : Policy → Type 0) where
         (keeps_bind Ruled (change_with f c x) (λ _ t. then_do (settle item d) done t) (change_ruled f c x h.1) (λ a t j. keeps_bind Ruled (settle item d t) (λ _ y. done y) (tell_ruled (told_at item d t) t j) (λ b y m. m)));
     commits = record { keeps = λ x h. keeps_both P Ruled (in_volume commit x) (closed.commits.keeps x h.0) (h.1, h.1) };
     settled = λ item d x others h. keeps_both P Ruled (settle item d x) (closed.settled item d x others h.0) (tell_ruled (told_at item d x) x h.1);
-    begins = λ n x fit unmet h. keeps_both P Ruled (reading (begun n) (begin_now n) x) (closed.begins n x fit unmet h.0)
-        (keeps_bind Ruled (tell (begun n x) (with_own n x)) (λ _ t. Ret (shown.Pending (own_id n x)) t) (tell_ruled (begun n x) (with_own n x) h.1) (λ a t j. j));
+    begins = λ n x plain fit unmet h. keeps_both P Ruled (reading (begun n) (begin_now n) x) (closed.begins n x plain fit unmet h.0) (begin_ruled n x h.1);
     downs = record { keeps = λ x h. keeps_both P Ruled (reading all_down tell x) (closed.downs.keeps x h.0) (tell_ruled (all_down x) x h.1) };
     keeps_accessed = λ item x h. (closed.keeps_accessed item x h.0, h.1);
     keeps_accessed_now = λ n x h. (closed.keeps_accessed_now n x h.0, accessed_ruled n.item (is_access n.kind cause.Met) x h.1);
     keeps_as_it_is = λ x h. (closed.keeps_as_it_is x h.0, h.1);
     keeps_begin_call = λ x h. (closed.keeps_begin_call x h.0, h.1);
     keeps_connected_again = λ x h. (closed.keeps_connected_again x h.0, h.1);
-    keeps_disconnected = λ x h. (closed.keeps_disconnected x h.0, h.1);
     keeps_with_handle = λ item x fit h. (closed.keeps_with_handle item x fit h.0, h.1);
     keeps_with_time = λ n x h. (closed.keeps_with_time n x h.0, h.1);
     keeps_without_handle = λ handle x h. (closed.keeps_without_handle handle x h.0, h.1);
@@ -108,7 +109,6 @@ module _ (Q : Policy → Type 0) where
     keeps_volatile_with_token = λ s h. (closed.keeps_volatile_with_token s h.0, h.1);
     keeps_with_clock_seen = λ clock s h. (closed.keeps_with_clock_seen clock s h.0, h.1);
     keeps_with_done = λ s h. (closed.keeps_with_done s h.0, h.1);
-    keeps_with_inline = λ inline s h. (closed.keeps_with_inline inline s h.0, h.1);
     keeps_with_outbox = λ a rest s e h. (closed.keeps_with_outbox a rest s e h.0, h.1);
     keeps_with_stray = λ r s h. (closed.keeps_with_stray r s h.0, h.1);
     keeps_with_token_used = λ s h. (closed.keeps_with_token_used s h.0, h.1);
@@ -120,6 +120,11 @@ module _ (Q : Policy → Type 0) where
     closed = guarded_ruled P rest.closed;
     entering = record { enters = λ e s well h. (rest.entering.enters e s well h.0, h.1) };
     deleting = record { deletes = λ f item s keeps seen cursor idle leaf h. keeps_both (λ x. P (with_filter x s)) Ruled (change_with f (change.Remove item) s.filter) (rest.deleting.deletes f item s keeps seen cursor idle leaf h.0) (change_ruled f (change.Remove item) s.filter h.1) };
+    commanding = record {
+      waits = λ s n x fit unmet h. keeps_both (λ y. P (with_filter y s)) Ruled (reading (begun n) (begin_now n) x) (rest.commanding.waits s n x fit unmet h.0) (begin_ruled n x h.1);
+      disconnects = λ s h. (rest.commanding.disconnects s h.0, h.1);
+      inlines = λ inline s h. (rest.commanding.inlines inline s h.0, h.1);
+    };
     begins = λ s h. (rest.begins s h.0, h.1);
     breaks = λ s h. (rest.breaks s h.0, h.1);
     crashes = λ s h. (rest.crashes s h.0, h.1);
