@@ -25,13 +25,14 @@ use Rattle.cf_model_laws.proofs.EventsGuarded.{runs_keep}
 use Rattle.cf_model_laws.proofs.FairBefore.{fair_before}
 use Rattle.cf_model_laws.proofs.Gathered.{all_both}
 use Rattle.cf_model_populated.proofs.PopulatedRuns.{none_listed}
+use Rattle.cf_model_quiet.proofs.AskedGuarded.{run_dehydrates}
 use Rattle.cf_model_settling.specs.Settling.{IsReady, IsSilent, SettlesIfSilent}
 
 module _ (remote : Held) (clusters : ℕ) (fresh : IsFresh remote) (tidy : IsTidy remote) (before : Report) (s : State) (a : Answer) (t : State) (runs : Runs mode.Replay (start mode.Replay remote clusters) before s) where
   plain : IsFair s.link → IsReady before s t → ArePlainWaits s
   plain fair ready =
       let none : NoneLists s = elim ready.lists [ inl always ↦ (none_listed remote clusters before s runs fresh fair always).0 | inr h ↦ h ] in
-      all_both (λ w. is_list_wait w.kind ≡ false) (λ w. is_dehydrate_wait w.kind ≡ true → is_asked_for s.filter.waiting.asks w ≡ true) (IsPlainWait s.filter.waiting.asks) (λ w x y. (x, y)) s.filter.waiting.waits none ready.dehydrations
+      all_both (λ w. is_list_wait w.kind ≡ false) (λ w. is_dehydrate_wait w.kind ≡ true → is_asked_for s.filter.waiting.asks w ≡ true) (IsPlainWait s.filter.waiting.asks) (λ w x y. (x, y)) s.filter.waiting.waits none (run_dehydrates remote clusters before s runs fresh)
 
   sync_here : IsStep mode.Replay s (event.Engine engine.Sync) a t → IsFair s.link → IsFair t.link → is_count a.shown ≡ true → IsSilent a → IsReady before s t → (is_settled false t ≡ true) × (a.shown ≡ shown.Count 0)
   sync_here step was fair counted silent ready = sync_silent remote clusters before s a t runs fresh tidy ready.inline ready.keys (plain was ready) step fair counted silent ready.numbers

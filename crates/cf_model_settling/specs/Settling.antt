@@ -14,20 +14,18 @@ use Rattle.cf_model_convergence.specs.Quiet.{is_accepted, is_always_populated, i
 use Rattle.cf_model_convergence.specs.Trees.{NoneLists}
 use Rattle.cf_model_headline.specs.Reports.{Report}
 use Rattle.cf_model_laws.specs.Keys.{AreKeysWithin}
-use Rattle.cf_model_populated.specs.Populated.{AreDehydratesAsked}
 
 -- No line reports a change, an upload that was done or refused, a step that was left out, a fault, a message that was lost, or a version or bytes
 -- that are gone.
 abbrev pub IsSilent : Answer → Type 0
 IsSilent a = list_any is_heard a.notes ≡ false
 
--- The link answers at once, and keys and numbers of messages are left. A live ask is for each dehydration that waits. No list call waits, which none
--- does where no policy of FULL population was accepted so far.
+-- The link answers at once, and keys and numbers of messages are left. No list call waits, which none does where no policy of FULL population was
+-- accepted so far.
 pub record IsReady (before : Report) (s t : State) : Type 0 where
   pub inline : s.link.inline ≡ true
   pub keys : AreKeysWithin s.filter
   pub numbers : no_number t ≡ false
-  pub dehydrations : AreDehydratesAsked s
   pub lists : (is_always_populated before ≡ true) ⊎ NoneLists s
 
 -- Each item that is neither excluded nor in use agrees with the remote then, and none is counted.

@@ -1,0 +1,3 @@
+pub mod RisingNumbers
+pub mod AskedWaits
+pub mod AskedGuarded
