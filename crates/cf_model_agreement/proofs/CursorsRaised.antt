@@ -1,4 +1,5 @@
 -- Where the cursor comes to be a feed's clock, all of its entries were done, and it told what was changed since the cursor.
+use Rattle.cf_model_laws.proofs.TombstonesGuarded.{IsShut, shut_frame}
 use Rattle.std.proofs.Common.{◌≡◌, ℕ, true, false, [], refl, sym, ◌∙◌, ap, subst}
 use Rattle.std.specs.Prelude.{nat_le, not, ◌&&◌, ◌==◌}
 use Rattle.std.specs.List.{list_all}
@@ -20,7 +21,7 @@ use Rattle.cf_model_laws.proofs.FeedFrames.{Feeding, IsTold, feeding}
 use Rattle.cf_model_laws.proofs.Gathered.{all_in, all_weaker}
 use Rattle.cf_model_laws.proofs.Guarded.{IsFedTo}
 use Rattle.cf_model_laws.proofs.MessagesGuarded.{feed_fits, is_nothing, told_all}
-use Rattle.cf_model_laws.proofs.SkipsGuarded.{heard_skipping}
+use Rattle.cf_model_laws.proofs.SkipsGuarded.{heard_skipping, both_frames}
 use Rattle.cf_model_laws.proofs.SoundSettles.{left_true, not_false, not_true, right_true}
 use Rattle.cf_model_convergence.specs.Lasting.{AreTargetsAlone, HoldsIn}
 use Rattle.cf_model_convergence.specs.Passed.{TellsBetween}
@@ -32,7 +33,6 @@ use Rattle.cf_model_agreement.specs.Turned.{AreTurnedTo}
 use Rattle.cf_model_agreement.proofs.EntriesHeard.{counts_both, feed_told, plain_entry}
 use Rattle.cf_model_agreement.proofs.FeedsDone.{Turning, turns_done}
 use Rattle.cf_model_agreement.proofs.RunsTrue.{IsTrueIn, true_whole}
-use Rattle.cf_model_agreement.proofs.TurnSteps.{skips}
 
 -- beside targets that are apart
 abbrev pub IsApartIn : State → Type 0
@@ -79,22 +79,22 @@ module _ (clock : ℕ) (s : State) (fed : IsFedTo IsKnownIn clock s) (fair : IsF
   nothing = is_nothing (book_now First).entries (right_true (is_latest_round First fed.round.0 && First.volatile.round_open && nat_le (book_now First).cursor clock) (is_empty (book_now First).entries) (not_false (is_latest_round First fed.round.0 && First.volatile.round_open && nat_le (book_now First).cursor clock && is_empty (book_now First).entries) counts.1))
 
   abbrev Frame : State → Type 0
-  Frame = Feeding First.link First.filter []
+  Frame t = Feeding First.link First.filter [] t × IsShut t
 
   abbrev In : State → Type 0
   In t = IsApartIn t × Frame t
 
   known : (On : Entry → Type 0) → ((e : Entry) → On e → Of e) → (t : State) → IsApartIn t → Frame t → (e : Entry) → On e → Since IsApartIn t.link true (book_now t).cursor e
-  known On less t j k e on = (First, fed.kept.0, (less e on).0, k.link, k.cursor)
+  known On less t j k e on = (First, fed.kept.0, (less e on).0, k.0.link, k.0.cursor)
 
   turning : Turning Of First.link First.filter In
   turning = record {
     fair = first_fair;
     told = λ e on. all_among (IsTold Of First.link) fed.entries e on.1 all_told;
     plain = λ e on. let k : IsTold Of First.link e = all_among (IsTold Of First.link) fed.entries e on.1 all_told in plain_entry First.link.remote e first_fair.1 (k.has first_fair) k.dir;
-    steps = λ On less. heard_skipping IsApartIn Frame On apart_whole.closed (feeding First.link First.filter []) (known On less);
-    fed = λ t h. h.1;
-    alone = λ t h. (h.0.1 (subst IsFair (sym h.1.link) first_fair)).0;
+    steps = λ On less. heard_skipping IsApartIn Frame On apart_whole.closed (both_frames (Feeding First.link First.filter []) IsShut (feeding First.link First.filter []) shut_frame) (known On less) (λ t k. k.1);
+    fed = λ t h. h.1.0;
+    alone = λ t h. (h.0.1 (subst IsFair (sym h.1.0.link) first_fair)).0;
   }
 
   whole : (not fed.fed.postponed && (s.running.skips == First.running.skips)) ≡ true
@@ -104,7 +104,7 @@ module _ (clock : ℕ) (s : State) (fed : IsFedTo IsKnownIn clock s) (fair : IsF
   turned =
       subst (λ (t : State). All (λ e. AreTurnedTo e t) fed.entries) (sym fed.same)
       (turns_done Of First.link First.filter In turning fed.entries Start fed.fed fed.turned
-      (apart_whole.closed.keeps_volatile_round_closed First fed.kept.0, record { link = refl; waiting = refl; handles = refl; entries = nothing; cursor = refl }) all_of
+      (apart_whole.closed.keeps_volatile_round_closed First fed.kept.0, (record { link = refl; waiting = refl; handles = refl; entries = nothing; cursor = refl }, refl)) all_of
       (right_true (list_all (is_entry (known_now First)) fed.entries) (are_distinct fed.entries) entries_fit) fed.ends
       (not_true fed.fed.postponed (left_true (not fed.fed.postponed) (s.running.skips == First.running.skips) whole))
       (ap (λ (t : State). t.running.skips) (sym fed.same) ∙ eqb-true s.running.skips First.running.skips (right_true (not fed.fed.postponed) (s.running.skips == First.running.skips) whole)))

@@ -21,11 +21,11 @@ use Rattle.cf_model.specs.State.{Link, Point, State, book_now, items_now, start,
 use Rattle.cf_model.specs.Store.{Held, RecordedDone, recorded_at, remote_step}
 use Rattle.cf_model_laws.specs.Invariant.{All, IsPointRight, IsRight, IsSound, NamesTarget}
 use Rattle.cf_model_laws.specs.Premises.{IsFair, IsFresh}
-use Rattle.cf_model_laws.specs.Taken.{Since}
+use Rattle.cf_model_laws.specs.Taken.{Since, Known}
 use Rattle.cf_model_laws.proofs.EventsGuarded.{Whole, runs_keep}
 use Rattle.cf_model_laws.proofs.Gathered.{all_both, all_found, all_weaker, each_weaker}
 use Rattle.cf_model_laws.proofs.Guarded.{AskedIn, IsMovedBy, IsRecordBy}
-use Rattle.cf_model_laws.proofs.SinceKept.{change_weaker}
+use Rattle.cf_model_laws.proofs.SinceKept.{change_told}
 use Rattle.cf_model_laws.proofs.SoundChanges.{KeepsEntries}
 use Rattle.cf_model_convergence.specs.Lasting.{AreTargetsAlone, AtPoint, HoldsIn, IsBaseEarly, IsCursorEarly, LastsIn}
 use Rattle.cf_model_convergence.specs.Agreeing.{IsKeptUp}
@@ -117,14 +117,14 @@ remote_known s q fair sound well h k = (
 known_lasting : LastingOver AreKnown IsApartIn
 known_lasting = record {
   changes = λ s f c x keeps seen fit fair known sound h k.
-      let right = change_weaker (λ late n e. IsEntryRight s.link.remote late n e) (Since IsKnownIn s.link) (entry_right s.link fair) x f c known in
+      let right = change_told (λ late n e. IsEntryRight s.link.remote late n e) (Known IsKnownIn s) (entry_right s.link fair) x f c known in
       change_known s.link.remote x f c (next_number x.volume) sound.counted (lower_of s.link.remote _ x.volume.items sound.now.right) (below_of (with_filter x s) h.0.0 fair) keeps seen.2 fit right.0 right.1 k;
-  removes = λ l tokens f item x keeps seen cursor fair sound k. removed_known l.remote x.volume.items x.volume.book f item (next_number x.volume) sound.counted keeps seen cursor k;
+  removes = λ s f item keeps seen cursor buries fair sound h k. removed_known s.link.remote (items_now s) (book_now s) f item (next_number s.filter.volume) sound.counted keeps seen cursor k;
   alike = λ r items b d same k. (passed_same r items b d same.cursor same.seen k.0, done_fewer r items items b d same.cursor same.entries k.1);
   records = λ f s keeps placed fair known sound h k. record_known f s keeps fair known sound h k;
   sees = moved_known;
   leaves = λ token r items b k. left_known r items b token k;
-  enters = λ e s well k. entered_known s.link.remote (items_now s) (book_now s) e well.0.fresh k;
+  enters = λ e s well fair h k. entered_known s.link.remote (items_now s) (book_now s) e well.0.fresh k;
   asked = remote_known;
 }
 

@@ -1,12 +1,11 @@
 -- The messages tell the truth in each state of a run in `replay`.
 use Rattle.std.proofs.Common.{◌≡◌, ◌≤◌, ◌+◌, ℕ, Bool, true, false, List, [], ◌∷◌, ◌++◌, refl, sym, ◌∙◌, ap, subst, inl, inr, arith}
-use Rattle.std.specs.Prelude.{Option, Some, None, cond, not, if◌then◌else◌, ◌&&◌, ◌==◌}
+use Rattle.std.specs.Prelude.{Option, Some, None, cond, not, ◌&&◌, ◌==◌, if◌then◌else◌}
 use Rattle.cf_base.specs.declared.changes.Change.TheVariants as change
 use Rattle.cf_base.specs.declared.codes.Code.{Code}
 use Rattle.cf_base.specs.declared.ids.Key.{Key}
 use Rattle.cf_base.specs.declared.ids.Round.{Round}
 use Rattle.cf_base.specs.declared.messages.Entry.{Entry}
-use Rattle.cf_base.specs.declared.messages.Reply.{Reply}
 use Rattle.cf_base.specs.declared.messages.Reply.TheVariants as reply
 use Rattle.cf_base.specs.declared.messages.Request.{Request}
 use Rattle.cf_base.specs.declared.messages.Request.TheVariants as request
@@ -284,7 +283,7 @@ module _ (P : State → Type 0) (closed : Guarded P) (early : (s : State) → P 
   pub guarded_true : Guarded (λ s. P s × TruthIn s)
   guarded_true = record {
     replay = λ s h. closed.replay s h.0;
-    on_filter = λ s h. filter_true s.link s.volatile.rounds s.volatile.round_open s.volatile.tokens (λ x. P (with_filter x s)) (on_filter_weaker P (λ t. P t × TruthIn t) (λ t k. k.0) s.link s.volatile.tokens _ (closed.on_filter s h.0));
+    on_filter = λ s h. filter_true s.link s.volatile.rounds s.volatile.round_open s.volatile.tokens (λ x. P (with_filter x s)) (on_filter_weaker P (λ t. P t × TruthIn t) (λ t k. k.0) s _ (closed.on_filter s h.0));
     keeps_counted = λ s h. (closed.keeps_counted s h.0, h.1);
     asked = λ q s well h. (closed.asked q s well h.0, asked_true s q (sound_of s h.0) (early s h.0) h.1);
     told = λ held s h. (closed.told held s h.0, λ fair. no_way fair.0);

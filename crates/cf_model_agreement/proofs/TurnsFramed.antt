@@ -155,7 +155,7 @@ module _ {On : Entry → Type 0} (P : State → Type 0) (ds : List Entry) (some 
   pub kept_skipping : Skipping On (IsNamedBy On On) P → Skipping On (IsNamedBy On On) (λ t. P t × In t)
   kept_skipping closed = record {
     sound = λ s h fair. closed.sound s h.0 fair;
-    change = λ c s ok free fit h. keeps_both P In (do_change c s) (closed.change c s ok free fit h.0) (kept_change c s ok fit h.1);
+    change = λ c s ok free fit h. keeps_both P In (do_change c s) (closed.change c s ok free fit h.0) (kept_change c s ok (λ fair. (fit fair).0) h.1);
     books = λ f s keeps placed step h. (closed.books f s keeps placed step h.0, kept_book f s step h.1);
     skips = λ c s h. (closed.skips c s h.0, line_kept s.running.shows_skips c (record s { running = record s.running { skips = s.running.skips + 1 } }) h.1);
   }

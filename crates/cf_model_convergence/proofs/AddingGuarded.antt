@@ -1,6 +1,6 @@
 -- While an event goes on nothing goes from the notes or the log, and with no line of a change the items stay.
 use Rattle.std.proofs.Common.{◌≡◌, ◌⊎◌, ◌+◌, Bool, true, false, List, [], ◌∷◌, ◌++◌, refl, sym, ◌∙◌, ap, subst, inl, inr, map}
-use Rattle.std.specs.Prelude.{if◌then◌else◌, ◌||◌}
+use Rattle.std.specs.Prelude.{◌||◌, if◌then◌else◌}
 use Rattle.std.specs.List.{list_any}
 use Rattle.std.proofs.lemmas.List.{append-nil, append_assoc}
 use Rattle.cf_base.specs.declared.answers.Shown.TheVariants as shown
@@ -130,7 +130,7 @@ module _ (w : Filter) where
   pub guarded_adds : (P : State → Type 0) → Guarded P → Guarded (λ s. P s × In s.filter)
   guarded_adds P closed = record {
     replay = λ s h. closed.replay s h.0;
-    on_filter = λ s h. filter_adds s.link s.volatile.tokens (λ x. P (with_filter x s)) (on_filter_weaker P (λ t. P t × In t.filter) (λ t k. k.0) s.link s.volatile.tokens _ (closed.on_filter s h.0));
+    on_filter = λ s h. filter_adds s.link s.volatile.tokens (λ x. P (with_filter x s)) (on_filter_weaker P (λ t. P t × In t.filter) (λ t k. k.0) s _ (closed.on_filter s h.0));
     keeps_counted = λ s h. (closed.keeps_counted s h.0, h.1);
     asked = λ q s well h. (closed.asked q s well h.0, h.1);
     told = λ held s h. (closed.told held s h.0, h.1);

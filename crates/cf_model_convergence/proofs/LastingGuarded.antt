@@ -40,10 +40,10 @@ use Rattle.cf_model_laws.specs.Invariant.{All, Invariant, IsSound}
 use Rattle.cf_model_laws.specs.Premises.{IsFair, IsFresh}
 use Rattle.cf_model_convergence.specs.Lasting.{AtPoint, Fact, HoldsIn, Lasts, LastsIn}
 use Rattle.cf_model_laws.proofs.ContentLaws.{sound_whole, start_sound}
-use Rattle.cf_model_laws.proofs.EventsGuarded.{Whole, runs_keep}
+use Rattle.cf_model_laws.proofs.EventsGuarded.{Whole, runs_keep, Unruled, unruled, with_ruling}
 use Rattle.cf_model_laws.proofs.FramesGuarded.{SameRecords, access_frame, tell_frame}
 use Rattle.cf_model_laws.proofs.Gathered.{all_weaker}
-use Rattle.cf_model_laws.proofs.Guarded.{Guarded, GuardedFilter, KeepsBelow, KeepsCursor, KeepsEarly, KeepsPlaced, KeepsSeenBy, MovesThere, AskedIn, EnteredIn, IsMovedBy, IsRecordBy}
+use Rattle.cf_model_laws.proofs.Guarded.{Guarded, GuardedFilter, KeepsBelow, KeepsCursor, KeepsEarly, KeepsPlaced, KeepsSeenBy, MovesThere, AskedIn, EnteredIn, IsMovedBy, IsRecordBy, EntersThere, Buries}
 use Rattle.cf_model_laws.proofs.Leading.{kept_leads}
 use Rattle.cf_model_laws.proofs.RightItems.{no_way}
 use Rattle.cf_model_laws.proofs.SkipsGuarded.{keeps_both}
@@ -51,7 +51,7 @@ use Rattle.cf_model_laws.proofs.SoundChanges.{KeepsEntries}
 use Rattle.cf_model_laws.proofs.SoundFilters.{change_leads}
 use Rattle.cf_model_laws.proofs.SoundStates.{small_before}
 use Rattle.cf_model_laws.proofs.SinceKept.{moved_weaker, on_filter_weaker, record_weaker}
-use Rattle.cf_model_laws.specs.Taken.{IsChangeBy, Since}
+use Rattle.cf_model_laws.specs.Taken.{IsChangeBy, Known}
 
 -- what keeps it, over a remote that keeps its rules
 pub record Lasting (D : Fact) : Type 0 where
@@ -63,7 +63,7 @@ pub record Lasting (D : Fact) : Type 0 where
   pub records : (f : Book → Book) (s : State) → KeepsEntries f → KeepsPlaced f s × KeepsBelow f s × KeepsEarly f s → D s.link.remote (items_now s) (book_now s) → D s.link.remote (items_now s) (f (book_now s))
   pub sees : (e : QueueEntry) (s : State) → e.action ≡ MoveItem → entry_of (book_now s) e.token ≡ Some e → IsSound s.link s.volatile.tokens s.filter → D s.link.remote (items_now s) (book_now s) → D s.link.remote (items_now s) (with_seen (entry_seen e) (without_entry e.token (book_now s)))
   pub leaves : (token : Token) (r : Held) (items : List Item) (b : Book) → D r items b → D r items (without_entry token b)
-  pub enters : (e : QueueEntry) (s : State) → EnteredIn s e × MovesThere s e → D s.link.remote (items_now s) (book_now s) → D s.link.remote (items_now s) (with_entry e (book_now s))
+  pub enters : (e : QueueEntry) (s : State) → EnteredIn s e × MovesThere s e × EntersThere s e → D s.link.remote (items_now s) (book_now s) → D s.link.remote (items_now s) (with_entry e (book_now s))
   pub grows : (r : Held) (q : Request) (items : List Item) (b : Book) → IsCounted r → D r items b → D (remote_step r q).1 items b
 
 no_more : (n : ℕ) → n ≤ n
@@ -124,17 +124,17 @@ module _ (D : Fact) where
 
 -- the same, where more is known: what holds beside it, and what the step rests on
 pub record LastingOver (D : Fact) (P : State → Type 0) : Type 0 where
-  pub changes : (s : State) (f : Book → Book) (c : Change) (x : Filter) → KeepsEntries f → KeepsSeenBy f c x → Fits s.link.remote x c → IsFair s.link → IsChangeBy (Since (λ t. P t × HoldsIn D t) s.link) x f c → IsSound s.link s.volatile.tokens x → P (with_filter x s)
+  pub changes : (s : State) (f : Book → Book) (c : Change) (x : Filter) → KeepsEntries f → KeepsSeenBy f c x → Fits s.link.remote x c → IsFair s.link → IsChangeBy (Known (λ t. P t × HoldsIn D t) s) x f c → IsSound s.link s.volatile.tokens x → P (with_filter x s)
       → D s.link.remote x.volume.items x.volume.book → D s.link.remote (effect x.volume.items c (next_number x.volume)) (f (book_after c x.volume.book))
-  pub removes : (l : Link) (tokens : ℕ) (f : Book → Book) (item : ItemId) (x : Filter) → KeepsEntries f → ((b : Book) → (f b).seen ≡ b.seen) → KeepsCursor f → IsFair l → IsSound l tokens x → D l.remote x.volume.items x.volume.book
-      → D l.remote (effect x.volume.items (change.Remove item) (next_number x.volume)) (f (book_after (change.Remove item) x.volume.book))
+  pub removes : (s : State) (f : Book → Book) (item : ItemId) → KeepsEntries f → ((b : Book) → (f b).seen ≡ b.seen) → KeepsCursor f → Buries f item s.filter → IsFair s.link → IsSound s.link s.volatile.tokens s.filter → P s → D s.link.remote (items_now s) (book_now s)
+      → D s.link.remote (effect (items_now s) (change.Remove item) (next_number s.filter.volume)) (f (book_after (change.Remove item) (book_now s)))
   pub alike : (r : Held) (items : List Item) (b d : Book) → SameRecords b d → D r items b → D r items d
   pub records : (f : Book → Book) (s : State) → KeepsEntries f → KeepsPlaced f s × KeepsBelow f s × KeepsEarly f s → IsFair s.link → IsRecordBy (λ t. P t × HoldsIn D t) f s → IsSound s.link s.volatile.tokens s.filter → P s → D s.link.remote (items_now s) (book_now s)
       → D s.link.remote (items_now s) (f (book_now s))
   pub sees : (e : QueueEntry) (s : State) → e.action ≡ MoveItem → entry_of (book_now s) e.token ≡ Some e → IsFair s.link → IsMovedBy (λ t. P t × HoldsIn D t) e s → IsSound s.link s.volatile.tokens s.filter → D s.link.remote (items_now s) (book_now s)
       → D s.link.remote (items_now s) (with_seen (entry_seen e) (without_entry e.token (book_now s)))
   pub leaves : (token : Token) (r : Held) (items : List Item) (b : Book) → D r items b → D r items (without_entry token b)
-  pub enters : (e : QueueEntry) (s : State) → EnteredIn s e × MovesThere s e → D s.link.remote (items_now s) (book_now s) → D s.link.remote (items_now s) (with_entry e (book_now s))
+  pub enters : (e : QueueEntry) (s : State) → EnteredIn s e × MovesThere s e × EntersThere s e → IsFair s.link → P s → D s.link.remote (items_now s) (book_now s) → D s.link.remote (items_now s) (with_entry e (book_now s))
   pub asked : (s : State) (q : Request) → IsFair s.link → IsSound s.link s.volatile.tokens s.filter → AskedIn s q → P s → LastsIn D s.link.remote s.filter.volume → LastsIn D (remote_step s.link.remote q).1 s.filter.volume
 
 module _ (D : Fact) (P : State → Type 0) (lasting : LastingOver D P) where
@@ -150,7 +150,7 @@ module _ (D : Fact) (P : State → Type 0) (lasting : LastingOver D P) where
   begin_lasts : (l : Link) (n : Need) (x : Filter) → InFilter D l x → Keeps (InFilter D l) (reading (waiting_begun n) (begin_now n) x)
   begin_lasts l n x h = keeps_bind (InFilter D l) (tell (waiting_begun n x) (with_own n x)) (λ _ t. Ret (shown.Pending (own_id n x)) t) (tell_frame (Lasts D l) (book_lasts l) (waiting_begun n x) (with_own n x) h) (λ a t j. j)
 
-  filter_lasts : (s : State) → GuardedFilter (Since Both s.link) s.link s.volatile.tokens (At s) → GuardedFilter (Since Both s.link) s.link s.volatile.tokens (λ x. At s x × InFilter D s.link x)
+  filter_lasts : (s : State) → GuardedFilter (Known Both s) s.link s.volatile.tokens (At s) → GuardedFilter (Known Both s) s.link s.volatile.tokens (λ x. At s x × InFilter D s.link x)
   filter_lasts s closed = record {
     sound = λ x h fair. closed.sound x h.0 fair;
     change = λ f c x keeps seen free fit known h. keeps_both (At s) (InFilter D s.link) (change_with f c x) (closed.change f c x keeps seen free fit known h.0) (changed f c x keeps seen fit known h);
@@ -170,7 +170,7 @@ module _ (D : Fact) (P : State → Type 0) (lasting : LastingOver D P) where
     keeps_without_handle = λ handle x h. (closed.keeps_without_handle handle x h.0, h.1);
   }
     where
-      changed : (f : Book → Book) (c : Change) (x : Filter) → KeepsEntries f → (IsFair s.link → KeepsSeenBy f c x) → (IsFair s.link → Fits s.link.remote x c) → (IsFair s.link → IsChangeBy (Since Both s.link) x f c) → At s x × InFilter D s.link x → Keeps (InFilter D s.link) (change_with f c x)
+      changed : (f : Book → Book) (c : Change) (x : Filter) → KeepsEntries f → (IsFair s.link → KeepsSeenBy f c x) → (IsFair s.link → Fits s.link.remote x c) → (IsFair s.link → IsChangeBy (Known Both s) x f c) → At s x × InFilter D s.link x → Keeps (InFilter D s.link) (change_with f c x)
       changed f c x keeps seen fit known h = change_lasts D s.link s.volatile.tokens f c x (closed.sound x h.0) (λ fair. lasting.changes s f c x keeps (seen fair) (fit fair) fair (known fair) (closed.sound x h.0 fair) h.0 (h.1 fair).0) h.1
 
   -- records
@@ -187,7 +187,7 @@ module _ (D : Fact) (P : State → Type 0) (lasting : LastingOver D P) where
   pub guarded_over : Guarded P → Guarded Both
   guarded_over closed = record {
     replay = λ s h. closed.replay s h.0;
-    on_filter = λ s h. filter_lasts s (on_filter_weaker P Both (λ t k. k.0) s.link s.volatile.tokens (At s) (closed.on_filter s h.0));
+    on_filter = λ s h. filter_lasts s (on_filter_weaker P Both (λ t k. k.0) s (At s) (closed.on_filter s h.0));
     keeps_counted = λ s h. (closed.keeps_counted s h.0, h.1);
     asked = λ q s well h. (closed.asked q s well h.0, asked_lasts s q ((closed.on_filter s h.0).sound s.filter h.0) well h.0 h.1);
     told = λ held s h. (closed.told held s h.0, λ fair. no_way fair.0);
@@ -218,38 +218,40 @@ module _ (D : Fact) (P : State → Type 0) (lasting : LastingOver D P) where
 
   -- runs
 
-  pub whole_over : Whole P → ((s : State) → P s → Invariant s) → Whole Both
-  whole_over whole sound = record {
-    closed = guarded_over whole.closed;
-    entering = record { enters = λ e s well h. (whole.entering.enters e s well h.0, λ fair. (lasting.enters e s (well fair) (h.1 fair).0, (h.1 fair).1)) };
+  pub unruled_over : Unruled P → ((s : State) → P s → Invariant s) → Unruled Both
+  unruled_over rest sound = record {
+    closed = guarded_over rest.closed;
+    entering = record { enters = λ e s well h. (rest.entering.enters e s well h.0, λ fair. (lasting.enters e s (well fair) fair h.0 (h.1 fair).0, (h.1 fair).1)) };
     deleting = record {
-      deletes = λ f item s keeps seen cursor idle leaf h. keeps_both (λ x. P (with_filter x s)) (InFilter D s.link) (change_with f (change.Remove item) s.filter) (whole.deleting.deletes f item s keeps seen cursor idle leaf h.0)
-          (change_lasts D s.link s.volatile.tokens f (change.Remove item) s.filter (sound s h.0).1 (λ fair. lasting.removes s.link s.volatile.tokens f item s.filter keeps seen cursor fair ((sound s h.0).1 fair) (h.1 fair).0) h.1);
+      deletes = λ f item s keeps seen cursor idle leaf h. keeps_both (λ x. P (with_filter x s)) (InFilter D s.link) (change_with f (change.Remove item) s.filter) (rest.deleting.deletes f item s keeps seen cursor idle leaf h.0)
+          (change_lasts D s.link s.volatile.tokens f (change.Remove item) s.filter (sound s h.0).1 (λ fair. lasting.removes s f item keeps seen cursor (leaf fair).1 fair ((sound s h.0).1 fair) h.0 (h.1 fair).0) h.1);
     };
     commanding = record {
-      waits = λ s n x fit unmet h. keeps_both (At s) (InFilter D s.link) (reading (waiting_begun n) (begin_now n) x) (whole.commanding.waits s n x fit unmet h.0) (begin_lasts s.link n x h.1);
-      disconnects = λ s h. (whole.commanding.disconnects s h.0, h.1);
-      inlines = λ inline s h. (whole.commanding.inlines inline s h.0, h.1);
+      waits = λ s n x fit unmet h. keeps_both (At s) (InFilter D s.link) (reading (waiting_begun n) (begin_now n) x) (rest.commanding.waits s n x fit unmet h.0) (begin_lasts s.link n x h.1);
+      disconnects = λ s h. (rest.commanding.disconnects s h.0, h.1);
+      inlines = λ inline s h. (rest.commanding.inlines inline s h.0, h.1);
     };
-    ruling = record { rules = λ p s v h. (whole.ruling.rules p s v h.0, h.1) };
-    begins = λ s h. (whole.begins s h.0, h.1);
-    breaks = λ s h. (whole.breaks s h.0, h.1);
-    crashes = λ s h. (whole.crashes s h.0, h.1);
-    fails = λ s h. (whole.fails s h.0, h.1);
-    opens = λ p skipped s is h. (whole.opens p skipped s is h.0, opened_lasts D p skipped s is h.1);
+    begins = λ s h. (rest.begins s h.0, h.1);
+    breaks = λ s h. (rest.breaks s h.0, h.1);
+    crashes = λ s h. (rest.crashes s h.0, h.1);
+    fails = λ s h. (rest.fails s h.0, h.1);
+    opens = λ p skipped s is h. (rest.opens p skipped s is h.0, opened_lasts D p skipped s is h.1);
   }
+
+  pub whole_over : Whole P → ((s : State) → P s → Invariant s) → Whole Both
+  whole_over whole sound = with_ruling Both (unruled_over (unruled P whole) sound) (record { rules = λ p s v h. (whole.ruling.rules p s v h.0, h.1) })
 
 -- what lasts needs no more
 module _ (D : Fact) (lasting : Lasting D) where
   over_any : (P : State → Type 0) → LastingOver D P
   over_any P = record {
     changes = λ s f c x keeps seen fit fair known sound h k. lasting.changes s.link s.volatile.tokens f c x keeps seen fit fair sound k;
-    removes = lasting.removes;
+    removes = λ s f item keeps seen cursor buries fair sound h k. lasting.removes s.link s.volatile.tokens f item s.filter keeps seen cursor fair sound k;
     alike = lasting.alike;
     records = λ f s keeps placed fair known sound h k. lasting.records f s keeps placed k;
     sees = λ e s is live fair known sound k. lasting.sees e s is live sound k;
     leaves = lasting.leaves;
-    enters = lasting.enters;
+    enters = λ e s well fair h k. lasting.enters e s well k;
     asked = λ s q fair sound well h k. (
       lasting.grows s.link.remote q (items_now s) (book_now s) sound.counted k.0,
       all_weaker (AtPoint D s.link.remote s.filter.volume.log) (AtPoint D (remote_step s.link.remote q).1 s.filter.volume.log)

@@ -65,7 +65,7 @@ module _ (C : Link → Type 0) (of : OfLink C) where
   pub guarded_link : (P : State → Type 0) → Guarded P → Guarded (λ s. P s × C s.link)
   guarded_link P closed = record {
     replay = λ s h. closed.replay s h.0;
-    on_filter = λ s h. filter_beside s.link s.volatile.tokens (C s.link) (λ x. P (with_filter x s)) h.1 (on_filter_weaker P (λ t. P t × C t.link) (λ t k. k.0) s.link s.volatile.tokens _ (closed.on_filter s h.0));
+    on_filter = λ s h. filter_beside s.link s.volatile.tokens (C s.link) (λ x. P (with_filter x s)) h.1 (on_filter_weaker P (λ t. P t × C t.link) (λ t k. k.0) s _ (closed.on_filter s h.0));
     keeps_counted = λ s h. (closed.keeps_counted s h.0, of.counts s.link h.1);
     asked = λ q s well h. (closed.asked q s well h.0, of.asks s.link q h.1);
     told = λ held s h. (closed.told held s h.0, of.distrusts s.link held h.1);

@@ -1,5 +1,5 @@
 -- An item at its turn in a pass: it is reported, or nothing is to be done for it.
-use Rattle.std.proofs.Common.{◌≡◌, ◌⊎◌, ◌+◌, Bool, true, false, List, [], ◌∷◌, refl, sym, ◌∙◌, ap, subst, inl, inr, eq-eqb}
+use Rattle.std.proofs.Common.{◌≡◌, ◌⊎◌, ◌+◌, Bool, true, false, List, [], ◌∷◌, refl, sym, ◌∙◌, ap, subst, inl, inr, eq-eqb, ℕ}
 use Rattle.std.specs.Prelude.{Option, Some, None, cond, not, ◌&&◌, ◌||◌, ◌==◌}
 use Rattle.cf_base.specs.declared.changes.Change.{Change}
 use Rattle.cf_base.specs.declared.changes.Change.TheVariants as change
@@ -16,7 +16,7 @@ use Rattle.std.proofs.lemmas.Bool.{eqb-true}
 use Rattle.cf_model.specs.Items.{Item, is_all_here, is_dirty, item_of}
 use Rattle.cf_model.specs.LookUp.{is_excluded}
 use Rattle.cf_model.specs.Messages.{no_number}
-use Rattle.cf_model.specs.Numbers.{no_usn, same_usn}
+use Rattle.cf_model.specs.Numbers.{no_usn, same_usn, root_rid}
 use Rattle.cf_model.specs.PushReplies.{has_item, whatever}
 use Rattle.cf_model.specs.Pushes.{bury_unless, has_entry, hydrate_if, is_left_out, is_tombstone_left_out, mark_item, push_by_case, push_here, push_item, push_tombstone, push_turn, push_unless, put_file, put_if, put_whole, upload, upload_if, upload_new, upload_now, hydrate_unless, is_hydrating}
 use Rattle.cf_model.specs.Skips.{do_change, left_out, may_mark, mark_if, try_change, why_no_change}
@@ -26,7 +26,7 @@ use Rattle.cf_model.specs.Trees.{Asked, Fork, Ret, Step, Tree, bind, Ends}
 use Rattle.cf_model.specs.Words.{part, says}
 use Rattle.cf_model.proofs.TreeLaws.{kept_at_end}
 use Rattle.cf_model_laws.specs.Fitting.{Fits, NoEntry}
-use Rattle.cf_model_laws.specs.Invariant.{HasNone, Invariant, IsRight, SameBase}
+use Rattle.cf_model_laws.specs.Invariant.{HasNone, Invariant, IsRight, SameBase, target_in}
 use Rattle.cf_model_laws.specs.Premises.{IsFair}
 use Rattle.cf_model_laws.proofs.ContentLaws.{sound_whole}
 use Rattle.cf_model_laws.proofs.EntryLaws.{none_none}
@@ -135,16 +135,27 @@ module _ (s : State) (h : Invariant s) (fair : IsFair s.link) (listening : IsLis
       (since_follows m t (kept_at_end (Since m) (upload_if i.id true m) u t
       (upload_now_at (Since m) (since_guarded m) (since_entering m) i.id (item_of (items_now m) i.id) m refl
       (λ f. subst (λ (es : List QueueEntry). NoEntry es i.id) (sym (led.after.entries (λ b. refl))) (lone (book_now s).entries i.id free))
-      (λ k e. each_at i.id (λ x. x.placeholder ≡ true) (items_now m) k e (subst (Each i.id (λ x. x.placeholder ≡ true)) (sym led.after.items) (made (items_now s))))
-      (since_start m (kept_at_end Invariant (try_change convert s) true m (try_change_at Unnamed Invariant (guarded_skipping Invariant sound_whole.closed) convert s refl (λ id k. k) (convert_fits bare none) h) first))) ends)) where
+      (λ k e. each_at i.id Whole (items_now m) k e (subst (Each i.id Whole) (sym led.after.items) (made (items_now s))))
+      (since_start m (kept_at_end Invariant (try_change convert s) true m (try_change_at Unnamed Invariant (guarded_skipping Invariant sound_whole.closed) convert s refl (λ id k. k) (λ f. (convert_fits bare none f, tt)) h) first))) ends)) where
         led : Led convert s m
         led = leads_ends Any (λ done x. done ≡ true → Led convert s x) (try_change convert s) true m (try_led convert s) first refl
 
-        made : (items : List Item) → Each i.id (λ x. x.placeholder ≡ true) (effect items convert (next_number s.filter.volume))
+        Whole : Item → Type 0
+        Whole x = (x.placeholder ≡ true) × ((target_of x).0 ≡ 0)
+
+        top : (b : Bool) → (cond b root_rid (target_in i.identity)).0 ≡ 0 → b ≡ false
+        top true z = cc
+        top false z = refl
+
+        below : (b : Bool) → b ≡ false → (cond b root_rid (target_in no_identity)).0 ≡ 0
+        below true q = no_way (sym q)
+        below false q = refl
+
+        made : (items : List Item) → Each i.id Whole (effect items convert (next_number s.filter.volume))
         made [] = tt
         made (x ∷ xs) = (turned (x.id.0 == i.id.0) refl, made xs) where
-          turned : (b : Bool) → (x.id.0 == i.id.0) ≡ b → ((cond b (converted no_identity (next_number s.filter.volume) x) x).id.0 == i.id.0) ≡ true → (cond b (converted no_identity (next_number s.filter.volume) x) x).placeholder ≡ true
-          turned true q z = refl
+          turned : (b : Bool) → (x.id.0 == i.id.0) ≡ b → ((cond b (converted no_identity (next_number s.filter.volume) x) x).id.0 == i.id.0) ≡ true → Whole (cond b (converted no_identity (next_number s.filter.volume) x) x)
+          turned true q z = (refl, below (x.id.0 == 1) (subst (λ (n : ℕ). (n == 1) ≡ false) (sym (eqb-true x.id.0 i.id.0 q)) (top (i.id.0 == 1) none)))
           turned false q z = no_way (sym q ∙ z)
 
   new_told : (target_of i).0 ≡ 0 → is_untargeted i ≡ true → Ends (upload_new i s) u t → IsTold s t ⊎ Spared

@@ -63,7 +63,7 @@ module _ (Q : Filter → Type 0) (q : Noticed Q) (P : State → Type 0) where
   pub guarded_noticed : Guarded P → Guarded Both
   guarded_noticed closed = record {
     replay = λ s h. closed.replay s h.0;
-    on_filter = λ s h. filter_noticed Q q.closed s.link s.volatile.tokens (λ x. P (with_filter x s)) (on_filter_weaker P Both (λ t k. k.0) s.link s.volatile.tokens _ (closed.on_filter s h.0));
+    on_filter = λ s h. filter_noticed Q q.closed s.link s.volatile.tokens (λ x. P (with_filter x s)) (on_filter_weaker P Both (λ t k. k.0) s _ (closed.on_filter s h.0));
     keeps_counted = λ s h. (closed.keeps_counted s h.0, h.1);
     asked = λ r s well h. (closed.asked r s well h.0, h.1);
     told = λ held s h. (closed.told held s h.0, h.1);

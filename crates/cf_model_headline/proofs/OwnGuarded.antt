@@ -143,7 +143,7 @@ module _ (base : Log) (id : WaitId) (item : ItemId) (span : Span) where
   pub guarded_own : (P : State → Type 0) → ((s : State) → P s → HoldsIn (IsWait id.0 item span) s) → Guarded P → Guarded (λ s. P s × OfState s)
   guarded_own P knows closed = record {
     replay = λ s h. closed.replay s h.0;
-    on_filter = λ s h. filter_own s.link s.volatile.tokens (λ x. P (with_filter x s)) (λ x k. knows (with_filter x s) k) (on_filter_weaker P (λ t. P t × OfState t) (λ t k. k.0) s.link s.volatile.tokens _ (closed.on_filter s h.0));
+    on_filter = λ s h. filter_own s.link s.volatile.tokens (λ x. P (with_filter x s)) (λ x k. knows (with_filter x s) k) (on_filter_weaker P (λ t. P t × OfState t) (λ t k. k.0) s _ (closed.on_filter s h.0));
     keeps_counted = λ s h. (closed.keeps_counted s h.0, h.1);
     asked = λ q s well h. (closed.asked q s well h.0, grown s.link (with_remote (remote_step s.link.remote q).1 (counted s)).link s.filter (λ fair. ((fair.0, small_before s.link.remote q fair.1), step_extends s.link.remote q)) h.1);
     told = λ held s h. (closed.told held s h.0, grown s.link (distrusted (with_remote held (counted s))).link s.filter (λ fair. no_way fair.0) h.1);

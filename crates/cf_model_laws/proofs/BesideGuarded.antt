@@ -168,7 +168,7 @@ linked K F b l k x fair same h =
 pub guarded_knowing : (K : Filter → Type 0) (F : Fact) → Knowing K F → (P : State → Type 0) → ((s : State) → P s → IsFair s.link → K s.filter) → Guarded P → Guarded (λ s. P s × HoldsIn F s)
 guarded_knowing K F b P knows closed = record {
   replay = λ s h. closed.replay s h.0;
-  on_filter = λ s h. filter_beside K F b s.link s.volatile.tokens (λ x. P (with_filter x s)) (λ x k fair. knows (with_filter x s) k fair) (on_filter_weaker P (λ t. P t × HoldsIn F t) (λ t k. k.0) s.link s.volatile.tokens _ (closed.on_filter s h.0));
+  on_filter = λ s h. filter_beside K F b s.link s.volatile.tokens (λ x. P (with_filter x s)) (λ x k fair. knows (with_filter x s) k fair) (on_filter_weaker P (λ t. P t × HoldsIn F t) (λ t k. k.0) s _ (closed.on_filter s h.0));
   keeps_counted = λ s h. (closed.keeps_counted s h.0, linked K F b s.link _ s.filter (λ fair. fair) refl h.1);
   asked = λ q s well h. (
     closed.asked q s well h.0,
@@ -242,7 +242,7 @@ unruled_knowing K F b P knows rest = record {
   entering = entering_beside F P rest.entering;
   deleting = record {
     deletes = λ f item s keeps seen cursor idle leaf h. keeps_both (λ x. P (with_filter x s)) (Holds F s.link) (change_with f (change.Remove item) s.filter) (rest.deleting.deletes f item s keeps seen cursor idle leaf h.0)
-        (changed_beside F s.link f (change.Remove item) s.filter h.1 (b.removes s.link s.volatile.tokens item s.filter ((rest.closed.on_filter s h.0).sound s.filter h.0) idle leaf h.1));
+        (changed_beside F s.link f (change.Remove item) s.filter h.1 (b.removes s.link s.volatile.tokens item s.filter ((rest.closed.on_filter s h.0).sound s.filter h.0) idle (λ fair. (leaf fair).0) h.1));
   };
   commanding = commanding_knowing K F b.knowing P knows rest.closed rest.commanding;
   begins = λ s h. (rest.begins s h.0, h.1);

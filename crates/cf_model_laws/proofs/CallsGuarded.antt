@@ -1,4 +1,5 @@
 -- What the parts of `Calls` keep in `replay`, each by what its own parts keep.
+use Rattle.std.proofs.lemmas.Bool.{eqb-true}
 use Rattle.std.specs.Prelude.{ℕ, Bool, true, false, List, [], ◌∷◌, length, ◌+◌, cond, not, ◌||◌}
 use Rattle.cf_base.specs.declared.answers.Shown.{Shown}
 use Rattle.cf_base.specs.declared.answers.Shown.TheVariants as shown
@@ -15,11 +16,11 @@ use Rattle.cf_base.specs.declared.policies.Policy.{Policy}
 use Rattle.cf_model.specs.Arrows.{Arrow, noted, reading, ret, then_do, Preserves}
 use Rattle.cf_model.specs.Requests.{Nothing}
 use Rattle.cf_model.specs.Books.{with_access, Book, with_tombstone}
-use Rattle.cf_model.specs.Changes.{change_with, changes}
+use Rattle.cf_model.specs.Changes.{change_with, changes, next_number}
 use Rattle.cf_model.specs.Images.{runs_of}
 use Rattle.cf_model.specs.Items.{Item, item_of}
 use Rattle.std.specs.Prelude.{Some}
-use Rattle.std.proofs.Common.{inl}
+use Rattle.std.proofs.Common.{inl, subst, inr, refl, sym, ◌⊎◌}
 use Rattle.cf_model_laws.specs.Premises.{IsFair}
 use Rattle.cf_model.specs.LookUp.{Place}
 use Rattle.cf_model.specs.Operations.{done}
@@ -47,14 +48,14 @@ use Rattle.cf_model_laws.proofs.SoundSettles.{each_found}
 use Rattle.cf_model_laws.proofs.OperationsGuarded as operations_keep
 use Rattle.cf_model_laws.proofs.WaitsGuarded as waits_keep
 use Rattle.cf_model.specs.Calls.{blocks_now, buried, changing, class_flags, count_now, delete, delete_item, delete_now, delete_tests, df, flush, has_size, info, info_item, info_of, move_of, next_handle, number_at, number_next, number_of, open_file, open_item, open_tests, opened_as, pin_item, pins_at, policy_tests, ranges, ranges_item, rename, rename_item, rename_tests, rename_to, room_tests, set_pin, set_policy, set_size, show_count, show_number, size_item, size_now, size_tests, used, used_item, used_now, with_policy, write, write_item, write_now, write_tests, tombstone_for, stands_there}
-use Rattle.cf_model_laws.proofs.Guarded.{GuardedFilter, KeepsCursor}
+use Rattle.cf_model_laws.proofs.Guarded.{Buries, GuardedFilter, KeepsCursor}
 use Rattle.cf_model.proofs.ArrowLaws.{keeps_reading, keeps_ret, keeps_then}
 use Rattle.std.proofs.Common.{◌≡◌, ◌+◌, ◌∷◌, refl, List, [], ℕ, Bool, true, false}
 use Rattle.cf_base.specs.Policies.{is_allowed, is_always_full, is_partial}
 use Rattle.cf_base.specs.declared.policies.Mode.TheVariants as mode
 use Rattle.cf_model.specs.Dehydration.{in_use}
 use Rattle.cf_model.specs.Effects.{changed, pinned}
-use Rattle.cf_model.specs.Identities.{is_untargeted}
+use Rattle.cf_model.specs.Identities.{is_untargeted, target_of}
 use Rattle.cf_model.specs.Plans.{pin_changes, reached, same_pin, stored_pin}
 use Rattle.cf_model.specs.Trees.{Keeps}
 use Rattle.cf_model.specs.Words.{when}
@@ -97,14 +98,14 @@ write_item_at : {On : Knowledge} (l : Link) (tokens : ℕ) (P : Filter → Type 
 write_item_at l tokens P closed at [] item x used h = h
 write_item_at l tokens P closed at (b ∷ bs) item x used h =
     checked_at P (write_tests (at + length (b ∷ bs)) (change.Write item at (b ∷ bs) ∷ [])) (write_now item (change.Write item at (b ∷ bs))) x h
-    (λ e. closed.touch (with_access item) (change.Write item at (b ∷ bs)) item Nothing x tt (access_same item) (λ fair. ((λ z. absurd z), (λ k. k), λ b. refl)) (λ id k. k) (λ fair. used) (λ fair. (tt, inl (λ b. refl))) h)
+    (λ e. closed.touch (with_access item) (change.Write item at (b ∷ bs)) item Nothing x tt (access_same item) (λ fair. ((λ z. absurd z), (λ k. k), λ b. refl)) (λ id k. k) (λ fair. used) (λ fair. (tt, inl (λ b. refl), inl tt, λ b. refl)) h)
 
 pub write_keeps : {On : Knowledge} (l : Link) (tokens : ℕ) (P : Filter → Type 0) → GuardedFilter On l tokens P → (x1 : Handle) → (x2 : ℕ) → (x3 : List ℕ) → Preserves P (write x1 x2 x3)
 write_keeps l tokens P closed h at bytes = on_handle_at P h (write_item at bytes) (write_item_at l tokens P closed at bytes)
 
 size_now_at : {On : Knowledge} (l : Link) (tokens : ℕ) (P : Filter → Type 0) → GuardedFilter On l tokens P → (item : ItemId) (n : ℕ) (b : Bool) (x : Filter) → IsOpenOn x item → P x → Keeps P (size_now item n b x)
 size_now_at l tokens P closed item n true x used h = closed.keeps_accessed item x h
-size_now_at l tokens P closed item n false x used h = closed.touch (with_access item) (change.Size item n) item Nothing x tt (access_same item) (λ fair. ((λ z. absurd z), (λ k. k), λ b. refl)) (λ id k. k) (λ fair. used) (λ fair. (tt, inl (λ b. refl))) h
+size_now_at l tokens P closed item n false x used h = closed.touch (with_access item) (change.Size item n) item Nothing x tt (access_same item) (λ fair. ((λ z. absurd z), (λ k. k), λ b. refl)) (λ id k. k) (λ fair. used) (λ fair. (tt, inl (λ b. refl), inl tt, λ b. refl)) h
 
 size_item_at : {On : Knowledge} (l : Link) (tokens : ℕ) (P : Filter → Type 0) → GuardedFilter On l tokens P → (n : ℕ) (item : ItemId) (x : Filter) → IsOpenOn x item → P x → Keeps P (size_item n item x)
 size_item_at l tokens P closed n item x used h = checked_at P (size_tests item n) (reading (has_size item n) (size_now item n)) x h (λ e. size_now_at l tokens P closed item n (has_size item n x) x used h)
@@ -141,33 +142,45 @@ buried_cursor true i n book = by (is_untargeted i) where
 
 -- the removal that an application asks for
 abbrev pub Removing : Link → (Filter → Type 0) → Type 0
-Removing l P = (f : Book → Book) (item : ItemId) (x : Filter) → KeepsEntries f → ((b : Book) → (f b).seen ≡ b.seen) → KeepsCursor f → in_use item x ≡ false → (IsFair l → IsLeaf x.volume.items item) → P x → Keeps P (change_with f (change.Remove item) x)
+Removing l P = (f : Book → Book) (item : ItemId) (x : Filter) → KeepsEntries f → ((b : Book) → (f b).seen ≡ b.seen) → KeepsCursor f → in_use item x ≡ false → (IsFair l → IsLeaf x.volume.items item × Buries f item x) → P x → Keeps P (change_with f (change.Remove item) x)
 
-delete_now_at : (l : Link) (P : Filter → Type 0) → Removing l P → (m : Mode) (i : Item) (number : Usn) (x : Filter) → in_use i.id x ≡ false → (IsFair l → IsLeaf x.volume.items i.id) → P x → Keeps P (delete_now m i number x)
-delete_now_at l P removes m i number x idle leaf h =
-    keeps_bind P (change_with (buried (is_replay m) i number) (change.Remove i.id) x) (λ _ t. ret (shown.Done) t)
-    (removes (buried (is_replay m) i number) i.id x (buried_same (is_replay m) i number) (buried_seen (is_replay m) i number) (buried_cursor (is_replay m) i number) idle leaf h) (λ a t j. j)
+-- in `replay` it leaves a tombstone, if the item has a target
+buries_now : (i : Item) (x : Filter) → item_of x.volume.items i.id ≡ Some i → Buries (buried true i (number_next x)) i.id x
+buries_now i x there = (i, there, by (is_untargeted i) refl) where
+  by : (b : Bool) → is_untargeted i ≡ b
+      → (((target_of i).0 ≡ 0) × ((d : Book) → cond b d (with_tombstone (tombstone_for i (number_next x)) d) ≡ d)) ⊎ ((d : Book) → cond b d (with_tombstone (tombstone_for i (number_next x)) d) ≡ with_tombstone (tombstone_for i (next_number x.volume)) d)
+  by true q = inl (eqb-true (target_of i).0 0 q, λ d. refl)
+  by false q = inr (λ d. refl)
+
+delete_now_at : (l : Link) (P : Filter → Type 0) → Removing l P → (m : Mode) → is_replay m ≡ true → (i : Item) (x : Filter) → in_use i.id x ≡ false → (IsFair l → IsLeaf x.volume.items i.id × (item_of x.volume.items i.id ≡ Some i)) → P x → Keeps P (delete_now m i (number_next x) x)
+delete_now_at l P removes m is i x idle leaf h =
+    keeps_bind P (change_with (buried (is_replay m) i (number_next x)) (change.Remove i.id) x) (λ _ t. ret (shown.Done) t)
+    (removes (buried (is_replay m) i (number_next x)) i.id x (buried_same (is_replay m) i (number_next x)) (buried_seen (is_replay m) i (number_next x)) (buried_cursor (is_replay m) i (number_next x)) idle
+    (λ fair. ((leaf fair).0, subst (λ (b : Bool). Buries (buried b i (number_next x)) i.id x) (sym is) (buries_now i x (leaf fair).1))) h) (λ a t j. j)
 
 none_below : {A : Type 0} (xs : List A) → not (is_empty xs) ≡ false → xs ≡ []
 none_below [] e = refl
 none_below (x ∷ xs) e = no_way (sym e)
 
-delete_item_at : {On : Knowledge} (l : Link) (tokens : ℕ) (P : Filter → Type 0) → GuardedFilter On l tokens P → Removing l P → (m : Mode) (i : Item) (x : Filter) → (IsFair l → IsChild x.volume.items i) → P x → Keeps P (delete_item m i x)
-delete_item_at l tokens P closed removes m i x child h =
+delete_item_at : {On : Knowledge} (l : Link) (tokens : ℕ) (P : Filter → Type 0) → GuardedFilter On l tokens P → Removing l P → (m : Mode) → is_replay m ≡ true → (i : Item) (x : Filter) → (IsFair l → IsChild x.volume.items i) → P x → Keeps P (delete_item m i x)
+delete_item_at l tokens P closed removes m is i x child h =
     checked_at P (delete_tests i) (reading number_next (delete_now m i)) x h (λ e.
     let rest = tail_none (delete_tests i x) e in
-    delete_now_at l P removes m i (number_next x) x (head_false (tail_of (tail_of (delete_tests i x))) (tail_none (tail_of (delete_tests i x)) rest))
+    delete_now_at l P removes m is i x (head_false (tail_of (tail_of (delete_tests i x))) (tail_none (tail_of (delete_tests i x)) rest))
     (λ fair. (
-      each_found i.id (λ j. j.directory ≡ true → children x.volume.items j.id ≡ []) 0 x.volume.next_item.0 x.volume.items i (closed.sound x h fair).now.order (child fair).0
-          (λ d. none_below (children x.volume.items i.id) (head_false (tail_of (delete_tests i x)) rest)),
-      inr (i, (child fair).0, (child fair).1),
+      (
+        each_found i.id (λ j. j.directory ≡ true → children x.volume.items j.id ≡ []) 0 x.volume.next_item.0 x.volume.items i (closed.sound x h fair).now.order (child fair).0
+            (λ d. none_below (children x.volume.items i.id) (head_false (tail_of (delete_tests i x)) rest)),
+        inr (i, (child fair).0, (child fair).1),
+      ),
+      (child fair).0,
     )) h)
 
-pub delete_keeps : {On : Knowledge} (l : Link) (tokens : ℕ) (P : Filter → Type 0) → GuardedFilter On l tokens P → Removing l P → (m : Mode) (path : List ℕ) → Preserves P (delete m path)
-delete_keeps l tokens P closed removes m path = record { keeps = λ x h. by x h (find_below x.volume.items path) refl } where
+pub delete_keeps : {On : Knowledge} (l : Link) (tokens : ℕ) (P : Filter → Type 0) → GuardedFilter On l tokens P → Removing l P → (m : Mode) → is_replay m ≡ true → (path : List ℕ) → Preserves P (delete m path)
+delete_keeps l tokens P closed removes m is path = record { keeps = λ x h. by x h (find_below x.volume.items path) refl } where
   by : (x : Filter) → P x → (o : Result Item Code) → find_below x.volume.items path ≡ o → Keeps P (on_ok (delete_item m) o x)
   by x h (Err c) e = h
-  by x h (Ok i) e = delete_item_at l tokens P closed removes m i x (λ fair. found_child path i x.volume.next_item.0 x.volume.items (closed.sound x h fair).now.order e) h
+  by x h (Ok i) e = delete_item_at l tokens P closed removes m is i x (λ fair. found_child path i x.volume.next_item.0 x.volume.items (closed.sound x h fair).now.order e) h
 
 -- a move to a place, which was tested
 no_test : (o : Option Code) → first_of (test_of o) ≡ None → o ≡ None
@@ -178,7 +191,7 @@ move_at : {On : Knowledge} (l : Link) (tokens : ℕ) (P : Filter → Type 0) →
     → Keeps P (changes (when b (change.Move i.id p.parent.id p.name ∷ [])) x)
 move_at l tokens P closed i p false x fit h = h
 move_at l tokens P closed i p true x fit h =
-    keeps_bind P (change (change.Move i.id p.parent.id p.name) x) (λ _ t. ret unit t) (closed.change same_book (change.Move i.id p.parent.id p.name) x (λ b. refl) (λ fair. ((λ z b. refl), (λ k. k), λ b. refl)) (λ id k. k) fit (λ fair. (tt, inl (λ b. refl))) h) (λ a t j. j)
+    keeps_bind P (change (change.Move i.id p.parent.id p.name) x) (λ _ t. ret unit t) (closed.change same_book (change.Move i.id p.parent.id p.name) x (λ b. refl) (λ fair. ((λ z b. refl), (λ k. k), λ b. refl)) (λ id k. k) fit (λ fair. (tt, inl (λ b. refl), inl tt, λ b. refl)) h) (λ a t j. j)
 
 rename_to_at : {On : Knowledge} (l : Link) (tokens : ℕ) (P : Filter → Type 0) → GuardedFilter On l tokens P → (i : Item) (p : Place) (x : Filter) → (IsFair l → IsChild x.volume.items i) → (IsFair l → IsSeated x.volume.items p.parent.id true) → P x → Keeps P (rename_to i p x)
 rename_to_at l tokens P closed i p x child seat h = checked_at P (rename_tests i p) (changing (move_of i p) done) x h (λ e.
@@ -203,7 +216,7 @@ rename_keeps l tokens P closed from to = record { keeps = λ x h. by x h (find_b
   by x h (Ok i) e = rename_item_at l tokens P closed to i x (λ fair. found_child from i x.volume.next_item.0 x.volume.items (closed.sound x h fair).now.order e) h
 
 plain_pin : (id : ItemId) (p : Pin) (b : Bool) → All IsPlain (when b (change.SetPin id p ∷ []))
-plain_pin id p true = (record { fits = λ r x. tt; free = λ id k. k; unnamed = tt }, tt)
+plain_pin id p true = (record { fits = λ r x. tt; free = λ id k. k; unnamed = tt; holds = λ items. tt }, tt)
 plain_pin id p false = tt
 
 plain_pins : (asked : Pin) (items is : List Item) → All IsPlain (pin_changes asked items is)

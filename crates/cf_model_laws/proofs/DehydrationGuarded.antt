@@ -41,7 +41,7 @@ emptied_keeps l tokens P closed = keeps_ret P (shown.Ended end.Emptied)
 pub empty_at : {On : Knowledge} (l : Link) (tokens : ℕ) (P : Filter → Type 0) → GuardedFilter On l tokens P → (i : Item) (start len : ℕ) (x : Filter) → (IsFair l → Each i.id (λ i. i.in_sync ≡ true) x.volume.items) → P x → Keeps P (empty_now i start len x)
 empty_at l tokens P closed i start len x fit h =
     checked_at P empty_tests (then_do (volume.change (change.Emptied i.id start len)) emptied) x h
-    (λ e. keeps_bind P (volume.change (change.Emptied i.id start len) x) (λ _ t. emptied t) (closed.change same_book (change.Emptied i.id start len) x (λ b. refl) (λ fair. ((λ z b. refl), (λ k. k), λ b. refl)) (λ id k. k) fit (λ fair. (tt, inl (λ b. refl))) h) (λ u t j. j))
+    (λ e. keeps_bind P (volume.change (change.Emptied i.id start len) x) (λ _ t. emptied t) (closed.change same_book (change.Emptied i.id start len) x (λ b. refl) (λ fair. ((λ z b. refl), (λ k. k), λ b. refl)) (λ id k. k) fit (λ fair. (tt, inl (λ b. refl), inl tt, λ b. refl)) h) (λ u t j. j))
 
 -- an item that is found under its id
 abbrev pub IsThere : Item → Filter → Type 0

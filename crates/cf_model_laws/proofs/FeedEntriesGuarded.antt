@@ -35,7 +35,7 @@ use Rattle.cf_model.proofs.TreeLaws.{keeps_bind}
 use Rattle.cf_model_laws.specs.Fitting.{Fits, IsCopied, IsVacant, NamesWell, IsUnaimed, Meets}
 use Rattle.cf_model_laws.specs.Invariant.{HasEntry, InOrder, IsRight, IsSound, SameBase, waits_on, target_in}
 use Rattle.cf_model_laws.specs.Premises.{IsFair}
-use Rattle.cf_model_laws.specs.Taken.{IsNamedBy, IsSeenBy}
+use Rattle.cf_model_laws.specs.Taken.{IsNamedBy, IsSeenBy, LosesTold}
 use Rattle.cf_model_laws.proofs.EntryLaws.{dir_identity, dir_none, entry_dir_well, file_wants, make_fits, none_none, entry_small, entry_target_in, target_read, entry_populates}
 use Rattle.cf_model_laws.proofs.FitEntries.{kind_stays}
 use Rattle.cf_model_laws.proofs.FitItems.{each_append, each_changed, each_made}
@@ -44,7 +44,7 @@ use Rattle.cf_model_laws.proofs.Gathered.{each_all, each_any, each_both, each_we
 use Rattle.cf_model_laws.proofs.Guarded.{KeepsPlaced, StandsAtPath}
 use Rattle.cf_model_laws.proofs.RightItems.{both_none, fits_meets, no_way, no_way_back, same_based, same_none, untargeted_same}
 use Rattle.cf_model_laws.proofs.SeenPaths.{led_unnamed, sees_still}
-use Rattle.cf_model_laws.proofs.SkipsGuarded.{Framing, Led, Skipping, Whichever, and_then_at, any_frame, and_then_keeps, fewer_changes, framed, item_frame, keeps_first, keeps_into, only_if_at, try_change_at, try_clear_name_keeps, try_mark_now_at, try_seen_at}
+use Rattle.cf_model_laws.proofs.SkipsGuarded.{FitsAnd, Framing, Led, Skipping, Whichever, and_then_at, any_frame, and_then_keeps, fewer_changes, framed, item_frame, keeps_first, keeps_into, only_if_at, try_change_at, try_clear_name_keeps, try_mark_now_at, try_seen_at}
 use Rattle.cf_model_laws.proofs.SoundSettles.{each_found, found_below, left_true, not_true, right_true, same_item}
 use Rattle.cf_model_laws.proofs.AimedTargets.{HasTarget, below_root, converted_target, newly_aimed, each_copied, unaimed_kept, unaimed_none}
 use Rattle.cf_model_laws.proofs.MoveChanges.{IsMove, SeatAt, UnaimedAt, is_move, seat_frame, unaimed_frame}
@@ -91,18 +91,28 @@ untarget_fits l w es P feeds i s h same fair = (
   (inl (no_target i.identity), inr (no_entry l w es P feeds i.id s h fair, unaimed_none (items_now s) (target_in (untargeted i.identity)) (no_target i.identity))),
 )
 
-untarget_at : {On : Entry → Type 0} (l : Link) (w : Filter) (es : List QueueEntry) (P : State → Type 0) → Feeds On l w es P → (i : Item) (s : State) → P s → (IsFair s.link → item_of (items_now s) i.id ≡ Some i) → Keeps P (untarget i s)
-untarget_at l w es P feeds i s h there = by i.in_sync where
-  now : (IsFair s.link → Each i.id (λ j. j.identity ≡ i.identity) (items_now s))
-  now fair = each_found i.id (λ j. j.identity ≡ i.identity) 0 s.filter.volume.next_item.0 (items_now s) i (feeds.steps.sound s h fair).now.order (there fair) refl
+-- the items of this id are alike, and have no target or that of an entry
+abbrev Untold : (Entry → Type 0) → Item → Item → Type 0
+Untold On i j = (j.identity ≡ i.identity) × LosesTold On j
+
+untarget_at : {On : Entry → Type 0} (l : Link) (w : Filter) (es : List QueueEntry) (P : State → Type 0) → Feeds On l w es P → (i : Item) (s : State) → P s → LosesTold On i → (IsFair s.link → item_of (items_now s) i.id ≡ Some i) → Keeps P (untarget i s)
+untarget_at {On} l w es P feeds i s h lost there = by i.in_sync where
+  now : IsFair s.link → Each i.id (Untold On i) (items_now s)
+  now fair = each_found i.id (Untold On i) 0 s.filter.volume.next_item.0 (items_now s) i (feeds.steps.sound s h fair).now.order (there fair) (refl, lost)
+
+  fits : (t : State) → P t → (IsFair t.link → Each i.id (Untold On i) (items_now t)) → FitsAnd On (change.Rebase i.id (untargeted i.identity) (base_of i) no_usn) t
+  fits t j same fair = (
+    untarget_fits l w es P feeds i t j (λ z. each_weaker i.id (Untold On i) (λ k. k.identity ≡ i.identity) (λ k u. u.0) (items_now t) (same z)) fair,
+    each_weaker i.id (Untold On i) (λ k. ((target_of k).0 ≡ (target_in (untargeted i.identity)).0) ⊎ LosesTold On k) (λ k u. inr u.1) (items_now t) (same fair),
+  )
 
   by : (b : Bool) → Keeps P (and_then (only_if b (try_change (change.Clear i.id))) (try_change (change.Rebase i.id (untargeted i.identity) (base_of i) no_usn)) s)
   by true =
-      and_then_at (IsNamedBy _ _) P feeds.steps (change.Clear i.id) (try_change (change.Rebase i.id (untargeted i.identity) (base_of i) no_usn)) s tt (λ id k. k) (λ fair. tt) h
+      and_then_at (IsNamedBy _ _) P feeds.steps (change.Clear i.id) (try_change (change.Rebase i.id (untargeted i.identity) (base_of i) no_usn)) s tt (λ id k. k) (λ fair. (tt, tt)) h
       (λ t j led. try_change_at (IsNamedBy _ _) P feeds.steps (change.Rebase i.id (untargeted i.identity) (base_of i) no_usn) t (inl (no_target i.identity)) (λ id k. k)
-      (untarget_fits l w es P feeds i t j (λ fair. subst (λ (is : List Item). Each i.id (λ k. k.identity ≡ i.identity) is) (sym led.after.items)
-      (each_changed i.id i.id _ (λ k. Unit {0}) (λ k. k.identity ≡ i.identity) (λ k. k.identity ≡ i.identity) (λ k. refl) (λ k _ e. e) (λ k e. e) (items_now s) (each_any i.id (λ k. Unit {0}) (λ k. tt) (items_now s)) (now (subst IsFair led.link fair))))) j)
-  by false = try_change_at (IsNamedBy _ _) P feeds.steps (change.Rebase i.id (untargeted i.identity) (base_of i) no_usn) s (inl (no_target i.identity)) (λ id k. k) (untarget_fits l w es P feeds i s h now) h
+      (fits t j (λ fair. subst (λ (is : List Item). Each i.id (Untold On i) is) (sym led.after.items)
+      (each_changed i.id i.id _ (λ k. Unit {0}) (Untold On i) (Untold On i) (λ k. refl) (λ k _ e. e) (λ k e. e) (items_now s) (each_any i.id (λ k. Unit {0}) (λ k. tt) (items_now s)) (now (subst IsFair led.link fair))))) j)
+  by false = try_change_at (IsNamedBy _ _) P feeds.steps (change.Rebase i.id (untargeted i.identity) (base_of i) no_usn) s (inl (no_target i.identity)) (λ id k. k) (fits s h now) h
 
 none_there : {A : Type 0} (xs : List A) → not (not (is_empty xs)) ≡ true → xs ≡ []
 none_there [] e = refl
@@ -114,11 +124,12 @@ vacant_item s i e = by i.directory e where
   by true e = (λ z. no_way_back z, λ z. none_there (children (items_now s) i.id) e)
   by false e = (λ z. none_there i.writes e, λ z. no_way z)
 
-pub gone_at : {On : Entry → Type 0} (l : Link) (w : Filter) (es : List QueueEntry) (P : State → Type 0) → Feeds On l w es P → (i : Item) (s : State) → (i.id.0 ≡ 1 → ⊥) → P s → (IsFair s.link → item_of (items_now s) i.id ≡ Some i) → Keeps P (gone i s)
-gone_at l w es P feeds i s below h there = by (in_use s i.id) refl where
+pub gone_at : {On : Entry → Type 0} (l : Link) (w : Filter) (es : List QueueEntry) (P : State → Type 0) → Feeds On l w es P → (i : Item) (s : State) → (i.id.0 ≡ 1 → ⊥) → LosesTold On i → P s → (IsFair s.link → item_of (items_now s) i.id ≡ Some i) → Keeps P (gone i s)
+gone_at {On} l w es P feeds i s below lost h there = by (in_use s i.id) refl where
   steps : (b : Bool) → is_removable s i ≡ b → in_use s i.id ≡ false → Keeps P (remove_or_untarget i b s)
-  steps true q idle = try_change_at (IsNamedBy _ _) P feeds.steps (change.Remove i.id) s tt (λ id k. k) (λ fair. (idle, each_found i.id (IsVacant (items_now s)) 0 s.filter.volume.next_item.0 (items_now s) i (feeds.steps.sound s h fair).now.order (there fair) (vacant_item s i q), inl below)) h
-  steps false q idle = untarget_at l w es P feeds i s h there
+  steps true q idle = try_change_at (IsNamedBy _ _) P feeds.steps (change.Remove i.id) s tt (λ id k. k) (λ fair. let order = (feeds.steps.sound s h fair).now.order in
+      ((idle, each_found i.id (IsVacant (items_now s)) 0 s.filter.volume.next_item.0 (items_now s) i order (there fair) (vacant_item s i q), inl below), each_found i.id (LosesTold On) 0 s.filter.volume.next_item.0 (items_now s) i order (there fair) lost)) h
+  steps false q idle = untarget_at l w es P feeds i s h lost there
 
   by : (b : Bool) → in_use s i.id ≡ b → Keeps P (gone_unless i b s)
   by true q = h
@@ -183,13 +194,13 @@ adopt_in {On} l w es P feeds e i told dir dirs s bare new h = by i.placeholder
         )
 
     rest : (t : State) → P t → (IsFair t.link → Each i.id (HasTarget 0) (items_now t)) → UnaimedAt e.rid t → Keeps P (and_then (try_change (change.Rebase i.id (entry_identity e) 0 no_usn)) (and_then (try_seen (seen_entry i.id e)) (try_mark_now i.id)) t)
-    rest t j empty new = and_then_at (IsNamedBy _ _) P feeds.steps (change.Rebase i.id (entry_identity e) 0 no_usn) (and_then (try_seen (seen_entry i.id e)) (try_mark_now i.id)) t (inr (e, told.on, refl)) (λ id k. k) (rebase_fits t j new) j
+    rest t j empty new = and_then_at (IsNamedBy _ _) P feeds.steps (change.Rebase i.id (entry_identity e) 0 no_usn) (and_then (try_seen (seen_entry i.id e)) (try_mark_now i.id)) t (inr (e, told.on, refl)) (λ id k. k) (λ fair. (rebase_fits t j new fair, each_weaker i.id (HasTarget 0) (λ k. ((target_of k).0 ≡ (target_in (entry_identity e)).0) ⊎ LosesTold On k) (λ k z. inr (inl z)) (items_now t) (empty fair))) j
         (λ u k led. seen_and_marked l w es P feeds (seen_entry i.id e) u (λ fair item m. absurd (led_unnamed (change.Rebase i.id (entry_identity e) 0 no_usn) t u (λ z. z) led item m)) (adopted t u led j empty) k)
 
     by : (b : Bool) → Keeps P (and_then (only_if (not b) (try_change (change.Convert i.id no_identity))) (and_then (try_change (change.Rebase i.id (entry_identity e) 0 no_usn)) (and_then (try_seen (seen_entry i.id e)) (try_mark_now i.id))) s)
     by true = rest s h bare new
     by false =
-        and_then_at (IsNamedBy _ _) P feeds.steps (change.Convert i.id no_identity) (and_then (try_change (change.Rebase i.id (entry_identity e) 0 no_usn)) (and_then (try_seen (seen_entry i.id e)) (try_mark_now i.id))) s refl (λ id k. k) (λ fair. (convert_fits s h fair, bare fair)) h
+        and_then_at (IsNamedBy _ _) P feeds.steps (change.Convert i.id no_identity) (and_then (try_change (change.Rebase i.id (entry_identity e) 0 no_usn)) (and_then (try_seen (seen_entry i.id e)) (try_mark_now i.id))) s refl (λ id k. k) (λ fair. ((convert_fits s h fair, bare fair), tt)) h
         (λ t j led. rest t j
         (λ fair. subst (Each i.id (HasTarget 0)) (sym led.after.items)
         (each_made i.id (converted no_identity (next_number s.filter.volume)) (HasTarget 0) (HasTarget 0) (λ k z. converted_target (next_number s.filter.volume) k z ∙ z) (items_now s) (bare (subst IsFair led.link fair))))
@@ -228,7 +239,7 @@ make_after_at {On} l w es P feeds e p s told some parent new seat h =
     and_then_at (IsNamedBy _ _) P feeds.steps (make_of s e p) (and_then (try_seen (seen_entry s.filter.volume.next_item e)) (try_mark_now s.filter.volume.next_item)) s (inr (e, told.on, refl)) (λ id k. k)
     (λ fair. let has : HasEntry s.link.remote e = subst (λ (k : Link). HasEntry k.remote e) (sym (feeds.fed s h).link) (told.has (fair_now l w es s (feeds.fed s h) fair)) in
     let m = make_fits s.link.remote s.filter.policy e fair.1 has told.low in
-    ((refl, m.0, m.1), (none_made l w es P feeds (entry_identity e) s h fair, subst (λ (x : Rid). IsUnaimed (items_now s) x) (sym (entry_target_in e (entry_small s.link.remote e fair.1 has))) (new fair)), inl (seat fair), entry_populates s.filter.policy e)) h
+    (((refl, m.0, m.1), (none_made l w es P feeds (entry_identity e) s h fair, subst (λ (x : Rid). IsUnaimed (items_now s) x) (sym (entry_target_in e (entry_small s.link.remote e fair.1 has))) (new fair)), inl (seat fair), entry_populates s.filter.policy e), tt)) h
     (λ t j led. seen_and_marked l w es P feeds (seen_entry s.filter.volume.next_item e) t
     (λ fair item m. sees_still (seen_entry s.filter.volume.next_item e) (items_now t) (book_now t) item
     (λ own. subst (λ (x : ItemId). StandsAtPath (items_now t) x (seen_entry s.filter.volume.next_item e)) (same_item s.filter.volume.next_item item (eqb-true s.filter.volume.next_item.0 item.0 own)) (stands t led (subst IsFair led.link fair)))) (made_seen t led) j) where
@@ -309,30 +320,34 @@ clean_writes (w ∷ ws) e = no_way_back e
 -- the newer version takes the place of the file's bytes
 take_in : {On : Entry → Type 0} (l : Link) (w : Filter) (es : List QueueEntry) (P : State → Type 0) → Feeds On l w es P → (e : Entry) (i : Item) → IsTold On l e → e.dir ≡ false → i.directory ≡ false → (IsFair l → waits_on i.id w.waiting.waits ≡ false) → (IsFair l → is_used i.id w ≡ false) → ((s : State) → P s → FilesAt i.id s)
     → (s : State) → P s → (IsFair s.link → Each i.id (HasTarget e.rid.0) (items_now s)) → (IsFair s.link → item_of (items_now s) i.id ≡ Some i) → Keeps P (and_then (only_if (is_dirty i) (copy_off i)) (try_change (change.Take i.id (entry_identity e) e.len)) s)
-take_in l w es P feeds e i told file local free idle files s h aimed there = by (is_dirty i) refl where
-  fits : (t : State) → P t → (IsFair t.link → Each i.id (HasTarget e.rid.0) (items_now t)) → (IsFair t.link → Each i.id (λ k. k.writes ≡ []) (items_now t) ⊎ IsCopied t.filter.volume.log i.id) → IsFair t.link → Fits t.link.remote t.filter (change.Take i.id (entry_identity e) e.len)
+take_in {On} l w es P feeds e i told file local free idle files s h aimed there = by (is_dirty i) refl where
+  fits : (t : State) → P t → (IsFair t.link → Each i.id (HasTarget e.rid.0) (items_now t)) → (IsFair t.link → Each i.id (λ k. k.writes ≡ []) (items_now t) ⊎ IsCopied t.filter.volume.log i.id) → FitsAnd On (change.Take i.id (entry_identity e) e.len) t
   fits t j stays clean fair =
       let fair0 : IsFair l = fair_now l w es t (feeds.fed t j) fair in
       let has : HasEntry t.link.remote e = subst (λ (k : Link). HasEntry k.remote e) (sym (feeds.fed t j).link) (told.has fair0) in
-      let wants = file_wants t.link.remote e fair.1 has told.low file in (
+      let wants = file_wants t.link.remote e fair.1 has told.low file in
+      let stay = each_weaker i.id (HasTarget e.rid.0) (λ k. (target_of k).0 ≡ (target_in (entry_identity e)).0) (λ k z. z ∙ sym (ap (λ (x : Rid). x.0) (entry_target_in e (entry_small t.link.remote e fair.1 has)))) (items_now t) (stays fair) in (
         (
-          each_weaker i.id (λ k. (k.directory ≡ false) × (k.placeholder ≡ true)) (λ k. (length (base_named t.link.remote (entry_identity e)) ≡ e.len) × NamesWell t.link.remote k.directory k.placeholder (entry_identity e))
-              (λ k d. (wants.0, subst (λ (b : Bool). NamesWell t.link.remote b k.placeholder (entry_identity e)) (sym d.0) (subst (λ (b : Bool). NamesWell t.link.remote false b (entry_identity e)) (sym d.1) wants.1))) (items_now t) (files t j fair).1,
-          no_entry l w es P feeds i.id t j fair,
-          subst (λ (v : Waiting). waits_on i.id v.waits ≡ false) (sym (feeds.fed t j).waiting) (free fair0),
-          clean fair,
-          idle_later l w es i.id t (feeds.fed t j) (idle fair0),
+          (
+            each_weaker i.id (λ k. (k.directory ≡ false) × (k.placeholder ≡ true)) (λ k. (length (base_named t.link.remote (entry_identity e)) ≡ e.len) × NamesWell t.link.remote k.directory k.placeholder (entry_identity e))
+                (λ k d. (wants.0, subst (λ (b : Bool). NamesWell t.link.remote b k.placeholder (entry_identity e)) (sym d.0) (subst (λ (b : Bool). NamesWell t.link.remote false b (entry_identity e)) (sym d.1) wants.1))) (items_now t) (files t j fair).1,
+            no_entry l w es P feeds i.id t j fair,
+            subst (λ (v : Waiting). waits_on i.id v.waits ≡ false) (sym (feeds.fed t j).waiting) (free fair0),
+            clean fair,
+            idle_later l w es i.id t (feeds.fed t j) (idle fair0),
+          ),
+          (
+            none_made l w es P feeds (entry_identity e) t j fair,
+            inl stay,
+          ),
         ),
-        (
-          none_made l w es P feeds (entry_identity e) t j fair,
-          inl (each_weaker i.id (HasTarget e.rid.0) (λ k. (target_of k).0 ≡ (target_in (entry_identity e)).0) (λ k z. z ∙ sym (ap (λ (x : Rid). x.0) (entry_target_in e (entry_small t.link.remote e fair.1 has)))) (items_now t) (stays fair)),
-        ),
+        stay,
       )
 
   by : (b : Bool) → is_dirty i ≡ b → Keeps P (and_then (only_if b (copy_off i)) (try_change (change.Take i.id (entry_identity e) e.len)) s)
   by true q =
       and_then_at (IsNamedBy _ _) P feeds.steps (change.Copy s.filter.volume.next_item i.id i.parent (conflict_name (items_now s) i.parent i.name)) (try_change (change.Take i.id (entry_identity e) e.len)) s tt (λ id k. k)
-      (λ fair. (refl, each_found i.id (λ j. (j.parent.0 ≡ i.parent.0) × (j.directory ≡ false)) 0 s.filter.volume.next_item.0 (items_now s) i (feeds.steps.sound s h fair).now.order (there fair) (refl, local))) h
+      (λ fair. ((refl, each_found i.id (λ j. (j.parent.0 ≡ i.parent.0) × (j.directory ≡ false)) 0 s.filter.volume.next_item.0 (items_now s) i (feeds.steps.sound s h fair).now.order (there fair) (refl, local)), tt)) h
       (λ t j led. try_change_at (IsNamedBy _ _) P feeds.steps (change.Take i.id (entry_identity e) e.len) t (inr (e, told.on, refl)) (λ id k. k)
       (fits t j
       (λ fair. let fair_s : IsFair s.link = subst IsFair led.link fair in

@@ -1,5 +1,5 @@
 -- What a feed keeps in `replay`.
-use Rattle.std.proofs.Common.{◌≤◌, ◌≡◌, ℕ, Bool, true, false, List, [], ◌∷◌, refl, sym, ◌∙◌, ap, subst, inl, arith, eq-eqb, inr, ◌+◌}
+use Rattle.std.proofs.Common.{◌≤◌, ◌≡◌, ℕ, Bool, true, false, List, [], ◌∷◌, refl, sym, ◌∙◌, ap, subst, inl, arith, eq-eqb, inr}
 use Rattle.std.specs.Prelude.{Option, Some, None, cond, not, filter, find, nat_lt, take, ◌&&◌, ◌||◌, ◌==◌}
 use Rattle.std.specs.List.{list_any}
 use Rattle.std.proofs.lemmas.Bool.{eqb-true}
@@ -9,7 +9,7 @@ use Rattle.cf_base.specs.declared.ids.Usn.{Usn}
 use Rattle.cf_base.specs.declared.messages.Entry.{Entry}
 use Rattle.cf_model.specs.Arrows.{Arrow, Preserves, and_then, only_if, seq, when_ok}
 use Rattle.cf_model.specs.Books.{QueueEntry, with_cursor}
-use Rattle.cf_model.specs.Changes.{change as put, next_number}
+use Rattle.cf_model.specs.Changes.{next_number}
 use Rattle.cf_model.specs.Dehydration.{in_use as is_used}
 use Rattle.cf_model.specs.Feeds.{Fed, depth_of_entry, all_released, all_turns, apply_feed, changed_entry, changed_steps, changed_unless, cursor_if, end_feed, first_turn, first_turn_by, in_turn, is_later, is_newer, is_parent, is_seen_so, is_whole, known, move_entry, parent_here, second_turn, second_turns, take_entry, take_over, take_turn, turn_by, turns, unknown, with_clock_seen, with_turn}
 use Rattle.cf_model.specs.Identities.{by_target, has_target, target_of}
@@ -18,10 +18,10 @@ use Rattle.cf_model.specs.Missing.{Wait}
 use Rattle.cf_model.specs.Numbers.{no_key, no_rid, root_rid, same_key}
 use Rattle.cf_model.specs.PushReplies.{round_closed, whatever}
 use Rattle.cf_model.specs.Requests.{Waiting, is_busy_beside}
-use Rattle.cf_model.specs.Skips.{in_book, in_use, is_cursor, skip_line, try_book, try_cursor, try_mark_now, why_no_record, with_volatile}
-use Rattle.cf_model.specs.State.{Filter, Link, State, book_now, items_now, with_filter}
+use Rattle.cf_model.specs.Skips.{in_book, in_use, is_cursor, try_book, try_cursor, try_mark_now, why_no_record, with_volatile}
+use Rattle.cf_model.specs.State.{Filter, Link, State, book_now, items_now}
 use Rattle.cf_model.specs.Store.{Held}
-use Rattle.cf_model.specs.Trees.{Asked, Ends, Fork, Keeps, Ret, Step, Tree, bind, mapped}
+use Rattle.cf_model.specs.Trees.{Asked, Ends, Fork, Keeps, Ret, Step, Tree, bind}
 use Rattle.cf_model.specs.Words.{number_of, part, sorted}
 use Rattle.cf_model.proofs.TreeLaws.{keeps_bind}
 use Rattle.cf_model_laws.specs.Invariant.{All, IsRight, version_in, waits_on}
@@ -32,7 +32,7 @@ use Rattle.cf_model_laws.proofs.Guarded.{Guarded, IsFedTo}
 use Rattle.cf_model_laws.proofs.Leading.{Leads, kept_leads, leads_bind, leads_kept, leads_weaker}
 use Rattle.cf_model_laws.proofs.PushRepliesGuarded.{each_at}
 use Rattle.cf_model_laws.proofs.RightItems.{no_way, no_way_back}
-use Rattle.cf_model_laws.proofs.SkipsGuarded.{Framing, Skipping, Unnamed, Whichever, and_then_keeps, both_frames, fewer_changes, framed, guarded_skipping, heard_skipping, keeps_first, leaves_early, only_if_at, tried_at, try_mark_now_at}
+use Rattle.cf_model_laws.proofs.SkipsGuarded.{Skipping, Unnamed, and_then_keeps, both_frames, fewer_changes, framed, guarded_skipping, heard_skipping, keeps_first, leaves_early, only_if_at, tried_at, try_mark_now_at}
 use Rattle.cf_model_laws.proofs.SoundSettles.{each_found, left_true, right_true, same_item}
 use Rattle.cf_model_laws.proofs.FeedMovesGuarded.{here_ready, move_entry_at}
 use Rattle.cf_model_laws.proofs.FeedFrames.{Feeding, feeding, Feeds, IsTold, fair_now, unmoved, moves_named}
@@ -41,12 +41,12 @@ use Rattle.cf_model_laws.proofs.MoveChanges.{IsMove, Alike, AlikeAt, SeatAt, ali
 use Rattle.cf_model_laws.specs.Seats.{IsSeated}
 use Rattle.cf_model_laws.specs.Invariant.{InOrder}
 use Rattle.cf_model_laws.proofs.AimedTargets.{unaimed_unfound}
-use Rattle.cf_base.specs.declared.codes.Code.{Code}
 use Rattle.cf_base.specs.declared.ids.Round.{Round}
 use Rattle.cf_base.specs.declared.messages.Request.{Request}
 use Rattle.cf_base.specs.declared.messages.Reply.TheVariants as reply
 use Rattle.cf_model.specs.Messages.{is_stale}
-use Rattle.cf_model_laws.specs.Taken.{Heard, IsNamedBy, IsPosted, Since, ToldAt}
+use Rattle.cf_model_laws.proofs.TombstonesGuarded.{IsShut, shut_frame}
+use Rattle.cf_model_laws.specs.Taken.{Heard, IsNamedBy, IsPosted, LosesTold, Since, ToldAt}
 
 -- an item that is not in use is not waited for
 pub not_waited : (item : ItemId) (ws : List Wait) → All (λ v. same_key v.id.0 no_key ≡ false) ws → list_any (λ v. (v.item.0 == item.0) && not (same_key v.id.0 no_key)) ws ≡ false → waits_on item ws ≡ false
@@ -182,7 +182,7 @@ changed_turn l w es P feeds e i p s told target there up h = by (is_newer i e &&
 -- all entries
 
 pub take_turn_keeps : {On : Entry → Type 0} (l : Link) (w : Filter) (es : List QueueEntry) (P : State → Type 0) → Feeds On l w es P → (e : Entry) → IsTold On l e → Preserves P (take_turn e)
-take_turn_keeps l w es P feeds e told = record { keeps = λ s h. by s h (by_target (items_now s) e.rid) (parent_here s e) refl refl } where
+take_turn_keeps {On} l w es P feeds e told = record { keeps = λ s h. by s h (by_target (items_now s) e.rid) (parent_here s e) refl refl } where
   fresh : (s : State) → P s → by_target (items_now s) e.rid ≡ None → (b : Bool) (p : Option Item) → parent_here s e ≡ p → Keeps P (unknown b e p s)
   fresh s h f true (Some p) up =
       let target : has_target p e.parent ≡ true = parent_target_of e p (items_now s) up in
@@ -193,10 +193,13 @@ take_turn_keeps l w es P feeds e told = record { keeps = λ s h. by s h (by_targ
   fresh s h f true None up = h
   fresh s h f false p up = h
 
+  lost : (s : State) (i : Item) → by_target (items_now s) e.rid ≡ Some i → LosesTold On i
+  lost s i f = inr (e, told.on, eqb-true (target_of i).0 e.rid.0 (right_true (nat_lt 0 e.rid.0) ((target_of i).0 == e.rid.0) (all_found (λ x. Unit {0}) (λ x. has_target x e.rid) (items_now s) i f (all_any (λ x. Unit {0}) (λ x. tt) (items_now s))).1))
+
   old : (s : State) → P s → (i : Item) → by_target (items_now s) e.rid ≡ Some i → (b : Bool) (p : Option Item) → parent_here s e ≡ p → Keeps P (known b e i p s)
   old s h i f true (Some p) up = changed_turn l w es P feeds e i p s told (all_found (λ x. Unit {0}) (λ x. has_target x e.rid) (items_now s) i f (all_any (λ x. Unit {0}) (λ x. tt) (items_now s))).1 (λ fair. found_again (λ x. has_target x e.rid) 0 s.filter.volume.next_item.0 (items_now s) i (feeds.steps.sound s h fair).now.order f) up h
-  old s h i f true None up = gone_at l w es P feeds i s (target_low e i told.low (all_found (λ x. Unit {0}) (λ x. has_target x e.rid) (items_now s) i f (all_any (λ x. Unit {0}) (λ x. tt) (items_now s))).1) h (λ fair. found_again (λ x. has_target x e.rid) 0 s.filter.volume.next_item.0 (items_now s) i (feeds.steps.sound s h fair).now.order f)
-  old s h i f false p up = gone_at l w es P feeds i s (target_low e i told.low (all_found (λ x. Unit {0}) (λ x. has_target x e.rid) (items_now s) i f (all_any (λ x. Unit {0}) (λ x. tt) (items_now s))).1) h (λ fair. found_again (λ x. has_target x e.rid) 0 s.filter.volume.next_item.0 (items_now s) i (feeds.steps.sound s h fair).now.order f)
+  old s h i f true None up = gone_at l w es P feeds i s (target_low e i told.low (all_found (λ x. Unit {0}) (λ x. has_target x e.rid) (items_now s) i f (all_any (λ x. Unit {0}) (λ x. tt) (items_now s))).1) (lost s i f) h (λ fair. found_again (λ x. has_target x e.rid) 0 s.filter.volume.next_item.0 (items_now s) i (feeds.steps.sound s h fair).now.order f)
+  old s h i f false p up = gone_at l w es P feeds i s (target_low e i told.low (all_found (λ x. Unit {0}) (λ x. has_target x e.rid) (items_now s) i f (all_any (λ x. Unit {0}) (λ x. tt) (items_now s))).1) (lost s i f) h (λ fair. found_again (λ x. has_target x e.rid) 0 s.filter.volume.next_item.0 (items_now s) i (feeds.steps.sound s h fair).now.order f)
 
   by : (s : State) → P s → (o p : Option Item) → by_target (items_now s) e.rid ≡ o → parent_here s e ≡ p → Keeps P (turn_by e o p s)
   by s h None p f up = fresh s h f e.live p up
@@ -258,21 +261,6 @@ keeps_ends P Q less (Step s p) g h k = (less s h.0, keeps_ends P Q less p g h.1 
 keeps_ends P Q less (Fork p q) g h k = (keeps_ends P Q less p g h.0 (λ a s j e. k a s j (inl e)), keeps_ends P Q less q g h.1 (λ a s j e. k a s j (inr e)))
 keeps_ends P Q less (Asked f) g h k = λ x. keeps_ends P Q less (f x) g (h x) (λ a s j e. k a s j (x, e))
 
-abbrev IsClosed : State → Type 0
-IsClosed s = s.volatile.round_open ≡ false
-
-closed_frame : Framing Whichever IsClosed
-closed_frame = record { change = λ c s ok fit h. stays (put c s.filter) s h; books = λ f s keeps cursor h. h; skips = λ c s h. line s.running.shows_skips c (record s { running = record s.running { skips = s.running.skips + 1 } }) h } where
-  stays : (p : Tree Filter (Unit {0})) (s : State) → IsClosed s → Keeps IsClosed (mapped (λ x. with_filter x s) p)
-  stays (Ret a x) s h = h
-  stays (Step x p) s h = (h, stays p s h)
-  stays (Fork p q) s h = (stays p s h, stays q s h)
-  stays (Asked k) s h = λ x. stays (k x) s h
-
-  line : (b : Bool) (c : Code) (s : State) → IsClosed s → IsClosed (skip_line b c s)
-  line true c s h = h
-  line false c s h = h
-
 -- A feed that counts, while no upload is on its way. Its round is closed first.
 pub apply_feed_at : (P : State → Type 0) → Guarded P → (m : ℕ) (q : Request) (round : Round) (clock : ℕ) (list : List Entry) (s : State) → is_stale q (reply.Feed round clock list) s ≡ false → (IsFair s.link → ToldAt s m q (reply.Feed round clock list))
     → IsPosted s m (reply.Feed round clock list) → (IsFair s.link → (book_now s).entries ≡ []) → (IsFair s.link → clock ≤ s.link.remote.clock) → All (IsTold (Heard true s) s.link) list → P s → Keeps P (apply_feed clock list s)
@@ -284,13 +272,13 @@ apply_feed_at P closed m q round clock list s counts heard posted none early tol
       first = with_volatile round_closed s
 
       Fed_ : State → Type 0
-      Fed_ t = P t × (Feeding s.link s.filter (book_now s).entries t × IsClosed t)
+      Fed_ t = P t × (Feeding s.link s.filter (book_now s).entries t × IsShut t)
 
-      known : (t : State) → P t → Feeding s.link s.filter (book_now s).entries t × IsClosed t → (e : Entry) → Heard true s e → Since P t.link true (book_now t).cursor e
+      known : (t : State) → P t → Feeding s.link s.filter (book_now s).entries t × IsShut t → (e : Entry) → Heard true s e → Since P t.link true (book_now t).cursor e
       known t j k e on = (s, h, on, k.0.link, k.0.cursor)
 
       steps : Skipping (Heard true s) (IsNamedBy (Heard true s) (Heard true s)) Fed_
-      steps = heard_skipping P (λ t. Feeding s.link s.filter (book_now s).entries t × IsClosed t) (Heard true s) closed (both_frames (Feeding s.link s.filter (book_now s).entries) IsClosed (feeding s.link s.filter (book_now s).entries) closed_frame) known
+      steps = heard_skipping P (λ t. Feeding s.link s.filter (book_now s).entries t × IsShut t) (Heard true s) closed (both_frames (Feeding s.link s.filter (book_now s).entries) IsShut (feeding s.link s.filter (book_now s).entries) shut_frame) known (λ t k. k.1)
 
       done : (f : Fed) (t : State) → Fed_ t → Ends (all_turns list first) f t → is_whole first.running.skips f (with_clock_seen clock (with_volatile all_released t)) ≡ true → IsFair t.link → IsFedTo P clock (with_clock_seen clock (with_volatile all_released t))
       done f t j e whole fair = record {

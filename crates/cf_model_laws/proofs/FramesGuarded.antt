@@ -161,7 +161,7 @@ more n = omega arith
 pub guarded_framed : (Used : Type 0) (id : ItemId) (R : Bool → Bool → Type 0) → ((d p : Bool) → R d p → R d true) → (es : List QueueEntry) (P : State → Type 0) → Guarded P → Guarded (λ s. P s × FrameIn Used id R es s)
 guarded_framed Used id R k es P closed = record {
   replay = λ s h. closed.replay s h.0;
-  on_filter = λ s h. filter_framed Used id R k es s.link s.volatile.tokens (λ x. P (with_filter x s)) (on_filter_weaker P (λ t. P t × FrameIn Used id R es t) (λ t k. k.0) s.link s.volatile.tokens _ (closed.on_filter s h.0));
+  on_filter = λ s h. filter_framed Used id R k es s.link s.volatile.tokens (λ x. P (with_filter x s)) (on_filter_weaker P (λ t. P t × FrameIn Used id R es t) (λ t k. k.0) s _ (closed.on_filter s h.0));
   keeps_counted = λ s h. (closed.keeps_counted s h.0, h.1);
   asked = λ q s well h. (closed.asked q s well h.0, (λ u fair. h.1.0 u (fair.0, small_before s.link.remote q fair.1), λ fair. h.1.1 (fair.0, small_before s.link.remote q fair.1)));
   told = λ held s h. (closed.told held s h.0, (λ u fair. no_way fair.0, λ fair. no_way fair.0));

@@ -8,9 +8,11 @@ use Rattle.cf_base.specs.declared.codes.Code.{Code}
 use Rattle.cf_base.specs.declared.ids.Handle.{Handle}
 use Rattle.cf_base.specs.declared.ids.ItemId.{ItemId}
 use Rattle.cf_base.specs.declared.ids.Key.{Key}
+use Rattle.cf_base.specs.declared.ids.Rid.{Rid}
 use Rattle.cf_base.specs.declared.ids.Round.{Round}
 use Rattle.cf_base.specs.declared.ids.Token.{Token}
 use Rattle.cf_base.specs.declared.ids.Usn.{Usn}
+use Rattle.cf_base.specs.declared.ids.Version.{Version}
 use Rattle.cf_base.specs.declared.items.SeenPath.{SeenPath}
 use Rattle.cf_base.specs.declared.messages.Entry.{Entry}
 use Rattle.cf_base.specs.declared.messages.Reply.{Reply}
@@ -24,37 +26,37 @@ use Rattle.cf_base.specs.declared.waits.Ask.{Ask}
 use Rattle.cf_base.specs.declared.waits.Cause.{Cause}
 use Rattle.cf_base.specs.declared.waits.Cause.TheVariants as cause
 use Rattle.cf_model.specs.Arrows.{Preserves, reading, then_do}
-use Rattle.cf_model.specs.Books.{Book, MoveItem, QueueEntry, book_after, entry_of, with_cursor, with_entry, with_seen, without_entry}
+use Rattle.cf_model.specs.Books.{Book, MoveItem, QueueEntry, RemoveItem, Tombstone, book_after, entry_of, with_cursor, with_entry, with_seen, with_tombstone, without_entry, without_tombstone}
 use Rattle.cf_model.specs.Callbacks.{begin_call, with_outbox}
-use Rattle.cf_model.specs.Calls.{with_handle, with_policy}
+use Rattle.cf_model.specs.Calls.{tombstone_for, with_handle, with_policy}
 use Rattle.cf_model.specs.Changes.{change_with, next_number}
 use Rattle.cf_model.specs.Dehydration.{in_use}
 use Rattle.cf_model.specs.EngineEvents.{with_inline}
 use Rattle.cf_model.specs.Feeds.{Fed, all_released, all_turns, is_whole, with_clock_seen}
-use Rattle.cf_model.specs.Identities.{stands_at_path}
-use Rattle.cf_model.specs.Items.{Item, item_of}
+use Rattle.cf_model.specs.Identities.{stands_at_path, target_of}
+use Rattle.cf_model.specs.Items.{Item, is_dirty, item_of}
 use Rattle.cf_model.specs.Logs.{next_by}
 use Rattle.cf_model.specs.Messages.{counted, distrusted, fault_line, is_stale, with_lost, with_message, with_remote}
 use Rattle.cf_model.specs.Operations.{as_it_is, done}
 use Rattle.cf_model.specs.Passes.{showing, with_round, without_done}
 use Rattle.cf_model.specs.Peers.{with_stray, with_token_used}
 use Rattle.cf_model.specs.Points.{commit}
-use Rattle.cf_model.specs.PushReplies.{entry_seen, held_and_closed, not_in_row, round_closed, taken_from_row, with_done, with_not_empty, with_taken_name}
+use Rattle.cf_model.specs.PushReplies.{entry_seen, held_and_closed, is_new_entry, not_in_row, round_closed, taken_from_row, tombstone_left, was_directory, with_done, with_not_empty, with_taken_name}
 use Rattle.cf_model.specs.Pushes.{with_token}
 use Rattle.cf_model.specs.Requests.{Deed, Expires, Fails, Finishes, Leaves, Live, Nothing, is_dehydrate_wait, is_list, is_list_wait, live_of}
 use Rattle.cf_model.specs.Settling.{accessed, settle, tell}
 use Rattle.cf_model.specs.Skips.{skipped, with_book, with_volatile}
 use Rattle.cf_model.specs.State.{Filter, Link, State, book_now, in_volume, is_replay, items_now, with_filter}
-use Rattle.cf_model.specs.Store.{Held, remote_step}
+use Rattle.cf_model.specs.Store.{Held, RecordedDone, recorded_at, remote_step}
 use Rattle.cf_model.specs.Trees.{Ends, Keeps}
 use Rattle.cf_model.specs.Waits.{Need, accessed_now, all_down, begin_now, begun, connected_again, disconnected, is_met_now, with_time, without_handle}
 use Rattle.cf_model_laws.specs.Fitting.{Fits, IsLeaf, IsNaming, Touches}
 use Rattle.cf_model_laws.specs.GivenOnce.{WasGiven}
-use Rattle.cf_model_laws.specs.Invariant.{All, IsSound, message_in}
+use Rattle.cf_model_laws.specs.Invariant.{All, Among, IsSound, message_in}
 use Rattle.cf_model_laws.specs.Marks.{IsMadeLast, IsMarkedLast, IsUnseen, StandsAtSeen}
 use Rattle.cf_model_laws.specs.Premises.{IsFair}
 use Rattle.cf_model_laws.specs.Seats.{IsSeated, NeedsWell}
-use Rattle.cf_model_laws.specs.Taken.{AnswersNow, IsChangeBy, IsPosted, IsSeenBy, Knowledge, Since, ToldAt}
+use Rattle.cf_model_laws.specs.Taken.{AnswersNow, IsChangeBy, IsPosted, IsSeenBy, Known, Knowledge, Since, ToldAt}
 use Rattle.cf_model_laws.proofs.SoundBooks.{EnteredWell}
 use Rattle.cf_model_laws.proofs.SoundChanges.{KeepsEntries}
 use Rattle.cf_model_laws.proofs.SoundLinks.{AskedWell, PostedWell}
@@ -99,6 +101,17 @@ StandsAtPath items item p = (i : Item) × (item_of items item ≡ Some i) × (st
 -- what is uploaded of an item's place is where it stands
 abbrev pub MovesThere : State → QueueEntry → Type 0
 MovesThere s e = e.action ≡ MoveItem → StandsAtPath (items_now s) e.item (entry_seen e)
+
+-- A removal is of a tombstone, under its number; a new item has no target, or is a directory with local writes, and the upload has its number.
+abbrev pub EntersThere : State → QueueEntry → Type 0
+EntersThere s e =
+    (e.action ≡ RemoveItem → (t : Tombstone) × Among t (book_now s).tombstones × (t.number ≡ e.number) × (t.rid.0 ≡ e.rid.0))
+    × (is_new_entry e ≡ true → (i : Item) × (item_of (items_now s) e.item ≡ Some i) × (i.number ≡ e.number) × (((target_of i).0 ≡ 0) ⊎ ((i.directory ≡ true) × (is_dirty i ≡ true))))
+
+-- The item that is removed has no target, or a tombstone of it comes under the number of the change.
+abbrev pub Buries : (Book → Book) → ItemId → Filter → Type 0
+Buries f item x =
+    (i : Item) × (item_of x.volume.items item ≡ Some i) × ((((target_of i).0 ≡ 0) × ((b : Book) → f b ≡ b)) ⊎ ((b : Book) → f b ≡ with_tombstone (tombstone_for i (next_number x.volume)) b))
 
 -- a Done of a Move is taken, and its path is seen
 abbrev pub after_move : QueueEntry → State → State
@@ -208,15 +221,38 @@ pub record IsFedTo (P : State → Type 0) (clock : ℕ) (s : State) : Type 0 whe
   pub same : s ≡ with_clock_seen clock (with_volatile all_released turned)
   pub whole : is_whole first.running.skips fed s ≡ true
 
+-- The upload that was live in an earlier state was taken from the book; the link and the items are as they were.
+abbrev pub IsTakenBy : (State → Type 0) → QueueEntry → State → Type 0
+IsTakenBy P e s = (t : State) × P t × (entry_of (book_now t) e.token ≡ Some e) × (s.link ≡ t.link) × (items_now s ≡ items_now t) × (book_now s ≡ without_entry e.token (book_now t))
+
+-- the remote recorded the upload as done
+abbrev pub IsDoneAt : State → QueueEntry → Rid → Version → Type 0
+IsDoneAt s e rid version = recorded_at s.link.remote.tokens e.token ≡ Some (RecordedDone rid version)
+
+-- A tombstone comes of a new item that is gone when its upload is done.
+abbrev pub BuriesNew : (State → Type 0) → (Book → Book) → State → Type 0
+BuriesNew P f s =
+    (e : QueueEntry) × IsTakenBy P e s × (is_new_entry e ≡ true) × (item_of (items_now s) e.item ≡ None) × (rid : Rid) × (version : Version) × IsDoneAt s e rid version × ((b : Book) → f b ≡ with_tombstone (tombstone_left e rid version) b)
+
+-- Once the round is closed a tombstone goes: the cursor is 0, or it was a file's and its removal was done.
+abbrev pub Unburies : (State → Type 0) → (Book → Book) → State → Type 0
+Unburies P f s =
+    (number : Usn) × ((b : Book) → f b ≡ without_tombstone number b) × (s.volatile.round_open ≡ false)
+    × (((book_now s).cursor ≡ 0) ⊎ ((e : QueueEntry) × IsTakenBy P e s × (e.action ≡ RemoveItem) × (e.number ≡ number) × (rid : Rid) × (version : Version) × IsDoneAt s e rid version × (was_directory e s ≡ false)))
+
+-- what a record does to the tombstones
+abbrev pub BuriesBy : (State → Type 0) → (Book → Book) → State → Type 0
+BuriesBy P f s = ((b : Book) → (f b).tombstones ≡ b.tombstones) ⊎ BuriesNew P f s ⊎ Unburies P f s
+
 -- a Done that counted in an earlier state is of the item of the upload
 abbrev pub IsMovedBy : (State → Type 0) → QueueEntry → State → Type 0
 IsMovedBy P e s = (d : Entry) × Since P s.link true (book_now s).cursor d × (d.rid.0 ≡ e.rid.0)
 
--- What a record of the book does: it leaves the paths seen and the cursor; the path of an entry that was told comes to be seen; once the
+-- What a record of the book does: it leaves the paths seen and the cursor, and tombstones may come or go; the path of an entry that was told comes to be seen; once the
 -- round is closed, the cursor goes back to 0; or a feed that was taken is done, and the cursor comes to be its clock.
 abbrev pub IsRecordBy : (State → Type 0) → (Book → Book) → State → Type 0
 IsRecordBy P f s =
-    (((b : Book) → (f b).seen ≡ b.seen) × KeepsCursor f)
+    (((b : Book) → (f b).seen ≡ b.seen) × KeepsCursor f × BuriesBy P f s)
     ⊎ ((p : SeenPath) × ((b : Book) → f b ≡ with_seen p b) × IsSeenBy (Since P s.link true (book_now s).cursor) (items_now s) p)
     ⊎ (((b : Book) → f b ≡ with_cursor 0 b) × (s.volatile.round_open ≡ false))
     ⊎ ((clock : ℕ) × ((b : Book) → f b ≡ with_cursor clock b) × IsFedTo P clock s)
@@ -224,7 +260,7 @@ IsRecordBy P f s =
 -- of the whole
 pub record Guarded (P : State → Type 0) : Type 0 where
   pub replay : (s : State) → P s → is_replay s.mode ≡ true
-  pub on_filter : (s : State) → P s → GuardedFilter (Since P s.link) s.link s.volatile.tokens (λ x. P (with_filter x s))
+  pub on_filter : (s : State) → P s → GuardedFilter (Known P s) s.link s.volatile.tokens (λ x. P (with_filter x s))
   pub keeps_counted : (s : State) → P s → P (counted s)
   pub asked : (q : Request) (s : State) → (IsFair s.link → AskedIn s q) → P s → P (with_remote (remote_step s.link.remote q).1 (counted s))
   pub told : (held : Held) (s : State) → P s → P (distrusted (with_remote held (counted s)))
@@ -254,7 +290,7 @@ pub record Guarded (P : State → Type 0) : Type 0 where
 
 -- and by a removal that an application asks for
 pub record Deleting (P : State → Type 0) : Type 0 where
-  pub deletes : (f : Book → Book) (item : ItemId) (s : State) → KeepsEntries f → ((b : Book) → (f b).seen ≡ b.seen) → KeepsCursor f → in_use item s.filter ≡ false → (IsFair s.link → IsLeaf (items_now s) item) → P s
+  pub deletes : (f : Book → Book) (item : ItemId) (s : State) → KeepsEntries f → ((b : Book) → (f b).seen ≡ b.seen) → KeepsCursor f → in_use item s.filter ≡ false → (IsFair s.link → IsLeaf (items_now s) item × Buries f item s.filter) → P s
       → Keeps (λ x. P (with_filter x s)) (change_with f (change.Remove item) s.filter)
 
 -- and by a policy that an application sets
@@ -271,6 +307,13 @@ pub record Commanding (P : State → Type 0) : Type 0 where
   pub disconnects : (s : State) → P s → P (with_filter (disconnected s.filter) s)
   pub inlines : (inline : Bool) (s : State) → P s → P (with_inline inline s)
 
--- and by an upload that is entered
-pub record Entering (P : State → Type 0) : Type 0 where
-  pub enters : (e : QueueEntry) (s : State) → (IsFair s.link → EnteredIn s e × MovesThere s e) → P s → P (with_book (with_entry e) s)
+-- and by an upload that is entered, of which so much is known
+pub record EnteringBy (Q : State → QueueEntry → Type 0) (P : State → Type 0) : Type 0 where
+  pub enters : (e : QueueEntry) (s : State) → (IsFair s.link → EnteredIn s e × MovesThere s e × Q s e) → P s → P (with_book (with_entry e) s)
+
+abbrev pub Entering : (State → Type 0) → Type 0
+Entering P = EnteringBy EntersThere P
+
+-- what keeps it of any upload
+abbrev pub EnteringAny : (State → Type 0) → Type 0
+EnteringAny P = EnteringBy (λ s e. Unit {0}) P

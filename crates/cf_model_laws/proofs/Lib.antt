@@ -60,6 +60,7 @@ pub mod SoundSettles
 pub mod SoundStates
 pub mod SparedBytes
 pub mod StepsGuarded
+pub mod TombstonesGuarded
 pub mod UploadsGuarded
 pub mod UseLaws
 pub mod WaitsGuarded

@@ -184,7 +184,7 @@ entered_placed e s there h =
 guarded_placed : (P : State → Type 0) → Guarded P → Guarded (λ s. P s × PlacedIn s)
 guarded_placed P closed = record {
   replay = λ s h. closed.replay s h.0;
-  on_filter = λ s h. filter_placed s.link s.volatile.tokens (λ x. P (with_filter x s)) (on_filter_weaker P (λ t. P t × PlacedIn t) (λ t k. k.0) s.link s.volatile.tokens _ (closed.on_filter s h.0));
+  on_filter = λ s h. filter_placed s.link s.volatile.tokens (λ x. P (with_filter x s)) (on_filter_weaker P (λ t. P t × PlacedIn t) (λ t k. k.0) s _ (closed.on_filter s h.0));
   keeps_counted = λ s h. (closed.keeps_counted s h.0, h.1);
   asked = λ q s well h. (closed.asked q s well h.0, λ fair. h.1 (fair.0, small_before s.link.remote q fair.1));
   told = λ held s h. (closed.told held s h.0, λ fair. no_way fair.0);

@@ -1,7 +1,7 @@
 -- Messages, and what their replies do, in `replay`.
 use Rattle.std.proofs.Common.{eq-eqb}
 use Rattle.std.proofs.Common.{is_some, ◌≡◌, ◌+◌, ℕ, zero, suc, Bool, true, false, List, [], ◌∷◌, ◌++◌, refl, sym, ◌∙◌, ap, subst, arith, length, ◌⊎◌}
-use Rattle.std.specs.Prelude.{Option, Some, None, cond, not, take, drop, unwrap_or, slice_get, nat_le, nat_lt, ◌&&◌, ◌||◌, ◌==◌, if◌then◌else◌, slice_range}
+use Rattle.std.specs.Prelude.{Option, Some, None, cond, not, take, drop, unwrap_or, slice_get, nat_le, nat_lt, ◌&&◌, ◌||◌, ◌==◌, slice_range, if◌then◌else◌}
 use Rattle.std.specs.List.{list_all, list_any}
 use Rattle.std.proofs.lemmas.Bool.{eqb-true}
 use Rattle.std.proofs.lemmas.List.{length-append}
@@ -39,6 +39,7 @@ use Rattle.cf_model.specs.Fetching.{live_ask}
 use Rattle.cf_model_laws.specs.GivenOnce.{WasGiven}
 use Rattle.cf_model_laws.specs.Invariant.{All, Carries, HasEntry, Among, IsGivenIn, IsLiveRight, IsMessageRight, IsSound, Names, OfRequest, TellsTruth, message_in, put_bytes, Asks, IsAskedFor, IsWithToken}
 use Rattle.cf_model_laws.specs.Premises.{IsFair}
+use Rattle.cf_model_laws.proofs.TombstonesGuarded.{DoneIn}
 use Rattle.cf_model_laws.proofs.OperationsGuarded.{keys_same}
 use Rattle.cf_model_laws.proofs.FeedFrames.{IsTold}
 use Rattle.cf_model_laws.proofs.FeedsGuarded.{apply_feed_at}
@@ -317,7 +318,7 @@ bytes_fit P closed m (request.Remove t rid expect) key start bytes s h fit told 
 bytes_fit P closed m (request.Settle t) key start bytes s h fit told a live fair fetch = no_way fit
 bytes_fit P closed m (request.Keep t count) key start bytes s h fit told a live fair fetch = no_way fit
 
-done_in : (s : State) (token : Token) (rid : Rid) (version : Version) (e : QueueEntry) → entry_live s token ≡ Some e → TellsTruth s.link.remote (reply.Done token rid version) → ((e.action ≡ PutFile) ⊎ (e.action ≡ MakeDir) → rid.0 ≡ 1 → ⊥) → replies.DoneIn s e rid version
+done_in : (s : State) (token : Token) (rid : Rid) (version : Version) (e : QueueEntry) → entry_live s token ≡ Some e → TellsTruth s.link.remote (reply.Done token rid version) → ((e.action ≡ PutFile) ⊎ (e.action ≡ MakeDir) → rid.0 ≡ 1 → ⊥) → DoneIn s e rid version
 done_in s token rid version e f told low =
     let same : e.token ≡ token = same_token e.token token (all_found (λ q. Unit {0}) (λ q. same_key q.token.0 token.0) (book_now s).entries e f (all_any (λ q. Unit {0}) (λ q. tt) (book_now s).entries)).1 in
     (subst (λ (t : Token). entry_of (book_now s) t ≡ Some e) (sym same) f, subst (λ (t : Token). recorded_at s.link.remote.tokens t ≡ Some (RecordedDone rid version)) (sym same) told, low)

@@ -14,7 +14,7 @@ use Rattle.cf_base.specs.declared.waits.Cause.TheVariants as cause
 use Rattle.cf_model.specs.Arrows.{Arrow, ret, then_do, Preserves, unit}
 use Rattle.cf_model.specs.Requests.{Fails, Leaves, Live, Waiting, live_of, is_fetch, is_list}
 use Rattle.cf_model.specs.Blocks.{blocks_of}
-use Rattle.cf_model.specs.Books.{Book, QueueEntry}
+use Rattle.cf_model.specs.Books.{Book, QueueEntry, with_seen}
 use Rattle.cf_model.specs.Changes.{change_with, change, changes, same_book, next_number}
 use Rattle.cf_model.specs.Items.{Item, item_of, pin_of, size_of}
 use Rattle.cf_model.specs.Settling.{settle}
@@ -73,7 +73,7 @@ pub transfer_at : {On : Knowledge} (l : Link) (tokens : ℕ) (P : Filter → Typ
 transfer_at l tokens P closed a at bytes x fit h =
     let c : Change = change.Filled a.ask.item at bytes in
     checked_at P (transfer_tests a c at (length bytes)) (transfer_by a c (blocks_of at (length bytes))) x h
-    (λ e. closed.touch same_book c a.ask.item (Leaves a.ask.key (blocks_of at (length bytes))) x tt (λ b. refl) (λ fair. ((λ z b. refl), (λ k. k), λ b. refl)) (λ id k. k) (λ fair. fit fair (not_false (is_fetch a.ask.kind) (head_false (transfer_tests a c at (length bytes) x) e))) (λ fair. (tt, inl (λ b. refl))) h)
+    (λ e. closed.touch same_book c a.ask.item (Leaves a.ask.key (blocks_of at (length bytes))) x tt (λ b. refl) (λ fair. ((λ z b. refl), (λ k. k), λ b. refl)) (λ id k. k) (λ fair. fit fair (not_false (is_fetch a.ask.kind) (head_false (transfer_tests a c at (length bytes) x) e))) (λ fair. (tt, inl (λ b. refl), inl tt, λ b. refl)) h)
 
 pub refuse_keeps : {On : Knowledge} (l : Link) (tokens : ℕ) (P : Filter → Type 0) → GuardedFilter On l tokens P → (x1 : Live) → (x2 : Span) → (x3 : ℕ) → Preserves P (refuse x1 x2 x3)
 refuse_keeps l tokens P closed a asked status = checked_keeps l tokens P closed (refuse_tests a asked) (then_do (settle a.ask.item (Fails a.ask.key (blocks_of asked.start asked.len) (cause.Failed status))) done) (keeps_then P (settle a.ask.item (Fails a.ask.key (blocks_of asked.start asked.len) (cause.Failed status))) done (settled_on l tokens P closed a.ask.item (Fails a.ask.key (blocks_of asked.start asked.len) (cause.Failed status)) (λ x. (refl, tt))) (done_keeps l tokens P closed))
@@ -212,11 +212,16 @@ listing_step On items new f same like start item next gone rest all e id target 
     (each_any (record { 0 = item }) (λ i. Unit {0}) (λ i. tt) (items ++ new ∷ []))
     (each_append (record { 0 = item }) (λ i. (target_of i).0 ≡ e.rid.0) items new (each_new (record { 0 = item }) (λ i. (target_of i).0 ≡ e.rid.0) 0 next items is order) (λ _. target))) h
 
+-- the paths of a listing leave the tombstones
+seen_from_buried : (id : ℕ) (es : List Entry) (b : Book) → (with_seen_from id es b).tombstones ≡ b.tombstones
+seen_from_buried id [] b = refl
+seen_from_buried id (e ∷ es) b = seen_from_buried (id + 1) es (with_seen (record { item = record { 0 = id }; parent = e.parent; name = e.name }) b)
+
 -- the changes of the entries, each as it comes, and then the last
-listing_in : {On : Knowledge} (l : Link) (tokens : ℕ) (P : Filter → Type 0) → GuardedFilter On l tokens P → (f : Book → Book) → KeepsEntries f → (p : Policy) (parent : ItemId) (start : ℕ) (gone all : List Entry) (es : List Entry) (item : ℕ) (n : Usn) (x : Filter) → ((b : Book) → f b ≡ with_seen_from start all b) → (IsFair l → Listing (On false x.volume.book.cursor) x.volume.items start item gone es all)
+listing_in : {On : Knowledge} (l : Link) (tokens : ℕ) (P : Filter → Type 0) → GuardedFilter On l tokens P → (f : Book → Book) → KeepsEntries f → (p : Policy) (parent : ItemId) (start : ℕ) (gone all : List Entry) (es : List Entry) (item : ℕ) (n : Usn) (x : Filter) → ((b : Book) → f b ≡ with_seen_from start all b) → (IsFair l → Listing (On.told false x.volume.book.cursor) x.volume.items start item gone es all)
     → SeesFrom f (item + length es) → (IsFair l → All (λ e. NewFits l.remote p (new_item_of e)) es) → (IsFair l → x.volume.next_item.0 ≡ item) → (IsFair l → list_any is_new_entry x.volume.book.entries ≡ false) → (IsFair l → AreOthers x.volume.items es) → next_number x.volume ≡ n → x.policy ≡ p → IsListed x parent → P x
     → Keeps P (changes_with f (entry_changes p parent item n (map new_item_of es) ++ change.Populated parent ∷ []) x)
-listing_in {On} l tokens P closed f keeps p parent start gone all [] item n x is list sees fit next old new number policy listed h = closed.change f (change.Populated parent) x keeps (λ fair. ((λ z. absurd z), (λ k. sees.0 (max x.volume.next_item.0 2) x.volume.book (room x.volume.next_item.0 item (next fair)) k), sees.1)) (λ id k. k) (λ fair. tt) (λ fair. (tt, inr (start, all, is, listing_all (On false x.volume.book.cursor) x.volume.items start item gone all (list fair), parent, refl))) h where
+listing_in {On} l tokens P closed f keeps p parent start gone all [] item n x is list sees fit next old new number policy listed h = closed.change f (change.Populated parent) x keeps (λ fair. ((λ z. absurd z), (λ k. sees.0 (max x.volume.next_item.0 2) x.volume.book (room x.volume.next_item.0 item (next fair)) k), sees.1)) (λ id k. k) (λ fair. tt) (λ fair. (tt, inr (start, all, is, listing_all (On.told false x.volume.book.cursor) x.volume.items start item gone all (list fair), parent, refl), inl tt, λ b. ap (λ (d : Book). d.tombstones) (is b) ∙ seen_from_buried start all b)) h where
   room : (m k : ℕ) → m ≡ k → k + 0 ≤ max m 2
   room m k e = omega (arith, e)
 listing_in {On} l tokens P closed f keeps p parent start gone all (e ∷ es) item n x is list sees fit next old new number policy listed h =
@@ -224,7 +229,7 @@ listing_in {On} l tokens P closed f keeps p parent start gone all (e ∷ es) ite
     let make : Change = change.Make (record { 0 = item }) parent q.name (entry_kind p q.dir) (cond q.dir 0 q.size) q.identity in
     let mark : Change = change.Mark (record { 0 = item }) n in
     keeps_led P (λ u t. After same_book make x t) (change make x) (λ _ t. changes_with f (mark ∷ (entry_changes p parent (item + 1) (record n { place = n.place + 2 }) (map new_item_of es) ++ change.Populated parent ∷ [])) t)
-    (closed.change same_book make x (λ b. refl) (λ fair. ((λ z b. refl), (λ k. k), λ b. refl)) (λ id k. k) (λ fair. ((sym (next fair), (fit fair).0.0, (fit fair).0.1), (inr (unmade_old l.remote x.volume.book.entries (target_in q.identity) (old fair)), (new fair).0), inr listed, subst (λ (o : Policy). Populates o (entry_kind p q.dir)) (sym policy) (kind_populates p q.dir))) (λ fair. (inr (e, (list fair).left.0, refl), inl (λ b. refl))) h) (change_after same_book make x)
+    (closed.change same_book make x (λ b. refl) (λ fair. ((λ z b. refl), (λ k. k), λ b. refl)) (λ id k. k) (λ fair. ((sym (next fair), (fit fair).0.0, (fit fair).0.1), (inr (unmade_old l.remote x.volume.book.entries (target_in q.identity) (old fair)), (new fair).0), inr listed, subst (λ (o : Policy). Populates o (entry_kind p q.dir)) (sym policy) (kind_populates p q.dir))) (λ fair. (inr (e, (list fair).left.0, refl), inl (λ b. refl), inl tt, λ b. refl)) h) (change_after same_book make x)
     (λ u t j a.
     more_in P f mark (change.Populated parent) (entry_changes p parent (item + 1) (record n { place = n.place + 2 }) (map new_item_of es)) t
     (keeps_led P (λ u y. After same_book mark t y) (change mark t) (λ _ y. changes_with f (entry_changes p parent (item + 1) (record n { place = n.place + 2 }) (map new_item_of es) ++ change.Populated parent ∷ []) y)
@@ -235,13 +240,13 @@ listing_in {On} l tokens P closed f keeps p parent start gone all (e ∷ es) ite
           (each_new (record { 0 = item }) (IsUnmarked n) 0 x.volume.next_item.0 x.volume.items (next fair) (closed.sound x h fair).now.order)
           (λ _. (clean_made p q.dir (next_number x.volume), sym number, targeted (item == 1) q.identity (fit fair).0.2))),
       inr (x.volume.log, next_number x.volume, parent, q.name, entry_kind p q.dir, cond q.dir 0 q.size, q.identity, a.log),
-    )) (λ fair. (tt, inl (λ b. refl))) j)
+    )) (λ fair. (tt, inl (λ b. refl), inl tt, λ b. refl)) j)
     (change_after same_book mark t)
     (λ v y k b. listing_in l tokens P closed f keeps p parent start (gone ++ e ∷ []) all es (item + 1) (record n { place = n.place + 2 }) y is
-    (λ fair. subst (λ (c : ℕ). Listing (On false c) y.volume.items start (item + 1) (gone ++ e ∷ []) es all) (sym (b.cursor (λ d. refl) ∙ a.cursor (λ d. refl)))
-    (subst (λ (is : List Item). Listing (On false x.volume.book.cursor) is start (item + 1) (gone ++ e ∷ []) es all) (sym b.items)
-    (subst (λ (is : List Item). Listing (On false x.volume.book.cursor) (effect is mark (next_number t.volume)) start (item + 1) (gone ++ e ∷ []) es all) (sym a.items)
-    (listing_step (On false x.volume.book.cursor) x.volume.items (made (record { 0 = item }) parent q.name (entry_kind p q.dir) (cond q.dir 0 q.size) q.identity (pin_of x.volume.items parent) (next_number x.volume)) _ (λ i. refl) (λ i. refl) start item x.volume.next_item.0 gone es all e refl
+    (λ fair. subst (λ (c : ℕ). Listing (On.told false c) y.volume.items start (item + 1) (gone ++ e ∷ []) es all) (sym (b.cursor (λ d. refl) ∙ a.cursor (λ d. refl)))
+    (subst (λ (is : List Item). Listing (On.told false x.volume.book.cursor) is start (item + 1) (gone ++ e ∷ []) es all) (sym b.items)
+    (subst (λ (is : List Item). Listing (On.told false x.volume.book.cursor) (effect is mark (next_number t.volume)) start (item + 1) (gone ++ e ∷ []) es all) (sym a.items)
+    (listing_step (On.told false x.volume.book.cursor) x.volume.items (made (record { 0 = item }) parent q.name (entry_kind p q.dir) (cond q.dir 0 q.size) q.identity (pin_of x.volume.items parent) (next_number x.volume)) _ (λ i. refl) (λ i. refl) start item x.volume.next_item.0 gone es all e refl
     (ap (λ (r : Rid). r.0) (below_root item (named_in e) (subst (λ (m : ℕ). 2 ≤ m) (next fair) (closed.sound x h fair).now.more)) ∙ (list fair).small.0) (next fair) (closed.sound x h fair).now.order (list fair)))))
     (subst (SeesFrom f) (shift item (length es)) sees) (λ fair. (fit fair).1)
     (λ fair. next_kept y.volume.next_item.0 t.volume.next_item.0 (item + 1) b.next (a.next ∙ next_made x.volume.next_item.0 item (next fair)) (closed.sound t j fair).now.more)
@@ -274,7 +279,7 @@ listing_ends a w v same found list b e = inner (sym found ∙ ap (λ (u : Waitin
 ask_ends : (a : Live) (x t : Filter) → t.waiting ≡ x.waiting → live_of x.waiting.asks a.ask.key ≡ Some a → IsAskOn a.ask.item a.ask.key t
 ask_ends a x t same found = one_ask a.ask.key a t (subst (λ (w : Waiting). live_of w.asks a.ask.key ≡ Some a) (sym same) found)
 
-pub listing_at : {On : Knowledge} (l : Link) (tokens : ℕ) (P : Filter → Type 0) → GuardedFilter On l tokens P → (f : Book → Book) → KeepsEntries f → (a : Live) (es : List Entry) (x : Filter) → live_of x.waiting.asks a.ask.key ≡ Some a → ((b : Book) → f b ≡ with_seen_from x.volume.next_item.0 es b) → (is_list a.ask.kind ≡ true → IsFair l → Listing (On false x.volume.book.cursor) x.volume.items x.volume.next_item.0 x.volume.next_item.0 [] es es)
+pub listing_at : {On : Knowledge} (l : Link) (tokens : ℕ) (P : Filter → Type 0) → GuardedFilter On l tokens P → (f : Book → Book) → KeepsEntries f → (a : Live) (es : List Entry) (x : Filter) → live_of x.waiting.asks a.ask.key ≡ Some a → ((b : Book) → f b ≡ with_seen_from x.volume.next_item.0 es b) → (is_list a.ask.kind ≡ true → IsFair l → Listing (On.told false x.volume.book.cursor) x.volume.items x.volume.next_item.0 x.volume.next_item.0 [] es es)
     → SeesFrom f (x.volume.next_item.0 + length es) → (IsFair l → All (λ e. NewFits l.remote x.policy (new_item_of e)) es) → (IsFair l → list_any is_new_entry x.volume.book.entries ≡ false) → (IsFair l → AreOthers x.volume.items es) → P x → Keeps P (entries f a (map new_item_of es) true x)
 listing_at l tokens P closed f keeps a es x live is list sees fit old new h =
     checked_at P (entries_tests f a (map new_item_of es) (list_changes a (map new_item_of es) x)) (then_do (changes_with f (list_changes a (map new_item_of es) x)) (then_do (settle a.ask.item (entries_deed a true)) done)) x h
@@ -315,7 +320,7 @@ consent_at : {On : Knowledge} (l : Link) (tokens : ℕ) (P : Filter → Type 0) 
 consent_at l tokens P closed a None x live e h =
     checked_at P (consent_tests a (dehydration a ∷ [])) (then_do (changes (dehydration a ∷ [])) (then_do (settle a.ask.item (consent_deed a true None)) done)) x h
     (λ q. keeps_led P (λ u t. t.waiting ≡ x.waiting) (changes (dehydration a ∷ []) x) (λ _ t. then_do (settle a.ask.item (consent_deed a true None)) done t)
-    (keeps_bind P (change (dehydration a) x) (λ _ t. ret unit t) (closed.change same_book (dehydration a) x (λ b. refl) (λ fair. ((λ z b. refl), (λ k. k), λ b. refl)) (λ id k. k) (λ fair. consent_fits l tokens P closed a x h e fair) (λ fair. (tt, inl (λ b. refl))) h) (λ u t j. j))
+    (keeps_bind P (change (dehydration a) x) (λ _ t. ret unit t) (closed.change same_book (dehydration a) x (λ b. refl) (λ fair. ((λ z b. refl), (λ k. k), λ b. refl)) (λ id k. k) (λ fair. consent_fits l tokens P closed a x h e fair) (λ fair. (tt, inl (λ b. refl), inl tt, λ b. refl)) h) (λ u t j. j))
     (emptied_waits a x)
     (λ u t j w. keeps_bind P (settle a.ask.item (consent_deed a true None) t) (λ _ y. done y) (closed.settled a.ask.item (consent_deed a true None) t (inl refl, ask_ends a x t w live) j) (λ v y k. k)))
 consent_at l tokens P closed a (Some c) x live e h =
@@ -358,7 +363,7 @@ pub no_entries_op_keeps : {On : Knowledge} (l : Link) (tokens : ℕ) (P : Filter
 no_entries_op_keeps l tokens P closed key = record { keeps = λ x h. on_key l tokens P same_book (operation.Entries key [] false) x h (λ a e. no_listing_at l tokens P closed same_book a [] x (live_same x key a e) h) }
 
 pub listed_at : {On : Knowledge} (l : Link) (tokens : ℕ) (P : Filter → Type 0) → GuardedFilter On l tokens P → (f : Book → Book) → KeepsEntries f → (key : Key) (es : List Entry) (x : Filter) → ((b : Book) → f b ≡ with_seen_from x.volume.next_item.0 es b)
-    → ((a : Live) → live_of x.waiting.asks key ≡ Some a → is_list a.ask.kind ≡ true → IsFair l → Listing (On false x.volume.book.cursor) x.volume.items x.volume.next_item.0 x.volume.next_item.0 [] es es)
+    → ((a : Live) → live_of x.waiting.asks key ≡ Some a → is_list a.ask.kind ≡ true → IsFair l → Listing (On.told false x.volume.book.cursor) x.volume.items x.volume.next_item.0 x.volume.next_item.0 [] es es)
     → SeesFrom f (x.volume.next_item.0 + length es) → (IsFair l → All (λ e. NewFits l.remote x.policy (new_item_of e)) es) → (IsFair l → list_any is_new_entry x.volume.book.entries ≡ false) → (IsFair l → AreOthers x.volume.items es) → P x → Keeps P (execute_with f (operation.Entries key (map new_item_of es) true) x)
 listed_at l tokens P closed f keeps key es x is list sees fit old new h = on_key l tokens P f (operation.Entries key (map new_item_of es) true) x h (λ a e. listing_at l tokens P closed f keeps a es x (live_same x key a e) is (list a e) sees fit old new h)
 

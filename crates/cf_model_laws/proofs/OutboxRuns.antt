@@ -64,7 +64,7 @@ module _ (F : Fact) (b : BoxingRuns F) where
   guarded_beside : (P : State → Type 0) → Guarded P → Guarded (λ s. P s × In s)
   guarded_beside P closed = record {
     replay = λ s h. closed.replay s h.0;
-    on_filter = λ s h. filter_beside s.link s.volatile.tokens (λ x. P (with_filter x s)) (on_filter_weaker P (λ t. P t × In t) (λ t k. k.0) s.link s.volatile.tokens _ (closed.on_filter s h.0));
+    on_filter = λ s h. filter_beside s.link s.volatile.tokens (λ x. P (with_filter x s)) (on_filter_weaker P (λ t. P t × In t) (λ t k. k.0) s _ (closed.on_filter s h.0));
     keeps_counted = λ s h. (closed.keeps_counted s h.0, h.1);
     asked = λ q s well h. (closed.asked q s well h.0, h.1);
     told = λ held s h. (closed.told held s h.0, h.1);

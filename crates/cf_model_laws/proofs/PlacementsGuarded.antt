@@ -58,7 +58,7 @@ made_at l tokens P closed k zero_size populates p x seat h = by (is_some (child_
       (λ e. keeps_bind P (changes (change.Make x.volume.next_item p.parent.id p.name k 0 [] ∷ []) x) (λ _ t. ret (shown.Item x.volume.next_item) t)
       (keeps_bind P (put (change.Make x.volume.next_item p.parent.id p.name k 0 []) x) (λ _ t. ret unit t)
       (closed.change same_book (change.Make x.volume.next_item p.parent.id p.name k 0 []) x (λ b. refl) (λ fair. ((λ z b. refl), (λ k. k), λ b. refl)) (λ id k. k)
-      (λ fair. ((refl, ap (λ (bs : List ℕ). length bs) (no-identity l.remote) ∙ sym zero_size, no_base l.remote _ _), (inl refl, unaimed_none x.volume.items (target_in []) refl), inl (seat fair), populates x.policy)) (λ fair. (inl refl, inl (λ b. refl))) h) (λ u t j. j))
+      (λ fair. ((refl, ap (λ (bs : List ℕ). length bs) (no-identity l.remote) ∙ sym zero_size, no_base l.remote _ _), (inl refl, unaimed_none x.volume.items (target_in []) refl), inl (seat fair), populates x.policy)) (λ fair. (inl refl, inl (λ b. refl), inl tt, λ b. refl)) h) (λ u t j. j))
       (λ u t j. j))
 
 -- at a place that is found
@@ -85,7 +85,7 @@ asking_keeps l tokens P closed item answer answer_keeps cs plain =
     (keeps_then P (changes cs) (then_do (settle_changed item cs) answer) (plains_keep l tokens P closed cs plain) (keeps_then P (settle_changed item cs) answer (settle_changed_keeps l tokens P closed item cs) answer_keeps))
 
 plain_keep : (i : Item) (on b : Bool) → All IsPlain (when b (change.Keep i.id on ∷ []))
-plain_keep i on true = (record { fits = λ r x. tt; free = λ id k. k; unnamed = tt }, tt)
+plain_keep i on true = (record { fits = λ r x. tt; free = λ id k. k; unnamed = tt; holds = λ items. tt }, tt)
 plain_keep i on false = tt
 
 pub keep_item_keeps : {On : Knowledge} (l : Link) (tokens : ℕ) (P : Filter → Type 0) → GuardedFilter On l tokens P → (on : Bool) (i : Item) → Preserves P (keep_item on i)

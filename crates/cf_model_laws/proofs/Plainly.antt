@@ -10,6 +10,7 @@ use Rattle.cf_model.specs.Arrows.{Arrow, Preserves, each, unless}
 use Rattle.cf_model.specs.Books.{Book, book_after}
 use Rattle.cf_model.specs.Changes.{change, change_with, changes, next_number, put_with_book, same_book}
 use Rattle.cf_model.specs.Effects.{effect}
+use Rattle.cf_model.specs.Items.{Item}
 use Rattle.cf_model.specs.Logs.{next_by}
 use Rattle.cf_model.specs.Operations.{checked}
 use Rattle.cf_model.specs.Points.{with_room_point}
@@ -24,7 +25,7 @@ use Rattle.cf_model_laws.proofs.Guarded.{GuardedFilter, KeepsCursor}
 use Rattle.cf_model_laws.proofs.Leading.{Leads}
 use Rattle.cf_model_laws.proofs.SoundChanges.{KeepsEntries, same_entries, same_cursor}
 use Rattle.cf_model_laws.proofs.SoundFilters.{change_leads}
-use Rattle.cf_model_laws.specs.Taken.{Knowledge, IsNamedBy, Nothing}
+use Rattle.cf_model_laws.specs.Taken.{Knowledge, IsNamedBy, LosesOn, Nothing}
 use Rattle.cf_model_laws.proofs.SinceKept.{unnamed_change}
 
 -- a change that fits wherever it is made, and brings neither bytes nor a target
@@ -32,9 +33,10 @@ pub record IsPlain (c : Change) : Type 0 where
   pub fits : (r : Held) (x : Filter) → Fits r x c
   pub free : (id : ItemId) → Touches c id → ⊥
   pub unnamed : IsNamedBy Nothing Nothing c
+  pub holds : (items : List Item) → LosesOn Nothing items c
 
 pub plain_keeps : {On : Knowledge} (l : Link) (tokens : ℕ) (P : Filter → Type 0) → GuardedFilter On l tokens P → (c : Change) → IsPlain c → Preserves P (change c)
-plain_keeps {On} l tokens P closed c plain = record { keeps = λ x h. closed.change same_book c x (λ b. refl) (λ fair. ((λ z b. refl), (λ k. k), λ b. refl)) plain.free (λ e. plain.fits l.remote x) (λ e. unnamed_change On x c plain.unnamed) h }
+plain_keeps {On} l tokens P closed c plain = record { keeps = λ x h. closed.change same_book c x (λ b. refl) (λ fair. ((λ z b. refl), (λ k. k), λ b. refl)) plain.free (λ e. plain.fits l.remote x) (λ e. unnamed_change On x c plain.unnamed (plain.holds x.volume.items)) h }
 
 pub plains_keep : {On : Knowledge} (l : Link) (tokens : ℕ) (P : Filter → Type 0) → GuardedFilter On l tokens P → (cs : List Change) → All IsPlain cs → Preserves P (changes cs)
 plains_keep l tokens P closed [] h = record { keeps = λ x k. k }

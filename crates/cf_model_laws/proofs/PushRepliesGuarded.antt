@@ -1,20 +1,21 @@
 -- What the parts of `PushReplies` keep in `replay`, each by what its own parts keep.
-use Rattle.std.specs.Prelude.{◌≤◌, Bool, true, false, Option, Some, None, is_some, filter, not, cond, find, ◌==◌}
+use Rattle.cf_model_laws.proofs.TombstonesGuarded.{DoneIn, IsShut, back_open, bury_new_at, done_removal_at, end_and_close_keeps, lost_place_at, row_open, shut_frame}
+use Rattle.std.specs.Prelude.{Bool, true, false, Option, Some, None, is_some, filter, not, cond, find, ◌==◌}
 use Rattle.cf_base.specs.declared.codes.Code.{Code}
 use Rattle.cf_base.specs.declared.codes.Code.TheVariants as code
 use Rattle.cf_base.specs.declared.ids.Rid.{Rid}
 use Rattle.cf_base.specs.declared.ids.Version.{Version}
 use Rattle.cf_base.specs.declared.messages.Why.{Why}
 use Rattle.cf_base.specs.declared.messages.Why.TheVariants as why
-use Rattle.cf_model.specs.Arrows.{Arrow, and_then, only_if, reading, seq, unit, Preserves}
-use Rattle.cf_model.specs.Books.{Action, MakeDir, MoveItem, PutFile, QueueEntry, RemoveItem, with_cursor, with_seen, with_tombstone, without_entry, without_tombstone, entry_of}
+use Rattle.cf_model.specs.Arrows.{Arrow, and_then, only_if, reading, seq, Preserves}
+use Rattle.cf_model.specs.Books.{Action, MakeDir, MoveItem, PutFile, QueueEntry, RemoveItem, with_seen, without_entry, entry_of}
 use Rattle.cf_model.specs.Items.{Item, item_of, size_of}
-use Rattle.cf_model.specs.Skips.{do_change, in_book, in_volatile, is_cursor, is_there, skip, to_conflict, try_book, try_mark, try_seen, why_no_record, with_volatile, with_book}
+use Rattle.cf_model.specs.Skips.{do_change, in_book, in_volatile, is_there, skip, to_conflict, try_book, try_mark, try_seen, why_no_record, with_volatile, with_book}
 use Rattle.cf_model.specs.State.{State, book_now, items_now, Volatile, Link}
 use Rattle.cf_model_laws.proofs.StepsGuarded as skips_keep
-use Rattle.cf_model.specs.PushReplies.{bury_new, by_why, cursor_reset_if, done_by, done_move, done_removal, done_upload, done_upload_on, drop_if, end_and_close, end_entry, end_tombstone, entry_seen, held_and_closed, is_new_entry, is_removal, item_of_entry, lost_place, move_away, name_taken, name_taken_again, name_taken_by, not_empty, not_empty_by, not_in_row, nothing_further, rebase, rebase_of, rebase_unless, reset_cursor, reset_if, see_and_mark, take, take_done, take_refused, take_void, taken_from_row, tombstone_left, was_directory, was_name_taken, was_not_empty, whatever, why_no_rebase, with_done, with_taken_name, is_new_by, held_back, round_closed, without_item, without_number}
+use Rattle.cf_model.specs.PushReplies.{by_why, done_by, done_move, done_upload, done_upload_on, entry_seen, held_and_closed, is_new_entry, is_removal, item_of_entry, move_away, name_taken, name_taken_again, name_taken_by, not_empty, not_empty_by, not_in_row, nothing_further, rebase, rebase_of, rebase_unless, see_and_mark, take_done, take_refused, take_void, taken_from_row, was_name_taken, was_not_empty, whatever, why_no_rebase, with_done, with_taken_name, is_new_by, round_closed}
 use Rattle.cf_model_laws.proofs.Guarded.{Guarded, KeepsPlaced, IsMovedBy}
-use Rattle.cf_model.proofs.ArrowLaws.{keeps_noted, keeps_only_if, keeps_reading, keeps_ret, keeps_seq, keeps_then, keeps_one}
+use Rattle.cf_model.proofs.ArrowLaws.{keeps_noted, keeps_reading, keeps_then}
 use Rattle.std.proofs.Common.{◌≡◌, ◌⊎◌, ◌<◌, ℕ, List, [], ◌∷◌, refl, sym, ◌∙◌, ap, subst, inl, inr, arith, Bool, true, false}
 use Rattle.std.specs.List.{list_all}
 use Rattle.cf_base.specs.declared.ids.ItemId.{ItemId}
@@ -22,7 +23,7 @@ use Rattle.cf_model.specs.Contents.{base_named, up_to}
 use Rattle.cf_model.specs.Identities.{base_bytes, identity_for, identity_of, target_of}
 use Rattle.cf_model.specs.Numbers.{same_key, no_rid, no_version, root_rid}
 use Rattle.cf_model.specs.Soundness.{Each}
-use Rattle.cf_model.specs.Store.{RecordedDone, bytes_of, recorded_at, Held}
+use Rattle.cf_model.specs.Store.{bytes_of, Held}
 use Rattle.cf_model.specs.Trees.{Keeps}
 use Rattle.cf_model.proofs.TreeLaws.{keeps_bind}
 use Rattle.cf_model_laws.specs.Fitting.{Fits, NamesWell, NoEntry, NoMove, AimsFree, AimsAlone, IsUnaimed}
@@ -35,33 +36,17 @@ use Rattle.cf_model_laws.proofs.Gathered.{all_found, each_weaker, each_any}
 use Rattle.cf_model_laws.proofs.Plainly.{keeps_led}
 use Rattle.cf_model_laws.proofs.RightItems.{no_way}
 use Rattle.cf_model_laws.proofs.SeenPaths.{led_unnamed}
-use Rattle.cf_model_laws.proofs.SkipsGuarded.{Led, Skipping, and_then_keeps, do_led, keeps_first, no_move, only_if_at, tried_at, try_mark_at, try_seen_at, change_by, heard_skipping, keeps_into, leaves_early}
+use Rattle.cf_model_laws.proofs.SkipsGuarded.{Led, Skipping, and_then_keeps, both_frames, do_led, keeps_first, no_move, only_if_at, tried_at, try_mark_at, try_seen_at, change_by, heard_skipping}
 use Rattle.cf_model_laws.proofs.SoundSettles.{each_found, same_item}
 use Rattle.cf_model_laws.proofs.MadeUploads.{done_unmade, done_named}
 use Rattle.cf_model.specs.Growth.{IsCounted}
 use Rattle.cf_model_laws.proofs.AimedTargets.{unaimed_made}
-use Rattle.cf_model_laws.specs.Taken.{Heard, IsNamedBy, IsSeenBy, Since}
+use Rattle.cf_model_laws.specs.Taken.{Heard, IsNamedBy, IsSeenBy, Known, LosesBy, LosesTold, Nothing, Since}
 use Rattle.cf_model_laws.proofs.FitItems.{each_made}
 use Rattle.cf_base.specs.declared.messages.Entry.{Entry}
 use Rattle.std.proofs.lemmas.Bool.{eqb-true}
 use Rattle.cf_model.specs.Effects.{effect, rebased}
 use Rattle.cf_model.specs.Changes.{next_number}
-
-pub end_entry_keeps : (P : State → Type 0) → Guarded P → (e : QueueEntry) → Preserves P (end_entry e)
-end_entry_keeps P closed e = keeps_one P (with_book (without_entry e.token)) (λ s h. closed.leaves e.token s h)
-
-pub end_and_close_keeps : (P : State → Type 0) → Guarded P → (x1 : QueueEntry) → Preserves P (end_and_close x1)
-end_and_close_keeps P closed e = keeps_then P (end_entry e) (in_volatile (taken_from_row e)) (end_entry_keeps P closed e) (keeps_noted P (with_volatile (taken_from_row e)) (closed.keeps_volatile_taken_from_row e))
-
-pub take_keeps : (P : State → Type 0) → Guarded P → (x1 : QueueEntry) → Preserves P (take x1)
-take_keeps P closed e = record { keeps = λ s i_. ((end_and_close_keeps P closed e)).keeps (with_done s) ((closed.keeps_with_done) s i_) }
-
-pub whatever_keeps : (P : State → Type 0) → Guarded P → (x1 : Bool) → Preserves P (whatever x1)
-whatever_keeps P closed done = keeps_ret P unit
-
--- What a Done tells: its entry is live, and the remote has recorded the version.
-abbrev pub DoneIn : State → QueueEntry → Rid → Version → Type 0
-DoneIn s e rid version = (entry_of (book_now s) e.token ≡ Some e) × (recorded_at s.link.remote.tokens e.token ≡ Some (RecordedDone rid version)) × ((e.action ≡ PutFile) ⊎ (e.action ≡ MakeDir) → rid.0 ≡ 1 → ⊥)
 
 pub each_at : (id : ItemId) (P : Item → Type 0) (items : List Item) (i : Item) → item_of items id ≡ Some i → Each id P items → P i
 each_at id P [] i e h = cc
@@ -101,18 +86,18 @@ apart_rest p id (q ∷ es) e is some f h = by (p q) f (apart_rest p id es e is s
 -- once an upload is taken, its item may be marked
 
 abbrev Marking : (State → Type 0) → State → State → Type 0
-Marking P s t = P t × Feeding s.link s.filter (book_now s).entries t
+Marking P s t = P t × (Feeding s.link s.filter (book_now s).entries t × IsShut t)
 
 marking : (P : State → Type 0) → Guarded P → (s : State) → Skipping (Since P s.link true (book_now s).cursor) (IsNamedBy (Since P s.link true (book_now s).cursor) (Since P s.link true (book_now s).cursor)) (Marking P s)
-marking P closed s = heard_skipping P (Feeding s.link s.filter (book_now s).entries) (Since P s.link true (book_now s).cursor) closed (feeding s.link s.filter (book_now s).entries)
-    (λ t j k e on. subst (λ (n : ℕ). Since P t.link true n e) (sym k.cursor) (subst (λ (l : Link). Since P l true (book_now s).cursor e) (sym k.link) on))
+marking P closed s = heard_skipping P (λ t. Feeding s.link s.filter (book_now s).entries t × IsShut t) (Since P s.link true (book_now s).cursor) closed (both_frames (Feeding s.link s.filter (book_now s).entries) IsShut (feeding s.link s.filter (book_now s).entries) shut_frame)
+    (λ t j k e on. subst (λ (n : ℕ). Since P t.link true n e) (sym k.0.cursor) (subst (λ (l : Link). Since P l true (book_now s).cursor e) (sym k.0.link) on)) (λ t k. k.1)
 
-mark_after : (P : State → Type 0) → Guarded P → (e : QueueEntry) (f : Arrow State Bool) (s : State) → (IsFair s.link → (e.item.0 ≡ 0 → ⊥) → NoEntry (book_now s).entries e.item) → (Marking P s s → Keeps (Marking P s) (f s)) → P s
+mark_after : (P : State → Type 0) → Guarded P → (e : QueueEntry) (f : Arrow State Bool) (s : State) → (IsFair s.link → (e.item.0 ≡ 0 → ⊥) → NoEntry (book_now s).entries e.item) → (Marking P s s → Keeps (Marking P s) (f s)) → IsShut s → P s
     → Keeps P (seq (and_then f (try_mark e.item e.number)) whatever s)
-mark_after P closed e f s alone k h =
-    keeps_first P (Feeding s.link s.filter (book_now s).entries) (seq (and_then f (try_mark e.item e.number)) whatever s)
+mark_after P closed e f s alone k shut h =
+    keeps_first P (λ t. Feeding s.link s.filter (book_now s).entries t × IsShut t) (seq (and_then f (try_mark e.item e.number)) whatever s)
     (keeps_bind (Marking P s) (and_then f (try_mark e.item e.number) s) whatever
-    (and_then_keeps (Marking P s) f (try_mark e.item e.number) s (k (h, record { link = refl; waiting = refl; handles = refl; entries = refl; cursor = refl }))
+    (and_then_keeps (Marking P s) f (try_mark e.item e.number) s (k (h, (record { link = refl; waiting = refl; handles = refl; entries = refl; cursor = refl }, shut)))
     (λ t j. try_mark_at (IsNamedBy (Since P s.link true (book_now s).cursor) (Since P s.link true (book_now s).cursor)) (Marking P s) (marking P closed s) e.item e.number t tt (λ fair i found. unmoved t j fair i found) j))
     (λ b t j. j)) where
       zero_not : (n m : ℕ) → 0 < n → n ≡ m → m ≡ 0 → ⊥
@@ -120,15 +105,15 @@ mark_after P closed e f s alone k h =
 
       unmoved : (t : State) → Marking P s t → IsFair t.link → (i : Item) → item_of (items_now t) e.item ≡ Some i → NoMove (book_now t).entries e.item
       unmoved t j fair i found =
-          subst (λ (es : List QueueEntry). NoMove es e.item) (sym j.1.entries)
-          (no_move (book_now s).entries e.item (alone (subst IsFair j.1.link fair)
+          subst (λ (es : List QueueEntry). NoMove es e.item) (sym j.1.0.entries)
+          (no_move (book_now s).entries e.item (alone (subst IsFair j.1.0.link fair)
           (λ z. zero_not i.id.0 e.item.0 (found_positive e.item 0 t.filter.volume.next_item.0 (items_now t) i ((closed.on_filter t j.0).sound t.filter j.0 fair).now.order found) (found_id e.item (items_now t) i found) z)))
 
 -- a new item's path comes to be seen after another change than a Mark
-see_and_mark_at : (P : State → Type 0) → Guarded P → (e : QueueEntry) (s : State) → (IsFair s.link → (e.item.0 ≡ 0 → ⊥) → NoEntry (book_now s).entries e.item) → KeepsPlaced (with_seen (entry_seen e)) s → (IsFair s.link → IsSeenBy (Since P s.link true (book_now s).cursor) (items_now s) (entry_seen e)) → P s → Keeps P (see_and_mark e s)
-see_and_mark_at P closed e s alone placed told h =
+see_and_mark_at : (P : State → Type 0) → Guarded P → (e : QueueEntry) (s : State) → (IsFair s.link → (e.item.0 ≡ 0 → ⊥) → NoEntry (book_now s).entries e.item) → KeepsPlaced (with_seen (entry_seen e)) s → (IsFair s.link → IsSeenBy (Since P s.link true (book_now s).cursor) (items_now s) (entry_seen e)) → IsShut s → P s → Keeps P (see_and_mark e s)
+see_and_mark_at P closed e s alone placed told shut h =
     mark_after P closed e (only_if (is_new_entry e) (try_seen (entry_seen e))) s alone
-    (λ q. only_if_at (Marking P s) (is_new_entry e) (try_seen (entry_seen e)) s q (λ _. try_seen_at (IsNamedBy (Since P s.link true (book_now s).cursor) (Since P s.link true (book_now s).cursor)) (Marking P s) (marking P closed s) (entry_seen e) s (λ fair. placed) told q)) h
+    (λ q. only_if_at (Marking P s) (is_new_entry e) (try_seen (entry_seen e)) s q (λ _. try_seen_at (IsNamedBy (Since P s.link true (book_now s).cursor) (Since P s.link true (book_now s).cursor)) (Marking P s) (marking P closed s) (entry_seen e) s (λ fair. placed) told q)) shut h
 
 -- once its entry is gone, none is about its item
 alone_after : (s : State) (e : QueueEntry) → entry_of (book_now s) e.token ≡ Some e → IsSound s.link s.volatile.tokens s.filter → (e.item.0 ≡ 0 → ⊥) → NoEntry (without_entry e.token (book_now s)).entries e.item
@@ -160,8 +145,14 @@ done_one MakeDir s e rid version i is low fair sound done found fit did =
 done_one MoveItem s e rid version i is low fair sound done found fit did = elim is as (λ _. DoneFits s e rid version i) [ inl z ↦ cc | inr z ↦ cc ]
 done_one RemoveItem s e rid version i is low fair sound done found fit did = elim is as (λ _. DoneFits s e rid version i) [ inl z ↦ cc | inr z ↦ cc ]
 
+-- What a Done gives aims at nothing that was made for another upload, and at no other item's target; the item is new, or keeps its target.
+abbrev pub DoneAims : State → QueueEntry → Rid → Version → Item → Type 0
+DoneAims s e rid version i =
+    AimsFree s.link.remote (without_entry e.token (book_now s)).entries (identity_for i.directory rid version) × AimsAlone (without_entry e.token (book_now s)).entries (items_now s) i.id (identity_for i.directory rid version)
+    × ((is_new_entry e ≡ true) ⊎ Each i.id (λ j. (target_of j).0 ≡ (target_in (identity_for i.directory rid version)).0) (items_now s))
+
 pub rebase_at : (P : State → Type 0) → Guarded P → (e : QueueEntry) (rid : Rid) (version : Version) (i : Item) (s : State) → (IsFair s.link → DoneFits s e rid version i × DoneIn s e rid version × (item_of (items_now s) e.item ≡ Some i))
-    → (IsFair s.link → AimsFree s.link.remote (without_entry e.token (book_now s)).entries (identity_for i.directory rid version) × AimsAlone (without_entry e.token (book_now s)).entries (items_now s) i.id (identity_for i.directory rid version)) → ((d : Entry) → d.rid ≡ rid → Heard true s d) → (IsFair s.link → (target_in (identity_for i.directory rid version)).0 ≡ rid.0) → P s
+    → (IsFair s.link → DoneAims s e rid version i) → ((d : Entry) → d.rid ≡ rid → Heard true s d) → (IsFair s.link → (target_in (identity_for i.directory rid version)).0 ≡ rid.0) → P s
     → Keeps P (rebase e (rebase_of e rid version i) s)
 rebase_at P closed e rid version i s fits free heard aims h = by (why_no_rebase e (rebase_of e rid version i) s) where
   fit : IsFair s.link → Fits s.link.remote (with_volatile (taken_from_row e) (with_book (without_entry e.token) (with_done s))).filter (rebase_of e rid version i)
@@ -178,10 +169,20 @@ rebase_at P closed e rid version i s fits free heard aims h = by (why_no_rebase 
                 0 s.filter.volume.next_item.0 (items_now s) i sound.now.order again (fits fair).0.1,
           ),
         ),
-        free fair,
+        ((free fair).0, (free fair).1),
       ) where
         zero_not : (n : ℕ) → 0 < n → n ≡ 0 → ⊥
         zero_not n h e = omega (arith, h, e)
+
+  taken : State
+  taken = with_volatile (taken_from_row e) (with_book (without_entry e.token) (with_done s))
+
+  -- the item has no target yet, or keeps it
+  loses : IsFair s.link → LosesBy (Known P taken) (book_now taken).cursor (items_now s) (rebase_of e rid version i)
+  loses fair = one (free fair).2 where
+    one : (is_new_entry e ≡ true) ⊎ Each i.id (λ j. (target_of j).0 ≡ (target_in (identity_for i.directory rid version)).0) (items_now s) → LosesBy (Known P taken) (book_now taken).cursor (items_now s) (rebase_of e rid version i)
+    one (inl new) = inr (row_open e (round_closed s.volatile), inr (s, h, e, (fits fair).1.0, new, refl, refl, i.id, found_id e.item (items_now s) i (fits fair).2, identity_for i.directory rid version, size_of i, e.number, refl))
+    one (inr same) = inl (each_weaker i.id (λ j. (target_of j).0 ≡ (target_in (identity_for i.directory rid version)).0) (λ j. ((target_of j).0 ≡ (target_in (identity_for i.directory rid version)).0) ⊎ LosesTold Nothing j) (λ j z. inl z) (items_now s) same)
 
   -- what the Done tells
   entry : Entry
@@ -210,16 +211,13 @@ rebase_at P closed e rid version i s fits free heard aims h = by (why_no_rebase 
       let two : P (with_volatile (taken_from_row e) (with_book (without_entry e.token) (with_done s))) = closed.keeps_volatile_taken_from_row e (with_book (without_entry e.token) (with_done s)) (closed.leaves e.token (with_done s) one) in (
         one,
         keeps_led P (λ u t. Led (rebase_of e rid version i) (with_volatile (taken_from_row e) (with_book (without_entry e.token) (with_done s))) t) (do_change (rebase_of e rid version i) (with_volatile (taken_from_row e) (with_book (without_entry e.token) (with_done s)))) (λ _ t. see_and_mark e t)
-            (change_by P closed (rebase_of e rid version i) (with_volatile (taken_from_row e) (with_book (without_entry e.token) (with_done s))) (inr (entry, (s, h, heard entry refl, refl, refl), refl)) (λ id k. k) fit two)
+            (change_by P closed (rebase_of e rid version i) (with_volatile (taken_from_row e) (with_book (without_entry e.token) (with_done s))) (inr (entry, (s, h, heard entry refl, refl, refl), refl)) (λ id k. k) (λ fair. (fit fair, loses fair)) two)
             (do_led (rebase_of e rid version i) (with_volatile (taken_from_row e) (with_book (without_entry e.token) (with_done s))))
             (λ u t j led. see_and_mark_at P closed e t
             (λ fair some. let fair_s : IsFair s.link = subst IsFair led.link fair in
             subst (λ (es : List QueueEntry). NoEntry es e.item) (sym (led.after.entries (λ b. refl))) (alone_after s e (fits fair_s).1.0 ((closed.on_filter s h).sound s.filter h fair_s) some))
-            (λ item m. absurd (led_unnamed (rebase_of e rid version i) (with_volatile (taken_from_row e) (with_book (without_entry e.token) (with_done s))) t (λ z. z) led item m)) (seen_told t led) j),
+            (λ item m. absurd (led_unnamed (rebase_of e rid version i) (with_volatile (taken_from_row e) (with_book (without_entry e.token) (with_done s))) t (λ z. z) led item m)) (seen_told t led) (ap (λ (v : Volatile). v.round_open) led.volatile ∙ row_open e (round_closed s.volatile)) j),
       )
-
-pub bury_new_keeps : (P : State → Type 0) → Guarded P → (x1 : QueueEntry) → (x2 : Rid) → (x3 : Version) → Preserves P (bury_new x1 x2 x3)
-bury_new_keeps P closed e rid version = keeps_then P (take e) (seq (only_if (is_new_entry e) (try_book (with_tombstone (tombstone_left e rid version)))) whatever) (take_keeps P closed e) (keeps_seq P (only_if (is_new_entry e) (try_book (with_tombstone (tombstone_left e rid version)))) whatever (keeps_only_if P (is_new_entry e) (try_book (with_tombstone (tombstone_left e rid version))) (skips_keep.try_book_keeps P closed (with_tombstone (tombstone_left e rid version)) (λ b. refl) (λ b. refl) (λ b. refl))) (whatever_keeps P closed))
 
 did_small : (a : Action) (r : Held) (asked rid : Rid) → (a ≡ PutFile) ⊎ (a ≡ MakeDir) → IsCounted r → IsSmall r → DidBy a r.items asked rid → rid.0 < 18446744073709551616
 did_small PutFile r asked rid is counted small did = small_rid r rid false counted small did.0
@@ -228,9 +226,8 @@ did_small MoveItem r asked rid is counted small did = elim is as (λ _. rid.0 < 
 did_small RemoveItem r asked rid is counted small did = elim is as (λ _. rid.0 < 18446744073709551616) [ inl z ↦ cc | inr z ↦ cc ]
 
 -- what a Done gives aims at nothing that was made for another upload, and at no target of another item
-done_aims : (s : State) (e : QueueEntry) (rid : Rid) (version : Version) (i : Item) → (e.action ≡ PutFile) ⊎ (e.action ≡ MakeDir) → IsFair s.link → IsSound s.link s.volatile.tokens s.filter → DoneIn s e rid version → item_of (items_now s) e.item ≡ Some i
-    → AimsFree s.link.remote (without_entry e.token (book_now s)).entries (identity_for i.directory rid version) × AimsAlone (without_entry e.token (book_now s)).entries (items_now s) i.id (identity_for i.directory rid version)
-done_aims s e rid version i is fair sound done found = (inr (subst (λ (x : Rid). IsUnmade s.link.remote (without_entry e.token (book_now s)).entries x) (sym (read i.directory)) free), by (is_new_entry e) refl) where
+done_aims : (s : State) (e : QueueEntry) (rid : Rid) (version : Version) (i : Item) → (e.action ≡ PutFile) ⊎ (e.action ≡ MakeDir) → IsFair s.link → IsSound s.link s.volatile.tokens s.filter → DoneIn s e rid version → item_of (items_now s) e.item ≡ Some i → DoneAims s e rid version i
+done_aims s e rid version i is fair sound done found = (inr (subst (λ (x : Rid). IsUnmade s.link.remote (without_entry e.token (book_now s)).entries x) (sym (read i.directory)) free), (by (is_new_entry e) refl).0, (by (is_new_entry e) refl).1) where
   did : DidBy e.action s.link.remote.items e.rid rid
   did = (all_found (IsAskedFor s.link.remote s.link.messages) (λ q. same_key q.token.0 e.token.0) (book_now s).entries e done.0 sound.now.asked).0.did rid version done.1
 
@@ -263,15 +260,21 @@ done_aims s e rid version i is fair sound done found = (inr (subst (λ (x : Rid)
   named put = subst (λ (x : ItemId). Each x (λ j. (target_of j).0 ≡ e.rid.0) (items_now s)) (sym same)
       ((all_found (NamesTarget (items_now s)) (λ q. same_key q.token.0 e.token.0) (book_now s).entries e done.0 sound.now.targets).0 (other e.action put))
 
-  by : (b : Bool) → is_new_entry e ≡ b → AimsAlone (without_entry e.token (book_now s)).entries (items_now s) i.id (identity_for i.directory rid version)
-  by true new = inr (
-    apart_rest (λ f. same_key f.token.0 e.token.0) i.id.0 (book_now s).entries e (ap (λ (x : ItemId). x.0) (sym same)) (λ z. absurd (zero_not i.id.0 (found_positive e.item 0 s.filter.volume.next_item.0 (items_now s) i sound.now.order found) z)) done.0 sound.now.apart,
-    subst (λ (x : Rid). IsUnaimed (items_now s) x) (sym (read i.directory)) (unaimed_made s.link.remote (items_now s) (λ f. same_key f.token.0 e.token.0) (book_now s).entries e rid done.0 (new, (version, done.1)) sound.now.made),
+  Stays : Type 0
+  Stays = Each i.id (λ j. (target_of j).0 ≡ (target_in (identity_for i.directory rid version)).0) (items_now s)
+
+  by : (b : Bool) → is_new_entry e ≡ b → AimsAlone (without_entry e.token (book_now s)).entries (items_now s) i.id (identity_for i.directory rid version) × ((is_new_entry e ≡ true) ⊎ Stays)
+  by true new = (
+    inr (
+      apart_rest (λ f. same_key f.token.0 e.token.0) i.id.0 (book_now s).entries e (ap (λ (x : ItemId). x.0) (sym same)) (λ z. absurd (zero_not i.id.0 (found_positive e.item 0 s.filter.volume.next_item.0 (items_now s) i sound.now.order found) z)) done.0 sound.now.apart,
+      subst (λ (x : Rid). IsUnaimed (items_now s) x) (sym (read i.directory)) (unaimed_made s.link.remote (items_now s) (λ f. same_key f.token.0 e.token.0) (book_now s).entries e rid done.0 (new, (version, done.1)) sound.now.made),
+    ),
+    inl new,
   )
   by false new =
       let put : e.action ≡ PutFile = old e.action refl is new in
-      inl (each_weaker i.id (λ j. (target_of j).0 ≡ e.rid.0) (λ j. (target_of j).0 ≡ (target_in (identity_for i.directory rid version)).0)
-      (λ j z. z ∙ ap (λ (x : Rid). x.0) (sym (done_named s.link.remote e rid put new did)) ∙ ap (λ (x : Rid). x.0) (sym (read i.directory))) (items_now s) (named put))
+      let stays : Stays = each_weaker i.id (λ j. (target_of j).0 ≡ e.rid.0) (λ j. (target_of j).0 ≡ (target_in (identity_for i.directory rid version)).0)
+      (λ j z. z ∙ ap (λ (x : Rid). x.0) (sym (done_named s.link.remote e rid put new did)) ∙ ap (λ (x : Rid). x.0) (sym (read i.directory))) (items_now s) (named put) in (inl stays, inr stays)
 
 done_target : (s : State) (e : QueueEntry) (rid : Rid) (version : Version) (d : Bool) → (e.action ≡ PutFile) ⊎ (e.action ≡ MakeDir) → IsFair s.link → IsSound s.link s.volatile.tokens s.filter → DoneIn s e rid version → (target_in (identity_for d rid version)).0 ≡ rid.0
 done_target s e rid version d is fair sound done = read d where
@@ -285,7 +288,7 @@ done_target s e rid version d is fair sound done = read d where
 upload_done_at : (P : State → Type 0) → Guarded P → (e : QueueEntry) (rid : Rid) (version : Version) (s : State) → (e.action ≡ PutFile) ⊎ (e.action ≡ MakeDir) → ((d : Entry) → d.rid ≡ rid → Heard true s d) → (IsFair s.link → DoneIn s e rid version) → P s → Keeps P (done_upload e rid version s)
 upload_done_at P closed e rid version s is heard done h = by (item_of (items_now s) e.item) refl where
   by : (o : Option Item) → item_of (items_now s) e.item ≡ o → Keeps P (done_upload_on e rid version o s)
-  by None f = (bury_new_keeps P closed e rid version).keeps s h
+  by None f = bury_new_at P closed e s h rid version f done
   by (Some i) f =
       rebase_at P closed e rid version i s
       (λ fair. let sound : IsSound s.link s.volatile.tokens s.filter = (closed.on_filter s h).sound s.filter h fair in
@@ -296,7 +299,7 @@ upload_done_at P closed e rid version s is heard done h = by (item_of (items_now
 
 -- the path of a Move that was done comes to be seen
 done_move_at : (P : State → Type 0) → Guarded P → (e : QueueEntry) (s : State) → e.action ≡ MoveItem → (IsFair s.link → entry_of (book_now s) e.token ≡ Some e) → (IsFair s.link → IsMovedBy P e s) → P s → Keeps P (done_move e s)
-done_move_at P closed e s is live told h = (one, mark_after P closed e (try_seen (entry_seen e)) taken (λ fair some. alone_after s e (live fair) ((closed.on_filter s h).sound s.filter h fair) some) (λ q. sees (is_there e.item taken) q) two) where
+done_move_at P closed e s is live told h = (one, mark_after P closed e (try_seen (entry_seen e)) taken (λ fair some. alone_after s e (live fair) ((closed.on_filter s h).sound s.filter h fair) some) (λ q. sees (is_there e.item taken) q) (row_open e (round_closed s.volatile)) two) where
   taken : State
   taken = with_volatile (taken_from_row e) (with_book (without_entry e.token) (with_done s))
 
@@ -310,63 +313,10 @@ done_move_at P closed e s is live told h = (one, mark_after P closed e (try_seen
   sees b q =
       only_if_at (Marking P taken) b (try_book (with_seen (entry_seen e))) taken q
       (λ _. tried_at (IsNamedBy (Since P taken.link true (book_now taken).cursor) (Since P taken.link true (book_now taken).cursor)) (Marking P taken) (marking P closed taken) (why_no_record (with_seen (entry_seen e))) (in_book (with_seen (entry_seen e))) taken q
-      (q, (closed.moved e (with_done s) is live told one, record { link = refl; waiting = refl; handles = refl; entries = refl; cursor = refl })))
-
--- once the round is closed the cursor may go back
-
-abbrev pub IsShut : State → Type 0
-IsShut s = s.volatile.round_open ≡ false
-
-row_open : (e : QueueEntry) (v : Volatile) → (not_in_row e v).round_open ≡ v.round_open
-row_open e v = by (is_removal e) where
-  by : (b : Bool) → (cond b (record v { not_empty = without_number e.number v.not_empty }) (record v { taken_names = without_item e.item v.taken_names })).round_open ≡ v.round_open
-  by true = refl
-  by false = refl
-
-back_open : (e : QueueEntry) (v : Volatile) → (held_back e v).round_open ≡ v.round_open
-back_open e v = by (is_removal e) where
-  by : (b : Bool) → (cond b (record v { held_tombstones = e.number ∷ v.held_tombstones }) (record v { held_items = e.item ∷ v.held_items })).round_open ≡ v.round_open
-  by true = refl
-  by false = refl
-
-pub reset_cursor_at : (P : State → Type 0) → Guarded P → (s : State) → IsShut s → P s → Keeps (λ t. P t × IsShut t) (reset_cursor s)
-reset_cursor_at P closed s shut h = by (is_cursor 0 s) where
-  none : (n : ℕ) → 0 ≤ n
-  none n = omega arith
-
-  by : (b : Bool) → Keeps (λ t. P t × IsShut t) (cursor_reset_if b s)
-  by true = (h, shut)
-  by false = ((h, shut), (closed.books (with_cursor 0) s (λ b. refl) (λ fair. leaves_early (with_cursor 0) s (λ b. refl) (inl (none (book_now s).cursor))) (λ fair. inr (inr (inl ((λ b. refl), shut)))) h, shut))
-
-reset_if_at : (P : State → Type 0) → Guarded P → (b : Bool) (s : State) → IsShut s → P s → Keeps P (reset_if b s)
-reset_if_at P closed true s shut h = keeps_first P IsShut (reset_cursor s) (reset_cursor_at P closed s shut h)
-reset_if_at P closed false s shut h = h
-
-end_tombstone_at : (P : State → Type 0) → Guarded P → (e : QueueEntry) (directory : Bool) (s : State) → IsShut s → P s → Keeps P (end_tombstone e directory s)
-end_tombstone_at P closed e directory s shut h = keeps_bind P (reset_if directory s) (λ _ t. in_book (without_tombstone e.number) t) (reset_if_at P closed directory s shut h) (λ u t j. (skips_keep.in_book_keeps P closed (without_tombstone e.number) (λ b. refl) (λ b. refl) (λ b. refl)).keeps t j)
-
-done_removal_at : (P : State → Type 0) → Guarded P → (e : QueueEntry) (s : State) → P s → Keeps P (done_removal e s)
-done_removal_at P closed e s h = (one, end_tombstone_at P closed e (was_directory e taken) taken (row_open e (round_closed s.volatile)) two) where
-  taken : State
-  taken = with_volatile (taken_from_row e) (with_book (without_entry e.token) (with_done s))
-
-  one : P (with_done s)
-  one = closed.keeps_with_done s h
-
-  two : P taken
-  two = closed.keeps_volatile_taken_from_row e (with_book (without_entry e.token) (with_done s)) (closed.leaves e.token (with_done s) one)
+      (q, (closed.moved e (with_done s) is live told one, (record { link = refl; waiting = refl; handles = refl; entries = refl; cursor = refl }, row_open e (round_closed s.volatile)))))
 
 pub take_void_keeps : (P : State → Type 0) → Guarded P → (x1 : QueueEntry) → Preserves P (take_void x1)
 take_void_keeps P closed e = end_and_close_keeps P closed e
-
-pub drop_if_keeps : (P : State → Type 0) → Guarded P → (x1 : Bool) → (x2 : QueueEntry) → Preserves P (drop_if x1 x2)
-drop_if_keeps P closed true e = skips_keep.in_book_keeps P closed (without_tombstone e.number) (λ b. refl) (λ b. refl) (λ b. refl)
-drop_if_keeps P closed false e = keeps_ret P unit
-
-lost_place_at : (P : State → Type 0) → Guarded P → (e : QueueEntry) (s : State) → IsShut s → P s → Keeps P (lost_place e s)
-lost_place_at P closed e s shut h =
-    keeps_into P (λ t. P t × IsShut t) (λ t k. k.0) (reset_cursor (with_volatile (not_in_row e) s)) (λ _ t. drop_if (is_removal e) e t) (reset_cursor_at P closed (with_volatile (not_in_row e) s) (row_open e s.volatile ∙ shut) (closed.keeps_volatile_not_in_row e s h))
-    (λ u t j. (drop_if_keeps P closed (is_removal e) e).keeps t j.0)
 
 move_away_at : (P : State → Type 0) → Guarded P → (e : QueueEntry) (s : State) → P s → Keeps P (reading (item_of_entry e) move_away s)
 move_away_at P closed e s h = by (item_of (items_now s) e.item) refl where
@@ -427,4 +377,4 @@ take_done_at P closed e rid version s heard done h = by e.action refl where
   by PutFile q = upload_done_at P closed e rid version s (inl q) heard done h
   by MakeDir q = upload_done_at P closed e rid version s (inr q) heard done h
   by MoveItem q = done_move_at P closed e s q (λ fair. (done fair).0) (λ fair. moved q fair) h
-  by RemoveItem q = done_removal_at P closed e s h
+  by RemoveItem q = done_removal_at P closed e rid version s q done h

@@ -6,22 +6,22 @@ use Rattle.cf_base.specs.declared.changes.Change.TheVariants as change
 use Rattle.cf_base.specs.declared.codes.Code.TheVariants as code
 use Rattle.cf_base.specs.declared.ids.ItemId.{ItemId}
 use Rattle.cf_model.specs.Arrows.{choose, each, only_if, reading, unit, Preserves}
-use Rattle.cf_model.specs.Books.{MakeDir, MoveItem, PutFile, QueueEntry, Tombstone}
+use Rattle.cf_model.specs.Books.{MakeDir, MoveItem, PutFile, QueueEntry, Tombstone, RemoveItem, tombstone_of}
 use Rattle.cf_model.specs.Callbacks.{calling}
 use Rattle.cf_model.specs.Identities.{base_version, is_untargeted, no_identity, stands_at_seen, base_bytes, parent_target, target_of}
 use Rattle.cf_model.specs.Items.{Item, bytes_held, is_all_here, is_dirty, item_of}
 use Rattle.cf_model.specs.LookUp.{by_depth, is_excluded}
-use Rattle.cf_model.specs.PushReplies.{whatever, has_item}
-use Rattle.cf_model.specs.Skips.{try_change, try_mark_now}
+use Rattle.cf_model.specs.PushReplies.{whatever, has_item, is_new_entry, has_number}
+use Rattle.cf_model.specs.Skips.{try_change, try_mark_now, with_volatile}
 use Rattle.cf_model.specs.State.{State, book_now, items_now, with_filter}
 use Rattle.cf_model.specs.Waits.{hydrate_file}
 use Rattle.cf_model_laws.proofs.CallbacksGuarded as callbacks_keep
 use Rattle.cf_model_laws.proofs.StepsGuarded as skips_keep
 use Rattle.cf_model_laws.proofs.WaitsGuarded as waits_keep
-use Rattle.cf_model.specs.Pushes.{after_hydrate, bury_unless, hydrate_first, hydrate_if, hydrate_unless, is_hydrating, is_left_out, is_tombstone_left_out, item_now, mark_item, push, push_all, push_by_case, push_here, push_item, push_lists, push_removal, push_tombstone, push_turn, push_unless, put_file, put_if, put_whole, removal_entry, request_of, upload, upload_if, upload_new, upload_now, has_entry, placed, without_place, without_rid}
-use Rattle.cf_model_laws.proofs.Guarded.{Guarded, Entering, MovesThere}
-use Rattle.cf_model.proofs.ArrowLaws.{keeps_each, keeps_reading, keeps_ret, keeps_then}
-use Rattle.std.proofs.Common.{◌≡◌, ◌<◌, ◌≤◌, ℕ, Bool, true, false, List, [], ◌∷◌, refl, sym, ◌∙◌, ap, subst, arith, length, take, eq-eqb, inl, inr}
+use Rattle.cf_model.specs.Pushes.{after_hydrate, bury_unless, hydrate_first, hydrate_if, hydrate_unless, is_hydrating, is_left_out, is_tombstone_left_out, item_now, mark_item, push, push_all, push_by_case, push_here, push_item, push_lists, push_removal, push_tombstone, push_turn, push_unless, put_file, put_if, put_whole, removal_entry, request_of, upload, upload_if, upload_new, upload_now, has_entry, placed, without_place, without_rid, has_rid_entry, with_token}
+use Rattle.cf_model_laws.proofs.Guarded.{Guarded, Entering, MovesThere, EntersThere, EnteringBy}
+use Rattle.cf_model.proofs.ArrowLaws.{keeps_each, keeps_ret, keeps_then}
+use Rattle.std.proofs.Common.{◌≡◌, ◌<◌, ◌≤◌, ℕ, Bool, true, false, List, [], ◌∷◌, refl, sym, ◌∙◌, ap, subst, arith, length, take, eq-eqb, inl, inr, ◌⊎◌}
 use Rattle.std.specs.List.{list_all, list_any}
 use Rattle.std.proofs.lemmas.Bool.Decides.{nat_tests}
 use Rattle.std.proofs.lemmas.Bool.{eqb-true}
@@ -29,28 +29,28 @@ use Rattle.cf_base.specs.declared.ids.Usn.{Usn}
 use Rattle.cf_model.specs.Changes.{next_number}
 use Rattle.cf_model.specs.Contents.{IsTrueTo, up_to}
 use Rattle.cf_model.specs.Effects.{converted, effect}
-use Rattle.cf_model.specs.Numbers.{above, root_rid}
+use Rattle.cf_model.specs.Numbers.{above, root_rid, same_usn}
 use Rattle.cf_model.specs.Overlay.{Written, over}
 use Rattle.cf_model.specs.Soundness.{Each}
 use Rattle.cf_model.specs.Store.{Held}
 use Rattle.cf_model.specs.Trees.{Keeps, bind}
-use Rattle.cf_model.specs.Words.{number_of, same}
+use Rattle.cf_model.specs.Words.{number_of, same, says}
 use Rattle.cf_model.proofs.Laying.{laid-full}
 use Rattle.cf_model.proofs.TreeLaws.{keeps_bind}
 use Rattle.cf_model_laws.specs.Fitting.{Fits, NoEntry}
-use Rattle.cf_model_laws.specs.Invariant.{AllUpTo, HasNone, IsRight, IsSound, SameBase, put_bytes, IsAimed, target_in, IsUnmade}
+use Rattle.cf_model_laws.specs.Invariant.{AllUpTo, HasNone, IsRight, IsSound, SameBase, put_bytes, IsAimed, target_in, IsUnmade, Among}
 use Rattle.cf_model_laws.specs.Premises.{IsFair}
 use Rattle.cf_model_laws.proofs.EntryLaws.{none_none}
 use Rattle.cf_model_laws.proofs.FeedsGuarded.{first_led}
 use Rattle.cf_model_laws.proofs.FoundItems.{both, found_id, same_self}
 use Rattle.cf_model_laws.proofs.FramesGuarded.{FrameIn, guarded_framed}
-use Rattle.cf_model_laws.proofs.Gathered.{all_any, all_found, all_weaker}
+use Rattle.cf_model_laws.proofs.Gathered.{all_any, all_found, all_weaker, all_in}
 use Rattle.cf_model_laws.proofs.Leading.{kept_leads, leads_bind, leads_kept}
 use Rattle.cf_model_laws.proofs.Plainly.{keeps_led}
 use Rattle.cf_model_laws.proofs.PushRepliesGuarded.{each_at}
 use Rattle.cf_model_laws.proofs.RightItems.{both_none, no_way, no_way_back}
 use Rattle.cf_model_laws.proofs.SkipsGuarded.{Led, Unnamed, guarded_skipping, no_move, try_change_at, try_led, try_mark_now_at}
-use Rattle.cf_model_laws.proofs.SoundSettles.{each_found, found_below, neither, not_true, same_item, each_past}
+use Rattle.cf_model_laws.proofs.SoundSettles.{each_found, found_below, neither, not_true, same_item, each_past, left_true, right_true}
 use Rattle.cf_model_laws.proofs.UploadsGuarded.{IsNewEntry, NewBy, push_at}
 use Rattle.cf_model_laws.proofs.MadeUploads.{IsAbout, aimed_under}
 use Rattle.cf_base.specs.declared.ids.Rid.{Rid}
@@ -165,6 +165,10 @@ file_about s i sound there file = by (i.id.0 == 1) refl where
   by true q = no_way (sym file ∙ right.top (eqb-true i.id.0 1 q))
   by false q = (aimed_under s.link.remote i.directory i.identity sound.counted right.aimed, (all_found (λ x. IsUnmade s.link.remote (book_now s).entries (target_in x.identity)) (λ x. x.id.0 == i.id.0) (items_now s) i there sound.now.made.unknown).0)
 
+-- what is known of the upload of an item
+there_of : (s : State) (i : Item) (e : QueueEntry) → e.item ≡ i.id → e.number ≡ i.number → item_of (items_now s) i.id ≡ Some i → (e.action ≡ RemoveItem → ⊥) → (is_new_entry e ≡ true → ((target_of i).0 ≡ 0) ⊎ ((i.directory ≡ true) × (is_dirty i ≡ true))) → EntersThere (with_volatile with_token s) e
+there_of s i e item number there none fresh = ((λ z. absurd (none z)), λ z. (i, subst (λ (x : ItemId). item_of (items_now s) x ≡ Some i) (sym item) there, sym number, fresh z))
+
 pub push_put_at : (P : State → Type 0) → Guarded P → Entering P → (i : Item) (s : State) → item_of (items_now s) i.id ≡ Some i → (IsFair s.link → NoEntry (book_now s).entries i.id) → (IsFair s.link → (i.directory ≡ false) × (i.placeholder ≡ true)) → list_all is_some i.held ≡ true → P s
     → Keeps P (push_item PutFile i s)
 push_put_at P closed entering i s there alone kind here h = by (is_untargeted i) where
@@ -174,17 +178,18 @@ push_put_at P closed entering i s there alone kind here h = by (is_untargeted i)
       each_found i.id (PutFacts s.link.remote i) 0 s.filter.volume.next_item.0 (items_now s) i sound.now.order there (put_facts s i sound there (kind fair).0 (kind fair).1 here)
 
   by : (b : Bool) → Keeps P (push (cond b (placed PutFile i s) (without_place (placed PutFile i s))) (request_of (cond b (placed PutFile i s) (without_place (placed PutFile i s))) (base_version i) (bytes_held i.held)) s)
-  by true = push_at P closed entering (placed PutFile i s) (base_version i) (bytes_held i.held) s refl (λ fair. new_entry s i (placed PutFile i s) (bytes_held i.held) refl refl there (sound_of P closed s h fair) (alone fair) (facts fair) (λ z. cc) (λ _. file_low s i (sound_of P closed s h fair) there (kind fair).0) (λ z. cc) (λ _. file_about s i (sound_of P closed s h fair) there (kind fair).0) (λ _. refl)) h
-  by false = push_at P closed entering (without_place (placed PutFile i s)) (base_version i) (bytes_held i.held) s refl (λ fair. new_entry s i (without_place (placed PutFile i s)) (bytes_held i.held) refl refl there (sound_of P closed s h fair) (alone fair) (facts fair) (λ z. cc) (λ _. file_low s i (sound_of P closed s h fair) there (kind fair).0) (λ z. cc) (λ _. file_about s i (sound_of P closed s h fair) there (kind fair).0) (λ _. refl)) h
+  by true = push_at EntersThere P closed entering (placed PutFile i s) (base_version i) (bytes_held i.held) s refl (λ fair. new_entry s i (placed PutFile i s) (bytes_held i.held) refl refl there (sound_of P closed s h fair) (alone fair) (facts fair) (λ z. cc) (λ _. file_low s i (sound_of P closed s h fair) there (kind fair).0) (λ z. cc) (λ _. file_about s i (sound_of P closed s h fair) there (kind fair).0) (λ _. refl)) (λ fair. there_of s i (placed PutFile i s) refl refl there (λ z. cc) (λ z. inl (eqb-true (target_of i).0 0 z))) h
+  by false = push_at EntersThere P closed entering (without_place (placed PutFile i s)) (base_version i) (bytes_held i.held) s refl (λ fair. new_entry s i (without_place (placed PutFile i s)) (bytes_held i.held) refl refl there (sound_of P closed s h fair) (alone fair) (facts fair) (λ z. cc) (λ _. file_low s i (sound_of P closed s h fair) there (kind fair).0) (λ z. cc) (λ _. file_about s i (sound_of P closed s h fair) there (kind fair).0) (λ _. refl)) (λ fair. there_of s i (without_place (placed PutFile i s)) refl refl there (λ z. cc) (λ z. inl (eqb-true (target_of i).0 0 z))) h
 
-pub push_dir_at : (P : State → Type 0) → Guarded P → Entering P → (i : Item) (s : State) → item_of (items_now s) i.id ≡ Some i → (IsFair s.link → NoEntry (book_now s).entries i.id) → i.directory ≡ true → P s → Keeps P (push_item MakeDir i s)
-push_dir_at P closed entering i s there alone dir h =
-    push_at P closed entering (without_rid (placed MakeDir i s)) (base_version i) (bytes_held i.held) s refl
-    (λ fair. new_entry s i (without_rid (placed MakeDir i s)) (bytes_held i.held) refl refl there (sound_of P closed s h fair) (alone fair) (each_found i.id (λ j. j.directory ≡ true) 0 s.filter.volume.next_item.0 (items_now s) i (sound_of P closed s h fair).now.order there dir) (λ z. cc) (λ z. cc) (λ z. refl) (λ z. cc) (λ other. absurd (other refl))) h
+pub push_dir_at : (Q : State → QueueEntry → Type 0) (P : State → Type 0) → Guarded P → EnteringBy Q P → (i : Item) (s : State) → item_of (items_now s) i.id ≡ Some i → (IsFair s.link → NoEntry (book_now s).entries i.id) → i.directory ≡ true
+    → (IsFair s.link → Q (with_volatile with_token s) (without_rid (placed MakeDir i s))) → P s → Keeps P (push_item MakeDir i s)
+push_dir_at Q P closed entering i s there alone dir known h =
+    push_at Q P closed entering (without_rid (placed MakeDir i s)) (base_version i) (bytes_held i.held) s refl
+    (λ fair. new_entry s i (without_rid (placed MakeDir i s)) (bytes_held i.held) refl refl there (sound_of P closed s h fair) (alone fair) (each_found i.id (λ j. j.directory ≡ true) 0 s.filter.volume.next_item.0 (items_now s) i (sound_of P closed s h fair).now.order there dir) (λ z. cc) (λ z. cc) (λ z. refl) (λ z. cc) (λ other. absurd (other refl))) known h
 
 pub push_move_at : (P : State → Type 0) → Guarded P → Entering P → (i : Item) (s : State) → item_of (items_now s) i.id ≡ Some i → (IsFair s.link → NoEntry (book_now s).entries i.id) → stands_at_seen (items_now s) (book_now s) i ≡ false → P s → Keeps P (push_item MoveItem i s)
 push_move_at P closed entering i s there alone away h =
-    push_at P closed entering (placed MoveItem i s) (base_version i) (bytes_held i.held) s refl (λ fair. new_entry s i (placed MoveItem i s) (bytes_held i.held) refl refl there (sound_of P closed s h fair) (alone fair) tt (λ z. (i, there, both ((parent_target (items_now s) i).0 == (parent_target (items_now s) i).0) (same i.name i.name) (eq-eqb (parent_target (items_now s) i).0 (parent_target (items_now s) i).0 refl) (same_self i.name))) (λ z. cc) (λ z. cc) (λ z. cc) (λ _. refl)) h
+    push_at EntersThere P closed entering (placed MoveItem i s) (base_version i) (bytes_held i.held) s refl (λ fair. new_entry s i (placed MoveItem i s) (bytes_held i.held) refl refl there (sound_of P closed s h fair) (alone fair) tt (λ z. (i, there, both ((parent_target (items_now s) i).0 == (parent_target (items_now s) i).0) (same i.name i.name) (eq-eqb (parent_target (items_now s) i).0 (parent_target (items_now s) i).0 refl) (same_self i.name))) (λ z. cc) (λ z. cc) (λ z. cc) (λ _. refl)) (λ fair. there_of s i (placed MoveItem i s) refl refl there (λ z. cc) (λ z. no_way z)) h
 
 pub after_hydrate_keeps : (P : State → Type 0) → Guarded P → (x1 : Shown) → Preserves P (after_hydrate x1)
 after_hydrate_keeps P closed (shown.Refused code.TooManyWaits) = skips_keep.skip_keeps P closed code.TooManyWaits
@@ -234,16 +239,20 @@ put_file_at P closed entering i s there alone kind h =
           let sound : IsSound s.link s.volatile.tokens s.filter = sound_of P closed s h fair in
           (found_below i.id 0 s.filter.volume.next_item.0 (items_now s) i sound.now.order there, each_found i.id (λ j. Files j.directory j.placeholder) 0 s.filter.volume.next_item.0 (items_now s) i sound.now.order there (kind fair), alone fair)
 
-pub upload_at : (P : State → Type 0) → Guarded P → Entering P → (i : Item) (s : State) → item_of (items_now s) i.id ≡ Some i → (IsFair s.link → NoEntry (book_now s).entries i.id) → (IsFair s.link → i.directory ≡ false → i.placeholder ≡ true) → P s → Keeps P (upload i s)
-upload_at P closed entering i s there alone placed h = by i.directory refl where
-  by : (b : Bool) → i.directory ≡ b → Keeps P (choose b (push_item MakeDir i) (put_file i) s)
-  by true e = push_dir_at P closed entering i s there alone e h
-  by false e = put_file_at P closed entering i s there alone (λ fair. (e, placed fair e)) h
+pub upload_at : (P : State → Type 0) → Guarded P → Entering P → (i : Item) (s : State) → item_of (items_now s) i.id ≡ Some i → (IsFair s.link → NoEntry (book_now s).entries i.id) → (IsFair s.link → i.directory ≡ false → i.placeholder ≡ true) → ((target_of i).0 ≡ 0) ⊎ (is_dirty i ≡ true) → P s → Keeps P (upload i s)
+upload_at P closed entering i s there alone ready why h = by i.directory refl where
+  fresh : i.directory ≡ true → ((target_of i).0 ≡ 0) ⊎ (is_dirty i ≡ true) → ((target_of i).0 ≡ 0) ⊎ ((i.directory ≡ true) × (is_dirty i ≡ true))
+  fresh dir (inl z) = inl z
+  fresh dir (inr z) = inr (dir, z)
 
-pub upload_now_at : (P : State → Type 0) → Guarded P → Entering P → (item : ItemId) (o : Option Item) (s : State) → item_of (items_now s) item ≡ o → (IsFair s.link → NoEntry (book_now s).entries item) → ((j : Item) → item_of (items_now s) item ≡ Some j → j.placeholder ≡ true) → P s → Keeps P (upload_now o s)
+  by : (b : Bool) → i.directory ≡ b → Keeps P (choose b (push_item MakeDir i) (put_file i) s)
+  by true e = push_dir_at EntersThere P closed entering i s there alone e (λ fair. there_of s i (without_rid (placed MakeDir i s)) refl refl there (λ z. cc) (λ z. fresh e why)) h
+  by false e = put_file_at P closed entering i s there alone (λ fair. (e, ready fair e)) h
+
+pub upload_now_at : (P : State → Type 0) → Guarded P → Entering P → (item : ItemId) (o : Option Item) (s : State) → item_of (items_now s) item ≡ o → (IsFair s.link → NoEntry (book_now s).entries item) → ((j : Item) → item_of (items_now s) item ≡ Some j → (j.placeholder ≡ true) × ((target_of j).0 ≡ 0)) → P s → Keeps P (upload_now o s)
 upload_now_at P closed entering item None s e alone placed h = h
 upload_now_at P closed entering item (Some j) s e alone placed h =
-    upload_at P closed entering j s (subst (λ (x : ItemId). item_of (items_now s) x ≡ Some j) (sym same) e) (λ fair. subst (NoEntry (book_now s).entries) (sym same) (alone fair)) (λ fair d. placed j e) h where
+    upload_at P closed entering j s (subst (λ (x : ItemId). item_of (items_now s) x ≡ Some j) (sym same) e) (λ fair. subst (NoEntry (book_now s).entries) (sym same) (alone fair)) (λ fair d. (placed j e).0) (inl (placed j e).1) h where
       same : ◌≡◌ {A = ItemId} j.id item
       same = same_item j.id item (found_id item (items_now s) j e)
 
@@ -264,39 +273,53 @@ upload_new_at P closed entering i s there alone none h = by i.placeholder refl w
     two true e = right.bare e
     two false e = (right.plain e bare).0
 
+  Ready : Item → Type 0
+  Ready x = (x.placeholder ≡ true) × ((target_of x).0 ≡ 0)
+
+  -- the root has a target
+  lower : (i.id.0 == 1) ≡ false
+  lower = top (i.id.0 == 1) none where
+    top : (b : Bool) → (cond b root_rid (target_in i.identity)).0 ≡ 0 → b ≡ false
+    top true z = cc
+    top false z = refl
+
   then_upload : (done : Bool) (t : State) → P t → (done ≡ true → Led (change.Convert i.id no_identity) s t) → Keeps P (upload_if i.id done t)
   then_upload false t j l = j
   then_upload true t j l =
       let led : Led (change.Convert i.id no_identity) s t = l refl in
       upload_now_at P closed entering i.id (item_of (items_now t) i.id) t refl
       (λ fair. subst (λ (es : List QueueEntry). NoEntry es i.id) (sym (led.after.entries (λ b. refl))) (alone (subst IsFair led.link fair)))
-      (λ k e. each_at i.id (λ x. x.placeholder ≡ true) (items_now t) k e
-      (subst (Each i.id (λ x. x.placeholder ≡ true)) (sym led.after.items) (made (items_now s)))) j where
-        made : (items : List Item) → Each i.id (λ x. x.placeholder ≡ true) (effect items (change.Convert i.id no_identity) (next_number s.filter.volume))
+      (λ k e. each_at i.id Ready (items_now t) k e
+      (subst (Each i.id Ready) (sym led.after.items) (made (items_now s)))) j where
+        below : (b : Bool) → b ≡ false → (cond b root_rid (target_in no_identity)).0 ≡ 0
+        below true q = no_way_back q
+        below false q = refl
+
+        made : (items : List Item) → Each i.id Ready (effect items (change.Convert i.id no_identity) (next_number s.filter.volume))
         made [] = tt
         made (x ∷ xs) = (one (x.id.0 == i.id.0) refl, made xs) where
-          one : (b : Bool) → (x.id.0 == i.id.0) ≡ b → ((cond b (converted no_identity (next_number s.filter.volume) x) x).id.0 == i.id.0) ≡ true → (cond b (converted no_identity (next_number s.filter.volume) x) x).placeholder ≡ true
-          one true q z = refl
+          one : (b : Bool) → (x.id.0 == i.id.0) ≡ b → ((cond b (converted no_identity (next_number s.filter.volume) x) x).id.0 == i.id.0) ≡ true → Ready (cond b (converted no_identity (next_number s.filter.volume) x) x)
+          one true q z = (refl, below (x.id.0 == 1) (subst (λ (n : ℕ). (n == 1) ≡ false) (sym (eqb-true x.id.0 i.id.0 q)) lower))
           one false q z = no_way (sym q ∙ z)
 
   by : (b : Bool) → i.placeholder ≡ b → Keeps P (bind (only_if (not b) (try_change (change.Convert i.id no_identity)) s) (upload_if i.id))
-  by true e = upload_now_at P closed entering i.id (item_of (items_now s) i.id) s refl alone (λ j q. subst (λ (x : Item). x.placeholder ≡ true) (of j (sym there ∙ q)) e) h
+  by true e = upload_now_at P closed entering i.id (item_of (items_now s) i.id) s refl alone (λ j q. subst Ready (of j (sym there ∙ q)) (e, none)) h
   by false e =
       keeps_led P (λ done t. done ≡ true → Led (change.Convert i.id no_identity) s t) (try_change (change.Convert i.id no_identity) s) (λ done t. upload_if i.id done t)
-      (try_change_at Unnamed P (guarded_skipping P closed) (change.Convert i.id no_identity) s refl (λ id k. k) (fits e) h) (try_led (change.Convert i.id no_identity) s) then_upload
+      (try_change_at Unnamed P (guarded_skipping P closed) (change.Convert i.id no_identity) s refl (λ id k. k) (λ fair. (fits e fair, tt)) h) (try_led (change.Convert i.id no_identity) s) then_upload
 
 mark_item_at : (P : State → Type 0) → Guarded P → (item : ItemId) (s : State) → (IsFair s.link → NoEntry (book_now s).entries item) → P s → Keeps P (mark_item item s)
 mark_item_at P closed item s alone h = keeps_bind P (try_mark_now item s) whatever (try_mark_now_at Unnamed P (guarded_skipping P closed) item s (λ n. tt) (λ fair i e. no_move (book_now s).entries item (alone fair)) h) (λ b t j. j)
 
 push_by_case_at : (P : State → Type 0) → Guarded P → Entering P → (i : Item) (s : State) → item_of (items_now s) i.id ≡ Some i → (IsFair s.link → NoEntry (book_now s).entries i.id) → P s → Keeps P (push_by_case i s)
 push_by_case_at P closed entering i s there alone h = by (is_untargeted i) refl where
-  three : (b : Bool) → is_untargeted i ≡ false → Keeps P (choose b (upload i) (mark_item i.id) s)
-  three true e = upload_at P closed entering i s there alone (λ fair d. targeted s.link.remote (next_number s.filter.volume) i (right_of s i (sound_of P closed s h fair) there) e d) h
-  three false e = mark_item_at P closed i.id s alone h
+  three : (b : Bool) → is_dirty i ≡ b → is_untargeted i ≡ false → Keeps P (choose b (upload i) (mark_item i.id) s)
+  three true q e = upload_at P closed entering i s there alone (λ fair d. targeted s.link.remote (next_number s.filter.volume) i (right_of s i (sound_of P closed s h fair) there) e d) (inr q) h
+  three false q e = mark_item_at P closed i.id s alone h
 
   two : (b : Bool) → not (stands_at_seen (items_now s) (book_now s) i) ≡ b → is_untargeted i ≡ false → Keeps P (choose b (push_item MoveItem i) (choose (is_dirty i) (upload i) (mark_item i.id)) s)
   two true q e = push_move_at P closed entering i s there alone (not_true (stands_at_seen (items_now s) (book_now s) i) q) h
-  two false q e = three (is_dirty i) e
+  two false q e = three (is_dirty i) refl e
 
   by : (b : Bool) → is_untargeted i ≡ b → Keeps P (choose b (upload_new i) (choose (not (stands_at_seen (items_now s) (book_now s) i)) (push_item MoveItem i) (choose (is_dirty i) (upload i) (mark_item i.id))) s)
   by true e = upload_new_at P closed entering i s there alone (eqb-true (target_of i).0 0 e) h
@@ -314,11 +337,24 @@ push_turn_keeps P closed entering item = record { keeps = λ s h. by (item_of (i
     two true q = h
     two false q = push_by_case_at P closed entering i s (subst (λ (x : ItemId). item_of (items_now s) x ≡ Some i) (sym same) e) (λ fair. now_lone s i q) h
 
-pub push_removal_keeps : (P : State → Type 0) → Guarded P → Entering P → (t : Tombstone) → Preserves P (push_removal t)
-push_removal_keeps P closed entering t = record {
-  keeps = λ s h. push_at P closed entering (removal_entry s t) t.version [] s refl
-      (λ fair. record { early = λ e. no_way e; item = low s.filter.volume.next_item.0 (sound_of P closed s h fair).now.more; apart = all_any (λ f. f.item.0 ≡ 0 → f.item.0 ≡ 0) (λ f e. e) (book_now s).entries; facts = tt; off = λ z. cc; low = λ z. cc; new = λ z. cc; about = λ z. cc; named = λ _. each_past (record { 0 = 0 }) (λ i. (target_of i).0 ≡ t.rid.0) 0 s.filter.volume.next_item.0 (items_now s) (none 0) (sound_of P closed s h fair).now.order }) h;
-}
+-- the tombstone that is found under the number is one of them
+tombstone_there : (s : State) (t : Tombstone) → is_tombstone_left_out s t ≡ false → (u : Tombstone) × Among u (book_now s).tombstones × (u.number ≡ t.number) × (u.rid.0 ≡ t.rid.0)
+tombstone_there s t q = by (tombstone_of (book_now s) t.number) refl (first (says (λ u. u.rid.0 == t.rid.0) (tombstone_of (book_now s) t.number)) (has_rid_entry s t) (has_number s.volatile.held_tombstones t.number) q) where
+  first : (a b c : Bool) → (not a || b || c) ≡ false → a ≡ true
+  first true b c z = refl
+  first false b c z = no_way_back z
+
+  same : (a b : Usn) → same_usn a b ≡ true → a ≡ b
+  same a b e = λ k. record { epoch = eqb-true a.epoch b.epoch (left_true (a.epoch == b.epoch) (a.place == b.place) e) k; place = eqb-true a.place b.place (right_true (a.epoch == b.epoch) (a.place == b.place) e) k }
+
+  by : (o : Option Tombstone) → tombstone_of (book_now s) t.number ≡ o → says (λ u. u.rid.0 == t.rid.0) o ≡ true → (u : Tombstone) × Among u (book_now s).tombstones × (u.number ≡ t.number) × (u.rid.0 ≡ t.rid.0)
+  by None f z = no_way z
+  by (Some u) f z = let k = all_found (λ x. Among x (book_now s).tombstones) (λ x. same_usn x.number t.number) (book_now s).tombstones u f (all_in (book_now s).tombstones) in (u, k.0, same u.number t.number k.1, eqb-true u.rid.0 t.rid.0 z)
+
+pub push_removal_at : (Q : State → QueueEntry → Type 0) (P : State → Type 0) → Guarded P → EnteringBy Q P → (t : Tombstone) (s : State) → (IsFair s.link → Q (with_volatile with_token s) (removal_entry s t)) → P s → Keeps P (push_removal t s)
+push_removal_at Q P closed entering t s known h =
+    push_at Q P closed entering (removal_entry s t) t.version [] s refl
+    (λ fair. record { early = λ e. no_way e; item = low s.filter.volume.next_item.0 (sound_of P closed s h fair).now.more; apart = all_any (λ f. f.item.0 ≡ 0 → f.item.0 ≡ 0) (λ f e. e) (book_now s).entries; facts = tt; off = λ z. cc; low = λ z. cc; new = λ z. cc; about = λ z. cc; named = λ _. each_past (record { 0 = 0 }) (λ i. (target_of i).0 ≡ t.rid.0) 0 s.filter.volume.next_item.0 (items_now s) (none 0) (sound_of P closed s h fair).now.order }) known h
   where
     low : (n : ℕ) → 2 ≤ n → 0 < n
     low n h = omega (arith, h)
@@ -326,12 +362,11 @@ push_removal_keeps P closed entering t = record {
     none : (n : ℕ) → n ≤ n
     none n = omega arith
 
-bury_unless_keeps : (P : State → Type 0) → Guarded P → Entering P → (t : Tombstone) (b : Bool) → Preserves P (bury_unless t b)
-bury_unless_keeps P closed entering t true = keeps_ret P unit
-bury_unless_keeps P closed entering t false = push_removal_keeps P closed entering t
-
 pub push_tombstone_keeps : (P : State → Type 0) → Guarded P → Entering P → (t : Tombstone) → Preserves P (push_tombstone t)
-push_tombstone_keeps P closed entering t = keeps_reading P (λ s. is_tombstone_left_out s t) (bury_unless t) (bury_unless_keeps P closed entering t)
+push_tombstone_keeps P closed entering t = record { keeps = λ s h. by s h (is_tombstone_left_out s t) refl } where
+  by : (s : State) → P s → (b : Bool) → is_tombstone_left_out s t ≡ b → Keeps P (bury_unless t b s)
+  by s h true q = h
+  by s h false q = push_removal_at EntersThere P closed entering t s (λ fair. ((λ _. tombstone_there s t q), λ z. no_way z)) h
 
 push_lists_keeps : (P : State → Type 0) → Guarded P → Entering P → (ts : List Tombstone) (ids : List ItemId) → Preserves P (push_lists ts ids)
 push_lists_keeps P closed entering ts ids = keeps_then P (each push_tombstone ts) (each push_turn ids) (keeps_each P push_tombstone ts (push_tombstone_keeps P closed entering)) (keeps_each P push_turn ids (push_turn_keeps P closed entering))

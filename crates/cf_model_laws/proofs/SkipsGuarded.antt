@@ -33,8 +33,8 @@ use Rattle.cf_model_laws.specs.Fitting.{Fits, NoEntry, NoMove, Stands, Touches}
 use Rattle.cf_model_laws.proofs.FoundItems.{found_again}
 use Rattle.cf_model_laws.specs.Invariant.{All, InOrder, IsSound}
 use Rattle.cf_model_laws.specs.Premises.{IsFair}
-use Rattle.cf_model_laws.specs.Taken.{IsNamedBy, IsSeenBy, Nothing, Since, Heard, Mentions}
-use Rattle.cf_model_laws.proofs.SinceKept.{named_weaker}
+use Rattle.cf_model_laws.specs.Taken.{IsNamedBy, IsSeenBy, Known, LosesBy, LosesOn, Nothing, Since, Heard, Mentions}
+use Rattle.cf_model_laws.proofs.SinceKept.{loses_weaker, named_weaker}
 use Rattle.cf_model_laws.proofs.Gathered.{all_filter, all_put_in, all_weaker}
 use Rattle.cf_model_laws.proofs.Guarded.{AreSeenBelow, Guarded, IsRecordBy, KeepsBelow, KeepsCursor, KeepsEarly, KeepsPlaced, StandsStill}
 use Rattle.cf_model_laws.proofs.Leading.{Leads, kept_leads, leads_bind, leads_mapped}
@@ -46,14 +46,18 @@ use Rattle.cf_model_laws.proofs.SoundSettles.{each_found, found_below, left_true
 use Rattle.cf_base.specs.declared.messages.Reply.{Reply}
 use Rattle.cf_base.specs.declared.messages.Reply.TheVariants as reply
 
--- What a record does: it leaves the paths seen and the cursor, or the path of an entry that is known comes to be seen.
+-- What a record does: it leaves the paths seen, the cursor and the tombstones, or the path of an entry that is known comes to be seen.
 abbrev pub IsStepBy : (Entry → Type 0) → (Book → Book) → State → Type 0
-IsStepBy On f s = (((b : Book) → (f b).seen ≡ b.seen) × KeepsCursor f) ⊎ ((p : SeenPath) × ((b : Book) → f b ≡ with_seen p b) × (IsFair s.link → IsSeenBy On (items_now s) p))
+IsStepBy On f s = (((b : Book) → (f b).seen ≡ b.seen) × KeepsCursor f × ((b : Book) → (f b).tombstones ≡ b.tombstones)) ⊎ ((p : SeenPath) × ((b : Book) → f b ≡ with_seen p b) × (IsFair s.link → IsSeenBy On (items_now s) p))
+
+-- The change fits, and takes the targets of known entries alone.
+abbrev pub FitsAnd : (Entry → Type 0) → Change → State → Type 0
+FitsAnd On c s = IsFair s.link → Fits s.link.remote s.filter c × LosesOn On (items_now s) c
 
 -- What these steps need, where so much is known of entries: some changes, records that leave the uploads, and lines of what is left out.
 pub record Skipping (On : Entry → Type 0) (Ok : Change → Type 0) (P : State → Type 0) : Type 0 where
   pub sound : (s : State) → P s → IsFair s.link → IsSound s.link s.volatile.tokens s.filter
-  pub change : (c : Change) (s : State) → Ok c → ((id : ItemId) → Touches c id → ⊥) → (IsFair s.link → Fits s.link.remote s.filter c) → P s → Keeps P (do_change c s)
+  pub change : (c : Change) (s : State) → Ok c → ((id : ItemId) → Touches c id → ⊥) → FitsAnd On c s → P s → Keeps P (do_change c s)
   pub books : (f : Book → Book) (s : State) → KeepsEntries f → (IsFair s.link → KeepsPlaced f s × KeepsBelow f s × KeepsEarly f s) → IsStepBy On f s → P s → P (with_book f s)
   pub skips : (c : Code) (s : State) → P s → P (skipped c s)
 
@@ -84,7 +88,7 @@ of_nothing : (On : Entry → Type 0) (e : Entry) → Nothing e → On e
 of_nothing On e z = absurd z
 
 record_by : (P : State → Type 0) (On : Entry → Type 0) (f : Book → Book) (s : State) → ((e : Entry) → On e → Since P s.link true (book_now s).cursor e) → IsFair s.link → IsStepBy On f s → IsRecordBy P f s
-record_by P On f s known fair (inl h) = inl h
+record_by P On f s known fair (inl h) = inl (h.0, h.1, inl h.2)
 record_by P On f s known fair (inr h) = let k : IsSeenBy On (items_now s) h.0 = h.2 fair in inr (inl (h.0, h.1, (k.0, known k.0 k.1, k.2, k.3, k.4)))
 
 -- an entry of a feed or of a Done
@@ -102,17 +106,19 @@ sooner : (P : State → Type 0) (l : Link) (n : ℕ) (e : Entry) → Since P l t
 sooner P l n e h = let k : Heard true h.0 e = h.2 in (h.0, h.1, (k.0, k.1, k.2, k.3, k.4, k.5, mentioned h.0 k.2 e k.6), h.3, h.4)
 
 -- a change that names what was told
-pub change_by : (P : State → Type 0) → Guarded P → (c : Change) (s : State) → IsNamedBy (Since P s.link true (book_now s).cursor) (Since P s.link false (book_now s).cursor) c → ((id : ItemId) → Touches c id → ⊥) → (IsFair s.link → Fits s.link.remote s.filter c) → P s → Keeps P (do_change c s)
+pub change_by : (P : State → Type 0) → Guarded P → (c : Change) (s : State) → IsNamedBy (Since P s.link true (book_now s).cursor) (Since P s.link false (book_now s).cursor) c → ((id : ItemId) → Touches c id → ⊥)
+    → (IsFair s.link → Fits s.link.remote s.filter c × LosesBy (Known P s) (book_now s).cursor (items_now s) c) → P s → Keeps P (do_change c s)
 change_by P closed c s named free fit h = keeps_mapped (λ x. P (with_filter x s)) P (λ x. with_filter x s) (put c s.filter) (λ x j. j)
-    ((closed.on_filter s h).change same_book c s.filter (λ b. refl) (λ fair. ((λ z b. refl), (λ k. k), λ b. refl)) free fit (λ fair. (named, inl (λ b. refl))) h)
+    ((closed.on_filter s h).change same_book c s.filter (λ b. refl) (λ fair. ((λ z b. refl), (λ k. k), λ b. refl)) free (λ fair. (fit fair).0) (λ fair. (named, inl (λ b. refl), (fit fair).1, λ b. refl)) h)
 
 -- what is known of entries was told before, and the link and the cursor are as they were
-pub heard_skipping : (P F : State → Type 0) (On : Entry → Type 0) → Guarded P → Framing Whichever F → ((s : State) → P s → F s → (e : Entry) → On e → Since P s.link true (book_now s).cursor e) → Skipping On (IsNamedBy On On) (λ s. P s × F s)
-heard_skipping P F On closed frame known = record {
+pub heard_skipping : (P F : State → Type 0) (On : Entry → Type 0) → Guarded P → Framing Whichever F → ((s : State) → P s → F s → (e : Entry) → On e → Since P s.link true (book_now s).cursor e) → ((s : State) → F s → s.volatile.round_open ≡ false) → Skipping On (IsNamedBy On On) (λ s. P s × F s)
+heard_skipping P F On closed frame known shut = record {
   sound = λ s h. (closed.on_filter s h.0).sound s.filter h.0;
   change = λ c s ok free fit h. keeps_both P F (do_change c s)
-      (change_by P closed c s (named_weaker (Since P s.link true (book_now s).cursor) On (Since P s.link false (book_now s).cursor) On (known s h.0 h.1) (λ e on. sooner P s.link (book_now s).cursor e (known s h.0 h.1 e on)) c ok) free fit h.0)
-      (frame.change c s tt fit h.1);
+      (change_by P closed c s (named_weaker (Since P s.link true (book_now s).cursor) On (Since P s.link false (book_now s).cursor) On (known s h.0 h.1) (λ e on. sooner P s.link (book_now s).cursor e (known s h.0 h.1 e on)) c ok) free
+      (λ fair. let k = fit fair in (k.0, inr (shut s h.1, inl (loses_weaker (Since P s.link true (book_now s).cursor) On (known s h.0 h.1) (items_now s) c k.1)))) h.0)
+      (frame.change c s tt (λ fair. (fit fair).0) h.1);
   books = λ f s keeps placed step h. (closed.books f s keeps placed (λ fair. record_by P On f s (known s h.0 h.1) fair step) h.0, frame.books f s keeps (step_cursor On f s step) h.1);
   skips = λ c s h. (closed.keeps_skipped c s h.0, frame.skips c s h.1);
 }
@@ -120,7 +126,7 @@ heard_skipping P F On closed frame known = record {
 pub guarded_skipping : (P : State → Type 0) → Guarded P → Skipping Nothing Unnamed P
 guarded_skipping P closed = record {
   sound = λ s h. (closed.on_filter s h).sound s.filter h;
-  change = λ c s ok free fit h. change_by P closed c s (named_weaker (Since P s.link true (book_now s).cursor) Nothing (Since P s.link false (book_now s).cursor) Nothing (of_nothing (Since P s.link true (book_now s).cursor)) (of_nothing (Since P s.link false (book_now s).cursor)) c ok) free fit h;
+  change = λ c s ok free fit h. change_by P closed c s (named_weaker (Since P s.link true (book_now s).cursor) Nothing (Since P s.link false (book_now s).cursor) Nothing (of_nothing (Since P s.link true (book_now s).cursor)) (of_nothing (Since P s.link false (book_now s).cursor)) c ok) free (λ fair. let k = fit fair in (k.0, inl k.1)) h;
   books = λ f s keeps placed step h. closed.books f s keeps placed (λ fair. record_by P Nothing f s (of_nothing (Since P s.link true (book_now s).cursor)) fair step) h;
   skips = λ c s h. closed.keeps_skipped c s h;
 }
@@ -141,7 +147,7 @@ keeps_into P Q less (Asked f) g h k = λ x. keeps_into P Q less (f x) g (h x) k
 pub framed : {On : Entry → Type 0} (Ok : Change → Type 0) (P F : State → Type 0) → Skipping On Ok P → Framing Ok F → Skipping On Ok (λ s. P s × F s)
 framed Ok P F closed frame = record {
   sound = λ s h fair. closed.sound s h.0 fair;
-  change = λ c s ok free fit h. keeps_both P F (do_change c s) (closed.change c s ok free fit h.0) (frame.change c s ok fit h.1);
+  change = λ c s ok free fit h. keeps_both P F (do_change c s) (closed.change c s ok free fit h.0) (frame.change c s ok (λ fair. (fit fair).0) h.1);
   books = λ f s keeps placed step h. (closed.books f s keeps placed step h.0, frame.books f s keeps (step_cursor _ f s step) h.1);
   skips = λ c s h. (closed.skips c s h.0, frame.skips c s h.1);
 }
@@ -200,7 +206,7 @@ tried_at Ok P closed why f s h k = by (why s) where
   by None = keeps_bind P (bind (f s) (λ _ t. Ret None t)) left_out (keeps_bind P (f s) (λ _ t. Ret None t) k (λ a t j. j)) (λ o t j. (left_out_keeps Ok P closed o).keeps t j)
   by (Some c) = (left_out_keeps Ok P closed (Some c)).keeps s h
 
-pub try_change_at : {On : Entry → Type 0} (Ok : Change → Type 0) (P : State → Type 0) → Skipping On Ok P → (c : Change) (s : State) → Ok c → ((id : ItemId) → Touches c id → ⊥) → (IsFair s.link → Fits s.link.remote s.filter c) → P s → Keeps P (try_change c s)
+pub try_change_at : {On : Entry → Type 0} (Ok : Change → Type 0) (P : State → Type 0) → Skipping On Ok P → (c : Change) (s : State) → Ok c → ((id : ItemId) → Touches c id → ⊥) → FitsAnd On c s → P s → Keeps P (try_change c s)
 try_change_at Ok P closed c s ok free fit h = tried_at Ok P closed (why_no_change c) (do_change c) s h (closed.change c s ok free fit h)
 
 try_book_at : {On : Entry → Type 0} (Ok : Change → Type 0) (P : State → Type 0) → Skipping On Ok P → (f : Book → Book) (s : State) → KeepsEntries f → (IsFair s.link → KeepsPlaced f s × KeepsBelow f s × KeepsEarly f s) → IsStepBy On f s → P s → Keeps P (try_book f s)
@@ -229,20 +235,18 @@ leaves_seen f s seen = (
 pub leaves_early : (f : Book → Book) (s : State) → ((b : Book) → (f b).seen ≡ b.seen) → KeepsEarly f s → KeepsPlaced f s × KeepsBelow f s × KeepsEarly f s
 leaves_early f s seen early = ((leaves_seen f s seen).0, (leaves_seen f s seen).1, early)
 
-pub try_book_keeps : {On : Entry → Type 0} (Ok : Change → Type 0) (P : State → Type 0) → Skipping On Ok P → (f : Book → Book) → KeepsEntries f → ((b : Book) → (f b).seen ≡ b.seen) → KeepsCursor f → Preserves P (try_book f)
-try_book_keeps Ok P closed f keeps seen cursor = record { keeps = λ s h. try_book_at Ok P closed f s keeps (λ fair. leaves_early f s seen (cursor_stays f s cursor)) (inl (seen, cursor)) h }
-
 -- what a change that was done leaves
 pub record Led (c : Change) (s t : State) : Type 0 where
   pub after : After same_book c s.filter t.filter
   pub link : t.link ≡ s.link
   pub running : t.running ≡ s.running
+  pub volatile : t.volatile ≡ s.volatile
 
 abbrev pub Any : {S : Type 0} → S → Type 0
 Any s = Unit {0}
 
 pub do_led : (c : Change) (s : State) → Leads Any (λ u t. Led c s t) (do_change c s)
-do_led c s = leads_mapped Any (λ u x. After same_book c s.filter x) Any (λ u t. Led c s t) (λ x. with_filter x s) (put c s.filter) (λ x k. tt) (λ u x k. record { after = k; link = refl; running = refl }) (change_after same_book c s.filter)
+do_led c s = leads_mapped Any (λ u x. After same_book c s.filter x) Any (λ u t. Led c s t) (λ x. with_filter x s) (put c s.filter) (λ x k. tt) (λ u x k. record { after = k; link = refl; running = refl; volatile = refl }) (change_after same_book c s.filter)
 
 pub try_led : (c : Change) (s : State) → Leads Any (λ done t. done ≡ true → Led c s t) (try_change c s)
 try_led c s = by (why_no_change c s) where
@@ -263,7 +267,7 @@ and_then_led P Q f g s h l k = keeps_led P (λ done t. done ≡ true → Q t) (f
   by false t j q = j
 
 -- a change, and then what follows where it was done
-pub and_then_at : {On : Entry → Type 0} (Ok : Change → Type 0) (P : State → Type 0) → Skipping On Ok P → (c : Change) (g : Arrow State Bool) (s : State) → Ok c → ((id : ItemId) → Touches c id → ⊥) → (IsFair s.link → Fits s.link.remote s.filter c) → P s
+pub and_then_at : {On : Entry → Type 0} (Ok : Change → Type 0) (P : State → Type 0) → Skipping On Ok P → (c : Change) (g : Arrow State Bool) (s : State) → Ok c → ((id : ItemId) → Touches c id → ⊥) → FitsAnd On c s → P s
     → ((t : State) → P t → Led c s t → Keeps P (g t)) → Keeps P (and_then (try_change c) g s)
 and_then_at Ok P closed c g s ok free fit h k = and_then_led P (Led c s) (try_change c) g s (try_change_at Ok P closed c s ok free fit h) (try_led c s) k
 
@@ -326,7 +330,7 @@ mark_fits Ok P closed item n s h unmoved e fair = by (item_of (items_now s) item
 
 pub try_mark_at : {On : Entry → Type 0} (Ok : Change → Type 0) (P : State → Type 0) → Skipping On Ok P → (item : ItemId) (n : Usn) (s : State) → Ok (change.Mark item n) → (IsFair s.link → IsUnmoved item s) → P s → Keeps P (try_mark item n s)
 try_mark_at Ok P closed item n s ok unmoved h =
-    only_if_at P (is_markable item n s) (try_change (change.Mark item n)) s h (λ e. try_change_at Ok P closed (change.Mark item n) s ok (λ id k. k) (mark_fits Ok P closed item n s h unmoved e) h)
+    only_if_at P (is_markable item n s) (try_change (change.Mark item n)) s h (λ e. try_change_at Ok P closed (change.Mark item n) s ok (λ id k. k) (λ fair. (mark_fits Ok P closed item n s h unmoved e fair, tt)) h)
 
 pub try_mark_now_at : {On : Entry → Type 0} (Ok : Change → Type 0) (P : State → Type 0) → Skipping On Ok P → (item : ItemId) (s : State) → ((n : Usn) → Ok (change.Mark item n)) → (IsFair s.link → IsUnmoved item s) → P s → Keeps P (try_mark_now item s)
 try_mark_now_at Ok P closed item s ok unmoved h = try_mark_at Ok P closed item (number_of_item item s) s (ok (number_of_item item s)) unmoved h
@@ -336,7 +340,7 @@ try_mark_now_at Ok P closed item s ok unmoved h = try_mark_at Ok P closed item (
 -- where an item stays in its directory, or comes to stand in another that is here
 pub move_at : {On : Entry → Type 0} (Ok : Change → Type 0) (P : State → Type 0) → Skipping On Ok P → ((item parent : ItemId) (name : List ℕ) → Ok (change.Move item parent name)) → (item parent : ItemId) (name : List ℕ) (s : State)
     → (IsFair s.link → Stands s.filter (change.Move item parent name)) → P s → Keeps P (try_change (change.Move item parent name) s)
-move_at Ok P closed ok item parent name s stands h = try_change_at Ok P closed (change.Move item parent name) s (ok item parent name) (λ id k. k) stands h
+move_at Ok P closed ok item parent name s stands h = try_change_at Ok P closed (change.Move item parent name) s (ok item parent name) (λ id k. k) (λ fair. (stands fair, tt)) h
 
 -- an item that is found has one parent
 stays_in : {On : Entry → Type 0} (Ok : Change → Type 0) (P : State → Type 0) → Skipping On Ok P → (i : Item) (name : List ℕ) (s : State) → (IsFair s.link → item_of (items_now s) i.id ≡ Some i) → P s → IsFair s.link → Stands s.filter (change.Move i.id i.parent name)

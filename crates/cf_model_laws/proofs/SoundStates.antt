@@ -25,7 +25,7 @@ use Rattle.cf_model_laws.specs.Invariant.{All, Invariant, IsDurable, IsSound, Is
 use Rattle.cf_model_laws.specs.Premises.{IsFair, IsSmall}
 use Rattle.cf_model_laws.proofs.FitAsks.{LiveAt}
 use Rattle.cf_model_laws.proofs.Gathered.{all_any, all_weaker}
-use Rattle.cf_model_laws.proofs.Guarded.{AskedIn, Commanding, Deleting, Entering, Guarded, PostedIn}
+use Rattle.cf_model_laws.proofs.Guarded.{AskedIn, Commanding, Deleting, Entering, EnteringAny, Guarded, PostedIn}
 use Rattle.cf_model_laws.proofs.RemoteSteps.{items_grow}
 use Rattle.cf_model_laws.proofs.RightItems.{no_way}
 use Rattle.cf_model_laws.proofs.SoundBooks.{book_sound, durable_entered, durable_fewer, tokens_sound}
@@ -198,11 +198,14 @@ sound_commands = record {
   inlines = λ inline s h. h;
 }
 
-pub sound_enters : Entering Invariant
-sound_enters = record {
+pub sound_enters_any : EnteringAny Invariant
+sound_enters_any = record {
   enters = λ e s well h. (
     h.0,
     λ fair. entries_state s (s.filter.volume.book.entries ++ e ∷ [])
         (durable_entered s.link.remote s.link.messages s.filter.volume.epoch s.volatile.tokens (next_number s.filter.volume) s.filter.volume.next_item.0 s.filter.volume.items s.filter.volume.book.entries e (well fair).0) (h.1 fair),
   );
 }
+
+pub sound_enters : Entering Invariant
+sound_enters = record { enters = λ e s well h. sound_enters_any.enters e s (λ fair. ((well fair).0, (well fair).1, tt)) h }

@@ -32,7 +32,7 @@ use Rattle.cf_model_laws.specs.GivenOnce.{WasGiven}
 use Rattle.cf_model_laws.specs.Invariant.{All, Carries, FitsBy, IsEntryOf, IsGivenIn, IsMessageRight, IsSound, Names, OfRequest, PutFits, is_put, put_bytes, Asks, NamesTarget}
 use Rattle.cf_model_laws.specs.Premises.{IsFair}
 use Rattle.cf_model_laws.proofs.Gathered.{all_any, all_append, all_weaker, each_weaker}
-use Rattle.cf_model_laws.proofs.Guarded.{EnteredIn, Entering, Guarded, MovesThere, PostedIn, PostedNow}
+use Rattle.cf_model_laws.proofs.Guarded.{EnteredIn, EnteringBy, Guarded, MovesThere, PostedIn, PostedNow}
 use Rattle.cf_model_laws.proofs.MessagesGuarded.{anyhow, send_now_at}
 use Rattle.cf_model_laws.proofs.RightItems.{no_way, no_way_back}
 use Rattle.cf_model_laws.proofs.SoundLinks.{CarriesBy, FrameCarries}
@@ -230,6 +230,12 @@ anchored_cursor e b = by (e.item.0 == 0) where
   by true = refl
   by false = refl
 
+anchored_buried : (e : QueueEntry) (b : Book) → (anchored e b).tombstones ≡ b.tombstones
+anchored_buried e b = by (e.item.0 == 0) where
+  by : (d : Bool) → (cond d b (with_anchor e.item e.number b)).tombstones ≡ b.tombstones
+  by true = refl
+  by false = refl
+
 -- the state in which its request is sent
 abbrev Sending : QueueEntry → State → State
 Sending e s = with_filter (with_volume (with_sure_point (with_book (anchored e) (with_book (with_entry e) (with_volatile with_token s))).filter.volume) (with_book (anchored e) (with_book (with_entry e) (with_volatile with_token s))).filter) (with_book (anchored e) (with_book (with_entry e) (with_volatile with_token s)))
@@ -255,16 +261,16 @@ upload_posted s e expect bytes token sound new =
       kept = (subst (λ (items : List Item). All (FrameCarries s.link.remote items (Some (frame.Request (request_of e expect bytes)))) (anchored e (with_entry e (book_now s))).entries) (sound.of_log.0 ∙ sym (ap items_of (all_taken s.filter.volume.log))) now, tt);
     }
 
-pub push_at : (P : State → Type 0) → Guarded P → Entering P → (e : QueueEntry) (expect : Version) (bytes : List ℕ) (s : State) → e.token ≡ next_token s → (IsFair s.link → IsNewEntry s e bytes) → P s → Keeps P (push e (request_of e expect bytes) s)
-push_at P closed entering e expect bytes s token new h = by (why_no_token s) where
+pub push_at : (Q : State → QueueEntry → Type 0) (P : State → Type 0) → Guarded P → EnteringBy Q P → (e : QueueEntry) (expect : Version) (bytes : List ℕ) (s : State) → e.token ≡ next_token s → (IsFair s.link → IsNewEntry s e bytes) → (IsFair s.link → Q (with_volatile with_token s) e) → P s → Keeps P (push e (request_of e expect bytes) s)
+push_at Q P closed entering e expect bytes s token new there h = by (why_no_token s) where
   drawn : P (with_volatile with_token s)
   drawn = closed.keeps_volatile_with_token s h
 
   stored : P (with_book (with_entry e) (with_volatile with_token s))
-  stored = entering.enters e (with_volatile with_token s) (λ fair. (entered s e bytes token ((closed.on_filter s h).sound s.filter h fair) (new fair), (new fair).off)) drawn
+  stored = entering.enters e (with_volatile with_token s) (λ fair. (entered s e bytes token ((closed.on_filter s h).sound s.filter h fair) (new fair), (new fair).off, there fair)) drawn
 
   noted : P (with_book (anchored e) (with_book (with_entry e) (with_volatile with_token s)))
-  noted = closed.books (anchored e) (with_book (with_entry e) (with_volatile with_token s)) (anchored_entries e) (λ fair. leaves_early (anchored e) (with_book (with_entry e) (with_volatile with_token s)) (anchored_seen e) (cursor_stays (anchored e) (with_book (with_entry e) (with_volatile with_token s)) (anchored_cursor e))) (λ fair. inl (anchored_seen e, anchored_cursor e)) stored
+  noted = closed.books (anchored e) (with_book (with_entry e) (with_volatile with_token s)) (anchored_entries e) (λ fair. leaves_early (anchored e) (with_book (with_entry e) (with_volatile with_token s)) (anchored_seen e) (cursor_stays (anchored e) (with_book (with_entry e) (with_volatile with_token s)) (anchored_cursor e))) (λ fair. inl (anchored_seen e, anchored_cursor e, inl (anchored_buried e))) stored
 
   sent : Keeps P (send (request_of e expect bytes) (with_book (anchored e) (with_book (with_entry e) (with_volatile with_token s))))
   sent =

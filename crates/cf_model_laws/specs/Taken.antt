@@ -9,19 +9,21 @@ use Rattle.cf_base.specs.declared.messages.Reply.TheVariants as reply
 use Rattle.cf_base.specs.declared.messages.Request.{Request}
 use Rattle.cf_base.specs.declared.messages.Request.TheVariants as request
 use Rattle.cf_base.specs.declared.notices.Frame.TheVariants as frame
-use Rattle.cf_model.specs.Books.{Book}
+use Rattle.cf_model.specs.Books.{Book, QueueEntry, entry_of}
 use Rattle.cf_model.specs.Fetching.{with_seen_from}
 use Rattle.cf_model.specs.Identities.{entry_identity, target_of}
 use Rattle.cf_model.specs.Items.{Item}
 use Rattle.cf_model.specs.Messages.{is_stale}
+use Rattle.cf_model.specs.PushReplies.{is_new_entry}
 use Rattle.cf_model.specs.Soundness.{Each}
-use Rattle.cf_model.specs.State.{Filter, Link, State, book_now}
+use Rattle.cf_model.specs.State.{Filter, Link, State, book_now, items_now}
 use Rattle.cf_model.specs.Store.{Held, remote_step}
 use Rattle.cf_model.specs.Words.{number_of}
 use Rattle.std.specs.Prelude.{take}
-use Rattle.cf_model_laws.specs.Invariant.{Among, TellsBytes, TellsTruth, message_in}
+use Rattle.cf_model_laws.specs.Invariant.{Among, TellsBytes, TellsTruth, message_in, target_in}
 use Rattle.cf_model_laws.specs.Premises.{IsFair}
 use Rattle.cf_base.specs.declared.ids.ItemId.{ItemId}
+use Rattle.cf_base.specs.declared.ids.Usn.{Usn}
 use Rattle.cf_model.specs.Requests.{Live, is_list, live_of}
 
 -- the reply tells the truth on the request that it answers
@@ -87,13 +89,42 @@ SeesBy On items f c =
     ((b : Book) → (f b).seen ≡ b.seen)
     ⊎ ((id : ℕ) × (es : List Entry) × ((b : Book) → f b ≡ with_seen_from id es b) × AreListedBy On items id es × (parent : ItemId) × (c ≡ change.Populated parent))
 
--- What is known of entries, by the cursor: of those of feeds and of Dones, and of those of listings too.
-abbrev pub Knowledge : Type 1
-Knowledge = Bool → ℕ → Entry → Type 0
+-- the item has no target, or that of an entry
+abbrev pub LosesTold : (Entry → Type 0) → Item → Type 0
+LosesTold On i = ((target_of i).0 ≡ 0) ⊎ ((e : Entry) × On e × ((target_of i).0 ≡ e.rid.0))
+
+-- The targets that the change takes from items: those of a feed's entries.
+abbrev pub LosesOn : (Entry → Type 0) → List Item → Change → Type 0
+LosesOn On items (change.Remove item) = Each item (LosesTold On) items
+LosesOn On items (change.Rebase item identity len at) = Each item (λ i. ((target_of i).0 ≡ (target_in identity).0) ⊎ LosesTold On i) items
+LosesOn On items (change.Take item identity size) = Each item (λ i. (target_of i).0 ≡ (target_in identity).0) items
+LosesOn On items _ = Unit {0}
+
+-- The upload of a new item was just done, and its item gets the target; the items are as they were.
+abbrev pub IsDoneBy : (State → Type 0) → Link → List Item → Change → Type 0
+IsDoneBy P l items c =
+    (t : State) × P t × (e : QueueEntry) × (entry_of (book_now t) e.token ≡ Some e) × (is_new_entry e ≡ true) × (l ≡ t.link) × (items ≡ items_now t) × (item : ItemId) × (item.0 ≡ e.item.0) × (identity : List ℕ) × (len : ℕ) × (at : Usn) × (c ≡ change.Rebase item identity len at)
+
+-- What is known: by the cursor, of entries of feeds and of Dones, and of those of listings too; of a change that a Done makes; and whether the
+-- round is closed.
+pub record Knowledge : Type 1 where
+  pub told : Bool → ℕ → Entry → Type 0
+  pub done : List Item → Change → Type 0
+  pub shut : Type 0
 
 abbrev pub Nothing : Entry → Type 0
 Nothing e = ⊥
 
+-- A change takes a target from an item only while the round is closed: by a feed, or by a Done.
+abbrev pub LosesBy : Knowledge → ℕ → List Item → Change → Type 0
+LosesBy On cursor items c = LosesOn Nothing items c ⊎ (On.shut × (LosesOn (On.told true cursor) items c ⊎ On.done items c))
+
 -- of a change, and of what is made of the book in the same step
 abbrev pub IsChangeBy : Knowledge → Filter → (Book → Book) → Change → Type 0
-IsChangeBy On x f c = IsNamedBy (On true x.volume.book.cursor) (On false x.volume.book.cursor) c × SeesBy (On false x.volume.book.cursor) x.volume.items f c
+IsChangeBy On x f c =
+    IsNamedBy (On.told true x.volume.book.cursor) (On.told false x.volume.book.cursor) c × SeesBy (On.told false x.volume.book.cursor) x.volume.items f c
+    × LosesBy On x.volume.book.cursor x.volume.items c × ((b : Book) → (f b).tombstones ≡ b.tombstones)
+
+-- in a state
+abbrev pub Known : (State → Type 0) → State → Knowledge
+Known P s = record { told = Since P s.link; done = IsDoneBy P s.link; shut = s.volatile.round_open ≡ false }

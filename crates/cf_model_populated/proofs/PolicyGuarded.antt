@@ -1,6 +1,6 @@
 -- The policy is kept by all but an event that sets one.
-use Rattle.std.proofs.Common.{◌+◌, ℕ, Bool, true, false}
 use Rattle.std.specs.Prelude.{if◌then◌else◌}
+use Rattle.std.proofs.Common.{◌+◌, ℕ, Bool, true, false}
 use Rattle.cf_base.specs.declared.answers.Shown.TheVariants as shown
 use Rattle.cf_base.specs.declared.changes.Change.TheVariants as change
 use Rattle.cf_base.specs.declared.codes.Code.{Code}
@@ -86,7 +86,7 @@ module _ (Q : Policy → Type 0) where
   guarded_ruled : (P : State → Type 0) → Guarded P → Guarded (λ s. P s × RuledIn s)
   guarded_ruled P closed = record {
     replay = λ s h. closed.replay s h.0;
-    on_filter = λ s h. filter_ruled s.link s.volatile.tokens (λ x. P (with_filter x s)) (on_filter_weaker P (λ t. P t × RuledIn t) (λ t k. k.0) s.link s.volatile.tokens _ (closed.on_filter s h.0));
+    on_filter = λ s h. filter_ruled s.link s.volatile.tokens (λ x. P (with_filter x s)) (on_filter_weaker P (λ t. P t × RuledIn t) (λ t k. k.0) s _ (closed.on_filter s h.0));
     keeps_counted = λ s h. (closed.keeps_counted s h.0, h.1);
     asked = λ q s well h. (closed.asked q s well h.0, h.1);
     told = λ held s h. (closed.told held s h.0, h.1);
