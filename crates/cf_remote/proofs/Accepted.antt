@@ -56,7 +56,19 @@ or_false false b e = (refl, e)
 pub within : (m n : ℕ) → nat_lt m n ≡ false → n ≤ m
 within m n e = grind (arith, nat_tests)
 
+-- a live directory is a directory
+in_directory : (held : Held) (parent : Rid) → is_live_dir held parent ≡ true → says (λ s. s.directory) (stored_at held.items parent) ≡ true
+in_directory held parent e = one (stored_at held.items parent) e where
+  second : (a b : Bool) → (a && b) ≡ true → b ≡ true
+  second true b h = h
+  second false b h = let z : false ≡ true = h in cc
+
+  one : (o : Option Stored) → says (λ s. s.live && s.directory) o ≡ true → says (λ s. s.directory) o ≡ true
+  one None h = h
+  one (Some s) h = second s.live s.directory h
+
 pub record IsNewFile (held : Held) (parent : Rid) (name bytes : List ℕ) : Type 0 where
+  pub inside : says (λ s. s.directory) (stored_at held.items parent) ≡ true
   pub small : length bytes ≤ 16777216
   pub free : is_taken held parent name no_rid ≡ false
   pub fits : sum_by held_len (with_new held parent name false (bytes ∷ [])) ≤ 536870912
@@ -66,11 +78,14 @@ new_file held parent name bytes e =
     let after : List Stored = with_new held parent name false (bytes ∷ []) in
     let h = file_skips (not (is_live_dir held parent)) (not (is_name name)) (nat_lt 16777216 (length bytes)) (nat_le 32 (depth_of held parent)) (is_taken held parent name no_rid)
     (passes_bytes after || passes_items after) e in
-    record { small = within 16777216 (length bytes) h.0; free = h.1; fits = within 536870912 (sum_by held_len after) (or_false (passes_bytes after) (passes_items after) h.2).0 }
+    record { inside = in_directory held parent (not_false _ (skipped _ _ _ e).0); small = within 16777216 (length bytes) h.0; free = h.1; fits = within 536870912 (sum_by held_len after) (or_false (passes_bytes after) (passes_items after) h.2).0 }
 
 pub new_dir : (held : Held) (parent : Rid) (name : List ℕ) → why_new_dir held parent name ≡ None → is_taken held parent name no_rid ≡ false
 new_dir held parent name e = dir_skips (not (is_live_dir held parent)) (not (is_name name)) (nat_le 32 (depth_of held parent)) (is_taken held parent name no_rid)
     (passes_items (with_new held parent name true [])) e
+
+pub dir_inside : (held : Held) (parent : Rid) (name : List ℕ) → why_new_dir held parent name ≡ None → says (λ s. s.directory) (stored_at held.items parent) ≡ true
+dir_inside held parent name e = in_directory held parent (not_false _ (skipped _ _ _ e).0)
 
 pub record IsNextVersion (held : Held) (rid : Rid) (bytes : List ℕ) : Type 0 where
   pub live : says (λ s. s.live) (stored_at held.items rid) ≡ true
@@ -79,14 +94,16 @@ pub record IsNextVersion (held : Held) (rid : Rid) (bytes : List ℕ) : Type 0 w
 
 pub record IsPlace (held : Held) (rid parent : Rid) (name : List ℕ) : Type 0 where
   pub live : says (λ s. s.live) (stored_at held.items rid) ≡ true
+  pub inside : says (λ s. s.directory) (stored_at held.items parent) ≡ true
   pub free : is_taken held parent name rid ≡ false
 
 pub other_place : (held : Held) (rid parent : Rid) (name : List ℕ) → why_move held rid parent name ≡ None → IsPlace held rid parent name
 other_place held rid parent name e =
     let h = move_skips ((rid.0 == 1) || not (is_live held rid) || not (is_live_dir held parent)) (not (is_name name)) ((parent.0 == rid.0) || is_under held parent rid)
     (nat_lt 32 (depth_of held parent + 1 + height_of held rid)) (is_taken held parent name rid) e in
-    let there = or_false (rid.0 == 1) (not (is_live held rid)) (or_false ((rid.0 == 1) || not (is_live held rid)) (not (is_live_dir held parent)) h.0).0 in
-    record { live = not_false (is_live held rid) there.1; free = h.1 }
+    let both = or_false ((rid.0 == 1) || not (is_live held rid)) (not (is_live_dir held parent)) h.0 in
+    let there = or_false (rid.0 == 1) (not (is_live held rid)) both.0 in
+    record { live = not_false (is_live held rid) there.1; inside = in_directory held parent (not_false (is_live_dir held parent) both.1); free = h.1 }
 
 pub removed : (held : Held) (rid : Rid) (expect : Version) → why_remove held rid expect ≡ None → says (λ s. s.live) (stored_at held.items rid) ≡ true
 removed held rid expect e = not_false _ (or_false _ _ (skipped _ _ _ e).0).1

@@ -2,6 +2,7 @@ pub mod Accepted
 pub mod Asking
 pub mod Children
 pub mod Counted
+pub mod Directories
 pub mod Doing
 pub mod FoundEntries
 pub mod Indexes

@@ -1,5 +1,5 @@
 -- The live items in order of parent and name, and how the store keeps its items.
-use Rattle.std.specs.Prelude.{◌≡◌, ◌⊎◌, ℕ, not, cond, List, [], ◌∷◌, map, filter, ◌==◌, ◌≤◌, ◌<◌, Option, Some, None, option_map, Result, Ok, Err, count_by, sum_by, length, get_or, take, drop, suc, true}
+use Rattle.std.specs.Prelude.{◌≡◌, ◌⊎◌, ℕ, false, not, cond, List, [], ◌∷◌, map, filter, ◌==◌, ◌≤◌, ◌<◌, Option, Some, None, option_map, Result, Ok, Err, count_by, sum_by, length, get_or, take, drop, suc, true}
 use Rattle.std.specs.Cmp.Lexicographic.{slice_cmp}
 use Rattle.std.specs.List.{AllByRecursion}
 use Rattle.std.specs.declared.cmp.Ordering.{Ordering}
@@ -9,6 +9,7 @@ use Rattle.cf_base.specs.declared.ids.Rid.{Rid}
 use Rattle.cf_model.specs.Growth.{CountsFrom}
 use Rattle.cf_base.specs.declared.messages.Entry.{Entry}
 use Rattle.cf_model.specs.Store.{Stored, entry_told, stored_at}
+use Rattle.cf_model.specs.Words.{says}
 use Rattle.cf_remote.specs.Held.{held_len}
 
 -- how an item compares to a place: by parent, then by name
@@ -101,9 +102,14 @@ told_at items rid = option_map entry_told (stored_at items rid)
 abbrev pub IsFree : Rid → List ℕ → List Stored → Type 0
 IsFree parent name ordered = (s : Stored) → Has ordered s → against parent name s ≡ Equal → ⊥
 
+-- Each item but the root has a directory as its parent, live or dead.
+abbrev pub StandInDirectories : List Stored → Type 0
+StandInDirectories items = (s : Stored) → Has items s → (s.rid.0 == 1) ≡ false → says (λ t. t.directory) (stored_at items s.parent) ≡ true
+
 -- items as they are kept, with the index beside them, how many live, and how many bytes are held
 pub record IsShelf (items : List Stored) (index : List Rid) (live held : ℕ) : Type 0 where
   pub indexed : IsIndexed items index
   pub lives : live ≡ count_by (λ s. s.live) items
   pub holds : held ≡ sum_by held_len items
   pub within : held ≤ 536870912
+  pub directories : StandInDirectories items

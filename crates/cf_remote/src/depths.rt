@@ -2,7 +2,10 @@
 
 ghost use Rattle.std.specs.Prelude.{◌≡◌, ◌≤◌, ◌-◌, length};
 ghost use Rattle.cf_model.specs.Growth.{CountsFrom};
+ghost use Rattle.cf_model.specs.Store.{stored_at};
+ghost use Rattle.cf_model.specs.Words.{says};
 ghost use Rattle.cf_remote.specs.Depths.{deepest, depth_in, is_under_in};
+ghost use Rattle.cf_remote.specs.Order.{StandInDirectories};
 
 use crate::lookups::find;
 use crate::stored::StoredItem;
@@ -67,11 +70,25 @@ fn deepest_of(items: &[StoredItem], top: Rid) -> usize
     deepest
 }
 
-/// How many names the longest path of a live item below has more. It goes through all items.
-pub(crate) fn height_of(items: &[StoredItem], rid: Rid) -> usize
+fn is_directory(items: &[StoredItem], rid: Rid) -> bool
     requires { CountsFrom 1 items.now }
+    ensures { result ≡ says (λ s. s.directory) (stored_at items.now rid) }
+{
+    match find(items, rid) {
+        None => false,
+        Some(item) => item.is_directory(),
+    }
+}
+
+/// How many names the longest path of a live item below has more. Of a directory it goes through all items. Nothing is below a file.
+pub(crate) fn height_of(items: &[StoredItem], rid: Rid) -> usize
+    requires counted { CountsFrom 1 items.now }
+    requires directories { StandInDirectories items.now }
     ensures height { result ≡ deepest items.now rid items.now - depth_in items.now rid }
     ensures small { result ≤ length items.now }
 {
+    if !is_directory(items, rid) {
+        return 0;
+    }
     deepest_of(items, rid).saturating_sub(depth_of(items, rid))
 }

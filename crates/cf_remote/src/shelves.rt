@@ -173,6 +173,7 @@ impl Shelf {
         requires live { item.live ≡ true }
         requires free { list_any (λ s. s.live && (s.parent.0 == item.parent.0) && same s.name item.name && not (s.rid.0 == 0)) self.old ≡ false }
         requires fits { sum_by held_len self.old + held_len item ≤ 536870912 }
+        requires inside { says (λ s. s.directory) (stored_at self.old item.parent) ≡ true }
         requires new { recorded_at tokens.old token ≡ None }
         ensures ok { OnOk result (self.new ≡ self.old ++ item ∷ []) }
         ensures recorded { OnOk result (tokens.new ≡ (token, RecordedDone item.rid (record { 0 = latest item })) ∷ tokens.old) }
@@ -190,6 +191,7 @@ impl Shelf {
     pub(crate) fn place(&mut self, rid: Rid, parent: Rid, name: Blob, changed: u64)
         requires live { says (λ s. s.live) (stored_at self.old rid) ≡ true }
         requires name { length name ≤ 255 }
+        requires inside { says (λ s. s.directory) (stored_at self.old parent) ≡ true }
         requires free { list_any (λ s. s.live && (s.parent.0 == parent.0) && same s.name name && not (s.rid.0 == rid.0)) self.old ≡ false }
         ensures { self.new ≡ at_rid rid (λ s. record s { parent = parent; name = name; changed = changed }) self.old }
     {

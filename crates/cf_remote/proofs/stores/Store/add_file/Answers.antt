@@ -1,6 +1,7 @@
 use Rattle.std.proofs.Common.{ap, arith, length, ◌∙◌}
 use Rattle.cf_model.specs.Numbers.{no_rid}
-use Rattle.cf_model.specs.Store.{Stored}
+use Rattle.cf_model.specs.Store.{Stored, stored_at}
+use Rattle.cf_model.specs.Words.{says}
 use Rattle.cf_remote.specs.Stores.{holding}
 use Rattle.cf_remote.proofs.Accepted.{file_fits, item_free, new_file}
 use Rattle.cf_remote.proofs.stores.Store.add_file.Goals as goal
@@ -18,3 +19,7 @@ pub add-requires-clause-fits : goal.add-requires-clause-fits
 add-requires-clause-fits c =
     file_fits (holding c.self.inside.shelf c.self.inside.clock c.self.inside.tokens c.self.inside.keep) c.args.parent c.args.name.now c.args.bytes.now c.in_ok-item.item c.in_ok-bytes.bytes (ap (λ (s : Stored). s.versions) c.in_ok-item.ensures) (ap (λ (s : Stored). s.least) c.in_ok-item.ensures) c.in_ok-bytes.ensures
     (new_file (holding c.self.inside.shelf c.self.inside.clock c.self.inside.tokens c.self.inside.keep) c.args.parent c.args.name.now c.args.bytes.now (rw (← c.self.view_is) at c.requires.accepted)).fits
+
+pub add-requires-clause-inside : goal.add-requires-clause-inside
+add-requires-clause-inside c = ap (λ (s : Stored). says (λ t. t.directory) (stored_at c.self.inside.shelf s.parent)) c.in_ok-item.ensures
+    ∙ (new_file (holding c.self.inside.shelf c.self.inside.clock c.self.inside.tokens c.self.inside.keep) c.args.parent c.args.name.now c.args.bytes.now (rw (← c.self.view_is) at c.requires.accepted)).inside

@@ -9,6 +9,10 @@ pub place-requires-clause-free : goal.place-requires-clause-free
 place-requires-clause-free c = item_free c.self.inside.shelf c.args.parent c.args.parent c.args.name.now c.in_ok-name.name c.args.rid refl c.in_ok-name.ensures
     (other_place (holding c.self.inside.shelf c.self.inside.clock c.self.inside.tokens c.self.inside.keep) c.args.rid c.args.parent c.args.name.now (rw (← c.self.view_is) at c.requires.accepted)).free
 
+pub place-requires-clause-inside : goal.place-requires-clause-inside
+place-requires-clause-inside c =
+    (other_place (holding c.self.inside.shelf c.self.inside.clock c.self.inside.tokens c.self.inside.keep) c.args.rid c.args.parent c.args.name.now (rw (← c.self.view_is) at c.requires.accepted)).inside
+
 pub returns : goal.returns
 returns c = rw (← c.self.view_is) (done_is (holding c.self.inside.shelf c.self.inside.clock c.self.inside.tokens c.self.inside.keep) c.args.token (move_to (holding c.self.inside.shelf c.self.inside.clock c.self.inside.tokens c.self.inside.keep) c.args.rid c.args.parent c.args.name.now) c.args.rid c.latest_of-version.result c.place.new.self c.clock_after-clock.result c.record.new.self
     refl (version_is c.latest_of-version.result _ c.latest_of-version.ensures.latest)
