@@ -20,6 +20,7 @@ mod records;
 mod sets;
 mod sound;
 mod sound_rows;
+mod spare_lists;
 mod trees;
 
 pub use contents::Contents;

@@ -8,6 +8,7 @@ ghost use Rattle.cf_volume_image.specs.Contents.{record_at};
 ghost use Rattle.cf_volume_image.specs.RecordLists.{AreKept, IsPlaceOf, IsRecordAt, IsRecordGap, IsShort, comes_after, records_len, stands_before};
 ghost use Rattle.cf_volume_image.specs.Spelled.{AreRecordsFrom};
 
+use crate::spare_lists::SpareList;
 use cf_base::{AuxRecord, OutOfMemory};
 
 /// Whether a key comes before another.
@@ -101,42 +102,41 @@ pub(crate) fn find_after<'a>(records: &'a [AuxRecord], key: &[u8]) -> Option<&'a
     }
 }
 
-fn replace_at(records: &mut Vec<AuxRecord>, place: usize, aux: AuxRecord, len: u128) -> u128
-    requires place { IsRecordAt aux.key records.old.items place }
-    requires kept { AreKept records.old.items len }
+fn replace_at(records: &mut SpareList, place: usize, aux: AuxRecord, len: u128) -> u128
+    requires place { IsRecordAt aux.key records.old place }
+    requires kept { AreKept records.old len }
     requires short { IsShort aux }
-    ensures kept { AreKept records.new.items result }
-    ensures puts { records.new.items ≡ with_record aux records.old.items }
+    ensures kept { AreKept records.new result }
+    ensures puts { records.new ≡ with_record aux records.old }
 {
-    let less = len_of(&records[place]);
     let more = len_of(&aux);
-    records[place] = aux;
-    len - less + more
+    let before = records.replace(place, aux);
+    len - len_of(&before) + more
 }
 
 fn insert_at(
-    records: &mut Vec<AuxRecord>,
+    records: &mut SpareList,
     place: usize,
     aux: AuxRecord,
     len: u128,
 ) -> Result<u128, OutOfMemory>
-    requires place { IsRecordGap aux.key records.old.items place }
-    requires kept { AreKept records.old.items len }
+    requires place { IsRecordGap aux.key records.old place }
+    requires kept { AreKept records.old len }
     requires short { IsShort aux }
-    ensures kept { IfOk result (AreKept records.new.items) }
-    ensures puts { OnOk result (records.new.items ≡ with_record aux records.old.items) }
-    ensures err { OnErr result (records.new.items ≡ records.old.items) }
+    ensures kept { IfOk result (AreKept records.new) }
+    ensures puts { OnOk result (records.new ≡ with_record aux records.old) }
+    ensures err { OnErr result (records.new ≡ records.old) }
 {
     let more = len_of(&aux);
     records.insert(place, aux)?;
     Ok(len + more)
 }
 
-fn remove_at(records: &mut Vec<AuxRecord>, place: usize, len: u128) -> u128
-    requires place { place < length records.old.items }
-    requires kept { AreKept records.old.items len }
-    ensures kept { AreKept records.new.items result }
-    ensures removes { records.new.items ≡ remove records.old.items place }
+fn remove_at(records: &mut SpareList, place: usize, len: u128) -> u128
+    requires place { place < length records.old }
+    requires kept { AreKept records.old len }
+    ensures kept { AreKept records.new result }
+    ensures removes { records.new ≡ remove records.old place }
 {
     let aux = records.remove(place);
     len - len_of(&aux)
@@ -145,29 +145,29 @@ fn remove_at(records: &mut Vec<AuxRecord>, place: usize, len: u128) -> u128
 /// Puts the record in place of the one with its key, or adds it. `len` is how many bytes spell the records, and what is
 /// given is how many do then. Without memory nothing changes.
 pub(crate) fn put_record(
-    records: &mut Vec<AuxRecord>,
+    records: &mut SpareList,
     aux: AuxRecord,
     len: u128,
 ) -> Result<u128, OutOfMemory>
-    requires kept { AreKept records.old.items len }
+    requires kept { AreKept records.old len }
     requires short { IsShort aux }
-    ensures kept { IfOk result (AreKept records.new.items) }
-    ensures puts { OnOk result (records.new.items ≡ with_record aux records.old.items) }
-    ensures err { OnErr result (records.new.items ≡ records.old.items) }
+    ensures kept { IfOk result (AreKept records.new) }
+    ensures puts { OnOk result (records.new ≡ with_record aux records.old) }
+    ensures err { OnErr result (records.new ≡ records.old) }
 {
-    match find_place(records, aux.key.as_slice()) {
+    match find_place(records.as_slice(), aux.key.as_slice()) {
         Ok(place) => Ok(replace_at(records, place, aux, len)),
         Err(place) => insert_at(records, place, aux, len),
     }
 }
 
 /// Takes the record with the key out, if there is one. Gives how many bytes spell the records then.
-pub(crate) fn remove_record(records: &mut Vec<AuxRecord>, key: &[u8], len: u128) -> u128
-    requires { AreKept records.old.items len }
-    ensures kept { AreKept records.new.items result }
-    ensures removes { records.new.items ≡ without_record key.now records.old.items }
+pub(crate) fn remove_record(records: &mut SpareList, key: &[u8], len: u128) -> u128
+    requires { AreKept records.old len }
+    ensures kept { AreKept records.new result }
+    ensures removes { records.new ≡ without_record key.now records.old }
 {
-    match find_place(records, key) {
+    match find_place(records.as_slice(), key) {
         Ok(place) => remove_at(records, place, len),
         Err(_) => len,
     }

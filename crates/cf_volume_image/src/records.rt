@@ -7,6 +7,7 @@ ghost use Rattle.cf_volume_image.specs.RecordLists.{IsShort, comes_after, record
 ghost use Rattle.cf_volume_image.specs.Spelled.{AreRecordsFrom};
 
 use crate::record_lists::{find_after, find_record, len_of_all, put_record, remove_record};
+use crate::spare_lists::SpareList;
 use cf_base::{AuxRecord, OutOfMemory};
 use std::alloc::Global;
 use std::marker::Model;
@@ -14,7 +15,7 @@ use std::marker::Model;
 /// The auxiliary records of a volume, each under a key of its own. Contracts see them in order of key.
 #[derive(Drop)]
 pub struct AuxRecords {
-    records: Vec<AuxRecord>,
+    records: SpareList,
     len: u128,
 }
 
@@ -25,9 +26,9 @@ impl Model for AuxRecords {
 
     ghost Value = { List AuxRecord };
 
-    ghost view = { λ r. r.records.items };
+    ghost view = { λ r. r.records };
 
-    ghost invariant = { λ r. AreKept r.records.items r.len };
+    ghost invariant = { λ r. AreKept r.records r.len };
 }
 
 impl AuxRecords {
@@ -36,39 +37,42 @@ impl AuxRecords {
         ensures { result ≡ [] }
     {
         AuxRecords {
-            records: Vec::new(alloc),
+            records: SpareList::new(alloc),
             len: 0,
         }
     }
 
     /// The records of a list whose keys rise.
-    pub(crate) fn from_vec(records: Vec<AuxRecord>) -> AuxRecords
+    pub(crate) fn from_vec(alloc: Global, records: Vec<AuxRecord>) -> AuxRecords
         requires { AreRecordsFrom None records.items }
         ensures { result ≡ records.items }
     {
         let len = len_of_all(&records);
-        AuxRecords { records, len }
+        AuxRecords {
+            records: SpareList::from_vec(alloc, records),
+            len,
+        }
     }
 
     /// The record with the key. By a binary search.
     pub fn get(&self, key: &[u8]) -> Option<&AuxRecord>
         ensures { option_copied result ≡ record_at self.now key.now }
     {
-        find_record(&self.records, key)
+        find_record(self.records.as_slice(), key)
     }
 
     /// The first record of all.
     pub fn first(&self) -> Option<&AuxRecord>
         ensures { option_copied result ≡ find (λ r. true) self.now }
     {
-        self.records.first()
+        self.records.as_slice().first()
     }
 
     /// The first record whose key comes after this one. By a binary search.
     pub fn after(&self, key: &[u8]) -> Option<&AuxRecord>
         ensures { option_copied result ≡ find (comes_after key.now) self.now }
     {
-        find_after(&self.records, key)
+        find_after(self.records.as_slice(), key)
     }
 
     /// The records in order of key.
@@ -76,7 +80,7 @@ impl AuxRecords {
         ensures value { result.now ≡ self.now }
         ensures rise { AreRecordsFrom None self.now }
     {
-        &self.records
+        self.records.as_slice()
     }
 
     /// How many bytes spell the records, after the four of their count; the greatest u64 where that is less. It is kept
