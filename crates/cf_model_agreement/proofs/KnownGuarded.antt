@@ -128,14 +128,14 @@ known_lasting = record {
   asked = remote_known;
 }
 
-known_whole : Whole IsKnownIn
+pub known_whole : Whole IsKnownIn
 known_whole = whole_over AreKnown IsApartIn known_lasting apart_whole (λ s h. h.0.0.0.0)
 
 -- of a new volume nothing is passed but the root
 none_known : (remote : Held) → AreKnown remote (root ∷ []) no_book
 none_known remote = (((λ below. absurd (below refl)), tt), tt)
 
-run_known_in : (remote : Held) (clusters : ℕ) (trace : List (Event × Answer)) (s : State) → Runs mode.Replay (start mode.Replay remote clusters) trace s → IsFresh remote → IsTidy remote → IsKnownIn s
+pub run_known_in : (remote : Held) (clusters : ℕ) (trace : List (Event × Answer)) (s : State) → Runs mode.Replay (start mode.Replay remote clusters) trace s → IsFresh remote → IsTidy remote → IsKnownIn s
 run_known_in remote clusters trace s runs fresh tidy =
     runs_keep IsKnownIn known_whole (start mode.Replay remote clusters) trace s runs ((start_true remote clusters fresh tidy, start_lasts AreTargetsAlone remote clusters (tt, tt)), start_lasts AreKnown remote clusters (none_known remote))
 

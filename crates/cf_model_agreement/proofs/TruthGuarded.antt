@@ -48,6 +48,7 @@ use Rattle.cf_model_laws.proofs.OnceLaws.{later}
 use Rattle.cf_model_laws.proofs.EventsGuarded.{Whole}
 use Rattle.cf_model_agreement.proofs.FiltersTrue.{In, begin_true, change_true, filter_true}
 use Rattle.cf_model.specs.Arrows.{reading}
+use Rattle.cf_model.specs.Messages.{with_message}
 use Rattle.cf_model.specs.Waits.{begin_now, begun as wait_begun}
 
 -- the whole
@@ -280,6 +281,12 @@ module _ (P : State → Type 0) (closed : Guarded P) (early : (s : State) → P 
   sound_of : (s : State) → P s → IsFair s.link → IsSound s.link s.volatile.tokens s.filter
   sound_of s h fair = (closed.on_filter s h).sound s.filter h fair
 
+  pub posted_true : (f : Frame) (s : State) → (IsFair s.link → PostedNow s (Some f)) → P s → TruthIn s → TruthIn (with_message f s)
+  posted_true f s now h k fair = (
+    (k fair).0,
+    more_true s fair (early s h fair) (sound_of s h fair).counted k (Some f) (new_true s fair (early s h fair) (sound_of s h fair).counted k f (now fair)) (λ key. new_listing s fair (early s h fair) (sound_of s h fair).counted k key f (now fair)),
+  )
+
   pub guarded_true : Guarded (λ s. P s × TruthIn s)
   guarded_true = record {
     replay = λ s h. closed.replay s h.0;
@@ -287,7 +294,7 @@ module _ (P : State → Type 0) (closed : Guarded P) (early : (s : State) → P 
     keeps_counted = λ s h. (closed.keeps_counted s h.0, h.1);
     asked = λ q s well h. (closed.asked q s well h.0, asked_true s q (sound_of s h.0) (early s h.0) h.1);
     told = λ held s h. (closed.told held s h.0, λ fair. no_way fair.0);
-    posts = λ f s well now h. (closed.posts f s well now h.0, λ fair. ((h.1 fair).0, more_true s fair (early s h.0 fair) (sound_of s h.0 fair).counted h.1 (Some f) (new_true s fair (early s h.0 fair) (sound_of s h.0 fair).counted h.1 f (now fair)) (λ key. new_listing s fair (early s h.0 fair) (sound_of s h.0 fair).counted h.1 key f (now fair))));
+    posts = λ f s other well now h. (closed.posts f s other well now h.0, posted_true f s now h.0 h.1);
     loses = λ f s h. (closed.loses f s h.0, λ fair. ((h.1 fair).0, more_true s fair (early s h.0 fair) (sound_of s h.0 fair).counted h.1 None tt (λ key. tt)));
     books = λ f s keeps placed known h. (closed.books f s keeps placed (λ fair. record_weaker P (λ t. P t × TruthIn t) (λ t k. k.0) f s (known fair)) h.0, books_true (λ t. P t × TruthIn t) f s known h.1);
     moved = λ e s is live known h. (
@@ -341,7 +348,7 @@ opened_true p skipped s sound h fair = (
 pub whole_true : (P : State → Type 0) → Whole P → ((s : State) → P s → IsFair s.link → (book_now s).cursor ≤ s.link.remote.clock) → ((s : State) → P s → IsFair s.link → IsSound s.link s.volatile.tokens s.filter) → Whole (λ s. P s × TruthIn s)
 whole_true P whole early sound = record {
   closed = guarded_true P whole.closed early;
-  entering = record { enters = λ e s well h. (whole.entering.enters e s well h.0, h.1) };
+  entering = record { uploads = record { enters = λ e s well h. (whole.entering.uploads.enters e s well h.0, h.1) }; feeds = λ f s well now h. (whole.entering.feeds f s well now h.0, posted_true P whole.closed early f s now h.0 h.1) };
   deleting = record {
     deletes = λ f item s keeps seen cursor idle leaf h. keeps_both (λ x. P (with_filter x s)) (In s.link s.volatile.rounds s.volatile.round_open) (change_with f (change.Remove item) s.filter) (whole.deleting.deletes f item s keeps seen cursor idle leaf h.0)
         (change_true s.link s.volatile.rounds s.volatile.round_open f (change.Remove item) s.filter (λ fair. cursor) h.1);

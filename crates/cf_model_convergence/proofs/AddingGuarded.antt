@@ -134,7 +134,7 @@ module _ (w : Filter) where
     keeps_counted = λ s h. (closed.keeps_counted s h.0, h.1);
     asked = λ q s well h. (closed.asked q s well h.0, h.1);
     told = λ held s h. (closed.told held s h.0, h.1);
-    posts = λ f s well now h. (closed.posts f s well now h.0, more_lines _ s.filter.notes s.filter.volume.log (items_now s) h.1);
+    posts = λ f s other well now h. (closed.posts f s other well now h.0, more_lines _ s.filter.notes s.filter.volume.log (items_now s) h.1);
     loses = λ f s h. (closed.loses f s h.0, more_lines _ s.filter.notes s.filter.volume.log (items_now s) h.1);
     books = λ f s keeps placed known h. (closed.books f s keeps placed (λ fair. record_weaker P (λ t. P t × In t.filter) (λ t k. k.0) f s (known fair)) h.0, h.1);
     moved = λ e s is live known h. (closed.moved e s is live (λ fair. moved_weaker P (λ t. P t × In t.filter) (λ t k. k.0) e s (known fair)) h.0, h.1);
@@ -160,7 +160,7 @@ module _ (w : Filter) where
   }
 
   pub entering_adds : (P : State → Type 0) → Entering P → Entering (λ s. P s × In s.filter)
-  entering_adds P entering = record { enters = λ e s well h. (entering.enters e s well h.0, h.1) }
+  entering_adds P entering = record { uploads = record { enters = λ e s well h. (entering.uploads.enters e s well h.0, h.1) }; feeds = λ f s well now h. (entering.feeds f s well now h.0, more_lines _ s.filter.notes s.filter.volume.log (items_now s) h.1) }
 
   pub itself : In w
   itself = record { lines = []; noted = sym (append-nil w.notes); changes = []; logged = sym (append-nil w.volume.log); still = λ e. (refl, refl) }

@@ -34,7 +34,6 @@ use Rattle.cf_base.specs.declared.codes.Code.TheVariants as code
 use Rattle.cf_model.specs.Events.{tree_of}
 use Rattle.cf_model.specs.Passes.{connected}
 use Rattle.cf_model_convergence.proofs.PassesCalm.{IsSet}
-use Rattle.cf_model_convergence.specs.Telling.{IsUnfair}
 use Rattle.cf_model_convergence.proofs.FairBefore.{step_fair}
 
 -- by choices
@@ -60,12 +59,12 @@ walk_ends (Asked k) stop forks (x ∷ ts) a t e = (x, walk_ends (k x) stop forks
 abbrev pub IsBegunFairly : Held → State → Type 0
 IsBegunFairly remote s = IsFresh remote × IsTidy remote × (s.link.inline ≡ true) × AreKeysWithin s.filter × ArePlainWaits s × IsKeptUp s
 
--- where the part of the event that needs a provider is heard of, or leaves what is asked for, so does the event by its answer
-pub run_event : (f : Arrow State Shown) (ok : Shown → Bool) → ((x : Code) → ok (shown.Refused x) ≡ false) → (E : Shown → State → Type 0) (remote : Held) (clusters : ℕ) (trace : List (Event × Answer)) (s : State)
-    → ((r : Shown) (x : State) → Invariant (begun s) → IsSet (showing (begun s)) → Ends (f (begun s)) r x → no_number x ≡ false → IsHeard (begun s) x ⊎ E r x)
+-- where the part of the event that needs a provider leaves what is asked for, so does the event
+pub run_event_by : (f : Arrow State Shown) (ok : Shown → Bool) → ((x : Code) → ok (shown.Refused x) ≡ false) → (E : Shown → State → Type 0) (remote : Held) (clusters : ℕ) (trace : List (Event × Answer)) (s : State)
     → Runs mode.Replay (start mode.Replay remote clusters) trace s → IsBegunFairly remote s → (e : Event) (a : Answer) (t : State) → IsStep mode.Replay s e a t → IsFair t.link → tree_of e s ≡ connected f (begun s)
-    → needs_volume e ≡ true → ((c : Choices) → choices_in (may_stop e) c ≡ c) → ok a.shown ≡ true → list_any is_heard a.notes ≡ false → no_number t ≡ false → E a.shown t
-run_event f ok refuses E remote clusters trace s each runs given e a t step fair is needs all counted quiet left = by s.power refl (subst (λ (b : Bool). answered (no_volume b s.power) step.1 s e ≡ (t, a)) needs step.2) where
+    → needs_volume e ≡ true → ((c : Choices) → choices_in (may_stop e) c ≡ c) → ok a.shown ≡ true → no_number t ≡ false
+    → ((r : Shown) (x : State) → Invariant (begun s) → IsSet (showing (begun s)) → Ends (f (begun s)) r x → no_number x ≡ false → IsFair x.link → x.filter.notes ≡ a.notes → E r x) → E a.shown t
+run_event_by f ok refuses E remote clusters trace s runs given e a t step fair is needs all counted left each = by s.power refl (subst (λ (b : Bool). answered (no_volume b s.power) step.1 s e ≡ (t, a)) needs step.2) where
   c : Choices
   c = step.1
 
@@ -98,15 +97,11 @@ run_event f ok refuses E remote clusters trace s each runs given e a t step fair
     told : answer_in r x ≡ a
     told = ap (λ (p : State × Answer). p.1) same
 
-    done : IsHeard (begun s) x ⊎ E r x → E a.shown t
-    done (inl z) = elim z.heard as (λ _. E a.shown t) [
-      | inl y ↦ no_way (sym quiet ∙ subst (λ (ns : List Notice). list_any is_heard ns ≡ true) (sym z.noted ∙ ap (λ (b : Answer). b.notes) told) y)
-      | inr y ↦ no_way (sym (subst IsUnfair here y) ∙ fair.0)
-    ]
-    done (inr z) = subst (λ (b : Answer). E b.shown t) told (subst (λ (y : State). E r y) here z)
+    done : E r x → E a.shown t
+    done z = subst (λ (b : Answer). E b.shown t) told (subst (λ (y : State). E r y) here z)
 
     up : (b : Bool) → s.filter.connected ≡ b → Ends (unless_down f (not b) (begun s)) r x → E a.shown t
-    up true q z = done (each r x h (set on q) z (subst (λ (y : State). no_number y ≡ false) (sym here) left))
+    up true q z = done (each r x h (set on q) z (subst (λ (y : State). no_number y ≡ false) (sym here) left) (subst (λ (y : State). IsFair y.link) (sym here) fair) (ap (λ (b : Answer). b.notes) told))
     up false q z = never code.ProviderDown (sym (ap (λ (b : Answer). b.shown) told) ∙ z.0)
 
   played : s.power ≡ On → (w : Option Shown × State) → walk c.stop c.forks c.tellings (connected f (begun s)) ≡ w → outcome w ≡ (t, a) → E a.shown t
@@ -117,3 +112,17 @@ run_event f ok refuses E remote clusters trace s each runs given e a t step fair
   by On q z = played q (walk c.stop c.forks c.tellings (connected f (begun s))) refl (subst (λ (y : Tree State Shown). outcome (walk c.stop c.forks c.tellings y) ≡ (t, a)) is (subst (λ (d : Choices). outcome (walk d.stop d.forks d.tellings (tree_of e s)) ≡ (t, a)) (all c) z))
   by Broken q z = never code.Broken (sym (ap (λ (p : State × Answer). p.1.shown) z))
   by Off q z = never code.Off (sym (ap (λ (p : State × Answer). p.1.shown) z))
+
+-- where it is heard of, so it is of the event by its answer
+pub run_event : (f : Arrow State Shown) (ok : Shown → Bool) → ((x : Code) → ok (shown.Refused x) ≡ false) → (E : Shown → State → Type 0) (remote : Held) (clusters : ℕ) (trace : List (Event × Answer)) (s : State)
+    → ((r : Shown) (x : State) → Invariant (begun s) → IsSet (showing (begun s)) → Ends (f (begun s)) r x → no_number x ≡ false → IsHeard (begun s) x ⊎ E r x)
+    → Runs mode.Replay (start mode.Replay remote clusters) trace s → IsBegunFairly remote s → (e : Event) (a : Answer) (t : State) → IsStep mode.Replay s e a t → IsFair t.link → tree_of e s ≡ connected f (begun s)
+    → needs_volume e ≡ true → ((c : Choices) → choices_in (may_stop e) c ≡ c) → ok a.shown ≡ true → list_any is_heard a.notes ≡ false → no_number t ≡ false → E a.shown t
+run_event f ok refuses E remote clusters trace s each runs given e a t step fair is needs all counted quiet left =
+    run_event_by f ok refuses E remote clusters trace s runs given e a t step fair is needs all counted left (λ r x h set ends free kept notes. unheard r x kept notes (each r x h set ends free)) where
+      unheard : (r : Shown) (x : State) → IsFair x.link → x.filter.notes ≡ a.notes → IsHeard (begun s) x ⊎ E r x → E r x
+      unheard r x kept notes (inl z) = elim z.heard as (λ _. E r x) [
+        | inl y ↦ no_way (sym quiet ∙ subst (λ (ns : List Notice). list_any is_heard ns ≡ true) (sym z.noted ∙ notes) y)
+        | inr y ↦ no_way (sym y ∙ kept.0)
+      ]
+      unheard r x kept notes (inr z) = z

@@ -26,7 +26,7 @@ fresh_token s h fair = by (recorded_at s.link.remote.tokens (next_token s)) refl
   by (Some d) q = absurd (unrecorded s.filter.volume.epoch s.volatile.tokens s.link.remote.tokens d (h.1 fair).recorded q)
 
 pub item_told : (a : Action) (i : Item) (s : State) (u : Unit {0}) (t : State) → Invariant s → IsFair s.link → IsListening s → IsPushable a s i → Ends (push_item a i s) u t → no_number t ≡ false → IsTold s t
-item_told PutFile i s u t h fair listening ok ends left = by (is_untargeted i) (push_put_at Invariant sound_whole.closed sound_whole.entering i s ok.0 (λ f. lone (book_now s).entries i.id ok.1) (λ f. (ok.2, ok.3)) ok.4 h) ends where
+item_told PutFile i s u t h fair listening ok ends left = by (is_untargeted i) (push_put_at Invariant sound_whole.closed sound_whole.entering.uploads i s ok.0 (λ f. lone (book_now s).entries i.id ok.1) (λ f. (ok.2, ok.3)) ok.4 h) ends where
   by : (b : Bool)
       → Keeps Invariant (push (cond b (placed PutFile i s) (without_place (placed PutFile i s))) (request_of (cond b (placed PutFile i s) (without_place (placed PutFile i s))) (base_version i) (bytes_held i.held)) s)
       → Ends (push (cond b (placed PutFile i s) (without_place (placed PutFile i s))) (request_of (cond b (placed PutFile i s) (without_place (placed PutFile i s))) (base_version i) (bytes_held i.held)) s) u t → IsTold s t
@@ -35,7 +35,7 @@ item_told PutFile i s u t h fair listening ok ends left = by (is_untargeted i) (
 item_told MakeDir i s u t h fair listening ok ends left =
     push_told MakeDir (without_rid (placed MakeDir i s)) (base_version i) (bytes_held i.held) s u t listening (fresh_token s h fair) (push_dir_at (λ x y. Unit {0}) Invariant sound_whole.closed sound_enters_any i s ok.0 (λ f. lone (book_now s).entries i.id ok.1) ok.2 (λ f. tt) h) ends left
 item_told MoveItem i s u t h fair listening ok ends left =
-    push_told MoveItem (placed MoveItem i s) (base_version i) (bytes_held i.held) s u t listening (fresh_token s h fair) (push_move_at Invariant sound_whole.closed sound_whole.entering i s ok.0 (λ f. lone (book_now s).entries i.id ok.1) ok.2 h) ends left
+    push_told MoveItem (placed MoveItem i s) (base_version i) (bytes_held i.held) s u t listening (fresh_token s h fair) (push_move_at Invariant sound_whole.closed sound_whole.entering.uploads i s ok.0 (λ f. lone (book_now s).entries i.id ok.1) ok.2 h) ends left
 item_told RemoveItem i s u t h fair listening ok ends left = absurd ok
 
 pub removal_told : (x : Tombstone) (s : State) (u : Unit {0}) (t : State) → Invariant s → IsFair s.link → IsListening s → Ends (push_removal x s) u t → no_number t ≡ false → IsTold s t

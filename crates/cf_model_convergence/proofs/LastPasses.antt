@@ -15,7 +15,7 @@ use Rattle.cf_model_convergence.proofs.AddingGuarded.{In, entering_adds, guarded
 use Rattle.cf_model_convergence.proofs.TurnsTold.{ends_bind}
 
 module _ (P : State → Type 0) (closed : Guarded P) (entering : Entering P) where
-  abbrev IsLast : State → Type 0
+  abbrev pub IsLast : State → Type 0
   IsLast t = (m : State) × (v : Unit {0}) × P m × Ends (pass m) v t
 
   here : (s : State) → P s → (v : Unit {0}) (m t : State) → Ends (pass_anew s) v m → t ≡ m → IsLast t
@@ -41,7 +41,7 @@ module _ (P : State → Type 0) (closed : Guarded P) (entering : Entering P) whe
     never z = omega (arith, z)
   last_some (suc n) some l made s u t h ends = last_of n l made s u t h ends
 
-  last_pass : (s : State) (u : Unit {0}) (t : State) → P s → Ends (sync_passes s) u t → IsLast t
+  pub last_pass : (s : State) (u : Unit {0}) (t : State) → P s → Ends (sync_passes s) u t → IsLast t
   last_pass s u t h ends = by s.link.inline ends where
     some : 0 < most
     some = omega arith

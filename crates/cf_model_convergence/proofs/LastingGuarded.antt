@@ -191,7 +191,7 @@ module _ (D : Fact) (P : State → Type 0) (lasting : LastingOver D P) where
     keeps_counted = λ s h. (closed.keeps_counted s h.0, h.1);
     asked = λ q s well h. (closed.asked q s well h.0, asked_lasts s q ((closed.on_filter s h.0).sound s.filter h.0) well h.0 h.1);
     told = λ held s h. (closed.told held s h.0, λ fair. no_way fair.0);
-    posts = λ f s well now h. (closed.posts f s well now h.0, h.1);
+    posts = λ f s other well now h. (closed.posts f s other well now h.0, h.1);
     loses = λ f s h. (closed.loses f s h.0, h.1);
     books = λ f s keeps placed known h. (closed.books f s keeps placed (λ fair. record_weaker P Both (λ t k. k.0) f s (known fair)) h.0, λ fair. (lasting.records f s keeps (placed fair) fair (known fair) ((closed.on_filter s h.0).sound s.filter h.0 fair) h.0 (h.1 fair).0, (h.1 fair).1));
     moved = λ e s is live known h. (closed.moved e s is live (λ fair. moved_weaker P Both (λ t k. k.0) e s (known fair)) h.0, λ fair. (lasting.sees e s is (live fair) fair (known fair) ((closed.on_filter s h.0).sound s.filter h.0 fair) (h.1 fair).0, (h.1 fair).1));
@@ -221,7 +221,7 @@ module _ (D : Fact) (P : State → Type 0) (lasting : LastingOver D P) where
   pub unruled_over : Unruled P → ((s : State) → P s → Invariant s) → Unruled Both
   unruled_over rest sound = record {
     closed = guarded_over rest.closed;
-    entering = record { enters = λ e s well h. (rest.entering.enters e s well h.0, λ fair. (lasting.enters e s (well fair) fair h.0 (h.1 fair).0, (h.1 fair).1)) };
+    entering = record { uploads = record { enters = λ e s well h. (rest.entering.uploads.enters e s well h.0, λ fair. (lasting.enters e s (well fair) fair h.0 (h.1 fair).0, (h.1 fair).1)) }; feeds = λ f s well now h. (rest.entering.feeds f s well now h.0, h.1) };
     deleting = record {
       deletes = λ f item s keeps seen cursor idle leaf h. keeps_both (λ x. P (with_filter x s)) (InFilter D s.link) (change_with f (change.Remove item) s.filter) (rest.deleting.deletes f item s keeps seen cursor idle leaf h.0)
           (change_lasts D s.link s.volatile.tokens f (change.Remove item) s.filter (sound s h.0).1 (λ fair. lasting.removes s f item keeps seen cursor (leaf fair).1 fair ((sound s h.0).1 fair) h.0 (h.1 fair).0) h.1);

@@ -28,7 +28,7 @@ always C h (Fork p q) = (always C h p, always C h q)
 always C h (Asked k) = λ x. always C h (k x)
 
 -- what does not speak of the filter
-filter_beside : {On : Knowledge} (l : Link) (tokens : ℕ) (C : Type 0) (P : Filter → Type 0) → C → GuardedFilter On l tokens P → GuardedFilter On l tokens (λ x. P x × C)
+pub filter_beside : {On : Knowledge} (l : Link) (tokens : ℕ) (C : Type 0) (P : Filter → Type 0) → C → GuardedFilter On l tokens P → GuardedFilter On l tokens (λ x. P x × C)
 filter_beside l tokens C P c closed = record {
   sound = λ x h fair. closed.sound x h.0 fair;
   change = λ f d x keeps seen free fit known h. keeps_both P (λ x. C) (change_with f d x) (closed.change f d x keeps seen free fit known h.0) (always C c (change_with f d x));
@@ -69,7 +69,7 @@ module _ (C : Link → Type 0) (of : OfLink C) where
     keeps_counted = λ s h. (closed.keeps_counted s h.0, of.counts s.link h.1);
     asked = λ q s well h. (closed.asked q s well h.0, of.asks s.link q h.1);
     told = λ held s h. (closed.told held s h.0, of.distrusts s.link held h.1);
-    posts = λ f s well now h. (closed.posts f s well now h.0, of.posts s.link (Some f) _ h.1);
+    posts = λ f s other well now h. (closed.posts f s other well now h.0, of.posts s.link (Some f) _ h.1);
     loses = λ f s h. (closed.loses f s h.0, of.posts s.link None s.link.kept_bytes h.1);
     books = λ f s keeps placed known h. (closed.books f s keeps placed (λ fair. record_weaker P (λ t. P t × C t.link) (λ t k. k.0) f s (known fair)) h.0, h.1);
     moved = λ e s is live known h. (closed.moved e s is live (λ fair. moved_weaker P (λ t. P t × C t.link) (λ t k. k.0) e s (known fair)) h.0, h.1);
@@ -95,7 +95,7 @@ module _ (C : Link → Type 0) (of : OfLink C) where
   }
 
   pub entering_link : (P : State → Type 0) → Entering P → Entering (λ s. P s × C s.link)
-  entering_link P entering = record { enters = λ e s well h. (entering.enters e s well h.0, h.1) }
+  entering_link P entering = record { uploads = record { enters = λ e s well h. (entering.uploads.enters e s well h.0, h.1) }; feeds = λ f s well now h. (entering.feeds f s well now h.0, of.posts s.link (Some f) _ h.1) }
 
 -- the number of messages
 

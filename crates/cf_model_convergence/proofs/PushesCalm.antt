@@ -135,7 +135,7 @@ turn_calm item s u t h fair listening ready ends left = by (item_of (items_now s
     adds : Follows k.1 t
     adds =
         since_follows k.1 t (kept_at_end (Since k.1) (put_whole (item_of (items_now k.1) i.id) k.1) u t
-        (put_whole_at (Since k.1) (since_guarded k.1) (since_entering k.1) i k.1 hm.1 (item_of (items_now k.1) i.id) refl (since_start k.1 hm.0)) k.3)
+        (put_whole_at (Since k.1) (since_guarded k.1) (since_entering k.1).uploads i k.1 hm.1 (item_of (items_now k.1) i.id) refl (since_start k.1 hm.0)) k.3)
 
     hydrated : IsHeard s k.1 ⊎ (IsCalm s k.1 × (is_hydrating i.id k.1 ≡ true) × IsOpenTo k.1) → IsHeard s t ⊎ IsTurnedTo s item t
     hydrated (inl y) = inl (heard_then s k.1 t y adds)
@@ -175,16 +175,16 @@ turns_calm (id ∷ ids) s u t h fair listening ready ends left = by (turn_calm i
   k = ends_bind (push_turn id s) (λ _ m. each push_turn ids m) u t ends
 
   keeps_rest : (P : State → Type 0) → Guarded P → Entering P → Preserves P (each push_turn ids)
-  keeps_rest P closed entering = keeps_each P push_turn ids (push_turn_keeps P closed entering)
+  keeps_rest P closed entering = keeps_each P push_turn ids (push_turn_keeps P closed entering.uploads)
 
   hm : Invariant k.1
-  hm = kept_at_end Invariant (push_turn id s) k.0 k.1 ((push_turn_keeps Invariant sound_whole.closed sound_whole.entering id).keeps s h) k.2
+  hm = kept_at_end Invariant (push_turn id s) k.0 k.1 ((push_turn_keeps Invariant sound_whole.closed sound_whole.entering.uploads id).keeps s h) k.2
 
   left_m : HasNumbers k.1
   left_m = numbers_left (each push_turn ids) keeps_rest k.1 u t hm k.3 left
 
   first : Follows s k.1
-  first = adds_later (push_turn id) (λ P closed entering. push_turn_keeps P closed entering id) s k.0 k.1 h k.2
+  first = adds_later (push_turn id) (λ P closed entering. push_turn_keeps P closed entering.uploads id) s k.0 k.1 h k.2
 
   joined : IsTurnedTo s id k.1 → IsHeard k.1 t ⊎ AreTurnedTo k.1 ids t → IsHeard s t ⊎ AreTurnedTo s (id ∷ ids) t
   joined y (inl z) = inl (heard_after s k.1 t first.adds.lines first.adds.noted z)
@@ -207,7 +207,7 @@ pub record IsIdleTo (s t : State) : Type 0 where
 
 pub pushes_calm : (s : State) (u : Unit {0}) (t : State) → Invariant s → IsFair s.link → IsListening s → IsOpenTo s → Ends (push_all s) u t → HasNumbers t → IsHeard s t ⊎ IsIdleTo s t
 pushes_calm s u t h fair listening ready ends left =
-    by k.1 hm k.3 (each_told Tombstone push_tombstone push_tombstone_keeps (λ x. Unit {0}) (λ x y. is_tombstone_left_out x y ≡ true) tombstone_step ts s k.0 k.1 h fair listening tt k.2 (numbers_left (each push_turn ids) keeps_turns k.1 u t hm k.3 left)) where
+    by k.1 hm k.3 (each_told Tombstone push_tombstone (λ P closed entering. push_tombstone_keeps P closed entering.uploads) (λ x. Unit {0}) (λ x y. is_tombstone_left_out x y ≡ true) tombstone_step ts s k.0 k.1 h fair listening tt k.2 (numbers_left (each push_turn ids) keeps_turns k.1 u t hm k.3 left)) where
       ts : List Tombstone
       ts = (book_now s).tombstones
 
@@ -218,10 +218,10 @@ pushes_calm s u t h fair listening ready ends left =
       k = ends_bind (each push_tombstone ts s) (λ _ m. each push_turn ids m) u t ends
 
       hm : Invariant k.1
-      hm = kept_at_end Invariant (each push_tombstone ts s) k.0 k.1 ((keeps_each Invariant push_tombstone ts (push_tombstone_keeps Invariant sound_whole.closed sound_whole.entering)).keeps s h) k.2
+      hm = kept_at_end Invariant (each push_tombstone ts s) k.0 k.1 ((keeps_each Invariant push_tombstone ts (push_tombstone_keeps Invariant sound_whole.closed sound_whole.entering.uploads)).keeps s h) k.2
 
       keeps_turns : (P : State → Type 0) → Guarded P → Entering P → Preserves P (each push_turn ids)
-      keeps_turns P closed entering = keeps_each P push_turn ids (push_turn_keeps P closed entering)
+      keeps_turns P closed entering = keeps_each P push_turn ids (push_turn_keeps P closed entering.uploads)
 
       idle : All (λ x. is_tombstone_left_out s x ≡ true) ts → IsHeard s t ⊎ AreTurnedTo s ids t → IsHeard s t ⊎ IsIdleTo s t
       idle c (inl z) = inl z
@@ -281,7 +281,7 @@ ready_calm s t k dirs r = record {
 
 pub rest_at : (s : State) (u : Unit {0}) (t : State) → Invariant s → IsFair s.link → AreDirs s → IsReady s → Ends (push_all s) u t → IsIdleTo s t → IsAtRest t
 rest_at s u t h fair dirs ready ends k =
-    at_rest t (kept_at_end Invariant (push_all s) u t ((push_all_keeps Invariant sound_whole.closed sound_whole.entering).keeps s h) ends) (fair_calm s t k.calm fair) (ready_calm s t k.calm dirs ready) t k.idle
+    at_rest t (kept_at_end Invariant (push_all s) u t ((push_all_keeps Invariant sound_whole.closed sound_whole.entering.uploads).keeps s h) ends) (fair_calm s t k.calm fair) (ready_calm s t k.calm dirs ready) t k.idle
 
 pub calm_targets : (s t : State) → IsCalm s t → AreAllTargets s → AreAllTargets t
 calm_targets s t k all = record {

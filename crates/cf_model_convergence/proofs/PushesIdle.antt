@@ -119,8 +119,8 @@ of_ids P (x ∷ xs) h = (h.0, of_ids P xs h.1)
 pub pushes_told : (s : State) (u : Unit {0}) (t : State) → Invariant s → IsFair s.link → IsListening s → AreWhole s → Ends (push_all s) u t → no_number t ≡ false → IsTold s t ⊎ IsIdle s t
 pushes_told s u t h fair listening whole ends left =
     let k = ends_bind (each push_tombstone ts s) (λ _ m. each push_turn ids m) u t ends in
-    let hm : Invariant k.1 = kept_at_end Invariant (each push_tombstone ts s) k.0 k.1 ((keeps_each Invariant push_tombstone ts (push_tombstone_keeps Invariant sound_whole.closed sound_whole.entering)).keeps s h) k.2 in
-    by k.1 hm k.3 (each_told Tombstone push_tombstone push_tombstone_keeps (λ x. Unit {0}) (λ x y. is_tombstone_left_out x y ≡ true) tombstone_step ts s k.0 k.1 h fair listening tt k.2 (numbers_left (each push_turn ids) keeps_turns k.1 u t hm k.3 left)) where
+    let hm : Invariant k.1 = kept_at_end Invariant (each push_tombstone ts s) k.0 k.1 ((keeps_each Invariant push_tombstone ts (push_tombstone_keeps Invariant sound_whole.closed sound_whole.entering.uploads)).keeps s h) k.2 in
+    by k.1 hm k.3 (each_told Tombstone push_tombstone (λ P closed entering. push_tombstone_keeps P closed entering.uploads) (λ x. Unit {0}) (λ x y. is_tombstone_left_out x y ≡ true) tombstone_step ts s k.0 k.1 h fair listening tt k.2 (numbers_left (each push_turn ids) keeps_turns k.1 u t hm k.3 left)) where
       ts : List Tombstone
       ts = (book_now s).tombstones
 
@@ -128,7 +128,7 @@ pushes_told s u t h fair listening whole ends left =
       ids = map (λ i. i.id) (by_depth (items_now s) (items_now s))
 
       keeps_turns : (P : State → Type 0) → Guarded P → Entering P → Preserves P (each push_turn ids)
-      keeps_turns P closed entering = keeps_each P push_turn ids (push_turn_keeps P closed entering)
+      keeps_turns P closed entering = keeps_each P push_turn ids (push_turn_keeps P closed entering.uploads)
 
       idle : All (λ x. is_tombstone_left_out s x ≡ true) ts → IsTold s t ⊎ ((t ≡ s) × All (Rests s) ids) → IsTold s t ⊎ IsIdle s t
       idle c (inl k) = inl k
@@ -136,4 +136,4 @@ pushes_told s u t h fair listening whole ends left =
 
       by : (m : State) → Invariant m → Ends (each push_turn ids m) u t → IsTold s m ⊎ ((m ≡ s) × All (λ x. is_tombstone_left_out s x ≡ true) ts) → IsTold s t ⊎ IsIdle s t
       by m hm e (inl told) = inl (told_then s m t told (adds_later (each push_turn ids) keeps_turns m u t hm e))
-      by m hm e (inr k) = idle k.1 (each_told ItemId push_turn push_turn_keeps AreWhole Rests turn_step ids s u t h fair listening whole (subst (λ (y : State). Ends (each push_turn ids y) u t) k.0 e) left)
+      by m hm e (inr k) = idle k.1 (each_told ItemId push_turn (λ P closed entering. push_turn_keeps P closed entering.uploads) AreWhole Rests turn_step ids s u t h fair listening whole (subst (λ (y : State). Ends (each push_turn ids y) u t) k.0 e) left)

@@ -81,22 +81,22 @@ pass_ends Q s u t last h fair listening agreed ends left = settled (settles_told
   hm = kept_at_end Invariant (settle_all s) x.0 x.1 ((settle_all_keeps Invariant sound_whole.closed).keeps s h) x.2
 
   hn : Invariant y.1
-  hn = kept_at_end Invariant (ask_feed x.1) y.0 y.1 ((ask_feed_keeps Invariant sound_whole.closed).keeps x.1 hm) y.2
+  hn = kept_at_end Invariant (ask_feed x.1) y.0 y.1 ((ask_feed_keeps Invariant sound_whole.closed sound_whole.entering).keeps x.1 hm) y.2
 
   left_n : no_number y.1 ≡ false
-  left_n = numbers_left push_all push_all_keeps y.1 u t hn y.3 left
+  left_n = numbers_left push_all (λ P closed entering. push_all_keeps P closed entering.uploads) y.1 u t hn y.3 left
 
   left_m : no_number x.1 ≡ false
-  left_m = numbers_left ask_feed (λ P closed entering. ask_feed_keeps P closed) x.1 y.0 y.1 hm y.2 left_n
+  left_m = numbers_left ask_feed (λ P closed entering. ask_feed_keeps P closed entering) x.1 y.0 y.1 hm y.2 left_n
 
   first : Follows s x.1
   first = adds_later settle_all (λ P closed entering. settle_all_keeps P closed) s x.0 x.1 h x.2
 
   second : Follows x.1 y.1
-  second = adds_later ask_feed (λ P closed entering. ask_feed_keeps P closed) x.1 y.0 y.1 hm y.2
+  second = adds_later ask_feed (λ P closed entering. ask_feed_keeps P closed entering) x.1 y.0 y.1 hm y.2
 
   rest : Follows y.1 t
-  rest = adds_later push_all push_all_keeps y.1 u t hn y.3
+  rest = adds_later push_all (λ P closed entering. push_all_keeps P closed entering.uploads) y.1 u t hn y.3
 
   asks : IsFair x.1.link → IsListening x.1 → IsSettledTo [] s x.1 → (book_now x.1).entries ≡ [] → IsTold x.1 y.1 ⊎ IsFed x.1 y.1 → IsTold s t ⊎ Q t
   asks f l a none (inl k) = inl (told_before s x.1 t first (told_then x.1 y.1 t k rest))
@@ -108,7 +108,7 @@ pass_ends Q s u t last h fair listening agreed ends left = settled (settles_told
   settled : IsTold s x.1 ⊎ IsSettledTo [] s x.1 → IsTold s t ⊎ Q t
   settled (inl k) = inl (told_then s x.1 t k after) where
     after : Follows x.1 t
-    after = adds_later (then_do ask_feed push_all) (λ P closed entering. keeps_then P ask_feed push_all (ask_feed_keeps P closed) (push_all_keeps P closed entering)) x.1 u t hm x.3
+    after = adds_later (then_do ask_feed push_all) (λ P closed entering. keeps_then P ask_feed push_all (ask_feed_keeps P closed entering) (push_all_keeps P closed entering.uploads)) x.1 u t hm x.3
   settled (inr k) =
       let f : IsFair x.1.link = fair_still [] s x.1 k fair in
       let l : IsListening x.1 = record { inline = k.inline ∙ listening.inline; shows = ap (λ (r : Running). r.shows_skips) k.running ∙ listening.shows } in

@@ -130,7 +130,7 @@ module _ (e : QueueEntry) (s : State) where
 
   given_of : Invariant s → entry_of (book_now s) e.token ≡ Some e → Keeps Invariant (settle_entry e s)
   given_of h live =
-      send_now_at Invariant sound_whole.closed asked s
+      send_now_at Invariant sound_whole.closed asked s refl
       (λ fair. settle_posted s e.token (all_found (IsEntryOf (next_number s.filter.volume) s.filter.volume.next_item.0 s.filter.volume.epoch s.volatile.tokens) (λ f. same_key f.token.0 e.token.0) (book_now s).entries e live (h.1 fair).now.given).0.token) (λ fair. tt) h
 
   entry_left : Invariant s → IsListening s → entry_of (book_now s) e.token ≡ Some e → (u : Unit {0}) (t : State) → Ends (settle_entry e s) u t → no_number t ≡ false → Left t
@@ -201,7 +201,7 @@ With w es x = Since w x × Entries es x
 -- an upload is settled with its lines behind those of before
 settle_keeps : (w : State) (e : QueueEntry) (es : List QueueEntry) (s : State) → With w (e ∷ es) s → Keeps (With w (e ∷ es)) (settle_entry e s)
 settle_keeps w e es s h =
-    send_now_at (With w (e ∷ es)) (guarded_framed ⊥ no_item Whatever (λ d p k. tt) (e ∷ es) (Since w) (since_guarded w)) (request.Settle e.token) s
+    send_now_at (With w (e ∷ es)) (guarded_framed ⊥ no_item Whatever (λ d p k. tt) (e ∷ es) (Since w) (since_guarded w)) (request.Settle e.token) s refl
     (λ fair. settle_posted s e.token (h.1.1 fair).0) (λ fair. tt) h
 
 each_left : (es : List QueueEntry) (s : State) (u : Unit {0}) (t : State) → (book_now s).entries ≡ es → Invariant s → IsFair s.link → IsListening s → Entries es s → Ends (each settle_entry es s) u t → no_number t ≡ false → IsTold s t ⊎ IsSettledTo [] s t

@@ -133,7 +133,7 @@ module _ (s : State) (h : Invariant s) (fair : IsFair s.link) (listening : IsLis
   after_told bare none true m first ends =
       told_then s m t (leads_ends Any (λ done x. IsTold s x) (try_change convert s) true m (try_told_led convert s listening) first)
       (since_follows m t (kept_at_end (Since m) (upload_if i.id true m) u t
-      (upload_now_at (Since m) (since_guarded m) (since_entering m) i.id (item_of (items_now m) i.id) m refl
+      (upload_now_at (Since m) (since_guarded m) (since_entering m).uploads i.id (item_of (items_now m) i.id) m refl
       (λ f. subst (λ (es : List QueueEntry). NoEntry es i.id) (sym (led.after.entries (λ b. refl))) (lone (book_now s).entries i.id free))
       (λ k e. each_at i.id Whole (items_now m) k e (subst (Each i.id Whole) (sym led.after.items) (made (items_now s))))
       (since_start m (kept_at_end Invariant (try_change convert s) true m (try_change_at Unnamed Invariant (guarded_skipping Invariant sound_whole.closed) convert s refl (λ id k. k) (λ f. (convert_fits bare none f, tt)) h) first))) ends)) where

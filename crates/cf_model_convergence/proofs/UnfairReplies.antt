@@ -22,7 +22,7 @@ module _ (P : State → Type 0) (closed : Guarded P) (n : ℕ) (q : Request) (ot
 
   two : (b : Bool) → Keeps P (bind (bind (post_by (frame.Reply n other) b d) (if_kept other)) (take_if_any q))
   two true = (h, closed.loses (frame.Reply n other) d h)
-  two false = (h, take_reply_at P closed n q other (with_message (frame.Reply n other) d) (λ fair. never fair) (length (with_message (frame.Reply n other) d).link.messages, last_message d.link.messages (frame.Reply n other)) (closed.posts (frame.Reply n other) d (λ fair. never fair) (λ fair. never fair) h))
+  two false = (h, take_reply_at P closed n q other (with_message (frame.Reply n other) d) (λ fair. never fair) (length (with_message (frame.Reply n other) d).link.messages, last_message d.link.messages (frame.Reply n other)) (closed.posts (frame.Reply n other) d refl (λ fair. never fair) (λ fair. never fair) h))
 
   unfair_keeps : Keeps P (bind (answered n (Some other) d) (take_if_any q))
   unfair_keeps = by (no_number d) where

@@ -43,7 +43,7 @@ use Rattle.cf_model_convergence.proofs.SyncsCalm.{IsLeft, IsDone, drained_left, 
 use Rattle.cf_model_convergence.proofs.EventsCalm.{run_event}
 use Rattle.cf_model_convergence.proofs.SinceGuarded.{Follows}
 
-work_over : (all : Bool) (s : State) (r : Shown) (t : State) → Invariant s → IsSet (showing s) → (all ≡ true → IsPassedHere (showing s)) → Ends (work_now s) r t → no_number t ≡ false → IsHeard s t ⊎ IsLeft all t
+pub work_over : (all : Bool) (s : State) (r : Shown) (t : State) → Invariant s → IsSet (showing s) → (all ≡ true → IsPassedHere (showing s)) → Ends (work_now s) r t → no_number t ≡ false → IsHeard s t ⊎ IsLeft all t
 work_over all s r t h set there ends left = passed (pass_over all (showing s) k.0 k.1 hs set there k.2 left_m) where
   last : State → Tree State Shown
   last m = ret shown.Done m

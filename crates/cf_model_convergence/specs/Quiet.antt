@@ -8,18 +8,14 @@ use Rattle.cf_base.specs.declared.calls.Call.TheVariants as call
 use Rattle.cf_base.specs.declared.events.Event.{Event}
 use Rattle.cf_base.specs.declared.events.Event.TheVariants as event
 use Rattle.cf_base.specs.declared.messages.Reply.TheVariants as reply
-use Rattle.cf_base.specs.declared.messages.Request.TheVariants as request
 use Rattle.cf_base.specs.declared.notices.Frame.{Frame}
 use Rattle.cf_base.specs.declared.notices.Frame.TheVariants as frame
 use Rattle.cf_base.specs.declared.notices.Notice.{Notice}
 use Rattle.cf_base.specs.declared.notices.Notice.TheVariants as notice
 use Rattle.cf_model.specs.Plans.{is_full_population}
+use Rattle.cf_model_laws.specs.Taken.{is_feed}
 
 -- messages
-
-abbrev pub is_feed : Frame → Bool
-is_feed (frame.Request (request.Feed round after)) = true
-is_feed _ = false
 
 abbrev pub is_done : Frame → Bool
 is_done (frame.Reply answers (reply.Done token rid version)) = true

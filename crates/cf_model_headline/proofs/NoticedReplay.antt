@@ -67,7 +67,7 @@ module _ (Q : Filter → Type 0) (q : Noticed Q) (P : State → Type 0) where
     keeps_counted = λ s h. (closed.keeps_counted s h.0, h.1);
     asked = λ r s well h. (closed.asked r s well h.0, h.1);
     told = λ held s h. (closed.told held s h.0, h.1);
-    posts = λ f s well now h. (closed.posts f s well now h.0, q.notes (notice.Message _) s.filter refl refl h.1);
+    posts = λ f s other well now h. (closed.posts f s other well now h.0, q.notes (notice.Message _) s.filter refl refl h.1);
     loses = λ f s h. (closed.loses f s h.0, q.notes (notice.Message _) s.filter refl refl h.1);
     books = λ f s keeps placed known h. (closed.books f s keeps placed (λ fair. record_weaker P Both (λ t k. k.0) f s (known fair)) h.0, book_noticed Q q f s h.1);
     moved = λ e s is live known h. (closed.moved e s is live (λ fair. moved_weaker P Both (λ t k. k.0) e s (known fair)) h.0, book_noticed Q q (with_seen (entry_seen e)) (with_volatile (taken_from_row e) (with_book (without_entry e.token) s)) (book_noticed Q q (without_entry e.token) s h.1));
@@ -93,7 +93,7 @@ module _ (Q : Filter → Type 0) (q : Noticed Q) (P : State → Type 0) where
   }
 
   pub entering_noticed : Entering P → Entering Both
-  entering_noticed entering = record { enters = λ e s well h. (entering.enters e s well h.0, book_noticed Q q (with_entry e) s h.1) }
+  entering_noticed entering = record { uploads = record { enters = λ e s well h. (entering.uploads.enters e s well h.0, book_noticed Q q (with_entry e) s h.1) }; feeds = λ f s well now h. (entering.feeds f s well now h.0, q.notes (notice.Message _) s.filter refl refl h.1) }
 
   pub deleting_noticed : Deleting P → Deleting Both
   deleting_noticed deleting = record {

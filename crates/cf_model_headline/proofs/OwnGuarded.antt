@@ -147,7 +147,7 @@ module _ (base : Log) (id : WaitId) (item : ItemId) (span : Span) where
     keeps_counted = λ s h. (closed.keeps_counted s h.0, h.1);
     asked = λ q s well h. (closed.asked q s well h.0, grown s.link (with_remote (remote_step s.link.remote q).1 (counted s)).link s.filter (λ fair. ((fair.0, small_before s.link.remote q fair.1), step_extends s.link.remote q)) h.1);
     told = λ held s h. (closed.told held s h.0, grown s.link (distrusted (with_remote held (counted s))).link s.filter (λ fair. no_way fair.0) h.1);
-    posts = λ f s well now h. (closed.posts f s well now h.0, noted s.link (notice.Message _) s.filter refl h.1);
+    posts = λ f s other well now h. (closed.posts f s other well now h.0, noted s.link (notice.Message _) s.filter refl h.1);
     loses = λ f s h. (closed.loses f s h.0, noted s.link (notice.Message _) s.filter refl h.1);
     books = λ f s keeps placed known h. (closed.books f s keeps placed (λ fair. record_weaker P (λ t. P t × OfState t) (λ t k. k.0) f s (known fair)) h.0, h.1);
     moved = λ e s is live known h. (closed.moved e s is live (λ fair. moved_weaker P (λ t. P t × OfState t) (λ t k. k.0) e s (known fair)) h.0, h.1);

@@ -181,7 +181,7 @@ module _ (base : Log) (ws : List Wait) (e n : ℕ) where
       keeps_counted = λ s h. (closed.keeps_counted s h.0, h.1);
       asked = λ q s well h. (closed.asked q s well h.0, grown s.link (with_remote (remote_step s.link.remote q).1 (counted s)).link s.filter (λ fair. ((fair.0, small_before s.link.remote q fair.1), step_extends s.link.remote q)) h.1);
       told = λ held s h. (closed.told held s h.0, grown s.link (distrusted (with_remote held (counted s))).link s.filter (λ fair. no_way fair.0) h.1);
-      posts = λ f s well now h. (closed.posts f s well now h.0, noted s.link (notice.Message _) s.filter refl refl h.1);
+      posts = λ f s other well now h. (closed.posts f s other well now h.0, noted s.link (notice.Message _) s.filter refl refl h.1);
       loses = λ f s h. (closed.loses f s h.0, noted s.link (notice.Message _) s.filter refl refl h.1);
       books = λ f s keeps placed known h. (closed.books f s keeps placed (λ fair. record_weaker P Both (λ t k. k.0) f s (known fair)) h.0, h.1);
       moved = λ e s is live known h. (closed.moved e s is live (λ fair. moved_weaker P Both (λ t k. k.0) e s (known fair)) h.0, h.1);
@@ -207,7 +207,7 @@ module _ (base : Log) (ws : List Wait) (e n : ℕ) where
     }
 
     entering_reading : Entering P → Entering Both
-    entering_reading entering = record { enters = λ e s well h. (entering.enters e s well h.0, h.1) }
+    entering_reading entering = record { uploads = record { enters = λ e s well h. (entering.uploads.enters e s well h.0, h.1) }; feeds = λ f s well now h. (entering.feeds f s well now h.0, noted s.link (notice.Message _) s.filter refl refl h.1) }
 
     removing : (s : State) (f : Book → Book) (item : ItemId) → AtState s → Keeps (At s.link) (change_with f (change.Remove item) s.filter)
     removing s f item h = kept_leads (At s.link) (change_with f (change.Remove item) s.filter) (change_leads (At s.link) (λ t. At s.link t) f (change.Remove item) s.filter h h h (λ v is. put v is)) where

@@ -178,7 +178,7 @@ guarded_knowing K F b P knows closed = record {
     closed.told held s h.0,
     b.grows s.link _ s.filter.volume.epoch s.filter.volume.place s.filter.volume.log s.filter.handles s.filter.handle_count s.filter.waiting.waits s.filter.waiting.wait_count (λ fair. no_way fair.0) h.1,
   );
-  posts = λ f s well now h. (closed.posts f s well now h.0, linked K F b s.link _ s.filter (λ fair. fair) refl h.1);
+  posts = λ f s other well now h. (closed.posts f s other well now h.0, linked K F b s.link _ s.filter (λ fair. fair) refl h.1);
   loses = λ f s h. (closed.loses f s h.0, linked K F b s.link _ s.filter (λ fair. fair) refl h.1);
   books = λ f s keeps placed known h. (closed.books f s keeps placed (λ fair. record_weaker P (λ t. P t × HoldsIn F t) (λ t k. k.0) f s (known fair)) h.0, h.1);
   moved = λ e s is live known h. (closed.moved e s is live (λ fair. moved_weaker P (λ t. P t × HoldsIn F t) (λ t k. k.0) e s (known fair)) h.0, h.1);
@@ -217,8 +217,14 @@ commanding_knowing K F b P knows closed commanding = record {
 pub commanding_beside : (F : Fact) → Beside F → (P : State → Type 0) → Guarded P → Commanding P → Commanding (λ s. P s × HoldsIn F s)
 commanding_beside F b P closed commanding = commanding_knowing Whatever F (knowing F b) P (λ s h fair. tt) closed commanding
 
-pub entering_beside : (F : Fact) (P : State → Type 0) → Entering P → Entering (λ s. P s × HoldsIn F s)
-entering_beside F P entering = record { enters = λ e s well h. (entering.enters e s well h.0, h.1) }
+pub entering_knowing : (K : Filter → Type 0) (F : Fact) → Knowing K F → (P : State → Type 0) → Entering P → Entering (λ s. P s × HoldsIn F s)
+entering_knowing K F b P entering = record {
+  uploads = record { enters = λ e s well h. (entering.uploads.enters e s well h.0, h.1) };
+  feeds = λ f s well now h. (entering.feeds f s well now h.0, linked K F b s.link _ s.filter (λ fair. fair) refl h.1);
+}
+
+pub entering_beside : (F : Fact) → Beside F → (P : State → Type 0) → Entering P → Entering (λ s. P s × HoldsIn F s)
+entering_beside F b P entering = entering_knowing Whatever F (knowing F b) P entering
 
 pub ruling_beside : (F : Fact) (P : State → Type 0) → Ruling P → Ruling (λ s. P s × HoldsIn F s)
 ruling_beside F P ruling = record { rules = λ p s v h. (ruling.rules p s v h.0, h.1) }
@@ -239,7 +245,7 @@ pub record KnowingRuns (K : Filter → Type 0) (F : Fact) : Type 0 where
 pub unruled_knowing : (K : Filter → Type 0) (F : Fact) → KnowingRuns K F → (P : State → Type 0) → ((s : State) → P s → IsFair s.link → K s.filter) → Unruled P → Unruled (λ s. P s × HoldsIn F s)
 unruled_knowing K F b P knows rest = record {
   closed = guarded_knowing K F b.knowing P knows rest.closed;
-  entering = entering_beside F P rest.entering;
+  entering = entering_knowing K F b.knowing P rest.entering;
   deleting = record {
     deletes = λ f item s keeps seen cursor idle leaf h. keeps_both (λ x. P (with_filter x s)) (Holds F s.link) (change_with f (change.Remove item) s.filter) (rest.deleting.deletes f item s keeps seen cursor idle leaf h.0)
         (changed_beside F s.link f (change.Remove item) s.filter h.1 (b.removes s.link s.volatile.tokens item s.filter ((rest.closed.on_filter s h.0).sound s.filter h.0) idle (λ fair. (leaf fair).0) h.1));

@@ -75,10 +75,10 @@ list_posted a i s = plain_posted (list_of a i) s (λ t b. tt) tt (all_any (λ b.
 agent_at : (P : State → Type 0) → Guarded P → (a : Ask) (s : State) → (IsFair s.link → WasBoxed s a) → P s → Keeps P (agent a s)
 agent_at P closed a s boxed h = by a.kind (item_of (items_now s) a.item) refl where
   by : (k : AskKind) (o : Option Item) → item_of (items_now s) a.item ≡ o → Keeps P (agent_on k a o s)
-  by ask_kind.Fetch (Some i) f = send_now_at P closed (fetch_of a i) s (fetch_posted P closed a i s h boxed f) (λ fair. tt) h
+  by ask_kind.Fetch (Some i) f = send_now_at P closed (fetch_of a i) s refl (fetch_posted P closed a i s h boxed f) (λ fair. tt) h
   by ask_kind.Fetch None f = h
   by ask_kind.Validate o f = h
-  by ask_kind.List (Some i) f = send_now_at P closed (list_of a i) s (λ fair. list_posted a i s) (λ fair. (boxed fair).given) h
+  by ask_kind.List (Some i) f = send_now_at P closed (list_of a i) s refl (λ fair. list_posted a i s) (λ fair. (boxed fair).given) h
   by ask_kind.List None f = h
   by ask_kind.Dehydrate o f = (consents_op_keeps P closed a.key).keeps s h
 

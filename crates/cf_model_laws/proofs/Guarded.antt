@@ -56,7 +56,7 @@ use Rattle.cf_model_laws.specs.Invariant.{All, Among, IsSound, message_in}
 use Rattle.cf_model_laws.specs.Marks.{IsMadeLast, IsMarkedLast, IsUnseen, StandsAtSeen}
 use Rattle.cf_model_laws.specs.Premises.{IsFair}
 use Rattle.cf_model_laws.specs.Seats.{IsSeated, NeedsWell}
-use Rattle.cf_model_laws.specs.Taken.{AnswersNow, IsChangeBy, IsPosted, IsSeenBy, Known, Knowledge, Since, ToldAt}
+use Rattle.cf_model_laws.specs.Taken.{AnswersNow, IsChangeBy, IsPosted, IsSeenBy, Known, Knowledge, Since, ToldAt, is_feed}
 use Rattle.cf_model_laws.proofs.SoundBooks.{EnteredWell}
 use Rattle.cf_model_laws.proofs.SoundChanges.{KeepsEntries}
 use Rattle.cf_model_laws.proofs.SoundLinks.{AskedWell, PostedWell}
@@ -264,7 +264,7 @@ pub record Guarded (P : State → Type 0) : Type 0 where
   pub keeps_counted : (s : State) → P s → P (counted s)
   pub asked : (q : Request) (s : State) → (IsFair s.link → AskedIn s q) → P s → P (with_remote (remote_step s.link.remote q).1 (counted s))
   pub told : (held : Held) (s : State) → P s → P (distrusted (with_remote held (counted s)))
-  pub posts : (f : Frame) (s : State) → (IsFair s.link → PostedIn s (Some f)) → (IsFair s.link → PostedNow s (Some f)) → P s → P (with_message f s)
+  pub posts : (f : Frame) (s : State) → is_feed f ≡ false → (IsFair s.link → PostedIn s (Some f)) → (IsFair s.link → PostedNow s (Some f)) → P s → P (with_message f s)
   pub loses : (f : Frame) (s : State) → P s → P (with_lost f s)
   pub books : (f : Book → Book) (s : State) → KeepsEntries f → (IsFair s.link → KeepsPlaced f s × KeepsBelow f s × KeepsEarly f s) → (IsFair s.link → IsRecordBy P f s) → P s → P (with_book f s)
   pub moved : (e : QueueEntry) (s : State) → e.action ≡ MoveItem → (IsFair s.link → entry_of (book_now s) e.token ≡ Some e) → (IsFair s.link → IsMovedBy P e s) → P s → P (after_move e s)
@@ -307,13 +307,18 @@ pub record Commanding (P : State → Type 0) : Type 0 where
   pub disconnects : (s : State) → P s → P (with_filter (disconnected s.filter) s)
   pub inlines : (inline : Bool) (s : State) → P s → P (with_inline inline s)
 
--- and by an upload that is entered, of which so much is known
+-- by an upload that is entered, of which so much is known
 pub record EnteringBy (Q : State → QueueEntry → Type 0) (P : State → Type 0) : Type 0 where
   pub enters : (e : QueueEntry) (s : State) → (IsFair s.link → EnteredIn s e × MovesThere s e × Q s e) → P s → P (with_book (with_entry e) s)
 
-abbrev pub Entering : (State → Type 0) → Type 0
-Entering P = EnteringBy EntersThere P
+abbrev pub Uploading : (State → Type 0) → Type 0
+Uploading P = EnteringBy EntersThere P
 
 -- what keeps it of any upload
 abbrev pub EnteringAny : (State → Type 0) → Type 0
 EnteringAny P = EnteringBy (λ s e. Unit {0}) P
+
+-- and by what passes alone do: uploads are entered, and a feed is asked for
+pub record Entering (P : State → Type 0) : Type 0 where
+  pub uploads : Uploading P
+  pub feeds : (f : Frame) (s : State) → (IsFair s.link → PostedIn s (Some f)) → (IsFair s.link → PostedNow s (Some f)) → P s → P (with_message f s)

@@ -188,7 +188,7 @@ guarded_placed P closed = record {
   keeps_counted = λ s h. (closed.keeps_counted s h.0, h.1);
   asked = λ q s well h. (closed.asked q s well h.0, λ fair. h.1 (fair.0, small_before s.link.remote q fair.1));
   told = λ held s h. (closed.told held s h.0, λ fair. no_way fair.0);
-  posts = λ f s well now h. (closed.posts f s well now h.0, h.1);
+  posts = λ f s other well now h. (closed.posts f s other well now h.0, h.1);
   loses = λ f s h. (closed.loses f s h.0, h.1);
   books = λ f s keeps placed known h. (closed.books f s keeps placed (λ fair. record_weaker P (λ t. P t × PlacedIn t) (λ t k. k.0) f s (known fair)) h.0, book_placed f s keeps placed h.1);
   moved = λ e s is live known h. (closed.moved e s is live (λ fair. moved_weaker P (λ t. P t × PlacedIn t) (λ t k. k.0) e s (known fair)) h.0, moved_placed e s (λ fair. (closed.on_filter s h.0).sound s.filter h.0 fair) is live h.1);
@@ -237,7 +237,7 @@ opened_placed p skipped s is h fair = (k.1, ((shorter p.count (length (take p.co
 pub placed_whole : Whole (λ s. Invariant s × PlacedIn s)
 placed_whole = record {
   closed = guarded_placed Invariant sound_whole.closed;
-  entering = record { enters = λ e s well h. (sound_whole.entering.enters e s well h.0, entered_placed e s (λ fair. (well fair).1) h.1) };
+  entering = record { uploads = record { enters = λ e s well h. (sound_whole.entering.uploads.enters e s well h.0, entered_placed e s (λ fair. (well fair).1) h.1) }; feeds = λ f s well now h. (sound_whole.entering.feeds f s well now h.0, h.1) };
   deleting = record {
     deletes = λ f item s keeps seen cursor idle leaf h. keeps_both (λ x. Invariant (with_filter x s)) (InFilter s.link) (change_with f (change.Remove item) s.filter) (sound_whole.deleting.deletes f item s keeps seen cursor idle leaf h.0)
         (placed_change s.link s.volatile.tokens f (change.Remove item) s.filter h.0.1 (λ fair. other_placed f (change.Remove item) s.filter (λ z. z) seen (h.1 fair).0.below) h.1);

@@ -58,7 +58,7 @@ use Rattle.cf_model_laws.proofs.SoundStates.{small_before}
 use Rattle.cf_model_laws.proofs.EntriesAsked.{carries_asks}
 use Rattle.std.proofs.lemmas.Bool.Decides.{nat_tests}
 use Rattle.cf_model_laws.proofs.DoneNames.{done_low}
-use Rattle.cf_model_laws.specs.Taken.{AnswersNow, Heard, IsPosted, ToldAt, HasNoEntries}
+use Rattle.cf_model_laws.specs.Taken.{AnswersNow, Heard, IsPosted, ToldAt, HasNoEntries, is_feed}
 
 -- what the remote is asked
 
@@ -197,7 +197,7 @@ answered_led P closed m q None t h = (h.0, nothing_come P m q (fault_line m t) (
 answered_led P closed m q (Some r) t h = by (no_number t) where
   kept : Come P m q (Some r) (with_message (frame.Reply m r) t)
   kept = (
-    closed.posts (frame.Reply m r) t (λ fair. reply_posted m q r t (h.1 r refl fair).0) (λ fair. (q, (h.1 r refl fair).0.0, (h.1 r refl fair).1)) h.0,
+    closed.posts (frame.Reply m r) t refl (λ fair. reply_posted m q r t (h.1 r refl fair).0) (λ fair. (q, (h.1 r refl fair).0.0, (h.1 r refl fair).1)) h.0,
     λ r2 e. subst (λ (x : Reply). (IsFair t.link → ToldAt (with_message (frame.Reply m r) t) m q x) × IsPosted (with_message (frame.Reply m r) t) m x) (same_reply r r2 e) (
       λ fair. (message_longer t.link.messages (Some (frame.Reply m r) ∷ []) m (frame.Request q) (h.1 r refl fair).0.0, (h.1 r refl fair).0.1, (h.1 r refl fair).0.2),
       (length (with_message (frame.Reply m r) t).link.messages, last_message t.link.messages (frame.Reply m r)),
@@ -367,7 +367,7 @@ take_reply_at P closed m q r s told posted h = by (is_stale q r s) refl where
 
 -- requests
 
-come_now_at : (P : State → Type 0) → Guarded P → (q : Request) (s : State) → message_in s.link.messages (length s.link.messages) ≡ Some (frame.Request q) → P s → Keeps P (come_now q s)
+pub come_now_at : (P : State → Type 0) → Guarded P → (q : Request) (s : State) → message_in s.link.messages (length s.link.messages) ≡ Some (frame.Request q) → P s → Keeps P (come_now q s)
 come_now_at P closed q s at h =
     kept_leads P (come_now q s)
     (leads_bind P (Come P (length s.link.messages) q) (λ u t. P t) (come (length s.link.messages) q s) (take_if_any q) (come_led P closed (length s.link.messages) q s at h) (λ o t k. leads_kept P (take_if_any q o t) (by o t k.0 k.1))) where
@@ -375,11 +375,8 @@ come_now_at P closed q s at h =
       by None t j k = j
       by (Some r) t j k = take_reply_at P closed (length s.link.messages) q r t (k r refl).0 (k r refl).1 j
 
-pub send_now_at : (P : State → Type 0) → Guarded P → (q : Request) (s : State) → (IsFair s.link → PostedIn s (Some (frame.Request q))) → (IsFair s.link → PostedNow s (Some (frame.Request q))) → P s → Keeps P (send_now q s)
-send_now_at P closed q s well now h = by (no_number s) where
-  sent : P (with_message (frame.Request q) s)
-  sent = closed.posts (frame.Request q) s well now h
-
+pub send_now_by : (P : State → Type 0) → Guarded P → (q : Request) (s : State) → P (with_message (frame.Request q) s) → P s → Keeps P (send_now q s)
+send_now_by P closed q s sent h = by (no_number s) where
   three : (b : Bool) → Keeps P (come_if q b (with_message (frame.Request q) s))
   three true = come_now_at P closed q (with_message (frame.Request q) s) (last_message s.link.messages (frame.Request q)) sent
   three false = sent
@@ -391,6 +388,9 @@ send_now_at P closed q s well now h = by (no_number s) where
   by : (n : Bool) → Keeps P (bind (post_unless (frame.Request q) n s) (after_post q))
   by true = h
   by false = two (no_bytes (frame.Request q) s)
+
+pub send_now_at : (P : State → Type 0) → Guarded P → (q : Request) (s : State) → is_feed (frame.Request q) ≡ false → (IsFair s.link → PostedIn s (Some (frame.Request q))) → (IsFair s.link → PostedNow s (Some (frame.Request q))) → P s → Keeps P (send_now q s)
+send_now_at P closed q s other well now h = send_now_by P closed q s (closed.posts (frame.Request q) s other well now h) h
 
 pub list_ask_keeps : (P : State → Type 0) → Guarded P → (key : Key) (rid : Rid) → Preserves P (ask (request.List key rid))
 list_ask_keeps P closed key rid = record { keeps = λ s h. ask_at P closed (request.List key rid) s (λ fair. record { token = tt; carries = λ t b o k. tt; asks = λ e o k. tt }) h }

@@ -79,7 +79,7 @@ module _ (F : Fact) where
   at_between : (o : List Ask) (w : Waiting) (os : List Ask) (v : Waiting) → os ≡ o → v ≡ w → F o w → F os v
   at_between o w os v e f h = subst (λ (x : List Ask). F x v) (sym e) (subst (λ (y : Waiting). F o y) (sym f) h)
 
-  told_keeps : (x : Filter) (r : Told × Waiting) → F x.outbox r.1 → F (x.outbox ++ map (λ a. a.ask) r.0.made) r.1 → Keeps (Holds F) (tell r x)
+  pub told_keeps : (x : Filter) (r : Told × Waiting) → F x.outbox r.1 → F (x.outbox ++ map (λ a. a.ask) r.0.made) r.1 → Keeps (Holds F) (tell r x)
   told_keeps x r h k =
       keeps_from (Holds F) (Between x.outbox r.1) (each end_wait r.0.ended (with_waiting r.1 x)) (λ _ u. Ret (record {}) (with_asks_told r.0 u))
       (λ u b. at_between x.outbox r.1 u.outbox u.waiting b.0 b.1 h)

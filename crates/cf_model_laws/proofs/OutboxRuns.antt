@@ -68,7 +68,7 @@ module _ (F : Fact) (b : BoxingRuns F) where
     keeps_counted = λ s h. (closed.keeps_counted s h.0, h.1);
     asked = λ q s well h. (closed.asked q s well h.0, h.1);
     told = λ held s h. (closed.told held s h.0, h.1);
-    posts = λ f s well now h. (closed.posts f s well now h.0, h.1);
+    posts = λ f s other well now h. (closed.posts f s other well now h.0, h.1);
     loses = λ f s h. (closed.loses f s h.0, h.1);
     books = λ f s keeps placed known h. (closed.books f s keeps placed (λ fair. record_weaker P (λ t. P t × In t) (λ t k. k.0) f s (known fair)) h.0, h.1);
     moved = λ e s is live known h. (closed.moved e s is live (λ fair. moved_weaker P (λ t. P t × In t) (λ t k. k.0) e s (known fair)) h.0, h.1);
@@ -96,7 +96,7 @@ module _ (F : Fact) (b : BoxingRuns F) where
   pub whole_beside : (P : State → Type 0) → Whole P → Whole (λ s. P s × In s)
   whole_beside P whole = record {
     closed = guarded_beside P whole.closed;
-    entering = record { enters = λ e s well h. (whole.entering.enters e s well h.0, h.1) };
+    entering = record { uploads = record { enters = λ e s well h. (whole.entering.uploads.enters e s well h.0, h.1) }; feeds = λ f s well now h. (whole.entering.feeds f s well now h.0, h.1) };
     deleting = record {
       deletes = λ f item s keeps seen cursor idle leaf h. keeps_both (λ x. P (with_filter x s)) (Holds F) (change_with f (change.Remove item) s.filter) (whole.deleting.deletes f item s keeps seen cursor idle leaf h.0) (((filter_closed F b.boxing).change f (change.Remove item)).keeps s.filter h.1);
     };

@@ -37,7 +37,7 @@ use Rattle.cf_model_laws.proofs.FeedsGuarded.{first_led}
 use Rattle.cf_model_laws.proofs.FramesGuarded.{FrameIn, guarded_framed}
 use Rattle.cf_model_laws.proofs.Gathered.{all_any, all_weaker}
 use Rattle.cf_model_laws.proofs.Leading.{kept_leads, leads_bind, leads_kept}
-use Rattle.cf_model_laws.proofs.MessagesGuarded.{Come, acts_at, come_led, send_now_at}
+use Rattle.cf_model_laws.proofs.MessagesGuarded.{Come, acts_at, come_led, send_now_at, send_now_by}
 use Rattle.cf_model_laws.specs.Taken.{ToldAt}
 use Rattle.cf_base.specs.declared.codes.Code.{Code}
 
@@ -63,7 +63,7 @@ settle_list P closed [] s h = h.0
 settle_list P closed (e ∷ es) s h =
     kept_leads P (each settle_entry (e ∷ es) s)
     (leads_bind P (λ u t. P t × Entries (e ∷ es) t) (λ u t. P t) (settle_entry e s) (λ u t. each settle_entry es t)
-    (first_led P (Entries (e ∷ es)) (settle_entry e s) (send_now_at (λ t. P t × Entries (e ∷ es) t) (guarded_framed ⊥ no_item Whatever (λ d p k. tt) (e ∷ es) P closed) (request.Settle e.token) s (λ fair. settle_posted s e.token (h.1.1 fair).0) (λ fair. tt) h))
+    (first_led P (Entries (e ∷ es)) (settle_entry e s) (send_now_at (λ t. P t × Entries (e ∷ es) t) (guarded_framed ⊥ no_item Whatever (λ d p k. tt) (e ∷ es) P closed) (request.Settle e.token) s refl (λ fair. settle_posted s e.token (h.1.1 fair).0) (λ fair. tt) h))
     (λ u t k. leads_kept P (each settle_entry es t) (settle_list P closed es t (k.0, (k.1.0, λ fair. (k.1.1 fair).1)))))
 
 pub settle_all_keeps : (P : State → Type 0) → Guarded P → Preserves P settle_all
@@ -72,19 +72,19 @@ settle_all_keeps P closed = record {
 }
 
 -- a round is drawn, and its feed is asked for
-pub ask_feed_keeps : (P : State → Type 0) → Guarded P → Preserves P ask_feed
-ask_feed_keeps P closed = record { keeps = λ s h. by s h (why_no_round s) } where
+pub ask_feed_keeps : (P : State → Type 0) → Guarded P → Entering P → Preserves P ask_feed
+ask_feed_keeps P closed entering = record { keeps = λ s h. by s h (why_no_round s) } where
   by : (s : State) → P s → (o : Option Code) → Keeps P (bind (bind (unless_done (one (with_volatile with_round)) o s) left_out) feed_if)
   by s h None =
       let drawn : P (with_volatile with_round s) = closed.keeps_volatile_with_round s h in (
         h,
-        send_now_at P closed (feed_of (with_volatile with_round s)) (with_volatile with_round s)
-            (λ fair. feed_posted (with_volatile with_round s) (record { 0 = record { epoch = s.filter.volume.epoch; number = s.volatile.rounds + 1 } }) (book_now s).cursor) (λ fair. (refl, refl, refl)) drawn,
+        send_now_by P closed (feed_of (with_volatile with_round s)) (with_volatile with_round s)
+            (entering.feeds (frame.Request (feed_of (with_volatile with_round s))) (with_volatile with_round s) (λ fair. feed_posted (with_volatile with_round s) (record { 0 = record { epoch = s.filter.volume.epoch; number = s.volatile.rounds + 1 } }) (book_now s).cursor) (λ fair. (refl, refl, refl)) drawn) drawn,
       )
   by s h (Some c) = closed.keeps_skipped c s h
 
 pub pass_keeps : (P : State → Type 0) → Guarded P → Entering P → Preserves P (pass)
-pass_keeps P closed entering = keeps_then P settle_all (then_do ask_feed push_all) (settle_all_keeps P closed) (keeps_then P ask_feed push_all (ask_feed_keeps P closed) (pushes_keep.push_all_keeps P closed entering))
+pass_keeps P closed entering = keeps_then P settle_all (then_do ask_feed push_all) (settle_all_keeps P closed) (keeps_then P ask_feed push_all (ask_feed_keeps P closed entering) (pushes_keep.push_all_keeps P closed entering.uploads))
 
 pub unless_down_keeps : (P : State → Type 0) → Guarded P → (x1 : Arrow State Shown) → (Preserves P (x1)) → (x2 : Bool) → Preserves P (unless_down x1 x2)
 unless_down_keeps P closed f f_keeps true = keeps_ret P (shown.Refused code.ProviderDown)

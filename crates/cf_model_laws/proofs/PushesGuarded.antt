@@ -19,7 +19,7 @@ use Rattle.cf_model_laws.proofs.CallbacksGuarded as callbacks_keep
 use Rattle.cf_model_laws.proofs.StepsGuarded as skips_keep
 use Rattle.cf_model_laws.proofs.WaitsGuarded as waits_keep
 use Rattle.cf_model.specs.Pushes.{after_hydrate, bury_unless, hydrate_first, hydrate_if, hydrate_unless, is_hydrating, is_left_out, is_tombstone_left_out, item_now, mark_item, push, push_all, push_by_case, push_here, push_item, push_lists, push_removal, push_tombstone, push_turn, push_unless, put_file, put_if, put_whole, removal_entry, request_of, upload, upload_if, upload_new, upload_now, has_entry, placed, without_place, without_rid, has_rid_entry, with_token}
-use Rattle.cf_model_laws.proofs.Guarded.{Guarded, Entering, MovesThere, EntersThere, EnteringBy}
+use Rattle.cf_model_laws.proofs.Guarded.{EnteringBy, EntersThere, Guarded, MovesThere, Uploading}
 use Rattle.cf_model.proofs.ArrowLaws.{keeps_each, keeps_ret, keeps_then}
 use Rattle.std.proofs.Common.{◌≡◌, ◌<◌, ◌≤◌, ℕ, Bool, true, false, List, [], ◌∷◌, refl, sym, ◌∙◌, ap, subst, arith, length, take, eq-eqb, inl, inr, ◌⊎◌}
 use Rattle.std.specs.List.{list_all, list_any}
@@ -169,7 +169,7 @@ file_about s i sound there file = by (i.id.0 == 1) refl where
 there_of : (s : State) (i : Item) (e : QueueEntry) → e.item ≡ i.id → e.number ≡ i.number → item_of (items_now s) i.id ≡ Some i → (e.action ≡ RemoveItem → ⊥) → (is_new_entry e ≡ true → ((target_of i).0 ≡ 0) ⊎ ((i.directory ≡ true) × (is_dirty i ≡ true))) → EntersThere (with_volatile with_token s) e
 there_of s i e item number there none fresh = ((λ z. absurd (none z)), λ z. (i, subst (λ (x : ItemId). item_of (items_now s) x ≡ Some i) (sym item) there, sym number, fresh z))
 
-pub push_put_at : (P : State → Type 0) → Guarded P → Entering P → (i : Item) (s : State) → item_of (items_now s) i.id ≡ Some i → (IsFair s.link → NoEntry (book_now s).entries i.id) → (IsFair s.link → (i.directory ≡ false) × (i.placeholder ≡ true)) → list_all is_some i.held ≡ true → P s
+pub push_put_at : (P : State → Type 0) → Guarded P → Uploading P → (i : Item) (s : State) → item_of (items_now s) i.id ≡ Some i → (IsFair s.link → NoEntry (book_now s).entries i.id) → (IsFair s.link → (i.directory ≡ false) × (i.placeholder ≡ true)) → list_all is_some i.held ≡ true → P s
     → Keeps P (push_item PutFile i s)
 push_put_at P closed entering i s there alone kind here h = by (is_untargeted i) where
   facts : IsFair s.link → Each i.id (PutFacts s.link.remote i) (items_now s)
@@ -187,7 +187,7 @@ push_dir_at Q P closed entering i s there alone dir known h =
     push_at Q P closed entering (without_rid (placed MakeDir i s)) (base_version i) (bytes_held i.held) s refl
     (λ fair. new_entry s i (without_rid (placed MakeDir i s)) (bytes_held i.held) refl refl there (sound_of P closed s h fair) (alone fair) (each_found i.id (λ j. j.directory ≡ true) 0 s.filter.volume.next_item.0 (items_now s) i (sound_of P closed s h fair).now.order there dir) (λ z. cc) (λ z. cc) (λ z. refl) (λ z. cc) (λ other. absurd (other refl))) known h
 
-pub push_move_at : (P : State → Type 0) → Guarded P → Entering P → (i : Item) (s : State) → item_of (items_now s) i.id ≡ Some i → (IsFair s.link → NoEntry (book_now s).entries i.id) → stands_at_seen (items_now s) (book_now s) i ≡ false → P s → Keeps P (push_item MoveItem i s)
+pub push_move_at : (P : State → Type 0) → Guarded P → Uploading P → (i : Item) (s : State) → item_of (items_now s) i.id ≡ Some i → (IsFair s.link → NoEntry (book_now s).entries i.id) → stands_at_seen (items_now s) (book_now s) i ≡ false → P s → Keeps P (push_item MoveItem i s)
 push_move_at P closed entering i s there alone away h =
     push_at EntersThere P closed entering (placed MoveItem i s) (base_version i) (bytes_held i.held) s refl (λ fair. new_entry s i (placed MoveItem i s) (bytes_held i.held) refl refl there (sound_of P closed s h fair) (alone fair) tt (λ z. (i, there, both ((parent_target (items_now s) i).0 == (parent_target (items_now s) i).0) (same i.name i.name) (eq-eqb (parent_target (items_now s) i).0 (parent_target (items_now s) i).0 refl) (same_self i.name))) (λ z. cc) (λ z. cc) (λ z. cc) (λ _. refl)) (λ fair. there_of s i (placed MoveItem i s) refl refl there (λ z. cc) (λ z. no_way z)) h
 
@@ -215,7 +215,7 @@ pub hydrate_first_at : (P : State → Type 0) → Guarded P → (i : Item) (s : 
 hydrate_first_at P closed i s there h = hydrate_if_at P closed i (is_all_here i) s there h
 
 -- what is here of the file is uploaded where nothing is missing
-pub put_whole_at : (P : State → Type 0) → Guarded P → Entering P → (i : Item) (t : State) → FrameIn (Unit {0}) i.id Files [] t → (o : Option Item) → item_of (items_now t) i.id ≡ o → P t → Keeps P (put_whole o t)
+pub put_whole_at : (P : State → Type 0) → Guarded P → Uploading P → (i : Item) (t : State) → FrameIn (Unit {0}) i.id Files [] t → (o : Option Item) → item_of (items_now t) i.id ≡ o → P t → Keeps P (put_whole o t)
 put_whole_at P closed entering i t frame None e k = k
 put_whole_at P closed entering i t frame (Some j) e k = whole (list_all is_some j.held) refl where
   same : ◌≡◌ {A = ItemId} j.id i.id
@@ -228,7 +228,7 @@ put_whole_at P closed entering i t frame (Some j) e k = whole (list_all is_some 
       (λ fair. each_at i.id (λ j. Files j.directory j.placeholder) (items_now t) j e (frame.0 tt fair).1) q k
 
 -- a file is uploaded, after it was hydrated
-pub put_file_at : (P : State → Type 0) → Guarded P → Entering P → (i : Item) (s : State) → item_of (items_now s) i.id ≡ Some i → (IsFair s.link → NoEntry (book_now s).entries i.id) → (IsFair s.link → (i.directory ≡ false) × (i.placeholder ≡ true)) → P s → Keeps P (put_file i s)
+pub put_file_at : (P : State → Type 0) → Guarded P → Uploading P → (i : Item) (s : State) → item_of (items_now s) i.id ≡ Some i → (IsFair s.link → NoEntry (book_now s).entries i.id) → (IsFair s.link → (i.directory ≡ false) × (i.placeholder ≡ true)) → P s → Keeps P (put_file i s)
 put_file_at P closed entering i s there alone kind h =
     kept_leads P (put_file i s)
     (leads_bind P (λ u t. P t × FrameIn (Unit {0}) i.id Files [] t) (λ u t. P t) (hydrate_first i s) (λ u t. reading (item_now i.id) put_whole t)
@@ -239,7 +239,7 @@ put_file_at P closed entering i s there alone kind h =
           let sound : IsSound s.link s.volatile.tokens s.filter = sound_of P closed s h fair in
           (found_below i.id 0 s.filter.volume.next_item.0 (items_now s) i sound.now.order there, each_found i.id (λ j. Files j.directory j.placeholder) 0 s.filter.volume.next_item.0 (items_now s) i sound.now.order there (kind fair), alone fair)
 
-pub upload_at : (P : State → Type 0) → Guarded P → Entering P → (i : Item) (s : State) → item_of (items_now s) i.id ≡ Some i → (IsFair s.link → NoEntry (book_now s).entries i.id) → (IsFair s.link → i.directory ≡ false → i.placeholder ≡ true) → ((target_of i).0 ≡ 0) ⊎ (is_dirty i ≡ true) → P s → Keeps P (upload i s)
+pub upload_at : (P : State → Type 0) → Guarded P → Uploading P → (i : Item) (s : State) → item_of (items_now s) i.id ≡ Some i → (IsFair s.link → NoEntry (book_now s).entries i.id) → (IsFair s.link → i.directory ≡ false → i.placeholder ≡ true) → ((target_of i).0 ≡ 0) ⊎ (is_dirty i ≡ true) → P s → Keeps P (upload i s)
 upload_at P closed entering i s there alone ready why h = by i.directory refl where
   fresh : i.directory ≡ true → ((target_of i).0 ≡ 0) ⊎ (is_dirty i ≡ true) → ((target_of i).0 ≡ 0) ⊎ ((i.directory ≡ true) × (is_dirty i ≡ true))
   fresh dir (inl z) = inl z
@@ -249,14 +249,14 @@ upload_at P closed entering i s there alone ready why h = by i.directory refl wh
   by true e = push_dir_at EntersThere P closed entering i s there alone e (λ fair. there_of s i (without_rid (placed MakeDir i s)) refl refl there (λ z. cc) (λ z. fresh e why)) h
   by false e = put_file_at P closed entering i s there alone (λ fair. (e, ready fair e)) h
 
-pub upload_now_at : (P : State → Type 0) → Guarded P → Entering P → (item : ItemId) (o : Option Item) (s : State) → item_of (items_now s) item ≡ o → (IsFair s.link → NoEntry (book_now s).entries item) → ((j : Item) → item_of (items_now s) item ≡ Some j → (j.placeholder ≡ true) × ((target_of j).0 ≡ 0)) → P s → Keeps P (upload_now o s)
+pub upload_now_at : (P : State → Type 0) → Guarded P → Uploading P → (item : ItemId) (o : Option Item) (s : State) → item_of (items_now s) item ≡ o → (IsFair s.link → NoEntry (book_now s).entries item) → ((j : Item) → item_of (items_now s) item ≡ Some j → (j.placeholder ≡ true) × ((target_of j).0 ≡ 0)) → P s → Keeps P (upload_now o s)
 upload_now_at P closed entering item None s e alone placed h = h
 upload_now_at P closed entering item (Some j) s e alone placed h =
     upload_at P closed entering j s (subst (λ (x : ItemId). item_of (items_now s) x ≡ Some j) (sym same) e) (λ fair. subst (NoEntry (book_now s).entries) (sym same) (alone fair)) (λ fair d. (placed j e).0) (inl (placed j e).1) h where
       same : ◌≡◌ {A = ItemId} j.id item
       same = same_item j.id item (found_id item (items_now s) j e)
 
-upload_new_at : (P : State → Type 0) → Guarded P → Entering P → (i : Item) (s : State) → item_of (items_now s) i.id ≡ Some i → (IsFair s.link → NoEntry (book_now s).entries i.id) → (target_of i).0 ≡ 0 → P s → Keeps P (upload_new i s)
+upload_new_at : (P : State → Type 0) → Guarded P → Uploading P → (i : Item) (s : State) → item_of (items_now s) i.id ≡ Some i → (IsFair s.link → NoEntry (book_now s).entries i.id) → (target_of i).0 ≡ 0 → P s → Keeps P (upload_new i s)
 upload_new_at P closed entering i s there alone none h = by i.placeholder refl where
   of : (j : Item) → ◌≡◌ {A = Option Item} (Some i) (Some j) → i ≡ j
   of j e = cc
@@ -311,7 +311,7 @@ upload_new_at P closed entering i s there alone none h = by i.placeholder refl w
 mark_item_at : (P : State → Type 0) → Guarded P → (item : ItemId) (s : State) → (IsFair s.link → NoEntry (book_now s).entries item) → P s → Keeps P (mark_item item s)
 mark_item_at P closed item s alone h = keeps_bind P (try_mark_now item s) whatever (try_mark_now_at Unnamed P (guarded_skipping P closed) item s (λ n. tt) (λ fair i e. no_move (book_now s).entries item (alone fair)) h) (λ b t j. j)
 
-push_by_case_at : (P : State → Type 0) → Guarded P → Entering P → (i : Item) (s : State) → item_of (items_now s) i.id ≡ Some i → (IsFair s.link → NoEntry (book_now s).entries i.id) → P s → Keeps P (push_by_case i s)
+push_by_case_at : (P : State → Type 0) → Guarded P → Uploading P → (i : Item) (s : State) → item_of (items_now s) i.id ≡ Some i → (IsFair s.link → NoEntry (book_now s).entries i.id) → P s → Keeps P (push_by_case i s)
 push_by_case_at P closed entering i s there alone h = by (is_untargeted i) refl where
   three : (b : Bool) → is_dirty i ≡ b → is_untargeted i ≡ false → Keeps P (choose b (upload i) (mark_item i.id) s)
   three true q e = upload_at P closed entering i s there alone (λ fair d. targeted s.link.remote (next_number s.filter.volume) i (right_of s i (sound_of P closed s h fair) there) e d) (inr q) h
@@ -325,7 +325,7 @@ push_by_case_at P closed entering i s there alone h = by (is_untargeted i) refl 
   by true e = upload_new_at P closed entering i s there alone (eqb-true (target_of i).0 0 e) h
   by false e = two (not (stands_at_seen (items_now s) (book_now s) i)) refl e
 
-pub push_turn_keeps : (P : State → Type 0) → Guarded P → Entering P → (item : ItemId) → Preserves P (push_turn item)
+pub push_turn_keeps : (P : State → Type 0) → Guarded P → Uploading P → (item : ItemId) → Preserves P (push_turn item)
 push_turn_keeps P closed entering item = record { keeps = λ s h. by (item_of (items_now s) item) s refl h } where
   by : (o : Option Item) (s : State) → item_of (items_now s) item ≡ o → P s → Keeps P (push_here o s)
   by None s e h = h
@@ -362,14 +362,14 @@ push_removal_at Q P closed entering t s known h =
     none : (n : ℕ) → n ≤ n
     none n = omega arith
 
-pub push_tombstone_keeps : (P : State → Type 0) → Guarded P → Entering P → (t : Tombstone) → Preserves P (push_tombstone t)
+pub push_tombstone_keeps : (P : State → Type 0) → Guarded P → Uploading P → (t : Tombstone) → Preserves P (push_tombstone t)
 push_tombstone_keeps P closed entering t = record { keeps = λ s h. by s h (is_tombstone_left_out s t) refl } where
   by : (s : State) → P s → (b : Bool) → is_tombstone_left_out s t ≡ b → Keeps P (bury_unless t b s)
   by s h true q = h
   by s h false q = push_removal_at EntersThere P closed entering t s (λ fair. ((λ _. tombstone_there s t q), λ z. no_way z)) h
 
-push_lists_keeps : (P : State → Type 0) → Guarded P → Entering P → (ts : List Tombstone) (ids : List ItemId) → Preserves P (push_lists ts ids)
+push_lists_keeps : (P : State → Type 0) → Guarded P → Uploading P → (ts : List Tombstone) (ids : List ItemId) → Preserves P (push_lists ts ids)
 push_lists_keeps P closed entering ts ids = keeps_then P (each push_tombstone ts) (each push_turn ids) (keeps_each P push_tombstone ts (push_tombstone_keeps P closed entering)) (keeps_each P push_turn ids (push_turn_keeps P closed entering))
 
-pub push_all_keeps : (P : State → Type 0) → Guarded P → Entering P → Preserves P push_all
+pub push_all_keeps : (P : State → Type 0) → Guarded P → Uploading P → Preserves P push_all
 push_all_keeps P closed entering = record { keeps = λ s h. (push_lists_keeps P closed entering (book_now s).tombstones (map (λ i. i.id) (by_depth (items_now s) (items_now s)))).keeps s h }

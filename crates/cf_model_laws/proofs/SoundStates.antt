@@ -154,7 +154,7 @@ sound_guarded = record {
   keeps_counted = λ s h. h;
   asked = λ q s well h. (h.0, λ fair. asked_state q s well h.1 fair);
   told = λ held s h. (h.0, λ fair. no_way fair.0);
-  posts = λ f s well now h. posted_sound f s well h;
+  posts = λ f s other well now h. posted_sound f s well h;
   loses = λ f s h. (h.0, λ fair. post_state None s (lost_well s) (h.1 fair));
   books = λ f s keeps placed known h. (
     h.0,
@@ -208,4 +208,4 @@ sound_enters_any = record {
 }
 
 pub sound_enters : Entering Invariant
-sound_enters = record { enters = λ e s well h. sound_enters_any.enters e s (λ fair. ((well fair).0, (well fair).1, tt)) h }
+sound_enters = record { uploads = record { enters = λ e s well h. sound_enters_any.enters e s (λ fair. ((well fair).0, (well fair).1, tt)) h }; feeds = λ f s well now h. posted_sound f s well h }

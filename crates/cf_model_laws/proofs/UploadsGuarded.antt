@@ -34,6 +34,7 @@ use Rattle.cf_model_laws.specs.Premises.{IsFair}
 use Rattle.cf_model_laws.proofs.Gathered.{all_any, all_append, all_weaker, each_weaker}
 use Rattle.cf_model_laws.proofs.Guarded.{EnteredIn, EnteringBy, Guarded, MovesThere, PostedIn, PostedNow}
 use Rattle.cf_model_laws.proofs.MessagesGuarded.{anyhow, send_now_at}
+use Rattle.cf_model_laws.specs.Taken.{is_feed}
 use Rattle.cf_model_laws.proofs.RightItems.{no_way, no_way_back}
 use Rattle.cf_model_laws.proofs.SoundLinks.{CarriesBy, FrameCarries}
 use Rattle.cf_model_laws.proofs.SkipsGuarded.{cursor_stays, leaves_early}
@@ -261,6 +262,12 @@ upload_posted s e expect bytes token sound new =
       kept = (subst (λ (items : List Item). All (FrameCarries s.link.remote items (Some (frame.Request (request_of e expect bytes)))) (anchored e (with_entry e (book_now s))).entries) (sound.of_log.0 ∙ sym (ap items_of (all_taken s.filter.volume.log))) now, tt);
     }
 
+no_feed : (a : Action) (e : QueueEntry) (expect : Version) (bytes : List ℕ) → is_feed (frame.Request (request_by a e expect bytes)) ≡ false
+no_feed PutFile e expect bytes = refl
+no_feed MakeDir e expect bytes = refl
+no_feed MoveItem e expect bytes = refl
+no_feed RemoveItem e expect bytes = refl
+
 pub push_at : (Q : State → QueueEntry → Type 0) (P : State → Type 0) → Guarded P → EnteringBy Q P → (e : QueueEntry) (expect : Version) (bytes : List ℕ) (s : State) → e.token ≡ next_token s → (IsFair s.link → IsNewEntry s e bytes) → (IsFair s.link → Q (with_volatile with_token s) e) → P s → Keeps P (push e (request_of e expect bytes) s)
 push_at Q P closed entering e expect bytes s token new there h = by (why_no_token s) where
   drawn : P (with_volatile with_token s)
@@ -276,7 +283,7 @@ push_at Q P closed entering e expect bytes s token new there h = by (why_no_toke
   sent =
       let c = (closed.on_filter (with_book (anchored e) (with_book (with_entry e) (with_volatile with_token s))) noted).commits.keeps (with_book (anchored e) (with_book (with_entry e) (with_volatile with_token s))).filter noted in
       subst (λ (b : Bool). Keeps P (choose b (then_do (in_filter (in_volume commit)) (send_now (request_of e expect bytes))) (send_now (request_of e expect bytes)) (with_book (anchored e) (with_book (with_entry e) (with_volatile with_token s))))) (sym (upload_sends e.action e expect bytes))
-      (c.0, send_now_at P closed (request_of e expect bytes) (Sending e s) (λ fair. upload_posted s e expect bytes token ((closed.on_filter s h).sound s.filter h fair) (new fair)) (λ fair. upload_now e.action s e expect bytes) c.1)
+      (c.0, send_now_at P closed (request_of e expect bytes) (Sending e s) (no_feed e.action e expect bytes) (λ fair. upload_posted s e expect bytes token ((closed.on_filter s h).sound s.filter h fair) (new fair)) (λ fair. upload_now e.action s e expect bytes) c.1)
 
   two : (o : Option Code) → Keeps P (bind (bind (unless_done (in_book (with_entry e)) o (with_volatile with_token s)) left_out) (send_if e (request_of e expect bytes)))
   two None = (drawn, (stored, sent))

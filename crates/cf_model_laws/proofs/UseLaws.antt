@@ -280,5 +280,5 @@ removals_vacant remote clusters trace s e runs fresh is other =
     let b : Beside (Vacant s.filter.volume.log) = vacant_beside s.filter.volume.log in
     let first : HoldsIn (Vacant s.filter.volume.log) s = (ap (λ (cs : List (Usn × Change)). s.filter.volume.log ++ cs) (none_since s.filter.volume.log) ∙ append-nil s.filter.volume.log, λ fair. subst (EachMade IsRemovalVacant s.filter.volume.log) (sym (none_since s.filter.volume.log)) tt) in
     keeps_weaker (λ u. Invariant u × HoldsIn (Vacant s.filter.volume.log) u) (AreRemovalsVacant s) (λ u h. h.1.1) (tree_of e s)
-    ((other_event_keeps (λ u. Invariant u × HoldsIn (Vacant s.filter.volume.log) u) (guarded_beside (Vacant s.filter.volume.log) b Invariant sound_guarded) (entering_beside (Vacant s.filter.volume.log) Invariant sound_enters) (commanding_beside (Vacant s.filter.volume.log) b Invariant sound_guarded sound_commands) (ruling_beside (Vacant s.filter.volume.log) Invariant sound_whole.ruling) e is other).keeps (begun s)
+    ((other_event_keeps (λ u. Invariant u × HoldsIn (Vacant s.filter.volume.log) u) (guarded_beside (Vacant s.filter.volume.log) b Invariant sound_guarded) (entering_beside (Vacant s.filter.volume.log) b Invariant sound_enters) (commanding_beside (Vacant s.filter.volume.log) b Invariant sound_guarded sound_commands) (ruling_beside (Vacant s.filter.volume.log) Invariant sound_whole.ruling) e is other).keeps (begun s)
     (sound_whole.begins s (run_sound remote clusters trace s runs fresh), first))

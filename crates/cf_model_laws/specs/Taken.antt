@@ -8,6 +8,7 @@ use Rattle.cf_base.specs.declared.messages.Reply.{Reply}
 use Rattle.cf_base.specs.declared.messages.Reply.TheVariants as reply
 use Rattle.cf_base.specs.declared.messages.Request.{Request}
 use Rattle.cf_base.specs.declared.messages.Request.TheVariants as request
+use Rattle.cf_base.specs.declared.notices.Frame.{Frame}
 use Rattle.cf_base.specs.declared.notices.Frame.TheVariants as frame
 use Rattle.cf_model.specs.Books.{Book, QueueEntry, entry_of}
 use Rattle.cf_model.specs.Fetching.{with_seen_from}
@@ -25,6 +26,11 @@ use Rattle.cf_model_laws.specs.Premises.{IsFair}
 use Rattle.cf_base.specs.declared.ids.ItemId.{ItemId}
 use Rattle.cf_base.specs.declared.ids.Usn.{Usn}
 use Rattle.cf_model.specs.Requests.{Live, is_list, live_of}
+
+-- the message asks for a feed
+abbrev pub is_feed : Frame → Bool
+is_feed (frame.Request (request.Feed round after)) = true
+is_feed _ = false
 
 -- the reply tells the truth on the request that it answers
 abbrev pub ToldAt : State → ℕ → Request → Reply → Type 0

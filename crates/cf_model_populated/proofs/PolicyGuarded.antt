@@ -90,7 +90,7 @@ module _ (Q : Policy → Type 0) where
     keeps_counted = λ s h. (closed.keeps_counted s h.0, h.1);
     asked = λ q s well h. (closed.asked q s well h.0, h.1);
     told = λ held s h. (closed.told held s h.0, h.1);
-    posts = λ f s well now h. (closed.posts f s well now h.0, h.1);
+    posts = λ f s other well now h. (closed.posts f s other well now h.0, h.1);
     loses = λ f s h. (closed.loses f s h.0, h.1);
     books = λ f s keeps placed known h. (closed.books f s keeps placed (λ fair. record_weaker P (λ t. P t × RuledIn t) (λ t k. k.0) f s (known fair)) h.0, h.1);
     moved = λ e s is live known h. (closed.moved e s is live (λ fair. moved_weaker P (λ t. P t × RuledIn t) (λ t k. k.0) e s (known fair)) h.0, h.1);
@@ -118,7 +118,7 @@ module _ (Q : Policy → Type 0) where
   pub unruled_policy : (P : State → Type 0) → Unruled P → Unruled (λ s. P s × Q s.filter.policy)
   unruled_policy P rest = record {
     closed = guarded_ruled P rest.closed;
-    entering = record { enters = λ e s well h. (rest.entering.enters e s well h.0, h.1) };
+    entering = record { uploads = record { enters = λ e s well h. (rest.entering.uploads.enters e s well h.0, h.1) }; feeds = λ f s well now h. (rest.entering.feeds f s well now h.0, h.1) };
     deleting = record { deletes = λ f item s keeps seen cursor idle leaf h. keeps_both (λ x. P (with_filter x s)) Ruled (change_with f (change.Remove item) s.filter) (rest.deleting.deletes f item s keeps seen cursor idle leaf h.0) (change_ruled f (change.Remove item) s.filter h.1) };
     commanding = record {
       waits = λ s n x fit unmet h. keeps_both (λ y. P (with_filter y s)) Ruled (reading (begun n) (begin_now n) x) (rest.commanding.waits s n x fit unmet h.0) (begin_ruled n x h.1);

@@ -53,7 +53,7 @@ Asked x = AreAsked x.waiting
 
 -- a step of the ask rule
 
-aims_of : (item : ItemId) (d : Deed) (x : Filter) → EndsOn item d x → Aims item d x.waiting.asks
+pub aims_of : (item : ItemId) (d : Deed) (x : Filter) → EndsOn item d x → Aims item d x.waiting.asks
 aims_of item (Expires key) x h = h
 aims_of item (Finishes key c) x h = h
 aims_of item Nothing x h = tt
@@ -120,7 +120,7 @@ module _ (n : Need) (x : Filter) (h : Asked x) where
         past : (a b c : ℕ) → a ≤ b → b < c → a ≡ c → ⊥
         past a b c e k z = omega (arith, e, k, z)
 
-  begun_but : AreAskedBut n.item (with_new_waits n x)
+  pub begun_but : AreAskedBut n.item (with_new_waits n x)
   begun_but = record {
     waits = rises_append number_of_wait 0 x.waiting.wait_count (x.waiting.wait_count + length new) x.waiting.waits new h.waits new_rise;
     keys = h.keys;
@@ -134,10 +134,10 @@ module _ (n : Need) (x : Filter) (h : Asked x) where
 
 -- all other steps
 
-none_asked : (w : Waiting) → AreAsked w → AreAsked (record w { waits = []; asks = [] })
+pub none_asked : (w : Waiting) → AreAsked w → AreAsked (record w { waits = []; asks = [] })
 none_asked w h = record { waits = rises_upto number_of_wait 0 w.wait_count w.waits h.waits; keys = rises_upto number_of_ask 0 w.key_count w.asks h.keys; early = tt; own = tt; asked = tt }
 
-timed_asked : (n : ℕ) (w : Waiting) → AreAsked w → AreAsked (ticked n w)
+pub timed_asked : (n : ℕ) (w : Waiting) → AreAsked w → AreAsked (ticked n w)
 timed_asked n w h = record {
   waits = h.waits;
   keys = rises_map number_of_ask (aged n) (λ a. refl) 0 w.key_count w.asks h.keys;
@@ -191,7 +191,7 @@ module _ (P : State → Type 0) where
     keeps_counted = λ s h. (closed.keeps_counted s h.0, h.1);
     asked = λ q s well h. (closed.asked q s well h.0, h.1);
     told = λ held s h. (closed.told held s h.0, h.1);
-    posts = λ f s well now h. (closed.posts f s well now h.0, h.1);
+    posts = λ f s other well now h. (closed.posts f s other well now h.0, h.1);
     loses = λ f s h. (closed.loses f s h.0, h.1);
     books = λ f s keeps placed known h. (closed.books f s keeps placed (λ fair. record_weaker P Both (λ t k. k.0) f s (known fair)) h.0, h.1);
     moved = λ e s is live known h. (closed.moved e s is live (λ fair. moved_weaker P Both (λ t k. k.0) e s (known fair)) h.0, h.1);
@@ -219,7 +219,7 @@ module _ (P : State → Type 0) where
   pub whole_asked : Whole P → Whole Both
   whole_asked whole = record {
     closed = guarded_asked whole.closed;
-    entering = record { enters = λ e s well h. (whole.entering.enters e s well h.0, h.1) };
+    entering = record { uploads = record { enters = λ e s well h. (whole.entering.uploads.enters e s well h.0, h.1) }; feeds = λ f s well now h. (whole.entering.feeds f s well now h.0, h.1) };
     deleting = record { deletes = λ f item s keeps seen cursor idle leaf h. keeps_both (λ x. P (with_filter x s)) Asked (change_with f (change.Remove item) s.filter) (whole.deleting.deletes f item s keeps seen cursor idle leaf h.0) (change_asked f (change.Remove item) s.filter h.1) };
     commanding = record {
       waits = λ s n x fit unmet h. keeps_both (λ y. P (with_filter y s)) Asked (reading (begun n) (begin_now n) x) (whole.commanding.waits s n x fit unmet h.0) (begin_asked n x h.1);
