@@ -1,3 +1,9 @@
 pub mod RisingNumbers
 pub mod AskedWaits
 pub mod AskedGuarded
+pub mod BothGuarded
+pub mod UnfedGuarded
+pub mod PassingGuarded
+pub mod SilentEnds
+pub mod PassLines
+pub mod SilentSyncs

@@ -2,3 +2,5 @@
 #![tactic(auto)]
 
 pub mod dehydrations;
+pub mod examples;
+pub mod syncs;

@@ -25,7 +25,9 @@ use Rattle.cf_model_laws.proofs.EventsGuarded.{runs_keep}
 use Rattle.cf_model_laws.proofs.FairBefore.{fair_before}
 use Rattle.cf_model_laws.proofs.Gathered.{all_both}
 use Rattle.cf_model_populated.proofs.PopulatedRuns.{none_listed}
+use Rattle.cf_model_quiet.specs.LastPass.{ends_silent}
 use Rattle.cf_model_quiet.proofs.AskedGuarded.{run_dehydrates}
+use Rattle.cf_model_quiet.proofs.SilentSyncs.{run_ends_silent}
 use Rattle.cf_model_settling.specs.Settling.{IsReady, IsSilent, SettlesIfSilent}
 
 module _ (remote : Held) (clusters : ℕ) (fresh : IsFresh remote) (tidy : IsTidy remote) (before : Report) (s : State) (a : Answer) (t : State) (runs : Runs mode.Replay (start mode.Replay remote clusters) before s) where
@@ -37,12 +39,16 @@ module _ (remote : Held) (clusters : ℕ) (fresh : IsFresh remote) (tidy : IsTid
   sync_here : IsStep mode.Replay s (event.Engine engine.Sync) a t → IsFair s.link → IsFair t.link → is_count a.shown ≡ true → IsSilent a → IsReady before s t → (is_settled false t ≡ true) × (a.shown ≡ shown.Count 0)
   sync_here step was fair counted silent ready = sync_silent remote clusters before s a t runs fresh tidy ready.inline ready.keys (plain was ready) step fair counted silent ready.numbers
 
+  quiet_here : IsStep mode.Replay s (event.Engine engine.Sync) a t → IsFair s.link → IsFair t.link → is_count a.shown ≡ true → ends_silent a.notes ≡ true → IsReady before s t → (is_settled false t ≡ true) × (a.shown ≡ shown.Count 0)
+  quiet_here step was fair counted silent ready = run_ends_silent remote clusters before s a t runs fresh tidy ready.inline ready.keys (plain was ready) step fair counted silent ready.numbers
+
   work_here : IsStep mode.Replay s (event.Engine engine.Work) a t → IsFair s.link → IsFair t.link → is_accepted a.shown ≡ true → IsSilent a → IsReady before s t → is_settled false t ≡ true
   work_here step was fair accepted silent ready = work_silent remote clusters before s a t runs fresh tidy ready.inline ready.keys (plain was ready) step fair accepted silent ready.numbers
 
   pub settles_here : (e : Event) → IsStep mode.Replay s e a t → IsFair s.link → IsFair t.link → SettlesIfSilent before s e a t
   settles_here e step was fair = record {
     sync = λ is counted silent ready. sync_here (subst (λ (d : Event). IsStep mode.Replay s d a t) is step) was fair counted silent ready;
+    quiet = λ is counted silent ready. quiet_here (subst (λ (d : Event). IsStep mode.Replay s d a t) is step) was fair counted silent ready;
     work = λ is accepted silent ready. work_here (subst (λ (d : Event). IsStep mode.Replay s d a t) is step) was fair accepted silent ready;
   }
 

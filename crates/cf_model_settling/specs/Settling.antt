@@ -14,6 +14,7 @@ use Rattle.cf_model_convergence.specs.Quiet.{is_accepted, is_always_populated, i
 use Rattle.cf_model_convergence.specs.Trees.{NoneLists}
 use Rattle.cf_model_headline.specs.Reports.{Report}
 use Rattle.cf_model_laws.specs.Keys.{AreKeysWithin}
+use Rattle.cf_model_quiet.specs.LastPass.{ends_silent}
 
 -- No line reports a change, an upload that was done or refused, a step that was left out, a fault, a message that was lost, or a version or bytes
 -- that are gone.
@@ -28,7 +29,9 @@ pub record IsReady (before : Report) (s t : State) : Type 0 where
   pub numbers : no_number t ≡ false
   pub lists : (is_always_populated before ≡ true) ⊎ NoneLists s
 
--- Each item that is neither excluded nor in use agrees with the remote then, and none is counted.
+-- Each item that is neither excluded nor in use agrees with the remote then, and none is counted: so it is after a `sync` of which the last pass is silent,
+-- whatever its earlier passes report.
 pub record SettlesIfSilent (before : Report) (s : State) (e : Event) (a : Answer) (t : State) : Type 0 where
   pub sync : e ≡ event.Engine engine.Sync → is_count a.shown ≡ true → IsSilent a → IsReady before s t → (is_settled false t ≡ true) × (a.shown ≡ shown.Count 0)
+  pub quiet : e ≡ event.Engine engine.Sync → is_count a.shown ≡ true → ends_silent a.notes ≡ true → IsReady before s t → (is_settled false t ≡ true) × (a.shown ≡ shown.Count 0)
   pub work : e ≡ event.Engine engine.Work → is_accepted a.shown ≡ true → IsSilent a → IsReady before s t → is_settled false t ≡ true
