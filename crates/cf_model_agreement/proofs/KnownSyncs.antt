@@ -15,7 +15,7 @@ use Rattle.cf_model.specs.Store.{Held}
 use Rattle.cf_model_laws.specs.Keys.{AreKeysWithin}
 use Rattle.cf_model_laws.specs.Premises.{IsFair, IsFresh}
 use Rattle.cf_model_laws.proofs.ContentLaws.{run_sound}
-use Rattle.cf_model_convergence.specs.Agreeing.{IsKeptUp, IsPassedHere}
+use Rattle.cf_model_convergence.specs.Agreeing.{IsHereUnlessBuried, IsKeptUp, IsPassedHere}
 use Rattle.cf_model_convergence.specs.Hearing.{ArePlainWaits, is_heard}
 use Rattle.cf_model_convergence.specs.Quiet.{is_accepted, is_count}
 use Rattle.cf_model_convergence.specs.Tidy.{IsTidy}
@@ -29,11 +29,11 @@ before remote clusters trace s e a t runs fresh tidy step fair = run_kept_up rem
 pub sync_silent : (remote : Held) (clusters : ℕ) (trace : List (Event × Answer)) (s : State) (a : Answer) (t : State) → Runs mode.Replay (start mode.Replay remote clusters) trace s → IsFresh remote → IsTidy remote → s.link.inline ≡ true → AreKeysWithin s.filter → ArePlainWaits s → IsStep mode.Replay s (event.Engine engine.Sync) a t → IsFair t.link → is_count a.shown ≡ true → list_any is_heard a.notes ≡ false → no_number t ≡ false → (is_settled false t ≡ true) × (a.shown ≡ shown.Count 0)
 sync_silent remote clusters trace s a t runs fresh tidy inline keys plain step fair shows silent left = let k = run_silent remote clusters trace s a t runs fresh tidy inline keys plain (before remote clusters trace s (event.Engine engine.Sync) a t runs fresh tidy step fair) step fair shows silent left in (k.0, k.1)
 
-pub sync_silent_all : (remote : Held) (clusters : ℕ) (trace : List (Event × Answer)) (s : State) (a : Answer) (t : State) → Runs mode.Replay (start mode.Replay remote clusters) trace s → IsFresh remote → IsTidy remote → s.link.inline ≡ true → AreKeysWithin s.filter → ArePlainWaits s → IsPassedHere s → IsStep mode.Replay s (event.Engine engine.Sync) a t → IsFair t.link → is_count a.shown ≡ true → list_any is_heard a.notes ≡ false → no_number t ≡ false → (is_settled true t ≡ true) × IsPassedHere t
+pub sync_silent_all : (remote : Held) (clusters : ℕ) (trace : List (Event × Answer)) (s : State) (a : Answer) (t : State) → Runs mode.Replay (start mode.Replay remote clusters) trace s → IsFresh remote → IsTidy remote → s.link.inline ≡ true → AreKeysWithin s.filter → ArePlainWaits s → IsHereUnlessBuried s → IsStep mode.Replay s (event.Engine engine.Sync) a t → IsFair t.link → is_count a.shown ≡ true → list_any is_heard a.notes ≡ false → no_number t ≡ false → (is_settled true t ≡ true) × IsPassedHere t
 sync_silent_all remote clusters trace s a t runs fresh tidy inline keys plain here step fair shows silent left = run_silent_all remote clusters trace s a t runs fresh tidy inline keys plain (before remote clusters trace s (event.Engine engine.Sync) a t runs fresh tidy step fair) here step fair shows silent left
 
 pub work_silent : (remote : Held) (clusters : ℕ) (trace : List (Event × Answer)) (s : State) (a : Answer) (t : State) → Runs mode.Replay (start mode.Replay remote clusters) trace s → IsFresh remote → IsTidy remote → s.link.inline ≡ true → AreKeysWithin s.filter → ArePlainWaits s → IsStep mode.Replay s (event.Engine engine.Work) a t → IsFair t.link → is_accepted a.shown ≡ true → list_any is_heard a.notes ≡ false → no_number t ≡ false → is_settled false t ≡ true
 work_silent remote clusters trace s a t runs fresh tidy inline keys plain step fair shows silent left = (work_told remote clusters trace s a t runs fresh tidy inline keys plain (before remote clusters trace s (event.Engine engine.Work) a t runs fresh tidy step fair) step fair shows silent left).0
 
-pub work_silent_all : (remote : Held) (clusters : ℕ) (trace : List (Event × Answer)) (s : State) (a : Answer) (t : State) → Runs mode.Replay (start mode.Replay remote clusters) trace s → IsFresh remote → IsTidy remote → s.link.inline ≡ true → AreKeysWithin s.filter → ArePlainWaits s → IsPassedHere s → IsStep mode.Replay s (event.Engine engine.Work) a t → IsFair t.link → is_accepted a.shown ≡ true → list_any is_heard a.notes ≡ false → no_number t ≡ false → (is_settled true t ≡ true) × IsPassedHere t
+pub work_silent_all : (remote : Held) (clusters : ℕ) (trace : List (Event × Answer)) (s : State) (a : Answer) (t : State) → Runs mode.Replay (start mode.Replay remote clusters) trace s → IsFresh remote → IsTidy remote → s.link.inline ≡ true → AreKeysWithin s.filter → ArePlainWaits s → IsHereUnlessBuried s → IsStep mode.Replay s (event.Engine engine.Work) a t → IsFair t.link → is_accepted a.shown ≡ true → list_any is_heard a.notes ≡ false → no_number t ≡ false → (is_settled true t ≡ true) × IsPassedHere t
 work_silent_all remote clusters trace s a t runs fresh tidy inline keys plain here step fair shows silent left = work_told_all remote clusters trace s a t runs fresh tidy inline keys plain (before remote clusters trace s (event.Engine engine.Work) a t runs fresh tidy step fair) here step fair shows silent left

@@ -21,7 +21,7 @@ use Rattle.cf_model_laws.proofs.ContentLaws.{run_sound, sound_whole}
 use Rattle.cf_model_laws.proofs.Gathered.{all_weaker}
 use Rattle.cf_model_laws.proofs.PassesGuarded.{ask_feed_keeps, settle_all_keeps}
 use Rattle.cf_model_laws.proofs.PushesGuarded.{push_all_keeps}
-use Rattle.cf_model_convergence.specs.Agreeing.{IsAgreed, IsPassedHere, IsKeptUp}
+use Rattle.cf_model_convergence.specs.Agreeing.{IsAgreed, IsHereUnlessBuried, IsPassedHere, IsKeptUp}
 use Rattle.cf_model_convergence.specs.Settles.{IsFed, IsSettledTo}
 use Rattle.cf_model_convergence.specs.Telling.{IsListening, IsTold}
 use Rattle.cf_model_convergence.specs.Tidy.{IsTidy, IsLower}
@@ -134,7 +134,7 @@ here_then s t same h all = record {
   here = all_weaker (λ r. r.live ≡ true → (i : Item) × Among i (items_now t) × (has_target i r.rid ≡ true)) (λ r. IsLower r → r.live ≡ true → r.changed ≤ (book_now t).cursor → (i : Item) × Among i (items_now t) × (has_target i r.rid ≡ true)) (λ r k low live early. k live) t.link.remote.items all.some;
 }
 
-pub pass_over : (all : Bool) (s : State) (u : Unit {0}) (t : State) → Invariant s → IsSet s → (all ≡ true → IsPassedHere s) → Ends (pass s) u t → no_number t ≡ false → IsHeard s t ⊎ IsOver all t
+pub pass_over : (all : Bool) (s : State) (u : Unit {0}) (t : State) → Invariant s → IsSet s → (all ≡ true → IsHereUnlessBuried s) → Ends (pass s) u t → no_number t ≡ false → IsHeard s t ⊎ IsOver all t
 pass_over all s u t h set here ends left = pass_heard (IsOver all) s u t (λ m n hm hn f g l none k fed z. last m n hm hn f g l none k fed z (pushes_calm n u t hn g l (open_fed m n fed (open_settled s m k set.free)) z left)) h set.fair set.listening set.agreed ends left where
   last : (m n : State) → Invariant m → Invariant n → IsFair m.link → IsFair n.link → IsListening n → (book_now m).entries ≡ [] → IsSettledTo [] s m → IsFed m n → Ends (push_all n) u t → IsHeard n t ⊎ IsIdleTo n t → IsHeard n t ⊎ IsOver all t
   last m n hm hn f g l none k fed z (inl y) = inl y
@@ -154,7 +154,7 @@ pass_over all s u t h set here ends left = pass_heard (IsOver all) s u t (λ m n
         passed = after.passed;
       };
     },
-    (λ e. here_then s t (y.calm.items ∙ same_items s m n k fed) (here e) (targets e)),
+    (λ e. here_then s t (y.calm.items ∙ same_items s m n k fed) (here e none_buried) (targets e)),
   ) where
     a : IsAgreed m
     a = agreed_settled s m k set.agreed
@@ -171,8 +171,11 @@ pass_over all s u t h set here ends left = pass_heard (IsOver all) s u t (λ m n
     rest : IsAtRest t
     rest = rest_at n u t hn g dirs ready z y
 
+    none_buried : (book_now s).tombstones ≡ []
+    none_buried = sym (ap (λ (f : Filter). f.volume.book.tombstones) fed.filter ∙ ap (λ (f : Filter). f.volume.book.tombstones) k.filter) ∙ (sym y.calm.tombstones ∙ rest.buried)
+
     targets : all ≡ true → AreAllTargets t
-    targets e = calm_targets n t y.calm (all_targets m hm f a (here_settled s m k (here e)) n fed)
+    targets e = calm_targets n t y.calm (all_targets m hm f a (here_settled s m k (here e none_buried)) n fed)
 
     settled : (b : Bool) → all ≡ b → is_settled all t ≡ true
     settled true e = subst (λ (c : Bool). is_settled c t ≡ true) (sym e) (rest_whole t rest (targets e))
@@ -191,7 +194,7 @@ pass_calm s u t h fair listening ready dirs agreed ends left = by (pass_over fal
   by (inr z) = inr z.0
 
 pub pass_calm_all : (s : State) (u : Unit {0}) (t : State) → Invariant s → IsFair s.link → IsListening s → IsOpenTo s → AreDirs s → IsAgreed s → IsPassedHere s → Ends (pass s) u t → no_number t ≡ false → IsHeard s t ⊎ (is_settled true t ≡ true)
-pass_calm_all s u t h fair listening ready dirs agreed all ends left = by (pass_over true s u t h (record { fair = fair; listening = listening; free = ready; dirs = dirs; agreed = agreed }) (λ z. all) ends left) where
+pass_calm_all s u t h fair listening ready dirs agreed all ends left = by (pass_over true s u t h (record { fair = fair; listening = listening; free = ready; dirs = dirs; agreed = agreed }) (λ z none. all) ends left) where
   by : IsHeard s t ⊎ IsOver true t → IsHeard s t ⊎ (is_settled true t ≡ true)
   by (inl z) = inl z
   by (inr z) = inr z.0

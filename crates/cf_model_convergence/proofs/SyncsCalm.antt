@@ -16,7 +16,7 @@ use Rattle.cf_model_laws.specs.Invariant.{Invariant}
 use Rattle.cf_model_laws.proofs.CallbacksGuarded.{drain_keeps}
 use Rattle.cf_model_laws.proofs.ContentLaws.{sound_whole}
 use Rattle.cf_model_laws.proofs.PassesGuarded.{pass_anew_keeps, passes_keeps, sync_passes_keeps}
-use Rattle.cf_model_convergence.specs.Agreeing.{IsPassedHere, IsKeptUp}
+use Rattle.cf_model_convergence.specs.Agreeing.{IsHereUnlessBuried, IsPassedHere, IsKeptUp}
 use Rattle.cf_model_convergence.specs.Hearing.{IsHeard}
 use Rattle.cf_model_convergence.proofs.FetchesCalm.{IsDrained, drained_calm}
 use Rattle.cf_model_convergence.proofs.HeardLines.{heard_then}
@@ -43,7 +43,7 @@ here_anew s h = record { top = h.top; populated = h.populated; here = h.here }
 heard_anew : (s m : State) → IsHeard (without_done s) m → IsHeard s m
 heard_anew s m k = record { lines = k.lines; noted = k.noted; heard = k.heard }
 
-one_pass : (all : Bool) (fuel l made : ℕ) (s : State) (u : Unit {0}) (t : State) → Invariant s → IsSet s → (all ≡ true → IsPassedHere s) → Ends (passes (suc fuel) l made s) u t → no_number t ≡ false
+one_pass : (all : Bool) (fuel l made : ℕ) (s : State) (u : Unit {0}) (t : State) → Invariant s → IsSet s → (all ≡ true → IsHereUnlessBuried s) → Ends (passes (suc fuel) l made s) u t → no_number t ≡ false
     → ((m : State) → Invariant m → IsOver all m → Ends (passes fuel l (made + 1) m) u t → IsHeard m t ⊎ IsOver all t) → IsHeard s t ⊎ IsOver all t
 one_pass all fuel l made s u t h set there ends left more = by (is_last l made s k.1) k.3 where
   k : (v : Unit {0}) × (m : State) × Ends (pass_anew s) v m × Ends (elim (is_last l made s m) as (λ _. Tree State (Unit {0})) [ true ↦ Ret unit m | false ↦ passes fuel l (made + 1) m ]) u t
@@ -53,7 +53,7 @@ one_pass all fuel l made s u t h set there ends left more = by (is_last l made s
   hm = kept_at_end Invariant (pass_anew s) k.0 k.1 ((pass_anew_keeps Invariant sound_whole.closed sound_whole.entering).keeps s h) k.2
 
   over : no_number k.1 ≡ false → IsHeard s k.1 ⊎ IsOver all k.1
-  over free = here (pass_over all (without_done s) k.0 k.1 (sound_whole.closed.keeps_without_done s h) (anew_set s set) (λ e. here_anew s (there e)) k.2 free) where
+  over free = here (pass_over all (without_done s) k.0 k.1 (sound_whole.closed.keeps_without_done s h) (anew_set s set) (λ e none. here_anew s (there e none)) k.2 free) where
     here : IsHeard (without_done s) k.1 ⊎ IsOver all k.1 → IsHeard s k.1 ⊎ IsOver all k.1
     here (inl z) = inl (heard_anew s k.1 z)
     here (inr z) = inr z
@@ -73,15 +73,15 @@ one_pass all fuel l made s u t h set there ends left more = by (is_last l made s
 
 passes_over : (all : Bool) (fuel l made : ℕ) (s : State) (u : Unit {0}) (t : State) → Invariant s → IsOver all s → Ends (passes fuel l made s) u t → no_number t ≡ false → IsHeard s t ⊎ IsOver all t
 passes_over all zero l made s u t h over ends left = inr (subst (IsOver all) (sym ends.1) over)
-passes_over all (suc n) l made s u t h over ends left = one_pass all n l made s u t h over.1 over.2 ends left (λ m hm o e. passes_over all n l (made + 1) m u t hm o e left)
+passes_over all (suc n) l made s u t h over ends left = one_pass all n l made s u t h over.1 (λ e none. over.2 e) ends left (λ m hm o e. passes_over all n l (made + 1) m u t hm o e left)
 
-some_passes : (all : Bool) (fuel : ℕ) → 0 < fuel → (l made : ℕ) (s : State) (u : Unit {0}) (t : State) → Invariant s → IsSet s → (all ≡ true → IsPassedHere s) → Ends (passes fuel l made s) u t → no_number t ≡ false → IsHeard s t ⊎ IsOver all t
+some_passes : (all : Bool) (fuel : ℕ) → 0 < fuel → (l made : ℕ) (s : State) (u : Unit {0}) (t : State) → Invariant s → IsSet s → (all ≡ true → IsHereUnlessBuried s) → Ends (passes fuel l made s) u t → no_number t ≡ false → IsHeard s t ⊎ IsOver all t
 some_passes all zero some l made s u t h set there ends left = absurd (never some) where
   never : 0 < zero → ⊥
   never z = omega (arith, z)
 some_passes all (suc n) some l made s u t h set there ends left = one_pass all n l made s u t h set there ends left (λ m hm o e. passes_over all n l (made + 1) m u t hm o e left)
 
-all_over : (all : Bool) (s : State) (u : Unit {0}) (t : State) → Invariant s → IsSet s → (all ≡ true → IsPassedHere s) → Ends (sync_passes s) u t → no_number t ≡ false → IsHeard s t ⊎ IsOver all t
+all_over : (all : Bool) (s : State) (u : Unit {0}) (t : State) → Invariant s → IsSet s → (all ≡ true → IsHereUnlessBuried s) → Ends (sync_passes s) u t → no_number t ≡ false → IsHeard s t ⊎ IsOver all t
 all_over all s u t h set there ends left = some_passes all most some (things s) 0 s u t h set there (subst (λ (b : Bool). Ends (choose b (passes most (things s) 0) pass s) u t) set.listening.inline ends) left where
   some : 0 < most
   some = omega arith
@@ -101,7 +101,7 @@ drained_left all s t d over =
 abbrev pub IsDone : Bool → Shown → State → Type 0
 IsDone all r t = IsLeft all t × (r ≡ shown.Count 0)
 
-pub sync_over : (all : Bool) (s : State) (r : Shown) (t : State) → Invariant s → IsSet (showing s) → (all ≡ true → IsPassedHere (showing s)) → Ends (sync_now s) r t → no_number t ≡ false → IsHeard s t ⊎ IsDone all r t
+pub sync_over : (all : Bool) (s : State) (r : Shown) (t : State) → Invariant s → IsSet (showing s) → (all ≡ true → IsHereUnlessBuried (showing s)) → Ends (sync_now s) r t → no_number t ≡ false → IsHeard s t ⊎ IsDone all r t
 sync_over all s r t h set there ends left = passed (all_over all (showing s) k.0 k.1 hs set there k.2 left_m) where
   k : (v : Unit {0}) × (m : State) × Ends (sync_passes (showing s)) v m × Ends (then_do drain show_unsettled m) r t
   k = ends_bind (sync_passes (showing s)) (λ _ m. then_do drain show_unsettled m) r t ends

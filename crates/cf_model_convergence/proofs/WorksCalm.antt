@@ -24,7 +24,7 @@ use Rattle.cf_model_laws.specs.Premises.{IsFair, IsFresh}
 use Rattle.cf_model_laws.proofs.CallbacksGuarded.{drain_keeps}
 use Rattle.cf_model_laws.proofs.ContentLaws.{sound_whole}
 use Rattle.cf_model_laws.proofs.RightItems.{no_way}
-use Rattle.cf_model_convergence.specs.Agreeing.{IsPassedHere, IsKeptUp}
+use Rattle.cf_model_convergence.specs.Agreeing.{IsHereUnlessBuried, IsPassedHere, IsKeptUp}
 use Rattle.cf_model_convergence.specs.Hearing.{ArePlainWaits, IsHeard, is_heard}
 use Rattle.cf_model_convergence.specs.Quiet.{is_count}
 use Rattle.cf_model_convergence.specs.Tidy.{IsTidy}
@@ -43,7 +43,7 @@ use Rattle.cf_model_convergence.proofs.SyncsCalm.{IsLeft, IsDone, drained_left, 
 use Rattle.cf_model_convergence.proofs.EventsCalm.{run_event}
 use Rattle.cf_model_convergence.proofs.SinceGuarded.{Follows}
 
-pub work_over : (all : Bool) (s : State) (r : Shown) (t : State) → Invariant s → IsSet (showing s) → (all ≡ true → IsPassedHere (showing s)) → Ends (work_now s) r t → no_number t ≡ false → IsHeard s t ⊎ IsLeft all t
+pub work_over : (all : Bool) (s : State) (r : Shown) (t : State) → Invariant s → IsSet (showing s) → (all ≡ true → IsHereUnlessBuried (showing s)) → Ends (work_now s) r t → no_number t ≡ false → IsHeard s t ⊎ IsLeft all t
 work_over all s r t h set there ends left = passed (pass_over all (showing s) k.0 k.1 hs set there k.2 left_m) where
   last : State → Tree State Shown
   last m = ret shown.Done m
@@ -92,9 +92,9 @@ run_silent remote clusters trace s a t runs fresh tidy inline keys waits k step 
     let w : IsDone false a.shown t = run_event sync_now is_count (λ x. refl) (IsDone false) remote clusters trace s (λ r x h set e l. sync_over false (begun s) r x h set (λ z. no_way z) e l) runs (fresh, tidy, inline, keys, waits, k) (event.Engine engine.Sync) a t step fair refl refl (λ c. refl) counted quiet left in (w.0.0, w.1, w.0.1)
 
 pub run_silent_all : (remote : Held) (clusters : ℕ) (trace : List (Event × Answer)) (s : State) (a : Answer) (t : State) → Runs mode.Replay (start mode.Replay remote clusters) trace s → IsFresh remote → IsTidy remote → s.link.inline ≡ true → AreKeysWithin s.filter
-    → ArePlainWaits s → IsKeptUp s → IsPassedHere s → IsStep mode.Replay s (event.Engine engine.Sync) a t → IsFair t.link → is_count a.shown ≡ true → list_any is_heard a.notes ≡ false → no_number t ≡ false → (is_settled true t ≡ true) × IsPassedHere t
+    → ArePlainWaits s → IsKeptUp s → IsHereUnlessBuried s → IsStep mode.Replay s (event.Engine engine.Sync) a t → IsFair t.link → is_count a.shown ≡ true → list_any is_heard a.notes ≡ false → no_number t ≡ false → (is_settled true t ≡ true) × IsPassedHere t
 run_silent_all remote clusters trace s a t runs fresh tidy inline keys waits k there step fair counted quiet left =
-    let w : IsDone true a.shown t = run_event sync_now is_count (λ x. refl) (IsDone true) remote clusters trace s (λ r x h set e l. sync_over true (begun s) r x h set (λ z. record { top = there.top; populated = there.populated; here = there.here }) e l) runs (fresh, tidy, inline, keys, waits, k) (event.Engine engine.Sync) a t step fair refl refl (λ c. refl) counted quiet left in (w.0.0, w.0.2 refl)
+    let w : IsDone true a.shown t = run_event sync_now is_count (λ x. refl) (IsDone true) remote clusters trace s (λ r x h set e l. sync_over true (begun s) r x h set (λ z none. let w : IsPassedHere s = there none in record { top = w.top; populated = w.populated; here = w.here }) e l) runs (fresh, tidy, inline, keys, waits, k) (event.Engine engine.Sync) a t step fair refl refl (λ c. refl) counted quiet left in (w.0.0, w.0.2 refl)
 
 pub work_silent : (remote : Held) (clusters : ℕ) (trace : List (Event × Answer)) (s : State) (a : Answer) (t : State) → Runs mode.Replay (start mode.Replay remote clusters) trace s → IsFresh remote → IsTidy remote → s.link.inline ≡ true → AreKeysWithin s.filter
     → ArePlainWaits s → IsKeptUp s → IsStep mode.Replay s (event.Engine engine.Work) a t → IsFair t.link → is_accepted a.shown ≡ true → list_any is_heard a.notes ≡ false → no_number t ≡ false → (is_settled false t ≡ true) × IsKeptUp t
@@ -102,6 +102,6 @@ work_silent remote clusters trace s a t runs fresh tidy inline keys waits k step
     let w : IsLeftBy false a.shown t = run_event work_now is_accepted (λ x. refl) (IsLeftBy false) remote clusters trace s (λ r x h set e l. work_over false (begun s) r x h set (λ z. no_way z) e l) runs (fresh, tidy, inline, keys, waits, k) (event.Engine engine.Work) a t step fair refl refl (λ c. refl) counted quiet left in (w.0, w.1)
 
 pub work_silent_all : (remote : Held) (clusters : ℕ) (trace : List (Event × Answer)) (s : State) (a : Answer) (t : State) → Runs mode.Replay (start mode.Replay remote clusters) trace s → IsFresh remote → IsTidy remote → s.link.inline ≡ true → AreKeysWithin s.filter
-    → ArePlainWaits s → IsKeptUp s → IsPassedHere s → IsStep mode.Replay s (event.Engine engine.Work) a t → IsFair t.link → is_accepted a.shown ≡ true → list_any is_heard a.notes ≡ false → no_number t ≡ false → (is_settled true t ≡ true) × IsPassedHere t
+    → ArePlainWaits s → IsKeptUp s → IsHereUnlessBuried s → IsStep mode.Replay s (event.Engine engine.Work) a t → IsFair t.link → is_accepted a.shown ≡ true → list_any is_heard a.notes ≡ false → no_number t ≡ false → (is_settled true t ≡ true) × IsPassedHere t
 work_silent_all remote clusters trace s a t runs fresh tidy inline keys waits k there step fair counted quiet left =
-    let w : IsLeftBy true a.shown t = run_event work_now is_accepted (λ x. refl) (IsLeftBy true) remote clusters trace s (λ r x h set e l. work_over true (begun s) r x h set (λ z. record { top = there.top; populated = there.populated; here = there.here }) e l) runs (fresh, tidy, inline, keys, waits, k) (event.Engine engine.Work) a t step fair refl refl (λ c. refl) counted quiet left in (w.0, w.2 refl)
+    let w : IsLeftBy true a.shown t = run_event work_now is_accepted (λ x. refl) (IsLeftBy true) remote clusters trace s (λ r x h set e l. work_over true (begun s) r x h set (λ z none. let w : IsPassedHere s = there none in record { top = w.top; populated = w.populated; here = w.here }) e l) runs (fresh, tidy, inline, keys, waits, k) (event.Engine engine.Work) a t step fair refl refl (λ c. refl) counted quiet left in (w.0, w.2 refl)

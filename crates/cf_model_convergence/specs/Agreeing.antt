@@ -1,5 +1,5 @@
 -- States that agree with the remote as far as the cursor goes.
-use Rattle.std.specs.Prelude.{false, true, Some, ◌≤◌, ◌∷◌, ◌≡◌}
+use Rattle.std.specs.Prelude.{false, true, Some, [], ◌≤◌, ◌∷◌, ◌≡◌}
 use Rattle.cf_model.specs.Identities.{has_target}
 use Rattle.cf_model.specs.Items.{Item, item_of}
 use Rattle.cf_model.specs.LookUp.{item_line}
@@ -27,6 +27,10 @@ pub record IsPassedHere (s : State) : Type 0 where
   pub top : (i : Item) × (item_of (items_now s) root_id ≡ Some i)
   pub populated : All (λ i. i.directory ≡ true → i.populated ≡ true) (items_now s)
   pub here : All (λ r. IsLower r → r.live ≡ true → r.changed ≤ (book_now s).cursor → (i : Item) × Among i (items_now s) × (has_target i r.rid ≡ true)) s.link.remote.items
+
+-- So it is where no tombstone is left.
+abbrev pub IsHereUnlessBuried : State → Type 0
+IsHereUnlessBuried s = (book_now s).tombstones ≡ [] → IsPassedHere s
 
 -- what IsAgreed has besides what each state of a run has in which no list call waits
 pub record IsKeptUp (s : State) : Type 0 where

@@ -17,7 +17,7 @@ ghost use Rattle.cf_model.specs.State.{State, book_now, items_now, start};
 ghost use Rattle.cf_model.specs.Store.{Held};
 ghost use Rattle.cf_model_laws.specs.Keys.{AreKeysWithin};
 ghost use Rattle.cf_model_laws.specs.Premises.{IsFair, IsFresh};
-ghost use Rattle.cf_model_convergence.specs.Agreeing.{IsKeptUp, IsPassedHere};
+ghost use Rattle.cf_model_convergence.specs.Agreeing.{IsHereUnlessBuried, IsKeptUp, IsPassedHere};
 ghost use Rattle.cf_model_convergence.specs.Hearing.{ArePlainWaits, is_heard};
 ghost use Rattle.cf_model_convergence.specs.Lapses.{are_all_here, is_known, of_target};
 ghost use Rattle.cf_model_convergence.specs.Quiet.{is_accepted, is_count};
@@ -27,18 +27,19 @@ ghost use Rattle.cf_model_convergence.specs.Tidy.{IsTidy};
 /// left out, of trouble, or of a reply that there are no such bytes: the state that it leaves is settled, and the count is 0. So it is
 /// over a remote that was handed in tidy and a link that answers at once, where the remote has kept its rules or failed so far, keys and
 /// numbers of messages are left, no list call waits, a live ask is for each dehydration that does, and what the cursor has passed is known, as
-/// it is afterwards again. The state is settled as a whole where each live item of the remote that the cursor has passed is here, and each directory is populated.
+/// it is afterwards again. The state is settled as a whole where each live item of the remote that the cursor has passed is here once
+/// no tombstone is left, and each directory is populated.
 #[tactic(auto, using(crate::proofs::WorksCalm::run_silent, crate::proofs::WorksCalm::run_silent_all))]
 pub fn a_silent_sync_leaves_a_settled_state()
     ensures local { (remote : Held) (clusters : ℕ) (trace : List (Event × Answer)) (s : State) (a : Answer) (t : State) → Runs mode.Replay (start mode.Replay remote clusters) trace s → IsFresh remote → IsTidy remote → s.link.inline ≡ true → AreKeysWithin s.filter → ArePlainWaits s → IsKeptUp s → IsStep mode.Replay s (event.Engine engine.Sync) a t → IsFair t.link → is_count a.shown ≡ true → list_any is_heard a.notes ≡ false → no_number t ≡ false → (is_settled false t ≡ true) × (a.shown ≡ shown.Count 0) × IsKeptUp t }
-    ensures whole { (remote : Held) (clusters : ℕ) (trace : List (Event × Answer)) (s : State) (a : Answer) (t : State) → Runs mode.Replay (start mode.Replay remote clusters) trace s → IsFresh remote → IsTidy remote → s.link.inline ≡ true → AreKeysWithin s.filter → ArePlainWaits s → IsKeptUp s → IsPassedHere s → IsStep mode.Replay s (event.Engine engine.Sync) a t → IsFair t.link → is_count a.shown ≡ true → list_any is_heard a.notes ≡ false → no_number t ≡ false → (is_settled true t ≡ true) × IsPassedHere t }
+    ensures whole { (remote : Held) (clusters : ℕ) (trace : List (Event × Answer)) (s : State) (a : Answer) (t : State) → Runs mode.Replay (start mode.Replay remote clusters) trace s → IsFresh remote → IsTidy remote → s.link.inline ≡ true → AreKeysWithin s.filter → ArePlainWaits s → IsKeptUp s → IsHereUnlessBuried s → IsStep mode.Replay s (event.Engine engine.Sync) a t → IsFair t.link → is_count a.shown ≡ true → list_any is_heard a.notes ≡ false → no_number t ≡ false → (is_settled true t ≡ true) × IsPassedHere t }
 {}
 
 /// So it is of a `work` event that is accepted.
 #[tactic(auto, using(crate::proofs::WorksCalm::work_silent, crate::proofs::WorksCalm::work_silent_all))]
 pub fn a_silent_work_leaves_a_settled_state()
     ensures local { (remote : Held) (clusters : ℕ) (trace : List (Event × Answer)) (s : State) (a : Answer) (t : State) → Runs mode.Replay (start mode.Replay remote clusters) trace s → IsFresh remote → IsTidy remote → s.link.inline ≡ true → AreKeysWithin s.filter → ArePlainWaits s → IsKeptUp s → IsStep mode.Replay s (event.Engine engine.Work) a t → IsFair t.link → is_accepted a.shown ≡ true → list_any is_heard a.notes ≡ false → no_number t ≡ false → (is_settled false t ≡ true) × IsKeptUp t }
-    ensures whole { (remote : Held) (clusters : ℕ) (trace : List (Event × Answer)) (s : State) (a : Answer) (t : State) → Runs mode.Replay (start mode.Replay remote clusters) trace s → IsFresh remote → IsTidy remote → s.link.inline ≡ true → AreKeysWithin s.filter → ArePlainWaits s → IsKeptUp s → IsPassedHere s → IsStep mode.Replay s (event.Engine engine.Work) a t → IsFair t.link → is_accepted a.shown ≡ true → list_any is_heard a.notes ≡ false → no_number t ≡ false → (is_settled true t ≡ true) × IsPassedHere t }
+    ensures whole { (remote : Held) (clusters : ℕ) (trace : List (Event × Answer)) (s : State) (a : Answer) (t : State) → Runs mode.Replay (start mode.Replay remote clusters) trace s → IsFresh remote → IsTidy remote → s.link.inline ≡ true → AreKeysWithin s.filter → ArePlainWaits s → IsKeptUp s → IsHereUnlessBuried s → IsStep mode.Replay s (event.Engine engine.Work) a t → IsFair t.link → is_accepted a.shown ≡ true → list_any is_heard a.notes ≡ false → no_number t ≡ false → (is_settled true t ≡ true) × IsPassedHere t }
 {}
 
 /// What the cursor has passed is known in each state in which the test of it says so, over a tidy remote; and so it is here, where no
