@@ -12,9 +12,10 @@ ghost use Rattle.cf_model.specs.Events.{is_of};
 use crate::check_errors::CheckError;
 use crate::devices::Device;
 use crate::weighing::weigh;
-use cf_base::{Answer, Event, OutOfMemory};
+use cf_base::{Answer, Blob, Event, OutOfMemory};
 use cf_check_compare::{Comparison, compare, fails_next, is_foreign, is_restart, tellings};
 use cf_check_weights::Weights;
+use cf_report::text;
 use std::alloc::Global;
 
 /// What is said of a report at one of its events.
@@ -34,6 +35,8 @@ pub(crate) struct Judge<D> {
     pub(crate) device: D,
     pub(crate) weights: Weights,
     pub(crate) clusters: u32,
+    /// The lines of its last answer where the report does not go on with them, else nothing.
+    pub(crate) expected: Blob,
 }
 
 // What is said by a comparison.
@@ -47,9 +50,10 @@ fn judgement_of(compared: Comparison) -> Result<Judged, CheckError>
     }
 }
 
-// Weighs an answer, and holds it against the report.
+// Weighs an answer, and holds it against the report. Keeps its lines where the report does not go on with them.
 fn take(
     weights: &mut Weights,
+    expected: &mut Blob,
     alloc: Global,
     event: &Event,
     answer: &Answer,
@@ -59,6 +63,9 @@ fn take(
 {
     weigh(weights, event, answer)?;
     let compared = compare(alloc, event, answer, rest)?;
+    if let Comparison::Differs = compared {
+        *expected = text(alloc, answer)?;
+    }
     judgement_of(compared)
 }
 
@@ -83,12 +90,14 @@ impl<D: Device> Judge<D> {
             device,
             weights,
             clusters,
+            expected,
         } = self;
         let (device, told) = device.step(alloc, event, fails);
         let left = Judge {
             device,
             weights,
             clusters,
+            expected,
         };
         (left, told)
     }
@@ -108,7 +117,14 @@ impl<D: Device> Judge<D> {
         let (mut left, told) = self.play(alloc, event, rest);
         match told {
             Ok(answer) => {
-                let judged = take(&mut left.weights, alloc, event, &answer, rest);
+                let judged = take(
+                    &mut left.weights,
+                    &mut left.expected,
+                    alloc,
+                    event,
+                    &answer,
+                    rest,
+                );
                 drop(answer);
                 (left, judged)
             }
@@ -143,5 +159,20 @@ impl<D: Device> Judge<D> {
             return (self, Err(CheckError::NotFollowed));
         }
         self.follow(alloc, event, rest)
+    }
+}
+
+impl<D: Drop> Judge<D> {
+    /// The lines of the last answer where the report does not go on with it, else nothing.
+    pub(crate) fn into_expected(self) -> Blob {
+        let Judge {
+            device,
+            weights,
+            clusters: _,
+            expected,
+        } = self;
+        drop(device);
+        drop(weights);
+        expected
     }
 }

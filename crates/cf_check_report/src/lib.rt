@@ -7,10 +7,12 @@
 
 mod check_errors;
 mod devices;
+mod differences;
 mod judgements;
 mod reports;
 mod weighing;
 
 pub use check_errors::CheckError;
 pub use devices::Device;
+pub use differences::{Difference, Judgement};
 pub use reports::judge;

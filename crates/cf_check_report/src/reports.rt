@@ -10,21 +10,52 @@ ghost use Rattle.cf_model.specs.Words.{is_empty};
 
 use crate::check_errors::CheckError;
 use crate::devices::Device;
+use crate::differences::{Difference, Judgement};
 use crate::judgements::{Judge, Judged};
-use cf_base::Event;
+use cf_base::{Blob, Event};
 use cf_check_compare::after;
 use cf_check_model::Verdict;
 use cf_check_weights::Weights;
 use std::alloc::Global;
 
-// The verdict once all events are done.
-fn at_end(rest: &[u8], done: u32) -> Verdict
-    ensures { result ≡ at_end (is_empty rest.now) done }
+// Where the rest of a report begins in it.
+fn place(report: &[u8], rest: &[u8]) -> usize {
+    report.len().saturating_sub(rest.len())
+}
+
+// A verdict without a difference.
+fn plain(verdict: Verdict) -> Judgement
+    ensures { result.verdict ≡ verdict }
+{
+    Judgement {
+        verdict,
+        difference: None,
+    }
+}
+
+// The report is unlawful at this event, of which these lines were expected.
+fn unlawful(event: u32, place: usize, expected: Blob) -> Judgement
+    ensures { result.verdict ≡ Verdict.Unlawful event }
+{
+    Judgement {
+        verdict: Verdict::Unlawful(event),
+        difference: Some(Difference {
+            event,
+            place,
+            expected,
+        }),
+    }
+}
+
+// What is said once all events are done.
+fn at_end(rest: &[u8], done: u32, place: usize, expected: Blob) -> Judgement
+    ensures { result.verdict ≡ at_end (is_empty rest.now) done }
 {
     if rest.is_empty() {
-        Verdict::Lawful
+        drop(expected);
+        plain(Verdict::Lawful)
     } else {
-        Verdict::Unlawful(done)
+        unlawful(done, place, expected)
     }
 }
 
@@ -36,16 +67,17 @@ pub fn judge<D: Device + Drop>(
     clusters: u32,
     events: &[Event],
     report: &[u8],
-) -> Result<Verdict, CheckError>
+) -> Result<Judgement, CheckError>
     requires stands { D.stands device (start mode.Replay empty_remote clusters) }
     requires events { length events.now < 2 ^ 32 }
     requires report { length report.now < 2 ^ 31 }
-    ensures { IfOk result (IsVerdict events.now report.now clusters) }
+    ensures { IfOk result (λ j. IsVerdict events.now report.now clusters j.verdict) }
 {
     let mut judge = Judge {
         device,
         weights: Weights::new(alloc),
         clusters,
+        expected: Blob::from_vec(Vec::new(alloc)),
     };
     let mut rest = report;
     let mut done: u32 = 0;
@@ -58,12 +90,12 @@ pub fn judge<D: Device + Drop>(
                 done += 1;
             }
             Ok(Judged::Wrong) => {
-                drop(judge);
-                return Ok(Verdict::Unlawful(done + 1));
+                let expected = judge.into_expected();
+                return Ok(unlawful(done + 1, place(report, rest), expected));
             }
             Ok(Judged::Open) => {
                 drop(judge);
-                return Ok(Verdict::Undecided(done + 1));
+                return Ok(plain(Verdict::Undecided(done + 1)));
             }
             Err(fail) => {
                 drop(judge);
@@ -71,6 +103,6 @@ pub fn judge<D: Device + Drop>(
             }
         }
     }
-    drop(judge);
-    Ok(at_end(rest, done))
+    let expected = judge.into_expected();
+    Ok(at_end(rest, done, place(report, rest), expected))
 }

@@ -5,8 +5,7 @@ ghost use Rattle.cf_check_model.specs.Judging.{IsVerdict};
 
 use crate::mem_devices::MemDevice;
 use cf_base::Event;
-use cf_check_model::Verdict;
-use cf_check_report::{CheckError, judge};
+use cf_check_report::{CheckError, Judgement, judge};
 use std::alloc::Global;
 
 /// Judges a report of these events, of a device with so many clusters, at most 65,536, and a remote that is empty at the start. The verdict
@@ -16,11 +15,11 @@ pub fn check(
     events: &[Event],
     report: &[u8],
     clusters: u32,
-) -> Result<Verdict, CheckError>
+) -> Result<Judgement, CheckError>
     requires clusters { clusters ≤ 65536 }
     requires events { length events.now < 2 ^ 32 }
     requires report { length report.now < 2 ^ 31 }
-    ensures { IfOk result (IsVerdict events.now report.now clusters) }
+    ensures { IfOk result (λ j. IsVerdict events.now report.now clusters j.verdict) }
 {
     let device = MemDevice::start(alloc, clusters)?;
     judge(alloc, device, clusters, events, report)

@@ -14,7 +14,7 @@ use Rattle.clap.specs.Simple.{is_simple, subcommand_of}
 use Rattle.cf_script.specs.Words.{IsNumber}
 use Rattle.cf_cli.specs.Accounts.{AreParsed, AreTaken, IsAlone, IsMet, Names, account, name_of}
 use Rattle.cf_cli.specs.declared.commands.Command.{Command}
-use Rattle.cf_cli.specs.declared.commands.Command.TheVariants.{Filter, Gen, Image, Migrate, Replay, Scrub, State}
+use Rattle.cf_cli.specs.declared.commands.Command.TheVariants.{Check, Filter, Gen, Image, Migrate, Replay, Scrub, State}
 
 pub is_free : is_simple_and_free account ≡ true
 unfolding clap_on_literals
@@ -54,6 +54,10 @@ migrate_taken : Names (codes "migrate" ∷ []) Migrate
 unfolding clap_on_literals
 migrate_taken = (refl, (refl, tt))
 
+check_taken : Names (codes "check" ∷ []) Check
+unfolding clap_on_literals
+check_taken = (refl, (refl, tt))
+
 pub taken : (c : Command) → IsAlone c → Names (name_of c ∷ []) c
 taken Replay alone = replay_taken
 taken Filter alone = filter_taken
@@ -62,6 +66,7 @@ taken Image alone = image_taken
 taken (Gen n) alone = absurd alone
 taken Scrub alone = scrub_taken
 taken Migrate alone = migrate_taken
+taken Check alone = check_taken
 
 -- `gen` and a number
 

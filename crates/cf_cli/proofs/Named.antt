@@ -8,7 +8,7 @@ use Rattle.clap.specs.Simple.{argument_words, built, entered, names_of, subcomma
 use Rattle.clap.specs.Walk.{Row, Text, answers_to, finished, nothing_held, settled, stop_after, walk, walk_from}
 use Rattle.cf_cli.specs.Accounts.{AreParsed, AreTaken, IsMet, account, name_of}
 use Rattle.cf_cli.specs.declared.commands.Command.{Command}
-use Rattle.cf_cli.specs.declared.commands.Command.TheVariants.{Filter, Gen, Image, Migrate, Replay, Scrub, State}
+use Rattle.cf_cli.specs.declared.commands.Command.TheVariants.{Check, Filter, Gen, Image, Migrate, Replay, Scrub, State}
 
 -- the subcommand that is met
 
@@ -36,7 +36,10 @@ entered_one (Some p) h = elim (cases_Bool (answers_to p.0 (codes "replay", [])))
             | inl h5 ↦ (Scrub, rw (h0, h1, h2, h3, h4, h5) refl)
             | inr h5 ↦ elim (cases_Bool (answers_to p.0 (codes "migrate", []))) [
               | inl h6 ↦ (Migrate, rw (h0, h1, h2, h3, h4, h5, h6) refl)
-              | inr h6 ↦ let z : false ≡ true = rw (h0, h1, h2, h3, h4, h5, h6) at h in absurd cc
+              | inr h6 ↦ elim (cases_Bool (answers_to p.0 (codes "check", []))) [
+                | inl h7 ↦ (Check, rw (h0, h1, h2, h3, h4, h5, h6, h7) refl)
+                | inr h7 ↦ let z : false ≡ true = rw (h0, h1, h2, h3, h4, h5, h6, h7) at h in absurd cc
+              ]
             ]
           ]
         ]
@@ -71,6 +74,7 @@ is_it (Some p) Image e = inl (cc, tt)
 is_it (Some p) (Gen n) e = inr e
 is_it (Some p) Scrub e = inl (cc, tt)
 is_it (Some p) Migrate e = inl (cc, tt)
+is_it (Some p) Check e = inl (cc, tt)
 
 pub taken_or_gen : (words : List Text) → AreParsed words → AreTaken words ⊎ (option_map (λ p. p.0) (subcommand_of account words) ≡ Some (codes "gen"))
 taken_or_gen words h =

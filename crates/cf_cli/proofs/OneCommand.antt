@@ -8,7 +8,7 @@ use Rattle.cf_script.proofs.NumberMeans.{number_once}
 use Rattle.cf_script.specs.Words.{IsNumber}
 use Rattle.cf_cli.specs.Accounts.{HasNumber, IsMet, Names, account, name_of}
 use Rattle.cf_cli.specs.declared.commands.Command.{Command}
-use Rattle.cf_cli.specs.declared.commands.Command.TheVariants.{Filter, Gen, Image, Migrate, Replay, Scrub, State}
+use Rattle.cf_cli.specs.declared.commands.Command.TheVariants.{Check, Filter, Gen, Image, Migrate, Replay, Scrub, State}
 
 -- the command of a name and of the number that it has, if it has one
 abbrev named : List ℕ → ℕ → Command
@@ -19,6 +19,7 @@ named name n =
     else if bytes_eq name (codes "image") then Image
     else if bytes_eq name (codes "scrub") then Scrub
     else if bytes_eq name (codes "migrate") then Migrate
+    else if bytes_eq name (codes "check") then Check
     else Gen n
 
 abbrev number_of : Command → ℕ
@@ -33,6 +34,7 @@ named_again Image = refl
 named_again (Gen n) = refl
 named_again Scrub = refl
 named_again Migrate = refl
+named_again Check = refl
 
 same_number : (n m : ℕ) (rows : List Row) → HasNumber (Gen n) rows → HasNumber (Gen m) rows → n ≡ m
 same_number n m rows a b =

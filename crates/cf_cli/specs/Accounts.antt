@@ -5,7 +5,7 @@ use Rattle.clap.specs.Simple.{App, Shape, new_rule, new_shape, subcommand_of, wi
 use Rattle.clap.specs.Walk.{Row, Rule, Text, first_of}
 use Rattle.cf_script.specs.Words.{IsNumber}
 use Rattle.cf_cli.specs.declared.commands.Command.{Command}
-use Rattle.cf_cli.specs.declared.commands.Command.TheVariants.{Filter, Gen, Image, Migrate, Replay, Scrub, State}
+use Rattle.cf_cli.specs.declared.commands.Command.TheVariants.{Check, Filter, Gen, Image, Migrate, Replay, Scrub, State}
 
 -- the program itself: a subcommand is required, and there is neither help nor version
 abbrev pub top : Shape
@@ -25,6 +25,7 @@ name_of Image = codes "image"
 name_of (Gen n) = codes "gen"
 name_of Scrub = codes "scrub"
 name_of Migrate = codes "migrate"
+name_of Check = codes "check"
 
 -- a command of one word
 abbrev pub IsAlone : Command → Type 0
@@ -47,7 +48,7 @@ abbrev pub of_scripts : App
 of_scripts = with_subcommand (with_subcommand (with_subcommand of_reports (new_shape (codes "state"))) (new_shape (codes "image"))) gen_shape
 
 abbrev pub account : App
-account = with_subcommand (with_subcommand of_scripts (new_shape (codes "scrub"))) (new_shape (codes "migrate"))
+account = with_subcommand (with_subcommand (with_subcommand of_scripts (new_shape (codes "scrub"))) (new_shape (codes "migrate"))) (new_shape (codes "check"))
 
 -- the text of `gen` is a number by the rule of scripts; no other command has a text
 abbrev pub HasNumber : Command → List Row → Type 0

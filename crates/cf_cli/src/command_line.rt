@@ -47,5 +47,6 @@ pub(crate) fn account<'a>(alloc: Global) -> Result<Command<'a>, AllocError>
 {
     of_scripts(alloc)?
         .subcommand(Command::new(alloc, "scrub"))?
-        .subcommand(Command::new(alloc, "migrate"))
+        .subcommand(Command::new(alloc, "migrate"))?
+        .subcommand(Command::new(alloc, "check"))
 }

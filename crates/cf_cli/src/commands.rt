@@ -34,6 +34,8 @@ pub enum Command {
     Scrub,
     /// Reads a device's bytes, puts their volume into format 2, and writes them.
     Migrate,
+    /// Reads a script of `replay` and its report, and judges the report.
+    Check,
 }
 
 /// Why words are no command.
@@ -79,6 +81,7 @@ fn met(alloc: Global, matches: &ArgMatches) -> Result<Command, WordsError>
         Some(("gen", found)) => numbered(alloc, found),
         Some(("scrub", _)) => Ok(Command::Scrub),
         Some(("migrate", _)) => Ok(Command::Migrate),
+        Some(("check", _)) => Ok(Command::Check),
         _ => Err(WordsError::Usage),
     }
 }

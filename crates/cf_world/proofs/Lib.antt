@@ -6,6 +6,7 @@ pub mod Traces
 pub mod Ends
 pub mod Concluded
 pub mod Counted
+mod Checking
 pub mod Commanded
 pub mod ModeEvents
 pub mod WorldRuns
@@ -14,3 +15,4 @@ pub mod OfTexts
 mod Migrated
 mod Scrubbed
 mod Imaged
+mod Parted

@@ -8,6 +8,7 @@ use Rattle.cf_disk.specs.Disk.{State as Disk}
 use Rattle.cf_gen.specs.Scripts.{made_script}
 use Rattle.cf_io.specs.Moves.{IsFront, IsWhole}
 use Rattle.cf_remote.specs.Told.{Told}
+use Rattle.cf_world.specs.Checks.{OfCheck}
 use Rattle.cf_world.specs.Migrations.{OfDevice}
 use Rattle.cf_world.specs.Outputs.{OfText}
 use Rattle.cf_world.specs.Scrubs.{OfScrub, most_judged}
@@ -15,8 +16,8 @@ use Rattle.cf_world.specs.declared.outputs.Ending.TheVariants as ending
 use Rattle.cf_world.specs.declared.outputs.Output.TheVariants as output
 
 -- All that holds of what the source had left, where it reports that, by how the run ended: of a script, of the bytes of a device, or
--- of a script that was made without the source. Only `filter`, `migrate` and `scrub` do not use the remote, and only `scrub` does not
--- use the disk.
+-- of a script that was made without the source. Only `filter`, `migrate`, `scrub` and `check` do not use the remote, and only `scrub` and
+-- `check` do not use the disk.
 abbrev pub OfCommand : {D R : Type 0} → (D → Disk) → (R → Told) → Command → D → R → (Unread : Type 0) → (left old new : Option (List ℕ)) → (Unwritten Quiet : Type 0) → Status → D → R → Type 0
 OfCommand state told command.Replay disk remote Unread left old new Unwritten Quiet end back after =
     (text : List ℕ) × IsWhole left text × OfText state told output.Report mode.Replay disk remote text old new Unwritten Quiet end back after
@@ -32,3 +33,5 @@ OfCommand state told command.Migrate disk remote Unread left old new Unwritten Q
     (bytes : List ℕ) × IsWhole left bytes × OfDevice (state disk) (state back) bytes old new Quiet end × (after ≡ remote)
 OfCommand state told command.Scrub disk remote Unread left old new Unwritten Quiet end back after =
     (bytes : List ℕ) × IsFront most_judged left bytes × OfScrub bytes old new Quiet end × (back ≡ disk) × (after ≡ remote)
+OfCommand state told command.Check disk remote Unread left old new Unwritten Quiet end back after =
+    (text : List ℕ) × IsWhole left text × OfCheck text old new Unwritten Quiet end × (back ≡ disk) × (after ≡ remote)

@@ -1,3 +1,6 @@
+pub mod Checks
+pub mod Judged
+pub mod Recordings
 pub mod RemoteFaults
 pub mod Led
 pub mod Runs

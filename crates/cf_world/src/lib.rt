@@ -9,13 +9,16 @@
 //! what a run writes, `specs/Runs.antt`.
 #![tactic(auto)]
 
+mod checks;
 mod conclusions;
 mod drafts;
+mod explanations;
 mod images;
 mod migrations;
 mod outputs;
 mod play_errors;
 mod plays;
+mod recordings;
 mod refusals;
 mod reports;
 mod runs;

@@ -1,6 +1,6 @@
 //! The top call.
 
-ghost use Rattle.std.specs.Prelude.{◌≡◌, ◌≢◌, ◌⊎◌, ℕ, List, string_bytes, map};
+ghost use Rattle.std.specs.Prelude.{◌≡◌, ◌≢◌, ◌⊎◌, ℕ, List, None, string_bytes, map};
 ghost use Rattle.cf_base.specs.declared.policies.Mode.TheVariants as modes;
 ghost use Rattle.cf_disk.specs.Disk.{HasFailed, size_of};
 ghost use Rattle.cf_gen.specs.Scripts.{made_script};
@@ -16,6 +16,7 @@ ghost use Rattle.cf_world.specs.Steps.{read_status, words_status};
 ghost use Rattle.cf_world.specs.declared.outputs.Ending.TheVariants as endings;
 ghost use Rattle.cf_world.specs.declared.outputs.Output.TheVariants as outputs;
 
+use crate::checks::{Checked, check_report};
 use crate::migrations::migrate;
 use crate::outputs::{Ending, Output};
 use crate::scripts::scripted;
@@ -37,13 +38,17 @@ pub struct Finish<D, R> {
     pub status: Status,
     pub disk: D,
     pub remote: R,
+    /// What a person reads of a recorded report that is unlawful: the event, its line in the script, what the report has there, and what
+    /// would have been lawful. None for all else, and where there was no memory for it.
+    pub explanation: Option<String>,
 }
 
 /// Does what the words after the program's name say. `replay` and `filter` read a script from the source, do its events on the disk and
 /// the remote, and write the report to the sink; in `filter` the remote is not used. `state` and `image` do the script of `replay`, and
 /// write the state that it leaves, or the bytes of the disk after a power cut. `gen` does a script that it makes, and writes a summary.
-/// `migrate` reads the bytes of a device, and writes them in format 2; `scrub` judges them. What is promised of the remote is promised
-/// of one that was asked nothing yet, where it reports how often it was asked.
+/// `migrate` reads the bytes of a device, and writes them in format 2; `scrub` judges them. `check` reads a script of `replay` with the
+/// report that was recorded of it, and judges the report. What is promised of the remote is promised of one that was asked nothing yet,
+/// where it reports how often it was asked.
 pub fn run<S: Source, K: Sink, D: Disk + Drop, R: Remote + Drop>(
     alloc: Global,
     words: &[String],
@@ -71,6 +76,7 @@ pub fn run<S: Source, K: Sink, D: Disk + Drop, R: Remote + Drop>(
     ensures unread { result.status ≡ Status.Usage → source.new ≡ source.old }
     ensures unwritten { IsBeforeWriting result.status → sink.new ≡ sink.old }
     ensures unused { IsBeforeDevice result.status → result.disk ≡ disk }
+    ensures unexplained { result.status ≢ Status.Unlawful → result.explanation ≡ None }
 {
     match command_of(alloc, words) {
         Ok(command) => commanded(alloc, command, source, sink, disk, remote),
@@ -78,6 +84,7 @@ pub fn run<S: Source, K: Sink, D: Disk + Drop, R: Remote + Drop>(
             status: unread(fail),
             disk,
             remote,
+            explanation: None,
         },
     }
 }
@@ -100,6 +107,7 @@ fn commanded<S: Source, K: Sink, D: Disk + Drop, R: Remote + Drop>(
     ensures remote { IsBeforeEvents result.status → command ≢ meant.Image → result.remote ≡ remote }
     ensures unwritten { IsBeforeWriting result.status → sink.new ≡ sink.old }
     ensures unused { IsBeforeDevice result.status → result.disk ≡ disk }
+    ensures unexplained { result.status ≢ Status.Unlawful → result.explanation ≡ None }
 {
     match command {
         Command::Replay => sourced(
@@ -130,6 +138,19 @@ fn commanded<S: Source, K: Sink, D: Disk + Drop, R: Remote + Drop>(
                 status,
                 disk,
                 remote,
+                explanation: None,
+            }
+        }
+        Command::Check => {
+            let Checked {
+                status,
+                explanation,
+            } = check_report(alloc, source, sink);
+            Finish {
+                status,
+                disk,
+                remote,
+                explanation,
             }
         }
     }
@@ -152,12 +173,14 @@ fn migrated<S: Source, K: Sink, D: Disk, R: Remote>(
     ensures device_fault { result.status ≡ Status.DeviceFault → HasFailed (D.state disk) (D.state result.disk) }
     ensures unwritten { IsBeforeWriting result.status → sink.new ≡ sink.old }
     ensures unused { IsBeforeDevice result.status → result.disk ≡ disk }
+    ensures unexplained { result.explanation ≡ None }
 {
     let status = migrate(alloc, source, sink, &mut disk);
     Finish {
         status,
         disk,
         remote,
+        explanation: None,
     }
 }
 
@@ -177,6 +200,7 @@ fn made<K: Sink, D: Disk + Drop, R: Remote + Drop>(
     ensures remote { IsBeforeEvents result.status → result.remote ≡ remote }
     ensures unwritten { IsBeforeWriting result.status → sink.new ≡ sink.old }
     ensures unused { IsBeforeDevice result.status → result.disk ≡ disk }
+    ensures unexplained { result.explanation ≡ None }
 {
     made_script_spells();
     made_script_is_short();
@@ -199,6 +223,7 @@ fn made<K: Sink, D: Disk + Drop, R: Remote + Drop>(
             status: Status::OutOfMemory,
             disk,
             remote,
+            explanation: None,
         },
     }
 }
@@ -233,6 +258,7 @@ fn sourced<S: Source, K: Sink, D: Disk + Drop, R: Remote + Drop>(
     ensures device_fault { result.status ≡ Status.DeviceFault → output ≢ outputs.Ending endings.Image → HasFailed (D.state disk) (D.state result.disk) }
     ensures unwritten { IsBeforeWriting result.status → sink.new ≡ sink.old }
     ensures unused { IsBeforeDevice result.status → result.disk ≡ disk }
+    ensures unexplained { result.explanation ≡ None }
 {
     match read_all(alloc, source, MOST_SCRIPT_BYTES) {
         Ok(text) => scripted(alloc, mode, output, &text, sink, disk, remote),
@@ -240,6 +266,7 @@ fn sourced<S: Source, K: Sink, D: Disk + Drop, R: Remote + Drop>(
             status: unscripted(fail),
             disk,
             remote,
+            explanation: None,
         },
     }
 }
@@ -262,6 +289,7 @@ fn left<S: Source, K: Sink, D: Disk + Drop, R: Remote + Drop>(
     ensures remote { IsBeforeEvents result.status → outputs.Ending ending ≢ outputs.Ending endings.Image → result.remote ≡ remote }
     ensures unwritten { IsBeforeWriting result.status → sink.new ≡ sink.old }
     ensures unused { IsBeforeDevice result.status → result.disk ≡ disk }
+    ensures unexplained { result.explanation ≡ None }
 {
     sourced(
         alloc,

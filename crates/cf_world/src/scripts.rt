@@ -1,6 +1,6 @@
 //! A script that is read and done, by the command that it is for.
 
-ghost use Rattle.std.specs.Prelude.{◌≡◌, ◌≢◌, ◌≤◌, ◌+◌, ◌↔◌, IsTrue, List, length, ℕ};
+ghost use Rattle.std.specs.Prelude.{◌≡◌, ◌≢◌, ◌≤◌, ◌+◌, ◌↔◌, IsTrue, List, None, length, ℕ};
 ghost use Rattle.std.specs.List.{list_all};
 ghost use Rattle.cf_base.specs.declared.events.Event.{Event};
 ghost use Rattle.cf_base.specs.declared.policies.Mode.TheVariants as modes;
@@ -55,6 +55,7 @@ pub(crate) fn scripted<K: Sink, D: Disk + Drop, R: Remote + Drop>(
     ensures remote { IsBeforeEvents result.status → output ≢ outputs.Ending endings.Image → result.remote ≡ remote }
     ensures filter { mode ≡ modes.Filter → result.remote ≡ remote }
     ensures complete { IsQuiet (K.faults sink.old) (K.faults sink.new) → IsFit (size_of (D.state disk)) → (events : List Event) → IsScript mode text.now events → IsComplete result.status }
+    ensures unexplained { result.explanation ≡ None }
 {
     match read(alloc, text, mode) {
         Ok(events) => started(
@@ -71,6 +72,7 @@ pub(crate) fn scripted<K: Sink, D: Disk + Drop, R: Remote + Drop>(
             status: refuse(alloc, mode, text, fail, sink),
             disk,
             remote,
+            explanation: None,
         },
     }
 }
@@ -106,12 +108,14 @@ fn started<K: Sink, D: Disk + Drop, R: Remote + Drop>(
     ensures unused { IsBeforeDevice result.status → result.disk ≡ disk }
     ensures remote { IsBeforeEvents result.status → output ≢ outputs.Ending endings.Image → result.remote ≡ remote }
     ensures filter { mode ≡ modes.Filter → result.remote ≡ remote }
+    ensures unexplained { result.explanation ≡ None }
 {
     if !is_fit(disk.size()) {
         return Finish {
             status: Status::BadDevice,
             disk,
             remote,
+            explanation: None,
         };
     }
     match mode {
@@ -139,6 +143,7 @@ fn replayed<K: Sink, D: Disk + Drop, R: Remote + Drop>(
     ensures device_fault { result.status ≡ Status.DeviceFault → output ≢ outputs.Ending endings.Image → HasFailed (D.state disk) (D.state result.disk) }
     ensures unwritten { result.status ≡ Status.DeviceFault → sink.new ≡ sink.old }
     ensures unstarted { result.status ≡ Status.DeviceFault → output ≢ outputs.Ending endings.Image → result.remote ≡ remote }
+    ensures unexplained { result.explanation ≡ None }
 {
     let actor = SyncActor::new(alloc, remote);
     let played = put_out(alloc, output, text, events, sink, disk, actor);
@@ -146,6 +151,7 @@ fn replayed<K: Sink, D: Disk + Drop, R: Remote + Drop>(
         status: played.status,
         disk: played.disk,
         remote: played.actor.into_remote(),
+        explanation: None,
     }
 }
 
@@ -194,11 +200,13 @@ fn filtered<K: Sink, D: Disk + Drop, R: Remote + Drop>(
     ensures device_fault { result.status ≡ Status.DeviceFault → HasFailed (D.state disk) (D.state result.disk) }
     ensures unwritten { result.status ≡ Status.DeviceFault → sink.new ≡ sink.old }
     ensures filter { result.remote ≡ remote }
+    ensures unexplained { result.explanation ≡ None }
 {
     let played = report(alloc, text, events, sink, disk, ScriptActor::new(alloc));
     Finish {
         status: played.status,
         disk: played.disk,
         remote,
+        explanation: None,
     }
 }

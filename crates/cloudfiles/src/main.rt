@@ -39,7 +39,7 @@ fn ended(rt: &HostRuntime, status: Status) -> ExitCode {
     if status == Status::Usage {
         // That it cannot be written changes nothing.
         let _ = eprintln!(rt;
-            "cloudfiles: expected replay, filter, state, image, scrub, migrate, or gen and a number"
+            "cloudfiles: expected replay, filter, state, image, scrub, migrate, check, or gen and a number"
         );
     }
     ExitCode::from(status.number())
@@ -56,5 +56,8 @@ fn main(rt: HostRuntime) -> ExitCode {
     let mut source = StdSource::new(rt.reader());
     let mut sink = StdSink::new(io::writer(&rt));
     let finish = run(rt.alloc(), &words, &mut source, &mut sink, disk, remote);
+    if let Some(explanation) = &finish.explanation {
+        let _ = eprintln!(rt; "cloudfiles: {explanation}");
+    }
     ended(&rt, finish.status)
 }

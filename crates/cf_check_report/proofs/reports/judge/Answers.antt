@@ -13,16 +13,20 @@ returns-in-Ok-Wrong g c =
     let i = c.loop-event.event-index in
     let all = c.args.events.now in
     let at = subst (λ (es : List Event). Follows g.D.Device.stands all c.args.report.now c.args.clusters i es c.loop-event.rest.now c.loop-event.judge) (rest_is all i c.event-item.result c.event-item.is c.loop-event-test.true) c.loop-event.invariant.0 in
+    rw c.unlawful.ensures (
     judged_wrong g.D.Device.stands all c.args.report.now c.args.clusters i c.loop-event.done (drop (i + 1) all) c.loop-event.rest.now c.judge-next.result.0 c.judge-next.result.1 c.in-Ok-Wrong.field-0 c.in-Ok-Wrong.is (rw c.in-Ok-Wrong.is at c.in-Ok-Wrong.field-0-is) c.loop-event.invariant.1
     (c.judge-next.ensures all (drop (i + 1) all) c.args.report.now c.args.clusters i c.requires.report at)
+    )
 
 pub returns-in-Ok-Open : goal.returns-in-Ok-Open
 returns-in-Ok-Open g c =
     let i = c.loop-event.event-index in
     let all = c.args.events.now in
     let at = subst (λ (es : List Event). Follows g.D.Device.stands all c.args.report.now c.args.clusters i es c.loop-event.rest.now c.loop-event.judge) (rest_is all i c.event-item.result c.event-item.is c.loop-event-test.true) c.loop-event.invariant.0 in
+    rw c.plain.ensures (
     judged_open g.D.Device.stands all c.args.report.now c.args.clusters i c.loop-event.done (drop (i + 1) all) c.loop-event.rest.now c.judge-next.result.0 c.judge-next.result.1 c.in-Ok-Open.field-0 c.in-Ok-Open.is (rw c.in-Ok-Open.is at c.in-Ok-Open.field-0-is) c.loop-event.invariant.1
     (c.judge-next.ensures all (drop (i + 1) all) c.args.report.now c.args.clusters i c.requires.report at)
+    )
 
 pub loop-event-preserved : goal.loop-event-preserved
 loop-event-preserved g c =
