@@ -1,7 +1,6 @@
 -- Items that form a tree are orderly: each is found by its id, and leads up to the root.
 use Rattle.std.proofs.Common.{◌≡◌, ℕ, zero, suc, ◌+◌, ◌≤◌, Bool, true, false, cond, List, [], ◌∷◌, eqb, refl, sym, subst, arith}
 use Rattle.std.specs.Prelude.{Some}
-use Rattle.std.specs.List.{list_all}
 use Rattle.std.proofs.lemmas.Bool.{cond-true, eq-eqb, eqb-false, ne_eqb}
 use Rattle.cf_base.specs.declared.ids.ItemId.{ItemId}
 use Rattle.cf_model.specs.Items.{Item, item_of}
@@ -14,8 +13,9 @@ use Rattle.cf_model_laws.proofs.SoundSettles.{same_item}
 use Rattle.cf_model_laws.specs.Invariant.{All}
 use Rattle.cf_model_convergence.specs.Trees as trees
 use Rattle.cf_model_convergence.specs.Trees.{AreTrees, Climbs}
+use Rattle.cf_pair_identities.specs.Named.{AreNamed}
 use Rattle.cf_pair_paths.proofs.ApartRows.{apart}
-use Rattle.cf_pair_settled.specs.Settled.{IsOrderly, is_spelled}
+use Rattle.cf_pair_settled.specs.Settled.{IsOrderly}
 use Rattle.cf_table.specs.Tables.{MeansAll}
 use Rattle.cf_table.specs.declared.rows.Row.{Row}
 use Rattle.cf_tree.proofs.Depths.{some_of}
@@ -80,11 +80,11 @@ all_plain : (items : List Item) → AllSound items → All (λ i. i.placeholder 
 all_plain [] h = tt
 all_plain (i ∷ is) h = ((λ e. (h.0.plain e).0), all_plain is h.1)
 
-pub orderly : (rows : List Row) (s : State) → MeansAll rows (items_now s) → IsTree (items_now s) → AreOpen (items_now s) → HaveNames rows → AllSound (items_now s) → list_all is_spelled (items_now s) ≡ true → IsOrderly s
-orderly rows s m t o names sound spelled = record {
+pub orderly : (rows : List Row) (s : State) → MeansAll rows (items_now s) → IsTree (items_now s) → AreOpen (items_now s) → HaveNames rows → AllSound (items_now s) → AreNamed false (items_now s) → IsOrderly s
+orderly rows s m t o names sound named = record {
   found = found (items_now s) t;
   trees = are_trees (items_now s) t;
   apart = apart rows s m t o names;
   plain = all_plain (items_now s) sound;
-  spelled = spelled;
+  named = named;
 }

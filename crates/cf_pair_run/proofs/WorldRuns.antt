@@ -15,6 +15,7 @@ use Rattle.cf_model.specs.State.{State}
 use Rattle.cf_model.specs.Store.{Held}
 use Rattle.cf_pair_events.specs.declared.answers.PairAnswer.{PairAnswer}
 use Rattle.cf_pair_events.specs.declared.events.PairEvent.{PairEvent}
+use Rattle.cf_pair_identities.proofs.PairsNamed.{start_pair_named}
 use Rattle.cf_pair_model.specs.declared.devices.Device.{Device}
 use Rattle.cf_pair_model.specs.declared.devices.Device.TheVariants as device
 use Rattle.cf_pair_run.proofs.Agreed.{promised}
@@ -90,7 +91,7 @@ module _ {D R : Type 0} (state : D → Disk) (told : R → Told) (first second :
 
   -- what a world has done is lawful
   pub run_lawful : (trace : List (PairEvent × PairAnswer)) (w : PairWorld D R) → HasRun state told first second remote trace w → IsLawful state told first second remote trace
-  run_lawful trace w h = λ held is. let r = h held is in (r.left, over_runs None None (began held) r.left trace r.first_powers r.second_powers r.runs)
+  run_lawful trace w h = λ held is. let r = h held is in (r.left, over_runs false None None (began held) r.left trace r.first_powers r.second_powers r.runs)
 
   -- of the world
 
@@ -106,7 +107,8 @@ module _ {D R : Type 0} (state : D → Disk) (told : R → Told) (first second :
         first_told = s.first_then.told;
         second_told = s.second_then.told;
         runs =
-            over_push None None (began held) r.left s.left trace r.first_powers r.second_powers s.first_owns.powers s.second_owns.powers e a s.first_then.last s.second_then.last r.runs (s.step, s.settled)
+            over_push false None None (began held) r.left s.left trace r.first_powers r.second_powers s.first_owns.powers s.second_owns.powers e a s.first_then.last s.second_then.last
+            (λ _. start_pair_named false held (clusters_on (state first).seen) (clusters_on (state second).seen)) r.runs s.step s.settled
             s.first_owns.power s.second_owns.power;
         first_led =
             subst (λ (xs : List (Event × Answer)). LedDisk (state first) (state (disk_of new.first)) s.first_then.told (r.first_powers ++ s.first_owns.powers) xs) (sym (events_push device.First trace e a))
@@ -161,5 +163,5 @@ module _ {D R : Type 0} (state : D → Disk) (told : R → Told) (first second :
         second_leaves = leaves state second (disk_of w.second) b r.second_told r.second_powers (events_by device.Second trace) r.left.second two (says x y r.left r.shares) (rests x y r.left r.shares) r.second_led;
         faulted = subst (λ (z : R). RoseBy (faults_by trace) (told remote).faults (told z).faults) (sym same) r.faulted;
         holds = subst (λ (z : R). IsHeld (told z).held r.left.held) (sym same) r.shares.held;
-        promised = promised (began held) trace r.left (over_runs None None (began held) r.left trace r.first_powers r.second_powers r.runs);
+        promised = promised (began held) trace r.left (over_runs false None None (began held) r.left trace r.first_powers r.second_powers r.runs);
       }

@@ -1,5 +1,5 @@
 -- What a trace of two devices leaves of their disks and of the remote.
-use Rattle.std.specs.Prelude.{◌≡◌, ◌≤◌, ◌+◌, ℕ, false, List, [], ◌∷◌, Option, Some, None, cond}
+use Rattle.std.specs.Prelude.{◌≡◌, ◌≤◌, ◌+◌, ◌||◌, ℕ, Bool, false, List, [], ◌∷◌, Option, Some, None, cond}
 use Rattle.cf_base.specs.declared.answers.Answer.{Answer}
 use Rattle.cf_base.specs.declared.events.Event.{Event}
 use Rattle.cf_base.specs.declared.policies.Choice.{Choice}
@@ -19,6 +19,7 @@ use Rattle.cf_pair_events.specs.declared.answers.PairAnswer.{PairAnswer}
 use Rattle.cf_pair_events.specs.declared.answers.PairAnswer.TheVariants as answer
 use Rattle.cf_pair_events.specs.declared.comparisons.Comparison.TheVariants as comparison
 use Rattle.cf_pair_events.specs.declared.events.PairEvent.{PairEvent}
+use Rattle.cf_pair_identities.specs.NamedPairs.{either_stands_full}
 use Rattle.cf_pair_model.specs.declared.devices.Device.{Device}
 use Rattle.cf_pair_model.specs.declared.devices.Device.TheVariants as device
 use Rattle.cf_pair_settled.specs.Settled.{SaysEqual}
@@ -46,13 +47,14 @@ abbrev pub faults_by : List (PairEvent × PairAnswer) → ℕ
 faults_by [] = 0
 faults_by (x ∷ xs) = faults_of x.1 + faults_by xs
 
--- As PairRuns, and a comparison of settled devices says equal. Besides, each device has one power cut of its disk for each of its
--- crashes, with its choice and in order, and each `resumed` of it opens what the image that the last of them left stands for.
-abbrev pub RunsOver : Option (List ℕ) → Option (List ℕ) → Pair → List (PairEvent × PairAnswer) → List (Choice × List ℕ) → List (Choice × List ℕ) → Pair → Type 0
-RunsOver a b p [] cuts more q = (q ≡ p) × (cuts ≡ []) × (more ≡ [])
-RunsOver a b p (x ∷ xs) cuts more q =
+-- As PairRuns, and where both devices are settled a comparison says equal, if no policy of FULL population stood for one of them so far.
+-- Besides, each device has one power cut of its disk for each of its crashes, with its choice and in order, and each `resumed` of it opens
+-- what the image that the last of them left stands for.
+abbrev pub RunsOver : Bool → Option (List ℕ) → Option (List ℕ) → Pair → List (PairEvent × PairAnswer) → List (Choice × List ℕ) → List (Choice × List ℕ) → Pair → Type 0
+RunsOver full a b p [] cuts more q = (q ≡ p) × (cuts ≡ []) × (more ≡ [])
+RunsOver full a b p (x ∷ xs) cuts more q =
     (mid : Pair) × (c : Option (List ℕ)) × (d : Option (List ℕ)) × (rest : List (Choice × List ℕ)) × (others : List (Choice × List ℕ))
-    × (IsPairStep p x.0 x.1 mid × SaysEqual x.1 p) × PowerBy a (own device.First x.0 x.1) mid.first cuts c rest × PowerBy b (own device.Second x.0 x.1) mid.second more d others × RunsOver c d mid xs rest others q
+    × (IsPairStep p x.0 x.1 mid × ((full || either_stands_full p) ≡ false → SaysEqual x.1 p)) × PowerBy a (own device.First x.0 x.1) mid.first cuts c rest × PowerBy b (own device.Second x.0 x.1) mid.second more d others × RunsOver (full || either_stands_full p) c d mid xs rest others q
 
 -- what two devices have where a comparison says equal
 
@@ -94,7 +96,7 @@ pub record LeadsWorld {D R : Type 0} (state : D → Disk) (told : R → Told) (h
   pub second_powers : List (Choice × List ℕ)
   pub first_told : Option (List (Choice × List ℕ))
   pub second_told : Option (List (Choice × List ℕ))
-  pub runs : RunsOver None None (start_pair held (clusters_on (state first).seen) (clusters_on (state second).seen)) trace first_powers second_powers left
+  pub runs : RunsOver false None None (start_pair held (clusters_on (state first).seen) (clusters_on (state second).seen)) trace first_powers second_powers left
   pub first_led : LedDisk (state first) (state (disk_of w.first)) first_told first_powers (events_by device.First trace)
   pub second_led : LedDisk (state second) (state (disk_of w.second)) second_told second_powers (events_by device.Second trace)
   pub faulted : RoseBy (faults_by trace) (told remote).faults (told w.remote).faults
@@ -120,7 +122,7 @@ pub record LeadsPair {D R : Type 0} (state : D → Disk) (told : R → Told) (he
   pub left : Pair
   pub first_powers : List (Choice × List ℕ)
   pub second_powers : List (Choice × List ℕ)
-  pub runs : RunsOver None None (start_pair held (clusters_on (state first).seen) (clusters_on (state second).seen)) trace first_powers second_powers left
+  pub runs : RunsOver false None None (start_pair held (clusters_on (state first).seen) (clusters_on (state second).seen)) trace first_powers second_powers left
   pub first_leaves : LeavesDisk (state first) (state first_back) first_powers (events_by device.First trace) left.first
   pub second_leaves : LeavesDisk (state second) (state second_back) second_powers (events_by device.Second trace) left.second
   pub faulted : RoseBy (faults_by trace) (told remote).faults (told after).faults

@@ -2,10 +2,11 @@
 //!
 //! `run_pair` promises that at Done it added to the sink the texts of lawful answers, one for each event of the source's whole text:
 //! one remote state runs through them, and what each device does is lawful with it. A comparison of devices that are settled on the
-//! remote says equal. Each disk had one power cut for each crash of its device, and whatever a crash leaves of it then stands for a
-//! point that a restart may open. Where the sink failed or the report is too long it promises the same of the events that were done;
-//! and it names the cause of each status but Done. What a lawful answer is, `cf_pair_traces` says; when devices are settled,
-//! `cf_pair_settled`; what a run leaves, `specs/Led.antt`; what it writes, `specs/Runs.antt`.
+//! remote says equal, where no policy of FULL population stood so far. Each disk had one power cut for each crash of its device, and
+//! whatever a crash leaves of it then stands for a point that a restart may open. Where the sink failed or the report is too long it
+//! promises the same of the events that were done; and it names the cause of each status but Done. What a lawful answer is,
+//! `cf_pair_traces` says; when devices are settled, `cf_pair_settled`; what a run leaves, `specs/Led.antt`; what it writes,
+//! `specs/Runs.antt`.
 #![tactic(auto)]
 
 mod plays;

@@ -1,4 +1,5 @@
 pub mod Agreement
+pub mod Identities
 pub mod Paths
 pub mod Twins
 pub mod SettledRows

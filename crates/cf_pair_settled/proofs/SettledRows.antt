@@ -125,7 +125,7 @@ contents_equal s t path i j same o q ours theirs on ri rj di dj =
 
 -- it is so whatever the remote holds
 facing_orderly : (held : Held) (s : State) → IsOrderly s → IsOrderly (facing held s)
-facing_orderly held s o = record { found = o.found; trees = o.trees; apart = o.apart; plain = o.plain; spelled = o.spelled }
+facing_orderly held s o = record { found = o.found; trees = o.trees; apart = o.apart; plain = o.plain; named = o.named }
 
 module _ (p : Pair) (o : IsOrderly p.first) (q : IsOrderly p.second) where
   first_orderly : IsOrderly (facing p.held p.first)
@@ -138,4 +138,4 @@ module _ (p : Pair) (o : IsOrderly p.first) (q : IsOrderly p.second) where
   pair_says_equal settled on = says_equal (facing p.held p.first) (facing (held_seen device.Second p.held) p.second) refl first_orderly second_orderly settled.0 settled.1 on
 
   pub pair_says_only : (c : Comparison) → Compares p.first p.second c → SaysEqual (answer.Comparison c) p
-  pair_says_only c h = λ settled spelled on. says_only_equal (facing p.held p.first) (facing (held_seen device.Second p.held) p.second) c refl first_orderly second_orderly settled.0 settled.1 on h
+  pair_says_only c h = λ settled on. says_only_equal (facing p.held p.first) (facing (held_seen device.Second p.held) p.second) c refl first_orderly second_orderly settled.0 settled.1 on h

@@ -1,5 +1,5 @@
 -- Each item of a settled device has one like it at another that is settled on the same remote.
-use Rattle.std.proofs.Common.{◌≡◌, inl, inr, ℕ, Bool, true, false, List, [], ◌∷◌, ◌++◌, refl, sym, ◌∙◌, ap, subst, length, eq-eqb}
+use Rattle.std.proofs.Common.{◌≡◌, inl, inr, ℕ, Bool, true, false, List, [], ◌∷◌, refl, sym, ◌∙◌, ap, subst, length, eq-eqb}
 use Rattle.std.specs.Prelude.{Option, Some, cond, count_by, filter, nat_lt, not, take, ◌&&◌, ◌||◌, ◌==◌}
 use Rattle.std.specs.List.{list_all}
 use Rattle.std.proofs.lemmas.Bool.{eqb-true}
@@ -14,7 +14,7 @@ use Rattle.cf_model.specs.Settled.{has_one_local, is_alike, is_latest, is_settle
 use Rattle.cf_model.specs.Skips.{in_use}
 use Rattle.cf_model.specs.State.{State, book_now, items_now}
 use Rattle.cf_model.specs.Store.{Stored, latest, stored_at}
-use Rattle.cf_model.specs.Words.{in_bytes, is_empty, number_of, same, says}
+use Rattle.cf_model.specs.Words.{is_empty, number_of, says}
 use Rattle.std.specs.Bool.{beq}
 use Rattle.cf_model_laws.specs.Invariant.{All, Among}
 use Rattle.cf_model_laws.proofs.Gathered.{all_found}
@@ -27,16 +27,13 @@ use Rattle.cf_model_convergence.proofs.KnownByTests.{neither, second}
 use Rattle.cf_model_convergence.proofs.Lines.{one_some, same_rid}
 use Rattle.cf_model_convergence.proofs.SettledBytes.{settled_like}
 use Rattle.cf_model_convergence.proofs.SettledItems.{passed}
-use Rattle.cf_model_convergence.proofs.TakenKnown.{same_is}
 use Rattle.cf_model_convergence.proofs.TidyItems.{found_rid}
-use Rattle.cf_pair_settled.specs.Settled.{IsOrderly, has_no_base, is_filled, is_free, is_settled_whole, is_spelled}
+use Rattle.cf_pair_identities.proofs.NamedKinds.{not_so}
+use Rattle.cf_pair_settled.specs.Settled.{IsOrderly, is_free, is_settled_whole}
+use Rattle.cf_pair_settled.proofs.Identities.{IsSpelled, spelled, targeted}
 use Rattle.cf_pair_settled.proofs.Paths.{no_names, same_list}
 
 -- tests
-
-not_so : (b : Bool) → not b ≡ true → b ≡ false
-not_so false e = refl
-not_so true e = no_way e
 
 -- one of the members passes
 one_passes : {A : Type 0} (f : A → Bool) (xs : List A) → length (filter f xs) ≡ 1 → (x : A) × Among x xs × (f x ≡ true)
@@ -47,37 +44,6 @@ one_passes f (x ∷ xs) e = by (f x) refl e (one_passes f xs) where
   by : (b : Bool) → f x ≡ b → length (cond b (x ∷ filter f xs) (filter f xs)) ≡ 1 → (length (filter f xs) ≡ 1 → (y : _) × Among y xs × (f y ≡ true)) → (y : _) × Among y (x ∷ xs) × (f y ≡ true)
   by true q z k = (x, inl refl, q)
   by false q z k = let y = k z in (y.0, inr y.1, y.2)
-
--- identities
-
-abbrev pub spelled : ℕ → ℕ → ℕ → List ℕ
-spelled a b c = in_bytes 8 a ++ in_bytes 8 b ++ in_bytes 8 c
-
-pub record IsSpelled (i : Item) : Type 0 where
-  pub placeholder : i.placeholder ≡ true
-  pub identity : i.identity ≡ identity_of (target_of i) (base_rid i) (base_version i)
-  pub bare : i.directory ≡ true → ((base_rid i).0 ≡ 0) × ((base_version i).0 ≡ 0)
-
--- an item with a target is a placeholder with its identity
-targeted : (i : Item) → (i.id.0 ≡ 1 → ⊥) → (i.placeholder ≡ false → i.identity ≡ []) → is_spelled i ≡ true → nat_lt 0 (target_of i).0 ≡ true → IsSpelled i
-targeted i below plain e some = by i.placeholder refl e where
-  no_target : i.identity ≡ [] → (target_of i).0 ≡ 0
-  no_target z = one (i.id.0 == 1) refl where
-    one : (b : Bool) → (i.id.0 == 1) ≡ b → (target_of i).0 ≡ 0
-    one true q = absurd (below (eqb-true i.id.0 1 q))
-    one false q = ap (λ (b : Bool). (cond {A = Rid} b (record { 0 = 1 }) (record { 0 = number_of (take 8 i.identity) })).0) q ∙ ap (λ (xs : List ℕ). number_of (take 8 xs)) z
-
-  based : (d : Bool) → (not d || has_no_base i) ≡ true → d ≡ true → ((base_rid i).0 ≡ 0) × ((base_version i).0 ≡ 0)
-  based false q z = no_way z
-  based true q z = (eqb-true (base_rid i).0 0 (left_true ((base_rid i).0 == 0) ((base_version i).0 == 0) q), eqb-true (base_version i).0 0 (right_true ((base_rid i).0 == 0) ((base_version i).0 == 0) q))
-
-  by : (b : Bool) → i.placeholder ≡ b → (not b || (same i.identity (identity_of (target_of i) (base_rid i) (base_version i)) && (not i.directory || has_no_base i))) ≡ true → IsSpelled i
-  by true p q = record {
-    placeholder = p;
-    identity = same_is i.identity (identity_of (target_of i) (base_rid i) (base_version i)) (left_true (same i.identity (identity_of (target_of i) (base_rid i) (base_version i))) (not i.directory || has_no_base i) q);
-    bare = based i.directory (right_true (same i.identity (identity_of (target_of i) (base_rid i) (base_version i))) (not i.directory || has_no_base i) q);
-  }
-  by false p q = no_way (sym (ap (λ (n : ℕ). nat_lt 0 n) (no_target (plain p))) ∙ some)
 
 -- What stands for an item of the remote: its path, its kind and its identity are fixed by that.
 pub record Shows (s : State) (r : Stored) (i : Item) : Type 0 where
@@ -91,7 +57,7 @@ pub record Shows (s : State) (r : Stored) (i : Item) : Type 0 where
 
 module _ (s : State) (o : IsOrderly s) (whole : is_settled_whole s ≡ true) where
   settled : is_settled true s ≡ true
-  settled = left_true (is_settled true s) (list_all (is_free s) (items_now s)) (left_true (is_settled true s && list_all (is_free s) (items_now s)) (list_all is_filled (items_now s)) whole)
+  settled = left_true (is_settled true s) (list_all (is_free s) (items_now s)) whole
 
   front : (is_empty (book_now s).tombstones && list_all (is_settled_item s) (items_now s)) ≡ true
   front = left_true (is_empty (book_now s).tombstones && list_all (is_settled_item s) (items_now s)) (not true || list_all (has_one_local s) s.link.remote.items) settled
@@ -109,7 +75,7 @@ module _ (s : State) (o : IsOrderly s) (whole : is_settled_whole s ≡ true) whe
   Stands i = item_of (items_now s) i.id ≡ Some i
 
   free : (i : Item) → Stands i → is_free s i ≡ true
-  free i there = (all_found (λ j. is_free s j ≡ true) (λ j. j.id.0 == i.id.0) (items_now s) i there (passed (is_free s) (items_now s) (right_true (is_settled true s) (list_all (is_free s) (items_now s)) (left_true (is_settled true s && list_all (is_free s) (items_now s)) (list_all is_filled (items_now s)) whole)))).0
+  free i there = (all_found (λ j. is_free s j ≡ true) (λ j. j.id.0 == i.id.0) (items_now s) i there (passed (is_free s) (items_now s) (right_true (is_settled true s) (list_all (is_free s) (items_now s)) whole))).0
 
   not_excluded : (i : Item) → Stands i → is_excluded (items_now s) i.id ≡ false
   not_excluded i there = not_so (is_excluded (items_now s) i.id) (left_true (not (is_excluded (items_now s) i.id)) (not (in_use s i.id)) (free i there))
@@ -118,13 +84,10 @@ module _ (s : State) (o : IsOrderly s) (whole : is_settled_whole s ≡ true) whe
   not_in_use i there = not_so (in_use s i.id) (right_true (not (is_excluded (items_now s) i.id)) (not (in_use s i.id)) (free i there))
 
   full : (i : Item) → Stands i → i.directory ≡ true → i.populated ≡ true
-  full i there dir = second (not i.directory) i.populated ((all_found (λ j. is_filled j ≡ true) (λ j. j.id.0 == i.id.0) (items_now s) i there (passed is_filled (items_now s) (right_true (is_settled true s && list_all (is_free s) (items_now s)) (list_all is_filled (items_now s)) whole))).0) (λ z. no_way (sym (ap (λ (b : Bool). not b) dir) ∙ z))
+  full i there dir = (o.named i.id i there).filled refl dir
 
   is_plain : (i : Item) → Stands i → i.placeholder ≡ false → i.identity ≡ []
   is_plain i there = (all_found (λ j. j.placeholder ≡ false → j.identity ≡ []) (λ j. j.id.0 == i.id.0) (items_now s) i there o.plain).0
-
-  own_spelled : (i : Item) → Stands i → is_spelled i ≡ true
-  own_spelled i there = (all_found (λ j. is_spelled j ≡ true) (λ j. j.id.0 == i.id.0) (items_now s) i there (passed is_spelled (items_now s) o.spelled)).0
 
   pub like : (i : Item) → IsBelow s i → IsLikeTarget s i
   like i below = settled_like s i settled_here below (not_excluded i below.0) (not_in_use i below.0)
@@ -159,7 +122,7 @@ module _ (s : State) (o : IsOrderly s) (whole : is_settled_whole s ≡ true) whe
     r = (like i below).stored
 
     sp : IsSpelled i
-    sp = targeted i below.1 (is_plain i below.0) (own_spelled i below.0) some
+    sp = targeted i below.1 (is_plain i below.0) (o.named i.id i below.0).identity some
 
     target : (target_of i).0 ≡ r.rid.0
     target = sym (found_rid s.link.remote.items (target_of i) r (like i below).found)

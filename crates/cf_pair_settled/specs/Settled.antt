@@ -1,18 +1,17 @@
 -- When a device is settled as a whole, and what else its state has.
-use Rattle.std.specs.Prelude.{◌≡◌, ◌&&◌, ◌||◌, ◌==◌, Bool, true, false, not, [], None, Some}
+use Rattle.std.specs.Prelude.{◌≡◌, ◌&&◌, Bool, true, false, not, [], None, Some}
 use Rattle.std.specs.List.{list_all}
-use Rattle.cf_model.specs.Identities.{base_rid, base_version, identity_of, target_of}
 use Rattle.cf_model.specs.Items.{Item, item_of}
 use Rattle.cf_model.specs.LookUp.{is_excluded}
 use Rattle.cf_model.specs.Settled.{is_settled}
 use Rattle.cf_model.specs.Skips.{in_use}
 use Rattle.cf_model.specs.State.{State, items_now}
-use Rattle.cf_model.specs.Words.{same}
 use Rattle.cf_model_convergence.specs.Trees.{AreTrees}
 use Rattle.cf_model_laws.specs.Invariant.{All}
 use Rattle.cf_pair_events.specs.declared.answers.PairAnswer.{PairAnswer}
 use Rattle.cf_pair_events.specs.declared.answers.PairAnswer.TheVariants as answer
 use Rattle.cf_pair_events.specs.declared.comparisons.Comparison.TheVariants as comparison
+use Rattle.cf_pair_identities.specs.Named.{AreNamed}
 use Rattle.cf_pair_model.specs.Seen.{held_seen}
 use Rattle.cf_pair_model.specs.declared.devices.Device.{Device}
 use Rattle.cf_pair_model.specs.declared.devices.Device.TheVariants as device
@@ -23,14 +22,9 @@ use Rattle.cf_pair_trees.specs.Trees.{AreApart}
 abbrev pub is_free : State → Item → Bool
 is_free s i = not (is_excluded (items_now s) i.id) && not (in_use s i.id)
 
--- the entries of a directory have come
-abbrev pub is_filled : Item → Bool
-is_filled i = not i.directory || i.populated
-
--- Settled, with each live item of the remote here. No item is excluded or in use, and no directory waits for its entries, as it is where
--- the population is always full.
+-- Settled, with each live item of the remote here, as it is where the population is always full; and no item is excluded or in use.
 abbrev pub is_settled_whole : State → Bool
-is_settled_whole s = is_settled true s && list_all (is_free s) (items_now s) && list_all is_filled (items_now s)
+is_settled_whole s = is_settled true s && list_all (is_free s) (items_now s)
 
 -- so is the device on the remote that it shares, as it sees it now
 abbrev pub is_settled_on : Device → Pair → Bool
@@ -40,26 +34,16 @@ is_settled_on d p = is_settled_whole (facing (held_seen d p.held) (state_of d p)
 abbrev pub AreSettled : Pair → Type 0
 AreSettled p = (is_settled_on device.First p ≡ true) × (is_settled_on device.Second p ≡ true)
 
--- a directory has no base
-abbrev pub has_no_base : Item → Bool
-has_no_base i = ((base_rid i).0 == 0) && ((base_version i).0 == 0)
-
--- the identity of a placeholder is spelled as the engine spells it, in 24 bytes
-abbrev pub is_spelled : Item → Bool
-is_spelled i = not i.placeholder || (same i.identity (identity_of (target_of i) (base_rid i) (base_version i)) && (not i.directory || has_no_base i))
-
-abbrev pub AreSpelled : Pair → Type 0
-AreSpelled p = (list_all is_spelled (items_now p.first) ≡ true) × (list_all is_spelled (items_now p.second) ≡ true)
-
--- A comparison says equal where both devices are settled, identities are spelled so, and no device is off or broken.
+-- A comparison says equal where both devices are settled, and no device is off or broken.
 abbrev pub SaysEqual : PairAnswer → Pair → Type 0
 SaysEqual (answer.Event a) p = Unit {0}
-SaysEqual (answer.Comparison c) p = AreSettled p → AreSpelled p → no_comparison p.first.power p.second.power ≡ None → c ≡ comparison.Equal
+SaysEqual (answer.Comparison c) p = AreSettled p → no_comparison p.first.power p.second.power ≡ None → c ≡ comparison.Equal
 
--- Each item is found by its id, items are trees, no path stands twice, and identities are spelled. An item that is no placeholder has none.
+-- Each item is found by its id, items are trees, no path stands twice, identities are spelled as an engine spells them, and the entries
+-- of each directory have come. An item that is no placeholder has no identity.
 pub record IsOrderly (s : State) : Type 0 where
   pub found : All (λ i. item_of (items_now s) i.id ≡ Some i) (items_now s)
   pub trees : AreTrees (items_now s)
   pub apart : AreApart (path_rows s)
   pub plain : All (λ i. i.placeholder ≡ false → i.identity ≡ []) (items_now s)
-  pub spelled : list_all is_spelled (items_now s) ≡ true
+  pub named : AreNamed false (items_now s)

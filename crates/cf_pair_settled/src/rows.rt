@@ -1,11 +1,9 @@
 //! Worked rows: what two devices leave once both have synced.
 
 ghost use Rattle.std.specs.Prelude.{◌≡◌, true, false, ◌++◌};
-ghost use Rattle.std.specs.List.{list_all};
-ghost use Rattle.cf_model.specs.State.{items_now};
 ghost use Rattle.cf_pair_model.specs.declared.devices.Device.TheVariants as device;
 ghost use Rattle.cf_pair_rows.specs.Scripts.{alike, conflict, left_by, new_d, new_file};
-ghost use Rattle.cf_pair_settled.specs.Settled.{is_spelled, is_settled_on};
+ghost use Rattle.cf_pair_settled.specs.Settled.{is_settled_on};
 
 /// A new directory of one device leaves that one unsettled; once both have synced both are settled as a whole.
 pub fn both_are_settled_once_both_have_synced()
@@ -18,11 +16,4 @@ pub fn both_are_settled_once_both_have_synced()
 pub fn both_are_settled_after_a_conflict()
     ensures first { is_settled_on device.First (left_by conflict) ≡ true }
     ensures second { is_settled_on device.Second (left_by conflict) ≡ true }
-{}
-
-/// And identities are spelled as the engine spells them, also before the syncs.
-pub fn identities_are_spelled()
-    ensures before { list_all is_spelled (items_now (left_by (new_file ++ new_d)).second) ≡ true }
-    ensures first { list_all is_spelled (items_now (left_by conflict).first) ≡ true }
-    ensures second { list_all is_spelled (items_now (left_by conflict).second) ≡ true }
 {}

@@ -1,7 +1,6 @@
 -- What two open volumes have at their paths, and the comparison of that.
 use Rattle.std.proofs.Common.{◌≡◌, Bool, true, false, List, eqb, refl, sym, ap, subst, ◌∙◌}
 use Rattle.std.specs.Prelude.{Option, Some, None, Result, IfOk}
-use Rattle.std.specs.List.{list_all}
 use Rattle.std.proofs.lemmas.Result.{IfOk-weaker}
 use Rattle.cf_base.specs.Names as base
 use Rattle.cf_base.specs.declared.ids.ItemId.{ItemId}
@@ -24,11 +23,13 @@ use Rattle.cf_pair_compare.specs.declared.path_rows.PathRow.{PathRow}
 use Rattle.cf_pair_events.specs.declared.answers.PairAnswer.TheVariants as answer
 use Rattle.cf_pair_events.specs.declared.comparisons.Comparison.{Comparison}
 use Rattle.cf_pair_events.specs.declared.comparisons.Comparison.TheVariants as comparison
+use Rattle.cf_pair_identities.specs.Named.{AreNamed}
+use Rattle.cf_pair_identities.specs.NamedPairs.{HasNamed}
 use Rattle.cf_pair_lane.specs.declared.absences.Away.{Away}
 use Rattle.cf_pair_paths.proofs.ApartRows.{apart}
 use Rattle.cf_pair_paths.proofs.OrderlyTrees.{orderly}
 use Rattle.cf_pair_settled.proofs.SettledRows.{pair_says_only}
-use Rattle.cf_pair_settled.specs.Settled.{IsOrderly, SaysEqual, is_spelled}
+use Rattle.cf_pair_settled.specs.Settled.{IsOrderly, SaysEqual}
 use Rattle.cf_pair_traces.specs.Pairs.{Compares, ComparesBy, Pair, no_comparison, path_rows}
 use Rattle.cf_pair_trees.specs.Trees.{AreApart, IsComparison}
 use Rattle.cf_pair_world.specs.Sharing.{resting}
@@ -51,7 +52,7 @@ pub record IsWhole {D : Type 0} (x : Run D (Syncing Away)) (s : State) : Type 0 
   pub on : s.power ≡ On
   pub rows : MeansAll x.filter.known.table.rows (items_now s)
   pub apart : AreApart (path_rows s)
-  pub orderly : list_all is_spelled (items_now s) ≡ true → IsOrderly s
+  pub orderly : AreNamed false (items_now s) → IsOrderly s
 
 pub whole : {D : Type 0} (state : D → Disk) (past : Past) (x : Run D (Syncing Away)) (s : State) → x.filter.desk.broken ≡ false → IsOn resting state past x s → IsWhole x s
 whole state past x s sound h =
@@ -98,16 +99,16 @@ on_not_off : (p : Power) → p ≡ On → p ≡ Off → ⊥
 on_not_off p e f = let z : On ≡ Off = sym e ∙ f in cc
 
 -- the state of a device that is on
-on_orderly : {D : Type 0} (state : D → Disk) (past : Past) (x : Acting D (Syncing Away)) (s : State) → Is resting state past x s → s.power ≡ On → list_all is_spelled (items_now s) ≡ true → IsOrderly s
-on_orderly state past (acting.Off x) s h on spelled = absurd (on_not_off s.power on h.power)
-on_orderly state past (acting.On x) s h on spelled = by x.filter.desk.broken refl where
+on_orderly : {D : Type 0} (state : D → Disk) (past : Past) (x : Acting D (Syncing Away)) (s : State) → Is resting state past x s → s.power ≡ On → AreNamed false (items_now s) → IsOrderly s
+on_orderly state past (acting.Off x) s h on named = absurd (on_not_off s.power on h.power)
+on_orderly state past (acting.On x) s h on named = by x.filter.desk.broken refl where
   by : (b : Bool) → x.filter.desk.broken ≡ b → IsOrderly s
-  by false e = (whole state past x s e h).orderly spelled
+  by false e = (whole state past x s e h).orderly named
   by true e =
       let broken : OnBy resting state true x s = subst (λ (b : Bool). OnBy resting state b x s) e h.is in
       absurd (on_not_broken s.power on broken.0)
 
-pub says_equal : {D : Type 0} (state : D → Disk) (first second : Past) (x y : Acting D (Syncing Away)) (p : Pair) (c : Comparison) → Is resting state first x p.first → Is resting state second y p.second → Compares p.first p.second c → SaysEqual (answer.Comparison c) p
-says_equal state first second x y p c ours theirs compares = λ settled spelled on.
+pub says_equal : {D : Type 0} (state : D → Disk) (first second : Past) (x y : Acting D (Syncing Away)) (p : Pair) (c : Comparison) → Is resting state first x p.first → Is resting state second y p.second → Compares p.first p.second c → HasNamed false p → SaysEqual (answer.Comparison c) p
+says_equal state first second x y p c ours theirs compares = λ named settled on.
     let power = both_on p.first.power p.second.power on in
-    pair_says_only p (on_orderly state first x p.first ours power.0 spelled.0) (on_orderly state second y p.second theirs power.1 spelled.1) c compares settled spelled on
+    pair_says_only p (on_orderly state first x p.first ours power.0 named.0) (on_orderly state second y p.second theirs power.1 named.1) c compares settled on

@@ -59,7 +59,7 @@ module _ {D R : Type 0} (state : D → Disk) (told : R → Told) (old : PairWorl
         first_then = t.then;
         second_then = second;
         step = (of, t.left, t.step, refl);
-        settled = record {};
+        settled = λ named. record {};
         shares = record {
           first_is = t.is;
           second_is = h.second_is;
@@ -88,7 +88,7 @@ module _ {D R : Type 0} (state : D → Disk) (told : R → Told) (old : PairWorl
         first_then = first;
         second_then = t.then;
         step = (of, t.left, t.step, refl);
-        settled = record {};
+        settled = λ named. record {};
         shares = record {
           first_is = h.first_is;
           second_is = t.is;
@@ -117,7 +117,7 @@ module _ {D R : Type 0} (state : D → Disk) (told : R → Told) (old : PairWorl
         first_then = first;
         second_then = second;
         step = (t.left, t.step, refl);
-        settled = record {};
+        settled = λ named. record {};
         shares = record {
           first_is = h.first_is;
           second_is = h.second_is;

@@ -1,5 +1,5 @@
 -- What the events of two devices do.
-use Rattle.std.specs.Prelude.{◌≡◌, ◌⊎◌, Result, Ok, Err}
+use Rattle.std.specs.Prelude.{◌≡◌, ◌⊎◌, false, Result, Ok, Err}
 use Rattle.cf_base.specs.declared.answers.Answer.{Answer}
 use Rattle.cf_base.specs.declared.codes.CallError.{CallError}
 use Rattle.cf_base.specs.declared.codes.CallError.TheVariants.{No, OutOfMemory}
@@ -14,6 +14,7 @@ use Rattle.cf_pair_events.specs.declared.answers.PairAnswer.{PairAnswer}
 use Rattle.cf_pair_events.specs.declared.answers.PairAnswer.TheVariants as answer
 use Rattle.cf_pair_events.specs.declared.events.PairEvent.{PairEvent}
 use Rattle.cf_pair_model.specs.declared.devices.Device.TheVariants as device
+use Rattle.cf_pair_identities.specs.NamedPairs.{HasNamed}
 use Rattle.cf_pair_settled.specs.Settled.{SaysEqual}
 use Rattle.cf_pair_traces.specs.Pairs.{IsPairStep, Pair, start_pair}
 use Rattle.cf_pair_world.specs.Owned.{Owned, faults_of, own}
@@ -24,13 +25,14 @@ use Rattle.cf_remote.specs.Told.{Told}
 use Rattle.cf_volume_points.specs.Standing.{clusters_on}
 
 -- A step of the definitions, with this answer, with the power cuts of each disk, and with what the event does to it. The remote's
--- count of faults rose as often as the answer reports that it failed. A comparison of settled devices says equal.
+-- count of faults rose as often as the answer reports that it failed. A comparison of settled devices says equal, where identities are
+-- spelled as an engine spells them and the entries of each directory have come.
 pub record Stepped {D R : Type 0} (state : D → Disk) (told : R → Told) (e : PairEvent) (a : PairAnswer) (first second : Past) (p : Pair) (old new : PairWorld D R) : Type 0 where
   pub left : Pair
   pub first_then : Past
   pub second_then : Past
   pub step : IsPairStep p e a left
-  pub settled : SaysEqual a p
+  pub settled : HasNamed false p → SaysEqual a p
   pub shares : Shares state told first_then second_then new left
   pub first_owns : Owned state (own device.First e a) left.first first first_then (disk_of old.first) (disk_of new.first)
   pub second_owns : Owned state (own device.Second e a) left.second second second_then (disk_of old.second) (disk_of new.second)
