@@ -1,13 +1,13 @@
 //! The uploads on their way, read from the records of a book alone that are theirs.
 
-ghost use Rattle.std.specs.Prelude.{◌≡◌, ◌≤◌, ◌==◌, IfOk, length, map, not};
+ghost use Rattle.std.specs.Prelude.{◌≡◌, ◌≤◌, ◌<◌, ◌^◌, ◌==◌, IfOk, length, map, not};
 ghost use Rattle.std.specs.List.{list_any};
 ghost use Rattle.std.specs.List.Sorted.{IsPartitionedBy};
 ghost use Rattle.cf_model.specs.Books.{Book, aux_records, entry_record};
 ghost use Rattle.cf_model.specs.PushReplies.{is_new_entry};
-ghost use Rattle.cf_model.specs.Words.{is_empty};
+ghost use Rattle.cf_model.specs.Words.{in_bytes, is_empty};
 ghost use Rattle.cf_engine_queue.specs.Books.{entry_value, uploads_of};
-ghost use Rattle.cf_engine_queue.specs.Keys.{is_kind_below};
+ghost use Rattle.cf_engine_queue.specs.Keys.{begins, is_kind_below};
 ghost use Rattle.cf_engine_queue.specs.Order.{Divides};
 ghost use Rattle.cf_engine_queue.specs.Records.{IsKeepable};
 
@@ -61,12 +61,6 @@ pub fn load_uploads(alloc: Global, records: &[AuxRecord]) -> Result<Queue, OutOf
     Ok(queue)
 }
 
-fn any_of_item(entries: &[QueueEntry], item: ItemId) -> bool
-    ensures { result ≡ list_any (λ e. (entry_value e).item.0 == item.0) entries.now }
-{
-    entries.iter().any(|entry| entry.item.0 == item.0)
-}
-
 fn any_of_target(entries: &[QueueEntry], rid: Rid) -> bool
     ensures { result ≡ list_any (λ e. (entry_value e).rid.0 == rid.0) entries.now }
 {
@@ -90,12 +84,37 @@ fn any_new(entries: &[QueueEntry]) -> bool
     entries.iter().any(|entry| is_new(entry))
 }
 
-/// Whether an upload of this local item is on its way, by the records of a book. As `load_uploads`.
-pub fn sends_item(alloc: Global, records: &[AuxRecord], item: ItemId) -> Result<bool, OutOfMemory>
-    ensures { (b : Book) → IsKeepable b → records.now ≡ aux_records b → IfOk result (λ x. x ≡ list_any (λ e. e.item.0 == item.0) b.entries) }
+fn begins(bytes: &[u8], front: &[u8]) -> bool
+    ensures { result ≡ begins front.now bytes.now }
 {
-    let queue = load_uploads(alloc, records)?;
-    Ok(any_of_item(queue.entries(), item))
+    front.len() <= bytes.len() && &bytes[..front.len()] == front
+}
+
+fn value_begins(record: &AuxRecord, front: &[u8]) -> bool
+    ensures { result ≡ begins front.now record.now.value }
+{
+    begins(record.value.as_slice(), front)
+}
+
+fn any_begins(records: &[AuxRecord], front: &[u8]) -> bool
+    ensures { result ≡ list_any (λ r. begins front.now r.value) records.now }
+{
+    records.iter().any(|record| value_begins(record, front))
+}
+
+fn item_bytes(item: ItemId) -> [u8; 8]
+    ensures bytes { result ≡ in_bytes 8 item.0 }
+    ensures fits { item.0 < 2 ^ 64 }
+{
+    item.0.to_be_bytes()
+}
+
+/// Whether an upload of this local item is on its way, by the records of a book. It looks at the first eight bytes of each that is on
+/// its way, and takes no memory.
+pub fn sends_item(records: &[AuxRecord], item: ItemId) -> bool
+    ensures { (b : Book) → IsKeepable b → records.now ≡ aux_records b → result ≡ list_any (λ e. e.item.0 == item.0) b.entries }
+{
+    any_begins(entry_records(records), &item_bytes(item))
 }
 
 /// Whether an upload to this item of the remote is on its way, by the records of a book. As `load_uploads`.

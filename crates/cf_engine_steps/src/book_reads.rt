@@ -61,7 +61,7 @@ pub fn has_entries<S: EngineHost>(s: &S) -> bool
 pub fn has_entry<S: EngineHost>(s: &S, item: ItemId) -> Result<bool, OutOfMemory>
     ensures { IfOk result (λ x. FilterReads S.sense AnyFilter (has_entry_in item) s.now x) }
 {
-    sends_item(s.alloc(), s.records(), item)
+    Ok(sends_item(s.records(), item))
 }
 
 /// Whether an upload to this item of the remote is on its way. As `has_entry`.
