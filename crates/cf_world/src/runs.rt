@@ -8,6 +8,7 @@ ghost use Rattle.cf_io.specs.Moves.{Rose, IsQuiet, IsWhole};
 ghost use Rattle.cf_cli.specs.Accounts.{AreTaken, Names};
 ghost use Rattle.cf_cli.specs.declared.commands.Command.{Command as Meant};
 ghost use Rattle.cf_cli.specs.declared.commands.Command.TheVariants as meant;
+ghost use Rattle.cf_world.specs.Checks.{OfCheck};
 ghost use Rattle.cf_world.specs.Commands.{OfCommand};
 ghost use Rattle.cf_world.specs.Migrations.{OfDevice};
 ghost use Rattle.cf_world.specs.Outputs.{OfText};
@@ -141,18 +142,7 @@ fn commanded<S: Source, K: Sink, D: Disk + Drop, R: Remote + Drop>(
                 explanation: None,
             }
         }
-        Command::Check => {
-            let Checked {
-                status,
-                explanation,
-            } = check_report(alloc, source, sink);
-            Finish {
-                status,
-                disk,
-                remote,
-                explanation,
-            }
-        }
+        Command::Check => judged(alloc, source, sink, disk, remote),
     }
 }
 
@@ -181,6 +171,35 @@ fn migrated<S: Source, K: Sink, D: Disk, R: Remote>(
         disk,
         remote,
         explanation: None,
+    }
+}
+
+/// Judges the report that the source has behind its script.
+fn judged<S: Source, K: Sink, D: Disk, R: Remote>(
+    alloc: Global,
+    source: &mut S,
+    sink: &mut K,
+    disk: D,
+    remote: R,
+) -> Finish<D, R>
+    ensures text { (text : List ℕ) × IsWhole (S.left source.old) text × OfCheck text (K.held sink.old) (K.held sink.new) (sink.new ≡ sink.old) (IsQuiet (S.faults source.old) (S.faults source.new) × IsQuiet (K.faults sink.old) (K.faults sink.new)) result.status }
+    ensures disk { result.disk ≡ disk }
+    ensures remote { result.remote ≡ remote }
+    ensures only { result.status ≢ Status.Usage }
+    ensures source_fault { result.status ≡ Status.SourceFault → Rose (S.faults source.old) (S.faults source.new) }
+    ensures sink_fault { result.status ≡ Status.SinkFault → Rose (K.faults sink.old) (K.faults sink.new) }
+    ensures unwritten { IsBeforeWriting result.status → sink.new ≡ sink.old }
+    ensures unexplained { result.status ≢ Status.Unlawful → result.explanation ≡ None }
+{
+    let Checked {
+        status,
+        explanation,
+    } = check_report(alloc, source, sink);
+    Finish {
+        status,
+        disk,
+        remote,
+        explanation,
     }
 }
 

@@ -23,4 +23,4 @@ pub returns-in-Scrub-clause-does : goal.returns-in-Scrub-clause-does
 returns-in-Scrub-clause-does g c = let b = c.judge-status.ensures.bytes in rw c.in-Scrub.is (b.0, b.1, b.2, refl, refl)
 
 pub returns-in-Check-clause-does : goal.returns-in-Check-clause-does
-returns-in-Check-clause-does g c = let t = c.check_report-status.ensures.text in rw c.in-Check.is (t.0, t.1, t.2, refl, refl)
+returns-in-Check-clause-does g c = let t = c.judged.ensures.text in rw c.in-Check.is (t.0, t.1, t.2, c.judged.ensures.disk, c.judged.ensures.remote)
