@@ -43,7 +43,7 @@ use Rattle.cf_model_agreement.proofs.KnownSteps.{raised_turned}
 use Rattle.cf_model_agreement.proofs.RunsTrue.{below_of, early_of, start_true}
 
 -- an entry that counted since is right
-entry_right : (l : Link) → IsFair l → (late : Bool) (cursor : ℕ) (e : Entry) → Since IsKnownIn l late cursor e → IsEntryRight l.remote late cursor e
+pub entry_right : (l : Link) → IsFair l → (late : Bool) (cursor : ℕ) (e : Entry) → Since IsKnownIn l late cursor e → IsEntryRight l.remote late cursor e
 entry_right l fair late cursor e k =
     let s = k.0 in
     let same : l ≡ s.link = k.3 in

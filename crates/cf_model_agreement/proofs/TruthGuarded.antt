@@ -56,14 +56,14 @@ use Rattle.cf_model.specs.Waits.{begin_now, begun as wait_begun}
 abbrev pub TruthIn : State → Type 0
 TruthIn s = In s.link s.volatile.rounds s.volatile.round_open s.filter
 
-row_same : (e : QueueEntry) (v : Volatile) → ((not_in_row e v).rounds ≡ v.rounds) × ((not_in_row e v).round_open ≡ v.round_open)
+pub row_same : (e : QueueEntry) (v : Volatile) → ((not_in_row e v).rounds ≡ v.rounds) × ((not_in_row e v).round_open ≡ v.round_open)
 row_same e v = by (is_removal e) where
   by : (b : Bool) → ((cond b (record v { not_empty = without_number e.number v.not_empty }) (record v { taken_names = without_item e.item v.taken_names })).rounds ≡ v.rounds)
       × ((cond b (record v { not_empty = without_number e.number v.not_empty }) (record v { taken_names = without_item e.item v.taken_names })).round_open ≡ v.round_open)
   by true = (refl, refl)
   by false = (refl, refl)
 
-back_same : (e : QueueEntry) (v : Volatile) → ((held_back e v).rounds ≡ v.rounds) × ((held_back e v).round_open ≡ v.round_open)
+pub back_same : (e : QueueEntry) (v : Volatile) → ((held_back e v).rounds ≡ v.rounds) × ((held_back e v).round_open ≡ v.round_open)
 back_same e v = by (is_removal e) where
   by : (b : Bool) → ((cond b (record v { held_tombstones = e.number ∷ v.held_tombstones }) (record v { held_items = e.item ∷ v.held_items })).rounds ≡ v.rounds)
       × ((cond b (record v { held_tombstones = e.number ∷ v.held_tombstones }) (record v { held_items = e.item ∷ v.held_items })).round_open ≡ v.round_open)

@@ -271,6 +271,9 @@ module _ (s : State) (h : IsPlacedIn s) (fair : IsFair s.link) where
   pub placed_trees : AreTrees (items_now s)
   placed_trees = trees_now s.link s.volatile.tokens s.filter (h.0.0.1 fair) (h.1 fair)
 
+  pub placed_bare : AreBare (items_now s)
+  placed_bare = bare_now s.link s.volatile.tokens s.filter (h.0.0.1 fair) (h.1 fair)
+
   pub placed_tree : (i : Item) → IsBelow s i → (p : Item) × (item_of (items_now s) i.parent ≡ Some p) × (item_line (items_now s) i.id ≡ i.id.0 ∷ item_line (items_now s) p.id)
   placed_tree i below =
       let u = (all_found (IsUnder (items_now s)) (λ j. j.id.0 == i.id.0) (items_now s) i below.0 placed_trees.under).0 below.1 in

@@ -221,9 +221,11 @@ pub record IsFedTo (P : State → Type 0) (clock : ℕ) (s : State) : Type 0 whe
   pub same : s ≡ with_clock_seen clock (with_volatile all_released turned)
   pub whole : is_whole first.running.skips fed s ≡ true
 
--- The upload that was live in an earlier state was taken from the book; the link and the items are as they were.
+-- The upload that was live in an earlier state was taken from the book; the link, the items and the next number are as they were.
 abbrev pub IsTakenBy : (State → Type 0) → QueueEntry → State → Type 0
-IsTakenBy P e s = (t : State) × P t × (entry_of (book_now t) e.token ≡ Some e) × (s.link ≡ t.link) × (items_now s ≡ items_now t) × (book_now s ≡ without_entry e.token (book_now t))
+IsTakenBy P e s =
+    (t : State) × P t × (entry_of (book_now t) e.token ≡ Some e) × (s.link ≡ t.link) × (items_now s ≡ items_now t) × (book_now s ≡ without_entry e.token (book_now t))
+    × (next_number s.filter.volume ≡ next_number t.filter.volume)
 
 -- the remote recorded the upload as done
 abbrev pub IsDoneAt : State → QueueEntry → Rid → Version → Type 0

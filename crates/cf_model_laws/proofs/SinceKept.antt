@@ -132,7 +132,7 @@ module _ (P Q : State → Type 0) (less : (s : State) → Q s → P s) where
   on_filter_weaker s X closed = filter_weaker (Known P s) (Known Q s) (known_weaker s) s.link s.volatile.tokens X closed
 
   taken_weaker : (e : QueueEntry) (s : State) → IsTakenBy Q e s → IsTakenBy P e s
-  taken_weaker e s h = (h.0, less h.0 h.1, h.2, h.3, h.4, h.5)
+  taken_weaker e s h = (h.0, less h.0 h.1, h.2, h.3, h.4, h.5, h.6)
 
   buries_weaker : (f : Book → Book) (s : State) → BuriesBy Q f s → BuriesBy P f s
   buries_weaker f s (inl h) = inl h

@@ -76,7 +76,7 @@ module _ (P : State → Type 0) (closed : Guarded P) (e : QueueEntry) (s : State
   two = closed.keeps_volatile_taken_from_row e (with_book (without_entry e.token) (with_done s)) (closed.leaves e.token (with_done s) one)
 
   taken_by : entry_of (book_now s) e.token ≡ Some e → IsTakenBy P e Taken
-  taken_by live = (s, h, live, refl, refl, refl)
+  taken_by live = (s, h, live, refl, refl, refl, refl)
 
   -- of a new item that is gone a tombstone is left
   pub bury_new_at : (rid : Rid) (version : Version) → item_of (items_now s) e.item ≡ None → (IsFair s.link → DoneIn s e rid version) → Keeps P (bury_new e rid version s)

@@ -129,14 +129,14 @@ effect_accounted r b items c n counted fit h none = by_each r items (effect item
 -- tombstones
 
 module _ (f : Tombstone → Tombstone → Bool) (t : Tombstone) where
-  put_first : (ts : List Tombstone) → Among t (put_in f t ts)
+  pub put_first : (ts : List Tombstone) → Among t (put_in f t ts)
   put_first [] = inl refl
   put_first (u ∷ ts) = by (f u t) (put_first ts) where
     by : (d : Bool) → Among t (put_in f t ts) → Among t (cond d (u ∷ put_in f t ts) (t ∷ u ∷ ts))
     by true k = inr k
     by false k = inl refl
 
-  put_more : (u : Tombstone) (ts : List Tombstone) → Among u ts → Among u (put_in f t ts)
+  pub put_more : (u : Tombstone) (ts : List Tombstone) → Among u ts → Among u (put_in f t ts)
   put_more u [] m = absurd m
   put_more u (v ∷ ts) m = by (f v t) m (put_more u ts) where
     by : (d : Bool) → (v ≡ u) ⊎ Among u ts → (Among u ts → Among u (put_in f t ts)) → Among u (cond d (v ∷ put_in f t ts) (t ∷ v ∷ ts))
@@ -144,7 +144,7 @@ module _ (f : Tombstone → Tombstone → Bool) (t : Tombstone) where
     by true (inr m) k = inr (k m)
     by false m k = inr m
 
-  put_none : (g : Tombstone → Bool) (ts : List Tombstone) → list_any g (put_in f t ts) ≡ false → list_any g ts ≡ false
+  pub put_none : (g : Tombstone → Bool) (ts : List Tombstone) → list_any g (put_in f t ts) ≡ false → list_any g ts ≡ false
   put_none g [] e = refl
   put_none g (v ∷ ts) e = by (f v t) (g v) refl e (put_none g ts) where
     right : (a b : Bool) → (a || b) ≡ false → b ≡ false

@@ -59,13 +59,13 @@ use Rattle.cf_model_laws.proofs.CallsGuarded.{set_policy_keeps}
 
 -- beside what the machine keeps of items and waits
 
-abbrev IsPartial : Policy → Type 0
+abbrev pub IsPartial : Policy → Type 0
 IsPartial p = is_full_population p.population ≡ false
 
-abbrev IsUnlisted : Wait → Type 0
+abbrev pub IsUnlisted : Wait → Type 0
 IsUnlisted w = is_list_wait w.kind ≡ false
 
-abbrev Full : beside_keep.Fact
+abbrev pub Full : beside_keep.Fact
 Full l e p log hs hn ws wn = IsFair l → AtAll (All IsPopulated) log × All IsUnlisted ws
 
 abbrev Known : Filter → Type 0
@@ -106,7 +106,7 @@ more x c is h k =
     at_more (All IsPopulated) x.volume.log (next_number x.volume, c) h
     (subst (All IsPopulated) (sym (items_more (root ∷ []) x.volume.log (next_number x.volume) c ∙ ap (λ (items : List Item). effect items c (next_number x.volume)) (sym is))) k)
 
-now : (x : Filter) → x.volume.items ≡ items_of x.volume.log → AtAll (All IsPopulated) x.volume.log → All IsPopulated x.volume.items
+pub now : (x : Filter) → x.volume.items ≡ items_of x.volume.log → AtAll (All IsPopulated) x.volume.log → All IsPopulated x.volume.items
 now x is h = subst (All IsPopulated) (sym is) (at_now (All IsPopulated) x.volume.log h)
 
 full_knowing : beside_keep.Knowing Known Full
@@ -134,16 +134,19 @@ full_runs = record {
   opens = λ l p epoch v hs hn ws wn later h fair. (at_front (All IsPopulated) p.count v.log (h fair).0, tt);
 }
 
-abbrev IsPartialIn : State → Type 0
+abbrev pub IsPartialIn : State → Type 0
 IsPartialIn s = IsPlacedIn s × IsPartial s.filter.policy
 
-abbrev IsFullIn : State → Type 0
+abbrev pub IsFullIn : State → Type 0
 IsFullIn s = IsPartialIn s × beside_keep.HoldsIn Full s
 
-full_rest : Unruled IsFullIn
+pub full_rest : Unruled IsFullIn
 full_rest =
     beside_keep.unruled_knowing Known Full full_runs IsPartialIn (λ s h fair. (h.1, placed_trees s h.0 fair))
     (unruled_policy IsPartial IsPlacedIn (unruled IsPlacedIn placed_whole))
+
+pub full_ruling : (p : Policy) (s : State) → IsPartial p → p.validate ≡ false → IsFullIn s → IsFullIn (with_filter (with_policy p s.filter) s)
+full_ruling p s partial v h = ((placed_whole.ruling.rules p s v h.0.0, partial), h.1)
 
 -- an event that sets a policy
 
@@ -183,62 +186,64 @@ event_ruling (event.Provider d) e = no_way e
 abbrev setting : Policy → Event
 setting p = event.Call (call.Policy p)
 
--- a policy that is not of FULL population
-partial_full : (s : State) (p : Policy) (a : Answer) (t : State) → IsPartial p → IsStep mode.Replay s (setting p) a t → IsFullIn s → IsFullIn t
-partial_full s p a t partial is h = step_by IsFullIn full_rest.breaks s (setting p) a t is h (kept.keeps (begun s) (full_rest.begins s h)) where
-  m : Mode
-  m = s.mode
+-- what the machine keeps where no policy is set, and what such a policy leaves
+module _ (P : State → Type 0) (rest : Unruled P) (ruling : (p : Policy) (s : State) → IsPartial p → p.validate ≡ false → P s → P (with_filter (with_policy p s.filter) s)) where
+  -- a policy that is not of FULL population
+  partial_full : (s : State) (p : Policy) (a : Answer) (t : State) → IsPartial p → IsStep mode.Replay s (setting p) a t → P s → P t
+  partial_full s p a t partial is h = step_by P rest.breaks s (setting p) a t is h (kept.keeps (begun s) (rest.begins s h)) where
+    m : Mode
+    m = s.mode
 
-  kept : Preserves IsFullIn (in_filter (set_policy m p))
-  kept =
-      keeps_lifted IsFullIn (λ x. x.filter) with_filter (set_policy m p) (λ y k. k)
-      (λ y k. set_policy_keeps (λ x. IsFullIn (with_filter x y)) m p (full_rest.closed.replay s h) (λ v x j. ((placed_whole.ruling.rules p (with_filter x y) v j.0.0, partial), j.1)))
+    kept : Preserves P (in_filter (set_policy m p))
+    kept =
+        keeps_lifted P (λ x. x.filter) with_filter (set_policy m p) (λ y k. k)
+        (λ y k. set_policy_keeps (λ x. P (with_filter x y)) m p (rest.closed.replay s h) (λ v x j. ruling p (with_filter x y) partial v j))
 
--- one that is, and is refused
-module _ (s : State) (p : Policy) (a : Answer) (t : State) (refused : is_accepted a.shown ≡ false) (c : Choices) (h : IsFullIn s) where
-  abbrev begins : State
-  begins = begun s
+  -- one that is, and is refused
+  module _ (s : State) (p : Policy) (a : Answer) (t : State) (refused : is_accepted a.shown ≡ false) (c : Choices) (h : P s) where
+    abbrev begins : State
+    begins = begun s
 
-  abbrev set_by : Option Code → Tree State Shown
-  set_by o = mapped (λ x. with_filter x begins) (unless shown.Refused o (then_do (noted (with_policy p)) done) begins.filter)
+    abbrev set_by : Option Code → Tree State Shown
+    set_by o = mapped (λ x. with_filter x begins) (unless shown.Refused o (then_do (noted (with_policy p)) done) begins.filter)
 
-  set_kept : (o : Option Code) → outcome (walk c.stop c.forks c.tellings (set_by o)) ≡ (t, a) → IsFullIn t
-  set_kept (Some k) z = subst IsFullIn (ap (λ (x : State × Answer). x.0) z) (full_rest.begins s h)
-  set_kept None z = no_way (sym refused ∙ ap is_accepted (sym (ap (λ (x : State × Answer). x.1.shown) z)))
+    set_kept : (o : Option Code) → outcome (walk c.stop c.forks c.tellings (set_by o)) ≡ (t, a) → P t
+    set_kept (Some k) z = subst P (ap (λ (x : State × Answer). x.0) z) (rest.begins s h)
+    set_kept None z = no_way (sym refused ∙ ap is_accepted (sym (ap (λ (x : State × Answer). x.1.shown) z)))
 
-  power_kept : (w : Power) → answered (no_volume true w) c s (setting p) ≡ (t, a) → IsFullIn t
-  power_kept On z = set_kept (first_of (policy_tests s.mode p begins.filter)) z
-  power_kept Broken z = subst IsFullIn (ap (λ (x : State × Answer). x.0) z) h
-  power_kept Off z = subst IsFullIn (ap (λ (x : State × Answer). x.0) z) h
+    power_kept : (w : Power) → answered (no_volume true w) c s (setting p) ≡ (t, a) → P t
+    power_kept On z = set_kept (first_of (policy_tests s.mode p begins.filter)) z
+    power_kept Broken z = subst P (ap (λ (x : State × Answer). x.0) z) h
+    power_kept Off z = subst P (ap (λ (x : State × Answer). x.0) z) h
 
-set_full : (s : State) (p : Policy) (a : Answer) (t : State) → IsStep mode.Replay s (setting p) a t → allows_unpopulated (setting p, a) ≡ false → IsFullIn s → IsFullIn t
-set_full s p a t is none h = by (is_full_population p.population) refl none where
-  by : (b : Bool) → is_full_population p.population ≡ b → (b && is_accepted a.shown) ≡ false → IsFullIn t
-  by false q z = partial_full s p a t q is h
-  by true q z = power_kept s p a t z is.1 h s.power is.2
+  set_full : (s : State) (p : Policy) (a : Answer) (t : State) → IsStep mode.Replay s (setting p) a t → allows_unpopulated (setting p, a) ≡ false → P s → P t
+  set_full s p a t is none h = by (is_full_population p.population) refl none where
+    by : (b : Bool) → is_full_population p.population ≡ b → (b && is_accepted a.shown) ≡ false → P t
+    by false q z = partial_full s p a t q is h
+    by true q z = power_kept s p a t z is.1 h s.power is.2
 
-step_full : (s : State) (e : Event) (a : Answer) (t : State) → IsStep mode.Replay s e a t → allows_unpopulated (e, a) ≡ false → IsFullIn s → IsFullIn t
-step_full s e a t is none h = by (sets_policy e) refl where
-  by : (b : Bool) → sets_policy e ≡ b → IsFullIn t
-  by false q = step_keeps IsFullIn full_rest s e a t is (λ z. no_way (sym q ∙ z)) h
-  by true q =
-      let k = event_ruling e q in
-      set_full s k.0 a t (subst (λ (d : Event). IsStep mode.Replay s d a t) k.1 is) (subst (λ (d : Event). allows_unpopulated (d, a) ≡ false) k.1 none) h
+  step_full : (s : State) (e : Event) (a : Answer) (t : State) → IsStep mode.Replay s e a t → allows_unpopulated (e, a) ≡ false → P s → P t
+  step_full s e a t is none h = by (sets_policy e) refl where
+    by : (b : Bool) → sets_policy e ≡ b → P t
+    by false q = step_keeps P rest s e a t is (λ z. no_way (sym q ∙ z)) h
+    by true q =
+        let k = event_ruling e q in
+        set_full s k.0 a t (subst (λ (d : Event). IsStep mode.Replay s d a t) k.1 is) (subst (λ (d : Event). allows_unpopulated (d, a) ≡ false) k.1 none) h
 
-runs_full : (s : State) (trace : List (Event × Answer)) (t : State) → Runs mode.Replay s trace t → list_any allows_unpopulated trace ≡ false → IsFullIn s → IsFullIn t
-runs_full s [] t runs none h = subst IsFullIn (sym runs) h
-runs_full s (p ∷ ps) t runs none h = runs_full runs.0 ps t runs.2 (right_none (allows_unpopulated p) none) (step_full s p.0 p.1 runs.0 runs.1 (left_none (allows_unpopulated p) none) h) where
-  left_none : (b : Bool) → (b || list_any allows_unpopulated ps) ≡ false → b ≡ false
-  left_none true z = z
-  left_none false z = refl
+  pub runs_partial : (s : State) (trace : List (Event × Answer)) (t : State) → Runs mode.Replay s trace t → list_any allows_unpopulated trace ≡ false → P s → P t
+  runs_partial s [] t runs none h = subst P (sym runs) h
+  runs_partial s (p ∷ ps) t runs none h = runs_partial runs.0 ps t runs.2 (right_none (allows_unpopulated p) none) (step_full s p.0 p.1 runs.0 runs.1 (left_none (allows_unpopulated p) none) h) where
+    left_none : (b : Bool) → (b || list_any allows_unpopulated ps) ≡ false → b ≡ false
+    left_none true z = z
+    left_none false z = refl
 
-  right_none : (b : Bool) → (b || list_any allows_unpopulated ps) ≡ false → list_any allows_unpopulated ps ≡ false
-  right_none true z = no_way (sym z)
-  right_none false z = z
+    right_none : (b : Bool) → (b || list_any allows_unpopulated ps) ≡ false → list_any allows_unpopulated ps ≡ false
+    right_none true z = no_way (sym z)
+    right_none false z = z
 
 pub run_full : (remote : Held) (clusters : ℕ) (trace : List (Event × Answer)) (s : State) → Runs mode.Replay (start mode.Replay remote clusters) trace s → IsFresh remote → is_always_populated trace ≡ true → IsFullIn s
 run_full remote clusters trace s runs fresh always =
-    runs_full (start mode.Replay remote clusters) trace s runs (not_true (list_any allows_unpopulated trace) always)
+    runs_partial IsFullIn full_rest full_ruling (start mode.Replay remote clusters) trace s runs (not_true (list_any allows_unpopulated trace) always)
     ((run_placed remote clusters [] (start mode.Replay remote clusters) refl fresh, refl), λ fair. (at_first (All IsPopulated) ((λ d. refl), tt), tt))
 
 -- the laws

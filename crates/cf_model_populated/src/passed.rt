@@ -23,7 +23,7 @@ ghost use Rattle.cf_model_populated.specs.Populated.{ArePassedHere};
 
 /// Each live item of the remote that the cursor has passed is an item here, or was removed here. That stays so while the remote is asked,
 /// by whomever, and over each change by which no item loses a target of which that is said. That is step for step; that each step of
-/// a run is so is not proved.
+/// a run is so is a law of the states of a run (`cf_model_arrivals`).
 #[tactic(auto, using(crate::proofs::AccountedSteps::asked_accounted, crate::proofs::AccountedSteps::effect_accounted))]
 pub fn what_is_here_stays_here()
     ensures asked { (r : Held) (q : Request) (items : List Item) (b : Book) → IsCounted r → b.cursor ≤ r.clock → AreAccountedFor r items b → AreAccountedFor (remote_step r q).1 items b }

@@ -1,0 +1,16 @@
+pub mod AccountedChanges
+pub mod ArrivalsGuarded
+pub mod ArrivalsKept
+pub mod ArrivalsRuns
+pub mod ArrivedSyncs
+pub mod FeedsArrive
+pub mod KeptItems
+pub mod NumberItems
+pub mod NumbersGuarded
+pub mod NumbersKept
+pub mod NumbersRuns
+pub mod SeatsGiven
+pub mod Together
+pub mod TurnKept
+pub mod TurnsKept
+pub mod VolumesGuarded

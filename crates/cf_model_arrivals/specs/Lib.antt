@@ -1,0 +1,4 @@
+pub mod Buried
+pub mod Kept
+pub mod Numbered
+pub mod Seated
