@@ -1,5 +1,5 @@
 -- After each silent `sync` and `work` of a report both sides agree.
-use Rattle.std.proofs.Common.{◌≡◌, ◌∷◌, ℕ, false, inl, inr, [], refl, subst, true}
+use Rattle.std.proofs.Common.{◌≡◌, ◌∷◌, ℕ, Bool, false, inl, inr, [], refl, subst, sym, true}
 use Rattle.cf_base.specs.declared.answers.Answer.{Answer}
 use Rattle.cf_base.specs.declared.answers.Shown.TheVariants as shown
 use Rattle.cf_base.specs.declared.events.EngineEvent.TheVariants as engine
@@ -12,8 +12,9 @@ use Rattle.cf_model.specs.Settled.{is_settled}
 use Rattle.cf_model.specs.State.{State, start}
 use Rattle.cf_model.specs.Store.{Held}
 use Rattle.cf_model_agreement.proofs.KnownSyncs.{sync_silent, work_silent}
+use Rattle.cf_model_arrivals.proofs.ArrivedSyncs.{quiet_settles_whole, sync_settles_whole, work_settles_whole}
 use Rattle.cf_model_convergence.specs.Hearing.{ArePlainWaits, IsPlainWait, is_asked_for}
-use Rattle.cf_model_convergence.specs.Quiet.{is_accepted, is_count}
+use Rattle.cf_model_convergence.specs.Quiet.{is_accepted, is_always_populated, is_count}
 use Rattle.cf_model_convergence.specs.Tidy.{IsTidy}
 use Rattle.cf_model_convergence.specs.Trees.{NoneLists}
 use Rattle.cf_model_convergence.proofs.FairBefore.{step_fair}
@@ -36,14 +37,27 @@ module _ (remote : Held) (clusters : ℕ) (fresh : IsFresh remote) (tidy : IsTid
       let none : NoneLists s = elim ready.lists [ inl always ↦ (none_listed remote clusters before s runs fresh fair always).0 | inr h ↦ h ] in
       all_both (λ w. is_list_wait w.kind ≡ false) (λ w. is_dehydrate_wait w.kind ≡ true → is_asked_for s.filter.waiting.asks w ≡ true) (IsPlainWait s.filter.waiting.asks) (λ w x y. (x, y)) s.filter.waiting.waits none (run_dehydrates remote clusters before s runs fresh)
 
-  sync_here : IsStep mode.Replay s (event.Engine engine.Sync) a t → IsFair s.link → IsFair t.link → is_count a.shown ≡ true → IsSilent a → IsReady before s t → (is_settled false t ≡ true) × (a.shown ≡ shown.Count 0)
-  sync_here step was fair counted silent ready = sync_silent remote clusters before s a t runs fresh tidy ready.inline ready.keys (plain was ready) step fair counted silent ready.numbers
+  -- as a whole where no directory was made unpopulated
+  settled : is_settled false t ≡ true → (is_always_populated before ≡ true → is_settled true t ≡ true) → is_settled (is_always_populated before) t ≡ true
+  settled part whole = by (is_always_populated before) refl where
+    by : (b : Bool) → is_always_populated before ≡ b → is_settled (is_always_populated before) t ≡ true
+    by true q = subst (λ (c : Bool). is_settled c t ≡ true) (sym q) (whole q)
+    by false q = subst (λ (c : Bool). is_settled c t ≡ true) (sym q) part
 
-  quiet_here : IsStep mode.Replay s (event.Engine engine.Sync) a t → IsFair s.link → IsFair t.link → is_count a.shown ≡ true → ends_silent a.notes ≡ true → IsReady before s t → (is_settled false t ≡ true) × (a.shown ≡ shown.Count 0)
-  quiet_here step was fair counted silent ready = run_ends_silent remote clusters before s a t runs fresh tidy ready.inline ready.keys (plain was ready) step fair counted silent ready.numbers
+  sync_here : IsStep mode.Replay s (event.Engine engine.Sync) a t → IsFair s.link → IsFair t.link → is_count a.shown ≡ true → IsSilent a → IsReady before s t → (is_settled (is_always_populated before) t ≡ true) × (a.shown ≡ shown.Count 0)
+  sync_here step was fair counted silent ready =
+      let w = sync_silent remote clusters before s a t runs fresh tidy ready.inline ready.keys (plain was ready) step fair counted silent ready.numbers in
+      (settled w.0 (λ always. sync_settles_whole remote clusters before s a t runs fresh tidy always ready.inline ready.keys (plain was ready) step fair counted silent ready.numbers), w.1)
 
-  work_here : IsStep mode.Replay s (event.Engine engine.Work) a t → IsFair s.link → IsFair t.link → is_accepted a.shown ≡ true → IsSilent a → IsReady before s t → is_settled false t ≡ true
-  work_here step was fair accepted silent ready = work_silent remote clusters before s a t runs fresh tidy ready.inline ready.keys (plain was ready) step fair accepted silent ready.numbers
+  quiet_here : IsStep mode.Replay s (event.Engine engine.Sync) a t → IsFair s.link → IsFair t.link → is_count a.shown ≡ true → ends_silent a.notes ≡ true → IsReady before s t → (is_settled (is_always_populated before) t ≡ true) × (a.shown ≡ shown.Count 0)
+  quiet_here step was fair counted silent ready =
+      let w = run_ends_silent remote clusters before s a t runs fresh tidy ready.inline ready.keys (plain was ready) step fair counted silent ready.numbers in
+      (settled w.0 (λ always. quiet_settles_whole remote clusters before s a t runs fresh tidy always ready.inline ready.keys (plain was ready) step fair counted silent ready.numbers), w.1)
+
+  work_here : IsStep mode.Replay s (event.Engine engine.Work) a t → IsFair s.link → IsFair t.link → is_accepted a.shown ≡ true → IsSilent a → IsReady before s t → is_settled (is_always_populated before) t ≡ true
+  work_here step was fair accepted silent ready =
+      settled (work_silent remote clusters before s a t runs fresh tidy ready.inline ready.keys (plain was ready) step fair accepted silent ready.numbers)
+      (λ always. work_settles_whole remote clusters before s a t runs fresh tidy always ready.inline ready.keys (plain was ready) step fair accepted silent ready.numbers)
 
   pub settles_here : (e : Event) → IsStep mode.Replay s e a t → IsFair s.link → IsFair t.link → SettlesIfSilent before s e a t
   settles_here e step was fair = record {

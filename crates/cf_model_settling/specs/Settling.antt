@@ -30,8 +30,8 @@ pub record IsReady (before : Report) (s t : State) : Type 0 where
   pub lists : (is_always_populated before ≡ true) ⊎ NoneLists s
 
 -- Each item that is neither excluded nor in use agrees with the remote then, and none is counted: so it is after a `sync` of which the last pass is silent,
--- whatever its earlier passes report.
+-- whatever its earlier passes report. Where no policy of FULL population was accepted so far, each live item of the remote is here too, just once.
 pub record SettlesIfSilent (before : Report) (s : State) (e : Event) (a : Answer) (t : State) : Type 0 where
-  pub sync : e ≡ event.Engine engine.Sync → is_count a.shown ≡ true → IsSilent a → IsReady before s t → (is_settled false t ≡ true) × (a.shown ≡ shown.Count 0)
-  pub quiet : e ≡ event.Engine engine.Sync → is_count a.shown ≡ true → ends_silent a.notes ≡ true → IsReady before s t → (is_settled false t ≡ true) × (a.shown ≡ shown.Count 0)
-  pub work : e ≡ event.Engine engine.Work → is_accepted a.shown ≡ true → IsSilent a → IsReady before s t → is_settled false t ≡ true
+  pub sync : e ≡ event.Engine engine.Sync → is_count a.shown ≡ true → IsSilent a → IsReady before s t → (is_settled (is_always_populated before) t ≡ true) × (a.shown ≡ shown.Count 0)
+  pub quiet : e ≡ event.Engine engine.Sync → is_count a.shown ≡ true → ends_silent a.notes ≡ true → IsReady before s t → (is_settled (is_always_populated before) t ≡ true) × (a.shown ≡ shown.Count 0)
+  pub work : e ≡ event.Engine engine.Work → is_accepted a.shown ≡ true → IsSilent a → IsReady before s t → is_settled (is_always_populated before) t ≡ true
