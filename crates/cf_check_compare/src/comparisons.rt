@@ -24,6 +24,8 @@ pub enum Comparison {
     GoesOn(usize),
     /// With other bytes.
     Differs,
+    /// The answer has more than 2,147,483,647 bytes.
+    TooLong,
     /// The answer fails a test that each answer passes which is given by what the report tells of the remote.
     Lost,
 }
@@ -97,8 +99,8 @@ fn meets_result(event: &Event, answer: &Answer, rest: &[u8]) -> bool
 }
 
 /// How the report goes on beside an answer to the event. Lost is answered exactly where the answer fails a test that each answer passes which
-/// is given by what the report tells of the remote, or where it has more than 2,147,483,647 bytes. Fails where there is no memory for the
-/// text of the answer.
+/// is given by what the report tells of the remote, and TooLong where it passes them and has more than 2,147,483,647 bytes. Fails where there
+/// is no memory for the text of the answer.
 pub fn compare(
     alloc: Global,
     event: &Event,
@@ -120,8 +122,10 @@ fn compared(notices: &[Notice], expected: &[u8], rest: &[u8]) -> Comparison
     requires { IsTextOf notices.now expected.now }
     ensures { IsCompared notices.now expected.now rest.now result }
 {
-    if expected.len() > MOST_ANSWER || !meets_lines(notices, expected, rest) {
+    if !meets_lines(notices, expected, rest) {
         Comparison::Lost
+    } else if expected.len() > MOST_ANSWER {
+        Comparison::TooLong
     } else if begins(expected, rest) {
         Comparison::GoesOn(expected.len())
     } else {

@@ -1,6 +1,6 @@
 -- What is said of the report at an event.
 use Rattle.std.proofs.Common.{◌⊎◌, inl, inr, ◌≡◌, ◌≤◌, ◌<◌, ◌+◌, ◌^◌, ◌-◌, ℕ, suc, Bool, true, false, List, [], ◌∷◌, ◌++◌, length, refl, sym, ◌∙◌, ap, subst, arith}
-use Rattle.std.specs.Prelude.{Err, IfOk, Ok, Result, drop, not}
+use Rattle.std.specs.Prelude.{Err, Ok, Result, drop, not}
 use Rattle.cf_base.specs.declared.answers.Answer.{Answer}
 use Rattle.cf_base.specs.declared.changes.Change.{Change}
 use Rattle.cf_base.specs.declared.events.Event.{Event}
@@ -8,7 +8,7 @@ use Rattle.cf_base.specs.declared.ids.Usn.{Usn}
 use Rattle.cf_base.specs.declared.memory.OutOfMemory.{OutOfMemory as NoMemory}
 use Rattle.cf_base.specs.declared.policies.Mode.TheVariants as mode
 use Rattle.cf_check_compare.specs.Passed.{IsComparison, is_passed}
-use Rattle.cf_check_compare.specs.declared.comparisons.Comparison.TheVariants.{Differs, GoesOn, Lost}
+use Rattle.cf_check_compare.specs.declared.comparisons.Comparison.TheVariants.{Differs, GoesOn, Lost, TooLong}
 use Rattle.cf_check_compare.specs.declared.comparisons.Comparison.{Comparison}
 use Rattle.cf_check_judge.proofs.Following.{at_start, at_the_end, foreign_is, goes_next, line_not, open_is, wrong_is}
 use Rattle.cf_check_judge.specs.Settled.{IsAt}
@@ -19,10 +19,13 @@ use Rattle.cf_check_model.specs.declared.verdicts.Verdict.TheVariants.{Unlawful,
 use Rattle.cf_check_room.specs.Weights.{weight}
 use Rattle.cf_check_traces.specs.Followed.{IsNext}
 use Rattle.cf_check_traces.specs.Tests.{begins, is_restart}
-use Rattle.cf_check_weights.specs.Weighed.{IsWeighed, Weighed}
+use Rattle.cf_check_weights.specs.Weighed.{IsWeighed, is_light}
+use Rattle.cf_check_weights.specs.declared.weights.Weight.{Weight}
 use Rattle.cf_check_report.proofs.Answering.{next_of}
 use Rattle.cf_check_report.specs.declared.check_errors.CheckError.{CheckError}
-use Rattle.cf_check_report.specs.Following.{Follows, IsTaken, JudgedTo, MayOpen, judged_by}
+use Rattle.cf_check_report.specs.declared.check_errors.CheckError.TheVariants as fails
+use Rattle.cf_check_report.specs.Following.{Follows, IsTaken, JudgedTo, MayNotOpen, MayOpen, judged_by}
+use Rattle.cf_check_report.specs.Straying.{IsStray}
 use Rattle.cf_check_report.specs.Playing.{PlayedTo, Plays}
 use Rattle.cf_check_report.specs.declared.judgements.Judge.{Judge}
 use Rattle.cf_check_report.specs.declared.judgements.Judged.{Judged}
@@ -56,6 +59,39 @@ module _ {D : Type 0} (Stands : D → State → Type 0) (events : List Event) (r
       by : (b : Bool) → not b ≡ true → b ≡ false
       by true k = let z : false ≡ true = k in absurd cc
       by false k = refl
+
+  pub heavy : (j : Judge D) → Follows Stands events report clusters done (e ∷ es) rest j → is_line device_line (first_result rest) ≡ false → not (is_of mode.Replay e) ≡ false → MayNotOpen e j → IsStray events report clusters
+  heavy j h line known may = record {
+    done = done;
+    next = e;
+    more = es;
+    trace = h.trace;
+    state = h.state;
+    rest = rest;
+    at = h.at;
+    allowed = by (is_of mode.Replay e) known;
+    runs = line;
+    strays = inl (may.0, subst (λ (k : ℕ). is_light k h.state.filter.volume.log ≡ false) h.clusters_are (may.1 h.state.filter.volume.log h.weighed));
+  }
+    where
+      by : (b : Bool) → not b ≡ false → b ≡ true
+      by true k = refl
+      by false k = let z : true ≡ false = k in absurd cc
+
+  pub long : (j : Judge D) (a : Answer) (new : D) → Follows Stands events report clusters done (e ∷ es) rest j → is_line device_line (first_result rest) ≡ false → is_of mode.Replay e ≡ true → Plays Stands e j.device (Ok a) new → IsComparison e a rest TooLong → IsStray events report clusters
+  long j a new h line known plays (passed, (meets, large)) =
+      let played : PlayedTo Stands e h.state (Ok a) new = plays.leads h.state h.stands in record {
+        done = done;
+        next = e;
+        more = es;
+        trace = h.trace;
+        state = h.state;
+        rest = rest;
+        at = h.at;
+        allowed = known;
+        runs = line;
+        strays = inr (a, played.0, played.1, played.2, passed, large);
+      }
 
   -- by its answer
 
@@ -91,14 +127,15 @@ module _ {D : Type 0} (Stands : D → State → Type 0) (events : List Event) (r
     by_comparison (GoesOn n) judged.Open is told = absurd cc
     by_comparison Differs (judged.GoesOn m) is told = absurd cc
     by_comparison Differs judged.Open is told = absurd cc
+    by_comparison TooLong j is told = absurd cc
     by_comparison Lost j is told = absurd cc
 
   -- the report beside the answer
-  pub taken : (a : Answer) (old mid new : Judge D) (j : Judged) → is_line device_line (first_result rest) ≡ false → MayOpen e old → Plays Stands e old.device (Ok a) mid.device → mid.weights ≡ old.weights → mid.clusters ≡ old.clusters → IsTaken e a rest mid.weights new.weights j → new.device ≡ mid.device → new.clusters ≡ mid.clusters
+  pub taken : (a : Answer) (old mid new : Judge D) (j : Judged) → is_line device_line (first_result rest) ≡ false → MayOpen e old → Plays Stands e old.device (Ok a) mid.device → mid.weights ≡ old.weights → mid.clusters ≡ old.clusters → IsTaken e a rest mid.weights new.weights (Ok j) → new.device ≡ mid.device → new.clusters ≡ mid.clusters
       → Follows Stands events report clusters done (e ∷ es) rest old → JudgedTo Stands events report clusters done es rest (Ok j) new
   taken a old mid new j line may plays weights clusters_are is device same h =
       by_comparison a old new line may (subst (λ (d : D). Plays Stands e old.device (Ok a) d) (sym device) plays) (same ∙ clusters_are)
-      (λ log w. is.0 log (subst (λ (x : Weighed). IsWeighed x log) (sym weights) w)) h is.1.0 j is.1.1 is.1.2
+      (λ log w. is.0 log (subst (λ (x : List Weight). IsWeighed x log) (sym weights) w)) h is.1.0 j is.1.1 is.1.2
 
 -- it is followed from the start of the report on
 pub followed : {D : Type 0} (Stands : D → State → Type 0) (events : List Event) (report : List ℕ) (clusters : ℕ) (j : Judge D) → length report < 2 ^ 31 → j.clusters ≡ clusters → Stands j.device (start mode.Replay empty_remote clusters) → IsWeighed j.weights [] → Follows Stands events report clusters 0 events report j
@@ -121,14 +158,19 @@ ended Stands events report clusters done rest j short h = at_the_end events repo
 pub unplayed : {D : Type 0} (Stands : D → State → Type 0) (e : Event) (old new : D) (m : NoMemory) → Plays Stands e old (Err m) new
 unplayed Stands e old new m = record { leads = λ s stands. record {} }
 
-pub told_taken : (e : Event) (a : Answer) (rest : List ℕ) (old new : Weighed) (c : Comparison) (r : Result Judged CheckError) → r ≡ judged_by c → IsComparison e a rest c → ((log : List (Usn × Change)) → IsWeighed old log → IsWeighed new (after_answer log e a)) → IfOk r (IsTaken e a rest old new)
+pub told_taken : (e : Event) (a : Answer) (rest : List ℕ) (old new : List Weight) (c : Comparison) (r : Result Judged CheckError) → r ≡ judged_by c → IsComparison e a rest c → ((log : List (Usn × Change)) → IsWeighed old log → IsWeighed new (after_answer log e a)) → IsTaken e a rest old new r
 told_taken e a rest old new c (Ok j) told is weighs = (weighs, (c, is, sym told))
-told_taken e a rest old new c (Err f) told is weighs = tt
+told_taken e a rest old new TooLong (Err fails.NotFollowed) told is weighs = is
+told_taken e a rest old new (GoesOn n) (Err fails.NotFollowed) told is weighs = absurd cc
+told_taken e a rest old new Differs (Err fails.NotFollowed) told is weighs = absurd cc
+told_taken e a rest old new Lost (Err fails.NotFollowed) told is weighs = absurd cc
+told_taken e a rest old new c (Err fails.OutOfMemory) told is weighs = record {}
 
-pub by_result : {D : Type 0} (Stands : D → State → Type 0) (events : List Event) (report : List ℕ) (clusters done : ℕ) (e : Event) (es : List Event) (rest : List ℕ) (a : Answer) (old mid new : Judge D) (r : Result Judged CheckError) → length report < 2 ^ 31 → is_line device_line (first_result rest) ≡ false → MayOpen e old → Plays Stands e old.device (Ok a) mid.device → mid.weights ≡ old.weights → mid.clusters ≡ old.clusters
-    → IfOk r (IsTaken e a rest mid.weights new.weights) → new.device ≡ mid.device → new.clusters ≡ mid.clusters → Follows Stands events report clusters done (e ∷ es) rest old → JudgedTo Stands events report clusters done es rest r new
-by_result Stands events report clusters done e es rest a old mid new (Ok j) short line may plays weights clusters_are is device same h = taken Stands events report clusters done e es rest short a old mid new j line may plays weights clusters_are is device same h
-by_result Stands events report clusters done e es rest a old mid new (Err f) short line may plays weights clusters_are is device same h = record {}
+pub by_result : {D : Type 0} (Stands : D → State → Type 0) (events : List Event) (report : List ℕ) (clusters done : ℕ) (e : Event) (es : List Event) (rest : List ℕ) (a : Answer) (old mid new : Judge D) (r : Result Judged CheckError) → length report < 2 ^ 31 → is_of mode.Replay e ≡ true → is_line device_line (first_result rest) ≡ false → MayOpen e old → Plays Stands e old.device (Ok a) mid.device → mid.weights ≡ old.weights → mid.clusters ≡ old.clusters
+    → IsTaken e a rest mid.weights new.weights r → new.device ≡ mid.device → new.clusters ≡ mid.clusters → Follows Stands events report clusters done (e ∷ es) rest old → JudgedTo Stands events report clusters done es rest r new
+by_result Stands events report clusters done e es rest a old mid new (Ok j) short known line may plays weights clusters_are is device same h = taken Stands events report clusters done e es rest short a old mid new j line may plays weights clusters_are is device same h
+by_result Stands events report clusters done e es rest a old mid new (Err fails.NotFollowed) short known line may plays weights clusters_are is device same h = long Stands events report clusters done e es rest short old a mid.device h line known plays is
+by_result Stands events report clusters done e es rest a old mid new (Err fails.OutOfMemory) short known line may plays weights clusters_are is device same h = record {}
 
 -- in the loop
 
@@ -144,3 +186,7 @@ pub judged_on : {D : Type 0} (Stands : D → State → Type 0) (events : List Ev
 judged_on Stands events report clusters done len es rest after new r j is on from h =
     subst (λ (k : ℕ). Follows Stands events report clusters k es after new) (let e : suc done ≡ done + 1 = omega arith in e)
     (subst (λ (xs : List ℕ). Follows Stands events report clusters (suc done) es xs new) (sym from) (subst (λ (x : Result Judged CheckError). JudgedTo Stands events report clusters done es rest x new) (is ∙ ap (λ (x : Judged). Ok x) on) h))
+
+pub judged_stray : {D J : Type 0} (Stands : D → State → Type 0) (events : List Event) (report : List ℕ) (clusters done : ℕ) (es : List Event) (rest : List ℕ) (new : Judge D) (r : Result Judged CheckError) (f : CheckError) → r ≡ Err f → ◌≡◌ {A = Result J CheckError} (Err f) (Err fails.NotFollowed) → JudgedTo Stands events report clusters done es rest r new → IsStray events report clusters
+judged_stray Stands events report clusters done es rest new r fails.NotFollowed is lost h = subst (λ (x : Result Judged CheckError). JudgedTo Stands events report clusters done es rest x new) is h
+judged_stray Stands events report clusters done es rest new r fails.OutOfMemory is lost h = absurd cc

@@ -1,5 +1,5 @@
 -- A device whose run is followed beside a report, and what is said of the report at an event.
-use Rattle.std.specs.Prelude.{◌≡◌, ◌≤◌, ℕ, suc, true, List, [], ◌∷◌, drop, Result, Ok, Err}
+use Rattle.std.specs.Prelude.{◌≡◌, ◌≤◌, ℕ, suc, true, false, List, [], ◌∷◌, drop, Result, Ok, Err}
 use Rattle.cf_base.specs.declared.answers.Answer.{Answer}
 use Rattle.cf_base.specs.declared.changes.Change.{Change}
 use Rattle.cf_base.specs.declared.events.Event.{Event}
@@ -14,10 +14,12 @@ use Rattle.cf_check_report.specs.declared.check_errors.CheckError.{CheckError}
 use Rattle.cf_check_report.specs.declared.judgements.Judged.{Judged}
 use Rattle.cf_check_report.specs.declared.judgements.Judged.TheVariants.{GoesOn, Open, Wrong}
 use Rattle.cf_check_report.specs.declared.judgements.Judge.{Judge}
-use Rattle.cf_check_report.specs.declared.check_errors.CheckError.TheVariants.{NotFollowed}
+use Rattle.cf_check_report.specs.declared.check_errors.CheckError.TheVariants as fails
+use Rattle.cf_check_report.specs.Straying.{IsStray}
 use Rattle.cf_check_room.specs.Weights.{weight}
 use Rattle.cf_check_traces.specs.Tests.{is_restart}
-use Rattle.cf_check_weights.specs.Weighed.{IsWeighed, Weighed}
+use Rattle.cf_check_weights.specs.Weighed.{IsWeighed, is_light}
+use Rattle.cf_check_weights.specs.declared.weights.Weight.{Weight}
 use Rattle.cf_model.specs.State.{State}
 use Rattle.cf_model_headline.specs.Reports.{after_answer}
 
@@ -30,23 +32,31 @@ pub record Follows {D : Type 0} (Stands : D → State → Type 0) (events : List
   pub stands : Stands j.device state
   pub weighed : IsWeighed j.weights state.filter.volume.log
 
--- what is said at the next event: the run is followed with it, or this is the right verdict
+-- what is said at the next event: the run is followed with it, or this is the right verdict, or the way of the report is lost
 abbrev pub JudgedTo : {D : Type 0} → (D → State → Type 0) → List Event → List ℕ → ℕ → ℕ → List Event → List ℕ → Result Judged CheckError → Judge D → Type 0
 JudgedTo Stands events report clusters done es rest (Ok (GoesOn n)) j = Follows Stands events report clusters (suc done) es (drop n rest) j
 JudgedTo Stands events report clusters done es rest (Ok Wrong) j = IsVerdict events report clusters (Unlawful (suc done))
 JudgedTo Stands events report clusters done es rest (Ok Open) j = IsVerdict events report clusters (Undecided (suc done))
-JudgedTo Stands events report clusters done es rest (Err e) j = Unit {0}
+JudgedTo Stands events report clusters done es rest (Err fails.NotFollowed) j = IsStray events report clusters
+JudgedTo Stands events report clusters done es rest (Err fails.OutOfMemory) j = Unit {0}
 
 -- a restart is done where the log surely weighs no more than the clusters
 abbrev pub MayOpen : {D : Type 0} → Event → Judge D → Type 0
 MayOpen e j = is_restart e ≡ true → (log : List (Usn × Change)) → IsWeighed j.weights log → weight log ≤ j.clusters
 
--- what a comparison says of the report
+-- it is not done where the log is heavier
+abbrev pub MayNotOpen : {D : Type 0} → Event → Judge D → Type 0
+MayNotOpen e j = (is_restart e ≡ true) × ((log : List (Usn × Change)) → IsWeighed j.weights log → is_light j.clusters log ≡ false)
+
+-- What a comparison says of the report. No state has an answer that is lost.
 abbrev pub judged_by : Comparison → Result Judged CheckError
 judged_by (compared.GoesOn n) = Ok (GoesOn n)
 judged_by compared.Differs = Ok Wrong
-judged_by compared.Lost = Err NotFollowed
+judged_by compared.TooLong = Err fails.NotFollowed
+judged_by compared.Lost = Err fails.OutOfMemory
 
--- The answer is weighed, and so the report goes on beside it.
-abbrev pub IsTaken : Event → Answer → List ℕ → Weighed → Weighed → Judged → Type 0
-IsTaken e a rest old new j = ((log : List (Usn × Change)) → IsWeighed old log → IsWeighed new (after_answer log e a)) × ((c : Comparison) × IsComparison e a rest c × (judged_by c ≡ Ok j))
+-- The answer is weighed, and so the report goes on beside it, or the answer is too long.
+abbrev pub IsTaken : Event → Answer → List ℕ → List Weight → List Weight → Result Judged CheckError → Type 0
+IsTaken e a rest old new (Ok j) = ((log : List (Usn × Change)) → IsWeighed old log → IsWeighed new (after_answer log e a)) × ((c : Comparison) × IsComparison e a rest c × (judged_by c ≡ Ok j))
+IsTaken e a rest old new (Err fails.NotFollowed) = IsComparison e a rest compared.TooLong
+IsTaken e a rest old new (Err fails.OutOfMemory) = Unit {0}

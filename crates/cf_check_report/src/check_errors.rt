@@ -9,9 +9,10 @@ use std::alloc::AllocError;
 /// Why a report is not judged.
 #[derive(Clone, Copy, Debug, PartialEq, Eq, thiserror::Error)]
 pub enum CheckError {
-    /// The report's way was lost. So it is at a restart of a volume that may have made a commit for room, since nobody can tell then which
-    /// points the restart may have opened: where its changes may have put bytes into more than half of the clusters, a write being
-    /// counted from the start of its file. Also where an answer has more than 2,147,483,647 bytes.
+    /// The report's way was lost, after events that have lawful answers with its texts. So it is at a restart of a volume that may have made a
+    /// commit for room, since nobody can tell then which points the restart may have opened: where its changes may have put bytes into more
+    /// than half of the clusters, a write being counted from the start of its file. So it is also where a lawful answer has more than
+    /// 2,147,483,647 bytes.
     #[error("not followed")]
     NotFollowed,
     #[error("out of memory")]

@@ -1,18 +1,18 @@
 //! One event of a report.
 
-ghost use Rattle.std.specs.Prelude.{◌≡◌, ◌<◌, ◌∷◌, ◌^◌, IfOk, List, ℕ, false, length, true};
+ghost use Rattle.std.specs.Prelude.{◌≡◌, ◌<◌, ◌∷◌, ◌^◌, List, ℕ, false, length, true};
 ghost use Rattle.cf_base.specs.declared.events.Event.{Event as Done};
 ghost use Rattle.cf_base.specs.declared.policies.Mode.TheVariants as mode;
 ghost use Rattle.cf_check_judge.specs.Judge.{first_result, is_line};
 ghost use Rattle.cf_check_model.specs.Reports.{device_line};
-ghost use Rattle.cf_check_report.specs.Following.{Follows, IsTaken, JudgedTo, MayOpen, judged_by};
+ghost use Rattle.cf_check_report.specs.Following.{Follows, IsTaken, JudgedTo, MayNotOpen, MayOpen, judged_by};
 ghost use Rattle.cf_check_report.specs.Playing.{Plays};
 ghost use Rattle.cf_model.specs.Events.{is_of};
 
 use crate::check_errors::CheckError;
 use crate::devices::Device;
 use crate::weighing::weigh;
-use cf_base::{Answer, Blob, Event, OutOfMemory};
+use cf_base::{Answer, Blob, Event, OutOfMemory, no_such_state};
 use cf_check_compare::{Comparison, compare, fails_next, is_foreign, is_restart, tellings};
 use cf_check_weights::Weights;
 use cf_report::text;
@@ -39,14 +39,15 @@ pub(crate) struct Judge<D> {
     pub(crate) expected: Blob,
 }
 
-// What is said by a comparison.
+// What is said by a comparison. No state has an answer that is lost, since the device is told which requests failed by the report.
 fn judgement_of(compared: Comparison) -> Result<Judged, CheckError>
     ensures { result ≡ judged_by compared }
 {
     match compared {
         Comparison::GoesOn(len) => Ok(Judged::GoesOn(len)),
         Comparison::Differs => Ok(Judged::Wrong),
-        Comparison::Lost => Err(CheckError::NotFollowed),
+        Comparison::TooLong => Err(CheckError::NotFollowed),
+        Comparison::Lost => Err(CheckError::from(no_such_state())),
     }
 }
 
@@ -59,7 +60,7 @@ fn take(
     answer: &Answer,
     rest: &[u8],
 ) -> Result<Judged, CheckError>
-    ensures { IfOk result (IsTaken event.now answer.now rest.now weights.old weights.new) }
+    ensures { IsTaken event.now answer.now rest.now weights.old weights.new result }
 {
     weigh(weights, event, answer)?;
     let compared = compare(alloc, event, answer, rest)?;
@@ -134,7 +135,8 @@ impl<D: Device> Judge<D> {
 
     // Whether the event is no restart, or one that can be followed.
     fn may_open(&self, event: &Event) -> bool
-        ensures { result ≡ true → MayOpen event.now self.now }
+        ensures opens { result ≡ true → MayOpen event.now self.now }
+        ensures strays { result ≡ false → MayNotOpen event.now self.now }
     {
         !is_restart(event) || self.weights.fit(self.clusters)
     }

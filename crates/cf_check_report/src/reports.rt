@@ -1,9 +1,11 @@
 //! A whole report.
 
-ghost use Rattle.std.specs.Prelude.{◌≡◌, ◌<◌, ◌^◌, IfOk, length};
+ghost use Rattle.std.specs.Prelude.{◌≡◌, ◌<◌, ◌^◌, Err, IfOk, length};
 ghost use Rattle.cf_base.specs.declared.policies.Mode.TheVariants as mode;
 ghost use Rattle.cf_check_judge.specs.Judge.{at_end};
 ghost use Rattle.cf_check_model.specs.Judging.{IsVerdict};
+ghost use Rattle.cf_check_report.specs.Straying.{IsStray};
+ghost use Rattle.cf_check_report.specs.declared.check_errors.CheckError.TheVariants as fails;
 ghost use Rattle.cf_model.specs.State.{start};
 ghost use Rattle.cf_model.specs.Store.{empty_remote};
 ghost use Rattle.cf_model.specs.Words.{is_empty};
@@ -60,7 +62,7 @@ fn at_end(rest: &[u8], done: u32, place: usize, expected: Blob) -> Judgement
 }
 
 /// Judges a report of these events beside a device of so many clusters, in which nothing has happened, and a remote that is empty at the
-/// start. The verdict is the only one that is right. NotFollowed is answered where the report's way was lost, as `CheckError` explains.
+/// start. The verdict is the only one that is right. NotFollowed is answered only where the report's way was lost, as `CheckError` explains.
 pub fn judge<D: Device + Drop>(
     alloc: Global,
     device: D,
@@ -71,7 +73,8 @@ pub fn judge<D: Device + Drop>(
     requires stands { D.stands device (start mode.Replay empty_remote clusters) }
     requires events { length events.now < 2 ^ 32 }
     requires report { length report.now < 2 ^ 31 }
-    ensures { IfOk result (λ j. IsVerdict events.now report.now clusters j.verdict) }
+    ensures right { IfOk result (λ j. IsVerdict events.now report.now clusters j.verdict) }
+    ensures strays { result ≡ Err fails.NotFollowed → IsStray events.now report.now clusters }
 {
     let mut judge = Judge {
         device,

@@ -12,7 +12,7 @@ use Rattle.cf_base.specs.declared.items.Pin.TheVariants as pin
 use Rattle.cf_check_room.specs.Weights.{peak_from, puts_from, weight}
 use Rattle.cf_check_weights.proofs.Blocks.{counting_length, held_after, none_here}
 use Rattle.cf_check_weights.specs.Costs.{blocks_to, cost_of, made_by}
-use Rattle.cf_check_weights.specs.Weighed.{greater, last_weight, makes_above, most_weight, next_weight, nothing, rises_from, weights_from}
+use Rattle.cf_check_weights.specs.Weighed.{greater, last_weight, makes_above, most_weight, next_weight, nothing, weight_of, weights_from}
 use Rattle.cf_check_weights.specs.declared.weights.Weight.{Weight}
 use Rattle.cf_model.specs.Blocks.{blocks_held, blocks_of, blocks_used, held_of, lacks_in, puts_into, size_at}
 use Rattle.cf_model.specs.Effects.{changed, copied, copies, effect, made, size_made, without}
@@ -237,28 +237,33 @@ least : (w : Weight) (log : List (Usn × Change)) → w.total ≤ most_weight �
 least w [] le = omega arith
 least w (c ∷ cs) le = let h = least (next_weight w c.1) cs (omega arith) in omega (arith, h, le)
 
+-- what rises in the end rose before
+rose : (w : Weight) (log : List (Usn × Change)) → (last_weight w (weights_from w log)).rises ≡ true → w.rises ≡ true
+rose w [] h = h
+rose w (c ∷ cs) h = (both w.rises (makes_above w.greatest c.1) (rose (next_weight w c.1) cs h)).0
+
 -- the blocks that the items use are never more than the sum, nor are those into which the changes put bytes
-bounds : (items : List Item) (w : Weight) (log : List (Usn × Change)) → IsRising 0 items w.greatest → rises_from w.greatest log ≡ true → blocks_used items ≤ w.total → w.total ≤ most_weight → (last_weight w (weights_from w log)).total < most_weight
+bounds : (items : List Item) (w : Weight) (log : List (Usn × Change)) → IsRising 0 items w.greatest → (last_weight w (weights_from w log)).rises ≡ true → blocks_used items ≤ w.total → w.total ≤ most_weight → (last_weight w (weights_from w log)).total < most_weight
     → (w.total + puts_from items log ≤ (last_weight w (weights_from w log)).total) × (peak_from items log ≤ (last_weight w (weights_from w log)).total)
 bounds items w [] r rises le small few = (omega arith, le)
 bounds items w (c ∷ cs) r rises le small few =
-    let x = both (makes_above w.greatest c.1) (rises_from (greater w.greatest (made_by c.1)) cs) rises in
     let next : Weight = next_weight w c.1 in
+    let above : makes_above w.greatest c.1 ≡ true = (both w.rises (makes_above w.greatest c.1) (rose next cs rises)).1 in
     let last : ℕ = (last_weight next (weights_from next cs)).total in
     let low : next.total ≤ last = least next cs (omega arith) in
     let some : last < most_weight = few in
     let puts : length (puts_into items c.1) ≤ cost_of w.total c.1 = puts_few items c.1 w.total le in
     let sum : next.total ≡ w.total + cost_of w.total c.1 = omega (arith, low, some) in
     let more : blocks_used (effect items c.1 c.0) ≤ blocks_used items + length (puts_into items c.1) = uses_more items w.greatest c.1 c.0 r in
-    let h = bounds (effect items c.1 c.0) next cs (stays_rising items w.greatest c.1 c.0 r x.0) x.1 (omega (arith, more, puts, sum, le)) (omega arith) few in
+    let h = bounds (effect items c.1 c.0) next cs (stays_rising items w.greatest c.1 c.0 r above) rises (omega (arith, more, puts, sum, le)) (omega arith) few in
     let one : next.total + puts_from (effect items c.1 c.0) cs ≤ last = h.0 in
     let two : peak_from (effect items c.1 c.0) cs ≤ last = h.1 in
     (omega (arith, one, puts, sum), omega (arith, two, low, sum, le))
 
 -- a log whose changes cost no more than half of the clusters weighs no more than these
-pub light : (log : List (Usn × Change)) (clusters : ℕ) → rises_from 1 log ≡ true → clusters < 2 ^ 32 → (last_weight nothing (weights_from nothing log)).total ≤ clusters / 2 → weight log ≤ clusters
+pub light : (log : List (Usn × Change)) (clusters : ℕ) → (weight_of log).rises ≡ true → clusters < 2 ^ 32 → (weight_of log).total ≤ clusters / 2 → weight log ≤ clusters
 light log clusters rises small le =
     let h = bounds (root ∷ []) nothing log (omega arith, omega arith, record {}) rises (omega arith) (omega arith) (omega (arith, small, le)) in
-    let one : 0 + puts_from (root ∷ []) log ≤ (last_weight nothing (weights_from nothing log)).total = h.0 in
-    let two : peak_from (root ∷ []) log ≤ (last_weight nothing (weights_from nothing log)).total = h.1 in
+    let one : 0 + puts_from (root ∷ []) log ≤ (weight_of log).total = h.0 in
+    let two : peak_from (root ∷ []) log ≤ (weight_of log).total = h.1 in
     omega (arith, one, two, le)

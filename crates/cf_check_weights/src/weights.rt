@@ -4,7 +4,7 @@ ghost use Rattle.std.specs.Prelude.{◌≡◌, ◌≤◌, ◌++◌, ◌&&◌, �
 ghost use Rattle.cf_base.specs.declared.changes.Change.{Change as Logged};
 ghost use Rattle.cf_base.specs.declared.ids.Usn.{Usn};
 ghost use Rattle.cf_check_room.specs.Weights.{weight};
-ghost use Rattle.cf_check_weights.specs.Weighed.{IsWeighed, last_weight, makes_above, next_weight, nothing};
+ghost use Rattle.cf_check_weights.specs.Weighed.{IsWeighed, is_light, last_weight, makes_above, next_weight, nothing};
 
 use crate::costs::{cost_of, made_by};
 use cf_base::{Change, OutOfMemory};
@@ -18,22 +18,23 @@ pub(crate) struct Weight {
     pub(crate) total: u64,
     /// The greatest number of an item.
     pub(crate) greatest: u64,
+    /// Whether each item that was made had a greater number than all before it.
+    pub(crate) rises: bool,
 }
 
-/// What is known of a log, after each of its changes. Contracts see the list, and whether each item that was made had a greater number than
-/// all before it.
+/// What is known of a log, after each of its changes. Contracts see the list.
 #[derive(Drop)]
 pub struct Weights {
     weights: Vec<Weight>,
-    rises: bool,
 }
 
 impl Model for Weights {
-    ghost use Rattle.cf_check_weights.specs.Weighed.{Weighed};
+    ghost use Rattle.std.specs.Prelude.{List};
+    ghost use Rattle.cf_check_weights.specs.declared.weights.Weight.{Weight as Known};
 
-    ghost Value = { Weighed };
+    ghost Value = { List Known };
 
-    ghost view = { λ w. record { weights = w.weights.items; rises = w.rises } };
+    ghost view = { λ w. w.weights.items };
 }
 
 // Whether the change makes no item, or one with a greater number.
@@ -44,12 +45,6 @@ fn makes_above(greatest: u64, change: &Change) -> bool
         Some(item) => greatest < item,
         None => true,
     }
-}
-
-fn rises_then(rises: bool, last: Weight, change: &Change) -> bool
-    ensures { result ≡ (rises && makes_above last.greatest change.now) }
-{
-    rises && makes_above(last.greatest, change)
 }
 
 // What is known after one change more.
@@ -63,6 +58,7 @@ fn next_weight(last: Weight, change: &Change) -> Weight
     Weight {
         total: last.total.saturating_add(cost_of(change, last.total)),
         greatest,
+        rises: last.rises && makes_above(last.greatest, change),
     }
 }
 
@@ -73,18 +69,18 @@ impl Weights {
     {
         Weights {
             weights: Vec::new(alloc),
-            rises: true,
         }
     }
 
     fn last(&self) -> Weight
-        ensures { result ≡ last_weight nothing self.now.weights }
+        ensures { result ≡ last_weight nothing self.now }
     {
         match self.weights.last() {
             Some(last) => *last,
             None => Weight {
                 total: 0,
                 greatest: 1,
+                rises: true,
             },
         }
     }
@@ -94,9 +90,7 @@ impl Weights {
         ensures { (log : List (Usn × Logged)) (number : Usn) → IsWeighed self.old log → OnOk result (IsWeighed self.new (log ++ (number, change.now) ∷ [])) }
     {
         let last = self.last();
-        let rises = rises_then(self.rises, last, change);
         self.weights.push(next_weight(last, change))?;
-        self.rises = rises;
         Ok(())
     }
 
@@ -109,10 +103,13 @@ impl Weights {
         }
     }
 
-    /// Whether the log surely weighs no more than so many clusters. It is not asked of all logs that do.
+    /// Whether the changes may have put bytes into no more than half of the clusters, so that the log surely weighs no more than these. It is
+    /// not asked of all logs that do.
     pub fn fit(&self, clusters: u32) -> bool
-        ensures { (log : List (Usn × Logged)) → IsWeighed self.now log → result ≡ true → weight log ≤ clusters }
+        ensures exact { (log : List (Usn × Logged)) → IsWeighed self.now log → result ≡ is_light clusters log }
+        ensures light { (log : List (Usn × Logged)) → IsWeighed self.now log → result ≡ true → weight log ≤ clusters }
     {
-        self.rises && self.last().total <= u64::from(clusters / 2)
+        let last = self.last();
+        last.rises && last.total <= u64::from(clusters / 2)
     }
 }

@@ -1,15 +1,15 @@
 use Rattle.std.proofs.Common.{◌+◌, ◌∙◌, ap, arith, drop, refl, subst, sym, List}
 use Rattle.cf_base.specs.declared.events.Event.{Event}
 use Rattle.cf_check_compare.proofs.Alls.{rest_is}
-use Rattle.cf_check_report.proofs.Judging.{ended, followed, judged_on, judged_open, judged_wrong}
+use Rattle.cf_check_report.proofs.Judging.{ended, followed, judged_on, judged_open, judged_stray, judged_wrong}
 use Rattle.cf_check_report.specs.Following.{Follows}
 use Rattle.cf_check_report.proofs.reports.judge.Goals as goal
 
 pub loop-event-init : goal.loop-event-init
 loop-event-init g c = (followed g.D.Device.stands c.args.events.now c.args.report.now c.args.clusters _ c.requires.report refl c.requires.stands c.new.ensures, refl)
 
-pub returns-in-Ok-Wrong : goal.returns-in-Ok-Wrong
-returns-in-Ok-Wrong g c =
+pub returns-in-Ok-Wrong-clause-right : goal.returns-in-Ok-Wrong-clause-right
+returns-in-Ok-Wrong-clause-right g c =
     let i = c.loop-event.event-index in
     let all = c.args.events.now in
     let at = subst (λ (es : List Event). Follows g.D.Device.stands all c.args.report.now c.args.clusters i es c.loop-event.rest.now c.loop-event.judge) (rest_is all i c.event-item.result c.event-item.is c.loop-event-test.true) c.loop-event.invariant.0 in
@@ -18,8 +18,8 @@ returns-in-Ok-Wrong g c =
     (c.judge-next.ensures all (drop (i + 1) all) c.args.report.now c.args.clusters i c.requires.report at)
     )
 
-pub returns-in-Ok-Open : goal.returns-in-Ok-Open
-returns-in-Ok-Open g c =
+pub returns-in-Ok-Open-clause-right : goal.returns-in-Ok-Open-clause-right
+returns-in-Ok-Open-clause-right g c =
     let i = c.loop-event.event-index in
     let all = c.args.events.now in
     let at = subst (λ (es : List Event). Follows g.D.Device.stands all c.args.report.now c.args.clusters i es c.loop-event.rest.now c.loop-event.judge) (rest_is all i c.event-item.result c.event-item.is c.loop-event-test.true) c.loop-event.invariant.0 in
@@ -27,6 +27,14 @@ returns-in-Ok-Open g c =
     judged_open g.D.Device.stands all c.args.report.now c.args.clusters i c.loop-event.done (drop (i + 1) all) c.loop-event.rest.now c.judge-next.result.0 c.judge-next.result.1 c.in-Ok-Open.field-0 c.in-Ok-Open.is (rw c.in-Ok-Open.is at c.in-Ok-Open.field-0-is) c.loop-event.invariant.1
     (c.judge-next.ensures all (drop (i + 1) all) c.args.report.now c.args.clusters i c.requires.report at)
     )
+
+pub returns-in-Err-clause-strays : goal.returns-in-Err-clause-strays
+returns-in-Err-clause-strays g c = λ lost.
+    let i = c.loop-event.event-index in
+    let all = c.args.events.now in
+    let at = subst (λ (es : List Event). Follows g.D.Device.stands all c.args.report.now c.args.clusters i es c.loop-event.rest.now c.loop-event.judge) (rest_is all i c.event-item.result c.event-item.is c.loop-event-test.true) c.loop-event.invariant.0 in
+    judged_stray g.D.Device.stands all c.args.report.now c.args.clusters i (drop (i + 1) all) c.loop-event.rest.now c.judge-next.result.0 c.judge-next.result.1 c.in-Err.fail c.in-Err.is lost
+    (c.judge-next.ensures all (drop (i + 1) all) c.args.report.now c.args.clusters i c.requires.report at)
 
 pub loop-event-preserved : goal.loop-event-preserved
 loop-event-preserved g c =

@@ -3,5 +3,4 @@ use Rattle.cf_check_weights.proofs.weights.Weights.add.Goals as goal
 
 pub returns : goal.returns
 returns c = λ log number h.
-    weighed_more c.args.self.now _ c.self.inside.weights.items c.self.inside.rises log number c.args.change.now c.last-last.result c.next_weight.result c.self.view_is h c.last-last.ensures c.next_weight.ensures c.in_ok-push.ensures.items
-    c.rises_then-rises.ensures
+    weighed_more c.args.self.now _ c.self.inside.weights.items log number c.args.change.now c.last-last.result c.next_weight.result c.self.view_is h c.last-last.ensures c.next_weight.ensures c.in_ok-push.ensures.items

@@ -1,8 +1,8 @@
-use Rattle.std.proofs.Common.{ap}
-use Rattle.cf_check_weights.proofs.Weighing.{fits_light}
-use Rattle.cf_check_weights.specs.declared.weights.Weight.{Weight}
+use Rattle.std.proofs.Common.{◌∙◌, refl, sym, leb}
+use Rattle.cf_check_weights.proofs.Weighing.{light_is, weighs_less}
 use Rattle.cf_check_weights.proofs.weights.Weights.fit.Goals as goal
 
-pub returns-then-self : goal.returns-then-self
-returns-then-self c = λ log h e.
-    fits_light c.args.self.now c.self.inside.weights.items c.self.inside.rises log c.args.clusters c.last.result.total c.from.result c.self.view_is h c.if-self.true (ap (λ (w : Weight). w.total) c.last.ensures) c.from.ensures c.ranges.clusters.fits e
+pub returns-then-last-clause-light : goal.returns-then-last-clause-light
+returns-then-last-clause-light c = λ log h e.
+    weighs_less log c.args.clusters c.ranges.clusters.fits
+    (sym (light_is c.args.self.now log c.args.clusters c.from.result c.last-last.result (leb c.last-last.result.total c.from.result) h c.last-last.ensures c.from.ensures (rw c.if-last.true refl)) ∙ e)

@@ -1,0 +1,38 @@
+-- Where the way of a report is lost.
+use Rattle.std.specs.Prelude.{◌≡◌, ◌⊎◌, ◌≤◌, ◌^◌, ℕ, true, false, List, ◌∷◌, length}
+use Rattle.cf_base.specs.declared.answers.Answer.{Answer}
+use Rattle.cf_base.specs.declared.events.Event.{Event}
+use Rattle.cf_base.specs.declared.policies.Mode.TheVariants as mode
+use Rattle.cf_check_compare.specs.Passed.{is_passed}
+use Rattle.cf_check_judge.specs.Judge.{first_result, is_line}
+use Rattle.cf_check_judge.specs.Settled.{IsAt}
+use Rattle.cf_check_model.specs.Reports.{device_line}
+use Rattle.cf_check_traces.specs.Tests.{is_restart}
+use Rattle.cf_check_weights.specs.Weighed.{is_light}
+use Rattle.cf_model.specs.Events.{is_of}
+use Rattle.cf_model.specs.Lawful.{IsStep}
+use Rattle.cf_model.specs.State.{State}
+use Rattle.cf_report.specs.Texts.{text}
+
+-- a restart of a volume whose changes may have put bytes into more than half of the clusters, so that it may have made a commit for room
+abbrev pub IsHeavyRestart : ℕ → Event → State → Type 0
+IsHeavyRestart clusters e s = (is_restart e ≡ true) × (is_light clusters s.filter.volume.log ≡ false)
+
+-- The event has a lawful answer of 2^31 bytes or more. The remote does in it what the report tells: it passes the tests that each answer
+-- passes which is given so. So it is not that of a device that failed.
+abbrev pub HasLongAnswer : Event → State → List ℕ → Type 0
+HasLongAnswer e s rest = (a : Answer) × (t : State) × IsStep mode.Replay s e a t × (t.link.honest ≡ true) × (is_passed e a rest ≡ true) × (2 ^ 31 ≤ length (text a))
+
+-- Some of the events have lawful answers with the texts of the report, and it does not go on with the answer of a device that failed. The
+-- next event is one of `replay`. It is a restart that cannot be followed, or its answer is too long.
+pub record IsStray (events : List Event) (report : List ℕ) (clusters : ℕ) : Type 0 where
+  pub done : ℕ
+  pub next : Event
+  pub more : List Event
+  pub trace : List (Event × Answer)
+  pub state : State
+  pub rest : List ℕ
+  pub at : IsAt events report clusters done (next ∷ more) trace state rest
+  pub allowed : is_of mode.Replay next ≡ true
+  pub runs : is_line device_line (first_result rest) ≡ false
+  pub strays : IsHeavyRestart clusters next state ⊎ HasLongAnswer next state rest
