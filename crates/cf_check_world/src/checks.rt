@@ -1,7 +1,9 @@
 //! The judgement of a report.
 
-ghost use Rattle.std.specs.Prelude.{◌≤◌, ◌<◌, ◌^◌, IfOk, length};
+ghost use Rattle.std.specs.Prelude.{◌≡◌, ◌≤◌, ◌<◌, ◌^◌, Err, IfOk, length};
 ghost use Rattle.cf_check_model.specs.Judging.{IsVerdict};
+ghost use Rattle.cf_check_report.specs.Straying.{IsStray};
+ghost use Rattle.cf_check_report.specs.declared.check_errors.CheckError.TheVariants as fails;
 
 use crate::mem_devices::MemDevice;
 use cf_base::Event;
@@ -9,7 +11,7 @@ use cf_check_report::{CheckError, Judgement, judge};
 use std::alloc::Global;
 
 /// Judges a report of these events, of a device with so many clusters, at most 65,536, and a remote that is empty at the start. The verdict
-/// is the only one that is right. Fails as NotFollowed where the report's way was lost, as `CheckError` explains, and as OutOfMemory.
+/// is the only one that is right. Fails as NotFollowed only where the report's way was lost, as `CheckError` explains, and as OutOfMemory.
 pub fn check(
     alloc: Global,
     events: &[Event],
@@ -19,7 +21,8 @@ pub fn check(
     requires clusters { clusters ≤ 65536 }
     requires events { length events.now < 2 ^ 32 }
     requires report { length report.now < 2 ^ 31 }
-    ensures { IfOk result (λ j. IsVerdict events.now report.now clusters j.verdict) }
+    ensures right { IfOk result (λ j. IsVerdict events.now report.now clusters j.verdict) }
+    ensures strays { result ≡ Err fails.NotFollowed → IsStray events.now report.now clusters }
 {
     let device = MemDevice::start(alloc, clusters)?;
     judge(alloc, device, clusters, events, report)

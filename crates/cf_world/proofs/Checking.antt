@@ -65,7 +65,7 @@ module _ (text : List ℕ) (old new : Option (List ℕ)) (short : length text �
 
   pub verdict_written : (events : List Event) (report : List ℕ) (end : Status) → IsRecording text events report → PutsVerdict events report old new end → CheckWrites text old new end
   verdict_written events report end r (inr (v, is, p)) = puts_line (verdict_line v) (verdict_status v) end (has events report v r is) p
-  verdict_written events report status.NotFollowed r (inl h) = (short, events, report, r, h.1)
+  verdict_written events report status.NotFollowed r (inl h) = (short, events, report, r, h.0, h.1)
   verdict_written events report status.OutOfMemory r (inl h) = inl h.1
   verdict_written events report status.Done r (inl h) = absurd h.0
   verdict_written events report status.Unlawful r (inl h) = absurd h.0

@@ -3,8 +3,10 @@
 ghost use Rattle.std.specs.Prelude.{◌≡◌, ◌≢◌, ◌⊎◌, ◌≤◌, ◌<◌, ◌^◌, IfOk, List, None, length, string_bytes, ℕ};
 ghost use Rattle.cf_base.specs.declared.events.Event.{Event as Done};
 ghost use Rattle.cf_base.specs.declared.statuses.Status.TheVariants as ends;
+ghost use Rattle.cf_check_report.specs.Straying.{IsStray};
+ghost use Rattle.cf_check_report.specs.declared.check_errors.CheckError.TheVariants as fails;
 ghost use Rattle.cf_io.specs.Moves.{IsQuiet, IsWhole, Rose};
-ghost use Rattle.cf_world.specs.Checks.{CheckWrites, IsRecording, IsSilent, OfCheck, most_checked, unmarked_line, verdict_line, verdict_status};
+ghost use Rattle.cf_world.specs.Checks.{CheckWrites, IsRecording, IsSilent, OfCheck, clusters, most_checked, unmarked_line, verdict_line, verdict_status};
 ghost use Rattle.cf_world.specs.Judged.{IsUnjudged, PutsLine, PutsVerdict};
 ghost use Rattle.cf_world.specs.Runs.{IsBeforeWriting};
 
@@ -138,7 +140,7 @@ fn judge_report<K: Sink>(
 
 // The status of a report that was not judged.
 fn unjudged(fail: CheckError) -> Status
-    ensures { IsUnjudged result }
+    ensures { (events : List Done) (report : List ℕ) → (fail ≡ fails.NotFollowed → IsStray events report clusters) → IsUnjudged events report result }
 {
     match fail {
         CheckError::NotFollowed => Status::NotFollowed,
