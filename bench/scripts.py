@@ -75,6 +75,16 @@ def renamed(count):
     yield "sync"
 
 
+def changed(count):
+    """`count` files that are synced, written to, and synced."""
+    yield from created(count)
+    for n in range(count):
+        yield f"open /{short(n)}"
+        yield f"write 1.{n + 1} 0 6162"
+        yield f"close 1.{n + 1}"
+    yield "sync"
+
+
 def fed(count):
     """`count` files that another device put, synced, and changed by it, and synced."""
     yield from (f"peer put /{short(n)} {n % 256:02x}" for n in range(count))
@@ -224,6 +234,7 @@ CASES = [
     ("replay", mirrored, 8_000),
     ("replay", created, 9_999),
     ("replay", renamed, 9_999),
+    ("replay", changed, 8_000),
     ("replay", fed, 9_999),
     ("replay", idle, 9_999),
     ("replay", waiting, 1_024),
