@@ -1,5 +1,5 @@
-//! When no commit for room is made: where all that a log ever needed fits into the clusters. Then a restart may open the points of
-//! flushes and uploads alone.
+//! When no commit for room is made: where all that a log needed since the last point of a flush or an upload fits into the clusters. Then a
+//! restart may open the points of flushes and uploads alone.
 #![tactic(auto)]
 
 mod laws;

@@ -5,7 +5,7 @@ use Rattle.cf_base.specs.declared.codes.Code.{Code}
 use Rattle.cf_base.specs.declared.notices.Notice.{Notice}
 use Rattle.cf_model.specs.Arrows.{Arrow, and_then, attempt, choose, each, noted, one, one_or, only_if, reading, ret, seq, then_do, unit, unless, unless_done, when_ok}
 use Rattle.cf_model.specs.Trees.{Asked, Stops, Ends, Fork, Ret, Step, Tree, bind, mapped}
-use Rattle.cf_check_room.specs.Weights.{weight}
+use Rattle.cf_check_room.specs.Weights.{weight_since}
 use Rattle.cf_check_room.proofs.Light.{weight_longer}
 use Rattle.cf_check_ways.specs.Ways.{BecomesSure, Core, sures, Alike, FailedIn, Grown, IsFront, IsPlain, IsSure, Parted, Reads, SameEnd, View}
 
@@ -96,7 +96,7 @@ front_here v t s o u same e g = (g.notes.0, g.notes.1 ∙ ap (λ (xs : List Noti
 -- what commits are made of
 
 pub becomes_none : (c : Core) → BecomesSure c c
-becomes_none c = record { holds = refl; longer = ([], sym (append-nil c.log)); weighs = λ w. w; sure = λ w light all. all }
+becomes_none c = record { holds = refl; longer = ([], sym (append-nil c.log)); weighs = λ n w. w; sure = λ n w light all. all }
 
 pub becomes_same : (a b : Core) → b ≡ a → BecomesSure a b
 becomes_same a b e = subst (λ (x : Core). BecomesSure a x) (sym e) (becomes_none a)
@@ -105,12 +105,12 @@ pub becomes_more : (a b c : Core) → BecomesSure a b → BecomesSure b c → Be
 becomes_more a b c f g = record {
   holds = g.holds ∙ f.holds;
   longer = (f.longer.0 ++ g.longer.0, g.longer.1 ∙ ap (λ (xs : List _). xs ++ g.longer.0) f.longer.1 ∙ append_assoc a.log f.longer.0 g.longer.0);
-  weighs = λ w. g.weighs (f.weighs w);
-  sure = λ w light all.
-      let less : weight b.log ≤ weight (b.log ++ g.longer.0) = weight_longer b.log g.longer.0 in
-      let same : weight c.log ≡ weight (b.log ++ g.longer.0) = ap weight g.longer.1 in
+  weighs = λ n w. g.weighs n (f.weighs n w);
+  sure = λ n w light all.
+      let less : weight_since n b.log ≤ weight_since n (b.log ++ g.longer.0) = weight_longer n b.log g.longer.0 (f.weighs n w).there in
+      let same : weight_since n c.log ≡ weight_since n (b.log ++ g.longer.0) = ap (weight_since n) g.longer.1 in
       let holds : b.clusters ≡ a.clusters = f.holds in
-      g.sure (f.weighs w) (omega (arith, light, holds)) (f.sure w (omega (arith, light, less, same)) all);
+      g.sure n (f.weighs n w) (omega (arith, light, holds)) (f.sure n w (omega (arith, light, less, same)) all);
 }
 
 -- the words

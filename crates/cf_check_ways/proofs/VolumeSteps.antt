@@ -37,26 +37,26 @@ put_ends f c v w n true (inr (e, d)) = (e, ap without_points d)
 
 -- it makes the log longer by one, and a commit for room where that may be needed
 
-as_weighed : (v : Volume) → Weighs (core_of v) → IsWeighed v.clusters v
-as_weighed v w = record { holds = refl; items = w.items; then_ = w.then_; since = w.since }
+as_weighed : (n : ℕ) (v : Volume) → Weighs n (core_of v) → IsWeighed v.clusters n v
+as_weighed n v w = record { holds = refl; items = w.items; there = w.there; then_ = w.then_; since = w.since }
 
-of_weighed : (k : ℕ) (v : Volume) → IsWeighed k v → Weighs (core_of v)
-of_weighed k v w = record { items = w.items; then_ = w.then_; since = w.since }
+of_weighed : (k n : ℕ) (v : Volume) → IsWeighed k n v → Weighs n (core_of v)
+of_weighed k n v w = record { items = w.items; there = w.there; then_ = w.then_; since = w.since }
 
 put_becomes : (f : Book → Book) (c : Change) (v : Volume) → BecomesSure (core_of v) (core_of (put_with_book f c v))
 put_becomes f c v = record {
   holds = refl;
   longer = ((next_number v, c) ∷ [], refl);
-  weighs = λ w. of_weighed v.clusters (put_with_book f c v) (put_weighed v.clusters f c v (as_weighed v w));
-  sure = λ w light all. all;
+  weighs = λ n w. of_weighed v.clusters n (put_with_book f c v) (put_weighed v.clusters n f c v (as_weighed n v w));
+  sure = λ n w light all. all;
 }
 
 room_becomes : (f : Book → Book) (c : Change) (v : Volume) → may_need_room c v ≡ true → BecomesSure (core_of v) (core_of (put_with_book f c (with_room_point v)))
 room_becomes f c v needs = record {
   holds = refl;
   longer = ((next_number v, c) ∷ [], refl);
-  weighs = λ w. of_weighed v.clusters (put_with_book f c (with_room_point v)) (put_weighed v.clusters f c (with_room_point v) (pointed v.clusters v _ (as_weighed v w)));
-  sure = λ w light all. let z : true ≡ false = sym needs ∙ weighed_needs_none v.clusters v (as_weighed v w) c (next_number v) light in absurd cc;
+  weighs = λ n w. of_weighed v.clusters n (put_with_book f c (with_room_point v)) (put_weighed v.clusters n f c (with_room_point v) (pointed v.clusters n v _ (as_weighed n v w)));
+  sure = λ n w light all. let z : true ≡ false = sym needs ∙ weighed_needs_none v.clusters n v (as_weighed n v w) c (next_number v) light in absurd cc;
 }
 
 applied : (f : Book → Book) (c : Change) (v : Volume) (n : Usn) (w : Volume) (room : Bool) → may_need_room c v ≡ room → Ends (put_after_room f c room v) n w → BecomesSure (core_of v) (core_of w)
@@ -175,8 +175,8 @@ committed : (v : Volume) → BecomesSure (core_of v) (core_of (with_sure_point v
 committed v = record {
   holds = refl;
   longer = ([], sym (append-nil v.log));
-  weighs = λ w. of_weighed v.clusters (with_sure_point v) (pointed v.clusters v _ (as_weighed v w));
-  sure = λ w light all. refl;
+  weighs = λ n w. of_weighed v.clusters n (with_sure_point v) (pointed v.clusters n v _ (as_weighed n v w));
+  sure = λ n w light all. refl;
 }
 
 quiet_volume : (v w : Volume) → Grown of_volume v w

@@ -22,7 +22,7 @@ use Rattle.cf_model.specs.Arrows.{Arrow}
 use Rattle.cf_model.specs.Blocks.{blocks_used}
 use Rattle.cf_model.specs.Items.{Item}
 use Rattle.cf_model.specs.Logs.{items_of}
-use Rattle.cf_check_room.specs.Weights.{peak, puts, weight}
+use Rattle.cf_check_room.specs.Weights.{peak_since, puts_since, weight_since}
 use Rattle.cf_model.specs.Events.{answer_in, begun}
 use Rattle.cf_model.specs.Numbers.{most}
 use Rattle.cf_model.specs.Restarts.{epoch_after, resumed, with_opened}
@@ -48,18 +48,20 @@ sures c = filter (λ p. p.sure) c.points
 abbrev pub AllSure : Core → Type 0
 AllSure c = list_all (λ p. p.sure) c.points ≡ true
 
--- What is kept since the last point weighs no more than the log.
-pub record Weighs (c : Core) : Type 0 where
+-- What is kept since the last point weighs no more than the log does since its first n changes.
+pub record Weighs (n : ℕ) (c : Core) : Type 0 where
   pub items : c.items ≡ items_of c.log
-  pub then_ : blocks_used c.items_then ≤ peak c.log
-  pub since : c.put_since ≤ puts c.log
+  pub there : n ≤ length c.log
+  pub then_ : blocks_used c.items_then ≤ peak_since n c.log
+  pub since : c.put_since ≤ puts_since n c.log
 
--- The one becomes the other by changes and commits. Where the log weighs no more than the clusters, none is made for room.
+-- The one becomes the other by changes and commits. Where what is kept weighs no more than the log since its first n changes, and that no more
+-- than the clusters in the end, no commit is made for room.
 pub record BecomesSure (a b : Core) : Type 0 where
   pub holds : b.clusters ≡ a.clusters
   pub longer : (more : List (Usn × Change)) × (b.log ≡ a.log ++ more)
-  pub weighs : Weighs a → Weighs b
-  pub sure : Weighs a → weight b.log ≤ a.clusters → AllSure a → AllSure b
+  pub weighs : (n : ℕ) → Weighs n a → Weighs n b
+  pub sure : (n : ℕ) → Weighs n a → weight_since n b.log ≤ a.clusters → AllSure a → AllSure b
 
 -- What is looked at of a state: what of it is fixed, what happened so far, how many messages there are, how many openings failed
 -- since the last one, and whether something is said of it.
