@@ -26,13 +26,12 @@ use Rattle.cf_check_model.specs.declared.verdicts.Verdict.TheVariants.{Unlawful,
 use Rattle.cf_check_model.proofs.Fronts.{texts_join}
 use Rattle.cf_check_text.specs.Clean.{is_clean}
 use Rattle.cf_check_text.proofs.Lines.{next_result}
-use Rattle.cf_check_room.specs.Weights.{weight}
 use Rattle.cf_check_ways.specs.Ways.{AllSure, core_of, sures, is_fault, Alike, fixed_state, is_good, of_state}
 use Rattle.cf_check_traces.specs.Decided.{IsStopped, MeetsResult, NoneStopped}
 use Rattle.cf_check_traces.specs.Tests.{is_restart, begins, is_device, meets_alone, meets_lines}
 use Rattle.cf_check_traces.proofs.Accepting.{LastOf, last_of}
-use Rattle.cf_check_traces.specs.Followed.{IsFollowed, IsNext}
-use Rattle.cf_check_traces.proofs.NextOnes.{only_next, own_tight}
+use Rattle.cf_check_traces.specs.Followed.{IsFollowed, IsNext, IsTight, StaysTight}
+use Rattle.cf_check_traces.proofs.NextOnes.{only_next, stays_tight}
 use Rattle.cf_check_traces.proofs.NextSteps.{goes_on}
 use Rattle.cf_check_traces.proofs.SameRuns.{Front, front_of, last_event}
 use Rattle.cf_check_traces.proofs.Testing.{alone_so, alone_unasked, begins_is, begins_so, meets_so, not_stopped}
@@ -143,7 +142,7 @@ module _ (events : List Event) (report : List ℕ) (clusters : ℕ) (short : len
 
   -- the judge goes on
   pub goes_next : (done : ℕ) (e : Event) (es : List Event) (trace : List (Event × Answer)) (s : State) (rest : List ℕ) → IsAt events report clusters done (e ∷ es) trace s rest → (first_result rest ≡ Some device_line → ⊥)
-      → (a : Answer) (t : State) → IsNext clusters s e a t rest → begins (text a) rest ≡ true → IsAt events report clusters (suc done) es (trace ++ (e, a) ∷ []) t (drop (length (text a)) rest)
+      → (a : Answer) (t : State) → IsNext events report clusters done s e a t rest → begins (text a) rest ≡ true → IsAt events report clusters (suc done) es (trace ++ (e, a) ∷ []) t (drop (length (text a)) rest)
   goes_next done e es trace s rest at other a t next so =
       let below = left done e es trace s rest at in
       let took = next_taken done e es trace s rest at in
@@ -162,7 +161,6 @@ module _ (events : List Event) (report : List ℕ) (clusters : ℕ) (short : len
               ∙ ap (λ (xs : List ℕ). xs ++ more.0) (sym joined) ∙ ap (λ (xs : List ℕ). texts (map answer_of (trace ++ (e, a) ∷ [])) ++ xs) (sym rest_is);
           none = none_more trace e a at.run.none next.runs;
           only = λ others u acc. let x = only_next events report clusters short done trace s rest at.run below e took a t next others u acc in (x.0, x.1);
-          tight = λ light. (own_tight events report clusters short done trace s rest at.run e a t next light, λ others u acc. let x = (only_next events report clusters short done trace s rest at.run below e took a t next others u acc).2 light in (x.1, x.2));
         };
         clean = ap (λ (xs : List Answer). list_all is_clean xs) (map-append answer_of trace ((e, a) ∷ [])) ∙ list_all-append is_clean (map answer_of trace) (a ∷ []) ∙ all_clean at.clean next.clean;
         settled = closed_next done (e ∷ es) trace s rest at other (one_book (suc done) t (λ others u acc. (only_next events report clusters short done trace s rest at.run below e took a t next others u acc).1));
@@ -176,8 +174,13 @@ module _ (events : List Event) (report : List ℕ) (clusters : ℕ) (short : len
       all_clean : list_all is_clean (map answer_of trace) ≡ true → is_clean a ≡ true → (list_all is_clean (map answer_of trace) && list_all is_clean (a ∷ [])) ≡ true
       all_clean x y = rw x (rw y refl)
 
+  -- no point of a commit for room is left
+  pub tight_next : (done : ℕ) (e : Event) (es : List Event) (trace : List (Event × Answer)) (s : State) (rest : List ℕ) → IsAt events report clusters done (e ∷ es) trace s rest
+      → (a : Answer) (t : State) → IsNext events report clusters done s e a t rest → StaysTight events report clusters done s e a t → IsTight events report clusters (suc done) t
+  tight_next done e es trace s rest at a t next stays = stays_tight events report clusters short done trace s rest at.run (left done e es trace s rest at) e (next_taken done e es trace s rest at) a t next stays
+
   -- the report does not go on with it
-  pub wrong_next : (done : ℕ) (e : Event) (es : List Event) (trace : List (Event × Answer)) (s : State) (rest : List ℕ) → IsAt events report clusters done (e ∷ es) trace s rest → (a : Answer) (t : State) → IsNext clusters s e a t rest → begins (text a) rest ≡ false
+  pub wrong_next : (done : ℕ) (e : Event) (es : List Event) (trace : List (Event × Answer)) (s : State) (rest : List ℕ) → IsAt events report clusters done (e ∷ es) trace s rest → (a : Answer) (t : State) → IsNext events report clusters done s e a t rest → begins (text a) rest ≡ false
       → accepts events report clusters (suc done) → ⊥
   wrong_next done e es trace s rest at a t next differs (others, u, acc) =
       let below = left done e es trace s rest at in
@@ -232,7 +235,7 @@ module _ (events : List Event) (report : List ℕ) (clusters : ℕ) (short : len
   pub at_start : IsAt events report clusters 0 events [] (start mode.Replay empty_remote clusters) report
   at_start = record {
     split = refl;
-    run = record { there = omega arith; events_are = refl; lawful = refl; kept = refl; text_is = refl; none = record {}; only = λ more u acc. (no_events more acc.events_are, ap fixed_state (starts more u acc)); tight = λ light. (refl, λ more u acc. (ap (λ (z : State). sures (core_of z.filter.volume)) (starts more u acc), subst (λ (z : State). AllSure (core_of z.filter.volume)) (starts more u acc) refl)) };
+    run = record { there = omega arith; events_are = refl; lawful = refl; kept = refl; text_is = refl; none = record {}; only = λ more u acc. (no_events more acc.events_are, ap fixed_state (starts more u acc)) };
     clean = refl;
     settled = λ m le h. none m le h;
     before = λ k is. let z : 0 ≡ suc k = is in absurd cc;
@@ -259,7 +262,7 @@ module _ (events : List Event) (report : List ℕ) (clusters : ℕ) (short : len
       wrong_verdict events report clusters done (left done e es trace s rest at) (trace, s, taken done (e ∷ es) trace s rest at (left done e es trace s rest at)) (foreign_next done e es trace s rest at foreign)
       (closed_next done (e ∷ es) trace s rest at (line_not device_line (first_result rest) line) (not_ambiguous (suc done) (foreign_next done e es trace s rest at foreign)))
 
-  pub wrong_is : (done : ℕ) (e : Event) (es : List Event) (trace : List (Event × Answer)) (s : State) (rest : List ℕ) → IsAt events report clusters done (e ∷ es) trace s rest → is_line device_line (first_result rest) ≡ false → (a : Answer) (t : State) → IsNext clusters s e a t rest → begins (text a) rest ≡ false
+  pub wrong_is : (done : ℕ) (e : Event) (es : List Event) (trace : List (Event × Answer)) (s : State) (rest : List ℕ) → IsAt events report clusters done (e ∷ es) trace s rest → is_line device_line (first_result rest) ≡ false → (a : Answer) (t : State) → IsNext events report clusters done s e a t rest → begins (text a) rest ≡ false
       → IsVerdict events report clusters (Unlawful (suc done))
   wrong_is done e es trace s rest at line a t next differs =
       wrong_verdict events report clusters done (left done e es trace s rest at) (trace, s, taken done (e ∷ es) trace s rest at (left done e es trace s rest at)) (wrong_next done e es trace s rest at a t next differs)

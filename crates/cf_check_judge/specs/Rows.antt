@@ -74,6 +74,27 @@ written_report =
     ++ line (codes "= ok")
     ++ line (codes "= resumed 0")
 
+-- so written, and flushed
+abbrev pub written_and_flushed : List Event
+written_and_flushed =
+    event.Call (call.Create (codes "/n"))
+    ∷ event.Call (call.Open (codes "/n"))
+    ∷ event.Call (call.Write first_handle 0 (codes "a"))
+    ∷ event.Call call.Flush
+    ∷ event.Device (device.Crash crash.Drop)
+    ∷ event.Device device.Restart
+    ∷ []
+
+abbrev pub written_and_flushed_report : List ℕ
+written_and_flushed_report =
+    line (codes "- change 1.1 make 2 1 n file 0 -")
+    ++ line (codes "= ok 2")
+    ++ line (codes "= ok 1.1")
+    ++ line (codes "- change 1.2 write 2 0 1")
+    ++ line (codes "= ok")
+    ++ line (codes "= ok 2")
+    ++ line (codes "= ok")
+
 -- the second request of a sync fails
 abbrev pub upload_fails : List Event
 upload_fails = event.Call (call.Mkdir (codes "/d")) ∷ event.Engine engine.Work ∷ []

@@ -9,6 +9,7 @@ mod rows;
 pub use laws::the_judge_is_right;
 pub use rows::{
     a_changed_report_is_found, a_failed_device_is_told, a_failing_remote_is_followed,
-    a_failing_upload_is_followed, a_fault_that_cannot_be_is_found, a_lawful_report_is_found,
-    a_restart_is_followed, the_judge_gives_up_where_room_was_short, what_was_not_flushed_is_gone,
+    a_failing_upload_is_followed, a_fault_that_cannot_be_is_found, a_flush_ends_what_was_short,
+    a_lawful_report_is_found, a_restart_is_followed, the_judge_gives_up_where_room_was_short,
+    what_was_not_flushed_is_gone,
 };

@@ -3,7 +3,7 @@
 ghost use Rattle.std.specs.Prelude.{◌≡◌, ◌++◌, ◌∷◌, List, [], None, Some, codes};
 ghost use Rattle.cf_check_judge.specs.Judge.{judge};
 ghost use Rattle.cf_check_judge.specs.Own.{fails_second, of_calls, of_device, of_engine, of_link, of_link_later, of_more_calls, of_reply_later, own_verdict};
-ghost use Rattle.cf_check_judge.specs.Rows.{bad_path, before_opening, before_restart, cut_at_fault, early_fault, failing, failing_report, flush_alone, flushed, later_fault, make_alone, restart_alone, unflushed, upload_fails, upload_report, written, written_report};
+ghost use Rattle.cf_check_judge.specs.Rows.{bad_path, before_opening, before_restart, cut_at_fault, early_fault, failing, failing_report, flush_alone, flushed, later_fault, make_alone, restart_alone, unflushed, upload_fails, upload_report, written, written_and_flushed, written_and_flushed_report, written_report};
 ghost use Rattle.cf_check_model.specs.Reports.{device_line};
 ghost use Rattle.cf_check_model.specs.Rows.{before_last, changed_report, inline_read, line, read_report};
 ghost use Rattle.cf_model.specs.Trees.{Faults};
@@ -54,6 +54,12 @@ pub fn what_was_not_flushed_is_gone()
 /// Where a commit for room may have been made, the judge gives up at a restart.
 pub fn the_judge_gives_up_where_room_was_short()
     ensures { judge written written_report 1 ≡ None }
+{}
+
+/// A flush that answers leaves one point, so a restart after it is followed.
+pub fn a_flush_ends_what_was_short()
+    ensures kept { judge written_and_flushed (written_and_flushed_report ++ line (codes "= resumed 2")) 1 ≡ Some Lawful }
+    ensures fewer { judge written_and_flushed (written_and_flushed_report ++ line (codes "= resumed 0")) 1 ≡ Some (Unlawful 6) }
 {}
 
 /// A request in the middle of an event fails.

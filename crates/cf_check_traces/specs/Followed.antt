@@ -1,5 +1,5 @@
 -- A run that is followed beside a report, and the answer that it gives to the next event.
-use Rattle.std.specs.Prelude.{◌≡◌, ◌≤◌, ℕ, true, List, ◌++◌, Some, length, map, slice_get, take}
+use Rattle.std.specs.Prelude.{◌≡◌, ◌⊎◌, ◌≤◌, ℕ, true, List, ◌++◌, Some, length, map, slice_get, take}
 use Rattle.cf_base.specs.declared.answers.Answer.{Answer}
 use Rattle.cf_base.specs.declared.events.DeviceEvent.TheVariants as device
 use Rattle.cf_base.specs.declared.events.Event.{Event}
@@ -7,9 +7,10 @@ use Rattle.cf_base.specs.declared.events.Event.TheVariants as event
 use Rattle.cf_base.specs.declared.policies.Mode.TheVariants as mode
 use Rattle.cf_check_model.specs.Judging.{Accepted, answer_of, event_of}
 use Rattle.cf_check_model.specs.Reports.{device_line, result_lines}
-use Rattle.cf_check_room.specs.Weights.{weight}
+use Rattle.cf_check_room.specs.Weights.{sure_count, weight_since}
 use Rattle.cf_check_text.specs.Clean.{is_clean}
 use Rattle.cf_check_traces.specs.Decided.{IsStopped, MeetsFaults, MeetsResult, NoneStopped}
+use Rattle.cf_check_traces.specs.Tests.{is_flushed, is_restart}
 use Rattle.cf_check_ways.specs.Ways.{Alike, AllSure, core_of, is_good, of_state, sures}
 use Rattle.cf_model.specs.Lawful.{IsStep, Runs}
 use Rattle.cf_model.specs.State.{State, start}
@@ -26,12 +27,14 @@ pub record IsFollowed (events : List Event) (report : List ℕ) (clusters n : �
   pub none : NoneStopped trace
   -- no other run of so many events is accepted
   pub only : (more : List (Event × Answer)) (u : State) → Accepted events report clusters n more u → (more ≡ trace) × Alike of_state s u
-  -- where the log weighs no more than the clusters, no commit for room was made in it, nor in another
-  pub tight : weight s.filter.volume.log ≤ clusters
-      → AllSure (core_of s.filter.volume) × ((more : List (Event × Answer)) (u : State) → Accepted events report clusters n more u → (sures (core_of s.filter.volume) ≡ sures (core_of u.filter.volume)) × AllSure (core_of u.filter.volume))
+
+-- No point of a commit for room is left, in it or in another run that is accepted, and the points are the same. So a restart may open one alone.
+pub record IsTight (events : List Event) (report : List ℕ) (clusters n : ℕ) (s : State) : Type 0 where
+  pub sure : AllSure (core_of s.filter.volume)
+  pub others : (more : List (Event × Answer)) (u : State) → Accepted events report clusters n more u → (sures (core_of s.filter.volume) ≡ sures (core_of u.filter.volume)) × AllSure (core_of u.filter.volume)
 
 -- What is known of an answer that the run gives to the next event. None of it needs the report to go on with that answer.
-pub record IsNext (clusters : ℕ) (s : State) (e : Event) (a : Answer) (t : State) (rest : List ℕ) : Type 0 where
+pub record IsNext (events : List Event) (report : List ℕ) (clusters n : ℕ) (s : State) (e : Event) (a : Answer) (t : State) (rest : List ℕ) : Type 0 where
   pub step : IsStep mode.Replay s e a t
   pub good : is_good t ≡ true
   pub runs : IsStopped a → ⊥
@@ -39,4 +42,12 @@ pub record IsNext (clusters : ℕ) (s : State) (e : Event) (a : Answer) (t : Sta
   pub meets : MeetsFaults a rest
   pub alone : MeetsResult s e a rest
   pub result : slice_get (result_lines rest) 0 ≡ Some device_line → ⊥
-  pub opening : e ≡ event.Device device.Restart → weight s.filter.volume.log ≤ clusters
+  pub opening : e ≡ event.Device device.Restart → IsTight events report clusters n s
+
+-- After it no point of a commit for room is left: it was a restart, or a flush that answered, or there was none before it and the log weighs no
+-- more than the clusters after it, since the point before it.
+abbrev pub StaysTight : List Event → List ℕ → ℕ → ℕ → State → Event → Answer → State → Type 0
+StaysTight events report clusters n s e a t =
+    (is_restart e ≡ true)
+    ⊎ ((is_flushed e a ≡ true)
+    ⊎ (IsTight events report clusters n s × (weight_since (sure_count s.filter.volume.points) t.filter.volume.log ≤ clusters)))

@@ -4,6 +4,7 @@ use Rattle.std.specs.List.{flat_map}
 use Rattle.cf_base.specs.declared.answers.Answer.{Answer}
 use Rattle.cf_base.specs.declared.answers.Shown.{Shown}
 use Rattle.cf_base.specs.declared.answers.Shown.TheVariants as shown
+use Rattle.cf_base.specs.declared.calls.Call.TheVariants as call
 use Rattle.cf_base.specs.declared.codes.Code.{Code}
 use Rattle.cf_base.specs.declared.codes.Code.TheVariants as code
 use Rattle.cf_base.specs.declared.events.DeviceEvent.TheVariants as device
@@ -70,3 +71,16 @@ is_device _ = false
 abbrev pub is_restart : Event → Bool
 is_restart (event.Device device.Restart) = true
 is_restart _ = false
+
+-- a flush that answered: no point of a commit for room is left
+
+abbrev pub is_flush : Event → Bool
+is_flush (event.Call call.Flush) = true
+is_flush _ = false
+
+abbrev pub is_count : Shown → Bool
+is_count (shown.Count n) = true
+is_count _ = false
+
+abbrev pub is_flushed : Event → Answer → Bool
+is_flushed e a = is_flush e && is_count a.shown

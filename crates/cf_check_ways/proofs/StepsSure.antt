@@ -4,6 +4,7 @@ use Rattle.std.specs.Prelude.{Option, Some, None}
 use Rattle.cf_base.specs.declared.answers.Answer.{Answer}
 use Rattle.cf_base.specs.declared.answers.Shown.{Shown}
 use Rattle.cf_base.specs.declared.answers.Shown.TheVariants as shown
+use Rattle.cf_base.specs.declared.calls.Call.TheVariants as call
 use Rattle.cf_base.specs.declared.codes.Code.{Code}
 use Rattle.cf_base.specs.declared.codes.Code.TheVariants as code
 use Rattle.cf_base.specs.declared.events.DeviceEvent.TheVariants as device
@@ -12,10 +13,12 @@ use Rattle.cf_base.specs.declared.events.Event.TheVariants as event
 use Rattle.cf_base.specs.declared.events.PeerEvent.{PeerEvent}
 use Rattle.cf_base.specs.declared.notices.Notice.{Notice}
 use Rattle.cf_base.specs.declared.policies.Mode.{Mode}
+use Rattle.cf_model.specs.Arrows.{reading}
+use Rattle.cf_model.specs.Calls.{count_now, flush, show_count}
 use Rattle.cf_model.specs.Events.{answer_in, answered, begun, broken, choices_in, event_now, may_stop, needs_volume, no_volume, outcome, refusal, tree_of}
 use Rattle.cf_model.specs.Lawful.{IsStep}
-use Rattle.cf_model.specs.Points.{HasPoints}
-use Rattle.cf_model.specs.State.{Link, State}
+use Rattle.cf_model.specs.Points.{HasPoints, commit, point_now, with_sure_point}
+use Rattle.cf_model.specs.State.{Filter, Link, State, Volume, in_volume, with_filter, with_volume}
 use Rattle.cf_model.specs.Trees.{Stops, AsItKeeps, Asked, Choices, Ends, Fork, Ret, Step, Telling, Tree, play, walk}
 use Rattle.cf_model.proofs.MessagesKeep.{asked_keeps}
 use Rattle.cf_model.proofs.PeersKeep.{peer_event_keeps}
@@ -25,7 +28,7 @@ use Rattle.cf_check_ways.proofs.EngineEventsSure.{engine_event_sure}
 use Rattle.cf_check_ways.proofs.EventsSure.{call_now_sure, provider_event_sure}
 use Rattle.cf_check_ways.proofs.PeersSure.{peer_event_sure}
 use Rattle.cf_check_ways.proofs.RestartsSure.{crash_sure, restart_afresh, restart_lines, restart_one, restart_quiet, restart_sends, restart_single}
-use Rattle.cf_check_ways.proofs.Sure.{becomes_same, sure_ret}
+use Rattle.cf_check_ways.proofs.Sure.{becomes_same, ends_of_mapped, ends_split, sure_ret}
 
 -- by choices that do not stop it an event ends
 
@@ -345,3 +348,22 @@ restart_told m o b u k = by (step_of m o (event.Device device.Restart) b u k)
     by : StepOf None o (event.Device device.Restart) b u → b.notes ≡ []
     by (inl x) = ended x.0 x.1 x.2
     by (inr x) = ap (λ (z : Answer). z.notes) x.4 ∙ restart_quiet (begun o) x.1 x.2
+
+-- a flush that answered leaves one point, that of all changes
+
+flushed_volume : (s : Filter) (r : Shown) (t : Filter) → Ends (flush s) r t → t.volume ≡ with_sure_point s.volume
+flushed_volume s r t h =
+    let x = ends_split (in_volume commit s) (λ _. reading count_now show_count) r t h in
+    let y = ends_of_mapped (λ (w : Volume). with_volume w s) (commit s.volume) x.0 x.1 x.2 in
+    ap (λ (z : Filter). z.volume) x.3.1 ∙ ap (λ (z : Filter). z.volume) y.2 ∙ y.1.1
+
+pub flush_points : (m : Mode) (s : State) (a : Answer) (t : State) (n : ℕ) → IsStep m s (event.Call call.Flush) a t → a.shown ≡ shown.Count n → t.filter.volume.points ≡ point_now true t.filter.volume ∷ []
+flush_points m s a t n h is = by (no_volume (needs_volume (event.Call call.Flush)) s.power) (step_of m s (event.Call call.Flush) a t h)
+  where
+    by : (why : Option Code) → StepOf why s (event.Call call.Flush) a t → t.filter.volume.points ≡ point_now true t.filter.volume ∷ []
+    by (Some c) x = let z : shown.Refused c ≡ shown.Count n = sym (ap (λ (y : Answer). y.shown) x.0) ∙ is in absurd cc
+    by None (inr stop) = let z : shown.Refused code.Device ≡ shown.Count n = sym (cut_is_stopped s (event.Call call.Flush) a t stop) ∙ is in absurd cc
+    by None (inl x) =
+        let y = ends_of_mapped (λ (g : Filter). with_filter g (begun s)) (flush (begun s).filter) x.0 t x.1 in
+        let left : t.filter.volume ≡ with_sure_point (begun s).filter.volume = ap (λ (z : State). z.filter.volume) y.2 ∙ flushed_volume (begun s).filter x.0 y.0 y.1 in
+        subst (λ (v : Volume). v.points ≡ point_now true v ∷ []) (sym left) refl
