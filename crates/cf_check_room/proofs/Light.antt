@@ -201,3 +201,32 @@ weighed_needs_none clusters n v w c m light =
 pub light_needs_none : (m : Mode) (remote : Held) (clusters : ℕ) (trace : List (Event × Answer)) (t : State) → Runs m (start m remote clusters) trace t → (c : Change) (n : Usn) → weight_since (sure_count t.filter.volume.points) (t.filter.volume.log ++ (n, c) ∷ []) ≤ clusters
     → may_need_room c t.filter.volume ≡ false
 light_needs_none m remote clusters trace t runs c n light = weighed_needs_none clusters (sure_count t.filter.volume.points) t.filter.volume (weighed m remote clusters trace t runs) c n light
+
+-- since a later change it weighs no more
+
+peak_front : (items : List Item) (m : ℕ) (log : List (Usn × Change)) → peak_from (after_changes items (take m log)) (drop m log) ≤ peak_from items log
+peak_front items zero log = omega arith
+peak_front items (suc m) [] = omega arith
+peak_front items (suc m) (d ∷ log) =
+    let h : peak_from (after_changes (effect items d.1 d.0) (take m log)) (drop m log) ≤ peak_from (effect items d.1 d.0) log = peak_front (effect items d.1 d.0) m log in
+    omega (arith, h)
+
+puts_front : (items : List Item) (m : ℕ) (log : List (Usn × Change)) → puts_from (after_changes items (take m log)) (drop m log) ≤ puts_from items log
+puts_front items zero log = omega arith
+puts_front items (suc m) [] = omega arith
+puts_front items (suc m) (d ∷ log) =
+    let h : puts_from (after_changes (effect items d.1 d.0) (take m log)) (drop m log) ≤ puts_from (effect items d.1 d.0) log = puts_front (effect items d.1 d.0) m log in
+    omega (arith, h)
+
+later_from : (items : List Item) (n m : ℕ) (log : List (Usn × Change)) → n ≤ m
+    → peak_from (after_changes items (take m log)) (drop m log) + puts_from (after_changes items (take m log)) (drop m log) ≤ peak_from (after_changes items (take n log)) (drop n log) + puts_from (after_changes items (take n log)) (drop n log)
+later_from items zero m log le =
+    let a : peak_from (after_changes items (take m log)) (drop m log) ≤ peak_from items log = peak_front items m log in
+    let b : puts_from (after_changes items (take m log)) (drop m log) ≤ puts_from items log = puts_front items m log in
+    omega (arith, a, b)
+later_from items (suc n) zero log le = absurd (omega (arith, le))
+later_from items (suc n) (suc m) [] le = omega arith
+later_from items (suc n) (suc m) (d ∷ log) le = later_from (effect items d.1 d.0) n m log (omega (arith, le))
+
+pub weight_later : (n m : ℕ) (log : List (Usn × Change)) → n ≤ m → weight_since m log ≤ weight_since n log
+weight_later n m log le = later_from (root ∷ []) n m log le

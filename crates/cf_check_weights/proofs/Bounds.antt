@@ -1,5 +1,5 @@
 -- What the changes of a log cost bounds what it weighs, where each item that is made has a greater number than all before it.
-use Rattle.std.proofs.Common.{◌≡◌, ◌≤◌, ◌<◌, ◌+◌, ◌-◌, ◌/◌, ◌^◌, ◌&&◌, not, ℕ, zero, suc, Bool, true, false, cond, filter, List, [], ◌∷◌, ◌++◌, length, max, min, nat_lt, refl, sym, ◌∙◌, ap, subst, arith, append-nil}
+use Rattle.std.proofs.Common.{◌≡◌, ◌≤◌, ◌<◌, ◌+◌, ◌-◌, ◌/◌, ◌^◌, ◌&&◌, not, ℕ, zero, suc, Bool, true, false, cond, drop, filter, List, [], ◌∷◌, ◌++◌, length, take, max, min, nat_lt, refl, sym, ◌∙◌, ap, subst, arith, append-nil}
 use Rattle.std.specs.Prelude.{Option, Some, None, sum_by, ◌==◌}
 use Rattle.std.proofs.lemmas.Bool.{eqb-true, ltb-true}
 use Rattle.std.proofs.lemmas.List.Sums.{sum_by-append, sum_by-cons}
@@ -9,14 +9,15 @@ use Rattle.cf_base.specs.declared.ids.ItemId.{ItemId}
 use Rattle.cf_base.specs.declared.ids.Usn.{Usn}
 use Rattle.cf_base.specs.declared.items.Pin.{Pin}
 use Rattle.cf_base.specs.declared.items.Pin.TheVariants as pin
-use Rattle.cf_check_room.specs.Weights.{peak_from, puts_from, weight}
+use Rattle.cf_check_room.specs.Weights.{peak_from, puts_from, weight_since}
 use Rattle.cf_check_weights.proofs.Blocks.{counting_length, held_after, none_here}
 use Rattle.cf_check_weights.specs.Costs.{blocks_to, cost_of, made_by}
-use Rattle.cf_check_weights.specs.Weighed.{greater, last_weight, makes_above, most_weight, next_weight, nothing, weight_of, weights_from}
+use Rattle.cf_check_weights.specs.Weighed.{greater, last_weight, makes_above, most_weight, next_weight, nothing, since_of, used_at, weight_at, weight_of, weights_from}
 use Rattle.cf_check_weights.specs.declared.weights.Weight.{Weight}
 use Rattle.cf_model.specs.Blocks.{blocks_held, blocks_of, blocks_used, held_of, lacks_in, puts_into, size_at}
 use Rattle.cf_model.specs.Effects.{changed, copied, copies, effect, made, size_made, without}
 use Rattle.cf_model.specs.Items.{Item, item_of, pin_of, root}
+use Rattle.cf_model.specs.Logs.{after_changes, items_of}
 use Rattle.cf_model.specs.Words.{part}
 use Rattle.cf_table.specs.Applied.{item_effect}
 use Rattle.cf_volume_blocks.specs.Bytes.{puts_in}
@@ -260,10 +261,21 @@ bounds items w (c ∷ cs) r rises le small few =
     let two : peak_from (effect items c.1 c.0) cs ≤ last = h.1 in
     (omega (arith, one, puts, sum), omega (arith, two, low, sum, le))
 
--- a log whose changes cost no more than half of the clusters weighs no more than these
-pub light : (log : List (Usn × Change)) (clusters : ℕ) → (weight_of log).rises ≡ true → clusters < 2 ^ 32 → (weight_of log).total ≤ clusters / 2 → weight log ≤ clusters
-light log clusters rises small le =
-    let h = bounds (root ∷ []) nothing log (omega arith, omega arith, record {}) rises (omega arith) (omega arith) (omega (arith, small, le)) in
-    let one : 0 + puts_from (root ∷ []) log ≤ (weight_of log).total = h.0 in
-    let two : peak_from (root ∷ []) log ≤ (weight_of log).total = h.1 in
+-- the items of a log whose numbers rose stand in order
+risen : (items : List Item) (w : Weight) (log : List (Usn × Change)) → IsRising 0 items w.greatest → (last_weight w (weights_from w log)).rises ≡ true → IsRising 0 (after_changes items log) (last_weight w (weights_from w log)).greatest
+risen items w [] r rises = r
+risen items w (c ∷ cs) r rises =
+    let next : Weight = next_weight w c.1 in
+    let above : makes_above w.greatest c.1 ≡ true = (both w.rises (makes_above w.greatest c.1) (rose next cs rises)).1 in
+    risen (effect items c.1 c.0) next cs (stays_rising items w.greatest c.1 c.0 r above) rises
+
+-- with the blocks that its items used then and twice what its changes cost since, a log that passes no more than the clusters weighs no more
+pub light : (clusters n : ℕ) (log : List (Usn × Change)) → clusters < 2 ^ 32 → (since_of n log).rises ≡ true → used_at n log ≤ clusters → (since_of n log).total ≤ (clusters + used_at n log) / 2 → weight_since n log ≤ clusters
+light clusters n log small rises few le =
+    let items : List Item = items_of (take n log) in
+    let rises_then : (weight_of (take n log)).rises ≡ true = rose (weight_at n log) (drop n log) rises in
+    let r : IsRising 0 items (weight_of (take n log)).greatest = risen (root ∷ []) nothing (take n log) (omega arith, omega arith, record {}) rises_then in
+    let h = bounds items (weight_at n log) (drop n log) r rises (omega arith) (omega (arith, few, small)) (omega (arith, small, le, few)) in
+    let one : used_at n log + puts_from items (drop n log) ≤ (since_of n log).total = h.0 in
+    let two : peak_from items (drop n log) ≤ (since_of n log).total = h.1 in
     omega (arith, one, two, le)

@@ -1,13 +1,17 @@
 -- The weights of a log that becomes longer or shorter.
-use Rattle.std.proofs.Common.{◌≡◌, ◌≤◌, ◌<◌, ◌^◌, ◌-◌, ◌/◌, ◌&&◌, ℕ, zero, suc, Bool, true, false, List, [], ◌∷◌, ◌++◌, length, take, refl, sym, ◌∙◌, ap, subst, arith, leb, take_all}
+use Rattle.std.proofs.lemmas.List.{drop-append-le, drop_all, take-append-le}
+use Rattle.std.proofs.Common.{◌+◌, drop, length-append, ◌≡◌, ◌≤◌, ◌<◌, ◌^◌, ◌-◌, ◌/◌, ◌&&◌, ℕ, zero, suc, Bool, true, false, List, [], ◌∷◌, ◌++◌, length, take, refl, sym, ◌∙◌, ap, subst, arith, leb, take_all}
 use Rattle.std.specs.Prelude.{Some, None, nat_le, slice_get}
 use Rattle.std.proofs.lemmas.Bool.{leb-true}
-use Rattle.cf_check_room.specs.Weights.{weight}
+use Rattle.cf_check_room.specs.Weights.{weight_since}
 use Rattle.cf_check_weights.proofs.Bounds.{light}
 use Rattle.cf_base.specs.declared.changes.Change.{Change}
 use Rattle.cf_base.specs.declared.ids.Usn.{Usn}
-use Rattle.cf_check_weights.specs.Weighed.{IsWeighed, is_light, last_weight, next_weight, nothing, weight_of, weights_from}
+use Rattle.cf_check_weights.specs.Weighed.{IsTallied, IsWeighed, is_light, last_weight, next_weight, nothing, since_of, used_at, weight_at, weight_of, weights_from}
+use Rattle.cf_check_weights.specs.declared.rooms.Room.{Room}
 use Rattle.cf_check_weights.specs.declared.weights.Weight.{Weight}
+use Rattle.cf_model.specs.Blocks.{blocks_used}
+use Rattle.cf_model.specs.Logs.{items_of}
 
 pub weights_more : (w : Weight) (log : List (Usn × Change)) (n : Usn) (c : Change) → weights_from w (log ++ (n, c) ∷ []) ≡ weights_from w log ++ next_weight (last_weight w (weights_from w log)) c ∷ []
 weights_more w [] n c = refl
@@ -37,23 +41,66 @@ weighed_all w log count is few =
     let long : length w ≡ length log = ap (λ (ws : List Weight). length ws) is ∙ weights_length nothing log in
     is ∙ ap (weights_from nothing) (sym (take_all count log (omega (arith, few, long))))
 
--- the last weight tells whether the log is light
+pub last_is : (w : Weight) (ws : List Weight) (x : Weight) → Some x ≡ slice_get ws (length ws - 1) → x ≡ last_weight w ws
+last_is w [] x e = let z : Some x ≡ None = e in cc
+last_is w (v ∷ []) x e = let z : Some x ≡ Some v = e in cc
+last_is w (v ∷ u ∷ ws) x e = last_is v (u ∷ ws) x (e ∙ ap (λ (k : ℕ). slice_get (v ∷ u ∷ ws) k) (let k : length (v ∷ u ∷ ws) - 1 ≡ suc (length (u ∷ ws) - 1) = omega arith in k))
 
-pub light_is : (w : List Weight) (log : List (Usn × Change)) (clusters half : ℕ) (last : Weight) (fits : Bool) → IsWeighed w log → last ≡ last_weight nothing w → half ≡ clusters / 2 → fits ≡ (last.rises && nat_le last.total half) → fits ≡ is_light clusters log
-light_is w log clusters half last fits is last_is halved told =
-    let from : last ≡ weight_of log = last_is ∙ ap (last_weight nothing) is in
-    told ∙ ap (λ (x : Weight). x.rises && nat_le x.total half) from ∙ ap (λ (h : ℕ). (weight_of log).rises && nat_le (weight_of log).total h) halved
+-- since a point
 
 both : (a b : Bool) → (a && b) ≡ true → (a ≡ true) × (b ≡ true)
 both true b e = (refl, e)
 both false b e = let z : false ≡ true = e in absurd cc
 
-pub weighs_less : (log : List (Usn × Change)) (clusters : ℕ) → clusters < 2 ^ 32 → is_light clusters log ≡ true → weight log ≤ clusters
-weighs_less log clusters small e =
-    let x = both (weight_of log).rises (nat_le (weight_of log).total (clusters / 2)) e in
-    light log clusters x.0 small (leb-true (weight_of log).total (clusters / 2) x.1)
+last_more : (w x : Weight) (ws : List Weight) → last_weight w (ws ++ x ∷ []) ≡ x
+last_more w x [] = refl
+last_more w x (v ∷ ws) = last_more v x ws
 
-pub last_is : (w : Weight) (ws : List Weight) (x : Weight) → Some x ≡ slice_get ws (length ws - 1) → x ≡ last_weight w ws
-last_is w [] x e = let z : Some x ≡ None = e in cc
-last_is w (v ∷ []) x e = let z : Some x ≡ Some v = e in cc
-last_is w (v ∷ u ∷ ws) x e = last_is v (u ∷ ws) x (e ∙ ap (λ (k : ℕ). slice_get (v ∷ u ∷ ws) k) (let k : length (v ∷ u ∷ ws) - 1 ≡ suc (length (u ∷ ws) - 1) = omega arith in k))
+since_more : (n : ℕ) (log : List (Usn × Change)) (m : Usn) (c : Change) → n ≤ length log → since_of n (log ++ (m, c) ∷ []) ≡ next_weight (since_of n log) c
+since_more n log m c le =
+    ap (λ (xs : List (Usn × Change)). last_weight (weight_at' xs) (weights_from (weight_at' xs) (drop n (log ++ (m, c) ∷ [])))) (take-append-le n log ((m, c) ∷ []) le)
+    ∙ ap (λ (xs : List (Usn × Change)). last_weight (weight_at n log) (weights_from (weight_at n log) xs)) (drop-append-le n log ((m, c) ∷ []) le)
+    ∙ ap (last_weight (weight_at n log)) (weights_more (weight_at n log) (drop n log) m c)
+    ∙ last_more (weight_at n log) (next_weight (since_of n log) c) (weights_from (weight_at n log) (drop n log))
+  where
+    weight_at' : List (Usn × Change) → Weight
+    weight_at' xs = record (weight_of xs) { total = blocks_used (items_of xs) }
+
+used_more : (n : ℕ) (log more : List (Usn × Change)) → n ≤ length log → used_at n (log ++ more) ≡ used_at n log
+used_more n log more le = ap (λ (xs : List (Usn × Change)). blocks_used (items_of xs)) (take-append-le n log more le)
+
+pub tallied_more : (old new : Room) (n : ℕ) (log : List (Usn × Change)) (m : Usn) (c : Change) → IsTallied old n log → IsWeighed new.weights (log ++ (m, c) ∷ []) → new.used ≡ old.used → new.since ≡ next_weight old.since c → IsTallied new n (log ++ (m, c) ∷ [])
+tallied_more old new n log m c h weights used since = record {
+  weights = weights;
+  there = let le : n ≤ length log = h.there in let k : length (log ++ (m, c) ∷ []) ≡ length log + 1 = length-append log ((m, c) ∷ []) in omega (arith, le, k);
+  used = used ∙ h.used ∙ sym (used_more n log ((m, c) ∷ []) h.there);
+  since = since ∙ ap (λ (w : Weight). next_weight w c) h.since ∙ sym (since_more n log m c h.there);
+}
+
+pub tallied_at : (new : Room) (log : List (Usn × Change)) (last : Weight) (used : ℕ) → IsWeighed new.weights log → last ≡ last_weight nothing new.weights → used ≡ blocks_used (items_of log) → new.used ≡ used → new.since ≡ record last { total = used } → IsTallied new (length log) log
+tallied_at new log last used weights last_is' used_is same since =
+    let all : take (length log) log ≡ log = take_all (length log) log (omega arith) in
+    let none : drop (length log) log ≡ [] = drop_all (length log) log (omega arith) in
+    let there : used_at (length log) log ≡ used = ap (λ (xs : List (Usn × Change)). blocks_used (items_of xs)) all ∙ sym used_is in record {
+      weights = weights;
+      there = omega arith;
+      used = same ∙ sym there;
+      since = since
+          ∙ ap (λ (w : Weight). record w { total = used }) (last_is' ∙ ap (last_weight nothing) weights ∙ ap (λ (xs : List (Usn × Change)). weight_of xs) (sym all))
+          ∙ ap (λ (k : ℕ). record (weight_of (take (length log) log)) { total = k }) (sym there)
+          ∙ ap (λ (xs : List (Usn × Change)). last_weight (weight_at (length log) log) (weights_from (weight_at (length log) log) xs)) (sym none);
+    }
+
+-- whether it is light
+
+pub light_is : (r : Room) (n clusters most : ℕ) (log : List (Usn × Change)) (fits : Bool) → IsTallied r n log → most ≡ (clusters + r.used) / 2 → fits ≡ (r.since.rises && (nat_le r.used clusters && nat_le r.since.total most)) → fits ≡ is_light clusters n log
+light_is r n clusters most log fits h most_is told =
+    told ∙ ap (λ (k : ℕ). r.since.rises && (nat_le r.used clusters && nat_le r.since.total k)) most_is
+    ∙ ap (λ (k : ℕ). r.since.rises && (nat_le k clusters && nat_le r.since.total ((clusters + k) / 2))) h.used
+    ∙ ap (λ (w : Weight). w.rises && (nat_le (used_at n log) clusters && nat_le w.total ((clusters + used_at n log) / 2))) h.since
+
+pub weighs_less : (clusters n : ℕ) (log : List (Usn × Change)) → clusters < 2 ^ 32 → is_light clusters n log ≡ true → weight_since n log ≤ clusters
+weighs_less clusters n log small e =
+    let x = both (since_of n log).rises (nat_le (used_at n log) clusters && nat_le (since_of n log).total ((clusters + used_at n log) / 2)) e in
+    let y = both (nat_le (used_at n log) clusters) (nat_le (since_of n log).total ((clusters + used_at n log) / 2)) x.1 in
+    light clusters n log small x.0 (leb-true (used_at n log) clusters y.0) (leb-true (since_of n log).total ((clusters + used_at n log) / 2) y.1)

@@ -1,9 +1,12 @@
 -- What is known of a log after each of its changes.
-use Rattle.std.specs.Prelude.{◌≡◌, ℕ, ◌+◌, ◌-◌, ◌/◌, ◌^◌, Bool, true, List, [], ◌∷◌, Option, Some, None, max, min, nat_le, nat_lt, ◌&&◌}
+use Rattle.std.specs.Prelude.{◌≡◌, ◌≤◌, ℕ, drop, length, take, ◌+◌, ◌-◌, ◌/◌, ◌^◌, Bool, true, List, [], ◌∷◌, Option, Some, None, max, min, nat_le, nat_lt, ◌&&◌}
 use Rattle.cf_base.specs.declared.changes.Change.{Change}
 use Rattle.cf_base.specs.declared.ids.Usn.{Usn}
 use Rattle.cf_check_weights.specs.Costs.{cost_of, made_by}
+use Rattle.cf_check_weights.specs.declared.rooms.Room.{Room}
 use Rattle.cf_check_weights.specs.declared.weights.Weight.{Weight}
+use Rattle.cf_model.specs.Blocks.{blocks_used}
+use Rattle.cf_model.specs.Logs.{items_of}
 
 -- before the first change there is the root alone, item 1
 abbrev pub nothing : Weight
@@ -43,6 +46,26 @@ IsWeighed ws log = ws ≡ weights_from nothing log
 abbrev pub weight_of : List (Usn × Change) → Weight
 weight_of log = last_weight nothing (weights_from nothing log)
 
--- the changes may have put bytes into no more than half of the clusters, and each item that was made had a greater number than all before it
-abbrev pub is_light : ℕ → List (Usn × Change) → Bool
-is_light clusters log = (weight_of log).rises && nat_le (weight_of log).total (clusters / 2)
+-- since the first n changes: the total begins with the blocks that the items use then
+
+abbrev pub used_at : ℕ → List (Usn × Change) → ℕ
+used_at n log = blocks_used (items_of (take n log))
+
+abbrev pub weight_at : ℕ → List (Usn × Change) → Weight
+weight_at n log = record (weight_of (take n log)) { total = used_at n log }
+
+abbrev pub since_of : ℕ → List (Usn × Change) → Weight
+since_of n log = last_weight (weight_at n log) (weights_from (weight_at n log) (drop n log))
+
+-- With the blocks that the items used then, and twice those into which the changes since may have put bytes, the clusters are not passed; and
+-- each item that was made had a greater number than all before it.
+abbrev pub is_light : ℕ → ℕ → List (Usn × Change) → Bool
+is_light clusters n log =
+    (since_of n log).rises && (nat_le (used_at n log) clusters && nat_le (since_of n log).total ((clusters + used_at n log) / 2))
+
+-- this is known of the log, and since its first n changes
+pub record IsTallied (r : Room) (n : ℕ) (log : List (Usn × Change)) : Type 0 where
+  pub weights : IsWeighed r.weights log
+  pub there : n ≤ length log
+  pub used : r.used ≡ used_at n log
+  pub since : r.since ≡ since_of n log

@@ -1,10 +1,9 @@
 //! The weight of a log, and of each of its fronts.
 
-ghost use Rattle.std.specs.Prelude.{◌≡◌, ◌≤◌, ◌++◌, ◌&&◌, ◌∷◌, [], List, OnOk, take, true};
+ghost use Rattle.std.specs.Prelude.{◌≡◌, ◌++◌, ◌∷◌, [], List, OnOk, take};
 ghost use Rattle.cf_base.specs.declared.changes.Change.{Change as Logged};
 ghost use Rattle.cf_base.specs.declared.ids.Usn.{Usn};
-ghost use Rattle.cf_check_room.specs.Weights.{weight};
-ghost use Rattle.cf_check_weights.specs.Weighed.{IsWeighed, is_light, last_weight, makes_above, next_weight, nothing};
+ghost use Rattle.cf_check_weights.specs.Weighed.{IsWeighed, last_weight, makes_above, next_weight, nothing};
 
 use crate::costs::{cost_of, made_by};
 use cf_base::{Change, OutOfMemory};
@@ -13,7 +12,7 @@ use std::marker::Model;
 
 /// What is known of a log after one of its changes.
 #[derive(Clone, Copy)]
-pub(crate) struct Weight {
+pub struct Weight {
     /// The blocks into which its changes put bytes, at most.
     pub(crate) total: u64,
     /// The greatest number of an item.
@@ -48,7 +47,7 @@ fn makes_above(greatest: u64, change: &Change) -> bool
 }
 
 // What is known after one change more.
-fn next_weight(last: Weight, change: &Change) -> Weight
+pub(crate) fn next_weight(last: Weight, change: &Change) -> Weight
     ensures { result ≡ next_weight last change.now }
 {
     let greatest = match made_by(change) {
@@ -72,7 +71,7 @@ impl Weights {
         }
     }
 
-    fn last(&self) -> Weight
+    pub(crate) fn last(&self) -> Weight
         ensures { result ≡ last_weight nothing self.now }
     {
         match self.weights.last() {
@@ -101,15 +100,5 @@ impl Weights {
         if count < self.weights.len() as u64 {
             self.weights.truncate(count as usize);
         }
-    }
-
-    /// Whether the changes may have put bytes into no more than half of the clusters, so that the log surely weighs no more than these. It is
-    /// not asked of all logs that do.
-    pub fn fit(&self, clusters: u32) -> bool
-        ensures exact { (log : List (Usn × Logged)) → IsWeighed self.now log → result ≡ is_light clusters log }
-        ensures light { (log : List (Usn × Logged)) → IsWeighed self.now log → result ≡ true → weight log ≤ clusters }
-    {
-        let last = self.last();
-        last.rises && last.total <= u64::from(clusters / 2)
     }
 }
