@@ -17,13 +17,12 @@ use Rattle.cf_check_judge.specs.Judge.{first_result, is_line}
 use Rattle.cf_check_judge.specs.Settled.{IsAt}
 use Rattle.cf_check_model.specs.Judging.{answer_of}
 use Rattle.cf_check_model.specs.Reports.{device_line}
-use Rattle.cf_check_room.specs.Weights.{weight}
 use Rattle.cf_check_text.proofs.Lines.{notices_fit}
 use Rattle.cf_check_text.specs.Clean.{is_clean}
 use Rattle.cf_check_traces.proofs.Accepting.{few_messages, numbered}
 use Rattle.cf_check_traces.proofs.Testing.{alone_so, meets_so, not_stopped}
 use Rattle.cf_check_traces.specs.Decided.{MeetsResult}
-use Rattle.cf_check_traces.specs.Followed.{IsNext}
+use Rattle.cf_check_traces.specs.Followed.{IsNext, IsTight}
 use Rattle.cf_check_traces.specs.Tests.{begins, fault_line_of_peer, is_device, is_restart, meets_lines, meets_result, same_flag}
 use Rattle.cf_check_ways.proofs.StepsSure.{step_count}
 use Rattle.cf_check_ways.specs.Ways.{is_fault}
@@ -80,7 +79,7 @@ alone s (event.Provider p) a t rest step h = λ peer. let z : false ≡ true = p
 
 module _ (events : List Event) (report : List ℕ) (clusters : ℕ) (short : length report < 2 ^ 31) where
   pub next_of : (done : ℕ) (e : Event) (es : List Event) (trace : List (Event × Answer)) (s : State) (rest : List ℕ) → IsAt events report clusters done (e ∷ es) trace s rest → is_line device_line (first_result rest) ≡ false → (a : Answer) (t : State) → IsStep mode.Replay s e a t → t.link.honest ≡ true
-      → is_passed e a rest ≡ true → length (text a) < 2 ^ 31 → (is_restart e ≡ true → weight s.filter.volume.log ≤ clusters) → IsNext clusters s e a t rest
+      → is_passed e a rest ≡ true → length (text a) < 2 ^ 31 → (is_restart e ≡ true → IsTight events report clusters done s) → IsNext events report clusters done s e a t rest
   next_of done e es trace s rest at line a t step honest passed few opens =
       let w = both (not (is_device a.shown) && is_clean a && meets_peer e a rest) (meets_lines a.notes rest) passed in
       let x = both (not (is_device a.shown) && is_clean a) (meets_peer e a rest) w.0 in

@@ -1,14 +1,25 @@
 -- The changes that the lines of an answer tell, one after the other.
-use Rattle.std.proofs.Common.{◌≡◌, ◌<◌, ◌+◌, ℕ, zero, suc, List, [], ◌∷◌, ◌++◌, length, take, get_or, refl, sym, ◌∙◌, ap, subst, arith, append-nil, append_assoc, add-one}
+use Rattle.std.proofs.Common.{◌&&◌, ◌||◌, Bool, true, false, cond, ◌≡◌, ◌<◌, ◌+◌, ℕ, zero, suc, List, [], ◌∷◌, ◌++◌, length, take, get_or, refl, sym, ◌∙◌, ap, subst, arith, append-nil, append_assoc, add-one}
 use Rattle.cf_base.specs.declared.changes.Change.{Change}
 use Rattle.cf_base.specs.declared.ids.Usn.{Usn}
 use Rattle.cf_base.specs.declared.notices.Notice.{Notice}
-use Rattle.cf_check_weights.specs.Weighed.{IsWeighed}
-use Rattle.cf_check_weights.specs.declared.weights.Weight.{Weight}
-use Rattle.cf_model_headline.specs.Reports.{change_in, changes_in}
+use Rattle.cf_base.specs.declared.answers.Answer.{Answer}
+use Rattle.cf_base.specs.declared.answers.Shown.{Shown}
+use Rattle.cf_base.specs.declared.answers.Shown.TheVariants as shown
+use Rattle.cf_base.specs.declared.events.DeviceEvent.TheVariants as device
+use Rattle.cf_base.specs.declared.events.Event.{Event}
+use Rattle.cf_base.specs.declared.events.Event.TheVariants as event
+use Rattle.cf_check_report.specs.Points.{IsKept, IsStanding, Known, Tells}
+use Rattle.cf_check_report.specs.declared.weighing.Points.{Points}
+use Rattle.cf_check_traces.specs.Tests.{is_restart, is_resumed, makes_point}
+use Rattle.cf_check_weights.specs.Weighed.{IsTallied, IsWeighed, is_light}
+use Rattle.cf_check_weights.specs.declared.rooms.Room.{Room}
+use Rattle.cf_model.specs.Blocks.{blocks_used}
+use Rattle.cf_model.specs.Logs.{items_of}
+use Rattle.cf_model_headline.specs.Reports.{after_answer, change_in, changes_in, resumed_with}
 
-pub nothing_more : (w : List Weight) (log : List (Usn × Change)) → IsWeighed w log → IsWeighed w (log ++ [])
-nothing_more w log h = subst (λ (l : List (Usn × Change)). IsWeighed w l) (sym (append-nil log)) h
+pub nothing_more : (r : Room) (n : ℕ) (log : List (Usn × Change)) → IsTallied r n log → IsTallied r n (log ++ [])
+nothing_more r n log h = subst (λ (l : List (Usn × Change)). IsTallied r n l) (sym (append-nil log)) h
 
 changes_next : (ns : List Notice) (i : ℕ) (n : Notice) → n ≡ get_or ns i n → i < length ns → changes_in (take (suc i) ns) ≡ changes_in (take i ns) ++ change_in n
 changes_next [] i n at lt = absurd (omega (arith, lt))
@@ -16,7 +27,50 @@ changes_next (m ∷ ns) zero n at lt = append-nil (change_in m) ∙ ap change_in
 changes_next (m ∷ ns) (suc i) n at lt =
     ap (λ (cs : List (Usn × Change)). change_in m ++ cs) (changes_next ns i n at (omega (arith, lt))) ∙ sym (append_assoc (change_in m) (changes_in (take i ns)) (change_in n))
 
-pub weighed_next : (w : List Weight) (log : List (Usn × Change)) (ns : List Notice) (i : ℕ) (n : Notice) → n ≡ get_or ns i n → i < length ns → IsWeighed w ((log ++ changes_in (take i ns)) ++ change_in n) → IsWeighed w (log ++ changes_in (take (i + 1) ns))
-weighed_next w log ns i n at lt h =
-    subst (λ (l : List (Usn × Change)). IsWeighed w l)
+pub tallied_next : (r : Room) (k : ℕ) (log : List (Usn × Change)) (ns : List Notice) (i : ℕ) (n : Notice) → n ≡ get_or ns i n → i < length ns → IsTallied r k ((log ++ changes_in (take i ns)) ++ change_in n) → IsTallied r k (log ++ changes_in (take (i + 1) ns))
+tallied_next r k log ns i n at lt h =
+    subst (λ (l : List (Usn × Change)). IsTallied r k l)
     (append_assoc log (changes_in (take i ns)) (change_in n) ∙ ap (λ (cs : List (Usn × Change)). log ++ cs) (sym (changes_next ns i n at lt) ∙ ap (λ (k : ℕ). changes_in (take k ns)) (sym (add-one i)))) h
+
+-- what stands after an answer
+
+pub kept_all : (r : Room) (n : ℕ) (x : Shown) (log : List (Usn × Change)) → IsTallied r n log → is_resumed x ≡ false → IsKept r n x (resumed_with x log)
+kept_all r n (shown.Resumed count opened) log h is = let z : true ≡ false = is in absurd cc
+kept_all r n (shown.Done) log h is = (h.weights, λ _. h)
+kept_all r n _ log h is = (h.weights, λ _. h)
+
+restart_is : (e : Event) → is_restart e ≡ true → e ≡ event.Device device.Restart
+restart_is (event.Device device.Restart) h = refl
+restart_is _ h = let z : false ≡ true = h in absurd cc
+
+pub stands_restarted : (r : Room) (n : ℕ) (e : Event) (a : Answer) (log : List (Usn × Change)) → is_restart e ≡ true → IsKept r n a.shown (resumed_with a.shown log) → IsStanding r n e a (after_answer log e a)
+stands_restarted r n e a log is h =
+    subst (λ (x : Event). IsStanding r n x a (after_answer log x a)) (sym (restart_is e is)) (h.0, λ none. h.1 (front (is_resumed a.shown) none))
+  where
+    front : (b : Bool) → (b || false) ≡ false → b ≡ false
+    front true k = k
+    front false k = refl
+
+other_after : (log : List (Usn × Change)) (e : Event) (a : Answer) → is_restart e ≡ false → after_answer log e a ≡ log ++ changes_in a.notes
+other_after log (event.Device device.Restart) a is = let z : true ≡ false = is in absurd cc
+other_after log _ a is = refl
+
+pub stands_on : (r : Room) (n : ℕ) (e : Event) (a : Answer) (log : List (Usn × Change)) → is_restart e ≡ false → IsTallied r n (log ++ changes_in a.notes) → IsStanding r n e a (after_answer log e a)
+stands_on r n e a log is h = let x : IsTallied r n (after_answer log e a) = subst (λ (l : List (Usn × Change)). IsTallied r n l) (sym (other_after log e a is)) h in (x.weights, λ _. x)
+
+-- a point
+
+pub tells_point : (clusters : ℕ) (e : Event) (a : Answer) (used : ℕ) (old new : Points) (mid : Room) → makes_point e a ≡ true → ((n : ℕ) (log : List (Usn × Change)) → IsTallied old.room n log → IsStanding mid n e a (after_answer log e a))
+    → ((log : List (Usn × Change)) → IsWeighed mid.weights log → used ≡ blocks_used (items_of log) → IsTallied new.room (length log) log) → new.tight ≡ true → Tells clusters e a used old new
+tells_point clusters e a used old new mid is stands point tight k same h told = (
+  tight ∙ ap (λ (b : Bool). b || (k.tight && is_light clusters k.point (after_answer k.log e a))) (sym is),
+  subst (λ (b : Bool). IsTallied new.room (cond b (length (after_answer k.log e a)) k.point) (after_answer k.log e a)) (sym is) (point (after_answer k.log e a) (stands k.point k.log h).0 (told is)),
+)
+
+pub tells_on : (clusters : ℕ) (e : Event) (a : Answer) (used : ℕ) (old new : Points) → makes_point e a ≡ false → ((n : ℕ) (log : List (Usn × Change)) → IsTallied old.room n log → IsStanding new.room n e a (after_answer log e a))
+    → (fits : Bool) → ((n : ℕ) (log : List (Usn × Change)) → IsTallied new.room n log → fits ≡ is_light clusters n log) → new.tight ≡ (old.tight && fits) → Tells clusters e a used old new
+tells_on clusters e a used old new is stands fits light tight k same h told =
+    let x : IsTallied new.room k.point (after_answer k.log e a) = (stands k.point k.log h).1 is in (
+      tight ∙ ap (λ (b : Bool). b && fits) same ∙ ap (λ (b : Bool). k.tight && b) (light k.point (after_answer k.log e a) x) ∙ ap (λ (b : Bool). b || (k.tight && is_light clusters k.point (after_answer k.log e a))) (sym is),
+      subst (λ (b : Bool). IsTallied new.room (cond b (length (after_answer k.log e a)) k.point) (after_answer k.log e a)) (sym is) x,
+    )

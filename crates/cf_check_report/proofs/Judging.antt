@@ -1,5 +1,5 @@
 -- What is said of the report at an event.
-use Rattle.std.proofs.Common.{◌⊎◌, inl, inr, ◌≡◌, ◌≤◌, ◌<◌, ◌+◌, ◌^◌, ◌-◌, ℕ, suc, Bool, true, false, List, [], ◌∷◌, ◌++◌, length, refl, sym, ◌∙◌, ap, subst, arith}
+use Rattle.std.proofs.Common.{◌&&◌, ◌||◌, cond, ◌⊎◌, inl, inr, ◌≡◌, ◌≤◌, ◌<◌, ◌+◌, ◌^◌, ◌-◌, ℕ, suc, Bool, true, false, List, [], ◌∷◌, ◌++◌, length, refl, sym, ◌∙◌, ap, subst, arith}
 use Rattle.std.specs.Prelude.{Err, Ok, Result, drop, not}
 use Rattle.cf_base.specs.declared.answers.Answer.{Answer}
 use Rattle.cf_base.specs.declared.changes.Change.{Change}
@@ -10,21 +10,31 @@ use Rattle.cf_base.specs.declared.policies.Mode.TheVariants as mode
 use Rattle.cf_check_compare.specs.Passed.{IsComparison, is_passed}
 use Rattle.cf_check_compare.specs.declared.comparisons.Comparison.TheVariants.{Differs, GoesOn, Lost, TooLong}
 use Rattle.cf_check_compare.specs.declared.comparisons.Comparison.{Comparison}
-use Rattle.cf_check_judge.proofs.Following.{at_start, at_the_end, foreign_is, goes_next, line_not, open_is, wrong_is}
+use Rattle.cf_check_judge.proofs.Following.{at_start, at_the_end, foreign_is, goes_next, line_not, open_is, tight_next, wrong_is}
 use Rattle.cf_check_judge.specs.Settled.{IsAt}
 use Rattle.cf_check_judge.specs.Judge.{at_end, first_result, is_line}
 use Rattle.cf_check_model.specs.Judging.{IsVerdict}
 use Rattle.cf_check_model.specs.Reports.{device_line}
 use Rattle.cf_check_model.specs.declared.verdicts.Verdict.TheVariants.{Unlawful, Undecided}
-use Rattle.cf_check_room.specs.Weights.{weight}
-use Rattle.cf_check_traces.specs.Followed.{IsNext}
-use Rattle.cf_check_traces.specs.Tests.{begins, is_restart}
-use Rattle.cf_check_weights.specs.Weighed.{IsWeighed, is_light}
-use Rattle.cf_check_weights.specs.declared.weights.Weight.{Weight}
-use Rattle.cf_check_report.proofs.Answering.{next_of}
+use Rattle.cf_check_report.proofs.Knowing.{held_next, known_next, point_before, pointed, which_point}
+use Rattle.cf_check_report.specs.Points.{Known, Tells, known, next_known}
+use Rattle.cf_check_report.specs.declared.weighing.Points.{Points}
+use Rattle.cf_check_room.proofs.Light.{weight_later, weighed}
+use Rattle.cf_check_room.specs.Weights.{sure_count, weight_since}
+use Rattle.cf_check_traces.proofs.NextOnes.{tight_start}
+use Rattle.cf_check_traces.specs.Followed.{IsNext, StaysTight}
+use Rattle.cf_check_traces.specs.Tests.{begins, is_restart, makes_point}
+use Rattle.cf_check_weights.proofs.Weighing.{weighs_less}
+use Rattle.cf_check_weights.specs.Weighed.{IsTallied, is_light}
+use Rattle.cf_model.proofs.PointLaws.{started_with_points}
+use Rattle.cf_model.proofs.TraceLaws.{runs_push}
+use Rattle.cf_model.specs.Blocks.{blocks_used}
+use Rattle.cf_model.specs.Flushed.{HoldsIn}
+use Rattle.cf_model.specs.Logs.{items_of}
+use Rattle.cf_check_report.proofs.Answering.{both, next_of}
 use Rattle.cf_check_report.specs.declared.check_errors.CheckError.{CheckError}
 use Rattle.cf_check_report.specs.declared.check_errors.CheckError.TheVariants as fails
-use Rattle.cf_check_report.specs.Following.{Follows, IsTaken, JudgedTo, MayNotOpen, MayOpen, judged_by}
+use Rattle.cf_check_report.specs.Following.{Follows, IsTaken, IsUsed, JudgedTo, MayNotOpen, MayOpen, judged_by}
 use Rattle.cf_check_report.specs.Straying.{IsStray}
 use Rattle.cf_check_report.specs.Playing.{PlayedTo, Plays}
 use Rattle.cf_check_report.specs.declared.judgements.Judge.{Judge}
@@ -71,7 +81,7 @@ module _ {D : Type 0} (Stands : D → State → Type 0) (events : List Event) (r
     at = h.at;
     allowed = by (is_of mode.Replay e) known;
     runs = line;
-    strays = inl (may.0, subst (λ (k : ℕ). is_light k h.state.filter.volume.log ≡ false) h.clusters_are (may.1 h.state.filter.volume.log h.weighed));
+    strays = inl (may.0, sym h.tight_is ∙ may.1);
   }
     where
       by : (b : Bool) → not b ≡ false → b ≡ true
@@ -95,7 +105,7 @@ module _ {D : Type 0} (Stands : D → State → Type 0) (events : List Event) (r
 
   -- by its answer
 
-  module _ (a : Answer) (old new : Judge D) (line : is_line device_line (first_result rest) ≡ false) (may : MayOpen e old) (plays : Plays Stands e old.device (Ok a) new.device) (same : new.clusters ≡ old.clusters) (weighs : (log : List (Usn × Change)) → IsWeighed old.weights log → IsWeighed new.weights (after_answer log e a))
+  module _ (a : Answer) (old new : Judge D) (line : is_line device_line (first_result rest) ≡ false) (may : MayOpen e old) (plays : Plays Stands e old.device (Ok a) new.device) (same : new.clusters ≡ old.clusters) (used : ℕ) (is_used : IsUsed Stands new.device e a used) (tells : Tells old.clusters e a used old.points new.points)
       (h : Follows Stands events report clusters done (e ∷ es) rest old) where
     abbrev played : PlayedTo Stands e h.state (Ok a) new.device
     played = plays.leads h.state h.stands
@@ -103,22 +113,63 @@ module _ {D : Type 0} (Stands : D → State → Type 0) (events : List Event) (r
     abbrev t : State
     t = played.0
 
-    light : is_restart e ≡ true → weight h.state.filter.volume.log ≤ clusters
-    light is = let le : weight h.state.filter.volume.log ≤ old.clusters = may is h.state.filter.volume.log h.weighed in let k : old.clusters ≡ clusters = h.clusters_are in omega (arith, le, k)
+    next : is_passed e a rest ≡ true → length (text a) < 2 ^ 31 → IsNext events report clusters done h.state e a t rest
+    next passed small = next_of events report clusters short done e es h.trace h.state rest h.at line a t played.1 played.2 passed small (λ is. h.tight (may is))
 
-    next : is_passed e a rest ≡ true → length (text a) < 2 ^ 31 → IsNext clusters h.state e a t rest
-    next passed small = next_of events report clusters short done e es h.trace h.state rest h.at line a t played.1 played.2 passed small light
+    abbrev before : Known
+    before = known clusters h.trace
+
+    log_is : after_answer before.log e a ≡ t.filter.volume.log
+    log_is = ap (λ (l : List (Usn × Change)). after_answer l e a) h.log ∙ sym (step_stands mode.Replay h.state e a t (ready clusters h.trace h.state h.at.run.lawful) played.1)
+
+    lawful : Runs mode.Replay (start mode.Replay empty_remote clusters) (h.trace ++ (e, a) ∷ []) t
+    lawful = runs_push mode.Replay (start mode.Replay empty_remote clusters) h.state t h.trace e a h.at.run.lawful played.1
+
+    used_is : makes_point e a ≡ true → used ≡ blocks_used (items_of (after_answer before.log e a))
+    used_is is =
+        is_used is t played.3 (pointed h.state e a t played.1 is).0 ∙ ap blocks_used (weighed mode.Replay empty_remote clusters (h.trace ++ (e, a) ∷ []) t lawful).items
+        ∙ ap (λ (l : List (Usn × Change)). blocks_used (items_of l)) (sym log_is)
+
+    told : (new.points.tight ≡ (next_known clusters before (e, a)).tight) × IsTallied new.points.room (next_known clusters before (e, a)).point (after_answer before.log e a)
+    told = subst (λ (k : ℕ). Tells k e a used old.points new.points) h.clusters_are tells before h.tight_is h.tallied used_is
+
+    after : known clusters (h.trace ++ (e, a) ∷ []) ≡ next_known clusters before (e, a)
+    after = known_next clusters h.trace (e, a)
+
+    points : before.point ≤ sure_count h.state.filter.volume.points
+    points = subst (λ (n : ℕ). n ≤ sure_count h.state.filter.volume.points) h.held.1 (point_before (length h.held.0) (length h.state.filter.volume.log) h.state.filter.volume.points h.held.2.2 (started_with_points mode.Replay empty_remote clusters h.trace h.state h.at.run.lawful))
+
+    stays : new.points.tight ≡ true → StaysTight events report clusters done h.state e a t
+    stays tight = by (makes_point e a) refl (sym told.0 ∙ tight)
+      where
+        by : (b : Bool) → makes_point e a ≡ b → (b || (before.tight && is_light clusters before.point (after_answer before.log e a))) ≡ true → StaysTight events report clusters done h.state e a t
+        by true is _ = elim (which_point e a is) as (λ _. StaysTight events report clusters done h.state e a t) [ inl x ↦ inl x | inr x ↦ inr (inl x) ]
+        by false is k =
+            let x = both before.tight (is_light clusters before.point (after_answer before.log e a)) k in
+            let light : weight_since before.point t.filter.volume.log ≤ clusters = weighs_less clusters before.point t.filter.volume.log h.small (subst (λ (l : List (Usn × Change)). is_light clusters before.point l ≡ true) log_is x.1) in
+            let later : weight_since (sure_count h.state.filter.volume.points) t.filter.volume.log ≤ weight_since before.point t.filter.volume.log = weight_later before.point (sure_count h.state.filter.volume.points) t.filter.volume.log points in
+            inr (inr (h.tight (h.tight_is ∙ x.0), omega (arith, light, later)))
 
     goes_on : (n : ℕ) → IsComparison e a rest (GoesOn n) → Follows Stands events report clusters (suc done) es (drop n rest) new
     goes_on n (passed, (meets, long, small, so)) = record {
       trace = h.trace ++ (e, a) ∷ [];
       state = t;
       clusters_are = same ∙ h.clusters_are;
+      small = h.small;
       at = subst (λ (k : ℕ). IsAt events report clusters (suc done) es (h.trace ++ (e, a) ∷ []) t (drop k rest)) (sym long)
           (goes_next events report clusters few done e es h.trace h.state rest h.at (line_not device_line (first_result rest) line) a t (next passed (omega (arith, long, small))) so);
       stands = played.3;
-      weighed = subst (λ (l : List (Usn × Change)). IsWeighed new.weights l) (sym (step_stands mode.Replay h.state e a t (ready clusters h.trace h.state h.at.run.lawful) played.1)) (weighs h.state.filter.volume.log h.weighed);
+      log = ap (λ (k : Known). k.log) after ∙ log_is;
+      tight_is = told.0 ∙ ap (λ (k : Known). k.tight) (sym after);
+      tallied = subst (λ (k : Known). IsTallied new.points.room k.point k.log) (sym after) told.1;
+      held = held_after;
+      tight = λ tight. tight_next events report clusters few done e es h.trace h.state rest h.at a t (next passed (omega (arith, long, small))) (stays tight);
     }
+      where
+        held_after : (front : List (Usn × Change)) × (length front ≡ (known clusters (h.trace ++ (e, a) ∷ [])).point) × HoldsIn front t
+        held_after =
+            let x = held_next h.state e a t before.point played.1 h.held in
+            (x.0, x.1 ∙ ap (λ (l : List (Usn × Change)). cond (makes_point e a) (length l) before.point) (sym log_is) ∙ ap (λ (k : Known). k.point) (sym after), x.2)
 
     by_comparison : (c : Comparison) (j : Judged) → IsComparison e a rest c → judged_by c ≡ Ok j → JudgedTo Stands events report clusters done es rest (Ok j) new
     by_comparison (GoesOn n) (judged.GoesOn m) is told = let same : n ≡ m = cc in subst (λ (k : ℕ). Follows Stands events report clusters (suc done) es (drop k rest) new) same (goes_on n is)
@@ -131,21 +182,27 @@ module _ {D : Type 0} (Stands : D → State → Type 0) (events : List Event) (r
     by_comparison Lost j is told = absurd cc
 
   -- the report beside the answer
-  pub taken : (a : Answer) (old mid new : Judge D) (j : Judged) → is_line device_line (first_result rest) ≡ false → MayOpen e old → Plays Stands e old.device (Ok a) mid.device → mid.weights ≡ old.weights → mid.clusters ≡ old.clusters → IsTaken e a rest mid.weights new.weights (Ok j) → new.device ≡ mid.device → new.clusters ≡ mid.clusters
-      → Follows Stands events report clusters done (e ∷ es) rest old → JudgedTo Stands events report clusters done es rest (Ok j) new
-  taken a old mid new j line may plays weights clusters_are is device same h =
-      by_comparison a old new line may (subst (λ (d : D). Plays Stands e old.device (Ok a) d) (sym device) plays) (same ∙ clusters_are)
-      (λ log w. is.0 log (subst (λ (x : List Weight). IsWeighed x log) (sym weights) w)) h is.1.0 j is.1.1 is.1.2
+  pub taken : (a : Answer) (used : ℕ) (old mid new : Judge D) (j : Judged) → is_line device_line (first_result rest) ≡ false → MayOpen e old → Plays Stands e old.device (Ok a) mid.device → mid.points ≡ old.points → mid.clusters ≡ old.clusters → IsUsed Stands mid.device e a used → IsTaken mid.clusters e a used rest mid.points new.points (Ok j)
+      → new.device ≡ mid.device → new.clusters ≡ mid.clusters → Follows Stands events report clusters done (e ∷ es) rest old → JudgedTo Stands events report clusters done es rest (Ok j) new
+  taken a used old mid new j line may plays same_points clusters_are is_used is device same h =
+      by_comparison a old new line may (subst (λ (d : D). Plays Stands e old.device (Ok a) d) (sym device) plays) (same ∙ clusters_are) used (subst (λ (d : D). IsUsed Stands d e a used) (sym device) is_used)
+      (subst (λ (k : ℕ). Tells k e a used old.points new.points) clusters_are (subst (λ (x : Points). Tells mid.clusters e a used x new.points) same_points is.0))
+      h is.1.0 j is.1.1 is.1.2
 
 -- it is followed from the start of the report on
-pub followed : {D : Type 0} (Stands : D → State → Type 0) (events : List Event) (report : List ℕ) (clusters : ℕ) (j : Judge D) → length report < 2 ^ 31 → j.clusters ≡ clusters → Stands j.device (start mode.Replay empty_remote clusters) → IsWeighed j.weights [] → Follows Stands events report clusters 0 events report j
-followed Stands events report clusters j short same stands weighed = record {
+pub followed : {D : Type 0} (Stands : D → State → Type 0) (events : List Event) (report : List ℕ) (clusters : ℕ) (j : Judge D) → length report < 2 ^ 31 → j.clusters ≡ clusters → Stands j.device (start mode.Replay empty_remote clusters) → clusters < 2 ^ 32 → j.points.tight ≡ true → IsTallied j.points.room 0 [] → Follows Stands events report clusters 0 events report j
+followed Stands events report clusters j short same stands small tight tallied = record {
   trace = [];
   state = start mode.Replay empty_remote clusters;
   clusters_are = same;
+  small = small;
   at = at_start events report clusters (omega (arith, short));
   stands = stands;
-  weighed = weighed;
+  log = refl;
+  tight_is = tight;
+  tallied = tallied;
+  held = ([], refl, (refl, omega arith, (omega arith, record {})));
+  tight = λ _. tight_start events report clusters;
 }
 
 -- and at its end
@@ -158,19 +215,19 @@ ended Stands events report clusters done rest j short h = at_the_end events repo
 pub unplayed : {D : Type 0} (Stands : D → State → Type 0) (e : Event) (old new : D) (m : NoMemory) → Plays Stands e old (Err m) new
 unplayed Stands e old new m = record { leads = λ s stands. record {} }
 
-pub told_taken : (e : Event) (a : Answer) (rest : List ℕ) (old new : List Weight) (c : Comparison) (r : Result Judged CheckError) → r ≡ judged_by c → IsComparison e a rest c → ((log : List (Usn × Change)) → IsWeighed old log → IsWeighed new (after_answer log e a)) → IsTaken e a rest old new r
-told_taken e a rest old new c (Ok j) told is weighs = (weighs, (c, is, sym told))
-told_taken e a rest old new TooLong (Err fails.NotFollowed) told is weighs = is
-told_taken e a rest old new (GoesOn n) (Err fails.NotFollowed) told is weighs = absurd cc
-told_taken e a rest old new Differs (Err fails.NotFollowed) told is weighs = absurd cc
-told_taken e a rest old new Lost (Err fails.NotFollowed) told is weighs = absurd cc
-told_taken e a rest old new c (Err fails.OutOfMemory) told is weighs = record {}
+pub told_taken : (clusters : ℕ) (e : Event) (a : Answer) (used : ℕ) (rest : List ℕ) (old new : Points) (c : Comparison) (r : Result Judged CheckError) → r ≡ judged_by c → IsComparison e a rest c → Tells clusters e a used old new → IsTaken clusters e a used rest old new r
+told_taken clusters e a used rest old new c (Ok j) told is tells = (tells, (c, is, sym told))
+told_taken clusters e a used rest old new TooLong (Err fails.NotFollowed) told is tells = is
+told_taken clusters e a used rest old new (GoesOn n) (Err fails.NotFollowed) told is tells = absurd cc
+told_taken clusters e a used rest old new Differs (Err fails.NotFollowed) told is tells = absurd cc
+told_taken clusters e a used rest old new Lost (Err fails.NotFollowed) told is tells = absurd cc
+told_taken clusters e a used rest old new c (Err fails.OutOfMemory) told is tells = record {}
 
-pub by_result : {D : Type 0} (Stands : D → State → Type 0) (events : List Event) (report : List ℕ) (clusters done : ℕ) (e : Event) (es : List Event) (rest : List ℕ) (a : Answer) (old mid new : Judge D) (r : Result Judged CheckError) → length report < 2 ^ 31 → is_of mode.Replay e ≡ true → is_line device_line (first_result rest) ≡ false → MayOpen e old → Plays Stands e old.device (Ok a) mid.device → mid.weights ≡ old.weights → mid.clusters ≡ old.clusters
-    → IsTaken e a rest mid.weights new.weights r → new.device ≡ mid.device → new.clusters ≡ mid.clusters → Follows Stands events report clusters done (e ∷ es) rest old → JudgedTo Stands events report clusters done es rest r new
-by_result Stands events report clusters done e es rest a old mid new (Ok j) short known line may plays weights clusters_are is device same h = taken Stands events report clusters done e es rest short a old mid new j line may plays weights clusters_are is device same h
-by_result Stands events report clusters done e es rest a old mid new (Err fails.NotFollowed) short known line may plays weights clusters_are is device same h = long Stands events report clusters done e es rest short old a mid.device h line known plays is
-by_result Stands events report clusters done e es rest a old mid new (Err fails.OutOfMemory) short known line may plays weights clusters_are is device same h = record {}
+pub by_result : {D : Type 0} (Stands : D → State → Type 0) (events : List Event) (report : List ℕ) (clusters done : ℕ) (e : Event) (es : List Event) (rest : List ℕ) (a : Answer) (used : ℕ) (old mid new : Judge D) (r : Result Judged CheckError) → length report < 2 ^ 31 → is_of mode.Replay e ≡ true → is_line device_line (first_result rest) ≡ false → MayOpen e old → Plays Stands e old.device (Ok a) mid.device → mid.points ≡ old.points → mid.clusters ≡ old.clusters
+    → IsUsed Stands mid.device e a used → IsTaken mid.clusters e a used rest mid.points new.points r → new.device ≡ mid.device → new.clusters ≡ mid.clusters → Follows Stands events report clusters done (e ∷ es) rest old → JudgedTo Stands events report clusters done es rest r new
+by_result Stands events report clusters done e es rest a used old mid new (Ok j) short known line may plays same_points clusters_are is_used is device same h = taken Stands events report clusters done e es rest short a used old mid new j line may plays same_points clusters_are is_used is device same h
+by_result Stands events report clusters done e es rest a used old mid new (Err fails.NotFollowed) short known line may plays same_points clusters_are is_used is device same h = long Stands events report clusters done e es rest short old a mid.device h line known plays is
+by_result Stands events report clusters done e es rest a used old mid new (Err fails.OutOfMemory) short known line may plays same_points clusters_are is_used is device same h = record {}
 
 -- in the loop
 

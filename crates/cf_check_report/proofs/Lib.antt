@@ -1,3 +1,4 @@
 pub mod Answering
 pub mod Changes
 pub mod Judging
+pub mod Knowing

@@ -1,5 +1,5 @@
 -- A device whose run is followed beside a report, and what is said of the report at an event.
-use Rattle.std.specs.Prelude.{◌≡◌, ◌≤◌, ℕ, suc, true, false, List, [], ◌∷◌, drop, Result, Ok, Err}
+use Rattle.std.specs.Prelude.{◌≡◌, ◌≤◌, ◌<◌, ◌^◌, ℕ, suc, true, false, List, [], ◌∷◌, drop, length, Result, Ok, Err}
 use Rattle.cf_base.specs.declared.answers.Answer.{Answer}
 use Rattle.cf_base.specs.declared.changes.Change.{Change}
 use Rattle.cf_base.specs.declared.events.Event.{Event}
@@ -16,21 +16,29 @@ use Rattle.cf_check_report.specs.declared.judgements.Judged.TheVariants.{GoesOn,
 use Rattle.cf_check_report.specs.declared.judgements.Judge.{Judge}
 use Rattle.cf_check_report.specs.declared.check_errors.CheckError.TheVariants as fails
 use Rattle.cf_check_report.specs.Straying.{IsStray}
-use Rattle.cf_check_room.specs.Weights.{weight}
-use Rattle.cf_check_traces.specs.Tests.{is_restart}
-use Rattle.cf_check_weights.specs.Weighed.{IsWeighed, is_light}
-use Rattle.cf_check_weights.specs.declared.weights.Weight.{Weight}
-use Rattle.cf_model.specs.State.{State}
-use Rattle.cf_model_headline.specs.Reports.{after_answer}
+use Rattle.cf_check_report.specs.Points.{Tells, known}
+use Rattle.cf_check_report.specs.declared.weighing.Points.{Points}
+use Rattle.cf_check_traces.specs.Followed.{IsTight}
+use Rattle.cf_check_traces.specs.Tests.{is_restart, makes_point}
+use Rattle.cf_check_weights.specs.Weighed.{IsTallied}
+use Rattle.cf_model.specs.Blocks.{blocks_used}
+use Rattle.cf_model.specs.Flushed.{HoldsIn}
+use Rattle.cf_model.specs.State.{On, State}
 
 -- The device has done the first events, and stands for a state of a run that is followed beside the report.
 pub record Follows {D : Type 0} (Stands : D → State → Type 0) (events : List Event) (report : List ℕ) (clusters done : ℕ) (es : List Event) (rest : List ℕ) (j : Judge D) : Type 0 where
   pub trace : List (Event × Answer)
   pub state : State
   pub clusters_are : j.clusters ≡ clusters
+  pub small : clusters < 2 ^ 32
   pub at : IsAt events report clusters done es trace state rest
   pub stands : Stands j.device state
-  pub weighed : IsWeighed j.weights state.filter.volume.log
+  pub log : (known clusters trace).log ≡ state.filter.volume.log
+  pub tight_is : j.points.tight ≡ (known clusters trace).tight
+  pub tallied : IsTallied j.points.room (known clusters trace).point (known clusters trace).log
+  -- no restart leaves out the changes of the last known point
+  pub held : (front : List (Usn × Change)) × (length front ≡ (known clusters trace).point) × HoldsIn front state
+  pub tight : j.points.tight ≡ true → IsTight events report clusters done state
 
 -- what is said at the next event: the run is followed with it, or this is the right verdict, or the way of the report is lost
 abbrev pub JudgedTo : {D : Type 0} → (D → State → Type 0) → List Event → List ℕ → ℕ → ℕ → List Event → List ℕ → Result Judged CheckError → Judge D → Type 0
@@ -40,13 +48,13 @@ JudgedTo Stands events report clusters done es rest (Ok Open) j = IsVerdict even
 JudgedTo Stands events report clusters done es rest (Err fails.NotFollowed) j = IsStray events report clusters
 JudgedTo Stands events report clusters done es rest (Err fails.OutOfMemory) j = Unit {0}
 
--- a restart is done where the log surely weighs no more than the clusters
+-- a restart is done where no point of a commit for room is left
 abbrev pub MayOpen : {D : Type 0} → Event → Judge D → Type 0
-MayOpen e j = is_restart e ≡ true → (log : List (Usn × Change)) → IsWeighed j.weights log → weight log ≤ j.clusters
+MayOpen e j = is_restart e ≡ true → j.points.tight ≡ true
 
--- it is not done where the log is heavier
+-- it is not done where one may be
 abbrev pub MayNotOpen : {D : Type 0} → Event → Judge D → Type 0
-MayNotOpen e j = (is_restart e ≡ true) × ((log : List (Usn × Change)) → IsWeighed j.weights log → is_light j.clusters log ≡ false)
+MayNotOpen e j = (is_restart e ≡ true) × (j.points.tight ≡ false)
 
 -- What a comparison says of the report. No state has an answer that is lost.
 abbrev pub judged_by : Comparison → Result Judged CheckError
@@ -56,7 +64,11 @@ judged_by compared.TooLong = Err fails.NotFollowed
 judged_by compared.Lost = Err fails.OutOfMemory
 
 -- The answer is weighed, and so the report goes on beside it, or the answer is too long.
-abbrev pub IsTaken : Event → Answer → List ℕ → List Weight → List Weight → Result Judged CheckError → Type 0
-IsTaken e a rest old new (Ok j) = ((log : List (Usn × Change)) → IsWeighed old log → IsWeighed new (after_answer log e a)) × ((c : Comparison) × IsComparison e a rest c × (judged_by c ≡ Ok j))
-IsTaken e a rest old new (Err fails.NotFollowed) = IsComparison e a rest compared.TooLong
-IsTaken e a rest old new (Err fails.OutOfMemory) = Unit {0}
+abbrev pub IsTaken : ℕ → Event → Answer → ℕ → List ℕ → Points → Points → Result Judged CheckError → Type 0
+IsTaken clusters e a used rest old new (Ok j) = Tells clusters e a used old new × ((c : Comparison) × IsComparison e a rest c × (judged_by c ≡ Ok j))
+IsTaken clusters e a used rest old new (Err fails.NotFollowed) = IsComparison e a rest compared.TooLong
+IsTaken clusters e a used rest old new (Err fails.OutOfMemory) = Unit {0}
+
+-- so many blocks hold a byte where the device has a volume that is on
+abbrev pub IsUsed : {D : Type 0} → (D → State → Type 0) → D → Event → Answer → ℕ → Type 0
+IsUsed Stands d e a used = makes_point e a ≡ true → (s : State) → Stands d s → s.power ≡ On → used ≡ blocks_used s.filter.volume.items

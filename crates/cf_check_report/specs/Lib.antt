@@ -1,3 +1,4 @@
 pub mod Following
 pub mod Playing
+pub mod Points
 pub mod Straying

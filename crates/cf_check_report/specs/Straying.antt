@@ -7,16 +7,17 @@ use Rattle.cf_check_compare.specs.Passed.{is_passed}
 use Rattle.cf_check_judge.specs.Judge.{first_result, is_line}
 use Rattle.cf_check_judge.specs.Settled.{IsAt}
 use Rattle.cf_check_model.specs.Reports.{device_line}
+use Rattle.cf_check_report.specs.Points.{known}
 use Rattle.cf_check_traces.specs.Tests.{is_restart}
-use Rattle.cf_check_weights.specs.Weighed.{is_light}
 use Rattle.cf_model.specs.Events.{is_of}
 use Rattle.cf_model.specs.Lawful.{IsStep}
 use Rattle.cf_model.specs.State.{State}
 use Rattle.cf_report.specs.Texts.{text}
 
--- a restart of a volume whose changes may have put bytes into more than half of the clusters, so that it may have made a commit for room
-abbrev pub IsHeavyRestart : ℕ → Event → State → Type 0
-IsHeavyRestart clusters e s = (is_restart e ≡ true) × (is_light clusters s.filter.volume.log ≡ false)
+-- a restart of a volume that may have made a commit for room since the last point that the answers tell: the blocks that its items used there,
+-- and twice those into which the changes since may have put bytes, passed the clusters
+abbrev pub IsHeavyRestart : ℕ → Event → List (Event × Answer) → Type 0
+IsHeavyRestart clusters e trace = (is_restart e ≡ true) × ((known clusters trace).tight ≡ false)
 
 -- The event has a lawful answer of 2^31 bytes or more. The remote does in it what the report tells: it passes the tests that each answer
 -- passes which is given so. So it is not that of a device that failed.
@@ -35,4 +36,4 @@ pub record IsStray (events : List Event) (report : List ℕ) (clusters : ℕ) : 
   pub at : IsAt events report clusters done (next ∷ more) trace state rest
   pub allowed : is_of mode.Replay next ≡ true
   pub runs : is_line device_line (first_result rest) ≡ false
-  pub strays : IsHeavyRestart clusters next state ⊎ HasLongAnswer next state rest
+  pub strays : IsHeavyRestart clusters next trace ⊎ HasLongAnswer next state rest

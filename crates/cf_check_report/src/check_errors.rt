@@ -10,8 +10,9 @@ use std::alloc::AllocError;
 #[derive(Clone, Copy, Debug, PartialEq, Eq, thiserror::Error)]
 pub enum CheckError {
     /// The report's way was lost, after events that have lawful answers with its texts. So it is at a restart of a volume that may have made a
-    /// commit for room, since nobody can tell then which points the restart may have opened: where its changes may have put bytes into more
-    /// than half of the clusters, a write being counted from the start of its file. So it is also where a lawful answer has more than
+    /// commit for room since its last point, as nobody can tell then which points the restart may have opened: where the blocks that its items
+    /// used at its last flush or opening, and twice those into which its changes since may have put bytes, passed the clusters, a write being
+    /// counted from the start of its file. So it is also where a lawful answer has more than
     /// 2,147,483,647 bytes.
     #[error("not followed")]
     NotFollowed,

@@ -4,7 +4,8 @@ ghost use Rattle.std.specs.Prelude.{◌≡◌, true};
 ghost use Rattle.cf_base.specs.declared.policies.Mode.TheVariants as mode;
 ghost use Rattle.cf_check_report.specs.Playing.{Plays};
 ghost use Rattle.cf_model.specs.Events.{is_of};
-ghost use Rattle.cf_model.specs.State.{State};
+ghost use Rattle.cf_model.specs.Blocks.{blocks_used};
+ghost use Rattle.cf_model.specs.State.{On, State};
 
 use cf_base::{Answer, Event, OutOfMemory};
 use std::alloc::Global;
@@ -24,4 +25,8 @@ pub trait Device: Sized {
     ) -> (Self, Result<Answer, OutOfMemory>)
         requires { is_of mode.Replay event.now ≡ true }
         ensures { Plays stands event.now self result.1 result.0 };
+
+    /// How many blocks of 4,096 bytes hold a byte of an item. It is asked where the volume is on.
+    fn used(&self) -> u32
+        ensures { (s : State) → stands self.now s → s.power ≡ On → result ≡ blocks_used s.filter.volume.items };
 }

@@ -5,16 +5,15 @@ ghost use Rattle.cf_base.specs.declared.events.Event.{Event as Done};
 ghost use Rattle.cf_base.specs.declared.policies.Mode.TheVariants as mode;
 ghost use Rattle.cf_check_judge.specs.Judge.{first_result, is_line};
 ghost use Rattle.cf_check_model.specs.Reports.{device_line};
-ghost use Rattle.cf_check_report.specs.Following.{Follows, IsTaken, JudgedTo, MayNotOpen, MayOpen, judged_by};
+ghost use Rattle.cf_check_report.specs.Following.{Follows, IsTaken, IsUsed, JudgedTo, MayNotOpen, MayOpen, judged_by};
 ghost use Rattle.cf_check_report.specs.Playing.{Plays};
 ghost use Rattle.cf_model.specs.Events.{is_of};
 
 use crate::check_errors::CheckError;
 use crate::devices::Device;
-use crate::weighing::weigh;
+use crate::weighing::{Points, makes_point, weigh};
 use cf_base::{Answer, Blob, Event, OutOfMemory, no_such_state};
 use cf_check_compare::{Comparison, compare, fails_next, is_foreign, is_restart, tellings};
-use cf_check_weights::Weights;
 use cf_report::text;
 use std::alloc::Global;
 
@@ -29,11 +28,11 @@ pub(crate) enum Judged {
     Open,
 }
 
-/// A device that is followed beside a report, the weight of its log, and its clusters.
+/// A device that is followed beside a report, what is known of its points, and its clusters.
 #[derive(Drop)]
 pub(crate) struct Judge<D> {
     pub(crate) device: D,
-    pub(crate) weights: Weights,
+    pub(crate) points: Points,
     pub(crate) clusters: u32,
     /// The lines of its last answer where the report does not go on with them, else nothing.
     pub(crate) expected: Blob,
@@ -53,16 +52,18 @@ fn judgement_of(compared: Comparison) -> Result<Judged, CheckError>
 
 // Weighs an answer, and holds it against the report. Keeps its lines where the report does not go on with them.
 fn take(
-    weights: &mut Weights,
+    points: &mut Points,
     expected: &mut Blob,
     alloc: Global,
+    clusters: u32,
     event: &Event,
     answer: &Answer,
+    used: u32,
     rest: &[u8],
 ) -> Result<Judged, CheckError>
-    ensures { IsTaken event.now answer.now rest.now weights.old weights.new result }
+    ensures { IsTaken clusters event.now answer.now used rest.now points.old points.new result }
 {
-    weigh(weights, event, answer)?;
+    weigh(points, clusters, event, answer, used)?;
     let compared = compare(alloc, event, answer, rest)?;
     if let Comparison::Differs = compared {
         *expected = text(alloc, answer)?;
@@ -80,7 +81,7 @@ impl<D: Device> Judge<D> {
     ) -> (Judge<D>, Result<Answer, OutOfMemory>)
         requires { is_of mode.Replay event.now ≡ true }
         ensures plays { Plays D.stands event.now self.device result.1 result.0.device }
-        ensures weights { result.0.weights ≡ self.weights }
+        ensures points { result.0.points ≡ self.points }
         ensures clusters { result.0.clusters ≡ self.clusters }
     {
         let fails = match tellings(alloc, event, rest) {
@@ -89,18 +90,29 @@ impl<D: Device> Judge<D> {
         };
         let Judge {
             device,
-            weights,
+            points,
             clusters,
             expected,
         } = self;
         let (device, told) = device.step(alloc, event, fails);
         let left = Judge {
             device,
-            weights,
+            points,
             clusters,
             expected,
         };
         (left, told)
+    }
+
+    // How many blocks are used at the point that the answer makes, if it makes one.
+    fn used(&self, event: &Event, answer: &Answer) -> u32
+        ensures { IsUsed D.stands self.now.device event.now answer.now result }
+    {
+        if makes_point(event, answer) {
+            self.device.used()
+        } else {
+            0
+        }
     }
 
     // Does an event of `replay`, and holds its answer against the report.
@@ -118,12 +130,15 @@ impl<D: Device> Judge<D> {
         let (mut left, told) = self.play(alloc, event, rest);
         match told {
             Ok(answer) => {
+                let used = left.used(event, &answer);
                 let judged = take(
-                    &mut left.weights,
+                    &mut left.points,
                     &mut left.expected,
                     alloc,
+                    left.clusters,
                     event,
                     &answer,
+                    used,
                     rest,
                 );
                 drop(answer);
@@ -138,7 +153,7 @@ impl<D: Device> Judge<D> {
         ensures opens { result ≡ true → MayOpen event.now self.now }
         ensures strays { result ≡ false → MayNotOpen event.now self.now }
     {
-        !is_restart(event) || self.weights.fit(self.clusters)
+        !is_restart(event) || self.points.tight
     }
 
     /// Judges how the report goes on at an event.
@@ -169,12 +184,12 @@ impl<D: Drop> Judge<D> {
     pub(crate) fn into_expected(self) -> Blob {
         let Judge {
             device,
-            weights,
+            points,
             clusters: _,
             expected,
         } = self;
         drop(device);
-        drop(weights);
+        drop(points);
         expected
     }
 }

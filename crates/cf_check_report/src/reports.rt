@@ -14,10 +14,11 @@ use crate::check_errors::CheckError;
 use crate::devices::Device;
 use crate::differences::{Difference, Judgement};
 use crate::judgements::{Judge, Judged};
+use crate::weighing::Points;
 use cf_base::{Blob, Event};
 use cf_check_compare::after;
 use cf_check_model::Verdict;
-use cf_check_weights::Weights;
+use cf_check_weights::Room;
 use std::alloc::Global;
 
 // Where the rest of a report begins in it.
@@ -78,7 +79,10 @@ pub fn judge<D: Device + Drop>(
 {
     let mut judge = Judge {
         device,
-        weights: Weights::new(alloc),
+        points: Points {
+            room: Room::new(alloc),
+            tight: true,
+        },
         clusters,
         expected: Blob::from_vec(Vec::new(alloc)),
     };

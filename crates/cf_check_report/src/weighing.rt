@@ -1,56 +1,118 @@
-//! The weight of a log by the answers that tell its changes.
+//! What the changes that the answers tell may have needed since the last known point.
 
-ghost use Rattle.std.specs.Prelude.{◌≡◌, ◌++◌, List, OnOk};
+ghost use Rattle.std.specs.Prelude.{◌≡◌, ◌++◌, ℕ, List, OnOk};
 ghost use Rattle.cf_base.specs.declared.changes.Change.{Change as Logged};
 ghost use Rattle.cf_base.specs.declared.ids.Usn.{Usn};
-ghost use Rattle.cf_check_weights.specs.Weighed.{IsWeighed};
+ghost use Rattle.cf_check_report.specs.Points.{IsKept, IsStanding, Tells};
+ghost use Rattle.cf_check_traces.specs.Tests.{is_count, is_flush, is_resumed, makes_point};
+ghost use Rattle.cf_check_weights.specs.Weighed.{IsTallied};
 ghost use Rattle.cf_model_headline.specs.Reports.{after_answer, change_in, changes_in, resumed_with};
 
-use cf_base::{Answer, Event, Notice, OutOfMemory, Shown};
+use cf_base::{Answer, Call, Event, Notice, OutOfMemory, Shown};
 use cf_check_compare::is_restart;
-use cf_check_weights::Weights;
+use cf_check_weights::Room;
+
+/// What is known of the points that a restart may open.
+#[derive(Drop)]
+pub(crate) struct Points {
+    /// What the changes since the last known point may have needed.
+    pub(crate) room: Room,
+    /// Whether no point of a commit for room is left.
+    pub(crate) tight: bool,
+}
 
 // Adds the change that a line tells, if it tells one.
 #[tactic(auto, using(crate::proofs::Changes::nothing_more))]
-fn add_told(weights: &mut Weights, notice: &Notice) -> Result<(), OutOfMemory>
-    ensures { (log : List (Usn × Logged)) → IsWeighed weights.old log → OnOk result (IsWeighed weights.new (log ++ change_in notice.now)) }
+fn add_told(room: &mut Room, notice: &Notice) -> Result<(), OutOfMemory>
+    ensures { (n : ℕ) (log : List (Usn × Logged)) → IsTallied room.old n log → OnOk result (IsTallied room.new n (log ++ change_in notice.now)) }
 {
     match notice {
-        Notice::Change { change, .. } => weights.add(change),
+        Notice::Change { change, .. } => room.add(change),
         _ => Ok(()),
     }
 }
 
 // Adds the changes that the lines tell.
-fn add_all(weights: &mut Weights, notices: &[Notice]) -> Result<(), OutOfMemory>
-    ensures { (log : List (Usn × Logged)) → IsWeighed weights.old log → OnOk result (IsWeighed weights.new (log ++ changes_in notices.now)) }
+fn add_all(room: &mut Room, notices: &[Notice]) -> Result<(), OutOfMemory>
+    ensures { (n : ℕ) (log : List (Usn × Logged)) → IsTallied room.old n log → OnOk result (IsTallied room.new n (log ++ changes_in notices.now)) }
 {
     for notice in notices {
-        add_told(weights, notice)?;
+        add_told(room, notice)?;
     }
     Ok(())
 }
 
-// Keeps the changes that a restart kept.
-fn resume(weights: &mut Weights, shown: &Shown)
-    ensures { (log : List (Usn × Logged)) → IsWeighed weights.old log → IsWeighed weights.new (resumed_with shown.now log) }
+// Keeps the changes that a restart kept. Where it kept some, a point is to be told.
+fn resume(room: &mut Room, shown: &Shown)
+    ensures { (n : ℕ) (log : List (Usn × Logged)) → IsTallied room.old n log → IsKept room.new n shown.now (resumed_with shown.now log) }
 {
     if let Shown::Resumed { count, .. } = shown {
-        weights.keep(*count);
+        room.keep(*count);
     }
 }
 
-/// The weights after an answer.
-pub(crate) fn weigh(
-    weights: &mut Weights,
-    event: &Event,
-    answer: &Answer,
-) -> Result<(), OutOfMemory>
-    ensures { (log : List (Usn × Logged)) → IsWeighed weights.old log → OnOk result (IsWeighed weights.new (after_answer log event.now answer.now)) }
+fn is_resumed(shown: &Shown) -> bool
+    ensures { result ≡ is_resumed shown.now }
+{
+    match shown {
+        Shown::Resumed { .. } => true,
+        _ => false,
+    }
+}
+
+fn is_flush(event: &Event) -> bool
+    ensures { result ≡ is_flush event.now }
+{
+    match event {
+        Event::Call(Call::Flush) => true,
+        _ => false,
+    }
+}
+
+fn is_count(shown: &Shown) -> bool
+    ensures { result ≡ is_count shown.now }
+{
+    match shown {
+        Shown::Count(_) => true,
+        _ => false,
+    }
+}
+
+/// Whether one point is left after the answer, that of all changes.
+pub(crate) fn makes_point(event: &Event, answer: &Answer) -> bool
+    ensures { result ≡ makes_point event.now answer.now }
+{
+    let resumed = is_restart(event) && is_resumed(&answer.shown);
+    resumed || (is_flush(event) && is_count(&answer.shown))
+}
+
+// The changes that stand after an answer.
+fn stand(room: &mut Room, event: &Event, answer: &Answer) -> Result<(), OutOfMemory>
+    ensures { (n : ℕ) (log : List (Usn × Logged)) → IsTallied room.old n log → OnOk result (IsStanding room.new n event.now answer.now (after_answer log event.now answer.now)) }
 {
     if is_restart(event) {
-        resume(weights, &answer.shown);
+        resume(room, &answer.shown);
         return Ok(());
     }
-    add_all(weights, answer.notes.as_slice())
+    add_all(room, answer.notes.as_slice())
+}
+
+/// What is known after an answer. Where it makes a point, so many blocks are used there.
+pub(crate) fn weigh(
+    points: &mut Points,
+    clusters: u32,
+    event: &Event,
+    answer: &Answer,
+    used: u32,
+) -> Result<(), OutOfMemory>
+    ensures { OnOk result (Tells clusters event.now answer.now used points.old points.new) }
+{
+    stand(&mut points.room, event, answer)?;
+    if makes_point(event, answer) {
+        points.room.point(used);
+        points.tight = true;
+    } else {
+        points.tight = points.tight && points.room.fits(clusters);
+    }
+    Ok(())
 }

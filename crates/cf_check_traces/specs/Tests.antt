@@ -84,3 +84,11 @@ is_count _ = false
 
 abbrev pub is_flushed : Event → Answer → Bool
 is_flushed e a = is_flush e && is_count a.shown
+
+abbrev pub is_resumed : Shown → Bool
+is_resumed (shown.Resumed n k) = true
+is_resumed _ = false
+
+-- a flush that answered, or a restart that resumed: one point is left, that of all changes
+abbrev pub makes_point : Event → Answer → Bool
+makes_point e a = (is_restart e && is_resumed a.shown) || is_flushed e a

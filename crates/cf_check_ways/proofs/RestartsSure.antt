@@ -2,6 +2,7 @@
 use Rattle.std.proofs.Common.{◌≡◌, ◌⊎◌, ℕ, suc, Bool, true, false, List, [], ◌∷◌, length, nat_lt, reverse, refl, sym, ◌∙◌, ap, subst, inl, inr, ◌&&◌, filter}
 use Rattle.std.specs.List.{list_all}
 use Rattle.std.proofs.lemmas.List.{length-reverse}
+use Rattle.cf_base.specs.declared.answers.OpenedBook.{OpenedBook}
 use Rattle.cf_base.specs.declared.answers.Shown.{Shown}
 use Rattle.cf_base.specs.declared.answers.Shown.TheVariants as shown
 use Rattle.cf_base.specs.declared.codes.Code.TheVariants as code
@@ -248,3 +249,23 @@ restart_lines s a t none h = by s.power h
     by Off h = points_lines (points_at s) s a t none h
     by On h = ap (λ (z : State). z.filter.notes) h.1 ∙ none
     by Broken h = ap (λ (z : State). z.filter.notes) h.1 ∙ none
+
+-- one that resumed has opened a point
+
+points_opened : (ps : List Point) (s : State) (a : Shown) (t : State) (n : ℕ) (k : OpenedBook) → Ends (open_points ps s) a t → a ≡ shown.Resumed n k → (p : Point) × (epoch : ℕ) × (t ≡ with_opened p epoch s)
+points_opened [] s a t n k h is = let z : shown.Refused code.NotAVolume ≡ shown.Resumed n k = sym h.0 ∙ is in absurd cc
+points_opened (p ∷ ps) s a t n k h is =
+    let x = ends_one_of open_point p ps s a t h in
+    let y = ends_one_of (open_skipping x.0) 0 (more_epochs s) s a t x.1 in
+    elim (opened_in x.0 (epoch_after y.0 s) s a t (nat_lt most (epoch_after y.0 s)) y.1) as (λ _. (q : Point) × (epoch : ℕ) × (t ≡ with_opened q epoch s)) [
+      | inl z ↦ let w : shown.Refused code.Exhausted ≡ shown.Resumed n k = sym z.1 ∙ is in absurd cc
+      | inr z ↦ (x.0, epoch_after y.0 s, z.2)
+    ]
+
+pub opened_by : (s : State) (a : Shown) (t : State) (n : ℕ) (k : OpenedBook) → Ends (restart s) a t → a ≡ shown.Resumed n k → (p : Point) × (epoch : ℕ) × (t ≡ with_opened p epoch s)
+opened_by s a t n k h is = by s.power h
+  where
+    by : (w : Power) → Ends (restart_by w s) a t → (p : Point) × (epoch : ℕ) × (t ≡ with_opened p epoch s)
+    by Off h = points_opened (points_at s) s a t n k h is
+    by On h = let z : shown.Refused code.Running ≡ shown.Resumed n k = sym h.0 ∙ is in absurd cc
+    by Broken h = let z : shown.Refused code.Running ≡ shown.Resumed n k = sym h.0 ∙ is in absurd cc

@@ -2,6 +2,7 @@
 use Rattle.std.proofs.Common.{◌≡◌, ◌⊎◌, ℕ, zero, suc, Bool, true, false, List, [], ◌∷◌, refl, sym, ◌∙◌, ap, subst, inl, inr, ◌≤◌, ◌+◌, arith, length}
 use Rattle.std.specs.Prelude.{Option, Some, None}
 use Rattle.cf_base.specs.declared.answers.Answer.{Answer}
+use Rattle.cf_base.specs.declared.answers.OpenedBook.{OpenedBook}
 use Rattle.cf_base.specs.declared.answers.Shown.{Shown}
 use Rattle.cf_base.specs.declared.answers.Shown.TheVariants as shown
 use Rattle.cf_base.specs.declared.calls.Call.TheVariants as call
@@ -18,7 +19,8 @@ use Rattle.cf_model.specs.Calls.{count_now, flush, show_count}
 use Rattle.cf_model.specs.Events.{answer_in, answered, begun, broken, choices_in, event_now, may_stop, needs_volume, no_volume, outcome, refusal, tree_of}
 use Rattle.cf_model.specs.Lawful.{IsStep}
 use Rattle.cf_model.specs.Points.{HasPoints, commit, point_now, with_sure_point}
-use Rattle.cf_model.specs.State.{Filter, Link, State, Volume, in_volume, with_filter, with_volume}
+use Rattle.cf_model.specs.Restarts.{with_opened}
+use Rattle.cf_model.specs.State.{Broken, Filter, Link, Off, On, Point, Power, State, Volume, in_volume, with_filter, with_volume}
 use Rattle.cf_model.specs.Trees.{Stops, AsItKeeps, Asked, Choices, Ends, Fork, Ret, Step, Telling, Tree, play, walk}
 use Rattle.cf_model.proofs.MessagesKeep.{asked_keeps}
 use Rattle.cf_model.proofs.PeersKeep.{peer_event_keeps}
@@ -27,7 +29,7 @@ use Rattle.cf_check_ways.specs.Ways.{AllSure, BecomesSure, core_of, sures, IsFro
 use Rattle.cf_check_ways.proofs.EngineEventsSure.{engine_event_sure}
 use Rattle.cf_check_ways.proofs.EventsSure.{call_now_sure, provider_event_sure}
 use Rattle.cf_check_ways.proofs.PeersSure.{peer_event_sure}
-use Rattle.cf_check_ways.proofs.RestartsSure.{crash_sure, restart_afresh, restart_lines, restart_one, restart_quiet, restart_sends, restart_single}
+use Rattle.cf_check_ways.proofs.RestartsSure.{crash_sure, opened_by, restart_afresh, restart_lines, restart_one, restart_quiet, restart_sends, restart_single}
 use Rattle.cf_check_ways.proofs.Sure.{becomes_same, ends_of_mapped, ends_split, sure_ret}
 
 -- by choices that do not stop it an event ends
@@ -367,3 +369,24 @@ flush_points m s a t n h is = by (no_volume (needs_volume (event.Call call.Flush
         let y = ends_of_mapped (λ (g : Filter). with_filter g (begun s)) (flush (begun s).filter) x.0 t x.1 in
         let left : t.filter.volume ≡ with_sure_point (begun s).filter.volume = ap (λ (z : State). z.filter.volume) y.2 ∙ flushed_volume (begun s).filter x.0 y.0 y.1 in
         subst (λ (v : Volume). v.points ≡ point_now true v ∷ []) (sym left) refl
+
+-- the volume is on after it
+pub flush_power : (m : Mode) (s : State) (a : Answer) (t : State) (n : ℕ) → IsStep m s (event.Call call.Flush) a t → a.shown ≡ shown.Count n → t.power ≡ On
+flush_power m s a t n h is = by s.power refl (step_of m s (event.Call call.Flush) a t h)
+  where
+    refused : (c : Code) → StepOf (Some c) s (event.Call call.Flush) a t → ⊥
+    refused c x = let z : shown.Refused c ≡ shown.Count n = sym (ap (λ (y : Answer). y.shown) x.0) ∙ is in cc
+
+    by : (p : Power) → s.power ≡ p → StepOf (no_volume true p) s (event.Call call.Flush) a t → t.power ≡ On
+    by On on (inl x) = let y = ends_of_mapped (λ (g : Filter). with_filter g (begun s)) (flush (begun s).filter) x.0 t x.1 in ap (λ (z : State). z.power) y.2 ∙ on
+    by On on (inr stop) = let z : shown.Refused code.Device ≡ shown.Count n = sym (cut_is_stopped s (event.Call call.Flush) a t stop) ∙ is in absurd cc
+    by Broken off x = absurd (refused code.Broken x)
+    by Off off x = absurd (refused code.Off x)
+
+-- a restart that resumed has opened a point
+pub restart_opens : (m : Mode) (s : State) (a : Answer) (t : State) (n : ℕ) (o : OpenedBook) → IsStep m s (event.Device device.Restart) a t → a.shown ≡ shown.Resumed n o → (p : Point) × (epoch : ℕ) × (t ≡ with_opened p epoch (begun s))
+restart_opens m s a t n o h is = by (step_of m s (event.Device device.Restart) a t h)
+  where
+    by : StepOf None s (event.Device device.Restart) a t → (p : Point) × (epoch : ℕ) × (t ≡ with_opened p epoch (begun s))
+    by (inl x) = opened_by (begun s) x.0 t n o x.1 (sym (ap (λ (y : Answer). y.shown) x.2) ∙ is)
+    by (inr stop) = let z : shown.Refused code.Device ≡ shown.Resumed n o = sym (cut_is_stopped s (event.Device device.Restart) a t stop) ∙ is in absurd cc

@@ -6,7 +6,7 @@ use Rattle.cf_check_report.specs.Following.{Follows}
 use Rattle.cf_check_report.proofs.reports.judge.Goals as goal
 
 pub loop-event-init : goal.loop-event-init
-loop-event-init g c = (followed g.D.Device.stands c.args.events.now c.args.report.now c.args.clusters _ c.requires.report refl c.requires.stands c.new.ensures, refl)
+loop-event-init g c = (followed g.D.Device.stands c.args.events.now c.args.report.now c.args.clusters _ c.requires.report refl c.requires.stands c.ranges.clusters.fits refl c.new.ensures, refl)
 
 pub returns-in-Ok-Wrong-clause-right : goal.returns-in-Ok-Wrong-clause-right
 returns-in-Ok-Wrong-clause-right g c =
