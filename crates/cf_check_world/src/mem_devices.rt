@@ -22,6 +22,7 @@ use cf_engine::SyncActor;
 use cf_filter_events::Acting;
 use cf_journal::LEAST_SIZE;
 use cf_pair_lane::Away;
+use cf_state::used_blocks;
 use std::alloc::Global;
 
 /// A device in memory with its engine and its remote.
@@ -119,5 +120,10 @@ impl Device for MemDevice {
         } else {
             self.act(alloc, event, fails)
         }
+    }
+
+    // The work grows with the items, and it is asked at points alone.
+    fn used(&self) -> u32 {
+        used_blocks(&self.acting)
     }
 }
