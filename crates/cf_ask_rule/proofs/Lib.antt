@@ -1,3 +1,4 @@
+pub mod Beginning
 pub mod Blocks
 pub mod Covering
 pub mod Covers
@@ -11,6 +12,8 @@ pub mod Opening
 pub mod Owned
 pub mod Places
 pub mod Runs
+pub mod SameSpans
 pub mod Search
+pub mod Settling
 pub mod Wanted
 pub mod Wanting

@@ -67,11 +67,11 @@ runs_missed item v ws base (c ∷ cs) r w l h = one_of item v ws base (eqb c (r.
     (λ e. runs_missed item v ws base cs (record r { count = r.count + 1 }) w (omega arith) h.1)
     ((λ here t. run_missed (is_wanted item v ws) r.first r.count w l), runs_missed item v ws base cs (record { fetch = is_fetched v c; first = c; count = 1 }) h.0 (omega arith) h.1)
 
-all_runs_missed : (item : ItemId) (v : View) (ws : List Wait) (base : ℕ) (bs : List ℕ) → AllByRecursion (λ b. is_wanted item v ws b ≡ true) bs → AllByRecursion (IsMissed item v ws) (map (ask_of_run item base) (runs_of v bs))
+pub all_runs_missed : (item : ItemId) (v : View) (ws : List Wait) (base : ℕ) (bs : List ℕ) → AllByRecursion (λ b. is_wanted item v ws b ≡ true) bs → AllByRecursion (IsMissed item v ws) (map (ask_of_run item base) (runs_of v bs))
 all_runs_missed item v ws base [] h = tt
 all_runs_missed item v ws base (c ∷ cs) h = runs_missed item v ws base cs (record { fetch = is_fetched v c; first = c; count = 1 }) h.0 (omega arith) h.1
 
-all_wanted : (f g : ℕ → Bool) (bs : List ℕ) → AllByRecursion (λ b. f b ≡ true) (filter (λ b. f b && g b) bs)
+pub all_wanted : (f g : ℕ → Bool) (bs : List ℕ) → AllByRecursion (λ b. f b ≡ true) (filter (λ b. f b && g b) bs)
 all_wanted f g [] = tt
 all_wanted f g (b ∷ bs) = one (f b && g b) refl (all_wanted f g bs) where
   one : (c : Bool) → (f b && g b) ≡ c → AllByRecursion (λ b. f b ≡ true) (filter (λ b. f b && g b) bs) → AllByRecursion (λ b. f b ≡ true) (cond c (b ∷ filter (λ b. f b && g b) bs) (filter (λ b. f b && g b) bs))

@@ -5,5 +5,6 @@ pub mod Nexts
 pub mod Owners
 pub mod Places
 pub mod Plans
+pub mod Settled
 pub mod Sights
 pub mod Unions

@@ -1,11 +1,11 @@
 -- What a step of the ask rule would do, before anything is changed.
-use Rattle.std.specs.Prelude.{not, List, Option, map, filter}
+use Rattle.std.specs.Prelude.{◌≡◌, not, List, [], Option, map, filter}
 use Rattle.cf_base.specs.declared.ids.ItemId.{ItemId}
 use Rattle.cf_base.specs.declared.ids.Key.{Key}
 use Rattle.cf_base.specs.declared.waits.Cause.{Cause}
 use Rattle.cf_model.specs.Asks.{ended_of, is_cancelled, left_of, new_asks, why, with_keys}
 use Rattle.cf_model.specs.Missing.{View, Wait}
-use Rattle.cf_model.specs.Requests.{Deed, Live, Told, Waiting}
+use Rattle.cf_model.specs.Requests.{Deed, Live, Nothing, Told, Waiting}
 use Rattle.cf_ask_rule.specs.Deeds.{after}
 
 -- The waits that end, and those that are left; the keys of the asks that are cancelled, the asks that are kept, and those
@@ -36,3 +36,9 @@ plan_of item v d waits asks =
       kept = kept;
       made = new_asks item v left kept;
     }
+
+-- The plan ends waits of these alone, cancels no ask, and makes what those of them that are left lack.
+pub record Begins (item : ItemId) (v : View) (begun : List Wait) (asks : List Live) (o : Outlook) : Type 0 where
+  pub ended : o.ended ≡ ended_of (why item v Nothing []) begun
+  pub cancelled : o.cancelled ≡ []
+  pub made : o.made ≡ new_asks item v (left_of (why item v Nothing []) begun) asks

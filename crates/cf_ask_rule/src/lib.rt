@@ -16,11 +16,12 @@ mod waits;
 pub use acts::{Act, live_of};
 pub use asks::{LiveAsk, is_data, is_dehydrate, is_list};
 pub use laws::{
-    a_step_looks_at_its_item, each_data_ask_has_a_missed_block, each_missing_block_has_one_owner,
-    each_missing_block_is_owned, no_block_gets_two_owners,
+    a_step_looks_at_its_item, a_wait_begins_beside_others, each_data_ask_has_a_missed_block,
+    each_missing_block_has_one_owner, each_missing_block_is_owned, each_step_settles_its_item,
+    no_block_gets_two_owners,
 };
 pub use misses::is_met;
-pub use plans::{Plan, make_plan};
+pub use plans::{Plan, make_begin_plan, make_plan};
 pub use sights::Sight;
 pub use views::View;
 pub use waits::{

@@ -1,5 +1,7 @@
 //! What a step would do.
-ghost use Rattle.std.specs.Prelude.{◌≡◌, IfOk};
+ghost use Rattle.std.specs.Prelude.{◌≡◌, [], IfOk};
+ghost use Rattle.cf_model.specs.Asks.{ended_of, left_of, new_asks, why};
+ghost use Rattle.cf_model.specs.Requests.{Nothing};
 ghost use Rattle.cf_ask_rule.specs.Deeds.{deed_of};
 ghost use Rattle.cf_ask_rule.specs.Plans.{plan_of};
 
@@ -53,4 +55,24 @@ pub fn make_plan(
         kept,
         made,
     })
+}
+
+/// The plan of waits that begin on an item of which nothing is left to do, and do not change what was there: those of
+/// them that end, and the asks that are made for the others. These have no keys yet. The asks may be those of all items.
+pub fn make_begin_plan(
+    alloc: Global,
+    item: ItemId,
+    v: &Sight,
+    begun: &[LiveWait],
+    asks: &[LiveAsk],
+) -> Result<(Vec<(LiveWait, Cause)>, Vec<LiveAsk>), OutOfMemory>
+    ensures ended { IfOk result (λ r. r.0.items ≡ ended_of (why item v.now Nothing []) begun.now) }
+    ensures made { IfOk result (λ r. r.1.items ≡ new_asks item v.now (left_of (why item v.now Nothing []) begun.now) asks.now) }
+{
+    let (ended, left) = end_waits(alloc, item, v, Act::Nothing, &[], begun)?;
+    let live = left.as_slice();
+    let spans = needs_of(alloc, item, v, live)?;
+    let needs = spans.as_slice();
+    let made = new_asks(alloc, item, v, live, needs, asks)?;
+    Ok((ended, made))
 }

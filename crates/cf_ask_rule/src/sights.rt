@@ -1,5 +1,5 @@
 //! A view, made ready for many questions.
-ghost use Rattle.std.specs.Prelude.{◌≡◌, ℕ, not, ◌+◌, ◌||◌, ◌^◌, ◌<◌, ◌≤◌, IfOk, IfSome, length, max, min};
+ghost use Rattle.std.specs.Prelude.{◌≡◌, ℕ, not, ◌+◌, ◌||◌, ◌^◌, ◌<◌, ◌≤◌, IfOk, IfSome, IsTrue, length, max, min};
 ghost use Rattle.cf_model.specs.Missing.{any_between};
 ghost use Rattle.cf_ranges.specs.Positions.{contains, IsRuns};
 ghost use Rattle.cf_ask_rule.specs.Nexts.{IsNext, lacks_at};
@@ -86,6 +86,22 @@ impl Sight {
         self.populated
     }
 
+    /// Whether the other is known to show the same. It takes the time of the shorter list of runs.
+    pub fn is_same(&self, other: &Sight) -> bool
+        ensures { IsTrue result → self.now ≡ other.now }
+    {
+        if self.size != other.size || self.base != other.base {
+            return false;
+        }
+        if self.whole != other.whole || self.populated != other.populated {
+            return false;
+        }
+        if !are_same(&self.absent, &other.absent) {
+            return false;
+        }
+        are_same(&self.bare, &other.bare)
+    }
+
     /// Whether some byte from start up to end is not here.
     #[tactic(auto, using(crate::proofs::Flags::flags_between))]
     pub fn is_absent_between(&self, start: u64, end: u64) -> bool
@@ -144,6 +160,12 @@ fn absent(v: &View) -> Result<Vec<Span>, OutOfMemory>
 {
     let gaps = v.here.missing_in(whole(v.size))?;
     Ok(gaps)
+}
+
+fn are_same(runs: &[Span], others: &[Span]) -> bool
+    ensures { IsTrue result → runs.now ≡ others.now }
+{
+    runs == others
 }
 
 fn whole(size: u64) -> Span
