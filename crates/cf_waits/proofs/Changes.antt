@@ -193,7 +193,7 @@ near_dropped item (Expires key) xs = refl
 near_dropped item (Finishes key c) xs = refl
 
 -- the plan for all, as changes
-whole : (item : ItemId) (v : View) (d : Deed) (s : Waiting) → IsSound s → carried (delta_of d (plan_of item v d s.waits s.asks)) s ≡ step_of item v d s
+pub whole : (item : ItemId) (v : View) (d : Deed) (s : Waiting) → IsSound s → carried (delta_of d (plan_of item v d s.waits s.asks)) s ≡ step_of item v d s
 whole item v d s h =
     let left : List Wait = left_of (why item v d s.asks) s.waits in
     let all : Outlook = plan_of item v d s.waits s.asks in

@@ -1,6 +1,7 @@
 pub mod AgedAsks
 pub mod Ages
 pub mod AskChanges
+pub mod Beside
 pub mod Booked
 pub mod ByNumber
 pub mod Changes

@@ -1,5 +1,5 @@
 //! The live asks, by key and by item, with the ticks at which their time began.
-ghost use Rattle.std.specs.Prelude.{◌≡◌, ◌+◌, ◌-◌, ◌^◌, ◌<◌, ◌≤◌, ◌++◌, ◌∷◌, ◌&&◌, [], cond, count_by, filter, find, length, map, nat_le, None, not, IfOk, OnOk, option_copied};
+ghost use Rattle.std.specs.Prelude.{◌≡◌, ℕ, ◌+◌, ◌-◌, ◌^◌, ◌<◌, ◌≤◌, ◌++◌, ◌∷◌, ◌&&◌, [], cond, count_by, filter, find, length, map, nat_le, None, not, IfOk, OnOk, option_copied};
 ghost use Rattle.std.specs.List.{AllByRecursion, list_any};
 ghost use Rattle.std.specs.Option.{option_map};
 ghost use Rattle.cf_ask_rule.specs.Near.{is_near};
@@ -128,6 +128,13 @@ impl AskBook {
         ensures room { self.old.room ≤ self.new.room }
     {
         change_ask(&mut self.asks, from, self.tick);
+    }
+
+    /// The asks where they stand, their ticks as they are kept.
+    pub(crate) fn kept(&self) -> &[LiveAsk]
+        ensures { (tick : ℕ) × (map (aged_at tick) result.now ≡ self.now.asks) }
+    {
+        &self.asks
     }
 
     /// How many count for the limit.

@@ -11,7 +11,7 @@ ghost use Rattle.cf_waits.specs.Told.{item_at, wait_of};
 use crate::limits::Limits;
 use crate::moves::Moves;
 use crate::requests::Requests;
-use cf_ask_rule::{Act, View};
+use cf_ask_rule::{Act, Sight, View};
 use cf_base::{CallError, Cause, Code, Handle, ItemId, Key, Span, WaitId, WaitKind};
 
 impl Requests {
@@ -67,11 +67,13 @@ impl Requests {
     {
         let begun = self.first_waits(kind, item, handle, span, beside)?;
         let waits = begun.as_slice();
-        let step = self.look_with(item, Act::Nothing, v, waits)?;
+        let sight = Sight::new(self.alloc, v)?;
+        let step = self.look_begun(item, &sight, waits)?;
         if let Some(code) = self.limit_with(&step, waits, limits_of(kind)) {
             return Err(CallError::No(code));
         }
         let began = self.take_begun(step, waits, beside)?;
+        self.remember(item, sight);
         Ok(began)
     }
 

@@ -11,6 +11,7 @@ mod moves;
 mod plans;
 mod queries;
 mod requests;
+mod settled;
 mod turns;
 mod wait_books;
 mod wait_lists;

@@ -33,11 +33,14 @@ pub struct Requests {
     pub(crate) asks: AskBook,
     pub(crate) wait_count: u64,
     pub(crate) key_count: u64,
+    // The item of the wait that began last, and what was seen of it, where no step was done since: nothing is left to do for it.
+    pub(crate) last: Option<(ItemId, Sight)>,
 }
 
 impl Model for Requests {
     ghost use Rattle.cf_base.specs.declared.limits.TheConstants.{MOST_NUMBER};
-    ghost use Rattle.std.specs.Prelude.{◌≤◌};
+    ghost use Rattle.std.specs.Prelude.{◌≤◌, IfSome};
+    ghost use Rattle.cf_ask_rule.specs.Settled.{IsSettled};
     ghost use Rattle.cf_model.specs.Requests.{Waiting};
     ghost use Rattle.cf_waits.specs.Sound.{IsSound};
 
@@ -45,7 +48,7 @@ impl Model for Requests {
 
     ghost view = { λ r. record { epoch = r.epoch; waits = r.waits.waits; asks = r.asks.asks; wait_count = r.wait_count; key_count = r.key_count } };
 
-    ghost invariant = { λ r. (r.wait_count ≤ MOST_NUMBER) × (r.key_count ≤ MOST_NUMBER) × IsSound (record { epoch = r.epoch; waits = r.waits.waits; asks = r.asks.asks; wait_count = r.wait_count; key_count = r.key_count }) };
+    ghost invariant = { λ r. (r.wait_count ≤ MOST_NUMBER) × (r.key_count ≤ MOST_NUMBER) × IsSound (record { epoch = r.epoch; waits = r.waits.waits; asks = r.asks.asks; wait_count = r.wait_count; key_count = r.key_count }) × IfSome r.last (λ p. IsSettled p.0 p.1 r.waits.waits r.asks.asks) };
 }
 
 /// A step that was worked out and is not done yet: what it changes.
@@ -85,6 +88,7 @@ impl Requests {
             asks: AskBook::new(alloc),
             wait_count: 0,
             key_count: 0,
+            last: None,
         }
     }
 
@@ -94,28 +98,26 @@ impl Requests {
         requires base { v.now.base ≤ 2 ^ 24 }
         ensures { IfOk result (λ s. carried s self.now ≡ step_of item (shown v.now) (deed_of act) self.now) }
     {
-        self.look_with(item, act, v, &[])
+        let sight = Sight::new(self.alloc, v)?;
+        self.look_by(item, act, &sight, &[])
     }
 
     /// Works out a step on the item, on which these waits begin. It looks at the waits and asks on the item alone.
-    pub(crate) fn look_with(
+    pub(crate) fn look_by(
         &self,
         item: ItemId,
         act: Act,
-        v: &View,
+        sight: &Sight,
         begun: &[LiveWait],
     ) -> Result<Step, OutOfMemory>
-        requires size { v.now.size ≤ 2 ^ 24 }
-        requires base { v.now.base ≤ 2 ^ 24 }
         requires next { AreNext begun.now self.now }
         requires on { AllByRecursion (λ w. is_on item w ≡ true) begun.now }
-        ensures { IfOk result (λ s. carried s (with_waits begun.now self.now) ≡ step_of item (shown v.now) (deed_of act) (with_waits begun.now self.now)) }
+        ensures { IfOk result (λ s. carried s (with_waits begun.now self.now) ≡ step_of item sight.now (deed_of act) (with_waits begun.now self.now)) }
     {
-        let sight = Sight::new(self.alloc, v)?;
         let live = self.waits.on(self.alloc, item, begun.len())?;
         let waits = with_begun(live, begun)?;
         let asks = self.asks.near(self.alloc, item, named_by(act))?;
-        let plan = make_plan(self.alloc, item, &sight, act, &waits, asks)?;
+        let plan = make_plan(self.alloc, item, sight, act, &waits, asks)?;
         let step = step_of(act, plan)?;
         Ok(step)
     }
@@ -196,6 +198,7 @@ impl Requests {
         ensures ok { OnOk result (self.new ≡ turned begun.now ended.now cancelled.now dropped changed made.items self.old) }
         ensures err { OnErr result (self.new ≡ self.old) }
     {
+        self.last = None;
         let waits = begun.len();
         let asks = made.len();
         make_room(&mut self.waits, &mut self.asks, waits, asks)?;
@@ -214,6 +217,7 @@ impl Requests {
     {
         let ended = all_down(self.alloc, self.waits.waits())?;
         let ended = told(self.alloc, &ended)?;
+        self.last = None;
         self.waits = WaitBook::new(self.alloc);
         self.asks = AskBook::new(self.alloc);
         Ok(Moves {

@@ -8,7 +8,7 @@ pub advance-requires : goal.advance-requires
 advance-requires c = ap (λ (s : Waiting). next_expired 0 s) c.self.view_is ∙ c.requires
 
 pub invariant_of-self : goal.invariant_of-self
-invariant_of-self c = (c.self.invariant.0, c.self.invariant.1, aged_sound _ c.args.ticks c.advance.new.self.asks c.self.invariant.2 c.advance.ensures)
+invariant_of-self c = (c.self.invariant.0, c.self.invariant.1, aged_sound _ c.args.ticks c.advance.new.self.asks c.self.invariant.2 c.advance.ensures, tt)
 
 pub returns : goal.returns
 returns c = ticked_is c.args.self.now _ c.args.ticks c.advance.new.self.asks c.self.view_is c.advance.ensures

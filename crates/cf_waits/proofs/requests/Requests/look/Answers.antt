@@ -1,12 +1,14 @@
-use Rattle.std.proofs.Common.{◌≡◌, arith, subst}
+use Rattle.std.proofs.Common.{◌≡◌, subst}
 use Rattle.std.specs.Prelude.{IfOk}
 use Rattle.cf_ask_rule.specs.Deeds.{deed_of}
-use Rattle.cf_ask_rule.specs.Sights.{shown}
 use Rattle.cf_model.specs.Asks.{step_of}
+use Rattle.cf_model.specs.Missing.{View}
 use Rattle.cf_model.specs.Requests.{Waiting}
 use Rattle.cf_waits.proofs.Planning.{with_none}
 use Rattle.cf_waits.specs.Steps.{carried}
 use Rattle.cf_waits.proofs.requests.Requests.look.Goals as goal
 
 pub returns : goal.returns
-returns c = subst (λ (s : Waiting). IfOk c.look_with.result (λ p. carried p s ≡ step_of c.args.item (shown c.args.v.now) (deed_of c.args.act) s)) (with_none c.args.self.now) c.look_with.ensures
+returns c =
+    subst (λ (v : View). IfOk c.look_by.result (λ p. carried p c.args.self.now ≡ step_of c.args.item v (deed_of c.args.act) c.args.self.now)) c.in_ok-sight.ensures
+    (subst (λ (s : Waiting). IfOk c.look_by.result (λ p. carried p s ≡ step_of c.args.item c.in_ok-sight.sight (deed_of c.args.act) s)) (with_none c.args.self.now) c.look_by.ensures)

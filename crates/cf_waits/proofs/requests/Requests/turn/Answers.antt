@@ -21,7 +21,7 @@ pub turn_waits-requires-clause-room : goal.turn_waits-requires-clause-room
 turn_waits-requires-clause-room c = c.in_ok-make_room.ensures.room_waits
 
 pub invariant_of-self : goal.invariant_of-self
-invariant_of-self c = (c.self.invariant.0, c.self.invariant.1, subst (λ (s : Waiting). IsSound s) (c.self.view_is ∙ sym (kept_is c.args.self.now _ c.make_room.new.waits.waits c.make_room.new.asks.asks c.self.view_is c.make_room.ensures.waits c.make_room.ensures.asks)) c.self.invariant.2)
+invariant_of-self c = (c.self.invariant.0, c.self.invariant.1, subst (λ (s : Waiting). IsSound s) (c.self.view_is ∙ sym (kept_is c.args.self.now _ c.make_room.new.waits.waits c.make_room.new.asks.asks c.self.view_is c.make_room.ensures.waits c.make_room.ensures.asks)) c.self.invariant.2, tt)
 
 pub returns-in_err-make_room-clause-err : goal.returns-in_err-make_room-clause-err
 returns-in_err-make_room-clause-err c = on_err c.from_residual.result _ (kept_is c.args.self.now _ c.make_room.new.waits.waits c.make_room.new.asks.asks c.self.view_is c.make_room.ensures.waits c.make_room.ensures.asks)
@@ -35,6 +35,7 @@ invariant_of-self-2 c = (
       c.self.view_is c.make_room.ensures.waits c.make_room.ensures.asks c.turn_waits.ensures c.turn_asks.ensures
       refl (omega (arith, c.len-asks.ensures, c.args.made.ok))))
       c.requires.sound,
+  tt,
 )
 
 pub returns-clause-ok : goal.returns-clause-ok
