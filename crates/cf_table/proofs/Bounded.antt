@@ -11,8 +11,10 @@ use Rattle.cf_model.proofs.ReplyLaws.{read_back}
 use Rattle.cf_table.specs.Index.{entry_of, index_of}
 use Rattle.cf_table.specs.Tables.{IsTable, MeansAll, SetsAt, with_row}
 use Rattle.cf_table.specs.Targets.{AreBounded, AreKept, IsBounded, first_number}
+use Rattle.cf_table.specs.Unlisted.{is_unlisted, unlisted_in}
 use Rattle.cf_table.specs.declared.entries.Entry.{Entry}
 use Rattle.cf_table.specs.declared.rows.Row.{Row}
+use Rattle.cf_table.proofs.Counts.{kept_count}
 use Rattle.cf_table.proofs.Indexed.{set_indexed}
 
 -- a number that was read
@@ -36,24 +38,26 @@ all_with P row (r ∷ rs) p ps = lower (all_with P row rs p (All-tail P r rs ps)
 abbrev bounded : Option ℕ → Row → Type 0
 bounded bound r = IsBounded bound r.identity
 
--- a row that keeps its identity
+-- a row that keeps its identity and whether it is of a directory whose entries are not known
 
-pub set_kept : (P : Row → Row → Type 0) → ((r s : Row) → P r s → entry_of s ≡ entry_of r) → ((r s : Row) → P r s → s.identity ≡ r.identity) → (k n m : ℕ) (old new : List Row) (es : List Entry) (bound : Option ℕ)
-    → AreKept old es n bound → k < length old → SetsAt P k old new → IsTable new m → AreKept new es m bound
-set_kept P same named k n m old new es bound t lt sets table = record {
+pub set_kept : (P : Row → Row → Type 0) → ((r s : Row) → P r s → entry_of s ≡ entry_of r) → ((r s : Row) → P r s → s.identity ≡ r.identity) → ((r s : Row) → P r s → is_unlisted s ≡ is_unlisted r)
+    → (k n m : ℕ) (old new : List Row) (es : List Entry) (bound : Option ℕ) (u : ℕ) → AreKept old es n bound u → k < length old → SetsAt P k old new → IsTable new m → AreKept new es m bound u
+set_kept P same named listed k n m old new es bound u t lt sets table = record {
   indexed = set_indexed P same k n m old new es t.indexed lt sets table;
   bounded = subst (λ (l : List Row). AreBounded bound l) (sym sets.2)
       (All-set (bounded bound) old k sets.0 (subst (λ (v : List ℕ). IsBounded bound v) (sym (named (get_or old k sets.0) sets.0 sets.1)) (All-get_or (bounded bound) old k sets.0 lt t.bounded)) t.bounded);
   root = t.root;
+  unlisted = t.unlisted ∙ sym (ap unlisted_in sets.2 ∙ kept_count old k sets.0 lt (listed (get_or old k sets.0) sets.0 sets.1));
 }
 
-pub maybe_set_kept : {A E : Type 0} (r : Result A E) (P : Row → Row → Type 0) → ((r s : Row) → P r s → entry_of s ≡ entry_of r) → ((r s : Row) → P r s → s.identity ≡ r.identity) → (k n m : ℕ) (old new : List Row) (es : List Entry) (bound : Option ℕ)
-    → AreKept old es n bound → k < length old → OnOk r (SetsAt P k old new) → OnErr r ((new ≡ old) × (m ≡ n)) → IsTable new m → AreKept new es m bound
-maybe_set_kept (Ok x) P same named k n m old new es bound t lt sets err table = set_kept P same named k n m old new es bound t lt sets table
-maybe_set_kept (Err e) P same named k n m old new es bound t lt sets err table = record {
+pub maybe_set_kept : {A E : Type 0} (r : Result A E) (P : Row → Row → Type 0) → ((r s : Row) → P r s → entry_of s ≡ entry_of r) → ((r s : Row) → P r s → s.identity ≡ r.identity) → ((r s : Row) → P r s → is_unlisted s ≡ is_unlisted r)
+    → (k n m : ℕ) (old new : List Row) (es : List Entry) (bound : Option ℕ) (u : ℕ) → AreKept old es n bound u → k < length old → OnOk r (SetsAt P k old new) → OnErr r ((new ≡ old) × (m ≡ n)) → IsTable new m → AreKept new es m bound u
+maybe_set_kept (Ok x) P same named listed k n m old new es bound u t lt sets err table = set_kept P same named listed k n m old new es bound u t lt sets table
+maybe_set_kept (Err e) P same named listed k n m old new es bound u t lt sets err table = record {
   indexed = record { table = table; index = subst (λ (l : List Row). es ≡ index_of l) (sym err.0) t.indexed.index };
   bounded = subst (λ (l : List Row). AreBounded bound l) (sym err.0) t.bounded;
   root = t.root;
+  unlisted = t.unlisted ∙ sym (ap unlisted_in err.0);
 }
 
 -- a bound that was raised

@@ -2,6 +2,7 @@ pub mod Above
 pub mod Bounded
 pub mod ByteMeans
 pub mod ChildrenOf
+pub mod Counts
 pub mod EachOf
 pub mod Fields
 pub mod Finds

@@ -9,3 +9,4 @@ pub mod Reading
 pub mod Spelling
 pub mod Tables
 pub mod Targets
+pub mod Unlisted

@@ -1,7 +1,8 @@
 -- The items of the remote that rows name, by how high they are.
-use Rattle.std.specs.Prelude.{ℕ, List, Option, MatchOption, All, take, ◌≤◌}
+use Rattle.std.specs.Prelude.{ℕ, List, Option, MatchOption, All, take, ◌≤◌, ◌≡◌}
 use Rattle.cf_model.specs.Words.{number_of}
 use Rattle.cf_table.specs.Index.{IsIndexed}
+use Rattle.cf_table.specs.Unlisted.{unlisted_in}
 use Rattle.cf_table.specs.declared.entries.Entry.{Entry}
 use Rattle.cf_table.specs.declared.rows.Row.{Row}
 
@@ -20,8 +21,10 @@ AreBounded bound rows = All (λ r. IsBounded bound r.identity) rows
 abbrev pub IsBoundOfRoot : Option ℕ → Type 0
 IsBoundOfRoot bound = MatchOption bound (Unit {0}) (λ b. 1 ≤ b)
 
--- rows with their index, how many bytes spell them, and a bound of the items of the remote that they name
-pub record AreKept (rows : List Row) (entries : List Entry) (n : ℕ) (bound : Option ℕ) : Type 0 where
+-- rows with their index, how many bytes spell them, a bound of the items of the remote that they name, and how many are of a directory
+-- whose entries are not known
+pub record AreKept (rows : List Row) (entries : List Entry) (n : ℕ) (bound : Option ℕ) (count : ℕ) : Type 0 where
   pub indexed : IsIndexed rows entries n
   pub bounded : AreBounded bound rows
   pub root : IsBoundOfRoot bound
+  pub unlisted : count ≡ unlisted_in rows

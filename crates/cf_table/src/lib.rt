@@ -15,6 +15,7 @@ mod heads;
 mod indexed_rows;
 mod kinds;
 mod laws;
+mod listings;
 mod lookups;
 mod mark_changes;
 mod new_rows;

@@ -54,12 +54,6 @@ fn changed_in(alloc: Global, rows: &[Row], number: Usn) -> Result<Vec<ItemId>, O
     Ok(ids)
 }
 
-fn has_unlisted(rows: &[Row]) -> bool
-    ensures { result ≡ list_any (λ r. r.dir && not r.populated) rows.now }
-{
-    rows.iter().any(|r| r.dir && !r.populated)
-}
-
 impl Rows {
     /// The id of the row after this one in order of id, of the first one after None. Takes no memory.
     pub fn after(&self, id: Option<ItemId>) -> Option<ItemId>
@@ -89,10 +83,10 @@ impl Rows {
         changed_in(self.alloc, &self.rows, number)
     }
 
-    /// Whether the entries of a directory are not known. Takes no memory.
+    /// Whether the entries of a directory are not known. Takes no walk over the rows and no memory.
     pub fn has_unlisted(&self) -> bool
         ensures { result ≡ list_any (λ r. r.dir && not r.populated) self.now.rows }
     {
-        has_unlisted(&self.rows)
+        self.unlisted > 0
     }
 }

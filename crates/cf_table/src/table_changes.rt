@@ -13,6 +13,7 @@ ghost use Rattle.cf_table.specs.declared.rows.Row.{Row};
 
 use crate::indexed_rows::{change_indexed, push_indexed};
 use crate::kinds::{item_of, stays};
+use crate::listings::unlisted;
 use crate::new_rows::Place;
 use crate::row_lists::{find_row, pin_of};
 use crate::rows::Row;
@@ -178,9 +179,11 @@ impl Rows {
     {
         let next = self.next.0.max(row.id.0 + 1);
         let bound = raised(self.bound, &row.identity);
+        let after = unlisted(&row);
         self.len = push_indexed(self.alloc, &mut self.rows, &mut self.index, row, self.len)?;
         self.next = ItemId(next);
         self.bound = bound;
+        self.unlisted += after;
         Ok(())
     }
 
@@ -200,6 +203,7 @@ impl Rows {
         let pin = pin_for(&self.rows, change);
         match find_row(&self.rows, id.0) {
             Ok(place) => {
+                let before = unlisted(&self.rows[place]);
                 self.len = change_indexed(
                     self.alloc,
                     &mut self.rows,
@@ -211,6 +215,7 @@ impl Rows {
                     number,
                 )?;
                 self.bound = raised(self.bound, &self.rows[place].identity);
+                self.unlisted = self.unlisted - before + unlisted(&self.rows[place]);
                 Ok(())
             }
             Err(_) => Ok(()),

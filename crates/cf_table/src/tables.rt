@@ -13,6 +13,7 @@ ghost use Rattle.cf_table.specs.Tables.{AreTableRows, MeansAll, RisesFrom, row_o
 
 use crate::entries::Entry;
 use crate::indexed_rows::{push_indexed, put_indexed, remove_indexed};
+use crate::listings::{unlisted, unlisted_of};
 use crate::row_lists::{anchor_at, extent_at, find_row, touch_at};
 use crate::rows::{ROOT, Row};
 use crate::targets::raised;
@@ -29,6 +30,8 @@ pub struct Rows {
     pub(crate) len: u128,
     // No identity of a row begins with a greater number, and it is at least 1. None where that is not known.
     pub(crate) bound: Option<u64>,
+    // How many rows are of a directory whose entries are not known.
+    pub(crate) unlisted: usize,
     pub(crate) alloc: Global,
 }
 
@@ -40,7 +43,7 @@ impl Model for Rows {
 
     ghost view = { λ t. record { rows = t.rows.items; next = t.next } };
 
-    ghost invariant = { λ t. AreKept t.rows.items t.index.items t.len t.bound };
+    ghost invariant = { λ t. AreKept t.rows.items t.index.items t.len t.bound t.unlisted };
 }
 
 impl Rows {
@@ -53,6 +56,7 @@ impl Rows {
         ensures below { IfOk result AreBelow }
     {
         let row = Row::root(alloc)?;
+        let unlisted = unlisted(&row);
         let mut rows = Vec::new(alloc);
         let mut index = Vec::new(alloc);
         let len = push_indexed(alloc, &mut rows, &mut index, row, 0)?;
@@ -62,6 +66,7 @@ impl Rows {
             next: ItemId(2),
             len,
             bound: Some(ROOT.0),
+            unlisted,
             alloc,
         })
     }
@@ -111,8 +116,11 @@ impl Rows {
         ensures err { OnErr result (self.new ≡ self.old) }
     {
         let bound = raised(self.bound, &row.identity);
+        let before = unlisted_of(&self.rows, row.id.0);
+        let after = unlisted(&row);
         self.len = put_indexed(self.alloc, &mut self.rows, &mut self.index, row, self.len)?;
         self.bound = bound;
+        self.unlisted = self.unlisted - before + after;
         Ok(())
     }
 
@@ -122,6 +130,7 @@ impl Rows {
     {
         match find_row(&self.rows, id.0) {
             Ok(place) => {
+                self.unlisted -= unlisted(&self.rows[place]);
                 self.len = remove_indexed(&mut self.rows, &mut self.index, place, self.len);
             }
             Err(_) => {}

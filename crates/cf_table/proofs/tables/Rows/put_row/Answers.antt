@@ -1,8 +1,16 @@
-use Rattle.std.proofs.Common.{List, subst, sym}
+use Rattle.std.proofs.Common.{List, ap, arith, refl, subst, sym}
 use Rattle.cf_table.specs.Targets.{AreBounded, IsBounded}
+use Rattle.cf_table.specs.Unlisted.{is_unlisted, unlisted_in}
 use Rattle.cf_table.specs.declared.rows.Row.{Row}
 use Rattle.cf_table.proofs.Bounded.{all_with, raised_all}
+use Rattle.cf_table.proofs.Counts.{count_most, count_put, most_one}
 use Rattle.cf_table.proofs.tables.Rows.put_row.Goals as goal
+
+pub overflow_sub-self : goal.overflow_sub-self
+overflow_sub-self c = omega (arith, c.unlisted_of-before.ensures.most, c.self.invariant.unlisted, ap unlisted_in c.deref.ensures.value)
+
+pub overflow_add-self : goal.overflow_add-self
+overflow_add-self c = omega (arith, c.self.invariant.unlisted, count_most c.self.inside.rows.items, c.self.inside.rows.ok, c.unlisted-after.ensures, most_one (is_unlisted c.args.row))
 
 pub invariant_of-self-2 : goal.invariant_of-self-2
 invariant_of-self-2 c = record {
@@ -11,4 +19,6 @@ invariant_of-self-2 c = record {
       (all_with (λ r. IsBounded c.raised-bound.result r.identity) c.args.row c.self.inside.rows.items c.raised-bound.ensures.covers
       (raised_all c.self.inside.bound c.raised-bound.result c.self.inside.rows.items c.raised-bound.ensures.before c.self.invariant.bounded));
   root = c.raised-bound.ensures.root c.self.invariant.root;
+  unlisted = count_put c.self.inside.unlisted c.unlisted_of-before.result c.unlisted-after.result c.args.row c.self.inside.rows.items c.deref.result.now c.put_indexed.new.rows.items c.deref.ensures.value c.self.invariant.unlisted
+      c.unlisted_of-before.ensures.most (c.unlisted_of-before.ensures.put c.args.row refl) c.unlisted-after.ensures c.in_ok-self-inside.ensures.puts;
 }

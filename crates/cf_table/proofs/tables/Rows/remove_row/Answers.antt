@@ -1,9 +1,10 @@
-use Rattle.std.proofs.Common.{◌∙◌, List, ap, eqb, not, subst, sym}
+use Rattle.std.proofs.Common.{◌∙◌, List, ap, arith, eqb, not, subst, sym}
 use Rattle.std.proofs.lemmas.List.Elements.{All-filter}
 use Rattle.cf_table.specs.Tables.{IsRowAt, IsRowGap, Table, without_row}
 use Rattle.cf_table.specs.Targets.{AreBounded, IsBounded}
 use Rattle.cf_table.specs.declared.rows.Row.{Row}
 use Rattle.cf_table.proofs.TableMeans.{gap_is_without, not_there, remove_is_without}
+use Rattle.cf_table.proofs.Counts.{count_gone, count_here}
 use Rattle.cf_table.proofs.tables.Rows.remove_row.Goals as goal
 
 pub returns-in-Ok : goal.returns-in-Ok
@@ -16,6 +17,10 @@ pub returns-in-Err : goal.returns-in-Err
 returns-in-Err c =
     ap (λ (l : List Row). record c.args.self.now { rows = l }) (sym (gap_is_without c.args.id c.args.self.now.rows (not_there c.args.self.now.rows c.args.id.0 c.in-Err.field-0 (subst (λ (l : List Row). IsRowGap l c.args.id.0 c.in-Err.field-0) (c.deref.ensures.value ∙ ap (λ (t : Table). t.rows) c.self.view_is) c.in-Err.ensures.absent))))
 
+pub overflow_sub-self : goal.overflow_sub-self
+overflow_sub-self c =
+    omega (arith, c.self.invariant.unlisted, count_here c.self.inside.rows.items c.in-Ok.place c.unlisted.result c.index.result.now (subst (λ (l : List Row). IsRowAt l c.args.id.0 c.in-Ok.place) c.deref.ensures.value c.in-Ok.ensures.found).in_range c.index.ensures c.unlisted.ensures)
+
 pub invariant_of-self : goal.invariant_of-self
 invariant_of-self c = record {
   indexed = c.remove_indexed-self-inside.ensures.indexed;
@@ -23,4 +28,6 @@ invariant_of-self c = record {
       (sym (c.remove_indexed-self-inside.ensures.removes ∙ remove_is_without 0 c.args.id c.self.inside.rows.items c.in-Ok.place c.self.invariant.indexed.table.rises (subst (λ (l : List Row). IsRowAt l c.args.id.0 c.in-Ok.place) c.deref.ensures.value c.in-Ok.ensures.found)))
       (All-filter (λ r. not (eqb r.id.0 c.args.id.0)) (λ r. IsBounded c.self.inside.bound r.identity) c.self.inside.rows.items c.self.invariant.bounded);
   root = c.self.invariant.root;
+  unlisted = count_gone c.self.inside.unlisted c.unlisted.result c.in-Ok.place c.self.inside.rows.items c.remove_indexed-self-inside.new.rows.items c.index.result.now (subst (λ (l : List Row). IsRowAt l c.args.id.0 c.in-Ok.place) c.deref.ensures.value c.in-Ok.ensures.found).in_range
+      c.self.invariant.unlisted c.index.ensures c.unlisted.ensures c.remove_indexed-self-inside.ensures.removes;
 }

@@ -3,6 +3,7 @@ use Rattle.std.specs.Prelude.{IfOk}
 use Rattle.cf_ranges.specs.Pairs.{cluster_at}
 use Rattle.cf_table.specs.Applied.{SetsExtent}
 use Rattle.cf_table.specs.Tables.{IsRowAt, IsRowGap, RisesFrom, SetsRow, Table}
+use Rattle.cf_table.specs.Unlisted.{is_unlisted}
 use Rattle.cf_table.specs.declared.rows.Row.{Row}
 use Rattle.cf_table.proofs.TableMeans.{extent_before, extent_none, on_ok_map, sets_none, sets_row}
 use Rattle.cf_table.specs.Index.{entry_of}
@@ -28,5 +29,5 @@ returns-in-Err-clause-ok c = sets_none (SetsExtent c.args.block c.args.cluster) 
 
 pub invariant_of-self : goal.invariant_of-self
 invariant_of-self c =
-    maybe_set_kept c.extent_at.result (SetsExtent c.args.block c.args.cluster) (λ r s p. ap entry_of p.rest) (λ r s p. ap (λ (x : Row). x.identity) p.rest) c.in-Ok.place c.self.inside.len c.extent_at.new.len c.self.inside.rows.items c.extent_at.new.rows.items c.self.inside.index.items c.self.inside.bound c.self.invariant
+    maybe_set_kept c.extent_at.result (SetsExtent c.args.block c.args.cluster) (λ r s p. ap entry_of p.rest) (λ r s p. ap (λ (x : Row). x.identity) p.rest) (λ r s p. ap is_unlisted p.rest) c.in-Ok.place c.self.inside.len c.extent_at.new.len c.self.inside.rows.items c.extent_at.new.rows.items c.self.inside.index.items c.self.inside.bound c.self.inside.unlisted c.self.invariant
     (subst (λ (l : List Row). c.in-Ok.place < length l) c.deref.ensures.value c.in-Ok.ensures.found.in_range) c.extent_at.ensures.sets c.extent_at.ensures.err c.extent_at.ensures.table

@@ -1,6 +1,7 @@
 use Rattle.std.proofs.Common.{◌∙◌, ◌<◌, length, List, ap, subst}
 use Rattle.cf_table.specs.Applied.{Touches}
 use Rattle.cf_table.specs.Tables.{IsRowAt, IsRowGap, SetsRow, Table}
+use Rattle.cf_table.specs.Unlisted.{is_unlisted}
 use Rattle.cf_table.specs.declared.rows.Row.{Row}
 use Rattle.cf_table.proofs.TableMeans.{sets_none, sets_row}
 use Rattle.cf_table.specs.Index.{entry_of}
@@ -18,5 +19,5 @@ returns-in-Err-clause-sets c = sets_none (Touches c.args.clock) c.args.id c.in-E
 
 pub invariant_of-self : goal.invariant_of-self
 invariant_of-self c =
-    set_kept (Touches c.args.clock) (λ r s p. ap entry_of p.rest) (λ r s p. ap (λ (x : Row). x.identity) p.rest) c.in-Ok.place c.self.inside.len c.self.inside.len c.self.inside.rows.items c.touch_at.new.rows.items c.self.inside.index.items c.self.inside.bound c.self.invariant
+    set_kept (Touches c.args.clock) (λ r s p. ap entry_of p.rest) (λ r s p. ap (λ (x : Row). x.identity) p.rest) (λ r s p. ap is_unlisted p.rest) c.in-Ok.place c.self.inside.len c.self.inside.len c.self.inside.rows.items c.touch_at.new.rows.items c.self.inside.index.items c.self.inside.bound c.self.inside.unlisted c.self.invariant
     (subst (λ (l : List Row). c.in-Ok.place < length l) c.deref.ensures.value c.in-Ok.ensures.found.in_range) c.touch_at.ensures.sets (c.touch_at.ensures.table c.self.inside.len c.self.invariant.indexed.table)
