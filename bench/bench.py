@@ -2,8 +2,9 @@
 """Times a program on large scripts, at half size and whole, and prints a table.
 
 A time is the processor seconds that the program spent in user mode, the least of some runs, with output to a file; so
-what else the machine does counts little. Another program with the same command line may stand beside: then the ratio of
-the two on the whole is printed, and the first line in which their reports differ.
+what else the machine does counts little. Memory is the most that the program held on the whole, in MiB. Another program
+with the same command line may stand beside: then the ratios of the two on the whole are printed, and the first line in
+which their reports differ.
 
 `--commits` times a write and a flush on volumes of 10, 1,000 and 9,000 files instead: a script with 1,000 rounds of
 both, less the same script without them.
@@ -14,7 +15,9 @@ import pathlib
 import subprocess
 import sys
 import tempfile
+import typing
 
+import chances
 import scripts
 
 TOP = pathlib.Path(__file__).resolve().parent.parent
@@ -22,19 +25,26 @@ ITEMS = [10, 1000, 9000]
 ROUNDS = 1000
 
 
+class Cost(typing.NamedTuple):
+    """What a run took."""
+
+    seconds: float
+    mebibytes: float
+
+
 def run(program, mode, script, report):
-    """The user seconds of one run, which has to end as Done, or None."""
+    """What one run took, which has to end as Done, or None."""
     with open(script, "rb") as source, open(report, "wb") as sink:
         child = subprocess.Popen([program, mode], stdin=source, stdout=sink)
         _, status, used = os.wait4(child.pid, 0)
         child.returncode = os.waitstatus_to_exitcode(status)
-    return used.ru_utime if child.returncode == 0 else None
+    return Cost(used.ru_utime, used.ru_maxrss / 1024) if child.returncode == 0 else None
 
 
-def seconds(program, mode, script, report, runs):
-    """The least of some runs, or None where one did not end as Done."""
-    times = [run(program, mode, script, report) for _ in range(runs)]
-    return None if None in times else min(times)
+def least(program, mode, script, report, runs):
+    """The run of some that took the least time, or None where one did not end as Done."""
+    costs = [run(program, mode, script, report) for _ in range(runs)]
+    return None if None in costs else min(costs)
 
 
 def difference(first, second):
@@ -60,40 +70,44 @@ def written(folder, name, events):
 
 
 def measured(folder, name, mode, events, chosen):
-    """How many events there are, the seconds of each program, and what is to say of the reports."""
+    """How many events there are, what each program took, and what is to say of the reports."""
     script, count = written(folder, name, events)
     reports = [folder / f"report-{n}" for n in range(len(chosen.programs))]
-    times = [seconds(p, mode, script, r, chosen.runs) for p, r in zip(chosen.programs, reports)]
+    costs = [least(p, mode, script, r, chosen.runs) for p, r in zip(chosen.programs, reports)]
     line = difference(*reports) if len(reports) == 2 else None
     if not chosen.keep:
         script.unlink()
-    return count, times, [f"{name}: the reports differ in line {line}"] if line else []
+    return count, costs, [f"{name}: the reports differ in line {line}"] if line else []
 
 
-def shown(time):
-    return f"{'no end' if time is None else f'{time:.3f}':>9}"
+def shown(half, whole):
+    """The columns of one program: its seconds on the half and on the whole, one over the other, and its memory."""
+    times = "".join(f"{'no end' if cost is None else f'{cost.seconds:.3f}':>9}" for cost in (half, whole))
+    return times + quotient(whole, half, "seconds") + f"{'-' if whole is None else f'{whole.mebibytes:.0f}':>6}"
 
 
-def quotient(first, second):
-    """One time over another, or a dash where there is none, or it is too small to say anything."""
-    return f"{first / second:>7.2f}" if first is not None and second and second >= 0.005 else f"{'-':>7}"
+def quotient(first, second, what):
+    """One cost over another, or a dash where there is none, or it is too small to say anything."""
+    known = first is not None and second is not None and getattr(second, what) >= 0.005
+    return f"{getattr(first, what) / getattr(second, what):>7.2f}" if known else f"{'-':>7}"
 
 
 def speeds(folder, chosen):
     """The table of the scripts, at half size and whole."""
     for number, program in enumerate(chosen.programs):
         print(f"{'program' if number == 0 else 'other':<8} {program}")
-    heads = [f"{'half':>9}{'whole':>9}{'growth':>7}"] + [f"{'half':>9}{'whole':>9}{'growth':>7}{'ratio':>7}"] * (len(chosen.programs) - 1)
+    columns = f"{'half':>9}{'whole':>9}{'growth':>7}{'MiB':>6}"
+    heads = [columns] + [columns + f"{'time':>7}{'memory':>7}"] * (len(chosen.programs) - 1)
     print(f"{'script':<10}{'mode':<7}{'events':>8} |" + " |".join(heads))
-    for mode, make, size in scripts.CASES:
+    for mode, make, size in scripts.CASES + chances.CASES:
         if chosen.only and make.__name__ not in chosen.only:
             continue
         size //= chosen.divide
         _, half, said = measured(folder, f"{make.__name__}-half", mode, make(size // 2), chosen)
         count, whole, more = measured(folder, make.__name__, mode, make(size), chosen)
-        cells = [shown(h) + shown(w) + quotient(w, h) for h, w in zip(half, whole)]
+        cells = [shown(h, w) for h, w in zip(half, whole)]
         if len(cells) == 2:
-            cells[1] += quotient(whole[0], whole[1])
+            cells[1] += quotient(*whole, "seconds") + quotient(*whole, "mebibytes")
         print(f"{make.__name__:<10}{mode:<7}{count:>8} |" + " |".join(cells), *said, *more, sep="\n" if said or more else "", flush=True)
 
 
@@ -104,7 +118,7 @@ def rounds(folder, chosen):
     for items in ITEMS:
         _, bare, said = measured(folder, f"bare-{items}", "filter", scripts.commits(items, 0), chosen)
         _, full, more = measured(folder, f"commits-{items}", "filter", scripts.commits(items, ROUNDS), chosen)
-        costs = [f"{'no end':>10}" if None in pair else f"{(pair[0] - pair[1]) * 1000 / ROUNDS:>10.3f}" for pair in zip(full, bare)]
+        costs = [f"{'no end':>10}" if None in pair else f"{(pair[0].seconds - pair[1].seconds) * 1000 / ROUNDS:>10.3f}" for pair in zip(full, bare)]
         print(f"{items:>6}" + "".join(costs), *said, *more, sep="\n" if said or more else "", flush=True)
 
 
