@@ -99,6 +99,23 @@ def idle(count):
     yield from ("sync" for _ in range(60))
 
 
+def queued(count):
+    """`count` new files, and two passes whose uploads get no reply."""
+    yield "link queued"
+    yield from (f"create /{short(n)}" for n in range(count))
+    yield "work"
+    yield "work"
+
+
+def buried(count):
+    """`count` files that are synced and removed, and two passes whose uploads of the removals get no reply."""
+    yield from created(count)
+    yield "link queued"
+    yield from (f"delete /{short(n)}" for n in range(count))
+    yield "work"
+    yield "work"
+
+
 def waiting(count):
     """`count` reads that wait on one file, answered one by one."""
     yield f"peer put /film 61*{4 * count * BLOCK}"
@@ -237,6 +254,8 @@ CASES = [
     ("replay", changed, 8_000),
     ("replay", fed, 9_999),
     ("replay", idle, 9_999),
+    ("replay", queued, 9_999),
+    ("replay", buried, 9_999),
     ("replay", waiting, 1_024),
     ("replay", apart, 1_024),
     ("filter", users, 90_000),
