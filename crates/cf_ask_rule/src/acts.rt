@@ -1,16 +1,16 @@
 //! What a step does of its own to the waits and asks of an item.
 ghost use Rattle.std.specs.Prelude.{◌≡◌, ◌&&◌, map, filter, not, IfOk, option_copied};
-ghost use Rattle.cf_model.specs.Asks.{after_deed, cause_by, cause_if, closed_by, ended_of, is_cancelled, is_cut, is_finished, is_over, is_wanted, left_of, or_met, released, waits_for, why};
+ghost use Rattle.cf_model.specs.Asks.{after_deed, cause_if, closed_by, ended_of, is_cancelled, is_cut, is_finished, is_over, is_wanted, left_of, or_met, released, waits_for, why};
 ghost use Rattle.cf_model.specs.Requests.{is_background, live_of};
 ghost use Rattle.cf_model.specs.Numbers.{same_key};
 ghost use Rattle.cf_model.specs.Words.{counting, says};
-ghost use Rattle.cf_ask_rule.specs.Deeds.{after, deed_of};
+ghost use Rattle.cf_ask_rule.specs.Deeds.{after, awaited_by, cause_for, deed_of, why_for};
 ghost use Rattle.cf_ask_rule.specs.Nexts.{Wants};
 ghost use Rattle.cf_ranges.specs.Positions.{IsRuns};
 
 use crate::asks::{LiveAsk, is_data, is_idle, waits_by};
 use crate::misses::{is_met, misses_span};
-use crate::searches::place_beyond;
+use crate::searches::Hint;
 use crate::sights::Sight;
 use crate::waits::{LiveWait, WaitNumber, is_background, is_same_key};
 use cf_base::{Cause, Handle, ItemId, Key, OutOfMemory, Span, WaitId};
@@ -59,10 +59,30 @@ pub fn live_of(asks: &[LiveAsk], key: Key) -> Option<&LiveAsk>
     asks.iter().find(|a| is_same_key(a.ask().key, key))
 }
 
-fn waits_for(v: &Sight, asks: &[LiveAsk], key: Key, w: &LiveWait) -> bool
-    ensures { result ≡ waits_for v.now (live_of asks.now key) w.now }
+/// The live ask whose waits an act ends, if it ends those of an ask.
+pub fn awaited_by(act: Act, asks: &[LiveAsk]) -> Option<&LiveAsk>
+    ensures { option_copied result ≡ awaited_by (deed_of act) asks.now }
 {
-    match live_of(asks, key) {
+    match act {
+        Act::Expires(key) => live_of(asks, key),
+        Act::Finishes { key, cause: _ } => live_of(asks, key),
+        Act::Nothing => None,
+        Act::Leaves { key: _, blocks: _ } => None,
+        Act::Fails {
+            key: _,
+            blocks: _,
+            cause: _,
+        } => None,
+        Act::Cancels(_) => None,
+        Act::Closes { handle: _, last: _ } => None,
+        Act::Restarts => None,
+    }
+}
+
+fn waits_for(v: &Sight, ask: Option<&LiveAsk>, w: &LiveWait) -> bool
+    ensures { result ≡ waits_for v.now (option_copied ask.entry) w.now }
+{
+    match ask {
         Some(a) => waits_by(v, a, w),
         None => false,
     }
@@ -93,8 +113,8 @@ fn closed_by(w: &LiveWait, handle: Handle, last: bool) -> Option<Cause>
     }
 }
 
-fn cause_by(act: Act, v: &Sight, asks: &[LiveAsk], w: &LiveWait) -> Option<Cause>
-    ensures { result ≡ cause_by (deed_of act) v.now asks.now w.now }
+fn cause_by(act: Act, v: &Sight, ask: Option<&LiveAsk>, w: &LiveWait) -> Option<Cause>
+    ensures { result ≡ cause_for (deed_of act) v.now (option_copied ask.entry) w.now }
 {
     match act {
         Act::Nothing => None,
@@ -107,8 +127,8 @@ fn cause_by(act: Act, v: &Sight, asks: &[LiveAsk], w: &LiveWait) -> Option<Cause
         Act::Cancels(id) => cause_if(w.id().is(WaitNumber::of(id)), Cause::Cancelled),
         Act::Closes { handle, last } => closed_by(w, handle, last),
         Act::Restarts => None,
-        Act::Expires(key) => cause_if(waits_for(v, asks, key, w), Cause::TimedOut),
-        Act::Finishes { key, cause } => cause_if(waits_for(v, asks, key, w), cause),
+        Act::Expires(_) => cause_if(waits_for(v, ask, w), Cause::TimedOut),
+        Act::Finishes { key: _, cause } => cause_if(waits_for(v, ask, w), cause),
     }
 }
 
@@ -121,12 +141,12 @@ fn or_met(cause: Option<Cause>, met: bool) -> Option<Cause>
     }
 }
 
-/// Why a wait ends after the step, if it does.
-pub fn why(item: ItemId, v: &Sight, act: Act, asks: &[LiveAsk], w: &LiveWait) -> Option<Cause>
-    ensures { result ≡ why item v.now (deed_of act) asks.now w.now }
+/// Why a wait ends after the step, if it does. The ask is the one whose waits the act ends.
+pub fn why(item: ItemId, v: &Sight, act: Act, ask: Option<&LiveAsk>, w: &LiveWait) -> Option<Cause>
+    ensures { result ≡ why_for item v.now (deed_of act) (option_copied ask.entry) w.now }
 {
     if w.item().0 == item.0 {
-        or_met(cause_by(act, v, asks, w), is_met(v, w))
+        or_met(cause_by(act, v, ask, w), is_met(v, w))
     } else {
         None
     }
@@ -144,10 +164,11 @@ pub fn end_waits(
     ensures ended { IfOk result (λ r. r.0.items ≡ ended_of (why item v.now (deed_of act) asks.now) waits.now) }
     ensures left { IfOk result (λ r. r.1.items ≡ left_of (why item v.now (deed_of act) asks.now) waits.now) }
 {
+    let ask = awaited_by(act, asks);
     let mut ended = Vec::new(alloc);
-    let mut left = Vec::new(alloc);
+    let mut left = Vec::with_capacity(alloc, waits.len())?;
     for w in waits {
-        match why(item, v, act, asks, w) {
+        match why(item, v, act, ask, w) {
             Some(cause) => ended.push((*w, cause))?,
             None => left.push(*w)?,
         }
@@ -155,26 +176,26 @@ pub fn end_waits(
     Ok((ended, left))
 }
 
-fn released(key: Key, blocks: Span, a: LiveAsk) -> Result<LiveAsk, OutOfMemory>
+fn released(alloc: Global, key: Key, blocks: Span, a: LiveAsk) -> Result<LiveAsk, OutOfMemory>
     ensures { IfOk result (λ r. r ≡ released key (counting blocks.start blocks.len) a) }
 {
     if is_same_key(a.ask().key, key) {
-        a.without(blocks)
+        a.without(alloc, blocks)
     } else {
         Ok(a)
     }
 }
 
-fn after_act(act: Act, a: LiveAsk) -> Result<LiveAsk, OutOfMemory>
+fn after_act(alloc: Global, act: Act, a: LiveAsk) -> Result<LiveAsk, OutOfMemory>
     ensures { IfOk result (λ r. r ≡ after_deed (deed_of act) a) }
 {
     match act {
-        Act::Leaves { key, blocks } => released(key, blocks, a),
+        Act::Leaves { key, blocks } => released(alloc, key, blocks, a),
         Act::Fails {
             key,
             blocks,
             cause: _,
-        } => released(key, blocks, a),
+        } => released(alloc, key, blocks, a),
         Act::Nothing => Ok(a),
         Act::Cancels(_) => Ok(a),
         Act::Closes { handle: _, last: _ } => Ok(a),
@@ -213,9 +234,9 @@ fn is_over(act: Act, a: &LiveAsk) -> bool
 pub fn asks_after(alloc: Global, act: Act, asks: Vec<LiveAsk>) -> Result<Vec<LiveAsk>, OutOfMemory>
     ensures { IfOk result (λ r. r.items ≡ after (deed_of act) asks.items) }
 {
-    let mut out = Vec::new(alloc);
+    let mut out = Vec::with_capacity(alloc, asks.len())?;
     for a in asks {
-        let next = after_act(act, a)?;
+        let next = after_act(alloc, act, a)?;
         if !is_over(act, &next) {
             out.push(next)?;
         }
@@ -242,14 +263,14 @@ fn is_cut(item: ItemId, act: Act, a: &LiveAsk) -> bool
     }
 }
 
-/// Whether the ask is cancelled after the step. What it is asked for is sought from a place of the needs on.
+/// Whether the ask is cancelled after the step. What it is asked for is sought from a hint on.
 pub fn is_cancelled(
     item: ItemId,
     v: &Sight,
     act: Act,
     waits: &[LiveWait],
     needs: &[Span],
-    near: usize,
+    near: Hint,
     a: &LiveAsk,
 ) -> bool
     requires runs { IsRuns needs.now }
@@ -259,58 +280,41 @@ pub fn is_cancelled(
     is_cut(item, act, a) || is_idle(item, v, waits, needs, near, a)
 }
 
-// The place of the needs at which those in the blocks of the ask begin. It is sought from another on.
-fn place_in(v: &Sight, needs: &[Span], near: usize, a: &LiveAsk) -> usize
+// A hint for the blocks of the ask, by one for others.
+fn hint_in(v: &Sight, needs: &[Span], near: Hint, a: &LiveAsk) -> Hint
     requires { IsRuns needs.now }
 {
     match a.runs() {
         [] => near,
-        [first, ..] => place_beyond(needs, near, BLOCK * first.start.min(v.size())),
+        [first, ..] => v.hint_at(needs, near, BLOCK * first.start.min(v.size())),
     }
 }
 
-/// The keys of the asks that are cancelled.
-pub fn cancelled_of(
+/// The keys of the asks that are cancelled, and the asks that are kept.
+pub fn part_asks(
     alloc: Global,
     item: ItemId,
     v: &Sight,
     act: Act,
     waits: &[LiveWait],
     needs: &[Span],
-    asks: &[LiveAsk],
-) -> Result<Vec<Key>, OutOfMemory>
+    asks: Vec<LiveAsk>,
+) -> Result<(Vec<Key>, Vec<LiveAsk>), OutOfMemory>
     requires runs { IsRuns needs.now }
     requires wants { Wants v.now needs.now (is_wanted item v.now waits.now) }
-    ensures { IfOk result (λ r. r.items ≡ map (λ a. a.ask.key) (filter (is_cancelled item v.now (deed_of act) waits.now) asks.now)) }
+    ensures cancelled { IfOk result (λ r. r.0.items ≡ map (λ a. a.ask.key) (filter (is_cancelled item v.now (deed_of act) waits.now) asks.items)) }
+    ensures kept { IfOk result (λ r. r.1.items ≡ filter (λ a. not (is_cancelled item v.now (deed_of act) waits.now a)) asks.items) }
 {
     let mut keys = Vec::new(alloc);
-    let mut near = 0;
+    let mut kept = Vec::with_capacity(alloc, asks.len())?;
+    let mut near = Hint::first();
     for a in asks {
-        near = place_in(v, needs, near, a);
-        if is_cancelled(item, v, act, waits, needs, near, a) {
+        near = hint_in(v, needs, near, &a);
+        if is_cancelled(item, v, act, waits, needs, near, &a) {
             keys.push(a.ask().key)?;
+        } else {
+            kept.push(a)?;
         }
     }
-    Ok(keys)
-}
-
-/// Drops the asks that are cancelled. Their keys are known.
-pub fn drop_cancelled(
-    asks: &mut Vec<LiveAsk>,
-    keys: &[Key],
-    item: ItemId,
-    v: &Sight,
-    act: Act,
-    waits: &[LiveWait],
-    needs: &[Span],
-)
-    requires runs { IsRuns needs.now }
-    requires wants { Wants v.now needs.now (is_wanted item v.now waits.now) }
-    requires keys { keys.now ≡ map (λ a. a.ask.key) (filter (is_cancelled item v.now (deed_of act) waits.now) asks.old.items) }
-    ensures { asks.new.items ≡ filter (λ a. not (is_cancelled item v.now (deed_of act) waits.now a)) asks.old.items }
-{
-    if keys.is_empty() {
-        return;
-    }
-    asks.retain(|a| !is_cancelled(item, v, act, waits, needs, 0, a));
+    Ok((keys, kept))
 }

@@ -10,16 +10,15 @@ ghost use Rattle.cf_model.specs.Requests.{has_block, is_data, is_dehydrate, is_l
 ghost use Rattle.cf_model.specs.Words.{counting, is_empty};
 ghost use Rattle.cf_ranges.specs.Positions.{contains, IsRuns};
 
+use crate::block_sets::BlockSet;
 use crate::misses::{misses_span, next_missed};
+use crate::searches::Hint;
 use crate::sights::Sight;
 use crate::unions::union_of;
 use crate::waits::{LiveWait, WaitNumber, is_list_wait};
 use cf_base::{Ask, AskKind, ItemId, Key, OutOfMemory, Span};
-use cf_ranges::RangeSet;
 use std::alloc::Global;
 use std::marker::Model;
-
-const LIMIT: u64 = 1 << 40;
 
 const BLOCK: u64 = 4096;
 
@@ -27,7 +26,7 @@ const BLOCK: u64 = 4096;
 #[derive(Drop)]
 pub struct LiveAsk {
     ask: Ask,
-    owned: RangeSet,
+    owned: BlockSet,
     ticks: u64,
     wait: WaitNumber,
 }
@@ -43,7 +42,7 @@ impl Model for LiveAsk {
 
 impl LiveAsk {
     /// An ask that has just been made.
-    pub fn new(ask: Ask, owned: RangeSet, wait: WaitNumber) -> LiveAsk
+    pub fn new(ask: Ask, owned: BlockSet, wait: WaitNumber) -> LiveAsk
         ensures { result ≡ record { ask = ask; owned = places owned; ticks = 0; wait = wait } }
     {
         LiveAsk {
@@ -54,7 +53,7 @@ impl LiveAsk {
         }
     }
 
-    /// An equal ask on its own.
+    /// An equal ask. It shares its blocks with this one.
     pub fn copy(&self) -> Result<LiveAsk, OutOfMemory>
         ensures { IfOk result (λ a. a ≡ self.now) }
     {
@@ -79,12 +78,12 @@ impl LiveAsk {
     }
 
     /// The ask without blocks, and with its time begun anew.
-    pub fn without(&self, blocks: Span) -> Result<LiveAsk, OutOfMemory>
+    pub fn without(&self, alloc: Global, blocks: Span) -> Result<LiveAsk, OutOfMemory>
         ensures { IfOk result (λ a. a ≡ record self.now { owned = filter (λ b. not (has_block (counting blocks.start blocks.len) b)) self.now.owned; ticks = 0 }) }
     {
         Ok(LiveAsk {
             ask: self.ask,
-            owned: others_of(&self.owned, blocks)?,
+            owned: self.owned.without(alloc, blocks)?,
             ticks: 0,
             wait: self.wait,
         })
@@ -133,7 +132,7 @@ impl LiveAsk {
         self.ticks
     }
 
-    /// An equal ask on its own, but for its ticks.
+    /// An equal ask, but for its ticks. It shares its blocks with this one.
     pub fn copy_at(&self, ticks: u64) -> Result<LiveAsk, OutOfMemory>
         ensures { IfOk result (λ a. a ≡ record self.now { ticks = ticks }) }
     {
@@ -167,7 +166,7 @@ impl LiveAsk {
     }
 
     /// Whether a byte that is among those that are needed is missing in its blocks. It is sought from a place of the needs on.
-    pub fn is_wanted(&self, v: &Sight, needs: &[Span], near: usize) -> bool
+    pub fn is_wanted(&self, v: &Sight, needs: &[Span], near: Hint) -> bool
         requires { IsRuns needs.now }
         ensures { (w : ℕ → Bool) → Wants v.now needs.now w → result ≡ list_any w self.now.owned }
     {
@@ -208,20 +207,6 @@ fn is_empty(runs: &[Span]) -> bool
         [] => true,
         _ => false,
     }
-}
-
-// The blocks of the set that are not these.
-fn others_of(owned: &RangeSet, blocks: Span) -> Result<RangeSet, OutOfMemory>
-    ensures { IfOk result (λ r. places r ≡ filter (λ b. not (has_block (counting blocks.start blocks.len) b)) (places owned.now)) }
-{
-    let start = blocks.start.min(LIMIT);
-    let others = owned.without(Span {
-        start,
-        len: blocks.len.min(LIMIT - start),
-    })?;
-    let _maximal = others.runs();
-    let _maximal = owned.runs();
-    Ok(others)
 }
 
 /// Whether an ask is for bytes.
@@ -280,7 +265,7 @@ pub fn waits_by(v: &Sight, a: &LiveAsk, w: &LiveWait) -> bool
     }
 }
 
-fn is_any_wanted(v: &Sight, needs: &[Span], near: usize, runs: &[Span]) -> bool
+fn is_any_wanted(v: &Sight, needs: &[Span], near: Hint, runs: &[Span]) -> bool
     requires { IsRuns needs.now }
     ensures { (w : ℕ → Bool) → Wants v.now needs.now w → result ≡ list_any w (places runs.now) }
 {
@@ -293,7 +278,7 @@ fn is_any_wanted(v: &Sight, needs: &[Span], near: usize, runs: &[Span]) -> bool
 }
 
 // Beyond the size nothing is missing.
-fn is_run_wanted(v: &Sight, needs: &[Span], near: usize, run: Span) -> bool
+fn is_run_wanted(v: &Sight, needs: &[Span], near: Hint, run: Span) -> bool
     requires { IsRuns needs.now }
     ensures { (w : ℕ → Bool) → Wants v.now needs.now w → result ≡ list_any w (counting run.start run.len) }
 {
@@ -326,7 +311,7 @@ pub fn is_idle(
     v: &Sight,
     waits: &[LiveWait],
     needs: &[Span],
-    near: usize,
+    near: Hint,
     a: &LiveAsk,
 ) -> bool
     requires runs { IsRuns needs.now }
@@ -341,7 +326,7 @@ fn is_idle_by(
     v: &Sight,
     waits: &[LiveWait],
     needs: &[Span],
-    near: usize,
+    near: Hint,
     a: &LiveAsk,
 ) -> bool
     requires runs { IsRuns needs.now }
@@ -361,7 +346,7 @@ fn is_wanted_by(
     v: &Sight,
     waits: &[LiveWait],
     needs: &[Span],
-    near: usize,
+    near: Hint,
     a: &LiveAsk,
 ) -> bool
     requires runs { IsRuns needs.now }

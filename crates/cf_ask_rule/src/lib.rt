@@ -3,6 +3,7 @@
 
 mod acts;
 mod asks;
+mod block_sets;
 mod laws;
 mod misses;
 mod new_asks;

@@ -7,7 +7,7 @@ ghost use Rattle.cf_model.specs.Missing.{is_met, misses, misses_between, needed}
 ghost use Rattle.cf_model.specs.Words.{counting};
 ghost use Rattle.cf_ranges.specs.Positions.{contains, IsRuns};
 
-use crate::searches::next_in;
+use crate::searches::{Hint, next_in};
 use crate::sights::Sight;
 use crate::unions::union_of;
 use crate::waits::LiveWait;
@@ -81,8 +81,8 @@ fn needed_below(v: &Sight, w: &LiveWait) -> Span
     }
 }
 
-/// The first position from a number on that is missing and needed. It is sought from a place of the needs on.
-pub fn next_missed(v: &Sight, needs: &[Span], near: usize, from: u64) -> Option<u64>
+/// The first position from a number on that is missing and needed. It is sought from a hint on.
+pub fn next_missed(v: &Sight, needs: &[Span], near: Hint, from: u64) -> Option<u64>
     requires runs { IsRuns needs.now }
     requires small { from ≤ 2 ^ 52 }
     ensures next { IsNext (λ p. lacks_at v.now p && contains needs.now p) from result }
@@ -90,10 +90,10 @@ pub fn next_missed(v: &Sight, needs: &[Span], near: usize, from: u64) -> Option<
 {
     let mut at = from;
     loop {
-        let Some(needed) = next_in(needs, near, at) else {
+        let Some(needed) = next_in(needs, near.need, at) else {
             return None;
         };
-        let Some(lacking) = v.next_lacking(needed) else {
+        let Some(lacking) = v.next_lacking(near, needed) else {
             return None;
         };
         if lacking == needed {

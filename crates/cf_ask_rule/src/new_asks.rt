@@ -11,8 +11,9 @@ ghost use Rattle.cf_model.specs.Words.{counting};
 ghost use Rattle.cf_ranges.specs.Positions.{contains, IsRuns};
 
 use crate::asks::{LiveAsk, is_list, is_list_awaited, owned_of};
+use crate::block_sets::BlockSet;
 use crate::misses::next_missed;
-use crate::searches::{end_of, place_beyond};
+use crate::searches::{Hint, end_of, place_beyond};
 use crate::sights::Sight;
 use crate::waits::{LiveWait, WaitNumber, is_dehydrate_wait};
 use cf_base::{Ask, AskKind, ItemId, Key, OutOfMemory, Span};
@@ -114,11 +115,11 @@ fn open_in(
 {
     let mut out = Vec::new(alloc);
     let mut next = 0;
-    let mut need = 0;
+    let mut near = Hint::first();
     let mut own = 0;
-    while let Some(at) = next_missed(v, needs, need, BLOCK * next) {
+    while let Some(at) = next_missed(v, needs, near, BLOCK * next) {
         let block = at / BLOCK;
-        need = place_beyond(needs, need, at);
+        near = v.hint_at(needs, near, at);
         own = place_beyond(owned, own, block);
         let end = end_of(owned, own, block);
         if end > block {
@@ -184,7 +185,7 @@ pub fn ask_of_run(alloc: Global, item: ItemId, base: u64, run: Run) -> Result<Li
             len: end.saturating_sub(start),
         },
     };
-    let owned = counted(alloc, run.first(), run.count())?;
+    let owned = BlockSet::new(alloc, counted(alloc, run.first(), run.count())?)?;
     Ok(LiveAsk::new(ask, owned, WaitNumber::new(0, 0)))
 }
 
@@ -236,7 +237,7 @@ fn is_list_asked(item: ItemId, asks: &[LiveAsk]) -> bool
         .any(|a| a.ask().item.0 == item.0 && is_list(a.ask().kind))
 }
 
-fn list_ask(alloc: Global, item: ItemId) -> LiveAsk
+fn list_ask(item: ItemId) -> LiveAsk
     ensures { result ≡ list_ask item }
 {
     let ask = Ask {
@@ -245,7 +246,7 @@ fn list_ask(alloc: Global, item: ItemId) -> LiveAsk
         item,
         span: Span { start: 0, len: 0 },
     };
-    LiveAsk::new(ask, RangeSet::new(alloc), WaitNumber::new(0, 0))
+    LiveAsk::new(ask, BlockSet::empty(), WaitNumber::new(0, 0))
 }
 
 /// The list ask, where a list wait waits and no list ask is live.
@@ -259,7 +260,7 @@ fn list_asks(
 {
     let mut out = Vec::new(alloc);
     if is_list_awaited(item, waits) && !is_list_asked(item, asks) {
-        out.push(list_ask(alloc, item))?;
+        out.push(list_ask(item))?;
     }
     Ok(out)
 }
@@ -276,7 +277,7 @@ fn lacks_ask(item: ItemId, asks: &[LiveAsk], w: &LiveWait) -> bool
     w.item().0 == item.0 && is_dehydrate_wait(w.kind()) && !has_ask(asks, w.id())
 }
 
-fn dehydrate_ask(alloc: Global, w: &LiveWait) -> LiveAsk
+fn dehydrate_ask(w: &LiveWait) -> LiveAsk
     ensures { result ≡ dehydrate_ask w.now }
 {
     let ask = Ask {
@@ -285,7 +286,7 @@ fn dehydrate_ask(alloc: Global, w: &LiveWait) -> LiveAsk
         item: w.item(),
         span: w.span(),
     };
-    LiveAsk::new(ask, RangeSet::new(alloc), w.id())
+    LiveAsk::new(ask, BlockSet::empty(), w.id())
 }
 
 /// The asks of the dehydrate waits that have none yet.
@@ -301,7 +302,7 @@ fn dehydrate_asks(
         waits
             .iter()
             .filter(|w| lacks_ask(item, asks, w))
-            .map(|w| dehydrate_ask(alloc, w))
+            .map(|w| dehydrate_ask(w))
             .collect(alloc)?,
     )
 }

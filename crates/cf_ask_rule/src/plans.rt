@@ -5,7 +5,7 @@ ghost use Rattle.cf_model.specs.Requests.{Nothing};
 ghost use Rattle.cf_ask_rule.specs.Deeds.{deed_of};
 ghost use Rattle.cf_ask_rule.specs.Plans.{plan_of};
 
-use crate::acts::{Act, asks_after, cancelled_of, drop_cancelled, end_waits};
+use crate::acts::{Act, asks_after, end_waits, part_asks};
 use crate::asks::LiveAsk;
 use crate::misses::needs_of;
 use crate::new_asks::new_asks;
@@ -44,9 +44,8 @@ pub fn make_plan(
     let live = left.as_slice();
     let spans = needs_of(alloc, item, v, live)?;
     let needs = spans.as_slice();
-    let mut kept = asks_after(alloc, act, asks)?;
-    let cancelled = cancelled_of(alloc, item, v, act, live, needs, &kept)?;
-    drop_cancelled(&mut kept, &cancelled, item, v, act, live, needs);
+    let all = asks_after(alloc, act, asks)?;
+    let (cancelled, kept) = part_asks(alloc, item, v, act, live, needs, all)?;
     let made = new_asks(alloc, item, v, live, needs, &kept)?;
     Ok(Plan {
         ended,

@@ -5,6 +5,25 @@ ghost use Rattle.cf_ranges.specs.Positions.{contains, IsRuns};
 
 use cf_base::Span;
 
+/// Places of needs and of the runs of a sight, from which a search goes on. Each serves; near ones are quick.
+#[derive(Clone, Copy)]
+pub struct Hint {
+    pub need: usize,
+    pub absent: usize,
+    pub bare: usize,
+}
+
+impl Hint {
+    /// The places of the first runs.
+    pub fn first() -> Hint {
+        Hint {
+            need: 0,
+            absent: 0,
+            bare: 0,
+        }
+    }
+}
+
 /// How many runs end by a number. A place is tried first, and the one after it, and then a binary search finds it.
 pub fn place_beyond(runs: &[Span], near: usize, from: u64) -> usize
     requires { IsRuns runs.now }

@@ -5,7 +5,7 @@ ghost use Rattle.cf_ranges.specs.Positions.{contains, IsRuns};
 ghost use Rattle.cf_ask_rule.specs.Nexts.{IsNext, lacks_at};
 ghost use Rattle.cf_ask_rule.specs.Sights.{is_lacking, meets, shown};
 
-use crate::searches::{below, lesser, next_in};
+use crate::searches::{Hint, below, lesser, next_in, place_beyond};
 use crate::views::View;
 use cf_base::{OutOfMemory, Span};
 use cf_ranges::reaches;
@@ -110,13 +110,24 @@ impl Sight {
         meets(&self.absent, start, self.size.min(end))
     }
 
-    /// The first position from a number on that is missing where it is needed.
-    pub fn next_lacking(&self, from: u64) -> Option<u64>
+    /// Where a search from a position on begins, by a hint for a position near it.
+    pub fn hint_at(&self, needs: &[Span], near: Hint, at: u64) -> Hint
+        requires { IsRuns needs.now }
+    {
+        Hint {
+            need: place_beyond(needs, near.need, at),
+            absent: place_beyond(&self.absent, near.absent, at),
+            bare: place_beyond(&self.bare, near.bare, at),
+        }
+    }
+
+    /// The first position from a number on that is missing where it is needed. It is sought from a hint on.
+    pub fn next_lacking(&self, near: Hint, from: u64) -> Option<u64>
         ensures next { IsNext (lacks_at self.now) from result }
         ensures small { IfSome result (λ n. n < 2 ^ 24) }
     {
-        let absent = next_in(&self.absent, 0, from);
-        let bare = next_in(&self.bare, 0, from);
+        let absent = next_in(&self.absent, near.absent, from);
+        let bare = next_in(&self.bare, near.bare, from);
         below(lesser(absent, bare), self.size)
     }
 

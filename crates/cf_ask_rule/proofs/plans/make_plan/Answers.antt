@@ -9,21 +9,11 @@ use Rattle.cf_ask_rule.proofs.Wanting.{wants}
 use Rattle.cf_ask_rule.proofs.plans.make_plan.Goals as goal
 use Rattle.cf_ask_rule.specs.Deeds.{after, deed_of}
 
-pub cancelled_of-requires-clause-runs : goal.cancelled_of-requires-clause-runs
-cancelled_of-requires-clause-runs c = subst (λ (s : List Span). IsRuns s) (sym c.as_slice-needs.ensures.value) c.in_ok-spans.ensures.maximal
+pub part_asks-requires-clause-runs : goal.part_asks-requires-clause-runs
+part_asks-requires-clause-runs c = subst (λ (s : List Span). IsRuns s) (sym c.as_slice-needs.ensures.value) c.in_ok-spans.ensures.maximal
 
-pub cancelled_of-requires-clause-wants : goal.cancelled_of-requires-clause-wants
-cancelled_of-requires-clause-wants c = wants c.args.item c.args.v.now c.as_slice-live.result.now c.as_slice-needs.result.now (λ p l. ap (λ (s : List Span). contains s p) c.as_slice-needs.ensures.value ∙ c.in_ok-spans.ensures.needed p l)
-
-pub drop_cancelled-requires-clause-runs : goal.drop_cancelled-requires-clause-runs
-drop_cancelled-requires-clause-runs c = subst (λ (s : List Span). IsRuns s) (sym c.as_slice-needs.ensures.value) c.in_ok-spans.ensures.maximal
-
-pub drop_cancelled-requires-clause-wants : goal.drop_cancelled-requires-clause-wants
-drop_cancelled-requires-clause-wants c = wants c.args.item c.args.v.now c.as_slice-live.result.now c.as_slice-needs.result.now (λ p l. ap (λ (s : List Span). contains s p) c.as_slice-needs.ensures.value ∙ c.in_ok-spans.ensures.needed p l)
-
-pub drop_cancelled-requires-clause-keys : goal.drop_cancelled-requires-clause-keys
-drop_cancelled-requires-clause-keys c =
-    c.deref-2.ensures.value ∙ c.in_ok-cancelled.ensures ∙ ap (λ (asks : List Live). map (λ a. a.ask.key) (filter (is_cancelled c.args.item c.args.v.now (deed_of c.args.act) c.as_slice-live.result.now) asks)) c.deref.ensures.value
+pub part_asks-requires-clause-wants : goal.part_asks-requires-clause-wants
+part_asks-requires-clause-wants c = wants c.args.item c.args.v.now c.as_slice-live.result.now c.as_slice-needs.result.now (λ p l. ap (λ (s : List Span). contains s p) c.as_slice-needs.ensures.value ∙ c.in_ok-spans.ensures.needed p l)
 
 pub new_asks-requires-clause-runs : goal.new_asks-requires-clause-runs
 new_asks-requires-clause-runs c = subst (λ (s : List Span). IsRuns s) (sym c.as_slice-needs.ensures.value) c.in_ok-spans.ensures.maximal
@@ -34,8 +24,8 @@ new_asks-requires-clause-wants c = wants c.args.item c.args.v.now c.as_slice-liv
 pub returns-clause-kept : goal.returns-clause-kept
 returns-clause-kept c =
     let d : Deed = deed_of c.args.act in
-    c.drop_cancelled.ensures
-    ∙ ap (filter (λ a. not (is_cancelled c.args.item c.args.v.now d c.as_slice-live.result.now a))) c.in_ok-kept.ensures
+    c.in_ok-cancelled.ensures.kept
+    ∙ ap (filter (λ a. not (is_cancelled c.args.item c.args.v.now d c.as_slice-live.result.now a))) c.in_ok-all.ensures
     ∙ ap (λ (ws : List Wait). filter (λ a. not (is_cancelled c.args.item c.args.v.now d ws a)) (after d c.args.asks.items))
     (c.as_slice-live.ensures.value ∙ c.in_ok-ended.ensures.left ∙ ap (λ (l : List Live). left_of (why c.args.item c.args.v.now d l) c.args.waits.now) c.as_slice-before.ensures.value)
 
@@ -45,8 +35,8 @@ returns-clause-made c =
     let left : List Wait = left_of (why c.args.item c.args.v.now d c.args.asks.items) c.args.waits.now in
     let same = c.as_slice-live.ensures.value ∙ c.in_ok-ended.ensures.left ∙ ap (λ (l : List Live). left_of (why c.args.item c.args.v.now d l) c.args.waits.now) c.as_slice-before.ensures.value in
     c.in_ok-made.ensures
-    ∙ ap (λ (ws : List Wait). new_asks c.args.item c.args.v.now ws c.deref-3.result.now) same
+    ∙ ap (λ (ws : List Wait). new_asks c.args.item c.args.v.now ws c.deref.result.now) same
     ∙ ap (λ (asks : List Live). new_asks c.args.item c.args.v.now left asks)
-    (c.deref-3.ensures.value ∙ c.drop_cancelled.ensures
-    ∙ ap (filter (λ a. not (is_cancelled c.args.item c.args.v.now d c.as_slice-live.result.now a))) c.in_ok-kept.ensures
+    (c.deref.ensures.value ∙ c.in_ok-cancelled.ensures.kept
+    ∙ ap (filter (λ a. not (is_cancelled c.args.item c.args.v.now d c.as_slice-live.result.now a))) c.in_ok-all.ensures
     ∙ ap (λ (ws : List Wait). filter (λ a. not (is_cancelled c.args.item c.args.v.now d ws a)) (after d c.args.asks.items)) same)
