@@ -19,14 +19,14 @@ pub struct AuxRecord {
 }
 
 /// The number that an item had when it was last pushed.
-#[derive(Clone, Copy, Debug, PartialEq, Eq)]
+#[derive(Clone, Copy)]
 pub struct Anchor {
     pub item: ItemId,
     pub number: Usn,
 }
 
 /// The clock of a file's last access.
-#[derive(Clone, Copy, Debug, PartialEq, Eq)]
+#[derive(Clone, Copy)]
 pub struct Access {
     pub item: ItemId,
     pub clock: u64,

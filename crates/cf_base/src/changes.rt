@@ -1,6 +1,7 @@
 //! Changes of the volume.
 
 ghost use Rattle.std.specs.Prelude.{◌≡◌, IfOk};
+ghost use Rattle.cf_base.specs.declared.changes.Change.TheVariants as change;
 
 use crate::bytes::Blob;
 use crate::ids::{ItemId, Usn};
@@ -9,7 +10,7 @@ use crate::memory::OutOfMemory;
 use crate::names::{Identity, Name};
 
 /// A change of the volume. Each accepted one gets the next sequence number. Places and sizes are in bytes.
-#[derive(Clone, Drop)]
+#[derive(Drop)]
 pub enum Change {
     /// A new item with its parent's pin. A placeholder file has the size as its base length and no byte here; any
     /// other kind has size 0. A file and a plain directory have no identity.
@@ -114,11 +115,170 @@ pub enum Change {
     },
 }
 
+// A variant that owns memory is copied by a function of its own, since each way out of a match is proved against all its arms.
+
+fn copy_make(
+    item: ItemId,
+    parent: ItemId,
+    name: &Name,
+    kind: Kind,
+    size: u64,
+    identity: &Identity,
+) -> Result<Change, OutOfMemory>
+    ensures { IfOk result (λ c. c ≡ change.Make item parent name.now kind size identity.now) }
+{
+    let name = name.copy()?;
+    let identity = identity.copy()?;
+    Ok(Change::Make {
+        item,
+        parent,
+        name,
+        kind,
+        size,
+        identity,
+    })
+}
+
+fn copy_move(item: ItemId, parent: ItemId, name: &Name) -> Result<Change, OutOfMemory>
+    ensures { IfOk result (λ c. c ≡ change.Move item parent name.now) }
+{
+    let name = name.copy()?;
+    Ok(Change::Move { item, parent, name })
+}
+
+fn copy_write(item: ItemId, at: u64, bytes: &Blob) -> Result<Change, OutOfMemory>
+    ensures { IfOk result (λ c. c ≡ change.Write item at bytes.now) }
+{
+    let bytes = bytes.copy()?;
+    Ok(Change::Write { item, at, bytes })
+}
+
+fn copy_filled(item: ItemId, start: u64, bytes: &Blob) -> Result<Change, OutOfMemory>
+    ensures { IfOk result (λ c. c ≡ change.Filled item start bytes.now) }
+{
+    let bytes = bytes.copy()?;
+    Ok(Change::Filled { item, start, bytes })
+}
+
+fn copy_convert(item: ItemId, identity: &Identity) -> Result<Change, OutOfMemory>
+    ensures { IfOk result (λ c. c ≡ change.Convert item identity.now) }
+{
+    let identity = identity.copy()?;
+    Ok(Change::Convert { item, identity })
+}
+
+fn copy_rebase(item: ItemId, identity: &Identity, len: u64, at: Usn) -> Result<Change, OutOfMemory>
+    ensures { IfOk result (λ c. c ≡ change.Rebase item identity.now len at) }
+{
+    let identity = identity.copy()?;
+    Ok(Change::Rebase {
+        item,
+        identity,
+        len,
+        at,
+    })
+}
+
+fn copy_take(item: ItemId, identity: &Identity, size: u64) -> Result<Change, OutOfMemory>
+    ensures { IfOk result (λ c. c ≡ change.Take item identity.now size) }
+{
+    let identity = identity.copy()?;
+    Ok(Change::Take {
+        item,
+        identity,
+        size,
+    })
+}
+
+fn copy_copy(item: ItemId, from: ItemId, parent: ItemId, name: &Name) -> Result<Change, OutOfMemory>
+    ensures { IfOk result (λ c. c ≡ change.Copy item from parent name.now) }
+{
+    let name = name.copy()?;
+    Ok(Change::Copy {
+        item,
+        from,
+        parent,
+        name,
+    })
+}
+
 impl Change {
     /// An equal value on its own.
     pub fn copy(&self) -> Result<Change, OutOfMemory>
         ensures { IfOk result (λ c. c ≡ self.now) }
     {
-        Ok(self.clone()?)
+        match self {
+            Change::Make {
+                item,
+                parent,
+                name,
+                kind,
+                size,
+                identity,
+            } => copy_make(*item, *parent, name, *kind, *size, identity),
+            Change::Remove { item } => { Ok(Change::Remove { item: *item }) }
+            Change::Move { item, parent, name } => copy_move(*item, *parent, name),
+            Change::Write { item, at, bytes } => copy_write(*item, *at, bytes),
+            Change::Size { item, size } => {
+                Ok(Change::Size {
+                    item: *item,
+                    size: *size,
+                })
+            }
+            Change::Filled { item, start, bytes } => copy_filled(*item, *start, bytes),
+            Change::Validated { item, start, len } => {
+                Ok(Change::Validated {
+                    item: *item,
+                    start: *start,
+                    len: *len,
+                })
+            }
+            Change::Emptied { item, start, len } => {
+                Ok(Change::Emptied {
+                    item: *item,
+                    start: *start,
+                    len: *len,
+                })
+            }
+            Change::SetPin { item, pin } => {
+                Ok(Change::SetPin {
+                    item: *item,
+                    pin: *pin,
+                })
+            }
+            Change::Mark { item, number } => {
+                Ok(Change::Mark {
+                    item: *item,
+                    number: *number,
+                })
+            }
+            Change::Clear { item } => { Ok(Change::Clear { item: *item }) }
+            Change::Convert { item, identity } => copy_convert(*item, identity),
+            Change::Revert { item } => { Ok(Change::Revert { item: *item }) }
+            Change::Rebase {
+                item,
+                identity,
+                len,
+                at,
+            } => copy_rebase(*item, identity, *len, *at),
+            Change::Take {
+                item,
+                identity,
+                size,
+            } => copy_take(*item, identity, *size),
+            Change::Copy {
+                item,
+                from,
+                parent,
+                name,
+            } => copy_copy(*item, *from, *parent, name),
+            Change::Populated { item } => { Ok(Change::Populated { item: *item }) }
+            Change::Keep { item, on } => {
+                Ok(Change::Keep {
+                    item: *item,
+                    on: *on,
+                })
+            }
+        }
     }
 }

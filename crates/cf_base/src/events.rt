@@ -18,7 +18,7 @@ pub enum Event {
 }
 
 /// What the device does, in both commands and also while the power is off.
-#[derive(Clone, Copy, Debug, PartialEq, Eq)]
+#[derive(Clone, Copy)]
 pub enum DeviceEvent {
     /// After `calls` more calls the device fails.
     Stop { calls: u32 },
@@ -42,7 +42,7 @@ pub enum PeerEvent {
 }
 
 /// What the engine and its messages do, in `replay`.
-#[derive(Clone, Copy, Debug, PartialEq, Eq)]
+#[derive(Clone, Copy)]
 pub enum EngineEvent {
     /// Whether requests arrive and replies are delivered at once. Also while the power is off.
     Link { inline: bool },

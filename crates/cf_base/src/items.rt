@@ -18,7 +18,7 @@ pub enum Kind {
 }
 
 /// The pin state of an item (CF_PIN_STATE). `Inherit` can be asked for and is never stored.
-#[derive(Clone, Copy, Debug, PartialEq, Eq)]
+#[derive(Clone, Copy)]
 pub enum Pin {
     Unspecified,
     Pinned,
@@ -28,7 +28,7 @@ pub enum Pin {
 }
 
 /// Which items a pin state is set on.
-#[derive(Clone, Copy, Debug, PartialEq, Eq)]
+#[derive(Clone, Copy)]
 pub enum Reach {
     /// The item alone.
     One,
@@ -46,7 +46,7 @@ pub struct ListedItem {
 }
 
 /// Where an item stood in the remote when that was last seen.
-#[derive(Clone, Drop)]
+#[derive(Drop)]
 pub struct SeenPath {
     pub item: ItemId,
     pub parent: Rid,
@@ -58,6 +58,11 @@ impl SeenPath {
     pub fn copy(&self) -> Result<SeenPath, OutOfMemory>
         ensures { IfOk result (λ s. s ≡ self.now) }
     {
-        Ok(self.clone()?)
+        let name = self.name.copy()?;
+        Ok(SeenPath {
+            item: self.item,
+            parent: self.parent,
+            name,
+        })
     }
 }

@@ -1,6 +1,7 @@
 //! What a provider can do to answer an ask (CfExecute).
 
 ghost use Rattle.std.specs.Prelude.{◌≡◌, IfOk};
+ghost use Rattle.cf_base.specs.declared.operations.Operation.TheVariants as operation;
 
 use crate::bytes::Blob;
 use crate::ids::Key;
@@ -8,10 +9,11 @@ use crate::memory::OutOfMemory;
 use crate::names::Identity;
 use crate::sequence::Sequence;
 use crate::spans::Span;
+use std::alloc::AllocError;
 
 /// One entry that a provider gives for a directory. The size of a directory is not read. The name is any bytes, so
 /// that a bad one can be refused.
-#[derive(Clone, Drop)]
+#[derive(Drop)]
 pub struct NewItem {
     pub name: Blob,
     pub dir: bool,
@@ -64,20 +66,29 @@ pub enum Operation {
     },
 }
 
+// A variant that owns memory is copied by a function of its own, since each way out of a match is proved against all its arms.
+
+fn copy_transfer(key: Key, at: u64, bytes: &Blob) -> Result<Operation, OutOfMemory>
+    ensures { IfOk result (λ c. c ≡ operation.Transfer key at bytes.now) }
+{
+    let bytes = bytes.copy()?;
+    Ok(Operation::Transfer { key, at, bytes })
+}
+
+fn copy_entries(key: Key, list: &Sequence<NewItem>, good: bool) -> Result<Operation, OutOfMemory>
+    ensures { IfOk result (λ c. c ≡ operation.Entries key list.now good) }
+{
+    let list = list.clone()?;
+    Ok(Operation::Entries { key, list, good })
+}
+
 impl Operation {
     /// An equal value on its own.
     pub fn copy(&self) -> Result<Operation, OutOfMemory>
         ensures { IfOk result (λ o. o ≡ self.now) }
     {
         match self {
-            Operation::Transfer { key, at, bytes } => {
-                let bytes = bytes.copy()?;
-                Ok(Operation::Transfer {
-                    key: *key,
-                    at: *at,
-                    bytes,
-                })
-            }
+            Operation::Transfer { key, at, bytes } => copy_transfer(*key, *at, bytes),
             Operation::Refuse { key, span, status } => {
                 Ok(Operation::Refuse {
                     key: *key,
@@ -99,14 +110,7 @@ impl Operation {
                 })
             }
             Operation::Restart { key } => { Ok(Operation::Restart { key: *key }) }
-            Operation::Entries { key, list, good } => {
-                let list = list.clone()?;
-                Ok(Operation::Entries {
-                    key: *key,
-                    list,
-                    good: *good,
-                })
-            }
+            Operation::Entries { key, list, good } => copy_entries(*key, list, *good),
             Operation::AckDehydrate { key, good } => {
                 Ok(Operation::AckDehydrate {
                     key: *key,
@@ -117,11 +121,19 @@ impl Operation {
     }
 }
 
-impl NewItem {
-    /// An equal value on its own.
-    pub fn copy(&self) -> Result<NewItem, OutOfMemory>
-        ensures { IfOk result (λ n. n ≡ self.now) }
-    {
-        Ok(self.clone()?)
+// Written out, since a derived one asks for memory at each field.
+impl Clone for NewItem {
+    ghost is_clone = { λ n m. m ≡ n };
+
+    fn clone(&self) -> Result<NewItem, AllocError> {
+        let name = self.name.clone()?;
+        let identity = self.identity.clone()?;
+        Ok(NewItem {
+            name,
+            dir: self.dir,
+            size: self.size,
+            identity,
+            mark: self.mark,
+        })
     }
 }

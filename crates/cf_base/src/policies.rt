@@ -6,7 +6,7 @@ ghost use Rattle.cf_base.specs.Policies.{is_allowed};
 use crate::codes::Code;
 
 /// How much of a file a read brings here (CF_HYDRATION_POLICY).
-#[derive(Clone, Copy, Debug, PartialEq, Eq)]
+#[derive(Clone, Copy, PartialEq, Eq)]
 pub enum Hydration {
     /// The blocks that the read needs.
     Partial,
@@ -19,7 +19,7 @@ pub enum Hydration {
 }
 
 /// When the entries of a directory come here (CF_POPULATION_POLICY).
-#[derive(Clone, Copy, Debug, PartialEq, Eq)]
+#[derive(Clone, Copy, PartialEq, Eq)]
 pub enum Population {
     /// Entry by entry. Left out: it is refused.
     Partial,
@@ -30,7 +30,7 @@ pub enum Population {
 }
 
 /// The policies and modifiers that a provider registers.
-#[derive(Clone, Copy, Debug, PartialEq, Eq)]
+#[derive(Clone, Copy)]
 pub struct Policy {
     pub hydration: Hydration,
     pub population: Population,
@@ -43,14 +43,14 @@ pub struct Policy {
 }
 
 /// Which command runs: the sync engine, or a scripted provider without one.
-#[derive(Clone, Copy, Debug, PartialEq, Eq)]
+#[derive(Clone, Copy)]
 pub enum Mode {
     Replay,
     Filter,
 }
 
 /// The ranges of a file that can be asked for.
-#[derive(Clone, Copy, Debug, PartialEq, Eq)]
+#[derive(Clone, Copy)]
 pub enum Class {
     OnDisk,
     Validated,
@@ -58,7 +58,7 @@ pub enum Class {
 }
 
 /// What a power cut leaves of the bytes that were written since the last sync.
-#[derive(Clone, Copy, Debug, PartialEq, Eq)]
+#[derive(Clone, Copy)]
 pub enum Choice {
     /// All of them.
     Keep,

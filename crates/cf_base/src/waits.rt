@@ -11,7 +11,7 @@ use crate::sequence::Sequence;
 use crate::spans::Span;
 
 /// What a wait is for.
-#[derive(Clone, Copy, Debug, PartialEq, Eq)]
+#[derive(Clone, Copy)]
 pub enum WaitKind {
     Read,
     Hydrate,
@@ -22,7 +22,7 @@ pub enum WaitKind {
 }
 
 /// What a provider is asked for.
-#[derive(Clone, Copy, Debug, PartialEq, Eq)]
+#[derive(Clone, Copy)]
 pub enum AskKind {
     Fetch,
     Validate,
@@ -31,7 +31,7 @@ pub enum AskKind {
 }
 
 /// A question to the provider. The span of a list ask is empty.
-#[derive(Clone, Copy, Debug, PartialEq, Eq)]
+#[derive(Clone, Copy)]
 pub struct Ask {
     pub key: Key,
     pub kind: AskKind,
@@ -40,7 +40,7 @@ pub struct Ask {
 }
 
 /// Why a wait ends.
-#[derive(Clone, Copy, Debug, PartialEq, Eq)]
+#[derive(Clone, Copy)]
 pub enum Cause {
     /// Nothing that it needs is missing any more.
     Met,
