@@ -14,7 +14,7 @@ use cf_base::{CallError, Change};
 use cf_engine_host::EngineHost;
 use cf_engine_queue::QueueEntry;
 use cf_engine_steps::{Engine, skip};
-use cf_filter_steps::Steps;
+use cf_filter_steps::change_copied;
 use cf_remote::Remote;
 
 // The change is made, and the item is marked where it may be.
@@ -26,7 +26,7 @@ fn change_and_mark<S: EngineHost, R: Remote>(
 ) -> Result<(), CallError>
     ensures { Answers (whole S.sense R.told) (On (Ready change.now)) (change_and_mark (entry_value entry.now) change.now) (s.old, e.old) result (s.new, e.new) }
 {
-    s.change(change)?;
+    change_copied(s, change)?;
     see_and_mark(s, e, entry)
 }
 

@@ -12,7 +12,7 @@ use crate::skips::leave_out;
 use crate::suited_changes::refuse_depth;
 use cf_base::{CallError, Change};
 use cf_engine_host::EngineHost;
-use cf_filter_steps::refuse_room;
+use cf_filter_steps::{change_copied, refuse_room};
 use cf_remote::Remote;
 use std::slice;
 
@@ -27,7 +27,7 @@ fn try_suited<S: EngineHost, R: Remote>(
     match refuse_room(s, slice::from_ref(change))? {
         Some(code) => leave_out(s, e, code),
         None => {
-            s.change(change)?;
+            change_copied(s, change)?;
             Ok(true)
         }
     }

@@ -8,7 +8,7 @@ use crate::filters::Filter;
 use crate::shown_values::Told;
 use cf_base::{Blob, CallError, Change, ItemId, Notes, Span};
 use cf_disk::Disk;
-use cf_filter_steps::Steps;
+use cf_filter_steps::{Steps, change_copied};
 
 pub(crate) fn given<A>(told: Result<A, CallError>) -> Told<A>
     ensures { result ≡ given_as told }
@@ -38,7 +38,7 @@ impl<D: Disk> Filter<D> {
         ensures keeps { self.new.desk.notes ≡ self.old.desk.notes }
     {
         self.begin(notes)?;
-        let first = self.machine.change(change);
+        let first = change_copied(&mut self.machine, change);
         self.finish_with(given(first), notes)
     }
 

@@ -61,11 +61,11 @@ impl<D: Disk> Steps for Filter<D> {
         self.machine.room(changes)
     }
 
-    fn change(&mut self, change: &Change) -> Result<(), CallError> {
+    fn change(&mut self, change: Change) -> Result<(), CallError> {
         self.machine.change(change)
     }
 
-    fn put(&mut self, item: ItemId, change: &Change) -> Result<(), CallError> {
+    fn put(&mut self, item: ItemId, change: Change) -> Result<(), CallError> {
         self.machine.put(item, change)
     }
 

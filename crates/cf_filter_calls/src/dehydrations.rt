@@ -148,7 +148,7 @@ fn empty_now<S: Steps>(s: &mut S, id: ItemId, start: u64, len: u64) -> Result<Sh
         start,
         len,
     };
-    s.change(&change)?;
+    s.change(change)?;
     Ok(Shown::Ended(End::Emptied))
 }
 

@@ -15,7 +15,7 @@ ghost use Rattle.cf_filter_steps.specs.Finding.{Plans};
 use crate::items::{number_at, refused_by};
 use cf_ask_rule::Act;
 use cf_base::{CallError, Change, Code, ItemId, OutOfMemory, Sequence, Shown, Usn};
-use cf_filter_steps::{Steps, find_at, look, look_after, settle_by};
+use cf_filter_steps::{Steps, change_copied, find_at, look, look_after, settle_by};
 use cf_item_rules::{plan_keep, plan_mark};
 use cf_waits::Step;
 
@@ -63,7 +63,7 @@ fn make_with<S: Steps>(s: &mut S, changes: &[Change], step: Step) -> Result<(), 
 {
     match changes.first() {
         Some(change) => {
-            s.change(change)?;
+            change_copied(s, change)?;
             settle_by(s, step)
         }
         None => Ok(()),

@@ -48,9 +48,9 @@ fn refuse_change<S: Steps>(
 }
 
 // Makes the change, and does the step that was worked out for what is after it.
-fn change_then<S: Steps>(s: &mut S, change: &Change, step: Step) -> Result<Shown, CallError>
+fn change_then<S: Steps>(s: &mut S, change: Change, step: Step) -> Result<Shown, CallError>
     requires { IsPlanned step (S.waiting s.old) }
-    ensures { (item : ItemId) (d : Deed) → Answers S.sense (MayChangeBy item change.now d step) (changed_then item change.now d) s.old result s.new }
+    ensures { (item : ItemId) (d : Deed) → Answers S.sense (MayChangeBy item change d step) (changed_then item change d) s.old result s.new }
 {
     s.change(change)?;
     settle_by(s, step)?;
@@ -62,15 +62,25 @@ fn change_then<S: Steps>(s: &mut S, change: &Change, step: Step) -> Result<Shown
 pub(crate) fn operate<S: Steps>(
     s: &mut S,
     item: ItemId,
-    change: &Change,
+    change: Change,
     act: Act,
     counts: bool,
 ) -> Result<Shown, CallError>
-    ensures { Answers S.sense (IsOperable item change.now) (operated counts item change.now (deed_of act)) s.old result s.new }
+    ensures { Answers S.sense (IsOperable item change) (operated counts item change (deed_of act)) s.old result s.new }
 {
-    let step = look_after(s, item, change, act)?;
-    match refuse_change(s, change, &step, counts)? {
-        Some(code) => Ok(Shown::Refused(code)),
-        None => change_then(s, change, step),
+    let Ok(step) = look_after(s, item, &change, act) else {
+        drop(change);
+        return Err(CallError::OutOfMemory);
+    };
+    match refuse_change(s, &change, &step, counts) {
+        Ok(Some(code)) => {
+            drop(change);
+            Ok(Shown::Refused(code))
+        }
+        Ok(None) => change_then(s, change, step),
+        Err(_) => {
+            drop(change);
+            Err(CallError::OutOfMemory)
+        }
     }
 }

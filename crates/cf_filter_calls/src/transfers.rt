@@ -48,7 +48,7 @@ pub(crate) fn transfer<S: Steps>(
     };
     let blocks = touched_blocks(span);
     let key = ask.key;
-    operate(s, ask.item, &change, Act::Leaves { key, blocks }, true)
+    operate(s, ask.item, change, Act::Leaves { key, blocks }, true)
 }
 
 /// No bytes for blocks of a fetch ask: the waits that miss a byte in them end so.
@@ -81,7 +81,7 @@ fn vouch<S: Steps>(s: &mut S, ask: &Ask, span: Span) -> Result<Shown, CallError>
     };
     let blocks = touched_blocks(span);
     let key = ask.key;
-    operate(s, ask.item, &change, Act::Leaves { key, blocks }, false)
+    operate(s, ask.item, change, Act::Leaves { key, blocks }, false)
 }
 
 // The bytes of a span are not good.
@@ -99,7 +99,7 @@ fn disown<S: Steps>(s: &mut S, ask: &Ask, span: Span) -> Result<Shown, CallError
         blocks: touched_blocks(span),
         cause: Cause::Failed(1),
     };
-    operate(s, ask.item, &change, act, false)
+    operate(s, ask.item, change, act, false)
 }
 
 /// The bytes of blocks of a validate ask are good, or leave. Refused as TableFull, Exhausted.
@@ -130,7 +130,7 @@ fn restart_now<S: Steps>(s: &mut S, ask: &Ask, size: u64) -> Result<Shown, CallE
         start: 0,
         len: size,
     };
-    operate(s, ask.item, &emptied, Act::Restarts, true)
+    operate(s, ask.item, emptied, Act::Restarts, true)
 }
 
 /// The hydration of the ask's file starts again. Refused as RestartDenied, TableFull, TooManyAsks, Exhausted.

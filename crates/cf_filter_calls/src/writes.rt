@@ -24,8 +24,8 @@ fn is_too_far(at: u64, len: u64) -> bool
 }
 
 // Makes a write or a size, and then what follows of it.
-fn write_now<S: Steps>(s: &mut S, item: ItemId, change: &Change) -> Result<Shown, CallError>
-    ensures { Answers S.sense (ReadyOn item change.now) (write_now item change.now) s.old result s.new }
+fn write_now<S: Steps>(s: &mut S, item: ItemId, change: Change) -> Result<Shown, CallError>
+    ensures { Answers S.sense (ReadyOn item change) (write_now item change) s.old result s.new }
 {
     s.put(item, change)?;
     settle(s, item, Act::Nothing)?;
@@ -33,12 +33,19 @@ fn write_now<S: Steps>(s: &mut S, item: ItemId, change: &Change) -> Result<Shown
 }
 
 // A write or a size that suits, where it finds room.
-fn put_in<S: Steps>(s: &mut S, item: ItemId, change: &Change) -> Result<Shown, CallError>
-    ensures { Answers S.sense (PutsIn item change.now) (put_in item change.now) s.old result s.new }
+fn put_in<S: Steps>(s: &mut S, item: ItemId, change: Change) -> Result<Shown, CallError>
+    ensures { Answers S.sense (PutsIn item change) (put_in item change) s.old result s.new }
 {
-    match refuse_room(s, slice::from_ref(change))? {
-        Some(code) => Ok(Shown::Refused(code)),
-        None => write_now(s, item, change),
+    match refuse_room(s, slice::from_ref(&change)) {
+        Ok(Some(code)) => {
+            drop(change);
+            Ok(Shown::Refused(code))
+        }
+        Ok(None) => write_now(s, item, change),
+        Err(_) => {
+            drop(change);
+            Err(CallError::OutOfMemory)
+        }
     }
 }
 
@@ -53,7 +60,7 @@ fn write_bytes<S: Steps>(s: &mut S, at: u64, bytes: &[u8], item: ItemId) -> Resu
     }
     let bytes = Blob::from_slice(s.alloc(), bytes)?;
     let change = Change::Write { item, at, bytes };
-    put_in(s, item, &change)
+    put_in(s, item, change)
 }
 
 /// Writes bytes into an open file at a place, with zeros from its old end to there. A write of no bytes does nothing.
@@ -96,7 +103,7 @@ fn size_item<S: Steps>(s: &mut S, size: u64, item: ItemId) -> Result<Shown, Call
     if has_size(s, item, size) {
         keep_size(s, item)
     } else {
-        put_in(s, item, &Change::Size { item, size })
+        put_in(s, item, Change::Size { item, size })
     }
 }
 

@@ -82,33 +82,43 @@ impl<D: Disk> Steps for Machine<D> {
         Ok(lacking(room))
     }
 
-    fn change(&mut self, change: &Change) -> Result<(), CallError> {
-        if !fits(&self.volume, change) {
+    fn change(&mut self, change: Change) -> Result<(), CallError> {
+        if !fits(&self.volume, &change) {
+            drop(change);
             return Err(CallError::OutOfMemory);
         }
-        let line = change.copy()?;
-        let number = self.volume.apply(change)?;
-        self.desk.note(Notice::Change {
-            number,
-            change: line,
-        })?;
+        let number = match self.volume.apply(&change) {
+            Ok(number) => number,
+            Err(error) => {
+                drop(change);
+                return Err(error);
+            }
+        };
+        self.desk.note(Notice::Change { number, change })?;
         Ok(())
     }
 
-    fn put(&mut self, item: ItemId, change: &Change) -> Result<(), CallError> {
-        if !fits(&self.volume, change) {
+    fn put(&mut self, item: ItemId, change: Change) -> Result<(), CallError> {
+        if !fits(&self.volume, &change) {
+            drop(change);
             return Err(CallError::OutOfMemory);
         }
-        let line = change.copy()?;
-        let number = self.volume.apply(change)?;
+        let number = match self.volume.apply(&change) {
+            Ok(number) => number,
+            Err(error) => {
+                drop(change);
+                return Err(error);
+            }
+        };
         if self.volume.row(item).is_none() {
+            drop(change);
             return Err(CallError::OutOfMemory);
         }
-        self.volume.touch(item)?;
-        self.desk.note(Notice::Change {
-            number,
-            change: line,
-        })?;
+        if let Err(error) = self.volume.touch(item) {
+            drop(change);
+            return Err(error);
+        }
+        self.desk.note(Notice::Change { number, change })?;
         Ok(())
     }
 

@@ -1,24 +1,33 @@
 //! Changes that a call makes, one after the other.
 
-ghost use Rattle.std.specs.Prelude.{◌≡◌, IfOk, [], ◌∷◌};
+ghost use Rattle.std.specs.Prelude.{◌≡◌, IfOk, OnOk, [], ◌∷◌};
 ghost use Rattle.cf_base.specs.declared.codes.Code.TheVariants as code;
-ghost use Rattle.cf_model.specs.Changes.{changes as all_changes};
+ghost use Rattle.cf_model.specs.Changes.{change as one_change, changes as all_changes};
 ghost use Rattle.cf_model.specs.Words.{first_of};
 ghost use Rattle.cf_filter_steps.specs.Answering.{Answers, Reads};
 ghost use Rattle.cf_filter_steps.specs.Making.{Made};
 ghost use Rattle.cf_filter_steps.specs.Readings.{room_refusal};
-ghost use Rattle.cf_filter_steps.specs.Suiting.{ReadyAll, Suiting};
+ghost use Rattle.cf_filter_steps.specs.Suiting.{Ready, ReadyAll, Suiting};
 
 use crate::rooms::Room;
 use crate::steps::Steps;
 use cf_base::{CallError, Change, Code, OutOfMemory};
+
+/// Makes a change that suits and finds room, from a copy of it, and tells it.
+pub fn change_copied<S: Steps>(s: &mut S, change: &Change) -> Result<(), CallError>
+    ensures does { Answers S.sense (Ready change.now) (one_change change.now) s.old result s.new }
+    ensures same { OnOk result (S.waiting s.new ≡ S.waiting s.old) }
+{
+    let change = change.copy()?;
+    s.change(change)
+}
 
 /// Makes changes that suit and find room, each in turn.
 pub fn make_changes<S: Steps>(s: &mut S, changes: &[Change]) -> Result<(), CallError>
     ensures { Answers S.sense (ReadyAll changes.now) (all_changes changes.now) s.old result s.new }
 {
     for change in changes {
-        s.change(change)?;
+        change_copied(s, change)?;
     }
     Ok(())
 }

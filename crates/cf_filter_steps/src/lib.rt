@@ -11,7 +11,7 @@ mod steps;
 mod views;
 
 pub use ask_steps::{hang_up, look, look_at, settle, settle_by, tell};
-pub use changes::{change_all, make_changes, refuse_room};
+pub use changes::{change_all, change_copied, make_changes, refuse_room};
 pub use look_ups::{find_at, find_below_root, find_place};
 pub use needs::Need;
 pub use previews::look_after;

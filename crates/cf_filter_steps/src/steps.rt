@@ -90,14 +90,15 @@ pub trait Steps {
     fn room(&self, changes: &[Change]) -> Result<Room, OutOfMemory>
         ensures { IfOk result (λ room. Reads sense (Suiting changes.now) (room_of changes.now) self.now room) };
 
-    /// Makes a change that suits and finds room, and tells it.
-    fn change(&mut self, change: &Change) -> Result<(), CallError>
-        ensures does { Answers sense (Ready change.now) (one_change change.now) self.old result self.new }
+    /// Makes a change that suits and finds room, and tells it. The change goes into its notice, so no byte of it is copied.
+    fn change(&mut self, change: Change) -> Result<(), CallError>
+        ensures does { Answers sense (Ready change) (one_change change) self.old result self.new }
         ensures same { OnOk result (waiting self.new ≡ waiting self.old) };
 
-    /// Makes a write or a size of a file, which suits and finds room, and tells it. It is an access too.
-    fn put(&mut self, item: ItemId, change: &Change) -> Result<(), CallError>
-        ensures does { Answers sense (ReadyOn item change.now) (change_with (with_access item) change.now) self.old result self.new }
+    /// Makes a write or a size of a file, which suits and finds room, and tells it. It is an access too. The change goes into its notice,
+    /// as that of `change`.
+    fn put(&mut self, item: ItemId, change: Change) -> Result<(), CallError>
+        ensures does { Answers sense (ReadyOn item change) (change_with (with_access item) change) self.old result self.new }
         ensures same { OnOk result (waiting self.new ≡ waiting self.old) };
 
     /// A file is accessed now.
