@@ -23,7 +23,6 @@ pub mod RowsLeft
 pub mod SetTests
 pub mod SoundRows
 pub mod SoundTests
-pub mod Spares
 pub mod Told
 pub mod TreeSteps
 pub mod WholeSound

@@ -20,7 +20,6 @@ mod records;
 mod sets;
 mod sound;
 mod sound_rows;
-mod spare_lists;
 mod trees;
 
 pub use contents::Contents;

@@ -8,8 +8,9 @@ ghost use Rattle.cf_volume_image.specs.Contents.{record_at};
 ghost use Rattle.cf_volume_image.specs.RecordLists.{AreKept, IsPlaceOf, IsRecordAt, IsRecordGap, IsShort, comes_after, records_len, stands_before};
 ghost use Rattle.cf_volume_image.specs.Spelled.{AreRecordsFrom};
 
-use crate::spare_lists::SpareList;
-use cf_base::{AuxRecord, OutOfMemory};
+use cf_base::{AuxRecord, Blob, OutOfMemory};
+use cf_collections::SpareList;
+use std::alloc::Global;
 
 /// Whether a key comes before another.
 pub(crate) fn is_before(key: &[u8], other: &[u8]) -> bool
@@ -102,7 +103,7 @@ pub(crate) fn find_after<'a>(records: &'a [AuxRecord], key: &[u8]) -> Option<&'a
     }
 }
 
-fn replace_at(records: &mut SpareList, place: usize, aux: AuxRecord, len: u128) -> u128
+fn replace_at(records: &mut SpareList<AuxRecord>, place: usize, aux: AuxRecord, len: u128) -> u128
     requires place { IsRecordAt aux.key records.old place }
     requires kept { AreKept records.old len }
     requires short { IsShort aux }
@@ -115,7 +116,7 @@ fn replace_at(records: &mut SpareList, place: usize, aux: AuxRecord, len: u128) 
 }
 
 fn insert_at(
-    records: &mut SpareList,
+    records: &mut SpareList<AuxRecord>,
     place: usize,
     aux: AuxRecord,
     len: u128,
@@ -132,20 +133,29 @@ fn insert_at(
     Ok(len + more)
 }
 
-fn remove_at(records: &mut SpareList, place: usize, len: u128) -> u128
+// What the place of a record holds that went. It takes no memory.
+fn nothing(alloc: Global) -> AuxRecord {
+    AuxRecord {
+        key: Blob::from_vec(Vec::new(alloc)),
+        value: Blob::from_vec(Vec::new(alloc)),
+    }
+}
+
+fn remove_at(records: &mut SpareList<AuxRecord>, place: usize, len: u128) -> u128
     requires place { place < length records.old }
     requires kept { AreKept records.old len }
     ensures kept { AreKept records.new result }
     ensures removes { records.new ≡ remove records.old place }
 {
-    let aux = records.remove(place);
+    let filler = nothing(records.allocator());
+    let aux = records.remove(place, Some(filler));
     len - len_of(&aux)
 }
 
 /// Puts the record in place of the one with its key, or adds it. `len` is how many bytes spell the records, and what is
 /// given is how many do then. Without memory nothing changes.
 pub(crate) fn put_record(
-    records: &mut SpareList,
+    records: &mut SpareList<AuxRecord>,
     aux: AuxRecord,
     len: u128,
 ) -> Result<u128, OutOfMemory>
@@ -162,7 +172,7 @@ pub(crate) fn put_record(
 }
 
 /// Takes the record with the key out, if there is one. Gives how many bytes spell the records then.
-pub(crate) fn remove_record(records: &mut SpareList, key: &[u8], len: u128) -> u128
+pub(crate) fn remove_record(records: &mut SpareList<AuxRecord>, key: &[u8], len: u128) -> u128
     requires { AreKept records.old len }
     ensures kept { AreKept records.new result }
     ensures removes { records.new ≡ without_record key.now records.old }

@@ -7,15 +7,15 @@ ghost use Rattle.cf_volume_image.specs.RecordLists.{IsShort, comes_after, record
 ghost use Rattle.cf_volume_image.specs.Spelled.{AreRecordsFrom};
 
 use crate::record_lists::{find_after, find_record, len_of_all, put_record, remove_record};
-use crate::spare_lists::SpareList;
 use cf_base::{AuxRecord, OutOfMemory};
+use cf_collections::SpareList;
 use std::alloc::Global;
 use std::marker::Model;
 
 /// The auxiliary records of a volume, each under a key of its own. Contracts see them in order of key.
 #[derive(Drop)]
 pub struct AuxRecords {
-    records: SpareList,
+    records: SpareList<AuxRecord>,
     len: u128,
 }
 

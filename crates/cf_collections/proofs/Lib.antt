@@ -1,0 +1,4 @@
+pub mod ChunkEdits
+pub mod ChunkFronts
+pub mod Spares
+pub mod Splits

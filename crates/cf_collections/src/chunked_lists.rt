@@ -1,0 +1,164 @@
+//! Lists in chunks.
+
+ghost use Rattle.std.specs.Prelude.{◌≡◌, ◌≤◌, ◌<◌, ◌++◌, ◌∷◌, [], List, length, OnErr, OnOk, get_or};
+ghost use Rattle.cf_collections.specs.Split.{AreFilled, behind, flat, front, IsSplit, rest};
+
+use crate::chunks::Chunk;
+use crate::items::Items;
+use crate::probes::Probe;
+use crate::searches::{count_before, count_chunks_before};
+use cf_base::OutOfMemory;
+use std::alloc::Global;
+use std::marker::Model;
+
+/// A list that is kept as chunks of at most 256 items, so that a change in the middle moves the items of one chunk alone.
+/// Contracts see the items in order. It keeps its allocator.
+#[derive(Drop)]
+pub struct ChunkedList<T> {
+    chunks: Vec<Chunk<T>>,
+    alloc: Global,
+}
+
+impl<T> Model for ChunkedList<T> {
+    ghost use Rattle.std.specs.Prelude.{List};
+    ghost use Rattle.cf_collections.specs.Split.{AreFilled, flat};
+
+    ghost Value = { List T };
+
+    ghost view = { λ l. flat l.chunks.items };
+
+    ghost invariant = { λ l. AreFilled l.chunks.items };
+}
+
+impl<T> ChunkedList<T> {
+    /// The empty list. Takes no memory yet.
+    pub fn new(alloc: Global) -> ChunkedList<T>
+        ensures { result ≡ [] }
+    {
+        ChunkedList {
+            chunks: Vec::new(alloc),
+            alloc,
+        }
+    }
+
+    /// The items from the place on. Looks by halves, and takes no memory.
+    pub fn from<P: Probe<T>>(&self, probe: &P) -> Items<'_, T>
+        requires { IsSplit (P.is_behind probe.now) self.now }
+        ensures { result ≡ behind (P.is_behind probe.now) self.now }
+    {
+        items_from(&self.chunks, probe)
+    }
+}
+
+impl<T: Drop> ChunkedList<T> {
+    /// Takes the first item out that does not come before the place, if there is one. Takes no memory.
+    pub fn remove<P: Probe<T>>(&mut self, probe: &P)
+        requires { IsSplit (P.is_behind probe.now) self.old }
+        ensures { self.new ≡ front (P.is_behind probe.now) self.old ++ rest (behind (P.is_behind probe.now) self.old) }
+    {
+        remove_item(&mut self.chunks, probe);
+    }
+}
+
+impl<T: Drop + Probe<T>> ChunkedList<T> {
+    /// Puts an item in at its place. Looks by halves. Without memory nothing changes.
+    pub fn insert(&mut self, item: T) -> Result<(), OutOfMemory>
+        requires { IsSplit (T.is_behind item) self.old }
+        ensures ok { OnOk result (self.new ≡ front (T.is_behind item) self.old ++ item ∷ behind (T.is_behind item) self.old) }
+        ensures err { OnErr result (self.new ≡ self.old) }
+    {
+        make_room(&mut self.chunks, &item)?;
+        insert_item(self.alloc, &mut self.chunks, item)
+    }
+}
+
+fn items_from<'a, T, P: Probe<T>>(chunks: &'a [Chunk<T>], probe: &P) -> Items<'a, T>
+    requires filled { AreFilled chunks.now }
+    requires split { IsSplit (P.is_behind probe.now) (flat chunks.now) }
+    ensures { result ≡ behind (P.is_behind probe.now) (flat chunks.now) }
+{
+    let place = count_chunks_before(chunks, probe);
+    if place == chunks.len() {
+        return Items::of(&[], &[]);
+    }
+    let part = chunks[place].as_slice();
+    Items::of(&part[count_before(part, probe)..], &chunks[place + 1..])
+}
+
+// Halves a chunk.
+fn halve_chunk<T: Drop>(chunks: &mut Vec<Chunk<T>>, place: usize) -> Result<(), OutOfMemory>
+    requires filled { AreFilled chunks.old.items }
+    requires place { place < length chunks.old.items }
+    requires many { (d : List T) → 2 ≤ length (get_or chunks.old.items place d) }
+    ensures same { flat chunks.new.items ≡ flat chunks.old.items }
+    ensures filled { AreFilled chunks.new.items }
+{
+    chunks.reserve(1)?;
+    let half = chunks[place].halve()?;
+    chunks.insert(place + 1, half).unwrap();
+    Ok(())
+}
+
+// Halves the chunk that the place is in, if it is full.
+fn make_room<T: Drop, P: Probe<T>>(chunks: &mut Vec<Chunk<T>>, probe: &P) -> Result<(), OutOfMemory>
+    requires filled { AreFilled chunks.old.items }
+    requires split { IsSplit (P.is_behind probe.now) (flat chunks.old.items) }
+    ensures same { flat chunks.new.items ≡ flat chunks.old.items }
+    ensures filled { AreFilled chunks.new.items }
+{
+    let place = count_chunks_before(chunks, probe);
+    if place < chunks.len() && chunks[place].is_full() {
+        return halve_chunk(chunks, place);
+    }
+    Ok(())
+}
+
+// Adds an item at the end: to the last chunk, or where that is full as a chunk of its own.
+fn push_item<T: Drop>(alloc: Global, chunks: &mut Vec<Chunk<T>>, item: T) -> Result<(), OutOfMemory>
+    requires { AreFilled chunks.old.items }
+    ensures ok { OnOk result (flat chunks.new.items ≡ flat chunks.old.items ++ item ∷ []) }
+    ensures filled { AreFilled chunks.new.items }
+    ensures err { OnErr result (flat chunks.new.items ≡ flat chunks.old.items) }
+{
+    let len = chunks.len();
+    if len > 0 && !chunks[len - 1].is_full() {
+        return chunks[len - 1].push(item);
+    }
+    chunks.push(Chunk::of(alloc, item)?)?;
+    Ok(())
+}
+
+fn insert_item<T: Drop + Probe<T>>(
+    alloc: Global,
+    chunks: &mut Vec<Chunk<T>>,
+    item: T,
+) -> Result<(), OutOfMemory>
+    requires filled { AreFilled chunks.old.items }
+    requires split { IsSplit (T.is_behind item) (flat chunks.old.items) }
+    ensures ok { OnOk result (flat chunks.new.items ≡ front (T.is_behind item) (flat chunks.old.items) ++ item ∷ behind (T.is_behind item) (flat chunks.old.items)) }
+    ensures filled { AreFilled chunks.new.items }
+    ensures err { OnErr result (flat chunks.new.items ≡ flat chunks.old.items) }
+{
+    let place = count_chunks_before(chunks, &item);
+    if place == chunks.len() {
+        return push_item(alloc, chunks, item);
+    }
+    chunks[place].insert(item)
+}
+
+fn remove_item<T: Drop, P: Probe<T>>(chunks: &mut Vec<Chunk<T>>, probe: &P)
+    requires filled { AreFilled chunks.old.items }
+    requires split { IsSplit (P.is_behind probe.now) (flat chunks.old.items) }
+    ensures removes { flat chunks.new.items ≡ front (P.is_behind probe.now) (flat chunks.old.items) ++ rest (behind (P.is_behind probe.now) (flat chunks.old.items)) }
+    ensures filled { AreFilled chunks.new.items }
+{
+    let place = count_chunks_before(chunks, probe);
+    if place == chunks.len() {
+        return;
+    }
+    if chunks[place].as_slice().len() == 1 {
+        let _ = chunks.remove(place);
+        return;
+    }
+    let _ = chunks[place].remove(probe);
+}

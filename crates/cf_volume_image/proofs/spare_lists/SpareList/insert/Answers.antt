@@ -1,8 +1,0 @@
-use Rattle.std.proofs.Common.{◌∙◌, List, ap, drop}
-use Rattle.cf_base.specs.declared.answers.AuxRecord.{AuxRecord}
-use Rattle.cf_volume_image.proofs.Spares.{drop_insert}
-use Rattle.cf_volume_image.proofs.spare_lists.SpareList.insert.Goals as goal
-
-pub returns-clause-ok : goal.returns-clause-ok
-returns-clause-ok c = rw (← c.self.view_is) (
-    ap (λ (l : List AuxRecord). drop c.self.inside.spare l) c.in_ok-insert.ensures.items ∙ drop_insert c.self.inside.places.items c.self.inside.spare c.args.place c.args.aux c.self.invariant)

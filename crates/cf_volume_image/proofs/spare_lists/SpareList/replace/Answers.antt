@@ -1,9 +1,0 @@
-use Rattle.std.proofs.Common.{◌+◌, ◌∙◌, ap, drop, set}
-use Rattle.std.proofs.lemmas.List.{drop-set-add}
-use Rattle.cf_base.specs.declared.answers.AuxRecord.{AuxRecord}
-use Rattle.cf_volume_image.proofs.spare_lists.SpareList.replace.Goals as goal
-
-pub returns-clause-items : goal.returns-clause-items
-returns-clause-items c = rw (← c.self.view_is) (
-    ap (λ (a : AuxRecord). drop c.self.inside.spare (set c.self.inside.places.items (c.self.inside.spare + c.args.place) a)) c.replace.ensures.after
-    ∙ drop-set-add c.self.inside.spare c.self.inside.places.items c.args.place c.args.aux)
