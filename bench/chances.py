@@ -1,4 +1,4 @@
-"""Makers of scripts whose events are drawn at random, the same ones for the same seed. Few of them are refused."""
+"""Makers of scripts whose events are drawn at random, the same ones for the same seed. A third of them are refused."""
 import random
 
 BLOCK = 4096
