@@ -16,6 +16,7 @@ ghost use Rattle.cf_model.specs.State.{Filter, with_notes};
 use cf_base::{AuxRecord, CallError, ItemId, Notice, Shown, Usn};
 use cf_filter_steps::Steps;
 use cf_provider::Provider;
+use cf_volume_image::AuxRecords;
 
 /// What the engine acts on: the steps of a filter, and these, on the lines of the running event, on the book that is kept beside
 /// the items, and on the callbacks that wait. Of these only `drain` meets the device. What the others change is durable with the next
@@ -32,6 +33,10 @@ pub trait EngineHost: Steps {
 
     /// The records of the book, by key.
     fn records(&self) -> &[AuxRecord]
+        ensures { Reads Self.sense Any records_of self.now result.now };
+
+    /// The same records, which can be asked by the numbers in them.
+    fn aux_records(&self) -> &AuxRecords
         ensures { Reads Self.sense Any records_of self.now result.now };
 
     /// Puts a record of the book in place of the one with its key, or beside the others where none has it. True where it was put. False

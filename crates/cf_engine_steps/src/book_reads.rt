@@ -9,8 +9,9 @@ use cf_base::{ItemId, OutOfMemory, Rid, SeenPath, Token, Usn, no_such_state};
 use cf_engine_host::EngineHost;
 use cf_engine_queue::{
     Queue, QueueEntry, Tombstone, find_cursor, find_entry, find_seen, find_tombstone, has_uploads,
-    sends_item, sends_new, sends_target,
+    sends_new,
 };
+use cf_volume_image::NumberPlace;
 
 /// The entry that is live under a token: an upload that has no reply yet. It takes steps as the logarithm of the records.
 pub fn live_entry<S: EngineHost>(s: &S, token: Token) -> Result<Option<QueueEntry>, OutOfMemory>
@@ -57,21 +58,21 @@ pub fn has_entries<S: EngineHost>(s: &S) -> bool
     has_uploads(s.records())
 }
 
-/// Whether an upload of this local item is on its way. It takes time by the uploads.
-pub fn has_entry<S: EngineHost>(s: &S, item: ItemId) -> Result<bool, OutOfMemory>
-    ensures { IfOk result (λ x. FilterReads S.sense AnyFilter (has_entry_in item) s.now x) }
+/// Whether an upload of this local item is on its way. It takes steps as the logarithm of the uploads, and no memory.
+pub fn has_entry<S: EngineHost>(s: &S, item: ItemId) -> bool
+    ensures { FilterReads S.sense AnyFilter (has_entry_in item) s.now result }
 {
-    Ok(sends_item(s.records(), item))
+    s.aux_records().has_number(NumberPlace::First, item.0)
 }
 
 /// Whether an upload to this item of the remote is on its way. As `has_entry`.
-pub fn has_target_entry<S: EngineHost>(s: &S, rid: Rid) -> Result<bool, OutOfMemory>
-    ensures { IfOk result (λ x. FilterReads S.sense AnyFilter (has_target_entry_in rid) s.now x) }
+pub fn has_target_entry<S: EngineHost>(s: &S, rid: Rid) -> bool
+    ensures { FilterReads S.sense AnyFilter (has_target_entry_in rid) s.now result }
 {
-    sends_target(s.alloc(), s.records(), rid)
+    s.aux_records().has_number(NumberPlace::Second, rid.0)
 }
 
-/// Whether an item that is new to the remote is on its way there. As `has_entry`.
+/// Whether an item that is new to the remote is on its way there. It takes time by the uploads.
 pub fn has_new_entry<S: EngineHost>(s: &S) -> Result<bool, OutOfMemory>
     ensures { IfOk result (λ x. FilterReads S.sense AnyFilter has_new_entry_in s.now x) }
 {

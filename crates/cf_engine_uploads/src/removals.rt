@@ -46,7 +46,7 @@ fn is_left_out<S: EngineHost, R: Remote>(
 {
     let found = tombstone(s, one.number)?;
     let there = is_of(&found, one.rid);
-    let sent = has_target_entry(s, one.rid)?;
+    let sent = has_target_entry(s, one.rid);
     let held = e.volatile().holds_tombstone(one.number);
     Ok(any_of(there, sent, held))
 }

@@ -48,7 +48,7 @@ fn is_left_out<S: EngineHost, R: Remote>(
 ) -> Result<bool, OutOfMemory>
     ensures { IfOk result (IsLeftOut (whole S.sense R.told) row.now (s.now, e.now)) }
 {
-    let sent = has_entry(s, row.id)?;
+    let sent = has_entry(s, row.id);
     let parent = parent_target(s, row)?;
     let held = e.volatile().holds_item(row.id);
     let excluded = is_excluded(s.rows(), row.id);

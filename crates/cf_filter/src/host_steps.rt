@@ -22,6 +22,7 @@ use cf_base::{AuxRecord, CallError, ItemId, Notice, OutOfMemory, Shown, Usn, no_
 use cf_disk::Disk;
 use cf_filter_machine::Machine;
 use cf_table::Row;
+use cf_volume_image::AuxRecords;
 
 /// The most bytes of a record's key.
 const MOST_KEY: usize = 255;
@@ -41,6 +42,13 @@ pub(crate) fn records<D: Disk>(filter: &Filter<D>) -> &[AuxRecord]
     ensures { Reads (sense D.state) Any records_of filter.now result.now }
 {
     filter.volume().records()
+}
+
+/// The same records, which can be asked by the numbers in them.
+pub(crate) fn aux_records<D: Disk>(filter: &Filter<D>) -> &AuxRecords
+    ensures { Reads (sense D.state) Any records_of filter.now result.now }
+{
+    filter.volume().aux_records()
 }
 
 /// Adds a line at the end of the running event's notes.

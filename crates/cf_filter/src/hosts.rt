@@ -6,6 +6,7 @@ use cf_base::{AuxRecord, CallError, ItemId, Notice, Shown, Usn};
 use cf_disk::Disk;
 use cf_engine_host::EngineHost;
 use cf_provider::Provider;
+use cf_volume_image::AuxRecords;
 
 impl<D: Disk> EngineHost for Filter<D> {
     ghost use Rattle.cf_filter_machine.specs.Sensing.{keepable as keeps_book};
@@ -20,6 +21,10 @@ impl<D: Disk> EngineHost for Filter<D> {
 
     fn records(&self) -> &[AuxRecord] {
         host_steps::records(self)
+    }
+
+    fn aux_records(&self) -> &AuxRecords {
+        host_steps::aux_records(self)
     }
 
     fn put_record(&mut self, record: &AuxRecord) -> Result<bool, CallError> {

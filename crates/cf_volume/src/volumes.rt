@@ -11,6 +11,7 @@ use crate::parts::Parts;
 use cf_base::{AuxRecord, ItemId};
 use cf_disk::Disk;
 use cf_table::{Row, Rows};
+use cf_volume_image::AuxRecords;
 use std::marker::Model;
 
 /// A volume on a disk: items and a book, of which a crash leaves the last point. Contracts see the disk, and what is known
@@ -91,6 +92,13 @@ impl<D: Disk> Volume<D> {
         ensures { result.now ≡ self.now.known.records }
     {
         self.parts.contents.records.as_slice()
+    }
+
+    /// The same records, which can be asked by the numbers in them.
+    pub fn aux_records(&self) -> &AuxRecords
+        ensures { result.now ≡ self.now.known.records }
+    {
+        &self.parts.contents.records
     }
 
     /// How many changes were accepted.

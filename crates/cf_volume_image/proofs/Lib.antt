@@ -3,6 +3,7 @@ pub mod BlockTests
 pub mod CauseLaws
 pub mod Choices
 pub mod ClusterTests
+pub mod CountsKept
 pub mod EachRow
 pub mod Formats
 pub mod Kept

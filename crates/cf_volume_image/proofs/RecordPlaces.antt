@@ -45,7 +45,7 @@ none_after key before (r ∷ rs) h k =
     let b : comes_before key r.key ≡ true = goes_on_before key before r.key h k.0.0.1 in
     rw (after_not_same key r.key b) (none_after key r.key rs b k.1)
 
-all_stay : (key : List ℕ) (rs : List AuxRecord) → AreRecordsFrom (Some key) rs → without_record key rs ≡ rs
+pub all_stay : (key : List ℕ) (rs : List AuxRecord) → AreRecordsFrom (Some key) rs → without_record key rs ≡ rs
 all_stay key [] h = refl
 all_stay key (r ∷ rs) h = rw (after_not_same key r.key h.0.0.1) (ap (λ v. r ∷ v) (all_stay key rs (weaker (Some key) r.key rs h.0.0.1 h.1)))
 

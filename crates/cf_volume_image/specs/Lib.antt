@@ -3,6 +3,7 @@ pub mod ClusterLists
 pub mod Contents
 pub mod Enough
 pub mod Faults
+pub mod Numbers
 pub mod RecordLists
 pub mod RowTests
 pub mod Sets

@@ -127,7 +127,7 @@ pub(crate) fn read_records(alloc: Global, r: &mut Reader) -> Result<AuxRecords, 
 {
     let count = read_4(r)?;
     let records = records_in(alloc, r, count)?;
-    Ok(AuxRecords::from_vec(alloc, records))
+    Ok(AuxRecords::from_vec(alloc, records)?)
 }
 
 fn keys_in(alloc: Global, r: &mut Reader, count: u32) -> Result<Vec<Blob>, RowError>

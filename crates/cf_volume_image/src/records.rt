@@ -2,33 +2,41 @@
 
 ghost use Rattle.std.specs.Prelude.{◌≡◌, ◌<◌, ◌^◌, [], List, None, MatchOption, OnOk, OnErr, IfOk, find, length, min, option_copied, true};
 ghost use Rattle.cf_model.specs.Formats.{with_record, without_record};
+ghost use Rattle.std.specs.List.{list_any};
 ghost use Rattle.cf_volume_image.specs.Contents.{record_at};
+ghost use Rattle.cf_volume_image.specs.Numbers.{has_number};
 ghost use Rattle.cf_volume_image.specs.RecordLists.{IsShort, comes_after, records_len};
 ghost use Rattle.cf_volume_image.specs.Spelled.{AreRecordsFrom};
 
-use crate::record_lists::{find_after, find_record, len_of_all, put_record, remove_record};
+use crate::number_places::NumberPlace;
+use crate::numbered_lists::{numbers_of_all, put_numbered, remove_numbered};
+use crate::record_lists::{find_after, find_record, len_of_all};
+use crate::record_numbers::RecordNumbers;
 use cf_base::{AuxRecord, OutOfMemory};
 use cf_collections::SpareList;
 use std::alloc::Global;
 use std::marker::Model;
 
-/// The auxiliary records of a volume, each under a key of its own. Contracts see them in order of key.
+/// The auxiliary records of a volume, each under a key of its own. Contracts see them in order of key. Records of one kind can be asked
+/// for by two numbers that stand at fixed places of their values.
 #[derive(Drop)]
 pub struct AuxRecords {
     records: SpareList<AuxRecord>,
+    numbers: RecordNumbers,
     len: u128,
 }
 
 impl Model for AuxRecords {
     ghost use Rattle.std.specs.Prelude.{List};
     ghost use Rattle.cf_base.specs.declared.answers.AuxRecord.{AuxRecord};
+    ghost use Rattle.cf_volume_image.specs.Numbers.{AreCounted};
     ghost use Rattle.cf_volume_image.specs.RecordLists.{AreKept};
 
     ghost Value = { List AuxRecord };
 
     ghost view = { λ r. r.records };
 
-    ghost invariant = { λ r. AreKept r.records r.len };
+    ghost invariant = { λ r. AreKept r.records r.len × AreCounted r.records r.numbers };
 }
 
 impl AuxRecords {
@@ -38,20 +46,32 @@ impl AuxRecords {
     {
         AuxRecords {
             records: SpareList::new(alloc),
+            numbers: RecordNumbers::new(alloc),
             len: 0,
         }
     }
 
     /// The records of a list whose keys rise.
-    pub(crate) fn from_vec(alloc: Global, records: Vec<AuxRecord>) -> AuxRecords
+    pub(crate) fn from_vec(
+        alloc: Global,
+        records: Vec<AuxRecord>,
+    ) -> Result<AuxRecords, OutOfMemory>
         requires { AreRecordsFrom None records.items }
-        ensures { result ≡ records.items }
+        ensures { IfOk result (λ x. x ≡ records.items) }
     {
+        let numbers = match numbers_of_all(alloc, &records) {
+            Ok(numbers) => numbers,
+            Err(memory) => {
+                drop(records);
+                return Err(memory);
+            }
+        };
         let len = len_of_all(&records);
-        AuxRecords {
+        Ok(AuxRecords {
             records: SpareList::from_vec(alloc, records),
+            numbers,
             len,
-        }
+        })
     }
 
     /// The record with the key. By a binary search.
@@ -83,6 +103,15 @@ impl AuxRecords {
         self.records.as_slice()
     }
 
+    /// Whether a record of an upload has the number at the place of its value. Records of other kinds are not looked at. It takes time
+    /// as the logarithm of the uploads.
+    pub fn has_number(&self, place: NumberPlace, number: u64) -> bool
+        ensures has { result ≡ list_any (has_number place number) self.now }
+        ensures fits { number < 2 ^ 64 }
+    {
+        self.numbers.has(place, number)
+    }
+
     /// How many bytes spell the records, after the four of their count; the greatest u64 where that is less. It is kept
     /// and not computed.
     pub fn image_len(&self) -> u64
@@ -98,7 +127,7 @@ impl AuxRecords {
         ensures ok { OnOk result (self.new ≡ with_record aux self.old) }
         ensures err { OnErr result (self.new ≡ self.old) }
     {
-        self.len = put_record(&mut self.records, aux, self.len)?;
+        self.len = put_numbered(&mut self.records, &mut self.numbers, aux, self.len)?;
         Ok(())
     }
 
@@ -106,6 +135,6 @@ impl AuxRecords {
     pub fn remove(&mut self, key: &[u8])
         ensures { self.new ≡ without_record key.now self.old }
     {
-        self.len = remove_record(&mut self.records, key, self.len);
+        self.len = remove_numbered(&mut self.records, &mut self.numbers, key, self.len);
     }
 }
