@@ -7,6 +7,7 @@ ghost use Rattle.cf_collections.specs.contracts.spare_lists.SpareList.{the_row};
 use cf_base::OutOfMemory;
 use std::alloc::Global;
 use std::marker::Model;
+use std::ops::Index;
 
 /// A list. An item that goes near the front leaves its place there, and one that comes there takes such a place, so that only the
 /// items before it move. No more places are spare than there are items. Contracts see the items. It keeps its allocator.
@@ -71,7 +72,7 @@ impl<T> SpareList<T> {
         requires { place < length self.old }
         ensures* lends { sem 𝓛 (Lends (the_row T.row) T.row self.entry result (λ x. set self.old place x)) }
         ensures value { result.now ≡ get_or self.old place result.now }
-        ensures few { length self.old < 2 ^ 64 }
+        ensures few { length self.old < 2 ^ 63 }
     {
         &mut self.places[self.spare + place]
     }
@@ -81,9 +82,21 @@ impl<T> SpareList<T> {
         requires { place < length self.old }
         ensures value { result ≡ get_or self.old place result }
         ensures items { self.new ≡ set self.old place item }
-        ensures few { length self.old < 2 ^ 64 }
+        ensures few { length self.old < 2 ^ 63 }
     {
         std::mem::replace(&mut self.places[self.spare + place], item)
+    }
+}
+
+impl<T> Index<usize> for SpareList<T> {
+    type Output = T;
+
+    ghost can_index = { λ l i. i < length l };
+
+    ghost index_gives = { λ l i x. x ≡ get_or l i x };
+
+    fn index(&self, index: usize) -> &T {
+        &self.places[self.spare + index]
     }
 }
 
@@ -91,7 +104,7 @@ impl<T: Drop> SpareList<T> {
     /// Adds an item at the end. Without memory nothing changes.
     pub fn push(&mut self, item: T) -> Result<(), OutOfMemory>
         ensures ok { OnOk result (self.new ≡ self.old ++ item ∷ []) }
-        ensures few { length self.old < 2 ^ 64 }
+        ensures few { length self.old < 2 ^ 63 }
         ensures err { OnErr result (self.new ≡ self.old) }
     {
         self.places.push(item)?;
@@ -102,7 +115,7 @@ impl<T: Drop> SpareList<T> {
     pub fn insert(&mut self, place: usize, item: T) -> Result<(), OutOfMemory>
         requires { place ≤ length self.old }
         ensures ok { OnOk result (self.new ≡ insert self.old place item) }
-        ensures few { length self.old < 2 ^ 64 }
+        ensures few { length self.old < 2 ^ 63 }
         ensures err { OnErr result (self.new ≡ self.old) }
     {
         if self.spare > 0 && place <= self.len() - place {

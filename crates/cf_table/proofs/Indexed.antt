@@ -91,7 +91,7 @@ insert_is_put key (e ∷ es) (suc n) p =
 
 -- what comes before another, or after it, is not it
 
-other : (o : Ordering) → is_lt o ≡ true → is_eq o ≡ false
+pub other : (o : Ordering) → is_lt o ≡ true → is_eq o ≡ false
 other Less h = refl
 other Equal h = let z : false ≡ true = h in cc
 other Greater h = refl
@@ -101,19 +101,19 @@ other_back a Less e h = ap is_eq e
 other_back a Equal e h = let z : false ≡ true = h in cc
 other_back a Greater e h = let z : false ≡ true = h in cc
 
-untouched : (key : Entry) (es : List Entry) → AllAfter stands_before key es → without_entry key es ≡ es
+pub untouched : (key : Entry) (es : List Entry) → AllAfter stands_before key es → without_entry key es ≡ es
 untouched key [] h = refl
 untouched key (e ∷ es) h =
     cond-true (not (is_eq (compared e key))) _ _ (ap not (other_back (compared e key) (compared key e) (compared_total.antisymm e key) h.0)) ∙ ap (λ l. e ∷ l) (untouched key es h.1)
 
 -- an entry that goes
 
-equal_is : (o : Ordering) → is_eq o ≡ true → o ≡ Equal
+pub equal_is : (o : Ordering) → is_eq o ≡ true → o ≡ Equal
 equal_is Less h = let z : false ≡ true = h in cc
 equal_is Equal h = refl
 equal_is Greater h = let z : false ≡ true = h in cc
 
-all_after_equal : (e key : Entry) (es : List Entry) → compared e key ≡ Equal → AllAfter stands_before e es → AllAfter stands_before key es
+pub all_after_equal : (e key : Entry) (es : List Entry) → compared e key ≡ Equal → AllAfter stands_before e es → AllAfter stands_before key es
 all_after_equal e key [] h a = tt
 all_after_equal e key (f ∷ fs) h a = (ap is_lt (sym (compared_total.congr e key f h)) ∙ a.0, all_after_equal e key fs h a.1)
 
@@ -125,7 +125,7 @@ entry_removed key (e ∷ es) (suc n) d o p lt h =
     ap (λ l. e ∷ l) (entry_removed key es n d o.1 (place_tail key e es n p) (omega arith) h)
     ∙ sym (cond-true (not (is_eq (compared e key))) _ _ (ap not (other (compared e key) (p.before 0 e (omega arith)))))
 
-not_equal : (o : Ordering) → is_eq o ≡ false → o ≡ Equal → ⊥
+pub not_equal : (o : Ordering) → is_eq o ≡ false → o ≡ Equal → ⊥
 not_equal o h e = let z : true ≡ false = sym (ap is_eq e) ∙ h in cc
 
 pub none_removed : (key : Entry) (es : List Entry) (n : ℕ) (d : Entry) → InOrder stands_before es → IsPlaceOf key es n → (n < length es → is_eq (compared (get_or es n d) key) ≡ false) → without_entry key es ≡ es

@@ -4,11 +4,14 @@ pub mod ByteMeans
 pub mod ChildrenOf
 pub mod Counts
 pub mod EachOf
+pub mod EntryPlaces
+pub mod EntrySets
 pub mod Fields
 pub mod Finds
 pub mod Formats
 pub mod HeldBlocks
 pub mod Indexed
+pub mod IndexedAdds
 pub mod Lengths
 pub mod MarkMeans
 pub mod Meaning

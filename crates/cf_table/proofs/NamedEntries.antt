@@ -39,10 +39,10 @@ same_itself (x ∷ xs) = both (eqb x x) (same xs xs) (eq-eqb x x refl) (same_its
   both : (a b : Bool) → a ≡ true → b ≡ true → (a && b) ≡ true
   both a b h k = ap (λ v. v && b) h ∙ k
 
-equal_names : (xs ys : List ℕ) → slice_cmp nat_cmp xs ys ≡ Equal → xs ≡ ys
+pub equal_names : (xs ys : List ℕ) → slice_cmp nat_cmp xs ys ≡ Equal → xs ≡ ys
 equal_names xs ys h = same_is xs ys (sym (same_bytes xs ys) ∙ sym (is_eq-slice_cmp xs ys) ∙ ap is_eq h)
 
-equal_numbers : (m n : ℕ) → nat_cmp m n ≡ Equal → m ≡ n
+pub equal_numbers : (m n : ℕ) → nat_cmp m n ≡ Equal → m ≡ n
 equal_numbers m n h = by (ltb m n) (eqb m n) refl h where
   by : (a b : Bool) → eqb m n ≡ b → cond a Less (cond b Equal Greater) ≡ Equal → m ≡ n
   by true b e k = let z : Less ≡ Equal = k in cc
@@ -78,7 +78,7 @@ contrary : (b : Bool) → b ≡ true → b ≡ false → ⊥
 contrary b h k = let z : true ≡ false = sym h ∙ k in cc
 
 -- before the first place of a name there is no entry of it
-not_named_before : (parent : ItemId) (name : List ℕ) (zero_id : ItemId) (e : Entry) → zero_id.0 ≡ 0 → stands_before e (entry_at parent name zero_id) ≡ true → is_entry_of parent name e ≡ false
+pub not_named_before : (parent : ItemId) (name : List ℕ) (zero_id : ItemId) (e : Entry) → zero_id.0 ≡ 0 → stands_before e (entry_at parent name zero_id) ≡ true → is_entry_of parent name e ≡ false
 not_named_before parent name zero_id e z h = not_so (is_entry_of parent name e) (λ named.
     contrary (stands_before e (entry_at parent name zero_id)) h
     (by_id e (entry_at parent name zero_id) (number_is e.parent.0 parent.0 (first_of_both (eqb e.parent.0 parent.0) (same e.name name) named))
@@ -105,7 +105,7 @@ not_named_after parent name zero_id e w h k l = not_so (is_entry_of parent name 
       both : (a b : Bool) → a ≡ true → b ≡ true → (a && b) ≡ true
       both a b h k = ap (λ v. v && b) h ∙ k
 
-none_named_after : (parent : ItemId) (name : List ℕ) (zero_id : ItemId) (e : Entry) (es : List Entry) → stands_before e (entry_at parent name zero_id) ≡ false → is_entry_of parent name e ≡ false → AllAfter stands_before e es → find (is_entry_of parent name) es ≡ None
+pub none_named_after : (parent : ItemId) (name : List ℕ) (zero_id : ItemId) (e : Entry) (es : List Entry) → stands_before e (entry_at parent name zero_id) ≡ false → is_entry_of parent name e ≡ false → AllAfter stands_before e es → find (is_entry_of parent name) es ≡ None
 none_named_after parent name zero_id e [] h k a = refl
 none_named_after parent name zero_id e (w ∷ ws) h k a =
     cond-false (is_entry_of parent name w) _ _ (not_named_after parent name zero_id e w h k a.0) ∙ none_named_after parent name zero_id e ws h k a.1
@@ -142,7 +142,7 @@ no_name_less [] = refl
 no_name_less (x ∷ xs) = refl
 
 -- before the first place of a directory there is no entry of it
-not_in_before : (parent zero_id : ItemId) (e : Entry) → zero_id.0 ≡ 0 → stands_before e (entry_at parent [] zero_id) ≡ true → is_entry_in parent e ≡ false
+pub not_in_before : (parent zero_id : ItemId) (e : Entry) → zero_id.0 ≡ 0 → stands_before e (entry_at parent [] zero_id) ≡ true → is_entry_in parent e ≡ false
 not_in_before parent zero_id e z h = not_so (is_entry_in parent e) (λ here.
     contrary (stands_before e (entry_at parent [] zero_id)) h
     (not_before_first (nat_cmp e.parent.0 parent.0) (slice_cmp nat_cmp e.name []) (nat_cmp e.id.0 zero_id.0)
@@ -150,7 +150,7 @@ not_in_before parent zero_id e z h = not_so (is_entry_in parent e) (λ here.
 
 -- nor after one that is of another directory, and does not come before
 
-higher : (m n : ℕ) (b c : Ordering) → is_lt (ordering_then (nat_cmp m n) (ordering_then b c)) ≡ false → eqb m n ≡ false → n < m
+pub higher : (m n : ℕ) (b c : Ordering) → is_lt (ordering_then (nat_cmp m n) (ordering_then b c)) ≡ false → eqb m n ≡ false → n < m
 higher m n b c h k = elim (cases_lt n m) [ inl lt ↦ lt | inr ge ↦ absurd (by (ltb m n) (eqb m n) refl k h ge) ] where
   by : (l e : Bool) → ltb m n ≡ l → e ≡ false → is_lt (ordering_then (cond l Less (cond e Equal Greater)) (ordering_then b c)) ≡ false → m ≤ n → ⊥
   by true e f g j le = let z : true ≡ false = j in absurd cc
@@ -166,7 +166,7 @@ no_lower m n b c h = by (ltb m n) (eqb m n) refl refl h where
 not_in_after : (parent : ItemId) (e w : Entry) → parent.0 < e.parent.0 → stands_before e w ≡ true → is_entry_in parent w ≡ false
 not_in_after parent e w h k = ne_eqb w.parent.0 parent.0 (λ same. omega (arith, no_lower e.parent.0 w.parent.0 (slice_cmp nat_cmp e.name w.name) (nat_cmp e.id.0 w.id.0) k))
 
-none_in_after : (parent : ItemId) (e : Entry) (es : List Entry) → parent.0 < e.parent.0 → AllAfter stands_before e es → filter (is_entry_in parent) es ≡ []
+pub none_in_after : (parent : ItemId) (e : Entry) (es : List Entry) → parent.0 < e.parent.0 → AllAfter stands_before e es → filter (is_entry_in parent) es ≡ []
 none_in_after parent e [] h a = refl
 none_in_after parent e (w ∷ ws) h a = cond-false (is_entry_in parent w) _ _ (not_in_after parent e w h a.0) ∙ none_in_after parent e ws h a.1
 

@@ -25,6 +25,11 @@ pub record IsPlaceOf (key : Entry) (entries : List Entry) (n : ℕ) : Type 0 whe
   pub before : (k : ℕ) (d : Entry) → k < n → stands_before (get_or entries k d) key ≡ true
   pub from : (k : ℕ) (d : Entry) → n ≤ k → k < length entries → stands_before (get_or entries k d) key ≡ false
 
+-- the first entry is the one that is asked for
+abbrev pub begins_with : Entry → List Entry → Bool
+begins_with key [] = false
+begins_with key (e ∷ es) = is_eq (compared e key)
+
 abbrev pub without_entry : Entry → List Entry → List Entry
 without_entry key entries = filter (λ e. not (is_eq (compared e key))) entries
 

@@ -1,13 +1,15 @@
 //! The index of a table: where its items stand, in order of parent, of name there, and of id.
 
-ghost use Rattle.std.specs.Prelude.{◌≡◌, ◌<◌, IfOk, cond, filter, find, Some, None, true};
-ghost use Rattle.std.specs.Vec.{vec_capacity, vec_len};
+ghost use Rattle.std.specs.Prelude.{◌≡◌, IfOk, OnErr, OnOk, cond, filter, find, Some, None};
+ghost use Rattle.std.specs.Ordering.{is_eq};
+ghost use Rattle.cf_collections.specs.Split.{behind};
 ghost use Rattle.cf_model.specs.Words.{put_in};
 ghost use Rattle.cf_lists.specs.Ordered.{InOrder};
-ghost use Rattle.cf_table.specs.Index.{compared, entry_at, entry_id, entry_ids, entry_of, is_entry_in, is_entry_of, IsPlaceOf, stands_before, without_entry};
+ghost use Rattle.cf_table.specs.Index.{begins_with, compared, entry_at, entry_id, entry_ids, entry_of, is_entry_in, is_entry_of, stands_before, without_entry};
 
 use crate::rows::Row;
 use cf_base::{Blob, ItemId, OutOfMemory};
+use cf_collections::{ChunkedList, Probe};
 use std::alloc::Global;
 use std::cmp::Ordering;
 
@@ -41,53 +43,70 @@ fn order(entry: &Entry, parent: ItemId, name: &[u8], id: ItemId) -> Ordering
     entry.name.as_slice().cmp(name).then(entry.id.0.cmp(&id.0))
 }
 
-// How many entries come before one that stands there. By a binary search.
-fn place_of(entries: &[Entry], parent: ItemId, name: &[u8], id: ItemId) -> usize
+/// Where an entry of this parent, name and id would stand.
+#[derive(Drop)]
+pub(crate) struct Position<'a> {
+    parent: ItemId,
+    name: &'a [u8],
+    id: ItemId,
+}
+
+impl Probe<Entry> for Position<'_> {
+    ghost is_behind = { λ s e. stands_before e (entry_at s.parent s.name.now s.id) };
+
+    fn is_behind(&self, item: &Entry) -> bool {
+        order(item, self.parent, self.name, self.id).is_lt()
+    }
+}
+
+impl Probe<Entry> for Entry {
+    ghost is_behind = { λ s e. stands_before e s };
+
+    fn is_behind(&self, item: &Entry) -> bool {
+        order(item, self.parent, self.name.as_slice(), self.id).is_lt()
+    }
+}
+
+/// Adds an entry. Without memory nothing changes.
+pub(crate) fn add_entry(entries: &mut ChunkedList<Entry>, entry: Entry) -> Result<(), OutOfMemory>
+    requires { InOrder stands_before entries.old }
+    ensures ok { OnOk result (entries.new ≡ put_in stands_before entry entries.old) }
+    ensures err { OnErr result (entries.new ≡ entries.old) }
+{
+    entries.insert(entry)
+}
+
+// Whether an entry stands there.
+fn has_entry_at(entries: &ChunkedList<Entry>, at: &Position<'_>) -> bool
     requires { InOrder stands_before entries.now }
-    ensures { IsPlaceOf (entry_at parent name.now id) entries.now result }
+    ensures { result ≡ begins_with (entry_at at.now.parent at.now.name.now at.now.id) (behind (λ e. stands_before e (entry_at at.now.parent at.now.name.now at.now.id)) entries.now) }
 {
-    entries.partition_point(|entry| order(entry, parent, name, id).is_lt())
-}
-
-/// Adds an entry for which there is room.
-pub(crate) fn add_entry(entries: &mut Vec<Entry>, entry: Entry)
-    requires order { InOrder stands_before entries.old.items }
-    requires room { vec_len entries.old < vec_capacity entries.old }
-    ensures { entries.new.items ≡ put_in stands_before entry entries.old.items }
-{
-    let place = place_of(entries, entry.parent, entry.name.as_slice(), entry.id);
-    entries.insert(place, entry).unwrap();
-}
-
-/// Takes the entry that stands there out, if there is one.
-fn remove_entry(entries: &mut Vec<Entry>, parent: ItemId, name: &[u8], id: ItemId)
-    requires { InOrder stands_before entries.old.items }
-    ensures items { entries.new.items ≡ without_entry (entry_at parent name.now id) entries.old.items }
-    ensures room { vec_len entries.old < vec_capacity entries.old → vec_len entries.new < vec_capacity entries.new }
-{
-    let place = place_of(entries, parent, name, id);
-    if place == entries.len() {
-        return;
-    }
-    if order(&entries[place], parent, name, id).is_eq() {
-        let _ = entries.remove(place);
+    match entries.from(at).next() {
+        Some(entry) => order(entry, at.parent, at.name, at.id).is_eq(),
+        None => false,
     }
 }
 
-/// Takes the entry of a row out, if there is one.
-pub(crate) fn remove_entry_of(entries: &mut Vec<Entry>, row: &Row)
-    requires { InOrder stands_before entries.old.items }
-    ensures items { entries.new.items ≡ without_entry (entry_of row.now) entries.old.items }
-    ensures room { vec_len entries.old < vec_capacity entries.old → vec_len entries.new < vec_capacity entries.new }
+/// Takes the entry of a row out, if there is one. Takes no memory.
+pub(crate) fn remove_entry_of(entries: &mut ChunkedList<Entry>, row: &Row)
+    requires { InOrder stands_before entries.old }
+    ensures { entries.new ≡ without_entry (entry_of row.now) entries.old }
 {
-    remove_entry(entries, row.parent, row.name.as_slice(), row.id);
+    let at = Position {
+        parent: row.parent,
+        name: row.name.as_slice(),
+        id: row.id,
+    };
+    if has_entry_at(entries, &at) {
+        entries.remove(&at);
+    }
 }
 
 /// Whether an entry is that of a row.
 pub(crate) fn has_entry(row: &Row, entry: &Entry) -> bool
-    ensures { result ≡ true → entry_of row.now ≡ entry.now }
+    ensures { result ≡ is_eq (compared entry.now (entry_of row.now)) }
 {
-    row.id == entry.id && row.parent == entry.parent && row.name.as_slice() == entry.name.as_slice()
+    order(entry, row.parent, row.name.as_slice(), row.id).is_eq()
 }
 
 fn is_named(entry: &Entry, parent: ItemId, name: &[u8]) -> bool
@@ -107,30 +126,31 @@ fn id_if_named(entry: &Entry, parent: ItemId, name: &[u8]) -> Option<ItemId>
 }
 
 /// The item with this parent and name; of several the one with the least id.
-pub(crate) fn child_at(entries: &[Entry], parent: ItemId, name: &[u8]) -> Option<ItemId>
+pub(crate) fn child_at(entries: &ChunkedList<Entry>, parent: ItemId, name: &[u8]) -> Option<ItemId>
     requires { InOrder stands_before entries.now }
     ensures { result ≡ entry_id (find (is_entry_of parent name.now) entries.now) }
 {
-    let place = place_of(entries, parent, name, ItemId(0));
-    if place < entries.len() {
-        id_if_named(&entries[place], parent, name)
-    } else {
-        None
+    let id = ItemId(0);
+    match entries.from(&Position { parent, name, id }).next() {
+        Some(entry) => id_if_named(entry, parent, name),
+        None => None,
     }
 }
 
 /// The items with this parent, by name; those of one name by id.
 pub(crate) fn children_at(
     alloc: Global,
-    entries: &[Entry],
+    entries: &ChunkedList<Entry>,
     parent: ItemId,
 ) -> Result<Vec<ItemId>, OutOfMemory>
     requires { InOrder stands_before entries.now }
     ensures { IfOk result (λ v. v.items ≡ entry_ids (filter (is_entry_in parent) entries.now)) }
 {
-    let start = place_of(entries, parent, &[], ItemId(0));
+    let name = &[];
+    let id = ItemId(0);
+    let mut items = entries.from(&Position { parent, name, id });
     let mut ids = Vec::new(alloc);
-    for entry in &entries[start..] {
+    while let Some(entry) = items.next() {
         if entry.parent != parent {
             return Ok(ids);
         }

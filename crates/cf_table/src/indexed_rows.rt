@@ -1,121 +1,168 @@
 //! Lists of rows in order of id, with their index.
 
-ghost use Rattle.std.specs.Prelude.{◌≡◌, ◌≤◌, ◌<◌, ◌++◌, ◌∷◌, [], All, IfOk, OnOk, OnErr, length, get_or, remove};
-ghost use Rattle.std.specs.Vec.{vec_capacity, vec_len};
+ghost use Rattle.std.specs.Prelude.{◌≡◌, ◌≤◌, ◌<◌, ◌^◌, ◌++◌, ◌∷◌, [], All, IfOk, OnOk, OnErr, length, get_or, remove};
 ghost use Rattle.cf_table.specs.Applied.{FitsRow, IsSpellable, Moves, moves, Steps};
-ghost use Rattle.cf_table.specs.Index.{entry_of, IsIndexed};
+ghost use Rattle.cf_lists.specs.Ordered.{InOrder};
+ghost use Rattle.cf_model.specs.Words.{put_in};
+ghost use Rattle.cf_table.specs.Index.{entry_of, index_of, IsIndexed, stands_before, without_entry};
 ghost use Rattle.cf_table.specs.Means.{IsLater};
-ghost use Rattle.cf_table.specs.Tables.{IsRowAt, IsRowGap, SetsAt, with_row};
+ghost use Rattle.cf_table.specs.Tables.{IsRowAt, IsRowGap, IsTable, RisesFrom, SetsAt, with_row};
 ghost use Rattle.cf_table.specs.declared.rows.Row.{Row};
 
 use crate::entries::{Entry, add_entry, has_entry, remove_entry_of};
 use crate::row_lists::{change_at, find_row, insert_at, move_at, push_row, remove_at, replace_at};
 use crate::rows::Row;
 use cf_base::{Blob, Change, ItemId, Name, OutOfMemory, Pin, Usn};
+use cf_collections::{ChunkedList, SpareList};
 use std::alloc::Global;
+
+// Adds the entry of the row at a place, which has none yet. Without memory the row goes again.
+fn add_entry_at(
+    rows: &mut SpareList<Row>,
+    index: &mut ChunkedList<Entry>,
+    place: usize,
+    entry: Entry,
+    len: u128,
+) -> Result<u128, OutOfMemory>
+    requires place { place < length rows.old }
+    requires table { IsTable rows.old len }
+    requires order { InOrder stands_before index.old }
+    ensures rows { OnOk result (rows.new ≡ rows.old) }
+    ensures index { OnOk result (index.new ≡ put_in stands_before entry index.old) }
+    ensures len { IfOk result (λ n. n ≡ len) }
+    ensures gone { OnErr result (rows.new ≡ remove rows.old place) }
+    ensures err { OnErr result (index.new ≡ index.old) }
+{
+    match add_entry(index, entry) {
+        Ok(()) => Ok(len),
+        Err(e) => {
+            remove_at(rows, place, len);
+            Err(e)
+        }
+    }
+}
 
 /// Adds a row at the end. Without memory nothing changes.
 pub(crate) fn push_indexed(
     alloc: Global,
-    rows: &mut Vec<Row>,
-    index: &mut Vec<Entry>,
+    rows: &mut SpareList<Row>,
+    index: &mut ChunkedList<Entry>,
     row: Row,
     len: u128,
 ) -> Result<u128, OutOfMemory>
-    requires indexed { IsIndexed rows.old.items index.old.items len }
-    requires above { All (λ r. r.id.0 < row.id.0) rows.old.items }
+    requires indexed { IsIndexed rows.old index.old len }
+    requires above { All (λ r. r.id.0 < row.id.0) rows.old }
     requires spellable { IsSpellable row }
-    ensures indexed { IfOk result (IsIndexed rows.new.items index.new.items) }
-    ensures adds { OnOk result (rows.new.items ≡ rows.old.items ++ row ∷ []) }
-    ensures err { OnErr result ((rows.new.items ≡ rows.old.items) × (index.new.items ≡ index.old.items)) }
+    ensures indexed { IfOk result (IsIndexed rows.new index.new) }
+    ensures adds { OnOk result (rows.new ≡ rows.old ++ row ∷ []) }
+    ensures err { OnErr result ((rows.new ≡ rows.old) × (index.new ≡ index.old)) }
+    ensures few { OnOk result (length rows.old < 2 ^ 63) }
 {
     let entry = Entry::of(alloc, &row)?;
-    index.reserve(1)?;
+    let place = rows.len();
     let len = push_row(rows, row, len)?;
-    add_entry(index, entry);
-    Ok(len)
+    add_entry_at(rows, index, place, entry, len)
 }
 
 /// Puts a row in place of the one with its id, or between those with ids below and above. Without memory nothing changes.
 pub(crate) fn put_indexed(
     alloc: Global,
-    rows: &mut Vec<Row>,
-    index: &mut Vec<Entry>,
+    rows: &mut SpareList<Row>,
+    index: &mut ChunkedList<Entry>,
     row: Row,
     len: u128,
 ) -> Result<u128, OutOfMemory>
-    requires indexed { IsIndexed rows.old.items index.old.items len }
+    requires indexed { IsIndexed rows.old index.old len }
     requires spellable { IsSpellable row }
-    ensures indexed { IfOk result (IsIndexed rows.new.items index.new.items) }
-    ensures puts { OnOk result (rows.new.items ≡ with_row row rows.old.items) }
-    ensures err { OnErr result ((rows.new.items ≡ rows.old.items) × (index.new.items ≡ index.old.items)) }
+    ensures indexed { IfOk result (IsIndexed rows.new index.new) }
+    ensures puts { OnOk result (rows.new ≡ with_row row rows.old) }
+    ensures err { OnErr result ((rows.new ≡ rows.old) × (index.new ≡ index.old)) }
+    ensures few { OnOk result (length rows.old < 2 ^ 63) }
 {
     let entry = Entry::of(alloc, &row)?;
-    index.reserve(1)?;
-    match find_row(rows, row.id.0) {
-        Ok(place) => Ok(replace_indexed(rows, index, place, row, entry, len)),
+    match find_row(rows.as_slice(), row.id.0) {
+        Ok(place) => replace_indexed(rows, index, place, row, entry, len),
         Err(place) => insert_indexed(rows, index, place, row, entry, len),
     }
 }
 
-fn replace_indexed(
-    rows: &mut Vec<Row>,
-    index: &mut Vec<Entry>,
+// Makes an entry with the id of the row at a place the one of that row. The entry before goes after the other came, so that nothing
+// changes without memory.
+fn set_entry(
+    rows: &SpareList<Row>,
+    index: &mut ChunkedList<Entry>,
     place: usize,
-    row: Row,
     entry: Entry,
-    len: u128,
-) -> u128
-    requires place { IsRowAt rows.old.items row.id.0 place }
-    requires indexed { IsIndexed rows.old.items index.old.items len }
-    requires spellable { IsSpellable row }
-    requires entry { entry ≡ entry_of row }
-    requires room { vec_len index.old < vec_capacity index.old }
-    ensures indexed { IsIndexed rows.new.items index.new.items result }
-    ensures puts { rows.new.items ≡ with_row row rows.old.items }
+) -> Result<(), OutOfMemory>
+    requires place { IsRowAt rows.now entry.id.0 place }
+    requires rises { RisesFrom 0 rows.now }
+    requires index { index.old ≡ index_of rows.now }
+    ensures ok { OnOk result ((d : Row) → index.new ≡ put_in stands_before entry (without_entry (entry_of (get_or rows.now place d)) index.old)) }
+    ensures err { OnErr result (index.new ≡ index.old) }
 {
-    // Most changes leave an item where it stands, and then the index, which is as long as the table, stays as it is.
-    if has_entry(&rows[place], &entry) {
-        return replace_at(rows, place, row, len);
+    let row = &rows[place];
+    // Most changes leave an item where it stands, and then the index stays as it is.
+    if has_entry(row, &entry) {
+        return Ok(());
     }
-    remove_entry_of(index, &rows[place]);
-    add_entry(index, entry);
-    replace_at(rows, place, row, len)
+    add_entry(index, entry)?;
+    remove_entry_of(index, row);
+    Ok(())
 }
 
-fn insert_indexed(
-    rows: &mut Vec<Row>,
-    index: &mut Vec<Entry>,
+fn replace_indexed(
+    rows: &mut SpareList<Row>,
+    index: &mut ChunkedList<Entry>,
     place: usize,
     row: Row,
     entry: Entry,
     len: u128,
 ) -> Result<u128, OutOfMemory>
-    requires place { IsRowGap rows.old.items row.id.0 place }
-    requires indexed { IsIndexed rows.old.items index.old.items len }
+    requires place { IsRowAt rows.old row.id.0 place }
+    requires indexed { IsIndexed rows.old index.old len }
     requires spellable { IsSpellable row }
     requires entry { entry ≡ entry_of row }
-    requires room { vec_len index.old < vec_capacity index.old }
-    ensures indexed { IfOk result (IsIndexed rows.new.items index.new.items) }
-    ensures puts { OnOk result (rows.new.items ≡ with_row row rows.old.items) }
-    ensures err { OnErr result ((rows.new.items ≡ rows.old.items) × (index.new.items ≡ index.old.items)) }
+    ensures indexed { IfOk result (IsIndexed rows.new index.new) }
+    ensures puts { OnOk result (rows.new ≡ with_row row rows.old) }
+    ensures err { OnErr result ((rows.new ≡ rows.old) × (index.new ≡ index.old)) }
+    ensures few { OnOk result (length rows.old < 2 ^ 63) }
+{
+    set_entry(rows, index, place, entry)?;
+    Ok(replace_at(rows, place, row, len))
+}
+
+fn insert_indexed(
+    rows: &mut SpareList<Row>,
+    index: &mut ChunkedList<Entry>,
+    place: usize,
+    row: Row,
+    entry: Entry,
+    len: u128,
+) -> Result<u128, OutOfMemory>
+    requires place { IsRowGap rows.old row.id.0 place }
+    requires indexed { IsIndexed rows.old index.old len }
+    requires spellable { IsSpellable row }
+    requires entry { entry ≡ entry_of row }
+    ensures indexed { IfOk result (IsIndexed rows.new index.new) }
+    ensures puts { OnOk result (rows.new ≡ with_row row rows.old) }
+    ensures err { OnErr result ((rows.new ≡ rows.old) × (index.new ≡ index.old)) }
+    ensures few { OnOk result (length rows.old < 2 ^ 63) }
 {
     let len = insert_at(rows, place, row, len)?;
-    add_entry(index, entry);
-    Ok(len)
+    add_entry_at(rows, index, place, entry, len)
 }
 
 /// Takes the row at a place out.
 pub(crate) fn remove_indexed(
-    rows: &mut Vec<Row>,
-    index: &mut Vec<Entry>,
+    rows: &mut SpareList<Row>,
+    index: &mut ChunkedList<Entry>,
     place: usize,
     len: u128,
 ) -> u128
-    requires place { place < length rows.old.items }
-    requires indexed { IsIndexed rows.old.items index.old.items len }
-    ensures indexed { IsIndexed rows.new.items index.new.items result }
-    ensures removes { rows.new.items ≡ remove rows.old.items place }
+    requires place { place < length rows.old }
+    requires indexed { IsIndexed rows.old index.old len }
+    ensures indexed { IsIndexed rows.new index.new result }
+    ensures removes { rows.new ≡ remove rows.old place }
 {
     remove_entry_of(index, &rows[place]);
     remove_at(rows, place, len)
@@ -124,21 +171,22 @@ pub(crate) fn remove_indexed(
 /// Applies a change of an item that stays to its row, which is at a place. Without memory nothing changes.
 pub(crate) fn change_indexed(
     alloc: Global,
-    rows: &mut Vec<Row>,
-    index: &mut Vec<Entry>,
+    rows: &mut SpareList<Row>,
+    index: &mut ChunkedList<Entry>,
     place: usize,
     len: u128,
     change: &Change,
     pin: Pin,
     number: Usn,
 ) -> Result<u128, OutOfMemory>
-    requires place { place < length rows.old.items }
-    requires indexed { IsIndexed rows.old.items index.old.items len }
-    requires fits { (d : Row) → FitsRow change.now (get_or rows.old.items place d) }
-    requires later { (d : Row) → IsLater number (get_or rows.old.items place d) }
-    ensures indexed { IfOk result (IsIndexed rows.new.items index.new.items) }
-    ensures sets { OnOk result (SetsAt (Steps change.now pin number) place rows.old.items rows.new.items) }
-    ensures err { OnErr result ((rows.new.items ≡ rows.old.items) × (index.new.items ≡ index.old.items)) }
+    requires place { place < length rows.old }
+    requires indexed { IsIndexed rows.old index.old len }
+    requires fits { (d : Row) → FitsRow change.now (get_or rows.old place d) }
+    requires later { (d : Row) → IsLater number (get_or rows.old place d) }
+    ensures indexed { IfOk result (IsIndexed rows.new index.new) }
+    ensures sets { OnOk result (SetsAt (Steps change.now pin number) place rows.old rows.new) }
+    ensures err { OnErr result ((rows.new ≡ rows.old) × (index.new ≡ index.old)) }
+    ensures few { OnOk result (length rows.old < 2 ^ 63) }
 {
     if !moves(change) {
         return change_at(alloc, rows, place, len, change, pin, number);
@@ -155,8 +203,8 @@ pub(crate) fn change_indexed(
 
 fn move_indexed(
     alloc: Global,
-    rows: &mut Vec<Row>,
-    index: &mut Vec<Entry>,
+    rows: &mut SpareList<Row>,
+    index: &mut ChunkedList<Entry>,
     place: usize,
     len: u128,
     parent: ItemId,
@@ -164,13 +212,14 @@ fn move_indexed(
     pin: Pin,
     number: Usn,
 ) -> Result<u128, OutOfMemory>
-    requires place { place < length rows.old.items }
-    requires indexed { IsIndexed rows.old.items index.old.items len }
+    requires place { place < length rows.old }
+    requires indexed { IsIndexed rows.old index.old len }
     requires name { length name.now ≤ 255 }
-    requires later { (d : Row) → IsLater number (get_or rows.old.items place d) }
-    ensures indexed { IfOk result (IsIndexed rows.new.items index.new.items) }
-    ensures sets { OnOk result (SetsAt (Moves parent name.now pin number) place rows.old.items rows.new.items) }
-    ensures err { OnErr result ((rows.new.items ≡ rows.old.items) × (index.new.items ≡ index.old.items)) }
+    requires later { (d : Row) → IsLater number (get_or rows.old place d) }
+    ensures indexed { IfOk result (IsIndexed rows.new index.new) }
+    ensures sets { OnOk result (SetsAt (Moves parent name.now pin number) place rows.old rows.new) }
+    ensures err { OnErr result ((rows.new ≡ rows.old) × (index.new ≡ index.old)) }
+    ensures few { OnOk result (length rows.old < 2 ^ 63) }
 {
     let entry = Entry {
         parent,
@@ -178,9 +227,7 @@ fn move_indexed(
         id: rows[place].id,
     };
     let name = Blob::from_slice(alloc, name.as_slice())?;
-    index.reserve(1)?;
-    remove_entry_of(index, &rows[place]);
-    add_entry(index, entry);
+    set_entry(rows, index, place, entry)?;
     Ok(move_at(rows, place, len, parent, name, pin, number))
 }
 

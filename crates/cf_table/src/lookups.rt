@@ -59,7 +59,7 @@ impl Rows {
     pub fn after(&self, id: Option<ItemId>) -> Option<ItemId>
         ensures { result ≡ id_of (find (comes_after id) self.now.rows) }
     {
-        id_after(&self.rows, id)
+        id_after(self.rows.as_slice(), id)
     }
 
     /// The item with this parent and name. By a binary search. Takes no memory.
@@ -80,7 +80,7 @@ impl Rows {
     pub fn changes_since(&self, number: Usn) -> Result<Vec<ItemId>, OutOfMemory>
         ensures { IfOk result (λ v. v.items ≡ ids_of (filter (λ r. above r.number number) self.now.rows)) }
     {
-        changed_in(self.alloc, &self.rows, number)
+        changed_in(self.alloc, self.rows.as_slice(), number)
     }
 
     /// Whether the entries of a directory are not known. Takes no walk over the rows and no memory.

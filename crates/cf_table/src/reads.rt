@@ -144,7 +144,7 @@ impl Rows {
         ensures value { result.now ≡ self.now.rows }
         ensures rises { RisesFrom 0 self.now.rows }
     {
-        &self.rows
+        self.rows.as_slice()
     }
 
     /// Reads how many rows there are, and the rows, whose ids rise; leaves what stands behind them. Short or BadField at

@@ -11,6 +11,7 @@ ghost use Rattle.cf_table.specs.declared.rows.Row.{Row};
 use crate::ranges::is_in_range;
 use crate::rows::Row;
 use cf_base::{Blob, Change, ItemId, OutOfMemory, Pin, Usn};
+use cf_collections::SpareList;
 use cf_ranges::RangeSet;
 use std::alloc::Global;
 
@@ -76,22 +77,23 @@ pub(crate) fn pin_of(rows: &[Row], id: ItemId) -> Pin
 /// Applies a change to the row at a place. Gives how many bytes spell the rows then, `len` being how many did before.
 pub(crate) fn change_at(
     alloc: Global,
-    rows: &mut Vec<Row>,
+    rows: &mut SpareList<Row>,
     place: usize,
     len: u128,
     change: &Change,
     pin: Pin,
     number: Usn,
 ) -> Result<u128, OutOfMemory>
-    requires place { place < length rows.old.items }
-    requires table { IsTable rows.old.items len }
-    requires fits { (d : Row) → FitsRow change.now (get_or rows.old.items place d) }
-    requires later { (d : Row) → IsLater number (get_or rows.old.items place d) }
-    ensures table { IfOk result (IsTable rows.new.items) }
-    ensures sets { OnOk result (SetsAt (Steps change.now pin number) place rows.old.items rows.new.items) }
-    ensures err { OnErr result (rows.new.items ≡ rows.old.items) }
+    requires place { place < length rows.old }
+    requires table { IsTable rows.old len }
+    requires fits { (d : Row) → FitsRow change.now (get_or rows.old place d) }
+    requires later { (d : Row) → IsLater number (get_or rows.old place d) }
+    ensures table { IfOk result (IsTable rows.new) }
+    ensures sets { OnOk result (SetsAt (Steps change.now pin number) place rows.old rows.new) }
+    ensures err { OnErr result (rows.new ≡ rows.old) }
+    ensures few { length rows.old < 2 ^ 63 }
 {
-    let row = &mut rows[place];
+    let row = rows.item_mut(place);
     let before = row.len() as u128;
     row.apply(alloc, change, pin, number)?;
     Ok(len - before + row.len() as u128)
@@ -99,7 +101,7 @@ pub(crate) fn change_at(
 
 /// Gives the item of the row at a place another parent and name.
 pub(crate) fn move_at(
-    rows: &mut Vec<Row>,
+    rows: &mut SpareList<Row>,
     place: usize,
     len: u128,
     parent: ItemId,
@@ -107,27 +109,29 @@ pub(crate) fn move_at(
     pin: Pin,
     number: Usn,
 ) -> u128
-    requires place { place < length rows.old.items }
-    requires table { IsTable rows.old.items len }
+    requires place { place < length rows.old }
+    requires table { IsTable rows.old len }
     requires name { length name ≤ 255 }
-    requires later { (d : Row) → IsLater number (get_or rows.old.items place d) }
-    ensures table { IsTable rows.new.items result }
-    ensures moves { SetsAt (Moves parent name pin number) place rows.old.items rows.new.items }
+    requires later { (d : Row) → IsLater number (get_or rows.old place d) }
+    ensures table { IsTable rows.new result }
+    ensures moves { SetsAt (Moves parent name pin number) place rows.old rows.new }
+    ensures few { length rows.old < 2 ^ 63 }
 {
-    let row = &mut rows[place];
+    let row = rows.item_mut(place);
     let before = row.len() as u128;
     row.move_to(parent, name, pin, number);
     len - before + row.len() as u128
 }
 
 /// Adds a row at the end.
-pub(crate) fn push_row(rows: &mut Vec<Row>, row: Row, len: u128) -> Result<u128, OutOfMemory>
-    requires table { IsTable rows.old.items len }
-    requires above { All (λ r. r.id.0 < row.id.0) rows.old.items }
+pub(crate) fn push_row(rows: &mut SpareList<Row>, row: Row, len: u128) -> Result<u128, OutOfMemory>
+    requires table { IsTable rows.old len }
+    requires above { All (λ r. r.id.0 < row.id.0) rows.old }
     requires spellable { IsSpellable row }
-    ensures table { IfOk result (IsTable rows.new.items) }
-    ensures adds { OnOk result (rows.new.items ≡ rows.old.items ++ row ∷ []) }
-    ensures err { OnErr result (rows.new.items ≡ rows.old.items) }
+    ensures table { IfOk result (IsTable rows.new) }
+    ensures adds { OnOk result (rows.new ≡ rows.old ++ row ∷ []) }
+    ensures err { OnErr result (rows.new ≡ rows.old) }
+    ensures few { length rows.old < 2 ^ 63 }
 {
     let more = row.len() as u128;
     rows.push(row)?;
@@ -135,33 +139,35 @@ pub(crate) fn push_row(rows: &mut Vec<Row>, row: Row, len: u128) -> Result<u128,
 }
 
 /// Takes the row at a place out.
-pub(crate) fn remove_at(rows: &mut Vec<Row>, place: usize, len: u128) -> u128
-    requires place { place < length rows.old.items }
-    requires table { IsTable rows.old.items len }
-    ensures table { IsTable rows.new.items result }
-    ensures removes { rows.new.items ≡ remove rows.old.items place }
+pub(crate) fn remove_at(rows: &mut SpareList<Row>, place: usize, len: u128) -> u128
+    requires place { place < length rows.old }
+    requires table { IsTable rows.old len }
+    ensures table { IsTable rows.new result }
+    ensures removes { rows.new ≡ remove rows.old place }
 {
-    let row = rows.remove(place);
+    // The row of a root has no bytes, so that it takes no memory.
+    let filler = Row::root(rows.allocator()).ok();
+    let row = rows.remove(place, filler);
     len - row.len() as u128
 }
 
 /// Makes the cluster that of a block in the row at a place, or takes the block out where there is none, and gives the
 /// one before. `len` is how many bytes spell the rows.
 pub(crate) fn extent_at(
-    rows: &mut Vec<Row>,
+    rows: &mut SpareList<Row>,
     place: usize,
     len: &mut u128,
     block: u32,
     cluster: Option<u32>,
 ) -> Result<Option<u32>, OutOfMemory>
-    requires place { place < length rows.old.items }
-    requires table { IsTable rows.old.items len.old }
-    ensures table { IsTable rows.new.items len.new }
-    ensures before { (d : Row) → IfOk result (λ before. before ≡ cluster_at (get_or rows.old.items place d).extents block) }
-    ensures sets { OnOk result (SetsAt (SetsExtent block cluster) place rows.old.items rows.new.items) }
-    ensures err { OnErr result ((rows.new.items ≡ rows.old.items) × (len.new ≡ len.old)) }
+    requires place { place < length rows.old }
+    requires table { IsTable rows.old len.old }
+    ensures table { IsTable rows.new len.new }
+    ensures before { (d : Row) → IfOk result (λ before. before ≡ cluster_at (get_or rows.old place d).extents block) }
+    ensures sets { OnOk result (SetsAt (SetsExtent block cluster) place rows.old rows.new) }
+    ensures err { OnErr result ((rows.new ≡ rows.old) × (len.new ≡ len.old)) }
 {
-    let row = &mut rows[place];
+    let row = rows.item_mut(place);
     let old_len = row.len() as u128;
     let before = row.set_extent(block, cluster)?;
     *len = *len - old_len + row.len() as u128;
@@ -169,55 +175,56 @@ pub(crate) fn extent_at(
 }
 
 /// Makes the anchor of the row at a place its number.
-pub(crate) fn anchor_at(alloc: Global, rows: &mut Vec<Row>, place: usize, len: u128) -> u128
-    requires place { place < length rows.old.items }
-    requires table { IsTable rows.old.items len }
-    ensures table { IsTable rows.new.items result }
-    ensures sets { SetsAt SetsAnchor place rows.old.items rows.new.items }
+pub(crate) fn anchor_at(alloc: Global, rows: &mut SpareList<Row>, place: usize, len: u128) -> u128
+    requires place { place < length rows.old }
+    requires table { IsTable rows.old len }
+    ensures table { IsTable rows.new result }
+    ensures sets { SetsAt SetsAnchor place rows.old rows.new }
 {
-    let row = &mut rows[place];
+    let row = rows.item_mut(place);
     let before = row.len() as u128;
     row.set_anchor(alloc);
     len - before + row.len() as u128
 }
 
 /// Sets the last access of the row at a place.
-pub(crate) fn touch_at(rows: &mut Vec<Row>, place: usize, clock: u64)
-    requires place { place < length rows.old.items }
-    ensures table { (n : ℕ) → IsTable rows.old.items n → IsTable rows.new.items n }
-    ensures sets { SetsAt (Touches clock) place rows.old.items rows.new.items }
+pub(crate) fn touch_at(rows: &mut SpareList<Row>, place: usize, clock: u64)
+    requires place { place < length rows.old }
+    ensures table { (n : ℕ) → IsTable rows.old n → IsTable rows.new n }
+    ensures sets { SetsAt (Touches clock) place rows.old rows.new }
 {
-    let row = &mut rows[place];
+    let row = rows.item_mut(place);
     row.touch(clock);
 }
 
 /// Puts a row in place of the one at a place, which has its id.
-pub(crate) fn replace_at(rows: &mut Vec<Row>, place: usize, row: Row, len: u128) -> u128
-    requires place { IsRowAt rows.old.items row.id.0 place }
-    requires table { IsTable rows.old.items len }
+pub(crate) fn replace_at(rows: &mut SpareList<Row>, place: usize, row: Row, len: u128) -> u128
+    requires place { IsRowAt rows.old row.id.0 place }
+    requires table { IsTable rows.old len }
     requires spellable { IsSpellable row }
-    ensures table { IsTable rows.new.items result }
-    ensures puts { rows.new.items ≡ with_row row rows.old.items }
+    ensures table { IsTable rows.new result }
+    ensures puts { rows.new ≡ with_row row rows.old }
+    ensures few { length rows.old < 2 ^ 63 }
 {
-    let before = rows[place].len() as u128;
     let after = row.len() as u128;
-    rows[place] = row;
+    let before = rows.replace(place, row).len() as u128;
     len - before + after
 }
 
 /// Puts a row at a place between those with ids below and above.
 pub(crate) fn insert_at(
-    rows: &mut Vec<Row>,
+    rows: &mut SpareList<Row>,
     place: usize,
     row: Row,
     len: u128,
 ) -> Result<u128, OutOfMemory>
-    requires place { IsRowGap rows.old.items row.id.0 place }
-    requires table { IsTable rows.old.items len }
+    requires place { IsRowGap rows.old row.id.0 place }
+    requires table { IsTable rows.old len }
     requires spellable { IsSpellable row }
-    ensures table { IfOk result (IsTable rows.new.items) }
-    ensures puts { OnOk result (rows.new.items ≡ with_row row rows.old.items) }
-    ensures err { OnErr result (rows.new.items ≡ rows.old.items) }
+    ensures table { IfOk result (IsTable rows.new) }
+    ensures puts { OnOk result (rows.new ≡ with_row row rows.old) }
+    ensures err { OnErr result (rows.new ≡ rows.old) }
+    ensures few { length rows.old < 2 ^ 63 }
 {
     let more = row.len() as u128;
     rows.insert(place, row)?;

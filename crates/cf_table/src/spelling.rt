@@ -180,8 +180,8 @@ impl Rows {
         ensures { IfOk result (λ b. b ≡ spell_rows (map row_value self.now.rows)) }
     {
         let mut out = Writer::new(self.alloc);
-        put_count(&mut out, &self.rows)?;
-        put_rows(&mut out, &self.rows)?;
+        put_count(&mut out, self.rows.as_slice())?;
+        put_rows(&mut out, self.rows.as_slice())?;
         Ok(out.into_blob())
     }
 }

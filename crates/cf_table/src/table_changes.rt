@@ -128,7 +128,7 @@ impl Rows {
             id: item,
             parent,
             name: Blob::from_slice(self.alloc, name.as_slice())?,
-            pin: pin_of(&self.rows, parent),
+            pin: pin_of(self.rows.as_slice(), parent),
             number,
         };
         let row = Row::made(self.alloc, place, kind, size, identity.copy()?);
@@ -155,16 +155,16 @@ impl Rows {
         ensures next { OnOk result (self.new.next ≡ record { 0 = max self.old.next.0 (item.0 + 1) }) }
         ensures err { OnErr result (self.new ≡ self.old) }
     {
-        match find_row(&self.rows, from.0) {
+        match find_row(self.rows.as_slice(), from.0) {
             Ok(source) => {
                 let place = Place {
                     id: item,
                     parent,
                     name: Blob::from_slice(self.alloc, name.as_slice())?,
-                    pin: pin_of(&self.rows, parent),
+                    pin: pin_of(self.rows.as_slice(), parent),
                     number,
                 };
-                let row = copied_row(self.alloc, &self.rows, source, place)?;
+                let row = copied_row(self.alloc, self.rows.as_slice(), source, place)?;
                 self.add(row)
             }
             Err(_) => unreachable!(),
@@ -200,8 +200,8 @@ impl Rows {
         ensures next { self.new.next ≡ next_after change.now self.old.next }
         ensures err { OnErr result (self.new ≡ self.old) }
     {
-        let pin = pin_for(&self.rows, change);
-        match find_row(&self.rows, id.0) {
+        let pin = pin_for(self.rows.as_slice(), change);
+        match find_row(self.rows.as_slice(), id.0) {
             Ok(place) => {
                 let before = unlisted(&self.rows[place]);
                 self.len = change_indexed(

@@ -18,14 +18,15 @@ use crate::row_lists::{anchor_at, extent_at, find_row, touch_at};
 use crate::rows::{ROOT, Row};
 use crate::targets::raised;
 use cf_base::{ItemId, OutOfMemory, Rid};
+use cf_collections::{ChunkedList, SpareList};
 use std::alloc::Global;
 use std::marker::Model;
 
 /// The rows of a volume, by id. Contracts see them in order of id, with the id that the next item gets.
 #[derive(Drop)]
 pub struct Rows {
-    pub(crate) rows: Vec<Row>,
-    pub(crate) index: Vec<Entry>,
+    pub(crate) rows: SpareList<Row>,
+    pub(crate) index: ChunkedList<Entry>,
     pub(crate) next: ItemId,
     pub(crate) len: u128,
     // No identity of a row begins with a greater number, and it is at least 1. None where that is not known.
@@ -41,9 +42,9 @@ impl Model for Rows {
 
     ghost Value = { Table };
 
-    ghost view = { λ t. record { rows = t.rows.items; next = t.next } };
+    ghost view = { λ t. record { rows = t.rows; next = t.next } };
 
-    ghost invariant = { λ t. AreKept t.rows.items t.index.items t.len t.bound t.unlisted };
+    ghost invariant = { λ t. AreKept t.rows t.index t.len t.bound t.unlisted };
 }
 
 impl Rows {
@@ -57,8 +58,8 @@ impl Rows {
     {
         let row = Row::root(alloc)?;
         let unlisted = unlisted(&row);
-        let mut rows = Vec::new(alloc);
-        let mut index = Vec::new(alloc);
+        let mut rows = SpareList::new(alloc);
+        let mut index = ChunkedList::new(alloc);
         let len = push_indexed(alloc, &mut rows, &mut index, row, 0)?;
         Ok(Rows {
             rows,
@@ -75,7 +76,7 @@ impl Rows {
     pub fn get(&self, id: ItemId) -> Option<&Row>
         ensures { option_copied result ≡ row_of self.now.rows id }
     {
-        match find_row(&self.rows, id.0) {
+        match find_row(self.rows.as_slice(), id.0) {
             Ok(place) => Some(&self.rows[place]),
             Err(_) => None,
         }
@@ -116,7 +117,7 @@ impl Rows {
         ensures err { OnErr result (self.new ≡ self.old) }
     {
         let bound = raised(self.bound, &row.identity);
-        let before = unlisted_of(&self.rows, row.id.0);
+        let before = unlisted_of(self.rows.as_slice(), row.id.0);
         let after = unlisted(&row);
         self.len = put_indexed(self.alloc, &mut self.rows, &mut self.index, row, self.len)?;
         self.bound = bound;
@@ -128,7 +129,7 @@ impl Rows {
     pub fn remove_row(&mut self, id: ItemId)
         ensures { self.new ≡ record self.old { rows = without_row id self.old.rows } }
     {
-        match find_row(&self.rows, id.0) {
+        match find_row(self.rows.as_slice(), id.0) {
             Ok(place) => {
                 self.unlisted -= unlisted(&self.rows[place]);
                 self.len = remove_indexed(&mut self.rows, &mut self.index, place, self.len);
@@ -157,7 +158,7 @@ impl Rows {
         ensures next { self.new.next ≡ self.old.next }
         ensures err { OnErr result (self.new ≡ self.old) }
     {
-        match find_row(&self.rows, id.0) {
+        match find_row(self.rows.as_slice(), id.0) {
             Ok(place) => extent_at(&mut self.rows, place, &mut self.len, block, cluster),
             Err(_) => Ok(None),
         }
@@ -168,7 +169,7 @@ impl Rows {
         ensures sets { SetsRow SetsAnchor id self.old.rows self.new.rows }
         ensures next { self.new.next ≡ self.old.next }
     {
-        match find_row(&self.rows, id.0) {
+        match find_row(self.rows.as_slice(), id.0) {
             Ok(place) => self.len = anchor_at(self.alloc, &mut self.rows, place, self.len),
             Err(_) => {}
         }
@@ -179,7 +180,7 @@ impl Rows {
         ensures sets { SetsRow (Touches clock) id self.old.rows self.new.rows }
         ensures next { self.new.next ≡ self.old.next }
     {
-        match find_row(&self.rows, id.0) {
+        match find_row(self.rows.as_slice(), id.0) {
             Ok(place) => touch_at(&mut self.rows, place, clock),
             Err(_) => {}
         }

@@ -1,15 +1,10 @@
-use Rattle.std.proofs.Common.{◌≡◌, ◌∙◌, ℕ, List, Result, Ok, Err, is_ok, cond, false, subst, true}
-use Rattle.std.specs.Result.{IsOk}
-use Rattle.cf_table.specs.Index.{IsPlaceOf, entry_at}
-use Rattle.cf_table.specs.declared.entries.Entry.{Entry}
-use Rattle.cf_table.proofs.Indexed.{insert_is_put}
+use Rattle.std.proofs.Common.{◌∙◌}
+use Rattle.cf_table.proofs.EntryPlaces.{put_there, split}
+use Rattle.cf_table.proofs.TableMeans.{on_ok_map}
 use Rattle.cf_table.proofs.entries.add_entry.Goals as goal
 
-pub returns : goal.returns
-returns c =
-    inserted c.insert.result _ _ _ (c.insert.ensures.succeeds c.requires.room) c.insert.ensures.items
-    ∙ insert_is_put c.args.entry c.args.entries.now.items c.place_of-place.result
-    (subst (λ (l : List Entry). IsPlaceOf c.args.entry l c.place_of-place.result) c.deref.ensures.value (subst (λ (n : List ℕ). IsPlaceOf (entry_at c.args.entry.parent n c.args.entry.id) c.deref.result.now c.place_of-place.result) c.as_slice.ensures c.place_of-place.ensures)) where
-      inserted : {E : Type 0} (r : Result (Unit {0}) E) (xs ys zs : List Entry) → IsOk r → xs ≡ cond (is_ok r) ys zs → xs ≡ ys
-      inserted (Ok x) xs ys zs h e = e
-      inserted (Err x) xs ys zs h e = let z : false ≡ true = h in cc
+pub insert-requires : goal.insert-requires
+insert-requires c = split c.args.entry c.args.entries.now c.requires
+
+pub returns-clause-ok : goal.returns-clause-ok
+returns-clause-ok c = on_ok_map c.insert.result _ _ (λ h. h ∙ put_there c.args.entry c.args.entries.now) c.insert.ensures.ok

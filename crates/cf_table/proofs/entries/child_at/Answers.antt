@@ -1,14 +1,15 @@
-use Rattle.std.proofs.Common.{◌∙◌, Option, None, Some, ap, arith, cond, refl, sym}
-use Rattle.cf_table.specs.Index.{entry_id, is_entry_of}
+use Rattle.std.proofs.Common.{◌∙◌, Option, ap, refl, sym}
+use Rattle.cf_table.specs.Index.{entry_at, entry_id}
 use Rattle.cf_table.specs.declared.entries.Entry.{Entry}
-use Rattle.cf_table.proofs.NamedEntries.{named_at, named_nowhere}
+use Rattle.cf_table.proofs.EntryPlaces.{named_there, split, unnamed_there}
 use Rattle.cf_table.proofs.entries.child_at.Goals as goal
 
-pub returns-then-place-entries : goal.returns-then-place-entries
-returns-then-place-entries c =
-    c.id_if_named.ensures ∙ ap (λ (e : Entry). cond (is_entry_of c.args.parent c.args.name.now e) (Some e.id) None) c.index-entries-place.is
-    ∙ named_at c.args.parent c.args.name.now (record { 0 = 0 }) c.args.entries.now c.place_of-place.result c.index-entries-place.result refl c.requires c.place_of-place.ensures c.if-place-entries.true
+pub from-requires : goal.from-requires
+from-requires c = split (entry_at c.args.parent c.args.name.now (record { 0 = 0 })) c.args.entries.now c.requires
 
-pub returns-else-place-entries : goal.returns-else-place-entries
-returns-else-place-entries c =
-    ap (λ (o : Option Entry). entry_id o) (sym (named_nowhere c.args.parent c.args.name.now (record { 0 = 0 }) c.args.entries.now c.place_of-place.result refl c.place_of-place.ensures (omega (arith, c.if-place-entries.false))))
+pub returns-in-Some : goal.returns-in-Some
+returns-in-Some c =
+    c.id_if_named.ensures ∙ named_there c.args.parent c.args.name.now (record { 0 = 0 }) c.args.entries.now _ _ refl c.requires (sym c.from.ensures ∙ c.in-Some.ensures)
+
+pub returns-in-None : goal.returns-in-None
+returns-in-None c = ap (λ (o : Option Entry). entry_id o) (sym (unnamed_there c.args.parent c.args.name.now (record { 0 = 0 }) c.args.entries.now refl (sym c.from.ensures ∙ c.in-None.ensures)))

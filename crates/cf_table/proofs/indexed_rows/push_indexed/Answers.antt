@@ -1,15 +1,26 @@
-use Rattle.std.proofs.Common.{◌∙◌, List, ap, subst, sym}
-use Rattle.cf_model.specs.Words.{put_in}
-use Rattle.cf_lists.specs.Ordered.{InOrder}
-use Rattle.cf_table.specs.Index.{stands_before}
-use Rattle.cf_table.specs.declared.entries.Entry.{Entry}
-use Rattle.cf_table.proofs.Indexed.{entries_in_order, pushed_indexed}
+use Rattle.std.proofs.Common.{◌∙◌, [], ◌∷◌, List, ap, arith, length, length-append}
+use Rattle.std.specs.Prelude.{remove}
+use Rattle.cf_table.specs.declared.rows.Row.{Row}
+use Rattle.cf_table.proofs.Indexed.{entries_in_order}
+use Rattle.cf_table.proofs.IndexedAdds.{on_both, push_undone, pushed_all}
+use Rattle.cf_table.proofs.TableMeans.{on_ok_map}
 use Rattle.cf_table.proofs.indexed_rows.push_indexed.Goals as goal
 
-pub add_entry-requires-clause-order : goal.add_entry-requires-clause-order
-add_entry-requires-clause-order c = subst (λ (l : List Entry). InOrder stands_before l) (sym c.reserve.ensures.items) (entries_in_order c.args.rows.now.items c.args.index.now.items c.args.len c.requires.indexed)
+pub add_entry_at-requires-clause-place : goal.add_entry_at-requires-clause-place
+add_entry_at-requires-clause-place c = omega (arith, c.len-place.ensures, ap (λ (l : List Row). length l) c.in_ok-len.ensures.adds, length-append c.args.rows.now (c.args.row ∷ []))
+
+pub add_entry_at-requires-clause-order : goal.add_entry_at-requires-clause-order
+add_entry_at-requires-clause-order c = entries_in_order c.args.rows.now c.args.index.now c.args.len c.requires.indexed
 
 pub returns-clause-indexed : goal.returns-clause-indexed
 returns-clause-indexed c =
-    pushed_indexed c.args.rows.now.items c.push_row.new.rows.items c.args.index.now.items c.add_entry.new.entries.items c.in_ok-entry.entry c.args.row c.args.len c.in_ok-len.len c.requires.indexed c.requires.above c.in_ok-entry.ensures
-    (c.add_entry.ensures ∙ ap (λ (l : List Entry). put_in stands_before c.in_ok-entry.entry l) c.reserve.ensures.items) c.in_ok-len.ensures.adds c.in_ok-len.ensures.table
+    pushed_all c.add_entry_at.result c.args.rows.now c.push_row.new.rows c.add_entry_at.new.rows c.args.index.now c.add_entry_at.new.index c.in_ok-entry.entry c.args.row c.args.len c.in_ok-len.len c.requires.indexed c.requires.above c.in_ok-entry.ensures
+    c.in_ok-len.ensures.adds c.in_ok-len.ensures.table c.add_entry_at.ensures.rows c.add_entry_at.ensures.index c.add_entry_at.ensures.len
+
+pub returns-clause-adds : goal.returns-clause-adds
+returns-clause-adds c = on_ok_map c.add_entry_at.result _ _ (λ same. same ∙ c.in_ok-len.ensures.adds) c.add_entry_at.ensures.rows
+
+pub returns-clause-err : goal.returns-clause-err
+returns-clause-err c =
+    on_both c.add_entry_at.result (λ gone same. (gone ∙ ap (λ (l : List Row). remove l c.len-place.result) c.in_ok-len.ensures.adds ∙ push_undone c.args.rows.now c.args.row c.len-place.result c.len-place.ensures, same))
+    c.add_entry_at.ensures.gone c.add_entry_at.ensures.err

@@ -13,6 +13,9 @@ pub returns-in_err-row-clause-fault : goal.returns-in_err-row-clause-fault
 returns-in_err-row-clause-fault c =
     exits _ _ _ c.from_residual-in_err-row.ensures.1 (c.loop.invariant.fault _ (row_fault _ _ _ _ _ _ (one_less c.args.count c.loop.counter (omega arith)) c.in_err-row.ensures.fault))
 
+pub returns-in_err-put_row-clause-fault : goal.returns-in_err-put_row-clause-fault
+returns-in_err-put_row-clause-fault c = exits _ _ _ c.from_residual-in_err-put_row.ensures.1 (no_memory_for_rows _ _ _ _)
+
 pub loop-preserved : goal.loop-preserved
 loop-preserved c =
     let is = put_behind _ c.put_row.new.self.rows _ _ (ap (λ t. t.rows) c.in_ok-put_row.ensures.ok) c.loop.invariant.below c.in_ok-row.ensures.fits.head.who.1 in

@@ -6,13 +6,13 @@ use Rattle.cf_table.proofs.row_lists.touch_at.Goals as goal
 
 pub returns-clause-table : goal.returns-clause-table
 returns-clause-table c = λ n t.
-    let same : row_len c.touch.new.self ≡ row_len (get_or c.args.rows.now.items c.args.place c.index_mut-row.result.now) = ap row_len c.touch.ensures.rest ∙ ap row_len c.index_mut-row.ensures.value in
-    subst (λ (m : ℕ). IsTable (set c.args.rows.now.items c.args.place c.touch.new.self) m)
-    (omega (arith, same, in_sum c.args.rows.now.items n c.args.place c.index_mut-row.result.now c.requires.place t))
-    (table_set c.args.rows.now.items n c.args.place c.touch.new.self c.index_mut-row.result.now c.requires.place
-    (ap (λ (r : Row). r.id.0) c.touch.ensures.rest ∙ ap (λ (r : Row). r.id.0) c.index_mut-row.ensures.value)
+    let same : row_len c.touch.new.self ≡ row_len (get_or c.args.rows.now c.args.place c.item_mut-row.result.now) = ap row_len c.touch.ensures.rest ∙ ap row_len c.item_mut-row.ensures.value in
+    subst (λ (m : ℕ). IsTable (set c.args.rows.now c.args.place c.touch.new.self) m)
+    (omega (arith, same, in_sum c.args.rows.now n c.args.place c.item_mut-row.result.now c.requires.place t))
+    (table_set c.args.rows.now n c.args.place c.touch.new.self c.item_mut-row.result.now c.requires.place
+    (ap (λ (r : Row). r.id.0) c.touch.ensures.rest ∙ ap (λ (r : Row). r.id.0) c.item_mut-row.ensures.value)
     (subst (λ (r : Row). IsTableRow r) (sym c.touch.ensures.rest)
-    (touched c.args.clock c.ranges.clock.fits c.index_mut-row.result.now (kept_here c.args.rows.now.items c.args.place c.index_mut-row.result.now c.requires.place c.index_mut-row.ensures.value t.kept))) t) where
+    (touched c.args.clock c.ranges.clock.fits c.item_mut-row.result.now (kept_here c.args.rows.now c.args.place c.item_mut-row.result.now c.requires.place c.item_mut-row.ensures.value t.kept))) t) where
       touched : (clock : ℕ) → clock < 2 ^ 64 → (r : Row) → IsTableRow r → IsTableRow (record r { last = clock })
       touched clock small r k = record {
         spellable = record { name = k.spellable.name; identity = k.spellable.identity };

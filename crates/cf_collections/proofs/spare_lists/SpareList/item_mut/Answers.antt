@@ -4,7 +4,7 @@ use Rattle.cf_collections.proofs.spare_lists.SpareList.item_mut.Goals as goal
 
 pub returns : goal.returns
 returns g c =
-    let few : length c.args.self.now < 2 ^ 64 =
+    let few : length c.args.self.now < 2 ^ 63 =
     omega (arith, c.self.inside.places.ok, ap (λ (l : List _). length l) c.self.view_is, length-drop c.self.inside.spare c.self.inside.places.items) in
     let value : c.index_mut.result.now ≡ get_or c.args.self.now c.args.place c.index_mut.result.now =
     c.index_mut.ensures.value ∙ sym (get_or-drop c.self.inside.spare c.self.inside.places.items c.args.place c.index_mut.result.now)

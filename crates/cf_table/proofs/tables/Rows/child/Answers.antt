@@ -9,10 +9,10 @@ use Rattle.cf_table.proofs.Indexed.{entries_in_order}
 use Rattle.cf_table.proofs.tables.Rows.child.Goals as goal
 
 pub child_at-requires : goal.child_at-requires
-child_at-requires c = subst (λ (l : List Entry). InOrder stands_before l) (sym c.deref.ensures.value) (entries_in_order c.self.inside.rows.items c.self.inside.index.items c.self.inside.len c.self.invariant.indexed)
+child_at-requires c = entries_in_order c.self.inside.rows c.self.inside.index c.self.inside.len c.self.invariant.indexed
 
 pub returns : goal.returns
 returns c =
-    c.child_at.ensures ∙ ap (λ (l : List Entry). entry_id (find (is_entry_of c.args.parent c.args.name.now) l)) (c.deref.ensures.value ∙ c.self.invariant.indexed.index)
-    ∙ child_is c.args.parent c.args.name.now c.self.inside.rows.items c.self.invariant.indexed.table.rises
+    c.child_at.ensures ∙ ap (λ (l : List Entry). entry_id (find (is_entry_of c.args.parent c.args.name.now) l)) c.self.invariant.indexed.index
+    ∙ child_is c.args.parent c.args.name.now c.self.inside.rows c.self.invariant.indexed.table.rises
     ∙ ap (λ (t : Table). id_of (find (is_child_row c.args.parent c.args.name.now) t.rows)) c.self.view_is

@@ -10,11 +10,11 @@ use Rattle.cf_table.proofs.TableMeans.{if_ok_map}
 use Rattle.cf_table.proofs.tables.Rows.children.Goals as goal
 
 pub children_at-requires : goal.children_at-requires
-children_at-requires c = subst (λ (l : List Entry). InOrder stands_before l) (sym c.deref.ensures.value) (entries_in_order c.self.inside.rows.items c.self.inside.index.items c.self.inside.len c.self.invariant.indexed)
+children_at-requires c = entries_in_order c.self.inside.rows c.self.inside.index c.self.inside.len c.self.invariant.indexed
 
 pub returns : goal.returns
 returns c =
     if_ok_map c.children_at.result _ _ (λ v e.
-    e ∙ ap (λ (l : List Entry). entry_ids (filter (is_entry_in c.args.id) l)) (c.deref.ensures.value ∙ c.self.invariant.indexed.index)
-    ∙ children_are c.args.id c.self.inside.rows.items c.self.invariant.indexed.table.rises ∙ ap (λ (t : Table). ids_of (rows_by_name (child_rows t.rows c.args.id))) c.self.view_is)
+    e ∙ ap (λ (l : List Entry). entry_ids (filter (is_entry_in c.args.id) l)) c.self.invariant.indexed.index
+    ∙ children_are c.args.id c.self.inside.rows c.self.invariant.indexed.table.rises ∙ ap (λ (t : Table). ids_of (rows_by_name (child_rows t.rows c.args.id))) c.self.view_is)
     c.children_at.ensures

@@ -7,18 +7,18 @@ use Rattle.cf_table.proofs.Counts.{count_most, count_put, most_one}
 use Rattle.cf_table.proofs.tables.Rows.put_row.Goals as goal
 
 pub overflow_sub-self : goal.overflow_sub-self
-overflow_sub-self c = omega (arith, c.unlisted_of-before.ensures.most, c.self.invariant.unlisted, ap unlisted_in c.deref.ensures.value)
+overflow_sub-self c = omega (arith, c.unlisted_of-before.ensures.most, c.self.invariant.unlisted, ap unlisted_in c.as_slice.ensures)
 
 pub overflow_add-self : goal.overflow_add-self
-overflow_add-self c = omega (arith, c.self.invariant.unlisted, count_most c.self.inside.rows.items, c.self.inside.rows.ok, c.unlisted-after.ensures, most_one (is_unlisted c.args.row))
+overflow_add-self c = omega (arith, c.self.invariant.unlisted, count_most c.self.inside.rows, c.in_ok-self-inside.ensures.few, c.unlisted-after.ensures, most_one (is_unlisted c.args.row))
 
 pub invariant_of-self-2 : goal.invariant_of-self-2
 invariant_of-self-2 c = record {
   indexed = c.in_ok-self-inside.ensures.indexed;
   bounded = subst (λ (l : List Row). AreBounded c.raised-bound.result l) (sym c.in_ok-self-inside.ensures.puts)
-      (all_with (λ r. IsBounded c.raised-bound.result r.identity) c.args.row c.self.inside.rows.items c.raised-bound.ensures.covers
-      (raised_all c.self.inside.bound c.raised-bound.result c.self.inside.rows.items c.raised-bound.ensures.before c.self.invariant.bounded));
+      (all_with (λ r. IsBounded c.raised-bound.result r.identity) c.args.row c.self.inside.rows c.raised-bound.ensures.covers
+      (raised_all c.self.inside.bound c.raised-bound.result c.self.inside.rows c.raised-bound.ensures.before c.self.invariant.bounded));
   root = c.raised-bound.ensures.root c.self.invariant.root;
-  unlisted = count_put c.self.inside.unlisted c.unlisted_of-before.result c.unlisted-after.result c.args.row c.self.inside.rows.items c.deref.result.now c.put_indexed.new.rows.items c.deref.ensures.value c.self.invariant.unlisted
+  unlisted = count_put c.self.inside.unlisted c.unlisted_of-before.result c.unlisted-after.result c.args.row c.self.inside.rows c.as_slice.result.now c.put_indexed.new.rows c.as_slice.ensures c.self.invariant.unlisted
       c.unlisted_of-before.ensures.most (c.unlisted_of-before.ensures.put c.args.row refl) c.unlisted-after.ensures c.in_ok-self-inside.ensures.puts;
 }

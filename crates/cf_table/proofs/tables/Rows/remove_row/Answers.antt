@@ -10,24 +10,24 @@ use Rattle.cf_table.proofs.tables.Rows.remove_row.Goals as goal
 pub returns-in-Ok : goal.returns-in-Ok
 returns-in-Ok c =
     ap (λ (l : List Row). record { rows = l; next = c.self.inside.next })
-    (c.remove_indexed-self-inside.ensures.removes ∙ remove_is_without 0 c.args.id c.self.inside.rows.items c.in-Ok.place c.self.invariant.indexed.table.rises (subst (λ (l : List Row). IsRowAt l c.args.id.0 c.in-Ok.place) c.deref.ensures.value c.in-Ok.ensures.found))
+    (c.remove_indexed-self-inside.ensures.removes ∙ remove_is_without 0 c.args.id c.self.inside.rows c.in-Ok.place c.self.invariant.indexed.table.rises (subst (λ (l : List Row). IsRowAt l c.args.id.0 c.in-Ok.place) c.as_slice.ensures c.in-Ok.ensures.found))
     ∙ ap (λ (t : Table). record t { rows = without_row c.args.id t.rows }) c.self.view_is
 
 pub returns-in-Err : goal.returns-in-Err
 returns-in-Err c =
-    ap (λ (l : List Row). record c.args.self.now { rows = l }) (sym (gap_is_without c.args.id c.args.self.now.rows (not_there c.args.self.now.rows c.args.id.0 c.in-Err.field-0 (subst (λ (l : List Row). IsRowGap l c.args.id.0 c.in-Err.field-0) (c.deref.ensures.value ∙ ap (λ (t : Table). t.rows) c.self.view_is) c.in-Err.ensures.absent))))
+    ap (λ (l : List Row). record c.args.self.now { rows = l }) (sym (gap_is_without c.args.id c.args.self.now.rows (not_there c.args.self.now.rows c.args.id.0 c.in-Err.field-0 (subst (λ (l : List Row). IsRowGap l c.args.id.0 c.in-Err.field-0) (c.as_slice.ensures ∙ ap (λ (t : Table). t.rows) c.self.view_is) c.in-Err.ensures.absent))))
 
 pub overflow_sub-self : goal.overflow_sub-self
 overflow_sub-self c =
-    omega (arith, c.self.invariant.unlisted, count_here c.self.inside.rows.items c.in-Ok.place c.unlisted.result c.index.result.now (subst (λ (l : List Row). IsRowAt l c.args.id.0 c.in-Ok.place) c.deref.ensures.value c.in-Ok.ensures.found).in_range c.index.ensures c.unlisted.ensures)
+    omega (arith, c.self.invariant.unlisted, count_here c.self.inside.rows c.in-Ok.place c.unlisted.result c.index.result.now (subst (λ (l : List Row). IsRowAt l c.args.id.0 c.in-Ok.place) c.as_slice.ensures c.in-Ok.ensures.found).in_range c.index.ensures c.unlisted.ensures)
 
 pub invariant_of-self : goal.invariant_of-self
 invariant_of-self c = record {
   indexed = c.remove_indexed-self-inside.ensures.indexed;
   bounded = subst (λ (l : List Row). AreBounded c.self.inside.bound l)
-      (sym (c.remove_indexed-self-inside.ensures.removes ∙ remove_is_without 0 c.args.id c.self.inside.rows.items c.in-Ok.place c.self.invariant.indexed.table.rises (subst (λ (l : List Row). IsRowAt l c.args.id.0 c.in-Ok.place) c.deref.ensures.value c.in-Ok.ensures.found)))
-      (All-filter (λ r. not (eqb r.id.0 c.args.id.0)) (λ r. IsBounded c.self.inside.bound r.identity) c.self.inside.rows.items c.self.invariant.bounded);
+      (sym (c.remove_indexed-self-inside.ensures.removes ∙ remove_is_without 0 c.args.id c.self.inside.rows c.in-Ok.place c.self.invariant.indexed.table.rises (subst (λ (l : List Row). IsRowAt l c.args.id.0 c.in-Ok.place) c.as_slice.ensures c.in-Ok.ensures.found)))
+      (All-filter (λ r. not (eqb r.id.0 c.args.id.0)) (λ r. IsBounded c.self.inside.bound r.identity) c.self.inside.rows c.self.invariant.bounded);
   root = c.self.invariant.root;
-  unlisted = count_gone c.self.inside.unlisted c.unlisted.result c.in-Ok.place c.self.inside.rows.items c.remove_indexed-self-inside.new.rows.items c.index.result.now (subst (λ (l : List Row). IsRowAt l c.args.id.0 c.in-Ok.place) c.deref.ensures.value c.in-Ok.ensures.found).in_range
+  unlisted = count_gone c.self.inside.unlisted c.unlisted.result c.in-Ok.place c.self.inside.rows c.remove_indexed-self-inside.new.rows c.index.result.now (subst (λ (l : List Row). IsRowAt l c.args.id.0 c.in-Ok.place) c.as_slice.ensures c.in-Ok.ensures.found).in_range
       c.self.invariant.unlisted c.index.ensures c.unlisted.ensures c.remove_indexed-self-inside.ensures.removes;
 }

@@ -10,14 +10,14 @@ use Rattle.cf_table.proofs.tables.Rows.touch.Goals as goal
 
 pub returns-in-Ok-clause-sets : goal.returns-in-Ok-clause-sets
 returns-in-Ok-clause-sets c =
-    subst (λ (l : List Row). SetsRow (Touches c.args.clock) c.args.id l c.touch_at.new.rows.items) (ap (λ (t : Table). t.rows) c.self.view_is)
-    (sets_row (Touches c.args.clock) (λ r s p. ap (λ (x : Row). x.id.0) p.rest) c.args.id c.in-Ok.place c.self.inside.rows.items c.touch_at.new.rows.items c.self.invariant.indexed.table.rises (subst (λ (l : List Row). IsRowAt l c.args.id.0 c.in-Ok.place) c.deref.ensures.value c.in-Ok.ensures.found)
+    subst (λ (l : List Row). SetsRow (Touches c.args.clock) c.args.id l c.touch_at.new.rows) (ap (λ (t : Table). t.rows) c.self.view_is)
+    (sets_row (Touches c.args.clock) (λ r s p. ap (λ (x : Row). x.id.0) p.rest) c.args.id c.in-Ok.place c.self.inside.rows c.touch_at.new.rows c.self.invariant.indexed.table.rises (subst (λ (l : List Row). IsRowAt l c.args.id.0 c.in-Ok.place) c.as_slice.ensures c.in-Ok.ensures.found)
     c.touch_at.ensures.sets)
 
 pub returns-in-Err-clause-sets : goal.returns-in-Err-clause-sets
-returns-in-Err-clause-sets c = sets_none (Touches c.args.clock) c.args.id c.in-Err.field-0 c.args.self.now.rows (subst (λ (l : List Row). IsRowGap l c.args.id.0 c.in-Err.field-0) (c.deref.ensures.value ∙ ap (λ (t : Table). t.rows) c.self.view_is) c.in-Err.ensures.absent)
+returns-in-Err-clause-sets c = sets_none (Touches c.args.clock) c.args.id c.in-Err.field-0 c.args.self.now.rows (subst (λ (l : List Row). IsRowGap l c.args.id.0 c.in-Err.field-0) (c.as_slice.ensures ∙ ap (λ (t : Table). t.rows) c.self.view_is) c.in-Err.ensures.absent)
 
 pub invariant_of-self : goal.invariant_of-self
 invariant_of-self c =
-    set_kept (Touches c.args.clock) (λ r s p. ap entry_of p.rest) (λ r s p. ap (λ (x : Row). x.identity) p.rest) (λ r s p. ap is_unlisted p.rest) c.in-Ok.place c.self.inside.len c.self.inside.len c.self.inside.rows.items c.touch_at.new.rows.items c.self.inside.index.items c.self.inside.bound c.self.inside.unlisted c.self.invariant
-    (subst (λ (l : List Row). c.in-Ok.place < length l) c.deref.ensures.value c.in-Ok.ensures.found.in_range) c.touch_at.ensures.sets (c.touch_at.ensures.table c.self.inside.len c.self.invariant.indexed.table)
+    set_kept (Touches c.args.clock) (λ r s p. ap entry_of p.rest) (λ r s p. ap (λ (x : Row). x.identity) p.rest) (λ r s p. ap is_unlisted p.rest) c.in-Ok.place c.self.inside.len c.self.inside.len c.self.inside.rows c.touch_at.new.rows c.self.inside.index c.self.inside.bound c.self.inside.unlisted c.self.invariant
+    (subst (λ (l : List Row). c.in-Ok.place < length l) c.as_slice.ensures c.in-Ok.ensures.found.in_range) c.touch_at.ensures.sets (c.touch_at.ensures.table c.self.inside.len c.self.invariant.indexed.table)
