@@ -63,13 +63,13 @@ pub fn command_of(alloc: Global, words: &[String]) -> Result<Command, WordsError
 {
     let line = account(alloc)?;
     match line.try_get_matches_from(words) {
-        Ok(matches) => met(alloc, &matches),
+        Ok(matches) => met(&matches),
         Err(error) => Err(fail_of(&error)),
     }
 }
 
 // The command whose name `clap` met.
-fn met(alloc: Global, matches: &ArgMatches) -> Result<Command, WordsError>
+fn met(matches: &ArgMatches) -> Result<Command, WordsError>
     ensures ok { IfOk result (IsMet (subcommand_rows_of matches.now)) }
     ensures usage { IsErrOf result WordsError.Usage → (c : Meant) → IsMet (subcommand_rows_of matches.now) c → ⊥ }
 {
@@ -78,7 +78,7 @@ fn met(alloc: Global, matches: &ArgMatches) -> Result<Command, WordsError>
         Some(("filter", _)) => Ok(Command::Filter),
         Some(("state", _)) => Ok(Command::State),
         Some(("image", _)) => Ok(Command::Image),
-        Some(("gen", found)) => numbered(alloc, found),
+        Some(("gen", found)) => numbered(found),
         Some(("scrub", _)) => Ok(Command::Scrub),
         Some(("migrate", _)) => Ok(Command::Migrate),
         Some(("check", _)) => Ok(Command::Check),
@@ -87,17 +87,16 @@ fn met(alloc: Global, matches: &ArgMatches) -> Result<Command, WordsError>
 }
 
 // The command `gen`, with its number.
-fn numbered(alloc: Global, found: &ArgMatches) -> Result<Command, WordsError>
+fn numbered(found: &ArgMatches) -> Result<Command, WordsError>
     ensures ok { IfOk result (λ c. (n : ℕ) × (c ≡ meant.Gen n) × HasNumber (meant.Gen n) (rows_of (found_of found.now))) }
     ensures usage { IsErrOf result WordsError.Usage → (n : ℕ) → HasNumber (meant.Gen n) (rows_of (found_of found.now)) → ⊥ }
 {
     let Some(text) = found.get_str("number") else {
         return Err(WordsError::Usage);
     };
-    match number(alloc, text) {
-        Ok(Some(n)) => Ok(Command::Gen(n)),
-        Ok(None) => Err(WordsError::Usage),
-        Err(_) => Err(WordsError::OutOfMemory),
+    match number(text) {
+        Some(n) => Ok(Command::Gen(n)),
+        None => Err(WordsError::Usage),
     }
 }
 

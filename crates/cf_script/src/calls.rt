@@ -12,67 +12,67 @@ use cf_base::{Call, Event, Handle, OutOfMemory, Policy, WaitId};
 use std::alloc::Global;
 
 /// `close H`.
-pub fn close(alloc: Global, words: &[&str]) -> Result<Option<Event>, OutOfMemory>
-    ensures { IfOk result (Reads (IsClose (map (λ w. w.now) words.now))) }
+pub fn close(words: &[&str]) -> Option<Event>
+    ensures { Reads (IsClose (map (λ w. w.now) words.now)) result }
 {
     let [word] = words else {
-        return Ok(None);
+        return None;
     };
-    let Some(key) = key(alloc, word)? else {
-        return Ok(None);
+    let Some(key) = key(word) else {
+        return None;
     };
-    Ok(Some(Event::Call(Call::Close {
+    Some(Event::Call(Call::Close {
         handle: Handle(key),
-    })))
+    }))
 }
 
 /// `cancel W`.
-pub fn cancel(alloc: Global, words: &[&str]) -> Result<Option<Event>, OutOfMemory>
-    ensures { IfOk result (Reads (IsCancel (map (λ w. w.now) words.now))) }
+pub fn cancel(words: &[&str]) -> Option<Event>
+    ensures { Reads (IsCancel (map (λ w. w.now) words.now)) result }
 {
     let [word] = words else {
-        return Ok(None);
+        return None;
     };
-    let Some(key) = key(alloc, word)? else {
-        return Ok(None);
+    let Some(key) = key(word) else {
+        return None;
     };
-    Ok(Some(Event::Call(Call::Cancel { wait: WaitId(key) })))
+    Some(Event::Call(Call::Cancel { wait: WaitId(key) }))
 }
 
 /// `tick NUM`.
-pub fn tick(alloc: Global, words: &[&str]) -> Result<Option<Event>, OutOfMemory>
-    ensures { IfOk result (Reads (IsTick (map (λ w. w.now) words.now))) }
+pub fn tick(words: &[&str]) -> Option<Event>
+    ensures { Reads (IsTick (map (λ w. w.now) words.now)) result }
 {
     let [word] = words else {
-        return Ok(None);
+        return None;
     };
-    let Some(ticks) = positive(alloc, word)? else {
-        return Ok(None);
+    let Some(ticks) = positive(word) else {
+        return None;
     };
-    Ok(Some(Event::Call(Call::Tick { ticks })))
+    Some(Event::Call(Call::Tick { ticks }))
 }
 
 /// `read H OFF LEN`.
-pub fn read(alloc: Global, words: &[&str]) -> Result<Option<Event>, OutOfMemory>
-    ensures { IfOk result (Reads (IsReadLine (map (λ w. w.now) words.now))) }
+pub fn read(words: &[&str]) -> Option<Event>
+    ensures { Reads (IsReadLine (map (λ w. w.now) words.now)) result }
 {
     let [handle, offset, len] = words else {
-        return Ok(None);
+        return None;
     };
-    let Some(key) = key(alloc, handle)? else {
-        return Ok(None);
+    let Some(key) = key(handle) else {
+        return None;
     };
-    let Some(offset) = number(alloc, offset)? else {
-        return Ok(None);
+    let Some(offset) = number(offset) else {
+        return None;
     };
-    let Some(len) = number(alloc, len)? else {
-        return Ok(None);
+    let Some(len) = number(len) else {
+        return None;
     };
-    Ok(Some(Event::Call(Call::Read {
+    Some(Event::Call(Call::Read {
         handle: Handle(key),
         offset,
         len,
-    })))
+    }))
 }
 
 /// `get P OFF LEN`.
@@ -82,13 +82,13 @@ pub fn get(alloc: Global, words: &[&str]) -> Result<Option<Event>, OutOfMemory>
     let [target, offset, len] = words else {
         return Ok(None);
     };
+    let Some(offset) = number(offset) else {
+        return Ok(None);
+    };
+    let Some(len) = number(len) else {
+        return Ok(None);
+    };
     let Some(path) = path(alloc, target)? else {
-        return Ok(None);
-    };
-    let Some(offset) = number(alloc, offset)? else {
-        return Ok(None);
-    };
-    let Some(len) = number(alloc, len)? else {
         return Ok(None);
     };
     Ok(Some(Event::Call(Call::Get { path, offset, len })))
@@ -101,10 +101,10 @@ pub fn write(alloc: Global, words: &[&str]) -> Result<Option<Event>, OutOfMemory
     let [handle, offset, bytes] = words else {
         return Ok(None);
     };
-    let Some(key) = key(alloc, handle)? else {
+    let Some(key) = key(handle) else {
         return Ok(None);
     };
-    let Some(offset) = number(alloc, offset)? else {
+    let Some(offset) = number(offset) else {
         return Ok(None);
     };
     let Some(bytes) = data(alloc, bytes)? else {
@@ -118,22 +118,22 @@ pub fn write(alloc: Global, words: &[&str]) -> Result<Option<Event>, OutOfMemory
 }
 
 /// `size H NUM`.
-pub fn size(alloc: Global, words: &[&str]) -> Result<Option<Event>, OutOfMemory>
-    ensures { IfOk result (Reads (IsSize (map (λ w. w.now) words.now))) }
+pub fn size(words: &[&str]) -> Option<Event>
+    ensures { Reads (IsSize (map (λ w. w.now) words.now)) result }
 {
     let [handle, size] = words else {
-        return Ok(None);
+        return None;
     };
-    let Some(key) = key(alloc, handle)? else {
-        return Ok(None);
+    let Some(key) = key(handle) else {
+        return None;
     };
-    let Some(size) = number(alloc, size)? else {
-        return Ok(None);
+    let Some(size) = number(size) else {
+        return None;
     };
-    Ok(Some(Event::Call(Call::Size {
+    Some(Event::Call(Call::Size {
         handle: Handle(key),
         size,
-    })))
+    }))
 }
 
 /// `rename P P`.
@@ -159,13 +159,13 @@ pub fn pin_line(alloc: Global, words: &[&str]) -> Result<Option<Event>, OutOfMem
     let [target, state, below @ ..] = words else {
         return Ok(None);
     };
-    let Some(path) = path(alloc, target)? else {
-        return Ok(None);
-    };
     let Some(pin) = pin(state) else {
         return Ok(None);
     };
     let Some(reach) = reach(below) else {
+        return Ok(None);
+    };
+    let Some(path) = path(alloc, target)? else {
         return Ok(None);
     };
     Ok(Some(Event::Call(Call::Pin { path, pin, reach })))
@@ -178,10 +178,10 @@ pub fn ranges(alloc: Global, words: &[&str]) -> Result<Option<Event>, OutOfMemor
     let [target, word] = words else {
         return Ok(None);
     };
-    let Some(path) = path(alloc, target)? else {
+    let Some(class) = class(word) else {
         return Ok(None);
     };
-    let Some(class) = class(word) else {
+    let Some(path) = path(alloc, target)? else {
         return Ok(None);
     };
     Ok(Some(Event::Call(Call::Ranges { path, class })))
@@ -194,10 +194,10 @@ pub fn keep(alloc: Global, words: &[&str]) -> Result<Option<Event>, OutOfMemory>
     let [target, word] = words else {
         return Ok(None);
     };
-    let Some(path) = path(alloc, target)? else {
+    let Some(on) = yes(word) else {
         return Ok(None);
     };
-    let Some(on) = yes(word) else {
+    let Some(path) = path(alloc, target)? else {
         return Ok(None);
     };
     Ok(Some(Event::Call(Call::Keep { path, on })))
@@ -220,13 +220,13 @@ fn dehydrate_range(
 ) -> Result<Option<Event>, OutOfMemory>
     ensures { IfOk result (Reads (IsDehydrate (target.now ∷ offset.now ∷ len.now ∷ []))) }
 {
+    let Some(offset) = number(offset) else {
+        return Ok(None);
+    };
+    let Some(len) = number(len) else {
+        return Ok(None);
+    };
     let Some(path) = path(alloc, target)? else {
-        return Ok(None);
-    };
-    let Some(offset) = number(alloc, offset)? else {
-        return Ok(None);
-    };
-    let Some(len) = number(alloc, len)? else {
         return Ok(None);
     };
     let range = Some((offset, len));

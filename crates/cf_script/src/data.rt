@@ -73,16 +73,16 @@ fn one_byte(alloc: Global, word: &str) -> Result<Option<u8>, OutOfMemory>
     Ok(Some(bytes[0]))
 }
 
-fn times(alloc: Global, word: &str) -> Result<Option<u32>, OutOfMemory>
-    ensures { IfOk result (Reads (IsCount word.now)) }
+fn times(word: &str) -> Option<u32>
+    ensures { Reads (IsCount word.now) result }
 {
-    let Some(count) = number(alloc, word)? else {
-        return Ok(None);
+    let Some(count) = number(word) else {
+        return None;
     };
     if count == 0 || count > MOST_TIMES {
-        return Ok(None);
+        return None;
     }
-    Ok(Some(count))
+    Some(count)
 }
 
 /// One byte so many times.
@@ -92,7 +92,7 @@ fn repeated(alloc: Global, byte: &str, count: &str) -> Result<Option<Blob>, OutO
     let Some(byte) = one_byte(alloc, byte)? else {
         return Ok(None);
     };
-    let Some(count) = times(alloc, count)? else {
+    let Some(count) = times(count) else {
         return Ok(None);
     };
     let bytes = vec![in alloc; byte; count as usize]?;

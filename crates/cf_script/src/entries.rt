@@ -60,7 +60,7 @@ fn file_rest(alloc: Global, name: Blob, words: &[&str]) -> Result<Option<NewItem
     let [size, identity_word, flag @ ..] = words else {
         return Ok(None);
     };
-    let Some(size) = number(alloc, size)? else {
+    let Some(size) = number(size) else {
         return Ok(None);
     };
     let Some(identity) = identity(alloc, identity_word)? else {

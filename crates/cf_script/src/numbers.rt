@@ -1,40 +1,43 @@
 //! Numbers and pairs of numbers.
 
-ghost use Rattle.std.specs.Prelude.{◌≡◌, ◌∷◌, ◌++◌, IfOk, MatchOption};
+ghost use Rattle.std.specs.Prelude.{◌≡◌, ◌∷◌, ◌++◌, MatchOption};
+ghost use Rattle.std.specs.Fmt.{decimal};
+ghost use Rattle.std.specs.Str.{bytes_eq};
 ghost use Rattle.cf_script.specs.Words.{Reads, IsNumber, IsPositive, IsKey, IsUsn};
 ghost use Rattle.cf_script.specs.Cut.{HasNo, IsKeyParts};
 
-use cf_base::{Key, OutOfMemory, Usn};
-use std::alloc::Global;
+use cf_base::{Key, Usn};
+use itoa::Buffer;
 
-/// A number as the report would write it.
-pub fn number(alloc: Global, word: &str) -> Result<Option<u32>, OutOfMemory>
-    ensures { IfOk result (Reads (IsNumber word.now)) }
+fn is_written(n: u32, word: &str) -> bool
+    ensures { result ≡ bytes_eq (decimal n) word.now }
+{
+    let mut buffer = Buffer::new();
+    let again = buffer.format(n);
+    again == word
+}
+
+/// A number as the report would write it. It takes no memory.
+pub fn number(word: &str) -> Option<u32>
+    ensures { Reads (IsNumber word.now) result }
 {
     match word.parse::<u32>() {
-        Ok(n) => {
-            let again = n.to_string(alloc)?;
-            if again.as_str() == word {
-                Ok(Some(n))
-            } else {
-                Ok(None)
-            }
-        }
-        Err(_) => Ok(None),
+        Ok(n) => { if is_written(n, word) { Some(n) } else { None } }
+        Err(_) => None,
     }
 }
 
 /// A number from 1.
-pub fn positive(alloc: Global, word: &str) -> Result<Option<u32>, OutOfMemory>
-    ensures { IfOk result (Reads (IsPositive word.now)) }
+pub fn positive(word: &str) -> Option<u32>
+    ensures { Reads (IsPositive word.now) result }
 {
-    let Some(n) = number(alloc, word)? else {
-        return Ok(None);
+    let Some(n) = number(word) else {
+        return None;
     };
     if n == 0 {
-        return Ok(None);
+        return None;
     }
-    Ok(Some(n))
+    Some(n)
 }
 
 /// What stands before the first dot, and after it.
@@ -44,37 +47,37 @@ fn cut_at_dot(word: &str) -> Option<(&str, &str)>
     word.split_once('.')
 }
 
-fn key_of(alloc: Global, epoch: &str, number_word: &str) -> Result<Option<Key>, OutOfMemory>
-    ensures { IfOk result (Reads (IsKeyParts epoch.now number_word.now)) }
+fn key_of(epoch: &str, number_word: &str) -> Option<Key>
+    ensures { Reads (IsKeyParts epoch.now number_word.now) result }
 {
-    let Some(epoch) = number(alloc, epoch)? else {
-        return Ok(None);
+    let Some(epoch) = number(epoch) else {
+        return None;
     };
-    let Some(number) = number(alloc, number_word)? else {
-        return Ok(None);
+    let Some(number) = number(number_word) else {
+        return None;
     };
-    Ok(Some(Key { epoch, number }))
+    Some(Key { epoch, number })
 }
 
 /// The key of a handle, a wait or an ask: two numbers with a dot between.
-pub fn key(alloc: Global, word: &str) -> Result<Option<Key>, OutOfMemory>
-    ensures { IfOk result (Reads (IsKey word.now)) }
+pub fn key(word: &str) -> Option<Key>
+    ensures { Reads (IsKey word.now) result }
 {
     match cut_at_dot(word) {
-        Some((epoch, number)) => key_of(alloc, epoch, number),
-        None => Ok(None),
+        Some((epoch, number)) => key_of(epoch, number),
+        None => None,
     }
 }
 
 /// A sequence number: two numbers with a dot between.
-pub fn usn(alloc: Global, word: &str) -> Result<Option<Usn>, OutOfMemory>
-    ensures { IfOk result (Reads (IsUsn word.now)) }
+pub fn usn(word: &str) -> Option<Usn>
+    ensures { Reads (IsUsn word.now) result }
 {
-    match key(alloc, word)? {
-        Some(key) => Ok(Some(Usn {
+    match key(word) {
+        Some(key) => Some(Usn {
             epoch: key.epoch,
             place: key.number,
-        })),
-        None => Ok(None),
+        }),
+        None => None,
     }
 }

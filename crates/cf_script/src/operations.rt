@@ -19,7 +19,7 @@ fn transfer(alloc: Global, key: Key, words: &[&str]) -> Result<Option<Operation>
     let [offset, bytes] = words else {
         return Ok(None);
     };
-    let Some(at) = number(alloc, offset)? else {
+    let Some(at) = number(offset) else {
         return Ok(None);
     };
     let Some(bytes) = data(alloc, bytes)? else {
@@ -41,58 +41,58 @@ fn span_of(start: u32, len: u32) -> Span
     }
 }
 
-fn fail(alloc: Global, key: Key, words: &[&str]) -> Result<Option<Operation>, OutOfMemory>
-    ensures { IfOk result (Reads (IsOperation OperationCommand.CallError key (map (λ w. w.now) words.now))) }
+fn fail(key: Key, words: &[&str]) -> Option<Operation>
+    ensures { Reads (IsOperation OperationCommand.CallError key (map (λ w. w.now) words.now)) result }
 {
     let [offset, len, status] = words else {
-        return Ok(None);
+        return None;
     };
-    let Some(start) = number(alloc, offset)? else {
-        return Ok(None);
+    let Some(start) = number(offset) else {
+        return None;
     };
-    let Some(len) = number(alloc, len)? else {
-        return Ok(None);
+    let Some(len) = number(len) else {
+        return None;
     };
-    let Some(status) = number(alloc, status)? else {
-        return Ok(None);
+    let Some(status) = number(status) else {
+        return None;
     };
     let span = span_of(start, len);
-    Ok(Some(Operation::Refuse { key, span, status }))
+    Some(Operation::Refuse { key, span, status })
 }
 
-fn retrieve(alloc: Global, key: Key, words: &[&str]) -> Result<Option<Operation>, OutOfMemory>
-    ensures { IfOk result (Reads (IsOperation OperationCommand.Retrieve key (map (λ w. w.now) words.now))) }
+fn retrieve(key: Key, words: &[&str]) -> Option<Operation>
+    ensures { Reads (IsOperation OperationCommand.Retrieve key (map (λ w. w.now) words.now)) result }
 {
     let [offset, len] = words else {
-        return Ok(None);
+        return None;
     };
-    let Some(start) = number(alloc, offset)? else {
-        return Ok(None);
+    let Some(start) = number(offset) else {
+        return None;
     };
-    let Some(len) = number(alloc, len)? else {
-        return Ok(None);
+    let Some(len) = number(len) else {
+        return None;
     };
     let span = span_of(start, len);
-    Ok(Some(Operation::Retrieve { key, span }))
+    Some(Operation::Retrieve { key, span })
 }
 
-fn ack(alloc: Global, key: Key, words: &[&str]) -> Result<Option<Operation>, OutOfMemory>
-    ensures { IfOk result (Reads (IsOperation OperationCommand.Ack key (map (λ w. w.now) words.now))) }
+fn ack(key: Key, words: &[&str]) -> Option<Operation>
+    ensures { Reads (IsOperation OperationCommand.Ack key (map (λ w. w.now) words.now)) result }
 {
     let [offset, len, word] = words else {
-        return Ok(None);
+        return None;
     };
-    let Some(start) = number(alloc, offset)? else {
-        return Ok(None);
+    let Some(start) = number(offset) else {
+        return None;
     };
-    let Some(len) = number(alloc, len)? else {
-        return Ok(None);
+    let Some(len) = number(len) else {
+        return None;
     };
     let Some(good) = good(word) else {
-        return Ok(None);
+        return None;
     };
     let span = span_of(start, len);
-    Ok(Some(Operation::Ack { key, span, good }))
+    Some(Operation::Ack { key, span, good })
 }
 
 fn rehydrate(key: Key, words: &[&str]) -> Option<Operation>
@@ -144,9 +144,9 @@ fn operation(
 {
     match command {
         OperationCommand::Transfer => transfer(alloc, key, words),
-        OperationCommand::CallError => fail(alloc, key, words),
-        OperationCommand::Retrieve => retrieve(alloc, key, words),
-        OperationCommand::Ack => ack(alloc, key, words),
+        OperationCommand::CallError => Ok(fail(key, words)),
+        OperationCommand::Retrieve => Ok(retrieve(key, words)),
+        OperationCommand::Ack => Ok(ack(key, words)),
         OperationCommand::Rehydrate => Ok(rehydrate(key, words)),
         OperationCommand::Entries => list_entries(alloc, key, words),
         OperationCommand::AckDehydrate => Ok(ack_dehydrate(key, words)),
@@ -177,27 +177,27 @@ pub fn do_line(alloc: Global, words: &[&str]) -> Result<Option<Event>, OutOfMemo
     let Some(command) = operation_command(word) else {
         return Ok(None);
     };
-    let Some(key) = key(alloc, key_word)? else {
+    let Some(key) = key(key_word) else {
         return Ok(None);
     };
     done(alloc, command, key, rest)
 }
 
 /// A key, and before it whether it is that of the callback.
-fn plan_key(alloc: Global, word: &str) -> Result<Option<(bool, Key)>, OutOfMemory>
-    ensures { IfOk result (Reads (IsPlanKey word.now)) }
+fn plan_key(word: &str) -> Option<(bool, Key)>
+    ensures { Reads (IsPlanKey word.now) result }
 {
     if word == "self" {
         let own = Key {
             epoch: 0,
             number: 0,
         };
-        return Ok(Some((true, own)));
+        return Some((true, own));
     }
-    let Some(key) = key(alloc, word)? else {
-        return Ok(None);
+    let Some(key) = key(word) else {
+        return None;
     };
-    Ok(Some((false, key)))
+    Some((false, key))
 }
 
 fn planned(
@@ -225,7 +225,7 @@ pub fn plan(alloc: Global, words: &[&str]) -> Result<Option<Event>, OutOfMemory>
     let Some(command) = operation_command(word) else {
         return Ok(None);
     };
-    let key = match plan_key(alloc, key_word)? {
+    let key = match plan_key(key_word) {
         Some(key) => key,
         None => return Ok(None),
     };

@@ -78,16 +78,16 @@ fn stat(alloc: Global, words: &[&str]) -> Result<Option<Event>, OutOfMemory>
     Ok(Some(Event::Peer(PeerEvent::Stat { path })))
 }
 
-fn keep(alloc: Global, words: &[&str]) -> Result<Option<Event>, OutOfMemory>
-    ensures { IfOk result (Reads (IsPeerEvent PeerCommand.Keep (map (λ w. w.now) words.now))) }
+fn keep(words: &[&str]) -> Option<Event>
+    ensures { Reads (IsPeerEvent PeerCommand.Keep (map (λ w. w.now) words.now)) result }
 {
     let [word] = words else {
-        return Ok(None);
+        return None;
     };
-    let Some(count) = positive(alloc, word)? else {
-        return Ok(None);
+    let Some(count) = positive(word) else {
+        return None;
     };
-    Ok(Some(Event::Peer(PeerEvent::Keep { count })))
+    Some(Event::Peer(PeerEvent::Keep { count }))
 }
 
 fn peer_event(
@@ -103,7 +103,7 @@ fn peer_event(
         PeerCommand::Move => move_item(alloc, words),
         PeerCommand::Remove => remove(alloc, words),
         PeerCommand::Stat => stat(alloc, words),
-        PeerCommand::Keep => keep(alloc, words),
+        PeerCommand::Keep => Ok(keep(words)),
     }
 }
 

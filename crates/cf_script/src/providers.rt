@@ -18,16 +18,16 @@ pub fn place(alloc: Global, words: &[&str]) -> Result<Option<Event>, OutOfMemory
     let [target, size, identity_word, flag @ ..] = words else {
         return Ok(None);
     };
-    let Some(path) = path(alloc, target)? else {
+    let Some(size) = number(size) else {
         return Ok(None);
     };
-    let Some(size) = number(alloc, size)? else {
+    let Some(in_sync) = in_sync(flag) else {
         return Ok(None);
     };
     let Some(identity) = identity(alloc, identity_word)? else {
         return Ok(None);
     };
-    let Some(in_sync) = in_sync(flag) else {
+    let Some(path) = path(alloc, target)? else {
         return Ok(None);
     };
     Ok(Some(Event::Provider(ProviderEvent::Place {
@@ -45,13 +45,13 @@ pub fn place_dir(alloc: Global, words: &[&str]) -> Result<Option<Event>, OutOfMe
     let [target, identity_word, flag @ ..] = words else {
         return Ok(None);
     };
-    let Some(path) = path(alloc, target)? else {
+    let Some(in_sync) = in_sync(flag) else {
         return Ok(None);
     };
     let Some(identity) = identity(alloc, identity_word)? else {
         return Ok(None);
     };
-    let Some(in_sync) = in_sync(flag) else {
+    let Some(path) = path(alloc, target)? else {
         return Ok(None);
     };
     Ok(Some(Event::Provider(ProviderEvent::PlaceDir {
@@ -101,13 +101,13 @@ fn update_sized(
 ) -> Result<Option<Event>, OutOfMemory>
     ensures { IfOk result (Reads (IsUpdate (target.now ∷ word.now ∷ size.now ∷ []))) }
 {
+    let Some(size) = number(size) else {
+        return Ok(None);
+    };
     let Some(path) = path(alloc, target)? else {
         return Ok(None);
     };
     let Some(identity) = identity(alloc, word)? else {
-        return Ok(None);
-    };
-    let Some(size) = number(alloc, size)? else {
         return Ok(None);
     };
     Ok(Some(Event::Provider(ProviderEvent::Update {
@@ -135,10 +135,10 @@ pub fn mark(alloc: Global, words: &[&str]) -> Result<Option<Event>, OutOfMemory>
     let [target, word] = words else {
         return Ok(None);
     };
-    let Some(path) = path(alloc, target)? else {
+    let Some(number) = usn(word) else {
         return Ok(None);
     };
-    let Some(number) = usn(alloc, word)? else {
+    let Some(path) = path(alloc, target)? else {
         return Ok(None);
     };
     Ok(Some(Event::Provider(ProviderEvent::Mark { path, number })))

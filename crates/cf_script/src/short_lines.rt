@@ -81,20 +81,16 @@ fn number_event(command: NumberCommand, number: u32) -> Event
 }
 
 /// A word and a number.
-pub fn on_number(
-    alloc: Global,
-    command: NumberCommand,
-    words: &[&str],
-) -> Result<Option<Event>, OutOfMemory>
-    ensures { IfOk result (Reads (IsNumberLine command (map (λ w. w.now) words.now))) }
+pub fn on_number(command: NumberCommand, words: &[&str]) -> Option<Event>
+    ensures { Reads (IsNumberLine command (map (λ w. w.now) words.now)) result }
 {
     let [word] = words else {
-        return Ok(None);
+        return None;
     };
-    let Some(number) = number(alloc, word)? else {
-        return Ok(None);
+    let Some(number) = number(word) else {
+        return None;
     };
-    Ok(Some(number_event(command, number)))
+    Some(number_event(command, number))
 }
 
 fn whole_crash(word: &str) -> Option<Event>
@@ -107,26 +103,26 @@ fn whole_crash(word: &str) -> Option<Event>
     Some(Event::Device(DeviceEvent::Crash { choice }))
 }
 
-fn mixed_crash(alloc: Global, word: &str, seed: &str) -> Result<Option<Event>, OutOfMemory>
-    ensures { IfOk result (Reads (IsCrash (word.now ∷ seed.now ∷ []))) }
+fn mixed_crash(word: &str, seed: &str) -> Option<Event>
+    ensures { Reads (IsCrash (word.now ∷ seed.now ∷ [])) result }
 {
     if word != "mix" {
-        return Ok(None);
+        return None;
     }
-    let Some(seed) = number(alloc, seed)? else {
-        return Ok(None);
+    let Some(seed) = number(seed) else {
+        return None;
     };
     let choice = Choice::Mix(seed as u64);
-    Ok(Some(Event::Device(DeviceEvent::Crash { choice })))
+    Some(Event::Device(DeviceEvent::Crash { choice }))
 }
 
 /// `crash keep`, `crash drop` or `crash mix NUM`.
-pub fn crash(alloc: Global, words: &[&str]) -> Result<Option<Event>, OutOfMemory>
-    ensures { IfOk result (Reads (IsCrash (map (λ w. w.now) words.now))) }
+pub fn crash(words: &[&str]) -> Option<Event>
+    ensures { Reads (IsCrash (map (λ w. w.now) words.now)) result }
 {
     match words {
-        [word] => Ok(whole_crash(word)),
-        [word, seed] => mixed_crash(alloc, word, seed),
-        _ => Ok(None),
+        [word] => whole_crash(word),
+        [word, seed] => mixed_crash(word, seed),
+        _ => None,
     }
 }

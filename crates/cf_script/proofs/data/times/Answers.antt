@@ -4,8 +4,8 @@ use Rattle.cf_script.proofs.data.times.Goals as goal
 
 pub returns-then-count-eq0 : goal.returns-then-count-eq0
 returns-then-count-eq0 c =
-    let is = rw c.in-Some.is at c.in_ok-count.ensures in
+    let is = c.in-Some.ensures in
     not_count c.args.word.now c.in-Some.count is.0 (λ one most. absurd (omega (arith, c.then-count-eq0.either)))
 
 pub returns : goal.returns
-returns c = count_reads c.args.word.now c.in-Some.count (rw c.in-Some.is at c.in_ok-count.ensures) (omega (arith, c.if-count-eq0.false)) (omega (arith, c.if-count-gt-MOST_TIMES.false))
+returns c = count_reads c.args.word.now c.in-Some.count c.in-Some.ensures (omega (arith, c.if-count-eq0.false)) (omega (arith, c.if-count-gt-MOST_TIMES.false))

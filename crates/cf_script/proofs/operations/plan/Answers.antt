@@ -11,6 +11,6 @@ use Rattle.cf_script.proofs.operations.plan.Goals as goal
 
 pub returns : goal.returns
 returns c = subst (λ ws. IfOk c.planned.result (Reads (IsPlan ws))) (sym (two_words c.args.words.now c.in-len2-up.len_at_least))
-    (IfOk-weaker c.planned.result (Reads (IsPlanned c.in-Some.command c.in-Some-2.key (texts (after 2 c.args.words.now)))) (Reads (IsPlan ((get_or c.args.words.now 0 no_word).now ∷ (get_or c.args.words.now 1 no_word).now ∷ texts (after 2 c.args.words.now))))
-    (λ o h. both_read (λ d. (get_or c.args.words.now 0 no_word).now ≡ operation_name d) (IsPlanKey (get_or c.args.words.now 1 no_word).now) (λ d key e. IsPlanned d key (texts (after 2 c.args.words.now)) e) c.in-Some.command c.in-Some-2.key o c.in-Some.ensures (rw c.in-Some-2.is at c.in_ok-key.ensures) h)
+    (IfOk-weaker c.planned.result (Reads (IsPlanned c.in-Some.command c.in-Some-plan_key.key (texts (after 2 c.args.words.now)))) (Reads (IsPlan ((get_or c.args.words.now 0 no_word).now ∷ (get_or c.args.words.now 1 no_word).now ∷ texts (after 2 c.args.words.now))))
+    (λ o h. both_read (λ d. (get_or c.args.words.now 0 no_word).now ≡ operation_name d) (IsPlanKey (get_or c.args.words.now 1 no_word).now) (λ d key e. IsPlanned d key (texts (after 2 c.args.words.now)) e) c.in-Some.command c.in-Some-plan_key.key o c.in-Some.ensures c.in-Some-plan_key.ensures h)
     c.planned.ensures)
