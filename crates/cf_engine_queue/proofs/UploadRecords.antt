@@ -1,21 +1,18 @@
 -- Records of one kind among those of a book, and what a queue has of them.
-use Rattle.std.proofs.Common.{◌≡◌, ℕ, zero, suc, ◌||◌, ◌&&◌, ◌==◌, ◌<◌, ◌^◌, Bool, true, false, List, [], ◌∷◌, ◌++◌, length, take, drop, map, refl, sym, ap, ◌∙◌, subst, arith, append_assoc}
+use Rattle.std.proofs.Common.{◌≡◌, ℕ, zero, suc, ◌||◌, Bool, true, false, List, [], ◌∷◌, ◌++◌, take, drop, map, refl, sym, ap, ◌∙◌, subst, arith, append_assoc}
 use Rattle.std.proofs.lemmas.List.{append-nil}
 use Rattle.std.specs.List.{AllByRecursion, list_any}
-use Rattle.std.specs.Prelude.{nat_le}
-use Rattle.std.proofs.lemmas.Bool.Decides.{nat_tests}
 use Rattle.std.specs.List.Sorted.{IsPartitionedBy}
 use Rattle.cf_base.specs.declared.answers.AuxRecord.{AuxRecord}
 use Rattle.cf_model.specs.Books as model
 use Rattle.cf_model.specs.Books.{Book, aux_records, cursor_records, entry_record, seen_record, tombstone_record}
-use Rattle.cf_model.specs.Words.{in_bytes, is_empty, same}
+use Rattle.cf_model.specs.Words.{is_empty}
 use Rattle.cf_engine_queue.specs.Books.{entry_value, uploads_of}
-use Rattle.cf_engine_queue.specs.Keys.{begins, is_kind_below}
+use Rattle.cf_engine_queue.specs.Keys.{is_kind_below}
 use Rattle.cf_engine_queue.specs.Order.{Divides}
-use Rattle.cf_engine_queue.specs.Records.{FitsEntry, IsKeepable, queue_of}
+use Rattle.cf_engine_queue.specs.Records.{IsKeepable, queue_of}
 use Rattle.cf_engine_queue.specs.declared.uploads.QueueEntry.{QueueEntry}
 use Rattle.cf_engine_queue.proofs.InOrder.{all_at}
-use Rattle.cf_engine_queue.proofs.KeyOrder.{same_ids}
 use Rattle.cf_engine_queue.proofs.Steps.{all_both, all_mapped, cursor_is}
 
 -- those that pass a test, with others behind them
@@ -88,19 +85,3 @@ any_of_uploads p es queue b x is entries same = is ∙ any_mapped p es ∙ ap (l
 pub empty_mapped : {A B : Type 0} (f : A → B) (xs : List A) → is_empty (map f xs) ≡ is_empty xs
 empty_mapped f [] = refl
 empty_mapped f (x ∷ xs) = refl
-
--- those of an item, by the first bytes of their values
-
-begins_with : (i : ℕ) (e : model.QueueEntry) → i < 2 ^ 64 → FitsEntry e → begins (in_bytes 8 i) (entry_record e).value ≡ (e.item.0 == i)
-begins_with i e lt fits = ap (λ (b : Bool). b && same (in_bytes 8 e.item.0) (in_bytes 8 i)) (long (length (model.action_byte e.action ∷ model.usn_bytes e.number ++ in_bytes 8 e.rid.0 ++ in_bytes 8 e.parent.0 ++ e.name))) ∙ same_ids e.item.0 i fits.item lt where
-  long : (n : ℕ) → nat_le 8 (suc (suc (suc (suc (suc (suc (suc (suc n)))))))) ≡ true
-  long n = grind (arith, nat_tests)
-
-any_with : (i : ℕ) (es : List model.QueueEntry) → i < 2 ^ 64 → AllByRecursion FitsEntry es → list_any (λ r. begins (in_bytes 8 i) r.value) (map entry_record es) ≡ list_any (λ e. e.item.0 == i) es
-any_with i [] lt fits = refl
-any_with i (e ∷ es) lt fits = (λ k. begins_with i e lt fits.0 k || any_with i es lt fits.1 k)
-
-pub any_of_item : (b : Book) (rs : List AuxRecord) (i : ℕ) (front : List ℕ) (x : Bool) → IsKeepable b → i < 2 ^ 64 → front ≡ in_bytes 8 i → rs ≡ map entry_record b.entries
-    → x ≡ list_any (λ r. begins front r.value) rs → x ≡ list_any (λ e. e.item.0 == i) b.entries
-any_of_item b rs i front x keepable lt bytes are is =
-    is ∙ (λ k. list_any (λ r. begins (bytes k) r.value) (are k)) ∙ any_with i b.entries lt keepable.entries

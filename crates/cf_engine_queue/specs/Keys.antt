@@ -1,5 +1,5 @@
 -- Auxiliary records by their keys.
-use Rattle.std.specs.Prelude.{◌≡◌, ◌&&◌, ℕ, Bool, true, List, [], ◌∷◌, Option, find, length, nat_le, nat_lt, take}
+use Rattle.std.specs.Prelude.{◌≡◌, ℕ, Bool, true, List, [], ◌∷◌, Option, find, nat_lt}
 use Rattle.std.specs.List.{AllByRecursion}
 use Rattle.cf_base.specs.declared.answers.AuxRecord.{AuxRecord}
 use Rattle.cf_model.specs.Words.{comes_before, same}
@@ -22,7 +22,3 @@ begins_below kind (k ∷ ks) = nat_lt k kind
 -- the record is of a kind below this one
 abbrev pub is_kind_below : ℕ → AuxRecord → Bool
 is_kind_below kind r = begins_below kind r.key
-
--- the bytes begin with these
-abbrev pub begins : List ℕ → List ℕ → Bool
-begins front bytes = nat_le (length front) (length bytes) && same (take (length front) bytes) front

@@ -25,7 +25,7 @@ mod uploads;
 pub use identities::{Numbers, identity_for, numbers_of};
 pub use laws::{keepable_after_each_step, one_record_a_step, one_value_a_record};
 pub use look_ups::{find_cursor, find_entry, find_seen, find_tombstone};
-pub use pending_uploads::{has_uploads, load_uploads, sends_item, sends_new, sends_target};
+pub use pending_uploads::{has_uploads, load_uploads, sends_new};
 pub use queues::Queue;
 pub use record_reads::{read_cursor, read_record, read_seen};
 pub use record_writes::{entry_key, seen_key, spell_cursor, spell_seen, tombstone_key};

@@ -1,19 +1,19 @@
 //! The uploads on their way, read from the records of a book alone that are theirs.
 
-ghost use Rattle.std.specs.Prelude.{◌≡◌, ◌≤◌, ◌<◌, ◌^◌, ◌==◌, IfOk, length, map, not};
+ghost use Rattle.std.specs.Prelude.{◌≡◌, ◌≤◌, IfOk, length, map, not};
 ghost use Rattle.std.specs.List.{list_any};
 ghost use Rattle.std.specs.List.Sorted.{IsPartitionedBy};
 ghost use Rattle.cf_model.specs.Books.{Book, aux_records, entry_record};
 ghost use Rattle.cf_model.specs.PushReplies.{is_new_entry};
-ghost use Rattle.cf_model.specs.Words.{in_bytes, is_empty};
+ghost use Rattle.cf_model.specs.Words.{is_empty};
 ghost use Rattle.cf_engine_queue.specs.Books.{entry_value, uploads_of};
-ghost use Rattle.cf_engine_queue.specs.Keys.{begins, is_kind_below};
+ghost use Rattle.cf_engine_queue.specs.Keys.{is_kind_below};
 ghost use Rattle.cf_engine_queue.specs.Order.{Divides};
 ghost use Rattle.cf_engine_queue.specs.Records.{IsKeepable};
 
 use crate::queues::Queue;
 use crate::uploads::{Action, QueueEntry};
-use cf_base::{AuxRecord, ItemId, OutOfMemory, Rid, no_such_state};
+use cf_base::{AuxRecord, OutOfMemory, no_such_state};
 use std::alloc::Global;
 
 // Whether the record is of a kind below this one: the first byte of its key says so.
@@ -61,12 +61,6 @@ pub fn load_uploads(alloc: Global, records: &[AuxRecord]) -> Result<Queue, OutOf
     Ok(queue)
 }
 
-fn any_of_target(entries: &[QueueEntry], rid: Rid) -> bool
-    ensures { result ≡ list_any (λ e. (entry_value e).rid.0 == rid.0) entries.now }
-{
-    entries.iter().any(|entry| entry.rid.0 == rid.0)
-}
-
 fn is_new(entry: &QueueEntry) -> bool
     ensures { result ≡ is_new_entry (entry_value entry.now) }
 {
@@ -82,47 +76,6 @@ fn any_new(entries: &[QueueEntry]) -> bool
     ensures { result ≡ list_any (λ e. is_new_entry (entry_value e)) entries.now }
 {
     entries.iter().any(|entry| is_new(entry))
-}
-
-fn begins(bytes: &[u8], front: &[u8]) -> bool
-    ensures { result ≡ begins front.now bytes.now }
-{
-    front.len() <= bytes.len() && &bytes[..front.len()] == front
-}
-
-fn value_begins(record: &AuxRecord, front: &[u8]) -> bool
-    ensures { result ≡ begins front.now record.now.value }
-{
-    begins(record.value.as_slice(), front)
-}
-
-fn any_begins(records: &[AuxRecord], front: &[u8]) -> bool
-    ensures { result ≡ list_any (λ r. begins front.now r.value) records.now }
-{
-    records.iter().any(|record| value_begins(record, front))
-}
-
-fn item_bytes(item: ItemId) -> [u8; 8]
-    ensures bytes { result ≡ in_bytes 8 item.0 }
-    ensures fits { item.0 < 2 ^ 64 }
-{
-    item.0.to_be_bytes()
-}
-
-/// Whether an upload of this local item is on its way, by the records of a book. It looks at the first eight bytes of each that is on
-/// its way, and takes no memory.
-pub fn sends_item(records: &[AuxRecord], item: ItemId) -> bool
-    ensures { (b : Book) → IsKeepable b → records.now ≡ aux_records b → result ≡ list_any (λ e. e.item.0 == item.0) b.entries }
-{
-    any_begins(entry_records(records), &item_bytes(item))
-}
-
-/// Whether an upload to this item of the remote is on its way, by the records of a book. As `load_uploads`.
-pub fn sends_target(alloc: Global, records: &[AuxRecord], rid: Rid) -> Result<bool, OutOfMemory>
-    ensures { (b : Book) → IsKeepable b → records.now ≡ aux_records b → IfOk result (λ x. x ≡ list_any (λ e. e.rid.0 == rid.0) b.entries) }
-{
-    let queue = load_uploads(alloc, records)?;
-    Ok(any_of_target(queue.entries(), rid))
 }
 
 /// Whether a new item is on its way to the remote, by the records of a book. As `load_uploads`.
