@@ -1,16 +1,16 @@
 //! The command line.
 
-ghost use Rattle.std.specs.Prelude.{◌≡◌, IfOk, false};
-ghost use Rattle.clap.specs.Simple.{app_of, shape_of};
+ghost use Rattle.std.specs.Prelude.{◌≡◌, [], IfOk, false};
+ghost use Rattle.clap.specs.Simple.{app_of, new_shape, shape_of, with_subcommand};
 ghost use Rattle.clap.specs.declared.builder.command.Command.TheViews.{out-Command as fields_of};
-ghost use Rattle.cf_cli.specs.Accounts.{account, gen_shape, of_reports, of_scripts};
+ghost use Rattle.cf_cli.specs.Accounts.{account, gen_shape, of_reports, of_scripts, top};
 
 use clap::{Arg, Command};
 use std::alloc::{AllocError, Global};
 
-// The command line with the subcommands that write a report.
-fn of_reports<'a>(alloc: Global) -> Result<Command<'a>, AllocError>
-    ensures { IfOk result (λ c. app_of c ≡ of_reports) }
+// The program itself, with no subcommand yet.
+fn top<'a>(alloc: Global) -> Command<'a>
+    ensures { app_of result ≡ record { top = top; subs = [] } }
 {
     Command::new(alloc, "cloudfiles")
         .no_binary_name(true)
@@ -18,8 +18,21 @@ fn of_reports<'a>(alloc: Global) -> Result<Command<'a>, AllocError>
         .disable_help_subcommand(true)
         .disable_version_flag(true)
         .subcommand_required(true)
-        .subcommand(Command::new(alloc, "replay"))?
-        .subcommand(Command::new(alloc, "filter"))
+}
+
+// The command line with one more subcommand, which is a word alone.
+fn with_word<'a>(line: Command<'a>, alloc: Global, word: &'a str) -> Result<Command<'a>, AllocError>
+    ensures { IfOk result (λ c. app_of c ≡ with_subcommand (app_of line.entry) (new_shape word.entry.now)) }
+{
+    line.subcommand(Command::new(alloc, word))
+}
+
+// The command line with the subcommands that write a report.
+fn of_reports<'a>(alloc: Global) -> Result<Command<'a>, AllocError>
+    ensures { IfOk result (λ c. app_of c ≡ of_reports) }
+{
+    let line = with_word(top(alloc), alloc, "replay")?;
+    with_word(line, alloc, "filter")
 }
 
 // The subcommand that is followed by a number.
@@ -31,22 +44,35 @@ fn generator<'a>(alloc: Global) -> Result<Command<'a>, AllocError>
     Command::new(alloc, "gen").arg(number)
 }
 
+// The command line with the subcommand that is followed by a number.
+fn with_generator<'a>(line: Command<'a>, alloc: Global) -> Result<Command<'a>, AllocError>
+    ensures { IfOk result (λ c. app_of c ≡ with_subcommand (app_of line.entry) gen_shape) }
+{
+    match generator(alloc) {
+        Ok(generator) => line.subcommand(generator),
+        Err(refused) => {
+            drop(line);
+            Err(refused)
+        }
+    }
+}
+
 // The command line with the subcommands that do a script.
 fn of_scripts<'a>(alloc: Global) -> Result<Command<'a>, AllocError>
     ensures { IfOk result (λ c. app_of c ≡ of_scripts) }
 {
-    of_reports(alloc)?
-        .subcommand(Command::new(alloc, "state"))?
-        .subcommand(Command::new(alloc, "image"))?
-        .subcommand(generator(alloc)?)
+    let line = of_reports(alloc)?;
+    let line = with_word(line, alloc, "state")?;
+    let line = with_word(line, alloc, "image")?;
+    with_generator(line, alloc)
 }
 
 /// The command line, to be handed the words after the program's name.
 pub(crate) fn account<'a>(alloc: Global) -> Result<Command<'a>, AllocError>
     ensures { IfOk result (λ c. app_of c ≡ account) }
 {
-    of_scripts(alloc)?
-        .subcommand(Command::new(alloc, "scrub"))?
-        .subcommand(Command::new(alloc, "migrate"))?
-        .subcommand(Command::new(alloc, "check"))
+    let line = of_scripts(alloc)?;
+    let line = with_word(line, alloc, "scrub")?;
+    let line = with_word(line, alloc, "migrate")?;
+    with_word(line, alloc, "check")
 }
