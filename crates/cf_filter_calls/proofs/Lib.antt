@@ -1,5 +1,6 @@
 pub mod Carried
 pub mod Dehydrated
+pub mod NamesTwice
 pub mod NewItems
 pub mod Suited
 pub mod Asked

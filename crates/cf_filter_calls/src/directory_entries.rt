@@ -69,7 +69,7 @@ fn refuse_list<S: Steps>(s: &S, dir: ItemId, list: &[NewItem]) -> Result<Option<
 {
     let named = are_names(s.alloc(), list)?;
     let policy = s.policy();
-    let why = refuse_entries(&policy, list);
+    let why = refuse_entries(s.alloc(), &policy, list)?;
     let deep = is_too_deep(s, dir, list);
     Ok(list_code(named, why, deep))
 }

@@ -1,7 +1,6 @@
 //! Lists of entries: why one is refused, and the changes that it comes to.
 
 ghost use Rattle.std.specs.Prelude.{◌≡◌, ◌⊎◌, ◌+◌, ◌++◌, ◌<◌, ◌&&◌, ◌^◌, IfErr, IfOk, OnOk, [], ◌∷◌, cond, false, not, length, nat_lt, true};
-ghost use Rattle.std.specs.List.{list_any};
 ghost use Rattle.cf_base.specs.Names.{is_name as is_base_name};
 ghost use Rattle.cf_base.specs.Policies.{is_always_full};
 ghost use Rattle.cf_base.specs.declared.changes.Change.TheVariants as change;
@@ -9,14 +8,15 @@ ghost use Rattle.cf_base.specs.declared.limits.TheConstants.{MOST_FILE_BYTES};
 ghost use Rattle.cf_filter_calls.specs.Entering.{are_names, entry_code, has_bytes_to_fetch, has_large, has_long_identity, listed_changes, number_past};
 ghost use Rattle.cf_model.specs.Operations.{entry_kind, is_twice};
 ghost use Rattle.cf_model.specs.Texts.{is_name};
-ghost use Rattle.cf_model.specs.Words.{same, when};
+ghost use Rattle.cf_model.specs.Words.{when};
 
 use crate::dehydrations::is_always_full;
 use cf_base::{
-    Blob, CallError, Change, Code, ItemId, Kind, Name, NewItem, OutOfMemory, Policy, Population,
+    CallError, Change, Code, ItemId, Kind, Name, NewItem, OutOfMemory, Policy, Population,
     Sequence, Usn,
 };
 use std::alloc::Global;
+use std::collections::BTreeSet;
 
 /// The greatest identity, in bytes.
 const MOST_IDENTITY: usize = 4096;
@@ -54,28 +54,22 @@ pub(crate) fn are_names(alloc: Global, list: &[NewItem]) -> Result<bool, OutOfMe
     Ok(true)
 }
 
-fn is_called(entry: &NewItem, name: &Blob) -> bool
-    ensures { result ≡ same name.now entry.now.name }
+// Whether two entries have the same name: whether one has that of one behind it. It takes memory for the names, and time as sorting
+// them does.
+fn is_twice(alloc: Global, list: &[NewItem]) -> Result<bool, OutOfMemory>
+    ensures { IfOk result (λ b. b ≡ is_twice list.now) }
 {
-    name.as_slice() == entry.name.as_slice()
-}
-
-fn has_name(list: &[NewItem], name: &Blob) -> bool
-    ensures { result ≡ list_any (λ e. same name.now e.name) list.now }
-{
-    list.iter().any(|entry| is_called(entry, name))
-}
-
-// Whether two entries have the same name.
-fn is_twice(list: &[NewItem]) -> bool
-    ensures { result ≡ is_twice list.now }
-{
-    for (place, entry) in list.iter().enumerate() {
-        if has_name(&list[place + 1..], &entry.name) {
-            return true;
+    let mut names: BTreeSet<&[u8]> = BTreeSet::new(alloc);
+    let mut left = list.len();
+    'entries: while left > 0 {
+        left -= 1;
+        let name = list[left].name.as_slice();
+        let added = names.insert(name)?;
+        if !added {
+            return Ok(true);
         }
     }
-    false
+    Ok(false)
 }
 
 fn is_long(entry: &NewItem) -> bool
@@ -135,15 +129,19 @@ fn entry_code(twice: bool, long: bool, large: bool, fetched: bool) -> Option<Cod
 }
 
 /// Why entries are refused under a policy, where they have names: Exists where two have the same, IdentityTooLong, TooLarge,
-/// PolicyDenied.
-pub(crate) fn refuse_entries(policy: &Policy, list: &[NewItem]) -> Option<Code>
-    ensures { result ≡ entry_code (is_twice list.now) (has_long_identity list.now) (has_large list.now) (has_bytes_to_fetch policy.now list.now) }
+/// PolicyDenied. It takes memory for the names.
+pub(crate) fn refuse_entries(
+    alloc: Global,
+    policy: &Policy,
+    list: &[NewItem],
+) -> Result<Option<Code>, OutOfMemory>
+    ensures { IfOk result (λ why. why ≡ entry_code (is_twice list.now) (has_long_identity list.now) (has_large list.now) (has_bytes_to_fetch policy.now list.now)) }
 {
-    let twice = is_twice(list);
+    let twice = is_twice(alloc, list)?;
     let long = has_long_identity(list);
     let large = has_large(list);
     let fetched = has_bytes_to_fetch(policy, list);
-    entry_code(twice, long, large, fetched)
+    Ok(entry_code(twice, long, large, fetched))
 }
 
 fn entry_kind(policy: &Policy, dir: bool) -> Kind
