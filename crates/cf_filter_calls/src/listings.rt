@@ -54,7 +54,7 @@ pub(crate) fn are_names(alloc: Global, list: &[NewItem]) -> Result<bool, OutOfMe
     Ok(true)
 }
 
-// Whether two entries have the same name: whether one has that of one behind it. It takes memory for the names, and time as sorting
+// Whether two entries have the same name: whether one has that of one behind it. It takes memory for a set of references to the names, and time as sorting
 // them does.
 fn is_twice(alloc: Global, list: &[NewItem]) -> Result<bool, OutOfMemory>
     ensures { IfOk result (λ b. b ≡ is_twice list.now) }
@@ -129,7 +129,7 @@ fn entry_code(twice: bool, long: bool, large: bool, fetched: bool) -> Option<Cod
 }
 
 /// Why entries are refused under a policy, where they have names: Exists where two have the same, IdentityTooLong, TooLarge,
-/// PolicyDenied. It takes memory for the names.
+/// PolicyDenied. It takes memory for a set of references to the names.
 pub(crate) fn refuse_entries(
     alloc: Global,
     policy: &Policy,
