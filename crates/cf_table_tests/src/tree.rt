@@ -7,6 +7,7 @@ use cf_base::{Blob, Code, Identity, ItemId, Name};
 use cf_table::Rows;
 use cf_tree::{check_move, conflict_name, find, find_below, find_parent, path_of, tree_of};
 use std::alloc::Global;
+use std::process::Abort;
 use std::test::Fail;
 
 fn add(
@@ -22,11 +23,14 @@ fn add(
     let Some(root) = rows.get(ItemId(1)) else {
         return Ok(());
     };
+    let name = Blob::from_slice(alloc, name.as_bytes())?;
+    let identity = Identity::new(alloc, b"")?;
+    // Owned last, so that no way out lets it go.
     let mut row = root.copy()?;
     row.id = ItemId(id);
     row.parent = ItemId(parent);
-    row.name = Blob::from_slice(alloc, name.as_bytes())?;
-    row.identity = Identity::new(alloc, b"")?;
+    row.name = name;
+    row.identity = identity;
     row.dir = kind.0;
     row.populated = kind.1;
     rows.put_row(row)?;
@@ -68,20 +72,36 @@ fn repeated(alloc: Global, text: &str, count: usize) -> Result<String, Fail> {
     Ok(all)
 }
 
+// Why a path of so many of these names leads nowhere.
+fn sought(alloc: Global, rows: &Rows, name: &str, count: usize) -> Result<Option<Code>, Fail> {
+    let path = path_of_names(alloc, name, count)?;
+    let found = find(rows, path.as_str()).err();
+    drop(path);
+    Ok(found)
+}
+
+// The same for one name that is so long.
+fn sought_long(alloc: Global, rows: &Rows, length: usize) -> Result<Option<Code>, Fail> {
+    let name = repeated(alloc, "n", length)?;
+    let found = sought(alloc, rows, name.as_str(), 1);
+    drop(name);
+    found
+}
+
+fn paths_end<R: Abort>(rt: &R, alloc: Global, rows: &Rows) -> Result<(), Fail> {
+    assert!(rt; sought(alloc, rows, "a", 32)? == Some(Code::NotFound));
+    assert!(rt; sought(alloc, rows, "..", 33)? == Some(Code::TooDeep));
+    assert!(rt; sought_long(alloc, rows, 255)? == Some(Code::NotFound));
+    assert!(rt; sought_long(alloc, rows, 256)? == Some(Code::BadPath));
+    Ok(())
+}
+
 #[test]
 fn paths_have_32_names_of_255_bytes(rt: HostRuntime) -> Result<(), Fail> {
     let rows = table(rt.alloc())?;
-    let path = path_of_names(rt.alloc(), "a", 32)?;
-    assert!(rt; find(&rows, path.as_str()) == Err(Code::NotFound));
-    let path = path_of_names(rt.alloc(), "..", 33)?;
-    assert!(rt; find(&rows, path.as_str()) == Err(Code::TooDeep));
-    let name = repeated(rt.alloc(), "n", 255)?;
-    let path = path_of_names(rt.alloc(), name.as_str(), 1)?;
-    assert!(rt; find(&rows, path.as_str()) == Err(Code::NotFound));
-    let name = repeated(rt.alloc(), "n", 256)?;
-    let path = path_of_names(rt.alloc(), name.as_str(), 1)?;
-    assert!(rt; find(&rows, path.as_str()) == Err(Code::BadPath));
-    Ok(())
+    let done = paths_end(&rt, rt.alloc(), &rows);
+    drop(rows);
+    done
 }
 
 // Directories `/c`, `/c/c` and so on, of which that many names lead to the last. Their ids begin at 10.
@@ -105,67 +125,84 @@ fn judged(alloc: Global, rows: &Rows, id: u64, parent: u64) -> Result<Option<Cod
     }
 }
 
-#[test]
-fn moves_end_at_32_names(rt: HostRuntime) -> Result<(), Fail> {
-    let mut rows = table(rt.alloc())?;
-    add_chain(rt.alloc(), &mut rows, 31)?;
-    assert!(rt; judged(rt.alloc(), &rows, 3, 40)?.is_none());
-    assert!(rt; judged(rt.alloc(), &rows, 6, 39)?.is_none());
-    assert!(rt; judged(rt.alloc(), &rows, 6, 40)? == Some(Code::TooDeep));
-    assert!(rt; judged(rt.alloc(), &rows, 10, 2)?.is_none());
-    assert!(rt; judged(rt.alloc(), &rows, 10, 6)? == Some(Code::TooDeep));
+fn moves_end<R: Abort>(rt: &R, alloc: Global, rows: &mut Rows) -> Result<(), Fail> {
+    add_chain(alloc, rows, 31)?;
+    assert!(rt; judged(alloc, rows, 3, 40)?.is_none());
+    assert!(rt; judged(alloc, rows, 6, 39)?.is_none());
+    assert!(rt; judged(alloc, rows, 6, 40)? == Some(Code::TooDeep));
+    assert!(rt; judged(alloc, rows, 10, 2)?.is_none());
+    assert!(rt; judged(alloc, rows, 10, 6)? == Some(Code::TooDeep));
     Ok(())
 }
 
-fn conflict(alloc: Global, rows: &Rows, name: &str) -> Result<Name, Fail> {
+#[test]
+fn moves_end_at_32_names(rt: HostRuntime) -> Result<(), Fail> {
+    let mut rows = table(rt.alloc())?;
+    let done = moves_end(&rt, rt.alloc(), &mut rows);
+    drop(rows);
+    done
+}
+
+// Whether the copy of that name is named so.
+fn is_copied(alloc: Global, rows: &Rows, name: &str, copy: &str) -> Result<bool, Fail> {
     let name = Name::read(alloc, name.as_bytes())?;
-    Ok(conflict_name(alloc, rows, ItemId(1), &name)?)
+    let copied = conflict_name(alloc, rows, ItemId(1), &name);
+    drop(name);
+    let copied = copied?;
+    let same = copied.as_slice() == copy.as_bytes();
+    drop(copied);
+    Ok(same)
+}
+
+const COPIES: [(&'static str, &'static str); 6] = [
+    ("plan.txt", "plan (conflict 1).txt"),
+    ("plain", "plain (conflict 1)"),
+    (".profile", ".profile (conflict 1)"),
+    ("a.tar.gz", "a.tar (conflict 1).gz"),
+    (
+        "s.3456789_123456789_123456789_123",
+        "s (conflict 1).3456789_123456789_123456789_123",
+    ),
+    (
+        "s.3456789_123456789_123456789_1234",
+        "s.3456789_123456789_123456789_1234 (conflict 1)",
+    ),
+];
+
+fn copies_end<R: Abort>(rt: &R, alloc: Global, rows: &mut Rows) -> Result<(), Fail> {
+    for (name, copy) in COPIES {
+        assert!(rt; is_copied(alloc, rows, name, copy)?);
+    }
+    add(alloc, rows, 8, 1, "plan (conflict 1).txt", FILE)?;
+    assert!(rt; is_copied(alloc, rows, "plan.txt", "plan (conflict 2).txt")?);
+    add(alloc, rows, 9, 1, "plan (conflict 2).txt", FILE)?;
+    assert!(rt; is_copied(alloc, rows, "plan.txt", "plan (conflict 3).txt")?);
+    Ok(())
 }
 
 #[test]
 fn copies_are_named(rt: HostRuntime) -> Result<(), Fail> {
     let mut rows = table(rt.alloc())?;
-    for (name, copy) in [
-        ("plan.txt", "plan (conflict 1).txt"),
-        ("plain", "plain (conflict 1)"),
-        (".profile", ".profile (conflict 1)"),
-        ("a.tar.gz", "a.tar (conflict 1).gz"),
-        (
-            "s.3456789_123456789_123456789_123",
-            "s (conflict 1).3456789_123456789_123456789_123",
-        ),
-        (
-            "s.3456789_123456789_123456789_1234",
-            "s.3456789_123456789_123456789_1234 (conflict 1)",
-        ),
-    ] {
-        assert_eq!(rt;
-            conflict(rt.alloc(), &rows, name)?.as_slice(),
-            copy.as_bytes()
-        );
-    }
-    add(rt.alloc(), &mut rows, 8, 1, "plan (conflict 1).txt", FILE)?;
-    assert_eq!(rt;
-        conflict(rt.alloc(), &rows, "plan.txt")?.as_slice(),
-        b"plan (conflict 2).txt".as_slice()
-    );
-    add(rt.alloc(), &mut rows, 9, 1, "plan (conflict 2).txt", FILE)?;
-    assert_eq!(rt;
-        conflict(rt.alloc(), &rows, "plan.txt")?.as_slice(),
-        b"plan (conflict 3).txt".as_slice()
-    );
-    Ok(())
+    let done = copies_end(&rt, rt.alloc(), &mut rows);
+    drop(rows);
+    done
+}
+
+fn is_cut(alloc: Global, rows: &Rows, long: &str) -> Result<bool, Fail> {
+    let mut copy = repeated(alloc, "€", 80)?;
+    copy.push_str(" (conflict 1)")?;
+    let same = is_copied(alloc, rows, long, copy.as_str());
+    drop(copy);
+    same
 }
 
 #[test]
 fn long_names_are_cut_at_a_character(rt: HostRuntime) -> Result<(), Fail> {
-    let rows = table(rt.alloc())?;
     let long = repeated(rt.alloc(), "€", 85)?;
-    let mut copy = repeated(rt.alloc(), "€", 80)?;
-    copy.push_str(" (conflict 1)")?;
-    assert_eq!(rt;
-        conflict(rt.alloc(), &rows, long.as_str())?.as_slice(),
-        copy.as_bytes()
-    );
+    let rows = table(rt.alloc())?;
+    let done = is_cut(rt.alloc(), &rows, long.as_str());
+    drop(rows);
+    drop(long);
+    assert!(rt; done?);
     Ok(())
 }

@@ -1,6 +1,8 @@
 //! What no clause says: that the calls succeed where there is memory, and some bytes from outside.
 
-ghost use Rattle.std.specs.Prelude.{◌≡◌, [], IfOk};
+ghost use Rattle.std.specs.Prelude.{◌≡◌, ◌<◌, ◌^◌, [], IfOk, length};
+ghost use Rattle.std.specs.List.{All};
+ghost use Rattle.cf_table.specs.Spelling.{HasRoom};
 
 use cf_base::{AuxRecord, Blob, ItemId, OutOfMemory, Usn};
 use cf_codec::{Format, Writer};
@@ -77,32 +79,85 @@ fn a_file(alloc: Global) -> Result<Blob, OutOfMemory> {
     Ok(out.into_blob())
 }
 
+fn why_of(
+    alloc: Global,
+    image: &[u8],
+    payloads: &[Blob],
+    format: Format,
+    clusters: u32,
+) -> Option<ImageError> {
+    read_contents(alloc, image, payloads, format, clusters).err()
+}
+
 fn why(alloc: Global, image: &[u8], clusters: u32) -> Option<ImageError> {
-    read_contents(alloc, image, &[], Format::Second, clusters).err()
+    why_of(alloc, image, &[], Format::Second, clusters)
+}
+
+// Whether the contents are spelled as this image. What a test owns it lets go before it fails.
+fn is_spelled(alloc: Global, contents: &Contents, image: &[u8]) -> Result<bool, OutOfMemory>
+    requires { All HasRoom contents.now.rows.rows }
+{
+    let spelled = spell_image(alloc, contents)?;
+    let same = spelled.as_slice() == image;
+    drop(spelled);
+    Ok(same)
+}
+
+// The bytes of a payload that says these items are gone, and of those the rows.
+fn payload_len(
+    alloc: Global,
+    contents: &Contents,
+    gone: &[ItemId],
+    rows: &[ItemId],
+) -> Result<usize, OutOfMemory>
+    requires room { All HasRoom contents.now.rows.rows }
+    requires count { length rows.now < 2 ^ 32 }
+{
+    let payload = spell_payload(alloc, contents, gone, rows, &[], &[])?;
+    let len = payload.as_slice().len();
+    drop(payload);
+    Ok(len)
+}
+
+fn is_root(alloc: Global, contents: &Contents, image: &[u8]) -> Result<bool, OutOfMemory>
+    requires { All HasRoom contents.now.rows.rows }
+{
+    let nothing = payload_len(alloc, contents, &[], &[])?;
+    let root = payload_len(alloc, contents, &[ItemId(9)], &[ItemId(1)])?;
+    let is_long = contents.image_len() == 115 && nothing == 48 && root == 130;
+    Ok(is_long && is_spelled(alloc, contents, image)?)
+}
+
+fn is_read_as_root(alloc: Global, image: &[u8]) -> Result<bool, Fail> {
+    let contents = read_image(alloc, image, Format::Second)?;
+    let told = is_root(alloc, &contents, image);
+    drop(contents);
+    Ok(told?)
 }
 
 #[test]
 fn an_image_of_the_root_has_115_bytes(rt: HostRuntime) -> Result<(), Fail> {
     let image = new_volume(rt.alloc())?;
-    let contents = read_image(rt.alloc(), image.as_slice(), Format::Second)?;
-    assert_eq!(rt; contents.image_len(), 115);
-    let again = spell_image(rt.alloc(), &contents)?;
-    assert_eq!(rt; again.as_slice(), image.as_slice());
-    let nothing = spell_payload(rt.alloc(), &contents, &[], &[], &[], &[])?;
-    assert_eq!(rt; nothing.as_slice().len(), 48);
-    let root = spell_payload(rt.alloc(), &contents, &[ItemId(9)], &[ItemId(1)], &[], &[])?;
-    assert_eq!(rt; root.as_slice().len(), 130);
+    let told = is_read_as_root(rt.alloc(), image.as_slice());
+    drop(image);
+    assert!(rt; told?);
     Ok(())
 }
 
 #[test]
 fn an_image_begins_with_format_and_epoch(rt: HostRuntime) -> Result<(), Fail> {
     let image = new_volume(rt.alloc())?;
-    let mut contents = read_image(rt.alloc(), image.as_slice(), Format::Second)?;
+    let contents = read_image(rt.alloc(), image.as_slice(), Format::Second);
+    drop(image);
+    let mut contents = contents?;
     contents.last = Usn { epoch: 2, place: 0 };
-    let spelled = spell_image(rt.alloc(), &contents)?;
-    assert!(rt; spelled.as_slice().starts_with(&[2, 0, 0, 0, 2]));
-    assert_eq!(rt; spelled.as_slice().len(), 115);
+    let spelled = spell_image(rt.alloc(), &contents);
+    drop(contents);
+    let spelled = spelled?;
+    let begins = spelled.as_slice().starts_with(&[2, 0, 0, 0, 2]);
+    let len = spelled.as_slice().len();
+    drop(spelled);
+    assert!(rt; begins && len == 115);
     Ok(())
 }
 
@@ -115,10 +170,13 @@ fn a_payload_of_a_new_file_has_123_bytes(rt: HostRuntime) -> Result<(), Fail> {
     out.put_bytes(b"\x01n")?;
     out.put_bytes(&[0; 26])?;
     let image = out.into_blob();
-    let contents = read_contents(rt.alloc(), image.as_slice(), &[], Format::Second, 0)?;
-    assert_eq!(rt; contents.image_len(), 190);
-    let payload = spell_payload(rt.alloc(), &contents, &[], &[ItemId(2)], &[], &[])?;
-    assert_eq!(rt; payload.as_slice().len(), 123);
+    let contents = read_contents(rt.alloc(), image.as_slice(), &[], Format::Second, 0);
+    drop(image);
+    let contents = contents?;
+    let image_len = contents.image_len();
+    let len = payload_len(rt.alloc(), &contents, &[], &[ItemId(2)]);
+    drop(contents);
+    assert!(rt; image_len == 190 && len? == 123);
     Ok(())
 }
 
@@ -165,7 +223,9 @@ fn what_is_not_sound_is_no_volume(rt: HostRuntime) -> Result<(), Fail> {
         if let Some(b) = bytes.get_mut(place) {
             *b = byte;
         }
-        assert!(rt; why(rt.alloc(), &bytes, 2) == Some(ImageError::Unsound));
+        let told = why(rt.alloc(), &bytes, 2);
+        drop(bytes);
+        assert!(rt; told == Some(ImageError::Unsound));
     }
     Ok(())
 }
@@ -212,20 +272,25 @@ fn in_format_1(alloc: Global, image: &[u8], rows: &[usize]) -> Result<Blob, OutO
     Ok(out.into_blob())
 }
 
+fn is_read_first(alloc: Global, bytes: &[u8], image: &[u8]) -> Result<bool, Fail> {
+    let contents = read_contents(alloc, bytes, &[], Format::First, 2)?;
+    let same = is_spelled(alloc, &contents, image);
+    drop(contents);
+    Ok(same?)
+}
+
 #[test]
 fn format_1_is_read(rt: HostRuntime) -> Result<(), Fail> {
     let image = a_file(rt.alloc())?;
     let first = in_format_1(rt.alloc(), image.as_slice(), &[37, 111, 186])?;
     let bytes = first.as_slice();
     assert_eq!(rt; bytes.len(), 273);
-    let contents = read_contents(rt.alloc(), bytes, &[], Format::First, 2)?;
-    let again = spell_image(rt.alloc(), &contents)?;
-    assert_eq!(rt; again.as_slice(), image.as_slice());
+    assert!(rt; is_read_first(rt.alloc(), bytes, image.as_slice())?);
     for cut in 0..bytes.len() {
         assert!(rt; is_short(rt.alloc(), &bytes[..cut], Format::First));
     }
     assert!(rt; why(rt.alloc(), bytes, 2) == Some(ImageError::Image(0)));
-    let told = read_contents(rt.alloc(), image.as_slice(), &[], Format::First, 2).err();
+    let told = why_of(rt.alloc(), image.as_slice(), &[], Format::First, 2);
     assert!(rt; told == Some(ImageError::Image(0)));
     Ok(())
 }
@@ -246,7 +311,8 @@ fn what_is_not_spelled_is_named(rt: HostRuntime) -> Result<(), Fail> {
         if let Some(b) = bytes.get_mut(place) {
             *b = byte;
         }
-        let told = read_contents(rt.alloc(), &bytes, &[], Format::First, 2).err();
+        let told = why_of(rt.alloc(), &bytes, &[], Format::First, 2);
+        drop(bytes);
         assert!(rt; told == Some(why));
     }
     Ok(())
@@ -267,12 +333,12 @@ fn the_payload_at_fault_is_named(rt: HostRuntime) -> Result<(), Fail> {
     let image = new_volume(rt.alloc())?;
     let mut payloads = Vec::new(rt.alloc());
     payloads.push(put_records(rt.alloc(), b"\0\0\0\0")?)?;
-    let told = read_contents(rt.alloc(), image.as_slice(), &payloads, Format::Second, 0);
-    assert!(rt; told.is_ok());
+    let told = why_of(rt.alloc(), image.as_slice(), &payloads, Format::Second, 0);
+    assert!(rt; told.is_none());
     // The second key does not come after the first.
     let late = put_records(rt.alloc(), b"\0\0\0\x02\x01q\0\0\x01c\0\0")?;
     payloads.push(late)?;
-    let told = read_contents(rt.alloc(), image.as_slice(), &payloads, Format::Second, 0);
-    assert!(rt; told.err() == Some(ImageError::Payload(1, 53)));
+    let told = why_of(rt.alloc(), image.as_slice(), &payloads, Format::Second, 0);
+    assert!(rt; told == Some(ImageError::Payload(1, 53)));
     Ok(())
 }
