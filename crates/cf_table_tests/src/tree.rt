@@ -46,13 +46,22 @@ const FILE: (bool, bool) = (false, false);
 // `/d/f`, `/d/e/g`, and `/u/x` in a directory whose entries have not come.
 fn table(alloc: Global) -> Result<Rows, Fail> {
     let mut rows = Rows::new(alloc)?;
-    add(alloc, &mut rows, 2, 1, "d", DIRECTORY)?;
-    add(alloc, &mut rows, 3, 2, "f", FILE)?;
-    add(alloc, &mut rows, 4, 1, "u", UNPOPULATED)?;
-    add(alloc, &mut rows, 5, 4, "x", FILE)?;
-    add(alloc, &mut rows, 6, 2, "e", DIRECTORY)?;
-    add(alloc, &mut rows, 7, 6, "g", FILE)?;
-    Ok(rows)
+    match fill(alloc, &mut rows) {
+        Ok(()) => Ok(rows),
+        Err(failed) => {
+            drop(rows);
+            Err(failed)
+        }
+    }
+}
+
+fn fill(alloc: Global, rows: &mut Rows) -> Result<(), Fail> {
+    add(alloc, rows, 2, 1, "d", DIRECTORY)?;
+    add(alloc, rows, 3, 2, "f", FILE)?;
+    add(alloc, rows, 4, 1, "u", UNPOPULATED)?;
+    add(alloc, rows, 5, 4, "x", FILE)?;
+    add(alloc, rows, 6, 2, "e", DIRECTORY)?;
+    add(alloc, rows, 7, 6, "g", FILE)
 }
 
 fn path_of_names(alloc: Global, name: &str, count: usize) -> Result<String, Fail> {

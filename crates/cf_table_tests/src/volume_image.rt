@@ -64,19 +64,25 @@ fn new_volume(alloc: Global) -> Result<Blob, OutOfMemory> {
 // 37, 111 and 186.
 fn a_file(alloc: Global) -> Result<Blob, OutOfMemory> {
     let mut out = start(alloc, 4)?;
+    let put = put_file(&mut out);
+    let blob = out.into_blob();
+    put?;
+    Ok(blob)
+}
+
+fn put_file(out: &mut Writer) -> Result<(), OutOfMemory> {
     out.put_u32(3)?;
-    put_directory(&mut out, 1, 0, b"\0")?;
-    put_directory(&mut out, 2, 1, b"\x01d")?;
-    put_head(&mut out, 3, 2, 48, 5000)?;
+    put_directory(out, 1, 0, b"\0")?;
+    put_directory(out, 2, 1, b"\x01d")?;
+    put_head(out, 3, 2, 48, 5000)?;
     out.put_bytes(b"\x01f\0\0")?;
     let all = [(0, 5000)];
-    put_places(&mut out, &all)?;
-    put_places(&mut out, &[])?;
-    put_places(&mut out, &all)?;
-    put_places(&mut out, &all)?;
-    put_places(&mut out, &[(0, 0), (1, 1)])?;
-    out.put_u32(0)?;
-    Ok(out.into_blob())
+    put_places(out, &all)?;
+    put_places(out, &[])?;
+    put_places(out, &all)?;
+    put_places(out, &all)?;
+    put_places(out, &[(0, 0), (1, 1)])?;
+    out.put_u32(0)
 }
 
 fn why_of(
