@@ -87,28 +87,26 @@ class Chances:
         return f"place {self.path()} {2 * BLOCK} {self.draw.randrange(256):02x}"
 
 
-def replayed(count, seed):
-    """`count` events of `replay`: calls, edits of another device, syncs, and now and then a power cut."""
-    at = Chances(seed)
+def drawn(count, at, next_events):
+    """`count` events: some directories, and then what is drawn, the last of it cut off."""
     yield from (f"mkdir /folder-{n}" for n in range(FOLDERS))
     left = count - FOLDERS
     while left > 0:
-        kind = at.draw.random()
-        events = at.cut() if kind < 0.004 else ["sync"] if kind < 0.05 else [at.peer()] if kind < 0.12 else [at.call()]
+        events = next_events(at.draw.random())
         yield from events[:left]
         left -= len(events)
+
+
+def replayed(count, seed):
+    """`count` events of `replay`: calls, edits of another device, syncs, and now and then a power cut."""
+    at = Chances(seed)
+    return drawn(count, at, lambda kind: at.cut() if kind < 0.004 else ["sync"] if kind < 0.05 else [at.peer() if kind < 0.12 else at.call()])
 
 
 def filtered(count, seed):
     """`count` events of `filter`: calls, what a provider plans for its callbacks, and now and then a power cut."""
     at = Chances(seed)
-    yield from (f"mkdir /folder-{n}" for n in range(FOLDERS))
-    left = count - FOLDERS
-    while left > 0:
-        kind = at.draw.random()
-        events = at.cut() if kind < 0.004 else [at.placed()] if kind < 0.08 else [at.planned()] if kind < 0.2 else [at.call()]
-        yield from events[:left]
-        left -= len(events)
+    return drawn(count, at, lambda kind: at.cut() if kind < 0.004 else [at.placed() if kind < 0.08 else at.planned() if kind < 0.2 else at.call()])
 
 
 def seeded(maker, seed):

@@ -165,7 +165,7 @@ impl LiveAsk {
         misses_runs(v, self.owned.runs(), w)
     }
 
-    /// Whether a byte that is among those that are needed is missing in its blocks. It is sought from a place of the needs on.
+    /// Whether a byte that is among those that are needed is missing in its blocks. It is sought from a hint on.
     pub fn is_wanted(&self, v: &Sight, needs: &[Span], near: Hint) -> bool
         requires { IsRuns needs.now }
         ensures { (w : ℕ → Bool) → Wants v.now needs.now w → result ≡ list_any w self.now.owned }

@@ -16,7 +16,7 @@ const LIMIT: u64 = 1 << 40;
 /// A set of blocks, which never changes. Its copies share it.
 #[derive(Drop)]
 pub struct BlockSet {
-    // Nothing where it has no block.
+    // None is a set without a block, which takes no memory.
     shared: Option<Rc<RangeSet>>,
 }
 

@@ -10,7 +10,8 @@ use std::marker::Model;
 use std::ops::Index;
 
 /// A list. An item that goes near the front leaves its place there, and one that comes there takes such a place, so that only the
-/// items before it move. No more places are spare than there are items. Contracts see the items. It keeps its allocator.
+/// items before it move. After an item near the front went, no more are spare than there are items. Contracts see the items. It keeps its
+/// allocator.
 #[derive(Drop)]
 pub struct SpareList<T> {
     // After `spare` places whose items are of no list, the items.
