@@ -1,12 +1,11 @@
 -- Records that fit rows, one after the other.
-use Rattle.std.proofs.Common.{◌≡◌, ℕ, suc, ◌+◌, ◌<◌, ◌≤◌, Bool, true, false, cond, List, [], ◌∷◌, ◌==◌, ◌&&◌, drop, get_or, length, map, nat_lt, Option, Some, refl, sym, ◌∙◌, ap, subst, arith}
+use Rattle.std.proofs.Common.{◌≡◌, ℕ, suc, ◌+◌, ◌<◌, Bool, true, false, cond, List, [], ◌∷◌, ◌==◌, ◌&&◌, drop, get_or, length, map, nat_lt, Option, Some, refl, sym, ◌∙◌, ap, subst, arith}
 use Rattle.std.specs.List.{list_all}
 use Rattle.std.specs.Prelude.{◌↔◌, All, Err, IfOk, IsTrue, Ok, Result, find}
 use Rattle.std.specs.Option.{option_map}
 use Rattle.std.proofs.Math.Seq.{drop-cons}
-use Rattle.std.proofs.lemmas.List.{drop_all}
 use Rattle.std.proofs.lemmas.List.Folds.{list_all-map}
-use Rattle.std.proofs.lemmas.List.Elements.{All-cons, All-get_or, All-nil}
+use Rattle.std.proofs.lemmas.List.Elements.{All-cons, All-get_or}
 use Rattle.cf_base.specs.declared.answers.AuxRecord.{AuxRecord}
 use Rattle.cf_base.specs.declared.ids.ItemId.{ItemId}
 use Rattle.cf_base.specs.declared.ids.Usn.{Usn}
@@ -71,17 +70,11 @@ module _ (r : AuxRecord) (next : ItemId) (rows : List Row) where
 -- all records: where those that are left fit, all do
 
 module _ (P : AuxRecord → Type 0) (records : List AuxRecord) where
-  pub none_done : All P (drop 0 records) → All P records
-  none_done h = h
-
   pub one_done : (i : ℕ) (r : AuxRecord) → i < length records → r ≡ get_or records i r → P r → (All P (drop i records) → All P records) → All P (drop (i + 1) records) → All P records
   one_done i r lt here fit all rest =
       let after : suc i ≡ i + 1 = omega arith in
       let left : drop i records ≡ r ∷ drop (i + 1) records = drop-cons records i r lt ∙ ap (λ (x : AuxRecord). x ∷ drop (suc i) records) (sym here) ∙ ap (λ (n : ℕ). r ∷ drop n records) after in
       all (subst (λ (rs : List AuxRecord). All P rs) (sym left) (All-cons P r (drop (i + 1) records) fit rest))
-
-  pub all_done : (i : ℕ) → length records ≤ i → (All P (drop i records) → All P records) → All P records
-  all_done i le all = all (subst (λ (rs : List AuxRecord). All P rs) (sym (drop_all i records le)) (All-nil P))
 
   pub one_fits : (i : ℕ) (r : AuxRecord) → i < length records → r ≡ get_or records i r → All P records → P r
   one_fits i r lt here all = subst P (sym here) (All-get_or P records i r lt all)

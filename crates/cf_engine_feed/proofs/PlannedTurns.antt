@@ -112,9 +112,6 @@ module _ {X : Type 0} (W : Whole X) (es : List Entry) (t : Turn) (k : ℕ) (p : 
   pub planned_fails : (e : CallError) → comes_again t ≡ false → Answers W Any (turn_of t) old (Err e) new → Answers W Any (planned es t k p l) old (Err e) new
   planned_fails e is h = by_plan false (Err e) is (fails_first W Any (turn_of t) (with_turn (fed es p l)) old new e h)
 
-pub planned_later : {X : Type 0} (W : Whole X) (es : List Entry) (t : Turn) (k : ℕ) (p : Bool) (l : List ℕ) (x : X) → comes_again t ≡ true → Answers W Any (planned es t k p l) x (Ok (fed es p (l ++ k ∷ []))) x
-planned_later W es t k p l x is = by_plan W es t k p l x x true (Ok (fed es p (l ++ k ∷ []))) is (returned W Any (fed es p (l ++ k ∷ [])) x)
-
 -- the second turn
 
 second_is : (t : Turn) (e : Entry) (s : State) → IsTurn true e s t → turn_of t s ≡ take_turn e s

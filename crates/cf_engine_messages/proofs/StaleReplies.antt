@@ -15,23 +15,21 @@ use Rattle.cf_base.specs.declared.messages.Request.TheVariants as request
 use Rattle.cf_base.specs.declared.waits.Ask.{Ask}
 use Rattle.cf_engine_feed.specs.Targets.{IsFirst}
 use Rattle.cf_engine_host.specs.Readings.{epoch_of}
-use Rattle.cf_engine_messages.specs.Staleness.{fits_in, fits_with, has_entries, is_ended_in, is_feed_over, is_here, is_idle_in, is_old_now, is_one_of, is_unlisted_in, made_item, rid_under, settled_token}
+use Rattle.cf_engine_messages.specs.Staleness.{fits_in, fits_with, has_entries, is_feed_over, is_here, is_idle_in, is_old_now, is_one_of, made_item, rid_under, settled_token}
 use Rattle.cf_engine_messages.proofs.KnownItems.{above_unknown, found_is_known}
 use Rattle.cf_engine_messages.proofs.Unread.{unread}
 use Rattle.cf_engine_provider.specs.Listings.{AreAlike, known_in}
 use Rattle.cf_engine_provider.proofs.FitsAlike.{fits_alike}
 use Rattle.cf_engine_steps.specs.Answering.{Any, Reads}
-use Rattle.cf_engine_steps.specs.BookReads.{cursor_in, entry_in, has_entries_in, has_new_entry_in}
+use Rattle.cf_engine_steps.specs.BookReads.{cursor_in, has_entries_in}
 use Rattle.cf_engine_steps.specs.States.{Own, whole}
-use Rattle.cf_model.specs.Books.{QueueEntry}
 use Rattle.cf_model.specs.Fits.{Known, fits}
 use Rattle.cf_model.specs.Identities.{has_target, target_of}
 use Rattle.cf_model.specs.Items.{Item}
 use Rattle.cf_model.specs.Messages.{is_old, is_stale, known_now, settled_rid}
-use Rattle.cf_model.specs.Numbers.{no_rid}
 use Rattle.cf_model.specs.Requests.{Live, Waiting, live_of}
 use Rattle.cf_model.specs.State.{Filter, State, Volatile}
-use Rattle.cf_model.specs.Words.{is_empty, part}
+use Rattle.cf_model.specs.Words.{is_empty}
 use Rattle.cf_remote.specs.Told.{Told}
 use Rattle.cf_table.specs.Tables.{MeansAll, Table}
 use Rattle.cf_filter_steps.specs.Answering as steps
@@ -52,15 +50,6 @@ settled_is (request.Remove a b c) s = refl
 settled_is (request.Keep a b) s = refl
 
 module _ {X : Type 0} (S : steps.Sense X) (x : X) where
-  pub rid_some : (token : Token) (o : Option QueueEntry) (e : QueueEntry) → steps.Reads S steps.Any (entry_in token) x o → o ≡ Some e → steps.Reads S steps.Any (rid_under (Some token)) x e.rid
-  rid_some token o e h is = record { is = λ s m a. ap (part (λ (d : QueueEntry). d.rid) no_rid) (sym is ∙ h.is s m a) }
-
-  pub rid_none : (token : Token) (o : Option QueueEntry) → steps.Reads S steps.Any (entry_in token) x o → o ≡ None → steps.Reads S steps.Any (rid_under (Some token)) x no_rid
-  rid_none token o h is = record { is = λ s m a. ap (part (λ (d : QueueEntry). d.rid) no_rid) (sym is ∙ h.is s m a) }
-
-  pub no_settle : steps.Reads S steps.Any (rid_under None) x no_rid
-  no_settle = record { is = λ s m a. refl }
-
   pub fits_here : (t : Table) (l : List Known) (rid : Rid) (q : Request) (r : Reply) (b : Bool) → HasRows S x t → ((items : List Item) → MeansAll t.rows items → AreAlike l (known_in items)) → b ≡ fits l rid q r → steps.Reads S steps.Any (fits_with rid q r) x b
   fits_here t l rid q r b rows alike fit = record { is = λ s m a. fit ∙ fits_alike l (known_in s.volume.items) rid q r (alike s.volume.items (rows.rows s m)) }
 
@@ -82,9 +71,6 @@ module _ {X : Type 0} (S : steps.Sense X) (x : X) where
   here_above t made rid rows above is = record {
     is = λ s m a. sym (above_unknown s.volume.items rid (above s.volume.items (rows.rows s m))) ∙ ap (is_one_of (known_in s.volume.items)) (sym is);
   }
-
-  pub here_none : (made : Option Rid) → made ≡ None → steps.Reads S steps.Any (is_here made) x false
-  here_none made is = record { is = λ s m a. ap (is_one_of (known_in s.volume.items)) (sym is) }
 
   module _ (rid : Rid) (q : Request) (r : Reply) (b : Bool) (bare : has_entries r ≡ false) (fit : b ≡ fits [] rid q r) where
     pub unfit_too : b ≡ false → steps.Reads S steps.Any (fits_with rid q r) x false
@@ -111,19 +97,6 @@ module _ {X : Type 0} (S : steps.Sense X) (x : X) where
         turned (is_some o) b is
         ∙ ap not (ap is_some (asked ∙ ap (λ (v : Waiting). option_map (λ (l : Live). l.ask) (live_of v.asks key)) (h.is s m a)) ∙ idle_is (λ (l : Live). l.ask) (live_of s.waiting.asks key));
   }
-
-  pub unlisted_idle : (key : Key) (b : Bool) → steps.Reads S steps.Any (is_idle_in key) x b → b ≡ true → steps.Reads S steps.Any (is_unlisted_in key) x true
-  unlisted_idle key b h is = record { is = λ s m a. sym (ap (λ (c : Bool). c || has_new_entry_in s) (sym (h.is s m a) ∙ is)) }
-
-  pub unlisted_else : (key : Key) (b : Bool) (r : Result Bool NoMemory) → steps.Reads S steps.Any (is_idle_in key) x b → b ≡ false → IfOk r (λ c. steps.Reads S steps.Any has_new_entry_in x c) → IfOk r (λ c. steps.Reads S steps.Any (is_unlisted_in key) x c)
-  unlisted_else key b (Ok c) h is k = record { is = λ s m a. k.is s m a ∙ sym (ap (λ (d : Bool). d || has_new_entry_in s) (sym (h.is s m a) ∙ is)) }
-  unlisted_else key b (Err e) h is k = tt
-
-  pub ended_some : (token : Token) (o : Option QueueEntry) (e : QueueEntry) → steps.Reads S steps.Any (entry_in token) x o → o ≡ Some e → steps.Reads S steps.Any (is_ended_in token) x false
-  ended_some token o e h is = record { is = λ s m a. ap (λ (p : Option QueueEntry). not (is_some p)) (sym is ∙ h.is s m a) }
-
-  pub ended_none : (token : Token) (o : Option QueueEntry) → steps.Reads S steps.Any (entry_in token) x o → o ≡ None → steps.Reads S steps.Any (is_ended_in token) x true
-  ended_none token o h is = record { is = λ s m a. ap (λ (p : Option QueueEntry). not (is_some p)) (sym is ∙ h.is s m a) }
 
   -- on the whole state
 

@@ -1,11 +1,9 @@
 -- A reply that is handed to the engine, as a part of the whole.
 use Rattle.std.proofs.Common.{◌≡◌, Bool, true, false, sym, subst}
-use Rattle.std.specs.Prelude.{Result, Ok, Err, ℕ}
+use Rattle.std.specs.Prelude.{Result, Ok, ℕ}
 use Rattle.cf_base.specs.declared.answers.Shown.{Shown}
 use Rattle.cf_base.specs.declared.answers.Shown.TheVariants as shown
 use Rattle.cf_base.specs.declared.codes.CallError.{CallError}
-use Rattle.cf_base.specs.declared.codes.CallError.TheVariants.{No}
-use Rattle.cf_base.specs.declared.codes.Code.{Code}
 use Rattle.cf_base.specs.declared.codes.Code.TheVariants as code
 use Rattle.cf_base.specs.declared.messages.Reply.{Reply}
 use Rattle.cf_engine_passes.specs.Deliveries.{delivered, unless_stale}
@@ -15,7 +13,7 @@ use Rattle.cf_engine_steps.proofs.Laws.{returned}
 use Rattle.cf_filter_steps.specs.Answering as steps
 use Rattle.cf_link.specs.Linked.{Delivers, IsLink, Linked}
 use Rattle.cf_link.specs.declared.replies.Replied.{Replied}
-use Rattle.cf_model.specs.Arrows.{Arrow, ret}
+use Rattle.cf_model.specs.Arrows.{Arrow}
 use Rattle.cf_model.specs.Passes.{deliver_now, deliver_unless}
 use Rattle.cf_model.specs.State.{State}
 use Rattle.cf_model.specs.Trees.{Does, Tree}
@@ -40,6 +38,3 @@ module _ {X R : Type 0} (S : steps.Sense X) (told : R → Told) (m : ℕ) (x : X
 
   pub kept : (d : Replied) (y : X) (f : Own R) (r : Result Shown CallError) → o ≡ Ok d → Answers (whole S told) Any (unless_stale d.request d.reply) (x, e) r (y, f) → Answers (whole S told) Any (deliver_now m) (x, e) r (y, f)
   kept d y f r is k = same_there (whole S told) (unless_stale d.request d.reply) (deliver_now m) (x, e) (y, f) r (λ s i. known (Ok d) is s i.sees.link) k
-
-  pub refused : (c : Code) → o ≡ Err (No c) → Answers (whole S told) Any (deliver_now m) (x, e) (Ok (shown.Refused c)) (x, e)
-  refused c is = same_there (whole S told) (ret (shown.Refused c)) (deliver_now m) (x, e) (x, e) (Ok (shown.Refused c)) (λ s i. known (Err (No c)) is s i.sees.link) (returned (whole S told) Any (shown.Refused c) (x, e))

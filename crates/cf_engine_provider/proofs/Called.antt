@@ -1,11 +1,10 @@
 -- A callback, from what is seen as it begins.
-use Rattle.std.proofs.Common.{◌≡◌, true, List, [], ◌++◌, refl, sym, ◌∙◌, ap, subst}
+use Rattle.std.proofs.Common.{◌≡◌, List, [], ◌++◌, refl, sym, ◌∙◌, ap, subst}
 use Rattle.std.specs.Prelude.{Option, Some, None, IfSome, MatchOption, option_map}
 use Rattle.cf_engine_provider.specs.Agencies.{Agency, Any, Leaves, Plays, Sees}
 use Rattle.cf_engine_provider.specs.Answering.{Answers, IsLive, Suits}
 use Rattle.cf_engine_provider.specs.Parts.{Carries}
 use Rattle.cf_engine_provider.proofs.Played.{as_well, nothing, within}
-use Rattle.cf_base.specs.declared.ids.ItemId.{ItemId}
 use Rattle.cf_base.specs.declared.messages.Reply.{Reply}
 use Rattle.cf_base.specs.declared.messages.Request.{Request}
 use Rattle.cf_base.specs.declared.operations.Operation.TheVariants as operation
@@ -15,29 +14,24 @@ use Rattle.cf_base.specs.declared.waits.AskKind.{AskKind}
 use Rattle.cf_base.specs.declared.waits.AskKind.TheVariants as ask_kind
 use Rattle.cf_provider.specs.Sights.{Sight}
 use Rattle.cf_provider.specs.declared.outcomes.Callback.{Callback}
-use Rattle.cf_model.specs.Agents.{agent, agent_on, fetch_of}
-use Rattle.cf_model.specs.Arrows.{Arrow, ret, unit}
-use Rattle.cf_model.specs.Fetching.{do_op}
+use Rattle.cf_model.specs.Agents.{agent, agent_on}
+use Rattle.cf_model.specs.Arrows.{ret, unit}
 use Rattle.cf_model.specs.Items.{Item, item_of}
-use Rattle.cf_model.specs.Messages.{send_now, take_if_any, take_reply}
+use Rattle.cf_model.specs.Messages.{send_now, take_reply}
 use Rattle.cf_model.specs.Callbacks.{call_back, provider}
 use Rattle.cf_model.specs.Ports.{Act, Acts, HasFailed}
-use Rattle.cf_model.specs.Requests.{Live, Waiting, live_of}
+use Rattle.cf_model.specs.Requests.{Waiting, live_of}
 use Rattle.cf_model.specs.State.{Filter, State, items_now}
-use Rattle.cf_model.specs.Trees.{Ends, Stops, Tree}
+use Rattle.cf_model.specs.Trees.{Ends, Stops}
 use Rattle.cf_remote.specs.Told.{Told}
 use Rattle.cf_table.specs.Means.{Means}
-use Rattle.cf_table.specs.Tables.{MeansAll, row_of}
+use Rattle.cf_table.specs.Tables.{row_of}
 use Rattle.cf_table.specs.declared.rows.Row.{Row}
 use Rattle.cf_table.proofs.Lengths.{rows_are_items}
 
 module _ {R : Type 0} (told : R → Told) (sight : Sight) (call : Callback) where
   agent_at : (k : AskKind) (o : Option Item) (z : State) → call.ask.kind ≡ k → item_of (items_now z) call.ask.item ≡ o → agent call.ask z ≡ agent_on k call.ask o z
   agent_at k o z is at = (λ j. agent_on (is j) call.ask (at j) z)
-
-  -- consent
-  pub consented : (p : Agency R) (acts : List Act) → call.ask.kind ≡ ask_kind.Dehydrate → Plays told Any (do_op (operation.AckDehydrate call.ask.key true)) p acts p → Answers told p sight call acts p
-  consented p acts is h = as_well told (Suits sight call) (do_op (operation.AckDehydrate call.ask.key true)) (agent call.ask) p p acts (λ z there. sym (agent_at ask_kind.Dehydrate (item_of (items_now z) call.ask.item) z is refl)) h
 
   pub not_validated : (p : Agency R) → call.ask.kind ≡ ask_kind.Validate → Answers told p sight call [] p
   not_validated p is = as_well told (Suits sight call) (ret unit) (agent call.ask) p p [] (λ z there. sym (agent_at ask_kind.Validate (item_of (items_now z) call.ask.item) z is refl)) (nothing told Any p)

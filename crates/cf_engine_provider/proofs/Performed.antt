@@ -1,22 +1,17 @@
 -- Acts on a port, one part after the other.
 use Rattle.std.proofs.Common.{◌≡◌, ◌≢◌, ◌⊎◌, inl, inr, ℕ, Bool, true, false, List, [], ◌∷◌, ◌++◌, ◌+◌, length, refl, sym, ◌∙◌, ap, subst}
-use Rattle.std.specs.Prelude.{Result, Ok, Err, is_ok, Option, Some, None}
-use Rattle.std.specs.Result.{IsErrAnd}
-use Rattle.std.proofs.lemmas.Result.{err_from_is_err_and}
+use Rattle.std.specs.Prelude.{Result, Ok, Err}
 use Rattle.cf_engine_provider.specs.Agencies.{Agency, Any, Performs, Plays}
-use Rattle.cf_engine_provider.specs.Parts.{Skips, Tries, noted, skip_acts}
+use Rattle.cf_engine_provider.specs.Parts.{Skips, Tries, skip_acts}
 use Rattle.cf_engine_provider.specs.declared.attempts.Told.{Told as Tried}
 use Rattle.cf_engine_provider.specs.declared.attempts.Told.TheVariants as tried
 use Rattle.cf_engine_provider.proofs.Played.{nothing, op_failed, op_then, skip_then, skips}
 use Rattle.cf_base.specs.Codes.{number_of}
-use Rattle.cf_base.specs.declared.answers.Shown.{Shown}
 use Rattle.cf_base.specs.declared.answers.Shown.TheVariants as shown
 use Rattle.cf_base.specs.declared.codes.Code.{Code}
 use Rattle.cf_base.specs.declared.codes.Code.TheVariants as code
 use Rattle.cf_base.specs.declared.ids.Key.{Key}
-use Rattle.cf_base.specs.declared.items.SeenPath.{SeenPath}
 use Rattle.cf_base.specs.declared.memory.OutOfMemory.{OutOfMemory as NoMemory}
-use Rattle.cf_base.specs.declared.notices.Notice.{Notice}
 use Rattle.cf_base.specs.declared.notices.Notice.TheVariants as notice
 use Rattle.cf_base.specs.declared.operations.Operation.{Operation}
 use Rattle.cf_base.specs.declared.operations.Operation.TheVariants as operation
@@ -24,7 +19,7 @@ use Rattle.cf_base.specs.declared.spans.Span.{Span}
 use Rattle.cf_provider.specs.Acting.{Notes, shown_of}
 use Rattle.cf_provider.specs.declared.outcomes.Outcome.{Outcome}
 use Rattle.cf_provider.specs.declared.outcomes.Outcome.TheVariants as outcome
-use Rattle.cf_model.specs.Arrows.{Arrow, ret, then_do, unit}
+use Rattle.cf_model.specs.Arrows.{Arrow, ret, unit}
 use Rattle.cf_model.specs.Fetching.{after_transfer, do_op, nothing_more, refuse_for, span_at, take_bytes}
 use Rattle.cf_model.specs.Skips.{skip}
 use Rattle.cf_model.specs.State.{State}
@@ -35,15 +30,6 @@ no : {A : Type 0} → false ≡ true → A
 no e = let bad : ⊥ = cc in absurd bad
 
 module _ {X : Type 0} (goes : X → List Act → X → Type 0) where
-  -- memory ran out, after these acts
-  pub ran_out : {A : Type 0} (Is : List Act → Type 0) (old new : X) (acts : List Act) (r : Result A NoMemory) (e : NoMemory) → goes old acts new → IsErrAnd r (λ y. y ≡ e) → Performs goes Is old r new
-  ran_out Is old new acts r e h is = (acts, h, λ ok. no (ap is_ok (sym (err_from_is_err_and r is).1) ∙ ok))
-
-  -- a line
-  pub lined : (line : Option Notice) (n : Notice) (old new : X) (r : Result (Unit {0}) NoMemory) → Notes goes n old r new → line ≡ Some n → Performs goes (λ acts. acts ≡ noted line) old r new
-  lined line n old new (Ok u) h is = (Noted n ∷ [], h, λ ok. ap noted (sym is))
-  lined line n old new (Err e) h is = ([], h, λ ok. no ok)
-
   module _ (on : (p q r : X) (acts more : List Act) → goes p acts q → goes q more r → goes p (acts ++ more) r) where
     pub then_performs : {A B : Type 0} (First Next Both : List Act → Type 0) (old mid new : X) (a : A) (r : Result B NoMemory)
         → ((acts more : List Act) → First acts → Next more → Both (acts ++ more)) → Performs goes First old (Ok a) mid → Performs goes Next mid r new → Performs goes Both old r new

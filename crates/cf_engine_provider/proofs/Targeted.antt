@@ -1,12 +1,11 @@
 -- Local items that are items of the remote, row after row.
-use Rattle.std.proofs.Common.{◌≡◌, ◌≢◌, ℕ, ◌<◌, ◌≤◌, suc, ◌+◌, Bool, true, false, not, cond, List, [], ◌∷◌, ◌++◌, ◌==◌, length, drop, get_or, refl, sym, ◌∙◌, ap, subst, arith, append_assoc, append-nil}
+use Rattle.std.proofs.Common.{◌≡◌, ℕ, ◌<◌, ◌≤◌, suc, ◌+◌, Bool, true, false, not, cond, List, [], ◌∷◌, ◌++◌, length, drop, get_or, refl, sym, ◌∙◌, ap, subst, arith, append_assoc, append-nil}
 use Rattle.std.proofs.Math.Seq.{drop-cons}
 use Rattle.std.proofs.lemmas.List.{drop_all}
 use Rattle.std.specs.Prelude.{filter, map}
 use Rattle.cf_engine_provider.specs.Listings.{known_in}
-use Rattle.cf_base.specs.declared.ids.Rid.{Rid}
 use Rattle.cf_model.specs.Fits.{Known}
-use Rattle.cf_model.specs.Identities.{is_untargeted, target_of}
+use Rattle.cf_model.specs.Identities.{is_untargeted}
 use Rattle.cf_model.specs.Items.{Item}
 use Rattle.cf_model.specs.Messages.{known_of}
 use Rattle.cf_table.specs.Means.{Means}
@@ -14,15 +13,6 @@ use Rattle.cf_table.specs.Tables.{MeansAll}
 use Rattle.cf_table.specs.declared.rows.Row.{Row}
 
 -- one item
-
-one_item : (b : Bool) (i : Item) → is_untargeted i ≡ b → known_in (i ∷ []) ≡ map known_of (cond (not b) (i ∷ []) [])
-one_item b i is = ap (λ (x : Bool). map known_of (cond (not x) (i ∷ []) [])) is
-
-pub untargeted : (rid : Rid) (i : Item) → rid ≡ target_of i → (rid.0 == 0) ≡ true → known_in (i ∷ []) ≡ []
-untargeted rid i is zero = one_item true i (ap (λ (r : Rid). r.0 == 0) (sym is) ∙ zero)
-
-pub targeted : (rid : Rid) (dir : Bool) (i : Item) → rid ≡ target_of i → dir ≡ i.directory → (rid.0 == 0) ≡ false → ◌≡◌ {A = List Known} (record { rid = rid; directory = dir } ∷ []) (known_in (i ∷ []))
-targeted rid dir i is kind some = (λ j. record { rid = is j; directory = kind j } ∷ []) ∙ sym (one_item false i (ap (λ (r : Rid). r.0 == 0) (sym is) ∙ some))
 
 joined : (i : Item) (rest : List Item) → known_in (i ∷ []) ++ known_in rest ≡ known_in (i ∷ rest)
 joined i rest = by (not (is_untargeted i)) where

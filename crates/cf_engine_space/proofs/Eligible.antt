@@ -14,8 +14,6 @@ use Rattle.cf_engine_space.specs.declared.candidates.Candidate as code
 use Rattle.cf_engine_space.proofs.Fronts.{nothing_after}
 use Rattle.cf_filter_steps.specs.Answering.{Any, Reads, Sense}
 use Rattle.cf_filter_steps.specs.Readings.{last_access}
-use Rattle.cf_item_rules.specs.DehydrationFacts.{code_of}
-use Rattle.cf_item_rules.specs.declared.dehydration_facts.Verdict.{Verdict}
 use Rattle.cf_item_rules.specs.declared.dehydration_facts.Verdict.TheVariants as verdicts
 use Rattle.cf_model.specs.Blocks.{blocks_held}
 use Rattle.cf_model.specs.Dehydration.{in_use, verdict_at}
@@ -54,11 +52,6 @@ no_runs (r ∷ rs) held same e = let n : suc (length rs) ≡ 0 = eqb-true (suc (
 pub some_runs : (here : List Span) (held : List (Option ℕ)) → IsRuns here → ((p : ℕ) → contains here p ≡ is_held held p) → (length here == 0) ≡ false → list_any is_some held ≡ true
 some_runs [] held runs same e = let z : true ≡ false = sym (eq-eqb 0 0 refl) ∙ e in absurd cc
 some_runs (r ∷ rs) held runs same e = something_held held r.start (sym (same r.start) ∙ first_here r (contains rs r.start) runs.1)
-
--- whether the verdict allows it
-
-pub allowed : (v : Verdict) → v ≡ verdicts.Allowed → true ≡ not (is_some (code_of v))
-allowed v e = sym (ap (λ (w : Verdict). not (is_some (code_of w))) e)
 
 -- one file
 

@@ -1,5 +1,5 @@
 -- Parts of the filter as parts of the whole, and parts that report no fault.
-use Rattle.std.proofs.Common.{◌≡◌, ◌++◌, ◌+◌, List, [], ◌∷◌, refl, ℕ, arith}
+use Rattle.std.proofs.Common.{◌≡◌, ◌++◌, ◌+◌, List, refl, ℕ, arith}
 use Rattle.std.specs.Prelude.{Result, Ok, Err}
 use Rattle.cf_base.specs.declared.changes.Change.{Change}
 use Rattle.cf_base.specs.declared.codes.CallError.{CallError}
@@ -10,9 +10,9 @@ use Rattle.cf_engine_steps.specs.Answering.{After, Answers, Any, On, Reads}
 use Rattle.cf_engine_steps.specs.Faults.{fault_lines, rose_none}
 use Rattle.cf_engine_steps.specs.States.{Means, Own, told_of, whole}
 use Rattle.cf_engine_steps.specs.Quiet.{Quiet}
-use Rattle.cf_link.specs.Faults.{fault_of, faults_in}
+use Rattle.cf_link.specs.Faults.{faults_in}
 use Rattle.cf_link.proofs.FaultCounts.{faults_both}
-use Rattle.cf_model.specs.Arrows.{Arrow, Preserves, noted}
+use Rattle.cf_model.specs.Arrows.{Arrow, Preserves}
 use Rattle.cf_model.specs.Changes.{apply, change, same_book, tell_change}
 use Rattle.cf_model.specs.State.{Filter, State, Volume, in_filter, in_volume, with_filter, with_notes, with_volume}
 use Rattle.cf_model.specs.Trees.{Does}
@@ -68,9 +68,6 @@ lift_reads S told P v x e r h = record { is = λ s i p. h.is s.filter i.filter p
 
 pub quiet_notes : (n : ℕ) (ms : List Notice) (s : Filter) → faults_in ms ≡ 0 → fault_lines s ≡ n → fault_lines (with_notes ms s) ≡ n
 quiet_notes n ms s none h = let m : faults_in (s.notes ++ ms) ≡ faults_in s.notes + faults_in ms = faults_both s.notes ms in omega (arith, m, none, h)
-
-pub quiet_line : (m : Notice) → fault_of m ≡ 0 → Quiet (noted (with_notes (m ∷ [])))
-quiet_line m none = record { keeps = λ n. keeps_noted (λ s. fault_lines s ≡ n) (with_notes (m ∷ [])) (λ s h. quiet_notes n (m ∷ []) s (let z : fault_of m ≡ 0 = none in omega (arith, z)) h) }
 
 pub quiet_volume : {A : Type 0} (n : ℕ) (f : Arrow Volume A) → Preserves (λ s. fault_lines s ≡ n) (in_volume f)
 quiet_volume n f = keeps_lifted (λ s. fault_lines s ≡ n) (λ (s : Filter). s.volume) with_volume f (λ t h. h) (λ t h. keeps_const (fault_lines t ≡ n) f)

@@ -1,7 +1,7 @@
 -- Changes that suit by what was tested of them.
 use Rattle.std.proofs.Common.{◌≡◌, ◌≤◌, Bool, true, false, not, List, refl, sym, ◌∙◌, ap, ℕ, length, arith}
 use Rattle.std.proofs.lemmas.Bool.{and_parts, eqb-true, leb-true, ltb-true}
-use Rattle.std.specs.Prelude.{Option, Some, None, MatchOption, is_none, is_some, nat_le, nat_lt, find, ◌&&◌, ◌==◌}
+use Rattle.std.specs.Prelude.{Option, Some, None, MatchOption, is_none, is_some, nat_le, find, ◌&&◌}
 use Rattle.cf_base.specs.declared.changes.Change.{Change}
 use Rattle.cf_base.specs.declared.changes.Change.TheVariants as change
 use Rattle.cf_base.specs.declared.ids.ItemId.{ItemId}
@@ -23,9 +23,8 @@ use Rattle.cf_filter_steps.specs.Finding.{HasRows}
 use Rattle.cf_filter_steps.specs.Good.{IsGood}
 use Rattle.cf_filter_steps.specs.Suiting.{IsOpenDirectory}
 use Rattle.cf_table.specs.Means.{Means}
-use Rattle.cf_table.specs.Tables.{MeansAll, Table, id_of, is_child_row, row_of}
+use Rattle.cf_table.specs.Tables.{Table, id_of, is_child_row, row_of}
 use Rattle.cf_table.specs.declared.rows.Row.{Row}
-use Rattle.cf_tree.specs.Trees.{IsTree}
 use Rattle.cf_tree.proofs.Alike.{BothMean, rows_by_id, rows_by_name}
 
 pub never_suits : {X : Type 0} (S : Sense X) (c : Change) (x : X) → SuitsIf S c x false
@@ -78,12 +77,6 @@ pub free_by : {X : Type 0} (S : Sense X) (x : X) (t : Table) (parent : ItemId) (
 free_by S x t parent name bytes o b rows same e is = record {
   is = λ s m u. turned (is_some o) b is ∙ ap (λ (i : Option ItemId). is_none i) (e ∙ ap (λ (n : List ℕ). id_of (find (is_child_row parent n) t.rows)) same) ∙ both_none (find (is_child_row parent name) t.rows) (child_of s.volume.items parent name) (rows_by_name t.rows s.volume.items parent name (rows.rows s m));
 }
-
-pub high_by : {X : Type 0} (S : Sense X) (x : X) (t : Table) (parent : ItemId) (n : ℕ) (b : Bool) → HasRows S x t → ((items : List Item) → MeansAll t.rows items → IsTree items → n ≡ depth_at items parent) → b ≡ nat_lt n 32 → Reads S Any (is_high_at parent) x b
-high_by S x t parent n b rows depth is = record { is = λ s m u. is ∙ ap (λ (k : ℕ). nat_lt k 32) (depth s.volume.items (rows.rows s m) (S.good x s m).volume.tree) }
-
-pub next_by : {X : Type 0} (S : Sense X) (x : X) (t : Table) (item next : ItemId) (b : Bool) → HasRows S x t → next ≡ t.next → b ≡ (item.0 == next.0) → Reads S Any (is_next_at item) x b
-next_by S x t item next b rows e is = record { is = λ s m u. is ∙ ap (λ (k : ItemId). item.0 == k.0) (e ∙ rows.next s m) }
 
 -- what is said of an item holds of each with its id
 

@@ -60,9 +60,6 @@ begun_err n v d e f r w is same h =
     by (No c) k = (k.0, ap (λ (y : Waiting). record d { waiting = y }) k.1)
     by OutOfMemory k = record {}
 
-pub lost_begun : (n : Need) (v : View) (e x : Desk) (r : Result (WaitId × Moves) CallError) → IsErrAnd r (λ y. y ≡ OutOfMemory) → BeginsBy n v e r x
-lost_begun n v e x r is = let p = err_from_is_err_and r is in subst (λ (q : Result (WaitId × Moves) CallError). BeginsBy n v e q x) (sym (p.1 ∙ ap (λ (z : CallError). Err z) p.2)) (record {})
-
 -- of the filter
 
 lines_told : (n : Need) (s : Filter) → background_lines n.item (background_id n.background n.item s.waiting) ≡ map background_line (beside n s)

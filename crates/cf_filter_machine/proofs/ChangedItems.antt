@@ -92,11 +92,3 @@ last_at (x ∷ xs) new id j e = by (eqb x.id.0 id.0) e (last_at xs new id j)
         → (cond t (Some x) (item_of xs id) ≡ Some j) ⊎ ((cond t (Some x) (item_of xs id) ≡ None) × (new.id.0 ≡ id.0) × (j ≡ new))
     by true f rest = inl f
     by false f rest = rest f
-
-pub still_at : (items : List Item) (new : Item) (id : ItemId) (j : Item) → item_of items id ≡ Some j → item_of (items ++ new ∷ []) id ≡ Some j
-still_at [] new id j e = absurd (none-some j e)
-still_at (x ∷ xs) new id j e = by (eqb x.id.0 id.0) e (still_at xs new id j)
-  where
-    by : (t : Bool) → cond t (Some x) (item_of xs id) ≡ Some j → (item_of xs id ≡ Some j → item_of (xs ++ new ∷ []) id ≡ Some j) → cond t (Some x) (item_of (xs ++ new ∷ []) id) ≡ Some j
-    by true f rest = f
-    by false f rest = rest f

@@ -99,9 +99,6 @@ now_kept sure v of_log h = record {
 
 -- points that are added
 
-grows_by : (v : Volume) (ps items : _) (n : ℕ) → ((p : Point) → Opens ps p → Opens v.points p ⊎ (length v.log ≤ p.count)) → Grows v (record v { points = ps; items_then = items; put_since = n })
-grows_by v ps items n h = record { epoch = refl; clusters = refl; more = []; log = sym (append-nil v.log); points = h }
-
 is_now : (sure : Bool) (v : Volume) (p : Point) → p ≡ point_now sure v → length v.log ≤ p.count
 is_now sure v p e = subst (λ (q : Point). length v.log ≤ q.count) (sym e) (omega arith)
 

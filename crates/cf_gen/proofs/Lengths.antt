@@ -16,7 +16,7 @@ use Rattle.cf_gen.specs.declared.generators.Generator.{Generator}
 use Rattle.cf_gen.specs.declared.lines.Line.{Line}
 use Rattle.cf_gen.specs.declared.lines.Line.TheVariants.{Close, Crash, Flush, Open, Put, Read, Restart, Size, Sync, Write}
 use Rattle.cf_gen.specs.Lines.{event_of, path_of, repeated, text_of, words_of}
-use Rattle.cf_gen.specs.Scripts.{after, chosen, closes, drawn, made, made_events, made_script, opens, puts, round, rounds}
+use Rattle.cf_gen.specs.Scripts.{after, chosen, drawn, made, made_events, made_script, opens, puts, round, rounds}
 use Rattle.cf_gen.proofs.RoundsFit.{made_fits}
 use Rattle.cf_gen.proofs.SpelledLines.{LineFits, LinesFit, lines_spell}
 
@@ -73,10 +73,6 @@ text_short (line ∷ lines) h =
 opens_count : (k file : ℕ) → length (opens k file) ≡ k
 opens_count zero file = refl
 opens_count (suc k) file = omega (arith, opens_count k (file + 1))
-
-closes_count : (k epoch number : ℕ) → length (closes k epoch number) ≡ k
-closes_count zero epoch number = refl
-closes_count (suc k) epoch number = omega (arith, closes_count k epoch (number + 1))
 
 puts_count : (k file state : ℕ) → length (puts k file state) ≡ k
 puts_count zero file state = refl

@@ -85,10 +85,6 @@ pub counts_both : (a b : Bool) → (not a || b) ≡ false → (a ≡ true) × (b
 counts_both true b e = (refl, e)
 counts_both false b e = no_way_back e
 
-first_false : (a b : Bool) → (a || b) ≡ false → a ≡ false
-first_false true b e = e
-first_false false b e = refl
-
 module _ (s : State) (h : IsTrueIn s) (done : AreDoneLate s.link.remote (items_now s) (book_now s)) (fair : IsFair s.link) where
   abbrev R : Held
   R = s.link.remote

@@ -83,9 +83,6 @@ closing l n m awaited shut x same less h = subst (λ (k : ℕ). In l k shut x) (
   },
 ))
 
-never_open : (b : Bool) → b ≡ false → b ≡ true → (c : Bool) → c ≡ true
-never_open b e z c = no_way (sym e ∙ z)
-
 -- another cursor, while no round is awaited
 at_cursor : (s : State) (d : ℕ) → s.volatile.round_open ≡ false → (IsFair s.link → IsTidy s.link.remote → AreListsRight s.link.remote s.link.messages d s.filter.waiting.asks) → TruthIn s → TruthIn (with_book (with_cursor d) s)
 at_cursor s d shut lists h fair = let k = (h fair).1 in (

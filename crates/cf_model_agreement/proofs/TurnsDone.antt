@@ -1,6 +1,6 @@
 -- A turn of an entry does all of it, or postpones it, or a step is left out.
 use Rattle.std.proofs.Common.{◌≡◌, ◌⊎◌, ◌<◌, ◌≤◌, ℕ, zero, suc, Bool, true, false, List, [], ◌∷◌, refl, sym, ◌∙◌, ap, subst, inl, inr, arith, eq-eqb, take}
-use Rattle.std.specs.Prelude.{Option, Some, None, cond, filter, is_some, not, nat_lt, ◌&&◌, ◌==◌}
+use Rattle.std.specs.Prelude.{Option, Some, None, cond, is_some, not, nat_lt, ◌&&◌, ◌==◌}
 use Rattle.std.proofs.lemmas.Bool.{eqb-true}
 use Rattle.std.proofs.lemmas.Bool.Decides.{nat_tests}
 use Rattle.cf_base.specs.declared.changes.Change.{Change}
@@ -126,9 +126,6 @@ module _ (e : Entry) (plain : IsPlainEntry e) where
     by : (o : Option Item) → item_of items id ≡ o → is_some o ≡ false → Gone id items
     by None f z = not_found items id f
     by (Some i) f z = no_way (sym z)
-
-  ids_alike : (id : ItemId) (i j : Item) → i.id ≡ j.id → (i.id.0 ≡ id.0 → ⊥) → j.id.0 ≡ id.0 → ⊥
-  ids_alike id i j same k z = k (ap (λ (y : ItemId). y.0) same ∙ z)
 
   -- a path that comes to be seen
   path_put : (id : ItemId) (b : Book) → PathAt (with_seen (seen_entry id e) b) id

@@ -69,9 +69,6 @@ module _ (r : Held) (tidy : IsTidy r) (n : Usn) (items : List Item) (b : Book) (
   least : (k : ℕ) → k ≤ k
   least k = omega arith
 
-  zero_one : (k : ℕ) → k ≡ 0 → k ≡ 1 → ⊥
-  zero_one k g h = omega (arith, g, h)
-
   -- the root is here
   root_target : (i : Item) → i.id.0 ≡ 1 → (target_of i).0 ≡ 1
   root_target i z = by (i.id.0 == 1) (eq-eqb i.id.0 1 z) where

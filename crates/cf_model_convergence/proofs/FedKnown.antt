@@ -15,7 +15,7 @@ use Rattle.cf_model.specs.Skips.{in_use}
 use Rattle.cf_model.specs.State.{Filter, State, book_now, items_now}
 use Rattle.cf_model.specs.Store.{Held, Stored, entry_told, feed_of, stored_at}
 use Rattle.cf_model_laws.specs.Invariant.{All, HasBase, Invariant, IsRight, Among}
-use Rattle.cf_model_laws.specs.Premises.{IsFair, IsSmall}
+use Rattle.cf_model_laws.specs.Premises.{IsFair}
 use Rattle.cf_model_laws.proofs.AimedTargets.{unaimed_unfound}
 use Rattle.cf_model_laws.proofs.FoundItems.{found_again}
 use Rattle.cf_model_laws.proofs.Gathered.{all_any, all_found, all_weaker}
@@ -203,6 +203,3 @@ module _ (s : State) (h : Invariant s) (fair : IsFair s.link) (none : (book_now 
   fed_whole whole = subst (All (λ i. i.directory ≡ false → IsToUpload i → (is_all_here i ≡ true) ⊎ (is_hydrating i.id m ≡ true))) (sym alike)
       (all_weaker (λ i. i.directory ≡ false → IsToUpload i → (is_all_here i ≡ true) ⊎ (is_hydrating i.id s ≡ true)) (λ i. i.directory ≡ false → IsToUpload i → (is_all_here i ≡ true) ⊎ (is_hydrating i.id m ≡ true))
       (λ i k file needed. subst (λ (b : Bool). (is_all_here i ≡ true) ⊎ (b ≡ true)) (sym (waited i.id)) (k file needed)) (items_now s) whole)
-
-  fed_fair : IsFair m.link
-  fed_fair = (fed.honest ∙ fair.0, subst IsSmall (sym fed.remote) fair.1)

@@ -259,9 +259,6 @@ module _ (D : Fact) (lasting : Lasting D) where
     );
   }
 
-  pub guarded_lasting : (P : State → Type 0) → Guarded P → Guarded (λ s. P s × HoldsIn D s)
-  guarded_lasting P closed = guarded_over D P (over_any P) closed
-
   pub whole_lasting : (P : State → Type 0) → Whole P → ((s : State) → P s → Invariant s) → Whole (λ s. P s × HoldsIn D s)
   whole_lasting P whole sound = whole_over D P (over_any P) whole sound
 

@@ -11,7 +11,7 @@ use Rattle.cf_base.specs.declared.items.SeenPath.{SeenPath}
 use Rattle.cf_base.specs.declared.messages.Entry.{Entry}
 use Rattle.cf_base.specs.declared.messages.Request.{Request}
 use Rattle.cf_model.specs.Books.{Book, seen_of, with_cursor, with_seen}
-use Rattle.cf_model.specs.Effects.{changed, effect}
+use Rattle.cf_model.specs.Effects.{effect}
 use Rattle.cf_model.specs.Growth.{IsCounted}
 use Rattle.cf_model.specs.Identities.{base_version, target_of}
 use Rattle.cf_model.specs.Items.{Item}
@@ -123,11 +123,6 @@ reset_right r b items tidy lower = all_weaker (λ i. (i.id.0 ≡ 1 → ⊥) → 
 
   one : (i : Item) → ((i.id.0 ≡ 1 → ⊥) → (target_of i).0 ≡ 1 → ⊥) → IsPassedRight r (with_cursor 0 b) i
   one i k below x found passed = absurd (never x.changed (((all_found (IsTidyItem r) (λ s. s.rid.0 == (target_of i).0) r.items x found tidy.items).0.placed (λ e. k below (sym (found_rid r.items (target_of i) x found) ∙ e))).late) passed)
-
-pub ahead_right : (r : Held) (b : Book) (i : Item) (x : Stored) → stored_at r.items (target_of i) ≡ Some x → b.cursor < x.changed → IsPassedRight r b i
-ahead_right r b i x found late below y at passed = absurd (never b.cursor x.changed late (subst (λ (z : Stored). z.changed ≤ b.cursor) (sym (one_some (stored_at r.items (target_of i)) x y found at)) passed)) where
-  never : (a n : ℕ) → a < n → n ≤ a → ⊥
-  never a n h k = omega (arith, h, k)
 
 -- the cursor rises to a feed's clock
 

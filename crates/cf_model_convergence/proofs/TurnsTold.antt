@@ -85,10 +85,6 @@ module _ (s : State) (h : Invariant s) (fair : IsFair s.link) (listening : IsLis
   right : IsRight s.link.remote (next_number s.filter.volume) i
   right = right_of s i (h.1 fair) there
 
-  -- what is found again is this item
-  same_found : (o : Option Item) → item_of (items_now s) i.id ≡ o → o ≡ Some i
-  same_found o e = sym e ∙ there
-
   whole_told : (o : Option Item) → o ≡ Some i → i.directory ≡ false → i.placeholder ≡ true → is_all_here i ≡ true → Ends (put_whole o s) u t → IsTold s t
   whole_told None e file placed here ends = let z : ◌≡◌ {A = Option Item} None (Some i) = e in absurd (none i z) where
     none : (j : Item) → ◌≡◌ {A = Option Item} None (Some j) → ⊥

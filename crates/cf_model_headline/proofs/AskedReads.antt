@@ -88,9 +88,6 @@ not_new e n m f k same given z = by given where
 abbrev pub AllGiven : Fact
 AllGiven l e p log hs hn ws wn = IsFair l → All (λ w. WasGiven e wn w.id.0) ws
 
-new_given : (e n m f : ℕ) → f ≡ e → m < 2 → WasGiven e (n + 2) (key_after f (n + m))
-new_given e n m f same small = inr (same, let z : n + m + 1 ≤ n + 2 = omega (arith, small) in z)
-
 begins_given : (l : Link) (tokens : ℕ) (n : Need) (x : Filter) → (IsFair l → IsSound l tokens x) → Holds AllGiven l x → IsFair l → All (λ w. WasGiven x.volume.epoch (x.waiting.wait_count + length (wait_for n x ∷ beside n x)) w.id.0) (x.waiting.waits ++ wait_for n x ∷ beside n x)
 begins_given l tokens n x sound h fair = by (also_background n.background n.item x.waiting) where
   same : x.waiting.epoch ≡ x.volume.epoch

@@ -119,10 +119,6 @@ step_stands m s e a t ready is = subst (Stands s e) is.2 (by e is.0 (is_device e
 opening_mode : (s : State) → Opening (λ t. t.mode ≡ s.mode) (λ r t. t.mode ≡ s.mode) s
 opening_mode s = record { opens = λ p skipped is small. refl; refused = λ r none. refl; fails = refl }
 
-filter_mode : (s : State) (x : Option Shown × State) → x.1.mode ≡ s.mode → (outcome x).0.mode ≡ s.mode
-filter_mode s (Some r, t) h = h
-filter_mode s (None, t) h = h
-
 restart_mode : (s : State) (x : Option Shown × State) → Ended (λ t. t.mode ≡ s.mode) (λ r t. t.mode ≡ s.mode) x → (outcome x).0.mode ≡ s.mode
 restart_mode s (Some r, t) h = h
 restart_mode s (None, t) h = h

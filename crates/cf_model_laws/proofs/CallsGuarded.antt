@@ -47,7 +47,7 @@ use Rattle.cf_model_laws.proofs.RightItems.{no_way}
 use Rattle.cf_model_laws.proofs.SoundSettles.{each_found}
 use Rattle.cf_model_laws.proofs.OperationsGuarded as operations_keep
 use Rattle.cf_model_laws.proofs.WaitsGuarded as waits_keep
-use Rattle.cf_model.specs.Calls.{blocks_now, buried, changing, class_flags, count_now, delete, delete_item, delete_now, delete_tests, df, flush, has_size, info, info_item, info_of, move_of, next_handle, number_at, number_next, number_of, open_file, open_item, open_tests, opened_as, pin_item, pins_at, policy_tests, ranges, ranges_item, rename, rename_item, rename_tests, rename_to, room_tests, set_pin, set_policy, set_size, show_count, show_number, size_item, size_now, size_tests, used, used_item, used_now, with_policy, write, write_item, write_now, write_tests, tombstone_for, stands_there}
+use Rattle.cf_model.specs.Calls.{blocks_now, buried, changing, class_flags, count_now, delete, delete_item, delete_now, delete_tests, df, flush, has_size, info, info_item, info_of, move_of, next_handle, number_next, open_file, open_item, open_tests, opened_as, pin_item, pins_at, policy_tests, ranges, ranges_item, rename, rename_item, rename_tests, rename_to, room_tests, set_pin, set_policy, set_size, show_count, size_item, size_now, size_tests, used, used_item, used_now, with_policy, write, write_item, write_now, write_tests, tombstone_for, stands_there}
 use Rattle.cf_model_laws.proofs.Guarded.{Buries, GuardedFilter, KeepsCursor}
 use Rattle.cf_model.proofs.ArrowLaws.{keeps_reading, keeps_ret, keeps_then}
 use Rattle.std.proofs.Common.{◌≡◌, ◌+◌, ◌∷◌, refl, List, [], ℕ, Bool, true, false}
@@ -76,12 +76,6 @@ open_file_keeps l tokens P closed path = waits_keep.on_file_at l tokens P closed
 
 pub changing_keeps : {On : Knowledge} (l : Link) (tokens : ℕ) (P : Filter → Type 0) → GuardedFilter On l tokens P → (cs : List Change) → All IsPlain cs → (answer : Arrow Filter Shown) → Preserves P answer → Preserves P (changing cs answer)
 changing_keeps l tokens P closed cs plain answer answer_keeps = operations_keep.checked_keeps l tokens P closed (room_tests cs) (then_do (changes cs) answer) (keeps_then P (changes cs) answer (plains_keep l tokens P closed cs plain) answer_keeps)
-
-pub show_number_keeps : {On : Knowledge} (l : Link) (tokens : ℕ) (P : Filter → Type 0) → GuardedFilter On l tokens P → (x1 : Usn) → Preserves P (show_number x1)
-show_number_keeps l tokens P closed n = keeps_ret P (shown.Number n)
-
-pub number_of_keeps : {On : Knowledge} (l : Link) (tokens : ℕ) (P : Filter → Type 0) → GuardedFilter On l tokens P → (x1 : ItemId) → Preserves P (number_of x1)
-number_of_keeps l tokens P closed item = keeps_reading P (number_at item) show_number (show_number_keeps l tokens P closed)
 
 -- a write or a size, and what follows
 access_same : (item : ItemId) → KeepsEntries (with_access item)

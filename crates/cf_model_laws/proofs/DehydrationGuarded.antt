@@ -13,7 +13,6 @@ use Rattle.cf_model.specs.Waits.{Need, begin_now, begun, but_directory, on_ok, r
 use Rattle.cf_model_laws.proofs.OperationsGuarded as operations_keep
 use Rattle.cf_model.specs.Dehydration.{after_verdict, ask_consent, ask_tests, consent_need, dehydrate, dehydrate_item, dehydrate_range, emptied, empty_now, empty_tests, has_bytes, is_connected, verdict_at, with_provider, in_use}
 use Rattle.cf_model_laws.proofs.Guarded.{AreWaitsKept, GuardedFilter}
-use Rattle.cf_model.proofs.ArrowLaws.{keeps_ret}
 use Rattle.std.proofs.Common.{◌≡◌, refl, List, ℕ, Bool, true, false, min, ◌-◌, inl}
 use Rattle.cf_model.specs.Trees.{Keeps}
 use Rattle.cf_model.proofs.TreeLaws.{keeps_bind}
@@ -33,9 +32,6 @@ use Rattle.cf_model_laws.specs.Taken.{Knowledge}
 
 ask_consent_at : (l : Link) (P : Filter → Type 0) → AreWaitsKept l P → (n : Need) (x : Filter) → (IsFair l → NeedsWell n x) → is_met_now n x ≡ false → P x → Keeps P (ask_consent n x)
 ask_consent_at l P waits n x fit unmet h = checked_at P (ask_tests n) (reading (begun n) (begin_now n)) x h (λ e. waits n x fit unmet h)
-
-pub emptied_keeps : {On : Knowledge} (l : Link) (tokens : ℕ) (P : Filter → Type 0) → GuardedFilter On l tokens P → Preserves P (emptied)
-emptied_keeps l tokens P closed = keeps_ret P (shown.Ended end.Emptied)
 
 -- the file is one of the items, and in sync
 pub empty_at : {On : Knowledge} (l : Link) (tokens : ℕ) (P : Filter → Type 0) → GuardedFilter On l tokens P → (i : Item) (start len : ℕ) (x : Filter) → (IsFair l → Each i.id (λ i. i.in_sync ≡ true) x.volume.items) → P x → Keeps P (empty_now i start len x)

@@ -163,10 +163,6 @@ pub order_append : (low next : ℕ) (items : List Item) (x : Item) → x.id.0 �
 order_append low next [] x e h = (subst (λ (m : ℕ). low < m) (sym e) h, let z : x.id.0 < next + 1 = omega (arith, e) in z)
 order_append low next (i ∷ is) x e h = (h.0, order_append i.id.0 next is x e h.1)
 
-pub order_longer : (low next : ℕ) (items : List Item) → InOrder low next items → InOrder low (next + 1) items
-order_longer low next [] h = let z : low < next = h in let y : low < next + 1 = omega (arith, z) in y
-order_longer low next (i ∷ is) h = (h.0, order_longer i.id.0 next is h.1)
-
 max_old : (n : ℕ) → 2 ≤ n → max n 2 ≡ n
 max_old n h = omega (arith, h)
 

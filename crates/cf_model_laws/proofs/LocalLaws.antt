@@ -278,9 +278,6 @@ log_keeps r log id n p b made h = subst (λ (l : List (Usn × Change)). is_kept 
   k : Keeping r n p b (h.before ++ (n, h.write) ∷ h.after) (with_copies h.after (id ∷ [])) (dropped_from (effect (items_of h.before) h.write n) (id ∷ []) n h.after)
   k = keeping r n p b h.before h.write h.after id (subst (EachMade (IsInOrder r) []) h.parts made) h.written h.spared
 
-  first_ids : List ItemId
-  first_ids = with_copy h.write (with_copies h.before (id ∷ []))
-
   sub : Sub (id ∷ []) (with_copy h.write (with_copies h.before (id ∷ [])))
   sub x e = copy_more h.write (with_copies h.before (id ∷ [])) x (copies_more h.before (id ∷ []) x e)
 

@@ -1,5 +1,5 @@
 -- What a request leaves of tokens and versions, and what its reply tells.
-use Rattle.std.proofs.Common.{◌≡◌, ◌⊎◌, ◌<◌, ◌≤◌, ◌+◌, ◌-◌, ℕ, zero, suc, Bool, true, false, List, [], ◌∷◌, ◌++◌, refl, sym, ◌∙◌, ap, subst, inl, inr, arith, length, eq-eqb}
+use Rattle.std.proofs.Common.{◌≡◌, ◌⊎◌, ◌≤◌, ◌+◌, ◌-◌, ℕ, zero, suc, Bool, true, false, List, [], ◌∷◌, ◌++◌, refl, sym, ◌∙◌, ap, subst, inl, inr, arith, length, eq-eqb}
 use Rattle.std.specs.Prelude.{Option, Some, None, cond, map, filter, not, take, drop, slice_get, slice_range, nat_le, nat_lt, ◌&&◌, ◌==◌}
 use Rattle.std.specs.List.{flat_map}
 use Rattle.cf_base.specs.declared.ids.Rid.{Rid}
@@ -135,8 +135,6 @@ tokens_kept P held (request.Keep t count) k h = by (recorded_at held.tokens t) w
   by (Some r) = h
   by None = (k, h)
 
--- what replies tell
-
 -- each entry that is told of an item of the remote is there
 
 last-of : {A : Type 0} (d : A) (x : A) (xs : List A) → slice_get (x ∷ xs) (length xs) ≡ Some (last_of x xs)
@@ -146,13 +144,6 @@ last-of d x (y ∷ ys) = last-of d y ys
 last_told : (versions : List (List ℕ)) → ((length versions ≡ 0) × (len_of versions ≡ 0)) ⊎ ((bytes : List ℕ) × (k : ℕ) × (length versions ≡ suc k) × (slice_get versions k ≡ Some bytes) × (length bytes ≡ len_of versions))
 last_told [] = inl (refl, refl)
 last_told (v ∷ vs) = inr (last_of v vs, length vs, refl, last-of v v vs, refl)
-
-found_past : (n : ℕ) (ss : List Stored) (s : Stored) → CountsFrom n ss → s.rid.0 < n → stored_at (ss) s.rid ≡ None
-found_past n [] s c h = refl
-found_past n (t ∷ ss) s c h = by (t.rid.0 == s.rid.0) (λ e. eqb-true t.rid.0 s.rid.0 e) (found_past (n + 1) ss s c.1 (let z : s.rid.0 < n + 1 = omega (arith, h) in z)) where
-  by : (b : Bool) → (b ≡ true → t.rid.0 ≡ s.rid.0) → stored_at ss s.rid ≡ None → cond b (Some t) (stored_at ss s.rid) ≡ None
-  by true e g = let a : t.rid.0 ≡ s.rid.0 = e refl in let b : t.rid.0 ≡ n = c.0 in absurd (omega (arith, a, b, h))
-  by false e g = g
 
 abbrev Found : List Stored → Stored → Type 0
 Found ss s = stored_at ss s.rid ≡ Some s

@@ -9,7 +9,7 @@ use Rattle.cf_base.specs.declared.ids.Usn.{Usn}
 use Rattle.cf_base.specs.declared.ids.Version.{Version}
 use Rattle.cf_model.specs.Contents.{RisesFrom, base_named}
 use Rattle.cf_model.specs.Effects.{later_than, untargeted}
-use Rattle.cf_model.specs.Numbers.{above, is_no_usn, no_usn}
+use Rattle.cf_model.specs.Numbers.{above, no_usn}
 use Rattle.cf_model.specs.Overlay.{Written}
 use Rattle.cf_model.specs.State.{Filter}
 use Rattle.cf_model.specs.Store.{Held, bytes_of, stored_at, version_bytes}
@@ -78,9 +78,6 @@ above_none a b h = grind (arith, nat_tests, h)
 pub above_self : (a : Usn) → above a a ≡ false
 above_self a = grind (arith, nat_tests)
 
-pub is_some_usn : (a b : Usn) → above a b ≡ true → is_no_usn a ≡ false
-is_some_usn a b h = grind (arith, nat_tests, h)
-
 -- writes
 
 pub all_under : (next number : Usn) (ws : List Written) → above next number ≡ true → AllUpTo number ws → All (λ w. above next w.number ≡ true) ws
@@ -92,9 +89,6 @@ rises_more low n (v ∷ ws) w e h k r = (r.0, rises_more v.number n ws w e k.0 k
 
 up_to_next : (next number : Usn) (ws : List Written) → above next number ≡ true → AllUpTo number ws → AllUpTo next ws
 up_to_next next number ws e h = all_weaker (λ w. above next w.number ≡ true) (λ w. above w.number next ≡ false) (λ w k. not_above next w.number k) ws (all_under next number ws e h)
-
-above_of : (a b c : Usn) → above a b ≡ true → above b c ≡ true → above a c ≡ true
-above_of a b c h k = above_then a b c h k
 
 pub rises_later : (at low : Usn) (ws : List Written) → RisesFrom low ws → RisesFrom low (later_than at ws)
 rises_later at low [] r = tt

@@ -11,11 +11,10 @@ use Rattle.cf_model.specs.Changes.{change as put}
 use Rattle.cf_model.specs.Items.{item_of}
 use Rattle.cf_model.specs.PushReplies.{bury_new, cursor_reset_if, done_removal, drop_if, end_and_close, end_entry, end_tombstone, held_back, is_new_entry, is_removal, lost_place, not_in_row, reset_cursor, round_closed, taken_from_row, tombstone_left, was_directory, whatever, with_done, without_item, without_number}
 use Rattle.cf_model.specs.Skips.{in_book, in_volatile, is_cursor, skip_line, try_book, why_no_record, with_book, with_volatile}
-use Rattle.cf_model.specs.Arrows.{unit}
 use Rattle.cf_model.specs.State.{Filter, State, Volatile, book_now, items_now, with_filter}
 use Rattle.cf_model.specs.Store.{RecordedDone, recorded_at}
 use Rattle.cf_model.specs.Trees.{Asked, Fork, Keeps, Ret, Step, Tree, bind, mapped}
-use Rattle.cf_model.proofs.ArrowLaws.{keeps_noted, keeps_one, keeps_ret, keeps_then}
+use Rattle.cf_model.proofs.ArrowLaws.{keeps_noted, keeps_one, keeps_then}
 use Rattle.cf_model.proofs.TreeLaws.{keeps_bind}
 use Rattle.cf_model_laws.specs.Premises.{IsFair}
 use Rattle.cf_model_laws.proofs.Guarded.{Guarded, IsDoneAt, IsTakenBy}
@@ -26,9 +25,6 @@ end_entry_keeps P closed e = keeps_one P (with_book (without_entry e.token)) (λ
 
 pub end_and_close_keeps : (P : State → Type 0) → Guarded P → (x1 : QueueEntry) → Preserves P (end_and_close x1)
 end_and_close_keeps P closed e = keeps_then P (end_entry e) (in_volatile (taken_from_row e)) (end_entry_keeps P closed e) (keeps_noted P (with_volatile (taken_from_row e)) (closed.keeps_volatile_taken_from_row e))
-
-pub whatever_keeps : (P : State → Type 0) → Guarded P → (x1 : Bool) → Preserves P (whatever x1)
-whatever_keeps P closed done = keeps_ret P unit
 
 -- What a Done tells: its entry is live, and the remote has recorded the version.
 abbrev pub DoneIn : State → QueueEntry → Rid → Version → Type 0

@@ -1,7 +1,7 @@
 -- What a pass leaves of what it rests on: the link answers at once, lines of what is left out stand, a provider is connected, no list call waits, and each
 -- dehydration that waits has its live ask, whose callback was called.
 use Rattle.std.proofs.Common.{◌≡◌, ◌+◌, ◌++◌, ◌∙◌, ℕ, Bool, true, false, List, [], ◌∷◌, refl, subst, sym}
-use Rattle.std.specs.Prelude.{None, map, if◌then◌else◌}
+use Rattle.std.specs.Prelude.{None, map}
 use Rattle.std.proofs.lemmas.List.{append-nil}
 use Rattle.cf_base.specs.declared.answers.Shown.TheVariants as shown
 use Rattle.cf_base.specs.declared.changes.Change.{Change}
@@ -116,10 +116,6 @@ module _ (n : Need) (x : Filter) (plain : IsPlainNeed n) (h : PlainFilter x) whe
       (told_keeps Plainly (with_own n x) (begun n x)
       (step_before x.outbox (with_new_waits n x) n.item (view_at x n.item) Nothing (begun_but n x h.1) tt unlisted all_asked h.2)
       (step_after x.outbox (with_new_waits n x) n.item (view_at x n.item) Nothing (begun_but n x h.1) tt unlisted all_asked h.2)) (λ a t j. j)
-
-accessed_plain : (item : ItemId) (is : Bool) (x : Filter) → PlainFilter x → PlainFilter (if is then accessed item x else x)
-accessed_plain item true x h = h
-accessed_plain item false x h = h
 
 down_plain : (x : Filter) → PlainFilter x → Keeps PlainFilter (tell (all_down x) x)
 down_plain x h =

@@ -13,9 +13,6 @@ use Rattle.cf_pair_compare.specs.declared.path_rows.PathRow.{PathRow}
 
 -- texts
 
-other : (p q : List ℕ) → Comes p q → bytes_eq p q ≡ false
-other p q h = sym (is_eq-slice_cmp p q) ∙ ap is_eq h
-
 turned : (p q : List ℕ) → slice_cmp nat_cmp p q ≡ ordering_reverse (slice_cmp nat_cmp q p)
 turned p q = nat_list_cmp_total.antisymm p q
 

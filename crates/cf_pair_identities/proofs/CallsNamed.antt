@@ -14,7 +14,7 @@ use Rattle.cf_base.specs.declared.policies.Mode.{Mode}
 use Rattle.cf_base.specs.declared.policies.Policy.{Policy}
 use Rattle.cf_model.specs.Arrows.{Arrow, noted, Preserves, reading, ret, then_do}
 use Rattle.cf_model.specs.Books.{with_access}
-use Rattle.cf_model.specs.Calls.{below_at, blocks_now, buried, change_all, changing, class_flags, count_now, delete, delete_item, delete_now, delete_tests, df, flush, has_size, info, info_item, info_of, move_of, next_handle, number_at, number_next, number_of, open_file, open_item, open_tests, opened_as, pin_item, pins_at, place_at, policy_tests, ranges, ranges_item, rename, rename_item, rename_tests, rename_to, room_tests, set_pin, set_policy, set_size, show_count, show_number, size_item, size_now, size_tests, stands_there, used, used_item, used_now, with_handle, with_policy, write, write_item, write_now, write_tests}
+use Rattle.cf_model.specs.Calls.{below_at, blocks_now, buried, change_all, changing, class_flags, count_now, delete, delete_item, delete_now, delete_tests, df, flush, has_size, info, info_item, info_of, move_of, next_handle, number_next, open_file, open_item, open_tests, opened_as, pin_item, pins_at, place_at, policy_tests, ranges, ranges_item, rename, rename_item, rename_tests, rename_to, room_tests, set_pin, set_policy, set_size, show_count, size_item, size_now, size_tests, stands_there, used, used_item, used_now, with_handle, with_policy, write, write_item, write_now, write_tests}
 use Rattle.cf_model.specs.Changes.{change_with, changes}
 use Rattle.cf_model.specs.Effects.{changed, pinned}
 use Rattle.cf_model.specs.Images.{runs_of}
@@ -48,12 +48,6 @@ open_file_keeps full path = waits_named.on_file_keeps full path open_item (open_
 
 pub changing_keeps : (full : Bool) → (x1 : List Change) → All (Gives full) x1 → (x2 : Arrow Filter Shown) → (Preserves (NamedIn full) (x2)) → Preserves (NamedIn full) (changing x1 x2)
 changing_keeps full cs g answer answer_keeps = operations_named.checked_keeps full (room_tests cs) (then_do (changes cs) answer) (keeps_then (NamedIn full) (changes cs) answer (changes_keeps full cs g) answer_keeps)
-
-pub show_number_keeps : (full : Bool) → (x1 : Usn) → Preserves (NamedIn full) (show_number x1)
-show_number_keeps full n = keeps_ret (NamedIn full) (shown.Number n)
-
-pub number_of_keeps : (full : Bool) → (x1 : ItemId) → Preserves (NamedIn full) (number_of x1)
-number_of_keeps full item = keeps_reading (NamedIn full) (number_at item) show_number (show_number_keeps full)
 
 pub write_now_keeps : (full : Bool) → (x1 : ItemId) → (x2 : Change) → Gives full x2 → Preserves (NamedIn full) (write_now x1 x2)
 write_now_keeps full item c g =

@@ -1,9 +1,8 @@
 -- The lines of a text and the events of two devices that they spell.
-use Rattle.std.proofs.Common.{◌≡◌, ℕ, ◌+◌, ◌<◌, ◌≤◌, true, false, List, [], ◌∷◌, ◌++◌, length, refl, sym, ◌∙◌, arith, subst, append_assoc, length-append}
+use Rattle.std.proofs.Common.{◌≡◌, ℕ, ◌+◌, ◌<◌, ◌≤◌, true, false, List, [], ◌∷◌, ◌++◌, length, refl, sym, ◌∙◌, arith, append_assoc, length-append}
 use Rattle.std.proofs.lemmas.List.{append-nil}
 use Rattle.std.proofs.lemmas.List.Elements.{filter-append}
 use Rattle.cf_pair_events.specs.declared.events.PairEvent.{PairEvent}
-use Rattle.cf_pair_script.specs.Causes.{IsLine}
 use Rattle.cf_pair_script.specs.PairScript.{AreEvents, Spells}
 use Rattle.cf_script.specs.Script.{event_lines, is_event_line}
 
@@ -45,20 +44,3 @@ read_skip all events line rest n h none = record {
   few = h.few;
   count = simp length-append (omega (arith, h.count));
 }
-
-pub read_stops : (all : List (List ℕ)) (events : List PairEvent) (line : List ℕ) (rest : List (List ℕ)) (n : ℕ) → HasRead all events (line ∷ rest) n → is_event_line line ≡ true → IsLine all (n + 1) events line
-read_stops all events line rest n h here = record {
-  before = h.before;
-  after = rest;
-  parts = h.parts;
-  place = omega (arith, h.count);
-  good = h.good;
-  few = h.few;
-  here = here;
-}
-
-pub read_all : (all : List (List ℕ)) (events : List PairEvent) (n : ℕ) → HasRead all events [] n → AreEvents (event_lines all) events × (length events ≤ 100000)
-read_all all events n h = (subst (λ (ls : List (List ℕ)). AreEvents (event_lines ls) events) (sym (h.parts ∙ append-nil h.before)) h.good, h.few)
-
-pub read_none : (all : List (List ℕ)) → HasRead all [] all 0
-read_none all = record { before = []; parts = refl; good = tt; few = omega arith; count = refl }

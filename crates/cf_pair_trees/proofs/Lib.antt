@@ -1,3 +1,2 @@
 pub mod SortedRows
-pub mod SameTrees
 pub mod OneComparison

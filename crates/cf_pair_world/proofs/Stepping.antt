@@ -1,5 +1,5 @@
 -- Events of two devices are steps of a pair.
-use Rattle.std.proofs.Common.{◌≡◌, true, false, [], refl, sym, ◌∙◌, arith}
+use Rattle.std.proofs.Common.{◌≡◌, true, [], refl, sym, ◌∙◌, arith}
 use Rattle.std.specs.Prelude.{None, Result, Ok, Err, is_some}
 use Rattle.cf_base.specs.declared.answers.Answer.{Answer}
 use Rattle.cf_base.specs.declared.events.Event.{Event}
@@ -14,7 +14,6 @@ use Rattle.cf_filter_events.specs.Pasts.{Past}
 use Rattle.cf_filter_events.specs.Stepped.{disk_of}
 use Rattle.cf_filter_events.specs.declared.places.Acting.{Acting}
 use Rattle.cf_link.proofs.FaultCounts.{rose_none}
-use Rattle.cf_model.specs.Events.{is_of}
 use Rattle.cf_model.specs.State.{State}
 use Rattle.cf_pair_events.specs.OfDevices.{is_of_device}
 use Rattle.cf_pair_events.specs.declared.answers.PairAnswer.TheVariants as answer
@@ -31,14 +30,6 @@ use Rattle.cf_pair_world.specs.Steps.{SteppedBy, Steps, answered_by}
 use Rattle.cf_pair_world.specs.Turns.{Turns, Visits}
 use Rattle.cf_pair_world.specs.declared.worlds.PairWorld.{PairWorld}
 use Rattle.cf_remote.specs.Told.{Told}
-
--- an event of a device is one of its mode
-pub of_mode : (e : Event) → is_of_device e ≡ true → is_of mode.Replay e ≡ true
-of_mode (event.Call c) h = refl
-of_mode (event.Device x) h = refl
-of_mode (event.Engine x) h = refl
-of_mode (event.Peer x) h = refl
-of_mode (event.Provider x) h = let z : false ≡ true = h in absurd cc
 
 -- who has not the remote trusts it as before
 trusts_on : (before after : Told) (s : State) → is_some after.held ≡ is_some before.held → Trusts before s → Trusts after s
@@ -152,6 +143,3 @@ module _ {D R : Type 0} (state : D → Disk) (told : R → Told) (old : PairWorl
       rose = rose_none (told old.remote).faults (told old.remote).faults (omega arith);
     };
   }
-
-  pub no_comparison_steps : (m : NoMemory) → Steps state told pair.Compare old (Err m) old
-  no_comparison_steps m = record { leads = λ first second p h. record {} }

@@ -23,9 +23,6 @@ block_is (p ∷ ps) b = by (eqb p.0 b) (block_is ps b) where
 pub counting_step : (f : ℕ → Bool) (b to : ℕ) → b < to → f b ≡ true → list_all f (counting (b + 1) (to - (b + 1))) ≡ list_all f (counting b (to - b))
 counting_step f b to lt h = sym (ap (λ (n : ℕ). list_all f (counting b n)) (less_one to b lt) ∙ ap (λ v. v && list_all f (counting (b + 1) (to - (b + 1)))) h)
 
-pub counting_ends : (f : ℕ → Bool) (b to : ℕ) → b < to → f b ≡ false → list_all f (counting b (to - b)) ≡ false
-counting_ends f b to lt h = ap (λ (n : ℕ). list_all f (counting b n)) (less_one to b lt) ∙ ap (λ v. v && list_all f (counting (b + 1) (to - (b + 1)))) h
-
 pub touches_is : (runs : List Span) (b : ℕ) → touches runs b ≡ spans runs (4096 * b + 4095) (4096 * b + 1)
 touches_is [] b = refl
 touches_is (s ∷ ss) b = two (one s.start (s.start + s.len) (4096 * b)) (touches_is ss b) where

@@ -1,16 +1,13 @@
 -- What is written of a report, and what waits.
-use Rattle.std.proofs.Common.{◌≡◌, ℕ, ◌+◌, ◌-◌, ◌<◌, ◌≤◌, length, append_assoc, List, [], ◌++◌, refl, sym, ap, subst, ◌∙◌, arith}
+use Rattle.std.proofs.Common.{ℕ, ◌+◌, ◌-◌, ◌≤◌, length, append_assoc, List, [], ◌++◌, sym, ap, subst, ◌∙◌, arith}
 use Rattle.std.specs.Prelude.{Option}
 use Rattle.std.proofs.lemmas.List.{append-nil, length-append}
-use Rattle.cf_io.proofs.Adding.{Adds-then, Adds-none}
+use Rattle.cf_io.proofs.Adding.{Adds-then}
 use Rattle.cf_io.specs.Moves.{Adds, AddsFront}
 use Rattle.cf_world.specs.Runs.{most_report}
 use Rattle.cf_world.specs.Steps.{AddFails, Hands, IsDrafted, IsOfSink}
 use Rattle.cf_world.specs.declared.play_errors.PlayError.{PlayError}
 use Rattle.cf_world.specs.declared.play_errors.PlayError.TheVariants.{OutOfMemory, SinkFault, TooLong}
-
-pub drafted_none : (old : Option (List ℕ)) → IsDrafted [] [] 0 old old
-drafted_none old = record { front = []; parts = refl; long = refl; short = omega arith; written = Adds-none old }
 
 -- a piece more, of which some was written
 pub drafted_more : (text piece waiting left : List ℕ) (made : ℕ) (old now new : Option (List ℕ)) → IsDrafted text waiting made old now → length piece ≤ most_report - made → Hands now new (waiting ++ piece) left
@@ -53,13 +50,3 @@ pub add_early : (text piece : List ℕ) (old new : Option (List ℕ)) (e : PlayE
 add_early text piece old new SinkFault is h = h
 add_early text piece old new OutOfMemory is h = h
 add_early text piece old new TooLong is h = absurd is
-
--- the report would be too long
-pub add_passes : (text piece waiting : List ℕ) (made : ℕ) (old now new : Option (List ℕ)) → IsDrafted text waiting made old now → most_report - made < length piece → Adds now new waiting → AddFails text piece old new TooLong
-add_passes text piece waiting made old now new h passes k = (let l = h.long in let s = h.short in omega (arith, passes, l, s), drafted_all text waiting made old now new h k)
-
-pub hands_none : (old : Option (List ℕ)) (waiting : List ℕ) → Hands old old waiting waiting
-hands_none old waiting = ([], refl, Adds-none old)
-
-pub hands_all : (old new : Option (List ℕ)) (waiting left : List ℕ) → Adds old new waiting → left ≡ [] → Hands old new waiting left
-hands_all old new waiting left h none = (waiting, sym (ap (λ x. waiting ++ x) none ∙ append-nil waiting), h)

@@ -1,8 +1,8 @@
 -- The text of a run: the one that was read, or one that the source may have had left.
-use Rattle.std.proofs.Common.{◌≡◌, ◌<◌, ◌≤◌, ◌+◌, ◌^◌, ℕ, List, [], ◌++◌, length, refl, sym, ap, ◌∙◌, subst, arith, inl, inr}
+use Rattle.std.proofs.Common.{◌≡◌, ◌<◌, ◌≤◌, ◌+◌, ℕ, List, [], length, refl, arith}
 use Rattle.std.specs.Prelude.{Option, Some, None}
 use Rattle.std.proofs.Math.ListN.{replicate}
-use Rattle.std.proofs.lemmas.List.{append-nil, length-replicate}
+use Rattle.std.proofs.lemmas.List.{length-replicate}
 use Rattle.cf_base.specs.declared.events.Event.{Event}
 use Rattle.cf_base.specs.declared.policies.Mode.{Mode}
 use Rattle.cf_base.specs.declared.statuses.Status.{Status}
@@ -13,10 +13,9 @@ use Rattle.cf_io.specs.declared.faults.ReadError.{ReadError}
 use Rattle.cf_io.specs.declared.faults.ReadError.TheVariants as reading
 use Rattle.cf_remote.specs.Told.{Told}
 use Rattle.cf_script.specs.Script.{IsScript}
-use Rattle.cf_world.proofs.Concluded.{unmade_as, unread_as}
+use Rattle.cf_world.proofs.Concluded.{unread_as}
 use Rattle.cf_world.specs.Outputs.{OfText, WritesAs}
 use Rattle.cf_world.specs.Runs.{IsAfterReading, IsComplete, IsFit, IsLength, IsUnfit, most_script}
-use Rattle.cf_world.specs.declared.outputs.Ending.{Ending}
 use Rattle.cf_world.specs.declared.outputs.Output.{Output}
 use Rattle.cf_world.specs.declared.outputs.Output.TheVariants as output
 use Rattle.cf_world.specs.Steps.{read_status}
@@ -110,16 +109,3 @@ module _ {D R : Type 0} (state : D → Disk) (told : R → Told) (o : Output) (m
       complete = λ quiet fit l events built. tt;
     },
   )
-
--- a script that was made without the source, or was not made
-
-module _ {D R : Type 0} (state : D → Disk) (told : R → Told) (m : Mode) (disk : D) (remote : R) (old new : Option (List ℕ)) (Unwritten : Type 0) (text : List ℕ) where
-  pub unmade_text : (o : Ending) (Quiet : Type 0) → Adds old new [] → OfText state told (output.Ending o) m disk remote text old new Unwritten Quiet status.OutOfMemory disk remote
-  unmade_text o Quiet none = record {
-    writes = unmade_as state told m disk remote text old new o none;
-    lengths = tt;
-    bad = λ e. let z : status.OutOfMemory ≡ status.BadScript = e in cc;
-    unfit = λ n l events built. tt;
-    long = λ e. let z : status.OutOfMemory ≡ status.TooLong = e in cc;
-    complete = λ quiet fit l events built. tt;
-  }

@@ -5,7 +5,7 @@ use Rattle.std.specs.List.{position_or_len}
 use Rattle.std.proofs.Math.Seq.{take-append_seam, take-length}
 use Rattle.std.proofs.lemmas.Bool.{eqb-true}
 use Rattle.std.proofs.lemmas.Slice.Eq.{bytes_eq-Decides}
-use Rattle.std.proofs.lemmas.List.Elements.{All-head, All-nil, All-push, All-tail}
+use Rattle.std.proofs.lemmas.List.Elements.{All-head, All-push, All-tail}
 use Rattle.cf_script.proofs.LinesRead.{lines_found, lines_not_found}
 use Rattle.cf_script.specs.Script.{lines_of}
 use Rattle.cf_world.specs.Checks.{HasNoMark, IsParted, mark}
@@ -84,9 +84,6 @@ pub record HasPassed (text left : List ℕ) (place : ℕ) : Type 0 where
   pub none : HasNoMark done
   pub closed : ((more : List ℕ) → lines_of (done ++ more) ≡ lines_of done ++ lines_of more) ⊎ (left ≡ [])
 
-pub at_start : (text : List ℕ) → HasPassed text text 0
-at_start text = record { done = []; parts = refl; long = refl; lines = refl; none = All-nil (λ (l : List ℕ). l ≢ mark); closed = inl (λ more. refl) }
-
 not_empty : (xs : List ℕ) → 0 < length xs → xs ≡ [] → ⊥
 not_empty [] some is = absurd (omega (arith, some))
 not_empty (x ∷ xs) some is = absurd cc
@@ -143,9 +140,6 @@ module _ (text left line after : List ℕ) (place : ℕ) (h : HasPassed text lef
       by_parts : (left ≡ line ++ 10 ∷ after) ⊎ ((left ≡ line) × (after ≡ [])) → (text ≡ h.done ++ (mark ++ 10 ∷ after)) ⊎ ((text ≡ h.done ++ mark) × (after ≡ []))
       by_parts (inl whole) = inl (h.parts ∙ ap (λ (xs : List ℕ). h.done ++ xs) (whole ∙ ap (λ (l : List ℕ). l ++ 10 ∷ after) is))
       by_parts (inr whole) = inr (h.parts ∙ ap (λ (xs : List ℕ). h.done ++ xs) (whole.0 ∙ is), whole.1)
-
-pub no_mark : (text left : List ℕ) (place : ℕ) → HasPassed text left place → left ≡ [] → HasNoMark text
-no_mark text left place h none = subst (λ (xs : List ℕ). HasNoMark xs) (sym (h.parts ∙ ap (λ (xs : List ℕ). h.done ++ xs) none ∙ append-nil h.done)) h.none
 
 pub is_the_mark : (line : List ℕ) → bytes_eq line mark ≡ true → line ≡ mark
 is_the_mark line is = (bytes_eq-Decides line mark).0 is
