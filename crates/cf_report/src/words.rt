@@ -1,10 +1,13 @@
 //! Words at the end of a text that grows.
 
 ghost use Rattle.std.specs.Prelude.{◌≡◌, ◌∷◌, ◌++◌, OnOk};
-ghost use Rattle.cf_report.specs.Words.{bytes_text, decimal, escape, key_text, name_text, pair_text, usn_text};
+ghost use Rattle.cf_report.specs.Words.{bytes_text, decimal, escape, hex_digits, key_text, name_text, pair_text, usn_text};
 
 use cf_base::{Key, OutOfMemory, Usn};
 use itoa::Buffer;
+
+/// How many bytes are made digits at a time.
+const PIECE: usize = 65_536;
 
 /// Adds bytes as they are.
 pub fn push_plain(out: &mut Vec<u8>, text: &[u8]) -> Result<(), OutOfMemory>
@@ -70,17 +73,31 @@ pub fn push_key(out: &mut Vec<u8>, key: Key) -> Result<(), OutOfMemory>
     push_pair(out, key.epoch, key.number)
 }
 
-/// Adds a space and bytes in hexadecimal digits, or a minus for none.
-#[tactic(auto, using(crate::proofs::Digits::hex_same))]
+// Adds bytes in hexadecimal digits, a piece after the other, so that no second text of all digits is made.
+fn push_digits(out: &mut Vec<u8>, bytes: &[u8]) -> Result<(), OutOfMemory>
+    ensures { OnOk result (out.new.items ≡ out.old.items ++ hex_digits bytes.now) }
+{
+    let alloc = *out.allocator();
+    let mut rest = bytes;
+    while !rest.is_empty() {
+        let (piece, more) = rest.split_at(rest.len().min(PIECE));
+        let digits = hex::encode(alloc, piece)?;
+        push_plain(out, digits.as_bytes())?;
+        rest = more;
+    }
+    Ok(())
+}
+
+/// Adds a space and bytes in hexadecimal digits, or a minus for none. Room for all of them and for the end of the line is taken at once.
 pub fn push_bytes(out: &mut Vec<u8>, bytes: &[u8]) -> Result<(), OutOfMemory>
     ensures { OnOk result (out.new.items ≡ out.old.items ++ 32 ∷ bytes_text bytes.now) }
 {
     if bytes.is_empty() {
         return push_word(out, "-");
     }
-    let alloc = *out.allocator();
-    let digits = hex::encode(alloc, bytes)?;
-    push_word(out, digits.as_str())
+    out.reserve(bytes.len().saturating_mul(2).saturating_add(2))?;
+    out.push(b' ')?;
+    push_digits(out, bytes)
 }
 
 fn push_escaped(out: &mut Vec<u8>, byte: u8) -> Result<(), OutOfMemory>
