@@ -27,7 +27,6 @@ use Rattle.cf_volume.specs.Written.{contents_in}
 
 module _ {D : Type 0} (state : D → State) (x : Held D) (d : D) (k : Known) (e : Desk) (same : e ≡ x.desk) (fair : Fair (state d))
     (crash : (v : Volume) → At (state x.disk) x.known v → IsKeepable v → Leaves (state x.disk) (state d) (StandsEither v)) (runs : Runs (state x.disk) (state d)) where
-
   leaves : (s : Filter) → Stands state x s → Leaves (state x.disk) (state d) (StandsEither s.volume)
   leaves s h = crash s.volume h.volume (keepable s.volume h.kept)
 

@@ -1,44 +1,93 @@
 -- A turn of another entry leaves what was done of an entry.
-use Rattle.std.proofs.Common.{◌≡◌, ◌⊎◌, ◌<◌, ◌+◌, Bool, true, false, List, [], ◌∷◌, refl, sym, ◌∙◌, subst, inl, inr, eq-eqb}
+use Rattle.std.proofs.Common.{◌≡◌, ◌⊎◌, ◌<◌, ◌≤◌, ◌+◌, ℕ, Bool, true, false, List, [], ◌∷◌, refl, sym, ◌∙◌, ap, subst, inl, inr, eq-eqb, take}
 use Rattle.std.specs.Prelude.{Some, ◌==◌}
 use Rattle.std.proofs.lemmas.Bool.{eqb-true}
 use Rattle.cf_base.specs.declared.changes.Change.{Change}
 use Rattle.cf_base.specs.declared.changes.Change.TheVariants as change
 use Rattle.cf_base.specs.declared.codes.Code.{Code}
 use Rattle.cf_base.specs.declared.ids.ItemId.{ItemId}
+use Rattle.cf_base.specs.declared.ids.Rid.{Rid}
 use Rattle.cf_base.specs.declared.ids.Usn.{Usn}
 use Rattle.cf_base.specs.declared.items.SeenPath.{SeenPath}
 use Rattle.cf_base.specs.declared.messages.Entry.{Entry}
 use Rattle.cf_model.specs.Books.{Book, book_after, seen_of, with_seen}
 use Rattle.cf_model.specs.Changes.{change as put, next_number, put_with_book, same_book}
-use Rattle.cf_model.specs.Effects.{effect}
-use Rattle.cf_model.specs.Identities.{target_of}
-use Rattle.cf_model.specs.Items.{Item}
+use Rattle.cf_model.specs.Effects.{effect, made, rebased, took}
+use Rattle.cf_model.specs.Identities.{base_version, target_of}
+use Rattle.cf_model.specs.Items.{Item, pin_of}
 use Rattle.cf_model.specs.Points.{with_room_point}
 use Rattle.cf_model.specs.Skips.{do_change, skip_line, with_book}
 use Rattle.cf_model.specs.Soundness.{Each}
 use Rattle.cf_model.specs.State.{State, Volume, book_now, items_now, with_filter}
 use Rattle.cf_model.specs.Trees.{Keeps}
+use Rattle.cf_model.specs.Words.{number_of}
 use Rattle.cf_model.proofs.TreeLaws.{keeps_mapped}
 use Rattle.cf_model_laws.specs.Fitting.{Fits}
-use Rattle.cf_model_laws.specs.Invariant.{All}
+use Rattle.cf_model_laws.specs.Invariant.{All, target_in}
 use Rattle.cf_model_laws.specs.Premises.{IsFair}
-use Rattle.cf_model_laws.specs.Taken.{IsNamedBy, IsSeenBy}
-use Rattle.cf_model_laws.proofs.Gathered.{all_weaker}
+use Rattle.cf_model_laws.specs.Taken.{IsNamedBy, IsSeenBy, NamesTold}
+use Rattle.cf_model_laws.proofs.EntryLaws.{entry_target_in}
+use Rattle.cf_model_laws.proofs.Gathered.{all_weaker, each_any}
 use Rattle.cf_model_laws.proofs.Leading.{kept_leads}
 use Rattle.cf_model_laws.proofs.SeenPaths.{seen_past}
 use Rattle.cf_model_laws.proofs.SinceKept.{named_weaker}
 use Rattle.cf_model_laws.proofs.SkipsGuarded.{IsStepBy, Skipping, keeps_both}
 use Rattle.cf_model_laws.proofs.SoundFilters.{change_leads}
 use Rattle.cf_model_agreement.specs.Turned.{IsTurnedTo}
+use Rattle.cf_model_convergence.specs.Passed.{NamesAs}
+use Rattle.cf_model_convergence.proofs.EffectItems.{effect_all}
+use Rattle.cf_model_agreement.proofs.KnownSteps.{after_fewer, target_below}
 
 -- what is known of an entry: its rid is another than this one's, and small
 abbrev pub IsApartFrom : Entry → Entry → Type 0
 IsApartFrom d e = (e.rid.0 ≡ d.rid.0 → ⊥) × (e.rid.0 < 18446744073709551616)
 
 module _ (d : Entry) (some : d.rid.0 ≡ 0 → ⊥) where
+  turned_alike : (b : Book) (i j : Item) → i.id ≡ j.id → i.directory ≡ j.directory → i.identity ≡ j.identity → IsTurnedTo d b i → IsTurnedTo d b j
+  turned_alike b i j id kind identity k below t =
+      let z = k (λ y. below (sym (ap (λ (x : ItemId). x.0) id) ∙ y)) (target ∙ t) in
+      (z.0, (λ file. subst (λ (n : ℕ). d.version.0 ≤ n) (ap (λ (y : List ℕ). (base_version (record i { identity = y })).0) identity) (z.1 (kind ∙ file))), λ p f. z.2 p (subst (λ (x : ItemId). seen_of b x ≡ Some p) (sym id) f)) where
+        target : (target_of i).0 ≡ (target_of j).0
+        target = ap (λ (y : ItemId). (target_of (record i { id = y })).0) id ∙ ap (λ (y : List ℕ). (target_of (record i { id = j.id; identity = y })).0) identity
+
+  other_target : (b : Book) (i : Item) → ((i.id.0 ≡ 1 → ⊥) → (target_of i).0 ≡ d.rid.0 → ⊥) → IsTurnedTo d b i
+  other_target b i h below t = absurd (h below t)
+
+  free_target : (i : Item) → number_of (take 8 i.identity) ≡ 0 → (i.id.0 ≡ 1 → ⊥) → (target_of i).0 ≡ d.rid.0 → ⊥
+  free_target i none below t = some (sym t ∙ ap (λ (x : Rid). x.0) (target_below i.id.0 (target_in i.identity) below) ∙ none)
+
+  named_target : (identity : List ℕ) (i : Item) → NamesTold (IsApartFrom d) identity → i.identity ≡ identity → (i.id.0 ≡ 1 → ⊥) → (target_of i).0 ≡ d.rid.0 → ⊥
+  named_target identity i (inl z) same below t = free_target i (ap (λ (y : List ℕ). number_of (take 8 y)) same ∙ z) below t
+  named_target identity i (inr z) same below t =
+      z.1.0 (sym (ap (λ (x : Rid). x.0) (entry_target_in z.0 z.1.1)) ∙ ap (λ (y : List ℕ). (target_in y).0) (sym z.2) ∙ ap (λ (y : List ℕ). (target_in y).0) (sym same) ∙ ap (λ (x : Rid). x.0) (sym (target_below i.id.0 (target_in i.identity) below)) ∙ t)
+
+  names_as : (b : Book) (items : List Item) (c : Change) (n : Usn) → IsNamedBy (IsApartFrom d) (IsApartFrom d) c → (revert : (item : ItemId) → c ≡ change.Revert item → ⊥) → NamesAs (IsTurnedTo d b) items c n
+  names_as b items (change.Make item parent name kind size identity) n named revert = other_target b (made item parent name kind size identity (pin_of items parent) n) (named_target identity (made item parent name kind size identity (pin_of items parent) n) named refl)
+  names_as b items (change.Convert item identity) n named revert = named
+  names_as b items (change.Revert item) n named revert = revert item refl
+  names_as b items (change.Rebase item identity len at) n named revert = each_any item (λ i. IsTurnedTo d b (rebased identity len at i)) (λ i. other_target b (rebased identity len at i) (named_target identity (rebased identity len at i) named refl)) items
+  names_as b items (change.Take item identity size) n named revert = each_any item (λ i. IsTurnedTo d b (took identity size n i)) (λ i. other_target b (took identity size n i) (named_target identity (took identity size n i) named refl)) items
+  names_as b items (change.Remove item) n named revert = tt
+  names_as b items (change.Move item parent name) n named revert = tt
+  names_as b items (change.Write item at bytes) n named revert = tt
+  names_as b items (change.Size item size) n named revert = tt
+  names_as b items (change.Filled item start bytes) n named revert = tt
+  names_as b items (change.Validated item start len) n named revert = tt
+  names_as b items (change.Emptied item start len) n named revert = tt
+  names_as b items (change.SetPin item pin) n named revert = tt
+  names_as b items (change.Mark item number) n named revert = tt
+  names_as b items (change.Clear item) n named revert = tt
+  names_as b items (change.Copy item from parent name) n named revert = tt
+  names_as b items (change.Populated item) n named revert = tt
+  names_as b items (change.Keep item on) n named revert = tt
+
   turned_fewer : (b c : Book) (items : List Item) → ((id : ItemId) (p : SeenPath) → seen_of c id ≡ Some p → seen_of b id ≡ Some p) → All (IsTurnedTo d b) items → All (IsTurnedTo d c) items
   turned_fewer b c items fewer h = all_weaker (IsTurnedTo d b) (IsTurnedTo d c) (λ i k below t. let z = k below t in (z.0, z.1, λ p f. z.2 p (fewer i.id p f))) items h
+
+  turned_effect : (b : Book) (items : List Item) (c : Change) (n : Usn) → IsNamedBy (IsApartFrom d) (IsApartFrom d) c → ((item : ItemId) → c ≡ change.Revert item → ⊥) → All (IsTurnedTo d b) items → All (IsTurnedTo d (book_after c b)) (effect items c n)
+  turned_effect b items c n named revert h =
+      turned_fewer b (book_after c b) (effect items c n) (after_fewer c b)
+      (effect_all (IsTurnedTo d b) (turned_alike b) (λ i none. other_target b i (free_target i none)) items c n (names_as b items c n named revert) h)
 
   turned_seen : (b : Book) (p : SeenPath) (items : List Item) → IsSeenBy (IsApartFrom d) items p → All (IsTurnedTo d b) items → All (IsTurnedTo d (with_seen p b)) items
   turned_seen b p items told h = each items told.2 h where
