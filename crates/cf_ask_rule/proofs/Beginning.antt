@@ -21,11 +21,11 @@ use Rattle.cf_ask_rule.specs.Near.{IsFull, is_on}
 use Rattle.cf_ask_rule.specs.Plans.{Begins, plan_of}
 use Rattle.cf_ask_rule.specs.Settled.{IsSettled}
 
-filter_all : {A : Type 0} (p : A → Bool) (xs : List A) → AllByRecursion (λ x. p x ≡ false) xs → filter (λ x. not (p x)) xs ≡ xs
+pub filter_all : {A : Type 0} (p : A → Bool) (xs : List A) → AllByRecursion (λ x. p x ≡ false) xs → filter (λ x. not (p x)) xs ≡ xs
 filter_all p [] h = refl
 filter_all p (x ∷ xs) h = ap (λ b. cond (not b) (x ∷ filter (λ x. not (p x)) xs) (filter (λ x. not (p x)) xs)) h.0 ∙ ap (λ l. x ∷ l) (filter_all p xs h.1)
 
-none_of : {A : Type 0} (p : A → Bool) (xs : List A) → filter p xs ≡ [] → AllByRecursion (λ x. p x ≡ false) xs
+pub none_of : {A : Type 0} (p : A → Bool) (xs : List A) → filter p xs ≡ [] → AllByRecursion (λ x. p x ≡ false) xs
 none_of p [] h = tt
 none_of {A} p (x ∷ xs) h = one (p x) refl (none_of p xs) h where
   one : (b : Bool) → p x ≡ b → (filter p xs ≡ [] → AllByRecursion (λ x. p x ≡ false) xs) → cond b (x ∷ filter p xs) (filter p xs) ≡ [] → AllByRecursion (λ x. p x ≡ false) (x ∷ xs)
@@ -53,7 +53,7 @@ left_front f (w ∷ ws) bs h = ap (λ o. cond (not (is_some o)) (w ∷ left_of f
 
 -- no ask goes
 
-all_stay : (asks : List Live) → AllByRecursion IsFull asks → after Nothing asks ≡ asks
+pub all_stay : (asks : List Live) → AllByRecursion IsFull asks → after Nothing asks ≡ asks
 all_stay [] h = refl
 all_stay (a ∷ asks) h = ap (λ b. cond (not b) (a ∷ after Nothing asks) (after Nothing asks)) h.0 ∙ ap (λ l. a ∷ l) (all_stay asks h.1)
 
@@ -71,7 +71,7 @@ any_more f g h (x ∷ xs) t = one (f x) refl (any_more f g h xs) t where
 any_front : (f : Wait → Bool) (ws xs : List Wait) → list_any f ws ≡ true → list_any f (ws ++ xs) ≡ true
 any_front f ws xs t = list_any-append f ws xs ∙ or_left (list_any f ws) (list_any f xs) t
 
-hit : (b : Bool) → not b ≡ false → b ≡ true
+pub hit : (b : Bool) → not b ≡ false → b ≡ true
 hit true h = refl
 hit false h = let z : true ≡ false = h in cc
 

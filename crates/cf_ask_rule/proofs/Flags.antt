@@ -58,7 +58,7 @@ any_or f g (x ∷ xs) = ap (λ b. (f x || g x) || b) (any_or f g xs) ∙ or_swap
 one_more : (u w a k : ℕ) → (within u w a || nat_lt (max u (a + 1)) (min w (a + 1 + k))) ≡ nat_lt (max u a) (min w (a + suc k))
 one_more u w a k = grind (arith, nat_tests)
 
-span_counting : (u w a k : ℕ) → list_any (within u w) (counting a k) ≡ nat_lt (max u a) (min w (a + k))
+pub span_counting : (u w a k : ℕ) → list_any (within u w) (counting a k) ≡ nat_lt (max u a) (min w (a + k))
 span_counting u w a zero = grind (arith, nat_tests)
 span_counting u w a (suc k) = ap (λ b. within u w a || b) (span_counting u w (a + 1) k) ∙ one_more u w a k
 

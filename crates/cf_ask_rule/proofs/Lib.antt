@@ -1,13 +1,20 @@
+pub mod Apart
 pub mod Beginning
 pub mod Blocks
+pub mod Changed
 pub mod Covering
 pub mod Covers
+pub mod Cuts
 pub mod Filters
 pub mod Flags
 pub mod Following
+pub mod Fronted
 pub mod Joined
 pub mod Local
 pub mod Missed
+pub mod Narrow
+pub mod NearPlans
+pub mod Nearby
 pub mod Opening
 pub mod Owned
 pub mod Places
@@ -17,3 +24,4 @@ pub mod Search
 pub mod Settling
 pub mod Wanted
 pub mod Wanting
+pub mod Whys

@@ -113,7 +113,7 @@ made_awaited item v ws kept =
 
 -- no ask is to be made
 
-none_open : (w o : ℕ → Bool) (top i n : ℕ) → i + n ≤ top → ((b : ℕ) → b < top → w b ≡ true → o b ≡ true) → filter (λ b. w b && not (o b)) (counting i n) ≡ []
+pub none_open : (w o : ℕ → Bool) (top i n : ℕ) → i + n ≤ top → ((b : ℕ) → b < top → w b ≡ true → o b ≡ true) → filter (λ b. w b && not (o b)) (counting i n) ≡ []
 none_open w o top i zero l h = refl
 none_open w o top i (suc n) l h = one (w i) (o i) refl refl (none_open w o top (i + 1) n (omega arith) h) where
   within : i < top
@@ -137,7 +137,7 @@ list_there item true true t f = let z : true ≡ false = f in cc
 list_there item true false t f = ap (λ x. (x && true) || false) (eq-eqb item.0 item.0 refl)
 list_there item false k t f = let z : false ≡ true = t in cc
 
-no_list : (item : ItemId) (l k : Bool) → (l ≡ true → k ≡ true) → when (l && not k) (list_ask item ∷ []) ≡ []
+pub no_list : (item : ItemId) (l k : Bool) → (l ≡ true → k ≡ true) → when (l && not k) (list_ask item ∷ []) ≡ []
 no_list item true true h = refl
 no_list item true false h = let z : false ≡ true = h refl in cc
 no_list item false k h = refl

@@ -61,7 +61,7 @@ taken (suc n) k [] l h = h
 taken (suc n) zero (x ∷ xs) l h = or_left x (list_any (λ b. b) (take n xs)) h
 taken (suc n) (suc k) (x ∷ xs) l h = or_right x (list_any (λ b. b) (take n xs)) (taken n k xs (omega arith) h)
 
-some_between : (flags : List Bool) (s e : ℕ) → any_between flags s e ≡ true → (p : ℕ) × (s ≤ p) × (p < e) × (flag flags p ≡ true)
+pub some_between : (flags : List Bool) (s e : ℕ) → any_between flags s e ≡ true → (p : ℕ) × (s ≤ p) × (p < e) × (flag flags p ≡ true)
 some_between flags s e h = let r : (k : ℕ) × (k < e - s) × (flag (drop s flags) k ≡ true) = some_taken (e - s) (drop s flags) h in let l : r.0 < e - s = r.1 in (s + r.0, omega arith, omega arith, sym (flag_drop s r.0 flags) ∙ r.2)
 
 pub hit_between : (flags : List Bool) (s e p : ℕ) → s ≤ p → p < e → flag flags p ≡ true → any_between flags s e ≡ true
@@ -88,7 +88,7 @@ hit_one v w p l h =
     let c : p < n.start + n.len = a.1 in
     hit_between v.lacks (max n.start (4096 * (p / 4096))) (min (n.start + n.len) (4096 * (p / 4096) + 4096)) p (omega arith) (omega arith) l
 
-hit_all : (item : ItemId) (v : View) (ws : List Wait) (p : ℕ) → lacks_at v p ≡ true → is_needed item v ws p ≡ true → is_wanted item v ws (p / 4096) ≡ true
+pub hit_all : (item : ItemId) (v : View) (ws : List Wait) (p : ℕ) → lacks_at v p ≡ true → is_needed item v ws p ≡ true → is_wanted item v ws (p / 4096) ≡ true
 hit_all item v [] p l h = h
 hit_all item v (w ∷ ws) p l h = elim (either (eqb w.item.0 item.0 && in_span (needed v w) p) (is_needed item v ws p) h) [
   | inl e ↦
@@ -99,7 +99,7 @@ hit_all item v (w ∷ ws) p l h = elim (either (eqb w.item.0 item.0 && in_span (
 
 -- and the other way round
 
-some_missed : (item : ItemId) (v : View) (ws : List Wait) (b : ℕ) → is_wanted item v ws b ≡ true → (p : ℕ) × (4096 * b ≤ p) × (p < 4096 * b + 4096) × (lacks_at v p ≡ true) × (is_needed item v ws p ≡ true)
+pub some_missed : (item : ItemId) (v : View) (ws : List Wait) (b : ℕ) → is_wanted item v ws b ≡ true → (p : ℕ) × (4096 * b ≤ p) × (p < 4096 * b + 4096) × (lacks_at v p ≡ true) × (is_needed item v ws p ≡ true)
 some_missed item v [] b h = let z : false ≡ true = h in cc
 some_missed item v (w ∷ ws) b h = elim (either (eqb w.item.0 item.0 && misses_block v w b) (is_wanted item v ws b) h) [
   | inl e ↦

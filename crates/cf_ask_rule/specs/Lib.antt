@@ -1,5 +1,7 @@
 pub mod Deeds
+pub mod Fronts
 pub mod Missed
+pub mod Narrowing
 pub mod Near
 pub mod Nexts
 pub mod Owners

@@ -18,13 +18,16 @@ pub record Outlook : Type 0 where
   pub made : List Live
 
 -- What changes by a step: the waits that end, the keys of the asks that are cancelled, the key of the ask that is over
--- without a line, the ask that blocks have left, and the asks that are made, still without keys.
+-- without a line, the ask that blocks have left, and the asks that are made, still without keys. The item and the view are
+-- those that it was worked out by.
 pub record Planned : Type 0 where
   pub ended : List (Wait × Cause)
   pub cancelled : List Key
   pub dropped : Option Key
   pub changed : Option Live
   pub made : List Live
+  pub item : ItemId
+  pub view : View
 
 abbrev pub plan_of : ItemId → View → Deed → List Wait → List Live → Outlook
 plan_of item v d waits asks =

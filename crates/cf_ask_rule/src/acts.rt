@@ -8,7 +8,8 @@ ghost use Rattle.cf_ask_rule.specs.Deeds.{after, awaited_by, cause_for, deed_of,
 ghost use Rattle.cf_ask_rule.specs.Nexts.{Wants};
 ghost use Rattle.cf_ranges.specs.Positions.{IsRuns};
 
-use crate::asks::{LiveAsk, is_data, is_idle, waits_by};
+use crate::asks::{LiveAsk, is_idle, waits_by};
+use crate::kinds::is_data;
 use crate::misses::{is_met, misses_span};
 use crate::searches::Hint;
 use crate::sights::Sight;
@@ -113,7 +114,8 @@ fn closed_by(w: &LiveWait, handle: Handle, last: bool) -> Option<Cause>
     }
 }
 
-fn cause_by(act: Act, v: &Sight, ask: Option<&LiveAsk>, w: &LiveWait) -> Option<Cause>
+/// Why an act ends a wait on its item, if it does. The ask is the one whose waits it ends.
+pub fn cause_by(act: Act, v: &Sight, ask: Option<&LiveAsk>, w: &LiveWait) -> Option<Cause>
     ensures { result ≡ cause_for (deed_of act) v.now (option_copied ask.entry) w.now }
 {
     match act {
@@ -132,7 +134,8 @@ fn cause_by(act: Act, v: &Sight, ask: Option<&LiveAsk>, w: &LiveWait) -> Option<
     }
 }
 
-fn or_met(cause: Option<Cause>, met: bool) -> Option<Cause>
+/// A cause that is known, or that the wait is met.
+pub fn or_met(cause: Option<Cause>, met: bool) -> Option<Cause>
     ensures { result ≡ or_met cause met }
 {
     match cause {

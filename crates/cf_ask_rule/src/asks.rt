@@ -1,16 +1,18 @@
 //! Live asks, and the blocks that they own.
-ghost use Rattle.std.specs.Prelude.{◌≡◌, ℕ, Bool, not, nat_le, ◌+◌, ◌<◌, All, filter, IfOk, ◌&&◌, ◌==◌};
-ghost use Rattle.std.specs.List.{list_all, list_any};
+ghost use Rattle.std.specs.Prelude.{◌≡◌, ℕ, Bool, not, min, nat_le, ◌+◌, ◌^◌, ◌<◌, ◌≤◌, All, filter, IfOk, ◌&&◌, ◌==◌};
+ghost use Rattle.std.specs.List.{AllByRecursion, list_all, list_any};
+ghost use Rattle.cf_ask_rule.specs.Fronts.{EndsBy};
 ghost use Rattle.cf_ask_rule.specs.Nexts.{Wants};
 ghost use Rattle.cf_ask_rule.specs.Places.{places};
 ghost use Rattle.cf_ask_rule.specs.Unions.{IsSmall};
 ghost use Rattle.cf_model.specs.Asks.{is_idle, is_idle_by, is_owned, is_wanted, misses_in, waits_by};
 ghost use Rattle.cf_model.specs.Numbers.{same_key};
-ghost use Rattle.cf_model.specs.Requests.{has_block, is_data, is_dehydrate, is_list, is_list_wait};
+ghost use Rattle.cf_model.specs.Requests.{has_block, is_list_wait};
 ghost use Rattle.cf_model.specs.Words.{counting, is_empty};
-ghost use Rattle.cf_ranges.specs.Positions.{contains, IsRuns};
+ghost use Rattle.cf_ranges.specs.Positions.{contains, within, IsRuns};
 
 use crate::block_sets::BlockSet;
+use crate::changes::greatest_end;
 use crate::misses::{misses_span, next_missed};
 use crate::searches::Hint;
 use crate::sights::Sight;
@@ -112,6 +114,7 @@ impl LiveAsk {
 
     /// The runs of its blocks.
     pub fn runs(&self) -> &[Span]
+        ensures places { places result.now ≡ self.now.owned }
         ensures blocks { (b : ℕ) → contains result.now b ≡ has_block self.now.owned b }
         ensures maximal { IsRuns result.now }
     {
@@ -123,6 +126,20 @@ impl LiveAsk {
         ensures { result ≡ list_all (has_block self.now.owned) (counting blocks.start blocks.len) }
     {
         has_all(self.owned.runs(), blocks)
+    }
+
+    /// It owns no block from there on, up to 2^32.
+    pub fn block_end(&self) -> u64
+        ensures { EndsBy result self.now }
+    {
+        end_of_blocks(self.owned.runs())
+    }
+
+    /// Whether it owns a block from first up to end.
+    pub fn has_any(&self, first: u64, end: u64) -> bool
+        ensures { result ≡ list_any (within first end) self.now.owned }
+    {
+        has_any(self.owned.runs(), first, end)
     }
 
     /// The ticks since it was made or last answered.
@@ -174,6 +191,12 @@ impl LiveAsk {
     }
 }
 
+fn end_of_blocks(runs: &[Span]) -> u64
+    ensures { AllByRecursion (λ b. min (b + 1) (2 ^ 32) ≤ result) (places runs.now) }
+{
+    greatest_end(runs)
+}
+
 // As runs are maximal, one of them has all.
 fn has_all(runs: &[Span], blocks: Span) -> bool
     requires { IsRuns runs.now }
@@ -200,43 +223,31 @@ fn covers(run: Span, blocks: Span) -> bool
         && blocks.len <= run.len - (blocks.start - run.start)
 }
 
+fn has_any(runs: &[Span], first: u64, end: u64) -> bool
+    ensures { result ≡ list_any (within first end) (places runs.now) }
+{
+    any_reaches(runs, first, end)
+}
+
+fn any_reaches(runs: &[Span], first: u64, end: u64) -> bool
+    ensures { result ≡ list_any (λ r. list_any (within first end) (counting r.start r.len)) runs.now }
+{
+    runs.iter().any(|run| reaches(*run, first, end))
+}
+
+#[tactic(auto, using(crate::proofs::Flags::span_counting))]
+fn reaches(run: Span, first: u64, end: u64) -> bool
+    ensures { result ≡ list_any (within first end) (counting run.start run.len) }
+{
+    let start = run.start.max(first);
+    start < end && start - run.start < run.len
+}
+
 fn is_empty(runs: &[Span]) -> bool
     ensures { result ≡ is_empty runs.now }
 {
     match runs {
         [] => true,
-        _ => false,
-    }
-}
-
-/// Whether an ask is for bytes.
-pub fn is_data(kind: AskKind) -> bool
-    ensures { result ≡ is_data kind }
-{
-    match kind {
-        AskKind::Fetch => true,
-        AskKind::Validate => true,
-        AskKind::List => false,
-        AskKind::Dehydrate => false,
-    }
-}
-
-/// Whether an ask is for the entries of a directory.
-pub fn is_list(kind: AskKind) -> bool
-    ensures { result ≡ is_list kind }
-{
-    match kind {
-        AskKind::List => true,
-        _ => false,
-    }
-}
-
-/// Whether an ask is for consent to a dehydration.
-pub fn is_dehydrate(kind: AskKind) -> bool
-    ensures { result ≡ is_dehydrate kind }
-{
-    match kind {
-        AskKind::Dehydrate => true,
         _ => false,
     }
 }

@@ -4,6 +4,9 @@
 mod acts;
 mod asks;
 mod block_sets;
+mod changed_plans;
+mod changes;
+mod kinds;
 mod laws;
 mod misses;
 mod new_asks;
@@ -15,13 +18,16 @@ mod views;
 mod waits;
 
 pub use acts::{Act, live_of};
-pub use asks::{LiveAsk, is_data, is_dehydrate, is_list};
+pub use asks::LiveAsk;
+pub use changed_plans::{is_needing, make_expiry_plan, make_leave_plan, span_around};
+pub use changes::Change;
+pub use kinds::{is_data, is_dehydrate, is_list};
 pub use laws::{
     a_step_looks_at_its_item, a_wait_begins_beside_others, each_data_ask_has_a_missed_block,
     each_missing_block_has_one_owner, each_missing_block_is_owned, each_step_settles_its_item,
     no_block_gets_two_owners,
 };
-pub use misses::is_met;
+pub use misses::{first_block, is_met};
 pub use plans::{Plan, make_begin_plan, make_plan};
 pub use sights::Sight;
 pub use views::View;

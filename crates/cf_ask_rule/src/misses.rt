@@ -1,9 +1,11 @@
 //! What waits miss.
-ghost use Rattle.std.specs.Prelude.{◌≡◌, IfOk, IfSome, ◌&&◌, ℕ, ◌+◌, ◌*◌, ◌^◌, ◌≤◌, ◌<◌, filter, length, map};
+ghost use Rattle.std.specs.Prelude.{◌≡◌, false, IfOk, IfSome, ◌&&◌, ℕ, ◌+◌, ◌*◌, ◌^◌, ◌≤◌, ◌<◌, filter, length, map};
+ghost use Rattle.std.specs.List.{AllByRecursion};
+ghost use Rattle.cf_ask_rule.specs.Fronts.{NeedsFrom, is_data_wait};
 ghost use Rattle.cf_ask_rule.specs.Near.{is_on};
 ghost use Rattle.cf_ask_rule.specs.Nexts.{IsNext, cut, is_needed, lacks_at};
 ghost use Rattle.cf_model.specs.Asks.{misses_in};
-ghost use Rattle.cf_model.specs.Missing.{is_met, misses, misses_between, needed};
+ghost use Rattle.cf_model.specs.Missing.{Wait, is_met, misses, misses_between, needed};
 ghost use Rattle.cf_model.specs.Words.{counting};
 ghost use Rattle.cf_ranges.specs.Positions.{contains, IsRuns};
 
@@ -31,6 +33,38 @@ pub fn needed(v: &Sight, w: &LiveWait) -> Span
         WaitKind::Background => all,
         WaitKind::List => none,
         WaitKind::Dehydrate => none,
+    }
+}
+
+/// A block before which the waits need nothing, where there is one wait alone, and it is for bytes.
+pub fn first_block(v: &Sight, waits: &[LiveWait]) -> Option<u64>
+    ensures { IfSome result (λ n. AllByRecursion (NeedsFrom v.now n) waits.now) }
+{
+    match waits {
+        [w] => block_of(v, w),
+        _ => None,
+    }
+}
+
+fn block_of(v: &Sight, w: &LiveWait) -> Option<u64>
+    ensures { IfSome result (λ n. NeedsFrom v.now n w.now) }
+{
+    if !is_data_wait(w.kind()) {
+        return None;
+    }
+    let span = needed(v, w);
+    Some(span.start / BLOCK)
+}
+
+fn is_data_wait(kind: WaitKind) -> bool
+    ensures { result ≡ is_data_wait kind }
+{
+    match kind {
+        WaitKind::Read => true,
+        WaitKind::Hydrate => true,
+        WaitKind::Background => true,
+        WaitKind::List => false,
+        WaitKind::Dehydrate => false,
     }
 }
 
@@ -132,6 +166,19 @@ pub fn misses_span(v: &Sight, blocks: Span, w: &LiveWait) -> bool
     }
     let end = blocks.start.saturating_add(blocks.len).min(size + 1);
     misses_between(v, w, BLOCK * blocks.start, BLOCK * end)
+}
+
+/// Whether a byte in one of the blocks is missing where it is needed.
+#[tactic(auto, using(crate::proofs::Blocks::misses_counting, crate::proofs::Blocks::misses_far))]
+pub fn lacks_in(v: &Sight, blocks: Span) -> bool
+    ensures { result ≡ false → (w : Wait) → misses_in v.now (counting blocks.start blocks.len) w ≡ false }
+{
+    let size = v.size();
+    if blocks.start > size {
+        return false;
+    }
+    let end = blocks.start.saturating_add(blocks.len).min(size + 1);
+    v.lacks_between(BLOCK * blocks.start, BLOCK * end)
 }
 
 /// Whether nothing that the wait needs is missing. A dehydrate wait ends only with its ask.

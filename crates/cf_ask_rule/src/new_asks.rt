@@ -10,8 +10,9 @@ ghost use Rattle.cf_base.specs.declared.waits.AskKind.{AskKind};
 ghost use Rattle.cf_model.specs.Words.{counting};
 ghost use Rattle.cf_ranges.specs.Positions.{contains, IsRuns};
 
-use crate::asks::{LiveAsk, is_list, is_list_awaited, owned_of};
+use crate::asks::{LiveAsk, is_list_awaited, owned_of};
 use crate::block_sets::BlockSet;
+use crate::kinds::is_list;
 use crate::misses::next_missed;
 use crate::searches::{Hint, end_of, place_beyond};
 use crate::sights::Sight;

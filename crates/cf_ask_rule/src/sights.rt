@@ -2,9 +2,11 @@
 ghost use Rattle.std.specs.Prelude.{◌≡◌, ℕ, not, ◌+◌, ◌||◌, ◌^◌, ◌<◌, ◌≤◌, IfOk, IfSome, IsTrue, length, max, min};
 ghost use Rattle.cf_model.specs.Missing.{any_between};
 ghost use Rattle.cf_ranges.specs.Positions.{contains, IsRuns};
+ghost use Rattle.cf_ask_rule.specs.Narrowing.{Narrows};
 ghost use Rattle.cf_ask_rule.specs.Nexts.{IsNext, lacks_at};
 ghost use Rattle.cf_ask_rule.specs.Sights.{is_lacking, meets, shown};
 
+use crate::changes::{Change, change_of};
 use crate::searches::{Hint, below, lesser, next_in, place_beyond};
 use crate::views::View;
 use cf_base::{OutOfMemory, Span};
@@ -100,6 +102,19 @@ impl Sight {
             return false;
         }
         are_same(&self.bare, &other.bare)
+    }
+
+    /// The positions outside of which a later sight lacks what this one lacks. Nothing where it may lack more, or shows
+    /// another file.
+    pub fn narrowed(&self, to: &Sight) -> Option<Change>
+        ensures { IfSome result (λ c. Narrows self.now to.now c.start c.end) }
+    {
+        if self.size != to.size || self.whole != to.whole || self.populated != to.populated {
+            return None;
+        }
+        let absent = change_of(&self.absent, &to.absent)?;
+        let bare = change_of(&self.bare, &to.bare)?;
+        Some(absent.with(bare))
     }
 
     /// Whether some byte from start up to end is not here.

@@ -93,8 +93,8 @@ pub looks_is : {X : Type 0} (S : Sense X) (x : X) (w : Waiting) (item : ItemId) 
 looks_is S x w item d p v u reads e s h same =
     subst (λ (y : Waiting). carried p y ≡ step_of item u d y) (reads.is s h (record {})) (e ∙ ap (λ (y : View). step_of item y d w) same)
 
-pub planned_of : (p : Planned) (w u : Waiting) (item : ItemId) (v : View) (d : Deed) → w ≡ u → carried p w ≡ step_of item v d w → IsPlanned p u
-planned_of p w u item v d same e = subst (λ (x : Waiting). IsPlanned p x) same (item, v, d, e)
+pub planned_of : (p : Planned) (w u : Waiting) (item : ItemId) (v : View) (d : Deed) → w ≡ u → carried p w ≡ step_of item v d w → (p.item ≡ item) × (p.view ≡ v) → IsPlanned p u
+planned_of p w u item v d same e seen = subst (λ (x : Waiting). IsPlanned p x) same (item, v, d, e, seen.0, seen.1)
 
 pub looked : {X : Type 0} (S : Sense X) (x : X) (w : Waiting) (item : ItemId) (d : Deed) (p : Planned) (row : Row) (policy : Policy) (v : View)
     → Reads S Any waiting_of x w → Reads S Any policy_of x policy → ((i : Item) → Means row i → IsSmall i → v ≡ view_of policy i) → carried p w ≡ step_of item v d w → Looks S item row d p x

@@ -8,6 +8,7 @@ use Rattle.std.proofs.lemmas.Bool.Decides.{nat_tests}
 use Rattle.std.proofs.lemmas.List.Sums.{length-filter}
 use Rattle.cf_ask_rule.proofs.Filters.{all_of, all_then, filter_map_same, filter_same}
 use Rattle.cf_ask_rule.specs.Near.{is_near}
+use Rattle.cf_ask_rule.specs.Fronts.{EndsBy}
 use Rattle.cf_base.specs.declared.ids.ItemId.{ItemId}
 use Rattle.cf_base.specs.declared.ids.Key.{Key}
 use Rattle.cf_model.specs.Numbers.{same_key}
@@ -176,8 +177,8 @@ known_forward o t base known xs new ys h is e k =
     subst (λ (l : List Live). AllByRecursion (λ a. known ≤ a.ticks) l) (sym (e ∙ is))
     (all_forward (BeganWithin o t) (λ a. known ≤ a.ticks) (brought_forward base) (λ a g. let low : o ≤ a.ticks = g.0 in omega (arith, k)) xs h)
 
-pub asks_forward : (xs new ys : List Live) (es : List Entry) (n l o t base r m : ℕ) → HoldsAsks xs es n l o t → new ≡ map (brought_forward base) xs → ys ≡ new → AllByRecursion (λ a. r ≤ a.ticks) ys → r ≤ m → t - base ≤ m → HoldsAsks new es n l r m
-asks_forward xs new ys es n l o t base r m h is e least order later = subst (λ (x : List Live). HoldsAsks x es n l r m) (sym is) (record {
+pub asks_forward : (xs new ys : List Live) (es : List Entry) (n l o t end base r m : ℕ) → HoldsAsks xs es n l o t end → new ≡ map (brought_forward base) xs → ys ≡ new → AllByRecursion (λ a. r ≤ a.ticks) ys → r ≤ m → t - base ≤ m → AllByRecursion (EndsBy end) new → HoldsAsks new es n l r m end
+asks_forward xs new ys es n l o t end base r m h is e least order later ends = subst (λ (x : List Live). HoldsAsks x es n l r m end) (sym is) (record {
   rising = rising_keys xs (map (brought_forward base) xs) (sym (map_twice ask_key (brought_forward base) xs ∙ map_same (λ a. ask_key (brought_forward base a)) ask_key (λ a. refl) xs)) h.rising;
   index = h.index ∙ ap (λ (x : List Entry). sorted stands_before x) (sym (map_twice ask_entry (brought_forward base) xs ∙ map_same (λ a. ask_entry (brought_forward base a)) ask_entry (λ a. refl) xs));
   count = h.count ∙ sym (ap length (filter_map_same is_plain_ask (brought_forward base) (λ a. refl) xs) ∙ length_map (brought_forward base) (filter is_plain_ask xs));
@@ -186,6 +187,7 @@ asks_forward xs new ys es n l o t base r m h is e least order later = subst (λ 
       (subst (λ (x : List Live). AllByRecursion (λ a. r ≤ a.ticks) x) (e ∙ is) least)
       (all_forward (BeganWithin o t) (λ a. a.ticks ≤ m) (brought_forward base) (λ a g. let high : a.ticks ≤ t = g.1 in omega arith) xs h.begun);
   order = order;
+  ends = subst (λ (x : List Live). AllByRecursion (EndsBy end) x) is ends;
 })
 
 forward_each : (n t base m o : ℕ) (xs : List Live) → AllByRecursion (BeganWithin o t) xs → AllByRecursion (λ a. a.ticks < 60) (map (aged_at t) xs) → base ≤ t - 60 → m ≡ t - base + n

@@ -3,6 +3,7 @@ use Rattle.std.proofs.Common.{◌≡◌, ℕ, suc, ◌+◌, ◌-◌, ◌<◌, �
 use Rattle.std.specs.Prelude.{filter, find, map}
 use Rattle.std.specs.List.{AllByRecursion}
 use Rattle.cf_ask_rule.proofs.Filters.{all_filter, all_map, filter_map_same}
+use Rattle.cf_ask_rule.specs.Fronts.{EndsBy}
 use Rattle.cf_base.specs.declared.ids.Key.{Key}
 use Rattle.cf_model.specs.Numbers.{same_key}
 use Rattle.cf_model.specs.Requests.{Live}
@@ -52,13 +53,13 @@ rising_own : (t : ℕ) (xs : List Live) (a own : Live) → own ≡ record a { ti
 rising_own t xs a own e r = rising_keys (map (aged_at t) xs ++ a ∷ []) (xs ++ own ∷ [])
     (map_append ask_key (map (aged_at t) xs) (a ∷ []) ∙ ap (λ (l : List Key). l ++ ask_key a ∷ []) (map_twice ask_key (aged_at t) xs) ∙ ap (λ (b : Live). map ask_key xs ++ ask_key b ∷ []) (sym e) ∙ sym (map_append ask_key xs (own ∷ []))) r
 
-all_push : (P : Live → Type 0) (xs : List Live) (a : Live) → AllByRecursion P xs → P a → AllByRecursion P (xs ++ a ∷ [])
+pub all_push : (P : Live → Type 0) (xs : List Live) (a : Live) → AllByRecursion P xs → P a → AllByRecursion P (xs ++ a ∷ [])
 all_push P [] a h g = (g, tt)
 all_push P (x ∷ xs) a h g = (h.0, all_push P xs a h.1 g)
 
-pub asks_pushed : (xs new : List Live) (es put : List Entry) (n m l k o t : ℕ) (a own : Live) (e : Entry) → HoldsAsks xs es n l o t → IsRising ask_key (map (aged_at t) xs ++ a ∷ []) → own ≡ record a { ticks = t } → new ≡ xs ++ own ∷ [] → e ≡ ask_entry own
-    → put ≡ put_in stands_before e es → m ≡ cond (is_plain_ask own) 1 0 → k ≡ cond (is_list_ask own) 1 0 → HoldsAsks new put (n + m) (l + k) o t
-asks_pushed xs new es put n m l k o t a own e h r begins is same puts more lists = record {
+pub asks_pushed : (xs new : List Live) (es put : List Entry) (n m l k o t end most : ℕ) (a own : Live) (e : Entry) → HoldsAsks xs es n l o t end → IsRising ask_key (map (aged_at t) xs ++ a ∷ []) → own ≡ record a { ticks = t } → new ≡ xs ++ own ∷ [] → e ≡ ask_entry own
+    → put ≡ put_in stands_before e es → m ≡ cond (is_plain_ask own) 1 0 → k ≡ cond (is_list_ask own) 1 0 → AllByRecursion (EndsBy most) new → HoldsAsks new put (n + m) (l + k) o t most
+asks_pushed xs new es put n m l k o t end most a own e h r begins is same puts more lists ends = record {
   rising = subst (λ (x : List Live). IsRising ask_key x) (sym is) (rising_own t xs a own begins r);
   index = puts ∙ ap (λ x. put_in stands_before x es) same ∙ ap (λ x. put_in stands_before (ask_entry own) x) h.index ∙ indexed.index_pushed ask_entry ask_key ask_tie xs own (rising_own t xs a own begins r)
       ∙ ap (λ (x : List Live). index_of ask_entry x) (sym is);
@@ -74,6 +75,7 @@ asks_pushed xs new es put n m l k o t a own e h r begins is same puts more lists
       all ∙ ap (λ (x : List Live). length (filter is_list_ask x)) (sym is);
   begun = subst (λ (x : List Live). AllByRecursion (BeganWithin o t) x) (sym is) (all_push (BeganWithin o t) xs own h.begun (subst (λ (b : Live). BeganWithin o t b) (sym begins) (h.order, omega arith)));
   order = h.order;
+  ends = ends;
 }
 
 pub asks_fit : (p : Live → Bool) (xs new : List Live) (n m : ℕ) (own : Live) → n ≡ length (filter p xs) → new ≡ xs ++ own ∷ [] → m ≡ cond (p own) 1 0 → n + m ≤ length new
@@ -96,19 +98,20 @@ count_less p k xs new n m a r before f is less =
     let all : n - m ≡ length (filter p (filter (λ y. not (same_key k y.ask.key)) xs)) = omega (arith, less) in
     all ∙ ap (λ (x : List Live). length (filter p x)) (sym is)
 
-pub asks_removed : (k : Key) (xs new : List Live) (es left : List Entry) (n m l j o t : ℕ) (a : Live) (e : Entry) → HoldsAsks xs es n l o t → find (λ y. same_key k y.ask.key) xs ≡ Some a → new ≡ filter (λ y. not (same_key k y.ask.key)) xs → e ≡ ask_entry a → left ≡ without_entry e es
-    → m ≡ cond (is_plain_ask a) 1 0 → j ≡ cond (is_list_ask a) 1 0 → HoldsAsks new left (n - m) (l - j) o t
-asks_removed k xs new es left n m l j o t a e h f is same goes less lists = record {
+pub asks_removed : (k : Key) (xs new : List Live) (es left : List Entry) (n m l j o t end most : ℕ) (a : Live) (e : Entry) → HoldsAsks xs es n l o t end → find (λ y. same_key k y.ask.key) xs ≡ Some a → new ≡ filter (λ y. not (same_key k y.ask.key)) xs → e ≡ ask_entry a → left ≡ without_entry e es
+    → m ≡ cond (is_plain_ask a) 1 0 → j ≡ cond (is_list_ask a) 1 0 → AllByRecursion (EndsBy most) new → HoldsAsks new left (n - m) (l - j) o t most
+asks_removed k xs new es left n m l j o t end most a e h f is same goes less lists ends = record {
   rising = subst (λ (x : List Live). IsRising ask_key x) (sym is) (indexed.rising_left ask_entry ask_key ask_tie (λ y. not (same_key k y.ask.key)) xs h.rising);
   index = goes ∙ ap (λ x. without_entry x es) same ∙ ap (λ x. without_entry (ask_entry a) x) h.index ∙ indexed.index_removed ask_entry ask_key ask_tie k xs a h.rising f ∙ ap (λ (x : List Live). index_of ask_entry x) (sym is);
   count = count_less is_plain_ask k xs new n m a h.rising h.count f is less;
   list_count = count_less is_list_ask k xs new l j a h.rising h.list_count f is lists;
   begun = subst (λ (x : List Live). AllByRecursion (BeganWithin o t) x) (sym is) (all_filter (BeganWithin o t) (λ y. not (same_key k y.ask.key)) xs h.begun);
   order = h.order;
+  ends = ends;
 }
 
-pub asks_kept : (k : Key) (xs new : List Live) (es : List Entry) (n l o t : ℕ) → HoldsAsks xs es n l o t → find (λ y. same_key k y.ask.key) xs ≡ None → new ≡ filter (λ y. not (same_key k y.ask.key)) xs → HoldsAsks new es n l o t
-asks_kept k xs new es n l o t h f is = subst (λ (x : List Live). HoldsAsks x es n l o t) (sym (is ∙ none_goes ask_entry ask_key ask_tie k xs f)) h
+pub asks_kept : (k : Key) (xs new : List Live) (es : List Entry) (n l o t end : ℕ) → HoldsAsks xs es n l o t end → find (λ y. same_key k y.ask.key) xs ≡ None → new ≡ filter (λ y. not (same_key k y.ask.key)) xs → HoldsAsks new es n l o t end
+asks_kept k xs new es n l o t end h f is = subst (λ (x : List Live). HoldsAsks x es n l o t end) (sym (is ∙ none_goes ask_entry ask_key ask_tie k xs f)) h
 
 -- what is left, with the ticks that have passed
 pub left_aged : (k : Key) (t : ℕ) (xs new vs : List Live) → new ≡ filter (λ y. not (same_key k y.ask.key)) xs → map (aged_at t) xs ≡ vs → map (aged_at t) new ≡ filter (λ y. not (same_key k y.ask.key)) vs
@@ -130,14 +133,15 @@ anew_keeps f g k owned t a = one (same_key k a.ask.key) where
 anew_count : (p : Live → Bool) → ((a : Live) (bs : List ℕ) (n : ℕ) → p (record a { owned = bs; ticks = n }) ≡ p a) → (k : Key) (owned : List ℕ) (t : ℕ) (xs : List Live) → length (filter p (map (anew k owned t) xs)) ≡ length (filter p xs)
 anew_count p g k owned t xs = ap length (filter_map_same p (anew k owned t) (anew_keeps p g k owned t) xs) ∙ length_map (anew k owned t) (filter p xs)
 
-pub asks_changed : (k : Key) (owned : List ℕ) (xs new : List Live) (es : List Entry) (n l o t : ℕ) → HoldsAsks xs es n l o t → new ≡ map (anew k owned t) xs → HoldsAsks new es n l o t
-asks_changed k owned xs new es n l o t h is = subst (λ (x : List Live). HoldsAsks x es n l o t) (sym is) (record {
+pub asks_changed : (k : Key) (owned : List ℕ) (xs new : List Live) (es : List Entry) (n l o t end most : ℕ) → HoldsAsks xs es n l o t end → new ≡ map (anew k owned t) xs → AllByRecursion (EndsBy most) new → HoldsAsks new es n l o t most
+asks_changed k owned xs new es n l o t end most h is ends = subst (λ (x : List Live). HoldsAsks x es n l o t most) (sym is) (record {
   rising = rising_keys xs (map (anew k owned t) xs) (sym (map_twice ask_key (anew k owned t) xs ∙ map_same (λ a. ask_key (anew k owned t a)) ask_key (anew_keeps ask_key (λ a bs m. refl) k owned t) xs)) h.rising;
   index = h.index ∙ ap (λ (x : List Entry). sorted stands_before x) (sym (map_twice ask_entry (anew k owned t) xs ∙ map_same (λ a. ask_entry (anew k owned t a)) ask_entry (anew_keeps ask_entry (λ a bs m. refl) k owned t) xs));
   count = h.count ∙ sym (anew_count is_plain_ask (λ a bs m. refl) k owned t xs);
   list_count = h.list_count ∙ sym (anew_count is_list_ask (λ a bs m. refl) k owned t xs);
   begun = all_map (BeganWithin o t) (anew k owned t) within xs h.begun;
   order = h.order;
+  ends = subst (λ (x : List Live). AllByRecursion (EndsBy most) x) is ends;
 }) where
   within : (a : Live) → BeganWithin o t a → BeganWithin o t (anew k owned t a)
   within a g = one (same_key k a.ask.key) where

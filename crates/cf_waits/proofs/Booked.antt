@@ -12,6 +12,7 @@ use Rattle.cf_model.specs.Words.{put_in, says}
 use Rattle.cf_waits.proofs.Indexed as indexed
 use Rattle.cf_lists.specs.Ordered.{InOrder}
 use Rattle.cf_waits.specs.Books.{HoldsWaits, at_number, found_of, index_of, is_entry_on, is_plain_wait, stands_before, wait_entry, without_entry}
+use Rattle.cf_waits.specs.Lines.{InLine}
 use Rattle.cf_waits.specs.Rising.{IsRising, wait_key}
 use Rattle.cf_waits.specs.declared.entries.Entry.{Entry}
 
@@ -64,9 +65,9 @@ push_done r u xs ys zs h e = e ∙ ap (λ (s : Result (Unit {0}) _). cond (is_ok
 wait_tie : (w : Wait) → (wait_entry w).number ≡ (wait_key w).number
 wait_tie w = refl
 
-pub waits_pushed : (xs new : List Wait) (es put : List Entry) (n m : ℕ) (w : Wait) (e : Entry) → HoldsWaits xs es n → IsRising wait_key (xs ++ w ∷ []) → new ≡ xs ++ w ∷ [] → e ≡ wait_entry w → put ≡ put_in stands_before e es → m ≡ cond (is_plain_wait w) 1 0
-    → HoldsWaits new put (n + m)
-waits_pushed xs new es put n m w e h r is same puts more = record {
+pub waits_pushed : (xs new : List Wait) (es put : List Entry) (n m : ℕ) (line next : Option ℕ) (w : Wait) (e : Entry) → HoldsWaits xs es n line → IsRising wait_key (xs ++ w ∷ []) → new ≡ xs ++ w ∷ [] → e ≡ wait_entry w → put ≡ put_in stands_before e es → m ≡ cond (is_plain_wait w) 1 0
+    → ((ws : List Wait) → InLine line ws → InLine next (ws ++ w ∷ [])) → HoldsWaits new put (n + m) next
+waits_pushed xs new es put n m line next w e h r is same puts more on = record {
   rising = subst (λ (l : List Wait). IsRising wait_key l) (sym is) r;
   index = puts ∙ ap (λ x. put_in stands_before x es) same ∙ ap (λ l. put_in stands_before (wait_entry w) l) h.index ∙ indexed.index_pushed wait_entry wait_key wait_tie xs w r ∙ ap (λ (l : List Wait). index_of wait_entry l) (sym is);
   count =
@@ -74,11 +75,12 @@ waits_pushed xs new es put n m w e h r is same puts more = record {
       let before : n ≡ length (filter is_plain_wait xs) = h.count in
       let all : n + m ≡ length (filter is_plain_wait (xs ++ w ∷ [])) = omega (arith, more) in
       all ∙ ap (λ (l : List Wait). length (filter is_plain_wait l)) (sym is);
+  in_line = subst (λ (l : List Wait). InLine next l) (sym is) (on xs h.in_line);
 }
 
-pub waits_removed : (k : Key) (xs new : List Wait) (es left : List Entry) (n m : ℕ) (w : Wait) (e : Entry) → HoldsWaits xs es n → find (λ y. same_key k y.id.0) xs ≡ Some w → new ≡ filter (λ y. not (same_key k y.id.0)) xs → e ≡ wait_entry w → left ≡ without_entry e es
-    → m ≡ cond (is_plain_wait w) 1 0 → HoldsWaits new left (n - m)
-waits_removed k xs new es left n m w e h f is same goes less = record {
+pub waits_removed : (k : Key) (xs new : List Wait) (es left : List Entry) (n m : ℕ) (line next : Option ℕ) (w : Wait) (e : Entry) → HoldsWaits xs es n line → find (λ y. same_key k y.id.0) xs ≡ Some w → new ≡ filter (λ y. not (same_key k y.id.0)) xs → e ≡ wait_entry w → left ≡ without_entry e es
+    → m ≡ cond (is_plain_wait w) 1 0 → ((p : Wait → Bool) (ws : List Wait) → InLine line ws → new ≡ filter p ws → InLine next new) → HoldsWaits new left (n - m) next
+waits_removed k xs new es left n m line next w e h f is same goes less on = record {
   rising = subst (λ (l : List Wait). IsRising wait_key l) (sym is) (indexed.rising_left wait_entry wait_key wait_tie (λ y. not (same_key k y.id.0)) xs h.rising);
   index = goes ∙ ap (λ x. without_entry x es) same ∙ ap (λ l. without_entry (wait_entry w) l) h.index ∙ indexed.index_removed wait_entry wait_key wait_tie k xs w h.rising f ∙ ap (λ (l : List Wait). index_of wait_entry l) (sym is);
   count =
@@ -86,19 +88,20 @@ waits_removed k xs new es left n m w e h f is same goes less = record {
       let before : n ≡ length (filter is_plain_wait xs) = h.count in
       let all : n - m ≡ length (filter is_plain_wait (filter (λ y. not (same_key k y.id.0)) xs)) = omega (arith, less) in
       all ∙ ap (λ (l : List Wait). length (filter is_plain_wait l)) (sym is);
+  in_line = on (λ y. not (same_key k y.id.0)) xs h.in_line is;
 }
 
-pub waits_fewer : (k : Key) (xs : List Wait) (es : List Entry) (n m : ℕ) (w : Wait) → HoldsWaits xs es n → find (λ y. same_key k y.id.0) xs ≡ Some w → m ≡ cond (is_plain_wait w) 1 0 → m ≤ n
-waits_fewer k xs es n m w h f less =
+pub waits_fewer : (k : Key) (xs : List Wait) (es : List Entry) (n m : ℕ) (line : Option ℕ) (w : Wait) → HoldsWaits xs es n line → find (λ y. same_key k y.id.0) xs ≡ Some w → m ≡ cond (is_plain_wait w) 1 0 → m ≤ n
+waits_fewer k xs es n m line w h f less =
     let sum : length (filter is_plain_wait (filter (λ y. not (same_key k y.id.0)) xs)) + cond (is_plain_wait w) 1 0 ≡ length (filter is_plain_wait xs) = indexed.count_removed wait_entry wait_key wait_tie is_plain_wait k xs w h.rising f in
     let before : n ≡ length (filter is_plain_wait xs) = h.count in
     omega (arith, less)
 
-pub waits_kept : (k : Key) (xs new : List Wait) (es : List Entry) (n : ℕ) → HoldsWaits xs es n → find (λ y. same_key k y.id.0) xs ≡ None → new ≡ filter (λ y. not (same_key k y.id.0)) xs → HoldsWaits new es n
-waits_kept k xs new es n h f is = subst (λ (l : List Wait). HoldsWaits l es n) (sym (is ∙ none_goes wait_entry wait_key wait_tie k xs f)) h
+pub waits_kept : (k : Key) (xs new : List Wait) (es : List Entry) (n : ℕ) (line : Option ℕ) → HoldsWaits xs es n line → find (λ y. same_key k y.id.0) xs ≡ None → new ≡ filter (λ y. not (same_key k y.id.0)) xs → HoldsWaits new es n line
+waits_kept k xs new es n line h f is = subst (λ (l : List Wait). HoldsWaits l es n line) (sym (is ∙ none_goes wait_entry wait_key wait_tie k xs f)) h
 
-pub waits_fit : (xs new : List Wait) (es : List Entry) (n m : ℕ) (w : Wait) → HoldsWaits xs es n → new ≡ xs ++ w ∷ [] → m ≡ cond (is_plain_wait w) 1 0 → n + m ≤ length new
-waits_fit xs new es n m w h is more =
+pub waits_fit : (xs new : List Wait) (es : List Entry) (n m : ℕ) (line : Option ℕ) (w : Wait) → HoldsWaits xs es n line → new ≡ xs ++ w ∷ [] → m ≡ cond (is_plain_wait w) 1 0 → n + m ≤ length new
+waits_fit xs new es n m line w h is more =
     let sum : length (filter is_plain_wait (xs ++ w ∷ [])) ≡ length (filter is_plain_wait xs) + cond (is_plain_wait w) 1 0 = indexed.count_pushed wait_entry wait_key wait_tie is_plain_wait xs w in
     let before : n ≡ length (filter is_plain_wait xs) = h.count in
     let most : length (filter is_plain_wait (xs ++ w ∷ [])) ≤ length (xs ++ w ∷ []) = few is_plain_wait (xs ++ w ∷ []) in

@@ -158,10 +158,10 @@ module _ (item : ItemId) (v : View) (ws : List Wait) (asks : List Live) where
 
 -- the whole step
 
-delta_same : (d : Deed) (p q : Outlook) (s : Waiting) → p.ended ≡ q.ended → p.cancelled ≡ q.cancelled → dropped_of d p.kept ≡ dropped_of d q.kept → changed_of d p.kept ≡ changed_of d q.kept → p.made ≡ q.made
-    → carried (delta_of d p) s ≡ carried (delta_of d q) s
-delta_same d p q s e c k h m =
-    let f : List (Wait × Cause) → List Key → Option Key → Option Live → List Live → Told × Waiting = λ e c k h m. carried (record { ended = e; cancelled = c; dropped = k; changed = h; made = m }) s in
+delta_same : (item : ItemId) (v : View) (d : Deed) (p q : Outlook) (s : Waiting) → p.ended ≡ q.ended → p.cancelled ≡ q.cancelled → dropped_of d p.kept ≡ dropped_of d q.kept → changed_of d p.kept ≡ changed_of d q.kept → p.made ≡ q.made
+    → carried (delta_of item v d p) s ≡ carried (delta_of item v d q) s
+delta_same item v d p q s e c k h m =
+    let f : List (Wait × Cause) → List Key → Option Key → Option Live → List Live → Told × Waiting = λ e c k h m. carried (record { ended = e; cancelled = c; dropped = k; changed = h; made = m; item = item; view = v }) s in
     ap (λ x. f x p.cancelled (dropped_of d p.kept) (changed_of d p.kept) p.made) e ∙ ap (λ x. f q.ended x (dropped_of d p.kept) (changed_of d p.kept) p.made) c
     ∙ ap (λ x. f q.ended q.cancelled x (changed_of d p.kept) p.made) k ∙ ap (λ x. f q.ended q.cancelled (dropped_of d q.kept) x p.made) h
     ∙ ap (λ x. f q.ended q.cancelled (dropped_of d q.kept) (changed_of d q.kept) x) m
@@ -193,11 +193,11 @@ near_dropped item (Expires key) xs = refl
 near_dropped item (Finishes key c) xs = refl
 
 -- the plan for all, as changes
-pub whole : (item : ItemId) (v : View) (d : Deed) (s : Waiting) → IsSound s → carried (delta_of d (plan_of item v d s.waits s.asks)) s ≡ step_of item v d s
+pub whole : (item : ItemId) (v : View) (d : Deed) (s : Waiting) → IsSound s → carried (delta_of item v d (plan_of item v d s.waits s.asks)) s ≡ step_of item v d s
 whole item v d s h =
     let left : List Wait = left_of (why item v d s.asks) s.waits in
     let all : Outlook = plan_of item v d s.waits s.asks in
-    let p : Planned = delta_of d all in
+    let p : Planned = delta_of item v d all in
     let f : List Wait → List Live → Told × Waiting = λ ws as'. (
       record { ended = all.ended; cancelled = all.cancelled; made = with_keys s.epoch s.key_count all.made },
       record s { waits = ws; asks = as' ++ with_keys s.epoch s.key_count all.made; key_count = s.key_count + length (with_keys s.epoch s.key_count all.made) },
@@ -207,9 +207,9 @@ whole item v d s h =
     (fits item v left s.asks d s.epoch 0 s.key_count h.numbered.asks h.full)))
 
 -- The plan for what is near, as changes, is the step.
-pub near_is : (item : ItemId) (v : View) (d : Deed) (s : Waiting) → IsSound s → carried (delta_of d (plan_of item v d (filter (is_on item) s.waits) (filter (is_near item (named d)) s.asks))) s ≡ step_of item v d s
+pub near_is : (item : ItemId) (v : View) (d : Deed) (s : Waiting) → IsSound s → carried (delta_of item v d (plan_of item v d (filter (is_on item) s.waits) (filter (is_near item (named d)) s.asks))) s ≡ step_of item v d s
 near_is item v d s h =
     let all : Outlook = plan_of item v d s.waits s.asks in
     let part : Outlook = plan_of item v d (filter (is_on item) s.waits) (filter (is_near item (named d)) s.asks) in
     let l : IsLocal item (named d) s.waits s.asks all part = local item v d s.waits s.asks h.full h.agrees in
-    delta_same d part all s (sym l.ended) (sym l.cancelled) (ap (dropped_of d) (sym l.kept) ∙ near_dropped item d all.kept) (ap (changed_of d) (sym l.kept) ∙ near_changed item d all.kept) (sym l.made) ∙ whole item v d s h
+    delta_same item v d part all s (sym l.ended) (sym l.cancelled) (ap (dropped_of d) (sym l.kept) ∙ near_dropped item d all.kept) (ap (changed_of d) (sym l.kept) ∙ near_changed item d all.kept) (sym l.made) ∙ whole item v d s h

@@ -1,6 +1,7 @@
 pub mod AgedAsks
 pub mod Ages
 pub mod AskChanges
+pub mod AskEnds
 pub mod Beside
 pub mod Booked
 pub mod ByNumber
@@ -8,9 +9,12 @@ pub mod Changes
 pub mod Counts
 pub mod InIndex
 pub mod Indexed
+pub mod Lined
 pub mod Numbered
 pub mod Planning
+pub mod Remembered
 pub mod Rises
+pub mod Skipped
 pub mod Soundness
 pub mod Told
 pub mod Turned

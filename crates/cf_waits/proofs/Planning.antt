@@ -40,15 +40,15 @@ all_on item [] h = refl
 all_on item (w ∷ ws) h = ap (λ b. cond b (w ∷ filter (is_on item) ws) (filter (is_on item) ws)) h.0 ∙ ap (λ l. w ∷ l) (all_on item ws h.1)
 
 pub looked : (item : ItemId) (u v : View) (d : Deed) (p : Planned) (s t : Waiting) (begun near : List Wait) (asks : List Live) (o : Outlook) → u ≡ v → t ≡ s → IsSound t → AreNext begun s → AllByRecursion (λ w. is_on item w ≡ true) begun
-    → near ≡ filter (is_on item) t.waits ++ begun → asks ≡ filter (is_near item (named d)) t.asks → IsOutlook o (plan_of item u d near asks) → p ≡ delta_of d o
+    → near ≡ filter (is_on item) t.waits ++ begun → asks ≡ filter (is_near item (named d)) t.asks → IsOutlook o (plan_of item u d near asks) → p ≡ delta_of item u d o
     → carried p (with_waits begun s) ≡ step_of item v d (with_waits begun s)
 looked item u v d p s t begun near asks o view same sound next on waits live is delta =
     let all : near ≡ filter (is_on item) (s.waits ++ begun) =
     waits ∙ ap (λ (x : Waiting). filter (is_on item) x.waits ++ begun) same ∙ ap (λ (l : List Wait). filter (is_on item) s.waits ++ l) (sym (all_on item begun on)) ∙ sym (filter-append (is_on item) s.waits begun) in
-    ap (λ (x : Planned). carried x (with_waits begun s)) (delta ∙ ap (delta_of d) (same_outlook o (plan_of item u d near asks) is))
-    ∙ ap (λ (x : View). carried (delta_of d (plan_of item x d near asks)) (with_waits begun s)) view
-    ∙ ap (λ (l : List Wait). carried (delta_of d (plan_of item v d l asks)) (with_waits begun s)) all
-    ∙ ap (λ (l : List Live). carried (delta_of d (plan_of item v d (filter (is_on item) (s.waits ++ begun)) l)) (with_waits begun s)) (live ∙ ap (λ (x : Waiting). filter (is_near item (named d)) x.asks) same)
+    ap (λ (x : Planned). carried x (with_waits begun s)) (delta ∙ ap (delta_of item u d) (same_outlook o (plan_of item u d near asks) is))
+    ∙ ap (λ (x : View). carried (delta_of item x d (plan_of item x d near asks)) (with_waits begun s)) view
+    ∙ ap (λ (l : List Wait). carried (delta_of item v d (plan_of item v d l asks)) (with_waits begun s)) all
+    ∙ ap (λ (l : List Live). carried (delta_of item v d (plan_of item v d (filter (is_on item) (s.waits ++ begun)) l)) (with_waits begun s)) (live ∙ ap (λ (x : Waiting). filter (is_near item (named d)) x.asks) same)
     ∙ near_is item v d (with_waits begun s) (begun_sound begun s (subst (λ (x : Waiting). IsSound x) same sound) next)
 
 pub made_fresh : (item : ItemId) (v : View) (d : Deed) (ws : List Wait) (asks made : List Live) → made ≡ (plan_of item v d ws asks).made → AllByRecursion (λ a. a.ticks ≡ 0) made

@@ -4,6 +4,7 @@ use Rattle.std.specs.Prelude.{filter, is_some, map}
 use Rattle.std.specs.Bool.{beq}
 use Rattle.std.specs.List.{AllByRecursion, list_any}
 use Rattle.std.proofs.lemmas.Bool.Decides.{nat_tests}
+use Rattle.cf_ask_rule.proofs.Owned.{stay_apart}
 use Rattle.cf_ask_rule.specs.Near.{Agrees, IsFull}
 use Rattle.cf_base.specs.declared.ids.Handle.{Handle}
 use Rattle.cf_base.specs.declared.ids.ItemId.{ItemId}
@@ -224,6 +225,7 @@ settled_sound item v d f s h n = record {
       (all_keyed (Agrees left) (λ a k g. g) s.epoch s.key_count made (made_agree s.epoch s.wait_count item v left kept n.waits));
   given = all_append (λ a. a.wait.0.number ≤ s.wait_count) kept keyed (kept_all (λ a. a.wait.0.number ≤ s.wait_count) (λ a bs t g. g) item v d left s.asks h.given)
       (all_keyed (λ a. a.wait.0.number ≤ s.wait_count) (λ a k g. g) s.epoch s.key_count made (made_given s.epoch s.wait_count item v left kept n.waits));
+  apart = λ other b. stay_apart other item v d f s left b (h.apart other b);
 } where
   left : List Wait
   left = left_of f s.waits
@@ -260,4 +262,5 @@ begun_sound ws s h g = record {
   full = h.full;
   agrees = more_agree s.epoch s.wait_count (s.wait_count + length ws) s.waits ws s.asks g h.agrees h.given;
   given = more_given s.wait_count (s.wait_count + length ws) s.asks (omega arith) h.given;
+  apart = h.apart;
 }

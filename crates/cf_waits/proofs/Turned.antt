@@ -1,14 +1,16 @@
 -- A step that is done, as it stands in the books.
-use Rattle.std.proofs.Common.{◌≡◌, ℕ, ◌+◌, ◌≤◌, not, Option, Result, Ok, Err, List, [], ◌∷◌, ◌++◌, length, sym, ap, subst, ◌∙◌, arith}
+use Rattle.std.proofs.Common.{◌≡◌, ℕ, ◌+◌, ◌≤◌, ◌&&◌, cond, not, Option, Result, Ok, Err, List, [], ◌∷◌, ◌++◌, length, refl, sym, ap, subst, ◌∙◌, arith, eqb}
 use Rattle.std.specs.Prelude.{OnErr, filter, map}
 use Rattle.std.specs.List.{AllByRecursion}
 use Rattle.cf_ask_rule.specs.Near.{Agrees, IsFull}
+use Rattle.cf_ask_rule.specs.Owners.{owners}
 use Rattle.cf_ask_rule.specs.Plans.{Planned}
+use Rattle.cf_base.specs.declared.ids.ItemId.{ItemId}
 use Rattle.cf_base.specs.declared.ids.Key.{Key}
 use Rattle.cf_base.specs.declared.waits.Cause.{Cause}
 use Rattle.cf_model.specs.Asks.{with_keys}
 use Rattle.cf_model.specs.Missing.{Wait}
-use Rattle.cf_model.specs.Requests.{Live, Told, Waiting, aged, ticked, with_waits}
+use Rattle.cf_model.specs.Requests.{Live, Told, Waiting, aged, has_block, ticked, with_waits}
 use Rattle.cf_waits.proofs.Soundness.{all_keyed, begun_sound, step_sound}
 use Rattle.cf_waits.specs.Rising.{AreNext, IsRising, RisesTo, ask_key, wait_key}
 use Rattle.cf_waits.specs.Sound.{IsSound}
@@ -68,6 +70,7 @@ none_sound s w a = record {
   full = subst (λ (l : List Live). AllByRecursion IsFull l) (sym a) tt;
   agrees = subst (λ (l : List Live). AllByRecursion (Agrees s.waits) l) (sym a) tt;
   given = subst (λ (l : List Live). AllByRecursion (λ x. x.wait.0.number ≤ s.wait_count) l) (sym a) tt;
+  apart = λ item b. subst (λ (l : List Live). owners item b l ≤ 1) (sym a) (omega arith);
 }
 
 -- ticks pass
@@ -80,12 +83,17 @@ rises_aged : (epoch low high n : ℕ) (xs : List Live) → RisesTo ask_key epoch
 rises_aged epoch low high n [] h = h
 rises_aged epoch low high n (x ∷ xs) h = (h.0, h.1, rises_aged epoch x.ask.key.number high n xs h.2)
 
+owners_aged : (item : ItemId) (b n : ℕ) (xs : List Live) → owners item b (map (aged n) xs) ≡ owners item b xs
+owners_aged item b n [] = refl
+owners_aged item b n (x ∷ xs) = ap (λ k. cond ((eqb x.ask.item.0 item.0) && has_block x.owned b) 1 0 + k) (owners_aged item b n xs)
+
 pub aged_sound : (s : Waiting) (n : ℕ) (all : List Live) → IsSound s → all ≡ map (aged n) s.asks → IsSound (record s { asks = all })
 aged_sound s n all h e = subst (λ (l : List Live). IsSound (record s { asks = l })) (sym e) (record {
   numbered = record { waits = h.numbered.waits; asks = rises_aged s.epoch 0 s.key_count n s.asks h.numbered.asks };
   full = all_aged IsFull (λ a m k. k) n s.asks h.full;
   agrees = all_aged (Agrees s.waits) (λ a m k. k) n s.asks h.agrees;
   given = all_aged (λ a. a.wait.0.number ≤ s.wait_count) (λ a m k. k) n s.asks h.given;
+  apart = λ item b. subst (λ (k : ℕ). k ≤ 1) (sym (owners_aged item b n s.asks)) (h.apart item b);
 })
 
 pub ticked_is : (s t : Waiting) (n : ℕ) (all : List Live) → t ≡ s → all ≡ map (aged n) t.asks → record t { asks = all } ≡ ticked n s

@@ -4,12 +4,14 @@ use Rattle.std.specs.List.{AllByRecursion}
 use Rattle.std.proofs.Math.ListN.{set}
 use Rattle.std.specs.Ordering.{is_eq, is_lt, nat_cmp, ordering_then}
 use Rattle.std.specs.declared.cmp.Ordering.{Ordering}
+use Rattle.cf_ask_rule.specs.Fronts.{EndsBy}
 use Rattle.cf_base.specs.declared.ids.ItemId.{ItemId}
 use Rattle.cf_base.specs.declared.ids.Key.{Key}
 use Rattle.cf_model.specs.Missing.{Wait}
 use Rattle.cf_model.specs.Numbers.{same_key}
 use Rattle.cf_model.specs.Requests.{Live, is_dehydrate, is_dehydrate_wait, is_list, live_of}
 use Rattle.cf_model.specs.Words.{says, sorted}
+use Rattle.cf_waits.specs.Lines.{InLine}
 use Rattle.cf_waits.specs.Rising.{IsRising, ask_key, wait_key}
 use Rattle.cf_waits.specs.declared.entries.Entry.{Entry}
 
@@ -79,10 +81,11 @@ pub record KeptWaits : Type 0 where
 abbrev pub is_plain_wait : Wait → Bool
 is_plain_wait w = not (is_dehydrate_wait w.kind)
 
-pub record HoldsWaits (waits : List Wait) (entries : List Entry) (plain : ℕ) : Type 0 where
+pub record HoldsWaits (waits : List Wait) (entries : List Entry) (plain : ℕ) (line : Option ℕ) : Type 0 where
   pub rising : IsRising wait_key waits
   pub index : entries ≡ index_of wait_entry waits
   pub count : plain ≡ length (filter is_plain_wait waits)
+  pub in_line : InLine line waits
 
 -- asks as they are kept
 
@@ -107,13 +110,14 @@ brought_forward base a = record a { ticks = a.ticks - base }
 abbrev pub BeganWithin : ℕ → ℕ → Live → Type 0
 BeganWithin oldest now a = (oldest ≤ a.ticks) × (a.ticks ≤ now)
 
-pub record HoldsAsks (asks : List Live) (entries : List Entry) (plain lists oldest now : ℕ) : Type 0 where
+pub record HoldsAsks (asks : List Live) (entries : List Entry) (plain lists oldest now end : ℕ) : Type 0 where
   pub rising : IsRising ask_key asks
   pub index : entries ≡ index_of ask_entry asks
   pub count : plain ≡ length (filter is_plain_ask asks)
   pub list_count : lists ≡ length (filter is_list_ask asks)
   pub begun : AllByRecursion (BeganWithin oldest now) asks
   pub order : oldest ≤ now
+  pub ends : AllByRecursion (EndsBy end) asks
 
 -- the ask of the key is live, and on another item
 abbrev pub is_far : ItemId → List Live → Option Key → Bool

@@ -1,7 +1,9 @@
 -- What a step changes, of the asks that it leaves.
 use Rattle.std.specs.Prelude.{List, Option, Some, None}
 use Rattle.cf_ask_rule.specs.Plans.{Outlook, Planned}
+use Rattle.cf_base.specs.declared.ids.ItemId.{ItemId}
 use Rattle.cf_base.specs.declared.ids.Key.{Key}
+use Rattle.cf_model.specs.Missing.{View}
 use Rattle.cf_model.specs.Requests.{Cancels, Closes, Deed, Expires, Fails, Finishes, Leaves, Live, Nothing, Restarts, live_of}
 
 -- the ask that blocks have left, where it is kept
@@ -21,5 +23,5 @@ dropped_of (Fails key blocks c) kept = unless_kept key (live_of kept key)
 dropped_of (Finishes key c) kept = Some key
 dropped_of _ kept = None
 
-abbrev pub delta_of : Deed → Outlook → Planned
-delta_of d o = record { ended = o.ended; cancelled = o.cancelled; dropped = dropped_of d o.kept; changed = changed_of d o.kept; made = o.made }
+abbrev pub delta_of : ItemId → View → Deed → Outlook → Planned
+delta_of item v d o = record { ended = o.ended; cancelled = o.cancelled; dropped = dropped_of d o.kept; changed = changed_of d o.kept; made = o.made; item = item; view = v }

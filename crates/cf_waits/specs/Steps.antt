@@ -86,9 +86,9 @@ carried p s = (
   },
 )
 
--- the plan is one of a step in this state
+-- the plan is one of a step in this state, on its item by its view
 abbrev pub IsPlanned : Planned → Waiting → Type 0
-IsPlanned p s = (item : ItemId) × (v : View) × (d : Deed) × (carried p s ≡ step_of item v d s)
+IsPlanned p s = (item : ItemId) × (v : View) × (d : Deed) × (carried p s ≡ step_of item v d s) × (p.item ≡ item) × (p.view ≡ v)
 
 -- beginning a wait, and one for the rest of the file beside it where that is wanted and none is live
 

@@ -1,21 +1,26 @@
 //! The live asks, by key and by item, with the ticks at which their time began.
-ghost use Rattle.std.specs.Prelude.{◌≡◌, ℕ, ◌+◌, ◌-◌, ◌^◌, ◌<◌, ◌≤◌, ◌++◌, ◌∷◌, ◌&&◌, [], cond, count_by, filter, find, length, map, nat_le, None, not, IfOk, OnOk, option_copied};
+ghost use Rattle.std.specs.Prelude.{◌≡◌, ℕ, ◌+◌, ◌-◌, ◌^◌, ◌<◌, ◌≤◌, ◌++◌, ◌∷◌, ◌&&◌, [], cond, count_by, filter, find, length, List, map, nat_le, None, not, true, IfOk, IfSome, IsTrue, OnOk, option_copied};
 ghost use Rattle.std.specs.List.{AllByRecursion, list_any};
 ghost use Rattle.std.specs.Option.{option_map};
+ghost use Rattle.cf_ask_rule.specs.Fronts.{EndsBy, NeedsFrom};
 ghost use Rattle.cf_ask_rule.specs.Near.{is_near};
+ghost use Rattle.cf_base.specs.declared.ids.ItemId.{ItemId};
+ghost use Rattle.cf_model.specs.Asks.{new_asks};
+ghost use Rattle.cf_model.specs.Missing.{View, Wait};
 ghost use Rattle.cf_model.specs.Numbers.{same_key};
-ghost use Rattle.cf_model.specs.Requests.{aged, live_of};
+ghost use Rattle.cf_model.specs.Requests.{aged, is_data, live_of};
 ghost use Rattle.cf_model.specs.Words.{counting, says};
-ghost use Rattle.cf_waits.specs.Books.{aged_at, ask_entry, brought_forward, found_of, is_far, is_list_ask, is_plain_ask};
+ghost use Rattle.cf_waits.specs.Books.{aged_at, brought_forward, found_of, is_far, is_list_ask, is_plain_ask};
 ghost use Rattle.cf_waits.specs.Rising.{IsRising, ask_key};
 ghost use Rattle.cf_waits.specs.Steps.{is_gone};
 ghost use Rattle.cf_waits.specs.Told.{first_key, owns_by};
 
 use crate::ask_lists::{
-    ask_there, change_ask, find_ask, has_key, owns_by, place_from, take_ask, told_of,
+    ask_there, change_ask, entry_of, find_ask, has_key, list_count, owns_by, place_from,
+    plain_count, take_ask, told_of,
 };
 use crate::entries::{Entry, add_entry, entries_on, remove_entry};
-use cf_ask_rule::{LiveAsk, WaitNumber, is_dehydrate, is_list, is_same_key};
+use cf_ask_rule::{LiveAsk, WaitNumber, is_dehydrate, is_same_key};
 use cf_base::{Ask, ItemId, Key, OutOfMemory, Span};
 use std::alloc::Global;
 use std::marker::Model;
@@ -30,6 +35,8 @@ pub(crate) struct AskBook {
     lists: usize,
     oldest: u64,
     tick: u64,
+    // No ask has a block from there on, up to 2^32.
+    end: u64,
 }
 
 impl Model for AskBook {
@@ -41,29 +48,7 @@ impl Model for AskBook {
 
     ghost view = { λ b. record { asks = map (aged_at b.tick) b.asks.items; room = min (vec_capacity b.asks - vec_len b.asks) (vec_capacity b.index - vec_len b.index) } };
 
-    ghost invariant = { λ b. HoldsAsks b.asks.items b.index.items b.plain b.lists b.oldest b.tick };
-}
-
-fn entry_of(a: &LiveAsk) -> Entry
-    ensures { result ≡ ask_entry a.now }
-{
-    let ask = a.ask();
-    Entry {
-        item: ask.item,
-        number: ask.key.number as u64,
-    }
-}
-
-fn plain_count(a: &LiveAsk) -> usize
-    ensures { result ≡ cond (is_plain_ask a.now) 1 0 }
-{
-    if is_dehydrate(a.ask().kind) { 0 } else { 1 }
-}
-
-fn list_count(a: &LiveAsk) -> usize
-    ensures { result ≡ cond (is_list_ask a.now) 1 0 }
-{
-    if is_list(a.ask().kind) { 1 } else { 0 }
+    ghost invariant = { λ b. HoldsAsks b.asks.items b.index.items b.plain b.lists b.oldest b.tick b.end };
 }
 
 impl AskBook {
@@ -77,6 +62,7 @@ impl AskBook {
             lists: 0,
             oldest: 0,
             tick: 0,
+            end: 0,
         }
     }
 
@@ -103,10 +89,12 @@ impl AskBook {
         let entry = entry_of(&own);
         let plain = plain_count(&own);
         let lists = list_count(&own);
+        let end = self.end.max(own.block_end());
         self.asks.push(own).unwrap();
         add_entry(&mut self.index, entry);
         self.plain += plain;
         self.lists += lists;
+        self.end = end;
     }
 
     /// Takes the ask of a key out, if there is one.
@@ -120,6 +108,7 @@ impl AskBook {
         remove_entry(&mut self.index, entry_of(&a));
         self.plain -= plain_count(&a);
         self.lists -= list_count(&a);
+        self.end = end_left(self.end, &self.asks);
     }
 
     /// The live ask of the same key owns the blocks of this one from now on, and its time begins anew.
@@ -127,14 +116,31 @@ impl AskBook {
         ensures asks { self.new.asks ≡ map (λ a. cond (same_key from.ask.key a.ask.key) (record a { owned = from.owned; ticks = 0 }) a) self.old.asks }
         ensures room { self.old.room ≤ self.new.room }
     {
+        let end = self.end.max(from.block_end());
         change_ask(&mut self.asks, from, self.tick);
+        self.end = end;
     }
 
     /// The asks where they stand, their ticks as they are kept.
     pub(crate) fn kept(&self) -> &[LiveAsk]
-        ensures { (tick : ℕ) × (map (aged_at tick) result.now ≡ self.now.asks) }
+        ensures same { (tick : ℕ) × (map (aged_at tick) result.now ≡ self.now.asks) }
+        ensures rising { IsRising ask_key result.now }
     {
         &self.asks
+    }
+
+    /// Asks that are as good as all for waits that need nothing before this block, where there is one.
+    pub(crate) fn behind(&self, first: Option<u64>) -> &[LiveAsk]
+        ensures { (item : ItemId) (v : View) (ws : List Wait) → length v.lacks ≤ 2 ^ 24 → IfSome first (λ n. AllByRecursion (NeedsFrom v n) ws) → new_asks item v ws result.now ≡ new_asks item v ws self.now.asks }
+    {
+        asks_from(&self.asks, self.end, first)
+    }
+
+    /// Whether each ask is for bytes, as is known by the counts.
+    pub(crate) fn is_data(&self) -> bool
+        ensures { IsTrue result → AllByRecursion (λ a. is_data a.ask.kind ≡ true) self.now.asks }
+    {
+        self.lists == 0 && self.plain == self.asks.len()
     }
 
     /// How many count for the limit.
@@ -220,6 +226,36 @@ impl AskBook {
         self.oldest = oldest_of(&self.asks, self.oldest.saturating_sub(base), tick);
         self.tick = tick;
     }
+}
+
+// No end, where no ask is left.
+fn end_left(end: u64, left: &[LiveAsk]) -> u64
+    ensures { AllByRecursion (EndsBy end) left.now → AllByRecursion (EndsBy result) left.now }
+{
+    match left {
+        [] => 0,
+        _ => end,
+    }
+}
+
+fn asks_from(asks: &[LiveAsk], end: u64, first: Option<u64>) -> &[LiveAsk]
+    requires { AllByRecursion (EndsBy end) asks.now }
+    ensures { (item : ItemId) (v : View) (ws : List Wait) → length v.lacks ≤ 2 ^ 24 → IfSome first (λ n. AllByRecursion (NeedsFrom v n) ws) → new_asks item v ws result.now ≡ new_asks item v ws asks.now }
+{
+    match first {
+        Some(block) => asks_behind(asks, end, block),
+        None => asks,
+    }
+}
+
+fn asks_behind(asks: &[LiveAsk], end: u64, block: u64) -> &[LiveAsk]
+    requires { AllByRecursion (EndsBy end) asks.now }
+    ensures { (item : ItemId) (v : View) (ws : List Wait) → length v.lacks ≤ 2 ^ 24 → AllByRecursion (NeedsFrom v block) ws → new_asks item v ws result.now ≡ new_asks item v ws asks.now }
+{
+    if block < end {
+        return asks;
+    }
+    &asks[..0]
 }
 
 // Ticks are counted anew, from the latest 60 on, after that many.

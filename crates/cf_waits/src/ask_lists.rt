@@ -6,12 +6,38 @@ ghost use Rattle.std.specs.Option.{option_map};
 ghost use Rattle.cf_model.specs.Numbers.{same_key};
 ghost use Rattle.cf_model.specs.Requests.{live_of};
 ghost use Rattle.cf_model.specs.Words.{counting};
-ghost use Rattle.cf_waits.specs.Books.{IsPlaceBy, at_number, if_key, SetsLive};
+ghost use Rattle.cf_waits.specs.Books.{IsPlaceBy, ask_entry, at_number, if_key, is_list_ask, is_plain_ask, SetsLive};
 ghost use Rattle.cf_waits.specs.Rising.{IsRising, ask_key};
 ghost use Rattle.cf_waits.specs.Told.{owns_by};
 
-use cf_ask_rule::{LiveAsk, WaitNumber, is_same_key};
+use crate::entries::Entry;
+use cf_ask_rule::{LiveAsk, WaitNumber, is_dehydrate, is_list, is_same_key};
 use cf_base::{Ask, Key, Span};
+
+/// Its entry in the index by item.
+pub(crate) fn entry_of(a: &LiveAsk) -> Entry
+    ensures { result ≡ ask_entry a.now }
+{
+    let ask = a.ask();
+    Entry {
+        item: ask.item,
+        number: ask.key.number as u64,
+    }
+}
+
+/// 1 where it counts for the limit.
+pub(crate) fn plain_count(a: &LiveAsk) -> usize
+    ensures { result ≡ cond (is_plain_ask a.now) 1 0 }
+{
+    if is_dehydrate(a.ask().kind) { 0 } else { 1 }
+}
+
+/// 1 where it is for the entries of a directory.
+pub(crate) fn list_count(a: &LiveAsk) -> usize
+    ensures { result ≡ cond (is_list_ask a.now) 1 0 }
+{
+    if is_list(a.ask().kind) { 1 } else { 0 }
+}
 
 fn place_of(asks: &[LiveAsk], number: u64) -> usize
     requires { IsRising ask_key asks.now }

@@ -68,12 +68,11 @@ impl Requests {
         let begun = self.first_waits(kind, item, handle, span, beside)?;
         let waits = begun.as_slice();
         let sight = Sight::new(self.alloc, v)?;
-        let step = self.look_begun(item, &sight, waits)?;
+        let step = self.look_begun(item, sight, waits)?;
         if let Some(code) = self.limit_with(&step, waits, limits_of(kind)) {
             return Err(CallError::No(code));
         }
         let began = self.take_begun(step, waits, beside)?;
-        self.remember(item, sight);
         Ok(began)
     }
 

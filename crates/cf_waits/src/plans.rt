@@ -6,8 +6,8 @@ ghost use Rattle.cf_ask_rule.specs.Near.{named};
 ghost use Rattle.cf_waits.specs.Deltas.{changed_of, delta_of, dropped_of, unless_kept};
 
 use crate::requests::Step;
-use cf_ask_rule::{Act, LiveAsk, Plan, live_of};
-use cf_base::{Key, OutOfMemory};
+use cf_ask_rule::{Act, LiveAsk, Plan, Sight, live_of};
+use cf_base::{ItemId, Key, OutOfMemory};
 
 /// The key that an act names.
 pub(crate) fn named_by(act: Act) -> Option<Key>
@@ -30,9 +30,9 @@ pub(crate) fn named_by(act: Act) -> Option<Key>
 }
 
 /// The step of a plan.
-pub(crate) fn step_of(act: Act, plan: Plan) -> Result<Step, OutOfMemory>
+pub(crate) fn step_of(item: ItemId, sight: Sight, act: Act, plan: Plan) -> Result<Step, OutOfMemory>
     requires { AllByRecursion (λ a. a.ticks ≡ 0) plan.made.items }
-    ensures { IfOk result (λ s. s ≡ delta_of (deed_of act) (record { ended = plan.ended.items; left = plan.left.items; cancelled = plan.cancelled.items; kept = plan.kept.items; made = plan.made.items })) }
+    ensures { IfOk result (λ s. s ≡ delta_of item sight (deed_of act) (record { ended = plan.ended.items; left = plan.left.items; cancelled = plan.cancelled.items; kept = plan.kept.items; made = plan.made.items })) }
 {
     let Plan {
         ended,
@@ -49,6 +49,8 @@ pub(crate) fn step_of(act: Act, plan: Plan) -> Result<Step, OutOfMemory>
         dropped,
         changed,
         made,
+        item,
+        sight,
     })
 }
 

@@ -64,7 +64,6 @@ impl Requests {
         requires { next_expired 0 self.old ≡ None }
         ensures { self.new ≡ ticked ticks self.old }
     {
-        self.last = None;
         self.asks.advance(ticks);
     }
 

@@ -33,7 +33,7 @@ pub struct Requests {
     pub(crate) asks: AskBook,
     pub(crate) wait_count: u64,
     pub(crate) key_count: u64,
-    // The item of the wait that began last, and what was seen of it, where no step was done since: nothing is left to do for it.
+    // The item of the last step, and what was seen of it: nothing is left to do for it.
     pub(crate) last: Option<(ItemId, Sight)>,
 }
 
@@ -62,6 +62,9 @@ pub struct Step {
     pub(crate) changed: Option<LiveAsk>,
     // Still without keys.
     pub(crate) made: Vec<LiveAsk>,
+    pub(crate) item: ItemId,
+    // What was seen of the item.
+    pub(crate) sight: Sight,
 }
 
 impl Model for Step {
@@ -71,7 +74,7 @@ impl Model for Step {
 
     ghost Value = { Planned };
 
-    ghost view = { λ s. record { ended = s.ended.items; cancelled = s.cancelled.items; dropped = s.dropped; changed = s.changed; made = s.made.items } };
+    ghost view = { λ s. record { ended = s.ended.items; cancelled = s.cancelled.items; dropped = s.dropped; changed = s.changed; made = s.made.items; item = s.item; view = s.sight } };
 
     ghost invariant = { λ s. AllByRecursion (λ a. a.ticks ≡ 0) s.made.items };
 }
@@ -96,10 +99,14 @@ impl Requests {
     pub fn look(&self, item: ItemId, act: Act, v: &View) -> Result<Step, OutOfMemory>
         requires size { v.now.size ≤ 2 ^ 24 }
         requires base { v.now.base ≤ 2 ^ 24 }
-        ensures { IfOk result (λ s. carried s self.now ≡ step_of item (shown v.now) (deed_of act) self.now) }
+        ensures planned { IfOk result (λ s. carried s self.now ≡ step_of item (shown v.now) (deed_of act) self.now) }
+        ensures seen { IfOk result (λ s. (s.item ≡ item) × (s.view ≡ shown v.now)) }
     {
         let sight = Sight::new(self.alloc, v)?;
-        self.look_by(item, act, &sight, &[])
+        match self.look_changed(item, act, &sight)? {
+            Some(changed) => Ok(changed.step(self.alloc, item, sight)),
+            None => self.look_by(item, act, sight, &[]),
+        }
     }
 
     /// Works out a step on the item, on which these waits begin. It looks at the waits and asks on the item alone.
@@ -107,18 +114,19 @@ impl Requests {
         &self,
         item: ItemId,
         act: Act,
-        sight: &Sight,
+        sight: Sight,
         begun: &[LiveWait],
     ) -> Result<Step, OutOfMemory>
         requires next { AreNext begun.now self.now }
         requires on { AllByRecursion (λ w. is_on item w ≡ true) begun.now }
-        ensures { IfOk result (λ s. carried s (with_waits begun.now self.now) ≡ step_of item sight.now (deed_of act) (with_waits begun.now self.now)) }
+        ensures planned { IfOk result (λ s. carried s (with_waits begun.now self.now) ≡ step_of item sight (deed_of act) (with_waits begun.now self.now)) }
+        ensures seen { IfOk result (λ s. (s.item ≡ item) × (s.view ≡ sight)) }
     {
         let live = self.waits.on(self.alloc, item, begun.len())?;
         let waits = with_begun(live, begun)?;
         let asks = self.asks.near(self.alloc, item, named_by(act))?;
-        let plan = make_plan(self.alloc, item, sight, act, &waits, asks)?;
-        let step = step_of(act, plan)?;
+        let plan = make_plan(self.alloc, item, &sight, act, &waits, asks)?;
+        let step = step_of(item, sight, act, plan)?;
         Ok(step)
     }
 
@@ -167,11 +175,14 @@ impl Requests {
             dropped,
             changed,
             made,
+            item,
+            sight,
         } = step;
         let keyed = with_keys(self.alloc, self.epoch, self.key_count, &made)?;
         let asks = public_of(self.alloc, &keyed)?;
         let told = told(self.alloc, &ended)?;
         self.turn(begun, &ended, &cancelled, dropped, changed, keyed)?;
+        self.remember(item, sight);
         Ok(Moves {
             background,
             ended: Sequence::from_vec(told),

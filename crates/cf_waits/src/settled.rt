@@ -9,23 +9,25 @@ ghost use Rattle.cf_waits.specs.Rising.{AreNext};
 ghost use Rattle.cf_waits.specs.Steps.{carried};
 
 use crate::requests::{Requests, Step};
-use cf_ask_rule::{Act, LiveWait, Sight, make_begin_plan};
+use cf_ask_rule::{Act, LiveWait, Sight, first_block, make_begin_plan};
 use cf_base::{ItemId, OutOfMemory};
 
 impl Requests {
     /// Works out a step with which these waits begin on the item. Where nothing was left to do for it, the step looks at what
-    /// these waits need and at the blocks that asks own, and not at the waits before them.
+    /// these waits need and at the blocks that asks own, and not at the waits before them; and at no ask where a wait needs what comes
+    /// behind all that asks own.
     pub(crate) fn look_begun(
         &self,
         item: ItemId,
-        sight: &Sight,
+        sight: Sight,
         begun: &[LiveWait],
     ) -> Result<Step, OutOfMemory>
         requires next { AreNext begun.now self.now }
         requires on { AllByRecursion (λ w. is_on item w ≡ true) begun.now }
-        ensures { IfOk result (λ s. carried s (with_waits begun.now self.now) ≡ step_of item sight.now Nothing (with_waits begun.now self.now)) }
+        ensures planned { IfOk result (λ s. carried s (with_waits begun.now self.now) ≡ step_of item sight Nothing (with_waits begun.now self.now)) }
+        ensures seen { IfOk result (λ s. (s.item ≡ item) × (s.view ≡ sight)) }
     {
-        if self.is_settled(item, sight) {
+        if self.is_settled(item, &sight) {
             return self.look_settled(item, sight, begun);
         }
         self.look_by(item, Act::Nothing, sight, begun)
@@ -40,21 +42,25 @@ impl Requests {
     fn look_settled(
         &self,
         item: ItemId,
-        sight: &Sight,
+        sight: Sight,
         begun: &[LiveWait],
     ) -> Result<Step, OutOfMemory>
         requires next { AreNext begun.now self.now }
-        requires settled { IsSettled item sight.now self.now.waits self.now.asks }
-        ensures { IfOk result (λ s. carried s (with_waits begun.now self.now) ≡ step_of item sight.now Nothing (with_waits begun.now self.now)) }
+        requires settled { IsSettled item sight self.now.waits self.now.asks }
+        ensures planned { IfOk result (λ s. carried s (with_waits begun.now self.now) ≡ step_of item sight Nothing (with_waits begun.now self.now)) }
+        ensures seen { IfOk result (λ s. (s.item ≡ item) × (s.view ≡ sight)) }
     {
-        let asks = self.asks.kept();
-        let (ended, made) = make_begin_plan(self.alloc, item, sight, begun, asks)?;
+        let _size = sight.size();
+        let asks = self.asks.behind(first_block(&sight, begun));
+        let (ended, made) = make_begin_plan(self.alloc, item, &sight, begun, asks)?;
         Ok(Step {
             ended,
             cancelled: Vec::new(self.alloc),
             dropped: None,
             changed: None,
             made,
+            item,
+            sight,
         })
     }
 

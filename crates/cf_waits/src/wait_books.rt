@@ -1,19 +1,22 @@
 //! The live waits, by number and by item.
-ghost use Rattle.std.specs.Prelude.{◌≡◌, ◌+◌, ◌<◌, ◌≤◌, ◌++◌, ◌∷◌, ◌&&◌, ◌==◌, [], cond, filter, length, not, IfOk, OnOk};
-ghost use Rattle.std.specs.List.{list_any};
+ghost use Rattle.std.specs.Prelude.{◌≡◌, ◌+◌, ◌<◌, ◌≤◌, ◌++◌, ◌∷◌, ◌&&◌, ◌==◌, [], cond, false, filter, length, not, IfOk, IsTrue, OnOk};
+ghost use Rattle.std.specs.List.{AllByRecursion, list_any};
+ghost use Rattle.cf_ask_rule.specs.Narrowing.{AreNear};
 ghost use Rattle.cf_ask_rule.specs.Near.{is_on};
 ghost use Rattle.cf_model.specs.Missing.{Wait};
 ghost use Rattle.cf_model.specs.Numbers.{same_key};
-ghost use Rattle.cf_model.specs.Requests.{is_background, is_hydrate_wait, is_list_wait};
+ghost use Rattle.cf_model.specs.Requests.{is_background, is_dehydrate_wait, is_hydrate_wait, is_list_wait};
 ghost use Rattle.cf_model.specs.Words.{is_empty, says};
 ghost use Rattle.cf_waits.specs.Books.{HoldsWaits, at_number, found_of, is_plain_wait, wait_entry};
 ghost use Rattle.cf_waits.specs.Rising.{IsRising, wait_key};
 ghost use Rattle.cf_waits.specs.Told.{is_wait_by, wait_of};
 
 use crate::entries::{Entry, add_entry, entries_on, remove_entry};
+use crate::lines::{line_left, line_with, near_by};
 use crate::wait_lists::{find_wait, place_from, take_wait, wait_at, wait_there};
 use cf_ask_rule::{
-    LiveWait, WaitNumber, is_background, is_dehydrate_wait, is_hydrate_wait, is_list_wait,
+    Change, LiveWait, Sight, WaitNumber, is_background, is_dehydrate_wait, is_hydrate_wait,
+    is_list_wait,
 };
 use cf_base::{AskKind, ItemId, OutOfMemory, WaitId};
 use std::alloc::Global;
@@ -25,6 +28,8 @@ pub(crate) struct WaitBook {
     waits: Vec<LiveWait>,
     index: Vec<Entry>,
     plain: usize,
+    // Where the waits end, while they are reads each of which begins behind the one before.
+    line: Option<u64>,
 }
 
 impl Model for WaitBook {
@@ -36,7 +41,7 @@ impl Model for WaitBook {
 
     ghost view = { λ b. record { waits = b.waits.items; room = min (vec_capacity b.waits - vec_len b.waits) (vec_capacity b.index - vec_len b.index) } };
 
-    ghost invariant = { λ b. HoldsWaits b.waits.items b.index.items b.plain };
+    ghost invariant = { λ b. HoldsWaits b.waits.items b.index.items b.plain b.line };
 }
 
 fn entry_of(w: &LiveWait) -> Entry
@@ -62,6 +67,7 @@ impl WaitBook {
             waits: Vec::new(alloc),
             index: Vec::new(alloc),
             plain: 0,
+            line: Some(0),
         }
     }
 
@@ -84,9 +90,11 @@ impl WaitBook {
     {
         let entry = entry_of(&w);
         let more = plain_count(&w);
+        let line = line_with(self.line, &w);
         self.waits.push(w).unwrap();
         add_entry(&mut self.index, entry);
         self.plain += more;
+        self.line = line;
     }
 
     /// Takes the wait of a number out, if there is one.
@@ -99,6 +107,7 @@ impl WaitBook {
         };
         remove_entry(&mut self.index, entry_of(&w));
         self.plain -= plain_count(&w);
+        self.line = line_left(self.line, &self.waits);
     }
 
     /// The waits in order of number.
@@ -108,11 +117,35 @@ impl WaitBook {
         &self.waits
     }
 
+    /// Waits among which are all on the item that need something of the span. By halves where they stand in line, and else by one
+    /// pass over all.
+    pub(crate) fn near(&self, item: ItemId, v: &Sight, span: Change) -> &[LiveWait]
+        ensures { AreNear item v.now span.start span.end result.now self.now.waits }
+    {
+        near_by(&self.waits, self.line, item, v, span)
+    }
+
+    /// Whether `near` is worth it: by halves, or by a pass of which the waits on the item are a good share.
+    pub(crate) fn is_quick(&self, item: ItemId) -> bool {
+        if self.line.is_some() {
+            return true;
+        }
+        let count = entries_on(&self.index, item).len();
+        count >= self.waits.len() / 4
+    }
+
     /// Whether there is none.
     pub(crate) fn is_empty(&self) -> bool
         ensures { result ≡ is_empty self.now.waits }
     {
         self.waits.is_empty()
+    }
+
+    /// Whether no wait is for a dehydration, as is known by the count.
+    pub(crate) fn is_plain(&self) -> bool
+        ensures { IsTrue result → AllByRecursion (λ w. is_dehydrate_wait w.kind ≡ false) self.now.waits }
+    {
+        self.plain == self.waits.len()
     }
 
     /// How many count for the limit.

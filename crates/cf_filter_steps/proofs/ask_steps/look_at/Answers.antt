@@ -1,13 +1,13 @@
 use Rattle.cf_ask_rule.specs.Deeds.{deed_of}
 use Rattle.cf_ask_rule.specs.Sights.{shown}
 use Rattle.cf_filter_steps.proofs.AskRule.{looked, planned_of}
-use Rattle.cf_filter_steps.proofs.Laws.{ok_map}
+use Rattle.cf_filter_steps.proofs.Laws.{ok_both, ok_map}
 use Rattle.cf_filter_steps.proofs.ask_steps.look_at.Goals as goal
 
 pub returns-clause-planned : goal.returns-clause-planned
-returns-clause-planned g c = ok_map c.look.result _ _ (λ p e. planned_of p _ _ _ _ _ c.requests.ensures.value e) c.look.ensures
+returns-clause-planned g c = ok_both c.look.result _ _ _ (λ p e seen. planned_of p _ _ _ _ _ c.requests.ensures.value e seen) c.look.ensures.planned c.look.ensures.seen
 
 pub returns-clause-looks : goal.returns-clause-looks
 returns-clause-looks g c = ok_map c.look.result _ _
     (λ p e. looked g.S.Steps.sense c.args.s.now c.requests.result.now c.args.item (deed_of c.args.act) p c.args.row.now c.policy.result (shown c.view_of-v.result)
-    c.requests.ensures.means c.policy.ensures c.view_of-v.ensures.shows e) c.look.ensures
+    c.requests.ensures.means c.policy.ensures c.view_of-v.ensures.shows e) c.look.ensures.planned

@@ -1,6 +1,7 @@
 use Rattle.std.proofs.Common.{◌≡◌, ◌∙◌, ap, arith, refl}
 use Rattle.cf_waits.proofs.AgedAsks.{asks_forward, forward_aged, known_forward}
 use Rattle.cf_waits.proofs.Ages.{young}
+use Rattle.cf_waits.proofs.AskEnds.{ends_forward}
 use Rattle.cf_waits.specs.Books.{KeptAsks}
 use Rattle.cf_waits.proofs.ask_books.AskBook.advance.Goals as goal
 
@@ -10,8 +11,9 @@ oldest_of-self-inside-requires-clause-begun c =
 
 pub invariant_of-self : goal.invariant_of-self
 invariant_of-self c =
-    asks_forward c.self.inside.asks.items c.bring_forward.new.asks.items c.deref.result.now c.self.inside.index.items c.self.inside.plain c.self.inside.lists c.self.inside.oldest c.self.inside.tick c.base_of-base.result c.oldest_of-self-inside.result _
+    asks_forward c.self.inside.asks.items c.bring_forward.new.asks.items c.deref.result.now c.self.inside.index.items c.self.inside.plain c.self.inside.lists c.self.inside.oldest c.self.inside.tick c.self.inside.end c.base_of-base.result c.oldest_of-self-inside.result _
     c.self.invariant c.bring_forward.ensures.items c.deref.ensures.value c.oldest_of-self-inside.ensures.least c.oldest_of-self-inside.ensures.now (omega arith)
+    (ends_forward c.base_of-base.result c.self.inside.end c.self.inside.asks.items c.bring_forward.new.asks.items c.self.invariant.ends c.bring_forward.ensures.items)
 
 pub returns : goal.returns
 returns c =

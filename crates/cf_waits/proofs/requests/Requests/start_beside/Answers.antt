@@ -1,6 +1,4 @@
-use Rattle.std.proofs.Common.{◌≡◌, ◌+◌, ◌≤◌, ◌∙◌, List, None, Some, ap, arith, cond, length, refl, subst, sym}
-use Rattle.cf_ask_rule.proofs.Settling.{settles}
-use Rattle.cf_ask_rule.specs.Settled.{IsSettled}
+use Rattle.std.proofs.Common.{◌≡◌, ◌+◌, ◌≤◌, ◌∙◌, List, None, Some, ap, arith, cond, length, refl, sym}
 use Rattle.cf_ask_rule.specs.Sights.{shown}
 use Rattle.cf_model.specs.Asks.{step_of}
 use Rattle.cf_model.specs.Missing.{View, Wait}
@@ -18,7 +16,7 @@ pub look_begun-requires-clause-on : goal.look_begun-requires-clause-on
 look_begun-requires-clause-on c = first_on c.args.kind c.args.item c.args.handle c.args.span c.args.beside c.args.self.now c.as_slice-waits.result.now (c.as_slice-waits.ensures.value ∙ c.in_ok-begun.ensures)
 
 pub take_begun-requires-clause-planned : goal.take_begun-requires-clause-planned
-take_begun-requires-clause-planned c = (c.args.item, c.in_ok-sight.sight, Nothing, c.in_ok-step.ensures)
+take_begun-requires-clause-planned c = (c.args.item, c.in_ok-sight.sight, Nothing, c.in_ok-step.ensures.planned, c.in_ok-step.ensures.seen.0, c.in_ok-step.ensures.seen.1)
 
 pub take_begun-requires-clause-next : goal.take_begun-requires-clause-next
 take_begun-requires-clause-next c = first_next c.args.kind c.args.item c.args.handle c.args.span c.args.beside c.args.self.now c.as_slice-waits.result.now (c.as_slice-waits.ensures.value ∙ c.in_ok-begun.ensures)
@@ -37,16 +35,11 @@ take_begun-requires-clause-count c =
     first_count c.args.kind c.args.item c.args.handle c.args.span c.args.beside c.args.self.now c.as_slice-waits.result.now (c.as_slice-waits.ensures.value ∙ c.in_ok-begun.ensures) in
     omega arith
 
-pub remember-requires : goal.remember-requires
-remember-requires c =
-    subst (λ (s : Waiting). IsSettled c.args.item c.in_ok-sight.sight s.waits s.asks) (sym (c.in_ok-began.ensures.ok ∙ ap (λ (x : Told × Waiting). x.1) c.in_ok-step.ensures))
-    (settles c.args.item c.in_ok-sight.sight Nothing (with_waits c.as_slice-waits.result.now c.args.self.now))
-
 pub returns-in-Some : goal.returns-in-Some
 returns-in-Some c =
     let after : Told × Waiting = step_of c.args.item (shown c.args.v.now) Nothing (tried c.args.kind c.args.item c.args.handle c.args.span c.args.beside c.args.self.now) in
     let planned : carried c.in_ok-step.step (with_waits c.as_slice-waits.result.now c.args.self.now) ≡ after =
-    c.in_ok-step.ensures ∙ ap (λ (v : View). step_of c.args.item v Nothing (with_waits c.as_slice-waits.result.now c.args.self.now)) c.in_ok-sight.ensures
+    c.in_ok-step.ensures.planned ∙ ap (λ (v : View). step_of c.args.item v Nothing (with_waits c.as_slice-waits.result.now c.args.self.now)) c.in_ok-sight.ensures
     ∙ ap (λ (ws : List Wait). step_of c.args.item (shown c.args.v.now) Nothing (with_waits ws c.args.self.now)) (c.as_slice-waits.ensures.value ∙ c.in_ok-begun.ensures) in
     (ap (λ (l : Limits). limit_of l after.1) (sym c.limits_of.ensures) ∙ ap (λ (x : Told × Waiting). limit_of c.limits_of.result x.1) (sym planned) ∙ sym c.limit_with.ensures ∙ c.in-Some.is, refl)
 
@@ -54,10 +47,10 @@ pub returns : goal.returns
 returns c =
     let after : Told × Waiting = step_of c.args.item (shown c.args.v.now) Nothing (tried c.args.kind c.args.item c.args.handle c.args.span c.args.beside c.args.self.now) in
     let planned : carried c.in_ok-step.step (with_waits c.as_slice-waits.result.now c.args.self.now) ≡ after =
-    c.in_ok-step.ensures ∙ ap (λ (v : View). step_of c.args.item v Nothing (with_waits c.as_slice-waits.result.now c.args.self.now)) c.in_ok-sight.ensures
+    c.in_ok-step.ensures.planned ∙ ap (λ (v : View). step_of c.args.item v Nothing (with_waits c.as_slice-waits.result.now c.args.self.now)) c.in_ok-sight.ensures
     ∙ ap (λ (ws : List Wait). step_of c.args.item (shown c.args.v.now) Nothing (with_waits ws c.args.self.now)) (c.as_slice-waits.ensures.value ∙ c.in_ok-begun.ensures) in (
       ap (λ (l : Limits). limit_of l after.1) (sym c.limits_of.ensures) ∙ ap (λ (x : Told × Waiting). limit_of c.limits_of.result x.1) (sym planned) ∙ sym c.limit_with.ensures ∙ c.in_default.is,
       c.in_ok-began.ensures.id,
       c.in_ok-began.ensures.moves ∙ ap (λ (x : Told × Waiting). moved_of (cond c.args.beside (Some (begun_id 1 c.args.self.now)) None) x.0) planned,
-      c.remember.ensures ∙ c.in_ok-began.ensures.ok ∙ ap (λ (x : Told × Waiting). x.1) planned,
+      c.in_ok-began.ensures.ok ∙ ap (λ (x : Told × Waiting). x.1) planned,
     )
