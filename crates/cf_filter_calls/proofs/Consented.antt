@@ -1,8 +1,7 @@
 -- Consent to a dehydration.
-use Rattle.std.proofs.Common.{◌≡◌, ◌≤◌, ◌+◌, ◌^◌, ℕ, Bool, true, false, cond, not, List, [], ◌∷◌, refl, sym, ◌∙◌, ap, subst, arith, eqb, Option, Some, None}
+use Rattle.std.proofs.Common.{◌≡◌, ◌≤◌, ℕ, Bool, true, false, cond, not, List, [], ◌∷◌, refl, sym, ◌∙◌, ap, subst, arith, Option, Some, None}
 use Rattle.std.proofs.lemmas.Bool.{and_parts, eqb-true}
-use Rattle.std.specs.Prelude.{Result, Ok, Err, find, ◌==◌, ◌&&◌, ◌||◌}
-use Rattle.std.specs.List.{list_any}
+use Rattle.std.specs.Prelude.{Result, Ok, Err, find, ◌==◌, ◌||◌}
 use Rattle.cf_base.specs.declared.answers.AuxRecord.{AuxRecord}
 use Rattle.cf_base.specs.declared.answers.Shown.{Shown}
 use Rattle.cf_base.specs.declared.answers.Shown.TheVariants as shown
@@ -17,31 +16,28 @@ use Rattle.cf_base.specs.declared.operations.Operation.TheVariants as operation
 use Rattle.cf_base.specs.declared.waits.Ask.{Ask}
 use Rattle.cf_base.specs.declared.waits.AskKind.{AskKind}
 use Rattle.cf_base.specs.declared.waits.AskKind.TheVariants as ask_kind
-use Rattle.cf_base.specs.declared.waits.Cause.{Cause}
 use Rattle.cf_base.specs.declared.waits.Cause.TheVariants as cause
-use Rattle.cf_filter_calls.specs.Consenting.{IsConsent, MayConsent, MayLeave, consent_room, consented, emptied_then, finished_by, finished_now, lacks_places, used_beside}
+use Rattle.cf_filter_calls.specs.Consenting.{IsConsent, MayConsent, MayLeave, consent_room, consented, emptied_then, finished_by, finished_now, used_beside}
 use Rattle.cf_filter_calls.specs.Emptying.{verdict_there}
 use Rattle.cf_filter_calls.specs.Moved.{lacks_place}
 use Rattle.cf_filter_calls.specs.Operating.{IsLiveFor, tests_on}
-use Rattle.cf_model.specs.Arrows.{Arrow, then_do, unless}
+use Rattle.cf_model.specs.Arrows.{Arrow, unless}
 use Rattle.cf_model.specs.Books.{Book}
 use Rattle.cf_model.specs.Changes.{changes, no_places}
-use Rattle.cf_model.specs.Items.{Item, item_of, size_of}
+use Rattle.cf_model.specs.Items.{Item, item_of}
 use Rattle.cf_model.specs.Operations.{ack_dehydrate, checked, consent_by, second_verdict}
-use Rattle.cf_model.specs.Requests.{Finishes, Live, Waiting, is_busy_beside, is_dehydrate, live_of}
+use Rattle.cf_model.specs.Requests.{Live, Waiting, is_busy_beside, is_dehydrate, live_of}
 use Rattle.cf_model.specs.Numbers.{same_key}
-use Rattle.cf_model.specs.Settling.{settle}
 use Rattle.cf_model.specs.Soundness.{Each}
 use Rattle.cf_model.specs.State.{Filter}
-use Rattle.cf_model.specs.Trees.{Does, Tree}
+use Rattle.cf_model.specs.Trees.{Does}
 use Rattle.cf_model.specs.Verdicts.{verdict}
 use Rattle.cf_model.specs.Words.{first_of, part}
 use Rattle.cf_waits.specs.Told.{is_busy_but}
 use Rattle.cf_filter_steps.specs.Answering.{After, Answers, Any, Reads, Sense}
 use Rattle.cf_filter_steps.specs.Good.{IsGood}
-use Rattle.cf_filter_steps.specs.Readings.{has_handle, room_of, waiting_of}
-use Rattle.cf_filter_steps.specs.Suiting.{ReadyAll, Suiting}
-use Rattle.cf_filter_steps.specs.declared.rooms.Room.{Room}
+use Rattle.cf_filter_steps.specs.Readings.{has_handle, waiting_of}
+use Rattle.cf_filter_steps.specs.Suiting.{ReadyAll}
 use Rattle.cf_filter_steps.proofs.Laws.{stops_first, then_on}
 use Rattle.cf_filter_calls.proofs.Dehydrated.{ends_synced, is_clear}
 use Rattle.cf_filter_calls.proofs.EndEmptied.{EndsSynced, empty_room}
@@ -97,26 +93,7 @@ beside_else S x ask b busy w reads e waits q a = record {
       ∙ sym (ap (λ (c : Bool). c || is_busy_beside a.ask.item a.wait s.waiting) shut);
 }
 
-pub judged_again : {X : Type 0} (S : Sense X) (x : X) (ask : Ask) (used : Bool) (o : Option Code) → ((a : Live) → Reads S (IsConsent ask a) (used_beside a) x used) → Reads S Any (verdict_there ask.item ask.span.start ask.span.len used) x o
-    → (a : Live) → Reads S (IsConsent ask a) (second_verdict a) x o
-judged_again S x ask used o uses reads a = record {
-  is = λ s h p.
-      reads.is s h (record {}) ∙ ap (λ (u : Bool). verdict_there ask.item ask.span.start ask.span.len u s) ((uses a).is s h p)
-      ∙ ap (λ (q : Ask). verdict_there q.item q.span.start q.span.len (used_beside a s) s) (sym p.same);
-}
-
 -- no change
-
-or_no : (b : Bool) → (b || false) ≡ b
-or_no true = refl
-or_no false = refl
-
-pub places_read : {X : Type 0} (S : Sense X) (x : X) (cs : List Change) (room : Room) → cs ≡ [] → Reads S (Suiting cs) (room_of cs) x room → Reads S Any lacks_places x room.no_numbers
-places_read S x cs room e reads = record {
-  is = λ s h p.
-      let r = (subst (λ (ds : List Change). Reads S (Suiting ds) (room_of ds) x room) e reads).is s h (record {}) in
-      ap (λ (y : Room). y.no_numbers) r ∙ or_no (no_places s.volume 0);
-}
 
 -- with so many numbers, or without
 room_by : {X : Type 0} (S : Sense X) (P Q : Filter → Type 0) (n : ℕ) (b c : Bool) (f : Arrow Filter Shown) (x new : X) (r : Result Shown CallError) → Reads S Any (λ s. no_places s.volume n) x b → b ≡ c
@@ -127,10 +104,6 @@ room_by S P Q n b c f x new r reads e go = record {
       let q : no_places s.volume n ≡ c = sym (reads.is s h (record {})) ∙ e in
       subst (λ (d : Bool). Goes S x r new s (unless shown.Refused (first_of ((d, code.Exhausted) ∷ [])) f s)) (sym q) (go s h p q);
 }
-
-pub full_off : {X : Type 0} (S : Sense X) (P : Filter → Type 0) (n : ℕ) (b : Bool) (f : Arrow Filter Shown) (x : X) → Reads S Any (λ s. no_places s.volume n) x b → b ≡ true
-    → Answers S P (checked (consent_room n) f) x (Ok (shown.Refused code.Exhausted)) x
-full_off S P n b f x reads e = room_by S P P n b true f x x (Ok (shown.Refused code.Exhausted)) reads e (λ s h p q. (s, (refl, refl), S.stays x s h, h))
 
 pub full_on : {X : Type 0} (S : Sense X) (P Q : Filter → Type 0) (n : ℕ) (b : Bool) (f : Arrow Filter Shown) (x new : X) (r : Result Shown CallError) → Reads S Any (λ s. no_places s.volume n) x b → b ≡ false
     → ((s : Filter) → S.means x s → P s → no_places s.volume n ≡ false → Q s) → Answers S Q f x r new → Answers S P (checked (consent_room n) f) x r new
@@ -214,8 +187,3 @@ verdict_on S ask o x new r reads e ans key f records a = record {
       let z = (ans a).leads s m (record { consent = consent_of f key true ask records a s p; clear = clear }) in
       past S x new r s (tests_on (operation.AckDehydrate key true) a s) (consent_room 1 s) (emptied_then a.ask) p.passes (subst (λ (q : Ask). Goes S x r new s (consented q s)) (sym p.same) z));
 }
-
-pub by_answer : {X : Type 0} (S : Sense X) (ask : Ask) (good c : Bool) (x new : X) (r : Result Shown CallError) → good ≡ c
-    → ((key : Key) (f : Book → Book) (records : List AuxRecord) (a : Live) → Answers S (IsLiveFor f (operation.AckDehydrate key c) ask records a) (ack_dehydrate a c) x r new)
-    → (key : Key) (f : Book → Book) (records : List AuxRecord) (a : Live) → Answers S (IsLiveFor f (operation.AckDehydrate key good) ask records a) (ack_dehydrate a good) x r new
-by_answer S ask good c x new r e ans key f records a = subst (λ (b : Bool). Answers S (IsLiveFor f (operation.AckDehydrate key b) ask records a) (ack_dehydrate a b) x r new) (sym e) (ans key f records a)

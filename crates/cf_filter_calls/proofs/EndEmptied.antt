@@ -147,9 +147,6 @@ uncovered before at (x ∷ xs) = uncovered false (at + 1) xs
 
 -- the row
 
-no_writes : (start len : ℕ) (i : Item) → i.writes ≡ [] → left_out start len i ≡ record i { held = emptied (leaves_at start len []) i.held; valid = cleared (leaves_at start len []) i.valid }
-no_writes start len i e = ap (λ (ws : List Written). record i { held = emptied (leaves_at start len ws) i.held; valid = cleared (leaves_at start len ws) i.valid }) e
-
 covers_none : (b : Book) (start len : ℕ) (i : Item) → i.writes ≡ [] → (count_runs false (modified_flags (left_out start len i)) ≡ 0) × (count_runs false (covered_flags (writes_since b (left_out start len i)) (left_out start len i)) ≡ 0)
 covers_none b start len i e = (
   subst (λ (ws : List Written). count_runs false (by_place (λ p h. is_covered ws p) 0 (left_out start len i).held) ≡ 0) (sym e) (uncovered false 0 (left_out start len i).held),

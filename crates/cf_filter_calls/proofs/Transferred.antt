@@ -155,12 +155,6 @@ restart_at S ask c policy x new r s key f records a reads e h p g =
     (subst (λ (d : Bool). Goes S x r new s (unless shown.Refused (first_of ((not d, code.RestartDenied) ∷ change_tests true a.ask.item (restart_change a s) Restarts s)) (reading (restart_change a) (restart_by a)) s))
     (sym e ∙ ap (λ (q : Policy). q.restart) (reads.is s h (record {}))) g)
 
-pub restart_off : {X : Type 0} (S : Sense X) (ask : Ask) (policy : Policy) (x : X) → Reads S Any policy_of x policy → policy.restart ≡ false
-    → (key : Key) (f : Book → Book) (records : List AuxRecord) (a : Live) → Answers S (IsLiveFor f (operation.Restart key) ask records a) (restart a) x (Ok (shown.Refused code.RestartDenied)) x
-restart_off S ask policy x reads e key f records a = record {
-  leads = λ s h p. restart_at S ask false policy x x (Ok (shown.Refused code.RestartDenied)) s key f records a reads e h p (s, (refl, refl), S.stays x s h, h);
-}
-
 pub restart_on : {X : Type 0} (S : Sense X) (ask : Ask) (policy : Policy) (size : ℕ) (x new : X) (r : Result Shown CallError) → Reads S Any policy_of x policy → policy.restart ≡ true → Reads S Any (size_at ask.item) x size
     → Answers S (IsSizeOf ask.item size) (restarted ask.item size) x r new
     → (key : Key) (f : Book → Book) (records : List AuxRecord) (a : Live) → Answers S (IsLiveFor f (operation.Restart key) ask records a) (restart a) x r new

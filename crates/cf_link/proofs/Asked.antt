@@ -28,7 +28,7 @@ use Rattle.cf_remote.specs.Told.{Answers, Told}
 use Rattle.cf_remote.proofs.Asking.{After, after_fault, after_reply, begins_here}
 use Rattle.cf_wire.specs.Sending.{IsNet, Kept}
 use Rattle.cf_link.proofs.FaultCounts.{once_answered, once_failed}
-use Rattle.cf_link.proofs.Ways.{begins_on, leads_begins, leads_on}
+use Rattle.cf_link.proofs.Ways.{leads_begins, leads_on}
 
 -- what an ask changes of a state
 abbrev with_ask : Held → ℕ → Bool → State → State
@@ -161,9 +161,6 @@ sent_does told m q old r line new d = record {
         stands = e.stands;
       };
 }
-
-pub sent_stops : {R : Type 0} (told : R → Told) (m : ℕ) (q : Request) (old new : Linked R) → Stopped told (come m q) old new → Stopped told (seq (come m q) was_sent) old new
-sent_stops told m q old new d = record { begins = λ s h. begins_on (come m q s) was_sent (told old.remote) (told new.remote) (d.begins s h) }
 
 -- by hand
 
