@@ -1,5 +1,5 @@
 -- What is written of a report, and what waits.
-use Rattle.std.proofs.Common.{ℕ, ◌+◌, ◌-◌, ◌≤◌, length, append_assoc, List, [], ◌++◌, sym, ap, subst, ◌∙◌, arith}
+use Rattle.std.proofs.Common.{◌≡◌, ℕ, ◌+◌, ◌-◌, ◌≤◌, length, append_assoc, List, [], ◌++◌, sym, ap, subst, ◌∙◌, arith}
 use Rattle.std.specs.Prelude.{Option}
 use Rattle.std.proofs.lemmas.List.{append-nil, length-append}
 use Rattle.cf_io.proofs.Adding.{Adds-then}
@@ -50,3 +50,15 @@ pub add_early : (text piece : List ℕ) (old new : Option (List ℕ)) (e : PlayE
 add_early text piece old new SinkFault is h = h
 add_early text piece old new OutOfMemory is h = h
 add_early text piece old new TooLong is h = absurd is
+
+-- what waited was written, and then a front of the piece behind it
+pub front_behind : (waiting piece : List ℕ) (old now new : Option (List ℕ)) → Adds old now waiting → AddsFront now new piece → AddsFront old new (waiting ++ piece)
+front_behind waiting piece old now new h k = (waiting ++ k.0, k.1, ap (λ x. waiting ++ x) k.2 ∙ sym (append_assoc waiting k.0 k.1), Adds-then old now new waiting k.0 h k.3)
+
+-- both were written, and nothing waits
+pub both_handed : (waiting piece left : List ℕ) (old now new : Option (List ℕ)) → Adds old now waiting → Adds now new piece → left ≡ [] → Hands old new (waiting ++ piece) left
+both_handed waiting piece left old now new h k none = (
+  waiting ++ piece,
+  sym (append-nil (waiting ++ piece)) ∙ ap (λ x. (waiting ++ piece) ++ x) (sym none),
+  Adds-then old now new waiting piece h k,
+)

@@ -30,9 +30,26 @@ pub fn add<K: Sink>(
         write_all(sink, waiting.as_slice())?;
         return Err(PlayError::TooLong);
     }
-    waiting.extend_from_slice(piece)?;
-    write_piece(waiting, sink)?;
+    hand(waiting, piece, sink)?;
     Ok(made + piece.len())
+}
+
+// Hands a text on: behind what waits where it is short, and else straight to the sink after that, so that no long text stands twice.
+fn hand<K: Sink>(waiting: &mut Vec<u8>, piece: &[u8], sink: &mut K) -> Result<(), PlayError>
+    ensures ok { OnOk result (Hands (K.held sink.old) (K.held sink.new) (waiting.old.items ++ piece.now) waiting.new.items) }
+    ensures err { OnErr result (AddsFront (K.held sink.old) (K.held sink.new) (waiting.old.items ++ piece.now)) }
+    ensures fault { IsErrOf result PlayError.SinkFault → Rose (K.faults sink.old) (K.faults sink.new) }
+    ensures only { IfErr result IsOfSink }
+    ensures never_falls { K.faults sink.old ≤ K.faults sink.new }
+{
+    if piece.len() < PIECE {
+        waiting.extend_from_slice(piece)?;
+        return write_piece(waiting, sink);
+    }
+    write_all(sink, waiting.as_slice())?;
+    waiting.clear();
+    write_all(sink, piece)?;
+    Ok(())
 }
 
 /// Writes what waits where it is enough for a piece.
