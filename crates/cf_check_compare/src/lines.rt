@@ -1,6 +1,6 @@
 //! The lines of a report.
 
-ghost use Rattle.std.specs.Prelude.{◌≡◌, ◌<◌, ◌++◌, ◌∷◌, ◌==◌, Some, drop, length, position};
+ghost use Rattle.std.specs.Prelude.{◌≡◌, ◌<◌, ◌==◌, Some, drop, length, position};
 ghost use Rattle.cf_check_judge.specs.Judge.{first_result, is_line};
 ghost use Rattle.cf_check_compare.specs.Lines.{IsFirstLine};
 ghost use Rattle.cf_check_model.specs.Reports.{device_line, is_result_line};

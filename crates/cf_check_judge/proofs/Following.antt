@@ -1,18 +1,17 @@
 -- A run that is followed beside a report: how one event more settles it.
-use Rattle.std.proofs.Common.{◌≡◌, ◌⊎◌, ◌≤◌, ◌<◌, ◌+◌, ◌&&◌, ◌==◌, not, ℕ, zero, suc, Bool, true, false, List, [], ◌∷◌, ◌++◌, drop, length, map, take, refl, sym, ◌∙◌, ap, subst, arith, inl, inr, append_assoc, append-nil, length-append, length-take-le, ◌||◌}
-use Rattle.std.specs.Prelude.{Option, Some, None, slice_get, nat_le}
+use Rattle.std.proofs.Common.{◌≡◌, ◌⊎◌, ◌≤◌, ◌<◌, ◌+◌, ◌&&◌, ◌==◌, not, ℕ, zero, suc, Bool, true, false, List, [], ◌∷◌, ◌++◌, drop, length, map, take, refl, sym, ◌∙◌, ap, subst, arith, inl, inr, append_assoc, append-nil, length-append, length-take-le}
+use Rattle.std.specs.Prelude.{Option, Some, None, slice_get}
 use Rattle.std.specs.List.{list_all}
-use Rattle.std.proofs.lemmas.Bool.{eq-eqb, eqb-true, leb-true}
+use Rattle.std.proofs.lemmas.Bool.{eq-eqb, eqb-true}
 use Rattle.std.proofs.lemmas.List.{length-map, map-append}
 use Rattle.std.proofs.lemmas.List.Folds.{list_all-append}
 use Rattle.cf_base.specs.declared.answers.Answer.{Answer}
 use Rattle.cf_base.specs.declared.events.DeviceEvent.TheVariants as device
 use Rattle.cf_base.specs.declared.events.Event.{Event}
 use Rattle.cf_base.specs.declared.events.Event.TheVariants as event
-use Rattle.cf_base.specs.declared.events.PeerEvent.{PeerEvent}
 use Rattle.cf_base.specs.declared.policies.Mode.TheVariants as mode
-use Rattle.cf_model.specs.Events.{is_of, on_event}
-use Rattle.cf_model.specs.Lawful.{Runs}
+use Rattle.cf_model.specs.Events.{is_of}
+use Rattle.cf_model.specs.Lawful.{IsStep, Runs}
 use Rattle.cf_model.specs.Numbers.{most}
 use Rattle.cf_model.specs.State.{State, start}
 use Rattle.cf_model.specs.Store.{empty_remote}
@@ -21,24 +20,25 @@ use Rattle.cf_model.proofs.TraceLaws.{runs_push}
 use Rattle.cf_report.specs.Texts.{text, texts}
 use Rattle.cf_check_model.specs.Judging.{Accepted, IsAmbiguous, IsUndecided, IsVerdict, accepts, answer_of, event_of}
 use Rattle.cf_check_model.specs.Reports.{Begins, DeviceFails, device_line, result_lines}
-use Rattle.cf_check_model.specs.declared.verdicts.Verdict.{Verdict}
 use Rattle.cf_check_model.specs.declared.verdicts.Verdict.TheVariants.{Unlawful, Undecided}
 use Rattle.cf_check_model.proofs.Fronts.{texts_join}
 use Rattle.cf_check_text.specs.Clean.{is_clean}
 use Rattle.cf_check_text.proofs.Lines.{next_result}
-use Rattle.cf_check_ways.specs.Ways.{AllSure, core_of, sures, is_fault, Alike, fixed_state, is_good, of_state}
-use Rattle.cf_check_traces.specs.Decided.{IsStopped, MeetsResult, NoneStopped}
-use Rattle.cf_check_traces.specs.Tests.{is_restart, begins, is_device, meets_alone, meets_lines}
+use Rattle.cf_check_ways.specs.Ways.{Alike, fixed_state, of_state}
+use Rattle.cf_check_traces.specs.Decided.{IsStopped, NoneStopped}
+use Rattle.cf_check_traces.specs.Tests.{begins, is_resumed, resumes_next}
 use Rattle.cf_check_traces.proofs.Accepting.{LastOf, last_of}
-use Rattle.cf_check_traces.specs.Followed.{IsFollowed, IsNext, IsTight, StaysTight}
-use Rattle.cf_check_traces.proofs.NextOnes.{only_next, stays_tight}
+use Rattle.cf_check_traces.specs.Followed.{IsNext, ResumesAsAccepted}
+use Rattle.cf_check_traces.proofs.Counts.{counts_as_told, counts_none, counts_untold, counts_where_light}
+use Rattle.cf_check_traces.proofs.NextOnes.{only_next}
+use Rattle.cf_check_traces.proofs.RunPoints.{start_same}
 use Rattle.cf_check_traces.proofs.NextSteps.{goes_on}
 use Rattle.cf_check_traces.proofs.SameRuns.{Front, front_of, last_event}
-use Rattle.cf_check_traces.proofs.Testing.{alone_so, alone_unasked, begins_is, begins_so, meets_so, not_stopped}
+use Rattle.cf_check_traces.proofs.Testing.{begins_is, begins_so}
 use Rattle.cf_check_judge.specs.Bytes.{same_bytes}
-use Rattle.cf_check_judge.specs.Judge.{asks_nothing, is_peer_fault, telling_of, matched, GoesOn, Judged, Lost, Open, Wrong, at_end, event_told, first_result, is_line, judge, judge_from, may_follow, may_judge, step_by}
+use Rattle.cf_check_judge.specs.Judge.{at_end, first_result, is_line, judge}
 use Rattle.cf_check_judge.proofs.Verdicts.{empty_verdict, lawful_verdict, open_verdict, wrong_verdict}
-use Rattle.cf_check_judge.specs.Settled.{IsAt}
+use Rattle.cf_check_judge.specs.Settled.{HasCount, IsAt}
 
 -- tests of bytes
 
@@ -160,10 +160,10 @@ module _ (events : List Event) (report : List ℕ) (clusters : ℕ) (short : len
           text_is = at.run.text_is ∙ ap (λ (xs : List ℕ). texts (map answer_of trace) ++ xs) more.1 ∙ sym (append_assoc (texts (map answer_of trace)) (text a) more.0)
               ∙ ap (λ (xs : List ℕ). xs ++ more.0) (sym joined) ∙ ap (λ (xs : List ℕ). texts (map answer_of (trace ++ (e, a) ∷ [])) ++ xs) (sym rest_is);
           none = none_more trace e a at.run.none next.runs;
-          only = λ others u acc. let x = only_next events report clusters short done trace s rest at.run below e took a t next others u acc in (x.0, x.1);
+          only = λ others u acc. only_next events report clusters short done trace s rest at.run e took a t next others u acc;
         };
         clean = ap (λ (xs : List Answer). list_all is_clean xs) (map-append answer_of trace ((e, a) ∷ [])) ∙ list_all-append is_clean (map answer_of trace) (a ∷ []) ∙ all_clean at.clean next.clean;
-        settled = closed_next done (e ∷ es) trace s rest at other (one_book (suc done) t (λ others u acc. (only_next events report clusters short done trace s rest at.run below e took a t next others u acc).1));
+        settled = closed_next done (e ∷ es) trace s rest at other (one_book (suc done) t (λ others u acc. (only_next events report clusters short done trace s rest at.run e took a t next others u acc).1));
         before = λ k is. subst (λ (z : ℕ). accepts events report clusters z) (let z : suc done ≡ suc k = is in omega (arith, z)) (trace, s, taken done (e ∷ es) trace s rest at below);
       }
     where
@@ -174,17 +174,25 @@ module _ (events : List Event) (report : List ℕ) (clusters : ℕ) (short : len
       all_clean : list_all is_clean (map answer_of trace) ≡ true → is_clean a ≡ true → (list_all is_clean (map answer_of trace) && list_all is_clean (a ∷ [])) ≡ true
       all_clean x y = rw x (rw y refl)
 
-  -- no point of a commit for room is left
-  pub tight_next : (done : ℕ) (e : Event) (es : List Event) (trace : List (Event × Answer)) (s : State) (rest : List ℕ) → IsAt events report clusters done (e ∷ es) trace s rest
-      → (a : Answer) (t : State) → IsNext events report clusters done s e a t rest → StaysTight events report clusters done s e a t → IsTight events report clusters (suc done) t
-  tight_next done e es trace s rest at a t next stays = stays_tight events report clusters short done trace s rest at.run (left done e es trace s rest at) e (next_taken done e es trace s rest at) a t next stays
+  -- the answer to a restart has the count of each accepted one
+  pub counts_of : (done : ℕ) (e : Event) (es : List Event) (trace : List (Event × Answer)) (s : State) (rest : List ℕ) → IsAt events report clusters done (e ∷ es) trace s rest → (a : Answer) (t : State) → IsStep mode.Replay s e a t → HasCount s e a rest → e ≡ event.Device device.Restart
+      → ResumesAsAccepted events report clusters done a
+  counts_of done e es trace s rest at a t step has is = by (subst (λ (z : Event). IsStep mode.Replay s z a t) is step) (subst (λ (z : Event). HasCount s z a rest) is has)
+    where
+      untold : (told next : Bool) → is_resumed a.shown ≡ told → resumes_next rest ≡ next → (told && next) ≡ false → ResumesAsAccepted events report clusters done a
+      untold true next told goes h = counts_untold events report clusters short done trace s rest at.run a (goes ∙ h)
+      untold false next told goes h = counts_none events report clusters done a told
+
+      by : IsStep mode.Replay s (event.Device device.Restart) a t → HasCount s (event.Device device.Restart) a rest → ResumesAsAccepted events report clusters done a
+      by restart (inl begun) = counts_as_told events report clusters short done trace s rest at.run a t restart (begins_so (text a) rest begun)
+      by restart (inr (inl light)) = counts_where_light events report clusters short done trace s rest at.run light a t restart
+      by restart (inr (inr none)) = untold (is_resumed a.shown) (resumes_next rest) refl refl none
 
   -- the report does not go on with it
   pub wrong_next : (done : ℕ) (e : Event) (es : List Event) (trace : List (Event × Answer)) (s : State) (rest : List ℕ) → IsAt events report clusters done (e ∷ es) trace s rest → (a : Answer) (t : State) → IsNext events report clusters done s e a t rest → begins (text a) rest ≡ false
       → accepts events report clusters (suc done) → ⊥
   wrong_next done e es trace s rest at a t next differs (others, u, acc) =
-      let below = left done e es trace s rest at in
-      let same = only_next events report clusters short done trace s rest at.run below e (next_taken done e es trace s rest at) a t next others u acc in
+      let same = only_next events report clusters short done trace s rest at.run e (next_taken done e es trace s rest at) a t next others u acc in
       let front : Begins report (texts (map answer_of (trace ++ (e, a) ∷ []))) = subst (λ (xs : List (Event × Answer)). Begins report (texts (map answer_of xs))) same.0 acc.front in
       let z : true ≡ false = sym (begins_is (text a) rest (goes_on report rest trace trace (e, a) at.run.text_is refl front)) ∙ differs in
       absurd cc
@@ -235,7 +243,7 @@ module _ (events : List Event) (report : List ℕ) (clusters : ℕ) (short : len
   pub at_start : IsAt events report clusters 0 events [] (start mode.Replay empty_remote clusters) report
   at_start = record {
     split = refl;
-    run = record { there = omega arith; events_are = refl; lawful = refl; kept = refl; text_is = refl; none = record {}; only = λ more u acc. (no_events more acc.events_are, ap fixed_state (starts more u acc)) };
+    run = record { there = omega arith; events_are = refl; lawful = refl; kept = refl; text_is = refl; none = record {}; only = λ more u acc. (no_events more acc.events_are, ap fixed_state (starts more u acc), start_same clusters (start mode.Replay empty_remote clusters) u refl (sym (starts more u acc))) };
     clean = refl;
     settled = λ m le h. none m le h;
     before = λ k is. let z : 0 ≡ suc k = is in absurd cc;

@@ -1,45 +1,33 @@
 -- The verdict of the judge is right.
-use Rattle.std.proofs.Common.{◌≡◌, ◌⊎◌, ◌≤◌, ◌<◌, ◌+◌, ◌&&◌, ◌==◌, not, ℕ, zero, suc, Bool, true, false, List, [], ◌∷◌, ◌++◌, drop, length, map, take, refl, sym, ◌∙◌, ap, subst, arith, inl, inr, append_assoc, append-nil, length-append, length-take-le, ◌||◌}
-use Rattle.std.specs.Prelude.{Option, Some, None, slice_get, nat_le}
-use Rattle.std.specs.List.{list_all}
-use Rattle.std.proofs.lemmas.Bool.{eq-eqb, eqb-true, leb-true}
-use Rattle.std.proofs.lemmas.List.{length-map, map-append}
-use Rattle.std.proofs.lemmas.List.Folds.{list_all-append}
+use Rattle.std.proofs.Common.{◌≡◌, ◌<◌, ◌+◌, ◌&&◌, not, ℕ, suc, Bool, true, false, List, [], ◌∷◌, ◌++◌, drop, length, refl, sym, ◌∙◌, ap, subst, arith, inl, inr}
+use Rattle.std.specs.Prelude.{Option, Some, None}
+use Rattle.std.proofs.lemmas.Bool.{leb-true}
 use Rattle.cf_base.specs.declared.answers.Answer.{Answer}
-use Rattle.cf_base.specs.declared.events.DeviceEvent.TheVariants as device
 use Rattle.cf_base.specs.declared.events.Event.{Event}
 use Rattle.cf_base.specs.declared.events.Event.TheVariants as event
 use Rattle.cf_base.specs.declared.events.PeerEvent.{PeerEvent}
 use Rattle.cf_base.specs.declared.policies.Mode.TheVariants as mode
 use Rattle.cf_model.specs.Events.{is_of, on_event}
-use Rattle.cf_model.specs.Lawful.{Runs}
 use Rattle.cf_model.specs.Numbers.{most}
 use Rattle.cf_model.specs.State.{State, start}
 use Rattle.cf_model.specs.Store.{empty_remote}
 use Rattle.cf_model.specs.Words.{is_empty}
-use Rattle.cf_model.proofs.TraceLaws.{runs_push}
-use Rattle.cf_report.specs.Texts.{text, texts}
-use Rattle.cf_check_model.specs.Judging.{Accepted, IsAmbiguous, IsUndecided, IsVerdict, accepts, answer_of, event_of}
-use Rattle.cf_check_model.specs.Reports.{Begins, DeviceFails, device_line, result_lines}
+use Rattle.cf_report.specs.Texts.{text}
+use Rattle.cf_check_model.specs.Judging.{IsVerdict}
+use Rattle.cf_check_model.specs.Reports.{device_line}
 use Rattle.cf_check_model.specs.declared.verdicts.Verdict.{Verdict}
 use Rattle.cf_check_model.specs.declared.verdicts.Verdict.TheVariants.{Unlawful, Undecided}
-use Rattle.cf_check_model.proofs.Fronts.{texts_join}
 use Rattle.cf_check_text.specs.Clean.{is_clean}
-use Rattle.cf_check_text.proofs.Lines.{next_result}
-use Rattle.cf_check_room.specs.Weights.{sure_count, weight_since}
-use Rattle.cf_check_ways.specs.Ways.{AllSure, core_of, sures, is_fault, Alike, fixed_state, is_good, of_state}
-use Rattle.cf_check_traces.specs.Decided.{IsStopped, MeetsResult, NoneStopped}
-use Rattle.cf_check_traces.specs.Tests.{is_flushed, is_restart, begins, is_device, meets_alone, meets_lines}
-use Rattle.cf_check_traces.proofs.Accepting.{LastOf, last_of}
-use Rattle.cf_check_traces.specs.Followed.{IsNext, IsTight, StaysTight}
-use Rattle.cf_check_traces.proofs.NextOnes.{tight_start}
-use Rattle.cf_check_traces.proofs.NextSteps.{goes_on}
-use Rattle.cf_check_traces.proofs.SameRuns.{Front, front_of, last_event}
-use Rattle.cf_check_traces.proofs.Testing.{alone_so, alone_unasked, begins_is, begins_so, meets_so, not_stopped}
-use Rattle.cf_check_judge.specs.Bytes.{same_bytes}
-use Rattle.cf_check_judge.specs.Judge.{asks_nothing, is_peer_fault, telling_of, matched, GoesOn, Judged, Lost, Open, Wrong, at_end, event_told, first_result, is_line, judge, judge_from, may_follow, may_judge, stays_tight, step_by}
-use Rattle.cf_check_judge.specs.Settled.{IsAt}
-use Rattle.cf_check_judge.proofs.Following.{at_start, at_the_end, both, foreign_is, goes_next, line_not, open_is, tight_next, wrong_is}
+use Rattle.cf_check_room.specs.Rooms.{load_since, sure_count}
+use Rattle.cf_check_room.proofs.Heavy.{light_nowhere}
+use Rattle.cf_check_ways.specs.Ways.{is_fault, is_good}
+use Rattle.cf_check_traces.specs.Decided.{MeetsResult}
+use Rattle.cf_check_traces.specs.Tests.{begins, both_resume, is_device, meets_alone, meets_lines}
+use Rattle.cf_check_traces.specs.Followed.{IsLight, IsNext}
+use Rattle.cf_check_traces.proofs.Testing.{alone_so, alone_unasked, meets_so, not_stopped}
+use Rattle.cf_check_judge.specs.Judge.{asks_nothing, is_peer_fault, telling_of, matched, GoesOn, Judged, Lost, Open, Wrong, at_end, event_told, first_result, is_line, is_light, judge, judge_from, may_judge, may_part, step_by}
+use Rattle.cf_check_judge.specs.Settled.{HasCount, IsAt}
+use Rattle.cf_check_judge.proofs.Following.{at_start, at_the_end, both, counts_of, foreign_is, goes_next, line_not, open_is, wrong_is}
 
 -- no answer parts by RemoteFault from the judge's
 
@@ -65,13 +53,9 @@ alone_of (event.Engine g) s rest h = λ peer. let z : false ≡ true = peer in a
 alone_of (event.Provider p) s rest h = λ peer. let z : false ≡ true = peer in absurd cc
 
 module _ (events : List Event) (report : List ℕ) (clusters : ℕ) (short : length report < most) where
-  -- where it is said so no point of a commit for room is left
-  abbrev IfTight : Bool → ℕ → State → Type 0
-  IfTight tight done s = tight ≡ true → IsTight events report clusters done s
-
-  next_of : (tight : Bool) (done : ℕ) (e : Event) (es : List Event) (trace : List (Event × Answer)) (s : State) (rest : List ℕ) → IsAt events report clusters done (e ∷ es) trace s rest → is_of mode.Replay e ≡ true → (first_result rest ≡ Some device_line → ⊥) → IfTight tight done s → may_follow tight e ≡ true
-      → may_judge (event_told e rest s).0 e (event_told e rest s).1 rest ≡ true → IsNext events report clusters done s e (event_told e rest s).1 (event_told e rest s).0 rest
-  next_of tight done e es trace s rest at of other so follows may =
+  next_of : (done : ℕ) (e : Event) (es : List Event) (trace : List (Event × Answer)) (s : State) (rest : List ℕ) → IsAt events report clusters done (e ∷ es) trace s rest → is_of mode.Replay e ≡ true → (first_result rest ≡ Some device_line → ⊥)
+      → may_judge (event_told e rest s).0 e (event_told e rest s).1 rest ≡ true → HasCount s e (event_told e rest s).1 rest → IsNext events report clusters done s e (event_told e rest s).1 (event_told e rest s).0 rest
+  next_of done e es trace s rest at of other may has =
       let t : State = (event_told e rest s).0 in
       let a : Answer = (event_told e rest s).1 in
       let w = both (is_good t && not (is_device a.shown) && is_clean a && meets_lines a.notes rest) (meets_alone e a rest (asks_nothing a rest)) may in
@@ -86,32 +70,34 @@ module _ (events : List Event) (report : List ℕ) (clusters : ℕ) (short : len
         meets = meets_so a rest x.1;
         alone = alone_of e s rest w.1;
         result = other;
-        opening = λ is. fits is;
+        counts = counts_of events report clusters short done e es trace s rest at a t (of, _, refl) has;
       }
     where
       unless : (b : Bool) → not b ≡ true → b ≡ false
       unless true h = let z : false ≡ true = h in absurd cc
       unless false h = refl
 
-      fits : e ≡ event.Device device.Restart → IsTight events report clusters done s
-      fits is = so (sym (ap (λ (b : Bool). not b || tight) (ap is_restart is)) ∙ follows)
+  -- a log that loads no more than the clusters is heavy nowhere
+  light_so : (s : State) → is_light s ≡ true → IsLight s
+  light_so s h =
+      light_nowhere s.filter.volume.clusters (sure_count s.filter.volume.points) s.filter.volume.log (leb-true (load_since (sure_count s.filter.volume.points) s.filter.volume.log) s.filter.volume.clusters h)
 
-  -- so it is after the event
-  tight_so : (tight : Bool) (done : ℕ) (e : Event) (a : Answer) (s t : State) → IfTight tight done s → (restart flushed : Bool) → is_restart e ≡ restart → is_flushed e a ≡ flushed
-      → (restart || flushed || (tight && nat_le (weight_since (sure_count s.filter.volume.points) t.filter.volume.log) clusters)) ≡ true → StaysTight events report clusters done s e a t
-  tight_so tight done e a s t so true flushed restart _ h = inl restart
-  tight_so tight done e a s t so false true _ flush h = inr (inl flush)
-  tight_so tight done e a s t so false false _ _ h =
-      let x = both tight (nat_le (weight_since (sure_count s.filter.volume.points) t.filter.volume.log) clusters) h in
-      inr (inr (so x.0, leb-true (weight_since (sure_count s.filter.volume.points) t.filter.volume.log) clusters x.1))
+  -- where no run may part the answer has the count of each accepted one
+  whole_so : (e : Event) (a : Answer) (rest : List ℕ) (s : State) → may_part e a rest s ≡ false → HasCount s e a rest
+  whole_so e a rest s h = by (both_resume e a rest) (is_light s) refl refl h
+    where
+      by : (b light : Bool) → both_resume e a rest ≡ b → is_light s ≡ light → (b && not light) ≡ false → HasCount s e a rest
+      by false light none is h = inr (inr none)
+      by true true both' is h = inr (inl (light_so s is))
+      by true false both' is h = let z : true ≡ false = h in absurd cc
 
   -- the whole, by how each step goes
 
-  abbrev verdict_of : Bool → ℕ → Event → State → List Event → Judged → Option Verdict
-  verdict_of tight done e s es j = elim j as (λ _. Option Verdict) [ GoesOn a g more ↦ judge_from clusters (stays_tight clusters tight e a s g) (done + 1) es more g | Wrong ↦ Some (Unlawful (done + 1)) | Open ↦ Some (Undecided (done + 1)) | Lost ↦ None ]
+  abbrev verdict_of : ℕ → List Event → Judged → Option Verdict
+  verdict_of done es j = elim j as (λ _. Option Verdict) [ GoesOn a g more ↦ judge_from (done + 1) es more g | Wrong ↦ Some (Unlawful (done + 1)) | Open ↦ Some (Undecided (done + 1)) | Lost ↦ None ]
 
   abbrev Rest : List Event → Type 0
-  Rest es = (tight : Bool) (done : ℕ) (trace : List (Event × Answer)) (f : State) (rest : List ℕ) (v : Verdict) → IsAt events report clusters done es trace f rest → IfTight tight done f → judge_from clusters tight done es rest f ≡ Some v → IsVerdict events report clusters v
+  Rest es = (done : ℕ) (trace : List (Event × Answer)) (f : State) (rest : List ℕ) (v : Verdict) → IsAt events report clusters done es trace f rest → judge_from done es rest f ≡ Some v → IsVerdict events report clusters v
 
   one_more : (n : ℕ) → n + 1 ≡ suc n
   one_more n = omega arith
@@ -122,46 +108,45 @@ module _ (events : List Event) (report : List ℕ) (clusters : ℕ) (short : len
       some_is : (x y : Verdict) → Some x ≡ Some y → x ≡ y
       some_is x y e = cc
 
-  by_same : (tight : Bool) (done : ℕ) (e : Event) (es : List Event) (trace : List (Event × Answer)) (f : State) (rest : List ℕ) (v : Verdict) → Rest es → IsAt events report clusters done (e ∷ es) trace f rest → IfTight tight done f → is_line device_line (first_result rest) ≡ false
-      → (g : State) → g ≡ (event_told e rest f).0 → IsNext events report clusters done f e (event_told e rest f).1 (event_told e rest f).0 rest → (same : Bool) → begins (text (event_told e rest f).1) rest ≡ same
-      → verdict_of tight done e f es (matched true same rest (event_told e rest f).1 g) ≡ Some v → IsVerdict events report clusters v
-  by_same tight done e es trace f rest v more at so line g is next true same h =
+  by_same : (done : ℕ) (e : Event) (es : List Event) (trace : List (Event × Answer)) (f : State) (rest : List ℕ) (v : Verdict) → Rest es → IsAt events report clusters done (e ∷ es) trace f rest → is_of mode.Replay e ≡ true → is_line device_line (first_result rest) ≡ false
+      → (g : State) → g ≡ (event_told e rest f).0 → may_judge (event_told e rest f).0 e (event_told e rest f).1 rest ≡ true → (same parts : Bool) → begins (text (event_told e rest f).1) rest ≡ same → may_part e (event_told e rest f).1 rest f ≡ parts
+      → verdict_of done es (matched true same parts rest (event_told e rest f).1 g) ≡ Some v → IsVerdict events report clusters v
+  by_same done e es trace f rest v more at of line g is may true parts same parting h =
       let a : Answer = (event_told e rest f).1 in
-      let at' : IsAt events report clusters (suc done) es (trace ++ (e, a) ∷ []) (event_told e rest f).0 (drop (length (text a)) rest) = goes_next events report clusters short done e es trace f rest at (line_not device_line (first_result rest) line) a (event_told e rest f).0 next same in
+      let other : first_result rest ≡ Some device_line → ⊥ = line_not device_line (first_result rest) line in
+      let next = next_of done e es trace f rest at of other may (inl same) in
+      let at' : IsAt events report clusters (suc done) es (trace ++ (e, a) ∷ []) (event_told e rest f).0 (drop (length (text a)) rest) = goes_next events report clusters short done e es trace f rest at other a (event_told e rest f).0 next same in
       let at'' : IsAt events report clusters (done + 1) es (trace ++ (e, a) ∷ []) g (drop (length (text a)) rest)
       = subst (λ (k : ℕ). IsAt events report clusters k es (trace ++ (e, a) ∷ []) g (drop (length (text a)) rest)) (sym (one_more done)) (subst (λ (s : State). IsAt events report clusters (suc done) es (trace ++ (e, a) ∷ []) s (drop (length (text a)) rest)) (sym is) at') in
-      let tight' : IfTight (stays_tight clusters tight e a f g) (done + 1) g
-      = λ stays. subst (λ (k : ℕ). IsTight events report clusters k g) (sym (one_more done))
-      (subst (λ (s : State). IsTight events report clusters (suc done) s) (sym is) (tight_next events report clusters short done e es trace f rest at a (event_told e rest f).0 next
-      (subst (λ (s : State). StaysTight events report clusters done f e a s) is (tight_so tight done e a f g so (is_restart e) (is_flushed e a) refl refl stays)))) in
-      more (stays_tight clusters tight e a f g) (done + 1) (trace ++ (e, a) ∷ []) g (drop (length (text a)) rest) v at'' tight' h
-  by_same tight done e es trace f rest v more at so line g is next false same h =
+      more (done + 1) (trace ++ (e, a) ∷ []) g (drop (length (text a)) rest) v at'' h
+  by_same done e es trace f rest v more at of line g is may false true same parting h = let z : None ≡ Some v = h in absurd cc
+  by_same done e es trace f rest v more at of line g is may false false same parting h =
+      let next = next_of done e es trace f rest at of (line_not device_line (first_result rest) line) may (whole_so e (event_told e rest f).1 rest f parting) in
       told_so done v (λ (k : ℕ). Unlawful k) h (wrong_is events report clusters short done e es trace f rest at line (event_told e rest f).1 (event_told e rest f).0 next same)
 
-  by_test : (tight : Bool) (done : ℕ) (e : Event) (es : List Event) (trace : List (Event × Answer)) (f : State) (rest : List ℕ) (v : Verdict) → Rest es → IsAt events report clusters done (e ∷ es) trace f rest → IfTight tight done f → is_of mode.Replay e ≡ true → is_line device_line (first_result rest) ≡ false → may_follow tight e ≡ true
+  by_test : (done : ℕ) (e : Event) (es : List Event) (trace : List (Event × Answer)) (f : State) (rest : List ℕ) (v : Verdict) → Rest es → IsAt events report clusters done (e ∷ es) trace f rest → is_of mode.Replay e ≡ true → is_line device_line (first_result rest) ≡ false
       → (g : State) → g ≡ (event_told e rest f).0 → (may : Bool) → may_judge (event_told e rest f).0 e (event_told e rest f).1 rest ≡ may
-      → verdict_of tight done e f es (matched may (begins (text (event_told e rest f).1) rest) rest (event_told e rest f).1 g) ≡ Some v → IsVerdict events report clusters v
-  by_test tight done e es trace f rest v more at so of other follows g is false may h = let z : None ≡ Some v = h in absurd cc
-  by_test tight done e es trace f rest v more at so of line follows g is true may h =
-      by_same tight done e es trace f rest v more at so line g is (next_of tight done e es trace f rest at of (line_not device_line (first_result rest) line) so follows may) (begins (text (event_told e rest f).1) rest) refl h
+      → verdict_of done es (matched may (begins (text (event_told e rest f).1) rest) (may_part e (event_told e rest f).1 rest f) rest (event_told e rest f).1 g) ≡ Some v → IsVerdict events report clusters v
+  by_test done e es trace f rest v more at of other g is false may h = let z : None ≡ Some v = h in absurd cc
+  by_test done e es trace f rest v more at of line g is true may h =
+      by_same done e es trace f rest v more at of line g is may (begins (text (event_told e rest f).1) rest) (may_part e (event_told e rest f).1 rest f) refl refl h
 
-  by_kind : (tight : Bool) (done : ℕ) (e : Event) (es : List Event) (trace : List (Event × Answer)) (f : State) (rest : List ℕ) (v : Verdict) → Rest es → IsAt events report clusters done (e ∷ es) trace f rest → IfTight tight done f
-      → (line of follows : Bool) → is_line device_line (first_result rest) ≡ line → is_of mode.Replay e ≡ of → may_follow tight e ≡ follows → verdict_of tight done e f es (step_by line of follows e rest f) ≡ Some v → IsVerdict events report clusters v
-  by_kind tight done e es trace f rest v more at so true of follows line is may h = told_so done v (λ (k : ℕ). Undecided k) h (open_is events report clusters short done e es trace f rest at line)
-  by_kind tight done e es trace f rest v more at so false false follows line is may h = told_so done v (λ (k : ℕ). Unlawful k) h (foreign_is events report clusters short done e es trace f rest at line is)
-  by_kind tight done e es trace f rest v more at so false true false line is may h = let z : None ≡ Some v = h in absurd cc
-  by_kind tight done e es trace f rest v more at so false true true line is may h =
-      by_test tight done e es trace f rest v more at so is line may _ refl (may_judge (event_told e rest f).0 e (event_told e rest f).1 rest) refl h
+  by_kind : (done : ℕ) (e : Event) (es : List Event) (trace : List (Event × Answer)) (f : State) (rest : List ℕ) (v : Verdict) → Rest es → IsAt events report clusters done (e ∷ es) trace f rest
+      → (line of : Bool) → is_line device_line (first_result rest) ≡ line → is_of mode.Replay e ≡ of → verdict_of done es (step_by line of e rest f) ≡ Some v → IsVerdict events report clusters v
+  by_kind done e es trace f rest v more at true of line is h = told_so done v (λ (k : ℕ). Undecided k) h (open_is events report clusters short done e es trace f rest at line)
+  by_kind done e es trace f rest v more at false false line is h = told_so done v (λ (k : ℕ). Unlawful k) h (foreign_is events report clusters short done e es trace f rest at line is)
+  by_kind done e es trace f rest v more at false true line is h =
+      by_test done e es trace f rest v more at is line _ refl (may_judge (event_told e rest f).0 e (event_told e rest f).1 rest) refl h
 
   right_from : (es : List Event) → Rest es
-  right_from [] tight done trace f rest v at so h =
+  right_from [] done trace f rest v at h =
       subst (λ (w : Verdict). IsVerdict events report clusters w) (some_is (at_end (is_empty rest) done) v h) (at_the_end events report clusters short done trace f rest at (is_empty rest) refl)
     where
       some_is : (x y : Verdict) → Some x ≡ Some y → x ≡ y
       some_is x y e = cc
-  right_from (e ∷ es) tight done trace f rest v at so h =
-      by_kind tight done e es trace f rest v (right_from es) at so (is_line device_line (first_result rest)) (is_of mode.Replay e) (may_follow tight e) refl refl refl h
+  right_from (e ∷ es) done trace f rest v at h =
+      by_kind done e es trace f rest v (right_from es) at (is_line device_line (first_result rest)) (is_of mode.Replay e) refl refl h
 
   -- whatever verdict the judge gives is right
   pub judge_is_right : (v : Verdict) → judge events report clusters ≡ Some v → IsVerdict events report clusters v
-  judge_is_right v h = right_from events true 0 [] (start mode.Replay empty_remote clusters) report v (at_start events report clusters short) (λ _. tight_start events report clusters) h
+  judge_is_right v h = right_from events 0 [] (start mode.Replay empty_remote clusters) report v (at_start events report clusters short) h

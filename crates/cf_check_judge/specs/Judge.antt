@@ -1,18 +1,18 @@
 -- A judge of a report: it follows one run, event by event, by what the report tells of the remote's faults.
 --
--- The run makes no commit for room. Where all that its log needed since the last sure point fits into the clusters, at each event, no other run
--- makes one, and a restart may open one point alone. A flush that answers leaves one point in each run.
-use Rattle.std.specs.Prelude.{ℕ, Bool, true, false, not, List, [], ◌∷◌, ◌+◌, ◌&&◌, ◌==◌, Option, Some, None, cond, codes, drop, length, slice_get, nat_le, ◌||◌}
+-- The run makes no commit for room. Where all that its log needed since the last sure point fits into the clusters no other run makes one, and a
+-- restart may open one point alone. Elsewhere a report whose restart resumes another count may be that of a run that made one.
+use Rattle.std.specs.Prelude.{ℕ, Bool, true, false, not, List, [], ◌∷◌, ◌+◌, ◌&&◌, ◌==◌, Option, Some, None, cond, codes, drop, length, slice_get, nat_le}
 use Rattle.cf_base.specs.declared.answers.Answer.{Answer}
 use Rattle.cf_base.specs.declared.events.EngineEvent.TheVariants as engine
 use Rattle.cf_base.specs.declared.events.Event.{Event}
 use Rattle.cf_base.specs.declared.events.Event.TheVariants as event
 use Rattle.cf_base.specs.declared.policies.Mode.TheVariants as mode
-use Rattle.cf_check_traces.specs.Tests.{begins, fault_line_of_peer, is_device, is_flushed, is_restart, meets_alone, meets_lines}
+use Rattle.cf_check_traces.specs.Tests.{begins, both_resume, fault_line_of_peer, is_device, meets_alone, meets_lines}
 use Rattle.cf_check_text.specs.Clean.{is_clean}
 use Rattle.cf_check_ways.specs.Ways.{is_fault, is_good}
 use Rattle.cf_check_judge.specs.Bytes.{same_bytes}
-use Rattle.cf_check_room.specs.Weights.{sure_count, weight_since}
+use Rattle.cf_check_room.specs.Rooms.{load_since, sure_count}
 use Rattle.cf_check_model.specs.Reports.{device_line, lines_of, result_lines}
 use Rattle.cf_check_model.specs.declared.verdicts.Verdict.{Verdict}
 use Rattle.cf_check_model.specs.declared.verdicts.Verdict.TheVariants.{Lawful, Unlawful, Undecided}
@@ -95,46 +95,46 @@ told_choices e rest = record { stop = None; forks = []; tellings = tellings_for 
 abbrev pub event_told : Event → List ℕ → State → State × Answer
 event_told e rest s = on_event (told_choices e rest) s e
 
-abbrev pub matched : (tested same : Bool) → List ℕ → Answer → State → Judged
-matched false same rest a t = Lost
-matched true true rest a t = GoesOn a t (drop (length (text a)) rest)
-matched true false rest a t = Wrong
+-- no commit for room may have been made since the last sure point
+abbrev pub is_light : State → Bool
+is_light s = nat_le (load_since (sure_count s.filter.volume.points) s.filter.volume.log) s.filter.volume.clusters
+
+-- a run with a commit for room may resume the count that the report tells
+abbrev pub may_part : Event → Answer → List ℕ → State → Bool
+may_part e a rest s = both_resume e a rest && not (is_light s)
+
+abbrev pub matched : (tested same parts : Bool) → List ℕ → Answer → State → Judged
+matched false same parts rest a t = Lost
+matched true true parts rest a t = GoesOn a t (drop (length (text a)) rest)
+matched true false true rest a t = Lost
+matched true false false rest a t = Wrong
 
 abbrev pub followed : Event → List ℕ → State → Judged
-followed e rest s = let r : State × Answer = event_told e rest s in matched (may_judge r.0 e r.1 rest) (begins (text r.1) rest) rest r.1 r.0
+followed e rest s = let r : State × Answer = event_told e rest s in matched (may_judge r.0 e r.1 rest) (begins (text r.1) rest) (may_part e r.1 rest s) rest r.1 r.0
 
--- a restart of a volume in which a commit for room may have been made is not followed
-abbrev pub may_follow : Bool → Event → Bool
-may_follow tight e = not (is_restart e) || tight
-
--- no point of a commit for room is left after the event, from this state to that one
-abbrev pub stays_tight : ℕ → Bool → Event → Answer → State → State → Bool
-stays_tight clusters tight e a s t = is_restart e || is_flushed e a || (tight && nat_le (weight_since (sure_count s.filter.volume.points) t.filter.volume.log) clusters)
-
-abbrev pub step_by : (device of follows : Bool) → Event → List ℕ → State → Judged
-step_by true of follows e rest s = Open
-step_by false false follows e rest s = Wrong
-step_by false true false e rest s = Lost
-step_by false true true e rest s = followed e rest s
+abbrev pub step_by : (device of : Bool) → Event → List ℕ → State → Judged
+step_by true of e rest s = Open
+step_by false false e rest s = Wrong
+step_by false true e rest s = followed e rest s
 
 -- an event, by how the report goes on; one of a provider has no lawful answer here
-abbrev pub judge_step : Bool → Event → List ℕ → State → Judged
-judge_step tight e rest s = step_by (is_line device_line (first_result rest)) (is_of mode.Replay e) (may_follow tight e) e rest s
+abbrev pub judge_step : Event → List ℕ → State → Judged
+judge_step e rest s = step_by (is_line device_line (first_result rest)) (is_of mode.Replay e) e rest s
 
 abbrev pub at_end : Bool → ℕ → Verdict
 at_end true done = Lawful
 at_end false done = Unlawful done
 
--- the whole: so many events are done, and no point of a commit for room is left or may be; none where the judge gives up
-abbrev pub judge_from : ℕ → Bool → ℕ → List Event → List ℕ → State → Option Verdict
-judge_from clusters tight done [] rest s = Some (at_end (is_empty rest) done)
-judge_from clusters tight done (e ∷ es) rest s =
-    elim (judge_step tight e rest s) as (λ _. Option Verdict) [
-      | GoesOn a t more ↦ judge_from clusters (stays_tight clusters tight e a s t) (done + 1) es more t
+-- the whole, from where so many events are done; none where the judge gives up
+abbrev pub judge_from : ℕ → List Event → List ℕ → State → Option Verdict
+judge_from done [] rest s = Some (at_end (is_empty rest) done)
+judge_from done (e ∷ es) rest s =
+    elim (judge_step e rest s) as (λ _. Option Verdict) [
+      | GoesOn a t more ↦ judge_from (done + 1) es more t
       | Wrong ↦ Some (Unlawful (done + 1))
       | Open ↦ Some (Undecided (done + 1))
       | Lost ↦ None
     ]
 
 abbrev pub judge : List Event → List ℕ → ℕ → Option Verdict
-judge events report clusters = judge_from clusters true 0 events report (start mode.Replay empty_remote clusters)
+judge events report clusters = judge_from 0 events report (start mode.Replay empty_remote clusters)

@@ -54,46 +54,41 @@ unflushed = event.Call (call.Create (codes "/n")) ∷ event.Device (device.Crash
 abbrev pub before_opening : List ℕ
 before_opening = line (codes "- change 1.1 make 2 1 n file 0 -") ++ line (codes "= ok 2") ++ line (codes "= ok")
 
--- a volume of one cluster, in which a write may need a commit for room
-abbrev pub written : List Event
-written =
+-- A block is written three times. With two clusters the third write may need a commit for room, so a restart may resume with the three changes
+-- before it.
+abbrev pub writes : List Event
+writes =
     event.Call (call.Create (codes "/n"))
     ∷ event.Call (call.Open (codes "/n"))
     ∷ event.Call (call.Write first_handle 0 (codes "a"))
-    ∷ event.Device (device.Crash crash.Drop)
-    ∷ event.Device device.Restart
+    ∷ event.Call (call.Write first_handle 0 (codes "b"))
+    ∷ event.Call (call.Write first_handle 0 (codes "c"))
     ∷ []
 
-abbrev pub written_report : List ℕ
-written_report =
+abbrev pub writes_report : List ℕ
+writes_report =
     line (codes "- change 1.1 make 2 1 n file 0 -")
     ++ line (codes "= ok 2")
     ++ line (codes "= ok 1.1")
     ++ line (codes "- change 1.2 write 2 0 1")
     ++ line (codes "= ok")
+    ++ line (codes "- change 1.3 write 2 0 1")
     ++ line (codes "= ok")
-    ++ line (codes "= resumed 0")
+    ++ line (codes "- change 1.4 write 2 0 1")
+    ++ line (codes "= ok")
+
+abbrev pub written : List Event
+written = writes ++ event.Device (device.Crash crash.Drop) ∷ event.Device device.Restart ∷ []
+
+abbrev pub written_report : List ℕ
+written_report = writes_report ++ line (codes "= ok")
 
 -- so written, and flushed
 abbrev pub written_and_flushed : List Event
-written_and_flushed =
-    event.Call (call.Create (codes "/n"))
-    ∷ event.Call (call.Open (codes "/n"))
-    ∷ event.Call (call.Write first_handle 0 (codes "a"))
-    ∷ event.Call call.Flush
-    ∷ event.Device (device.Crash crash.Drop)
-    ∷ event.Device device.Restart
-    ∷ []
+written_and_flushed = writes ++ event.Call call.Flush ∷ event.Device (device.Crash crash.Drop) ∷ event.Device device.Restart ∷ []
 
 abbrev pub written_and_flushed_report : List ℕ
-written_and_flushed_report =
-    line (codes "- change 1.1 make 2 1 n file 0 -")
-    ++ line (codes "= ok 2")
-    ++ line (codes "= ok 1.1")
-    ++ line (codes "- change 1.2 write 2 0 1")
-    ++ line (codes "= ok")
-    ++ line (codes "= ok 2")
-    ++ line (codes "= ok")
+written_and_flushed_report = writes_report ++ line (codes "= ok 4") ++ line (codes "= ok")
 
 -- the second request of a sync fails
 abbrev pub upload_fails : List Event

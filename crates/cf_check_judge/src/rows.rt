@@ -1,6 +1,6 @@
 //! Worked reports.
 
-ghost use Rattle.std.specs.Prelude.{◌≡◌, ◌++◌, ◌∷◌, List, [], None, Some, codes};
+ghost use Rattle.std.specs.Prelude.{◌≡◌, ◌++◌, ◌∷◌, [], None, Some, codes};
 ghost use Rattle.cf_check_judge.specs.Judge.{judge};
 ghost use Rattle.cf_check_judge.specs.Own.{fails_second, of_calls, of_device, of_engine, of_link, of_link_later, of_more_calls, of_reply_later, own_verdict};
 ghost use Rattle.cf_check_judge.specs.Rows.{bad_path, before_opening, before_restart, cut_at_fault, early_fault, failing, failing_report, flush_alone, flushed, later_fault, make_alone, restart_alone, unflushed, upload_fails, upload_report, written, written_and_flushed, written_and_flushed_report, written_report};
@@ -51,15 +51,25 @@ pub fn what_was_not_flushed_is_gone()
     ensures flushed { judge flushed (before_restart ++ line (codes "= resumed 0")) 15616 ≡ Some (Unlawful 5) }
 {}
 
-/// Where a commit for room may have been made, the judge gives up at a restart.
-pub fn the_judge_gives_up_where_room_was_short()
-    ensures { judge written written_report 1 ≡ None }
+/// Where a commit for room may have been made, the judge goes on with a restart that resumes as its own run does. It gives up where
+/// the report's resumes another count, and finds each other answer.
+pub fn a_restart_is_followed_where_room_was_short()
+    ensures own { judge written (written_report ++ line (codes "= resumed 0")) 2 ≡ Some Lawful }
+    ensures other { judge written (written_report ++ line (codes "= resumed 3")) 2 ≡ None }
+    ensures refused { judge written (written_report ++ line (codes "= refused NotAVolume")) 2 ≡ Some (Unlawful 7) }
+    ensures no_number { judge written (written_report ++ line (codes "= resumed 3 ")) 2 ≡ Some (Unlawful 7) }
+{}
+
+/// Where all that the log needed fits into the clusters no other count may be resumed.
+pub fn a_restart_has_one_count_where_all_fits()
+    ensures own { judge written (written_report ++ line (codes "= resumed 0")) 3 ≡ Some Lawful }
+    ensures other { judge written (written_report ++ line (codes "= resumed 3")) 3 ≡ Some (Unlawful 7) }
 {}
 
 /// A flush that answers leaves one point, so a restart after it is followed.
 pub fn a_flush_ends_what_was_short()
-    ensures kept { judge written_and_flushed (written_and_flushed_report ++ line (codes "= resumed 2")) 1 ≡ Some Lawful }
-    ensures fewer { judge written_and_flushed (written_and_flushed_report ++ line (codes "= resumed 0")) 1 ≡ Some (Unlawful 6) }
+    ensures kept { judge written_and_flushed (written_and_flushed_report ++ line (codes "= resumed 4")) 2 ≡ Some Lawful }
+    ensures fewer { judge written_and_flushed (written_and_flushed_report ++ line (codes "= resumed 3")) 2 ≡ Some (Unlawful 8) }
 {}
 
 /// A request in the middle of an event fails.

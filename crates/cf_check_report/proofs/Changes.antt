@@ -9,7 +9,7 @@ use Rattle.cf_base.specs.declared.answers.Shown.TheVariants as shown
 use Rattle.cf_base.specs.declared.events.DeviceEvent.TheVariants as device
 use Rattle.cf_base.specs.declared.events.Event.{Event}
 use Rattle.cf_base.specs.declared.events.Event.TheVariants as event
-use Rattle.cf_check_report.specs.Points.{IsKept, IsStanding, Known, Tells}
+use Rattle.cf_check_report.specs.Points.{IsKept, IsStanding, Tells}
 use Rattle.cf_check_report.specs.declared.weighing.Points.{Points}
 use Rattle.cf_check_traces.specs.Tests.{is_restart, is_resumed, makes_point}
 use Rattle.cf_check_weights.specs.Weighed.{IsTallied, IsWeighed, is_light}
@@ -61,16 +61,16 @@ stands_on r n e a log is h = let x : IsTallied r n (after_answer log e a) = subs
 -- a point
 
 pub tells_point : (clusters : ℕ) (e : Event) (a : Answer) (used : ℕ) (old new : Points) (mid : Room) → makes_point e a ≡ true → ((n : ℕ) (log : List (Usn × Change)) → IsTallied old.room n log → IsStanding mid n e a (after_answer log e a))
-    → ((log : List (Usn × Change)) → IsWeighed mid.weights log → used ≡ blocks_used (items_of log) → IsTallied new.room (length log) log) → new.tight ≡ true → Tells clusters e a used old new
-tells_point clusters e a used old new mid is stands point tight k same h told = (
-  tight ∙ ap (λ (b : Bool). b || (k.tight && is_light clusters k.point (after_answer k.log e a))) (sym is),
+    → ((log : List (Usn × Change)) → IsWeighed mid.weights log → used ≡ blocks_used (items_of log) → IsTallied new.room (length log) log) → new.light ≡ true → Tells clusters e a used old new
+tells_point clusters e a used old new mid is stands point light k same h told = (
+  light ∙ ap (λ (b : Bool). b || (k.light && is_light clusters k.point (after_answer k.log e a))) (sym is),
   subst (λ (b : Bool). IsTallied new.room (cond b (length (after_answer k.log e a)) k.point) (after_answer k.log e a)) (sym is) (point (after_answer k.log e a) (stands k.point k.log h).0 (told is)),
 )
 
 pub tells_on : (clusters : ℕ) (e : Event) (a : Answer) (used : ℕ) (old new : Points) → makes_point e a ≡ false → ((n : ℕ) (log : List (Usn × Change)) → IsTallied old.room n log → IsStanding new.room n e a (after_answer log e a))
-    → (fits : Bool) → ((n : ℕ) (log : List (Usn × Change)) → IsTallied new.room n log → fits ≡ is_light clusters n log) → new.tight ≡ (old.tight && fits) → Tells clusters e a used old new
-tells_on clusters e a used old new is stands fits light tight k same h told =
+    → (fits : Bool) → ((n : ℕ) (log : List (Usn × Change)) → IsTallied new.room n log → fits ≡ is_light clusters n log) → new.light ≡ (old.light && fits) → Tells clusters e a used old new
+tells_on clusters e a used old new is stands fits is_it light k same h told =
     let x : IsTallied new.room k.point (after_answer k.log e a) = (stands k.point k.log h).1 is in (
-      tight ∙ ap (λ (b : Bool). b && fits) same ∙ ap (λ (b : Bool). k.tight && b) (light k.point (after_answer k.log e a) x) ∙ ap (λ (b : Bool). b || (k.tight && is_light clusters k.point (after_answer k.log e a))) (sym is),
+      light ∙ ap (λ (b : Bool). b && fits) same ∙ ap (λ (b : Bool). k.light && b) (is_it k.point (after_answer k.log e a) x) ∙ ap (λ (b : Bool). b || (k.light && is_light clusters k.point (after_answer k.log e a))) (sym is),
       subst (λ (b : Bool). IsTallied new.room (cond b (length (after_answer k.log e a)) k.point) (after_answer k.log e a)) (sym is) x,
     )

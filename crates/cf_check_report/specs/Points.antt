@@ -18,7 +18,7 @@ use Rattle.cf_model_headline.specs.Reports.{after_answer}
 pub record Known : Type 0 where
   pub log : List (Usn × Change)
   pub point : ℕ
-  pub tight : Bool
+  pub light : Bool
 
 abbrev pub next_known : ℕ → Known → Event × Answer → Known
 next_known clusters k p =
@@ -26,7 +26,7 @@ next_known clusters k p =
     record {
       log = log;
       point = cond (makes_point p.0 p.1) (length log) k.point;
-      tight = makes_point p.0 p.1 || (k.tight && is_light clusters k.point log);
+      light = makes_point p.0 p.1 || (k.light && is_light clusters k.point log);
     }
 
 abbrev pub known_from : ℕ → Known → List (Event × Answer) → Known
@@ -35,7 +35,7 @@ known_from clusters k (p ∷ ps) = known_from clusters (next_known clusters k p)
 
 -- a volume that was just made has one point
 abbrev pub known : ℕ → List (Event × Answer) → Known
-known clusters report = known_from clusters (record { log = []; point = 0; tight = true }) report
+known clusters report = known_from clusters (record { log = []; point = 0; light = true }) report
 
 -- of a log that a restart kept, whose point is to be told where it kept some
 abbrev pub IsKept : Room → ℕ → Shown → List (Usn × Change) → Type 0
@@ -48,5 +48,5 @@ IsStanding r n e a log = IsWeighed r.weights log × (makes_point e a ≡ false �
 -- what is known before an answer and after it, at whose point so many blocks are used
 abbrev pub Tells : ℕ → Event → Answer → ℕ → Points → Points → Type 0
 Tells clusters e a used old new =
-    (k : Known) → old.tight ≡ k.tight → IsTallied old.room k.point k.log → (makes_point e a ≡ true → used ≡ blocks_used (items_of (after_answer k.log e a)))
-    → (new.tight ≡ (next_known clusters k (e, a)).tight) × IsTallied new.room (next_known clusters k (e, a)).point (after_answer k.log e a)
+    (k : Known) → old.light ≡ k.light → IsTallied old.room k.point k.log → (makes_point e a ≡ true → used ≡ blocks_used (items_of (after_answer k.log e a)))
+    → (new.light ≡ (next_known clusters k (e, a)).light) × IsTallied new.room (next_known clusters k (e, a)).point (after_answer k.log e a)

@@ -8,16 +8,19 @@ use Rattle.cf_check_judge.specs.Judge.{first_result, is_line}
 use Rattle.cf_check_judge.specs.Settled.{IsAt}
 use Rattle.cf_check_model.specs.Reports.{device_line}
 use Rattle.cf_check_report.specs.Points.{known}
-use Rattle.cf_check_traces.specs.Tests.{is_restart}
+use Rattle.cf_check_traces.specs.Tests.{begins, both_resume}
 use Rattle.cf_model.specs.Events.{is_of}
 use Rattle.cf_model.specs.Lawful.{IsStep}
 use Rattle.cf_model.specs.State.{State}
 use Rattle.cf_report.specs.Texts.{text}
 
--- a restart of a volume that may have made a commit for room since the last point that the answers tell: the blocks that its items used there,
--- and twice those into which the changes since may have put bytes, passed the clusters
-abbrev pub IsHeavyRestart : ℕ → Event → List (Event × Answer) → Type 0
-IsHeavyRestart clusters e trace = (is_restart e ≡ true) × ((known clusters trace).tight ≡ false)
+-- The event is a restart that resumes in a lawful answer, and the report goes on with one that resumed, but not with that answer: so with another
+-- count. And a commit for room may have been made since the last point that the answers tell: the blocks that the items used there, and those into
+-- which the changes since may have put bytes, passed the clusters.
+abbrev pub HasOtherCount : ℕ → Event → List (Event × Answer) → State → List ℕ → Type 0
+HasOtherCount clusters e trace s rest =
+    ((known clusters trace).light ≡ false)
+    × ((a : Answer) × (t : State) × IsStep mode.Replay s e a t × (t.link.honest ≡ true) × (both_resume e a rest ≡ true) × (begins (text a) rest ≡ false))
 
 -- The event has a lawful answer of 2^31 bytes or more. The remote does in it what the report tells: it passes the tests that each answer
 -- passes which is given so. So it is not that of a device that failed.
@@ -25,7 +28,7 @@ abbrev pub HasLongAnswer : Event → State → List ℕ → Type 0
 HasLongAnswer e s rest = (a : Answer) × (t : State) × IsStep mode.Replay s e a t × (t.link.honest ≡ true) × (is_passed e a rest ≡ true) × (2 ^ 31 ≤ length (text a))
 
 -- Some of the events have lawful answers with the texts of the report, and it does not go on with the answer of a device that failed. The
--- next event is one of `replay`. It is a restart that cannot be followed, or its answer is too long.
+-- next event is one of `replay`. It is a restart that may resume as the report does or with another count, or its answer is too long.
 pub record IsStray (events : List Event) (report : List ℕ) (clusters : ℕ) : Type 0 where
   pub done : ℕ
   pub next : Event
@@ -36,4 +39,4 @@ pub record IsStray (events : List Event) (report : List ℕ) (clusters : ℕ) : 
   pub at : IsAt events report clusters done (next ∷ more) trace state rest
   pub allowed : is_of mode.Replay next ≡ true
   pub runs : is_line device_line (first_result rest) ≡ false
-  pub strays : IsHeavyRestart clusters next trace ⊎ HasLongAnswer next state rest
+  pub strays : HasOtherCount clusters next trace state rest ⊎ HasLongAnswer next state rest

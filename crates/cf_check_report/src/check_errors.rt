@@ -9,11 +9,11 @@ use std::alloc::AllocError;
 /// Why a report is not judged.
 #[derive(Clone, Copy, Debug, PartialEq, Eq, thiserror::Error)]
 pub enum CheckError {
-    /// The report's way was lost, after events that have lawful answers with its texts. So it is at a restart of a volume that may have made a
-    /// commit for room since its last point, as nobody can tell then which points the restart may have opened: where the blocks that its items
-    /// used at its last flush or opening, and twice those into which its changes since may have put bytes, passed the clusters, a write being
-    /// counted from the start of its file. So it is also where a lawful answer has more than
-    /// 2,147,483,647 bytes.
+    /// The report's way was lost, after events that have lawful answers with its texts. So it is at a restart that resumed with another count
+    /// of changes than the device beside it, where a commit for room may have been made since the last flush that answered or restart that
+    /// resumed: a device that made another one than this may resume so. None was made where the blocks that the items used then, with those
+    /// into which the changes since may have put bytes, do not pass the clusters. A write and a growth are counted from the start of the file, a
+    /// fill by its span, a copy by all that is used. So it is also where a lawful answer has more than 2,147,483,647 bytes.
     #[error("not followed")]
     NotFollowed,
     #[error("out of memory")]

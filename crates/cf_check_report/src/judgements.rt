@@ -3,9 +3,10 @@
 ghost use Rattle.std.specs.Prelude.{◌≡◌, ◌<◌, ◌∷◌, ◌^◌, List, ℕ, false, length, true};
 ghost use Rattle.cf_base.specs.declared.events.Event.{Event as Done};
 ghost use Rattle.cf_base.specs.declared.policies.Mode.TheVariants as mode;
+ghost use Rattle.cf_check_compare.specs.declared.comparisons.Comparison.TheVariants.{Differs};
 ghost use Rattle.cf_check_judge.specs.Judge.{first_result, is_line};
 ghost use Rattle.cf_check_model.specs.Reports.{device_line};
-ghost use Rattle.cf_check_report.specs.Following.{Follows, IsTaken, IsUsed, JudgedTo, MayNotOpen, MayOpen, judged_by};
+ghost use Rattle.cf_check_report.specs.Following.{Follows, IsTaken, IsUsed, JudgedTo, judged_by};
 ghost use Rattle.cf_check_report.specs.Playing.{Plays};
 ghost use Rattle.cf_model.specs.Events.{is_of};
 
@@ -13,7 +14,7 @@ use crate::check_errors::CheckError;
 use crate::devices::Device;
 use crate::weighing::{Points, makes_point, weigh};
 use cf_base::{Answer, Blob, Event, OutOfMemory, no_such_state};
-use cf_check_compare::{Comparison, compare, fails_next, is_foreign, is_restart, tellings};
+use cf_check_compare::{Comparison, both_resume, compare, fails_next, is_foreign, tellings};
 use cf_report::text;
 use std::alloc::Global;
 
@@ -38,13 +39,25 @@ pub(crate) struct Judge<D> {
     pub(crate) expected: Blob,
 }
 
-// What is said by a comparison. No state has an answer that is lost, since the device is told which requests failed by the report.
-fn judgement_of(compared: Comparison) -> Result<Judged, CheckError>
-    ensures { result ≡ judged_by compared }
+// What is said where the report does not go on with the answer.
+fn difference(parts: bool) -> Result<Judged, CheckError>
+    ensures { result ≡ judged_by parts Differs }
+{
+    if parts {
+        Err(CheckError::NotFollowed)
+    } else {
+        Ok(Judged::Wrong)
+    }
+}
+
+// What is said by a comparison, where another run may resume the count that the report tells, or may not. No state has an answer that is
+// lost, since the device is told which requests failed by the report.
+fn judgement_of(compared: Comparison, parts: bool) -> Result<Judged, CheckError>
+    ensures { result ≡ judged_by parts compared }
 {
     match compared {
         Comparison::GoesOn(len) => Ok(Judged::GoesOn(len)),
-        Comparison::Differs => Ok(Judged::Wrong),
+        Comparison::Differs => difference(parts),
         Comparison::TooLong => Err(CheckError::NotFollowed),
         Comparison::Lost => Err(CheckError::from(no_such_state())),
     }
@@ -63,12 +76,13 @@ fn take(
 ) -> Result<Judged, CheckError>
     ensures { IsTaken clusters event.now answer.now used rest.now points.old points.new result }
 {
+    let parts = !points.light && both_resume(event, answer, rest);
     weigh(points, clusters, event, answer, used)?;
     let compared = compare(alloc, event, answer, rest)?;
     if let Comparison::Differs = compared {
         *expected = text(alloc, answer)?;
     }
-    judgement_of(compared)
+    judgement_of(compared, parts)
 }
 
 impl<D: Device> Judge<D> {
@@ -124,7 +138,7 @@ impl<D: Device> Judge<D> {
     ) -> (Judge<D>, Result<Judged, CheckError>)
         requires of { is_of mode.Replay event.now ≡ true }
         requires runs { is_line device_line (first_result rest.now) ≡ false }
-        ensures { (events es : List Done) (report : List ℕ) (clusters done : ℕ) → length report < 2 ^ 31 → MayOpen event.now self
+        ensures { (events es : List Done) (report : List ℕ) (clusters done : ℕ) → length report < 2 ^ 31
             → Follows D.stands events report clusters done (event.now ∷ es) rest.now self → JudgedTo D.stands events report clusters done es rest.now result.1 result.0 }
     {
         let (mut left, told) = self.play(alloc, event, rest);
@@ -148,14 +162,6 @@ impl<D: Device> Judge<D> {
         }
     }
 
-    // Whether the event is no restart, or one that can be followed.
-    fn may_open(&self, event: &Event) -> bool
-        ensures opens { result ≡ true → MayOpen event.now self.now }
-        ensures strays { result ≡ false → MayNotOpen event.now self.now }
-    {
-        !is_restart(event) || self.points.tight
-    }
-
     /// Judges how the report goes on at an event.
     pub(crate) fn judge(
         self,
@@ -171,9 +177,6 @@ impl<D: Device> Judge<D> {
         }
         if is_foreign(event) {
             return (self, Ok(Judged::Wrong));
-        }
-        if !self.may_open(event) {
-            return (self, Err(CheckError::NotFollowed));
         }
         self.follow(alloc, event, rest)
     }

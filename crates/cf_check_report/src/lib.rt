@@ -1,8 +1,9 @@
 //! A report is judged beside a device that does the events of its script again: each of its answers is held against how the report goes on.
 //!
 //! `judge` promises that the verdict is right whatever lawful answers a device may have given, and not only those of this one. It needs of
-//! the device that its answers are lawful over a remote that kept its rules. It gives no verdict where it lost the report's way, which
-//! `CheckError::NotFollowed` explains.
+//! the device that its answers are lawful over a remote that kept its rules. A count of changes names one point that a restart may open in all
+//! runs with the answers of the report. So the report is followed over each restart that resumes as this device does, whatever commits for room
+//! were made. It gives no verdict where it lost the report's way, which `CheckError::NotFollowed` explains.
 #![tactic(auto)]
 
 mod check_errors;

@@ -81,7 +81,7 @@ pub fn judge<D: Device + Drop>(
         device,
         points: Points {
             room: Room::new(alloc),
-            tight: true,
+            light: true,
         },
         clusters,
         expected: Blob::from_vec(Vec::new(alloc)),

@@ -4,12 +4,12 @@ ghost use Rattle.std.specs.Prelude.{◌≡◌, ◌++◌, ℕ, List, OnOk};
 ghost use Rattle.cf_base.specs.declared.changes.Change.{Change as Logged};
 ghost use Rattle.cf_base.specs.declared.ids.Usn.{Usn};
 ghost use Rattle.cf_check_report.specs.Points.{IsKept, IsStanding, Tells};
-ghost use Rattle.cf_check_traces.specs.Tests.{is_count, is_flush, is_resumed, makes_point};
+ghost use Rattle.cf_check_traces.specs.Tests.{is_count, is_flush, makes_point};
 ghost use Rattle.cf_check_weights.specs.Weighed.{IsTallied};
 ghost use Rattle.cf_model_headline.specs.Reports.{after_answer, change_in, changes_in, resumed_with};
 
 use cf_base::{Answer, Call, Event, Notice, OutOfMemory, Shown};
-use cf_check_compare::is_restart;
+use cf_check_compare::{is_restart, is_resumed};
 use cf_check_weights::Room;
 
 /// What is known of the points that a restart may open.
@@ -17,8 +17,8 @@ use cf_check_weights::Room;
 pub(crate) struct Points {
     /// What the changes since the last known point may have needed.
     pub(crate) room: Room,
-    /// Whether no point of a commit for room is left.
-    pub(crate) tight: bool,
+    /// Whether no commit for room may have been made since then.
+    pub(crate) light: bool,
 }
 
 // Adds the change that a line tells, if it tells one.
@@ -48,15 +48,6 @@ fn resume(room: &mut Room, shown: &Shown)
 {
     if let Shown::Resumed { count, .. } = shown {
         room.keep(*count);
-    }
-}
-
-fn is_resumed(shown: &Shown) -> bool
-    ensures { result ≡ is_resumed shown.now }
-{
-    match shown {
-        Shown::Resumed { .. } => true,
-        _ => false,
     }
 }
 
@@ -110,9 +101,9 @@ pub(crate) fn weigh(
     stand(&mut points.room, event, answer)?;
     if makes_point(event, answer) {
         points.room.point(used);
-        points.tight = true;
+        points.light = true;
     } else {
-        points.tight = points.tight && points.room.fits(clusters);
+        points.light = points.light && points.room.fits(clusters);
     }
     Ok(())
 }

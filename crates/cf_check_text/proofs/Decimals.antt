@@ -4,10 +4,10 @@ use Rattle.std.proofs.lemmas.Bool.{eqb-true}
 use Rattle.cf_report.specs.Words.{decimal, digits}
 use Rattle.cf_check_text.specs.Clean.{has_no_ten, is_not_ten}
 
-last_digit : (k n : ℕ) (after : List ℕ) → n / 10 ≡ 0 → digits (suc k) n after ≡ (48 + n % 10) ∷ after
+pub last_digit : (k n : ℕ) (after : List ℕ) → n / 10 ≡ 0 → digits (suc k) n after ≡ (48 + n % 10) ∷ after
 last_digit k n after none = rw (none, digits) refl
 
-more_digits : (k n front : ℕ) (after : List ℕ) → n / 10 ≡ suc front → digits (suc k) n after ≡ digits k (suc front) ((48 + n % 10) ∷ after)
+pub more_digits : (k n front : ℕ) (after : List ℕ) → n / 10 ≡ suc front → digits (suc k) n after ≡ digits k (suc front) ((48 + n % 10) ∷ after)
 more_digits k n front after some = rw (some, digits) refl
 
 -- the number that digits add to one

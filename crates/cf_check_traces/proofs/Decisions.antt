@@ -35,7 +35,7 @@ failed_no_meet a b f m =
     (subst (λ (ns : List Notice). Meet (flat_map notice_line ns ++ result_line a.shown) (flat_map notice_line (f.before ++ notice.Message (record { message = f.number; frame = frame.Reply f.message f.reply; lost = f.lost }) ∷ f.others) ++ result_line b.shown)) f.first_is
     (subst (λ (ns : List Notice). Meet (text a) (flat_map notice_line ns ++ result_line b.shown)) f.second_is m))
 
-parted_texts : (a b : Answer) → Parted a.notes b.notes → Meet (text a) (text b) → ⊥
+pub parted_texts : (a b : Answer) → Parted a.notes b.notes → Meet (text a) (text b) → ⊥
 parted_texts a b (inl f) m = failed_no_meet a b f m
 parted_texts a b (inr f) m = failed_no_meet b a f (turned (text a) (text b) m)
 
@@ -65,7 +65,7 @@ one_failed_texts a b same one m = by one.2 (results_meet a b same m)
     by (inl x) k = one_fault a.shown b.shown x.0 one.1 x.1 k
     by (inr x) k = one_fault b.shown a.shown x.0 one.0 x.1 (turned (result_line a.shown) (result_line b.shown) k)
 
-resumed_texts : (s o : State) (a b : Answer) (t u : State) → a ≡ answer_in a.shown t → b ≡ answer_in b.shown u → (r : BothResumed (begun s) (begun o) a.shown b.shown t u) → Meet (text a) (text b) → r.point.count ≡ r.other.count
+pub resumed_texts : (s o : State) (a b : Answer) (t u : State) → a ≡ answer_in a.shown t → b ≡ answer_in b.shown u → (r : BothResumed (begun s) (begun o) a.shown b.shown t u) → Meet (text a) (text b) → r.point.count ≡ r.other.count
 resumed_texts s o a b t u told told_too r m =
     let none : a.notes ≡ [] = ap (λ (x : Answer). x.notes) told ∙ ap (λ (x : State). x.filter.notes) r.left in
     let none_too : b.notes ≡ [] = ap (λ (x : Answer). x.notes) told_too ∙ ap (λ (x : State). x.filter.notes) r.left_too in

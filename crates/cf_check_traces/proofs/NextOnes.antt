@@ -6,39 +6,38 @@ use Rattle.std.proofs.lemmas.List.{length-map, map-append}
 use Rattle.std.proofs.lemmas.List.Folds.{list_all-append}
 use Rattle.cf_base.specs.declared.answers.Answer.{Answer}
 use Rattle.cf_base.specs.declared.answers.Shown.{Shown}
-use Rattle.cf_base.specs.declared.answers.Shown.TheVariants as shown
-use Rattle.cf_base.specs.declared.calls.Call.TheVariants as call
-use Rattle.cf_base.specs.declared.events.DeviceEvent.TheVariants as device
 use Rattle.cf_base.specs.declared.events.Event.{Event}
-use Rattle.cf_base.specs.declared.events.Event.TheVariants as event
 use Rattle.cf_base.specs.declared.notices.Notice.{Notice}
+use Rattle.cf_base.specs.declared.events.DeviceEvent.TheVariants as device
+use Rattle.cf_base.specs.declared.events.Event.TheVariants as event
 use Rattle.cf_base.specs.declared.policies.Mode.TheVariants as mode
 use Rattle.cf_model.specs.Lawful.{IsStep, Runs}
 use Rattle.cf_model.specs.Numbers.{most}
-use Rattle.cf_model.specs.Points.{point_now}
-use Rattle.cf_model.specs.State.{Point, State, start}
+use Rattle.cf_model.specs.State.{State, start}
 use Rattle.cf_model.specs.Store.{empty_remote}
+use Rattle.cf_model.specs.Books.{opened_of}
+use Rattle.cf_model.specs.Events.{begun}
 use Rattle.cf_report.specs.Texts.{result_line, text, texts}
 use Rattle.cf_check_model.specs.Judging.{Accepted, answer_of, event_of}
-use Rattle.cf_check_model.specs.Reports.{Begins, device_line, result_lines}
+use Rattle.cf_check_model.specs.Reports.{Begins, result_lines}
 use Rattle.cf_check_model.proofs.Fronts.{texts_join}
 use Rattle.cf_check_text.specs.Clean.{clean_notice, clean_shown, is_clean}
 use Rattle.cf_check_text.proofs.CleanWords.{left_of}
 use Rattle.cf_check_text.proofs.Lines.{notices_fit, result_of}
-use Rattle.cf_check_room.specs.Weights.{sure_count, weight_since}
-use Rattle.cf_check_room.proofs.Light.{weighed}
-use Rattle.cf_check_ways.specs.Ways.{AllSure, BecomesSure, core_of, sures, Alike, AnswersAlike, IsFront, OneFailed, Parted, is_good, of_state}
-use Rattle.cf_check_ways.proofs.StepsSure.{any_step_count, cut_off_shows, restart_told, restarts_alike, step_rooms, flush_points, steps_alike, steps_keep}
-use Rattle.cf_check_traces.specs.Decided.{IsSteady, IsStopped, MeetsFaults, MeetsResult, NoneStopped}
-use Rattle.cf_check_traces.specs.Followed.{IsFollowed, IsNext, IsTight, StaysTight}
-use Rattle.cf_check_traces.specs.Tests.{is_count, is_device, is_flush, is_flushed, is_restart}
+use Rattle.cf_check_ways.specs.Ways.{IsLaden, SamePoints, core_of, Alike, AnswersAlike, IsFront, OneFailed, Parted, is_good, of_state, BothResumed, FirstFits}
+use Rattle.cf_check_ways.proofs.PointSteps.{restart_told, restarts_same, steps_keep}
+use Rattle.cf_check_ways.proofs.StepsSure.{any_step_count, cut_off_shows, steps_alike}
+use Rattle.cf_check_traces.specs.Decided.{IsSteady, IsStopped, NoneStopped}
+use Rattle.cf_check_traces.specs.Followed.{IsFollowed, IsNext}
+use Rattle.cf_check_traces.specs.Tests.{is_device, is_restart}
 use Rattle.cf_check_traces.proofs.Accepting.{LastOf, few_messages, last_of, numbered}
 use Rattle.cf_check_traces.proofs.NextSteps.{goes_on, no_part}
-use Rattle.cf_check_traces.proofs.SameRuns.{Front, front_of, last_event, steady}
+use Rattle.cf_check_traces.proofs.SameRuns.{Front, front_of, last_event, steady, restart_is, restart_not}
 use Rattle.cf_check_traces.proofs.Testing.{not_stopped, stopped_so}
+use Rattle.cf_check_traces.proofs.RunPoints.{first_fits, laden_run}
 
 -- with these messages there are numbers left
-good_last : (limit : ℕ) (report : List ℕ) (clusters : ℕ) (front : List (Event × Answer)) (e : Event) (b : Answer) (mid u : State) → Runs mode.Replay (start mode.Replay empty_remote clusters) front mid → NoneStopped front → IsStep mode.Replay mid e b u
+pub good_last : (limit : ℕ) (report : List ℕ) (clusters : ℕ) (front : List (Event × Answer)) (e : Event) (b : Answer) (mid u : State) → Runs mode.Replay (start mode.Replay empty_remote clusters) front mid → NoneStopped front → IsStep mode.Replay mid e b u
     → (e ≡ event.Device device.Restart → ⊥) → u.link.honest ≡ true → Begins report (texts (map answer_of (front ++ (e, b) ∷ []))) → length report < limit → (u.link.honest && nat_lt (length u.link.messages) limit) ≡ true
 good_last limit report clusters front e b mid u runs none step other kept begun short =
     let few : length mid.link.messages ≤ 0 + length (texts (map answer_of front)) = few_messages (start mode.Replay empty_remote clusters) front mid runs none in
@@ -50,15 +49,6 @@ good_last limit report clusters front e b mid u runs none step other kept begun 
     let lt : length u.link.messages < limit = omega (arith, few, one, bytes, whole, parts, last, short) in
     numbered u.link.honest (length u.link.messages) limit kept lt
 
--- restarts
-
-restart_is : (e : Event) → is_restart e ≡ true → e ≡ event.Device device.Restart
-restart_is (event.Device device.Restart) h = refl
-restart_is _ h = let z : false ≡ true = h in absurd cc
-
-restart_not : (e : Event) → is_restart e ≡ false → e ≡ event.Device device.Restart → ⊥
-restart_not e is h = let z : true ≡ false = sym (ap is_restart h) ∙ is in absurd cc
-
 front_clean : (xs ys : List Notice) → IsFront xs ys → list_all clean_notice ys ≡ true → list_all clean_notice xs ≡ true
 front_clean xs ys f h = left_of (list_all clean_notice xs) (list_all clean_notice f.0) (sym (list_all-append clean_notice xs f.0) ∙ ap (λ (ns : List Notice). list_all clean_notice ns) (sym f.1) ∙ h)
 
@@ -68,38 +58,6 @@ turned_one a b one = (one.1, one.0, elim one.2 as (λ _. _) [ inl x ↦ inr x | 
 turned_part : (xs ys : List Notice) → Parted xs ys → Parted ys xs
 turned_part xs ys (inl f) = inr f
 turned_part xs ys (inr f) = inl f
-
--- points
-
--- the last sure point is the last of the sure ones
-count_of_sures : (ps : List Point) → sure_count ps ≡ sure_count (filter (λ p. p.sure) ps)
-count_of_sures [] = refl
-count_of_sures (p ∷ ps) = by p.sure refl (count_of_sures ps)
-  where
-    by : (b : Bool) → p.sure ≡ b → sure_count ps ≡ sure_count (filter (λ x. x.sure) ps) → sure_count (p ∷ ps) ≡ sure_count (filter (λ x. x.sure) (p ∷ ps))
-    by true e same = rw e refl
-    by false e same = rw e same
-
-one_count : (ps qs : List Point) → filter (λ p. p.sure) ps ≡ filter (λ p. p.sure) qs → sure_count ps ≡ sure_count qs
-one_count ps qs e = count_of_sures ps ∙ ap sure_count e ∙ sym (count_of_sures qs)
-
-counted : (x : Shown) → is_count x ≡ true → (n : ℕ) × (x ≡ shown.Count n)
-counted (shown.Count n) h = (n, refl)
-counted _ h = let z : false ≡ true = h in absurd cc
-
-flush_is : (e : Event) → is_flush e ≡ true → e ≡ event.Call call.Flush
-flush_is (event.Call call.Flush) h = refl
-flush_is _ h = let z : false ≡ true = h in absurd cc
-
-both : (a b : Bool) → (a && b) ≡ true → (a ≡ true) × (b ≡ true)
-both true b e = (refl, e)
-both false b e = let z : false ≡ true = e in absurd cc
-
-flushed_one : (s : State) (e : Event) (a : Answer) (t : State) → IsStep mode.Replay s e a t → is_flushed e a ≡ true → t.filter.volume.points ≡ point_now true t.filter.volume ∷ []
-flushed_one s e a t step h =
-    let x = both (is_flush e) (is_count a.shown) h in
-    let n = counted a.shown x.1 in
-    flush_points mode.Replay s a t n.0 (subst (λ (z : Event). IsStep mode.Replay s z a t) (flush_is e x.0) step) n.1
 
 module _ (events : List Event) (report : List ℕ) (clusters : ℕ) (short : length report < most) where
   -- an answer of another run, which no device cut off
@@ -136,65 +94,39 @@ module _ (events : List Event) (report : List ℕ) (clusters : ℕ) (short : len
   last_same n s o e a b t u rest alike steady steady_too next other step well begun true is = absurd (cut_is_told n s o e a b t u rest (sym alike) steady steady_too next other step well (stopped_so b is) begun)
   last_same n s o e a b t u rest alike steady steady_too next other step well begun false is = ended_same n s o e a b t u rest alike steady steady_too next other step well (not_stopped b is) begun
 
-  -- the points after the next event
-
-  still_tight : (trace : List (Event × Answer)) (s t : State) → Runs mode.Replay (start mode.Replay empty_remote clusters) trace s → BecomesSure (core_of s.filter.volume) (core_of t.filter.volume) → weight_since (sure_count s.filter.volume.points) t.filter.volume.log ≤ clusters
-      → AllSure (core_of s.filter.volume) → AllSure (core_of t.filter.volume)
-  still_tight trace s t runs b light all =
-      let w = weighed mode.Replay empty_remote clusters trace s runs in
-      let holds : s.filter.volume.clusters ≡ clusters = w.holds in
-      b.sure (sure_count s.filter.volume.points) (record { items = w.items; there = w.there; then_ = w.then_; since = w.since }) (omega (arith, light, holds)) all
+  -- one step of a run that is followed
 
   -- of an event that is no restart
-  tight_next : (n : ℕ) (trace front : List (Event × Answer)) (s o : State) (rest : List ℕ) → IsFollowed events report clusters n trace s rest → Accepted events report clusters n front o → (e : Event) (a b : Answer) (t u : State) → IsNext events report clusters n s e a t rest
-      → (e ≡ event.Device device.Restart → ⊥) → IsStep mode.Replay o e b u → is_good u ≡ true → b ≡ a → Alike of_state s o → Alike of_state t u → Begins rest (text b) → IsTight events report clusters n s → weight_since (sure_count s.filter.volume.points) t.filter.volume.log ≤ clusters
-      → (sures (core_of t.filter.volume) ≡ sures (core_of u.filter.volume)) × AllSure (core_of u.filter.volume)
-  tight_next n trace front s o rest f acc e a b t u next other step well same_answer alike after begun before light =
-      let runs : IsStopped b → ⊥ = λ h. next.runs (subst IsStopped same_answer h) in
-      let rooms_too = step_rooms mode.Replay o e b u step runs other in
-      let there = before.others front o acc in
-      let weights : weight_since (sure_count s.filter.volume.points) t.filter.volume.log ≡ weight_since (sure_count o.filter.volume.points) u.filter.volume.log
-      = ap (λ (k : ℕ). weight_since k t.filter.volume.log) (one_count s.filter.volume.points o.filter.volume.points there.0) ∙ ap (λ (z : State). weight_since (sure_count o.filter.volume.points) z.filter.volume.log) after in (
-        by (steps_keep mode.Replay s o e a b t u other alike there.0 next.step step next.good well next.runs runs),
-        still_tight front o u acc.lawful rooms_too (omega (arith, light, weights)) there.1,
-      )
+  next_other : (n : ℕ) (s o : State) (e : Event) (a b : Answer) (t u : State) (rest : List ℕ) → Alike of_state s o → IsSteady s → IsSteady o → IsLaden (core_of s.filter.volume) → IsLaden (core_of o.filter.volume) → SamePoints (core_of s.filter.volume) (core_of o.filter.volume)
+      → IsNext events report clusters n s e a t rest → (e ≡ event.Device device.Restart → ⊥) → IsStep mode.Replay o e b u → is_good u ≡ true → Begins rest (text b) → (b ≡ a) × Alike of_state t u × SamePoints (core_of t.filter.volume) (core_of u.filter.volume)
+  next_other n s o e a b t u rest alike now now_too laden laden_too same next other step well begun =
+      let x = last_same n s o e a b t u rest alike now now_too next other step well begun (is_device b.shown) refl in
+      (x.0, x.1, by (steps_keep mode.Replay s o e a b t u other alike laden laden_too same next.step step next.good well next.runs (λ h. next.runs (subst IsStopped x.0 h))))
     where
-      by : (sures (core_of t.filter.volume) ≡ sures (core_of u.filter.volume)) ⊎ Parted a.notes b.notes → sures (core_of t.filter.volume) ≡ sures (core_of u.filter.volume)
-      by (inl same) = same
+      by : SamePoints (core_of t.filter.volume) (core_of u.filter.volume) ⊎ Parted a.notes b.notes → SamePoints (core_of t.filter.volume) (core_of u.filter.volume)
+      by (inl points) = points
       by (inr apart) = absurd (no_part a b rest next.meets begun apart)
 
-  -- of a flush that answered
-  flush_next : (s o : State) (e : Event) (a b : Answer) (t u : State) → IsStep mode.Replay s e a t → IsStep mode.Replay o e b u → is_flushed e a ≡ true → b ≡ a → Alike of_state t u
-      → (sures (core_of t.filter.volume) ≡ sures (core_of u.filter.volume)) × AllSure (core_of u.filter.volume)
-  flush_next s o e a b t u step step_too flushed same after =
-      let x = flushed_one s e a t step flushed in
-      let y = flushed_one o e b u step_too (ap (is_flushed e) same ∙ flushed) in (
-        ap (λ (ps : List Point). filter (λ p. p.sure) ps) x ∙ ap (λ (z : State). point_now true z.filter.volume ∷ []) after ∙ ap (λ (ps : List Point). filter (λ p. p.sure) ps) (sym y),
-        subst (λ (ps : List Point). list_all (λ p. p.sure) ps ≡ true) (sym y) refl,
-      )
-
   -- of a restart
-  restart_next : (n : ℕ) (trace front : List (Event × Answer)) (s o : State) (rest : List ℕ) → IsFollowed events report clusters n trace s rest → Accepted events report clusters n front o → IsSteady s → IsSteady o → (a b : Answer) (t u : State)
-      → IsNext events report clusters n s (event.Device device.Restart) a t rest → IsStep mode.Replay o (event.Device device.Restart) b u → Alike of_state s o → Begins rest (text b) → (cut : Bool) → is_device b.shown ≡ cut
-      → (b ≡ a) × Alike of_state t u × AllSure (core_of t.filter.volume) × (sures (core_of t.filter.volume) ≡ sures (core_of u.filter.volume)) × AllSure (core_of u.filter.volume)
-  restart_next n trace front s o rest f acc steady steady_too a b t u next step alike begun true is =
+  next_restart : (n : ℕ) (front : List (Event × Answer)) (s o : State) (a b : Answer) (t u : State) (rest : List ℕ) → length front ≡ n → Accepted events report clusters (suc n) (front ++ (event.Device device.Restart, b) ∷ []) u → FirstFits (core_of s.filter.volume) → Alike of_state s o → IsSteady s → IsSteady o → IsLaden (core_of s.filter.volume) → IsLaden (core_of o.filter.volume) → SamePoints (core_of s.filter.volume) (core_of o.filter.volume)
+      → IsNext events report clusters n s (event.Device device.Restart) a t rest → IsStep mode.Replay o (event.Device device.Restart) b u → Begins rest (text b) → (cut : Bool) → is_device b.shown ≡ cut → (b ≡ a) × Alike of_state t u × SamePoints (core_of t.filter.volume) (core_of u.filter.volume)
+  next_restart n front s o a b t u rest long acc fits alike now now_too laden laden_too same next step goes true is =
       let stop : IsStopped b = stopped_so b is in
       let none : b.notes ≡ [] = restart_told mode.Replay o b u step in
       let clean : is_clean b ≡ true = rw none (ap clean_shown stop) in
-      absurd (next.result (ap (λ (xs : List ℕ). slice_get (result_lines xs) 0) begun.1 ∙ result_of b begun.0 clean ∙ ap (λ (x : Shown). Some (result_line x)) stop))
-  restart_next n trace front s o rest f acc steady steady_too a b t u next step alike begun false is =
-      let before = next.opening refl in
-      let there = before.others front o acc in
-      let x = restarts_alike mode.Replay s o a b t u alike steady.opens steady.points steady_too.points before.sure there.1 there.0 next.step step next.runs (not_stopped b is) in
-      (sym x.0, x.1, x.3, x.2, x.4)
+      absurd (next.result (ap (λ (xs : List ℕ). slice_get (result_lines xs) 0) goes.1 ∙ result_of b goes.0 clean ∙ ap (λ (x : Shown). Some (result_line x)) stop))
+  next_restart n front s o a b t u rest long acc fits alike now now_too laden laden_too same next step goes false is =
+      let z = restarts_same mode.Replay s o a b t u alike now.opens now.points now_too.points laden laden_too same fits next.step step next.runs (not_stopped b is) (λ told told_too r. counts r) in
+      (sym z.0, z.1, z.2)
+    where
+      counts : (r : BothResumed (begun s) (begun o) a.shown b.shown t u) → r.point.count ≡ r.other.count
+      counts r = next.counts refl front b u r.point.count r.other.count (opened_of r.point.book) (opened_of r.other.book) long acc r.resumes r.resumes_too
 
-  -- no other run of one event more is accepted
-
-  pub only_next : (n : ℕ) (trace : List (Event × Answer)) (s : State) (rest : List ℕ) → IsFollowed events report clusters n trace s rest → n < length events → (e : Event) → take (suc n) events ≡ take n events ++ e ∷ []
+  -- no other run of one event more is accepted, and its points are those of the followed one again
+  pub only_next : (n : ℕ) (trace : List (Event × Answer)) (s : State) (rest : List ℕ) → IsFollowed events report clusters n trace s rest → (e : Event) → take (suc n) events ≡ take n events ++ e ∷ []
       → (a : Answer) (t : State) → IsNext events report clusters n s e a t rest → (more : List (Event × Answer)) (u : State) → Accepted events report clusters (suc n) more u
-      → (more ≡ trace ++ (e, a) ∷ []) × Alike of_state t u
-      × (StaysTight events report clusters n s e a t → (sures (core_of t.filter.volume) ≡ sures (core_of u.filter.volume)) × AllSure (core_of u.filter.volume))
-  only_next n trace s rest f below e is_e a t next more u acc =
+      → (more ≡ trace ++ (e, a) ∷ []) × Alike of_state t u × SamePoints (core_of t.filter.volume) (core_of u.filter.volume)
+  only_next n trace s rest f e is_e a t next more u acc =
       let l : LastOf more n = last_of more n (sym (length-map more event_of) ∙ ap (λ (es : List Event). length es) acc.events_are ∙ length-take-le (suc n) events acc.there) in
       let acc' : Accepted events report clusters (suc n) (l.front ++ l.last ∷ []) u = subst (λ (xs : List (Event × Answer)). Accepted events report clusters (suc n) xs u) l.is acc in
       let g : Front events report clusters n l.front l.last u = front_of events report clusters n l.front l.last u l.long acc' in
@@ -204,62 +136,28 @@ module _ (events : List Event) (report : List ℕ) (clusters : ℕ) (short : len
       let none : NoneStopped l.front = subst NoneStopped (sym same.0) f.none in
       let step : IsStep mode.Replay g.mid e l.last.1 u = subst (λ (z : Event). IsStep mode.Replay g.mid z l.last.1 u) event_is g.step in
       let begun_all : Begins report (texts (map answer_of (l.front ++ (e, l.last.1) ∷ []))) = subst (λ (z : Event). Begins report (texts (map answer_of (l.front ++ (z, l.last.1) ∷ [])))) event_is acc'.front in
-      let steady_s : IsSteady s = steady events report clusters short trace s f.lawful f.none in
-      let steady_o : IsSteady g.mid = steady events report clusters short l.front g.mid g.runs none in
-      let both = by l.front l.last.1 g.mid g.accepted g.runs none step begun_all begun steady_s steady_o same.1 (is_restart e) refl in (
-        l.is ∙ ap (λ (fs : List (Event × Answer)). fs ++ l.last ∷ []) same.0 ∙ ap (λ (z : Event). trace ++ (z, l.last.1) ∷ []) event_is ∙ ap (λ (z : Answer). trace ++ (e, z) ∷ []) both.0,
-        both.1,
-        both.2,
+      let all = by l.front l.last.1 g.mid g.accepted g.runs none step begun_all begun same.1 same.2 l.long (subst (λ (z : Event). Accepted events report clusters (suc n) (l.front ++ (z, l.last.1) ∷ []) u) event_is acc') (is_restart e) refl in (
+        l.is ∙ ap (λ (fs : List (Event × Answer)). fs ++ l.last ∷ []) same.0 ∙ ap (λ (z : Event). trace ++ (z, l.last.1) ∷ []) event_is ∙ ap (λ (z : Answer). trace ++ (e, z) ∷ []) all.0,
+        all.1,
+        all.2,
       )
     where
+      now : IsSteady s
+      now = steady events report clusters short trace s f.lawful f.none
+
+      laden : IsLaden (core_of s.filter.volume)
+      laden = laden_run mode.Replay empty_remote clusters trace s f.lawful f.none
+
       by : (front : List (Event × Answer)) (b : Answer) (o : State) → Accepted events report clusters n front o → Runs mode.Replay (start mode.Replay empty_remote clusters) front o → NoneStopped front → IsStep mode.Replay o e b u
-          → Begins report (texts (map answer_of (front ++ (e, b) ∷ []))) → Begins rest (text b) → IsSteady s → IsSteady o → Alike of_state s o → (restart : Bool) → is_restart e ≡ restart
-          → (b ≡ a) × Alike of_state t u × (StaysTight events report clusters n s e a t → (sures (core_of t.filter.volume) ≡ sures (core_of u.filter.volume)) × AllSure (core_of u.filter.volume))
-      by front b o acc_o runs none step begun_all begun steady_s steady_o alike true is =
+          → Begins report (texts (map answer_of (front ++ (e, b) ∷ []))) → Begins rest (text b) → Alike of_state s o → SamePoints (core_of s.filter.volume) (core_of o.filter.volume) → length front ≡ n
+          → Accepted events report clusters (suc n) (front ++ (e, b) ∷ []) u → (restart : Bool) → is_restart e ≡ restart
+          → (b ≡ a) × Alike of_state t u × SamePoints (core_of t.filter.volume) (core_of u.filter.volume)
+      by front b o acc_o runs none step begun_all begun alike same long acc' true is =
           let restart : e ≡ event.Device device.Restart = restart_is e is in
           let next' : IsNext events report clusters n s (event.Device device.Restart) a t rest = subst (λ (z : Event). IsNext events report clusters n s z a t rest) restart next in
-          let x = restart_next n trace front s o rest f acc_o steady_s steady_o a b t u next' (subst (λ (z : Event). IsStep mode.Replay o z b u) restart step) alike begun (is_device b.shown) refl in
-          (x.0, x.1, λ stays. (x.3, x.4))
-      by front b o acc_o runs none step begun_all begun steady_s steady_o alike false is =
+          next_restart n front s o a b t u rest long (subst (λ (z : Event). Accepted events report clusters (suc n) (front ++ (z, b) ∷ []) u) restart acc') (first_fits mode.Replay empty_remote clusters trace s f.lawful f.none) alike now (steady events report clusters short front o runs none) laden (laden_run mode.Replay empty_remote clusters front o runs none) same
+          next' (subst (λ (z : Event). IsStep mode.Replay o z b u) restart step) begun (is_device b.shown) refl
+      by front b o acc_o runs none step begun_all begun alike same long acc' false is =
           let other : e ≡ event.Device device.Restart → ⊥ = λ h. restart_not e is h in
           let well : is_good u ≡ true = good_last most report clusters front e b o u runs none step other acc.kept begun_all short in
-          let x = last_same n s o e a b t u rest alike steady_s steady_o next other step well begun (is_device b.shown) refl in
-          (x.0, x.1, λ stays. on x.0 x.1 other well stays)
-        where
-          on : b ≡ a → Alike of_state t u → (e ≡ event.Device device.Restart → ⊥) → is_good u ≡ true → StaysTight events report clusters n s e a t → (sures (core_of t.filter.volume) ≡ sures (core_of u.filter.volume)) × AllSure (core_of u.filter.volume)
-          on same after other well (inl restart) = let z : true ≡ false = sym restart ∙ is in absurd cc
-          on same after other well (inr (inl flushed)) = flush_next s o e a b t u next.step step flushed same after
-          on same after other well (inr (inr light)) = tight_next n trace front s o rest f acc_o e a b t u next other step well same alike after begun light.0 light.1
-
-  -- the points of the followed run itself
-  own_tight : (n : ℕ) (trace : List (Event × Answer)) (s : State) (rest : List ℕ) → IsFollowed events report clusters n trace s rest → (e : Event) (a : Answer) (t : State) → IsNext events report clusters n s e a t rest → StaysTight events report clusters n s e a t
-      → AllSure (core_of t.filter.volume)
-  own_tight n trace s rest f e a t next stays = by (is_restart e) refl stays
-    where
-      by : (restart : Bool) → is_restart e ≡ restart → StaysTight events report clusters n s e a t → AllSure (core_of t.filter.volume)
-      by true is stays =
-          let restart : e ≡ event.Device device.Restart = restart_is e is in
-          let all : AllSure (core_of s.filter.volume) = (next.opening restart).sure in
-          let now : IsSteady s = steady events report clusters short trace s f.lawful f.none in
-          let step : IsStep mode.Replay s (event.Device device.Restart) a t = subst (λ (z : Event). IsStep mode.Replay s z a t) restart next.step in
-          (restarts_alike mode.Replay s s a a t t refl now.opens now.points now.points all all refl step step next.runs next.runs).3
-      by false is (inl restart) = let z : true ≡ false = sym restart ∙ is in absurd cc
-      by false is (inr (inl flushed)) = subst (λ (ps : List Point). list_all (λ p. p.sure) ps ≡ true) (sym (flushed_one s e a t next.step flushed)) refl
-      by false is (inr (inr light)) = still_tight trace s t f.lawful (step_rooms mode.Replay s e a t next.step next.runs (λ h. restart_not e is h)) light.1 light.0.sure
-
-  -- no point of a commit for room is left after an event that makes none
-  pub stays_tight : (n : ℕ) (trace : List (Event × Answer)) (s : State) (rest : List ℕ) → IsFollowed events report clusters n trace s rest → n < length events → (e : Event) → take (suc n) events ≡ take n events ++ e ∷ []
-      → (a : Answer) (t : State) → IsNext events report clusters n s e a t rest → StaysTight events report clusters n s e a t → IsTight events report clusters (suc n) t
-  stays_tight n trace s rest f below e is_e a t next stays = record {
-    sure = own_tight n trace s rest f e a t next stays;
-    others = λ more u acc. (only_next n trace s rest f below e is_e a t next more u acc).2 stays;
-  }
-
--- at the start there is one point
-pub tight_start : (events : List Event) (report : List ℕ) (clusters : ℕ) → IsTight events report clusters 0 (start mode.Replay empty_remote clusters)
-tight_start events report clusters = record { sure = refl; others = λ more u acc. by more u acc.events_are acc.lawful }
-  where
-    by : (more : List (Event × Answer)) (u : State) → map event_of more ≡ [] → Runs mode.Replay (start mode.Replay empty_remote clusters) more u
-        → (sures (core_of (start mode.Replay empty_remote clusters).filter.volume) ≡ sures (core_of u.filter.volume)) × AllSure (core_of u.filter.volume)
-    by [] u e runs = (ap (λ (z : State). sures (core_of z.filter.volume)) (sym runs), subst (λ (z : State). AllSure (core_of z.filter.volume)) (sym runs) refl)
-    by (p ∷ ps) u e runs = let z : event_of p ∷ map event_of ps ≡ [] = e in absurd cc
+          next_other n s o e a b t u rest alike now (steady events report clusters short front o runs none) laden (laden_run mode.Replay empty_remote clusters front o runs none) same next other step well begun

@@ -20,7 +20,7 @@ use Rattle.cf_check_model.proofs.Fronts.{texts_join}
 use Rattle.cf_check_text.proofs.Clashes.{cancel}
 use Rattle.cf_check_ways.specs.Ways.{Alike, of_state, AnswersAlike, Parted, is_good}
 use Rattle.cf_check_ways.proofs.StepsSure.{steps_alike}
-use Rattle.cf_check_traces.specs.Decided.{IsStopped, MeetsFaults, MeetsResult, NoneStopped, OpeningsAgree}
+use Rattle.cf_check_traces.specs.Decided.{IsStopped, MeetsFaults, MeetsResult, NoneStopped}
 use Rattle.cf_check_traces.proofs.Accepting.{good_after}
 use Rattle.cf_check_traces.proofs.SameRuns.{Front, front_of, none_before, none_last, same_runs, steady}
 
@@ -64,13 +64,13 @@ goes_on report rest trace front p is same b =
 
 -- From one accepted state one step tells that with the next event nothing is accepted: its answer, which meets the faults that the
 -- report tells, is not how the report goes on.
-pub not_accepted : (events : List Event) (report rest : List ℕ) (clusters n : ℕ) → length report < most → OpeningsAgree events report clusters n
+pub not_accepted : (events : List Event) (report rest : List ℕ) (clusters n : ℕ) → length report < most
     → (trace : List (Event × Answer)) (s : State) → Accepted events report clusters n trace s → NoneStopped trace → report ≡ texts (map answer_of trace) ++ rest
     → (e : Event) (a : Answer) (t : State) → IsStep mode.Replay s e a t → is_good t ≡ true → (IsStopped a → ⊥) → (e ≡ event.Device device.Restart → ⊥) → MeetsFaults a rest → MeetsResult s e a rest → (Begins rest (text a) → ⊥)
     → (front : List (Event × Answer)) (b : Answer) (u : State) → length front ≡ n → NoneStopped (front ++ (e, b) ∷ []) → Accepted events report clusters (suc n) (front ++ (e, b) ∷ []) u → ⊥
-not_accepted events report rest clusters n short agree trace s acc none is e a t step good runs other meets alone wrong front b u long none_too acc_too =
+not_accepted events report rest clusters n short trace s acc none is e a t step good runs other meets alone wrong front b u long none_too acc_too =
     let f : Front events report clusters n front (e, b) u = front_of events report clusters n front (e, b) u long acc_too in
-    let same = same_runs events report clusters short n trace front s f.mid acc f.accepted none (none_before front (e, b) none_too) agree in
+    let same = same_runs events report clusters short n trace front s f.mid acc f.accepted none (none_before front (e, b) none_too) in
     no_answer s f.mid e a b t u rest other meets alone same.1 f.step wrong (goes_on report rest trace front (e, b) is same.0 acc_too.front)
     (steps_alike mode.Replay s f.mid e a b t u same.1 (steady events report clusters short trace s acc.lawful none).opens (steady events report clusters short trace s acc.lawful none).points
     (steady events report clusters short front f.mid f.runs (none_before front (e, b) none_too)).points step f.step good

@@ -1,32 +1,31 @@
--- Runs that one report accepts are alike.
-use Rattle.std.proofs.Common.{◌≡◌, ◌≤◌, ◌<◌, ℕ, zero, suc, List, [], ◌∷◌, ◌++◌, length, map, take, refl, sym, ◌∙◌, ap, subst, arith, inl, inr, append_assoc, length-take-le}
+-- Runs that one report accepts are alike, and a restart may open the same points after them.
+use Rattle.std.proofs.Common.{◌≡◌, ◌≤◌, ◌<◌, ℕ, zero, suc, List, [], ◌∷◌, ◌++◌, length, map, take, refl, sym, ◌∙◌, ap, subst, arith, inl, inr, append_assoc, length-take-le, ◌⊎◌, ◌+◌, Bool, true, false}
 use Rattle.std.proofs.lemmas.List.{length-map, map-append}
 use Rattle.cf_base.specs.declared.answers.Answer.{Answer}
-use Rattle.cf_base.specs.declared.answers.Shown.TheVariants as shown
-use Rattle.cf_base.specs.declared.events.DeviceEvent.TheVariants as device
 use Rattle.cf_base.specs.declared.events.Event.{Event}
+use Rattle.cf_base.specs.declared.events.DeviceEvent.TheVariants as device
 use Rattle.cf_base.specs.declared.events.Event.TheVariants as event
 use Rattle.cf_base.specs.declared.policies.Mode.TheVariants as mode
-use Rattle.cf_model.specs.Books.{Book, opened_of}
-use Rattle.cf_model.specs.Events.{answer_in, begun}
 use Rattle.cf_model.specs.Lawful.{IsStep, Runs}
 use Rattle.cf_model.specs.Numbers.{most}
-use Rattle.cf_model.specs.State.{State, book_now, start}
+use Rattle.cf_model.specs.State.{State, start}
 use Rattle.cf_model.specs.Store.{empty_remote}
 use Rattle.cf_model.proofs.PointLaws.{started_with_points}
 use Rattle.cf_model.proofs.TraceLaws.{runs_split}
 use Rattle.cf_report.specs.Texts.{text, texts}
-use Rattle.cf_check_model.specs.Judging.{Accepted, MayResume, answer_of, event_of}
+use Rattle.cf_check_model.specs.Judging.{Accepted, answer_of, event_of}
 use Rattle.cf_check_model.specs.Reports.{Begins}
 use Rattle.cf_check_model.proofs.Fronts.{texts_join}
 use Rattle.cf_check_model.proofs.Kept.{kept_before}
 use Rattle.cf_check_text.specs.Fronts.{Meet}
 use Rattle.cf_check_text.proofs.Clashes.{meet_after, meet_less}
-use Rattle.cf_check_ways.specs.Ways.{Alike, fixed_state, of_state}
-use Rattle.cf_check_ways.proofs.RestartsSure.{same_opened}
-use Rattle.cf_check_traces.specs.Decided.{IsSteady, IsStopped, NoneStopped, OpeningsAgree, ResumedAlike}
+use Rattle.cf_check_ways.specs.Ways.{Alike, fixed_state, of_state, IsLaden, Parted, SamePoints, core_of, is_good}
+use Rattle.cf_check_ways.proofs.PointSteps.{restarts_same, steps_keep}
+use Rattle.cf_check_traces.specs.Decided.{IsSteady, IsStopped, NoneStopped}
 use Rattle.cf_check_traces.proofs.Accepting.{LastOf, afresh, good_after, last_of}
-use Rattle.cf_check_traces.proofs.Decisions.{step_decided}
+use Rattle.cf_check_traces.proofs.Decisions.{step_decided, parted_texts, resumed_texts}
+use Rattle.cf_check_traces.specs.Tests.{is_restart}
+use Rattle.cf_check_traces.proofs.RunPoints.{first_fits, laden_run, start_same}
 
 abbrev begin_at : ℕ → State
 begin_at clusters = start mode.Replay empty_remote clusters
@@ -57,6 +56,15 @@ last_event front other x y same e = by other (subst (λ (fs : List Event). fs ++
     by [] d = let z : x ∷ [] ≡ y ∷ [] = d in cc
     by (f ∷ fs) d = by fs (let z : f ∷ (fs ++ x ∷ []) ≡ f ∷ (fs ++ y ∷ []) = d in cc)
 
+-- restarts
+
+pub restart_is : (e : Event) → is_restart e ≡ true → e ≡ event.Device device.Restart
+restart_is (event.Device device.Restart) h = refl
+restart_is _ h = let z : false ≡ true = h in absurd cc
+
+pub restart_not : (e : Event) → is_restart e ≡ false → e ≡ event.Device device.Restart → ⊥
+restart_not e is h = let z : true ≡ false = sym (ap is_restart h) ∙ is in absurd cc
+
 -- An accepted run of one event more: its front is accepted, and the event is a step after it.
 pub record Front (events : List Event) (report : List ℕ) (clusters n : ℕ) (front : List (Event × Answer)) (p : Event × Answer) (t : State) : Type 0 where
   pub mid : State
@@ -85,7 +93,7 @@ front_of events report clusters n front p t long a =
     }
 
 -- the texts of two last answers go on from one place
-last_texts : (report : List ℕ) (front other : List (Event × Answer)) (p q : Event × Answer) → front ≡ other → Begins report (texts (map answer_of (front ++ p ∷ []))) → Begins report (texts (map answer_of (other ++ q ∷ [])))
+pub last_texts : (report : List ℕ) (front other : List (Event × Answer)) (p q : Event × Answer) → front ≡ other → Begins report (texts (map answer_of (front ++ p ∷ []))) → Begins report (texts (map answer_of (other ++ q ∷ [])))
     → Meet (text p.1) (text q.1)
 last_texts report front other p q same f g =
     let one : Begins report (texts (map answer_of front) ++ (text p.1 ++ [])) = (f.0, f.1 ∙ ap (λ (xs : List ℕ). xs ++ f.0) (texts_join front (p ∷ []))) in
@@ -93,51 +101,69 @@ last_texts report front other p q same f g =
     let two' : Begins report (texts (map answer_of front) ++ (text q.1 ++ [])) = subst (λ (xs : List (Event × Answer)). Begins report (texts (map answer_of xs) ++ (text q.1 ++ []))) (sym same) two in
     meet_less (text p.1) (text q.1) [] [] (meet_after (texts (map answer_of front)) (text p.1 ++ []) (text q.1 ++ []) (report, one, two'))
 
-fewer_openings : (events : List Event) (report : List ℕ) (clusters n : ℕ) → OpeningsAgree events report clusters (suc n) → OpeningsAgree events report clusters n
-fewer_openings events report clusters n agree m le = agree m (omega (arith, le))
-
 module _ (events : List Event) (report : List ℕ) (clusters : ℕ) (short : length report < most) where
   pub steady : (trace : List (Event × Answer)) (t : State) → Runs mode.Replay (begin_at clusters) trace t → NoneStopped trace → IsSteady t
   steady trace t runs none = record { points = started_with_points mode.Replay empty_remote clusters trace t runs; opens = afresh (begin_at clusters) trace t runs none refl }
 
   -- one event more
-  one_more : (n : ℕ) (front other : List (Event × Answer)) (p q : Event × Answer) (t u : State) → OpeningsAgree events report clusters (suc n)
+
+  one_more : (n : ℕ) (front other : List (Event × Answer)) (p q : Event × Answer) (t u : State)
       → Accepted events report clusters (suc n) (front ++ p ∷ []) t → Accepted events report clusters (suc n) (other ++ q ∷ []) u → NoneStopped (front ++ p ∷ []) → NoneStopped (other ++ q ∷ [])
-      → (f : Front events report clusters n front p t) → (g : Front events report clusters n other q u) → (front ≡ other) × Alike of_state f.mid g.mid → (front ++ p ∷ [] ≡ other ++ q ∷ []) × Alike of_state t u
-  one_more n front other (e, a) (k, b) t u agree x y none none_too f g same = by (same_event) (subst (λ (z : Event). IsStep mode.Replay g.mid z b u) (sym same_event) g.step)
+      → (f : Front events report clusters n front p t) → (g : Front events report clusters n other q u) → front ≡ other → Alike of_state f.mid g.mid → SamePoints (core_of f.mid.filter.volume) (core_of g.mid.filter.volume)
+      → (front ++ p ∷ [] ≡ other ++ q ∷ []) × Alike of_state t u × SamePoints (core_of t.filter.volume) (core_of u.filter.volume)
+  one_more n front other (e, a) (k, b) t u x y none none_too f g fronts alike same = by same_event (subst (λ (z : Event). IsStep mode.Replay g.mid z b u) (sym same_event) g.step) (is_restart e) refl
     where
       same_event : e ≡ k
-      same_event = last_event (map event_of front) (map event_of other) e k (ap (map event_of) same.0) (sym (map-append event_of front ((e, a) ∷ [])) ∙ x.events_are ∙ sym y.events_are ∙ map-append event_of other ((k, b) ∷ []))
+      same_event = last_event (map event_of front) (map event_of other) e k (ap (map event_of) fronts) (sym (map-append event_of front ((e, a) ∷ [])) ∙ x.events_are ∙ sym y.events_are ∙ map-append event_of other ((k, b) ∷ []))
 
       joined : e ≡ k → a ≡ b → front ++ (e, a) ∷ [] ≡ other ++ (k, b) ∷ []
-      joined i j = ap (λ (fs : List (Event × Answer)). fs ++ (e, a) ∷ []) same.0 ∙ ap (λ (z : Event). other ++ (z, a) ∷ []) i ∙ ap (λ (z : Answer). other ++ (k, z) ∷ []) j
+      joined i j = ap (λ (fs : List (Event × Answer)). fs ++ (e, a) ∷ []) fronts ∙ ap (λ (z : Event). other ++ (z, a) ∷ []) i ∙ ap (λ (z : Answer). other ++ (k, z) ∷ []) j
 
-      resumes : (fs : List (Event × Answer)) (c : Answer) (w : State) (count : ℕ) (book : Book) (z : Event) → z ≡ event.Device device.Restart → c.shown ≡ shown.Resumed count (opened_of book)
-          → Accepted events report clusters (suc n) (fs ++ (z, c) ∷ []) w → MayResume events report clusters (suc n) w
-      resumes fs c w count book z is told acc = (fs, c, count, opened_of book, told, subst (λ (v : Event). Accepted events report clusters (suc n) (fs ++ (v, c) ∷ []) w) is acc)
+      meet : Meet (text a) (text b)
+      meet = last_texts report front other (e, a) (k, b) fronts x.front y.front
 
-      reopened : ResumedAlike f.mid g.mid e a t b u → (front ++ (e, a) ∷ [] ≡ other ++ (k, b) ∷ []) × Alike of_state t u
-      reopened (is, told, told_too, (r, counts)) =
-          let books : book_now t ≡ book_now u = agree (suc n) (omega arith) t u (resumes front a t r.point.count r.point.book e is r.resumes x) (resumes other b u r.other.count r.other.book k (sym same_event ∙ is) r.resumes_too y) in
-          let points : r.point.book ≡ r.other.book = sym (ap book_now r.left) ∙ books ∙ ap book_now r.left_too in
-          let ends = same_opened _ _ a.shown b.shown t u (ap (λ (z : State). fixed_state (begun z)) same.1) r counts points in
-          (joined same_event (told ∙ ap (λ (z : _). answer_in z t) ends.0 ∙ ap (λ (z : State). answer_in b.shown z) ends.1 ∙ sym told_too), ends.1)
+      now : IsSteady f.mid
+      now = steady front f.mid f.runs (none_before front (e, a) none)
 
-      by : e ≡ k → IsStep mode.Replay g.mid e b u → (front ++ (e, a) ∷ [] ≡ other ++ (k, b) ∷ []) × Alike of_state t u
-      by i step =
-          elim (step_decided mode.Replay f.mid g.mid e a b t u same.1 (steady front f.mid f.runs (none_before front (e, a) none)) (steady other g.mid g.runs (none_before other (k, b) none_too)) f.step step
-          (good_after most report clusters (front ++ (e, a) ∷ []) t x.lawful none x.kept x.front short)
-          (good_after most report clusters (other ++ (k, b) ∷ []) u y.lawful none_too y.kept y.front short)
-          (none_last front (e, a) none) (none_last other (k, b) none_too) (last_texts report front other (e, a) (k, b) same.0 x.front y.front))
-          as (λ _. (front ++ (e, a) ∷ [] ≡ other ++ (k, b) ∷ []) × Alike of_state t u) [ inl d ↦ (joined i d.0, d.1) | inr d ↦ reopened d ]
+      now_too : IsSteady g.mid
+      now_too = steady other g.mid g.runs (none_before other (k, b) none_too)
 
-  -- runs of as many events that one report accepts, where no device failed and restarts open one book
+      laden : IsLaden (core_of f.mid.filter.volume)
+      laden = laden_run mode.Replay empty_remote clusters front f.mid f.runs (none_before front (e, a) none)
+
+      laden_too : IsLaden (core_of g.mid.filter.volume)
+      laden_too = laden_run mode.Replay empty_remote clusters other g.mid g.runs (none_before other (k, b) none_too)
+
+      good : is_good t ≡ true
+      good = good_after most report clusters (front ++ (e, a) ∷ []) t x.lawful none x.kept x.front short
+
+      well : is_good u ≡ true
+      well = good_after most report clusters (other ++ (k, b) ∷ []) u y.lawful none_too y.kept y.front short
+
+      kept : (a ≡ b) × Alike of_state t u → SamePoints (core_of t.filter.volume) (core_of u.filter.volume) ⊎ Parted a.notes b.notes → e ≡ k → (front ++ (e, a) ∷ [] ≡ other ++ (k, b) ∷ []) × Alike of_state t u × SamePoints (core_of t.filter.volume) (core_of u.filter.volume)
+      kept d (inl points) i = (joined i d.0, d.1, points)
+      kept d (inr apart) i = absurd (parted_texts a b apart meet)
+
+      by : e ≡ k → IsStep mode.Replay g.mid e b u → (restart : Bool) → is_restart e ≡ restart → (front ++ (e, a) ∷ [] ≡ other ++ (k, b) ∷ []) × Alike of_state t u × SamePoints (core_of t.filter.volume) (core_of u.filter.volume)
+      by i step true is =
+          let restart : e ≡ event.Device device.Restart = restart_is e is in
+          let z = restarts_same mode.Replay f.mid g.mid a b t u alike now.opens now.points now_too.points laden laden_too same (first_fits mode.Replay empty_remote clusters front f.mid f.runs (none_before front (e, a) none))
+          (subst (λ (z : Event). IsStep mode.Replay f.mid z a t) restart f.step) (subst (λ (z : Event). IsStep mode.Replay g.mid z b u) restart step) (none_last front (e, a) none) (none_last other (k, b) none_too)
+          (λ told told_too r. resumed_texts f.mid g.mid a b t u told told_too r meet) in
+          (joined i z.0, z.1, z.2)
+      by i step false is =
+          let other_event : e ≡ event.Device device.Restart → ⊥ = λ h. restart_not e is h in
+          let points = steps_keep mode.Replay f.mid g.mid e a b t u other_event alike laden laden_too same f.step step good well (none_last front (e, a) none) (none_last other (k, b) none_too) in
+          elim (step_decided mode.Replay f.mid g.mid e a b t u alike now now_too f.step step good well (none_last front (e, a) none) (none_last other (k, b) none_too) meet)
+          as (λ _. (front ++ (e, a) ∷ [] ≡ other ++ (k, b) ∷ []) × Alike of_state t u × SamePoints (core_of t.filter.volume) (core_of u.filter.volume)) [ inl d ↦ kept d points i | inr d ↦ absurd (other_event d.0) ]
+
+  -- runs of as many events that one report accepts, where no device failed
   pub same_runs : (n : ℕ) (trace more : List (Event × Answer)) (t u : State) → Accepted events report clusters n trace t → Accepted events report clusters n more u → NoneStopped trace → NoneStopped more
-      → OpeningsAgree events report clusters n → (trace ≡ more) × Alike of_state t u
-  same_runs zero [] [] t u x y none none_too agree = (refl, ap fixed_state (x.lawful ∙ sym y.lawful))
-  same_runs zero (p ∷ ps) more t u x y none none_too agree = let z : p.0 ∷ map event_of ps ≡ [] = x.events_are in absurd cc
-  same_runs zero [] (p ∷ ps) t u x y none none_too agree = let z : p.0 ∷ map event_of ps ≡ [] = y.events_are in absurd cc
-  same_runs (suc n) trace more t u x y none none_too agree =
+      → (trace ≡ more) × Alike of_state t u × SamePoints (core_of t.filter.volume) (core_of u.filter.volume)
+  same_runs zero [] [] t u x y none none_too = (refl, ap fixed_state (x.lawful ∙ sym y.lawful), start_same clusters t u x.lawful y.lawful)
+  same_runs zero (p ∷ ps) more t u x y none none_too = let z : p.0 ∷ map event_of ps ≡ [] = x.events_are in absurd cc
+  same_runs zero [] (p ∷ ps) t u x y none none_too = let z : p.0 ∷ map event_of ps ≡ [] = y.events_are in absurd cc
+  same_runs (suc n) trace more t u x y none none_too =
       let l : LastOf trace n = last_of trace n (long trace t x) in
       let m : LastOf more n = last_of more n (long more u y) in
       let x' : Accepted events report clusters (suc n) (l.front ++ l.last ∷ []) t = subst (λ (xs : List (Event × Answer)). Accepted events report clusters (suc n) xs t) l.is x in
@@ -146,9 +172,9 @@ module _ (events : List Event) (report : List ℕ) (clusters : ℕ) (short : len
       let none_too' : NoneStopped (m.front ++ m.last ∷ []) = subst NoneStopped m.is none_too in
       let f : Front events report clusters n l.front l.last t = front_of events report clusters n l.front l.last t l.long x' in
       let g : Front events report clusters n m.front m.last u = front_of events report clusters n m.front m.last u m.long y' in
-      let before = same_runs n l.front m.front f.mid g.mid f.accepted g.accepted (none_before l.front l.last none') (none_before m.front m.last none_too') (fewer_openings events report clusters n agree) in
-      let both = one_more n l.front m.front l.last m.last t u agree x' y' none' none_too' f g before in
-      (l.is ∙ both.0 ∙ sym m.is, both.1)
+      let before = same_runs n l.front m.front f.mid g.mid f.accepted g.accepted (none_before l.front l.last none') (none_before m.front m.last none_too') in
+      let both = one_more n l.front m.front l.last m.last t u x' y' none' none_too' f g before.0 before.1 before.2 in
+      (l.is ∙ both.0 ∙ sym m.is, both.1, both.2)
     where
       long : (xs : List (Event × Answer)) (w : State) → Accepted events report clusters (suc n) xs w → length xs ≡ suc n
       long xs w acc = sym (length-map xs event_of) ∙ ap (λ (es : List Event). length es) acc.events_are ∙ length-take-le (suc n) events acc.there

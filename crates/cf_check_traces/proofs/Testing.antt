@@ -1,8 +1,10 @@
 -- What the tests of a report tell.
-use Rattle.std.proofs.Common.{◌≡◌, ◌⊎◌, ◌&&◌, ◌==◌, not, ℕ, Bool, true, false, cond, List, [], ◌∷◌, ◌++◌, codes, drop, length, refl, sym, ◌∙◌, ap, subst, inl, inr, append_assoc}
+use Rattle.std.proofs.Common.{◌≡◌, ◌⊎◌, ◌<◌, ◌+◌, ◌/◌, ◌%◌, ◌&&◌, ◌||◌, ◌==◌, not, ℕ, zero, suc, Bool, true, false, cond, List, [], ◌∷◌, ◌++◌, codes, drop, length, refl, sym, ◌∙◌, ap, subst, arith, inl, inr, append-nil, append_assoc}
+use Rattle.std.specs.Char.{is_ascii_digit}
 use Rattle.std.specs.List.{flat_map}
-use Rattle.std.proofs.lemmas.Bool.{eq-eqb, eqb-true}
+use Rattle.std.proofs.lemmas.Bool.{eq-eqb, eqb-true, le-leb}
 use Rattle.cf_base.specs.declared.answers.Answer.{Answer}
+use Rattle.cf_base.specs.declared.answers.OpenedBook.{OpenedBook}
 use Rattle.cf_base.specs.declared.answers.Shown.{Shown}
 use Rattle.cf_base.specs.declared.answers.Shown.TheVariants as shown
 use Rattle.cf_base.specs.declared.codes.Code.TheVariants as code
@@ -21,11 +23,13 @@ use Rattle.cf_model.specs.State.{State}
 use Rattle.cf_model.specs.Trees.{Faults}
 use Rattle.cf_check_ways.proofs.FirstAsks.{never_asks}
 use Rattle.cf_report.specs.Texts.{notice_line, result_line}
+use Rattle.cf_report.specs.Words.{decimal, digits}
 use Rattle.cf_check_model.specs.Reports.{Begins}
 use Rattle.cf_check_text.proofs.Clashes.{clash_no_meet, fault_or_message}
+use Rattle.cf_check_text.proofs.Decimals.{last_digit, more_digits}
 use Rattle.cf_check_ways.specs.Ways.{is_fault, is_of_peer}
 use Rattle.cf_check_traces.specs.Decided.{IsStopped, MeetsFaults, MeetsResult}
-use Rattle.cf_check_traces.specs.Tests.{begins, differs_plainly, fault_line_of_peer, is_device, meets_lines, meets_result, same_flag}
+use Rattle.cf_check_traces.specs.Tests.{begins, differs_plainly, ends_in_digits, fault_line_of_peer, is_device, meets_lines, meets_result, resumes_next, same_flag}
 use Rattle.cf_check_traces.proofs.Decisions.{fault_alone, the_fault}
 
 both : (a b : Bool) → (a && b) ≡ true → (a ≡ true) × (b ≡ true)
@@ -161,6 +165,37 @@ pub alone_unasked : (s : State) (e : PeerEvent) (a : Answer) (t : State) (rest :
 alone_unasked s e a t rest is no_fault peer o b u alike step same begun one =
     let first : is_fault (on_event (record { stop = None; forks = []; tellings = Faults ∷ [] }) s (event.Peer e)).1.shown ≡ false = ap (λ (z : State × Answer). is_fault z.1.shown) is ∙ no_fault in
     not_one (is_fault a.shown) (is_fault b.shown) (no_fault ∙ sym (never_asks mode.Replay e s o alike first b u step)) one.2
+
+-- the line of a restart that resumed
+
+or_second : (a b : Bool) → b ≡ true → (a || b) ≡ true
+or_second true b h = refl
+or_second false b h = h
+
+digit_is : (d : ℕ) → d < 10 → is_ascii_digit (48 + d) ≡ true
+digit_is d lt = rw (le-leb 48 (48 + d) (omega arith)) (le-leb (48 + d) 57 (omega (arith, lt)))
+
+digit_ends : (d : ℕ) (after : List ℕ) → d < 10 → ends_in_digits after ≡ true → ends_in_digits ((48 + d) ∷ after) ≡ true
+digit_ends d after lt h = or_second ((48 + d) == 10) (is_ascii_digit (48 + d) && ends_in_digits after) (rw (digit_is d lt) h)
+
+digits_end : (k n : ℕ) (after more : List ℕ) → ends_in_digits (after ++ more) ≡ true → ends_in_digits (digits k n after ++ more) ≡ true
+digits_end zero n after more h = h
+digits_end (suc k) n after more h = by (n / 10) refl (λ front. digits_end k front ((48 + n % 10) ∷ after) more one)
+  where
+    one : ends_in_digits ((48 + n % 10) ∷ (after ++ more)) ≡ true
+    one = digit_ends (n % 10) (after ++ more) (omega arith) h
+
+    by : (front : ℕ) → n / 10 ≡ front → ((m : ℕ) → ends_in_digits (digits k m ((48 + n % 10) ∷ after) ++ more) ≡ true) → ends_in_digits (digits (suc k) n after ++ more) ≡ true
+    by zero e rest = ap (λ (xs : List ℕ). ends_in_digits (xs ++ more)) (last_digit k n after e) ∙ one
+    by (suc front) e rest = ap (λ (xs : List ℕ). ends_in_digits (xs ++ more)) (more_digits k n front after e) ∙ rest (suc front)
+
+resumes_line : (n : ℕ) (opened : OpenedBook) (more : List ℕ) → resumes_next (result_line (shown.Resumed n opened) ++ more) ≡ true
+resumes_line n opened more =
+    ap ends_in_digits (ap (λ (xs : List ℕ). (xs ++ 10 ∷ []) ++ more) (append-nil (decimal n)) ∙ append_assoc (decimal n) (10 ∷ []) more)
+    ∙ digits_end (n + 1) n [] (10 ∷ more) refl
+
+pub resumes_so : (n : ℕ) (opened : OpenedBook) (rest : List ℕ) → Begins rest (result_line (shown.Resumed n opened)) → resumes_next rest ≡ true
+resumes_so n opened rest b = ap resumes_next b.1 ∙ resumes_line n opened b.0
 
 -- whether an answer is that of a device that failed
 

@@ -1,5 +1,5 @@
 -- What a report decides of an event, from a state that is known but for what no report fixes.
-use Rattle.std.specs.Prelude.{◌≡◌, ◌⊎◌, ◌≤◌, ℕ, Bool, true, List, [], ◌∷◌, ◌++◌}
+use Rattle.std.specs.Prelude.{◌≡◌, ◌⊎◌, ℕ, Bool, true, List, [], ◌∷◌, ◌++◌}
 use Rattle.std.specs.List.{flat_map}
 use Rattle.cf_base.specs.declared.answers.Answer.{Answer}
 use Rattle.cf_base.specs.declared.answers.Shown.TheVariants as shown
@@ -12,13 +12,12 @@ use Rattle.cf_base.specs.declared.notices.Frame.TheVariants as frame
 use Rattle.cf_base.specs.declared.notices.Notice.{Notice}
 use Rattle.cf_base.specs.declared.notices.Notice.TheVariants as notice
 use Rattle.cf_base.specs.declared.policies.Mode.TheVariants as mode
-use Rattle.cf_check_model.specs.Judging.{MayResume}
 use Rattle.cf_check_model.specs.Reports.{Begins}
 use Rattle.cf_check_ways.specs.Ways.{Alike, BothResumed, OneFailed, is_peer, of_state}
 use Rattle.cf_model.specs.Events.{answer_in, begun}
 use Rattle.cf_model.specs.Lawful.{IsStep}
 use Rattle.cf_model.specs.Points.{HasPoints}
-use Rattle.cf_model.specs.State.{State, book_now}
+use Rattle.cf_model.specs.State.{State}
 use Rattle.cf_report.specs.Texts.{notice_line, text}
 
 -- the answer is that of a device that failed
@@ -43,11 +42,6 @@ ResumedAlike s o e a t b u =
 -- the same answer and alike states, or restarts with one count
 abbrev pub IsDecided : State → State → Event → Answer → State → Answer → State → Type 0
 IsDecided s o e a t b u = ((a ≡ b) × Alike of_state t u) ⊎ ResumedAlike s o e a t b u
-
--- wherever the first n events may end with a restart that resumed, its book is one
-abbrev pub OpeningsAgree : List Event → List ℕ → ℕ → ℕ → Type 0
-OpeningsAgree events report clusters n =
-    (m : ℕ) → m ≤ n → (one other : State) → MayResume events report clusters m one → MayResume events report clusters m other → book_now one ≡ book_now other
 
 -- The answer has a line of a fault nowhere where the report goes on with the reply, and a reply nowhere where the report goes on
 -- with a fault.

@@ -1,5 +1,6 @@
 -- Tests of how a report goes on, beside an answer.
 use Rattle.std.specs.Prelude.{ℕ, Bool, true, false, not, cond, List, [], ◌∷◌, ◌==◌, ◌&&◌, ◌||◌, codes, drop, length}
+use Rattle.std.specs.Char.{is_ascii_digit}
 use Rattle.std.specs.List.{flat_map}
 use Rattle.cf_base.specs.declared.answers.Answer.{Answer}
 use Rattle.cf_base.specs.declared.answers.Shown.{Shown}
@@ -88,6 +89,19 @@ is_flushed e a = is_flush e && is_count a.shown
 abbrev pub is_resumed : Shown → Bool
 is_resumed (shown.Resumed n k) = true
 is_resumed _ = false
+
+-- the line of a restart that resumed stands next: digits, up to the end of the line
+
+abbrev pub ends_in_digits : List ℕ → Bool
+ends_in_digits [] = false
+ends_in_digits (b ∷ bs) = (b == 10) || (is_ascii_digit b && ends_in_digits bs)
+
+abbrev pub resumes_next : List ℕ → Bool
+resumes_next rest = begins (codes "= resumed ") rest && ends_in_digits (drop 10 rest)
+
+-- a restart resumed, and the report goes on with one that did
+abbrev pub both_resume : Event → Answer → List ℕ → Bool
+both_resume e a rest = is_restart e && is_resumed a.shown && resumes_next rest
 
 -- a flush that answered, or a restart that resumed: one point is left, that of all changes
 abbrev pub makes_point : Event → Answer → Bool

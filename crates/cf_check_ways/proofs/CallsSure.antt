@@ -1,22 +1,24 @@
 -- The parts of `Calls` are sure, each by its own parts.
-use Rattle.std.proofs.Common.{refl}
-use Rattle.std.specs.Prelude.{ℕ, Bool, true, false, List, [], ◌∷◌, length, ◌+◌}
+use Rattle.std.proofs.Common.{◌≡◌, ◌∙◌, not, refl, sym, ap}
+use Rattle.std.specs.Prelude.{ℕ, Bool, true, false, List, [], ◌∷◌, None, length, nat_lt, ◌+◌}
 use Rattle.cf_base.specs.declared.answers.Shown.{Shown}
 use Rattle.cf_base.specs.declared.answers.Shown.TheVariants as shown
 use Rattle.cf_base.specs.declared.changes.Change.{Change}
 use Rattle.cf_base.specs.declared.changes.Change.TheVariants as change
+use Rattle.cf_base.specs.declared.codes.Code.TheVariants as code
 use Rattle.cf_base.specs.declared.ids.Handle.{Handle}
 use Rattle.cf_base.specs.declared.ids.ItemId.{ItemId}
 use Rattle.cf_base.specs.declared.ids.Usn.{Usn}
 use Rattle.cf_base.specs.declared.items.Pin.{Pin}
 use Rattle.cf_base.specs.declared.items.Reach.{Reach}
+use Rattle.cf_base.specs.declared.limits.TheConstants.{MOST_FILE_BYTES}
 use Rattle.cf_base.specs.declared.policies.Class.{Class}
 use Rattle.cf_base.specs.declared.policies.Mode.{Mode}
 use Rattle.cf_base.specs.declared.policies.Policy.{Policy}
 use Rattle.cf_model.specs.Arrows.{Arrow, noted, reading, ret, then_do}
 use Rattle.cf_model.specs.Requests.{Nothing}
 use Rattle.cf_model.specs.Books.{with_access}
-use Rattle.cf_model.specs.Changes.{change_with, changes, same_book, change}
+use Rattle.cf_model.specs.Changes.{change_with, changes}
 use Rattle.cf_model.specs.Images.{runs_of}
 use Rattle.cf_model.specs.Items.{Item}
 use Rattle.cf_model.specs.LookUp.{Place}
@@ -25,10 +27,12 @@ use Rattle.cf_model.specs.Points.{commit}
 use Rattle.cf_model.specs.Settling.{accessed, settle}
 use Rattle.cf_model.specs.State.{Filter, in_volume, is_replay}
 use Rattle.cf_model.specs.Waits.{on_ok}
+use Rattle.cf_model.specs.Words.{first_of, when}
 use Rattle.cf_model.specs.Calls.{below_at, blocks_now, buried, change_all, changing, class_flags, count_now, delete, delete_item, delete_now, delete_tests, df, flush, has_size, info, info_item, info_of, move_of, next_handle, number_at, number_next, number_of, open_file, open_item, open_tests, opened_as, pin_item, pins_at, place_at, policy_tests, ranges, ranges_item, rename, rename_item, rename_tests, rename_to, room_tests, set_pin, set_policy, set_size, show_count, show_number, size_item, size_now, size_tests, used, used_item, used_now, with_handle, with_policy, write, write_item, write_now, write_tests}
-use Rattle.cf_check_ways.specs.Ways.{IsSure, of_filter}
-use Rattle.cf_check_ways.proofs.Sure.{plain_quiet, reads_fixed, sure_each, sure_noted, sure_reading, sure_ret, sure_then}
-use Rattle.cf_check_ways.proofs.VolumeSteps.{change_sure, commit_sure, settle_sure}
+use Rattle.cf_check_ways.specs.Ways.{IsSure, IsSureFrom, of_filter}
+use Rattle.cf_check_ways.proofs.Sure.{plain_quiet, reads_fixed, sure_anywhere, sure_at_from, sure_known, sure_noted, sure_reading, sure_ret, sure_then, sure_then_from}
+use Rattle.cf_check_ways.proofs.ChangesSure.{HaveRoom, change_sure, changes_sure_from, checked_sure_from, first_room, passes_first, tested_room}
+use Rattle.cf_check_ways.proofs.VolumeSteps.{HasRoom, change_sure_from, commit_sure, settle_sure}
 use Rattle.cf_check_ways.proofs.RoomReads.{reads_room, reads_size}
 use Rattle.cf_check_ways.proofs.OperationsSure as operations_sure
 use Rattle.cf_check_ways.proofs.WaitsSure as waits_sure
@@ -43,7 +47,10 @@ pub open_file_sure : (x1 : List ℕ) → IsSure of_filter (open_file x1)
 open_file_sure path = waits_sure.on_file_sure path open_item (open_item_sure)
 
 pub changing_sure : (x1 : List Change) → (x2 : Arrow Filter Shown) → (IsSure of_filter (x2)) → IsSure of_filter (changing x1 x2)
-changing_sure cs answer answer_sure = operations_sure.checked_sure (room_tests cs) (then_do (changes cs) answer) (reads_room cs) (sure_then of_filter (changes cs) answer (sure_each of_filter change cs (λ z. change_sure same_book z)) answer_sure)
+changing_sure cs answer answer_sure =
+    checked_sure_from (room_tests cs) (then_do (changes cs) answer) (reads_room cs)
+    (sure_then_from of_filter (λ s. first_of (room_tests cs s) ≡ None) (changes cs) answer
+    (sure_known of_filter (λ s. HaveRoom cs s.volume) (λ s. first_of (room_tests cs s) ≡ None) (changes cs) (tested_room cs) (changes_sure_from cs)) answer_sure)
 
 pub show_number_sure : (x1 : Usn) → IsSure of_filter (show_number x1)
 show_number_sure n = sure_ret of_filter (shown.Number n)
@@ -51,22 +58,37 @@ show_number_sure n = sure_ret of_filter (shown.Number n)
 pub number_of_sure : (x1 : ItemId) → IsSure of_filter (number_of x1)
 number_of_sure item = sure_reading of_filter (number_at item) show_number (reads_fixed of_filter (number_at item) (λ s. refl)) (show_number_sure)
 
-pub write_now_sure : (x1 : ItemId) → (x2 : Change) → IsSure of_filter (write_now x1 x2)
-write_now_sure item c = sure_then of_filter (change_with (with_access item) c) (then_do (settle item Nothing) done) (change_sure (with_access item) c) (sure_then of_filter (settle item Nothing) done (settle_sure item Nothing) (operations_sure.done_sure))
+pub write_now_sure : (x1 : ItemId) → (x2 : Change) → IsSureFrom of_filter (λ s. HasRoom x2 s.volume) (write_now x1 x2)
+write_now_sure item c = sure_then_from of_filter (λ s. HasRoom c s.volume) (change_with (with_access item) c) (then_do (settle item Nothing) done) (change_sure_from (with_access item) c) (sure_then of_filter (settle item Nothing) done (settle_sure item Nothing) (operations_sure.done_sure))
+
+write_fits : (end : ℕ) (c : Change) (s : Filter) → first_of (write_tests end (c ∷ []) s) ≡ None → HasRoom c s.volume
+write_fits end c s h = first_room c [] s.volume (tested_room (c ∷ []) s (passes_first (nat_lt MOST_FILE_BYTES end) code.TooLarge (room_tests (c ∷ []) s) h).1)
 
 pub write_item_sure : (x1 : ℕ) → (x2 : List ℕ) → (x3 : ItemId) → IsSure of_filter (write_item x1 x2 x3)
 write_item_sure at [] item = operations_sure.done_sure
-write_item_sure at (b ∷ bs) item = operations_sure.checked_sure (write_tests (at + length (b ∷ bs)) (change.Write item at (b ∷ bs) ∷ [])) (write_now item (change.Write item at (b ∷ bs))) (reads_fixed of_filter (write_tests (at + length (b ∷ bs)) (change.Write item at (b ∷ bs) ∷ [])) (λ s. refl)) (write_now_sure item (change.Write item at (b ∷ bs)))
+write_item_sure at (b ∷ bs) item =
+    let c : Change = change.Write item at (b ∷ bs) in
+    checked_sure_from (write_tests (at + length (b ∷ bs)) (c ∷ [])) (write_now item c) (reads_fixed of_filter (write_tests (at + length (b ∷ bs)) (c ∷ [])) (λ s. refl))
+    (sure_known of_filter (λ s. HasRoom c s.volume) (λ s. first_of (write_tests (at + length (b ∷ bs)) (c ∷ []) s) ≡ None) (write_now item c) (write_fits (at + length (b ∷ bs)) c) (write_now_sure item c))
 
 pub write_sure : (x1 : Handle) → (x2 : ℕ) → (x3 : List ℕ) → IsSure of_filter (write x1 x2 x3)
 write_sure h at bytes = waits_sure.on_handle_sure h (write_item at bytes) (write_item_sure at bytes)
 
-pub size_now_sure : (x1 : ItemId) → (x2 : ℕ) → (x3 : Bool) → IsSure of_filter (size_now x1 x2 x3)
-size_now_sure item n true = sure_then of_filter (noted (accessed item)) done (sure_noted of_filter (accessed item) (plain_quiet of_filter (accessed item) (λ s. refl) (λ s. refl) (λ s. refl) (λ s. refl) (λ s. refl) (λ s. refl))) (operations_sure.done_sure)
-size_now_sure item n false = write_now_sure item (change.Size item n)
+-- it has the size, or the change was tested
+abbrev IsSized : ItemId → ℕ → Bool → Filter → Type 0
+IsSized item n same s = (first_of (size_tests item n s) ≡ None) × (has_size item n s ≡ same)
+
+size_fits : (item : ItemId) (n : ℕ) (s : Filter) → IsSized item n false s → HasRoom (change.Size item n) s.volume
+size_fits item n s h = write_fits n (change.Size item n) s (ap (λ (b : Bool). first_of (write_tests n (when (not b) (change.Size item n ∷ [])) s)) (sym h.1) ∙ h.0)
+
+pub size_now_sure : (x1 : ItemId) → (x2 : ℕ) → (x3 : Bool) → IsSureFrom of_filter (IsSized x1 x2 x3) (size_now x1 x2 x3)
+size_now_sure item n true = sure_anywhere of_filter (IsSized item n true) (then_do (noted (accessed item)) done) (sure_then of_filter (noted (accessed item)) done (sure_noted of_filter (accessed item) (plain_quiet of_filter (accessed item) (λ s. refl) (λ s. refl) (λ s. refl) (λ s. refl) (λ s. refl) (λ s. refl))) (operations_sure.done_sure))
+size_now_sure item n false = sure_known of_filter (λ s. HasRoom (change.Size item n) s.volume) (IsSized item n false) (write_now item (change.Size item n)) (size_fits item n) (write_now_sure item (change.Size item n))
 
 pub size_item_sure : (x1 : ℕ) → (x2 : ItemId) → IsSure of_filter (size_item x1 x2)
-size_item_sure n item = operations_sure.checked_sure (size_tests item n) (reading (has_size item n) (size_now item n)) (reads_size item n) (sure_reading of_filter (has_size item n) (size_now item n) (reads_fixed of_filter (has_size item n) (λ s. refl)) (size_now_sure item n))
+size_item_sure n item =
+    checked_sure_from (size_tests item n) (reading (has_size item n) (size_now item n)) (reads_size item n)
+    (sure_at_from of_filter (λ s. first_of (size_tests item n s) ≡ None) (reading (has_size item n) (size_now item n)) (has_size item n) (size_now item n) (λ s. refl) (reads_fixed of_filter (has_size item n) (λ s. refl)) (size_now_sure item n))
 
 pub set_size_sure : (x1 : Handle) → (x2 : ℕ) → IsSure of_filter (set_size x1 x2)
 set_size_sure h n = waits_sure.on_handle_sure h (size_item n) (size_item_sure n)
@@ -78,7 +100,7 @@ pub flush_sure : IsSure of_filter (flush)
 flush_sure = sure_then of_filter (in_volume commit) (reading count_now show_count) commit_sure (sure_reading of_filter count_now show_count (reads_fixed of_filter count_now (λ s. refl)) (show_count_sure))
 
 pub delete_now_sure : (x1 : Mode) → (x2 : Item) → (x3 : Usn) → IsSure of_filter (delete_now x1 x2 x3)
-delete_now_sure m i number = sure_then of_filter (change_with (buried (is_replay m) i number) (change.Remove i.id)) (ret (shown.Done)) (change_sure (buried (is_replay m) i number) (change.Remove i.id)) (sure_ret of_filter (shown.Done))
+delete_now_sure m i number = sure_then of_filter (change_with (buried (is_replay m) i number) (change.Remove i.id)) (ret (shown.Done)) (change_sure (buried (is_replay m) i number) (change.Remove i.id) (λ items. refl)) (sure_ret of_filter (shown.Done))
 
 pub delete_item_sure : (x1 : Mode) → (x2 : Item) → IsSure of_filter (delete_item x1 x2)
 delete_item_sure m i = operations_sure.checked_sure (delete_tests i) (reading number_next (delete_now m i)) (reads_fixed of_filter (delete_tests i) (λ s. refl)) (sure_reading of_filter number_next (delete_now m i) (reads_fixed of_filter number_next (λ s. refl)) (delete_now_sure m i))

@@ -6,14 +6,15 @@ use Rattle.cf_base.specs.declared.changes.Change.TheVariants as change
 use Rattle.cf_base.specs.declared.codes.Code.{Code}
 use Rattle.cf_base.specs.declared.waits.End.TheVariants as end
 use Rattle.cf_model.specs.Arrows.{reading, then_do}
-use Rattle.cf_model.specs.Changes.{no_places, same_book, change}
+use Rattle.cf_model.specs.Changes.{same_book, change}
 use Rattle.cf_model.specs.Changes as volume
 use Rattle.cf_model.specs.Items.{Item, size_of}
 use Rattle.cf_model.specs.Waits.{Need, begin_now, begun}
 use Rattle.cf_model.specs.Dehydration.{after_verdict, ask_consent, ask_tests, consent_need, dehydrate, dehydrate_item, dehydrate_range, emptied, empty_now, empty_range, empty_tests, has_bytes, is_connected, verdict_at, with_provider}
 use Rattle.cf_check_ways.specs.Ways.{IsSure, of_filter}
 use Rattle.cf_check_ways.proofs.Sure.{reads_fixed, sure_choose, sure_reading, sure_ret, sure_then, sure_unless}
-use Rattle.cf_check_ways.proofs.VolumeSteps.{begins_sure, change_sure}
+use Rattle.cf_check_ways.proofs.ChangesSure.{change_sure}
+use Rattle.cf_check_ways.proofs.VolumeSteps.{begins_sure}
 use Rattle.cf_check_ways.proofs.OperationsSure as operations_sure
 use Rattle.cf_check_ways.proofs.WaitsSure as waits_sure
 
@@ -24,7 +25,7 @@ pub emptied_sure : IsSure of_filter (emptied)
 emptied_sure = sure_ret of_filter (shown.Ended end.Emptied)
 
 pub empty_now_sure : (x1 : Item) → (x2 : ℕ) → (x3 : ℕ) → IsSure of_filter (empty_now x1 x2 x3)
-empty_now_sure i start len = operations_sure.checked_sure empty_tests (then_do (volume.change (change.Emptied i.id start len)) emptied) (reads_fixed of_filter empty_tests (λ s. refl)) (sure_then of_filter (volume.change (change.Emptied i.id start len)) emptied (change_sure same_book (change.Emptied i.id start len)) (emptied_sure))
+empty_now_sure i start len = operations_sure.checked_sure empty_tests (then_do (volume.change (change.Emptied i.id start len)) emptied) (reads_fixed of_filter empty_tests (λ s. refl)) (sure_then of_filter (volume.change (change.Emptied i.id start len)) emptied (change_sure same_book (change.Emptied i.id start len) (λ items. refl)) (emptied_sure))
 
 pub with_provider_sure : (x1 : Item) → (x2 : ℕ) → (x3 : ℕ) → (x4 : Bool) → IsSure of_filter (with_provider x1 x2 x3 x4)
 with_provider_sure i start len true = ask_consent_sure (consent_need i start len)

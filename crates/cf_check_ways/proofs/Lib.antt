@@ -1,6 +1,7 @@
 pub mod AgentsSure
 pub mod CallbacksSure
 pub mod CallsSure
+pub mod ChangesSure
 pub mod DehydrationSure
 pub mod EngineEventsSure
 pub mod EventsSure
@@ -12,9 +13,11 @@ pub mod OperationsSure
 pub mod PassesSure
 pub mod PeersSure
 pub mod PlacementsSure
+pub mod PointSteps
 pub mod PushRepliesSure
 pub mod PushesSure
 pub mod RestartsSure
+pub mod RoomPoints
 pub mod RoomReads
 pub mod SkipsSure
 pub mod SpaceSure

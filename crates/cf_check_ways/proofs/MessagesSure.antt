@@ -20,8 +20,8 @@ use Rattle.cf_model.specs.Trees.{Stops, AsItKeeps, Ends, Faults, Telling, Tells}
 use Rattle.cf_model.specs.Messages.{act_on, act_unless, after_ask, after_post, answered, come, come_if, come_now, counted, distrusted, entry_live, failed, fault_line, if_kept, is_inline, is_stale, is_upload, next_message, no_bytes, no_number, post, post_by, post_unless, send, send_now, take_if_any, take_reply, was_kept, with_entry, with_lost, with_message, with_remote}
 use Rattle.cf_model.specs.Feeds.{apply_feed}
 use Rattle.cf_model.specs.Fetching.{take_bytes, take_gone, take_listing, take_missing}
-use Rattle.cf_check_ways.specs.Ways.{core_of, sures, Alike, FailedIn, Grown, IsSure, Parted, SameEnd, fixed_state, is_good, of_state}
-use Rattle.cf_check_ways.proofs.Sure.{becomes_same, front_here, grown_more, reads_fixed, sure_choose, sure_fixed, sure_one, sure_reading, sure_ret, sure_seq, sure_then}
+use Rattle.cf_check_ways.specs.Ways.{core_of, Alike, FailedIn, Grown, IsSure, Parted, SameEnd, fixed_state, is_good, of_state}
+use Rattle.cf_check_ways.proofs.Sure.{becomes_same, front_here, grown_more, had_same, reads_fixed, same_points, sure_choose, sure_fixed, sure_one, sure_reading, sure_ret, sure_seq, sure_then}
 use Rattle.cf_check_ways.proofs.VolumeSteps.{commit_sure, sure_in_filter}
 use Rattle.cf_check_ways.proofs.StateSteps.{fault_line_plain, with_lost_plain, with_message_plain}
 use Rattle.cf_check_ways.proofs.FeedsSure as feeds_sure
@@ -165,8 +165,9 @@ come_sure m q = record {
   grows = λ s a t h. come_grows m q s a t h.0 h.1;
   one = λ s o e a b t u h k good well. come_one m q s o e a b t u h.0 k.0 h.1 k.1 good well;
   rooms = λ s a t h. becomes_same (core_of s.filter.volume) (core_of t.filter.volume) (come_core m q s a t h.0 h.1);
-  keeps = λ s o e same a b t u h k _ _. inl (ap sures (come_core m q s a t h.0 h.1) ∙ same ∙ ap sures (sym (come_core m q o b u k.0 k.1)));
+  keeps = λ s o e _ _ same a b t u h k _ _. inl (same_points (core_of s.filter.volume) (core_of o.filter.volume) (core_of t.filter.volume) (core_of u.filter.volume) (come_core m q s a t h.0 h.1) (come_core m q o b u k.0 k.1) same);
   halts = λ s t h. (come_halts m q s t h.0 h.1).0;
+  fits = λ s may a t h had. had_same (core_of s.filter.volume) (core_of t.filter.volume) (come_core m q s a t h.0 h.1) had;
   stop = λ s o e t b u h k good well. inl (front_here of_state t s o u (come_halts m q s t h.0 h.1).1 e (come_grows m q o b u k.0 k.1));
 }
 

@@ -14,6 +14,7 @@ use Rattle.cf_model.specs.Items.{Item}
 use Rattle.cf_model.specs.Skips.{do_change, in_book, in_volatile, is_cursor, skip, to_conflict, try_book, try_mark, try_seen, with_volatile}
 use Rattle.cf_model.specs.PushReplies.{bury_new, by_why, cursor_reset_if, done_by, done_move, done_removal, done_upload, done_upload_on, drop_if, end_and_close, end_entry, end_tombstone, entry_seen, held_and_closed, is_new_entry, is_removal, item_of_entry, lost_place, move_away, name_taken, name_taken_again, name_taken_by, not_empty, not_empty_by, not_in_row, nothing_further, rebase, rebase_of, rebase_unless, reset_cursor, reset_if, see_and_mark, take, take_done, take_refused, take_void, taken_from_row, tombstone_left, was_directory, was_name_taken, was_not_empty, whatever, why_no_rebase, with_done, with_not_empty, with_taken_name}
 use Rattle.cf_check_ways.specs.Ways.{IsSure, of_state}
+use Rattle.cf_check_ways.proofs.ChangesSure.{PutsNothing}
 use Rattle.cf_check_ways.proofs.Sure.{plain_quiet, reads_fixed, sure_and_then, sure_fixed, sure_noted, sure_only_if, sure_reading, sure_ret, sure_seq, sure_then}
 use Rattle.cf_check_ways.proofs.StateSteps.{volatile_plain}
 use Rattle.cf_check_ways.proofs.SkipsSure as skips_sure
@@ -33,18 +34,18 @@ whatever_sure done = sure_ret of_state unit
 pub see_and_mark_sure : (x1 : QueueEntry) → IsSure of_state (see_and_mark x1)
 see_and_mark_sure e = sure_seq of_state (and_then (only_if (is_new_entry e) (try_seen (entry_seen e))) (try_mark e.item e.number)) whatever (sure_and_then of_state (only_if (is_new_entry e) (try_seen (entry_seen e))) (try_mark e.item e.number) (sure_only_if of_state (is_new_entry e) (try_seen (entry_seen e)) (skips_sure.try_seen_sure (entry_seen e))) (skips_sure.try_mark_sure e.item e.number)) (whatever_sure)
 
-pub rebase_unless_sure : (x1 : QueueEntry) → (x2 : Change) → (x3 : Option Code) → IsSure of_state (rebase_unless x1 x2 x3)
-rebase_unless_sure e c (Some code) = skips_sure.skip_sure code
-rebase_unless_sure e c None = sure_then of_state (take e) (then_do (do_change c) (see_and_mark e)) (take_sure e) (sure_then of_state (do_change c) (see_and_mark e) (skips_sure.do_change_sure c) (see_and_mark_sure e))
+pub rebase_unless_sure : (x1 : QueueEntry) → (x2 : Change) → PutsNothing x2 → (x3 : Option Code) → IsSure of_state (rebase_unless x1 x2 x3)
+rebase_unless_sure e c none (Some code) = skips_sure.skip_sure code
+rebase_unless_sure e c none None = sure_then of_state (take e) (then_do (do_change c) (see_and_mark e)) (take_sure e) (sure_then of_state (do_change c) (see_and_mark e) (skips_sure.do_change_sure c none) (see_and_mark_sure e))
 
-pub rebase_sure : (x1 : QueueEntry) → (x2 : Change) → IsSure of_state (rebase x1 x2)
-rebase_sure e c = sure_reading of_state (why_no_rebase e c) (rebase_unless e c) (reads_fixed of_state (why_no_rebase e c) (λ s. refl)) (rebase_unless_sure e c)
+pub rebase_sure : (x1 : QueueEntry) → (x2 : Change) → PutsNothing x2 → IsSure of_state (rebase x1 x2)
+rebase_sure e c none = sure_reading of_state (why_no_rebase e c) (rebase_unless e c) (reads_fixed of_state (why_no_rebase e c) (λ s. refl)) (rebase_unless_sure e c none)
 
 pub bury_new_sure : (x1 : QueueEntry) → (x2 : Rid) → (x3 : Version) → IsSure of_state (bury_new x1 x2 x3)
 bury_new_sure e rid version = sure_then of_state (take e) (seq (only_if (is_new_entry e) (try_book (with_tombstone (tombstone_left e rid version)))) whatever) (take_sure e) (sure_seq of_state (only_if (is_new_entry e) (try_book (with_tombstone (tombstone_left e rid version)))) whatever (sure_only_if of_state (is_new_entry e) (try_book (with_tombstone (tombstone_left e rid version))) (skips_sure.try_book_sure (with_tombstone (tombstone_left e rid version)))) (whatever_sure))
 
 pub done_upload_on_sure : (x1 : QueueEntry) → (x2 : Rid) → (x3 : Version) → (x4 : Option Item) → IsSure of_state (done_upload_on x1 x2 x3 x4)
-done_upload_on_sure e rid version (Some i) = rebase_sure e (rebase_of e rid version i)
+done_upload_on_sure e rid version (Some i) = rebase_sure e (rebase_of e rid version i) (λ items. refl)
 done_upload_on_sure e rid version None = bury_new_sure e rid version
 
 pub done_upload_sure : (x1 : QueueEntry) → (x2 : Rid) → (x3 : Version) → IsSure of_state (done_upload x1 x2 x3)

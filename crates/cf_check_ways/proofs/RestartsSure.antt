@@ -1,7 +1,6 @@
 -- What a restart may end with, and a crash.
-use Rattle.std.proofs.Common.{◌≡◌, ◌⊎◌, ℕ, suc, Bool, true, false, List, [], ◌∷◌, length, nat_lt, reverse, refl, sym, ◌∙◌, ap, subst, inl, inr, ◌&&◌, filter}
-use Rattle.std.specs.List.{list_all}
-use Rattle.std.proofs.lemmas.List.{length-reverse}
+use Rattle.std.proofs.Common.{◌≡◌, ◌⊎◌, ℕ, suc, Bool, true, false, List, [], ◌∷◌, ◌++◌, length, nat_lt, reverse, refl, sym, ◌∙◌, ap, subst, inl, inr, filter}
+use Rattle.std.proofs.lemmas.List.{length-reverse, reverse-append}
 use Rattle.cf_base.specs.declared.answers.OpenedBook.{OpenedBook}
 use Rattle.cf_base.specs.declared.answers.Shown.{Shown}
 use Rattle.cf_base.specs.declared.answers.Shown.TheVariants as shown
@@ -9,12 +8,12 @@ use Rattle.cf_base.specs.declared.codes.Code.TheVariants as code
 use Rattle.cf_model.specs.Arrows.{Arrow, choose, noted, ret, then_do}
 use Rattle.cf_model.specs.Books.{Book}
 use Rattle.cf_model.specs.Numbers.{most}
-use Rattle.cf_model.specs.Points.{ArePoints, HasPoints}
+use Rattle.cf_model.specs.Points.{ArePoints, HasPoints, Opens}
 use Rattle.cf_model.specs.Restarts.{crash, crashed, epoch_after, more_epochs, open_in, one_of, open_point, open_points, open_skipping, points_at, restart, restart_by, resumed, with_opened}
 use Rattle.cf_model.specs.State.{Broken, Off, On, Point, Power, State}
 use Rattle.cf_model.specs.Trees.{Ends, Stops}
 use Rattle.cf_model.specs.Words.{counting}
-use Rattle.cf_check_ways.specs.Ways.{AllSure, core_of, sures, Alike, BothResumed, IsSure, SameEnd, fixed_state, of_state}
+use Rattle.cf_check_ways.specs.Ways.{core_of, Alike, BothResumed, IsSure, SameEnd, fixed_state, of_state}
 use Rattle.cf_check_ways.proofs.Sure.{plain_quiet, sure_noted, sure_ret, sure_then}
 
 pub crash_sure : IsSure of_state crash
@@ -22,29 +21,47 @@ crash_sure = sure_then of_state (noted crashed) (ret shown.Done) (sure_noted of_
 
 -- a restart over a volume that was off
 
-ends_one_of : {X : Type 0} (f : X → Arrow State Shown) (x : X) (xs : List X) (s : State) (a : Shown) (t : State) → Ends (one_of f x xs s) a t → (y : X) × Ends (f y s) a t
+pub ends_one_of : {X : Type 0} (f : X → Arrow State Shown) (x : X) (xs : List X) (s : State) (a : Shown) (t : State) → Ends (one_of f x xs s) a t → (y : X) × Ends (f y s) a t
 ends_one_of f x [] s a t h = (x, h)
 ends_one_of f x (y ∷ ys) s a t (inl h) = (x, h)
 ends_one_of f x (y ∷ ys) s a t (inr h) = ends_one_of f y ys s a t h
 
 -- the epochs are used up, or the point was opened
-opened_in : (p : Point) (epoch : ℕ) (s : State) (a : Shown) (t : State) (none : Bool) → Ends (choose none (ret (shown.Refused code.Exhausted)) (then_do (noted (with_opened p epoch)) (ret (resumed p))) s) a t
+pub opened_in : (p : Point) (epoch : ℕ) (s : State) (a : Shown) (t : State) (none : Bool) → Ends (choose none (ret (shown.Refused code.Exhausted)) (then_do (noted (with_opened p epoch)) (ret (resumed p))) s) a t
     → ((none ≡ true) × (a ≡ shown.Refused code.Exhausted) × (t ≡ s)) ⊎ ((none ≡ false) × (a ≡ resumed p) × (t ≡ with_opened p epoch s))
 opened_in p epoch s a t true h = inl (refl, h.0, h.1)
 opened_in p epoch s a t false h = inr (refl, h.0, h.1)
 
-abbrev Opened : State → Shown → State → Type 0
-Opened s a t = ((nat_lt most (epoch_after 0 s) ≡ true) × (a ≡ shown.Refused code.Exhausted) × (t ≡ s))
-    ⊎ ((nat_lt most (epoch_after 0 s) ≡ false) × ((p : Point) × (a ≡ resumed p) × (t ≡ with_opened p (epoch_after 0 s) s)))
+-- the point that was opened is one of these
+abbrev Opened : State → List Point → Shown → State → Type 0
+Opened s ps a t = ((nat_lt most (epoch_after 0 s) ≡ true) × (a ≡ shown.Refused code.Exhausted) × (t ≡ s))
+    ⊎ ((nat_lt most (epoch_after 0 s) ≡ false) × ((p : Point) × (a ≡ resumed p) × (t ≡ with_opened p (epoch_after 0 s) s) × Opens ps p))
 
-opened_at_point : (s : State) (p : Point) (a : Shown) (t : State) → s.failed_opens ≡ 0 → Ends (open_point p s) a t → Opened s a t
-opened_at_point s p a t none h =
+opened_at_point : (s : State) (ps : List Point) (p : Point) (a : Shown) (t : State) → Opens ps p → s.failed_opens ≡ 0 → Ends (open_point p s) a t → Opened s ps a t
+opened_at_point s ps p a t is none h =
     let first : Ends (one_of (open_skipping p) 0 [] s) a t = subst (λ (n : ℕ). Ends (one_of (open_skipping p) 0 (counting 1 n) s) a t) none h in
-    elim (opened_in p (epoch_after 0 s) s a t (nat_lt most (epoch_after 0 s)) first) as (λ _. Opened s a t) [ inl x ↦ inl x | inr x ↦ inr (x.0, (p, x.1, x.2)) ]
+    elim (opened_in p (epoch_after 0 s) s a t (nat_lt most (epoch_after 0 s)) first) as (λ _. Opened s ps a t) [ inl x ↦ inl x | inr x ↦ inr (x.0, (p, x.1, x.2, is)) ]
 
-opened_of_points : (s : State) (ps : List Point) (a : Shown) (t : State) → (ps ≡ [] → ⊥) → s.failed_opens ≡ 0 → Ends (open_points ps s) a t → Opened s a t
+pub ends_one_point : (p : Point) (ps : List Point) (s : State) (a : Shown) (t : State) → Ends (one_of open_point p ps s) a t → (q : Point) × Opens (p ∷ ps) q × Ends (open_point q s) a t
+ends_one_point p [] s a t h = (p, inl refl, h)
+ends_one_point p (q ∷ ps) s a t (inl h) = (p, inl refl, h)
+ends_one_point p (q ∷ ps) s a t (inr h) = let x = ends_one_point q ps s a t h in (x.0, inr x.1, x.2)
+
+opened_of_points : (s : State) (ps : List Point) (a : Shown) (t : State) → (ps ≡ [] → ⊥) → s.failed_opens ≡ 0 → Ends (open_points ps s) a t → Opened s ps a t
 opened_of_points s [] a t some none h = absurd (some refl)
-opened_of_points s (p ∷ ps) a t some none h = let x = ends_one_of open_point p ps s a t h in opened_at_point s x.0 a t none x.1
+opened_of_points s (p ∷ ps) a t some none h = let x = ends_one_point p ps s a t h in opened_at_point s (p ∷ ps) x.0 a t x.1 none x.2
+
+-- the last first, they are the same
+
+opens_longer : (p q : Point) (ps : List Point) → Opens (ps ++ q ∷ []) p → (p ≡ q) ⊎ Opens ps p
+opens_longer p q [] (inl e) = inl e
+opens_longer p q [] (inr h) = absurd h
+opens_longer p q (x ∷ xs) (inl e) = inr (inl e)
+opens_longer p q (x ∷ xs) (inr h) = elim (opens_longer p q xs h) as (λ _. (p ≡ q) ⊎ Opens (x ∷ xs) p) [ inl e ↦ inl e | inr k ↦ inr (inr k) ]
+
+pub opens_reversed : (p : Point) (ps : List Point) → Opens (reverse ps) p → Opens ps p
+opens_reversed p [] h = h
+opens_reversed p (q ∷ ps) h = elim (opens_longer p q (reverse ps) (subst (λ (xs : List Point). Opens xs p) (reverse-append (q ∷ []) ps) h)) as (λ _. Opens (q ∷ ps) p) [ inl e ↦ inl e | inr k ↦ inr (opens_reversed p ps k) ]
 
 no_longer_empty : (p : Point) (ps : List Point) → reverse (p ∷ ps) ≡ [] → ⊥
 no_longer_empty p ps e = let n : length (reverse (p ∷ ps)) ≡ length (p ∷ ps) = length-reverse (p ∷ ps) in let z : 0 ≡ suc (length ps) = sym (ap (λ (xs : List Point). length xs) e) ∙ n in absurd cc
@@ -67,29 +84,53 @@ same_opened s o a b t u e r counts books = (
       ∙ ap fixed_state (sym r.left_too),
 )
 
-both_opened : (s o : State) (a b : Shown) (t u : State) → Alike of_state s o → Opened s a t → Opened o b u → SameEnd of_state a t b u ⊎ BothResumed s o a b t u
-both_opened s o a b t u e (inl x) (inl y) = inl (x.1 ∙ sym y.1, ap fixed_state x.2 ∙ e ∙ ap fixed_state (sym y.2))
+-- the same end, which leaves the volumes as they were
+abbrev pub BothRefused : State → State → Shown → Shown → State → State → Type 0
+BothRefused s o a b t u = SameEnd of_state a t b u × (core_of t.filter.volume ≡ core_of s.filter.volume) × (core_of u.filter.volume ≡ core_of o.filter.volume)
+
+core_as : (t s : State) → t ≡ s → core_of t.filter.volume ≡ core_of s.filter.volume
+core_as t s e = ap (λ (x : State). core_of x.filter.volume) e
+
+both_opened : (s o : State) (a b : Shown) (t u : State) → Alike of_state s o → Opened s (points_at s) a t → Opened o (points_at o) b u → BothRefused s o a b t u ⊎ BothResumed s o a b t u
+both_opened s o a b t u e (inl x) (inl y) = inl ((x.1 ∙ sym y.1, ap fixed_state x.2 ∙ e ∙ ap fixed_state (sym y.2)), core_as t s x.2, core_as u o y.2)
 both_opened s o a b t u e (inl x) (inr y) = let z : true ≡ false = sym x.0 ∙ ap (λ (k : State). nat_lt most (epoch_after 0 k)) e ∙ y.0 in absurd cc
 both_opened s o a b t u e (inr x) (inl y) = let z : false ≡ true = sym x.0 ∙ ap (λ (k : State). nat_lt most (epoch_after 0 k)) e ∙ y.0 in absurd cc
-both_opened s o a b t u e (inr x) (inr y) = inr (record { point = x.1.0; other = y.1.0; resumes = x.1.1; resumes_too = y.1.1; left = x.1.2; left_too = y.1.2 })
+both_opened s o a b t u e (inr x) (inr y) =
+    inr (record {
+      point = x.1.0;
+      other = y.1.0;
+      opens = opens_reversed x.1.0 s.filter.volume.points x.1.3;
+      opens_too = opens_reversed y.1.0 o.filter.volume.points y.1.3;
+      resumes = x.1.1;
+      resumes_too = y.1.1;
+      left = x.1.2;
+      left_too = y.1.2;
+    })
 
 -- two restarts, where none failed since the last opening
-pub restart_one : (s o : State) → Alike of_state s o → s.failed_opens ≡ 0 → HasPoints s.filter.volume → HasPoints o.filter.volume → (a b : Shown) (t u : State)
-    → Ends (restart s) a t → Ends (restart o) b u → SameEnd of_state a t b u ⊎ BothResumed s o a b t u
-restart_one s o e none has has_too a b t u h k = by s.power o.power (ap (λ (x : State). x.power) e) h k
+pub restart_both : (s o : State) → Alike of_state s o → s.failed_opens ≡ 0 → HasPoints s.filter.volume → HasPoints o.filter.volume → (a b : Shown) (t u : State)
+    → Ends (restart s) a t → Ends (restart o) b u → BothRefused s o a b t u ⊎ BothResumed s o a b t u
+restart_both s o e none has has_too a b t u h k = by s.power o.power (ap (λ (x : State). x.power) e) h k
   where
-    by : (w v : Power) → w ≡ v → Ends (restart_by w s) a t → Ends (restart_by v o) b u → SameEnd of_state a t b u ⊎ BothResumed s o a b t u
+    unchanged : (a ≡ shown.Refused code.Running) × (t ≡ s) → (b ≡ shown.Refused code.Running) × (u ≡ o) → BothRefused s o a b t u
+    unchanged h k = ((h.0 ∙ sym k.0, ap fixed_state h.1 ∙ e ∙ ap fixed_state (sym k.1)), core_as t s h.1, core_as u o k.1)
+
+    by : (w v : Power) → w ≡ v → Ends (restart_by w s) a t → Ends (restart_by v o) b u → BothRefused s o a b t u ⊎ BothResumed s o a b t u
     by Off Off same h k =
         both_opened s o a b t u e (opened_of_points s (points_at s) a t (some_points (length s.filter.volume.log) s.filter.volume.points has) none h)
         (opened_of_points o (points_at o) b u (some_points (length o.filter.volume.log) o.filter.volume.points has_too) (sym (ap (λ (x : State). x.failed_opens) e) ∙ none) k)
-    by On On same h k = inl (h.0 ∙ sym k.0, ap fixed_state h.1 ∙ e ∙ ap fixed_state (sym k.1))
-    by Broken Broken same h k = inl (h.0 ∙ sym k.0, ap fixed_state h.1 ∙ e ∙ ap fixed_state (sym k.1))
+    by On On same h k = inl (unchanged h k)
+    by Broken Broken same h k = inl (unchanged h k)
     by Off On same h k = let z : Off ≡ On = same in absurd cc
     by Off Broken same h k = let z : Off ≡ Broken = same in absurd cc
     by On Off same h k = let z : On ≡ Off = same in absurd cc
     by On Broken same h k = let z : On ≡ Broken = same in absurd cc
     by Broken On same h k = let z : Broken ≡ On = same in absurd cc
     by Broken Off same h k = let z : Broken ≡ Off = same in absurd cc
+
+pub restart_one : (s o : State) → Alike of_state s o → s.failed_opens ≡ 0 → HasPoints s.filter.volume → HasPoints o.filter.volume → (a b : Shown) (t u : State)
+    → Ends (restart s) a t → Ends (restart o) b u → SameEnd of_state a t b u ⊎ BothResumed s o a b t u
+restart_one s o e none has has_too a b t u h k = elim (restart_both s o e none has has_too a b t u h k) as (λ _. SameEnd of_state a t b u ⊎ BothResumed s o a b t u) [ inl x ↦ inl x.0 | inr x ↦ inr x ]
 
 -- a restart sends nothing
 
@@ -131,84 +172,6 @@ restart_afresh s a t none h = by s.power h
     by Off h = points_afresh (points_at s) s a t none h
     by On h = ap (λ (z : State). z.failed_opens) h.1 ∙ none
     by Broken h = ap (λ (z : State). z.failed_opens) h.1 ∙ none
-
--- where one point alone may be opened
-
-one_point : (n : ℕ) (ps : List Point) → ArePoints n ps → list_all (λ p. p.sure) ps ≡ true → (p : Point) × (ps ≡ p ∷ [])
-one_point n [] has all = absurd has
-one_point n (p ∷ []) has all = (p, refl)
-one_point n (p ∷ q ∷ ps) has all = let z : false ≡ true = sym (ap (λ (b : Bool). b && list_all (λ x. x.sure) (q ∷ ps)) has.0) ∙ all in absurd cc
-
--- opened at this point, or the epochs are used up
-abbrev Opened' : State → Point → Shown → State → Type 0
-Opened' s p a t = ((nat_lt most (epoch_after 0 s) ≡ true) × (a ≡ shown.Refused code.Exhausted) × (t ≡ s))
-    ⊎ ((nat_lt most (epoch_after 0 s) ≡ false) × (a ≡ resumed p) × (t ≡ with_opened p (epoch_after 0 s) s))
-
-opened_here : (s : State) (p : Point) (a : Shown) (t : State) → s.failed_opens ≡ 0 → Ends (open_point p s) a t → Opened' s p a t
-opened_here s p a t none h =
-    let first : Ends (one_of (open_skipping p) 0 [] s) a t = subst (λ (n : ℕ). Ends (one_of (open_skipping p) 0 (counting 1 n) s) a t) none h in
-    opened_in p (epoch_after 0 s) s a t (nat_lt most (epoch_after 0 s)) first
-
-kept_one : (p : Point) → list_all (λ x. x.sure) (p ∷ []) ≡ true → filter (λ x. x.sure) (p ∷ []) ≡ p ∷ []
-kept_one p all = by p.sure refl all
-  where
-    by : (b : Bool) → p.sure ≡ b → (b && true) ≡ true → filter (λ x. x.sure) (p ∷ []) ≡ p ∷ []
-    by true e h = rw e refl
-    by false e h = let z : false ≡ true = h in absurd cc
-
-head_is : (p q : Point) → p ∷ [] ≡ q ∷ [] → p ≡ q
-head_is p q e = cc
-
--- two restarts from alike states whose points are those of flushes and uploads, and the same
-pub restart_single : (s o : State) → Alike of_state s o → s.failed_opens ≡ 0 → HasPoints s.filter.volume → HasPoints o.filter.volume → AllSure (core_of s.filter.volume) → AllSure (core_of o.filter.volume)
-    → sures (core_of s.filter.volume) ≡ sures (core_of o.filter.volume) → (a b : Shown) (t u : State) → Ends (restart s) a t → Ends (restart o) b u
-    → SameEnd of_state a t b u × (sures (core_of t.filter.volume) ≡ sures (core_of u.filter.volume)) × AllSure (core_of t.filter.volume) × AllSure (core_of u.filter.volume)
-restart_single s o e none has has_too all all_too same a b t u h k = by s.power o.power (ap (λ (x : State). x.power) e) h k
-  where
-    unchanged : (a ≡ b) → t ≡ s → u ≡ o → SameEnd of_state a t b u × (sures (core_of t.filter.volume) ≡ sures (core_of u.filter.volume)) × AllSure (core_of t.filter.volume) × AllSure (core_of u.filter.volume)
-    unchanged d g i = (
-      (d, ap fixed_state g ∙ e ∙ ap fixed_state (sym i)),
-      ap (λ (x : State). sures (core_of x.filter.volume)) g ∙ same ∙ ap (λ (x : State). sures (core_of x.filter.volume)) (sym i),
-      subst (λ (x : State). AllSure (core_of x.filter.volume)) (sym g) all,
-      subst (λ (x : State). AllSure (core_of x.filter.volume)) (sym i) all_too,
-    )
-
-    at : (p q : Point) → p ≡ q → Opened' s p a t → Opened' o q b u → SameEnd of_state a t b u × (sures (core_of t.filter.volume) ≡ sures (core_of u.filter.volume)) × AllSure (core_of t.filter.volume) × AllSure (core_of u.filter.volume)
-    at p q pq (inl x) (inl y) = unchanged (x.1 ∙ sym y.1) x.2 y.2
-    at p q pq (inl x) (inr y) = let z : true ≡ false = sym x.0 ∙ ap (λ (w : State). nat_lt most (epoch_after 0 w)) e ∙ y.0 in absurd cc
-    at p q pq (inr x) (inl y) = let z : false ≡ true = sym x.0 ∙ ap (λ (w : State). nat_lt most (epoch_after 0 w)) e ∙ y.0 in absurd cc
-    at p q pq (inr x) (inr y) = (
-      (
-        x.1 ∙ ap resumed pq ∙ sym y.1,
-        ap fixed_state x.2 ∙ ap (λ (w : Point). fixed_state (with_opened w (epoch_after 0 s) s)) pq ∙ ap (λ (w : State). fixed_state (with_opened (of_count q.count q.book) (epoch_after 0 w) w)) e ∙ ap fixed_state (sym y.2),
-      ),
-      ap (λ (w : State). sures (core_of w.filter.volume)) x.2 ∙ ap (λ (w : Point). of_count w.count w.book ∷ []) pq ∙ ap (λ (w : State). sures (core_of w.filter.volume)) (sym y.2),
-      subst (λ (w : State). AllSure (core_of w.filter.volume)) (sym x.2) refl,
-      subst (λ (w : State). AllSure (core_of w.filter.volume)) (sym y.2) refl,
-    )
-
-    opened : Ends (open_points (points_at s) s) a t → Ends (open_points (points_at o) o) b u → SameEnd of_state a t b u × (sures (core_of t.filter.volume) ≡ sures (core_of u.filter.volume)) × AllSure (core_of t.filter.volume) × AllSure (core_of u.filter.volume)
-    opened h k =
-        let x = one_point (length s.filter.volume.log) s.filter.volume.points has all in
-        let y = one_point (length o.filter.volume.log) o.filter.volume.points has_too all_too in
-        let x_sure : list_all (λ p. p.sure) (x.0 ∷ []) ≡ true = subst (λ (ps : List Point). list_all (λ p. p.sure) ps ≡ true) x.1 all in
-        let y_sure : list_all (λ p. p.sure) (y.0 ∷ []) ≡ true = subst (λ (ps : List Point). list_all (λ p. p.sure) ps ≡ true) y.1 all_too in
-        let lists : x.0 ∷ [] ≡ y.0 ∷ []
-        = sym (kept_one x.0 x_sure) ∙ ap (λ (ps : List Point). filter (λ p. p.sure) ps) (sym x.1) ∙ same ∙ ap (λ (ps : List Point). filter (λ p. p.sure) ps) y.1 ∙ kept_one y.0 y_sure in
-        at x.0 y.0 (head_is x.0 y.0 lists)
-        (opened_here s x.0 a t none (subst (λ (ps : List Point). Ends (open_points (reverse ps) s) a t) x.1 h))
-        (opened_here o y.0 b u (sym (ap (λ (w : State). w.failed_opens) e) ∙ none) (subst (λ (ps : List Point). Ends (open_points (reverse ps) o) b u) y.1 k))
-
-    by : (w v : Power) → w ≡ v → Ends (restart_by w s) a t → Ends (restart_by v o) b u → SameEnd of_state a t b u × (sures (core_of t.filter.volume) ≡ sures (core_of u.filter.volume)) × AllSure (core_of t.filter.volume) × AllSure (core_of u.filter.volume)
-    by Off Off z h k = opened h k
-    by On On z h k = unchanged (h.0 ∙ sym k.0) h.1 k.1
-    by Broken Broken z h k = unchanged (h.0 ∙ sym k.0) h.1 k.1
-    by Off On z h k = let y : Off ≡ On = z in absurd cc
-    by Off Broken z h k = let y : Off ≡ Broken = z in absurd cc
-    by On Off z h k = let y : On ≡ Off = z in absurd cc
-    by On Broken z h k = let y : On ≡ Broken = z in absurd cc
-    by Broken On z h k = let y : Broken ≡ On = z in absurd cc
-    by Broken Off z h k = let y : Broken ≡ Off = z in absurd cc
 
 -- a restart that the device stops tells nothing
 

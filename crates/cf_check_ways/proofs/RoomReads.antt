@@ -29,7 +29,7 @@ pub same_table : (v : Volume) (cs : List Change) → no_table v cs ≡ no_table 
 same_table v [] = refl
 same_table v (c ∷ cs) = ap (λ (b : Bool). is_table_full c (put_change c v).items (put_change c v).book || b) (same_table (put_change c v) cs ∙ sym (same_table (put_change c (without_points v)) cs))
 
-same_blocks : (v : Volume) (cs : List Change) → no_blocks v cs ≡ no_blocks (without_points v) cs
+pub same_blocks : (v : Volume) (cs : List Change) → no_blocks v cs ≡ no_blocks (without_points v) cs
 same_blocks v [] = refl
 same_blocks v (c ∷ cs) = ap (λ (b : Bool). is_full v.clusters v.items c || b) (same_blocks (put_change c v) cs ∙ sym (same_blocks (put_change c (without_points v)) cs))
 

@@ -1,21 +1,24 @@
 -- The parts of `Skips` are sure, each by its own parts.
-use Rattle.std.proofs.Common.{refl}
-use Rattle.std.specs.Prelude.{ℕ, Bool, true, false, not, List, Option, Some, None}
+use Rattle.std.proofs.Common.{◌≡◌, refl}
+use Rattle.std.specs.Prelude.{ℕ, Bool, true, false, not, List, [], ◌∷◌, Option, Some, None}
 use Rattle.cf_base.specs.declared.changes.Change.{Change}
 use Rattle.cf_base.specs.declared.changes.Change.TheVariants as change
 use Rattle.cf_base.specs.declared.codes.Code.{Code}
+use Rattle.cf_base.specs.declared.codes.Code.TheVariants as code
 use Rattle.cf_base.specs.declared.ids.ItemId.{ItemId}
 use Rattle.cf_base.specs.declared.ids.Usn.{Usn}
 use Rattle.cf_base.specs.declared.items.SeenPath.{SeenPath}
 use Rattle.cf_model.specs.Arrows.{Arrow, attempt}
 use Rattle.cf_model.specs.Books.{Book, with_cursor, with_seen}
-use Rattle.cf_model.specs.Changes.{change as put, same_book}
+use Rattle.cf_model.specs.Changes.{change as put, same_book, why_no_room}
 use Rattle.cf_model.specs.Items.{Item}
 use Rattle.cf_model.specs.State.{State, items_now}
-use Rattle.cf_model.specs.Skips.{conflict_move, cursor_unless, do_change, in_book, is_cursor, is_markable, is_there, left_out, mark_if, move_off, not_done, number_of_item, occupant, seen_if, skip, skipped, to_conflict, tried, try_book, try_change, try_clear_name, try_cursor, try_mark, try_mark_now, try_seen, why_no_change, why_no_record, with_book}
-use Rattle.cf_check_ways.specs.Ways.{IsSure, Reads, of_state}
-use Rattle.cf_check_ways.proofs.Sure.{plain_quiet, reads_fixed, sure_attempt, sure_fixed, sure_noted, sure_one, sure_only_if, sure_reading, sure_ret, sure_seq}
-use Rattle.cf_check_ways.proofs.VolumeSteps.{change_sure, sure_in_filter}
+use Rattle.cf_model.specs.Skips.{conflict_move, cursor_unless, do_change, in_book, is_cursor, is_markable, is_there, is_too_deep, left_out, mark_if, move_off, not_done, number_of_item, occupant, or_else, seen_if, skip, skipped, to_conflict, tried, try_book, try_change, try_clear_name, try_cursor, try_mark, try_mark_now, try_seen, why_no_change, why_no_record, with_book}
+use Rattle.cf_model.specs.Words.{first_of}
+use Rattle.cf_check_ways.specs.Ways.{IsSure, IsSureFrom, Reads, of_state}
+use Rattle.cf_check_ways.proofs.Sure.{plain_quiet, reads_fixed, sure_attempt, sure_attempt_from, sure_fixed, sure_known, sure_noted, sure_one, sure_only_if, sure_reading, sure_ret, sure_seq}
+use Rattle.cf_check_ways.proofs.ChangesSure.{PutsNothing, change_sure, first_room, room_so}
+use Rattle.cf_check_ways.proofs.VolumeSteps.{HasRoom, change_sure_from, sure_in_filter, sure_in_filter_from}
 use Rattle.cf_check_ways.proofs.StateSteps.{skipped_plain}
 
 pub skip_sure : (x1 : Code) → IsSure of_state (skip x1)
@@ -31,11 +34,24 @@ left_out_sure (Some c) = sure_seq of_state (skip c) not_done (skip_sure c) (not_
 pub tried_sure : (why : (State → Option Code)) → (f : Arrow State (Unit {0})) → Reads of_state why → IsSure of_state f → IsSure of_state (tried why f)
 tried_sure why f same f_sure = sure_seq of_state (attempt why f) left_out (sure_attempt of_state why f same f_sure) left_out_sure
 
-pub do_change_sure : (x1 : Change) → IsSure of_state (do_change x1)
-do_change_sure c = sure_in_filter (put c) (change_sure same_book c)
+-- where the step is done nothing refused it
+tried_sure_from : (why : (State → Option Code)) → (f : Arrow State (Unit {0})) → Reads of_state why → IsSureFrom of_state (λ s. why s ≡ None) f → IsSure of_state (tried why f)
+tried_sure_from why f same f_sure = sure_seq of_state (attempt why f) left_out (sure_attempt_from of_state why f same f_sure) left_out_sure
+
+pub do_change_sure : (x1 : Change) → PutsNothing x1 → IsSure of_state (do_change x1)
+do_change_sure c none = sure_in_filter (put c) (change_sure same_book c none)
+
+change_fits : (c : Change) (s : State) → why_no_change c s ≡ None → HasRoom c s.filter.volume
+change_fits c s h = first_room c [] s.filter.volume (room_so (c ∷ []) s.filter.volume (passed (first_of ((is_too_deep s.filter.volume.items c, code.TooDeep) ∷ [])) (why_no_room (c ∷ []) s.filter.volume) h))
+  where
+    passed : (a b : Option Code) → or_else a b ≡ None → b ≡ None
+    passed None b k = k
+    passed (Some d) b k = let z : Some d ≡ None = k in absurd cc
 
 pub try_change_sure : (x1 : Change) → IsSure of_state (try_change x1)
-try_change_sure c = tried_sure (why_no_change c) (do_change c) (reads_fixed of_state (why_no_change c) (λ s. refl)) (do_change_sure c)
+try_change_sure c =
+    tried_sure_from (why_no_change c) (do_change c) (reads_fixed of_state (why_no_change c) (λ s. refl))
+    (sure_known of_state (λ s. HasRoom c s.filter.volume) (λ s. why_no_change c s ≡ None) (do_change c) (change_fits c) (sure_in_filter_from (λ x. HasRoom c x.volume) (put c) (change_sure_from same_book c)))
 
 pub in_book_sure : (x1 : (Book → Book)) → IsSure of_state (in_book x1)
 in_book_sure f = sure_one of_state (with_book f) (plain_quiet of_state (with_book f) (λ s. refl) (λ s. refl) (λ s. refl) (λ s. refl) (λ s. refl) (λ s. refl))

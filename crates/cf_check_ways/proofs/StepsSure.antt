@@ -2,10 +2,8 @@
 use Rattle.std.proofs.Common.{◌≡◌, ◌⊎◌, ℕ, zero, suc, Bool, true, false, List, [], ◌∷◌, refl, sym, ◌∙◌, ap, subst, inl, inr, ◌≤◌, ◌+◌, arith, length}
 use Rattle.std.specs.Prelude.{Option, Some, None}
 use Rattle.cf_base.specs.declared.answers.Answer.{Answer}
-use Rattle.cf_base.specs.declared.answers.OpenedBook.{OpenedBook}
 use Rattle.cf_base.specs.declared.answers.Shown.{Shown}
 use Rattle.cf_base.specs.declared.answers.Shown.TheVariants as shown
-use Rattle.cf_base.specs.declared.calls.Call.TheVariants as call
 use Rattle.cf_base.specs.declared.codes.Code.{Code}
 use Rattle.cf_base.specs.declared.codes.Code.TheVariants as code
 use Rattle.cf_base.specs.declared.events.DeviceEvent.TheVariants as device
@@ -14,23 +12,20 @@ use Rattle.cf_base.specs.declared.events.Event.TheVariants as event
 use Rattle.cf_base.specs.declared.events.PeerEvent.{PeerEvent}
 use Rattle.cf_base.specs.declared.notices.Notice.{Notice}
 use Rattle.cf_base.specs.declared.policies.Mode.{Mode}
-use Rattle.cf_model.specs.Arrows.{reading}
-use Rattle.cf_model.specs.Calls.{count_now, flush, show_count}
 use Rattle.cf_model.specs.Events.{answer_in, answered, begun, broken, choices_in, event_now, may_stop, needs_volume, no_volume, outcome, refusal, tree_of}
 use Rattle.cf_model.specs.Lawful.{IsStep}
-use Rattle.cf_model.specs.Points.{HasPoints, commit, point_now, with_sure_point}
-use Rattle.cf_model.specs.Restarts.{with_opened}
-use Rattle.cf_model.specs.State.{Broken, Filter, Link, Off, On, Point, Power, State, Volume, in_volume, with_filter, with_volume}
+use Rattle.cf_model.specs.Points.{HasPoints}
+use Rattle.cf_model.specs.State.{Link, State}
 use Rattle.cf_model.specs.Trees.{Stops, AsItKeeps, Asked, Choices, Ends, Fork, Ret, Step, Telling, Tree, play, walk}
 use Rattle.cf_model.proofs.MessagesKeep.{asked_keeps}
 use Rattle.cf_model.proofs.PeersKeep.{peer_event_keeps}
 use Rattle.cf_model.proofs.TreeLaws.{kept_at_end}
-use Rattle.cf_check_ways.specs.Ways.{AllSure, BecomesSure, core_of, sures, IsFront, Grown, Alike, AnswersAlike, BothResumed, IsSure, OneFailed, Parted, SameEnd, fixed_state, is_good, of_state}
+use Rattle.cf_check_ways.specs.Ways.{IsFront, Grown, Alike, AnswersAlike, BothResumed, IsSure, OneFailed, Parted, SameEnd, fixed_state, is_good, of_state}
 use Rattle.cf_check_ways.proofs.EngineEventsSure.{engine_event_sure}
 use Rattle.cf_check_ways.proofs.EventsSure.{call_now_sure, provider_event_sure}
 use Rattle.cf_check_ways.proofs.PeersSure.{peer_event_sure}
-use Rattle.cf_check_ways.proofs.RestartsSure.{crash_sure, opened_by, restart_afresh, restart_lines, restart_one, restart_quiet, restart_sends, restart_single}
-use Rattle.cf_check_ways.proofs.Sure.{becomes_same, ends_of_mapped, ends_split, sure_ret}
+use Rattle.cf_check_ways.proofs.RestartsSure.{crash_sure, restart_afresh, restart_one, restart_sends}
+use Rattle.cf_check_ways.proofs.Sure.{sure_ret}
 
 -- by choices that do not stop it an event ends
 
@@ -83,7 +78,7 @@ Ended s e a t = (r : Shown) × Ends (tree_of e s) r t × (a ≡ answer_in r t)
 abbrev pub CutOff : State → Event → Answer → State → Type 0
 CutOff s e a t = (may_stop e ≡ true) × (u : State) × Stops (tree_of e s) u × (t ≡ broken u) × (a ≡ answer_in (shown.Refused code.Device) u)
 
-cut_is_stopped : (s : State) (e : Event) (a : Answer) (t : State) → CutOff s e a t → Stopped a
+pub cut_is_stopped : (s : State) (e : Event) (a : Answer) (t : State) → CutOff s e a t → Stopped a
 cut_is_stopped s e a t c = ap (λ (x : Answer). x.shown) c.4
 
 abbrev pub StepOf : Option Code → State → Event → Answer → State → Type 0
@@ -113,7 +108,7 @@ step_of m s e a t h = parts_of (no_volume (needs_volume e) s.power) h.1 s e a t 
 
 -- trees of one event from alike states
 
-begun_alike : (s o : State) → Alike of_state s o → Alike of_state (begun s) (begun o)
+pub begun_alike : (s o : State) → Alike of_state s o → Alike of_state (begun s) (begun o)
 begun_alike s o e = ap (λ (x : State). fixed_state (begun x)) e
 
 -- the answers, where the ends are alike
@@ -271,122 +266,3 @@ any_step_count m s e a t h other = by (no_volume (needs_volume e) s.power) (step
     by None (inr x) =
         subst (λ (z : Answer). length t.link.messages ≤ length s.link.messages + length z.notes) (sym x.4)
         (subst (λ (z : State). length z.link.messages ≤ length s.link.messages + length x.1.filter.notes) (sym x.3) (cut_count s e other x.0 x.1 x.2))
-
--- points
-
-begun_core : (s t : State) → BecomesSure (core_of (begun s).filter.volume) (core_of t.filter.volume) → BecomesSure (core_of s.filter.volume) (core_of t.filter.volume)
-begun_core s t b = b
-
-peer_core : (e : PeerEvent) (s : State) (r : Shown) (t : State) → Ends (tree_of (event.Peer e) s) r t → core_of t.filter.volume ≡ core_of s.filter.volume
-peer_core e s r t h =
-    kept_at_end (λ x. core_of x.filter.volume ≡ core_of s.filter.volume) (tree_of (event.Peer e) s) r t
-    ((peer_event_keeps (λ x. core_of x.filter.volume ≡ core_of s.filter.volume) (asked_keeps (λ x. core_of x.filter.volume ≡ core_of s.filter.volume) (λ x n. n) (λ held x n. n) (λ x n. n)) (λ x n. n) (λ y x n. n) e).keeps (begun s) refl) h
-
-ended_rooms : (s : State) (e : Event) → (e ≡ event.Device device.Restart → ⊥) → (r : Shown) (t : State) → Ends (tree_of e s) r t → BecomesSure (core_of s.filter.volume) (core_of t.filter.volume)
-ended_rooms s (event.Call c) other r t h = (call_now_sure c).rooms (begun s) r t h
-ended_rooms s (event.Device (device.Stop n)) other r t h = (sure_ret of_state shown.Done).rooms (begun s) r t h
-ended_rooms s (event.Device (device.Crash c)) other r t h = crash_sure.rooms (begun s) r t h
-ended_rooms s (event.Device device.Restart) other r t h = absurd (other refl)
-ended_rooms s (event.Peer p) other r t h = becomes_same (core_of s.filter.volume) (core_of t.filter.volume) (peer_core p s r t h)
-ended_rooms s (event.Engine g) other r t h = (engine_event_sure g).rooms (begun s) r t h
-ended_rooms s (event.Provider p) other r t h = (provider_event_sure p).rooms (begun s) r t h
-
--- what an event that is no restart makes of the points
-pub step_rooms : (m : Mode) (s : State) (e : Event) (a : Answer) (t : State) → IsStep m s e a t → (Stopped a → ⊥) → (e ≡ event.Device device.Restart → ⊥) → BecomesSure (core_of s.filter.volume) (core_of t.filter.volume)
-step_rooms m s e a t h runs other = by (no_volume (needs_volume e) s.power) (step_of m s e a t h)
-  where
-    by : (why : Option Code) → StepOf why s e a t → BecomesSure (core_of s.filter.volume) (core_of t.filter.volume)
-    by (Some c) x = becomes_same (core_of s.filter.volume) (core_of t.filter.volume) (ap (λ (z : State). core_of z.filter.volume) x.1)
-    by None (inr stop) = absurd (runs (cut_is_stopped s e a t stop))
-    by None (inl x) = ended_rooms s e other x.0 t x.1
-
-abbrev Kept : State → Answer → State → Answer → Type 0
-Kept t a u b = (sures (core_of t.filter.volume) ≡ sures (core_of u.filter.volume)) ⊎ Parted a.notes b.notes
-
-ended_keeps : (s o : State) (e : Event) → (e ≡ event.Device device.Restart → ⊥) → Alike of_state s o → sures (core_of s.filter.volume) ≡ sures (core_of o.filter.volume) → (r q : Shown) (t u : State) → Ends (tree_of e s) r t → Ends (tree_of e o) q u
-    → is_good t ≡ true → is_good u ≡ true → Kept t (answer_in r t) u (answer_in q u)
-ended_keeps s o (event.Call c) other alike same r q t u h k good well = (call_now_sure c).keeps (begun s) (begun o) (begun_alike s o alike) same r q t u h k good well
-ended_keeps s o (event.Device (device.Stop n)) other alike same r q t u h k good well = (sure_ret of_state shown.Done).keeps (begun s) (begun o) (begun_alike s o alike) same r q t u h k good well
-ended_keeps s o (event.Device (device.Crash c)) other alike same r q t u h k good well = crash_sure.keeps (begun s) (begun o) (begun_alike s o alike) same r q t u h k good well
-ended_keeps s o (event.Device device.Restart) other alike same r q t u h k good well = absurd (other refl)
-ended_keeps s o (event.Peer p) other alike same r q t u h k good well = inl (ap sures (peer_core p s r t h) ∙ same ∙ ap sures (sym (peer_core p o q u k)))
-ended_keeps s o (event.Engine g) other alike same r q t u h k good well = (engine_event_sure g).keeps (begun s) (begun o) (begun_alike s o alike) same r q t u h k good well
-ended_keeps s o (event.Provider p) other alike same r q t u h k good well = (provider_event_sure p).keeps (begun s) (begun o) (begun_alike s o alike) same r q t u h k good well
-
-pub steps_keep : (m : Mode) (s o : State) (e : Event) (a b : Answer) (t u : State) → (e ≡ event.Device device.Restart → ⊥) → Alike of_state s o → sures (core_of s.filter.volume) ≡ sures (core_of o.filter.volume)
-    → IsStep m s e a t → IsStep m o e b u → is_good t ≡ true → is_good u ≡ true → (Stopped a → ⊥) → (Stopped b → ⊥) → Kept t a u b
-steps_keep m s o e a b t u other alike same h k good well runs runs_too =
-    by (no_volume (needs_volume e) s.power) (step_of m s e a t h) (subst (λ (w : Option Code). StepOf w o e b u) (sym (ap (λ (x : State). no_volume (needs_volume e) x.power) alike)) (step_of m o e b u k))
-  where
-    by : (why : Option Code) → StepOf why s e a t → StepOf why o e b u → Kept t a u b
-    by (Some c) x y = inl (ap (λ (z : State). sures (core_of z.filter.volume)) x.1 ∙ same ∙ ap (λ (z : State). sures (core_of z.filter.volume)) (sym y.1))
-    by None (inr stop) y = absurd (runs (cut_is_stopped s e a t stop))
-    by None x (inr stop) = absurd (runs_too (cut_is_stopped o e b u stop))
-    by None (inl x) (inl y) =
-        subst (λ (z : Answer). Kept t z u b) (sym x.2) (subst (λ (z : Answer). Kept t (answer_in x.0 t) u z) (sym y.2) (ended_keeps s o e other alike same x.0 y.0 t u x.1 y.1 good well))
-
--- restarts where one point alone may be opened
-
-pub restarts_alike : (m : Mode) (s o : State) (a b : Answer) (t u : State) → Alike of_state s o → s.failed_opens ≡ 0 → HasPoints s.filter.volume → HasPoints o.filter.volume → AllSure (core_of s.filter.volume) → AllSure (core_of o.filter.volume)
-    → sures (core_of s.filter.volume) ≡ sures (core_of o.filter.volume) → IsStep m s (event.Device device.Restart) a t → IsStep m o (event.Device device.Restart) b u → (Stopped a → ⊥) → (Stopped b → ⊥)
-    → (a ≡ b) × Alike of_state t u × (sures (core_of t.filter.volume) ≡ sures (core_of u.filter.volume)) × AllSure (core_of t.filter.volume) × AllSure (core_of u.filter.volume)
-restarts_alike m s o a b t u alike none has has_too all all_too same h k runs runs_too = by (step_of m s (event.Device device.Restart) a t h) (step_of m o (event.Device device.Restart) b u k)
-  where
-    by : StepOf None s (event.Device device.Restart) a t → StepOf None o (event.Device device.Restart) b u
-        → (a ≡ b) × Alike of_state t u × (sures (core_of t.filter.volume) ≡ sures (core_of u.filter.volume)) × AllSure (core_of t.filter.volume) × AllSure (core_of u.filter.volume)
-    by (inr stop) y = absurd (runs (cut_is_stopped s (event.Device device.Restart) a t stop))
-    by x (inr stop) = absurd (runs_too (cut_is_stopped o (event.Device device.Restart) b u stop))
-    by (inl x) (inl y) =
-        let z = restart_single (begun s) (begun o) (begun_alike s o alike) none has has_too all all_too same x.0 y.0 t u x.1 y.1 in
-        (x.2 ∙ ap (λ (w : Shown). answer_in w t) z.0.0 ∙ ap (λ (w : State). answer_in y.0 w) z.0.1 ∙ sym y.2, z.0.1, z.1, z.2, z.3)
-
--- a restart that the device cut off tells nothing
-pub restart_told : (m : Mode) (o : State) (b : Answer) (u : State) → IsStep m o (event.Device device.Restart) b u → b.notes ≡ []
-restart_told m o b u k = by (step_of m o (event.Device device.Restart) b u k)
-  where
-    ended : (r : Shown) → Ends (tree_of (event.Device device.Restart) o) r u → b ≡ answer_in r u → b.notes ≡ []
-    ended r h is = ap (λ (x : Answer). x.notes) is ∙ restart_lines (begun o) r u refl h
-
-    by : StepOf None o (event.Device device.Restart) b u → b.notes ≡ []
-    by (inl x) = ended x.0 x.1 x.2
-    by (inr x) = ap (λ (z : Answer). z.notes) x.4 ∙ restart_quiet (begun o) x.1 x.2
-
--- a flush that answered leaves one point, that of all changes
-
-flushed_volume : (s : Filter) (r : Shown) (t : Filter) → Ends (flush s) r t → t.volume ≡ with_sure_point s.volume
-flushed_volume s r t h =
-    let x = ends_split (in_volume commit s) (λ _. reading count_now show_count) r t h in
-    let y = ends_of_mapped (λ (w : Volume). with_volume w s) (commit s.volume) x.0 x.1 x.2 in
-    ap (λ (z : Filter). z.volume) x.3.1 ∙ ap (λ (z : Filter). z.volume) y.2 ∙ y.1.1
-
-pub flush_points : (m : Mode) (s : State) (a : Answer) (t : State) (n : ℕ) → IsStep m s (event.Call call.Flush) a t → a.shown ≡ shown.Count n → t.filter.volume.points ≡ point_now true t.filter.volume ∷ []
-flush_points m s a t n h is = by (no_volume (needs_volume (event.Call call.Flush)) s.power) (step_of m s (event.Call call.Flush) a t h)
-  where
-    by : (why : Option Code) → StepOf why s (event.Call call.Flush) a t → t.filter.volume.points ≡ point_now true t.filter.volume ∷ []
-    by (Some c) x = let z : shown.Refused c ≡ shown.Count n = sym (ap (λ (y : Answer). y.shown) x.0) ∙ is in absurd cc
-    by None (inr stop) = let z : shown.Refused code.Device ≡ shown.Count n = sym (cut_is_stopped s (event.Call call.Flush) a t stop) ∙ is in absurd cc
-    by None (inl x) =
-        let y = ends_of_mapped (λ (g : Filter). with_filter g (begun s)) (flush (begun s).filter) x.0 t x.1 in
-        let left : t.filter.volume ≡ with_sure_point (begun s).filter.volume = ap (λ (z : State). z.filter.volume) y.2 ∙ flushed_volume (begun s).filter x.0 y.0 y.1 in
-        subst (λ (v : Volume). v.points ≡ point_now true v ∷ []) (sym left) refl
-
--- the volume is on after it
-pub flush_power : (m : Mode) (s : State) (a : Answer) (t : State) (n : ℕ) → IsStep m s (event.Call call.Flush) a t → a.shown ≡ shown.Count n → t.power ≡ On
-flush_power m s a t n h is = by s.power refl (step_of m s (event.Call call.Flush) a t h)
-  where
-    refused : (c : Code) → StepOf (Some c) s (event.Call call.Flush) a t → ⊥
-    refused c x = let z : shown.Refused c ≡ shown.Count n = sym (ap (λ (y : Answer). y.shown) x.0) ∙ is in cc
-
-    by : (p : Power) → s.power ≡ p → StepOf (no_volume true p) s (event.Call call.Flush) a t → t.power ≡ On
-    by On on (inl x) = let y = ends_of_mapped (λ (g : Filter). with_filter g (begun s)) (flush (begun s).filter) x.0 t x.1 in ap (λ (z : State). z.power) y.2 ∙ on
-    by On on (inr stop) = let z : shown.Refused code.Device ≡ shown.Count n = sym (cut_is_stopped s (event.Call call.Flush) a t stop) ∙ is in absurd cc
-    by Broken off x = absurd (refused code.Broken x)
-    by Off off x = absurd (refused code.Off x)
-
--- a restart that resumed has opened a point
-pub restart_opens : (m : Mode) (s : State) (a : Answer) (t : State) (n : ℕ) (o : OpenedBook) → IsStep m s (event.Device device.Restart) a t → a.shown ≡ shown.Resumed n o → (p : Point) × (epoch : ℕ) × (t ≡ with_opened p epoch (begun s))
-restart_opens m s a t n o h is = by (step_of m s (event.Device device.Restart) a t h)
-  where
-    by : StepOf None s (event.Device device.Restart) a t → (p : Point) × (epoch : ℕ) × (t ≡ with_opened p epoch (begun s))
-    by (inl x) = opened_by (begun s) x.0 t n o x.1 (sym (ap (λ (y : Answer). y.shown) x.2) ∙ is)
-    by (inr stop) = let z : shown.Refused code.Device ≡ shown.Resumed n o = sym (cut_is_stopped s (event.Device device.Restart) a t stop) ∙ is in absurd cc

@@ -5,9 +5,8 @@ use Rattle.cf_base.specs.declared.codes.Code.{Code}
 use Rattle.cf_base.specs.declared.notices.Notice.{Notice}
 use Rattle.cf_model.specs.Arrows.{Arrow, and_then, attempt, choose, each, noted, one, one_or, only_if, reading, ret, seq, then_do, unit, unless, unless_done, when_ok}
 use Rattle.cf_model.specs.Trees.{Asked, Stops, Ends, Fork, Ret, Step, Tree, bind, mapped}
-use Rattle.cf_check_room.specs.Weights.{weight_since}
-use Rattle.cf_check_room.proofs.Light.{weight_longer}
-use Rattle.cf_check_ways.specs.Ways.{BecomesSure, Core, sures, Alike, FailedIn, Grown, IsFront, IsPlain, IsSure, Parted, Reads, SameEnd, View}
+use Rattle.cf_check_room.specs.Rooms.{sure_count}
+use Rattle.cf_check_ways.specs.Ways.{BecomesSure, Core, HadRoom, IsLaden, SamePoints, Alike, FailedIn, Grown, IsFront, IsPlain, IsSure, IsSureFrom, Parted, Reads, SameEnd, View}
 
 -- ends of the first part and of the rest
 
@@ -96,7 +95,7 @@ front_here v t s o u same e g = (g.notes.0, g.notes.1 ∙ ap (λ (xs : List Noti
 -- what commits are made of
 
 pub becomes_none : (c : Core) → BecomesSure c c
-becomes_none c = record { holds = refl; longer = ([], sym (append-nil c.log)); weighs = λ n w. w; sure = λ n w light all. all }
+becomes_none c = record { holds = refl; longer = ([], sym (append-nil c.log)); laden = λ l. l; later = λ l. omega arith }
 
 pub becomes_same : (a b : Core) → b ≡ a → BecomesSure a b
 becomes_same a b e = subst (λ (x : Core). BecomesSure a x) (sym e) (becomes_none a)
@@ -105,13 +104,35 @@ pub becomes_more : (a b c : Core) → BecomesSure a b → BecomesSure b c → Be
 becomes_more a b c f g = record {
   holds = g.holds ∙ f.holds;
   longer = (f.longer.0 ++ g.longer.0, g.longer.1 ∙ ap (λ (xs : List _). xs ++ g.longer.0) f.longer.1 ∙ append_assoc a.log f.longer.0 g.longer.0);
-  weighs = λ n w. g.weighs n (f.weighs n w);
-  sure = λ n w light all.
-      let less : weight_since n b.log ≤ weight_since n (b.log ++ g.longer.0) = weight_longer n b.log g.longer.0 (f.weighs n w).there in
-      let same : weight_since n c.log ≡ weight_since n (b.log ++ g.longer.0) = ap (weight_since n) g.longer.1 in
-      let holds : b.clusters ≡ a.clusters = f.holds in
-      g.sure n (f.weighs n w) (omega (arith, light, holds)) (f.sure n w (omega (arith, light, less, same)) all);
+  laden = λ l. g.laden (f.laden l);
+  later = λ l.
+      let one : sure_count a.points ≤ sure_count b.points = f.later l in
+      let two : sure_count b.points ≤ sure_count c.points = g.later (f.laden l) in
+      omega (arith, one, two);
 }
+
+-- points stay the same where both have the points that they had
+pub same_points : (a b c d : Core) → c ≡ a → d ≡ b → SamePoints a b → SamePoints c d
+same_points a b c d e f same = subst (λ (x : Core). SamePoints x d) (sym e) (subst (λ (x : Core). SamePoints a x) (sym f) same)
+
+-- changes that had room had it
+pub had_same : (a b : Core) → b ≡ a → HadRoom a → HadRoom b
+had_same a b e h = subst HadRoom (sym e) h
+
+-- what is sure from states of which something is known is so where more is
+pub sure_known : {S A : Type 0} (v : View S) (May More : S → Type 0) (f : Arrow S A) → ((s : S) → More s → May s) → IsSureFrom v May f → IsSureFrom v More f
+sure_known v May More f less h = record {
+  grows = h.grows;
+  one = h.one;
+  halts = h.halts;
+  stop = h.stop;
+  rooms = h.rooms;
+  keeps = h.keeps;
+  fits = λ s more a t ends had. h.fits s (less s more) a t ends had;
+}
+
+pub sure_anywhere : {S A : Type 0} (v : View S) (May : S → Type 0) (f : Arrow S A) → IsSure v f → IsSureFrom v May f
+sure_anywhere v May f h = sure_known v (λ s. Unit {0}) May f (λ s may. record {}) h
 
 -- the words
 
@@ -122,11 +143,13 @@ sure_ret v a = record {
   halts = λ s t h. absurd h;
   stop = λ s o e t b u h k _ _. absurd h;
   rooms = λ s b t h. becomes_same (v.core s) (v.core t) (ap v.core h.1);
-  keeps = λ s o e same b c t u h k _ _. inl (ap (λ (x : _). sures (v.core x)) h.1 ∙ same ∙ ap (λ (x : _). sures (v.core x)) (sym k.1));
+  keeps = λ s o e _ _ same b c t u h k _ _. inl (same_points (v.core s) (v.core o) (v.core t) (v.core u) (ap v.core h.1) (ap v.core k.1) same);
+  fits = λ s may b t h had. had_same (v.core s) (v.core t) (ap v.core h.1) had;
 }
 
-pub sure_seq : {S A B : Type 0} (v : View S) (f : Arrow S A) (g : A → Arrow S B) → IsSure v f → ((a : A) → IsSure v (g a)) → IsSure v (seq f g)
-sure_seq {S} {A} {B} v f g first rest = record {
+-- what is known before the first part leads to what is to be known before the rest
+pub sure_seq_from : {S A B : Type 0} (v : View S) (May Mid : S → Type 0) (f : Arrow S A) (g : A → Arrow S B) → ((s : S) → May s → (a : A) (m : S) → Ends (f s) a m → Mid m) → IsSureFrom v May f → ((a : A) → IsSureFrom v Mid (g a)) → IsSureFrom v May (seq f g)
+sure_seq_from {S} {A} {B} v May Mid f g leads first rest = record {
   grows = λ s b t h. let x = ends_split (f s) g b t h in grown_more v s x.1 t (first.grows s x.0 x.1 x.2) ((rest x.0).grows x.1 b t x.3);
   one = λ s o e b c t u h k good well.
       let x = ends_split (f s) g b t h in
@@ -135,12 +158,13 @@ sure_seq {S} {A} {B} v f g first rest = record {
       let late : Grown v y.1 u = (rest y.0).grows y.1 c u y.3 in
       joined x.0 y.0 x.1 y.1 b c t u x.3 y.3 later late good well (first.one s o e x.0 y.0 x.1 y.1 x.2 y.2 (later.good good) (late.good well));
   rooms = λ s b t h. let x = ends_split (f s) g b t h in becomes_more (v.core s) (v.core x.1) (v.core t) (first.rooms s x.0 x.1 x.2) ((rest x.0).rooms x.1 b t x.3);
-  keeps = λ s o e same b c t u h k good well.
+  keeps = λ s o e laden laden_too same b c t u h k good well.
       let x = ends_split (f s) g b t h in
       let y = ends_split (f o) g c u k in
       let later : Grown v x.1 t = (rest x.0).grows x.1 b t x.3 in
       let late : Grown v y.1 u = (rest y.0).grows y.1 c u y.3 in
-      kept x.0 y.0 x.1 y.1 b c t u x.3 y.3 later late good well (first.one s o e x.0 y.0 x.1 y.1 x.2 y.2 (later.good good) (late.good well)) (first.keeps s o e same x.0 y.0 x.1 y.1 x.2 y.2 (later.good good) (late.good well));
+      kept x.0 y.0 x.1 y.1 b c t u x.3 y.3 later late good well ((first.rooms s x.0 x.1 x.2).laden laden) ((first.rooms o y.0 y.1 y.2).laden laden_too) (first.one s o e x.0 y.0 x.1 y.1 x.2 y.2 (later.good good) (late.good well))
+      (first.keeps s o e laden laden_too same x.0 y.0 x.1 y.1 x.2 y.2 (later.good good) (late.good well));
   halts = λ s t h. elim (stops_split (f s) g t h) as (λ _. Grown v s t) [ inl x ↦ first.halts s t x | inr x ↦ grown_more v s x.1 t (first.grows s x.0 x.1 x.2) ((rest x.0).halts x.1 t x.3) ];
   stop = λ s o e t b u h k good well.
       let y = ends_split (f o) g b u k in
@@ -151,13 +175,14 @@ sure_seq {S} {A} {B} v f g first rest = record {
             let later : Grown v x.1 t = (rest x.0).halts x.1 t x.3 in
             halted x.0 y.0 x.1 y.1 t b u x.3 y.3 later late good well (first.one s o e x.0 y.0 x.1 y.1 x.2 y.2 (later.good good) (late.good well))
       ];
+  fits = λ s may b t h had. let x = ends_split (f s) g b t h in (rest x.0).fits x.1 (leads s may x.0 x.1 x.2) b t x.3 (first.fits s may x.0 x.1 x.2 had);
 }
   where
-    kept : (a a' : A) (m n : S) (b c : B) (t u : S) → Ends (g a m) b t → Ends (g a' n) c u → Grown v m t → Grown v n u → v.good t ≡ true → v.good u ≡ true
-        → SameEnd v a m a' n ⊎ Parted (v.notes m) (v.notes n) → (sures (v.core m) ≡ sures (v.core n)) ⊎ Parted (v.notes m) (v.notes n) → (sures (v.core t) ≡ sures (v.core u)) ⊎ Parted (v.notes t) (v.notes u)
-    kept a a' m n b c t u h k later late good well (inl same) (inl sure) = (rest a).keeps m n same.1 sure b c t u h (subst (λ (x : A). Ends (g x n) c u) (sym same.0) k) good well
-    kept a a' m n b c t u h k later late good well (inl same) (inr apart) = inr (parted_later v m t n u later late apart)
-    kept a a' m n b c t u h k later late good well (inr apart) sure = inr (parted_later v m t n u later late apart)
+    kept : (a a' : A) (m n : S) (b c : B) (t u : S) → Ends (g a m) b t → Ends (g a' n) c u → Grown v m t → Grown v n u → v.good t ≡ true → v.good u ≡ true → IsLaden (v.core m) → IsLaden (v.core n)
+        → SameEnd v a m a' n ⊎ Parted (v.notes m) (v.notes n) → SamePoints (v.core m) (v.core n) ⊎ Parted (v.notes m) (v.notes n) → SamePoints (v.core t) (v.core u) ⊎ Parted (v.notes t) (v.notes u)
+    kept a a' m n b c t u h k later late good well laden laden_too (inl same) (inl points) = (rest a).keeps m n same.1 laden laden_too points b c t u h (subst (λ (x : A). Ends (g x n) c u) (sym same.0) k) good well
+    kept a a' m n b c t u h k later late good well laden laden_too (inl same) (inr apart) = inr (parted_later v m t n u later late apart)
+    kept a a' m n b c t u h k later late good well laden laden_too (inr apart) points = inr (parted_later v m t n u later late apart)
 
     stopped : (t n u : S) → Grown v n u → IsFront (v.notes t) (v.notes n) ⊎ Parted (v.notes t) (v.notes n) → IsFront (v.notes t) (v.notes u) ⊎ Parted (v.notes t) (v.notes u)
     stopped t n u late (inl front) = inl (front_grows v t n u front late)
@@ -173,6 +198,13 @@ sure_seq {S} {A} {B} v f g first rest = record {
     joined a a' m n b c t u h k later late good well (inl same) = (rest a).one m n same.1 b c t u h (subst (λ (x : A). Ends (g x n) c u) (sym same.0) k) good well
     joined a a' m n b c t u h k later late good well (inr apart) = inr (parted_later v m t n u later late apart)
 
+pub sure_seq : {S A B : Type 0} (v : View S) (f : Arrow S A) (g : A → Arrow S B) → IsSure v f → ((a : A) → IsSure v (g a)) → IsSure v (seq f g)
+sure_seq v f g first rest = sure_seq_from v (λ s. Unit {0}) (λ s. Unit {0}) f g (λ s may a m ends. record {}) first rest
+
+-- the rest is sure from each state
+pub sure_then_from : {S A B : Type 0} (v : View S) (May : S → Type 0) (f : Arrow S A) (g : Arrow S B) → IsSureFrom v May f → IsSure v g → IsSureFrom v May (then_do f g)
+sure_then_from v May f g first rest = sure_seq_from v May (λ s. Unit {0}) f (λ _. g) (λ s may a m ends. record {}) first (λ a. rest)
+
 pub sure_then : {S A B : Type 0} (v : View S) (f : Arrow S A) (g : Arrow S B) → IsSure v f → IsSure v g → IsSure v (then_do f g)
 sure_then v f g first rest = sure_seq v f (λ _. g) first (λ a. rest)
 
@@ -181,9 +213,10 @@ sure_reading {S} {A} {X} v get f reads rest = record {
   grows = λ s a t h. (rest (get s)).grows s a t h;
   one = λ s o e a b t u h k good well. (rest (get s)).one s o e a b t u h (subst (λ (x : X). Ends (f x o) b u) (sym (reads s o e)) k) good well;
   rooms = λ s a t h. (rest (get s)).rooms s a t h;
-  keeps = λ s o e same a b t u h k good well. (rest (get s)).keeps s o e same a b t u h (subst (λ (x : X). Ends (f x o) b u) (sym (reads s o e)) k) good well;
+  keeps = λ s o e laden laden_too same a b t u h k good well. (rest (get s)).keeps s o e laden laden_too same a b t u h (subst (λ (x : X). Ends (f x o) b u) (sym (reads s o e)) k) good well;
   halts = λ s t h. (rest (get s)).halts s t h;
   stop = λ s o e t b u h k good well. (rest (get s)).stop s o e t b u h (subst (λ (x : X). Ends (f x o) b u) (sym (reads s o e)) k) good well;
+  fits = λ s may a t h had. (rest (get s)).fits s may a t h had;
 }
 
 pub sure_noted : {S : Type 0} (v : View S) (f : S → S) → IsPlain v f → IsSure v (noted f)
@@ -193,7 +226,8 @@ sure_noted v f plain = record {
   halts = λ s t h. absurd h;
   stop = λ s o e t b u h k _ _. absurd h;
   rooms = λ s a t h. becomes_same (v.core s) (v.core t) (ap v.core h.1 ∙ plain.core s);
-  keeps = λ s o e same a b t u h k _ _. inl (ap sures (ap v.core h.1 ∙ plain.core s) ∙ same ∙ ap sures (sym (plain.core o) ∙ ap v.core (sym k.1)));
+  keeps = λ s o e _ _ same a b t u h k _ _. inl (same_points (v.core s) (v.core o) (v.core t) (v.core u) (ap v.core h.1 ∙ plain.core s) (ap v.core k.1 ∙ plain.core o) same);
+  fits = λ s may a t h had. had_same (v.core s) (v.core t) (ap v.core h.1 ∙ plain.core s) had;
 }
 
 -- a stop in one step leaves a state in which as much has happened as before
@@ -209,10 +243,11 @@ sure_one_or {S} v stop f quiet same plain = record {
   stop = λ s o e t b u h k _ _. inl (front_here v t s o u (ap v.notes (stopped_in stop f s t h) ∙ same s) e ((sure_noted v f plain).grows o b u k));
   rooms = (sure_noted v f plain).rooms;
   keeps = (sure_noted v f plain).keeps;
+  fits = (sure_noted v f plain).fits;
 }
 
 pub sure_one : {S : Type 0} (v : View S) (f : S → S) → IsPlain v f → IsSure v (one f)
-sure_one v f plain = let x = sure_one_or v (λ s. s) f (grown_none v) (λ s. refl) plain in record { grows = x.grows; one = x.one; halts = x.halts; stop = x.stop; rooms = x.rooms; keeps = x.keeps }
+sure_one v f plain = let x = sure_one_or v (λ s. s) f (grown_none v) (λ s. refl) plain in record { grows = x.grows; one = x.one; halts = x.halts; stop = x.stop; rooms = x.rooms; keeps = x.keeps; fits = x.fits }
 
 pub sure_choose : {S A : Type 0} (v : View S) (b : Bool) (f g : Arrow S A) → IsSure v f → IsSure v g → IsSure v (choose b f g)
 sure_choose v true f g h k = h
@@ -267,22 +302,42 @@ plain_noting v f more fixed notes good count fails core = record {
 pub reads_fixed : {S X : Type 0} (v : View S) (get : S → X) → ((s : S) → get s ≡ get (v.fixed s)) → Reads v get
 reads_fixed v get is = λ s o e. is s ∙ ap get e ∙ sym (is o)
 
--- a part that hangs on what is read of the state
-pub sure_at : {S A X : Type 0} (v : View S) (f : Arrow S A) (get : S → X) (g : X → Arrow S A) → ((s : S) → f s ≡ g (get s) s) → Reads v get → ((x : X) → IsSure v (g x)) → IsSure v f
-sure_at {S} {A} {X} v f get g is reads rest = record {
+-- a part that hangs on what is read of the state: it is sure where that was read
+pub sure_at_from : {S A X : Type 0} (v : View S) (May : S → Type 0) (f : Arrow S A) (get : S → X) (g : X → Arrow S A) → ((s : S) → f s ≡ g (get s) s) → Reads v get → ((x : X) → IsSureFrom v (λ s. May s × (get s ≡ x)) (g x)) → IsSureFrom v May f
+sure_at_from {S} {A} {X} v May f get g is reads rest = record {
   grows = λ s a t h. (rest (get s)).grows s a t (subst (λ (p : Tree S A). Ends p a t) (is s) h);
   one = λ s o e a b t u h k good well.
       (rest (get s)).one s o e a b t u (subst (λ (p : Tree S A). Ends p a t) (is s) h)
       (subst (λ (x : X). Ends (g x o) b u) (sym (reads s o e)) (subst (λ (p : Tree S A). Ends p b u) (is o) k)) good well;
   rooms = λ s a t h. (rest (get s)).rooms s a t (subst (λ (p : Tree S A). Ends p a t) (is s) h);
-  keeps = λ s o e same a b t u h k good well.
-      (rest (get s)).keeps s o e same a b t u (subst (λ (p : Tree S A). Ends p a t) (is s) h)
+  keeps = λ s o e laden laden_too same a b t u h k good well.
+      (rest (get s)).keeps s o e laden laden_too same a b t u (subst (λ (p : Tree S A). Ends p a t) (is s) h)
       (subst (λ (x : X). Ends (g x o) b u) (sym (reads s o e)) (subst (λ (p : Tree S A). Ends p b u) (is o) k)) good well;
   halts = λ s t h. (rest (get s)).halts s t (subst (λ (p : Tree S A). Stops p t) (is s) h);
   stop = λ s o e t b u h k good well.
       (rest (get s)).stop s o e t b u (subst (λ (p : Tree S A). Stops p t) (is s) h)
       (subst (λ (x : X). Ends (g x o) b u) (sym (reads s o e)) (subst (λ (p : Tree S A). Ends p b u) (is o) k)) good well;
+  fits = λ s may a t h had. (rest (get s)).fits s (may, refl) a t (subst (λ (p : Tree S A). Ends p a t) (is s) h) had;
 }
+
+pub sure_at : {S A X : Type 0} (v : View S) (f : Arrow S A) (get : S → X) (g : X → Arrow S A) → ((s : S) → f s ≡ g (get s) s) → Reads v get → ((x : X) → IsSure v (g x)) → IsSure v f
+sure_at v f get g is reads rest = sure_at_from v (λ s. Unit {0}) f get g is reads (λ x. sure_anywhere v (λ s. Unit {0} × (get s ≡ x)) (g x) (rest x))
+
+-- what is done only where nothing refuses it
+pub sure_unless_from : {S A : Type 0} (v : View S) (why : S → Option Code) (refused : Code → A) (f : Arrow S A) → Reads v why → IsSureFrom v (λ s. why s ≡ None) f → IsSure v (λ s. unless refused (why s) f s)
+sure_unless_from {S} {A} v why refused f reads h = sure_at_from v (λ s. Unit {0}) (λ s. unless refused (why s) f s) why (λ c. unless refused c f) (λ s. refl) reads by
+  where
+    by : (c : Option Code) → IsSureFrom v (λ s. Unit {0} × (why s ≡ c)) (unless refused c f)
+    by None = sure_known v (λ s. why s ≡ None) (λ s. Unit {0} × (why s ≡ None)) f (λ s x. x.1) h
+    by (Some c) = sure_anywhere v (λ s. Unit {0} × (why s ≡ Some c)) (ret (refused c)) (sure_ret v (refused c))
+
+-- so of what may be left out
+pub sure_attempt_from : {S : Type 0} (v : View S) (why : S → Option Code) (f : Arrow S (Unit {0})) → Reads v why → IsSureFrom v (λ s. why s ≡ None) f → IsSure v (attempt why f)
+sure_attempt_from {S} v why f reads h = sure_at_from v (λ s. Unit {0}) (attempt why f) why (unless_done f) (λ s. refl) reads by
+  where
+    by : (c : Option Code) → IsSureFrom v (λ s. Unit {0} × (why s ≡ c)) (unless_done f c)
+    by None = sure_then_from v (λ s. Unit {0} × (why s ≡ None)) f (ret None) (sure_known v (λ s. why s ≡ None) (λ s. Unit {0} × (why s ≡ None)) f (λ s x. x.1) h) (sure_ret v None)
+    by (Some c) = sure_anywhere v (λ s. Unit {0} × (why s ≡ Some c)) (ret (Some c)) (sure_ret v (Some c))
 
 -- a part that hangs on what is fixed of the state
 pub sure_fixed : {S A : Type 0} (v : View S) (f : Arrow S A) (g : S → Arrow S A) → ((s : S) → f s ≡ g (v.fixed s) s) → ((x : S) → IsSure v (g x)) → IsSure v f

@@ -3,7 +3,6 @@
 -- What a report does not fix is left out of what is alike: the points that a restart may open, and how often the remote was
 -- asked. Where the remote broke its rules, or numbers of messages are used up, nothing is said.
 use Rattle.std.specs.Prelude.{refl, ◌≡◌, ◌⊎◌, ◌≤◌, ◌+◌, ℕ, Bool, true, false, List, [], ◌∷◌, ◌++◌, length, nat_lt, ◌&&◌, filter}
-use Rattle.std.specs.List.{list_all}
 use Rattle.cf_base.specs.declared.answers.Answer.{Answer}
 use Rattle.cf_base.specs.declared.changes.Change.{Change}
 use Rattle.cf_base.specs.declared.ids.Usn.{Usn}
@@ -22,9 +21,10 @@ use Rattle.cf_model.specs.Arrows.{Arrow}
 use Rattle.cf_model.specs.Blocks.{blocks_used}
 use Rattle.cf_model.specs.Items.{Item}
 use Rattle.cf_model.specs.Logs.{items_of}
-use Rattle.cf_check_room.specs.Weights.{peak_since, puts_since, weight_since}
+use Rattle.cf_check_room.specs.Rooms.{is_heavy, load_since, none_full, sure_count}
 use Rattle.cf_model.specs.Events.{answer_in, begun}
 use Rattle.cf_model.specs.Numbers.{most}
+use Rattle.cf_model.specs.Points.{Opens}
 use Rattle.cf_model.specs.Restarts.{epoch_after, resumed, with_opened}
 use Rattle.cf_model.specs.State.{Filter, Point, State, Volume}
 use Rattle.cf_model.specs.Trees.{Ends, Stops}
@@ -45,23 +45,35 @@ core_of v = record { clusters = v.clusters; log = v.log; items = v.items; items_
 abbrev pub sures : Core → List Point
 sures c = filter (λ p. p.sure) c.points
 
-abbrev pub AllSure : Core → Type 0
-AllSure c = list_all (λ p. p.sure) c.points ≡ true
-
--- What is kept since the last point weighs no more than the log does since its first n changes.
-pub record Weighs (n : ℕ) (c : Core) : Type 0 where
+-- What is kept since the last point is at most the load of the log since the last point of a flush or an upload, and each point of a commit for
+-- room stands where the log is heavy since then.
+pub record IsLaden (c : Core) : Type 0 where
   pub items : c.items ≡ items_of c.log
-  pub there : n ≤ length c.log
-  pub then_ : blocks_used c.items_then ≤ peak_since n c.log
-  pub since : c.put_since ≤ puts_since n c.log
+  pub there : sure_count c.points ≤ length c.log
+  pub load : blocks_used c.items_then + c.put_since ≤ load_since (sure_count c.points) c.log
+  pub heavy : (p : Point) → Opens c.points p → p.sure ≡ false → is_heavy c.clusters (sure_count c.points) c.log p.count ≡ true
 
--- The one becomes the other by changes and commits. Where what is kept weighs no more than the log since its first n changes, and that no more
--- than the clusters in the end, no commit is made for room.
+-- The one becomes the other by changes and commits.
 pub record BecomesSure (a b : Core) : Type 0 where
   pub holds : b.clusters ≡ a.clusters
   pub longer : (more : List (Usn × Change)) × (b.log ≡ a.log ++ more)
-  pub weighs : (n : ℕ) → Weighs n a → Weighs n b
-  pub sure : (n : ℕ) → Weighs n a → weight_since n b.log ≤ a.clusters → AllSure a → AllSure b
+  pub laden : IsLaden a → IsLaden b
+  pub later : IsLaden a → sure_count a.points ≤ sure_count b.points
+
+-- The points of flushes and uploads are the same, and those of commits for room are where they have the same count.
+pub record SamePoints (a b : Core) : Type 0 where
+  pub sure : sures a ≡ sures b
+  pub room : (p q : Point) → Opens a.points p → Opens b.points q → p.sure ≡ false → q.sure ≡ false → p.count ≡ q.count → p ≡ q
+
+-- The first change behind the last point of a flush or an upload had room: what is in use there and what it puts do not pass the clusters, as
+-- they would where it had to be refused as Full.
+abbrev pub FirstFits : Core → Type 0
+FirstFits c = is_heavy c.clusters (sure_count c.points) c.log (sure_count c.points) ≡ false
+
+-- Each change of the log had room when it was made: none had to be refused as Full.
+pub record HadRoom (c : Core) : Type 0 where
+  pub items : c.items ≡ items_of c.log
+  pub fits : none_full c.clusters c.log ≡ true
 
 -- What is looked at of a state: what of it is fixed, what happened so far, how many messages there are, how many openings failed
 -- since the last one, and whether something is said of it.
@@ -133,8 +145,9 @@ IsFront one other = (more : List Notice) × (other ≡ one ++ more)
 
 -- Its ends from states that are alike have the same result and are alike, or the one has a line of a fault where the other has
 -- the reply. What happened before it stays in what happened. Where the device stops it, what happened is a front of what happens
--- in the other, or they part so. Where the points of flushes and uploads are the same before, they are after.
-pub record IsSure {S A : Type 0} (v : View S) (f : Arrow S A) : Type 0 where
+-- in the other, or they part so. Where the points are the same before, they are after. From a state of which so much is known each change has
+-- room.
+pub record IsSureFrom {S A : Type 0} (v : View S) (May : S → Type 0) (f : Arrow S A) : Type 0 where
   pub grows : (s : S) (a : A) (t : S) → Ends (f s) a t → Grown v s t
   pub one : (s o : S) → Alike v s o → (a b : A) (t u : S) → Ends (f s) a t → Ends (f o) b u → v.good t ≡ true → v.good u ≡ true
       → SameEnd v a t b u ⊎ Parted (v.notes t) (v.notes u)
@@ -142,8 +155,13 @@ pub record IsSure {S A : Type 0} (v : View S) (f : Arrow S A) : Type 0 where
   pub stop : (s o : S) → Alike v s o → (t : S) (b : A) (u : S) → Stops (f s) t → Ends (f o) b u → v.good t ≡ true → v.good u ≡ true
       → IsFront (v.notes t) (v.notes u) ⊎ Parted (v.notes t) (v.notes u)
   pub rooms : (s : S) (a : A) (t : S) → Ends (f s) a t → BecomesSure (v.core s) (v.core t)
-  pub keeps : (s o : S) → Alike v s o → sures (v.core s) ≡ sures (v.core o) → (a b : A) (t u : S) → Ends (f s) a t → Ends (f o) b u → v.good t ≡ true → v.good u ≡ true
-      → (sures (v.core t) ≡ sures (v.core u)) ⊎ Parted (v.notes t) (v.notes u)
+  pub keeps : (s o : S) → Alike v s o → IsLaden (v.core s) → IsLaden (v.core o) → SamePoints (v.core s) (v.core o) → (a b : A) (t u : S) → Ends (f s) a t → Ends (f o) b u → v.good t ≡ true → v.good u ≡ true
+      → SamePoints (v.core t) (v.core u) ⊎ Parted (v.notes t) (v.notes u)
+  pub fits : (s : S) → May s → (a : A) (t : S) → Ends (f s) a t → HadRoom (v.core s) → HadRoom (v.core t)
+
+-- so from each state
+abbrev pub IsSure : {S A : Type 0} → View S → Arrow S A → Type 0
+IsSure v f = IsSureFrom v (λ s. Unit {0}) f
 
 -- What is read of alike states is the same.
 abbrev pub Reads : {S X : Type 0} → View S → (S → X) → Type 0
@@ -184,14 +202,20 @@ pub record IsSureOfPeer (left : State → State) (f : Arrow State Shown) : Type 
   pub one : (s o : State) → Alike of_state s o → (a b : Shown) (t u : State) → Ends (f s) a t → Ends (f o) b u → is_good t ≡ true → is_good u ≡ true
       → SameEnd of_state a t b u ⊎ (Parted t.filter.notes u.filter.notes ⊎ OneFailed a b)
 
--- Two restarts from alike states resumed: each at a point of its own, in the same epoch.
+-- Two restarts from alike states resumed: each at a point that it had, in the same epoch.
 pub record BothResumed (s o : State) (a b : Shown) (t u : State) : Type 0 where
   pub point : Point
   pub other : Point
+  pub opens : Opens s.filter.volume.points point
+  pub opens_too : Opens o.filter.volume.points other
   pub resumes : a ≡ resumed point
   pub resumes_too : b ≡ resumed other
   pub left : t ≡ with_opened point (epoch_after 0 s) s
   pub left_too : u ≡ with_opened other (epoch_after 0 o) o
+
+-- a restart may open a point of so many changes: as many as the last sure point has, or so many that the log is heavy there
+abbrev pub IsOpenedAt : State → ℕ → Type 0
+IsOpenedAt s n = (n ≡ sure_count s.filter.volume.points) ⊎ (is_heavy s.filter.volume.clusters (sure_count s.filter.volume.points) s.filter.volume.log n ≡ true)
 
 -- an event of another device
 abbrev pub is_peer : Event → Bool

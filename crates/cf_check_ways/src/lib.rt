@@ -8,7 +8,9 @@
 mod laws;
 
 pub use laws::{
-    a_cut_off_answer_shows_a_front, answers_to_one_event_are_alike, each_message_has_a_line,
-    each_message_of_a_cut_off_event_has_a_line, no_opening_failed, parts_of_sure_parts_are_sure,
+    a_count_names_one_point, a_cut_off_answer_shows_a_front,
+    a_restart_opens_where_the_log_is_heavy, answers_to_one_event_are_alike, each_change_had_room,
+    each_message_has_a_line, each_message_of_a_cut_off_event_has_a_line, no_opening_failed,
+    parts_of_sure_parts_are_sure, points_stand_where_the_log_is_heavy, points_stay_the_same,
     restarts_at_one_point_are_alike, what_asks_nothing_never_fails,
 };

@@ -1,5 +1,5 @@
 -- What the changes of a log cost bounds what it weighs, where each item that is made has a greater number than all before it.
-use Rattle.std.proofs.Common.{◌≡◌, ◌≤◌, ◌<◌, ◌+◌, ◌-◌, ◌/◌, ◌^◌, ◌&&◌, not, ℕ, zero, suc, Bool, true, false, cond, drop, filter, List, [], ◌∷◌, ◌++◌, length, take, max, min, nat_lt, refl, sym, ◌∙◌, ap, subst, arith, append-nil}
+use Rattle.std.proofs.Common.{◌≡◌, ◌≤◌, ◌<◌, ◌+◌, ◌-◌, ◌/◌, ◌^◌, ◌&&◌, not, ℕ, zero, suc, Bool, true, false, cond, drop, filter, List, [], ◌∷◌, ◌++◌, length, take, max, min, refl, sym, ap, subst, arith, append-nil}
 use Rattle.std.specs.Prelude.{Option, Some, None, sum_by, ◌==◌}
 use Rattle.std.proofs.lemmas.Bool.{eqb-true, ltb-true}
 use Rattle.std.proofs.lemmas.List.Sums.{sum_by-append, sum_by-cons}
@@ -9,10 +9,10 @@ use Rattle.cf_base.specs.declared.ids.ItemId.{ItemId}
 use Rattle.cf_base.specs.declared.ids.Usn.{Usn}
 use Rattle.cf_base.specs.declared.items.Pin.{Pin}
 use Rattle.cf_base.specs.declared.items.Pin.TheVariants as pin
-use Rattle.cf_check_room.specs.Weights.{peak_from, puts_from, weight_since}
+use Rattle.cf_check_room.specs.Rooms.{load_from, load_since}
 use Rattle.cf_check_weights.proofs.Blocks.{counting_length, held_after, none_here}
-use Rattle.cf_check_weights.specs.Costs.{blocks_to, cost_of, made_by}
-use Rattle.cf_check_weights.specs.Weighed.{greater, last_weight, makes_above, most_weight, next_weight, nothing, since_of, used_at, weight_at, weight_of, weights_from}
+use Rattle.cf_check_weights.specs.Costs.{cost_of, made_by}
+use Rattle.cf_check_weights.specs.Weighed.{greater, last_weight, makes_above, most_weight, next_weight, nothing, since_of, weight_at, weight_of, weights_from}
 use Rattle.cf_check_weights.specs.declared.weights.Weight.{Weight}
 use Rattle.cf_model.specs.Blocks.{blocks_held, blocks_of, blocks_used, held_of, lacks_in, puts_into, size_at}
 use Rattle.cf_model.specs.Effects.{changed, copied, copies, effect, made, size_made, without}
@@ -238,28 +238,31 @@ least : (w : Weight) (log : List (Usn × Change)) → w.total ≤ most_weight �
 least w [] le = omega arith
 least w (c ∷ cs) le = let h = least (next_weight w c.1) cs (omega arith) in omega (arith, h, le)
 
+-- where the last is below the greatest, so was the first
+below : (w : Weight) (log : List (Usn × Change)) → (last_weight w (weights_from w log)).total < most_weight → w.total ≤ most_weight
+below w [] few = omega (arith, few)
+below w (c ∷ cs) few = let h = least (next_weight w c.1) cs (omega arith) in omega (arith, h, few)
+
 -- what rises in the end rose before
 rose : (w : Weight) (log : List (Usn × Change)) → (last_weight w (weights_from w log)).rises ≡ true → w.rises ≡ true
 rose w [] h = h
 rose w (c ∷ cs) h = (both w.rises (makes_above w.greatest c.1) (rose (next_weight w c.1) cs h)).0
 
--- the blocks that the items use are never more than the sum, nor are those into which the changes put bytes
-bounds : (items : List Item) (w : Weight) (log : List (Usn × Change)) → IsRising 0 items w.greatest → (last_weight w (weights_from w log)).rises ≡ true → blocks_used items ≤ w.total → w.total ≤ most_weight → (last_weight w (weights_from w log)).total < most_weight
-    → (w.total + puts_from items log ≤ (last_weight w (weights_from w log)).total) × (peak_from items log ≤ (last_weight w (weights_from w log)).total)
-bounds items w [] r rises le small few = (omega arith, le)
-bounds items w (c ∷ cs) r rises le small few =
+-- the load is never more than the sum
+loads : (items : List Item) (w : Weight) (load : ℕ) (log : List (Usn × Change)) → IsRising 0 items w.greatest → (last_weight w (weights_from w log)).rises ≡ true → blocks_used items ≤ w.total → load ≤ w.total → w.total ≤ most_weight → (last_weight w (weights_from w log)).total < most_weight
+    → load_from items load log ≤ (last_weight w (weights_from w log)).total
+loads items w load [] r rises used le small few = le
+loads items w load (c ∷ cs) r rises used le small few =
     let next : Weight = next_weight w c.1 in
     let above : makes_above w.greatest c.1 ≡ true = (both w.rises (makes_above w.greatest c.1) (rose next cs rises)).1 in
     let last : ℕ = (last_weight next (weights_from next cs)).total in
     let low : next.total ≤ last = least next cs (omega arith) in
     let some : last < most_weight = few in
-    let puts : length (puts_into items c.1) ≤ cost_of w.total c.1 = puts_few items c.1 w.total le in
+    let puts : length (puts_into items c.1) ≤ cost_of w.total c.1 = puts_few items c.1 w.total used in
     let sum : next.total ≡ w.total + cost_of w.total c.1 = omega (arith, low, some) in
     let more : blocks_used (effect items c.1 c.0) ≤ blocks_used items + length (puts_into items c.1) = uses_more items w.greatest c.1 c.0 r in
-    let h = bounds (effect items c.1 c.0) next cs (stays_rising items w.greatest c.1 c.0 r above) rises (omega (arith, more, puts, sum, le)) (omega arith) few in
-    let one : next.total + puts_from (effect items c.1 c.0) cs ≤ last = h.0 in
-    let two : peak_from (effect items c.1 c.0) cs ≤ last = h.1 in
-    (omega (arith, one, puts, sum), omega (arith, two, low, sum, le))
+    let used' : blocks_used (effect items c.1 c.0) ≤ next.total = omega (arith, more, puts, sum, used) in
+    loads (effect items c.1 c.0) next (max (load + length (puts_into items c.1)) (blocks_used (effect items c.1 c.0))) cs (stays_rising items w.greatest c.1 c.0 r above) rises used' (omega (arith, le, puts, sum, used')) (omega arith) few
 
 -- the items of a log whose numbers rose stand in order
 risen : (items : List Item) (w : Weight) (log : List (Usn × Change)) → IsRising 0 items w.greatest → (last_weight w (weights_from w log)).rises ≡ true → IsRising 0 (after_changes items log) (last_weight w (weights_from w log)).greatest
@@ -269,13 +272,12 @@ risen items w (c ∷ cs) r rises =
     let above : makes_above w.greatest c.1 ≡ true = (both w.rises (makes_above w.greatest c.1) (rose next cs rises)).1 in
     risen (effect items c.1 c.0) next cs (stays_rising items w.greatest c.1 c.0 r above) rises
 
--- with the blocks that its items used then and twice what its changes cost since, a log that passes no more than the clusters weighs no more
-pub light : (clusters n : ℕ) (log : List (Usn × Change)) → clusters < 2 ^ 32 → (since_of n log).rises ≡ true → used_at n log ≤ clusters → (since_of n log).total ≤ (clusters + used_at n log) / 2 → weight_since n log ≤ clusters
-light clusters n log small rises few le =
+-- where what its items used then and what its changes cost since do not pass the clusters, the load of a log does not
+pub light : (clusters n : ℕ) (log : List (Usn × Change)) → clusters < 2 ^ 32 → (since_of n log).rises ≡ true → (since_of n log).total ≤ clusters → load_since n log ≤ clusters
+light clusters n log small rises le =
     let items : List Item = items_of (take n log) in
     let rises_then : (weight_of (take n log)).rises ≡ true = rose (weight_at n log) (drop n log) rises in
     let r : IsRising 0 items (weight_of (take n log)).greatest = risen (root ∷ []) nothing (take n log) (omega arith, omega arith, record {}) rises_then in
-    let h = bounds items (weight_at n log) (drop n log) r rises (omega arith) (omega (arith, few, small)) (omega (arith, small, le, few)) in
-    let one : used_at n log + puts_from items (drop n log) ≤ (since_of n log).total = h.0 in
-    let two : peak_from items (drop n log) ≤ (since_of n log).total = h.1 in
-    omega (arith, one, two, le)
+    let few : (since_of n log).total < most_weight = omega (arith, le, small) in
+    let h : load_since n log ≤ (since_of n log).total = loads items (weight_at n log) (blocks_used items) (drop n log) r rises (omega arith) (omega arith) (below (weight_at n log) (drop n log) few) few in
+    omega (arith, h, le)

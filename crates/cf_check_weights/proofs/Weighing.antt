@@ -1,9 +1,9 @@
 -- The weights of a log that becomes longer or shorter.
 use Rattle.std.proofs.lemmas.List.{drop-append-le, drop_all, take-append-le}
-use Rattle.std.proofs.Common.{◌+◌, drop, length-append, ◌≡◌, ◌≤◌, ◌<◌, ◌^◌, ◌-◌, ◌/◌, ◌&&◌, ℕ, zero, suc, Bool, true, false, List, [], ◌∷◌, ◌++◌, length, take, refl, sym, ◌∙◌, ap, subst, arith, leb, take_all}
+use Rattle.std.proofs.Common.{◌+◌, drop, length-append, ◌≡◌, ◌≤◌, ◌<◌, ◌^◌, ◌-◌, ◌&&◌, ℕ, zero, suc, Bool, true, false, List, [], ◌∷◌, ◌++◌, length, take, refl, sym, ◌∙◌, ap, arith, take_all}
 use Rattle.std.specs.Prelude.{Some, None, nat_le, slice_get}
 use Rattle.std.proofs.lemmas.Bool.{leb-true}
-use Rattle.cf_check_room.specs.Weights.{weight_since}
+use Rattle.cf_check_room.specs.Rooms.{load_since}
 use Rattle.cf_check_weights.proofs.Bounds.{light}
 use Rattle.cf_base.specs.declared.changes.Change.{Change}
 use Rattle.cf_base.specs.declared.ids.Usn.{Usn}
@@ -66,25 +66,20 @@ since_more n log m c le =
     weight_at' : List (Usn × Change) → Weight
     weight_at' xs = record (weight_of xs) { total = blocks_used (items_of xs) }
 
-used_more : (n : ℕ) (log more : List (Usn × Change)) → n ≤ length log → used_at n (log ++ more) ≡ used_at n log
-used_more n log more le = ap (λ (xs : List (Usn × Change)). blocks_used (items_of xs)) (take-append-le n log more le)
-
-pub tallied_more : (old new : Room) (n : ℕ) (log : List (Usn × Change)) (m : Usn) (c : Change) → IsTallied old n log → IsWeighed new.weights (log ++ (m, c) ∷ []) → new.used ≡ old.used → new.since ≡ next_weight old.since c → IsTallied new n (log ++ (m, c) ∷ [])
-tallied_more old new n log m c h weights used since = record {
+pub tallied_more : (old new : Room) (n : ℕ) (log : List (Usn × Change)) (m : Usn) (c : Change) → IsTallied old n log → IsWeighed new.weights (log ++ (m, c) ∷ []) → new.since ≡ next_weight old.since c → IsTallied new n (log ++ (m, c) ∷ [])
+tallied_more old new n log m c h weights since = record {
   weights = weights;
   there = let le : n ≤ length log = h.there in let k : length (log ++ (m, c) ∷ []) ≡ length log + 1 = length-append log ((m, c) ∷ []) in omega (arith, le, k);
-  used = used ∙ h.used ∙ sym (used_more n log ((m, c) ∷ []) h.there);
   since = since ∙ ap (λ (w : Weight). next_weight w c) h.since ∙ sym (since_more n log m c h.there);
 }
 
-pub tallied_at : (new : Room) (log : List (Usn × Change)) (last : Weight) (used : ℕ) → IsWeighed new.weights log → last ≡ last_weight nothing new.weights → used ≡ blocks_used (items_of log) → new.used ≡ used → new.since ≡ record last { total = used } → IsTallied new (length log) log
-tallied_at new log last used weights last_is' used_is same since =
+pub tallied_at : (new : Room) (log : List (Usn × Change)) (last : Weight) (used : ℕ) → IsWeighed new.weights log → last ≡ last_weight nothing new.weights → used ≡ blocks_used (items_of log) → new.since ≡ record last { total = used } → IsTallied new (length log) log
+tallied_at new log last used weights last_is' used_is since =
     let all : take (length log) log ≡ log = take_all (length log) log (omega arith) in
     let none : drop (length log) log ≡ [] = drop_all (length log) log (omega arith) in
     let there : used_at (length log) log ≡ used = ap (λ (xs : List (Usn × Change)). blocks_used (items_of xs)) all ∙ sym used_is in record {
       weights = weights;
       there = omega arith;
-      used = same ∙ sym there;
       since = since
           ∙ ap (λ (w : Weight). record w { total = used }) (last_is' ∙ ap (last_weight nothing) weights ∙ ap (λ (xs : List (Usn × Change)). weight_of xs) (sym all))
           ∙ ap (λ (k : ℕ). record (weight_of (take (length log) log)) { total = k }) (sym there)
@@ -93,14 +88,10 @@ tallied_at new log last used weights last_is' used_is same since =
 
 -- whether it is light
 
-pub light_is : (r : Room) (n clusters most : ℕ) (log : List (Usn × Change)) (fits : Bool) → IsTallied r n log → most ≡ (clusters + r.used) / 2 → fits ≡ (r.since.rises && (nat_le r.used clusters && nat_le r.since.total most)) → fits ≡ is_light clusters n log
-light_is r n clusters most log fits h most_is told =
-    told ∙ ap (λ (k : ℕ). r.since.rises && (nat_le r.used clusters && nat_le r.since.total k)) most_is
-    ∙ ap (λ (k : ℕ). r.since.rises && (nat_le k clusters && nat_le r.since.total ((clusters + k) / 2))) h.used
-    ∙ ap (λ (w : Weight). w.rises && (nat_le (used_at n log) clusters && nat_le w.total ((clusters + used_at n log) / 2))) h.since
+pub light_is : (r : Room) (n clusters : ℕ) (log : List (Usn × Change)) (fits : Bool) → IsTallied r n log → fits ≡ (r.since.rises && nat_le r.since.total clusters) → fits ≡ is_light clusters n log
+light_is r n clusters log fits h told = told ∙ ap (λ (w : Weight). w.rises && nat_le w.total clusters) h.since
 
-pub weighs_less : (clusters n : ℕ) (log : List (Usn × Change)) → clusters < 2 ^ 32 → is_light clusters n log ≡ true → weight_since n log ≤ clusters
-weighs_less clusters n log small e =
-    let x = both (since_of n log).rises (nat_le (used_at n log) clusters && nat_le (since_of n log).total ((clusters + used_at n log) / 2)) e in
-    let y = both (nat_le (used_at n log) clusters) (nat_le (since_of n log).total ((clusters + used_at n log) / 2)) x.1 in
-    light clusters n log small x.0 (leb-true (used_at n log) clusters y.0) (leb-true (since_of n log).total ((clusters + used_at n log) / 2) y.1)
+pub loads_less : (clusters n : ℕ) (log : List (Usn × Change)) → clusters < 2 ^ 32 → is_light clusters n log ≡ true → load_since n log ≤ clusters
+loads_less clusters n log small e =
+    let x = both (since_of n log).rises (nat_le (since_of n log).total clusters) e in
+    light clusters n log small x.0 (leb-true (since_of n log).total clusters x.1)

@@ -1,5 +1,5 @@
 -- What is known of a log after each of its changes.
-use Rattle.std.specs.Prelude.{◌≡◌, ◌≤◌, ℕ, drop, length, take, ◌+◌, ◌-◌, ◌/◌, ◌^◌, Bool, true, List, [], ◌∷◌, Option, Some, None, max, min, nat_le, nat_lt, ◌&&◌}
+use Rattle.std.specs.Prelude.{◌≡◌, ◌≤◌, ℕ, drop, length, take, ◌+◌, ◌-◌, ◌^◌, Bool, true, List, [], ◌∷◌, Option, Some, None, max, min, nat_le, nat_lt, ◌&&◌}
 use Rattle.cf_base.specs.declared.changes.Change.{Change}
 use Rattle.cf_base.specs.declared.ids.Usn.{Usn}
 use Rattle.cf_check_weights.specs.Costs.{cost_of, made_by}
@@ -57,15 +57,13 @@ weight_at n log = record (weight_of (take n log)) { total = used_at n log }
 abbrev pub since_of : ℕ → List (Usn × Change) → Weight
 since_of n log = last_weight (weight_at n log) (weights_from (weight_at n log) (drop n log))
 
--- With the blocks that the items used then, and twice those into which the changes since may have put bytes, the clusters are not passed; and
--- each item that was made had a greater number than all before it.
+-- The blocks that the items used then, and those into which the changes since may have put bytes, do not pass the clusters; and each item that
+-- was made had a greater number than all before it.
 abbrev pub is_light : ℕ → ℕ → List (Usn × Change) → Bool
-is_light clusters n log =
-    (since_of n log).rises && (nat_le (used_at n log) clusters && nat_le (since_of n log).total ((clusters + used_at n log) / 2))
+is_light clusters n log = (since_of n log).rises && nat_le (since_of n log).total clusters
 
 -- this is known of the log, and since its first n changes
 pub record IsTallied (r : Room) (n : ℕ) (log : List (Usn × Change)) : Type 0 where
   pub weights : IsWeighed r.weights log
   pub there : n ≤ length log
-  pub used : r.used ≡ used_at n log
   pub since : r.since ≡ since_of n log

@@ -3,7 +3,7 @@
 ghost use Rattle.std.specs.Prelude.{◌≡◌, ◌≤◌, ◌++◌, ◌∷◌, [], List, OnOk, length, take, true};
 ghost use Rattle.cf_base.specs.declared.changes.Change.{Change as Logged};
 ghost use Rattle.cf_base.specs.declared.ids.Usn.{Usn};
-ghost use Rattle.cf_check_room.specs.Weights.{weight_since};
+ghost use Rattle.cf_check_room.specs.Rooms.{load_since};
 ghost use Rattle.cf_check_weights.specs.Weighed.{IsTallied, IsWeighed, is_light};
 ghost use Rattle.cf_model.specs.Blocks.{blocks_used};
 ghost use Rattle.cf_model.specs.Logs.{items_of};
@@ -19,8 +19,6 @@ pub struct Room {
     pub(crate) weights: Weights,
     /// Of the changes since the point. The total begins with the blocks that the items used there.
     pub(crate) since: Weight,
-    /// The blocks that the items used at the point.
-    pub(crate) used: u32,
 }
 
 impl Room {
@@ -34,11 +32,7 @@ impl Room {
             greatest: 1,
             rises: true,
         };
-        Room {
-            weights,
-            since,
-            used: 0,
-        }
+        Room { weights, since }
     }
 
     /// Adds a change. Fails where there is no memory for it; then nothing more is known.
@@ -67,16 +61,14 @@ impl Room {
             greatest: last.greatest,
             rises: last.rises,
         };
-        self.used = used;
     }
 
-    /// Whether the log surely needed no more than the clusters since the point: what its items used there, and twice the blocks into which its
+    /// Whether the log surely needed no more than the clusters since the point: what its items used there, and the blocks into which its
     /// changes may have put bytes. It is not asked of all logs that need no more.
     pub fn fits(&self, clusters: u32) -> bool
         ensures exact { (n : _) (log : List (Usn × Logged)) → IsTallied self.now n log → result ≡ is_light clusters n log }
-        ensures light { (n : _) (log : List (Usn × Logged)) → IsTallied self.now n log → result ≡ true → weight_since n log ≤ clusters }
+        ensures light { (n : _) (log : List (Usn × Logged)) → IsTallied self.now n log → result ≡ true → load_since n log ≤ clusters }
     {
-        let most = (u64::from(clusters) + u64::from(self.used)) / 2;
-        self.since.rises && (self.used <= clusters && self.since.total <= most)
+        self.since.rises && self.since.total <= u64::from(clusters)
     }
 }

@@ -1,8 +1,12 @@
-use Rattle.std.proofs.Common.{◌+◌, ◌∙◌, ap, arith, drop, refl, subst, sym, List}
+use Rattle.std.proofs.Common.{◌+◌, ◌≤◌, ◌∙◌, ap, arith, drop, length, refl, subst, sym, ℕ, List}
+use Rattle.std.proofs.lemmas.List.{drop_all}
 use Rattle.cf_base.specs.declared.events.Event.{Event}
 use Rattle.cf_check_compare.proofs.Alls.{rest_is}
 use Rattle.cf_check_report.proofs.Judging.{ended, followed, judged_on, judged_open, judged_stray, judged_wrong}
 use Rattle.cf_check_report.specs.Following.{Follows}
+use Rattle.cf_check_judge.specs.Judge.{at_end}
+use Rattle.cf_check_model.specs.Judging.{IsVerdict}
+use Rattle.cf_model.specs.Words.{is_empty}
 use Rattle.cf_check_report.proofs.reports.judge.Goals as goal
 
 pub loop-event-init : goal.loop-event-init
@@ -45,3 +49,11 @@ loop-event-preserved g c =
           (c.judge-next.ensures all (drop (i + 1) all) c.args.report.now c.args.clusters i c.requires.report at),
       omega (arith, c.loop-event.invariant.1),
     )
+
+pub returns-clause-right : goal.returns-clause-right
+returns-clause-right g c =
+    let i = c.loop-event.event-index in
+    let all = c.args.events.now in
+    let last : length all ≤ i = omega (arith, c.loop-event-test.false) in
+    let at = subst (λ (es : List Event). Follows g.D.Device.stands all c.args.report.now c.args.clusters i es c.loop-event.rest.now c.loop-event.judge) (drop_all i all last) c.loop-event.invariant.0 in
+    rw c.at_end.ensures (subst (λ (k : ℕ). IsVerdict all c.args.report.now c.args.clusters (at_end (is_empty c.loop-event.rest.now) k)) (sym c.loop-event.invariant.1) (ended g.D.Device.stands all c.args.report.now c.args.clusters i c.loop-event.rest.now c.loop-event.judge c.requires.report at))

@@ -1,5 +1,5 @@
 use Rattle.std.proofs.Common.{sym, ◌∙◌}
-use Rattle.cf_check_report.proofs.Judging.{heavy, is_wrong, opens}
+use Rattle.cf_check_report.proofs.Judging.{is_wrong, opens}
 use Rattle.cf_check_report.proofs.judgements.Judge.judge.Goals as goal
 
 pub returns-then-fails_next : goal.returns-then-fails_next
@@ -9,7 +9,3 @@ returns-then-fails_next g c = λ events es report clusters done short h.
 pub returns-then-is_foreign : goal.returns-then-is_foreign
 returns-then-is_foreign g c = λ events es report clusters done short h.
     is_wrong g.D.Device.stands events report clusters done c.args.event.now es c.args.rest.now short c.args.self h (sym c.fails_next.ensures ∙ c.if-fails_next.false) (sym c.is_foreign.ensures ∙ c.if-is_foreign.true)
-
-pub returns-then-not-may_open : goal.returns-then-not-may_open
-returns-then-not-may_open g c = λ events es report clusters done short h.
-    heavy g.D.Device.stands events report clusters done c.args.event.now es c.args.rest.now short c.args.self h (sym c.fails_next.ensures ∙ c.if-fails_next.false) (sym c.is_foreign.ensures ∙ c.if-is_foreign.false) (c.may_open.ensures.strays c.if-not-may_open.true)
