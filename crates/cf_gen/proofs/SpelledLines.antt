@@ -12,6 +12,10 @@ use Rattle.cf_base.specs.declared.policies.Mode.TheVariants as mode
 use Rattle.cf_script.specs.declared.commands.Command.TheVariants as command
 use Rattle.cf_script.specs.declared.commands.BareCommand.TheVariants as bare
 use Rattle.cf_script.specs.declared.commands.PathCommand.TheVariants as on_path
+use Rattle.cf_script.specs.declared.commands.WordCommand.TheVariants as on_word
+use Rattle.cf_script.specs.declared.commands.TwoWordCommand.TheVariants as on_two
+use Rattle.cf_script.specs.declared.commands.ThreeWordCommand.TheVariants as on_three
+use Rattle.cf_script.specs.declared.commands.OtherCommand.TheVariants as other
 use Rattle.cf_script.specs.declared.commands.PeerCommand.TheVariants as peer_word
 use Rattle.cf_script.specs.Words.{IsData, IsPath, escape_byte, escaped}
 use Rattle.cf_script.specs.Forms.{AreWords}
@@ -95,15 +99,15 @@ abbrev Spelled : Line → Type 0
 Spelled line = AreAllWords (words_of line) × AreWords mode.Replay (words_of line) (event_of line)
 
 spelled : (line : Line) → LineFits line → Spelled line
-spelled (Put file byte count) h = ((fixed (codes "peer") refl, (fixed (codes "put") refl, (path_word file h.0, (run_word byte count h.1, tt)))), (command.Peer, refl, refl, (peer_word.Put, refl, (path_of file, replicate count byte, path_is file h.0, run_is byte count h.1, refl))))
+spelled (Put file byte count) h = ((fixed (codes "peer") refl, (fixed (codes "put") refl, (path_word file h.0, (run_word byte count h.1, tt)))), ((command.Other other.Peer), refl, refl, (peer_word.Put, refl, (path_of file, replicate count byte, path_is file h.0, run_is byte count h.1, refl))))
 spelled Sync h = ((fixed (codes "sync") refl, tt), (command.Bare bare.Sync, refl, refl, refl))
 spelled Flush h = ((fixed (codes "flush") refl, tt), (command.Bare bare.Flush, refl, refl, refl))
 spelled (Open file) h = ((fixed (codes "open") refl, (path_word file h, tt)), (command.OnPath on_path.Open, refl, refl, (path_of file, path_is file h, refl)))
-spelled (Close handle) h = ((fixed (codes "close") refl, (pair_word handle.epoch handle.number h.0 h.1, tt)), (command.Close, refl, refl, (handle, (h.0, h.1, refl), refl)))
-spelled (Read handle offset len) h = ((fixed (codes "read") refl, (pair_word handle.epoch handle.number h.0.0 h.0.1, (number_word offset h.1, (number_word len h.2, tt)))), (command.Read, refl, refl, (handle, offset, len, (h.0.0, h.0.1, refl), (h.1, refl), (h.2, refl), refl)))
-spelled (Write handle offset byte count) h = ((fixed (codes "write") refl, (pair_word handle.epoch handle.number h.0.0 h.0.1, (number_word offset h.1, (run_word byte count h.2, tt)))), (command.Write, refl, refl, (handle, offset, replicate count byte, (h.0.0, h.0.1, refl), (h.1, refl), run_is byte count h.2, refl)))
-spelled (Size handle size) h = ((fixed (codes "size") refl, (pair_word handle.epoch handle.number h.0.0 h.0.1, (number_word size h.1, tt))), (command.Size, refl, refl, (handle, size, (h.0.0, h.0.1, refl), (h.1, refl), refl)))
-spelled (Crash seed) h = ((fixed (codes "crash") refl, (fixed (codes "mix") refl, (number_word seed h, tt))), (command.Crash, refl, refl, (seed, refl, (h, refl), refl)))
+spelled (Close handle) h = ((fixed (codes "close") refl, (pair_word handle.epoch handle.number h.0 h.1, tt)), ((command.OnWord on_word.Close), refl, refl, (handle, (h.0, h.1, refl), refl)))
+spelled (Read handle offset len) h = ((fixed (codes "read") refl, (pair_word handle.epoch handle.number h.0.0 h.0.1, (number_word offset h.1, (number_word len h.2, tt)))), ((command.OnThree on_three.Read), refl, refl, (handle, offset, len, (h.0.0, h.0.1, refl), (h.1, refl), (h.2, refl), refl)))
+spelled (Write handle offset byte count) h = ((fixed (codes "write") refl, (pair_word handle.epoch handle.number h.0.0 h.0.1, (number_word offset h.1, (run_word byte count h.2, tt)))), ((command.OnThree on_three.Write), refl, refl, (handle, offset, replicate count byte, (h.0.0, h.0.1, refl), (h.1, refl), run_is byte count h.2, refl)))
+spelled (Size handle size) h = ((fixed (codes "size") refl, (pair_word handle.epoch handle.number h.0.0 h.0.1, (number_word size h.1, tt))), ((command.OnTwo on_two.Size), refl, refl, (handle, size, (h.0.0, h.0.1, refl), (h.1, refl), refl)))
+spelled (Crash seed) h = ((fixed (codes "crash") refl, (fixed (codes "mix") refl, (number_word seed h, tt))), ((command.Other other.Crash), refl, refl, (seed, refl, (h, refl), refl)))
 spelled Restart h = ((fixed (codes "restart") refl, tt), (command.Bare bare.Restart, refl, refl, refl))
 
 -- lines after one that is spelled

@@ -1,5 +1,5 @@
 -- A word is one command.
-use Rattle.std.proofs.Common.{◌≡◌, ℕ, Bool, true, false, List, [], ◌∷◌, cond, refl, sym, ap, subst, ◌∙◌}
+use Rattle.std.proofs.Common.{◌≡◌, ℕ, true, false, List, [], ◌∷◌, cond, refl, sym, ap, subst, ◌∙◌}
 use Rattle.std.specs.Prelude.{Option, Some, None}
 use Rattle.std.specs.Str.{bytes_eq}
 use Rattle.cf_base.specs.declared.events.Event.{Event}
@@ -9,12 +9,17 @@ use Rattle.cf_script.specs.declared.commands.Command.TheVariants as command
 use Rattle.cf_script.specs.declared.commands.BareCommand.TheVariants as bare
 use Rattle.cf_script.specs.declared.commands.PathCommand.TheVariants as on_path
 use Rattle.cf_script.specs.declared.commands.NumberCommand.TheVariants as on_number
+use Rattle.cf_script.specs.declared.commands.WordCommand.TheVariants as on_word
+use Rattle.cf_script.specs.declared.commands.TwoWordCommand.TheVariants as on_two
+use Rattle.cf_script.specs.declared.commands.ThreeWordCommand.TheVariants as on_three
+use Rattle.cf_script.specs.declared.commands.LongCommand.TheVariants as long
+use Rattle.cf_script.specs.declared.commands.OtherCommand.TheVariants as other
 use Rattle.cf_script.specs.Words.{Reads}
 use Rattle.cf_script.specs.Names.{command_name, is_foreign}
 use Rattle.cf_script.specs.Forms.{Follows, AreWords}
 
 abbrev commands : List Command
-commands = (command.Bare bare.Flush) ∷ (command.Bare bare.Df) ∷ (command.Bare bare.Connect) ∷ (command.Bare bare.Disconnect) ∷ (command.Bare bare.Restart) ∷ (command.Bare bare.Work) ∷ (command.Bare bare.Sync) ∷ (command.OnPath on_path.Open) ∷ (command.OnPath on_path.Create) ∷ (command.OnPath on_path.Mkdir) ∷ (command.OnPath on_path.Delete) ∷ (command.OnPath on_path.List) ∷ (command.OnPath on_path.Hydrate) ∷ (command.OnPath on_path.Info) ∷ (command.OnPath on_path.Used) ∷ (command.OnPath on_path.Revert) ∷ (command.OnPath on_path.Unmark) ∷ (command.OnNumber on_number.Stop) ∷ (command.OnNumber on_number.Deliver) ∷ (command.OnNumber on_number.Arrive) ∷ (command.OnNumber on_number.Space) ∷ command.Close ∷ command.Cancel ∷ command.Tick ∷ command.Read ∷ command.Get ∷ command.Write ∷ command.Size ∷ command.Rename ∷ command.Pin ∷ command.Dehydrate ∷ command.Ranges ∷ command.Policy ∷ command.Keep ∷ command.Crash ∷ command.Peer ∷ command.Link ∷ command.Place ∷ command.PlaceDir ∷ command.Convert ∷ command.Update ∷ command.Mark ∷ command.Do ∷ command.Plan ∷ []
+commands = (command.Bare bare.Flush) ∷ (command.Bare bare.Df) ∷ (command.Bare bare.Connect) ∷ (command.Bare bare.Disconnect) ∷ (command.Bare bare.Restart) ∷ (command.Bare bare.Work) ∷ (command.Bare bare.Sync) ∷ (command.OnPath on_path.Open) ∷ (command.OnPath on_path.Create) ∷ (command.OnPath on_path.Mkdir) ∷ (command.OnPath on_path.Delete) ∷ (command.OnPath on_path.List) ∷ (command.OnPath on_path.Hydrate) ∷ (command.OnPath on_path.Info) ∷ (command.OnPath on_path.Used) ∷ (command.OnPath on_path.Revert) ∷ (command.OnPath on_path.Unmark) ∷ (command.OnNumber on_number.Stop) ∷ (command.OnNumber on_number.Deliver) ∷ (command.OnNumber on_number.Arrive) ∷ (command.OnNumber on_number.Space) ∷ (command.OnWord on_word.Close) ∷ (command.OnWord on_word.Cancel) ∷ (command.OnWord on_word.Tick) ∷ (command.OnThree on_three.Read) ∷ (command.OnThree on_three.Get) ∷ (command.OnThree on_three.Write) ∷ (command.OnTwo on_two.Size) ∷ (command.OnTwo on_two.Rename) ∷ (command.Long long.Pin) ∷ (command.Other other.Dehydrate) ∷ (command.OnTwo on_two.Ranges) ∷ (command.Long long.Policy) ∷ (command.OnTwo on_two.Keep) ∷ (command.Other other.Crash) ∷ (command.Other other.Peer) ∷ (command.OnWord on_word.Link) ∷ (command.Other other.Place) ∷ (command.Long long.PlaceDir) ∷ (command.OnTwo on_two.Convert) ∷ (command.Other other.Update) ∷ (command.OnTwo on_two.Mark) ∷ (command.Long long.Do) ∷ (command.Long long.Plan) ∷ []
 
 abbrev found : List ℕ → List Command → Option Command
 found word [] = None
@@ -43,29 +48,29 @@ found_again (command.OnNumber on_number.Stop) = refl
 found_again (command.OnNumber on_number.Deliver) = refl
 found_again (command.OnNumber on_number.Arrive) = refl
 found_again (command.OnNumber on_number.Space) = refl
-found_again command.Close = refl
-found_again command.Cancel = refl
-found_again command.Tick = refl
-found_again command.Read = refl
-found_again command.Get = refl
-found_again command.Write = refl
-found_again command.Size = refl
-found_again command.Rename = refl
-found_again command.Pin = refl
-found_again command.Dehydrate = refl
-found_again command.Ranges = refl
-found_again command.Policy = refl
-found_again command.Keep = refl
-found_again command.Crash = refl
-found_again command.Peer = refl
-found_again command.Link = refl
-found_again command.Place = refl
-found_again command.PlaceDir = refl
-found_again command.Convert = refl
-found_again command.Update = refl
-found_again command.Mark = refl
-found_again command.Do = refl
-found_again command.Plan = refl
+found_again (command.OnWord on_word.Close) = refl
+found_again (command.OnWord on_word.Cancel) = refl
+found_again (command.OnWord on_word.Tick) = refl
+found_again (command.OnThree on_three.Read) = refl
+found_again (command.OnThree on_three.Get) = refl
+found_again (command.OnThree on_three.Write) = refl
+found_again (command.OnTwo on_two.Size) = refl
+found_again (command.OnTwo on_two.Rename) = refl
+found_again (command.Long long.Pin) = refl
+found_again (command.Other other.Dehydrate) = refl
+found_again (command.OnTwo on_two.Ranges) = refl
+found_again (command.Long long.Policy) = refl
+found_again (command.OnTwo on_two.Keep) = refl
+found_again (command.Other other.Crash) = refl
+found_again (command.Other other.Peer) = refl
+found_again (command.OnWord on_word.Link) = refl
+found_again (command.Other other.Place) = refl
+found_again (command.Long long.PlaceDir) = refl
+found_again (command.OnTwo on_two.Convert) = refl
+found_again (command.Other other.Update) = refl
+found_again (command.OnTwo on_two.Mark) = refl
+found_again (command.Long long.Do) = refl
+found_again (command.Long long.Plan) = refl
 
 pub command_once : (c d : Command) → command_name c ≡ command_name d → c ≡ d
 command_once c d e = let h : Some c ≡ Some d = sym (found_again c) ∙ ap (λ w. found w commands) e ∙ found_again d in cc

@@ -1,16 +1,15 @@
 -- A word spells one list of bytes.
-use Rattle.std.proofs.Common.{inl, inr, ◌≡◌, ℕ, suc, ◌+◌, ◌*◌, ◌^◌, ◌<◌, ◌≤◌, Bool, true, false, List, [], ◌∷◌, ◌++◌, length, get_or, Result, Ok, Err, Option, Some, None, refl, sym, ap, subst, ◌∙◌, arith, length-append}
+use Rattle.std.proofs.Common.{inl, inr, ◌≡◌, ℕ, ◌*◌, ◌^◌, ◌<◌, ◌≤◌, true, false, List, [], ◌∷◌, ◌++◌, length, get_or, Result, Ok, Err, Option, Some, None, refl, sym, ap, subst, ◌∙◌, arith, length-append}
 use Rattle.std.specs.Str.{bytes_eq}
-use Rattle.std.specs.Fmt.{decimal}
 use Rattle.std.specs.Prelude.{◌≢◌, ◌⊎◌, replicate}
 use Rattle.std.specs.Result.{IfOk, IsOk}
 use Rattle.hex.specs.declared.error.FromHexError.TheVariants.{OutOfMemory}
 use Rattle.std.proofs.lemmas.Fmt.{decimal_injective}
 use Rattle.std.proofs.lemmas.Slice.Eq.{bytes_eq-Decides}
-use Rattle.hex.specs.Hex.{encode_lower, encode_with, lower_digits, decode_of, is_hex_digit, IsBytes}
+use Rattle.hex.specs.Hex.{encode_lower, lower_digits, decode_of, is_hex_digit}
 use Rattle.hex.specs.declared.error.FromHexError.{FromHexError}
 use Rattle.hex.proofs.HexLemmas.{decode_of-encode_lower, decode_of-ok, length-encode_with}
-use Rattle.cf_script.specs.Words.{Reads, IsNumber, IsCount, IsPlain, IsHex, IsRepeated, IsStarred, IsData, plain_text}
+use Rattle.cf_script.specs.Words.{Reads, IsNumber, IsCount, IsPlain, IsHex, IsRepeated, IsData}
 use Rattle.cf_script.specs.Cut.{HasNo}
 use Rattle.cf_script.proofs.Cuts.{cut_once, cut_at, cut_in}
 use Rattle.cf_script.proofs.NumberMeans.{number_once}

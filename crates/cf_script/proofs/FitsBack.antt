@@ -1,39 +1,20 @@
 -- What a line spells can be spelled: each part of the event is in its range.
-use Rattle.std.proofs.Common.{◌≡◌, ℕ, zero, suc, ◌+◌, ◌^◌, ◌<◌, ◌≤◌, Bool, true, false, List, [], ◌∷◌, ◌++◌, length, refl, sym, ap, subst, ◌∙◌, inl, inr, arith}
-use Rattle.std.specs.Prelude.{◌⊎◌, IsTrue, codes, filter, Option, Some, None}
+use Rattle.std.proofs.Common.{◌≡◌, ℕ, zero, suc, ◌<◌, Bool, true, false, List, [], ◌∷◌, refl, sym, subst, ◌∙◌, inl, inr, arith}
+use Rattle.std.specs.Prelude.{IsTrue}
 use Rattle.std.specs.List.{list_all}
-use Rattle.std.specs.Fmt.{decimal}
 use Rattle.std.specs.Str.{IsUtf8}
 use Rattle.hex.specs.Hex.{IsBytes}
 use Rattle.cf_base.specs.declared.ids.Key.{Key}
-use Rattle.cf_base.specs.declared.ids.Usn.{Usn}
-use Rattle.cf_base.specs.declared.items.Pin.{Pin}
-use Rattle.cf_base.specs.declared.items.Pin.TheVariants as pin
-use Rattle.cf_base.specs.declared.items.Reach.{Reach}
-use Rattle.cf_base.specs.declared.items.Reach.TheVariants as reach
-use Rattle.cf_base.specs.declared.policies.Class.{Class}
-use Rattle.cf_base.specs.declared.policies.Class.TheVariants as class
-use Rattle.cf_base.specs.declared.policies.Hydration.{Hydration}
-use Rattle.cf_base.specs.declared.policies.Hydration.TheVariants as hydration
-use Rattle.cf_base.specs.declared.policies.Population.{Population}
-use Rattle.cf_base.specs.declared.policies.Population.TheVariants as population
-use Rattle.cf_base.specs.declared.policies.Choice.{Choice}
-use Rattle.cf_base.specs.declared.policies.Choice.TheVariants as choice
 use Rattle.cf_base.specs.declared.policies.Mode.{Mode}
 use Rattle.cf_base.specs.declared.policies.Mode.TheVariants as mode
 use Rattle.cf_base.specs.declared.operations.NewItem.{NewItem}
 use Rattle.cf_base.specs.declared.operations.Operation.{Operation}
-use Rattle.cf_base.specs.declared.operations.Operation.TheVariants as operation
 use Rattle.cf_base.specs.declared.calls.Call.{Call}
-use Rattle.cf_base.specs.declared.calls.Call.TheVariants as call
 use Rattle.cf_base.specs.declared.events.DeviceEvent.{DeviceEvent}
 use Rattle.cf_base.specs.declared.events.DeviceEvent.TheVariants as device
 use Rattle.cf_base.specs.declared.events.PeerEvent.{PeerEvent}
-use Rattle.cf_base.specs.declared.events.PeerEvent.TheVariants as peer
 use Rattle.cf_base.specs.declared.events.EngineEvent.{EngineEvent}
-use Rattle.cf_base.specs.declared.events.EngineEvent.TheVariants as engine
 use Rattle.cf_base.specs.declared.events.ProviderEvent.{ProviderEvent}
-use Rattle.cf_base.specs.declared.events.ProviderEvent.TheVariants as provider
 use Rattle.cf_base.specs.declared.events.Event.{Event}
 use Rattle.cf_base.specs.declared.events.Event.TheVariants as event
 use Rattle.cf_script.specs.declared.commands.Command.{Command}
@@ -44,20 +25,24 @@ use Rattle.cf_script.specs.declared.commands.NumberCommand.TheVariants as on_num
 use Rattle.cf_script.specs.declared.commands.PeerCommand.TheVariants as peer_word
 use Rattle.cf_script.specs.declared.commands.OperationCommand.{OperationCommand}
 use Rattle.cf_script.specs.declared.commands.OperationCommand.TheVariants as operation_word
-use Rattle.cf_script.specs.Words.{IsNumber, IsPositive, IsKey, IsUsn, IsPlain, IsHex, IsRepeated, IsData, IsPath, written, escape_byte, escaped, plain_text, pair_text}
-use Rattle.cf_script.specs.Names.{command_name, peer_name, operation_name, pin_name, reach_words, class_name, hydration_name, population_name, modifier_words, flag_words, yes_name, good_name, link_name, is_foreign, is_for_engine, is_for_provider}
+use Rattle.cf_script.specs.Words.{IsKey, IsData, IsPath, written, escape_byte}
+use Rattle.cf_script.specs.Names.{is_foreign, is_for_engine, is_for_provider}
 use Rattle.std.specs.Prelude.{◌==◌, ◌&&◌, not, nat_le, replicate, cond}
 use Rattle.std.specs.List.{slice_split, onto_first}
 use Rattle.std.proofs.lemmas.List.Folds.{list_all-append}
-use Rattle.std.proofs.lemmas.Bool.{cases_Bool, eqb-true}
 use Rattle.cf_script.specs.declared.commands.BareCommand.{BareCommand}
 use Rattle.cf_script.specs.declared.commands.PathCommand.{PathCommand}
 use Rattle.cf_script.specs.declared.commands.NumberCommand.{NumberCommand}
+use Rattle.cf_script.specs.declared.commands.WordCommand.TheVariants as on_word
+use Rattle.cf_script.specs.declared.commands.TwoWordCommand.TheVariants as on_two
+use Rattle.cf_script.specs.declared.commands.ThreeWordCommand.TheVariants as on_three
+use Rattle.cf_script.specs.declared.commands.LongCommand.TheVariants as long
+use Rattle.cf_script.specs.declared.commands.OtherCommand.TheVariants as other
 use Rattle.cf_script.specs.declared.commands.PeerCommand.{PeerCommand}
-use Rattle.cf_script.specs.Forms.{Follows, AreWords, IsBareLine, IsPathLine, IsNumberLine, IsClose, IsCancel, IsTick, IsReadLine, IsGet, IsWrite, IsSize, IsRename, IsPinLine, IsDehydrate, IsRanges, IsPolicyLine, IsKeep, IsCrash, IsLink, IsPeerEvent, IsPeer, IsPlace, IsPlaceDir, IsConvert, IsUpdate, IsMark, IsEntryName, IsEntryRest, AreFields, IsEntry, AreEntries, IsOperation, IsDo, IsKeyOf, IsPlanKey, IsPlan, escape_name_byte, escaped_name, fields_of, kept}
+use Rattle.cf_script.specs.Forms.{Follows, AreWords, IsBareLine, IsPathLine, IsNumberLine, IsPeerWord, IsPeerPair, IsPeerEvent, IsEntryRest, AreFields, AreEntries, IsOperation, IsKeyOf, escape_name_byte, fields_of, kept}
 use Rattle.cf_script.specs.Script.{AreEvents, IsScript, Spells, event_lines, is_plain, lines_of, words_of}
-use Rattle.cf_script.specs.Fits.{is_of, ItemFits, ItemsFit, EventFits, KeyFits, PathFits, RangeFits, SizeFits, CallFits, ChoiceFits, DeviceFits, PeerFits, EngineFits, OperationFits, PlanKeyFits, ProviderFits, CanSpell, CanSpellAll}
-use Rattle.cf_script.specs.Printed.{key_text, key_of, in_sync_words, range_words, size_words, call_words, choice_words, device_words, peer_words, engine_words, entry_words, operation_words, plan_key_text, provider_words, event_words, line_of, printed}
+use Rattle.cf_script.specs.Fits.{is_of, ItemFits, ItemsFit, KeyFits, PathFits, CallFits, ChoiceFits, DeviceFits, PeerFits, EngineFits, OperationFits, PlanKeyFits, ProviderFits, CanSpell}
+use Rattle.cf_script.specs.Printed.{key_of}
 use Rattle.cf_script.proofs.PathMeans.{code_cases, name_code}
 use Rattle.cf_script.proofs.WordTexts.{and_parts}
 
@@ -135,7 +120,7 @@ engine_of : (m : Mode) (c : Command) (e : EngineEvent) → is_for_engine c ≡ t
 engine_of mode.Replay c e is here h = (refl, h)
 engine_of mode.Filter c e is here h = absurd cc
 
-peer_of : (m : Mode) (p : PeerEvent) → is_foreign m command.Peer ≡ false → PeerFits p → CanSpell m (event.Peer p)
+peer_of : (m : Mode) (p : PeerEvent) → is_foreign m (command.Other other.Peer) ≡ false → PeerFits p → CanSpell m (event.Peer p)
 peer_of mode.Replay p here h = (refl, h)
 peer_of mode.Filter p here h = absurd cc
 
@@ -156,33 +141,39 @@ bare_fits m bare.Restart [] e here x = is_it m e _ x (device_of m _ tt)
 bare_fits m bare.Work [] e here x = is_it m e _ x (engine_of m (command.Bare bare.Work) _ refl here tt)
 bare_fits m bare.Sync [] e here x = is_it m e _ x (engine_of m (command.Bare bare.Sync) _ refl here tt)
 
-path_line_fits : (m : Mode) (c : PathCommand) (ws : List (List ℕ)) (e : Event) → is_foreign m (command.OnPath c) ≡ false → AllPlain ws → IsPathLine c ws e → CanSpell m e
-path_line_fits m on_path.Open (p ∷ []) e here all x = is_it m e _ x.2 (call_of m _ (path_fits p x.0 all.0 x.1))
-path_line_fits m on_path.Create (p ∷ []) e here all x = is_it m e _ x.2 (call_of m _ (path_fits p x.0 all.0 x.1))
-path_line_fits m on_path.Mkdir (p ∷ []) e here all x = is_it m e _ x.2 (call_of m _ (path_fits p x.0 all.0 x.1))
-path_line_fits m on_path.Delete (p ∷ []) e here all x = is_it m e _ x.2 (call_of m _ (path_fits p x.0 all.0 x.1))
-path_line_fits m on_path.List (p ∷ []) e here all x = is_it m e _ x.2 (call_of m _ (path_fits p x.0 all.0 x.1))
-path_line_fits m on_path.Hydrate (p ∷ []) e here all x = is_it m e _ x.2 (call_of m _ (path_fits p x.0 all.0 x.1))
-path_line_fits m on_path.Info (p ∷ []) e here all x = is_it m e _ x.2 (call_of m _ (path_fits p x.0 all.0 x.1))
-path_line_fits m on_path.Used (p ∷ []) e here all x = is_it m e _ x.2 (call_of m _ (path_fits p x.0 all.0 x.1))
-path_line_fits m on_path.Revert (p ∷ []) e here all x = is_it m e _ x.2 (provider_of m (command.OnPath on_path.Revert) _ refl here (path_fits p x.0 all.0 x.1))
-path_line_fits m on_path.Unmark (p ∷ []) e here all x = is_it m e _ x.2 (provider_of m (command.OnPath on_path.Unmark) _ refl here (path_fits p x.0 all.0 x.1))
-path_line_fits m c ws e here all x = absurd x
+path_line_fits : (m : Mode) (c : PathCommand) (p : List ℕ) (e : Event) → is_foreign m (command.OnPath c) ≡ false → is_plain p ≡ true → IsPathLine c p e → CanSpell m e
+path_line_fits m on_path.Open p e here plain x = is_it m e _ x.2 (call_of m _ (path_fits p x.0 plain x.1))
+path_line_fits m on_path.Create p e here plain x = is_it m e _ x.2 (call_of m _ (path_fits p x.0 plain x.1))
+path_line_fits m on_path.Mkdir p e here plain x = is_it m e _ x.2 (call_of m _ (path_fits p x.0 plain x.1))
+path_line_fits m on_path.Delete p e here plain x = is_it m e _ x.2 (call_of m _ (path_fits p x.0 plain x.1))
+path_line_fits m on_path.List p e here plain x = is_it m e _ x.2 (call_of m _ (path_fits p x.0 plain x.1))
+path_line_fits m on_path.Hydrate p e here plain x = is_it m e _ x.2 (call_of m _ (path_fits p x.0 plain x.1))
+path_line_fits m on_path.Info p e here plain x = is_it m e _ x.2 (call_of m _ (path_fits p x.0 plain x.1))
+path_line_fits m on_path.Used p e here plain x = is_it m e _ x.2 (call_of m _ (path_fits p x.0 plain x.1))
+path_line_fits m on_path.Revert p e here plain x = is_it m e _ x.2 (provider_of m (command.OnPath on_path.Revert) _ refl here (path_fits p x.0 plain x.1))
+path_line_fits m on_path.Unmark p e here plain x = is_it m e _ x.2 (provider_of m (command.OnPath on_path.Unmark) _ refl here (path_fits p x.0 plain x.1))
 
-number_line_fits : (m : Mode) (c : NumberCommand) (ws : List (List ℕ)) (e : Event) → is_foreign m (command.OnNumber c) ≡ false → IsNumberLine c ws e → CanSpell m e
-number_line_fits m on_number.Stop (w ∷ []) e here x = is_it m e _ x.2 (device_of m _ x.1.0)
-number_line_fits m on_number.Deliver (w ∷ []) e here x = is_it m e _ x.2 (engine_of m (command.OnNumber on_number.Deliver) _ refl here x.1.0)
-number_line_fits m on_number.Arrive (w ∷ []) e here x = is_it m e _ x.2 (engine_of m (command.OnNumber on_number.Arrive) _ refl here x.1.0)
-number_line_fits m on_number.Space (w ∷ []) e here x = is_it m e _ x.2 (engine_of m (command.OnNumber on_number.Space) _ refl here x.1.0)
-number_line_fits m c ws e here x = absurd x
+number_line_fits : (m : Mode) (c : NumberCommand) (w : List ℕ) (e : Event) → is_foreign m (command.OnNumber c) ≡ false → IsNumberLine c w e → CanSpell m e
+number_line_fits m on_number.Stop w e here x = is_it m e _ x.2 (device_of m _ x.1.0)
+number_line_fits m on_number.Deliver w e here x = is_it m e _ x.2 (engine_of m (command.OnNumber on_number.Deliver) _ refl here x.1.0)
+number_line_fits m on_number.Arrive w e here x = is_it m e _ x.2 (engine_of m (command.OnNumber on_number.Arrive) _ refl here x.1.0)
+number_line_fits m on_number.Space w e here x = is_it m e _ x.2 (engine_of m (command.OnNumber on_number.Space) _ refl here x.1.0)
 
-peer_event_fits : (m : Mode) (c : PeerCommand) (ws : List (List ℕ)) (e : Event) → is_foreign m command.Peer ≡ false → AllPlain ws → IsPeerEvent c ws e → CanSpell m e
-peer_event_fits m peer_word.Put (p ∷ d ∷ []) e here all x = is_it m e _ x.4 (peer_of m _ here (path_fits p x.0 all.0 x.2, data_fits d x.1 x.3))
-peer_event_fits m peer_word.Mkdir (p ∷ []) e here all x = is_it m e _ x.2 (peer_of m _ here (path_fits p x.0 all.0 x.1))
-peer_event_fits m peer_word.Move (p ∷ q ∷ []) e here all x = is_it m e _ x.4 (peer_of m _ here (path_fits p x.0 all.0 x.2, path_fits q x.1 all.1.0 x.3))
-peer_event_fits m peer_word.Remove (p ∷ []) e here all x = is_it m e _ x.2 (peer_of m _ here (path_fits p x.0 all.0 x.1))
-peer_event_fits m peer_word.Stat (p ∷ []) e here all x = is_it m e _ x.2 (peer_of m _ here (path_fits p x.0 all.0 x.1))
-peer_event_fits m peer_word.Keep (n ∷ []) e here all x = is_it m e _ x.2 (peer_of m _ here (x.1.0.0, x.1.1))
+peer_word_fits : (m : Mode) (c : PeerCommand) (p : List ℕ) (e : Event) → is_foreign m (command.Other other.Peer) ≡ false → is_plain p ≡ true → IsPeerWord c p e → CanSpell m e
+peer_word_fits m peer_word.Mkdir p e here plain x = is_it m e _ x.2 (peer_of m _ here (path_fits p x.0 plain x.1))
+peer_word_fits m peer_word.Remove p e here plain x = is_it m e _ x.2 (peer_of m _ here (path_fits p x.0 plain x.1))
+peer_word_fits m peer_word.Stat p e here plain x = is_it m e _ x.2 (peer_of m _ here (path_fits p x.0 plain x.1))
+peer_word_fits m peer_word.Keep n e here plain x = is_it m e _ x.2 (peer_of m _ here (x.1.0.0, x.1.1))
+peer_word_fits m c p e here plain x = absurd x
+
+peer_pair_fits : (m : Mode) (c : PeerCommand) (p d : List ℕ) (e : Event) → is_foreign m (command.Other other.Peer) ≡ false → is_plain p ≡ true → is_plain d ≡ true → IsPeerPair c p d e → CanSpell m e
+peer_pair_fits m peer_word.Put p d e here plain plain' x = is_it m e _ x.4 (peer_of m _ here (path_fits p x.0 plain x.2, data_fits d x.1 x.3))
+peer_pair_fits m peer_word.Move p q e here plain plain' x = is_it m e _ x.4 (peer_of m _ here (path_fits p x.0 plain x.2, path_fits q x.1 plain' x.3))
+peer_pair_fits m c p d e here plain plain' x = absurd x
+
+peer_event_fits : (m : Mode) (c : PeerCommand) (ws : List (List ℕ)) (e : Event) → is_foreign m (command.Other other.Peer) ≡ false → AllPlain ws → IsPeerEvent c ws e → CanSpell m e
+peer_event_fits m c (p ∷ []) e here all x = peer_word_fits m c p e here all.0 x
+peer_event_fits m c (p ∷ d ∷ []) e here all x = peer_pair_fits m c p d e here all.0 all.1.0 x
 peer_event_fits m c ws e here all x = absurd x
 
 entry_rest_fits : (dir : Bool) (name : List ℕ) (ws : List (List ℕ)) (item : NewItem) → IsUtf8 name → is_plain name ≡ true → IsEntryRest dir name ws item → ItemFits item
@@ -211,7 +202,7 @@ OpFits key op = (key_of op ≡ key) × OperationFits op
 
 operation_fits : (c : OperationCommand) (key : Key) (ws : List (List ℕ)) (op : Operation) → AllPlain ws → IsOperation c key ws op → OpFits key op
 operation_fits operation_word.Transfer key (o ∷ d ∷ []) op all x = subst (OpFits key) (sym x.4) (refl, (x.2.0, data_fits d x.1 x.3))
-operation_fits operation_word.CallError key (o ∷ l ∷ s ∷ []) op all x = subst (OpFits key) (sym x.6) (refl, ((x.3.0, x.4.0), x.5.0))
+operation_fits operation_word.Fail key (o ∷ l ∷ s ∷ []) op all x = subst (OpFits key) (sym x.6) (refl, ((x.3.0, x.4.0), x.5.0))
 operation_fits operation_word.Retrieve key (o ∷ l ∷ []) op all x = subst (OpFits key) (sym x.4) (refl, (x.2.0, x.3.0))
 operation_fits operation_word.Ack key (o ∷ l ∷ g ∷ []) op all x = subst (OpFits key) (sym x.6) (refl, (x.3.0, x.4.0))
 operation_fits operation_word.Rehydrate key [] op all x = subst (OpFits key) (sym x) (refl, tt)
@@ -225,44 +216,44 @@ plan_key_fits false w key is = (is.0, is.1)
 
 line_fits : (m : Mode) (c : Command) (ws : List (List ℕ)) (e : Event) → is_foreign m c ≡ false → AllPlain ws → Follows c ws e → CanSpell m e
 line_fits m (command.Bare c) ws e here all x = bare_fits m c ws e here x
-line_fits m (command.OnPath c) ws e here all x = path_line_fits m c ws e here all x
-line_fits m (command.OnNumber c) ws e here all x = number_line_fits m c ws e here x
-line_fits m command.Close (h ∷ []) e here all x = is_it m e _ x.2 (call_of m _ (key_fits h x.0 x.1))
-line_fits m command.Cancel (h ∷ []) e here all x = is_it m e _ x.2 (call_of m _ (key_fits h x.0 x.1))
-line_fits m command.Tick (w ∷ []) e here all x = is_it m e _ x.2 (call_of m _ (x.1.0.0, x.1.1))
-line_fits m command.Read (h ∷ o ∷ l ∷ []) e here all x = is_it m e _ x.6 (call_of m _ (key_fits h x.0 x.3, x.4.0, x.5.0))
-line_fits m command.Get (p ∷ o ∷ l ∷ []) e here all x = is_it m e _ x.6 (call_of m _ (path_fits p x.0 all.0 x.3, x.4.0, x.5.0))
-line_fits m command.Write (h ∷ o ∷ d ∷ []) e here all x = is_it m e _ x.6 (call_of m _ (key_fits h x.0 x.3, x.4.0, data_fits d x.2 x.5))
-line_fits m command.Size (h ∷ n ∷ []) e here all x = is_it m e _ x.4 (call_of m _ (key_fits h x.0 x.2, x.3.0))
-line_fits m command.Rename (p ∷ q ∷ []) e here all x = is_it m e _ x.4 (call_of m _ (path_fits p x.0 all.0 x.2, path_fits q x.1 all.1.0 x.3))
-line_fits m command.Pin (p ∷ s ∷ r) e here all x = is_it m e _ x.6 (call_of m _ (path_fits p x.0 all.0 x.3))
-line_fits m command.Dehydrate (p ∷ []) e here all x = is_it m e _ x.2 (call_of m _ (path_fits p x.0 all.0 x.1, tt))
-line_fits m command.Dehydrate (p ∷ o ∷ l ∷ []) e here all x = is_it m e _ x.6 (call_of m _ (path_fits p x.0 all.0 x.3, (x.4.0, x.5.0)))
-line_fits m command.Ranges (p ∷ c ∷ []) e here all x = is_it m e _ x.4 (call_of m _ (path_fits p x.0 all.0 x.2))
-line_fits m command.Policy (h ∷ p ∷ ms) e here all x = is_it m e _ x.6 (call_of m _ tt)
-line_fits m command.Keep (p ∷ y ∷ []) e here all x = is_it m e _ x.4 (call_of m _ (path_fits p x.0 all.0 x.2))
-line_fits m command.Crash (c ∷ []) e here all x = is_it m e _ x.2 (device_of m (device.Crash (kept x.0)) (kept_fits x.0))
+line_fits m (command.OnPath c) (p ∷ []) e here all x = path_line_fits m c p e here all.0 x
+line_fits m (command.OnNumber c) (w ∷ []) e here all x = number_line_fits m c w e here x
+line_fits m (command.OnWord on_word.Close) (h ∷ []) e here all x = is_it m e _ x.2 (call_of m _ (key_fits h x.0 x.1))
+line_fits m (command.OnWord on_word.Cancel) (h ∷ []) e here all x = is_it m e _ x.2 (call_of m _ (key_fits h x.0 x.1))
+line_fits m (command.OnWord on_word.Tick) (w ∷ []) e here all x = is_it m e _ x.2 (call_of m _ (x.1.0.0, x.1.1))
+line_fits m (command.OnThree on_three.Read) (h ∷ o ∷ l ∷ []) e here all x = is_it m e _ x.6 (call_of m _ (key_fits h x.0 x.3, x.4.0, x.5.0))
+line_fits m (command.OnThree on_three.Get) (p ∷ o ∷ l ∷ []) e here all x = is_it m e _ x.6 (call_of m _ (path_fits p x.0 all.0 x.3, x.4.0, x.5.0))
+line_fits m (command.OnThree on_three.Write) (h ∷ o ∷ d ∷ []) e here all x = is_it m e _ x.6 (call_of m _ (key_fits h x.0 x.3, x.4.0, data_fits d x.2 x.5))
+line_fits m (command.OnTwo on_two.Size) (h ∷ n ∷ []) e here all x = is_it m e _ x.4 (call_of m _ (key_fits h x.0 x.2, x.3.0))
+line_fits m (command.OnTwo on_two.Rename) (p ∷ q ∷ []) e here all x = is_it m e _ x.4 (call_of m _ (path_fits p x.0 all.0 x.2, path_fits q x.1 all.1.0 x.3))
+line_fits m (command.Long long.Pin) (p ∷ s ∷ r) e here all x = is_it m e _ x.6 (call_of m _ (path_fits p x.0 all.0 x.3))
+line_fits m (command.Other other.Dehydrate) (p ∷ []) e here all x = is_it m e _ x.2 (call_of m _ (path_fits p x.0 all.0 x.1, tt))
+line_fits m (command.Other other.Dehydrate) (p ∷ o ∷ l ∷ []) e here all x = is_it m e _ x.6 (call_of m _ (path_fits p x.0 all.0 x.3, (x.4.0, x.5.0)))
+line_fits m (command.OnTwo on_two.Ranges) (p ∷ c ∷ []) e here all x = is_it m e _ x.4 (call_of m _ (path_fits p x.0 all.0 x.2))
+line_fits m (command.Long long.Policy) (h ∷ p ∷ ms) e here all x = is_it m e _ x.6 (call_of m _ tt)
+line_fits m (command.OnTwo on_two.Keep) (p ∷ y ∷ []) e here all x = is_it m e _ x.4 (call_of m _ (path_fits p x.0 all.0 x.2))
+line_fits m (command.Other other.Crash) (c ∷ []) e here all x = is_it m e _ x.2 (device_of m (device.Crash (kept x.0)) (kept_fits x.0))
   where
     kept_fits : (b : Bool) → ChoiceFits (kept b)
     kept_fits true = tt
     kept_fits false = tt
-line_fits m command.Crash (c ∷ n ∷ []) e here all x = is_it m e _ x.3 (device_of m _ x.2.0)
-line_fits m command.Peer (w ∷ ws) e here all x = peer_event_fits m x.0 ws e here all.1 x.2
-line_fits m command.Link (l ∷ []) e here all x = is_it m e _ x.2 (engine_of m command.Link _ refl here tt)
-line_fits m command.Place (p ∷ n ∷ i ∷ f) e here all x = is_it m e _ x.8 (provider_of m command.Place _ refl here (path_fits p x.0 all.0 x.4, x.5.0, x.6.0))
-line_fits m command.PlaceDir (p ∷ i ∷ f) e here all x = is_it m e _ x.6 (provider_of m command.PlaceDir _ refl here (path_fits p x.0 all.0 x.3, x.4.0))
-line_fits m command.Convert (p ∷ i ∷ []) e here all x = is_it m e _ x.4 (provider_of m command.Convert _ refl here (path_fits p x.0 all.0 x.2, x.3.0))
-line_fits m command.Update (p ∷ i ∷ []) e here all x = is_it m e _ x.4 (provider_of m command.Update _ refl here (path_fits p x.0 all.0 x.2, x.3.0, tt))
-line_fits m command.Update (p ∷ i ∷ n ∷ []) e here all x = is_it m e _ x.6 (provider_of m command.Update _ refl here (path_fits p x.0 all.0 x.3, x.4.0, x.5.0))
-line_fits m command.Mark (p ∷ u ∷ []) e here all x = is_it m e _ x.4 (provider_of m command.Mark _ refl here (path_fits p x.0 all.0 x.2, x.3.0, x.3.1))
-line_fits m command.Do (w ∷ k ∷ ws) e here all x =
+line_fits m (command.Other other.Crash) (c ∷ n ∷ []) e here all x = is_it m e _ x.3 (device_of m _ x.2.0)
+line_fits m (command.Other other.Peer) (w ∷ ws) e here all x = peer_event_fits m x.0 ws e here all.1 x.2
+line_fits m (command.OnWord on_word.Link) (l ∷ []) e here all x = is_it m e _ x.2 (engine_of m (command.OnWord on_word.Link) _ refl here tt)
+line_fits m (command.Other other.Place) (p ∷ n ∷ i ∷ f) e here all x = is_it m e _ x.8 (provider_of m (command.Other other.Place) _ refl here (path_fits p x.0 all.0 x.4, x.5.0, x.6.0))
+line_fits m (command.Long long.PlaceDir) (p ∷ i ∷ f) e here all x = is_it m e _ x.6 (provider_of m (command.Long long.PlaceDir) _ refl here (path_fits p x.0 all.0 x.3, x.4.0))
+line_fits m (command.OnTwo on_two.Convert) (p ∷ i ∷ []) e here all x = is_it m e _ x.4 (provider_of m (command.OnTwo on_two.Convert) _ refl here (path_fits p x.0 all.0 x.2, x.3.0))
+line_fits m (command.Other other.Update) (p ∷ i ∷ []) e here all x = is_it m e _ x.4 (provider_of m (command.Other other.Update) _ refl here (path_fits p x.0 all.0 x.2, x.3.0, tt))
+line_fits m (command.Other other.Update) (p ∷ i ∷ n ∷ []) e here all x = is_it m e _ x.6 (provider_of m (command.Other other.Update) _ refl here (path_fits p x.0 all.0 x.3, x.4.0, x.5.0))
+line_fits m (command.OnTwo on_two.Mark) (p ∷ u ∷ []) e here all x = is_it m e _ x.4 (provider_of m (command.OnTwo on_two.Mark) _ refl here (path_fits p x.0 all.0 x.2, x.3.0, x.3.1))
+line_fits m (command.Long long.Do) (w ∷ k ∷ ws) e here all x =
     let op = x.4.0 in
     let fits = operation_fits x.0 x.1 ws op all.1.1 x.4.1 in
-    is_it m e _ x.4.2 (provider_of m command.Do _ refl here (subst KeyFits (sym fits.0) (key_fits k x.1 x.3), fits.1))
-line_fits m command.Plan (w ∷ k ∷ ws) e here all x =
+    is_it m e _ x.4.2 (provider_of m (command.Long long.Do) _ refl here (subst KeyFits (sym fits.0) (key_fits k x.1 x.3), fits.1))
+line_fits m (command.Long long.Plan) (w ∷ k ∷ ws) e here all x =
     let op = x.4.0 in
     let fits = operation_fits x.0 x.1.1 ws op all.1.1 x.4.1 in
-    is_it m e _ x.4.2 (provider_of m command.Plan _ refl here (subst (PlanKeyFits x.1.0) (sym fits.0) (plan_key_fits x.1.0 k x.1.1 x.3), fits.1))
+    is_it m e _ x.4.2 (provider_of m (command.Long long.Plan) _ refl here (subst (PlanKeyFits x.1.0) (sym fits.0) (plan_key_fits x.1.0 k x.1.1 x.3), fits.1))
 line_fits m c ws e here all x = absurd x
 
 words_fit : (m : Mode) (ws : List (List ℕ)) (e : Event) → AllPlain ws → AreWords m ws e → CanSpell m e

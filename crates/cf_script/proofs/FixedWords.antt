@@ -44,7 +44,7 @@ pub peer_once : (w : List ℕ) (x y : PeerCommand) → w ≡ peer_name x → w �
 peer_once w x y a b = let h : Some x ≡ Some y = sym (peer_again x) ∙ ap (λ v. peer_found v peer_all) (sym a ∙ b) ∙ peer_again y in cc
 
 abbrev operation_all : List OperationCommand
-operation_all = operation.Transfer ∷ operation.CallError ∷ operation.Retrieve ∷ operation.Ack ∷ operation.Rehydrate ∷ operation.Entries ∷ operation.AckDehydrate ∷ []
+operation_all = operation.Transfer ∷ operation.Fail ∷ operation.Retrieve ∷ operation.Ack ∷ operation.Rehydrate ∷ operation.Entries ∷ operation.AckDehydrate ∷ []
 
 abbrev operation_found : List ℕ → List OperationCommand → Option OperationCommand
 operation_found w [] = None
@@ -52,7 +52,7 @@ operation_found w (x ∷ xs) = cond (bytes_eq (operation_name x) w) (Some x) (op
 
 operation_again : (x : OperationCommand) → operation_found (operation_name x) operation_all ≡ Some x
 operation_again operation.Transfer = refl
-operation_again operation.CallError = refl
+operation_again operation.Fail = refl
 operation_again operation.Retrieve = refl
 operation_again operation.Ack = refl
 operation_again operation.Rehydrate = refl

@@ -4,12 +4,14 @@ pub mod DataMeans
 pub mod PathMeans
 pub mod LineMeans
 pub mod WordLists
+pub mod Shapes
 pub mod CommandMeans
 pub mod FirstWords
 pub mod LinesRead
 pub mod KeyOnce
 pub mod EventOnce
 pub mod FixedWords
+pub mod Flags
 pub mod OneReading
 pub mod Bytes
 pub mod WordTexts

@@ -1,17 +1,13 @@
 -- What a line spells is read by its parts.
-use Rattle.std.proofs.Common.{◌≡◌, ℕ, Bool, true, false, List, [], ◌∷◌, ◌++◌, refl, sym, ap, subst, ◌∙◌, append_assoc}
+use Rattle.std.proofs.Common.{◌≡◌, ℕ, Bool, true, false, List, [], ◌∷◌, ◌++◌, refl, sym, ap, subst, append_assoc}
 use Rattle.std.specs.Prelude.{Option, Some, None, nat_lt}
 use Rattle.cf_script.proofs.Cuts.{lacks}
 use Rattle.cf_script.proofs.NumberMeans.{key_needs_dot}
 use Rattle.std.proofs.lemmas.List.{append-nil}
 use Rattle.cf_base.specs.declared.ids.Key.{Key}
 use Rattle.cf_base.specs.declared.operations.NewItem.{NewItem}
-use Rattle.cf_base.specs.declared.events.Event.{Event}
-use Rattle.cf_script.specs.declared.commands.OperationCommand.{OperationCommand}
 use Rattle.cf_script.specs.Words.{Reads}
-use Rattle.cf_script.specs.Names.{operation_name, entry_kind}
-use Rattle.cf_script.specs.Forms.{IsEntryName, IsEntryRest, AreFields, IsEntry, AreEntries, IsPlanKey, IsKeyOf, IsPlanned, IsPlan, IsDone, IsDo}
-use Rattle.cf_script.specs.Words.{IsKey}
+use Rattle.cf_script.specs.Forms.{IsEntry, AreEntries, IsPlanKey, IsKeyOf}
 
 -- the first part chooses what the rest may be
 pub chosen_reads : {C X : Type 0} (Is : C → Type 0) (F : C → X → Type 0) (c : C) (o : Option X) → Reads Is (Some c) → Reads (F c) o → Reads (λ x. (d : C) × Is d × F d x) o

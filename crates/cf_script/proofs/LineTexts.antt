@@ -1,7 +1,7 @@
 -- A line of words spells what its words do.
-use Rattle.std.proofs.Common.{◌≡◌, ℕ, zero, suc, ◌+◌, ◌^◌, ◌<◌, ◌≤◌, Bool, true, false, List, [], ◌∷◌, ◌++◌, length, get_or, cond, refl, sym, ap, subst, ◌∙◌, inl, inr, arith, append_assoc}
-use Rattle.std.specs.Prelude.{◌⊎◌, ◌&&◌, ◌==◌, ◌≢◌, not, nat_le, nat_lt, IsTrue, codes}
-use Rattle.std.specs.List.{list_all, All, slice_split, onto_first}
+use Rattle.std.proofs.Common.{◌≡◌, ℕ, zero, suc, ◌^◌, ◌<◌, ◌≤◌, Bool, true, false, List, [], ◌∷◌, ◌++◌, get_or, refl, sym, ap, subst, ◌∙◌, inl, inr, arith, append_assoc}
+use Rattle.std.specs.Prelude.{◌&&◌, ◌==◌, not, nat_le, IsTrue, codes}
+use Rattle.std.specs.List.{list_all, All}
 use Rattle.std.specs.Str.{IsUtf8}
 use Rattle.std.specs.Fmt.{decimal}
 use Rattle.std.proofs.lemmas.Bool.{cases_Bool, eqb-true}
@@ -20,12 +20,17 @@ use Rattle.cf_script.specs.declared.commands.Command.TheVariants as command
 use Rattle.cf_script.specs.declared.commands.BareCommand.TheVariants as bare
 use Rattle.cf_script.specs.declared.commands.PathCommand.TheVariants as on_path
 use Rattle.cf_script.specs.declared.commands.NumberCommand.TheVariants as on_number
+use Rattle.cf_script.specs.declared.commands.WordCommand.TheVariants as on_word
+use Rattle.cf_script.specs.declared.commands.TwoWordCommand.TheVariants as on_two
+use Rattle.cf_script.specs.declared.commands.ThreeWordCommand.TheVariants as on_three
+use Rattle.cf_script.specs.declared.commands.LongCommand.TheVariants as long
+use Rattle.cf_script.specs.declared.commands.OtherCommand.TheVariants as other
 use Rattle.cf_script.specs.Words.{written, escape_byte, escaped, plain_text}
-use Rattle.cf_script.specs.Names.{command_name, entry_kind, flag_words}
+use Rattle.cf_script.specs.Names.{command_name}
 use Rattle.cf_script.specs.Forms.{escape_name_byte, escaped_name, fields_of, AreWords}
 use Rattle.cf_script.specs.Script.{is_plain, words_of, lines_of, is_event_line, Spells}
 use Rattle.cf_script.specs.Fits.{PathFits, ItemFits}
-use Rattle.cf_script.specs.Printed.{spaced, line_of, entry_text, rest_text, mark_text}
+use Rattle.cf_script.specs.Printed.{spaced, line_of, entry_text}
 use Rattle.cf_script.proofs.PathMeans.{code_cases, name_code}
 use Rattle.cf_script.proofs.WordTexts.{is_word_byte, is_word, IsWord, AreAllWords, IsPlainWay, utf8_written, and_parts, all_more, fixed, number_word, data_word, data_all}
 use Rattle.hex.specs.Hex.{is_hex_digit}
@@ -168,29 +173,29 @@ begins (command.OnNumber on_number.Stop) t = refl
 begins (command.OnNumber on_number.Deliver) t = refl
 begins (command.OnNumber on_number.Arrive) t = refl
 begins (command.OnNumber on_number.Space) t = refl
-begins command.Close t = refl
-begins command.Cancel t = refl
-begins command.Tick t = refl
-begins command.Read t = refl
-begins command.Get t = refl
-begins command.Write t = refl
-begins command.Size t = refl
-begins command.Rename t = refl
-begins command.Pin t = refl
-begins command.Dehydrate t = refl
-begins command.Ranges t = refl
-begins command.Policy t = refl
-begins command.Keep t = refl
-begins command.Crash t = refl
-begins command.Peer t = refl
-begins command.Link t = refl
-begins command.Place t = refl
-begins command.PlaceDir t = refl
-begins command.Convert t = refl
-begins command.Update t = refl
-begins command.Mark t = refl
-begins command.Do t = refl
-begins command.Plan t = refl
+begins (command.OnWord on_word.Close) t = refl
+begins (command.OnWord on_word.Cancel) t = refl
+begins (command.OnWord on_word.Tick) t = refl
+begins (command.OnThree on_three.Read) t = refl
+begins (command.OnThree on_three.Get) t = refl
+begins (command.OnThree on_three.Write) t = refl
+begins (command.OnTwo on_two.Size) t = refl
+begins (command.OnTwo on_two.Rename) t = refl
+begins (command.Long long.Pin) t = refl
+begins (command.Other other.Dehydrate) t = refl
+begins (command.OnTwo on_two.Ranges) t = refl
+begins (command.Long long.Policy) t = refl
+begins (command.OnTwo on_two.Keep) t = refl
+begins (command.Other other.Crash) t = refl
+begins (command.Other other.Peer) t = refl
+begins (command.OnWord on_word.Link) t = refl
+begins (command.Other other.Place) t = refl
+begins (command.Long long.PlaceDir) t = refl
+begins (command.OnTwo on_two.Convert) t = refl
+begins (command.Other other.Update) t = refl
+begins (command.OnTwo on_two.Mark) t = refl
+begins (command.Long long.Do) t = refl
+begins (command.Long long.Plan) t = refl
 
 pub line_counts : (mode : Mode) (w : List ℕ) (ws : List (List ℕ)) (e : Event) → AreWords mode (w ∷ ws) e → is_event_line (line_of (w ∷ ws)) ≡ true
 line_counts mode w ws e is = subst (λ v. is_event_line (v ++ spaced ws) ≡ true) (sym is.1) (begins is.0 (spaced ws))

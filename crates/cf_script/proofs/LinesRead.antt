@@ -1,18 +1,16 @@
 -- The lines of a text and the events that they spell.
-use Rattle.std.proofs.Common.{◌≡◌, ℕ, zero, suc, ◌+◌, ◌-◌, ◌<◌, ◌≤◌, Bool, true, false, List, [], ◌∷◌, ◌++◌, length, take, drop, refl, sym, ap, ◌∙◌, inl, inr, arith, subst, append_assoc, length-append, length-drop, add-one, cond, Some, None, ltb-true, ltb-false}
-use Rattle.std.specs.Prelude.{◌⊎◌, position, nat_lt, filter, IsTrue, ◌==◌, ◌&&◌, Option}
+use Rattle.std.proofs.Common.{◌≡◌, ℕ, zero, suc, ◌+◌, ◌-◌, ◌<◌, ◌≤◌, Bool, true, false, List, [], ◌∷◌, ◌++◌, length, take, drop, refl, sym, ◌∙◌, inl, inr, arith, subst, append_assoc, length-append, length-drop, add-one, cond, Some, None, ltb-true, ltb-false}
+use Rattle.std.specs.Prelude.{◌⊎◌, position, nat_lt, ◌==◌, Option}
 use Rattle.std.proofs.Math.Seq.{take-length}
-use Rattle.std.specs.List.{position_or_len, onto_first}
+use Rattle.std.specs.List.{position_or_len}
 use Rattle.cf_base.specs.declared.events.Event.{Event}
 use Rattle.cf_base.specs.declared.policies.Mode.{Mode}
-use Rattle.cf_script.specs.declared.script_errors.ScriptError.{ScriptError}
-use Rattle.cf_script.specs.declared.script_errors.ScriptError.TheVariants as fails
 use Rattle.cf_script.specs.Words.{Reads}
 use Rattle.cf_script.specs.Forms.{AreWords}
 use Rattle.std.proofs.lemmas.List.{append-nil}
 use Rattle.std.proofs.lemmas.List.Elements.{filter-append}
-use Rattle.cf_script.specs.Script.{lines_of, words_of, AreEvents, Spells, is_event_line, event_lines, is_plain, IsScript}
-use Rattle.cf_script.specs.FailEvents.{IsLine, IsCause}
+use Rattle.cf_script.specs.Script.{lines_of, words_of, AreEvents, Spells, is_event_line, event_lines, is_plain}
+use Rattle.cf_script.specs.FailEvents.{IsLine}
 use Rattle.std.specs.Str.{IsUtf8}
 
 abbrev is_line_end : ℕ → Bool

@@ -1,5 +1,5 @@
 -- The words of a line behind their references.
-use Rattle.std.proofs.Common.{◌≡◌, ℕ, suc, ◌+◌, ◌-◌, ◌<◌, ◌≤◌, List, [], ◌∷◌, length, take, drop, get_or, map, Bor, refl, sym, ap, arith}
+use Rattle.std.proofs.Common.{◌≡◌, ℕ, suc, ◌-◌, ◌<◌, ◌≤◌, List, [], ◌∷◌, length, take, drop, get_or, map, Bor, refl, arith}
 use Rattle.std.proofs.Math.Seq.{take-length}
 
 abbrev pub no_word : Bor (List ℕ)
@@ -26,3 +26,10 @@ two_words [] low = absurd (omega arith)
 two_words (w ∷ []) low = absurd (omega arith)
 two_words (w ∷ v ∷ ws) low =
     let e : suc (suc (length ws)) - 2 ≡ length ws = omega arith in rw (e, take-length ws) refl
+
+pub three_words : (ws : List (Bor (List ℕ))) → 3 ≤ length ws → texts ws ≡ (get_or ws 0 no_word).now ∷ (get_or ws 1 no_word).now ∷ (get_or ws 2 no_word).now ∷ texts (after 3 ws)
+three_words [] low = absurd (omega arith)
+three_words (w ∷ []) low = absurd (omega arith)
+three_words (w ∷ v ∷ []) low = absurd (omega arith)
+three_words (w ∷ v ∷ u ∷ ws) low =
+    let e : suc (suc (suc (length ws))) - 3 ≡ length ws = omega arith in rw (e, take-length ws) refl

@@ -1,26 +1,21 @@
 -- What is written as a word is one: a text without spaces and control bytes.
-use Rattle.std.proofs.Common.{◌≡◌, ℕ, zero, suc, ◌+◌, ◌*◌, ◌/◌, ◌%◌, ◌^◌, ◌<◌, ◌≤◌, Bool, true, false, List, [], ◌∷◌, ◌++◌, length, get_or, cond, refl, sym, ap, subst, ◌∙◌, inl, inr, arith, append_assoc, Ok}
-use Rattle.std.specs.Prelude.{◌⊎◌, ◌&&◌, ◌==◌, not, nat_le, nat_lt, IsTrue, codes}
-use Rattle.std.specs.List.{list_all, All, slice_split}
+use Rattle.std.proofs.Common.{◌≡◌, ℕ, zero, suc, ◌^◌, ◌<◌, ◌≤◌, Bool, true, false, List, [], ◌∷◌, refl, subst, ◌∙◌, inl, inr, arith}
+use Rattle.std.specs.Prelude.{◌⊎◌, ◌&&◌, ◌==◌, not, nat_le, nat_lt}
+use Rattle.std.specs.List.{list_all}
 use Rattle.std.specs.Str.{IsUtf8, IsAscii}
 use Rattle.std.specs.Fmt.{decimal}
-use Rattle.std.proofs.lemmas.Bool.{cases_Bool, eqb-true}
+use Rattle.std.proofs.lemmas.Bool.{cases_Bool}
 use Rattle.std.proofs.lemmas.Bool.Decides.{nat_tests}
 use Rattle.std.proofs.lemmas.List.{append-nil}
 use Rattle.std.proofs.lemmas.List.Folds.{list_all-append}
-use Rattle.std.proofs.lemmas.List.Sums.{AllPass-from_list_all, list_all-from_AllPass}
-use Rattle.std.proofs.lemmas.List.Splits.{slice_split_none, slice_split_at}
+use Rattle.std.proofs.lemmas.List.Sums.{list_all-from_AllPass}
 use Rattle.std.proofs.lemmas.Str.{IsUtf8-append, IsUtf8-nil, IsUtf8-from_ascii, IsUtf8-encode, encode_ascii}
-use Rattle.hex.specs.Hex.{encode_lower, is_hex_digit, hex_digit_value, decode_of, IsBytes}
+use Rattle.hex.specs.Hex.{encode_lower, is_hex_digit, IsBytes}
 use Rattle.hex.proofs.HexLemmas.{decode_of-encode_lower, decode_of-ok}
-use lib.Utf8.{encode, encodes, scalar, scalars, next}
-use Rattle.cf_base.specs.declared.ids.Key.{Key}
-use Rattle.cf_script.specs.Words.{written, escape_byte, escaped, pair_text, plain_text}
-use Rattle.cf_script.specs.Forms.{escape_name_byte, escaped_name}
-use Rattle.cf_script.specs.Script.{is_plain, words_of, lines_of}
-use Rattle.cf_script.specs.Printed.{key_text, spaced, line_of}
+use lib.Utf8.{encode, encodes, scalar, scalars}
+use Rattle.cf_script.specs.Words.{written, pair_text, plain_text}
 use Rattle.cf_script.proofs.NumberMeans.{is_digit, decimal_digits}
-use Rattle.cf_script.proofs.PathMeans.{written-append, code_cases, name_code}
+use Rattle.cf_script.proofs.PathMeans.{written-append}
 
 abbrev pub is_word_byte : ℕ → Bool
 is_word_byte b = nat_le 33 b && not (b == 127)

@@ -1,10 +1,8 @@
 -- The lines of a script: what follows the first word, and the event that the line then spells.
-use Rattle.std.specs.Prelude.{◌≡◌, ℕ, ◌<◌, ◌^◌, ◌==◌, Bool, true, false, List, [], ◌∷◌, ◌++◌, codes, if◌then◌else◌, Option, Some, None}
+use Rattle.std.specs.Prelude.{◌≡◌, ℕ, ◌==◌, Bool, true, false, List, [], ◌∷◌, codes, if◌then◌else◌, Some, None}
 use Rattle.std.specs.List.{slice_split}
 use Rattle.std.specs.Str.{IsUtf8}
 use Rattle.cf_base.specs.declared.ids.Key.{Key}
-use Rattle.cf_base.specs.declared.ids.Handle.{Handle}
-use Rattle.cf_base.specs.declared.ids.WaitId.{WaitId}
 use Rattle.cf_base.specs.declared.ids.Usn.{Usn}
 use Rattle.cf_base.specs.declared.items.Pin.{Pin}
 use Rattle.cf_base.specs.declared.items.Reach.{Reach}
@@ -32,6 +30,16 @@ use Rattle.cf_script.specs.declared.commands.PathCommand.{PathCommand}
 use Rattle.cf_script.specs.declared.commands.PathCommand.TheVariants as on_path
 use Rattle.cf_script.specs.declared.commands.NumberCommand.{NumberCommand}
 use Rattle.cf_script.specs.declared.commands.NumberCommand.TheVariants as on_number
+use Rattle.cf_script.specs.declared.commands.WordCommand.{WordCommand}
+use Rattle.cf_script.specs.declared.commands.WordCommand.TheVariants as on_word
+use Rattle.cf_script.specs.declared.commands.TwoWordCommand.{TwoWordCommand}
+use Rattle.cf_script.specs.declared.commands.TwoWordCommand.TheVariants as on_two
+use Rattle.cf_script.specs.declared.commands.ThreeWordCommand.{ThreeWordCommand}
+use Rattle.cf_script.specs.declared.commands.ThreeWordCommand.TheVariants as on_three
+use Rattle.cf_script.specs.declared.commands.LongCommand.{LongCommand}
+use Rattle.cf_script.specs.declared.commands.LongCommand.TheVariants as long
+use Rattle.cf_script.specs.declared.commands.OtherCommand.{OtherCommand}
+use Rattle.cf_script.specs.declared.commands.OtherCommand.TheVariants as other
 use Rattle.cf_script.specs.declared.commands.PeerCommand.{PeerCommand}
 use Rattle.cf_script.specs.declared.commands.PeerCommand.TheVariants as peer_word
 use Rattle.cf_script.specs.declared.commands.OperationCommand.{OperationCommand}
@@ -69,79 +77,104 @@ number_event on_number.Deliver n = Engine (engine.Deliver n)
 number_event on_number.Arrive n = Engine (engine.Arrive n)
 number_event on_number.Space n = Engine (engine.Space n)
 
+-- one word stands there, two or three, and they are such
+abbrev pub OfOne : {X : Type 0} → (List ℕ → X → Type 0) → List (List ℕ) → X → Type 0
+OfOne Are (a ∷ []) x = Are a x
+OfOne Are ws x = ⊥
+
+abbrev pub OfTwo : {X : Type 0} → (List ℕ → List ℕ → X → Type 0) → List (List ℕ) → X → Type 0
+OfTwo Are (a ∷ b ∷ []) x = Are a b x
+OfTwo Are ws x = ⊥
+
+abbrev pub OfThree : {X : Type 0} → (List ℕ → List ℕ → List ℕ → X → Type 0) → List (List ℕ) → X → Type 0
+OfThree Are (a ∷ b ∷ c ∷ []) x = Are a b c x
+OfThree Are ws x = ⊥
+
+-- two words, and those after them, are such
+abbrev pub OfTwoOrMore : {X : Type 0} → (List ℕ → List ℕ → List (List ℕ) → X → Type 0) → List (List ℕ) → X → Type 0
+OfTwoOrMore Are (a ∷ b ∷ ws) x = Are a b ws x
+OfTwoOrMore Are ws x = ⊥
+
 abbrev pub IsBareLine : BareCommand → List (List ℕ) → Event → Type 0
 IsBareLine c [] e = e ≡ bare_event c
 IsBareLine c (w ∷ ws) e = ⊥
 
-abbrev pub IsPathLine : PathCommand → List (List ℕ) → Event → Type 0
-IsPathLine c (p ∷ []) e = (path : List ℕ) × IsPath p path × (e ≡ path_event c path)
-IsPathLine c ws e = ⊥
+abbrev pub IsPathLine : PathCommand → List ℕ → Event → Type 0
+IsPathLine c p e = (path : List ℕ) × IsPath p path × (e ≡ path_event c path)
 
-abbrev pub IsNumberLine : NumberCommand → List (List ℕ) → Event → Type 0
-IsNumberLine c (w ∷ []) e = (n : ℕ) × IsNumber w n × (e ≡ number_event c n)
-IsNumberLine c ws e = ⊥
+abbrev pub IsNumberLine : NumberCommand → List ℕ → Event → Type 0
+IsNumberLine c w e = (n : ℕ) × IsNumber w n × (e ≡ number_event c n)
 
-abbrev pub IsClose : List (List ℕ) → Event → Type 0
-IsClose (h ∷ []) e = (key : Key) × IsKey h key × (e ≡ Call (call.Close (record { 0 = key })))
-IsClose ws e = ⊥
+-- `close H`
+abbrev pub IsClose : List ℕ → Event → Type 0
+IsClose h e = (key : Key) × IsKey h key × (e ≡ Call (call.Close (record { 0 = key })))
 
-abbrev pub IsCancel : List (List ℕ) → Event → Type 0
-IsCancel (w ∷ []) e = (key : Key) × IsKey w key × (e ≡ Call (call.Cancel (record { 0 = key })))
-IsCancel ws e = ⊥
+-- `cancel W`
+abbrev pub IsCancel : List ℕ → Event → Type 0
+IsCancel w e = (key : Key) × IsKey w key × (e ≡ Call (call.Cancel (record { 0 = key })))
 
-abbrev pub IsTick : List (List ℕ) → Event → Type 0
-IsTick (w ∷ []) e = (n : ℕ) × IsPositive w n × (e ≡ Call (call.Tick n))
-IsTick ws e = ⊥
+-- `tick NUM`
+abbrev pub IsTick : List ℕ → Event → Type 0
+IsTick w e = (n : ℕ) × IsPositive w n × (e ≡ Call (call.Tick n))
+
+-- `link inline` or `link queued`
+abbrev pub IsLink : List ℕ → Event → Type 0
+IsLink l e = (inline : Bool) × (l ≡ link_name inline) × (e ≡ Engine (engine.Link inline))
 
 -- `read H OFF LEN`
-abbrev pub IsReadLine : List (List ℕ) → Event → Type 0
-IsReadLine (h ∷ o ∷ l ∷ []) e = (key : Key) × (offset len : ℕ) × IsKey h key × IsNumber o offset × IsNumber l len × (e ≡ Call (call.Read (record { 0 = key }) offset len))
-IsReadLine ws e = ⊥
+abbrev pub IsReadLine : List ℕ → List ℕ → List ℕ → Event → Type 0
+IsReadLine h o l e = (key : Key) × (offset len : ℕ) × IsKey h key × IsNumber o offset × IsNumber l len × (e ≡ Call (call.Read (record { 0 = key }) offset len))
 
 -- `get P OFF LEN`
-abbrev pub IsGet : List (List ℕ) → Event → Type 0
-IsGet (p ∷ o ∷ l ∷ []) e = (path : List ℕ) × (offset len : ℕ) × IsPath p path × IsNumber o offset × IsNumber l len × (e ≡ Call (call.Get path offset len))
-IsGet ws e = ⊥
+abbrev pub IsGet : List ℕ → List ℕ → List ℕ → Event → Type 0
+IsGet p o l e = (path : List ℕ) × (offset len : ℕ) × IsPath p path × IsNumber o offset × IsNumber l len × (e ≡ Call (call.Get path offset len))
 
 -- `write H OFF DATA`
-abbrev pub IsWrite : List (List ℕ) → Event → Type 0
-IsWrite (h ∷ o ∷ d ∷ []) e = (key : Key) × (offset : ℕ) × (bytes : List ℕ) × IsKey h key × IsNumber o offset × IsData d bytes × (e ≡ Call (call.Write (record { 0 = key }) offset bytes))
-IsWrite ws e = ⊥
+abbrev pub IsWrite : List ℕ → List ℕ → List ℕ → Event → Type 0
+IsWrite h o d e = (key : Key) × (offset : ℕ) × (bytes : List ℕ) × IsKey h key × IsNumber o offset × IsData d bytes × (e ≡ Call (call.Write (record { 0 = key }) offset bytes))
 
 -- `size H NUM`
-abbrev pub IsSize : List (List ℕ) → Event → Type 0
-IsSize (h ∷ n ∷ []) e = (key : Key) × (size : ℕ) × IsKey h key × IsNumber n size × (e ≡ Call (call.Size (record { 0 = key }) size))
-IsSize ws e = ⊥
+abbrev pub IsSize : List ℕ → List ℕ → Event → Type 0
+IsSize h n e = (key : Key) × (size : ℕ) × IsKey h key × IsNumber n size × (e ≡ Call (call.Size (record { 0 = key }) size))
 
-abbrev pub IsRename : List (List ℕ) → Event → Type 0
-IsRename (p ∷ q ∷ []) e = (from to : List ℕ) × IsPath p from × IsPath q to × (e ≡ Call (call.Rename from to))
-IsRename ws e = ⊥
+-- `rename P P`
+abbrev pub IsRename : List ℕ → List ℕ → Event → Type 0
+IsRename p q e = (from to : List ℕ) × IsPath p from × IsPath q to × (e ≡ Call (call.Rename from to))
+
+-- `ranges P CLASS`
+abbrev pub IsRanges : List ℕ → List ℕ → Event → Type 0
+IsRanges p c e = (path : List ℕ) × (class : Class) × IsPath p path × (c ≡ class_name class) × (e ≡ Call (call.Ranges path class))
+
+-- `keep P yes` or `keep P no`
+abbrev pub IsKeep : List ℕ → List ℕ → Event → Type 0
+IsKeep p y e = (path : List ℕ) × (on : Bool) × IsPath p path × (y ≡ yes_name on) × (e ≡ Call (call.Keep path on))
+
+-- `convert P IDENT`
+abbrev pub IsConvert : List ℕ → List ℕ → Event → Type 0
+IsConvert p i e = (path identity : List ℕ) × IsPath p path × IsPlain i identity × (e ≡ Provider (provider.Convert path identity))
+
+-- `mark P PAIR`
+abbrev pub IsMark : List ℕ → List ℕ → Event → Type 0
+IsMark p u e = (path : List ℕ) × (number : Usn) × IsPath p path × IsUsn u number × (e ≡ Provider (provider.Mark path number))
 
 -- `pin P STATE`, with a reach after it or none
-abbrev pub IsPinLine : List (List ℕ) → Event → Type 0
-IsPinLine (p ∷ s ∷ r) e = (path : List ℕ) × (pin : Pin) × (reach : Reach) × IsPath p path × (s ≡ pin_name pin) × (r ≡ reach_words reach) × (e ≡ Call (call.Pin path pin reach))
-IsPinLine ws e = ⊥
+abbrev pub IsPinLine : List ℕ → List ℕ → List (List ℕ) → Event → Type 0
+IsPinLine p s r e = (path : List ℕ) × (pin : Pin) × (reach : Reach) × IsPath p path × (s ≡ pin_name pin) × (r ≡ reach_words reach) × (e ≡ Call (call.Pin path pin reach))
+
+-- `policy HYD POP`, and the modifiers that are set
+abbrev pub IsPolicyLine : List ℕ → List ℕ → List (List ℕ) → Event → Type 0
+IsPolicyLine h p ms e = (hydration : Hydration) × (population : Population) × (m : Bool × Bool × Bool) × (h ≡ hydration_name hydration) × (p ≡ population_name population) × (ms ≡ modifier_words m.0 m.1 m.2)
+    × (e ≡ Call (call.Policy (record { hydration = hydration; population = population; validate = m.0; restart = m.1; auto = m.2 })))
+
+-- `placedir P IDENT`, with `insync` after it or not
+abbrev pub IsPlaceDir : List ℕ → List ℕ → List (List ℕ) → Event → Type 0
+IsPlaceDir p i f e = (path identity : List ℕ) × (in_sync : Bool) × IsPath p path × IsPlain i identity × (f ≡ flag_words (codes "insync") in_sync) × (e ≡ Provider (provider.PlaceDir path identity in_sync))
 
 -- `dehydrate P`, or with `OFF LEN`
 abbrev pub IsDehydrate : List (List ℕ) → Event → Type 0
 IsDehydrate (p ∷ []) e = (path : List ℕ) × IsPath p path × (e ≡ Call (call.Dehydrate path None))
 IsDehydrate (p ∷ o ∷ l ∷ []) e = (path : List ℕ) × (offset len : ℕ) × IsPath p path × IsNumber o offset × IsNumber l len × (e ≡ Call (call.Dehydrate path (Some (offset, len))))
 IsDehydrate ws e = ⊥
-
-abbrev pub IsRanges : List (List ℕ) → Event → Type 0
-IsRanges (p ∷ c ∷ []) e = (path : List ℕ) × (class : Class) × IsPath p path × (c ≡ class_name class) × (e ≡ Call (call.Ranges path class))
-IsRanges ws e = ⊥
-
--- `policy HYD POP`, and the modifiers that are set
-abbrev pub IsPolicyLine : List (List ℕ) → Event → Type 0
-IsPolicyLine (h ∷ p ∷ ms) e = (hydration : Hydration) × (population : Population) × (m : Bool × Bool × Bool) × (h ≡ hydration_name hydration) × (p ≡ population_name population) × (ms ≡ modifier_words m.0 m.1 m.2)
-    × (e ≡ Call (call.Policy (record { hydration = hydration; population = population; validate = m.0; restart = m.1; auto = m.2 })))
-IsPolicyLine ws e = ⊥
-
--- `keep P yes` or `keep P no`
-abbrev pub IsKeep : List (List ℕ) → Event → Type 0
-IsKeep (p ∷ y ∷ []) e = (path : List ℕ) × (on : Bool) × IsPath p path × (y ≡ yes_name on) × (e ≡ Call (call.Keep path on))
-IsKeep ws e = ⊥
 
 -- a power cut that leaves all, or nothing
 abbrev pub kept : Bool → Choice
@@ -154,18 +187,22 @@ IsCrash (c ∷ []) e = (all : Bool) × (c ≡ kept_name all) × (e ≡ Device (d
 IsCrash (c ∷ n ∷ []) e = (seed : ℕ) × (c ≡ codes "mix") × IsNumber n seed × (e ≡ Device (device.Crash (choice.Mix seed)))
 IsCrash ws e = ⊥
 
-abbrev pub IsLink : List (List ℕ) → Event → Type 0
-IsLink (l ∷ []) e = (inline : Bool) × (l ≡ link_name inline) × (e ≡ Engine (engine.Link inline))
-IsLink ws e = ⊥
-
 -- what follows the word after `peer`
+abbrev pub IsPeerWord : PeerCommand → List ℕ → Event → Type 0
+IsPeerWord peer_word.Mkdir p e = (path : List ℕ) × IsPath p path × (e ≡ Peer (peer.MakeDir path))
+IsPeerWord peer_word.Remove p e = (path : List ℕ) × IsPath p path × (e ≡ Peer (peer.Remove path))
+IsPeerWord peer_word.Stat p e = (path : List ℕ) × IsPath p path × (e ≡ Peer (peer.Stat path))
+IsPeerWord peer_word.Keep n e = (count : ℕ) × IsPositive n count × (e ≡ Peer (peer.Keep count))
+IsPeerWord c w e = ⊥
+
+abbrev pub IsPeerPair : PeerCommand → List ℕ → List ℕ → Event → Type 0
+IsPeerPair peer_word.Put p d e = (path bytes : List ℕ) × IsPath p path × IsData d bytes × (e ≡ Peer (peer.Put path bytes))
+IsPeerPair peer_word.Move p q e = (from to : List ℕ) × IsPath p from × IsPath q to × (e ≡ Peer (peer.Move from to))
+IsPeerPair c v w e = ⊥
+
 abbrev pub IsPeerEvent : PeerCommand → List (List ℕ) → Event → Type 0
-IsPeerEvent peer_word.Put (p ∷ d ∷ []) e = (path bytes : List ℕ) × IsPath p path × IsData d bytes × (e ≡ Peer (peer.Put path bytes))
-IsPeerEvent peer_word.Mkdir (p ∷ []) e = (path : List ℕ) × IsPath p path × (e ≡ Peer (peer.MakeDir path))
-IsPeerEvent peer_word.Move (p ∷ q ∷ []) e = (from to : List ℕ) × IsPath p from × IsPath q to × (e ≡ Peer (peer.Move from to))
-IsPeerEvent peer_word.Remove (p ∷ []) e = (path : List ℕ) × IsPath p path × (e ≡ Peer (peer.Remove path))
-IsPeerEvent peer_word.Stat (p ∷ []) e = (path : List ℕ) × IsPath p path × (e ≡ Peer (peer.Stat path))
-IsPeerEvent peer_word.Keep (n ∷ []) e = (count : ℕ) × IsPositive n count × (e ≡ Peer (peer.Keep count))
+IsPeerEvent c (a ∷ []) e = IsPeerWord c a e
+IsPeerEvent c (a ∷ b ∷ []) e = IsPeerPair c a b e
 IsPeerEvent c ws e = ⊥
 
 abbrev pub IsPeer : List (List ℕ) → Event → Type 0
@@ -177,25 +214,11 @@ abbrev pub IsPlace : List (List ℕ) → Event → Type 0
 IsPlace (p ∷ n ∷ i ∷ f) e = (path : List ℕ) × (size : ℕ) × (identity : List ℕ) × (in_sync : Bool) × IsPath p path × IsNumber n size × IsPlain i identity × (f ≡ flag_words (codes "insync") in_sync) × (e ≡ Provider (provider.Place path size identity in_sync))
 IsPlace ws e = ⊥
 
--- `placedir P IDENT`, with `insync` after it or not
-abbrev pub IsPlaceDir : List (List ℕ) → Event → Type 0
-IsPlaceDir (p ∷ i ∷ f) e = (path identity : List ℕ) × (in_sync : Bool) × IsPath p path × IsPlain i identity × (f ≡ flag_words (codes "insync") in_sync) × (e ≡ Provider (provider.PlaceDir path identity in_sync))
-IsPlaceDir ws e = ⊥
-
-abbrev pub IsConvert : List (List ℕ) → Event → Type 0
-IsConvert (p ∷ i ∷ []) e = (path identity : List ℕ) × IsPath p path × IsPlain i identity × (e ≡ Provider (provider.Convert path identity))
-IsConvert ws e = ⊥
-
 -- `update P IDENT`, or with a size
 abbrev pub IsUpdate : List (List ℕ) → Event → Type 0
 IsUpdate (p ∷ i ∷ []) e = (path identity : List ℕ) × IsPath p path × IsPlain i identity × (e ≡ Provider (provider.Update path identity None))
 IsUpdate (p ∷ i ∷ n ∷ []) e = (path identity : List ℕ) × (size : ℕ) × IsPath p path × IsPlain i identity × IsNumber n size × (e ≡ Provider (provider.Update path identity (Some size)))
 IsUpdate ws e = ⊥
-
--- `mark P PAIR`
-abbrev pub IsMark : List (List ℕ) → Event → Type 0
-IsMark (p ∷ u ∷ []) e = (path : List ℕ) × (number : Usn) × IsPath p path × IsUsn u number × (e ≡ Provider (provider.Mark path number))
-IsMark ws e = ⊥
 
 -- a name of an entry: a space, a percent sign and a comma are written as their codes
 abbrev pub escape_name_byte : ℕ → List ℕ
@@ -232,23 +255,44 @@ AreEntries [] (item ∷ items) = ⊥
 AreEntries (w ∷ ws) [] = ⊥
 
 -- an operation: what follows its key
+abbrev pub IsTransfer : Key → List ℕ → List ℕ → Operation → Type 0
+IsTransfer key o d op = (at : ℕ) × (bytes : List ℕ) × IsNumber o at × IsData d bytes × (op ≡ operation.Transfer key at bytes)
+
+abbrev pub IsFail : Key → List ℕ → List ℕ → List ℕ → Operation → Type 0
+IsFail key o l s op = (start len status : ℕ) × IsNumber o start × IsNumber l len × IsNumber s status × (op ≡ operation.Refuse key (record { start = start; len = len }) status)
+
+abbrev pub IsRetrieve : Key → List ℕ → List ℕ → Operation → Type 0
+IsRetrieve key o l op = (start len : ℕ) × IsNumber o start × IsNumber l len × (op ≡ operation.Retrieve key (record { start = start; len = len }))
+
+abbrev pub IsAck : Key → List ℕ → List ℕ → List ℕ → Operation → Type 0
+IsAck key o l g op = (start len : ℕ) × (good : Bool) × IsNumber o start × IsNumber l len × (g ≡ good_name good) × (op ≡ operation.Ack key (record { start = start; len = len }) good)
+
+abbrev pub IsRehydrate : Key → List (List ℕ) → Operation → Type 0
+IsRehydrate key [] op = op ≡ operation.Restart key
+IsRehydrate key (w ∷ ws) op = ⊥
+
+abbrev pub IsEntries : Key → List (List ℕ) → Operation → Type 0
+IsEntries key [] op = ⊥
+IsEntries key (g ∷ ws) op = (good : Bool) × (list : List NewItem) × (g ≡ good_name good) × (good ≡ false → ws ≡ []) × AreEntries ws list × (op ≡ operation.Entries key list good)
+
+abbrev pub IsAckDehydrate : Key → List ℕ → Operation → Type 0
+IsAckDehydrate key g op = (good : Bool) × (g ≡ good_name good) × (op ≡ operation.AckDehydrate key good)
+
 abbrev pub IsOperation : OperationCommand → Key → List (List ℕ) → Operation → Type 0
-IsOperation operation_word.Transfer key (o ∷ d ∷ []) op = (at : ℕ) × (bytes : List ℕ) × IsNumber o at × IsData d bytes × (op ≡ operation.Transfer key at bytes)
-IsOperation operation_word.CallError key (o ∷ l ∷ s ∷ []) op = (start len status : ℕ) × IsNumber o start × IsNumber l len × IsNumber s status × (op ≡ operation.Refuse key (record { start = start; len = len }) status)
-IsOperation operation_word.Retrieve key (o ∷ l ∷ []) op = (start len : ℕ) × IsNumber o start × IsNumber l len × (op ≡ operation.Retrieve key (record { start = start; len = len }))
-IsOperation operation_word.Ack key (o ∷ l ∷ g ∷ []) op = (start len : ℕ) × (good : Bool) × IsNumber o start × IsNumber l len × (g ≡ good_name good) × (op ≡ operation.Ack key (record { start = start; len = len }) good)
-IsOperation operation_word.Rehydrate key [] op = op ≡ operation.Restart key
-IsOperation operation_word.Entries key (g ∷ ws) op = (good : Bool) × (list : List NewItem) × (g ≡ good_name good) × (good ≡ false → ws ≡ []) × AreEntries ws list × (op ≡ operation.Entries key list good)
-IsOperation operation_word.AckDehydrate key (g ∷ []) op = (good : Bool) × (g ≡ good_name good) × (op ≡ operation.AckDehydrate key good)
-IsOperation c key ws op = ⊥
+IsOperation operation_word.Transfer key ws op = OfTwo (IsTransfer key) ws op
+IsOperation operation_word.Fail key ws op = OfThree (IsFail key) ws op
+IsOperation operation_word.Retrieve key ws op = OfTwo (IsRetrieve key) ws op
+IsOperation operation_word.Ack key ws op = OfThree (IsAck key) ws op
+IsOperation operation_word.Rehydrate key ws op = IsRehydrate key ws op
+IsOperation operation_word.Entries key ws op = IsEntries key ws op
+IsOperation operation_word.AckDehydrate key ws op = OfOne (IsAckDehydrate key) ws op
 
 -- `do OP`
 abbrev pub IsDone : OperationCommand → Key → List (List ℕ) → Event → Type 0
 IsDone c key ws e = (op : Operation) × IsOperation c key ws op × (e ≡ Provider (provider.Do op))
 
-abbrev pub IsDo : List (List ℕ) → Event → Type 0
-IsDo (w ∷ k ∷ ws) e = (c : OperationCommand) × (key : Key) × (w ≡ operation_name c) × IsKey k key × IsDone c key ws e
-IsDo ws e = ⊥
+abbrev pub IsDo : List ℕ → List ℕ → List (List ℕ) → Event → Type 0
+IsDo w k ws e = (c : OperationCommand) × (key : Key) × (w ≡ operation_name c) × IsKey k key × IsDone c key ws e
 
 -- in a plan `self` stands for the key of the callback, and is 0.0 in the event
 abbrev pub IsKeyOf : Bool → List ℕ → Key → Type 0
@@ -262,38 +306,52 @@ IsPlanKey word p = IsKeyOf p.0 word p.1
 abbrev pub IsPlanned : OperationCommand → Bool × Key → List (List ℕ) → Event → Type 0
 IsPlanned c p ws e = (op : Operation) × IsOperation c p.1 ws op × (e ≡ Provider (provider.Plan p.0 op))
 
-abbrev pub IsPlan : List (List ℕ) → Event → Type 0
-IsPlan (w ∷ k ∷ ws) e = (c : OperationCommand) × (p : Bool × Key) × (w ≡ operation_name c) × IsPlanKey k p × IsPlanned c p ws e
-IsPlan ws e = ⊥
+abbrev pub IsPlan : List ℕ → List ℕ → List (List ℕ) → Event → Type 0
+IsPlan w k ws e = (c : OperationCommand) × (p : Bool × Key) × (w ≡ operation_name c) × IsPlanKey k p × IsPlanned c p ws e
 
 -- the words after the first one, and the event
+abbrev pub IsWordLine : WordCommand → List ℕ → Event → Type 0
+IsWordLine on_word.Close w e = IsClose w e
+IsWordLine on_word.Cancel w e = IsCancel w e
+IsWordLine on_word.Tick w e = IsTick w e
+IsWordLine on_word.Link w e = IsLink w e
+
+abbrev pub IsTwoWordLine : TwoWordCommand → List ℕ → List ℕ → Event → Type 0
+IsTwoWordLine on_two.Size v w e = IsSize v w e
+IsTwoWordLine on_two.Rename v w e = IsRename v w e
+IsTwoWordLine on_two.Ranges v w e = IsRanges v w e
+IsTwoWordLine on_two.Keep v w e = IsKeep v w e
+IsTwoWordLine on_two.Convert v w e = IsConvert v w e
+IsTwoWordLine on_two.Mark v w e = IsMark v w e
+
+abbrev pub IsThreeWordLine : ThreeWordCommand → List ℕ → List ℕ → List ℕ → Event → Type 0
+IsThreeWordLine on_three.Read u v w e = IsReadLine u v w e
+IsThreeWordLine on_three.Get u v w e = IsGet u v w e
+IsThreeWordLine on_three.Write u v w e = IsWrite u v w e
+
+abbrev pub IsLongLine : LongCommand → List ℕ → List ℕ → List (List ℕ) → Event → Type 0
+IsLongLine long.Pin v w ws e = IsPinLine v w ws e
+IsLongLine long.Policy v w ws e = IsPolicyLine v w ws e
+IsLongLine long.PlaceDir v w ws e = IsPlaceDir v w ws e
+IsLongLine long.Do v w ws e = IsDo v w ws e
+IsLongLine long.Plan v w ws e = IsPlan v w ws e
+
+abbrev pub IsOtherLine : OtherCommand → List (List ℕ) → Event → Type 0
+IsOtherLine other.Dehydrate ws e = IsDehydrate ws e
+IsOtherLine other.Crash ws e = IsCrash ws e
+IsOtherLine other.Peer ws e = IsPeer ws e
+IsOtherLine other.Place ws e = IsPlace ws e
+IsOtherLine other.Update ws e = IsUpdate ws e
+
 abbrev pub Follows : Command → List (List ℕ) → Event → Type 0
 Follows (command.Bare c) ws e = IsBareLine c ws e
-Follows (command.OnPath c) ws e = IsPathLine c ws e
-Follows (command.OnNumber c) ws e = IsNumberLine c ws e
-Follows command.Close ws e = IsClose ws e
-Follows command.Cancel ws e = IsCancel ws e
-Follows command.Tick ws e = IsTick ws e
-Follows command.Read ws e = IsReadLine ws e
-Follows command.Get ws e = IsGet ws e
-Follows command.Write ws e = IsWrite ws e
-Follows command.Size ws e = IsSize ws e
-Follows command.Rename ws e = IsRename ws e
-Follows command.Pin ws e = IsPinLine ws e
-Follows command.Dehydrate ws e = IsDehydrate ws e
-Follows command.Ranges ws e = IsRanges ws e
-Follows command.Policy ws e = IsPolicyLine ws e
-Follows command.Keep ws e = IsKeep ws e
-Follows command.Crash ws e = IsCrash ws e
-Follows command.Peer ws e = IsPeer ws e
-Follows command.Link ws e = IsLink ws e
-Follows command.Place ws e = IsPlace ws e
-Follows command.PlaceDir ws e = IsPlaceDir ws e
-Follows command.Convert ws e = IsConvert ws e
-Follows command.Update ws e = IsUpdate ws e
-Follows command.Mark ws e = IsMark ws e
-Follows command.Do ws e = IsDo ws e
-Follows command.Plan ws e = IsPlan ws e
+Follows (command.OnPath c) ws e = OfOne (IsPathLine c) ws e
+Follows (command.OnNumber c) ws e = OfOne (IsNumberLine c) ws e
+Follows (command.OnWord c) ws e = OfOne (IsWordLine c) ws e
+Follows (command.OnTwo c) ws e = OfTwo (IsTwoWordLine c) ws e
+Follows (command.OnThree c) ws e = OfThree (IsThreeWordLine c) ws e
+Follows (command.Long c) ws e = OfTwoOrMore (IsLongLine c) ws e
+Follows (command.Other c) ws e = IsOtherLine c ws e
 
 -- the words spell an event that the mode has
 abbrev pub AreWords : Mode → List (List ℕ) → Event → Type 0

@@ -4,5 +4,6 @@ pub mod Forms
 pub mod Script
 pub mod FailEvents
 pub mod Printed
+pub mod Lines
 pub mod Fits
 pub mod Cut

@@ -1,5 +1,6 @@
 -- The fixed words of a script.
 use Rattle.std.specs.Prelude.{ℕ, Bool, true, false, List, [], ◌∷◌, ◌++◌, codes}
+use Rattle.std.specs.Str.{bytes_eq}
 use Rattle.cf_base.specs.declared.items.Pin.{Pin}
 use Rattle.cf_base.specs.declared.items.Pin.TheVariants as pin
 use Rattle.cf_base.specs.declared.items.Reach.{Reach}
@@ -20,6 +21,16 @@ use Rattle.cf_script.specs.declared.commands.PathCommand.{PathCommand}
 use Rattle.cf_script.specs.declared.commands.PathCommand.TheVariants as on_path
 use Rattle.cf_script.specs.declared.commands.NumberCommand.{NumberCommand}
 use Rattle.cf_script.specs.declared.commands.NumberCommand.TheVariants as on_number
+use Rattle.cf_script.specs.declared.commands.WordCommand.{WordCommand}
+use Rattle.cf_script.specs.declared.commands.WordCommand.TheVariants as on_word
+use Rattle.cf_script.specs.declared.commands.TwoWordCommand.{TwoWordCommand}
+use Rattle.cf_script.specs.declared.commands.TwoWordCommand.TheVariants as on_two
+use Rattle.cf_script.specs.declared.commands.ThreeWordCommand.{ThreeWordCommand}
+use Rattle.cf_script.specs.declared.commands.ThreeWordCommand.TheVariants as on_three
+use Rattle.cf_script.specs.declared.commands.LongCommand.{LongCommand}
+use Rattle.cf_script.specs.declared.commands.LongCommand.TheVariants as long
+use Rattle.cf_script.specs.declared.commands.OtherCommand.{OtherCommand}
+use Rattle.cf_script.specs.declared.commands.OtherCommand.TheVariants as other
 use Rattle.cf_script.specs.declared.commands.PeerCommand.{PeerCommand}
 use Rattle.cf_script.specs.declared.commands.PeerCommand.TheVariants as peer
 use Rattle.cf_script.specs.declared.commands.OperationCommand.{OperationCommand}
@@ -52,65 +63,54 @@ number_name on_number.Deliver = codes "deliver"
 number_name on_number.Arrive = codes "arrive"
 number_name on_number.Space = codes "space"
 
+-- a word with one word after it
+abbrev pub word_name : WordCommand → List ℕ
+word_name on_word.Close = codes "close"
+word_name on_word.Cancel = codes "cancel"
+word_name on_word.Tick = codes "tick"
+word_name on_word.Link = codes "link"
+
+-- a word with two words after it
+abbrev pub two_word_name : TwoWordCommand → List ℕ
+two_word_name on_two.Size = codes "size"
+two_word_name on_two.Rename = codes "rename"
+two_word_name on_two.Ranges = codes "ranges"
+two_word_name on_two.Keep = codes "keep"
+two_word_name on_two.Convert = codes "convert"
+two_word_name on_two.Mark = codes "mark"
+
+-- a word with three words after it
+abbrev pub three_word_name : ThreeWordCommand → List ℕ
+three_word_name on_three.Read = codes "read"
+three_word_name on_three.Get = codes "get"
+three_word_name on_three.Write = codes "write"
+
+-- a word with two words after it, or more
+abbrev pub long_name : LongCommand → List ℕ
+long_name long.Pin = codes "pin"
+long_name long.Policy = codes "policy"
+long_name long.PlaceDir = codes "placedir"
+long_name long.Do = codes "do"
+long_name long.Plan = codes "plan"
+
+-- a word with words after it in a number of its own
+abbrev pub other_name : OtherCommand → List ℕ
+other_name other.Dehydrate = codes "dehydrate"
+other_name other.Crash = codes "crash"
+other_name other.Peer = codes "peer"
+other_name other.Place = codes "place"
+other_name other.Update = codes "update"
+
 -- the first word of a line
 abbrev pub command_name : Command → List ℕ
 command_name (command.Bare c) = bare_name c
 command_name (command.OnPath c) = path_name c
 command_name (command.OnNumber c) = number_name c
-command_name command.Close = codes "close"
-command_name command.Cancel = codes "cancel"
-command_name command.Tick = codes "tick"
-command_name command.Read = codes "read"
-command_name command.Get = codes "get"
-command_name command.Write = codes "write"
-command_name command.Size = codes "size"
-command_name command.Rename = codes "rename"
-command_name command.Pin = codes "pin"
-command_name command.Dehydrate = codes "dehydrate"
-command_name command.Ranges = codes "ranges"
-command_name command.Policy = codes "policy"
-command_name command.Keep = codes "keep"
-command_name command.Crash = codes "crash"
-command_name command.Peer = codes "peer"
-command_name command.Link = codes "link"
-command_name command.Place = codes "place"
-command_name command.PlaceDir = codes "placedir"
-command_name command.Convert = codes "convert"
-command_name command.Update = codes "update"
-command_name command.Mark = codes "mark"
-command_name command.Do = codes "do"
-command_name command.Plan = codes "plan"
-
--- a word of an application with a form of its own after it
-abbrev pub is_of_application : Command → Bool
-is_of_application command.Close = true
-is_of_application command.Cancel = true
-is_of_application command.Tick = true
-is_of_application command.Read = true
-is_of_application command.Get = true
-is_of_application command.Write = true
-is_of_application command.Size = true
-is_of_application command.Rename = true
-is_of_application command.Pin = true
-is_of_application command.Dehydrate = true
-is_of_application command.Ranges = true
-is_of_application command.Policy = true
-is_of_application command.Keep = true
-is_of_application c = false
-
--- a word of the device, of another device or of a provider with a form of its own after it
-abbrev pub is_of_others : Command → Bool
-is_of_others command.Crash = true
-is_of_others command.Peer = true
-is_of_others command.Link = true
-is_of_others command.Place = true
-is_of_others command.PlaceDir = true
-is_of_others command.Convert = true
-is_of_others command.Update = true
-is_of_others command.Mark = true
-is_of_others command.Do = true
-is_of_others command.Plan = true
-is_of_others c = false
+command_name (command.OnWord c) = word_name c
+command_name (command.OnTwo c) = two_word_name c
+command_name (command.OnThree c) = three_word_name c
+command_name (command.Long c) = long_name c
+command_name (command.Other c) = other_name c
 
 -- the word after `peer`
 abbrev pub peer_name : PeerCommand → List ℕ
@@ -124,7 +124,7 @@ peer_name peer.Keep = codes "keep"
 -- the word after `do` or `plan`
 abbrev pub operation_name : OperationCommand → List ℕ
 operation_name operation.Transfer = codes "transfer"
-operation_name operation.CallError = codes "fail"
+operation_name operation.Fail = codes "fail"
 operation_name operation.Retrieve = codes "retrieve"
 operation_name operation.Ack = codes "ack"
 operation_name operation.Rehydrate = codes "rehydrate"
@@ -165,6 +165,11 @@ abbrev pub flag_words : List ℕ → Bool → List (List ℕ)
 flag_words word true = word ∷ []
 flag_words word false = []
 
+-- whether the words begin with this one
+abbrev pub begins : List ℕ → List (List ℕ) → Bool
+begins word [] = false
+begins word (w ∷ ws) = bytes_eq w word
+
 -- the modifiers that are set, in this order
 abbrev pub modifier_words : Bool → Bool → Bool → List (List ℕ)
 modifier_words validate restart auto = flag_words (codes "validate") validate ++ (flag_words (codes "restart") restart ++ flag_words (codes "auto") auto)
@@ -198,21 +203,21 @@ is_for_engine (command.Bare bare.Sync) = true
 is_for_engine (command.OnNumber on_number.Deliver) = true
 is_for_engine (command.OnNumber on_number.Arrive) = true
 is_for_engine (command.OnNumber on_number.Space) = true
-is_for_engine command.Peer = true
-is_for_engine command.Link = true
+is_for_engine (command.Other other.Peer) = true
+is_for_engine (command.OnWord on_word.Link) = true
 is_for_engine c = false
 
 -- the words of a scripted provider
 abbrev pub is_for_provider : Command → Bool
 is_for_provider (command.OnPath on_path.Revert) = true
 is_for_provider (command.OnPath on_path.Unmark) = true
-is_for_provider command.Place = true
-is_for_provider command.PlaceDir = true
-is_for_provider command.Convert = true
-is_for_provider command.Update = true
-is_for_provider command.Mark = true
-is_for_provider command.Do = true
-is_for_provider command.Plan = true
+is_for_provider (command.Other other.Place) = true
+is_for_provider (command.Long long.PlaceDir) = true
+is_for_provider (command.OnTwo on_two.Convert) = true
+is_for_provider (command.Other other.Update) = true
+is_for_provider (command.OnTwo on_two.Mark) = true
+is_for_provider (command.Long long.Do) = true
+is_for_provider (command.Long long.Plan) = true
 is_for_provider c = false
 
 -- the words that the other mode alone has

@@ -1,5 +1,5 @@
 -- A script and the events that it spells.
-use Rattle.std.specs.Prelude.{◌≡◌, ℕ, ◌≤◌, ◌==◌, ◌&&◌, not, nat_le, Bool, true, false, List, [], ◌∷◌, length, filter, if◌then◌else◌, IsTrue}
+use Rattle.std.specs.Prelude.{ℕ, ◌≤◌, ◌==◌, ◌&&◌, not, nat_le, Bool, false, List, [], ◌∷◌, length, filter, if◌then◌else◌, IsTrue}
 use Rattle.std.specs.List.{slice_split, onto_first, list_all}
 use Rattle.std.specs.Str.{IsUtf8}
 use Rattle.cf_base.specs.declared.events.Event.{Event}

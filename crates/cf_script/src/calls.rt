@@ -12,13 +12,10 @@ use cf_base::{Call, Event, Handle, OutOfMemory, Policy, WaitId};
 use std::alloc::Global;
 
 /// `close H`.
-pub fn close(words: &[&str]) -> Option<Event>
-    ensures { Reads (IsClose (map (λ w. w.now) words.now)) result }
+pub fn close(handle: &str) -> Option<Event>
+    ensures { Reads (IsClose handle.now) result }
 {
-    let [word] = words else {
-        return None;
-    };
-    let Some(key) = key(word) else {
+    let Some(key) = key(handle) else {
         return None;
     };
     Some(Event::Call(Call::Close {
@@ -27,38 +24,29 @@ pub fn close(words: &[&str]) -> Option<Event>
 }
 
 /// `cancel W`.
-pub fn cancel(words: &[&str]) -> Option<Event>
-    ensures { Reads (IsCancel (map (λ w. w.now) words.now)) result }
+pub fn cancel(wait: &str) -> Option<Event>
+    ensures { Reads (IsCancel wait.now) result }
 {
-    let [word] = words else {
-        return None;
-    };
-    let Some(key) = key(word) else {
+    let Some(key) = key(wait) else {
         return None;
     };
     Some(Event::Call(Call::Cancel { wait: WaitId(key) }))
 }
 
 /// `tick NUM`.
-pub fn tick(words: &[&str]) -> Option<Event>
-    ensures { Reads (IsTick (map (λ w. w.now) words.now)) result }
+pub fn tick(ticks: &str) -> Option<Event>
+    ensures { Reads (IsTick ticks.now) result }
 {
-    let [word] = words else {
-        return None;
-    };
-    let Some(ticks) = positive(word) else {
+    let Some(ticks) = positive(ticks) else {
         return None;
     };
     Some(Event::Call(Call::Tick { ticks }))
 }
 
 /// `read H OFF LEN`.
-pub fn read(words: &[&str]) -> Option<Event>
-    ensures { Reads (IsReadLine (map (λ w. w.now) words.now)) result }
+pub fn read(handle: &str, offset: &str, len: &str) -> Option<Event>
+    ensures { Reads (IsReadLine handle.now offset.now len.now) result }
 {
-    let [handle, offset, len] = words else {
-        return None;
-    };
     let Some(key) = key(handle) else {
         return None;
     };
@@ -76,12 +64,14 @@ pub fn read(words: &[&str]) -> Option<Event>
 }
 
 /// `get P OFF LEN`.
-pub fn get(alloc: Global, words: &[&str]) -> Result<Option<Event>, OutOfMemory>
-    ensures { IfOk result (Reads (IsGet (map (λ w. w.now) words.now))) }
+pub fn get(
+    alloc: Global,
+    target: &str,
+    offset: &str,
+    len: &str,
+) -> Result<Option<Event>, OutOfMemory>
+    ensures { IfOk result (Reads (IsGet target.now offset.now len.now)) }
 {
-    let [target, offset, len] = words else {
-        return Ok(None);
-    };
     let Some(offset) = number(offset) else {
         return Ok(None);
     };
@@ -95,12 +85,14 @@ pub fn get(alloc: Global, words: &[&str]) -> Result<Option<Event>, OutOfMemory>
 }
 
 /// `write H OFF DATA`.
-pub fn write(alloc: Global, words: &[&str]) -> Result<Option<Event>, OutOfMemory>
-    ensures { IfOk result (Reads (IsWrite (map (λ w. w.now) words.now))) }
+pub fn write(
+    alloc: Global,
+    handle: &str,
+    offset: &str,
+    bytes: &str,
+) -> Result<Option<Event>, OutOfMemory>
+    ensures { IfOk result (Reads (IsWrite handle.now offset.now bytes.now)) }
 {
-    let [handle, offset, bytes] = words else {
-        return Ok(None);
-    };
     let Some(key) = key(handle) else {
         return Ok(None);
     };
@@ -118,12 +110,9 @@ pub fn write(alloc: Global, words: &[&str]) -> Result<Option<Event>, OutOfMemory
 }
 
 /// `size H NUM`.
-pub fn size(words: &[&str]) -> Option<Event>
-    ensures { Reads (IsSize (map (λ w. w.now) words.now)) result }
+pub fn size(handle: &str, size: &str) -> Option<Event>
+    ensures { Reads (IsSize handle.now size.now) result }
 {
-    let [handle, size] = words else {
-        return None;
-    };
     let Some(key) = key(handle) else {
         return None;
     };
@@ -137,12 +126,9 @@ pub fn size(words: &[&str]) -> Option<Event>
 }
 
 /// `rename P P`.
-pub fn rename(alloc: Global, words: &[&str]) -> Result<Option<Event>, OutOfMemory>
-    ensures { IfOk result (Reads (IsRename (map (λ w. w.now) words.now))) }
+pub fn rename(alloc: Global, source: &str, target: &str) -> Result<Option<Event>, OutOfMemory>
+    ensures { IfOk result (Reads (IsRename source.now target.now)) }
 {
-    let [source, target] = words else {
-        return Ok(None);
-    };
     let Some(from) = path(alloc, source)? else {
         return Ok(None);
     };
@@ -153,12 +139,14 @@ pub fn rename(alloc: Global, words: &[&str]) -> Result<Option<Event>, OutOfMemor
 }
 
 /// `pin P STATE`, with a reach after it or none.
-pub fn pin_line(alloc: Global, words: &[&str]) -> Result<Option<Event>, OutOfMemory>
-    ensures { IfOk result (Reads (IsPinLine (map (λ w. w.now) words.now))) }
+pub fn pin_line(
+    alloc: Global,
+    target: &str,
+    state: &str,
+    below: &[&str],
+) -> Result<Option<Event>, OutOfMemory>
+    ensures { IfOk result (Reads (IsPinLine target.now state.now (map (λ w. w.now) below.now))) }
 {
-    let [target, state, below @ ..] = words else {
-        return Ok(None);
-    };
     let Some(pin) = pin(state) else {
         return Ok(None);
     };
@@ -172,12 +160,9 @@ pub fn pin_line(alloc: Global, words: &[&str]) -> Result<Option<Event>, OutOfMem
 }
 
 /// `ranges P CLASS`.
-pub fn ranges(alloc: Global, words: &[&str]) -> Result<Option<Event>, OutOfMemory>
-    ensures { IfOk result (Reads (IsRanges (map (λ w. w.now) words.now))) }
+pub fn ranges(alloc: Global, target: &str, word: &str) -> Result<Option<Event>, OutOfMemory>
+    ensures { IfOk result (Reads (IsRanges target.now word.now)) }
 {
-    let [target, word] = words else {
-        return Ok(None);
-    };
     let Some(class) = class(word) else {
         return Ok(None);
     };
@@ -188,12 +173,9 @@ pub fn ranges(alloc: Global, words: &[&str]) -> Result<Option<Event>, OutOfMemor
 }
 
 /// `keep P yes` or `keep P no`.
-pub fn keep(alloc: Global, words: &[&str]) -> Result<Option<Event>, OutOfMemory>
-    ensures { IfOk result (Reads (IsKeep (map (λ w. w.now) words.now))) }
+pub fn keep(alloc: Global, target: &str, word: &str) -> Result<Option<Event>, OutOfMemory>
+    ensures { IfOk result (Reads (IsKeep target.now word.now)) }
 {
-    let [target, word] = words else {
-        return Ok(None);
-    };
     let Some(on) = yes(word) else {
         return Ok(None);
     };
@@ -245,12 +227,9 @@ pub fn dehydrate(alloc: Global, words: &[&str]) -> Result<Option<Event>, OutOfMe
 }
 
 /// `policy HYD POP`, and the modifiers that are set.
-pub fn policy(words: &[&str]) -> Option<Event>
-    ensures { Reads (IsPolicyLine (map (λ w. w.now) words.now)) result }
+pub fn policy(hydration_word: &str, population_word: &str, rest: &[&str]) -> Option<Event>
+    ensures { Reads (IsPolicyLine hydration_word.now population_word.now (map (λ w. w.now) rest.now)) result }
 {
-    let [hydration_word, population_word, rest @ ..] = words else {
-        return None;
-    };
     let Some(hydration) = hydration(hydration_word) else {
         return None;
     };

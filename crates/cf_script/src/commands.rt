@@ -1,34 +1,16 @@
 //! The words that say what a line is.
 
-/// The first word of a line.
+/// The first word of a line, by what may stand after it.
 #[derive(Clone, Copy)]
 pub enum Command {
     Bare(BareCommand),
     OnPath(PathCommand),
     OnNumber(NumberCommand),
-    Close,
-    Cancel,
-    Tick,
-    Read,
-    Get,
-    Write,
-    Size,
-    Rename,
-    Pin,
-    Dehydrate,
-    Ranges,
-    Policy,
-    Keep,
-    Crash,
-    Peer,
-    Link,
-    Place,
-    PlaceDir,
-    Convert,
-    Update,
-    Mark,
-    Do,
-    Plan,
+    OnWord(WordCommand),
+    OnTwo(TwoWordCommand),
+    OnThree(ThreeWordCommand),
+    Long(LongCommand),
+    Other(OtherCommand),
 }
 
 /// A word that stands alone.
@@ -67,6 +49,54 @@ pub enum NumberCommand {
     Space,
 }
 
+/// A word with one word of its own after it.
+#[derive(Clone, Copy)]
+pub enum WordCommand {
+    Close,
+    Cancel,
+    Tick,
+    Link,
+}
+
+/// A word with two words after it.
+#[derive(Clone, Copy)]
+pub enum TwoWordCommand {
+    Size,
+    Rename,
+    Ranges,
+    Keep,
+    Convert,
+    Mark,
+}
+
+/// A word with three words after it.
+#[derive(Clone, Copy)]
+pub enum ThreeWordCommand {
+    Read,
+    Get,
+    Write,
+}
+
+/// A word with two words after it, or more.
+#[derive(Clone, Copy)]
+pub enum LongCommand {
+    Pin,
+    Policy,
+    PlaceDir,
+    Do,
+    Plan,
+}
+
+/// A word with words after it in a number of its own.
+#[derive(Clone, Copy)]
+pub enum OtherCommand {
+    Dehydrate,
+    Crash,
+    Peer,
+    Place,
+    Update,
+}
+
 /// The word after `peer`.
 #[derive(Clone, Copy)]
 pub enum PeerCommand {
@@ -82,7 +112,7 @@ pub enum PeerCommand {
 #[derive(Clone, Copy)]
 pub enum OperationCommand {
     Transfer,
-    CallError,
+    Fail,
     Retrieve,
     Ack,
     Rehydrate,

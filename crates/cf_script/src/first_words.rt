@@ -1,13 +1,21 @@
 //! The words that a line begins with.
 
-ghost use Rattle.std.specs.Prelude.{◌≡◌, ◌≢◌, MatchOption, IsTrue};
-ghost use Rattle.cf_script.specs.Names.{bare_name, path_name, number_name, command_name, is_of_application, is_of_others};
+ghost use Rattle.std.specs.Prelude.{◌≡◌, ◌≢◌, MatchOption};
+ghost use Rattle.cf_script.specs.Names.{bare_name, path_name, number_name, word_name, two_word_name, three_word_name, long_name, other_name, command_name};
 ghost use Rattle.cf_script.specs.declared.commands.BareCommand.{BareCommand};
 ghost use Rattle.cf_script.specs.declared.commands.PathCommand.{PathCommand};
 ghost use Rattle.cf_script.specs.declared.commands.NumberCommand.{NumberCommand};
+ghost use Rattle.cf_script.specs.declared.commands.WordCommand.{WordCommand};
+ghost use Rattle.cf_script.specs.declared.commands.TwoWordCommand.{TwoWordCommand};
+ghost use Rattle.cf_script.specs.declared.commands.ThreeWordCommand.{ThreeWordCommand};
+ghost use Rattle.cf_script.specs.declared.commands.LongCommand.{LongCommand};
+ghost use Rattle.cf_script.specs.declared.commands.OtherCommand.{OtherCommand};
 ghost use Rattle.cf_script.specs.declared.commands.Command.{Command};
 
-use crate::commands::{BareCommand, Command, NumberCommand, PathCommand};
+use crate::commands::{
+    BareCommand, Command, LongCommand, NumberCommand, OtherCommand, PathCommand, ThreeWordCommand,
+    TwoWordCommand, WordCommand,
+};
 
 /// A word that stands alone.
 fn bare_command(word: &str) -> Option<BareCommand>
@@ -57,43 +65,70 @@ fn number_command(word: &str) -> Option<NumberCommand>
     }
 }
 
-/// A word of an application, with a form of its own after it.
-fn application_command(word: &str) -> Option<Command>
-    ensures { MatchOption result ((c : Command) → IsTrue (is_of_application c) → word.now ≢ command_name c) (λ c. word.now ≡ command_name c) }
+/// A word with one word of its own after it.
+fn word_command(word: &str) -> Option<WordCommand>
+    ensures { MatchOption result ((c : WordCommand) → word.now ≢ word_name c) (λ c. word.now ≡ word_name c) }
 {
     match word {
-        "close" => Some(Command::Close),
-        "cancel" => Some(Command::Cancel),
-        "tick" => Some(Command::Tick),
-        "read" => Some(Command::Read),
-        "get" => Some(Command::Get),
-        "write" => Some(Command::Write),
-        "size" => Some(Command::Size),
-        "rename" => Some(Command::Rename),
-        "pin" => Some(Command::Pin),
-        "dehydrate" => Some(Command::Dehydrate),
-        "ranges" => Some(Command::Ranges),
-        "policy" => Some(Command::Policy),
-        "keep" => Some(Command::Keep),
+        "close" => Some(WordCommand::Close),
+        "cancel" => Some(WordCommand::Cancel),
+        "tick" => Some(WordCommand::Tick),
+        "link" => Some(WordCommand::Link),
         _ => None,
     }
 }
 
-/// A word of the device, of another device or of a provider, with a form of its own after it.
-fn others_command(word: &str) -> Option<Command>
-    ensures { MatchOption result ((c : Command) → IsTrue (is_of_others c) → word.now ≢ command_name c) (λ c. word.now ≡ command_name c) }
+/// A word with two words after it.
+fn two_word_command(word: &str) -> Option<TwoWordCommand>
+    ensures { MatchOption result ((c : TwoWordCommand) → word.now ≢ two_word_name c) (λ c. word.now ≡ two_word_name c) }
 {
     match word {
-        "crash" => Some(Command::Crash),
-        "peer" => Some(Command::Peer),
-        "link" => Some(Command::Link),
-        "place" => Some(Command::Place),
-        "placedir" => Some(Command::PlaceDir),
-        "convert" => Some(Command::Convert),
-        "update" => Some(Command::Update),
-        "mark" => Some(Command::Mark),
-        "do" => Some(Command::Do),
-        "plan" => Some(Command::Plan),
+        "size" => Some(TwoWordCommand::Size),
+        "rename" => Some(TwoWordCommand::Rename),
+        "ranges" => Some(TwoWordCommand::Ranges),
+        "keep" => Some(TwoWordCommand::Keep),
+        "convert" => Some(TwoWordCommand::Convert),
+        "mark" => Some(TwoWordCommand::Mark),
+        _ => None,
+    }
+}
+
+/// A word with three words after it.
+fn three_word_command(word: &str) -> Option<ThreeWordCommand>
+    ensures { MatchOption result ((c : ThreeWordCommand) → word.now ≢ three_word_name c) (λ c. word.now ≡ three_word_name c) }
+{
+    match word {
+        "read" => Some(ThreeWordCommand::Read),
+        "get" => Some(ThreeWordCommand::Get),
+        "write" => Some(ThreeWordCommand::Write),
+        _ => None,
+    }
+}
+
+/// A word with two words after it, or more.
+fn long_command(word: &str) -> Option<LongCommand>
+    ensures { MatchOption result ((c : LongCommand) → word.now ≢ long_name c) (λ c. word.now ≡ long_name c) }
+{
+    match word {
+        "pin" => Some(LongCommand::Pin),
+        "policy" => Some(LongCommand::Policy),
+        "placedir" => Some(LongCommand::PlaceDir),
+        "do" => Some(LongCommand::Do),
+        "plan" => Some(LongCommand::Plan),
+        _ => None,
+    }
+}
+
+/// A word with words after it in a number of its own.
+fn other_command(word: &str) -> Option<OtherCommand>
+    ensures { MatchOption result ((c : OtherCommand) → word.now ≢ other_name c) (λ c. word.now ≡ other_name c) }
+{
+    match word {
+        "dehydrate" => Some(OtherCommand::Dehydrate),
+        "crash" => Some(OtherCommand::Crash),
+        "peer" => Some(OtherCommand::Peer),
+        "place" => Some(OtherCommand::Place),
+        "update" => Some(OtherCommand::Update),
         _ => None,
     }
 }
@@ -112,8 +147,20 @@ pub fn command(word: &str) -> Option<Command>
     if let Some(command) = number_command(word) {
         return Some(Command::OnNumber(command));
     }
-    if let Some(command) = application_command(word) {
-        return Some(command);
+    if let Some(command) = word_command(word) {
+        return Some(Command::OnWord(command));
     }
-    others_command(word)
+    if let Some(command) = two_word_command(word) {
+        return Some(Command::OnTwo(command));
+    }
+    if let Some(command) = three_word_command(word) {
+        return Some(Command::OnThree(command));
+    }
+    if let Some(command) = long_command(word) {
+        return Some(Command::Long(command));
+    }
+    match other_command(word) {
+        Some(command) => Some(Command::Other(command)),
+        None => None,
+    }
 }

@@ -1,24 +1,26 @@
 //! Scripts: the events that a text spells, and the text that spells events.
 #![tactic(auto)]
 
+mod call_lines;
 mod calls;
+mod command_lines;
 mod commands;
 mod data;
 mod entries;
+mod event_lines;
 mod first_words;
 mod laws;
 mod lines;
 mod names;
 mod numbers;
+mod operation_lines;
 mod operations;
 mod paths;
 mod peers;
+mod printed_lines;
 mod prints;
 mod providers;
-mod put_calls;
-mod put_events;
 mod put_lines;
-mod put_operations;
 mod script_errors;
 mod scripts;
 mod short_lines;

@@ -6,15 +6,13 @@ ghost use Rattle.cf_script.specs.Names.{is_for_engine, is_for_provider, is_forei
 ghost use Rattle.cf_script.specs.Forms.{Follows, AreWords};
 ghost use Rattle.cf_script.specs.Script.{words_of, is_plain, Spells};
 
-use crate::calls::{
-    cancel, close, dehydrate, get, keep, pin_line, policy, ranges, read, rename, size, tick, write,
+use crate::command_lines::{long, on_number, on_path, on_three, on_two, on_word, other};
+use crate::commands::{
+    BareCommand, Command, LongCommand, NumberCommand, OtherCommand, PathCommand, TwoWordCommand,
+    WordCommand,
 };
-use crate::commands::{BareCommand, Command, NumberCommand, PathCommand};
 use crate::first_words::command;
-use crate::operations::{do_line, plan};
-use crate::peers::{link, peer};
-use crate::providers::{convert, mark, place, place_dir, update};
-use crate::short_lines::{bare, crash, on_number, on_path};
+use crate::short_lines::bare;
 use cf_base::{Event, Mode, OutOfMemory};
 use std::alloc::{AllocError, Global};
 
@@ -25,7 +23,8 @@ fn is_for_engine(command: Command) -> bool
         Command::Bare(BareCommand::Work | BareCommand::Sync) => true,
         Command::OnNumber(NumberCommand::Deliver | NumberCommand::Arrive | NumberCommand::Space) =>
             { true }
-        Command::Peer | Command::Link => true,
+        Command::Other(OtherCommand::Peer) => true,
+        Command::OnWord(WordCommand::Link) => true,
         _ => false,
     }
 }
@@ -35,8 +34,9 @@ fn is_for_provider(command: Command) -> bool
 {
     match command {
         Command::OnPath(PathCommand::Revert | PathCommand::Unmark) => true,
-        Command::Place | Command::PlaceDir | Command::Convert => true,
-        Command::Update | Command::Mark | Command::Do | Command::Plan => true,
+        Command::OnTwo(TwoWordCommand::Convert | TwoWordCommand::Mark) => true,
+        Command::Long(LongCommand::PlaceDir | LongCommand::Do | LongCommand::Plan) => true,
+        Command::Other(OtherCommand::Place | OtherCommand::Update) => true,
         _ => false,
     }
 }
@@ -63,29 +63,11 @@ fn event_after(
         Command::Bare(command) => Ok(bare(command, words)),
         Command::OnPath(command) => on_path(alloc, command, words),
         Command::OnNumber(command) => Ok(on_number(command, words)),
-        Command::Close => Ok(close(words)),
-        Command::Cancel => Ok(cancel(words)),
-        Command::Tick => Ok(tick(words)),
-        Command::Read => Ok(read(words)),
-        Command::Get => get(alloc, words),
-        Command::Write => write(alloc, words),
-        Command::Size => Ok(size(words)),
-        Command::Rename => rename(alloc, words),
-        Command::Pin => pin_line(alloc, words),
-        Command::Dehydrate => dehydrate(alloc, words),
-        Command::Ranges => ranges(alloc, words),
-        Command::Policy => Ok(policy(words)),
-        Command::Keep => keep(alloc, words),
-        Command::Crash => Ok(crash(words)),
-        Command::Peer => peer(alloc, words),
-        Command::Link => Ok(link(words)),
-        Command::Place => place(alloc, words),
-        Command::PlaceDir => place_dir(alloc, words),
-        Command::Convert => convert(alloc, words),
-        Command::Update => update(alloc, words),
-        Command::Mark => mark(alloc, words),
-        Command::Do => do_line(alloc, words),
-        Command::Plan => plan(alloc, words),
+        Command::OnWord(command) => Ok(on_word(command, words)),
+        Command::OnTwo(command) => on_two(alloc, command, words),
+        Command::OnThree(command) => on_three(alloc, command, words),
+        Command::Long(command) => long(alloc, command, words),
+        Command::Other(command) => other(alloc, command, words),
     }
 }
 

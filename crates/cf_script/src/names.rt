@@ -1,9 +1,9 @@
 //! The fixed words.
 
-ghost use Rattle.std.specs.Prelude.{◌≡◌, [], ◌∷◌, map, codes};
+ghost use Rattle.std.specs.Prelude.{◌≡◌, [], ◌∷◌, ◌++◌, map, codes};
 ghost use Rattle.cf_base.specs.declared.policies.Policy.{Policy};
 ghost use Rattle.cf_script.specs.Words.{Reads};
-ghost use Rattle.cf_script.specs.Names.{peer_name, operation_name, pin_name, reach_words, class_name, hydration_name, population_name, yes_name, good_name, link_name, kept_name, entry_kind, flag_words, modifier_words};
+ghost use Rattle.cf_script.specs.Names.{peer_name, operation_name, pin_name, reach_words, class_name, hydration_name, population_name, yes_name, good_name, link_name, kept_name, entry_kind, begins, flag_words, modifier_words};
 
 use crate::commands::{OperationCommand, PeerCommand};
 use cf_base::{Class, Hydration, Pin, Population, Reach};
@@ -29,7 +29,7 @@ pub fn operation_command(word: &str) -> Option<OperationCommand>
 {
     match word {
         "transfer" => Some(OperationCommand::Transfer),
-        "fail" => Some(OperationCommand::CallError),
+        "fail" => Some(OperationCommand::Fail),
         "retrieve" => Some(OperationCommand::Retrieve),
         "ack" => Some(OperationCommand::Ack),
         "rehydrate" => Some(OperationCommand::Rehydrate),
@@ -168,19 +168,33 @@ pub fn in_sync(words: &[&str]) -> Option<bool>
     }
 }
 
+/// Whether the words begin with this one, and the words after it.
+fn after_flag<'a>(words: &'a [&'a str], word: &str) -> (bool, &'a [&'a str])
+    ensures parts { map (λ w. w.now) words.now ≡ flag_words word.now result.0 ++ map (λ w. w.now) result.1.now }
+    ensures first { result.0 ≡ begins word.now (map (λ w. w.now) words.now) }
+{
+    match words {
+        [first, rest @ ..] => {
+            if *first == word {
+                (true, rest)
+            } else {
+                (false, words)
+            }
+        }
+        [] => (false, words),
+    }
+}
+
 /// The modifiers of a policy: `validate`, `restart` and `auto`, in this order.
 pub fn modifiers(words: &[&str]) -> Option<(bool, bool, bool)>
     ensures { Reads (λ m. map (λ w. w.now) words.now ≡ modifier_words m.0 m.1 m.2) result }
 {
-    match words {
-        [] => Some((false, false, false)),
-        ["validate"] => Some((true, false, false)),
-        ["restart"] => Some((false, true, false)),
-        ["auto"] => Some((false, false, true)),
-        ["validate", "restart"] => Some((true, true, false)),
-        ["validate", "auto"] => Some((true, false, true)),
-        ["restart", "auto"] => Some((false, true, true)),
-        ["validate", "restart", "auto"] => Some((true, true, true)),
-        _ => None,
+    let (validate, rest) = after_flag(words, "validate");
+    let (restart, rest) = after_flag(rest, "restart");
+    let (auto, rest) = after_flag(rest, "auto");
+    if rest.is_empty() {
+        Some((validate, restart, auto))
+    } else {
+        None
     }
 }

@@ -1,9 +1,9 @@
 //! The operations of a scripted provider.
 
-ghost use Rattle.std.specs.Prelude.{◌≡◌, map, IfOk};
+ghost use Rattle.std.specs.Prelude.{◌≡◌, ◌∷◌, map, IfOk};
 ghost use Rattle.cf_base.specs.declared.ids.Key.{Key};
 ghost use Rattle.cf_script.specs.Words.{Reads};
-ghost use Rattle.cf_script.specs.Forms.{IsOperation, IsDone, IsDo, IsPlanKey, IsPlanned, IsPlan};
+ghost use Rattle.cf_script.specs.Forms.{OfOne, OfTwo, OfThree, IsTransfer, IsFail, IsRetrieve, IsAck, IsRehydrate, IsEntries, IsAckDehydrate, IsOperation, IsDone, IsDo, IsPlanKey, IsPlanned, IsPlan};
 
 use crate::commands::OperationCommand;
 use crate::data::data;
@@ -13,12 +13,14 @@ use crate::numbers::{key, number};
 use cf_base::{Event, Key, Operation, OutOfMemory, ProviderEvent, Span};
 use std::alloc::Global;
 
-fn transfer(alloc: Global, key: Key, words: &[&str]) -> Result<Option<Operation>, OutOfMemory>
-    ensures { IfOk result (Reads (IsOperation OperationCommand.Transfer key (map (λ w. w.now) words.now))) }
+fn transfer(
+    alloc: Global,
+    key: Key,
+    offset: &str,
+    bytes: &str,
+) -> Result<Option<Operation>, OutOfMemory>
+    ensures { IfOk result (Reads (IsTransfer key offset.now bytes.now)) }
 {
-    let [offset, bytes] = words else {
-        return Ok(None);
-    };
     let Some(at) = number(offset) else {
         return Ok(None);
     };
@@ -41,12 +43,9 @@ fn span_of(start: u32, len: u32) -> Span
     }
 }
 
-fn fail(key: Key, words: &[&str]) -> Option<Operation>
-    ensures { Reads (IsOperation OperationCommand.CallError key (map (λ w. w.now) words.now)) result }
+fn fail(key: Key, offset: &str, len: &str, status: &str) -> Option<Operation>
+    ensures { Reads (IsFail key offset.now len.now status.now) result }
 {
-    let [offset, len, status] = words else {
-        return None;
-    };
     let Some(start) = number(offset) else {
         return None;
     };
@@ -60,12 +59,9 @@ fn fail(key: Key, words: &[&str]) -> Option<Operation>
     Some(Operation::Refuse { key, span, status })
 }
 
-fn retrieve(key: Key, words: &[&str]) -> Option<Operation>
-    ensures { Reads (IsOperation OperationCommand.Retrieve key (map (λ w. w.now) words.now)) result }
+fn retrieve(key: Key, offset: &str, len: &str) -> Option<Operation>
+    ensures { Reads (IsRetrieve key offset.now len.now) result }
 {
-    let [offset, len] = words else {
-        return None;
-    };
     let Some(start) = number(offset) else {
         return None;
     };
@@ -76,12 +72,9 @@ fn retrieve(key: Key, words: &[&str]) -> Option<Operation>
     Some(Operation::Retrieve { key, span })
 }
 
-fn ack(key: Key, words: &[&str]) -> Option<Operation>
-    ensures { Reads (IsOperation OperationCommand.Ack key (map (λ w. w.now) words.now)) result }
+fn ack(key: Key, offset: &str, len: &str, word: &str) -> Option<Operation>
+    ensures { Reads (IsAck key offset.now len.now word.now) result }
 {
-    let [offset, len, word] = words else {
-        return None;
-    };
     let Some(start) = number(offset) else {
         return None;
     };
@@ -96,7 +89,7 @@ fn ack(key: Key, words: &[&str]) -> Option<Operation>
 }
 
 fn rehydrate(key: Key, words: &[&str]) -> Option<Operation>
-    ensures { Reads (IsOperation OperationCommand.Rehydrate key (map (λ w. w.now) words.now)) result }
+    ensures { Reads (IsRehydrate key (map (λ w. w.now) words.now)) result }
 {
     match words {
         [] => Some(Operation::Restart { key }),
@@ -104,12 +97,14 @@ fn rehydrate(key: Key, words: &[&str]) -> Option<Operation>
     }
 }
 
-fn list_entries(alloc: Global, key: Key, words: &[&str]) -> Result<Option<Operation>, OutOfMemory>
-    ensures { IfOk result (Reads (IsOperation OperationCommand.Entries key (map (λ w. w.now) words.now))) }
+fn good_entries(
+    alloc: Global,
+    key: Key,
+    word: &str,
+    rest: &[&str],
+) -> Result<Option<Operation>, OutOfMemory>
+    ensures { IfOk result (Reads (IsEntries key (word.now ∷ map (λ w. w.now) rest.now))) }
 {
-    let [word, rest @ ..] = words else {
-        return Ok(None);
-    };
     let Some(good) = good(word) else {
         return Ok(None);
     };
@@ -122,16 +117,67 @@ fn list_entries(alloc: Global, key: Key, words: &[&str]) -> Result<Option<Operat
     Ok(Some(Operation::Entries { key, list, good }))
 }
 
-fn ack_dehydrate(key: Key, words: &[&str]) -> Option<Operation>
-    ensures { Reads (IsOperation OperationCommand.AckDehydrate key (map (λ w. w.now) words.now)) result }
+fn list_entries(alloc: Global, key: Key, words: &[&str]) -> Result<Option<Operation>, OutOfMemory>
+    ensures { IfOk result (Reads (IsEntries key (map (λ w. w.now) words.now))) }
 {
-    let [word] = words else {
-        return None;
-    };
+    match words {
+        [word, rest @ ..] => good_entries(alloc, key, word, rest),
+        [] => Ok(None),
+    }
+}
+
+fn ack_dehydrate(key: Key, word: &str) -> Option<Operation>
+    ensures { Reads (IsAckDehydrate key word.now) result }
+{
     let Some(good) = good(word) else {
         return None;
     };
     Some(Operation::AckDehydrate { key, good })
+}
+
+fn transfer_line(alloc: Global, key: Key, words: &[&str]) -> Result<Option<Operation>, OutOfMemory>
+    ensures { IfOk result (Reads (OfTwo (IsTransfer key) (map (λ w. w.now) words.now))) }
+{
+    match words {
+        [offset, bytes] => transfer(alloc, key, offset, bytes),
+        _ => Ok(None),
+    }
+}
+
+fn fail_line(key: Key, words: &[&str]) -> Option<Operation>
+    ensures { Reads (OfThree (IsFail key) (map (λ w. w.now) words.now)) result }
+{
+    match words {
+        [offset, len, status] => fail(key, offset, len, status),
+        _ => None,
+    }
+}
+
+fn retrieve_line(key: Key, words: &[&str]) -> Option<Operation>
+    ensures { Reads (OfTwo (IsRetrieve key) (map (λ w. w.now) words.now)) result }
+{
+    match words {
+        [offset, len] => retrieve(key, offset, len),
+        _ => None,
+    }
+}
+
+fn ack_line(key: Key, words: &[&str]) -> Option<Operation>
+    ensures { Reads (OfThree (IsAck key) (map (λ w. w.now) words.now)) result }
+{
+    match words {
+        [offset, len, word] => ack(key, offset, len, word),
+        _ => None,
+    }
+}
+
+fn ack_dehydrate_line(key: Key, words: &[&str]) -> Option<Operation>
+    ensures { Reads (OfOne (IsAckDehydrate key) (map (λ w. w.now) words.now)) result }
+{
+    match words {
+        [word] => ack_dehydrate(key, word),
+        _ => None,
+    }
 }
 
 fn operation(
@@ -143,13 +189,13 @@ fn operation(
     ensures { IfOk result (Reads (IsOperation command key (map (λ w. w.now) words.now))) }
 {
     match command {
-        OperationCommand::Transfer => transfer(alloc, key, words),
-        OperationCommand::CallError => Ok(fail(key, words)),
-        OperationCommand::Retrieve => Ok(retrieve(key, words)),
-        OperationCommand::Ack => Ok(ack(key, words)),
+        OperationCommand::Transfer => transfer_line(alloc, key, words),
+        OperationCommand::Fail => Ok(fail_line(key, words)),
+        OperationCommand::Retrieve => Ok(retrieve_line(key, words)),
+        OperationCommand::Ack => Ok(ack_line(key, words)),
         OperationCommand::Rehydrate => Ok(rehydrate(key, words)),
         OperationCommand::Entries => list_entries(alloc, key, words),
-        OperationCommand::AckDehydrate => Ok(ack_dehydrate(key, words)),
+        OperationCommand::AckDehydrate => Ok(ack_dehydrate_line(key, words)),
     }
 }
 
@@ -168,12 +214,14 @@ fn done(
 }
 
 /// What follows the word `do`.
-pub fn do_line(alloc: Global, words: &[&str]) -> Result<Option<Event>, OutOfMemory>
-    ensures { IfOk result (Reads (IsDo (map (λ w. w.now) words.now))) }
+pub fn do_line(
+    alloc: Global,
+    word: &str,
+    key_word: &str,
+    rest: &[&str],
+) -> Result<Option<Event>, OutOfMemory>
+    ensures { IfOk result (Reads (IsDo word.now key_word.now (map (λ w. w.now) rest.now))) }
 {
-    let [word, key_word, rest @ ..] = words else {
-        return Ok(None);
-    };
     let Some(command) = operation_command(word) else {
         return Ok(None);
     };
@@ -216,12 +264,14 @@ fn planned(
 }
 
 /// What follows the word `plan`.
-pub fn plan(alloc: Global, words: &[&str]) -> Result<Option<Event>, OutOfMemory>
-    ensures { IfOk result (Reads (IsPlan (map (λ w. w.now) words.now))) }
+pub fn plan(
+    alloc: Global,
+    word: &str,
+    key_word: &str,
+    rest: &[&str],
+) -> Result<Option<Event>, OutOfMemory>
+    ensures { IfOk result (Reads (IsPlan word.now key_word.now (map (λ w. w.now) rest.now))) }
 {
-    let [word, key_word, rest @ ..] = words else {
-        return Ok(None);
-    };
     let Some(command) = operation_command(word) else {
         return Ok(None);
     };

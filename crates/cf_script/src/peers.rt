@@ -2,7 +2,7 @@
 
 ghost use Rattle.std.specs.Prelude.{◌≡◌, map, IfOk};
 ghost use Rattle.cf_script.specs.Words.{Reads};
-ghost use Rattle.cf_script.specs.Forms.{IsPeerEvent, IsPeer, IsLink};
+ghost use Rattle.cf_script.specs.Forms.{IsPeerWord, IsPeerPair, IsPeerEvent, IsPeer, IsLink};
 
 use crate::commands::PeerCommand;
 use crate::data::data;
@@ -12,12 +12,9 @@ use crate::paths::path;
 use cf_base::{EngineEvent, Event, OutOfMemory, PeerEvent};
 use std::alloc::Global;
 
-fn put(alloc: Global, words: &[&str]) -> Result<Option<Event>, OutOfMemory>
-    ensures { IfOk result (Reads (IsPeerEvent PeerCommand.Put (map (λ w. w.now) words.now))) }
+fn put(alloc: Global, target: &str, bytes: &str) -> Result<Option<Event>, OutOfMemory>
+    ensures { IfOk result (Reads (IsPeerPair PeerCommand.Put target.now bytes.now)) }
 {
-    let [target, bytes] = words else {
-        return Ok(None);
-    };
     let Some(path) = path(alloc, target)? else {
         return Ok(None);
     };
@@ -27,24 +24,9 @@ fn put(alloc: Global, words: &[&str]) -> Result<Option<Event>, OutOfMemory>
     Ok(Some(Event::Peer(PeerEvent::Put { path, bytes })))
 }
 
-fn mkdir(alloc: Global, words: &[&str]) -> Result<Option<Event>, OutOfMemory>
-    ensures { IfOk result (Reads (IsPeerEvent PeerCommand.Mkdir (map (λ w. w.now) words.now))) }
+fn move_item(alloc: Global, source: &str, target: &str) -> Result<Option<Event>, OutOfMemory>
+    ensures { IfOk result (Reads (IsPeerPair PeerCommand.Move source.now target.now)) }
 {
-    let [target] = words else {
-        return Ok(None);
-    };
-    let Some(path) = path(alloc, target)? else {
-        return Ok(None);
-    };
-    Ok(Some(Event::Peer(PeerEvent::MakeDir { path })))
-}
-
-fn move_item(alloc: Global, words: &[&str]) -> Result<Option<Event>, OutOfMemory>
-    ensures { IfOk result (Reads (IsPeerEvent PeerCommand.Move (map (λ w. w.now) words.now))) }
-{
-    let [source, target] = words else {
-        return Ok(None);
-    };
     let Some(from) = path(alloc, source)? else {
         return Ok(None);
     };
@@ -54,40 +36,73 @@ fn move_item(alloc: Global, words: &[&str]) -> Result<Option<Event>, OutOfMemory
     Ok(Some(Event::Peer(PeerEvent::Move { from, to })))
 }
 
-fn remove(alloc: Global, words: &[&str]) -> Result<Option<Event>, OutOfMemory>
-    ensures { IfOk result (Reads (IsPeerEvent PeerCommand.Remove (map (λ w. w.now) words.now))) }
+fn mkdir(alloc: Global, target: &str) -> Result<Option<Event>, OutOfMemory>
+    ensures { IfOk result (Reads (IsPeerWord PeerCommand.Mkdir target.now)) }
 {
-    let [target] = words else {
+    let Some(path) = path(alloc, target)? else {
         return Ok(None);
     };
+    Ok(Some(Event::Peer(PeerEvent::MakeDir { path })))
+}
+
+fn remove(alloc: Global, target: &str) -> Result<Option<Event>, OutOfMemory>
+    ensures { IfOk result (Reads (IsPeerWord PeerCommand.Remove target.now)) }
+{
     let Some(path) = path(alloc, target)? else {
         return Ok(None);
     };
     Ok(Some(Event::Peer(PeerEvent::Remove { path })))
 }
 
-fn stat(alloc: Global, words: &[&str]) -> Result<Option<Event>, OutOfMemory>
-    ensures { IfOk result (Reads (IsPeerEvent PeerCommand.Stat (map (λ w. w.now) words.now))) }
+fn stat(alloc: Global, target: &str) -> Result<Option<Event>, OutOfMemory>
+    ensures { IfOk result (Reads (IsPeerWord PeerCommand.Stat target.now)) }
 {
-    let [target] = words else {
-        return Ok(None);
-    };
     let Some(path) = path(alloc, target)? else {
         return Ok(None);
     };
     Ok(Some(Event::Peer(PeerEvent::Stat { path })))
 }
 
-fn keep(words: &[&str]) -> Option<Event>
-    ensures { Reads (IsPeerEvent PeerCommand.Keep (map (λ w. w.now) words.now)) result }
+fn keep(word: &str) -> Option<Event>
+    ensures { Reads (IsPeerWord PeerCommand.Keep word.now) result }
 {
-    let [word] = words else {
-        return None;
-    };
     let Some(count) = positive(word) else {
         return None;
     };
     Some(Event::Peer(PeerEvent::Keep { count }))
+}
+
+/// A command and one word.
+fn peer_word(alloc: Global, command: PeerCommand, word: &str) -> Result<Option<Event>, OutOfMemory>
+    ensures { IfOk result (Reads (IsPeerWord command word.now)) }
+{
+    match command {
+        PeerCommand::Mkdir => mkdir(alloc, word),
+        PeerCommand::Remove => remove(alloc, word),
+        PeerCommand::Stat => stat(alloc, word),
+        PeerCommand::Keep => Ok(keep(word)),
+        PeerCommand::Put => Ok(None),
+        PeerCommand::Move => Ok(None),
+    }
+}
+
+/// A command and two words.
+fn peer_pair(
+    alloc: Global,
+    command: PeerCommand,
+    first: &str,
+    second: &str,
+) -> Result<Option<Event>, OutOfMemory>
+    ensures { IfOk result (Reads (IsPeerPair command first.now second.now)) }
+{
+    match command {
+        PeerCommand::Put => put(alloc, first, second),
+        PeerCommand::Move => move_item(alloc, first, second),
+        PeerCommand::Mkdir => Ok(None),
+        PeerCommand::Remove => Ok(None),
+        PeerCommand::Stat => Ok(None),
+        PeerCommand::Keep => Ok(None),
+    }
 }
 
 fn peer_event(
@@ -97,13 +112,10 @@ fn peer_event(
 ) -> Result<Option<Event>, OutOfMemory>
     ensures { IfOk result (Reads (IsPeerEvent command (map (λ w. w.now) words.now))) }
 {
-    match command {
-        PeerCommand::Put => put(alloc, words),
-        PeerCommand::Mkdir => mkdir(alloc, words),
-        PeerCommand::Move => move_item(alloc, words),
-        PeerCommand::Remove => remove(alloc, words),
-        PeerCommand::Stat => stat(alloc, words),
-        PeerCommand::Keep => Ok(keep(words)),
+    match words {
+        [word] => peer_word(alloc, command, word),
+        [first, second] => peer_pair(alloc, command, first, second),
+        _ => Ok(None),
     }
 }
 
@@ -121,12 +133,9 @@ pub fn peer(alloc: Global, words: &[&str]) -> Result<Option<Event>, OutOfMemory>
 }
 
 /// `link inline` or `link queued`.
-pub fn link(words: &[&str]) -> Option<Event>
-    ensures { Reads (IsLink (map (λ w. w.now) words.now)) result }
+pub fn link(word: &str) -> Option<Event>
+    ensures { Reads (IsLink word.now) result }
 {
-    let [word] = words else {
-        return None;
-    };
     let Some(inline) = inline(word) else {
         return None;
     };

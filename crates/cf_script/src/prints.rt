@@ -3,7 +3,8 @@
 ghost use Rattle.std.specs.Prelude.{◌≡◌, IfOk};
 ghost use Rattle.cf_script.specs.Printed.{printed};
 
-use crate::put_events::put_event;
+use crate::event_lines::event_line;
+use crate::put_lines::put_line;
 use cf_base::{Blob, Event, OutOfMemory};
 use std::alloc::Global;
 
@@ -14,7 +15,7 @@ pub fn print(alloc: Global, events: &[Event]) -> Result<Blob, OutOfMemory>
     let mut text = Vec::new(alloc);
     let mut rest = events;
     while let [event, after @ ..] = rest {
-        put_event(alloc, &mut text, event)?;
+        put_line(&mut text, event_line(event))?;
         rest = after;
     }
     Ok(Blob::from_vec(text))

@@ -11,13 +11,15 @@ use crate::paths::path;
 use cf_base::{Event, OutOfMemory, ProviderEvent};
 use std::alloc::Global;
 
-/// `place P NUM IDENT`, with `insync` after it or not.
-pub fn place(alloc: Global, words: &[&str]) -> Result<Option<Event>, OutOfMemory>
-    ensures { IfOk result (Reads (IsPlace (map (λ w. w.now) words.now))) }
+fn place_item(
+    alloc: Global,
+    target: &str,
+    size: &str,
+    identity_word: &str,
+    flag: &[&str],
+) -> Result<Option<Event>, OutOfMemory>
+    ensures { IfOk result (Reads (IsPlace (target.now ∷ size.now ∷ identity_word.now ∷ map (λ w. w.now) flag.now))) }
 {
-    let [target, size, identity_word, flag @ ..] = words else {
-        return Ok(None);
-    };
     let Some(size) = number(size) else {
         return Ok(None);
     };
@@ -38,13 +40,25 @@ pub fn place(alloc: Global, words: &[&str]) -> Result<Option<Event>, OutOfMemory
     })))
 }
 
-/// `placedir P IDENT`, with `insync` after it or not.
-pub fn place_dir(alloc: Global, words: &[&str]) -> Result<Option<Event>, OutOfMemory>
-    ensures { IfOk result (Reads (IsPlaceDir (map (λ w. w.now) words.now))) }
+/// `place P NUM IDENT`, with `insync` after it or not.
+pub fn place(alloc: Global, words: &[&str]) -> Result<Option<Event>, OutOfMemory>
+    ensures { IfOk result (Reads (IsPlace (map (λ w. w.now) words.now))) }
 {
-    let [target, identity_word, flag @ ..] = words else {
-        return Ok(None);
-    };
+    match words {
+        [target, size, identity, flag @ ..] => place_item(alloc, target, size, identity, flag),
+        _ => Ok(None),
+    }
+}
+
+/// `placedir P IDENT`, with `insync` after it or not.
+pub fn place_dir(
+    alloc: Global,
+    target: &str,
+    identity_word: &str,
+    flag: &[&str],
+) -> Result<Option<Event>, OutOfMemory>
+    ensures { IfOk result (Reads (IsPlaceDir target.now identity_word.now (map (λ w. w.now) flag.now))) }
+{
     let Some(in_sync) = in_sync(flag) else {
         return Ok(None);
     };
@@ -62,12 +76,9 @@ pub fn place_dir(alloc: Global, words: &[&str]) -> Result<Option<Event>, OutOfMe
 }
 
 /// `convert P IDENT`.
-pub fn convert(alloc: Global, words: &[&str]) -> Result<Option<Event>, OutOfMemory>
-    ensures { IfOk result (Reads (IsConvert (map (λ w. w.now) words.now))) }
+pub fn convert(alloc: Global, target: &str, word: &str) -> Result<Option<Event>, OutOfMemory>
+    ensures { IfOk result (Reads (IsConvert target.now word.now)) }
 {
-    let [target, word] = words else {
-        return Ok(None);
-    };
     let Some(path) = path(alloc, target)? else {
         return Ok(None);
     };
@@ -129,12 +140,9 @@ pub fn update(alloc: Global, words: &[&str]) -> Result<Option<Event>, OutOfMemor
 }
 
 /// `mark P PAIR`.
-pub fn mark(alloc: Global, words: &[&str]) -> Result<Option<Event>, OutOfMemory>
-    ensures { IfOk result (Reads (IsMark (map (λ w. w.now) words.now))) }
+pub fn mark(alloc: Global, target: &str, word: &str) -> Result<Option<Event>, OutOfMemory>
+    ensures { IfOk result (Reads (IsMark target.now word.now)) }
 {
-    let [target, word] = words else {
-        return Ok(None);
-    };
     let Some(number) = usn(word) else {
         return Ok(None);
     };

@@ -1,117 +1,138 @@
-//! Lines of the forms that many events have.
+//! Lines, put at the end of a text.
 
-ghost use Rattle.std.specs.Prelude.{◌≡◌, ℕ, List, [], ◌∷◌, ◌++◌, map, OnOk};
-ghost use Rattle.std.specs.Fmt.{decimal};
-ghost use Rattle.cf_script.specs.Words.{escaped};
-ghost use Rattle.cf_script.specs.Printed.{key_text, spaced, line_of};
+ghost use Rattle.std.specs.Prelude.{◌≡◌, [], ◌∷◌, ◌++◌, OnOk};
+ghost use Rattle.cf_script.specs.Names.{modifier_words, flag_words};
+ghost use Rattle.cf_script.specs.Printed.{entry_text, entry_words, line_of, mark_text, plan_key_text, rest_text, spaced};
+ghost use Rattle.cf_script.specs.Lines.{field_words, line_words, words_of};
 
-use crate::texts::{key_text, number_text, path_text};
-use cf_base::{Key, OutOfMemory, Text};
-use std::alloc::Global;
+use crate::printed_lines::{Field, Line};
+use crate::texts::{
+    kind_text, push_bytes, push_data, push_data_word, push_name, push_number, push_number_word,
+    push_pair_word, push_path_word, push_word,
+};
+use cf_base::{Key, NewItem, OutOfMemory};
 
-fn put_spaced(text: &mut Vec<u8>, words: &[&[u8]]) -> Result<(), OutOfMemory>
-    ensures { OnOk result (text.new.items ≡ text.old.items ++ spaced (map (λ w. w.now) words.now)) }
+fn push_flag(text: &mut Vec<u8>, word: &str, on: bool) -> Result<(), OutOfMemory>
+    ensures { OnOk result (text.new.items ≡ text.old.items ++ spaced (flag_words word.now on)) }
 {
-    let mut rest = words;
-    while let [word, after @ ..] = rest {
-        text.push(b' ')?;
-        text.extend_from_slice(word)?;
-        rest = after;
+    if on {
+        return push_word(text, word);
     }
     Ok(())
 }
 
-/// A line of these words.
-pub fn put_line(text: &mut Vec<u8>, first: &str, words: &[&[u8]]) -> Result<(), OutOfMemory>
-    ensures { OnOk result (text.new.items ≡ text.old.items ++ line_of (first.now ∷ map (λ w. w.now) words.now) ++ 10 ∷ []) }
+#[tactic(auto, using(crate::proofs::Bytes::joins, crate::proofs::Bytes::spaced_append))]
+fn push_modifiers(
+    text: &mut Vec<u8>,
+    validate: bool,
+    restart: bool,
+    auto: bool,
+) -> Result<(), OutOfMemory>
+    ensures { OnOk result (text.new.items ≡ text.old.items ++ spaced (modifier_words validate restart auto)) }
 {
-    text.extend_from_slice(first.as_bytes())?;
-    put_spaced(text, words)?;
+    push_flag(text, "validate", validate)?;
+    push_flag(text, "restart", restart)?;
+    push_flag(text, "auto", auto)
+}
+
+fn push_ask(text: &mut Vec<u8>, own: bool, key: Key) -> Result<(), OutOfMemory>
+    ensures { OnOk result (text.new.items ≡ text.old.items ++ 32 ∷ plan_key_text own key) }
+{
+    if own {
+        return push_word(text, "self");
+    }
+    push_pair_word(text, key.epoch, key.number)
+}
+
+/// The fields of an entry after its name and its kind; the size of a directory is not written.
+#[tactic(auto, using(crate::proofs::Bytes::joins))]
+fn push_rest(text: &mut Vec<u8>, item: &NewItem) -> Result<(), OutOfMemory>
+    ensures { OnOk result (text.new.items ≡ text.old.items ++ rest_text item.now item.now.dir) }
+{
+    if item.dir {
+        return push_data(text, item.identity.as_slice());
+    }
+    push_number(text, item.size)?;
+    text.push(b',')?;
+    push_data(text, item.identity.as_slice())
+}
+
+fn mark_text(mark: bool) -> &'static str
+    ensures { result.now ≡ mark_text mark }
+{
+    if mark { ",insync" } else { "" }
+}
+
+#[tactic(auto, using(crate::proofs::Bytes::joins))]
+fn push_entry(text: &mut Vec<u8>, item: &NewItem) -> Result<(), OutOfMemory>
+    ensures { OnOk result (text.new.items ≡ text.old.items ++ entry_text item.now) }
+{
+    push_name(text, item.name.as_slice())?;
+    text.push(b',')?;
+    push_bytes(text, kind_text(item.dir).as_bytes())?;
+    text.push(b',')?;
+    push_rest(text, item)?;
+    push_bytes(text, mark_text(item.mark).as_bytes())
+}
+
+/// Entries, each behind a space.
+fn push_entries(text: &mut Vec<u8>, list: &[NewItem]) -> Result<(), OutOfMemory>
+    ensures { OnOk result (text.new.items ≡ text.old.items ++ spaced (entry_words list.now)) }
+{
+    for item in list {
+        text.push(b' ')?;
+        push_entry(text, item)?;
+    }
+    Ok(())
+}
+
+/// A field, a space before each word of it.
+fn push_field<'a>(text: &mut Vec<u8>, field: &Field<'a>) -> Result<(), OutOfMemory>
+    ensures { OnOk result (text.new.items ≡ text.old.items ++ spaced (field_words field.now)) }
+{
+    match field {
+        Field::Word(word) => push_word(text, word),
+        Field::Path(path) => push_path_word(text, path),
+        Field::Bytes(bytes) => push_data_word(text, bytes),
+        Field::Number(number) => push_number_word(text, *number),
+        Field::Key(key) => push_pair_word(text, key.epoch, key.number),
+        Field::Usn(usn) => push_pair_word(text, usn.epoch, usn.place),
+        Field::Ask(own, key) => push_ask(text, *own, *key),
+        Field::Modifiers(validate, restart, auto) => {
+            push_modifiers(text, *validate, *restart, *auto)
+        }
+        Field::Entries(list) => push_entries(text, list),
+    }
+}
+
+fn push_fields<'a>(text: &mut Vec<u8>, fields: &[Field<'a>]) -> Result<(), OutOfMemory>
+    ensures { OnOk result (text.new.items ≡ text.old.items ++ spaced (words_of fields.now)) }
+{
+    for field in fields {
+        push_field(text, field)?;
+    }
+    Ok(())
+}
+
+fn push_line<'a>(text: &mut Vec<u8>, word: &str, fields: &[Field<'a>]) -> Result<(), OutOfMemory>
+    ensures { OnOk result (text.new.items ≡ text.old.items ++ line_of (word.now ∷ words_of fields.now) ++ 10 ∷ []) }
+{
+    push_bytes(text, word.as_bytes())?;
+    push_fields(text, fields)?;
     text.push(b'\n')?;
     Ok(())
 }
 
-/// A line of these words and of what follows them.
-pub fn put_long_line(
-    text: &mut Vec<u8>,
-    first: &str,
-    words: &[&[u8]],
-    more: &[u8],
-) -> Result<(), OutOfMemory>
-    ensures { OnOk result (text.new.items ≡ text.old.items ++ line_of (first.now ∷ map (λ w. w.now) words.now) ++ more.now ++ 10 ∷ []) }
+/// Puts a line with its end at the end of the text.
+pub fn put_line<'a>(text: &mut Vec<u8>, line: Line<'a>) -> Result<(), OutOfMemory>
+    ensures { OnOk result (text.new.items ≡ text.old.items ++ line_of (line_words line.entry) ++ 10 ∷ []) }
 {
-    text.extend_from_slice(first.as_bytes())?;
-    put_spaced(text, words)?;
-    text.extend_from_slice(more)?;
-    text.push(b'\n')?;
-    Ok(())
-}
-
-/// A word and a path.
-pub fn put_path(
-    alloc: Global,
-    text: &mut Vec<u8>,
-    word: &str,
-    path: &Text,
-) -> Result<(), OutOfMemory>
-    ensures { OnOk result (text.new.items ≡ text.old.items ++ line_of (word.now ∷ escaped path.now ∷ []) ++ 10 ∷ []) }
-{
-    let path = path_text(alloc, path)?;
-    put_line(text, word, &[path.as_slice()])
-}
-
-/// A word, a path and one more word.
-pub fn put_path_and(
-    alloc: Global,
-    text: &mut Vec<u8>,
-    word: &str,
-    path: &Text,
-    last: &[u8],
-) -> Result<(), OutOfMemory>
-    ensures { OnOk result (text.new.items ≡ text.old.items ++ line_of (word.now ∷ escaped path.now ∷ last.now ∷ []) ++ 10 ∷ []) }
-{
-    let path = path_text(alloc, path)?;
-    put_line(text, word, &[path.as_slice(), last])
-}
-
-/// A word, a path, an offset and a length.
-pub fn put_path_span(
-    alloc: Global,
-    text: &mut Vec<u8>,
-    word: &str,
-    path: &Text,
-    offset: u32,
-    len: u32,
-) -> Result<(), OutOfMemory>
-    ensures { OnOk result (text.new.items ≡ text.old.items ++ line_of (word.now ∷ escaped path.now ∷ decimal offset ∷ decimal len ∷ []) ++ 10 ∷ []) }
-{
-    let path = path_text(alloc, path)?;
-    let offset = number_text(alloc, offset as u64)?;
-    let len = number_text(alloc, len as u64)?;
-    put_line(
-        text,
-        word,
-        &[path.as_slice(), offset.as_slice(), len.as_slice()],
-    )
-}
-
-/// A word and a number.
-pub fn put_number(
-    alloc: Global,
-    text: &mut Vec<u8>,
-    word: &str,
-    number: u32,
-) -> Result<(), OutOfMemory>
-    ensures { OnOk result (text.new.items ≡ text.old.items ++ line_of (word.now ∷ decimal number ∷ []) ++ 10 ∷ []) }
-{
-    let number = number_text(alloc, number as u64)?;
-    put_line(text, word, &[number.as_slice()])
-}
-
-/// A word and a key.
-pub fn put_key(alloc: Global, text: &mut Vec<u8>, word: &str, key: Key) -> Result<(), OutOfMemory>
-    ensures { OnOk result (text.new.items ≡ text.old.items ++ line_of (word.now ∷ key_text key ∷ []) ++ 10 ∷ []) }
-{
-    let key = key_text(alloc, key)?;
-    put_line(text, word, &[key.as_slice()])
+    match line {
+        Line::Bare(word) => push_line(text, word, &[]),
+        Line::One(word, a) => push_line(text, word, &[a]),
+        Line::Two(word, a, b) => push_line(text, word, &[a, b]),
+        Line::Three(word, a, b, c) => push_line(text, word, &[a, b, c]),
+        Line::Four(word, a, b, c, d) => push_line(text, word, &[a, b, c, d]),
+        Line::Five(word, a, b, c, d, e) => push_line(text, word, &[a, b, c, d, e]),
+    }
 }

@@ -53,16 +53,13 @@ fn path_event(command: PathCommand, path: Text) -> Event
 }
 
 /// A word and a path.
-pub fn on_path(
+pub fn path_line(
     alloc: Global,
     command: PathCommand,
-    words: &[&str],
+    target: &str,
 ) -> Result<Option<Event>, OutOfMemory>
-    ensures { IfOk result (Reads (IsPathLine command (map (λ w. w.now) words.now))) }
+    ensures { IfOk result (Reads (IsPathLine command target.now)) }
 {
-    let [target] = words else {
-        return Ok(None);
-    };
     let Some(path) = path(alloc, target)? else {
         return Ok(None);
     };
@@ -81,12 +78,9 @@ fn number_event(command: NumberCommand, number: u32) -> Event
 }
 
 /// A word and a number.
-pub fn on_number(command: NumberCommand, words: &[&str]) -> Option<Event>
-    ensures { Reads (IsNumberLine command (map (λ w. w.now) words.now)) result }
+pub fn number_line(command: NumberCommand, word: &str) -> Option<Event>
+    ensures { Reads (IsNumberLine command word.now) result }
 {
-    let [word] = words else {
-        return None;
-    };
     let Some(number) = number(word) else {
         return None;
     };

@@ -1,103 +1,123 @@
 //! The words that values are written as.
 
-ghost use Rattle.std.specs.Prelude.{◌≡◌, ℕ, List, ◌++◌, IfOk, OnOk};
+ghost use Rattle.std.specs.Prelude.{◌≡◌, ◌∷◌, ◌++◌, OnOk};
 ghost use Rattle.std.specs.Fmt.{decimal};
 ghost use Rattle.cf_script.specs.Words.{plain_text, pair_text, escape_byte, escaped};
 ghost use Rattle.cf_script.specs.Names.{pin_name, class_name, hydration_name, population_name, yes_name, good_name, link_name, entry_kind};
 ghost use Rattle.cf_script.specs.Forms.{escape_name_byte, escaped_name};
-ghost use Rattle.cf_script.specs.Printed.{key_text};
 
-use cf_base::{Blob, Class, Hydration, Key, OutOfMemory, Pin, Population, Text, Usn};
-use std::alloc::Global;
+use cf_base::{Class, Hydration, OutOfMemory, Pin, Population, Text};
+use itoa::Buffer;
 
-/// A number.
-pub fn number_text(alloc: Global, number: u64) -> Result<Blob, OutOfMemory>
-    ensures { IfOk result (λ t. t ≡ decimal number) }
+/// Puts bytes as they are.
+pub fn push_bytes(text: &mut Vec<u8>, bytes: &[u8]) -> Result<(), OutOfMemory>
+    ensures { OnOk result (text.new.items ≡ text.old.items ++ bytes.now) }
 {
-    let text = number.to_string(alloc)?;
-    Ok(Blob::from_slice(alloc, text.as_bytes())?)
+    text.extend_from_slice(bytes)?;
+    Ok(())
 }
 
-fn pair_text(alloc: Global, first: u32, second: u32) -> Result<Blob, OutOfMemory>
-    ensures { IfOk result (λ t. t ≡ pair_text first second) }
+/// Puts a space and a word.
+pub fn push_word(text: &mut Vec<u8>, word: &str) -> Result<(), OutOfMemory>
+    ensures { OnOk result (text.new.items ≡ text.old.items ++ 32 ∷ word.now) }
 {
-    let text = format!(in alloc; "{first}.{second}")?;
-    Ok(Blob::from_slice(alloc, text.as_bytes())?)
+    text.push(b' ')?;
+    push_bytes(text, word.as_bytes())
 }
 
-/// A key.
-pub fn key_text(alloc: Global, key: Key) -> Result<Blob, OutOfMemory>
-    ensures { IfOk result (λ t. t ≡ key_text key) }
+/// Puts a number.
+pub fn push_number(text: &mut Vec<u8>, number: u64) -> Result<(), OutOfMemory>
+    ensures { OnOk result (text.new.items ≡ text.old.items ++ decimal number) }
 {
-    pair_text(alloc, key.epoch, key.number)
+    let mut buffer = Buffer::new();
+    let digits = buffer.format(number);
+    push_bytes(text, digits.as_bytes())
 }
 
-/// A sequence number.
-pub fn usn_text(alloc: Global, usn: Usn) -> Result<Blob, OutOfMemory>
-    ensures { IfOk result (λ t. t ≡ pair_text usn.epoch usn.place) }
+/// Puts a space and a number.
+pub fn push_number_word(text: &mut Vec<u8>, number: u64) -> Result<(), OutOfMemory>
+    ensures { OnOk result (text.new.items ≡ text.old.items ++ 32 ∷ decimal number) }
 {
-    pair_text(alloc, usn.epoch, usn.place)
+    text.push(b' ')?;
+    push_number(text, number)
 }
 
-/// Bytes, in pairs of digits.
-pub fn data_text(alloc: Global, bytes: &[u8]) -> Result<Blob, OutOfMemory>
-    ensures { IfOk result (λ t. t ≡ plain_text bytes.now) }
+/// Puts a space and two numbers with a dot between, as of a key or of a sequence number.
+pub fn push_pair_word(text: &mut Vec<u8>, first: u32, second: u32) -> Result<(), OutOfMemory>
+    ensures { OnOk result (text.new.items ≡ text.old.items ++ 32 ∷ pair_text first second) }
+{
+    push_number_word(text, first as u64)?;
+    text.push(b'.')?;
+    push_number(text, second as u64)
+}
+
+/// Puts bytes in pairs of digits, or a hyphen for none.
+pub fn push_data(text: &mut Vec<u8>, bytes: &[u8]) -> Result<(), OutOfMemory>
+    ensures { OnOk result (text.new.items ≡ text.old.items ++ plain_text bytes.now) }
 {
     if bytes.is_empty() {
-        return Blob::from_slice(alloc, b"-");
+        return push_bytes(text, b"-");
     }
-    let text = hex::encode(alloc, bytes)?;
-    Ok(Blob::from_slice(alloc, text.as_bytes())?)
+    let alloc = *text.allocator();
+    let digits = hex::encode(alloc, bytes)?;
+    push_bytes(text, digits.as_bytes())
 }
 
-fn put_path_byte(text: &mut Vec<u8>, byte: u8) -> Result<(), OutOfMemory>
+/// Puts a space, and bytes in pairs of digits, or a hyphen for none.
+pub fn push_data_word(text: &mut Vec<u8>, bytes: &[u8]) -> Result<(), OutOfMemory>
+    ensures { OnOk result (text.new.items ≡ text.old.items ++ 32 ∷ plain_text bytes.now) }
+{
+    text.push(b' ')?;
+    push_data(text, bytes)
+}
+
+fn push_path_byte(text: &mut Vec<u8>, byte: u8) -> Result<(), OutOfMemory>
     ensures { OnOk result (text.new.items ≡ text.old.items ++ escape_byte byte) }
 {
     if byte == b' ' {
-        text.extend_from_slice(b"%20")?;
-    } else if byte == b'%' {
-        text.extend_from_slice(b"%25")?;
-    } else {
-        text.push(byte)?;
+        return push_bytes(text, b"%20");
+    }
+    if byte == b'%' {
+        return push_bytes(text, b"%25");
+    }
+    text.push(byte)?;
+    Ok(())
+}
+
+fn push_path(text: &mut Vec<u8>, path: &[u8]) -> Result<(), OutOfMemory>
+    ensures { OnOk result (text.new.items ≡ text.old.items ++ escaped path.now) }
+{
+    for byte in path {
+        push_path_byte(text, *byte)?;
     }
     Ok(())
 }
 
-/// A path.
-pub fn path_text(alloc: Global, path: &Text) -> Result<Blob, OutOfMemory>
-    ensures { IfOk result (λ t. t ≡ escaped path.now) }
+/// Puts a space and a path with its escapes.
+pub fn push_path_word(text: &mut Vec<u8>, path: &Text) -> Result<(), OutOfMemory>
+    ensures { OnOk result (text.new.items ≡ text.old.items ++ 32 ∷ escaped path.now) }
 {
-    let path = path.as_str().as_bytes();
-    let mut text = Vec::with_capacity(alloc, path.len())?;
-    let mut rest = path;
-    while let [byte, after @ ..] = rest {
-        put_path_byte(&mut text, *byte)?;
-        rest = after;
-    }
-    Ok(Blob::from_vec(text))
+    text.push(b' ')?;
+    push_path(text, path.as_str().as_bytes())
 }
 
-fn put_name_byte(text: &mut Vec<u8>, byte: u8) -> Result<(), OutOfMemory>
+fn push_name_byte(text: &mut Vec<u8>, byte: u8) -> Result<(), OutOfMemory>
     ensures { OnOk result (text.new.items ≡ text.old.items ++ escape_name_byte byte) }
 {
     if byte == b',' {
-        text.extend_from_slice(b"%2c")?;
-        return Ok(());
+        return push_bytes(text, b"%2c");
     }
-    put_path_byte(text, byte)
+    push_path_byte(text, byte)
 }
 
-/// The name of an entry.
-pub fn name_text(alloc: Global, name: &[u8]) -> Result<Blob, OutOfMemory>
-    ensures { IfOk result (λ t. t ≡ escaped_name name.now) }
+/// Puts the name of an entry with its escapes.
+pub fn push_name(text: &mut Vec<u8>, name: &[u8]) -> Result<(), OutOfMemory>
+    ensures { OnOk result (text.new.items ≡ text.old.items ++ escaped_name name.now) }
 {
-    let mut text = Vec::with_capacity(alloc, name.len())?;
-    let mut rest = name;
-    while let [byte, after @ ..] = rest {
-        put_name_byte(&mut text, *byte)?;
-        rest = after;
+    for byte in name {
+        push_name_byte(text, *byte)?;
     }
-    Ok(Blob::from_vec(text))
+    Ok(())
 }
 
 /// A pin state.

@@ -1,4 +1,4 @@
-use Rattle.std.proofs.Common.{sym, ◌∙◌, arith, length, ◌≡◌, ap}
+use Rattle.std.proofs.Common.{sym, ◌∙◌, length, ap}
 use Rattle.cf_script.proofs.DataMeans.{not_one, byte_reads}
 use Rattle.cf_script.proofs.data.one_byte.Goals as goal
 

@@ -1,4 +1,4 @@
-use Rattle.std.proofs.Common.{◌≡◌, [], ◌∷◌, ◌<◌, ◌≤◌, Some, List, Bor, ℕ, subst, sym, get_or, length, arith}
+use Rattle.std.proofs.Common.{[], ◌∷◌, ◌<◌, ◌≤◌, Some, List, Bor, ℕ, subst, get_or, length, arith}
 use Rattle.cf_base.specs.declared.operations.NewItem.{NewItem}
 use Rattle.cf_script.specs.Words.{Reads}
 use Rattle.cf_script.specs.Forms.{AreEntries}

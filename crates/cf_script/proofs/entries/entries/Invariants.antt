@@ -1,4 +1,4 @@
-use Rattle.std.proofs.Common.{◌≡◌, length, map}
+use Rattle.std.proofs.Common.{length, map}
 use Rattle.cf_script.proofs.LineMeans.{Continues}
 use Rattle.cf_script.proofs.entries.entries.Given as goal
 

@@ -1,4 +1,4 @@
-use Rattle.std.proofs.Common.{◌≡◌, sym, ◌∙◌}
+use Rattle.std.proofs.Common.{sym, ◌∙◌}
 use Rattle.cf_script.proofs.PathMeans.{not_name, name_reads}
 use Rattle.cf_script.proofs.entries.entry_name.Goals as goal
 

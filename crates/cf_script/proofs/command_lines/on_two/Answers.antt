@@ -1,0 +1,9 @@
+use Rattle.std.proofs.lemmas.Result.{IfOk-weaker}
+use Rattle.cf_script.specs.Words.{Reads}
+use Rattle.cf_script.specs.Forms.{OfTwo, IsTwoWordLine}
+use Rattle.cf_script.proofs.WordLists.{texts}
+use Rattle.cf_script.proofs.Shapes.{of_two, word_at}
+use Rattle.cf_script.proofs.command_lines.on_two.Goals as goal
+
+pub returns-in-len2 : goal.returns-in-len2
+returns-in-len2 c = IfOk-weaker c.two_word_line.result (Reads (IsTwoWordLine c.args.command (word_at 0 c.args.words.now) (word_at 1 c.args.words.now))) (Reads (OfTwo (IsTwoWordLine c.args.command) (texts c.args.words.now))) (λ o h. of_two (IsTwoWordLine c.args.command) c.args.words.now o c.in-len2.len_at_least c.in-len2.len_below h) c.two_word_line.ensures

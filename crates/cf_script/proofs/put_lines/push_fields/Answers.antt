@@ -1,0 +1,6 @@
+use Rattle.std.proofs.Common.{arith}
+use Rattle.cf_script.proofs.Bytes.{all_written, field_text, fields_flat}
+use Rattle.cf_script.proofs.put_lines.push_fields.Goals as goal
+
+pub returns : goal.returns
+returns c = all_written field_text c.args.fields.now c.loop-field.field-index c.args.text.now.items c.loop-field.text.items _ (let end = c.loop-field-test.false in omega arith) c.loop-field.invariant (fields_flat c.args.fields.now)
