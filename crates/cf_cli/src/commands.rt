@@ -1,12 +1,12 @@
 //! The commands of the program.
 
-ghost use Rattle.std.specs.Prelude.{◌≡◌, ◌≢◌, ℕ, string_bytes, map, IfOk, IsErrOf};
+ghost use Rattle.std.specs.Prelude.{◌≡◌, ◌≢◌, ℕ, Some, string_bytes, map, IfOk, IsErrOf, MatchOption};
 ghost use Rattle.clap.specs.Matches.{found_of};
 ghost use Rattle.clap.specs.Simple.{subcommand_rows_of};
 ghost use Rattle.clap.specs.Values.{kind_of};
 ghost use Rattle.clap.specs.Walk.{rows_of};
 ghost use Rattle.clap.specs.declared.error.kind.ErrorKind.TheVariants as kind;
-ghost use Rattle.cf_cli.specs.Accounts.{AreTaken, HasNumber, IsMet, Names};
+ghost use Rattle.cf_cli.specs.Accounts.{AreTaken, HasNumber, IsAlone, IsMet, Names, name_of};
 ghost use Rattle.cf_cli.specs.declared.commands.Command.{Command as Meant};
 ghost use Rattle.cf_cli.specs.declared.commands.Command.TheVariants as meant;
 ghost use Rattle.cf_cli.specs.declared.commands.WordsError.TheVariants as fails;
@@ -74,15 +74,38 @@ fn met(matches: &ArgMatches) -> Result<Command, WordsError>
     ensures usage { IsErrOf result WordsError.Usage → (c : Meant) → IsMet (subcommand_rows_of matches.now) c → ⊥ }
 {
     match matches.subcommand() {
-        Some(("replay", _)) => Ok(Command::Replay),
-        Some(("filter", _)) => Ok(Command::Filter),
-        Some(("state", _)) => Ok(Command::State),
-        Some(("image", _)) => Ok(Command::Image),
-        Some(("gen", found)) => numbered(found),
-        Some(("scrub", _)) => Ok(Command::Scrub),
-        Some(("migrate", _)) => Ok(Command::Migrate),
-        Some(("check", _)) => Ok(Command::Check),
-        _ => Err(WordsError::Usage),
+        Some((name, found)) => named(name, found),
+        None => Err(WordsError::Usage),
+    }
+}
+
+// The command of this name, with its matches.
+fn named(name: &str, found: &ArgMatches) -> Result<Command, WordsError>
+    ensures ok { IfOk result (IsMet (Some (name.now, rows_of (found_of found.now)))) }
+    ensures usage { IsErrOf result WordsError.Usage → (c : Meant) → IsMet (Some (name.now, rows_of (found_of found.now))) c → ⊥ }
+{
+    if name == "gen" {
+        return numbered(found);
+    }
+    match alone(name) {
+        Some(command) => Ok(command),
+        None => Err(WordsError::Usage),
+    }
+}
+
+// The command that is this word alone.
+fn alone(name: &str) -> Option<Command>
+    ensures { MatchOption result ((c : Meant) → IsAlone c → name.now ≢ name_of c) (λ c. IsAlone c × (name.now ≡ name_of c)) }
+{
+    match name {
+        "replay" => Some(Command::Replay),
+        "filter" => Some(Command::Filter),
+        "state" => Some(Command::State),
+        "image" => Some(Command::Image),
+        "scrub" => Some(Command::Scrub),
+        "migrate" => Some(Command::Migrate),
+        "check" => Some(Command::Check),
+        _ => None,
     }
 }
 
