@@ -2,11 +2,11 @@
 
 use cf_base::Choice;
 use cf_disk::*;
+use std::process::Abort;
 use std::test::Fail;
 
-#[test]
-fn a_power_cut_keeps_what_was_synced(rt: HostRuntime) -> Result<(), Fail> {
-    let mut disk = MemDisk::new(rt.alloc(), 8)?;
+// A disk is lent to what may fail, so that the test lets it go once.
+fn keeps_what_was_synced<R: Abort>(rt: &R, disk: &mut MemDisk) -> Result<(), Fail> {
     let mut out = [0u8; 4];
     assert!(rt; disk.size() == 8);
     disk.write(2, b"ab")?;
@@ -21,8 +21,14 @@ fn a_power_cut_keeps_what_was_synced(rt: HostRuntime) -> Result<(), Fail> {
 }
 
 #[test]
-fn a_mixed_cut_goes_by_the_generator(rt: HostRuntime) -> Result<(), Fail> {
+fn a_power_cut_keeps_what_was_synced(rt: HostRuntime) -> Result<(), Fail> {
     let mut disk = MemDisk::new(rt.alloc(), 8)?;
+    let done = keeps_what_was_synced(&rt, &mut disk);
+    drop(disk);
+    done
+}
+
+fn goes_by_the_generator<R: Abort>(rt: &R, disk: &mut MemDisk) -> Result<(), Fail> {
     let mut out = [0u8; 8];
     assert!(rt; disk.size() == 8);
     disk.write(0, b"abcd")?;
@@ -37,8 +43,14 @@ fn a_mixed_cut_goes_by_the_generator(rt: HostRuntime) -> Result<(), Fail> {
 }
 
 #[test]
-fn an_armed_disk_fails_and_keeps_its_bytes_pending(rt: HostRuntime) -> Result<(), Fail> {
+fn a_mixed_cut_goes_by_the_generator(rt: HostRuntime) -> Result<(), Fail> {
     let mut disk = MemDisk::new(rt.alloc(), 8)?;
+    let done = goes_by_the_generator(&rt, &mut disk);
+    drop(disk);
+    done
+}
+
+fn fails_and_keeps<R: Abort>(rt: &R, disk: &mut MemDisk) -> Result<(), Fail> {
     let mut out = [0u8; 2];
     disk.arm(1);
     assert!(rt; disk.size() == 8);
@@ -55,8 +67,14 @@ fn an_armed_disk_fails_and_keeps_its_bytes_pending(rt: HostRuntime) -> Result<()
 }
 
 #[test]
-fn a_traced_disk_fails_without_room_until_the_next_power(rt: HostRuntime) -> Result<(), Fail> {
-    let mut disk = TraceDisk::new(rt.alloc(), 8, 3, 4, 1)?;
+fn an_armed_disk_fails_and_keeps_its_bytes_pending(rt: HostRuntime) -> Result<(), Fail> {
+    let mut disk = MemDisk::new(rt.alloc(), 8)?;
+    let done = fails_and_keeps(&rt, &mut disk);
+    drop(disk);
+    done
+}
+
+fn fails_without_room<R: Abort>(rt: &R, disk: &mut TraceDisk) -> Result<(), Fail> {
     let mut out = [0u8; 2];
     assert!(rt; disk.size() == 8);
     disk.write(2, b"abc")?;
@@ -74,4 +92,12 @@ fn a_traced_disk_fails_without_room_until_the_next_power(rt: HostRuntime) -> Res
     disk.arm(0);
     assert_eq!(rt; disk.sync(), Err(DiskError));
     Ok(())
+}
+
+#[test]
+fn a_traced_disk_fails_without_room_until_the_next_power(rt: HostRuntime) -> Result<(), Fail> {
+    let mut disk = TraceDisk::new(rt.alloc(), 8, 3, 4, 1)?;
+    let done = fails_without_room(&rt, &mut disk);
+    drop(disk);
+    done
 }

@@ -10,37 +10,50 @@ use cf_codec::Format;
 use cf_disk::{Disk, MemDisk, TraceDisk};
 use cf_journal::*;
 use std::alloc::Global;
+use std::process::Abort;
 use std::test::Fail;
 
 const SIZE: u64 = 3_145_728;
 
-#[test]
-fn a_record_comes_back(rt: HostRuntime) -> Result<(), Fail> {
-    let mut disk = MemDisk::new(rt.alloc(), SIZE)?;
+fn has_record(opened: &Opened) -> bool {
+    let payloads = opened.payloads.as_slice();
+    opened.format == Format::Second
+        && opened.image.as_slice() == [0].as_slice()
+        && payloads.len() == 1
+        && payloads[0].as_slice() == b"ab".as_slice()
+}
+
+// A disk is lent to what may fail, so that the test lets it go once.
+fn comes_back<R: Abort>(rt: &R, alloc: Global, disk: &mut MemDisk) -> Result<(), Fail> {
     assert!(rt; disk.size() == SIZE);
-    let mut journal = Journal::format(&mut disk, &[0])?;
+    let mut journal = Journal::format(disk, &[0])?;
     assert!(rt; disk.size() == SIZE);
     assert!(rt; journal.fits(2));
-    journal.append(&mut disk, b"ab")?;
+    journal.append(disk, b"ab")?;
     disk.power(Choice::Drop);
     assert!(rt; disk.size() == SIZE);
-    let opened = Journal::open(rt.alloc(), &mut disk)?;
-    assert_eq!(rt; opened.format, Format::Second);
-    assert_eq!(rt; opened.image.as_slice(), [0].as_slice());
-    assert_eq!(rt; opened.payloads.as_slice().len(), 1);
-    assert_eq!(rt; opened.payloads.as_slice()[0].as_slice(), b"ab".as_slice());
+    let opened = Journal::open(alloc, disk)?;
+    let same = has_record(&opened);
+    drop(opened);
+    assert!(rt; same);
     Ok(())
 }
 
 #[test]
-fn a_slot_is_spelled_so(rt: HostRuntime) -> Result<(), Fail> {
+fn a_record_comes_back(rt: HostRuntime) -> Result<(), Fail> {
     let mut disk = MemDisk::new(rt.alloc(), SIZE)?;
+    let done = comes_back(&rt, rt.alloc(), &mut disk);
+    drop(disk);
+    done
+}
+
+fn is_spelled_so<R: Abort>(rt: &R, disk: &mut MemDisk) -> Result<(), Fail> {
     let mut header = [0u8; 28];
     let mut image = [0u8; 3];
     assert!(rt; disk.size() == SIZE);
-    let mut journal = Journal::format(&mut disk, b"one")?;
+    let mut journal = Journal::format(disk, b"one")?;
     assert!(rt; disk.size() == SIZE);
-    journal.rewrite(&mut disk, b"two")?;
+    journal.rewrite(disk, b"two")?;
     assert!(rt; disk.size() == SIZE);
     disk.read(1_572_864, &mut header)?;
     assert!(rt; disk.size() == SIZE);
@@ -57,12 +70,26 @@ fn a_slot_is_spelled_so(rt: HostRuntime) -> Result<(), Fail> {
 }
 
 #[test]
-fn zeros_are_no_volume(rt: HostRuntime) -> Result<(), Fail> {
+fn a_slot_is_spelled_so(rt: HostRuntime) -> Result<(), Fail> {
     let mut disk = MemDisk::new(rt.alloc(), SIZE)?;
+    let done = is_spelled_so(&rt, &mut disk);
+    drop(disk);
+    done
+}
+
+fn is_no_volume<R: Abort>(rt: &R, alloc: Global, disk: &mut MemDisk) -> Result<(), Fail> {
     assert!(rt; disk.size() == SIZE);
-    let opened = Journal::open(rt.alloc(), &mut disk);
+    let opened = Journal::open(alloc, disk);
     assert!(rt; matches!(opened, Err(JournalError::NotAVolume)));
     Ok(())
+}
+
+#[test]
+fn zeros_are_no_volume(rt: HostRuntime) -> Result<(), Fail> {
+    let mut disk = MemDisk::new(rt.alloc(), SIZE)?;
+    let done = is_no_volume(&rt, rt.alloc(), &mut disk);
+    drop(disk);
+    done
 }
 
 // Whether a device that fails after that many calls of an append or a rewrite, and then loses its power, leaves the content
@@ -94,6 +121,7 @@ fn leaves_before_or_after<D: Disk>(
     } else {
         image == b"new".as_slice() && records == 0
     };
+    drop(opened);
     Ok(done == succeeds && (after || (before && !done)))
 }
 
@@ -129,31 +157,45 @@ fn all_leave_before_or_after<D: Disk>(
     Ok(true)
 }
 
+fn cuts_leave_it<R: Abort, D: Disk>(
+    rt: &R,
+    alloc: Global,
+    disk: &mut D,
+    choices: [Choice; 2],
+) -> Result<(), Fail> {
+    for choice in choices {
+        assert!(rt; all_leave_before_or_after(alloc, disk, choice)?);
+    }
+    Ok(())
+}
+
 #[test]
 fn a_cut_in_memory_leaves_the_content_before_or_after(rt: HostRuntime) -> Result<(), Fail> {
     let mut disk = MemDisk::new(rt.alloc(), SIZE)?;
-    for choice in [Choice::Keep, Choice::Drop] {
-        assert!(rt; all_leave_before_or_after(rt.alloc(), &mut disk, choice)?);
-    }
-    Ok(())
+    let done = cuts_leave_it(&rt, rt.alloc(), &mut disk, [Choice::Keep, Choice::Drop]);
+    drop(disk);
+    done
 }
 
 #[test]
 fn a_cut_in_memory_that_mixes_bytes_does_too(rt: HostRuntime) -> Result<(), Fail> {
     let mut disk = MemDisk::new(rt.alloc(), SIZE)?;
-    for choice in [Choice::Mix(1), Choice::Mix(77)] {
-        assert!(rt; all_leave_before_or_after(rt.alloc(), &mut disk, choice)?);
-    }
-    Ok(())
+    let done = cuts_leave_it(
+        &rt,
+        rt.alloc(),
+        &mut disk,
+        [Choice::Mix(1), Choice::Mix(77)],
+    );
+    drop(disk);
+    done
 }
 
 #[test]
 fn a_cut_of_a_traced_disk_does_too(rt: HostRuntime) -> Result<(), Fail> {
     let mut disk = TraceDisk::new(rt.alloc(), SIZE, 64, 1_000_000, 1)?;
-    for choice in [Choice::Keep, Choice::Mix(5)] {
-        assert!(rt; all_leave_before_or_after(rt.alloc(), &mut disk, choice)?);
-    }
-    Ok(())
+    let done = cuts_leave_it(&rt, rt.alloc(), &mut disk, [Choice::Keep, Choice::Mix(5)]);
+    drop(disk);
+    done
 }
 
 // Whether a formatting that is cut after that many of its twelve calls leaves what stood there before, no volume, or the new
@@ -179,6 +221,7 @@ fn formats_or_not<D: Disk>(
     let image = opened.image.as_slice();
     let old = image == b"old".as_slice();
     let new = image == b"new".as_slice();
+    drop(opened);
     Ok(done == (calls == 12) && (new || (old && calls < 3)))
 }
 
@@ -197,16 +240,31 @@ fn opens_again<D: Disk>(
     let done = Journal::open(alloc, disk).is_ok();
     disk.power(choice);
     let opened = Journal::open(alloc, disk)?;
-    Ok(done == (calls == 5) && opened.image.as_slice() == b"old".as_slice())
+    let old = opened.image.as_slice() == b"old".as_slice();
+    drop(opened);
+    Ok(done == (calls == 5) && old)
+}
+
+fn is_formatted_or_not<R: Abort>(rt: &R, alloc: Global, disk: &mut MemDisk) -> Result<(), Fail> {
+    for calls in 0..13 {
+        for choice in [Choice::Keep, Choice::Drop, Choice::Mix(3)] {
+            assert!(rt; formats_or_not(alloc, disk, calls, choice)?);
+        }
+    }
+    Ok(())
 }
 
 #[test]
 fn a_cut_formatting_leaves_the_old_none_or_the_new(rt: HostRuntime) -> Result<(), Fail> {
     let mut disk = MemDisk::new(rt.alloc(), SIZE)?;
-    for calls in 0..13 {
-        for choice in [Choice::Keep, Choice::Drop, Choice::Mix(3)] {
-            assert!(rt; formats_or_not(rt.alloc(), &mut disk, calls, choice)?);
-        }
+    let done = is_formatted_or_not(&rt, rt.alloc(), &mut disk);
+    drop(disk);
+    done
+}
+
+fn stays_when_opened<R: Abort>(rt: &R, alloc: Global, disk: &mut MemDisk) -> Result<(), Fail> {
+    for calls in 0..6 {
+        assert!(rt; opens_again(alloc, disk, calls, Choice::Mix(9))?);
     }
     Ok(())
 }
@@ -214,8 +272,7 @@ fn a_cut_formatting_leaves_the_old_none_or_the_new(rt: HostRuntime) -> Result<()
 #[test]
 fn a_cut_opening_leaves_the_content(rt: HostRuntime) -> Result<(), Fail> {
     let mut disk = MemDisk::new(rt.alloc(), SIZE)?;
-    for calls in 0..6 {
-        assert!(rt; opens_again(rt.alloc(), &mut disk, calls, Choice::Mix(9))?);
-    }
-    Ok(())
+    let done = stays_when_opened(&rt, rt.alloc(), &mut disk);
+    drop(disk);
+    done
 }
