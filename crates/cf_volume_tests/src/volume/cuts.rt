@@ -3,11 +3,9 @@
 ghost use Rattle.std.specs.Prelude.{◌≤◌};
 
 use crate::volume::edits::Edit;
-use crate::volume::scripts::{Step, played};
-use crate::volume::steps::{commit, edit, has_bytes, open};
-use cf_base::{CallError as Refusal, Choice, Code, ItemId, Kind};
+use crate::volume::steps::{edit, format, has_bytes, open, tried};
+use cf_base::{CallError as Refusal, Choice, Code, ItemId};
 use cf_disk::{Disk, MemDisk, TraceDisk};
-use cf_journal::Journal;
 use cf_volume::Volume;
 use std::alloc::Global;
 use std::test::Fail;
@@ -23,7 +21,7 @@ const FILE: ItemId = ItemId(2);
 const OTHER: ItemId = ItemId(3);
 
 // What is called while calls of the disk are counted.
-#[derive(Clone, Copy, Debug, PartialEq, Eq)]
+#[derive(Clone, Copy)]
 enum Call {
     Write,
     Commit,
@@ -31,15 +29,15 @@ enum Call {
     MakeRoom,
 }
 
-// What a power cut leaves: how many changes, whether the other file is there, and whether the file was written over.
-#[derive(Clone, Copy, Debug, PartialEq, Eq)]
+// What a power cut leaves: how many changes, whether the other file is there, and the byte of the file.
+#[derive(Clone, Copy, PartialEq)]
 struct Left {
     count: u64,
     other: bool,
-    over: bool,
+    byte: u8,
 }
 
-#[derive(Clone, Copy, Debug, PartialEq, Eq)]
+#[derive(Clone, Copy, PartialEq)]
 enum Outcome {
     Done,
     Failed,
@@ -49,7 +47,7 @@ enum Outcome {
 const BEFORE: Left = Left {
     count: 4,
     other: true,
-    over: false,
+    byte: 1,
 };
 
 fn after(call: Call) -> Left {
@@ -58,28 +56,30 @@ fn after(call: Call) -> Left {
         Call::Commit => Left {
             count: 5,
             other: true,
-            over: true,
+            byte: 2,
         },
         Call::MakeRoom => Left {
             count: 5,
             other: false,
-            over: false,
+            byte: 1,
         },
     }
 }
 
-// The last point has two files with a byte in each.
-const START: [Step; 5] = [
-    Step::Do(Edit::Make(Kind::File, b'a', 0)),
-    Step::Do(Edit::Make(Kind::File, b'b', 0)),
-    Step::Do(Edit::Write(2, 0, 1, 1)),
-    Step::Do(Edit::Write(3, 0, 1, 1)),
-    Step::Commit(4),
-];
-
 const OVER: Edit = Edit::Write(2, 0, 1, 2);
 
+// The last point has two files with a byte 1 in each.
+fn start<D: Disk>(alloc: Global, volume: &mut Volume<D>) -> Result<(), Refusal> {
+    edit(alloc, volume, Edit::Make(b'a'))?;
+    edit(alloc, volume, Edit::Make(b'b'))?;
+    edit(alloc, volume, Edit::Write(2, 0, 1, 1))?;
+    edit(alloc, volume, Edit::Write(3, 0, 1, 1))?;
+    volume.commit()?;
+    Ok(())
+}
+
 fn prepare<D: Disk>(alloc: Global, volume: &mut Volume<D>, call: Call) -> Result<(), Refusal> {
+    start(alloc, volume)?;
     match call {
         Call::Write => {}
         Call::Commit => {
@@ -95,49 +95,84 @@ fn prepare<D: Disk>(alloc: Global, volume: &mut Volume<D>, call: Call) -> Result
 fn succeeds<D: Disk>(alloc: Global, volume: &mut Volume<D>, call: Call) -> bool {
     match call {
         Call::Write | Call::MakeRoom => edit(alloc, volume, OVER).is_ok(),
-        Call::Commit => commit(volume).is_ok(),
+        Call::Commit => volume.commit().is_ok(),
     }
 }
 
 // Whether the volume does nothing any more.
 fn is_broken<D: Disk>(alloc: Global, volume: &mut Volume<D>) -> bool {
-    commit(volume) == Err(Refusal::No(Code::Broken))
+    volume.commit() == Err(Refusal::No(Code::Broken))
         && edit(alloc, volume, OVER) == Err(Refusal::No(Code::Broken))
 }
 
-fn cut_power<D: Disk + Drop>(alloc: Global, disk: D, choice: Choice) -> Result<(D, Left), Refusal> {
+// Whether the call succeeds that is stopped after so many calls of the disk; none where it fails and the volume goes on.
+fn stopped<D: Disk>(
+    alloc: Global,
+    volume: &mut Volume<D>,
+    call: Call,
+    calls: u32,
+) -> Result<Option<bool>, Refusal> {
+    prepare(alloc, volume, call)?;
+    volume.arm(calls);
+    if succeeds(alloc, volume, call) {
+        return Ok(Some(true));
+    }
+    Ok(if is_broken(alloc, volume) {
+        Some(false)
+    } else {
+        None
+    })
+}
+
+// The byte is 0 where the file has neither of the two.
+fn seen<D: Disk>(volume: &mut Volume<D>) -> Result<Left, Refusal> {
+    let over = has_bytes(volume, FILE, 0, 1, 2)?;
+    let old = has_bytes(volume, FILE, 0, 1, 1)?;
+    Ok(Left {
+        count: volume.count(),
+        other: volume.row(OTHER).is_some(),
+        byte: if over {
+            2
+        } else if old {
+            1
+        } else {
+            0
+        },
+    })
+}
+
+fn left_by<D: Disk + Drop>(alloc: Global, disk: D, choice: Choice) -> Result<Left, Refusal> {
     let mut disk = disk;
     disk.power(choice);
     let mut volume = open(alloc, disk)?;
-    let over = has_bytes(&mut volume, FILE, 0, 1, 2)?;
-    let left = Left {
-        count: volume.count(),
-        other: volume.row(OTHER).is_some(),
-        over: over || !has_bytes(&mut volume, FILE, 0, 1, 1)?,
-    };
-    Ok((volume.into_disk(), left))
+    let left = seen(&mut volume);
+    drop(volume);
+    left
 }
 
-// A call that is cut after that many calls of the disk: it succeeds, or breaks the volume; a crash leaves the last point or
-// the one that the call makes, which it leaves where it succeeded.
+// A call that is cut succeeds, or breaks the volume; a crash leaves the last point or the one that the call makes, which it
+// leaves where it succeeded.
+fn judged(call: Call, done: Option<bool>, left: Left) -> Outcome {
+    match done {
+        Some(true) if left == after(call) => Outcome::Done,
+        Some(false) if left == after(call) || left == BEFORE => Outcome::Failed,
+        _ => Outcome::Wrong,
+    }
+}
+
+// What comes of a call that is cut after that many calls of the disk.
 fn cut<D: Disk + Drop>(
     alloc: Global,
     disk: D,
     call: Call,
     calls: u32,
     choice: Choice,
-) -> Result<(D, Outcome), Refusal> {
-    let (mut volume, _) = played(alloc, disk, &START)?;
-    prepare(alloc, &mut volume, call)?;
-    volume.arm(calls);
-    let done = succeeds(alloc, &mut volume, call);
-    let stopped = done || is_broken(alloc, &mut volume);
-    let (disk, left) = cut_power(alloc, volume.into_disk(), choice)?;
-    if !stopped || (left != after(call) && (done || left != BEFORE)) {
-        return Ok((disk, Outcome::Wrong));
-    }
-    let outcome = if done { Outcome::Done } else { Outcome::Failed };
-    Ok((disk, outcome))
+) -> Result<Outcome, Refusal> {
+    let mut volume = format(alloc, disk)?;
+    let done = stopped(alloc, &mut volume, call, calls);
+    let left = left_by(alloc, volume.into_disk(), choice);
+    let done = done?;
+    Ok(judged(call, done, left?))
 }
 
 // How many calls of the disk a call makes.
@@ -152,76 +187,60 @@ fn calls_of(call: Call) -> u32
 }
 
 // All cuts with one choice: the call succeeds only where none of its calls of the disk fails.
-fn all_cuts<D: Disk + Drop>(
-    alloc: Global,
-    disk: D,
-    call: Call,
-    choice: Choice,
-) -> Result<bool, Refusal> {
-    let mut disk = disk;
+fn are_fine(alloc: Global, size: u64, call: Call, choice: Choice) -> Result<bool, Refusal> {
     let most = calls_of(call);
     for calls in 0..most + 1 {
-        let (back, outcome) = cut(alloc, disk, call, calls, choice)?;
-        disk = back;
-        if outcome == Outcome::Wrong || (outcome == Outcome::Done) != (calls == most) {
+        let disk = MemDisk::new(alloc, size)?;
+        let wanted = if calls == most {
+            Outcome::Done
+        } else {
+            Outcome::Failed
+        };
+        if cut(alloc, disk, call, calls, choice)? != wanted {
             return Ok(false);
         }
     }
     Ok(true)
 }
 
-// The same of an opening, which makes eleven.
-fn cut_opening<D: Disk + Drop>(
-    alloc: Global,
-    disk: D,
-    calls: u32,
-    choice: Choice,
-) -> Result<(D, bool), Refusal> {
-    let (volume, _) = played(alloc, disk, &START)?;
-    let mut disk = volume.into_disk();
-    if !Journal::is_fit_size(disk.size()) {
-        return Ok((disk, false));
+const CALLS: [(u64, Call); 3] = [
+    (THREE, Call::Write),
+    (THREE, Call::Commit),
+    (TWO, Call::MakeRoom),
+];
+
+fn all_are_fine(alloc: Global, choice: Choice) -> Result<bool, Refusal> {
+    for (size, call) in CALLS {
+        if !are_fine(alloc, size, call, choice)? {
+            return Ok(false);
+        }
     }
+    Ok(true)
+}
+
+#[test]
+fn a_cut_call_leaves_the_last_point_or_the_new_one(rt: HostRuntime) -> Result<(), Fail> {
+    assert!(rt; all_are_fine(rt.alloc(), Choice::Keep)?);
+    assert!(rt; all_are_fine(rt.alloc(), Choice::Drop)?);
+    Ok(())
+}
+
+// The same of an opening, which makes eleven.
+fn cut_opening<D: Disk + Drop>(alloc: Global, disk: D, calls: u32) -> Result<bool, Refusal> {
+    let mut volume = format(alloc, disk)?;
+    let started = start(alloc, &mut volume);
+    let mut disk = volume.into_disk();
     disk.arm(calls);
-    let (disk, done) = match Volume::open(alloc, disk) {
-        Ok(volume) => (volume.into_disk(), true),
-        Err((disk, _)) => (disk, false),
-    };
-    let (disk, left) = cut_power(alloc, disk, choice)?;
-    Ok((disk, left == BEFORE && done == (calls == 11)))
-}
-
-fn are_fine(alloc: Global, size: u64, call: Call) -> Result<bool, Refusal> {
-    let disk = MemDisk::new(alloc, size)?;
-    let kept = all_cuts(alloc, disk, call, Choice::Keep)?;
-    let disk = MemDisk::new(alloc, size)?;
-    Ok(kept && all_cuts(alloc, disk, call, Choice::Drop)?)
-}
-
-#[test]
-fn a_cut_write_leaves_the_last_point(rt: HostRuntime) -> Result<(), Fail> {
-    assert!(rt; are_fine(rt.alloc(), THREE, Call::Write)?);
-    Ok(())
-}
-
-#[test]
-fn a_cut_commit_leaves_the_last_point_or_the_new_one(rt: HostRuntime) -> Result<(), Fail> {
-    assert!(rt; are_fine(rt.alloc(), THREE, Call::Commit)?);
-    Ok(())
-}
-
-#[test]
-fn a_cut_write_that_needs_a_commit_does_too(rt: HostRuntime) -> Result<(), Fail> {
-    assert!(rt; are_fine(rt.alloc(), TWO, Call::MakeRoom)?);
-    Ok(())
+    let (disk, done) = tried(alloc, disk);
+    let left = left_by(alloc, disk, Choice::Mix(5));
+    started?;
+    Ok(left? == BEFORE && done == (calls == 11))
 }
 
 fn openings_are_fine(alloc: Global) -> Result<bool, Refusal> {
-    let mut disk = MemDisk::new(alloc, THREE)?;
     for calls in 0..12 {
-        let (back, fine) = cut_opening(alloc, disk, calls, Choice::Mix(5))?;
-        disk = back;
-        if !fine {
+        let disk = MemDisk::new(alloc, THREE)?;
+        if !cut_opening(alloc, disk, calls)? {
             return Ok(false);
         }
     }
@@ -237,7 +256,6 @@ fn a_cut_opening_leaves_the_last_point(rt: HostRuntime) -> Result<(), Fail> {
 #[test]
 fn a_cut_commit_on_a_traced_disk_leaves_the_same(rt: HostRuntime) -> Result<(), Fail> {
     let disk = TraceDisk::new(rt.alloc(), THREE, 100, 8_000_000, 1)?;
-    let (_, outcome) = cut(rt.alloc(), disk, Call::Commit, 3, Choice::Drop)?;
-    assert!(rt; outcome == Outcome::Failed);
+    assert!(rt; cut(rt.alloc(), disk, Call::Commit, 3, Choice::Drop)? == Outcome::Failed);
     Ok(())
 }

@@ -1,11 +1,9 @@
 //! Openings of devices of format 1: what they give, each stop and power cut within one, and images that break one condition.
 
 use crate::volume::openings::{EIGHT, is_new, is_none};
-use crate::volume::steps::{open, reopened};
+use crate::volume::steps::{open, reopened, tried};
 use cf_base::{CallError as Refusal, Choice};
 use cf_disk::{Disk, MemDisk};
-use cf_journal::Journal;
-use cf_volume::Volume;
 use std::alloc::Global;
 use std::test::Fail;
 
@@ -61,7 +59,9 @@ fn opens_twice(alloc: Global, disk: MemDisk) -> Result<bool, Refusal> {
     let volume = open(alloc, disk)?;
     let first = is_new(&volume, 2);
     let volume = reopened(alloc, volume, Choice::Drop)?;
-    Ok(first && is_new(&volume, 3))
+    let second = is_new(&volume, 3);
+    drop(volume);
+    Ok(first && second)
 }
 
 // A change that no reader of format 1 sees: it lies where format 2 has a journal.
@@ -109,42 +109,35 @@ const TOO_LONG: [(u64, u8); 3] = [(17, 15), (18, 240), (19, 1)];
 
 const NO_ROOM: [(u64, u8); 2] = [(JOURNAL, 1), (JOURNAL + 1, 255)];
 
+fn are_refused(alloc: Global) -> Result<bool, Refusal> {
+    for change in BREAKS {
+        if !is_refused(alloc, &[change])? {
+            return Ok(false);
+        }
+    }
+    Ok(true)
+}
+
 #[test]
 fn an_image_of_format_1_that_breaks_one_condition_is_no_volume(
     rt: HostRuntime,
 ) -> Result<(), Fail> {
-    for change in BREAKS {
-        assert!(rt; is_refused(rt.alloc(), &[change])?);
-    }
+    assert!(rt; are_refused(rt.alloc())?);
     assert!(rt; is_refused(rt.alloc(), &TOO_LONG)?);
     assert!(rt; is_refused(rt.alloc(), &NO_ROOM)?);
     Ok(())
 }
 
-// Whether a new volume of an epoch between these is there.
-fn is_between(volume: &Volume<MemDisk>, least: u32, most: u32) -> bool {
-    let epoch = volume.epoch();
-    least <= epoch && epoch <= most && is_new(volume, epoch)
-}
-
 // Whether an opening that is stopped after so many of its calls leaves what is opened again: the old format, in whose next
 // epoch it then is, or the new one, after the epoch that the first opening began.
 fn opens_again(alloc: Global, disk: MemDisk, choice: Choice) -> Result<bool, Refusal> {
-    if !Journal::is_fit_size(disk.size()) {
-        drop(disk);
-        return Ok(false);
-    }
-    let (mut disk, done) = match Volume::open(alloc, disk) {
-        Ok(volume) => (volume.into_disk(), true),
-        Err((disk, _)) => (disk, false),
-    };
+    let (mut disk, done) = tried(alloc, disk);
     disk.power(choice);
     let volume = open(alloc, disk)?;
-    Ok(if done {
-        is_between(&volume, 3, 3)
-    } else {
-        is_between(&volume, 2, 3)
-    })
+    let later = is_new(&volume, 3);
+    let old = is_new(&volume, 2);
+    drop(volume);
+    Ok(later || (old && !done))
 }
 
 // It makes fourteen calls.

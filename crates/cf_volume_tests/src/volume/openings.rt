@@ -10,16 +10,20 @@ use std::test::Fail;
 /// Of eight clusters.
 pub(super) const EIGHT: u64 = 3_178_496;
 
-// Whether the root is the one item, and there is no record, no change and no cluster that is held.
-fn is_empty<D: Disk>(volume: &Volume<D>) -> bool {
+// Whether the root is the one item, and there is no record.
+fn has_root_alone<D: Disk>(volume: &Volume<D>) -> bool {
     let rows = volume.rows();
-    let root = rows.as_slice().len() == 1 && rows.next() == ItemId(2);
-    root && volume.row(ItemId(1)).is_some()
+    rows.as_slice().len() == 1
+        && rows.next() == ItemId(2)
+        && volume.row(ItemId(1)).is_some()
         && volume.aux_first().is_none()
-        && volume.count() == 0
-        && volume.committed() == 0
-        && volume.used() == 0
-        && volume.clock() == 0
+}
+
+// Whether there is besides no change and no cluster that is held.
+fn is_empty<D: Disk>(volume: &Volume<D>) -> bool {
+    let changes = volume.count() == 0 && volume.committed() == 0;
+    let rest = volume.used() == 0 && volume.clock() == 0;
+    changes && rest && has_root_alone(volume)
 }
 
 // Whether the volume is empty in this epoch.
@@ -34,7 +38,9 @@ fn opens_new<D: Disk + Drop>(alloc: Global, disk: D) -> Result<bool, Refusal> {
     let volume = reopened(alloc, volume, Choice::Drop)?;
     let opened = is_new(&volume, 2) && volume.clusters() == 8;
     let volume = open(alloc, volume.into_disk())?;
-    Ok(formatted && opened && is_new(&volume, 3))
+    let again = is_new(&volume, 3);
+    drop(volume);
+    Ok(formatted && opened && again)
 }
 
 #[test]
@@ -45,10 +51,16 @@ fn each_opening_of_a_new_volume_begins_an_epoch(rt: HostRuntime) -> Result<(), F
 }
 
 pub(super) fn is_none<D: Disk + Drop>(alloc: Global, disk: D) -> bool {
-    matches!(open(alloc, disk), Err(Refusal::No(Code::NotAVolume)))
+    match open(alloc, disk) {
+        Ok(volume) => {
+            drop(volume);
+            false
+        }
+        Err(error) => error == Refusal::No(Code::NotAVolume),
+    }
 }
 
-// Bytes 165 in the first half of the disk.
+// Bytes 165 in the first 8,192 bytes of the disk.
 fn spoil<D: Disk>(disk: &mut D) -> bool {
     if disk.size() != EIGHT {
         return false;
@@ -57,12 +69,16 @@ fn spoil<D: Disk>(disk: &mut D) -> bool {
     disk.write(0, &noise).is_ok()
 }
 
+fn noise_is_none(alloc: Global) -> Result<bool, Refusal> {
+    let mut disk = MemDisk::new(alloc, EIGHT)?;
+    let spoiled = spoil(&mut disk);
+    Ok(is_none(alloc, disk) && spoiled)
+}
+
 #[test]
 fn zeros_and_noise_are_no_volume(rt: HostRuntime) -> Result<(), Fail> {
     let disk = MemDisk::new(rt.alloc(), EIGHT)?;
     assert!(rt; is_none(rt.alloc(), disk));
-    let mut disk = MemDisk::new(rt.alloc(), EIGHT)?;
-    let spoiled = spoil(&mut disk);
-    assert!(rt; spoiled && is_none(rt.alloc(), disk));
+    assert!(rt; noise_is_none(rt.alloc())?);
     Ok(())
 }

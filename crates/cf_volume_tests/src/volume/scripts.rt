@@ -1,12 +1,11 @@
 //! Tests as lists of what is done with a volume, and of what it then tells.
 
-use crate::volume::edits::{Edit, change_of};
+use crate::volume::edits::Edit;
 use crate::volume::steps::{
-    Told, commit, edit, format, has_bytes, note, put, put_all, reopened, room_with, take_out,
+    Told, edit, format, has_bytes, put, put_all, reopened, room, room_with,
 };
-use cf_base::{AuxRecord, CallError, Choice, Code, ItemId, Usn};
+use cf_base::{AuxRecord, CallError, Choice, Code, ItemId};
 use cf_disk::Disk;
-use cf_table::Row;
 use cf_volume::{Room, Volume};
 use std::alloc::Global;
 
@@ -21,29 +20,17 @@ pub(super) enum Step {
     Commit(u64),
     /// The power is cut, and the volume is opened.
     Cut(Choice),
-    /// So many ticks of the clock pass.
-    Pass(u64),
-    /// The item is anchored and touched.
-    Note(u64),
-    Put(u8, u16, u8),
-    /// The record is refused, and nothing changes.
-    NotPut(u8, u16, u8),
+    /// The record is refused, as the table is full.
+    NotPut(Told),
     TakeOut(u8),
     /// Nineteen of the longest records, and one with the key 200.
     Fill(u16),
-    /// This is the first record.
-    First(u8, u16, u8),
     /// This record comes after the one with a key.
-    Next(u8, u8, u16, u8),
-    /// No record comes after the one with this key, or none has it.
-    NoNext(u8),
+    Next(u8, Told),
     NoRecord(u8),
     /// The file has a byte so often from a place on.
     Has(u64, u16, u16, u8),
-    Row(u64, Seen),
     NoRow(u64),
-    /// The item's anchor, and the clock of its last access.
-    Noted(u64, Usn, u64),
     Numbers(Numbers),
     /// What is said of room for the change.
     Room(Edit, Room),
@@ -55,19 +42,8 @@ pub(super) enum Step {
     NotPutAll(&'static [Told]),
 }
 
-/// What is said of an item.
-#[derive(Clone, Copy, Debug, PartialEq, Eq)]
-pub(super) struct Seen {
-    pub size: u32,
-    pub base: Option<u32>,
-    /// The place of its number.
-    pub place: u32,
-    pub in_sync: bool,
-    pub dirty: bool,
-}
-
 /// What is said of the volume.
-#[derive(Clone, Copy, Debug, PartialEq, Eq)]
+#[derive(Clone, Copy, PartialEq)]
 pub(super) struct Numbers {
     pub epoch: u32,
     pub count: u64,
@@ -88,31 +64,7 @@ fn numbers_of<D: Disk>(volume: &Volume<D>) -> Numbers {
     }
 }
 
-fn seen_of(row: &Row) -> Seen {
-    Seen {
-        size: row.size,
-        base: row.base,
-        place: row.number.place,
-        in_sync: row.in_sync,
-        dirty: row.dirty,
-    }
-}
-
-fn is_seen<D: Disk>(volume: &Volume<D>, item: u64, want: Seen) -> bool {
-    match volume.row(ItemId(item)) {
-        Some(row) => seen_of(row) == want,
-        None => false,
-    }
-}
-
-fn is_noted<D: Disk>(volume: &Volume<D>, item: u64, anchor: Usn, last: u64) -> bool {
-    match volume.row(ItemId(item)) {
-        Some(row) => row.anchor == anchor && row.last == last,
-        None => false,
-    }
-}
-
-fn is_record(record: Option<&AuxRecord>, key: u8, len: u16, byte: u8) -> bool {
+fn is_record(record: Option<&AuxRecord>, (key, len, byte): Told) -> bool {
     let Some(record) = record else {
         return false;
     };
@@ -129,106 +81,60 @@ fn is_refused<D: Disk>(alloc: Global, volume: &mut Volume<D>, refused: Edit, why
     answer == Err(CallError::No(why)) && numbers_of(volume) == before
 }
 
-fn is_not_put<D: Disk>(alloc: Global, volume: &mut Volume<D>, key: u8, len: u16, byte: u8) -> bool {
-    put(alloc, volume, key, len, byte) == Err(CallError::No(Code::TableFull))
-}
-
 fn fill<D: Disk>(alloc: Global, volume: &mut Volume<D>, len: u16) -> Result<(), CallError> {
     for key in 0..19 {
-        put(alloc, volume, key, 65_535, 0)?;
+        put(alloc, volume, (key, 65_535, 0))?;
     }
-    put(alloc, volume, 200, len, 0)
+    put(alloc, volume, (200, len, 0))
 }
 
-fn has_room<D: Disk>(
-    alloc: Global,
-    volume: &Volume<D>,
-    edit: Edit,
-    want: Room,
-) -> Result<bool, CallError> {
-    let change = change_of(alloc, edit, volume.rows().next())?;
-    let room = volume.room(&[change])?;
-    Ok(room == want)
-}
-
-// What is done.
-fn does<D: Disk>(alloc: Global, volume: &mut Volume<D>, step: Step) -> Result<bool, CallError> {
+// What is done, and whether it is done.
+fn is_done<D: Disk>(alloc: Global, volume: &mut Volume<D>, step: Step) -> bool {
+    let full: Result<(), CallError> = Err(CallError::No(Code::TableFull));
     match step {
-        Step::Do(change) => {
-            edit(alloc, volume, change)?;
-        }
-        Step::Commit(count) => return Ok(commit(volume)? == count),
-        Step::Pass(ticks) => volume.pass(ticks)?,
-        Step::Note(item) => note(volume, ItemId(item))?,
-        Step::Put(key, len, byte) => put(alloc, volume, key, len, byte)?,
-        Step::TakeOut(key) => take_out(volume, key)?,
-        Step::Fill(len) => fill(alloc, volume, len)?,
-        Step::Refused(change, why) => return Ok(is_refused(alloc, volume, change, why)),
-        Step::NotPut(key, len, byte) => return Ok(is_not_put(alloc, volume, key, len, byte)),
+        Step::Do(change) => edit(alloc, volume, change).is_ok(),
+        Step::Refused(change, why) => is_refused(alloc, volume, change, why),
+        Step::Commit(count) => volume.commit() == Ok(count),
+        Step::TakeOut(key) => volume.aux_put(&[key], None) == Ok(()),
+        Step::Fill(len) => fill(alloc, volume, len) == Ok(()),
+        Step::NotPut(record) => put(alloc, volume, record) == full,
+        Step::PutAll(list) => put_all(alloc, volume, list) == Ok(()),
+        Step::NotPutAll(list) => put_all(alloc, volume, list) == full,
         Step::Has(item, at, len, byte) => {
-            return has_bytes(volume, ItemId(item), at, len, byte);
+            has_bytes(volume, ItemId(item), at, len, byte) == Ok(true)
         }
-        Step::Room(change, want) => return has_room(alloc, volume, change, want),
-        Step::RoomWith(change, list, want) => {
-            return Ok(room_with(alloc, volume, change, list)? == want);
-        }
-        Step::PutAll(list) => put_all(alloc, volume, list)?,
-        Step::NotPutAll(list) => {
-            return Ok(put_all(alloc, volume, list) == Err(CallError::No(Code::TableFull)));
-        }
-        _ => return Ok(false),
+        _ => tells(alloc, volume, step),
     }
-    Ok(true)
 }
 
-// Whether this is told; none where it is nothing that is told at once.
-fn tells<D: Disk>(volume: &Volume<D>, step: Step) -> Option<bool> {
-    let told = match step {
-        Step::First(key, len, byte) => is_record(volume.aux_first(), key, len, byte),
-        Step::Next(before, key, len, byte) => {
-            is_record(volume.aux_next(&[before]), key, len, byte)
-        }
-        Step::NoNext(key) => volume.aux_next(&[key]).is_none(),
+// Whether this is told.
+fn tells<D: Disk>(alloc: Global, volume: &Volume<D>, step: Step) -> bool {
+    match step {
+        Step::Next(before, record) => is_record(volume.aux_next(&[before]), record),
         Step::NoRecord(key) => volume.aux_get(&[key]).is_none(),
-        Step::Row(item, want) => is_seen(volume, item, want),
         Step::NoRow(item) => volume.row(ItemId(item)).is_none(),
-        Step::Noted(item, anchor, last) => is_noted(volume, item, anchor, last),
         Step::Numbers(want) => numbers_of(volume) == want,
-        _ => return None,
-    };
-    Some(told)
-}
-
-fn is_fine<D: Disk>(alloc: Global, volume: &mut Volume<D>, step: Step) -> Result<bool, CallError> {
-    match tells(volume, step) {
-        Some(told) => Ok(told),
-        None => does(alloc, volume, step),
+        Step::Room(change, want) => room(alloc, volume, change) == Ok(want),
+        Step::RoomWith(change, list, want) => room_with(alloc, volume, change, list) == Ok(want),
+        _ => false,
     }
 }
 
-/// A new volume with which the steps are done, and the place of the first that went another way, where it stopped.
-pub(super) fn played<D: Disk + Drop>(
-    alloc: Global,
-    disk: D,
-    steps: &[Step],
-) -> Result<(Volume<D>, Option<usize>), CallError> {
-    let mut volume = format(alloc, disk)?;
-    for (place, step) in steps.iter().enumerate() {
-        if let Step::Cut(choice) = *step {
-            volume = reopened(alloc, volume, choice)?;
-        } else if !is_fine(alloc, &mut volume, *step)? {
-            return Ok((volume, Some(place)));
-        }
-    }
-    Ok((volume, None))
-}
-
-/// The place of the first step that goes another way, if there is one.
+/// The place of the first step that goes another way on a new volume, if there is one.
 pub(super) fn wrong_step<D: Disk + Drop>(
     alloc: Global,
     disk: D,
     steps: &[Step],
 ) -> Result<Option<usize>, CallError> {
-    let (_, wrong) = played(alloc, disk, steps)?;
-    Ok(wrong)
+    let mut volume = format(alloc, disk)?;
+    for (place, step) in steps.iter().enumerate() {
+        if let Step::Cut(choice) = *step {
+            volume = reopened(alloc, volume, choice)?;
+        } else if !is_done(alloc, &mut volume, *step) {
+            drop(volume);
+            return Ok(Some(place));
+        }
+    }
+    drop(volume);
+    Ok(None)
 }

@@ -4,7 +4,7 @@ ghost use Rattle.std.specs.Prelude.{◌≡◌, ◌≤◌, ◌+◌, ◌^◌, Some
 ghost use Rattle.cf_volume.specs.Calls.{IsHere};
 
 use crate::volume::edits::{Edit, change_of, fits};
-use cf_base::{AuxRecord, Blob, CallError, Choice, Code, ItemId, OutOfMemory, Span, Usn};
+use cf_base::{AuxRecord, Blob, CallError, Change, Choice, Code, ItemId, OutOfMemory, Span, Usn};
 use cf_disk::Disk;
 use cf_journal::Journal;
 use cf_table::Row;
@@ -16,21 +16,40 @@ pub(super) type Told = (u8, u16, u8);
 
 pub(super) fn format<D: Disk + Drop>(alloc: Global, disk: D) -> Result<Volume<D>, CallError> {
     if !Journal::is_fit_size(disk.size()) {
+        drop(disk);
         return Err(CallError::No(Code::NotAVolume));
     }
     match Volume::format(alloc, disk) {
         Ok(volume) => Ok(volume),
-        Err((_, fail)) => Err(fail),
+        Err((disk, error)) => {
+            drop(disk);
+            Err(error)
+        }
     }
 }
 
 pub(super) fn open<D: Disk + Drop>(alloc: Global, disk: D) -> Result<Volume<D>, CallError> {
     if !Journal::is_fit_size(disk.size()) {
+        drop(disk);
         return Err(CallError::No(Code::NotAVolume));
     }
     match Volume::open(alloc, disk) {
         Ok(volume) => Ok(volume),
-        Err((_, fail)) => Err(fail),
+        Err((disk, error)) => {
+            drop(disk);
+            Err(error)
+        }
+    }
+}
+
+/// The disk of a volume that is opened or not, and whether it was.
+pub(super) fn tried<D: Disk>(alloc: Global, disk: D) -> (D, bool) {
+    if !Journal::is_fit_size(disk.size()) {
+        return (disk, false);
+    }
+    match Volume::open(alloc, disk) {
+        Ok(volume) => (volume.into_disk(), true),
+        Err((disk, _)) => (disk, false),
     }
 }
 
@@ -45,6 +64,13 @@ pub(super) fn reopened<D: Disk + Drop>(
     open(alloc, disk)
 }
 
+fn apply<D: Disk>(volume: &mut Volume<D>, change: &Change) -> Result<Usn, CallError> {
+    if !fits(volume.rows(), change) {
+        return Err(CallError::No(Code::BadRange));
+    }
+    volume.apply(change)
+}
+
 /// Makes the change. BadRange where the volume may not be asked for it.
 pub(super) fn edit<D: Disk>(
     alloc: Global,
@@ -52,53 +78,50 @@ pub(super) fn edit<D: Disk>(
     edit: Edit,
 ) -> Result<Usn, CallError> {
     let change = change_of(alloc, edit, volume.rows().next())?;
-    if !fits(volume.rows(), &change) {
-        return Err(CallError::No(Code::BadRange));
-    }
-    volume.apply(&change)
-}
-
-pub(super) fn commit<D: Disk>(volume: &mut Volume<D>) -> Result<u64, CallError> {
-    volume.commit()
-}
-
-/// Makes the anchor of the item its number, and the clock that of its last access.
-pub(super) fn note<D: Disk>(volume: &mut Volume<D>, item: ItemId) -> Result<(), CallError> {
-    if volume.row(item).is_none() {
-        return Err(CallError::No(Code::NotFound));
-    }
-    volume.anchor(item)?;
-    touch(volume, item)
-}
-
-fn touch<D: Disk>(volume: &mut Volume<D>, item: ItemId) -> Result<(), CallError> {
-    if volume.row(item).is_none() {
-        return Err(CallError::No(Code::NotFound));
-    }
-    volume.touch(item)
+    let made = apply(volume, &change);
+    drop(change);
+    made
 }
 
 /// Puts a record whose key is this byte, and its value another one so often.
 pub(super) fn put<D: Disk>(
     alloc: Global,
     volume: &mut Volume<D>,
-    key: u8,
-    len: u16,
-    byte: u8,
+    (key, len, byte): Told,
 ) -> Result<(), CallError> {
     let value = vec![in alloc; byte; len as usize]?;
-    volume.aux_put(&[key], Some(&value))
+    let done = volume.aux_put(&[key], Some(&value));
+    drop(value);
+    done
 }
 
-fn records_of(alloc: Global, list: &[Told]) -> Result<Vec<AuxRecord>, OutOfMemory> {
-    let mut records = Vec::new(alloc);
-    for (key, len, byte) in list {
-        records.push(AuxRecord {
-            key: Blob::from_slice(alloc, &[*key])?,
-            value: Blob::from_vec(vec![in alloc; *byte; *len as usize]?),
-        })?;
+fn record(alloc: Global, (key, len, byte): Told) -> Result<AuxRecord, OutOfMemory> {
+    let key = Blob::from_slice(alloc, &[key])?;
+    let value = vec![in alloc; byte; len as usize]?;
+    Ok(AuxRecord {
+        key,
+        value: Blob::from_vec(value),
+    })
+}
+
+fn fill(alloc: Global, records: &mut Vec<AuxRecord>, list: &[Told]) -> Result<(), OutOfMemory> {
+    for told in list {
+        records.push(record(alloc, *told)?)?;
     }
-    Ok(records)
+    Ok(())
+}
+
+fn put_records<D: Disk>(
+    alloc: Global,
+    volume: &mut Volume<D>,
+    records: &mut Vec<AuxRecord>,
+    list: &[Told],
+) -> Result<(), CallError> {
+    fill(alloc, records, list)?;
+    if !are_short(records.as_slice()) {
+        return Err(CallError::OutOfMemory);
+    }
+    volume.aux_put_all(records.as_slice())
 }
 
 /// Puts such records, all at once.
@@ -107,11 +130,36 @@ pub(super) fn put_all<D: Disk>(
     volume: &mut Volume<D>,
     list: &[Told],
 ) -> Result<(), CallError> {
-    let records = records_of(alloc, list)?;
-    if !are_short(&records) {
-        return Err(CallError::OutOfMemory);
+    let mut records = Vec::new(alloc);
+    let done = put_records(alloc, volume, &mut records, list);
+    drop(records);
+    done
+}
+
+/// What is said of room for the change.
+pub(super) fn room<D: Disk>(
+    alloc: Global,
+    volume: &Volume<D>,
+    edit: Edit,
+) -> Result<Room, CallError> {
+    let change = change_of(alloc, edit, volume.rows().next())?;
+    let room = volume.room(std::slice::from_ref(&change));
+    drop(change);
+    Ok(room?)
+}
+
+fn room_beside<D: Disk>(
+    alloc: Global,
+    volume: &Volume<D>,
+    change: &Change,
+    records: &mut Vec<AuxRecord>,
+    list: &[Told],
+) -> Result<Room, OutOfMemory> {
+    fill(alloc, records, list)?;
+    if !are_short(records.as_slice()) {
+        return Err(OutOfMemory);
     }
-    volume.aux_put_all(&records)
+    volume.room_with_records(std::slice::from_ref(change), records.as_slice())
 }
 
 /// What is said of room for the change with such records beside it.
@@ -122,15 +170,11 @@ pub(super) fn room_with<D: Disk>(
     list: &[Told],
 ) -> Result<Room, CallError> {
     let change = change_of(alloc, edit, volume.rows().next())?;
-    let records = records_of(alloc, list)?;
-    if !are_short(&records) {
-        return Err(CallError::OutOfMemory);
-    }
-    Ok(volume.room_with_records(&[change], &records)?)
-}
-
-pub(super) fn take_out<D: Disk>(volume: &mut Volume<D>, key: u8) -> Result<(), CallError> {
-    volume.aux_put(&[key], None)
+    let mut records = Vec::new(alloc);
+    let room = room_beside(alloc, volume, &change, &mut records, list);
+    drop(records);
+    drop(change);
+    Ok(room?)
 }
 
 // Whether each byte of the span is here.
@@ -140,7 +184,9 @@ fn is_here(row: &Row, span: Span) -> Result<bool, OutOfMemory>
     ensures { IfOk result (λ yes. IsTrue yes → IsHere (Some row.now) span.start (span.start + span.len)) }
 {
     let missing = row.here.missing_in(span)?;
-    Ok(missing.is_empty())
+    let none = missing.is_empty();
+    drop(missing);
+    Ok(none)
 }
 
 /// Whether the file has the byte so often from a place on.
@@ -160,5 +206,8 @@ pub(super) fn has_bytes<D: Disk>(
         _ => return Ok(false),
     }
     let bytes = volume.bytes(item, span)?;
-    Ok(bytes.as_slice().len() == len as usize && bytes.as_slice().iter().all(|b| *b == byte))
+    let same = bytes.as_slice().len() == len as usize
+        && bytes.as_slice().iter().all(|b| *b == byte);
+    drop(bytes);
+    Ok(same)
 }
