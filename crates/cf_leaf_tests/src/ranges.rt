@@ -2,8 +2,9 @@
 
 ghost use Rattle.std.specs.Prelude.{◌≡◌};
 
-use cf_base::{Key, Span};
+use cf_base::{Key, OutOfMemory, Span};
 use cf_ranges::{Claims, ExtentMap, RangeSet, Spent};
+use std::alloc::Global;
 use std::test::Fail;
 
 fn span(start: u64, len: u64) -> Span
@@ -56,49 +57,105 @@ fn spends_the_parts_of_a_claim(rt: HostRuntime) -> Result<(), Fail> {
     Ok(())
 }
 
+fn puts(map: &mut ExtentMap) -> Result<bool, OutOfMemory> {
+    let first = map.put(3, 9)?;
+    let again = map.put(3, 9)?;
+    let before = map.put(1, 7)?;
+    let are_told = first.is_none() && again == Some(9) && before.is_none();
+    Ok(are_told && map.pairs() == [(1, 7), (3, 9)].as_slice())
+}
+
+// A copy keeps what is taken.
+fn takes(map: &mut ExtentMap) -> Result<bool, OutOfMemory> {
+    let copy = map.copy()?;
+    let are_told = map.take(1) == Some(7) && map.take(1).is_none();
+    let is_kept = copy.get(1) == Some(7);
+    drop(copy);
+    Ok(are_told && is_kept)
+}
+
+fn puts_then_takes(map: &mut ExtentMap) -> Result<bool, OutOfMemory> {
+    Ok(puts(map)? && takes(map)?)
+}
+
+fn is_map(alloc: Global) -> Result<bool, OutOfMemory> {
+    let pairs = vec![in alloc; (1, 7), (3, 9)]?;
+    match ExtentMap::from_pairs(pairs) {
+        Some(map) => {
+            drop(map);
+            Ok(true)
+        }
+        None => Ok(false),
+    }
+}
+
 #[test]
 fn puts_and_takes(rt: HostRuntime) -> Result<(), Fail> {
     let mut map = ExtentMap::new(rt.alloc());
-    assert_eq!(rt; map.put(3, 9)?, None);
-    assert_eq!(rt; map.put(3, 9)?, Some(9));
-    assert_eq!(rt; map.put(1, 7)?, None);
-    assert_eq!(rt; map.pairs(), [(1, 7), (3, 9)].as_slice());
-    let copy = map.copy()?;
-    assert_eq!(rt; map.take(1), Some(7));
-    assert_eq!(rt; map.take(1), None);
-    assert_eq!(rt; copy.get(1), Some(7));
-    let again = vec![in rt.alloc(); (1, 7), (3, 9)]?;
-    assert!(rt; ExtentMap::from_pairs(again).is_some());
+    let told = puts_then_takes(&mut map);
+    drop(map);
+    assert!(rt; told?);
+    assert!(rt; is_map(rt.alloc())?);
     Ok(())
+}
+
+fn adds_then_cuts(set: &mut RangeSet) -> Result<bool, OutOfMemory> {
+    set.add(span(0, 5))?;
+    set.cut(span(2, 1))?;
+    let gaps = set.missing_in(span(0, 8))?;
+    let are_gaps = gaps.as_slice() == [span(2, 1), span(5, 3)].as_slice();
+    drop(gaps);
+    let are_runs = set.runs() == [span(0, 2), span(3, 2)].as_slice();
+    Ok(are_gaps && are_runs && set.has(4) && !set.has(2) && set.blocks() == 1)
 }
 
 #[test]
 fn adds_and_cuts(rt: HostRuntime) -> Result<(), Fail> {
     let mut set = RangeSet::new(rt.alloc());
-    set.add(span(0, 5))?;
-    set.cut(span(2, 1))?;
-    assert_eq!(rt; set.runs(), [span(0, 2), span(3, 2)].as_slice());
-    let gaps = set.missing_in(span(0, 8))?;
-    assert_eq!(rt; gaps.as_slice(), [span(2, 1), span(5, 3)].as_slice());
-    assert!(rt; set.has(4));
-    assert!(rt; !set.has(2));
-    assert_eq!(rt; set.blocks(), 1);
+    let told = adds_then_cuts(&mut set);
+    drop(set);
+    assert!(rt; told?);
     Ok(())
+}
+
+// Whether the set has these runs.
+fn is_set(made: Result<RangeSet, OutOfMemory>, runs: &[Span]) -> Result<bool, OutOfMemory> {
+    let set = made?;
+    let same = set.runs() == runs;
+    drop(set);
+    Ok(same)
+}
+
+fn is_parted(set: &RangeSet, joined: &RangeSet) -> Result<bool, OutOfMemory> {
+    let is_rest = is_set(joined.without_all(set.runs()), &[span(4097, 4903)])?;
+    let cut = joined.without(span(4096, 4905))?;
+    let is_cut = cut.runs() == [span(4095, 1)].as_slice();
+    let others = cut.with_all(set.runs());
+    drop(cut);
+    Ok(is_rest && is_cut && is_set(others, set.runs())?)
+}
+
+fn is_joined(set: &RangeSet) -> Result<bool, OutOfMemory> {
+    let joined = set.with(span(4097, 4903))?;
+    let is_one = joined.runs() == [span(4095, 4906)].as_slice();
+    let parted = is_parted(set, &joined);
+    drop(joined);
+    Ok(is_one && parted?)
+}
+
+fn makes_sets(alloc: Global) -> Result<bool, OutOfMemory> {
+    let runs = vec![in alloc; span(4095, 2), span(9000, 1)]?;
+    let Some(set) = RangeSet::from_runs(alloc, runs) else {
+        return Ok(false);
+    };
+    let is_read = set.blocks() == 3 && set.touches(1);
+    let joined = is_joined(&set);
+    drop(set);
+    Ok(is_read && joined?)
 }
 
 #[test]
 fn makes_new_sets(rt: HostRuntime) -> Result<(), Fail> {
-    let runs = vec![in rt.alloc(); span(4095, 2), span(9000, 1)]?;
-    let set = RangeSet::from_runs(rt.alloc(), runs).ok_or("runs")?;
-    assert_eq!(rt; set.blocks(), 3);
-    assert!(rt; set.touches(1));
-    let joined = set.with(span(4097, 4903))?;
-    assert_eq!(rt; joined.runs(), [span(4095, 4906)].as_slice());
-    let cut = joined.without(span(4096, 4905))?;
-    assert_eq!(rt; cut.runs(), [span(4095, 1)].as_slice());
-    let others = cut.with_all(set.runs())?;
-    assert_eq!(rt; others.runs(), set.runs());
-    let rest = joined.without_all(set.runs())?;
-    assert_eq!(rt; rest.runs(), [span(4097, 4903)].as_slice());
+    assert!(rt; makes_sets(rt.alloc())?);
     Ok(())
 }

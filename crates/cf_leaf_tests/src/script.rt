@@ -1,6 +1,6 @@
 //! What the language takes, refuses and writes.
 
-use cf_base::{Blob, Mode, OutOfMemory, Sequence};
+use cf_base::{Blob, Mode, OutOfMemory};
 use cf_script::{ScriptError, event_of_line, print, read};
 use std::alloc::Global;
 use std::process::Abort;
@@ -8,51 +8,64 @@ use std::test::Fail;
 
 /// The line as it is written again, or none where it is bad.
 fn again(alloc: Global, mode: Mode, line: &[u8]) -> Result<Option<Blob>, OutOfMemory> {
-    let Some(event) = event_of_line(alloc, mode, line)? else {
-        return Ok(None);
-    };
-    let mut events = Sequence::new(alloc);
-    events.push(event)?;
-    Ok(Some(print(alloc, events.as_slice())?))
+    match event_of_line(alloc, mode, line)? {
+        Some(event) => {
+            let printed = print(alloc, std::slice::from_ref(&event));
+            drop(event);
+            Ok(Some(printed?))
+        }
+        None => Ok(None),
+    }
+}
+
+/// Whether the line is written again so, with a line end.
+fn is_again(alloc: Global, mode: Mode, line: &[u8], wanted: &[u8]) -> Result<bool, OutOfMemory> {
+    match again(alloc, mode, line)? {
+        Some(text) => {
+            let same = text.as_slice().strip_suffix(b"\n") == Some(wanted);
+            drop(text);
+            Ok(same)
+        }
+        None => Ok(false),
+    }
 }
 
 fn is_bad(alloc: Global, mode: Mode, line: &[u8]) -> Result<bool, OutOfMemory> {
     match event_of_line(alloc, mode, line)? {
-        Some(_) => Ok(false),
+        Some(event) => {
+            drop(event);
+            Ok(false)
+        }
         None => Ok(true),
     }
 }
 
-fn without_line_end(text: &[u8]) -> &[u8] {
-    match text {
-        [line @ .., b'\n'] => line,
-        _ => b"no line end",
+// Whether each line is written again as it was.
+fn are_same(rt: &impl Abort, alloc: Global, mode: Mode, lines: &[&str]) -> Result<(), Fail> {
+    for line in lines {
+        let bytes = line.as_bytes();
+        assert!(rt; is_again(alloc, mode, bytes, bytes)?, "{line}");
     }
-}
-
-fn assert_same(rt: &impl Abort, alloc: Global, mode: Mode, line: &str) -> Result<(), Fail> {
-    let text = again(alloc, mode, line.as_bytes())?.ok_or("bad line")?;
-    assert_eq!(rt;
-        without_line_end(text.as_slice()),
-        line.as_bytes(),
-        "{line}"
-    );
     Ok(())
 }
 
-fn assert_bad(rt: &impl Abort, alloc: Global, mode: Mode, line: &str) -> Result<(), Fail> {
-    let bad = is_bad(alloc, mode, line.as_bytes())?;
-    assert!(rt; bad, "{line}");
+fn are_bad(rt: &impl Abort, alloc: Global, mode: Mode, lines: &[&str]) -> Result<(), Fail> {
+    for line in lines {
+        assert!(rt; is_bad(alloc, mode, line.as_bytes())?, "{line}");
+    }
     Ok(())
 }
 
-fn failed(alloc: Global, text: &[u8], mode: Mode) -> Result<Option<ScriptError>, OutOfMemory> {
+fn failed(alloc: Global, text: &[u8], mode: Mode) -> Option<ScriptError> {
     if text.len() >= 100_000_000 {
-        return Ok(None);
+        return None;
     }
     match read(alloc, text, mode) {
-        Ok(_) => Ok(None),
-        Err(fail) => Ok(Some(fail)),
+        Ok(events) => {
+            drop(events);
+            None
+        }
+        Err(fail) => Some(fail),
     }
 }
 
@@ -152,17 +165,10 @@ const FILTER: [&str; 27] = [
 #[test]
 fn each_event_is_read_and_written(rt: HostRuntime) -> Result<(), Fail> {
     let alloc = rt.alloc();
-    for line in BOTH {
-        assert_same(&rt, alloc, Mode::Replay, line)?;
-        assert_same(&rt, alloc, Mode::Filter, line)?;
-    }
-    for line in REPLAY {
-        assert_same(&rt, alloc, Mode::Replay, line)?;
-    }
-    for line in FILTER {
-        assert_same(&rt, alloc, Mode::Filter, line)?;
-    }
-    Ok(())
+    are_same(&rt, alloc, Mode::Replay, &BOTH)?;
+    are_same(&rt, alloc, Mode::Filter, &BOTH)?;
+    are_same(&rt, alloc, Mode::Replay, &REPLAY)?;
+    are_same(&rt, alloc, Mode::Filter, &FILTER)
 }
 
 #[test]
@@ -170,11 +176,11 @@ fn other_modes_have_other_words(rt: HostRuntime) -> Result<(), Fail> {
     let alloc = rt.alloc();
     for line in REPLAY {
         let bad = is_bad(alloc, Mode::Filter, line.as_bytes())?;
-        assert_eq!(rt; bad, !line.starts_with("crash"), "{line}");
+        assert!(rt; bad != line.starts_with("crash"), "{line}");
     }
     for line in FILTER {
         let bad = is_bad(alloc, Mode::Replay, line.as_bytes())?;
-        assert_eq!(rt; bad, !line.starts_with("keep"), "{line}");
+        assert!(rt; bad != line.starts_with("keep"), "{line}");
     }
     Ok(())
 }
@@ -240,110 +246,123 @@ const BAD: [&str; 58] = [
     "plan transfer me 0 61",
 ];
 
+const BAD_PEERS: [&str; 6] = [
+    "peer keep 0",
+    "peer",
+    "peer put /a 6",
+    "peer put /a",
+    "link",
+    "space",
+];
+
+const BAD_BYTES: [&[u8]; 4] = [b"open /\xff", b"open /a\x7f", b"flush\r", b"open /a\tb"];
+
 #[test]
 fn bad_lines_spell_nothing(rt: HostRuntime) -> Result<(), Fail> {
     let alloc = rt.alloc();
-    for line in BAD {
-        assert_bad(&rt, alloc, Mode::Filter, line)?;
-    }
-    for line in [
-        "peer keep 0",
-        "peer",
-        "peer put /a 6",
-        "peer put /a",
-        "link",
-        "space",
-    ] {
-        assert_bad(&rt, alloc, Mode::Replay, line)?;
-    }
-    for line in [
-        b"open /\xff".as_slice(),
-        b"open /a\x7f",
-        b"flush\r",
-        b"open /a\tb",
-    ] {
-        let bad = is_bad(alloc, Mode::Replay, line)?;
-        assert!(rt; bad);
+    are_bad(&rt, alloc, Mode::Filter, &BAD)?;
+    are_bad(&rt, alloc, Mode::Replay, &BAD_PEERS)?;
+    for line in BAD_BYTES {
+        assert!(rt; is_bad(alloc, Mode::Replay, line)?);
     }
     Ok(())
+}
+
+const WIDE: &str = "open /\u{80}\u{9f}\u{e9}\u{20ac}\u{1f600}";
+
+// What is written of a line with repeated bytes.
+const REPEATED: [(&[u8], &[u8]); 2] = [
+    (b"peer put /a 61*3", b"peer put /a 616161"),
+    (b"write 1.1 0 00*1", b"write 1.1 0 00"),
+];
+
+fn len_again(alloc: Global, line: &[u8]) -> Result<usize, OutOfMemory> {
+    match again(alloc, Mode::Replay, line)? {
+        Some(text) => {
+            let len = text.as_slice().len();
+            drop(text);
+            Ok(len)
+        }
+        None => Ok(0),
+    }
 }
 
 #[test]
 fn repeated_bytes_and_wide_characters(rt: HostRuntime) -> Result<(), Fail> {
     let alloc = rt.alloc();
-    let line = again(alloc, Mode::Replay, b"peer put /a 61*3")?.ok_or("bad")?;
-    assert_eq!(rt; line.as_slice(), b"peer put /a 616161\n".as_slice());
-    let line = again(alloc, Mode::Replay, b"write 1.1 0 00*1")?.ok_or("bad")?;
-    assert_eq!(rt; line.as_slice(), b"write 1.1 0 00\n".as_slice());
-    assert_same(
-        &rt,
-        alloc,
-        Mode::Replay,
-        "open /\u{80}\u{9f}\u{e9}\u{20ac}\u{1f600}",
-    )?;
-    let line = again(alloc, Mode::Replay, b"write 1.1 0 61*16777217")?.ok_or("bad")?;
-    assert_eq!(rt; line.as_slice().len(), 33_554_447);
+    for (line, wanted) in REPEATED {
+        assert!(rt; is_again(alloc, Mode::Replay, line, wanted)?);
+    }
+    assert!(rt; is_again(alloc, Mode::Replay, WIDE.as_bytes(), WIDE.as_bytes())?);
+    assert!(rt; len_again(alloc, b"write 1.1 0 61*16777217")? == 33_554_447);
     Ok(())
 }
 
+// Scripts, and the line at which each is bad; none where it is read.
+const SCRIPTS: [(&[u8], Mode, Option<u32>); 10] = [
+    (b"", Mode::Replay, None),
+    (b"sync", Mode::Replay, None),
+    (b"\n\n#\xff\x00\r\nsync\n", Mode::Replay, None),
+    (b"sync\r\n", Mode::Replay, Some(1)),
+    (b"\n#\n\nsync \n", Mode::Replay, Some(4)),
+    (b"sync\nflush\nflsh\n", Mode::Replay, Some(3)),
+    (b"sync\nflsh\nflush", Mode::Replay, Some(2)),
+    (b"get /a/b 0 1\nget / 0 1", Mode::Replay, None),
+    (b"flush", Mode::Filter, None),
+    (b"sync", Mode::Filter, Some(1)),
+];
+
 #[test]
 fn lines_are_counted(rt: HostRuntime) -> Result<(), Fail> {
-    let alloc = rt.alloc();
-    let mode = Mode::Replay;
-    assert_eq!(rt; failed(alloc, b"", mode)?, None);
-    assert_eq!(rt; failed(alloc, b"sync", mode)?, None);
-    assert_eq!(rt; failed(alloc, b"\n\n#\xff\x00\r\nsync\n", mode)?, None);
-    assert_eq!(rt;
-        failed(alloc, b"sync\r\n", mode)?,
-        Some(ScriptError::Syntax(1))
-    );
-    assert_eq!(rt;
-        failed(alloc, b"\n#\n\nsync \n", mode)?,
-        Some(ScriptError::Syntax(4))
-    );
-    assert_eq!(rt;
-        failed(alloc, b"sync\nflush\nflsh\n", mode)?,
-        Some(ScriptError::Syntax(3))
-    );
-    assert_eq!(rt;
-        failed(alloc, b"sync\nflsh\nflush", mode)?,
-        Some(ScriptError::Syntax(2))
-    );
-    assert_eq!(rt; failed(alloc, b"get /a/b 0 1\nget / 0 1", mode)?, None);
-    assert_eq!(rt; failed(alloc, b"flush", Mode::Filter)?, None);
-    assert_eq!(rt;
-        failed(alloc, b"sync", Mode::Filter)?,
-        Some(ScriptError::Syntax(1))
-    );
+    for (text, mode, line) in SCRIPTS {
+        let wanted = match line {
+            Some(line) => Some(ScriptError::Syntax(line)),
+            None => None,
+        };
+        assert!(rt; failed(rt.alloc(), text, mode) == wanted);
+    }
     Ok(())
+}
+
+fn push_events(text: &mut Vec<u8>, line: &[u8], count: u32) -> Result<(), OutOfMemory> {
+    for _ in 0..count {
+        text.extend_from_slice(line)?;
+    }
+    Ok(())
+}
+
+// Whether 100,000 events are read, and one more is too many.
+fn ends_at_the_most(alloc: Global, text: &mut Vec<u8>) -> Result<bool, OutOfMemory> {
+    push_events(text, b"#\nsync\n", 100_000)?;
+    let most = failed(alloc, text.as_slice(), Mode::Replay).is_none();
+    push_events(text, b"sync", 1)?;
+    let many = Some(ScriptError::TooManyEvents(200_001));
+    Ok(most && failed(alloc, text.as_slice(), Mode::Replay) == many)
 }
 
 #[test]
 fn an_event_too_many(rt: HostRuntime) -> Result<(), Fail> {
-    let alloc = rt.alloc();
-    let mut text = Vec::new(alloc);
-    for _ in 0..100_000 {
-        text.extend_from_slice(b"#\nsync\n")?;
-    }
-    assert_eq!(rt; failed(alloc, text.as_slice(), Mode::Replay)?, None);
-    let many = ScriptError::TooManyEvents(200_001);
-    text.extend_from_slice(b"sync")?;
-    assert_eq!(rt; failed(alloc, text.as_slice(), Mode::Replay)?, Some(many));
+    let mut text = Vec::new(rt.alloc());
+    let ends = ends_at_the_most(rt.alloc(), &mut text);
+    drop(text);
+    assert!(rt; ends?);
     Ok(())
+}
+
+// Lines of four million digits, of 16,000,000 equal bytes, and 20,000 more.
+fn is_large_read(alloc: Global, text: &mut Vec<u8>) -> Result<bool, OutOfMemory> {
+    push_events(text, b"peer put /a ", 1)?;
+    push_events(text, &[b'6'; 4_000], 1_000)?;
+    push_events(text, b"\npeer put /b 61*16000000\n", 1)?;
+    push_events(text, b"get /b 12345 67890\n", 20_000)?;
+    Ok(failed(alloc, text.as_slice(), Mode::Replay).is_none())
 }
 
 #[test]
 fn large_scripts(rt: HostRuntime) -> Result<(), Fail> {
-    let alloc = rt.alloc();
-    let mut text = Vec::with_capacity(alloc, 5_000_000)?;
-    text.extend_from_slice(b"peer put /a ")?;
-    for _ in 0..1_000_000 {
-        text.extend_from_slice(b"6f6f")?;
-    }
-    text.extend_from_slice(b"\npeer put /b 61*16000000\n")?;
-    for _ in 0..20_000 {
-        text.extend_from_slice(b"get /b 12345 67890\n")?;
-    }
-    assert_eq!(rt; failed(alloc, text.as_slice(), Mode::Replay)?, None);
+    let mut text = Vec::new(rt.alloc());
+    let is_read = is_large_read(rt.alloc(), &mut text);
+    drop(text);
+    assert!(rt; is_read?);
     Ok(())
 }
