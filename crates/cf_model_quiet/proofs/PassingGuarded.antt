@@ -1,7 +1,7 @@
 -- What a pass leaves of what it rests on: the link answers at once, lines of what is left out stand, a provider is connected, no list call waits, and each
 -- dehydration that waits has its live ask, whose callback was called.
 use Rattle.std.proofs.Common.{◌≡◌, ◌+◌, ◌++◌, ◌∙◌, ℕ, Bool, true, false, List, [], ◌∷◌, refl, subst, sym}
-use Rattle.std.specs.Prelude.{None, map}
+use Rattle.std.specs.Prelude.{None, map, if◌then◌else◌}
 use Rattle.std.proofs.lemmas.List.{append-nil}
 use Rattle.cf_base.specs.declared.answers.Shown.TheVariants as shown
 use Rattle.cf_base.specs.declared.changes.Change.{Change}
