@@ -9,7 +9,7 @@ use Rattle.cf_io.specs.declared.faults.ReadError.{ReadError}
 use Rattle.cf_io.specs.declared.faults.ReadError.TheVariants as reading
 use Rattle.cf_pair_events.specs.declared.events.PairEvent.{PairEvent}
 use Rattle.cf_pair_run.specs.Led.{HasRun, Leads}
-use Rattle.cf_pair_run.specs.Runs.{AreFit, IsRefusal, OfText, Trace, WritesOf, events_of}
+use Rattle.cf_pair_run.specs.Runs.{AreFit, IsRefusal, OfText, Refuses, Trace, WritesOf, events_of}
 use Rattle.cf_pair_run.specs.UnderWay.{AllPlayed, SomePlayed, WritesRefusal}
 use Rattle.cf_pair_script.specs.Causes.{IsCause}
 use Rattle.cf_pair_script.specs.PairScript.{IsScript}
@@ -28,6 +28,9 @@ use Rattle.cf_world.specs.declared.play_errors.PlayError.TheVariants as plays
 
 refusal_of : (text : List ℕ) (fail : ScriptError) → IsCause (lines_of text) fail → fail ≢ fails.OutOfMemory → IsRefusal text (fail_line fail)
 refusal_of text fail why other = record { fail = fail; why = why; not_memory = other; is = refl }
+
+pub refused : (text : List ℕ) (old new : Option (List ℕ)) (fail : ScriptError) → IsCause (lines_of text) fail → fail ≢ fails.OutOfMemory → Adds old new (fail_line fail) → Refuses text old new
+refused text old new fail why other written = (fail_line fail, refusal_of text fail why other, written)
 
 pub refuse_early : (text : List ℕ) (old new : Option (List ℕ)) (fail : ScriptError) (p : PlayError) → IsCause (lines_of text) fail → fail ≢ fails.OutOfMemory → p ≢ plays.TooLong → AddsFront old new (fail_line fail) → WritesRefusal text old new (early_status p)
 refuse_early text old new fail plays.SinkFault why other short written = (fail_line fail, refusal_of text fail why other, written)
