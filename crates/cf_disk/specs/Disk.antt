@@ -22,6 +22,8 @@ pub record State : Type 1 where
   -- the armed number (how many further calls pass, or none armed), where the disk reports it: then exactly the calls
   -- after those fail
   pub armed : Option (Option ℕ)
+  -- how many blocks of 4,096 bytes a volume on it may fill, however many it has
+  pub quota : ℕ
 
 -- in bytes
 abbrev pub size_of : State → ℕ
@@ -59,12 +61,13 @@ abbrev pub Only : List ℕ → State → Type 0
 Only image s = (c : List ℕ) → s.may_leave c → c ≡ image
 
 -- Time goes on: what a crash since t may have left, it may have left before or may leave now; a time that is told was
--- told before, and no image of the past is lost. No power is added.
+-- told before, and no image of the past is lost. No power is added, and the quota stays.
 pub record Goes (old new : State) : Type 0 where
   pub later : old.moment ≤ new.moment
   pub since : (t : ℕ) (c : List ℕ) → t ≤ old.moment → new.left_since t c → old.left_since t c ⊎ new.may_leave c
   pub told : (t : ℕ) → t ≤ old.moment → new.tells t → old.tells t × ((c : List ℕ) → old.left_since t c → new.left_since t c)
   pub powers : new.powers ≡ old.powers
+  pub quota : new.quota ≡ old.quota
 
 -- a count, which stays at the greatest u64
 abbrev pub capped : ℕ → ℕ
@@ -101,7 +104,7 @@ AddsPower choice image old None = Unit {0}
 AddsPower choice image None (Some new) = Unit {0} → ⊥
 AddsPower choice image (Some old) (Some new) = new ≡ old ++ (choice, image) ∷ []
 
--- what a power cut does to the counts and to time
+-- what a power cut does to the counts, to time and to the quota
 pub record Powers (choice : Choice) (old new : State) : Type 0 where
   pub size : size_of new ≡ size_of old
   pub later : old.moment ≤ new.moment
@@ -110,6 +113,7 @@ pub record Powers (choice : Choice) (old new : State) : Type 0 where
   pub written : new.written ≡ old.written
   pub faults : new.faults ≡ old.faults
   pub armed : new.armed ≡ option_map (λ _. None) old.armed
+  pub quota : new.quota ≡ old.quota
 
 -- Each image that a crash may leave after a call has P, and so has, where the disk reports them, each that a crash
 -- at some moment of the call may have left.
@@ -130,6 +134,7 @@ pub record IsUnchanged (old new : State) : Type 0 where
   pub powers : new.powers ≡ old.powers
   pub written : new.written ≡ old.written
   pub faults : new.faults ≡ old.faults
+  pub quota : new.quota ≡ old.quota
 
 -- the armed number after a call
 abbrev pub counted : Option ℕ → Option ℕ

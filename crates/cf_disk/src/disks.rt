@@ -21,6 +21,10 @@ pub trait Disk {
     fn size(&self) -> u64
         ensures { result ≡ size_of (state self.now) };
 
+    /// How many blocks of 4,096 bytes a volume on the disk may fill, however many the disk has. No call changes it.
+    fn quota(&self) -> u64
+        ensures { result ≡ (state self.now).quota };
+
     /// Reads the bytes from `at` on into `out`. A read changes nothing, also where it fails; then `out` may hold
     /// any bytes.
     fn read(&mut self, at: u64, out: &mut [u8]) -> Result<(), DiskError>
@@ -64,6 +68,14 @@ pub trait Disk {
         ensures left { (state self.old).may_leave (state self.new).seen }
         ensures durable { Only (state self.new).seen (state self.new) }
         ensures powers { Powers choice (state self.old) (state self.new) };
+
+    /// Tells that a commit is wanted once so many changes are made. A disk may forget it. Changes nothing else.
+    fn aim(&mut self, changes: u64)
+        ensures same { IsUnchanged (state self.old) (state self.new) }
+        ensures armed { (state self.new).armed ≡ (state self.old).armed };
+
+    /// Whether a commit is wanted once so many changes are made. A volume follows it only where it may commit.
+    fn is_aimed(&self, changes: u64) -> bool;
 
     /// Where the disk reports the images since a time, those of this moment are among them.
     ghost counts_now: { (disk : Self) (t : ℕ) (c : List ℕ) → t ≤ (state disk).moment → (state disk).tells t → (state disk).may_leave c → (state disk).left_since t c };

@@ -1,6 +1,6 @@
 //! A disk in memory.
 
-ghost use Rattle.std.specs.Prelude.{◌≡◌, ◌<◌, ◌^◌, None, IfOk, replicate};
+ghost use Rattle.std.specs.Prelude.{◌≡◌, ◌<◌, ◌-◌, ◌^◌, None, IfOk, replicate};
 ghost use Rattle.cf_disk.specs.Images.{IsWhole, durable};
 
 use crate::counters::is_spent;
@@ -10,13 +10,15 @@ use cf_base::{Choice, OutOfMemory};
 use std::alloc::Global;
 
 /// A disk in memory. It fails exactly while an armed number is spent. It tells that number, and neither the images since
-/// a time nor its power cuts.
+/// a time nor its power cuts. It keeps the last number of changes at which a commit was wanted.
 #[derive(Drop)]
 pub struct MemDisk {
     medium: Medium,
     armed: Option<u32>,
     faults: u64,
     written: u64,
+    quota: u64,
+    aim: Option<u64>,
     ghost whole: { IsWhole medium },
     ghost small_faults: { faults < 2 ^ 64 },
     ghost small_written: { written < 2 ^ 64 },
@@ -26,12 +28,14 @@ impl MemDisk {
     ghost use Rattle.cf_disk.specs.Disk.{Only};
     ghost use Rattle.cf_disk.specs.MemState.{mem_state};
 
-    /// A disk of so many bytes, all of them zero and durable, with none armed. No later call takes memory.
+    /// A disk of so many bytes, all of them zero and durable, with none armed, and with the greatest quota. No later call
+    /// takes memory.
     pub fn new(alloc: Global, size: u64) -> Result<MemDisk, OutOfMemory>
         ensures zeros { IfOk result (λ d. (mem_state d).seen ≡ replicate size 0) }
         ensures durable { IfOk result (λ d. Only (mem_state d).seen (mem_state d)) }
         ensures counts { IfOk result (λ d. ((mem_state d).written ≡ 0) × ((mem_state d).faults ≡ 0)) }
         ensures armed { IfOk result (λ d. d.armed ≡ None) }
+        ensures quota { IfOk result (λ d. (mem_state d).quota ≡ 2 ^ 64 - 1) }
     {
         let medium = Medium::new(alloc, size as usize)?;
         Ok(MemDisk {
@@ -39,7 +43,17 @@ impl MemDisk {
             armed: None,
             faults: 0,
             written: 0,
+            quota: u64::MAX,
+            aim: None,
         })
+    }
+
+    /// The same disk with another quota, in blocks of 4,096 bytes.
+    pub fn with_quota(mut self, quota: u64) -> MemDisk
+        ensures { result ≡ record self { quota = quota } }
+    {
+        self.quota = quota;
+        self
     }
 }
 
@@ -94,6 +108,18 @@ impl Disk for MemDisk {
     {
         self.medium.power(choice);
         self.armed = None;
+    }
+
+    fn quota(&self) -> u64 {
+        self.quota
+    }
+
+    fn aim(&mut self, changes: u64) {
+        self.aim = Some(changes);
+    }
+
+    fn is_aimed(&self, changes: u64) -> bool {
+        self.aim == Some(changes)
     }
 
     ghost counts_now = { λ d t c le tells. absurd tells };

@@ -16,7 +16,7 @@ use std::alloc::Global;
 /// A disk in memory that also keeps each `read`, `write` and `sync` since the last power cut, with its bytes, and its first
 /// power cuts. So it tells the images since each time that is not before the last power cut, and the list of its power cuts until
 /// there are more than it has room for. A call that finds no room fails without being done. It does not tell its
-/// armed number.
+/// armed number, has the greatest quota, and forgets where a commit is wanted.
 #[derive(Drop)]
 pub struct TraceDisk {
     medium: Medium,
@@ -192,6 +192,16 @@ impl Disk for TraceDisk {
         self.powers.add(choice, &self.start);
         self.calls.clear();
         self.armed = None;
+    }
+
+    fn quota(&self) -> u64 {
+        u64::MAX
+    }
+
+    fn aim(&mut self, _changes: u64) {}
+
+    fn is_aimed(&self, _changes: u64) -> bool {
+        false
     }
 
     ghost counts_now = { tells_now };

@@ -44,6 +44,18 @@ impl<D: Disk> Disk for Counted<D> {
         self.disk.power(choice);
     }
 
+    fn quota(&self) -> u64 {
+        self.disk.quota()
+    }
+
+    fn aim(&mut self, changes: u64) {
+        self.disk.aim(changes);
+    }
+
+    fn is_aimed(&self, changes: u64) -> bool {
+        self.disk.is_aimed(changes)
+    }
+
     ghost counts_now = { λ d. D.counts_now d.disk };
 
     ghost only_now = { λ d. D.only_now d.disk };
