@@ -2,6 +2,8 @@
 #![tactic(auto)]
 
 #[cfg(test)]
+mod image_bytes;
+#[cfg(test)]
 mod table;
 #[cfg(test)]
 mod tree;
